@@ -1,0 +1,18 @@
+//! `rart`: an ordered map over byte keys that shares prefixes, an Adaptive Radix Tree.
+//!
+//! Contracts see a tree as its sorted pairs and the records of its nodes. After any list of calls the
+//! nodes are exactly the branch points of the keys, each of the kind that its child count fixes, and
+//! every answer is the one of the sorted list of pairs; a refused call changes neither.
+#![tactic(auto)]
+
+pub mod laws;
+pub mod tree;
+
+pub use crate::tree::AdaptiveRadixTree;
+pub use rart_keys::{ArrPartial, ArrayKey, KeyTrait, Partial, keys, partials};
+pub use rart_nodes::node::seen::Seen;
+pub use rart_nodes::{Count, Refused, Visits, node};
+pub use rart_parts::TreeError;
+
+#[cfg(test)]
+mod tests;

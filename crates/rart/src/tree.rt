@@ -1,0 +1,182 @@
+//! The map: seen as its pairs, ascending by key, and the records of its nodes.
+ghost use Rattle.std.specs.Prelude.{◌≡◌, ◌≢◌, ℕ, ◌+◌, ◌-◌, ◌*◌, ◌<◌, ◌≤◌, ◌↔◌, [], length, max, None, true, IfErr, IfOk, IsTrue, OnErr, OnOk};
+ghost use Rattle.std.specs.Option.{option_copied};
+ghost use Rattle.rart_keys.specs.KeyBytes.{IsWithin};
+ghost use Rattle.rart_keys.specs.SortedMap.{IsAscending, keys_of, lookup, put};
+ghost use Rattle.rart_nodes.specs.InsertAsks.{insert_asks};
+ghost use Rattle.rart_nodes.specs.Shape.{HasShape};
+ghost use Rattle.rart_nodes.specs.Tree.{tree_nodes, tree_pairs};
+
+use rart_keys::{KeyTrait, Partial};
+use rart_nodes::node::DefaultNode;
+use rart_nodes::node::seen::Seen;
+use rart_nodes::{Refused, Visits};
+use rart_parts::TreeError;
+use std::alloc::Global;
+use std::marker::{Model, PhantomData};
+
+/// The most pairs that a tree holds.
+pub const MAX_PAIRS: usize = usize::MAX / 16;
+
+/// An ordered map from keys, read as bytes, to values. Shared prefixes are stored once, and inner
+/// nodes hold up to 4, 16, 48 or 256 children.
+#[derive(Drop)]
+pub struct AdaptiveRadixTree<K: KeyTrait, V> {
+    root: Option<DefaultNode<K::PartialType, V>>,
+    len: usize,
+    // at least the length of the longest key ever stored
+    longest: usize,
+    alloc: Global,
+    of: PhantomData<K>,
+}
+
+impl<K: KeyTrait, V> Model for AdaptiveRadixTree<K, V> {
+    ghost use Rattle.std.specs.Prelude.{◌≡◌, ◌≤◌, length};
+    ghost use Rattle.rart_keys.specs.KeyBytes.{IsWithin};
+    ghost use Rattle.rart_nodes.specs.CanonicalTest.{longest_key};
+    ghost use Rattle.rart_nodes.specs.Tree.{IsCanonicalTree, tree_nodes, tree_pairs};
+    ghost use Rattle.rart.specs.MapAndShape.{MapAndShape};
+    ghost use Rattle.rart.specs.declared.tree.TheConstants.{MAX_PAIRS};
+
+    ghost Value = { MapAndShape V };
+
+    ghost view = { λ t. record { pairs = tree_pairs t.root; nodes = tree_nodes t.root } };
+
+    ghost invariant = { λ t. IsCanonicalTree t.root × (t.len ≡ length (tree_pairs t.root)) × (t.len ≤ MAX_PAIRS) × (longest_key (tree_pairs t.root) ≤ t.longest) × IsWithin K.MAXIMUM_SIZE t.longest };
+}
+
+impl<K: KeyTrait, V> AdaptiveRadixTree<K, V> {
+    /// An empty tree, which asks `alloc` for all memory later on. Takes none.
+    pub fn new(alloc: Global) -> Self
+        ensures pairs { result.pairs ≡ [] }
+        ensures nodes { result.nodes ≡ [] }
+    {
+        AdaptiveRadixTree {
+            root: None,
+            len: 0,
+            longest: 0,
+            alloc,
+            of: PhantomData,
+        }
+    }
+
+    /// How many pairs there are. Constant work.
+    pub fn len(&self) -> usize
+        ensures value { result ≡ length self.now.pairs }
+        ensures most { result ≤ MAX_PAIRS }
+    {
+        self.len
+    }
+
+    /// Whether there is no pair.
+    pub fn is_empty(&self) -> bool
+        ensures { IsTrue result ↔ (self.now.pairs ≡ []) }
+    {
+        self.len == 0
+    }
+
+    /// What holds of every tree: its pairs ascend by key, and its nodes are exactly the branch points
+    /// of its keys, each of the kind that its child count fixes; at most 2n - 1 for n keys. Does
+    /// nothing at run time.
+    pub fn canonical(&self)
+        ensures ascending { IsAscending self.now.pairs }
+        ensures shape { HasShape (keys_of self.now.pairs) self.now.nodes }
+        ensures few_nodes { length self.now.nodes ≤ 2 * length self.now.pairs - 1 }
+    {
+        match &self.root {
+            Some(root) => root.canonical(),
+            None => {}
+        }
+    }
+
+    /// The tree with its reads counted by a `C`.
+    pub fn seen<C>(&self) -> Seen<'_, K, V, C>
+        ensures pairs { tree_pairs (option_copied result.root) ≡ self.now.pairs }
+        ensures nodes { tree_nodes (option_copied result.root) ≡ self.now.nodes }
+    {
+        Seen::of(self.root.as_ref(), self.alloc, self.longest)
+    }
+
+    /// The value at `key`, in one pass down.
+    pub fn get_k(&self, key: &K) -> Option<&V>
+        ensures { option_copied result ≡ lookup (K.bytes key.now) self.now.pairs }
+    {
+        self.seen().get_k_counted(key, &mut Visits::new())
+    }
+
+    /// The value at `key`.
+    pub fn get(&self, key: K) -> Option<&V>
+    where
+        K: Drop,
+        ensures { option_copied result ≡ lookup (K.bytes key) self.now.pairs }
+    {
+        self.get_k(&key)
+    }
+
+    /// The value at the key with these bytes, which may be longer than any key.
+    pub fn get_bytes(&self, key: &[u8]) -> Option<&V>
+        ensures { option_copied result ≡ lookup key.now self.now.pairs }
+    {
+        self.seen().get_bytes_counted(key, &mut Visits::new())
+    }
+
+    /// Puts `value` at `key` in one pass down, and answers the old value.
+    ///
+    /// Refused with `Full` exactly where the tree holds as many pairs as a tree can and the key is
+    /// new; with `Memory` only where a request for it was refused, and that comes only where the keys
+    /// say so: the tree isn't empty, no node stands at the key, and no node with room takes it as a new
+    /// child. Refused, pairs and nodes are as before, and the value is handed back.
+    pub fn insert_k(&mut self, key: &K, value: V) -> Result<Option<V>, Refused<V>>
+        ensures pairs { OnOk result (self.new.pairs ≡ put (K.bytes key.now) value self.old.pairs) }
+        ensures answer { IfOk result (λ old. old ≡ lookup (K.bytes key.now) self.old.pairs) }
+        ensures refused { OnErr result (self.new ≡ self.old) }
+        ensures back { IfErr result (λ r. r.value ≡ value) }
+        ensures full { IfErr result (λ r. r.error ≡ TreeError.Full → (length self.old.pairs ≡ MAX_PAIRS) × (lookup (K.bytes key.now) self.old.pairs ≡ None)) }
+        ensures not_full { OnOk result (length self.old.pairs ≡ MAX_PAIRS → lookup (K.bytes key.now) self.old.pairs ≢ None) }
+        ensures memory { IfErr result (λ r. r.error ≡ TreeError.Memory → (insert_asks (keys_of self.old.pairs) (K.bytes key.now) ≡ true) × (length self.old.pairs < MAX_PAIRS)) }
+    {
+        if self.len == MAX_PAIRS && self.get_k(key).is_none() {
+            return Err(Refused {
+                error: TreeError::Full,
+                value,
+            });
+        }
+        let bytes = key.as_ref();
+        match &mut self.root {
+            Some(root) => match root.insert(self.alloc, bytes, value) {
+                Ok(old) => {
+                    if old.is_none() {
+                        self.len += 1;
+                    }
+                    self.longest = self.longest.max(bytes.len());
+                    return Ok(old);
+                }
+                Err(refused) => return Err(refused),
+            },
+            None => {}
+        }
+        let leaf = DefaultNode::new_leaf(key.to_partial(0), value);
+        match self.root.replace(leaf) {
+            Some(_) => unreachable!(),
+            None => {}
+        }
+        self.len = 1;
+        self.longest = self.longest.max(bytes.len());
+        Ok(None)
+    }
+
+    /// Puts `value` at `key`, as `insert_k` does.
+    pub fn insert(&mut self, key: K, value: V) -> Result<Option<V>, Refused<V>>
+    where
+        K: Drop,
+        ensures pairs { OnOk result (self.new.pairs ≡ put (K.bytes key) value self.old.pairs) }
+        ensures answer { IfOk result (λ old. old ≡ lookup (K.bytes key) self.old.pairs) }
+        ensures refused { OnErr result (self.new ≡ self.old) }
+        ensures back { IfErr result (λ r. r.value ≡ value) }
+        ensures full { IfErr result (λ r. r.error ≡ TreeError.Full → (length self.old.pairs ≡ MAX_PAIRS) × (lookup (K.bytes key) self.old.pairs ≡ None)) }
+        ensures not_full { OnOk result (length self.old.pairs ≡ MAX_PAIRS → lookup (K.bytes key) self.old.pairs ≢ None) }
+        ensures memory { IfErr result (λ r. r.error ≡ TreeError.Memory → (insert_asks (keys_of self.old.pairs) (K.bytes key) ≡ true) × (length self.old.pairs < MAX_PAIRS)) }
+    {
+        self.insert_k(&key, value)
+    }
+}

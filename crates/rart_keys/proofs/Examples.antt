@@ -1,0 +1,76 @@
+-- Rows of the definitions, worked out by hand.
+use Rattle.std.proofs.Common.{◌≡◌, ◌<◌, ℕ, List, true, false, Some, None, [], ◌∷◌, codes, refl, arith}
+use Rattle.rart_keys.specs.KeyBytes.{IsWithin, AreBytes}
+use Rattle.rart_keys.specs.CommonPrefix.{IsCommonPrefixLength}
+use Rattle.rart_keys.specs.LittleEndianWord.{little_endian_number}
+use Rattle.rart_keys.proofs.CommonPrefixes.{greatest_from_value}
+use Rattle.rart_keys.specs.ByteStrings.{IsBelow, begins, byte_after, strip_prefix}
+use Rattle.rart_keys.specs.SortedMap.{lookup, put, without}
+
+-- 513 is twice 256 and one, so its bytes from the lowest on are 1 and 2
+word_of_two_bytes : little_endian_number (1 ∷ 2 ∷ []) ≡ 513
+word_of_two_bytes = refl
+
+word_of_no_bytes : little_endian_number [] ≡ 0
+word_of_no_bytes = refl
+
+-- a full width is within the maximum, and one byte more is not
+full_width : IsWithin (Some 4) 4
+full_width = omega arith
+
+above_full_width : ¬ IsWithin (Some 4) 5
+above_full_width h = omega arith
+
+without_maximum : IsWithin None 1000
+without_maximum = tt
+
+-- the greatest byte is 255
+above_greatest_byte : ¬ AreBytes (256 ∷ [])
+above_greatest_byte h = let b : 256 < 256 = h 0 in omega arith
+
+-- both greetings begin with "Hello, "
+greetings : IsCommonPrefixLength (codes "Hello, world!") (codes "Hello, there!") 7
+greetings = greatest_from_value _ _ 7 refl
+
+-- a string that begins another is common as a whole
+beginning : IsCommonPrefixLength (codes "cat") (codes "catalog") 3
+beginning = greatest_from_value _ _ 3 refl
+
+-- the empty string has nothing in common with any
+nothing : IsCommonPrefixLength [] (codes "a") 0
+nothing = greatest_from_value _ _ 0 refl
+
+-- a proper beginning is below its extension; the first place that differs decides
+beginning_below : IsBelow (97 ∷ []) (97 ∷ 98 ∷ [])
+beginning_below = refl
+
+first_difference_decides : IsBelow (97 ∷ 98 ∷ 99 ∷ []) (97 ∷ 99 ∷ [])
+first_difference_decides = refl
+
+nothing_begins_all : (begins [] (97 ∷ []) ∷ begins (97 ∷ []) (97 ∷ []) ∷ begins (97 ∷ 98 ∷ []) (97 ∷ []) ∷ begins (98 ∷ []) (97 ∷ 98 ∷ []) ∷ []) ≡ true ∷ true ∷ false ∷ false ∷ []
+nothing_begins_all = refl
+
+rest_and_next_byte : (strip_prefix (97 ∷ []) (97 ∷ 98 ∷ []) ≡ Some (98 ∷ [])) × (byte_after (97 ∷ []) (97 ∷ 98 ∷ []) ≡ Some 98) × (byte_after (97 ∷ []) (97 ∷ []) ≡ None)
+rest_and_next_byte = (refl, refl, refl)
+
+-- "cat" 1, "catalog" 2, then "cab" 3, "cat" 5 and no "catalog": in order, each key once
+abbrev cat : List ℕ
+cat = 99 ∷ 97 ∷ 116 ∷ []
+
+abbrev cab : List ℕ
+cab = 99 ∷ 97 ∷ 98 ∷ []
+
+abbrev catalog : List ℕ
+catalog = 99 ∷ 97 ∷ 116 ∷ 97 ∷ 108 ∷ 111 ∷ 103 ∷ []
+
+abbrev stored : List (List ℕ × ℕ)
+stored = (cab, 3) ∷ (cat, 5) ∷ []
+
+abbrev first_pair : List (List ℕ × ℕ)
+first_pair = put cat 1 []
+
+edited : without catalog (put cat 5 (put cab 3 (put catalog 2 first_pair))) ≡ stored
+edited = refl
+
+looked_up : (lookup cat stored ≡ Some 5) × (lookup catalog stored ≡ None)
+looked_up = (refl, refl)

@@ -1,0 +1,6 @@
+mod Examples
+pub mod ByteOrder
+pub mod CommonPrefixes
+pub mod InlineBytes
+pub mod SortedMaps
+pub mod WordLemmas

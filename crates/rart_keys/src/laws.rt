@@ -1,0 +1,16 @@
+//! The laws of the sorted map, each the contract of a function with an empty body.
+ghost use Rattle.std.specs.Prelude.{◌≡◌, ◌≢◌, ◌+◌, ℕ, List, Some, None, length};
+ghost use Rattle.rart_keys.specs.SortedMap.{IsAscending, count_of, lookup, put, without};
+
+/// Two ascending lists of pairs with the same look-ups are one list; `put` and `without` keep a list
+/// ascending, change the look-up of their key alone, and change the length by at most one.
+pub fn sorted_map<V>()
+    ensures one_list { (xs ys : List (List ℕ × V)) → IsAscending xs → IsAscending ys → ((q : List ℕ) → lookup q xs ≡ lookup q ys) → xs ≡ ys }
+    ensures put_ascends { (k : List ℕ) (v : V) (es : List (List ℕ × V)) → IsAscending es → IsAscending (put k v es) }
+    ensures put_at { (k : List ℕ) (v : V) (es : List (List ℕ × V)) → lookup k (put k v es) ≡ Some v }
+    ensures put_elsewhere { (q k : List ℕ) (v : V) (es : List (List ℕ × V)) → q ≢ k → lookup q (put k v es) ≡ lookup q es }
+    ensures put_length { (k : List ℕ) (v : V) (es : List (List ℕ × V)) → IsAscending es → length (put k v es) + count_of (lookup k es) ≡ length es + 1 }
+    ensures without_ascends { (k : List ℕ) (es : List (List ℕ × V)) → IsAscending es → IsAscending (without k es) }
+    ensures without_at { (k : List ℕ) (es : List (List ℕ × V)) → lookup k (without k es) ≡ None }
+    ensures without_elsewhere { (q k : List ℕ) (es : List (List ℕ × V)) → q ≢ k → lookup q (without k es) ≡ lookup q es }
+{}

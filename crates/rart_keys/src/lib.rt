@@ -1,0 +1,18 @@
+//! Keys of a radix tree, and the parts of keys that its nodes keep.
+//!
+//! Contracts see a key and a part of one as its list of bytes. Nothing here takes memory.
+#![tactic(auto)]
+
+mod common_prefix;
+mod inline_bytes;
+pub mod keys;
+pub mod laws;
+pub mod partials;
+
+pub use crate::keys::KeyTrait;
+pub use crate::keys::array_key::ArrayKey;
+pub use crate::partials::Partial;
+pub use crate::partials::array_partial::ArrPartial;
+
+#[cfg(test)]
+mod tests;

@@ -1,0 +1,196 @@
+//! A part of a key whose bytes lie in the value itself.
+//!
+//! Contracts see its bytes as `arr_partial_bytes`.
+ghost use Rattle.std.specs.Prelude.{◌≡◌, ◌-◌, ◌≤◌, length, drop, replicate};
+ghost use Rattle.rart_keys.specs.KeyBytes.{AreBytes};
+
+use crate::common_prefix::common_prefix_length;
+use crate::inline_bytes::joined;
+use crate::keys::KeyTrait;
+use crate::keys::array_key::ArrayKey;
+use crate::partials::Partial;
+use std::alloc::AllocError;
+use std::slice::Iter;
+
+/// At most `SIZE` bytes of a key. Bytes behind the length are always zero.
+#[derive(Debug, Drop)]
+pub struct ArrPartial<const SIZE: usize> {
+    stored: [u8; SIZE],
+    len: usize,
+    ghost in_range: { len ≤ SIZE },
+    ghost full_width: { length stored ≡ SIZE },
+    ghost zeros_behind: { drop len stored ≡ replicate (SIZE - len) 0 },
+    ghost are_bytes: { AreBytes stored },
+}
+
+impl<const SIZE: usize> ArrPartial<SIZE> {
+    ghost use Rattle.std.specs.Prelude.{◌≡◌, ◌+◌, ◌≤◌, ◌++◌, ◌∷◌, [], length};
+    ghost use Rattle.rart_keys.specs.ArrPartialBytes.{arr_partial_bytes};
+
+    /// The bytes of `src` and a zero byte behind them. Asks that they fit together.
+    pub fn key(src: &[u8]) -> Self
+        requires { length src.now + 1 ≤ SIZE }
+        ensures { arr_partial_bytes result ≡ src.now ++ 0 ∷ [] }
+    {
+        Self::from_two(src, &[0])
+    }
+
+    /// The bytes of `src`. Asks at most `SIZE` bytes.
+    pub fn from_slice(src: &[u8]) -> Self
+        requires { length src.now ≤ SIZE }
+        ensures { arr_partial_bytes result ≡ src.now }
+    {
+        Self::from_two(src, &[])
+    }
+
+    /// The bytes.
+    pub fn to_slice(&self) -> &[u8]
+        ensures value { result.now ≡ arr_partial_bytes self.now }
+        ensures within { length (arr_partial_bytes self.now) ≤ SIZE }
+    {
+        &self.stored[..self.len]
+    }
+
+    // Every new value is made here, so that the zeros behind its length are shown once.
+    fn from_two(first: &[u8], second: &[u8]) -> Self
+        requires { length first.now + length second.now ≤ SIZE }
+        ensures { arr_partial_bytes result ≡ first.now ++ second.now }
+    {
+        ArrPartial {
+            stored: joined(first, second),
+            len: first.len() + second.len(),
+        }
+    }
+}
+
+impl<const SIZE: usize> Clone for ArrPartial<SIZE> {
+    ghost use Rattle.std.specs.Prelude.{◌≡◌, ⊤};
+
+    ghost is_clone = { λ part copy. copy ≡ part };
+
+    ghost is_infallible = { λ _. ⊤ };
+
+    fn clone(&self) -> Result<Self, AllocError> {
+        Ok(ArrPartial {
+            stored: self.stored,
+            len: self.len,
+        })
+    }
+}
+
+impl<const SIZE: usize> PartialEq for ArrPartial<SIZE> {
+    ghost use Rattle.std.specs.Prelude.{nat_eq};
+    ghost use Rattle.std.specs.Ordering.{on};
+    ghost use Rattle.std.specs.Cmp.{on_per, partial_equiv_from_equiv};
+    ghost use Rattle.std.specs.Cmp.Lexicographic.{pointwise, nat_list_eq_equiv};
+    ghost use Rattle.rart_keys.specs.ArrPartialBytes.{arr_partial_bytes};
+
+    ghost eq = { on arr_partial_bytes (pointwise nat_eq) };
+
+    ghost laws = { on_per arr_partial_bytes (partial_equiv_from_equiv nat_list_eq_equiv) };
+
+    fn eq(&self, other: &Self) -> bool {
+        self.to_slice() == other.to_slice()
+    }
+}
+
+impl<const SIZE: usize> Eq for ArrPartial<SIZE> {
+    ghost use Rattle.std.specs.Cmp.{on_equiv};
+    ghost use Rattle.std.specs.Cmp.Lexicographic.{nat_list_eq_equiv};
+    ghost use Rattle.rart_keys.specs.ArrPartialBytes.{arr_partial_bytes};
+
+    ghost laws = { on_equiv arr_partial_bytes nat_list_eq_equiv };
+}
+
+impl<const SIZE: usize> Partial for ArrPartial<SIZE> {
+    ghost use Rattle.std.specs.Prelude.{Some};
+    ghost use Rattle.rart_keys.specs.ArrPartialBytes.{arr_partial_bytes};
+    ghost use Rattle.rart_keys.specs.KeyBytes.{length-take-within, AreBytes-take};
+
+    const MAXIMUM_SIZE: Option<usize> = Some(SIZE);
+
+    ghost MAXIMUM_SIZE = { Some SIZE };
+
+    ghost bytes = { arr_partial_bytes };
+
+    fn as_ref(&self) -> &[u8] {
+        self.to_slice()
+    }
+
+    fn from_slice(slice: &[u8]) -> Self {
+        Self::from_two(slice, &[])
+    }
+
+    fn partial_before(&self, count: usize) -> Self {
+        Self::from_two(&self.to_slice()[..count], &[])
+    }
+
+    fn partial_from(&self, src_offset: usize, count: usize) -> Self {
+        Self::from_two(&self.to_slice()[src_offset..src_offset + count], &[])
+    }
+
+    fn partial_after(&self, start: usize) -> Self {
+        Self::from_two(&self.to_slice()[start..], &[])
+    }
+
+    fn partial_extended_with(&self, other: &Self) -> Self {
+        Self::from_two(self.to_slice(), other.to_slice())
+    }
+
+    fn at(&self, pos: usize) -> u8 {
+        self.to_slice()[pos]
+    }
+
+    fn len(&self) -> usize {
+        self.len
+    }
+
+    fn prefix_length_common(&self, other: &Self) -> usize {
+        common_prefix_length(self.to_slice(), other.to_slice())
+    }
+
+    fn prefix_length_key(&self, key_bytes: &[u8], depth: usize) -> usize {
+        common_prefix_length(self.to_slice(), &key_bytes[depth..])
+    }
+
+    fn prefix_length_slice(&self, slice: &[u8]) -> usize {
+        common_prefix_length(self.to_slice(), slice)
+    }
+
+    fn to_slice(&self) -> &[u8] {
+        self.as_ref()
+    }
+
+    ghost within = { λ p. length-take-within p.len SIZE p.stored p.in_range };
+
+    ghost are_bytes = { λ p. AreBytes-take p.len p.stored p.are_bytes };
+}
+
+impl<const SIZE: usize> From<ArrayKey<SIZE>> for ArrPartial<SIZE> {
+    ghost use Rattle.std.specs.Prelude.{◌≡◌};
+    ghost use Rattle.rart_keys.specs.ArrPartialBytes.{arr_partial_bytes};
+    ghost use Rattle.rart_keys.specs.ArrayKeyBytes.{array_key_bytes};
+
+    ghost from_gives = { λ key part. arr_partial_bytes part ≡ array_key_bytes key };
+
+    fn from(key: ArrayKey<SIZE>) -> Self {
+        key.to_partial(0)
+    }
+}
+
+impl<'a, const SIZE: usize> IntoIterator for &'a ArrPartial<SIZE> {
+    type Item = &'a u8;
+
+    type IntoIter = Iter<'a, u8>;
+
+    ghost use Rattle.std.specs.Prelude.{◌≡◌, ℕ};
+    ghost use Rattle.std.specs.Slice.Iter.{iter_rest};
+    ghost use Rattle.std.specs.Iterator.Adapters.{IterYieldsInOrder};
+    ghost use Rattle.rart_keys.specs.ArrPartialBytes.{arr_partial_bytes};
+
+    ghost into_iter_gives = { λ part it. (iter_rest it ≡ arr_partial_bytes part.now) × IterYieldsInOrder ℕ };
+
+    fn into_iter(self) -> Iter<'a, u8> {
+        self.to_slice().iter()
+    }
+}

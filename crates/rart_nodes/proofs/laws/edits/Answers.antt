@@ -1,0 +1,17 @@
+use Rattle.rart_nodes.proofs.EditRunLemmas.{remove-absent}
+use Rattle.rart_nodes.proofs.InsertAskLemmas.{asks-insert}
+use Rattle.rart_nodes.proofs.PutLemmas.{canonical-put, pairs_of-put}
+use Rattle.rart_nodes.proofs.RemoveAskLemmas.{asks-remove}
+use Rattle.rart_nodes.proofs.RemoveLemmas.{canonical-removed, pairs_of-removed}
+use Rattle.rart_nodes.proofs.laws.edits.Goals as goal
+
+pub returns : goal.returns
+returns g c = record {
+  put_canonical = canonical-put;
+  put_pairs = pairs_of-put;
+  put_asks = asks-insert;
+  remove_canonical = canonical-removed;
+  remove_pairs = pairs_of-removed;
+  remove_absent = remove-absent;
+  remove_asks = asks-remove;
+}

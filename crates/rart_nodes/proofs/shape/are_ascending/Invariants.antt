@@ -1,0 +1,8 @@
+use Rattle.std.proofs.Common.{◌-◌, ◌↔◌}
+use Rattle.rart_keys.specs.SortedMap.{IsAscending}
+use Rattle.rart_nodes.specs.ShapeRecords.{keys_in, lone_keys}
+use Rattle.rart_nodes.proofs.AscendingKeys.{AscendFrom}
+use Rattle.rart_nodes.proofs.shape.are_ascending.Given as goal
+
+abbrev pub invariant-loop-i : goal.invariant-loop-i
+invariant-loop-i l = AscendFrom (l.i - 1) l.keys ↔ IsAscending (lone_keys (keys_in l.keys))

@@ -1,0 +1,15 @@
+pub mod BranchPoints
+pub mod CanonicalTest
+pub mod EditRuns
+pub mod InsertAsks
+pub mod ProbeCount
+pub mod RemoveAsks
+pub mod SeenTrie
+pub mod Shape
+pub mod ShapeRecords
+pub mod Stored
+pub mod StoredFalls
+pub mod Tree
+pub mod Trie
+pub mod TrieCode
+pub mod Widths

@@ -1,0 +1,52 @@
+//! The theorems of the canonical trie, each the contract of a function with an empty body.
+ghost use Rattle.std.specs.Prelude.{◌≡◌, ℕ, ◌+◌, ◌*◌, ◌≤◌, List, [], Option, None, Some, is_some, true, length};
+ghost use Rattle.rart_keys.specs.SortedMap.{IsAscending, lookup, put, without, keys_of};
+ghost use Rattle.rart_nodes.specs.BranchPoints.{IsBranchPoint};
+ghost use Rattle.rart_nodes.specs.EditRuns.{Edit, run_tree, run_map};
+ghost use Rattle.rart_nodes.specs.InsertAsks.{insert_asks, trie_put_asks};
+ghost use Rattle.rart_nodes.specs.ProbeCount.{probe_count, entered_nodes};
+ghost use Rattle.rart_nodes.specs.RemoveAsks.{remove_asks, trie_remove_asks};
+ghost use Rattle.rart_nodes.specs.Shape.{HasShape, NodeRecord, record_at};
+ghost use Rattle.rart_nodes.specs.Tree.{tree_pairs, tree_nodes, IsCanonicalTree};
+ghost use Rattle.rart_nodes.specs.Trie.{Trie, IsCanonical, look_up, pairs_of, nodes_of, put_trie, remove_trie};
+
+/// A canonical trie is determined by its keys: its pairs ascend, a descent is a look-up in them,
+/// and its nodes are exactly the branch points of its keys.
+pub fn canonical_trie<V>()
+    ensures pairs_ascend { (t : Trie V) → IsCanonical t → IsAscending (pairs_of t) }
+    ensures looks_up { (k : List ℕ) (t : Trie V) → IsCanonical t → look_up k t ≡ lookup k (pairs_of t) }
+    ensures shape { (t : Trie V) → IsCanonical t → HasShape (keys_of (pairs_of t)) (nodes_of t) }
+    ensures equal_keys { (t u : Trie V) → IsCanonical t → IsCanonical u → keys_of (pairs_of t) ≡ keys_of (pairs_of u) → nodes_of t ≡ nodes_of u }
+    ensures few_nodes { (t : Trie V) → IsCanonical t → length (nodes_of t) + 1 ≤ 2 * length (pairs_of t) }
+    ensures visits { (k : List ℕ) (t : Trie V) → IsCanonical t → entered_nodes k t ≡ probe_count (keys_of (pairs_of t)) k }
+{}
+
+/// The shape of keys has a record at a string exactly if the string is a branch point of them.
+pub fn branch_points<V>()
+    ensures has_record { (p : List ℕ) (m : List (List ℕ × V)) → IsAscending m → IsBranchPoint (keys_of m) p → is_some (record_at (keys_of m) p) ≡ true }
+    ensures has_no_other { (p : List ℕ) (m : List (List ℕ × V)) → IsAscending m → is_some (record_at (keys_of m) p) ≡ true → IsBranchPoint (keys_of m) p }
+{}
+
+/// What an edit does to a canonical trie: it stays canonical, its pairs are those of the sorted
+/// map, and where the edit needs other room is told by the keys alone.
+pub fn edits<V>()
+    ensures put_canonical { (k : List ℕ) (v : V) (t : Trie V) → IsCanonical t → IsCanonical (put_trie k v t) }
+    ensures put_pairs { (k : List ℕ) (v : V) (t : Trie V) → IsCanonical t → pairs_of (put_trie k v t) ≡ put k v (pairs_of t) }
+    ensures put_asks { (k : List ℕ) (t : Trie V) → IsCanonical t → trie_put_asks k t ≡ insert_asks (keys_of (pairs_of t)) k }
+    ensures remove_canonical { (k : List ℕ) (t : Trie V) → IsCanonical t → IsCanonicalTree (remove_trie k t) }
+    ensures remove_pairs { (k : List ℕ) (t : Trie V) → IsCanonical t → tree_pairs (remove_trie k t) ≡ without k (pairs_of t) }
+    ensures remove_absent { (k : List ℕ) (t : Trie V) → IsCanonical t → look_up k t ≡ None → remove_trie k t ≡ Some t }
+    ensures remove_asks { (k : List ℕ) (t : Trie V) → IsCanonical t → trie_remove_asks None k t ≡ remove_asks (keys_of (pairs_of t)) k }
+{}
+
+/// After any list of edits of an empty tree the pairs are those of the sorted map, and the nodes
+/// have the shape of its keys.
+pub fn histories<V>()
+    ensures pairs { (es : List (Edit V)) → tree_pairs (run_tree es None) ≡ run_map es [] }
+    ensures shape { (es : List (Edit V)) → HasShape (keys_of (run_map es [])) (tree_nodes (run_tree es None)) }
+{}
+
+/// Keys have one shape: two lists of records that both have the shape of the same keys are equal.
+pub fn one_shape()
+    ensures { (s : List (List ℕ)) (xs ys : List (List ℕ × NodeRecord)) → HasShape s xs → HasShape s ys → xs ≡ ys }
+{}

@@ -1,0 +1,14 @@
+//! Nodes of an Adaptive Radix Tree: their storage, insertion, and look-ups of a shared tree.
+//!
+//! Contracts see a node as a trie, pure data with all that stands below it. The theorems of the
+//! subject are theorems on tries (`laws`); a node's calls are proved equal to functions on them.
+#![tactic(auto)]
+
+mod count;
+pub mod laws;
+pub mod node;
+mod refused;
+pub mod shape;
+
+pub use count::{Count, Visits};
+pub use refused::Refused;

@@ -1,0 +1,91 @@
+//! A node of the tree: a prefix, an optional value, and children by their edge bytes.
+//!
+//! Contracts see a node as a trie: all that stands below it, whatever its storage is.
+ghost use Rattle.std.specs.Prelude.{◌≡◌, ◌+◌, ◌*◌, ◌≤◌, [], ◌∷◌, length};
+ghost use Rattle.std.specs.Option.{option_copied};
+ghost use Rattle.rart_nodes.specs.SeenTrie.{child_in};
+ghost use Rattle.rart_keys.specs.SortedMap.{IsAscending, keys_of};
+ghost use Rattle.rart_nodes.specs.Shape.{HasShape};
+ghost use Rattle.rart_nodes.specs.Trie.{IsCanonical, leaf, nodes_of, pairs_of, prefix_of, value_of};
+
+use crate::node::storage::Storage;
+use rart_keys::Partial;
+use std::marker::Model;
+
+mod insert;
+mod look_up;
+pub mod seen;
+pub mod storage;
+
+/// A node. A child's prefix begins with the byte by which it stands; only the prefix of a root may
+/// be empty.
+#[derive(Drop)]
+pub struct DefaultNode<P: Partial, V> {
+    prefix: P,
+    value: Option<V>,
+    storage: Storage<DefaultNode<P, V>>,
+}
+
+impl<P: Partial, V> Model for DefaultNode<P, V> {
+    ghost use Rattle.rart_nodes.specs.Trie.{Trie, node};
+    ghost use Rattle.rart_nodes.specs.TrieCode.{trie_code, as_children, node_count};
+
+    ghost Value = { Trie V };
+
+    ghost coded = { trie_code V.code };
+
+    ghost use Rattle.rart_nodes.specs.Stored.{stored, width_of};
+
+    ghost view = { λ a. node (P.bytes a.prefix) a.value (width_of a.storage) (as_children (stored a.storage)) };
+
+    ghost size = { node_count };
+
+    ghost use Rattle.rart_nodes.specs.StoredFalls.{deep_le-stored};
+
+    ghost size_decreases = { λ a h. deep_le-stored P.Partial a.prefix a.value a.storage };
+}
+
+impl<P: Partial, V> DefaultNode<P, V> {
+    /// A node without children that holds `value`. Takes no memory.
+    pub fn new_leaf(prefix: P, value: V) -> Self
+        ensures leaf { result ≡ leaf (P.bytes prefix) value }
+        ensures canonical { IsCanonical result }
+        ensures pairs { pairs_of result ≡ (P.bytes prefix, value) ∷ [] }
+    {
+        DefaultNode {
+            prefix,
+            value: Some(value),
+            storage: Storage::empty(),
+        }
+    }
+
+    /// The value that the node holds.
+    pub fn value(&self) -> Option<&V>
+        ensures { option_copied result ≡ value_of self.now }
+    {
+        self.value.as_ref()
+    }
+
+    /// The node's prefix.
+    pub(crate) fn prefix(&self) -> &P
+        ensures { P.bytes result.now ≡ prefix_of self.now }
+    {
+        &self.prefix
+    }
+
+    /// The child at byte `b`.
+    pub fn seek_child(&self, b: u8) -> Option<&Self>
+        ensures { option_copied result ≡ child_in b self.now }
+    {
+        self.storage.seek_child(b)
+    }
+
+    /// A canonical node's pairs ascend by key, and its nodes are exactly the branch points of its
+    /// keys, each of the kind that its child count fixes: at most 2n - 1 for n keys.
+    pub fn canonical(&self)
+        requires { IsCanonical self.now }
+        ensures ascending { IsAscending (pairs_of self.now) }
+        ensures shape { HasShape (keys_of (pairs_of self.now)) (nodes_of self.now) }
+        ensures few_nodes { length (nodes_of self.now) + 1 ≤ 2 * length (pairs_of self.now) }
+    {}
+}

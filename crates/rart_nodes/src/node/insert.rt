@@ -1,0 +1,125 @@
+//! Insertion below a node. All room is taken before the first write.
+ghost use Rattle.std.specs.Prelude.{◌≡◌, ◌+◌, ◌<◌, ◌≤◌, length, max, nat_eq, true, IfErr, IfOk, None, OnErr, OnOk};
+ghost use Rattle.std.specs.List.{common_prefix_len};
+ghost use Rattle.rart_keys.specs.KeyBytes.{IsWithin};
+ghost use Rattle.rart_keys.specs.SortedMap.{count_of, keys_of, lookup, put};
+ghost use Rattle.rart_nodes.specs.CanonicalTest.{longest_key};
+ghost use Rattle.rart_nodes.specs.InsertAsks.{insert_asks, trie_put_asks};
+ghost use Rattle.rart_nodes.specs.Shape.{record_at};
+ghost use Rattle.rart_nodes.specs.Trie.{IsCanonical, look_up, pairs_of, prefix_of, put_trie, with_records};
+
+use crate::node::DefaultNode;
+use crate::node::storage::Storage;
+use crate::refused::Refused;
+use rart_keys::Partial;
+use rart_parts::TreeError;
+use std::alloc::Global;
+use std::mem;
+
+impl<P: Partial, V> DefaultNode<P, V> {
+    /// Cuts the node after `shared` bytes of its prefix, and puts `value` at `key`, which agrees with
+    /// the prefix that far and no further. Refused, all stands as it was and the value is handed back.
+    fn split(
+        &mut self,
+        alloc: Global,
+        shared: usize,
+        key: &[u8],
+        value: V,
+    ) -> Result<(), Refused<V>>
+        requires cut { shared < length (prefix_of self.old) }
+        requires within { shared ≤ length key.now }
+        requires common { shared ≡ common_prefix_len nat_eq (prefix_of self.old) key.now }
+        requires fits { IsWithin P.MAXIMUM_SIZE (length key.now) }
+        ensures ok { OnOk result (self.new ≡ put_trie key.now value self.old) }
+        ensures refused { OnErr result (self.new ≡ self.old) }
+        ensures back { IfErr result (λ r. (r.error ≡ TreeError.Memory) × (r.value ≡ value)) }
+    {
+        let Ok(room) = Storage::new_4(alloc) else {
+            return Err(Refused {
+                error: TreeError::Memory,
+                value,
+            });
+        };
+        let head = self.prefix.partial_before(shared);
+        let low = self.prefix.partial_after(shared);
+        let low_byte = low.at(0);
+        self.prefix = head;
+        let storage = mem::replace(&mut self.storage, room);
+        if key.len() == shared {
+            let lower = DefaultNode {
+                prefix: low,
+                value: self.value.replace(value),
+                storage,
+            };
+            self.storage.add_within(low_byte, lower);
+            return Ok(());
+        }
+        let lower = DefaultNode {
+            prefix: low,
+            value: self.value.take(),
+            storage,
+        };
+        let rest = &key[shared..];
+        let leaf = DefaultNode::new_leaf(P::from_slice(rest), value);
+        self.storage.add_within(low_byte, lower);
+        self.storage.add_within(rest[0], leaf);
+        Ok(())
+    }
+
+    fn put(&mut self, alloc: Global, key: &[u8], value: V) -> Result<Option<V>, Refused<V>>
+        requires canonical { IsCanonical self.old }
+        requires fits { IsWithin P.MAXIMUM_SIZE (length key.now) }
+        ensures ok { OnOk result (self.new ≡ put_trie key.now value self.old) }
+        ensures answer { IfOk result (λ old. old ≡ look_up key.now self.old) }
+        ensures refused { OnErr result (self.new ≡ self.old) }
+        ensures back { IfErr result (λ r. (r.error ≡ TreeError.Memory) × (r.value ≡ value)) }
+        ensures asks { OnErr result ((trie_put_asks key.now self.old ≡ true) × (look_up key.now (with_records self.old) ≡ None)) }
+    {
+        let shared = self.prefix.prefix_length_slice(key);
+        if shared < self.prefix.len() {
+            self.split(alloc, shared, key, value)?;
+            return Ok(None);
+        }
+        if key.len() == shared {
+            return Ok(self.value.replace(value));
+        }
+        let rest = &key[shared..];
+        let byte = rest[0];
+        match self.storage.seek_child_mut(byte) {
+            Some(child) => match child.put(alloc, rest, value) {
+                Ok(old) => return Ok(old),
+                Err(refused) => return Err(refused),
+            },
+            None => {}
+        }
+        match self.storage.make_room(alloc, byte) {
+            Ok(()) => {
+                let leaf = DefaultNode::new_leaf(P::from_slice(rest), value);
+                self.storage.add_within(byte, leaf);
+                Ok(None)
+            }
+            Err(error) => Err(Refused { error, value }),
+        }
+    }
+
+    /// Puts `value` at `key`, what is left of a key behind the path to this node, in one pass down,
+    /// and answers the old value. Asks a canonical trie and a key within the maximum.
+    ///
+    /// Refused is only a request for memory, and that comes only where the keys say that this one needs
+    /// room: no node stands at it, and the node below which it would be a new child is cut or full. Then
+    /// all stands as it was, and the value is handed back.
+    pub fn insert(&mut self, alloc: Global, key: &[u8], value: V) -> Result<Option<V>, Refused<V>>
+        requires canonical { IsCanonical self.old }
+        requires fits { IsWithin P.MAXIMUM_SIZE (length key.now) }
+        ensures canonical { OnOk result (IsCanonical self.new) }
+        ensures pairs { OnOk result (pairs_of self.new ≡ put key.now value (pairs_of self.old)) }
+        ensures answer { IfOk result (λ old. old ≡ lookup key.now (pairs_of self.old)) }
+        ensures count { IfOk result (λ old. length (pairs_of self.new) + count_of old ≡ length (pairs_of self.old) + 1) }
+        ensures longest { OnOk result (longest_key (pairs_of self.new) ≤ max (longest_key (pairs_of self.old)) (length key.now)) }
+        ensures refused { OnErr result (self.new ≡ self.old) }
+        ensures back { IfErr result (λ r. (r.error ≡ TreeError.Memory) × (r.value ≡ value)) }
+        ensures asks { OnErr result ((0 < length (pairs_of self.old)) × (lookup key.now (pairs_of self.old) ≡ None) × (record_at (keys_of (pairs_of self.old)) key.now ≡ None) × (insert_asks (keys_of (pairs_of self.old)) key.now ≡ true)) }
+    {
+        self.put(alloc, key, value)
+    }
+}

@@ -1,0 +1,55 @@
+//! Look-ups of a shared tree, each one pass down, with its visits counted.
+ghost use Rattle.std.specs.Prelude.{◌≡◌, ◌≤◌, ◌+◌, length};
+ghost use Rattle.std.specs.Option.{option_copied};
+ghost use Rattle.rart_keys.specs.SortedMap.{keys_of, lookup};
+ghost use Rattle.rart_nodes.specs.ProbeCount.{probe_count, tree_entered};
+ghost use Rattle.rart_nodes.specs.Tree.{tree_look_up, tree_pairs};
+
+use crate::count::Count;
+use crate::node::seen::Seen;
+use rart_keys::{KeyTrait, Partial};
+
+impl<'a, K: KeyTrait, V, C: Count> Seen<'a, K, V, C> {
+    fn descend(self, key: &[u8], counter: &mut C) -> Option<&'a V>
+        ensures value { option_copied result ≡ tree_look_up key.now (option_copied self.entry.root) }
+        ensures visits { C.number counter.new ≡ C.number counter.old + tree_entered key.now (option_copied self.entry.root) }
+    {
+        let mut seen = self;
+        let mut rest = key;
+        while let Some(at) = seen.enter(counter) {
+            let prefix = at.prefix();
+            let shared = prefix.prefix_length_slice(rest);
+            if shared < prefix.len() {
+                return None;
+            }
+            if rest.len() == shared {
+                return at.value();
+            }
+            let after = &rest[shared..];
+            let Some(next) = at.child(after[0]) else {
+                return None;
+            };
+            seen = next;
+            rest = after;
+        }
+        None
+    }
+
+    /// The value at the bytes `key`, which may be longer than any key.
+    pub fn get_bytes_counted(self, key: &[u8], counter: &mut C) -> Option<&'a V>
+        ensures value { option_copied result ≡ lookup key.now (tree_pairs (option_copied self.entry.root)) }
+        ensures visits { C.number counter.new ≡ C.number counter.old + probe_count (keys_of (tree_pairs (option_copied self.entry.root))) key.now }
+        ensures bound { C.number counter.new ≤ C.number counter.old + length key.now + 1 }
+    {
+        self.descend(key, counter)
+    }
+
+    /// The value at a key.
+    pub fn get_k_counted(self, key: &K, counter: &mut C) -> Option<&'a V>
+        ensures value { option_copied result ≡ lookup (K.bytes key.now) (tree_pairs (option_copied self.entry.root)) }
+        ensures visits { C.number counter.new ≡ C.number counter.old + probe_count (keys_of (tree_pairs (option_copied self.entry.root))) (K.bytes key.now) }
+        ensures bound { C.number counter.new ≤ C.number counter.old + length (K.bytes key.now) + 1 }
+    {
+        self.get_bytes_counted(key.as_ref(), counter)
+    }
+}

@@ -1,0 +1,116 @@
+//! Where a node's children stand: in one of four maps, or nowhere where it has none. Seen as the list
+//! of (byte, child), ascending by byte, and a width.
+ghost use Rattle.std.specs.Prelude.{◌≡◌, ◌<◌, ◌≤◌, [], length, None};
+ghost use Rattle.std.specs.Option.{option_copied};
+ghost use Rattle.rart_parts.specs.Entries.{child_at, with_child};
+ghost use Rattle.rart_nodes.specs.Stored.{stored, width_of, room_of};
+
+use rart_parts::mapping::{DirectMapping, IndexedMapping, NodeMapping, SortedKeyedMapping};
+use rart_parts::utils::bitset::Bitset64;
+
+mod room;
+
+/// The children of a node. Each kind but the first is a map that holds at most as many children as its
+/// width, on the heap: 4, 16, 48 or 256.
+#[derive(Drop)]
+pub enum Storage<N> {
+    /// No child, and no memory.
+    Leaf,
+    /// At most four children, by sorted keys.
+    Four(Box<SortedKeyedMapping<N, 4>>),
+    /// At most sixteen children, by sorted keys.
+    Sixteen(Box<SortedKeyedMapping<N, 16>>),
+    /// At most 48 children, with an index from bytes to slots.
+    FortyEight(Box<IndexedMapping<N, 48, Bitset64<1>>>),
+    /// A place for each byte.
+    Full(Box<DirectMapping<N>>),
+}
+
+impl<N> Storage<N> {
+    /// Storage of width 0, for a node without children. Takes no memory.
+    pub fn empty() -> Self
+        ensures stored { stored result ≡ [] }
+        ensures width { width_of result ≡ 0 }
+    {
+        Storage::Leaf
+    }
+
+    /// How many children there are.
+    pub fn num_children(&self) -> usize
+        ensures { result ≡ length (stored self.now) }
+    {
+        match self {
+            Storage::Leaf => 0,
+            Storage::Four(map) => map.num_children(),
+            Storage::Sixteen(map) => map.num_children(),
+            Storage::FortyEight(map) => map.num_children(),
+            Storage::Full(map) => map.num_children(),
+        }
+    }
+
+    /// How many children storage of this kind holds at most: 0, 4, 16, 48 or 256.
+    pub fn width(&self) -> usize
+        ensures { result ≡ width_of self.now }
+    {
+        match self {
+            Storage::Leaf => 0,
+            Storage::Four(_) => 4,
+            Storage::Sixteen(_) => 16,
+            Storage::FortyEight(_) => 48,
+            Storage::Full(_) => 256,
+        }
+    }
+
+    /// The child at byte `b`.
+    pub fn seek_child(&self, b: u8) -> Option<&N>
+        ensures { option_copied result ≡ child_at b (stored self.now) }
+    {
+        match self {
+            Storage::Leaf => None,
+            Storage::Four(map) => map.seek_child(b),
+            Storage::Sixteen(map) => map.seek_child(b),
+            Storage::FortyEight(map) => map.seek_child(b),
+            Storage::Full(map) => map.seek_child(b),
+        }
+    }
+
+    /// Puts a child in at byte `b`, where none stands. Takes no memory.
+    pub fn add_within(&mut self, b: u8, node: N)
+        requires absent { child_at b (stored self.old) ≡ None }
+        requires room { length (stored self.old) < room_of self.old }
+        ensures stored { stored self.new ≡ with_child b node (stored self.old) }
+        ensures width { width_of self.new ≡ width_of self.old }
+        ensures room { room_of self.old ≤ room_of self.new }
+    {
+        match self {
+            Storage::Leaf => unreachable!(),
+            Storage::Four(map) => map.add_child(b, node),
+            Storage::Sixteen(map) => map.add_child(b, node),
+            Storage::FortyEight(map) => map.add_child(b, node),
+            Storage::Full(map) => map.add_child(b, node),
+        }
+    }
+}
+
+impl<N> Storage<N> {
+    ghost use Rattle.std.specs.Prelude.{◌≡◌, OnSome};
+    ghost use Rattle.std.specs.Option.{option_copied_mut};
+    ghost use Rattle.std.specs.Borrow.{sem, LendsSo};
+    ghost use Rattle.rart_parts.specs.Entries.{child_at, replaced};
+    ghost use Rattle.rart_nodes.specs.Stored.{stored, width_of};
+    ghost use Rattle.rart_nodes.specs.contracts.node.storage.Storage.{the_row};
+
+    /// The child at byte `b`, to be changed.
+    pub fn seek_child_mut(&mut self, b: u8) -> Option<&mut N>
+        ensures* writes_back { sem 𝓛 (LendsSo (the_row N.row) N.row self.entry result (λ s w. OnSome result ((width_of s ≡ width_of self.old) × (stored s ≡ replaced b w (stored self.old)))) (λ s. (width_of s ≡ width_of self.old) × (stored s ≡ stored self.old))) }
+        ensures value { option_copied_mut result ≡ child_at b (stored self.old) }
+    {
+        match self {
+            Storage::Leaf => None,
+            Storage::Four(map) => map.seek_child_mut(b),
+            Storage::Sixteen(map) => map.seek_child_mut(b),
+            Storage::FortyEight(map) => map.seek_child_mut(b),
+            Storage::Full(map) => map.seek_child_mut(b),
+        }
+    }
+}

@@ -1,0 +1,311 @@
+//! The shape of a set of keys, computed from its definition.
+//!
+//! The shape has a record for each string that is a key, or from which the keys go on by two bytes
+//! or more. The functions here are plain and slow: each looks at all keys for all it answers, and
+//! they serve tests.
+ghost use Rattle.std.specs.Prelude.{◌≡◌, ◌↔◌, IfErr, IfOk, IsTrue, MatchOption, None, OnOk, Some};
+ghost use Rattle.rart_keys.specs.ByteStrings.{byte_after};
+ghost use Rattle.rart_keys.specs.SortedMap.{IsAscending, put};
+ghost use Rattle.rart_nodes.specs.Shape.{HasShape, capacity_of, contains_key, next_bytes, record_at};
+ghost use Rattle.rart_nodes.specs.ShapeRecords.{keys_in, lone_keys, node_record, put_some, records_of};
+
+use rart_parts::TreeError;
+use std::alloc::Global;
+use std::cmp::Ordering;
+
+/// What a shape says of one string.
+#[derive(Debug, Drop, Eq, PartialEq)]
+pub struct ShapeRecord {
+    /// The string.
+    pub path: Vec<u8>,
+    /// Whether it is a key.
+    pub holds_value: bool,
+    /// The bytes by which keys go on from it, ascending.
+    pub edges: Vec<u8>,
+    /// How many children its node can hold: 0, 4, 16, 48 or 256.
+    pub capacity: usize,
+}
+
+/// The capacity of a node with `count` children: the least of 0, 4, 16, 48 and 256 that has room for
+/// them.
+pub fn capacity_of(count: usize) -> usize
+    ensures { result ≡ capacity_of count }
+{
+    if count == 0 {
+        0
+    } else if count <= 4 {
+        4
+    } else if count <= 16 {
+        16
+    } else if count <= 48 {
+        48
+    } else {
+        256
+    }
+}
+
+/// The byte of `key` behind `path`, where `path` properly begins it.
+fn byte_after(path: &[u8], key: &[u8]) -> Option<u8>
+    ensures { result ≡ byte_after path.now key.now }
+{
+    let rest = key.strip_prefix(path)?;
+    rest.first().copied()
+}
+
+/// Whether `path` is one of the keys.
+fn contains_key(keys: &[&[u8]], path: &[u8]) -> bool
+    ensures { result ≡ contains_key (keys_in keys.now) path.now }
+{
+    for key in keys {
+        if *key == path {
+            return true;
+        }
+    }
+    false
+}
+
+/// The bytes by which the keys go on from `path`, each once where the keys ascend.
+fn next_bytes(alloc: Global, keys: &[&[u8]], path: &[u8]) -> Result<Vec<u8>, TreeError>
+    ensures bytes { IfOk result (λ v. v.items ≡ next_bytes (keys_in keys.now) path.now) }
+    ensures error { IfErr result (λ e. e ≡ TreeError.Memory) }
+{
+    let mut bytes = Vec::new(alloc);
+    for key in keys {
+        let Some(byte) = byte_after(path, key) else {
+            continue;
+        };
+        if bytes.last().copied() != Some(byte) {
+            let Ok(()) = bytes.push(byte) else {
+                return Err(TreeError::Memory);
+            };
+        }
+    }
+    Ok(bytes)
+}
+
+/// The record of the shape of `keys` at `path`, or `None` where the shape has none there; refused
+/// where memory is.
+pub fn record_at(
+    alloc: Global,
+    keys: &[&[u8]],
+    path: &[u8],
+) -> Result<Option<ShapeRecord>, TreeError>
+    ensures record { IfOk result (λ o. MatchOption o (record_at (keys_in keys.now) path.now ≡ None) (λ r. (r.path.items ≡ path.now) × (record_at (keys_in keys.now) path.now ≡ Some (node_record r)))) }
+    ensures error { IfErr result (λ e. e ≡ TreeError.Memory) }
+{
+    let holds_value = contains_key(keys, path);
+    let edges = next_bytes(alloc, keys, path)?;
+    if !holds_value && edges.len() < 2 {
+        return Ok(None);
+    }
+    let Ok(path) = path.to_vec(alloc) else {
+        return Err(TreeError::Memory);
+    };
+    let capacity = capacity_of(edges.len());
+    Ok(Some(ShapeRecord {
+        path,
+        holds_value,
+        edges,
+        capacity,
+    }))
+}
+
+/// Puts a record in before those of greater paths, or in the place of the one of its path.
+fn put_record(records: &mut Vec<ShapeRecord>, added: ShapeRecord) -> Result<(), TreeError>
+    ensures put { OnOk result (records_of records.new.items ≡ put added.path.items (node_record added) (records_of records.old.items)) }
+    ensures error { IfErr result (λ e. e ≡ TreeError.Memory) }
+{
+    for i in 0..records.len() {
+        match added.path.as_slice().cmp(records[i].path.as_slice()) {
+            Ordering::Less => {
+                let Ok(()) = records.insert(i, added) else {
+                    return Err(TreeError::Memory);
+                };
+                return Ok(());
+            }
+            Ordering::Equal => {
+                records[i] = added;
+                return Ok(());
+            }
+            Ordering::Greater => {}
+        }
+    }
+    let Ok(()) = records.push(added) else {
+        return Err(TreeError::Memory);
+    };
+    Ok(())
+}
+
+/// Puts in the record of the shape of `keys` at `path`, if there is one.
+fn put_record_at(
+    alloc: Global,
+    keys: &[&[u8]],
+    path: &[u8],
+    records: &mut Vec<ShapeRecord>,
+) -> Result<(), TreeError>
+    ensures put { OnOk result (records_of records.new.items ≡ put_some path.now (record_at (keys_in keys.now) path.now) (records_of records.old.items)) }
+    ensures error { IfErr result (λ e. e ≡ TreeError.Memory) }
+{
+    match record_at(alloc, keys, path)? {
+        Some(found) => put_record(records, found),
+        None => Ok(()),
+    }
+}
+
+/// Whether each key is below the next, as `shape_of` asks.
+pub fn are_ascending(keys: &[&[u8]]) -> bool
+    ensures { IsTrue result ↔ IsAscending (lone_keys (keys_in keys.now)) }
+{
+    for i in 1..keys.len() {
+        let Ordering::Less = keys[i - 1].cmp(keys[i]) else {
+            return false;
+        };
+    }
+    true
+}
+
+/// The shape of keys in strictly ascending order: the record of each branch point, ascending by
+/// path, and no other; refused where memory is.
+pub fn shape_of(alloc: Global, keys: &[&[u8]]) -> Result<Vec<ShapeRecord>, TreeError>
+    requires { IsAscending (lone_keys (keys_in keys.now)) }
+    ensures shape { IfOk result (λ v. HasShape (keys_in keys.now) (records_of v.items)) }
+    ensures error { IfErr result (λ e. e ≡ TreeError.Memory) }
+{
+    let mut records = Vec::new(alloc);
+    'keys: for key in keys {
+        'lengths: for length in 0..=key.len() {
+            put_record_at(alloc, keys, &key[..length], &mut records)?;
+        }
+    }
+    Ok(records)
+}
+
+#[cfg(test)]
+mod tests {
+    use super::*;
+    use std::test::Fail;
+
+    type Row<'a> = (&'a [u8], bool, &'a [u8], usize);
+
+    fn is_row(record: &ShapeRecord, row: &Row<'_>) -> bool {
+        record.path.as_slice() == row.0
+            && record.holds_value == row.1
+            && record.edges.as_slice() == row.2
+            && record.capacity == row.3
+    }
+
+    fn has_rows(alloc: Global, keys: &[&[u8]], rows: &[Row<'_>]) -> Result<bool, TreeError> {
+        if !are_ascending(keys) {
+            return Ok(false);
+        }
+        let shape = shape_of(alloc, keys)?;
+        if shape.len() != rows.len() {
+            return Ok(false);
+        }
+        for (record, row) in shape.iter().zip(rows) {
+            if !is_row(record, row) {
+                return Ok(false);
+            }
+        }
+        Ok(true)
+    }
+
+    #[test]
+    fn keys_within_keys(rt: HostRuntime) -> Result<(), Fail> {
+        let alloc = rt.alloc();
+        assert!(rt; has_rows(alloc, &[], &[])?);
+        assert!(rt; has_rows(alloc, &[b""], &[(b"", true, b"", 0)])?);
+        let rows: [Row<'_>; 2] = [(b"a", true, b"b", 4), (b"ab", true, b"", 0)];
+        assert!(rt; has_rows(alloc, &[b"a", b"ab"], &rows)?);
+        let rows: [Row<'_>; 4] = [
+            (b"ab", true, b"c", 4),
+            (b"abc", false, b"de", 4),
+            (b"abcd", true, b"", 0),
+            (b"abce", true, b"", 0),
+        ];
+        assert!(rt; has_rows(alloc, &[b"ab", b"abcd", b"abce"], &rows)?);
+        Ok(())
+    }
+
+    #[test]
+    fn words(rt: HostRuntime) -> Result<(), Fail> {
+        let rows: [Row<'_>; 4] = [
+            (b"", false, b"cd", 4),
+            (b"cat", true, b"a", 4),
+            (b"catalog", true, b"", 0),
+            (b"dog", true, b"", 0),
+        ];
+        assert!(rt; has_rows(rt.alloc(), &[b"cat", b"catalog", b"dog"], &rows)?);
+        Ok(())
+    }
+
+    #[test]
+    fn three_levels(rt: HostRuntime) -> Result<(), Fail> {
+        let keys: [&[u8]; 6] = [b"x", b"xy\0", b"xy\x01", b"xy\x02", b"xy\x03", b"xy\x04"];
+        let rows: [Row<'_>; 7] = [
+            (b"x", true, b"y", 4),
+            (b"xy", false, b"\0\x01\x02\x03\x04", 16),
+            (b"xy\0", true, b"", 0),
+            (b"xy\x01", true, b"", 0),
+            (b"xy\x02", true, b"", 0),
+            (b"xy\x03", true, b"", 0),
+            (b"xy\x04", true, b"", 0),
+        ];
+        assert!(rt; has_rows(rt.alloc(), &keys, &rows)?);
+        Ok(())
+    }
+
+    /// Whether the keys of one byte, for each of `bytes`, hang from a root of this capacity.
+    fn is_fan(alloc: Global, bytes: &[u8], capacity: usize) -> Result<bool, Fail> {
+        let mut keys: Vec<&[u8]> = Vec::new(alloc);
+        for i in 0..bytes.len() {
+            keys.push(&bytes[i..i + 1])?;
+        }
+        if !are_ascending(&keys) {
+            return Ok(false);
+        }
+        let shape = shape_of(alloc, &keys)?;
+        let Some((root, leaves)) = shape.split_first() else {
+            return Ok(false);
+        };
+        if !is_row(root, &(b"", false, bytes, capacity)) || leaves.len() != bytes.len() {
+            return Ok(false);
+        }
+        for (leaf, key) in leaves.iter().zip(&keys) {
+            if !is_row(leaf, &(*key, true, b"", 0)) {
+                return Ok(false);
+            }
+        }
+        Ok(true)
+    }
+
+    #[test]
+    fn one_byte_keys(rt: HostRuntime) -> Result<(), Fail> {
+        let bytes: Vec<u8> = (0..=255u8).collect(rt.alloc())?;
+        let fans = [
+            (4, 4),
+            (5, 16),
+            (16, 16),
+            (17, 48),
+            (48, 48),
+            (49, 256),
+            (256, 256),
+        ];
+        for (count, capacity) in fans {
+            let first = bytes.get(..count).ok_or("too few bytes")?;
+            assert!(rt; is_fan(rt.alloc(), first, capacity)?, "{count}");
+        }
+        Ok(())
+    }
+
+    #[test]
+    fn single_records(rt: HostRuntime) -> Result<(), Fail> {
+        let keys: [&[u8]; 3] = [b"cat", b"catalog", b"dog"];
+        for path in [b"c".as_slice(), b"ca", b"cata", b"dogs", b"e"] {
+            assert_eq!(rt; record_at(rt.alloc(), &keys, path)?, None);
+        }
+        let root = record_at(rt.alloc(), &keys, b"")?.ok_or("no record")?;
+        assert!(rt; is_row(&root, &(b"", false, b"cd", 4)));
+        Ok(())
+    }
+}

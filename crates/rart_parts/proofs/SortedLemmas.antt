@@ -1,0 +1,143 @@
+-- The two columns of a sorted mapping through its calls.
+use Rattle.std.proofs.Common.{◌≡◌, ◌≢◌, ℕ, zero, suc, ◌<◌, ◌≤◌, ◌+◌, ◌-◌, List, [], ◌∷◌, ◌++◌, Option, Some, None, length, get_or, set, take, drop, sym, ap, ◌∙◌, refl, arith, subst}
+use Rattle.std.specs.Prelude.{insert, remove, OnSome, IsSome, IfSome}
+use Rattle.std.specs.Option.{option_copied_mut}
+use Rattle.std.specs.Borrow.{MutBor}
+use Rattle.std.proofs.lemmas.Bool.{false≢true}
+use Rattle.std.specs.List.{zip}
+use Rattle.std.proofs.lemmas.List.{length-set, length-append, length-take, length-drop, get_or-set_same, get_or-set_other}
+use Rattle.std.proofs.lemmas.List.Edits.{length-insert, length-remove}
+use Rattle.rart_parts.specs.Entries.{child_at, with_child, without, set_child, IsAscending}
+use Rattle.rart_parts.specs.Keys.{IsAscendingBelow}
+use Rattle.rart_parts.specs.SortedKeyed.{IsSortedKeyed}
+use Rattle.rart_parts.proofs.EntryLemmas.{with_child-ascends, without-ascends}
+use Rattle.rart_parts.proofs.Zipped.{length_zipped, set_zip, set_child-ascends, inserted, child_found, keys_ascend, zip_last, front-ascends}
+
+one_zipped : {X : Type 0} (ks : List ℕ) (vs : List X) (x : X) → length vs ≤ length ks → length vs ≡ 1 → x ≡ get_or vs 0 x → zip ks vs ≡ (get_or ks 0 0, x) ∷ []
+one_zipped ks [] x h one e = absurd (omega arith)
+one_zipped [] (v ∷ vs) x h one e = absurd (omega arith)
+one_zipped (k ∷ []) (v ∷ []) x h one e = λ i. (k, sym e i) ∷ []
+one_zipped (k ∷ l ∷ ks) (v ∷ []) x h one e = λ i. (k, sym e i) ∷ []
+one_zipped (k ∷ ks) (v ∷ w ∷ vs) x h one e = absurd (omega arith)
+
+pub no_entries : {X : Type 0} (ks : List ℕ) (vs : List X) → length vs ≡ 0 → zip ks vs ≡ []
+no_entries [] [] e = refl
+no_entries (k ∷ ks) [] e = refl
+no_entries ks (v ∷ vs) e = absurd (omega arith)
+
+zip_nothing : {X : Type 0} (ks : List ℕ) → (let none : List X = [] in ◌≡◌ {A = List (ℕ × X)} (zip ks none) [])
+zip_nothing [] = refl
+zip_nothing (k ∷ ks) = refl
+
+-- keys in front of others, as many as there are children
+zip_front : {X : Type 0} (ks rest : List ℕ) (vs : List X) → length vs ≤ length ks → zip (take (length vs) ks ++ rest) vs ≡ zip ks vs
+zip_front ks rest [] h = zip_nothing (take 0 ks ++ rest) ∙ sym (zip_nothing ks)
+zip_front [] rest (v ∷ vs) h = absurd (omega arith)
+zip_front (k ∷ ks) rest (v ∷ vs) h = ap (λ es. (k, v) ∷ es) (zip_front ks rest vs (omega arith))
+
+module _ {X : Type 0} {width : ℕ} {ks : List ℕ} {vs : List X} {room : ℕ} (s : IsSortedKeyed width ks vs room) where
+  pub fits : length vs ≤ length ks
+  fits = omega (arith, s.full, s.few)
+
+  -- as many entries as children
+  pub counted : (es : List (ℕ × X)) → zip ks vs ≡ es → length es ≡ length vs
+  counted es e = sym (ap length e) ∙ length_zipped ks vs fits
+
+  pub ordered : (n : ℕ) → n ≡ length vs → IsAscendingBelow ks n
+  ordered n e = subst (IsAscendingBelow ks) (sym e) (keys_ascend ks vs fits s.ascends)
+
+  pub written : (i : ℕ) (w : X) → IsSortedKeyed width ks (set vs i w) room
+  written i w = record {
+    full = s.full;
+    few = omega (arith, length-set vs i w, s.few);
+    room = s.room;
+    narrow = s.narrow;
+    ascends = subst IsAscending (sym (set_zip ks vs i w)) (set_child-ascends i w (zip ks vs) s.ascends);
+  }
+
+  pub added : (key : ℕ) (x : X) (ks' : List ℕ) (vs' : List X) (room' : ℕ) → length ks' ≡ length ks → length vs' ≡ length vs + 1 → length vs < width → room ≤ room'
+      → zip ks' vs' ≡ with_child key x (zip ks vs) → IsSortedKeyed width ks' vs' room'
+  added key x ks' vs' room' n m l r e = record {
+    full = n ∙ s.full;
+    few = omega (arith, m, l);
+    room = omega (arith, r, s.room);
+    narrow = s.narrow;
+    ascends = subst IsAscending (sym e) (with_child-ascends key x (zip ks vs) s.ascends);
+  }
+
+  pub deleted : (key : ℕ) (ks' : List ℕ) (vs' : List X) (room' : ℕ) → length ks' ≡ length ks → length vs ≡ length vs' + 1 → room' ≡ room
+      → zip ks' vs' ≡ without key (zip ks vs) → IsSortedKeyed width ks' vs' room'
+  deleted key ks' vs' room' n m r e = record {
+    full = n ∙ s.full;
+    few = omega (arith, m, s.few);
+    room = omega (arith, r, s.room);
+    narrow = s.narrow;
+    ascends = subst IsAscending (sym e) (without-ascends key (zip ks vs) s.ascends);
+  }
+
+  -- without the last child
+  module _ (rest : List X) (x : X) (e : vs ≡ rest ++ x ∷ []) where
+    last_within : length rest < length ks
+    last_within = omega (arith, fits, ap length e, length-append rest (x ∷ []))
+
+    pub last_entry : zip ks vs ≡ zip ks rest ++ (get_or ks (length rest) 0, x) ∷ []
+    last_entry = ap (zip ks) e ∙ zip_last ks rest x last_within
+
+    pub popped : (room' : ℕ) → room' ≡ room → IsSortedKeyed width ks rest room'
+    popped room' r = record {
+      full = s.full;
+      few = omega (arith, s.few, ap length e, length-append rest (x ∷ []));
+      room = omega (arith, r, s.room);
+      narrow = s.narrow;
+      ascends = front-ascends (zip ks rest) _ (subst IsAscending last_entry s.ascends);
+    }
+
+  pub emptied : (vs' : List X) → length vs' ≡ 0 → (room' : ℕ) → room' ≡ room → IsSortedKeyed width ks vs' room'
+  emptied [] e room' r = record { full = s.full; few = omega (arith, s.few); room = omega (arith, r, s.room); narrow = s.narrow; ascends = subst IsAscending (sym (no_entries ks [] refl)) tt }
+  emptied (v ∷ vs') e room' r = absurd (omega arith)
+
+  -- the only entry
+  pub only_entry : (x : X) → length vs ≡ 1 → x ≡ get_or vs 0 x → zip ks vs ≡ (get_or ks 0 0, x) ∷ []
+  only_entry x one e = one_zipped ks vs x fits one e
+
+  -- a key was put in at a place, and its child at the same place
+  pub put_in : (ks₁ : List ℕ) (n at key : ℕ) (x : X) → n ≡ length vs → length vs < width → length ks₁ ≡ length ks
+      → (at ≤ n) × ((k : ℕ) → k < at → get_or ks k 0 ≤ key) × (at < n → key < get_or ks at 0) → child_at key (zip ks vs) ≡ None
+      → ((k d : ℕ) → at + 1 ≤ k → k < at + 1 + (n - at) → get_or ks₁ k d ≡ get_or ks (at + (k - (at + 1))) d)
+      → ((k d : ℕ) → k < at + 1 → get_or ks₁ k d ≡ get_or ks k d)
+      → zip (set ks₁ at key) (insert vs at x) ≡ with_child key x (zip ks vs)
+  put_in ks₁ n at key x count room len place absent moved same =
+      inserted key x ks (set ks₁ at key) vs at (omega (arith, s.full, room)) (length-set ks₁ at key ∙ len) (omega (arith, place.0, count))
+      place.1 (λ l. place.2 (omega (arith, l, count))) absent
+      (λ j l. get_or-set_other ks₁ at j key 0 (λ e. omega (arith, e, l)) ∙ same j 0 (omega (arith, l)))
+      (get_or-set_same ks₁ at key 0 (omega (arith, place.0, count, len, s.full, room)))
+      (λ j l m. get_or-set_other ks₁ at (j + 1) key 0 (λ e. omega (arith, e, l)) ∙ moved (j + 1) 0 (omega (arith, l)) (omega (arith, l, m, count))
+      ∙ (let back : at + (j + 1 - (at + 1)) ≡ j = omega (arith, l) in ap (λ q. get_or ks q 0) back))
+
+  -- what a `&mut` to the child at a place reads
+  pub mut_read : (key i : ℕ) (r : Option (MutBor X)) → i < length vs → get_or ks i 0 ≡ key → ((j : ℕ) → j < i → get_or ks j 0 ≡ key → ⊥)
+      → IsSome r → IfSome r (λ m. m.now ≡ get_or vs i m.now) → option_copied_mut r ≡ child_at key (zip ks vs)
+  mut_read key i None l at none is e = absurd (false≢true is)
+  mut_read key i (Some m) l at none is e = sym (child_found key ks vs i m.now fits l at none e)
+
+  -- the same children with their keys in another row of keys
+  module _ (n : ℕ) (count : n ≡ length vs) (ks' : List ℕ) where
+    pub resized_zip : zip (take n ks ++ drop n ks') vs ≡ zip ks vs
+    resized_zip = ap (λ m. zip (take m ks ++ drop n ks') vs) count ∙ zip_front ks (drop n ks') vs fits
+
+    pub resized : (width' room' : ℕ) → length vs ≤ width' → width' ≤ room' → width' ≤ 255 → length ks' ≡ width' → IsSortedKeyed width' (take n ks ++ drop n ks') vs room'
+    resized width' room' few r narrow full = record {
+      full = omega (arith, length-append (take n ks) (drop n ks'), length-take n ks, length-drop n ks', full, few, count, fits);
+      few = few;
+      room = r;
+      narrow = narrow;
+      ascends = subst IsAscending (sym resized_zip) s.ascends;
+    }
+
+pub no_items : {A : Type 0} (xs : List A) → length xs ≡ 0 → xs ≡ []
+no_items [] e = refl
+no_items (x ∷ xs) e = absurd (omega arith)
+
+pub on_any : {A : Type 0} (r : Option A) {P : Type 0} → P → OnSome r P
+on_any None p = tt
+on_any (Some x) p = p

@@ -1,0 +1,17 @@
+use Rattle.std.proofs.Common.{sym, ◌∙◌, subst, arith}
+use Rattle.rart_parts.specs.Keys.{IsPlaceOf}
+use Rattle.rart_parts.proofs.Zipped.{child_found, child_none}
+use Rattle.rart_parts.proofs.SortedLemmas.{fits, ordered}
+use Rattle.rart_parts.proofs.mapping.sorted_keyed_mapping.SortedKeyedMappingNodeMapping.seek_child.Goals as goal
+
+pub u8_keys_find_key_position_sorted-requires-clause-ascend : goal.u8_keys_find_key_position_sorted-requires-clause-ascend
+u8_keys_find_key_position_sorted-requires-clause-ascend g c = ordered c.self.invariant _ (c.len.ensures ∙ c.self.inside.children.ok.0)
+
+pub returns-in-Some : goal.returns-in-Some
+returns-in-Some g c =
+    let f = c.in-Some.ensures in
+    rw (← c.self.view_is) (sym (child_found _ c.self.inside.keys c.self.inside.children.items _ _ (fits c.self.invariant) (omega (arith, f.0, c.len.ensures, c.self.inside.children.ok.0)) f.1 f.2 c.index.ensures))
+
+pub returns-in-None : goal.returns-in-None
+returns-in-None g c =
+    rw (← c.self.view_is) (sym (child_none _ c.self.inside.keys c.self.inside.children.items (λ j l. c.in-None.ensures j (omega (arith, l, c.len.ensures, c.self.inside.children.ok.0)))))

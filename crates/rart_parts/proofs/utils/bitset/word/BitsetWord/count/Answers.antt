@@ -1,0 +1,5 @@
+use Rattle.rart_parts.proofs.WordBits.{count_bits}
+use Rattle.rart_parts.proofs.utils.bitset.word.BitsetWord.count.Goals as goal
+
+pub returns : goal.returns
+returns g c = rw (← c.to_u64.ensures.same) (count_bits _ _ c.to_u64.ensures.fits)

@@ -1,0 +1,52 @@
+-- A map from bytes: a list of entries, each a byte and what stands at it.
+use Rattle.std.specs.Prelude.{ℕ, ◌<◌, zero, suc, Bool, cond, eqb, ltb, List, [], ◌∷◌, map, Option, Some, None}
+
+-- what stands at a byte, if anything does
+abbrev pub child_at : {X : Type 0} → ℕ → List (ℕ × X) → Option X
+child_at k [] = None
+child_at k (e ∷ es) = cond (eqb e.0 k) (Some e.1) (child_at k es)
+
+-- with a child at a byte, before the first greater byte, in place of the one that stood there
+abbrev pub with_child : {X : Type 0} → ℕ → X → List (ℕ × X) → List (ℕ × X)
+with_child k x [] = (k, x) ∷ []
+with_child k x (e ∷ es) = cond (ltb k e.0) ((k, x) ∷ e ∷ es) (cond (eqb e.0 k) ((k, x) ∷ es) (e ∷ with_child k x es))
+
+-- without what stands at a byte
+abbrev pub without : {X : Type 0} → ℕ → List (ℕ × X) → List (ℕ × X)
+without k [] = []
+without k (e ∷ es) = cond (eqb e.0 k) es (e ∷ without k es)
+
+-- with another child at a byte where one stands
+abbrev pub replaced : {X : Type 0} → ℕ → X → List (ℕ × X) → List (ℕ × X)
+replaced k x [] = []
+replaced k x (e ∷ es) = cond (eqb e.0 k) ((k, x) ∷ es) (e ∷ replaced k x es)
+
+-- with one more child at a byte, before the first byte that is not below
+abbrev pub with_another : {X : Type 0} → ℕ → X → List (ℕ × X) → List (ℕ × X)
+with_another k x [] = (k, x) ∷ []
+with_another k x (e ∷ es) = cond (ltb e.0 k) (e ∷ with_another k x es) ((k, x) ∷ e ∷ es)
+
+-- in the order of the bytes; entries at one byte stay in their order
+abbrev pub ascending : {X : Type 0} → List (ℕ × X) → List (ℕ × X)
+ascending [] = []
+ascending (e ∷ es) = with_another e.0 e.1 (ascending es)
+
+-- the first byte, if there is one, is above k
+abbrev pub StartsAbove : {X : Type 0} → ℕ → List (ℕ × X) → Type 0
+StartsAbove k [] = Unit {0}
+StartsAbove k (e ∷ es) = k < e.0
+
+-- each byte is below the next
+abbrev pub IsAscending : {X : Type 0} → List (ℕ × X) → Type 0
+IsAscending [] = Unit {0}
+IsAscending (e ∷ es) = StartsAbove e.0 es × IsAscending es
+
+-- the children alone, in order
+abbrev pub children_of : {X : Type 0} → List (ℕ × X) → List X
+children_of es = map (λ p. p.1) es
+
+-- with another child in entry i
+abbrev pub set_child : {X : Type 0} → ℕ → X → List (ℕ × X) → List (ℕ × X)
+set_child i x [] = []
+set_child zero x (e ∷ es) = (e.0, x) ∷ es
+set_child (suc i) x (e ∷ es) = e ∷ set_child i x es

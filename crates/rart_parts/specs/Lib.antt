@@ -1,0 +1,9 @@
+pub mod Bits
+pub mod Direct
+pub mod Entries
+pub mod EntryShapes
+pub mod Indexed
+pub mod Keys
+pub mod Places
+pub mod SortedKeyed
+pub mod formers

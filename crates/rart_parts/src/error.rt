@@ -1,0 +1,26 @@
+//! What a call that can be refused answers.
+
+use std::alloc::AllocError;
+use thiserror::Error;
+
+/// Why a call was refused. What stands after a refusal is said at each call.
+#[derive(Clone, Copy, PartialEq, Eq, Debug, Error)]
+pub enum TreeError {
+    /// The allocator had no memory for a growth.
+    #[error("out of memory")]
+    Memory,
+    /// The tree holds as many pairs as it can count.
+    #[error("tree is full")]
+    Full,
+}
+
+impl From<AllocError> for TreeError {
+    ghost use Rattle.std.specs.Prelude.{◌≡◌};
+    ghost use Rattle.rart_parts.specs.declared.error.TreeError.TheVariants.{Memory};
+
+    ghost from_gives = { λ _ e. e ≡ Memory };
+
+    fn from(_refusal: AllocError) -> TreeError {
+        TreeError::Memory
+    }
+}

@@ -1,0 +1,51 @@
+//! Maps from bytes to children, in four kinds of storage. Each is seen as the list of its children in the order of
+//! their bytes, each with its byte.
+
+pub mod direct_mapping;
+pub mod indexed_mapping;
+pub mod sorted_keyed_mapping;
+
+ghost use Rattle.std.specs.Prelude.{◌≡◌, ℕ, ◌<◌, List, length, OnSome, None};
+ghost use Rattle.std.specs.Borrow.{sem, LendsSo};
+ghost use Rattle.std.specs.Option.{option_copied, option_copied_mut};
+ghost use Rattle.rart_parts.specs.Entries.{child_at, with_child, without, replaced};
+
+pub use direct_mapping::DirectMapping;
+pub use indexed_mapping::IndexedMapping;
+pub use sorted_keyed_mapping::SortedKeyedMapping;
+
+/// A map from bytes to children, with room for NUM_CHILDREN. No call of it takes memory.
+pub trait NodeMapping<N, const NUM_CHILDREN: usize> {
+    ghost map: { Self → List (ℕ × N) };
+
+    /// Puts a child in at a byte that has none.
+    fn add_child(&mut self, key: u8, node: N)
+        requires absent { child_at key (map self.old) ≡ None }
+        requires room { length (map self.old) < NUM_CHILDREN }
+        ensures { map self.new ≡ with_child key node (map self.old) };
+
+    /// The child at a byte.
+    fn seek_child(&self, key: u8) -> Option<&N>
+        ensures { option_copied result ≡ child_at key (map self.now) };
+
+    /// The child at a byte, to be changed.
+    fn seek_child_mut(&mut self, key: u8) -> Option<&mut N>
+        ensures* writes_back { sem 𝓛 (LendsSo Self.row N.row self.entry result (λ n w. OnSome result (map n ≡ replaced key w (map self.old))) (λ n. map n ≡ map self.old)) }
+        ensures value { option_copied_mut result ≡ child_at key (map self.old) };
+
+    /// Takes the child at a byte out.
+    fn delete_child(&mut self, key: u8) -> Option<N>
+        ensures taken { result ≡ child_at key (map self.old) }
+        ensures rest { map self.new ≡ without key (map self.old) };
+
+    /// How many children there are.
+    fn num_children(&self) -> usize
+        ensures { result ≡ length (map self.now) };
+
+    /// How many children there is room for.
+    fn width(&self) -> usize
+        ensures { result ≡ NUM_CHILDREN }
+    {
+        NUM_CHILDREN
+    }
+}

@@ -1,0 +1,165 @@
+//! A map from bytes to children with an index from bytes to slots. It is seen as the list of its children in the order
+//! of their slots, each with its byte; what callers learn is that list in the order of the bytes.
+
+ghost use Rattle.std.specs.Prelude.{◌≡◌, ℕ, [], ◌∷◌, ◌<◌, ◌≤◌, ◌^◌, length, IfErr, IfOk, OnOk, OnErr, MatchOption};
+ghost use Rattle.rart_parts.specs.Entries.{IsAscending, ascending};
+
+use crate::error::TreeError;
+use crate::mapping::{NodeMapping, SortedKeyedMapping};
+use crate::utils::bitarray::BitArray;
+use crate::utils::bitset::{Bitset64, BitsetTrait};
+use crate::utils::places::free_places;
+use std::alloc::Global;
+use std::marker::Model;
+
+/// A map from bytes to at most W children. Only [`IndexedMapping::new`] and the conversions that make one take memory.
+#[derive(Drop)]
+pub struct IndexedMapping<N, const W: usize, B: BitsetTrait> {
+    index: BitArray<u8, 256, Bitset64<4>>,
+    children: BitArray<N, W, B>,
+    num_children: usize,
+}
+
+impl<N, const W: usize, B: BitsetTrait> Model for IndexedMapping<N, W, B> {
+    ghost use Rattle.std.specs.Prelude.{ℕ, List};
+    ghost use Rattle.std.specs.Coded.{coded_list, coded×, coded_ℕ};
+    ghost use Rattle.rart_parts.specs.Indexed.{IsIndexed, with_bytes};
+
+    ghost Value = { List (ℕ × N) };
+
+    ghost coded = { coded_list (coded× coded_ℕ N.code) };
+
+    ghost view = { λ m. with_bytes m.index 0 m.children };
+
+    ghost invariant = { λ m. IsIndexed W m.index m.children m.num_children };
+}
+
+impl<N, const W: usize, B: BitsetTrait> IndexedMapping<N, W, B> {
+    /// A map with no child. It takes memory for its index and for W children at once.
+    pub fn new(alloc: Global) -> Result<Self, TreeError>
+        requires narrow { W ≤ 255 }
+        requires covers { W ≤ B.CAPACITY }
+        requires fits { B.CAPACITY < 2 ^ 64 }
+        ensures ok { IfOk result (λ m. ascending m ≡ []) }
+        ensures err { IfErr result (λ e. e ≡ TreeError.Memory) }
+    {
+        let index = BitArray::new(alloc)?;
+        let children = BitArray::new(alloc)?;
+        Ok(IndexedMapping {
+            index,
+            children,
+            num_children: 0,
+        })
+    }
+
+    /// Takes the children of a sorted mapping over. A refusal leaves that mapping as it was.
+    pub fn from_sorted_keyed<const U: usize>(
+        alloc: Global,
+        source: &mut SortedKeyedMapping<N, U>,
+    ) -> Result<Self, TreeError>
+        requires narrow { W ≤ 255 }
+        requires covers { W ≤ B.CAPACITY }
+        requires fits { B.CAPACITY < 2 ^ 64 }
+        requires room { length source.old ≤ W }
+        ensures ok { IfOk result (λ m. ascending m ≡ source.old) }
+        ensures emptied { OnOk result (source.new ≡ []) }
+        ensures err { IfErr result (λ e. e ≡ TreeError.Memory) }
+        ensures refused { OnErr result (source.new ≡ source.old) }
+    {
+        let mut map = IndexedMapping::new(alloc)?;
+        map.fill_from_sorted_keyed(source);
+        Ok(map)
+    }
+
+    /// Moves the children of a sorted mapping in, from the last to the first. It takes no memory.
+    pub fn fill_from_sorted_keyed<const U: usize>(&mut self, source: &mut SortedKeyedMapping<N, U>)
+        requires empty { ascending self.old ≡ [] }
+        requires room { length source.old ≤ W }
+        ensures filled { ascending self.new ≡ source.old }
+        ensures emptied { source.new ≡ [] }
+    {
+        source.ascends();
+        while let Some((key, child)) = source.take_last() {
+            self.add_child(key, child);
+        }
+    }
+
+    /// There are at most W children, W is at most 255, and no byte has two children: this call does nothing but say so.
+    pub fn fits_width(&self)
+        ensures few { length (ascending self.now) ≤ W }
+        ensures narrow { W ≤ 255 }
+        ensures ascends { IsAscending (ascending self.now) }
+    {
+        let _index = &self.index;
+    }
+
+    /// Takes out the child at the least byte.
+    pub(crate) fn take_first(&mut self) -> Option<(u8, N)>
+        ensures { MatchOption result ((ascending self.old ≡ []) × (ascending self.new ≡ [])) (λ e. ascending self.old ≡ e ∷ ascending self.new) }
+    {
+        let Some(byte) = self.index.first_used() else {
+            return None;
+        };
+        let key = byte as u8;
+        let child = self.delete_child(key).unwrap();
+        Some((key, child))
+    }
+}
+
+impl<N, const W: usize, B: BitsetTrait> NodeMapping<N, W> for IndexedMapping<N, W, B> {
+    ghost map = { ascending };
+
+    fn add_child(&mut self, key: u8, node: N) {
+        let slot = self.children.first_empty().unwrap();
+        self.index.set(key as usize, slot as u8);
+        self.children.put(slot, node);
+        self.num_children += 1;
+    }
+
+    fn seek_child(&self, key: u8) -> Option<&N> {
+        match self.index.get(key as usize) {
+            Some(slot) => self.children.get(*slot as usize),
+            None => None,
+        }
+    }
+
+    fn seek_child_mut(&mut self, key: u8) -> Option<&mut N> {
+        match self.index.get(key as usize) {
+            Some(slot) => {
+                let slot = *slot as usize;
+                self.children.get_mut(slot)
+            }
+            None => None,
+        }
+    }
+
+    fn delete_child(&mut self, key: u8) -> Option<N> {
+        let Some(slot) = self.index.erase(key as usize) else {
+            return None;
+        };
+        self.num_children -= 1;
+        self.children.erase(slot as usize)
+    }
+
+    fn num_children(&self) -> usize {
+        self.num_children
+    }
+}
+
+impl<N, const W: usize, B: BitsetTrait> IndexedMapping<N, W, B> {
+    /// Frees a map with no child. The type of its children need not allow them to be dropped.
+    pub fn destroy_empty(self)
+        requires { ascending self ≡ [] }
+    {
+        let IndexedMapping {
+            index: _index,
+            children,
+            num_children: _num_children,
+        } = self;
+        let BitArray {
+            bitset: _bitset,
+            places,
+        } = children;
+        free_places(places);
+    }
+}

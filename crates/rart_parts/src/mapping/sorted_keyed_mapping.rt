@@ -1,0 +1,200 @@
+//! A map from bytes to children that keeps its keys in order, inline, beside its children. It is seen as the list of
+//! its entries, ascending.
+
+ghost use Rattle.std.specs.Prelude.{◌≡◌, ℕ, [], ◌∷◌, ◌++◌, ◌<◌, ◌≤◌, length, IfErr, IfOk, OnOk, OnErr, MatchOption};
+ghost use Rattle.rart_parts.specs.Entries.{IsAscending, ascending};
+
+use crate::error::TreeError;
+use crate::mapping::{IndexedMapping, NodeMapping};
+use crate::utils::bitset::BitsetTrait;
+use crate::utils::u8_keys::{
+    u8_keys_find_insert_position_sorted, u8_keys_find_key_position_sorted,
+};
+use std::alloc::Global;
+use std::marker::Model;
+
+/// A map from bytes to at most W children, ascending. Only [`SortedKeyedMapping::new`] and the conversions that make
+/// one take memory.
+#[derive(Drop)]
+pub struct SortedKeyedMapping<N, const W: usize> {
+    keys: [u8; W],
+    children: Vec<N>,
+}
+
+impl<N, const W: usize> Model for SortedKeyedMapping<N, W> {
+    ghost use Rattle.std.specs.Prelude.{List, ℕ, vec_capacity};
+    ghost use Rattle.std.specs.Coded.{coded_list, coded×, coded_ℕ};
+    ghost use Rattle.std.specs.List.{zip};
+    ghost use Rattle.rart_parts.specs.SortedKeyed.{IsSortedKeyed};
+
+    ghost Value = { List (ℕ × N) };
+
+    ghost coded = { coded_list (coded× coded_ℕ N.code) };
+
+    ghost view = { λ m. zip m.keys m.children.items };
+
+    ghost invariant = { λ m. IsSortedKeyed W m.keys m.children.items (vec_capacity m.children) };
+}
+
+impl<N, const W: usize> SortedKeyedMapping<N, W> {
+    /// A map with no child. It takes memory for W children at once.
+    pub fn new(alloc: Global) -> Result<Self, TreeError>
+        requires { W ≤ 255 }
+        ensures ok { IfOk result (λ m. m ≡ []) }
+        ensures err { IfErr result (λ e. e ≡ TreeError.Memory) }
+    {
+        Ok(SortedKeyedMapping {
+            keys: [255; W],
+            children: Vec::with_capacity(alloc, W)?,
+        })
+    }
+
+    /// Takes the children of a sorted mapping of another width over. A refusal leaves that mapping as it was.
+    pub fn from_resized<const U: usize>(
+        alloc: Global,
+        source: &mut SortedKeyedMapping<N, U>,
+    ) -> Result<Self, TreeError>
+        requires narrow { W ≤ 255 }
+        requires room { length source.old ≤ W }
+        ensures ok { IfOk result (λ m. m ≡ source.old) }
+        ensures emptied { OnOk result (source.new ≡ []) }
+        ensures err { IfErr result (λ e. e ≡ TreeError.Memory) }
+        ensures refused { OnErr result (source.new ≡ source.old) }
+    {
+        let mut map = SortedKeyedMapping::new(alloc)?;
+        map.fill_from_resized(source);
+        Ok(map)
+    }
+
+    /// Moves the children of a sorted mapping in. It takes no memory.
+    pub fn fill_from_resized<const U: usize>(&mut self, source: &mut SortedKeyedMapping<N, U>)
+        requires empty { self.old ≡ [] }
+        requires room { length source.old ≤ W }
+        ensures filled { self.new ≡ source.old }
+        ensures emptied { source.new ≡ [] }
+    {
+        let count = source.children.len();
+        self.keys[..count].copy_from_slice(&source.keys[..count]);
+        self.children.append(&mut source.children).unwrap();
+    }
+
+    /// Takes the children of an indexed mapping over. A refusal leaves that mapping as it was.
+    pub fn from_indexed<const U: usize, B: BitsetTrait>(
+        alloc: Global,
+        source: &mut IndexedMapping<N, U, B>,
+    ) -> Result<Self, TreeError>
+        requires narrow { W ≤ 255 }
+        requires room { length (ascending source.old) ≤ W }
+        ensures ok { IfOk result (λ m. m ≡ ascending source.old) }
+        ensures emptied { OnOk result (ascending source.new ≡ []) }
+        ensures err { IfErr result (λ e. e ≡ TreeError.Memory) }
+        ensures refused { OnErr result (source.new ≡ source.old) }
+    {
+        let mut map = SortedKeyedMapping::new(alloc)?;
+        map.fill_from_indexed(source);
+        Ok(map)
+    }
+
+    /// Moves the children of an indexed mapping in, in the order of their bytes. It takes no memory.
+    pub fn fill_from_indexed<const U: usize, B: BitsetTrait>(
+        &mut self,
+        source: &mut IndexedMapping<N, U, B>,
+    )
+        requires empty { self.old ≡ [] }
+        requires room { length (ascending source.old) ≤ W }
+        ensures filled { self.new ≡ ascending source.old }
+        ensures emptied { ascending source.new ≡ [] }
+    {
+        source.fits_width();
+        while let Some((key, child)) = source.take_first() {
+            self.add_child(key, child);
+        }
+    }
+
+    /// The bytes ascend: this call does nothing but say so.
+    pub fn ascends(&self)
+        ensures { IsAscending self.now }
+    {
+        let _keys = &self.keys;
+    }
+
+    /// Takes out the only child.
+    pub fn take_value_for_leaf(&mut self) -> (u8, N)
+        requires { length self.old ≡ 1 }
+        ensures taken { self.old ≡ result ∷ [] }
+        ensures rest { self.new ≡ [] }
+    {
+        (self.keys[0], self.children.remove(0))
+    }
+
+    /// Takes out the child at the greatest byte.
+    pub(crate) fn take_last(&mut self) -> Option<(u8, N)>
+        ensures { MatchOption result ((self.old ≡ []) × (self.new ≡ [])) (λ e. self.old ≡ self.new ++ e ∷ []) }
+    {
+        let Some(child) = self.children.pop() else {
+            return None;
+        };
+        Some((self.keys[self.children.len()], child))
+    }
+}
+
+impl<N, const W: usize> NodeMapping<N, W> for SortedKeyedMapping<N, W> {
+    ghost map = { λ m. m };
+
+    fn add_child(&mut self, key: u8, node: N) {
+        let count = self.children.len();
+        let at = u8_keys_find_insert_position_sorted::<W>(key, &self.keys, count).unwrap();
+        self.keys.copy_within(at..count, at + 1);
+        self.keys[at] = key;
+        self.children.insert(at, node).unwrap();
+    }
+
+    fn seek_child(&self, key: u8) -> Option<&N> {
+        match u8_keys_find_key_position_sorted::<W>(key, &self.keys, self.children.len()) {
+            Some(at) => Some(&self.children[at]),
+            None => None,
+        }
+    }
+
+    fn seek_child_mut(&mut self, key: u8) -> Option<&mut N> {
+        match u8_keys_find_key_position_sorted::<W>(key, &self.keys, self.children.len()) {
+            Some(at) => self.children.get_mut(at),
+            None => None,
+        }
+    }
+
+    fn delete_child(&mut self, key: u8) -> Option<N> {
+        let count = self.children.len();
+        match u8_keys_find_key_position_sorted::<W>(key, &self.keys, count) {
+            Some(at) => {
+                self.keys.copy_within(at + 1..count, at);
+                Some(self.children.remove(at))
+            }
+            None => None,
+        }
+    }
+
+    fn num_children(&self) -> usize {
+        self.children.len()
+    }
+}
+
+impl<N, const W: usize> SortedKeyedMapping<N, W> {
+    /// There are at most W children: this call does nothing but say so.
+    pub fn fits_width(&self)
+        ensures { length self.now ≤ W }
+    {
+        let _keys = &self.keys;
+    }
+
+    /// Frees a map with no child. The type of its children need not allow them to be dropped.
+    pub fn destroy_empty(self)
+        requires { self ≡ [] }
+    {
+        let SortedKeyedMapping {
+            keys: _keys,
+            children,
+        } = self;
+        children.destroy_empty();
+    }
+}

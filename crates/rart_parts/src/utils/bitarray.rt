@@ -1,0 +1,230 @@
+//! Places for values, with the set of those that are used. An array is seen as the list of its places, each with its
+//! value or without: a map from positions below its width.
+
+mod iter;
+
+ghost use Rattle.std.specs.Prelude.{◌≡◌, ℕ, [], ◌<◌, ◌≤◌, ◌^◌, ◌↔◌, not, Bool, false, length, IfErr, IfOk, IsTrue, MatchOption, OnSome, Option, Some, None, slice_index_or, slice_set, replicate};
+ghost use Rattle.std.specs.Option.{option_copied, option_copied_mut};
+ghost use Rattle.rart_parts.specs.Bits.{IsFirst, IsLast};
+ghost use Rattle.rart_parts.specs.Places.{is_used, values_in, GivesLast, PopsLast};
+
+use crate::error::TreeError;
+use crate::utils::bitset::BitsetTrait;
+use crate::utils::places::{fill_place, free_places};
+pub use iter::{BitArrayIter, BitArrayKeys};
+use std::alloc::Global;
+use std::marker::Model;
+
+/// Places below RANGE_WIDTH, each with a value or without. Only [`BitArray::new`] takes memory.
+#[derive(Drop)]
+pub struct BitArray<X, const RANGE_WIDTH: usize, B: BitsetTrait> {
+    pub(crate) bitset: B,
+    pub(crate) places: Vec<Option<X>>,
+}
+
+impl<X, const RANGE_WIDTH: usize, B: BitsetTrait> Model for BitArray<X, RANGE_WIDTH, B> {
+    ghost use Rattle.std.specs.Prelude.{List, Option};
+    ghost use Rattle.std.specs.Coded.{coded_list, coded_option};
+    ghost use Rattle.rart_parts.specs.Places.{IsBitArray};
+
+    ghost Value = { List (Option X) };
+
+    ghost coded = { coded_list (coded_option X.code) };
+
+    ghost view = { λ a. a.places.items };
+
+    ghost invariant = { λ a. IsBitArray RANGE_WIDTH B.CAPACITY (B.has a.bitset) a.places.items };
+}
+
+impl<X, const RANGE_WIDTH: usize, B: BitsetTrait> BitArray<X, RANGE_WIDTH, B> {
+    /// An array with no value. It takes memory for all its places at once.
+    pub fn new(alloc: Global) -> Result<Self, TreeError>
+        requires covers { RANGE_WIDTH ≤ B.CAPACITY }
+        requires fits { B.CAPACITY < 2 ^ 64 }
+        ensures ok { IfOk result (λ a. a ≡ replicate RANGE_WIDTH None) }
+        ensures err { IfErr result (λ e. e ≡ TreeError.Memory) }
+    {
+        let mut places = Vec::with_capacity(alloc, RANGE_WIDTH)?;
+        for i in 0..RANGE_WIDTH {
+            places.push(None).unwrap();
+        }
+        Ok(BitArray {
+            bitset: B::default(),
+            places,
+        })
+    }
+
+    /// Puts a value at the first free place and answers that place. Where none is free it answers None, and the value
+    /// is dropped.
+    pub fn push(&mut self, x: X) -> Option<usize>
+    where
+        X: Drop,
+        ensures place { IsFirst (λ k. not (is_used self.old k)) RANGE_WIDTH result }
+        ensures new { MatchOption result (self.new ≡ self.old) (λ p. self.new ≡ slice_set self.old p (Some x)) }
+    {
+        let position = self.first_empty()?;
+        self.bitset.set(position);
+        self.places[position] = Some(x);
+        Some(position)
+    }
+
+    /// Takes out the value at the greatest used place.
+    pub fn pop(&mut self) -> Option<X>
+        ensures { PopsLast RANGE_WIDTH self.old result self.new }
+    {
+        let position = self.last_used_pos()?;
+        self.erase(position)
+    }
+
+    /// The value at the greatest used place.
+    pub fn last(&self) -> Option<&X>
+        ensures { GivesLast RANGE_WIDTH self.now (option_copied result) }
+    {
+        self.get(self.last_used_pos()?)
+    }
+
+    /// The greatest used place.
+    pub fn last_used_pos(&self) -> Option<usize>
+        ensures { IsLast (is_used self.now) RANGE_WIDTH result }
+    {
+        self.bitset.last()
+    }
+
+    /// The least used place.
+    pub fn first_used(&self) -> Option<usize>
+        ensures { IsFirst (is_used self.now) RANGE_WIDTH result }
+    {
+        self.bitset.first_set()
+    }
+
+    /// The least free place.
+    pub fn first_empty(&self) -> Option<usize>
+        ensures { IsFirst (λ k. not (is_used self.now k)) RANGE_WIDTH result }
+    {
+        let position = self.bitset.first_empty()?;
+        if position < RANGE_WIDTH {
+            Some(position)
+        } else {
+            None
+        }
+    }
+
+    /// Whether a place is used.
+    pub fn check(&self, position: usize) -> bool
+        requires { position < RANGE_WIDTH }
+        ensures { result ≡ is_used self.now position }
+    {
+        self.bitset.check(position)
+    }
+
+    /// The value at a place.
+    pub fn get(&self, position: usize) -> Option<&X>
+        requires { position < RANGE_WIDTH }
+        ensures { option_copied result ≡ slice_index_or self.now position None }
+    {
+        self.places[position].as_ref()
+    }
+
+    /// Puts a value at a place. An old value there is dropped.
+    pub fn set(&mut self, position: usize, x: X)
+    where
+        X: Drop,
+        requires { position < RANGE_WIDTH }
+        ensures { self.new ≡ slice_set self.old position (Some x) }
+    {
+        self.bitset.set(position);
+        self.places[position] = Some(x);
+    }
+
+    /// Puts a value at a free place. Nothing is dropped, so the value's type need not allow it.
+    pub(crate) fn put(&mut self, position: usize, x: X)
+        requires within { position < RANGE_WIDTH }
+        requires free { is_used self.old position ≡ false }
+        ensures { self.new ≡ slice_set self.old position (Some x) }
+    {
+        self.bitset.set(position);
+        fill_place(&mut self.places[position], x);
+    }
+
+    /// Puts a value at a place and answers the old one.
+    pub fn update(&mut self, position: usize, x: X) -> Option<X>
+        requires { position < RANGE_WIDTH }
+        ensures old { result ≡ slice_index_or self.old position None }
+        ensures new { self.new ≡ slice_set self.old position (Some x) }
+    {
+        self.bitset.set(position);
+        self.places[position].replace(x)
+    }
+
+    /// Takes the value at a place out.
+    pub fn erase(&mut self, position: usize) -> Option<X>
+        requires { position < RANGE_WIDTH }
+        ensures old { result ≡ slice_index_or self.old position None }
+        ensures new { self.new ≡ slice_set self.old position None }
+    {
+        self.bitset.unset(position);
+        self.places[position].take()
+    }
+
+    /// Drops all values.
+    pub fn clear(&mut self)
+    where
+        X: Drop,
+        ensures { self.new ≡ replicate RANGE_WIDTH None }
+    {
+        for position in 0..RANGE_WIDTH {
+            self.places[position] = None;
+        }
+        self.bitset.clear();
+    }
+
+    /// Whether no place is used.
+    pub fn is_empty(&self) -> bool
+        ensures { IsTrue result ↔ (values_in self.now ≡ []) }
+    {
+        self.bitset.is_empty()
+    }
+
+    /// How many places are used.
+    pub fn size(&self) -> usize
+        ensures { result ≡ length (values_in self.now) }
+    {
+        self.bitset.size()
+    }
+}
+
+impl<X, const RANGE_WIDTH: usize, B: BitsetTrait> BitArray<X, RANGE_WIDTH, B> {
+    ghost use Rattle.std.specs.Prelude.{◌≡◌, ◌<◌, OnSome, Some, None, slice_index_or, slice_set};
+    ghost use Rattle.std.specs.Option.{option_copied_mut};
+    ghost use Rattle.std.specs.Borrow.{sem, LendsSo};
+    ghost use Rattle.rart_parts.specs.contracts.utils.bitarray.BitArray.{the_row};
+
+    /// The value at a place, to be changed.
+    pub fn get_mut(&mut self, position: usize) -> Option<&mut X>
+        requires { position < RANGE_WIDTH }
+        ensures* writes_back { sem 𝓛 (LendsSo (the_row X.row RANGE_WIDTH.row B.row (record { BIT_SHIFT = B.BIT_SHIFT; STORAGE_BIT_WIDTH = B.STORAGE_BIT_WIDTH; STORAGE_WORDS = B.STORAGE_WORDS; CAPACITY = B.CAPACITY; has = B.has }) (record { is_default = B.is_default })) X.row self.entry result (λ n w. OnSome result (n ≡ slice_set self.old position (Some w))) (λ n. n ≡ self.old)) }
+        ensures value { option_copied_mut result ≡ slice_index_or self.old position None }
+    {
+        if self.bitset.check(position) {
+            self.places[position].as_mut()
+        } else {
+            None
+        }
+    }
+}
+
+impl<X, const RANGE_WIDTH: usize, B: BitsetTrait> BitArray<X, RANGE_WIDTH, B> {
+    ghost use Rattle.std.specs.Prelude.{◌≡◌, []};
+    ghost use Rattle.rart_parts.specs.Places.{values_in};
+
+    /// Frees an array with no value. The type of its values need not allow them to be dropped.
+    pub fn destroy_empty(self)
+        requires { values_in self ≡ [] }
+    {
+        let BitArray {
+            bitset: _bitset,
+            places,
+        } = self;
+        free_places(places);
+    }
+}

@@ -1,0 +1,53 @@
+//! The positions of a set, ascending.
+ghost use Rattle.std.specs.Prelude.{◌≡◌, ℕ, ◌<◌, ◌*◌, ◌^◌};
+ghost use Rattle.std.specs.Iterator.{YieldsFirst, item_count};
+ghost use Rattle.rart_parts.specs.Bits.{words_have, members};
+
+use crate::utils::bitset::{Bitset, BitsetTrait, BitsetWord};
+use std::marker::Model;
+
+/// The positions of a set, ascending, seen as the list of those that are still to come.
+#[derive(Drop)]
+pub struct BitsetOnesIter<W: BitsetWord, const S: usize> {
+    rest: Bitset<W, S>,
+}
+
+impl<W: BitsetWord, const S: usize> Model for BitsetOnesIter<W, S> {
+    ghost use Rattle.std.specs.Prelude.{ℕ, List, ◌<◌, ◌*◌, ◌^◌};
+    ghost use Rattle.std.specs.Coded.{coded_list, coded_ℕ};
+    ghost use Rattle.rart_parts.specs.Bits.{words_have, members};
+
+    ghost Value = { List ℕ };
+
+    ghost coded = { coded_list coded_ℕ };
+
+    ghost view = { λ it. members (words_have W.WIDTH W.number it.rest.words) (S * W.WIDTH) };
+
+    ghost invariant = { λ it. S * W.WIDTH < 2 ^ 64 };
+}
+
+impl<W: BitsetWord, const S: usize> Bitset<W, S> {
+    /// The positions of the set, ascending. It goes over a copy of the words and takes no memory.
+    pub fn iter(&self) -> BitsetOnesIter<W, S>
+        requires { S * W.WIDTH < 2 ^ 64 }
+        ensures { result ≡ members (words_have W.WIDTH W.number self.now.words) (S * W.WIDTH) }
+    {
+        BitsetOnesIter {
+            rest: Bitset { words: self.words },
+        }
+    }
+}
+
+impl<W: BitsetWord, const S: usize> Iterator for BitsetOnesIter<W, S> {
+    type Item = usize;
+
+    ghost next_gives = { YieldsFirst (λ rest. rest) };
+
+    ghost remaining = { item_count (λ rest. rest) };
+
+    fn next(&mut self) -> Option<usize> {
+        let position = self.rest.first_set()?;
+        self.rest.unset(position);
+        Some(position)
+    }
+}

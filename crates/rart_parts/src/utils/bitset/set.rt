@@ -1,0 +1,130 @@
+//! A set of positions in a row of words: position i is bit `i mod width` of word `i div width`.
+ghost use Rattle.std.specs.Prelude.{◌≡◌, ℕ, ◌<◌, ◌*◌, ◌^◌, false, refl};
+ghost use Rattle.rart_parts.specs.Bits.{words_have, members};
+
+use crate::utils::bitset::{BitsetOnesIter, BitsetTrait, BitsetWord};
+
+/// A set of positions below S times the bits of a word, in S words. It takes no memory.
+#[derive(Clone, Drop)]
+pub struct Bitset<W: BitsetWord, const S: usize> {
+    pub(crate) words: [W; S],
+}
+
+impl<W: BitsetWord, const S: usize> Bitset<W, S> {
+    /// The empty set.
+    pub fn new() -> Self
+        ensures { (k : ℕ) → k < S * W.WIDTH → words_have W.WIDTH W.number result.words k ≡ false }
+    {
+        Bitset {
+            words: [W::from_u64(0); S],
+        }
+    }
+}
+
+impl<W: BitsetWord, const S: usize> Default for Bitset<W, S> {
+    ghost is_default = { λ b. (k : ℕ) → k < S * W.WIDTH → words_have W.WIDTH W.number b.words k ≡ false };
+
+    fn default() -> Self {
+        Bitset::new()
+    }
+}
+
+impl<W: BitsetWord, const S: usize> BitsetTrait for Bitset<W, S> {
+    ghost BIT_SHIFT = { W.SHIFT };
+
+    ghost STORAGE_BIT_WIDTH = { W.WIDTH };
+
+    ghost STORAGE_WORDS = { S };
+
+    ghost CAPACITY = { S * W.WIDTH };
+
+    ghost has = { λ b k. words_have W.WIDTH W.number b.words k };
+
+    ghost empty = { λ b e. e };
+
+    ghost capacity_is = { refl };
+
+    ghost width_is = { W.width_is };
+
+    const BIT_SHIFT: usize = W::SHIFT;
+
+    const STORAGE_BIT_WIDTH: usize = W::WIDTH;
+
+    const STORAGE_WORDS: usize = S;
+
+    fn first_empty(&self) -> Option<usize> {
+        for i in 0..S {
+            if let Some(at) = self.words[i].lowest_unset() {
+                return Some(i * W::WIDTH + at);
+            }
+        }
+        None
+    }
+
+    fn first_set(&self) -> Option<usize> {
+        for i in 0..S {
+            if let Some(at) = self.words[i].lowest() {
+                return Some(i * W::WIDTH + at);
+            }
+        }
+        None
+    }
+
+    fn last(&self) -> Option<usize> {
+        for i in (0..S).rev() {
+            if let Some(at) = self.words[i].highest() {
+                return Some(i * W::WIDTH + at);
+            }
+        }
+        None
+    }
+
+    fn set(&mut self, position: usize) {
+        let word = self.words[position / W::WIDTH];
+        self.words[position / W::WIDTH] = word.with(position % W::WIDTH);
+    }
+
+    fn unset(&mut self, position: usize) {
+        let word = self.words[position / W::WIDTH];
+        self.words[position / W::WIDTH] = word.without(position % W::WIDTH);
+    }
+
+    fn check(&self, position: usize) -> bool {
+        self.words[position / W::WIDTH].test(position % W::WIDTH)
+    }
+
+    fn clear(&mut self) {
+        *self = Bitset::new();
+    }
+
+    fn is_empty(&self) -> bool {
+        for i in 0..S {
+            if self.words[i].lowest().is_some() {
+                return false;
+            }
+        }
+        true
+    }
+
+    fn size(&self) -> usize {
+        let mut size = 0;
+        for i in 0..S {
+            size += self.words[i].count();
+        }
+        size
+    }
+
+    fn capacity(&self) -> usize {
+        S * W::WIDTH
+    }
+
+    fn as_bitmask(&self) -> u128 {
+        let mut mask = 0;
+        for position in 0..128usize {
+            if position / W::WIDTH < S && self.check(position) {
+                mask |= 1u128 << position;
+            }
+        }
+        mask
+    }
+}

@@ -1,0 +1,156 @@
+use crate::error::TreeError;
+use crate::utils::bitarray::BitArray;
+use crate::utils::bitset::{Bitset8, Bitset16, Bitset64, BitsetTrait};
+use crate::utils::u8_keys::{
+    u8_keys_find_insert_position_sorted, u8_keys_find_key_position,
+    u8_keys_find_key_position_sorted,
+};
+use std::test::Fail;
+
+#[test]
+fn first_empty_is_the_least_free_position(rt: HostRuntime) {
+    let mut set = Bitset8::<4>::new();
+    set.set(1);
+    set.set(3);
+    assert_eq!(rt; set.first_empty(), Some(0));
+    set.set(0);
+    assert_eq!(rt; set.first_empty(), Some(2));
+    for position in 0..32usize {
+        set.set(position);
+    }
+    assert_eq!(rt; set.first_empty(), None);
+}
+
+#[test]
+fn sixteen_bit_words_hold_positions_of_several_words(rt: HostRuntime) -> Result<(), Fail> {
+    let mut set = Bitset16::<4>::new();
+    for position in [0usize, 1, 2, 4, 8, 16] {
+        set.set(position);
+    }
+    let found: Vec<usize> = set.iter().collect(rt.alloc())?;
+    assert_eq!(rt; found.as_slice(), [0, 1, 2, 4, 8, 16].as_slice());
+    assert_eq!(rt; set.as_bitmask(), 65815);
+    assert_eq!(rt; set.capacity(), 64);
+    assert_eq!(rt; set.bit_width(), 16);
+    assert_eq!(rt; set.storage_width(), 4);
+    Ok(())
+}
+
+#[test]
+fn sixty_four_bit_words_give_their_positions(rt: HostRuntime) -> Result<(), Fail> {
+    let mut set = Bitset64::<4>::new();
+    for position in [0usize, 1, 2, 4, 8, 16, 32, 47, 48, 49, 127] {
+        set.set(position);
+    }
+    let found: Vec<usize> = set.iter().collect(rt.alloc())?;
+    assert_eq!(rt;
+        found.as_slice(),
+        [0, 1, 2, 4, 8, 16, 32, 47, 48, 49, 127].as_slice()
+    );
+    Ok(())
+}
+
+#[test]
+fn last_and_size_look_at_all_words(rt: HostRuntime) {
+    let mut set = Bitset64::<4>::new();
+    set.set(3);
+    set.set(130);
+    set.set(255);
+    assert_eq!(rt; set.last(), Some(255));
+    assert_eq!(rt; set.size(), 3);
+    assert_eq!(rt; set.as_bitmask(), 8);
+    assert_eq!(rt; set.first_set(), Some(3));
+    set.unset(3);
+    assert!(rt; !set.check(3));
+    set.clear();
+    assert!(rt; set.is_empty());
+    let mut small = Bitset8::<2>::new();
+    small.set(0);
+    small.set(9);
+    assert_eq!(rt; small.as_bitmask(), 513);
+}
+
+#[test]
+fn an_array_fills_its_first_free_place(rt: HostRuntime) -> Result<(), Fail> {
+    let mut array: BitArray<u8, 48, Bitset16<3>> = BitArray::new(rt.alloc())?;
+    assert_eq!(rt; array.push(123), Some(0));
+    assert_eq!(rt; array.push(124), Some(1));
+    assert_eq!(rt; array.push(55), Some(2));
+    assert_eq!(rt; array.push(126), Some(3));
+    assert_eq!(rt; array.pop(), Some(126));
+    assert_eq!(rt; array.first_empty(), Some(3));
+    assert_eq!(rt; array.erase(0), Some(123));
+    assert_eq!(rt; array.first_empty(), Some(0));
+    assert_eq!(rt; array.last_used_pos(), Some(2));
+    assert_eq!(rt; array.size(), 2);
+    array.set(0, 126);
+    assert_eq!(rt; array.get(0).copied(), Some(126));
+    assert_eq!(rt; array.update(0, 123), Some(126));
+    if let Some(value) = array.get_mut(0) {
+        *value = 7;
+    }
+    assert_eq!(rt; array.get(0).copied(), Some(7));
+    assert_eq!(rt; array.last().copied(), Some(55));
+    assert_eq!(rt; array.first_used(), Some(0));
+    array.clear();
+    assert!(rt; array.is_empty());
+    Ok(())
+}
+
+#[test]
+fn an_array_is_walked_from_both_ends(rt: HostRuntime) -> Result<(), Fail> {
+    let mut array: BitArray<u8, 48, Bitset64<1>> = BitArray::new(rt.alloc())?;
+    array.set(3, 1);
+    array.set(7, 2);
+    array.set(40, 3);
+    let mut keys = array.iter_keys();
+    assert_eq!(rt; keys.next(), Some(3));
+    assert_eq!(rt; keys.next_back(), Some(40));
+    assert_eq!(rt; keys.next(), Some(7));
+    assert_eq!(rt; keys.next(), None);
+    let mut sum = 0usize;
+    for (position, value) in array.iter() {
+        sum = sum.wrapping_add(position).wrapping_add(*value as usize);
+    }
+    assert_eq!(rt; sum, 56);
+    Ok(())
+}
+
+#[test]
+fn a_full_array_refuses_a_push(rt: HostRuntime) -> Result<(), Fail> {
+    let mut array: BitArray<u8, 48, Bitset64<1>> = BitArray::new(rt.alloc())?;
+    for position in 0..48usize {
+        array.set(position, 9);
+    }
+    assert_eq!(rt; array.first_empty(), None);
+    assert_eq!(rt; array.push(1), None);
+    assert_eq!(rt; array.size(), 48);
+    Ok(())
+}
+
+#[test]
+fn key_255_is_found_in_used_places_alone(rt: HostRuntime) {
+    let mut set = Bitset8::<1>::new();
+    set.set(1);
+    set.set(2);
+    let keys = [255u8, 255, 5, 255];
+    assert_eq!(rt;
+        u8_keys_find_key_position::<4, _>(255, &keys, &set),
+        Some(1)
+    );
+    assert_eq!(rt; u8_keys_find_key_position::<4, _>(5, &keys, &set), Some(2));
+}
+
+#[test]
+fn errors_say_what_was_refused(rt: HostRuntime) -> Result<(), Fail> {
+    let alloc = rt.alloc();
+    assert_eq!(rt;
+        format!(in alloc; "{}", TreeError::Memory)?.as_str(),
+        "out of memory"
+    );
+    assert_eq!(rt;
+        format!(in alloc; "{}", TreeError::Full)?.as_str(),
+        "tree is full"
+    );
+    Ok(())
+}

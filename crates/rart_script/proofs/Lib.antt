@@ -1,0 +1,5 @@
+pub mod LineLemmas
+pub mod RunLemmas
+pub mod ScriptLemmas
+pub mod ValueLemmas
+pub mod WordLemmas

@@ -1,0 +1,112 @@
+//! Runs a script: a text with one command on each line.
+ghost use Rattle.std.specs.Prelude.{◌≡◌, ◌≢◌, ◌≤◌, ◌+◌, ℕ, List, None, Some, IfSome, IsSomeAnd, IfOk, IfErr, OnOk, MatchResult};
+ghost use Rattle.std.specs.Io.KnownBytes.{Appends};
+ghost use Rattle.rart_script.specs.Answers.{IsStep};
+ghost use Rattle.rart_script.specs.Script.{bad_line, PrintsAll, PrintsFirst, PrintsUpTo, StopsAt};
+ghost use Rattle.rart_script.specs.Stop.{IsSaid};
+
+use crate::answers::{write_number, write_refusal, write_value};
+use crate::command::{Command, parse_command};
+use crate::key::KEY_SIZE;
+use crate::lines::Lines;
+use crate::stop::Stop;
+use rart::{AdaptiveRadixTree, ArrayKey};
+use std::alloc::Global;
+use std::io;
+use std::io::{Read, Write};
+
+type Tree = AdaptiveRadixTree<ArrayKey<KEY_SIZE>, u64>;
+
+/// Reads all of `input`, runs it line by line, and answers the status for the process.
+pub fn run_lines<R: Read, W: Write, E: Write>(
+    alloc: Global,
+    input: &mut R,
+    output: &mut W,
+    errors: &mut E,
+) -> u8
+    ensures status { result ≤ 2 }
+    // With status 0 all lines were run, and their answers were printed.
+    ensures answers { result ≡ 0 → IfSome (R.remaining input.old) (λ text. PrintsAll text (W.contents output.old) (W.contents output.new)) }
+    // With status 2 those before the malformed line were.
+    ensures earlier_answers { result ≡ 2 → IfSome (R.remaining input.old) (λ text. (n : ℕ) × ((bad_line text ≡ Some (n + 1)) × PrintsFirst text (W.contents output.old) (W.contents output.new) n)) }
+    // What the status says of an input whose bytes are known.
+    ensures done { result ≡ 0 → IfSome (R.remaining input.old) (λ text. bad_line text ≡ None) }
+    ensures bad { result ≡ 2 → IfSome (R.remaining input.old) (λ text. IsSomeAnd (bad_line text)
+        (λ line. IsSaid (E.contents errors.old) (E.contents errors.new) (Stop.BadCommand line))) }
+{
+    match run(alloc, input, output) {
+        Ok(()) => 0,
+        Err(stop) => match say(stop, errors) {
+            Ok(()) => stop.status(),
+            // A message that is not written is a failed write too.
+            Err(_) => Stop::CannotWrite.status(),
+        },
+    }
+}
+
+/// Says why a script ended.
+fn say<E: Write>(stop: Stop, errors: &mut E) -> io::Result<()>
+    ensures { OnOk result (IsSaid (E.contents errors.old) (E.contents errors.new) stop) }
+{
+    writeln!(errors, "{stop}")
+}
+
+fn run<R: Read, W: Write>(alloc: Global, input: &mut R, output: &mut W) -> Result<(), Stop>
+    ensures stops { IfSome (R.remaining input.old) (λ text. MatchResult result (λ _. bad_line text ≡ None) (StopsAt text)) }
+    ensures answers { IfSome (R.remaining input.old) (λ text. MatchResult result (λ _. PrintsAll text (W.contents output.old) (W.contents output.new)) (PrintsUpTo text (W.contents output.old) (W.contents output.new))) }
+{
+    let text = read_all(alloc, input)?;
+    let ended = run_text(alloc, text.as_slice(), output);
+    // The answers are written out first, whatever is said after them.
+    match output.flush() {
+        Ok(()) => ended,
+        Err(_) => Err(Stop::CannotWrite),
+    }
+}
+
+fn read_all<R: Read>(alloc: Global, input: &mut R) -> Result<Vec<u8>, Stop>
+    ensures all { IfOk result (λ text. IfSome (R.remaining input.old) (λ bytes. text.items ≡ bytes)) }
+    ensures err { IfErr result (λ stop. stop ≡ Stop.CannotRead) }
+{
+    let mut text = Vec::new(alloc);
+    match input.read_to_end(&mut text) {
+        Ok(_) => Ok(text),
+        Err(_) => Err(Stop::CannotRead),
+    }
+}
+
+/// Runs the lines of a text on a tree of their own, up to the first that is no command.
+fn run_text<W: Write>(alloc: Global, text: &[u8], output: &mut W) -> Result<(), Stop>
+    ensures lines { MatchResult result (λ _. bad_line text.now ≡ None) (StopsAt text.now) }
+    ensures answers { MatchResult result (λ _. PrintsAll text.now (W.contents output.old) (W.contents output.new)) (PrintsUpTo text.now (W.contents output.old) (W.contents output.new)) }
+    ensures has_read { IfErr result (λ stop. stop ≢ Stop.CannotRead) }
+{
+    let mut tree = Tree::new(alloc);
+    for (index, line) in Lines::new(text).enumerate() {
+        let Some(command) = parse_command(line) else {
+            return Err(Stop::BadCommand { line: index + 1 });
+        };
+        let Ok(()) = execute(&mut tree, command, output) else {
+            return Err(Stop::CannotWrite);
+        };
+    }
+    Ok(())
+}
+
+/// Runs one command, as the sorted map does, and prints its answer.
+fn execute<W: Write>(tree: &mut Tree, command: Command, output: &mut W) -> io::Result<()>
+    ensures { OnOk result ((line : List ℕ) × IsStep command tree.old.pairs line tree.new.pairs × Appends (W.contents output.old) (W.contents output.new) line) }
+{
+    match command {
+        Command::Nothing => Ok(()),
+        Command::Insert { key, value } => match tree.insert_k(key.stored(), value) {
+            Ok(old) => write_value(output, old),
+            Err(refused) => write_refusal(output, refused.error),
+        },
+        Command::Get { key } => write_value(output, tree.get_k(key.stored()).copied()),
+        Command::Len => write_number(output, tree.len()),
+    }
+}
+
+#[cfg(test)]
+mod tests;

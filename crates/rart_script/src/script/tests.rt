@@ -1,0 +1,254 @@
+//! Whole scripts, by what they print, what they say and their status.
+
+use super::run_lines;
+use std::alloc::Global;
+use std::cell::RefCell;
+use std::io;
+use std::io::{BufWriter, ErrorKind, Read, Write};
+use std::process::Abort;
+use std::test::Fail;
+
+/// What a run printed, what it said on standard error, and its status.
+#[derive(Drop)]
+struct Ran {
+    output: Vec<u8>,
+    errors: Vec<u8>,
+    status: u8,
+}
+
+fn run_bytes(alloc: Global, input: &[u8]) -> Ran {
+    let mut output = Vec::new(alloc);
+    let mut errors = Vec::new(alloc);
+    let mut input = input;
+    let status = run_lines(alloc, &mut input, &mut output, &mut errors);
+    Ran {
+        output,
+        errors,
+        status,
+    }
+}
+
+fn assert_ran(rt: &impl Abort, ran: &Ran, output: &[u8], errors: &[u8], status: u8) {
+    assert_eq!(rt; ran.output.as_slice(), output);
+    assert_eq!(rt; ran.errors.as_slice(), errors);
+    assert_eq!(rt; ran.status, status);
+}
+
+/// A reader of some bytes whose next read fails.
+#[derive(Drop)]
+struct Breaks<'a>(&'a [u8]);
+
+impl Read for Breaks<'_> {
+    fn read(&mut self, buf: &mut [u8]) -> io::Result<usize> {
+        if self.0.is_empty() {
+            return Err(io::Error::from(ErrorKind::Other));
+        }
+        self.0.read(buf)
+    }
+}
+
+/// A writer that takes so many bytes and then fails.
+#[derive(Drop)]
+struct Narrow {
+    room: usize,
+}
+
+impl Write for Narrow {
+    fn write(&mut self, buf: &[u8]) -> io::Result<usize> {
+        if buf.len() > self.room {
+            return Err(io::Error::from(ErrorKind::StorageFull));
+        }
+        self.room -= buf.len();
+        Ok(buf.len())
+    }
+
+    fn flush(&mut self) -> io::Result<()> {
+        Ok(())
+    }
+}
+
+/// A writer to a log that others write to as well.
+#[derive(Drop)]
+struct Shared<'a>(&'a RefCell<Vec<u8>>);
+
+impl Write for Shared<'_> {
+    fn write(&mut self, buf: &[u8]) -> io::Result<usize> {
+        match self.0.try_borrow_mut() {
+            Ok(mut log) => log.write(buf),
+            Err(_) => Err(io::Error::from(ErrorKind::Other)),
+        }
+    }
+
+    fn flush(&mut self) -> io::Result<()> {
+        Ok(())
+    }
+}
+
+#[test]
+fn answers_come_one_a_line(rt: HostRuntime) {
+    let alloc = rt.alloc();
+    let cases: [(&[u8], &str); 16] = [
+        (
+            b"insert cat 1\ninsert catalog 2\ninsert cat 5\nget cat\nget ca\nlen\n",
+            "none\nnone\nsome 1\nsome 5\nnone\n2\n",
+        ),
+        // Words stand between any separators, and the last line needs no newline.
+        (b"\tinsert \r a\t\t1 \r\nget\ta", "none\nsome 1\n"),
+        // A line without words prints nothing.
+        (b"", ""),
+        (b"\n\n \t\r\nlen\n\n", "0\n"),
+        // The greatest value, and zeros before a value.
+        (
+            b"insert a 18446744073709551615\nget a\n",
+            "none\nsome 18446744073709551615\n",
+        ),
+        (b"insert a 0\nget a\n", "none\nsome 0\n"),
+        (
+            b"insert a 00000000000000000000000000000000000018\nget a\n",
+            "none\nsome 18\n",
+        ),
+        // The empty key, and longer keys of its sign.
+        (
+            b"get -\ninsert - 3\nget -\nlen\n",
+            "none\nnone\nsome 3\n1\n",
+        ),
+        (b"insert -- 1\nget -\nget --\n", "none\nnone\nsome 1\n"),
+        // A key is taken byte for byte.
+        (b"insert a 1\nget A\n", "none\nnone\n"),
+        (
+            b"insert \xff\x80 4\nget \xff\x80\nget \xff\n",
+            "none\nsome 4\nnone\n",
+        ),
+        (b"insert a\0 1\nget a\nget a\0\n", "none\nnone\nsome 1\n"),
+        (
+            b"insert a\x0bb 1\nget a\nget a\x0bb\n",
+            "none\nnone\nsome 1\n",
+        ),
+        (
+            b"insert a\x0cb 1\nget a\nget a\x0cb\n",
+            "none\nnone\nsome 1\n",
+        ),
+        (
+            b"insert insert 1\nget insert\nget get\n",
+            "none\nsome 1\nnone\n",
+        ),
+        // A key of 32 bytes.
+        (
+            b"insert 0123456789abcdef0123456789abcdef 7\nget 0123456789abcdef0123456789abcdef\n",
+            "none\nsome 7\n",
+        ),
+    ];
+    for (input, output) in cases {
+        let ran = run_bytes(alloc, input);
+        assert_ran(&rt, &ran, output.as_bytes(), b"", 0);
+    }
+}
+
+#[test]
+fn malformed_line_ends_the_run(rt: HostRuntime) {
+    let ran = run_bytes(rt.alloc(), b"insert a 1\nfoo\nlen\n");
+    assert_ran(&rt, &ran, b"none\n", b"line 2: bad command\n", 2);
+}
+
+#[test]
+fn malformed_lines_are_named_by_number(rt: HostRuntime) -> Result<(), Fail> {
+    let alloc = rt.alloc();
+    let cases: [(&[u8], usize); 23] = [
+        (b"foo", 1),
+        (b"\n \nfoo", 3),
+        (b"inserta 1", 1),
+        (b"INSERT a 1", 1),
+        (b"Get a", 1),
+        (b"LEN", 1),
+        // Missing and surplus words.
+        (b"insert", 1),
+        (b"insert a", 1),
+        (b"insert a 1 2", 1),
+        (b"get", 1),
+        (b"get a b", 1),
+        (b"len 1", 1),
+        // No value.
+        (b"insert a +1", 1),
+        (b"insert a -1", 1),
+        (b"insert a -", 1),
+        (b"insert a 1x", 1),
+        (b"insert a x", 1),
+        (b"insert a 0x1", 1),
+        (b"insert a 1/", 1),
+        (b"insert a 18446744073709551616", 1),
+        (b"insert a 99999999999999999999999999", 1),
+        // A key of 33 bytes.
+        (b"insert 0123456789abcdef0123456789abcdef0 1", 1),
+        (b"get 0123456789abcdef0123456789abcdef0", 1),
+    ];
+    for (input, line) in cases {
+        let mut errors = Vec::new(alloc);
+        writeln!(errors, "line {line}: bad command")?;
+        let ran = run_bytes(alloc, input);
+        assert_ran(&rt, &ran, b"", errors.as_slice(), 2);
+    }
+    Ok(())
+}
+
+#[test]
+fn answers_stand_before_the_message(rt: HostRuntime) -> Result<(), Fail> {
+    let alloc = rt.alloc();
+    let log = RefCell::new(Vec::new(alloc));
+    let mut output = BufWriter::new(alloc, Shared(&log))?;
+    let mut input = b"get a\nlen\nfoo\nlen\n".as_slice();
+    let status = run_lines(alloc, &mut input, &mut output, &mut Shared(&log));
+    drop(output);
+    assert_eq!(rt;
+        log.into_inner().as_slice(),
+        b"none\n0\nline 3: bad command\n".as_slice()
+    );
+    assert_eq!(rt; status, 2);
+    Ok(())
+}
+
+#[test]
+fn failed_read_runs_nothing(rt: HostRuntime) {
+    let alloc = rt.alloc();
+    let mut output = Vec::new(alloc);
+    let mut errors = Vec::new(alloc);
+    let mut input = Breaks(b"len\nfoo\n");
+    let status = run_lines(alloc, &mut input, &mut output, &mut errors);
+    assert_eq!(rt; output.as_slice(), b"".as_slice());
+    assert_eq!(rt; errors.as_slice(), b"rart_script: cannot read\n".as_slice());
+    assert_eq!(rt; status, 1);
+}
+
+#[test]
+fn failed_write_ends_the_run(rt: HostRuntime) -> Result<(), Fail> {
+    let alloc = rt.alloc();
+    // The second answer finds no room; the line after it is malformed and never read.
+    let mut errors = Vec::new(alloc);
+    let mut input = b"len\nlen\nfoo\n".as_slice();
+    let status = run_lines(alloc, &mut input, &mut Narrow { room: 2 }, &mut errors);
+    assert_eq!(rt;
+        errors.as_slice(),
+        b"rart_script: cannot write\n".as_slice()
+    );
+    assert_eq!(rt; status, 1);
+    // Answers that are still buffered before a malformed line.
+    let mut errors = Vec::new(alloc);
+    let mut input = b"len\nlen\nfoo\n".as_slice();
+    let mut output = BufWriter::new(alloc, Narrow { room: 2 })?;
+    let status = run_lines(alloc, &mut input, &mut output, &mut errors);
+    assert_eq!(rt;
+        errors.as_slice(),
+        b"rart_script: cannot write\n".as_slice()
+    );
+    assert_eq!(rt; status, 1);
+    Ok(())
+}
+
+#[test]
+fn message_that_is_not_written_is_a_failed_write(rt: HostRuntime) {
+    let alloc = rt.alloc();
+    let mut output = Vec::new(alloc);
+    let mut input = b"len\nfoo\n".as_slice();
+    let status = run_lines(alloc, &mut input, &mut output, &mut Narrow { room: 3 });
+    assert_eq!(rt; output.as_slice(), b"0\n".as_slice());
+    assert_eq!(rt; status, 1);
+}

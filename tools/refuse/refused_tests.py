@@ -1,0 +1,83 @@
+#!/usr/bin/env python3
+"""Runs the tests that refuse memory under the library that refuses it.
+
+usage: refused_tests.py PASSED FAILED
+
+After the gate, each test program crates/*/out/*_tests has the tests; those with `refused_in_turn` in their name ask the library,
+by messages, to refuse one request after the other. Each runs here in a process of its own with the library preloaded.
+It passes where it ends with status 0 and a request was really refused. PASSED and FAILED are the gate's counts: the last
+line adds to them and closes the run.
+"""
+import os
+import pathlib
+import re
+import shutil
+import subprocess
+import sys
+import tempfile
+
+TOP = pathlib.Path(__file__).resolve().parents[2]
+
+
+def compiler():
+    """A C compiler: the machine's, or the kit's."""
+    for name in (os.environ.get("CC"), "cc", "gcc", "clang"):
+        if name and shutil.which(name):
+            return [name]
+    page = subprocess.run(["rt", "doc"], capture_output=True, text=True, check=True).stdout.strip()
+    return [str(pathlib.Path(page).parent / "toolchain" / "bin" / "clang"), "-nostdlib", "-fuse-ld=lld"]
+
+
+def build(folder):
+    library = pathlib.Path(folder) / "refuse.so"
+    source = TOP / "tools" / "refuse" / "refuse.c"
+    subprocess.run([*compiler(), "-O2", "-shared", "-fPIC", "-fno-builtin", "-o", library, source], check=True)
+    return library
+
+
+def tests():
+    for program in sorted(TOP.glob("crates/*/out/*_tests")):
+        if not os.access(program, os.X_OK) or not program.is_file():
+            continue
+        listed = subprocess.run([program, "--list"], capture_output=True, text=True, timeout=60).stdout
+        for test in re.findall(r"^(\S*refused_in_turn\S*): test$", listed, re.M):
+            yield program, test
+
+
+def run(program, test, library):
+    """Why the test failed, or nothing, and how many requests were refused."""
+    with tempfile.TemporaryDirectory() as room:
+        report = pathlib.Path(room) / "report"
+        env = {"PATH": "/usr/bin:/bin", "LD_PRELOAD": str(library), "REFUSE_REPORT": str(report)}
+        try:
+            ended = subprocess.run([program, test], env=env, cwd=room, capture_output=True, text=True, errors="replace", timeout=600)
+        except subprocess.TimeoutExpired:
+            return "it ran out of time", 0
+        counts = dict(word.split("=") for word in report.read_text().split()) if report.exists() else {}
+    refused = int(counts.get("refused", 0))
+    if ended.returncode != 0:
+        return f"status {ended.returncode}: {(ended.stdout + ended.stderr)[-600:]}", refused
+    return ("" if refused else "no request was refused"), refused
+
+
+def main():
+    passed, failed = int(sys.argv[1]), int(sys.argv[2])
+    with tempfile.TemporaryDirectory() as folder:
+        library = build(folder)
+        found = list(tests())
+        for program, test in found:
+            why, refused = run(program, test, library)
+            print(f"refused: {program.name[:-6]} {test}: {'FAILED: ' + why if why else 'ok'}, {refused} requests refused")
+            if why:
+                failed += 1
+            else:
+                passed += 1
+    if not found:
+        print("refused: no test found")
+        failed += 1
+    print(f"{passed} passed, {failed} failed")
+    return 1 if failed else 0
+
+
+if __name__ == "__main__":
+    sys.exit(main())
