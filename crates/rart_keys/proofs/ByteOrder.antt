@@ -1,6 +1,6 @@
 -- The order of byte strings.
 use Rattle.std.proofs.Common.{◌≡◌, ℕ, ◌<◌, ◌==◌, ◌⊎◌, inl, inr, ⊎_elim, zero, suc, List, [], ◌∷◌, ◌++◌, true, false, refl, sym, ap, arith, Less, Equal, Greater}
-use Rattle.std.specs.Ordering.{nat_cmp}
+use Rattle.std.specs.Ordering.{nat_cmp, ordering_then}
 use Rattle.std.specs.Cmp.{nat_cmp_is}
 use Rattle.std.specs.Cmp.Lexicographic.{slice_cmp}
 use Rattle.std.proofs.lemmas.Cmp.{nat_list_cmp_total, tied_itself}
@@ -83,3 +83,14 @@ cmp-itself k = tied_itself nat_list_cmp_total k
 
 pub bytes_eq-differ : (k l : List ℕ) → (k ≡ l → ⊥) → bytes_eq k l ≡ false
 bytes_eq-differ k l n = elim (bytes_eq k l) as (λ b. bytes_eq k l ≡ b → b ≡ false) [ true ↦ λ e. absurd (n (bytes_eq-equal k l e)) | false ↦ λ e. refl ] refl
+
+-- a zero byte at the end of both changes nothing, also where they have zero bytes of their own
+pub slice_cmp-closed : (xs ys : List ℕ) → slice_cmp nat_cmp (xs ++ 0 ∷ []) (ys ++ 0 ∷ []) ≡ slice_cmp nat_cmp xs ys
+slice_cmp-closed [] [] = refl
+slice_cmp-closed [] (zero ∷ []) = refl
+slice_cmp-closed [] (zero ∷ (y ∷ ys)) = refl
+slice_cmp-closed [] (suc y ∷ ys) = rw (is_less 0 (suc y) (omega arith)) refl
+slice_cmp-closed (zero ∷ []) [] = refl
+slice_cmp-closed (zero ∷ (x ∷ xs)) [] = refl
+slice_cmp-closed (suc x ∷ xs) [] = rw (is_greater (suc x) 0 (omega arith)) refl
+slice_cmp-closed (x ∷ xs) (y ∷ ys) = ap (ordering_then (nat_cmp x y)) (slice_cmp-closed xs ys)

@@ -1,8 +1,10 @@
 -- Rows of the definitions, worked out by hand.
-use Rattle.std.proofs.Common.{◌≡◌, ◌<◌, ℕ, List, true, false, Some, None, [], ◌∷◌, codes, refl, arith}
+use Rattle.std.proofs.Common.{◌≡◌, ◌<◌, ℕ, List, true, false, Some, None, [], ◌∷◌, map, take, codes, refl, arith, pos, negsuc, w8, w16, w32, w64}
+use Rattle.std.specs.Int.{to_be_bytes, w128}
 use Rattle.rart_keys.specs.KeyBytes.{IsWithin, AreBytes}
 use Rattle.rart_keys.specs.CommonPrefix.{IsCommonPrefixLength}
 use Rattle.rart_keys.specs.LittleEndianWord.{little_endian_number}
+use Rattle.rart_keys.specs.NumberBytes.{sign_flipped, big_endian_number}
 use Rattle.rart_keys.proofs.CommonPrefixes.{greatest_from_value}
 use Rattle.rart_keys.specs.ByteStrings.{IsBelow, begins, byte_after, strip_prefix}
 use Rattle.rart_keys.specs.SortedMap.{lookup, put, without}
@@ -74,3 +76,16 @@ edited = refl
 
 looked_up : (lookup cat stored ≡ Some 5) × (lookup catalog stored ≡ None)
 looked_up = (refl, refl)
+
+-- a number's highest byte comes first
+bytes_of_numbers : (to_be_bytes w32 42 ≡ 0 ∷ 0 ∷ 0 ∷ 42 ∷ []) × (to_be_bytes w16 258 ≡ 1 ∷ 2 ∷ []) × (to_be_bytes w8 255 ≡ 255 ∷ [])
+bytes_of_numbers = (refl, refl, refl)
+
+-- -128, -1, 0 and 127 in order, and -1 in two bytes
+bytes_of_signed_numbers : (map (λ n. to_be_bytes w8 (sign_flipped w8 n)) (negsuc 127 ∷ negsuc 0 ∷ pos 0 ∷ pos 127 ∷ [])
+    ≡ (0 ∷ []) ∷ (127 ∷ []) ∷ (128 ∷ []) ∷ (255 ∷ []) ∷ []) × (to_be_bytes w16 (sign_flipped w16 (negsuc 0)) ≡ 127 ∷ 255 ∷ [])
+bytes_of_signed_numbers = (refl, refl)
+
+-- "ab" is 97 times 256 and 98; of the bytes of a 1 in sixteen the first eight are zeros
+numbers_of_bytes : (big_endian_number (codes "ab") ≡ 24930) × (big_endian_number [] ≡ 0) × (big_endian_number (take 8 (to_be_bytes w128 1)) ≡ 0) × (big_endian_number (to_be_bytes w64 123213123123123) ≡ 123213123123123)
+numbers_of_bytes = (refl, refl, refl, refl)

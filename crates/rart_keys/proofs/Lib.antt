@@ -2,5 +2,6 @@ mod Examples
 pub mod ByteOrder
 pub mod CommonPrefixes
 pub mod InlineBytes
+pub mod NumberOrder
 pub mod SortedMaps
 pub mod WordLemmas

@@ -4,4 +4,5 @@ pub mod ByteStrings
 pub mod CommonPrefix
 pub mod KeyBytes
 pub mod LittleEndianWord
+pub mod NumberBytes
 pub mod SortedMap

@@ -10,6 +10,9 @@ use crate::partials::Partial;
 use crate::partials::array_partial::ArrPartial;
 use std::cmp::Ordering;
 
+mod numbers;
+mod texts;
+
 /// A key of at most `N` bytes. Bytes behind the length are always zero.
 #[derive(Clone, Copy, Debug)]
 pub struct ArrayKey<const N: usize> {
