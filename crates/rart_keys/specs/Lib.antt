@@ -2,6 +2,7 @@ pub mod ArrPartialBytes
 pub mod ArrayKeyBytes
 pub mod ByteStrings
 pub mod CommonPrefix
+pub mod ComparedKeys
 pub mod KeyBytes
 pub mod LittleEndianWord
 pub mod NumberBytes

@@ -1,6 +1,9 @@
-//! The laws of the sorted map, each the contract of a function with an empty body.
+//! Laws, each the contract of a function: those of the sorted map here, with an empty body, and
+//! those of keys and their order.
 ghost use Rattle.std.specs.Prelude.{◌≡◌, ◌≢◌, ◌+◌, ℕ, List, Some, None, length};
 ghost use Rattle.rart_keys.specs.SortedMap.{IsAscending, count_of, lookup, put, without};
+
+pub mod key_order;
 
 /// Two ascending lists of pairs with the same look-ups are one list; `put` and `without` keep a list
 /// ascending, change the look-up of their key alone, and change the length by at most one.
