@@ -18,7 +18,7 @@ impl<const N: usize> ArrayKey<N> {
         requires { 1 ≤ N }
         ensures { array_key_bytes result ≡ to_be_bytes w8 x }
     {
-        Self::from_two(&x.to_be_bytes(), &[])
+        Self::from_two(&u8::to_be_bytes(x), &[])
     }
 
     /// The two bytes of the number, the highest first. Asks room for them.
@@ -26,7 +26,7 @@ impl<const N: usize> ArrayKey<N> {
         requires { 2 ≤ N }
         ensures { array_key_bytes result ≡ to_be_bytes w16 x }
     {
-        Self::from_two(&x.to_be_bytes(), &[])
+        Self::from_two(&u16::to_be_bytes(x), &[])
     }
 
     /// The four bytes of the number, the highest first. Asks room for them.
@@ -34,7 +34,7 @@ impl<const N: usize> ArrayKey<N> {
         requires { 4 ≤ N }
         ensures { array_key_bytes result ≡ to_be_bytes w32 x }
     {
-        Self::from_two(&x.to_be_bytes(), &[])
+        Self::from_two(&u32::to_be_bytes(x), &[])
     }
 
     /// The eight bytes of the number, the highest first. Asks room for them.
@@ -42,7 +42,7 @@ impl<const N: usize> ArrayKey<N> {
         requires { 8 ≤ N }
         ensures { array_key_bytes result ≡ to_be_bytes w64 x }
     {
-        Self::from_two(&x.to_be_bytes(), &[])
+        Self::from_two(&u64::to_be_bytes(x), &[])
     }
 
     /// The sixteen bytes of the number, the highest first. Asks room for them.
@@ -50,7 +50,7 @@ impl<const N: usize> ArrayKey<N> {
         requires { 16 ≤ N }
         ensures { array_key_bytes result ≡ to_be_bytes w128 x }
     {
-        Self::from_two(&x.to_be_bytes(), &[])
+        Self::from_two(&u128::to_be_bytes(x), &[])
     }
 
     /// The eight bytes of the number, the highest first. Asks room for them.
@@ -58,7 +58,7 @@ impl<const N: usize> ArrayKey<N> {
         requires { 8 ≤ N }
         ensures { array_key_bytes result ≡ to_be_bytes w64 x }
     {
-        Self::from_two(&x.to_be_bytes(), &[])
+        Self::from_two(&usize::to_be_bytes(x), &[])
     }
 
     /// The number as one byte, its sign bit flipped. Asks room for it.
