@@ -134,6 +134,10 @@ module _ {X : Type 0} {width : ℕ} {ks : List ℕ} {vs : List X} {room : ℕ} (
       ascends = subst IsAscending (sym resized_zip) s.ascends;
     }
 
+-- as many entries as children, from a place on
+pub rest_counted : {X : Type 0} (ks : List ℕ) (at : ℕ) (vs : List X) → at + length vs ≤ length ks → length (zip (drop at ks) vs) ≡ length vs
+rest_counted ks at vs h = length_zipped (drop at ks) vs (omega (arith, length-drop at ks, h))
+
 pub no_items : {A : Type 0} (xs : List A) → length xs ≡ 0 → xs ≡ []
 no_items [] e = refl
 no_items (x ∷ xs) e = absurd (omega arith)

@@ -7,3 +7,6 @@ pub mod mapping;
 pub mod utils;
 
 pub use error::TreeError;
+
+#[cfg(test)]
+mod counted;

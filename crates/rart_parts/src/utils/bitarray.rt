@@ -125,6 +125,13 @@ impl<X, const RANGE_WIDTH: usize, B: BitsetTrait> BitArray<X, RANGE_WIDTH, B> {
         self.places[position].as_ref()
     }
 
+    /// The places, in order.
+    pub(crate) fn as_slice(&self) -> &[Option<X>]
+        ensures { result.now ≡ self.now }
+    {
+        self.places.as_slice()
+    }
+
     /// Puts a value at a place. An old value there is dropped.
     pub fn set(&mut self, position: usize, x: X)
     where
