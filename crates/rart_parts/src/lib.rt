@@ -10,3 +10,5 @@ pub use error::TreeError;
 
 #[cfg(test)]
 mod counted;
+#[cfg(test)]
+mod refusals;

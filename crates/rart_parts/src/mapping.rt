@@ -53,4 +53,6 @@ pub trait NodeMapping<N, const NUM_CHILDREN: usize> {
 }
 
 #[cfg(test)]
+mod refused_tests;
+#[cfg(test)]
 mod tests;

@@ -1,10 +1,13 @@
+use crate::counted::Counted;
 use crate::error::TreeError;
+use crate::refusals::{refuse, was_refused};
 use crate::utils::bitarray::BitArray;
 use crate::utils::bitset::{Bitset8, Bitset16, Bitset64, BitsetTrait};
 use crate::utils::u8_keys::{
     u8_keys_find_insert_position_sorted, u8_keys_find_key_position,
     u8_keys_find_key_position_sorted,
 };
+use std::cell::Cell;
 use std::test::Fail;
 
 #[test]
@@ -153,4 +156,51 @@ fn errors_say_what_was_refused(rt: HostRuntime) -> Result<(), Fail> {
         "tree is full"
     );
     Ok(())
+}
+
+#[test]
+fn a_value_put_over_another_drops_that_once(rt: HostRuntime) -> Result<(), Fail> {
+    let drops = Cell::new(0usize);
+    let mut array: BitArray<Counted<'_>, 48, Bitset64<1>> = BitArray::new(rt.alloc())?;
+    for position in 0..48usize {
+        array.set(position, Counted(1, &drops));
+    }
+    assert_eq!(rt; drops.get(), 0);
+    array.set(3, Counted(2, &drops));
+    assert_eq!(rt; drops.get(), 1);
+    assert_eq!(rt; array.push(Counted(3, &drops)), None);
+    assert_eq!(rt; drops.get(), 2);
+    drop(array);
+    assert_eq!(rt; drops.get(), 50);
+    Ok(())
+}
+
+#[test]
+fn a_new_array_refused_in_turn(rt: HostRuntime) {
+    let alloc = rt.alloc();
+    for at in 1..100usize {
+        refuse(alloc, at);
+        let answer: Result<BitArray<u8, 48, Bitset64<1>>, TreeError> = BitArray::new(alloc);
+        if !was_refused(alloc) {
+            assert!(rt; answer.is_ok());
+            break;
+        }
+        assert_eq!(rt; answer.err(), Some(TreeError::Memory), "request {at}");
+    }
+}
+
+// Where a key would be put in among 3, 9 and 17, and where it is.
+fn places_of(key: u8) -> (Option<usize>, Option<usize>) {
+    let keys = [3u8, 9, 17];
+    (
+        u8_keys_find_insert_position_sorted::<16>(key, &keys, 3),
+        u8_keys_find_key_position_sorted::<16>(key, &keys, 3),
+    )
+}
+
+#[test]
+fn keys_are_found_by_halves(rt: HostRuntime) {
+    assert_eq!(rt; places_of(10), (Some(2), None));
+    assert_eq!(rt; places_of(20), (Some(3), None));
+    assert_eq!(rt; places_of(9), (Some(2), Some(1)));
 }
