@@ -3,6 +3,7 @@ pub mod Direct
 pub mod Entries
 pub mod EntryShapes
 pub mod Indexed
+pub mod Keyed
 pub mod Keys
 pub mod Places
 pub mod SortedKeyed

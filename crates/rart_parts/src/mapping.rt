@@ -3,6 +3,7 @@
 
 pub mod direct_mapping;
 pub mod indexed_mapping;
+pub mod keyed_mapping;
 pub mod sorted_keyed_mapping;
 
 ghost use Rattle.std.specs.Prelude.{◌≡◌, ℕ, ◌<◌, List, length, OnSome, None};
@@ -12,6 +13,7 @@ ghost use Rattle.rart_parts.specs.Entries.{child_at, with_child, without, replac
 
 pub use direct_mapping::{DirectMapping, DirectMappingIntoIter, DirectMappingIter};
 pub use indexed_mapping::{IndexedMapping, IndexedMappingIntoIter, IndexedMappingIter};
+pub use keyed_mapping::KeyedMapping;
 pub use sorted_keyed_mapping::{
     SortedKeyedMapping, SortedKeyedMappingIntoIter, SortedKeyedMappingIter,
 };

@@ -6,7 +6,7 @@ ghost use Rattle.std.specs.Iterator.{YieldsFirst, YieldsFirstBy, item_count};
 ghost use Rattle.rart_parts.specs.Entries.{IsAscending, ascending};
 
 use crate::error::TreeError;
-use crate::mapping::{DirectMapping, NodeMapping, SortedKeyedMapping};
+use crate::mapping::{DirectMapping, KeyedMapping, NodeMapping, SortedKeyedMapping};
 use crate::utils::bitarray::BitArray;
 use crate::utils::bitset::{Bitset64, BitsetTrait};
 use crate::utils::places::free_places;
@@ -115,6 +115,41 @@ impl<N, const W: usize, B: BitsetTrait> IndexedMapping<N, W, B> {
             }
         }
         source.ascends();
+    }
+
+    /// Takes the children of a keyed mapping over. A refusal leaves that mapping as it was.
+    pub fn from_keyed<const U: usize, C: BitsetTrait>(
+        alloc: Global,
+        source: &mut KeyedMapping<N, U, C>,
+    ) -> Result<Self, TreeError>
+        requires narrow { W ≤ 255 }
+        requires covers { W ≤ B.CAPACITY }
+        requires fits { B.CAPACITY < 2 ^ 64 }
+        requires room { length (ascending source.old) ≤ W }
+        ensures ok { IfOk result (λ m. ascending m ≡ ascending source.old) }
+        ensures emptied { OnOk result (ascending source.new ≡ []) }
+        ensures err { IfErr result (λ e. e ≡ TreeError.Memory) }
+        ensures refused { OnErr result (source.new ≡ source.old) }
+    {
+        let mut map = IndexedMapping::new(alloc)?;
+        map.fill_from_keyed(source);
+        Ok(map)
+    }
+
+    /// Moves the children of a keyed mapping in, slot by slot. It takes no memory.
+    pub fn fill_from_keyed<const U: usize, C: BitsetTrait>(
+        &mut self,
+        source: &mut KeyedMapping<N, U, C>,
+    )
+        requires empty { ascending self.old ≡ [] }
+        requires room { length (ascending source.old) ≤ W }
+        ensures filled { ascending self.new ≡ ascending source.old }
+        ensures emptied { ascending source.new ≡ [] }
+    {
+        source.fits_width();
+        while let Some((key, child)) = source.take_any() {
+            self.add_child(key, child);
+        }
     }
 
     /// There are at most W children, W is at most 255, and no byte has two children: this call does nothing but say so.

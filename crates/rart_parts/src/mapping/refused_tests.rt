@@ -1,13 +1,19 @@
 use crate::error::TreeError;
 use crate::mapping::tests::add;
-use crate::mapping::{DirectMapping, IndexedMapping, NodeMapping, SortedKeyedMapping};
+use crate::mapping::{
+    DirectMapping, IndexedMapping, KeyedMapping, NodeMapping, SortedKeyedMapping,
+};
 use crate::refusals::{refuse, was_refused};
-use crate::utils::bitset::Bitset16;
+use crate::utils::bitset::{Bitset16, Bitset32};
 use std::test::Fail;
 
 type Sorted16 = SortedKeyedMapping<u8, 16>;
 
 type Sorted24 = SortedKeyedMapping<u8, 24>;
+
+type Keyed16 = KeyedMapping<u8, 16, Bitset16<1>>;
+
+type Keyed32 = KeyedMapping<u8, 32, Bitset32<1>>;
 
 type Indexed48 = IndexedMapping<u8, 48, Bitset16<3>>;
 
@@ -72,6 +78,7 @@ macro_rules! conversion_refused {
 #[test]
 fn new_mappings_refused_in_turn(rt: HostRuntime) {
     new_refused!(rt, Sorted16);
+    new_refused!(rt, Keyed16);
     new_refused!(rt, Indexed48);
     new_refused!(rt, Direct256);
 }
@@ -95,8 +102,20 @@ fn indexed_to_sorted_refused_in_turn_keeps_the_children(rt: HostRuntime) -> Resu
 }
 
 #[test]
+fn a_keyed_growth_refused_in_turn_keeps_the_children(rt: HostRuntime) -> Result<(), Fail> {
+    conversion_refused!(rt, Keyed16, Keyed32, from_resized_grow);
+    Ok(())
+}
+
+#[test]
 fn sorted_to_indexed_refused_in_turn_keeps_the_children(rt: HostRuntime) -> Result<(), Fail> {
     conversion_refused!(rt, Sorted16, Indexed48, from_sorted_keyed);
+    Ok(())
+}
+
+#[test]
+fn keyed_to_indexed_refused_in_turn_keeps_the_children(rt: HostRuntime) -> Result<(), Fail> {
+    conversion_refused!(rt, Keyed16, Indexed48, from_keyed);
     Ok(())
 }
 

@@ -1,6 +1,8 @@
 use crate::counted::Counted;
-use crate::mapping::{DirectMapping, IndexedMapping, NodeMapping, SortedKeyedMapping};
-use crate::utils::bitset::Bitset16;
+use crate::mapping::{
+    DirectMapping, IndexedMapping, KeyedMapping, NodeMapping, SortedKeyedMapping,
+};
+use crate::utils::bitset::{Bitset8, Bitset16};
 use std::cell::Cell;
 use std::test::Fail;
 
@@ -187,5 +189,61 @@ fn a_direct_walk_drops_the_rest_once(rt: HostRuntime) -> Result<(), Fail> {
     assert_eq!(rt; drops.get(), 3);
     drop(items);
     assert_eq!(rt; drops.get(), 5);
+    Ok(())
+}
+
+#[test]
+fn a_keyed_mapping_gives_its_children_back(rt: HostRuntime) -> Result<(), Fail> {
+    let mut map: KeyedMapping<u8, 4, Bitset8<4>> = KeyedMapping::new(rt.alloc())?;
+    for key in [1u8, 2, 3, 4] {
+        add(&mut map, key, key);
+    }
+    assert_eq!(rt; map.num_children(), 4);
+    assert_eq!(rt; map.width(), 4);
+    assert_eq!(rt; map.seek_child(5).copied(), None);
+    for key in [1u8, 2, 3, 4] {
+        assert_eq!(rt; map.delete_child(key), Some(key));
+    }
+    assert_eq!(rt; map.delete_child(5), None);
+    assert_eq!(rt; map.num_children(), 0);
+    Ok(())
+}
+
+#[test]
+fn key_255_is_no_free_slot(rt: HostRuntime) -> Result<(), Fail> {
+    let mut map: KeyedMapping<u8, 4, Bitset8<4>> = KeyedMapping::new(rt.alloc())?;
+    add(&mut map, 1, 5);
+    add(&mut map, 255, 8);
+    if let Some(child) = map.seek_child_mut(255) {
+        *child = 9;
+    }
+    assert_eq!(rt; map.delete_child(1), Some(5));
+    assert_eq!(rt; map.seek_child(255).copied(), Some(9));
+    assert_eq!(rt; map.seek_child(7).copied(), None);
+    assert_eq!(rt; map.delete_child(255), Some(9));
+    assert_eq!(rt; map.seek_child(255).copied(), None);
+    Ok(())
+}
+
+#[test]
+fn a_keyed_mapping_grows_and_becomes_an_indexed_one(rt: HostRuntime) -> Result<(), Fail> {
+    let alloc = rt.alloc();
+    let mut small: KeyedMapping<u8, 4, Bitset8<4>> = KeyedMapping::new(alloc)?;
+    for key in [200u8, 3, 255] {
+        add(&mut small, key, key);
+    }
+    let mut large: KeyedMapping<u8, 16, Bitset16<1>> = KeyedMapping::from_resized_grow(
+        alloc, &mut small,
+    )?;
+    assert_eq!(rt; small.num_children(), 0);
+    assert_eq!(rt; large.num_children(), 3);
+    let map: IndexedMapping<u8, 48, Bitset16<3>> = IndexedMapping::from_keyed(alloc, &mut large)?;
+    assert_eq!(rt; large.num_children(), 0);
+    let mut found: Vec<u8> = Vec::new(alloc);
+    for (key, child) in map {
+        assert_eq!(rt; key, child);
+        found.push(key)?;
+    }
+    assert_eq!(rt; found.as_slice(), [3, 200, 255].as_slice());
     Ok(())
 }

@@ -132,6 +132,14 @@ impl<X, const RANGE_WIDTH: usize, B: BitsetTrait> BitArray<X, RANGE_WIDTH, B> {
         self.places.as_slice()
     }
 
+    /// The set of the used places.
+    pub(crate) fn used(&self) -> &B
+        ensures covers { RANGE_WIDTH ≤ B.CAPACITY }
+        ensures same { (k : ℕ) → k < RANGE_WIDTH → B.has result.now k ≡ is_used self.now k }
+    {
+        &self.bitset
+    }
+
     /// Puts a value at a place. An old value there is dropped.
     pub fn set(&mut self, position: usize, x: X)
     where

@@ -84,7 +84,7 @@ with_another-map h k x (e ∷ es) =
       | false ↦ refl
     ]
 
-ascending-map : {X Y : Type 0} (h : X → Y) (es : List (ℕ × X)) → ascending (map (on_value h) es) ≡ map (on_value h) (ascending es)
+pub ascending-map : {X Y : Type 0} (h : X → Y) (es : List (ℕ × X)) → ascending (map (on_value h) es) ≡ map (on_value h) (ascending es)
 ascending-map h [] = refl
 ascending-map h (e ∷ es) = ap (with_another e.0 (h e.1)) (ascending-map h es) ∙ with_another-map h e.0 e.1 (ascending es)
 
