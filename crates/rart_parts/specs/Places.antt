@@ -24,6 +24,16 @@ numbered n [] = []
 numbered n (None ∷ os) = numbered (suc n) os
 numbered n (Some x ∷ os) = (n, x) ∷ numbered (suc n) os
 
+-- the answer is the least used place from one number on and below another
+abbrev pub IsNext : {X : Type 0} → List (Option X) → ℕ → ℕ → Option ℕ → Type 0
+IsNext os from to answer = MatchOption answer ((k : ℕ) → from ≤ k → k < to → is_used os k ≡ false)
+    (λ p. (from ≤ p) × (p < to) × (is_used os p ≡ true) × ((k : ℕ) → from ≤ k → k < p → is_used os k ≡ false))
+
+-- the answer is the greatest of them
+abbrev pub IsPrevious : {X : Type 0} → List (Option X) → ℕ → ℕ → Option ℕ → Type 0
+IsPrevious os from to answer = MatchOption answer ((k : ℕ) → from ≤ k → k < to → is_used os k ≡ false)
+    (λ p. (from ≤ p) × (p < to) × (is_used os p ≡ true) × ((k : ℕ) → p < k → k < to → is_used os k ≡ false))
+
 -- the answer is the value at the greatest used place
 abbrev pub GivesLast : {X : Type 0} → ℕ → List (Option X) → Option X → Type 0
 GivesLast width os answer = MatchOption answer (IsLast (is_used os) width None)

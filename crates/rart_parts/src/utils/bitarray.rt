@@ -2,6 +2,7 @@
 //! value or without: a map from positions below its width.
 
 mod iter;
+mod iter_mut;
 
 ghost use Rattle.std.specs.Prelude.{◌≡◌, ℕ, [], ◌<◌, ◌≤◌, ◌^◌, ◌↔◌, not, Bool, false, length, IfErr, IfOk, IsTrue, MatchOption, OnSome, Option, Some, None, slice_index_or, slice_set, replicate};
 ghost use Rattle.std.specs.Option.{option_copied, option_copied_mut};
@@ -12,6 +13,7 @@ use crate::error::TreeError;
 use crate::utils::bitset::BitsetTrait;
 use crate::utils::places::{fill_place, free_places};
 pub use iter::{BitArrayIter, BitArrayKeys};
+pub use iter_mut::BitArrayIterMut;
 use std::alloc::Global;
 use std::marker::Model;
 

@@ -204,3 +204,41 @@ fn keys_are_found_by_halves(rt: HostRuntime) {
     assert_eq!(rt; places_of(20), (Some(3), None));
     assert_eq!(rt; places_of(9), (Some(2), Some(1)));
 }
+
+#[test]
+fn values_are_changed_on_a_walk_from_both_ends(rt: HostRuntime) -> Result<(), Fail> {
+    let mut array: BitArray<u8, 48, Bitset64<1>> = BitArray::new(rt.alloc())?;
+    array.set(3, 1);
+    array.set(7, 2);
+    array.set(40, 3);
+    let mut walk = array.iter_mut();
+    match walk.next() {
+        Some((position, value)) => {
+            assert_eq!(rt; (position, *value), (3, 1));
+            *value = 31;
+        }
+        None => assert!(rt; false, "place 3"),
+    }
+    match walk.next_back() {
+        Some((position, value)) => {
+            assert_eq!(rt; (position, *value), (40, 3));
+            *value = 33;
+        }
+        None => assert!(rt; false, "place 40"),
+    }
+    match walk.next() {
+        Some((position, value)) => {
+            assert_eq!(rt; (position, *value), (7, 2));
+            *value = 32;
+        }
+        None => assert!(rt; false, "place 7"),
+    }
+    assert!(rt; walk.next().is_none());
+    assert!(rt; walk.next_back().is_none());
+    assert!(rt; walk.next().is_none());
+    assert_eq!(rt; array.get(3).copied(), Some(31));
+    assert_eq!(rt; array.get(7).copied(), Some(32));
+    assert_eq!(rt; array.get(40).copied(), Some(33));
+    assert_eq!(rt; array.size(), 3);
+    Ok(())
+}
