@@ -9,9 +9,11 @@ use crate::utils::bitset::BitsetTrait;
 use std::mem;
 
 /// A cursor over the used places and their values, ascending, from both ends: each place is given once, and after None
-/// always None. It is no iterator, since a value that it gives is lent until the next call alone. What a call says
-/// holds where the array's type fits in memory, as [`BitArray::iter_mut`] ensures; what the array holds once the walk is
-/// over is not said. It takes no memory.
+/// always None. It is no iterator, since a value that it gives is lent until the next call alone. It takes no memory.
+///
+/// A call's contract says which place it gives, by what the cursor was before it, and holds where the array's type fits
+/// in memory, as [`BitArray::iter_mut`] ensures. How the cursor goes on from there and what the array holds after the
+/// walk is tested.
 #[derive(Drop)]
 pub struct BitArrayIterMut<'a, X, const RANGE_WIDTH: usize, B: BitsetTrait> {
     pub(crate) array: &'a mut BitArray<X, RANGE_WIDTH, B>,
