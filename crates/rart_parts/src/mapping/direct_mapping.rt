@@ -9,6 +9,7 @@ use crate::mapping::{IndexedMapping, NodeMapping};
 use crate::utils::bitset::BitsetTrait;
 use crate::utils::places::{fill_place, free_places};
 use std::alloc::Global;
+use std::iter::FusedIterator;
 use std::marker::Model;
 
 /// A map from bytes to children, with room for all 256. Only [`DirectMapping::new`] and the conversion that makes one
@@ -195,6 +196,8 @@ impl<'a, N> Iterator for DirectMappingIter<'a, N> {
     }
 }
 
+impl<'a, N> FusedIterator for DirectMappingIter<'a, N> {}
+
 /// The children of a direct mapping by value, each with its byte, ascending. It is seen as the list of those still to
 /// come, which are dropped with it.
 #[derive(Drop)]
@@ -272,3 +275,5 @@ impl<N: Drop> ExactSizeIterator for DirectMappingIntoIter<N> {
         self.num_children
     }
 }
+
+impl<N: Drop> FusedIterator for DirectMappingIntoIter<N> {}

@@ -11,6 +11,7 @@ use crate::utils::bitarray::BitArray;
 use crate::utils::bitset::{Bitset64, BitsetTrait};
 use crate::utils::places::free_places;
 use std::alloc::Global;
+use std::iter::FusedIterator;
 use std::marker::Model;
 
 /// A map from bytes to at most W children. Only [`IndexedMapping::new`] and the conversions that make one take memory.
@@ -277,6 +278,8 @@ impl<'a, N> Iterator for IndexedMappingIter<'a, N> {
     }
 }
 
+impl<'a, N> FusedIterator for IndexedMappingIter<'a, N> {}
+
 impl<N, const W: usize, B: BitsetTrait> IndexedMapping<N, W, B> {
     /// The children with their bytes, ascending.
     pub fn iter(&self) -> IndexedMappingIter<'_, N>
@@ -344,3 +347,5 @@ impl<N: Drop, const W: usize, B: BitsetTrait> ExactSizeIterator
         self.rest.num_children()
     }
 }
+
+impl<N: Drop, const W: usize, B: BitsetTrait> FusedIterator for IndexedMappingIntoIter<N, W, B> {}

@@ -12,6 +12,7 @@ use crate::utils::u8_keys::{
     u8_keys_find_insert_position_sorted, u8_keys_find_key_position_sorted,
 };
 use std::alloc::Global;
+use std::iter::FusedIterator;
 use std::marker::Model;
 
 /// A map from bytes to at most W children, ascending. Only [`SortedKeyedMapping::new`] and the conversions that make
@@ -251,6 +252,8 @@ impl<'a, N> Iterator for SortedKeyedMappingIter<'a, N> {
     }
 }
 
+impl<'a, N> FusedIterator for SortedKeyedMappingIter<'a, N> {}
+
 /// The children of a sorted mapping by value, each with its byte, ascending. It is seen as the list of those still to
 /// come, which are dropped with it.
 #[derive(Drop)]
@@ -320,3 +323,5 @@ impl<N: Drop, const W: usize> ExactSizeIterator for SortedKeyedMappingIntoIter<N
         self.children.len()
     }
 }
+
+impl<N: Drop, const W: usize> FusedIterator for SortedKeyedMappingIntoIter<N, W> {}
