@@ -1,8 +1,9 @@
 //! A map from bytes to children that keeps its keys in order, inline, beside its children. It is seen as the list of
 //! its entries, ascending.
 
-ghost use Rattle.std.specs.Prelude.{◌≡◌, ℕ, [], ◌∷◌, ◌++◌, ◌<◌, ◌≤◌, length, IfErr, IfOk, OnOk, OnErr, MatchOption};
-ghost use Rattle.std.specs.Iterator.{YieldsFirst, YieldsFirstBy, item_count};
+ghost use Rattle.std.specs.Prelude.{◌≡◌, ℕ, [], ◌∷◌, IfSome, Some, ◌++◌, ◌<◌, ◌≤◌, length, IfErr, IfOk, OnOk, OnErr, MatchOption};
+ghost use Rattle.std.specs.Iterator.{UpTo, YieldsFirst, YieldsFirstBy, item_count};
+ghost use Rattle.std.specs.Iterator.SizeHint.{IsWithinCount};
 ghost use Rattle.rart_parts.specs.Entries.{IsAscending, ascending};
 
 use crate::error::TreeError;
@@ -312,7 +313,11 @@ impl<N: Drop, const W: usize> Iterator for SortedKeyedMappingIntoIter<N, W> {
         Some((key, child))
     }
 
-    fn size_hint(&self) -> (usize, Option<usize>) {
+    fn size_hint(&self) -> (usize, Option<usize>)
+        ensures lower { IsWithinCount result.0 (item_count (λ rest. rest) self.now) }
+        ensures upper { IfSome result.1 (UpTo (item_count (λ rest. rest) self.now)) }
+        ensures exact { result ≡ (length self.now, Some (length self.now)) }
+    {
         let rest = self.children.len();
         (rest, Some(rest))
     }
