@@ -1,8 +1,8 @@
 -- The index of an indexed mapping through its calls.
-use Rattle.std.proofs.Common.{◌≡◌, ◌≢◌, ℕ, zero, suc, ◌<◌, ◌≤◌, ◌+◌, ◌-◌, Bool, true, false, cond, eqb, not, ◌||◌, ◌&&◌, List, [], ◌∷◌, Option, Some, None, length, get_or, set, replicate, sym, ap, ◌∙◌, refl, arith, ⊎_elim, subst}
-use Rattle.std.proofs.lemmas.Bool.{eq-eqb, ne_eqb, false≢true, cases_lt}
+use Rattle.std.proofs.Common.{◌≡◌, ◌≢◌, ℕ, zero, suc, ◌<◌, ◌≤◌, ◌+◌, ◌-◌, Bool, true, false, cond, eqb, not, ◌||◌, ◌&&◌, List, [], ◌∷◌, Option, Some, None, length, get_or, set, replicate, sym, ap, ◌∙◌, refl, arith, ⊎_elim}
+use Rattle.std.proofs.lemmas.Bool.{eq-eqb, ne_eqb, false≢true}
 use Rattle.std.proofs.lemmas.Bool.Decides.{eqb_tells}
-use Rattle.std.proofs.lemmas.List.{length-set, length-replicate, get_or-set_same, get_or-set_other, get_or_past}
+use Rattle.std.proofs.lemmas.List.{length-set, length-replicate, get_or-set_same, get_or-set_other}
 use Rattle.std.specs.Prelude.{OnSome, IsSome}
 use Rattle.std.specs.Option.{option_copied_mut}
 use Rattle.std.specs.Borrow.{MutBor}

@@ -1,11 +1,11 @@
 -- An array of places beside the set of those that are used.
-use Rattle.std.proofs.Common.{◌≡◌, ℕ, zero, suc, ◌<◌, ◌≤◌, ◌+◌, ◌-◌, ◌*◌, ◌^◌, ◌||◌, ◌&&◌, not, Bool, true, false, cond, eqb, List, [], ◌∷◌, Option, Some, None, MatchOption, length, set, get_or, replicate, arith, sym, ap, ◌∙◌, refl, ⊎_elim, subst}
+use Rattle.std.proofs.Common.{◌≡◌, ℕ, zero, suc, ◌<◌, ◌≤◌, ◌+◌, ◌-◌, ◌^◌, ◌||◌, ◌&&◌, not, Bool, true, false, eqb, List, [], ◌∷◌, Option, Some, None, length, set, get_or, replicate, arith, sym, ap, ◌∙◌, refl, ⊎_elim, subst}
 use Rattle.std.proofs.Math.Dec.{eqb-suc-zero, eqb-zero-suc, eqb-suc-suc as eqb-suc}
 use Rattle.std.proofs.lemmas.List.{length-set, length-replicate}
 use Rattle.std.proofs.lemmas.Bool.{cases_lt, false≢true}
 use Rattle.std.proofs.lemmas.Bool.Decides.{eqb_tells}
 use Rattle.rart_parts.specs.Bits.{members, members_from, IsFirst, IsLast}
-use Rattle.rart_parts.specs.Places.{is_used, is_filled, values_in, numbered, IsBitArray}
+use Rattle.rart_parts.specs.Places.{is_used, is_filled, values_in, IsBitArray}
 use Rattle.rart_parts.proofs.Members.{members_from-same, members_from-none, length-members_from-add, length-members_from-moved}
 
 -- ---- which places are used

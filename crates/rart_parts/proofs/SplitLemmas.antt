@@ -1,5 +1,5 @@
 -- Entries that are moved one by one, in any order, from one map to another.
-use Rattle.std.proofs.Common.{◌≡◌, ℕ, ◌<◌, ◌≤◌, ◌+◌, cond, eqb, false, List, [], ◌∷◌, Option, Some, None, length, sym, ap, ◌∙◌, refl, arith, ⊎_elim, subst}
+use Rattle.std.proofs.Common.{◌≡◌, ℕ, ◌<◌, ◌≤◌, ◌+◌, cond, eqb, false, List, [], Option, Some, None, length, sym, ap, ◌∙◌, refl, arith, ⊎_elim, subst}
 use Rattle.std.proofs.lemmas.Bool.Decides.{eqb_tells}
 use Rattle.rart_parts.specs.Entries.{child_at, with_child, without, IsAscending}
 use Rattle.rart_parts.proofs.EntryLemmas.{same_lookups, child_at-with_child, child_at-without, length-with_child, length-without, with_child-ascends, without-ascends}

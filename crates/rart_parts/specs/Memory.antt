@@ -1,5 +1,5 @@
 -- The room that a value takes.
-use Rattle.std.specs.Prelude.{ℕ, ◌+◌, ◌<◌, ◌^◌}
+use Rattle.std.specs.Prelude.{◌+◌, ◌<◌, ◌^◌}
 use Prim.Native.Nat.{max}
 use prog.Memory.{up, align, size}
 use denote.Memory.{lone}

@@ -1,5 +1,5 @@
 -- Places, each with a value or without.
-use Rattle.std.specs.Prelude.{◌≡◌, ℕ, zero, suc, ◌<◌, ◌≤◌, ◌^◌, Bool, true, false, List, [], ◌∷◌, length, map, Option, None, Some, MatchOption, slice_index_or, slice_set}
+use Rattle.std.specs.Prelude.{◌≡◌, ℕ, zero, suc, ◌<◌, ◌≤◌, ◌^◌, Bool, true, false, List, [], ◌∷◌, length, Option, None, Some, MatchOption, slice_index_or, slice_set}
 use Rattle.rart_parts.specs.Bits.{IsLast}
 
 abbrev pub is_filled : {X : Type 0} → Option X → Bool

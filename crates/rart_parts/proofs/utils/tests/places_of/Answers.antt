@@ -1,4 +1,4 @@
-use Rattle.std.proofs.Common.{ℕ, zero, suc, ◌<◌, [], ◌∷◌, get_or, arith}
+use Rattle.std.proofs.Common.{zero, suc, [], ◌∷◌, arith}
 use Rattle.rart_parts.specs.Keys.{IsAscendingBelow}
 use Rattle.rart_parts.proofs.utils.tests.places_of.Goals as goal
 

@@ -6,7 +6,7 @@ use native.Mathlib.Nat.{ℕ_set}
 use native.Mathlib.Bridge.{le_prop}
 use lib.ListN.{length-map}
 use Rattle.std.specs.Coded.{coded_option}
-use base.Stored.{gcons, coded_list, coded_ℕ, coded×, coded_bool, code_map, Coded-set}
+use base.Stored.{gcons, coded_ℕ, coded×, coded_bool, code_map, Coded-set}
 use denote.RattleType.{RattleType}
 use denote.Param.{value_of}
 use denote.HoleLaws.{Alike}
@@ -25,7 +25,7 @@ use Rattle.rart_parts.specs.formers.utils.bitarray.BitArray as places
 use Rattle.rart_parts.specs.formers.utils.bitarray.BitArray.{place}
 use Rattle.rart_parts.specs.Entries.{children_of, with_another, ascending}
 use Rattle.rart_parts.specs.EntryShapes.{entry, on_value}
-use Rattle.rart_parts.specs.Places.{is_used, numbered}
+use Rattle.rart_parts.specs.Places.{numbered}
 use Rattle.rart_parts.specs.Indexed.{IsIndex, IsIndexed, with_bytes, byte_of}
 use Rattle.rart_parts.specs.formers.mapping.direct_mapping.DirectMapping.{numbered-map}
 

@@ -1,7 +1,7 @@
-use Rattle.std.proofs.Common.{◌∙◌, sym, ap, arith, length, subst}
-use Rattle.rart_parts.specs.Entries.{ascending, without}
+use Rattle.std.proofs.Common.{ap, arith, length}
+use Rattle.rart_parts.specs.Entries.{ascending}
 use Rattle.rart_parts.proofs.EntryLemmas.{length-without}
-use Rattle.rart_parts.proofs.SplitLemmas.{IsSplit, split_start, split_absent, split_room, split_next, split_done}
+use Rattle.rart_parts.proofs.SplitLemmas.{split_start, split_absent, split_room, split_next, split_done}
 use Rattle.rart_parts.proofs.mapping.indexed_mapping.IndexedMapping.fill_from_keyed.Goals as goal
 
 pub loop-key-init : goal.loop-key-init

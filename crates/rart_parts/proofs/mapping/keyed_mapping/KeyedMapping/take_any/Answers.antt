@@ -1,4 +1,4 @@
-use Rattle.std.proofs.Common.{◌∙◌, Some, get_or, sym, ap, subst, refl, arith, ⊎_elim}
+use Rattle.std.proofs.Common.{◌∙◌, Some, get_or, sym, ap, subst, refl}
 use Rattle.std.specs.Prelude.{IsSome}
 use Rattle.rart_parts.specs.Entries.{child_at, ascending}
 use Rattle.rart_parts.proofs.PlaceLemmas.{used_read}
