@@ -2,12 +2,14 @@ pub mod DirectLemmas
 pub mod EntryLemmas
 pub mod FreedLemmas
 pub mod IndexLemmas
+pub mod KeyedLemmas
 pub mod Masks
 pub mod Members
 pub mod MoveLemmas
 pub mod NumberedLemmas
 pub mod PlaceLemmas
 pub mod SortedLemmas
+pub mod SplitLemmas
 pub mod WordBits
 pub mod Words
 pub mod Zipped

@@ -1,10 +1,10 @@
 -- Entries that are moved one by one from one map to another.
-use Rattle.std.proofs.Common.{◌≡◌, ◌≢◌, ℕ, zero, suc, ◌<◌, ◌≤◌, ◌+◌, Bool, cond, eqb, List, [], ◌∷◌, ◌++◌, Option, Some, None, length, sym, ap, ◌∙◌, refl, arith, ⊎_elim, subst, append_assoc}
+use Rattle.std.proofs.Common.{◌≡◌, ℕ, ◌<◌, ◌≤◌, ◌+◌, cond, List, [], ◌∷◌, ◌++◌, Some, None, length, sym, ap, ◌∙◌, refl, arith, ⊎_elim, subst, append_assoc}
 use Rattle.std.proofs.lemmas.List.{length-append}
 use Rattle.std.proofs.lemmas.Bool.Decides.{eqb_tells}
 use Rattle.std.proofs.lemmas.Bool.{cases_lt}
 use Rattle.rart_parts.specs.Entries.{child_at, with_child, without, StartsAbove, IsAscending}
-use Rattle.rart_parts.proofs.EntryLemmas.{at_same, at_other, with_before, with_after, without_same, below_start}
+use Rattle.rart_parts.proofs.EntryLemmas.{at_same, at_other, with_before, with_after, without_same, below_start, child_at-without}
 
 module _ {X : Type 0} (k : ℕ) (x : X) (s : List (ℕ × X)) where
   all_below : (b : ℕ) (t : List (ℕ × X)) → StartsAbove b (t ++ (k, x) ∷ s) → IsAscending (t ++ (k, x) ∷ s) → b < k
@@ -83,3 +83,33 @@ module _ {X : Type 0} (whole rest moved : List (ℕ × X)) (e : ℕ × X) (a : I
 
   pub taken_room : (width : ℕ) → length whole ≤ width → length moved < width
   taken_room width h = omega (arith, ap length joined, length-append rest (e ∷ moved), h)
+
+pub suffix-ascends : {X : Type 0} (t s : List (ℕ × X)) → IsAscending (t ++ s) → IsAscending s
+suffix-ascends [] s a = a
+suffix-ascends (e ∷ t) s a = suffix-ascends t s a.1
+
+-- ---- a move that asks for one byte after another
+module _ {X : Type 0} (whole moved rest : List (ℕ × X)) (k : ℕ) (a : IsAscending whole) (is : moved ++ rest ≡ whole) (passed : (b : ℕ) → b < k → child_at b rest ≡ None) where
+  rest_ascends : IsAscending rest
+  rest_ascends = suffix-ascends moved rest (subst IsAscending (sym is) a)
+
+  -- the byte has a child, which is the first that is left
+  pub next_first : (x : X) → child_at k rest ≡ Some x → moved ++ (k, x) ∷ without k rest ≡ whole
+  next_first x e = ap (λ l. moved ++ l) (sym (first_entry k x rest rest_ascends e passed)) ∙ is
+
+  pub passed_more : (b : ℕ) → b < k + 1 → child_at b (without k rest) ≡ None
+  passed_more b h = child_at-without k rest rest_ascends b ∙ ⊎_elim
+      (λ t. ap (λ c. cond c None (child_at b rest)) t.0)
+      (λ t. ap (λ c. cond c None (child_at b rest)) t.0 ∙ passed b (omega (arith, h, t.1)))
+      (eqb_tells k b)
+
+  -- nothing is left past the last byte
+  pub none_left : ((b : ℕ) → k ≤ b → child_at b rest ≡ None) → rest ≡ []
+  none_left above = empty_map rest (λ b. ⊎_elim (λ h. passed b h) (λ h. above b h) (cases_lt b k))
+
+append_none : {A : Type 0} (xs : List A) → xs ++ [] ≡ xs
+append_none [] = refl
+append_none (x ∷ xs) = ap (λ l. x ∷ l) (append_none xs)
+
+pub all_moved : {A : Type 0} (whole moved rest : List A) → moved ++ rest ≡ whole → rest ≡ [] → moved ≡ whole
+all_moved whole moved rest is e = sym (append_none moved) ∙ ap (λ l. moved ++ l) (sym e) ∙ is

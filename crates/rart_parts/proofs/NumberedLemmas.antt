@@ -1,5 +1,5 @@
 -- The values of places with the numbers of their places.
-use Rattle.std.proofs.Common.{◌≡◌, ℕ, zero, suc, ◌<◌, ◌≤◌, ◌+◌, ◌^◌, List, [], ◌∷◌, ◌++◌, Option, Some, None, length, sym, ap, ◌∙◌, refl, arith}
+use Rattle.std.proofs.Common.{◌≡◌, ℕ, suc, ◌<◌, ◌+◌, ◌^◌, List, [], ◌∷◌, ◌++◌, Option, Some, None, length, sym, ap, ◌∙◌, refl, arith}
 use Rattle.rart_parts.specs.Places.{numbered}
 
 numbered-append : {X : Type 0} (n : ℕ) (os : List (Option X)) (o : Option X) → numbered n (os ++ o ∷ []) ≡ numbered n os ++ numbered (n + length os) (o ∷ [])

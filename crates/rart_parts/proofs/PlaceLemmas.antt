@@ -1,11 +1,11 @@
 -- An array of places beside the set of those that are used.
-use Rattle.std.proofs.Common.{◌≡◌, ℕ, zero, suc, ◌<◌, ◌≤◌, ◌+◌, ◌-◌, ◌*◌, ◌^◌, ◌||◌, ◌&&◌, not, Bool, true, false, cond, eqb, List, [], ◌∷◌, Option, Some, None, MatchOption, length, set, get_or, replicate, arith, sym, ap, ◌∙◌, refl, ⊎_elim, subst}
+use Rattle.std.proofs.Common.{◌≡◌, ℕ, zero, suc, ◌<◌, ◌≤◌, ◌+◌, ◌-◌, ◌^◌, ◌||◌, ◌&&◌, not, Bool, true, false, eqb, List, [], ◌∷◌, Option, Some, None, length, set, get_or, replicate, arith, sym, ap, ◌∙◌, refl, ⊎_elim, subst}
 use Rattle.std.proofs.Math.Dec.{eqb-suc-zero, eqb-zero-suc, eqb-suc-suc as eqb-suc}
 use Rattle.std.proofs.lemmas.List.{length-set, length-replicate}
 use Rattle.std.proofs.lemmas.Bool.{cases_lt, false≢true}
 use Rattle.std.proofs.lemmas.Bool.Decides.{eqb_tells}
 use Rattle.rart_parts.specs.Bits.{members, members_from, IsFirst, IsLast}
-use Rattle.rart_parts.specs.Places.{is_used, is_filled, values_in, numbered, IsBitArray}
+use Rattle.rart_parts.specs.Places.{is_used, is_filled, values_in, IsBitArray}
 use Rattle.rart_parts.proofs.Members.{members_from-same, members_from-none, length-members_from-add, length-members_from-moved}
 
 -- ---- which places are used
@@ -142,3 +142,9 @@ free_read [] p e = refl
 free_read (None ∷ os) zero e = refl
 free_read (Some x ∷ os) zero e = absurd (false≢true (sym e))
 free_read (o ∷ os) (suc p) e = free_read os p e
+
+pub none_read : {X : Type 0} (os : List (Option X)) (p : ℕ) → is_used os p ≡ true → None ≡ get_or os p None → ⊥
+none_read os p u e = let x = used_read os p u in clash (e ∙ x.1)
+  where
+    clash : {X : Type 0} {x : X} → None ≡ Some x → ⊥
+    clash h = cc

@@ -1,13 +1,12 @@
 -- The two columns of a sorted mapping through its calls.
-use Rattle.std.proofs.Common.{◌≡◌, ◌≢◌, ℕ, zero, suc, ◌<◌, ◌≤◌, ◌+◌, ◌-◌, List, [], ◌∷◌, ◌++◌, Option, Some, None, length, get_or, set, take, drop, sym, ap, ◌∙◌, refl, arith, subst}
-use Rattle.std.specs.Prelude.{insert, remove, OnSome, IsSome, IfSome}
+use Rattle.std.proofs.Common.{◌≡◌, ℕ, ◌<◌, ◌≤◌, ◌+◌, ◌-◌, List, [], ◌∷◌, ◌++◌, Option, Some, None, length, get_or, set, take, drop, sym, ap, ◌∙◌, refl, arith, subst}
+use Rattle.std.specs.Prelude.{insert, OnSome, IsSome, IfSome}
 use Rattle.std.specs.Option.{option_copied_mut}
 use Rattle.std.specs.Borrow.{MutBor}
 use Rattle.std.proofs.lemmas.Bool.{false≢true}
 use Rattle.std.specs.List.{zip}
 use Rattle.std.proofs.lemmas.List.{length-set, length-append, length-take, length-drop, get_or-set_same, get_or-set_other}
-use Rattle.std.proofs.lemmas.List.Edits.{length-insert, length-remove}
-use Rattle.rart_parts.specs.Entries.{child_at, with_child, without, set_child, IsAscending}
+use Rattle.rart_parts.specs.Entries.{child_at, with_child, without, IsAscending}
 use Rattle.rart_parts.specs.Keys.{IsAscendingBelow}
 use Rattle.rart_parts.specs.SortedKeyed.{IsSortedKeyed}
 use Rattle.rart_parts.proofs.EntryLemmas.{with_child-ascends, without-ascends}
@@ -133,6 +132,10 @@ module _ {X : Type 0} {width : ℕ} {ks : List ℕ} {vs : List X} {room : ℕ} (
       narrow = narrow;
       ascends = subst IsAscending (sym resized_zip) s.ascends;
     }
+
+-- as many entries as children, from a place on
+pub rest_counted : {X : Type 0} (ks : List ℕ) (at : ℕ) (vs : List X) → at + length vs ≤ length ks → length (zip (drop at ks) vs) ≡ length vs
+rest_counted ks at vs h = length_zipped (drop at ks) vs (omega (arith, length-drop at ks, h))
 
 pub no_items : {A : Type 0} (xs : List A) → length xs ≡ 0 → xs ≡ []
 no_items [] e = refl

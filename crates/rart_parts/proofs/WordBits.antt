@@ -1,15 +1,15 @@
 -- The bits of one number.
-use Rattle.std.proofs.Common.{◌≡◌, ◌≢◌, ℕ, suc, zero, ◌<◌, ◌≤◌, ◌+◌, ◌-◌, ◌*◌, ◌/◌, ◌%◌, ◌^◌, ◌||◌, ◌&&◌, Bool, true, false, cond, not, eqb, List, ◌∷◌, length, bit_and, bit_or, count_ones, sym, ap, ◌∙◌, refl, arith, ⊎_elim, subst, rules, w64}
+use Rattle.std.proofs.Common.{◌≡◌, ℕ, suc, zero, ◌<◌, ◌≤◌, ◌+◌, ◌-◌, ◌*◌, ◌/◌, ◌%◌, ◌^◌, ◌||◌, ◌&&◌, Bool, true, false, cond, not, eqb, List, ◌∷◌, length, bit_and, bit_or, count_ones, sym, ap, ◌∙◌, arith, ⊎_elim, subst, rules, w64}
 use mir.Val.{bits}
 use Rattle.std.specs.Int.{Width, bit_at, bit_not, trailing_zeros, trailing_ones, leading_zeros}
-use Rattle.std.proofs.lemmas.Bool.{eq-eqb, ne_eqb, eqb-true, eqb-false, cases_lt}
+use Rattle.std.proofs.lemmas.Bool.{eq-eqb, ne_eqb, cases_lt}
 use Rattle.std.proofs.lemmas.Bool.Decides.{eqb_tells}
 use Rattle.std.proofs.lemmas.Nat.{or_lt, leading_top}
 use Rattle.std.proofs.lemmas.Nat.Bits.{and_pow, bit_at_lowest, bit_at-suc, bit_at_set_same, bit_at_set_other, bit_at_clear_same, bit_at_clear_other, bit_at-trailing_zeros, bit_at-trailing_ones, bit_at_ones, bit_at_above, bit_at-zero, bit_at-lt}
-use Rattle.std.proofs.Math.Nat.{mod-eq_of_lt, div-eq_of_lt-le, mod-lt}
+use Rattle.std.proofs.Math.Nat.{mod-eq_of_lt, div-eq_of_lt-le}
 use Rattle.std.proofs.Math.Pow.{pow-lt}
 use lib.Count.{ones_step, ones-le}
-use Rattle.rart_parts.specs.Bits.{has_bit, members_from, members, IsFirst, IsLast}
+use Rattle.rart_parts.specs.Bits.{has_bit, members_from, members}
 use Rattle.rart_parts.proofs.Members.{length-members_from-moved}
 
 -- ---- one bit written

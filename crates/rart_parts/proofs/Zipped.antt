@@ -1,6 +1,6 @@
 -- A column of keys beside a column of children, read as entries: the keys past the children do not count.
-use Rattle.std.proofs.Common.{◌≡◌, ◌≢◌, ℕ, zero, suc, ◌<◌, ◌≤◌, ◌+◌, Bool, cond, List, [], ◌∷◌, ◌++◌, Option, Some, None, length, get_or, set, take, sym, ap, ◌∙◌, refl, arith, ⊎_elim, subst, eqb, ltb}
-use Rattle.std.specs.Prelude.{insert, remove, slice_get}
+use Rattle.std.proofs.Common.{◌≡◌, ◌≢◌, ℕ, zero, suc, ◌<◌, ◌≤◌, ◌+◌, List, [], ◌∷◌, ◌++◌, Some, None, length, get_or, set, sym, ap, ◌∙◌, refl, arith}
+use Rattle.std.specs.Prelude.{insert, remove}
 use Rattle.std.specs.List.{zip}
 use Rattle.rart_parts.specs.Entries.{children_of, child_at, with_child, without, replaced, set_child, StartsAbove, IsAscending}
 use Rattle.rart_parts.specs.Keys.{IsAscendingBelow}

@@ -1,5 +1,5 @@
 -- A map from bytes: a list of entries, each a byte and what stands at it.
-use Rattle.std.specs.Prelude.{ℕ, ◌<◌, zero, suc, Bool, cond, eqb, ltb, List, [], ◌∷◌, map, Option, Some, None}
+use Rattle.std.specs.Prelude.{ℕ, ◌<◌, zero, suc, cond, eqb, ltb, List, [], ◌∷◌, map, Option, Some, None}
 
 -- what stands at a byte, if anything does
 abbrev pub child_at : {X : Type 0} → ℕ → List (ℕ × X) → Option X

@@ -1,5 +1,5 @@
 -- A byte among the keys of a node.
-use Rattle.std.specs.Prelude.{◌≡◌, ◌≢◌, ℕ, ◌<◌, ◌≤◌, Bool, eqb, not, ◌||◌, ◌&&◌, List, slice_index, Option, MatchOption, IsSomeAnd}
+use Rattle.std.specs.Prelude.{◌≡◌, ◌≢◌, ℕ, ◌<◌, ◌≤◌, Bool, eqb, not, ◌||◌, ◌&&◌, List, slice_index, Option, MatchOption}
 
 -- the first n keys ascend strictly
 abbrev pub IsAscendingBelow : List ℕ → ℕ → Type 0

@@ -3,7 +3,9 @@ pub mod Direct
 pub mod Entries
 pub mod EntryShapes
 pub mod Indexed
+pub mod Keyed
 pub mod Keys
+pub mod Memory
 pub mod Places
 pub mod SortedKeyed
 pub mod formers

@@ -1,5 +1,5 @@
 -- Places, each with a value or without.
-use Rattle.std.specs.Prelude.{◌≡◌, ℕ, zero, suc, ◌<◌, ◌≤◌, ◌^◌, Bool, true, false, List, [], ◌∷◌, length, map, Option, None, Some, MatchOption, slice_index_or, slice_set}
+use Rattle.std.specs.Prelude.{◌≡◌, ℕ, zero, suc, ◌<◌, ◌≤◌, ◌^◌, Bool, true, false, List, [], ◌∷◌, length, Option, None, Some, MatchOption, slice_index_or, slice_set}
 use Rattle.rart_parts.specs.Bits.{IsLast}
 
 abbrev pub is_filled : {X : Type 0} → Option X → Bool
@@ -23,6 +23,16 @@ abbrev pub numbered : {X : Type 0} → ℕ → List (Option X) → List (ℕ × 
 numbered n [] = []
 numbered n (None ∷ os) = numbered (suc n) os
 numbered n (Some x ∷ os) = (n, x) ∷ numbered (suc n) os
+
+-- the answer is the least used place from one number on and below another
+abbrev pub IsNext : {X : Type 0} → List (Option X) → ℕ → ℕ → Option ℕ → Type 0
+IsNext os from to answer = MatchOption answer ((k : ℕ) → from ≤ k → k < to → is_used os k ≡ false)
+    (λ p. (from ≤ p) × (p < to) × (is_used os p ≡ true) × ((k : ℕ) → from ≤ k → k < p → is_used os k ≡ false))
+
+-- the answer is the greatest of them
+abbrev pub IsPrevious : {X : Type 0} → List (Option X) → ℕ → ℕ → Option ℕ → Type 0
+IsPrevious os from to answer = MatchOption answer ((k : ℕ) → from ≤ k → k < to → is_used os k ≡ false)
+    (λ p. (from ≤ p) × (p < to) × (is_used os p ≡ true) × ((k : ℕ) → p < k → k < to → is_used os k ≡ false))
 
 -- the answer is the value at the greatest used place
 abbrev pub GivesLast : {X : Type 0} → ℕ → List (Option X) → Option X → Type 0

@@ -3,6 +3,7 @@
 
 pub mod direct_mapping;
 pub mod indexed_mapping;
+pub mod keyed_mapping;
 pub mod sorted_keyed_mapping;
 
 ghost use Rattle.std.specs.Prelude.{◌≡◌, ℕ, ◌<◌, List, length, OnSome, None};
@@ -10,9 +11,12 @@ ghost use Rattle.std.specs.Borrow.{sem, LendsSo};
 ghost use Rattle.std.specs.Option.{option_copied, option_copied_mut};
 ghost use Rattle.rart_parts.specs.Entries.{child_at, with_child, without, replaced};
 
-pub use direct_mapping::DirectMapping;
-pub use indexed_mapping::IndexedMapping;
-pub use sorted_keyed_mapping::SortedKeyedMapping;
+pub use direct_mapping::{DirectMapping, DirectMappingIntoIter, DirectMappingIter};
+pub use indexed_mapping::{IndexedMapping, IndexedMappingIntoIter, IndexedMappingIter};
+pub use keyed_mapping::KeyedMapping;
+pub use sorted_keyed_mapping::{
+    SortedKeyedMapping, SortedKeyedMappingIntoIter, SortedKeyedMappingIter,
+};
 
 /// A map from bytes to children, with room for NUM_CHILDREN. No call of it takes memory.
 pub trait NodeMapping<N, const NUM_CHILDREN: usize> {
@@ -49,3 +53,8 @@ pub trait NodeMapping<N, const NUM_CHILDREN: usize> {
         NUM_CHILDREN
     }
 }
+
+#[cfg(test)]
+mod refused_tests;
+#[cfg(test)]
+mod tests;

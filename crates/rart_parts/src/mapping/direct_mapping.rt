@@ -1,13 +1,16 @@
 //! A map from bytes to children with a place for each byte. It is seen as the list of its entries, ascending.
 
-ghost use Rattle.std.specs.Prelude.{◌≡◌, ℕ, [], ◌∷◌, ◌<◌, ◌≤◌, length, None, IfErr, IfOk, OnOk, OnErr};
-ghost use Rattle.rart_parts.specs.Entries.{ascending, child_at};
+ghost use Rattle.std.specs.Prelude.{◌≡◌, ℕ, [], ◌∷◌, IfSome, Some, ◌<◌, ◌≤◌, length, IfErr, IfOk, None, OnOk, OnErr};
+ghost use Rattle.std.specs.Iterator.{UpTo, YieldsFirst, YieldsFirstBy, item_count};
+ghost use Rattle.std.specs.Iterator.SizeHint.{IsWithinCount};
+ghost use Rattle.rart_parts.specs.Entries.{ascending, child_at, IsAscending};
 
 use crate::error::TreeError;
 use crate::mapping::{IndexedMapping, NodeMapping};
 use crate::utils::bitset::BitsetTrait;
 use crate::utils::places::{fill_place, free_places};
 use std::alloc::Global;
+use std::iter::FusedIterator;
 use std::marker::Model;
 
 /// A map from bytes to children, with room for all 256. Only [`DirectMapping::new`] and the conversion that makes one
@@ -47,6 +50,24 @@ impl<N> DirectMapping<N> {
             places,
             num_children: 0,
         })
+    }
+
+    /// The bytes ascend, and each is below 256: this call does nothing but say so.
+    pub fn ascends(&self)
+        ensures ascends { IsAscending self.now }
+        ensures bytes { (b : ℕ) → 256 ≤ b → child_at b self.now ≡ None }
+    {
+        let _places = &self.places;
+    }
+
+    /// The children with their bytes, ascending.
+    pub fn iter(&self) -> DirectMappingIter<'_, N>
+        ensures { result ≡ self.now }
+    {
+        DirectMappingIter {
+            places: self.places.as_slice(),
+            byte: 0,
+        }
     }
 
     /// Takes the children of an indexed mapping over. A refusal leaves that mapping as it was.
@@ -133,3 +154,131 @@ impl<N> DirectMapping<N> {
         free_places(places);
     }
 }
+
+/// The children of a direct mapping, each with its byte, ascending. It is seen as the list of those still to come.
+#[derive(Drop)]
+pub struct DirectMappingIter<'a, N> {
+    places: &'a [Option<N>],
+    // The byte of the first of `places`.
+    byte: usize,
+}
+
+impl<'a, N> Model for DirectMappingIter<'a, N> {
+    ghost use Rattle.std.specs.Prelude.{ℕ, List, length, ◌+◌, ◌≤◌};
+    ghost use Rattle.std.specs.Coded.{coded_list, coded×, coded_ℕ};
+    ghost use Rattle.rart_parts.specs.Places.{numbered};
+
+    ghost Value = { List (ℕ × N) };
+
+    ghost coded = { coded_list (coded× coded_ℕ N.code) };
+
+    ghost view = { λ it. numbered it.byte it.places.now };
+
+    ghost invariant = { λ it. it.byte + length it.places.now ≤ 256 };
+}
+
+impl<'a, N> Iterator for DirectMappingIter<'a, N> {
+    type Item = (u8, &'a N);
+
+    ghost next_gives = { YieldsFirstBy (λ item. (item.0, item.1.now)) (λ rest. rest) };
+
+    ghost remaining = { item_count (λ rest. rest) };
+
+    fn next(&mut self) -> Option<(u8, &'a N)> {
+        while let Some((place, rest)) = self.places.split_first() {
+            let byte = self.byte;
+            self.places = rest;
+            self.byte += 1;
+            if let Some(child) = place {
+                return Some((byte as u8, child));
+            }
+        }
+        None
+    }
+}
+
+impl<'a, N> FusedIterator for DirectMappingIter<'a, N> {}
+
+/// The children of a direct mapping by value, each with its byte, ascending. It is seen as the list of those still to
+/// come, which are dropped with it.
+#[derive(Drop)]
+pub struct DirectMappingIntoIter<N> {
+    places: std::vec::IntoIter<Option<N>>,
+    // The byte of the first of `places`.
+    byte: usize,
+    num_children: usize,
+}
+
+impl<N> Model for DirectMappingIntoIter<N> {
+    ghost use Rattle.std.specs.Prelude.{◌≡◌, ℕ, List, length, ◌+◌, ◌≤◌};
+    ghost use Rattle.std.specs.Coded.{coded_list, coded×, coded_ℕ};
+    ghost use Rattle.std.specs.Vec.Iter.{into_iter_items};
+    ghost use Rattle.rart_parts.specs.Places.{numbered};
+
+    ghost Value = { List (ℕ × N) };
+
+    ghost coded = { coded_list (coded× coded_ℕ N.code) };
+
+    ghost view = { λ it. numbered it.byte (into_iter_items it.places) };
+
+    ghost invariant = { λ it. (it.byte + length (into_iter_items it.places) ≤ 256) × (it.num_children ≡ length (numbered it.byte (into_iter_items it.places))) };
+}
+
+impl<N: Drop> IntoIterator for DirectMapping<N> {
+    type Item = (u8, N);
+
+    type IntoIter = DirectMappingIntoIter<N>;
+
+    ghost into_iter_gives = { λ m it. it ≡ m };
+
+    fn into_iter(self) -> DirectMappingIntoIter<N> {
+        let DirectMapping {
+            places,
+            num_children,
+        } = self;
+        DirectMappingIntoIter {
+            places: places.into_iter(),
+            byte: 0,
+            num_children,
+        }
+    }
+}
+
+impl<N: Drop> Iterator for DirectMappingIntoIter<N> {
+    type Item = (u8, N);
+
+    ghost next_gives = { YieldsFirst (λ rest. rest) };
+
+    ghost remaining = { item_count (λ rest. rest) };
+
+    fn next(&mut self) -> Option<(u8, N)> {
+        while let Some(place) = self.places.next() {
+            let byte = self.byte;
+            self.byte += 1;
+            match place {
+                Some(child) => {
+                    self.num_children -= 1;
+                    return Some((byte as u8, child));
+                }
+                None => {}
+            }
+        }
+        None
+    }
+
+    fn size_hint(&self) -> (usize, Option<usize>)
+        ensures lower { IsWithinCount result.0 (item_count (λ rest. rest) self.now) }
+        ensures upper { IfSome result.1 (UpTo (item_count (λ rest. rest) self.now)) }
+        ensures exact { result ≡ (length self.now, Some (length self.now)) }
+    {
+        (self.num_children, Some(self.num_children))
+    }
+}
+
+impl<N: Drop> ExactSizeIterator for DirectMappingIntoIter<N> {
+    fn len(&self) -> usize {
+        self.num_children
+    }
+}
+
+impl<N: Drop> FusedIterator for DirectMappingIntoIter<N> {}

@@ -1,15 +1,18 @@
 //! A map from bytes to children with an index from bytes to slots. It is seen as the list of its children in the order
 //! of their slots, each with its byte; what callers learn is that list in the order of the bytes.
 
-ghost use Rattle.std.specs.Prelude.{◌≡◌, ℕ, [], ◌∷◌, ◌<◌, ◌≤◌, ◌^◌, length, IfErr, IfOk, OnOk, OnErr, MatchOption};
+ghost use Rattle.std.specs.Prelude.{◌≡◌, ℕ, [], ◌∷◌, IfSome, Some, ◌<◌, ◌≤◌, ◌^◌, length, IfErr, IfOk, OnOk, OnErr, MatchOption};
+ghost use Rattle.std.specs.Iterator.{UpTo, YieldsFirst, YieldsFirstBy, item_count};
+ghost use Rattle.std.specs.Iterator.SizeHint.{IsWithinCount};
 ghost use Rattle.rart_parts.specs.Entries.{IsAscending, ascending};
 
 use crate::error::TreeError;
-use crate::mapping::{NodeMapping, SortedKeyedMapping};
+use crate::mapping::{DirectMapping, KeyedMapping, NodeMapping, SortedKeyedMapping};
 use crate::utils::bitarray::BitArray;
 use crate::utils::bitset::{Bitset64, BitsetTrait};
 use crate::utils::places::free_places;
 use std::alloc::Global;
+use std::iter::FusedIterator;
 use std::marker::Model;
 
 /// A map from bytes to at most W children. Only [`IndexedMapping::new`] and the conversions that make one take memory.
@@ -80,6 +83,73 @@ impl<N, const W: usize, B: BitsetTrait> IndexedMapping<N, W, B> {
     {
         source.ascends();
         while let Some((key, child)) = source.take_last() {
+            self.add_child(key, child);
+        }
+    }
+
+    /// Takes the children of a direct mapping over. A refusal leaves that mapping as it was.
+    pub fn from_direct(alloc: Global, source: &mut DirectMapping<N>) -> Result<Self, TreeError>
+        requires narrow { W ≤ 255 }
+        requires covers { W ≤ B.CAPACITY }
+        requires fits { B.CAPACITY < 2 ^ 64 }
+        requires room { length source.old ≤ W }
+        ensures ok { IfOk result (λ m. ascending m ≡ source.old) }
+        ensures emptied { OnOk result (source.new ≡ []) }
+        ensures err { IfErr result (λ e. e ≡ TreeError.Memory) }
+        ensures refused { OnErr result (source.new ≡ source.old) }
+    {
+        let mut map = IndexedMapping::new(alloc)?;
+        map.fill_from_direct(source);
+        Ok(map)
+    }
+
+    /// Moves the children of a direct mapping in, in the order of their bytes. It takes no memory.
+    pub fn fill_from_direct(&mut self, source: &mut DirectMapping<N>)
+        requires empty { ascending self.old ≡ [] }
+        requires room { length source.old ≤ W }
+        ensures filled { ascending self.new ≡ source.old }
+        ensures emptied { source.new ≡ [] }
+    {
+        source.ascends();
+        for byte in 0..256usize {
+            if let Some(child) = source.delete_child(byte as u8) {
+                self.add_child(byte as u8, child);
+            }
+        }
+        source.ascends();
+    }
+
+    /// Takes the children of a keyed mapping over. A refusal leaves that mapping as it was.
+    pub fn from_keyed<const U: usize, C: BitsetTrait>(
+        alloc: Global,
+        source: &mut KeyedMapping<N, U, C>,
+    ) -> Result<Self, TreeError>
+        requires narrow { W ≤ 255 }
+        requires covers { W ≤ B.CAPACITY }
+        requires fits { B.CAPACITY < 2 ^ 64 }
+        requires room { length (ascending source.old) ≤ W }
+        ensures ok { IfOk result (λ m. ascending m ≡ ascending source.old) }
+        ensures emptied { OnOk result (ascending source.new ≡ []) }
+        ensures err { IfErr result (λ e. e ≡ TreeError.Memory) }
+        ensures refused { OnErr result (source.new ≡ source.old) }
+    {
+        let mut map = IndexedMapping::new(alloc)?;
+        map.fill_from_keyed(source);
+        Ok(map)
+    }
+
+    /// Moves the children of a keyed mapping in, slot by slot. It takes no memory.
+    pub fn fill_from_keyed<const U: usize, C: BitsetTrait>(
+        &mut self,
+        source: &mut KeyedMapping<N, U, C>,
+    )
+        requires empty { ascending self.old ≡ [] }
+        requires room { length (ascending source.old) ≤ W }
+        ensures filled { ascending self.new ≡ ascending source.old }
+        ensures emptied { ascending source.new ≡ [] }
+    {
+        source.fits_width();
+        while let Some((key, child)) = source.take_any() {
             self.add_child(key, child);
         }
     }
@@ -163,3 +233,124 @@ impl<N, const W: usize, B: BitsetTrait> IndexedMapping<N, W, B> {
         free_places(places);
     }
 }
+
+/// The children of an indexed mapping, each with its byte, ascending. It is seen as the list of those still to come.
+#[derive(Drop)]
+pub struct IndexedMappingIter<'a, N> {
+    slots: &'a [Option<u8>],
+    // The byte of the first of `slots`.
+    byte: usize,
+    children: &'a [Option<N>],
+}
+
+impl<'a, N> Model for IndexedMappingIter<'a, N> {
+    ghost use Rattle.std.specs.Prelude.{ℕ, List, length, ◌+◌, ◌≤◌};
+    ghost use Rattle.std.specs.Coded.{coded_list, coded×, coded_ℕ};
+    ghost use Rattle.rart_parts.specs.Indexed.{by_bytes};
+
+    ghost Value = { List (ℕ × N) };
+
+    ghost coded = { coded_list (coded× coded_ℕ N.code) };
+
+    ghost view = { λ it. by_bytes it.byte it.slots.now it.children.now };
+
+    ghost invariant = { λ it. it.byte + length it.slots.now ≤ 256 };
+}
+
+impl<'a, N> Iterator for IndexedMappingIter<'a, N> {
+    type Item = (u8, &'a N);
+
+    ghost next_gives = { YieldsFirstBy (λ item. (item.0, item.1.now)) (λ rest. rest) };
+
+    ghost remaining = { item_count (λ rest. rest) };
+
+    fn next(&mut self) -> Option<(u8, &'a N)> {
+        while let Some((entry, rest)) = self.slots.split_first() {
+            let byte = self.byte;
+            self.slots = rest;
+            self.byte += 1;
+            if let Some(slot) = entry {
+                if let Some(Some(child)) = self.children.get(*slot as usize) {
+                    return Some((byte as u8, child));
+                }
+            }
+        }
+        None
+    }
+}
+
+impl<'a, N> FusedIterator for IndexedMappingIter<'a, N> {}
+
+impl<N, const W: usize, B: BitsetTrait> IndexedMapping<N, W, B> {
+    /// The children with their bytes, ascending.
+    pub fn iter(&self) -> IndexedMappingIter<'_, N>
+        ensures { result ≡ ascending self.now }
+    {
+        IndexedMappingIter {
+            slots: self.index.as_slice(),
+            byte: 0,
+            children: self.children.as_slice(),
+        }
+    }
+}
+
+/// The children of an indexed mapping by value, each with its byte, ascending. It is seen as the list of those still
+/// to come, which are dropped with it.
+#[derive(Drop)]
+pub struct IndexedMappingIntoIter<N, const W: usize, B: BitsetTrait> {
+    rest: IndexedMapping<N, W, B>,
+}
+
+impl<N, const W: usize, B: BitsetTrait> Model for IndexedMappingIntoIter<N, W, B> {
+    ghost use Rattle.std.specs.Prelude.{ℕ, List};
+    ghost use Rattle.std.specs.Coded.{coded_list, coded×, coded_ℕ};
+    ghost use Rattle.rart_parts.specs.Entries.{ascending};
+
+    ghost Value = { List (ℕ × N) };
+
+    ghost coded = { coded_list (coded× coded_ℕ N.code) };
+
+    ghost view = { λ it. ascending it.rest };
+}
+
+impl<N: Drop, const W: usize, B: BitsetTrait> IntoIterator for IndexedMapping<N, W, B> {
+    type Item = (u8, N);
+
+    type IntoIter = IndexedMappingIntoIter<N, W, B>;
+
+    ghost into_iter_gives = { λ m it. it ≡ ascending m };
+
+    fn into_iter(self) -> IndexedMappingIntoIter<N, W, B> {
+        IndexedMappingIntoIter { rest: self }
+    }
+}
+
+impl<N: Drop, const W: usize, B: BitsetTrait> Iterator for IndexedMappingIntoIter<N, W, B> {
+    type Item = (u8, N);
+
+    ghost next_gives = { YieldsFirst (λ rest. rest) };
+
+    ghost remaining = { item_count (λ rest. rest) };
+
+    fn next(&mut self) -> Option<(u8, N)> {
+        self.rest.take_first()
+    }
+
+    fn size_hint(&self) -> (usize, Option<usize>)
+        ensures lower { IsWithinCount result.0 (item_count (λ rest. rest) self.now) }
+        ensures upper { IfSome result.1 (UpTo (item_count (λ rest. rest) self.now)) }
+        ensures exact { result ≡ (length self.now, Some (length self.now)) }
+    {
+        let rest = self.rest.num_children();
+        (rest, Some(rest))
+    }
+}
+
+impl<N: Drop, const W: usize, B: BitsetTrait> ExactSizeIterator
+    for IndexedMappingIntoIter<N, W, B> {
+    fn len(&self) -> usize {
+        self.rest.num_children()
+    }
+}
+
+impl<N: Drop, const W: usize, B: BitsetTrait> FusedIterator for IndexedMappingIntoIter<N, W, B> {}

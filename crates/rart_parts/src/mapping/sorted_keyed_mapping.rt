@@ -1,7 +1,9 @@
 //! A map from bytes to children that keeps its keys in order, inline, beside its children. It is seen as the list of
 //! its entries, ascending.
 
-ghost use Rattle.std.specs.Prelude.{◌≡◌, ℕ, [], ◌∷◌, ◌++◌, ◌<◌, ◌≤◌, length, IfErr, IfOk, OnOk, OnErr, MatchOption};
+ghost use Rattle.std.specs.Prelude.{◌≡◌, ℕ, [], ◌∷◌, IfSome, Some, ◌++◌, ◌<◌, ◌≤◌, length, IfErr, IfOk, OnOk, OnErr, MatchOption};
+ghost use Rattle.std.specs.Iterator.{UpTo, YieldsFirst, YieldsFirstBy, item_count};
+ghost use Rattle.std.specs.Iterator.SizeHint.{IsWithinCount};
 ghost use Rattle.rart_parts.specs.Entries.{IsAscending, ascending};
 
 use crate::error::TreeError;
@@ -11,6 +13,7 @@ use crate::utils::u8_keys::{
     u8_keys_find_insert_position_sorted, u8_keys_find_key_position_sorted,
 };
 use std::alloc::Global;
+use std::iter::FusedIterator;
 use std::marker::Model;
 
 /// A map from bytes to at most W children, ascending. Only [`SortedKeyedMapping::new`] and the conversions that make
@@ -111,6 +114,16 @@ impl<N, const W: usize> SortedKeyedMapping<N, W> {
         }
     }
 
+    /// The children with their bytes, ascending.
+    pub fn iter(&self) -> SortedKeyedMappingIter<'_, N>
+        ensures { result ≡ self.now }
+    {
+        SortedKeyedMappingIter {
+            keys: &self.keys,
+            children: self.children.as_slice(),
+        }
+    }
+
     /// The bytes ascend: this call does nothing but say so.
     pub fn ascends(&self)
         ensures { IsAscending self.now }
@@ -198,3 +211,122 @@ impl<N, const W: usize> SortedKeyedMapping<N, W> {
         children.destroy_empty();
     }
 }
+
+/// The children of a sorted mapping, each with its byte, ascending. It is seen as the list of those still to come.
+#[derive(Drop)]
+pub struct SortedKeyedMappingIter<'a, N> {
+    // The keys past the children do not count.
+    keys: &'a [u8],
+    children: &'a [N],
+}
+
+impl<'a, N> Model for SortedKeyedMappingIter<'a, N> {
+    ghost use Rattle.std.specs.Prelude.{ℕ, List, length, ◌≤◌};
+    ghost use Rattle.std.specs.Coded.{coded_list, coded×, coded_ℕ};
+    ghost use Rattle.std.specs.List.{zip};
+
+    ghost Value = { List (ℕ × N) };
+
+    ghost coded = { coded_list (coded× coded_ℕ N.code) };
+
+    ghost view = { λ it. zip it.keys.now it.children.now };
+
+    ghost invariant = { λ it. length it.children.now ≤ length it.keys.now };
+}
+
+impl<'a, N> Iterator for SortedKeyedMappingIter<'a, N> {
+    type Item = (u8, &'a N);
+
+    ghost next_gives = { YieldsFirstBy (λ item. (item.0, item.1.now)) (λ rest. rest) };
+
+    ghost remaining = { item_count (λ rest. rest) };
+
+    fn next(&mut self) -> Option<(u8, &'a N)> {
+        match (self.keys.split_first(), self.children.split_first()) {
+            (Some((key, keys)), Some((child, children))) => {
+                self.keys = keys;
+                self.children = children;
+                Some((*key, child))
+            }
+            _ => None,
+        }
+    }
+}
+
+impl<'a, N> FusedIterator for SortedKeyedMappingIter<'a, N> {}
+
+/// The children of a sorted mapping by value, each with its byte, ascending. It is seen as the list of those still to
+/// come, which are dropped with it.
+#[derive(Drop)]
+pub struct SortedKeyedMappingIntoIter<N, const W: usize> {
+    keys: [u8; W],
+    // The place of the next key.
+    at: usize,
+    children: std::vec::IntoIter<N>,
+}
+
+impl<N, const W: usize> Model for SortedKeyedMappingIntoIter<N, W> {
+    ghost use Rattle.std.specs.Prelude.{◌≡◌, ℕ, List, length, drop, ◌+◌, ◌≤◌};
+    ghost use Rattle.std.specs.Coded.{coded_list, coded×, coded_ℕ};
+    ghost use Rattle.std.specs.Vec.Iter.{into_iter_items};
+    ghost use Rattle.std.specs.List.{zip};
+
+    ghost Value = { List (ℕ × N) };
+
+    ghost coded = { coded_list (coded× coded_ℕ N.code) };
+
+    ghost view = { λ it. zip (drop it.at it.keys) (into_iter_items it.children) };
+
+    ghost invariant = { λ it. (length it.keys ≡ W) × (it.at + length (into_iter_items it.children) ≤ W) × (W ≤ 255) };
+}
+
+impl<N: Drop, const W: usize> IntoIterator for SortedKeyedMapping<N, W> {
+    type Item = (u8, N);
+
+    type IntoIter = SortedKeyedMappingIntoIter<N, W>;
+
+    ghost into_iter_gives = { λ m it. it ≡ m };
+
+    fn into_iter(self) -> SortedKeyedMappingIntoIter<N, W> {
+        let SortedKeyedMapping { keys, children } = self;
+        SortedKeyedMappingIntoIter {
+            keys,
+            at: 0,
+            children: children.into_iter(),
+        }
+    }
+}
+
+impl<N: Drop, const W: usize> Iterator for SortedKeyedMappingIntoIter<N, W> {
+    type Item = (u8, N);
+
+    ghost next_gives = { YieldsFirst (λ rest. rest) };
+
+    ghost remaining = { item_count (λ rest. rest) };
+
+    fn next(&mut self) -> Option<(u8, N)> {
+        let Some(child) = self.children.next() else {
+            return None;
+        };
+        let key = self.keys[self.at];
+        self.at += 1;
+        Some((key, child))
+    }
+
+    fn size_hint(&self) -> (usize, Option<usize>)
+        ensures lower { IsWithinCount result.0 (item_count (λ rest. rest) self.now) }
+        ensures upper { IfSome result.1 (UpTo (item_count (λ rest. rest) self.now)) }
+        ensures exact { result ≡ (length self.now, Some (length self.now)) }
+    {
+        let rest = self.children.len();
+        (rest, Some(rest))
+    }
+}
+
+impl<N: Drop, const W: usize> ExactSizeIterator for SortedKeyedMappingIntoIter<N, W> {
+    fn len(&self) -> usize {
+        self.children.len()
+    }
+}
+
+impl<N: Drop, const W: usize> FusedIterator for SortedKeyedMappingIntoIter<N, W> {}

@@ -2,6 +2,7 @@
 //! value or without: a map from positions below its width.
 
 mod iter;
+mod iter_mut;
 
 ghost use Rattle.std.specs.Prelude.{◌≡◌, ℕ, [], ◌<◌, ◌≤◌, ◌^◌, ◌↔◌, not, Bool, false, length, IfErr, IfOk, IsTrue, MatchOption, OnSome, Option, Some, None, slice_index_or, slice_set, replicate};
 ghost use Rattle.std.specs.Option.{option_copied, option_copied_mut};
@@ -12,6 +13,7 @@ use crate::error::TreeError;
 use crate::utils::bitset::BitsetTrait;
 use crate::utils::places::{fill_place, free_places};
 pub use iter::{BitArrayIter, BitArrayKeys};
+pub use iter_mut::BitArrayIterMut;
 use std::alloc::Global;
 use std::marker::Model;
 
@@ -123,6 +125,21 @@ impl<X, const RANGE_WIDTH: usize, B: BitsetTrait> BitArray<X, RANGE_WIDTH, B> {
         ensures { option_copied result ≡ slice_index_or self.now position None }
     {
         self.places[position].as_ref()
+    }
+
+    /// The places, in order.
+    pub(crate) fn as_slice(&self) -> &[Option<X>]
+        ensures { result.now ≡ self.now }
+    {
+        self.places.as_slice()
+    }
+
+    /// The set of the used places.
+    pub(crate) fn used(&self) -> &B
+        ensures covers { RANGE_WIDTH ≤ B.CAPACITY }
+        ensures same { (k : ℕ) → k < RANGE_WIDTH → B.has result.now k ≡ is_used self.now k }
+    {
+        &self.bitset
     }
 
     /// Puts a value at a place. An old value there is dropped.

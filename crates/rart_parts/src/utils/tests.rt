@@ -1,10 +1,13 @@
+use crate::counted::Counted;
 use crate::error::TreeError;
+use crate::refusals::{refuse, was_refused};
 use crate::utils::bitarray::BitArray;
 use crate::utils::bitset::{Bitset8, Bitset16, Bitset64, BitsetTrait};
 use crate::utils::u8_keys::{
     u8_keys_find_insert_position_sorted, u8_keys_find_key_position,
     u8_keys_find_key_position_sorted,
 };
+use std::cell::Cell;
 use std::test::Fail;
 
 #[test]
@@ -152,5 +155,90 @@ fn errors_say_what_was_refused(rt: HostRuntime) -> Result<(), Fail> {
         format!(in alloc; "{}", TreeError::Full)?.as_str(),
         "tree is full"
     );
+    Ok(())
+}
+
+#[test]
+fn a_value_put_over_another_drops_that_once(rt: HostRuntime) -> Result<(), Fail> {
+    let drops = Cell::new(0usize);
+    let mut array: BitArray<Counted<'_>, 48, Bitset64<1>> = BitArray::new(rt.alloc())?;
+    for position in 0..48usize {
+        array.set(position, Counted(1, &drops));
+    }
+    assert_eq!(rt; drops.get(), 0);
+    array.set(3, Counted(2, &drops));
+    assert_eq!(rt; drops.get(), 1);
+    assert_eq!(rt; array.push(Counted(3, &drops)), None);
+    assert_eq!(rt; drops.get(), 2);
+    drop(array);
+    assert_eq!(rt; drops.get(), 50);
+    Ok(())
+}
+
+#[test]
+fn a_new_array_refused_in_turn(rt: HostRuntime) {
+    let alloc = rt.alloc();
+    for at in 1..100usize {
+        refuse(alloc, at);
+        let answer: Result<BitArray<u8, 48, Bitset64<1>>, TreeError> = BitArray::new(alloc);
+        if !was_refused(alloc) {
+            assert!(rt; answer.is_ok());
+            break;
+        }
+        assert_eq!(rt; answer.err(), Some(TreeError::Memory), "request {at}");
+    }
+}
+
+// Where a key would be put in among 3, 9 and 17, and where it is.
+fn places_of(key: u8) -> (Option<usize>, Option<usize>) {
+    let keys = [3u8, 9, 17];
+    (
+        u8_keys_find_insert_position_sorted::<16>(key, &keys, 3),
+        u8_keys_find_key_position_sorted::<16>(key, &keys, 3),
+    )
+}
+
+#[test]
+fn keys_are_found_by_halves(rt: HostRuntime) {
+    assert_eq!(rt; places_of(10), (Some(2), None));
+    assert_eq!(rt; places_of(20), (Some(3), None));
+    assert_eq!(rt; places_of(9), (Some(2), Some(1)));
+}
+
+#[test]
+fn values_are_changed_on_a_walk_from_both_ends(rt: HostRuntime) -> Result<(), Fail> {
+    let mut array: BitArray<u8, 48, Bitset64<1>> = BitArray::new(rt.alloc())?;
+    array.set(3, 1);
+    array.set(7, 2);
+    array.set(40, 3);
+    let mut walk = array.iter_mut();
+    match walk.next() {
+        Some((position, value)) => {
+            assert_eq!(rt; (position, *value), (3, 1));
+            *value = 31;
+        }
+        None => assert!(rt; false, "place 3"),
+    }
+    match walk.next_back() {
+        Some((position, value)) => {
+            assert_eq!(rt; (position, *value), (40, 3));
+            *value = 33;
+        }
+        None => assert!(rt; false, "place 40"),
+    }
+    match walk.next() {
+        Some((position, value)) => {
+            assert_eq!(rt; (position, *value), (7, 2));
+            *value = 32;
+        }
+        None => assert!(rt; false, "place 7"),
+    }
+    assert!(rt; walk.next().is_none());
+    assert!(rt; walk.next_back().is_none());
+    assert!(rt; walk.next().is_none());
+    assert_eq!(rt; array.get(3).copied(), Some(31));
+    assert_eq!(rt; array.get(7).copied(), Some(32));
+    assert_eq!(rt; array.get(40).copied(), Some(33));
+    assert_eq!(rt; array.size(), 3);
     Ok(())
 }

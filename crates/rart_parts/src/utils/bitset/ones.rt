@@ -4,6 +4,7 @@ ghost use Rattle.std.specs.Iterator.{YieldsFirst, item_count};
 ghost use Rattle.rart_parts.specs.Bits.{words_have, members};
 
 use crate::utils::bitset::{Bitset, BitsetTrait, BitsetWord};
+use std::iter::FusedIterator;
 use std::marker::Model;
 
 /// The positions of a set, ascending, seen as the list of those that are still to come.
@@ -51,3 +52,5 @@ impl<W: BitsetWord, const S: usize> Iterator for BitsetOnesIter<W, S> {
         Some(position)
     }
 }
+
+impl<W: BitsetWord, const S: usize> FusedIterator for BitsetOnesIter<W, S> {}

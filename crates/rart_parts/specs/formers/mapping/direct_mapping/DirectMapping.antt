@@ -13,7 +13,6 @@ use denote.Hole.Fix.{over}
 use denote.Param.Weighed.{Weighed, w_list, w_pair, w_const}
 use denote.Model.Placed.{held, view_places}
 use Rattle.std.specs.contracts.option.Option as option
-use Rattle.std.specs.declared.vec.Vec.{Vec}
 use Rattle.std.specs.formers.vec.Vec as vec
 use Rattle.std.specs.declared.alloc.Global.{Global}
 use Rattle.std.specs.contracts.alloc.Global as heap

@@ -6,7 +6,7 @@ use native.Mathlib.Nat.{ℕ_set}
 use native.Mathlib.Bridge.{le_prop}
 use lib.ListN.{length-map}
 use Rattle.std.specs.Coded.{coded_option}
-use base.Stored.{gcons, coded_list, coded_ℕ, coded×, coded_bool, code_map, Coded-set}
+use base.Stored.{gcons, coded_ℕ, coded×, coded_bool, code_map, Coded-set}
 use denote.RattleType.{RattleType}
 use denote.Param.{value_of}
 use denote.HoleLaws.{Alike}
@@ -25,7 +25,7 @@ use Rattle.rart_parts.specs.formers.utils.bitarray.BitArray as places
 use Rattle.rart_parts.specs.formers.utils.bitarray.BitArray.{place}
 use Rattle.rart_parts.specs.Entries.{children_of, with_another, ascending}
 use Rattle.rart_parts.specs.EntryShapes.{entry, on_value}
-use Rattle.rart_parts.specs.Places.{is_used, numbered}
+use Rattle.rart_parts.specs.Places.{numbered}
 use Rattle.rart_parts.specs.Indexed.{IsIndex, IsIndexed, with_bytes, byte_of}
 use Rattle.rart_parts.specs.formers.mapping.direct_mapping.DirectMapping.{numbered-map}
 
@@ -84,7 +84,7 @@ with_another-map h k x (e ∷ es) =
       | false ↦ refl
     ]
 
-ascending-map : {X Y : Type 0} (h : X → Y) (es : List (ℕ × X)) → ascending (map (on_value h) es) ≡ map (on_value h) (ascending es)
+pub ascending-map : {X Y : Type 0} (h : X → Y) (es : List (ℕ × X)) → ascending (map (on_value h) es) ≡ map (on_value h) (ascending es)
 ascending-map h [] = refl
 ascending-map h (e ∷ es) = ap (with_another e.0 (h e.1)) (ascending-map h es) ∙ with_another-map h e.0 e.1 (ascending es)
 

@@ -19,7 +19,6 @@ use denote.Model.Placed.{held, view_places_where}
 use Rattle.rart_parts.specs.Entries.{children_of as values_of, StartsAbove, IsAscending}
 use Rattle.rart_parts.specs.EntryShapes.{entry, on_value}
 use Rattle.rart_parts.specs.SortedKeyed.{IsSortedKeyed}
-use Rattle.std.specs.declared.vec.Vec.{Vec}
 use Rattle.std.specs.formers.vec.Vec as vec
 use Rattle.std.specs.declared.alloc.Global.{Global}
 use Rattle.std.specs.contracts.alloc.Global as heap

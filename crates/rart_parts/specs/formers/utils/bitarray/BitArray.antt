@@ -1,25 +1,22 @@
 -- `BitArray` as a type that may hold the type that holds it, by its values.
-use Rattle.std.specs.Prelude.{◌≡◌, ℕ, zero, suc, ◌<◌, max, Bool, List, [], ◌∷◌, map, length, Option, None, Some}
-use mathlib.Core.Path.{refl, sym, ap, subst, ◌∙◌}
+use Rattle.std.specs.Prelude.{◌≡◌, ℕ, zero, suc, Bool, List, [], ◌∷◌, map, Option, None, Some}
+use mathlib.Core.Path.{refl, sym, ap, ◌∙◌}
 use mathlib.Core.Logic.{◌⊎◌, inl, inr}
-use mathlib.Core.HLevel.{×_prop, Π_prop}
-use mathlib.Core.Former.{Former, Count, Row, one_more, this, const, pair, or, list, list_count, list_put, via, children}
+use mathlib.Core.Former.{Former, this, const, pair, or, list, via, children}
 use native.Mathlib.Nat.{ℕ_set}
 use native.Mathlib.Bridge.{le_prop}
 use lib.ListN.{length-map}
 use base.Stored.{gcons, gnum, code_map, Coded-set, coded_bool}
 use denote.RattleType.{RattleType}
 use denote.Param.{value_of}
-use denote.Param.Nested.{deepest}
 use denote.HoleLaws.{Alike}
 use denote.HolePlaces.{Recodes, struct_places, enum_places, eachs, laid}
 use denote.Hole.Carrier.{listed}
 use denote.Hole.Fix.{over}
-use denote.Param.Weighed.{Weighed, most, List-puts, w_or, w_const, w_via, w_list}
+use denote.Param.Weighed.{Weighed, w_or, w_const, w_via, w_list}
 use denote.Model.Placed.{view_places}
 use Rattle.std.specs.Coded.{coded_option}
 use Rattle.std.specs.contracts.option.Option as option
-use Rattle.std.specs.declared.vec.Vec.{Vec}
 use Rattle.std.specs.formers.vec.Vec as vec
 use Rattle.std.specs.declared.alloc.Global.{Global}
 use Rattle.std.specs.contracts.alloc.Global as heap

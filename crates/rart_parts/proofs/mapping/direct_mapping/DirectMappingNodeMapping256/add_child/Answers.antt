@@ -1,4 +1,4 @@
-use Rattle.std.proofs.Common.{◌≡◌, None, sym, ap, ◌∙◌, get_or, set, arith}
+use Rattle.std.proofs.Common.{None, sym, ap, ◌∙◌, set, arith}
 use Rattle.rart_parts.specs.Places.{numbered}
 use Rattle.rart_parts.specs.Entries.{child_at, with_child}
 use Rattle.rart_parts.proofs.DirectLemmas.{numbered_child, numbered-put, direct_put, place_reads}

@@ -1,8 +1,7 @@
 use Rattle.std.proofs.Common.{◌≡◌, None, Some, sym, ap, ◌∙◌, get_or, set, arith}
 use Rattle.rart_parts.specs.Places.{numbered}
-use Rattle.rart_parts.specs.Entries.{child_at, without}
+use Rattle.rart_parts.specs.Entries.{without}
 use Rattle.rart_parts.proofs.DirectLemmas.{numbered_child, numbered-taken, direct_taken, direct_without, place_reads}
-use Rattle.rart_parts.proofs.EntryLemmas.{without_absent}
 use Rattle.rart_parts.proofs.mapping.direct_mapping.DirectMappingNodeMapping256.delete_child.Goals as goal
 
 pub returns-in_default-clause-taken : goal.returns-in_default-clause-taken

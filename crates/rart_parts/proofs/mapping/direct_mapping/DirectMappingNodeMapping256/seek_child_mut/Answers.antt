@@ -1,4 +1,4 @@
-use Rattle.std.proofs.Common.{◌≡◌, None, Some, sym, ap, ◌∙◌, get_or, set, refl, arith, subst}
+use Rattle.std.proofs.Common.{◌≡◌, None, Some, sym, ap, ◌∙◌, get_or, refl, arith, subst}
 use Rattle.rart_parts.specs.Entries.{replaced}
 use Rattle.rart_parts.specs.Places.{numbered}
 use Rattle.rart_parts.specs.Direct.{IsDirect}

@@ -1,4 +1,4 @@
-use Rattle.std.proofs.Common.{◌≡◌, ◌∙◌, ap}
+use Rattle.std.proofs.Common.{◌∙◌, ap}
 use Rattle.rart_parts.specs.Entries.{ascending}
 use Rattle.rart_parts.specs.Places.{values_in}
 use Rattle.rart_parts.proofs.FreedLemmas.{index_valueless}

@@ -1,4 +1,4 @@
-use Rattle.std.proofs.Common.{◌≡◌, ◌++◌, ◌∷◌, ◌∙◌, [], length, sym, ap, arith}
+use Rattle.std.proofs.Common.{◌≡◌, ◌++◌, ◌∷◌, ◌∙◌, [], sym, ap, arith}
 use Rattle.rart_parts.specs.Entries.{ascending}
 use Rattle.rart_parts.proofs.MoveLemmas.{taken_absent, taken_next, taken_room}
 use Rattle.rart_parts.proofs.mapping.indexed_mapping.IndexedMapping.fill_from_sorted_keyed.Goals as goal

@@ -1,4 +1,4 @@
-use Rattle.std.proofs.Common.{◌≡◌, ◌∙◌, ap}
+use Rattle.std.proofs.Common.{◌∙◌, ap}
 use Rattle.rart_parts.specs.Entries.{ascending}
 use Rattle.rart_parts.specs.Indexed.{with_bytes}
 use Rattle.rart_parts.proofs.IndexLemmas.{indexed_start, map_start}

@@ -1,8 +1,7 @@
-use Rattle.std.proofs.Common.{◌≡◌, ◌<◌, ◌≤◌, ◌∙◌, ◌∷◌, ℕ, false, None, Some, sym, ap, get_or, length, arith, subst, ⊎_elim, refl}
+use Rattle.std.proofs.Common.{◌∙◌, ◌∷◌, Some, sym, ap, arith, subst, ⊎_elim, refl}
 use Rattle.std.specs.Prelude.{IsSome}
 use Rattle.std.proofs.lemmas.Bool.{cases_lt}
-use Rattle.rart_parts.specs.Entries.{child_at, ascending, without, IsAscending}
-use Rattle.rart_parts.specs.Places.{is_used}
+use Rattle.rart_parts.specs.Entries.{child_at, ascending, IsAscending}
 use Rattle.rart_parts.proofs.PlaceLemmas.{free_read, past_used, used_read}
 use Rattle.rart_parts.proofs.IndexLemmas.{indexed_none, indexed_some, map_of_ascends}
 use Rattle.rart_parts.proofs.MoveLemmas.{first_entry, empty_map}

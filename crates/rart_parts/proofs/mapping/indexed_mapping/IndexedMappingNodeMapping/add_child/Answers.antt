@@ -1,6 +1,5 @@
-use Rattle.std.proofs.Common.{◌≡◌, ◌∙◌, None, Some, Bool, true, false, sym, ap, get_or, set, length, arith}
+use Rattle.std.proofs.Common.{◌∙◌, ap, length, arith}
 use Rattle.rart_parts.specs.Entries.{child_at, with_child, ascending}
-use Rattle.rart_parts.specs.Places.{is_used}
 use Rattle.rart_parts.specs.Indexed.{with_bytes}
 use Rattle.rart_parts.proofs.IndexLemmas.{absent_unnamed, indexed_put, map_put, slot_free, some_first, not_true}
 use Rattle.rart_parts.proofs.mapping.indexed_mapping.IndexedMappingNodeMapping.add_child.Goals as goal

@@ -1,5 +1,5 @@
-use Rattle.std.proofs.Common.{◌≡◌, ◌∙◌, None, Some, sym, ap, get_or, set, arith}
-use Rattle.rart_parts.specs.Entries.{child_at, without, ascending}
+use Rattle.std.proofs.Common.{◌∙◌, None, sym, ap, arith}
+use Rattle.rart_parts.specs.Entries.{without, ascending}
 use Rattle.rart_parts.specs.Indexed.{with_bytes}
 use Rattle.rart_parts.proofs.EntryLemmas.{without_absent}
 use Rattle.rart_parts.proofs.PlaceLemmas.{set_same}

@@ -1,5 +1,4 @@
-use Rattle.std.proofs.Common.{◌≡◌, ◌∙◌, None, Some, sym, ap, get_or, arith}
-use Rattle.rart_parts.specs.Entries.{child_at, ascending}
+use Rattle.std.proofs.Common.{◌∙◌, sym, arith}
 use Rattle.rart_parts.proofs.IndexLemmas.{indexed_none, indexed_some, slot_within}
 use Rattle.rart_parts.proofs.mapping.indexed_mapping.IndexedMappingNodeMapping.seek_child.Goals as goal
 

@@ -1,5 +1,5 @@
-use Rattle.std.proofs.Common.{◌≡◌, ◌∙◌, None, Some, sym, ap, get_or, set, refl, subst, arith}
-use Rattle.rart_parts.specs.Entries.{child_at, replaced, ascending}
+use Rattle.std.proofs.Common.{◌∙◌, sym, ap, refl, subst, arith}
+use Rattle.rart_parts.specs.Entries.{replaced, ascending}
 use Rattle.rart_parts.specs.Indexed.{with_bytes, IsIndexed}
 use Rattle.rart_parts.proofs.PlaceLemmas.{used_read}
 use Rattle.rart_parts.proofs.SortedLemmas.{on_any}

@@ -1,4 +1,4 @@
-use Rattle.std.proofs.Common.{◌≡◌, ◌≤◌, ◌++◌, ◌∙◌, [], take, drop, length, sym, ap, arith}
+use Rattle.std.proofs.Common.{◌≡◌, ◌++◌, ◌∙◌, drop, length, ap, arith}
 use Rattle.std.specs.List.{zip}
 use Rattle.rart_parts.proofs.SortedLemmas.{counted, no_entries, no_items, emptied, resized, resized_zip}
 use Rattle.rart_parts.proofs.mapping.sorted_keyed_mapping.SortedKeyedMapping.fill_from_resized.Goals as goal

@@ -1,4 +1,4 @@
-use Rattle.std.proofs.Common.{◌≡◌, ◌∙◌, ◌++◌, ◌∷◌, [], length, get_or, sym, ap, arith}
+use Rattle.std.proofs.Common.{◌∙◌, ◌++◌, ◌∷◌, [], get_or, sym, ap}
 use Rattle.std.specs.List.{zip}
 use Rattle.rart_parts.proofs.SortedLemmas.{last_entry, popped, no_entries}
 use Rattle.rart_parts.proofs.mapping.sorted_keyed_mapping.SortedKeyedMapping.take_last.Goals as goal

@@ -1,5 +1,4 @@
-use Rattle.std.proofs.Common.{◌≡◌, [], ◌∷◌, length, sym, ap, ◌∙◌, arith}
-use Rattle.std.specs.List.{zip}
+use Rattle.std.proofs.Common.{sym, ◌∙◌, arith}
 use Rattle.rart_parts.proofs.SortedLemmas.{counted, no_entries, emptied, only_entry}
 use Rattle.rart_parts.proofs.mapping.sorted_keyed_mapping.SortedKeyedMapping.take_value_for_leaf.Goals as goal
 

@@ -1,4 +1,4 @@
-use Rattle.std.proofs.Common.{◌≡◌, ◌∙◌, ◌+◌, ◌-◌, ◌<◌, Some, sym, ap, arith, length, get_or, set}
+use Rattle.std.proofs.Common.{◌∙◌, ap, arith, length, set}
 use Rattle.std.specs.List.{zip}
 use Rattle.std.proofs.lemmas.List.{length-set}
 use Rattle.std.proofs.lemmas.List.Edits.{length-insert}

@@ -1,7 +1,6 @@
-use Rattle.std.proofs.Common.{◌≡◌, ◌∙◌, ◌+◌, ◌-◌, sym, ap, arith, length, get_or}
+use Rattle.std.proofs.Common.{◌≡◌, ◌∙◌, ◌+◌, ◌-◌, sym, ap, arith, get_or}
 use Rattle.std.specs.Prelude.{remove}
 use Rattle.std.specs.List.{zip}
-use Rattle.std.proofs.lemmas.List.Edits.{length-remove}
 use Rattle.rart_parts.specs.Entries.{without}
 use Rattle.rart_parts.proofs.EntryLemmas.{without_absent}
 use Rattle.rart_parts.proofs.Zipped.{child_found, child_none, removed}

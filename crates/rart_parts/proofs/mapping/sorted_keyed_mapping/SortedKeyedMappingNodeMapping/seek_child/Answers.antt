@@ -1,5 +1,4 @@
-use Rattle.std.proofs.Common.{sym, ◌∙◌, subst, arith}
-use Rattle.rart_parts.specs.Keys.{IsPlaceOf}
+use Rattle.std.proofs.Common.{sym, ◌∙◌, arith}
 use Rattle.rart_parts.proofs.Zipped.{child_found, child_none}
 use Rattle.rart_parts.proofs.SortedLemmas.{fits, ordered}
 use Rattle.rart_parts.proofs.mapping.sorted_keyed_mapping.SortedKeyedMappingNodeMapping.seek_child.Goals as goal

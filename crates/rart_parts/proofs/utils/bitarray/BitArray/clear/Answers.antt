@@ -1,4 +1,4 @@
-use Rattle.std.proofs.Common.{◌≡◌, ◌∙◌, arith}
+use Rattle.std.proofs.Common.{◌∙◌, arith}
 use Rattle.rart_parts.proofs.PlaceLemmas.{freed_more, all_free, array_at_start}
 use Rattle.std.proofs.lemmas.List.{length-set}
 use Rattle.rart_parts.proofs.utils.bitarray.BitArray.clear.Goals as goal

@@ -1,4 +1,4 @@
-use Rattle.std.proofs.Common.{◌≡◌, ◌∙◌, None, false, sym, ap, set, arith}
+use Rattle.std.proofs.Common.{◌≡◌, ◌∙◌, None, false, sym, ap, arith}
 use Rattle.rart_parts.specs.Places.{is_used}
 use Rattle.rart_parts.proofs.PlaceLemmas.{array_with, free_read}
 use Rattle.rart_parts.proofs.DirectLemmas.{place_reads}

@@ -1,4 +1,3 @@
-use Rattle.std.proofs.Common.{ap, ◌∙◌}
 use Rattle.rart_parts.proofs.Words.{none_have}
 use Rattle.rart_parts.proofs.utils.bitset.set.Bitset.new.Goals as goal
 

@@ -1,7 +1,7 @@
-use Rattle.std.proofs.Common.{◌≡◌, ◌<◌, ◌*◌, ◌/◌, ◌&&◌, Bool, ltb, ℕ, ◌≤◌, true, false, sym, ap, ◌∙◌, subst, arith}
-use Rattle.std.proofs.lemmas.Bool.{lt-ltb, le-ltb, cases_lt}
+use Rattle.std.proofs.Common.{◌<◌, ◌*◌, ◌/◌, ◌&&◌, ltb, ℕ, ◌≤◌, sym, ap, ◌∙◌, subst, arith}
+use Rattle.std.proofs.lemmas.Bool.{lt-ltb, le-ltb}
 use Rattle.std.proofs.Math.Nat.{div-lt_iff_lt-mul, le-div_iff_mul-le}
-use Rattle.rart_parts.specs.Bits.{has_bit, words_have}
+use Rattle.rart_parts.specs.Bits.{words_have}
 use Rattle.rart_parts.proofs.Masks.{mask_more, mask_same}
 use Rattle.rart_parts.proofs.utils.bitset.set.BitsetBitsetTrait.as_bitmask.Goals as goal
 use Rattle.rart_parts.proofs.utils.bitset.set.BitsetBitsetTrait.as_bitmask.Goals.{then-position-WIDTH+then-check, else-position-WIDTH, else-position-WIDTH-via-then-position-WIDTH+else-check, else-position-WIDTH-via-else-position-WIDTH}

@@ -1,4 +1,4 @@
-use Rattle.std.proofs.Common.{◌≡◌, ℕ, ◌<◌, ◌*◌, ◌&&◌, ltb}
+use Rattle.std.proofs.Common.{◌≡◌, ℕ, ◌*◌, ◌&&◌, ltb}
 use Rattle.rart_parts.specs.Bits.{has_bit, words_have}
 use Rattle.rart_parts.proofs.utils.bitset.set.BitsetBitsetTrait.as_bitmask.Given as goal
 

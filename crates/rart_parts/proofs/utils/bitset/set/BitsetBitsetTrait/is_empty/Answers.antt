@@ -1,6 +1,6 @@
-use Rattle.std.proofs.Common.{◌≡◌, ℕ, ◌<◌, ◌+◌, ◌*◌, Bool, true, false, Option, Some, None, is_some, sym, ◌∙◌, rules}
+use Rattle.std.proofs.Common.{◌≡◌, ℕ, ◌<◌, Bool, true, false, Option, Some, None, is_some, sym, ◌∙◌, rules}
 use Rattle.std.proofs.lemmas.Bool.{false≢true}
-use Rattle.rart_parts.specs.Bits.{has_bit, IsFirst}
+use Rattle.rart_parts.specs.Bits.{IsFirst}
 use Rattle.rart_parts.proofs.Words.{below_more, first_found}
 use Rattle.rart_parts.proofs.utils.bitset.set.BitsetBitsetTrait.is_empty.Goals as goal
 

@@ -1,4 +1,4 @@
-use Rattle.std.proofs.Common.{◌≡◌, ◌<◌, ◌-◌, ◌+◌, rules, arith}
+use Rattle.std.proofs.Common.{◌-◌, rules, arith}
 use Rattle.rart_parts.proofs.Words.{above_more, last_found}
 use Rattle.rart_parts.proofs.utils.bitset.set.BitsetBitsetTrait.last.Goals as goal
 

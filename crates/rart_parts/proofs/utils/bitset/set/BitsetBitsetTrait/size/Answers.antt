@@ -1,5 +1,4 @@
-use Rattle.std.proofs.Common.{◌≡◌, ◌+◌, ◌*◌, length, rules, arith}
-use Rattle.rart_parts.specs.Bits.{members, words_have}
+use Rattle.std.proofs.Common.{rules, arith}
 use Rattle.rart_parts.proofs.Words.{size_more, size_below}
 use Rattle.rart_parts.proofs.utils.bitset.set.BitsetBitsetTrait.size.Goals as goal
 

@@ -1,4 +1,4 @@
-use Rattle.std.proofs.Common.{arith, ap, ◌∙◌}
+use Rattle.std.proofs.Common.{arith}
 use Rattle.rart_parts.proofs.WordBits.{bit_lowest_unset, all_ones}
 use Rattle.rart_parts.proofs.utils.bitset.word.BitsetWord.lowest_unset.Goals as goal
 

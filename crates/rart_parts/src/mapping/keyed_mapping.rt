@@ -1,0 +1,183 @@
+//! A map from bytes to children with its keys in slots, in no order, beside its children. It is seen as the list of its
+//! children in the order of their slots, each with its byte; what callers learn is that list in the order of the bytes.
+
+ghost use Rattle.std.specs.Prelude.{◌≡◌, ℕ, [], ◌<◌, ◌≤◌, ◌^◌, length, IfErr, IfOk, OnOk, OnErr, MatchOption};
+ghost use Rattle.rart_parts.specs.Bits.{IsFirst};
+ghost use Rattle.rart_parts.specs.Entries.{IsAscending, ascending, child_at, without};
+ghost use Rattle.rart_parts.specs.Keys.{is_held};
+ghost use Rattle.rart_parts.specs.Places.{is_used};
+
+use crate::error::TreeError;
+use crate::mapping::NodeMapping;
+use crate::utils::bitarray::BitArray;
+use crate::utils::bitset::BitsetTrait;
+use crate::utils::places::free_places;
+use crate::utils::u8_keys::u8_keys_find_key_position;
+use std::alloc::Global;
+use std::marker::Model;
+
+/// A map from bytes to at most W children. Only [`KeyedMapping::new`] and the conversion that makes one take memory.
+#[derive(Drop)]
+pub struct KeyedMapping<N, const W: usize, B: BitsetTrait> {
+    // The key of each slot; 255 where the slot is free.
+    keys: [u8; W],
+    children: BitArray<N, W, B>,
+    num_children: usize,
+}
+
+impl<N, const W: usize, B: BitsetTrait> Model for KeyedMapping<N, W, B> {
+    ghost use Rattle.std.specs.Prelude.{ℕ, List};
+    ghost use Rattle.std.specs.Coded.{coded_list, coded×, coded_ℕ};
+    ghost use Rattle.rart_parts.specs.Keyed.{IsKeyed, with_keys};
+
+    ghost Value = { List (ℕ × N) };
+
+    ghost coded = { coded_list (coded× coded_ℕ N.code) };
+
+    ghost view = { λ m. with_keys m.keys m.children };
+
+    ghost invariant = { λ m. IsKeyed W m.keys m.children m.num_children };
+}
+
+impl<N, const W: usize, B: BitsetTrait> KeyedMapping<N, W, B> {
+    /// A map with no child. It takes memory for W children at once.
+    pub fn new(alloc: Global) -> Result<Self, TreeError>
+        requires narrow { W ≤ 255 }
+        requires covers { W ≤ B.CAPACITY }
+        requires fits { B.CAPACITY < 2 ^ 64 }
+        ensures ok { IfOk result (λ m. ascending m ≡ []) }
+        ensures err { IfErr result (λ e. e ≡ TreeError.Memory) }
+    {
+        let children = BitArray::new(alloc)?;
+        Ok(KeyedMapping {
+            keys: [255; W],
+            children,
+            num_children: 0,
+        })
+    }
+
+    /// Takes the children of a keyed mapping of a smaller width over. A refusal leaves that mapping as it was.
+    pub fn from_resized_grow<const U: usize, C: BitsetTrait>(
+        alloc: Global,
+        source: &mut KeyedMapping<N, U, C>,
+    ) -> Result<Self, TreeError>
+        requires wider { U < W }
+        requires narrow { W ≤ 255 }
+        requires covers { W ≤ B.CAPACITY }
+        requires fits { B.CAPACITY < 2 ^ 64 }
+        ensures ok { IfOk result (λ m. ascending m ≡ ascending source.old) }
+        ensures emptied { OnOk result (ascending source.new ≡ []) }
+        ensures err { IfErr result (λ e. e ≡ TreeError.Memory) }
+        ensures refused { OnErr result (source.new ≡ source.old) }
+    {
+        let mut map = KeyedMapping::new(alloc)?;
+        source.fits_width();
+        map.fill_from_resized(source);
+        Ok(map)
+    }
+
+    /// Moves the children of a keyed mapping in, slot by slot. It takes no memory.
+    pub fn fill_from_resized<const U: usize, C: BitsetTrait>(
+        &mut self,
+        source: &mut KeyedMapping<N, U, C>,
+    )
+        requires empty { ascending self.old ≡ [] }
+        requires room { length (ascending source.old) ≤ W }
+        ensures filled { ascending self.new ≡ ascending source.old }
+        ensures emptied { ascending source.new ≡ [] }
+    {
+        source.fits_width();
+        while let Some((key, child)) = source.take_any() {
+            self.add_child(key, child);
+        }
+    }
+
+    /// There are at most W children, W is at most 255, and no byte has two children: this call does nothing but say so.
+    pub fn fits_width(&self)
+        ensures few { length (ascending self.now) ≤ W }
+        ensures narrow { W ≤ 255 }
+        ensures ascends { IsAscending (ascending self.now) }
+    {
+        let _children = &self.children;
+    }
+
+    /// Takes out the child in the first used slot.
+    pub(crate) fn take_any(&mut self) -> Option<(u8, N)>
+        ensures { MatchOption result ((ascending self.old ≡ []) × (ascending self.new ≡ [])) (λ e. (child_at e.0 (ascending self.old) ≡ Some e.1) × (ascending self.new ≡ without e.0 (ascending self.old))) }
+    {
+        let Some(slot) = self.children.first_used() else {
+            return None;
+        };
+        let key = self.keys[slot];
+        let child = self.delete_child(key).unwrap();
+        Some((key, child))
+    }
+}
+
+impl<N, const W: usize, B: BitsetTrait> NodeMapping<N, W> for KeyedMapping<N, W, B> {
+    ghost map = { ascending };
+
+    fn add_child(&mut self, key: u8, node: N) {
+        let slot = self.children.first_empty().unwrap();
+        self.keys[slot] = key;
+        self.children.put(slot, node);
+        self.num_children += 1;
+    }
+
+    fn seek_child(&self, key: u8) -> Option<&N> {
+        match slot_of(key, &self.keys, &self.children) {
+            Some(slot) => self.children.get(slot),
+            None => None,
+        }
+    }
+
+    fn seek_child_mut(&mut self, key: u8) -> Option<&mut N> {
+        match slot_of(key, &self.keys, &self.children) {
+            Some(slot) => self.children.get_mut(slot),
+            None => None,
+        }
+    }
+
+    fn delete_child(&mut self, key: u8) -> Option<N> {
+        let Some(slot) = slot_of(key, &self.keys, &self.children) else {
+            return None;
+        };
+        self.keys[slot] = 255;
+        self.num_children -= 1;
+        self.children.erase(slot)
+    }
+
+    fn num_children(&self) -> usize {
+        self.num_children
+    }
+}
+
+impl<N, const W: usize, B: BitsetTrait> KeyedMapping<N, W, B> {
+    /// Frees a map with no child. The type of its children need not allow them to be dropped.
+    pub fn destroy_empty(self)
+        requires { ascending self ≡ [] }
+    {
+        let KeyedMapping {
+            keys: _keys,
+            children,
+            num_children: _num_children,
+        } = self;
+        let BitArray {
+            bitset: _bitset,
+            places,
+        } = children;
+        free_places(places);
+    }
+}
+
+// The slot of a key. A free slot holds 255, so that key is sought in used slots alone.
+fn slot_of<N, const W: usize, B: BitsetTrait>(
+    key: u8,
+    keys: &[u8],
+    children: &BitArray<N, W, B>,
+) -> Option<usize>
+    requires { length keys.now ≡ W }
+    ensures { IsFirst (is_held keys.now key (is_used children.now)) W result }
+{
+    u8_keys_find_key_position::<W, B>(key, keys, children.used())
+}
