@@ -5,14 +5,20 @@
 //! every answer is the one of the sorted list of pairs; a refused call changes neither.
 #![tactic(auto)]
 
+mod iter;
 pub mod laws;
+pub mod stats;
 pub mod tree;
 
+pub use crate::stats::{NodeStats, TreeStats, TreeStatsTrait};
 pub use crate::tree::AdaptiveRadixTree;
 pub use rart_keys::{ArrPartial, ArrayKey, KeyTrait, Partial, keys, partials};
 pub use rart_nodes::node::seen::Seen;
+pub use rart_nodes::node::{Iter, SeenIter, ValuesIter};
 pub use rart_nodes::{Count, Refused, Visits, node};
-pub use rart_parts::TreeError;
+pub use rart_parts::{TreeError, mapping, utils};
 
+#[cfg(test)]
+mod node_tests;
 #[cfg(test)]
 mod tests;

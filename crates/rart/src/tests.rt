@@ -3,6 +3,8 @@ use std::alloc::Global;
 use std::process::Abort;
 use std::test::Fail;
 
+mod statistics;
+
 const SIXTEEN: [&[u8]; 16] = [
     b"a", b"b", b"c", b"d", b"e", b"f", b"g", b"h", b"i", b"j", b"k", b"l", b"m", b"n", b"o", b"p",
 ];
@@ -167,17 +169,17 @@ fn texts_of_errors(rt: HostRuntime) -> Result<(), Fail> {
     Ok(())
 }
 
-// A request that asks the preloaded library to refuse the request `at` after it. The C library by
-// itself refuses it, as no block is so large.
-fn refuse(alloc: Global, at: usize) {
+/// A request that asks the preloaded library to refuse the request `at` after it. The C library by
+/// itself refuses it, as no block is so large.
+pub fn refuse(alloc: Global, at: usize) {
     let _ = Vec::<u8>::with_capacity(
         alloc,
         0x5ef0_0000_0000_0000_usize.wrapping_add(at.min(0xffff_ffff)),
     );
 }
 
-// Whether that request was refused since; afterwards none is to be refused.
-fn was_refused(alloc: Global) -> bool {
+/// Whether that request was refused since; afterwards none is to be refused.
+pub fn was_refused(alloc: Global) -> bool {
     Vec::<u8>::with_capacity(alloc, 0x5ef1_0000_0000_0000).is_ok()
 }
 
@@ -252,4 +254,64 @@ fn nodes_with_room_ask_for_nothing(rt: HostRuntime) {
     store(&rt, &mut tree, b"3", 3, None);
     assert!(rt; !was_refused(alloc));
     assert_eq!(rt; tree.get_bytes(b"3"), Some(&3));
+}
+
+fn take(rt: &impl Abort, tree: &mut Tree, bytes: &[u8]) -> Option<u64>
+    requires { length bytes.now ≤ 16 }
+{
+    match tree.remove(key(bytes)) {
+        Ok(value) => value,
+        Err(_refused) => {
+            assert!(rt; false, "refused with ample memory");
+            None
+        }
+    }
+}
+
+fn discard(rt: &impl Abort, tree: &mut Tree, bytes: &[u8]) -> bool
+    requires { length bytes.now ≤ 16 }
+{
+    match tree.delete_k(&key(bytes)) {
+        Ok(found) => found,
+        Err(_refused) => {
+            assert!(rt; false, "refused with ample memory");
+            false
+        }
+    }
+}
+
+#[test]
+fn a_removed_key_is_gone(rt: HostRuntime) {
+    let mut tree = Tree::new(rt.alloc());
+    store(&rt, &mut tree, b"a", 1, None);
+    store(&rt, &mut tree, b"ab", 2, None);
+    assert_eq!(rt; take(&rt, &mut tree, b"a"), Some(1));
+    assert_eq!(rt; tree.get_bytes(b"a"), None);
+    assert_eq!(rt; tree.get_bytes(b"ab"), Some(&2));
+    assert_eq!(rt; take(&rt, &mut tree, b"a"), None);
+    assert_eq!(rt; tree.len(), 1);
+}
+
+#[test]
+fn a_deletion_tells_whether_there_was_a_value(rt: HostRuntime) {
+    let mut tree = Tree::new(rt.alloc());
+    assert!(rt; !discard(&rt, &mut tree, b"missing"));
+    store(&rt, &mut tree, b"leaf", 7, None);
+    assert!(rt; discard(&rt, &mut tree, b"leaf") && tree.is_empty());
+    match tree.delete(key(b"leaf")) {
+        Ok(found) => assert!(rt; !found),
+        Err(_refused) => assert!(rt; false, "refused with ample memory"),
+    }
+}
+
+#[test]
+fn deletions_leave_the_other_keys(rt: HostRuntime) {
+    let mut tree = Tree::new(rt.alloc());
+    store(&rt, &mut tree, b"abc", 1, None);
+    store(&rt, &mut tree, b"abd", 2, None);
+    store(&rt, &mut tree, b"xyz", 3, None);
+    assert!(rt; discard(&rt, &mut tree, b"abc"));
+    assert_eq!(rt; tree.get_bytes(b"abc"), None);
+    assert_eq!(rt; tree.get_bytes(b"abd"), Some(&2));
+    assert_eq!(rt; tree.get_bytes(b"xyz"), Some(&3));
 }

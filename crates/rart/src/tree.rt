@@ -1,8 +1,9 @@
 //! The map: seen as its pairs, ascending by key, and the records of its nodes.
-ghost use Rattle.std.specs.Prelude.{◌≡◌, ◌≢◌, ℕ, ◌+◌, ◌-◌, ◌*◌, ◌<◌, ◌≤◌, ◌↔◌, [], length, max, None, true, IfErr, IfOk, IsTrue, OnErr, OnOk};
+ghost use Rattle.std.specs.Prelude.{◌≡◌, ◌≢◌, ℕ, ◌+◌, ◌-◌, ◌*◌, ◌<◌, ◌≤◌, ◌↔◌, [], length, max, None, is_some, true, IfErr, IfOk, IsTrue, OnErr, OnOk};
 ghost use Rattle.std.specs.Option.{option_copied};
 ghost use Rattle.rart_keys.specs.KeyBytes.{IsWithin};
-ghost use Rattle.rart_keys.specs.SortedMap.{IsAscending, keys_of, lookup, put};
+ghost use Rattle.rart_keys.specs.SortedMap.{IsAscending, keys_of, lookup, put, without};
+ghost use Rattle.rart_nodes.specs.RemoveAsks.{remove_asks};
 ghost use Rattle.rart_nodes.specs.InsertAsks.{insert_asks};
 ghost use Rattle.rart_nodes.specs.Shape.{HasShape};
 ghost use Rattle.rart_nodes.specs.Tree.{tree_nodes, tree_pairs};
@@ -14,6 +15,8 @@ use rart_nodes::{Refused, Visits};
 use rart_parts::TreeError;
 use std::alloc::Global;
 use std::marker::{Model, PhantomData};
+
+mod statistics;
 
 /// The most pairs that a tree holds.
 pub const MAX_PAIRS: usize = usize::MAX / 16;
@@ -179,4 +182,66 @@ impl<K: KeyTrait, V> AdaptiveRadixTree<K, V> {
     {
         self.insert_k(&key, value)
     }
+
+    /// Removes `key` in one pass down, and answers its value.
+    ///
+    /// Refused only where a request for memory was refused, and that comes only where the keys say so:
+    /// the key's node is a leaf whose parent goes from 5, 17 or 49 children to one fewer, and gets
+    /// smaller room. Refused, pairs and nodes are as before. An absent key is never refused.
+    pub fn remove_k(&mut self, key: &K) -> Result<Option<V>, TreeError>
+        ensures pairs { OnOk result (self.new.pairs ≡ without (K.bytes key.now) self.old.pairs) }
+        ensures answer { IfOk result (λ old. old ≡ lookup (K.bytes key.now) self.old.pairs) }
+        ensures refused { OnErr result (self.new ≡ self.old) }
+        ensures error { IfErr result (λ e. e ≡ TreeError.Memory) }
+        ensures memory { OnErr result ((remove_asks (keys_of self.old.pairs) (K.bytes key.now) ≡ true) × (lookup (K.bytes key.now) self.old.pairs ≢ None)) }
+    {
+        let removed = DefaultNode::remove(&mut self.root, self.alloc, key.as_ref())?;
+        if removed.is_some() {
+            self.len -= 1;
+        }
+        Ok(removed)
+    }
+
+    /// Removes `key`, as `remove_k` does.
+    pub fn remove(&mut self, key: K) -> Result<Option<V>, TreeError>
+    where
+        K: Drop,
+        ensures pairs { OnOk result (self.new.pairs ≡ without (K.bytes key) self.old.pairs) }
+        ensures answer { IfOk result (λ old. old ≡ lookup (K.bytes key) self.old.pairs) }
+        ensures refused { OnErr result (self.new ≡ self.old) }
+        ensures error { IfErr result (λ e. e ≡ TreeError.Memory) }
+        ensures memory { OnErr result ((remove_asks (keys_of self.old.pairs) (K.bytes key) ≡ true) × (lookup (K.bytes key) self.old.pairs ≢ None)) }
+    {
+        self.remove_k(&key)
+    }
+
+    /// Removes `key` and drops its value, and answers whether there was one. Refused as `remove_k` is.
+    pub fn delete_k(&mut self, key: &K) -> Result<bool, TreeError>
+    where
+        V: Drop,
+        ensures pairs { OnOk result (self.new.pairs ≡ without (K.bytes key.now) self.old.pairs) }
+        ensures answer { IfOk result (λ found. found ≡ is_some (lookup (K.bytes key.now) self.old.pairs)) }
+        ensures refused { OnErr result (self.new ≡ self.old) }
+        ensures error { IfErr result (λ e. e ≡ TreeError.Memory) }
+        ensures memory { OnErr result ((remove_asks (keys_of self.old.pairs) (K.bytes key.now) ≡ true) × (lookup (K.bytes key.now) self.old.pairs ≢ None)) }
+    {
+        Ok(self.remove_k(key)?.is_some())
+    }
+
+    /// Removes `key`, as `delete_k` does.
+    pub fn delete(&mut self, key: K) -> Result<bool, TreeError>
+    where
+        K: Drop,
+        V: Drop,
+        ensures pairs { OnOk result (self.new.pairs ≡ without (K.bytes key) self.old.pairs) }
+        ensures answer { IfOk result (λ found. found ≡ is_some (lookup (K.bytes key) self.old.pairs)) }
+        ensures refused { OnErr result (self.new ≡ self.old) }
+        ensures error { IfErr result (λ e. e ≡ TreeError.Memory) }
+        ensures memory { OnErr result ((remove_asks (keys_of self.old.pairs) (K.bytes key) ≡ true) × (lookup (K.bytes key) self.old.pairs ≢ None)) }
+    {
+        self.delete_k(&key)
+    }
 }
+
+#[cfg(test)]
+mod tests;

@@ -11,6 +11,10 @@ module _ {A E : Type 0} where
   on_err (Ok x) f p = tt
   on_err (Err x) f p = f p
 
+  pub err-any : {P : Type 0} (r : Result A E) → P → OnErr r P
+  err-any (Ok x) p = tt
+  err-any (Err x) p = p
+
   pub if_ok : {P Q : A → Type 0} (r : Result A E) → ((x : A) → P x → Q x) → IfOk r P → IfOk r Q
   if_ok (Ok x) f p = f x p
   if_ok (Err x) f p = tt

@@ -10,6 +10,8 @@ ghost use Rattle.rart_nodes.specs.Shape.{HasShape, NodeRecord, record_at};
 ghost use Rattle.rart_nodes.specs.Tree.{tree_pairs, tree_nodes, IsCanonicalTree};
 ghost use Rattle.rart_nodes.specs.Trie.{Trie, IsCanonical, look_up, pairs_of, nodes_of, put_trie, remove_trie};
 
+pub mod statistics;
+
 /// A canonical trie is determined by its keys: its pairs ascend, a descent is a look-up in them,
 /// and its nodes are exactly the branch points of its keys.
 pub fn canonical_trie<V>()

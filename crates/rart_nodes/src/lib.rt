@@ -9,6 +9,8 @@ pub mod laws;
 pub mod node;
 mod refused;
 pub mod shape;
+pub mod stats;
 
 pub use count::{Count, Visits};
 pub use refused::Refused;
+pub use stats::{NodeStats, TreeStats};

@@ -12,10 +12,20 @@ use crate::node::storage::Storage;
 use rart_keys::Partial;
 use std::marker::Model;
 
+mod children;
 mod insert;
+mod iter;
 mod look_up;
+mod made;
+mod remove;
 pub mod seen;
+mod statistics;
 pub mod storage;
+mod walk;
+
+pub use children::NodeIter;
+pub use iter::{Iter, SeenIter, ValuesIter};
+pub use made::Node;
 
 /// A node. A child's prefix begins with the byte by which it stands; only the prefix of a root may
 /// be empty.

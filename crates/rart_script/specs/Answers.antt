@@ -1,8 +1,8 @@
 -- What a command prints.
 use Rattle.std.specs.Prelude.{◌≡◌, ℕ, [], ◌∷◌, ◌++◌, ◌⊎◌, List, length, codes, decimal, Option, Some, None}
-use Rattle.rart_keys.specs.SortedMap.{lookup, put}
+use Rattle.rart_keys.specs.SortedMap.{lookup, put, without}
 use Rattle.rart_script.specs.declared.command.Command.{Command}
-use Rattle.rart_script.specs.declared.command.Command.TheVariants.{Nothing, Insert, Get, Len}
+use Rattle.rart_script.specs.declared.command.Command.TheVariants.{Nothing, Insert, Get, Remove, Len}
 
 -- the line for a number
 abbrev pub number_line : ℕ → List ℕ
@@ -30,4 +30,5 @@ abbrev pub IsStep : Command → List (List ℕ × ℕ) → List ℕ → List (Li
 IsStep Nothing old line new = (line ≡ []) × (new ≡ old)
 IsStep (Insert key value) old line new = ((line ≡ value_line (lookup key old)) × (new ≡ put key value old)) ⊎ (IsRefusalLine line × (new ≡ old))
 IsStep (Get key) old line new = (line ≡ value_line (lookup key old)) × (new ≡ old)
+IsStep (Remove key) old line new = ((line ≡ value_line (lookup key old)) × (new ≡ without key old)) ⊎ ((line ≡ memory_line) × (new ≡ old))
 IsStep Len old line new = (line ≡ number_line (length old)) × (new ≡ old)

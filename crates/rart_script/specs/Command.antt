@@ -5,7 +5,7 @@ use Rattle.std.specs.Str.{bytes_eq}
 use Rattle.rart_script.specs.Key.{key_of}
 use Rattle.rart_script.specs.Value.{value_of}
 use Rattle.rart_script.specs.declared.command.Command.{Command}
-use Rattle.rart_script.specs.declared.command.Command.TheVariants.{Nothing, Insert, Get, Len}
+use Rattle.rart_script.specs.declared.command.Command.TheVariants.{Nothing, Insert, Get, Remove, Len}
 
 -- the command of two operands, a key and a value
 abbrev pub insert_of : List (List ℕ) → Option Command
@@ -16,6 +16,11 @@ insert_of _ = None
 abbrev pub get_of : List (List ℕ) → Option Command
 get_of (key ∷ []) = option_map (λ k. Get k) (key_of key)
 get_of _ = None
+
+-- the same of a removal
+abbrev pub remove_of : List (List ℕ) → Option Command
+remove_of (key ∷ []) = option_map (λ k. Remove k) (key_of key)
+remove_of _ = None
 
 -- the command, where no word stands after it
 abbrev pub complete_of : Command → List (List ℕ) → Option Command
@@ -28,5 +33,6 @@ command_of [] = Some Nothing
 command_of (name ∷ operands) =
     if bytes_eq name (codes "insert") then insert_of operands
     else if bytes_eq name (codes "get") then get_of operands
+    else if bytes_eq name (codes "remove") then remove_of operands
     else if bytes_eq name (codes "len") then complete_of Len operands
     else None

@@ -1,6 +1,6 @@
 //! What a line asks for.
 ghost use Rattle.std.specs.Prelude.{◌≡◌};
-ghost use Rattle.rart_script.specs.Command.{insert_of, get_of, complete_of, command_of};
+ghost use Rattle.rart_script.specs.Command.{insert_of, get_of, remove_of, complete_of, command_of};
 ghost use Rattle.rart_script.specs.Words.{words_of};
 
 use crate::key::Key;
@@ -13,6 +13,7 @@ pub enum Command {
     Nothing,
     Insert { key: Key, value: u64 },
     Get { key: Key },
+    Remove { key: Key },
     Len,
 }
 
@@ -27,6 +28,8 @@ pub fn parse_command(line: &[u8]) -> Option<Command>
         parse_insert(operands)
     } else if name == b"get".as_slice() {
         parse_get(operands)
+    } else if name == b"remove".as_slice() {
+        parse_remove(operands)
     } else if name == b"len".as_slice() {
         complete(Command::Len, operands)
     } else {
@@ -50,6 +53,14 @@ fn parse_get(operands: &[u8]) -> Option<Command>
     let (key, rest) = next_word(operands)?;
     let key = Key::parse(key)?;
     complete(Command::Get { key }, rest)
+}
+
+fn parse_remove(operands: &[u8]) -> Option<Command>
+    ensures { result ≡ remove_of (words_of operands.now) }
+{
+    let (key, rest) = next_word(operands)?;
+    let key = Key::parse(key)?;
+    complete(Command::Remove { key }, rest)
 }
 
 /// The command, where no word stands after it.

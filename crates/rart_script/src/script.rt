@@ -104,6 +104,10 @@ fn execute<W: Write>(tree: &mut Tree, command: Command, output: &mut W) -> io::R
             Err(refused) => write_refusal(output, refused.error),
         },
         Command::Get { key } => write_value(output, tree.get_k(key.stored()).copied()),
+        Command::Remove { key } => match tree.remove_k(key.stored()) {
+            Ok(old) => write_value(output, old),
+            Err(error) => write_refusal(output, error),
+        },
         Command::Len => write_number(output, tree.len()),
     }
 }

@@ -3,20 +3,20 @@
 //! This module alone sees the nodes of a shared tree: it shows a node's prefix, value and children
 //! only to a caller that enters it, and each entry adds one to the caller's counter. Look-ups and
 //! walks stand in other modules.
-ghost use Rattle.std.specs.Prelude.{◌≡◌, ◌≤◌, ◌+◌, MatchOption, None, Some, option_map, true};
+ghost use Rattle.std.specs.Prelude.{◌≡◌, ◌≤◌, ◌+◌, ℕ, MatchOption, None, Some, option_map, true};
 ghost use Rattle.std.specs.Option.{option_copied};
 ghost use Rattle.rart_keys.specs.KeyBytes.{IsWithin, IsWithin-prop};
 ghost use Rattle.rart_keys.specs.SortedMap.{count_of};
 ghost use Rattle.rart_nodes.specs.CanonicalTest.{is_canonical, is_canonical_tree, longest_key};
 ghost use Rattle.rart_nodes.specs.SeenTrie.{child_in};
 ghost use Rattle.rart_nodes.specs.Tree.{IsCanonicalTree, tree_pairs};
-ghost use Rattle.rart_nodes.specs.Trie.{pairs_of, prefix_of, value_of};
+ghost use Rattle.rart_nodes.specs.Trie.{child, children_in, no_children, pairs_of, prefix_of, value_of};
 
 use crate::count::Count;
-use crate::node::DefaultNode;
+use crate::node::{DefaultNode, NodeIter};
 use rart_keys::KeyTrait;
 use std::alloc::{AllocError, Global};
-use std::marker::PhantomData;
+use std::marker::{Model, PhantomData};
 
 /// A shared tree, or a part of one, whose reads are counted by a `C`. It stands for the map of the
 /// tree, and never gives its node back.
@@ -57,7 +57,46 @@ impl<'a, K: KeyTrait, V, C> Clone for Entered<'a, K, V, C> {
 
 impl<'a, K: KeyTrait, V, C> Copy for Entered<'a, K, V, C> {}
 
+/// The children of a visited node that are still to be visited.
+#[derive(Drop)]
+pub(crate) struct Branches<'a, K: KeyTrait, V, C> {
+    rest: NodeIter<'a, K::PartialType, V>,
+    alloc: Global,
+    longest: usize,
+    of: PhantomData<(K, C)>,
+}
+
+impl<'a, K: KeyTrait, V, C> Model for Branches<'a, K, V, C> {
+    ghost use Rattle.std.specs.Prelude.{◌≤◌};
+    ghost use Rattle.rart_keys.specs.KeyBytes.{IsWithin};
+    ghost use Rattle.rart_nodes.specs.CanonicalTest.{longest_key};
+    ghost use Rattle.rart_nodes.specs.Trie.{AreCanonical, Children, children_pairs};
+    ghost use Rattle.rart_nodes.specs.TrieCode.{as_children};
+    ghost use Rattle.rart_nodes.specs.TreeWalk.{children_code};
+
+    ghost Value = { Children V };
+
+    ghost coded = { children_code V.code };
+
+    ghost view = { λ b. as_children b.rest };
+
+    ghost invariant = { λ b. AreCanonical 0 (as_children b.rest) × (longest_key (children_pairs (as_children b.rest)) ≤ b.longest) × IsWithin K.MAXIMUM_SIZE b.longest };
+}
+
 impl<'a, K: KeyTrait, V, C> Seen<'a, K, V, C> {
+    /// The allocator of the tree.
+    pub(crate) fn alloc(self) -> Global {
+        self.alloc
+    }
+
+    /// A number that no key of the tree is longer than, within the keys' maximum.
+    pub(crate) fn longest(self) -> usize
+        ensures short { longest_key (tree_pairs (option_copied self.entry.root)) ≤ result }
+        ensures fits { IsWithin K.MAXIMUM_SIZE result }
+    {
+        self.longest
+    }
+
     /// The tree below `root`. Asks nodes that have the shape of their keys, no key longer than
     /// `longest`, and `longest` within the keys' maximum.
     pub fn of(
@@ -122,5 +161,34 @@ impl<'a, K: KeyTrait, V, C> Entered<'a, K, V, C> {
             longest: self.longest,
             of: PhantomData,
         })
+    }
+
+    /// The children, none of them visited.
+    pub(crate) fn branches(self) -> Branches<'a, K, V, C>
+        ensures { result ≡ children_in self.entry.node.now }
+    {
+        Branches {
+            rest: self.node.iter(),
+            alloc: self.alloc,
+            longest: self.longest,
+            of: PhantomData,
+        }
+    }
+}
+
+impl<'a, K: KeyTrait, V, C: Count> Branches<'a, K, V, C> {
+    /// Visits the next child, if there is one, which adds one to the counter.
+    pub(crate) fn enter_next(&mut self, counter: &mut C) -> Option<Entered<'a, K, V, C>>
+        ensures shown { MatchOption result ((self.old ≡ no_children) × (self.new ≡ no_children)) (λ e. (b : ℕ) × (self.old ≡ child b e.node.now self.new)) }
+        ensures counted { C.number counter.new ≡ C.number counter.old + count_of result }
+    {
+        let (_, child) = self.rest.next()?;
+        let seen = Seen {
+            root: Some(child),
+            alloc: self.alloc,
+            longest: self.longest,
+            of: PhantomData,
+        };
+        seen.enter(counter)
     }
 }

@@ -2,13 +2,15 @@
 //! of (byte, child), ascending by byte, and a width.
 ghost use Rattle.std.specs.Prelude.{◌≡◌, ◌<◌, ◌≤◌, [], length, None};
 ghost use Rattle.std.specs.Option.{option_copied};
-ghost use Rattle.rart_parts.specs.Entries.{child_at, with_child};
+ghost use Rattle.rart_parts.specs.Entries.{child_at, with_child, without};
 ghost use Rattle.rart_nodes.specs.Stored.{stored, width_of, room_of};
 
 use rart_parts::mapping::{DirectMapping, IndexedMapping, NodeMapping, SortedKeyedMapping};
 use rart_parts::utils::bitset::Bitset64;
 
 mod room;
+mod shrink;
+pub mod walk;
 
 /// The children of a node. Each kind but the first is a map that holds at most as many children as its
 /// width, on the heap: 4, 16, 48 or 256.
@@ -90,6 +92,21 @@ impl<N> Storage<N> {
             Storage::Full(map) => map.add_child(b, node),
         }
     }
+
+    /// Takes the child at byte `b` out, if one stands there, and keeps the kind. Takes no memory.
+    pub fn delete_within(&mut self, b: u8) -> Option<N>
+        ensures taken { result ≡ child_at b (stored self.old) }
+        ensures stored { stored self.new ≡ without b (stored self.old) }
+        ensures width { width_of self.new ≡ width_of self.old }
+    {
+        match self {
+            Storage::Leaf => None,
+            Storage::Four(map) => map.delete_child(b),
+            Storage::Sixteen(map) => map.delete_child(b),
+            Storage::FortyEight(map) => map.delete_child(b),
+            Storage::Full(map) => map.delete_child(b),
+        }
+    }
 }
 
 impl<N> Storage<N> {
@@ -114,3 +131,6 @@ impl<N> Storage<N> {
         }
     }
 }
+
+#[cfg(test)]
+mod tests;

@@ -12,7 +12,7 @@ use std::alloc::{AllocFailed, Global};
 use std::mem;
 
 /// A sorted map with no child, on the heap.
-fn boxed_sorted<N, const W: usize>(
+pub(super) fn boxed_sorted<N, const W: usize>(
     alloc: Global,
 ) -> Result<Box<SortedKeyedMapping<N, W>>, TreeError>
     requires { W ≤ 255 }
@@ -29,7 +29,9 @@ fn boxed_sorted<N, const W: usize>(
 }
 
 /// An indexed map with no child, on the heap.
-fn boxed_indexed<N>(alloc: Global) -> Result<Box<IndexedMapping<N, 48, Bitset64<1>>>, TreeError>
+pub(super) fn boxed_indexed<N>(
+    alloc: Global,
+) -> Result<Box<IndexedMapping<N, 48, Bitset64<1>>>, TreeError>
     ensures ok { IfOk result (λ m. ascending m.value ≡ []) }
     ensures error { IfErr result (λ e. e ≡ TreeError.Memory) }
 {
@@ -67,6 +69,33 @@ impl<N> Storage<N> {
         Ok(Storage::Four(boxed_sorted(alloc)?))
     }
 
+    /// Storage of width 16, likewise.
+    pub fn new_16(alloc: Global) -> Result<Self, TreeError>
+        ensures stored { IfOk result (λ s. stored s ≡ []) }
+        ensures width { IfOk result (λ s. width_of s ≡ 16) }
+        ensures error { IfErr result (λ e. e ≡ TreeError.Memory) }
+    {
+        Ok(Storage::Sixteen(boxed_sorted(alloc)?))
+    }
+
+    /// Storage of width 48, likewise.
+    pub fn new_48(alloc: Global) -> Result<Self, TreeError>
+        ensures stored { IfOk result (λ s. stored s ≡ []) }
+        ensures width { IfOk result (λ s. width_of s ≡ 48) }
+        ensures error { IfErr result (λ e. e ≡ TreeError.Memory) }
+    {
+        Ok(Storage::FortyEight(boxed_indexed(alloc)?))
+    }
+
+    /// Storage of width 256, likewise.
+    pub fn new_256(alloc: Global) -> Result<Self, TreeError>
+        ensures stored { IfOk result (λ s. stored s ≡ []) }
+        ensures width { IfOk result (λ s. width_of s ≡ 256) }
+        ensures error { IfErr result (λ e. e ≡ TreeError.Memory) }
+    {
+        Ok(Storage::Full(boxed_direct(alloc)?))
+    }
+
     /// Whether another child fits, at byte `b`, where none stands.
     fn has_room(&self, b: u8) -> bool
         requires { child_at b (stored self.now) ≡ None }
@@ -96,7 +125,7 @@ impl<N> Storage<N> {
     }
 
     /// Frees storage without a child.
-    fn destroy_empty(self)
+    pub(crate) fn destroy_empty(self)
         requires { stored self ≡ [] }
     {
         match self {
@@ -109,7 +138,7 @@ impl<N> Storage<N> {
     }
 
     /// Puts other storage in place of this one, which has no child and is freed.
-    fn succeed_empty(&mut self, next: Self)
+    pub(crate) fn succeed_empty(&mut self, next: Self)
         requires { stored self.old ≡ [] }
         ensures { self.new ≡ next }
     {

@@ -1,0 +1,30 @@
+//! Iterators over a tree, ascending by key.
+ghost use Rattle.std.specs.Prelude.{◌≡◌, ◌≢◌, [], IfErr, IfOk};
+ghost use Rattle.rart_nodes.specs.TreeWalk.{values_of};
+
+use crate::tree::AdaptiveRadixTree;
+use rart_keys::KeyTrait;
+use rart_nodes::node::{Iter, ValuesIter};
+use rart_parts::TreeError;
+
+impl<K: KeyTrait, V> AdaptiveRadixTree<K, V> {
+    /// The pairs, ascending by key. All room is taken here, after the length of the longest key ever
+    /// stored, and none for an empty tree; the iterator itself takes none. Refused with `Memory` alone.
+    pub fn iter(&self) -> Result<Iter<'_, K, V>, TreeError>
+        ensures pairs { IfOk result (λ it. it ≡ self.now.pairs) }
+        ensures memory { IfErr result (λ e. (e ≡ TreeError.Memory) × (self.now.pairs ≢ [])) }
+    {
+        self.seen().iter()
+    }
+
+    /// The values, ascending by their keys. It takes its room as `iter` does, and makes no keys.
+    pub fn values_iter(&self) -> Result<ValuesIter<'_, K, V>, TreeError>
+        ensures values { IfOk result (λ it. it ≡ values_of self.now.pairs) }
+        ensures memory { IfErr result (λ e. (e ≡ TreeError.Memory) × (self.now.pairs ≢ [])) }
+    {
+        self.seen().values_iter()
+    }
+}
+
+#[cfg(test)]
+mod tests;

@@ -1,0 +1,26 @@
+use Rattle.std.proofs.Common.{◌+◌, ◌≤◌, ◌≡◌, length, arith, sym, ap, ◌∙◌, Some}
+use Rattle.rart_keys.specs.SortedMap.{count_of}
+use Rattle.rart_nodes.specs.CanonicalTest.{longest_key}
+use Rattle.rart_nodes.specs.Tree.{tree_pairs}
+use Rattle.rart_nodes.proofs.Outcomes.{on_ok, on_err, if_ok, if_ok_on}
+use Rattle.rart_nodes.proofs.RemovedPairs.{length-without_key, longest_key-without, tree_canonical-removed, tree_pairs-removed, tree_pairs-ascend}
+use Rattle.rart_nodes.proofs.SeenLemmas.{tree_look_up-lookup}
+use Rattle.rart_nodes.proofs.node.DefaultNode.remove.Goals as goal
+
+pub returns : goal.returns
+returns g c =
+    let key = c.args.key.now in
+    let old = c.args.root.now in
+    let canonical = c.requires.canonical in
+    let pairs = tree_pairs-removed key old canonical in
+    let answer = tree_look_up-lookup key old canonical in
+    record {
+      canonical = on_ok c.take_from.result (λ e. rw e (tree_canonical-removed key old canonical)) c.take_from.ensures.ok;
+      pairs = on_ok c.take_from.result (λ e. ap tree_pairs e ∙ pairs) c.take_from.ensures.ok;
+      answer = if_ok c.take_from.result (λ x e. e ∙ answer) c.take_from.ensures.answer;
+      count = if_ok_on c.take_from.result (λ x e a. omega (arith, length-without_key key (tree_pairs old) (tree_pairs-ascend old canonical), ap length (ap tree_pairs e ∙ pairs), ap count_of (a ∙ answer))) c.take_from.ensures.ok c.take_from.ensures.answer;
+      longest = on_ok c.take_from.result (λ e. omega (arith, ap longest_key (ap tree_pairs e ∙ pairs), longest_key-without key (tree_pairs old))) c.take_from.ensures.ok;
+      refused = c.take_from.ensures.refused;
+      error = c.take_from.ensures.error;
+      asks = on_err c.take_from.result (λ a. (a.0, λ z. a.1 (answer ∙ z))) c.take_from.ensures.asks;
+    }

@@ -1,0 +1,71 @@
+//! The children of a node, each with its byte. The walk is seen as the list of those still to come.
+ghost use Rattle.std.specs.Prelude.{◌≡◌, ◌↔◌, IsTrue};
+ghost use Rattle.std.specs.Iterator.{YieldsFirstBy, item_count};
+ghost use Rattle.rart_nodes.specs.Deletion.{JoinsWithin};
+ghost use Rattle.rart_nodes.specs.Trie.{children_in, prefix_of};
+ghost use Rattle.rart_nodes.specs.TrieCode.{as_children};
+
+use crate::node::DefaultNode;
+use crate::node::storage::walk::StorageIter;
+use rart_keys::Partial;
+use std::marker::Model;
+
+/// The children of a node with their bytes, ascending. After `None` always `None`.
+#[derive(Drop)]
+pub struct NodeIter<'a, P: Partial, V> {
+    children: StorageIter<'a, DefaultNode<P, V>>,
+}
+
+impl<'a, P: Partial, V> Model for NodeIter<'a, P, V> {
+    ghost use Rattle.std.specs.Prelude.{ℕ, List};
+    ghost use Rattle.std.specs.Coded.{coded_list, coded×, coded_ℕ};
+    ghost use Rattle.rart_nodes.specs.Trie.{Trie};
+    ghost use Rattle.rart_nodes.specs.TrieCode.{trie_code};
+    ghost use Rattle.rart_nodes.specs.Walks.{to_come};
+
+    ghost Value = { List (ℕ × Trie V) };
+
+    ghost coded = { coded_list (coded× coded_ℕ (trie_code V.code)) };
+
+    ghost view = { λ it. to_come it.children };
+}
+
+impl<'a, P: Partial, V> Iterator for NodeIter<'a, P, V> {
+    type Item = (u8, &'a DefaultNode<P, V>);
+
+    ghost next_gives = { YieldsFirstBy (λ item. (item.0, item.1.now)) (λ rest. rest) };
+
+    ghost remaining = { item_count (λ rest. rest) };
+
+    fn next(&mut self) -> Option<(u8, &'a DefaultNode<P, V>)> {
+        self.children.take_next()
+    }
+}
+
+impl<P: Partial, V> DefaultNode<P, V> {
+    /// The children with their bytes, ascending. Takes no memory.
+    pub fn iter(&self) -> NodeIter<'_, P, V>
+        ensures { as_children result ≡ children_in self.now }
+    {
+        NodeIter {
+            children: self.storage.iter(),
+        }
+    }
+
+    /// Whether the prefix of each child, joined to the node's, is within the maximum, as a deletion asks.
+    pub fn children_fit(&self) -> bool
+        ensures { IsTrue result ↔ JoinsWithin P.MAXIMUM_SIZE (prefix_of self.now) (children_in self.now) }
+    {
+        let Some(most) = P::MAXIMUM_SIZE else {
+            return true;
+        };
+        let room = most - self.prefix.len();
+        let mut children = self.iter();
+        while let Some((_byte, child)) = children.next() {
+            if child.prefix().len() > room {
+                return false;
+            }
+        }
+        true
+    }
+}

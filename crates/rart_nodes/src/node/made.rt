@@ -1,0 +1,204 @@
+//! Nodes made by hand: empty ones of each kind, and what a caller does with one. They need not be
+//! canonical.
+ghost use Rattle.std.specs.Prelude.{◌≡◌, ◌≢◌, ◌<◌, ◌≤◌, ◌+◌, ◌↔◌, length, None, option_map, IfErr, IfOk, IsTrue, OnErr, OnOk, OnSome};
+ghost use Rattle.std.specs.Borrow.{sem, LendsSo};
+ghost use Rattle.std.specs.Option.{option_copied, option_copied_mut};
+ghost use Rattle.rart_nodes.specs.Deletion.{JoinsWithin, without_child};
+ghost use Rattle.rart_nodes.specs.NodeEdits.{with_child, with_value};
+ghost use Rattle.rart_nodes.specs.SeenTrie.{child_in};
+ghost use Rattle.rart_nodes.specs.Trie.{Trie, node, no_children, leaf, capacity_in, children_in, edges_of, prefix_of, value_of};
+ghost use Rattle.rart_nodes.specs.Widths.{previous_width};
+
+use crate::node::DefaultNode;
+use crate::node::storage::Storage;
+use crate::refused::Refused;
+use rart_keys::Partial;
+use rart_parts::TreeError;
+use std::alloc::Global;
+
+/// A node: a prefix, a value or none, and children by their bytes. It is seen as a trie.
+pub trait Node<P: Partial, V>: Sized {
+    ghost trie: { Self → Trie V };
+
+    /// A node without children that holds `value`. Takes no memory.
+    fn new_leaf(prefix: P, value: V) -> Self
+        ensures { trie result ≡ leaf (P.bytes prefix) value };
+
+    /// A node without value or children that has room for four children. Refused where memory is.
+    fn new_inner(alloc: Global, prefix: P) -> Result<Self, TreeError>
+        ensures ok { IfOk result (λ n. trie n ≡ node (P.bytes prefix) None 4 no_children) }
+        ensures error { IfErr result (λ e. e ≡ TreeError.Memory) };
+
+    /// The value that the node holds.
+    fn value(&self) -> Option<&V>
+        ensures { option_copied result ≡ value_of (trie self.now) };
+
+    /// The value that the node holds, to be changed.
+    fn value_mut(&mut self) -> Option<&mut V>
+        ensures* writes_back { sem 𝓛 (LendsSo Self.row V.row self.entry result (λ n x. OnSome result (trie n ≡ with_value x (trie self.old))) (λ n. trie n ≡ trie self.old)) }
+        ensures value { option_copied_mut result ≡ value_of (trie self.old) };
+
+    /// Whether there is no storage for children.
+    fn is_leaf(&self) -> bool
+        ensures { IsTrue result ↔ (capacity_in (trie self.now) ≡ 0) };
+
+    /// Whether there is storage for children.
+    fn is_inner(&self) -> bool
+        ensures { IsTrue result ↔ (capacity_in (trie self.now) ≢ 0) };
+
+    /// The child at a byte.
+    fn seek_child(&self, key: u8) -> Option<&Self>
+        ensures { option_map trie (option_copied result) ≡ child_in key (trie self.now) };
+
+    /// The child at a byte, to be changed.
+    fn seek_child_mut(&mut self, key: u8) -> Option<&mut Self>
+        ensures { option_map trie (option_copied_mut result) ≡ child_in key (trie self.old) };
+
+    /// Puts a child in at a byte where none stands. Memory is asked for only where there is no storage
+    /// or it is full; refused, the node stays as it was, and the child is handed back.
+    fn add_child(&mut self, alloc: Global, key: u8, node: Self) -> Result<(), Refused<Self>>
+        requires absent { child_in key (trie self.old) ≡ None }
+        ensures ok { OnOk result (trie self.new ≡ with_child key (trie node) (trie self.old)) }
+        ensures refused { OnErr result (trie self.new ≡ trie self.old) }
+        ensures back { IfErr result (λ r. (r.error ≡ TreeError.Memory) × (trie r.value ≡ trie node)) }
+        ensures asks { OnErr result (length (edges_of (children_in (trie self.old))) ≡ capacity_in (trie self.old)) };
+
+    /// Takes the child at a byte out, if one stands there. A node left with few children gets the kind
+    /// before, one of width 4 without children none; one of width 4 that is left with one child and has
+    /// no value is joined with that child, which keeps its kind. Asks that the prefix of each child,
+    /// joined to the node's, is within the maximum.
+    ///
+    /// Memory is asked for only where the node gets a smaller kind that has a width. Refused, all
+    /// stands as it was.
+    fn delete_child(&mut self, alloc: Global, key: u8) -> Result<Option<Self>, TreeError>
+        requires within { JoinsWithin P.MAXIMUM_SIZE (prefix_of (trie self.old)) (children_in (trie self.old)) }
+        ensures taken { IfOk result (λ child. option_map trie child ≡ child_in key (trie self.old)) }
+        ensures rest { OnOk result (trie self.new ≡ without_child key (trie self.old)) }
+        ensures refused { OnErr result (trie self.new ≡ trie self.old) }
+        ensures asks { OnErr result ((child_in key (trie self.old) ≢ None) × (4 < capacity_in (trie self.old)) × (length (edges_of (children_in (trie self.old))) ≤ previous_width (capacity_in (trie self.old)) + 1)) }
+        ensures error { IfErr result (λ e. e ≡ TreeError.Memory) };
+
+    /// How many children there is room for.
+    fn capacity(&self) -> usize
+        ensures { result ≡ capacity_in (trie self.now) };
+
+    /// How many children there are.
+    fn num_children(&self) -> usize
+        ensures { result ≡ length (edges_of (children_in (trie self.now))) };
+}
+
+impl<P: Partial, V> Node<P, V> for DefaultNode<P, V> {
+    ghost trie = { λ n. n };
+
+    fn new_leaf(prefix: P, value: V) -> Self {
+        DefaultNode {
+            prefix,
+            value: Some(value),
+            storage: Storage::empty(),
+        }
+    }
+
+    fn new_inner(alloc: Global, prefix: P) -> Result<Self, TreeError> {
+        DefaultNode::new_4(alloc, prefix)
+    }
+
+    fn value(&self) -> Option<&V> {
+        self.value.as_ref()
+    }
+
+    fn value_mut(&mut self) -> Option<&mut V> {
+        self.value.as_mut()
+    }
+
+    fn is_leaf(&self) -> bool {
+        self.storage.width() == 0
+    }
+
+    fn is_inner(&self) -> bool {
+        self.storage.width() != 0
+    }
+
+    fn seek_child(&self, key: u8) -> Option<&Self> {
+        self.storage.seek_child(key)
+    }
+
+    fn seek_child_mut(&mut self, key: u8) -> Option<&mut Self> {
+        self.storage.seek_child_mut(key)
+    }
+
+    fn add_child(&mut self, alloc: Global, key: u8, node: Self) -> Result<(), Refused<Self>> {
+        match self.storage.make_room(alloc, key) {
+            Ok(()) => {
+                self.storage.add_within(key, node);
+                Ok(())
+            }
+            Err(error) => Err(Refused { error, value: node }),
+        }
+    }
+
+    fn delete_child(&mut self, alloc: Global, key: u8) -> Result<Option<Self>, TreeError> {
+        self.take_child(alloc, key)
+    }
+
+    fn capacity(&self) -> usize {
+        self.storage.width()
+    }
+
+    fn num_children(&self) -> usize {
+        self.storage.num_children()
+    }
+}
+
+impl<P: Partial, V> DefaultNode<P, V> {
+    /// A node without value or children that has storage of width 4; refused where memory is.
+    pub fn new_4(alloc: Global, prefix: P) -> Result<Self, TreeError>
+        ensures ok { IfOk result (λ n. n ≡ node (P.bytes prefix) None 4 no_children) }
+        ensures error { IfErr result (λ e. e ≡ TreeError.Memory) }
+    {
+        let storage = Storage::new_4(alloc)?;
+        Ok(DefaultNode {
+            prefix,
+            value: None,
+            storage,
+        })
+    }
+
+    /// The same with storage of width 16.
+    pub fn new_16(alloc: Global, prefix: P) -> Result<Self, TreeError>
+        ensures ok { IfOk result (λ n. n ≡ node (P.bytes prefix) None 16 no_children) }
+        ensures error { IfErr result (λ e. e ≡ TreeError.Memory) }
+    {
+        let storage = Storage::new_16(alloc)?;
+        Ok(DefaultNode {
+            prefix,
+            value: None,
+            storage,
+        })
+    }
+
+    /// The same with storage of width 48.
+    pub fn new_48(alloc: Global, prefix: P) -> Result<Self, TreeError>
+        ensures ok { IfOk result (λ n. n ≡ node (P.bytes prefix) None 48 no_children) }
+        ensures error { IfErr result (λ e. e ≡ TreeError.Memory) }
+    {
+        let storage = Storage::new_48(alloc)?;
+        Ok(DefaultNode {
+            prefix,
+            value: None,
+            storage,
+        })
+    }
+
+    /// The same with storage of width 256.
+    pub fn new_256(alloc: Global, prefix: P) -> Result<Self, TreeError>
+        ensures ok { IfOk result (λ n. n ≡ node (P.bytes prefix) None 256 no_children) }
+        ensures error { IfErr result (λ e. e ≡ TreeError.Memory) }
+    {
+        let storage = Storage::new_256(alloc)?;
+        Ok(DefaultNode {
+            prefix,
+            value: None,
+            storage,
+        })
+    }
+}

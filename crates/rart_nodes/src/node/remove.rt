@@ -1,0 +1,177 @@
+//! Removal below a node. Room for fewer children is taken before the first write.
+ghost use Rattle.std.specs.Prelude.{◌≡◌, ◌≢◌, ◌+◌, ◌<◌, ◌≤◌, length, true, false, [], IfErr, IfOk, None, Some, OnErr, OnOk};
+ghost use Rattle.rart_keys.specs.KeyBytes.{IsWithin};
+ghost use Rattle.rart_keys.specs.SortedMap.{count_of, keys_of, lookup, without};
+ghost use Rattle.rart_nodes.specs.CanonicalTest.{longest_key};
+ghost use Rattle.rart_nodes.specs.Deletion.{JoinsWithin, is_leaf_at, is_lone, joined_if_lone, without_child};
+ghost use Rattle.rart_nodes.specs.RemoveAsks.{remove_asks, trie_remove_asks};
+ghost use Rattle.rart_nodes.specs.SeenTrie.{child_in};
+ghost use Rattle.rart_nodes.specs.Tree.{IsCanonicalTree, tree_look_up, tree_pairs, tree_remove};
+ghost use Rattle.rart_nodes.specs.Trie.{IsCanonical, capacity_in, children_in, edges_of, look_up, pairs_of, prefix_of, remove_trie, value_of};
+ghost use Rattle.rart_nodes.specs.Widths.{previous_width};
+
+use crate::node::DefaultNode;
+use rart_keys::Partial;
+use rart_parts::TreeError;
+use std::alloc::Global;
+use std::mem;
+
+impl<P: Partial, V> DefaultNode<P, V> {
+    /// Joins the node with its child where it has no value and no other child. The child keeps its
+    /// kind. Takes no memory.
+    fn join_lone_child(&mut self)
+        requires width { is_lone (value_of self.old) (children_in self.old) ≡ true → capacity_in self.old ≡ 4 }
+        requires within { JoinsWithin P.MAXIMUM_SIZE (prefix_of self.old) (children_in self.old) }
+        ensures { self.new ≡ joined_if_lone self.old }
+    {
+        if self.value.is_some() || self.storage.num_children() != 1 {
+            return;
+        }
+        let (_byte, child) = self.storage.take_lone();
+        let DefaultNode {
+            prefix,
+            value,
+            storage,
+        } = child;
+        self.prefix = self.prefix.partial_extended_with(&prefix);
+        match mem::replace(&mut self.value, value) {
+            Some(_) => unreachable!(),
+            None => {}
+        }
+        self.storage.succeed_empty(storage);
+    }
+
+    /// Takes the child at byte `b` out, if one stands there. A node left with few children gets the
+    /// kind before, one of width 4 without children none; one of width 4 that is left with one child
+    /// and has no value is joined with that child, which keeps its kind. Asks that the prefix of each
+    /// child, joined to the node's, is within the maximum.
+    ///
+    /// Memory is asked for only where the node gets a smaller kind that has a width. Refused, all
+    /// stands as it was.
+    pub(crate) fn take_child(&mut self, alloc: Global, b: u8) -> Result<Option<Self>, TreeError>
+        requires within { JoinsWithin P.MAXIMUM_SIZE (prefix_of self.old) (children_in self.old) }
+        ensures taken { IfOk result (λ child. child ≡ child_in b self.old) }
+        ensures rest { OnOk result (self.new ≡ without_child b self.old) }
+        ensures refused { OnErr result (self.new ≡ self.old) }
+        ensures asks { OnErr result ((child_in b self.old ≢ None) × (4 < capacity_in self.old) × (length (edges_of (children_in self.old)) ≤ previous_width (capacity_in self.old) + 1)) }
+        ensures error { IfErr result (λ e. e ≡ TreeError.Memory) }
+    {
+        let narrow = self.storage.width() == 4;
+        let Some(child) = self.storage.delete_child(alloc, b)? else {
+            return Ok(None);
+        };
+        if narrow {
+            self.join_lone_child();
+        }
+        Ok(Some(child))
+    }
+
+    /// Whether the node is a leaf that holds `key`, what is left of a key behind the path to it.
+    pub(crate) fn is_leaf_at(&self, key: &[u8]) -> bool
+        ensures { result ≡ is_leaf_at key.now self.now }
+    {
+        if self.storage.num_children() > 0 {
+            return false;
+        }
+        let shared = self.prefix.prefix_length_slice(key);
+        shared == self.prefix.len() && shared == key.len()
+    }
+
+    /// The value of a node without children, whose storage is freed.
+    pub(crate) fn into_value(self) -> Option<V>
+        requires { edges_of (children_in self) ≡ [] }
+        ensures { result ≡ value_of self }
+    {
+        let DefaultNode {
+            prefix: _prefix,
+            value,
+            storage,
+        } = self;
+        storage.destroy_empty();
+        value
+    }
+
+    fn remove_below(&mut self, alloc: Global, key: &[u8]) -> Result<Option<V>, TreeError>
+        requires canonical { IsCanonical self.old }
+        requires fits { IsWithin P.MAXIMUM_SIZE (longest_key (pairs_of self.old)) }
+        requires stays { is_leaf_at key.now self.old ≡ false }
+        ensures ok { OnOk result (Some self.new ≡ remove_trie key.now self.old) }
+        ensures answer { IfOk result (λ old. old ≡ look_up key.now self.old) }
+        ensures refused { OnErr result (self.new ≡ self.old) }
+        ensures error { IfErr result (λ e. e ≡ TreeError.Memory) }
+        ensures asks { OnErr result ((trie_remove_asks None key.now self.old ≡ true) × (look_up key.now self.old ≢ None)) }
+    {
+        let shared = self.prefix.prefix_length_slice(key);
+        if shared < self.prefix.len() {
+            return Ok(None);
+        }
+        if key.len() == shared {
+            let value = self.value.take();
+            self.join_lone_child();
+            return Ok(value);
+        }
+        let rest = &key[shared..];
+        let byte = rest[0];
+        match self.storage.seek_child_mut(byte) {
+            Some(child) => {
+                if !child.is_leaf_at(rest) {
+                    return child.remove_below(alloc, rest);
+                }
+            }
+            None => return Ok(None),
+        }
+        match self.take_child(alloc, byte)? {
+            Some(child) => Ok(child.into_value()),
+            None => unreachable!(),
+        }
+    }
+
+    /// Removes `key` from a tree that is a root or none: what it leaves is what `tree_remove` says.
+    fn take_from(root: &mut Option<Self>, alloc: Global, key: &[u8]) -> Result<Option<V>, TreeError>
+        requires canonical { IsCanonicalTree root.old }
+        requires fits { IsWithin P.MAXIMUM_SIZE (longest_key (tree_pairs root.old)) }
+        ensures ok { OnOk result (root.new ≡ tree_remove key.now root.old) }
+        ensures answer { IfOk result (λ old. old ≡ tree_look_up key.now root.old) }
+        ensures refused { OnErr result (root.new ≡ root.old) }
+        ensures error { IfErr result (λ e. e ≡ TreeError.Memory) }
+        ensures asks { OnErr result ((remove_asks (keys_of (tree_pairs root.old)) key.now ≡ true) × (tree_look_up key.now root.old ≢ None)) }
+    {
+        match root {
+            Some(node) => {
+                if !node.is_leaf_at(key) {
+                    return node.remove_below(alloc, key);
+                }
+            }
+            None => return Ok(None),
+        }
+        match root.take() {
+            Some(leaf) => Ok(leaf.into_value()),
+            None => unreachable!(),
+        }
+    }
+
+    /// Removes `key` from a tree that is a root or none, in one pass down, and answers its value. Asks
+    /// a canonical tree whose keys are within the maximum.
+    ///
+    /// Refused is only a request for memory, and that comes only where the keys say that a node needs
+    /// smaller room: the key's node is a leaf whose parent goes from 5, 17 or 49 children to one fewer.
+    /// Then all stands as it was.
+    pub fn remove(
+        root: &mut Option<Self>,
+        alloc: Global,
+        key: &[u8],
+    ) -> Result<Option<V>, TreeError>
+        requires canonical { IsCanonicalTree root.old }
+        requires fits { IsWithin P.MAXIMUM_SIZE (longest_key (tree_pairs root.old)) }
+        ensures canonical { OnOk result (IsCanonicalTree root.new) }
+        ensures pairs { OnOk result (tree_pairs root.new ≡ without key.now (tree_pairs root.old)) }
+        ensures answer { IfOk result (λ old. old ≡ lookup key.now (tree_pairs root.old)) }
+        ensures count { IfOk result (λ old. length (tree_pairs root.new) + count_of old ≡ length (tree_pairs root.old)) }
+        ensures longest { OnOk result (longest_key (tree_pairs root.new) ≤ longest_key (tree_pairs root.old)) }
+        ensures refused { OnErr result (root.new ≡ root.old) }
+        ensures error { IfErr result (λ e. e ≡ TreeError.Memory) }
+        ensures asks { OnErr result ((remove_asks (keys_of (tree_pairs root.old)) key.now ≡ true) × (lookup key.now (tree_pairs root.old) ≢ None)) }
+    {
+        DefaultNode::take_from(root, alloc, key)
+    }
+}

@@ -1,0 +1,52 @@
+//! The count of a tree's nodes.
+ghost use Rattle.std.specs.Prelude.{◌≡◌, ◌+◌, ◌*◌, ◌≤◌, length, IfErr, IfOk, OnErr};
+ghost use Rattle.std.specs.Option.{option_copied};
+ghost use Rattle.rart_keys.specs.SortedMap.{keys_of};
+ghost use Rattle.rart_nodes.specs.CountedNodes.{counts_added, counts_in, counts_sum};
+ghost use Rattle.rart_nodes.specs.Statistics.{statistics_in, statistics_of, trie_height};
+ghost use Rattle.rart_nodes.specs.Tree.{IsCanonicalTree, tree_nodes, tree_pairs};
+ghost use Rattle.rart_nodes.specs.TrieCode.{node_count};
+
+use crate::node::DefaultNode;
+use crate::stats::TreeStats;
+use crate::stats::counts::Counts;
+use rart_keys::Partial;
+use rart_parts::TreeError;
+use std::alloc::Global;
+
+impl<P: Partial, V> DefaultNode<P, V> {
+    /// Counts the node and all that stands below it, and gives its height.
+    fn count_nodes(&self, counts: &mut Counts) -> usize
+        requires { counts_sum counts.old + 4 * node_count self.now ≤ usize.MAX }
+        ensures counts { counts.new ≡ counts_added counts.old (counts_in self.now) }
+        ensures height { result ≡ trie_height self.now }
+    {
+        let children = self.storage.num_children();
+        counts.add_node(self.value.is_some(), self.storage.width(), children);
+        let mut below = 0;
+        for (_byte, child) in self.iter() {
+            below = below.max(child.count_nodes(counts));
+        }
+        1 + below
+    }
+
+    /// The statistics of a tree that is a root or none: those of its keys by their shape. Asks a
+    /// canonical tree of at most `usize::MAX / 16` pairs, so that no sum wraps.
+    ///
+    /// Refused is only a request for memory, and that comes only where the tree holds at least two
+    /// keys.
+    pub fn tree_stats(root: Option<&Self>, alloc: Global) -> Result<TreeStats, TreeError>
+        requires canonical { IsCanonicalTree (option_copied root) }
+        requires fits { 16 * length (tree_pairs (option_copied root)) ≤ usize.MAX }
+        ensures statistics { IfOk result (λ s. statistics_in s ≡ statistics_of (keys_of (tree_pairs (option_copied root.entry))) (tree_nodes (option_copied root.entry))) }
+        ensures error { IfErr result (λ e. e ≡ TreeError.Memory) }
+        ensures asks { OnErr result (2 ≤ length (tree_pairs (option_copied root.entry))) }
+    {
+        let Some(node) = root else {
+            return Ok(TreeStats::new(alloc));
+        };
+        let mut counts = Counts::none();
+        let height = node.count_nodes(&mut counts);
+        counts.statistics(alloc, height)
+    }
+}

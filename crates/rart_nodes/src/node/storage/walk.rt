@@ -1,0 +1,53 @@
+//! The walk over the children of a storage, in the order of their bytes in every kind. It is seen as
+//! the list of those still to come.
+ghost use Rattle.std.specs.Prelude.{◌≡◌, []};
+ghost use Rattle.std.specs.Iterator.{YieldsFirstBy};
+ghost use Rattle.rart_nodes.specs.Stored.{stored};
+ghost use Rattle.rart_nodes.specs.Walks.{to_come};
+
+use crate::node::storage::Storage;
+use rart_parts::mapping::direct_mapping::DirectMappingIter;
+use rart_parts::mapping::indexed_mapping::IndexedMappingIter;
+use rart_parts::mapping::sorted_keyed_mapping::SortedKeyedMappingIter;
+
+/// The children still to come, by the map that they stand in.
+#[derive(Drop)]
+pub enum StorageIter<'a, N> {
+    /// None, of a node without children.
+    Childless,
+    /// Those of width 4 or 16.
+    Sorted(SortedKeyedMappingIter<'a, N>),
+    /// Those of width 48.
+    Indexed(IndexedMappingIter<'a, N>),
+    /// Those of width 256.
+    Direct(DirectMappingIter<'a, N>),
+}
+
+impl<'a, N> StorageIter<'a, N> {
+    /// The next child with its byte. Takes no memory.
+    pub fn take_next(&mut self) -> Option<(u8, &'a N)>
+        ensures { YieldsFirstBy (λ item. (item.0, item.1.now)) to_come self.old result self.new }
+    {
+        match self {
+            StorageIter::Childless => None,
+            StorageIter::Sorted(children) => children.next(),
+            StorageIter::Indexed(children) => children.next(),
+            StorageIter::Direct(children) => children.next(),
+        }
+    }
+}
+
+impl<N> Storage<N> {
+    /// The children with their bytes, ascending. Takes no memory.
+    pub fn iter(&self) -> StorageIter<'_, N>
+        ensures { to_come result ≡ stored self.now }
+    {
+        match self {
+            Storage::Leaf => StorageIter::Childless,
+            Storage::Four(map) => StorageIter::Sorted(map.iter()),
+            Storage::Sixteen(map) => StorageIter::Sorted(map.iter()),
+            Storage::FortyEight(map) => StorageIter::Indexed(map.iter()),
+            Storage::Full(map) => StorageIter::Direct(map.iter()),
+        }
+    }
+}

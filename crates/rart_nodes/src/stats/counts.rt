@@ -1,0 +1,159 @@
+//! The numbers that a count of nodes keeps. Only their statistics, made at the end, take memory.
+ghost use Rattle.std.specs.Prelude.{◌≡◌, ◌+◌, ◌<◌, ◌≤◌, nat_le, if◌then◌else◌, IfErr, IfOk, OnErr, OnOk};
+ghost use Rattle.std.specs.BTreeMap.{insert_entry};
+ghost use Rattle.std.specs.Ordering.{nat_cmp};
+ghost use Rattle.rart_nodes.specs.CountedNodes.{children_counted, counts_added, counts_by, counts_of_node, counts_sum, inner_counted, statistics_counted, width_counted, width_counts_added};
+ghost use Rattle.rart_nodes.specs.Statistics.{one_if, statistics_in};
+
+use crate::stats::{NodeStats, TreeStats};
+use rart_parts::TreeError;
+use std::alloc::Global;
+use std::collections::BTreeMap;
+
+/// The inner nodes of one width, and their children.
+#[derive(Drop)]
+pub(crate) struct WidthCount {
+    nodes: usize,
+    children: usize,
+}
+
+/// The nodes counted so far: leaves, those that hold a value, and the inner ones by their width.
+#[derive(Drop)]
+pub(crate) struct Counts {
+    leaves: usize,
+    values: usize,
+    four: WidthCount,
+    sixteen: WidthCount,
+    forty_eight: WidthCount,
+    full: WidthCount,
+}
+
+fn one_if(condition: bool) -> usize
+    ensures { result ≡ one_if condition }
+{
+    if condition { 1 } else { 0 }
+}
+
+impl WidthCount {
+    fn none() -> Self
+        ensures { result ≡ record { nodes = 0; children = 0 } }
+    {
+        WidthCount {
+            nodes: 0,
+            children: 0,
+        }
+    }
+
+    fn add_node(&mut self, children: usize)
+        requires { self.old.nodes + self.old.children + 1 + children ≤ usize.MAX }
+        ensures { self.new ≡ record { nodes = self.old.nodes + 1; children = self.old.children + children } }
+    {
+        self.nodes += 1;
+        self.children += children;
+    }
+
+    /// Puts the entry of the nodes of one width in, if there are any.
+    fn put_entry(
+        &self,
+        node_stats: &mut BTreeMap<usize, NodeStats>,
+        width: usize,
+    ) -> Result<(), TreeError>
+        ensures put { OnOk result (node_stats.new.entries ≡ (if nat_le 1 self.now.nodes then insert_entry nat_cmp node_stats.old.entries width (record { width = width; total_nodes = self.now.nodes; total_children = self.now.children }) else node_stats.old.entries)) }
+        ensures error { IfErr result (λ e. e ≡ TreeError.Memory) }
+        ensures asks { OnErr result (1 ≤ self.now.nodes) }
+    {
+        if self.nodes == 0 {
+            return Ok(());
+        }
+        let entry = NodeStats {
+            width,
+            total_nodes: self.nodes,
+            total_children: self.children,
+        };
+        match node_stats.insert(width, entry) {
+            Ok(_old) => Ok(()),
+            Err(_refused) => Err(TreeError::Memory),
+        }
+    }
+}
+
+impl Counts {
+    /// No node.
+    pub(crate) fn none() -> Self
+        ensures { result ≡ counts_by (λ m. 0) }
+    {
+        Counts {
+            leaves: 0,
+            values: 0,
+            four: WidthCount::none(),
+            sixteen: WidthCount::none(),
+            forty_eight: WidthCount::none(),
+            full: WidthCount::none(),
+        }
+    }
+
+    /// Counts a node of this width.
+    pub(crate) fn add_node(&mut self, holds_value: bool, width: usize, children: usize)
+        requires { counts_sum self.old + 3 + children ≤ usize.MAX }
+        ensures { self.new ≡ counts_added self.old (counts_of_node holds_value width children) }
+    {
+        self.leaves += one_if(children == 0);
+        self.values += one_if(holds_value);
+        match width {
+            4 => self.four.add_node(children),
+            16 => self.sixteen.add_node(children),
+            48 => self.forty_eight.add_node(children),
+            256 => self.full.add_node(children),
+            _ => {}
+        }
+    }
+
+    fn inner_nodes(&self) -> usize
+        requires { counts_sum self.now ≤ usize.MAX }
+        ensures { result ≡ inner_counted self.now }
+    {
+        self.four.nodes + self.sixteen.nodes + self.forty_eight.nodes + self.full.nodes
+    }
+
+    fn total_children(&self) -> usize
+        requires { counts_sum self.now ≤ usize.MAX }
+        ensures { result ≡ children_counted self.now }
+    {
+        self.four.children + self.sixteen.children + self.forty_eight.children + self.full.children
+    }
+
+    fn total_width(&self) -> usize
+        requires { width_counted self.now ≤ usize.MAX }
+        ensures { result ≡ width_counted self.now }
+    {
+        4 * self.four.nodes
+            + 16 * self.sixteen.nodes
+            + 48 * self.forty_eight.nodes
+            + 256 * self.full.nodes
+    }
+
+    /// The statistics of the counted nodes, which stand one below another up to `height`. Refused only
+    /// where memory is, and that is asked for only where an inner node was counted.
+    pub(crate) fn statistics(&self, alloc: Global, height: usize) -> Result<TreeStats, TreeError>
+        requires counts { counts_sum self.now ≤ usize.MAX }
+        requires width { width_counted self.now ≤ usize.MAX }
+        ensures value { IfOk result (λ s. statistics_in s ≡ statistics_counted self.now height) }
+        ensures error { IfErr result (λ e. e ≡ TreeError.Memory) }
+        ensures asks { OnErr result (1 ≤ inner_counted self.now) }
+    {
+        let mut node_stats = BTreeMap::new(alloc);
+        self.four.put_entry(&mut node_stats, 4)?;
+        self.sixteen.put_entry(&mut node_stats, 16)?;
+        self.forty_eight.put_entry(&mut node_stats, 48)?;
+        self.full.put_entry(&mut node_stats, 256)?;
+        Ok(TreeStats {
+            node_stats,
+            num_leaves: self.leaves,
+            num_values: self.values,
+            num_inner_nodes: self.inner_nodes(),
+            total_children: self.total_children(),
+            total_width: self.total_width(),
+            max_height: height,
+        })
+    }
+}
