@@ -1,7 +1,7 @@
 //! What clients can count on, each proved for every key type from the public contracts alone.
-ghost use Rattle.std.specs.Prelude.{◌≡◌, ◌≢◌, ◌≤◌, length, IfErr, IfOk, OnErr, Some};
+ghost use Rattle.std.specs.Prelude.{◌≡◌, ◌≢◌, ◌≤◌, length, IfErr, IfOk, None, OnErr, OnOk, Some};
 ghost use Rattle.std.specs.Option.{option_copied};
-ghost use Rattle.rart_keys.specs.SortedMap.{IsAscending, keys_of, lookup};
+ghost use Rattle.rart_keys.specs.SortedMap.{IsAscending, keys_of, lookup, put};
 ghost use Rattle.rart_nodes.specs.Statistics.{statistics_in, statistics_of};
 ghost use Rattle.rart_nodes.specs.TreeWalk.{values_of};
 
@@ -71,4 +71,51 @@ pub fn pairs_and_values<'a, K: KeyTrait, V>(
 {
     tree.canonical();
     Ok((tree.iter()?, tree.values_iter()?))
+}
+
+/// A new key that is put in and removed right after leaves pairs and nodes as they were, and the
+/// removal answers the value. Gives both answers; where the removal is refused, the pair is still
+/// there, and where the insertion is, all is as before.
+pub fn insert_then_remove<K: KeyTrait, V>(
+    tree: &mut AdaptiveRadixTree<K, V>,
+    key: &K,
+    value: V,
+) -> Result<(Option<V>, Result<Option<V>, TreeError>), Refused<V>>
+    requires new_key { lookup (K.bytes key.now) tree.old.pairs ≡ None }
+    ensures inserted { IfOk result (λ r. r.0 ≡ None) }
+    ensures removed { IfOk result (λ r. IfOk r.1 (λ old. old ≡ Some value)) }
+    ensures pairs { IfOk result (λ r. OnOk r.1 (tree.new.pairs ≡ tree.old.pairs)) }
+    ensures nodes { IfOk result (λ r. OnOk r.1 (tree.new.nodes ≡ tree.old.nodes)) }
+    ensures stays { IfOk result (λ r. OnErr r.1 (tree.new.pairs ≡ put (K.bytes key.now) value tree.old.pairs)) }
+    ensures refused { OnErr result (tree.new ≡ tree.old) }
+{
+    rart_keys::laws::sorted_map::<V>();
+    rart_nodes::laws::one_shape();
+    tree.canonical();
+    let inserted = tree.insert_k(key, value)?;
+    let removed = tree.remove_k(key);
+    tree.canonical();
+    Ok((inserted, removed))
+}
+
+/// The statistics before a new key is put in and after it is removed again: they are the same.
+/// Refused where memory is, by whichever call asked for it.
+pub fn insert_then_remove_statistics<K: KeyTrait, V: Drop>(
+    tree: &mut AdaptiveRadixTree<K, V>,
+    key: &K,
+    value: V,
+) -> Result<(TreeStats, TreeStats), TreeError>
+    requires new_key { lookup (K.bytes key.now) tree.old.pairs ≡ None }
+    ensures before { IfOk result (λ r. statistics_in r.0 ≡ statistics_of (keys_of tree.old.pairs) tree.old.nodes) }
+    ensures after { IfOk result (λ r. statistics_in r.1 ≡ statistics_in r.0) }
+    ensures pairs { OnOk result (tree.new.pairs ≡ tree.old.pairs) }
+{
+    let before = tree.get_tree_stats()?;
+    match insert_then_remove(tree, key, value) {
+        Ok((_inserted, removed)) => {
+            removed?;
+            Ok((before, tree.get_tree_stats()?))
+        }
+        Err(refused) => Err(refused.error),
+    }
 }

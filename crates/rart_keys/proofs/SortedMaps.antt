@@ -101,3 +101,11 @@ module _ {V : Type 0} where
 
   pub lookup-without_elsewhere : (q k : List ℕ) (es : List (List ℕ × V)) → (q ≡ k → ⊥) → lookup q (without k es) ≡ lookup q es
   lookup-without_elsewhere q k es n = lookup-without q k es ∙ rw (bytes_eq-differ k q (λ e. n (sym e))) refl
+
+  -- a new key that is taken out again leaves the list as it was
+  pub without-put : (k : List ℕ) (v : V) (es : List (List ℕ × V)) → IsAscending es → lookup k es ≡ None → without k (put k v es) ≡ es
+  without-put k v es h none = equal_by_lookups (without k (put k v es)) es (ascending-without k (put k v es) (ascending-put k v es h)) h
+      (λ q. lookup-without q k (put k v es) ∙ elim (bytes_eq k q) as (λ b. bytes_eq k q ≡ b → (if b then None else lookup q (put k v es)) ≡ lookup q es) [
+        | true ↦ λ m. sym (rw (bytes_eq-equal k q m) at none)
+        | false ↦ λ m. lookup-put q k v es ∙ rw m refl
+      ] refl)

@@ -6,7 +6,8 @@ ghost use Rattle.rart_keys.specs.SortedMap.{IsAscending, count_of, lookup, put, 
 pub mod key_order;
 
 /// Two ascending lists of pairs with the same look-ups are one list; `put` and `without` keep a list
-/// ascending, change the look-up of their key alone, and change the length by at most one.
+/// ascending, change the look-up of their key alone, and change the length by at most one. A new key
+/// that is put in and taken out again leaves the list as it was.
 pub fn sorted_map<V>()
     ensures one_list { (xs ys : List (List ℕ × V)) → IsAscending xs → IsAscending ys → ((q : List ℕ) → lookup q xs ≡ lookup q ys) → xs ≡ ys }
     ensures put_ascends { (k : List ℕ) (v : V) (es : List (List ℕ × V)) → IsAscending es → IsAscending (put k v es) }
@@ -16,4 +17,5 @@ pub fn sorted_map<V>()
     ensures without_ascends { (k : List ℕ) (es : List (List ℕ × V)) → IsAscending es → IsAscending (without k es) }
     ensures without_at { (k : List ℕ) (es : List (List ℕ × V)) → lookup k (without k es) ≡ None }
     ensures without_elsewhere { (q k : List ℕ) (es : List (List ℕ × V)) → q ≢ k → lookup q (without k es) ≡ lookup q es }
+    ensures put_then_without { (k : List ℕ) (v : V) (es : List (List ℕ × V)) → IsAscending es → lookup k es ≡ None → without k (put k v es) ≡ es }
 {}

@@ -1,4 +1,4 @@
-use Rattle.rart_keys.proofs.SortedMaps.{equal_by_lookups, ascending-put, lookup-put_at, lookup-put_elsewhere, length-put, ascending-without, lookup-without_at, lookup-without_elsewhere}
+use Rattle.rart_keys.proofs.SortedMaps.{equal_by_lookups, ascending-put, lookup-put_at, lookup-put_elsewhere, length-put, ascending-without, lookup-without_at, lookup-without_elsewhere, without-put}
 use Rattle.rart_keys.proofs.laws.sorted_map.Goals as goal
 
 pub returns : goal.returns
@@ -11,4 +11,5 @@ returns g c = record {
   without_ascends = ascending-without;
   without_at = lookup-without_at;
   without_elsewhere = lookup-without_elsewhere;
+  put_then_without = without-put;
 }
