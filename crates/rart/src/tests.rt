@@ -4,6 +4,7 @@ use std::process::Abort;
 use std::test::Fail;
 
 mod statistics;
+mod texts;
 
 const SIXTEEN: [&[u8]; 16] = [
     b"a", b"b", b"c", b"d", b"e", b"f", b"g", b"h", b"i", b"j", b"k", b"l", b"m", b"n", b"o", b"p",
@@ -154,6 +155,35 @@ fn laws_at_concrete_types(rt: HostRuntime) -> Result<(), Fail> {
     let other = AdaptiveRadixTree::<ArrayKey<4>, u8>::new(rt.alloc());
     crate::laws::equal_keys_equal_nodes(&empty, &other);
     Ok(())
+}
+
+fn restores(rt: &impl Abort, tree: &mut Tree, key: &ArrayKey<16>) {
+    if tree.get_k(key).is_some() {
+        panic!(rt; "the key is not new");
+    }
+    match crate::laws::insert_then_remove(tree, key, 6) {
+        Ok((inserted, Ok(removed))) => assert!(rt; inserted.is_none() && removed == Some(6)),
+        _ => assert!(rt; false, "refused with ample memory"),
+    }
+}
+
+fn restores_statistics(rt: &impl Abort, tree: &mut Tree, key: &ArrayKey<16>) {
+    if tree.get_k(key).is_some() {
+        panic!(rt; "the key is not new");
+    }
+    match crate::laws::insert_then_remove_statistics(tree, key, 6) {
+        Ok((before, after)) => assert!(rt; before == after && before.num_values == 2),
+        Err(_refused) => assert!(rt; false, "refused with ample memory"),
+    }
+}
+
+#[test]
+fn a_new_key_removed_right_after_leaves_all_as_it_was(rt: HostRuntime) {
+    let mut tree = Tree::new(rt.alloc());
+    store(&rt, &mut tree, b"dog", 5, None);
+    store(&rt, &mut tree, b"do", 4, None);
+    restores(&rt, &mut tree, &key(b"cat"));
+    restores_statistics(&rt, &mut tree, &key(b"dot"));
 }
 
 #[test]

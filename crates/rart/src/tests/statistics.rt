@@ -1,3 +1,5 @@
+ghost use Rattle.std.specs.Prelude.{◌≤◌, length};
+
 use super::*;
 use crate::{NodeStats, TreeStats, TreeStatsTrait};
 
@@ -75,6 +77,48 @@ fn statistics_of_three_levels(rt: HostRuntime) -> Result<(), Fail> {
         )
     );
     Ok(())
+}
+
+// Whether the tree has these totals and widths once a key is removed.
+fn is_counted_without(
+    rt: &impl Abort,
+    tree: &mut Tree,
+    bytes: &[u8],
+    expected: [usize; 6],
+    widths: &[(usize, usize, usize)],
+) -> bool
+    requires { length bytes.now ≤ 16 }
+{
+    assert!(rt; take(rt, tree, bytes).is_some());
+    match tree.get_tree_stats() {
+        Ok(stats) => is_counted(&stats, expected, widths),
+        Err(_refused) => false,
+    }
+}
+
+#[test]
+fn statistics_after_a_removal(rt: HostRuntime) {
+    let mut tree = Tree::new(rt.alloc());
+    store(&rt, &mut tree, b"a", 0, None);
+    store(&rt, &mut tree, b"b", 0, None);
+    assert!(rt; is_counted_without(&rt, &mut tree, b"b", [1, 1, 0, 1, 0, 0], &[]));
+    store(&rt, &mut tree, b"", 0, None);
+    assert!(rt; is_counted_without(&rt, &mut tree, b"a", [1, 1, 0, 1, 0, 0], &[]));
+    let mut tree = Tree::new(rt.alloc());
+    store(&rt, &mut tree, b"ab", 0, None);
+    store(&rt, &mut tree, b"abcd", 1, None);
+    store(&rt, &mut tree, b"abce", 2, None);
+    assert!(rt; is_counted_without(&rt, &mut tree, b"abce", [1, 2, 1, 2, 1, 4], &[(4, 1, 1)]));
+}
+
+#[test]
+fn statistics_after_a_node_is_joined(rt: HostRuntime) {
+    let mut tree = Tree::new(rt.alloc());
+    store(&rt, &mut tree, b"x", 0, None);
+    for byte in 0..5_u8 {
+        store(&rt, &mut tree, &[b'x', b'y', byte], 1, None);
+    }
+    assert!(rt; is_counted_without(&rt, &mut tree, b"x", [5, 5, 1, 2, 5, 16], &[(16, 1, 5)]));
 }
 
 #[test]
