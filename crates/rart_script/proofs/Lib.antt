@@ -1,4 +1,5 @@
 pub mod LineLemmas
+pub mod PrintLemmas
 pub mod RunLemmas
 pub mod ScriptLemmas
 pub mod ValueLemmas

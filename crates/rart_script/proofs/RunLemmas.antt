@@ -1,5 +1,5 @@
 -- What the lines of a script print, one after the other.
-use Rattle.std.proofs.Common.{◌≡◌, ℕ, suc, ◌+◌, ◌<◌, List, [], ◌++◌, length, get_or, Option, Some, None, refl, sym, ap, subst, ◌∙◌, append_assoc, add-one}
+use Rattle.std.proofs.Common.{◌≡◌, ℕ, ◌+◌, List, [], ◌++◌, get_or, Option, Some, None, refl, sym, ap, ◌∙◌, append_assoc, add-one}
 use Rattle.std.proofs.lemmas.List.{append-nil}
 use Rattle.std.specs.Io.KnownBytes.{Appends}
 use Rattle.rart_script.specs.Answers.{IsStep}
@@ -8,7 +8,7 @@ use Rattle.rart_script.specs.Lines.{lines_of}
 use Rattle.rart_script.specs.Script.{IsRun, GoesOn, PrintsFirst}
 use Rattle.rart_script.specs.Words.{words_of}
 use Rattle.rart_script.specs.declared.command.Command.{Command}
-use Rattle.rart_script.proofs.ScriptLemmas.{IsNext, IsLine, is_line}
+use Rattle.rart_script.proofs.ScriptLemmas.{IsNext, is_line}
 
 pub Appends-nothing : (a : Option (List ℕ)) → Appends a a []
 Appends-nothing None = tt

@@ -5,7 +5,7 @@ use Rattle.std.specs.Str.{bytes_eq}
 use Rattle.rart_script.specs.Key.{key_of}
 use Rattle.rart_script.specs.Value.{value_of}
 use Rattle.rart_script.specs.declared.command.Command.{Command}
-use Rattle.rart_script.specs.declared.command.Command.TheVariants.{Nothing, Insert, Get, Remove, Len}
+use Rattle.rart_script.specs.declared.command.Command.TheVariants.{Nothing, Insert, Get, Remove, Len, Iter, Stats}
 
 -- the command of two operands, a key and a value
 abbrev pub insert_of : List (List ℕ) → Option Command
@@ -35,4 +35,6 @@ command_of (name ∷ operands) =
     else if bytes_eq name (codes "get") then get_of operands
     else if bytes_eq name (codes "remove") then remove_of operands
     else if bytes_eq name (codes "len") then complete_of Len operands
+    else if bytes_eq name (codes "iter") then complete_of Iter operands
+    else if bytes_eq name (codes "stats") then complete_of Stats operands
     else None

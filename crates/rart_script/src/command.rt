@@ -15,6 +15,8 @@ pub enum Command {
     Get { key: Key },
     Remove { key: Key },
     Len,
+    Iter,
+    Stats,
 }
 
 /// The command that a line writes; `None` where it is malformed.
@@ -32,6 +34,10 @@ pub fn parse_command(line: &[u8]) -> Option<Command>
         parse_remove(operands)
     } else if name == b"len".as_slice() {
         complete(Command::Len, operands)
+    } else if name == b"iter".as_slice() {
+        complete(Command::Iter, operands)
+    } else if name == b"stats".as_slice() {
+        complete(Command::Stats, operands)
     } else {
         None
     }

@@ -6,6 +6,7 @@ mod command;
 mod key;
 mod lines;
 mod script;
+mod statistics;
 mod stop;
 mod value;
 mod words;

@@ -5,12 +5,13 @@ ghost use Rattle.rart_script.specs.Answers.{IsStep};
 ghost use Rattle.rart_script.specs.Script.{bad_line, PrintsAll, PrintsFirst, PrintsUpTo, StopsAt};
 ghost use Rattle.rart_script.specs.Stop.{IsSaid};
 
-use crate::answers::{write_number, write_refusal, write_value};
+use crate::answers::{write_number, write_pairs, write_refusal, write_value};
 use crate::command::{Command, parse_command};
 use crate::key::KEY_SIZE;
 use crate::lines::Lines;
+use crate::statistics::write_statistics;
 use crate::stop::Stop;
-use rart::{AdaptiveRadixTree, ArrayKey};
+use rart::{AdaptiveRadixTree, ArrayKey, TreeStatsTrait};
 use std::alloc::Global;
 use std::io;
 use std::io::{Read, Write};
@@ -109,6 +110,17 @@ fn execute<W: Write>(tree: &mut Tree, command: Command, output: &mut W) -> io::R
             Err(error) => write_refusal(output, error),
         },
         Command::Len => write_number(output, tree.len()),
+        Command::Iter => match tree.iter() {
+            Ok(pairs) => write_pairs(output, pairs),
+            Err(error) => write_refusal(output, error),
+        },
+        Command::Stats => {
+            tree.canonical();
+            match tree.get_tree_stats() {
+                Ok(stats) => write_statistics(output, &stats),
+                Err(error) => write_refusal(output, error),
+            }
+        }
     }
 }
 

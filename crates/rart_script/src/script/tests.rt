@@ -145,6 +145,29 @@ fn answers_come_one_a_line(rt: HostRuntime) {
 }
 
 #[test]
+fn pairs_and_statistics_are_of_the_keys_that_are_left(rt: HostRuntime) {
+    let input =
+        b"insert cat 1\ninsert catalog 2\ninsert dog 3\nremove cat\niter\nstats\nget -\nlen\n";
+    let output = "none\nnone\nnone\nsome 1\ncatalog=2 dog=3\n\
+        leaves 2 values 2 inner 1 children 2 width 4 height 2 w4:1/2\nnone\n2\n";
+    let ran = run_bytes(rt.alloc(), input);
+    assert_ran(&rt, &ran, output.as_bytes(), b"", 0);
+}
+
+#[test]
+fn empty_tree_has_no_pairs_and_no_nodes(rt: HostRuntime) {
+    let output = "empty\nleaves 0 values 0 inner 0 children 0 width 0 height 0\n";
+    let ran = run_bytes(rt.alloc(), b"iter\nstats\n");
+    assert_ran(&rt, &ran, output.as_bytes(), b"", 0);
+}
+
+#[test]
+fn empty_key_is_printed_by_its_sign(rt: HostRuntime) {
+    let ran = run_bytes(rt.alloc(), b"insert b 2\ninsert - 1\niter\n");
+    assert_ran(&rt, &ran, b"none\nnone\n-=1 b=2\n", b"", 0);
+}
+
+#[test]
 fn malformed_line_ends_the_run(rt: HostRuntime) {
     let ran = run_bytes(rt.alloc(), b"insert a 1\nfoo\nlen\n");
     assert_ran(&rt, &ran, b"none\n", b"line 2: bad command\n", 2);
@@ -153,13 +176,15 @@ fn malformed_line_ends_the_run(rt: HostRuntime) {
 #[test]
 fn malformed_lines_are_named_by_number(rt: HostRuntime) -> Result<(), Fail> {
     let alloc = rt.alloc();
-    let cases: [(&[u8], usize); 23] = [
+    let cases: [(&[u8], usize); 27] = [
         (b"foo", 1),
         (b"\n \nfoo", 3),
         (b"inserta 1", 1),
         (b"INSERT a 1", 1),
         (b"Get a", 1),
         (b"LEN", 1),
+        (b"Iter", 1),
+        (b"STATS", 1),
         // Missing and surplus words.
         (b"insert", 1),
         (b"insert a", 1),
@@ -167,6 +192,8 @@ fn malformed_lines_are_named_by_number(rt: HostRuntime) -> Result<(), Fail> {
         (b"get", 1),
         (b"get a b", 1),
         (b"len 1", 1),
+        (b"iter x", 1),
+        (b"stats x", 1),
         // No value.
         (b"insert a +1", 1),
         (b"insert a -1", 1),
