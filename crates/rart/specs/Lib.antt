@@ -1,1 +1,2 @@
 pub mod MapAndShape
+pub mod Refusals

@@ -12,6 +12,7 @@ pub mod tree;
 
 pub use crate::stats::{NodeStats, TreeStats, TreeStatsTrait};
 pub use crate::tree::AdaptiveRadixTree;
+pub use crate::tree::guarded::{NotInserted, TryInsertError};
 pub use rart_keys::{ArrPartial, ArrayKey, KeyTrait, Partial, keys, partials};
 pub use rart_nodes::node::seen::Seen;
 pub use rart_nodes::node::{Iter, SeenIter, ValuesIter};

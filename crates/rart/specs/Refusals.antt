@@ -1,0 +1,26 @@
+-- When an insertion may be refused, and what an insertion that never replaces answers.
+use Rattle.std.specs.Prelude.{◌≡◌, ◌≢◌, ◌<◌, ℕ, List, length, true, Some, None}
+use Rattle.rart_keys.specs.SortedMap.{keys_of, lookup}
+use Rattle.rart_nodes.specs.InsertAsks.{insert_asks}
+use Rattle.rart_parts.specs.declared.error.TreeError.{TreeError}
+use Rattle.rart_parts.specs.declared.error.TreeError.TheVariants.{Memory, Full}
+use Rattle.rart.specs.declared.tree.TheConstants.{MAX_PAIRS}
+use Rattle.rart.specs.declared.tree.guarded.NotInserted.{NotInserted}
+use Rattle.rart.specs.declared.tree.guarded.NotInserted.TheVariants as not_inserted
+use Rattle.rart.specs.declared.tree.guarded.TryInsertError.{TryInsertError}
+use Rattle.rart.specs.declared.tree.guarded.TryInsertError.TheVariants as try_insert
+
+-- an insertion at this key may be refused for this reason: the key is new, and the map is as large as a map can be, or its keys say that the insertion asks for memory
+abbrev pub MayRefuse : {V : Type 0} → List (List ℕ × V) → List ℕ → TreeError → Type 0
+MayRefuse map key Full = (lookup key map ≡ None) × (length map ≡ MAX_PAIRS)
+MayRefuse map key Memory = (lookup key map ≡ None) × (length map < MAX_PAIRS) × (insert_asks (keys_of map) key ≡ true)
+
+-- the value that was offered comes back: the key is stored, or the insertion was refused
+abbrev pub TellsWhy : {V : Type 0} → List (List ℕ × V) → List ℕ → V → NotInserted V → Type 0
+TellsWhy map key value (not_inserted.Stored proposed) = (proposed ≡ value) × (lookup key map ≢ None)
+TellsWhy map key value (not_inserted.Refused refused) = (refused.value ≡ value) × MayRefuse map key refused.error
+
+-- the same, beside the value that stands at the key
+abbrev pub ShowsWhy : {V : Type 0} → List (List ℕ × V) → List ℕ → V → TryInsertError V → Type 0
+ShowsWhy map key value (try_insert.Occupied proposed present) = (proposed ≡ value) × (lookup key map ≡ Some present.now)
+ShowsWhy map key value (try_insert.Refused refused) = (refused.value ≡ value) × MayRefuse map key refused.error

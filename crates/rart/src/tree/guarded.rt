@@ -1,0 +1,95 @@
+//! Insertions that never replace a value.
+ghost use Rattle.std.specs.Prelude.{◌≡◌, ◌≢◌, length, None, IfErr, OnErr, OnOk};
+ghost use Rattle.rart_keys.specs.SortedMap.{lookup, put};
+ghost use Rattle.rart.specs.Refusals.{ShowsWhy, TellsWhy};
+
+use crate::tree::{AdaptiveRadixTree, MAX_PAIRS};
+use rart_keys::KeyTrait;
+use rart_nodes::Refused;
+
+/// Why `insert_new` put nothing in.
+#[derive(Drop)]
+pub enum NotInserted<V> {
+    /// The key is stored. The value that was offered.
+    Stored(V),
+    /// Refused as `insert_k` is.
+    Refused(Refused<V>),
+}
+
+/// Why `try_insert` put nothing in.
+#[derive(Drop)]
+pub enum TryInsertError<'a, V> {
+    /// The key is stored. The value that was offered, and the one that stands there.
+    Occupied(V, &'a V),
+    /// Refused as `insert_k` is.
+    Refused(Refused<V>),
+}
+
+impl<K: KeyTrait, V> AdaptiveRadixTree<K, V> {
+    /// Puts `value` at `key`, which must be new: where it is stored, or where the insertion is refused
+    /// as one by `insert_k` is, the value is handed back, and pairs and nodes are as before.
+    ///
+    /// Looks the key up, and then inserts it. A stored key asks for no memory.
+    pub fn insert_new_k(&mut self, key: &K, value: V) -> Result<(), NotInserted<V>>
+        ensures pairs { OnOk result (self.new.pairs ≡ put (K.bytes key.now) value self.old.pairs) }
+        ensures absent { OnOk result (lookup (K.bytes key.now) self.old.pairs ≡ None) }
+        ensures not_full { OnOk result (length self.old.pairs ≢ MAX_PAIRS) }
+        ensures kept { OnErr result (self.new ≡ self.old) }
+        ensures why { IfErr result (TellsWhy self.old.pairs (K.bytes key.now) value) }
+    {
+        if self.get_k(key).is_some() {
+            return Err(NotInserted::Stored(value));
+        }
+        match self.insert_k(key, value) {
+            Ok(old) => match old {
+                None => Ok(()),
+                Some(_) => unreachable!(),
+            },
+            Err(refused) => Err(NotInserted::Refused(refused)),
+        }
+    }
+
+    /// Puts `value` at `key`, as `insert_new_k` does.
+    pub fn insert_new(&mut self, key: K, value: V) -> Result<(), NotInserted<V>>
+    where
+        K: Drop,
+        ensures pairs { OnOk result (self.new.pairs ≡ put (K.bytes key) value self.old.pairs) }
+        ensures absent { OnOk result (lookup (K.bytes key) self.old.pairs ≡ None) }
+        ensures not_full { OnOk result (length self.old.pairs ≢ MAX_PAIRS) }
+        ensures kept { OnErr result (self.new ≡ self.old) }
+        ensures why { IfErr result (TellsWhy self.old.pairs (K.bytes key) value) }
+    {
+        self.insert_new_k(&key, value)
+    }
+
+    /// Puts `value` at `key` by `insert_new_k`, and shows the value that stands there where the key is
+    /// stored. What the tree ends as no clause of this call can say, since its result borrows from it.
+    pub fn try_insert_k<'a>(&'a mut self, key: &K, value: V) -> Result<(), TryInsertError<'a, V>>
+        ensures absent { OnOk result (lookup (K.bytes key.now) self.old.pairs ≡ None) }
+        ensures not_full { OnOk result (length self.old.pairs ≢ MAX_PAIRS) }
+        ensures why { IfErr result (ShowsWhy self.old.pairs (K.bytes key.now) value) }
+    {
+        match self.insert_new_k(key, value) {
+            Ok(()) => Ok(()),
+            Err(NotInserted::Refused(refused)) => Err(TryInsertError::Refused(refused)),
+            Err(NotInserted::Stored(proposed)) => match self.get_k(key) {
+                Some(present) => Err(TryInsertError::Occupied(proposed, present)),
+                None => unreachable!(),
+            },
+        }
+    }
+
+    /// Puts `value` at `key`, as `try_insert_k` does.
+    pub fn try_insert<'a>(&'a mut self, key: K, value: V) -> Result<(), TryInsertError<'a, V>>
+    where
+        K: Drop,
+        ensures absent { OnOk result (lookup (K.bytes key) self.old.pairs ≡ None) }
+        ensures not_full { OnOk result (length self.old.pairs ≢ MAX_PAIRS) }
+        ensures why { IfErr result (ShowsWhy self.old.pairs (K.bytes key) value) }
+    {
+        self.try_insert_k(&key, value)
+    }
+}
+
+#[cfg(test)]
+mod tests;
