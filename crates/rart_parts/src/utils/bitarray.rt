@@ -25,6 +25,7 @@ use std::marker::Model;
 /// Places below RANGE_WIDTH, each with a value or without. Only [`BitArray::new`] takes memory.
 #[derive(Drop)]
 pub struct BitArray<X, const RANGE_WIDTH: usize, B: BitsetTrait> {
+    // Empty, or the set of the used places.
     pub(crate) bitset: B,
     pub(crate) places: Vec<Option<X>>,
 }

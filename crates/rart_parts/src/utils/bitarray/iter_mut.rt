@@ -9,12 +9,13 @@ use crate::utils::bitset::BitsetTrait;
 use std::iter::FusedIterator;
 use std::slice;
 
-/// The used places and their values, to be changed, ascending, from both ends. It takes no memory.
+/// The used places and their values, to be changed, ascending, from both ends. It takes no memory. What
+/// `places_mut_rest` reads of it is the list of those still to come.
 #[derive(Drop)]
 pub struct BitArrayIterMut<'a, X> {
-    pub(crate) places: slice::IterMut<'a, Option<X>>,
+    places: slice::IterMut<'a, Option<X>>,
     // The number of the first of `places`.
-    pub(crate) position: usize,
+    position: usize,
 }
 
 impl<'a, X> Iterator for BitArrayIterMut<'a, X> {
@@ -56,11 +57,12 @@ impl<'a, X> DoubleEndedIterator for BitArrayIterMut<'a, X> {
 impl<'a, X> FusedIterator for BitArrayIterMut<'a, X> {}
 
 impl<X, const RANGE_WIDTH: usize, B: BitsetTrait> BitArray<X, RANGE_WIDTH, B> {
-    /// The used places with their values, to be changed, ascending, from both ends.
+    /// The used places with their values, to be changed, ascending, from both ends. It takes no memory.
     pub fn iter_mut(&mut self) -> BitArrayIterMut<'_, X>
         ensures ready { PlacesMutCanStep result }
         ensures rest { places_mut_rest result ≡ numbered 0 self.old }
     {
+        // For a proof the lent places may end as any, so the set says nothing of them from here on.
         self.bitset.clear();
         BitArrayIterMut {
             places: self.places.iter_mut(),

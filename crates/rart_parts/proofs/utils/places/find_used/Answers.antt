@@ -1,5 +1,5 @@
 use Rattle.std.proofs.Common.{sym, ◌∙◌}
-use Rattle.rart_parts.proofs.PlaceLemmas.{FoundBelow, read_used, found_more, found_same, found_all}
+use Rattle.rart_parts.proofs.PlaceLemmas.{read_used, found_more, found_same, found_all}
 use Rattle.rart_parts.proofs.utils.places.find_used.Goals.{then-is_some-2, else-is_some-2}
 use Rattle.rart_parts.proofs.utils.places.find_used.Goals as goal
 

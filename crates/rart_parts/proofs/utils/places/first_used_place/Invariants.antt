@@ -1,4 +1,4 @@
-use Rattle.std.proofs.Common.{◌≡◌, ℕ, ◌<◌, ◌≤◌, not, false, length}
+use Rattle.std.proofs.Common.{◌≡◌, ℕ, ◌<◌, false}
 use Rattle.rart_parts.specs.Places.{is_used}
 use Rattle.rart_parts.proofs.utils.places.first_used_place.Given as goal
 

@@ -1,5 +1,4 @@
 use Rattle.std.proofs.Common.{◌∙◌, ap, length, arith}
-use Rattle.rart_parts.specs.Places.{values_in}
 use Rattle.rart_parts.proofs.PlaceLemmas.{array_known, size_agrees}
 use Rattle.rart_parts.proofs.utils.bitarray.BitArray.size.Goals as goal
 
