@@ -31,6 +31,3 @@ pub last_free : {X : Type 0} (n : ℕ) (os rest : List (Option X)) (all : List (
     → (n + length rest < 2 ^ 64) × (numbered n rest ≡ all)
 last_free n os rest all e is =
     (omega (arith, is.0, ap length e, length-more rest None), sym (sym is.1 ∙ ap (numbered n) e ∙ numbered-append n rest None ∙ append_none (numbered n rest)))
-
-pub fits_before : {A : Type 0} (n bound : ℕ) (xs rest : List A) (x : A) → xs ≡ rest ++ x ∷ [] → n + length xs < bound → n + length rest < bound
-fits_before n bound xs rest x e h = omega (arith, h, ap length e, length-more rest x)

@@ -6,6 +6,5 @@ pub mod Indexed
 pub mod Keyed
 pub mod Keys
 pub mod Places
-pub mod PlacesMut
 pub mod SortedKeyed
 pub mod formers

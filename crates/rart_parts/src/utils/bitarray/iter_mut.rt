@@ -2,15 +2,15 @@
 ghost use Rattle.std.specs.Prelude.{◌≡◌};
 ghost use Rattle.std.specs.Iterator.{YieldsFirstBy, YieldsLastBy, item_count};
 ghost use Rattle.rart_parts.specs.Places.{numbered};
-ghost use Rattle.rart_parts.specs.PlacesMut.{places_mut_rest, PlacesMutCanStep};
 
 use crate::utils::bitarray::BitArray;
 use crate::utils::bitset::BitsetTrait;
 use std::iter::FusedIterator;
+use std::marker::Model;
 use std::slice;
 
-/// The used places and their values, to be changed, ascending, from both ends. It takes no memory. What
-/// `places_mut_rest` reads of it is the list of those still to come.
+/// The used places and their values, to be changed, seen as the list of those that are still to come. It takes no
+/// memory.
 #[derive(Drop)]
 pub struct BitArrayIterMut<'a, X> {
     places: slice::IterMut<'a, Option<X>>,
@@ -18,14 +18,27 @@ pub struct BitArrayIterMut<'a, X> {
     position: usize,
 }
 
+impl<'a, X> Model for BitArrayIterMut<'a, X> {
+    ghost use Rattle.std.specs.Prelude.{ℕ, List, length, ◌+◌, ◌<◌, ◌^◌};
+    ghost use Rattle.std.specs.Coded.{coded_list, coded×, coded_ℕ};
+    ghost use Rattle.std.specs.Slice.Iter.{iter_mut_rest};
+    ghost use Rattle.rart_parts.specs.Places.{numbered};
+
+    ghost Value = { List (ℕ × X) };
+
+    ghost coded = { coded_list (coded× coded_ℕ X.code) };
+
+    ghost view = { λ it. numbered it.position (iter_mut_rest it.places) };
+
+    ghost invariant = { λ it. it.position + length (iter_mut_rest it.places) < 2 ^ 64 };
+}
+
 impl<'a, X> Iterator for BitArrayIterMut<'a, X> {
     type Item = (usize, &'a mut X);
 
-    ghost can_next = { PlacesMutCanStep };
+    ghost next_gives = { YieldsFirstBy (λ item. (item.0, item.1.now)) (λ rest. rest) };
 
-    ghost next_gives = { YieldsFirstBy (λ item. (item.0, item.1.now)) places_mut_rest };
-
-    ghost remaining = { item_count places_mut_rest };
+    ghost remaining = { item_count (λ rest. rest) };
 
     fn next(&mut self) -> Option<(usize, &'a mut X)> {
         while let Some(place) = self.places.next() {
@@ -40,9 +53,7 @@ impl<'a, X> Iterator for BitArrayIterMut<'a, X> {
 }
 
 impl<'a, X> DoubleEndedIterator for BitArrayIterMut<'a, X> {
-    ghost can_next_back = { PlacesMutCanStep };
-
-    ghost next_back_gives = { YieldsLastBy (λ item. (item.0, item.1.now)) places_mut_rest };
+    ghost next_back_gives = { YieldsLastBy (λ item. (item.0, item.1.now)) (λ rest. rest) };
 
     fn next_back(&mut self) -> Option<(usize, &'a mut X)> {
         while let Some(place) = self.places.next_back() {
@@ -59,8 +70,7 @@ impl<'a, X> FusedIterator for BitArrayIterMut<'a, X> {}
 impl<X, const RANGE_WIDTH: usize, B: BitsetTrait> BitArray<X, RANGE_WIDTH, B> {
     /// The used places with their values, to be changed, ascending, from both ends. It takes no memory.
     pub fn iter_mut(&mut self) -> BitArrayIterMut<'_, X>
-        ensures ready { PlacesMutCanStep result }
-        ensures rest { places_mut_rest result ≡ numbered 0 self.old }
+        ensures { result ≡ numbered 0 self.old }
     {
         // For a proof the lent places may end as any, so the set says nothing of them from here on.
         self.bitset.clear();

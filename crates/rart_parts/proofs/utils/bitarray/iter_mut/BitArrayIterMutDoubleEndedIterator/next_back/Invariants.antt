@@ -6,8 +6,8 @@ use Rattle.rart_parts.proofs.utils.bitarray.iter_mut.BitArrayIterMutDoubleEndedI
 -- only free places were passed over
 abbrev pub invariant-loop-place : goal.invariant-loop-place
 invariant-loop-place g l =
-    (l.self.position + length (iter_mut_rest l.self.places) < 2 ^ 64)
-    × (numbered l.self.position (iter_mut_rest l.self.places) ≡ numbered l.fn.self.position (iter_mut_rest l.fn.self.places))
+    (l.self-inside.position + length (iter_mut_rest l.self-inside.places) < 2 ^ 64)
+    × (numbered l.self-inside.position (iter_mut_rest l.self-inside.places) ≡ l.fn.self)
 
 abbrev pub decreases-loop-place : goal.decreases-loop-place
-decreases-loop-place g l = length (iter_mut_rest l.self.places)
+decreases-loop-place g l = length (iter_mut_rest l.self-inside.places)
