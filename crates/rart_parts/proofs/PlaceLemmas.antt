@@ -1,11 +1,13 @@
 -- An array of places beside the set of those that are used.
-use Rattle.std.proofs.Common.{◌≡◌, ℕ, zero, suc, ◌<◌, ◌≤◌, ◌+◌, ◌-◌, ◌^◌, ◌||◌, ◌&&◌, not, Bool, true, false, eqb, List, [], ◌∷◌, Option, Some, None, length, set, get_or, replicate, arith, sym, ap, ◌∙◌, refl, ⊎_elim, subst}
+use Rattle.std.proofs.Common.{◌≡◌, ℕ, zero, suc, ◌<◌, ◌≤◌, ◌+◌, ◌-◌, ◌^◌, ◌||◌, ◌&&◌, not, Bool, true, false, eqb, List, [], ◌∷◌, Option, Some, None, length, set, get_or, replicate, arith, sym, ap, ◌∙◌, refl, ⊎_elim, subst, ◌↔◌}
 use Rattle.std.proofs.Math.Dec.{eqb-suc-zero, eqb-zero-suc, eqb-suc-suc as eqb-suc}
-use Rattle.std.proofs.lemmas.List.{length-set, length-replicate}
+use Rattle.std.proofs.lemmas.List.{length-set}
 use Rattle.std.proofs.lemmas.Bool.{cases_lt, false≢true}
 use Rattle.std.proofs.lemmas.Bool.Decides.{eqb_tells}
+use Rattle.std.specs.Prelude.{IsTrue}
+use Rattle.std.specs.Option.{is_some}
 use Rattle.rart_parts.specs.Bits.{members, members_from, IsFirst, IsLast}
-use Rattle.rart_parts.specs.Places.{is_used, is_filled, values_in, IsBitArray}
+use Rattle.rart_parts.specs.Places.{is_used, is_filled, values_in, Agrees, AgreesIfAny, IsBitArray}
 use Rattle.rart_parts.proofs.Members.{members_from-same, members_from-none, length-members_from-add, length-members_from-moved}
 
 -- ---- which places are used
@@ -60,56 +62,123 @@ none_in (None ∷ os) e (suc i) = none_in os e i
 none_in (Some x ∷ os) e i = cc
 
 -- ---- the pair of both
+-- what holds of every set with a position holds of one with none
+pub if_any : {X : Type 0} (n : ℕ) (has : ℕ → Bool) (os : List (Option X)) → ((k : ℕ) → k < n → has k ≡ false) → AgreesIfAny n has os
+if_any n has os none = λ k l e. absurd (false≢true (sym (none k l) ∙ e))
+
 module _ {X : Type 0} {width capacity : ℕ} where
-  pub array_at_start : (has : ℕ → Bool) → width ≤ capacity → capacity < 2 ^ 64 → ((k : ℕ) → k < capacity → has k ≡ false) → IsBitArray {X = X} width capacity has (replicate width None)
-  array_at_start has covers fits none = record { full = length-replicate width None; covers = covers; fits = fits; agrees = λ i h. none i h ∙ sym (none_used X width i) }
+  pub array_of : (has : ℕ → Bool) (os : List (Option X)) → length os ≡ width → width ≤ capacity → capacity < 2 ^ 64 → ((k : ℕ) → k < capacity → has k ≡ false) → IsBitArray {X = X} width capacity has os
+  array_of has os full covers fits none = record { full = full; covers = covers; fits = fits; agrees = if_any capacity has os none }
 
   module _ {has : ℕ → Bool} {os : List (Option X)} (a : IsBitArray width capacity has os) where
-    pub array_with : {more : ℕ → Bool} (p : ℕ) (x : X) → p < width → ((k : ℕ) → k < capacity → more k ≡ (eqb k p || has k)) → IsBitArray width capacity more (set os p (Some x))
-    array_with p x h e = record {
+    pub array_with : {found more : ℕ → Bool} {seen : List (Option X)} (p : ℕ) (x : X) → p < width → seen ≡ os → Agrees capacity found seen → ((k : ℕ) → k < capacity → more k ≡ (eqb k p || found k)) → IsBitArray width capacity more (set os p (Some x))
+    array_with p x h same t e = record {
       full = length-set os p (Some x) ∙ a.full;
       covers = a.covers;
       fits = a.fits;
-      agrees = λ i l. e i l ∙ ap (λ b. eqb i p || b) (a.agrees i l) ∙ sym (used_with os p x i (omega (arith, h, a.full)));
+      agrees = λ k m any i l. e i l ∙ ap (λ b. eqb i p || b) (t i l ∙ ap (λ s. is_used s i) same) ∙ sym (used_with os p x i (omega (arith, h, a.full)));
     }
 
-    pub array_without : {less : ℕ → Bool} (p : ℕ) → p < width → ((k : ℕ) → k < capacity → less k ≡ (not (eqb k p) && has k)) → IsBitArray width capacity less (set os p None)
-    array_without p h e = record {
+    pub array_without : {found less : ℕ → Bool} {seen : List (Option X)} (p : ℕ) → p < width → seen ≡ os → Agrees capacity found seen → ((k : ℕ) → k < capacity → less k ≡ (not (eqb k p) && found k)) → IsBitArray width capacity less (set os p None)
+    array_without p h same t e = record {
       full = length-set os p None ∙ a.full;
       covers = a.covers;
       fits = a.fits;
-      agrees = λ i l. e i l ∙ ap (λ b. not (eqb i p) && b) (a.agrees i l) ∙ sym (used_without os p i);
+      agrees = λ k m any i l. e i l ∙ ap (λ b. not (eqb i p) && b) (t i l ∙ ap (λ s. is_used s i) same) ∙ sym (used_without os p i);
     }
 
     -- a used place gets another value
-    pub array_replaced : (p : ℕ) (x : X) → p < width → has p ≡ true → IsBitArray width capacity has (set os p (Some x))
-    array_replaced p x h e = array_with p x h (λ k l. ⊎_elim (λ t. ap has t.1 ∙ e ∙ ap (λ b. b || has k) (sym t.0)) (λ t. ap (λ b. b || has k) (sym t.0)) (eqb_tells k p))
+    pub array_replaced : (p : ℕ) (x : X) → p < width → is_used os p ≡ true → IsBitArray width capacity has (set os p (Some x))
+    array_replaced p x h e = record {
+      full = length-set os p (Some x) ∙ a.full;
+      covers = a.covers;
+      fits = a.fits;
+      agrees = λ k m any i l. a.agrees k m any i l ∙ still i ∙ sym (used_with os p x i (omega (arith, h, a.full)));
+    }
+      where
+        still : (i : ℕ) → is_used os i ≡ (eqb i p || is_used os i)
+        still i = ⊎_elim (λ t. ap (is_used os) t.1 ∙ e ∙ ap (λ b. b || is_used os i) (sym t.0)) (λ t. ap (λ b. b || is_used os i) (sym t.0)) (eqb_tells i p)
 
     used_below : (i : ℕ) → i < capacity → has i ≡ true → i < width
-    used_below i h e = subst (λ n. i < n) a.full (used_place os i (sym (a.agrees i h) ∙ e))
+    used_below i h e = subst (λ n. i < n) a.full (used_place os i (sym (a.agrees i h e i h) ∙ e))
 
-    pub array_first_used : (r : Option ℕ) → IsFirst has capacity r → IsFirst (is_used os) width r
-    array_first_used None f = λ k h. sym (a.agrees k (omega (arith, h, a.covers))) ∙ f k (omega (arith, h, a.covers))
-    array_first_used (Some p) f = (used_below p f.0 f.1, sym (a.agrees p f.0) ∙ f.1, λ k h. sym (a.agrees k (omega (arith, h, f.0))) ∙ f.2 k h)
+    pub array_first_used : (p : ℕ) → IsFirst has capacity (Some p) → IsFirst (is_used os) width (Some p)
+    array_first_used p f =
+        let t = a.agrees p f.0 f.1 in
+        (used_below p f.0 f.1, sym (t p f.0) ∙ f.1, λ k h. sym (t k (omega (arith, h, f.0))) ∙ f.2 k h)
 
-    pub array_last_used_pos : (r : Option ℕ) → IsLast has capacity r → IsLast (is_used os) width r
-    array_last_used_pos None f = λ k h. sym (a.agrees k (omega (arith, h, a.covers))) ∙ f k (omega (arith, h, a.covers))
-    array_last_used_pos (Some p) f = (used_below p f.0 f.1, sym (a.agrees p f.0) ∙ f.1, λ k l h. sym (a.agrees k (omega (arith, h, a.covers))) ∙ f.2 k l (omega (arith, h, a.covers)))
+    pub array_last_used_pos : (p : ℕ) → IsLast has capacity (Some p) → IsLast (is_used os) width (Some p)
+    array_last_used_pos p f =
+        let t = a.agrees p f.0 f.1 in
+        (used_below p f.0 f.1, sym (t p f.0) ∙ f.1, λ k l h. sym (t k (omega (arith, h, a.covers))) ∙ f.2 k l (omega (arith, h, a.covers)))
 
-    -- the set beyond the width is empty
-    pub array_size : length (members has capacity) ≡ length (values_in os)
-    array_size =
-        let more = capacity - width in
-        let whole : width + more ≡ capacity = omega (arith, a.covers) in
-        let same : members has capacity ≡ members (is_used os) capacity = members_from-same has (is_used os) 0 capacity (λ k l h. a.agrees k (omega arith)) in
-        let past : members_from (is_used os) (0 + width) more ≡ [] = members_from-none (is_used os) (0 + width) more (λ k l h. past_used os k (omega (arith, l, a.full))) in
-        omega (arith, ap length same, ap (λ n. length (members (is_used os) n)) whole, length-members_from-add (is_used os) 0 width more, ap length past, length-values_in os, ap (λ n. length (members (is_used os) n)) a.full)
+    pub array_known : (r : Option ℕ) → true ≡ is_some r → IsFirst has capacity r → Agrees capacity has os
+    array_known None e f = absurd (false≢true (sym e))
+    array_known (Some p) e f = a.agrees p f.0 f.1
 
-    pub array_empty : (((k : ℕ) → k < capacity → has k ≡ false) → values_in os ≡ []) × (values_in os ≡ [] → (k : ℕ) → k < capacity → has k ≡ false)
-    array_empty = (
-      λ none. values_in-none os (λ i. ⊎_elim (λ h. sym (a.agrees i h) ∙ none i h) (λ h. past_used os i (omega (arith, h, a.full, a.covers))) (cases_lt i capacity)),
-      λ e k h. a.agrees k h ∙ none_in os e k,
-    )
+-- a set that agrees with the places has as many positions as there are values
+pub size_agrees : {X : Type 0} (capacity : ℕ) (has : ℕ → Bool) (os : List (Option X)) → length os ≤ capacity → Agrees capacity has os → length (members has capacity) ≡ length (values_in os)
+size_agrees capacity has os covers t =
+    let more = capacity - length os in
+    let whole : length os + more ≡ capacity = omega (arith, covers) in
+    let same : members has capacity ≡ members (is_used os) capacity = members_from-same has (is_used os) 0 capacity (λ k l h. t k (omega arith)) in
+    let past : members_from (is_used os) (0 + length os) more ≡ [] = members_from-none (is_used os) (0 + length os) more (λ k l h. past_used os k (omega (arith, l))) in
+    omega (arith, ap length same, ap (λ n. length (members (is_used os) n)) whole, length-members_from-add (is_used os) 0 (length os) more, ap length past, length-values_in os)
+
+-- an array is empty where no place is the first used one
+pub empty_if : {X : Type 0} (os : List (Option X)) (n : ℕ) (r : Option ℕ) (b : Bool) → length os ≡ n → IsFirst (is_used os) n r → is_some r ≡ not b → IsTrue b ↔ (values_in os ≡ [])
+empty_if os n None true full f e = (λ _. values_in-none os (λ i. ⊎_elim (λ h. f i (omega (arith, h, full))) (past_used os i) (cases_lt i (length os))), λ _. refl)
+empty_if os n None false full f e = absurd (false≢true e)
+empty_if os n (Some p) true full f e = absurd (false≢true (sym e))
+empty_if os n (Some p) false full f e = (λ t. absurd (false≢true t), λ none. absurd (false≢true (sym (none_in os none p) ∙ f.1)))
+
+-- ---- a look at one place after another
+pub read_used : {X : Type 0} (os : List (Option X)) (i : ℕ) (o : Option X) → i < length os → o ≡ get_or os i o → is_some o ≡ is_used os i
+read_used [] i o h e = absurd (omega arith)
+read_used (p ∷ os) zero o h e = ap is_some e ∙ filled p
+  where
+    filled : {X : Type 0} (o : Option X) → is_some o ≡ is_filled o
+    filled None = refl
+    filled (Some x) = refl
+read_used (p ∷ os) (suc i) o h e = read_used os i o (omega arith) e
+
+pub read_true : {X : Type 0} (os : List (Option X)) (i : ℕ) (o : Option X) → i < length os → o ≡ get_or os i o → true ≡ is_some o → is_used os i ≡ true
+read_true os i o h e t = sym (read_used os i o h e) ∙ sym t
+
+pub below_more : (f : ℕ → Bool) (p : ℕ) → ((k : ℕ) → k < p → f k ≡ false) → f p ≡ false → (k : ℕ) → k < p + 1 → f k ≡ false
+below_more f p h e k l = ⊎_elim (λ t. ap f t.1 ∙ e) (λ t. h k (omega (arith, l, t.1))) (eqb_tells k p)
+
+pub above_more : (f : ℕ → Bool) (p n : ℕ) → ((k : ℕ) → p ≤ k → k < n → f k ≡ false) → f (p - 1) ≡ false → (k : ℕ) → p - 1 ≤ k → k < n → f k ≡ false
+above_more f p n h e k l m = ⊎_elim (λ t. ap f t.1 ∙ e) (λ t. h k (omega (arith, l, t.1)) m) (eqb_tells k (p - 1))
+
+-- a set has the used places below p and none from there on
+abbrev pub FoundBelow : {X : Type 0} → ℕ → (ℕ → Bool) → List (Option X) → ℕ → Type 0
+FoundBelow capacity has os p = ((k : ℕ) → k < p → k < capacity → has k ≡ is_used os k) × ((k : ℕ) → p ≤ k → k < capacity → has k ≡ false)
+
+module _ {X : Type 0} (capacity : ℕ) (old : ℕ → Bool) (os : List (Option X)) (p : ℕ) (found : FoundBelow capacity old os p) where
+  pub found_more : (new : ℕ → Bool) → is_used os p ≡ true → ((k : ℕ) → k < capacity → new k ≡ (eqb k p || old k)) → FoundBelow capacity new os (p + 1)
+  found_more new u e = (
+    λ k l m. ⊎_elim
+        (λ t. e k m ∙ ap (λ b. b || old k) t.0 ∙ sym (ap (is_used os) t.1 ∙ u))
+        (λ t. e k m ∙ ap (λ b. b || old k) t.0 ∙ found.0 k (omega (arith, l, t.1)) m)
+        (eqb_tells k p),
+    λ k l m. ⊎_elim
+        (λ t. absurd (omega (arith, l, t.1)))
+        (λ t. e k m ∙ ap (λ b. b || old k) t.0 ∙ found.1 k (omega (arith, l)) m)
+        (eqb_tells k p),
+  )
+
+  pub found_same : is_used os p ≡ false → FoundBelow capacity old os (p + 1)
+  found_same u = (
+    λ k l m. ⊎_elim
+        (λ t. found.1 k (omega (arith, t.1)) m ∙ sym (ap (is_used os) t.1 ∙ u))
+        (λ t. found.0 k (omega (arith, l, t.1)) m)
+        (eqb_tells k p),
+    λ k l m. found.1 k (omega (arith, l)) m,
+  )
+
+  pub found_all : length os ≤ p → Agrees capacity old os
+  found_all h i l = ⊎_elim (λ t. found.0 i t l) (λ t. found.1 i t l ∙ sym (past_used os i (omega (arith, h, t)))) (cases_lt i p)
 
 -- ---- what stands at a place
 pub used_read : {X : Type 0} (os : List (Option X)) (p : ℕ) → is_used os p ≡ true → (x : X) × (get_or os p None ≡ Some x)

@@ -5,7 +5,6 @@ pub mod EntryShapes
 pub mod Indexed
 pub mod Keyed
 pub mod Keys
-pub mod Memory
 pub mod Places
 pub mod SortedKeyed
 pub mod formers

@@ -24,16 +24,6 @@ numbered n [] = []
 numbered n (None ∷ os) = numbered (suc n) os
 numbered n (Some x ∷ os) = (n, x) ∷ numbered (suc n) os
 
--- the answer is the least used place from one number on and below another
-abbrev pub IsNext : {X : Type 0} → List (Option X) → ℕ → ℕ → Option ℕ → Type 0
-IsNext os from to answer = MatchOption answer ((k : ℕ) → from ≤ k → k < to → is_used os k ≡ false)
-    (λ p. (from ≤ p) × (p < to) × (is_used os p ≡ true) × ((k : ℕ) → from ≤ k → k < p → is_used os k ≡ false))
-
--- the answer is the greatest of them
-abbrev pub IsPrevious : {X : Type 0} → List (Option X) → ℕ → ℕ → Option ℕ → Type 0
-IsPrevious os from to answer = MatchOption answer ((k : ℕ) → from ≤ k → k < to → is_used os k ≡ false)
-    (λ p. (from ≤ p) × (p < to) × (is_used os p ≡ true) × ((k : ℕ) → p < k → k < to → is_used os k ≡ false))
-
 -- the answer is the value at the greatest used place
 abbrev pub GivesLast : {X : Type 0} → ℕ → List (Option X) → Option X → Type 0
 GivesLast width os answer = MatchOption answer (IsLast (is_used os) width None)
@@ -48,9 +38,13 @@ PopsLast width old answer new = MatchOption answer (IsLast (is_used old) width N
 abbrev pub Agrees : {X : Type 0} → ℕ → (ℕ → Bool) → List (Option X) → Type 0
 Agrees capacity has os = (i : ℕ) → i < capacity → has i ≡ is_used os i
 
--- so many places, a set that has room for them and whose positions fit a machine's number, and the set is that of the used places
+-- a set with any position is that of the used places, and an empty one says nothing of them
+abbrev pub AgreesIfAny : {X : Type 0} → ℕ → (ℕ → Bool) → List (Option X) → Type 0
+AgreesIfAny capacity has os = (k : ℕ) → k < capacity → has k ≡ true → Agrees capacity has os
+
+-- so many places, a set that has room for them and whose positions fit a machine's number, and the set is that of the used places if it has any
 pub record IsBitArray {X : Type 0} (width capacity : ℕ) (has : ℕ → Bool) (os : List (Option X)) : Type 0 where
   pub full : length os ≡ width
   pub covers : width ≤ capacity
   pub fits : capacity < 2 ^ 64
-  pub agrees : Agrees capacity has os
+  pub agrees : AgreesIfAny capacity has os

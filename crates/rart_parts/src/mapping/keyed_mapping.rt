@@ -179,5 +179,8 @@ fn slot_of<N, const W: usize, B: BitsetTrait>(
     requires { length keys.now ≡ W }
     ensures { IsFirst (is_held keys.now key (is_used children.now)) W result }
 {
-    u8_keys_find_key_position::<W, B>(key, keys, children.used())
+    match children.used() {
+        Some(used) => u8_keys_find_key_position::<W, B>(key, keys, used),
+        None => u8_keys_find_key_position::<W, B>(key, keys, &children.found()),
+    }
 }

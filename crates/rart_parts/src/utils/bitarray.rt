@@ -1,17 +1,22 @@
 //! Places for values, with the set of those that are used. An array is seen as the list of its places, each with its
 //! value or without: a map from positions below its width.
+//!
+//! An empty set says nothing: the places themselves are looked at then, and the next change finds the set again. So it
+//! is in an array with no value, and after a walk that lent the values.
 
 mod iter;
 mod iter_mut;
 
-ghost use Rattle.std.specs.Prelude.{◌≡◌, ℕ, [], ◌<◌, ◌≤◌, ◌^◌, ◌↔◌, not, Bool, false, length, IfErr, IfOk, IsTrue, MatchOption, OnSome, Option, Some, None, slice_index_or, slice_set, replicate};
+ghost use Rattle.std.specs.Prelude.{◌≡◌, ℕ, [], ◌<◌, ◌≤◌, ◌^◌, ◌↔◌, not, Bool, false, length, IfErr, IfOk, IfSome, IsTrue, MatchOption, OnSome, Option, Some, None, slice_index_or, slice_set, replicate};
 ghost use Rattle.std.specs.Option.{option_copied, option_copied_mut};
 ghost use Rattle.rart_parts.specs.Bits.{IsFirst, IsLast};
-ghost use Rattle.rart_parts.specs.Places.{is_used, values_in, GivesLast, PopsLast};
+ghost use Rattle.rart_parts.specs.Places.{Agrees, is_used, values_in, GivesLast, PopsLast};
 
 use crate::error::TreeError;
 use crate::utils::bitset::BitsetTrait;
-use crate::utils::places::{fill_place, free_places};
+use crate::utils::places::{
+    fill_place, find_used, first_free_place, first_used_place, free_places, last_used_place,
+};
 pub use iter::{BitArrayIter, BitArrayKeys};
 pub use iter_mut::BitArrayIterMut;
 use std::alloc::Global;
@@ -20,6 +25,7 @@ use std::marker::Model;
 /// Places below RANGE_WIDTH, each with a value or without. Only [`BitArray::new`] takes memory.
 #[derive(Drop)]
 pub struct BitArray<X, const RANGE_WIDTH: usize, B: BitsetTrait> {
+    // Empty, or the set of the used places.
     pub(crate) bitset: B,
     pub(crate) places: Vec<Option<X>>,
 }
@@ -65,6 +71,7 @@ impl<X, const RANGE_WIDTH: usize, B: BitsetTrait> BitArray<X, RANGE_WIDTH, B> {
         ensures new { MatchOption result (self.new ≡ self.old) (λ p. self.new ≡ slice_set self.old p (Some x)) }
     {
         let position = self.first_empty()?;
+        find_used(&mut self.bitset, &self.places);
         self.bitset.set(position);
         self.places[position] = Some(x);
         Some(position)
@@ -89,21 +96,30 @@ impl<X, const RANGE_WIDTH: usize, B: BitsetTrait> BitArray<X, RANGE_WIDTH, B> {
     pub fn last_used_pos(&self) -> Option<usize>
         ensures { IsLast (is_used self.now) RANGE_WIDTH result }
     {
-        self.bitset.last()
+        match self.bitset.last() {
+            Some(position) => Some(position),
+            None => last_used_place(&self.places),
+        }
     }
 
     /// The least used place.
     pub fn first_used(&self) -> Option<usize>
         ensures { IsFirst (is_used self.now) RANGE_WIDTH result }
     {
-        self.bitset.first_set()
+        match self.bitset.first_set() {
+            Some(position) => Some(position),
+            None => first_used_place(&self.places),
+        }
     }
 
     /// The least free place.
     pub fn first_empty(&self) -> Option<usize>
         ensures { IsFirst (λ k. not (is_used self.now k)) RANGE_WIDTH result }
     {
-        let position = self.bitset.first_empty()?;
+        let Some(used) = self.used() else {
+            return first_free_place(&self.places);
+        };
+        let position = used.first_empty()?;
         if position < RANGE_WIDTH {
             Some(position)
         } else {
@@ -116,7 +132,7 @@ impl<X, const RANGE_WIDTH: usize, B: BitsetTrait> BitArray<X, RANGE_WIDTH, B> {
         requires { position < RANGE_WIDTH }
         ensures { result ≡ is_used self.now position }
     {
-        self.bitset.check(position)
+        self.places[position].is_some()
     }
 
     /// The value at a place.
@@ -134,12 +150,27 @@ impl<X, const RANGE_WIDTH: usize, B: BitsetTrait> BitArray<X, RANGE_WIDTH, B> {
         self.places.as_slice()
     }
 
-    /// The set of the used places.
-    pub(crate) fn used(&self) -> &B
+    /// The set of the used places, where it is known.
+    pub(crate) fn used(&self) -> Option<&B>
         ensures covers { RANGE_WIDTH ≤ B.CAPACITY }
-        ensures same { (k : ℕ) → k < RANGE_WIDTH → B.has result.now k ≡ is_used self.now k }
+        ensures fits { B.CAPACITY < 2 ^ 64 }
+        ensures same { IfSome result (λ set. Agrees B.CAPACITY (B.has set.now) self.now) }
     {
-        &self.bitset
+        if self.bitset.first_set().is_some() {
+            Some(&self.bitset)
+        } else {
+            None
+        }
+    }
+
+    /// The set of the used places, found by a look at each place.
+    pub(crate) fn found(&self) -> B
+        ensures covers { RANGE_WIDTH ≤ B.CAPACITY }
+        ensures same { Agrees B.CAPACITY (B.has result) self.now }
+    {
+        let mut used = B::default();
+        find_used(&mut used, &self.places);
+        used
     }
 
     /// Puts a value at a place. An old value there is dropped.
@@ -149,6 +180,7 @@ impl<X, const RANGE_WIDTH: usize, B: BitsetTrait> BitArray<X, RANGE_WIDTH, B> {
         requires { position < RANGE_WIDTH }
         ensures { self.new ≡ slice_set self.old position (Some x) }
     {
+        find_used(&mut self.bitset, &self.places);
         self.bitset.set(position);
         self.places[position] = Some(x);
     }
@@ -159,6 +191,7 @@ impl<X, const RANGE_WIDTH: usize, B: BitsetTrait> BitArray<X, RANGE_WIDTH, B> {
         requires free { is_used self.old position ≡ false }
         ensures { self.new ≡ slice_set self.old position (Some x) }
     {
+        find_used(&mut self.bitset, &self.places);
         self.bitset.set(position);
         fill_place(&mut self.places[position], x);
     }
@@ -169,6 +202,7 @@ impl<X, const RANGE_WIDTH: usize, B: BitsetTrait> BitArray<X, RANGE_WIDTH, B> {
         ensures old { result ≡ slice_index_or self.old position None }
         ensures new { self.new ≡ slice_set self.old position (Some x) }
     {
+        find_used(&mut self.bitset, &self.places);
         self.bitset.set(position);
         self.places[position].replace(x)
     }
@@ -179,6 +213,7 @@ impl<X, const RANGE_WIDTH: usize, B: BitsetTrait> BitArray<X, RANGE_WIDTH, B> {
         ensures old { result ≡ slice_index_or self.old position None }
         ensures new { self.new ≡ slice_set self.old position None }
     {
+        find_used(&mut self.bitset, &self.places);
         self.bitset.unset(position);
         self.places[position].take()
     }
@@ -199,14 +234,19 @@ impl<X, const RANGE_WIDTH: usize, B: BitsetTrait> BitArray<X, RANGE_WIDTH, B> {
     pub fn is_empty(&self) -> bool
         ensures { IsTrue result ↔ (values_in self.now ≡ []) }
     {
-        self.bitset.is_empty()
+        let _places = &self.places;
+        self.first_used().is_none()
     }
 
     /// How many places are used.
     pub fn size(&self) -> usize
         ensures { result ≡ length (values_in self.now) }
     {
-        self.bitset.size()
+        if self.bitset.first_set().is_some() {
+            self.bitset.size()
+        } else {
+            self.found().size()
+        }
     }
 }
 
@@ -222,7 +262,7 @@ impl<X, const RANGE_WIDTH: usize, B: BitsetTrait> BitArray<X, RANGE_WIDTH, B> {
         ensures* writes_back { sem 𝓛 (LendsSo (the_row X.row RANGE_WIDTH.row B.row (record { BIT_SHIFT = B.BIT_SHIFT; STORAGE_BIT_WIDTH = B.STORAGE_BIT_WIDTH; STORAGE_WORDS = B.STORAGE_WORDS; CAPACITY = B.CAPACITY; has = B.has }) (record { is_default = B.is_default })) X.row self.entry result (λ n w. OnSome result (n ≡ slice_set self.old position (Some w))) (λ n. n ≡ self.old)) }
         ensures value { option_copied_mut result ≡ slice_index_or self.old position None }
     {
-        if self.bitset.check(position) {
+        if self.places[position].is_some() {
             self.places[position].as_mut()
         } else {
             None

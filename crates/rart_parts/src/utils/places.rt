@@ -1,6 +1,9 @@
-//! One place, with a value or without.
-ghost use Rattle.std.specs.Prelude.{◌≡◌, [], Some, None};
-ghost use Rattle.rart_parts.specs.Places.{values_in};
+//! Places, each with a value or without.
+ghost use Rattle.std.specs.Prelude.{◌≡◌, ◌<◌, ◌≤◌, ◌^◌, not, [], Some, None, length};
+ghost use Rattle.rart_parts.specs.Bits.{IsFirst, IsLast};
+ghost use Rattle.rart_parts.specs.Places.{is_used, values_in, Agrees, AgreesIfAny};
+
+use crate::utils::bitset::BitsetTrait;
 
 /// Puts a value at a place that has none. Nothing is dropped, so the value's type need not allow it.
 pub(crate) fn fill_place<X>(place: &mut Option<X>, x: X)
@@ -26,4 +29,57 @@ pub(crate) fn free_places<X>(places: Vec<Option<X>>)
         }
     }
     rest.destroy_empty();
+}
+
+/// The least place with a value.
+pub(crate) fn first_used_place<X>(places: &[Option<X>]) -> Option<usize>
+    ensures { IsFirst (is_used places.now) (length places.now) result }
+{
+    for position in 0..places.len() {
+        if places[position].is_some() {
+            return Some(position);
+        }
+    }
+    None
+}
+
+/// The greatest place with a value.
+pub(crate) fn last_used_place<X>(places: &[Option<X>]) -> Option<usize>
+    ensures { IsLast (is_used places.now) (length places.now) result }
+{
+    for position in (0..places.len()).rev() {
+        if places[position].is_some() {
+            return Some(position);
+        }
+    }
+    None
+}
+
+/// The least place without a value.
+pub(crate) fn first_free_place<X>(places: &[Option<X>]) -> Option<usize>
+    ensures { IsFirst (λ k. not (is_used places.now k)) (length places.now) result }
+{
+    for position in 0..places.len() {
+        if places[position].is_none() {
+            return Some(position);
+        }
+    }
+    None
+}
+
+/// Finds the used places where the set has none. A set with any is theirs already.
+pub(crate) fn find_used<X, B: BitsetTrait>(used: &mut B, places: &[Option<X>])
+    requires covers { length places.now ≤ B.CAPACITY }
+    requires fits { B.CAPACITY < 2 ^ 64 }
+    requires known { AgreesIfAny B.CAPACITY (B.has used.old) places.now }
+    ensures { Agrees B.CAPACITY (B.has used.new) places.now }
+{
+    if used.first_set().is_some() {
+        return;
+    }
+    for position in 0..places.len() {
+        if places[position].is_some() {
+            used.set(position);
+        }
+    }
 }

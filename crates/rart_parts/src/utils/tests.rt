@@ -236,9 +236,94 @@ fn values_are_changed_on_a_walk_from_both_ends(rt: HostRuntime) -> Result<(), Fa
     assert!(rt; walk.next().is_none());
     assert!(rt; walk.next_back().is_none());
     assert!(rt; walk.next().is_none());
+    assert!(rt; walk.next_back().is_none());
     assert_eq!(rt; array.get(3).copied(), Some(31));
     assert_eq!(rt; array.get(7).copied(), Some(32));
     assert_eq!(rt; array.get(40).copied(), Some(33));
     assert_eq!(rt; array.size(), 3);
+    Ok(())
+}
+
+#[test]
+fn values_are_changed_in_a_loop(rt: HostRuntime) -> Result<(), Fail> {
+    let mut array: BitArray<u8, 16, Bitset8<2>> = BitArray::new(rt.alloc())?;
+    array.set(0, 10);
+    array.set(8, 20);
+    array.set(15, 30);
+    let mut places = Vec::with_capacity(rt.alloc(), 3)?;
+    for (position, value) in array.iter_mut() {
+        *value = value.wrapping_add(1);
+        places.push(position)?;
+    }
+    assert_eq!(rt; places.as_slice(), [0usize, 8, 15].as_slice());
+    assert_eq!(rt; array.get(0).copied(), Some(11));
+    assert_eq!(rt; array.get(8).copied(), Some(21));
+    assert_eq!(rt; array.get(15).copied(), Some(31));
+    assert!(rt; array.get(1).is_none());
+    Ok(())
+}
+
+#[test]
+fn a_walk_that_lends_goes_backward(rt: HostRuntime) -> Result<(), Fail> {
+    let mut array: BitArray<u8, 16, Bitset8<2>> = BitArray::new(rt.alloc())?;
+    array.set(2, 20);
+    array.set(9, 90);
+    let mut walk = array.iter_mut();
+    assert_eq!(rt;
+        walk.next_back().map(|entry| (entry.0, *entry.1)),
+        Some((9, 90))
+    );
+    assert_eq!(rt;
+        walk.next_back().map(|entry| (entry.0, *entry.1)),
+        Some((2, 20))
+    );
+    assert!(rt; walk.next_back().is_none());
+    assert!(rt; walk.next().is_none());
+    Ok(())
+}
+
+// What each look at the set answers after a walk, before any change.
+#[test]
+fn used_places_are_known_after_a_walk(rt: HostRuntime) -> Result<(), Fail> {
+    let mut array: BitArray<u8, 16, Bitset8<2>> = BitArray::new(rt.alloc())?;
+    assert!(rt; array.iter_mut().next().is_none());
+    assert!(rt; array.is_empty());
+    array.set(0, 10);
+    array.set(3, 20);
+    array.set(12, 30);
+    for (_, value) in array.iter_mut() {
+        *value = 7;
+    }
+    assert!(rt; !array.is_empty());
+    assert_eq!(rt; array.size(), 3);
+    assert_eq!(rt; array.first_used(), Some(0));
+    assert_eq!(rt; array.last_used_pos(), Some(12));
+    assert_eq!(rt; array.first_empty(), Some(1));
+    assert!(rt; array.check(3));
+    assert!(rt; !array.check(4));
+    assert_eq!(rt; array.last().copied(), Some(7));
+    Ok(())
+}
+
+#[test]
+fn an_array_is_changed_after_a_walk(rt: HostRuntime) -> Result<(), Fail> {
+    let mut array: BitArray<u8, 16, Bitset8<2>> = BitArray::new(rt.alloc())?;
+    array.set(0, 10);
+    array.set(12, 30);
+    for (_, value) in array.iter_mut() {
+        *value = 7;
+    }
+    assert_eq!(rt; array.push(50), Some(1));
+    assert_eq!(rt; array.size(), 3);
+    assert_eq!(rt; array.erase(0), Some(7));
+    assert_eq!(rt; array.pop(), Some(7));
+    assert_eq!(rt; array.first_used(), Some(1));
+    assert_eq!(rt; array.last_used_pos(), Some(1));
+    for (_, value) in array.iter_mut() {
+        *value = 8;
+    }
+    assert_eq!(rt; array.update(1, 9), Some(8));
+    assert_eq!(rt; array.erase(1), Some(9));
+    assert!(rt; array.is_empty());
     Ok(())
 }

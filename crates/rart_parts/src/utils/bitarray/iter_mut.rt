@@ -1,104 +1,82 @@
 //! A walk over the used places of an array whose values may be changed on the way.
-
-ghost use Rattle.std.specs.Prelude.{◌≡◌, ◌≤◌, MatchOption, slice_index_or};
-ghost use Rattle.rart_parts.specs.Memory.{FitsMemory};
-ghost use Rattle.rart_parts.specs.Places.{IsNext, IsPrevious};
+ghost use Rattle.std.specs.Prelude.{◌≡◌};
+ghost use Rattle.std.specs.Iterator.{YieldsFirstBy, YieldsLastBy, item_count};
+ghost use Rattle.rart_parts.specs.Places.{numbered};
 
 use crate::utils::bitarray::BitArray;
 use crate::utils::bitset::BitsetTrait;
-use std::mem;
+use std::iter::FusedIterator;
+use std::marker::Model;
+use std::slice;
 
-/// A cursor over the used places and their values, ascending, from both ends: each place is given once, and after None
-/// always None. It is no iterator, since a value that it gives is lent until the next call alone. It takes no memory.
-///
-/// A call's contract says which place it gives, by what the cursor was before it, and holds where the array's type fits
-/// in memory, as [`BitArray::iter_mut`] ensures. How the cursor goes on from there and what the array holds after the
-/// walk is tested.
+/// The used places and their values, to be changed, seen as the list of those that are still to come. It takes no
+/// memory.
 #[derive(Drop)]
-pub struct BitArrayIterMut<'a, X, const RANGE_WIDTH: usize, B: BitsetTrait> {
-    pub(crate) array: &'a mut BitArray<X, RANGE_WIDTH, B>,
-    // The places still to give are those from `front` on and below `back`.
-    pub(crate) front: usize,
-    pub(crate) back: usize,
-    ghost within: { back ≤ RANGE_WIDTH },
+pub struct BitArrayIterMut<'a, X> {
+    places: slice::IterMut<'a, Option<X>>,
+    // The number of the first of `places`.
+    position: usize,
 }
 
-impl<'a, X, const RANGE_WIDTH: usize, B: BitsetTrait> BitArrayIterMut<'a, X, RANGE_WIDTH, B> {
-    /// The least used place still to come, with its value.
-    pub fn next(&mut self) -> Option<(usize, &mut X)>
-        ensures { FitsMemory B.row → MatchOption result (IsNext self.old.array.now self.old.front self.old.back None) (λ r. IsNext self.old.array.now self.old.front self.old.back (Some r.0) × (slice_index_or self.old.array.now r.0 None ≡ Some r.1.now)) }
-    {
-        // Never so, and known at compile time. It tells the proof that the array's type fits in memory.
-        if mem::size_of_val(&*self.array) > isize::MAX as usize {
-            return None;
-        }
-        let Some(position) = self.array.next_used(self.front, self.back) else {
-            return None;
-        };
-        self.front = position + 1;
-        match self.array.get_mut(position) {
-            Some(value) => Some((position, value)),
-            None => None,
-        }
-    }
+impl<'a, X> Model for BitArrayIterMut<'a, X> {
+    ghost use Rattle.std.specs.Prelude.{ℕ, List, length, ◌+◌, ◌<◌, ◌^◌};
+    ghost use Rattle.std.specs.Coded.{coded_list, coded×, coded_ℕ};
+    ghost use Rattle.std.specs.Slice.Iter.{iter_mut_rest};
+    ghost use Rattle.rart_parts.specs.Places.{numbered};
 
-    /// The greatest used place still to come, with its value.
-    pub fn next_back(&mut self) -> Option<(usize, &mut X)>
-        ensures { FitsMemory B.row → MatchOption result (IsPrevious self.old.array.now self.old.front self.old.back None) (λ r. IsPrevious self.old.array.now self.old.front self.old.back (Some r.0) × (slice_index_or self.old.array.now r.0 None ≡ Some r.1.now)) }
-    {
-        // Never so, and known at compile time. It tells the proof that the array's type fits in memory.
-        if mem::size_of_val(&*self.array) > isize::MAX as usize {
-            return None;
+    ghost Value = { List (ℕ × X) };
+
+    ghost coded = { coded_list (coded× coded_ℕ X.code) };
+
+    ghost view = { λ it. numbered it.position (iter_mut_rest it.places) };
+
+    ghost invariant = { λ it. it.position + length (iter_mut_rest it.places) < 2 ^ 64 };
+}
+
+impl<'a, X> Iterator for BitArrayIterMut<'a, X> {
+    type Item = (usize, &'a mut X);
+
+    ghost next_gives = { YieldsFirstBy (λ item. (item.0, item.1.now)) (λ rest. rest) };
+
+    ghost remaining = { item_count (λ rest. rest) };
+
+    fn next(&mut self) -> Option<(usize, &'a mut X)> {
+        while let Some(place) = self.places.next() {
+            let position = self.position;
+            self.position += 1;
+            if let Some(x) = place {
+                return Some((position, x));
+            }
         }
-        let Some(position) = self.array.previous_used(self.front, self.back) else {
-            return None;
-        };
-        self.back = position;
-        match self.array.get_mut(position) {
-            Some(value) => Some((position, value)),
-            None => None,
-        }
+        None
     }
 }
+
+impl<'a, X> DoubleEndedIterator for BitArrayIterMut<'a, X> {
+    ghost next_back_gives = { YieldsLastBy (λ item. (item.0, item.1.now)) (λ rest. rest) };
+
+    fn next_back(&mut self) -> Option<(usize, &'a mut X)> {
+        while let Some(place) = self.places.next_back() {
+            if let Some(x) = place {
+                return Some((self.position + self.places.len(), x));
+            }
+        }
+        None
+    }
+}
+
+impl<'a, X> FusedIterator for BitArrayIterMut<'a, X> {}
 
 impl<X, const RANGE_WIDTH: usize, B: BitsetTrait> BitArray<X, RANGE_WIDTH, B> {
-    /// The used places with their values, to be changed, ascending, from both ends.
-    pub fn iter_mut(&mut self) -> BitArrayIterMut<'_, X, RANGE_WIDTH, B>
-        ensures same_reference { result.array.ghost_name ≡ self.entry.ghost_name }
-        ensures front { result.front ≡ 0 }
-        ensures back { result.back ≡ RANGE_WIDTH }
-        ensures sized { FitsMemory B.row }
+    /// The used places with their values, to be changed, ascending, from both ends. It takes no memory.
+    pub fn iter_mut(&mut self) -> BitArrayIterMut<'_, X>
+        ensures { result ≡ numbered 0 self.old }
     {
+        // For a proof the lent places may end as any, so the set says nothing of them from here on.
+        self.bitset.clear();
         BitArrayIterMut {
-            array: self,
-            front: 0,
-            back: RANGE_WIDTH,
+            places: self.places.iter_mut(),
+            position: 0,
         }
-    }
-
-    /// The least used place from one number on and below another.
-    pub(crate) fn next_used(&self, from: usize, to: usize) -> Option<usize>
-        requires { to ≤ RANGE_WIDTH }
-        ensures { IsNext self.now from to result }
-    {
-        for position in from..to {
-            if self.check(position) {
-                return Some(position);
-            }
-        }
-        None
-    }
-
-    /// The greatest used place from one number on and below another.
-    pub(crate) fn previous_used(&self, from: usize, to: usize) -> Option<usize>
-        requires { to ≤ RANGE_WIDTH }
-        ensures { IsPrevious self.now from to result }
-    {
-        for position in (from..to).rev() {
-            if self.check(position) {
-                return Some(position);
-            }
-        }
-        None
     }
 }

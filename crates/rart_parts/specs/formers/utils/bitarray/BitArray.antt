@@ -91,7 +91,7 @@ IsBitArray-prop w n t os = λ x y j. record {
   full = ℕ_set _ _ x.full y.full j;
   covers = le_prop x.covers y.covers j;
   fits = le_prop x.fits y.fits j;
-  agrees = Agrees-prop n t os x.agrees y.agrees j;
+  agrees = λ k l e. Agrees-prop n t os (x.agrees k l e) (y.agrees k l e) j;
 }
 
 module _ (R R' : RattleType) (h : R.Denot → R'.Denot) where
@@ -119,8 +119,8 @@ module _ (W B : RattleType) (G : bits.Ghosts B.Denot) (G' : default.Ghosts B.Den
       R.Denot R'.Denot h (C.the_row R W B G G').coded (C.the_row R' W B G G').coded
       (invariant R.Denot (value_of W) B.Denot G G') (invariant R'.Denot (value_of W) B.Denot G G')
       (λ u. IsBitArray-prop _ _ _ _) (λ u. IsBitArray-prop _ _ _ _)
-      (λ u e. record { full = length-map u.places.items put_over ∙ e.full; covers = e.covers; fits = e.fits; agrees = λ i lt. e.agrees i lt ∙ sym (used_along h u.places.items i) })
-      (λ u e. record { full = sym (length-map u.places.items put_over) ∙ e.full; covers = e.covers; fits = e.fits; agrees = λ i lt. e.agrees i lt ∙ used_along h u.places.items i })
+      (λ u e. record { full = length-map u.places.items put_over ∙ e.full; covers = e.covers; fits = e.fits; agrees = λ k l any i lt. e.agrees k l any i lt ∙ sym (used_along h u.places.items i) })
+      (λ u e. record { full = sym (length-map u.places.items put_over) ∙ e.full; covers = e.covers; fits = e.fits; agrees = λ k l any i lt. e.agrees k l any i lt ∙ used_along h u.places.items i })
       (over (I.the_row R W B G G')) (over (I.the_row R' W B G G'))
       (struct_places (I.the_type R W B G G') (I.the_type R' W B G G') (λ n. n, (vec.mapped put_over, tt)) _ (λ d. refl) refl
       ((refl, (λ n. refl, λ n. refl)), (laid _ _ _ (vec.the_places heap.the_row ghosts (option.the_row R) (option.the_row R') put_over (place_places a)), tt)))

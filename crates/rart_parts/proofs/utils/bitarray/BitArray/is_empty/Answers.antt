@@ -1,7 +1,6 @@
-use Rattle.rart_parts.proofs.PlaceLemmas.{array_empty}
+use Rattle.std.proofs.Common.{◌∙◌, sym, ap, length}
+use Rattle.rart_parts.proofs.PlaceLemmas.{empty_if}
 use Rattle.rart_parts.proofs.utils.bitarray.BitArray.is_empty.Goals as goal
 
 pub returns : goal.returns
-returns g c =
-    let e = array_empty c.self.invariant in
-    rw (← c.self.view_is) (λ yes. e.0 (c.is_empty.ensures.0 yes), λ none. c.is_empty.ensures.1 (e.1 none))
+returns g c = empty_if c.args.self.now g.row.RANGE_WIDTH c.first_used.result c.is_none.result (sym (ap length c.self.view_is) ∙ c.self.invariant.full) c.first_used.ensures c.is_none.ensures

@@ -11,4 +11,4 @@ fill_place-requires g c =
     sym (place_reads os c.args.position c.index_mut.result.now None (omega (arith, c.requires.within, c.self.invariant.full)) c.index_mut.ensures.value) ∙ free_read os c.args.position free
 
 pub invariant_of-self : goal.invariant_of-self
-invariant_of-self g c = rw c.fill_place.ensures (array_with c.self.invariant c.args.position c.args.x c.requires.within c.set.ensures)
+invariant_of-self g c = rw c.fill_place.ensures (array_with c.self.invariant c.args.position c.args.x c.requires.within c.deref.ensures.value c.find_used.ensures c.set.ensures)
