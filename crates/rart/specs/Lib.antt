@@ -1,2 +1,3 @@
 pub mod MapAndShape
 pub mod Refusals
+pub mod Steps

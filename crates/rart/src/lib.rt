@@ -7,6 +7,7 @@
 
 mod iter;
 pub mod laws;
+pub mod script;
 pub mod stats;
 pub mod tree;
 

@@ -1,11 +1,15 @@
 use crate::tests::{refuse, was_refused};
-use crate::{AdaptiveRadixTree, ArrayKey, KeyTrait, NotInserted, TryInsertError};
+use crate::{AdaptiveRadixTree, ArrayKey, KeyTrait, NotInserted, TreeError, TryInsertError};
 use std::process::Abort;
 
 type Tree = AdaptiveRadixTree<ArrayKey<4>, u64>;
 
 fn a() -> ArrayKey<4> {
     ArrayKey::<4>::new_from_slice(b"a")
+}
+
+fn ab() -> ArrayKey<4> {
+    ArrayKey::<4>::new_from_slice(b"ab")
 }
 
 fn put_new(rt: &impl Abort, tree: &mut Tree, value: u64) {
@@ -52,12 +56,31 @@ fn only_a_new_key_is_put(rt: HostRuntime) {
     assert_eq!(rt; tree.get(a()), Some(&1));
 }
 
+// A new key below a stored one, which asks for memory, each request refused in turn; then the key is
+// stored, and asks for nothing.
 #[test]
-fn a_stored_key_meets_no_request(rt: HostRuntime) {
+fn new_keys_refused_in_turn(rt: HostRuntime) {
     let alloc = rt.alloc();
-    let mut tree = Tree::new(alloc);
-    put_new(&rt, &mut tree, 1);
-    refuse(alloc, 1);
-    is_occupied(&rt, &mut tree, 9, 1);
-    assert!(rt; !was_refused(alloc));
+    for at in 1..100_usize {
+        let mut tree = Tree::new(alloc);
+        put_new(&rt, &mut tree, 1);
+        refuse(alloc, at);
+        let answer = tree.insert_new(ab(), 2);
+        let refused = was_refused(alloc);
+        match answer {
+            Ok(()) => assert!(rt; !refused, "request {at}"),
+            Err(NotInserted::Refused(back)) => {
+                assert!(rt; refused && back.error == TreeError::Memory, "request {at}");
+                assert_eq!(rt; back.value, 2);
+                assert_eq!(rt; tree.get(ab()), None);
+            }
+            Err(NotInserted::Stored(_back)) => assert!(rt; false, "request {at}"),
+        }
+        refuse(alloc, 1);
+        is_occupied(&rt, &mut tree, 9, 1);
+        assert!(rt; !was_refused(alloc), "request {at}");
+        if !refused {
+            break;
+        }
+    }
 }

@@ -1,0 +1,196 @@
+//! Calls of a tree as values: a list of calls is run on a tree, and gives the list of replies.
+ghost use Rattle.std.specs.Prelude.{◌≡◌, ◌≢◌, [], IfErr, IfOk, OnErr, length};
+ghost use Rattle.rart_keys.specs.SortedMap.{keys_of};
+ghost use Rattle.rart_nodes.specs.Shape.{HasShape};
+ghost use Rattle.rart_nodes.specs.TreeWalk.{values_of};
+ghost use Rattle.rart.specs.Steps.{AreStatistics, IsRun, IsStep, pairs_in};
+
+use crate::stats::TreeStatsTrait;
+use crate::tree::AdaptiveRadixTree;
+use crate::tree::guarded::NotInserted;
+use rart_keys::KeyTrait;
+use rart_parts::TreeError;
+use std::alloc::Global;
+
+mod call;
+mod reply;
+
+pub use self::call::Call;
+pub use self::reply::Reply;
+
+/// Makes one call. A refused call leaves the tree as it was, and says why: `Returned` is a refused
+/// insertion, with the value that it offered. Memory for the lists of `Pairs` and `Values` comes from
+/// `alloc`.
+pub fn step<K: KeyTrait + Drop, V: Copy>(
+    alloc: Global,
+    tree: &mut AdaptiveRadixTree<K, V>,
+    call: Call<K, V>,
+) -> Reply<K, V>
+    ensures { IsStep K.bytes tree.old.pairs call result tree.new.pairs }
+{
+    match call {
+        Call::Get(key) => Reply::Value(tree.get(key).copied()),
+        Call::Insert(key, value) => reply_to_insert(tree, key, value),
+        Call::TryInsert(key, value) => reply_to_try_insert(tree, key, value),
+        Call::Remove(key) => reply_to_remove(tree, key),
+        Call::Delete(key) => reply_to_delete(tree, key),
+        Call::Iter => reply_to_iter(alloc, tree),
+        Call::Values => reply_to_values(alloc, tree),
+        Call::Len => Reply::Len(tree.len()),
+        Call::IsEmpty => Reply::Done(tree.is_empty()),
+        Call::Stats => reply_to_stats(tree),
+    }
+}
+
+fn reply_to_insert<K: KeyTrait + Drop, V: Copy>(
+    tree: &mut AdaptiveRadixTree<K, V>,
+    key: K,
+    value: V,
+) -> Reply<K, V>
+    ensures { IsStep K.bytes tree.old.pairs (Call.Insert key value) result tree.new.pairs }
+{
+    match tree.insert(key, value) {
+        Ok(old) => Reply::Value(old),
+        Err(refused) => Reply::Returned(refused.error, refused.value),
+    }
+}
+
+fn reply_to_try_insert<K: KeyTrait + Drop, V: Copy>(
+    tree: &mut AdaptiveRadixTree<K, V>,
+    key: K,
+    value: V,
+) -> Reply<K, V>
+    ensures { IsStep K.bytes tree.old.pairs (Call.TryInsert key value) result tree.new.pairs }
+{
+    match tree.insert_new_k(&key, value) {
+        Ok(()) => Reply::Inserted,
+        Err(NotInserted::Refused(refused)) => Reply::Returned(refused.error, refused.value),
+        Err(NotInserted::Stored(proposed)) => match tree.get_k(&key) {
+            Some(present) => Reply::Occupied(proposed, *present),
+            None => unreachable!(),
+        },
+    }
+}
+
+fn reply_to_remove<K: KeyTrait + Drop, V: Copy>(
+    tree: &mut AdaptiveRadixTree<K, V>,
+    key: K,
+) -> Reply<K, V>
+    ensures { IsStep K.bytes tree.old.pairs (Call.Remove key) result tree.new.pairs }
+{
+    match tree.remove(key) {
+        Ok(old) => Reply::Value(old),
+        Err(error) => Reply::Refused(error),
+    }
+}
+
+fn reply_to_delete<K: KeyTrait + Drop, V: Copy>(
+    tree: &mut AdaptiveRadixTree<K, V>,
+    key: K,
+) -> Reply<K, V>
+    ensures { IsStep K.bytes tree.old.pairs (Call.Delete key) result tree.new.pairs }
+{
+    match tree.delete(key) {
+        Ok(found) => Reply::Done(found),
+        Err(error) => Reply::Refused(error),
+    }
+}
+
+fn reply_to_iter<K: KeyTrait + Drop, V: Copy>(
+    alloc: Global,
+    tree: &AdaptiveRadixTree<K, V>,
+) -> Reply<K, V>
+    ensures { IsStep K.bytes tree.now.pairs Call.Iter result tree.now.pairs }
+{
+    match copied_pairs(alloc, tree) {
+        Ok(pairs) => Reply::Pairs(pairs),
+        Err(error) => Reply::Refused(error),
+    }
+}
+
+fn reply_to_values<K: KeyTrait + Drop, V: Copy>(
+    alloc: Global,
+    tree: &AdaptiveRadixTree<K, V>,
+) -> Reply<K, V>
+    ensures { IsStep K.bytes tree.now.pairs Call.Values result tree.now.pairs }
+{
+    match copied_values(alloc, tree) {
+        Ok(values) => Reply::Values(values),
+        Err(error) => Reply::Refused(error),
+    }
+}
+
+fn reply_to_stats<K: KeyTrait + Drop, V: Copy>(tree: &AdaptiveRadixTree<K, V>) -> Reply<K, V>
+    ensures { IsStep K.bytes tree.now.pairs Call.Stats result tree.now.pairs }
+{
+    tree.canonical();
+    match tree.get_tree_stats() {
+        Ok(stats) => Reply::Stats(stats),
+        Err(error) => Reply::Refused(error),
+    }
+}
+
+/// The pairs of a tree. All room is taken before the first is copied.
+fn copied_pairs<K: KeyTrait + Drop, V: Copy>(
+    alloc: Global,
+    tree: &AdaptiveRadixTree<K, V>,
+) -> Result<Vec<(K, V)>, TreeError>
+    ensures pairs { IfOk result (λ pairs. pairs_in K.bytes pairs.items ≡ tree.now.pairs) }
+    ensures memory { IfErr result (λ e. (e ≡ TreeError.Memory) × (tree.now.pairs ≢ [])) }
+{
+    let mut pairs = Vec::with_capacity(alloc, tree.len())?;
+    let mut rest = tree.iter()?;
+    while let Some((key, value)) = rest.next() {
+        let Ok(()) = pairs.push((key, *value)) else {
+            unreachable!()
+        };
+    }
+    Ok(pairs)
+}
+
+/// The values of a tree. All room is taken before the first is copied.
+fn copied_values<K: KeyTrait + Drop, V: Copy>(
+    alloc: Global,
+    tree: &AdaptiveRadixTree<K, V>,
+) -> Result<Vec<V>, TreeError>
+    ensures values { IfOk result (λ values. values.items ≡ values_of tree.now.pairs) }
+    ensures memory { IfErr result (λ e. (e ≡ TreeError.Memory) × (tree.now.pairs ≢ [])) }
+{
+    let mut values = Vec::with_capacity(alloc, tree.len())?;
+    let mut rest = tree.values_iter()?;
+    while let Some(value) = rest.next() {
+        let Ok(()) = values.push(*value) else {
+            unreachable!()
+        };
+    }
+    Ok(values)
+}
+
+/// Makes calls one after the other, and gives a reply for each: a refused call is one of the replies,
+/// and the calls behind it are made all the same. Room for the replies is taken before the first
+/// call; where there is none nothing is called.
+pub fn run<K: KeyTrait + Drop, V: Copy>(
+    alloc: Global,
+    tree: &mut AdaptiveRadixTree<K, V>,
+    calls: Vec<Call<K, V>>,
+) -> Result<Vec<Reply<K, V>>, TreeError>
+    ensures run { IfOk result (λ replies. IsRun K.bytes tree.old.pairs calls.items replies.items tree.new.pairs) }
+    ensures one_each { IfOk result (λ replies. length replies.items ≡ length calls.items) }
+    ensures shape_before { HasShape (keys_of tree.old.pairs) tree.old.nodes }
+    ensures shape_after { HasShape (keys_of tree.new.pairs) tree.new.nodes }
+    ensures refused { OnErr result (tree.new ≡ tree.old) }
+    ensures memory { IfErr result (λ e. (e ≡ TreeError.Memory) × (calls.items ≢ [])) }
+{
+    tree.canonical();
+    let mut replies = Vec::with_capacity(alloc, calls.len())?;
+    for call in calls {
+        let Ok(()) = replies.push(step(alloc, tree, call)) else {
+            unreachable!()
+        };
+    }
+    tree.canonical();
+    Ok(replies)
+}
+
+#[cfg(test)]
+mod tests;
