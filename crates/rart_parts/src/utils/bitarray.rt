@@ -234,6 +234,7 @@ impl<X, const RANGE_WIDTH: usize, B: BitsetTrait> BitArray<X, RANGE_WIDTH, B> {
     pub fn is_empty(&self) -> bool
         ensures { IsTrue result ↔ (values_in self.now ≡ []) }
     {
+        // Named for the proof, which learns here that their number fits.
         let _places = &self.places;
         self.first_used().is_none()
     }
