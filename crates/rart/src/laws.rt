@@ -1,12 +1,12 @@
 //! What clients can count on, each proved for every key type from the public contracts alone.
-ghost use Rattle.std.specs.Prelude.{◌≡◌, ◌≢◌, ◌≤◌, length, IfErr, IfOk, None, OnErr, OnOk, Some};
+ghost use Rattle.std.specs.Prelude.{◌≡◌, ◌≢◌, ◌≤◌, [], length, IfErr, IfOk, None, OnErr, OnOk, Some};
 ghost use Rattle.std.specs.Option.{option_copied};
 ghost use Rattle.rart_keys.specs.SortedMap.{IsAscending, keys_of, lookup, put};
 ghost use Rattle.rart_nodes.specs.Statistics.{statistics_in, statistics_of};
 ghost use Rattle.rart_nodes.specs.TreeWalk.{values_of};
 
 use crate::stats::{TreeStats, TreeStatsTrait};
-use crate::tree::AdaptiveRadixTree;
+use crate::tree::{AdaptiveRadixTree, MAX_PAIRS};
 use rart_keys::KeyTrait;
 use rart_nodes::Refused;
 use rart_nodes::node::{Iter, ValuesIter};
@@ -68,6 +68,7 @@ pub fn pairs_and_values<'a, K: KeyTrait, V>(
     ensures ascending { IfOk result (λ r. IsAscending r.0) }
     ensures many { IfOk result (λ r. length r.0 ≡ length tree.now.pairs) }
     ensures same { IfOk result (λ r. r.1 ≡ values_of r.0) }
+    ensures memory { IfErr result (λ e. (e ≡ TreeError.Memory) × (tree.now.pairs ≢ [])) }
 {
     tree.canonical();
     Ok((tree.iter()?, tree.values_iter()?))
@@ -87,7 +88,10 @@ pub fn insert_then_remove<K: KeyTrait, V>(
     ensures pairs { IfOk result (λ r. OnOk r.1 (tree.new.pairs ≡ tree.old.pairs)) }
     ensures nodes { IfOk result (λ r. OnOk r.1 (tree.new.nodes ≡ tree.old.nodes)) }
     ensures stays { IfOk result (λ r. OnErr r.1 (tree.new.pairs ≡ put (K.bytes key.now) value tree.old.pairs)) }
+    ensures memory { IfOk result (λ r. IfErr r.1 (λ e. e ≡ TreeError.Memory)) }
     ensures refused { OnErr result (tree.new ≡ tree.old) }
+    ensures back { IfErr result (λ r. r.value ≡ value) }
+    ensures full { IfErr result (λ r. r.error ≡ TreeError.Full → length tree.old.pairs ≡ MAX_PAIRS) }
 {
     rart_keys::laws::sorted_map::<V>();
     rart_nodes::laws::one_shape();
@@ -99,7 +103,7 @@ pub fn insert_then_remove<K: KeyTrait, V>(
 }
 
 /// The statistics before a new key is put in and after it is removed again: they are the same.
-/// Refused where memory is, by whichever call asked for it.
+/// Refused where memory is, by whichever call asked for it, or with `Full` by a tree that is.
 pub fn insert_then_remove_statistics<K: KeyTrait, V: Drop>(
     tree: &mut AdaptiveRadixTree<K, V>,
     key: &K,
@@ -109,6 +113,7 @@ pub fn insert_then_remove_statistics<K: KeyTrait, V: Drop>(
     ensures before { IfOk result (λ r. statistics_in r.0 ≡ statistics_of (keys_of tree.old.pairs) tree.old.nodes) }
     ensures after { IfOk result (λ r. statistics_in r.1 ≡ statistics_in r.0) }
     ensures pairs { OnOk result (tree.new.pairs ≡ tree.old.pairs) }
+    ensures full { IfErr result (λ e. e ≡ TreeError.Full → length tree.old.pairs ≡ MAX_PAIRS) }
 {
     let before = tree.get_tree_stats()?;
     match insert_then_remove(tree, key, value) {
