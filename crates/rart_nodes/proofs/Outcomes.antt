@@ -26,3 +26,7 @@ module _ {A E : Type 0} where
 pub on_some : {A P Q : Type 0} (r : Option A) → (P → Q) → OnSome r P → OnSome r Q
 on_some None f p = tt
 on_some (Some x) f p = f p
+
+pub some-any : {A P : Type 0} (r : Option A) → P → OnSome r P
+some-any None p = tt
+some-any (Some x) p = p
