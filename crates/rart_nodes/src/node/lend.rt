@@ -1,7 +1,10 @@
-//! Loans of a value: where a key's value stands, to be changed in place.
+//! Loans of a value, to be changed where it stands.
 ghost use Rattle.std.specs.Prelude.{◌≡◌, ◌<◌, ℕ, List, OnSome};
 ghost use Rattle.std.specs.Borrow.{sem, LendsSo};
 ghost use Rattle.std.specs.Option.{option_copied_mut};
+ghost use Rattle.rart_keys.specs.SortedMap.{lookup};
+ghost use Rattle.rart_nodes.specs.Loan.{IsRewritten};
+ghost use Rattle.rart_nodes.specs.Tree.{IsCanonicalTree, tree_pairs};
 ghost use Rattle.rart_nodes.specs.Trie.{Trie, IsCanonical, look_up, put_trie};
 ghost use Rattle.rart_nodes.specs.TrieCode.{node_count};
 ghost use Rattle.rart_nodes.specs.contracts.node.DefaultNode.{the_row};
@@ -9,12 +12,15 @@ ghost use Rattle.rart_nodes.specs.contracts.node.DefaultNode.{the_row};
 use crate::node::DefaultNode;
 use rart_keys::Partial;
 
-/// How a value is lent in a child.
+/// A node that lends its value at a key. `lend_by` is a step of the descent over any way to lend a
+/// child's value, so that all that recurs is one call.
 trait Lends<V> {
     ghost use Rattle.std.specs.Prelude.{Option};
 
     ghost ready: { Self → Type 0 };
+
     ghost found: { Self → List ℕ → Option V };
+
     ghost put: { Self → List ℕ → V → Self };
 
     fn lend(&mut self, key: &[u8]) -> Option<&mut V>
@@ -25,7 +31,9 @@ trait Lends<V> {
 
 impl<P: Partial, V> Lends<V> for DefaultNode<P, V> {
     ghost ready = { IsCanonical };
+
     ghost found = { λ n key. look_up key n };
+
     ghost put = { λ n key w. put_trie key w n };
 
     fn lend(&mut self, key: &[u8]) -> Option<&mut V> {
@@ -33,6 +41,8 @@ impl<P: Partial, V> Lends<V> for DefaultNode<P, V> {
     }
 }
 
+/// Lends the value at `key`, what is left of a key behind the path to the node, given that each node
+/// below lends its own.
 fn lend_by<'a, P: Partial, V>(node: &'a mut DefaultNode<P, V>, key: &[u8]) -> Option<&'a mut V>
 where
     DefaultNode<P, V>: Lends<V>,
@@ -54,5 +64,22 @@ where
     match node.storage.seek_child_mut(rest[0]) {
         Some(child) => child.lend(rest),
         None => None,
+    }
+}
+
+impl<P: Partial, V> DefaultNode<P, V> {
+    ghost use Rattle.std.specs.contracts.option.Option.{the_row as option_row};
+
+    /// Lends the value at `key`, in one pass down. Once the loan is over the tree holds at `key` what
+    /// was left there, and is else as it was. Takes no memory.
+    pub fn get_mut<'a>(root: &'a mut Option<Self>, key: &[u8]) -> Option<&'a mut V>
+        requires canonical { IsCanonicalTree root.old }
+        ensures* writes_back { sem 𝓛 (LendsSo (option_row (the_row P.row V.row P.Partial)) V.row root.entry result (λ t w. OnSome result (IsRewritten key.now w root.old t)) (λ t. t ≡ root.old)) }
+        ensures value { option_copied_mut result ≡ lookup key.now (tree_pairs root.old) }
+    {
+        match root {
+            Some(node) => node.lend(key),
+            None => None,
+        }
     }
 }

@@ -52,12 +52,12 @@ returns-in-Some g c =
             canonical c.prefix_length_slice-shared.ensures.value full c.if-key-shared.false rest refl c.in-Some.ensures.value
             (h ∙ c.requires.put c.in-Some.child.now _ w) left.0 left.1)) (c.lend.follows.holds w),
         let left = rw c.in-Some.is at c.seek_child_mut.follows.holds c.lend.follows.lender-at-none in
-        insert-refused _ _ _ _ _ c.in-Some.child.now c.lend.follows.lender-at-none (stored c.node.inside.storage) _ c.in-Some.ensures.value c.lend.follows.holds-at-none left.0 left.1 ∙ c.node.view_is,
+            insert-refused _ _ _ _ _ c.in-Some.child.now c.lend.follows.lender-at-none (stored c.node.inside.storage) _ c.in-Some.ensures.value c.lend.follows.holds-at-none left.0 left.1 ∙ c.node.view_is,
       ),
       record {
         writes_back = tt;
         value = rw (← c.node.view_is) (c.lend.ensures.value ∙ c.requires.found c.in-Some.child.now _
-        ∙ sym (look_up-child _ c.args.key.now _ _ _ _ c.prefix_length_slice-shared.result c.in-Some.child.now (stored c.node.inside.storage) canonical c.prefix_length_slice-shared.ensures.value full c.if-key-shared.false rest refl c.in-Some.ensures.value));
+            ∙ sym (look_up-child _ c.args.key.now _ _ _ _ c.prefix_length_slice-shared.result c.in-Some.child.now (stored c.node.inside.storage) canonical c.prefix_length_slice-shared.ensures.value full c.if-key-shared.false rest refl c.in-Some.ensures.value));
       },
     )
 
@@ -68,7 +68,7 @@ returns-in-None g c =
       record {
         writes_back = tt;
         value = rw (← c.node.view_is) (sym (look_up-no_child _ c.args.key.now _ _ (width_of c.node.inside.storage) _ c.prefix_length_slice-shared.result (stored c.node.inside.storage)
-        c.prefix_length_slice-shared.ensures.value (rw c.len.ensures at c.if-shared-len.false) c.if-key-shared.false
-        (slice_from-is c.args.key.now c.prefix_length_slice-shared.result) refl c.in-None.ensures.value));
+            c.prefix_length_slice-shared.ensures.value (rw c.len.ensures at c.if-shared-len.false) c.if-key-shared.false
+            (slice_from-is c.args.key.now c.prefix_length_slice-shared.result) refl c.in-None.ensures.value));
       },
     )
