@@ -16,6 +16,7 @@ use rart_parts::TreeError;
 use std::alloc::Global;
 use std::marker::{Model, PhantomData};
 
+mod loan;
 mod statistics;
 
 /// The most pairs that a tree holds.

@@ -1,22 +1,17 @@
 -- What a loan of a value leaves: the same keys, so the same nodes.
 use Rattle.std.proofs.Common.{◌≡◌, ℕ, arith, ap, ◌∙◌, sym, refl, length, max, ⊎_elim, List, [], ◌∷◌, Option, Some, None, MutBor}
 use Rattle.std.proofs.lemmas.List.{length-map}
-use Rattle.std.specs.Prelude.{OnSome}
+use Rattle.std.specs.Prelude.{IfNone, OnSome}
 use Rattle.std.specs.Option.{option_copied_mut}
 use Rattle.rart_keys.specs.SortedMap.{IsAscending, keys_of, lookup, put}
 use Rattle.rart_keys.proofs.ByteOrder.{below-not_eq, below-greater, cmp-itself, compare}
 use Rattle.rart_keys.proofs.SortedMaps.{above-trans, lookup-above}
 use Rattle.rart_nodes.specs.CanonicalTest.{longest_key}
-use Rattle.rart_nodes.specs.Loan.{IsRewritten}
+use Rattle.rart_nodes.specs.Loan.{IsAlike}
 use Rattle.rart_nodes.specs.Trie.{Trie, IsCanonical, look_up, nodes_of, pairs_of, put_trie}
 use Rattle.rart_nodes.proofs.PairLemmas.{lookup-pairs_of, pairs_of-ascend}
 use Rattle.rart_nodes.proofs.PutLemmas.{canonical-put, pairs_of-put}
 use Rattle.rart_nodes.proofs.ShapeLemmas.{equal_nodes}
-
--- facts where a value is lent, from what it is
-on_lent : {V P Q : Type 0} (r : Option (MutBor V)) (o : Option V) → option_copied_mut r ≡ o → ((v : V) → o ≡ Some v → P → Q) → OnSome r P → OnSome r Q
-on_lent None o e f p = tt
-on_lent (Some x) o e f p = f x.now (sym e) p
 
 abbrev longest : List (List ℕ) → ℕ
 longest [] = 0
@@ -46,14 +41,11 @@ module _ {V : Type 0} where
   keys-lent : (k : List ℕ) (v w : V) (t : Trie V) → IsCanonical t → look_up k t ≡ Some v → keys_of (pairs_of (put_trie k w t)) ≡ keys_of (pairs_of t)
   keys-lent k v w t c s = ap keys_of (pairs_of-put k w t c) ∙ keys-put k v w (pairs_of t) (pairs_of-ascend t c) (lookup-pairs_of k t c ∙ s)
 
-  -- what is left where a value was lent
-  pub lent : (k : List ℕ) (w : V) (t n : Trie V) (r : Option (MutBor V)) → IsCanonical t → option_copied_mut r ≡ look_up k t → OnSome r (n ≡ put_trie k w t) → OnSome r (IsRewritten k w (Some t) (Some n))
-  lent k w t n r c e = on_lent r (look_up k t) e (λ v at left.
-      let keys = keys-lent k v w t c at in
-      rw left (
-        canonical-put k w t c,
-        pairs_of-put k w t c,
-        equal_nodes (put_trie k w t) t (canonical-put k w t c) c keys,
-        lengths-alike (pairs_of (put_trie k w t)) (pairs_of t) keys,
-        longest-alike (pairs_of (put_trie k w t)) (pairs_of t) keys,
-      ))
+  -- what a loan that was answered by r leaves, given what it leaves of the trie
+  pub lent : (k : List ℕ) (w : V) (t n : Trie V) (r : Option (MutBor V)) → IsCanonical t → option_copied_mut r ≡ look_up k t → OnSome r (n ≡ put_trie k w t) × IfNone r (n ≡ t)
+      → IsAlike (Some t) (Some n) × OnSome r ((pairs_of n ≡ put k w (pairs_of t)) × (nodes_of n ≡ nodes_of t))
+  lent k w t n None c e h = (rw h.1 (c, refl, refl), tt)
+  lent k w t n (Some x) c e h =
+      let keys = keys-lent k x.now w t c (sym e) in
+      let z = canonical-put k w t c in
+      rw h.0 ((z, lengths-alike (pairs_of (put_trie k w t)) (pairs_of t) keys, longest-alike (pairs_of (put_trie k w t)) (pairs_of t) keys), (pairs_of-put k w t c, equal_nodes (put_trie k w t) t z c keys))

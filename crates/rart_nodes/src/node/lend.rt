@@ -1,10 +1,10 @@
 //! Loans of a value, to be changed where it stands.
-ghost use Rattle.std.specs.Prelude.{◌≡◌, ◌<◌, ℕ, List, OnSome};
+ghost use Rattle.std.specs.Prelude.{◌≡◌, ◌<◌, ℕ, List, IfNone, OnSome};
 ghost use Rattle.std.specs.Borrow.{sem, LendsSo};
 ghost use Rattle.std.specs.Option.{option_copied_mut};
-ghost use Rattle.rart_keys.specs.SortedMap.{lookup};
-ghost use Rattle.rart_nodes.specs.Loan.{IsRewritten};
-ghost use Rattle.rart_nodes.specs.Tree.{IsCanonicalTree, tree_pairs};
+ghost use Rattle.rart_keys.specs.SortedMap.{lookup, put};
+ghost use Rattle.rart_nodes.specs.Loan.{IsAlike};
+ghost use Rattle.rart_nodes.specs.Tree.{IsCanonicalTree, tree_nodes, tree_pairs};
 ghost use Rattle.rart_nodes.specs.Trie.{Trie, IsCanonical, look_up, put_trie};
 ghost use Rattle.rart_nodes.specs.TrieCode.{node_count};
 ghost use Rattle.rart_nodes.specs.contracts.node.DefaultNode.{the_row};
@@ -25,7 +25,7 @@ trait Lends<V> {
 
     fn lend(&mut self, key: &[u8]) -> Option<&mut V>
         requires ready { ready self.old }
-        ensures* writes_back { sem 𝓛 (LendsSo Self.row V.row self.entry result (λ n w. OnSome result (n ≡ put self.old key.now w)) (λ n. n ≡ self.old)) }
+        ensures* writes_back { sem 𝓛 (LendsSo Self.row V.row self.entry result (λ n w. OnSome result (n ≡ put self.old key.now w) × IfNone result (n ≡ self.old)) (λ n. n ≡ self.old)) }
         ensures value { option_copied_mut result ≡ found self.old key.now };
 }
 
@@ -50,7 +50,7 @@ where
     requires ready { (n : Trie V) → IsCanonical n → node_count n < node_count node.old → ⟦<DefaultNode<P, V> as Lends<V>>⟧.ready n }
     requires found { (n : Trie V) (k : List ℕ) → ⟦<DefaultNode<P, V> as Lends<V>>⟧.found n k ≡ look_up k n }
     requires put { (n : Trie V) (k : List ℕ) (w : V) → ⟦<DefaultNode<P, V> as Lends<V>>⟧.put n k w ≡ put_trie k w n }
-    ensures* writes_back { sem 𝓛 (LendsSo (the_row P.row V.row P.Partial) V.row node.entry result (λ n w. OnSome result (n ≡ put_trie key.now w node.old)) (λ n. n ≡ node.old)) }
+    ensures* writes_back { sem 𝓛 (LendsSo (the_row P.row V.row P.Partial) V.row node.entry result (λ n w. OnSome result (n ≡ put_trie key.now w node.old) × IfNone result (n ≡ node.old)) (λ n. n ≡ node.old)) }
     ensures value { option_copied_mut result ≡ look_up key.now node.old }
 {
     let shared = node.prefix.prefix_length_slice(key);
@@ -58,7 +58,10 @@ where
         return None;
     }
     if key.len() == shared {
-        return node.value.as_mut();
+        return match &mut node.value {
+            Some(value) => Some(value),
+            None => None,
+        };
     }
     let rest = &key[shared..];
     match node.storage.seek_child_mut(rest[0]) {
@@ -74,7 +77,7 @@ impl<P: Partial, V> DefaultNode<P, V> {
     /// was left there, and is else as it was. Takes no memory.
     pub fn get_mut<'a>(root: &'a mut Option<Self>, key: &[u8]) -> Option<&'a mut V>
         requires canonical { IsCanonicalTree root.old }
-        ensures* writes_back { sem 𝓛 (LendsSo (option_row (the_row P.row V.row P.Partial)) V.row root.entry result (λ t w. OnSome result (IsRewritten key.now w root.old t)) (λ t. t ≡ root.old)) }
+        ensures* writes_back { sem 𝓛 (LendsSo (option_row (the_row P.row V.row P.Partial)) V.row root.entry result (λ t w. IsAlike root.old t × OnSome result ((tree_pairs t ≡ put key.now w (tree_pairs root.old)) × (tree_nodes t ≡ tree_nodes root.old))) (λ t. t ≡ root.old)) }
         ensures value { option_copied_mut result ≡ lookup key.now (tree_pairs root.old) }
     {
         match root {
