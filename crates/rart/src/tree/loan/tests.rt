@@ -47,7 +47,10 @@ fn a_lent_value_is_changed_where_it_stands(rt: HostRuntime) {
             Some(value) => *value = value.wrapping_add(500),
             None => assert!(rt; false, "key {byte}"),
         }
-        assert_eq!(rt; tree.get_bytes(&[byte]), Some(&u64::from(byte).wrapping_add(500)));
+        assert_eq!(rt;
+            tree.get_bytes(&[byte]),
+            Some(&u64::from(byte).wrapping_add(500))
+        );
     }
     overwrite(&mut tree, &key(b""), 2000);
     overwrite(&mut tree, &key(&[7, 8]), 2001);
