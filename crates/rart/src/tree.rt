@@ -17,6 +17,7 @@ use std::alloc::Global;
 use std::marker::{Model, PhantomData};
 
 pub mod guarded;
+mod loan;
 mod statistics;
 
 /// The most pairs that a tree holds.

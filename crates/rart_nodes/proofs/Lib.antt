@@ -12,6 +12,7 @@ pub mod FirstBytes
 pub mod InsertAskLemmas
 pub mod InsertLemmas
 pub mod JoinLemmas
+pub mod LoanLemmas
 pub mod LongerPrefix
 pub mod NodeCounts
 pub mod NodeEditLemmas

@@ -1,6 +1,6 @@
 -- Facts on one outcome of a result, from others on the same outcome.
 use Rattle.std.proofs.Common.{Result, Ok, Err, Option, Some, None}
-use Rattle.std.specs.Prelude.{OnOk, OnErr, OnSome, IfOk, IfErr}
+use Rattle.std.specs.Prelude.{OnOk, OnErr, OnSome, IfNone, IfOk, IfErr}
 
 module _ {A E : Type 0} where
   pub on_ok : {P Q : Type 0} (r : Result A E) → (P → Q) → OnOk r P → OnOk r Q
@@ -26,3 +26,7 @@ module _ {A E : Type 0} where
 pub on_some : {A P Q : Type 0} (r : Option A) → (P → Q) → OnSome r P → OnSome r Q
 on_some None f p = tt
 on_some (Some x) f p = f p
+
+pub on_none : {A P Q : Type 0} (r : Option A) → (P → Q) → IfNone r P → IfNone r Q
+on_none None f p = f p
+on_none (Some x) f p = tt

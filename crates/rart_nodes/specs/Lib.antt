@@ -4,6 +4,7 @@ pub mod CountedNodes
 pub mod Deletion
 pub mod EditRuns
 pub mod InsertAsks
+pub mod Loan
 pub mod NodeEdits
 pub mod ProbeCount
 pub mod RemoveAsks

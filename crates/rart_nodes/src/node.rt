@@ -15,6 +15,7 @@ use std::marker::Model;
 mod children;
 mod insert;
 mod iter;
+mod lend;
 mod look_up;
 mod made;
 mod remove;

@@ -1,0 +1,88 @@
+//! Loans of a value, to be changed where it stands.
+ghost use Rattle.std.specs.Prelude.{◌≡◌, ◌<◌, ℕ, List, IfNone, OnSome};
+ghost use Rattle.std.specs.Borrow.{sem, LendsSo};
+ghost use Rattle.std.specs.Option.{option_copied_mut};
+ghost use Rattle.rart_keys.specs.SortedMap.{lookup, put};
+ghost use Rattle.rart_nodes.specs.Loan.{IsAlike};
+ghost use Rattle.rart_nodes.specs.Tree.{IsCanonicalTree, tree_nodes, tree_pairs};
+ghost use Rattle.rart_nodes.specs.Trie.{Trie, IsCanonical, look_up, put_trie};
+ghost use Rattle.rart_nodes.specs.TrieCode.{node_count};
+ghost use Rattle.rart_nodes.specs.contracts.node.DefaultNode.{the_row};
+
+use crate::node::DefaultNode;
+use rart_keys::Partial;
+
+/// A node that lends its value at a key. `lend_by` is a step of the descent over any way to lend a
+/// child's value, so that all that recurs is one call.
+trait Lends<V> {
+    ghost use Rattle.std.specs.Prelude.{Option};
+
+    ghost ready: { Self → Type 0 };
+
+    ghost found: { Self → List ℕ → Option V };
+
+    ghost put: { Self → List ℕ → V → Self };
+
+    fn lend(&mut self, key: &[u8]) -> Option<&mut V>
+        requires ready { ready self.old }
+        ensures* writes_back { sem 𝓛 (LendsSo Self.row V.row self.entry result (λ n w. OnSome result (n ≡ put self.old key.now w) × IfNone result (n ≡ self.old)) (λ n. n ≡ self.old)) }
+        ensures value { option_copied_mut result ≡ found self.old key.now };
+}
+
+impl<P: Partial, V> Lends<V> for DefaultNode<P, V> {
+    ghost ready = { IsCanonical };
+
+    ghost found = { λ n key. look_up key n };
+
+    ghost put = { λ n key w. put_trie key w n };
+
+    fn lend(&mut self, key: &[u8]) -> Option<&mut V> {
+        lend_by(self, key)
+    }
+}
+
+/// Lends the value at `key`, what is left of a key behind the path to the node, given that each node
+/// below lends its own.
+fn lend_by<'a, P: Partial, V>(node: &'a mut DefaultNode<P, V>, key: &[u8]) -> Option<&'a mut V>
+where
+    DefaultNode<P, V>: Lends<V>,
+    requires canonical { IsCanonical node.old }
+    requires ready { (n : Trie V) → IsCanonical n → node_count n < node_count node.old → ⟦<DefaultNode<P, V> as Lends<V>>⟧.ready n }
+    requires found { (n : Trie V) (k : List ℕ) → ⟦<DefaultNode<P, V> as Lends<V>>⟧.found n k ≡ look_up k n }
+    requires put { (n : Trie V) (k : List ℕ) (w : V) → ⟦<DefaultNode<P, V> as Lends<V>>⟧.put n k w ≡ put_trie k w n }
+    ensures* writes_back { sem 𝓛 (LendsSo (the_row P.row V.row P.Partial) V.row node.entry result (λ n w. OnSome result (n ≡ put_trie key.now w node.old) × IfNone result (n ≡ node.old)) (λ n. n ≡ node.old)) }
+    ensures value { option_copied_mut result ≡ look_up key.now node.old }
+{
+    let shared = node.prefix.prefix_length_slice(key);
+    if shared < node.prefix.len() {
+        return None;
+    }
+    if key.len() == shared {
+        return match &mut node.value {
+            Some(value) => Some(value),
+            None => None,
+        };
+    }
+    let rest = &key[shared..];
+    match node.storage.seek_child_mut(rest[0]) {
+        Some(child) => child.lend(rest),
+        None => None,
+    }
+}
+
+impl<P: Partial, V> DefaultNode<P, V> {
+    ghost use Rattle.std.specs.contracts.option.Option.{the_row as option_row};
+
+    /// Lends the value at `key`, in one pass down. Once the loan is over the tree holds at `key` what
+    /// was left there, and is else as it was. Takes no memory.
+    pub fn get_mut<'a>(root: &'a mut Option<Self>, key: &[u8]) -> Option<&'a mut V>
+        requires canonical { IsCanonicalTree root.old }
+        ensures* writes_back { sem 𝓛 (LendsSo (option_row (the_row P.row V.row P.Partial)) V.row root.entry result (λ t w. IsAlike root.old t × OnSome result ((tree_pairs t ≡ put key.now w (tree_pairs root.old)) × (tree_nodes t ≡ tree_nodes root.old))) (λ t. t ≡ root.old)) }
+        ensures value { option_copied_mut result ≡ lookup key.now (tree_pairs root.old) }
+    {
+        match root {
+            Some(node) => node.lend(key),
+            None => None,
+        }
+    }
+}
