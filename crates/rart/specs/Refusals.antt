@@ -1,5 +1,5 @@
 -- When an insertion may be refused, and what an insertion that never replaces answers.
-use Rattle.std.specs.Prelude.{◌≡◌, ◌≢◌, ◌<◌, ℕ, List, length, true, Some, None}
+use Rattle.std.specs.Prelude.{◌≡◌, ◌≢◌, ◌<◌, ℕ, List, length, true, Some, None, Result, Ok, Err}
 use Rattle.rart_keys.specs.SortedMap.{keys_of, lookup}
 use Rattle.rart_nodes.specs.InsertAsks.{insert_asks}
 use Rattle.rart_parts.specs.declared.error.TreeError.{TreeError}
@@ -24,3 +24,15 @@ TellsWhy map key value (not_inserted.Refused refused) = (refused.value ≡ value
 abbrev pub ShowsWhy : {V : Type 0} → List (List ℕ × V) → List ℕ → V → TryInsertError V → Type 0
 ShowsWhy map key value (try_insert.Occupied proposed present) = (proposed ≡ value) × (lookup key map ≡ Some present.now)
 ShowsWhy map key value (try_insert.Refused refused) = (refused.value ≡ value) × MayRefuse map key refused.error
+
+-- a key that is said to be stored is
+abbrev pub StandsAt : {V : Type 0} → List (List ℕ × V) → List ℕ → NotInserted V → Type 0
+StandsAt map key (not_inserted.Stored proposed) = lookup key map ≢ None
+StandsAt map key (not_inserted.Refused refused) = Unit {0}
+
+-- the same outcome, with the value that stands at the key where it is stored
+abbrev pub IsShown : {V : Type 0} → List (List ℕ × V) → List ℕ → Result Unit (NotInserted V) → Result Unit (TryInsertError V) → Type 0
+IsShown map key (Ok _) (Ok _) = Unit {0}
+IsShown map key (Err (not_inserted.Stored proposed)) (Err (try_insert.Occupied back present)) = (back ≡ proposed) × (lookup key map ≡ Some present.now)
+IsShown map key (Err (not_inserted.Refused refused)) (Err (try_insert.Refused back)) = back ≡ refused
+IsShown map key outcome shown = ⊥

@@ -1,7 +1,10 @@
 //! Insertions that never replace a value.
 ghost use Rattle.std.specs.Prelude.{◌≡◌, ◌≢◌, length, None, IfErr, OnErr, OnOk};
 ghost use Rattle.rart_keys.specs.SortedMap.{lookup, put};
-ghost use Rattle.rart.specs.Refusals.{ShowsWhy, TellsWhy};
+ghost use Rattle.rart.specs.Refusals.{IsShown, ShowsWhy, StandsAt, TellsWhy};
+ghost use Rattle.std.specs.Prelude.{MatchResult};
+ghost use Rattle.std.specs.Borrow.{sem};
+ghost use Rattle.rart.specs.Loans.{ends_as};
 
 use crate::tree::{AdaptiveRadixTree, MAX_PAIRS};
 use rart_keys::KeyTrait;
@@ -63,13 +66,27 @@ impl<K: KeyTrait, V> AdaptiveRadixTree<K, V> {
     }
 
     /// Puts `value` at `key` by `insert_new_k`, and shows the value that stands there where the key is
-    /// stored. What the tree ends as no clause of this call can say, since its result borrows from it.
+    /// stored. Once the result is over the tree holds the pair at `Ok`, and is as before otherwise.
     pub fn try_insert_k<'a>(&'a mut self, key: &K, value: V) -> Result<(), TryInsertError<'a, V>>
+        ensures* after { sem 𝓛 (ends_as K.row V.row K.PartialType.row K.KeyTrait K.PartialType.Partial self.entry (λ n. MatchResult result (λ _. n.pairs ≡ put (K.bytes key.now) value self.old.pairs) (λ _. n ≡ self.old))) }
         ensures absent { OnOk result (lookup (K.bytes key.now) self.old.pairs ≡ None) }
         ensures not_full { OnOk result (length self.old.pairs ≢ MAX_PAIRS) }
         ensures why { IfErr result (ShowsWhy self.old.pairs (K.bytes key.now) value) }
     {
-        match self.insert_new_k(key, value) {
+        let outcome = self.insert_new_k(key, value);
+        self.shown(key, outcome)
+    }
+
+    // What came of putting in a new key, with the value that stands at it where it is none.
+    fn shown<'a>(
+        &'a self,
+        key: &K,
+        outcome: Result<(), NotInserted<V>>,
+    ) -> Result<(), TryInsertError<'a, V>>
+        requires stored { IfErr outcome (StandsAt self.now.pairs (K.bytes key.now)) }
+        ensures { IsShown self.now.pairs (K.bytes key.now) outcome result }
+    {
+        match outcome {
             Ok(()) => Ok(()),
             Err(NotInserted::Refused(refused)) => Err(TryInsertError::Refused(refused)),
             Err(NotInserted::Stored(proposed)) => match self.get_k(key) {

@@ -1,9 +1,9 @@
 //! Loans of a value, to be changed where it stands.
-ghost use Rattle.std.specs.Prelude.{◌≡◌, OnSome};
-ghost use Rattle.std.specs.Borrow.{sem, LendsSo};
+ghost use Rattle.std.specs.Prelude.{◌≡◌};
+ghost use Rattle.std.specs.Borrow.{sem};
 ghost use Rattle.std.specs.Option.{option_copied_mut};
-ghost use Rattle.rart_keys.specs.SortedMap.{lookup, put};
-ghost use Rattle.rart.specs.contracts.tree.AdaptiveRadixTree.{the_row};
+ghost use Rattle.rart_keys.specs.SortedMap.{lookup};
+ghost use Rattle.rart.specs.Loans.{lends_value};
 
 use crate::tree::AdaptiveRadixTree;
 use rart_keys::KeyTrait;
@@ -13,7 +13,7 @@ impl<K: KeyTrait, V> AdaptiveRadixTree<K, V> {
     /// Lends the value at `key`, in one pass down. Once the loan is over the tree holds at `key` what
     /// was left there; its other pairs and its nodes are as they were. Takes no memory.
     pub fn get_mut_k<'a>(&'a mut self, key: &K) -> Option<&'a mut V>
-        ensures* writes_back { sem 𝓛 (LendsSo (the_row K.row V.row K.PartialType.row (record { MAXIMUM_SIZE = K.MAXIMUM_SIZE; bytes = K.bytes }) (record { eq = K.eq }) (record { cmp = K.cmp }) (record { partial_cmp = K.partial_cmp }) K.PartialType.Partial) V.row self.entry result (λ t w. OnSome result ((t.pairs ≡ put (K.bytes key.now) w self.old.pairs) × (t.nodes ≡ self.old.nodes))) (λ t. t ≡ self.old)) }
+        ensures* writes_back { sem 𝓛 (lends_value K.row V.row K.PartialType.row K.KeyTrait K.PartialType.Partial self.entry (K.bytes key.now) result) }
         ensures value { option_copied_mut result ≡ lookup (K.bytes key.now) self.old.pairs }
     {
         DefaultNode::get_mut(&mut self.root, key.as_ref())
@@ -23,7 +23,7 @@ impl<K: KeyTrait, V> AdaptiveRadixTree<K, V> {
     pub fn get_mut(&mut self, key: K) -> Option<&mut V>
     where
         K: Drop,
-        ensures* writes_back { sem 𝓛 (LendsSo (the_row K.row V.row K.PartialType.row (record { MAXIMUM_SIZE = K.MAXIMUM_SIZE; bytes = K.bytes }) (record { eq = K.eq }) (record { cmp = K.cmp }) (record { partial_cmp = K.partial_cmp }) K.PartialType.Partial) V.row self.entry result (λ t w. OnSome result ((t.pairs ≡ put (K.bytes key) w self.old.pairs) × (t.nodes ≡ self.old.nodes))) (λ t. t ≡ self.old)) }
+        ensures* writes_back { sem 𝓛 (lends_value K.row V.row K.PartialType.row K.KeyTrait K.PartialType.Partial self.entry (K.bytes key) result) }
         ensures value { option_copied_mut result ≡ lookup (K.bytes key) self.old.pairs }
     {
         self.get_mut_k(&key)
