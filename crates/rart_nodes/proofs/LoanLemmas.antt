@@ -1,5 +1,5 @@
 -- What a loan of a value leaves: the same keys, so the same nodes.
-use Rattle.std.proofs.Common.{◌≡◌, ℕ, arith, ap, ◌∙◌, sym, refl, length, max, ⊎_elim, List, [], ◌∷◌, Option, Some, None, MutBor}
+use Rattle.std.proofs.Common.{◌≡◌, ℕ, ap, ◌∙◌, sym, refl, length, max, ⊎_elim, List, [], ◌∷◌, Option, Some, None, MutBor}
 use Rattle.std.proofs.lemmas.List.{length-map}
 use Rattle.std.specs.Prelude.{IfNone, OnSome}
 use Rattle.std.specs.Option.{option_copied_mut}

@@ -1,8 +1,6 @@
 use Rattle.std.proofs.Common.{arith, ap, ◌∙◌, sym, refl}
-use Rattle.rart_parts.specs.Entries.{child_at}
 use Rattle.rart_nodes.specs.Stored.{stored, width_of}
-use Rattle.rart_nodes.specs.Trie.{node}
-use Rattle.rart_nodes.specs.TrieCode.{as_children, node_count}
+use Rattle.rart_nodes.specs.TrieCode.{node_count}
 use Rattle.rart_nodes.proofs.ChildLemmas.{canonical-found, count-found}
 use Rattle.rart_nodes.proofs.Descent.{slice_from-is, look_up-short, look_up-here, put-here}
 use Rattle.rart_nodes.proofs.InsertLemmas.{insert-child, insert-refused, look_up-child, look_up-no_child}

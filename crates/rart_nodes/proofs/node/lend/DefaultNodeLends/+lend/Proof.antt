@@ -1,4 +1,6 @@
--- `lend` is `lend_by` at itself: a walk of one call, by induction on the node's count of nodes. The loan is the call's own.
+-- `lend` meets its contract, by induction on the node's count of nodes.
+-- Its body is one call of `lend_by`, whose theorem holds for any way to lend in a child. It is cited with the bound's member `ready` set to the canonical nodes with fewer nodes than this one,
+-- where the bound's contract is the induction's hypothesis (`bounded_by`). The call's `post`, the loan in it, is the function's own by computation, so the walk (`written`) ends where the call returns.
 use mathlib.Core.Path.{◌≡◌, refl, subst}
 use mathlib.Core.List.{List, [], ◌∷◌}
 use Prim.Native.Nat.{ℕ, ◌<◌}
@@ -8,11 +10,11 @@ use mir.Syntax.{Fn, Args, Callee, Dict, Dicts, Kind, a_type, dcons, dnil, method
 use mir.MapTy.{inst_fn}
 use mir.Val.{Val, vptr}
 use base.Logic.{SProp, ent, sep, emp, ex, ex_i, via, mono_l, mono_r, fst∗, snd∗, emp∗, comm∗, wand, wand_i, apply∗, id⊢}
-use base.Fml.{Lft, ftrue}
+use base.Fml.{Lft}
 use prog.Model.{Model}
 use prog.Wired.{Wired}
 use prog.Wp.{Tables, WpFn}
-use types.Logic.{Logic, sem}
+use types.Logic.{Logic}
 use types.Kit.{‵, raw, ◌⊛◌, some, later, ◌$◌, ◌∵◌, !, qed, by, move, use1, split, join, pick, await}
 use types.Run.{enter, addr, stop, no_more, and_then, returns}
 use types.ByLocal.{alloc_all, pass_all, free_all, look_at, get, through, sets, lands_as}
@@ -34,7 +36,7 @@ use denote.Builtin.{u8}
 use denote.Steps.{said, peeks}
 use denote.Struct.Recorded.{recorded_lawful}
 use denote.Triple.Call.{calls_at}
-use denote.Triple.Cycle.{Graded, Below, measured, mutual_elim, at_on}
+use denote.Triple.Cycle.{measured, mutual_elim, at_on}
 use denote.Triple.Entry.{Vals, alive, on_entry}
 use denote.Triple.Spec.{Back, triple_of}
 use denote.Triple.Statement.{Contract, Triple}
@@ -59,7 +61,7 @@ use Rattle.rart_nodes.proofs.node.lend.lend_by.Met as met_by
 use Rattle.rart_nodes.proofs.node.lend.DefaultNodeLends.+lend.{functions, statement}
 use Rattle.rart_nodes.proofs.node.lend.DefaultNodeLends.+lend.Code as code
 
--- facts beside P are learned, and others put in their place
+-- facts are learned of, and put beside what is had
 module _ {M : Type 1} (𝓤 : Ura M) where
   three : (φ₁ φ₂ φ₃ : Type 0) → ent 𝓤 (sep 𝓤 (fact 𝓤 φ₁) (sep 𝓤 (fact 𝓤 φ₂) (fact 𝓤 φ₃))) (fact 𝓤 (φ₁ × φ₂ × φ₃))
   three φ₁ φ₂ φ₃ =
