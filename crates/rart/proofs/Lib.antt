@@ -1,2 +1,3 @@
 pub mod RefusalLemmas
 pub mod ShownLemmas
+pub mod WalkSteps
