@@ -1,3 +1,4 @@
 pub mod RefusalLemmas
 pub mod ShownLemmas
 pub mod StepLemmas
+pub mod WalkSteps

@@ -100,12 +100,44 @@ impl<K: KeyTrait, V> AdaptiveRadixTree<K, V> {
     pub fn try_insert<'a>(&'a mut self, key: K, value: V) -> Result<(), TryInsertError<'a, V>>
     where
         K: Drop,
+        ensures* after { sem 𝓛 (ends_as K.row V.row K.PartialType.row K.KeyTrait K.PartialType.Partial self.entry (λ n. MatchResult result (λ _. n.pairs ≡ put (K.bytes key) value self.old.pairs) (λ _. n ≡ self.old))) }
         ensures absent { OnOk result (lookup (K.bytes key) self.old.pairs ≡ None) }
         ensures not_full { OnOk result (length self.old.pairs ≢ MAX_PAIRS) }
         ensures why { IfErr result (ShowsWhy self.old.pairs (K.bytes key) value) }
     {
-        self.try_insert_k(&key, value)
+        let tried = self.insert_new_with(key, value);
+        self.shown_for(tried)
     }
+
+    // Puts in a new key as `insert_new_k` does, and hands the key back.
+    fn insert_new_with(&mut self, key: K, value: V) -> Tried<K, V>
+        ensures key { result.key ≡ key }
+        ensures pairs { OnOk result.outcome (self.new.pairs ≡ put (K.bytes key) value self.old.pairs) }
+        ensures absent { OnOk result.outcome (lookup (K.bytes key) self.old.pairs ≡ None) }
+        ensures not_full { OnOk result.outcome (length self.old.pairs ≢ MAX_PAIRS) }
+        ensures kept { OnErr result.outcome (self.new ≡ self.old) }
+        ensures why { IfErr result.outcome (TellsWhy self.old.pairs (K.bytes key) value) }
+    {
+        let outcome = self.insert_new_k(&key, value);
+        Tried { key, outcome }
+    }
+
+    // What came of putting in a new key, as `shown` tells it.
+    fn shown_for<'a>(&'a self, tried: Tried<K, V>) -> Result<(), TryInsertError<'a, V>>
+    where
+        K: Drop,
+        requires stored { IfErr tried.outcome (StandsAt self.now.pairs (K.bytes tried.key)) }
+        ensures { IsShown self.now.pairs (K.bytes tried.key) tried.outcome result }
+    {
+        let Tried { key, outcome } = tried;
+        self.shown(&key, outcome)
+    }
+}
+
+// A key, and what came of putting it in.
+struct Tried<K, V> {
+    key: K,
+    outcome: Result<(), NotInserted<V>>,
 }
 
 #[cfg(test)]

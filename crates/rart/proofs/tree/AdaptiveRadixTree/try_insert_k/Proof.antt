@@ -9,7 +9,7 @@ use mir.MapTy.{inst_fn}
 use mir.Val.{Val, vptr}
 use base.Fraction.{full_share}
 use base.Share
-use base.Logic.{SProp, ent, sep, emp, ex, ex_i, via, mono_l, wand, fst∗, snd∗, emp∗, apply∗, id⊢}
+use base.Logic.{SProp, ent, sep, emp, ex, ex_i, via, wand, fst∗, snd∗, apply∗, id⊢}
 use base.Fml.{GName, Lft, ftrue, flft, fdead, fobs, fres, fbor}
 use prog.Model.{Model}
 use prog.Wired.{Wired}
@@ -25,7 +25,7 @@ use contract.Lifetimes.{Lfts, Shares}
 use contract.Monad.{fact, fact_i, fact_use}
 use contract.Running.{Running, tables, tables_of}
 use denote.Bor.{Bor}
-use denote.Follow.{such_by, follows_by, follows_so}
+use denote.Follow.{follows_so}
 use denote.Laws.{Is, Ises, Are, shows, owns_show, showss}
 use denote.Lend.{lends_again, comes_back, LentAgain}
 use denote.Memory.{mem, part_at, hidden_shr}
@@ -40,7 +40,6 @@ use denote.Signature.{Signature, types_at}
 use denote.Steps.{nothing, heard, peeks, only}
 use denote.Struct.Field.{unit-field}
 use denote.Struct.Laws.{unit-laws, unit-copy}
-use denote.Struct.Members.{Lone}
 use denote.Triple.Call.{calls_at}
 use denote.Triple.Clauses.{Lasts, lasts}
 use denote.Triple.Entry.{Args as ArgsAt, Res, on_entry, alive}
@@ -52,6 +51,7 @@ use Rattle.rart_keys.specs.SortedMap.{lookup, put}
 use Rattle.rart.specs.Refusals.{IsShown, ShowsWhy, StandsAt, TellsWhy}
 use Rattle.rart.specs.declared.tree.TheConstants.{MAX_PAIRS}
 use Rattle.rart.proofs.ShownLemmas as lemmas
+use Rattle.rart.proofs.WalkSteps.{Lone-is, beside, rests}
 use Rattle.rart.specs.MapAndShape.{MapAndShape}
 use Rattle.std.specs.declared.cmp.Eq as eq
 use Rattle.std.specs.declared.cmp.PartialEq as partial_eq
@@ -82,23 +82,6 @@ use Rattle.rart.proofs.tree.AdaptiveRadixTree.shown.Met as shown_met
 use Rattle.rart.specs.contracts.tree.AdaptiveRadixTree.try_insert_k as tries
 use Rattle.rart.proofs.tree.AdaptiveRadixTree.try_insert_k.Statement.{statement}
 use Rattle.rart.proofs.tree.AdaptiveRadixTree.try_insert_k.Code as code
-
-Lone-is : (vs : List Val) → Lone vs → vs ≡ only vs ∷ []
-Lone-is [] l = absurd l
-Lone-is (v ∷ []) l = refl
-Lone-is (v ∷ u ∷ us) l = absurd l
-
-module _ {M : Type 1} (𝓤 : Ura M) where
-  -- a fact is put beside what is had
-  beside : (φ : Type 0) {R Q : SProp 𝓤} → φ → ent 𝓤 R Q → ent 𝓤 R (sep 𝓤 (fact 𝓤 φ) Q)
-  beside φ {R} {Q} x h = via 𝓤 Q h (via 𝓤 (sep 𝓤 (emp 𝓤) Q) (emp∗ 𝓤 Q) (mono_l 𝓤 Q (fact_i 𝓤 φ (emp 𝓤) x)))
-
--- the last value is said of a name that nothing follows
-rests : {M : Type 1} {𝓤 : Ura M} (𝓛 : Logic 𝓤) (R : RattleType) (γ : GName) (E : R.Denot → Type 0) (n : R.Denot) → E n
-    → ent 𝓤 (𝓛.A.res γ (R.coded.code n)) (sem 𝓛 (follows_so R R γ none (λ _ _. ⊤) E))
-unfolding such_by follows_by
-rests {𝓤 = 𝓤} 𝓛 R γ E n e =
-    ex_i 𝓤 (λ (s : (p : (R.Denot → R.Denot) × R.Denot) × ((w : R.Denot) → ⊤) × E p.1). sem 𝓛 (follows_by R.Denot R.Denot R.coded.code R.coded.code γ none s.0.0 s.0.1)) (((λ w. w), n), (λ _. tt), e)
 
 module _ {M : Type 1} (𝓤 : Ura M) (𝓛 : Logic 𝓤) (𝓜 : Model 𝓤 𝓛.H) (𝓡 : Running 𝓤 𝓛.H 𝓜) (wired : Wired 𝓡.env code.code)
     (K V P : RattleType) (LK : Laws K) (LV : Laws V) (LP : Laws P)
