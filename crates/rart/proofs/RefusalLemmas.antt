@@ -3,8 +3,8 @@ use Rattle.std.proofs.Common.{◌≡◌, ◌<◌, ℕ, Bool, true, false, List, 
 use Rattle.std.specs.Prelude.{◌||◌, not, is_some, if◌then◌else◌}
 use Rattle.rart_keys.specs.ByteStrings.{bytes_eq}
 use Rattle.rart_keys.specs.SortedMap.{keys_of, lookup}
-use Rattle.rart_nodes.specs.InsertAsks.{insert_asks, last_takes}
-use Rattle.rart_nodes.specs.Shape.{contains_key, record_at, record_from, next_bytes}
+use Rattle.rart_nodes.specs.edits.InsertAsks.{insert_asks, last_takes}
+use Rattle.rart_nodes.specs.shapes.Shape.{contains_key, record_at, record_from, next_bytes}
 use Rattle.rart_parts.specs.declared.error.TreeError.{TreeError}
 use Rattle.rart_parts.specs.declared.error.TreeError.TheVariants.{Memory, Full}
 use Rattle.rart.specs.declared.tree.TheConstants.{MAX_PAIRS}

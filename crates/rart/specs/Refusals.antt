@@ -1,7 +1,7 @@
 -- When an insertion may be refused, and what an insertion that never replaces answers.
 use Rattle.std.specs.Prelude.{◌≡◌, ◌≢◌, ◌<◌, ℕ, List, length, true, Some, None, Result, Ok, Err}
 use Rattle.rart_keys.specs.SortedMap.{keys_of, lookup}
-use Rattle.rart_nodes.specs.InsertAsks.{insert_asks}
+use Rattle.rart_nodes.specs.edits.InsertAsks.{insert_asks}
 use Rattle.rart_parts.specs.declared.error.TreeError.{TreeError}
 use Rattle.rart_parts.specs.declared.error.TreeError.TheVariants.{Memory, Full}
 use Rattle.rart.specs.declared.tree.TheConstants.{MAX_PAIRS}

@@ -1,10 +1,9 @@
 -- What calls of a tree reply, and what they leave of its map.
 use Rattle.std.specs.Prelude.{◌≡◌, ◌≢◌, ◌≤◌, ℕ, List, [], ◌∷◌, length, map, is_some, ◌==◌, true, None, Some}
-use Rattle.rart_keys.specs.SortedMap.{keys_of, lookup, put, without}
-use Rattle.rart_nodes.specs.RemoveAsks.{remove_asks}
-use Rattle.rart_nodes.specs.Shape.{HasShape, NodeRecord}
-use Rattle.rart_nodes.specs.Statistics.{statistics_in, statistics_of}
-use Rattle.rart_nodes.specs.TreeWalk.{values_of}
+use Rattle.rart_keys.specs.SortedMap.{keys_of, lookup, put, without, values_of}
+use Rattle.rart_nodes.specs.edits.RemoveAsks.{remove_asks}
+use Rattle.rart_nodes.specs.shapes.Shape.{HasShape, NodeRecord}
+use Rattle.rart_nodes.specs.statistics.Statistics.{statistics_in, statistics_of}
 use Rattle.rart_nodes.specs.declared.stats.TreeStats.{TreeStats}
 use Rattle.rart_parts.specs.declared.error.TreeError.{TreeError}
 use Rattle.rart_parts.specs.declared.error.TreeError.TheVariants.{Memory}

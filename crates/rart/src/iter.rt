@@ -1,6 +1,6 @@
 //! Iterators over a tree, ascending by key.
 ghost use Rattle.std.specs.Prelude.{◌≡◌, ◌≢◌, [], IfErr, IfOk};
-ghost use Rattle.rart_nodes.specs.TreeWalk.{values_of};
+ghost use Rattle.rart_keys.specs.SortedMap.{values_of};
 
 use crate::tree::AdaptiveRadixTree;
 use rart_keys::KeyTrait;

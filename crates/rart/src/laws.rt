@@ -1,9 +1,8 @@
 //! What clients can count on, each proved for every key type from the public contracts alone.
 ghost use Rattle.std.specs.Prelude.{◌≡◌, ◌≢◌, ◌≤◌, [], length, IfErr, IfOk, None, OnErr, OnOk, Some};
 ghost use Rattle.std.specs.Option.{option_copied};
-ghost use Rattle.rart_keys.specs.SortedMap.{IsAscending, keys_of, lookup, put};
-ghost use Rattle.rart_nodes.specs.Statistics.{statistics_in, statistics_of};
-ghost use Rattle.rart_nodes.specs.TreeWalk.{values_of};
+ghost use Rattle.rart_keys.specs.SortedMap.{IsAscending, keys_of, lookup, put, values_of};
+ghost use Rattle.rart_nodes.specs.statistics.Statistics.{statistics_in, statistics_of};
 
 use crate::stats::{TreeStats, TreeStatsTrait};
 use crate::tree::{AdaptiveRadixTree, MAX_PAIRS};

@@ -1,8 +1,7 @@
 //! Calls of a tree as values: a list of calls is run on a tree, and gives the list of replies.
 ghost use Rattle.std.specs.Prelude.{◌≡◌, ◌≢◌, [], IfErr, IfOk, OnErr, length};
-ghost use Rattle.rart_keys.specs.SortedMap.{keys_of};
-ghost use Rattle.rart_nodes.specs.Shape.{HasShape};
-ghost use Rattle.rart_nodes.specs.TreeWalk.{values_of};
+ghost use Rattle.rart_keys.specs.SortedMap.{keys_of, values_of};
+ghost use Rattle.rart_nodes.specs.shapes.Shape.{HasShape};
 ghost use Rattle.rart.specs.Steps.{AreStatistics, IsRun, IsStep, pairs_in};
 
 use crate::stats::TreeStatsTrait;

@@ -1,8 +1,8 @@
 //! Statistics of a tree: how many nodes of each width stand, how many children they have, and how
 //! many nodes stand one below another.
 ghost use Rattle.std.specs.Prelude.{◌≡◌, ℕ, ◌≤◌, List, length, IfErr, IfOk, OnErr};
-ghost use Rattle.rart_nodes.specs.Shape.{NodeRecord};
-ghost use Rattle.rart_nodes.specs.Statistics.{statistics_in, statistics_of};
+ghost use Rattle.rart_nodes.specs.shapes.Shape.{NodeRecord};
+ghost use Rattle.rart_nodes.specs.statistics.Statistics.{statistics_in, statistics_of};
 
 pub use rart_nodes::stats::{NodeStats, TreeStats};
 use rart_parts::TreeError;

@@ -3,10 +3,10 @@ ghost use Rattle.std.specs.Prelude.{◌≡◌, ◌≢◌, ℕ, ◌+◌, ◌-◌,
 ghost use Rattle.std.specs.Option.{option_copied};
 ghost use Rattle.rart_keys.specs.KeyBytes.{IsWithin};
 ghost use Rattle.rart_keys.specs.SortedMap.{IsAscending, keys_of, lookup, put, without};
-ghost use Rattle.rart_nodes.specs.RemoveAsks.{remove_asks};
-ghost use Rattle.rart_nodes.specs.InsertAsks.{insert_asks};
-ghost use Rattle.rart_nodes.specs.Shape.{HasShape};
-ghost use Rattle.rart_nodes.specs.Tree.{tree_nodes, tree_pairs};
+ghost use Rattle.rart_nodes.specs.edits.RemoveAsks.{remove_asks};
+ghost use Rattle.rart_nodes.specs.edits.InsertAsks.{insert_asks};
+ghost use Rattle.rart_nodes.specs.shapes.Shape.{HasShape};
+ghost use Rattle.rart_nodes.specs.tries.Tree.{tree_nodes, tree_pairs};
 
 use rart_keys::{KeyTrait, Partial};
 use rart_nodes::node::DefaultNode;
@@ -38,8 +38,8 @@ pub struct AdaptiveRadixTree<K: KeyTrait, V> {
 impl<K: KeyTrait, V> Model for AdaptiveRadixTree<K, V> {
     ghost use Rattle.std.specs.Prelude.{◌≡◌, ◌≤◌, length};
     ghost use Rattle.rart_keys.specs.KeyBytes.{IsWithin};
-    ghost use Rattle.rart_nodes.specs.CanonicalTest.{longest_key};
-    ghost use Rattle.rart_nodes.specs.Tree.{IsCanonicalTree, tree_nodes, tree_pairs};
+    ghost use Rattle.rart_keys.specs.SortedMap.{longest_key};
+    ghost use Rattle.rart_nodes.specs.tries.Tree.{IsCanonicalTree, tree_nodes, tree_pairs};
     ghost use Rattle.rart.specs.MapAndShape.{MapAndShape};
     ghost use Rattle.rart.specs.declared.tree.TheConstants.{MAX_PAIRS};
 

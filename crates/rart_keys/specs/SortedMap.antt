@@ -1,5 +1,5 @@
 -- A map: a list of pairs, strictly ascending by their bytes.
-use Rattle.std.specs.Prelude.{ℕ, not, List, [], ◌∷◌, map, Option, Some, None, if◌then◌else◌}
+use Rattle.std.specs.Prelude.{ℕ, not, max, length, List, [], ◌∷◌, map, Option, Some, None, if◌then◌else◌}
 use Rattle.std.specs.List.{filter}
 use Rattle.std.specs.Ordering.{nat_cmp, match_ordering}
 use Rattle.std.specs.Cmp.Lexicographic.{slice_cmp}
@@ -37,3 +37,12 @@ without k es = filter (λ e. not (bytes_eq e.0 k)) es
 abbrev pub count_of : {A : Type 0} → Option A → ℕ
 count_of None = 0
 count_of (Some a) = 1
+
+-- the length of the longest key
+abbrev pub longest_key : {V : Type 0} → List (List ℕ × V) → ℕ
+longest_key [] = 0
+longest_key (e ∷ es) = max (length e.0) (longest_key es)
+
+-- the values, in the order of their keys
+abbrev pub values_of : {V : Type 0} → List (List ℕ × V) → List V
+values_of es = map (λ e. e.1) es

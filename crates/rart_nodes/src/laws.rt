@@ -1,14 +1,14 @@
 //! The theorems of the canonical trie, each the contract of a function with an empty body.
 ghost use Rattle.std.specs.Prelude.{◌≡◌, ℕ, ◌+◌, ◌*◌, ◌≤◌, List, [], Option, None, Some, is_some, true, length};
 ghost use Rattle.rart_keys.specs.SortedMap.{IsAscending, lookup, put, without, keys_of};
-ghost use Rattle.rart_nodes.specs.BranchPoints.{IsBranchPoint};
-ghost use Rattle.rart_nodes.specs.EditRuns.{Edit, run_tree, run_map};
-ghost use Rattle.rart_nodes.specs.InsertAsks.{insert_asks, trie_put_asks};
-ghost use Rattle.rart_nodes.specs.ProbeCount.{probe_count, entered_nodes};
-ghost use Rattle.rart_nodes.specs.RemoveAsks.{remove_asks, trie_remove_asks};
-ghost use Rattle.rart_nodes.specs.Shape.{HasShape, NodeRecord, record_at};
-ghost use Rattle.rart_nodes.specs.Tree.{tree_pairs, tree_nodes, IsCanonicalTree};
-ghost use Rattle.rart_nodes.specs.Trie.{Trie, IsCanonical, look_up, pairs_of, nodes_of, put_trie, remove_trie};
+ghost use Rattle.rart_nodes.specs.shapes.BranchPoints.{IsBranchPoint};
+ghost use Rattle.rart_nodes.specs.edits.EditRuns.{Edit, run_tree, run_map};
+ghost use Rattle.rart_nodes.specs.edits.InsertAsks.{insert_asks, trie_asks_put};
+ghost use Rattle.rart_nodes.specs.walks.ProbeCount.{probe_count, entered_nodes};
+ghost use Rattle.rart_nodes.specs.edits.RemoveAsks.{remove_asks, trie_asks_remove};
+ghost use Rattle.rart_nodes.specs.shapes.Shape.{HasShape, NodeRecord, record_at};
+ghost use Rattle.rart_nodes.specs.tries.Tree.{tree_pairs, tree_nodes, IsCanonicalTree};
+ghost use Rattle.rart_nodes.specs.tries.Trie.{Trie, IsCanonical, trie_lookup, pairs_of, nodes_of, trie_put, trie_remove};
 
 pub mod statistics;
 
@@ -16,7 +16,7 @@ pub mod statistics;
 /// and its nodes are exactly the branch points of its keys.
 pub fn canonical_trie<V>()
     ensures pairs_ascend { (t : Trie V) → IsCanonical t → IsAscending (pairs_of t) }
-    ensures looks_up { (k : List ℕ) (t : Trie V) → IsCanonical t → look_up k t ≡ lookup k (pairs_of t) }
+    ensures looks_up { (k : List ℕ) (t : Trie V) → IsCanonical t → trie_lookup k t ≡ lookup k (pairs_of t) }
     ensures shape { (t : Trie V) → IsCanonical t → HasShape (keys_of (pairs_of t)) (nodes_of t) }
     ensures equal_keys { (t u : Trie V) → IsCanonical t → IsCanonical u → keys_of (pairs_of t) ≡ keys_of (pairs_of u) → nodes_of t ≡ nodes_of u }
     ensures few_nodes { (t : Trie V) → IsCanonical t → length (nodes_of t) + 1 ≤ 2 * length (pairs_of t) }
@@ -32,13 +32,13 @@ pub fn branch_points<V>()
 /// What an edit does to a canonical trie: it stays canonical, its pairs are those of the sorted
 /// map, and where the edit needs other room is told by the keys alone.
 pub fn edits<V>()
-    ensures put_canonical { (k : List ℕ) (v : V) (t : Trie V) → IsCanonical t → IsCanonical (put_trie k v t) }
-    ensures put_pairs { (k : List ℕ) (v : V) (t : Trie V) → IsCanonical t → pairs_of (put_trie k v t) ≡ put k v (pairs_of t) }
-    ensures put_asks { (k : List ℕ) (t : Trie V) → IsCanonical t → trie_put_asks k t ≡ insert_asks (keys_of (pairs_of t)) k }
-    ensures remove_canonical { (k : List ℕ) (t : Trie V) → IsCanonical t → IsCanonicalTree (remove_trie k t) }
-    ensures remove_pairs { (k : List ℕ) (t : Trie V) → IsCanonical t → tree_pairs (remove_trie k t) ≡ without k (pairs_of t) }
-    ensures remove_absent { (k : List ℕ) (t : Trie V) → IsCanonical t → look_up k t ≡ None → remove_trie k t ≡ Some t }
-    ensures remove_asks { (k : List ℕ) (t : Trie V) → IsCanonical t → trie_remove_asks None k t ≡ remove_asks (keys_of (pairs_of t)) k }
+    ensures put_canonical { (k : List ℕ) (v : V) (t : Trie V) → IsCanonical t → IsCanonical (trie_put k v t) }
+    ensures put_pairs { (k : List ℕ) (v : V) (t : Trie V) → IsCanonical t → pairs_of (trie_put k v t) ≡ put k v (pairs_of t) }
+    ensures put_asks { (k : List ℕ) (t : Trie V) → IsCanonical t → trie_asks_put k t ≡ insert_asks (keys_of (pairs_of t)) k }
+    ensures remove_canonical { (k : List ℕ) (t : Trie V) → IsCanonical t → IsCanonicalTree (trie_remove k t) }
+    ensures remove_pairs { (k : List ℕ) (t : Trie V) → IsCanonical t → tree_pairs (trie_remove k t) ≡ without k (pairs_of t) }
+    ensures remove_absent { (k : List ℕ) (t : Trie V) → IsCanonical t → trie_lookup k t ≡ None → trie_remove k t ≡ Some t }
+    ensures remove_asks { (k : List ℕ) (t : Trie V) → IsCanonical t → trie_asks_remove None k t ≡ remove_asks (keys_of (pairs_of t)) k }
 {}
 
 /// After any list of edits of an empty tree the pairs are those of the sorted map, and the nodes

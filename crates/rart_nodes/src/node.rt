@@ -3,10 +3,9 @@
 //! Contracts see a node as a trie: all that stands below it, whatever its storage is.
 ghost use Rattle.std.specs.Prelude.{◌≡◌, ◌+◌, ◌*◌, ◌≤◌, [], ◌∷◌, length};
 ghost use Rattle.std.specs.Option.{option_copied};
-ghost use Rattle.rart_nodes.specs.SeenTrie.{child_in};
 ghost use Rattle.rart_keys.specs.SortedMap.{IsAscending, keys_of};
-ghost use Rattle.rart_nodes.specs.Shape.{HasShape};
-ghost use Rattle.rart_nodes.specs.Trie.{IsCanonical, leaf, nodes_of, pairs_of, prefix_of, value_of};
+ghost use Rattle.rart_nodes.specs.shapes.Shape.{HasShape};
+ghost use Rattle.rart_nodes.specs.tries.Trie.{IsCanonical, leaf, nodes_of, pairs_of, prefix_of, value_of, child_in};
 
 use crate::node::storage::Storage;
 use rart_keys::Partial;
@@ -38,20 +37,20 @@ pub struct DefaultNode<P: Partial, V> {
 }
 
 impl<P: Partial, V> Model for DefaultNode<P, V> {
-    ghost use Rattle.rart_nodes.specs.Trie.{Trie, node};
-    ghost use Rattle.rart_nodes.specs.TrieCode.{trie_code, as_children, node_count};
+    ghost use Rattle.rart_nodes.specs.tries.Trie.{Trie, node};
+    ghost use Rattle.rart_nodes.specs.tries.TrieCode.{trie_code, as_children, node_count};
 
     ghost Value = { Trie V };
 
     ghost coded = { trie_code V.code };
 
-    ghost use Rattle.rart_nodes.specs.Stored.{stored, width_of};
+    ghost use Rattle.rart_nodes.specs.storages.Stored.{stored, width_of};
 
     ghost view = { λ a. node (P.bytes a.prefix) a.value (width_of a.storage) (as_children (stored a.storage)) };
 
     ghost size = { node_count };
 
-    ghost use Rattle.rart_nodes.specs.StoredFalls.{deep_le-stored};
+    ghost use Rattle.rart_nodes.specs.storages.StoredFalls.{deep_le-stored};
 
     ghost size_decreases = { λ a h. deep_le-stored P.Partial a.prefix a.value a.storage };
 }

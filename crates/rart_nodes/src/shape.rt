@@ -6,8 +6,8 @@
 ghost use Rattle.std.specs.Prelude.{◌≡◌, ◌↔◌, IfErr, IfOk, IsTrue, MatchOption, None, OnOk, Some};
 ghost use Rattle.rart_keys.specs.ByteStrings.{byte_after};
 ghost use Rattle.rart_keys.specs.SortedMap.{IsAscending, put};
-ghost use Rattle.rart_nodes.specs.Shape.{HasShape, capacity_of, contains_key, next_bytes, record_at};
-ghost use Rattle.rart_nodes.specs.ShapeRecords.{keys_in, lone_keys, node_record, put_some, records_of};
+ghost use Rattle.rart_nodes.specs.shapes.Shape.{HasShape, capacity_of, contains_key, next_bytes, record_at};
+ghost use Rattle.rart_nodes.specs.shapes.ShapeRecords.{keys_in, lone_keys, node_record, put_some, records_of};
 
 use rart_parts::TreeError;
 use std::alloc::Global;

@@ -1,7 +1,7 @@
 //! Statistics of a tree: how many nodes of each width stand, how many children they have, and how
 //! many nodes stand one below another.
 ghost use Rattle.std.specs.Prelude.{◌≡◌, []};
-ghost use Rattle.rart_nodes.specs.Statistics.{statistics_in, statistics_of};
+ghost use Rattle.rart_nodes.specs.statistics.Statistics.{statistics_in, statistics_of};
 
 use std::alloc::Global;
 use std::collections::BTreeMap;

@@ -3,10 +3,10 @@ use Rattle.std.proofs.Common.{◌≡◌, ℕ, zero, suc, ◌<◌, ◌≤◌, ◌
 use Rattle.std.proofs.lemmas.Bool.{false≢true}
 use Rattle.std.proofs.lemmas.Bool.Decides.{eqb_tells}
 use Rattle.std.proofs.lemmas.List.{length-set, length-replicate, get_or-set_same, get_or-set_other}
-use Rattle.rart_parts.specs.Entries.{child_at, with_child, without, replaced, StartsAbove, IsAscending}
+use Rattle.rart_parts.specs.Entries.{child_at, with_entry, without_byte, replaced, StartsAbove, BytesAscend}
 use Rattle.rart_parts.specs.Places.{numbered}
 use Rattle.rart_parts.specs.Direct.{IsDirect}
-use Rattle.rart_parts.proofs.EntryLemmas.{at_same, at_other, same_lookups, child_at-with_child, child_at-without, child_at-replaced, with_child-ascends, without-ascends, replaced-ascends, length-with_child, length-without, length-replaced}
+use Rattle.rart_parts.proofs.EntryLemmas.{at_same, at_other, same_lookups, child_at-with_entry, child_at-without_byte, child_at-replaced, with_entry-ascends, without_byte-ascends, replaced-ascends, length-with_entry, length-without_byte, length-replaced}
 
 below_none : {X : Type 0} (n k : ℕ) (os : List (Option X)) → k < n → child_at k (numbered n os) ≡ None
 below_none n k [] h = refl
@@ -29,7 +29,7 @@ starts b n [] h = tt
 starts b n (None ∷ os) h = starts b (suc n) os (omega arith)
 starts b n (Some x ∷ os) h = h
 
-pub numbered-ascends : {X : Type 0} (n : ℕ) (os : List (Option X)) → IsAscending (numbered n os)
+pub numbered-ascends : {X : Type 0} (n : ℕ) (os : List (Option X)) → BytesAscend (numbered n os)
 numbered-ascends n [] = tt
 numbered-ascends n (None ∷ os) = numbered-ascends (suc n) os
 numbered-ascends n (Some x ∷ os) = (starts n (suc n) os (omega arith), numbered-ascends (suc n) os)
@@ -50,13 +50,13 @@ module _ {X : Type 0} (os : List (Option X)) (k : ℕ) (h : k < length os) where
       (λ t. get_or-set_other os k b o None (λ e. t.1 (sym e)) ∙ ap (λ c. cond c o (get_or os b None)) (sym t.0))
       (eqb_tells k b)
 
-  pub numbered-put : (x : X) → numbered 0 (set os k (Some x)) ≡ with_child k x (numbered 0 os)
-  numbered-put x = same_lookups _ _ (numbered-ascends 0 (set os k (Some x))) (with_child-ascends k x (numbered 0 os) (numbered-ascends 0 os))
-      (λ b. numbered_child (set os k (Some x)) b ∙ place_set (Some x) b ∙ ap (cond (eqb k b) (Some x)) (sym (numbered_child os b)) ∙ sym (child_at-with_child k x (numbered 0 os) b))
+  pub numbered-put : (x : X) → numbered 0 (set os k (Some x)) ≡ with_entry k x (numbered 0 os)
+  numbered-put x = same_lookups _ _ (numbered-ascends 0 (set os k (Some x))) (with_entry-ascends k x (numbered 0 os) (numbered-ascends 0 os))
+      (λ b. numbered_child (set os k (Some x)) b ∙ place_set (Some x) b ∙ ap (cond (eqb k b) (Some x)) (sym (numbered_child os b)) ∙ sym (child_at-with_entry k x (numbered 0 os) b))
 
-  pub numbered-taken : numbered 0 (set os k None) ≡ without k (numbered 0 os)
-  numbered-taken = same_lookups _ _ (numbered-ascends 0 (set os k None)) (without-ascends k (numbered 0 os) (numbered-ascends 0 os))
-      (λ b. numbered_child (set os k None) b ∙ place_set None b ∙ ap (cond (eqb k b) None) (sym (numbered_child os b)) ∙ sym (child_at-without k (numbered 0 os) (numbered-ascends 0 os) b))
+  pub numbered-taken : numbered 0 (set os k None) ≡ without_byte k (numbered 0 os)
+  numbered-taken = same_lookups _ _ (numbered-ascends 0 (set os k None)) (without_byte-ascends k (numbered 0 os) (numbered-ascends 0 os))
+      (λ b. numbered_child (set os k None) b ∙ place_set None b ∙ ap (cond (eqb k b) None) (sym (numbered_child os b)) ∙ sym (child_at-without_byte k (numbered 0 os) (numbered-ascends 0 os) b))
 
   pub numbered-written : (x w : X) → get_or os k None ≡ Some x → numbered 0 (set os k (Some w)) ≡ replaced k w (numbered 0 os)
   numbered-written x w e = same_lookups _ _ (numbered-ascends 0 (set os k (Some w))) (replaced-ascends k w (numbered 0 os) (numbered-ascends 0 os))
@@ -70,11 +70,11 @@ module _ {X : Type 0} {os : List (Option X)} {count : ℕ} (d : IsDirect os coun
   pub direct_put : (x : X) → get_or os k None ≡ None → IsDirect (set os k (Some x)) (count + 1)
   direct_put x free = record {
     full = length-set os k (Some x) ∙ d.full;
-    counted = ap (λ n. n + 1) d.counted ∙ sym (ap length (numbered-put os k within x) ∙ length-with_child k x (numbered 0 os) (numbered_child os k ∙ free));
+    counted = ap (λ n. n + 1) d.counted ∙ sym (ap length (numbered-put os k within x) ∙ length-with_entry k x (numbered 0 os) (numbered_child os k ∙ free));
   }
 
   pub direct_taken : (x : X) → get_or os k None ≡ Some x → count ≡ length (numbered 0 (set os k None)) + 1
-  direct_taken x e = d.counted ∙ length-without k x (numbered 0 os) (numbered_child os k ∙ e) ∙ ap (λ es. length es + 1) (sym (numbered-taken os k within))
+  direct_taken x e = d.counted ∙ length-without_byte k x (numbered 0 os) (numbered_child os k ∙ e) ∙ ap (λ es. length es + 1) (sym (numbered-taken os k within))
 
   pub direct_without : (x : X) → get_or os k None ≡ Some x → IsDirect (set os k None) (count - 1)
   direct_without x e = record { full = length-set os k None ∙ d.full; counted = omega (arith, direct_taken x e) }

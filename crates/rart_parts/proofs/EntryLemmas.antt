@@ -2,7 +2,7 @@
 use Rattle.std.proofs.Common.{◌≡◌, ◌≢◌, ℕ, ◌<◌, ◌≤◌, ◌+◌, true, false, cond, eqb, List, [], ◌∷◌, Option, Some, None, length, sym, ap, ◌∙◌, refl, arith, ⊎_elim, subst}
 use Rattle.std.proofs.lemmas.Bool.{eq-eqb, ne_eqb, lt-ltb, le-ltb, cases_lt}
 use Rattle.std.proofs.lemmas.Bool.Decides.{eqb_tells}
-use Rattle.rart_parts.specs.Entries.{child_at, with_child, with_another, without, replaced, ascending, StartsAbove, IsAscending}
+use Rattle.rart_parts.specs.Entries.{child_at, with_entry, with_another, without_byte, replaced, ascending, StartsAbove, BytesAscend}
 
 some_none : {X : Type 0} {x : X} → Some x ≡ None → ⊥
 some_none h = cc
@@ -12,18 +12,18 @@ three P a b lt eq gt = ⊎_elim lt (λ le. ⊎_elim (λ t. eq t.1) (λ t. gt (om
 
 -- the three ways in which a byte meets the first entry
 module _ {X : Type 0} (k : ℕ) (x : X) (e : ℕ × X) (es : List (ℕ × X)) where
-  pub with_before : k < e.0 → with_child k x (e ∷ es) ≡ (k, x) ∷ e ∷ es
-  with_before h = ap (λ b. cond b ((k, x) ∷ e ∷ es) (cond (eqb e.0 k) ((k, x) ∷ es) (e ∷ with_child k x es))) (lt-ltb k e.0 h)
+  pub with_before : k < e.0 → with_entry k x (e ∷ es) ≡ (k, x) ∷ e ∷ es
+  with_before h = ap (λ b. cond b ((k, x) ∷ e ∷ es) (cond (eqb e.0 k) ((k, x) ∷ es) (e ∷ with_entry k x es))) (lt-ltb k e.0 h)
 
-  pub with_same : e.0 ≡ k → with_child k x (e ∷ es) ≡ (k, x) ∷ es
+  pub with_same : e.0 ≡ k → with_entry k x (e ∷ es) ≡ (k, x) ∷ es
   with_same h =
-      ap (λ b. cond b ((k, x) ∷ e ∷ es) (cond (eqb e.0 k) ((k, x) ∷ es) (e ∷ with_child k x es))) (le-ltb k e.0 (omega (arith, h)))
-      ∙ ap (λ b. cond b ((k, x) ∷ es) (e ∷ with_child k x es)) (eq-eqb e.0 k h)
+      ap (λ b. cond b ((k, x) ∷ e ∷ es) (cond (eqb e.0 k) ((k, x) ∷ es) (e ∷ with_entry k x es))) (le-ltb k e.0 (omega (arith, h)))
+      ∙ ap (λ b. cond b ((k, x) ∷ es) (e ∷ with_entry k x es)) (eq-eqb e.0 k h)
 
-  pub with_after : e.0 < k → with_child k x (e ∷ es) ≡ e ∷ with_child k x es
+  pub with_after : e.0 < k → with_entry k x (e ∷ es) ≡ e ∷ with_entry k x es
   with_after h =
-      ap (λ b. cond b ((k, x) ∷ e ∷ es) (cond (eqb e.0 k) ((k, x) ∷ es) (e ∷ with_child k x es))) (le-ltb k e.0 (omega (arith, h)))
-      ∙ ap (λ b. cond b ((k, x) ∷ es) (e ∷ with_child k x es)) (ne_eqb e.0 k (λ q. omega (arith, h, q)))
+      ap (λ b. cond b ((k, x) ∷ e ∷ es) (cond (eqb e.0 k) ((k, x) ∷ es) (e ∷ with_entry k x es))) (le-ltb k e.0 (omega (arith, h)))
+      ∙ ap (λ b. cond b ((k, x) ∷ es) (e ∷ with_entry k x es)) (ne_eqb e.0 k (λ q. omega (arith, h, q)))
 
 module _ {X : Type 0} (k : ℕ) (e : ℕ × X) (es : List (ℕ × X)) where
   pub at_same : e.0 ≡ k → child_at k (e ∷ es) ≡ Some e.1
@@ -32,11 +32,11 @@ module _ {X : Type 0} (k : ℕ) (e : ℕ × X) (es : List (ℕ × X)) where
   pub at_other : e.0 ≢ k → child_at k (e ∷ es) ≡ child_at k es
   at_other h = ap (λ b. cond b (Some e.1) (child_at k es)) (ne_eqb e.0 k h)
 
-  pub without_same : e.0 ≡ k → without k (e ∷ es) ≡ es
-  without_same h = ap (λ b. cond b es (e ∷ without k es)) (eq-eqb e.0 k h)
+  pub without_same : e.0 ≡ k → without_byte k (e ∷ es) ≡ es
+  without_same h = ap (λ b. cond b es (e ∷ without_byte k es)) (eq-eqb e.0 k h)
 
-  pub without_other : e.0 ≢ k → without k (e ∷ es) ≡ e ∷ without k es
-  without_other h = ap (λ b. cond b es (e ∷ without k es)) (ne_eqb e.0 k h)
+  pub without_other : e.0 ≢ k → without_byte k (e ∷ es) ≡ e ∷ without_byte k es
+  without_other h = ap (λ b. cond b es (e ∷ without_byte k es)) (ne_eqb e.0 k h)
 
   pub replaced_same : (w : X) → e.0 ≡ k → replaced k w (e ∷ es) ≡ (k, w) ∷ es
   replaced_same w h = ap (λ b. cond b ((k, w) ∷ es) (e ∷ replaced k w es)) (eq-eqb e.0 k h)
@@ -49,15 +49,15 @@ module _ {X : Type 0} (k : ℕ) (e : ℕ × X) (es : List (ℕ × X)) where
 
 -- ---- look-ups
 module _ {X : Type 0} where
-  pub child_at-with_child : (k : ℕ) (x : X) (es : List (ℕ × X)) (b : ℕ) → child_at b (with_child k x es) ≡ cond (eqb k b) (Some x) (child_at b es)
-  child_at-with_child k x [] b = refl
-  child_at-with_child k x (e ∷ es) b = three _ k e.0
+  pub child_at-with_entry : (k : ℕ) (x : X) (es : List (ℕ × X)) (b : ℕ) → child_at b (with_entry k x es) ≡ cond (eqb k b) (Some x) (child_at b es)
+  child_at-with_entry k x [] b = refl
+  child_at-with_entry k x (e ∷ es) b = three _ k e.0
       (λ h. ap (child_at b) (with_before k x e es h))
       (λ h. ap (child_at b) (with_same k x e es (sym h)) ∙ ⊎_elim
       (λ t. ap (λ c. cond c (Some x) (child_at b es)) t.0 ∙ sym (ap (λ c. cond c (Some x) (child_at b (e ∷ es))) t.0))
       (λ t. ap (λ c. cond c (Some x) (child_at b es)) t.0 ∙ sym (at_other b e es (λ q. t.1 (h ∙ q))) ∙ sym (ap (λ c. cond c (Some x) (child_at b (e ∷ es))) t.0))
       (eqb_tells k b))
-      (λ h. ap (child_at b) (with_after k x e es h) ∙ ap (λ c. cond (eqb e.0 b) (Some e.1) c) (child_at-with_child k x es b) ∙ ⊎_elim
+      (λ h. ap (child_at b) (with_after k x e es h) ∙ ap (λ c. cond (eqb e.0 b) (Some e.1) c) (child_at-with_entry k x es b) ∙ ⊎_elim
       (λ t. ap (λ c. cond (eqb e.0 b) (Some e.1) (cond c (Some x) (child_at b es))) t.0 ∙ ap (λ c. cond c (Some e.1) (Some x)) (ne_eqb e.0 b (λ q. omega (arith, h, q, t.1))) ∙ sym (ap (λ c. cond c (Some x) (child_at b (e ∷ es))) t.0))
       (λ t. ap (λ c. cond (eqb e.0 b) (Some e.1) (cond c (Some x) (child_at b es))) t.0 ∙ sym (ap (λ c. cond c (Some x) (child_at b (e ∷ es))) t.0))
       (eqb_tells k b))
@@ -71,7 +71,7 @@ module _ {X : Type 0} where
   child_at-ascending (e ∷ es) b = child_at-with_another e.0 e.1 (ascending es) b ∙ ap (λ r. cond (eqb e.0 b) (Some e.1) r) (child_at-ascending es b)
 
   -- nothing stands at or below a byte that the map starts above
-  pub below_start : (k b : ℕ) (es : List (ℕ × X)) → StartsAbove k es → IsAscending es → b ≤ k → child_at b es ≡ None
+  pub below_start : (k b : ℕ) (es : List (ℕ × X)) → StartsAbove k es → BytesAscend es → b ≤ k → child_at b es ≡ None
   below_start k b [] s a h = refl
   below_start k b (e ∷ es) s a h = at_other b e es (λ q. omega (arith, q, s, h)) ∙ below_start e.0 b es a.0 a.1 (omega arith)
 
@@ -80,19 +80,19 @@ module _ {X : Type 0} where
   replaced_absent k w (e ∷ es) h =
       let n = first_absent k e es h in replaced_other k e es w n ∙ ap (λ l. e ∷ l) (replaced_absent k w es (sym (at_other k e es n) ∙ h))
 
-  pub without_absent : (k : ℕ) (es : List (ℕ × X)) → child_at k es ≡ None → without k es ≡ es
+  pub without_absent : (k : ℕ) (es : List (ℕ × X)) → child_at k es ≡ None → without_byte k es ≡ es
   without_absent k [] h = refl
   without_absent k (e ∷ es) h =
       let n = first_absent k e es h in without_other k e es n ∙ ap (λ l. e ∷ l) (without_absent k es (sym (at_other k e es n) ∙ h))
 
-  pub child_at-without : (k : ℕ) (es : List (ℕ × X)) → IsAscending es → (b : ℕ) → child_at b (without k es) ≡ cond (eqb k b) None (child_at b es)
-  child_at-without k [] a b = elim (eqb k b) as (λ c. ◌≡◌ {A = Option X} None (cond c None None)) [ true ↦ refl | false ↦ refl ]
-  child_at-without k (e ∷ es) a b = ⊎_elim
+  pub child_at-without_byte : (k : ℕ) (es : List (ℕ × X)) → BytesAscend es → (b : ℕ) → child_at b (without_byte k es) ≡ cond (eqb k b) None (child_at b es)
+  child_at-without_byte k [] a b = elim (eqb k b) as (λ c. ◌≡◌ {A = Option X} None (cond c None None)) [ true ↦ refl | false ↦ refl ]
+  child_at-without_byte k (e ∷ es) a b = ⊎_elim
       (λ t. ap (child_at b) (without_same k e es t.1) ∙ ⊎_elim
       (λ u. below_start e.0 b es a.0 a.1 (omega (arith, t.1, u.1)) ∙ sym (ap (λ c. cond c None (child_at b (e ∷ es))) u.0))
       (λ u. sym (at_other b e es (λ q. u.1 (sym t.1 ∙ q))) ∙ sym (ap (λ c. cond c None (child_at b (e ∷ es))) u.0))
       (eqb_tells k b))
-      (λ t. ap (child_at b) (without_other k e es t.1) ∙ ap (λ c. cond (eqb e.0 b) (Some e.1) c) (child_at-without k es a.1 b) ∙ ⊎_elim
+      (λ t. ap (child_at b) (without_other k e es t.1) ∙ ap (λ c. cond (eqb e.0 b) (Some e.1) c) (child_at-without_byte k es a.1 b) ∙ ⊎_elim
       (λ u. ap (λ c. cond (eqb e.0 b) (Some e.1) (cond c None (child_at b es))) u.0 ∙ ap (λ c. cond c (Some e.1) None) (ne_eqb e.0 b (λ q. t.1 (q ∙ sym u.1))) ∙ sym (ap (λ c. cond c None (child_at b (e ∷ es))) u.0))
       (λ u. ap (λ c. cond (eqb e.0 b) (Some e.1) (cond c None (child_at b es))) u.0 ∙ sym (ap (λ c. cond c None (child_at b (e ∷ es))) u.0))
       (eqb_tells k b))
@@ -117,23 +117,23 @@ module _ {X : Type 0} where
   starts_lower a b [] h s = tt
   starts_lower a b (e ∷ es) h s = omega (arith, h, s)
 
-  starts_with : (b k : ℕ) (x : X) (es : List (ℕ × X)) → b < k → StartsAbove b es → StartsAbove b (with_child k x es)
+  starts_with : (b k : ℕ) (x : X) (es : List (ℕ × X)) → b < k → StartsAbove b es → StartsAbove b (with_entry k x es)
   starts_with b k x [] h s = h
-  starts_with b k x (e ∷ es) h s = three (StartsAbove b (with_child k x (e ∷ es))) k e.0
+  starts_with b k x (e ∷ es) h s = three (StartsAbove b (with_entry k x (e ∷ es))) k e.0
       (λ q. subst (StartsAbove b) (sym (with_before k x e es q)) h)
       (λ q. subst (StartsAbove b) (sym (with_same k x e es (sym q))) h)
       (λ q. subst (StartsAbove b) (sym (with_after k x e es q)) s)
 
-  pub with_child-ascends : (k : ℕ) (x : X) (es : List (ℕ × X)) → IsAscending es → IsAscending (with_child k x es)
-  with_child-ascends k x [] a = (tt, tt)
-  with_child-ascends k x (e ∷ es) a = three (IsAscending (with_child k x (e ∷ es))) k e.0
-      (λ q. subst IsAscending (sym (with_before k x e es q)) (q, a))
-      (λ q. subst IsAscending (sym (with_same k x e es (sym q))) (starts_lower k e.0 es (omega (arith, q)) a.0, a.1))
-      (λ q. subst IsAscending (sym (with_after k x e es q)) (starts_with e.0 k x es q a.0, with_child-ascends k x es a.1))
+  pub with_entry-ascends : (k : ℕ) (x : X) (es : List (ℕ × X)) → BytesAscend es → BytesAscend (with_entry k x es)
+  with_entry-ascends k x [] a = (tt, tt)
+  with_entry-ascends k x (e ∷ es) a = three (BytesAscend (with_entry k x (e ∷ es))) k e.0
+      (λ q. subst BytesAscend (sym (with_before k x e es q)) (q, a))
+      (λ q. subst BytesAscend (sym (with_same k x e es (sym q))) (starts_lower k e.0 es (omega (arith, q)) a.0, a.1))
+      (λ q. subst BytesAscend (sym (with_after k x e es q)) (starts_with e.0 k x es q a.0, with_entry-ascends k x es a.1))
 
-  with_another-absent : (k : ℕ) (x : X) (es : List (ℕ × X)) → child_at k es ≡ None → with_another k x es ≡ with_child k x es
+  with_another-absent : (k : ℕ) (x : X) (es : List (ℕ × X)) → child_at k es ≡ None → with_another k x es ≡ with_entry k x es
   with_another-absent k x [] h = refl
-  with_another-absent k x (e ∷ es) h = three (with_another k x (e ∷ es) ≡ with_child k x (e ∷ es)) k e.0
+  with_another-absent k x (e ∷ es) h = three (with_another k x (e ∷ es) ≡ with_entry k x (e ∷ es)) k e.0
       (λ q. ap (λ c. cond c (e ∷ with_another k x es) ((k, x) ∷ e ∷ es)) (le-ltb e.0 k (omega (arith, q))) ∙ sym (with_before k x e es q))
       (λ q. absurd (first_absent k e es h (sym q)))
       (λ q. ap (λ c. cond c (e ∷ with_another k x es) ((k, x) ∷ e ∷ es)) (lt-ltb e.0 k q)
@@ -144,22 +144,22 @@ module _ {X : Type 0} where
   AreEachOnce [] = Unit {0}
   AreEachOnce (e ∷ es) = (child_at e.0 es ≡ None) × AreEachOnce es
 
-  pub ascending-ascends : (es : List (ℕ × X)) → AreEachOnce es → IsAscending (ascending es)
+  pub ascending-ascends : (es : List (ℕ × X)) → AreEachOnce es → BytesAscend (ascending es)
   ascending-ascends [] o = tt
-  ascending-ascends (e ∷ es) o = subst IsAscending (sym (with_another-absent e.0 e.1 (ascending es) (child_at-ascending es e.0 ∙ o.0))) (with_child-ascends e.0 e.1 (ascending es) (ascending-ascends es o.1))
+  ascending-ascends (e ∷ es) o = subst BytesAscend (sym (with_another-absent e.0 e.1 (ascending es) (child_at-ascending es e.0 ∙ o.0))) (with_entry-ascends e.0 e.1 (ascending es) (ascending-ascends es o.1))
 
-  starts_without : (b k : ℕ) (es : List (ℕ × X)) → StartsAbove b es → IsAscending es → StartsAbove b (without k es)
+  starts_without : (b k : ℕ) (es : List (ℕ × X)) → StartsAbove b es → BytesAscend es → StartsAbove b (without_byte k es)
   starts_without b k [] s a = tt
   starts_without b k (e ∷ es) s a = ⊎_elim
       (λ t. subst (StartsAbove b) (sym (without_same k e es t.1)) (starts_lower b e.0 es (omega (arith, s)) a.0))
       (λ t. subst (StartsAbove b) (sym (without_other k e es t.1)) s)
       (eqb_tells e.0 k)
 
-  pub without-ascends : (k : ℕ) (es : List (ℕ × X)) → IsAscending es → IsAscending (without k es)
-  without-ascends k [] a = tt
-  without-ascends k (e ∷ es) a = ⊎_elim
-      (λ t. subst IsAscending (sym (without_same k e es t.1)) a.1)
-      (λ t. subst IsAscending (sym (without_other k e es t.1)) (starts_without e.0 k es a.0 a.1, without-ascends k es a.1))
+  pub without_byte-ascends : (k : ℕ) (es : List (ℕ × X)) → BytesAscend es → BytesAscend (without_byte k es)
+  without_byte-ascends k [] a = tt
+  without_byte-ascends k (e ∷ es) a = ⊎_elim
+      (λ t. subst BytesAscend (sym (without_same k e es t.1)) a.1)
+      (λ t. subst BytesAscend (sym (without_other k e es t.1)) (starts_without e.0 k es a.0 a.1, without_byte-ascends k es a.1))
       (eqb_tells e.0 k)
 
   starts_replaced : (b k : ℕ) (w : X) (es : List (ℕ × X)) → StartsAbove b es → StartsAbove b (replaced k w es)
@@ -169,15 +169,15 @@ module _ {X : Type 0} where
       (λ t. subst (StartsAbove b) (sym (replaced_other k e es w t.1)) s)
       (eqb_tells e.0 k)
 
-  pub replaced-ascends : (k : ℕ) (w : X) (es : List (ℕ × X)) → IsAscending es → IsAscending (replaced k w es)
+  pub replaced-ascends : (k : ℕ) (w : X) (es : List (ℕ × X)) → BytesAscend es → BytesAscend (replaced k w es)
   replaced-ascends k w [] a = tt
   replaced-ascends k w (e ∷ es) a = ⊎_elim
-      (λ t. subst IsAscending (sym (replaced_same k e es w t.1)) (subst (λ n. StartsAbove n es) t.1 a.0, a.1))
-      (λ t. subst IsAscending (sym (replaced_other k e es w t.1)) (starts_replaced e.0 k w es a.0, replaced-ascends k w es a.1))
+      (λ t. subst BytesAscend (sym (replaced_same k e es w t.1)) (subst (λ n. StartsAbove n es) t.1 a.0, a.1))
+      (λ t. subst BytesAscend (sym (replaced_other k e es w t.1)) (starts_replaced e.0 k w es a.0, replaced-ascends k w es a.1))
       (eqb_tells e.0 k)
 
   -- two ascending maps that answer alike at every byte are the same list
-  pub same_lookups : (xs ys : List (ℕ × X)) → IsAscending xs → IsAscending ys → ((b : ℕ) → child_at b xs ≡ child_at b ys) → xs ≡ ys
+  pub same_lookups : (xs ys : List (ℕ × X)) → BytesAscend xs → BytesAscend ys → ((b : ℕ) → child_at b xs ≡ child_at b ys) → xs ≡ ys
   same_lookups [] [] a c h = refl
   same_lookups [] (y ∷ ys) a c h = absurd (some_none (sym (at_same y.0 y ys refl) ∙ sym (h y.0)))
   same_lookups (x ∷ xs) [] a c h = absurd (some_none (sym (at_same x.0 x xs refl) ∙ h x.0))
@@ -195,18 +195,18 @@ module _ {X : Type 0} where
 
 -- ---- how many
 module _ {X : Type 0} where
-  pub length-with_child : (k : ℕ) (x : X) (es : List (ℕ × X)) → child_at k es ≡ None → length (with_child k x es) ≡ length es + 1
-  length-with_child k x [] h = refl
-  length-with_child k x (e ∷ es) h = three _ k e.0
+  pub length-with_entry : (k : ℕ) (x : X) (es : List (ℕ × X)) → child_at k es ≡ None → length (with_entry k x es) ≡ length es + 1
+  length-with_entry k x [] h = refl
+  length-with_entry k x (e ∷ es) h = three _ k e.0
       (λ q. ap length (with_before k x e es q) ∙ omega arith)
       (λ q. absurd (first_absent k e es h (sym q)))
-      (λ q. ap length (with_after k x e es q) ∙ omega (arith, length-with_child k x es (sym (at_other k e es (first_absent k e es h)) ∙ h)))
+      (λ q. ap length (with_after k x e es q) ∙ omega (arith, length-with_entry k x es (sym (at_other k e es (first_absent k e es h)) ∙ h)))
 
-  pub length-without : (k : ℕ) (x : X) (es : List (ℕ × X)) → child_at k es ≡ Some x → length es ≡ length (without k es) + 1
-  length-without k x [] h = cc
-  length-without k x (e ∷ es) h = ⊎_elim
+  pub length-without_byte : (k : ℕ) (x : X) (es : List (ℕ × X)) → child_at k es ≡ Some x → length es ≡ length (without_byte k es) + 1
+  length-without_byte k x [] h = cc
+  length-without_byte k x (e ∷ es) h = ⊎_elim
       (λ t. omega (arith, ap length (without_same k e es t.1)))
-      (λ t. omega (arith, ap length (without_other k e es t.1), length-without k x es (sym (at_other k e es t.1) ∙ h)))
+      (λ t. omega (arith, ap length (without_other k e es t.1), length-without_byte k x es (sym (at_other k e es t.1) ∙ h)))
       (eqb_tells e.0 k)
 
   pub length-replaced : (k : ℕ) (w : X) (es : List (ℕ × X)) → length (replaced k w es) ≡ length es

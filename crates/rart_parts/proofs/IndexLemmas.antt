@@ -7,10 +7,10 @@ use Rattle.std.specs.Prelude.{OnSome, IsSome}
 use Rattle.std.specs.Option.{option_copied_mut}
 use Rattle.std.specs.Borrow.{MutBor}
 use Rattle.rart_parts.specs.Bits.{IsFirst}
-use Rattle.rart_parts.specs.Entries.{child_at, with_child, without, replaced, ascending, StartsAbove, IsAscending}
+use Rattle.rart_parts.specs.Entries.{child_at, with_entry, without_byte, replaced, ascending, StartsAbove, BytesAscend}
 use Rattle.rart_parts.specs.Places.{is_used, numbered}
 use Rattle.rart_parts.specs.Indexed.{names, byte_of, with_bytes, by_bytes, IsIndex, IsIndexed}
-use Rattle.rart_parts.proofs.EntryLemmas.{at_same, at_other, same_lookups, child_at-ascending, AreEachOnce, ascending-ascends, child_at-with_child, child_at-without, child_at-replaced, with_child-ascends, without-ascends, replaced-ascends, length-with_child, length-without, length-replaced}
+use Rattle.rart_parts.proofs.EntryLemmas.{at_same, at_other, same_lookups, child_at-ascending, AreEachOnce, ascending-ascends, child_at-with_entry, child_at-without_byte, child_at-replaced, with_entry-ascends, without_byte-ascends, replaced-ascends, length-with_entry, length-without_byte, length-replaced}
 use Rattle.rart_parts.proofs.PlaceLemmas.{used_place, used_with, used_without, used_read, free_read, none_used}
 use Rattle.rart_parts.proofs.DirectLemmas.{numbered-put, numbered-taken, numbered-written, numbered_child, numbered-free, length-numbered}
 
@@ -192,7 +192,7 @@ each_once at p (Some x ∷ os) n = (
   each_once at (suc p) os (λ q r e u. n q (suc r) (omega arith) u),
 )
 
-pub map_of_ascends : {X : Type 0} {at : List (Option ℕ)} {os : List (Option X)} → IsIndex at os → IsAscending (ascending (with_bytes at 0 os))
+pub map_of_ascends : {X : Type 0} {at : List (Option ℕ)} {os : List (Option X)} → IsIndex at os → BytesAscend (ascending (with_bytes at 0 os))
 map_of_ascends {at = at} {os = os} i = ascending-ascends (with_bytes at 0 os) (each_once at 0 os (λ q r e u.
     let same : q ≡ r = omega arith in
     i.is_named q (ap (is_used os) same ∙ u)))
@@ -203,10 +203,10 @@ by_index P (Some a) e f n = f a refl
 
 module _ {X : Type 0} {at : List (Option ℕ)} {os : List (Option X)} (i : IsIndex at os) where
   pub map_put : (k p : ℕ) (x : X) (hk : k < 256) (hp : p < length os) (unnamed : get_or at k None ≡ None) (free : is_used os p ≡ false)
-      → ascending (with_bytes (set at k (Some p)) 0 (set os p (Some x))) ≡ with_child k x (ascending (with_bytes at 0 os))
+      → ascending (with_bytes (set at k (Some p)) 0 (set os p (Some x))) ≡ with_entry k x (ascending (with_bytes at 0 os))
   map_put k p x hk hp unnamed free =
       let j = index_put i k p x hk hp unnamed free in
-      same_lookups _ _ (map_of_ascends j) (with_child-ascends k x _ (map_of_ascends i)) (λ b.
+      same_lookups _ _ (map_of_ascends j) (with_entry-ascends k x _ (map_of_ascends i)) (λ b.
       ⊎_elim
       (λ t. indexed_some j b p (ap (λ m. get_or (set at k (Some p)) m None) (sym t.1) ∙ get_or-set_same at k (Some p) None (omega (arith, hk, i.whole)))
       ∙ get_or-set_same os p (Some x) None hp ∙ sym (ap (λ c. cond c (Some x) (child_at b (ascending (with_bytes at 0 os)))) t.0))
@@ -216,13 +216,13 @@ module _ {X : Type 0} {at : List (Option ℕ)} {os : List (Option X)} (i : IsInd
       (λ q e. indexed_some j b q (same ∙ e) ∙ get_or-set_other os p q (Some x) None (λ s. false≢true (sym free ∙ ap (is_used os) (sym s) ∙ i.has_child b q e)) ∙ sym (indexed_some i b q e))
       (λ e. indexed_none j b (same ∙ e) ∙ sym (indexed_none i b e))
       ∙ sym (ap (λ c. cond c (Some x) (child_at b (ascending (with_bytes at 0 os)))) t.0))
-      (eqb_tells k b) ∙ sym (child_at-with_child k x (ascending (with_bytes at 0 os)) b))
+      (eqb_tells k b) ∙ sym (child_at-with_entry k x (ascending (with_bytes at 0 os)) b))
 
   pub map_taken : (k p : ℕ) (hk : k < 256) (here : get_or at k None ≡ Some p)
-      → ascending (with_bytes (set at k None) 0 (set os p None)) ≡ without k (ascending (with_bytes at 0 os))
+      → ascending (with_bytes (set at k None) 0 (set os p None)) ≡ without_byte k (ascending (with_bytes at 0 os))
   map_taken k p hk here =
       let j = index_taken i k p hk here in
-      same_lookups _ _ (map_of_ascends j) (without-ascends k _ (map_of_ascends i)) (λ b.
+      same_lookups _ _ (map_of_ascends j) (without_byte-ascends k _ (map_of_ascends i)) (λ b.
       ⊎_elim
       (λ t. indexed_none j b (ap (λ m. get_or (set at k None) m None) (sym t.1) ∙ get_or-set_same at k None None (omega (arith, hk, i.whole)))
       ∙ sym (ap (λ c. cond c None (child_at b (ascending (with_bytes at 0 os)))) t.0))
@@ -232,7 +232,7 @@ module _ {X : Type 0} {at : List (Option ℕ)} {os : List (Option X)} (i : IsInd
       (λ q e. indexed_some j b q (same ∙ e) ∙ get_or-set_other os p q None None (λ s. t.1 (sym (i.one_byte k p here) ∙ ap (byte_of at) (sym s) ∙ i.one_byte b q e)) ∙ sym (indexed_some i b q e))
       (λ e. indexed_none j b (same ∙ e) ∙ sym (indexed_none i b e))
       ∙ sym (ap (λ c. cond c None (child_at b (ascending (with_bytes at 0 os)))) t.0))
-      (eqb_tells k b) ∙ sym (child_at-without k (ascending (with_bytes at 0 os)) (map_of_ascends i) b))
+      (eqb_tells k b) ∙ sym (child_at-without_byte k (ascending (with_bytes at 0 os)) (map_of_ascends i) b))
 
   pub map_written : (k p : ℕ) (hk : k < 256) (here : get_or at k None ≡ Some p) (w : X)
       → ascending (with_bytes at 0 (set os p (Some w))) ≡ replaced k w (ascending (with_bytes at 0 os))
@@ -265,14 +265,14 @@ module _ {X : Type 0} {width : ℕ} {at : List (Option ℕ)} {os : List (Option 
         full = length-set os p (Some x) ∙ m.full;
         narrow = m.narrow;
         index = index_put m.index k p x hk within unnamed free;
-        counted = ap (λ n. n + 1) m.counted ∙ sym (ap length (numbered-put os p within x) ∙ length-with_child p x (numbered 0 os) (numbered_child os p ∙ free_read os p free));
-        entries = ap (λ n. n + 1) m.entries ∙ sym (ap length (map_put m.index k p x hk within unnamed free) ∙ length-with_child k x _ (indexed_none m.index k unnamed));
+        counted = ap (λ n. n + 1) m.counted ∙ sym (ap length (numbered-put os p within x) ∙ length-with_entry p x (numbered 0 os) (numbered_child os p ∙ free_read os p free));
+        entries = ap (λ n. n + 1) m.entries ∙ sym (ap length (map_put m.index k p x hk within unnamed free) ∙ length-with_entry k x _ (indexed_none m.index k unnamed));
       }
 
   pub some_left : (k p : ℕ) → k < 256 → get_or at k None ≡ Some p → count ≡ length (ascending (with_bytes (set at k None) 0 (set os p None))) + 1
   some_left k p hk here =
       let old = used_read os p (m.index.has_child k p here) in
-      m.entries ∙ length-without k old.0 _ (indexed_some m.index k p here ∙ old.1) ∙ ap (λ es. length es + 1) (sym (map_taken m.index k p hk here))
+      m.entries ∙ length-without_byte k old.0 _ (indexed_some m.index k p here ∙ old.1) ∙ ap (λ es. length es + 1) (sym (map_taken m.index k p hk here))
 
   pub indexed_taken : (k p : ℕ) → k < 256 → get_or at k None ≡ Some p → IsIndexed width (set at k None) (set os p None) (count - 1)
   indexed_taken k p hk here =
@@ -282,7 +282,7 @@ module _ {X : Type 0} {width : ℕ} {at : List (Option ℕ)} {os : List (Option 
         full = length-set os p None ∙ m.full;
         narrow = m.narrow;
         index = index_taken m.index k p hk here;
-        counted = omega (arith, m.counted, length-without p old.0 (numbered 0 os) (numbered_child os p ∙ old.1), ap length (numbered-taken os p (slot_within m.index k p here)));
+        counted = omega (arith, m.counted, length-without_byte p old.0 (numbered 0 os) (numbered_child os p ∙ old.1), ap length (numbered-taken os p (slot_within m.index k p here)));
         entries = omega (arith, some_left k p hk here);
       }
 
@@ -390,13 +390,13 @@ module _ {X : Type 0} (os : List (Option X)) where
       let rest : StartsAbove b (by_bytes (suc n) at os) = walk_starts b (suc n) at (omega arith) in
       elim (get_or os p None) as (λ o. StartsAbove b (elim o [ None ↦ by_bytes (suc n) at os | Some x ↦ (n, x) ∷ by_bytes (suc n) at os ])) [ None ↦ rest | Some x ↦ h ]
 
-  walk-ascends : (n : ℕ) (at : List (Option ℕ)) → IsAscending (by_bytes n at os)
+  walk-ascends : (n : ℕ) (at : List (Option ℕ)) → BytesAscend (by_bytes n at os)
   walk-ascends n [] = tt
   walk-ascends n (None ∷ at) = walk-ascends (suc n) at
   walk-ascends n (Some p ∷ at) =
-      let rest : IsAscending (by_bytes (suc n) at os) = walk-ascends (suc n) at in
+      let rest : BytesAscend (by_bytes (suc n) at os) = walk-ascends (suc n) at in
       let starts : StartsAbove n (by_bytes (suc n) at os) = walk_starts n (suc n) at (omega arith) in
-      elim (get_or os p None) as (λ o. IsAscending (elim o [ None ↦ by_bytes (suc n) at os | Some x ↦ (n, x) ∷ by_bytes (suc n) at os ])) [ None ↦ rest | Some x ↦ (starts, rest) ]
+      elim (get_or os p None) as (λ o. BytesAscend (elim o [ None ↦ by_bytes (suc n) at os | Some x ↦ (n, x) ∷ by_bytes (suc n) at os ])) [ None ↦ rest | Some x ↦ (starts, rest) ]
 
   pub walk_is : (at : List (Option ℕ)) → IsIndex at os → by_bytes 0 at os ≡ ascending (with_bytes at 0 os)
   walk_is at i = same_lookups _ _ (walk-ascends 0 at) (map_of_ascends i) (λ b.

@@ -4,11 +4,11 @@ use Rattle.std.proofs.lemmas.Bool.{eq-eqb, ne_eqb, false≢true}
 use Rattle.std.proofs.lemmas.Bool.Decides.{eqb_tells}
 use Rattle.std.proofs.lemmas.List.{length-set, length-replicate, get_or-set_same, get_or-set_other}
 use Rattle.rart_parts.specs.Bits.{IsFirst}
-use Rattle.rart_parts.specs.Entries.{child_at, with_child, without, replaced, ascending, IsAscending}
+use Rattle.rart_parts.specs.Entries.{child_at, with_entry, without_byte, replaced, ascending, BytesAscend}
 use Rattle.rart_parts.specs.Keys.{is_held}
 use Rattle.rart_parts.specs.Keyed.{with_keys, IsSlots, IsKeyed}
 use Rattle.rart_parts.specs.Places.{is_filled, is_used, numbered}
-use Rattle.rart_parts.proofs.EntryLemmas.{at_same, at_other, same_lookups, child_at-ascending, AreEachOnce, ascending-ascends, child_at-with_child, child_at-without, child_at-replaced, with_child-ascends, without-ascends, replaced-ascends, length-with_child, length-without, length-replaced}
+use Rattle.rart_parts.proofs.EntryLemmas.{at_same, at_other, same_lookups, child_at-ascending, AreEachOnce, ascending-ascends, child_at-with_entry, child_at-without_byte, child_at-replaced, with_entry-ascends, without_byte-ascends, replaced-ascends, length-with_entry, length-without_byte, length-replaced}
 use Rattle.rart_parts.proofs.PlaceLemmas.{used_place, used_with, used_without, used_read, free_read, none_used, all_free}
 use Rattle.rart_parts.proofs.DirectLemmas.{numbered-put, numbered-taken, numbered-written, numbered_child, numbered-free, length-numbered}
 use Rattle.rart_parts.proofs.IndexLemmas.{all_used}
@@ -77,7 +77,7 @@ keys_once (c ∷ ks) (Some x ∷ os) apart = (
   keys_once ks os (λ i j u v e. let s : suc i ≡ suc j = apart (suc i) (suc j) u v e in omega (arith, s)),
 )
 
-pub slots_ascend : {X : Type 0} {ks : List ℕ} {os : List (Option X)} → IsSlots ks os → IsAscending (ascending (with_keys ks os))
+pub slots_ascend : {X : Type 0} {ks : List ℕ} {os : List (Option X)} → IsSlots ks os → BytesAscend (ascending (with_keys ks os))
 slots_ascend {ks = ks} {os = os} s = ascending-ascends (with_keys ks os) (keys_once ks os s.apart)
 
 set_here : (xs : List ℕ) (i x : ℕ) → i < length xs → get_or xs i 0 ≡ x → set xs i x ≡ xs
@@ -172,11 +172,11 @@ module _ {X : Type 0} {ks : List ℕ} {os : List (Option X)} (s : IsSlots ks os)
           (eqb_tells i p);
     }
 
-    pub keyed_put : ascending (with_keys (set ks p key) (set os p (Some x))) ≡ with_child key x (ascending (with_keys ks os))
-    keyed_put = same_lookups _ _ (slots_ascend slots_put) (with_child-ascends key x _ (slots_ascend s)) (λ b.
+    pub keyed_put : ascending (with_keys (set ks p key) (set os p (Some x))) ≡ with_entry key x (ascending (with_keys ks os))
+    keyed_put = same_lookups _ _ (slots_ascend slots_put) (with_entry-ascends key x _ (slots_ascend s)) (λ b.
         child_at-ascending (with_keys (set ks p key) (set os p (Some x))) b
         ∙ slot_changed key (Some x) key (λ _. refl) b ks os p within h (λ r n. absent_key key absent r) (λ u. absurd (false≢true (sym free ∙ u)))
-        ∙ ap (cond (eqb key b) (Some x)) (sym (child_at-ascending (with_keys ks os) b)) ∙ sym (child_at-with_child key x (ascending (with_keys ks os)) b))
+        ∙ ap (cond (eqb key b) (Some x)) (sym (child_at-ascending (with_keys ks os) b)) ∙ sym (child_at-with_entry key x (ascending (with_keys ks os)) b))
 
   -- at a used slot and its key
   module _ (key p : ℕ) (x : X) (e : get_or ks p 0 ≡ key) (u : is_used os p ≡ true) (f : get_or os p None ≡ Some x) where
@@ -203,11 +203,11 @@ module _ {X : Type 0} {ks : List ℕ} {os : List (Option X)} (s : IsSlots ks os)
           (eqb_tells i p);
     }
 
-    pub keyed_taken : ascending (with_keys (set ks p 255) (set os p None)) ≡ without key (ascending (with_keys ks os))
-    keyed_taken = same_lookups _ _ (slots_ascend slots_taken) (without-ascends key _ (slots_ascend s)) (λ b.
+    pub keyed_taken : ascending (with_keys (set ks p 255) (set os p None)) ≡ without_byte key (ascending (with_keys ks os))
+    keyed_taken = same_lookups _ _ (slots_ascend slots_taken) (without_byte-ascends key _ (slots_ascend s)) (λ b.
         child_at-ascending (with_keys (set ks p 255) (set os p None)) b
         ∙ slot_changed key None 255 (λ z. absurd (false≢true z)) b ks os p (omega (arith, here, s.whole)) here alone (λ _. e)
-        ∙ ap (cond (eqb key b) None) (sym (child_at-ascending (with_keys ks os) b)) ∙ sym (child_at-without key (ascending (with_keys ks os)) (slots_ascend s) b))
+        ∙ ap (cond (eqb key b) None) (sym (child_at-ascending (with_keys ks os) b)) ∙ sym (child_at-without_byte key (ascending (with_keys ks os)) (slots_ascend s) b))
 
     -- another child in the slot
     module _ (w : X) where
@@ -243,20 +243,20 @@ module _ {X : Type 0} {width : ℕ} {ks : List ℕ} {os : List (Option X)} {coun
         full = length-set os p (Some x) ∙ m.full;
         narrow = m.narrow;
         slots = slots_put m.slots key p x h' free absent;
-        counted = ap (λ n. n + 1) m.counted ∙ sym (ap length (numbered-put os p h' x) ∙ length-with_child p x (numbered 0 os) (numbered_child os p ∙ free_read os p free));
-        entries = ap (λ n. n + 1) m.entries ∙ sym (ap length (keyed_put m.slots key p x h' free absent) ∙ length-with_child key x _ absent);
+        counted = ap (λ n. n + 1) m.counted ∙ sym (ap length (numbered-put os p h' x) ∙ length-with_entry p x (numbered 0 os) (numbered_child os p ∙ free_read os p free));
+        entries = ap (λ n. n + 1) m.entries ∙ sym (ap length (keyed_put m.slots key p x h' free absent) ∙ length-with_entry key x _ absent);
       }
 
   module _ (key p : ℕ) (x : X) (e : get_or ks p 0 ≡ key) (u : is_used os p ≡ true) (f : get_or os p None ≡ Some x) where
     pub some_left : count ≡ length (ascending (with_keys (set ks p 255) (set os p None))) + 1
-    some_left = m.entries ∙ length-without key x _ (keyed_at m.slots key p x e f u) ∙ ap (λ es. length es + 1) (sym (keyed_taken m.slots key p x e u f))
+    some_left = m.entries ∙ length-without_byte key x _ (keyed_at m.slots key p x e f u) ∙ ap (λ es. length es + 1) (sym (keyed_taken m.slots key p x e u f))
 
     pub mapping_taken : IsKeyed width (set ks p 255) (set os p None) (count - 1)
     mapping_taken = record {
       full = length-set os p None ∙ m.full;
       narrow = m.narrow;
       slots = slots_taken m.slots key p x e u f;
-      counted = omega (arith, m.counted, length-without p x (numbered 0 os) (numbered_child os p ∙ f), ap length (numbered-taken os p (used_place os p u)));
+      counted = omega (arith, m.counted, length-without_byte p x (numbered 0 os) (numbered_child os p ∙ f), ap length (numbered-taken os p (used_place os p u)));
       entries = omega (arith, some_left);
     }
 

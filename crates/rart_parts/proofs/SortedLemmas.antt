@@ -6,10 +6,10 @@ use Rattle.std.specs.Borrow.{MutBor}
 use Rattle.std.proofs.lemmas.Bool.{false≢true}
 use Rattle.std.specs.List.{zip}
 use Rattle.std.proofs.lemmas.List.{length-set, length-append, length-take, length-drop, get_or-set_same, get_or-set_other}
-use Rattle.rart_parts.specs.Entries.{child_at, with_child, without, IsAscending}
+use Rattle.rart_parts.specs.Entries.{child_at, with_entry, without_byte, BytesAscend}
 use Rattle.rart_parts.specs.Keys.{IsAscendingBelow}
 use Rattle.rart_parts.specs.SortedKeyed.{IsSortedKeyed}
-use Rattle.rart_parts.proofs.EntryLemmas.{with_child-ascends, without-ascends}
+use Rattle.rart_parts.proofs.EntryLemmas.{with_entry-ascends, without_byte-ascends}
 use Rattle.rart_parts.proofs.Zipped.{length_zipped, set_zip, set_child-ascends, inserted, child_found, keys_ascend, zip_last, front-ascends}
 
 one_zipped : {X : Type 0} (ks : List ℕ) (vs : List X) (x : X) → length vs ≤ length ks → length vs ≡ 1 → x ≡ get_or vs 0 x → zip ks vs ≡ (get_or ks 0 0, x) ∷ []
@@ -51,27 +51,27 @@ module _ {X : Type 0} {width : ℕ} {ks : List ℕ} {vs : List X} {room : ℕ} (
     few = omega (arith, length-set vs i w, s.few);
     room = s.room;
     narrow = s.narrow;
-    ascends = subst IsAscending (sym (set_zip ks vs i w)) (set_child-ascends i w (zip ks vs) s.ascends);
+    ascends = subst BytesAscend (sym (set_zip ks vs i w)) (set_child-ascends i w (zip ks vs) s.ascends);
   }
 
   pub added : (key : ℕ) (x : X) (ks' : List ℕ) (vs' : List X) (room' : ℕ) → length ks' ≡ length ks → length vs' ≡ length vs + 1 → length vs < width → room ≤ room'
-      → zip ks' vs' ≡ with_child key x (zip ks vs) → IsSortedKeyed width ks' vs' room'
+      → zip ks' vs' ≡ with_entry key x (zip ks vs) → IsSortedKeyed width ks' vs' room'
   added key x ks' vs' room' n m l r e = record {
     full = n ∙ s.full;
     few = omega (arith, m, l);
     room = omega (arith, r, s.room);
     narrow = s.narrow;
-    ascends = subst IsAscending (sym e) (with_child-ascends key x (zip ks vs) s.ascends);
+    ascends = subst BytesAscend (sym e) (with_entry-ascends key x (zip ks vs) s.ascends);
   }
 
   pub deleted : (key : ℕ) (ks' : List ℕ) (vs' : List X) (room' : ℕ) → length ks' ≡ length ks → length vs ≡ length vs' + 1 → room' ≡ room
-      → zip ks' vs' ≡ without key (zip ks vs) → IsSortedKeyed width ks' vs' room'
+      → zip ks' vs' ≡ without_byte key (zip ks vs) → IsSortedKeyed width ks' vs' room'
   deleted key ks' vs' room' n m r e = record {
     full = n ∙ s.full;
     few = omega (arith, m, s.few);
     room = omega (arith, r, s.room);
     narrow = s.narrow;
-    ascends = subst IsAscending (sym e) (without-ascends key (zip ks vs) s.ascends);
+    ascends = subst BytesAscend (sym e) (without_byte-ascends key (zip ks vs) s.ascends);
   }
 
   -- without the last child
@@ -88,11 +88,11 @@ module _ {X : Type 0} {width : ℕ} {ks : List ℕ} {vs : List X} {room : ℕ} (
       few = omega (arith, s.few, ap length e, length-append rest (x ∷ []));
       room = omega (arith, r, s.room);
       narrow = s.narrow;
-      ascends = front-ascends (zip ks rest) _ (subst IsAscending last_entry s.ascends);
+      ascends = front-ascends (zip ks rest) _ (subst BytesAscend last_entry s.ascends);
     }
 
   pub emptied : (vs' : List X) → length vs' ≡ 0 → (room' : ℕ) → room' ≡ room → IsSortedKeyed width ks vs' room'
-  emptied [] e room' r = record { full = s.full; few = omega (arith, s.few); room = omega (arith, r, s.room); narrow = s.narrow; ascends = subst IsAscending (sym (no_entries ks [] refl)) tt }
+  emptied [] e room' r = record { full = s.full; few = omega (arith, s.few); room = omega (arith, r, s.room); narrow = s.narrow; ascends = subst BytesAscend (sym (no_entries ks [] refl)) tt }
   emptied (v ∷ vs') e room' r = absurd (omega arith)
 
   -- the only entry
@@ -104,7 +104,7 @@ module _ {X : Type 0} {width : ℕ} {ks : List ℕ} {vs : List X} {room : ℕ} (
       → (at ≤ n) × ((k : ℕ) → k < at → get_or ks k 0 ≤ key) × (at < n → key < get_or ks at 0) → child_at key (zip ks vs) ≡ None
       → ((k d : ℕ) → at + 1 ≤ k → k < at + 1 + (n - at) → get_or ks₁ k d ≡ get_or ks (at + (k - (at + 1))) d)
       → ((k d : ℕ) → k < at + 1 → get_or ks₁ k d ≡ get_or ks k d)
-      → zip (set ks₁ at key) (insert vs at x) ≡ with_child key x (zip ks vs)
+      → zip (set ks₁ at key) (insert vs at x) ≡ with_entry key x (zip ks vs)
   put_in ks₁ n at key x count room len place absent moved same =
       inserted key x ks (set ks₁ at key) vs at (omega (arith, s.full, room)) (length-set ks₁ at key ∙ len) (omega (arith, place.0, count))
       place.1 (λ l. place.2 (omega (arith, l, count))) absent
@@ -130,7 +130,7 @@ module _ {X : Type 0} {width : ℕ} {ks : List ℕ} {vs : List X} {room : ℕ} (
       few = few;
       room = r;
       narrow = narrow;
-      ascends = subst IsAscending (sym resized_zip) s.ascends;
+      ascends = subst BytesAscend (sym resized_zip) s.ascends;
     }
 
 -- as many entries as children, from a place on

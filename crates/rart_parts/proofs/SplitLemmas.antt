@@ -1,8 +1,8 @@
 -- Entries that are moved one by one, in any order, from one map to another.
 use Rattle.std.proofs.Common.{◌≡◌, ℕ, ◌<◌, ◌≤◌, ◌+◌, cond, eqb, false, List, [], Option, Some, None, length, sym, ap, ◌∙◌, refl, arith, ⊎_elim, subst}
 use Rattle.std.proofs.lemmas.Bool.Decides.{eqb_tells}
-use Rattle.rart_parts.specs.Entries.{child_at, with_child, without, IsAscending}
-use Rattle.rart_parts.proofs.EntryLemmas.{same_lookups, child_at-with_child, child_at-without, length-with_child, length-without, with_child-ascends, without-ascends}
+use Rattle.rart_parts.specs.Entries.{child_at, with_entry, without_byte, BytesAscend}
+use Rattle.rart_parts.proofs.EntryLemmas.{same_lookups, child_at-with_entry, child_at-without_byte, length-with_entry, length-without_byte, with_entry-ascends, without_byte-ascends}
 
 -- the first of two answers
 abbrev pub either : {X : Type 0} → Option X → Option X → Option X
@@ -14,9 +14,9 @@ pub record IsSplit {X : Type 0} (whole moved rest : List (ℕ × X)) : Type 0 wh
   pub reads : (b : ℕ) → child_at b whole ≡ either (child_at b moved) (child_at b rest)
   pub apart : (b : ℕ) (x : X) → child_at b rest ≡ Some x → child_at b moved ≡ None
   pub count : length moved + length rest ≡ length whole
-  pub whole_ascends : IsAscending whole
-  pub moved_ascends : IsAscending moved
-  pub rest_ascends : IsAscending rest
+  pub whole_ascends : BytesAscend whole
+  pub moved_ascends : BytesAscend moved
+  pub rest_ascends : BytesAscend rest
 
 none_some : {X : Type 0} {x : X} → None ≡ Some x → ⊥
 none_some h = cc
@@ -25,13 +25,13 @@ either_none : {X : Type 0} (o : Option X) → either o None ≡ o
 either_none None = refl
 either_none (Some x) = refl
 
-pub split_start : {X : Type 0} (whole moved : List (ℕ × X)) → IsAscending whole → moved ≡ [] → IsSplit whole moved whole
+pub split_start : {X : Type 0} (whole moved : List (ℕ × X)) → BytesAscend whole → moved ≡ [] → IsSplit whole moved whole
 split_start whole moved a e = record {
   reads = λ b. sym (ap (λ l. either (child_at b l) (child_at b whole)) e);
   apart = λ b x h. ap (child_at b) e;
   count = omega (arith, ap length e);
   whole_ascends = a;
-  moved_ascends = subst IsAscending (sym e) tt;
+  moved_ascends = subst BytesAscend (sym e) tt;
   rest_ascends = a;
 }
 
@@ -45,27 +45,27 @@ module _ {X : Type 0} (whole moved rest : List (ℕ × X)) (s : IsSplit whole mo
   split_absent = s.apart k x e
 
   pub split_room : (width : ℕ) → length whole ≤ width → length moved < width
-  split_room width h = omega (arith, h, s.count, length-without k x rest e)
+  split_room width h = omega (arith, h, s.count, length-without_byte k x rest e)
 
-  pub split_next : IsSplit whole (with_child k x moved) (without k rest)
+  pub split_next : IsSplit whole (with_entry k x moved) (without_byte k rest)
   split_next = record {
     reads = λ b. s.reads b ∙ ⊎_elim
         (λ t. ap (λ n. either (child_at n moved) (child_at n rest)) (sym t.1) ∙ ap (λ o. either o (child_at k rest)) split_absent ∙ e
-        ∙ sym (ap (λ o. either o (child_at b (without k rest))) (child_at-with_child k x moved b ∙ ap (λ c. cond c (Some x) (child_at b moved)) t.0)))
+        ∙ sym (ap (λ o. either o (child_at b (without_byte k rest))) (child_at-with_entry k x moved b ∙ ap (λ c. cond c (Some x) (child_at b moved)) t.0)))
         (λ t. (λ i. either (sym (kept_moved b t.0) i) (sym (kept_rest b t.0) i)))
         (eqb_tells k b);
     apart = λ b y h. ⊎_elim
-        (λ t. absurd (none_some (sym (child_at-without k rest s.rest_ascends b ∙ ap (λ c. cond c None (child_at b rest)) t.0) ∙ h)))
+        (λ t. absurd (none_some (sym (child_at-without_byte k rest s.rest_ascends b ∙ ap (λ c. cond c None (child_at b rest)) t.0) ∙ h)))
         (λ t. kept_moved b t.0 ∙ s.apart b y (sym (kept_rest b t.0) ∙ h))
         (eqb_tells k b);
-    count = omega (arith, s.count, length-without k x rest e, length-with_child k x moved split_absent);
+    count = omega (arith, s.count, length-without_byte k x rest e, length-with_entry k x moved split_absent);
     whole_ascends = s.whole_ascends;
-    moved_ascends = with_child-ascends k x moved s.moved_ascends;
-    rest_ascends = without-ascends k rest s.rest_ascends;
+    moved_ascends = with_entry-ascends k x moved s.moved_ascends;
+    rest_ascends = without_byte-ascends k rest s.rest_ascends;
   }
     where
-      kept_moved : (b : ℕ) → eqb k b ≡ false → child_at b (with_child k x moved) ≡ child_at b moved
-      kept_moved b t = child_at-with_child k x moved b ∙ ap (λ c. cond c (Some x) (child_at b moved)) t
+      kept_moved : (b : ℕ) → eqb k b ≡ false → child_at b (with_entry k x moved) ≡ child_at b moved
+      kept_moved b t = child_at-with_entry k x moved b ∙ ap (λ c. cond c (Some x) (child_at b moved)) t
 
-      kept_rest : (b : ℕ) → eqb k b ≡ false → child_at b (without k rest) ≡ child_at b rest
-      kept_rest b t = child_at-without k rest s.rest_ascends b ∙ ap (λ c. cond c None (child_at b rest)) t
+      kept_rest : (b : ℕ) → eqb k b ≡ false → child_at b (without_byte k rest) ≡ child_at b rest
+      kept_rest b t = child_at-without_byte k rest s.rest_ascends b ∙ ap (λ c. cond c None (child_at b rest)) t

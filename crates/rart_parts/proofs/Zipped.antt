@@ -2,7 +2,7 @@
 use Rattle.std.proofs.Common.{◌≡◌, ◌≢◌, ℕ, zero, suc, ◌<◌, ◌≤◌, ◌+◌, List, [], ◌∷◌, ◌++◌, Some, None, length, get_or, set, sym, ap, ◌∙◌, refl, arith}
 use Rattle.std.specs.Prelude.{insert, remove}
 use Rattle.std.specs.List.{zip}
-use Rattle.rart_parts.specs.Entries.{children_of, child_at, with_child, without, replaced, set_child, StartsAbove, IsAscending}
+use Rattle.rart_parts.specs.Entries.{children_of, child_at, with_entry, without_byte, replaced, set_child, StartsAbove, BytesAscend}
 use Rattle.rart_parts.specs.Keys.{IsAscendingBelow}
 use Rattle.rart_parts.proofs.EntryLemmas.{at_same, at_other, with_before, with_after, without_same, without_other, replaced_same, replaced_other, first_absent}
 
@@ -53,7 +53,7 @@ module _ {X : Type 0} (k : ℕ) where
   -- the later keys and children move down over one that is taken out
   pub removed : (ks ks' : List ℕ) (vs : List X) (i : ℕ) → length vs ≤ length ks → length ks' ≡ length ks → i < length vs → get_or ks i 0 ≡ k → ((j : ℕ) → j < i → get_or ks j 0 ≡ k → ⊥)
       → ((j : ℕ) → j < i → get_or ks' j 0 ≡ get_or ks j 0) → ((j : ℕ) → i ≤ j → j + 1 < length vs → get_or ks' j 0 ≡ get_or ks (j + 1) 0)
-      → zip ks' (remove vs i) ≡ without k (zip ks vs)
+      → zip ks' (remove vs i) ≡ without_byte k (zip ks vs)
   removed [] ks' [] i e n lt at none before moved = absurd (omega arith)
   removed [] ks' (x ∷ vs) i e n lt at none before moved = absurd (omega arith)
   removed (y ∷ ks) ks' [] i e n lt at none before moved = absurd (omega arith)
@@ -69,7 +69,7 @@ module _ {X : Type 0} (k : ℕ) where
   pub inserted : (x : X) (ks ks' : List ℕ) (vs : List X) (i : ℕ) → length vs < length ks → length ks' ≡ length ks → i ≤ length vs
       → ((j : ℕ) → j < i → get_or ks j 0 ≤ k) → (i < length vs → k < get_or ks i 0) → child_at k (zip ks vs) ≡ None
       → ((j : ℕ) → j < i → get_or ks' j 0 ≡ get_or ks j 0) → get_or ks' i 0 ≡ k → ((j : ℕ) → i ≤ j → j < length vs → get_or ks' (j + 1) 0 ≡ get_or ks j 0)
-      → zip ks' (insert vs i x) ≡ with_child k x (zip ks vs)
+      → zip ks' (insert vs i x) ≡ with_entry k x (zip ks vs)
   inserted x [] ks' vs i e n le before here absent same at moved = absurd (omega arith)
   inserted x (y ∷ ks) [] vs i e n le before here absent same at moved = absurd (omega arith)
   inserted x (y ∷ ks) (y' ∷ ks') [] zero e n le before here absent same at moved = λ r. (at r, x) ∷ zip_nothing ks' r
@@ -91,14 +91,14 @@ set_zip (y ∷ ks) (x ∷ vs) zero w = refl
 set_zip (y ∷ ks) (x ∷ vs) (suc i) w = ap (λ es. (y, x) ∷ es) (set_zip ks vs i w)
 
 -- ---- the order of the keys
-first_key : {X : Type 0} (ks : List ℕ) (vs : List X) (b j : ℕ) → length vs ≤ length ks → StartsAbove b (zip ks vs) → IsAscending (zip ks vs) → j < length vs → b < get_or ks j 0
+first_key : {X : Type 0} (ks : List ℕ) (vs : List X) (b j : ℕ) → length vs ≤ length ks → StartsAbove b (zip ks vs) → BytesAscend (zip ks vs) → j < length vs → b < get_or ks j 0
 first_key [] [] b j e s a h = absurd (omega arith)
 first_key [] (v ∷ vs) b j e s a h = absurd (omega arith)
 first_key (y ∷ ks) [] b j e s a h = absurd (omega arith)
 first_key (y ∷ ks) (v ∷ vs) b zero e s a h = s
 first_key (y ∷ ks) (v ∷ vs) b (suc j) e s a h = omega (arith, s, first_key ks vs y j (omega arith) a.0 a.1 (omega arith))
 
-pub keys_ascend : {X : Type 0} (ks : List ℕ) (vs : List X) → length vs ≤ length ks → IsAscending (zip ks vs) → IsAscendingBelow ks (length vs)
+pub keys_ascend : {X : Type 0} (ks : List ℕ) (vs : List X) → length vs ≤ length ks → BytesAscend (zip ks vs) → IsAscendingBelow ks (length vs)
 keys_ascend [] [] e a i j l m = absurd (omega arith)
 keys_ascend [] (v ∷ vs) e a i j l m = absurd (omega arith)
 keys_ascend (y ∷ ks) [] e a i j l m = absurd (omega arith)
@@ -106,7 +106,7 @@ keys_ascend (y ∷ ks) (v ∷ vs) e a i zero l m = absurd (omega arith)
 keys_ascend (y ∷ ks) (v ∷ vs) e a zero (suc j) l m = first_key ks vs y j (omega arith) a.0 a.1 (omega arith)
 keys_ascend (y ∷ ks) (v ∷ vs) e a (suc i) (suc j) l m = keys_ascend ks vs (omega arith) a.1 i j (omega arith) (omega arith)
 
-pub set_child-ascends : {X : Type 0} (i : ℕ) (w : X) (es : List (ℕ × X)) → IsAscending es → IsAscending (set_child i w es)
+pub set_child-ascends : {X : Type 0} (i : ℕ) (w : X) (es : List (ℕ × X)) → BytesAscend es → BytesAscend (set_child i w es)
 set_child-ascends i w [] a = a
 set_child-ascends zero w (e ∷ es) a = a
 set_child-ascends (suc i) w (e ∷ es) a = (starts i w e.0 es a.0, set_child-ascends i w es a.1)
@@ -123,7 +123,7 @@ zip_last (k ∷ []) [] x h = refl
 zip_last (k ∷ l ∷ ks) [] x h = refl
 zip_last (k ∷ ks) (v ∷ vs) x h = ap (λ es. (k, v) ∷ es) (zip_last ks vs x (omega arith))
 
-pub front-ascends : {X : Type 0} (es ds : List (ℕ × X)) → IsAscending (es ++ ds) → IsAscending es
+pub front-ascends : {X : Type 0} (es ds : List (ℕ × X)) → BytesAscend (es ++ ds) → BytesAscend es
 front-ascends [] ds a = tt
 front-ascends (e ∷ []) ds a = (tt, tt)
 front-ascends (e ∷ f ∷ es) ds a = (a.0, front-ascends (f ∷ es) ds a.1)

@@ -7,14 +7,14 @@ child_at k [] = None
 child_at k (e ∷ es) = cond (eqb e.0 k) (Some e.1) (child_at k es)
 
 -- with a child at a byte, before the first greater byte, in place of the one that stood there
-abbrev pub with_child : {X : Type 0} → ℕ → X → List (ℕ × X) → List (ℕ × X)
-with_child k x [] = (k, x) ∷ []
-with_child k x (e ∷ es) = cond (ltb k e.0) ((k, x) ∷ e ∷ es) (cond (eqb e.0 k) ((k, x) ∷ es) (e ∷ with_child k x es))
+abbrev pub with_entry : {X : Type 0} → ℕ → X → List (ℕ × X) → List (ℕ × X)
+with_entry k x [] = (k, x) ∷ []
+with_entry k x (e ∷ es) = cond (ltb k e.0) ((k, x) ∷ e ∷ es) (cond (eqb e.0 k) ((k, x) ∷ es) (e ∷ with_entry k x es))
 
 -- without what stands at a byte
-abbrev pub without : {X : Type 0} → ℕ → List (ℕ × X) → List (ℕ × X)
-without k [] = []
-without k (e ∷ es) = cond (eqb e.0 k) es (e ∷ without k es)
+abbrev pub without_byte : {X : Type 0} → ℕ → List (ℕ × X) → List (ℕ × X)
+without_byte k [] = []
+without_byte k (e ∷ es) = cond (eqb e.0 k) es (e ∷ without_byte k es)
 
 -- with another child at a byte where one stands
 abbrev pub replaced : {X : Type 0} → ℕ → X → List (ℕ × X) → List (ℕ × X)
@@ -37,9 +37,9 @@ StartsAbove k [] = Unit {0}
 StartsAbove k (e ∷ es) = k < e.0
 
 -- each byte is below the next
-abbrev pub IsAscending : {X : Type 0} → List (ℕ × X) → Type 0
-IsAscending [] = Unit {0}
-IsAscending (e ∷ es) = StartsAbove e.0 es × IsAscending es
+abbrev pub BytesAscend : {X : Type 0} → List (ℕ × X) → Type 0
+BytesAscend [] = Unit {0}
+BytesAscend (e ∷ es) = StartsAbove e.0 es × BytesAscend es
 
 -- the children alone, in order
 abbrev pub children_of : {X : Type 0} → List (ℕ × X) → List X

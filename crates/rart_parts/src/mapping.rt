@@ -9,7 +9,7 @@ pub mod sorted_keyed_mapping;
 ghost use Rattle.std.specs.Prelude.{◌≡◌, ℕ, ◌<◌, List, length, OnSome, None};
 ghost use Rattle.std.specs.Borrow.{sem, LendsSo};
 ghost use Rattle.std.specs.Option.{option_copied, option_copied_mut};
-ghost use Rattle.rart_parts.specs.Entries.{child_at, with_child, without, replaced};
+ghost use Rattle.rart_parts.specs.Entries.{child_at, with_entry, without_byte, replaced};
 
 pub use direct_mapping::{DirectMapping, DirectMappingIntoIter, DirectMappingIter};
 pub use indexed_mapping::{IndexedMapping, IndexedMappingIntoIter, IndexedMappingIter};
@@ -26,7 +26,7 @@ pub trait NodeMapping<N, const NUM_CHILDREN: usize> {
     fn add_child(&mut self, key: u8, node: N)
         requires absent { child_at key (map self.old) ≡ None }
         requires room { length (map self.old) < NUM_CHILDREN }
-        ensures { map self.new ≡ with_child key node (map self.old) };
+        ensures { map self.new ≡ with_entry key node (map self.old) };
 
     /// The child at a byte.
     fn seek_child(&self, key: u8) -> Option<&N>
@@ -40,7 +40,7 @@ pub trait NodeMapping<N, const NUM_CHILDREN: usize> {
     /// Takes the child at a byte out.
     fn delete_child(&mut self, key: u8) -> Option<N>
         ensures taken { result ≡ child_at key (map self.old) }
-        ensures rest { map self.new ≡ without key (map self.old) };
+        ensures rest { map self.new ≡ without_byte key (map self.old) };
 
     /// How many children there are.
     fn num_children(&self) -> usize

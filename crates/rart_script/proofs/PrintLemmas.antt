@@ -3,7 +3,7 @@ use Rattle.std.proofs.Common.{◌≡◌, ℕ, List, [], ◌∷◌, ◌++◌, Opt
 use Rattle.std.specs.Prelude.{map}
 use Rattle.std.specs.Io.KnownBytes.{Appends}
 use Rattle.std.specs.List.{concat, join_with_byte}
-use Rattle.rart_nodes.specs.Statistics.{Statistics}
+use Rattle.rart_nodes.specs.statistics.Statistics.{Statistics}
 use Rattle.rart_nodes.specs.declared.stats.NodeStats.{NodeStats}
 use Rattle.rart_script.specs.Answers.{pair_word, pairs_line}
 use Rattle.rart_script.specs.Statistics.{width_word, sums_text, stats_line}

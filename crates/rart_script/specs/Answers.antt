@@ -2,8 +2,8 @@
 use Rattle.std.specs.Prelude.{◌≡◌, ◌≢◌, ◌≤◌, ℕ, [], ◌∷◌, ◌++◌, ◌⊎◌, List, length, map, codes, decimal, Option, Some, None}
 use Rattle.std.specs.List.{join_with_byte}
 use Rattle.rart_keys.specs.SortedMap.{keys_of, lookup, put, without}
-use Rattle.rart_nodes.specs.Shape.{HasShape, NodeRecord}
-use Rattle.rart_nodes.specs.Statistics.{statistics_of}
+use Rattle.rart_nodes.specs.shapes.Shape.{HasShape, NodeRecord}
+use Rattle.rart_nodes.specs.statistics.Statistics.{statistics_of}
 use Rattle.rart_script.specs.Statistics.{stats_line}
 use Rattle.rart_script.specs.declared.command.Command.{Command}
 use Rattle.rart_script.specs.declared.command.Command.TheVariants.{Nothing, Insert, Get, Remove, Len, Iter, Stats}

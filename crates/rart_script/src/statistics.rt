@@ -1,7 +1,7 @@
 //! How the statistics of a tree are printed, on one line.
 ghost use Rattle.std.specs.Prelude.{OnOk};
 ghost use Rattle.std.specs.Io.KnownBytes.{Appends};
-ghost use Rattle.rart_nodes.specs.Statistics.{statistics_in};
+ghost use Rattle.rart_nodes.specs.statistics.Statistics.{statistics_in};
 ghost use Rattle.rart_script.specs.Statistics.{stats_line, sums_text};
 
 use rart::TreeStats;

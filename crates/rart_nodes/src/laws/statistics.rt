@@ -1,8 +1,8 @@
 //! The theorems on statistics, each the contract of a function with an empty body.
 ghost use Rattle.std.specs.Prelude.{◌≡◌, ◌+◌, ◌*◌, ◌≤◌, length};
 ghost use Rattle.rart_keys.specs.SortedMap.{keys_of};
-ghost use Rattle.rart_nodes.specs.Statistics.{height, statistics_of, sum_in, trie_height, trie_statistics, width_at};
-ghost use Rattle.rart_nodes.specs.Trie.{Trie, IsCanonical, nodes_of, pairs_of};
+ghost use Rattle.rart_nodes.specs.statistics.Statistics.{height, statistics_of, sum_in, trie_height, trie_statistics, width_at};
+ghost use Rattle.rart_nodes.specs.tries.Trie.{Trie, IsCanonical, nodes_of, pairs_of};
 
 /// Statistics of a canonical trie are those of its keys by their shape: its height is the greatest
 /// number of branch points that begin one key, and what its nodes have room for is at most 16 times

@@ -1,9 +1,9 @@
 //! The children of a node, each with its byte. The walk is seen as the list of those still to come.
 ghost use Rattle.std.specs.Prelude.{◌≡◌, ◌↔◌, IsTrue};
 ghost use Rattle.std.specs.Iterator.{YieldsFirstBy, item_count};
-ghost use Rattle.rart_nodes.specs.Deletion.{JoinsWithin};
-ghost use Rattle.rart_nodes.specs.Trie.{children_in, prefix_of};
-ghost use Rattle.rart_nodes.specs.TrieCode.{as_children};
+ghost use Rattle.rart_nodes.specs.edits.Deletion.{JoinsWithin};
+ghost use Rattle.rart_nodes.specs.tries.Trie.{children_in, prefix_of};
+ghost use Rattle.rart_nodes.specs.tries.TrieCode.{as_children};
 
 use crate::node::DefaultNode;
 use crate::node::storage::walk::StorageIter;
@@ -19,9 +19,9 @@ pub struct NodeIter<'a, P: Partial, V> {
 impl<'a, P: Partial, V> Model for NodeIter<'a, P, V> {
     ghost use Rattle.std.specs.Prelude.{ℕ, List};
     ghost use Rattle.std.specs.Coded.{coded_list, coded×, coded_ℕ};
-    ghost use Rattle.rart_nodes.specs.Trie.{Trie};
-    ghost use Rattle.rart_nodes.specs.TrieCode.{trie_code};
-    ghost use Rattle.rart_nodes.specs.Walks.{to_come};
+    ghost use Rattle.rart_nodes.specs.tries.Trie.{Trie};
+    ghost use Rattle.rart_nodes.specs.tries.TrieCode.{trie_code};
+    ghost use Rattle.rart_nodes.specs.walks.Walks.{to_come};
 
     ghost Value = { List (ℕ × Trie V) };
 

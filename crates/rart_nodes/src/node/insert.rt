@@ -2,11 +2,10 @@
 ghost use Rattle.std.specs.Prelude.{◌≡◌, ◌+◌, ◌<◌, ◌≤◌, length, max, nat_eq, true, IfErr, IfOk, None, OnErr, OnOk};
 ghost use Rattle.std.specs.List.{common_prefix_len};
 ghost use Rattle.rart_keys.specs.KeyBytes.{IsWithin};
-ghost use Rattle.rart_keys.specs.SortedMap.{count_of, keys_of, lookup, put};
-ghost use Rattle.rart_nodes.specs.CanonicalTest.{longest_key};
-ghost use Rattle.rart_nodes.specs.InsertAsks.{insert_asks, trie_put_asks};
-ghost use Rattle.rart_nodes.specs.Shape.{record_at};
-ghost use Rattle.rart_nodes.specs.Trie.{IsCanonical, look_up, pairs_of, prefix_of, put_trie, with_records};
+ghost use Rattle.rart_keys.specs.SortedMap.{count_of, keys_of, lookup, put, longest_key};
+ghost use Rattle.rart_nodes.specs.edits.InsertAsks.{insert_asks, trie_asks_put};
+ghost use Rattle.rart_nodes.specs.shapes.Shape.{record_at};
+ghost use Rattle.rart_nodes.specs.tries.Trie.{IsCanonical, trie_lookup, pairs_of, prefix_of, trie_put, with_records};
 
 use crate::node::DefaultNode;
 use crate::node::storage::Storage;
@@ -30,7 +29,7 @@ impl<P: Partial, V> DefaultNode<P, V> {
         requires within { shared ≤ length key.now }
         requires common { shared ≡ common_prefix_len nat_eq (prefix_of self.old) key.now }
         requires fits { IsWithin P.MAXIMUM_SIZE (length key.now) }
-        ensures ok { OnOk result (self.new ≡ put_trie key.now value self.old) }
+        ensures ok { OnOk result (self.new ≡ trie_put key.now value self.old) }
         ensures refused { OnErr result (self.new ≡ self.old) }
         ensures back { IfErr result (λ r. (r.error ≡ TreeError.Memory) × (r.value ≡ value)) }
     {
@@ -69,11 +68,11 @@ impl<P: Partial, V> DefaultNode<P, V> {
     fn put(&mut self, alloc: Global, key: &[u8], value: V) -> Result<Option<V>, Refused<V>>
         requires canonical { IsCanonical self.old }
         requires fits { IsWithin P.MAXIMUM_SIZE (length key.now) }
-        ensures ok { OnOk result (self.new ≡ put_trie key.now value self.old) }
-        ensures answer { IfOk result (λ old. old ≡ look_up key.now self.old) }
+        ensures ok { OnOk result (self.new ≡ trie_put key.now value self.old) }
+        ensures answer { IfOk result (λ old. old ≡ trie_lookup key.now self.old) }
         ensures refused { OnErr result (self.new ≡ self.old) }
         ensures back { IfErr result (λ r. (r.error ≡ TreeError.Memory) × (r.value ≡ value)) }
-        ensures asks { OnErr result ((trie_put_asks key.now self.old ≡ true) × (look_up key.now (with_records self.old) ≡ None)) }
+        ensures asks { OnErr result ((trie_asks_put key.now self.old ≡ true) × (trie_lookup key.now (with_records self.old) ≡ None)) }
     {
         let shared = self.prefix.prefix_length_slice(key);
         if shared < self.prefix.len() {

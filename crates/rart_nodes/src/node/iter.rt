@@ -4,9 +4,8 @@
 ghost use Rattle.std.specs.Prelude.{◌≡◌, ◌≢◌, ◌≤◌, ◌+◌, [], ◌∷◌, length, IfErr, IfOk, MatchOption};
 ghost use Rattle.std.specs.Iterator.{YieldsFirstBy, item_count};
 ghost use Rattle.std.specs.Option.{option_copied};
-ghost use Rattle.rart_keys.specs.SortedMap.{count_of};
-ghost use Rattle.rart_nodes.specs.Tree.{tree_pairs};
-ghost use Rattle.rart_nodes.specs.TreeWalk.{values_of};
+ghost use Rattle.rart_keys.specs.SortedMap.{count_of, values_of};
+ghost use Rattle.rart_nodes.specs.tries.Tree.{tree_pairs};
 
 use crate::count::{Count, Visits};
 use crate::node::seen::Seen;
@@ -81,7 +80,7 @@ pub struct ValuesIter<'a, K: KeyTrait, V> {
 
 impl<'a, K: KeyTrait, V> Model for ValuesIter<'a, K, V> {
     ghost use Rattle.std.specs.Prelude.{List};
-    ghost use Rattle.rart_nodes.specs.TreeWalk.{values_of};
+    ghost use Rattle.rart_keys.specs.SortedMap.{values_of};
 
     ghost Value = { List V };
 

@@ -3,10 +3,10 @@ ghost use Rattle.std.specs.Prelude.{◌≡◌, ◌<◌, ℕ, List, IfNone, OnSom
 ghost use Rattle.std.specs.Borrow.{sem, LendsSo};
 ghost use Rattle.std.specs.Option.{option_copied_mut};
 ghost use Rattle.rart_keys.specs.SortedMap.{lookup, put};
-ghost use Rattle.rart_nodes.specs.Loan.{IsAlike};
-ghost use Rattle.rart_nodes.specs.Tree.{IsCanonicalTree, tree_nodes, tree_pairs};
-ghost use Rattle.rart_nodes.specs.Trie.{Trie, IsCanonical, look_up, put_trie};
-ghost use Rattle.rart_nodes.specs.TrieCode.{node_count};
+ghost use Rattle.rart_nodes.specs.edits.Loan.{IsAlike};
+ghost use Rattle.rart_nodes.specs.tries.Tree.{IsCanonicalTree, tree_nodes, tree_pairs};
+ghost use Rattle.rart_nodes.specs.tries.Trie.{Trie, IsCanonical, trie_lookup, trie_put};
+ghost use Rattle.rart_nodes.specs.tries.TrieCode.{node_count};
 ghost use Rattle.rart_nodes.specs.contracts.node.DefaultNode.{the_row};
 
 use crate::node::DefaultNode;
@@ -32,9 +32,9 @@ trait Lends<V> {
 impl<P: Partial, V> Lends<V> for DefaultNode<P, V> {
     ghost ready = { IsCanonical };
 
-    ghost found = { λ n key. look_up key n };
+    ghost found = { λ n key. trie_lookup key n };
 
-    ghost put = { λ n key w. put_trie key w n };
+    ghost put = { λ n key w. trie_put key w n };
 
     fn lend(&mut self, key: &[u8]) -> Option<&mut V> {
         lend_by(self, key)
@@ -48,10 +48,10 @@ where
     DefaultNode<P, V>: Lends<V>,
     requires canonical { IsCanonical node.old }
     requires ready { (n : Trie V) → IsCanonical n → node_count n < node_count node.old → ⟦<DefaultNode<P, V> as Lends<V>>⟧.ready n }
-    requires found { (n : Trie V) (k : List ℕ) → ⟦<DefaultNode<P, V> as Lends<V>>⟧.found n k ≡ look_up k n }
-    requires put { (n : Trie V) (k : List ℕ) (w : V) → ⟦<DefaultNode<P, V> as Lends<V>>⟧.put n k w ≡ put_trie k w n }
-    ensures* writes_back { sem 𝓛 (LendsSo (the_row P.row V.row P.Partial) V.row node.entry result (λ n w. OnSome result (n ≡ put_trie key.now w node.old) × IfNone result (n ≡ node.old)) (λ n. n ≡ node.old)) }
-    ensures value { option_copied_mut result ≡ look_up key.now node.old }
+    requires found { (n : Trie V) (k : List ℕ) → ⟦<DefaultNode<P, V> as Lends<V>>⟧.found n k ≡ trie_lookup k n }
+    requires put { (n : Trie V) (k : List ℕ) (w : V) → ⟦<DefaultNode<P, V> as Lends<V>>⟧.put n k w ≡ trie_put k w n }
+    ensures* writes_back { sem 𝓛 (LendsSo (the_row P.row V.row P.Partial) V.row node.entry result (λ n w. OnSome result (n ≡ trie_put key.now w node.old) × IfNone result (n ≡ node.old)) (λ n. n ≡ node.old)) }
+    ensures value { option_copied_mut result ≡ trie_lookup key.now node.old }
 {
     let shared = node.prefix.prefix_length_slice(key);
     if shared < node.prefix.len() {

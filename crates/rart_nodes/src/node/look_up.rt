@@ -2,8 +2,8 @@
 ghost use Rattle.std.specs.Prelude.{◌≡◌, ◌≤◌, ◌+◌, length};
 ghost use Rattle.std.specs.Option.{option_copied};
 ghost use Rattle.rart_keys.specs.SortedMap.{keys_of, lookup};
-ghost use Rattle.rart_nodes.specs.ProbeCount.{probe_count, tree_entered};
-ghost use Rattle.rart_nodes.specs.Tree.{tree_look_up, tree_pairs};
+ghost use Rattle.rart_nodes.specs.walks.ProbeCount.{probe_count, tree_entered};
+ghost use Rattle.rart_nodes.specs.tries.Tree.{tree_lookup, tree_pairs};
 
 use crate::count::Count;
 use crate::node::seen::Seen;
@@ -11,7 +11,7 @@ use rart_keys::{KeyTrait, Partial};
 
 impl<'a, K: KeyTrait, V, C: Count> Seen<'a, K, V, C> {
     fn descend(self, key: &[u8], counter: &mut C) -> Option<&'a V>
-        ensures value { option_copied result ≡ tree_look_up key.now (option_copied self.entry.root) }
+        ensures value { option_copied result ≡ tree_lookup key.now (option_copied self.entry.root) }
         ensures visits { C.number counter.new ≡ C.number counter.old + tree_entered key.now (option_copied self.entry.root) }
     {
         let mut seen = self;

@@ -3,11 +3,10 @@
 ghost use Rattle.std.specs.Prelude.{◌≡◌, ◌≢◌, ◌<◌, ◌≤◌, ◌+◌, ◌↔◌, length, None, option_map, IfErr, IfOk, IsTrue, OnErr, OnOk, OnSome};
 ghost use Rattle.std.specs.Borrow.{sem, LendsSo};
 ghost use Rattle.std.specs.Option.{option_copied, option_copied_mut};
-ghost use Rattle.rart_nodes.specs.Deletion.{JoinsWithin, without_child};
-ghost use Rattle.rart_nodes.specs.NodeEdits.{with_child, with_value};
-ghost use Rattle.rart_nodes.specs.SeenTrie.{child_in};
-ghost use Rattle.rart_nodes.specs.Trie.{Trie, node, no_children, leaf, capacity_in, children_in, edges_of, prefix_of, value_of};
-ghost use Rattle.rart_nodes.specs.Widths.{previous_width};
+ghost use Rattle.rart_nodes.specs.edits.Deletion.{JoinsWithin, without_child};
+ghost use Rattle.rart_nodes.specs.edits.NodeEdits.{with_child, with_value};
+ghost use Rattle.rart_nodes.specs.tries.Trie.{Trie, node, no_children, leaf, capacity_in, children_in, edges_of, prefix_of, value_of, child_in};
+ghost use Rattle.rart_nodes.specs.storages.Widths.{previous_width};
 
 use crate::node::DefaultNode;
 use crate::node::storage::Storage;

@@ -1,14 +1,12 @@
 //! Removal below a node. Room for fewer children is taken before the first write.
 ghost use Rattle.std.specs.Prelude.{◌≡◌, ◌≢◌, ◌+◌, ◌<◌, ◌≤◌, length, true, false, [], IfErr, IfOk, None, Some, OnErr, OnOk};
 ghost use Rattle.rart_keys.specs.KeyBytes.{IsWithin};
-ghost use Rattle.rart_keys.specs.SortedMap.{count_of, keys_of, lookup, without};
-ghost use Rattle.rart_nodes.specs.CanonicalTest.{longest_key};
-ghost use Rattle.rart_nodes.specs.Deletion.{JoinsWithin, is_leaf_at, is_lone, joined_if_lone, without_child};
-ghost use Rattle.rart_nodes.specs.RemoveAsks.{remove_asks, trie_remove_asks};
-ghost use Rattle.rart_nodes.specs.SeenTrie.{child_in};
-ghost use Rattle.rart_nodes.specs.Tree.{IsCanonicalTree, tree_look_up, tree_pairs, tree_remove};
-ghost use Rattle.rart_nodes.specs.Trie.{IsCanonical, capacity_in, children_in, edges_of, look_up, pairs_of, prefix_of, remove_trie, value_of};
-ghost use Rattle.rart_nodes.specs.Widths.{previous_width};
+ghost use Rattle.rart_keys.specs.SortedMap.{count_of, keys_of, lookup, without, longest_key};
+ghost use Rattle.rart_nodes.specs.edits.Deletion.{JoinsWithin, is_leaf_at, is_lone, joined_if_lone, without_child};
+ghost use Rattle.rart_nodes.specs.edits.RemoveAsks.{remove_asks, trie_asks_remove};
+ghost use Rattle.rart_nodes.specs.tries.Tree.{IsCanonicalTree, tree_lookup, tree_pairs, tree_remove};
+ghost use Rattle.rart_nodes.specs.tries.Trie.{IsCanonical, capacity_in, children_in, edges_of, trie_lookup, pairs_of, prefix_of, trie_remove, value_of, child_in};
+ghost use Rattle.rart_nodes.specs.storages.Widths.{previous_width};
 
 use crate::node::DefaultNode;
 use rart_keys::Partial;
@@ -95,11 +93,11 @@ impl<P: Partial, V> DefaultNode<P, V> {
         requires canonical { IsCanonical self.old }
         requires fits { IsWithin P.MAXIMUM_SIZE (longest_key (pairs_of self.old)) }
         requires stays { is_leaf_at key.now self.old ≡ false }
-        ensures ok { OnOk result (Some self.new ≡ remove_trie key.now self.old) }
-        ensures answer { IfOk result (λ old. old ≡ look_up key.now self.old) }
+        ensures ok { OnOk result (Some self.new ≡ trie_remove key.now self.old) }
+        ensures answer { IfOk result (λ old. old ≡ trie_lookup key.now self.old) }
         ensures refused { OnErr result (self.new ≡ self.old) }
         ensures error { IfErr result (λ e. e ≡ TreeError.Memory) }
-        ensures asks { OnErr result ((trie_remove_asks None key.now self.old ≡ true) × (look_up key.now self.old ≢ None)) }
+        ensures asks { OnErr result ((trie_asks_remove None key.now self.old ≡ true) × (trie_lookup key.now self.old ≢ None)) }
     {
         let shared = self.prefix.prefix_length_slice(key);
         if shared < self.prefix.len() {
@@ -131,10 +129,10 @@ impl<P: Partial, V> DefaultNode<P, V> {
         requires canonical { IsCanonicalTree root.old }
         requires fits { IsWithin P.MAXIMUM_SIZE (longest_key (tree_pairs root.old)) }
         ensures ok { OnOk result (root.new ≡ tree_remove key.now root.old) }
-        ensures answer { IfOk result (λ old. old ≡ tree_look_up key.now root.old) }
+        ensures answer { IfOk result (λ old. old ≡ tree_lookup key.now root.old) }
         ensures refused { OnErr result (root.new ≡ root.old) }
         ensures error { IfErr result (λ e. e ≡ TreeError.Memory) }
-        ensures asks { OnErr result ((remove_asks (keys_of (tree_pairs root.old)) key.now ≡ true) × (tree_look_up key.now root.old ≢ None)) }
+        ensures asks { OnErr result ((remove_asks (keys_of (tree_pairs root.old)) key.now ≡ true) × (tree_lookup key.now root.old ≢ None)) }
     {
         match root {
             Some(node) => {

@@ -6,11 +6,10 @@
 ghost use Rattle.std.specs.Prelude.{◌≡◌, ◌≤◌, ◌+◌, ℕ, MatchOption, None, Some, option_map, true};
 ghost use Rattle.std.specs.Option.{option_copied};
 ghost use Rattle.rart_keys.specs.KeyBytes.{IsWithin, IsWithin-prop};
-ghost use Rattle.rart_keys.specs.SortedMap.{count_of};
-ghost use Rattle.rart_nodes.specs.CanonicalTest.{is_canonical, is_canonical_tree, longest_key};
-ghost use Rattle.rart_nodes.specs.SeenTrie.{child_in};
-ghost use Rattle.rart_nodes.specs.Tree.{IsCanonicalTree, tree_pairs};
-ghost use Rattle.rart_nodes.specs.Trie.{child, children_in, no_children, pairs_of, prefix_of, value_of};
+ghost use Rattle.rart_keys.specs.SortedMap.{count_of, longest_key};
+ghost use Rattle.rart_nodes.specs.tries.CanonicalTest.{is_canonical, is_canonical_tree};
+ghost use Rattle.rart_nodes.specs.tries.Tree.{IsCanonicalTree, tree_pairs};
+ghost use Rattle.rart_nodes.specs.tries.Trie.{child, children_in, no_children, pairs_of, prefix_of, value_of, child_in};
 
 use crate::count::Count;
 use crate::node::{DefaultNode, NodeIter};
@@ -69,10 +68,10 @@ pub(crate) struct Branches<'a, K: KeyTrait, V, C> {
 impl<'a, K: KeyTrait, V, C> Model for Branches<'a, K, V, C> {
     ghost use Rattle.std.specs.Prelude.{◌≤◌};
     ghost use Rattle.rart_keys.specs.KeyBytes.{IsWithin};
-    ghost use Rattle.rart_nodes.specs.CanonicalTest.{longest_key};
-    ghost use Rattle.rart_nodes.specs.Trie.{AreCanonical, Children, children_pairs};
-    ghost use Rattle.rart_nodes.specs.TrieCode.{as_children};
-    ghost use Rattle.rart_nodes.specs.TreeWalk.{children_code};
+    ghost use Rattle.rart_keys.specs.SortedMap.{longest_key};
+    ghost use Rattle.rart_nodes.specs.tries.Trie.{AreCanonical, Children, children_pairs};
+    ghost use Rattle.rart_nodes.specs.tries.TrieCode.{as_children};
+    ghost use Rattle.rart_nodes.specs.walks.TreeWalk.{children_code};
 
     ghost Value = { Children V };
 

@@ -2,10 +2,10 @@
 ghost use Rattle.std.specs.Prelude.{◌≡◌, ◌+◌, ◌*◌, ◌≤◌, length, IfErr, IfOk, OnErr};
 ghost use Rattle.std.specs.Option.{option_copied};
 ghost use Rattle.rart_keys.specs.SortedMap.{keys_of};
-ghost use Rattle.rart_nodes.specs.CountedNodes.{counts_added, counts_in, counts_sum};
-ghost use Rattle.rart_nodes.specs.Statistics.{statistics_in, statistics_of, trie_height};
-ghost use Rattle.rart_nodes.specs.Tree.{IsCanonicalTree, tree_nodes, tree_pairs};
-ghost use Rattle.rart_nodes.specs.TrieCode.{node_count};
+ghost use Rattle.rart_nodes.specs.statistics.CountedNodes.{counts_added, counts_in, counts_sum};
+ghost use Rattle.rart_nodes.specs.statistics.Statistics.{statistics_in, statistics_of, trie_height};
+ghost use Rattle.rart_nodes.specs.tries.Tree.{IsCanonicalTree, tree_nodes, tree_pairs};
+ghost use Rattle.rart_nodes.specs.tries.TrieCode.{node_count};
 
 use crate::node::DefaultNode;
 use crate::stats::TreeStats;

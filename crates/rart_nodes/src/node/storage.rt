@@ -2,8 +2,8 @@
 //! of (byte, child), ascending by byte, and a width.
 ghost use Rattle.std.specs.Prelude.{◌≡◌, ◌<◌, ◌≤◌, [], length, None};
 ghost use Rattle.std.specs.Option.{option_copied};
-ghost use Rattle.rart_parts.specs.Entries.{child_at, with_child, without};
-ghost use Rattle.rart_nodes.specs.Stored.{stored, width_of, room_of};
+ghost use Rattle.rart_parts.specs.Entries.{child_at, with_entry, without_byte};
+ghost use Rattle.rart_nodes.specs.storages.Stored.{stored, width_of, room_of};
 
 use rart_parts::mapping::{DirectMapping, IndexedMapping, NodeMapping, SortedKeyedMapping};
 use rart_parts::utils::bitset::Bitset64;
@@ -80,7 +80,7 @@ impl<N> Storage<N> {
     pub fn add_within(&mut self, b: u8, node: N)
         requires absent { child_at b (stored self.old) ≡ None }
         requires room { length (stored self.old) < room_of self.old }
-        ensures stored { stored self.new ≡ with_child b node (stored self.old) }
+        ensures stored { stored self.new ≡ with_entry b node (stored self.old) }
         ensures width { width_of self.new ≡ width_of self.old }
         ensures room { room_of self.old ≤ room_of self.new }
     {
@@ -96,7 +96,7 @@ impl<N> Storage<N> {
     /// Takes the child at byte `b` out, if one stands there, and keeps the kind. Takes no memory.
     pub fn delete_within(&mut self, b: u8) -> Option<N>
         ensures taken { result ≡ child_at b (stored self.old) }
-        ensures stored { stored self.new ≡ without b (stored self.old) }
+        ensures stored { stored self.new ≡ without_byte b (stored self.old) }
         ensures width { width_of self.new ≡ width_of self.old }
     {
         match self {
@@ -114,7 +114,7 @@ impl<N> Storage<N> {
     ghost use Rattle.std.specs.Option.{option_copied_mut};
     ghost use Rattle.std.specs.Borrow.{sem, LendsSo};
     ghost use Rattle.rart_parts.specs.Entries.{child_at, replaced};
-    ghost use Rattle.rart_nodes.specs.Stored.{stored, width_of};
+    ghost use Rattle.rart_nodes.specs.storages.Stored.{stored, width_of};
     ghost use Rattle.rart_nodes.specs.contracts.node.storage.Storage.{the_row};
 
     /// The child at byte `b`, to be changed.

@@ -6,8 +6,8 @@ ghost use Rattle.std.specs.Prelude.{◌≡◌, ◌≢◌, ◌≤◌, ◌<◌, �
 ghost use Rattle.std.specs.Option.{option_copied};
 ghost use Rattle.rart_keys.specs.KeyBytes.{IsWithin};
 ghost use Rattle.rart_keys.specs.SortedMap.{count_of};
-ghost use Rattle.rart_nodes.specs.Tree.{tree_pairs};
-ghost use Rattle.rart_nodes.specs.Trie.{children_in, prefix_of};
+ghost use Rattle.rart_nodes.specs.tries.Tree.{tree_pairs};
+ghost use Rattle.rart_nodes.specs.tries.Trie.{children_in, prefix_of};
 
 use crate::count::Count;
 use crate::node::seen::{Branches, Entered, Seen};
@@ -30,7 +30,7 @@ impl<'a, K: KeyTrait, V, C> Model for Walk<'a, K, V, C> {
     ghost use Rattle.std.specs.Prelude.{◌≤◌, ◌++◌, reverse, vec_capacity};
     ghost use Rattle.std.specs.Option.{option_copied};
     ghost use Rattle.rart_keys.specs.KeyBytes.{IsWithin};
-    ghost use Rattle.rart_nodes.specs.TreeWalk.{IsPath, WalkState, pair_at, pairs_below};
+    ghost use Rattle.rart_nodes.specs.walks.TreeWalk.{IsPath, WalkState, pair_at, pairs_below};
 
     ghost Value = { WalkState V };
 

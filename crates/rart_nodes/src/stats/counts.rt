@@ -2,8 +2,8 @@
 ghost use Rattle.std.specs.Prelude.{◌≡◌, ◌+◌, ◌<◌, ◌≤◌, nat_le, if◌then◌else◌, IfErr, IfOk, OnErr, OnOk};
 ghost use Rattle.std.specs.BTreeMap.{insert_entry};
 ghost use Rattle.std.specs.Ordering.{nat_cmp};
-ghost use Rattle.rart_nodes.specs.CountedNodes.{children_counted, counts_added, counts_by, counts_of_node, counts_sum, inner_counted, statistics_counted, width_counted, width_counts_added};
-ghost use Rattle.rart_nodes.specs.Statistics.{one_if, statistics_in};
+ghost use Rattle.rart_nodes.specs.statistics.CountedNodes.{children_counted, counts_added, counts_by, counts_of_node, counts_sum, inner_counted, statistics_counted, width_counted, width_counts_added};
+ghost use Rattle.rart_nodes.specs.statistics.Statistics.{one_if, statistics_in};
 
 use crate::stats::{NodeStats, TreeStats};
 use rart_parts::TreeError;

@@ -3,7 +3,7 @@
 ghost use Rattle.std.specs.Prelude.{◌≡◌, ℕ, [], ◌∷◌, IfSome, Some, ◌<◌, ◌≤◌, length, IfErr, IfOk, None, OnOk, OnErr};
 ghost use Rattle.std.specs.Iterator.{UpTo, YieldsFirst, YieldsFirstBy, item_count};
 ghost use Rattle.std.specs.Iterator.SizeHint.{IsWithinCount};
-ghost use Rattle.rart_parts.specs.Entries.{ascending, child_at, IsAscending};
+ghost use Rattle.rart_parts.specs.Entries.{ascending, child_at, BytesAscend};
 
 use crate::error::TreeError;
 use crate::mapping::{IndexedMapping, NodeMapping};
@@ -54,7 +54,7 @@ impl<N> DirectMapping<N> {
 
     /// The bytes ascend, and each is below 256: this call does nothing but say so.
     pub fn ascends(&self)
-        ensures ascends { IsAscending self.now }
+        ensures ascends { BytesAscend self.now }
         ensures bytes { (b : ℕ) → 256 ≤ b → child_at b self.now ≡ None }
     {
         let _places = &self.places;

@@ -4,7 +4,7 @@
 ghost use Rattle.std.specs.Prelude.{◌≡◌, ℕ, [], ◌∷◌, IfSome, Some, ◌<◌, ◌≤◌, ◌^◌, length, IfErr, IfOk, OnOk, OnErr, MatchOption};
 ghost use Rattle.std.specs.Iterator.{UpTo, YieldsFirst, YieldsFirstBy, item_count};
 ghost use Rattle.std.specs.Iterator.SizeHint.{IsWithinCount};
-ghost use Rattle.rart_parts.specs.Entries.{IsAscending, ascending};
+ghost use Rattle.rart_parts.specs.Entries.{BytesAscend, ascending};
 
 use crate::error::TreeError;
 use crate::mapping::{DirectMapping, KeyedMapping, NodeMapping, SortedKeyedMapping};
@@ -158,7 +158,7 @@ impl<N, const W: usize, B: BitsetTrait> IndexedMapping<N, W, B> {
     pub fn fits_width(&self)
         ensures few { length (ascending self.now) ≤ W }
         ensures narrow { W ≤ 255 }
-        ensures ascends { IsAscending (ascending self.now) }
+        ensures ascends { BytesAscend (ascending self.now) }
     {
         let _index = &self.index;
     }

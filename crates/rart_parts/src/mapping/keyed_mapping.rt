@@ -3,7 +3,7 @@
 
 ghost use Rattle.std.specs.Prelude.{◌≡◌, ℕ, [], ◌<◌, ◌≤◌, ◌^◌, length, IfErr, IfOk, OnOk, OnErr, MatchOption};
 ghost use Rattle.rart_parts.specs.Bits.{IsFirst};
-ghost use Rattle.rart_parts.specs.Entries.{IsAscending, ascending, child_at, without};
+ghost use Rattle.rart_parts.specs.Entries.{BytesAscend, ascending, child_at, without_byte};
 ghost use Rattle.rart_parts.specs.Keys.{is_held};
 ghost use Rattle.rart_parts.specs.Places.{is_used};
 
@@ -96,14 +96,14 @@ impl<N, const W: usize, B: BitsetTrait> KeyedMapping<N, W, B> {
     pub fn fits_width(&self)
         ensures few { length (ascending self.now) ≤ W }
         ensures narrow { W ≤ 255 }
-        ensures ascends { IsAscending (ascending self.now) }
+        ensures ascends { BytesAscend (ascending self.now) }
     {
         let _children = &self.children;
     }
 
     /// Takes out the child in the first used slot.
     pub(crate) fn take_any(&mut self) -> Option<(u8, N)>
-        ensures { MatchOption result ((ascending self.old ≡ []) × (ascending self.new ≡ [])) (λ e. (child_at e.0 (ascending self.old) ≡ Some e.1) × (ascending self.new ≡ without e.0 (ascending self.old))) }
+        ensures { MatchOption result ((ascending self.old ≡ []) × (ascending self.new ≡ [])) (λ e. (child_at e.0 (ascending self.old) ≡ Some e.1) × (ascending self.new ≡ without_byte e.0 (ascending self.old))) }
     {
         let Some(slot) = self.children.first_used() else {
             return None;

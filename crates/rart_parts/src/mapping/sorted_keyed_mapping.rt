@@ -4,7 +4,7 @@
 ghost use Rattle.std.specs.Prelude.{◌≡◌, ℕ, [], ◌∷◌, IfSome, Some, ◌++◌, ◌<◌, ◌≤◌, length, IfErr, IfOk, OnOk, OnErr, MatchOption};
 ghost use Rattle.std.specs.Iterator.{UpTo, YieldsFirst, YieldsFirstBy, item_count};
 ghost use Rattle.std.specs.Iterator.SizeHint.{IsWithinCount};
-ghost use Rattle.rart_parts.specs.Entries.{IsAscending, ascending};
+ghost use Rattle.rart_parts.specs.Entries.{BytesAscend, ascending};
 
 use crate::error::TreeError;
 use crate::mapping::{IndexedMapping, NodeMapping};
@@ -126,7 +126,7 @@ impl<N, const W: usize> SortedKeyedMapping<N, W> {
 
     /// The bytes ascend: this call does nothing but say so.
     pub fn ascends(&self)
-        ensures { IsAscending self.now }
+        ensures { BytesAscend self.now }
     {
         let _keys = &self.keys;
     }

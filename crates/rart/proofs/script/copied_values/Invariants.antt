@@ -1,6 +1,6 @@
 use Rattle.std.proofs.Common.{◌≡◌, ◌≤◌, ◌++◌, length}
 use Rattle.std.specs.Prelude.{vec_capacity}
-use Rattle.rart_nodes.specs.TreeWalk.{values_of}
+use Rattle.rart_keys.specs.SortedMap.{values_of}
 use Rattle.rart.proofs.script.copied_values.Given as goal
 
 abbrev pub invariant-loop-value : goal.invariant-loop-value

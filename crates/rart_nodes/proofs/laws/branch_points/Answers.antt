@@ -1,4 +1,4 @@
-use Rattle.rart_nodes.proofs.BranchPointLemmas.{branch-record, record-branch}
+use Rattle.rart_nodes.proofs.shapes.BranchPointLemmas.{branch-record, record-branch}
 use Rattle.rart_nodes.proofs.laws.branch_points.Goals as goal
 
 pub returns : goal.returns

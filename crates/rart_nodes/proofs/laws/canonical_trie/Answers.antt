@@ -1,8 +1,8 @@
 use Rattle.std.proofs.Common.{sym}
-use Rattle.rart_nodes.proofs.NodeCounts.{few_nodes}
-use Rattle.rart_nodes.proofs.PairLemmas.{pairs_of-ascend, lookup-pairs_of}
-use Rattle.rart_nodes.proofs.ProbeLemmas.{entered_nodes-probe_count}
-use Rattle.rart_nodes.proofs.ShapeLemmas.{nodes_of-shape, equal_nodes}
+use Rattle.rart_nodes.proofs.tries.NodeCounts.{few_nodes}
+use Rattle.rart_nodes.proofs.tries.PairLemmas.{pairs_of-ascend, lookup-pairs_of}
+use Rattle.rart_nodes.proofs.walks.ProbeLemmas.{entered_nodes-probe_count}
+use Rattle.rart_nodes.proofs.shapes.ShapeLemmas.{nodes_of-shape, equal_nodes}
 use Rattle.rart_nodes.proofs.laws.canonical_trie.Goals as goal
 
 pub returns : goal.returns

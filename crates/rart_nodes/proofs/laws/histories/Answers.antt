@@ -1,5 +1,5 @@
 use Rattle.std.proofs.Common.{None}
-use Rattle.rart_nodes.proofs.EditRunLemmas.{run-pairs_of, run-shape}
+use Rattle.rart_nodes.proofs.edits.EditRunLemmas.{run-pairs_of, run-shape}
 use Rattle.rart_nodes.proofs.laws.histories.Goals as goal
 
 pub returns : goal.returns

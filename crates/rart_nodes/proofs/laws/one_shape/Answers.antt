@@ -1,4 +1,4 @@
-use Rattle.rart_nodes.proofs.ShapeLemmas.{one_shape}
+use Rattle.rart_nodes.proofs.shapes.ShapeLemmas.{one_shape}
 use Rattle.rart_nodes.proofs.laws.one_shape.Goals as goal
 
 pub returns : goal.returns

@@ -1,5 +1,5 @@
 use Rattle.std.proofs.Common.{sym}
-use Rattle.rart_nodes.proofs.AscendingKeys.{pair-step, pairs-end}
+use Rattle.rart_nodes.proofs.shapes.AscendingKeys.{pair-step, pairs-end}
 use Rattle.rart_nodes.proofs.shape.are_ascending.Goals as goal
 
 pub loop-i-preserved : goal.loop-i-preserved

@@ -1,7 +1,7 @@
 use Rattle.std.proofs.Common.{◌-◌, ◌↔◌}
 use Rattle.rart_keys.specs.SortedMap.{IsAscending}
-use Rattle.rart_nodes.specs.ShapeRecords.{keys_in, lone_keys}
-use Rattle.rart_nodes.proofs.AscendingKeys.{AscendFrom}
+use Rattle.rart_nodes.specs.shapes.ShapeRecords.{keys_in, lone_keys}
+use Rattle.rart_nodes.proofs.shapes.AscendingKeys.{AscendFrom}
 use Rattle.rart_nodes.proofs.shape.are_ascending.Given as goal
 
 abbrev pub invariant-loop-i : goal.invariant-loop-i

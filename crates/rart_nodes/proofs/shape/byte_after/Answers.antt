@@ -1,6 +1,6 @@
 use Rattle.std.proofs.Common.{sym, ◌∙◌, ap}
 use Rattle.std.specs.Prelude.{slice_get}
-use Rattle.rart_nodes.proofs.ShapeRecordLemmas.{after-none, after-some}
+use Rattle.rart_nodes.proofs.shapes.ShapeRecordLemmas.{after-none, after-some}
 use Rattle.rart_nodes.proofs.shape.byte_after.Goals as goal
 
 pub returns-in_err-rest : goal.returns-in_err-rest

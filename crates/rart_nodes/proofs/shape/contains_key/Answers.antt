@@ -1,5 +1,5 @@
 use Rattle.std.proofs.Common.{sym, ◌∙◌}
-use Rattle.rart_nodes.proofs.ShapeRecordLemmas.{contains-here, contains-behind}
+use Rattle.rart_nodes.proofs.shapes.ShapeRecordLemmas.{contains-here, contains-behind}
 use Rattle.rart_nodes.proofs.shape.contains_key.Goals as goal
 
 pub returns-then-eq : goal.returns-then-eq

@@ -1,6 +1,6 @@
 use Rattle.std.proofs.Common.{◌≡◌, drop}
-use Rattle.rart_nodes.specs.Shape.{contains_key}
-use Rattle.rart_nodes.specs.ShapeRecords.{keys_in}
+use Rattle.rart_nodes.specs.shapes.Shape.{contains_key}
+use Rattle.rart_nodes.specs.shapes.ShapeRecords.{keys_in}
 use Rattle.rart_nodes.proofs.shape.contains_key.Given as goal
 
 abbrev pub invariant-loop-key : goal.invariant-loop-key

@@ -1,6 +1,6 @@
 use Rattle.std.proofs.Common.{◌∙◌, ap, length, ◌-◌}
 use Rattle.std.specs.Prelude.{slice_get}
-use Rattle.rart_nodes.proofs.ShapeRecordLemmas.{next-none, next-same, next-other}
+use Rattle.rart_nodes.proofs.shapes.ShapeRecordLemmas.{next-none, next-same, next-other}
 use Rattle.rart_nodes.proofs.shape.next_bytes.Goals as goal
 use Rattle.rart_nodes.proofs.shape.next_bytes.Goals.{then-ne+in-Ok, else-ne}
 

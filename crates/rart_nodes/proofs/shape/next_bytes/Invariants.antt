@@ -1,6 +1,6 @@
 use Rattle.std.proofs.Common.{◌≡◌, take}
-use Rattle.rart_nodes.specs.Shape.{next_bytes}
-use Rattle.rart_nodes.specs.ShapeRecords.{keys_in}
+use Rattle.rart_nodes.specs.shapes.Shape.{next_bytes}
+use Rattle.rart_nodes.specs.shapes.ShapeRecords.{keys_in}
 use Rattle.rart_nodes.proofs.shape.next_bytes.Given as goal
 
 abbrev pub invariant-loop-key : goal.invariant-loop-key

@@ -1,7 +1,7 @@
 use Rattle.std.proofs.Common.{sym, ◌∙◌, ap, arith, length}
-use Rattle.rart_nodes.specs.ShapeRecords.{records_of, node_record}
+use Rattle.rart_nodes.specs.shapes.ShapeRecords.{records_of, node_record}
 use Rattle.rart_keys.specs.SortedMap.{put}
-use Rattle.rart_nodes.proofs.ShapeRecordLemmas.{behind-more, put-before, put-at, put-end}
+use Rattle.rart_nodes.proofs.shapes.ShapeRecordLemmas.{behind-more, put-before, put-at, put-end}
 use Rattle.rart_nodes.proofs.shape.put_record.Goals as goal
 
 pub returns-in-Less-clause-put : goal.returns-in-Less-clause-put

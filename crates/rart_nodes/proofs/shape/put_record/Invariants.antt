@@ -1,5 +1,5 @@
 use Rattle.std.proofs.Common.{◌≡◌}
-use Rattle.rart_nodes.proofs.ShapeRecordLemmas.{GoesBehind}
+use Rattle.rart_nodes.proofs.shapes.ShapeRecordLemmas.{GoesBehind}
 use Rattle.rart_nodes.proofs.shape.put_record.Given as goal
 
 abbrev pub invariant-loop-i : goal.invariant-loop-i

@@ -1,6 +1,6 @@
 use Rattle.std.proofs.Common.{◌∙◌, ap, arith, refl}
-use Rattle.rart_nodes.specs.ShapeRecords.{records_of}
-use Rattle.rart_nodes.proofs.ShapeOfLemmas.{lengths-done, keys-step, covers-whole}
+use Rattle.rart_nodes.specs.shapes.ShapeRecords.{records_of}
+use Rattle.rart_nodes.proofs.shapes.ShapeOfLemmas.{lengths-done, keys-step, covers-whole}
 use Rattle.rart_nodes.proofs.shape.shape_of.Goals as goal
 use Rattle.rart_nodes.proofs.shape.shape_of.Goals.{else-lengths-test, then-lengths-test+in_ok-put_record_at+else-length-length-end}
 

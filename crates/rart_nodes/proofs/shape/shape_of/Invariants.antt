@@ -1,7 +1,7 @@
 use Rattle.std.proofs.Common.{take, ◌||◌}
-use Rattle.rart_nodes.specs.BranchPoints.{begins_any}
-use Rattle.rart_nodes.specs.ShapeRecords.{keys_in, records_of}
-use Rattle.rart_nodes.proofs.ShapeOfLemmas.{Covers, is_short}
+use Rattle.rart_nodes.specs.shapes.BranchPoints.{begins_any}
+use Rattle.rart_nodes.specs.shapes.ShapeRecords.{keys_in, records_of}
+use Rattle.rart_nodes.proofs.shapes.ShapeOfLemmas.{Covers, is_short}
 use Rattle.rart_nodes.proofs.shape.shape_of.Given as goal
 
 abbrev pub invariant-lengths : goal.invariant-lengths

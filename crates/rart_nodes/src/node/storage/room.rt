@@ -1,8 +1,8 @@
 //! Room for one more child: where a storage is full, its children move into the next kind.
 ghost use Rattle.std.specs.Prelude.{◌≡◌, ◌<◌, ◌≤◌, [], length, None, true, false, IfErr, IfOk, OnErr, OnOk};
 ghost use Rattle.rart_parts.specs.Entries.{ascending, child_at};
-ghost use Rattle.rart_nodes.specs.Widths.{widened};
-ghost use Rattle.rart_nodes.specs.Stored.{stored, width_of, room_of};
+ghost use Rattle.rart_nodes.specs.storages.Widths.{widened};
+ghost use Rattle.rart_nodes.specs.storages.Stored.{stored, width_of, room_of};
 
 use crate::node::storage::Storage;
 use rart_parts::TreeError;

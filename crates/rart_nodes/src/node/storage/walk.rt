@@ -2,8 +2,8 @@
 //! the list of those still to come.
 ghost use Rattle.std.specs.Prelude.{◌≡◌, []};
 ghost use Rattle.std.specs.Iterator.{YieldsFirstBy};
-ghost use Rattle.rart_nodes.specs.Stored.{stored};
-ghost use Rattle.rart_nodes.specs.Walks.{to_come};
+ghost use Rattle.rart_nodes.specs.storages.Stored.{stored};
+ghost use Rattle.rart_nodes.specs.walks.Walks.{to_come};
 
 use crate::node::storage::Storage;
 use rart_parts::mapping::direct_mapping::DirectMappingIter;

@@ -1,6 +1,6 @@
 use Rattle.std.proofs.Common.{◌≡◌, append_assoc}
 use Rattle.std.proofs.lemmas.Result.{on_ok_weaker}
-use Rattle.rart_nodes.specs.Statistics.{statistics_in}
+use Rattle.rart_nodes.specs.statistics.Statistics.{statistics_in}
 use Rattle.rart_script.proofs.PrintLemmas.{widths-begin, widths-go_on, widths-end}
 use Rattle.rart_script.proofs.statistics.write_statistics.Goals as goal
 

@@ -1,4 +1,4 @@
-use Rattle.rart_nodes.specs.Statistics.{statistics_in}
+use Rattle.rart_nodes.specs.statistics.Statistics.{statistics_in}
 use Rattle.rart_script.specs.Statistics.{stats_line}
 use Rattle.rart_script.proofs.PrintLemmas.{HasPrinted, further_widths}
 use Rattle.rart_script.proofs.statistics.write_statistics.Given as goal

@@ -1,5 +1,5 @@
-use Rattle.rart_nodes.proofs.StatisticsLemmas.{height-keys, statistics-keys}
-use Rattle.rart_nodes.proofs.WidthSums.{few_widths}
+use Rattle.rart_nodes.proofs.statistics.StatisticsLemmas.{height-keys, statistics-keys}
+use Rattle.rart_nodes.proofs.statistics.WidthSums.{few_widths}
 use Rattle.rart_nodes.proofs.laws.statistics.of_keys.Goals as goal
 
 pub returns : goal.returns

@@ -1,9 +1,9 @@
 use Rattle.std.proofs.Common.{◌∙◌, sym, ap, arith, refl}
 use Rattle.std.specs.Prelude.{max}
-use Rattle.rart_nodes.specs.Stored.{stored, width_of}
-use Rattle.rart_nodes.specs.Trie.{children_in}
-use Rattle.rart_nodes.specs.TrieCode.{as_children, node_count}
-use Rattle.rart_nodes.proofs.CountLemmas.{own-room, few-high, count-start, count-step, count-room, count-end, max-numbers}
+use Rattle.rart_nodes.specs.storages.Stored.{stored, width_of}
+use Rattle.rart_nodes.specs.tries.Trie.{children_in}
+use Rattle.rart_nodes.specs.tries.TrieCode.{as_children, node_count}
+use Rattle.rart_nodes.proofs.statistics.CountLemmas.{own-room, few-high, count-start, count-step, count-room, count-end, max-numbers}
 use Rattle.rart_nodes.proofs.node.DefaultNode.+count_nodes.Goals as goal
 
 pub add_node-requires : goal.add_node-requires

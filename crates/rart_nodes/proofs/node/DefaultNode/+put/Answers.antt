@@ -1,13 +1,13 @@
 use Rattle.std.proofs.Common.{◌≤◌, arith, ap, ◌∙◌, sym, refl, length, ◌≡◌}
-use Rattle.rart_parts.specs.Entries.{child_at, with_child}
-use Rattle.rart_nodes.specs.Widths.{widened}
-use Rattle.rart_nodes.specs.Stored.{stored, width_of}
-use Rattle.rart_nodes.specs.Trie.{node}
-use Rattle.rart_nodes.specs.TrieCode.{as_children, node_count}
-use Rattle.rart_nodes.proofs.ChildLemmas.{canonical-found, count-found}
-use Rattle.rart_nodes.proofs.Descent.{slice_from-is, look_up-short, look_up-here, put-here}
-use Rattle.rart_nodes.proofs.InsertLemmas.{on_err, insert-child, insert-leaf, insert-refused, look_up-child, look_up-no_child, record-child, record-no_child, rest-within}
-use Rattle.rart_nodes.proofs.PutAskLemmas.{asks-short, asks-child, asks-full}
+use Rattle.rart_parts.specs.Entries.{child_at, with_entry}
+use Rattle.rart_nodes.specs.storages.Widths.{widened}
+use Rattle.rart_nodes.specs.storages.Stored.{stored, width_of}
+use Rattle.rart_nodes.specs.tries.Trie.{node}
+use Rattle.rart_nodes.specs.tries.TrieCode.{as_children, node_count}
+use Rattle.rart_nodes.proofs.storages.ChildLemmas.{canonical-found, count-found}
+use Rattle.rart_nodes.proofs.edits.Descent.{slice_from-is, trie_lookup-short, trie_lookup-here, put-here}
+use Rattle.rart_nodes.proofs.edits.InsertLemmas.{on_err, insert-child, insert-leaf, insert-refused, trie_lookup-child, trie_lookup-no_child, record-child, record-no_child, rest-within}
+use Rattle.rart_nodes.proofs.edits.PutAskLemmas.{asks-short, asks-child, asks-full}
 use Rattle.rart_nodes.proofs.node.DefaultNode.+put.Goals as goal
 
 pub returns-in_err-split-clause-asks : goal.returns-in_err-split-clause-asks
@@ -15,12 +15,12 @@ returns-in_err-split-clause-asks g t c =
     let short = rw c.len.ensures at c.if-shared-len.true in
     on_err c.from_residual.result (rw (← c.self.view_is) (
       asks-short _ c.args.key.now c.self.inside.value (width_of c.self.inside.storage) _ _ c.prefix_length_slice-shared.ensures.value short,
-      look_up-short _ c.args.key.now _ (width_of c.self.inside.storage) _ _ c.prefix_length_slice-shared.ensures.value short,
+      trie_lookup-short _ c.args.key.now _ (width_of c.self.inside.storage) _ _ c.prefix_length_slice-shared.ensures.value short,
     ))
 
 pub returns-then-shared-len-clause-answer : goal.returns-then-shared-len-clause-answer
 returns-then-shared-len-clause-answer g t c = rw (← c.self.view_is)
-    (sym (look_up-short _ c.args.key.now _ (width_of c.self.inside.storage) _ _ c.prefix_length_slice-shared.ensures.value (rw c.len.ensures at c.if-shared-len.true)))
+    (sym (trie_lookup-short _ c.args.key.now _ (width_of c.self.inside.storage) _ _ c.prefix_length_slice-shared.ensures.value (rw c.len.ensures at c.if-shared-len.true)))
 
 pub returns-then-key-shared-clause-ok : goal.returns-then-key-shared-clause-ok
 returns-then-key-shared-clause-ok g t c = rw (← c.self.view_is, c.replace.ensures.after)
@@ -28,7 +28,7 @@ returns-then-key-shared-clause-ok g t c = rw (← c.self.view_is, c.replace.ensu
 
 pub returns-then-key-shared-clause-answer : goal.returns-then-key-shared-clause-answer
 returns-then-key-shared-clause-answer g t c = rw (← c.self.view_is) (c.replace.ensures.value
-    ∙ sym (look_up-here _ c.args.key.now _ (width_of c.self.inside.storage) _ _ c.prefix_length_slice-shared.ensures.value (rw c.len.ensures at c.if-shared-len.false) c.if-key-shared.true))
+    ∙ sym (trie_lookup-here _ c.args.key.now _ (width_of c.self.inside.storage) _ _ c.prefix_length_slice-shared.ensures.value (rw c.len.ensures at c.if-shared-len.false) c.if-key-shared.true))
 
 pub put-requires : goal.put-requires
 put-requires g t c κs within =
@@ -54,7 +54,7 @@ returns-in-Ok-clause-ok g t c =
     (slice_from-is c.args.key.now c.prefix_length_slice-shared.result) refl c.in-Some.ensures.value c.in-Ok.ensures.ok left.0 left.1)
 
 pub returns-in-Ok-clause-answer : goal.returns-in-Ok-clause-answer
-returns-in-Ok-clause-answer g t c = rw (← c.self.view_is) (c.in-Ok.ensures.answer ∙ sym (look_up-child _ c.args.key.now _ _ _ _ c.prefix_length_slice-shared.result c.in-Some.child.now (stored c.self.inside.storage)
+returns-in-Ok-clause-answer g t c = rw (← c.self.view_is) (c.in-Ok.ensures.answer ∙ sym (trie_lookup-child _ c.args.key.now _ _ _ _ c.prefix_length_slice-shared.result c.in-Some.child.now (stored c.self.inside.storage)
     (rw (← c.self.view_is) at c.requires.canonical) c.prefix_length_slice-shared.ensures.value (rw c.len.ensures at c.if-shared-len.false) c.if-key-shared.false
     (slice_from-is c.args.key.now c.prefix_length_slice-shared.result) refl c.in-Some.ensures.value))
 
@@ -84,7 +84,7 @@ returns-in-Ok-make_room-clause-ok g t c =
     (rw (c.add_within.ensures.stored, c.in-Ok-make_room.ensures.stored, left.1, c.new_leaf-leaf.ensures.leaf, c.from_slice.ensures) refl))
 
 pub returns-in-Ok-make_room-clause-answer : goal.returns-in-Ok-make_room-clause-answer
-returns-in-Ok-make_room-clause-answer g t c = rw (← c.self.view_is) (sym (look_up-no_child _ c.args.key.now _ _ (width_of c.self.inside.storage) _ c.prefix_length_slice-shared.result (stored c.self.inside.storage)
+returns-in-Ok-make_room-clause-answer g t c = rw (← c.self.view_is) (sym (trie_lookup-no_child _ c.args.key.now _ _ (width_of c.self.inside.storage) _ c.prefix_length_slice-shared.result (stored c.self.inside.storage)
     c.prefix_length_slice-shared.ensures.value (rw c.len.ensures at c.if-shared-len.false) c.if-key-shared.false
     (slice_from-is c.args.key.now c.prefix_length_slice-shared.result) refl c.in-None.ensures.value))
 

@@ -1,30 +1,30 @@
 use Rattle.std.proofs.Common.{arith, ap, ◌∙◌, sym, refl, length, drop, ◌≡◌, ◌≢◌, Some, None, Option}
 use Rattle.rart_parts.specs.Entries.{child_at, replaced}
-use Rattle.rart_nodes.specs.CanonicalTest.{longest_key}
-use Rattle.rart_nodes.specs.Deletion.{joined_if_lone, without_child}
-use Rattle.rart_nodes.specs.Stored.{stored, width_of}
-use Rattle.rart_nodes.specs.Trie.{node, pairs_of, edges_of, children_in, value_of}
-use Rattle.rart_nodes.specs.TrieCode.{as_children, node_count}
-use Rattle.rart_nodes.proofs.ChildLemmas.{canonical-found, count-found, some-equal}
-use Rattle.rart_nodes.proofs.Descent.{slice_from-is, look_up-short, look_up-here}
-use Rattle.rart_nodes.proofs.EditRunLemmas.{remove-absent}
-use Rattle.rart_nodes.proofs.InsertLemmas as insertion
-use Rattle.rart_nodes.proofs.InsertLemmas.{fewer-within, insert-refused, replaced-same, look_up-child, look_up-no_child}
-use Rattle.rart_nodes.proofs.JoinLemmas.{some-there}
-use Rattle.rart_nodes.proofs.Outcomes.{on_ok, on_err, if_ok}
-use Rattle.rart_nodes.proofs.RemoveSteps.{removed-here, removed-child, removed-leaf, leaf-gone, leaf-edges, leaf-value, leaf-some, same-node, joins-canonical, entry-short, asks-child, asks-leaf}
-use Rattle.rart_nodes.proofs.SeenLemmas.{child_of-entries}
+use Rattle.rart_keys.specs.SortedMap.{longest_key}
+use Rattle.rart_nodes.specs.edits.Deletion.{joined_if_lone, without_child}
+use Rattle.rart_nodes.specs.storages.Stored.{stored, width_of}
+use Rattle.rart_nodes.specs.tries.Trie.{node, pairs_of, edges_of, children_in, value_of}
+use Rattle.rart_nodes.specs.tries.TrieCode.{as_children, node_count}
+use Rattle.rart_nodes.proofs.storages.ChildLemmas.{canonical-found, count-found, some-equal}
+use Rattle.rart_nodes.proofs.edits.Descent.{slice_from-is, trie_lookup-short, trie_lookup-here}
+use Rattle.rart_nodes.proofs.edits.EditRunLemmas.{remove-absent}
+use Rattle.rart_nodes.proofs.edits.InsertLemmas as insertion
+use Rattle.rart_nodes.proofs.edits.InsertLemmas.{fewer-within, insert-refused, replaced-same, trie_lookup-child, trie_lookup-no_child}
+use Rattle.rart_nodes.proofs.edits.JoinLemmas.{some-there}
+use Rattle.rart_nodes.proofs.edits.Outcomes.{on_ok, on_err, if_ok}
+use Rattle.rart_nodes.proofs.edits.RemoveSteps.{removed-here, removed-child, removed-leaf, leaf-gone, leaf-edges, leaf-value, leaf-some, same-node, joins-canonical, entry-short, asks-child, asks-leaf}
+use Rattle.rart_nodes.proofs.walks.SeenLemmas.{child_of-entries}
 use Rattle.rart_nodes.proofs.node.DefaultNode.+remove_below.Goals as goal
 
 -- the key leaves the prefix
 pub returns-then-shared-len-clause-ok : goal.returns-then-shared-len-clause-ok
 returns-then-shared-len-clause-ok g t c =
-    let none = look_up-short _ c.args.key.now _ (width_of c.self.inside.storage) _ _ c.prefix_length_slice-shared.ensures.value (rw c.len.ensures at c.if-shared-len.true) in
+    let none = trie_lookup-short _ c.args.key.now _ (width_of c.self.inside.storage) _ _ c.prefix_length_slice-shared.ensures.value (rw c.len.ensures at c.if-shared-len.true) in
     sym (remove-absent c.args.key.now c.args.self.now c.requires.canonical (rw (← c.self.view_is) none))
 
 pub returns-then-shared-len-clause-answer : goal.returns-then-shared-len-clause-answer
 returns-then-shared-len-clause-answer g t c = rw (← c.self.view_is)
-    (sym (look_up-short _ c.args.key.now _ (width_of c.self.inside.storage) _ _ c.prefix_length_slice-shared.ensures.value (rw c.len.ensures at c.if-shared-len.true)))
+    (sym (trie_lookup-short _ c.args.key.now _ (width_of c.self.inside.storage) _ _ c.prefix_length_slice-shared.ensures.value (rw c.len.ensures at c.if-shared-len.true)))
 
 -- it ends here
 pub join_lone_child-requires-clause-within : goal.join_lone_child-requires-clause-within
@@ -36,7 +36,7 @@ returns-then-key-shared-clause-ok g t c = ap Some (c.join_lone_child.ensures ∙
 
 pub returns-then-key-shared-clause-answer : goal.returns-then-key-shared-clause-answer
 returns-then-key-shared-clause-answer g t c = rw (← c.self.view_is) (c.take-value.ensures.value
-    ∙ sym (look_up-here _ c.args.key.now _ (width_of c.self.inside.storage) _ _ c.prefix_length_slice-shared.ensures.value (rw c.len.ensures at c.if-shared-len.false) c.if-key-shared.true))
+    ∙ sym (trie_lookup-here _ c.args.key.now _ (width_of c.self.inside.storage) _ _ c.prefix_length_slice-shared.ensures.value (rw c.len.ensures at c.if-shared-len.false) c.if-key-shared.true))
 
 -- it goes on in a child that stays
 pub remove_below-requires : goal.remove_below-requires
@@ -66,7 +66,7 @@ returns-then-not-is_leaf_at-clause-ok g t c =
     (slice_from-is c.args.key.now c.prefix_length_slice-shared.result) refl c.in-Some.ensures.value r left.0 left.1)) c.remove_below.ensures.ok
 
 pub returns-then-not-is_leaf_at-clause-answer : goal.returns-then-not-is_leaf_at-clause-answer
-returns-then-not-is_leaf_at-clause-answer g t c = if_ok c.remove_below.result (λ x e. rw (← c.self.view_is) (e ∙ sym (look_up-child _ c.args.key.now _ _ (width_of c.self.inside.storage) _ c.prefix_length_slice-shared.result c.in-Some.child.now (stored c.self.inside.storage)
+returns-then-not-is_leaf_at-clause-answer g t c = if_ok c.remove_below.result (λ x e. rw (← c.self.view_is) (e ∙ sym (trie_lookup-child _ c.args.key.now _ _ (width_of c.self.inside.storage) _ c.prefix_length_slice-shared.result c.in-Some.child.now (stored c.self.inside.storage)
     (rw (← c.self.view_is) at c.requires.canonical) c.prefix_length_slice-shared.ensures.value (rw c.len.ensures at c.if-shared-len.false) c.if-key-shared.false
     (slice_from-is c.args.key.now c.prefix_length_slice-shared.result) refl c.in-Some.ensures.value))) c.remove_below.ensures.answer
 
@@ -82,7 +82,7 @@ returns-then-not-is_leaf_at-clause-asks g t c =
     on_err c.remove_below.result (λ a. rw (← c.self.view_is) (
       asks-child _ c.args.key.now _ _ (width_of c.self.inside.storage) _ c.prefix_length_slice-shared.result c.in-Some.child.now (stored c.self.inside.storage) canonical c.prefix_length_slice-shared.ensures.value full c.if-key-shared.false
           (slice_from-is c.args.key.now c.prefix_length_slice-shared.result) refl c.in-Some.ensures.value (sym c.is_leaf_at.ensures ∙ c.if-not-is_leaf_at.true) a.0,
-      λ z. a.1 (sym (look_up-child _ c.args.key.now _ _ (width_of c.self.inside.storage) _ c.prefix_length_slice-shared.result c.in-Some.child.now (stored c.self.inside.storage)
+      λ z. a.1 (sym (trie_lookup-child _ c.args.key.now _ _ (width_of c.self.inside.storage) _ c.prefix_length_slice-shared.result c.in-Some.child.now (stored c.self.inside.storage)
           canonical c.prefix_length_slice-shared.ensures.value full c.if-key-shared.false (slice_from-is c.args.key.now c.prefix_length_slice-shared.result) refl c.in-Some.ensures.value) ∙ z),
     )) c.remove_below.ensures.asks
 
@@ -90,13 +90,13 @@ returns-then-not-is_leaf_at-clause-asks g t c =
 pub returns-in-None-clause-ok : goal.returns-in-None-clause-ok
 returns-in-None-clause-ok g t c =
     let left = c.seek_child_mut.follows.holds-at-none in
-    let none = look_up-no_child _ c.args.key.now _ _ (width_of c.self.inside.storage) _ c.prefix_length_slice-shared.result (stored c.self.inside.storage)
+    let none = trie_lookup-no_child _ c.args.key.now _ _ (width_of c.self.inside.storage) _ c.prefix_length_slice-shared.result (stored c.self.inside.storage)
     c.prefix_length_slice-shared.ensures.value (rw c.len.ensures at c.if-shared-len.false) c.if-key-shared.false
     (slice_from-is c.args.key.now c.prefix_length_slice-shared.result) refl c.in-None.ensures.value in
     ap Some (same-node _ _ _ _ (stored c.self.inside.storage) _ left.0 left.1 ∙ c.self.view_is) ∙ sym (remove-absent c.args.key.now c.args.self.now c.requires.canonical (rw (← c.self.view_is) none))
 
 pub returns-in-None-clause-answer : goal.returns-in-None-clause-answer
-returns-in-None-clause-answer g t c = rw (← c.self.view_is) (sym (look_up-no_child _ c.args.key.now _ _ (width_of c.self.inside.storage) _ c.prefix_length_slice-shared.result (stored c.self.inside.storage)
+returns-in-None-clause-answer g t c = rw (← c.self.view_is) (sym (trie_lookup-no_child _ c.args.key.now _ _ (width_of c.self.inside.storage) _ c.prefix_length_slice-shared.result (stored c.self.inside.storage)
     c.prefix_length_slice-shared.ensures.value (rw c.len.ensures at c.if-shared-len.false) c.if-key-shared.false
     (slice_from-is c.args.key.now c.prefix_length_slice-shared.result) refl c.in-None.ensures.value))
 
@@ -123,7 +123,7 @@ returns-in_err-child-clause-asks g t c =
       asks-leaf _ c.args.key.now _ _ (width_of c.self.inside.storage) _ _ c.prefix_length_slice-shared.result c.in-Some.child.now (stored c.self.inside.storage) _ canonical c.prefix_length_slice-shared.ensures.value full c.if-key-shared.false
           (slice_from-is c.args.key.now c.prefix_length_slice-shared.result) refl c.in-Some.ensures.value goes left.0 same c.in_err-child.ensures.asks.1 c.in_err-child.ensures.asks.2,
       λ z. leaf-some _ c.in-Some.child.now (canonical-found _ 0 c.in-Some.child.now (stored c.self.inside.storage) canonical.2 c.in-Some.ensures.value) goes
-          (sym (leaf-value _ c.in-Some.child.now goes) ∙ sym (look_up-child _ c.args.key.now _ _ (width_of c.self.inside.storage) _ c.prefix_length_slice-shared.result c.in-Some.child.now (stored c.self.inside.storage)
+          (sym (leaf-value _ c.in-Some.child.now goes) ∙ sym (trie_lookup-child _ c.args.key.now _ _ (width_of c.self.inside.storage) _ c.prefix_length_slice-shared.result c.in-Some.child.now (stored c.self.inside.storage)
           canonical c.prefix_length_slice-shared.ensures.value full c.if-key-shared.false (slice_from-is c.args.key.now c.prefix_length_slice-shared.result) refl c.in-Some.ensures.value) ∙ z),
     ))
 
@@ -156,6 +156,6 @@ returns-clause-answer g t c =
     let same = left.1 ∙ replaced-same _ c.in-Some.child.now (stored c.self.inside.storage) c.in-Some.ensures.value in
     let goes = sym c.is_leaf_at.ensures ∙ c.if-not-is_leaf_at.false in
     let child = some-equal c.in-Some-2.child c.in-Some.child.now (sym c.in-Some-2.is ∙ c.in_ok-child.ensures.taken ∙ child_of-entries _ (stored (c.seek_child_mut.follows.lender c.in-Some.child.now)) ∙ ap (child_at _) same ∙ sym c.in-Some.ensures.value) in
-    c.into_value.ensures ∙ ap value_of child ∙ rw (← c.self.view_is) (sym (leaf-value _ c.in-Some.child.now goes) ∙ sym (look_up-child _ c.args.key.now _ _ (width_of c.self.inside.storage) _ c.prefix_length_slice-shared.result c.in-Some.child.now (stored c.self.inside.storage)
+    c.into_value.ensures ∙ ap value_of child ∙ rw (← c.self.view_is) (sym (leaf-value _ c.in-Some.child.now goes) ∙ sym (trie_lookup-child _ c.args.key.now _ _ (width_of c.self.inside.storage) _ c.prefix_length_slice-shared.result c.in-Some.child.now (stored c.self.inside.storage)
     (rw (← c.self.view_is) at c.requires.canonical) c.prefix_length_slice-shared.ensures.value (rw c.len.ensures at c.if-shared-len.false) c.if-key-shared.false
     (slice_from-is c.args.key.now c.prefix_length_slice-shared.result) refl c.in-Some.ensures.value))

@@ -1,6 +1,6 @@
-use Rattle.rart_nodes.proofs.NodeCounts.{few_nodes}
-use Rattle.rart_nodes.proofs.PairLemmas.{pairs_of-ascend}
-use Rattle.rart_nodes.proofs.ShapeLemmas.{nodes_of-shape}
+use Rattle.rart_nodes.proofs.tries.NodeCounts.{few_nodes}
+use Rattle.rart_nodes.proofs.tries.PairLemmas.{pairs_of-ascend}
+use Rattle.rart_nodes.proofs.shapes.ShapeLemmas.{nodes_of-shape}
 use Rattle.rart_nodes.proofs.node.DefaultNode.canonical.Goals as goal
 
 pub returns : goal.returns

@@ -1,6 +1,6 @@
-use Rattle.rart_nodes.specs.Deletion.{JoinsWithin}
-use Rattle.rart_nodes.specs.Trie.{children_in, prefix_of}
-use Rattle.rart_nodes.specs.TrieCode.{as_children}
+use Rattle.rart_nodes.specs.edits.Deletion.{JoinsWithin}
+use Rattle.rart_nodes.specs.tries.Trie.{children_in, prefix_of}
+use Rattle.rart_nodes.specs.tries.TrieCode.{as_children}
 use Rattle.rart_nodes.proofs.node.DefaultNode.children_fit.Given as goal
 
 -- all children fit exactly if those that are left do

@@ -1,15 +1,14 @@
 use Rattle.std.proofs.Common.{◌≡◌, ◌+◌, ◌≤◌, length, max, arith, sym, ap, ◌∙◌}
-use Rattle.rart_keys.specs.SortedMap.{count_of, put}
+use Rattle.rart_keys.specs.SortedMap.{count_of, put, longest_key}
 use Rattle.rart_keys.proofs.SortedMaps.{length-put}
-use Rattle.rart_nodes.specs.CanonicalTest.{longest_key}
-use Rattle.rart_nodes.specs.Trie.{IsCanonical, pairs_of}
-use Rattle.rart_nodes.proofs.CanonicalTests.{longest_key-put}
-use Rattle.rart_nodes.proofs.InsertAskLemmas.{asks-insert}
-use Rattle.rart_nodes.proofs.Outcomes.{on_ok, on_err, if_ok, if_ok_on}
-use Rattle.rart_nodes.proofs.PairLemmas.{pairs_of-ascend, lookup-pairs_of}
-use Rattle.rart_nodes.proofs.PutLemmas.{canonical-put, pairs_of-put}
-use Rattle.rart_nodes.proofs.NodeCounts.{some-pairs}
-use Rattle.rart_nodes.proofs.ShapeLemmas.{record_is, new-key}
+use Rattle.rart_nodes.specs.tries.Trie.{IsCanonical, pairs_of}
+use Rattle.rart_nodes.proofs.tries.CanonicalTests.{longest_key-put}
+use Rattle.rart_nodes.proofs.edits.InsertAskLemmas.{asks-insert}
+use Rattle.rart_nodes.proofs.edits.Outcomes.{on_ok, on_err, if_ok, if_ok_on}
+use Rattle.rart_nodes.proofs.tries.PairLemmas.{pairs_of-ascend, lookup-pairs_of}
+use Rattle.rart_nodes.proofs.edits.PutLemmas.{canonical-put, pairs_of-put}
+use Rattle.rart_nodes.proofs.tries.NodeCounts.{some-pairs}
+use Rattle.rart_nodes.proofs.shapes.ShapeLemmas.{record_is, new-key}
 use Rattle.rart_nodes.proofs.node.DefaultNode.insert.Goals as goal
 
 pub returns : goal.returns

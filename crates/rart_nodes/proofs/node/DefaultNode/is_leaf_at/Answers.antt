@@ -1,6 +1,6 @@
 use Rattle.std.proofs.Common.{◌∙◌, sym, ap, arith}
-use Rattle.rart_nodes.specs.Stored.{stored, width_of}
-use Rattle.rart_nodes.proofs.RemoveSteps.{leaf_at-inner, leaf_at-full, leaf_at-part}
+use Rattle.rart_nodes.specs.storages.Stored.{stored, width_of}
+use Rattle.rart_nodes.proofs.edits.RemoveSteps.{leaf_at-inner, leaf_at-full, leaf_at-part}
 use Rattle.rart_nodes.proofs.node.DefaultNode.is_leaf_at.Goals as goal
 
 pub returns-then-num_children-gt0 : goal.returns-then-num_children-gt0

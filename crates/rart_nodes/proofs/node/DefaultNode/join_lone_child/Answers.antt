@@ -1,10 +1,10 @@
 use Rattle.std.proofs.Common.{◌≡◌, ◌≢◌, ◌+◌, ◌∙◌, sym, ap, refl, length}
 use Rattle.rart_keys.specs.KeyBytes.{IsWithin}
-use Rattle.rart_nodes.specs.Deletion.{JoinsWithin}
-use Rattle.rart_nodes.specs.Trie.{prefix_of}
-use Rattle.rart_nodes.specs.TrieCode.{as_children}
-use Rattle.rart_nodes.specs.Stored.{stored, width_of}
-use Rattle.rart_nodes.proofs.JoinLemmas.{lone-valued, lone-many, lone-yes, joined-not, joins-only, none-valued}
+use Rattle.rart_nodes.specs.edits.Deletion.{JoinsWithin}
+use Rattle.rart_nodes.specs.tries.Trie.{prefix_of}
+use Rattle.rart_nodes.specs.tries.TrieCode.{as_children}
+use Rattle.rart_nodes.specs.storages.Stored.{stored, width_of}
+use Rattle.rart_nodes.proofs.edits.JoinLemmas.{lone-valued, lone-many, lone-yes, joined-not, joins-only, none-valued}
 use Rattle.rart_nodes.proofs.node.DefaultNode.join_lone_child.Goals as goal
 use Rattle.rart_nodes.proofs.node.DefaultNode.join_lone_child.Goals.{then-is_some-via-then-is_some, then-is_some-via-else-is_some+then-num_children-ne1}
 

@@ -1,4 +1,4 @@
-use Rattle.rart_nodes.proofs.InsertLemmas.{leaf-is, leaf-canonical, leaf-pairs}
+use Rattle.rart_nodes.proofs.edits.InsertLemmas.{leaf-is, leaf-canonical, leaf-pairs}
 use Rattle.rart_nodes.proofs.node.DefaultNode.new_leaf.Goals as goal
 
 pub returns : goal.returns

@@ -1,10 +1,9 @@
 use Rattle.std.proofs.Common.{◌+◌, ◌≤◌, ◌≡◌, length, arith, sym, ap, ◌∙◌, Some}
-use Rattle.rart_keys.specs.SortedMap.{count_of}
-use Rattle.rart_nodes.specs.CanonicalTest.{longest_key}
-use Rattle.rart_nodes.specs.Tree.{tree_pairs}
-use Rattle.rart_nodes.proofs.Outcomes.{on_ok, on_err, if_ok, if_ok_on}
-use Rattle.rart_nodes.proofs.RemovedPairs.{length-without_key, longest_key-without, tree_canonical-removed, tree_pairs-removed, tree_pairs-ascend}
-use Rattle.rart_nodes.proofs.SeenLemmas.{tree_look_up-lookup}
+use Rattle.rart_keys.specs.SortedMap.{count_of, longest_key}
+use Rattle.rart_nodes.specs.tries.Tree.{tree_pairs}
+use Rattle.rart_nodes.proofs.edits.Outcomes.{on_ok, on_err, if_ok, if_ok_on}
+use Rattle.rart_nodes.proofs.edits.RemovedPairs.{length-without_key, longest_key-without, tree_canonical-removed, tree_pairs-removed, tree_pairs-ascend}
+use Rattle.rart_nodes.proofs.walks.SeenLemmas.{tree_lookup-lookup}
 use Rattle.rart_nodes.proofs.node.DefaultNode.remove.Goals as goal
 
 pub returns : goal.returns
@@ -13,7 +12,7 @@ returns g c =
     let old = c.args.root.now in
     let canonical = c.requires.canonical in
     let pairs = tree_pairs-removed key old canonical in
-    let answer = tree_look_up-lookup key old canonical in
+    let answer = tree_lookup-lookup key old canonical in
     record {
       canonical = on_ok c.take_from.result (λ e. rw e (tree_canonical-removed key old canonical)) c.take_from.ensures.ok;
       pairs = on_ok c.take_from.result (λ e. ap tree_pairs e ∙ pairs) c.take_from.ensures.ok;

@@ -1,8 +1,8 @@
 use Rattle.std.proofs.Common.{ap, ◌∙◌, refl, sym}
-use Rattle.rart_nodes.specs.Stored.{stored, width_of}
-use Rattle.rart_nodes.proofs.ChildLemmas.{child_at-beside}
-use Rattle.rart_nodes.proofs.Descent.{first, first-differ, slice_from-is}
-use Rattle.rart_nodes.proofs.InsertLemmas.{cut-lower, cut-fork}
+use Rattle.rart_nodes.specs.storages.Stored.{stored, width_of}
+use Rattle.rart_nodes.proofs.storages.ChildLemmas.{child_at-beside}
+use Rattle.rart_nodes.proofs.edits.Descent.{first, first-differ, slice_from-is}
+use Rattle.rart_nodes.proofs.edits.InsertLemmas.{cut-lower, cut-fork}
 use Rattle.rart_nodes.proofs.node.DefaultNode.split.Goals as goal
 
 pub returns-then-key-shared-clause-ok : goal.returns-then-key-shared-clause-ok

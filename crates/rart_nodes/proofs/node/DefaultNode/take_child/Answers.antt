@@ -1,11 +1,11 @@
 use Rattle.std.proofs.Common.{◌≡◌, ◌≢◌, ◌∙◌, sym, ap, refl, None, length, is_some, if◌then◌else◌}
 use Rattle.rart_parts.specs.Entries.{child_at}
-use Rattle.rart_nodes.specs.Stored.{stored, width_of}
-use Rattle.rart_nodes.specs.Widths.{narrowed}
-use Rattle.rart_nodes.proofs.ChildLemmas.{edges_of-length}
-use Rattle.rart_nodes.proofs.InsertLemmas.{on_err}
-use Rattle.rart_nodes.proofs.JoinLemmas.{joins-without, some-there, without-none, without-joined, without-wide}
-use Rattle.rart_nodes.proofs.SeenLemmas.{child_of-entries}
+use Rattle.rart_nodes.specs.storages.Stored.{stored, width_of}
+use Rattle.rart_nodes.specs.storages.Widths.{narrowed}
+use Rattle.rart_nodes.proofs.storages.ChildLemmas.{edges_of-length}
+use Rattle.rart_nodes.proofs.edits.InsertLemmas.{on_err}
+use Rattle.rart_nodes.proofs.edits.JoinLemmas.{joins-without, some-there, without-none, without-joined, without-wide}
+use Rattle.rart_nodes.proofs.walks.SeenLemmas.{child_of-entries}
 use Rattle.rart_nodes.proofs.node.DefaultNode.take_child.Goals as goal
 use Rattle.rart_nodes.proofs.node.DefaultNode.take_child.Goals.{then-narrow, else-narrow}
 

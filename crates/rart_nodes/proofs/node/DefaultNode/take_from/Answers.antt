@@ -1,6 +1,6 @@
 use Rattle.std.proofs.Common.{◌∙◌, sym}
-use Rattle.rart_nodes.proofs.Outcomes.{on_err}
-use Rattle.rart_nodes.proofs.RemoveAskLemmas.{asks-remove}
+use Rattle.rart_nodes.proofs.edits.Outcomes.{on_err}
+use Rattle.rart_nodes.proofs.edits.RemoveAskLemmas.{asks-remove}
 use Rattle.rart_nodes.proofs.node.DefaultNode.take_from.Goals as goal
 
 pub returns-then-not-is_leaf_at-clause-asks : goal.returns-then-not-is_leaf_at-clause-asks

@@ -1,7 +1,7 @@
 use Rattle.std.proofs.Common.{◌∙◌, ap, arith}
-use Rattle.rart_nodes.specs.CountedNodes.{counts_added, counts_in, counts_sum}
-use Rattle.rart_nodes.proofs.CountedStatistics.{counted-statistics, few-for-keys, sums-for-keys, inner-keys}
-use Rattle.rart_nodes.proofs.Outcomes.{if_ok, on_err}
+use Rattle.rart_nodes.specs.statistics.CountedNodes.{counts_added, counts_in, counts_sum}
+use Rattle.rart_nodes.proofs.statistics.CountedStatistics.{counted-statistics, few-for-keys, sums-for-keys, inner-keys}
+use Rattle.rart_nodes.proofs.edits.Outcomes.{if_ok, on_err}
 use Rattle.rart_nodes.proofs.node.DefaultNode.tree_stats.Goals as goal
 
 pub count_nodes-height-requires : goal.count_nodes-height-requires

@@ -1,10 +1,10 @@
 use Rattle.std.proofs.Common.{arith, ap, ◌∙◌, sym, refl}
-use Rattle.rart_nodes.specs.Stored.{stored, width_of}
-use Rattle.rart_nodes.specs.TrieCode.{node_count}
-use Rattle.rart_nodes.proofs.ChildLemmas.{canonical-found, count-found}
-use Rattle.rart_nodes.proofs.Descent.{slice_from-is, look_up-short, look_up-here, put-here}
-use Rattle.rart_nodes.proofs.InsertLemmas.{insert-child, insert-refused, look_up-child, look_up-no_child}
-use Rattle.rart_nodes.proofs.Outcomes.{on_some, on_none}
+use Rattle.rart_nodes.specs.storages.Stored.{stored, width_of}
+use Rattle.rart_nodes.specs.tries.TrieCode.{node_count}
+use Rattle.rart_nodes.proofs.storages.ChildLemmas.{canonical-found, count-found}
+use Rattle.rart_nodes.proofs.edits.Descent.{slice_from-is, trie_lookup-short, trie_lookup-here, put-here}
+use Rattle.rart_nodes.proofs.edits.InsertLemmas.{insert-child, insert-refused, trie_lookup-child, trie_lookup-no_child}
+use Rattle.rart_nodes.proofs.edits.Outcomes.{on_some, on_none}
 use Rattle.rart_nodes.proofs.node.lend.lend_by.Goals as goal
 
 pub returns-then-shared-len : goal.returns-then-shared-len
@@ -12,7 +12,7 @@ returns-then-shared-len g c = (
   (refl, λ w. (tt, c.node.view_is), c.node.view_is),
   record {
     writes_back = tt;
-    value = rw (← c.node.view_is) (sym (look_up-short _ c.args.key.now _ (width_of c.node.inside.storage) _ _ c.prefix_length_slice-shared.ensures.value (rw c.len.ensures at c.if-shared-len.true)));
+    value = rw (← c.node.view_is) (sym (trie_lookup-short _ c.args.key.now _ (width_of c.node.inside.storage) _ _ c.prefix_length_slice-shared.ensures.value (rw c.len.ensures at c.if-shared-len.true)));
   },
 )
 
@@ -26,7 +26,7 @@ returns-in-Some g c =
       ),
       record {
         writes_back = tt;
-        value = rw (← c.node.view_is, c.in-Some.is) (sym (look_up-here _ c.args.key.now _ (width_of c.node.inside.storage) _ _ c.prefix_length_slice-shared.ensures.value full c.if-key-shared.true));
+        value = rw (← c.node.view_is, c.in-Some.is) (sym (trie_lookup-here _ c.args.key.now _ (width_of c.node.inside.storage) _ _ c.prefix_length_slice-shared.ensures.value full c.if-key-shared.true));
       },
     )
 
@@ -35,7 +35,7 @@ returns-in-None g c = (
   (refl, λ w. (tt, refl), c.node.view_is),
   record {
     writes_back = tt;
-    value = rw (← c.node.view_is, c.in-None.is) (sym (look_up-here _ c.args.key.now _ (width_of c.node.inside.storage) _ _ c.prefix_length_slice-shared.ensures.value (rw c.len.ensures at c.if-shared-len.false) c.if-key-shared.true));
+    value = rw (← c.node.view_is, c.in-None.is) (sym (trie_lookup-here _ c.args.key.now _ (width_of c.node.inside.storage) _ _ c.prefix_length_slice-shared.ensures.value (rw c.len.ensures at c.if-shared-len.false) c.if-key-shared.true));
   },
 )
 
@@ -68,7 +68,7 @@ returns-in-Some-seek_child_mut g c =
       record {
         writes_back = tt;
         value = rw (← c.node.view_is) (c.lend.ensures.value ∙ c.requires.found c.in-Some-seek_child_mut.child.now _
-            ∙ sym (look_up-child _ c.args.key.now _ _ _ _ c.prefix_length_slice-shared.result c.in-Some-seek_child_mut.child.now (stored c.node.inside.storage) canonical c.prefix_length_slice-shared.ensures.value full c.if-key-shared.false rest refl found));
+            ∙ sym (trie_lookup-child _ c.args.key.now _ _ _ _ c.prefix_length_slice-shared.result c.in-Some-seek_child_mut.child.now (stored c.node.inside.storage) canonical c.prefix_length_slice-shared.ensures.value full c.if-key-shared.false rest refl found));
       },
     )
 
@@ -78,7 +78,7 @@ returns-in-None-seek_child_mut g c =
       (refl, λ w. (tt, refl), rw (left.0, left.1) c.node.view_is),
       record {
         writes_back = tt;
-        value = rw (← c.node.view_is) (sym (look_up-no_child _ c.args.key.now _ _ (width_of c.node.inside.storage) _ c.prefix_length_slice-shared.result (stored c.node.inside.storage)
+        value = rw (← c.node.view_is) (sym (trie_lookup-no_child _ c.args.key.now _ _ (width_of c.node.inside.storage) _ c.prefix_length_slice-shared.result (stored c.node.inside.storage)
             c.prefix_length_slice-shared.ensures.value (rw c.len.ensures at c.if-shared-len.false) c.if-key-shared.false
             (slice_from-is c.args.key.now c.prefix_length_slice-shared.result) refl c.in-None-seek_child_mut.ensures.value));
       },

@@ -16,7 +16,7 @@ use denote.Hole.Carrier.{listed}
 use denote.Hole.Fix.{over}
 use denote.Param.Weighed.{Weighed, w_list, w_pair, w_const}
 use denote.Model.Placed.{held, view_places_where}
-use Rattle.rart_parts.specs.Entries.{children_of as values_of, StartsAbove, IsAscending}
+use Rattle.rart_parts.specs.Entries.{children_of as values_of, StartsAbove, BytesAscend}
 use Rattle.rart_parts.specs.EntryShapes.{entry, on_value}
 use Rattle.rart_parts.specs.SortedKeyed.{IsSortedKeyed}
 use Rattle.std.specs.formers.vec.Vec as vec
@@ -46,7 +46,7 @@ starts-map : {X Y : Type 0} (h : X → Y) (k : ℕ) (es : List (ℕ × X)) → S
 starts-map h k [] = refl
 starts-map h k (e ∷ es) = refl
 
-ascends-map : {X Y : Type 0} (h : X → Y) (es : List (ℕ × X)) → IsAscending (map (on_value h) es) ≡ IsAscending es
+ascends-map : {X Y : Type 0} (h : X → Y) (es : List (ℕ × X)) → BytesAscend (map (on_value h) es) ≡ BytesAscend es
 ascends-map h [] = refl
 ascends-map h (e ∷ es) = λ i. (starts-map h e.0 es i) × ascends-map h es i
 
@@ -54,7 +54,7 @@ starts-prop : {X : Type 0} (k : ℕ) (es : List (ℕ × X)) → IsProp (StartsAb
 starts-prop k [] = λ x y i. tt
 starts-prop k (e ∷ es) = λ x y. le_prop x y
 
-ascends-prop : {X : Type 0} (es : List (ℕ × X)) → IsProp (IsAscending es)
+ascends-prop : {X : Type 0} (es : List (ℕ × X)) → IsProp (BytesAscend es)
 ascends-prop [] = λ x y i. tt
 ascends-prop (e ∷ es) = λ x y i. (starts-prop e.0 es x.0 y.0 i, ascends-prop es x.1 y.1 i)
 
@@ -73,7 +73,7 @@ along h w ks vs r e = record {
   few = subst (λ n. n ≤ w) (sym (length-map vs h)) e.few;
   room = e.room;
   narrow = e.narrow;
-  ascends = coe 0 1 (i. sym (ap IsAscending (zip-map h ks vs) ∙ ascends-map h (zip ks vs)) i) e.ascends;
+  ascends = coe 0 1 (i. sym (ap BytesAscend (zip-map h ks vs) ∙ ascends-map h (zip ks vs)) i) e.ascends;
 }
 
 back : {X Y : Type 0} (h : X → Y) (w : ℕ) (ks : List ℕ) (vs : List X) (r : ℕ) → IsSortedKeyed w ks (map h vs) r → IsSortedKeyed w ks vs r
@@ -82,7 +82,7 @@ back h w ks vs r e = record {
   few = subst (λ n. n ≤ w) (length-map vs h) e.few;
   room = e.room;
   narrow = e.narrow;
-  ascends = coe 0 1 (i. (ap IsAscending (zip-map h ks vs) ∙ ascends-map h (zip ks vs)) i) e.ascends;
+  ascends = coe 0 1 (i. (ap BytesAscend (zip-map h ks vs) ∙ ascends-map h (zip ks vs)) i) e.ascends;
 }
 
 zip-held : (X : Type 0) (ks : List ℕ) (vs : List X) → length vs ≤ length ks → held (list (entry this)) X (zip ks vs) ≡ held (list this) X vs

@@ -44,8 +44,8 @@ use denote.Triple.Table.{framed, widened}
 use Rattle.rart_keys.specs.contracts.partials.Partial.TheBound as partial
 use Rattle.rart_keys.specs.declared.partials.Partial as declared_partial
 use Rattle.std.specs.contracts.option.Option as option
-use Rattle.rart_nodes.specs.Trie.{IsCanonical, look_up, put_trie}
-use Rattle.rart_nodes.specs.TrieCode.{node_count}
+use Rattle.rart_nodes.specs.tries.Trie.{IsCanonical, trie_lookup, trie_put}
+use Rattle.rart_nodes.specs.tries.TrieCode.{node_count}
 use Rattle.rart_nodes.specs.contracts.node.DefaultNode as node
 use Rattle.rart_nodes.specs.declared.node.DefaultNode as declared_node
 use Rattle.rart_nodes.specs.declared.node.lend.Lends as lends
@@ -109,7 +109,7 @@ module _ {M : Type 1} (𝓤 : Ura M) (𝓛 : Logic 𝓤) (𝓜 : Model 𝓤 𝓛
 
   -- the bound's members at the nodes below t
   abbrev below : ℕ → lends.Ghosts (declared_node.DefaultNode P.Denot V.Denot) V.Denot
-  below t = record { ready = λ n. IsCanonical n × (node_count n < t); found = λ n key. look_up key n; put = λ n key w. put_trie key w n }
+  below t = record { ready = λ n. IsCanonical n × (node_count n < t); found = λ n key. trie_lookup key n; put = λ n key w. trie_put key w n }
 
   -- what the bound asks, and what the call of `lend_by` has, at them
   abbrev B : ℕ → Contract 𝓤

@@ -1,6 +1,6 @@
 use Rattle.std.proofs.Common.{◌∙◌, sym}
-use Rattle.rart_nodes.specs.Stored.{stored}
-use Rattle.rart_nodes.proofs.ChildLemmas.{edges_of-length}
+use Rattle.rart_nodes.specs.storages.Stored.{stored}
+use Rattle.rart_nodes.proofs.storages.ChildLemmas.{edges_of-length}
 use Rattle.rart_nodes.proofs.node.made.DefaultNodeNode.num_children.Goals as goal
 
 pub returns : goal.returns

@@ -1,6 +1,6 @@
 use Rattle.std.proofs.Common.{ap}
-use Rattle.rart_nodes.specs.TrieCode.{as_children}
-use Rattle.rart_nodes.proofs.TreeWalkLemmas.{next-branches}
+use Rattle.rart_nodes.specs.tries.TrieCode.{as_children}
+use Rattle.rart_nodes.proofs.walks.TreeWalkLemmas.{next-branches}
 use Rattle.rart_nodes.proofs.node.seen.Branches.enter_next.Goals as goal
 
 pub invariant_of-seen : goal.invariant_of-seen

@@ -1,4 +1,4 @@
-use Rattle.rart_nodes.proofs.TreeWalkLemmas.{node-branches}
+use Rattle.rart_nodes.proofs.walks.TreeWalkLemmas.{node-branches}
 use Rattle.rart_nodes.proofs.node.seen.Entered.branches.Goals as goal
 
 pub invariant_of-result : goal.invariant_of-result

@@ -1,8 +1,8 @@
 use Rattle.std.proofs.Common.{◌≡◌, ◌<◌, ◌+◌, ◌-◌, length, take, drop, arith, sym, ◌∙◌, ap, Some}
 use Rattle.std.specs.Option.{option_copied}
-use Rattle.rart_nodes.specs.ProbeCount.{tree_entered}
-use Rattle.rart_nodes.specs.Tree.{tree_look_up}
-use Rattle.rart_nodes.proofs.SeenLemmas.{tree_count, seen-short, seen-here, seen-down, child-falls}
+use Rattle.rart_nodes.specs.walks.ProbeCount.{tree_entered}
+use Rattle.rart_nodes.specs.tries.Tree.{tree_lookup}
+use Rattle.rart_nodes.proofs.walks.SeenLemmas.{tree_count, seen-short, seen-here, seen-down, child-falls}
 use Rattle.rart_nodes.proofs.node.seen.Seen.descend.Goals as goal
 
 pub returns-then-shared-len-clause-value : goal.returns-then-shared-len-clause-value
@@ -28,7 +28,7 @@ returns-then-rest-shared-clause-visits g c =
 pub returns-in_default-child-clause-value : goal.returns-in_default-child-clause-value
 returns-in_default-child-clause-value g c =
     let h = seen-down c.in-Some.at.node.now c.loop-at.rest.now _ c.in-Some.at.canonical (rw c.prefix-prefix.ensures at c.prefix_length_slice-shared.ensures.value) (rw (c.len.ensures, c.prefix-prefix.ensures) at c.if-shared-len.false) c.if-rest-shared.false in
-    let below = ap (tree_look_up (take (length c.loop-at.rest.now - c.prefix_length_slice-shared.result) (drop c.prefix_length_slice-shared.result c.loop-at.rest.now))) c.in_default-child.ensures in
+    let below = ap (tree_lookup (take (length c.loop-at.rest.now - c.prefix_length_slice-shared.result) (drop c.prefix_length_slice-shared.result c.loop-at.rest.now))) c.in_default-child.ensures in
     sym (h.0 ∙ below) ∙ rw (← c.in-Some.ensures.shown) at c.loop-at.invariant.value
 
 pub returns-in_default-child-clause-visits : goal.returns-in_default-child-clause-visits
@@ -47,7 +47,7 @@ pub loop-at-preserved : goal.loop-at-preserved
 loop-at-preserved g c =
     let h = seen-down c.in-Some.at.node.now c.loop-at.rest.now _ c.in-Some.at.canonical (rw c.prefix-prefix.ensures at c.prefix_length_slice-shared.ensures.value) (rw (c.len.ensures, c.prefix-prefix.ensures) at c.if-shared-len.false) c.if-rest-shared.false in
     let rest = take (length c.loop-at.rest.now - c.prefix_length_slice-shared.result) (drop c.prefix_length_slice-shared.result c.loop-at.rest.now) in
-    let answers = ap (tree_look_up rest) c.in-Some-child.ensures in
+    let answers = ap (tree_lookup rest) c.in-Some-child.ensures in
     let enters = ap (tree_entered rest) c.in-Some-child.ensures in
     record {
       value = answers ∙ sym h.0 ∙ rw (← c.in-Some.ensures.shown) at c.loop-at.invariant.value;

@@ -1,7 +1,7 @@
 use Rattle.std.proofs.Common.{◌≡◌, ap, ◌∙◌, sym, refl, arith, length}
-use Rattle.rart_parts.specs.Entries.{without, ascending}
-use Rattle.rart_nodes.specs.Stored.{stored, width_of}
-use Rattle.rart_nodes.proofs.DeletionLemmas.{few-left, none-left, width-kept, width-given}
+use Rattle.rart_parts.specs.Entries.{without_byte, ascending}
+use Rattle.rart_nodes.specs.storages.Stored.{stored, width_of}
+use Rattle.rart_nodes.proofs.storages.DeletionLemmas.{few-left, none-left, width-kept, width-given}
 use Rattle.rart_nodes.proofs.node.storage.Storage.delete_child.Goals as goal
 
 pub returns-then-keeps_kind-clause-width : goal.returns-then-keeps_kind-clause-width
@@ -10,7 +10,7 @@ returns-then-keeps_kind-clause-width g c = c.delete_within.ensures.width ∙ rw 
 pub succeed_empty-requires : goal.succeed_empty-requires
 succeed_empty-requires g c =
     let few = rw c.in-Four.is at c.keeps_kind.ensures.gives_up c.if-keeps_kind.false in
-    c.delete_child-child.ensures.rest ∙ ap (without c.args.b) (c.deref_mut.ensures.value ∙ ap (λ m. m.value) c.in-Four.map-is) ∙ none-left c.args.b c.in-Four.map.value few.0 few.1
+    c.delete_child-child.ensures.rest ∙ ap (without_byte c.args.b) (c.deref_mut.ensures.value ∙ ap (λ m. m.value) c.in-Four.map-is) ∙ none-left c.args.b c.in-Four.map.value few.0 few.1
 
 pub fill_from_resized-requires : goal.fill_from_resized-requires
 fill_from_resized-requires g c =

@@ -1,7 +1,7 @@
 use Rattle.std.proofs.Common.{sym, ap, ◌∙◌, ◌≡◌, refl}
 use Rattle.rart_parts.specs.Entries.{child_at, replaced, ascending}
-use Rattle.rart_nodes.specs.Stored.{stored}
-use Rattle.rart_nodes.proofs.Outcomes.{on_some}
+use Rattle.rart_nodes.specs.storages.Stored.{stored}
+use Rattle.rart_nodes.proofs.edits.Outcomes.{on_some}
 use Rattle.rart_nodes.proofs.node.storage.Storage.seek_child_mut.Goals as goal
 
 pub returns-in-Four : goal.returns-in-Four

@@ -1,7 +1,7 @@
 use Rattle.std.proofs.Common.{◌≡◌, ◌≤◌, ◌++◌, inl, vec_capacity, take, arith, refl, sym, ◌∙◌, ap}
-use Rattle.rart_nodes.specs.Trie.{prefix_of}
-use Rattle.rart_nodes.proofs.TreeWalkLemmas.{turn-last, space-last, leave-last}
-use Rattle.rart_nodes.proofs.TreeWalkVisits.{visit-one, visit-on, visit-none}
+use Rattle.rart_nodes.specs.tries.Trie.{prefix_of}
+use Rattle.rart_nodes.proofs.walks.TreeWalkLemmas.{turn-last, space-last, leave-last}
+use Rattle.rart_nodes.proofs.walks.TreeWalkVisits.{visit-one, visit-on, visit-none}
 use Rattle.rart_nodes.proofs.node.walk.Walk.advance.Goals as goal
 
 pub step_into-requires-clause-bytes : goal.step_into-requires-clause-bytes

@@ -1,8 +1,8 @@
 use Rattle.std.proofs.Common.{◌≡◌, ◌≤◌, None, reverse, vec_capacity}
 use Rattle.rart_keys.specs.KeyBytes.{IsWithin}
-use Rattle.rart_nodes.specs.TreeWalk.{IsPath, pairs_below}
-use Rattle.rart_nodes.proofs.TreeWalkLemmas.{work_left}
-use Rattle.rart_nodes.proofs.TreeWalkVisits.{HasVisited}
+use Rattle.rart_nodes.specs.walks.TreeWalk.{IsPath, pairs_below}
+use Rattle.rart_nodes.proofs.walks.TreeWalkLemmas.{work_left}
+use Rattle.rart_nodes.proofs.walks.TreeWalkVisits.{HasVisited}
 use Rattle.rart_nodes.proofs.node.walk.Walk.advance.Given as goal
 
 abbrev pub invariant-loop-branches : goal.invariant-loop-branches

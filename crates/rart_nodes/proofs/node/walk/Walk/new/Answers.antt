@@ -1,10 +1,10 @@
 use Rattle.std.proofs.Common.{◌≡◌, ◌≤◌, ◌<◌, ◌++◌, List, ℕ, length, vec_capacity, arith, ap, ◌∙◌}
-use Rattle.rart_nodes.specs.CanonicalTest.{longest_key}
-use Rattle.rart_nodes.specs.Tree.{tree_pairs}
-use Rattle.rart_nodes.specs.Trie.{pairs_of, prefix_of}
-use Rattle.rart_nodes.proofs.InsertLemmas.{fewer-within}
-use Rattle.rart_nodes.proofs.Outcomes.{err-any}
-use Rattle.rart_nodes.proofs.TreeWalkLemmas.{empty-path, has-pairs, prefix-short, start-last, start-pairs-last}
+use Rattle.rart_keys.specs.SortedMap.{longest_key}
+use Rattle.rart_nodes.specs.tries.Tree.{tree_pairs}
+use Rattle.rart_nodes.specs.tries.Trie.{pairs_of, prefix_of}
+use Rattle.rart_nodes.proofs.edits.InsertLemmas.{fewer-within}
+use Rattle.rart_nodes.proofs.edits.Outcomes.{err-any}
+use Rattle.rart_nodes.proofs.walks.TreeWalkLemmas.{empty-path, has-pairs, prefix-short, start-last, start-pairs-last}
 use Rattle.rart_nodes.proofs.node.walk.Walk.new.Goals as goal
 
 pub invariant_of-result : goal.invariant_of-result

@@ -1,7 +1,7 @@
 use Rattle.std.proofs.Common.{◌∙◌, ◌∷◌, Some, sym, ap, arith, subst, ⊎_elim, refl}
 use Rattle.std.specs.Prelude.{IsSome}
 use Rattle.std.proofs.lemmas.Bool.{cases_lt}
-use Rattle.rart_parts.specs.Entries.{child_at, ascending, IsAscending}
+use Rattle.rart_parts.specs.Entries.{child_at, ascending, BytesAscend}
 use Rattle.rart_parts.proofs.PlaceLemmas.{free_read, past_used, used_read}
 use Rattle.rart_parts.proofs.IndexLemmas.{indexed_none, indexed_some, map_of_ascends}
 use Rattle.rart_parts.proofs.MoveLemmas.{first_entry, empty_map}
@@ -28,6 +28,6 @@ pub returns : goal.returns
 returns g c =
     let f = c.in-Some.ensures in
     let at = c.self.inside.index in
-    first_entry c.in-Some.byte c.unwrap-child.result (ascending c.args.self.now) (subst IsAscending (ap ascending c.self.view_is) (map_of_ascends c.self.invariant.index)) (sym c.delete_child.ensures.taken ∙ c.unwrap-child.ensures)
+    first_entry c.in-Some.byte c.unwrap-child.result (ascending c.args.self.now) (subst BytesAscend (ap ascending c.self.view_is) (map_of_ascends c.self.invariant.index)) (sym c.delete_child.ensures.taken ∙ c.unwrap-child.ensures)
     (λ b h. ap (λ es. child_at b (ascending es)) (sym c.self.view_is) ∙ indexed_none c.self.invariant.index b (free_read at b (f.2 b h)))
     ∙ ap (λ es. (c.in-Some.byte, c.unwrap-child.result) ∷ es) (sym c.delete_child.ensures.rest)

@@ -1,5 +1,5 @@
 use Rattle.std.proofs.Common.{◌∙◌, ap, length, arith}
-use Rattle.rart_parts.specs.Entries.{child_at, with_child, ascending}
+use Rattle.rart_parts.specs.Entries.{child_at, with_entry, ascending}
 use Rattle.rart_parts.specs.Indexed.{with_bytes}
 use Rattle.rart_parts.proofs.IndexLemmas.{absent_unnamed, indexed_put, map_put, slot_free, some_first, not_true}
 use Rattle.rart_parts.proofs.mapping.indexed_mapping.IndexedMappingNodeMapping.add_child.Goals as goal
@@ -20,4 +20,4 @@ returns g c =
     let unnamed = absent_unnamed c.self.invariant.index c.args.key (ap (λ es. child_at c.args.key (ascending es)) c.self.view_is ∙ c.requires.absent) in
     (λ i. ascending (with_bytes (c.set.ensures i) 0 (c.put.ensures i)))
     ∙ map_put c.self.invariant.index c.args.key c.unwrap-slot.result c.args.node (omega (arith, c.ranges.key.fits)) (omega (arith, first.0, c.self.invariant.full)) unnamed (not_true _ first.1)
-    ∙ ap (λ es. with_child c.args.key c.args.node (ascending es)) c.self.view_is
+    ∙ ap (λ es. with_entry c.args.key c.args.node (ascending es)) c.self.view_is

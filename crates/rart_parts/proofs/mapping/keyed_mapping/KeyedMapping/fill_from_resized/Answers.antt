@@ -1,6 +1,6 @@
 use Rattle.std.proofs.Common.{ap, arith, length}
 use Rattle.rart_parts.specs.Entries.{ascending}
-use Rattle.rart_parts.proofs.EntryLemmas.{length-without}
+use Rattle.rart_parts.proofs.EntryLemmas.{length-without_byte}
 use Rattle.rart_parts.proofs.SplitLemmas.{split_start, split_absent, split_room, split_next, split_done}
 use Rattle.rart_parts.proofs.mapping.keyed_mapping.KeyedMapping.fill_from_resized.Goals as goal
 
@@ -28,7 +28,7 @@ loop-key-preserved g c =
 
 pub loop-key-smaller : goal.loop-key-smaller
 loop-key-smaller g c =
-    omega (arith, ap length c.in-Some.ensures.1, length-without c.in-Some.key c.in-Some.child (ascending c.loop-key.source) c.in-Some.ensures.0)
+    omega (arith, ap length c.in-Some.ensures.1, length-without_byte c.in-Some.key c.in-Some.child (ascending c.loop-key.source) c.in-Some.ensures.0)
 
 pub returns-clause-filled : goal.returns-clause-filled
 returns-clause-filled g c =

@@ -1,5 +1,5 @@
 use Rattle.std.proofs.Common.{◌∙◌, ap, length, set, arith}
-use Rattle.rart_parts.specs.Entries.{child_at, with_child, ascending}
+use Rattle.rart_parts.specs.Entries.{child_at, with_entry, ascending}
 use Rattle.rart_parts.specs.Keyed.{with_keys}
 use Rattle.rart_parts.proofs.IndexLemmas.{some_first, not_true}
 use Rattle.rart_parts.proofs.KeyedLemmas.{mapping_put, keyed_put, room_left}
@@ -21,4 +21,4 @@ returns g c =
     let absent = ap (λ es. child_at c.args.key (ascending es)) c.self.view_is ∙ c.requires.absent in
     ap (λ os. ascending (with_keys (set c.self.inside.keys c.unwrap-slot.result c.args.key) os)) c.put.ensures
     ∙ keyed_put c.self.invariant.slots c.args.key c.unwrap-slot.result c.args.node (omega (arith, first.0, c.self.invariant.full)) (not_true _ first.1) absent
-    ∙ ap (λ es. with_child c.args.key c.args.node (ascending es)) c.self.view_is
+    ∙ ap (λ es. with_entry c.args.key c.args.node (ascending es)) c.self.view_is

@@ -2,7 +2,7 @@ use Rattle.std.proofs.Common.{◌∙◌, ap, arith, length, set}
 use Rattle.std.specs.List.{zip}
 use Rattle.std.proofs.lemmas.List.{length-set}
 use Rattle.std.proofs.lemmas.List.Edits.{length-insert}
-use Rattle.rart_parts.specs.Entries.{child_at, with_child}
+use Rattle.rart_parts.specs.Entries.{child_at, with_entry}
 use Rattle.rart_parts.proofs.SortedLemmas.{ordered, counted, added, put_in}
 use Rattle.rart_parts.proofs.mapping.sorted_keyed_mapping.SortedKeyedMappingNodeMapping.add_child.Goals as goal
 
@@ -44,4 +44,4 @@ returns g c =
     let few = counted c.self.invariant _ c.self.view_is in
     let e = put_in c.self.invariant c.copy_within.new.self _ c.unwrap-at.result c.args.key c.args.node count (omega (arith, few, c.requires.room)) c.copy_within.ensures.len place
     (ap (child_at c.args.key) c.self.view_is ∙ c.requires.absent) by.0 by.1 in
-    ap (zip (set c.copy_within.new.self c.unwrap-at.result c.args.key)) items ∙ e ∙ ap (with_child c.args.key c.args.node) c.self.view_is
+    ap (zip (set c.copy_within.new.self c.unwrap-at.result c.args.key)) items ∙ e ∙ ap (with_entry c.args.key c.args.node) c.self.view_is

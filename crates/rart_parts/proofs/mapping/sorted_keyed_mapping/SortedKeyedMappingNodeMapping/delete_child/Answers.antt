@@ -1,7 +1,7 @@
 use Rattle.std.proofs.Common.{◌≡◌, ◌∙◌, ◌+◌, ◌-◌, sym, ap, arith, get_or}
 use Rattle.std.specs.Prelude.{remove}
 use Rattle.std.specs.List.{zip}
-use Rattle.rart_parts.specs.Entries.{without}
+use Rattle.rart_parts.specs.Entries.{without_byte}
 use Rattle.rart_parts.proofs.EntryLemmas.{without_absent}
 use Rattle.rart_parts.proofs.Zipped.{child_found, child_none, removed}
 use Rattle.rart_parts.proofs.SortedLemmas.{fits, ordered, deleted}
@@ -15,7 +15,7 @@ invariant_of-self g c =
     let vs = c.self.inside.children.items in
     let f = c.in-Some.ensures in
     let count = c.len-count.ensures ∙ c.self.inside.children.ok.0 in
-    let e : zip c.copy_within.new.self (remove vs c.in-Some.at) ≡ without c.args.key (zip c.self.inside.keys vs)
+    let e : zip c.copy_within.new.self (remove vs c.in-Some.at) ≡ without_byte c.args.key (zip c.self.inside.keys vs)
     = removed c.args.key c.self.inside.keys c.copy_within.new.self vs c.in-Some.at (fits c.self.invariant) c.copy_within.ensures.len (omega (arith, f.0, count)) f.1 f.2
     (λ j l. c.copy_within.ensures.by_index.1 j 0 l) (λ j l m. c.copy_within.ensures.by_index.0 j 0 l (omega (arith, l, m, count)) ∙ (let at : c.in-Some.at + 1 + (j - c.in-Some.at) ≡ j + 1 = omega arith in ap (λ n. get_or c.self.inside.keys n 0) at)) in
     deleted c.self.invariant c.args.key c.copy_within.new.self _ _ c.copy_within.ensures.len (omega (arith, c.remove.ensures.len, c.remove.new.self.ok.0, c.self.inside.children.ok.0)) c.remove.ensures.capacity (ap (zip c.copy_within.new.self) c.remove.ensures.items ∙ e)
@@ -30,10 +30,10 @@ returns-in-Some-clause-rest g c =
     let vs = c.self.inside.children.items in
     let f = c.in-Some.ensures in
     let count = c.len-count.ensures ∙ c.self.inside.children.ok.0 in
-    let e : zip c.copy_within.new.self (remove vs c.in-Some.at) ≡ without c.args.key (zip c.self.inside.keys vs)
+    let e : zip c.copy_within.new.self (remove vs c.in-Some.at) ≡ without_byte c.args.key (zip c.self.inside.keys vs)
     = removed c.args.key c.self.inside.keys c.copy_within.new.self vs c.in-Some.at (fits c.self.invariant) c.copy_within.ensures.len (omega (arith, f.0, count)) f.1 f.2
     (λ j l. c.copy_within.ensures.by_index.1 j 0 l) (λ j l m. c.copy_within.ensures.by_index.0 j 0 l (omega (arith, l, m, count)) ∙ (let at : c.in-Some.at + 1 + (j - c.in-Some.at) ≡ j + 1 = omega arith in ap (λ n. get_or c.self.inside.keys n 0) at)) in
-    ap (zip c.copy_within.new.self) c.remove.ensures.items ∙ e ∙ ap (without c.args.key) c.self.view_is
+    ap (zip c.copy_within.new.self) c.remove.ensures.items ∙ e ∙ ap (without_byte c.args.key) c.self.view_is
 
 pub returns-in-None-clause-taken : goal.returns-in-None-clause-taken
 returns-in-None-clause-taken g c =

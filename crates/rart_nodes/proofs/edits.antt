@@ -1,0 +1,14 @@
+pub mod Descent
+pub mod EditRunLemmas
+pub mod InsertAskLemmas
+pub mod InsertLemmas
+pub mod JoinLemmas
+pub mod LoanLemmas
+pub mod NodeEditLemmas
+pub mod Outcomes
+pub mod PutAskLemmas
+pub mod PutLemmas
+pub mod RemoveAskLemmas
+pub mod RemoveLemmas
+pub mod RemoveSteps
+pub mod RemovedPairs

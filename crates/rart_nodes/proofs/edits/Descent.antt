@@ -1,0 +1,157 @@
+-- One step of a descent: how the prefix of a node and a key agree, and what follows for look-ups, visits and insertions.
+use Rattle.std.proofs.Common.{◌≡◌, ℕ, zero, suc, ◌+◌, ◌-◌, ◌<◌, ◌≤◌, Bool, true, false, cond, List, [], ◌∷◌, length, take, drop, get_or, nat_eq, Option, Some, None, refl, arith, sym, ap, ◌∙◌}
+use Rattle.std.proofs.lemmas.Grind.{common_steps}
+use Rattle.std.proofs.lemmas.List.{length-drop, take_all}
+use Rattle.std.proofs.Math.Numerals.{one-add}
+use Rattle.std.specs.List.{common_prefix_len}
+use Rattle.std.proofs.lemmas.Bool.{false≢true}
+use Rattle.rart_keys.specs.ByteStrings.{strip_prefix}
+use Rattle.rart_keys.proofs.ByteOrder.{eq-yes}
+use Rattle.rart_nodes.specs.walks.ProbeCount.{entered_nodes, entered_child, entered_behind}
+use Rattle.rart_nodes.specs.tries.Trie.{Trie, node, Children, no_children, child, Overlap, overlap, grown_overlap, answer_behind, trie_lookup, child_lookup, trie_put, put_child, put_overlap, put_split, fitting_node, fork, leaf}
+
+-- the first byte of a string
+abbrev pub first : List ℕ → ℕ
+first k = get_or k 0 0
+
+pub strip_prefix-short : (p k : List ℕ) → common_prefix_len nat_eq p k < length p → strip_prefix p k ≡ None
+strip_prefix-short [] k h = absurd (omega arith)
+strip_prefix-short (x ∷ p) [] h = refl
+strip_prefix-short (x ∷ p) (y ∷ k) h = grind (arith, strip_prefix-short p k)
+
+pub strip_prefix-full : (p k : List ℕ) → length p ≤ common_prefix_len nat_eq p k → strip_prefix p k ≡ Some (drop (length p) k)
+strip_prefix-full [] k h = refl
+strip_prefix-full (x ∷ p) [] h = absurd (omega arith)
+strip_prefix-full (x ∷ p) (y ∷ k) h = grind (arith, strip_prefix-full p k)
+
+pub common-within : (p k : List ℕ) → (common_prefix_len nat_eq p k ≤ length p) × (common_prefix_len nat_eq p k ≤ length k)
+common-within [] k = (omega arith, omega arith)
+common-within (x ∷ p) [] = (omega arith, omega arith)
+common-within (x ∷ p) (y ∷ k) = let h = common-within p k in (grind (arith, h.0), grind (arith, h.1))
+
+overlap-step : (b : Bool) (x y : ℕ) (p k : List ℕ) (n : ℕ) (r : Overlap) → r ≡ record { shared = take n p; left = drop n p; right = drop n k }
+    → cond b (grown_overlap x r) (record { shared = []; left = x ∷ p; right = y ∷ k }) ≡ record { shared = take (cond b (1 + n) 0) (x ∷ p); left = drop (cond b (1 + n) 0) (x ∷ p); right = drop (cond b (1 + n) 0) (y ∷ k) }
+overlap-step true x y p k n r e = rw (e, one-add n) refl
+overlap-step false x y p k n r e = refl
+
+pub overlap-is : (p k : List ℕ) → overlap p k ≡ record { shared = take (common_prefix_len nat_eq p k) p; left = drop (common_prefix_len nat_eq p k) p; right = drop (common_prefix_len nat_eq p k) k }
+overlap-is [] k = refl
+overlap-is (x ∷ p) [] = refl
+overlap-is (x ∷ p) (y ∷ k) = overlap-step (nat_eq x y) x y p k (common_prefix_len nat_eq p k) (overlap p k) (overlap-is p k)
+
+-- the rest of a slice from a place on, as code names it
+pub slice_from-is : (k : List ℕ) (n : ℕ) → take (length k - n) (drop n k) ≡ drop n k
+slice_from-is k n = grind (arith, common_steps, length-drop n k)
+
+-- what a descent enters at a node
+entered-empty : (r : List ℕ) (f : ℕ → List ℕ → ℕ) → length r ≡ 0 → entered_behind (Some r) f ≡ 1
+entered-empty [] f h = refl
+entered-empty (b ∷ r) f h = absurd (omega arith)
+
+entered-more : (r : List ℕ) (f : ℕ → List ℕ → ℕ) → 0 < length r → entered_behind (Some r) f ≡ 1 + f (first r) r
+entered-more [] f h = absurd (omega arith)
+entered-more (b ∷ r) f h = refl
+
+differ-step : (z : Bool) (x y : ℕ) (p k : List ℕ) (n : ℕ) → nat_eq x y ≡ z → (n < length p → n < length k → first (drop n p) ≡ first (drop n k) → ⊥)
+    → cond z (1 + n) 0 < suc (length p) → cond z (1 + n) 0 < suc (length k) → first (drop (cond z (1 + n) 0) (x ∷ p)) ≡ first (drop (cond z (1 + n) 0) (y ∷ k)) → ⊥
+differ-step true x y p k n e ih h g s = ih (omega arith) (omega arith) (rw (one-add n) at s)
+differ-step false x y p k n e ih h g s = false≢true (sym e ∙ eq-yes x y s)
+
+-- where two strings part, their bytes differ
+pub first-differ : (p k : List ℕ) (n : ℕ) → n ≡ common_prefix_len nat_eq p k → n < length p → (length k ≡ n → ⊥) → first (drop n p) ≡ first (drop n k) → ⊥
+first-differ [] k n e h more s = omega arith
+first-differ (x ∷ p) [] n e h more s = more (sym e)
+first-differ (x ∷ p) (y ∷ k) n e h more s = differ-step (nat_eq x y) x y p k (common_prefix_len nat_eq p k) refl
+    (λ a b. first-differ p k (common_prefix_len nat_eq p k) refl a (λ q. omega (arith, q)))
+    (omega (arith, e)) (omega (arith, e, (common-within (x ∷ p) (y ∷ k)).1, more)) (rw e at s)
+
+module _ {V : Type 0} where
+  -- what a look-up does at a node
+  answer-empty : (r : List ℕ) (v : Option V) (f : ℕ → List ℕ → Option V) → length r ≡ 0 → answer_behind (Some r) v f ≡ v
+  answer-empty [] v f h = refl
+  answer-empty (b ∷ r) v f h = absurd (omega arith)
+
+  answer-more : (r : List ℕ) (v : Option V) (f : ℕ → List ℕ → Option V) → 0 < length r → answer_behind (Some r) v f ≡ f (first r) r
+  answer-more [] v f h = absurd (omega arith)
+  answer-more (b ∷ r) v f h = refl
+
+  pub trie_lookup-short : (p k : List ℕ) (v : Option V) (w : ℕ) (cs : Children V) (n : ℕ) → n ≡ common_prefix_len nat_eq p k → n < length p → trie_lookup k (node p v w cs) ≡ None
+  trie_lookup-short p k v w cs n e h = ap (λ o. answer_behind o v (λ b r. child_lookup b r cs)) (strip_prefix-short p k (omega arith))
+
+  pub trie_lookup-here : (p k : List ℕ) (v : Option V) (w : ℕ) (cs : Children V) (n : ℕ) → n ≡ common_prefix_len nat_eq p k → length p ≤ n → length k ≡ n → trie_lookup k (node p v w cs) ≡ v
+  trie_lookup-here p k v w cs n e full end = ap (λ o. answer_behind o v (λ b r. child_lookup b r cs)) (strip_prefix-full p k (omega arith))
+      ∙ answer-empty (drop (length p) k) v (λ b r. child_lookup b r cs) (omega (arith, length-drop (length p) k, (common-within p k).0))
+
+  pub trie_lookup-down : (p k : List ℕ) (v : Option V) (w : ℕ) (cs : Children V) (n : ℕ) → n ≡ common_prefix_len nat_eq p k → length p ≤ n → (length k ≡ n → ⊥) → trie_lookup k (node p v w cs) ≡ child_lookup (first (drop n k)) (drop n k) cs
+  trie_lookup-down p k v w cs n e full more =
+      let same : length p ≡ n = omega (arith, (common-within p k).0) in
+      ap (λ o. answer_behind o v (λ b r. child_lookup b r cs)) (strip_prefix-full p k (omega arith))
+      ∙ answer-more (drop (length p) k) v (λ b r. child_lookup b r cs) (omega (arith, length-drop (length p) k, (common-within p k).1, more))
+      ∙ ap (λ m. child_lookup (first (drop m k)) (drop m k) cs) same
+
+  -- what it enters
+  pub entered-short : (p k : List ℕ) (v : Option V) (w : ℕ) (cs : Children V) (n : ℕ) → n ≡ common_prefix_len nat_eq p k → n < length p → entered_nodes k (node p v w cs) ≡ 1
+  entered-short p k v w cs n e h = ap (λ o. entered_behind o (λ b r. entered_child b r cs)) (strip_prefix-short p k (omega arith))
+
+  pub entered-here : (p k : List ℕ) (v : Option V) (w : ℕ) (cs : Children V) (n : ℕ) → n ≡ common_prefix_len nat_eq p k → length p ≤ n → length k ≡ n → entered_nodes k (node p v w cs) ≡ 1
+  entered-here p k v w cs n e full end = ap (λ o. entered_behind o (λ b r. entered_child b r cs)) (strip_prefix-full p k (omega arith))
+      ∙ entered-empty (drop (length p) k) (λ b r. entered_child b r cs) (omega (arith, length-drop (length p) k, (common-within p k).0))
+
+  pub entered-down : (p k : List ℕ) (v : Option V) (w : ℕ) (cs : Children V) (n : ℕ) → n ≡ common_prefix_len nat_eq p k → length p ≤ n → (length k ≡ n → ⊥) → entered_nodes k (node p v w cs) ≡ 1 + entered_child (first (drop n k)) (drop n k) cs
+  entered-down p k v w cs n e full more =
+      let same : length p ≡ n = omega (arith, (common-within p k).0) in
+      ap (λ o. entered_behind o (λ b r. entered_child b r cs)) (strip_prefix-full p k (omega arith))
+      ∙ entered-more (drop (length p) k) (λ b r. entered_child b r cs) (omega (arith, length-drop (length p) k, (common-within p k).1, more))
+      ∙ ap (λ m. 1 + entered_child (first (drop m k)) (drop m k) cs) same
+
+  -- what an insertion leaves
+  put_split-lower : (q l r : List ℕ) (v : V) (old : Option V) (w : ℕ) (cs : Children V) (f : ℕ → List ℕ → Children V) → 0 < length l → length r ≡ 0
+      → put_split q l r v old w cs f ≡ node q (Some v) 4 (child (first l) (node l old w cs) no_children)
+  put_split-lower q [] r v old w cs f h g = absurd (omega arith)
+  put_split-lower q (c ∷ l) [] v old w cs f h g = refl
+  put_split-lower q (c ∷ l) (b ∷ r) v old w cs f h g = absurd (omega arith)
+
+  put_split-fork : (q l r : List ℕ) (v : V) (old : Option V) (w : ℕ) (cs : Children V) (f : ℕ → List ℕ → Children V) → 0 < length l → 0 < length r
+      → put_split q l r v old w cs f ≡ fitting_node q None (fork (first l) (node l old w cs) (first r) (leaf r v))
+  put_split-fork q [] r v old w cs f h g = absurd (omega arith)
+  put_split-fork q (c ∷ l) [] v old w cs f h g = absurd (omega arith)
+  put_split-fork q (c ∷ l) (b ∷ r) v old w cs f h g = refl
+
+  put_split-here : (q l r : List ℕ) (v : V) (old : Option V) (w : ℕ) (cs : Children V) (f : ℕ → List ℕ → Children V) → length l ≡ 0 → length r ≡ 0
+      → put_split q l r v old w cs f ≡ node q (Some v) w cs
+  put_split-here q [] [] v old w cs f h g = refl
+  put_split-here q (c ∷ l) r v old w cs f h g = absurd (omega arith)
+  put_split-here q [] (b ∷ r) v old w cs f h g = absurd (omega arith)
+
+  put_split-down : (q l r : List ℕ) (v : V) (old : Option V) (w : ℕ) (cs : Children V) (f : ℕ → List ℕ → Children V) → length l ≡ 0 → 0 < length r
+      → put_split q l r v old w cs f ≡ fitting_node q old (f (first r) r)
+  put_split-down q (c ∷ l) r v old w cs f h g = absurd (omega arith)
+  put_split-down q [] [] v old w cs f h g = absurd (omega arith)
+  put_split-down q [] (b ∷ r) v old w cs f h g = refl
+
+  trie_put-is : (p k : List ℕ) (v : V) (old : Option V) (w : ℕ) (cs : Children V) (n : ℕ) → n ≡ common_prefix_len nat_eq p k
+      → trie_put k v (node p old w cs) ≡ put_split (take n p) (drop n p) (drop n k) v old w cs (λ b r. put_child b r v cs)
+  trie_put-is p k v old w cs n e = ap (λ s. put_overlap s v old w cs (λ b r. put_child b r v cs)) (overlap-is p k)
+      ∙ ap (λ m. put_split (take m p) (drop m p) (drop m k) v old w cs (λ b r. put_child b r v cs)) (sym e)
+
+  pub put-lower : (p k : List ℕ) (v : V) (old : Option V) (w : ℕ) (cs : Children V) (n : ℕ) → n ≡ common_prefix_len nat_eq p k → n < length p → length k ≡ n
+      → trie_put k v (node p old w cs) ≡ node (take n p) (Some v) 4 (child (first (drop n p)) (node (drop n p) old w cs) no_children)
+  put-lower p k v old w cs n e h end = trie_put-is p k v old w cs n e
+      ∙ put_split-lower (take n p) (drop n p) (drop n k) v old w cs (λ b r. put_child b r v cs) (omega (arith, length-drop n p)) (omega (arith, length-drop n k))
+
+  pub put-fork : (p k : List ℕ) (v : V) (old : Option V) (w : ℕ) (cs : Children V) (n : ℕ) → n ≡ common_prefix_len nat_eq p k → n < length p → (length k ≡ n → ⊥)
+      → trie_put k v (node p old w cs) ≡ fitting_node (take n p) None (fork (first (drop n p)) (node (drop n p) old w cs) (first (drop n k)) (leaf (drop n k) v))
+  put-fork p k v old w cs n e h more = trie_put-is p k v old w cs n e
+      ∙ put_split-fork (take n p) (drop n p) (drop n k) v old w cs (λ b r. put_child b r v cs) (omega (arith, length-drop n p)) (omega (arith, length-drop n k, (common-within p k).1, more))
+
+  pub put-here : (p k : List ℕ) (v : V) (old : Option V) (w : ℕ) (cs : Children V) (n : ℕ) → n ≡ common_prefix_len nat_eq p k → length p ≤ n → length k ≡ n
+      → trie_put k v (node p old w cs) ≡ node p (Some v) w cs
+  put-here p k v old w cs n e full end = trie_put-is p k v old w cs n e
+      ∙ put_split-here (take n p) (drop n p) (drop n k) v old w cs (λ b r. put_child b r v cs) (omega (arith, length-drop n p)) (omega (arith, length-drop n k))
+      ∙ ap (λ q. node q (Some v) w cs) (take_all n p full)
+
+  pub put-down : (p k : List ℕ) (v : V) (old : Option V) (w : ℕ) (cs : Children V) (n : ℕ) → n ≡ common_prefix_len nat_eq p k → length p ≤ n → (length k ≡ n → ⊥)
+      → trie_put k v (node p old w cs) ≡ fitting_node p old (put_child (first (drop n k)) (drop n k) v cs)
+  put-down p k v old w cs n e full more = trie_put-is p k v old w cs n e
+      ∙ put_split-down (take n p) (drop n p) (drop n k) v old w cs (λ b r. put_child b r v cs) (omega (arith, length-drop n p)) (omega (arith, length-drop n k, (common-within p k).1, more))
+      ∙ ap (λ q. fitting_node q old (put_child (first (drop n k)) (drop n k) v cs)) (take_all n p full)

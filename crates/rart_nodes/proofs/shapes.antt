@@ -1,0 +1,6 @@
+pub mod AscendingKeys
+pub mod BranchPointLemmas
+pub mod Examples
+pub mod ShapeLemmas
+pub mod ShapeOfLemmas
+pub mod ShapeRecordLemmas

@@ -1,0 +1,88 @@
+-- Rows of the definitions, by computation.
+use Rattle.std.proofs.Common.{◌≡◌, ℕ, zero, suc, ◌+◌, List, [], ◌∷◌, ◌++◌, refl, Option, Some, None, Bool, true, false}
+use Rattle.rart_keys.specs.SortedMap.{keys_of, lookup}
+use Rattle.rart_nodes.specs.edits.EditRuns.{Edit, puts, removes, run_tree, run_map}
+use Rattle.rart_nodes.specs.edits.InsertAsks.{insert_asks}
+use Rattle.rart_nodes.specs.walks.ProbeCount.{probe_count}
+use Rattle.rart_nodes.specs.edits.RemoveAsks.{remove_asks}
+use Rattle.rart_nodes.specs.shapes.Shape.{NodeRecord, capacity_of, next_bytes, record_at}
+use Rattle.rart_nodes.specs.tries.Tree.{tree_nodes}
+
+-- a leaf, and an inner node with these edge bytes
+abbrev leaf : NodeRecord
+leaf = record { holds_value = true; edges = []; capacity = 0 }
+
+abbrev inner : Bool → List ℕ → ℕ → NodeRecord
+inner holds bytes room = record { holds_value = holds; edges = bytes; capacity = room }
+
+abbrev nodes_after : List (Edit ℕ) → List (List ℕ × NodeRecord)
+nodes_after es = tree_nodes (run_tree es None)
+
+-- no keys; the empty key; a key that begins another
+no_keys : nodes_after [] ≡ []
+no_keys = refl
+
+empty_key : nodes_after (puts [] 0 ∷ []) ≡ ([], leaf) ∷ []
+empty_key = refl
+
+empty_key_and_a : nodes_after (puts [] 0 ∷ puts (97 ∷ []) 1 ∷ []) ≡ ([], inner true (97 ∷ []) 4) ∷ (97 ∷ [], leaf) ∷ []
+empty_key_and_a = refl
+
+-- a split, with the key's end at the split and behind it
+split_at_end : nodes_after (puts (1 ∷ 2 ∷ 3 ∷ []) 7 ∷ puts (1 ∷ []) 5 ∷ []) ≡ (1 ∷ [], inner true (2 ∷ []) 4) ∷ (1 ∷ 2 ∷ 3 ∷ [], leaf) ∷ []
+split_at_end = refl
+
+split_and_on : nodes_after (puts (1 ∷ 2 ∷ 3 ∷ []) 7 ∷ puts (1 ∷ 2 ∷ 1 ∷ []) 5 ∷ []) ≡ (1 ∷ 2 ∷ [], inner false (1 ∷ 3 ∷ []) 4) ∷ (1 ∷ 2 ∷ 1 ∷ [], leaf) ∷ (1 ∷ 2 ∷ 3 ∷ [], leaf) ∷ []
+split_and_on = refl
+
+-- a removal that merges: the node with no value and one child goes
+merged : nodes_after (puts (1 ∷ 2 ∷ 3 ∷ []) 7 ∷ puts (1 ∷ 2 ∷ 4 ∷ []) 9 ∷ puts (1 ∷ []) 5 ∷ puts (6 ∷ []) 5 ∷ removes (6 ∷ []) ∷ removes (1 ∷ []) ∷ [])
+    ≡ (1 ∷ 2 ∷ [], inner false (3 ∷ 4 ∷ []) 4) ∷ (1 ∷ 2 ∷ 3 ∷ [], leaf) ∷ (1 ∷ 2 ∷ 4 ∷ [], leaf) ∷ []
+merged = refl
+
+-- the limits of the kinds
+kinds : (capacity_of 0 ∷ capacity_of 1 ∷ capacity_of 4 ∷ capacity_of 5 ∷ capacity_of 16 ∷ capacity_of 17 ∷ capacity_of 48 ∷ capacity_of 49 ∷ capacity_of 256 ∷ [])
+    ≡ 0 ∷ 4 ∷ 4 ∷ 16 ∷ 16 ∷ 48 ∷ 48 ∷ 256 ∷ 256 ∷ []
+kinds = refl
+
+-- the one-byte keys below a number, ascending
+abbrev one_byte_keys : ℕ → List (List ℕ)
+one_byte_keys zero = []
+one_byte_keys (suc n) = one_byte_keys n ++ (n ∷ []) ∷ []
+
+abbrev capacity_at_root : Option NodeRecord → ℕ
+capacity_at_root None = 0
+capacity_at_root (Some r) = r.capacity
+
+abbrev root_of : ℕ → ℕ
+root_of n = capacity_at_root (record_at (one_byte_keys n) [])
+
+roots : (root_of 4 ∷ root_of 5 ∷ root_of 16 ∷ root_of 17 ∷ root_of 48 ∷ root_of 49 ∷ root_of 256 ∷ []) ≡ 4 ∷ 16 ∷ 16 ∷ 48 ∷ 48 ∷ 256 ∷ 256 ∷ []
+roots = refl
+
+-- one key is no branch below it, and its beginnings are none
+one_key : record_at ((1 ∷ 2 ∷ []) ∷ []) (1 ∷ []) ≡ None
+one_key = refl
+
+-- an insertion asks at 4, 16 and 48 children, and not between; at a node that stands, and in an empty tree, never
+asks : (insert_asks (one_byte_keys 3) (9 ∷ []) ∷ insert_asks (one_byte_keys 4) (9 ∷ []) ∷ insert_asks (one_byte_keys 5) (9 ∷ []) ∷ insert_asks (one_byte_keys 16) (99 ∷ [])
+    ∷ insert_asks (one_byte_keys 17) (99 ∷ []) ∷ insert_asks (one_byte_keys 48) (99 ∷ []) ∷ insert_asks (one_byte_keys 49) (99 ∷ []) ∷ []) ≡ false ∷ true ∷ false ∷ true ∷ false ∷ true ∷ false ∷ []
+asks = refl
+
+asks_not : (insert_asks [] (1 ∷ []) ∷ insert_asks (one_byte_keys 4) [] ∷ insert_asks (one_byte_keys 4) (3 ∷ []) ∷ []) ≡ false ∷ false ∷ false ∷ []
+asks_not = refl
+
+asks_split : (insert_asks ((1 ∷ 2 ∷ []) ∷ []) (1 ∷ 3 ∷ []) ∷ insert_asks ((1 ∷ 2 ∷ []) ∷ []) (1 ∷ []) ∷ insert_asks ((1 ∷ []) ∷ []) (1 ∷ 2 ∷ []) ∷ []) ≡ true ∷ true ∷ true ∷ []
+asks_split = refl
+
+-- a removal asks from 5, 17 and 49 children
+removal_asks : (remove_asks (one_byte_keys 4) (3 ∷ []) ∷ remove_asks (one_byte_keys 5) (3 ∷ []) ∷ remove_asks (one_byte_keys 6) (3 ∷ []) ∷ remove_asks (one_byte_keys 17) (3 ∷ [])
+    ∷ remove_asks (one_byte_keys 49) (3 ∷ []) ∷ remove_asks (one_byte_keys 5) (9 ∷ []) ∷ []) ≡ false ∷ true ∷ false ∷ true ∷ true ∷ false ∷ []
+removal_asks = refl
+
+-- "", "a", "ab", "abc": a look-up of "abc" visits four nodes, one of "abd" three
+abbrev chain : List (List ℕ)
+chain = [] ∷ (97 ∷ []) ∷ (97 ∷ 98 ∷ []) ∷ (97 ∷ 98 ∷ 99 ∷ []) ∷ []
+
+visits : (probe_count chain (97 ∷ 98 ∷ 99 ∷ []) ∷ probe_count chain (97 ∷ 98 ∷ 100 ∷ []) ∷ probe_count [] (97 ∷ []) ∷ probe_count chain (98 ∷ []) ∷ []) ≡ 4 ∷ 3 ∷ 0 ∷ 1 ∷ []
+visits = refl

@@ -1,0 +1,5 @@
+pub mod CanonicalTests
+pub mod FirstBytes
+pub mod LongerPrefix
+pub mod NodeCounts
+pub mod PairLemmas

@@ -1,0 +1,4 @@
+pub mod ProbeLemmas
+pub mod SeenLemmas
+pub mod TreeWalkLemmas
+pub mod TreeWalkVisits

@@ -1,0 +1,6 @@
+pub mod Deletion
+pub mod EditRuns
+pub mod InsertAsks
+pub mod Loan
+pub mod NodeEdits
+pub mod RemoveAsks

@@ -1,0 +1,17 @@
+-- What the calls of a node leave of it.
+use Rattle.std.specs.Prelude.{ℕ, cond, eqb, ltb, length, Option, Some}
+use Rattle.rart_nodes.specs.tries.Trie.{Trie, node, Children, no_children, child, edges_of}
+use Rattle.rart_nodes.specs.storages.Widths.{widened}
+
+-- children with one more, before the first greater byte
+abbrev pub children_with : {V : Type 0} → ℕ → Trie V → Children V → Children V
+children_with b t no_children = child b t no_children
+children_with b t (child c u cs) = cond (ltb b c) (child b t (child c u cs)) (cond (eqb c b) (child b t cs) (child c u (children_with b t cs)))
+
+-- a node with one more child
+abbrev pub with_child : {V : Type 0} → ℕ → Trie V → Trie V → Trie V
+with_child b t (node p v w cs) = node p v (widened (length (edges_of cs)) w) (children_with b t cs)
+
+-- a node with a value
+abbrev pub with_value : {V : Type 0} → V → Trie V → Trie V
+with_value x (node p v w cs) = node p (Some x) w cs

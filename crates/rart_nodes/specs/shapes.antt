@@ -1,0 +1,3 @@
+pub mod BranchPoints
+pub mod Shape
+pub mod ShapeRecords

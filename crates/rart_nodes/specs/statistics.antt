@@ -1,0 +1,2 @@
+pub mod CountedNodes
+pub mod Statistics

@@ -1,0 +1,4 @@
+pub mod CanonicalTest
+pub mod Tree
+pub mod Trie
+pub mod TrieCode

@@ -1,0 +1,3 @@
+pub mod ProbeCount
+pub mod TreeWalk
+pub mod Walks
