@@ -1,7 +1,7 @@
 -- What holds of the bytes of every key and every part of a key.
 use Rattle.std.specs.Prelude.{◌^◌, ◌<◌, ◌≤◌, ℕ, zero, suc, Option, Some, None, List, [], ◌∷◌, take, drop, length, slice_index}
 use Rattle.std.specs.Coded.{Unit-prop, le_prop}
-use Rattle.std.proofs.Common.{arith, length-take}
+use Rattle.std.proofs.Common.{◌≡◌, arith, length-drop, length-take}
 
 -- a length is within a maximum; where there is no maximum, every length is
 abbrev pub IsWithin : Option ℕ → ℕ → Type 0
@@ -20,6 +20,10 @@ IsWithin-prop (Some m) n = le_prop
 -- the first n are at most m, where n is
 pub length-take-within : (n m : ℕ) (bs : List ℕ) → n ≤ m → length (take n bs) ≤ m
 length-take-within n m bs h = omega (arith, length-take n bs)
+
+-- what is behind some of m is at most m
+pub length-drop-within : (n m : ℕ) (bs : List ℕ) → length bs ≡ m → length (drop n bs) ≤ m
+length-drop-within n m bs h = omega (arith, length-drop n bs)
 
 -- the first bytes are bytes
 pub AreBytes-take : (n : ℕ) (bs : List ℕ) → AreBytes bs → AreBytes (take n bs)

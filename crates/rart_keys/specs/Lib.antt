@@ -7,3 +7,4 @@ pub mod KeyBytes
 pub mod LittleEndianWord
 pub mod NumberBytes
 pub mod SortedMap
+pub mod TailKeyBytes

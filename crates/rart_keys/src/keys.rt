@@ -11,6 +11,7 @@ ghost use Rattle.rart_keys.specs.KeyBytes.{AreBytes, IsWithin};
 use crate::partials::Partial;
 
 pub mod array_key;
+pub mod tail_key;
 
 /// A key: a byte string that is compared byte by byte.
 pub trait KeyTrait: Eq + Ord {
