@@ -130,6 +130,9 @@ module _ {X : Type 0} {ks : List ℕ} {os : List (Option X)} (s : IsSlots ks os)
       let x = used_read os p t.1 in
       (x.0, (t.0, t.1, x.1, keyed_at key p x.0 t.0 x.1 t.1))
 
+  pub keyed_absent : (key : ℕ) → ((k : ℕ) → get_or ks k 0 ≡ key → ⊥) → child_at key (ascending (with_keys ks os)) ≡ None
+  keyed_absent key none = child_at-ascending (with_keys ks os) key ∙ keys_none key ks os (λ r u e. none r e)
+
   pub keyed_none : (key : ℕ) → ((k : ℕ) → k < length os → is_held ks key (is_used os) k ≡ false) → child_at key (ascending (with_keys ks os)) ≡ None
   keyed_none key none =
       child_at-ascending (with_keys ks os) key ∙ keys_none key ks os (λ r u e. false≢true (sym (none r (used_place os r u))

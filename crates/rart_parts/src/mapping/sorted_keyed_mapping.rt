@@ -4,13 +4,13 @@
 ghost use Rattle.std.specs.Prelude.{◌≡◌, ℕ, [], ◌∷◌, IfSome, Some, ◌++◌, ◌<◌, ◌≤◌, length, IfErr, IfOk, OnOk, OnErr, MatchOption};
 ghost use Rattle.std.specs.Iterator.{UpTo, YieldsFirst, YieldsFirstBy, item_count};
 ghost use Rattle.std.specs.Iterator.SizeHint.{IsWithinCount};
-ghost use Rattle.rart_parts.specs.Entries.{BytesAscend, ascending};
+ghost use Rattle.rart_parts.specs.Entries.{ascending};
 
 use crate::error::TreeError;
 use crate::mapping::{IndexedMapping, NodeMapping};
 use crate::utils::bitset::BitsetTrait;
 use crate::utils::u8_keys::{
-    u8_keys_find_insert_position_sorted, u8_keys_find_key_position_sorted,
+    keys_are_bytes, u8_keys_find_insert_position_sorted, u8_keys_find_key_position_sorted,
 };
 use std::alloc::Global;
 use std::iter::FusedIterator;
@@ -108,7 +108,8 @@ impl<N, const W: usize> SortedKeyedMapping<N, W> {
         ensures filled { self.new ≡ ascending source.old }
         ensures emptied { ascending source.new ≡ [] }
     {
-        source.fits_width();
+        // Its bytes ascend.
+        let _count = source.num_children();
         while let Some((key, child)) = source.take_first() {
             self.add_child(key, child);
         }
@@ -122,13 +123,6 @@ impl<N, const W: usize> SortedKeyedMapping<N, W> {
             keys: &self.keys,
             children: self.children.as_slice(),
         }
-    }
-
-    /// The bytes ascend: this call does nothing but say so.
-    pub fn ascends(&self)
-        ensures { BytesAscend self.now }
-    {
-        let _keys = &self.keys;
     }
 
     /// Takes out the only child.
@@ -188,18 +182,12 @@ impl<N, const W: usize> NodeMapping<N, W> for SortedKeyedMapping<N, W> {
     }
 
     fn num_children(&self) -> usize {
+        keys_are_bytes(&self.keys);
         self.children.len()
     }
 }
 
 impl<N, const W: usize> SortedKeyedMapping<N, W> {
-    /// There are at most W children: this call does nothing but say so.
-    pub fn fits_width(&self)
-        ensures { length self.now ≤ W }
-    {
-        let _keys = &self.keys;
-    }
-
     /// Frees a map with no child. The type of its children need not allow them to be dropped.
     pub fn destroy_empty(self)
         requires { self ≡ [] }
