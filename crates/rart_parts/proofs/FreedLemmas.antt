@@ -1,11 +1,10 @@
 -- Maps and places without a value, and those with room.
-use Rattle.std.proofs.Common.{◌≡◌, ℕ, zero, suc, ◌<◌, List, [], ◌∷◌, ◌++◌, Option, Some, None, length, get_or, sym, ap, ◌∙◌, refl, arith}
+use Rattle.std.proofs.Common.{◌≡◌, ℕ, suc, List, [], ◌∷◌, ◌++◌, Option, Some, None, length, sym, ap, ◌∙◌, refl, arith}
 use Rattle.std.proofs.lemmas.List.{length-append}
 use Rattle.rart_parts.specs.Entries.{ascending}
 use Rattle.rart_parts.specs.Places.{numbered, values_in}
 use Rattle.rart_parts.specs.Indexed.{IsIndexed, with_bytes}
 use Rattle.rart_parts.specs.Keyed.{IsKeyed, with_keys}
-use Rattle.rart_parts.proofs.DirectLemmas.{length-numbered}
 
 values_in-last : {X : Type 0} (os : List (Option X)) (o : Option X) → values_in (os ++ o ∷ []) ≡ values_in os ++ values_in (o ∷ [])
 values_in-last [] o = refl

@@ -8,7 +8,7 @@ ghost use Rattle.rart_parts.specs.Entries.{ascending};
 use crate::error::TreeError;
 use crate::mapping::{IndexedMapping, NodeMapping};
 use crate::utils::bitset::BitsetTrait;
-use crate::utils::places::{fill_place, free_places};
+use crate::utils::places::{fill_place, free_places, new_places};
 use std::alloc::Global;
 use std::iter::FusedIterator;
 use std::marker::Model;
@@ -42,10 +42,7 @@ impl<N> DirectMapping<N> {
         ensures ok { IfOk result (λ m. m ≡ []) }
         ensures err { IfErr result (λ e. e ≡ TreeError.Memory) }
     {
-        let mut places = Vec::with_capacity(alloc, 256)?;
-        for i in 0..256usize {
-            places.push(None).unwrap();
-        }
+        let places = new_places(alloc, 256)?;
         Ok(DirectMapping {
             places,
             num_children: 0,
