@@ -1,5 +1,5 @@
 -- Maps from bytes as ascending lists of entries.
-use Rattle.std.proofs.Common.{◌≡◌, ◌≢◌, ℕ, ◌<◌, ◌≤◌, ◌+◌, true, false, cond, eqb, List, [], ◌∷◌, Option, Some, None, length, sym, ap, ◌∙◌, refl, arith, ⊎_elim, subst}
+use Rattle.std.proofs.Common.{◌≡◌, ◌≢◌, ℕ, suc, ◌<◌, ◌≤◌, ◌+◌, true, false, cond, eqb, List, [], ◌∷◌, Option, Some, None, length, sym, ap, ◌∙◌, refl, arith, ⊎_elim, subst}
 use Rattle.std.proofs.lemmas.Bool.{eq-eqb, ne_eqb, lt-ltb, le-ltb, cases_lt}
 use Rattle.std.proofs.lemmas.Bool.Decides.{eqb_tells}
 use Rattle.rart_parts.specs.Entries.{child_at, with_entry, with_another, without_byte, replaced, ascending, StartsAbove, BytesAscend}
@@ -208,6 +208,33 @@ module _ {X : Type 0} where
       (λ t. omega (arith, ap length (without_same k e es t.1)))
       (λ t. omega (arith, ap length (without_other k e es t.1), length-without_byte k x es (sym (at_other k e es t.1) ∙ h)))
       (eqb_tells e.0 k)
+
+  first_between : (n m : ℕ) (e : ℕ × X) (es : List (ℕ × X)) → ((b : ℕ) → b < n → child_at b (e ∷ es) ≡ None) → ((b : ℕ) → m ≤ b → child_at b (e ∷ es) ≡ None) → (n ≤ e.0) × (e.0 < m)
+  first_between n m e es below above = (
+    ⊎_elim (λ l. absurd (some_none (sym (at_same e.0 e es refl) ∙ below e.0 l))) (λ l. l) (cases_lt e.0 n),
+    ⊎_elim (λ l. l) (λ l. absurd (some_none (sym (at_same e.0 e es refl) ∙ above e.0 l))) (cases_lt e.0 m),
+  )
+
+  above_rest : (m : ℕ) (e : ℕ × X) (es : List (ℕ × X)) → e.0 < m → ((b : ℕ) → m ≤ b → child_at b (e ∷ es) ≡ None) → (b : ℕ) → m ≤ b → child_at b es ≡ None
+  above_rest m e es h above b l = sym (at_other b e es (λ q. omega (arith, q, h, l))) ∙ above b l
+
+  -- at most one entry for each byte from n on and below m, where all the bytes are
+  pub length-between : (n m : ℕ) (es : List (ℕ × X)) → n ≤ m → BytesAscend es → ((b : ℕ) → b < n → child_at b es ≡ None) → ((b : ℕ) → m ≤ b → child_at b es ≡ None) → length es + n ≤ m
+  length-between n m [] h a below above = omega (arith, h)
+  length-between n m (e ∷ es) h a below above =
+      let i = first_between n m e es below above in
+      let rest = length-between (suc e.0) m es (omega (arith, i.1)) a.1 (λ b l. below_start e.0 b es a.0 a.1 (omega (arith, l))) (above_rest m e es i.1 above) in
+      omega (arith, i.0, rest)
+
+  -- and fewer where one of these has none
+  pub length-between_absent : (n m k : ℕ) (es : List (ℕ × X)) → n ≤ k → k < m → child_at k es ≡ None → BytesAscend es → ((b : ℕ) → b < n → child_at b es ≡ None) → ((b : ℕ) → m ≤ b → child_at b es ≡ None) → length es + n < m
+  length-between_absent n m k [] l h free a below above = omega (arith, l, h)
+  length-between_absent n m k (e ∷ es) l h free a below above =
+      let i = first_between n m e es below above in
+      three (length (e ∷ es) + n < m) k e.0
+      (λ q. omega (arith, l, q, length-between e.0 m (e ∷ es) (omega (arith, i.1)) a (λ b p. at_other b e es (λ s. omega (arith, s, p)) ∙ below_start e.0 b es a.0 a.1 (omega (arith, p))) above))
+      (λ q. absurd (first_absent k e es free (sym q)))
+      (λ q. omega (arith, i.0, length-between_absent (suc e.0) m k es (omega (arith, q)) h (sym (at_other k e es (λ s. omega (arith, s, q))) ∙ free) a.1 (λ b p. below_start e.0 b es a.0 a.1 (omega (arith, p))) (above_rest m e es i.1 above)))
 
   pub length-replaced : (k : ℕ) (w : X) (es : List (ℕ × X)) → length (replaced k w es) ≡ length es
   length-replaced k w [] = refl

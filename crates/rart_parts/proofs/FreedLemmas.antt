@@ -1,11 +1,10 @@
 -- Maps and places without a value, and those with room.
-use Rattle.std.proofs.Common.{◌≡◌, ℕ, zero, suc, ◌<◌, List, [], ◌∷◌, ◌++◌, Option, Some, None, length, get_or, sym, ap, ◌∙◌, refl, arith}
+use Rattle.std.proofs.Common.{◌≡◌, ℕ, suc, List, [], ◌∷◌, ◌++◌, Option, Some, None, length, sym, ap, ◌∙◌, refl, arith}
 use Rattle.std.proofs.lemmas.List.{length-append}
 use Rattle.rart_parts.specs.Entries.{ascending}
 use Rattle.rart_parts.specs.Places.{numbered, values_in}
 use Rattle.rart_parts.specs.Indexed.{IsIndexed, with_bytes}
 use Rattle.rart_parts.specs.Keyed.{IsKeyed, with_keys}
-use Rattle.rart_parts.proofs.DirectLemmas.{length-numbered}
 
 values_in-last : {X : Type 0} (os : List (Option X)) (o : Option X) → values_in (os ++ o ∷ []) ≡ values_in os ++ values_in (o ∷ [])
 values_in-last [] o = refl
@@ -38,10 +37,3 @@ index_valueless {os} w h = numbered_valueless 0 os (nothing (numbered 0 os) (ome
 
 pub keyed_valueless : {X : Type 0} {width : ℕ} {ks : List ℕ} {os : List (Option X)} {count : ℕ} → IsKeyed width ks os count → ascending (with_keys ks os) ≡ [] → values_in os ≡ []
 keyed_valueless {os} w h = numbered_valueless 0 os (nothing (numbered 0 os) (omega (arith, sym w.counted ∙ w.entries, ap length h)))
-
--- with no value at one of the places there are fewer values than places
-pub fewer : {X : Type 0} (n k : ℕ) (os : List (Option X)) → k < length os → get_or os k None ≡ None → length (numbered n os) < length os
-fewer n k [] h a = absurd (omega arith)
-fewer n k (None ∷ os) h a = omega (arith, length-numbered (suc n) os)
-fewer n zero (Some x ∷ os) h a = absurd (cc)
-fewer n (suc k) (Some x ∷ os) h a = omega (arith, fewer (suc n) k os (omega arith) a)

@@ -3,7 +3,6 @@ use Rattle.std.proofs.Common.{◌≡◌, ◌≢◌, ℕ, zero, suc, ◌<◌, ◌
 use Rattle.std.proofs.lemmas.Bool.{eq-eqb, ne_eqb, false≢true}
 use Rattle.std.proofs.lemmas.Bool.Decides.{eqb_tells}
 use Rattle.std.proofs.lemmas.List.{length-set, length-replicate, get_or-set_same, get_or-set_other}
-use Rattle.rart_parts.specs.Bits.{IsFirst}
 use Rattle.rart_parts.specs.Entries.{child_at, with_entry, without_byte, replaced, ascending, BytesAscend}
 use Rattle.rart_parts.specs.Keys.{is_held}
 use Rattle.rart_parts.specs.Keyed.{with_keys, IsSlots, IsKeyed}
@@ -85,16 +84,6 @@ set_here [] i x h e = refl
 set_here (y ∷ xs) zero x h e = ap (λ z. z ∷ xs) (sym e)
 set_here (y ∷ xs) (suc i) x h e = ap (λ l. y ∷ l) (set_here xs i x (omega arith) e)
 
--- ---- what the search answers
-first_of : (f g : ℕ → Bool) (n : ℕ) → ((k : ℕ) → k < n → f k ≡ g k) → (r : Option ℕ) → IsFirst f n r → IsFirst g n r
-first_of f g n e None h = λ k l. sym (e k l) ∙ h k l
-first_of f g n e (Some p) h = (h.0, sym (e p h.0) ∙ h.1, λ k l. sym (e k (omega (arith, l, h.0))) ∙ h.2 k l)
-
-pub held_in : (ks : List ℕ) (key n : ℕ) (has used : ℕ → Bool) → ((k : ℕ) → k < n → has k ≡ used k) → (m : ℕ) → m ≡ n → (r : Option ℕ)
-    → IsFirst (is_held ks key has) m r → IsFirst (is_held ks key used) n r
-held_in ks key n has used e m is r h =
-    first_of (is_held ks key has) (is_held ks key used) n (λ k l. ap (λ b. eqb (get_or ks k 0) key && (not (eqb key 255) || b)) (e k l)) r (rw is at h)
-
 both : (a b : Bool) → (a && b) ≡ true → (a ≡ true) × (b ≡ true)
 both true b e = (refl, e)
 both false b e = absurd (false≢true e)
@@ -129,6 +118,9 @@ module _ {X : Type 0} {ks : List ℕ} {os : List (Option X)} (s : IsSlots ks os)
       let t = held_used key p h e in
       let x = used_read os p t.1 in
       (x.0, (t.0, t.1, x.1, keyed_at key p x.0 t.0 x.1 t.1))
+
+  pub keyed_absent : (key : ℕ) → ((k : ℕ) → get_or ks k 0 ≡ key → ⊥) → child_at key (ascending (with_keys ks os)) ≡ None
+  keyed_absent key none = child_at-ascending (with_keys ks os) key ∙ keys_none key ks os (λ r u e. none r e)
 
   pub keyed_none : (key : ℕ) → ((k : ℕ) → k < length os → is_held ks key (is_used os) k ≡ false) → child_at key (ascending (with_keys ks os)) ≡ None
   keyed_none key none =

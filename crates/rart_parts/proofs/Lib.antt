@@ -1,5 +1,6 @@
 pub mod DirectLemmas
 pub mod EntryLemmas
+pub mod FirstAboveLemmas
 pub mod FreedLemmas
 pub mod IndexLemmas
 pub mod KeyedLemmas

@@ -211,9 +211,3 @@ free_read [] p e = refl
 free_read (None ∷ os) zero e = refl
 free_read (Some x ∷ os) zero e = absurd (false≢true (sym e))
 free_read (o ∷ os) (suc p) e = free_read os p e
-
-pub none_read : {X : Type 0} (os : List (Option X)) (p : ℕ) → is_used os p ≡ true → None ≡ get_or os p None → ⊥
-none_read os p u e = let x = used_read os p u in clash (e ∙ x.1)
-  where
-    clash : {X : Type 0} {x : X} → None ≡ Some x → ⊥
-    clash h = cc

@@ -1,16 +1,17 @@
 -- The two columns of a sorted mapping through its calls.
-use Rattle.std.proofs.Common.{◌≡◌, ℕ, ◌<◌, ◌≤◌, ◌+◌, ◌-◌, List, [], ◌∷◌, ◌++◌, Option, Some, None, length, get_or, set, take, drop, sym, ap, ◌∙◌, refl, arith, subst}
+use Rattle.std.proofs.Common.{◌≡◌, ℕ, ◌<◌, ◌≤◌, ◌+◌, ◌-◌, List, [], ◌∷◌, ◌++◌, Option, Some, None, length, get_or, set, take, drop, sym, ap, ◌∙◌, refl, arith, subst, ⊎_elim}
+use Rattle.std.proofs.lemmas.Bool.Decides.{eqb_tells}
 use Rattle.std.specs.Prelude.{insert, OnSome, IsSome, IfSome}
 use Rattle.std.specs.Option.{option_copied_mut}
 use Rattle.std.specs.Borrow.{MutBor}
 use Rattle.std.proofs.lemmas.Bool.{false≢true}
 use Rattle.std.specs.List.{zip}
-use Rattle.std.proofs.lemmas.List.{length-set, length-append, length-take, length-drop, get_or-set_same, get_or-set_other}
+use Rattle.std.proofs.lemmas.List.{length-set, length-append, length-take, length-drop, get_or-set_same, get_or-set_other, get_or-append_right, get_or-drop}
 use Rattle.rart_parts.specs.Entries.{child_at, with_entry, without_byte, BytesAscend}
 use Rattle.rart_parts.specs.Keys.{IsAscendingBelow}
-use Rattle.rart_parts.specs.SortedKeyed.{IsSortedKeyed}
+use Rattle.rart_parts.specs.SortedKeyed.{IsSortedKeyed, IsPadded}
 use Rattle.rart_parts.proofs.EntryLemmas.{with_entry-ascends, without_byte-ascends}
-use Rattle.rart_parts.proofs.Zipped.{length_zipped, set_zip, set_child-ascends, inserted, child_found, keys_ascend, zip_last, front-ascends}
+use Rattle.rart_parts.proofs.Zipped.{length_zipped, zip_same, set_zip, set_child-ascends, inserted, child_found, keys_ascend, zip_last, front-ascends}
 
 one_zipped : {X : Type 0} (ks : List ℕ) (vs : List X) (x : X) → length vs ≤ length ks → length vs ≡ 1 → x ≡ get_or vs 0 x → zip ks vs ≡ (get_or ks 0 0, x) ∷ []
 one_zipped ks [] x h one e = absurd (omega arith)
@@ -52,26 +53,29 @@ module _ {X : Type 0} {width : ℕ} {ks : List ℕ} {vs : List X} {room : ℕ} (
     room = s.room;
     narrow = s.narrow;
     ascends = subst BytesAscend (sym (set_zip ks vs i w)) (set_child-ascends i w (zip ks vs) s.ascends);
+    padded = λ k l m. s.padded k (omega (arith, l, length-set vs i w)) m;
   }
 
   pub added : (key : ℕ) (x : X) (ks' : List ℕ) (vs' : List X) (room' : ℕ) → length ks' ≡ length ks → length vs' ≡ length vs + 1 → length vs < width → room ≤ room'
-      → zip ks' vs' ≡ with_entry key x (zip ks vs) → IsSortedKeyed width ks' vs' room'
-  added key x ks' vs' room' n m l r e = record {
+      → zip ks' vs' ≡ with_entry key x (zip ks vs) → IsPadded ks' (length vs + 1) width → IsSortedKeyed width ks' vs' room'
+  added key x ks' vs' room' n m l r e p = record {
     full = n ∙ s.full;
     few = omega (arith, m, l);
     room = omega (arith, r, s.room);
     narrow = s.narrow;
     ascends = subst BytesAscend (sym e) (with_entry-ascends key x (zip ks vs) s.ascends);
+    padded = subst (λ n. IsPadded ks' n width) (sym m) p;
   }
 
   pub deleted : (key : ℕ) (ks' : List ℕ) (vs' : List X) (room' : ℕ) → length ks' ≡ length ks → length vs ≡ length vs' + 1 → room' ≡ room
-      → zip ks' vs' ≡ without_byte key (zip ks vs) → IsSortedKeyed width ks' vs' room'
-  deleted key ks' vs' room' n m r e = record {
+      → zip ks' vs' ≡ without_byte key (zip ks vs) → IsPadded ks' (length vs') width → IsSortedKeyed width ks' vs' room'
+  deleted key ks' vs' room' n m r e p = record {
     full = n ∙ s.full;
     few = omega (arith, m, s.few);
     room = omega (arith, r, s.room);
     narrow = s.narrow;
     ascends = subst BytesAscend (sym e) (without_byte-ascends key (zip ks vs) s.ascends);
+    padded = p;
   }
 
   -- without the last child
@@ -82,18 +86,44 @@ module _ {X : Type 0} {width : ℕ} {ks : List ℕ} {vs : List X} {room : ℕ} (
     pub last_entry : zip ks vs ≡ zip ks rest ++ (get_or ks (length rest) 0, x) ∷ []
     last_entry = ap (zip ks) e ∙ zip_last ks rest x last_within
 
-    pub popped : (room' : ℕ) → room' ≡ room → IsSortedKeyed width ks rest room'
+    pub popped_zip : zip (set ks (length rest) 255) rest ≡ zip ks rest
+    popped_zip = zip_same ks (set ks (length rest) 255) rest (omega (arith, last_within)) (omega (arith, last_within, length-set ks (length rest) 255)) (λ j l. get_or-set_other ks (length rest) j 255 0 (λ q. omega (arith, q, l)))
+
+    pub popped : (room' : ℕ) → room' ≡ room → IsSortedKeyed width (set ks (length rest) 255) rest room'
     popped room' r = record {
-      full = s.full;
+      full = length-set ks (length rest) 255 ∙ s.full;
       few = omega (arith, s.few, ap length e, length-append rest (x ∷ []));
       room = omega (arith, r, s.room);
       narrow = s.narrow;
-      ascends = front-ascends (zip ks rest) _ (subst BytesAscend last_entry s.ascends);
+      ascends = subst BytesAscend (sym popped_zip) (front-ascends (zip ks rest) _ (subst BytesAscend last_entry s.ascends));
+      padded = λ k l m. ⊎_elim
+          (λ t. ap (λ j. get_or (set ks (length rest) 255) j 0) t.1 ∙ get_or-set_same ks (length rest) 255 0 last_within)
+          (λ t. get_or-set_other ks (length rest) k 255 0 t.1 ∙ s.padded k (omega (arith, l, t.1, ap length e, length-append rest (x ∷ []))) m)
+          (eqb_tells k (length rest));
     }
 
-  pub emptied : (vs' : List X) → length vs' ≡ 0 → (room' : ℕ) → room' ≡ room → IsSortedKeyed width ks vs' room'
-  emptied [] e room' r = record { full = s.full; few = omega (arith, s.few); room = omega (arith, r, s.room); narrow = s.narrow; ascends = subst BytesAscend (sym (no_entries ks [] refl)) tt }
-  emptied (v ∷ vs') e room' r = absurd (omega arith)
+  pub emptied : (ks' : List ℕ) (vs' : List X) → length ks' ≡ width → length vs' ≡ 0 → (room' : ℕ) → room' ≡ room → IsPadded ks' 0 width → IsSortedKeyed width ks' vs' room'
+  emptied ks' [] full e room' r p = record { full = full; few = omega (arith, s.few); room = omega (arith, r, s.room); narrow = s.narrow; ascends = subst BytesAscend (sym (no_entries ks' [] refl)) tt; padded = p }
+  emptied ks' (v ∷ vs') full e room' r p = absurd (omega arith)
+
+  -- one more key, at a place, with the keys behind it moved up
+  pub padded_more : (ks₁ : List ℕ) (n at key : ℕ) → n ≡ length vs → at ≤ n → ((k d : ℕ) → at + 1 + (n - at) ≤ k → get_or ks₁ k d ≡ get_or ks k d) → IsPadded (set ks₁ at key) (length vs + 1) width
+  padded_more ks₁ n at key count h same k l m =
+      get_or-set_other ks₁ at k key 0 (λ q. omega (arith, q, l, count, h)) ∙ same k 0 (omega (arith, l, count, h)) ∙ s.padded k (omega (arith, l)) m
+
+  -- one fewer, with the keys behind it moved down and the last one overwritten
+  pub padded_less : (ks₁ : List ℕ) (n at fewer : ℕ) → n ≡ length vs → at < n → length ks₁ ≡ length ks → ((k d : ℕ) → at + (n - (at + 1)) ≤ k → get_or ks₁ k d ≡ get_or ks k d) → length vs ≡ fewer + 1 → IsPadded (set ks₁ (n - 1) 255) fewer width
+  padded_less ks₁ n at fewer count h len same one k l m = ⊎_elim
+      (λ t. ap (λ j. get_or (set ks₁ (n - 1) 255) j 0) t.1 ∙ get_or-set_same ks₁ (n - 1) 255 0 (omega (arith, len, fits, count, h)))
+      (λ t. get_or-set_other ks₁ (n - 1) k 255 0 t.1 ∙ same k 0 (omega (arith, l, one, count, h)) ∙ s.padded k (omega (arith, l, one, count, t.1)) m)
+      (eqb_tells k (n - 1))
+
+  -- without the only child
+  pub padded_alone : length vs ≡ 1 → IsPadded (set ks 0 255) 0 width
+  padded_alone one k l m = ⊎_elim
+      (λ t. ap (λ j. get_or (set ks 0 255) j 0) t.1 ∙ get_or-set_same ks 0 255 0 (omega (arith, one, s.few, s.full)))
+      (λ t. get_or-set_other ks 0 k 255 0 t.1 ∙ s.padded k (omega (arith, one, t.1)) m)
+      (eqb_tells k 0)
 
   -- the only entry
   pub only_entry : (x : X) → length vs ≡ 1 → x ≡ get_or vs 0 x → zip ks vs ≡ (get_or ks 0 0, x) ∷ []
@@ -124,13 +154,15 @@ module _ {X : Type 0} {width : ℕ} {ks : List ℕ} {vs : List X} {room : ℕ} (
     pub resized_zip : zip (take n ks ++ drop n ks') vs ≡ zip ks vs
     resized_zip = ap (λ m. zip (take m ks ++ drop n ks') vs) count ∙ zip_front ks (drop n ks') vs fits
 
-    pub resized : (width' room' : ℕ) → length vs ≤ width' → width' ≤ room' → width' ≤ 255 → length ks' ≡ width' → IsSortedKeyed width' (take n ks ++ drop n ks') vs room'
-    resized width' room' few r narrow full = record {
+    pub resized : (width' room' : ℕ) → length vs ≤ width' → width' ≤ room' → width' ≤ 255 → length ks' ≡ width' → IsPadded ks' 0 width' → IsSortedKeyed width' (take n ks ++ drop n ks') vs room'
+    resized width' room' few r narrow full p = record {
       full = omega (arith, length-append (take n ks) (drop n ks'), length-take n ks, length-drop n ks', full, few, count, fits);
       few = few;
       room = r;
       narrow = narrow;
       ascends = subst BytesAscend (sym resized_zip) s.ascends;
+      padded = λ k l m. get_or-append_right (take n ks) (drop n ks') n k 0 (omega (arith, length-take n ks, count, fits)) (omega (arith, l, count)) ∙ get_or-drop n ks' (k - n) 0
+          ∙ (let at : n + (k - n) ≡ k = omega (arith, count, l) in ap (λ j. get_or ks' j 0) at) ∙ p k (omega arith) m;
     }
 
 -- as many entries as children, from a place on

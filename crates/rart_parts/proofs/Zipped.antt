@@ -2,7 +2,7 @@
 use Rattle.std.proofs.Common.{◌≡◌, ◌≢◌, ℕ, zero, suc, ◌<◌, ◌≤◌, ◌+◌, List, [], ◌∷◌, ◌++◌, Some, None, length, get_or, set, sym, ap, ◌∙◌, refl, arith}
 use Rattle.std.specs.Prelude.{insert, remove}
 use Rattle.std.specs.List.{zip}
-use Rattle.rart_parts.specs.Entries.{children_of, child_at, with_entry, without_byte, replaced, set_child, StartsAbove, BytesAscend}
+use Rattle.rart_parts.specs.Entries.{child_at, with_entry, without_byte, replaced, set_child, StartsAbove, BytesAscend}
 use Rattle.rart_parts.specs.Keys.{IsAscendingBelow}
 use Rattle.rart_parts.proofs.EntryLemmas.{at_same, at_other, with_before, with_after, without_same, without_other, replaced_same, replaced_other, first_absent}
 
@@ -127,9 +127,3 @@ pub front-ascends : {X : Type 0} (es ds : List (ℕ × X)) → BytesAscend (es +
 front-ascends [] ds a = tt
 front-ascends (e ∷ []) ds a = (tt, tt)
 front-ascends (e ∷ f ∷ es) ds a = (a.0, front-ascends (f ∷ es) ds a.1)
-
-pub seconds : {X : Type 0} (ks : List ℕ) (vs : List X) → length vs ≤ length ks → children_of (zip ks vs) ≡ vs
-seconds [] [] h = refl
-seconds [] (v ∷ vs) h = absurd (omega arith)
-seconds (k ∷ ks) [] h = refl
-seconds (k ∷ ks) (v ∷ vs) h = ap (λ l. v ∷ l) (seconds ks vs (omega arith))

@@ -6,10 +6,10 @@ pub mod indexed_mapping;
 pub mod keyed_mapping;
 pub mod sorted_keyed_mapping;
 
-ghost use Rattle.std.specs.Prelude.{◌≡◌, ℕ, ◌<◌, List, length, OnSome, None};
+ghost use Rattle.std.specs.Prelude.{◌≡◌, ℕ, ◌<◌, ◌≤◌, List, length, OnSome, None};
 ghost use Rattle.std.specs.Borrow.{sem, LendsSo};
 ghost use Rattle.std.specs.Option.{option_copied, option_copied_mut};
-ghost use Rattle.rart_parts.specs.Entries.{child_at, with_entry, without_byte, replaced};
+ghost use Rattle.rart_parts.specs.Entries.{BytesAscend, child_at, with_entry, without_byte, replaced};
 
 pub use direct_mapping::{DirectMapping, DirectMappingIntoIter, DirectMappingIter};
 pub use indexed_mapping::{IndexedMapping, IndexedMappingIntoIter, IndexedMappingIter};
@@ -42,9 +42,12 @@ pub trait NodeMapping<N, const NUM_CHILDREN: usize> {
         ensures taken { result ≡ child_at key (map self.old) }
         ensures rest { map self.new ≡ without_byte key (map self.old) };
 
-    /// How many children there are.
+    /// How many children there are: no more than there is room for, no two at one byte, and none above byte 255.
     fn num_children(&self) -> usize
-        ensures { result ≡ length (map self.now) };
+        ensures count { result ≡ length (map self.now) }
+        ensures few { length (map self.now) ≤ NUM_CHILDREN }
+        ensures ascends { BytesAscend (map self.now) }
+        ensures bytes { (b : ℕ) → 256 ≤ b → child_at b (map self.now) ≡ None };
 
     /// How many children there is room for.
     fn width(&self) -> usize

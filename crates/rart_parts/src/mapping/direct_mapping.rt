@@ -3,12 +3,12 @@
 ghost use Rattle.std.specs.Prelude.{◌≡◌, ℕ, [], ◌∷◌, IfSome, Some, ◌<◌, ◌≤◌, length, IfErr, IfOk, None, OnOk, OnErr};
 ghost use Rattle.std.specs.Iterator.{UpTo, YieldsFirst, YieldsFirstBy, item_count};
 ghost use Rattle.std.specs.Iterator.SizeHint.{IsWithinCount};
-ghost use Rattle.rart_parts.specs.Entries.{ascending, child_at, BytesAscend};
+ghost use Rattle.rart_parts.specs.Entries.{ascending};
 
 use crate::error::TreeError;
 use crate::mapping::{IndexedMapping, NodeMapping};
 use crate::utils::bitset::BitsetTrait;
-use crate::utils::places::{fill_place, free_places};
+use crate::utils::places::{fill_place, free_places, new_places};
 use std::alloc::Global;
 use std::iter::FusedIterator;
 use std::marker::Model;
@@ -42,22 +42,11 @@ impl<N> DirectMapping<N> {
         ensures ok { IfOk result (λ m. m ≡ []) }
         ensures err { IfErr result (λ e. e ≡ TreeError.Memory) }
     {
-        let mut places = Vec::with_capacity(alloc, 256)?;
-        for i in 0..256usize {
-            places.push(None).unwrap();
-        }
+        let places = new_places(alloc, 256)?;
         Ok(DirectMapping {
             places,
             num_children: 0,
         })
-    }
-
-    /// The bytes ascend, and each is below 256: this call does nothing but say so.
-    pub fn ascends(&self)
-        ensures ascends { BytesAscend self.now }
-        ensures bytes { (b : ℕ) → 256 ≤ b → child_at b self.now ≡ None }
-    {
-        let _places = &self.places;
     }
 
     /// The children with their bytes, ascending.
@@ -94,7 +83,8 @@ impl<N> DirectMapping<N> {
         ensures filled { self.new ≡ ascending source.old }
         ensures emptied { ascending source.new ≡ [] }
     {
-        source.fits_width();
+        // Its bytes ascend.
+        let _count = source.num_children();
         while let Some((key, child)) = source.take_first() {
             self.add_child(key, child);
         }
@@ -135,14 +125,6 @@ impl<N> NodeMapping<N, 256> for DirectMapping<N> {
 }
 
 impl<N> DirectMapping<N> {
-    /// Where a byte has no child there are fewer than 256 children: this call does nothing but say so.
-    pub fn leaves_room(&self, key: u8)
-        requires { child_at key self.now ≡ None }
-        ensures { length self.now < 256 }
-    {
-        let _places = &self.places;
-    }
-
     /// Frees a map with no child. The type of its children need not allow them to be dropped.
     pub fn destroy_empty(self)
         requires { self ≡ [] }

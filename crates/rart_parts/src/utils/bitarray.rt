@@ -16,6 +16,7 @@ use crate::error::TreeError;
 use crate::utils::bitset::BitsetTrait;
 use crate::utils::places::{
     fill_place, find_used, first_free_place, first_used_place, free_places, last_used_place,
+    new_places,
 };
 pub use iter::{BitArrayIter, BitArrayKeys};
 pub use iter_mut::BitArrayIterMut;
@@ -52,10 +53,7 @@ impl<X, const RANGE_WIDTH: usize, B: BitsetTrait> BitArray<X, RANGE_WIDTH, B> {
         ensures ok { IfOk result (λ a. a ≡ replicate RANGE_WIDTH None) }
         ensures err { IfErr result (λ e. e ≡ TreeError.Memory) }
     {
-        let mut places = Vec::with_capacity(alloc, RANGE_WIDTH)?;
-        for i in 0..RANGE_WIDTH {
-            places.push(None).unwrap();
-        }
+        let places = new_places(alloc, RANGE_WIDTH)?;
         Ok(BitArray {
             bitset: B::default(),
             places,
@@ -71,9 +69,7 @@ impl<X, const RANGE_WIDTH: usize, B: BitsetTrait> BitArray<X, RANGE_WIDTH, B> {
         ensures new { MatchOption result (self.new ≡ self.old) (λ p. self.new ≡ slice_set self.old p (Some x)) }
     {
         let position = self.first_empty()?;
-        find_used(&mut self.bitset, &self.places);
-        self.bitset.set(position);
-        self.places[position] = Some(x);
+        self.put(position, x);
         Some(position)
     }
 
@@ -180,9 +176,7 @@ impl<X, const RANGE_WIDTH: usize, B: BitsetTrait> BitArray<X, RANGE_WIDTH, B> {
         requires { position < RANGE_WIDTH }
         ensures { self.new ≡ slice_set self.old position (Some x) }
     {
-        find_used(&mut self.bitset, &self.places);
-        self.bitset.set(position);
-        self.places[position] = Some(x);
+        let _old = self.update(position, x);
     }
 
     /// Puts a value at a free place. Nothing is dropped, so the value's type need not allow it.

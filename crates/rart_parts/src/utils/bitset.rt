@@ -103,6 +103,10 @@ pub trait BitsetTrait: Default + Drop {
     ghost capacity_is: { CAPACITY ≡ STORAGE_WORDS * STORAGE_BIT_WIDTH };
 
     ghost width_is: { 2 ^ BIT_SHIFT ≡ STORAGE_BIT_WIDTH };
+
+    ghost least_shift: { 3 ≤ BIT_SHIFT };
+
+    ghost greatest_shift: { BIT_SHIFT ≤ 6 };
 }
 
 /// A set in words of 8 bits.

@@ -1,9 +1,23 @@
 //! Places, each with a value or without.
-ghost use Rattle.std.specs.Prelude.{◌≡◌, ◌<◌, ◌≤◌, ◌^◌, not, [], Some, None, length};
+ghost use Rattle.std.specs.Prelude.{◌≡◌, ◌<◌, ◌≤◌, ◌^◌, not, [], Some, None, length, replicate, IfErr, IfOk};
 ghost use Rattle.rart_parts.specs.Bits.{IsFirst, IsLast};
 ghost use Rattle.rart_parts.specs.Places.{is_used, values_in, Agrees, AgreesIfAny};
 
+use crate::error::TreeError;
 use crate::utils::bitset::BitsetTrait;
+use std::alloc::Global;
+
+/// Places without a value. It takes memory for all of them at once.
+pub(crate) fn new_places<X>(alloc: Global, count: usize) -> Result<Vec<Option<X>>, TreeError>
+    ensures ok { IfOk result (λ places. places.items ≡ replicate count None) }
+    ensures err { IfErr result (λ e. e ≡ TreeError.Memory) }
+{
+    let mut places = Vec::with_capacity(alloc, count)?;
+    for i in 0..count {
+        places.push(None).unwrap();
+    }
+    Ok(places)
+}
 
 /// Puts a value at a place that has none. Nothing is dropped, so the value's type need not allow it.
 pub(crate) fn fill_place<X>(place: &mut Option<X>, x: X)

@@ -1,5 +1,5 @@
 //! The place of a byte among the keys of a node.
-ghost use Rattle.std.specs.Prelude.{◌≡◌, ℕ, ◌<◌, ◌≤◌, length, IsSomeAnd};
+ghost use Rattle.std.specs.Prelude.{◌≡◌, ℕ, ◌<◌, ◌≤◌, length, slice_index, IsSomeAnd};
 ghost use Rattle.rart_parts.specs.Bits.{IsFirst};
 ghost use Rattle.rart_parts.specs.Keys.{IsAscendingBelow, IsPlaceOf, IsFirstAbove, is_held};
 
@@ -53,6 +53,13 @@ pub fn u8_keys_find_key_position<const WIDTH: usize, B: BitsetTrait>(
         }
     }
     None
+}
+
+/// Keys are bytes: this tells a proof, which doesn't know it of the elements of an array.
+pub(crate) fn keys_are_bytes(keys: &[u8])
+    ensures { (k : ℕ) → slice_index keys.now k ≤ 255 }
+{
+    let _keys = keys;
 }
 
 // By halves where there may be more than four keys.

@@ -105,22 +105,10 @@ impl<N> Storage<N> {
     {
         match self {
             Storage::Leaf => false,
-            Storage::Four(map) => {
-                map.fits_width();
-                map.num_children() < 4
-            }
-            Storage::Sixteen(map) => {
-                map.fits_width();
-                map.num_children() < 16
-            }
-            Storage::FortyEight(map) => {
-                map.fits_width();
-                map.num_children() < 48
-            }
-            Storage::Full(map) => {
-                map.leaves_room(b);
-                true
-            }
+            Storage::Four(map) => map.num_children() < 4,
+            Storage::Sixteen(map) => map.num_children() < 16,
+            Storage::FortyEight(map) => map.num_children() < 48,
+            Storage::Full(map) => map.num_children() < 256,
         }
     }
 

@@ -3,9 +3,10 @@ ghost use Rattle.std.specs.Prelude.{◌≡◌, ℕ, ◌<◌, ◌*◌, ◌^◌, f
 ghost use Rattle.rart_parts.specs.Bits.{words_have, members};
 
 use crate::utils::bitset::{BitsetOnesIter, BitsetTrait, BitsetWord};
+use std::alloc::AllocError;
 
 /// A set of positions below S times the bits of a word, in S words. It takes no memory.
-#[derive(Clone, Drop)]
+#[derive(Drop)]
 pub struct Bitset<W: BitsetWord, const S: usize> {
     pub(crate) words: [W; S],
 }
@@ -18,6 +19,18 @@ impl<W: BitsetWord, const S: usize> Bitset<W, S> {
         Bitset {
             words: [W::from_u64(0); S],
         }
+    }
+}
+
+impl<W: BitsetWord, const S: usize> Clone for Bitset<W, S> {
+    ghost use Rattle.std.specs.Prelude.{◌≡◌, ⊤};
+
+    ghost is_clone = { λ set copy. copy ≡ set };
+
+    ghost is_infallible = { λ _. ⊤ };
+
+    fn clone(&self) -> Result<Self, AllocError> {
+        Ok(Bitset { words: self.words })
     }
 }
 
@@ -45,6 +58,10 @@ impl<W: BitsetWord, const S: usize> BitsetTrait for Bitset<W, S> {
     ghost capacity_is = { refl };
 
     ghost width_is = { W.width_is };
+
+    ghost least_shift = { W.least_shift };
+
+    ghost greatest_shift = { W.greatest_shift };
 
     const BIT_SHIFT: usize = W::SHIFT;
 

@@ -99,6 +99,10 @@ pub trait BitsetWord: Copy {
     ghost narrow: { WIDTH ≤ 64 };
 
     ghost width_is: { 2 ^ SHIFT ≡ WIDTH };
+
+    ghost least_shift: { 3 ≤ SHIFT };
+
+    ghost greatest_shift: { SHIFT ≤ 6 };
 }
 
 impl BitsetWord for u8 {
@@ -113,6 +117,10 @@ impl BitsetWord for u8 {
     ghost narrow = { Prim.omega arith };
 
     ghost width_is = { refl };
+
+    ghost least_shift = { Prim.omega arith };
+
+    ghost greatest_shift = { Prim.omega arith };
 
     const SHIFT: usize = 3;
 
@@ -140,6 +148,10 @@ impl BitsetWord for u16 {
 
     ghost width_is = { refl };
 
+    ghost least_shift = { Prim.omega arith };
+
+    ghost greatest_shift = { Prim.omega arith };
+
     const SHIFT: usize = 4;
 
     const WIDTH: usize = 16;
@@ -166,6 +178,10 @@ impl BitsetWord for u32 {
 
     ghost width_is = { refl };
 
+    ghost least_shift = { Prim.omega arith };
+
+    ghost greatest_shift = { Prim.omega arith };
+
     const SHIFT: usize = 5;
 
     const WIDTH: usize = 32;
@@ -191,6 +207,10 @@ impl BitsetWord for u64 {
     ghost narrow = { Prim.omega arith };
 
     ghost width_is = { refl };
+
+    ghost least_shift = { Prim.omega arith };
+
+    ghost greatest_shift = { Prim.omega arith };
 
     const SHIFT: usize = 6;
 

@@ -65,6 +65,7 @@ IsSortedKeyed-prop w ks vs r = λ x y i. record {
   room = le_prop x.room y.room i;
   narrow = le_prop x.narrow y.narrow i;
   ascends = ascends-prop (zip ks vs) x.ascends y.ascends i;
+  padded = λ k l m. ℕ_set _ _ (x.padded k l m) (y.padded k l m) i;
 }
 
 along : {X Y : Type 0} (h : X → Y) (w : ℕ) (ks : List ℕ) (vs : List X) (r : ℕ) → IsSortedKeyed w ks vs r → IsSortedKeyed w ks (map h vs) r
@@ -74,6 +75,7 @@ along h w ks vs r e = record {
   room = e.room;
   narrow = e.narrow;
   ascends = coe 0 1 (i. sym (ap BytesAscend (zip-map h ks vs) ∙ ascends-map h (zip ks vs)) i) e.ascends;
+  padded = λ k l. e.padded k (subst (λ n. n ≤ k) (length-map vs h) l);
 }
 
 back : {X Y : Type 0} (h : X → Y) (w : ℕ) (ks : List ℕ) (vs : List X) (r : ℕ) → IsSortedKeyed w ks (map h vs) r → IsSortedKeyed w ks vs r
@@ -83,6 +85,7 @@ back h w ks vs r e = record {
   room = e.room;
   narrow = e.narrow;
   ascends = coe 0 1 (i. (ap BytesAscend (zip-map h ks vs) ∙ ascends-map h (zip ks vs)) i) e.ascends;
+  padded = λ k l. e.padded k (subst (λ n. n ≤ k) (sym (length-map vs h)) l);
 }
 
 zip-held : (X : Type 0) (ks : List ℕ) (vs : List X) → length vs ≤ length ks → held (list (entry this)) X (zip ks vs) ≡ held (list this) X vs

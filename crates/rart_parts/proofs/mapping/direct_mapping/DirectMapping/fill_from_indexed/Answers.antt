@@ -1,7 +1,13 @@
 use Rattle.std.proofs.Common.{◌≡◌, ◌++◌, ◌∷◌, ◌∙◌, sym, ap, arith}
 use Rattle.rart_parts.specs.Entries.{ascending}
+use Rattle.rart_parts.proofs.EntryLemmas.{length-between}
 use Rattle.rart_parts.proofs.MoveLemmas.{moved_absent, moved_next, moved_room}
 use Rattle.rart_parts.proofs.mapping.direct_mapping.DirectMapping.fill_from_indexed.Goals as goal
+
+pub loop-key-init : goal.loop-key-init
+loop-key-init g c =
+    let few = length-between 0 256 (ascending c.args.source.now) (omega arith) c.num_children-count.ensures.ascends (λ b l. absurd (omega (arith, l))) c.num_children-count.ensures.bytes in
+    (omega (arith, few), c.num_children-count.ensures.ascends, ap (λ es. es ++ ascending c.args.source.now) c.requires)
 
 pub add_child-requires-clause-absent : goal.add_child-requires-clause-absent
 add_child-requires-clause-absent g c =

@@ -24,9 +24,9 @@ loop-byte-preserved g c = record {
 }
 
 pub returns-clause-emptied : goal.returns-clause-emptied
-returns-clause-emptied g c = none_left c.args.source.now (ascending c.loop-byte.self) c.loop-byte.source c.loop-byte.byte c.loop-byte.invariant.in_order c.loop-byte.invariant.whole c.loop-byte.invariant.passed (λ b h. c.ascends-2.ensures.bytes b (omega (arith, h, c.loop-byte-test.false)))
+returns-clause-emptied g c = none_left c.args.source.now (ascending c.loop-byte.self) c.loop-byte.source c.loop-byte.byte c.loop-byte.invariant.in_order c.loop-byte.invariant.whole c.loop-byte.invariant.passed (λ b h. c.num_children-left.ensures.bytes b (omega (arith, h, c.loop-byte-test.false)))
 
 pub returns-clause-filled : goal.returns-clause-filled
 returns-clause-filled g c =
     all_moved c.args.source.now (ascending c.loop-byte.self) c.loop-byte.source c.loop-byte.invariant.whole
-    (none_left c.args.source.now (ascending c.loop-byte.self) c.loop-byte.source c.loop-byte.byte c.loop-byte.invariant.in_order c.loop-byte.invariant.whole c.loop-byte.invariant.passed (λ b h. c.ascends-2.ensures.bytes b (omega (arith, h, c.loop-byte-test.false))))
+    (none_left c.args.source.now (ascending c.loop-byte.self) c.loop-byte.source c.loop-byte.byte c.loop-byte.invariant.in_order c.loop-byte.invariant.whole c.loop-byte.invariant.passed (λ b h. c.num_children-left.ensures.bytes b (omega (arith, h, c.loop-byte-test.false))))

@@ -5,7 +5,7 @@ use Rattle.rart_parts.proofs.SplitLemmas.{split_start, split_absent, split_room,
 use Rattle.rart_parts.proofs.mapping.indexed_mapping.IndexedMapping.fill_from_keyed.Goals as goal
 
 pub loop-key-init : goal.loop-key-init
-loop-key-init g c = split_start (ascending c.args.source.now) (ascending c.args.self.now) c.fits_width.ensures.ascends c.requires.empty
+loop-key-init g c = split_start (ascending c.args.source.now) (ascending c.args.self.now) c.num_children-count.ensures.ascends c.requires.empty
 
 pub add_child-requires : goal.add_child-requires
 add_child-requires g c =

@@ -3,8 +3,10 @@ use Rattle.rart_parts.proofs.Zipped.{child_none, replaced_found, set_zip}
 use Rattle.rart_parts.proofs.SortedLemmas.{fits, ordered, written, mut_read, on_any}
 use Rattle.rart_parts.proofs.mapping.sorted_keyed_mapping.SortedKeyedMappingNodeMapping.seek_child_mut.Goals as goal
 
-pub u8_keys_find_key_position_sorted-requires-clause-ascend : goal.u8_keys_find_key_position_sorted-requires-clause-ascend
-u8_keys_find_key_position_sorted-requires-clause-ascend g c = ordered c.self.invariant _ (c.len.ensures ∙ c.self.inside.children.ok.0)
+pub place_of-requires : goal.place_of-requires
+place_of-requires g c =
+    let count = c.len.ensures ∙ c.self.inside.children.ok.0 in
+    (omega arith, (omega (arith, count, c.self.invariant.few), (ordered c.self.invariant _ count, λ k l. c.self.invariant.padded k (omega (arith, l, count)))))
 
 pub invariant_of-self-lent : goal.invariant_of-self-lent
 invariant_of-self-lent g c = λ _. (written c.self.invariant c.in-Some.at, c.self.invariant)

@@ -1,6 +1,0 @@
-use Rattle.std.proofs.Common.{◌≡◌, ◌≤◌, replicate, None}
-use Rattle.std.specs.Prelude.{vec_capacity}
-use Rattle.rart_parts.proofs.mapping.direct_mapping.DirectMapping.new.Given as goal
-
-abbrev pub invariant-loop-i : goal.invariant-loop-i
-invariant-loop-i g l = (l.places.items ≡ replicate l.i None) × (256 ≤ vec_capacity l.places)
