@@ -1,3 +1,4 @@
+pub mod Edits
 pub mod Loans
 pub mod MapAndShape
 pub mod Refusals
