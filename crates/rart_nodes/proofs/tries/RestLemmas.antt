@@ -1,7 +1,8 @@
 -- What is left of a key behind a prefix, as code finds it, and what the functions on tries do with it.
 use Rattle.std.proofs.Common.{◌≡◌, ℕ, suc, ◌-◌, ◌<◌, ◌≤◌, ◌==◌, Bool, true, false, cond, List, [], ◌∷◌, length, take, drop, nat_eq, Option, Some, None, refl, arith, sym, ap, ◌∙◌}
-use Rattle.std.specs.Prelude.{slice_get}
+use Rattle.std.specs.Prelude.{nat_le, slice_get}
 use Rattle.std.specs.List.{common_prefix_len}
+use Rattle.std.proofs.lemmas.Bool.Decides.{nat_tests}
 use Rattle.std.proofs.lemmas.Grind.{common_steps}
 use Rattle.std.proofs.lemmas.List.{length-drop}
 use Rattle.rart_keys.specs.ByteStrings.{strip_prefix}
@@ -34,6 +35,13 @@ pub strip_prefix-full : (p k : List ℕ) (n : ℕ) → n ≡ common_prefix_len n
 strip_prefix-full p k n e h =
     let whole : n ≡ length p = omega (arith, common_prefix_len-within p k) in
     ap Some (slice_from k n ∙ ap (λ m. drop m k) whole) ∙ strip_prefix-common p k (omega arith)
+
+-- where the prefix doesn't begin the key, they part within it
+pub parts-within : (p k : List ℕ) (n : ℕ) → n ≡ common_prefix_len nat_eq p k → None ≡ strip_prefix p k → n < length p
+parts-within p k n e s = elim (nat_le (length p) n) as (λ z. nat_le (length p) n ≡ z → n < length p) [
+  | true ↦ λ h. let f = strip_prefix-full p k n e (grind (arith, nat_tests)) in absurd (cc)
+  | false ↦ λ h. grind (arith, nat_tests)
+] refl
 
 -- it is no longer than the key
 rest-step : (z : Bool) (p k r : List ℕ) → (Some r ≡ strip_prefix p k → length r ≤ length k) → Some r ≡ cond z (strip_prefix p k) None → length r ≤ suc (length k)
