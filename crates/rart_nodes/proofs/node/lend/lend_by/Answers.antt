@@ -35,11 +35,11 @@ returns-in-Some-seek_child_mut g c =
       (
         refl,
         λ w. let left = rw c.in-Some-seek_child_mut.is at c.seek_child_mut.follows.holds (c.lend.follows.lender w) in (
-              on_some c.lend.result (λ q. rw (← c.node.view_is) (put-below _ c.args.key.now _ w _ _ _ _ c.in-Some-seek_child_mut.child.now (c.lend.follows.lender w) (stored c.node.inside.storage) _
-                  canonical c.in-Some.ensures c.in-Some-first.ensures.value found
-                  (q ∙ c.requires.put c.in-Some-seek_child_mut.child.now _ w) left.0 left.1)) (c.lend.follows.holds w).0,
-              on_none c.lend.result (λ q. child-put_back _ _ _ _ _ c.in-Some-seek_child_mut.child.now (c.lend.follows.lender w) (stored c.node.inside.storage) _ found q left.0 left.1 ∙ c.node.view_is) (c.lend.follows.holds w).1,
-            ),
+          on_some c.lend.result (λ q. rw (← c.node.view_is) (put-below _ c.args.key.now _ w _ _ _ _ c.in-Some-seek_child_mut.child.now (c.lend.follows.lender w) (stored c.node.inside.storage) _
+              canonical c.in-Some.ensures c.in-Some-first.ensures.value found
+              (q ∙ c.requires.put c.in-Some-seek_child_mut.child.now _ w) left.0 left.1)) (c.lend.follows.holds w).0,
+          on_none c.lend.result (λ q. child-put_back _ _ _ _ _ c.in-Some-seek_child_mut.child.now (c.lend.follows.lender w) (stored c.node.inside.storage) _ found q left.0 left.1 ∙ c.node.view_is) (c.lend.follows.holds w).1,
+        ),
         let left = rw c.in-Some-seek_child_mut.is at c.seek_child_mut.follows.holds c.lend.follows.lender-at-none in
             child-put_back _ _ _ _ _ c.in-Some-seek_child_mut.child.now c.lend.follows.lender-at-none (stored c.node.inside.storage) _ found c.lend.follows.holds-at-none left.0 left.1 ∙ c.node.view_is,
       ),
