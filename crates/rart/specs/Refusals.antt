@@ -1,5 +1,5 @@
 -- When an edit may be refused, and what a refused insertion hands back.
-use Rattle.std.specs.Prelude.{◌≡◌, ◌≢◌, ◌<◌, ℕ, List, length, true, Some, None, Result, Ok, Err}
+use Rattle.std.specs.Prelude.{◌≡◌, ◌≢◌, ◌<◌, ◌≤◌, ℕ, List, length, true, Some, None, Result, Ok, Err}
 use Rattle.rart_keys.specs.SortedMap.{keys_of, lookup}
 use Rattle.rart_nodes.specs.edits.InsertAsks.{insert_asks}
 use Rattle.rart_nodes.specs.edits.RemoveAsks.{remove_asks}
@@ -19,6 +19,10 @@ MayRefuse map key Memory = (lookup key map ≡ None) × (length map < MAX_PAIRS)
 -- the removal of this key may be refused for this reason: the key is stored, and the keys say that its removal asks for memory
 abbrev pub MayKeep : {V : Type 0} → List (List ℕ × V) → List ℕ → TreeError → Type 0
 MayKeep map key error = (error ≡ Memory) × (lookup key map ≢ None) × (remove_asks (keys_of map) key ≡ true)
+
+-- the statistics of these keys may be refused for this reason: there are at least two keys
+abbrev pub MayLackStatistics : List (List ℕ) → TreeError → Type 0
+MayLackStatistics keys error = (error ≡ Memory) × (2 ≤ length keys)
 
 -- the value that was offered comes back: the key is stored, or the insertion was refused
 abbrev pub TellsWhy : {V : Type 0} → List (List ℕ × V) → List ℕ → V → NotInserted V → Type 0

@@ -1,11 +1,12 @@
 -- What calls of a tree reply, and what they leave of its map.
-use Rattle.std.specs.Prelude.{◌≡◌, ◌≢◌, ◌≤◌, ℕ, List, [], ◌∷◌, length, map, ◌==◌, Some, Ok, Err}
+use Rattle.std.specs.Prelude.{◌≡◌, ◌≢◌, ℕ, List, [], ◌∷◌, length, map, ◌==◌, Some, Ok, Err}
 use Rattle.rart_keys.specs.SortedMap.{keys_of, lookup, values_of}
 use Rattle.rart_nodes.specs.shapes.Shape.{HasShape, NodeRecord}
 use Rattle.rart_nodes.specs.statistics.Statistics.{statistics_in, statistics_of}
 use Rattle.rart_nodes.specs.declared.stats.TreeStats.{TreeStats}
 use Rattle.rart_parts.specs.declared.error.TreeError.TheVariants.{Memory}
 use Rattle.rart.specs.Edits.{Deletes, Inserts, InsertsNew, Removes}
+use Rattle.rart.specs.Refusals.{MayLackStatistics}
 use Rattle.rart.specs.declared.script.call.Call.{Call}
 use Rattle.rart.specs.declared.script.call.Call.TheVariants as call
 use Rattle.rart.specs.declared.script.reply.Reply.{Reply}
@@ -41,7 +42,7 @@ IsStep bytes m call.Values (reply.Refused error) n = (error ≡ Memory) × (m �
 IsStep bytes m call.Len (reply.Len count) n = (count ≡ length m) × (n ≡ m)
 IsStep bytes m call.IsEmpty (reply.Done empty) n = (empty ≡ (length m == 0)) × (n ≡ m)
 IsStep bytes m call.Stats (reply.Stats stats) n = AreStatistics (keys_of m) stats × (n ≡ m)
-IsStep bytes m call.Stats (reply.Refused error) n = (error ≡ Memory) × (2 ≤ length (keys_of m)) × (n ≡ m)
+IsStep bytes m call.Stats (reply.Refused error) n = MayLackStatistics (keys_of m) error × (n ≡ m)
 -- no other reply comes
 IsStep bytes m c r n = ⊥
 

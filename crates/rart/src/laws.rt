@@ -4,7 +4,7 @@ ghost use Rattle.std.specs.Borrow.{sem};
 ghost use Rattle.std.specs.Option.{option_copied};
 ghost use Rattle.rart_keys.specs.SortedMap.{IsAscending, keys_of, lookup, put, values_of};
 ghost use Rattle.rart_nodes.specs.statistics.Statistics.{statistics_in, statistics_of};
-ghost use Rattle.rart.specs.LawAnswers.{RefusesInsertion, RefusesRemoval, StopsAt};
+ghost use Rattle.rart.specs.LawAnswers.{RefusesCall, RefusesInsertion, RefusesRemoval};
 ghost use Rattle.rart.specs.Loans.{ends_as};
 ghost use Rattle.rart.specs.Refusals.{MayRefuse};
 
@@ -159,7 +159,7 @@ pub fn insert_then_remove_statistics<K: KeyTrait, V: Drop>(
     ensures after { IfOk result (λ r. statistics_in r.1 ≡ statistics_in r.0) }
     ensures pairs { OnOk result (tree.new.pairs ≡ tree.old.pairs) }
     ensures nodes { OnOk result (tree.new.nodes ≡ tree.old.nodes) }
-    ensures refused { IfErr result (StopsAt (K.bytes key.now) value tree.old tree.new) }
+    ensures refused { IfErr result (RefusesCall (K.bytes key.now) value tree.old tree.new) }
 {
     let before = match tree.get_tree_stats() {
         Ok(stats) => stats,
