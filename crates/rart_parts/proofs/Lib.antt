@@ -1,8 +1,10 @@
+pub mod ByteIndexLemmas
 pub mod DirectLemmas
 pub mod EntryLemmas
 pub mod FirstAboveLemmas
 pub mod FreedLemmas
 pub mod IndexLemmas
+pub mod IndexWalk
 pub mod KeyedLemmas
 pub mod Masks
 pub mod Members

@@ -19,11 +19,10 @@ with_bytes at p [] = []
 with_bytes at p (None ∷ os) = with_bytes at (suc p) os
 with_bytes at p (Some x ∷ os) = (byte_of at p, x) ∷ with_bytes at (suc p) os
 
--- the children in the order of the index, whose first entry is that of byte n
-abbrev pub by_bytes : {X : Type 0} → ℕ → List (Option ℕ) → List (Option X) → List (ℕ × X)
-by_bytes n [] os = []
-by_bytes n (None ∷ at) os = by_bytes (suc n) at os
-by_bytes n (Some p ∷ at) os = elim (slice_index_or os p None) [ None ↦ by_bytes (suc n) at os | Some x ↦ (n, x) ∷ by_bytes (suc n) at os ]
+-- the children in slots, by the bytes that the slots are given for
+abbrev pub by_slots : {X : Type 0} → List (ℕ × ℕ) → List (Option X) → List (ℕ × X)
+by_slots [] os = []
+by_slots (e ∷ es) os = elim (slice_index_or os e.1 None) [ None ↦ by_slots es os | Some x ↦ (e.0, x) ∷ by_slots es os ]
 
 -- each slot that the index names has a child and one byte alone, and each child's slot is named
 pub record IsIndex {X : Type 0} (at : List (Option ℕ)) (os : List (Option X)) : Type 0 where

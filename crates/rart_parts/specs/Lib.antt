@@ -1,4 +1,5 @@
 pub mod Bits
+pub mod ByteIndex
 pub mod Direct
 pub mod Entries
 pub mod EntryShapes

@@ -1,6 +1,7 @@
 //! Maps from bytes to children, in four kinds of storage. Each is seen as the list of its children in the order of
 //! their bytes, each with its byte.
 
+mod byte_index;
 pub mod direct_mapping;
 pub mod indexed_mapping;
 pub mod keyed_mapping;

@@ -7,9 +7,10 @@ ghost use Rattle.std.specs.Iterator.SizeHint.{IsWithinCount};
 ghost use Rattle.rart_parts.specs.Entries.{ascending};
 
 use crate::error::TreeError;
+use crate::mapping::byte_index::{ByteIndex, ByteIndexIter};
 use crate::mapping::{DirectMapping, KeyedMapping, NodeMapping, SortedKeyedMapping};
 use crate::utils::bitarray::BitArray;
-use crate::utils::bitset::{Bitset64, BitsetTrait};
+use crate::utils::bitset::BitsetTrait;
 use crate::utils::places::free_places;
 use std::alloc::Global;
 use std::iter::FusedIterator;
@@ -18,7 +19,7 @@ use std::marker::Model;
 /// A map from bytes to at most W children. Only [`IndexedMapping::new`] and the conversions that make one take memory.
 #[derive(Drop)]
 pub struct IndexedMapping<N, const W: usize, B: BitsetTrait> {
-    index: BitArray<u8, 256, Bitset64<4>>,
+    index: ByteIndex,
     children: BitArray<N, W, B>,
     num_children: usize,
 }
@@ -38,7 +39,7 @@ impl<N, const W: usize, B: BitsetTrait> Model for IndexedMapping<N, W, B> {
 }
 
 impl<N, const W: usize, B: BitsetTrait> IndexedMapping<N, W, B> {
-    /// A map with no child. It takes memory for its index and for W children at once.
+    /// A map with no child. It takes memory for W children at once.
     pub fn new(alloc: Global) -> Result<Self, TreeError>
         requires narrow { W ≤ 255 }
         requires covers { W ≤ B.CAPACITY }
@@ -46,10 +47,9 @@ impl<N, const W: usize, B: BitsetTrait> IndexedMapping<N, W, B> {
         ensures ok { IfOk result (λ m. ascending m ≡ []) }
         ensures err { IfErr result (λ e. e ≡ TreeError.Memory) }
     {
-        let index = BitArray::new(alloc)?;
         let children = BitArray::new(alloc)?;
         Ok(IndexedMapping {
-            index,
+            index: ByteIndex::new(),
             children,
             num_children: 0,
         })
@@ -176,30 +176,27 @@ impl<N, const W: usize, B: BitsetTrait> NodeMapping<N, W> for IndexedMapping<N, 
 
     fn add_child(&mut self, key: u8, node: N) {
         let slot = self.children.first_empty().unwrap();
-        self.index.set(key as usize, slot as u8);
+        self.index.set(key, slot as u8);
         self.children.put(slot, node);
         self.num_children += 1;
     }
 
     fn seek_child(&self, key: u8) -> Option<&N> {
-        match self.index.get(key as usize) {
-            Some(slot) => self.children.get(*slot as usize),
+        match self.index.get(key) {
+            Some(slot) => self.children.get(slot as usize),
             None => None,
         }
     }
 
     fn seek_child_mut(&mut self, key: u8) -> Option<&mut N> {
-        match self.index.get(key as usize) {
-            Some(slot) => {
-                let slot = *slot as usize;
-                self.children.get_mut(slot)
-            }
+        match self.index.get(key) {
+            Some(slot) => self.children.get_mut(slot as usize),
             None => None,
         }
     }
 
     fn delete_child(&mut self, key: u8) -> Option<N> {
-        let Some(slot) = self.index.erase(key as usize) else {
+        let Some(slot) = self.index.erase(key) else {
             return None;
         };
         self.num_children -= 1;
@@ -232,24 +229,20 @@ impl<N, const W: usize, B: BitsetTrait> IndexedMapping<N, W, B> {
 /// The children of an indexed mapping, each with its byte, ascending. It is seen as the list of those still to come.
 #[derive(Drop)]
 pub struct IndexedMappingIter<'a, N> {
-    slots: &'a [Option<u8>],
-    // The byte of the first of `slots`.
-    byte: usize,
+    slots: ByteIndexIter<'a>,
     children: &'a [Option<N>],
 }
 
 impl<'a, N> Model for IndexedMappingIter<'a, N> {
-    ghost use Rattle.std.specs.Prelude.{ℕ, List, length, ◌+◌, ◌≤◌};
+    ghost use Rattle.std.specs.Prelude.{ℕ, List};
     ghost use Rattle.std.specs.Coded.{coded_list, coded×, coded_ℕ};
-    ghost use Rattle.rart_parts.specs.Indexed.{by_bytes};
+    ghost use Rattle.rart_parts.specs.Indexed.{by_slots};
 
     ghost Value = { List (ℕ × N) };
 
     ghost coded = { coded_list (coded× coded_ℕ N.code) };
 
-    ghost view = { λ it. by_bytes it.byte it.slots.now it.children.now };
-
-    ghost invariant = { λ it. it.byte + length it.slots.now ≤ 256 };
+    ghost view = { λ it. by_slots it.slots it.children.now };
 }
 
 impl<'a, N> Iterator for IndexedMappingIter<'a, N> {
@@ -260,14 +253,9 @@ impl<'a, N> Iterator for IndexedMappingIter<'a, N> {
     ghost remaining = { item_count (λ rest. rest) };
 
     fn next(&mut self) -> Option<(u8, &'a N)> {
-        while let Some((entry, rest)) = self.slots.split_first() {
-            let byte = self.byte;
-            self.slots = rest;
-            self.byte += 1;
-            if let Some(slot) = entry {
-                if let Some(Some(child)) = self.children.get(*slot as usize) {
-                    return Some((byte as u8, child));
-                }
+        while let Some((byte, slot)) = self.slots.next() {
+            if let Some(Some(child)) = self.children.get(slot as usize) {
+                return Some((byte, child));
             }
         }
         None
@@ -282,8 +270,7 @@ impl<N, const W: usize, B: BitsetTrait> IndexedMapping<N, W, B> {
         ensures { result ≡ ascending self.now }
     {
         IndexedMappingIter {
-            slots: self.index.as_slice(),
-            byte: 0,
+            slots: self.index.iter(),
             children: self.children.as_slice(),
         }
     }

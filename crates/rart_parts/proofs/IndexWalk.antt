@@ -1,0 +1,79 @@
+-- The walk over an indexed mapping, in the order of its index.
+use Rattle.std.proofs.Common.{◌≡◌, ℕ, zero, suc, ◌<◌, ◌+◌, List, [], ◌∷◌, Option, Some, None, get_or, sym, ap, ◌∙◌, refl, arith}
+use Rattle.rart_parts.specs.Entries.{child_at, ascending, StartsAbove, BytesAscend}
+use Rattle.rart_parts.specs.Indexed.{with_bytes, by_slots, IsIndex}
+use Rattle.rart_parts.specs.Places.{numbered}
+use Rattle.rart_parts.proofs.EntryLemmas.{at_same, at_other, same_lookups}
+use Rattle.rart_parts.proofs.IndexLemmas.{indexed_none, indexed_some, map_of_ascends, by_index}
+
+none_some : {X : Type 0} {x : X} → None ≡ Some x → ⊥
+none_some h = cc
+
+some_same : {X : Type 0} {x y : X} → Some x ≡ Some y → x ≡ y
+some_same h = cc
+
+-- the children in the order of the index, whose first entry is that of byte n
+abbrev by_bytes : {X : Type 0} → ℕ → List (Option ℕ) → List (Option X) → List (ℕ × X)
+by_bytes n at os = by_slots (numbered n at) os
+
+module _ {X : Type 0} (os : List (Option X)) where
+  walk_below : (n k : ℕ) (at : List (Option ℕ)) → k < n → child_at k (by_bytes n at os) ≡ None
+  walk_below n k [] h = refl
+  walk_below n k (None ∷ at) h = walk_below (suc n) k at (omega arith)
+  walk_below n k (Some p ∷ at) h =
+      let rest : child_at k (by_bytes (suc n) at os) ≡ None = walk_below (suc n) k at (omega arith) in
+      elim (get_or os p None) as (λ o. child_at k (elim o [ None ↦ by_bytes (suc n) at os | Some x ↦ (n, x) ∷ by_bytes (suc n) at os ]) ≡ None) [
+        | None ↦ rest
+        | Some x ↦ at_other k (n, x) (by_bytes (suc n) at os) (λ e. omega (arith, e, h)) ∙ rest
+      ]
+
+  pub walk_none : (n k i : ℕ) (at : List (Option ℕ)) → k ≡ n + i → get_or at i None ≡ None → child_at k (by_bytes n at os) ≡ None
+  walk_none n k i [] e f = refl
+  walk_none n k zero (None ∷ at) e f = walk_below (suc n) k at (omega arith)
+  walk_none n k zero (Some p ∷ at) e f = absurd (none_some (sym f))
+  walk_none n k (suc i) (None ∷ at) e f = walk_none (suc n) k i at (omega arith) f
+  walk_none n k (suc i) (Some p ∷ at) e f =
+      let rest : child_at k (by_bytes (suc n) at os) ≡ None = walk_none (suc n) k i at (omega arith) f in
+      elim (get_or os p None) as (λ o. child_at k (elim o [ None ↦ by_bytes (suc n) at os | Some x ↦ (n, x) ∷ by_bytes (suc n) at os ]) ≡ None) [
+        | None ↦ rest
+        | Some x ↦ at_other k (n, x) (by_bytes (suc n) at os) (λ g. omega (arith, e, g)) ∙ rest
+      ]
+
+  pub walk_some : (n k i p : ℕ) (at : List (Option ℕ)) → k ≡ n + i → get_or at i None ≡ Some p → child_at k (by_bytes n at os) ≡ get_or os p None
+  walk_some n k i p [] e f = absurd (none_some f)
+  walk_some n k zero p (None ∷ at) e f = absurd (none_some f)
+  walk_some n k zero p (Some q ∷ at) e f =
+      let rest : child_at k (by_bytes (suc n) at os) ≡ None = walk_below (suc n) k at (omega arith) in
+      elim (get_or os q None) as (λ o. child_at k (elim o [ None ↦ by_bytes (suc n) at os | Some x ↦ (n, x) ∷ by_bytes (suc n) at os ]) ≡ o) [
+        | None ↦ rest
+        | Some x ↦ at_same k (n, x) (by_bytes (suc n) at os) (omega arith)
+      ] ∙ ap (λ m. get_or os m None) (some_same f)
+  walk_some n k (suc i) p (None ∷ at) e f = walk_some (suc n) k i p at (omega arith) f
+  walk_some n k (suc i) p (Some q ∷ at) e f =
+      let rest : child_at k (by_bytes (suc n) at os) ≡ get_or os p None = walk_some (suc n) k i p at (omega arith) f in
+      elim (get_or os q None) as (λ o. child_at k (elim o [ None ↦ by_bytes (suc n) at os | Some x ↦ (n, x) ∷ by_bytes (suc n) at os ]) ≡ get_or os p None) [
+        | None ↦ rest
+        | Some x ↦ at_other k (n, x) (by_bytes (suc n) at os) (λ g. omega (arith, e, g)) ∙ rest
+      ]
+
+  walk_starts : (b n : ℕ) (at : List (Option ℕ)) → b < n → StartsAbove b (by_bytes n at os)
+  walk_starts b n [] h = tt
+  walk_starts b n (None ∷ at) h = walk_starts b (suc n) at (omega arith)
+  walk_starts b n (Some p ∷ at) h =
+      let rest : StartsAbove b (by_bytes (suc n) at os) = walk_starts b (suc n) at (omega arith) in
+      elim (get_or os p None) as (λ o. StartsAbove b (elim o [ None ↦ by_bytes (suc n) at os | Some x ↦ (n, x) ∷ by_bytes (suc n) at os ])) [ None ↦ rest | Some x ↦ h ]
+
+  walk-ascends : (n : ℕ) (at : List (Option ℕ)) → BytesAscend (by_bytes n at os)
+  walk-ascends n [] = tt
+  walk-ascends n (None ∷ at) = walk-ascends (suc n) at
+  walk-ascends n (Some p ∷ at) =
+      let rest : BytesAscend (by_bytes (suc n) at os) = walk-ascends (suc n) at in
+      let starts : StartsAbove n (by_bytes (suc n) at os) = walk_starts n (suc n) at (omega arith) in
+      elim (get_or os p None) as (λ o. BytesAscend (elim o [ None ↦ by_bytes (suc n) at os | Some x ↦ (n, x) ∷ by_bytes (suc n) at os ])) [ None ↦ rest | Some x ↦ (starts, rest) ]
+
+  pub walk_is : (at : List (Option ℕ)) → IsIndex at os → by_bytes 0 at os ≡ ascending (with_bytes at 0 os)
+  walk_is at i = same_lookups _ _ (walk-ascends 0 at) (map_of_ascends i) (λ b.
+      let here : b ≡ 0 + b = omega arith in
+      by_index _ (get_or at b None) refl
+      (λ p e. walk_some 0 b b p at here e ∙ sym (indexed_some i b p e))
+      (λ e. walk_none 0 b b at here e ∙ sym (indexed_none i b e)))

@@ -1,0 +1,127 @@
+//! An index from bytes to slots, inline. It is seen as the list of the slots of the bytes 0 to 255, each there or not.
+ghost use Rattle.std.specs.Prelude.{◌≡◌, ◌<◌, None, Some, replicate, slice_index_or, slice_set};
+ghost use Rattle.std.specs.Iterator.{YieldsFirst, item_count};
+ghost use Rattle.rart_parts.specs.Bits.{IsFirst};
+ghost use Rattle.rart_parts.specs.Places.{is_used, numbered};
+
+use crate::utils::bitset::{Bitset, Bitset64, BitsetOnesIter, BitsetTrait};
+use std::iter::FusedIterator;
+use std::marker::Model;
+
+/// A slot below 255, or none, for each byte. It takes no memory of its own.
+#[derive(Drop)]
+pub(crate) struct ByteIndex {
+    // The bytes that have a slot.
+    used: Bitset64<4>,
+    // Their slots; 255 at the other bytes.
+    slots: [u8; 256],
+}
+
+impl Model for ByteIndex {
+    ghost use Rattle.std.specs.Prelude.{ℕ, List, Option, map};
+    ghost use Rattle.std.specs.Coded.{coded_list, coded_option, coded_ℕ};
+    ghost use Rattle.rart_parts.specs.ByteIndex.{slot_of, IsByteIndex};
+
+    ghost Value = { List (Option ℕ) };
+
+    ghost coded = { coded_list (coded_option coded_ℕ) };
+
+    ghost view = { λ i. map slot_of i.slots };
+
+    ghost invariant = { λ i. IsByteIndex i.used.words i.slots };
+}
+
+impl ByteIndex {
+    /// An index with no slot.
+    pub(crate) fn new() -> Self
+        ensures { result ≡ replicate 256 None }
+    {
+        ByteIndex {
+            used: Bitset::new(),
+            slots: [255; 256],
+        }
+    }
+
+    /// The slot of a byte.
+    pub(crate) fn get(&self, byte: u8) -> Option<u8>
+        ensures { result ≡ slice_index_or self.now byte None }
+    {
+        let slot = self.slots[byte as usize];
+        if slot == 255 { None } else { Some(slot) }
+    }
+
+    /// Gives a byte a slot, in place of its old one.
+    pub(crate) fn set(&mut self, byte: u8, slot: u8)
+        requires { slot < 255 }
+        ensures { self.new ≡ slice_set self.old byte (Some slot) }
+    {
+        self.used.set(byte as usize);
+        self.slots[byte as usize] = slot;
+    }
+
+    /// Takes the slot of a byte away.
+    pub(crate) fn erase(&mut self, byte: u8) -> Option<u8>
+        ensures old { result ≡ slice_index_or self.old byte None }
+        ensures new { self.new ≡ slice_set self.old byte None }
+    {
+        let slot = self.get(byte);
+        self.used.unset(byte as usize);
+        self.slots[byte as usize] = 255;
+        slot
+    }
+
+    /// The least byte that has a slot.
+    pub(crate) fn first_used(&self) -> Option<usize>
+        ensures { IsFirst (is_used self.now) 256 result }
+    {
+        self.used.first_set()
+    }
+
+    /// The bytes that have a slot with their slots, ascending.
+    pub(crate) fn iter(&self) -> ByteIndexIter<'_>
+        ensures { result ≡ numbered 0 self.now }
+    {
+        ByteIndexIter {
+            bytes: self.used.iter(),
+            slots: &self.slots,
+        }
+    }
+}
+
+/// The bytes that have a slot with their slots, ascending, seen as the list of those that are still to come.
+#[derive(Drop)]
+pub(crate) struct ByteIndexIter<'a> {
+    bytes: BitsetOnesIter<u64, 4>,
+    slots: &'a [u8; 256],
+}
+
+impl<'a> Model for ByteIndexIter<'a> {
+    ghost use Rattle.std.specs.Prelude.{◌≡◌, ℕ, List, length};
+    ghost use Rattle.std.specs.Coded.{coded_list, coded×, coded_ℕ};
+    ghost use Rattle.rart_parts.specs.ByteIndex.{with_slots, AreBytes};
+
+    ghost Value = { List (ℕ × ℕ) };
+
+    ghost coded = { coded_list (coded× coded_ℕ coded_ℕ) };
+
+    ghost view = { λ it. with_slots it.slots.now it.bytes };
+
+    ghost invariant = { λ it. (length it.slots.now ≡ 256) × AreBytes it.bytes };
+}
+
+impl<'a> Iterator for ByteIndexIter<'a> {
+    type Item = (u8, u8);
+
+    ghost next_gives = { YieldsFirst (λ rest. rest) };
+
+    ghost remaining = { item_count (λ rest. rest) };
+
+    fn next(&mut self) -> Option<(u8, u8)> {
+        match self.bytes.next() {
+            Some(byte) => Some((byte as u8, self.slots[byte])),
+            None => None,
+        }
+    }
+}
+
+impl<'a> FusedIterator for ByteIndexIter<'a> {}
