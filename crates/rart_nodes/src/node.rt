@@ -21,7 +21,7 @@ mod remove;
 mod rest;
 pub mod seen;
 mod statistics;
-pub mod storage;
+mod storage;
 mod walk;
 
 pub use children::NodeIter;

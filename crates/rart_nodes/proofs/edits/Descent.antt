@@ -117,18 +117,6 @@ module _ {V : Type 0} where
   put_split-fork q (c ∷ l) [] v old w cs f h g = absurd (omega arith)
   put_split-fork q (c ∷ l) (b ∷ r) v old w cs f h g = refl
 
-  put_split-here : (q l r : List ℕ) (v : V) (old : Option V) (w : ℕ) (cs : Children V) (f : ℕ → List ℕ → Children V) → length l ≡ 0 → length r ≡ 0
-      → put_split q l r v old w cs f ≡ node q (Some v) w cs
-  put_split-here q [] [] v old w cs f h g = refl
-  put_split-here q (c ∷ l) r v old w cs f h g = absurd (omega arith)
-  put_split-here q [] (b ∷ r) v old w cs f h g = absurd (omega arith)
-
-  put_split-down : (q l r : List ℕ) (v : V) (old : Option V) (w : ℕ) (cs : Children V) (f : ℕ → List ℕ → Children V) → length l ≡ 0 → 0 < length r
-      → put_split q l r v old w cs f ≡ fitting_node q old (f (first r) r)
-  put_split-down q (c ∷ l) r v old w cs f h g = absurd (omega arith)
-  put_split-down q [] [] v old w cs f h g = absurd (omega arith)
-  put_split-down q [] (b ∷ r) v old w cs f h g = refl
-
   trie_put-is : (p k : List ℕ) (v : V) (old : Option V) (w : ℕ) (cs : Children V) (n : ℕ) → n ≡ common_prefix_len nat_eq p k
       → trie_put k v (node p old w cs) ≡ put_split (take n p) (drop n p) (drop n k) v old w cs (λ b r. put_child b r v cs)
   trie_put-is p k v old w cs n e = ap (λ s. put_overlap s v old w cs (λ b r. put_child b r v cs)) (overlap-is p k)
@@ -143,15 +131,3 @@ module _ {V : Type 0} where
       → trie_put k v (node p old w cs) ≡ fitting_node (take n p) None (fork (first (drop n p)) (node (drop n p) old w cs) (first (drop n k)) (leaf (drop n k) v))
   put-fork p k v old w cs n e h more = trie_put-is p k v old w cs n e
       ∙ put_split-fork (take n p) (drop n p) (drop n k) v old w cs (λ b r. put_child b r v cs) (omega (arith, length-drop n p)) (omega (arith, length-drop n k, (common-within p k).1, more))
-
-  pub put-here : (p k : List ℕ) (v : V) (old : Option V) (w : ℕ) (cs : Children V) (n : ℕ) → n ≡ common_prefix_len nat_eq p k → length p ≤ n → length k ≡ n
-      → trie_put k v (node p old w cs) ≡ node p (Some v) w cs
-  put-here p k v old w cs n e full end = trie_put-is p k v old w cs n e
-      ∙ put_split-here (take n p) (drop n p) (drop n k) v old w cs (λ b r. put_child b r v cs) (omega (arith, length-drop n p)) (omega (arith, length-drop n k))
-      ∙ ap (λ q. node q (Some v) w cs) (take_all n p full)
-
-  pub put-down : (p k : List ℕ) (v : V) (old : Option V) (w : ℕ) (cs : Children V) (n : ℕ) → n ≡ common_prefix_len nat_eq p k → length p ≤ n → (length k ≡ n → ⊥)
-      → trie_put k v (node p old w cs) ≡ fitting_node p old (put_child (first (drop n k)) (drop n k) v cs)
-  put-down p k v old w cs n e full more = trie_put-is p k v old w cs n e
-      ∙ put_split-down (take n p) (drop n p) (drop n k) v old w cs (λ b r. put_child b r v cs) (omega (arith, length-drop n p)) (omega (arith, length-drop n k, (common-within p k).1, more))
-      ∙ ap (λ q. fitting_node q old (put_child (first (drop n k)) (drop n k) v cs)) (take_all n p full)

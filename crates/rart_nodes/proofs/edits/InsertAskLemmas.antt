@@ -113,10 +113,3 @@ module _ {V : Type 0} where
   asks-insert q t w = asks-with_records q t w ∙ ap (λ o. not (is_some o || last_takes (λ z. trie_lookup z (with_records t)) q)) (record_is q t w)
       ∙ ap (λ z. not (is_some (record_at (keys_of (pairs_of t)) q) || z)) (same_last (λ p. trie_lookup p (with_records t)) (record_at (keys_of (pairs_of t))) q (λ p. record_is p t w))
       ∙ sym (needs_is (pairs_of t) q (omega (arith, few_nodes t w)))
-
--- what a node's capacity does as a child comes or goes
-pub room_stays : (m n : ℕ) → n ≡ capacity_of m → m < n → capacity_of (m + 1) ≡ n
-room_stays m n e h = grind (arith, nat_tests)
-
-pub room_grows : (m n : ℕ) → n ≡ capacity_of m → n ≤ m → m < 256 → capacity_of (m + 1) ≡ (if n == 0 then 4 else if n == 4 then 16 else if n == 16 then 48 else 256)
-room_grows m n e h l = grind (arith, nat_tests)

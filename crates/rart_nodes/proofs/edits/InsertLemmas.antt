@@ -17,10 +17,6 @@ use Rattle.rart_nodes.proofs.storages.ChildLemmas.{edges_of-length, replaced-len
 use Rattle.rart_nodes.proofs.edits.Descent.{first, first-differ, put-lower, put-fork}
 use Rattle.rart_nodes.proofs.tries.RestLemmas.{rest-length, trie_lookup-followed, trie_put-followed}
 
-pub on_err : {A E P : Type 0} (r : Result A E) → P → OnErr r P
-on_err (Ok x) p = tt
-on_err (Err x) p = p
-
 -- one more child keeps the width that the number of children fixes
 pub widened-capacity : (n : ℕ) → widened n (capacity_of n) ≡ capacity_of (suc n)
 widened-capacity n = grind (arith, nat_tests)

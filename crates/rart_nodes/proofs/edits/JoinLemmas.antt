@@ -39,10 +39,6 @@ module _ {V : Type 0} where
   pub joined-not : (p : List ℕ) (v : Option V) (w : ℕ) (cs : Children V) → is_lone v cs ≡ false → node p v w cs ≡ joined_if_lone (node p v w cs)
   joined-not p v w cs h = rw h refl
 
-  pub none-valued : (v : Option V) → is_some v ≡ false → v ≡ None
-  none-valued (Some v) h = absurd (cc)
-  none-valued None h = refl
-
   -- the children that are left
   pub as-without : (b : ℕ) (es : List (ℕ × Trie V)) → as_children (entries.without_byte b es) ≡ children_without b (as_children es)
   as-without b [] = refl

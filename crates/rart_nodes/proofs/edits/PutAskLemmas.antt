@@ -18,10 +18,6 @@ behind-followed [] b f h = absurd (cc)
 behind-followed (c ∷ r) b f h = let same : b ≡ c = cc in rw same refl
 
 module _ {V : Type 0} where
-  -- a node that is cut
-  pub asks_put-left : (p k : List ℕ) (v : Option V) (w : ℕ) (cs : Children V) → None ≡ strip_prefix p k → trie_asks_put k (node p v w cs) ≡ true
-  asks_put-left p k v w cs e = ap (λ o. put_asks_behind o (λ b r. child_asks_put (length (edges_of cs)) w b r cs)) (sym e)
-
   asks_put-followed : (p k r : List ℕ) (b : ℕ) (v : Option V) (w : ℕ) (cs : Children V) → Some r ≡ strip_prefix p k → Some b ≡ slice_get r 0
       → trie_asks_put k (node p v w cs) ≡ child_asks_put (length (edges_of cs)) w b r cs
   asks_put-followed p k r b v w cs e h = ap (λ o. put_asks_behind o (λ b r. child_asks_put (length (edges_of cs)) w b r cs)) (sym e) ∙ behind-followed r b (λ b r. child_asks_put (length (edges_of cs)) w b r cs) h

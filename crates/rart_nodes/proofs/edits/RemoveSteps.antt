@@ -55,13 +55,6 @@ module _ {V : Type 0} where
   value-removed p k r v w es c e h s = collapsed-joined p v w es c (inner-children p k r v w es e h s)
       ∙ sym (ap (λ o. removed_behind o p v (as_children es) (λ b r. remove_child b r (as_children es))) (sym e) ∙ removed-ended r p v (as_children es) (λ b r. remove_child b r (as_children es)) h)
 
-  -- a lone child of such a node stands in storage of width 4
-  pub lone-width : (p : List ℕ) (v u : Option V) (w : ℕ) (es : List (ℕ × Trie V)) → IsCanonical (node p v w (as_children es)) → is_lone u (as_children es) ≡ true → w ≡ 4
-  lone-width p v (Some u) w es c h = absurd (cc)
-  lone-width p v None w [] c h = absurd (cc)
-  lone-width p v None w (e ∷ []) c h = c.1
-  lone-width p v None w (e ∷ f ∷ es) c h = absurd (cc)
-
   -- removal below a child
   remove_child-kept : (b low : ℕ) (k : List ℕ) (t t' : Trie V) (es : List (ℕ × Trie V)) → AreCanonical low (as_children es) → Some t ≡ child_at b es → Some t' ≡ trie_remove k t → remove_child b k (as_children es) ≡ as_children (replaced b t' es)
   remove_child-kept b low k t t' [] w s r = absurd (cc)

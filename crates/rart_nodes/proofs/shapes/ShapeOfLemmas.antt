@@ -84,10 +84,6 @@ none-after p (k ∷ s) h = rw (not-after p k (or-left (begins p k) (begins_any p
 record-begins : (p : List ℕ) (s : List (List ℕ)) → begins_any p s ≡ false → record_at s p ≡ None
 record-begins p s h = rw (none-equal p s h, none-after p s h) refl
 
--- one string more
-pub covers-none : (s : List (List ℕ)) → Covers s (λ p. false) []
-covers-none s = record { ascending = tt; each = λ p. refl }
-
 pub covers-as : (s : List (List ℕ)) (f g : List ℕ → Bool) (rs : List (List ℕ × NodeRecord)) → ((p : List ℕ) → f p ≡ g p) → Covers s f rs → Covers s g rs
 covers-as s f g rs e c = record { ascending = c.ascending; each = λ p. c.each p ∙ ap (λ b. if b then record_at s p else None) (e p) }
 
@@ -113,10 +109,6 @@ covers-put s seen q r rs n c = record {
   ascending = ascending-put q r rs c.ascending;
   each = λ p. lookup-put p q r rs ∙ put-each (seen p) (bytes_eq q p) (record_at s p) (lookup p rs) r (λ t. ap (record_at s) (sym (bytes_eq-equal q p t)) ∙ n) (c.each p);
 }
-
--- the loop over the beginnings of a key, and that over the keys
-pub lengths-begin : (s d : List (List ℕ)) (k : List ℕ) (rs : List (List ℕ × NodeRecord)) → Covers s (λ p. begins_any p d) rs → Covers s (λ p. begins_any p d || is_short 0 p k) rs
-lengths-begin s d k rs c = covers-as s (λ p. begins_any p d) (λ p. begins_any p d || is_short 0 p k) rs (λ p. sym (or-false (begins_any p d))) c
 
 one-length : (d : List (List ℕ)) (k : List ℕ) (n : ℕ) → n ≤ length k → (p : List ℕ) → ((begins_any p d || is_short n p k) || bytes_eq (take n k) p) ≡ (begins_any p d || is_short (suc n) p k)
 one-length d k n h p = or-assoc (begins_any p d) (is_short n p k) (bytes_eq (take n k) p) ∙ ap (λ b. begins_any p d || b) (sym (short-more n p k h))

@@ -19,7 +19,3 @@ width_of (Four m) = 4
 width_of (Sixteen m) = 16
 width_of (FortyEight m) = 48
 width_of (Full m) = 256
-
--- how many children it can hold without asking for memory
-abbrev pub room_of : {N : Type 0} → Storage N → ℕ
-room_of s = width_of s

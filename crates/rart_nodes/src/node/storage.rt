@@ -3,19 +3,19 @@
 ghost use Rattle.std.specs.Prelude.{◌≡◌, ◌<◌, ◌≤◌, [], length, None};
 ghost use Rattle.std.specs.Option.{option_copied};
 ghost use Rattle.rart_parts.specs.Entries.{child_at, with_entry, without_byte};
-ghost use Rattle.rart_nodes.specs.storages.Stored.{stored, width_of, room_of};
+ghost use Rattle.rart_nodes.specs.storages.Stored.{stored, width_of};
 
 use rart_parts::mapping::{DirectMapping, IndexedMapping, NodeMapping, SortedKeyedMapping};
 use rart_parts::utils::bitset::Bitset64;
 
 mod room;
 mod shrink;
-pub mod walk;
+pub(crate) mod walk;
 
 /// The children of a node. Each kind but the first is a map that holds at most as many children as its
 /// width, on the heap: 4, 16, 48 or 256.
 #[derive(Drop)]
-pub enum Storage<N> {
+pub(crate) enum Storage<N> {
     /// No child, and no memory.
     Leaf,
     /// At most four children, by sorted keys.
@@ -30,7 +30,7 @@ pub enum Storage<N> {
 
 impl<N> Storage<N> {
     /// Storage of width 0, for a node without children. Takes no memory.
-    pub fn empty() -> Self
+    pub(crate) fn empty() -> Self
         ensures stored { stored result ≡ [] }
         ensures width { width_of result ≡ 0 }
     {
@@ -38,7 +38,7 @@ impl<N> Storage<N> {
     }
 
     /// How many children there are.
-    pub fn num_children(&self) -> usize
+    pub(crate) fn num_children(&self) -> usize
         ensures { result ≡ length (stored self.now) }
     {
         match self {
@@ -51,7 +51,7 @@ impl<N> Storage<N> {
     }
 
     /// How many children storage of this kind holds at most: 0, 4, 16, 48 or 256.
-    pub fn width(&self) -> usize
+    pub(crate) fn width(&self) -> usize
         ensures { result ≡ width_of self.now }
     {
         match self {
@@ -64,7 +64,7 @@ impl<N> Storage<N> {
     }
 
     /// The child at byte `b`.
-    pub fn seek_child(&self, b: u8) -> Option<&N>
+    pub(crate) fn seek_child(&self, b: u8) -> Option<&N>
         ensures { option_copied result ≡ child_at b (stored self.now) }
     {
         match self {
@@ -77,12 +77,11 @@ impl<N> Storage<N> {
     }
 
     /// Puts a child in at byte `b`, where none stands. Takes no memory.
-    pub fn add_within(&mut self, b: u8, node: N)
+    pub(crate) fn add_within(&mut self, b: u8, node: N)
         requires absent { child_at b (stored self.old) ≡ None }
-        requires room { length (stored self.old) < room_of self.old }
+        requires room { length (stored self.old) < width_of self.old }
         ensures stored { stored self.new ≡ with_entry b node (stored self.old) }
         ensures width { width_of self.new ≡ width_of self.old }
-        ensures room { room_of self.old ≤ room_of self.new }
     {
         match self {
             Storage::Leaf => unreachable!(),
@@ -94,7 +93,7 @@ impl<N> Storage<N> {
     }
 
     /// Takes the child at byte `b` out, if one stands there, and keeps the kind. Takes no memory.
-    pub fn delete_within(&mut self, b: u8) -> Option<N>
+    pub(crate) fn delete_within(&mut self, b: u8) -> Option<N>
         ensures taken { result ≡ child_at b (stored self.old) }
         ensures stored { stored self.new ≡ without_byte b (stored self.old) }
         ensures width { width_of self.new ≡ width_of self.old }
@@ -118,7 +117,7 @@ impl<N> Storage<N> {
     ghost use Rattle.rart_nodes.specs.contracts.node.storage.Storage.{the_row};
 
     /// The child at byte `b`, to be changed.
-    pub fn seek_child_mut(&mut self, b: u8) -> Option<&mut N>
+    pub(crate) fn seek_child_mut(&mut self, b: u8) -> Option<&mut N>
         ensures* writes_back { sem 𝓛 (LendsSo (the_row N.row) N.row self.entry result (λ s w. OnSome result ((width_of s ≡ width_of self.old) × (stored s ≡ replaced b w (stored self.old)))) (λ s. (width_of s ≡ width_of self.old) × (stored s ≡ stored self.old))) }
         ensures value { option_copied_mut result ≡ child_at b (stored self.old) }
     {

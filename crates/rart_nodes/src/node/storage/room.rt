@@ -2,7 +2,7 @@
 ghost use Rattle.std.specs.Prelude.{◌≡◌, ◌<◌, ◌≤◌, [], length, None, true, false, IfErr, IfOk, OnErr, OnOk};
 ghost use Rattle.rart_parts.specs.Entries.{ascending, child_at};
 ghost use Rattle.rart_nodes.specs.storages.Widths.{widened};
-ghost use Rattle.rart_nodes.specs.storages.Stored.{stored, width_of, room_of};
+ghost use Rattle.rart_nodes.specs.storages.Stored.{stored, width_of};
 
 use crate::node::storage::Storage;
 use rart_parts::TreeError;
@@ -60,17 +60,16 @@ fn boxed_direct<N>(alloc: Global) -> Result<Box<DirectMapping<N>>, TreeError>
 
 impl<N> Storage<N> {
     /// Storage of width 4 with room for four children; refused where memory is.
-    pub fn new_4(alloc: Global) -> Result<Self, TreeError>
+    pub(crate) fn new_4(alloc: Global) -> Result<Self, TreeError>
         ensures stored { IfOk result (λ s. stored s ≡ []) }
         ensures width { IfOk result (λ s. width_of s ≡ 4) }
-        ensures room { IfOk result (λ s. 4 ≤ room_of s) }
         ensures error { IfErr result (λ e. e ≡ TreeError.Memory) }
     {
         Ok(Storage::Four(boxed_sorted(alloc)?))
     }
 
     /// Storage of width 16, likewise.
-    pub fn new_16(alloc: Global) -> Result<Self, TreeError>
+    pub(crate) fn new_16(alloc: Global) -> Result<Self, TreeError>
         ensures stored { IfOk result (λ s. stored s ≡ []) }
         ensures width { IfOk result (λ s. width_of s ≡ 16) }
         ensures error { IfErr result (λ e. e ≡ TreeError.Memory) }
@@ -79,7 +78,7 @@ impl<N> Storage<N> {
     }
 
     /// Storage of width 48, likewise.
-    pub fn new_48(alloc: Global) -> Result<Self, TreeError>
+    pub(crate) fn new_48(alloc: Global) -> Result<Self, TreeError>
         ensures stored { IfOk result (λ s. stored s ≡ []) }
         ensures width { IfOk result (λ s. width_of s ≡ 48) }
         ensures error { IfErr result (λ e. e ≡ TreeError.Memory) }
@@ -88,7 +87,7 @@ impl<N> Storage<N> {
     }
 
     /// Storage of width 256, likewise.
-    pub fn new_256(alloc: Global) -> Result<Self, TreeError>
+    pub(crate) fn new_256(alloc: Global) -> Result<Self, TreeError>
         ensures stored { IfOk result (λ s. stored s ≡ []) }
         ensures width { IfOk result (λ s. width_of s ≡ 256) }
         ensures error { IfErr result (λ e. e ≡ TreeError.Memory) }
@@ -99,7 +98,7 @@ impl<N> Storage<N> {
     /// Whether another child fits, at byte `b`, where none stands.
     fn has_room(&self, b: u8) -> bool
         requires { child_at b (stored self.now) ≡ None }
-        ensures room { result ≡ true → length (stored self.now) < room_of self.now }
+        ensures room { result ≡ true → length (stored self.now) < width_of self.now }
         ensures full { result ≡ false → length (stored self.now) ≡ width_of self.now }
         ensures not_widest { result ≡ false → width_of self.now < 256 }
     {
@@ -136,10 +135,10 @@ impl<N> Storage<N> {
     /// Makes room for a child at byte `b`, where none stands: a full storage becomes one of the next
     /// width. Memory is asked for only where this one is full, and before the first write: refused,
     /// all stands as it was.
-    pub fn make_room(&mut self, alloc: Global, b: u8) -> Result<(), TreeError>
+    pub(crate) fn make_room(&mut self, alloc: Global, b: u8) -> Result<(), TreeError>
         requires absent { child_at b (stored self.old) ≡ None }
         ensures stored { stored self.new ≡ stored self.old }
-        ensures room { OnOk result (length (stored self.new) < room_of self.new) }
+        ensures room { OnOk result (length (stored self.new) < width_of self.new) }
         ensures width { OnOk result (width_of self.new ≡ widened (length (stored self.old)) (width_of self.old)) }
         ensures refused { OnErr result (self.new ≡ self.old) }
         ensures asks { OnErr result (length (stored self.old) ≡ width_of self.old) }

@@ -37,7 +37,7 @@ impl<N> Storage<N> {
     /// becomes one of that kind, and one of width 4 without a child gives its memory back. Memory is
     /// asked for only where a width above 4 is given up, and before the first write: refused, all
     /// stands as it was.
-    pub fn delete_child(&mut self, alloc: Global, b: u8) -> Result<Option<N>, TreeError>
+    pub(crate) fn delete_child(&mut self, alloc: Global, b: u8) -> Result<Option<N>, TreeError>
         ensures taken { IfOk result (λ c. c ≡ child_at b (stored self.old)) }
         ensures stored { OnOk result (stored self.new ≡ without_byte b (stored self.old)) }
         ensures width { OnOk result (width_of self.new ≡ (if is_some (child_at b (stored self.old)) then narrowed (length (stored self.new)) (width_of self.old) else width_of self.old)) }
@@ -80,7 +80,7 @@ impl<N> Storage<N> {
     }
 
     /// Takes out the only child of storage of width 4, which is left empty.
-    pub fn take_lone(&mut self) -> (u8, N)
+    pub(crate) fn take_lone(&mut self) -> (u8, N)
         requires width { width_of self.old ≡ 4 }
         requires lone { length (stored self.old) ≡ 1 }
         ensures taken { stored self.old ≡ result ∷ [] }

@@ -12,7 +12,7 @@ use rart_parts::mapping::sorted_keyed_mapping::SortedKeyedMappingIter;
 
 /// The children still to come, by the map that they stand in.
 #[derive(Drop)]
-pub enum StorageIter<'a, N> {
+pub(crate) enum StorageIter<'a, N> {
     /// None, of a node without children.
     Childless,
     /// Those of width 4 or 16.
@@ -25,7 +25,7 @@ pub enum StorageIter<'a, N> {
 
 impl<'a, N> StorageIter<'a, N> {
     /// The next child with its byte. Takes no memory.
-    pub fn take_next(&mut self) -> Option<(u8, &'a N)>
+    pub(crate) fn take_next(&mut self) -> Option<(u8, &'a N)>
         ensures { YieldsFirstBy (λ item. (item.0, item.1.now)) to_come self.old result self.new }
     {
         match self {
@@ -39,7 +39,7 @@ impl<'a, N> StorageIter<'a, N> {
 
 impl<N> Storage<N> {
     /// The children with their bytes, ascending. Takes no memory.
-    pub fn iter(&self) -> StorageIter<'_, N>
+    pub(crate) fn iter(&self) -> StorageIter<'_, N>
         ensures { to_come result ≡ stored self.now }
     {
         match self {

@@ -3,7 +3,8 @@ use Rattle.rart_nodes.specs.storages.Stored.{stored, width_of}
 use Rattle.rart_nodes.specs.tries.TrieCode.{node_count}
 use Rattle.rart_nodes.proofs.storages.ChildLemmas.{canonical-found, count-found}
 use Rattle.rart_nodes.proofs.edits.InsertLemmas.{put-below, put-beside, child-put_back, record-child, record-no_child, rest-within}
-use Rattle.rart_nodes.proofs.edits.Outcomes.{on_ok, on_err, if_ok}
+use Rattle.std.proofs.lemmas.Result.{on_ok_weaker, on_err_weaker}
+use Rattle.rart_nodes.proofs.edits.Outcomes.{if_ok_weaker}
 use Rattle.rart_nodes.proofs.edits.PutAskLemmas.{asks_put-below, asks_put-full}
 use Rattle.rart_nodes.proofs.tries.RestLemmas.{trie_lookup-child, trie_lookup-no_child, trie_put-ended}
 use Rattle.rart_nodes.proofs.node.DefaultNode.+put.Goals as goal
@@ -33,22 +34,22 @@ put-requires g t c κs within =
 pub returns-in-Some-seek_child_mut-clause-ok : goal.returns-in-Some-seek_child_mut-clause-ok
 returns-in-Some-seek_child_mut-clause-ok g t c =
     let left = rw c.in-Some-seek_child_mut.is at c.seek_child_mut.follows.holds c.put.new.self in
-    on_ok c.put.result (λ e. rw (← c.self.view_is) (put-below _ c.args.key.now _ c.args.value _ _ _ _ c.in-Some-seek_child_mut.child.now c.put.new.self (stored c.self.inside.storage) _
+    on_ok_weaker c.put.result (λ e. rw (← c.self.view_is) (put-below _ c.args.key.now _ c.args.value _ _ _ _ c.in-Some-seek_child_mut.child.now c.put.new.self (stored c.self.inside.storage) _
     (rw (← c.self.view_is) at c.requires.canonical) c.in-Some.ensures c.in-Some-first.ensures.value c.in-Some-seek_child_mut.ensures.value e left.0 left.1)) c.put.ensures.ok
 
 pub returns-in-Some-seek_child_mut-clause-answer : goal.returns-in-Some-seek_child_mut-clause-answer
-returns-in-Some-seek_child_mut-clause-answer g t c = if_ok c.put.result (λ x e. rw (← c.self.view_is) (e ∙ sym (trie_lookup-child _ c.args.key.now _ _ _ _ c.in-Some-seek_child_mut.child.now (stored c.self.inside.storage)
+returns-in-Some-seek_child_mut-clause-answer g t c = if_ok_weaker c.put.result (λ x e. rw (← c.self.view_is) (e ∙ sym (trie_lookup-child _ c.args.key.now _ _ _ _ c.in-Some-seek_child_mut.child.now (stored c.self.inside.storage)
     (rw (← c.self.view_is) at c.requires.canonical) c.in-Some.ensures c.in-Some-first.ensures.value c.in-Some-seek_child_mut.ensures.value))) c.put.ensures.answer
 
 pub returns-in-Some-seek_child_mut-clause-refused : goal.returns-in-Some-seek_child_mut-clause-refused
 returns-in-Some-seek_child_mut-clause-refused g t c =
     let left = rw c.in-Some-seek_child_mut.is at c.seek_child_mut.follows.holds c.put.new.self in
-    on_err c.put.result (λ e. rw (← c.self.view_is) (child-put_back _ _ _ _ _ c.in-Some-seek_child_mut.child.now c.put.new.self (stored c.self.inside.storage) _ c.in-Some-seek_child_mut.ensures.value e left.0 left.1)) c.put.ensures.refused
+    on_err_weaker c.put.result (λ e. rw (← c.self.view_is) (child-put_back _ _ _ _ _ c.in-Some-seek_child_mut.child.now c.put.new.self (stored c.self.inside.storage) _ c.in-Some-seek_child_mut.ensures.value e left.0 left.1)) c.put.ensures.refused
 
 pub returns-in-Some-seek_child_mut-clause-asks : goal.returns-in-Some-seek_child_mut-clause-asks
 returns-in-Some-seek_child_mut-clause-asks g t c =
     let canonical = rw (← c.self.view_is) at c.requires.canonical in
-    on_err c.put.result (λ a. rw (← c.self.view_is) (
+    on_err_weaker c.put.result (λ a. rw (← c.self.view_is) (
       asks_put-below _ c.args.key.now _ _ _ _ c.in-Some-seek_child_mut.child.now (stored c.self.inside.storage) canonical c.in-Some.ensures c.in-Some-first.ensures.value c.in-Some-seek_child_mut.ensures.value a.0,
       record-child _ c.args.key.now _ _ _ _ c.in-Some-seek_child_mut.child.now (stored c.self.inside.storage) canonical c.in-Some.ensures c.in-Some-first.ensures.value c.in-Some-seek_child_mut.ensures.value a.1,
     )) c.put.ensures.asks

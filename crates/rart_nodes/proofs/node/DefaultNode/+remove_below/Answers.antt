@@ -11,7 +11,8 @@ use Rattle.rart_nodes.proofs.edits.InsertLemmas.{fewer-within, child-put_back, r
 use Rattle.rart_nodes.proofs.edits.JoinLemmas.{some-there}
 use Rattle.rart_nodes.proofs.edits.JoinedLengths.{joins-canonical, entry-short}
 use Rattle.rart_nodes.proofs.edits.LeafLemmas.{leaf-gone, leaf-edges, leaf-value, leaf-some}
-use Rattle.rart_nodes.proofs.edits.Outcomes.{on_ok, on_err, err-any, if_ok}
+use Rattle.std.proofs.lemmas.Result.{on_ok_weaker, on_err_weaker}
+use Rattle.rart_nodes.proofs.edits.Outcomes.{err-any, if_ok_weaker}
 use Rattle.rart_nodes.proofs.edits.RemoveAskSteps.{asks_remove-below, asks_remove-leaf}
 use Rattle.rart_nodes.proofs.edits.RemoveSteps.{value-removed, removed-below, removed-leaf, same-node}
 use Rattle.rart_nodes.proofs.tries.RestLemmas.{trie_lookup-left, trie_lookup-child, trie_lookup-no_child}
@@ -55,22 +56,22 @@ remove_below-requires g t c κs within =
 pub returns-then-not-is_leaf_at-clause-ok : goal.returns-then-not-is_leaf_at-clause-ok
 returns-then-not-is_leaf_at-clause-ok g t c =
     let left = rw c.in-Some-seek_child_mut.is at c.seek_child_mut.follows.holds c.remove_below.new.self in
-    on_ok c.remove_below.result (λ r. rw (← c.self.view_is) (removed-below _ c.args.key.now _ _ _ _ _ c.in-Some-seek_child_mut.child.now c.remove_below.new.self (stored c.self.inside.storage) _
+    on_ok_weaker c.remove_below.result (λ r. rw (← c.self.view_is) (removed-below _ c.args.key.now _ _ _ _ _ c.in-Some-seek_child_mut.child.now c.remove_below.new.self (stored c.self.inside.storage) _
     (rw (← c.self.view_is) at c.requires.canonical) c.in-Some.ensures c.in-Some-first.ensures.value c.in-Some-seek_child_mut.ensures.value r left.0 left.1)) c.remove_below.ensures.ok
 
 pub returns-then-not-is_leaf_at-clause-answer : goal.returns-then-not-is_leaf_at-clause-answer
-returns-then-not-is_leaf_at-clause-answer g t c = if_ok c.remove_below.result (λ x e. rw (← c.self.view_is) (e ∙ sym (trie_lookup-child _ c.args.key.now _ _ _ (width_of c.self.inside.storage) c.in-Some-seek_child_mut.child.now (stored c.self.inside.storage)
+returns-then-not-is_leaf_at-clause-answer g t c = if_ok_weaker c.remove_below.result (λ x e. rw (← c.self.view_is) (e ∙ sym (trie_lookup-child _ c.args.key.now _ _ _ (width_of c.self.inside.storage) c.in-Some-seek_child_mut.child.now (stored c.self.inside.storage)
     (rw (← c.self.view_is) at c.requires.canonical) c.in-Some.ensures c.in-Some-first.ensures.value c.in-Some-seek_child_mut.ensures.value))) c.remove_below.ensures.answer
 
 pub returns-then-not-is_leaf_at-clause-refused : goal.returns-then-not-is_leaf_at-clause-refused
 returns-then-not-is_leaf_at-clause-refused g t c =
     let left = rw c.in-Some-seek_child_mut.is at c.seek_child_mut.follows.holds c.remove_below.new.self in
-    on_err c.remove_below.result (λ e. rw (← c.self.view_is) (child-put_back _ _ _ _ _ c.in-Some-seek_child_mut.child.now c.remove_below.new.self (stored c.self.inside.storage) _ c.in-Some-seek_child_mut.ensures.value e left.0 left.1)) c.remove_below.ensures.refused
+    on_err_weaker c.remove_below.result (λ e. rw (← c.self.view_is) (child-put_back _ _ _ _ _ c.in-Some-seek_child_mut.child.now c.remove_below.new.self (stored c.self.inside.storage) _ c.in-Some-seek_child_mut.ensures.value e left.0 left.1)) c.remove_below.ensures.refused
 
 pub returns-then-not-is_leaf_at-clause-asks : goal.returns-then-not-is_leaf_at-clause-asks
 returns-then-not-is_leaf_at-clause-asks g t c =
     let canonical = rw (← c.self.view_is) at c.requires.canonical in
-    on_err c.remove_below.result (λ a. rw (← c.self.view_is) (
+    on_err_weaker c.remove_below.result (λ a. rw (← c.self.view_is) (
       asks_remove-below _ c.args.key.now _ _ (width_of c.self.inside.storage) _ c.in-Some-seek_child_mut.child.now (stored c.self.inside.storage) canonical c.in-Some.ensures c.in-Some-first.ensures.value c.in-Some-seek_child_mut.ensures.value
           (sym c.is_leaf_at.ensures ∙ c.if-not-is_leaf_at.true) a.0,
       λ z. a.1 (sym (trie_lookup-child _ c.args.key.now _ _ _ (width_of c.self.inside.storage) c.in-Some-seek_child_mut.child.now (stored c.self.inside.storage)

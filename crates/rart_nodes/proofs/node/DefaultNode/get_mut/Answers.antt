@@ -1,7 +1,7 @@
 use Rattle.std.proofs.Common.{refl, sym, ap, ◌∙◌, Some}
 use Rattle.rart_nodes.specs.tries.Trie.{IsCanonical, trie_lookup, trie_put}
 use Rattle.rart_nodes.proofs.edits.LoanLemmas.{lent}
-use Rattle.rart_nodes.proofs.edits.Outcomes.{on_some, on_none}
+use Rattle.rart_nodes.proofs.edits.Outcomes.{on_some_weaker, if_none_weaker}
 use Rattle.rart_nodes.proofs.tries.PairLemmas.{lookup-pairs_of}
 use Rattle.rart_nodes.proofs.node.DefaultNode.get_mut.Goals as goal
 
@@ -14,7 +14,7 @@ returns-in-Some g c =
         refl,
         λ w. let left = c.lend.follows.holds w in
             rw c.in-Some.is (lent key w c.in-Some.node (c.lend.follows.lender w) c.lend.result canonical value
-            (on_some c.lend.result (λ h. h ∙ ap (trie_put key w) c.in-Some.node-is) left.0, on_none c.lend.result (λ h. h ∙ c.in-Some.node-is) left.1)),
+            (on_some_weaker c.lend.result (λ h. h ∙ ap (trie_put key w) c.in-Some.node-is) left.0, if_none_weaker c.lend.result (λ h. h ∙ c.in-Some.node-is) left.1)),
         rw c.in-Some.is (ap Some (c.lend.follows.holds-at-none ∙ c.in-Some.node-is)),
       ),
       record { writes_back = tt; value = rw c.in-Some.is (value ∙ sym (lookup-pairs_of key c.in-Some.node canonical)) },

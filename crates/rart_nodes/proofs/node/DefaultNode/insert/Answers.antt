@@ -4,7 +4,8 @@ use Rattle.rart_keys.proofs.SortedMaps.{length-put}
 use Rattle.rart_nodes.specs.tries.Trie.{IsCanonical, pairs_of}
 use Rattle.rart_nodes.proofs.tries.CanonicalTests.{longest_key-put}
 use Rattle.rart_nodes.proofs.edits.InsertAskLemmas.{asks-insert}
-use Rattle.rart_nodes.proofs.edits.Outcomes.{on_ok, on_err, if_ok, if_ok_on}
+use Rattle.std.proofs.lemmas.Result.{on_ok_weaker, on_err_weaker}
+use Rattle.rart_nodes.proofs.edits.Outcomes.{if_ok_weaker, if_ok_weaker_on}
 use Rattle.rart_nodes.proofs.tries.PairLemmas.{pairs_of-ascend, lookup-pairs_of}
 use Rattle.rart_nodes.proofs.edits.PutLemmas.{canonical-put, pairs_of-put}
 use Rattle.rart_nodes.proofs.tries.NodeCounts.{some-pairs}
@@ -19,12 +20,12 @@ returns g c =
     let pairs = pairs_of-put key c.args.value old canonical in
     let answer = sym (lookup-pairs_of key old canonical) in
     record {
-      canonical = on_ok c.put.result (λ e. rw e (canonical-put key c.args.value old canonical)) c.put.ensures.ok;
-      pairs = on_ok c.put.result (λ e. ap pairs_of e ∙ pairs) c.put.ensures.ok;
-      answer = if_ok c.put.result (λ x e. e ∙ answer) c.put.ensures.answer;
-      count = if_ok_on c.put.result (λ x e a. omega (arith, length-put key c.args.value (pairs_of old) (pairs_of-ascend old canonical), ap length (ap pairs_of e ∙ pairs), ap count_of (a ∙ answer))) c.put.ensures.ok c.put.ensures.answer;
-      longest = on_ok c.put.result (λ e. omega (arith, ap longest_key (ap pairs_of e ∙ pairs), longest_key-put key c.args.value (max (longest_key (pairs_of old)) (length key)) (pairs_of old) (omega arith) (omega arith))) c.put.ensures.ok;
+      canonical = on_ok_weaker c.put.result (λ e. rw e (canonical-put key c.args.value old canonical)) c.put.ensures.ok;
+      pairs = on_ok_weaker c.put.result (λ e. ap pairs_of e ∙ pairs) c.put.ensures.ok;
+      answer = if_ok_weaker c.put.result (λ x e. e ∙ answer) c.put.ensures.answer;
+      count = if_ok_weaker_on c.put.result (λ x e a. omega (arith, length-put key c.args.value (pairs_of old) (pairs_of-ascend old canonical), ap length (ap pairs_of e ∙ pairs), ap count_of (a ∙ answer))) c.put.ensures.ok c.put.ensures.answer;
+      longest = on_ok_weaker c.put.result (λ e. omega (arith, ap longest_key (ap pairs_of e ∙ pairs), longest_key-put key c.args.value (max (longest_key (pairs_of old)) (length key)) (pairs_of old) (omega arith) (omega arith))) c.put.ensures.ok;
       refused = c.put.ensures.refused;
       back = c.put.ensures.back;
-      asks = on_err c.put.result (λ e. let none = sym (record_is key old canonical) ∙ e.1 in (some-pairs old canonical, new-key key (pairs_of old) none, none, sym (asks-insert key old canonical) ∙ e.0)) c.put.ensures.asks;
+      asks = on_err_weaker c.put.result (λ e. let none = sym (record_is key old canonical) ∙ e.1 in (some-pairs old canonical, new-key key (pairs_of old) none, none, sym (asks-insert key old canonical) ∙ e.0)) c.put.ensures.asks;
     }

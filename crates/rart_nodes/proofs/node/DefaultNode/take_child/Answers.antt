@@ -3,14 +3,14 @@ use Rattle.rart_parts.specs.Entries.{child_at}
 use Rattle.rart_nodes.specs.storages.Stored.{stored, width_of}
 use Rattle.rart_nodes.specs.storages.Widths.{narrowed}
 use Rattle.rart_nodes.proofs.storages.ChildLemmas.{edges_of-length}
-use Rattle.rart_nodes.proofs.edits.InsertLemmas.{on_err}
+use Rattle.rart_nodes.proofs.edits.Outcomes.{err-any}
 use Rattle.rart_nodes.proofs.edits.JoinLemmas.{joins-without, some-there, without-none, without-joined, without-wide}
 use Rattle.rart_nodes.proofs.walks.SeenLemmas.{child_of-entries}
 use Rattle.rart_nodes.proofs.node.DefaultNode.take_child.Goals as goal
 use Rattle.rart_nodes.proofs.node.DefaultNode.take_child.Goals.{then-narrow, else-narrow}
 
 pub returns-in_err-child-clause-asks : goal.returns-in_err-child-clause-asks
-returns-in_err-child-clause-asks g c = on_err c.from_residual.result (rw (← c.self.view_is) (
+returns-in_err-child-clause-asks g c = err-any c.from_residual.result (rw (← c.self.view_is) (
   λ e. c.in_err-child.ensures.asks.0 (sym (child_of-entries c.args.b (stored c.self.inside.storage)) ∙ e),
   c.in_err-child.ensures.asks.1,
   rw (edges_of-length (stored c.self.inside.storage)) c.in_err-child.ensures.asks.2,

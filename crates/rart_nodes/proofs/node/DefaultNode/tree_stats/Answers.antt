@@ -1,7 +1,8 @@
 use Rattle.std.proofs.Common.{◌∙◌, ap, arith}
 use Rattle.rart_nodes.specs.statistics.CountedNodes.{counts_added, counts_in, counts_sum}
 use Rattle.rart_nodes.proofs.statistics.CountedStatistics.{counted-statistics, few-for-keys, sums-for-keys, inner-keys}
-use Rattle.rart_nodes.proofs.edits.Outcomes.{if_ok, on_err}
+use Rattle.std.proofs.lemmas.Result.{on_err_weaker}
+use Rattle.rart_nodes.proofs.edits.Outcomes.{if_ok_weaker}
 use Rattle.rart_nodes.proofs.node.DefaultNode.tree_stats.Goals as goal
 
 pub count_nodes-height-requires : goal.count_nodes-height-requires
@@ -28,10 +29,10 @@ pub returns-clause-statistics : goal.returns-clause-statistics
 returns-clause-statistics g c =
     let canonical = rw c.in-Some.is at c.requires.canonical in
     let counted = c.count_nodes-height.ensures.counts ∙ ap (λ n. counts_added n (counts_in c.in-Some.node.now)) c.none-counts.ensures in
-    rw c.in-Some.is (if_ok c.statistics.result (λ s r. counted-statistics _ _ _ _ canonical counted c.count_nodes-height.ensures.height r) c.statistics.ensures.value)
+    rw c.in-Some.is (if_ok_weaker c.statistics.result (λ s r. counted-statistics _ _ _ _ canonical counted c.count_nodes-height.ensures.height r) c.statistics.ensures.value)
 
 pub returns-clause-asks : goal.returns-clause-asks
 returns-clause-asks g c =
     let canonical = rw c.in-Some.is at c.requires.canonical in
     let counted = c.count_nodes-height.ensures.counts ∙ ap (λ n. counts_added n (counts_in c.in-Some.node.now)) c.none-counts.ensures in
-    rw c.in-Some.is (on_err c.statistics.result (λ i. inner-keys _ _ canonical counted i) c.statistics.ensures.asks)
+    rw c.in-Some.is (on_err_weaker c.statistics.result (λ i. inner-keys _ _ canonical counted i) c.statistics.ensures.asks)

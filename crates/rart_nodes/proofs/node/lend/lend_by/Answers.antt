@@ -3,7 +3,7 @@ use Rattle.rart_nodes.specs.storages.Stored.{stored, width_of}
 use Rattle.rart_nodes.specs.tries.TrieCode.{node_count}
 use Rattle.rart_nodes.proofs.storages.ChildLemmas.{canonical-found, count-found}
 use Rattle.rart_nodes.proofs.edits.InsertLemmas.{put-below, child-put_back}
-use Rattle.rart_nodes.proofs.edits.Outcomes.{on_some, on_none}
+use Rattle.rart_nodes.proofs.edits.Outcomes.{on_some_weaker, if_none_weaker}
 use Rattle.rart_nodes.proofs.tries.RestLemmas.{trie_lookup-ended, trie_lookup-child, trie_lookup-no_child, trie_put-ended}
 use Rattle.rart_nodes.proofs.node.lend.lend_by.Goals as goal
 
@@ -35,10 +35,10 @@ returns-in-Some-seek_child_mut g c =
       (
         refl,
         λ w. let left = rw c.in-Some-seek_child_mut.is at c.seek_child_mut.follows.holds (c.lend.follows.lender w) in (
-          on_some c.lend.result (λ q. rw (← c.node.view_is) (put-below _ c.args.key.now _ w _ _ _ _ c.in-Some-seek_child_mut.child.now (c.lend.follows.lender w) (stored c.node.inside.storage) _
+          on_some_weaker c.lend.result (λ q. rw (← c.node.view_is) (put-below _ c.args.key.now _ w _ _ _ _ c.in-Some-seek_child_mut.child.now (c.lend.follows.lender w) (stored c.node.inside.storage) _
               canonical c.in-Some.ensures c.in-Some-first.ensures.value found
               (q ∙ c.requires.put c.in-Some-seek_child_mut.child.now _ w) left.0 left.1)) (c.lend.follows.holds w).0,
-          on_none c.lend.result (λ q. child-put_back _ _ _ _ _ c.in-Some-seek_child_mut.child.now (c.lend.follows.lender w) (stored c.node.inside.storage) _ found q left.0 left.1 ∙ c.node.view_is) (c.lend.follows.holds w).1,
+          if_none_weaker c.lend.result (λ q. child-put_back _ _ _ _ _ c.in-Some-seek_child_mut.child.now (c.lend.follows.lender w) (stored c.node.inside.storage) _ found q left.0 left.1 ∙ c.node.view_is) (c.lend.follows.holds w).1,
         ),
         let left = rw c.in-Some-seek_child_mut.is at c.seek_child_mut.follows.holds c.lend.follows.lender-at-none in
             child-put_back _ _ _ _ _ c.in-Some-seek_child_mut.child.now c.lend.follows.lender-at-none (stored c.node.inside.storage) _ found c.lend.follows.holds-at-none left.0 left.1 ∙ c.node.view_is,
