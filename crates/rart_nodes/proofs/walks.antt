@@ -1,4 +1,5 @@
 pub mod ProbeLemmas
 pub mod SeenLemmas
-pub mod TreeWalkLemmas
-pub mod TreeWalkVisits
+pub mod StopLemmas
+pub mod TourLemmas
+pub mod TourVisits

@@ -1,3 +1,6 @@
+pub mod ChildrenCode
 pub mod ProbeCount
-pub mod TreeWalk
+pub mod Tour
+pub mod TourSteps
+pub mod TrailParts
 pub mod Walks

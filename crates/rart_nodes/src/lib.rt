@@ -12,5 +12,7 @@ pub mod shape;
 pub mod stats;
 
 pub use count::{Count, Visits};
+pub use node::iter;
+pub use node::seen::Seen;
 pub use refused::Refused;
 pub use stats::{NodeStats, TreeStats};

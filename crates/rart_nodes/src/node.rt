@@ -13,7 +13,7 @@ use std::marker::Model;
 
 mod children;
 mod insert;
-mod iter;
+pub mod iter;
 mod lend;
 mod look_up;
 mod made;
@@ -22,10 +22,10 @@ mod rest;
 pub mod seen;
 mod statistics;
 pub mod storage;
-mod walk;
+mod tour;
+mod trail;
 
 pub use children::NodeIter;
-pub use iter::{Iter, SeenIter, ValuesIter};
 pub use made::Node;
 
 /// A node. A child's prefix begins with the byte by which it stands; only the prefix of a root may

@@ -4,7 +4,7 @@ ghost use Rattle.std.specs.Io.KnownBytes.{Appends};
 ghost use Rattle.rart_script.specs.Answers.{value_line, number_line, memory_line, full_line, key_word, pair_word, pairs_line};
 
 use crate::key::KEY_SIZE;
-use rart::{ArrayKey, Iter, KeyTrait, TreeError};
+use rart::{ArrPartial, ArrayKey, Iter, KeyTrait, TreeError};
 use std::io;
 use std::io::Write;
 
@@ -39,7 +39,7 @@ pub fn write_number<W: Write>(output: &mut W, number: usize) -> io::Result<()>
 /// The pairs still to come, one space between each two; `empty` where there is none.
 pub fn write_pairs<W: Write>(
     output: &mut W,
-    mut pairs: Iter<'_, ArrayKey<KEY_SIZE>, u64>,
+    mut pairs: Iter<'_, ArrayKey<KEY_SIZE>, ArrPartial<KEY_SIZE>, u64>,
 ) -> io::Result<()>
     ensures { OnOk result (Appends (W.contents output.old) (W.contents output.new) (pairs_line pairs.entry)) }
 {
