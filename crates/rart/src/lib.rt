@@ -7,11 +7,12 @@
 
 pub mod iter;
 pub mod laws;
+mod prefixes;
 pub mod script;
 pub mod stats;
 pub mod tree;
 
-pub use crate::iter::{Iter, SeenIter, ValuesIter};
+pub use crate::iter::{Iter, PrefixMatchIter, SeenIter, ValuesIter};
 pub use crate::stats::{NodeStats, TreeStats, TreeStatsTrait};
 pub use crate::tree::AdaptiveRadixTree;
 pub use crate::tree::guarded::{NotInserted, TryInsertError};

@@ -1,3 +1,4 @@
+pub mod MatchLemmas
 pub mod ProbeLemmas
 pub mod SeenLemmas
 pub mod StopLemmas

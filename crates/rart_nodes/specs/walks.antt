@@ -1,4 +1,6 @@
 pub mod ChildrenCode
+pub mod Matched
+pub mod Matches
 pub mod ProbeCount
 pub mod Tour
 pub mod TourSteps

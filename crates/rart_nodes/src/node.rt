@@ -17,6 +17,7 @@ pub mod iter;
 mod lend;
 mod look_up;
 mod made;
+mod matching;
 mod remove;
 mod rest;
 pub mod seen;

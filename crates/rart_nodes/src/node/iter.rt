@@ -8,6 +8,7 @@ ghost use Rattle.rart_keys.specs.SortedMap.{count_of, values_of};
 ghost use Rattle.rart_nodes.specs.tries.Tree.{tree_pairs};
 
 use crate::count::{Count, Visits};
+pub use crate::node::matching::PrefixMatchIter;
 use crate::node::seen::Seen;
 use crate::node::tour::Tour;
 use crate::node::trail::{ByteTrail, NoTrail};
