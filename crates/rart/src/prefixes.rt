@@ -1,12 +1,13 @@
-//! Answers about a probe: the keys that begin it. None of these calls takes memory.
-ghost use Rattle.std.specs.Prelude.{◌≡◌, option_map};
+//! Answers about a probe, the keys that begin it, which take no memory; and walks below a prefix, the keys that it begins.
+ghost use Rattle.std.specs.Prelude.{◌≡◌, ◌≢◌, [], option_map, IfErr, IfOk};
 ghost use Rattle.std.specs.Option.{option_copied};
-ghost use Rattle.rart_keys.specs.Filters.{longest_match, matches};
+ghost use Rattle.rart_keys.specs.Filters.{below, longest_match, matches};
 
 use crate::tree::AdaptiveRadixTree;
 use rart_keys::KeyTrait;
 use rart_nodes::Visits;
-use rart_nodes::iter::PrefixMatchIter;
+use rart_nodes::iter::{Iter, PrefixMatchIter};
+use rart_parts::TreeError;
 
 impl<K: KeyTrait, V> AdaptiveRadixTree<K, V> {
     /// The pair whose key is the longest that begins `probe`.
@@ -65,5 +66,23 @@ impl<K: KeyTrait, V> AdaptiveRadixTree<K, V> {
         ensures { result ≡ matches (K.bytes probe) self.now.pairs }
     {
         self.prefix_match_iter_k(&probe)
+    }
+
+    /// The pairs whose key begins with `prefix`, ascending. It takes its room as `iter` does.
+    pub fn prefix_iter_k(&self, prefix: &K) -> Result<Iter<'_, K, K::PartialType, V>, TreeError>
+        ensures pairs { IfOk result (λ it. it ≡ below (K.bytes prefix.now) self.now.pairs) }
+        ensures memory { IfErr result (λ e. (e ≡ TreeError.Memory) × (self.now.pairs ≢ [])) }
+    {
+        self.seen().prefix_iter_k(prefix)
+    }
+
+    /// The pairs whose key begins with `prefix`, as `prefix_iter_k` gives them.
+    pub fn prefix_iter(&self, prefix: K) -> Result<Iter<'_, K, K::PartialType, V>, TreeError>
+    where
+        K: Drop,
+        ensures pairs { IfOk result (λ it. it ≡ below (K.bytes prefix) self.now.pairs) }
+        ensures memory { IfErr result (λ e. (e ≡ TreeError.Memory) × (self.now.pairs ≢ [])) }
+    {
+        self.prefix_iter_k(&prefix)
     }
 }

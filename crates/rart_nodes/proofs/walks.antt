@@ -1,4 +1,5 @@
 pub mod MatchLemmas
+pub mod PartLemmas
 pub mod ProbeLemmas
 pub mod SeenLemmas
 pub mod StopLemmas

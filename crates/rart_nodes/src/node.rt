@@ -11,7 +11,9 @@ use crate::node::storage::Storage;
 use rart_keys::Partial;
 use std::marker::Model;
 
+mod below;
 mod children;
+mod control;
 mod insert;
 pub mod iter;
 mod lend;
@@ -25,8 +27,11 @@ mod statistics;
 pub mod storage;
 mod tour;
 mod trail;
+mod tries;
+mod visit;
 
 pub use children::NodeIter;
+pub use control::{VisitControl, VisitError};
 pub use made::Node;
 
 /// A node. A child's prefix begins with the byte by which it stands; only the prefix of a root may

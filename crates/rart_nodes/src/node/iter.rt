@@ -4,8 +4,10 @@
 ghost use Rattle.std.specs.Prelude.{◌≡◌, ◌≢◌, ◌≤◌, ◌+◌, [], ◌∷◌, length, IfErr, IfOk, MatchOption};
 ghost use Rattle.std.specs.Iterator.{YieldsFirstBy, item_count};
 ghost use Rattle.std.specs.Option.{option_copied};
-ghost use Rattle.rart_keys.specs.SortedMap.{count_of, values_of};
+ghost use Rattle.rart_keys.specs.Filters.{below};
+ghost use Rattle.rart_keys.specs.SortedMap.{count_of, keys_of, values_of};
 ghost use Rattle.rart_nodes.specs.tries.Tree.{tree_pairs};
+ghost use Rattle.rart_nodes.specs.walks.ProbeCount.{probe_count};
 
 use crate::count::{Count, Visits};
 pub use crate::node::matching::PrefixMatchIter;
@@ -170,7 +172,52 @@ impl<'a, K: KeyTrait, V, C: Count> Seen<'a, K, V, C> {
     }
 }
 
+impl<'a, K: KeyTrait, V, C: Count> Seen<'a, K, V, C> {
+    fn keys_tour_below(
+        self,
+        prefix: &[u8],
+        counter: &mut C,
+    ) -> Result<KeyTour<'a, K, K::PartialType, V, C>, TreeError>
+        ensures pairs { IfOk result (λ it. it ≡ below prefix.now (tree_pairs (option_copied self.entry.root))) }
+        ensures memory { IfErr result (λ e. (e ≡ TreeError.Memory) × (tree_pairs (option_copied self.entry.root) ≢ [])) }
+        ensures visits { IfOk result (λ _. C.number counter.new ≡ C.number counter.old + probe_count (keys_of (tree_pairs (option_copied self.entry.root))) prefix.now) }
+        ensures bound { C.number counter.new ≤ C.number counter.old + length prefix.now + 1 }
+    {
+        let (tour, trail) = self.tour_below(prefix, counter)?;
+        Ok(KeyTour {
+            tour,
+            trail,
+            of: PhantomData,
+        })
+    }
+
+    /// An iterator over the pairs whose key begins with `prefix`, for which it goes down along the prefix: it visits at
+    /// most one node more than the prefix has bytes. It takes its room as `iter_counted` does.
+    pub fn prefix_iter_k_counted(
+        self,
+        prefix: &K,
+        counter: &mut C,
+    ) -> Result<SeenIter<'a, K, V, C>, TreeError>
+        ensures pairs { IfOk result (λ it. it ≡ below (K.bytes prefix.now) (tree_pairs (option_copied self.entry.root))) }
+        ensures memory { IfErr result (λ e. (e ≡ TreeError.Memory) × (tree_pairs (option_copied self.entry.root) ≢ [])) }
+        ensures visits { IfOk result (λ _. C.number counter.new ≡ C.number counter.old + probe_count (keys_of (tree_pairs (option_copied self.entry.root))) (K.bytes prefix.now)) }
+        ensures bound { C.number counter.new ≤ C.number counter.old + length (K.bytes prefix.now) + 1 }
+    {
+        let pairs = self.keys_tour_below(prefix.as_ref(), counter)?;
+        Ok(SeenIter { pairs })
+    }
+}
+
 impl<'a, K: KeyTrait, V> Seen<'a, K, V, Visits> {
+    /// An iterator over the pairs whose key begins with `prefix`. It takes its room as `iter_counted` does.
+    pub fn prefix_iter_k(self, prefix: &K) -> Result<Iter<'a, K, K::PartialType, V>, TreeError>
+        ensures pairs { IfOk result (λ it. it ≡ below (K.bytes prefix.now) (tree_pairs (option_copied self.entry.root))) }
+        ensures memory { IfErr result (λ e. (e ≡ TreeError.Memory) × (tree_pairs (option_copied self.entry.root) ≢ [])) }
+    {
+        let pairs = self.keys_tour_below(prefix.as_ref(), &mut Visits::new())?;
+        Ok(Iter { pairs })
+    }
+
     /// An iterator over all pairs. It takes its room as `iter_counted` does.
     pub fn iter(self) -> Result<Iter<'a, K, K::PartialType, V>, TreeError>
         ensures pairs { IfOk result (λ it. it ≡ tree_pairs (option_copied self.entry.root)) }

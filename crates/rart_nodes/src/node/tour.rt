@@ -65,7 +65,7 @@ fn go_on<'a, P: Partial, V, C, T: Trail<'a, P>>(
 }
 
 /// A walk over what lies at and below a node just visited; the trail is that of the way to it.
-fn start<'a, P: Partial, V, C, T: Trail<'a, P>>(
+pub(crate) fn start<'a, P: Partial, V, C, T: Trail<'a, P>>(
     mut levels: Vec<(Branches<'a, P, V, C>, usize)>,
     longest: usize,
     trail: &mut T,
@@ -91,7 +91,9 @@ fn start<'a, P: Partial, V, C, T: Trail<'a, P>>(
 }
 
 /// A walk over nothing, and a trail without room.
-fn nowhere<'a, P: Partial, V, C, T: Trail<'a, P>>(alloc: Global) -> (Tour<'a, P, V, C>, T)
+pub(crate) fn nowhere<'a, P: Partial, V, C, T: Trail<'a, P>>(
+    alloc: Global,
+) -> (Tour<'a, P, V, C>, T)
     ensures path { IsTour result.0.longest (vec_capacity result.0.levels) (T.kept result.1) (reverse result.0.levels.items) }
     ensures room { result.0.longest ≤ T.room result.1 }
     ensures stops { stops_ahead T.grown (T.kept result.1) (option_copied result.0.first) result.0.levels.items ≡ [] }
