@@ -4,13 +4,13 @@ ghost use Rattle.rart_keys.specs.SortedMap.{values_of};
 
 use crate::tree::AdaptiveRadixTree;
 use rart_keys::KeyTrait;
-use rart_nodes::node::{Iter, ValuesIter};
+pub use rart_nodes::iter::{Iter, PrefixMatchIter, SeenIter, ValuesIter};
 use rart_parts::TreeError;
 
 impl<K: KeyTrait, V> AdaptiveRadixTree<K, V> {
     /// The pairs, ascending by key. All room is taken here, after the length of the longest key ever
     /// stored, and none for an empty tree; the iterator itself takes none. Refused with `Memory` alone.
-    pub fn iter(&self) -> Result<Iter<'_, K, V>, TreeError>
+    pub fn iter(&self) -> Result<Iter<'_, K, K::PartialType, V>, TreeError>
         ensures pairs { IfOk result (λ it. it ≡ self.now.pairs) }
         ensures memory { IfErr result (λ e. (e ≡ TreeError.Memory) × (self.now.pairs ≢ [])) }
     {

@@ -12,7 +12,7 @@ use crate::stats::{TreeStats, TreeStatsTrait};
 use crate::tree::AdaptiveRadixTree;
 use rart_keys::KeyTrait;
 use rart_nodes::Refused;
-use rart_nodes::node::{Iter, ValuesIter};
+use rart_nodes::iter::{Iter, ValuesIter};
 use rart_parts::TreeError;
 
 /// Trees with equal keys have equal nodes, whatever their key types, their values and the calls that
@@ -99,7 +99,7 @@ fn both_answers<'a, K: KeyTrait, V>(
 /// as many as the tree counts, and the values are theirs, in the same order.
 pub fn pairs_and_values<'a, K: KeyTrait, V>(
     tree: &'a AdaptiveRadixTree<K, V>,
-) -> Result<(Iter<'a, K, V>, ValuesIter<'a, K, V>), TreeError>
+) -> Result<(Iter<'a, K, K::PartialType, V>, ValuesIter<'a, K, V>), TreeError>
     ensures ascending { IfOk result (λ r. IsAscending r.0) }
     ensures many { IfOk result (λ r. length r.0 ≡ length tree.now.pairs) }
     ensures same { IfOk result (λ r. r.1 ≡ values_of r.0) }

@@ -5,19 +5,19 @@
 //! every answer is the one of the sorted list of pairs; a refused call changes neither.
 #![tactic(auto)]
 
-mod iter;
+pub mod iter;
 pub mod laws;
+mod prefixes;
 pub mod script;
 pub mod stats;
 pub mod tree;
 
+pub use crate::iter::{Iter, PrefixMatchIter, SeenIter, ValuesIter};
 pub use crate::stats::{NodeStats, TreeStats, TreeStatsTrait};
 pub use crate::tree::AdaptiveRadixTree;
 pub use crate::tree::guarded::{NotInserted, TryInsertError};
 pub use rart_keys::{ArrPartial, ArrayKey, KeyTrait, Partial, keys, partials};
-pub use rart_nodes::node::seen::Seen;
-pub use rart_nodes::node::{Iter, SeenIter, ValuesIter};
-pub use rart_nodes::{Count, Refused, Visits, node};
+pub use rart_nodes::{Count, Refused, Seen, Visits, node};
 pub use rart_parts::{TreeError, mapping, utils};
 
 #[cfg(test)]

@@ -9,8 +9,7 @@ ghost use Rattle.rart.specs.Edits.{Deletes, Inserts, Removes};
 
 use rart_keys::{KeyTrait, Partial};
 use rart_nodes::node::DefaultNode;
-use rart_nodes::node::seen::Seen;
-use rart_nodes::{Refused, Visits};
+use rart_nodes::{Refused, Seen, Visits};
 use rart_parts::TreeError;
 use std::alloc::Global;
 use std::marker::{Model, PhantomData};

@@ -1,4 +1,7 @@
+pub mod MatchLemmas
+pub mod PartLemmas
 pub mod ProbeLemmas
 pub mod SeenLemmas
-pub mod TreeWalkLemmas
-pub mod TreeWalkVisits
+pub mod StopLemmas
+pub mod TourLemmas
+pub mod TourVisits

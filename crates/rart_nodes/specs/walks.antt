@@ -1,3 +1,11 @@
+pub mod ChildrenCode
+pub mod Matched
+pub mod Matches
+pub mod Part
 pub mod ProbeCount
-pub mod TreeWalk
+pub mod Shown
+pub mod Tour
+pub mod TourSteps
+pub mod TrailParts
+pub mod Tried
 pub mod Walks

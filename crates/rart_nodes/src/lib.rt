@@ -12,5 +12,7 @@ pub mod shape;
 pub mod stats;
 
 pub use count::{Count, Visits};
+pub use node::seen::Seen;
+pub use node::{VisitControl, VisitError, iter};
 pub use refused::Refused;
 pub use stats::{NodeStats, TreeStats};

@@ -11,21 +11,27 @@ use crate::node::storage::Storage;
 use rart_keys::Partial;
 use std::marker::Model;
 
+mod below;
 mod children;
+mod control;
 mod insert;
-mod iter;
+pub mod iter;
 mod lend;
 mod look_up;
 mod made;
+mod matching;
 mod remove;
 mod rest;
 pub mod seen;
 mod statistics;
 mod storage;
-mod walk;
+mod tour;
+mod trail;
+mod tries;
+mod visit;
 
 pub use children::NodeIter;
-pub use iter::{Iter, SeenIter, ValuesIter};
+pub use control::{VisitControl, VisitError};
 pub use made::Node;
 
 /// A node. A child's prefix begins with the byte by which it stands; only the prefix of a root may

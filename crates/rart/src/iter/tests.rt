@@ -1,7 +1,9 @@
 ghost use Rattle.std.specs.Prelude.{◌≤◌, length};
 
 use crate::tests::{refuse, was_refused};
-use crate::{AdaptiveRadixTree, ArrayKey, Iter, KeyTrait, Seen, TreeError, ValuesIter, Visits};
+use crate::{
+    AdaptiveRadixTree, ArrPartial, ArrayKey, Iter, KeyTrait, Seen, TreeError, ValuesIter, Visits,
+};
 use std::process::Abort;
 
 type Tree = AdaptiveRadixTree<ArrayKey<4>, u64>;
@@ -21,7 +23,7 @@ fn store(rt: &impl Abort, tree: &mut Tree, bytes: &[u8], value: u64)
     }
 }
 
-fn iter<'a>(rt: &impl Abort, tree: &'a Tree) -> Iter<'a, ArrayKey<4>, u64> {
+fn iter<'a>(rt: &impl Abort, tree: &'a Tree) -> Iter<'a, ArrayKey<4>, ArrPartial<4>, u64> {
     let Ok(iter) = tree.iter() else {
         panic!(rt; "refused with ample memory")
     };
@@ -35,7 +37,12 @@ fn values<'a>(rt: &impl Abort, tree: &'a Tree) -> ValuesIter<'a, ArrayKey<4>, u6
     iter
 }
 
-fn next_is(rt: &impl Abort, iter: &mut Iter<'_, ArrayKey<4>, u64>, bytes: &[u8], value: u64) {
+fn next_is(
+    rt: &impl Abort,
+    iter: &mut Iter<'_, ArrayKey<4>, ArrPartial<4>, u64>,
+    bytes: &[u8],
+    value: u64,
+) {
     match iter.next() {
         Some((found, stored)) => {
             assert_eq!(rt; found.as_ref(), bytes);

@@ -1,7 +1,7 @@
 ghost use Rattle.std.specs.Prelude.{◌+◌, ◌≤◌, length};
 
 use super::*;
-use crate::{Iter, ValuesIter};
+use crate::{ArrPartial, Iter, ValuesIter};
 
 fn text(s: &str) -> ArrayKey<16>
     requires { length s.now + 1 ≤ 16 }
@@ -27,7 +27,11 @@ fn value_is(rt: &impl Abort, tree: &Tree, key: ArrayKey<16>, value: u64) {
     assert_eq!(rt; tree.get(key), Some(&value));
 }
 
-fn next_is(rt: &impl Abort, pairs: &mut Iter<'_, ArrayKey<16>, u64>, key: ArrayKey<16>) {
+fn next_is(
+    rt: &impl Abort,
+    pairs: &mut Iter<'_, ArrayKey<16>, ArrPartial<16>, u64>,
+    key: ArrayKey<16>,
+) {
     match pairs.next() {
         Some((found, _value)) => assert!(rt; found == key),
         None => assert!(rt; false, "ended early"),

@@ -6,30 +6,26 @@ ghost use Rattle.rart_nodes.specs.walks.ProbeCount.{probe_count, tree_entered};
 ghost use Rattle.rart_nodes.specs.tries.Tree.{tree_lookup, tree_pairs};
 
 use crate::count::Count;
+use crate::node::rest::rest_behind;
 use crate::node::seen::Seen;
-use rart_keys::{KeyTrait, Partial};
+use rart_keys::KeyTrait;
 
 impl<'a, K: KeyTrait, V, C: Count> Seen<'a, K, V, C> {
     fn descend(self, key: &[u8], counter: &mut C) -> Option<&'a V>
         ensures value { option_copied result ≡ tree_lookup key.now (option_copied self.entry.root) }
         ensures visits { C.number counter.new ≡ C.number counter.old + tree_entered key.now (option_copied self.entry.root) }
     {
-        let mut seen = self;
+        let mut next = self.top();
         let mut rest = key;
-        while let Some(at) = seen.enter(counter) {
-            let prefix = at.prefix();
-            let shared = prefix.prefix_length_slice(rest);
-            if shared < prefix.len() {
-                return None;
-            }
-            if rest.len() == shared {
-                return at.value();
-            }
-            let after = &rest[shared..];
-            let Some(next) = at.child(after[0]) else {
+        while let Some(node) = next {
+            let at = node.enter(counter);
+            let Some(after) = rest_behind(at.prefix(), rest) else {
                 return None;
             };
-            seen = next;
+            let Some(byte) = after.first() else {
+                return at.value();
+            };
+            next = at.child(*byte);
             rest = after;
         }
         None

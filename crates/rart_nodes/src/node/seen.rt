@@ -1,19 +1,20 @@
 //! A shared tree whose reads are counted.
 //!
 //! This module alone sees the nodes of a shared tree: it shows a node's prefix, value and children
-//! only to a caller that enters it, and each entry adds one to the caller's counter. Look-ups and
-//! walks stand in other modules.
-ghost use Rattle.std.specs.Prelude.{◌≡◌, ◌≤◌, ◌+◌, ℕ, MatchOption, None, Some, option_map, true};
+//! only to a caller that visits it, and each visit adds one to the caller's counter. Look-ups and
+//! walks stand in other modules. They go through `Shared` nodes, which keep nothing beside the node;
+//! allocator and longest key are read where a walk starts, from `Seen`.
+ghost use Rattle.std.specs.Prelude.{◌≡◌, ◌≤◌, ◌+◌, ℕ, IsTrue, MatchOption, None, Some, option_map, true};
 ghost use Rattle.std.specs.Option.{option_copied};
 ghost use Rattle.rart_keys.specs.KeyBytes.{IsWithin, IsWithin-prop};
 ghost use Rattle.rart_keys.specs.SortedMap.{count_of, longest_key};
 ghost use Rattle.rart_nodes.specs.tries.CanonicalTest.{is_canonical, is_canonical_tree};
 ghost use Rattle.rart_nodes.specs.tries.Tree.{IsCanonicalTree, tree_pairs};
-ghost use Rattle.rart_nodes.specs.tries.Trie.{child, children_in, no_children, pairs_of, prefix_of, value_of, child_in};
+ghost use Rattle.rart_nodes.specs.tries.Trie.{child, child_in, children_in, no_children, prefix_of, value_of};
 
 use crate::count::Count;
-use crate::node::{DefaultNode, NodeIter};
-use rart_keys::KeyTrait;
+use crate::node::{DefaultNode, Node, NodeIter};
+use rart_keys::{KeyTrait, Partial};
 use std::alloc::{AllocError, Global};
 use std::marker::{Model, PhantomData};
 
@@ -30,6 +31,12 @@ pub struct Seen<'a, K: KeyTrait, V, C> {
 }
 
 impl<'a, K: KeyTrait, V, C> Clone for Seen<'a, K, V, C> {
+    ghost use Rattle.std.specs.Prelude.{◌≡◌, ⊤};
+
+    ghost is_clone = { λ seen copy. copy ≡ seen };
+
+    ghost is_infallible = { λ _. ⊤ };
+
     fn clone(&self) -> Result<Self, AllocError> {
         Ok(*self)
     }
@@ -37,41 +44,59 @@ impl<'a, K: KeyTrait, V, C> Clone for Seen<'a, K, V, C> {
 
 impl<'a, K: KeyTrait, V, C> Copy for Seen<'a, K, V, C> {}
 
-/// What a visit shows of a node.
-pub(crate) struct Entered<'a, K: KeyTrait, V, C> {
-    node: &'a DefaultNode<K::PartialType, V>,
-    alloc: Global,
-    longest: usize,
-    of: PhantomData<(K, C)>,
+/// A node of a shared tree that wasn't visited yet.
+pub(crate) struct Shared<'a, P: Partial, V, C> {
+    node: &'a DefaultNode<P, V>,
+    of: PhantomData<C>,
     ghost canonical: { is_canonical node.now ≡ true },
-    ghost short: { longest_key (pairs_of node.now) ≤ longest },
-    ghost fits: { IsWithin K.MAXIMUM_SIZE longest } by { IsWithin-prop K.MAXIMUM_SIZE longest },
 }
 
-impl<'a, K: KeyTrait, V, C> Clone for Entered<'a, K, V, C> {
+impl<'a, P: Partial, V, C> Clone for Shared<'a, P, V, C> {
+    ghost use Rattle.std.specs.Prelude.{◌≡◌, ⊤};
+
+    ghost is_clone = { λ shared copy. copy ≡ shared };
+
+    ghost is_infallible = { λ _. ⊤ };
+
     fn clone(&self) -> Result<Self, AllocError> {
         Ok(*self)
     }
 }
 
-impl<'a, K: KeyTrait, V, C> Copy for Entered<'a, K, V, C> {}
+impl<'a, P: Partial, V, C> Copy for Shared<'a, P, V, C> {}
+
+/// What a visit shows of a node.
+pub(crate) struct Entered<'a, P: Partial, V, C> {
+    node: &'a DefaultNode<P, V>,
+    of: PhantomData<C>,
+    ghost canonical: { is_canonical node.now ≡ true },
+}
+
+impl<'a, P: Partial, V, C> Clone for Entered<'a, P, V, C> {
+    ghost use Rattle.std.specs.Prelude.{◌≡◌, ⊤};
+
+    ghost is_clone = { λ entered copy. copy ≡ entered };
+
+    ghost is_infallible = { λ _. ⊤ };
+
+    fn clone(&self) -> Result<Self, AllocError> {
+        Ok(*self)
+    }
+}
+
+impl<'a, P: Partial, V, C> Copy for Entered<'a, P, V, C> {}
 
 /// The children of a visited node that are still to be visited.
 #[derive(Drop)]
-pub(crate) struct Branches<'a, K: KeyTrait, V, C> {
-    rest: NodeIter<'a, K::PartialType, V>,
-    alloc: Global,
-    longest: usize,
-    of: PhantomData<(K, C)>,
+pub(crate) struct Branches<'a, P: Partial, V, C> {
+    rest: NodeIter<'a, P, V>,
+    of: PhantomData<C>,
 }
 
-impl<'a, K: KeyTrait, V, C> Model for Branches<'a, K, V, C> {
-    ghost use Rattle.std.specs.Prelude.{◌≤◌};
-    ghost use Rattle.rart_keys.specs.KeyBytes.{IsWithin};
-    ghost use Rattle.rart_keys.specs.SortedMap.{longest_key};
-    ghost use Rattle.rart_nodes.specs.tries.Trie.{AreCanonical, Children, children_pairs};
+impl<'a, P: Partial, V, C> Model for Branches<'a, P, V, C> {
+    ghost use Rattle.rart_nodes.specs.tries.Trie.{AreCanonical, Children};
     ghost use Rattle.rart_nodes.specs.tries.TrieCode.{as_children};
-    ghost use Rattle.rart_nodes.specs.walks.TreeWalk.{children_code};
+    ghost use Rattle.rart_nodes.specs.walks.ChildrenCode.{children_code};
 
     ghost Value = { Children V };
 
@@ -79,7 +104,7 @@ impl<'a, K: KeyTrait, V, C> Model for Branches<'a, K, V, C> {
 
     ghost view = { λ b. as_children b.rest };
 
-    ghost invariant = { λ b. AreCanonical 0 (as_children b.rest) × (longest_key (children_pairs (as_children b.rest)) ≤ b.longest) × IsWithin K.MAXIMUM_SIZE b.longest };
+    ghost invariant = { λ b. AreCanonical 0 (as_children b.rest) };
 }
 
 impl<'a, K: KeyTrait, V, C> Seen<'a, K, V, C> {
@@ -92,8 +117,20 @@ impl<'a, K: KeyTrait, V, C> Seen<'a, K, V, C> {
     pub(crate) fn longest(self) -> usize
         ensures short { longest_key (tree_pairs (option_copied self.entry.root)) ≤ result }
         ensures fits { IsWithin K.MAXIMUM_SIZE result }
+        ensures own { result ≡ self.entry.longest }
     {
         self.longest
+    }
+
+    /// The topmost node, if there is one, not yet visited.
+    pub(crate) fn top(self) -> Option<Shared<'a, K::PartialType, V, C>>
+        ensures { option_map (λ s. s.node.now) result ≡ option_copied self.entry.root }
+    {
+        let node = self.root?;
+        Some(Shared {
+            node,
+            of: PhantomData,
+        })
     }
 
     /// The tree below `root`. Asks nodes that have the shape of their keys, no key longer than
@@ -117,27 +154,24 @@ impl<'a, K: KeyTrait, V, C> Seen<'a, K, V, C> {
     }
 }
 
-impl<'a, K: KeyTrait, V, C: Count> Seen<'a, K, V, C> {
-    /// Visits the topmost node, if there is one, which adds one to the counter.
-    pub(crate) fn enter(self, counter: &mut C) -> Option<Entered<'a, K, V, C>>
-        ensures shown { option_map (λ e. e.node.now) result ≡ option_copied self.entry.root }
-        ensures counted { C.number counter.new ≡ C.number counter.old + count_of (option_copied self.entry.root) }
+impl<'a, P: Partial, V, C: Count> Shared<'a, P, V, C> {
+    /// Visits the node, which adds one to the counter.
+    pub(crate) fn enter(self, counter: &mut C) -> Entered<'a, P, V, C>
+        ensures shown { result.node.now ≡ self.entry.node.now }
+        ensures counted { C.number counter.new ≡ C.number counter.old + 1 }
     {
-        let node = self.root?;
         counter.add_one();
-        Some(Entered {
-            node,
-            alloc: self.alloc,
-            longest: self.longest,
+        Entered {
+            node: self.node,
             of: PhantomData,
-        })
+        }
     }
 }
 
-impl<'a, K: KeyTrait, V, C> Entered<'a, K, V, C> {
+impl<'a, P: Partial, V, C> Entered<'a, P, V, C> {
     /// The node's prefix.
-    pub(crate) fn prefix(self) -> &'a K::PartialType
-        ensures { K.PartialType.bytes result.now ≡ prefix_of self.entry.node.now }
+    pub(crate) fn prefix(self) -> &'a P
+        ensures { P.bytes result.now ≡ prefix_of self.entry.node.now }
     {
         self.node.prefix()
     }
@@ -149,45 +183,46 @@ impl<'a, K: KeyTrait, V, C> Entered<'a, K, V, C> {
         self.node.value()
     }
 
-    /// The child at byte `b`, not yet entered.
-    pub(crate) fn child(self, b: u8) -> Option<Seen<'a, K, V, C>>
-        ensures { MatchOption result (child_in b self.entry.node.now ≡ None) (λ s. option_copied s.root ≡ child_in b self.entry.node.now) }
+    /// Whether the node has no children.
+    pub(crate) fn is_bare(self) -> bool
+        ensures { IsTrue result → children_in self.entry.node.now ≡ no_children }
     {
-        let child = self.node.seek_child(b)?;
-        Some(Seen {
-            root: Some(child),
-            alloc: self.alloc,
-            longest: self.longest,
+        self.node.is_leaf()
+    }
+
+    /// The child at byte `b`, not yet visited.
+    pub(crate) fn child(self, b: u8) -> Option<Shared<'a, P, V, C>>
+        ensures { option_map (λ s. s.node.now) result ≡ child_in b self.entry.node.now }
+    {
+        let node = self.node.seek_child(b)?;
+        Some(Shared {
+            node,
             of: PhantomData,
         })
     }
 
     /// The children, none of them visited.
-    pub(crate) fn branches(self) -> Branches<'a, K, V, C>
+    pub(crate) fn branches(self) -> Branches<'a, P, V, C>
         ensures { result ≡ children_in self.entry.node.now }
     {
         Branches {
             rest: self.node.iter(),
-            alloc: self.alloc,
-            longest: self.longest,
             of: PhantomData,
         }
     }
 }
 
-impl<'a, K: KeyTrait, V, C: Count> Branches<'a, K, V, C> {
+impl<'a, P: Partial, V, C: Count> Branches<'a, P, V, C> {
     /// Visits the next child, if there is one, which adds one to the counter.
-    pub(crate) fn enter_next(&mut self, counter: &mut C) -> Option<Entered<'a, K, V, C>>
+    pub(crate) fn enter_next(&mut self, counter: &mut C) -> Option<Entered<'a, P, V, C>>
         ensures shown { MatchOption result ((self.old ≡ no_children) × (self.new ≡ no_children)) (λ e. (b : ℕ) × (self.old ≡ child b e.node.now self.new)) }
         ensures counted { C.number counter.new ≡ C.number counter.old + count_of result }
     {
-        let (_, child) = self.rest.next()?;
-        let seen = Seen {
-            root: Some(child),
-            alloc: self.alloc,
-            longest: self.longest,
+        let (_, node) = self.rest.next()?;
+        let below = Shared {
+            node,
             of: PhantomData,
         };
-        seen.enter(counter)
+        Some(below.enter(counter))
     }
 }

@@ -1,55 +1,25 @@
-use Rattle.std.proofs.Common.{◌≡◌, ◌<◌, ◌+◌, ◌-◌, length, take, drop, arith, sym, ◌∙◌, ap, Some}
+use Rattle.std.proofs.Common.{◌≡◌, ◌<◌, ◌+◌, arith, refl, sym, ◌∙◌, ap, Some, option_map}
 use Rattle.std.specs.Option.{option_copied}
+use Rattle.rart_keys.specs.ByteStrings.{strip_prefix}
 use Rattle.rart_nodes.specs.walks.ProbeCount.{tree_entered}
 use Rattle.rart_nodes.specs.tries.Tree.{tree_lookup}
-use Rattle.rart_nodes.proofs.walks.SeenLemmas.{tree_count, seen-short, seen-here, seen-down, child-falls}
+use Rattle.rart_nodes.specs.tries.Trie.{prefix_of}
+use Rattle.rart_nodes.specs.walks.Tour.{tree_count}
+use Rattle.rart_nodes.proofs.walks.SeenLemmas.{step-on, child-falls}
 use Rattle.rart_nodes.proofs.node.seen.Seen.descend.Goals as goal
 
-pub returns-then-shared-len-clause-value : goal.returns-then-shared-len-clause-value
-returns-then-shared-len-clause-value g c =
-    let h = seen-short c.in-Some.at.node.now c.loop-at.rest.now _ (rw c.prefix-prefix.ensures at c.prefix_length_slice-shared.ensures.value) (rw (c.len.ensures, c.prefix-prefix.ensures) at c.if-shared-len.true) in
-    sym h.0 ∙ rw (← c.in-Some.ensures.shown) at c.loop-at.invariant.value
-
-pub returns-then-shared-len-clause-visits : goal.returns-then-shared-len-clause-visits
-returns-then-shared-len-clause-visits g c =
-    let h = seen-short c.in-Some.at.node.now c.loop-at.rest.now _ (rw c.prefix-prefix.ensures at c.prefix_length_slice-shared.ensures.value) (rw (c.len.ensures, c.prefix-prefix.ensures) at c.if-shared-len.true) in
-    omega (arith, h.1, rw (← c.in-Some.ensures.shown) at c.loop-at.invariant.visits, rw (← c.in-Some.ensures.shown) at c.in-Some.ensures.counted)
-
-pub returns-then-rest-shared-clause-value : goal.returns-then-rest-shared-clause-value
-returns-then-rest-shared-clause-value g c =
-    let h = seen-here c.in-Some.at.node.now c.loop-at.rest.now _ (rw c.prefix-prefix.ensures at c.prefix_length_slice-shared.ensures.value) (rw (c.len.ensures, c.prefix-prefix.ensures) at c.if-shared-len.false) c.if-rest-shared.true in
-    c.value.ensures ∙ sym h.0 ∙ rw (← c.in-Some.ensures.shown) at c.loop-at.invariant.value
-
-pub returns-then-rest-shared-clause-visits : goal.returns-then-rest-shared-clause-visits
-returns-then-rest-shared-clause-visits g c =
-    let h = seen-here c.in-Some.at.node.now c.loop-at.rest.now _ (rw c.prefix-prefix.ensures at c.prefix_length_slice-shared.ensures.value) (rw (c.len.ensures, c.prefix-prefix.ensures) at c.if-shared-len.false) c.if-rest-shared.true in
-    omega (arith, h.1, rw (← c.in-Some.ensures.shown) at c.loop-at.invariant.visits, rw (← c.in-Some.ensures.shown) at c.in-Some.ensures.counted)
-
-pub returns-in_default-child-clause-value : goal.returns-in_default-child-clause-value
-returns-in_default-child-clause-value g c =
-    let h = seen-down c.in-Some.at.node.now c.loop-at.rest.now _ c.in-Some.at.canonical (rw c.prefix-prefix.ensures at c.prefix_length_slice-shared.ensures.value) (rw (c.len.ensures, c.prefix-prefix.ensures) at c.if-shared-len.false) c.if-rest-shared.false in
-    let below = ap (tree_lookup (take (length c.loop-at.rest.now - c.prefix_length_slice-shared.result) (drop c.prefix_length_slice-shared.result c.loop-at.rest.now))) c.in_default-child.ensures in
-    sym (h.0 ∙ below) ∙ rw (← c.in-Some.ensures.shown) at c.loop-at.invariant.value
-
-pub returns-in_default-child-clause-visits : goal.returns-in_default-child-clause-visits
-returns-in_default-child-clause-visits g c =
-    let h = seen-down c.in-Some.at.node.now c.loop-at.rest.now _ c.in-Some.at.canonical (rw c.prefix-prefix.ensures at c.prefix_length_slice-shared.ensures.value) (rw (c.len.ensures, c.prefix-prefix.ensures) at c.if-shared-len.false) c.if-rest-shared.false in
-    let below = ap (tree_entered (take (length c.loop-at.rest.now - c.prefix_length_slice-shared.result) (drop c.prefix_length_slice-shared.result c.loop-at.rest.now))) c.in_default-child.ensures in
-    omega (arith, h.1, below, rw (← c.in-Some.ensures.shown) at c.loop-at.invariant.visits, rw (← c.in-Some.ensures.shown) at c.in-Some.ensures.counted)
-
-pub loop-at-smaller : goal.loop-at-smaller
-loop-at-smaller g c =
-    let h : tree_count (option_copied c.in-Some-child.next.root) < tree_count (option_copied c.loop-at.seen.root)
-    = rw (← c.in-Some.ensures.shown) (child-falls _ c.in-Some.at.node.now _ (sym c.in-Some-child.ensures)) in
+pub loop-next-smaller : goal.loop-next-smaller
+loop-next-smaller g c =
+    let h : tree_count (option_map (λ s. s.node.now) c.child-next.result) < tree_count (option_map (λ s. s.node.now) c.loop-next.next)
+    = rw (c.in-Some.is, c.child-next.ensures, c.enter-at.ensures.shown) (child-falls c.in-Some-first.byte.now c.in-Some.node.node.now _ refl) in
     h
 
-pub loop-at-preserved : goal.loop-at-preserved
-loop-at-preserved g c =
-    let h = seen-down c.in-Some.at.node.now c.loop-at.rest.now _ c.in-Some.at.canonical (rw c.prefix-prefix.ensures at c.prefix_length_slice-shared.ensures.value) (rw (c.len.ensures, c.prefix-prefix.ensures) at c.if-shared-len.false) c.if-rest-shared.false in
-    let rest = take (length c.loop-at.rest.now - c.prefix_length_slice-shared.result) (drop c.prefix_length_slice-shared.result c.loop-at.rest.now) in
-    let answers = ap (tree_lookup rest) c.in-Some-child.ensures in
-    let enters = ap (tree_entered rest) c.in-Some-child.ensures in
+pub loop-next-preserved : goal.loop-next-preserved
+loop-next-preserved g c =
+    let t = c.enter-at.result.node.now in
+    let rest : Some c.in-Some-rest_behind.after.now ≡ strip_prefix (prefix_of t) c.loop-next.rest.now = rw c.prefix.ensures at c.in-Some-rest_behind.ensures in
+    let h = step-on t c.loop-next.rest.now c.in-Some-rest_behind.after.now c.in-Some-first.byte.now c.enter-at.result.canonical rest c.in-Some-first.ensures.value in
     record {
-      value = answers ∙ sym h.0 ∙ rw (← c.in-Some.ensures.shown) at c.loop-at.invariant.value;
-      visits = omega (arith, h.1, enters, rw (← c.in-Some.ensures.shown) at c.loop-at.invariant.visits, rw (← c.in-Some.ensures.shown) at c.in-Some.ensures.counted);
+      value = ap (tree_lookup c.in-Some-rest_behind.after.now) c.child-next.ensures ∙ sym h.0 ∙ rw (c.in-Some.is, ← c.enter-at.ensures.shown) at c.loop-next.invariant.value;
+      visits = omega (arith, h.1, ap (tree_entered c.in-Some-rest_behind.after.now) c.child-next.ensures, c.enter-at.ensures.counted, rw (c.in-Some.is, ← c.enter-at.ensures.shown) at c.loop-next.invariant.visits);
     }

@@ -1,0 +1,50 @@
+use Rattle.std.proofs.Common.{arith, rules, of_calls, ◌≡◌, ◌+◌, ◌∷◌, List, ℕ, take, option_map, subst, sym, ap, refl}
+use Rattle.std.specs.List.{FoldsTo}
+use Rattle.std.specs.Option.{option_copied}
+use Rattle.rart_nodes.specs.walks.Matched.{Matched}
+use Rattle.rart_nodes.specs.walks.Matches.{matches_ahead, entered_ahead}
+use Rattle.rart_nodes.proofs.tries.CanonicalTests.{IsCanonicalTree-test}
+use Rattle.rart_nodes.proofs.walks.MatchLemmas.{matches-ahead, entered-ahead}
+use Rattle.rart_nodes.proofs.walks.SeenLemmas.{few-tree_entered, tree_entered-probe_count}
+use Rattle.rart_nodes.proofs.node.seen.Seen.each_match.Goals as goal
+
+pub loop-value-init : goal.loop-value-init
+loop-value-init g c = record {
+  callable = c.requires.callable;
+  within = omega (arith, c.matching-matching.ensures.depth);
+  folds = λ last h. subst (λ (x : List (List ℕ × g.row.V.Denot)). FoldsTo (λ p x q. Matched g.F.FnMut p x q) c.args.f.now x last)
+      (matches-ahead c.args.probe.now _ _ (option_copied c.args.self.root) c.matching-matching.ensures.depth c.matching-matching.ensures.below (IsCanonicalTree-test _ c.args.self.canonical)) h;
+  visits = ap (λ n. g.C.Count.number c.args.counter.now + n) (entered-ahead c.args.probe.now _ _ (option_copied c.args.self.root) c.matching-matching.ensures.depth c.matching-matching.ensures.below);
+}
+
+pub loop-value-preserved : goal.loop-value-preserved
+loop-value-preserved g c =
+    let more : List (List ℕ × g.row.V.Denot) = matches_ahead c.args.probe.now c.advance.new.self.depth (option_map (λ s. s.node.now) c.advance.new.self.below) in
+    let e : matches_ahead c.args.probe.now c.loop-value.matching.depth (option_map (λ s. s.node.now) c.loop-value.matching.below) ≡ (take c.advance.new.self.depth c.args.probe.now, c.in-Some.value.now) ∷ more = c.in-Some.ensures.pairs in
+    let v : Matched g.F.FnMut c.loop-value.f (take c.advance.new.self.depth c.args.probe.now, c.in-Some.value.now) c.f.new.self = record { key = c.beginning.result; shown = c.in-Some.value; key_is = c.beginning.ensures; shows = refl; called = search (rules, of_calls) } in
+    record {
+      callable = search (rules, of_calls);
+      within = c.in-Some.ensures.within;
+      folds = λ last h. c.loop-value.invariant.folds last (subst (λ (x : List (List ℕ × g.row.V.Denot)). FoldsTo (λ p x q. Matched g.F.FnMut p x q) c.loop-value.f x last) (sym e) (c.f.new.self, v, h));
+      visits = omega (arith, c.in-Some.ensures.visits, c.loop-value.invariant.visits);
+    }
+
+pub returns-clause-visits : goal.returns-clause-visits
+returns-clause-visits g c =
+    omega (
+      arith,
+      c.in_default.ensures.visits,
+      c.loop-value.invariant.visits,
+      ap (entered_ahead c.args.probe.now c.advance.new.self.depth) c.in_default.ensures.ended,
+      tree_entered-probe_count c.args.probe.now (option_copied c.args.self.root) (IsCanonicalTree-test _ c.args.self.canonical),
+    )
+
+pub returns-clause-bound : goal.returns-clause-bound
+returns-clause-bound g c =
+    omega (
+      arith,
+      c.in_default.ensures.visits,
+      c.loop-value.invariant.visits,
+      ap (entered_ahead c.args.probe.now c.advance.new.self.depth) c.in_default.ensures.ended,
+      few-tree_entered c.args.probe.now (option_copied c.args.self.root) (IsCanonicalTree-test _ c.args.self.canonical),
+    )

@@ -1,0 +1,178 @@
+-- A descent that collects what it passes gives the pairs whose key begins the string.
+use Rattle.std.proofs.Common.{◌≡◌, ℕ, ◌+◌, ◌-◌, ◌<◌, ◌≤◌, ◌==◌, ⊎_elim, suc, zero, Bool, true, false, List, [], ◌∷◌, ◌++◌, length, length-append, take, drop, refl, sym, ap, ◌∙◌, arith, Option, Some, None, is_some, if◌then◌else◌}
+use Rattle.std.specs.Prelude.{slice_get}
+use Rattle.std.proofs.lemmas.List.{append-nil, append_assoc, length-drop, take-append-drop, take-append-le, take_all}
+use Rattle.std.proofs.lemmas.Grind.{common_steps}
+use Rattle.std.proofs.lemmas.List.Elements.{filter-append}
+use Rattle.rart_keys.specs.ByteStrings.{strip_prefix, begins}
+use Rattle.rart_keys.specs.Filters.{matches, longest_match, last_or}
+use Rattle.rart_keys.proofs.ByteOrder.{order, is_less, is_equal, is_greater, eq-no, eq-yes, equal_or_not}
+use Rattle.rart_nodes.specs.tries.CanonicalTest.{is_canonical}
+use Rattle.rart_nodes.specs.tries.Tree.{tree_pairs, IsCanonicalTree}
+use Rattle.rart_nodes.specs.tries.Trie.{Trie, node, Children, no_children, child, pairs_of, children_pairs, own_pair, prefix_of, value_of, child_of, child_in, with_prefix, IsCanonical, AreCanonical}
+use Rattle.rart_nodes.specs.walks.Matches.{Passes, PassesNone, pair_at, matches_behind, trie_matches, child_matches, tree_matches, matches_ahead, entered_ahead}
+use Rattle.rart_nodes.specs.walks.ProbeCount.{tree_entered}
+use Rattle.rart_nodes.proofs.tries.CanonicalTests.{IsCanonical-test}
+use Rattle.rart_nodes.proofs.tries.FirstBytes.{AllFirst, AllFrom, pairs_of-first, children_pairs-from}
+use Rattle.rart_nodes.proofs.walks.SeenLemmas.{child_of-low, child-falls, step-left, step-ended, step-on}
+
+abbrev begins_within : List ℕ → Option (List ℕ) → Bool
+begins_within l None = false
+begins_within l (Some r) = begins l r
+
+begins-append : (p l q : List ℕ) → begins (p ++ l) q ≡ begins_within l (strip_prefix p q)
+begins-append [] l q = refl
+begins-append (x ∷ p) l [] = refl
+begins-append (x ∷ p) l (y ∷ q) = elim (x == y) as (λ b. is_some (if b then strip_prefix (p ++ l) q else None) ≡ begins_within l (if b then strip_prefix p q else None)) [ true ↦ begins-append p l q | false ↦ refl ]
+
+strip-join : (p k r : List ℕ) → Some r ≡ strip_prefix p k → k ≡ p ++ r
+strip-join [] k r s = let e : r ≡ k = cc in sym e
+strip-join (x ∷ p) [] r s = absurd (cc)
+strip-join (x ∷ p) (y ∷ k) r s = ⊎_elim
+    (λ e. let h = rw (eq-yes x y e) at s in rw (e, strip-join p k r h) refl)
+    (λ n. let h = rw (eq-no x y n) at s in absurd (cc)) (equal_or_not x y)
+
+drop-front : (a r : List ℕ) → drop (length a) (a ++ r) ≡ r
+drop-front [] r = refl
+drop-front (x ∷ a) r = drop-front a r
+
+-- where a string is read on behind d bytes and the prefix p, and r is left
+record SplitAt (p q r : List ℕ) (d d1 : ℕ) : Type 0 where
+  pub within : d1 ≤ length q
+  pub front : take d1 q ≡ take d q ++ p
+  pub behind : drop d1 q ≡ r
+
+split-at : (p q k r : List ℕ) (d d1 : ℕ) → d ≤ length q → k ≡ drop d q → Some r ≡ strip_prefix p k → d1 ≡ length q - length r → SplitAt p q r d d1
+split-at p q k r d d1 l i e f =
+    let a : List ℕ = take d q ++ p in
+    let whole : q ≡ a ++ r = sym (take-append-drop d q) ∙ ap (λ z. take d q ++ z) (sym i ∙ strip-join p k r e) ∙ sym (append_assoc (take d q) p r) in
+    let n : d1 ≡ length a = omega (arith, f, ap length whole, length-append a r) in
+    record {
+      within = omega arith;
+      front = ap (take d1) whole ∙ ap (λ m. take m (a ++ r)) n ∙ take-append-le (length a) a r (omega arith) ∙ take_all (length a) a (omega arith);
+      behind = ap (drop d1) whole ∙ ap (λ m. drop m (a ++ r)) n ∙ drop-front a r;
+    }
+
+-- the rest of a slice from a place on, as code names it
+pub slice-behind : (k : List ℕ) (n : ℕ) → take (length k - n) (drop n k) ≡ drop n k
+slice-behind k n = grind (arith, common_steps, length-drop n k)
+
+-- what is left is no longer than the whole
+pub rest-fits : (p q k r : List ℕ) (d : ℕ) → k ≡ drop d q → Some r ≡ strip_prefix p k → length r ≤ length q
+rest-fits p q k r d i e = omega (arith, ap length (strip-join p k r e), length-append p r, ap length i, length-drop d q)
+
+module _ {V : Type 0} where
+  abbrev matches_within : List ℕ → Option (List ℕ) → List (List ℕ × V) → List (List ℕ × V)
+  matches_within p None es = []
+  matches_within p (Some r) es = with_prefix p (matches r es)
+
+  matches-behind : (p q : List ℕ) (es : List (List ℕ × V)) → matches q (with_prefix p es) ≡ matches_within p (strip_prefix p q) es
+  matches-behind p q [] = elim (strip_prefix p q) as (λ o. ◌≡◌ {A = List (List ℕ × V)} [] (matches_within p o [])) [ None ↦ refl | Some r ↦ refl ]
+  matches-behind p q (e ∷ es) = rw (begins-append p e.0 q, matches-behind p q es)
+      (elim (strip_prefix p q) as (λ o. (if begins_within e.0 o then (p ++ e.0, e.1) ∷ matches_within p o es else matches_within p o es) ≡ matches_within p o (e ∷ es)) [
+        | None ↦ refl
+        | Some r ↦ elim (begins e.0 r) as (λ b. (if b then (p ++ e.0, e.1) ∷ with_prefix p (matches r es) else with_prefix p (matches r es)) ≡ with_prefix p (if b then e ∷ matches r es else matches r es)) [ true ↦ refl | false ↦ refl ]
+      ])
+
+  matches-other : (c b : ℕ) (r : List ℕ) (es : List (List ℕ × V)) → AllFirst c es → (b ≡ c → ⊥) → matches (b ∷ r) es ≡ []
+  matches-other c b r [] f n = refl
+  matches-other c b r (([], v) ∷ es) f n = absurd f.0
+  matches-other c b r ((x ∷ k, v) ∷ es) f n = rw (eq-no x b (λ e. n (sym e ∙ f.0))) (matches-other c b r es f.1 n)
+
+  matches-from : (low b : ℕ) (r : List ℕ) (es : List (List ℕ × V)) → AllFrom low es → b < low → matches (b ∷ r) es ≡ []
+  matches-from low b r [] f n = refl
+  matches-from low b r (([], v) ∷ es) f n = absurd f.0
+  matches-from low b r ((x ∷ k, v) ∷ es) f n = rw (eq-no x b (λ e. omega (arith, f.0))) (matches-from low b r es f.1 n)
+
+  matches-nil : (low : ℕ) (es : List (List ℕ × V)) → AllFrom low es → matches [] es ≡ []
+  matches-nil low [] f = refl
+  matches-nil low (([], v) ∷ es) f = absurd f.0
+  matches-nil low ((x ∷ k, v) ∷ es) f = matches-nil low es f.1
+
+  matches-here : (q : List ℕ) (v : Option V) (es : List (List ℕ × V)) → matches q (own_pair v ++ es) ≡ own_pair v ++ matches q es
+  matches-here q None es = refl
+  matches-here q (Some v) es = refl
+
+  mutual
+    pub trie_matches-matches : (q : List ℕ) (t : Trie V) → IsCanonical t → trie_matches q t ≡ matches q (pairs_of t)
+    trie_matches-matches q (node p v n cs) w = sym (matches-behind p q (own_pair v ++ children_pairs cs) ∙
+        (elim (strip_prefix p q) as (λ o. matches_within p o (own_pair v ++ children_pairs cs) ≡ matches_behind o p v (λ b r. child_matches b r cs)) [
+          | None ↦ refl
+          | Some r ↦ ap (with_prefix p) (matches-here r v (children_pairs cs)) ∙ elim r as (λ r. with_prefix p (own_pair v ++ matches r (children_pairs cs)) ≡ matches_behind (Some r) p v (λ b r. child_matches b r cs)) [
+            | [] ↦ ap (with_prefix p) (rw (matches-nil 0 (children_pairs cs) (children_pairs-from 0 cs w.2)) (append-nil (own_pair v)))
+            | b ∷ r ↦ ap (λ z. with_prefix p (own_pair v ++ z)) (sym (child-matches b r 0 cs w.2))
+          ]
+        ]))
+
+    child-matches : (b : ℕ) (r : List ℕ) (low : ℕ) (cs : Children V) → AreCanonical low cs → child_matches b (b ∷ r) cs ≡ matches (b ∷ r) (children_pairs cs)
+    child-matches b r low no_children w = refl
+    child-matches b r low (child c t cs) w = rw (filter-append (λ e. begins e.0 (b ∷ r)) (pairs_of t) (children_pairs cs)) (⊎_elim
+        (λ h. rw (is_less b c h, matches-other c b r (pairs_of t) (pairs_of-first c t w.1) (λ e. omega arith), matches-from (suc c) b r (children_pairs cs) (children_pairs-from (suc c) cs w.3) (omega arith)) refl)
+        (⊎_elim (λ h. rw (is_equal b c h, matches-from (suc c) b r (children_pairs cs) (children_pairs-from (suc c) cs w.3) (omega arith), append-nil (matches (b ∷ r) (pairs_of t))) (trie_matches-matches (b ∷ r) t w.2))
+        (λ h. rw (is_greater b c h, matches-other c b r (pairs_of t) (pairs_of-first c t w.1) (λ e. omega arith)) (child-matches b r (suc c) cs w.3))) (order b c))
+
+  child_matches-of : (b low : ℕ) (k : List ℕ) (cs : Children V) → AreCanonical low cs → child_matches b k cs ≡ tree_matches k (child_of b cs)
+  child_matches-of b low k no_children w = refl
+  child_matches-of b low k (child c t cs) w = ⊎_elim
+      (λ h. rw (is_less b c h, eq-no c b (λ q. omega arith), child_of-low b (suc c) cs (omega arith) w.3) refl)
+      (⊎_elim (λ h. rw (is_equal b c h, eq-yes c b (sym h)) refl) (λ h. rw (is_greater b c h, eq-no c b (λ q. omega arith)) (child_matches-of b (suc c) k cs w.3))) (order b c)
+
+  prefix-none : (es : List (List ℕ × V)) → with_prefix [] es ≡ es
+  prefix-none [] = refl
+  prefix-none (e ∷ es) = ap (λ z. e ∷ z) (prefix-none es)
+
+  prefix-twice : (q p : List ℕ) (es : List (List ℕ × V)) → with_prefix q (with_prefix p es) ≡ with_prefix (q ++ p) es
+  prefix-twice q p [] = refl
+  prefix-twice q p (e ∷ es) = rw (append_assoc q p e.0, prefix-twice q p es) refl
+
+  prefix-own : (q : List ℕ) (v : Option V) (es : List (List ℕ × V)) → with_prefix q (own_pair v ++ es) ≡ pair_at q v ++ with_prefix q es
+  prefix-own q None es = refl
+  prefix-own q (Some v) es = ap (λ k. (k, v) ∷ with_prefix q es) (append-nil q)
+
+  prefix-own_alone : (q : List ℕ) (v : Option V) → with_prefix q (own_pair v) ≡ pair_at q v ++ []
+  prefix-own_alone q None = refl
+  prefix-own_alone q (Some v) = ap (λ k. (k, v) ∷ []) (append-nil q)
+
+  -- a descent along q at the node t behind d bytes: q leaves the prefix
+  pub pass-left : (t : Trie V) (q k : List ℕ) (d : ℕ) → k ≡ drop d q → None ≡ strip_prefix (prefix_of t) k → PassesNone q d t
+  pass-left (node p v n cs) q k d i e = record {
+    still = rw (← i) (ap (λ o. with_prefix (take d q) (matches_behind o p v (λ b r. child_matches b r cs))) (sym e));
+    counted = rw (← i) (step-left (node p v n cs) k e).1;
+  }
+
+  -- q ends behind it
+  pub pass-ended : (t : Trie V) (q k r : List ℕ) (d d1 : ℕ) → d ≤ length q → k ≡ drop d q → Some r ≡ strip_prefix (prefix_of t) k → d1 ≡ length q - length r → None ≡ slice_get r 0 → Passes q d t d1 None
+  pass-ended (node p v n cs) q k [] d d1 l i e f h =
+      let s = split-at p q k [] d d1 l i e f in
+      record {
+        within = s.within;
+        still = rw (← i) (ap (λ o. with_prefix (take d q) (matches_behind o p v (λ b r. child_matches b r cs))) (sym e) ∙ prefix-twice (take d q) p (own_pair v) ∙ ap (λ z. with_prefix z (own_pair v)) (sym s.front)) ∙ prefix-own_alone (take d1 q) v;
+        counted = rw (← i) (step-ended (node p v n cs) k [] e h).1;
+        falls = omega arith;
+      }
+  pass-ended (node p v n cs) q k (b ∷ r) d d1 l i e f h = absurd (cc)
+
+  -- or goes on by b
+  pub pass-on : (t : Trie V) (q k r : List ℕ) (b d d1 : ℕ) (o : Option (Trie V)) → is_canonical t ≡ true → d ≤ length q → k ≡ drop d q → Some r ≡ strip_prefix (prefix_of t) k → d1 ≡ length q - length r → Some b ≡ slice_get r 0
+      → o ≡ child_in b t → Passes q d t d1 o
+  pass-on (node p v n cs) q k [] b d d1 o c l i e f h j = absurd (cc)
+  pass-on (node p v n cs) q k (x ∷ r) b d d1 o c l i e f h j =
+      let s = split-at p q k (x ∷ r) d d1 l i e f in
+      let same : b ≡ x = cc in
+      let below : child_matches x (x ∷ r) cs ≡ tree_matches (x ∷ r) o = child_matches-of x 0 (x ∷ r) cs (IsCanonical-test (node p v n cs) c).2 ∙ ap (tree_matches (x ∷ r)) (ap (λ z. child_of z cs) (sym same) ∙ sym j) in
+      record {
+        within = s.within;
+        still = rw (← i) (ap (λ o. with_prefix (take d q) (matches_behind o p v (λ b r. child_matches b r cs))) (sym e) ∙ prefix-twice (take d q) p (own_pair v ++ child_matches x (x ∷ r) cs)
+            ∙ ap (λ z. with_prefix z (own_pair v ++ child_matches x (x ∷ r) cs)) (sym s.front)) ∙ prefix-own (take d1 q) v (child_matches x (x ∷ r) cs)
+            ∙ ap (λ z. pair_at (take d1 q) v ++ with_prefix (take d1 q) z) (below ∙ ap (λ z. tree_matches z o) (sym s.behind));
+        counted = rw (← i) ((step-on (node p v n cs) k (x ∷ r) b c e h).1 ∙ ap (λ z. 1 + tree_entered (x ∷ r) z) (sym j) ∙ ap (λ z. 1 + tree_entered z o) (sym s.behind));
+        falls = child-falls b (node p v n cs) o (sym j);
+      }
+
+  -- what a descent from the top has to pass
+  pub matches-ahead : (q : List ℕ) (d : ℕ) (o root : Option (Trie V)) → d ≡ 0 → o ≡ root → IsCanonicalTree root → matches_ahead q d o ≡ matches q (tree_pairs root)
+  matches-ahead q d o None e f w = rw (e, f) refl
+  matches-ahead q d o (Some t) e f w = rw (e, f) (prefix-none (trie_matches q t) ∙ trie_matches-matches q t w)
+
+  pub entered-ahead : (q : List ℕ) (d : ℕ) (o root : Option (Trie V)) → d ≡ 0 → o ≡ root → entered_ahead q d o ≡ tree_entered q root
+  entered-ahead q d o root e f = rw (e, f) refl

@@ -1,0 +1,51 @@
+-- The values that a descent along a string passes, with the bytes up to each.
+use Rattle.std.specs.Prelude.{ℕ, ◌≡◌, ◌+◌, ◌<◌, ◌≤◌, List, [], ◌∷◌, ◌++◌, length, take, drop, Option, Some, None}
+use Rattle.std.specs.Ordering.{nat_cmp, match_ordering}
+use Rattle.rart_keys.specs.ByteStrings.{strip_prefix}
+use Rattle.rart_nodes.specs.tries.Trie.{Trie, node, Children, no_children, child, own_pair, value_of, with_prefix}
+use Rattle.rart_nodes.specs.tries.TrieCode.{node_count}
+use Rattle.rart_nodes.specs.walks.ProbeCount.{tree_entered}
+use Rattle.rart_nodes.specs.walks.Tour.{tree_count}
+
+-- by what is left of the string behind the node's prefix p
+abbrev pub matches_behind : {V : Type 0} → Option (List ℕ) → List ℕ → Option V → (ℕ → List ℕ → List (List ℕ × V)) → List (List ℕ × V)
+matches_behind None p v f = []
+matches_behind (Some []) p v f = with_prefix p (own_pair v)
+matches_behind (Some (b ∷ k)) p v f = with_prefix p (own_pair v ++ f b (b ∷ k))
+
+abbrev mutual
+  pub trie_matches : {V : Type 0} → List ℕ → Trie V → List (List ℕ × V)
+  trie_matches k (node p v n cs) = matches_behind (strip_prefix p k) p v (λ b r. child_matches b r cs)
+
+  pub child_matches : {V : Type 0} → ℕ → List ℕ → Children V → List (List ℕ × V)
+  child_matches b k no_children = []
+  child_matches b k (child c t cs) = match_ordering (nat_cmp b c) [] (trie_matches k t) (child_matches b k cs)
+
+abbrev pub tree_matches : {V : Type 0} → List ℕ → Option (Trie V) → List (List ℕ × V)
+tree_matches k None = []
+tree_matches k (Some t) = trie_matches k t
+
+-- what a descent along q has still to pass, where it stands before the tree o behind the first d bytes
+abbrev pub matches_ahead : {V : Type 0} → List ℕ → ℕ → Option (Trie V) → List (List ℕ × V)
+matches_ahead q d o = with_prefix (take d q) (tree_matches (drop d q) o)
+
+-- and the nodes that it has still to enter
+abbrev pub entered_ahead : {V : Type 0} → List ℕ → ℕ → Option (Trie V) → ℕ
+entered_ahead q d o = tree_entered (drop d q) o
+
+-- the value at the key k, if there is one
+abbrev pub pair_at : {V : Type 0} → List ℕ → Option V → List (List ℕ × V)
+pair_at k None = []
+pair_at k (Some v) = (k, v) ∷ []
+
+-- at the node t, behind the first d bytes of q, the descent ends without a value
+pub record PassesNone {V : Type 0} (q : List ℕ) (d : ℕ) (t : Trie V) : Type 0 where
+  pub still : matches_ahead q d (Some t) ≡ []
+  pub counted : entered_ahead q d (Some t) ≡ 1
+
+-- there it passes the node, and goes on before the tree o behind the first d1 bytes
+pub record Passes {V : Type 0} (q : List ℕ) (d : ℕ) (t : Trie V) (d1 : ℕ) (o : Option (Trie V)) : Type 0 where
+  pub within : d1 ≤ length q
+  pub still : matches_ahead q d (Some t) ≡ pair_at (take d1 q) (value_of t) ++ matches_ahead q d1 o
+  pub counted : entered_ahead q d (Some t) ≡ 1 + entered_ahead q d1 o
+  pub falls : tree_count o < node_count t

@@ -1,0 +1,86 @@
+//! The way down to the node at or below a prefix, and walks from there.
+ghost use Rattle.std.specs.Prelude.{◌≡◌, ◌≢◌, ◌≤◌, ◌+◌, ◌*◌, [], length, reverse, vec_capacity, MatchOption, IfErr, IfOk, None, OnErr, Some, option_map};
+ghost use Rattle.std.specs.Option.{option_copied};
+ghost use Rattle.rart_keys.specs.Filters.{below};
+ghost use Rattle.rart_keys.specs.SortedMap.{keys_of, longest_key};
+ghost use Rattle.rart_nodes.specs.tries.Tree.{tree_pairs};
+ghost use Rattle.rart_nodes.specs.tries.Trie.{pairs_of};
+ghost use Rattle.rart_nodes.specs.walks.Part.{part_stops, tree_part};
+ghost use Rattle.rart_nodes.specs.walks.ProbeCount.{probe_count, tree_entered};
+ghost use Rattle.rart_nodes.specs.walks.Tour.{IsTour, nodes_below, stops_ahead};
+
+use crate::count::Count;
+use crate::node::rest::rest_behind;
+use crate::node::seen::{Entered, Seen, Shared};
+use crate::node::tour::{Tour, nowhere, start};
+use crate::node::trail::Trail;
+use rart_keys::{KeyTrait, Partial};
+use std::alloc::AllocError;
+
+/// Visits the node at or below `prefix`, if there is one; the trail is then that of the way to it, without its own prefix.
+fn enter_part<'a, P: Partial, V, C: Count, T: Trail<'a, P>>(
+    top: Option<Shared<'a, P, V, C>>,
+    prefix: &[u8],
+    trail: &mut T,
+    counter: &mut C,
+) -> Option<Entered<'a, P, V, C>>
+    requires room { length (T.kept trail.old) + longest_key (tree_pairs (option_map (λ s. s.node.now) top)) ≤ T.room trail.old }
+    ensures found { MatchOption result (tree_part T.grown (T.kept trail.old) prefix.now (option_map (λ s. s.node.now) top.entry) ≡ None) (λ e. tree_part T.grown (T.kept trail.old) prefix.now (option_map (λ s. s.node.now) top.entry) ≡ Some (T.kept trail.new, e.node.now)) }
+    ensures deep { MatchOption result (Unit {0}) (λ e. length (T.kept trail.new) + longest_key (pairs_of e.node.now) ≤ length (T.kept trail.old) + longest_key (tree_pairs (option_map (λ s. s.node.now) top.entry))) }
+    ensures room { T.room trail.old ≤ T.room trail.new }
+    ensures visits { C.number counter.new ≡ C.number counter.old + tree_entered prefix.now (option_map (λ s. s.node.now) top.entry) }
+{
+    let mut next = top;
+    let mut rest = prefix;
+    while let Some(node) = next {
+        let at = node.enter(counter);
+        let Some(after) = rest_behind(at.prefix(), rest) else {
+            if at.prefix().starts_with(rest) {
+                return Some(at);
+            }
+            return None;
+        };
+        let Some(byte) = after.first() else {
+            return Some(at);
+        };
+        trail.grow(at.prefix());
+        next = at.child(*byte);
+        rest = after;
+    }
+    None
+}
+
+impl<'a, K: KeyTrait, V, C: Count> Seen<'a, K, V, C> {
+    /// A walk over the pairs whose key begins with `prefix`, with its trail, for which it goes down along the prefix. All room is
+    /// taken here, before any node is visited, and none for an empty tree.
+    pub(crate) fn tour_below<T: Trail<'a, K::PartialType>>(
+        self,
+        prefix: &[u8],
+        counter: &mut C,
+    ) -> Result<(Tour<'a, K::PartialType, V, C>, T), AllocError>
+        ensures path { IfOk result (λ w. IsTour w.0.longest (vec_capacity w.0.levels) (T.kept w.1) (reverse w.0.levels.items)) }
+        ensures room { IfOk result (λ w. w.0.longest ≤ T.room w.1) }
+        ensures longest { IfOk result (λ w. w.0.longest ≤ self.entry.longest) }
+        ensures stops { IfOk result (λ w. stops_ahead T.grown (T.kept w.1) (option_copied w.0.first) w.0.levels.items ≡ part_stops T.grown (tree_part T.grown [] prefix.now (option_copied self.entry.root))) }
+        ensures memory { OnErr result (tree_pairs (option_copied self.entry.root) ≢ []) }
+        ensures visits { IfOk result (λ _. C.number counter.new ≡ C.number counter.old + probe_count (keys_of (tree_pairs (option_copied self.entry.root))) prefix.now) }
+        ensures bound { C.number counter.new ≤ C.number counter.old + length prefix.now + 1 }
+        ensures few { IfOk result (λ w. nodes_below (reverse w.0.levels.items) ≤ 2 * length (below prefix.now (tree_pairs (option_copied self.entry.root)))) }
+    {
+        let alloc = self.alloc();
+        let longest = self.longest();
+        let Some(top) = self.top() else {
+            return Ok(nowhere(alloc));
+        };
+        let Some(places) = longest.checked_add(1) else {
+            return Err(AllocError);
+        };
+        let mut trail = T::with_room(alloc, longest)?;
+        let levels = Vec::with_capacity(alloc, places)?;
+        let Some(at) = enter_part(Some(top), prefix, &mut trail, counter) else {
+            return Ok(nowhere(alloc));
+        };
+        let tour = start(levels, longest, &mut trail, at);
+        Ok((tour, trail))
+    }
+}

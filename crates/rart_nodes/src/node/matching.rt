@@ -1,0 +1,238 @@
+//! Answers about a probe: the keys that begin it, the shortest first, each found on one way down.
+//!
+//! Contracts speak of the pairs of the sorted map whose key begins the probe, `matches`, and of the last of
+//! them, `longest_match`. Nothing here takes memory.
+ghost use Rattle.std.specs.Prelude.{◌≡◌, ◌≤◌, ◌+◌, ◌++◌, [], ◌∷◌, length, take, None, IfSome, MatchOption, option_map};
+ghost use Rattle.std.specs.Iterator.{YieldsFirstBy, item_count};
+ghost use Rattle.std.specs.List.{FoldsTo};
+ghost use Rattle.std.specs.Option.{option_copied};
+ghost use Rattle.rart_keys.specs.Filters.{longest_match, matches};
+ghost use Rattle.rart_keys.specs.SortedMap.{keys_of};
+ghost use Rattle.rart_nodes.specs.tries.Tree.{tree_pairs};
+ghost use Rattle.rart_nodes.specs.walks.Matched.{Matched};
+ghost use Rattle.rart_nodes.specs.walks.Matches.{Passes, PassesNone, matches_ahead, entered_ahead};
+ghost use Rattle.rart_nodes.specs.walks.ProbeCount.{probe_count};
+
+use crate::count::{Count, Visits};
+use crate::node::rest::rest_behind;
+use crate::node::seen::{Entered, Seen, Shared};
+use rart_keys::{KeyTrait, Partial};
+use std::marker::{Model, PhantomData};
+
+/// A way down along a probe.
+#[derive(Drop)]
+pub(crate) struct Matching<'a, P: Partial, V, C> {
+    // where it goes on, unless it has ended
+    below: Option<Shared<'a, P, V, C>>,
+    // how much of the probe lies before that
+    depth: usize,
+}
+
+/// Where the way goes on behind a node just visited, and how much of the probe lies before that; `None` where
+/// the node's prefix leaves the probe.
+fn pass<'a, P: Partial, V, C>(
+    at: Entered<'a, P, V, C>,
+    probe: &[u8],
+    depth: usize,
+) -> Option<(Option<Shared<'a, P, V, C>>, usize)>
+    requires { depth ≤ length probe.now }
+    ensures { MatchOption result (PassesNone probe.now depth at.entry.node.now) (λ r. Passes probe.now depth at.entry.node.now r.1 (option_map (λ s. s.node.now) r.0)) }
+{
+    let rest = rest_behind(at.prefix(), &probe[depth..])?;
+    let passed = probe.len() - rest.len();
+    let Some(byte) = rest.first() else {
+        return Some((None, passed));
+    };
+    Some((at.child(*byte), passed))
+}
+
+fn beginning(probe: &[u8], depth: usize) -> &[u8]
+    requires { depth ≤ length probe.now }
+    ensures { result.now ≡ take depth probe.now }
+{
+    &probe[..depth]
+}
+
+impl<'a, P: Partial, V, C: Count> Matching<'a, P, V, C> {
+    /// Goes on to the next value whose key begins the probe; its key is then the probe's first `depth` bytes.
+    pub(crate) fn advance(&mut self, probe: &[u8], counter: &mut C) -> Option<&'a V>
+        requires { self.old.depth ≤ length probe.now }
+        ensures within { self.new.depth ≤ length probe.now }
+        ensures pairs { MatchOption result
+            ((matches_ahead probe.now self.old.depth (option_map (λ s. s.node.now) self.old.below) ≡ []) × (matches_ahead probe.now self.new.depth (option_map (λ s. s.node.now) self.new.below) ≡ []))
+            (λ v. matches_ahead probe.now self.old.depth (option_map (λ s. s.node.now) self.old.below) ≡ (take self.new.depth probe.now, v.now) ∷ matches_ahead probe.now self.new.depth (option_map (λ s. s.node.now) self.new.below)) }
+        ensures visits { C.number counter.new + entered_ahead probe.now self.new.depth (option_map (λ s. s.node.now) self.new.below) ≡ C.number counter.old + entered_ahead probe.now self.old.depth (option_map (λ s. s.node.now) self.old.below) }
+        ensures ended { MatchOption result (option_map (λ s. s.node.now) self.new.below ≡ None) (λ _. Unit {0}) }
+    {
+        while let Some(node) = self.below.take() {
+            let at = node.enter(counter);
+            let Some((below, depth)) = pass(at, probe, self.depth) else {
+                return None;
+            };
+            self.below = below;
+            self.depth = depth;
+            if let Some(value) = at.value() {
+                return Some(value);
+            }
+        }
+        None
+    }
+}
+
+impl<'a, K: KeyTrait, V, C: Count> Seen<'a, K, V, C> {
+    fn matching(self) -> Matching<'a, K::PartialType, V, C>
+        ensures below { option_map (λ s. s.node.now) result.below ≡ option_copied self.entry.root }
+        ensures depth { result.depth ≡ 0 }
+    {
+        Matching {
+            below: self.top(),
+            depth: 0,
+        }
+    }
+
+    /// The length and the value of the longest key that begins the probe.
+    fn last_match(self, probe: &[u8], counter: &mut C) -> Option<(usize, &'a V)>
+        ensures pair { option_map (λ p. (take p.0 probe.now, p.1.now)) result ≡ longest_match probe.now (tree_pairs (option_copied self.entry.root)) }
+        ensures within { IfSome result (λ p. p.0 ≤ length probe.now) }
+        ensures visits { C.number counter.new ≡ C.number counter.old + probe_count (keys_of (tree_pairs (option_copied self.entry.root))) probe.now }
+        ensures bound { C.number counter.new ≤ C.number counter.old + length probe.now + 1 }
+    {
+        let mut matching = self.matching();
+        let mut last = None;
+        while let Some(value) = matching.advance(probe, counter) {
+            last = Some((matching.depth, value));
+        }
+        last
+    }
+
+    /// The pair whose key is the longest that begins the probe.
+    pub fn longest_prefix_match_k_counted(self, probe: &K, counter: &mut C) -> Option<(K, &'a V)>
+        ensures pair { option_map (λ p. (K.bytes p.0, p.1.now)) result ≡ longest_match (K.bytes probe.now) (tree_pairs (option_copied self.entry.root)) }
+        ensures visits { C.number counter.new ≡ C.number counter.old + probe_count (keys_of (tree_pairs (option_copied self.entry.root))) (K.bytes probe.now) }
+        ensures bound { C.number counter.new ≤ C.number counter.old + length (K.bytes probe.now) + 1 }
+    {
+        let bytes = probe.as_ref();
+        let (depth, value) = self.last_match(bytes, counter)?;
+        Some((K::new_from_slice(beginning(bytes, depth)), value))
+    }
+
+    /// The value at the longest key that begins the bytes `probe`, which may be longer than any key.
+    pub fn longest_prefix_value_bytes_counted(self, probe: &[u8], counter: &mut C) -> Option<&'a V>
+        ensures value { option_copied result ≡ option_map (λ e. e.1) (longest_match probe.now (tree_pairs (option_copied self.entry.root))) }
+        ensures visits { C.number counter.new ≡ C.number counter.old + probe_count (keys_of (tree_pairs (option_copied self.entry.root))) probe.now }
+        ensures bound { C.number counter.new ≤ C.number counter.old + length probe.now + 1 }
+    {
+        let (_, value) = self.last_match(probe, counter)?;
+        Some(value)
+    }
+
+    /// The value at the longest key that begins the probe.
+    pub fn longest_prefix_value_k_counted(self, probe: &K, counter: &mut C) -> Option<&'a V>
+        ensures value { option_copied result ≡ option_map (λ e. e.1) (longest_match (K.bytes probe.now) (tree_pairs (option_copied self.entry.root))) }
+        ensures visits { C.number counter.new ≡ C.number counter.old + probe_count (keys_of (tree_pairs (option_copied self.entry.root))) (K.bytes probe.now) }
+        ensures bound { C.number counter.new ≤ C.number counter.old + length (K.bytes probe.now) + 1 }
+    {
+        self.longest_prefix_value_bytes_counted(probe.as_ref(), counter)
+    }
+
+    fn each_match<F: FnMut(&[u8], &V)>(self, probe: &[u8], f: &mut F, counter: &mut C)
+        requires callable { F.IsAlwaysCallable f.old }
+        ensures calls { FoldsTo (λ p x q. Matched F.FnMut p x q) f.old (matches probe.now (tree_pairs (option_copied self.entry.root))) f.new }
+        ensures visits { C.number counter.new ≡ C.number counter.old + probe_count (keys_of (tree_pairs (option_copied self.entry.root))) probe.now }
+        ensures bound { C.number counter.new ≤ C.number counter.old + length probe.now + 1 }
+    {
+        let mut matching = self.matching();
+        while let Some(value) = matching.advance(probe, counter) {
+            f(beginning(probe, matching.depth), value);
+        }
+    }
+
+    /// Calls `f` with each pair whose key begins the probe, the shortest first. The key is lent from the probe: its
+    /// first bytes. `f` is lent too, so that the caller sees what the calls left in it.
+    pub fn prefix_match_for_each_with_k_counted<F: FnMut(&[u8], &V)>(
+        self,
+        probe: &K,
+        f: &mut F,
+        counter: &mut C,
+    )
+        requires callable { F.IsAlwaysCallable f.old }
+        ensures calls { FoldsTo (λ p x q. Matched F.FnMut p x q) f.old (matches (K.bytes probe.now) (tree_pairs (option_copied self.entry.root))) f.new }
+        ensures visits { C.number counter.new ≡ C.number counter.old + probe_count (keys_of (tree_pairs (option_copied self.entry.root))) (K.bytes probe.now) }
+        ensures bound { C.number counter.new ≤ C.number counter.old + length (K.bytes probe.now) + 1 }
+    {
+        self.each_match(probe.as_ref(), f, counter);
+    }
+
+    /// Calls `f` with each pair whose key begins the probe, as `prefix_match_for_each_with_k_counted` does; `f` is gone
+    /// after the call.
+    pub fn prefix_match_for_each_k_counted<F: FnMut(&[u8], &V) + Drop>(
+        self,
+        probe: &K,
+        mut f: F,
+        counter: &mut C,
+    )
+        requires callable { F.IsAlwaysCallable f }
+        ensures calls { (last : F) × FoldsTo (λ p x q. Matched F.FnMut p x q) f (matches (K.bytes probe.now) (tree_pairs (option_copied self.entry.root))) last }
+        ensures visits { C.number counter.new ≡ C.number counter.old + probe_count (keys_of (tree_pairs (option_copied self.entry.root))) (K.bytes probe.now) }
+        ensures bound { C.number counter.new ≤ C.number counter.old + length (K.bytes probe.now) + 1 }
+    {
+        self.prefix_match_for_each_with_k_counted(probe, &mut f, counter);
+    }
+}
+
+/// The pairs whose key begins a probe, the shortest first. `P` is what the nodes keep of keys `K`.
+#[derive(Drop)]
+pub struct PrefixMatchIter<'a, K: KeyTrait, P: Partial, V> {
+    matching: Matching<'a, P, V, Visits>,
+    // the probe's bytes, as a part, since a part can always be dropped
+    probe: P,
+    of: PhantomData<K>,
+}
+
+impl<'a, K: KeyTrait, P: Partial, V> Model for PrefixMatchIter<'a, K, P, V> {
+    ghost use Rattle.std.specs.Prelude.{ℕ, ◌≤◌, List, length, option_map};
+    ghost use Rattle.rart_keys.specs.KeyBytes.{IsWithin};
+    ghost use Rattle.rart_nodes.specs.walks.Matches.{matches_ahead};
+
+    ghost Value = { List (List ℕ × V) };
+
+    ghost view = { λ it. matches_ahead (P.bytes it.probe) it.matching.depth (option_map (λ s. s.node.now) it.matching.below) };
+
+    ghost invariant = { λ it. (it.matching.depth ≤ length (P.bytes it.probe)) × IsWithin K.MAXIMUM_SIZE (length (P.bytes it.probe)) };
+}
+
+impl<'a, K: KeyTrait, P: Partial, V> Iterator for PrefixMatchIter<'a, K, P, V> {
+    type Item = (K, &'a V);
+
+    ghost next_gives = { YieldsFirstBy (λ p. (K.bytes p.0, p.1.now)) (λ rest. rest) };
+
+    ghost remaining = { item_count (λ rest. rest) };
+
+    /// No bound: the way down doesn't count what lies ahead.
+    fn size_hint(&self) -> (usize, Option<usize>) {
+        (0, None)
+    }
+
+    /// The next pair, to which it goes on down. After `None` always `None`. Takes no memory.
+    fn next(&mut self) -> Option<(K, &'a V)> {
+        let bytes = self.probe.to_slice();
+        let value = self.matching.advance(bytes, &mut Visits::new())?;
+        Some((
+            K::new_from_slice(beginning(bytes, self.matching.depth)),
+            value,
+        ))
+    }
+}
+
+impl<'a, K: KeyTrait, V> Seen<'a, K, V, Visits> {
+    /// The pairs whose key begins `probe`, the shortest first. It keeps a copy of the probe, and visits nothing yet.
+    pub fn prefix_match_iter_k(self, probe: &K) -> PrefixMatchIter<'a, K, K::PartialType, V>
+        ensures { result ≡ matches (K.bytes probe.now) (tree_pairs (option_copied self.entry.root)) }
+    {
+        PrefixMatchIter {
+            matching: self.matching(),
+            probe: probe.to_partial(0),
+            of: PhantomData,
+        }
+    }
+}
