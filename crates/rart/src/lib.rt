@@ -19,8 +19,3 @@ pub use rart_nodes::node::seen::Seen;
 pub use rart_nodes::node::{Iter, SeenIter, ValuesIter};
 pub use rart_nodes::{Count, Refused, Visits, node};
 pub use rart_parts::{TreeError, mapping, utils};
-
-#[cfg(test)]
-mod node_tests;
-#[cfg(test)]
-mod tests;
