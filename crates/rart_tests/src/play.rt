@@ -8,7 +8,7 @@ pub mod replies;
 
 pub use self::players::{
     plays, plays_as_run, plays_asking_for_nothing, plays_refused_in_turn, plays_texts,
-    run_is_refused_in_turn,
+    run_is_refused_in_turn, went_well,
 };
 
 pub type Tree<K> = AdaptiveRadixTree<K, u64>;

@@ -1,6 +1,6 @@
 //! Calls that may not ask for memory. Under the library that refuses it each would be seen to, were it to ask.
 
-use crate::play::{Ask, Row, Want, plays_asking_for_nothing};
+use crate::play::{Ask, Row, Want, plays_asking_for_nothing, went_well};
 use crate::refusals::{refuse, was_refused};
 use rart::script::run;
 use rart::{AdaptiveRadixTree, ArrayKey, Iter, KeyTrait, ValuesIter};
@@ -20,9 +20,9 @@ const FIRST_KEY: [Row<'static>; 9] = [
 
 #[test]
 fn an_empty_tree_and_its_first_key_ask_for_nothing(rt: HostRuntime) {
-    assert_eq!(rt;
+    went_well(
+        &rt,
         plays_asking_for_nothing::<ArrayKey<16>>(rt.alloc(), &[], &FIRST_KEY),
-        None
     );
 }
 
@@ -47,9 +47,9 @@ const AT_STANDING_NODES: [Row<'static>; 11] = [
 
 #[test]
 fn standing_nodes_ask_for_nothing(rt: HostRuntime) {
-    assert_eq!(rt;
+    went_well(
+        &rt,
         plays_asking_for_nothing::<ArrayKey<16>>(rt.alloc(), &TWO_LEAVES, &AT_STANDING_NODES),
-        None
     );
 }
 
@@ -61,9 +61,9 @@ const JOINING: [Row<'static>; 3] = [
 
 #[test]
 fn joined_nodes_ask_for_nothing(rt: HostRuntime) {
-    assert_eq!(rt;
+    went_well(
+        &rt,
         plays_asking_for_nothing::<ArrayKey<16>>(rt.alloc(), &TWO_LEAVES, &JOINING),
-        None
     );
 }
 
@@ -89,9 +89,9 @@ const INTO_ROOM: [Row<'static>; 8] = [
 
 #[test]
 fn nodes_with_room_ask_for_nothing(rt: HostRuntime) {
-    assert_eq!(rt;
+    went_well(
+        &rt,
         plays_asking_for_nothing::<ArrayKey<16>>(rt.alloc(), &ROOM_IN_EACH_KIND, &INTO_ROOM),
-        None
     );
 }
 
@@ -107,9 +107,9 @@ const ABSENT: [Row<'static>; 5] = [
 
 #[test]
 fn absent_keys_ask_for_nothing(rt: HostRuntime) {
-    assert_eq!(rt;
+    went_well(
+        &rt,
         plays_asking_for_nothing::<ArrayKey<16>>(rt.alloc(), &FIVE_KEYS, &ABSENT),
-        None
     );
 }
 

@@ -35,56 +35,86 @@ fn a_dropped_tree_drops_each_value_once(rt: HostRuntime) {
     }
 }
 
-#[test]
-fn a_replaced_value_is_handed_out(rt: HostRuntime) {
-    let drops = Cell::new(0_usize);
-    let mut tree = filled(&rt, rt.alloc(), &drops, 5);
-    match tree.insert(key(3), Counted(99, &drops)) {
-        Ok(Some(old)) => assert!(rt; old.0 == 3 && drops.get() == 0),
-        _ => assert!(rt; false, "no old value"),
-    }
-    assert_eq!(rt; drops.get(), 1);
-    drop(tree);
-    assert_eq!(rt; drops.get(), 6);
+/// A call, with the number of the value that it offers.
+#[derive(Clone, Copy)]
+enum Ask {
+    Insert(u8, u8),
+    TryInsert(u8, u8),
+    InsertNew(u8, u8),
+    Remove(u8),
+    Delete(u8),
 }
 
-#[test]
-fn a_removed_value_is_handed_out_and_a_deleted_one_is_dropped(rt: HostRuntime) {
-    let drops = Cell::new(0_usize);
-    let mut tree = filled(&rt, rt.alloc(), &drops, 5);
-    match tree.remove(key(3)) {
-        Ok(Some(value)) => assert!(rt; value.0 == 3 && drops.get() == 0),
-        _ => assert!(rt; false, "no value"),
-    }
-    assert_eq!(rt; drops.get(), 1);
-    assert!(rt; matches!(tree.delete(key(4)), Ok(true)));
-    assert_eq!(rt; drops.get(), 2);
-    assert!(rt; matches!(tree.delete_k(&key(2)), Ok(true)));
-    assert_eq!(rt; drops.get(), 3);
-    assert!(rt; matches!(tree.delete_k(&key(2)), Ok(false)));
-    assert_eq!(rt; drops.get(), 3);
-    drop(tree);
-    assert_eq!(rt; drops.get(), 5);
-}
+// The number of the value that is handed out or back, and how many are dropped once that one is.
+type Row = (Ask, Option<u8>, usize);
 
-#[test]
-fn a_value_that_finds_its_key_stored_is_handed_back(rt: HostRuntime) {
-    let drops = Cell::new(0_usize);
-    let mut tree = filled(&rt, rt.alloc(), &drops, 5);
-    match tree.try_insert(key(3), Counted(99, &drops)) {
-        Err(TryInsertError::Occupied(back, stored)) => {
-            assert!(rt; back.0 == 99 && stored.0 == 3 && drops.get() == 0);
+// The value that a call hands out or back.
+fn handed<'a>(tree: &mut Tree<'a>, ask: Ask, drops: &'a Cell<usize>) -> Option<Counted<'a>> {
+    match ask {
+        Ask::Insert(byte, number) => match tree.insert(key(byte), Counted(number, drops)) {
+            Ok(old) => old,
+            Err(refused) => Some(refused.value),
+        },
+        Ask::TryInsert(byte, number) => match tree.try_insert(key(byte), Counted(number, drops)) {
+            Ok(()) => None,
+            Err(TryInsertError::Occupied(back, _stored)) => Some(back),
+            Err(TryInsertError::Refused(refused)) => Some(refused.value),
+        },
+        Ask::InsertNew(byte, number) => match tree.insert_new(key(byte), Counted(number, drops)) {
+            Ok(()) => None,
+            Err(NotInserted::Stored(back)) => Some(back),
+            Err(NotInserted::Refused(refused)) => Some(refused.value),
+        },
+        Ask::Remove(byte) => match tree.remove(key(byte)) {
+            Ok(value) => value,
+            Err(_refused) => None,
+        },
+        Ask::Delete(byte) => {
+            let _answer = tree.delete(key(byte));
+            None
         }
-        _ => assert!(rt; false, "inserted or refused"),
     }
-    assert_eq!(rt; drops.get(), 1);
-    match tree.insert_new(key(3), Counted(98, &drops)) {
-        Err(NotInserted::Stored(back)) => assert!(rt; back.0 == 98 && drops.get() == 1),
-        _ => assert!(rt; false, "inserted or refused"),
+}
+
+fn goes_well<'a>(tree: &mut Tree<'a>, row: &Row, drops: &'a Cell<usize>) -> bool {
+    let before = drops.get();
+    let value = handed(tree, row.0, drops);
+    let number = value.as_ref().map(|value| value.0);
+    let held = usize::from(value.is_some());
+    let early = drops.get();
+    drop(value);
+    number == row.1
+        && drops.get() == row.2
+        && (early == before || held == 0)
+        && early.wrapping_add(held) == row.2
+}
+
+const HANDED_AND_DROPPED: [Row; 12] = [
+    (Ask::Insert(3, 99), Some(3), 1),
+    (Ask::Insert(9, 9), None, 1),
+    (Ask::TryInsert(3, 98), Some(98), 2),
+    (Ask::TryInsert(10, 10), None, 2),
+    (Ask::InsertNew(3, 97), Some(97), 3),
+    (Ask::InsertNew(11, 11), None, 3),
+    (Ask::Remove(3), Some(99), 4),
+    (Ask::Remove(3), None, 4),
+    (Ask::Delete(4), None, 5),
+    (Ask::Delete(4), None, 5),
+    (Ask::Delete(11), None, 6),
+    (Ask::Remove(0), Some(0), 7),
+];
+
+// Five values before the rows, and five at their end.
+#[test]
+fn each_value_is_handed_out_or_back_or_dropped_once(rt: HostRuntime) {
+    let drops = Cell::new(0_usize);
+    let mut tree = filled(&rt, rt.alloc(), &drops, 5);
+    for row in &HANDED_AND_DROPPED {
+        assert!(rt; goes_well(&mut tree, row, &drops), "at {}", row.2);
     }
-    assert_eq!(rt; drops.get(), 2);
+    assert_eq!(rt; tree.len(), 4);
     drop(tree);
-    assert_eq!(rt; drops.get(), 7);
+    assert_eq!(rt; drops.get(), 11);
 }
 
 // A key that makes the node grow, with its request refused: the value comes back. Whether a request was refused.

@@ -2,7 +2,9 @@
 //! it answers as if none had been refused.
 
 use crate::play::replies::is_counted;
-use crate::play::{Ask, Row, Want, plays_as_run, plays_refused_in_turn, run_is_refused_in_turn};
+use crate::play::{
+    Ask, Row, Want, plays_as_run, plays_refused_in_turn, run_is_refused_in_turn, went_well,
+};
 use crate::refusals::{refuse, was_refused};
 use rart::{AdaptiveRadixTree, ArrayKey, KeyTrait, Refused, TreeError, TreeStatsTrait};
 use std::test::Fail;
@@ -23,9 +25,9 @@ const SPLITS: [Row<'static>; 8] = [
 
 #[test]
 fn splits_refused_in_turn(rt: HostRuntime) {
-    assert_eq!(rt;
+    went_well(
+        &rt,
         plays_refused_in_turn::<ArrayKey<16>>(rt.alloc(), &SPLITS),
-        None
     );
 }
 
@@ -38,9 +40,9 @@ const SPLIT_ABOVE: [Row<'static>; 4] = [
 
 #[test]
 fn a_split_above_a_leaf_refused_in_turn(rt: HostRuntime) {
-    assert_eq!(rt;
+    went_well(
+        &rt,
         plays_refused_in_turn::<ArrayKey<16>>(rt.alloc(), &SPLIT_ABOVE),
-        None
     );
 }
 
@@ -59,9 +61,9 @@ const GROWTH: [Row<'static>; 10] = [
 
 #[test]
 fn growing_insertions_refused_in_turn(rt: HostRuntime) {
-    assert_eq!(rt;
+    went_well(
+        &rt,
         plays_refused_in_turn::<ArrayKey<16>>(rt.alloc(), &GROWTH),
-        None
     );
 }
 
@@ -77,9 +79,9 @@ const GROWTH_BY_NEW_KEYS: [Row<'static>; 7] = [
 
 #[test]
 fn growing_insertions_of_new_keys_refused_in_turn(rt: HostRuntime) {
-    assert_eq!(rt;
+    went_well(
+        &rt,
         plays_refused_in_turn::<ArrayKey<16>>(rt.alloc(), &GROWTH_BY_NEW_KEYS),
-        None
     );
 }
 
@@ -98,9 +100,9 @@ const SHRINKING: [Row<'static>; 10] = [
 
 #[test]
 fn shrinking_removals_refused_in_turn(rt: HostRuntime) {
-    assert_eq!(rt;
+    went_well(
+        &rt,
         plays_refused_in_turn::<ArrayKey<16>>(rt.alloc(), &SHRINKING),
-        None
     );
 }
 
@@ -116,9 +118,9 @@ const SHRINKING_BY_DELETION: [Row<'static>; 7] = [
 
 #[test]
 fn shrinking_deletions_refused_in_turn(rt: HostRuntime) {
-    assert_eq!(rt;
+    went_well(
+        &rt,
         plays_refused_in_turn::<ArrayKey<16>>(rt.alloc(), &SHRINKING_BY_DELETION),
-        None
     );
 }
 
@@ -139,9 +141,9 @@ const FOUR_WIDTHS: [Row<'static>; 6] = [
 
 #[test]
 fn statistics_refused_in_turn(rt: HostRuntime) {
-    assert_eq!(rt;
+    went_well(
+        &rt,
         plays_refused_in_turn::<ArrayKey<16>>(rt.alloc(), &FOUR_WIDTHS),
-        None
     );
 }
 
@@ -187,10 +189,7 @@ const EVERY_CALL: [Row<'static>; 25] = [
 
 #[test]
 fn runs_refused_in_turn_go_on_without_the_refused_call(rt: HostRuntime) -> Result<(), Fail> {
-    assert_eq!(rt;
-        plays_as_run::<ArrayKey<16>>(rt.alloc(), &EVERY_CALL)?,
-        None
-    );
+    went_well(&rt, plays_as_run::<ArrayKey<16>>(rt.alloc(), &EVERY_CALL)?);
     assert!(rt; run_is_refused_in_turn::<ArrayKey<16>>(rt.alloc(), &EVERY_CALL)?);
     Ok(())
 }
@@ -204,9 +203,9 @@ const LISTS: [Row<'static>; 4] = [
 
 #[test]
 fn lists_of_pairs_and_values_refused_in_turn(rt: HostRuntime) {
-    assert_eq!(rt;
+    went_well(
+        &rt,
         plays_refused_in_turn::<ArrayKey<4>>(rt.alloc(), &LISTS),
-        None
     );
 }
 

@@ -1,6 +1,6 @@
 //! What the calls of the map reply, each in its three forms: as a value, with a key, and with a reference to one.
 
-use crate::play::{Ask, Row, Want, plays, plays_as_run};
+use crate::play::{Ask, Row, Want, plays, plays_as_run, went_well};
 use rart::ArrayKey;
 use std::test::Fail;
 
@@ -21,7 +21,7 @@ const EMPTY: [Row<'static>; 12] = [
 
 #[test]
 fn an_empty_tree_answers_nothing(rt: HostRuntime) {
-    assert_eq!(rt; plays::<ArrayKey<16>>(rt.alloc(), &EMPTY), None);
+    went_well(&rt, plays::<ArrayKey<16>>(rt.alloc(), &EMPTY));
 }
 
 const KEYS_THAT_BEGIN_ONE_ANOTHER: [Row<'static>; 13] = [
@@ -42,9 +42,9 @@ const KEYS_THAT_BEGIN_ONE_ANOTHER: [Row<'static>; 13] = [
 
 #[test]
 fn keys_that_begin_one_another(rt: HostRuntime) {
-    assert_eq!(rt;
+    went_well(
+        &rt,
         plays::<ArrayKey<16>>(rt.alloc(), &KEYS_THAT_BEGIN_ONE_ANOTHER),
-        None
     );
 }
 
@@ -61,7 +61,7 @@ const CHAIN: [Row<'static>; 8] = [
 
 #[test]
 fn a_chain_of_keys(rt: HostRuntime) {
-    assert_eq!(rt; plays::<ArrayKey<16>>(rt.alloc(), &CHAIN), None);
+    went_well(&rt, plays::<ArrayKey<16>>(rt.alloc(), &CHAIN));
 }
 
 const REPLACED: [Row<'static>; 6] = [
@@ -75,7 +75,7 @@ const REPLACED: [Row<'static>; 6] = [
 
 #[test]
 fn a_stored_key_gives_its_old_value(rt: HostRuntime) {
-    assert_eq!(rt; plays::<ArrayKey<16>>(rt.alloc(), &REPLACED), None);
+    went_well(&rt, plays::<ArrayKey<16>>(rt.alloc(), &REPLACED));
 }
 
 const FULL_WIDTH: [Row<'static>; 9] = [
@@ -95,7 +95,7 @@ const FULL_WIDTH: [Row<'static>; 9] = [
 
 #[test]
 fn the_empty_key_and_keys_of_full_width(rt: HostRuntime) {
-    assert_eq!(rt; plays::<ArrayKey<16>>(rt.alloc(), &FULL_WIDTH), None);
+    went_well(&rt, plays::<ArrayKey<16>>(rt.alloc(), &FULL_WIDTH));
 }
 
 const LONG_PROBE: [Row<'static>; 3] = [
@@ -106,7 +106,7 @@ const LONG_PROBE: [Row<'static>; 3] = [
 
 #[test]
 fn a_probe_longer_than_any_key(rt: HostRuntime) {
-    assert_eq!(rt; plays::<ArrayKey<4>>(rt.alloc(), &LONG_PROBE), None);
+    went_well(&rt, plays::<ArrayKey<4>>(rt.alloc(), &LONG_PROBE));
 }
 
 const NO_BYTES: [Row<'static>; 8] = [
@@ -122,7 +122,7 @@ const NO_BYTES: [Row<'static>; 8] = [
 
 #[test]
 fn keys_without_bytes(rt: HostRuntime) {
-    assert_eq!(rt; plays::<ArrayKey<0>>(rt.alloc(), &NO_BYTES), None);
+    went_well(&rt, plays::<ArrayKey<0>>(rt.alloc(), &NO_BYTES));
 }
 
 const EVERY_BYTE: [Row<'static>; 7] = [
@@ -137,7 +137,7 @@ const EVERY_BYTE: [Row<'static>; 7] = [
 
 #[test]
 fn every_byte_as_a_child(rt: HostRuntime) {
-    assert_eq!(rt; plays::<ArrayKey<16>>(rt.alloc(), &EVERY_BYTE), None);
+    went_well(&rt, plays::<ArrayKey<16>>(rt.alloc(), &EVERY_BYTE));
 }
 
 const REMOVED: [Row<'static>; 8] = [
@@ -153,7 +153,7 @@ const REMOVED: [Row<'static>; 8] = [
 
 #[test]
 fn a_removed_inner_key_is_gone(rt: HostRuntime) {
-    assert_eq!(rt; plays::<ArrayKey<16>>(rt.alloc(), &REMOVED), None);
+    went_well(&rt, plays::<ArrayKey<16>>(rt.alloc(), &REMOVED));
 }
 
 const DELETED_INNER: [Row<'static>; 5] = [
@@ -166,7 +166,7 @@ const DELETED_INNER: [Row<'static>; 5] = [
 
 #[test]
 fn a_deleted_inner_key_is_gone(rt: HostRuntime) {
-    assert_eq!(rt; plays::<ArrayKey<16>>(rt.alloc(), &DELETED_INNER), None);
+    went_well(&rt, plays::<ArrayKey<16>>(rt.alloc(), &DELETED_INNER));
 }
 
 const DELETED_TWICE: [Row<'static>; 5] = [
@@ -179,7 +179,7 @@ const DELETED_TWICE: [Row<'static>; 5] = [
 
 #[test]
 fn a_deletion_tells_whether_there_was_a_value(rt: HostRuntime) {
-    assert_eq!(rt; plays::<ArrayKey<16>>(rt.alloc(), &DELETED_TWICE), None);
+    went_well(&rt, plays::<ArrayKey<16>>(rt.alloc(), &DELETED_TWICE));
 }
 
 const DELETED_AMONG_OTHERS: [Row<'static>; 7] = [
@@ -194,9 +194,9 @@ const DELETED_AMONG_OTHERS: [Row<'static>; 7] = [
 
 #[test]
 fn deletions_leave_the_other_keys(rt: HostRuntime) {
-    assert_eq!(rt;
+    went_well(
+        &rt,
         plays::<ArrayKey<16>>(rt.alloc(), &DELETED_AMONG_OTHERS),
-        None
     );
 }
 
@@ -214,7 +214,7 @@ const NEVER_REPLACED: [Row<'static>; 9] = [
 
 #[test]
 fn a_stored_value_is_kept_by_insertions_of_new_keys(rt: HostRuntime) {
-    assert_eq!(rt; plays::<ArrayKey<16>>(rt.alloc(), &NEVER_REPLACED), None);
+    went_well(&rt, plays::<ArrayKey<16>>(rt.alloc(), &NEVER_REPLACED));
 }
 
 const OVERWRITTEN: [Row<'static>; 10] = [
@@ -232,7 +232,7 @@ const OVERWRITTEN: [Row<'static>; 10] = [
 
 #[test]
 fn a_lent_value_is_changed_where_it_stands(rt: HostRuntime) {
-    assert_eq!(rt; plays::<ArrayKey<4>>(rt.alloc(), &OVERWRITTEN), None);
+    went_well(&rt, plays::<ArrayKey<4>>(rt.alloc(), &OVERWRITTEN));
 }
 
 const IN_ORDER: [Row<'static>; 5] = [
@@ -245,7 +245,7 @@ const IN_ORDER: [Row<'static>; 5] = [
 
 #[test]
 fn pairs_come_in_the_order_of_their_bytes(rt: HostRuntime) {
-    assert_eq!(rt; plays::<ArrayKey<4>>(rt.alloc(), &IN_ORDER), None);
+    went_well(&rt, plays::<ArrayKey<4>>(rt.alloc(), &IN_ORDER));
 }
 
 const RUN: [Row<'static>; 11] = [
@@ -264,7 +264,7 @@ const RUN: [Row<'static>; 11] = [
 
 #[test]
 fn a_run_replies_to_its_calls_in_turn(rt: HostRuntime) -> Result<(), Fail> {
-    assert_eq!(rt; plays_as_run::<ArrayKey<4>>(rt.alloc(), &RUN)?, None);
-    assert_eq!(rt; plays::<ArrayKey<4>>(rt.alloc(), &RUN), None);
+    went_well(&rt, plays_as_run::<ArrayKey<4>>(rt.alloc(), &RUN)?);
+    went_well(&rt, plays::<ArrayKey<4>>(rt.alloc(), &RUN));
     Ok(())
 }

@@ -1,7 +1,7 @@
 //! Statistics: what the nodes of a tree are, read after each call.
 
 use crate::play::replies::is_counted;
-use crate::play::{Ask, Row, Want, plays};
+use crate::play::{Ask, Row, Want, plays, went_well};
 use rart::{AdaptiveRadixTree, ArrayKey, NodeStats, TreeStats, TreeStatsTrait};
 use std::alloc::Global;
 use std::process::Abort;
@@ -28,7 +28,7 @@ const LEAF_AND_PARENT: [Row<'static>; 6] = [
 
 #[test]
 fn statistics_of_a_leaf_and_its_parent(rt: HostRuntime) {
-    assert_eq!(rt; plays::<ArrayKey<16>>(rt.alloc(), &LEAF_AND_PARENT), None);
+    went_well(&rt, plays::<ArrayKey<16>>(rt.alloc(), &LEAF_AND_PARENT));
 }
 
 const TWO_LEAVES: [Row<'static>; 5] = [
@@ -41,7 +41,7 @@ const TWO_LEAVES: [Row<'static>; 5] = [
 
 #[test]
 fn statistics_of_two_leaves(rt: HostRuntime) {
-    assert_eq!(rt; plays::<ArrayKey<16>>(rt.alloc(), &TWO_LEAVES), None);
+    went_well(&rt, plays::<ArrayKey<16>>(rt.alloc(), &TWO_LEAVES));
 }
 
 const THREE_LEVELS: [Row<'static>; 6] = [
@@ -55,7 +55,7 @@ const THREE_LEVELS: [Row<'static>; 6] = [
 
 #[test]
 fn statistics_of_three_levels(rt: HostRuntime) {
-    assert_eq!(rt; plays::<ArrayKey<16>>(rt.alloc(), &THREE_LEVELS), None);
+    went_well(&rt, plays::<ArrayKey<16>>(rt.alloc(), &THREE_LEVELS));
 }
 
 const JOINED_WITH_A_WIDER_CHILD: [Row<'static>; 6] = [
@@ -72,9 +72,9 @@ const JOINED_WITH_A_WIDER_CHILD: [Row<'static>; 6] = [
 
 #[test]
 fn a_joined_child_keeps_its_kind(rt: HostRuntime) {
-    assert_eq!(rt;
+    went_well(
+        &rt,
         plays::<ArrayKey<16>>(rt.alloc(), &JOINED_WITH_A_WIDER_CHILD),
-        None
     );
 }
 
@@ -90,7 +90,7 @@ const JOINED_WITH_A_LEAF: [Row<'static>; 7] = [
 
 #[test]
 fn a_lone_child_takes_the_place_of_its_parent(rt: HostRuntime) {
-    assert_eq!(rt; plays::<ArrayKey<4>>(rt.alloc(), &JOINED_WITH_A_LEAF), None);
+    went_well(&rt, plays::<ArrayKey<4>>(rt.alloc(), &JOINED_WITH_A_LEAF));
 }
 
 const WIDENING: [Row<'static>; 14] = [
@@ -112,7 +112,7 @@ const WIDENING: [Row<'static>; 14] = [
 
 #[test]
 fn a_root_widens_with_its_children(rt: HostRuntime) {
-    assert_eq!(rt; plays::<ArrayKey<16>>(rt.alloc(), &WIDENING), None);
+    went_well(&rt, plays::<ArrayKey<16>>(rt.alloc(), &WIDENING));
 }
 
 const NARROWING: [Row<'static>; 15] = [
@@ -135,7 +135,7 @@ const NARROWING: [Row<'static>; 15] = [
 
 #[test]
 fn a_root_narrows_with_its_children_at_once(rt: HostRuntime) {
-    assert_eq!(rt; plays::<ArrayKey<16>>(rt.alloc(), &NARROWING), None);
+    went_well(&rt, plays::<ArrayKey<16>>(rt.alloc(), &NARROWING));
 }
 
 type Numbers = AdaptiveRadixTree<ArrayKey<8>, u64>;

@@ -1,11 +1,11 @@
 //! Conversions of maps: whole and in order, with the source emptied; refused, the source is as it was.
 
-use crate::parts::mappings::{fill, walks};
+use crate::parts::mappings::{fill, lends};
 use crate::refusals::{refuse, was_refused};
 use rart::TreeError;
 use rart::mapping::{DirectMapping, IndexedMapping, KeyedMapping, NodeMapping, SortedKeyedMapping};
 use rart::utils::bitset::{Bitset16, Bitset32};
-use std::process::Abort;
+use std::alloc::Global;
 use std::test::Fail;
 
 type Sorted16 = SortedKeyedMapping<u8, 16>;
@@ -48,126 +48,234 @@ fn has_none<const W: usize>(map: &impl NodeMapping<u8, W>) -> bool {
     map.num_children() == 0
 }
 
-/// Each request of a new map refused in turn.
-macro_rules! new_refused {
-    ($rt:ident, $mapping:ident) => {{
-        let alloc = $rt.alloc();
-        for at in 1..100_usize {
-            refuse(alloc, at);
-            let answer = $mapping::new(alloc);
-            let refused = was_refused(alloc);
-            match answer {
-                Ok(map) => {
-                    assert!($rt; !refused && has_none(&map), "request {at}");
-                    break;
-                }
-                Err(error) => assert!($rt; refused && error == TreeError::Memory, "request {at}"),
-            }
-        }
-    }};
+/// A map of at least sixteen children.
+trait Made: Sized {
+    fn made(alloc: Global) -> Result<Self, TreeError>;
+
+    /// Whether its walk gives the bytes in order. A map without a public walk has none that does not.
+    fn ascends(&self) -> bool;
 }
 
-/// Each request of a conversion of sixteen children refused in turn: they stay in the source, and go over once there
-/// is memory.
-macro_rules! conversion_refused {
-    ($rt:ident, $source:ident, $target:ident, $convert:ident) => {{
-        let alloc = $rt.alloc();
-        let mut source = $source::new(alloc)?;
-        fill(&$rt, &mut source, &SCATTERED);
-        for at in 1..100_usize {
-            assert_eq!($rt; source.num_children(), 16);
-            refuse(alloc, at);
-            let answer = $target::$convert(alloc, &mut source);
-            let refused = was_refused(alloc);
-            match answer {
-                Ok(map) => {
-                    assert!($rt; !refused, "request {at}");
-                    assert!($rt; has_all(&map) && has_none(&source));
-                    break;
-                }
-                Err(error) => assert!($rt; refused && error == TreeError::Memory, "request {at}"),
-            }
-            assert!($rt; has_all(&source), "request {at}");
+impl Made for Sorted16 {
+    fn made(alloc: Global) -> Result<Self, TreeError> {
+        Sorted16::new(alloc)
+    }
+
+    fn ascends(&self) -> bool {
+        lends(self.iter(), &ASCENDING)
+    }
+}
+
+impl Made for Sorted24 {
+    fn made(alloc: Global) -> Result<Self, TreeError> {
+        Sorted24::new(alloc)
+    }
+
+    fn ascends(&self) -> bool {
+        lends(self.iter(), &ASCENDING)
+    }
+}
+
+impl Made for Keyed16 {
+    fn made(alloc: Global) -> Result<Self, TreeError> {
+        Keyed16::new(alloc)
+    }
+
+    fn ascends(&self) -> bool {
+        true
+    }
+}
+
+impl Made for Keyed32 {
+    fn made(alloc: Global) -> Result<Self, TreeError> {
+        Keyed32::new(alloc)
+    }
+
+    fn ascends(&self) -> bool {
+        true
+    }
+}
+
+impl Made for Indexed48 {
+    fn made(alloc: Global) -> Result<Self, TreeError> {
+        Indexed48::new(alloc)
+    }
+
+    fn ascends(&self) -> bool {
+        lends(self.iter(), &ASCENDING)
+    }
+}
+
+impl Made for Direct256 {
+    fn made(alloc: Global) -> Result<Self, TreeError> {
+        Direct256::new(alloc)
+    }
+
+    fn ascends(&self) -> bool {
+        lends(self.iter(), &ASCENDING)
+    }
+}
+
+/// A map that another is converted to. More than sixteen children are answered with `Full`.
+trait From16<S>: Made {
+    fn converted(alloc: Global, source: &mut S) -> Result<Self, TreeError>;
+}
+
+impl From16<Sorted16> for Sorted24 {
+    fn converted(alloc: Global, source: &mut Sorted16) -> Result<Self, TreeError> {
+        if source.num_children() > 16 {
+            return Err(TreeError::Full);
         }
-        assert!($rt; has_none(&source));
-    }};
+        Sorted24::from_resized(alloc, source)
+    }
+}
+
+impl From16<Sorted24> for Sorted16 {
+    fn converted(alloc: Global, source: &mut Sorted24) -> Result<Self, TreeError> {
+        if source.num_children() > 16 {
+            return Err(TreeError::Full);
+        }
+        Sorted16::from_resized(alloc, source)
+    }
+}
+
+impl From16<Indexed48> for Sorted16 {
+    fn converted(alloc: Global, source: &mut Indexed48) -> Result<Self, TreeError> {
+        if source.num_children() > 16 {
+            return Err(TreeError::Full);
+        }
+        Sorted16::from_indexed(alloc, source)
+    }
+}
+
+impl From16<Keyed16> for Keyed32 {
+    fn converted(alloc: Global, source: &mut Keyed16) -> Result<Self, TreeError> {
+        Keyed32::from_resized_grow(alloc, source)
+    }
+}
+
+impl From16<Sorted16> for Indexed48 {
+    fn converted(alloc: Global, source: &mut Sorted16) -> Result<Self, TreeError> {
+        if source.num_children() > 16 {
+            return Err(TreeError::Full);
+        }
+        Indexed48::from_sorted_keyed(alloc, source)
+    }
+}
+
+impl From16<Keyed16> for Indexed48 {
+    fn converted(alloc: Global, source: &mut Keyed16) -> Result<Self, TreeError> {
+        if source.num_children() > 16 {
+            return Err(TreeError::Full);
+        }
+        Indexed48::from_keyed(alloc, source)
+    }
+}
+
+impl From16<Direct256> for Indexed48 {
+    fn converted(alloc: Global, source: &mut Direct256) -> Result<Self, TreeError> {
+        if source.num_children() > 16 {
+            return Err(TreeError::Full);
+        }
+        Indexed48::from_direct(alloc, source)
+    }
+}
+
+impl From16<Indexed48> for Direct256 {
+    fn converted(alloc: Global, source: &mut Indexed48) -> Result<Self, TreeError> {
+        Direct256::from_indexed(alloc, source)
+    }
+}
+
+// Each request of a new map refused in turn.
+fn new_refused<const W: usize, M: NodeMapping<u8, W> + Made + Drop>(alloc: Global) -> bool {
+    for at in 1..100_usize {
+        refuse(alloc, at);
+        let answer = M::made(alloc);
+        let refused = was_refused(alloc);
+        match answer {
+            Ok(map) => return !refused && has_none(&map),
+            Err(error) => {
+                if !refused || error != TreeError::Memory {
+                    return false;
+                }
+            }
+        }
+    }
+    false
 }
 
 #[test]
 fn new_mappings_refused_in_turn(rt: HostRuntime) {
-    new_refused!(rt, Sorted16);
-    new_refused!(rt, Keyed16);
-    new_refused!(rt, Indexed48);
-    new_refused!(rt, Direct256);
-}
-
-#[test]
-fn a_sorted_growth_refused_in_turn_keeps_the_children(rt: HostRuntime) -> Result<(), Fail> {
-    conversion_refused!(rt, Sorted16, Sorted24, from_resized);
-    Ok(())
-}
-
-#[test]
-fn a_sorted_shrinking_refused_in_turn_keeps_the_children(rt: HostRuntime) -> Result<(), Fail> {
-    conversion_refused!(rt, Sorted24, Sorted16, from_resized);
-    Ok(())
-}
-
-#[test]
-fn indexed_to_sorted_refused_in_turn_keeps_the_children(rt: HostRuntime) -> Result<(), Fail> {
-    conversion_refused!(rt, Indexed48, Sorted16, from_indexed);
-    Ok(())
-}
-
-#[test]
-fn a_keyed_growth_refused_in_turn_keeps_the_children(rt: HostRuntime) -> Result<(), Fail> {
-    conversion_refused!(rt, Keyed16, Keyed32, from_resized_grow);
-    Ok(())
-}
-
-#[test]
-fn sorted_to_indexed_refused_in_turn_keeps_the_children(rt: HostRuntime) -> Result<(), Fail> {
-    conversion_refused!(rt, Sorted16, Indexed48, from_sorted_keyed);
-    Ok(())
-}
-
-#[test]
-fn keyed_to_indexed_refused_in_turn_keeps_the_children(rt: HostRuntime) -> Result<(), Fail> {
-    conversion_refused!(rt, Keyed16, Indexed48, from_keyed);
-    Ok(())
-}
-
-#[test]
-fn direct_to_indexed_refused_in_turn_keeps_the_children(rt: HostRuntime) -> Result<(), Fail> {
-    conversion_refused!(rt, Direct256, Indexed48, from_direct);
-    Ok(())
-}
-
-#[test]
-fn indexed_to_direct_refused_in_turn_keeps_the_children(rt: HostRuntime) -> Result<(), Fail> {
-    conversion_refused!(rt, Indexed48, Direct256, from_indexed);
-    Ok(())
-}
-
-#[test]
-fn conversions_are_walked_whole_and_in_order(rt: HostRuntime) -> Result<(), Fail> {
     let alloc = rt.alloc();
-    let mut keyed = Keyed16::new(alloc)?;
-    fill(&rt, &mut keyed, &SCATTERED);
-    let mut grown = Keyed32::from_resized_grow(alloc, &mut keyed)?;
-    assert!(rt; has_all(&grown) && has_none(&keyed));
-    let mut indexed = Indexed48::from_keyed(alloc, &mut grown)?;
-    assert!(rt; has_all(&indexed) && has_none(&grown));
-    let mut direct = Direct256::from_indexed(alloc, &mut indexed)?;
-    assert!(rt; has_all(&direct) && has_none(&indexed));
-    let mut again = Indexed48::from_direct(alloc, &mut direct)?;
-    assert!(rt; has_all(&again) && has_none(&direct));
-    let mut sorted = Sorted16::from_indexed(alloc, &mut again)?;
-    assert!(rt; has_all(&sorted) && has_none(&again));
-    let mut wide = Sorted24::from_resized(alloc, &mut sorted)?;
-    assert!(rt; has_all(&wide) && has_none(&sorted));
-    let last = Indexed48::from_sorted_keyed(alloc, &mut wide)?;
-    assert!(rt; has_all(&last) && has_none(&wide));
-    walks(&rt, last.into_iter(), &ASCENDING);
+    assert!(rt; new_refused::<16, Sorted16>(alloc));
+    assert!(rt; new_refused::<16, Keyed16>(alloc));
+    assert!(rt; new_refused::<48, Indexed48>(alloc));
+    assert!(rt; new_refused::<256, Direct256>(alloc));
+}
+
+// Each request of a conversion of sixteen children refused in turn: they stay in the source, and all go over, in order,
+// once there is memory.
+fn refused_in_turn<
+    const U: usize,
+    const W: usize,
+    S: NodeMapping<u8, U> + Made + Drop,
+    T: NodeMapping<u8, W> + From16<S> + Drop,
+>(alloc: Global) -> Result<bool, TreeError> {
+    let mut source = S::made(alloc)?;
+    if !fill(&mut source, &SCATTERED) {
+        return Ok(false);
+    }
+    for at in 1..100_usize {
+        refuse(alloc, at);
+        let answer = T::converted(alloc, &mut source);
+        let refused = was_refused(alloc);
+        match answer {
+            Ok(map) => {
+                return Ok(!refused && has_all(&map) && map.ascends() && has_none(&source));
+            }
+            Err(error) => {
+                if !refused
+                    || error != TreeError::Memory
+                    || !has_all(&source)
+                    || !source.ascends()
+                {
+                    return Ok(false);
+                }
+            }
+        }
+    }
+    Ok(false)
+}
+
+#[test]
+fn conversions_of_sorted_maps_refused_in_turn_keep_the_children(
+    rt: HostRuntime,
+) -> Result<(), Fail> {
+    let alloc = rt.alloc();
+    assert!(rt; refused_in_turn::<16, 24, Sorted16, Sorted24>(alloc)?);
+    assert!(rt; refused_in_turn::<24, 16, Sorted24, Sorted16>(alloc)?);
+    assert!(rt; refused_in_turn::<16, 48, Sorted16, Indexed48>(alloc)?);
+    Ok(())
+}
+
+#[test]
+fn conversions_of_indexed_and_direct_maps_refused_in_turn_keep_the_children(
+    rt: HostRuntime,
+) -> Result<(), Fail> {
+    let alloc = rt.alloc();
+    assert!(rt; refused_in_turn::<48, 16, Indexed48, Sorted16>(alloc)?);
+    assert!(rt; refused_in_turn::<48, 256, Indexed48, Direct256>(alloc)?);
+    assert!(rt; refused_in_turn::<256, 48, Direct256, Indexed48>(alloc)?);
+    Ok(())
+}
+
+#[test]
+fn conversions_of_keyed_maps_refused_in_turn_keep_the_children(
+    rt: HostRuntime,
+) -> Result<(), Fail> {
+    let alloc = rt.alloc();
+    assert!(rt; refused_in_turn::<16, 32, Keyed16, Keyed32>(alloc)?);
+    assert!(rt; refused_in_turn::<16, 48, Keyed16, Indexed48>(alloc)?);
     Ok(())
 }

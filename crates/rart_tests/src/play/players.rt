@@ -8,6 +8,7 @@ use crate::refusals::{refuse, was_refused};
 use rart::script::{Call, Reply, run};
 use rart::{KeyTrait, TreeError};
 use std::alloc::{AllocError, Global};
+use std::process::Abort;
 
 const FORMS: [Form; 3] = [Form::Step, Form::ByValue, Form::ByReference];
 
@@ -252,4 +253,11 @@ pub fn run_is_refused_in_turn<K: KeyTrait + Drop>(
         }
     }
     Ok(false)
+}
+
+/// Fails a test in which a row went another way.
+pub fn went_well(rt: &impl Abort, failed: Option<usize>) {
+    if let Some(row) = failed {
+        panic!(rt; "row {row} went another way");
+    }
 }
