@@ -53,7 +53,7 @@ trait Made: Sized {
     fn made(alloc: Global) -> Result<Self, TreeError>;
 
     /// Whether its walk gives the bytes in order. A map without a public walk has none that does not.
-    fn ascends(&self) -> bool;
+    fn is_in_order(&self) -> bool;
 }
 
 impl Made for Sorted16 {
@@ -61,7 +61,7 @@ impl Made for Sorted16 {
         Sorted16::new(alloc)
     }
 
-    fn ascends(&self) -> bool {
+    fn is_in_order(&self) -> bool {
         lends(self.iter(), &ASCENDING)
     }
 }
@@ -71,7 +71,7 @@ impl Made for Sorted24 {
         Sorted24::new(alloc)
     }
 
-    fn ascends(&self) -> bool {
+    fn is_in_order(&self) -> bool {
         lends(self.iter(), &ASCENDING)
     }
 }
@@ -81,7 +81,7 @@ impl Made for Keyed16 {
         Keyed16::new(alloc)
     }
 
-    fn ascends(&self) -> bool {
+    fn is_in_order(&self) -> bool {
         true
     }
 }
@@ -91,7 +91,7 @@ impl Made for Keyed32 {
         Keyed32::new(alloc)
     }
 
-    fn ascends(&self) -> bool {
+    fn is_in_order(&self) -> bool {
         true
     }
 }
@@ -101,7 +101,7 @@ impl Made for Indexed48 {
         Indexed48::new(alloc)
     }
 
-    fn ascends(&self) -> bool {
+    fn is_in_order(&self) -> bool {
         lends(self.iter(), &ASCENDING)
     }
 }
@@ -111,7 +111,7 @@ impl Made for Direct256 {
         Direct256::new(alloc)
     }
 
-    fn ascends(&self) -> bool {
+    fn is_in_order(&self) -> bool {
         lends(self.iter(), &ASCENDING)
     }
 }
@@ -232,13 +232,13 @@ fn refused_in_turn<
         let refused = was_refused(alloc);
         match answer {
             Ok(map) => {
-                return Ok(!refused && has_all(&map) && map.ascends() && has_none(&source));
+                return Ok(!refused && has_all(&map) && map.is_in_order() && has_none(&source));
             }
             Err(error) => {
                 if !refused
                     || error != TreeError::Memory
                     || !has_all(&source)
-                    || !source.ascends()
+                    || !source.is_in_order()
                 {
                     return Ok(false);
                 }

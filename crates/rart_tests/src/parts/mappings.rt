@@ -1,5 +1,4 @@
 //! The maps from bytes to children: rows of calls, walks, and dropped children.
-ghost use Rattle.std.specs.Prelude.{◌×◌};
 ghost use Rattle.std.specs.Iterator.{IsFinite};
 
 use crate::counted::Counted;

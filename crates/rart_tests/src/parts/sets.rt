@@ -1,5 +1,5 @@
 //! Sets of positions.
-ghost use Rattle.std.specs.Prelude.{◌<◌, ◌×◌, ◌^◌};
+ghost use Rattle.std.specs.Prelude.{◌<◌, ◌^◌};
 ghost use Rattle.std.specs.Iterator.{IsFinite};
 
 use rart::utils::bitset::{Bitset8, Bitset16, Bitset32, Bitset64, BitsetTrait};
@@ -126,7 +126,10 @@ const FULL_BYTES: Facts<'static> = Facts {
 };
 
 const FULL_WORD: Facts<'static> = Facts {
-    positions: FULL_BYTES.positions,
+    positions: &[
+        0, 1, 2, 3, 4, 5, 6, 7, 8, 9, 10, 11, 12, 13, 14, 15, 16, 17, 18, 19, 20, 21, 22, 23, 24,
+        25, 26, 27, 28, 29, 30, 31,
+    ],
     first_empty: None,
     bitmask: 0xffff_ffff,
     capacity: 32,
