@@ -1,12 +1,16 @@
 #!/usr/bin/env python3
-"""Runs the tests that refuse memory under the library that refuses it.
+"""Runs the tests that speak of refused memory under the library that refuses it.
 
 usage: refused_tests.py PASSED FAILED
 
-After the gate, each test program crates/*/out/*_tests has the tests; those with `refused_in_turn` in their name ask the library,
-by messages, to refuse one request after the other. Each runs here in a process of its own with the library preloaded.
-It passes where it ends with status 0 and a request was really refused. PASSED and FAILED are the gate's counts: the last
-line adds to them and closes the run.
+After the gate, each test program crates/*/out/*_tests has the tests. Two kinds, told by a word in their names, speak to the
+library by messages; each runs here in a process of its own with the library preloaded, and passes where it ends with status 0
+and, of those with
+
+  refused_in_turn            which have one request after the other refused, a request was really refused;
+  ask_for_nothing, asks_...  which say so of the calls in them, a message came and no request was refused.
+
+PASSED and FAILED are the gate's counts: the last line adds to them and closes the run.
 """
 import os
 import pathlib
@@ -17,6 +21,9 @@ import sys
 import tempfile
 
 TOP = pathlib.Path(__file__).resolve().parents[2]
+
+SWEEP = re.compile(r"refused_in_turn")
+QUIET = re.compile(r"asks?_for_nothing")
 
 
 def compiler():
@@ -36,12 +43,14 @@ def build(folder):
 
 
 def tests():
+    """The test programs, with the tests of both kinds."""
     for program in sorted(TOP.glob("crates/*/out/*_tests")):
         if not os.access(program, os.X_OK) or not program.is_file():
             continue
         listed = subprocess.run([program, "--list"], capture_output=True, text=True, timeout=60).stdout
-        for test in re.findall(r"^(\S*refused_in_turn\S*): test$", listed, re.M):
-            yield program, test
+        for test in re.findall(r"^(\S+): test$", listed, re.M):
+            if SWEEP.search(test) or QUIET.search(test):
+                yield program, test
 
 
 def run(program, test, library):
@@ -57,14 +66,20 @@ def run(program, test, library):
     refused = int(counts.get("refused", 0))
     if ended.returncode != 0:
         return f"status {ended.returncode}: {(ended.stdout + ended.stderr)[-600:]}", refused
-    return ("" if refused else "no request was refused"), refused
+    if int(counts.get("messages", 0)) == 0:
+        return "no message came", refused
+    if SWEEP.search(test) and not refused:
+        return "no request was refused", refused
+    if QUIET.search(test) and refused:
+        return "memory was asked for", refused
+    return "", refused
 
 
 def main():
     passed, failed = int(sys.argv[1]), int(sys.argv[2])
+    found = list(tests())
     with tempfile.TemporaryDirectory() as folder:
         library = build(folder)
-        found = list(tests())
         for program, test in found:
             why, refused = run(program, test, library)
             print(f"refused: {program.name[:-6]} {test}: {'FAILED: ' + why if why else 'ok'}, {refused} requests refused")
@@ -72,9 +87,10 @@ def main():
                 failed += 1
             else:
                 passed += 1
-    if not found:
-        print("refused: no test found")
-        failed += 1
+    for kind in (SWEEP, QUIET):
+        if not any(kind.search(test) for _, test in found):
+            print(f"refused: no test named {kind.pattern}")
+            failed += 1
     print(f"{passed} passed, {failed} failed")
     return 1 if failed else 0
 

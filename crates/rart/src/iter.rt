@@ -25,6 +25,3 @@ impl<K: KeyTrait, V> AdaptiveRadixTree<K, V> {
         self.seen().values_iter()
     }
 }
-
-#[cfg(test)]
-mod tests;

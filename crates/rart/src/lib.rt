@@ -19,8 +19,3 @@ pub use crate::tree::guarded::{NotInserted, TryInsertError};
 pub use rart_keys::{ArrPartial, ArrayKey, KeyTrait, Partial, keys, partials};
 pub use rart_nodes::{Count, Refused, Seen, Visits, node};
 pub use rart_parts::{TreeError, mapping, utils};
-
-#[cfg(test)]
-mod node_tests;
-#[cfg(test)]
-mod tests;

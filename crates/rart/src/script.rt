@@ -190,6 +190,3 @@ pub fn run<K: KeyTrait + Drop, V: Copy>(
     tree.canonical();
     Ok(replies)
 }
-
-#[cfg(test)]
-mod tests;

@@ -13,6 +13,3 @@ pub use crate::keys::KeyTrait;
 pub use crate::keys::array_key::ArrayKey;
 pub use crate::partials::Partial;
 pub use crate::partials::array_partial::ArrPartial;
-
-#[cfg(test)]
-mod tests;

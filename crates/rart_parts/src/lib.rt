@@ -15,8 +15,3 @@ pub mod mapping;
 pub mod utils;
 
 pub use error::TreeError;
-
-#[cfg(test)]
-mod counted;
-#[cfg(test)]
-mod refusals;

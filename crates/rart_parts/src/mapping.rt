@@ -57,8 +57,3 @@ pub trait NodeMapping<N, const NUM_CHILDREN: usize> {
         NUM_CHILDREN
     }
 }
-
-#[cfg(test)]
-mod refused_tests;
-#[cfg(test)]
-mod tests;

@@ -3,6 +3,4 @@
 pub mod bitarray;
 pub mod bitset;
 pub(crate) mod places;
-#[cfg(test)]
-mod tests;
 pub mod u8_keys;

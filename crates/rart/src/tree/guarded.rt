@@ -126,6 +126,3 @@ struct Tried<K, V> {
     key: K,
     outcome: Result<(), NotInserted<V>>,
 }
-
-#[cfg(test)]
-mod tests;

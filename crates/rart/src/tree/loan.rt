@@ -29,6 +29,3 @@ impl<K: KeyTrait, V> AdaptiveRadixTree<K, V> {
         self.get_mut_k(&key)
     }
 }
-
-#[cfg(test)]
-mod tests;

@@ -1,40 +1,52 @@
 use crate::node::storage::Storage;
+use crate::node::{DefaultNode, Node};
+use rart_keys::{ArrPartial, Partial};
 use rart_parts::mapping::NodeMapping;
 use std::alloc::Global;
 use std::process::Abort;
 
-// A storage of `count` children, each of which is its byte.
-fn filled(rt: &impl Abort, alloc: Global, count: usize) -> Storage<u8> {
-    let mut storage = Storage::empty();
-    for byte in 0..=255u8 {
-        if usize::from(byte) < count {
-            assert!(rt; storage.seek_child(byte).is_none());
-            match storage.make_room(alloc, byte) {
-                Ok(()) => storage.add_within(byte, byte),
-                Err(_refused) => assert!(rt; false, "refused with ample memory"),
-            }
-        }
-    }
-    storage
+type TestNode = DefaultNode<ArrPartial<4>, u8>;
+
+fn leaf(byte: u8) -> TestNode {
+    TestNode::new_leaf(ArrPartial::<4>::from_slice(&[byte]), byte)
 }
 
-// The width of a storage, how many children are in it, and the one at byte 3, by the map's own calls.
-fn seen_in(storage: &Storage<u8>) -> (usize, usize, Option<u8>) {
-    match storage {
+// A node of `count` children, each of which has its byte as its value.
+fn filled(rt: &impl Abort, alloc: Global, count: usize) -> TestNode {
+    let mut node = leaf(0);
+    for byte in 0..=255_u8 {
+        if usize::from(byte) < count {
+            assert!(rt; node.seek_child(byte).is_none());
+            assert!(rt; node.add_child(alloc, byte, leaf(byte)).is_ok());
+        }
+    }
+    node
+}
+
+// What the map itself says: its width, how many children it has, and the value of the one at byte 3.
+fn seen_in<const W: usize>(map: &impl NodeMapping<TestNode, W>) -> (usize, usize, Option<u8>) {
+    let third = match map.seek_child(3) {
+        Some(child) => child.value().copied(),
+        None => None,
+    };
+    (map.width(), map.num_children(), third)
+}
+
+fn seen_in_storage(node: &TestNode) -> (usize, usize, Option<u8>) {
+    match &node.storage {
         Storage::Leaf => (0, 0, None),
-        Storage::Four(map) => (map.width(), map.num_children(), map.seek_child(3).copied()),
-        Storage::Sixteen(map) => (map.width(), map.num_children(), map.seek_child(3).copied()),
-        Storage::FortyEight(map) => (map.width(), map.num_children(), map.seek_child(3).copied()),
-        Storage::Full(map) => (map.width(), map.num_children(), map.seek_child(3).copied()),
+        Storage::Four(map) => seen_in(&**map),
+        Storage::Sixteen(map) => seen_in(&**map),
+        Storage::FortyEight(map) => seen_in(&**map),
+        Storage::Full(map) => seen_in(&**map),
     }
 }
 
 #[test]
-fn each_kind_is_a_map_of_its_own(rt: HostRuntime) {
-    let alloc = rt.alloc();
-    for count in [0usize, 4, 16, 48, 256] {
-        let storage = filled(&rt, alloc, count);
+fn the_children_of_a_node_stand_in_the_map_of_their_number(rt: HostRuntime) {
+    for count in [0_usize, 4, 16, 48, 256] {
+        let node = filled(&rt, rt.alloc(), count);
         let third = (count > 0).then_some(3);
-        assert_eq!(rt; seen_in(&storage), (count, count, third));
+        assert_eq!(rt; seen_in_storage(&node), (count, count, third));
     }
 }

@@ -1,0 +1,5 @@
+//! Tests of keys and of parts of keys.
+
+mod numbers;
+mod parts;
+mod whole;

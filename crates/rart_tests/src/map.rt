@@ -1,0 +1,10 @@
+//! Tests of the map.
+
+mod asks_for_nothing;
+mod drops;
+mod iterators;
+mod laws;
+mod refused_in_turn;
+mod replies;
+mod statistics;
+mod texts;

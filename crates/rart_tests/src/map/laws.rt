@@ -1,0 +1,155 @@
+//! The laws, called on trees that aren't empty.
+ghost use Rattle.std.specs.Prelude.{◌≡◌, ◌∷◌, []};
+ghost use Rattle.rart_keys.specs.SortedMap.{put};
+
+use crate::play::replies::is_counted;
+use rart::{AdaptiveRadixTree, ArrayKey, KeyTrait, TreeStatsTrait, laws};
+use std::alloc::Global;
+use std::process::Abort;
+use std::test::Fail;
+
+type Tree<K> = AdaptiveRadixTree<K, u64>;
+
+type Key = ArrayKey<4>;
+
+fn store<K: KeyTrait>(rt: &impl Abort, tree: &mut Tree<K>, key: &K, value: u64)
+    ensures { tree.new.pairs ≡ put (K.bytes key.now) value tree.old.pairs }
+{
+    match tree.insert_k(key, value) {
+        Ok(_old) => {}
+        Err(_refused) => panic!(rt; "refused with ample memory"),
+    }
+}
+
+// The first key with 5 and the second with 4.
+fn two_keys<K: KeyTrait>(rt: &impl Abort, alloc: Global, first: &K, second: &K) -> Tree<K>
+    ensures { result.pairs ≡ put (K.bytes second.now) 4 (put (K.bytes first.now) 5 []) }
+{
+    let mut tree = Tree::new(alloc);
+    store(rt, &mut tree, first, 5);
+    store(rt, &mut tree, second, 4);
+    tree
+}
+
+fn dog_and_do(rt: &impl Abort, alloc: Global) -> Tree<Key>
+    ensures { result.pairs ≡ put (100 ∷ 111 ∷ []) 4 (put (100 ∷ 111 ∷ 103 ∷ []) 5 []) }
+{
+    two_keys(
+        rt,
+        alloc,
+        &Key::new_from_slice(b"dog"),
+        &Key::new_from_slice(b"do"),
+    )
+}
+
+// What is found at `cat`, which is put in, and at another key.
+fn put_and_found(
+    rt: &impl Abort,
+    tree: &mut Tree<Key>,
+    other: &[u8],
+) -> (Option<u64>, Option<u64>) {
+    assert!(rt; other.len() <= 4);
+    match laws::insert_then_get(
+        tree,
+        &Key::new_from_slice(b"cat"),
+        6,
+        &Key::new_from_slice(other),
+    ) {
+        Ok((found, kept)) => (found.copied(), kept.copied()),
+        Err(_refused) => panic!(rt; "refused with ample memory"),
+    }
+}
+
+#[test]
+fn a_key_that_was_put_in_is_found_beside_the_others(rt: HostRuntime) {
+    let mut tree = dog_and_do(&rt, rt.alloc());
+    assert_eq!(rt; put_and_found(&rt, &mut tree, b"do"), (Some(6), Some(4)));
+    assert_eq!(rt; put_and_found(&rt, &mut tree, b"dog"), (Some(6), Some(5)));
+    assert_eq!(rt; put_and_found(&rt, &mut tree, b"d"), (Some(6), None));
+    assert_eq!(rt; tree.len(), 3);
+}
+
+// What a new key's insertion and its removal answer.
+fn put_and_removed(rt: &impl Abort, tree: &mut Tree<Key>, key: &Key) -> (Option<u64>, Option<u64>)
+    ensures { tree.new.pairs ≡ tree.old.pairs }
+{
+    if tree.get_k(key).is_some() {
+        panic!(rt; "the key is not new");
+    }
+    match laws::insert_then_remove(tree, key, 6) {
+        Ok((inserted, Ok(removed))) => (inserted, removed),
+        _ => panic!(rt; "refused with ample memory"),
+    }
+}
+
+#[test]
+fn a_new_key_removed_right_after_leaves_all_as_it_was(rt: HostRuntime) -> Result<(), Fail> {
+    let mut tree = dog_and_do(&rt, rt.alloc());
+    let before = tree.get_tree_stats()?;
+    let answers = put_and_removed(&rt, &mut tree, &Key::new_from_slice(b"cat"));
+    assert_eq!(rt; answers, (None, Some(6)));
+    assert!(rt; tree.get_tree_stats()? == before);
+    assert_eq!(rt; tree.get_bytes(b"cat"), None);
+    assert_eq!(rt; tree.get_bytes(b"dog"), Some(&5));
+    assert_eq!(rt; tree.get_bytes(b"do"), Some(&4));
+    Ok(())
+}
+
+#[test]
+fn statistics_before_a_new_key_are_those_after_its_removal(rt: HostRuntime) {
+    let mut tree = dog_and_do(&rt, rt.alloc());
+    let key = Key::new_from_slice(b"dot");
+    if tree.get_k(&key).is_some() {
+        panic!(rt; "the key is not new");
+    }
+    match laws::insert_then_remove_statistics(&mut tree, &key, 6) {
+        Ok((before, after)) => {
+            assert!(rt; is_counted(&before, &[1, 2, 1, 2], &[(4, 1, 1)]));
+            assert!(rt; before == after);
+        }
+        Err(_refused) => assert!(rt; false, "refused with ample memory"),
+    }
+}
+
+#[test]
+fn pairs_and_values_are_walked_side_by_side(rt: HostRuntime) {
+    let tree = dog_and_do(&rt, rt.alloc());
+    let Ok((mut pairs, mut values)) = laws::pairs_and_values(&tree) else {
+        panic!(rt; "refused with ample memory")
+    };
+    for (bytes, value) in [(b"do".as_slice(), 4_u64), (b"dog", 5)] {
+        match pairs.next() {
+            Some((key, stored)) => assert!(rt; key.as_ref() == bytes && *stored == value),
+            None => assert!(rt; false, "ended early"),
+        }
+        assert_eq!(rt; values.next(), Some(&value));
+    }
+    assert!(rt; pairs.next().is_none() && values.next().is_none());
+}
+
+// Two trees of equal keys have equal nodes and statistics.
+fn compare<K: KeyTrait, L: KeyTrait>(rt: &impl Abort, one: &Tree<K>, other: &Tree<L>)
+    requires { one.now.pairs ≡ other.now.pairs }
+{
+    laws::equal_keys_equal_nodes(one, other);
+    match laws::equal_keys_equal_statistics(one, other) {
+        Ok((left, right)) => {
+            assert!(rt; is_counted(&left, &[1, 2, 1, 2], &[(4, 1, 1)]));
+            assert!(rt; left == right);
+        }
+        Err(_refused) => assert!(rt; false, "refused with ample memory"),
+    }
+}
+
+#[test]
+fn trees_with_equal_keys_have_equal_statistics(rt: HostRuntime) {
+    let mut one = dog_and_do(&rt, rt.alloc());
+    let other = two_keys(
+        &rt,
+        rt.alloc(),
+        &ArrayKey::<16>::new_from_slice(b"dog"),
+        &ArrayKey::<16>::new_from_slice(b"do"),
+    );
+    let _answers = put_and_removed(&rt, &mut one, &Key::new_from_slice(b"dot"));
+    compare(&rt, &one, &other);
+}

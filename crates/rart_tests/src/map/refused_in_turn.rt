@@ -1,0 +1,247 @@
+//! Each request for memory refused in turn: a refused call changes nothing and hands its value back, and with memory
+//! it answers as if none had been refused.
+
+use crate::play::replies::is_counted;
+use crate::play::{
+    Ask, Row, Want, plays_as_run, plays_refused_in_turn, run_is_refused_in_turn, went_well,
+};
+use crate::refusals::{refuse, was_refused};
+use rart::{AdaptiveRadixTree, ArrayKey, KeyTrait, Refused, TreeError, TreeStatsTrait};
+use std::test::Fail;
+
+const SPLITS: [Row<'static>; 8] = [
+    (Ask::Insert("abcd", 1), Want::None),
+    (Ask::Insert("abxy", 2), Want::None),
+    (Ask::Stats, Want::Counts([2, 2, 1, 2], &[(4, 1, 2)])),
+    (Ask::Remove("abcd"), Want::Some(1)),
+    (Ask::Insert("abxyz", 3), Want::None),
+    (Ask::TryInsert("abx", 4), Want::Inserted),
+    (Ask::InsertNew("a", 5), Want::Inserted),
+    (
+        Ask::Iter,
+        Want::Pairs(&[("a", 5), ("abx", 4), ("abxy", 2), ("abxyz", 3)]),
+    ),
+];
+
+#[test]
+fn splits_refused_in_turn(rt: HostRuntime) {
+    went_well(
+        &rt,
+        plays_refused_in_turn::<ArrayKey<16>>(rt.alloc(), &SPLITS),
+    );
+}
+
+const SPLIT_ABOVE: [Row<'static>; 4] = [
+    (Ask::Insert("abcd", 1), Want::None),
+    (Ask::Insert("ab", 3), Want::None),
+    (Ask::Stats, Want::Counts([1, 2, 1, 2], &[(4, 1, 1)])),
+    (Ask::Iter, Want::Pairs(&[("ab", 3), ("abcd", 1)])),
+];
+
+#[test]
+fn a_split_above_a_leaf_refused_in_turn(rt: HostRuntime) {
+    went_well(
+        &rt,
+        plays_refused_in_turn::<ArrayKey<16>>(rt.alloc(), &SPLIT_ABOVE),
+    );
+}
+
+const GROWTH: [Row<'static>; 10] = [
+    (Ask::Fill(b"", 0, 4), Want::Is(true)),
+    (Ask::Insert("\x04", 4), Want::None),
+    (Ask::Stats, Want::Counts([5, 5, 1, 2], &[(16, 1, 5)])),
+    (Ask::Fill(b"", 5, 16), Want::Is(true)),
+    (Ask::Insert("\x10", 16), Want::None),
+    (Ask::Stats, Want::Counts([17, 17, 1, 2], &[(48, 1, 17)])),
+    (Ask::Fill(b"", 17, 48), Want::Is(true)),
+    (Ask::Insert("0", 48), Want::None),
+    (Ask::Stats, Want::Counts([49, 49, 1, 2], &[(256, 1, 49)])),
+    (Ask::Holds(b"", 49), Want::Is(true)),
+];
+
+#[test]
+fn growing_insertions_refused_in_turn(rt: HostRuntime) {
+    went_well(
+        &rt,
+        plays_refused_in_turn::<ArrayKey<16>>(rt.alloc(), &GROWTH),
+    );
+}
+
+const GROWTH_BY_NEW_KEYS: [Row<'static>; 7] = [
+    (Ask::Fill(b"", 0, 4), Want::Is(true)),
+    (Ask::TryInsert("\x04", 4), Want::Inserted),
+    (Ask::Fill(b"", 5, 16), Want::Is(true)),
+    (Ask::TryInsert("\x10", 16), Want::Inserted),
+    (Ask::Fill(b"", 17, 48), Want::Is(true)),
+    (Ask::TryInsert("0", 48), Want::Inserted),
+    (Ask::Holds(b"", 49), Want::Is(true)),
+];
+
+#[test]
+fn growing_insertions_of_new_keys_refused_in_turn(rt: HostRuntime) {
+    went_well(
+        &rt,
+        plays_refused_in_turn::<ArrayKey<16>>(rt.alloc(), &GROWTH_BY_NEW_KEYS),
+    );
+}
+
+const SHRINKING: [Row<'static>; 10] = [
+    (Ask::Fill(b"", 0, 49), Want::Is(true)),
+    (Ask::Remove("0"), Want::Some(48)),
+    (Ask::Stats, Want::Counts([48, 48, 1, 2], &[(48, 1, 48)])),
+    (Ask::Empty(b"", 17, 48), Want::Is(true)),
+    (Ask::Remove("\x10"), Want::Some(16)),
+    (Ask::Stats, Want::Counts([16, 16, 1, 2], &[(16, 1, 16)])),
+    (Ask::Empty(b"", 5, 16), Want::Is(true)),
+    (Ask::Remove("\x01"), Want::Some(1)),
+    (Ask::Stats, Want::Counts([4, 4, 1, 2], &[(4, 1, 4)])),
+    (Ask::Values, Want::Values(&[0, 2, 3, 4])),
+];
+
+#[test]
+fn shrinking_removals_refused_in_turn(rt: HostRuntime) {
+    went_well(
+        &rt,
+        plays_refused_in_turn::<ArrayKey<16>>(rt.alloc(), &SHRINKING),
+    );
+}
+
+const SHRINKING_BY_DELETION: [Row<'static>; 7] = [
+    (Ask::Fill(b"", 0, 49), Want::Is(true)),
+    (Ask::Delete("0"), Want::Is(true)),
+    (Ask::Empty(b"", 17, 48), Want::Is(true)),
+    (Ask::Delete("\x10"), Want::Is(true)),
+    (Ask::Empty(b"", 5, 16), Want::Is(true)),
+    (Ask::Delete("\x04"), Want::Is(true)),
+    (Ask::Holds(b"", 4), Want::Is(true)),
+];
+
+#[test]
+fn shrinking_deletions_refused_in_turn(rt: HostRuntime) {
+    went_well(
+        &rt,
+        plays_refused_in_turn::<ArrayKey<16>>(rt.alloc(), &SHRINKING_BY_DELETION),
+    );
+}
+
+const FOUR_WIDTHS: [Row<'static>; 6] = [
+    (Ask::Fill(b"a", 0, 2), Want::Is(true)),
+    (Ask::Fill(b"b", 0, 5), Want::Is(true)),
+    (Ask::Fill(b"c", 0, 17), Want::Is(true)),
+    (Ask::Fill(b"d", 0, 49), Want::Is(true)),
+    (
+        Ask::Stats,
+        Want::Counts(
+            [73, 73, 5, 3],
+            &[(4, 2, 6), (16, 1, 5), (48, 1, 17), (256, 1, 49)],
+        ),
+    ),
+    (Ask::Len, Want::Len(73)),
+];
+
+#[test]
+fn statistics_refused_in_turn(rt: HostRuntime) {
+    went_well(
+        &rt,
+        plays_refused_in_turn::<ArrayKey<16>>(rt.alloc(), &FOUR_WIDTHS),
+    );
+}
+
+const EVERY_CALL: [Row<'static>; 25] = [
+    (Ask::Insert("\0", 0), Want::None),
+    (Ask::Insert("\x01", 1), Want::None),
+    (Ask::Insert("\x02", 2), Want::None),
+    (Ask::Insert("\x03", 3), Want::None),
+    (Ask::Insert("\x04", 4), Want::None),
+    (Ask::Stats, Want::Counts([5, 5, 1, 2], &[(16, 1, 5)])),
+    (Ask::Remove("\x04"), Want::Some(4)),
+    (Ask::Insert("\x04", 9), Want::None),
+    (Ask::TryInsert("\x04", 8), Want::Occupied(8, 9)),
+    (Ask::TryInsert("\x03x", 7), Want::Inserted),
+    (Ask::Delete("\x02"), Want::Is(true)),
+    (Ask::Delete("\x02"), Want::Is(false)),
+    (Ask::Get("\0"), Want::Some(0)),
+    (
+        Ask::Iter,
+        Want::Pairs(&[
+            ("\0", 0),
+            ("\x01", 1),
+            ("\x03", 3),
+            ("\x03x", 7),
+            ("\x04", 9),
+        ]),
+    ),
+    (Ask::Values, Want::Values(&[0, 1, 3, 7, 9])),
+    (Ask::Len, Want::Len(5)),
+    (Ask::IsEmpty, Want::Is(false)),
+    (Ask::Insert("abcd", 10), Want::None),
+    (Ask::Insert("abce", 11), Want::None),
+    (
+        Ask::Stats,
+        Want::Counts([6, 7, 3, 3], &[(4, 2, 3), (16, 1, 5)]),
+    ),
+    (Ask::Remove("abcd"), Want::Some(10)),
+    (Ask::Remove("\x01"), Want::Some(1)),
+    (Ask::Get("abce"), Want::Some(11)),
+    (Ask::Remove("missing"), Want::None),
+    (Ask::Values, Want::Values(&[0, 3, 7, 9, 11])),
+];
+
+#[test]
+fn runs_refused_in_turn_go_on_without_the_refused_call(rt: HostRuntime) -> Result<(), Fail> {
+    went_well(&rt, plays_as_run::<ArrayKey<16>>(rt.alloc(), &EVERY_CALL)?);
+    assert!(rt; run_is_refused_in_turn::<ArrayKey<16>>(rt.alloc(), &EVERY_CALL)?);
+    Ok(())
+}
+
+const LISTS: [Row<'static>; 4] = [
+    (Ask::Insert("ab", 1), Want::None),
+    (Ask::Insert("a", 2), Want::None),
+    (Ask::Iter, Want::Pairs(&[("a", 2), ("ab", 1)])),
+    (Ask::Values, Want::Values(&[2, 1])),
+];
+
+#[test]
+fn lists_of_pairs_and_values_refused_in_turn(rt: HostRuntime) {
+    went_well(
+        &rt,
+        plays_refused_in_turn::<ArrayKey<4>>(rt.alloc(), &LISTS),
+    );
+}
+
+type Tree = AdaptiveRadixTree<ArrayKey<4>, u64>;
+
+fn put(tree: &mut Tree, byte: u8) -> Result<Option<u64>, Refused<u64>> {
+    tree.insert_k(&ArrayKey::<4>::new_from_slice(&[byte]), u64::from(byte))
+}
+
+fn has_counts(tree: &Tree, counts: &[usize; 4], widths: &[(usize, usize, usize)]) -> bool {
+    match tree.get_tree_stats() {
+        Ok(stats) => is_counted(&stats, counts, widths),
+        Err(_refused) => false,
+    }
+}
+
+// With the next request refused a fourth key is put in and a fifth isn't, and the statistics say so.
+#[test]
+fn a_fifth_key_refused_in_turn_leaves_four(rt: HostRuntime) {
+    let alloc = rt.alloc();
+    let mut tree = Tree::new(alloc);
+    for byte in 0..3_u8 {
+        assert!(rt; put(&mut tree, byte).is_ok());
+    }
+    refuse(alloc, 1);
+    let fourth = put(&mut tree, 3);
+    let fifth = put(&mut tree, 4);
+    let refused = was_refused(alloc);
+    assert!(rt; matches!(fourth, Ok(None)));
+    match fifth {
+        Ok(old) => assert!(rt; !refused && old.is_none()),
+        Err(back) => {
+            assert!(rt; refused && back.error == TreeError::Memory && back.value == 4);
+            assert!(rt; has_counts(&tree, &[4, 4, 1, 2], &[(4, 1, 4)]));
+            assert!(rt; matches!(put(&mut tree, 4), Ok(None)));
+        }
+    }
+    assert!(rt; has_counts(&tree, &[5, 5, 1, 2], &[(16, 1, 5)]));
+}

@@ -1,0 +1,88 @@
+//! Keys made of texts and numbers.
+
+use crate::play::{Ask, Row, Want, plays_texts, went_well};
+use rart::script::{Call, Reply, step};
+use rart::{AdaptiveRadixTree, ArrayKey};
+use std::alloc::Global;
+use std::process::Abort;
+
+const LATEST: [Row<'static>; 3] = [
+    (Ask::Insert("key1", 100), Want::None),
+    (Ask::Insert("key1", 200), Want::Some(100)),
+    (Ask::Get("key1"), Want::Some(200)),
+];
+
+#[test]
+fn a_text_gives_its_latest_value(rt: HostRuntime) {
+    went_well(&rt, plays_texts::<ArrayKey<16>>(rt.alloc(), &LATEST));
+}
+
+const BEGINNINGS: [Row<'static>; 4] = [
+    (Ask::Insert("a", 1), Want::None),
+    (Ask::Insert("ab", 2), Want::None),
+    (Ask::Insert("abc", 3), Want::None),
+    (Ask::Values, Want::Values(&[1, 2, 3])),
+];
+
+#[test]
+fn values_of_texts_that_begin_one_another(rt: HostRuntime) {
+    went_well(&rt, plays_texts::<ArrayKey<16>>(rt.alloc(), &BEGINNINGS));
+}
+
+const AMONG_OTHERS: [Row<'static>; 14] = [
+    (Ask::Insert("abcd", 1), Want::None),
+    (Ask::Insert("abc", 2), Want::None),
+    (Ask::Insert("abcde", 3), Want::None),
+    (Ask::Insert("xyz", 4), Want::None),
+    (Ask::Insert("xyz", 5), Want::Some(4)),
+    (Ask::Insert("axyz", 6), Want::None),
+    (Ask::Insert("1245zzz", 6), Want::None),
+    (Ask::Len, Want::Len(6)),
+    (Ask::Remove("abcde"), Want::Some(3)),
+    (Ask::Remove("abc"), Want::Some(2)),
+    (Ask::Get("abcd"), Want::Some(1)),
+    (Ask::Get("axyz"), Want::Some(6)),
+    (Ask::Get("xyz"), Want::Some(5)),
+    (
+        Ask::Iter,
+        Want::Pairs(&[("1245zzz", 6), ("abcd", 1), ("axyz", 6), ("xyz", 5)]),
+    ),
+];
+
+#[test]
+fn texts_removed_among_others(rt: HostRuntime) {
+    went_well(&rt, plays_texts::<ArrayKey<16>>(rt.alloc(), &AMONG_OTHERS));
+}
+
+type Key = ArrayKey<16>;
+
+// The keys are put in with their values, each is found, and a walk gives them in this order.
+fn are_walked(rt: &impl Abort, alloc: Global, put: &[(Key, u64)], walked: &[(Key, u64)]) {
+    let mut tree = AdaptiveRadixTree::<Key, u64>::new(alloc);
+    for (key, value) in put {
+        assert!(rt; matches!(tree.insert(*key, *value), Ok(None)));
+    }
+    for (key, value) in put {
+        assert_eq!(rt; tree.get_k(key), Some(value));
+    }
+    match step(alloc, &mut tree, Call::Iter) {
+        Reply::Pairs(found) => assert!(rt; found.as_slice() == walked),
+        _ => assert!(rt; false, "no pairs"),
+    }
+}
+
+#[test]
+fn signed_bytes_come_in_their_order(rt: HostRuntime) {
+    let pair = |number: i8, value: u64| (Key::from_i8(number), value);
+    let put = [pair(0, 0), pair(127, 1), pair(-128, 2), pair(-1, 3)];
+    let walked = [pair(-128, 2), pair(-1, 3), pair(0, 0), pair(127, 1)];
+    are_walked(&rt, rt.alloc(), &put, &walked);
+}
+
+#[test]
+fn numbers_keep_their_values(rt: HostRuntime) {
+    let pair = |number: i32, value: u64| (Key::from_i32(number), value);
+    let put = [pair(500, 3), pair(666, 2), pair(1, 1)];
+    let walked = [pair(1, 1), pair(500, 3), pair(666, 2)];
+    are_walked(&rt, rt.alloc(), &put, &walked);
+}

@@ -1,0 +1,263 @@
+//! Rows played on an empty tree, as they are and with requests for memory refused. Each play answers the first row that
+//! went another way than wanted: None where all went well.
+
+use super::forms::{answer, call};
+use super::replies::{are_alike, are_same, is, is_refusal};
+use super::{Ask, Form, How, Row, Spelling, Tree};
+use crate::refusals::{refuse, was_refused};
+use rart::script::{Call, Reply, run};
+use rart::{KeyTrait, TreeError};
+use std::alloc::{AllocError, Global};
+use std::process::Abort;
+
+const FORMS: [Form; 3] = [Form::Step, Form::ByValue, Form::ByReference];
+
+const BY_BYTES: How = How {
+    form: Form::Step,
+    spelling: Spelling::Bytes,
+};
+
+// Makes the call, and tells whether the reply is the wanted one.
+fn goes_well<K: KeyTrait + Drop>(
+    alloc: Global,
+    tree: &mut Tree<K>,
+    row: &Row<'_>,
+    how: How,
+) -> bool {
+    match answer(alloc, tree, row.0, how) {
+        Some(reply) => is(&reply, &row.1, how.spelling),
+        None => false,
+    }
+}
+
+fn play<K: KeyTrait + Drop>(
+    alloc: Global,
+    tree: &mut Tree<K>,
+    rows: &[Row<'_>],
+    how: How,
+) -> Option<usize> {
+    let mut at = 0_usize;
+    for row in rows {
+        if !goes_well(alloc, tree, row, how) {
+            return Some(at);
+        }
+        at = at.wrapping_add(1);
+    }
+    None
+}
+
+fn plays_spelled<K: KeyTrait + Drop>(
+    alloc: Global,
+    rows: &[Row<'_>],
+    spelling: Spelling,
+) -> Option<usize> {
+    for form in FORMS {
+        let mut tree = Tree::<K>::new(alloc);
+        let failed = play(alloc, &mut tree, rows, How { form, spelling });
+        if failed.is_some() {
+            return failed;
+        }
+    }
+    None
+}
+
+/// Plays the rows in each form of their calls.
+pub fn plays<K: KeyTrait + Drop>(alloc: Global, rows: &[Row<'_>]) -> Option<usize> {
+    plays_spelled::<K>(alloc, rows, Spelling::Bytes)
+}
+
+/// Plays the rows with the keys of the texts.
+pub fn plays_texts<K: KeyTrait + Drop>(alloc: Global, rows: &[Row<'_>]) -> Option<usize> {
+    plays_spelled::<K>(alloc, rows, Spelling::Text)
+}
+
+// Makes the call with its first request refused, then with its second and so on, each of which leaves `tree` as
+// `unrefused` is, and at last with memory. A row of many calls is made with memory alone.
+fn sweep<K: KeyTrait + Drop>(
+    alloc: Global,
+    tree: &mut Tree<K>,
+    unrefused: &Tree<K>,
+    row: &Row<'_>,
+    how: How,
+) -> bool {
+    let many = matches!(
+        row.0,
+        Ask::Fill(_, _, _) | Ask::Empty(_, _, _) | Ask::Holds(_, _)
+    );
+    for at in 1..100_usize {
+        refuse(alloc, if many { 0 } else { at });
+        let reply = answer(alloc, tree, row.0, how);
+        let refused = was_refused(alloc);
+        let Some(reply) = reply else {
+            return false;
+        };
+        if !refused {
+            return is(&reply, &row.1, how.spelling);
+        }
+        if !is_refusal(&reply, &row.0) || !are_alike(tree, unrefused) {
+            return false;
+        }
+    }
+    false
+}
+
+fn sweep_all<K: KeyTrait + Drop>(alloc: Global, rows: &[Row<'_>], how: How) -> Option<usize> {
+    let mut tree = Tree::<K>::new(alloc);
+    let mut unrefused = Tree::<K>::new(alloc);
+    let mut at = 0_usize;
+    for row in rows {
+        let swept = sweep(alloc, &mut tree, &unrefused, row, how);
+        if !swept || !goes_well(alloc, &mut unrefused, row, how) || !are_alike(&tree, &unrefused) {
+            return Some(at);
+        }
+        at = at.wrapping_add(1);
+    }
+    None
+}
+
+/// Plays the rows in each form, each call with its requests refused in turn: a refused call changes nothing, and behind
+/// each row the tree is as one that met no refusal.
+pub fn plays_refused_in_turn<K: KeyTrait + Drop>(alloc: Global, rows: &[Row<'_>]) -> Option<usize> {
+    for form in FORMS {
+        let failed = sweep_all::<K>(
+            alloc,
+            rows,
+            How {
+                form,
+                spelling: Spelling::Bytes,
+            },
+        );
+        if failed.is_some() {
+            return failed;
+        }
+    }
+    None
+}
+
+/// Plays the first rows, and then the others, none of which may ask for memory; a row that did is one behind the last.
+pub fn plays_asking_for_nothing<K: KeyTrait + Drop>(
+    alloc: Global,
+    before: &[Row<'_>],
+    rows: &[Row<'_>],
+) -> Option<usize> {
+    for form in FORMS {
+        let how = How {
+            form,
+            spelling: Spelling::Bytes,
+        };
+        let mut tree = Tree::<K>::new(alloc);
+        if play(alloc, &mut tree, before, how).is_some() {
+            return Some(rows.len());
+        }
+        refuse(alloc, 1);
+        let failed = play(alloc, &mut tree, rows, how);
+        if was_refused(alloc) {
+            return Some(rows.len());
+        }
+        if failed.is_some() {
+            return failed;
+        }
+    }
+    None
+}
+
+// The calls as values.
+fn calls<K: KeyTrait>(alloc: Global, rows: &[Row<'_>]) -> Result<Vec<Call<K, u64>>, AllocError>
+where
+    K: Drop,
+{
+    let mut calls = Vec::with_capacity(alloc, rows.len())?;
+    for (ask, _) in rows {
+        if let Some(call) = call(*ask, Spelling::Bytes) {
+            calls.push(call)?;
+        }
+    }
+    Ok(calls)
+}
+
+/// Plays the rows, whose calls are values, as one run.
+pub fn plays_as_run<K: KeyTrait + Drop>(
+    alloc: Global,
+    rows: &[Row<'_>],
+) -> Result<Option<usize>, TreeError> {
+    let mut tree = Tree::<K>::new(alloc);
+    let replies = run(alloc, &mut tree, calls(alloc, rows)?)?;
+    if replies.len() != rows.len() {
+        return Ok(Some(rows.len()));
+    }
+    let mut at = 0_usize;
+    for (reply, row) in replies.iter().zip(rows) {
+        if !is(reply, &row.1, Spelling::Bytes) {
+            return Ok(Some(at));
+        }
+        at = at.wrapping_add(1);
+    }
+    Ok(None)
+}
+
+// How many calls of a run were refused. The replies to the others are those of a run without the refused calls, which
+// is made on `unrefused`; None where they aren't.
+fn refused_calls<K: KeyTrait + Drop>(
+    alloc: Global,
+    unrefused: &mut Tree<K>,
+    rows: &[Row<'_>],
+    replies: &[Reply<K, u64>],
+) -> Option<usize> {
+    if replies.len() != rows.len() {
+        return None;
+    }
+    let mut count = 0_usize;
+    for (reply, row) in replies.iter().zip(rows) {
+        if is_refusal(reply, &row.0) {
+            count = count.wrapping_add(1);
+        } else if !are_same(reply, &answer(alloc, unrefused, row.0, BY_BYTES)?) {
+            return None;
+        }
+    }
+    Some(count)
+}
+
+// Runs the calls with a request of the run refused, and tells whether one was; None where something else went wrong.
+fn run_refused<K: KeyTrait + Drop>(
+    alloc: Global,
+    rows: &[Row<'_>],
+    at: usize,
+) -> Result<Option<bool>, TreeError> {
+    let mut tree = Tree::<K>::new(alloc);
+    let mut unrefused = Tree::<K>::new(alloc);
+    let calls = calls(alloc, rows)?;
+    refuse(alloc, at);
+    let answer = run(alloc, &mut tree, calls);
+    let refused = was_refused(alloc);
+    let count = match answer {
+        Ok(replies) => refused_calls(alloc, &mut unrefused, rows, replies.as_slice()),
+        Err(_refused) => Some(1),
+    };
+    if count != Some(usize::from(refused)) || !are_alike(&tree, &unrefused) {
+        return Ok(None);
+    }
+    Ok(Some(refused))
+}
+
+/// Runs the rows, whose calls are values, with each request of the run refused in turn. A refused run changes nothing;
+/// in another exactly the refused call says so, and the rest is a run of the other calls. Whether that is so.
+pub fn run_is_refused_in_turn<K: KeyTrait + Drop>(
+    alloc: Global,
+    rows: &[Row<'_>],
+) -> Result<bool, TreeError> {
+    for at in 1..200_usize {
+        match run_refused::<K>(alloc, rows, at)? {
+            Some(true) => {}
+            Some(false) => return Ok(true),
+            None => return Ok(false),
+        }
+    }
+    Ok(false)
+}
+
+/// Fails a test in which a row went another way.
+pub fn went_well(rt: &impl Abort, failed: Option<usize>) {
+    if let Some(row) = failed {
+        panic!(rt; "row {row} went another way");
+    }
+}

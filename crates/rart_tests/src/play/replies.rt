@@ -1,0 +1,155 @@
+//! Whether a reply is the wanted one.
+
+use super::forms::key;
+use super::{Ask, Spelling, Tree, Want};
+use rart::script::Reply;
+use rart::{KeyTrait, NodeStats, TreeError, TreeStats, TreeStatsTrait};
+
+/// Whether the reply is the wanted one.
+pub fn is<K: KeyTrait>(reply: &Reply<K, u64>, want: &Want<'_>, spelling: Spelling) -> bool
+where
+    K: Drop,
+{
+    match (reply, want) {
+        (Reply::Value(found), Want::None) => found.is_none(),
+        (Reply::Value(found), Want::Some(value)) => *found == Some(*value),
+        (Reply::Done(found), Want::Is(answer)) => found == answer,
+        (Reply::Inserted, Want::Inserted) => true,
+        (Reply::Occupied(back, stored), Want::Occupied(proposed, present)) => {
+            back == proposed && stored == present
+        }
+        (Reply::Pairs(found), Want::Pairs(pairs)) => are_pairs(found.as_slice(), pairs, spelling),
+        (Reply::Values(found), Want::Values(values)) => found.as_slice() == *values,
+        (Reply::Len(found), Want::Len(count)) => found == count,
+        (Reply::Stats(found), Want::Counts(counts, widths)) => is_counted(found, counts, widths),
+        _ => false,
+    }
+}
+
+fn are_pairs<K: KeyTrait + Drop>(
+    found: &[(K, u64)],
+    wanted: &[(&str, u64)],
+    spelling: Spelling,
+) -> bool {
+    if found.len() != wanted.len() {
+        return false;
+    }
+    for (one, other) in found.iter().zip(wanted) {
+        let Some(wanted_key) = key::<K>(other.0, spelling) else {
+            return false;
+        };
+        if one.0 != wanted_key || one.1 != other.1 {
+            return false;
+        }
+    }
+    true
+}
+
+/// Whether the statistics have these leaves, values, inner nodes and height, for each of these widths as many nodes
+/// and children, and the sums of these.
+pub fn is_counted(
+    stats: &TreeStats,
+    counts: &[usize; 4],
+    widths: &[(usize, usize, usize)],
+) -> bool {
+    let found = [
+        stats.num_leaves,
+        stats.num_values,
+        stats.num_inner_nodes,
+        stats.max_height,
+    ];
+    if found != *counts || stats.node_stats.len() != widths.len() {
+        return false;
+    }
+    let mut children = 0_usize;
+    let mut room = 0_usize;
+    for (width, total_nodes, total_children) in widths {
+        let entry = NodeStats {
+            width: *width,
+            total_nodes: *total_nodes,
+            total_children: *total_children,
+        };
+        if stats.node_stats.get(width) != Some(&entry) {
+            return false;
+        }
+        children = children.wrapping_add(*total_children);
+        room = room.wrapping_add(width.wrapping_mul(*total_nodes));
+    }
+    stats.total_children == children && stats.total_width == room
+}
+
+/// Whether the reply says that there was no memory, and hands the value back that the call offered.
+pub fn is_refusal<K>(reply: &Reply<K, u64>, ask: &Ask<'_>) -> bool {
+    match (reply, ask) {
+        (
+            Reply::Returned(error, back),
+            Ask::Insert(_, value) | Ask::TryInsert(_, value) | Ask::InsertNew(_, value),
+        ) => *error == TreeError::Memory && back == value,
+        (
+            Reply::Refused(error),
+            Ask::Remove(_) | Ask::Delete(_) | Ask::Iter | Ask::Values | Ask::Stats,
+        ) => *error == TreeError::Memory,
+        _ => false,
+    }
+}
+
+/// Whether two replies, neither of them a refusal, are equal.
+pub fn are_same<K: KeyTrait>(one: &Reply<K, u64>, other: &Reply<K, u64>) -> bool {
+    match (one, other) {
+        (Reply::Value(left), Reply::Value(right)) => left == right,
+        (Reply::Done(left), Reply::Done(right)) => left == right,
+        (Reply::Inserted, Reply::Inserted) => true,
+        (Reply::Occupied(back, stored), Reply::Occupied(proposed, present)) => {
+            back == proposed && stored == present
+        }
+        (Reply::Pairs(left), Reply::Pairs(right)) => are_same_pairs(
+            left.as_slice(),
+            right.as_slice(),
+        ),
+        (Reply::Values(left), Reply::Values(right)) => left.as_slice() == right.as_slice(),
+        (Reply::Len(left), Reply::Len(right)) => left == right,
+        (Reply::Stats(left), Reply::Stats(right)) => left == right,
+        _ => false,
+    }
+}
+
+fn are_same_pairs<K: KeyTrait>(left: &[(K, u64)], right: &[(K, u64)]) -> bool {
+    if left.len() != right.len() {
+        return false;
+    }
+    for (one, other) in left.iter().zip(right) {
+        if one.0 != other.0 || one.1 != other.1 {
+            return false;
+        }
+    }
+    true
+}
+
+/// Whether two trees have the same pairs, as many of them, and the same statistics.
+pub fn are_alike<K: KeyTrait + Drop>(one: &Tree<K>, other: &Tree<K>) -> bool {
+    one.len() == other.len() && have_same_statistics(one, other) && have_same_pairs(one, other)
+}
+
+fn have_same_statistics<K: KeyTrait>(one: &Tree<K>, other: &Tree<K>) -> bool {
+    match (one.get_tree_stats(), other.get_tree_stats()) {
+        (Ok(left), Ok(right)) => left == right,
+        _ => false,
+    }
+}
+
+fn have_same_pairs<K: KeyTrait + Drop>(one: &Tree<K>, other: &Tree<K>) -> bool {
+    let (Ok(mut left), Ok(mut right)) = (one.iter(), other.iter()) else {
+        return false;
+    };
+    while let Some((key, value)) = left.next() {
+        match right.next() {
+            Some((same_key, same_value)) => {
+                if key != same_key || value != same_value {
+                    return false;
+                }
+            }
+            None => return false,
+        }
+    }
+    right.next().is_none()
+}
