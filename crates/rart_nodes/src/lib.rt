@@ -8,9 +8,11 @@ mod count;
 pub mod laws;
 pub mod node;
 mod refused;
+pub mod slot;
 pub mod shape;
 pub mod stats;
 
 pub use count::{Count, Visits};
 pub use refused::Refused;
+pub use slot::{Outcome, Slot, SlotUpdate, UpdateError};
 pub use stats::{NodeStats, TreeStats};

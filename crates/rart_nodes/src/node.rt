@@ -21,6 +21,7 @@ mod remove;
 pub mod seen;
 mod statistics;
 pub mod storage;
+mod update;
 mod walk;
 
 pub use children::NodeIter;

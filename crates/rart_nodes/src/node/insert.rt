@@ -18,7 +18,7 @@ use std::mem;
 impl<P: Partial, V> DefaultNode<P, V> {
     /// Cuts the node after `shared` bytes of its prefix, and puts `value` at `key`, which agrees with
     /// the prefix that far and no further. Refused, all stands as it was and the value is handed back.
-    fn split(
+    pub(super) fn split(
         &mut self,
         alloc: Global,
         shared: usize,

@@ -1,0 +1,9 @@
+use Rattle.std.proofs.Common.{◌∙◌, refl, sym, ap, None}
+use Rattle.rart_nodes.specs.tries.Trie.{value_of}
+use Rattle.rart_nodes.specs.updates.Slots.{slot_of}
+use Rattle.rart_nodes.proofs.node.DefaultNode.update_leaf.Goals as goal
+
+pub unreachable-requires : goal.unreachable-requires
+unreachable-requires g c =
+    let shown = rw (c.take.ensures.value, ap value_of c.self.view_is, c.in_default.is) at c.show-left.ensures in
+    c.requires.stays _ _ None shown refl

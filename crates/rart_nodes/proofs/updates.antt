@@ -1,0 +1,3 @@
+pub mod MapUpdates
+pub mod SlotLemmas
+pub mod UpdateSteps
