@@ -1,4 +1,4 @@
-pub mod RefusalLemmas
-pub mod ShownLemmas
+pub mod EditLemmas
+pub mod PresentLemmas
 pub mod StepLemmas
 pub mod WalkSteps

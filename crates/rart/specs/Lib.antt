@@ -1,3 +1,5 @@
+pub mod Edits
+pub mod LawAnswers
 pub mod Loans
 pub mod MapAndShape
 pub mod Refusals

@@ -1,7 +1,8 @@
--- When an insertion may be refused, and what an insertion that never replaces answers.
+-- When an edit may be refused, and what a refused insertion hands back.
 use Rattle.std.specs.Prelude.{◌≡◌, ◌≢◌, ◌<◌, ℕ, List, length, true, Some, None, Result, Ok, Err}
 use Rattle.rart_keys.specs.SortedMap.{keys_of, lookup}
 use Rattle.rart_nodes.specs.edits.InsertAsks.{insert_asks}
+use Rattle.rart_nodes.specs.edits.RemoveAsks.{remove_asks}
 use Rattle.rart_parts.specs.declared.error.TreeError.{TreeError}
 use Rattle.rart_parts.specs.declared.error.TreeError.TheVariants.{Memory, Full}
 use Rattle.rart.specs.declared.tree.TheConstants.{MAX_PAIRS}
@@ -14,6 +15,10 @@ use Rattle.rart.specs.declared.tree.guarded.TryInsertError.TheVariants as try_in
 abbrev pub MayRefuse : {V : Type 0} → List (List ℕ × V) → List ℕ → TreeError → Type 0
 MayRefuse map key Full = (lookup key map ≡ None) × (length map ≡ MAX_PAIRS)
 MayRefuse map key Memory = (lookup key map ≡ None) × (length map < MAX_PAIRS) × (insert_asks (keys_of map) key ≡ true)
+
+-- the removal of this key may be refused for this reason: the key is stored, and the keys say that its removal asks for memory
+abbrev pub MayKeep : {V : Type 0} → List (List ℕ × V) → List ℕ → TreeError → Type 0
+MayKeep map key error = (error ≡ Memory) × (lookup key map ≢ None) × (remove_asks (keys_of map) key ≡ true)
 
 -- the value that was offered comes back: the key is stored, or the insertion was refused
 abbrev pub TellsWhy : {V : Type 0} → List (List ℕ × V) → List ℕ → V → NotInserted V → Type 0
@@ -31,8 +36,8 @@ StandsAt map key (not_inserted.Stored proposed) = lookup key map ≢ None
 StandsAt map key (not_inserted.Refused refused) = Unit {0}
 
 -- the same outcome, with the value that stands at the key where it is stored
-abbrev pub IsShown : {V : Type 0} → List (List ℕ × V) → List ℕ → Result Unit (NotInserted V) → Result Unit (TryInsertError V) → Type 0
-IsShown map key (Ok _) (Ok _) = Unit {0}
-IsShown map key (Err (not_inserted.Stored proposed)) (Err (try_insert.Occupied back present)) = (back ≡ proposed) × (lookup key map ≡ Some present.now)
-IsShown map key (Err (not_inserted.Refused refused)) (Err (try_insert.Refused back)) = back ≡ refused
-IsShown map key outcome shown = ⊥
+abbrev pub AddsPresent : {V : Type 0} → List (List ℕ × V) → List ℕ → Result Unit (NotInserted V) → Result Unit (TryInsertError V) → Type 0
+AddsPresent map key (Ok _) (Ok _) = Unit {0}
+AddsPresent map key (Err (not_inserted.Stored proposed)) (Err (try_insert.Occupied back present)) = (back ≡ proposed) × (lookup key map ≡ Some present.now)
+AddsPresent map key (Err (not_inserted.Refused refused)) (Err (try_insert.Refused back)) = back ≡ refused
+AddsPresent map key outcome answer = ⊥

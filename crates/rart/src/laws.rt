@@ -1,11 +1,15 @@
 //! What clients can count on, each proved for every key type from the public contracts alone.
-ghost use Rattle.std.specs.Prelude.{◌≡◌, ◌≢◌, ◌≤◌, [], length, IfErr, IfOk, None, OnErr, OnOk, Some};
+ghost use Rattle.std.specs.Prelude.{◌≡◌, ◌≢◌, ◌≤◌, [], length, IfErr, IfOk, IsOk, MatchResult, OnErr, OnOk};
+ghost use Rattle.std.specs.Borrow.{sem};
 ghost use Rattle.std.specs.Option.{option_copied};
 ghost use Rattle.rart_keys.specs.SortedMap.{IsAscending, keys_of, lookup, put, values_of};
 ghost use Rattle.rart_nodes.specs.statistics.Statistics.{statistics_in, statistics_of};
+ghost use Rattle.rart.specs.LawAnswers.{RefusesInsertion, RefusesRemoval, StopsAt};
+ghost use Rattle.rart.specs.Loans.{ends_as};
+ghost use Rattle.rart.specs.Refusals.{MayRefuse};
 
 use crate::stats::{TreeStats, TreeStatsTrait};
-use crate::tree::{AdaptiveRadixTree, MAX_PAIRS};
+use crate::tree::AdaptiveRadixTree;
 use rart_keys::KeyTrait;
 use rart_nodes::Refused;
 use rart_nodes::node::{Iter, ValuesIter};
@@ -42,20 +46,52 @@ pub fn equal_keys_equal_statistics<K: KeyTrait, V, L: KeyTrait, W>(
 }
 
 /// A value that was put at `key` is found there, and every other key keeps its answer. Gives the two
-/// answers after the insertion; refused, what the insertion was refused with.
+/// answers after the insertion; refused, why the insertion was, and then pairs and nodes are as before.
 pub fn insert_then_get<'a, K: KeyTrait, V>(
     tree: &'a mut AdaptiveRadixTree<K, V>,
     key: &K,
     value: V,
     other: &K,
-) -> Result<(Option<&'a V>, Option<&'a V>), Refused<V>>
+) -> Result<(Option<&'a V>, Option<&'a V>), TreeError>
 where
     V: Drop,
+    ensures* after { sem 𝓛 (ends_as K.row V.row K.PartialType.row K.KeyTrait K.PartialType.Partial tree.entry (λ n. MatchResult result (λ _. n.pairs ≡ put (K.bytes key.now) value tree.old.pairs) (λ _. n ≡ tree.old))) }
     ensures found { IfOk result (λ r. option_copied r.0 ≡ Some value) }
     ensures kept { K.bytes other.now ≢ K.bytes key.now → IfOk result (λ r. option_copied r.1 ≡ lookup (K.bytes other.now) tree.old.pairs) }
+    ensures refused { IfErr result (MayRefuse tree.old.pairs (K.bytes key.now)) }
 {
     rart_keys::laws::sorted_map::<V>();
-    tree.insert_k(key, value)?;
+    let inserted = put_in(tree, key, value);
+    both_answers(tree, key, other, inserted)
+}
+
+// Puts in a pair, and drops the value that comes back.
+fn put_in<K: KeyTrait, V: Drop>(
+    tree: &mut AdaptiveRadixTree<K, V>,
+    key: &K,
+    value: V,
+) -> Result<(), TreeError>
+    ensures pairs { OnOk result (tree.new.pairs ≡ put (K.bytes key.now) value tree.old.pairs) }
+    ensures refused { IfErr result (MayRefuse tree.old.pairs (K.bytes key.now)) }
+    ensures unchanged { OnErr result (tree.new ≡ tree.old) }
+{
+    match tree.insert_k(key, value) {
+        Ok(_old) => Ok(()),
+        Err(refused) => Err(refused.error),
+    }
+}
+
+// The values at two keys, where there was no error before.
+fn both_answers<'a, K: KeyTrait, V>(
+    tree: &'a AdaptiveRadixTree<K, V>,
+    key: &K,
+    other: &K,
+    before: Result<(), TreeError>,
+) -> Result<(Option<&'a V>, Option<&'a V>), TreeError>
+    ensures answers { OnOk before (IfOk result (λ r. (option_copied r.0 ≡ lookup (K.bytes key.now) tree.now.pairs) × (option_copied r.1 ≡ lookup (K.bytes other.now) tree.now.pairs))) }
+    ensures error { MatchResult before (λ _. IsOk result) (λ e. result ≡ Err e) }
+{
+    before?;
     Ok((tree.get_k(key), tree.get_k(other)))
 }
 
@@ -86,11 +122,8 @@ pub fn insert_then_remove<K: KeyTrait, V>(
     ensures removed { IfOk result (λ r. IfOk r.1 (λ old. old ≡ Some value)) }
     ensures pairs { IfOk result (λ r. OnOk r.1 (tree.new.pairs ≡ tree.old.pairs)) }
     ensures nodes { IfOk result (λ r. OnOk r.1 (tree.new.nodes ≡ tree.old.nodes)) }
-    ensures stays { IfOk result (λ r. OnErr r.1 (tree.new.pairs ≡ put (K.bytes key.now) value tree.old.pairs)) }
-    ensures memory { IfOk result (λ r. IfErr r.1 (λ e. e ≡ TreeError.Memory)) }
-    ensures refused { OnErr result (tree.new ≡ tree.old) }
-    ensures back { IfErr result (λ r. r.value ≡ value) }
-    ensures full { IfErr result (λ r. r.error ≡ TreeError.Full → length tree.old.pairs ≡ MAX_PAIRS) }
+    ensures stays { IfOk result (λ r. IfErr r.1 (RefusesRemoval (K.bytes key.now) value tree.old tree.new)) }
+    ensures refused { IfErr result (RefusesInsertion (K.bytes key.now) value tree.old tree.new) }
 {
     rart_keys::laws::sorted_map::<V>();
     rart_nodes::laws::one_shape();
@@ -101,25 +134,45 @@ pub fn insert_then_remove<K: KeyTrait, V>(
     Ok((inserted, removed))
 }
 
+/// The call of `insert_then_remove_statistics` that was refused, and why.
+#[derive(Drop)]
+pub enum RefusedCall<V> {
+    /// The statistics before the insertion. All is as before.
+    StatisticsBefore(TreeError),
+    /// The insertion, with the value that it offered. All is as before.
+    Insertion(Refused<V>),
+    /// The removal. The pair is there.
+    Removal(TreeError),
+    /// The statistics after the removal. All is as before.
+    StatisticsAfter(TreeError),
+}
+
 /// The statistics before a new key is put in and after it is removed again: they are the same.
-/// Refused where memory is, by whichever call asked for it, or with `Full` by a tree that is.
+/// Refused where one of the four calls was, and tells which.
 pub fn insert_then_remove_statistics<K: KeyTrait, V: Drop>(
     tree: &mut AdaptiveRadixTree<K, V>,
     key: &K,
     value: V,
-) -> Result<(TreeStats, TreeStats), TreeError>
+) -> Result<(TreeStats, TreeStats), RefusedCall<V>>
     requires new_key { lookup (K.bytes key.now) tree.old.pairs ≡ None }
     ensures before { IfOk result (λ r. statistics_in r.0 ≡ statistics_of (keys_of tree.old.pairs) tree.old.nodes) }
     ensures after { IfOk result (λ r. statistics_in r.1 ≡ statistics_in r.0) }
     ensures pairs { OnOk result (tree.new.pairs ≡ tree.old.pairs) }
-    ensures full { IfErr result (λ e. e ≡ TreeError.Full → length tree.old.pairs ≡ MAX_PAIRS) }
+    ensures nodes { OnOk result (tree.new.nodes ≡ tree.old.nodes) }
+    ensures refused { IfErr result (StopsAt (K.bytes key.now) value tree.old tree.new) }
 {
-    let before = tree.get_tree_stats()?;
+    let before = match tree.get_tree_stats() {
+        Ok(stats) => stats,
+        Err(error) => return Err(RefusedCall::StatisticsBefore(error)),
+    };
     match insert_then_remove(tree, key, value) {
-        Ok((_inserted, removed)) => {
-            removed?;
-            Ok((before, tree.get_tree_stats()?))
-        }
-        Err(refused) => Err(refused.error),
+        Ok((_inserted, removed)) => match removed {
+            Ok(_value) => match tree.get_tree_stats() {
+                Ok(after) => Ok((before, after)),
+                Err(error) => Err(RefusedCall::StatisticsAfter(error)),
+            },
+            Err(error) => Err(RefusedCall::Removal(error)),
+        },
+        Err(refused) => Err(RefusedCall::Insertion(refused)),
     }
 }

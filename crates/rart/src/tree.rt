@@ -1,12 +1,11 @@
 //! The map: seen as its pairs, ascending by key, and the records of its nodes.
-ghost use Rattle.std.specs.Prelude.{◌≡◌, ◌≢◌, ℕ, ◌+◌, ◌-◌, ◌*◌, ◌<◌, ◌≤◌, ◌↔◌, [], length, max, None, is_some, true, IfErr, IfOk, IsTrue, OnErr, OnOk};
+ghost use Rattle.std.specs.Prelude.{◌≡◌, ℕ, ◌+◌, ◌-◌, ◌*◌, ◌<◌, ◌≤◌, ◌↔◌, [], length, max, IsTrue, OnErr};
 ghost use Rattle.std.specs.Option.{option_copied};
 ghost use Rattle.rart_keys.specs.KeyBytes.{IsWithin};
-ghost use Rattle.rart_keys.specs.SortedMap.{IsAscending, keys_of, lookup, put, without};
-ghost use Rattle.rart_nodes.specs.edits.RemoveAsks.{remove_asks};
-ghost use Rattle.rart_nodes.specs.edits.InsertAsks.{insert_asks};
+ghost use Rattle.rart_keys.specs.SortedMap.{IsAscending, keys_of, lookup};
 ghost use Rattle.rart_nodes.specs.shapes.Shape.{HasShape};
 ghost use Rattle.rart_nodes.specs.tries.Tree.{tree_nodes, tree_pairs};
+ghost use Rattle.rart.specs.Edits.{Deletes, Inserts, Removes};
 
 use rart_keys::{KeyTrait, Partial};
 use rart_nodes::node::DefaultNode;
@@ -132,13 +131,8 @@ impl<K: KeyTrait, V> AdaptiveRadixTree<K, V> {
     /// say so: the tree isn't empty, no node stands at the key, and no node with room takes it as a new
     /// child. Refused, pairs and nodes are as before, and the value is handed back.
     pub fn insert_k(&mut self, key: &K, value: V) -> Result<Option<V>, Refused<V>>
-        ensures pairs { OnOk result (self.new.pairs ≡ put (K.bytes key.now) value self.old.pairs) }
-        ensures answer { IfOk result (λ old. old ≡ lookup (K.bytes key.now) self.old.pairs) }
-        ensures refused { OnErr result (self.new ≡ self.old) }
-        ensures back { IfErr result (λ r. r.value ≡ value) }
-        ensures full { IfErr result (λ r. r.error ≡ TreeError.Full → (length self.old.pairs ≡ MAX_PAIRS) × (lookup (K.bytes key.now) self.old.pairs ≡ None)) }
-        ensures not_full { OnOk result (length self.old.pairs ≡ MAX_PAIRS → lookup (K.bytes key.now) self.old.pairs ≢ None) }
-        ensures memory { IfErr result (λ r. r.error ≡ TreeError.Memory → (insert_asks (keys_of self.old.pairs) (K.bytes key.now) ≡ true) × (length self.old.pairs < MAX_PAIRS)) }
+        ensures inserts { Inserts (K.bytes key.now) value self.old.pairs self.new.pairs result }
+        ensures unchanged { OnErr result (self.new ≡ self.old) }
     {
         if self.len == MAX_PAIRS && self.get_k(key).is_none() {
             return Err(Refused {
@@ -174,13 +168,8 @@ impl<K: KeyTrait, V> AdaptiveRadixTree<K, V> {
     pub fn insert(&mut self, key: K, value: V) -> Result<Option<V>, Refused<V>>
     where
         K: Drop,
-        ensures pairs { OnOk result (self.new.pairs ≡ put (K.bytes key) value self.old.pairs) }
-        ensures answer { IfOk result (λ old. old ≡ lookup (K.bytes key) self.old.pairs) }
-        ensures refused { OnErr result (self.new ≡ self.old) }
-        ensures back { IfErr result (λ r. r.value ≡ value) }
-        ensures full { IfErr result (λ r. r.error ≡ TreeError.Full → (length self.old.pairs ≡ MAX_PAIRS) × (lookup (K.bytes key) self.old.pairs ≡ None)) }
-        ensures not_full { OnOk result (length self.old.pairs ≡ MAX_PAIRS → lookup (K.bytes key) self.old.pairs ≢ None) }
-        ensures memory { IfErr result (λ r. r.error ≡ TreeError.Memory → (insert_asks (keys_of self.old.pairs) (K.bytes key) ≡ true) × (length self.old.pairs < MAX_PAIRS)) }
+        ensures inserts { Inserts (K.bytes key) value self.old.pairs self.new.pairs result }
+        ensures unchanged { OnErr result (self.new ≡ self.old) }
     {
         self.insert_k(&key, value)
     }
@@ -191,11 +180,8 @@ impl<K: KeyTrait, V> AdaptiveRadixTree<K, V> {
     /// the key's node is a leaf whose parent goes from 5, 17 or 49 children to one fewer, and gets
     /// smaller room. Refused, pairs and nodes are as before. An absent key is never refused.
     pub fn remove_k(&mut self, key: &K) -> Result<Option<V>, TreeError>
-        ensures pairs { OnOk result (self.new.pairs ≡ without (K.bytes key.now) self.old.pairs) }
-        ensures answer { IfOk result (λ old. old ≡ lookup (K.bytes key.now) self.old.pairs) }
-        ensures refused { OnErr result (self.new ≡ self.old) }
-        ensures error { IfErr result (λ e. e ≡ TreeError.Memory) }
-        ensures memory { OnErr result ((remove_asks (keys_of self.old.pairs) (K.bytes key.now) ≡ true) × (lookup (K.bytes key.now) self.old.pairs ≢ None)) }
+        ensures removes { Removes (K.bytes key.now) self.old.pairs self.new.pairs result }
+        ensures unchanged { OnErr result (self.new ≡ self.old) }
     {
         let removed = DefaultNode::remove(&mut self.root, self.alloc, key.as_ref())?;
         if removed.is_some() {
@@ -208,11 +194,8 @@ impl<K: KeyTrait, V> AdaptiveRadixTree<K, V> {
     pub fn remove(&mut self, key: K) -> Result<Option<V>, TreeError>
     where
         K: Drop,
-        ensures pairs { OnOk result (self.new.pairs ≡ without (K.bytes key) self.old.pairs) }
-        ensures answer { IfOk result (λ old. old ≡ lookup (K.bytes key) self.old.pairs) }
-        ensures refused { OnErr result (self.new ≡ self.old) }
-        ensures error { IfErr result (λ e. e ≡ TreeError.Memory) }
-        ensures memory { OnErr result ((remove_asks (keys_of self.old.pairs) (K.bytes key) ≡ true) × (lookup (K.bytes key) self.old.pairs ≢ None)) }
+        ensures removes { Removes (K.bytes key) self.old.pairs self.new.pairs result }
+        ensures unchanged { OnErr result (self.new ≡ self.old) }
     {
         self.remove_k(&key)
     }
@@ -221,11 +204,8 @@ impl<K: KeyTrait, V> AdaptiveRadixTree<K, V> {
     pub fn delete_k(&mut self, key: &K) -> Result<bool, TreeError>
     where
         V: Drop,
-        ensures pairs { OnOk result (self.new.pairs ≡ without (K.bytes key.now) self.old.pairs) }
-        ensures answer { IfOk result (λ found. found ≡ is_some (lookup (K.bytes key.now) self.old.pairs)) }
-        ensures refused { OnErr result (self.new ≡ self.old) }
-        ensures error { IfErr result (λ e. e ≡ TreeError.Memory) }
-        ensures memory { OnErr result ((remove_asks (keys_of self.old.pairs) (K.bytes key.now) ≡ true) × (lookup (K.bytes key.now) self.old.pairs ≢ None)) }
+        ensures deletes { Deletes (K.bytes key.now) self.old.pairs self.new.pairs result }
+        ensures unchanged { OnErr result (self.new ≡ self.old) }
     {
         Ok(self.remove_k(key)?.is_some())
     }
@@ -235,11 +215,8 @@ impl<K: KeyTrait, V> AdaptiveRadixTree<K, V> {
     where
         K: Drop,
         V: Drop,
-        ensures pairs { OnOk result (self.new.pairs ≡ without (K.bytes key) self.old.pairs) }
-        ensures answer { IfOk result (λ found. found ≡ is_some (lookup (K.bytes key) self.old.pairs)) }
-        ensures refused { OnErr result (self.new ≡ self.old) }
-        ensures error { IfErr result (λ e. e ≡ TreeError.Memory) }
-        ensures memory { OnErr result ((remove_asks (keys_of self.old.pairs) (K.bytes key) ≡ true) × (lookup (K.bytes key) self.old.pairs ≢ None)) }
+        ensures deletes { Deletes (K.bytes key) self.old.pairs self.new.pairs result }
+        ensures unchanged { OnErr result (self.new ≡ self.old) }
     {
         self.delete_k(&key)
     }

@@ -1,12 +1,12 @@
 //! Insertions that never replace a value.
-ghost use Rattle.std.specs.Prelude.{◌≡◌, ◌≢◌, length, None, IfErr, OnErr, OnOk};
-ghost use Rattle.rart_keys.specs.SortedMap.{lookup, put};
-ghost use Rattle.rart.specs.Refusals.{IsShown, ShowsWhy, StandsAt, TellsWhy};
-ghost use Rattle.std.specs.Prelude.{MatchResult};
+ghost use Rattle.std.specs.Prelude.{◌≡◌, IfErr, MatchResult, OnErr};
 ghost use Rattle.std.specs.Borrow.{sem};
+ghost use Rattle.rart_keys.specs.SortedMap.{put};
+ghost use Rattle.rart.specs.Edits.{InsertsNew, TriesInsert};
 ghost use Rattle.rart.specs.Loans.{ends_as};
+ghost use Rattle.rart.specs.Refusals.{AddsPresent, StandsAt};
 
-use crate::tree::{AdaptiveRadixTree, MAX_PAIRS};
+use crate::tree::AdaptiveRadixTree;
 use rart_keys::KeyTrait;
 use rart_nodes::Refused;
 
@@ -34,11 +34,8 @@ impl<K: KeyTrait, V> AdaptiveRadixTree<K, V> {
     ///
     /// Looks the key up, and then inserts it. A stored key asks for no memory.
     pub fn insert_new_k(&mut self, key: &K, value: V) -> Result<(), NotInserted<V>>
-        ensures pairs { OnOk result (self.new.pairs ≡ put (K.bytes key.now) value self.old.pairs) }
-        ensures absent { OnOk result (lookup (K.bytes key.now) self.old.pairs ≡ None) }
-        ensures not_full { OnOk result (length self.old.pairs ≢ MAX_PAIRS) }
-        ensures kept { OnErr result (self.new ≡ self.old) }
-        ensures why { IfErr result (TellsWhy self.old.pairs (K.bytes key.now) value) }
+        ensures inserts_new { InsertsNew (K.bytes key.now) value self.old.pairs self.new.pairs result }
+        ensures unchanged { OnErr result (self.new ≡ self.old) }
     {
         if self.get_k(key).is_some() {
             return Err(NotInserted::Stored(value));
@@ -56,11 +53,8 @@ impl<K: KeyTrait, V> AdaptiveRadixTree<K, V> {
     pub fn insert_new(&mut self, key: K, value: V) -> Result<(), NotInserted<V>>
     where
         K: Drop,
-        ensures pairs { OnOk result (self.new.pairs ≡ put (K.bytes key) value self.old.pairs) }
-        ensures absent { OnOk result (lookup (K.bytes key) self.old.pairs ≡ None) }
-        ensures not_full { OnOk result (length self.old.pairs ≢ MAX_PAIRS) }
-        ensures kept { OnErr result (self.new ≡ self.old) }
-        ensures why { IfErr result (TellsWhy self.old.pairs (K.bytes key) value) }
+        ensures inserts_new { InsertsNew (K.bytes key) value self.old.pairs self.new.pairs result }
+        ensures unchanged { OnErr result (self.new ≡ self.old) }
     {
         self.insert_new_k(&key, value)
     }
@@ -69,22 +63,20 @@ impl<K: KeyTrait, V> AdaptiveRadixTree<K, V> {
     /// stored. Once the result is over the tree holds the pair at `Ok`, and is as before otherwise.
     pub fn try_insert_k<'a>(&'a mut self, key: &K, value: V) -> Result<(), TryInsertError<'a, V>>
         ensures* after { sem 𝓛 (ends_as K.row V.row K.PartialType.row K.KeyTrait K.PartialType.Partial self.entry (λ n. MatchResult result (λ _. n.pairs ≡ put (K.bytes key.now) value self.old.pairs) (λ _. n ≡ self.old))) }
-        ensures absent { OnOk result (lookup (K.bytes key.now) self.old.pairs ≡ None) }
-        ensures not_full { OnOk result (length self.old.pairs ≢ MAX_PAIRS) }
-        ensures why { IfErr result (ShowsWhy self.old.pairs (K.bytes key.now) value) }
+        ensures answer { TriesInsert (K.bytes key.now) value self.old.pairs result }
     {
         let outcome = self.insert_new_k(key, value);
-        self.shown(key, outcome)
+        self.with_present(key, outcome)
     }
 
     // What came of putting in a new key, with the value that stands at it where it is none.
-    fn shown<'a>(
+    fn with_present<'a>(
         &'a self,
         key: &K,
         outcome: Result<(), NotInserted<V>>,
     ) -> Result<(), TryInsertError<'a, V>>
         requires stored { IfErr outcome (StandsAt self.now.pairs (K.bytes key.now)) }
-        ensures { IsShown self.now.pairs (K.bytes key.now) outcome result }
+        ensures { AddsPresent self.now.pairs (K.bytes key.now) outcome result }
     {
         match outcome {
             Ok(()) => Ok(()),
@@ -101,36 +93,31 @@ impl<K: KeyTrait, V> AdaptiveRadixTree<K, V> {
     where
         K: Drop,
         ensures* after { sem 𝓛 (ends_as K.row V.row K.PartialType.row K.KeyTrait K.PartialType.Partial self.entry (λ n. MatchResult result (λ _. n.pairs ≡ put (K.bytes key) value self.old.pairs) (λ _. n ≡ self.old))) }
-        ensures absent { OnOk result (lookup (K.bytes key) self.old.pairs ≡ None) }
-        ensures not_full { OnOk result (length self.old.pairs ≢ MAX_PAIRS) }
-        ensures why { IfErr result (ShowsWhy self.old.pairs (K.bytes key) value) }
+        ensures answer { TriesInsert (K.bytes key) value self.old.pairs result }
     {
         let tried = self.insert_new_with(key, value);
-        self.shown_for(tried)
+        self.tried_with_present(tried)
     }
 
     // Puts in a new key as `insert_new_k` does, and hands the key back.
     fn insert_new_with(&mut self, key: K, value: V) -> Tried<K, V>
         ensures key { result.key ≡ key }
-        ensures pairs { OnOk result.outcome (self.new.pairs ≡ put (K.bytes key) value self.old.pairs) }
-        ensures absent { OnOk result.outcome (lookup (K.bytes key) self.old.pairs ≡ None) }
-        ensures not_full { OnOk result.outcome (length self.old.pairs ≢ MAX_PAIRS) }
-        ensures kept { OnErr result.outcome (self.new ≡ self.old) }
-        ensures why { IfErr result.outcome (TellsWhy self.old.pairs (K.bytes key) value) }
+        ensures inserts_new { InsertsNew (K.bytes key) value self.old.pairs self.new.pairs result.outcome }
+        ensures unchanged { OnErr result.outcome (self.new ≡ self.old) }
     {
         let outcome = self.insert_new_k(&key, value);
         Tried { key, outcome }
     }
 
-    // What came of putting in a new key, as `shown` tells it.
-    fn shown_for<'a>(&'a self, tried: Tried<K, V>) -> Result<(), TryInsertError<'a, V>>
+    // What came of putting in a new key, with the value that stands at its key.
+    fn tried_with_present<'a>(&'a self, tried: Tried<K, V>) -> Result<(), TryInsertError<'a, V>>
     where
         K: Drop,
         requires stored { IfErr tried.outcome (StandsAt self.now.pairs (K.bytes tried.key)) }
-        ensures { IsShown self.now.pairs (K.bytes tried.key) tried.outcome result }
+        ensures { AddsPresent self.now.pairs (K.bytes tried.key) tried.outcome result }
     {
         let Tried { key, outcome } = tried;
-        self.shown(&key, outcome)
+        self.with_present(&key, outcome)
     }
 }
 

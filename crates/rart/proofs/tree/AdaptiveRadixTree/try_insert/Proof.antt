@@ -46,11 +46,10 @@ use denote.Triple.Entry.{Args as ArgsAt, Res, on_entry, alive}
 use denote.Triple.Spec.{SpecAt, Back, triple_of}
 use denote.Triple.Statement.{Contract, Triple}
 use denote.Triple.Table.{entered, framed}
-use Rattle.std.specs.Prelude.{◌≢◌, None, length, IfErr, OnErr, OnOk, ⊤}
-use Rattle.rart_keys.specs.SortedMap.{lookup, put}
-use Rattle.rart.specs.Refusals.{IsShown, ShowsWhy, StandsAt, TellsWhy}
-use Rattle.rart.specs.declared.tree.TheConstants.{MAX_PAIRS}
-use Rattle.rart.proofs.ShownLemmas as lemmas
+use Rattle.std.specs.Prelude.{IfErr, OnErr, ⊤}
+use Rattle.rart.specs.Edits.{InsertsNew, TriesInsert}
+use Rattle.rart.specs.Refusals.{AddsPresent, StandsAt}
+use Rattle.rart.proofs.PresentLemmas as lemmas
 use Rattle.rart.proofs.WalkSteps.{Lone-is, beside, rests}
 use Rattle.rart.specs.MapAndShape.{MapAndShape}
 use Rattle.std.specs.declared.cmp.Eq as eq
@@ -76,9 +75,9 @@ use Rattle.rart.proofs.tree.guarded.TryInsertError.TheLaws as try_insert_error_l
 use Rattle.rart.specs.contracts.tree.AdaptiveRadixTree.insert_new_with as inserts
 use Rattle.rart.specs.contracts.tree.AdaptiveRadixTree.insert_new_with.Key.{name as #inserts}
 use Rattle.rart.proofs.tree.AdaptiveRadixTree.insert_new_with.Met as inserts_met
-use Rattle.rart.specs.contracts.tree.AdaptiveRadixTree.shown_for as shown
-use Rattle.rart.specs.contracts.tree.AdaptiveRadixTree.shown_for.Key.{name as #shown}
-use Rattle.rart.proofs.tree.AdaptiveRadixTree.shown_for.Met as shown_met
+use Rattle.rart.specs.contracts.tree.AdaptiveRadixTree.tried_with_present as with_present
+use Rattle.rart.specs.contracts.tree.AdaptiveRadixTree.tried_with_present.Key.{name as #with_present}
+use Rattle.rart.proofs.tree.AdaptiveRadixTree.tried_with_present.Met as with_present_met
 use Rattle.rart.specs.contracts.tree.AdaptiveRadixTree.try_insert as tries
 use Rattle.rart.proofs.tree.AdaptiveRadixTree.try_insert.Statement.{statement}
 use Rattle.rart.proofs.tree.AdaptiveRadixTree.try_insert.Code as code
@@ -127,7 +126,7 @@ module _ {M : Type 1} (𝓤 : Ura M) (𝓛 : Logic 𝓤) (𝓜 : Model 𝓤 𝓛
   I = triple_of 𝓛 (inserts.signature K V P gk dk ge de gpe dpe go d-o gpo dpo gp dp dd) (inserts.spec K V P gk dk ge de gpe dpe go d-o gpo dpo gp dp dd 𝓛 𝓜.mem 𝓡.returns)
 
   abbrev S : Contract 𝓤
-  S = triple_of 𝓛 (shown.signature K V P gk dk ge de gpe dpe go d-o gpo dpo gp dp dd dr) (shown.spec K V P gk dk ge de gpe dpe go d-o gpo dpo gp dp dd dr 𝓛 𝓜.mem 𝓡.returns)
+  S = triple_of 𝓛 (with_present.signature K V P gk dk ge de gpe dpe go d-o gpo dpo gp dp dd dr) (with_present.spec K V P gk dk ge de gpe dpe go d-o gpo dpo gp dp dd dr 𝓛 𝓜.mem 𝓡.returns)
 
   abbrev C : Contract 𝓤
   C = triple_of 𝓛 (tries.signature K V P gk dk ge de gpe dpe go d-o gpo dpo gp dp dd dr) (tries.spec K V P gk dk ge de gpe dpe go d-o gpo dpo gp dp dd dr 𝓛 𝓜.mem 𝓡.returns)
@@ -136,9 +135,9 @@ module _ {M : Type 1} (𝓤 : Ura M) (𝓛 : Logic 𝓤) (𝓜 : Model 𝓤 𝓛
   unfolding code.code
   inserts_by = inserts_met.met 𝓤 𝓛 𝓜 𝓡 (code.calls-rart::tree::AdaptiveRadixTree::insert_new_with 𝓡.env wired) K V P LK LV LP gk dk ge de gpe dpe go d-o gpo dpo gp dp dd mk me mpe mo mpo mp md
 
-  shown_by : Triple 𝓤 (𝓡.run (𝓡.env (#shown (passed (dcons dr dnil))))) S
+  with_present_by : Triple 𝓤 (𝓡.run (𝓡.env (#with_present (passed (dcons dr dnil))))) S
   unfolding code.code
-  shown_by = shown_met.met 𝓤 𝓛 𝓜 𝓡 (code.calls-rart::tree::AdaptiveRadixTree::shown_for 𝓡.env wired) K V P LK LV LP gk dk ge de gpe dpe go d-o gpo dpo gp dp dd dr mk me mpe mo mpo mp md mr
+  with_present_by = with_present_met.met 𝓤 𝓛 𝓜 𝓡 (code.calls-rart::tree::AdaptiveRadixTree::tried_with_present 𝓡.env wired) K V P LK LV LP gk dk ge de gpe dpe go d-o gpo dpo gp dp dd dr mk me mpe mo mpo mp md mr
 
   abbrev tables' : Tables 𝓤 𝓛.H
   tables' = tables_of 𝓤 𝓛.H 𝓜 (tables 𝓤 𝓛.H 𝓜 𝓡 𝓡.env)
@@ -165,24 +164,15 @@ module _ {M : Type 1} (𝓤 : Ura M) (𝓛 : Logic 𝓤) (𝓜 : Model 𝓤 𝓛
   bytes y = gk.bytes y.0.3.1.0
 
   -- what the insertion says of its outcome
-  abbrev Pairs : C.Ghost → Tried.Denot → MapAndShape V.Denot → Type 0
-  Pairs y s n = OnOk s.outcome (n.pairs ≡ put (bytes y) y.0.3.1.1.0 (old y).pairs)
+  abbrev Inserted : C.Ghost → Tried.Denot → MapAndShape V.Denot → Type 0
+  Inserted y s n = InsertsNew (bytes y) y.0.3.1.1.0 (old y).pairs n.pairs s.outcome
 
-  abbrev Absent : C.Ghost → Tried.Denot → Type 0
-  Absent y s = OnOk s.outcome (lookup (bytes y) (old y).pairs ≡ None)
-
-  abbrev NotFull : C.Ghost → Tried.Denot → Type 0
-  NotFull y s = OnOk s.outcome (length (old y).pairs ≢ MAX_PAIRS)
-
-  abbrev Kept : C.Ghost → Tried.Denot → MapAndShape V.Denot → Type 0
-  Kept y s n = OnErr s.outcome (n ≡ old y)
-
-  abbrev Why : C.Ghost → Tried.Denot → Type 0
-  Why y s = IfErr s.outcome (TellsWhy (old y).pairs (bytes y) y.0.3.1.1.0)
+  abbrev Unchanged : C.Ghost → Tried.Denot → MapAndShape V.Denot → Type 0
+  Unchanged y s n = OnErr s.outcome (n ≡ old y)
 
   -- what is said of the result
   abbrev Told : (y : C.Ghost) → (Shown y.0.0.0).Denot → SProp 𝓤
-  Told y t = sep 𝓤 (fact 𝓤 (OnOk t (lookup (bytes y) (old y).pairs ≡ None))) (sep 𝓤 (fact 𝓤 (OnOk t (length (old y).pairs ≢ MAX_PAIRS))) (fact 𝓤 (IfErr t (ShowsWhy (old y).pairs (bytes y) y.0.3.1.1.0))))
+  Told y t = fact 𝓤 (TriesInsert (bytes y) y.0.3.1.1.0 (old y).pairs t)
 
   abbrev Walked : C.Ghost → Type 1
   Walked y = ent 𝓤 (C.pre y) (WpFn 𝓤 𝓛.H tables'.C tables'.Λ function (C.args y) (C.post y))
@@ -224,11 +214,11 @@ module _ {M : Type 1} (𝓤 : Ura M) (𝓛 : Logic 𝓤) (𝓜 : Model 𝓤 𝓛
       move ! (3 ∷ 5 ∷ []) $ join ! $ move ! (0 ∷ 1 ∷ []) $ join ! $ join ! $ use1 𝓛 (raw (I.pre z)) (id⊢ 𝓤 _) $
       calls_at ! (framed 𝓤 𝓛.H 𝓜 (tables 𝓤 𝓛.H 𝓜 𝓡 𝓡.env)) I inserts_by z (and_then ! (get ! refl) (and_then ! (get ! refl) (and_then ! (get ! refl) (no_more !)))) (λ v₁.
       use1 𝓛 (later (some (λ (s : Tried.Denot). ((‵ (flft κ' qr) ⊛ Rest) ⊛ ‵ (Tried.own_val s (v₁ ∷ []))) ⊛ some (λ (ws : Lasts (inserts.ended K V P gk dk ge de gpe dpe go d-o gpo dpo gp dp dd) κs' a').
-      ‵ (lasts (inserts.ended K V P gk dk ge de gpe dpe go d-o gpo dpo gp dp dd) κs' a' ws) ⊛ raw (fact 𝓤 (s.key ≡ k)) ⊛ raw (fact 𝓤 (Pairs y s ws.0)) ⊛ raw (fact 𝓤 (Absent y s)) ⊛ raw (fact 𝓤 (NotFull y s)) ⊛ raw (fact 𝓤 (Kept y s ws.0)) ⊛ raw (fact 𝓤 (Why y s)))))) (id⊢ 𝓤 _) $
+      ‵ (lasts (inserts.ended K V P gk dk ge de gpe dpe go d-o gpo dpo gp dp dd) κs' a' ws) ⊛ raw (fact 𝓤 (s.key ≡ k)) ⊛ raw (fact 𝓤 (Inserted y s ws.0)) ⊛ raw (fact 𝓤 (Unchanged y s ws.0)))))) (id⊢ 𝓤 _) $
       await ! tt $ pick ! (λ s. split ! $ split ! $ split ! $
       -- [the token of both; the other tokens; the outcome; what is said; what the lender keeps; the way back]
       move ! (3 ∷ []) $ pick ! (λ ws. let n : MapAndShape V.Denot = ws.0 in split ! $ move ! (1 ∷ []) $
-      split ! $ heard ! (s.key ≡ k) (λ same. split ! $ heard ! (Pairs y s n) (λ pairs. split ! $ heard ! (Absent y s) (λ absent. split ! $ heard ! (NotFull y s) (λ not_full. split ! $ heard ! (Kept y s n) (λ kept. heard ! (Why y s) (λ why.
+      split ! $ heard ! (s.key ≡ k) (λ same. split ! $ heard ! (Inserted y s n) (λ inserted. heard ! (Unchanged y s n) (λ unchanged.
       fsplit ! $ fsplit ! $
       -- [the loan's last value; its borrow; nothing; the token of both; the other tokens; the outcome; what the lender keeps; the way back]
       move ! (3 ∷ []) $ use1 𝓛 (‵ (flft (α ∷ []) qr) ⊛ ‵ (flft κ qr)) (𝓛.lfts.lft_unmeet (α ∷ []) κ qr) $ split ! $
@@ -244,9 +234,9 @@ module _ {M : Type 1} (𝓤 : Ura M) (𝓛 : Logic 𝓤) (𝓜 : Model 𝓤 𝓛
       let tokens : Toks = (κ, q) ∷ (κ₃, q₃) ∷ [] in let in_tree = meet_⊑_left κ κ₃ in
       let lives = tree_laws.the_within (param 0 K) (param 1 V) (param 2 P) gk gpe go gpo gp (κ ++ κ₃) (⊑_trans (κ ++ κ₃) κ K.lives in_tree (⊑_trans κ κ₁ K.lives bounds.0 in_key)) (⊑_trans (κ ++ κ₃) κ V.lives in_tree (⊑_trans κ κ₂ V.lives bounds.1.0 in_value)) (⊑_trans (κ ++ κ₃) κ₃ P.lives (meet_⊑_right κ κ₃) in_partial) in
       move ! (2 ∷ []) $ fsplit3 ! $ feq_l ! (λ _.
-      -- [the value shown; the borrow; what was tried; the tree's token; the other tokens]
+      -- [the value with_present; the borrow; what was tried; the tree's token; the other tokens]
       move ! (4 ∷ []) $ split ! $ move ! (1 ∷ []) $ split ! $ move ! (1 ∷ []) $ split ! $
-      -- [P's token; nothing; V's token; K's token; the value shown; the borrow; what was tried; the tree's token]
+      -- [P's token; nothing; V's token; K's token; the value with_present; the borrow; what was tried; the tree's token]
       move ! (7 ∷ 0 ∷ []) $ join ! $ use1 𝓛 (raw (lfts 𝓛 tokens)) (id⊢ 𝓤 _) $ move ! (4 ∷ 5 ∷ 0 ∷ []) $
       use3 𝓛 (later (‵ (fobs γ (Tree.coded.code n)) ⊛ (‵ (fbor κ (part_at Tree full_share n b o)) ⊛ raw (lfts 𝓛 tokens)))) (settles 𝓛 (mem Tree) κ tokens in_tree γ n b o) $ await ! tt $ split ! $
       use1 𝓛 (‵ (fres γ (Tree.coded.code n))) (𝓛.names.obs-res γ (Tree.coded.code n)) $ move ! (1 ∷ []) $
@@ -257,23 +247,23 @@ module _ {M : Type 1} (𝓤 : Ura M) (𝓛 : Logic 𝓤) (𝓜 : Model 𝓤 𝓛
       -- [the arguments with the tokens; the tree's last value]
       let seen : Bor (MapAndShape V.Denot) = record { ref_ptr = (b, o); now = n } in
       let z' : S.Ghost = ((κs, qs, bounds, (seen, (s, tt)), (shr_vals seen, (v₁ ∷ [], tt))), tt) in
-      let may = subst (λ (h : K.Denot). IfErr s.outcome (StandsAt n.pairs (gk.bytes h))) (sym same) (lemmas.stands r.now n (gk.bytes k) x s.outcome kept why) in
+      let may = subst (λ (h : K.Denot). IfErr s.outcome (StandsAt n.pairs (gk.bytes h))) (sym same) (lemmas.stored_stands r.now n (gk.bytes k) x s.outcome inserted) in
       use0 𝓛 (raw (fact 𝓤 (κ₁ ⊑ K.lives)) ⊛ raw (fact 𝓤 (κ₂ ⊑ V.lives)) ⊛ raw (fact 𝓤 (κ₃ ⊑ P.lives)) ⊛ raw (fact 𝓤 (IfErr s.outcome (StandsAt n.pairs (gk.bytes s.key)))))
       (beside 𝓤 (κ₁ ⊑ K.lives) in_key (beside 𝓤 (κ₂ ⊑ V.lives) in_value (beside 𝓤 (κ₃ ⊑ P.lives) in_partial (fact_i 𝓤 _ (emp 𝓤) may)))) $
       move ! (1 ∷ 0 ∷ []) $ join ! $ use1 𝓛 (raw (S.pre z')) (id⊢ 𝓤 _) $
-      calls_at ! (framed 𝓤 𝓛.H 𝓜 (tables 𝓤 𝓛.H 𝓜 𝓡 𝓡.env)) S shown_by z' (and_then ! (get ! refl) (and_then ! (get ! refl) (no_more !))) (λ v₂.
-      use1 𝓛 (later (some (λ (t : (Shown κ).Denot). (raw (alive 𝓛 signature κs qs) ⊛ ‵ ((Shown κ).own_val t (v₂ ∷ []))) ⊛ some (λ (ws : Lasts (shown.ended K V P gk dk ge de gpe dpe go d-o gpo dpo gp dp dd dr) κs z'.0.3).
-      ‵ (lasts (shown.ended K V P gk dk ge de gpe dpe go d-o gpo dpo gp dp dd dr) κs z'.0.3 ws) ⊛ raw (fact 𝓤 (IsShown n.pairs (gk.bytes s.key) s.outcome t)))))) (id⊢ 𝓤 _) $
-      await ! tt $ pick ! (λ t. split ! $ move ! (1 ∷ []) $ pick ! (λ ws'. split ! $ drop ! $ heard ! (IsShown n.pairs (gk.bytes s.key) s.outcome t) (λ is'. let is = subst (λ (h : K.Denot). IsShown n.pairs (gk.bytes h) s.outcome t) same is' in split ! $ move ! (1 ∷ []) $
+      calls_at ! (framed 𝓤 𝓛.H 𝓜 (tables 𝓤 𝓛.H 𝓜 𝓡 𝓡.env)) S with_present_by z' (and_then ! (get ! refl) (and_then ! (get ! refl) (no_more !))) (λ v₂.
+      use1 𝓛 (later (some (λ (t : (Shown κ).Denot). (raw (alive 𝓛 signature κs qs) ⊛ ‵ ((Shown κ).own_val t (v₂ ∷ []))) ⊛ some (λ (ws : Lasts (with_present.ended K V P gk dk ge de gpe dpe go d-o gpo dpo gp dp dd dr) κs z'.0.3).
+      ‵ (lasts (with_present.ended K V P gk dk ge de gpe dpe go d-o gpo dpo gp dp dd dr) κs z'.0.3 ws) ⊛ raw (fact 𝓤 (AddsPresent n.pairs (gk.bytes s.key) s.outcome t)))))) (id⊢ 𝓤 _) $
+      await ! tt $ pick ! (λ t. split ! $ move ! (1 ∷ []) $ pick ! (λ ws'. split ! $ drop ! $ heard ! (AddsPresent n.pairs (gk.bytes s.key) s.outcome t) (λ is'. let is = subst (λ (h : K.Denot). AddsPresent n.pairs (gk.bytes h) s.outcome t) same is' in split ! $ move ! (1 ∷ []) $
       peeks ! (Shown κ) (Is (Shown κ)) (shows 𝓛 (Shown κ)) t (v₂ ∷ []) (λ is_shown.
       lands_as ! refl refl ((((shown_is κ).lawful 𝓛).typed t (v₂ ∷ []) is_shown).0) $ returns ! (look_at ! 0 refl) $ free_all ! refl $
       -- [the result; the tokens; the tree's last value]
       move ! (1 ∷ 0 ∷ []) $ join ! $ move ! (1 ∷ []) $
-      use1 𝓛 (‵ (follows_so Tree Tree γ none (λ _ _. ⊤) (lemmas.EndsAs r.now n (gk.bytes k) x t))) (rests 𝓛 Tree γ (lemmas.EndsAs r.now n (gk.bytes k) x t) n (lemmas.ends r.now n (gk.bytes k) x s.outcome t is pairs kept)) $
-      use0 𝓛 (raw (Told y t)) (beside 𝓤 _ (lemmas.only_new r.now n (gk.bytes k) x _ s.outcome t is absent) (beside 𝓤 _ (lemmas.only_new r.now n (gk.bytes k) x _ s.outcome t is not_full) (fact_i 𝓤 _ (emp 𝓤) (lemmas.shows r.now n (gk.bytes k) x s.outcome t is kept why)))) $
+      use1 𝓛 (‵ (follows_so Tree Tree γ none (λ _ _. ⊤) (lemmas.EndsAs r.now n (gk.bytes k) x t))) (rests 𝓛 Tree γ (lemmas.EndsAs r.now n (gk.bytes k) x t) n (lemmas.ends_as_told r.now n (gk.bytes k) x s.outcome t is inserted unchanged)) $
+      use0 𝓛 (raw (Told y t)) (fact_i 𝓤 _ (emp 𝓤) (lemmas.tries_insert r.now n (gk.bytes k) x s.outcome t is inserted)) $
       move ! (1 ∷ 0 ∷ []) $ join ! $ nothing ! $ nothing ! $ fjoin ! $ nothing ! $ fjoin ! $ nothing ! $ fjoin ! $ join ! $
       use1 𝓛 (raw ((Said (At y u v)).ensures tt t)) (ex_i 𝓤 (λ (us : Lasts (tries.ended K V P gk dk ge de gpe dpe go d-o gpo dpo gp dp dd dr) κs a). sep 𝓤 (sem 𝓛 (lasts (tries.ended K V P gk dk ge de gpe dpe go d-o gpo dpo gp dp dd dr) κs a us)) (sep 𝓤 (sem 𝓛 (follows_so Tree Tree γ none (λ _ _. ⊤) (lemmas.EndsAs r.now n (gk.bytes k) x t))) (Told y t))) (tt, (tt, (tt, tt)))) $ move ! (1 ∷ 0 ∷ []) $ join ! $
-      by ! (via 𝓤 (ex 𝓤 (Done (At y u v) v₂)) (ex_i 𝓤 (Done (At y u v) v₂) t) (𝓛.laws.⇛_intro (ex 𝓤 (Done (At y u v) v₂))))))))))))))))))))))))))))
+      by ! (via 𝓤 (ex 𝓤 (Done (At y u v) v₂)) (ex_i 𝓤 (Done (At y u v) v₂) t) (𝓛.laws.⇛_intro (ex 𝓤 (Done (At y u v) v₂)))))))))))))))))))))))))
 
   walks : (y : C.Ghost) → Walked y
   walks y =
