@@ -14,10 +14,11 @@ pub mod tree;
 pub use crate::stats::{NodeStats, TreeStats, TreeStatsTrait};
 pub use crate::tree::AdaptiveRadixTree;
 pub use crate::tree::guarded::{NotInserted, TryInsertError};
+pub use crate::tree::update::TryUpdateError;
 pub use rart_keys::{ArrPartial, ArrayKey, KeyTrait, Partial, keys, partials};
 pub use rart_nodes::node::seen::Seen;
 pub use rart_nodes::node::{Iter, SeenIter, ValuesIter};
-pub use rart_nodes::{Count, Refused, Visits, node};
+pub use rart_nodes::{Count, Refused, Slot, SlotUpdate, UpdateError, Visits, node};
 pub use rart_parts::{TreeError, mapping, utils};
 
 #[cfg(test)]

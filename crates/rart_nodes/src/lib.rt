@@ -8,8 +8,8 @@ mod count;
 pub mod laws;
 pub mod node;
 mod refused;
-pub mod slot;
 pub mod shape;
+pub mod slot;
 pub mod stats;
 
 pub use count::{Count, Visits};

@@ -194,6 +194,9 @@ module _ {V : Type 0} where
     ends-lost full Remove (Some y) (Ok (Replaced z)) u l er' s h q = absurd q
     ends-lost full Remove (Some y) (Err (Not_inserted d)) u l er' s h q = absurd q
     ends-lost full Remove (Some y) (Err Not_removed) u l er' s h q =
-        let many : length (edges_of (as_children es')) ≡ length (edges_of (as_children es)) = edges_of-length es' ∙ ap length ee ∙ replaced-length b t' es ∙ sym (edges_of-length es) in
-        (ap Some q.0 ∙ left-child (Some y) (ap Some (h ∙ leaf-put rest y t l)), refl, s,
-        removal.asks-leaf p k rest v m m b n t es es c e whole more er eb at l refl refl (rw (← em) q.1) (rw (← em, ← many) q.2))
+        let many : length (edges_of (as_children es')) ≡ length (edges_of (as_children es)) = edges_of-length es' ∙ ap length ee ∙ replaced-length b t' es ∙ sym (edges_of-length es) in (
+          ap Some q.0 ∙ left-child (Some y) (ap Some (h ∙ leaf-put rest y t l)),
+          refl,
+          s,
+          removal.asks-leaf p k rest v m m b n t es es c e whole more er eb at l refl refl (rw (← em) q.1) (rw (← em, ← many) q.2),
+        )
