@@ -3,12 +3,15 @@ pub mod EditRunLemmas
 pub mod InsertAskLemmas
 pub mod InsertLemmas
 pub mod JoinLemmas
+pub mod JoinedLengths
+pub mod LeafLemmas
 pub mod LoanLemmas
 pub mod NodeEditLemmas
 pub mod Outcomes
 pub mod PutAskLemmas
 pub mod PutLemmas
 pub mod RemoveAskLemmas
+pub mod RemoveAskSteps
 pub mod RemoveLemmas
 pub mod RemoveSteps
 pub mod RemovedPairs

@@ -3,3 +3,4 @@ pub mod FirstBytes
 pub mod LongerPrefix
 pub mod NodeCounts
 pub mod PairLemmas
+pub mod RestLemmas

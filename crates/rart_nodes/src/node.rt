@@ -18,6 +18,7 @@ mod lend;
 mod look_up;
 mod made;
 mod remove;
+mod rest;
 pub mod seen;
 mod statistics;
 pub mod storage;

@@ -1,10 +1,11 @@
 -- What an insertion leaves at one node, as the code makes it, is what `trie_put` says.
 use Rattle.std.proofs.Common.{◌≡◌, ℕ, suc, ◌-◌, ◌<◌, ◌≤◌, true, false, cond, eqb, List, [], ◌∷◌, length, take, drop, nat_eq, Option, Some, None, Result, Ok, Err, refl, arith, sym, ap, ◌∙◌, inl, ⊎_elim}
 use Rattle.std.proofs.lemmas.List.{append-nil}
-use Rattle.std.specs.Prelude.{OnErr}
+use Rattle.std.specs.Prelude.{OnErr, slice_get}
 use Rattle.std.specs.List.{common_prefix_len}
 use Rattle.std.proofs.lemmas.Bool.Decides.{nat_tests}
 use Rattle.std.proofs.lemmas.List.{length-drop}
+use Rattle.rart_keys.specs.ByteStrings.{strip_prefix}
 use Rattle.rart_keys.specs.KeyBytes.{IsWithin}
 use Rattle.rart_keys.proofs.ByteOrder.{order, is_less, is_equal, is_greater, eq-yes, eq-no}
 use Rattle.rart_parts.specs.Entries.{child_at, with_entry, replaced}
@@ -13,7 +14,8 @@ use Rattle.rart_nodes.specs.shapes.Shape.{capacity_of}
 use Rattle.rart_nodes.specs.tries.Trie.{Trie, node, Children, no_children, child, edges_of, IsCanonical, AreCanonical, trie_lookup, child_lookup, trie_put, put_child, fitting_node, leaf, fork, pairs_of, with_records, children_with_records}
 use Rattle.rart_nodes.specs.tries.TrieCode.{as_children}
 use Rattle.rart_nodes.proofs.storages.ChildLemmas.{edges_of-length, replaced-length, with_entry-length, found, Found, at_first, behind_first, child_lookup-found, child_lookup-none, put_child-found, put_child-none, tail-none, fork-is, child_at-beside}
-use Rattle.rart_nodes.proofs.edits.Descent.{first, first-differ, slice_from-is, trie_lookup-down, put-lower, put-fork, put-down}
+use Rattle.rart_nodes.proofs.edits.Descent.{first, first-differ, put-lower, put-fork}
+use Rattle.rart_nodes.proofs.tries.RestLemmas.{rest-length, trie_lookup-followed, trie_put-followed}
 
 pub on_err : {A E P : Type 0} (r : Result A E) → P → OnErr r P
 on_err (Ok x) p = tt
@@ -47,41 +49,28 @@ module _ {V : Type 0} where
   same-width w es fs e h = e ∙ ap capacity_of (edges_of-length es ∙ sym h ∙ sym (edges_of-length fs))
 
   -- an insertion below a child
-  pub insert-child : (p k rest : List ℕ) (v : V) (old : Option V) (w w' b n : ℕ) (t t' : Trie V) (es es' : List (ℕ × Trie V))
-      → IsCanonical (node p old w (as_children es)) → n ≡ common_prefix_len nat_eq p k → length p ≤ n → (length k ≡ n → ⊥) → rest ≡ drop n k → b ≡ first rest
+  pub put-below : (p k rest : List ℕ) (v : V) (old : Option V) (w w' b : ℕ) (t t' : Trie V) (es es' : List (ℕ × Trie V))
+      → IsCanonical (node p old w (as_children es)) → Some rest ≡ strip_prefix p k → Some b ≡ slice_get rest 0
       → Some t ≡ child_at b es → t' ≡ trie_put rest v t → w' ≡ w → es' ≡ replaced b t' es
       → node p old w' (as_children es') ≡ trie_put k v (node p old w (as_children es))
-  insert-child p k rest v old w w' b n t t' es es' c e full more er eb at et ew ee =
+  put-below p k rest v old w w' b t t' es es' c e h at et ew ee =
       let width : w' ≡ capacity_of (length (edges_of (as_children es'))) = ew ∙ same-width w es es' c.1 (ap length ee ∙ replaced-length b t' es) in
-      let below : as_children es' ≡ put_child (first (drop n k)) (drop n k) v (as_children es)
-      = ap as_children (ee ∙ ap (λ z. replaced b z es) et) ∙ sym (put_child-found b 0 rest v t es c.2 at) ∙ ap (λ z. put_child z rest v (as_children es)) eb ∙ ap (λ r. put_child (first r) r v (as_children es)) er in
-      ap (λ z. node p old z (as_children es')) width ∙ ap (fitting_node p old) below ∙ sym (put-down p k v old w (as_children es) n e full more)
+      let below : as_children es' ≡ put_child b rest v (as_children es)
+      = ap as_children (ee ∙ ap (λ z. replaced b z es) et) ∙ sym (put_child-found b 0 rest v t es c.2 at) in
+      ap (λ z. node p old z (as_children es')) width ∙ ap (fitting_node p old) below ∙ sym (trie_put-followed p k rest b v old w (as_children es) e h)
 
   -- a new leaf beside the children
-  pub insert-leaf : (p k rest : List ℕ) (v : V) (old : Option V) (w w' b n : ℕ) (es es' : List (ℕ × Trie V))
-      → IsCanonical (node p old w (as_children es)) → n ≡ common_prefix_len nat_eq p k → length p ≤ n → (length k ≡ n → ⊥) → rest ≡ drop n k → b ≡ first rest
+  pub put-beside : (p k rest : List ℕ) (v : V) (old : Option V) (w w' b : ℕ) (es es' : List (ℕ × Trie V))
+      → IsCanonical (node p old w (as_children es)) → Some rest ≡ strip_prefix p k → Some b ≡ slice_get rest 0
       → None ≡ child_at b es → w' ≡ widened (length es) w → es' ≡ with_entry b (leaf rest v) es
       → node p old w' (as_children es') ≡ trie_put k v (node p old w (as_children es))
-  insert-leaf p k rest v old w w' b n es es' c e full more er eb at ew ee =
+  put-beside p k rest v old w w' b es es' c e h at ew ee =
       let many : length (edges_of (as_children es')) ≡ suc (length es) = edges_of-length es' ∙ ap length ee ∙ with_entry-length b (leaf rest v) es at in
       let width : w' ≡ capacity_of (length (edges_of (as_children es')))
       = ew ∙ ap (widened (length es)) (c.1 ∙ ap capacity_of (edges_of-length es)) ∙ widened-capacity (length es) ∙ sym (ap capacity_of many) in
-      let below : as_children es' ≡ put_child (first (drop n k)) (drop n k) v (as_children es)
-      = ap as_children ee ∙ sym (put_child-none b rest v es at) ∙ ap (λ z. put_child z rest v (as_children es)) eb ∙ ap (λ r. put_child (first r) r v (as_children es)) er in
-      ap (λ z. node p old z (as_children es')) width ∙ ap (fitting_node p old) below ∙ sym (put-down p k v old w (as_children es) n e full more)
-
-  -- look-ups on the same ways
-  pub trie_lookup-child : (p k rest : List ℕ) (old : Option V) (w b n : ℕ) (t : Trie V) (es : List (ℕ × Trie V))
-      → IsCanonical (node p old w (as_children es)) → n ≡ common_prefix_len nat_eq p k → length p ≤ n → (length k ≡ n → ⊥) → rest ≡ drop n k → b ≡ first rest → Some t ≡ child_at b es
-      → trie_lookup k (node p old w (as_children es)) ≡ trie_lookup rest t
-  trie_lookup-child p k rest old w b n t es c e full more er eb at = trie_lookup-down p k old w (as_children es) n e full more
-      ∙ ap (λ r. child_lookup (first r) r (as_children es)) (sym er) ∙ ap (λ z. child_lookup z rest (as_children es)) (sym eb) ∙ child_lookup-found b 0 rest t es c.2 at
-
-  pub trie_lookup-no_child : (p k rest : List ℕ) (old : Option V) (w b n : ℕ) (es : List (ℕ × Trie V))
-      → n ≡ common_prefix_len nat_eq p k → length p ≤ n → (length k ≡ n → ⊥) → rest ≡ drop n k → b ≡ first rest → None ≡ child_at b es
-      → trie_lookup k (node p old w (as_children es)) ≡ None
-  trie_lookup-no_child p k rest old w b n es e full more er eb at = trie_lookup-down p k old w (as_children es) n e full more
-      ∙ ap (λ r. child_lookup (first r) r (as_children es)) (sym er) ∙ ap (λ z. child_lookup z rest (as_children es)) (sym eb) ∙ child_lookup-none b rest es at
+      let below : as_children es' ≡ put_child b rest v (as_children es)
+      = ap as_children ee ∙ sym (put_child-none b rest v es at) in
+      ap (λ z. node p old z (as_children es')) width ∙ ap (fitting_node p old) below ∙ sym (trie_put-followed p k rest b v old w (as_children es) e h)
 
   -- the records of children that are given as entries
   records-found : (b low : ℕ) (k : List ℕ) (t : Trie V) (es : List (ℕ × Trie V)) → AreCanonical low (as_children es) → Some t ≡ child_at b es → child_lookup b k (children_with_records (as_children es)) ≡ trie_lookup k (with_records t)
@@ -97,17 +86,15 @@ module _ {V : Type 0} where
       (λ h. rw (is_less b e.0 h) refl)
       (⊎_elim (λ h. absurd (t.0 h)) (λ h. rw (is_greater b e.0 h) (records-none b k es t.1))) (order b e.0)
 
-  pub record-child : (p k rest : List ℕ) (old : Option V) (w b n : ℕ) (t : Trie V) (es : List (ℕ × Trie V))
-      → IsCanonical (node p old w (as_children es)) → n ≡ common_prefix_len nat_eq p k → length p ≤ n → (length k ≡ n → ⊥) → rest ≡ drop n k → b ≡ first rest → Some t ≡ child_at b es
+  pub record-child : (p k rest : List ℕ) (old : Option V) (w b : ℕ) (t : Trie V) (es : List (ℕ × Trie V))
+      → IsCanonical (node p old w (as_children es)) → Some rest ≡ strip_prefix p k → Some b ≡ slice_get rest 0 → Some t ≡ child_at b es
       → trie_lookup rest (with_records t) ≡ None → trie_lookup k (with_records (node p old w (as_children es))) ≡ None
-  record-child p k rest old w b n t es c e full more er eb at none = trie_lookup-down p k _ w (children_with_records (as_children es)) n e full more
-      ∙ ap (λ r. child_lookup (first r) r (children_with_records (as_children es))) (sym er) ∙ ap (λ z. child_lookup z rest (children_with_records (as_children es))) (sym eb) ∙ records-found b 0 rest t es c.2 at ∙ none
+  record-child p k rest old w b t es c e h at none = trie_lookup-followed p k rest b _ w (children_with_records (as_children es)) e h ∙ records-found b 0 rest t es c.2 at ∙ none
 
-  pub record-no_child : (p k rest : List ℕ) (old : Option V) (w b n : ℕ) (es : List (ℕ × Trie V))
-      → n ≡ common_prefix_len nat_eq p k → length p ≤ n → (length k ≡ n → ⊥) → rest ≡ drop n k → b ≡ first rest → None ≡ child_at b es
+  pub record-no_child : (p k rest : List ℕ) (old : Option V) (w b : ℕ) (es : List (ℕ × Trie V))
+      → Some rest ≡ strip_prefix p k → Some b ≡ slice_get rest 0 → None ≡ child_at b es
       → trie_lookup k (with_records (node p old w (as_children es))) ≡ None
-  record-no_child p k rest old w b n es e full more er eb at = trie_lookup-down p k _ w (children_with_records (as_children es)) n e full more
-      ∙ ap (λ r. child_lookup (first r) r (children_with_records (as_children es))) (sym er) ∙ ap (λ z. child_lookup z rest (children_with_records (as_children es))) (sym eb) ∙ records-none b rest es at
+  record-no_child p k rest old w b es e h at = trie_lookup-followed p k rest b _ w (children_with_records (as_children es)) e h ∙ records-none b rest es at
 
   -- a child that is put back as it was
   pub replaced-same : (b : ℕ) (t : Trie V) (es : List (ℕ × Trie V)) → Some t ≡ child_at b es → replaced b t es ≡ es
@@ -117,17 +104,17 @@ module _ {V : Type 0} where
       (⊎_elim (λ h. let f : t ≡ e.1 = cc (rw (eq-yes e.0 b (sym h)) at s) in rw (eq-yes e.0 b (sym h), f, h) refl)
       (λ h. rw (eq-no e.0 b (λ q. omega arith)) (ap (λ l. e ∷ l) (replaced-same b t es (rw (eq-no e.0 b (λ q. omega arith)) at s))))) (order b e.0)
 
-  pub insert-refused : (p : List ℕ) (old : Option V) (w w' b : ℕ) (t t' : Trie V) (es es' : List (ℕ × Trie V)) → Some t ≡ child_at b es → t' ≡ t → w' ≡ w → es' ≡ replaced b t' es
+  pub child-put_back : (p : List ℕ) (old : Option V) (w w' b : ℕ) (t t' : Trie V) (es es' : List (ℕ × Trie V)) → Some t ≡ child_at b es → t' ≡ t → w' ≡ w → es' ≡ replaced b t' es
       → node p old w' (as_children es') ≡ node p old w (as_children es)
-  insert-refused p old w w' b t t' es es' at et ew ee = ap (λ z. node p old z (as_children es')) ew ∙ ap (λ l. node p old w (as_children l)) (ee ∙ ap (λ z. replaced b z es) et ∙ replaced-same b t es at)
+  child-put_back p old w w' b t t' es es' at et ew ee = ap (λ z. node p old z (as_children es')) ew ∙ ap (λ l. node p old w (as_children l)) (ee ∙ ap (λ z. replaced b z es) et ∙ replaced-same b t es at)
 
 pub fewer-within : (m : Option ℕ) (a b : ℕ) → b ≤ a → IsWithin m a → IsWithin m b
 fewer-within None a b h w = tt
 fewer-within (Some m) a b h w = omega arith
 
--- the rest of a key is within the maximum
-pub rest-within : (k : List ℕ) (n : ℕ) (m : Option ℕ) → IsWithin m (length k) → IsWithin m (length (take (length k - n) (drop n k)))
-rest-within k n m h = fewer-within m (length k) _ (rw (slice_from-is k n) (omega (arith, length-drop n k))) h
+-- what is left of a key is within the maximum
+pub rest-within : (m : Option ℕ) (p k rest : List ℕ) → Some rest ≡ strip_prefix p k → IsWithin m (length k) → IsWithin m (length rest)
+rest-within m p k rest e h = fewer-within m (length k) (length rest) (rest-length p k rest e) h
 
 module _ {V : Type 0} where
   -- a new leaf

@@ -1,6 +1,6 @@
 -- What an update leaves at one node.
 use Rattle.std.proofs.Common.{◌≡◌, ◌≢◌, ℕ, suc, ◌+◌, ◌-◌, ◌<◌, ◌≤◌, ⊎_elim, true, false, Bool, List, [], ◌∷◌, length, take, drop, nat_eq, slice_index, slice_index_or, Option, Some, None, Result, Ok, Err, is_some, option_and_then, refl, arith, sym, ap, subst, ◌∙◌}
-use Rattle.std.specs.List.{common_prefix_len}
+use Rattle.std.specs.Prelude.{slice_get}
 use Rattle.rart_keys.specs.ByteStrings.{strip_prefix}
 use Rattle.rart_keys.proofs.ByteOrder.{eq-yes, eq-no, equal_or_not}
 use Rattle.rart_parts.specs.Entries.{child_at, replaced}
@@ -21,21 +21,19 @@ use Rattle.rart_nodes.specs.tries.TrieCode.{as_children}
 use Rattle.rart_nodes.specs.updates.Slots.{HasRoom, outcome_of}
 use Rattle.rart_nodes.specs.updates.TreeUpdates.{AsksPut, AsksRemove, EndsHere, EndsLeaf, EndsTree, LosesLeaf, RefusesPut, node_holding, tree_left, tree_updated}
 use Rattle.rart_nodes.proofs.storages.ChildLemmas.{edges_of-length, replaced-length, some-equal}
-use Rattle.rart_nodes.proofs.edits.Descent.{first, put-here, slice_from-is, trie_lookup-short}
-use Rattle.rart_nodes.proofs.edits.InsertLemmas.{insert-child, insert-refused, record-child}
-use Rattle.rart_nodes.proofs.edits.PutAskLemmas.{asks-short, asks-child}
-use Rattle.rart_nodes.proofs.edits.RemoveSteps.{leaf-edges, leaf-gone, removed-child, removed-here, removed-leaf}
-use Rattle.rart_nodes.proofs.edits.RemoveSteps as removal
+use Rattle.rart_nodes.proofs.edits.InsertLemmas.{put-below, child-put_back, record-child}
+use Rattle.rart_nodes.proofs.edits.LeafLemmas.{leaf-edges, leaf-gone}
+use Rattle.rart_nodes.proofs.edits.PutAskLemmas.{asks_put-left, asks_put-below}
+use Rattle.rart_nodes.proofs.edits.RemoveAskSteps.{asks_remove-below, asks_remove-leaf}
+use Rattle.rart_nodes.proofs.edits.RemoveSteps.{removed-below, removed-leaf, value-removed}
+use Rattle.rart_nodes.proofs.tries.RestLemmas.{trie_lookup-left, trie_put-ended}
 use Rattle.rart_nodes.proofs.walks.SeenLemmas.{child_of-entries}
 
--- a prefix that ends a key is the key
-end-length : (p k : List ℕ) → is_end (strip_prefix p k) ≡ true → (length k ≡ length p) × (length p ≡ common_prefix_len nat_eq p k)
-end-length [] [] h = (refl, refl)
-end-length [] (y ∷ k) h = absurd (cc)
-end-length (x ∷ p) [] h = absurd (cc)
-end-length (x ∷ p) (y ∷ k) h = ⊎_elim
-    (λ e. let r = end-length p k (rw (eq-yes x y e) at h) in rw (eq-yes x y e) (omega (arith, r.0), omega (arith, r.1)))
-    (λ n. absurd (let g = rw (eq-no x y n) at h in cc)) (equal_or_not x y)
+-- nothing is left of a key that ends
+end-rest : (o : Option (List ℕ)) → is_end o ≡ true → Some [] ≡ o
+end-rest None h = absurd (cc)
+end-rest (Some []) h = refl
+end-rest (Some (b ∷ k)) h = absurd (cc)
 
 module _ {V : Type 0} where
   pub none-there : (w o : Option V) → is_some w ≡ is_some o → o ≡ None → w ≡ None
@@ -53,38 +51,38 @@ module _ {V : Type 0} where
   refuses-memory full k t Full h f a = absurd (cc)
 
   -- a split asks for memory
-  pub short-asks : (k : List ℕ) (t : Trie V) (n : ℕ) → n ≡ common_prefix_len nat_eq (prefix_of t) k → n < length (prefix_of t) → AsksPut k (Some t)
-  short-asks k (node p v w cs) n e h = (asks-short p k v w cs n e h, trie_lookup-short p k _ w _ n e h)
+  pub left-asks : (k : List ℕ) (t : Trie V) → None ≡ strip_prefix (prefix_of t) k → AsksPut k (Some t)
+  left-asks k (node p v w cs) e = (asks_put-left p k v w cs e, trie_lookup-left p k _ w _ e)
 
   -- the same update of the same tree
   pub ends-same : (full : Bool) (k : List ℕ) (r : SlotUpdate V) (w : Option V) (t t' : Trie V) (res : Result (Outcome V) (UpdateError V)) (u : Option (Trie V)) → t' ≡ t → EndsTree full k r w (Some t') res u → EndsTree full k r w (Some t) res u
   ends-same full k r w t t' res u e h = subst (λ (z : Trie V). EndsTree full k r w (Some z) res u) e h
 
   -- at the node of the key, which has children
-  pub ends-here : (full : Bool) (p k : List ℕ) (v v' : Option V) (n m : ℕ) (es : List (ℕ × Trie V)) → IsCanonical (node p v m (as_children es))
-      → n ≡ common_prefix_len nat_eq p k → length p ≤ n → length k ≡ n → is_leaf_at k (node p v m (as_children es)) ≡ false
+  pub ends-here : (full : Bool) (p k rest : List ℕ) (v v' : Option V) (m : ℕ) (es : List (ℕ × Trie V)) → IsCanonical (node p v m (as_children es))
+      → Some rest ≡ strip_prefix p k → None ≡ slice_get rest 0 → is_leaf_at k (node p v m (as_children es)) ≡ false
       → (r : SlotUpdate V) (w : Option V) (res : Result (Outcome V) (UpdateError V)) (u : Trie V) → is_some w ≡ is_some v
       → EndsHere full r w (node p v' m (as_children es)) res u → EndsTree full k r w (Some (node p v m (as_children es))) res (Some u)
-  ends-here full p k None v' n m es c e whole end inner Keep None (Ok o) u s h = (ap Some h.0, h.1, rw h.1 tt)
-  ends-here full p k (Some v) v' n m es c e whole end inner Keep None (Ok o) u s h = absurd (cc)
-  ends-here full p k v v' n m es c e whole end inner Keep (Some y) (Ok o) u s h = (ap Some (h.0 ∙ sym (put-here p k y v m (as_children es) n e whole end)), h.1, rw h.1 tt)
-  ends-here full p k None v' n m es c e whole end inner Remove None (Ok o) u s h = (ap Some h.0, h.1, rw h.1 tt)
-  ends-here full p k (Some v) v' n m es c e whole end inner Remove None (Ok o) u s h = absurd (cc)
-  ends-here full p k v v' n m es c e whole end inner Remove (Some y) (Ok o) u s h = (ap Some h.0 ∙ removed-here p k v m n es c e whole end inner, h.1, rw h.1 tt)
-  ends-here full p k v v' n m es c e whole end inner (Insert x) w (Ok o) u s h = (ap Some (h.0 ∙ sym (put-here p k x v m (as_children es) n e whole end)), h.1, h.2)
-  ends-here full p k None v' n m es c e whole end inner Keep w (Err (Not_inserted d)) u s h = absurd (let z = h.1 in cc)
-  ends-here full p k None v' n m es c e whole end inner Remove w (Err (Not_inserted d)) u s h = absurd (let z = h.1 in cc)
-  ends-here full p k None v' n m es c e whole end inner (Insert x) w (Err (Not_inserted d)) u s h = (ap Some h.0, h.1, h.2, rw h.3 h.4)
-  ends-here full p k (Some v) v' n m es c e whole end inner Keep w (Err (Not_inserted d)) u s h = absurd (let z = h.1 in cc)
-  ends-here full p k (Some v) v' n m es c e whole end inner Remove w (Err (Not_inserted d)) u s h = absurd (let z = h.1 in cc)
-  ends-here full p k (Some v) v' n m es c e whole end inner (Insert x) w (Err (Not_inserted d)) u s h = let z = rw h.2 at s in absurd (cc)
-  ends-here full p k v v' n m es c e whole end inner Keep w (Err Not_removed) u s h = absurd h
-  ends-here full p k v v' n m es c e whole end inner Remove w (Err Not_removed) u s h = absurd h
-  ends-here full p k v v' n m es c e whole end inner (Insert x) w (Err Not_removed) u s h = absurd h
+  ends-here full p k rest None v' m es c er end inner Keep None (Ok o) u s h = (ap Some h.0, h.1, rw h.1 tt)
+  ends-here full p k rest (Some v) v' m es c er end inner Keep None (Ok o) u s h = absurd (cc)
+  ends-here full p k rest v v' m es c er end inner Keep (Some y) (Ok o) u s h = (ap Some (h.0 ∙ sym (trie_put-ended p k rest y v m (as_children es) er end)), h.1, rw h.1 tt)
+  ends-here full p k rest None v' m es c er end inner Remove None (Ok o) u s h = (ap Some h.0, h.1, rw h.1 tt)
+  ends-here full p k rest (Some v) v' m es c er end inner Remove None (Ok o) u s h = absurd (cc)
+  ends-here full p k rest v v' m es c er end inner Remove (Some y) (Ok o) u s h = (ap Some h.0 ∙ value-removed p k rest v m es c er end inner, h.1, rw h.1 tt)
+  ends-here full p k rest v v' m es c er end inner (Insert x) w (Ok o) u s h = (ap Some (h.0 ∙ sym (trie_put-ended p k rest x v m (as_children es) er end)), h.1, h.2)
+  ends-here full p k rest None v' m es c er end inner Keep w (Err (Not_inserted d)) u s h = absurd (let z = h.1 in cc)
+  ends-here full p k rest None v' m es c er end inner Remove w (Err (Not_inserted d)) u s h = absurd (let z = h.1 in cc)
+  ends-here full p k rest None v' m es c er end inner (Insert x) w (Err (Not_inserted d)) u s h = (ap Some h.0, h.1, h.2, rw h.3 h.4)
+  ends-here full p k rest (Some v) v' m es c er end inner Keep w (Err (Not_inserted d)) u s h = absurd (let z = h.1 in cc)
+  ends-here full p k rest (Some v) v' m es c er end inner Remove w (Err (Not_inserted d)) u s h = absurd (let z = h.1 in cc)
+  ends-here full p k rest (Some v) v' m es c er end inner (Insert x) w (Err (Not_inserted d)) u s h = let z = rw h.2 at s in absurd (cc)
+  ends-here full p k rest v v' m es c er end inner Keep w (Err Not_removed) u s h = absurd h
+  ends-here full p k rest v v' m es c er end inner Remove w (Err Not_removed) u s h = absurd h
+  ends-here full p k rest v v' m es c er end inner (Insert x) w (Err Not_removed) u s h = absurd h
 
   -- at a leaf
   leaf-put : (k : List ℕ) (x : V) (t : Trie V) → is_leaf_at k t ≡ true → node_holding (Some x) t ≡ trie_put k x t
-  leaf-put k x (node p v w no_children) h = let e = end-length p k h in sym (put-here p k x v w no_children (length p) e.1 (omega arith) e.0)
+  leaf-put k x (node p v w no_children) h = sym (trie_put-ended p k [] x v w no_children (end-rest (strip_prefix p k) h) refl)
   leaf-put k x (node p v w (child b t cs)) h = absurd (cc)
 
   pub leaf-done : (full : Bool) (k : List ℕ) (t u : Trie V) (r : SlotUpdate V) (w : Option V) (o : Outcome V) → is_leaf_at k t ≡ true → EndsLeaf r w t (Some o) u → EndsTree full k r w (Some t) (Ok o) (Some u)
@@ -145,58 +143,58 @@ module _ {V : Type 0} where
   pub holding-some : (w : Option V) (t t' : Trie V) → w ≢ None → t' ≡ node_holding w t → value_of t' ≢ None
   holding-some w t t' s e z = s (sym (ap value_of e ∙ holding-value w t) ∙ z)
 
-  pub child-absent : (k : List ℕ) (n : ℕ) (es es' : List (ℕ × Trie V)) → None ≡ child_at (slice_index_or (take (length k - n) (drop n k)) 0 0) es → es' ≡ es → child_of (slice_index (drop n k) 0) (as_children es') ≡ None
-  child-absent k n es es' at ee = child_of-entries (slice_index (drop n k) 0) es' ∙ ap (child_at (slice_index (drop n k) 0)) ee ∙ sym (rw (slice_from-is k n) at at)
+  pub child-absent : (b : ℕ) (es es' : List (ℕ × Trie V)) → None ≡ child_at b es → es' ≡ es → child_of b (as_children es') ≡ None
+  child-absent b es es' at ee = child_of-entries b es' ∙ ap (child_at b) ee ∙ sym at
 
-  pub none-at : (k : List ℕ) (n : ℕ) (es : List (ℕ × Trie V)) → child_of (slice_index (drop n k) 0) (as_children es) ≡ None → child_at (slice_index_or (take (length k - n) (drop n k)) 0 0) es ≡ None
-  none-at k n es h = rw (slice_from-is k n) (sym (child_of-entries (slice_index (drop n k) 0) es) ∙ h)
+  pub none-at : (b : ℕ) (es : List (ℕ × Trie V)) → child_of b (as_children es) ≡ None → child_at b es ≡ None
+  none-at b es h = sym (child_of-entries b es) ∙ h
 
-  module _ (p k rest : List ℕ) (v : Option V) (m m' b n : ℕ) (t t' : Trie V) (es es' : List (ℕ × Trie V))
-      (c : IsCanonical (node p v m (as_children es))) (e : n ≡ common_prefix_len nat_eq p k) (whole : length p ≤ n) (more : length k ≡ n → ⊥) (er : rest ≡ drop n k) (eb : b ≡ first rest)
+  module _ (p k rest : List ℕ) (v : Option V) (m m' b : ℕ) (t t' : Trie V) (es es' : List (ℕ × Trie V))
+      (c : IsCanonical (node p v m (as_children es))) (er : Some rest ≡ strip_prefix p k) (eb : Some b ≡ slice_get rest 0)
       (at : Some t ≡ child_at b es) (em : m' ≡ m) (ee : es' ≡ replaced b t' es) where
     left-child : (y : Option V) → Some t' ≡ tree_left rest y (Some t) → Some (node p v m' (as_children es')) ≡ tree_left k y (Some (node p v m (as_children es)))
-    left-child None h = ap Some (insert-refused p v m m' b t t' es es' at (some-equal t' t h) em ee)
-    left-child (Some y) h = ap Some (insert-child p k rest y v m m' b n t t' es es' c e whole more er eb at (some-equal t' (trie_put rest y t) h) em ee)
+    left-child None h = ap Some (child-put_back p v m m' b t t' es es' at (some-equal t' t h) em ee)
+    left-child (Some y) h = ap Some (put-below p k rest y v m m' b t t' es es' c er eb at (some-equal t' (trie_put rest y t) h) em ee)
 
     pub ends-child_ok : (full : Bool) (r : SlotUpdate V) (y : Option V) (o : Outcome V) → EndsTree full rest r y (Some t) (Ok o) (Some t') → EndsTree full k r y (Some (node p v m (as_children es))) (Ok o) (Some (node p v m' (as_children es')))
     ends-child_ok full Keep y o h = (left-child y h.0, h.1, h.2)
     ends-child_ok full Remove None o h = (left-child None h.0, h.1, h.2)
-    ends-child_ok full Remove (Some y) o h = (removed-child p k rest v m m' b n t t' es es' c e whole more er eb at h.0 em ee, h.1, h.2)
+    ends-child_ok full Remove (Some y) o h = (removed-below p k rest v m m' b t t' es es' c er eb at h.0 em ee, h.1, h.2)
     ends-child_ok full (Insert x) y o h = (left-child (Some x) h.0, h.1, h.2)
 
     refuses-child : (full : Bool) (d : TreeError) → RefusesPut full rest (Some t) d → RefusesPut full k (Some (node p v m (as_children es))) d
     refuses-child full Full h = h
-    refuses-child full Memory h = (h.0, (asks-child p k rest v m b n t es c e whole more er eb at h.1.0, record-child p k rest v m b n t es c e whole more er eb at h.1.1))
+    refuses-child full Memory h = (h.0, (asks_put-below p k rest v m b t es c er eb at h.1.0, record-child p k rest v m b t es c er eb at h.1.1))
 
     pub ends-child : (full : Bool) (r : SlotUpdate V) (y : Option V) (res : Result (Outcome V) (UpdateError V)) → is_leaf_at rest t ≡ false
         → EndsTree full rest r y (Some t) res (Some t') → EndsTree full k r y (Some (node p v m (as_children es))) res (Some (node p v m' (as_children es')))
     ends-child full r y (Ok o) inner h = ends-child_ok full r y o h
     ends-child full r y (Err (Not_inserted d)) inner h = (left-child None h.0, h.1, h.2, refuses-child full d.error h.3)
-    ends-child full r y (Err Not_removed) inner h = (left-child y h.0, h.1, h.2, removal.asks-child p k rest v m b n t es c e whole more er eb at inner h.3)
+    ends-child full r y (Err Not_removed) inner h = (left-child y h.0, h.1, h.2, asks_remove-below p k rest v m b t es c er eb at inner h.3)
 
     -- a leaf that goes, or stays where there is no memory
     without-gone : is_leaf_at rest t ≡ true → Some (without_child b (node p v m' (as_children es'))) ≡ trie_remove k (node p v m (as_children es))
     without-gone l = ap Some (rw (em, ee, child_of-entries b (replaced b t' es), found-replaced b t t' es at, without-replaced b t' es) (sym (rw (child_of-entries b es, ← at) refl)))
-        ∙ removed-leaf p k rest v m b n t es c e whole more er eb at (leaf-gone rest t l)
+        ∙ removed-leaf p k rest v m b t es c er eb at (leaf-gone rest t l)
 
     pub ends-lost : (full : Bool) (r : SlotUpdate V) (y : Option V) (res : Result (Outcome V) (UpdateError V)) (u : Trie V) → is_leaf_at rest t ≡ true → r ≡ Remove → y ≢ None → t' ≡ node_holding y t
         → LosesLeaf b (option_and_then value_of (child_of b (as_children es'))) (node p v m' (as_children es')) res u → EndsTree full k r y (Some (node p v m (as_children es))) res (Some u)
-    ends-lost full Keep y res u l er' s h q = absurd (cc)
-    ends-lost full (Insert x) y res u l er' s h q = absurd (cc)
-    ends-lost full Remove None res u l er' s h q = absurd (s refl)
-    ends-lost full Remove (Some y) (Ok (Removed z)) u l er' s h q =
+    ends-lost full Keep y res u l is s h q = absurd (cc)
+    ends-lost full (Insert x) y res u l is s h q = absurd (cc)
+    ends-lost full Remove None res u l is s h q = absurd (s refl)
+    ends-lost full Remove (Some y) (Ok (Removed z)) u l is s h q =
         let held : Some z ≡ Some y = q.0 ∙ ap (option_and_then value_of) (child-there b t t' es es' at ee) ∙ ap value_of h ∙ holding-value (Some y) t in
         let same : z ≡ y = cc in
         (ap Some q.1 ∙ without-gone l, ap Removed same, tt)
-    ends-lost full Remove (Some y) (Ok Absent) u l er' s h q = absurd q
-    ends-lost full Remove (Some y) (Ok New) u l er' s h q = absurd q
-    ends-lost full Remove (Some y) (Ok Kept) u l er' s h q = absurd q
-    ends-lost full Remove (Some y) (Ok (Replaced z)) u l er' s h q = absurd q
-    ends-lost full Remove (Some y) (Err (Not_inserted d)) u l er' s h q = absurd q
-    ends-lost full Remove (Some y) (Err Not_removed) u l er' s h q =
+    ends-lost full Remove (Some y) (Ok Absent) u l is s h q = absurd q
+    ends-lost full Remove (Some y) (Ok New) u l is s h q = absurd q
+    ends-lost full Remove (Some y) (Ok Kept) u l is s h q = absurd q
+    ends-lost full Remove (Some y) (Ok (Replaced z)) u l is s h q = absurd q
+    ends-lost full Remove (Some y) (Err (Not_inserted d)) u l is s h q = absurd q
+    ends-lost full Remove (Some y) (Err Not_removed) u l is s h q =
         let many : length (edges_of (as_children es')) ≡ length (edges_of (as_children es)) = edges_of-length es' ∙ ap length ee ∙ replaced-length b t' es ∙ sym (edges_of-length es) in (
           ap Some q.0 ∙ left-child (Some y) (ap Some (h ∙ leaf-put rest y t l)),
           refl,
           s,
-          removal.asks-leaf p k rest v m m b n t es es c e whole more er eb at l refl refl (rw (← em) q.1) (rw (← em, ← many) q.2),
+          asks_remove-leaf p k rest v m m b t es es c er eb at l refl refl (rw (← em) q.1) (rw (← em, ← many) q.2),
         )

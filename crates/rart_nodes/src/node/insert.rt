@@ -1,6 +1,6 @@
 //! Insertion below a node. All room is taken before the first write.
-ghost use Rattle.std.specs.Prelude.{◌≡◌, ◌+◌, ◌<◌, ◌≤◌, length, max, nat_eq, true, IfErr, IfOk, None, OnErr, OnOk};
-ghost use Rattle.std.specs.List.{common_prefix_len};
+ghost use Rattle.std.specs.Prelude.{◌≡◌, ◌+◌, ◌<◌, ◌≤◌, length, max, true, IfErr, IfOk, None, OnErr, OnOk};
+ghost use Rattle.rart_keys.specs.ByteStrings.{strip_prefix};
 ghost use Rattle.rart_keys.specs.KeyBytes.{IsWithin};
 ghost use Rattle.rart_keys.specs.SortedMap.{count_of, keys_of, lookup, put, longest_key};
 ghost use Rattle.rart_nodes.specs.edits.InsertAsks.{insert_asks, trie_asks_put};
@@ -8,6 +8,7 @@ ghost use Rattle.rart_nodes.specs.shapes.Shape.{record_at};
 ghost use Rattle.rart_nodes.specs.tries.Trie.{IsCanonical, trie_lookup, pairs_of, prefix_of, trie_put, with_records};
 
 use crate::node::DefaultNode;
+use crate::node::rest::rest_behind;
 use crate::node::storage::Storage;
 use crate::refused::Refused;
 use rart_keys::Partial;
@@ -16,18 +17,10 @@ use std::alloc::Global;
 use std::mem;
 
 impl<P: Partial, V> DefaultNode<P, V> {
-    /// Cuts the node after `shared` bytes of its prefix, and puts `value` at `key`, which agrees with
-    /// the prefix that far and no further. Refused, all stands as it was and the value is handed back.
-    pub(super) fn split(
-        &mut self,
-        alloc: Global,
-        shared: usize,
-        key: &[u8],
-        value: V,
-    ) -> Result<(), Refused<V>>
-        requires cut { shared < length (prefix_of self.old) }
-        requires within { shared ≤ length key.now }
-        requires common { shared ≡ common_prefix_len nat_eq (prefix_of self.old) key.now }
+    /// Cuts the node where `key`, which its prefix doesn't begin, parts from the prefix, and puts `value` at
+    /// the key. Refused, all stands as it was and the value is handed back.
+    pub(super) fn split(&mut self, alloc: Global, key: &[u8], value: V) -> Result<(), Refused<V>>
+        requires leaves { None ≡ strip_prefix (prefix_of self.old) key.now }
         requires fits { IsWithin P.MAXIMUM_SIZE (length key.now) }
         ensures ok { OnOk result (self.new ≡ trie_put key.now value self.old) }
         ensures refused { OnErr result (self.new ≡ self.old) }
@@ -39,6 +32,7 @@ impl<P: Partial, V> DefaultNode<P, V> {
                 value,
             });
         };
+        let shared = self.prefix.prefix_length_slice(key);
         let head = self.prefix.partial_before(shared);
         let low = self.prefix.partial_after(shared);
         let low_byte = low.at(0);
@@ -74,22 +68,15 @@ impl<P: Partial, V> DefaultNode<P, V> {
         ensures back { IfErr result (λ r. (r.error ≡ TreeError.Memory) × (r.value ≡ value)) }
         ensures asks { OnErr result ((trie_asks_put key.now self.old ≡ true) × (trie_lookup key.now (with_records self.old) ≡ None)) }
     {
-        let shared = self.prefix.prefix_length_slice(key);
-        if shared < self.prefix.len() {
-            self.split(alloc, shared, key, value)?;
+        let Some(rest) = rest_behind(&self.prefix, key) else {
+            self.split(alloc, key, value)?;
             return Ok(None);
-        }
-        if key.len() == shared {
+        };
+        let Some(&byte) = rest.first() else {
             return Ok(self.value.replace(value));
-        }
-        let rest = &key[shared..];
-        let byte = rest[0];
-        match self.storage.seek_child_mut(byte) {
-            Some(child) => match child.put(alloc, rest, value) {
-                Ok(old) => return Ok(old),
-                Err(refused) => return Err(refused),
-            },
-            None => {}
+        };
+        if let Some(child) = self.storage.seek_child_mut(byte) {
+            return child.put(alloc, rest, value);
         }
         match self.storage.make_room(alloc, byte) {
             Ok(()) => {

@@ -10,6 +10,7 @@ ghost use Rattle.rart_nodes.specs.tries.TrieCode.{node_count};
 ghost use Rattle.rart_nodes.specs.contracts.node.DefaultNode.{the_row};
 
 use crate::node::DefaultNode;
+use crate::node::rest::rest_behind;
 use rart_keys::Partial;
 
 /// A node that lends its value at a key. `lend_by` is a step of the descent over any way to lend a
@@ -53,18 +54,16 @@ where
     ensures* writes_back { sem 𝓛 (LendsSo (the_row P.row V.row P.Partial) V.row node.entry result (λ n w. OnSome result (n ≡ trie_put key.now w node.old) × IfNone result (n ≡ node.old)) (λ n. n ≡ node.old)) }
     ensures value { option_copied_mut result ≡ trie_lookup key.now node.old }
 {
-    let shared = node.prefix.prefix_length_slice(key);
-    if shared < node.prefix.len() {
+    let Some(rest) = rest_behind(&node.prefix, key) else {
         return None;
-    }
-    if key.len() == shared {
+    };
+    let Some(&byte) = rest.first() else {
         return match &mut node.value {
             Some(value) => Some(value),
             None => None,
         };
-    }
-    let rest = &key[shared..];
-    match node.storage.seek_child_mut(rest[0]) {
+    };
+    match node.storage.seek_child_mut(byte) {
         Some(child) => child.lend(rest),
         None => None,
     }

@@ -9,6 +9,7 @@ ghost use Rattle.rart_nodes.specs.tries.Trie.{IsCanonical, capacity_in, children
 ghost use Rattle.rart_nodes.specs.storages.Widths.{previous_width};
 
 use crate::node::DefaultNode;
+use crate::node::rest::rest_behind;
 use rart_keys::Partial;
 use rart_parts::TreeError;
 use std::alloc::Global;
@@ -71,8 +72,10 @@ impl<P: Partial, V> DefaultNode<P, V> {
         if self.storage.num_children() > 0 {
             return false;
         }
-        let shared = self.prefix.prefix_length_slice(key);
-        shared == self.prefix.len() && shared == key.len()
+        match rest_behind(&self.prefix, key) {
+            Some(rest) => rest.is_empty(),
+            None => false,
+        }
     }
 
     /// The value of a node without children, whose storage is freed.
@@ -99,17 +102,14 @@ impl<P: Partial, V> DefaultNode<P, V> {
         ensures error { IfErr result (λ e. e ≡ TreeError.Memory) }
         ensures asks { OnErr result ((trie_asks_remove None key.now self.old ≡ true) × (trie_lookup key.now self.old ≢ None)) }
     {
-        let shared = self.prefix.prefix_length_slice(key);
-        if shared < self.prefix.len() {
+        let Some(rest) = rest_behind(&self.prefix, key) else {
             return Ok(None);
-        }
-        if key.len() == shared {
+        };
+        let Some(&byte) = rest.first() else {
             let value = self.value.take();
             self.join_lone_child();
             return Ok(value);
-        }
-        let rest = &key[shared..];
-        let byte = rest[0];
+        };
         match self.storage.seek_child_mut(byte) {
             Some(child) => {
                 if !child.is_leaf_at(rest) {

@@ -1,8 +1,8 @@
 //! Updates below a node: the callback runs where the one pass down ends, and what it asks for is done
 //! there. Room is taken before the first write.
-ghost use Rattle.std.specs.Prelude.{◌≡◌, ◌≢◌, ◌<◌, ◌≤◌, [], length, nat_eq, is_some, option_and_then, slice_index, drop, false, true, None, Some, IfSome, IsSomeAnd, Option, OnErr};
+ghost use Rattle.std.specs.Prelude.{◌≡◌, ◌≢◌, ◌<◌, ◌≤◌, [], ℕ, List, length, is_some, option_and_then, slice_get, false, true, None, Some, IfSome, IsSomeAnd, Option, OnErr};
 ghost use Rattle.std.specs.Fn.{FnOnceReturnsAtMut, FnOnceTakesAtMut};
-ghost use Rattle.std.specs.List.{common_prefix_len};
+ghost use Rattle.rart_keys.specs.ByteStrings.{strip_prefix};
 ghost use Rattle.rart_keys.specs.KeyBytes.{IsWithin};
 ghost use Rattle.rart_keys.specs.SortedMap.{keys_of, lookup, longest_key};
 ghost use Rattle.rart_nodes.specs.declared.slot.SlotUpdate.{SlotUpdate};
@@ -14,6 +14,7 @@ ghost use Rattle.rart_nodes.specs.updates.TreeUpdates.{EndsHere, EndsLeaf, EndsT
 ghost use Rattle.rart_nodes.specs.updates.Updates.{EndsMap};
 
 use crate::node::DefaultNode;
+use crate::node::rest::rest_behind;
 use crate::refused::Refused;
 use crate::slot::{Outcome, Slot, SlotUpdate, UpdateError, Visit, show, show_vacant};
 use rart_keys::Partial;
@@ -32,18 +33,15 @@ fn fill<V>(place: &mut Option<V>, value: V)
 }
 
 impl<P: Partial, V> DefaultNode<P, V> {
-    // Does what was asked for a key that leaves the prefix after `shared` bytes.
+    // Does what was asked for a key that the prefix doesn't begin.
     fn settle_split(
         &mut self,
         alloc: Global,
         full: bool,
-        shared: usize,
         key: &[u8],
         answer: SlotUpdate<V>,
     ) -> Result<Outcome<V>, UpdateError<V>>
-        requires cut { shared < length (prefix_of self.old) }
-        requires within { shared ≤ length key.now }
-        requires common { shared ≡ common_prefix_len nat_eq (prefix_of self.old) key.now }
+        requires leaves { None ≡ strip_prefix (prefix_of self.old) key.now }
         requires fits { IsWithin P.MAXIMUM_SIZE (length key.now) }
         ensures { EndsTree full key.now answer None (Some self.old) result (Some self.new) }
     {
@@ -56,7 +54,7 @@ impl<P: Partial, V> DefaultNode<P, V> {
                         value,
                     }));
                 }
-                match self.split(alloc, shared, key, value) {
+                match self.split(alloc, key, value) {
                     Ok(()) => Ok(Outcome::New),
                     Err(refused) => Err(UpdateError::Insert(refused)),
                 }
@@ -64,22 +62,21 @@ impl<P: Partial, V> DefaultNode<P, V> {
         }
     }
 
-    // Does what was asked for a key that goes on behind the prefix where no child stands.
+    // Does what was asked for a key that goes on with `rest` behind the prefix, where no child stands at
+    // its first byte.
     fn settle_child(
         &mut self,
         alloc: Global,
         full: bool,
-        shared: usize,
-        key: &[u8],
+        rest: &[u8],
+        byte: u8,
         answer: SlotUpdate<V>,
     ) -> Result<Outcome<V>, UpdateError<V>>
         requires canonical { IsCanonical self.old }
-        requires whole { length (prefix_of self.old) ≤ shared }
-        requires common { shared ≡ common_prefix_len nat_eq (prefix_of self.old) key.now }
-        requires more { shared < length key.now }
-        requires absent { child_in (slice_index (drop shared key.now) 0) self.old ≡ None }
-        requires fits { IsWithin P.MAXIMUM_SIZE (length key.now) }
-        ensures { EndsTree full key.now answer None (Some self.old) result (Some self.new) }
+        requires first { Some byte ≡ slice_get rest.now 0 }
+        requires absent { child_in byte self.old ≡ None }
+        requires fits { IsWithin P.MAXIMUM_SIZE (length rest.now) }
+        ensures { (key : List ℕ) → Some rest.now ≡ strip_prefix (prefix_of self.old) key → EndsTree full key answer None (Some self.old) result (Some self.new) }
     {
         match answer {
             SlotUpdate::Keep | SlotUpdate::Remove => Ok(Outcome::Absent),
@@ -90,8 +87,6 @@ impl<P: Partial, V> DefaultNode<P, V> {
                         value,
                     }));
                 }
-                let rest = &key[shared..];
-                let byte = rest[0];
                 match self.storage.make_room(alloc, byte) {
                     Ok(()) => {
                         let leaf = DefaultNode::new_leaf(P::from_slice(rest), value);
@@ -206,17 +201,14 @@ impl<P: Partial, V> DefaultNode<P, V> {
         requires stays { (r : SlotUpdate V) (x : X) (w : Option V) → FnOnceReturnsAtMut F.FnOnce f (slot_of (trie_lookup key.now self.old)) (r, x) (slot_of w) → is_some w ≡ is_some (trie_lookup key.now self.old) }
         ensures { (r : SlotUpdate V) × (w : Option V) × FnOnceReturnsAtMut F.FnOnce f (slot_of (trie_lookup key.now self.old)) (r, result.1) (slot_of w) × EndsTree full key.now r w (Some self.old) result.0 (Some self.new) }
     {
-        let shared = self.prefix.prefix_length_slice(key);
-        if shared < self.prefix.len() {
+        let Some(rest) = rest_behind(&self.prefix, key) else {
             let (answer, told) = show_vacant(f);
-            return (self.settle_split(alloc, full, shared, key, answer), told);
-        }
-        if key.len() == shared {
+            return (self.settle_split(alloc, full, key, answer), told);
+        };
+        let Some(&byte) = rest.first() else {
             let Visit { left, answer, told } = show(self.value.take(), f);
             return (self.settle_here(full, left, answer), told);
-        }
-        let rest = &key[shared..];
-        let byte = rest[0];
+        };
         let (outcome, told) = match self.storage.seek_child_mut(byte) {
             Some(child) => {
                 if !child.is_leaf_at(rest) {
@@ -226,7 +218,7 @@ impl<P: Partial, V> DefaultNode<P, V> {
             }
             None => {
                 let (answer, told) = show_vacant(f);
-                return (self.settle_child(alloc, full, shared, key, answer), told);
+                return (self.settle_child(alloc, full, rest, byte, answer), told);
             }
         };
         match outcome {

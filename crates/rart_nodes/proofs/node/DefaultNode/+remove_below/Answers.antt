@@ -1,56 +1,50 @@
-use Rattle.std.proofs.Common.{arith, ap, ◌∙◌, sym, refl, length, drop, ◌≡◌, ◌≢◌, Some, None, Option}
-use Rattle.rart_parts.specs.Entries.{child_at, replaced}
+use Rattle.std.proofs.Common.{arith, ap, ◌∙◌, sym, refl, Some}
+use Rattle.rart_parts.specs.Entries.{child_at}
 use Rattle.rart_keys.specs.SortedMap.{longest_key}
 use Rattle.rart_nodes.specs.edits.Deletion.{joined_if_lone, without_child}
 use Rattle.rart_nodes.specs.storages.Stored.{stored, width_of}
 use Rattle.rart_nodes.specs.tries.Trie.{node, pairs_of, edges_of, children_in, value_of}
 use Rattle.rart_nodes.specs.tries.TrieCode.{as_children, node_count}
 use Rattle.rart_nodes.proofs.storages.ChildLemmas.{canonical-found, count-found, some-equal}
-use Rattle.rart_nodes.proofs.edits.Descent.{slice_from-is, trie_lookup-short, trie_lookup-here}
 use Rattle.rart_nodes.proofs.edits.EditRunLemmas.{remove-absent}
-use Rattle.rart_nodes.proofs.edits.InsertLemmas as insertion
-use Rattle.rart_nodes.proofs.edits.InsertLemmas.{fewer-within, insert-refused, replaced-same, trie_lookup-child, trie_lookup-no_child}
+use Rattle.rart_nodes.proofs.edits.InsertLemmas.{fewer-within, child-put_back, replaced-same}
 use Rattle.rart_nodes.proofs.edits.JoinLemmas.{some-there}
-use Rattle.rart_nodes.proofs.edits.Outcomes.{on_ok, on_err, if_ok}
-use Rattle.rart_nodes.proofs.edits.RemoveSteps.{removed-here, removed-child, removed-leaf, leaf-gone, leaf-edges, leaf-value, leaf-some, same-node, joins-canonical, entry-short, asks-child, asks-leaf}
+use Rattle.rart_nodes.proofs.edits.JoinedLengths.{joins-canonical, entry-short}
+use Rattle.rart_nodes.proofs.edits.LeafLemmas.{leaf-gone, leaf-edges, leaf-value, leaf-some}
+use Rattle.rart_nodes.proofs.edits.Outcomes.{on_ok, on_err, err-any, if_ok}
+use Rattle.rart_nodes.proofs.edits.RemoveAskSteps.{asks_remove-below, asks_remove-leaf}
+use Rattle.rart_nodes.proofs.edits.RemoveSteps.{value-removed, removed-below, removed-leaf, same-node}
+use Rattle.rart_nodes.proofs.tries.RestLemmas.{trie_lookup-left, trie_lookup-child, trie_lookup-no_child}
 use Rattle.rart_nodes.proofs.walks.SeenLemmas.{child_of-entries}
 use Rattle.rart_nodes.proofs.node.DefaultNode.+remove_below.Goals as goal
 
 -- the key leaves the prefix
-pub returns-then-shared-len-clause-ok : goal.returns-then-shared-len-clause-ok
-returns-then-shared-len-clause-ok g t c =
-    let none = trie_lookup-short _ c.args.key.now _ (width_of c.self.inside.storage) _ _ c.prefix_length_slice-shared.ensures.value (rw c.len.ensures at c.if-shared-len.true) in
+pub returns-in_default-clause-ok : goal.returns-in_default-clause-ok
+returns-in_default-clause-ok g t c =
+    let none = trie_lookup-left _ c.args.key.now _ (width_of c.self.inside.storage) _ c.in_default.ensures in
     sym (remove-absent c.args.key.now c.args.self.now c.requires.canonical (rw (← c.self.view_is) none))
-
-pub returns-then-shared-len-clause-answer : goal.returns-then-shared-len-clause-answer
-returns-then-shared-len-clause-answer g t c = rw (← c.self.view_is)
-    (sym (trie_lookup-short _ c.args.key.now _ (width_of c.self.inside.storage) _ _ c.prefix_length_slice-shared.ensures.value (rw c.len.ensures at c.if-shared-len.true)))
 
 -- it ends here
 pub join_lone_child-requires-clause-within : goal.join_lone_child-requires-clause-within
 join_lone_child-requires-clause-within g t c = joins-canonical _ _ _ (width_of c.self.inside.storage) _ (rw (← c.self.view_is) at c.requires.canonical) (rw (← c.self.view_is) at c.requires.fits)
 
-pub returns-then-key-shared-clause-ok : goal.returns-then-key-shared-clause-ok
-returns-then-key-shared-clause-ok g t c = ap Some (c.join_lone_child.ensures ∙ ap (λ v. joined_if_lone (node (g.P.Partial.bytes c.self.inside.prefix) v (width_of c.self.inside.storage) (as_children (stored c.self.inside.storage)))) c.take-value.ensures.after)
-    ∙ rw (← c.self.view_is) (removed-here _ c.args.key.now _ _ _ (stored c.self.inside.storage) (rw (← c.self.view_is) at c.requires.canonical) c.prefix_length_slice-shared.ensures.value (rw c.len.ensures at c.if-shared-len.false) c.if-key-shared.true (rw (← c.self.view_is) at c.requires.stays))
-
-pub returns-then-key-shared-clause-answer : goal.returns-then-key-shared-clause-answer
-returns-then-key-shared-clause-answer g t c = rw (← c.self.view_is) (c.take-value.ensures.value
-    ∙ sym (trie_lookup-here _ c.args.key.now _ (width_of c.self.inside.storage) _ _ c.prefix_length_slice-shared.ensures.value (rw c.len.ensures at c.if-shared-len.false) c.if-key-shared.true))
+pub returns-in_default-first-clause-ok : goal.returns-in_default-first-clause-ok
+returns-in_default-first-clause-ok g t c = ap Some (c.join_lone_child.ensures ∙ ap (λ v. joined_if_lone (node (g.P.Partial.bytes c.self.inside.prefix) v (width_of c.self.inside.storage) (as_children (stored c.self.inside.storage)))) c.take-value.ensures.after)
+    ∙ rw (← c.self.view_is) (value-removed _ c.args.key.now _ _ _ (stored c.self.inside.storage) (rw (← c.self.view_is) at c.requires.canonical) c.in-Some.ensures c.in_default-first.ensures.value (rw (← c.self.view_is) at c.requires.stays))
 
 -- it goes on in a child that stays
 pub remove_below-requires : goal.remove_below-requires
 remove_below-requires g t c κs within =
     let canonical = rw (← c.self.view_is) at c.requires.canonical in (
-      omega (arith, c.decreases, ap node_count c.self.view_is, count-found _ 0 c.in-Some.child.now (stored c.self.inside.storage) canonical.2 c.in-Some.ensures.value),
+      omega (arith, c.decreases, ap node_count c.self.view_is, count-found _ 0 c.in-Some-seek_child_mut.child.now (stored c.self.inside.storage) canonical.2 c.in-Some-seek_child_mut.ensures.value),
       (
         within.0,
         (
           within.1,
           (
-            canonical-found _ 0 c.in-Some.child.now (stored c.self.inside.storage) canonical.2 c.in-Some.ensures.value,
+            canonical-found _ 0 c.in-Some-seek_child_mut.child.now (stored c.self.inside.storage) canonical.2 c.in-Some-seek_child_mut.ensures.value,
             (
-              fewer-within _ (longest_key (pairs_of c.args.self.now)) (longest_key (pairs_of c.in-Some.child.now)) (rw (← c.self.view_is) (entry-short _ _ (width_of c.self.inside.storage) _ c.in-Some.child.now (stored c.self.inside.storage) c.in-Some.ensures.value)) c.requires.fits,
+              fewer-within _ (longest_key (pairs_of c.args.self.now)) (longest_key (pairs_of c.in-Some-seek_child_mut.child.now)) (rw (← c.self.view_is) (entry-short _ _ (width_of c.self.inside.storage) _ c.in-Some-seek_child_mut.child.now (stored c.self.inside.storage) c.in-Some-seek_child_mut.ensures.value)) c.requires.fits,
               sym c.is_leaf_at.ensures ∙ c.if-not-is_leaf_at.true,
             ),
           ),
@@ -60,102 +54,92 @@ remove_below-requires g t c κs within =
 
 pub returns-then-not-is_leaf_at-clause-ok : goal.returns-then-not-is_leaf_at-clause-ok
 returns-then-not-is_leaf_at-clause-ok g t c =
-    let left = rw c.in-Some.is at c.seek_child_mut.follows.holds c.remove_below.new.self in
-    on_ok c.remove_below.result (λ r. rw (← c.self.view_is) (removed-child _ c.args.key.now _ _ _ _ _ c.prefix_length_slice-shared.result c.in-Some.child.now c.remove_below.new.self (stored c.self.inside.storage) _
-    (rw (← c.self.view_is) at c.requires.canonical) c.prefix_length_slice-shared.ensures.value (rw c.len.ensures at c.if-shared-len.false) c.if-key-shared.false
-    (slice_from-is c.args.key.now c.prefix_length_slice-shared.result) refl c.in-Some.ensures.value r left.0 left.1)) c.remove_below.ensures.ok
+    let left = rw c.in-Some-seek_child_mut.is at c.seek_child_mut.follows.holds c.remove_below.new.self in
+    on_ok c.remove_below.result (λ r. rw (← c.self.view_is) (removed-below _ c.args.key.now _ _ _ _ _ c.in-Some-seek_child_mut.child.now c.remove_below.new.self (stored c.self.inside.storage) _
+    (rw (← c.self.view_is) at c.requires.canonical) c.in-Some.ensures c.in-Some-first.ensures.value c.in-Some-seek_child_mut.ensures.value r left.0 left.1)) c.remove_below.ensures.ok
 
 pub returns-then-not-is_leaf_at-clause-answer : goal.returns-then-not-is_leaf_at-clause-answer
-returns-then-not-is_leaf_at-clause-answer g t c = if_ok c.remove_below.result (λ x e. rw (← c.self.view_is) (e ∙ sym (trie_lookup-child _ c.args.key.now _ _ (width_of c.self.inside.storage) _ c.prefix_length_slice-shared.result c.in-Some.child.now (stored c.self.inside.storage)
-    (rw (← c.self.view_is) at c.requires.canonical) c.prefix_length_slice-shared.ensures.value (rw c.len.ensures at c.if-shared-len.false) c.if-key-shared.false
-    (slice_from-is c.args.key.now c.prefix_length_slice-shared.result) refl c.in-Some.ensures.value))) c.remove_below.ensures.answer
+returns-then-not-is_leaf_at-clause-answer g t c = if_ok c.remove_below.result (λ x e. rw (← c.self.view_is) (e ∙ sym (trie_lookup-child _ c.args.key.now _ _ _ (width_of c.self.inside.storage) c.in-Some-seek_child_mut.child.now (stored c.self.inside.storage)
+    (rw (← c.self.view_is) at c.requires.canonical) c.in-Some.ensures c.in-Some-first.ensures.value c.in-Some-seek_child_mut.ensures.value))) c.remove_below.ensures.answer
 
 pub returns-then-not-is_leaf_at-clause-refused : goal.returns-then-not-is_leaf_at-clause-refused
 returns-then-not-is_leaf_at-clause-refused g t c =
-    let left = rw c.in-Some.is at c.seek_child_mut.follows.holds c.remove_below.new.self in
-    on_err c.remove_below.result (λ e. rw (← c.self.view_is) (insert-refused _ _ _ _ _ c.in-Some.child.now c.remove_below.new.self (stored c.self.inside.storage) _ c.in-Some.ensures.value e left.0 left.1)) c.remove_below.ensures.refused
+    let left = rw c.in-Some-seek_child_mut.is at c.seek_child_mut.follows.holds c.remove_below.new.self in
+    on_err c.remove_below.result (λ e. rw (← c.self.view_is) (child-put_back _ _ _ _ _ c.in-Some-seek_child_mut.child.now c.remove_below.new.self (stored c.self.inside.storage) _ c.in-Some-seek_child_mut.ensures.value e left.0 left.1)) c.remove_below.ensures.refused
 
 pub returns-then-not-is_leaf_at-clause-asks : goal.returns-then-not-is_leaf_at-clause-asks
 returns-then-not-is_leaf_at-clause-asks g t c =
     let canonical = rw (← c.self.view_is) at c.requires.canonical in
-    let full = rw c.len.ensures at c.if-shared-len.false in
     on_err c.remove_below.result (λ a. rw (← c.self.view_is) (
-      asks-child _ c.args.key.now _ _ (width_of c.self.inside.storage) _ c.prefix_length_slice-shared.result c.in-Some.child.now (stored c.self.inside.storage) canonical c.prefix_length_slice-shared.ensures.value full c.if-key-shared.false
-          (slice_from-is c.args.key.now c.prefix_length_slice-shared.result) refl c.in-Some.ensures.value (sym c.is_leaf_at.ensures ∙ c.if-not-is_leaf_at.true) a.0,
-      λ z. a.1 (sym (trie_lookup-child _ c.args.key.now _ _ (width_of c.self.inside.storage) _ c.prefix_length_slice-shared.result c.in-Some.child.now (stored c.self.inside.storage)
-          canonical c.prefix_length_slice-shared.ensures.value full c.if-key-shared.false (slice_from-is c.args.key.now c.prefix_length_slice-shared.result) refl c.in-Some.ensures.value) ∙ z),
+      asks_remove-below _ c.args.key.now _ _ (width_of c.self.inside.storage) _ c.in-Some-seek_child_mut.child.now (stored c.self.inside.storage) canonical c.in-Some.ensures c.in-Some-first.ensures.value c.in-Some-seek_child_mut.ensures.value
+          (sym c.is_leaf_at.ensures ∙ c.if-not-is_leaf_at.true) a.0,
+      λ z. a.1 (sym (trie_lookup-child _ c.args.key.now _ _ _ (width_of c.self.inside.storage) c.in-Some-seek_child_mut.child.now (stored c.self.inside.storage)
+          canonical c.in-Some.ensures c.in-Some-first.ensures.value c.in-Some-seek_child_mut.ensures.value) ∙ z),
     )) c.remove_below.ensures.asks
 
 -- no child stands there
 pub returns-in-None-clause-ok : goal.returns-in-None-clause-ok
 returns-in-None-clause-ok g t c =
     let left = c.seek_child_mut.follows.holds-at-none in
-    let none = trie_lookup-no_child _ c.args.key.now _ _ (width_of c.self.inside.storage) _ c.prefix_length_slice-shared.result (stored c.self.inside.storage)
-    c.prefix_length_slice-shared.ensures.value (rw c.len.ensures at c.if-shared-len.false) c.if-key-shared.false
-    (slice_from-is c.args.key.now c.prefix_length_slice-shared.result) refl c.in-None.ensures.value in
+    let none = trie_lookup-no_child _ c.args.key.now _ _ _ (width_of c.self.inside.storage) (stored c.self.inside.storage) c.in-Some.ensures c.in-Some-first.ensures.value c.in-None.ensures.value in
     ap Some (same-node _ _ _ _ (stored c.self.inside.storage) _ left.0 left.1 ∙ c.self.view_is) ∙ sym (remove-absent c.args.key.now c.args.self.now c.requires.canonical (rw (← c.self.view_is) none))
 
 pub returns-in-None-clause-answer : goal.returns-in-None-clause-answer
-returns-in-None-clause-answer g t c = rw (← c.self.view_is) (sym (trie_lookup-no_child _ c.args.key.now _ _ (width_of c.self.inside.storage) _ c.prefix_length_slice-shared.result (stored c.self.inside.storage)
-    c.prefix_length_slice-shared.ensures.value (rw c.len.ensures at c.if-shared-len.false) c.if-key-shared.false
-    (slice_from-is c.args.key.now c.prefix_length_slice-shared.result) refl c.in-None.ensures.value))
+returns-in-None-clause-answer g t c = rw (← c.self.view_is) (sym (trie_lookup-no_child _ c.args.key.now _ _ _ (width_of c.self.inside.storage) (stored c.self.inside.storage) c.in-Some.ensures c.in-Some-first.ensures.value c.in-None.ensures.value))
 
 -- it goes on in a leaf that goes
 pub take_child-requires : goal.take_child-requires
 take_child-requires g t c =
-    let left = rw c.in-Some.is at c.seek_child_mut.follows.holds c.in-Some.child.now in
-    let same = left.1 ∙ replaced-same _ c.in-Some.child.now (stored c.self.inside.storage) c.in-Some.ensures.value in
+    let left = rw c.in-Some-seek_child_mut.is at c.seek_child_mut.follows.holds c.in-Some-seek_child_mut.child.now in
+    let same = left.1 ∙ replaced-same _ c.in-Some-seek_child_mut.child.now (stored c.self.inside.storage) c.in-Some-seek_child_mut.ensures.value in
     record { within = rw same (joins-canonical _ _ _ (width_of c.self.inside.storage) _ (rw (← c.self.view_is) at c.requires.canonical) (rw (← c.self.view_is) at c.requires.fits)) }
 
 pub returns-in_err-child-clause-refused : goal.returns-in_err-child-clause-refused
 returns-in_err-child-clause-refused g t c =
-    let left = rw c.in-Some.is at c.seek_child_mut.follows.holds c.in-Some.child.now in
-    insertion.on_err c.from_residual.result (c.in_err-child.ensures.refused ∙ insert-refused _ _ _ _ _ c.in-Some.child.now c.in-Some.child.now (stored c.self.inside.storage) _ c.in-Some.ensures.value refl left.0 left.1 ∙ c.self.view_is)
+    let left = rw c.in-Some-seek_child_mut.is at c.seek_child_mut.follows.holds c.in-Some-seek_child_mut.child.now in
+    err-any c.from_residual.result (c.in_err-child.ensures.refused ∙ child-put_back _ _ _ _ _ c.in-Some-seek_child_mut.child.now c.in-Some-seek_child_mut.child.now (stored c.self.inside.storage) _ c.in-Some-seek_child_mut.ensures.value refl left.0 left.1 ∙ c.self.view_is)
 
 pub returns-in_err-child-clause-asks : goal.returns-in_err-child-clause-asks
 returns-in_err-child-clause-asks g t c =
-    let left = rw c.in-Some.is at c.seek_child_mut.follows.holds c.in-Some.child.now in
-    let same = left.1 ∙ replaced-same _ c.in-Some.child.now (stored c.self.inside.storage) c.in-Some.ensures.value in
+    let left = rw c.in-Some-seek_child_mut.is at c.seek_child_mut.follows.holds c.in-Some-seek_child_mut.child.now in
+    let same = left.1 ∙ replaced-same _ c.in-Some-seek_child_mut.child.now (stored c.self.inside.storage) c.in-Some-seek_child_mut.ensures.value in
     let canonical = rw (← c.self.view_is) at c.requires.canonical in
-    let full = rw c.len.ensures at c.if-shared-len.false in
     let goes = sym c.is_leaf_at.ensures ∙ c.if-not-is_leaf_at.false in
-    insertion.on_err c.from_residual.result (rw (← c.self.view_is) (
-      asks-leaf _ c.args.key.now _ _ (width_of c.self.inside.storage) _ _ c.prefix_length_slice-shared.result c.in-Some.child.now (stored c.self.inside.storage) _ canonical c.prefix_length_slice-shared.ensures.value full c.if-key-shared.false
-          (slice_from-is c.args.key.now c.prefix_length_slice-shared.result) refl c.in-Some.ensures.value goes left.0 same c.in_err-child.ensures.asks.1 c.in_err-child.ensures.asks.2,
-      λ z. leaf-some _ c.in-Some.child.now (canonical-found _ 0 c.in-Some.child.now (stored c.self.inside.storage) canonical.2 c.in-Some.ensures.value) goes
-          (sym (leaf-value _ c.in-Some.child.now goes) ∙ sym (trie_lookup-child _ c.args.key.now _ _ (width_of c.self.inside.storage) _ c.prefix_length_slice-shared.result c.in-Some.child.now (stored c.self.inside.storage)
-          canonical c.prefix_length_slice-shared.ensures.value full c.if-key-shared.false (slice_from-is c.args.key.now c.prefix_length_slice-shared.result) refl c.in-Some.ensures.value) ∙ z),
+    err-any c.from_residual.result (rw (← c.self.view_is) (
+      asks_remove-leaf _ c.args.key.now _ _ (width_of c.self.inside.storage) _ _ c.in-Some-seek_child_mut.child.now (stored c.self.inside.storage) _ canonical c.in-Some.ensures c.in-Some-first.ensures.value c.in-Some-seek_child_mut.ensures.value
+          goes left.0 same c.in_err-child.ensures.asks.1 c.in_err-child.ensures.asks.2,
+      λ z. leaf-some _ c.in-Some-seek_child_mut.child.now (canonical-found _ 0 c.in-Some-seek_child_mut.child.now (stored c.self.inside.storage) canonical.2 c.in-Some-seek_child_mut.ensures.value) goes
+          (sym (leaf-value _ c.in-Some-seek_child_mut.child.now goes) ∙ sym (trie_lookup-child _ c.args.key.now _ _ _ (width_of c.self.inside.storage) c.in-Some-seek_child_mut.child.now (stored c.self.inside.storage)
+          canonical c.in-Some.ensures c.in-Some-first.ensures.value c.in-Some-seek_child_mut.ensures.value) ∙ z),
     ))
 
 pub into_value-requires : goal.into_value-requires
 into_value-requires g t c =
-    let left = rw c.in-Some.is at c.seek_child_mut.follows.holds c.in-Some.child.now in
-    let same = left.1 ∙ replaced-same _ c.in-Some.child.now (stored c.self.inside.storage) c.in-Some.ensures.value in
+    let left = rw c.in-Some-seek_child_mut.is at c.seek_child_mut.follows.holds c.in-Some-seek_child_mut.child.now in
+    let same = left.1 ∙ replaced-same _ c.in-Some-seek_child_mut.child.now (stored c.self.inside.storage) c.in-Some-seek_child_mut.ensures.value in
     let goes = sym c.is_leaf_at.ensures ∙ c.if-not-is_leaf_at.false in
-    ap (λ t. edges_of (children_in t)) (some-equal c.in-Some-2.child c.in-Some.child.now (sym c.in-Some-2.is ∙ c.in_ok-child.ensures.taken ∙ child_of-entries _ (stored (c.seek_child_mut.follows.lender c.in-Some.child.now)) ∙ ap (child_at _) same ∙ sym c.in-Some.ensures.value))
-    ∙ leaf-edges _ c.in-Some.child.now goes
+    ap (λ t. edges_of (children_in t)) (some-equal c.in-Some-2.child c.in-Some-seek_child_mut.child.now (sym c.in-Some-2.is ∙ c.in_ok-child.ensures.taken ∙ child_of-entries _ (stored (c.seek_child_mut.follows.lender c.in-Some-seek_child_mut.child.now)) ∙ ap (child_at _) same ∙ sym c.in-Some-seek_child_mut.ensures.value))
+    ∙ leaf-edges _ c.in-Some-seek_child_mut.child.now goes
 
 pub unreachable-requires : goal.unreachable-requires
 unreachable-requires g t c =
-    let left = rw c.in-Some.is at c.seek_child_mut.follows.holds c.in-Some.child.now in
-    let same = left.1 ∙ replaced-same _ c.in-Some.child.now (stored c.self.inside.storage) c.in-Some.ensures.value in
-    some-there c.in-Some.child.now _ (sym c.in-Some.ensures.value) (ap (child_at _) (sym same) ∙ sym (child_of-entries _ (stored (c.seek_child_mut.follows.lender c.in-Some.child.now))) ∙ sym c.in_ok-child.ensures.taken ∙ c.in-None-2.is)
+    let left = rw c.in-Some-seek_child_mut.is at c.seek_child_mut.follows.holds c.in-Some-seek_child_mut.child.now in
+    let same = left.1 ∙ replaced-same _ c.in-Some-seek_child_mut.child.now (stored c.self.inside.storage) c.in-Some-seek_child_mut.ensures.value in
+    some-there c.in-Some-seek_child_mut.child.now _ (sym c.in-Some-seek_child_mut.ensures.value) (ap (child_at _) (sym same) ∙ sym (child_of-entries _ (stored (c.seek_child_mut.follows.lender c.in-Some-seek_child_mut.child.now))) ∙ sym c.in_ok-child.ensures.taken ∙ c.in-None-2.is)
 
 pub returns-clause-ok : goal.returns-clause-ok
 returns-clause-ok g t c =
-    let left = rw c.in-Some.is at c.seek_child_mut.follows.holds c.in-Some.child.now in
+    let left = rw c.in-Some-seek_child_mut.is at c.seek_child_mut.follows.holds c.in-Some-seek_child_mut.child.now in
     let goes = sym c.is_leaf_at.ensures ∙ c.if-not-is_leaf_at.false in
-    ap Some (c.in_ok-child.ensures.rest ∙ ap (without_child _) (insert-refused _ _ _ _ _ c.in-Some.child.now c.in-Some.child.now (stored c.self.inside.storage) _ c.in-Some.ensures.value refl left.0 left.1))
-    ∙ rw (← c.self.view_is) (removed-leaf _ c.args.key.now _ _ _ _ c.prefix_length_slice-shared.result c.in-Some.child.now (stored c.self.inside.storage)
-    (rw (← c.self.view_is) at c.requires.canonical) c.prefix_length_slice-shared.ensures.value (rw c.len.ensures at c.if-shared-len.false) c.if-key-shared.false
-    (slice_from-is c.args.key.now c.prefix_length_slice-shared.result) refl c.in-Some.ensures.value (leaf-gone _ c.in-Some.child.now goes))
+    ap Some (c.in_ok-child.ensures.rest ∙ ap (without_child _) (child-put_back _ _ _ _ _ c.in-Some-seek_child_mut.child.now c.in-Some-seek_child_mut.child.now (stored c.self.inside.storage) _ c.in-Some-seek_child_mut.ensures.value refl left.0 left.1))
+    ∙ rw (← c.self.view_is) (removed-leaf _ c.args.key.now _ _ _ _ c.in-Some-seek_child_mut.child.now (stored c.self.inside.storage)
+    (rw (← c.self.view_is) at c.requires.canonical) c.in-Some.ensures c.in-Some-first.ensures.value c.in-Some-seek_child_mut.ensures.value (leaf-gone _ c.in-Some-seek_child_mut.child.now goes))
 
 pub returns-clause-answer : goal.returns-clause-answer
 returns-clause-answer g t c =
-    let left = rw c.in-Some.is at c.seek_child_mut.follows.holds c.in-Some.child.now in
-    let same = left.1 ∙ replaced-same _ c.in-Some.child.now (stored c.self.inside.storage) c.in-Some.ensures.value in
+    let left = rw c.in-Some-seek_child_mut.is at c.seek_child_mut.follows.holds c.in-Some-seek_child_mut.child.now in
+    let same = left.1 ∙ replaced-same _ c.in-Some-seek_child_mut.child.now (stored c.self.inside.storage) c.in-Some-seek_child_mut.ensures.value in
     let goes = sym c.is_leaf_at.ensures ∙ c.if-not-is_leaf_at.false in
-    let child = some-equal c.in-Some-2.child c.in-Some.child.now (sym c.in-Some-2.is ∙ c.in_ok-child.ensures.taken ∙ child_of-entries _ (stored (c.seek_child_mut.follows.lender c.in-Some.child.now)) ∙ ap (child_at _) same ∙ sym c.in-Some.ensures.value) in
-    c.into_value.ensures ∙ ap value_of child ∙ rw (← c.self.view_is) (sym (leaf-value _ c.in-Some.child.now goes) ∙ sym (trie_lookup-child _ c.args.key.now _ _ (width_of c.self.inside.storage) _ c.prefix_length_slice-shared.result c.in-Some.child.now (stored c.self.inside.storage)
-    (rw (← c.self.view_is) at c.requires.canonical) c.prefix_length_slice-shared.ensures.value (rw c.len.ensures at c.if-shared-len.false) c.if-key-shared.false
-    (slice_from-is c.args.key.now c.prefix_length_slice-shared.result) refl c.in-Some.ensures.value))
+    let child = some-equal c.in-Some-2.child c.in-Some-seek_child_mut.child.now (sym c.in-Some-2.is ∙ c.in_ok-child.ensures.taken ∙ child_of-entries _ (stored (c.seek_child_mut.follows.lender c.in-Some-seek_child_mut.child.now)) ∙ ap (child_at _) same ∙ sym c.in-Some-seek_child_mut.ensures.value) in
+    c.into_value.ensures ∙ ap value_of child ∙ rw (← c.self.view_is) (sym (leaf-value _ c.in-Some-seek_child_mut.child.now goes) ∙ sym (trie_lookup-child _ c.args.key.now _ _ _ (width_of c.self.inside.storage) c.in-Some-seek_child_mut.child.now (stored c.self.inside.storage)
+    (rw (← c.self.view_is) at c.requires.canonical) c.in-Some.ensures c.in-Some-first.ensures.value c.in-Some-seek_child_mut.ensures.value))

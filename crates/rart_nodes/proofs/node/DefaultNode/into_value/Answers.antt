@@ -1,6 +1,6 @@
 use Rattle.std.proofs.Common.{◌∙◌, sym}
 use Rattle.rart_nodes.specs.storages.Stored.{stored}
-use Rattle.rart_nodes.proofs.edits.RemoveSteps.{no-edges}
+use Rattle.rart_nodes.proofs.edits.LeafLemmas.{no-edges}
 use Rattle.rart_nodes.proofs.node.DefaultNode.into_value.Goals as goal
 
 pub destroy_empty-requires : goal.destroy_empty-requires

@@ -1,0 +1,50 @@
+-- The prefixes of a node and of its child, joined, are no longer than a key.
+use Rattle.std.proofs.Common.{◌≡◌, ◌≢◌, ℕ, suc, ◌+◌, ◌-◌, ◌<◌, ◌≤◌, ◌==◌, ◌&&◌, ⊎_elim, not, true, false, Bool, cond, eqb, List, [], ◌∷◌, ◌++◌, length, length-append, take, drop, nat_eq, max, Option, Some, None, is_some, refl, arith, sym, ap, ◌∙◌, if◌then◌else◌}
+use Rattle.std.specs.Prelude.{nat_le, slice_get}
+use Rattle.std.proofs.lemmas.Bool.Decides.{nat_tests}
+use Rattle.rart_keys.specs.KeyBytes.{IsWithin}
+use Rattle.rart_keys.specs.ByteStrings.{strip_prefix}
+use Rattle.rart_keys.proofs.ByteOrder.{is_equal, is_greater, eq-yes, eq-no, equal_or_not}
+use Rattle.rart_parts.specs.Entries.{child_at, replaced}
+use Rattle.rart_parts.specs.Entries as entries
+use Rattle.rart_nodes.specs.edits.Deletion.{JoinsWithin, is_lone, joined_child, joined_if_lone, left_behind, without_child, is_end, is_leaf_at}
+use Rattle.rart_keys.specs.SortedMap.{longest_key}
+use Rattle.rart_nodes.specs.edits.RemoveAsks.{moves_down, remove_asks_behind, trie_asks_remove, child_asks_remove}
+use Rattle.rart_nodes.specs.shapes.Shape.{NodeRecord, capacity_of}
+use Rattle.rart_nodes.specs.tries.Trie.{Trie, node, Children, no_children, child, edges_of, prefix_of, value_of, capacity_in, children_in, IsCanonical, AreCanonical, HasTwoChildren, fitting_node, pairs_of, children_pairs, own_pair, with_prefix, answer_behind, trie_lookup, child_lookup, collapsed, removed_behind, child_if, trie_remove, remove_child}
+use Rattle.rart_nodes.specs.tries.TrieCode.{as_children}
+use Rattle.rart_nodes.specs.storages.Widths.{narrowed, previous_width}
+use Rattle.rart_nodes.proofs.storages.ChildLemmas.{edges_of-length, replaced-length, found, at_first, behind_first}
+use Rattle.rart_nodes.proofs.storages.DeletionLemmas.{length-without_byte}
+use Rattle.rart_nodes.proofs.tries.CanonicalTests.{longest_key-append}
+use Rattle.rart_nodes.proofs.edits.InsertLemmas.{fewer-within}
+use Rattle.rart_nodes.proofs.edits.JoinLemmas.{without-some}
+use Rattle.rart_nodes.proofs.tries.NodeCounts.{some-pairs}
+use Rattle.rart_nodes.proofs.walks.SeenLemmas.{child-short, child_of-entries}
+
+module _ {V : Type 0} where
+  -- the paths to the children are parts of keys
+  length-with_prefix : (p : List ℕ) (es : List (List ℕ × V)) → length (with_prefix p es) ≡ length es
+  length-with_prefix p [] = refl
+  length-with_prefix p (e ∷ es) = omega (arith, length-with_prefix p es)
+
+  longest-with_prefix : (p : List ℕ) (es : List (List ℕ × V)) → 0 < length es → length p + longest_key es ≤ longest_key (with_prefix p es)
+  longest-with_prefix p [] h = absurd (omega arith)
+  longest-with_prefix p (e ∷ []) h = omega (arith, length-append p e.0)
+  longest-with_prefix p (e ∷ f ∷ es) h = omega (arith, length-append p e.0, longest-with_prefix p (f ∷ es) (omega arith))
+
+  prefix-short : (t : Trie V) → IsCanonical t → length (prefix_of t) ≤ longest_key (pairs_of t)
+  prefix-short (node p v w cs) c = omega (arith, longest-with_prefix p (own_pair v ++ children_pairs cs) (omega (arith, some-pairs (node p v w cs) c, length-with_prefix p (own_pair v ++ children_pairs cs))))
+
+  joins-children : (m : Option ℕ) (p : List ℕ) (n low : ℕ) (cs : Children V) → AreCanonical low cs → longest_key (children_pairs cs) ≤ n → IsWithin m (length p + n) → JoinsWithin m p cs
+  joins-children m p n low no_children c l h = tt
+  joins-children m p n low (child b t cs) c l h =
+      let a = longest_key-append (pairs_of t) (children_pairs cs) in
+      (fewer-within m (length p + n) (length p + length (prefix_of t)) (omega (arith, a, prefix-short t c.2)) h, joins-children m p n (suc b) cs c.3 (omega (arith, a)) h)
+
+  pub joins-canonical : (m : Option ℕ) (p : List ℕ) (v : Option V) (w : ℕ) (cs : Children V) → IsCanonical (node p v w cs) → IsWithin m (longest_key (pairs_of (node p v w cs))) → JoinsWithin m p cs
+  joins-canonical m p v w cs c h = joins-children m p (longest_key (own_pair v ++ children_pairs cs)) 0 cs c.2 (omega (arith, longest_key-append (own_pair v) (children_pairs cs)))
+      (fewer-within m (longest_key (pairs_of (node p v w cs))) _ (longest-with_prefix p (own_pair v ++ children_pairs cs) (omega (arith, some-pairs (node p v w cs) c, length-with_prefix p (own_pair v ++ children_pairs cs)))) h)
+
+  pub entry-short : (p : List ℕ) (v : Option V) (w b : ℕ) (t : Trie V) (es : List (ℕ × Trie V)) → Some t ≡ child_at b es → longest_key (pairs_of t) ≤ longest_key (pairs_of (node p v w (as_children es)))
+  entry-short p v w b t es at = child-short b (longest_key (pairs_of (node p v w (as_children es)))) (node p v w (as_children es)) t (omega arith) (child_of-entries b es ∙ sym at)

@@ -1,0 +1,73 @@
+-- A leaf that holds a key: how code tells it, and what a removal does with it.
+use Rattle.std.proofs.Common.{◌≡◌, ◌≢◌, ℕ, suc, ◌+◌, ◌-◌, ◌<◌, ◌≤◌, ◌==◌, ◌&&◌, ⊎_elim, not, true, false, Bool, cond, eqb, List, [], ◌∷◌, ◌++◌, length, length-append, take, drop, nat_eq, max, Option, Some, None, is_some, refl, arith, sym, ap, ◌∙◌, if◌then◌else◌}
+use Rattle.std.specs.Prelude.{nat_le, slice_get}
+use Rattle.std.proofs.lemmas.Bool.Decides.{nat_tests}
+use Rattle.rart_keys.specs.KeyBytes.{IsWithin}
+use Rattle.rart_keys.specs.ByteStrings.{strip_prefix}
+use Rattle.rart_keys.proofs.ByteOrder.{is_equal, is_greater, eq-yes, eq-no, equal_or_not}
+use Rattle.rart_parts.specs.Entries.{child_at, replaced}
+use Rattle.rart_parts.specs.Entries as entries
+use Rattle.rart_nodes.specs.edits.Deletion.{JoinsWithin, is_lone, joined_child, joined_if_lone, left_behind, without_child, is_end, is_leaf_at}
+use Rattle.rart_keys.specs.SortedMap.{longest_key}
+use Rattle.rart_nodes.specs.edits.RemoveAsks.{moves_down, remove_asks_behind, trie_asks_remove, child_asks_remove}
+use Rattle.rart_nodes.specs.shapes.Shape.{NodeRecord, capacity_of}
+use Rattle.rart_nodes.specs.tries.Trie.{Trie, node, Children, no_children, child, edges_of, prefix_of, value_of, capacity_in, children_in, IsCanonical, AreCanonical, HasTwoChildren, fitting_node, pairs_of, children_pairs, own_pair, with_prefix, answer_behind, trie_lookup, child_lookup, collapsed, removed_behind, child_if, trie_remove, remove_child}
+use Rattle.rart_nodes.specs.tries.TrieCode.{as_children}
+use Rattle.rart_nodes.specs.storages.Widths.{narrowed, previous_width}
+use Rattle.rart_nodes.proofs.storages.ChildLemmas.{edges_of-length, replaced-length, found, at_first, behind_first}
+use Rattle.rart_nodes.proofs.storages.DeletionLemmas.{length-without_byte}
+use Rattle.rart_nodes.proofs.tries.CanonicalTests.{longest_key-append}
+use Rattle.rart_nodes.proofs.edits.InsertLemmas.{fewer-within}
+use Rattle.rart_nodes.proofs.edits.JoinLemmas.{without-some}
+use Rattle.rart_nodes.proofs.tries.NodeCounts.{some-pairs}
+use Rattle.rart_nodes.proofs.walks.SeenLemmas.{child-short, child_of-entries}
+
+end-empty : (r : List ℕ) → is_end (Some r) ≡ (length r == 0)
+end-empty [] = refl
+end-empty (b ∷ r) = sym (eq-no (length (b ∷ r)) 0 (λ e. omega (arith, e)))
+
+module _ {V : Type 0} where
+  -- whether a node is such a leaf, as the code tests it
+  pub leaf_at-inner : (p k : List ℕ) (v : Option V) (w : ℕ) (es : List (ℕ × Trie V)) → 0 < length es → is_leaf_at k (node p v w (as_children es)) ≡ false
+  leaf_at-inner p k v w [] l = absurd (omega arith)
+  leaf_at-inner p k v w (e ∷ es) l = refl
+
+  pub leaf_at-left : (p k : List ℕ) (v : Option V) (w : ℕ) (cs : Children V) → None ≡ strip_prefix p k → is_leaf_at k (node p v w cs) ≡ false
+  leaf_at-left p k v w no_children e = ap is_end (sym e)
+  leaf_at-left p k v w (child b t cs) e = refl
+
+  pub leaf_at-rest : (p k r : List ℕ) (v : Option V) (w : ℕ) (es : List (ℕ × Trie V)) → length es ≤ 0 → Some r ≡ strip_prefix p k → is_leaf_at k (node p v w (as_children es)) ≡ (length r == 0)
+  leaf_at-rest p k r v w [] l e = ap is_end (sym e) ∙ end-empty r
+  leaf_at-rest p k r v w (x ∷ es) l e = absurd (omega arith)
+
+  -- it goes, and its value is the answer
+  gone : (o : Option (List ℕ)) (p : List ℕ) (v : Option V) (f : ℕ → List ℕ → Children V) → is_end o ≡ true → None ≡ removed_behind o p v no_children f
+  gone None p v f h = absurd (cc)
+  gone (Some []) p v f h = refl
+  gone (Some (b ∷ k)) p v f h = absurd (cc)
+
+  pub leaf-gone : (k : List ℕ) (t : Trie V) → is_leaf_at k t ≡ true → None ≡ trie_remove k t
+  leaf-gone k (node p v w no_children) h = gone (strip_prefix p k) p v (λ b r. remove_child b r no_children) h
+  leaf-gone k (node p v w (child b t cs)) h = absurd (cc)
+
+  pub leaf-edges : (k : List ℕ) (t : Trie V) → is_leaf_at k t ≡ true → edges_of (children_in t) ≡ []
+  leaf-edges k (node p v w no_children) h = refl
+  leaf-edges k (node p v w (child b t cs)) h = absurd (cc)
+
+  value-behind : (o : Option (List ℕ)) (v : Option V) (f : ℕ → List ℕ → Option V) → is_end o ≡ true → answer_behind o v f ≡ v
+  value-behind None v f h = absurd (cc)
+  value-behind (Some []) v f h = refl
+  value-behind (Some (b ∷ k)) v f h = absurd (cc)
+
+  pub leaf-value : (k : List ℕ) (t : Trie V) → is_leaf_at k t ≡ true → trie_lookup k t ≡ value_of t
+  leaf-value k (node p v w no_children) h = value-behind (strip_prefix p k) v (λ b r. child_lookup b r no_children) h
+  leaf-value k (node p v w (child b t cs)) h = absurd (cc)
+
+  pub leaf-some : (k : List ℕ) (t : Trie V) → IsCanonical t → is_leaf_at k t ≡ true → value_of t ≢ None
+  leaf-some k (node p (Some v) w no_children) c h e = cc
+  leaf-some k (node p None w no_children) c h e = ⊎_elim (λ h. cc) (λ h. h) c.0
+  leaf-some k (node p v w (child b t cs)) c h e = cc
+
+  pub no-edges : (es : List (ℕ × Trie V)) → edges_of (as_children es) ≡ [] → es ≡ []
+  no-edges [] h = refl
+  no-edges (e ∷ es) h = absurd (cc)

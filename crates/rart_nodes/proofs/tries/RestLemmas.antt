@@ -1,0 +1,112 @@
+-- What is left of a key behind a prefix, as code finds it, and what the functions on tries do with it.
+use Rattle.std.proofs.Common.{◌≡◌, ℕ, suc, ◌-◌, ◌<◌, ◌≤◌, ◌==◌, Bool, true, false, cond, List, [], ◌∷◌, length, take, drop, nat_eq, Option, Some, None, refl, arith, sym, ap, ◌∙◌}
+use Rattle.std.specs.Prelude.{nat_le, slice_get}
+use Rattle.std.specs.List.{common_prefix_len}
+use Rattle.std.proofs.lemmas.Bool.Decides.{nat_tests}
+use Rattle.std.proofs.lemmas.Grind.{common_steps}
+use Rattle.std.proofs.lemmas.List.{length-drop}
+use Rattle.rart_keys.specs.ByteStrings.{strip_prefix}
+use Rattle.rart_parts.specs.Entries.{child_at}
+use Rattle.rart_nodes.specs.tries.Trie.{Trie, node, Children, Overlap, overlap, grown_overlap, IsCanonical, answer_behind, trie_lookup, child_lookup, trie_put, put_child, put_overlap, put_split, fitting_node}
+use Rattle.rart_nodes.specs.tries.TrieCode.{as_children}
+use Rattle.rart_nodes.proofs.storages.ChildLemmas.{child_lookup-found, child_lookup-none}
+
+-- the prefix doesn't begin the key
+pub strip_prefix-short : (p k : List ℕ) (n : ℕ) → n ≡ common_prefix_len nat_eq p k → n < length p → None ≡ strip_prefix p k
+strip_prefix-short [] k n e h = absurd (omega arith)
+strip_prefix-short (x ∷ p) [] n e h = refl
+strip_prefix-short (x ∷ p) (y ∷ k) n e h = grind (arith, strip_prefix-short p k (common_prefix_len nat_eq p k) refl)
+
+common_prefix_len-within : (p k : List ℕ) → common_prefix_len nat_eq p k ≤ length p
+common_prefix_len-within [] k = omega arith
+common_prefix_len-within (x ∷ p) [] = omega arith
+common_prefix_len-within (x ∷ p) (y ∷ k) = grind (arith, common_prefix_len-within p k)
+
+strip_prefix-common : (p k : List ℕ) → length p ≤ common_prefix_len nat_eq p k → Some (drop (length p) k) ≡ strip_prefix p k
+strip_prefix-common [] k h = refl
+strip_prefix-common (x ∷ p) [] h = absurd (omega arith)
+strip_prefix-common (x ∷ p) (y ∷ k) h = grind (arith, strip_prefix-common p k)
+
+slice_from : (k : List ℕ) (n : ℕ) → take (length k - n) (drop n k) ≡ drop n k
+slice_from k n = grind (arith, common_steps, length-drop n k)
+
+-- it does: what is left is the slice from its length on
+pub strip_prefix-full : (p k : List ℕ) (n : ℕ) → n ≡ common_prefix_len nat_eq p k → length p ≤ n → Some (take (length k - n) (drop n k)) ≡ strip_prefix p k
+strip_prefix-full p k n e h =
+    let whole : n ≡ length p = omega (arith, common_prefix_len-within p k) in
+    ap Some (slice_from k n ∙ ap (λ m. drop m k) whole) ∙ strip_prefix-common p k (omega arith)
+
+-- where the prefix doesn't begin the key, they part within it
+pub parts-within : (p k : List ℕ) (n : ℕ) → n ≡ common_prefix_len nat_eq p k → None ≡ strip_prefix p k → n < length p
+parts-within p k n e s = elim (nat_le (length p) n) as (λ z. nat_le (length p) n ≡ z → n < length p) [
+  | true ↦ λ h. let f = strip_prefix-full p k n e (grind (arith, nat_tests)) in absurd (cc)
+  | false ↦ λ h. grind (arith, nat_tests)
+] refl
+
+-- it is no longer than the key
+rest-step : (z : Bool) (p k r : List ℕ) → (Some r ≡ strip_prefix p k → length r ≤ length k) → Some r ≡ cond z (strip_prefix p k) None → length r ≤ suc (length k)
+rest-step true p k r f e = let l = f e in omega arith
+rest-step false p k r f e = absurd (cc)
+
+pub rest-length : (p k r : List ℕ) → Some r ≡ strip_prefix p k → length r ≤ length k
+rest-length [] k r e = let same : r ≡ k = cc in omega (arith, ap length same)
+rest-length (x ∷ p) [] r e = absurd (cc)
+rest-length (x ∷ p) (y ∷ k) r e = rest-step (x == y) p k r (rest-length p k r) e
+
+-- how a key and a prefix that begins it overlap
+overlap-step : (z : Bool) (x y : ℕ) (p k r : List ℕ) → (Some r ≡ strip_prefix p k → overlap p k ≡ record { shared = p; left = []; right = r }) → Some r ≡ cond z (strip_prefix p k) None
+    → cond z (grown_overlap x (overlap p k)) (record { shared = []; left = x ∷ p; right = y ∷ k }) ≡ record { shared = x ∷ p; left = []; right = r }
+overlap-step true x y p k r f e = ap (grown_overlap x) (f e)
+overlap-step false x y p k r f e = absurd (cc)
+
+overlap-behind : (p k r : List ℕ) → Some r ≡ strip_prefix p k → overlap p k ≡ record { shared = p; left = []; right = r }
+overlap-behind [] k r e = let same : r ≡ k = cc in ap (λ l. record { shared = []; left = []; right = l }) (sym same)
+overlap-behind (x ∷ p) [] r e = absurd (cc)
+overlap-behind (x ∷ p) (y ∷ k) r e = overlap-step (x == y) x y p k r (overlap-behind p k r) e
+
+module _ {V : Type 0} where
+  answer-ended : (r : List ℕ) (v : Option V) (f : ℕ → List ℕ → Option V) → None ≡ slice_get r 0 → answer_behind (Some r) v f ≡ v
+  answer-ended [] v f h = refl
+  answer-ended (b ∷ r) v f h = absurd (cc)
+
+  answer-followed : (r : List ℕ) (b : ℕ) (v : Option V) (f : ℕ → List ℕ → Option V) → Some b ≡ slice_get r 0 → answer_behind (Some r) v f ≡ f b r
+  answer-followed [] b v f h = absurd (cc)
+  answer-followed (c ∷ r) b v f h = let same : b ≡ c = cc in rw same refl
+
+  -- a look-up at a node: the key leaves the prefix, ends behind it, or goes on
+  pub trie_lookup-left : (p k : List ℕ) (v : Option V) (w : ℕ) (cs : Children V) → None ≡ strip_prefix p k → trie_lookup k (node p v w cs) ≡ None
+  trie_lookup-left p k v w cs e = ap (λ o. answer_behind o v (λ b r. child_lookup b r cs)) (sym e)
+
+  pub trie_lookup-ended : (p k r : List ℕ) (v : Option V) (w : ℕ) (cs : Children V) → Some r ≡ strip_prefix p k → None ≡ slice_get r 0 → trie_lookup k (node p v w cs) ≡ v
+  trie_lookup-ended p k r v w cs e h = ap (λ o. answer_behind o v (λ b r. child_lookup b r cs)) (sym e) ∙ answer-ended r v (λ b r. child_lookup b r cs) h
+
+  pub trie_lookup-followed : (p k r : List ℕ) (b : ℕ) (v : Option V) (w : ℕ) (cs : Children V) → Some r ≡ strip_prefix p k → Some b ≡ slice_get r 0 → trie_lookup k (node p v w cs) ≡ child_lookup b r cs
+  trie_lookup-followed p k r b v w cs e h = ap (λ o. answer_behind o v (λ b r. child_lookup b r cs)) (sym e) ∙ answer-followed r b v (λ b r. child_lookup b r cs) h
+
+  pub trie_lookup-child : (p k r : List ℕ) (b : ℕ) (v : Option V) (w : ℕ) (t : Trie V) (es : List (ℕ × Trie V))
+      → IsCanonical (node p v w (as_children es)) → Some r ≡ strip_prefix p k → Some b ≡ slice_get r 0 → Some t ≡ child_at b es
+      → trie_lookup k (node p v w (as_children es)) ≡ trie_lookup r t
+  trie_lookup-child p k r b v w t es c e h at = trie_lookup-followed p k r b v w (as_children es) e h ∙ child_lookup-found b 0 r t es c.2 at
+
+  pub trie_lookup-no_child : (p k r : List ℕ) (b : ℕ) (v : Option V) (w : ℕ) (es : List (ℕ × Trie V))
+      → Some r ≡ strip_prefix p k → Some b ≡ slice_get r 0 → None ≡ child_at b es
+      → trie_lookup k (node p v w (as_children es)) ≡ None
+  trie_lookup-no_child p k r b v w es e h at = trie_lookup-followed p k r b v w (as_children es) e h ∙ child_lookup-none b r es at
+
+  -- an insertion at a node whose prefix begins the key
+  split-ended : (p r : List ℕ) (v : V) (old : Option V) (w : ℕ) (cs : Children V) (f : ℕ → List ℕ → Children V) → None ≡ slice_get r 0 → put_split p [] r v old w cs f ≡ node p (Some v) w cs
+  split-ended p [] v old w cs f h = refl
+  split-ended p (b ∷ r) v old w cs f h = absurd (cc)
+
+  split-followed : (p r : List ℕ) (b : ℕ) (v : V) (old : Option V) (w : ℕ) (cs : Children V) (f : ℕ → List ℕ → Children V) → Some b ≡ slice_get r 0 → put_split p [] r v old w cs f ≡ fitting_node p old (f b r)
+  split-followed p [] b v old w cs f h = absurd (cc)
+  split-followed p (c ∷ r) b v old w cs f h = let same : b ≡ c = cc in rw same refl
+
+  trie_put-behind : (p k r : List ℕ) (v : V) (old : Option V) (w : ℕ) (cs : Children V) → Some r ≡ strip_prefix p k → trie_put k v (node p old w cs) ≡ put_split p [] r v old w cs (λ b q. put_child b q v cs)
+  trie_put-behind p k r v old w cs e = ap (λ s. put_overlap s v old w cs (λ b q. put_child b q v cs)) (overlap-behind p k r e)
+
+  pub trie_put-ended : (p k r : List ℕ) (v : V) (old : Option V) (w : ℕ) (cs : Children V) → Some r ≡ strip_prefix p k → None ≡ slice_get r 0 → trie_put k v (node p old w cs) ≡ node p (Some v) w cs
+  trie_put-ended p k r v old w cs e h = trie_put-behind p k r v old w cs e ∙ split-ended p r v old w cs (λ b q. put_child b q v cs) h
+
+  pub trie_put-followed : (p k r : List ℕ) (b : ℕ) (v : V) (old : Option V) (w : ℕ) (cs : Children V) → Some r ≡ strip_prefix p k → Some b ≡ slice_get r 0 → trie_put k v (node p old w cs) ≡ fitting_node p old (put_child b r v cs)
+  trie_put-followed p k r b v old w cs e h = trie_put-behind p k r v old w cs e ∙ split-followed p r b v old w cs (λ b q. put_child b q v cs) h
