@@ -1,3 +1,2 @@
 pub mod MapUpdates
-pub mod SlotLemmas
 pub mod UpdateSteps

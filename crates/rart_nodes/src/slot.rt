@@ -1,5 +1,5 @@
 //! What stands at a key, lent to a callback that may change it, and what the callback asks for.
-ghost use Rattle.std.specs.Prelude.{◌≡◌, ◌≢◌, None, Option};
+ghost use Rattle.std.specs.Prelude.{◌≡◌, None, Option};
 ghost use Rattle.std.specs.Fn.{FnOnceReturnsAtMut, FnOnceTakesAtMut};
 ghost use Rattle.rart_nodes.specs.updates.Slots.{slot_of};
 ghost use Rattle.rart_nodes.specs.declared.slot.SlotUpdate.{SlotUpdate};

@@ -1,8 +1,8 @@
 -- What an update of a tree does to its pairs.
-use Rattle.std.proofs.Common.{◌≡◌, ◌≢◌, ℕ, ◌+◌, ◌≤◌, max, true, false, Bool, List, [], ◌∷◌, length, Option, Some, None, Result, Ok, Err, is_some, if◌then◌else◌, refl, arith, sym, ap, subst, ◌∙◌}
+use Rattle.std.proofs.Common.{◌≡◌, ℕ, ◌≤◌, max, true, false, Bool, List, [], ◌∷◌, length, Option, Some, None, Result, Ok, Err, is_some, if◌then◌else◌, refl, arith, sym, ap, subst, ◌∙◌}
 use Rattle.std.specs.Prelude.{OnErr}
 use Rattle.rart_keys.specs.ByteStrings.{bytes_eq}
-use Rattle.rart_keys.specs.SortedMap.{IsAscending, count_of, keys_of, longest_key, lookup, put, without}
+use Rattle.rart_keys.specs.SortedMap.{IsAscending, count_of, keys_of, longest_key, lookup, put}
 use Rattle.rart_keys.proofs.ByteOrder.{bytes_eq-equal}
 use Rattle.rart_keys.proofs.SortedMaps.{ascending-put, equal_by_lookups, length-put, lookup-put}
 use Rattle.rart_parts.specs.declared.error.TreeError.{TreeError}
@@ -13,7 +13,7 @@ use Rattle.rart_nodes.specs.declared.slot.SlotUpdate.TheVariants.{Keep, Remove, 
 use Rattle.rart_nodes.specs.declared.slot.UpdateError.{UpdateError}
 use Rattle.rart_nodes.specs.declared.slot.UpdateError.TheVariants.{Insert as Not_inserted, Remove as Not_removed}
 use Rattle.rart_nodes.specs.edits.EditRuns.{puts, removes}
-use Rattle.rart_nodes.specs.tries.Tree.{IsCanonicalTree, tree_nodes, tree_pairs, tree_put}
+use Rattle.rart_nodes.specs.tries.Tree.{IsCanonicalTree, tree_nodes, tree_pairs}
 use Rattle.rart_nodes.specs.tries.Trie.{Trie}
 use Rattle.rart_nodes.specs.updates.Slots.{IsCounted, longest_after, outcome_of}
 use Rattle.rart_nodes.specs.updates.TreeUpdates.{AsksRemove, EndsTree, RefusesPut, tree_left, tree_updated}

@@ -1,5 +1,5 @@
 -- What an update shows of a key, and what it comes to.
-use Rattle.std.specs.Prelude.{◌≡◌, ◌+◌, ℕ, Bool, false, max, Option, Some, None, Result, Ok, Err}
+use Rattle.std.specs.Prelude.{◌≡◌, ◌+◌, ℕ, Bool, false, max, Option, Some, None, Result, Ok}
 use Rattle.rart_nodes.specs.declared.slot.Outcome.{Outcome}
 use Rattle.rart_nodes.specs.declared.slot.Outcome.TheVariants.{Absent, New, Kept, Replaced, Removed}
 use Rattle.rart_nodes.specs.declared.slot.Slot.{Slot}

@@ -1,6 +1,5 @@
 -- What an update of a tree ends as.
 use Rattle.std.specs.Prelude.{ℕ, ◌≡◌, ◌≢◌, ◌<◌, ◌≤◌, ◌+◌, List, Bool, true, false, length, Option, Some, None, option_and_then, Result, Ok, Err}
-use Rattle.rart_nodes.specs.declared.refused.Refused.{Refused}
 use Rattle.rart_nodes.specs.declared.slot.Outcome.{Outcome}
 use Rattle.rart_nodes.specs.declared.slot.Outcome.TheVariants.{Absent, Kept, Replaced, Removed}
 use Rattle.rart_nodes.specs.declared.slot.SlotUpdate.{SlotUpdate}
@@ -11,8 +10,8 @@ use Rattle.rart_nodes.specs.edits.Deletion.{joined_if_lone, without_child}
 use Rattle.rart_nodes.specs.edits.InsertAsks.{trie_asks_put}
 use Rattle.rart_nodes.specs.edits.RemoveAsks.{trie_asks_remove}
 use Rattle.rart_nodes.specs.storages.Widths.{previous_width}
-use Rattle.rart_nodes.specs.tries.Tree.{tree_lookup, tree_put, tree_remove}
-use Rattle.rart_nodes.specs.tries.Trie.{Trie, node, capacity_in, child_in, children_in, edges_of, trie_lookup, value_of, with_records}
+use Rattle.rart_nodes.specs.tries.Tree.{tree_put, tree_remove}
+use Rattle.rart_nodes.specs.tries.Trie.{Trie, node, capacity_in, children_in, edges_of, trie_lookup, value_of, with_records}
 use Rattle.rart_nodes.specs.updates.Slots.{HasRoom, outcome_of}
 use Rattle.rart_parts.specs.declared.error.TreeError.{TreeError}
 use Rattle.rart_parts.specs.declared.error.TreeError.TheVariants.{Memory, Full}

@@ -1,4 +1,4 @@
-use Rattle.std.proofs.Common.{arith, ap, ◌∙◌, sym, refl, ◌≡◌, ◌≢◌, Some, None, Option, is_some}
+use Rattle.std.proofs.Common.{arith, ap, ◌∙◌, sym, ◌≡◌, Some, None, is_some}
 use Rattle.rart_keys.specs.SortedMap.{longest_key}
 use Rattle.rart_nodes.specs.storages.Stored.{stored, width_of}
 use Rattle.rart_nodes.specs.tries.Trie.{pairs_of, value_of, trie_lookup}

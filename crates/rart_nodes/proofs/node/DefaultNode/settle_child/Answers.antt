@@ -1,4 +1,4 @@
-use Rattle.std.proofs.Common.{ap, ◌∙◌, sym, refl, ◌≡◌, Some, None}
+use Rattle.std.proofs.Common.{ap, ◌∙◌, sym, refl, Some}
 use Rattle.rart_parts.specs.Entries.{child_at}
 use Rattle.rart_nodes.specs.storages.Stored.{stored, width_of}
 use Rattle.rart_nodes.specs.tries.Trie.{node}

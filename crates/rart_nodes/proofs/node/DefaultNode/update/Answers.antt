@@ -1,7 +1,6 @@
 use Rattle.std.proofs.Common.{◌≡◌, ◌∙◌, ap, sym, is_some}
-use Rattle.std.specs.Fn.{FnOnceReturnsAtMut}
 use Rattle.rart_keys.specs.SortedMap.{lookup}
-use Rattle.rart_nodes.specs.tries.Tree.{tree_lookup, tree_pairs}
+use Rattle.rart_nodes.specs.tries.Tree.{tree_pairs}
 use Rattle.rart_nodes.specs.updates.Slots.{slot_of}
 use Rattle.rart_nodes.proofs.edits.RemovedPairs.{tree_pairs-ascend}
 use Rattle.rart_nodes.proofs.updates.MapUpdates.{ends-canonical, ends-counted, ends-longest, ends-map, ends-nodes, nodes-alike}

@@ -1,6 +1,5 @@
-use Rattle.std.proofs.Common.{◌∙◌, refl, sym, ap, None}
+use Rattle.std.proofs.Common.{refl, ap, None}
 use Rattle.rart_nodes.specs.tries.Trie.{value_of}
-use Rattle.rart_nodes.specs.updates.Slots.{slot_of}
 use Rattle.rart_nodes.proofs.node.DefaultNode.update_leaf.Goals as goal
 
 pub unreachable-requires : goal.unreachable-requires
