@@ -7,7 +7,7 @@ use Rattle.rart_nodes.specs.declared.refused.Refused.{Refused}
 use Rattle.rart_nodes.specs.declared.slot.Outcome.{Outcome}
 use Rattle.rart_nodes.specs.declared.slot.Outcome.TheVariants.{Absent}
 use Rattle.rart_nodes.specs.declared.slot.Slot.{Slot}
-use Rattle.rart_nodes.specs.declared.slot.Slot.TheVariants.{Vacant}
+use Rattle.rart_nodes.specs.declared.slot.Slot.TheVariants.{Vacant, Occupied}
 use Rattle.rart_nodes.specs.declared.slot.SlotUpdate.{SlotUpdate}
 use Rattle.rart_nodes.specs.declared.slot.SlotUpdate.TheVariants.{Keep, Remove, Insert}
 use Rattle.rart_nodes.specs.declared.slot.UpdateError.{UpdateError}
@@ -67,3 +67,15 @@ abbrev pub IsAttempt : {F E V : Type 0} → Once F (MutBor (Slot V) × Unit {0})
 IsAttempt {F} {E} {V} g f s r NotCloned s' = (r ≡ Keep) × (s' ≡ s) × (s ≢ Vacant)
 IsAttempt {F} {E} {V} g f s r (Failed e) s' = (r ≡ Keep) × (s' ≡ s) × ((w : Option V) × FnOnceReturnsAtMut g f s (Err e) (slot_of w))
 IsAttempt {F} {E} {V} g f s r (Answered o) s' = FnOnceReturnsAtMut g f s (Ok r) s' × (slot_of o ≡ s)
+
+-- what a callback leaves that writes this value where the slot is occupied
+abbrev pub written_slot : {V : Type 0} → Option V → Slot V → Slot V
+written_slot w Vacant = Vacant
+written_slot None (Occupied v) = Occupied v
+written_slot (Some w) (Occupied v) = Occupied w
+
+-- the same, of what stands at the key
+abbrev pub left_by : {V : Type 0} → Option V → Option V → Option V
+left_by w None = None
+left_by None (Some v) = Some v
+left_by (Some w) (Some v) = Some w

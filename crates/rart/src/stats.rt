@@ -13,7 +13,7 @@ pub trait TreeStatsTrait {
 
     ghost nodes: { Self → List (List ℕ × NodeRecord) };
 
-    /// The statistics of the keys by their shape, in one pass over the nodes.
+    /// The statistics of the keys by their shape.
     ///
     /// Refused is only a request for memory, and that comes only where there are at least two keys.
     fn get_tree_stats(&self) -> Result<TreeStats, TreeError>

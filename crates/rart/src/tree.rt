@@ -65,7 +65,7 @@ impl<K: KeyTrait, V> AdaptiveRadixTree<K, V> {
         }
     }
 
-    /// How many pairs there are. Constant work.
+    /// How many pairs there are.
     pub fn len(&self) -> usize
         ensures value { result ≡ length self.now.pairs }
         ensures most { result ≤ MAX_PAIRS }
@@ -102,7 +102,7 @@ impl<K: KeyTrait, V> AdaptiveRadixTree<K, V> {
         Seen::of(self.root.as_ref(), self.alloc, self.longest)
     }
 
-    /// The value at `key`, in one pass down.
+    /// The value at `key`.
     pub fn get_k(&self, key: &K) -> Option<&V>
         ensures { option_copied result ≡ lookup (K.bytes key.now) self.now.pairs }
     {
@@ -125,7 +125,7 @@ impl<K: KeyTrait, V> AdaptiveRadixTree<K, V> {
         self.seen().get_bytes_counted(key, &mut Visits::new())
     }
 
-    /// Puts `value` at `key` in one pass down, and answers the old value.
+    /// Puts `value` at `key`, and answers the old value.
     ///
     /// Refused with `Full` exactly where the tree holds as many pairs as a tree can and the key is
     /// new; with `Memory` only where a request for it was refused, and that comes only where the keys
@@ -175,7 +175,7 @@ impl<K: KeyTrait, V> AdaptiveRadixTree<K, V> {
         self.insert_k(&key, value)
     }
 
-    /// Removes `key` in one pass down, and answers its value.
+    /// Removes `key`, and answers its value.
     ///
     /// Refused only where a request for memory was refused, and that comes only where the keys say so:
     /// the key's node is a leaf whose parent goes from 5, 17 or 49 children to one fewer, and gets

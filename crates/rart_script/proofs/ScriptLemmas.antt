@@ -1,9 +1,9 @@
 -- The number of a text's first malformed line.
-use Rattle.std.proofs.Common.{◌≡◌, ℕ, ◌+◌, ◌<◌, true, false, cond, List, [], length, get_or, Some, None, ap, arith, sym, ◌∙◌, zero-add, not, below_more}
+use Rattle.std.proofs.Common.{◌≡◌, ℕ, ◌+◌, ◌<◌, true, false, cond, List, [], length, get_or, Option, Some, None, ap, arith, sym, ◌∙◌, zero-add, not, below_more}
 use Rattle.std.specs.Prelude.{nat_lt}
 use Rattle.std.specs.Option.{option_map, is_some}
 use Rattle.std.proofs.lemmas.List.FromFn.{get_or-enumerate_from, length-enumerate_from}
-use Rattle.rart_script.specs.declared.command.Command.{Command}
+use Rattle.rart.specs.declared.script.call.Call.{Call}
 use Rattle.rart_script.specs.Command.{command_of}
 use Rattle.rart_script.specs.Words.{words_of}
 use Rattle.std.specs.List.{position_or_len, enumerate_from}
@@ -48,15 +48,15 @@ is_line text n index line h =
       here = ap (λ (p : ℕ × List ℕ). p.1) e ∙ get_or_default (lines_of text) n line [] below;
     }
 
-pub stops : (text : List ℕ) (n index : ℕ) (line : List ℕ) → IsNext text n index line → AreCommands text n → command_of (words_of line) ≡ None → bad_line text ≡ Some (index + 1)
-stops text n index line h before e =
+pub bad_line-at_next : (text : List ℕ) (n index : ℕ) (line : List ℕ) → IsNext text n index line → AreCommands text n → command_of (words_of line) ≡ None → bad_line text ≡ Some (index + 1)
+bad_line-at_next text n index line h before e =
     let k = is_line text n index line h in
     bad_line_some text n k.below before (ap is_malformed (sym k.here) ∙ ap (λ o. not (is_some o)) e) ∙ ap (λ m. Some (m + 1)) (sym k.number)
 
-pub goes_on : (text : List ℕ) (n index : ℕ) (line : List ℕ) (command : Command) → IsNext text n index line → AreCommands text n → command_of (words_of line) ≡ Some command → AreCommands text (n + 1)
-goes_on text n index line command h before e =
+pub AreCommands-next : (text : List ℕ) (n index : ℕ) (line : List ℕ) (asked : Option (Call (List ℕ) ℕ)) → IsNext text n index line → AreCommands text n → command_of (words_of line) ≡ Some asked → AreCommands text (n + 1)
+AreCommands-next text n index line asked h before e =
     let k = is_line text n index line h in
     below_more _ _ before (ap is_malformed (sym k.here) ∙ ap (λ o. not (is_some o)) e)
 
-pub ends : (text : List ℕ) (n : ℕ) → n ≡ length (enumerate_from 0 (lines_of text)) → AreCommands text n → bad_line text ≡ None
-ends text n e before = bad_line_none text n (e ∙ length-enumerate_from 0 (lines_of text)) before
+pub bad_line-at_end : (text : List ℕ) (n : ℕ) → n ≡ length (enumerate_from 0 (lines_of text)) → AreCommands text n → bad_line text ≡ None
+bad_line-at_end text n e before = bad_line_none text n (e ∙ length-enumerate_from 0 (lines_of text)) before

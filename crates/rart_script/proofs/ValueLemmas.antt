@@ -5,7 +5,7 @@ use Rattle.std.specs.List.{list_all}
 use Rattle.std.specs.Char.{is_ascii_digit, digit_value}
 use Rattle.std.specs.Str.Parse.{digits_value}
 use Rattle.std.proofs.lemmas.Int.Digits.{digits_value_is, digits_value_more, number_after_append, number_after_ge}
-use Rattle.std.proofs.lemmas.List.Folds.{list_all_at, list_all_more}
+use Rattle.std.proofs.lemmas.List.Folds.{list_all_more}
 use Rattle.std.proofs.lemmas.List.{map-append}
 use Rattle.std.proofs.lemmas.Bool.Decides.{nat_tests}
 use Rattle.std.proofs.lemmas.Str.{digit_value_digit}
@@ -27,9 +27,6 @@ digit_value_of b e = let r : IsInRange 48 57 b = grind (arith, nat_tests) in let
 
 pub number_step : (word : List ℕ) (i : ℕ) → i < length word → is_ascii_digit (get_or word i 0) ≡ true → digits_value 10 (take (i + 1) word) ≡ digits_value 10 (take i word) * 10 + (get_or word i 0 - 48)
 number_step word i l here = digits_value_more 10 word i l ∙ ap (λ d. digits_value 10 (take i word) * 10 + d) (digit_value_of (get_or word i 0) here)
-
-pub not_digit : (word : List ℕ) (i : ℕ) → i < length word → is_ascii_digit (get_or word i 0) ≡ false → value_of word ≡ None
-not_digit word i l e = let k : list_all is_ascii_digit word ≡ false = list_all_at is_ascii_digit word i 0 l e in grind (arith, nat_tests, k)
 
 pub too_large : (word : List ℕ) (i : ℕ) → 2 ^ 64 ≤ digits_value 10 (take i word) → value_of word ≡ None
 too_large word i l = let k = digits_value_grows word i in let m : nat_lt (digits_value 10 word) (2 ^ 64) ≡ false = grind (arith, nat_tests, k) in grind (arith, nat_tests, m)

@@ -1,12 +1,18 @@
 -- What a command prints.
-use Rattle.std.specs.Prelude.{◌≡◌, ◌≢◌, ◌≤◌, ℕ, [], ◌∷◌, ◌++◌, ◌⊎◌, List, length, map, codes, decimal, Option, Some, None}
+use Rattle.std.specs.Prelude.{◌≡◌, ℕ, [], ◌∷◌, ◌++◌, List, map, codes, decimal, Option, Some, None}
 use Rattle.std.specs.List.{join_with_byte}
-use Rattle.rart_keys.specs.SortedMap.{keys_of, lookup, put, without}
-use Rattle.rart_nodes.specs.shapes.Shape.{HasShape, NodeRecord}
-use Rattle.rart_nodes.specs.statistics.Statistics.{statistics_of}
+use Rattle.rart_keys.specs.ArrayKeyBytes.{array_key_bytes}
+use Rattle.rart_keys.specs.declared.keys.array_key.ArrayKey.{ArrayKey}
+use Rattle.rart_nodes.specs.statistics.Statistics.{statistics_in}
+use Rattle.rart_parts.specs.declared.error.TreeError.{TreeError}
+use Rattle.rart_parts.specs.declared.error.TreeError.TheVariants.{Memory, Full}
+use Rattle.rart.specs.Steps.{IsStep, pairs_in}
+use Rattle.rart.specs.declared.script.reply.Reply.{Reply}
+use Rattle.rart.specs.declared.script.reply.Reply.TheVariants as reply
 use Rattle.rart_script.specs.Statistics.{stats_line}
 use Rattle.rart_script.specs.declared.command.Command.{Command}
-use Rattle.rart_script.specs.declared.command.Command.TheVariants.{Nothing, Insert, Get, Remove, Len, Iter, Stats}
+use Rattle.rart_script.specs.declared.command.Command.TheVariants as command
+use Rattle.rart_script.specs.declared.key.TheConstants.{KEY_SIZE}
 
 -- the line for a number
 abbrev pub number_line : ℕ → List ℕ
@@ -17,13 +23,10 @@ abbrev pub value_line : Option ℕ → List ℕ
 value_line None = codes "none" ++ 10 ∷ []
 value_line (Some v) = codes "some " ++ decimal v ++ 10 ∷ []
 
--- the line for a refusal of memory
-abbrev pub memory_line : List ℕ
-memory_line = codes "Memory" ++ 10 ∷ []
-
--- the line for a refusal by a full tree
-abbrev pub full_line : List ℕ
-full_line = codes "Full" ++ 10 ∷ []
+-- the line for a refusal
+abbrev pub refusal_line : TreeError → List ℕ
+refusal_line Memory = codes "Memory" ++ 10 ∷ []
+refusal_line Full = codes "Full" ++ 10 ∷ []
 
 -- a key as a word: its bytes as they are, and `-` for none
 abbrev pub key_word : List ℕ → List ℕ
@@ -39,20 +42,23 @@ abbrev pub pairs_line : List (List ℕ × ℕ) → List ℕ
 pairs_line [] = codes "empty" ++ 10 ∷ []
 pairs_line (pair ∷ pairs) = join_with_byte 32 (map pair_word (pair ∷ pairs)) ++ 10 ∷ []
 
--- the line tells the statistics of the keys by their shape
-abbrev pub IsStatsLine : List (List ℕ) → List ℕ → Type 0
-IsStatsLine keys line = (nodes : List (List ℕ × NodeRecord)) × (HasShape keys nodes × (line ≡ stats_line (statistics_of keys nodes)))
+-- the line for a reply. No command of a script gets one of the replies without a line
+abbrev pub reply_line : Reply (ArrayKey KEY_SIZE) ℕ → List ℕ
+reply_line (reply.Value found) = value_line found
+reply_line (reply.Len count) = number_line count
+reply_line (reply.Pairs pairs) = pairs_line (pairs_in array_key_bytes pairs.items)
+reply_line (reply.Stats stats) = stats_line (statistics_in stats)
+reply_line (reply.Refused error) = refusal_line error
+reply_line (reply.Returned error back) = refusal_line error
+reply_line (reply.Done answer) = []
+reply_line reply.Inserted = []
+reply_line (reply.Occupied proposed present) = []
+reply_line (reply.Values values) = []
+reply_line reply.Failed = []
+reply_line reply.NoClone = []
+reply_line reply.NoRemove = []
 
--- a line that tells why the tree refused
-abbrev pub IsRefusalLine : List ℕ → Type 0
-IsRefusalLine line = (line ≡ memory_line) ⊎ (line ≡ full_line)
-
--- the command prints this line on the map old, and leaves the map new
-abbrev pub IsStep : Command → List (List ℕ × ℕ) → List ℕ → List (List ℕ × ℕ) → Type 0
-IsStep Nothing old line new = (line ≡ []) × (new ≡ old)
-IsStep (Insert key value) old line new = ((line ≡ value_line (lookup key old)) × (new ≡ put key value old)) ⊎ (IsRefusalLine line × (new ≡ old))
-IsStep (Get key) old line new = (line ≡ value_line (lookup key old)) × (new ≡ old)
-IsStep (Remove key) old line new = ((line ≡ value_line (lookup key old)) × (new ≡ without key old)) ⊎ ((line ≡ memory_line) × (new ≡ old))
-IsStep Len old line new = (line ≡ number_line (length old)) × (new ≡ old)
-IsStep Iter old line new = ((line ≡ pairs_line old) ⊎ ((line ≡ memory_line) × (old ≢ []))) × (new ≡ old)
-IsStep Stats old line new = (IsStatsLine (keys_of old) line ⊎ ((line ≡ memory_line) × (2 ≤ length (keys_of old)))) × (new ≡ old)
+-- the command prints this line on the map old, and leaves the map new: the line of a reply that the call may get
+abbrev pub PrintsReply : Command → List (List ℕ × ℕ) → List ℕ → List (List ℕ × ℕ) → Type 0
+PrintsReply command.Nothing old line new = (line ≡ []) × (new ≡ old)
+PrintsReply (command.Call call) old line new = (r : Reply (ArrayKey KEY_SIZE) ℕ) × (IsStep array_key_bytes old call r new × (line ≡ reply_line r))

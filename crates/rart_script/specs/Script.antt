@@ -2,8 +2,8 @@
 use Rattle.std.specs.Prelude.{◌≡◌, ℕ, zero, suc, ◌+◌, Bool, not, List, [], ◌++◌, length, slice_index_or, Option, Some, ⊤, position}
 use Rattle.std.specs.Io.KnownBytes.{Appends}
 use Rattle.std.specs.Option.{option_map, is_some}
-use Rattle.rart_script.specs.Answers.{IsStep}
-use Rattle.rart_script.specs.Command.{command_of}
+use Rattle.rart_script.specs.Answers.{PrintsReply}
+use Rattle.rart_script.specs.Command.{asked_by, command_of}
 use Rattle.rart_script.specs.Lines.{lines_of}
 use Rattle.rart_script.specs.Words.{words_of}
 use Rattle.rart_script.specs.declared.command.Command.{Command}
@@ -30,19 +30,19 @@ pub record GoesOn (line : List ℕ) (Before : List (List ℕ × ℕ) → List �
   pub old_map : List (List ℕ × ℕ)
   pub earlier : List ℕ
   pub answer : List ℕ
-  pub is_command : command_of (words_of line) ≡ Some command
+  pub is_command : command_of (words_of line) ≡ Some (asked_by command)
   pub before : Before old_map earlier
-  pub step : IsStep command old_map answer map
+  pub step : PrintsReply command old_map answer map
   pub prints : printed ≡ earlier ++ answer
 
 -- the first n lines of the text are commands; on an empty map they print this and leave this map
-abbrev pub IsRun : List ℕ → ℕ → List (List ℕ × ℕ) → List ℕ → Type 0
-IsRun text zero map printed = (map ≡ []) × (printed ≡ [])
-IsRun text (suc n) map printed = GoesOn (slice_index_or (lines_of text) n []) (IsRun text n) map printed
+abbrev pub RunsLines : List ℕ → ℕ → List (List ℕ × ℕ) → List ℕ → Type 0
+RunsLines text zero map printed = (map ≡ []) × (printed ≡ [])
+RunsLines text (suc n) map printed = GoesOn (slice_index_or (lines_of text) n []) (RunsLines text n) map printed
 
 -- an output grew by what the first n lines print
 abbrev pub PrintsFirst : List ℕ → Option (List ℕ) → Option (List ℕ) → ℕ → Type 0
-PrintsFirst text old new n = (map : List (List ℕ × ℕ)) × ((printed : List ℕ) × (IsRun text n map printed × Appends old new printed))
+PrintsFirst text old new n = (map : List (List ℕ × ℕ)) × ((printed : List ℕ) × (RunsLines text n map printed × Appends old new printed))
 
 -- an output grew by what all lines print
 abbrev pub PrintsAll : List ℕ → Option (List ℕ) → Option (List ℕ) → Type 0

@@ -1,15 +1,40 @@
 //! What a command prints, on a line of its own.
-ghost use Rattle.std.specs.Prelude.{◌≡◌, OnOk};
+ghost use Rattle.std.specs.Prelude.{OnOk};
 ghost use Rattle.std.specs.Io.KnownBytes.{Appends};
-ghost use Rattle.rart_script.specs.Answers.{value_line, number_line, memory_line, full_line, key_word, pair_word, pairs_line};
+ghost use Rattle.rart.specs.Steps.{pairs_in};
+ghost use Rattle.rart_keys.specs.ArrayKeyBytes.{array_key_bytes};
+ghost use Rattle.rart_script.specs.Answers.{pair_word, pairs_line, refusal_line, reply_line, value_line};
 
-use crate::key::KEY_SIZE;
-use rart::{ArrayKey, Iter, KeyTrait, TreeError};
+use crate::key::Key;
+use crate::statistics::write_statistics;
+use rart::script::Reply;
+use rart::{KeyTrait, TreeError};
 use std::io;
 use std::io::Write;
 
+/// What the tree replied. No command asks what the last seven reply.
+pub fn write_reply<W: Write>(output: &mut W, reply: Reply<Key, u64>) -> io::Result<()>
+    ensures { OnOk result (Appends (W.contents output.old) (W.contents output.new) (reply_line reply)) }
+{
+    match reply {
+        Reply::Value(value) => write_value(output, value),
+        Reply::Len(count) => writeln!(output, "{count}"),
+        Reply::Pairs(pairs) => write_pairs(output, pairs),
+        Reply::Stats(stats) => write_statistics(output, &stats),
+        Reply::Refused(error) => write_refusal(output, error),
+        Reply::Returned(error, _value) => write_refusal(output, error),
+        Reply::Done(_)
+        | Reply::Inserted
+        | Reply::Occupied(_, _)
+        | Reply::Values(_)
+        | Reply::Failed
+        | Reply::NoClone
+        | Reply::NoRemove => Ok(()),
+    }
+}
+
 /// The value that a key has or had, where there is one.
-pub fn write_value<W: Write>(output: &mut W, value: Option<u64>) -> io::Result<()>
+fn write_value<W: Write>(output: &mut W, value: Option<u64>) -> io::Result<()>
     ensures { OnOk result (Appends (W.contents output.old) (W.contents output.new) (value_line value)) }
 {
     match value {
@@ -19,9 +44,8 @@ pub fn write_value<W: Write>(output: &mut W, value: Option<u64>) -> io::Result<(
 }
 
 /// Why the tree refused a command.
-pub fn write_refusal<W: Write>(output: &mut W, error: TreeError) -> io::Result<()>
-    ensures memory { error ≡ TreeError.Memory → OnOk result (Appends (W.contents output.old) (W.contents output.new) memory_line) }
-    ensures full { error ≡ TreeError.Full → OnOk result (Appends (W.contents output.old) (W.contents output.new) full_line) }
+fn write_refusal<W: Write>(output: &mut W, error: TreeError) -> io::Result<()>
+    ensures { OnOk result (Appends (W.contents output.old) (W.contents output.new) (refusal_line error)) }
 {
     match error {
         TreeError::Memory => writeln!(output, "Memory"),
@@ -29,27 +53,18 @@ pub fn write_refusal<W: Write>(output: &mut W, error: TreeError) -> io::Result<(
     }
 }
 
-/// A count.
-pub fn write_number<W: Write>(output: &mut W, number: usize) -> io::Result<()>
-    ensures { OnOk result (Appends (W.contents output.old) (W.contents output.new) (number_line number)) }
+/// The pairs, one space between each two; `empty` where there is none.
+fn write_pairs<W: Write>(output: &mut W, pairs: Vec<(Key, u64)>) -> io::Result<()>
+    ensures { OnOk result (Appends (W.contents output.old) (W.contents output.new) (pairs_line (pairs_in array_key_bytes pairs.items))) }
 {
-    writeln!(output, "{number}")
-}
-
-/// The pairs still to come, one space between each two; `empty` where there is none.
-pub fn write_pairs<W: Write>(
-    output: &mut W,
-    mut pairs: Iter<'_, ArrayKey<KEY_SIZE>, u64>,
-) -> io::Result<()>
-    ensures { OnOk result (Appends (W.contents output.old) (W.contents output.new) (pairs_line pairs.entry)) }
-{
+    let mut pairs = pairs.into_iter();
     let Some((key, value)) = pairs.next() else {
         return writeln!(output, "empty");
     };
-    write_pair(output, key.as_ref(), *value)?;
+    write_pair(output, key.as_ref(), value)?;
     for (key, value) in pairs {
         write!(output, " ")?;
-        write_pair(output, key.as_ref(), *value)?;
+        write_pair(output, key.as_ref(), value)?;
     }
     writeln!(output)
 }

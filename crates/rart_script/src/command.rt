@@ -1,80 +1,82 @@
 //! What a line asks for.
-ghost use Rattle.std.specs.Prelude.{◌≡◌};
-ghost use Rattle.rart_script.specs.Command.{insert_of, get_of, remove_of, complete_of, command_of};
+ghost use Rattle.std.specs.Prelude.{◌≡◌, MatchOption, None, Some};
+ghost use Rattle.std.specs.Option.{option_map};
+ghost use Rattle.rart_keys.specs.ArrayKeyBytes.{array_key_bytes};
+ghost use Rattle.rart_script.specs.Command.{asked_by, call_in, call_of, command_of, complete_of, insert_of, only_key_of};
 ghost use Rattle.rart_script.specs.Words.{words_of};
 
-use crate::key::Key;
+use crate::key::{Key, parse_key};
 use crate::value::parse_value;
 use crate::words::next_word;
+use rart::script::Call;
 
-/// What a line asks for. A line without words asks for nothing.
+/// What a line asks for.
 #[derive(Drop)]
 pub enum Command {
+    /// Nothing: the line has no words.
     Nothing,
-    Insert { key: Key, value: u64 },
-    Get { key: Key },
-    Remove { key: Key },
-    Len,
-    Iter,
-    Stats,
+    /// A call of the tree.
+    Call(Call<Key, u64>),
 }
 
 /// The command that a line writes; `None` where it is malformed.
 pub fn parse_command(line: &[u8]) -> Option<Command>
-    ensures { result ≡ command_of (words_of line.now) }
+    ensures { option_map asked_by result ≡ command_of (words_of line.now) }
 {
     let Some((name, operands)) = next_word(line) else {
         return Some(Command::Nothing);
     };
+    Some(Command::Call(parse_call(name, operands)?))
+}
+
+/// The call of this name with these operands.
+fn parse_call(name: &[u8], operands: &[u8]) -> Option<Call<Key, u64>>
+    ensures { option_map (call_in array_key_bytes) result ≡ call_of name.now (words_of operands.now) }
+{
     if name == b"insert".as_slice() {
         parse_insert(operands)
     } else if name == b"get".as_slice() {
-        parse_get(operands)
+        Some(Call::Get(only_key(operands)?))
     } else if name == b"remove".as_slice() {
-        parse_remove(operands)
+        Some(Call::Remove(only_key(operands)?))
     } else if name == b"len".as_slice() {
-        complete(Command::Len, operands)
+        complete(Call::Len, operands)
     } else if name == b"iter".as_slice() {
-        complete(Command::Iter, operands)
+        complete(Call::Iter, operands)
     } else if name == b"stats".as_slice() {
-        complete(Command::Stats, operands)
+        complete(Call::Stats, operands)
     } else {
         None
     }
 }
 
-fn parse_insert(operands: &[u8]) -> Option<Command>
-    ensures { result ≡ insert_of (words_of operands.now) }
+fn parse_insert(operands: &[u8]) -> Option<Call<Key, u64>>
+    ensures { option_map (call_in array_key_bytes) result ≡ insert_of (words_of operands.now) }
 {
     let (key, rest) = next_word(operands)?;
     let (value, rest) = next_word(rest)?;
-    let key = Key::parse(key)?;
+    let key = parse_key(key)?;
     let value = parse_value(value)?;
-    complete(Command::Insert { key, value }, rest)
+    complete(Call::Insert(key, value), rest)
 }
 
-fn parse_get(operands: &[u8]) -> Option<Command>
-    ensures { result ≡ get_of (words_of operands.now) }
+/// The key that is the one operand.
+fn only_key(operands: &[u8]) -> Option<Key>
+    ensures { option_map array_key_bytes result ≡ only_key_of (words_of operands.now) }
 {
     let (key, rest) = next_word(operands)?;
-    let key = Key::parse(key)?;
-    complete(Command::Get { key }, rest)
+    match next_word(rest) {
+        None => parse_key(key),
+        Some(_) => None,
+    }
 }
 
-fn parse_remove(operands: &[u8]) -> Option<Command>
-    ensures { result ≡ remove_of (words_of operands.now) }
-{
-    let (key, rest) = next_word(operands)?;
-    let key = Key::parse(key)?;
-    complete(Command::Remove { key }, rest)
-}
-
-/// The command, where no word stands after it.
-fn complete(command: Command, rest: &[u8]) -> Option<Command>
-    ensures { result ≡ complete_of command (words_of rest.now) }
+/// The call, where no word stands after it.
+fn complete(call: Call<Key, u64>, rest: &[u8]) -> Option<Call<Key, u64>>
+    ensures { option_map (call_in array_key_bytes) result ≡ complete_of (call_in array_key_bytes call) (words_of rest.now) }
 {
     match next_word(rest) {
-        None => Some(command),
+        None => Some(call),
         Some(_) => None,
     }
 }

@@ -1,22 +1,22 @@
 //! Runs a script: a text with one command on each line.
 ghost use Rattle.std.specs.Prelude.{◌≡◌, ◌≢◌, ◌≤◌, ◌+◌, ℕ, List, None, Some, IfSome, IsSomeAnd, IfOk, IfErr, OnOk, MatchResult};
 ghost use Rattle.std.specs.Io.KnownBytes.{Appends};
-ghost use Rattle.rart_script.specs.Answers.{IsStep};
+ghost use Rattle.rart_script.specs.Answers.{PrintsReply};
 ghost use Rattle.rart_script.specs.Script.{bad_line, PrintsAll, PrintsFirst, PrintsUpTo, StopsAt};
 ghost use Rattle.rart_script.specs.Stop.{IsSaid};
 
-use crate::answers::{write_number, write_pairs, write_refusal, write_value};
+use crate::answers::write_reply;
 use crate::command::{Command, parse_command};
-use crate::key::KEY_SIZE;
+use crate::key::Key;
 use crate::lines::Lines;
-use crate::statistics::write_statistics;
 use crate::stop::Stop;
-use rart::{AdaptiveRadixTree, ArrayKey, TreeStatsTrait};
+use rart::AdaptiveRadixTree;
+use rart::script::step;
 use std::alloc::Global;
 use std::io;
 use std::io::{Read, Write};
 
-type Tree = AdaptiveRadixTree<ArrayKey<KEY_SIZE>, u64>;
+type Tree = AdaptiveRadixTree<Key, u64>;
 
 /// Reads all of `input`, runs it line by line, and answers the status for the process.
 pub fn run_lines<R: Read, W: Write, E: Write>(
@@ -87,40 +87,25 @@ fn run_text<W: Write>(alloc: Global, text: &[u8], output: &mut W) -> Result<(), 
         let Some(command) = parse_command(line) else {
             return Err(Stop::BadCommand { line: index + 1 });
         };
-        let Ok(()) = execute(&mut tree, command, output) else {
+        let Ok(()) = execute(alloc, &mut tree, command, output) else {
             return Err(Stop::CannotWrite);
         };
     }
     Ok(())
 }
 
-/// Runs one command, as the sorted map does, and prints its answer.
-fn execute<W: Write>(tree: &mut Tree, command: Command, output: &mut W) -> io::Result<()>
-    ensures { OnOk result ((line : List ℕ) × IsStep command tree.old.pairs line tree.new.pairs × Appends (W.contents output.old) (W.contents output.new) line) }
+/// Runs one command, and prints the reply.
+fn execute<W: Write>(
+    alloc: Global,
+    tree: &mut Tree,
+    command: Command,
+    output: &mut W,
+) -> io::Result<()>
+    ensures { OnOk result ((line : List ℕ) × PrintsReply command tree.old.pairs line tree.new.pairs × Appends (W.contents output.old) (W.contents output.new) line) }
 {
     match command {
         Command::Nothing => Ok(()),
-        Command::Insert { key, value } => match tree.insert_k(key.stored(), value) {
-            Ok(old) => write_value(output, old),
-            Err(refused) => write_refusal(output, refused.error),
-        },
-        Command::Get { key } => write_value(output, tree.get_k(key.stored()).copied()),
-        Command::Remove { key } => match tree.remove_k(key.stored()) {
-            Ok(old) => write_value(output, old),
-            Err(error) => write_refusal(output, error),
-        },
-        Command::Len => write_number(output, tree.len()),
-        Command::Iter => match tree.iter() {
-            Ok(pairs) => write_pairs(output, pairs),
-            Err(error) => write_refusal(output, error),
-        },
-        Command::Stats => {
-            tree.canonical();
-            match tree.get_tree_stats() {
-                Ok(stats) => write_statistics(output, &stats),
-                Err(error) => write_refusal(output, error),
-            }
-        }
+        Command::Call(call) => write_reply(output, step(alloc, tree, call)),
     }
 }
 

@@ -10,7 +10,7 @@ use rart_keys::KeyTrait;
 use rart_nodes::node::DefaultNode;
 
 impl<K: KeyTrait, V> AdaptiveRadixTree<K, V> {
-    /// Lends the value at `key`, in one pass down. Once the loan is over the tree holds at `key` what
+    /// Lends the value at `key`. Once the loan is over the tree holds at `key` what
     /// was left there; its other pairs and its nodes are as they were. Takes no memory.
     pub fn get_mut_k<'a>(&'a mut self, key: &K) -> Option<&'a mut V>
         ensures* writes_back { sem 𝓛 (lends_value K.row V.row K.PartialType.row K.KeyTrait K.PartialType.Partial self.entry (K.bytes key.now) result) }

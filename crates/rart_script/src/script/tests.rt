@@ -1,38 +1,10 @@
 //! Whole scripts, by what they print, what they say and their status.
 
 use super::run_lines;
-use std::alloc::Global;
 use std::cell::RefCell;
 use std::io;
 use std::io::{BufWriter, ErrorKind, Read, Write};
-use std::process::Abort;
 use std::test::Fail;
-
-/// What a run printed, what it said on standard error, and its status.
-#[derive(Drop)]
-struct Ran {
-    output: Vec<u8>,
-    errors: Vec<u8>,
-    status: u8,
-}
-
-fn run_bytes(alloc: Global, input: &[u8]) -> Ran {
-    let mut output = Vec::new(alloc);
-    let mut errors = Vec::new(alloc);
-    let mut input = input;
-    let status = run_lines(alloc, &mut input, &mut output, &mut errors);
-    Ran {
-        output,
-        errors,
-        status,
-    }
-}
-
-fn assert_ran(rt: &impl Abort, ran: &Ran, output: &[u8], errors: &[u8], status: u8) {
-    assert_eq!(rt; ran.output.as_slice(), output);
-    assert_eq!(rt; ran.errors.as_slice(), errors);
-    assert_eq!(rt; ran.status, status);
-}
 
 /// A reader of some bytes whose next read fails.
 #[derive(Drop)]
@@ -84,137 +56,164 @@ impl Write for Shared<'_> {
     }
 }
 
+/// A script, what it prints, what is said on standard error, and the status.
+type Row<'a> = (&'a [u8], &'a str, &'a str, u8);
+
+const FIRST: &str = "line 1: bad command\n";
+
+const ROWS: [Row<'static>; 47] = [
+    (
+        b"insert cat 1\ninsert catalog 2\ninsert cat 5\nget cat\nget ca\nlen\n",
+        "none\nnone\nsome 1\nsome 5\nnone\n2\n",
+        "",
+        0,
+    ),
+    // Words stand between any separators, and the last line needs no newline.
+    (b"\tinsert \r a\t\t1 \r\nget\ta", "none\nsome 1\n", "", 0),
+    // A line without words prints nothing.
+    (b"", "", "", 0),
+    (b"\n\n \t\r\nlen\n\n", "0\n", "", 0),
+    // The greatest value, and zeros before a value.
+    (
+        b"insert a 18446744073709551615\nget a\n",
+        "none\nsome 18446744073709551615\n",
+        "",
+        0,
+    ),
+    (b"insert a 0\nget a\n", "none\nsome 0\n", "", 0),
+    (
+        b"insert a 00000000000000000000000000000000000018\nget a\n",
+        "none\nsome 18\n",
+        "",
+        0,
+    ),
+    // The empty key, and longer keys of its sign.
+    (
+        b"get -\ninsert - 3\nget -\nlen\n",
+        "none\nnone\nsome 3\n1\n",
+        "",
+        0,
+    ),
+    (
+        b"insert -- 1\nget -\nget --\n",
+        "none\nnone\nsome 1\n",
+        "",
+        0,
+    ),
+    // A key is taken byte for byte.
+    (b"insert a 1\nget A\n", "none\nnone\n", "", 0),
+    (
+        b"insert \xff\x80 4\nget \xff\x80\nget \xff\n",
+        "none\nsome 4\nnone\n",
+        "",
+        0,
+    ),
+    (
+        b"insert a\0 1\nget a\nget a\0\n",
+        "none\nnone\nsome 1\n",
+        "",
+        0,
+    ),
+    (
+        b"insert a\x0bb 1\nget a\nget a\x0bb\n",
+        "none\nnone\nsome 1\n",
+        "",
+        0,
+    ),
+    (
+        b"insert a\x0cb 1\nget a\nget a\x0cb\n",
+        "none\nnone\nsome 1\n",
+        "",
+        0,
+    ),
+    (
+        b"insert insert 1\nget insert\nget get\n",
+        "none\nsome 1\nnone\n",
+        "",
+        0,
+    ),
+    // A key of 32 bytes.
+    (
+        b"insert 0123456789abcdef0123456789abcdef 7\nget 0123456789abcdef0123456789abcdef\n",
+        "none\nsome 7\n",
+        "",
+        0,
+    ),
+    // Pairs and statistics are of the keys that are left.
+    (
+        b"insert cat 1\ninsert catalog 2\ninsert dog 3\nremove cat\niter\nstats\nget -\nlen\n",
+        "none\nnone\nnone\nsome 1\ncatalog=2 dog=3\n\
+        leaves 2 values 2 inner 1 children 2 width 4 height 2 w4:1/2\nnone\n2\n",
+        "",
+        0,
+    ),
+    // An empty tree has no pairs and no nodes.
+    (
+        b"iter\nstats\n",
+        "empty\nleaves 0 values 0 inner 0 children 0 width 0 height 0\n",
+        "",
+        0,
+    ),
+    // The empty key is printed by its sign.
+    (
+        b"insert b 2\ninsert - 1\niter\n",
+        "none\nnone\n-=1 b=2\n",
+        "",
+        0,
+    ),
+    // A malformed line ends the run.
+    (
+        b"insert a 1\nfoo\nlen\n",
+        "none\n",
+        "line 2: bad command\n",
+        2,
+    ),
+    (b"foo", "", FIRST, 2),
+    (b"\n \nfoo", "", "line 3: bad command\n", 2),
+    (b"inserta 1", "", FIRST, 2),
+    (b"INSERT a 1", "", FIRST, 2),
+    (b"Get a", "", FIRST, 2),
+    (b"LEN", "", FIRST, 2),
+    (b"Iter", "", FIRST, 2),
+    (b"STATS", "", FIRST, 2),
+    // Missing and surplus words.
+    (b"insert", "", FIRST, 2),
+    (b"insert a", "", FIRST, 2),
+    (b"insert a 1 2", "", FIRST, 2),
+    (b"get", "", FIRST, 2),
+    (b"get a b", "", FIRST, 2),
+    (b"len 1", "", FIRST, 2),
+    (b"iter x", "", FIRST, 2),
+    (b"stats x", "", FIRST, 2),
+    // No value.
+    (b"insert a +1", "", FIRST, 2),
+    (b"insert a -1", "", FIRST, 2),
+    (b"insert a -", "", FIRST, 2),
+    (b"insert a 1x", "", FIRST, 2),
+    (b"insert a x", "", FIRST, 2),
+    (b"insert a 0x1", "", FIRST, 2),
+    (b"insert a 1/", "", FIRST, 2),
+    (b"insert a 18446744073709551616", "", FIRST, 2),
+    (b"insert a 99999999999999999999999999", "", FIRST, 2),
+    // A key of 33 bytes.
+    (b"insert 0123456789abcdef0123456789abcdef0 1", "", FIRST, 2),
+    (b"get 0123456789abcdef0123456789abcdef0", "", FIRST, 2),
+];
+
 #[test]
-fn answers_come_one_a_line(rt: HostRuntime) {
+fn scripts_print_and_say_what_the_rows_have(rt: HostRuntime) {
     let alloc = rt.alloc();
-    let cases: [(&[u8], &str); 16] = [
-        (
-            b"insert cat 1\ninsert catalog 2\ninsert cat 5\nget cat\nget ca\nlen\n",
-            "none\nnone\nsome 1\nsome 5\nnone\n2\n",
-        ),
-        // Words stand between any separators, and the last line needs no newline.
-        (b"\tinsert \r a\t\t1 \r\nget\ta", "none\nsome 1\n"),
-        // A line without words prints nothing.
-        (b"", ""),
-        (b"\n\n \t\r\nlen\n\n", "0\n"),
-        // The greatest value, and zeros before a value.
-        (
-            b"insert a 18446744073709551615\nget a\n",
-            "none\nsome 18446744073709551615\n",
-        ),
-        (b"insert a 0\nget a\n", "none\nsome 0\n"),
-        (
-            b"insert a 00000000000000000000000000000000000018\nget a\n",
-            "none\nsome 18\n",
-        ),
-        // The empty key, and longer keys of its sign.
-        (
-            b"get -\ninsert - 3\nget -\nlen\n",
-            "none\nnone\nsome 3\n1\n",
-        ),
-        (b"insert -- 1\nget -\nget --\n", "none\nnone\nsome 1\n"),
-        // A key is taken byte for byte.
-        (b"insert a 1\nget A\n", "none\nnone\n"),
-        (
-            b"insert \xff\x80 4\nget \xff\x80\nget \xff\n",
-            "none\nsome 4\nnone\n",
-        ),
-        (b"insert a\0 1\nget a\nget a\0\n", "none\nnone\nsome 1\n"),
-        (
-            b"insert a\x0bb 1\nget a\nget a\x0bb\n",
-            "none\nnone\nsome 1\n",
-        ),
-        (
-            b"insert a\x0cb 1\nget a\nget a\x0cb\n",
-            "none\nnone\nsome 1\n",
-        ),
-        (
-            b"insert insert 1\nget insert\nget get\n",
-            "none\nsome 1\nnone\n",
-        ),
-        // A key of 32 bytes.
-        (
-            b"insert 0123456789abcdef0123456789abcdef 7\nget 0123456789abcdef0123456789abcdef\n",
-            "none\nsome 7\n",
-        ),
-    ];
-    for (input, output) in cases {
-        let ran = run_bytes(alloc, input);
-        assert_ran(&rt, &ran, output.as_bytes(), b"", 0);
+    let mut at = 0_usize;
+    for (input, output, message, status) in ROWS {
+        let mut printed = Vec::new(alloc);
+        let mut said = Vec::new(alloc);
+        let mut input = input;
+        let ended = run_lines(alloc, &mut input, &mut printed, &mut said);
+        assert_eq!(rt; printed.as_slice(), output.as_bytes(), "output of row {at}");
+        assert_eq!(rt; said.as_slice(), message.as_bytes(), "message of row {at}");
+        assert_eq!(rt; ended, status, "status of row {at}");
+        at = at.wrapping_add(1);
     }
-}
-
-#[test]
-fn pairs_and_statistics_are_of_the_keys_that_are_left(rt: HostRuntime) {
-    let input =
-        b"insert cat 1\ninsert catalog 2\ninsert dog 3\nremove cat\niter\nstats\nget -\nlen\n";
-    let output = "none\nnone\nnone\nsome 1\ncatalog=2 dog=3\n\
-        leaves 2 values 2 inner 1 children 2 width 4 height 2 w4:1/2\nnone\n2\n";
-    let ran = run_bytes(rt.alloc(), input);
-    assert_ran(&rt, &ran, output.as_bytes(), b"", 0);
-}
-
-#[test]
-fn empty_tree_has_no_pairs_and_no_nodes(rt: HostRuntime) {
-    let output = "empty\nleaves 0 values 0 inner 0 children 0 width 0 height 0\n";
-    let ran = run_bytes(rt.alloc(), b"iter\nstats\n");
-    assert_ran(&rt, &ran, output.as_bytes(), b"", 0);
-}
-
-#[test]
-fn empty_key_is_printed_by_its_sign(rt: HostRuntime) {
-    let ran = run_bytes(rt.alloc(), b"insert b 2\ninsert - 1\niter\n");
-    assert_ran(&rt, &ran, b"none\nnone\n-=1 b=2\n", b"", 0);
-}
-
-#[test]
-fn malformed_line_ends_the_run(rt: HostRuntime) {
-    let ran = run_bytes(rt.alloc(), b"insert a 1\nfoo\nlen\n");
-    assert_ran(&rt, &ran, b"none\n", b"line 2: bad command\n", 2);
-}
-
-#[test]
-fn malformed_lines_are_named_by_number(rt: HostRuntime) -> Result<(), Fail> {
-    let alloc = rt.alloc();
-    let cases: [(&[u8], usize); 27] = [
-        (b"foo", 1),
-        (b"\n \nfoo", 3),
-        (b"inserta 1", 1),
-        (b"INSERT a 1", 1),
-        (b"Get a", 1),
-        (b"LEN", 1),
-        (b"Iter", 1),
-        (b"STATS", 1),
-        // Missing and surplus words.
-        (b"insert", 1),
-        (b"insert a", 1),
-        (b"insert a 1 2", 1),
-        (b"get", 1),
-        (b"get a b", 1),
-        (b"len 1", 1),
-        (b"iter x", 1),
-        (b"stats x", 1),
-        // No value.
-        (b"insert a +1", 1),
-        (b"insert a -1", 1),
-        (b"insert a -", 1),
-        (b"insert a 1x", 1),
-        (b"insert a x", 1),
-        (b"insert a 0x1", 1),
-        (b"insert a 1/", 1),
-        (b"insert a 18446744073709551616", 1),
-        (b"insert a 99999999999999999999999999", 1),
-        // A key of 33 bytes.
-        (b"insert 0123456789abcdef0123456789abcdef0 1", 1),
-        (b"get 0123456789abcdef0123456789abcdef0", 1),
-    ];
-    for (input, line) in cases {
-        let mut errors = Vec::new(alloc);
-        writeln!(errors, "line {line}: bad command")?;
-        let ran = run_bytes(alloc, input);
-        assert_ran(&rt, &ran, b"", errors.as_slice(), 2);
-    }
-    Ok(())
 }
 
 #[test]
