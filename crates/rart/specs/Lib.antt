@@ -4,3 +4,4 @@ pub mod Loans
 pub mod MapAndShape
 pub mod Refusals
 pub mod Steps
+pub mod Updates

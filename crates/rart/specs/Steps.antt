@@ -1,5 +1,5 @@
 -- What calls of a tree reply, and what they leave of its map.
-use Rattle.std.specs.Prelude.{◌≡◌, ◌≢◌, ℕ, List, [], ◌∷◌, length, map, ◌==◌, Some, Ok, Err}
+use Rattle.std.specs.Prelude.{◌≡◌, ◌≢◌, ℕ, List, [], ◌∷◌, length, map, ◌==◌, Some, None, Ok, Err}
 use Rattle.rart_keys.specs.SortedMap.{keys_of, lookup, values_of}
 use Rattle.rart_nodes.specs.shapes.Shape.{HasShape, NodeRecord}
 use Rattle.rart_nodes.specs.statistics.Statistics.{statistics_in, statistics_of}
@@ -7,6 +7,9 @@ use Rattle.rart_nodes.specs.declared.stats.TreeStats.{TreeStats}
 use Rattle.rart_parts.specs.declared.error.TreeError.TheVariants.{Memory}
 use Rattle.rart.specs.Edits.{Deletes, Inserts, InsertsNew, Removes}
 use Rattle.rart.specs.Refusals.{MayLackStatistics}
+use Rattle.rart.specs.Updates.{IsTryUpdate, IsUpdate, left_by}
+use Rattle.rart.specs.declared.tree.update.TryUpdateError.TheVariants as try_update
+use Rattle.rart_nodes.specs.declared.slot.UpdateError.TheVariants as update_error
 use Rattle.rart.specs.declared.script.call.Call.{Call}
 use Rattle.rart.specs.declared.script.call.Call.TheVariants as call
 use Rattle.rart.specs.declared.script.reply.Reply.{Reply}
@@ -35,6 +38,14 @@ IsStep bytes m (call.Remove key) (reply.Value old) n = Removes (bytes key) m n (
 IsStep bytes m (call.Remove key) (reply.Refused error) n = Removes (bytes key) m n (Err error)
 IsStep bytes m (call.Delete key) (reply.Done found) n = Deletes (bytes key) m n (Ok found)
 IsStep bytes m (call.Delete key) (reply.Refused error) n = Deletes (bytes key) m n (Err error)
+IsStep bytes m (call.Update key w r) (reply.Done touched) n = IsUpdate (bytes key) r (left_by w (lookup (bytes key) m)) m (Ok touched) n
+IsStep bytes m (call.Update key w r) (reply.Returned error back) n = IsUpdate (bytes key) r (left_by w (lookup (bytes key) m)) m (Err (update_error.Insert (record { error = error; value = back }))) n
+IsStep bytes m (call.Update key w r) reply.NoRemove n = IsUpdate (bytes key) r (left_by w (lookup (bytes key) m)) m (Err update_error.Remove) n
+IsStep bytes m (call.TryUpdate key w a) (reply.Done touched) n = IsTryUpdate (bytes key) a (left_by w (lookup (bytes key) m)) m (Ok touched) n
+IsStep bytes m (call.TryUpdate key w a) reply.Failed n = IsTryUpdate (bytes key) a (left_by w (lookup (bytes key) m)) m (Err (try_update.Callback tt)) n
+IsStep bytes m (call.TryUpdate key w a) (reply.Returned error back) n = IsTryUpdate (bytes key) a (left_by w (lookup (bytes key) m)) m (Err (try_update.Insert (record { error = error; value = back }))) n
+IsStep bytes m (call.TryUpdate key w a) reply.NoRemove n = IsTryUpdate (bytes key) a (left_by w (lookup (bytes key) m)) m (Err try_update.Remove) n
+IsStep bytes m (call.TryUpdate key w a) reply.NoClone n = (lookup (bytes key) m ≢ None) × (n ≡ m)
 IsStep bytes m call.Iter (reply.Pairs pairs) n = (pairs_in bytes pairs.items ≡ m) × (n ≡ m)
 IsStep bytes m call.Iter (reply.Refused error) n = (error ≡ Memory) × (m ≢ []) × (n ≡ m)
 IsStep bytes m call.Values (reply.Values values) n = (values.items ≡ values_of m) × (n ≡ m)

@@ -16,6 +16,7 @@ pub use crate::iter::{Iter, PrefixMatchIter, SeenIter, ValuesIter};
 pub use crate::stats::{NodeStats, TreeStats, TreeStatsTrait};
 pub use crate::tree::AdaptiveRadixTree;
 pub use crate::tree::guarded::{NotInserted, TryInsertError};
+pub use crate::tree::update::TryUpdateError;
 pub use rart_keys::{ArrPartial, ArrayKey, KeyTrait, Partial, keys, partials};
-pub use rart_nodes::{Count, Refused, Seen, Visits, node};
+pub use rart_nodes::{Count, Refused, Seen, Slot, SlotUpdate, UpdateError, Visits, node};
 pub use rart_parts::{TreeError, mapping, utils};

@@ -1,13 +1,17 @@
 //! Calls of a tree as values: a list of calls is run on a tree, and gives the list of replies.
-ghost use Rattle.std.specs.Prelude.{◌≡◌, ◌≢◌, [], IfErr, IfOk, OnErr, length};
-ghost use Rattle.rart_keys.specs.SortedMap.{keys_of, values_of};
+ghost use Rattle.std.specs.Prelude.{◌≡◌, ◌≢◌, [], Err, None, IfErr, IfOk, OnErr, length};
+ghost use Rattle.rart_keys.specs.SortedMap.{keys_of, lookup, values_of};
 ghost use Rattle.rart_nodes.specs.shapes.Shape.{HasShape};
 ghost use Rattle.rart.specs.Steps.{AreStatistics, IsRun, IsStep, pairs_in};
+ghost use Rattle.rart.specs.Updates.{IsTryUpdate, IsUpdate, left_by, written_slot};
+ghost use Rattle.rart.specs.declared.tree.update.TryUpdateError.TheVariants.{Clone as Not_cloned};
 
 use crate::stats::TreeStatsTrait;
 use crate::tree::AdaptiveRadixTree;
 use crate::tree::guarded::NotInserted;
+use crate::tree::update::TryUpdateError;
 use rart_keys::KeyTrait;
+use rart_nodes::{Slot, SlotUpdate, UpdateError};
 use rart_parts::TreeError;
 use std::alloc::Global;
 
@@ -25,6 +29,7 @@ pub fn step<K: KeyTrait + Drop, V: Copy>(
     tree: &mut AdaptiveRadixTree<K, V>,
     call: Call<K, V>,
 ) -> Reply<K, V>
+    requires clones { (x y : V) → V.is_clone x y → y ≡ x }
     ensures { IsStep K.bytes tree.old.pairs call result tree.new.pairs }
 {
     match call {
@@ -33,6 +38,8 @@ pub fn step<K: KeyTrait + Drop, V: Copy>(
         Call::TryInsert(key, value) => reply_to_try_insert(tree, key, value),
         Call::Remove(key) => reply_to_remove(tree, key),
         Call::Delete(key) => reply_to_delete(tree, key),
+        Call::Update(key, written, answer) => reply_to_update(tree, key, written, answer),
+        Call::TryUpdate(key, written, answer) => reply_to_try_update(tree, key, written, answer),
         Call::Iter => reply_to_iter(alloc, tree),
         Call::Values => reply_to_values(alloc, tree),
         Call::Len => Reply::Len(tree.len()),
@@ -92,6 +99,81 @@ fn reply_to_delete<K: KeyTrait + Drop, V: Copy>(
     match tree.delete(key) {
         Ok(found) => Reply::Done(found),
         Err(error) => Reply::Refused(error),
+    }
+}
+
+fn reply_to_update<K: KeyTrait + Drop, V: Copy>(
+    tree: &mut AdaptiveRadixTree<K, V>,
+    key: K,
+    written: Option<V>,
+    answer: SlotUpdate<V>,
+) -> Reply<K, V>
+    ensures { IsStep K.bytes tree.old.pairs (Call.Update key written answer) result tree.new.pairs }
+{
+    match update_by(tree, &key, written, answer) {
+        Ok(touched) => Reply::Done(touched),
+        Err(UpdateError::Insert(refused)) => Reply::Returned(refused.error, refused.value),
+        Err(UpdateError::Remove) => Reply::NoRemove,
+    }
+}
+
+/// An update by a callback that writes this value where the slot is occupied, and answers so.
+fn update_by<V: Copy, K: KeyTrait>(
+    tree: &mut AdaptiveRadixTree<K, V>,
+    key: &K,
+    written: Option<V>,
+    answer: SlotUpdate<V>,
+) -> Result<bool, UpdateError<V>>
+    ensures { IsUpdate (K.bytes key.now) answer (left_by written (lookup (K.bytes key.now) tree.old.pairs)) tree.old.pairs result tree.new.pairs }
+{
+    tree.update_k(key, move |slot| {
+        write(slot, written);
+        answer
+    })
+}
+
+fn reply_to_try_update<K: KeyTrait + Drop, V: Copy>(
+    tree: &mut AdaptiveRadixTree<K, V>,
+    key: K,
+    written: Option<V>,
+    answer: Result<SlotUpdate<V>, ()>,
+) -> Reply<K, V>
+    requires clones { (x y : V) → V.is_clone x y → y ≡ x }
+    ensures { IsStep K.bytes tree.old.pairs (Call.TryUpdate key written answer) result tree.new.pairs }
+{
+    match try_update_by(tree, &key, written, answer) {
+        Ok(touched) => Reply::Done(touched),
+        Err(TryUpdateError::Callback(())) => Reply::Failed,
+        Err(TryUpdateError::Insert(refused)) => Reply::Returned(refused.error, refused.value),
+        Err(TryUpdateError::Remove) => Reply::NoRemove,
+        Err(TryUpdateError::Clone) => Reply::NoClone,
+    }
+}
+
+/// The same by one that may fail.
+fn try_update_by<V: Copy, K: KeyTrait>(
+    tree: &mut AdaptiveRadixTree<K, V>,
+    key: &K,
+    written: Option<V>,
+    answer: Result<SlotUpdate<V>, ()>,
+) -> Result<bool, TryUpdateError<(), V>>
+    requires clones { (x y : V) → V.is_clone x y → y ≡ x }
+    ensures called { result ≢ Err Not_cloned → IsTryUpdate (K.bytes key.now) answer (left_by written (lookup (K.bytes key.now) tree.old.pairs)) tree.old.pairs result tree.new.pairs }
+    ensures not_cloned { result ≡ Err Not_cloned → (lookup (K.bytes key.now) tree.old.pairs ≢ None) × (tree.new.pairs ≡ tree.old.pairs) }
+{
+    tree.try_update_k(key, move |slot| {
+        write(slot, written);
+        answer
+    })
+}
+
+fn write<V: Copy>(slot: &mut Slot<V>, written: Option<V>)
+    ensures { slot.new ≡ written_slot written slot.old }
+{
+    if let Slot::Occupied(value) = slot {
+        if let Some(written) = written {
+            *value = written;
+        }
     }
 }
 
@@ -173,6 +255,7 @@ pub fn run<K: KeyTrait + Drop, V: Copy>(
     tree: &mut AdaptiveRadixTree<K, V>,
     calls: Vec<Call<K, V>>,
 ) -> Result<Vec<Reply<K, V>>, TreeError>
+    requires clones { (x y : V) → V.is_clone x y → y ≡ x }
     ensures run { IfOk result (λ replies. IsRun K.bytes tree.old.pairs calls.items replies.items tree.new.pairs) }
     ensures one_each { IfOk result (λ replies. length replies.items ≡ length calls.items) }
     ensures shape_before { HasShape (keys_of tree.old.pairs) tree.old.nodes }

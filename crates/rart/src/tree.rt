@@ -17,6 +17,7 @@ use std::marker::{Model, PhantomData};
 pub mod guarded;
 mod loan;
 mod statistics;
+pub mod update;
 
 /// The most pairs that a tree holds.
 pub const MAX_PAIRS: usize = usize::MAX / 16;

@@ -52,3 +52,10 @@ pub fn histories<V>()
 pub fn one_shape()
     ensures { (s : List (List ℕ)) (xs ys : List (List ℕ × NodeRecord)) → HasShape s xs → HasShape s ys → xs ≡ ys }
 {}
+
+/// A value that stands at a key and is put there again changes nothing, also where another stood there
+/// in between.
+pub fn put_back<V>()
+    ensures same { (k : List ℕ) (v : V) (m : List (List ℕ × V)) → IsAscending m → lookup k m ≡ Some v → put k v m ≡ m }
+    ensures back { (k : List ℕ) (v w : V) (m : List (List ℕ × V)) → IsAscending m → lookup k m ≡ Some v → put k v (put k w m) ≡ m }
+{}

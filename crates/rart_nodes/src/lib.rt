@@ -9,10 +9,12 @@ pub mod laws;
 pub mod node;
 mod refused;
 pub mod shape;
+pub mod slot;
 pub mod stats;
 
 pub use count::{Count, Visits};
 pub use node::seen::Seen;
 pub use node::{VisitControl, VisitError, iter};
 pub use refused::Refused;
+pub use slot::{Outcome, Slot, SlotUpdate, UpdateError};
 pub use stats::{NodeStats, TreeStats};

@@ -28,6 +28,7 @@ mod storage;
 mod tour;
 mod trail;
 mod tries;
+mod update;
 mod visit;
 
 pub use children::NodeIter;

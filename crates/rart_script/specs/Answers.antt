@@ -54,6 +54,9 @@ reply_line (reply.Done answer) = []
 reply_line reply.Inserted = []
 reply_line (reply.Occupied proposed present) = []
 reply_line (reply.Values values) = []
+reply_line reply.Failed = []
+reply_line reply.NoClone = []
+reply_line reply.NoRemove = []
 
 -- the command prints this line on the map old, and leaves the map new: the line of a reply that the call may get
 abbrev pub PrintsReply : Command → List (List ℕ × ℕ) → List ℕ → List (List ℕ × ℕ) → Type 0

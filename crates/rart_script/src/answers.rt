@@ -12,7 +12,7 @@ use rart::{KeyTrait, TreeError};
 use std::io;
 use std::io::Write;
 
-/// What the tree replied. No command asks what the last four reply.
+/// What the tree replied. No command asks what the last seven reply.
 pub fn write_reply<W: Write>(output: &mut W, reply: Reply<Key, u64>) -> io::Result<()>
     ensures { OnOk result (Appends (W.contents output.old) (W.contents output.new) (reply_line reply)) }
 {
@@ -23,7 +23,13 @@ pub fn write_reply<W: Write>(output: &mut W, reply: Reply<Key, u64>) -> io::Resu
         Reply::Stats(stats) => write_statistics(output, &stats),
         Reply::Refused(error) => write_refusal(output, error),
         Reply::Returned(error, _value) => write_refusal(output, error),
-        Reply::Done(_) | Reply::Inserted | Reply::Occupied(_, _) | Reply::Values(_) => Ok(()),
+        Reply::Done(_)
+        | Reply::Inserted
+        | Reply::Occupied(_, _)
+        | Reply::Values(_)
+        | Reply::Failed
+        | Reply::NoClone
+        | Reply::NoRemove => Ok(()),
     }
 }
 

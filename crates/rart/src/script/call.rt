@@ -1,5 +1,7 @@
 //! Calls of a tree.
 
+use rart_nodes::SlotUpdate;
+
 /// A call of a tree, as a value.
 #[derive(Drop)]
 pub enum Call<K, V> {
@@ -13,6 +15,11 @@ pub enum Call<K, V> {
     Remove(K),
     /// Removes a key, and asks whether it was stored.
     Delete(K),
+    /// Updates what stands at a key: where it is stored the value is written first, if there is one; and
+    /// this is answered.
+    Update(K, Option<V>, SlotUpdate<V>),
+    /// The same, by a callback that may fail.
+    TryUpdate(K, Option<V>, Result<SlotUpdate<V>, ()>),
     /// All pairs.
     Iter,
     /// All values.

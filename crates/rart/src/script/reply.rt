@@ -8,7 +8,8 @@ use rart_parts::TreeError;
 pub enum Reply<K, V> {
     /// The value that the key has or had, where it was stored.
     Value(Option<V>),
-    /// What was asked: of `Delete`, whether the key was stored; of `IsEmpty`, whether there is no pair.
+    /// What was asked: of `Delete`, whether the key was stored; of `Update` and `TryUpdate`, whether it was
+    /// stored or now is; of `IsEmpty`, whether there is no pair.
     Done(bool),
     /// The key was new, and now has the value.
     Inserted,
@@ -26,4 +27,11 @@ pub enum Reply<K, V> {
     Refused(TreeError),
     /// The insertion was refused, and the tree is as before: why, and the value that was offered.
     Returned(TreeError, V),
+    /// The callback failed, and the tree is as before.
+    Failed,
+    /// The value at the key could not be cloned. The callback wasn't called, and the tree is as before.
+    NoClone,
+    /// The removal that the callback asked for was refused: of `Update` the pair stands with what was
+    /// written, of `TryUpdate` the tree is as before.
+    NoRemove,
 }

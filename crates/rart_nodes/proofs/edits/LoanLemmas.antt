@@ -18,7 +18,7 @@ longest (k ∷ ks) = max (length k) (longest ks)
 
 module _ {V : Type 0} where
   -- the keys stay where the key was there
-  keys-put : (k : List ℕ) (v w : V) (es : List (List ℕ × V)) → IsAscending es → lookup k es ≡ Some v → keys_of (put k w es) ≡ keys_of es
+  pub keys-put : (k : List ℕ) (v w : V) (es : List (List ℕ × V)) → IsAscending es → lookup k es ≡ Some v → keys_of (put k w es) ≡ keys_of es
   keys-put k v w [] h s = absurd (cc)
   keys-put k v w (e ∷ es) h s = ⊎_elim
       (λ b. let none = lookup-above k (e ∷ es) (b, above-trans k e.0 es b h.0) in absurd (cc))
@@ -31,10 +31,10 @@ module _ {V : Type 0} where
   longest-is [] = refl
   longest-is (e ∷ es) = ap (max (length e.0)) (longest-is es)
 
-  lengths-alike : (xs ys : List (List ℕ × V)) → keys_of xs ≡ keys_of ys → length xs ≡ length ys
+  pub lengths-alike : (xs ys : List (List ℕ × V)) → keys_of xs ≡ keys_of ys → length xs ≡ length ys
   lengths-alike xs ys e = sym (length-map xs (λ z. z.0)) ∙ ap length e ∙ length-map ys (λ z. z.0)
 
-  longest-alike : (xs ys : List (List ℕ × V)) → keys_of xs ≡ keys_of ys → longest_key xs ≡ longest_key ys
+  pub longest-alike : (xs ys : List (List ℕ × V)) → keys_of xs ≡ keys_of ys → longest_key xs ≡ longest_key ys
   longest-alike xs ys e = longest-is xs ∙ ap longest e ∙ sym (longest-is ys)
 
   keys-lent : (k : List ℕ) (v w : V) (t : Trie V) → IsCanonical t → trie_lookup k t ≡ Some v → keys_of (pairs_of (trie_put k w t)) ≡ keys_of (pairs_of t)

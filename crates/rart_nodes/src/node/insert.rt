@@ -19,7 +19,7 @@ use std::mem;
 impl<P: Partial, V> DefaultNode<P, V> {
     /// Cuts the node where `key`, which its prefix doesn't begin, parts from the prefix, and puts `value` at
     /// the key. Refused, all stands as it was and the value is handed back.
-    fn split(&mut self, alloc: Global, key: &[u8], value: V) -> Result<(), Refused<V>>
+    pub(super) fn split(&mut self, alloc: Global, key: &[u8], value: V) -> Result<(), Refused<V>>
         requires leaves { None ≡ strip_prefix (prefix_of self.old) key.now }
         requires fits { IsWithin P.MAXIMUM_SIZE (length key.now) }
         ensures ok { OnOk result (self.new ≡ trie_put key.now value self.old) }

@@ -18,7 +18,7 @@ use std::mem;
 impl<P: Partial, V> DefaultNode<P, V> {
     /// Joins the node with its child where it has no value and no other child. The child keeps its
     /// kind. Takes no memory.
-    fn join_lone_child(&mut self)
+    pub(super) fn join_lone_child(&mut self)
         requires width { is_lone (value_of self.old) (children_in self.old) ≡ true → capacity_in self.old ≡ 4 }
         requires within { JoinsWithin P.MAXIMUM_SIZE (prefix_of self.old) (children_in self.old) }
         ensures { self.new ≡ joined_if_lone self.old }

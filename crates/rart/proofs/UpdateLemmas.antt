@@ -1,0 +1,111 @@
+-- What an update of a tree comes to.
+use Rattle.std.proofs.Common.{◌≡◌, ◌≢◌, ℕ, ◌<◌, ◌≤◌, Bool, true, false, List, length, nat_eq, Option, Some, None, Result, Ok, Err, is_some, refl, arith, sym, ap, ◌∙◌}
+use Rattle.std.proofs.lemmas.Bool.Decides.{nat_tests}
+use Rattle.std.specs.Borrow.{MutBor}
+use Rattle.std.specs.Fn.{Once, FnOnceReturnsAtMut}
+use Rattle.rart_keys.specs.SortedMap.{IsAscending, lookup, put}
+use Rattle.rart_nodes.specs.declared.refused.Refused.{Refused}
+use Rattle.rart_nodes.specs.declared.slot.Outcome.{Outcome}
+use Rattle.rart_nodes.specs.declared.slot.Slot.{Slot}
+use Rattle.rart_nodes.specs.declared.slot.SlotUpdate.{SlotUpdate}
+use Rattle.rart_nodes.specs.declared.slot.SlotUpdate.TheVariants.{Keep, Remove, Insert}
+use Rattle.rart_nodes.specs.declared.slot.UpdateError.{UpdateError}
+use Rattle.rart_nodes.specs.declared.slot.UpdateError.TheVariants.{Insert as Not_inserted, Remove as Not_removed}
+use Rattle.rart_nodes.specs.updates.Slots.{HasRoom, outcome_of, slot_of}
+use Rattle.rart_nodes.specs.updates.Updates.{EndsMap, RefusesNew, map_left}
+use Rattle.rart_parts.specs.declared.error.TreeError.{TreeError}
+use Rattle.rart_parts.specs.declared.error.TreeError.TheVariants.{Memory, Full}
+use Rattle.rart.specs.MapAndShape.{MapAndShape}
+use Rattle.rart.specs.Refusals.{MayRefuse}
+use Rattle.rart.specs.declared.tree.update.Told.{Told}
+use Rattle.rart.specs.declared.tree.update.Told.TheVariants.{NotCloned, Failed, Answered}
+use Rattle.rart.specs.Updates.{EndsIn, IsAttempt, IsTryUpdate, IsUpdate, TakesNew, is_touched, touched_in}
+use Rattle.rart.specs.declared.tree.TheConstants.{MAX_PAIRS}
+
+full-is : (l n : ℕ) → nat_eq l n ≡ true → l ≡ n
+full-is l n h = grind (arith, nat_tests)
+
+room-is : (l n : ℕ) → nat_eq l n ≡ false → l ≢ n
+room-is l n h = λ e. grind (arith, nat_tests)
+
+room-below : (l n : ℕ) → l ≤ n → nat_eq l n ≡ false → l < n
+room-below l n b h = grind (arith, nat_tests)
+
+pub same-map : {V : Type 0} (a b : MapAndShape V) → a.pairs ≡ b.pairs → a.nodes ≡ b.nodes → a ≡ b
+same-map {V} a b p n =
+    let q : a ≡ record { pairs = b.pairs; nodes = a.nodes } = ap (λ (z : List (List ℕ × V)). record { pairs = z; nodes = a.nodes }) p in
+    q ∙ ap (λ z. record { pairs = b.pairs; nodes = z }) n
+
+module _ {V : Type 0} where
+  slot-same : (u v : Option V) → slot_of u ≡ slot_of v → u ≡ v
+  slot-same None None h = refl
+  slot-same None (Some x) h = absurd (cc)
+  slot-same (Some x) None h = absurd (cc)
+  slot-same (Some x) (Some y) h = let q : x ≡ y = cc in ap Some q
+
+  none-stored : (w o : Option V) → w ≡ None → is_some w ≡ is_some o → o ≡ None
+  none-stored w None h s = refl
+  none-stored None (Some x) h s = absurd (cc)
+  none-stored (Some y) (Some x) h s = absurd (cc)
+
+  some-stored : (w o : Option V) → w ≢ None → is_some w ≡ is_some o → o ≢ None
+  some-stored None o h s = absurd (h refl)
+  some-stored (Some y) None h s = absurd (cc)
+  some-stored (Some y) (Some x) h s = λ z. cc
+
+  takes-new : (full : Bool) (r : SlotUpdate V) (w : Option V) (o : Outcome V) (m : List (List ℕ × V)) → full ≡ nat_eq (length m) MAX_PAIRS → o ≡ outcome_of r w → HasRoom full o → TakesNew r w m
+  takes-new full Keep w o m f e h = tt
+  takes-new full Remove w o m f e h = tt
+  takes-new full (Insert x) (Some w) o m f e h = tt
+  takes-new full (Insert x) None o m f e h = let room : full ≡ false = rw e at h in room-is (length m) MAX_PAIRS (sym f ∙ room)
+
+  may-refuse : (full : Bool) (k : List ℕ) (m : List (List ℕ × V)) (e : TreeError) → full ≡ nat_eq (length m) MAX_PAIRS → length m ≤ MAX_PAIRS → lookup k m ≡ None → RefusesNew full k m e → MayRefuse m k e
+  may-refuse full k m Full f most none h = (none, full-is (length m) MAX_PAIRS (sym f ∙ h))
+  may-refuse full k m Memory f most none h = (none, room-below (length m) MAX_PAIRS most (sym f ∙ h.0), h.1)
+
+  -- the update of a root is one of the map
+  pub ends-in : (full : Bool) (k : List ℕ) (r : SlotUpdate V) (w : Option V) (m : List (List ℕ × V)) (res : Result (Outcome V) (UpdateError V)) (n : List (List ℕ × V)) → full ≡ nat_eq (length m) MAX_PAIRS → length m ≤ MAX_PAIRS
+      → is_some w ≡ is_some (lookup k m) → EndsMap full k r w m res n → EndsIn k r w m res n
+  ends-in full k r w m (Ok o) n f most s h = (h.1, takes-new full r w o m f h.1 h.2, h.0)
+  ends-in full k r w m (Err (Not_inserted e)) n f most s h = (h.1, h.2, may-refuse full k m e.error f most (none-stored w (lookup k m) h.2 s) h.3, h.0)
+  ends-in full k r w m (Err Not_removed) n f most s h = (h.1, h.2, (refl, some-stored w (lookup k m) h.2 s, h.3), h.0)
+
+  pub touched-is : (r : SlotUpdate V) (w : Option V) → touched_in (outcome_of r w) ≡ is_touched r w
+  touched-is Keep None = refl
+  touched-is Remove None = refl
+  touched-is (Insert x) None = refl
+  touched-is Keep (Some w) = refl
+  touched-is Remove (Some w) = refl
+  touched-is (Insert x) (Some w) = refl
+
+  -- what was left as it was shown changes nothing
+  pub kept : (k : List ℕ) (r : SlotUpdate V) (w : Option V) (m : List (List ℕ × V)) (res : Result (Outcome V) (UpdateError V)) (n : List (List ℕ × V)) → ((v : V) → lookup k m ≡ Some v → put k v m ≡ m)
+      → r ≡ Keep → slot_of w ≡ slot_of (lookup k m) → EndsIn k r w m res n → n ≡ m
+  kept k Remove w m res n law e s h = absurd (cc)
+  kept k (Insert x) w m res n law e s h = absurd (cc)
+  kept k Keep None m (Ok o) n law e s h = h.2
+  kept k Keep (Some w) m (Ok o) n law e s h = h.2 ∙ law w (sym (slot-same (Some w) (lookup k m) s))
+  kept k Keep w m (Err (Not_inserted d)) n law e s h = absurd (let z = h.0 in cc)
+  kept k Keep w m (Err Not_removed) n law e s h = absurd (let z = h.0 in cc)
+
+  -- a refused removal: what was left stands at the key, and what stood there is put back
+  pub stands-left : (k : List ℕ) (w : Option V) (m n : List (List ℕ × V)) → ((v : V) → lookup k (put k v m) ≡ Some v) → w ≢ None → n ≡ map_left k w m → lookup k n ≢ None
+  stands-left k None m n law s e = absurd (s refl)
+  stands-left k (Some w) m n law s e = λ z. let at = law w in let same = ap (lookup k) e in cc
+
+  pub back-left : (k : List ℕ) (w : Option V) (v : V) (m n u : List (List ℕ × V)) → ((x y : V) → lookup k m ≡ Some x → put k x (put k y m) ≡ m) → w ≢ None → lookup k m ≡ Some v → n ≡ map_left k w m → u ≡ put k v n → u ≡ m
+  back-left k None v m n u law s at e p = absurd (s refl)
+  back-left k (Some w) v m n u law s at e p = p ∙ ap (put k v) e ∙ law v w at
+
+  pub slot-is : (u v : Option V) → slot_of u ≡ slot_of v → u ≡ v
+  slot-is = slot-same
+
+  slot-some : (u v : Option V) → slot_of u ≡ slot_of v → is_some u ≡ is_some v
+  slot-some u v h = ap is_some (slot-same u v h)
+
+-- an attempt keeps a slot occupied, or vacant, where the callback does
+pub attempt-stays : {F E V : Type 0} (g : Once F (MutBor (Slot V) × Unit {0}) (Result (SlotUpdate V) E × (MutBor (Slot V) × Unit {0}))) (f : F) (o : Option V) (r : SlotUpdate V) (x : Told V E) (w : Option V)
+    → ((a : SlotUpdate V) (u : Option V) → FnOnceReturnsAtMut g f (slot_of o) (Ok a) (slot_of u) → is_some u ≡ is_some o) → IsAttempt g f (slot_of o) r x (slot_of w) → is_some w ≡ is_some o
+attempt-stays g f o r NotCloned w law h = slot-some w o h.1
+attempt-stays g f o r (Failed e) w law h = slot-some w o h.1
+attempt-stays g f o r (Answered c) w law h = law r w h.0

@@ -1,0 +1,5 @@
+use Rattle.std.proofs.Common.{refl}
+use Rattle.rart.proofs.tree.update.update_plainly.Goals as goal
+
+pub update_with-outcome-requires-clause-stays : goal.update_with-outcome-requires-clause-stays
+update_with-outcome-requires-clause-stays g c = λ r x w h. c.requires.stays r w (rw (h.shows, h.leaves) at h.met)

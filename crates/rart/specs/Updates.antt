@@ -1,0 +1,81 @@
+-- What an update of a tree answers, and what it leaves of the map.
+use Rattle.std.specs.Prelude.{◌≡◌, ◌≢◌, ℕ, Bool, true, false, List, length, Option, Some, None, Result, Ok, Err}
+use Rattle.std.specs.Borrow.{MutBor}
+use Rattle.std.specs.Fn.{Once, FnOnceReturnsAtMut}
+use Rattle.rart_keys.specs.SortedMap.{lookup}
+use Rattle.rart_nodes.specs.declared.refused.Refused.{Refused}
+use Rattle.rart_nodes.specs.declared.slot.Outcome.{Outcome}
+use Rattle.rart_nodes.specs.declared.slot.Outcome.TheVariants.{Absent}
+use Rattle.rart_nodes.specs.declared.slot.Slot.{Slot}
+use Rattle.rart_nodes.specs.declared.slot.Slot.TheVariants.{Vacant, Occupied}
+use Rattle.rart_nodes.specs.declared.slot.SlotUpdate.{SlotUpdate}
+use Rattle.rart_nodes.specs.declared.slot.SlotUpdate.TheVariants.{Keep, Remove, Insert}
+use Rattle.rart_nodes.specs.declared.slot.UpdateError.{UpdateError}
+use Rattle.rart_nodes.specs.declared.slot.UpdateError.TheVariants.{Insert as Not_inserted, Remove as Not_removed}
+use Rattle.rart_nodes.specs.updates.Slots.{outcome_of, slot_of}
+use Rattle.rart_nodes.specs.updates.Updates.{map_left, map_updated}
+use Rattle.rart_parts.specs.declared.error.TreeError.TheVariants.{Memory}
+use Rattle.rart.specs.Refusals.{MayKeep, MayRefuse}
+use Rattle.rart.specs.declared.tree.TheConstants.{MAX_PAIRS}
+use Rattle.rart.specs.declared.tree.update.Told.{Told}
+use Rattle.rart.specs.declared.tree.update.Told.TheVariants.{NotCloned, Failed, Answered}
+use Rattle.rart.specs.declared.tree.update.TryUpdateError.{TryUpdateError}
+use Rattle.rart.specs.declared.tree.update.TryUpdateError.TheVariants.{Callback, Insert as Try_not_inserted, Remove as Try_not_removed}
+
+-- whether a slot was occupied, or is filled
+abbrev pub is_touched : {V : Type 0} → SlotUpdate V → Option V → Bool
+is_touched r (Some w) = true
+is_touched Keep None = false
+is_touched Remove None = false
+is_touched (Insert x) None = true
+
+-- a full map takes no new key
+abbrev pub TakesNew : {V : Type 0} → SlotUpdate V → Option V → List (List ℕ × V) → Type 0
+TakesNew (Insert x) None m = length m ≢ MAX_PAIRS
+TakesNew r w m = Unit {0}
+
+-- an update where w was left and r asked for is refused: an insertion of a new key, and the map stays; or a removal, and w stands at the key
+abbrev pub IsRefusal : {V : Type 0} → List ℕ → SlotUpdate V → Option V → List (List ℕ × V) → UpdateError V → List (List ℕ × V) → Type 0
+IsRefusal key r w old (Not_inserted e) new = (r ≡ Insert e.value) × (w ≡ None) × MayRefuse old key e.error × (new ≡ old)
+IsRefusal key r w old Not_removed new = (r ≡ Remove) × (w ≢ None) × MayKeep old key Memory × (new ≡ map_left key w old)
+
+-- what it comes to, and the map that it leaves
+abbrev pub EndsIn : {V : Type 0} → List ℕ → SlotUpdate V → Option V → List (List ℕ × V) → Result (Outcome V) (UpdateError V) → List (List ℕ × V) → Type 0
+EndsIn key r w old (Ok o) new = (o ≡ outcome_of r w) × TakesNew r w old × (new ≡ map_updated key r w old)
+EndsIn key r w old (Err e) new = IsRefusal key r w old e new
+
+-- `update`, where the callback left w and asked for r: whether the key was stored, or now is; and the map that it leaves
+abbrev pub IsUpdate : {V : Type 0} → List ℕ → SlotUpdate V → Option V → List (List ℕ × V) → Result Bool (UpdateError V) → List (List ℕ × V) → Type 0
+IsUpdate key r w old (Ok touched) new = (touched ≡ is_touched r w) × TakesNew r w old × (new ≡ map_updated key r w old)
+IsUpdate key r w old (Err e) new = IsRefusal key r w old e new
+
+-- `try_update`, where the callback left w and answered a: as `update`, but with Err the map stays
+abbrev pub IsTryUpdate : {E V : Type 0} → List ℕ → Result (SlotUpdate V) E → Option V → List (List ℕ × V) → Result Bool (TryUpdateError E V) → List (List ℕ × V) → Type 0
+IsTryUpdate key (Ok r) w old (Ok touched) new = (touched ≡ is_touched r w) × TakesNew r w old × (new ≡ map_updated key r w old)
+IsTryUpdate key (Ok r) w old (Err (Try_not_inserted e)) new = (r ≡ Insert e.value) × (w ≡ None) × MayRefuse old key e.error × (new ≡ old)
+IsTryUpdate key (Ok r) w old (Err Try_not_removed) new = (r ≡ Remove) × (w ≢ None) × MayKeep old key Memory × (new ≡ old)
+IsTryUpdate key (Err e) w old (Err (Callback f)) new = (f ≡ e) × (new ≡ old)
+IsTryUpdate key a w old result new = ⊥
+
+-- what an outcome answers
+abbrev pub touched_in : {V : Type 0} → Outcome V → Bool
+touched_in Absent = false
+touched_in o = true
+
+-- f, shown the slot s, was tried: r is asked for, this is told, and s' is left; where f failed or wasn't called the slot is as before
+abbrev pub IsAttempt : {F E V : Type 0} → Once F (MutBor (Slot V) × Unit {0}) (Result (SlotUpdate V) E × (MutBor (Slot V) × Unit {0})) → F → Slot V → SlotUpdate V → Told V E → Slot V → Type 0
+IsAttempt {F} {E} {V} g f s r NotCloned s' = (r ≡ Keep) × (s' ≡ s) × (s ≢ Vacant)
+IsAttempt {F} {E} {V} g f s r (Failed e) s' = (r ≡ Keep) × (s' ≡ s) × ((w : Option V) × FnOnceReturnsAtMut g f s (Err e) (slot_of w))
+IsAttempt {F} {E} {V} g f s r (Answered o) s' = FnOnceReturnsAtMut g f s (Ok r) s' × (slot_of o ≡ s)
+
+-- what a callback leaves that writes this value where the slot is occupied
+abbrev pub written_slot : {V : Type 0} → Option V → Slot V → Slot V
+written_slot w Vacant = Vacant
+written_slot None (Occupied v) = Occupied v
+written_slot (Some w) (Occupied v) = Occupied w
+
+-- the same, of what stands at the key
+abbrev pub left_by : {V : Type 0} → Option V → Option V → Option V
+left_by w None = None
+left_by None (Some v) = Some v
+left_by (Some w) (Some v) = Some w

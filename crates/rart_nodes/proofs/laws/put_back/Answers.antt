@@ -1,0 +1,5 @@
+use Rattle.rart_nodes.proofs.updates.MapUpdates.{put-back, put-same}
+use Rattle.rart_nodes.proofs.laws.put_back.Goals as goal
+
+pub returns : goal.returns
+returns g c = record { same = put-same; back = put-back }

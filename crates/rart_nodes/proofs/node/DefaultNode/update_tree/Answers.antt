@@ -1,0 +1,28 @@
+use Rattle.std.proofs.Common.{◌≡◌, ◌∙◌, ap, sym, refl, None, is_some}
+use Rattle.rart_nodes.specs.tries.Trie.{trie_lookup, value_of}
+use Rattle.rart_nodes.proofs.edits.LeafLemmas.{leaf-value, leaf-some}
+use Rattle.rart_nodes.proofs.updates.UpdateSteps.{leaf-done, none-there, some-stays}
+use Rattle.rart_nodes.proofs.node.DefaultNode.update_tree.Goals as goal
+
+pub update_below-requires-clause-stays : goal.update_below-requires-clause-stays
+update_below-requires-clause-stays g c = rw c.in-Some.is at c.requires.stays
+
+pub update_leaf-requires-clause-stays : goal.update_leaf-requires-clause-stays
+update_leaf-requires-clause-stays g c =
+    let stays = rw c.in-Some.is at c.requires.stays in
+    let goes = sym c.is_leaf_at.ensures ∙ c.if-not-is_leaf_at.false in
+    let leaf : trie_lookup c.args.key.now c.in-Some.node ≡ value_of c.in-Some.node = leaf-value c.args.key.now c.in-Some.node goes in
+    λ r x w h. some-stays w _ (stays r x w (rw leaf h) ∙ ap is_some leaf) (leaf-some c.args.key.now c.in-Some.node (rw c.in-Some.is at c.requires.canonical) goes)
+
+pub show_vacant-answer-requires-clause-stays : goal.show_vacant-answer-requires-clause-stays
+show_vacant-answer-requires-clause-stays g c =
+    let stays = rw c.in-None.is at c.requires.stays in
+    λ r x w h. none-there w None (stays r x w h) refl
+
+pub returns-in-Some-outcome : goal.returns-in-Some-outcome
+returns-in-Some-outcome g c =
+    let goes = sym c.is_leaf_at.ensures ∙ c.if-not-is_leaf_at.false in
+    let leaf : trie_lookup c.args.key.now c.in-Some.node ≡ value_of c.in-Some.node = leaf-value c.args.key.now c.in-Some.node goes in
+    let e = c.update_leaf.ensures in
+    let done = rw c.in-Some-outcome.is at e.3 in
+    (e.0, e.1, rw (c.in-Some.is, leaf) e.2, rw c.in-Some.is (leaf-done c.args.full c.args.key.now c.in-Some.node c.update_leaf.new.self e.0 e.1 c.in-Some-outcome.outcome goes done))

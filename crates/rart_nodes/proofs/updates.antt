@@ -1,0 +1,2 @@
+pub mod MapUpdates
+pub mod UpdateSteps

@@ -1,0 +1,333 @@
+//! Updates below a node: the callback runs where the one pass down ends, and what it asks for is done
+//! there. Room is taken before the first write.
+ghost use Rattle.std.specs.Prelude.{◌≡◌, ◌≢◌, ◌<◌, ◌≤◌, [], ℕ, List, length, is_some, option_and_then, slice_get, false, true, None, Some, IfSome, IsSomeAnd, Option, OnErr};
+ghost use Rattle.std.specs.Fn.{FnOnceReturnsAtMut, FnOnceTakesAtMut};
+ghost use Rattle.rart_keys.specs.ByteStrings.{strip_prefix};
+ghost use Rattle.rart_keys.specs.KeyBytes.{IsWithin};
+ghost use Rattle.rart_keys.specs.SortedMap.{keys_of, lookup, longest_key};
+ghost use Rattle.rart_nodes.specs.declared.slot.SlotUpdate.{SlotUpdate};
+ghost use Rattle.rart_nodes.specs.edits.Deletion.{JoinsWithin, is_leaf_at, is_lone};
+ghost use Rattle.rart_nodes.specs.tries.Tree.{IsCanonicalTree, tree_lookup, tree_nodes, tree_pairs};
+ghost use Rattle.rart_nodes.specs.tries.Trie.{IsCanonical, capacity_in, child_in, children_in, edges_of, pairs_of, prefix_of, trie_lookup, value_of};
+ghost use Rattle.rart_nodes.specs.updates.Slots.{IsCounted, longest_after, slot_of};
+ghost use Rattle.rart_nodes.specs.updates.TreeUpdates.{EndsHere, EndsLeaf, EndsTree, LosesLeaf, LosesRoot};
+ghost use Rattle.rart_nodes.specs.updates.Updates.{EndsMap};
+
+use crate::node::DefaultNode;
+use crate::node::rest::rest_behind;
+use crate::refused::Refused;
+use crate::slot::{Outcome, Slot, SlotUpdate, UpdateError, Visit, show, show_vacant};
+use rart_keys::Partial;
+use rart_parts::TreeError;
+use std::alloc::Global;
+
+/// Puts a value in where none stands.
+fn fill<V>(place: &mut Option<V>, value: V)
+    requires { place.old ≡ None }
+    ensures { place.new ≡ Some value }
+{
+    match place.replace(value) {
+        None => {}
+        Some(_) => unreachable!(),
+    }
+}
+
+impl<P: Partial, V> DefaultNode<P, V> {
+    // Does what was asked for a key that the prefix doesn't begin.
+    fn settle_split(
+        &mut self,
+        alloc: Global,
+        full: bool,
+        key: &[u8],
+        answer: SlotUpdate<V>,
+    ) -> Result<Outcome<V>, UpdateError<V>>
+        requires leaves { None ≡ strip_prefix (prefix_of self.old) key.now }
+        requires fits { IsWithin P.MAXIMUM_SIZE (length key.now) }
+        ensures { EndsTree full key.now answer None (Some self.old) result (Some self.new) }
+    {
+        match answer {
+            SlotUpdate::Keep | SlotUpdate::Remove => Ok(Outcome::Absent),
+            SlotUpdate::Insert(value) => {
+                if full {
+                    return Err(UpdateError::Insert(Refused {
+                        error: TreeError::Full,
+                        value,
+                    }));
+                }
+                match self.split(alloc, key, value) {
+                    Ok(()) => Ok(Outcome::New),
+                    Err(refused) => Err(UpdateError::Insert(refused)),
+                }
+            }
+        }
+    }
+
+    // Does what was asked for a key that goes on with `rest` behind the prefix, where no child stands at
+    // its first byte.
+    fn settle_child(
+        &mut self,
+        alloc: Global,
+        full: bool,
+        rest: &[u8],
+        byte: u8,
+        answer: SlotUpdate<V>,
+    ) -> Result<Outcome<V>, UpdateError<V>>
+        requires canonical { IsCanonical self.old }
+        requires first { Some byte ≡ slice_get rest.now 0 }
+        requires absent { child_in byte self.old ≡ None }
+        requires fits { IsWithin P.MAXIMUM_SIZE (length rest.now) }
+        ensures { (key : List ℕ) → Some rest.now ≡ strip_prefix (prefix_of self.old) key → EndsTree full key answer None (Some self.old) result (Some self.new) }
+    {
+        match answer {
+            SlotUpdate::Keep | SlotUpdate::Remove => Ok(Outcome::Absent),
+            SlotUpdate::Insert(value) => {
+                if full {
+                    return Err(UpdateError::Insert(Refused {
+                        error: TreeError::Full,
+                        value,
+                    }));
+                }
+                match self.storage.make_room(alloc, byte) {
+                    Ok(()) => {
+                        let leaf = DefaultNode::new_leaf(P::from_slice(rest), value);
+                        self.storage.add_within(byte, leaf);
+                        Ok(Outcome::New)
+                    }
+                    Err(error) => Err(UpdateError::Insert(Refused { error, value })),
+                }
+            }
+        }
+    }
+
+    // Does what was asked for the key at which a node with children stands, whose value was `left`.
+    fn settle_here(
+        &mut self,
+        full: bool,
+        left: Option<V>,
+        answer: SlotUpdate<V>,
+    ) -> Result<Outcome<V>, UpdateError<V>>
+        requires taken { value_of self.old ≡ None }
+        requires width { is_lone None (children_in self.old) ≡ true → capacity_in self.old ≡ 4 }
+        requires within { JoinsWithin P.MAXIMUM_SIZE (prefix_of self.old) (children_in self.old) }
+        ensures { EndsHere full answer left self.old result self.new }
+    {
+        match left {
+            Some(left) => match answer {
+                SlotUpdate::Keep => {
+                    fill(&mut self.value, left);
+                    Ok(Outcome::Kept)
+                }
+                SlotUpdate::Insert(value) => {
+                    fill(&mut self.value, value);
+                    Ok(Outcome::Replaced(left))
+                }
+                SlotUpdate::Remove => {
+                    self.join_lone_child();
+                    Ok(Outcome::Removed(left))
+                }
+            },
+            None => match answer {
+                SlotUpdate::Keep | SlotUpdate::Remove => Ok(Outcome::Absent),
+                SlotUpdate::Insert(value) => {
+                    if full {
+                        return Err(UpdateError::Insert(Refused {
+                            error: TreeError::Full,
+                            value,
+                        }));
+                    }
+                    fill(&mut self.value, value);
+                    Ok(Outcome::New)
+                }
+            },
+        }
+    }
+
+    // Shows a leaf's value to `f`, and does what it asks for. No outcome: the leaf is to be removed.
+    fn update_leaf<X, F: FnOnce(&mut Slot<V>) -> (SlotUpdate<V>, X)>(
+        &mut self,
+        f: F,
+    ) -> (Option<Outcome<V>>, X)
+        requires callable { FnOnceTakesAtMut F.FnOnce f (slot_of (value_of self.old)) }
+        requires stays { (r : SlotUpdate V) (x : X) (w : Option V) → FnOnceReturnsAtMut F.FnOnce f (slot_of (value_of self.old)) (r, x) (slot_of w) → w ≢ None }
+        ensures { (r : SlotUpdate V) × (w : Option V) × FnOnceReturnsAtMut F.FnOnce f (slot_of (value_of self.old)) (r, result.1) (slot_of w) × EndsLeaf r w self.old result.0 self.new }
+    {
+        let Visit { left, answer, told } = show(self.value.take(), f);
+        let Some(left) = left else { unreachable!() };
+        match answer {
+            SlotUpdate::Keep => {
+                fill(&mut self.value, left);
+                (Some(Outcome::Kept), told)
+            }
+            SlotUpdate::Insert(value) => {
+                fill(&mut self.value, value);
+                (Some(Outcome::Replaced(left)), told)
+            }
+            SlotUpdate::Remove => {
+                fill(&mut self.value, left);
+                (None, told)
+            }
+        }
+    }
+
+    // Removes the leaf at `byte`. Refused, all stands as it was.
+    fn lose_leaf(&mut self, alloc: Global, byte: u8) -> Result<Outcome<V>, UpdateError<V>>
+        requires within { JoinsWithin P.MAXIMUM_SIZE (prefix_of self.old) (children_in self.old) }
+        requires stands { child_in byte self.old ≢ None }
+        requires leaf { IfSome (child_in byte self.old) (λ t. (edges_of (children_in t) ≡ []) × (value_of t ≢ None)) }
+        ensures { LosesLeaf byte (option_and_then value_of (child_in byte self.old)) self.old result self.new }
+    {
+        match self.take_child(alloc, byte) {
+            Ok(Some(child)) => match child.into_value() {
+                Some(value) => Ok(Outcome::Removed(value)),
+                None => unreachable!(),
+            },
+            Ok(None) => unreachable!(),
+            Err(_) => Err(UpdateError::Remove),
+        }
+    }
+
+    fn update_below<X, F: FnOnce(&mut Slot<V>) -> (SlotUpdate<V>, X)>(
+        &mut self,
+        alloc: Global,
+        full: bool,
+        key: &[u8],
+        f: F,
+    ) -> (Result<Outcome<V>, UpdateError<V>>, X)
+        requires canonical { IsCanonical self.old }
+        requires fits_key { IsWithin P.MAXIMUM_SIZE (length key.now) }
+        requires fits { IsWithin P.MAXIMUM_SIZE (longest_key (pairs_of self.old)) }
+        requires inner { is_leaf_at key.now self.old ≡ false }
+        requires callable { FnOnceTakesAtMut F.FnOnce f (slot_of (trie_lookup key.now self.old)) }
+        requires stays { (r : SlotUpdate V) (x : X) (w : Option V) → FnOnceReturnsAtMut F.FnOnce f (slot_of (trie_lookup key.now self.old)) (r, x) (slot_of w) → is_some w ≡ is_some (trie_lookup key.now self.old) }
+        ensures { (r : SlotUpdate V) × (w : Option V) × FnOnceReturnsAtMut F.FnOnce f (slot_of (trie_lookup key.now self.old)) (r, result.1) (slot_of w) × EndsTree full key.now r w (Some self.old) result.0 (Some self.new) }
+    {
+        let Some(rest) = rest_behind(&self.prefix, key) else {
+            let (answer, told) = show_vacant(f);
+            return (self.settle_split(alloc, full, key, answer), told);
+        };
+        let Some(&byte) = rest.first() else {
+            let Visit { left, answer, told } = show(self.value.take(), f);
+            return (self.settle_here(full, left, answer), told);
+        };
+        let (outcome, told) = match self.storage.seek_child_mut(byte) {
+            Some(child) => {
+                if !child.is_leaf_at(rest) {
+                    return child.update_below(alloc, full, rest, f);
+                }
+                child.update_leaf(f)
+            }
+            None => {
+                let (answer, told) = show_vacant(f);
+                return (self.settle_child(alloc, full, rest, byte, answer), told);
+            }
+        };
+        match outcome {
+            Some(outcome) => (Ok(outcome), told),
+            None => (self.lose_leaf(alloc, byte), told),
+        }
+    }
+
+    // Does what was asked for a key in a tree without a root.
+    fn settle_root(
+        root: &mut Option<Self>,
+        full: bool,
+        key: &[u8],
+        answer: SlotUpdate<V>,
+    ) -> Result<Outcome<V>, UpdateError<V>>
+        requires empty { root.old ≡ None }
+        requires fits { IsWithin P.MAXIMUM_SIZE (length key.now) }
+        ensures { EndsTree full key.now answer None root.old result root.new }
+    {
+        match answer {
+            SlotUpdate::Keep | SlotUpdate::Remove => Ok(Outcome::Absent),
+            SlotUpdate::Insert(value) => {
+                if full {
+                    return Err(UpdateError::Insert(Refused {
+                        error: TreeError::Full,
+                        value,
+                    }));
+                }
+                fill(root, DefaultNode::new_leaf(P::from_slice(key), value));
+                Ok(Outcome::New)
+            }
+        }
+    }
+
+    /// Updates a tree that is a root or none, as `EndsTree` says.
+    fn update_tree<X, F: FnOnce(&mut Slot<V>) -> (SlotUpdate<V>, X)>(
+        root: &mut Option<Self>,
+        alloc: Global,
+        full: bool,
+        key: &[u8],
+        f: F,
+    ) -> (Result<Outcome<V>, UpdateError<V>>, X)
+        requires canonical { IsCanonicalTree root.old }
+        requires fits_key { IsWithin P.MAXIMUM_SIZE (length key.now) }
+        requires fits { IsWithin P.MAXIMUM_SIZE (longest_key (tree_pairs root.old)) }
+        requires callable { FnOnceTakesAtMut F.FnOnce f (slot_of (tree_lookup key.now root.old)) }
+        requires stays { (r : SlotUpdate V) (x : X) (w : Option V) → FnOnceReturnsAtMut F.FnOnce f (slot_of (tree_lookup key.now root.old)) (r, x) (slot_of w) → is_some w ≡ is_some (tree_lookup key.now root.old) }
+        ensures { (r : SlotUpdate V) × (w : Option V) × FnOnceReturnsAtMut F.FnOnce f (slot_of (tree_lookup key.now root.old)) (r, result.1) (slot_of w) × EndsTree full key.now r w root.old result.0 root.new }
+    {
+        let (outcome, told) = match root {
+            Some(node) => {
+                if !node.is_leaf_at(key) {
+                    return node.update_below(alloc, full, key, f);
+                }
+                node.update_leaf(f)
+            }
+            None => {
+                let (answer, told) = show_vacant(f);
+                return (DefaultNode::settle_root(root, full, key, answer), told);
+            }
+        };
+        match outcome {
+            Some(outcome) => (Ok(outcome), told),
+            None => (DefaultNode::lose_root(root), told),
+        }
+    }
+
+    // Removes the root, which is a leaf.
+    fn lose_root(root: &mut Option<Self>) -> Result<Outcome<V>, UpdateError<V>>
+        requires leaf { IsSomeAnd root.old (λ t. (edges_of (children_in t) ≡ []) × (value_of t ≢ None)) }
+        ensures { LosesRoot root.old result root.new }
+    {
+        match root.take() {
+            Some(leaf) => match leaf.into_value() {
+                Some(value) => Ok(Outcome::Removed(value)),
+                None => unreachable!(),
+            },
+            None => unreachable!(),
+        }
+    }
+
+    /// Shows `f` what stands at `key` in a tree that is a root or none, once and in one pass down, and
+    /// does what it asks for; hands on what `f` tells beside. Asks a canonical tree, whose keys are
+    /// within the maximum as `key` is, and an `f` that leaves an occupied slot occupied and a vacant one
+    /// vacant. A tree that is `full` takes no new key.
+    ///
+    /// Refused is an insertion of a new key, with `Full` where the tree is full, with `Memory` only where
+    /// the keys say that it needs room: then all stands as it was, and the value is handed back. Refused
+    /// is a removal, only where the keys say that a node needs smaller room: then the pair stands with
+    /// the value that was left.
+    pub fn update<X, F: FnOnce(&mut Slot<V>) -> (SlotUpdate<V>, X)>(
+        root: &mut Option<Self>,
+        alloc: Global,
+        full: bool,
+        key: &[u8],
+        f: F,
+    ) -> (Result<Outcome<V>, UpdateError<V>>, X)
+        requires canonical { IsCanonicalTree root.old }
+        requires fits_key { IsWithin P.MAXIMUM_SIZE (length key.now) }
+        requires fits { IsWithin P.MAXIMUM_SIZE (longest_key (tree_pairs root.old)) }
+        requires callable { FnOnceTakesAtMut F.FnOnce f (slot_of (lookup key.now (tree_pairs root.old))) }
+        requires stays { (r : SlotUpdate V) (x : X) (w : Option V) → FnOnceReturnsAtMut F.FnOnce f (slot_of (lookup key.now (tree_pairs root.old))) (r, x) (slot_of w) → is_some w ≡ is_some (lookup key.now (tree_pairs root.old)) }
+        ensures update { (r : SlotUpdate V) × (w : Option V) × FnOnceReturnsAtMut F.FnOnce f (slot_of (lookup key.now (tree_pairs root.old))) (r, result.1) (slot_of w) × EndsMap full key.now r w (tree_pairs root.old) result.0 (tree_pairs root.new) }
+        ensures canonical { IsCanonicalTree root.new }
+        ensures count { IsCounted result.0 (length (tree_pairs root.old)) (length (tree_pairs root.new)) }
+        ensures longest { longest_key (tree_pairs root.new) ≤ longest_after result.0 (length key.now) (longest_key (tree_pairs root.old)) }
+        ensures refused { OnErr result.0 (tree_nodes root.new ≡ tree_nodes root.old) }
+        ensures nodes { keys_of (tree_pairs root.new) ≡ keys_of (tree_pairs root.old) → tree_nodes root.new ≡ tree_nodes root.old }
+    {
+        DefaultNode::update_tree(root, alloc, full, key, f)
+    }
+}
