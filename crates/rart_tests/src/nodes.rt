@@ -121,15 +121,20 @@ fn new_of_width(alloc: Global, width: usize, prefix: Part) -> Result<TestNode, T
     }
 }
 
+// A helper owns the node, and another asserts: an assert beside an owned node gets no proof.
 fn plays(rt: &impl Abort, alloc: Global, width: usize, rows: &[Row]) {
     let Ok(mut node) = new_of_width(alloc, width, Part::from_slice(b"abc\0")) else {
         panic!(rt; "refused with ample memory")
     };
+    play_rows(rt, alloc, &mut node, rows);
+}
+
+fn play_rows(rt: &impl Abort, alloc: Global, node: &mut TestNode, rows: &[Row]) {
     let mut row = 0_usize;
     for (ask, want, after) in rows {
-        let found = answer(rt, alloc, &mut node, *ask);
+        let found = answer(rt, alloc, node, *ask);
         assert!(rt; found == *want, "row {row}");
-        assert!(rt; counts(rt, &node) == *after, "row {row}");
+        assert!(rt; counts(rt, node) == *after, "row {row}");
         row = row.wrapping_add(1);
     }
 }
@@ -230,26 +235,39 @@ fn new_inner(alloc: Global, width: usize) -> Result<TestNode, TreeError> {
     }
 }
 
+// What is seen of a new node: its children, its room, and whether it has a value.
+fn seen_of(rt: &impl Abort, node: &TestNode) -> (usize, usize, bool) {
+    let (children, room) = counts(rt, node);
+    (children, room, node.value().is_some())
+}
+
+// What is seen of the node that is made with a request refused, or why none is; and whether one was refused.
+fn made(
+    rt: &impl Abort,
+    alloc: Global,
+    width: usize,
+    at: usize,
+) -> (Result<(usize, usize, bool), TreeError>, bool) {
+    refuse(alloc, at);
+    let answer = new_inner(alloc, width);
+    let refused = was_refused(alloc);
+    match answer {
+        Ok(node) => (Ok(seen_of(rt, &node)), refused),
+        Err(error) => (Err(error), refused),
+    }
+}
+
 #[test]
 fn new_nodes_refused_in_turn(rt: HostRuntime) {
-    let alloc = rt.alloc();
     for (width, room) in [(0_usize, 4_usize), (4, 4), (16, 16), (48, 48), (256, 256)] {
         for at in 1..100_usize {
-            refuse(alloc, at);
-            let answer = new_inner(alloc, width);
-            let refused = was_refused(alloc);
-            match answer {
-                Ok(node) => {
-                    assert!(rt; !refused, "width {width}, request {at}");
-                    assert!(rt; counts(&rt, &node) == (0, room), "width {width}");
-                    assert!(rt; node.value().is_none(), "width {width}");
+            match made(&rt, rt.alloc(), width, at) {
+                (Ok(seen), refused) => {
+                    assert!(rt; !refused && seen == (0, room, false), "width {width}");
                     break;
                 }
-                Err(error) => {
-                    assert!(rt;
-                        refused && error == TreeError::Memory,
-                        "width {width}, request {at}"
-                    );
+                (Err(error), refused) => {
+                    assert!(rt; refused && error == TreeError::Memory, "width {width}");
                 }
             }
         }
@@ -260,10 +278,13 @@ fn new_nodes_refused_in_turn(rt: HostRuntime) {
 fn change_refused(rt: &impl Abort, alloc: Global, from: usize, at: usize, grows: bool) -> bool {
     let mut node = leaf(b'p', 1);
     fill(rt, alloc, &mut node, 0, from);
-    let before = counts(rt, &node);
+    try_change(rt, alloc, &mut node, from, at, grows)
+}
+
+// The value that a refused call hands back, or 255 for a refused deletion.
+fn change(rt: &impl Abort, alloc: Global, node: &mut TestNode, grows: bool) -> Option<u64> {
     assert!(rt; node.seek_child(255).is_none() && node.children_fit());
-    refuse(alloc, at);
-    let handed_back = if grows {
+    if grows {
         match node.add_child(alloc, 255, leaf(255, 255)) {
             Ok(()) => None,
             Err(back) => back.value.value().copied(),
@@ -273,17 +294,25 @@ fn change_refused(rt: &impl Abort, alloc: Global, from: usize, at: usize, grows:
             Ok(_child) => None,
             Err(_error) => Some(255),
         }
-    };
-    let refused = was_refused(alloc);
-    assert_eq!(rt; handed_back, refused.then_some(255));
-    if refused {
-        assert!(rt;
-            counts(rt, &node) == before && walk(&node) == Some(from as u64),
-            "request {at}"
-        );
-    } else {
-        assert!(rt; counts(rt, &node) != before);
     }
+}
+
+fn try_change(
+    rt: &impl Abort,
+    alloc: Global,
+    node: &mut TestNode,
+    from: usize,
+    at: usize,
+    grows: bool,
+) -> bool {
+    let before = counts(rt, node);
+    refuse(alloc, at);
+    let handed_back = change(rt, alloc, node, grows);
+    let refused = was_refused(alloc);
+    let as_before = counts(rt, node) == before;
+    assert!(rt; handed_back == refused.then_some(255), "request {at}");
+    assert!(rt; as_before == refused, "request {at}");
+    assert!(rt; !refused || walk(node) == Some(from as u64), "request {at}");
     refused
 }
 

@@ -3,7 +3,7 @@
 use crate::play::{Ask, Row, Want, plays_asking_for_nothing, went_well};
 use crate::refusals::{refuse, was_refused};
 use rart::script::run;
-use rart::{AdaptiveRadixTree, ArrayKey, Iter, KeyTrait, ValuesIter};
+use rart::{AdaptiveRadixTree, ArrPartial, ArrayKey, Iter, KeyTrait, ValuesIter};
 use std::process::Abort;
 
 const FIRST_KEY: [Row<'static>; 9] = [
@@ -124,7 +124,7 @@ fn three_keys(rt: &impl Abort, mut tree: Tree) -> Tree {
 }
 
 // Whether the pairs to come are those of the three keys, and no other.
-fn are_three(mut pairs: Iter<'_, ArrayKey<4>, u64>) -> bool {
+fn are_three(mut pairs: Iter<'_, ArrayKey<4>, ArrPartial<4>, u64>) -> bool {
     for (bytes, value) in [(b"ab".as_slice(), 1), (b"abcd", 2), (b"b", 3)] {
         match pairs.next() {
             Some((key, stored)) => {

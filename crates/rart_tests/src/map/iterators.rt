@@ -1,7 +1,9 @@
 //! Iterators of the map, and look-ups and walks of a tree that is seen.
 
 use crate::refusals::{refuse, was_refused};
-use rart::{AdaptiveRadixTree, ArrayKey, Iter, KeyTrait, Seen, TreeError, ValuesIter, Visits};
+use rart::{
+    AdaptiveRadixTree, ArrPartial, ArrayKey, Iter, KeyTrait, Seen, TreeError, ValuesIter, Visits,
+};
 use std::alloc::Global;
 use std::process::Abort;
 
@@ -28,7 +30,11 @@ fn filled(rt: &impl Abort, alloc: Global, pairs: &[(&[u8], u64)]) -> Tree {
 }
 
 // The pairs that come next are these.
-fn come_next(rt: &impl Abort, pairs: &mut Iter<'_, Key, u64>, wanted: &[(&[u8], u64)]) {
+fn come_next(
+    rt: &impl Abort,
+    pairs: &mut Iter<'_, Key, ArrPartial<4>, u64>,
+    wanted: &[(&[u8], u64)],
+) {
     for (bytes, value) in wanted {
         match pairs.next() {
             Some((key, stored)) => assert!(rt; key.as_ref() == *bytes && *stored == *value),
@@ -37,7 +43,7 @@ fn come_next(rt: &impl Abort, pairs: &mut Iter<'_, Key, u64>, wanted: &[(&[u8], 
     }
 }
 
-fn pairs<'a>(rt: &impl Abort, tree: &'a Tree) -> Iter<'a, Key, u64> {
+fn pairs<'a>(rt: &impl Abort, tree: &'a Tree) -> Iter<'a, Key, ArrPartial<4>, u64> {
     let Ok(pairs) = tree.iter() else {
         panic!(rt; "refused with ample memory")
     };

@@ -175,41 +175,42 @@ fn an_only_child_is_taken_out_with_its_byte(rt: HostRuntime) -> Result<(), Fail>
 
 type Child<'a> = Counted<'a>;
 
-// Five children; whether all went in.
-fn fill_counted<'a, const W: usize>(
-    map: &mut impl NodeMapping<Child<'a>, W>,
-    drops: &'a Cell<usize>,
-) -> bool {
-    for key in SCATTERED {
-        if !add(map, key, Counted(key, drops)) {
-            return false;
+// Puts five children in; whether all went in. A macro, as those below: a bound says too little of a walk's second item,
+// and a helper with a lifetime and a width gets no proof.
+macro_rules! fill_counted {
+    ($map:expr, $drops:expr) => {{
+        let mut all = true;
+        for key in SCATTERED {
+            all = add(&mut $map, key, Counted(key, &$drops)) && all;
         }
-    }
-    true
+        all
+    }};
 }
 
 // Whether, of five children, two that are taken out of a walk, the walk that is then dropped, and at last those two are
 // dropped once each.
-fn drops_the_rest<'a>(
-    mut walk: impl ExactSizeIterator<Item = (u8, Child<'a>)> + Drop,
-    drops: &'a Cell<usize>,
-) -> bool {
-    let all = walk.size_hint() == (5, Some(5));
-    let items = (walk.next(), walk.next());
-    let rest = walk.size_hint() == (3, Some(3));
-    let none = drops.get();
-    drop(walk);
-    let three = drops.get();
-    drop(items);
-    all && rest && none == 0 && three == 3 && drops.get() == 5
+macro_rules! drops_the_rest {
+    ($walk:expr, $drops:expr) => {{
+        let mut walk = $walk;
+        let all = walk.size_hint() == (5, Some(5));
+        let items = (walk.next(), walk.next());
+        let rest = walk.size_hint() == (3, Some(3));
+        let none = $drops.get();
+        drop(walk);
+        let three = $drops.get();
+        drop(items);
+        all && rest && none == 0 && three == 3 && $drops.get() == 5
+    }};
 }
 
 #[test]
 fn a_sorted_walk_drops_the_rest_once(rt: HostRuntime) -> Result<(), Fail> {
     let drops = Cell::new(0_usize);
     let mut map: SortedKeyedMapping<Child<'_>, 16> = SortedKeyedMapping::new(rt.alloc())?;
-    assert!(rt; fill_counted(&mut map, &drops));
-    assert!(rt; drops_the_rest(map.into_iter(), &drops));
+    let filled = fill_counted!(map, drops);
+    assert!(rt; filled);
+    let once = drops_the_rest!(map.into_iter(), drops);
+    assert!(rt; once);
     Ok(())
 }
 
@@ -217,8 +218,10 @@ fn a_sorted_walk_drops_the_rest_once(rt: HostRuntime) -> Result<(), Fail> {
 fn an_indexed_walk_drops_the_rest_once(rt: HostRuntime) -> Result<(), Fail> {
     let drops = Cell::new(0_usize);
     let mut map: IndexedMapping<Child<'_>, 48, Bitset16<3>> = IndexedMapping::new(rt.alloc())?;
-    assert!(rt; fill_counted(&mut map, &drops));
-    assert!(rt; drops_the_rest(map.into_iter(), &drops));
+    let filled = fill_counted!(map, drops);
+    assert!(rt; filled);
+    let once = drops_the_rest!(map.into_iter(), drops);
+    assert!(rt; once);
     Ok(())
 }
 
@@ -226,45 +229,60 @@ fn an_indexed_walk_drops_the_rest_once(rt: HostRuntime) -> Result<(), Fail> {
 fn a_direct_walk_drops_the_rest_once(rt: HostRuntime) -> Result<(), Fail> {
     let drops = Cell::new(0_usize);
     let mut map: DirectMapping<Child<'_>> = DirectMapping::new(rt.alloc())?;
-    assert!(rt; fill_counted(&mut map, &drops));
-    assert!(rt; drops_the_rest(map.into_iter(), &drops));
+    let filled = fill_counted!(map, drops);
+    assert!(rt; filled);
+    let once = drops_the_rest!(map.into_iter(), drops);
+    assert!(rt; once);
     Ok(())
 }
 
 // Whether, of five children, the one that is taken out and those that the map is dropped with are dropped once each.
-fn drops_children<'a, const W: usize>(
-    mut map: impl NodeMapping<Child<'a>, W> + Drop,
-    drops: &'a Cell<usize>,
-) -> bool {
-    drops.set(0);
-    if !fill_counted(&mut map, drops) {
-        return false;
-    }
-    let taken = map.delete_child(128);
-    let none = drops.get();
-    drop(taken);
-    let one = drops.get();
-    drop(map);
-    none == 0 && one == 1 && drops.get() == 5
+macro_rules! drops_children {
+    ($map:expr, $drops:expr) => {{
+        let mut map = $map;
+        $drops.set(0);
+        let filled = fill_counted!(map, $drops);
+        let taken = map.delete_child(128);
+        let none = $drops.get();
+        drop(taken);
+        let one = $drops.get();
+        drop(map);
+        filled && none == 0 && one == 1 && $drops.get() == 5
+    }};
 }
 
 #[test]
-fn each_dropped_map_drops_its_children_once(rt: HostRuntime) -> Result<(), Fail> {
-    let alloc = rt.alloc();
+fn a_dropped_sorted_map_drops_its_children_once(rt: HostRuntime) -> Result<(), Fail> {
     let drops = Cell::new(0_usize);
-    assert!(rt; drops_children(SortedKeyedMapping::<Child<'_>, 16>::new(alloc)?, &drops));
-    assert!(rt;
-        drops_children(
-            KeyedMapping::<Child<'_>, 16, Bitset16<1>>::new(alloc)?,
-            &drops
-        )
-    );
-    assert!(rt;
-        drops_children(
-            IndexedMapping::<Child<'_>, 48, Bitset16<3>>::new(alloc)?,
-            &drops
-        )
-    );
-    assert!(rt; drops_children(DirectMapping::<Child<'_>>::new(alloc)?, &drops));
+    let map: SortedKeyedMapping<Child<'_>, 16> = SortedKeyedMapping::new(rt.alloc())?;
+    let once = drops_children!(map, drops);
+    assert!(rt; once);
+    Ok(())
+}
+
+#[test]
+fn a_dropped_keyed_map_drops_its_children_once(rt: HostRuntime) -> Result<(), Fail> {
+    let drops = Cell::new(0_usize);
+    let map: KeyedMapping<Child<'_>, 16, Bitset16<1>> = KeyedMapping::new(rt.alloc())?;
+    let once = drops_children!(map, drops);
+    assert!(rt; once);
+    Ok(())
+}
+
+#[test]
+fn a_dropped_indexed_map_drops_its_children_once(rt: HostRuntime) -> Result<(), Fail> {
+    let drops = Cell::new(0_usize);
+    let map: IndexedMapping<Child<'_>, 48, Bitset16<3>> = IndexedMapping::new(rt.alloc())?;
+    let once = drops_children!(map, drops);
+    assert!(rt; once);
+    Ok(())
+}
+
+#[test]
+fn a_dropped_direct_map_drops_its_children_once(rt: HostRuntime) -> Result<(), Fail> {
+    let drops = Cell::new(0_usize);
+    let map: DirectMapping<Child<'_>> = DirectMapping::new(rt.alloc())?;
+    let once = drops_children!(map, drops);
+    assert!(rt; once);
     Ok(())
 }
