@@ -8,3 +8,4 @@ mod refused_in_turn;
 mod replies;
 mod statistics;
 mod texts;
+mod updates;

@@ -1,0 +1,116 @@
+//! Updates through a slot, as calls that are values: what is written where the slot is occupied, what is asked for then, the
+//! reply, and the value that the key has afterwards.
+
+use crate::play::went_well;
+use rart::script::{Call, Reply, step};
+use rart::{AdaptiveRadixTree, ArrayKey, KeyTrait, SlotUpdate};
+use std::alloc::Global;
+use std::process::Abort;
+
+type Key = ArrayKey<16>;
+
+type Tree = AdaptiveRadixTree<Key, u64>;
+
+/// What the callback asks for.
+#[derive(Clone, Copy)]
+enum Ask {
+    Keep,
+    Remove,
+    Insert(u64),
+    /// The callback of a `try_update` fails.
+    Fail,
+}
+
+// Whether by `try_update`; the key; what is written; what is asked for; what is replied, nothing where the callback fails; the
+// value afterwards.
+type Row = (
+    bool,
+    &'static str,
+    Option<u64>,
+    Ask,
+    Option<bool>,
+    Option<u64>,
+);
+
+fn asked(ask: Ask) -> Result<SlotUpdate<u64>, ()> {
+    match ask {
+        Ask::Keep => Ok(SlotUpdate::Keep),
+        Ask::Remove => Ok(SlotUpdate::Remove),
+        Ask::Insert(value) => Ok(SlotUpdate::Insert(value)),
+        Ask::Fail => Err(()),
+    }
+}
+
+fn call(tries: bool, key: Key, written: Option<u64>, ask: Ask) -> Call<Key, u64> {
+    match asked(ask) {
+        Ok(update) => {
+            if tries {
+                Call::TryUpdate(key, written, Ok(update))
+            } else {
+                Call::Update(key, written, update)
+            }
+        }
+        Err(()) => Call::TryUpdate(key, written, Err(())),
+    }
+}
+
+fn is(reply: &Reply<Key, u64>, want: Option<bool>) -> bool {
+    match reply {
+        Reply::Done(touched) => want == Some(*touched),
+        Reply::Failed => want.is_none(),
+        _ => false,
+    }
+}
+
+// The first row that goes another way, if one does.
+fn plays(rt: &impl Abort, alloc: Global, tree: &mut Tree, rows: &[Row]) -> Option<usize> {
+    let mut row = 0_usize;
+    for (tries, text, written, ask, want, after) in rows {
+        let bytes = text.as_bytes();
+        assert!(rt; bytes.len() <= 16);
+        let key = Key::new_from_slice(bytes);
+        let reply = step(alloc, tree, call(*tries, key, *written, *ask));
+        if !is(&reply, *want) || tree.get_bytes(bytes).copied() != *after {
+            return Some(row);
+        }
+        row = row.wrapping_add(1);
+    }
+    None
+}
+
+const OF_A_STORED_AND_A_NEW_KEY: [Row; 9] = [
+    (false, "a", None, Ask::Insert(1), Some(true), Some(1)),
+    (false, "a", Some(7), Ask::Keep, Some(true), Some(7)),
+    (false, "a", Some(8), Ask::Insert(9), Some(true), Some(9)),
+    (false, "z", Some(5), Ask::Insert(6), Some(true), Some(6)),
+    (false, "z", None, Ask::Remove, Some(true), None),
+    (false, "z", None, Ask::Remove, Some(false), None),
+    (true, "a", Some(3), Ask::Fail, None, Some(9)),
+    (true, "q", Some(3), Ask::Fail, None, None),
+    (true, "a", Some(3), Ask::Keep, Some(true), Some(3)),
+];
+
+const OF_A_BUCKET: [Row; 5] = [
+    (false, "bucket", None, Ask::Keep, Some(false), None),
+    (false, "bucket", None, Ask::Insert(10), Some(true), Some(10)),
+    (false, "bucket", Some(15), Ask::Keep, Some(true), Some(15)),
+    (false, "bucket", None, Ask::Remove, Some(true), None),
+    (true, "bucket", None, Ask::Remove, Some(false), None),
+];
+
+#[test]
+fn updates_of_a_stored_and_a_new_key(rt: HostRuntime) {
+    let alloc = rt.alloc();
+    let mut tree = Tree::new(alloc);
+    went_well(
+        &rt,
+        plays(&rt, alloc, &mut tree, &OF_A_STORED_AND_A_NEW_KEY),
+    );
+}
+
+#[test]
+fn updates_fill_a_bucket_and_empty_it(rt: HostRuntime) {
+    let alloc = rt.alloc();
+    let mut tree = Tree::new(alloc);
+    went_well(&rt, plays(&rt, alloc, &mut tree, &OF_A_BUCKET));
+}
