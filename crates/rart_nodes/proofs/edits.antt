@@ -1,3 +1,4 @@
+pub mod ChildChangeLemmas
 pub mod Descent
 pub mod EditRunLemmas
 pub mod InsertAskLemmas

@@ -1,3 +1,4 @@
+pub mod ChildChanges
 pub mod Deletion
 pub mod EditRuns
 pub mod InsertAsks

@@ -4,6 +4,7 @@ use crate::refusals::{refuse, was_refused};
 use rart::node::{DefaultNode, Node};
 use rart::{ArrPartial, Partial, TreeError};
 use std::alloc::Global;
+use std::mem;
 use std::process::Abort;
 
 type Part = ArrPartial<16>;
@@ -76,7 +77,7 @@ fn write(node: &mut TestNode, value: u64) -> Option<u64> {
 }
 
 fn write_at(node: &mut TestNode, byte: u8, value: u64) -> Option<u64> {
-    write(node.seek_child_mut(byte)?, value)
+    Some(mem::replace(node.child_value_mut(byte)?, value))
 }
 
 fn walk(node: &TestNode) -> Option<u64> {

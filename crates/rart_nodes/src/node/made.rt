@@ -1,8 +1,9 @@
 //! Nodes made by hand: empty ones of each kind, and what a caller does with one. They need not be
 //! canonical.
-ghost use Rattle.std.specs.Prelude.{◌≡◌, ◌≢◌, ◌<◌, ◌≤◌, ◌+◌, ◌↔◌, length, None, option_map, IfErr, IfOk, IsTrue, OnErr, OnOk, OnSome};
+ghost use Rattle.std.specs.Prelude.{◌≡◌, ◌≢◌, ◌<◌, ◌≤◌, ◌+◌, ◌↔◌, length, None, Some, option_map, IfErr, IfOk, IsTrue, OnErr, OnOk, OnSome};
 ghost use Rattle.std.specs.Borrow.{sem, LendsSo};
 ghost use Rattle.std.specs.Option.{option_copied, option_copied_mut};
+ghost use Rattle.rart_nodes.specs.edits.ChildChanges.{child_value, with_child_replaced, with_child_value};
 ghost use Rattle.rart_nodes.specs.edits.Deletion.{JoinsWithin, without_child};
 ghost use Rattle.rart_nodes.specs.edits.NodeEdits.{with_child, with_value};
 ghost use Rattle.rart_nodes.specs.tries.Trie.{Trie, node, no_children, leaf, capacity_in, children_in, edges_of, prefix_of, value_of, child_in};
@@ -14,6 +15,7 @@ use crate::refused::Refused;
 use rart_keys::Partial;
 use rart_parts::TreeError;
 use std::alloc::Global;
+use std::mem;
 
 /// A node: a prefix, a value or none, and children by their bytes. It is seen as a trie.
 pub trait Node<P: Partial, V>: Sized {
@@ -49,9 +51,18 @@ pub trait Node<P: Partial, V>: Sized {
     fn seek_child(&self, key: u8) -> Option<&Self>
         ensures { option_map trie (option_copied result) ≡ child_in key (trie self.now) };
 
-    /// The child at a byte, to be changed.
-    fn seek_child_mut(&mut self, key: u8) -> Option<&mut Self>
-        ensures { option_map trie (option_copied_mut result) ≡ child_in key (trie self.old) };
+    /// The value of the child at a byte, to be changed, where a child stands there and holds one.
+    fn child_value_mut(&mut self, key: u8) -> Option<&mut V>
+        ensures* writes_back { sem 𝓛 (LendsSo Self.row V.row self.entry result (λ n x. OnSome result (trie n ≡ with_child_value key x (trie self.old))) (λ n. trie n ≡ trie self.old)) }
+        ensures value { option_copied_mut result ≡ child_value key (trie self.old) };
+
+    /// Puts `node` in the place of the child at a byte, which is handed back. Where no child stands,
+    /// all stays as it was, and `node` is handed back as the error. Takes no memory.
+    fn replace_child(&mut self, key: u8, node: Self) -> Result<Self, Self>
+        ensures taken { IfOk result (λ child. child_in key (trie self.old) ≡ Some (trie child)) }
+        ensures put { OnOk result (trie self.new ≡ with_child_replaced key (trie node) (trie self.old)) }
+        ensures absent { OnErr result ((child_in key (trie self.old) ≡ None) × (trie self.new ≡ trie self.old)) }
+        ensures back { IfErr result (λ n. trie n ≡ trie node) };
 
     /// Puts a child in at a byte where none stands. Memory is asked for only where there is no storage
     /// or it is full; refused, the node stays as it was, and the child is handed back.
@@ -121,8 +132,18 @@ impl<P: Partial, V> Node<P, V> for DefaultNode<P, V> {
         self.storage.seek_child(key)
     }
 
-    fn seek_child_mut(&mut self, key: u8) -> Option<&mut Self> {
-        self.storage.seek_child_mut(key)
+    fn child_value_mut(&mut self, key: u8) -> Option<&mut V> {
+        match self.storage.seek_child_mut(key) {
+            Some(child) => child.value.as_mut(),
+            None => None,
+        }
+    }
+
+    fn replace_child(&mut self, key: u8, node: Self) -> Result<Self, Self> {
+        match self.storage.seek_child_mut(key) {
+            Some(child) => Ok(mem::replace(child, node)),
+            None => Err(node),
+        }
     }
 
     fn add_child(&mut self, alloc: Global, key: u8, node: Self) -> Result<(), Refused<Self>> {
