@@ -8,7 +8,6 @@ ghost use Rattle.rart.specs.LawAnswers.{RefusesCall, RefusesInsertion, RefusesRe
 ghost use Rattle.rart.specs.Loans.{ends_as};
 ghost use Rattle.rart.specs.Refusals.{MayRefuse};
 
-
 use crate::stats::{TreeStats, TreeStatsTrait};
 use crate::tree::AdaptiveRadixTree;
 use rart_keys::KeyTrait;

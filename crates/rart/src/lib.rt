@@ -18,5 +18,6 @@ pub use crate::tree::AdaptiveRadixTree;
 pub use crate::tree::guarded::{NotInserted, TryInsertError};
 pub use crate::tree::update::TryUpdateError;
 pub use rart_keys::{ArrPartial, ArrayKey, KeyTrait, Partial, keys, partials};
+pub use rart_nodes::node::{VisitControl, VisitError};
 pub use rart_nodes::{Count, Refused, Seen, Slot, SlotUpdate, UpdateError, Visits, node};
 pub use rart_parts::{TreeError, mapping, utils};

@@ -4,6 +4,7 @@ mod asks_for_nothing;
 mod drops;
 mod iterators;
 mod laws;
+mod prefixes;
 mod refused_in_turn;
 mod replies;
 mod statistics;

@@ -88,8 +88,8 @@ impl<P: Partial, V> DefaultNode<P, V> {
         }
     }
 
-    /// Puts `value` at `key`, what is left of a key behind the path to this node, in one pass down,
-    /// and answers the old value. Asks a canonical trie and a key within the maximum.
+    /// Puts `value` at `key`, what is left of a key behind the path to this node, and
+    /// answers the old value. Asks a canonical trie and a key within the maximum.
     ///
     /// Refused is only a request for memory, and that comes only where the keys say that this one needs
     /// room: no node stands at it, and the node below which it would be a new child is cut or full. Then

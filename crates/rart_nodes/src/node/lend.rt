@@ -72,7 +72,7 @@ where
 impl<P: Partial, V> DefaultNode<P, V> {
     ghost use Rattle.std.specs.contracts.option.Option.{the_row as option_row};
 
-    /// Lends the value at `key`, in one pass down. Once the loan is over the tree holds at `key` what
+    /// Lends the value at `key`. Once the loan is over the tree holds at `key` what
     /// was left there, and is else as it was. Takes no memory.
     pub fn get_mut<'a>(root: &'a mut Option<Self>, key: &[u8]) -> Option<&'a mut V>
         requires canonical { IsCanonicalTree root.old }

@@ -1,4 +1,4 @@
-//! Look-ups of a shared tree, each one pass down, with its visits counted.
+//! Look-ups of a shared tree, with their visits counted.
 ghost use Rattle.std.specs.Prelude.{◌≡◌, ◌≤◌, ◌+◌, length};
 ghost use Rattle.std.specs.Option.{option_copied};
 ghost use Rattle.rart_keys.specs.SortedMap.{keys_of, lookup};

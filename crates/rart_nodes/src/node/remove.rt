@@ -148,8 +148,8 @@ impl<P: Partial, V> DefaultNode<P, V> {
         }
     }
 
-    /// Removes `key` from a tree that is a root or none, in one pass down, and answers its value. Asks
-    /// a canonical tree whose keys are within the maximum.
+    /// Removes `key` from a tree that is a root or none, and answers its value. Asks a canonical tree
+    /// whose keys are within the maximum.
     ///
     /// Refused is only a request for memory, and that comes only where the keys say that a node needs
     /// smaller room: the key's node is a leaf whose parent goes from 5, 17 or 49 children to one fewer.

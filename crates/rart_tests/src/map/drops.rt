@@ -104,7 +104,7 @@ const HANDED_AND_DROPPED: [Row; 12] = [
     (Ask::Remove(0), Some(0), 7),
 ];
 
-// Five values before the rows, and five at their end.
+// Five values before the rows, and four at their end.
 #[test]
 fn each_value_is_handed_out_or_back_or_dropped_once(rt: HostRuntime) {
     let drops = Cell::new(0_usize);

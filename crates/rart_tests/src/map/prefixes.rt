@@ -1,0 +1,175 @@
+//! Answers about a probe and walks below a prefix: for each probe the longest key that begins it, all keys that do, and the keys
+//! that it begins.
+
+ghost use Rattle.std.specs.Prelude.{◌≤◌, length};
+
+use crate::play::went_well;
+use crate::refusals::{refuse, was_refused};
+use rart::{AdaptiveRadixTree, ArrPartial, ArrayKey, Iter, KeyTrait, PrefixMatchIter, TreeError};
+use std::alloc::Global;
+use std::process::Abort;
+
+type Key = ArrayKey<16>;
+
+type Tree = AdaptiveRadixTree<Key, u64>;
+
+type Pair = (&'static str, u64);
+
+// A probe; the pairs whose key begins it, the shortest first; the pairs whose key it begins, ascending.
+type Row = (&'static str, &'static [Pair], &'static [Pair]);
+
+fn filled(rt: &impl Abort, alloc: Global, pairs: &[Pair]) -> Tree {
+    let mut tree = Tree::new(alloc);
+    for (text, value) in pairs {
+        let bytes = text.as_bytes();
+        assert!(rt; bytes.len() <= 16);
+        assert!(rt; matches!(tree.insert(Key::new_from_slice(bytes), *value), Ok(None)));
+    }
+    tree
+}
+
+fn is_pair(found: &(Key, &u64), wanted: &Pair) -> bool {
+    found.0.as_ref() == wanted.0.as_bytes() && *found.1 == wanted.1
+}
+
+// The matches are these and no others, and after the last always none.
+fn are_matches(mut found: PrefixMatchIter<'_, Key, ArrPartial<16>, u64>, wanted: &[Pair]) -> bool {
+    for pair in wanted {
+        match found.next() {
+            Some(one) => {
+                if !is_pair(&one, pair) {
+                    return false;
+                }
+            }
+            None => return false,
+        }
+    }
+    found.next().is_none() && found.next().is_none()
+}
+
+fn are_below(mut found: Iter<'_, Key, ArrPartial<16>, u64>, wanted: &[Pair]) -> bool {
+    for pair in wanted {
+        match found.next() {
+            Some(one) => {
+                if !is_pair(&one, pair) {
+                    return false;
+                }
+            }
+            None => return false,
+        }
+    }
+    found.next().is_none() && found.next().is_none()
+}
+
+fn is_longest(tree: &Tree, key: &Key, probe: &[u8], matches: &[Pair]) -> bool {
+    let value = matches.last().map(|pair| pair.1);
+    let longest = match (tree.longest_prefix_match_k(key), matches.last()) {
+        (Some(found), Some(pair)) => is_pair(&found, pair),
+        (None, None) => true,
+        _ => false,
+    };
+    longest
+        && tree.longest_prefix_value_k(key).copied() == value
+        && tree.longest_prefix_value_bytes(probe).copied() == value
+}
+
+// Whether the row's answers are the tree's; the walk below is refused where memory is.
+fn is_row(tree: &Tree, probe: &[u8], row: &Row) -> Result<bool, TreeError>
+    requires { length probe.now ≤ 16 }
+{
+    let key = Key::new_from_slice(probe);
+    let below = are_below(tree.prefix_iter_k(&key)?, row.2);
+    Ok(
+        below
+            && is_longest(tree, &key, probe, row.1)
+            && are_matches(tree.prefix_match_iter_k(&key), row.1),
+    )
+}
+
+// The first row that goes another way, if one does.
+fn plays(rt: &impl Abort, tree: &Tree, rows: &[Row]) -> Option<usize> {
+    let mut row = 0_usize;
+    for one in rows {
+        let probe = one.0.as_bytes();
+        assert!(rt; probe.len() <= 16);
+        if is_row(tree, probe, one) != Ok(true) {
+            return Some(row);
+        }
+        row = row.wrapping_add(1);
+    }
+    None
+}
+
+const THREE: [Pair; 3] = [("", 0), ("a", 1), ("ab", 2)];
+
+const OF_THREE: [Row; 4] = [
+    ("", &[("", 0)], &THREE),
+    ("b", &[("", 0)], &[]),
+    ("abz", &THREE, &[]),
+    ("a", &[("", 0), ("a", 1)], &[("a", 1), ("ab", 2)]),
+];
+
+const ANIMALS: [Pair; 3] = [("cat", 1), ("catalog", 2), ("dog", 3)];
+
+const OF_ANIMALS: [Row; 6] = [
+    ("catalogue", &[("cat", 1), ("catalog", 2)], &[]),
+    ("do", &[], &[("dog", 3)]),
+    ("ca", &[], &[("cat", 1), ("catalog", 2)]),
+    ("catal", &[("cat", 1)], &[("catalog", 2)]),
+    ("cow", &[], &[]),
+    ("dogs", &[("dog", 3)], &[]),
+];
+
+const WORDS: [Pair; 6] = [
+    ("", 0),
+    ("a", 1),
+    ("alpha", 2),
+    ("alphabet", 3),
+    ("alphabetical", 4),
+    ("apple", 5),
+];
+
+const OF_WORDS: [Row; 4] = [
+    (
+        "alphabet",
+        &[("", 0), ("a", 1), ("alpha", 2), ("alphabet", 3)],
+        &[("alphabet", 3), ("alphabetical", 4)],
+    ),
+    ("alpine", &[("", 0), ("a", 1)], &[]),
+    ("zebra", &[("", 0)], &[]),
+    (
+        "al",
+        &[("", 0), ("a", 1)],
+        &[("alpha", 2), ("alphabet", 3), ("alphabetical", 4)],
+    ),
+];
+
+#[test]
+fn keys_that_begin_a_probe_and_keys_that_it_begins(rt: HostRuntime) {
+    went_well(&rt, plays(&rt, &filled(&rt, rt.alloc(), &THREE), &OF_THREE));
+    went_well(
+        &rt,
+        plays(&rt, &filled(&rt, rt.alloc(), &ANIMALS), &OF_ANIMALS),
+    );
+    went_well(&rt, plays(&rt, &filled(&rt, rt.alloc(), &WORDS), &OF_WORDS));
+}
+
+// Whether the row's answers about a probe are the tree's, while the next request for memory is refused.
+fn is_asked_for_nothing(rt: &impl Abort, alloc: Global, tree: &Tree, row: &Row) -> bool {
+    let probe = row.0.as_bytes();
+    assert!(rt; probe.len() <= 16);
+    let key = Key::new_from_slice(probe);
+    refuse(alloc, 1);
+    let as_wanted = is_longest(tree, &key, probe, row.1)
+        && are_matches(tree.prefix_match_iter_k(&key), row.1);
+    as_wanted && !was_refused(alloc)
+}
+
+#[test]
+fn answers_about_a_probe_ask_for_nothing(rt: HostRuntime) {
+    let tree = filled(&rt, rt.alloc(), &WORDS);
+    for row in &OF_WORDS {
+        let well = is_asked_for_nothing(&rt, rt.alloc(), &tree, row);
+        assert!(rt; well);
+    }
+}
