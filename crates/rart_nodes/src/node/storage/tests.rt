@@ -42,11 +42,15 @@ fn seen_in_storage(node: &TestNode) -> (usize, usize, Option<u8>) {
     }
 }
 
+// A helper owns the node: an assert beside an owned node gets no proof.
+fn seen_of(rt: &impl Abort, alloc: Global, count: usize) -> (usize, usize, Option<u8>) {
+    seen_in_storage(&filled(rt, alloc, count))
+}
+
 #[test]
 fn the_children_of_a_node_stand_in_the_map_of_their_number(rt: HostRuntime) {
     for count in [0_usize, 4, 16, 48, 256] {
-        let node = filled(&rt, rt.alloc(), count);
         let third = (count > 0).then_some(3);
-        assert_eq!(rt; seen_in_storage(&node), (count, count, third));
+        assert_eq!(rt; seen_of(&rt, rt.alloc(), count), (count, count, third));
     }
 }
