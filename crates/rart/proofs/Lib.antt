@@ -1,4 +1,5 @@
 pub mod EditLemmas
+pub mod LawLemmas
 pub mod PresentLemmas
 pub mod StepLemmas
 pub mod UpdateLemmas

@@ -1,27 +1,29 @@
--- What the laws of insertions and removals answer, where one of their calls was refused.
+-- What the laws of insertions and removals answer, also where one of their calls was refused.
 use Rattle.std.specs.Prelude.{◌≡◌, ℕ, List, Err}
 use Rattle.rart_keys.specs.SortedMap.{keys_of, put}
 use Rattle.rart_nodes.specs.declared.refused.Refused.{Refused}
-use Rattle.rart_nodes.specs.shapes.Shape.{HasShape}
+use Rattle.rart_nodes.specs.shapes.Shape.{HasShape, NodeRecord}
+use Rattle.rart_nodes.specs.statistics.Statistics.{Statistics, statistics_of}
 use Rattle.rart_parts.specs.declared.error.TreeError.{TreeError}
 use Rattle.rart.specs.Edits.{Inserts, Removes}
 use Rattle.rart.specs.MapAndShape.{MapAndShape}
 use Rattle.rart.specs.Refusals.{MayLackStatistics}
 use Rattle.rart.specs.declared.laws.RefusedCall.{RefusedCall}
-use Rattle.rart.specs.declared.laws.RefusedCall.TheVariants.{StatisticsBefore, Insertion, Removal, StatisticsAfter}
+use Rattle.rart.specs.declared.laws.RefusedCall.TheVariants.{StatisticsBefore, Insertion, StatisticsBetween, Removal, StatisticsAfter}
+
+-- the statistics of a tree with these keys: their nodes are the ones of the keys' shape
+abbrev pub IsCounted : List (List ℕ) → Statistics → Type 0
+IsCounted keys numbers = (nodes : List (List ℕ × NodeRecord)) → HasShape keys nodes → numbers ≡ statistics_of keys nodes
 
 module _ {V : Type 0} where
-  -- the insertion was refused: the value comes back, and pairs and nodes are as before
-  abbrev pub RefusesInsertion : List ℕ → V → MapAndShape V → MapAndShape V → Refused V → Type 0
-  RefusesInsertion key value old new refused = Inserts key value old.pairs new.pairs (Err refused) × (new ≡ old)
-
-  -- the removal was refused after the insertion: the pair is there, and the nodes have the shape of the keys with it
-  abbrev pub RefusesRemoval : List ℕ → V → MapAndShape V → MapAndShape V → TreeError → Type 0
-  RefusesRemoval key value old new error = Removes key (put key value old.pairs) new.pairs (Err error) × HasShape (keys_of new.pairs) new.nodes
+  -- the pair that was put in is there, and the nodes have the shape of the keys with it
+  abbrev pub HoldsPair : List ℕ → V → MapAndShape V → MapAndShape V → Type 0
+  HoldsPair key value old new = (new.pairs ≡ put key value old.pairs) × HasShape (keys_of new.pairs) new.nodes
 
   -- the call that was refused, for a reason that the keys allow, and what stands then
   abbrev pub RefusesCall : List ℕ → V → MapAndShape V → MapAndShape V → RefusedCall V → Type 0
   RefusesCall key value old new (StatisticsBefore error) = MayLackStatistics (keys_of old.pairs) error × (new ≡ old)
-  RefusesCall key value old new (Insertion refused) = RefusesInsertion key value old new refused
-  RefusesCall key value old new (Removal error) = RefusesRemoval key value old new error
+  RefusesCall key value old new (Insertion refused) = Inserts key value old.pairs new.pairs (Err refused) × (new ≡ old)
+  RefusesCall key value old new (StatisticsBetween error) = MayLackStatistics (keys_of new.pairs) error × HoldsPair key value old new
+  RefusesCall key value old new (Removal error) = Removes key (put key value old.pairs) new.pairs (Err error) × HoldsPair key value old new
   RefusesCall key value old new (StatisticsAfter error) = MayLackStatistics (keys_of old.pairs) error × (new.pairs ≡ old.pairs) × (new.nodes ≡ old.nodes)

@@ -2,11 +2,11 @@
 ghost use Rattle.std.specs.Prelude.{◌≡◌, ◌≢◌, ◌≤◌, [], length, IfErr, IfOk, IsOk, MatchResult, OnErr, OnOk};
 ghost use Rattle.std.specs.Borrow.{sem};
 ghost use Rattle.std.specs.Option.{option_copied};
-ghost use Rattle.rart_keys.specs.SortedMap.{IsAscending, keys_of, lookup, put, values_of};
+ghost use Rattle.rart_keys.specs.SortedMap.{IsAscending, keys_of, lookup, put, values_of, without};
 ghost use Rattle.rart_nodes.specs.statistics.Statistics.{statistics_in, statistics_of};
-ghost use Rattle.rart.specs.LawAnswers.{RefusesCall, RefusesInsertion, RefusesRemoval};
+ghost use Rattle.rart.specs.LawAnswers.{IsCounted, RefusesCall};
 ghost use Rattle.rart.specs.Loans.{ends_as};
-ghost use Rattle.rart.specs.Refusals.{MayRefuse};
+ghost use Rattle.rart.specs.Refusals.{MayKeep, MayRefuse};
 
 use crate::stats::{TreeStats, TreeStatsTrait};
 use crate::tree::AdaptiveRadixTree;
@@ -109,70 +109,78 @@ pub fn pairs_and_values<'a, K: KeyTrait, V>(
     Ok((tree.iter()?, tree.values_iter()?))
 }
 
-/// A new key that is put in and removed right after leaves pairs and nodes as they were, and the
-/// removal answers the value. Gives both answers; where the removal is refused, the pair is still
-/// there, and where the insertion is, all is as before.
-pub fn insert_then_remove<K: KeyTrait, V>(
+/// A key that is removed leaves pairs and nodes as they are in a tree that never had it. Gives the
+/// value that stood there; where the removal is refused, all is as before.
+pub fn removal_restores<K: KeyTrait, V, L: KeyTrait>(
     tree: &mut AdaptiveRadixTree<K, V>,
     key: &K,
-    value: V,
-) -> Result<(Option<V>, Result<Option<V>, TreeError>), Refused<V>>
-    requires new_key { lookup (K.bytes key.now) tree.old.pairs ≡ None }
-    ensures inserted { IfOk result (λ r. r.0 ≡ None) }
-    ensures removed { IfOk result (λ r. IfOk r.1 (λ old. old ≡ Some value)) }
-    ensures pairs { IfOk result (λ r. OnOk r.1 (tree.new.pairs ≡ tree.old.pairs)) }
-    ensures nodes { IfOk result (λ r. OnOk r.1 (tree.new.nodes ≡ tree.old.nodes)) }
-    ensures stays { IfOk result (λ r. IfErr r.1 (RefusesRemoval (K.bytes key.now) value tree.old tree.new)) }
-    ensures refused { IfErr result (RefusesInsertion (K.bytes key.now) value tree.old tree.new) }
+    without_it: &AdaptiveRadixTree<L, V>,
+) -> Result<Option<V>, TreeError>
+    requires one_key { without (K.bytes key.now) tree.old.pairs ≡ without_it.now.pairs }
+    ensures removed { IfOk result (λ was. was ≡ lookup (K.bytes key.now) tree.old.pairs) }
+    ensures pairs { OnOk result (tree.new.pairs ≡ without_it.now.pairs) }
+    ensures nodes { OnOk result (tree.new.nodes ≡ without_it.now.nodes) }
+    ensures refused { IfErr result (λ error. MayKeep tree.old.pairs (K.bytes key.now) error × (tree.new ≡ tree.old)) }
 {
-    rart_keys::laws::sorted_map::<V>();
-    rart_nodes::laws::one_shape();
-    tree.canonical();
-    let inserted = tree.insert_k(key, value)?;
     let removed = tree.remove_k(key);
     tree.canonical();
-    Ok((inserted, removed))
+    without_it.canonical();
+    rart_nodes::laws::one_shape();
+    removed
 }
 
-/// The call of `insert_then_remove_statistics` that was refused, and why.
+/// The call of `insert_then_remove` that was refused, and why.
 #[derive(Drop)]
 pub enum RefusedCall<V> {
     /// The statistics before the insertion. All is as before.
     StatisticsBefore(TreeError),
     /// The insertion, with the value that it offered. All is as before.
     Insertion(Refused<V>),
+    /// The statistics in between. The pair is there.
+    StatisticsBetween(TreeError),
     /// The removal. The pair is there.
     Removal(TreeError),
     /// The statistics after the removal. All is as before.
     StatisticsAfter(TreeError),
 }
 
-/// The statistics before a new key is put in and after it is removed again: they are the same.
-/// Refused where one of the four calls was, and tells which.
-pub fn insert_then_remove_statistics<K: KeyTrait, V: Drop>(
+/// A new key that is put in and removed right after leaves pairs, nodes and statistics as they were.
+/// Gives the statistics before, in between, and after; those in between are of the keys with the new
+/// one. Refused where one of the five calls was, and tells which.
+pub fn insert_then_remove<K: KeyTrait, V: Drop>(
     tree: &mut AdaptiveRadixTree<K, V>,
     key: &K,
     value: V,
-) -> Result<(TreeStats, TreeStats), RefusedCall<V>>
+) -> Result<(TreeStats, TreeStats, TreeStats), RefusedCall<V>>
     requires new_key { lookup (K.bytes key.now) tree.old.pairs ≡ None }
     ensures before { IfOk result (λ r. statistics_in r.0 ≡ statistics_of (keys_of tree.old.pairs) tree.old.nodes) }
-    ensures after { IfOk result (λ r. statistics_in r.1 ≡ statistics_in r.0) }
+    ensures between { IfOk result (λ r. IsCounted (keys_of (put (K.bytes key.now) value tree.old.pairs)) (statistics_in r.1)) }
+    ensures after { IfOk result (λ r. statistics_in r.2 ≡ statistics_in r.0) }
     ensures pairs { OnOk result (tree.new.pairs ≡ tree.old.pairs) }
     ensures nodes { OnOk result (tree.new.nodes ≡ tree.old.nodes) }
     ensures refused { IfErr result (RefusesCall (K.bytes key.now) value tree.old tree.new) }
 {
+    rart_keys::laws::sorted_map::<V>();
+    rart_nodes::laws::one_shape();
+    tree.canonical();
     let before = match tree.get_tree_stats() {
         Ok(stats) => stats,
         Err(error) => return Err(RefusedCall::StatisticsBefore(error)),
     };
-    match insert_then_remove(tree, key, value) {
-        Ok((_inserted, removed)) => match removed {
-            Ok(_value) => match tree.get_tree_stats() {
-                Ok(after) => Ok((before, after)),
-                Err(error) => Err(RefusedCall::StatisticsAfter(error)),
-            },
-            Err(error) => Err(RefusedCall::Removal(error)),
-        },
-        Err(refused) => Err(RefusedCall::Insertion(refused)),
+    match tree.insert_k(key, value) {
+        Ok(_new) => tree.canonical(),
+        Err(refused) => return Err(RefusedCall::Insertion(refused)),
+    }
+    let between = match tree.get_tree_stats() {
+        Ok(stats) => stats,
+        Err(error) => return Err(RefusedCall::StatisticsBetween(error)),
+    };
+    match tree.remove_k(key) {
+        Ok(_value) => tree.canonical(),
+        Err(error) => return Err(RefusedCall::Removal(error)),
+    }
+    match tree.get_tree_stats() {
+        Ok(after) => Ok((before, between, after)),
+        Err(error) => Err(RefusedCall::StatisticsAfter(error)),
     }
 }

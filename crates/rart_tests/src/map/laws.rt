@@ -69,26 +69,35 @@ fn a_key_that_was_put_in_is_found_beside_the_others(rt: HostRuntime) {
     assert_eq!(rt; tree.len(), 3);
 }
 
-// What a new key's insertion and its removal answer.
-fn put_and_removed(rt: &impl Abort, tree: &mut Tree<Key>, key: &Key) -> (Option<u64>, Option<u64>)
-    ensures { tree.new.pairs ≡ tree.old.pairs }
+// Puts a new key into a tree and takes it out again, by the law that names a tree without the key.
+fn put_and_removed(
+    rt: &impl Abort,
+    tree: &mut Tree<Key>,
+    key: &Key,
+    without_it: &Tree<Key>,
+) -> Option<u64>
+    requires { tree.old.pairs ≡ without_it.now.pairs }
+    ensures { tree.new.pairs ≡ without_it.now.pairs }
 {
+    rart_keys::laws::sorted_map::<u64>();
+    tree.canonical();
     if tree.get_k(key).is_some() {
         panic!(rt; "the key is not new");
     }
-    match laws::insert_then_remove(tree, key, 6) {
-        Ok((inserted, Ok(removed))) => (inserted, removed),
-        _ => panic!(rt; "refused with ample memory"),
+    store(rt, tree, key, 6);
+    match laws::removal_restores(tree, key, without_it) {
+        Ok(removed) => removed,
+        Err(_error) => panic!(rt; "refused with ample memory"),
     }
 }
 
 #[test]
 fn a_new_key_removed_right_after_leaves_all_as_it_was(rt: HostRuntime) -> Result<(), Fail> {
     let mut tree = dog_and_do(&rt, rt.alloc());
-    let before = tree.get_tree_stats()?;
-    let answers = put_and_removed(&rt, &mut tree, &Key::new_from_slice(b"cat"));
-    assert_eq!(rt; answers, (None, Some(6)));
-    assert!(rt; tree.get_tree_stats()? == before);
+    let other = dog_and_do(&rt, rt.alloc());
+    let removed = put_and_removed(&rt, &mut tree, &Key::new_from_slice(b"cat"), &other);
+    assert_eq!(rt; removed, Some(6));
+    assert!(rt; tree.get_tree_stats()? == other.get_tree_stats()?);
     assert_eq!(rt; tree.get_bytes(b"cat"), None);
     assert_eq!(rt; tree.get_bytes(b"dog"), Some(&5));
     assert_eq!(rt; tree.get_bytes(b"do"), Some(&4));
@@ -102,9 +111,10 @@ fn statistics_before_a_new_key_are_those_after_its_removal(rt: HostRuntime) {
     if tree.get_k(&key).is_some() {
         panic!(rt; "the key is not new");
     }
-    match laws::insert_then_remove_statistics(&mut tree, &key, 6) {
-        Ok((before, after)) => {
+    match laws::insert_then_remove(&mut tree, &key, 6) {
+        Ok((before, between, after)) => {
             assert!(rt; is_counted(&before, &[1, 2, 1, 2], &[(4, 1, 1)]));
+            assert!(rt; is_counted(&between, &[2, 3, 1, 2], &[(4, 1, 2)]));
             assert!(rt; before == after);
         }
         Err(_refused) => assert!(rt; false, "refused with ample memory"),
@@ -150,6 +160,7 @@ fn trees_with_equal_keys_have_equal_statistics(rt: HostRuntime) {
         &ArrayKey::<16>::new_from_slice(b"dog"),
         &ArrayKey::<16>::new_from_slice(b"do"),
     );
-    let _answers = put_and_removed(&rt, &mut one, &Key::new_from_slice(b"dot"));
+    let model = dog_and_do(&rt, rt.alloc());
+    let _removed = put_and_removed(&rt, &mut one, &Key::new_from_slice(b"dot"), &model);
     compare(&rt, &one, &other);
 }
