@@ -3,6 +3,7 @@
    In the process, a request whose size has one of these words in its upper 16 bits is a message and no request:
      0x5ef0 | N   from now on count requests, and refuse the Nth (0: none). Answered by no block.
      0x5ef1       stop. Answered by a block exactly if a request was refused since the last 0x5ef0.
+     0x5ef2       a part of a sweep ends. Answered by no block.
    From outside, REFUSE=N refuses the Nth request of the whole process, and REFUSE_REPORT=FILE appends a line with the
    counts when the process ends by exit.
 
@@ -17,12 +18,13 @@ extern long write(int, const void *, size_t);
 extern int close(int);
 extern int *__errno_location(void);
 
-enum { NO_MEMORY = 12, WRITE_CREATE_APPEND = 01 | 0100 | 02000, REFUSE_NTH = 0x5ef0, WAS_REFUSED = 0x5ef1 };
+enum { NO_MEMORY = 12, WRITE_CREATE_APPEND = 01 | 0100 | 02000, REFUSE_NTH = 0x5ef0, WAS_REFUSED = 0x5ef1, PART_ENDS = 0x5ef2 };
 
 static long until;         /* by message: how many requests until the one to be refused, 0 for none */
 static long process_until; /* the same by REFUSE */
 static long refused;       /* since the last message that set `until` */
 static long requests, refusals, messages;
+static long part_began, empty; /* the refusals before this part, and the parts that had none */
 
 static int refuses(void) {
     int no = 0;
@@ -47,6 +49,9 @@ static int is_message(size_t size, void **answer) {
     } else if (word == WAS_REFUSED) {
         if (refused > 0) *answer = __libc_malloc(1);
         until = refused = 0;
+    } else if (word == PART_ENDS) {
+        if (refusals == part_began) empty++;
+        part_began = refusals;
     } else {
         return 0;
     }
@@ -94,6 +99,7 @@ __attribute__((destructor)) static void end(void) {
     to = put(to, "requests=", requests);
     to = put(to, " refused=", refusals);
     to = put(to, " messages=", messages);
+    to = put(to, " empty=", empty);
     *to++ = '\n';
     int report = open(file, WRITE_CREATE_APPEND, 0666);
     if (report < 0) return;

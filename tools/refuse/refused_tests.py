@@ -7,7 +7,7 @@ After the gate, each test program crates/*/out/*_tests has the tests. Two kinds,
 library by messages; each runs here in a process of its own with the library preloaded, and passes where it ends with status 0
 and, of those with
 
-  refused_in_turn            which have one request after the other refused, a request was really refused;
+  refused_in_turn            which have one request after the other refused, a request was really refused in each part;
   ask_for_nothing, asks_...  which say so of the calls in them, a message came and no request was refused.
 
 PASSED and FAILED are the gate's counts: the last line adds to them and closes the run.
@@ -70,6 +70,8 @@ def run(program, test, library):
         return "no message came", refused
     if SWEEP.search(test) and not refused:
         return "no request was refused", refused
+    if int(counts.get("empty", 0)):
+        return "a part of the sweep met no refusal", refused
     if QUIET.search(test) and refused:
         return "memory was asked for", refused
     return "", refused

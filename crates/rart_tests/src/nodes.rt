@@ -1,6 +1,6 @@
 //! Nodes made by hand, as rows of calls and wanted answers.
 
-use crate::refusals::{refuse, was_refused};
+use crate::refusals::{part_ends, refuse, was_refused};
 use rart::node::{DefaultNode, Node};
 use rart::{ArrPartial, Partial, TreeError};
 use std::alloc::Global;
@@ -24,6 +24,8 @@ enum Ask {
     Seek(u8),
     /// Writes a value to the child at a byte, where there is one.
     WriteAt(u8, u64),
+    /// Puts a leaf with this value in the place of the child at a byte: the old child's value.
+    Replace(u8, u64),
     /// Writes the node's own value.
     Write(u64),
     /// The node's own value.
@@ -80,6 +82,20 @@ fn write_at(node: &mut TestNode, byte: u8, value: u64) -> Option<u64> {
     Some(mem::replace(node.child_value_mut(byte)?, value))
 }
 
+// None where no child stands and the leaf comes back.
+fn replace(node: &mut TestNode, byte: u8, value: u64) -> Option<u64> {
+    match node.replace_child(byte, leaf(byte, value)) {
+        Ok(child) => child.value().copied(),
+        Err(back) => {
+            if back.value() == Some(&value) {
+                None
+            } else {
+                Some(u64::MAX)
+            }
+        }
+    }
+}
+
 fn walk(node: &TestNode) -> Option<u64> {
     let mut next = 0_u64;
     for (byte, child) in node.iter() {
@@ -98,6 +114,7 @@ fn answer(rt: &impl Abort, alloc: Global, node: &mut TestNode, ask: Ask) -> Opti
         Ask::Delete(byte) => return delete(rt, alloc, node, byte),
         Ask::Seek(byte) => return seek(node, byte),
         Ask::WriteAt(byte, value) => return write_at(node, byte, value),
+        Ask::Replace(byte, value) => return replace(node, byte, value),
         Ask::Write(value) => return write(node, value),
         Ask::Value => return node.value().copied(),
         Ask::Walk => return walk(node),
@@ -214,18 +231,21 @@ fn children_are_walked_in_order_in_every_kind(rt: HostRuntime) {
     plays(&rt, rt.alloc(), 0, &EVERY_KIND);
 }
 
-const WRITTEN: [Row; 7] = [
+const WRITTEN: [Row; 10] = [
     (Ask::Write(10), Some(1), (0, 0)),
     (Ask::WriteAt(9, 20), None, (0, 0)),
     (Ask::Add(9, 2), None, (1, 4)),
     (Ask::WriteAt(9, 20), Some(2), (1, 4)),
     (Ask::Value, Some(10), (1, 4)),
     (Ask::Seek(9), Some(20), (1, 4)),
-    (Ask::Delete(9), Some(20), (0, 0)),
+    (Ask::Replace(9, 30), Some(20), (1, 4)),
+    (Ask::Replace(8, 40), None, (1, 4)),
+    (Ask::Seek(8), None, (1, 4)),
+    (Ask::Delete(9), Some(30), (0, 0)),
 ];
 
 #[test]
-fn a_value_and_a_child_are_changed_in_place(rt: HostRuntime) {
+fn a_value_and_a_child_are_changed_in_place_and_a_child_is_replaced(rt: HostRuntime) {
     plays(&rt, rt.alloc(), 0, &WRITTEN);
 }
 
@@ -272,6 +292,7 @@ fn new_nodes_refused_in_turn(rt: HostRuntime) {
                 }
             }
         }
+        part_ends(rt.alloc());
     }
 }
 
@@ -333,5 +354,6 @@ fn added_and_deleted_children_refused_in_turn(rt: HostRuntime) {
                 break;
             }
         }
+        part_ends(rt.alloc());
     }
 }

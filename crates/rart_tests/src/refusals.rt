@@ -15,3 +15,8 @@ pub fn refuse(alloc: Global, at: usize) {
 pub fn was_refused(alloc: Global) -> bool {
     Vec::<u8>::with_capacity(alloc, 0x5ef1_0000_0000_0000_usize).is_ok()
 }
+
+/// Ends a part of a sweep. The library takes note of a part in which it refused nothing.
+pub fn part_ends(alloc: Global) {
+    let _ = Vec::<u8>::with_capacity(alloc, 0x5ef2_0000_0000_0000_usize);
+}

@@ -1,7 +1,7 @@
 //! Conversions of maps: whole and in order, with the source emptied; refused, the source is as it was.
 
 use crate::parts::mappings::{fill, lends};
-use crate::refusals::{refuse, was_refused};
+use crate::refusals::{part_ends, refuse, was_refused};
 use rart::TreeError;
 use rart::mapping::{DirectMapping, IndexedMapping, KeyedMapping, NodeMapping, SortedKeyedMapping};
 use rart::utils::bitset::{Bitset16, Bitset32};
@@ -194,7 +194,10 @@ fn new_refused<const W: usize, M: NodeMapping<u8, W> + Made + Drop>(alloc: Globa
         let answer = M::made(alloc);
         let refused = was_refused(alloc);
         match answer {
-            Ok(map) => return !refused && has_none(&map),
+            Ok(map) => {
+                part_ends(alloc);
+                return !refused && has_none(&map);
+            }
             Err(error) => {
                 if !refused || error != TreeError::Memory {
                     return false;
@@ -232,6 +235,7 @@ fn refused_in_turn<
         let refused = was_refused(alloc);
         match answer {
             Ok(map) => {
+                part_ends(alloc);
                 return Ok(!refused && has_all(&map) && map.is_in_order() && has_none(&source));
             }
             Err(error) => {

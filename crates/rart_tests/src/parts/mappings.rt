@@ -70,6 +70,19 @@ const FOUR: [Row; 12] = [
     (Ask::Delete(5), None, 0),
 ];
 
+const IN_ORDER: [Row; 10] = [
+    (Ask::Add(1, 1), Some(1), 1),
+    (Ask::Add(2, 2), Some(2), 2),
+    (Ask::Add(3, 3), Some(3), 3),
+    (Ask::Add(4, 4), Some(4), 4),
+    (Ask::Seek(5), None, 4),
+    (Ask::Delete(1), Some(1), 3),
+    (Ask::Delete(2), Some(2), 2),
+    (Ask::Delete(3), Some(3), 1),
+    (Ask::Delete(4), Some(4), 0),
+    (Ask::Delete(5), None, 0),
+];
+
 const KEY_255: [Row; 8] = [
     (Ask::Add(1, 5), Some(5), 1),
     (Ask::Seek(255), None, 1),
@@ -86,7 +99,7 @@ type Keyed4 = KeyedMapping<u8, 4, Bitset8<4>>;
 type Indexed48 = IndexedMapping<u8, 48, Bitset16<3>>;
 
 fn plays_both<const W: usize>(map: &mut impl NodeMapping<u8, W>) -> bool {
-    plays(map, &FOUR) && plays(map, &KEY_255)
+    plays(map, &FOUR) && plays(map, &IN_ORDER) && plays(map, &KEY_255)
 }
 
 #[test]
@@ -148,6 +161,10 @@ const SCATTERED: [u8; 5] = [200, 3, 250, 17, 128];
 
 const ASCENDING: [u8; 5] = [3, 17, 128, 200, 250];
 
+const CLOSE_BY: [u8; 5] = [200, 3, 47, 17, 129];
+
+const CLOSE_BY_ASCENDING: [u8; 5] = [3, 17, 47, 129, 200];
+
 #[test]
 fn each_map_is_walked_in_the_order_of_its_bytes(rt: HostRuntime) -> Result<(), Fail> {
     let alloc = rt.alloc();
@@ -164,6 +181,20 @@ fn each_map_is_walked_in_the_order_of_its_bytes(rt: HostRuntime) -> Result<(), F
 }
 
 #[test]
+fn an_indexed_and_a_direct_map_ascend_over_all_words_of_their_sets(
+    rt: HostRuntime,
+) -> Result<(), Fail> {
+    let alloc = rt.alloc();
+    let mut indexed = Indexed48::new(alloc)?;
+    let mut direct: DirectMapping<u8> = DirectMapping::new(alloc)?;
+    assert!(rt; fill(&mut indexed, &CLOSE_BY) && lends(indexed.iter(), &CLOSE_BY_ASCENDING));
+    assert!(rt; fill(&mut direct, &CLOSE_BY) && lends(direct.iter(), &CLOSE_BY_ASCENDING));
+    assert!(rt; gives(indexed.into_iter(), &CLOSE_BY_ASCENDING));
+    assert!(rt; gives(direct.into_iter(), &CLOSE_BY_ASCENDING));
+    Ok(())
+}
+
+#[test]
 fn an_only_child_is_taken_out_with_its_byte(rt: HostRuntime) -> Result<(), Fail> {
     let mut map: SortedKeyedMapping<u8, 4> = SortedKeyedMapping::new(rt.alloc())?;
     map.add_child(9, 5);
@@ -175,12 +206,12 @@ fn an_only_child_is_taken_out_with_its_byte(rt: HostRuntime) -> Result<(), Fail>
 
 type Child<'a> = Counted<'a>;
 
-// Puts five children in; whether all went in. A macro, as those below: a bound says too little of a walk's second item,
+// Puts children in; whether all went in. A macro, as those below: a bound says too little of a walk's second item,
 // and a helper with a lifetime and a width gets no proof.
 macro_rules! fill_counted {
-    ($map:expr, $drops:expr) => {{
+    ($map:expr, $keys:expr, $drops:expr) => {{
         let mut all = true;
-        for key in SCATTERED {
+        for key in $keys {
             all = add(&mut $map, key, Counted(key, &$drops)) && all;
         }
         all
@@ -194,12 +225,14 @@ macro_rules! drops_the_rest {
         let mut walk = $walk;
         let all = walk.size_hint() == (5, Some(5));
         let items = (walk.next(), walk.next());
+        let first = matches!(&items.0, Some((3, child)) if child.0 == 3);
+        let second = matches!(&items.1, Some((17, child)) if child.0 == 17);
         let rest = walk.size_hint() == (3, Some(3));
         let none = $drops.get();
         drop(walk);
         let three = $drops.get();
         drop(items);
-        all && rest && none == 0 && three == 3 && $drops.get() == 5
+        all && first && second && rest && none == 0 && three == 3 && $drops.get() == 5
     }};
 }
 
@@ -207,7 +240,7 @@ macro_rules! drops_the_rest {
 fn a_sorted_walk_drops_the_rest_once(rt: HostRuntime) -> Result<(), Fail> {
     let drops = Cell::new(0_usize);
     let mut map: SortedKeyedMapping<Child<'_>, 16> = SortedKeyedMapping::new(rt.alloc())?;
-    let filled = fill_counted!(map, drops);
+    let filled = fill_counted!(map, SCATTERED, drops);
     assert!(rt; filled);
     let once = drops_the_rest!(map.into_iter(), drops);
     assert!(rt; once);
@@ -215,10 +248,28 @@ fn a_sorted_walk_drops_the_rest_once(rt: HostRuntime) -> Result<(), Fail> {
 }
 
 #[test]
+fn a_sorted_walk_that_ends_after_its_first_item_drops_the_rest_once(
+    rt: HostRuntime,
+) -> Result<(), Fail> {
+    let drops = Cell::new(0_usize);
+    let mut map: SortedKeyedMapping<Child<'_>, 4> = SortedKeyedMapping::new(rt.alloc())?;
+    let filled = fill_counted!(map, [8_u8, 1, 6], drops);
+    assert!(rt; filled);
+    let mut walk = map.into_iter();
+    let first = walk.next();
+    assert!(rt; matches!(&first, Some((1, child)) if child.0 == 1));
+    drop(walk);
+    assert_eq!(rt; drops.get(), 2);
+    drop(first);
+    assert_eq!(rt; drops.get(), 3);
+    Ok(())
+}
+
+#[test]
 fn an_indexed_walk_drops_the_rest_once(rt: HostRuntime) -> Result<(), Fail> {
     let drops = Cell::new(0_usize);
     let mut map: IndexedMapping<Child<'_>, 48, Bitset16<3>> = IndexedMapping::new(rt.alloc())?;
-    let filled = fill_counted!(map, drops);
+    let filled = fill_counted!(map, SCATTERED, drops);
     assert!(rt; filled);
     let once = drops_the_rest!(map.into_iter(), drops);
     assert!(rt; once);
@@ -229,7 +280,7 @@ fn an_indexed_walk_drops_the_rest_once(rt: HostRuntime) -> Result<(), Fail> {
 fn a_direct_walk_drops_the_rest_once(rt: HostRuntime) -> Result<(), Fail> {
     let drops = Cell::new(0_usize);
     let mut map: DirectMapping<Child<'_>> = DirectMapping::new(rt.alloc())?;
-    let filled = fill_counted!(map, drops);
+    let filled = fill_counted!(map, SCATTERED, drops);
     assert!(rt; filled);
     let once = drops_the_rest!(map.into_iter(), drops);
     assert!(rt; once);
@@ -241,7 +292,7 @@ macro_rules! drops_children {
     ($map:expr, $drops:expr) => {{
         let mut map = $map;
         $drops.set(0);
-        let filled = fill_counted!(map, $drops);
+        let filled = fill_counted!(map, SCATTERED, $drops);
         let taken = map.delete_child(128);
         let none = $drops.get();
         drop(taken);

@@ -4,7 +4,7 @@
 use super::forms::{answer, call};
 use super::replies::{are_alike, are_same, is, is_refusal};
 use super::{Ask, Form, How, Row, Spelling, Tree};
-use crate::refusals::{refuse, was_refused};
+use crate::refusals::{part_ends, refuse, was_refused};
 use rart::script::{Call, Reply, run};
 use rart::{KeyTrait, TreeError};
 use std::alloc::{AllocError, Global};
@@ -130,6 +130,7 @@ pub fn plays_refused_in_turn<K: KeyTrait + Drop>(alloc: Global, rows: &[Row<'_>]
         if failed.is_some() {
             return failed;
         }
+        part_ends(alloc);
     }
     None
 }
