@@ -10,3 +10,4 @@ mod replies;
 mod statistics;
 mod texts;
 mod updates;
+mod words;
