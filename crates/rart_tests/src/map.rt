@@ -10,4 +10,5 @@ mod replies;
 mod statistics;
 mod texts;
 mod updates;
+mod updates_refused;
 mod words;

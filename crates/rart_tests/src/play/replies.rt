@@ -130,7 +130,8 @@ pub fn are_alike<K: KeyTrait + Drop>(one: &Tree<K>, other: &Tree<K>) -> bool {
     one.len() == other.len() && have_same_statistics(one, other) && have_same_pairs(one, other)
 }
 
-fn have_same_statistics<K: KeyTrait>(one: &Tree<K>, other: &Tree<K>) -> bool {
+/// Whether the statistics of two trees are the same.
+pub fn have_same_statistics<K: KeyTrait>(one: &Tree<K>, other: &Tree<K>) -> bool {
     match (one.get_tree_stats(), other.get_tree_stats()) {
         (Ok(left), Ok(right)) => left == right,
         _ => false,
