@@ -1,5 +1,6 @@
 pub mod MatchLemmas
 pub mod PartLemmas
+pub mod PieceLemmas
 pub mod ProbeLemmas
 pub mod SeenLemmas
 pub mod StopLemmas

@@ -8,4 +8,5 @@ pub mod Tour
 pub mod TourSteps
 pub mod TrailParts
 pub mod Tried
+pub mod ViewPieces
 pub mod Walks

@@ -29,11 +29,13 @@ mod tour;
 mod trail;
 mod tries;
 mod update;
+mod view;
 mod visit;
 
 pub use children::NodeIter;
 pub use control::{VisitControl, VisitError};
 pub use made::Node;
+pub use view::{LendingKeyBytes, LendingKeyView};
 
 /// A node. A child's prefix begins with the byte by which it stands; only the prefix of a root may
 /// be empty.
