@@ -1,4 +1,6 @@
+pub mod CutLemmas
 pub mod MatchLemmas
+pub mod PartCuts
 pub mod PartLemmas
 pub mod PieceLemmas
 pub mod ProbeLemmas
