@@ -11,6 +11,7 @@ mod prefixes;
 pub mod script;
 pub mod stats;
 pub mod tree;
+mod views;
 mod visits;
 
 pub use crate::iter::{Iter, PrefixMatchIter, SeenIter, ValuesIter};

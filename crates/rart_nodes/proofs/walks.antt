@@ -1,4 +1,5 @@
 pub mod CutLemmas
+pub mod FirstBelow
 pub mod MatchLemmas
 pub mod PartCuts
 pub mod PartLemmas

@@ -19,6 +19,7 @@ mod insert;
 pub mod iter;
 mod lend;
 mod lending;
+mod longest_view;
 mod look_up;
 mod made;
 mod matching;
