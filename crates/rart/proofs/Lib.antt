@@ -1,3 +1,4 @@
+pub mod CountLemmas
 pub mod EditLemmas
 pub mod LawLemmas
 pub mod PresentLemmas
