@@ -3,6 +3,7 @@ pub mod ArrayKeyBytes
 pub mod ByteStrings
 pub mod CommonPrefix
 pub mod ComparedKeys
+pub mod Joins
 pub mod KeyBytes
 pub mod LittleEndianWord
 pub mod NumberBytes

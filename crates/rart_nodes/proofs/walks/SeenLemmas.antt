@@ -54,7 +54,7 @@ module _ {V : Type 0} where
   child-falls b (node p v n cs) (Some u) e = omega (arith, count-of b u cs e)
 
   -- a child that a byte doesn't reach
-  child_of-low : (b low : ℕ) (cs : Children V) → b < low → AreCanonical low cs → child_of b cs ≡ None
+  pub child_of-low : (b low : ℕ) (cs : Children V) → b < low → AreCanonical low cs → child_of b cs ≡ None
   child_of-low b low no_children h w = refl
   child_of-low b low (child c t cs) h w = rw (eq-no c b (λ q. omega (arith, w.0))) (child_of-low b (suc c) cs (omega (arith, w.0)) w.3)
 
