@@ -1,5 +1,5 @@
 -- The way of two places through two tries to the next two nodes whose prefixes end together.
-use Rattle.std.proofs.Common.{◌≡◌, ℕ, suc, ◌+◌, ◌<◌, ◌≤◌, ◌==◌, ⊎_elim, Bool, true, false, cond, eqb, List, [], ◌∷◌, ◌++◌, length, length-append, take, drop, Option, Some, None, refl, arith, sym, ap, subst, ◌∙◌}
+use Rattle.std.proofs.Common.{◌≡◌, ℕ, suc, ◌+◌, ◌<◌, ◌≤◌, ◌==◌, Bool, true, false, cond, eqb, List, [], ◌∷◌, ◌++◌, length, length-append, drop, Option, Some, None, refl, arith, sym, ap, subst, ◌∙◌}
 use Rattle.std.proofs.lemmas.Bool.{eqb-true}
 use Rattle.rart_keys.specs.SortedMap.{longest_key}
 use Rattle.rart_keys.proofs.ByteOrder.{eq-yes, eq-no}
@@ -13,7 +13,7 @@ use Rattle.rart_nodes.specs.tries.TrieCode.{child_count, node_count}
 use Rattle.rart_nodes.proofs.joins.MeetSteps.{Turn, met, met_visits, turn-common, turn-apart, turn-left, turn-right, turn-both, with_rest-whole}
 use Rattle.rart_nodes.proofs.tries.CanonicalTests.{IsCanonical-test, longest_key-append}
 use Rattle.rart_nodes.proofs.tries.NodeCounts.{some-pairs}
-use Rattle.rart_nodes.proofs.walks.SeenLemmas.{child-falls, longest-of, pick}
+use Rattle.rart_nodes.proofs.walks.SeenLemmas.{child-falls, longest-of}
 
 -- a test for an empty string
 nil-of : (q : List ℕ) → true ≡ (length q == 0) → q ≡ []

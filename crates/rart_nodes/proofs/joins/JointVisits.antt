@@ -6,7 +6,7 @@ use Rattle.rart_keys.proofs.JoinsOfMaps.{join-nil}
 use Rattle.rart_nodes.specs.joins.Lockstep.{meet}
 use Rattle.rart_nodes.specs.joins.SharedEdges.{shared_edges, joint_visits, more_visits}
 use Rattle.rart_nodes.specs.tries.Tree.{tree_nodes, tree_pairs, IsCanonicalTree}
-use Rattle.rart_nodes.specs.tries.Trie.{Trie, pairs_of, IsCanonical}
+use Rattle.rart_nodes.specs.tries.Trie.{Trie, pairs_of}
 use Rattle.rart_nodes.proofs.joins.MeetLemmas.{meet-join}
 use Rattle.rart_nodes.proofs.joins.MeetSteps.{met, met_visits}
 use Rattle.rart_nodes.proofs.joins.MeetVisits.{visits-shared, visits_below_nodes}

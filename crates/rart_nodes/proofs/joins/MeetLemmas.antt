@@ -1,13 +1,13 @@
 -- The walk through two tries in lockstep gives the join of their pairs.
 use Rattle.std.specs.Ordering.{nat_cmp, match_ordering}
-use Rattle.std.proofs.Common.{◌≡◌, ℕ, Less, Equal, Greater, ◌==◌, ⊎_elim, suc, true, false, List, [], ◌∷◌, refl, sym, ap, ◌∙◌, arith, Option, Some, None, if◌then◌else◌}
+use Rattle.std.proofs.Common.{◌≡◌, ℕ, Less, Equal, Greater, ◌==◌, ⊎_elim, suc, true, false, List, [], ◌∷◌, refl, sym, ◌∙◌, arith, Option, Some, None, if◌then◌else◌}
 use Rattle.rart_keys.specs.ByteStrings.{bytes_eq}
-use Rattle.rart_keys.specs.SortedMap.{AreAbove, IsAscending, lookup}
+use Rattle.rart_keys.specs.SortedMap.{IsAscending, lookup}
 use Rattle.rart_nodes.specs.tries.Trie.{Trie, node, Children, no_children, child, trie_lookup, child_lookup, pairs_of, with_prefix, prefix_of, StartsWith, IsCanonical, AreCanonical}
 use Rattle.rart_keys.specs.Joins.{both, join}
 use Rattle.rart_keys.proofs.JoinsOfMaps.{both-none, join-ascends, lookup-join}
 use Rattle.rart_nodes.specs.joins.Lockstep.{meet_each, meet_in, meet_down, meet, meet_child}
-use Rattle.rart_keys.proofs.ByteOrder.{order, is_less, is_equal, is_greater, eq-yes, eq-no, equal_or_not, bytes_eq-equal}
+use Rattle.rart_keys.proofs.ByteOrder.{order, is_less, is_equal, is_greater, eq-yes, eq-no, equal_or_not}
 use Rattle.rart_keys.proofs.SortedMaps.{equal_by_lookups}
 use Rattle.rart_nodes.proofs.tries.FirstBytes.{AllFirst, AllFrom, ascending-append, ascending-with_prefix, all_from-first, all_first-looks}
 use Rattle.rart_nodes.proofs.tries.PairLemmas.{or_none, lookup-append, lookup-pairs_of, pairs_of-ascend, lookup-nil, lookup-own_pair, trie_lookup-other, trie_lookup-nil, child_lookup-low, ascending-own_pair}

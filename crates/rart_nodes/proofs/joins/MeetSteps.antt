@@ -1,5 +1,5 @@
 -- A walk through two tries in lockstep, step by step: behind the bytes that two prefixes share, at their ends, and at the children of two nodes.
-use Rattle.std.proofs.Common.{◌≡◌, ℕ, suc, ◌+◌, ◌<◌, ⊎_elim, true, List, [], ◌∷◌, ◌++◌, Option, Some, None, refl, arith, sym, ap, ◌∙◌}
+use Rattle.std.proofs.Common.{◌≡◌, ℕ, suc, ◌+◌, ⊎_elim, true, List, [], ◌∷◌, ◌++◌, Option, Some, None, refl, arith, sym, ap}
 use Rattle.rart_keys.specs.Joins.{both}
 use Rattle.rart_keys.proofs.ByteOrder.{order, is_less, is_equal, is_greater, eq-yes, eq-no}
 use Rattle.rart_nodes.specs.joins.Lockstep.{lockstep, meet_each, meet_down, meet, meet_child, with_rest}

@@ -1,5 +1,5 @@
 -- What begins a string behind a prefix.
-use Rattle.std.proofs.Common.{◌≡◌, ℕ, ⊎_elim, List, [], ◌∷◌, ◌++◌, length, refl, sym, ap, Option, Some, None, if◌then◌else◌}
+use Rattle.std.proofs.Common.{◌≡◌, ℕ, ⊎_elim, List, [], ◌∷◌, ◌++◌, length, refl, sym, ap, Some, None}
 use Rattle.std.proofs.lemmas.List.{length-map}
 use Rattle.rart_keys.specs.ByteStrings.{strip_prefix, begins}
 use Rattle.rart_nodes.specs.tries.Trie.{with_prefix}

@@ -1,5 +1,5 @@
 -- The children that two nodes have in common are the same from either side.
-use Rattle.std.proofs.Common.{◌≡◌, ℕ, suc, ◌<◌, ◌≤◌, ⊎_elim, List, [], ◌∷◌, Option, Some, None, true, refl, arith, sym, ap, ◌∙◌}
+use Rattle.std.proofs.Common.{◌≡◌, ℕ, suc, ◌<◌, ⊎_elim, List, [], ◌∷◌, Option, Some, None, true, refl, arith, sym, ap, ◌∙◌}
 use Rattle.rart_keys.specs.Joins.{both}
 use Rattle.rart_keys.proofs.ByteOrder.{order, eq-yes, eq-no}
 use Rattle.rart_nodes.specs.joins.Twins.{twin_if, twins_left, twins_right}

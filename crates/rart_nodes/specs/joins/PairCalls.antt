@@ -2,7 +2,6 @@
 use Rattle.std.specs.Prelude.{ℕ, ◌≡◌, List}
 use Rattle.std.specs.Borrow.{Bor}
 use Rattle.std.specs.Fn.{Mut, Called}
-use Rattle.rart_nodes.specs.tries.Trie.{Trie, node, Children, value_of, capacity_in, children_in}
 
 -- f was called at the values x, and is then f'
 pub record CalledWith {F V W : Type 0} (g : Mut F (Bor V × (Bor W × Unit {0})) (Unit {0})) (f : F) (x : V × W) (f' : F) : Type 0 where

@@ -1,5 +1,5 @@
-use Rattle.std.proofs.Common.{◌≡◌, [], ◌∷◌, drop, rules, Some, sym, ap, ◌∙◌}
-use Rattle.rart_nodes.specs.tries.Trie.{child_in, prefix_of}
+use Rattle.std.proofs.Common.{◌≡◌, rules, Some, sym, ◌∙◌}
+use Rattle.rart_nodes.specs.tries.Trie.{child_in}
 use Rattle.rart_nodes.proofs.joins.ForkLemmas.{child-starts}
 use Rattle.rart_nodes.proofs.node.fork.enter_behind.Goals as goal
 

@@ -1,4 +1,4 @@
-use Rattle.std.proofs.Common.{◌≡◌, ◌+◌, ◌<◌, [], ◌∷◌, ◌++◌, length, length-append, ap, arith, ◌∙◌}
+use Rattle.std.proofs.Common.{◌≡◌, [], ◌∷◌, ◌++◌, length, length-append, ap, arith, ◌∙◌}
 use Rattle.rart_keys.specs.SortedMap.{longest_key}
 use Rattle.rart_nodes.specs.tries.Trie.{pairs_of}
 use Rattle.rart_nodes.proofs.joins.ForkLemmas.{nil-when, some-when, place-start, place-common, place-parted, place-left_none, place-right_none, place-left, place-right, place-fork}

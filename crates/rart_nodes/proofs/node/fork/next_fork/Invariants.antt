@@ -1,4 +1,4 @@
-use Rattle.std.proofs.Common.{◌≡◌, ◌+◌, ℕ, List}
+use Rattle.std.proofs.Common.{◌+◌, ℕ, List}
 use Rattle.rart_nodes.specs.tries.TrieCode.{node_count}
 use Rattle.rart_nodes.proofs.joins.ForkLemmas.{Place}
 use Rattle.rart_nodes.proofs.node.fork.next_fork.Given as goal

@@ -1,4 +1,4 @@
-use Rattle.std.proofs.Common.{◌≡◌, ◌+◌, [], arith}
+use Rattle.std.proofs.Common.{[], arith}
 use Rattle.rart_nodes.proofs.joins.MeetingLemmas.{back-again, given-fork, given-next, next-twins, same-room, twins-within}
 use Rattle.rart_nodes.proofs.node.intersect.+meet_below.Goals as goal
 

@@ -1,4 +1,4 @@
-use Rattle.std.proofs.Common.{◌≡◌, ◌+◌, ◌≤◌, arith}
+use Rattle.std.proofs.Common.{arith}
 use Rattle.std.specs.Option.{option_copied}
 use Rattle.rart_nodes.proofs.joins.JointVisits.{joined-both, joined-right_none}
 use Rattle.rart_nodes.proofs.tries.CanonicalTests.{IsCanonicalTree-test}
