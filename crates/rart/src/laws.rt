@@ -8,6 +8,8 @@ ghost use Rattle.rart.specs.LawAnswers.{IsCounted, RefusesCall};
 ghost use Rattle.rart.specs.Loans.{ends_as};
 ghost use Rattle.rart.specs.Refusals.{MayKeep, MayRefuse};
 
+pub mod intersections;
+
 use crate::stats::{TreeStats, TreeStatsTrait};
 use crate::tree::AdaptiveRadixTree;
 use rart_keys::KeyTrait;

@@ -15,6 +15,7 @@ use std::alloc::Global;
 use std::marker::{Model, PhantomData};
 
 pub mod guarded;
+mod intersect;
 mod loan;
 mod statistics;
 pub mod update;

@@ -4,6 +4,7 @@ pub mod ByteStrings
 pub mod CommonPrefix
 pub mod ComparedKeys
 pub mod Filters
+pub mod Joins
 pub mod KeyBytes
 pub mod LittleEndianWord
 pub mod NumberBytes

@@ -10,8 +10,8 @@ ghost use Rattle.rart_keys.specs.LittleEndianWord.{little_endian_number};
 /// The number of bytes that are read at once.
 const WORD_BYTES: usize = 8;
 
-/// The number of bytes with which both begin.
-pub(crate) fn common_prefix_length(left: &[u8], right: &[u8]) -> usize
+/// The number of bytes with which both begin. Takes no memory.
+pub fn common_prefix_length(left: &[u8], right: &[u8]) -> usize
     ensures value { result ≡ common_prefix_len nat_eq left.now right.now }
     ensures greatest { IsCommonPrefixLength left.now right.now result }
 {

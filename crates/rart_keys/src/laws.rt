@@ -1,6 +1,7 @@
 //! Laws, each the contract of a function: those of the sorted map here, with an empty body, and
 //! those of keys and their order.
-ghost use Rattle.std.specs.Prelude.{◌≡◌, ◌≢◌, ◌+◌, ℕ, List, Some, None, length};
+ghost use Rattle.std.specs.Prelude.{◌≡◌, ◌≢◌, ◌≤◌, ◌+◌, ℕ, List, Some, None, length};
+ghost use Rattle.rart_keys.specs.Joins.{both, join, swapped};
 ghost use Rattle.rart_keys.specs.SortedMap.{IsAscending, count_of, lookup, put, without};
 
 pub mod key_order;
@@ -18,4 +19,13 @@ pub fn sorted_map<V>()
     ensures without_at { (k : List ℕ) (es : List (List ℕ × V)) → lookup k (without k es) ≡ None }
     ensures without_elsewhere { (q k : List ℕ) (es : List (List ℕ × V)) → q ≢ k → lookup q (without k es) ≡ lookup q es }
     ensures put_then_without { (k : List ℕ) (v : V) (es : List (List ℕ × V)) → IsAscending es → lookup k es ≡ None → without k (put k v es) ≡ es }
+{}
+
+/// The join of two maps ascends, has a key exactly where both maps do, with the value of each, and is
+/// no longer than the first. Swapping the maps swaps the values alone.
+pub fn joins<V, W>()
+    ensures ascends { (l : List (List ℕ × V)) (m : List (List ℕ × W)) → IsAscending l → IsAscending (join l m) }
+    ensures looks { (k : List ℕ) (l : List (List ℕ × V)) (m : List (List ℕ × W)) → IsAscending l → lookup k (join l m) ≡ both (lookup k l) (lookup k m) }
+    ensures few { (l : List (List ℕ × V)) (m : List (List ℕ × W)) → length (join l m) ≤ length l }
+    ensures other_way { (l : List (List ℕ × V)) (m : List (List ℕ × W)) → IsAscending l → IsAscending m → join m l ≡ swapped (join l m) }
 {}

@@ -9,6 +9,7 @@ pub mod keys;
 pub mod laws;
 pub mod partials;
 
+pub use crate::common_prefix::common_prefix_length;
 pub use crate::keys::KeyTrait;
 pub use crate::keys::array_key::ArrayKey;
 pub use crate::partials::Partial;

@@ -1,12 +1,15 @@
 //! The theorems of the canonical trie, each the contract of a function with an empty body.
 ghost use Rattle.std.specs.Prelude.{◌≡◌, ℕ, ◌+◌, ◌*◌, ◌≤◌, List, [], Option, None, Some, is_some, true, length};
+ghost use Rattle.rart_keys.specs.Joins.{join};
 ghost use Rattle.rart_keys.specs.SortedMap.{IsAscending, lookup, put, without, keys_of};
 ghost use Rattle.rart_nodes.specs.shapes.BranchPoints.{IsBranchPoint};
 ghost use Rattle.rart_nodes.specs.edits.EditRuns.{Edit, run_tree, run_map};
+ghost use Rattle.rart_nodes.specs.joins.Lockstep.{meet};
+ghost use Rattle.rart_nodes.specs.joins.SharedEdges.{as_map, is_shared, meet_visits, shared_edges};
 ghost use Rattle.rart_nodes.specs.edits.InsertAsks.{insert_asks, trie_asks_put};
 ghost use Rattle.rart_nodes.specs.walks.ProbeCount.{probe_count, entered_nodes};
 ghost use Rattle.rart_nodes.specs.edits.RemoveAsks.{remove_asks, trie_asks_remove};
-ghost use Rattle.rart_nodes.specs.shapes.Shape.{HasShape, NodeRecord, record_at};
+ghost use Rattle.rart_nodes.specs.shapes.Shape.{HasShape, NodeRecord, contains_key, record_at};
 ghost use Rattle.rart_nodes.specs.tries.Tree.{tree_pairs, tree_nodes, IsCanonicalTree};
 ghost use Rattle.rart_nodes.specs.tries.Trie.{Trie, IsCanonical, trie_lookup, pairs_of, nodes_of, trie_put, trie_remove};
 
@@ -58,4 +61,14 @@ pub fn one_shape()
 pub fn put_back<V>()
     ensures same { (k : List ℕ) (v : V) (m : List (List ℕ × V)) → IsAscending m → lookup k m ≡ Some v → put k v m ≡ m }
     ensures back { (k : List ℕ) (v w : V) (m : List (List ℕ × V)) → IsAscending m → lookup k m ≡ Some v → put k v (put k w m) ≡ m }
+{}
+
+/// A walk through two canonical tries in lockstep gives the join of their pairs, and makes one visit
+/// for the roots and one for each edge that both tries share: fewer than they have nodes together.
+pub fn intersections<V, W>()
+    ensures meets { (t : Trie V) (u : Trie W) → IsCanonical t → IsCanonical u → meet t u ≡ join (pairs_of t) (pairs_of u) }
+    ensures visits { (t : Trie V) (u : Trie W) → IsCanonical t → IsCanonical u → meet_visits t u ≡ 1 + length (shared_edges (keys_of (pairs_of t)) (keys_of (pairs_of u))) }
+    ensures visits_below_nodes { (t : Trie V) (u : Trie W) → IsCanonical u → meet_visits t u + 1 ≤ length (nodes_of t) + length (nodes_of u) }
+    ensures edges { (x : List ℕ) (s t : List (List ℕ)) → contains_key (shared_edges s t) x ≡ is_shared s t x }
+    ensures edges_ascend { (s t : List (List ℕ)) → IsAscending (as_map (shared_edges s t)) }
 {}

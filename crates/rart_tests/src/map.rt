@@ -2,6 +2,7 @@
 
 mod asks_for_nothing;
 mod drops;
+mod intersections;
 mod iterators;
 mod laws;
 mod prefixes;

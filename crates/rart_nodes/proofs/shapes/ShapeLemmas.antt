@@ -31,7 +31,7 @@ mutual
   canonical-children_with_records low no_children w = tt
   canonical-children_with_records low (child b t cs) w = (w.0, rw (prefix-with_records t) w.1, canonical-with_records t w.2, canonical-children_with_records (suc b) cs w.3)
 
-contains_key-keys_of : {V : Type 0} (p : List ℕ) (es : List (List ℕ × V)) → contains_key (keys_of es) p ≡ is_some (lookup p es)
+pub contains_key-keys_of : {V : Type 0} (p : List ℕ) (es : List (List ℕ × V)) → contains_key (keys_of es) p ≡ is_some (lookup p es)
 contains_key-keys_of p [] = refl
 contains_key-keys_of p (e ∷ es) = elim (bytes_eq e.0 p) as (λ b. (b || contains_key (keys_of es) p) ≡ is_some (if b then Some e.1 else lookup p es)) [ true ↦ refl | false ↦ contains_key-keys_of p es ]
 

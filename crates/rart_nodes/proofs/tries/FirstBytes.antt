@@ -1,9 +1,10 @@
 -- Lists whose keys begin with a byte, or with one from `low` on.
-use Rattle.std.proofs.Common.{ℕ, ◌≤◌, suc, List, [], ◌∷◌, ◌++◌, refl, arith}
-use Rattle.rart_keys.specs.ByteStrings.{IsBelow}
-use Rattle.rart_keys.specs.SortedMap.{AreAbove, IsAscending}
+use Rattle.std.proofs.Common.{◌≡◌, ℕ, ◌≤◌, suc, true, false, Some, List, [], ◌∷◌, ◌++◌, refl, arith}
+use Rattle.rart_keys.specs.ByteStrings.{bytes_eq, IsBelow}
+use Rattle.rart_keys.specs.SortedMap.{AreAbove, IsAscending, lookup}
 use Rattle.rart_nodes.specs.tries.Trie.{Trie, node, Children, no_children, child, pairs_of, children_pairs, with_prefix, own_pair, prefix_of, StartsWith, AreCanonical}
-use Rattle.rart_keys.proofs.ByteOrder.{is_less, below-with_prefix}
+use Rattle.rart_keys.proofs.ByteOrder.{is_less, below-with_prefix, bytes_eq-equal}
+use Rattle.rart_keys.proofs.SortedMaps.{lookup-first}
 
 abbrev pub AllFirst : {V : Type 0} → ℕ → List (List ℕ × V) → Type 0
 AllFirst c [] = Unit {0}
@@ -78,3 +79,14 @@ module _ {V : Type 0} where
   pub ascending-with_prefix : (p : List ℕ) (es : List (List ℕ × V)) → IsAscending es → IsAscending (with_prefix p es)
   ascending-with_prefix p [] h = tt
   ascending-with_prefix p (e ∷ es) h = (above-with_prefix p e.0 es h.0, ascending-with_prefix p es h.1)
+
+  -- by the look-ups
+  pub all_first-looks : (c : ℕ) (es : List (List ℕ × V)) → ((k : List ℕ) (v : V) → lookup k es ≡ Some v → StartsWith c k) → AllFirst c es
+  all_first-looks c [] h = tt
+  all_first-looks c (e ∷ es) h = let f = h e.0 e.1 (lookup-first e.0 e.1 es) in (
+    f,
+    all_first-looks c es (λ k v l. elim (bytes_eq e.0 k) as (λ b. bytes_eq e.0 k ≡ b → StartsWith c k) [
+      | true ↦ λ s. rw (← bytes_eq-equal e.0 k s) f
+      | false ↦ λ s. h k v (rw s l)
+    ] refl),
+  )

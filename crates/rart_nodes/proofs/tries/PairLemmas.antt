@@ -6,7 +6,7 @@ use Rattle.rart_nodes.specs.tries.Trie.{Trie, node, Children, no_children, child
 use Rattle.rart_keys.proofs.ByteOrder.{order, is_less, is_equal, is_greater, eq-no}
 use Rattle.rart_nodes.proofs.tries.FirstBytes.{ascending-append, ascending-with_prefix, pairs_of-first, children_pairs-from, nil-above, AllFrom}
 
-ascending-own_pair : {V : Type 0} (v : Option V) (es : List (List ℕ × V)) → AllFrom 0 es → IsAscending es → IsAscending (own_pair v ++ es)
+pub ascending-own_pair : {V : Type 0} (v : Option V) (es : List (List ℕ × V)) → AllFrom 0 es → IsAscending es → IsAscending (own_pair v ++ es)
 ascending-own_pair None es f a = a
 ascending-own_pair (Some v) es f a = (nil-above 0 es f, a)
 
@@ -26,7 +26,7 @@ pub or_none : {V : Type 0} (x : Option V) → or_else x None ≡ x
 or_none None = refl
 or_none (Some x) = refl
 
-lookup-append : {V : Type 0} (k : List ℕ) (xs ys : List (List ℕ × V)) → lookup k (xs ++ ys) ≡ or_else (lookup k xs) (lookup k ys)
+pub lookup-append : {V : Type 0} (k : List ℕ) (xs ys : List (List ℕ × V)) → lookup k (xs ++ ys) ≡ or_else (lookup k xs) (lookup k ys)
 lookup-append k [] ys = refl
 lookup-append k (x ∷ xs) ys = elim (bytes_eq x.0 k) as (λ b. (if b then Some x.1 else lookup k (xs ++ ys)) ≡ or_else (if b then Some x.1 else lookup k xs) (lookup k ys))
     [ true ↦ refl | false ↦ lookup-append k xs ys ]
@@ -63,11 +63,11 @@ pub child_lookup-low : {V : Type 0} (b low : ℕ) (k : List ℕ) (cs : Children 
 child_lookup-low b low k no_children h w = refl
 child_lookup-low b low k (child c t cs) h w = rw (is_less b c (omega (arith, w.0))) refl
 
-lookup-own_pair : {V : Type 0} (b : ℕ) (r : List ℕ) (v : Option V) (es : List (List ℕ × V)) → lookup (b ∷ r) (own_pair v ++ es) ≡ lookup (b ∷ r) es
+pub lookup-own_pair : {V : Type 0} (b : ℕ) (r : List ℕ) (v : Option V) (es : List (List ℕ × V)) → lookup (b ∷ r) (own_pair v ++ es) ≡ lookup (b ∷ r) es
 lookup-own_pair b r None es = refl
 lookup-own_pair b r (Some v) es = refl
 
-lookup-nil : {V : Type 0} (v : Option V) (es : List (List ℕ × V)) → lookup [] es ≡ None → lookup [] (own_pair v ++ es) ≡ v
+pub lookup-nil : {V : Type 0} (v : Option V) (es : List (List ℕ × V)) → lookup [] es ≡ None → lookup [] (own_pair v ++ es) ≡ v
 lookup-nil None es h = h
 lookup-nil (Some v) es h = refl
 

@@ -4,13 +4,13 @@
 //! only to a caller that visits it, and each visit adds one to the caller's counter. Look-ups and
 //! walks stand in other modules. They go through `Shared` nodes, which keep nothing beside the node;
 //! allocator and longest key are read where a walk starts, from `Seen`.
-ghost use Rattle.std.specs.Prelude.{◌≡◌, ◌≤◌, ◌+◌, ℕ, IsTrue, MatchOption, None, Some, option_map, true};
+ghost use Rattle.std.specs.Prelude.{◌≡◌, ◌≤◌, ◌+◌, ℕ, IsTrue, MatchOption, None, Some, length, option_map, true};
 ghost use Rattle.std.specs.Option.{option_copied};
 ghost use Rattle.rart_keys.specs.KeyBytes.{IsWithin, IsWithin-prop};
 ghost use Rattle.rart_keys.specs.SortedMap.{count_of, longest_key};
 ghost use Rattle.rart_nodes.specs.tries.CanonicalTest.{is_canonical, is_canonical_tree};
 ghost use Rattle.rart_nodes.specs.tries.Tree.{IsCanonicalTree, tree_pairs};
-ghost use Rattle.rart_nodes.specs.tries.Trie.{child, child_in, children_in, no_children, prefix_of, value_of};
+ghost use Rattle.rart_nodes.specs.tries.Trie.{child, child_in, children_in, edges_of, no_children, prefix_of, value_of};
 
 use crate::count::Count;
 use crate::node::{DefaultNode, Node, NodeIter};
@@ -166,6 +166,23 @@ impl<'a, P: Partial, V, C: Count> Shared<'a, P, V, C> {
             of: PhantomData,
         }
     }
+
+    /// Visits two nodes together, one of each of two trees, which adds one to the counter.
+    pub(crate) fn enter_pair<'b, W>(
+        self,
+        other: Shared<'b, P, W, C>,
+        counter: &mut C,
+    ) -> (Entered<'a, P, V, C>, Entered<'b, P, W, C>)
+        ensures left { result.0.node.now ≡ self.entry.node.now }
+        ensures right { result.1.node.now ≡ other.entry.node.now }
+        ensures counted { C.number counter.new ≡ C.number counter.old + 1 }
+    {
+        let right = Entered {
+            node: other.node,
+            of: PhantomData,
+        };
+        (self.enter(counter), right)
+    }
 }
 
 impl<'a, P: Partial, V, C> Entered<'a, P, V, C> {
@@ -188,6 +205,13 @@ impl<'a, P: Partial, V, C> Entered<'a, P, V, C> {
         ensures { IsTrue result → children_in self.entry.node.now ≡ no_children }
     {
         self.node.is_leaf()
+    }
+
+    /// How many children the node has.
+    pub(crate) fn num_children(self) -> usize
+        ensures { result ≡ length (edges_of (children_in self.entry.node.now)) }
+    {
+        self.node.num_children()
     }
 
     /// The child at byte `b`, not yet visited.
@@ -224,5 +248,19 @@ impl<'a, P: Partial, V, C: Count> Branches<'a, P, V, C> {
             of: PhantomData,
         };
         Some(below.enter(counter))
+    }
+}
+
+impl<'a, P: Partial, V, C> Branches<'a, P, V, C> {
+    /// The next child with its byte, not yet visited.
+    pub(crate) fn next_child(&mut self) -> Option<(u8, Shared<'a, P, V, C>)>
+        ensures { MatchOption result ((self.old ≡ no_children) × (self.new ≡ no_children)) (λ e. self.old ≡ child e.0 e.1.node.now self.new) }
+    {
+        let (byte, node) = self.rest.next()?;
+        let child = Shared {
+            node,
+            of: PhantomData,
+        };
+        Some((byte, child))
     }
 }

@@ -1,0 +1,86 @@
+//! Intersections of two trees, which go through both together and never below a node that one lacks.
+ghost use Rattle.std.specs.Prelude.{◌≡◌, ◌≢◌, [], IfErr, OnErr, OnOk, length};
+ghost use Rattle.std.specs.List.{FoldsTo};
+ghost use Rattle.rart_keys.specs.Joins.{join};
+ghost use Rattle.rart_keys.specs.SortedMap.{values_of};
+ghost use Rattle.rart_nodes.specs.joins.PairCalls.{CalledAt, CalledWith};
+
+use crate::tree::AdaptiveRadixTree;
+use rart_keys::KeyTrait;
+use rart_nodes::Visits;
+use rart_parts::TreeError;
+
+impl<K: KeyTrait, V> AdaptiveRadixTree<K, V> {
+    /// How many keys both trees have. Takes no memory.
+    pub fn intersect_count<W>(&self, other: &AdaptiveRadixTree<K, W>) -> usize
+        ensures { result ≡ length (join self.now.pairs other.now.pairs) }
+    {
+        self.len();
+        rart_keys::laws::joins::<V, W>();
+        self.seen()
+            .intersect_count_counted(other.seen(), &mut Visits::new())
+    }
+
+    /// Calls `f` once for each key of both trees, ascending, with the values of this tree and of `other`.
+    /// Makes no key and takes no memory. `f` is lent, so that the caller sees what the calls left in it:
+    /// take this form to count or to collect.
+    pub fn intersect_values_with_by_ref<W, F: FnMut(&V, &W)>(
+        &self,
+        other: &AdaptiveRadixTree<K, W>,
+        f: &mut F,
+    )
+        requires { F.IsAlwaysCallable f.old }
+        ensures callable { F.IsAlwaysCallable f.new }
+        ensures calls { FoldsTo (λ p x q. CalledWith F.FnMut p x q) f.old (values_of (join self.now.pairs other.now.pairs)) f.new }
+    {
+        self.seen()
+            .intersect_values_with_by_ref_counted(other.seen(), f, &mut Visits::new());
+    }
+
+    /// Calls `f` as `intersect_values_with_by_ref` does. `f` is gone after the call: take this form where
+    /// nothing need be proved of what it leaves.
+    pub fn intersect_values_with<W, F: FnMut(&V, &W) + Drop>(
+        &self,
+        other: &AdaptiveRadixTree<K, W>,
+        f: F,
+    )
+        requires { F.IsAlwaysCallable f }
+        ensures { (last : F) × FoldsTo (λ p x q. CalledWith F.FnMut p x q) f (values_of (join self.now.pairs other.now.pairs)) last }
+    {
+        self.seen()
+            .intersect_values_with_counted(other.seen(), f, &mut Visits::new());
+    }
+
+    /// Calls `f` once for each key of both trees, ascending, with the key and the values of this tree and
+    /// of `other`. All room is taken before the first call, after the longest key that this tree ever
+    /// stored, and none where a tree is empty. Refused with `Memory` alone, and then `f` wasn't called.
+    /// `f` is lent, so that the caller sees what the calls left in it.
+    pub fn intersect_with_by_ref<W, F: FnMut(K, &V, &W)>(
+        &self,
+        other: &AdaptiveRadixTree<K, W>,
+        f: &mut F,
+    ) -> Result<(), TreeError>
+        requires { F.IsAlwaysCallable f.old }
+        ensures callable { F.IsAlwaysCallable f.new }
+        ensures calls { OnOk result (FoldsTo (λ p x q. CalledAt F.FnMut K.bytes p x q) f.old (join self.now.pairs other.now.pairs) f.new) }
+        ensures refused { OnErr result (f.new ≡ f.old) }
+        ensures memory { IfErr result (λ e. (e ≡ TreeError.Memory) × (self.now.pairs ≢ []) × (other.now.pairs ≢ [])) }
+    {
+        self.seen()
+            .intersect_with_by_ref_counted(other.seen(), f, &mut Visits::new())
+    }
+
+    /// Calls `f` as `intersect_with_by_ref` does. `f` is gone after the call.
+    pub fn intersect_with<W, F: FnMut(K, &V, &W) + Drop>(
+        &self,
+        other: &AdaptiveRadixTree<K, W>,
+        f: F,
+    ) -> Result<(), TreeError>
+        requires { F.IsAlwaysCallable f }
+        ensures calls { OnOk result ((last : F) × FoldsTo (λ p x q. CalledAt F.FnMut K.bytes p x q) f (join self.now.pairs other.now.pairs) last) }
+        ensures memory { IfErr result (λ e. (e ≡ TreeError.Memory) × (self.now.pairs ≢ []) × (other.now.pairs ≢ [])) }
+    {
+        self.seen()
+            .intersect_with_counted(other.seen(), f, &mut Visits::new())
+    }
+}

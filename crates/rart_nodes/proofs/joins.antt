@@ -1,0 +1,13 @@
+pub mod EdgeLemmas
+pub mod ForkLemmas
+pub mod JointVisits
+pub mod MeetLemmas
+pub mod MeetSteps
+pub mod MeetVisits
+pub mod MeetingLemmas
+pub mod PartedLemmas
+pub mod PrefixedStrings
+pub mod Reach
+pub mod SharedLemmas
+pub mod StringSets
+pub mod TwinLemmas

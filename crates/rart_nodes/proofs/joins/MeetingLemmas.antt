@@ -1,0 +1,76 @@
+-- What a walk in lockstep has given, where two nodes fork and at each pair of their children.
+use Rattle.std.proofs.Common.{◌≡◌, ℕ, ◌+◌, ◌<◌, ◌≤◌, min, List, [], ◌∷◌, ◌++◌, length, Option, Some, None, refl, arith, ap, subst, ◌∙◌}
+use Rattle.std.proofs.lemmas.List.{length-map}
+use Rattle.std.specs.List.{FoldsTo}
+use Rattle.rart_keys.specs.Joins.{both}
+use Rattle.rart_keys.specs.SortedMap.{longest_key, values_of}
+use Rattle.rart_nodes.specs.joins.Lockstep.{meet}
+use Rattle.rart_nodes.specs.joins.Meetings.{AreMeetings, CountedOn, most_count, prefix-none}
+use Rattle.rart_nodes.specs.joins.SharedEdges.{more_visits}
+use Rattle.rart_nodes.specs.joins.Twins.{IsFork, meet_all, twin_if, twins_right, visits_all}
+use Rattle.rart_nodes.specs.tries.Trie.{Trie, node, Children, no_children, child, children_in, children_pairs, child_in, own_pair, pairs_of, value_of, with_prefix}
+use Rattle.rart_nodes.specs.tries.TrieCode.{child_count, node_count}
+use Rattle.rart_nodes.proofs.joins.ForkLemmas.{longest-child, some-count}
+use Rattle.rart_nodes.proofs.walks.SeenLemmas.{child-falls}
+
+-- a count of pairs, up to the most
+counted-is : {X : Type 0} (n m : ℕ) (es : List X) → n ≤ most_count → FoldsTo (λ p x q. CountedOn p x q) n es m → m ≡ min (n + length es) most_count
+counted-is n m [] h f = omega (arith, f)
+counted-is n m (e ∷ es) h f = omega (arith, f.1, counted-is f.0 m es (omega (arith, f.1)) f.2)
+
+-- from none on, of pairs given by their values
+pub count-is : {X : Type 0} (m : ℕ) (es : List (List ℕ × X)) → FoldsTo (λ p x q. CountedOn p x q) 0 (values_of es) m → m ≡ min (length es) most_count
+count-is m es f = omega (arith, counted-is 0 m (values_of es) (omega arith) f, length-map es (λ e. e.1))
+
+-- given with whole keys, where nothing of the way was kept before
+pub given-whole : {F X : Type 0} (r : F → List ℕ × X → F → Type 0) (k : List ℕ) (f g : F) (es : List (List ℕ × X)) → k ≡ [] → FoldsTo r f (with_prefix k es) g → FoldsTo r f es g
+given-whole {F} {X} r k f g es e h = subst (λ (z : List (List ℕ × X)). FoldsTo r f z g) (ap (λ z. with_prefix z es) e ∙ prefix-none es) h
+
+module _ {V W : Type 0} where
+  -- the pairs have fewer than n nodes, and no key on their left is longer than m
+  abbrev pub AreWithin : ℕ → ℕ → List (Trie V × Trie W) → Type 0
+  AreWithin n m [] = Unit {0}
+  AreWithin n m (p ∷ ps) = (node_count p.0 + node_count p.1 < n) × (longest_key (pairs_of p.0) ≤ m) × AreWithin n m ps
+
+  twin-within : (n m : ℕ) (o : Option (Trie V)) (u : Trie W) (ps : List (Trie V × Trie W)) → ((z : Trie V) → o ≡ Some z → (node_count z + node_count u < n) × (longest_key (pairs_of z) ≤ m)) → AreWithin n m ps → AreWithin n m (twin_if (both o (Some u)) ps)
+  twin-within n m None u ps h k = k
+  twin-within n m (Some z) u ps h k = ((h z refl).0, (h z refl).1, k)
+
+  each-within : (n : ℕ) (t : Trie V) (ds : Children W) → node_count t + child_count ds ≤ n → AreWithin n (longest_key (children_pairs (children_in t))) (twins_right t ds)
+  each-within n t no_children h = tt
+  each-within n t (child b u ds) h = twin-within n (longest_key (children_pairs (children_in t))) (child_in b t) u (twins_right t ds)
+      (λ z e. (omega (arith, child-falls b t (Some z) e), longest-child b t z e)) (each-within n t ds (omega (arith, some-count u)))
+
+  pub twins-within : (n : ℕ) (t : Trie V) (u : Trie W) → node_count t + node_count u ≤ n → AreWithin n (longest_key (children_pairs (children_in t))) (twins_right t (children_in u))
+  twins-within n t (node q w m ds) h = each-within n t ds (omega arith)
+
+  -- the first pair, and the others
+  pub record Next (ps : List (Trie V × Trie W)) (t : Trie V) (u : Trie W) (qs : List (Trie V × Trie W)) (n m : ℕ) : Type 0 where
+    pub falls : node_count t + node_count u < n
+    pub short : longest_key (pairs_of t) ≤ m
+    pub others : AreWithin n m qs
+    pub visits : visits_all ps ≡ 1 + more_visits t u + visits_all qs
+    pub fewer : length qs < length ps
+
+  pub next-twins : (ps : List (Trie V × Trie W)) (t : Trie V) (u : Trie W) (qs : List (Trie V × Trie W)) (n m : ℕ) → ps ≡ (t, u) ∷ qs → AreWithin n m ps → Next ps t u qs n m
+  next-twins ps t u qs n m e h =
+      let h' : AreWithin n m ((t, u) ∷ qs) = subst (λ (z : List (Trie V × Trie W)). AreWithin n m z) e h in
+      record { falls = h'.0; short = h'.1; others = h'.2; visits = ap visits_all e; fewer = omega (arith, ap length e) }
+
+  module _ {S F : Type 0} (room : S → ℕ → Type 0) (grown : S → List ℕ → S → Type 0) (mark : S → ℕ) (cut : ℕ → S → S → Type 0) (given : S → F → List (List ℕ × (V × W)) → F → Type 0) (laws : AreMeetings room grown mark cut given) where
+    -- what was given at the same place
+    given-here : (s t : S) (f g : F) (es : List (List ℕ × (V × W))) → grown s [] t → given t f es g → given s f es g
+    given-here s t f g es h k = subst (λ (z : List (List ℕ × (V × W))). given s f z g) (prefix-none es) (laws.gives_behind s t [] f g es h k)
+
+    pub given-next : (s t : S) (f g h : F) (ps : List (Trie V × Trie W)) (a : Trie V) (b : Trie W) (qs : List (Trie V × Trie W)) → ps ≡ (a, b) ∷ qs → grown s [] t → given t f (meet a b) g → given s g (meet_all qs) h → given s f (meet_all ps) h
+    given-next s t f g h ps a b qs e w i j = rw e (laws.gives_more s f g h (meet a b) (meet_all qs) (given-here s t f g (meet a b) w i) j)
+
+    pub given-fork : (s t : S) (f g h : F) (x : Trie V) (y : Trie W) (p : List ℕ) (a : Trie V) (b : Trie W) → IsFork x y p a b → grown s p t
+        → given t f (own_pair (both (value_of a) (value_of b))) g → given t g (meet_all (twins_right a (children_in b))) h → given s f (meet x y) h
+    given-fork s t f g h x y p a b k w i j = rw k.given (laws.gives_behind s t p f h _ w (laws.gives_more t f g h _ _ i j))
+
+    pub back-again : (s t u v : S) (p : List ℕ) (m : ℕ) → m ≡ mark s → grown s p t → grown t [] u → cut m u v → grown s [] v
+    back-again s t u v p m e h i j = laws.goes_back s u v (p ++ []) (laws.goes_on s t u p [] h i) (rw (← e) j)
+
+    pub same-room : (s t : S) (m n : ℕ) → grown s [] t → room s m → n ≤ m → room t n
+    same-room s t m n h k i = laws.has_room s t [] m n h k (omega arith)

@@ -1,0 +1,51 @@
+use Rattle.std.proofs.Common.{[], arith}
+use Rattle.rart_nodes.proofs.joins.MeetingLemmas.{back-again, given-fork, given-next, next-twins, same-room, twins-within}
+use Rattle.rart_nodes.proofs.node.intersect.+meet_below.Goals as goal
+
+pub loop-child-init : goal.loop-child-init
+loop-child-init g t c =
+    let laws = g.met.T.Meeting.lawful in
+    let way = c.in-Some.ensures.way in
+    record {
+      callable = c.give_both.ensures.callable;
+      place = laws.stays _;
+      room = laws.has_room _ _ way.0 _ _ way.1 c.requires.room way.2.short;
+      given = λ last h. h;
+      visits = rw c.of-twins.ensures c.in-Some.ensures.visits;
+      within = rw c.of-twins.ensures (twins-within _ c.in-Some.left_fork.node.now c.in-Some.right_fork.node.now way.2.few);
+    }
+
+pub meet_below-requires : goal.meet_below-requires
+meet_below-requires g t c κs within =
+    let laws = g.met.T.Meeting.lawful in
+    let inv = c.loop-child.invariant in
+    let next = next-twins _ _ _ _ _ _ c.in-Some-enter_next.ensures.twins inv.within in
+    let room = same-room _ _ _ _ _ laws _ _ _ _ (laws.stays _) inv.room next.short in
+    (omega (arith, c.decreases, next.falls), (within.0, (within.1.0, (within.1.1.0, (within.1.1.1.0, (within.1.1.1.1.0, (within.1.1.1.1.1, (room, inv.callable))))))))
+
+pub loop-child-preserved : goal.loop-child-preserved
+loop-child-preserved g t c =
+    let laws = g.met.T.Meeting.lawful in
+    let inv = c.loop-child.invariant in
+    let next = next-twins _ _ _ _ _ _ c.in-Some-enter_next.ensures.twins inv.within in
+    record {
+      callable = c.meet_below.ensures.callable;
+      place = laws.goes_on _ _ _ [] [] inv.place c.meet_below.ensures.place;
+      room = laws.has_room _ _ [] _ _ c.meet_below.ensures.place inv.room (omega arith);
+      given = λ last h. inv.given last (given-next _ _ _ _ _ laws _ _ _ _ _ _ _ _ _ c.in-Some-enter_next.ensures.twins inv.place c.meet_below.ensures.given h);
+      visits = omega (arith, inv.visits, next.visits, c.in-Some-enter_next.ensures.counted, c.meet_below.ensures.visits);
+      within = next.others;
+    }
+
+pub returns-clause-place : goal.returns-clause-place
+returns-clause-place g t c =
+    let way = c.in-Some.ensures.way in
+    back-again _ _ _ _ _ g.met.T.Meeting.lawful _ _ _ _ way.0 _ c.mark-mark.ensures way.1 c.loop-child.invariant.place c.cut-2.ensures
+
+pub returns-clause-given : goal.returns-clause-given
+returns-clause-given g t c =
+    let laws = g.met.T.Meeting.lawful in
+    let way = c.in-Some.ensures.way in
+    let here = rw (c.value.ensures, c.value-2.ensures) at c.give_both.ensures.given in
+    let below = rw c.of-twins.ensures at (c.loop-child.invariant.given c.loop-child.f (rw c.in_default-enter_next.ensures.twins (laws.gives_none _ _))) in
+    given-fork _ _ _ _ _ laws _ _ _ _ _ _ _ way.0 _ _ way.2 way.1 here below

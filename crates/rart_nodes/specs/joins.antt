@@ -1,0 +1,6 @@
+pub mod Lockstep
+pub mod Meetings
+pub mod PairCalls
+pub mod SharedEdges
+pub mod Twins
+pub mod TwinsAhead

@@ -1,0 +1,165 @@
+//! Intersections of two shared trees: one walk through both in lockstep, with its visits counted.
+ghost use Rattle.std.specs.Prelude.{◌≡◌, ◌≢◌, ◌≤◌, ◌+◌, ◌-◌, [], IfErr, OnErr, OnOk, length, min};
+ghost use Rattle.std.specs.List.{FoldsTo};
+ghost use Rattle.std.specs.Option.{option_copied};
+ghost use Rattle.rart_keys.specs.Joins.{join};
+ghost use Rattle.rart_keys.specs.SortedMap.{keys_of, longest_key, values_of};
+ghost use Rattle.rart_nodes.specs.joins.Lockstep.{meet};
+ghost use Rattle.rart_nodes.specs.joins.PairCalls.{CalledAt, CalledWith};
+ghost use Rattle.rart_nodes.specs.joins.SharedEdges.{joint_visits, more_visits};
+ghost use Rattle.rart_nodes.specs.tries.Tree.{tree_nodes, tree_pairs};
+ghost use Rattle.rart_nodes.specs.tries.Trie.{pairs_of};
+
+use crate::count::Count;
+use crate::node::fork::next_fork;
+use crate::node::meeting::{ByKeys, ByValues, Counted, Meeting, give_both};
+use crate::node::seen::{Entered, Seen};
+use crate::node::twins::Twins;
+use rart_keys::{KeyTrait, Partial};
+use rart_parts::TreeError;
+
+/// Gives the pairs of both trees below two nodes just visited. The trail then is as it was.
+fn meet_below<P: Partial, V, W, C: Count, F, T: Meeting<V, W, F>>(
+    left: Entered<'_, P, V, C>,
+    right: Entered<'_, P, W, C>,
+    trail: &mut T,
+    counter: &mut C,
+    f: &mut F,
+)
+    requires room { T.room trail.old (longest_key (pairs_of left.node.now)) }
+    requires callable { T.callable f.old }
+    ensures place { T.grown trail.old [] trail.new }
+    ensures callable { T.callable f.new }
+    ensures given { T.given trail.old f.old (meet left.entry.node.now right.entry.node.now) f.new }
+    ensures visits { C.number counter.new ≡ C.number counter.old + more_visits left.entry.node.now right.entry.node.now }
+{
+    let mark = trail.mark();
+    let Some((left_fork, right_fork)) = next_fork(left, right, trail, counter) else {
+        trail.cut(mark);
+        return;
+    };
+    give_both(left_fork.value(), right_fork.value(), trail, f);
+    let mut twins = Twins::of(left_fork, right_fork);
+    while let Some((child, other)) = twins.enter_next(left_fork, right_fork, counter) {
+        meet_below(child, other, trail, counter, f);
+    }
+    trail.cut(mark);
+}
+
+/// Gives the pairs of both trees.
+fn meet_trees<K: KeyTrait, V, W, C: Count, F, T: Meeting<V, W, F>>(
+    left: Seen<'_, K, V, C>,
+    right: Seen<'_, K, W, C>,
+    trail: &mut T,
+    counter: &mut C,
+    f: &mut F,
+)
+    requires room { T.room trail.old (longest_key (tree_pairs (option_copied left.root))) }
+    requires callable { T.callable f.old }
+    ensures callable { T.callable f.new }
+    ensures given { T.given trail.old f.old (join (tree_pairs (option_copied left.entry.root)) (tree_pairs (option_copied right.entry.root))) f.new }
+    ensures visits { C.number counter.new ≡ C.number counter.old + joint_visits (keys_of (tree_pairs (option_copied left.entry.root))) (keys_of (tree_pairs (option_copied right.entry.root))) }
+    ensures bound { C.number counter.new ≤ C.number counter.old + (length (tree_nodes (option_copied left.entry.root)) + length (tree_nodes (option_copied right.entry.root)) - 1) }
+{
+    let Some(left_top) = left.top() else {
+        return;
+    };
+    let Some(right_top) = right.top() else {
+        return;
+    };
+    let (left_root, right_root) = left_top.enter_pair(right_top, counter);
+    meet_below(left_root, right_root, trail, counter, f);
+}
+
+impl<'a, K: KeyTrait, V, C: Count> Seen<'a, K, V, C> {
+    /// How many keys both trees have; where that is no `usize`, the greatest. Takes no memory. It visits
+    /// no node where a tree is empty, and else the two roots together and one more node or pair for each
+    /// edge that both trees share: fewer than both trees have nodes.
+    pub fn intersect_count_counted<'b, W>(self, other: Seen<'b, K, W, C>, counter: &mut C) -> usize
+        ensures count { result ≡ min (length (join (tree_pairs (option_copied self.entry.root)) (tree_pairs (option_copied other.entry.root)))) usize.MAX }
+        ensures visits { C.number counter.new ≡ C.number counter.old + joint_visits (keys_of (tree_pairs (option_copied self.entry.root))) (keys_of (tree_pairs (option_copied other.entry.root))) }
+        ensures bound { C.number counter.new ≤ C.number counter.old + (length (tree_nodes (option_copied self.entry.root)) + length (tree_nodes (option_copied other.entry.root)) - 1) }
+    {
+        let mut count = 0;
+        meet_trees(self, other, &mut Counted, counter, &mut count);
+        count
+    }
+
+    /// Calls `f` once for each key of both trees, ascending, with the values of this tree and of the
+    /// other. `f` is lent, so that the caller sees what the calls left in it. Makes no key and takes no
+    /// memory, and visits what `intersect_count_counted` does.
+    pub fn intersect_values_with_by_ref_counted<'b, W, F: FnMut(&V, &W)>(
+        self,
+        other: Seen<'b, K, W, C>,
+        f: &mut F,
+        counter: &mut C,
+    )
+        requires { F.IsAlwaysCallable f.old }
+        ensures callable { F.IsAlwaysCallable f.new }
+        ensures calls { FoldsTo (λ p x q. CalledWith F.FnMut p x q) f.old (values_of (join (tree_pairs (option_copied self.entry.root)) (tree_pairs (option_copied other.entry.root)))) f.new }
+        ensures visits { C.number counter.new ≡ C.number counter.old + joint_visits (keys_of (tree_pairs (option_copied self.entry.root))) (keys_of (tree_pairs (option_copied other.entry.root))) }
+        ensures bound { C.number counter.new ≤ C.number counter.old + (length (tree_nodes (option_copied self.entry.root)) + length (tree_nodes (option_copied other.entry.root)) - 1) }
+    {
+        meet_trees(self, other, &mut ByValues, counter, f);
+    }
+
+    /// Calls `f` as `intersect_values_with_by_ref_counted` does; `f` is gone after the call.
+    pub fn intersect_values_with_counted<'b, W, F: FnMut(&V, &W) + Drop>(
+        self,
+        other: Seen<'b, K, W, C>,
+        mut f: F,
+        counter: &mut C,
+    )
+        requires { F.IsAlwaysCallable f }
+        ensures calls { (last : F) × FoldsTo (λ p x q. CalledWith F.FnMut p x q) f (values_of (join (tree_pairs (option_copied self.entry.root)) (tree_pairs (option_copied other.entry.root)))) last }
+        ensures visits { C.number counter.new ≡ C.number counter.old + joint_visits (keys_of (tree_pairs (option_copied self.entry.root))) (keys_of (tree_pairs (option_copied other.entry.root))) }
+        ensures bound { C.number counter.new ≤ C.number counter.old + (length (tree_nodes (option_copied self.entry.root)) + length (tree_nodes (option_copied other.entry.root)) - 1) }
+    {
+        self.intersect_values_with_by_ref_counted(other, &mut f, counter);
+    }
+
+    /// As `intersect_values_with_by_ref_counted`, with the key. All room is taken before the first visit, after
+    /// the longest key of this tree, and none where a tree is empty. Refused with `Memory` alone: then
+    /// nothing was visited, and `f` was not called.
+    pub fn intersect_with_by_ref_counted<'b, W, F: FnMut(K, &V, &W)>(
+        self,
+        other: Seen<'b, K, W, C>,
+        f: &mut F,
+        counter: &mut C,
+    ) -> Result<(), TreeError>
+        requires { F.IsAlwaysCallable f.old }
+        ensures callable { F.IsAlwaysCallable f.new }
+        ensures calls { OnOk result (FoldsTo (λ p x q. CalledAt F.FnMut K.bytes p x q) f.old (join (tree_pairs (option_copied self.entry.root)) (tree_pairs (option_copied other.entry.root))) f.new) }
+        ensures memory { IfErr result (λ e. (e ≡ TreeError.Memory) × (tree_pairs (option_copied self.entry.root) ≢ []) × (tree_pairs (option_copied other.entry.root) ≢ [])) }
+        ensures refused { OnErr result ((f.new ≡ f.old) × (C.number counter.new ≡ C.number counter.old)) }
+        ensures visits { OnOk result (C.number counter.new ≡ C.number counter.old + joint_visits (keys_of (tree_pairs (option_copied self.entry.root))) (keys_of (tree_pairs (option_copied other.entry.root)))) }
+        ensures bound { C.number counter.new ≤ C.number counter.old + (length (tree_nodes (option_copied self.entry.root)) + length (tree_nodes (option_copied other.entry.root)) - 1) }
+    {
+        let Some(_) = self.top() else {
+            return Ok(());
+        };
+        let Some(_) = other.top() else {
+            return Ok(());
+        };
+        let mut trail = ByKeys::with_room(self.alloc(), self.longest())?;
+        meet_trees(self, other, &mut trail, counter, f);
+        Ok(())
+    }
+
+    /// Calls `f` as `intersect_with_by_ref_counted` does; `f` is gone after the call.
+    pub fn intersect_with_counted<'b, W, F: FnMut(K, &V, &W) + Drop>(
+        self,
+        other: Seen<'b, K, W, C>,
+        mut f: F,
+        counter: &mut C,
+    ) -> Result<(), TreeError>
+        requires { F.IsAlwaysCallable f }
+        ensures calls { OnOk result ((last : F) × FoldsTo (λ p x q. CalledAt F.FnMut K.bytes p x q) f (join (tree_pairs (option_copied self.entry.root)) (tree_pairs (option_copied other.entry.root))) last) }
+        ensures memory { IfErr result (λ e. (e ≡ TreeError.Memory) × (tree_pairs (option_copied self.entry.root) ≢ []) × (tree_pairs (option_copied other.entry.root) ≢ [])) }
+        ensures unvisited { OnErr result (C.number counter.new ≡ C.number counter.old) }
+        ensures visits { OnOk result (C.number counter.new ≡ C.number counter.old + joint_visits (keys_of (tree_pairs (option_copied self.entry.root))) (keys_of (tree_pairs (option_copied other.entry.root)))) }
+        ensures bound { C.number counter.new ≤ C.number counter.old + (length (tree_nodes (option_copied self.entry.root)) + length (tree_nodes (option_copied other.entry.root)) - 1) }
+    {
+        self.intersect_with_by_ref_counted(other, &mut f, counter)
+    }
+}

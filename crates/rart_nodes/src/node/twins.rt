@@ -1,0 +1,81 @@
+//! The children that two nodes have at the same bytes.
+ghost use Rattle.std.specs.Prelude.{◌≡◌, ◌+◌, [], ◌∷◌, MatchOption};
+ghost use Rattle.rart_keys.specs.SortedMap.{count_of};
+ghost use Rattle.rart_nodes.specs.joins.Twins.{twins_left, twins_right};
+ghost use Rattle.rart_nodes.specs.joins.TwinsAhead.{twins_ahead};
+ghost use Rattle.rart_nodes.specs.tries.Trie.{children_in};
+
+use crate::count::Count;
+use crate::node::seen::{Branches, Entered};
+use rart_keys::Partial;
+
+/// The children of one of two nodes that are still to be visited; each is sought at the other node.
+#[derive(Drop)]
+pub(crate) enum Twins<'a, 'b, P: Partial, V, W, C> {
+    /// Those of the left node.
+    OverLeft(Branches<'a, P, V, C>),
+    /// Those of the right node.
+    OverRight(Branches<'b, P, W, C>),
+}
+
+fn next_over_left<'a, 'b, P: Partial, V, W, C: Count>(
+    branches: &mut Branches<'a, P, V, C>,
+    right: Entered<'b, P, W, C>,
+    counter: &mut C,
+) -> Option<(Entered<'a, P, V, C>, Entered<'b, P, W, C>)>
+    ensures twins { MatchOption result (twins_left branches.old right.entry.node.now ≡ []) (λ e. twins_left branches.old right.entry.node.now ≡ (e.0.node.now, e.1.node.now) ∷ twins_left branches.new right.entry.node.now) }
+    ensures counted { C.number counter.new ≡ C.number counter.old + count_of result }
+{
+    while let Some((byte, child)) = branches.next_child() {
+        if let Some(other) = right.child(byte) {
+            return Some(child.enter_pair(other, counter));
+        }
+    }
+    None
+}
+
+fn next_over_right<'a, 'b, P: Partial, V, W, C: Count>(
+    left: Entered<'a, P, V, C>,
+    branches: &mut Branches<'b, P, W, C>,
+    counter: &mut C,
+) -> Option<(Entered<'a, P, V, C>, Entered<'b, P, W, C>)>
+    ensures twins { MatchOption result (twins_right left.entry.node.now branches.old ≡ []) (λ e. twins_right left.entry.node.now branches.old ≡ (e.0.node.now, e.1.node.now) ∷ twins_right left.entry.node.now branches.new) }
+    ensures counted { C.number counter.new ≡ C.number counter.old + count_of result }
+{
+    while let Some((byte, other)) = branches.next_child() {
+        if let Some(child) = left.child(byte) {
+            return Some(child.enter_pair(other, counter));
+        }
+    }
+    None
+}
+
+impl<'a, 'b, P: Partial, V, W, C: Count> Twins<'a, 'b, P, V, W, C> {
+    /// The children of the node that has fewer. Visits nothing yet.
+    pub(crate) fn of(left: Entered<'a, P, V, C>, right: Entered<'b, P, W, C>) -> Self
+        ensures { twins_ahead result left.entry.node.now right.entry.node.now ≡ twins_right left.entry.node.now (children_in right.entry.node.now) }
+    {
+        if left.num_children() < right.num_children() {
+            Twins::OverLeft(left.branches())
+        } else {
+            Twins::OverRight(right.branches())
+        }
+    }
+
+    /// Visits the next two children together that stand at the same byte of `left` and `right`, which adds
+    /// one to the counter.
+    pub(crate) fn enter_next(
+        &mut self,
+        left: Entered<'a, P, V, C>,
+        right: Entered<'b, P, W, C>,
+        counter: &mut C,
+    ) -> Option<(Entered<'a, P, V, C>, Entered<'b, P, W, C>)>
+        ensures twins { MatchOption result (twins_ahead self.old left.entry.node.now right.entry.node.now ≡ []) (λ e. twins_ahead self.old left.entry.node.now right.entry.node.now ≡ (e.0.node.now, e.1.node.now) ∷ twins_ahead self.new left.entry.node.now right.entry.node.now) }
+        ensures counted { C.number counter.new ≡ C.number counter.old + count_of result }
+    {
+        match self {
+            Twins::OverLeft(branches) => next_over_left(branches, right, counter),
+            Twins::OverRight(branches) => next_over_right(left, branches, counter),
+        }
+    }
+}

@@ -1,0 +1,268 @@
+//! Intersections: the keys of two trees, with the values of both.
+
+use crate::play::went_well;
+use crate::refusals::{refuse, was_refused};
+use rart::{AdaptiveRadixTree, ArrayKey, KeyTrait, TreeError};
+use std::alloc::Global;
+use std::process::Abort;
+
+type Key = ArrayKey<16>;
+
+type Tree = AdaptiveRadixTree<Key, u64>;
+
+type Pair = (&'static str, u64);
+
+// A key of both trees, with the value of the one and of the other.
+type Triple = (&'static str, u64, u64);
+
+// The pairs of two trees; and what both have.
+type Row = (&'static [Pair], &'static [Pair], &'static [Triple]);
+
+fn filled(rt: &impl Abort, alloc: Global, pairs: &[Pair]) -> Tree {
+    let mut tree = Tree::new(alloc);
+    for (text, value) in pairs {
+        let bytes = text.as_bytes();
+        assert!(rt; bytes.len() <= 16);
+        assert!(rt; matches!(tree.insert(Key::new_from_slice(bytes), *value), Ok(None)));
+    }
+    tree
+}
+
+// What callbacks were given so far: how many, and whether all of it was wanted.
+#[derive(Drop)]
+struct Given<'a> {
+    wanted: &'a [Triple],
+    swapped: bool,
+    many: usize,
+    well: bool,
+}
+
+impl<'a> Given<'a> {
+    fn nothing(wanted: &'a [Triple], swapped: bool) -> Self {
+        Given {
+            wanted,
+            swapped,
+            many: 0,
+            well: true,
+        }
+    }
+
+    fn values(&mut self, left: u64, right: u64) {
+        let (one, other) = if self.swapped {
+            (right, left)
+        } else {
+            (left, right)
+        };
+        let as_wanted = match self.wanted.get(self.many) {
+            Some(triple) => triple.1 == one && triple.2 == other,
+            None => false,
+        };
+        self.well = self.well && as_wanted;
+        self.many = self.many.wrapping_add(1);
+    }
+
+    fn pair(&mut self, key: &[u8], left: u64, right: u64) {
+        let as_wanted = match self.wanted.get(self.many) {
+            Some(triple) => triple.0.as_bytes() == key,
+            None => false,
+        };
+        self.well = self.well && as_wanted;
+        self.values(left, right);
+    }
+
+    fn all(&self) -> bool {
+        self.well && self.many == self.wanted.len()
+    }
+}
+
+fn gives_values(left: &Tree, right: &Tree, wanted: &[Triple], swapped: bool) -> bool {
+    let mut given = Given::nothing(wanted, swapped);
+    left.intersect_values_with(right, |one: &u64, other: &u64| given.values(*one, *other));
+    given.all()
+}
+
+fn gives_values_by_ref(left: &Tree, right: &Tree, wanted: &[Triple], swapped: bool) -> bool {
+    let mut given = Given::nothing(wanted, swapped);
+    let mut give = |one: &u64, other: &u64| given.values(*one, *other);
+    left.intersect_values_with_by_ref(right, &mut give);
+    given.all()
+}
+
+// Some(whether all was given), or None where memory was refused before anything was.
+fn gives(left: &Tree, right: &Tree, wanted: &[Triple], swapped: bool) -> Option<bool> {
+    let mut given = Given::nothing(wanted, swapped);
+    let answer = left.intersect_with(right, |key: Key, one: &u64, other: &u64| {
+        given.pair(key.as_ref(), *one, *other);
+    });
+    match answer {
+        Ok(()) => Some(given.all()),
+        Err(TreeError::Memory) if given.many == 0 => None,
+        Err(_) => Some(false),
+    }
+}
+
+fn gives_by_ref(left: &Tree, right: &Tree, wanted: &[Triple], swapped: bool) -> Option<bool> {
+    let mut given = Given::nothing(wanted, swapped);
+    let mut give = |key: Key, one: &u64, other: &u64| given.pair(key.as_ref(), *one, *other);
+    match left.intersect_with_by_ref(right, &mut give) {
+        Ok(()) => Some(given.all()),
+        Err(TreeError::Memory) if given.many == 0 => None,
+        Err(_) => Some(false),
+    }
+}
+
+fn is_way(left: &Tree, right: &Tree, wanted: &[Triple], swapped: bool) -> bool {
+    left.intersect_count(right) == wanted.len()
+        && gives_values(left, right, wanted, swapped)
+        && gives_values_by_ref(left, right, wanted, swapped)
+        && gives(left, right, wanted, swapped) == Some(true)
+        && gives_by_ref(left, right, wanted, swapped) == Some(true)
+}
+
+fn is_met(left: &Tree, right: &Tree, wanted: &[Triple]) -> bool {
+    is_way(left, right, wanted, false) && is_way(right, left, wanted, true)
+}
+
+// The first row that goes another way, if one does.
+fn plays(rt: &impl Abort, alloc: Global, rows: &[Row]) -> Option<usize> {
+    let mut at = 0_usize;
+    for row in rows {
+        let left = filled(rt, alloc, row.0);
+        let right = filled(rt, alloc, row.1);
+        if !is_met(&left, &right, row.2) {
+            return Some(at);
+        }
+        at = at.wrapping_add(1);
+    }
+    None
+}
+
+const BEGINNINGS: [Pair; 2] = [("", 1), ("b", 2)];
+
+const WORDS: [Pair; 3] = [("ab\0", 1), ("abc\0", 2), ("dog\0", 3)];
+
+const OTHER_WORDS: [Pair; 3] = [("abc\0", 20), ("dog\0", 30), ("zzz\0", 40)];
+
+const ROWS: [Row; 9] = [
+    (&[], &[], &[]),
+    (&[], &WORDS, &[]),
+    (
+        &BEGINNINGS,
+        &[("", 10), ("a", 20), ("b", 30)],
+        &[("", 1, 10), ("b", 2, 30)],
+    ),
+    (
+        &[("ab", 1), ("abcd", 2)],
+        &[("abc", 3), ("abcd", 4)],
+        &[("abcd", 2, 4)],
+    ),
+    (&[("a", 1)], &[("b", 2)], &[]),
+    (&WORDS, &OTHER_WORDS, &[("abc\0", 2, 20), ("dog\0", 3, 30)]),
+    (
+        &WORDS,
+        &WORDS,
+        &[("ab\0", 1, 1), ("abc\0", 2, 2), ("dog\0", 3, 3)],
+    ),
+    // each key of one tree begins keys of the other
+    (
+        &[("a", 1), ("abc", 2), ("abcde", 3)],
+        &[("ab", 4), ("abc", 5), ("abcd", 6), ("abcdef", 7)],
+        &[("abc", 2, 5)],
+    ),
+    // prefixes of nodes that part in their midst, and one that ends in the midst of another
+    (
+        &[("prefix", 1), ("prelude", 2), ("press", 3)],
+        &[("pre", 4), ("prelude", 5), ("press", 6), ("pretty", 7)],
+        &[("prelude", 2, 5), ("press", 3, 6)],
+    ),
+];
+
+#[test]
+fn keys_of_both_trees(rt: HostRuntime) {
+    went_well(&rt, plays(&rt, rt.alloc(), &ROWS));
+}
+
+// A node with a child at each byte from the first on, at every step to below the last.
+fn wide(rt: &impl Abort, alloc: Global, first: u8, last: u8, step: u8) -> Tree {
+    let mut tree = Tree::new(alloc);
+    for byte in first..=last {
+        if byte.checked_rem(step) == Some(0) {
+            let inserted = tree.insert(Key::new_from_slice(&[byte]), u64::from(byte));
+            assert!(rt; matches!(inserted, Ok(None)));
+        }
+    }
+    tree
+}
+
+const FIVE: [Pair; 5] = [("\0", 1), ("2", 2), ("33", 3), ("d", 4), ("}", 5)];
+
+const OF_FIVE: [Triple; 4] = [("\0", 0, 1), ("2", 50, 2), ("d", 100, 4), ("}", 125, 5)];
+
+#[test]
+fn wide_nodes(rt: HostRuntime) {
+    let all = wide(&rt, rt.alloc(), 0, 255, 1);
+    let five = filled(&rt, rt.alloc(), &FIVE);
+    assert!(rt; is_met(&all, &five, &OF_FIVE));
+}
+
+#[test]
+fn a_wide_node_with_itself(rt: HostRuntime) {
+    let all = wide(&rt, rt.alloc(), 0, 255, 1);
+    assert!(rt; all.intersect_count(&all) == 256);
+}
+
+#[test]
+fn two_wide_nodes(rt: HostRuntime) {
+    let thirds = wide(&rt, rt.alloc(), 0, 255, 3);
+    let fifths = wide(&rt, rt.alloc(), 0, 255, 5);
+    assert!(rt; thirds.intersect_count(&fifths) == 18);
+}
+
+// Whether counts and values are given while the next request for memory is refused.
+fn is_asked_for_nothing(alloc: Global, left: &Tree, right: &Tree, wanted: &[Triple]) -> bool {
+    refuse(alloc, 1);
+    let count = left.intersect_count(right);
+    let well = gives_values(left, right, wanted, false);
+    count == wanted.len() && well && !was_refused(alloc)
+}
+
+#[test]
+fn counts_and_values_ask_for_nothing(rt: HostRuntime) {
+    for row in &ROWS {
+        let left = filled(&rt, rt.alloc(), row.0);
+        let right = filled(&rt, rt.alloc(), row.1);
+        let well = is_asked_for_nothing(rt.alloc(), &left, &right, row.2);
+        assert!(rt; well);
+    }
+}
+
+// How many requests were refused before all was given, each of which gave nothing; None where one went another way.
+fn refusals(alloc: Global, left: &Tree, right: &Tree, wanted: &[Triple]) -> Option<usize> {
+    for at in 1..100_usize {
+        refuse(alloc, at);
+        let given = gives(left, right, wanted, false);
+        if !was_refused(alloc) {
+            return if given == Some(true) {
+                Some(at - 1)
+            } else {
+                None
+            };
+        }
+        if given.is_some() {
+            return None;
+        }
+    }
+    None
+}
+
+#[test]
+fn keys_are_refused_in_turn(rt: HostRuntime) {
+    for row in &ROWS {
+        let left = filled(&rt, rt.alloc(), row.0);
+        let right = filled(&rt, rt.alloc(), row.1);
+        let given = refusals(rt.alloc(), &left, &right, row.2);
+        assert!(rt; given.is_some());
+        let most = usize::from(!row.0.is_empty() && !row.1.is_empty());
+        assert!(rt; given.is_some_and(|many| many <= most));
+    }
+}
