@@ -1,4 +1,6 @@
 mod Examples
+pub mod BulkListLemmas
+pub mod BulkReadLemmas
 pub mod ByteOrder
 pub mod CommonPrefixes
 pub mod InlineBytes

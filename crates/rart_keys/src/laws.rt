@@ -3,6 +3,7 @@
 ghost use Rattle.std.specs.Prelude.{◌≡◌, ◌≢◌, ◌+◌, ℕ, List, Some, None, length};
 ghost use Rattle.rart_keys.specs.SortedMap.{IsAscending, count_of, lookup, put, without};
 
+pub mod bulk_lists;
 pub mod key_order;
 
 /// Two ascending lists of pairs with the same look-ups are one list; `put` and `without` keep a list

@@ -1,0 +1,17 @@
+//! Laws of the lists that a bulk load reads.
+ghost use Rattle.std.specs.Prelude.{◌≡◌, ◌<◌, ℕ, List, Some, None, reverse};
+ghost use Rattle.rart_keys.specs.BulkLists.{IsFaultAt, first_fault, last_wins};
+ghost use Rattle.rart_keys.specs.SortedMap.{IsAscending, lookup};
+
+/// `first_fault` is the first place whose key is below the one before it, and `None` where there is no
+/// such place. Where there is none, `last_wins` ascends strictly, and has at each key the value that
+/// stands there last, that is first from behind. Strictly ascending pairs have no fault, and all stay.
+pub fn bulk_lists<V>()
+    ensures is_fault { (es : List (List ℕ × V)) (i : ℕ) → first_fault es ≡ Some i → IsFaultAt es i }
+    ensures is_first { (es : List (List ℕ × V)) (i j : ℕ) → first_fault es ≡ Some i → j < i → ¬ (IsFaultAt es j) }
+    ensures no_fault { (es : List (List ℕ × V)) (i : ℕ) → first_fault es ≡ None → ¬ (IsFaultAt es i) }
+    ensures ascends { (es : List (List ℕ × V)) → first_fault es ≡ None → IsAscending (last_wins es) }
+    ensures last_values { (k : List ℕ) (es : List (List ℕ × V)) → first_fault es ≡ None → lookup k (last_wins es) ≡ lookup k (reverse es) }
+    ensures strict_faultless { (es : List (List ℕ × V)) → IsAscending es → first_fault es ≡ None }
+    ensures strict_stays { (es : List (List ℕ × V)) → IsAscending es → last_wins es ≡ es }
+{}
