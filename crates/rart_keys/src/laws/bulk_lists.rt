@@ -1,6 +1,7 @@
 //! Laws of the lists that a bulk load reads.
-ghost use Rattle.std.specs.Prelude.{◌≡◌, ◌<◌, ℕ, List, Some, None, reverse};
-ghost use Rattle.rart_keys.specs.BulkLists.{IsFaultAt, first_fault, last_wins};
+ghost use Rattle.std.specs.Prelude.{◌≡◌, ◌<◌, ◌++◌, ◌∷◌, ℕ, List, [], Some, None, length, reverse};
+ghost use Rattle.std.specs.declared.cmp.Ordering.TheVariants.{Less, Equal, Greater};
+ghost use Rattle.rart_keys.specs.BulkLists.{IsFaultAt, WasRead, first_fault, last_wins, order_behind};
 ghost use Rattle.rart_keys.specs.SortedMap.{IsAscending, lookup};
 
 /// `first_fault` is the first place whose key is below the one before it, and `None` where there is no
@@ -14,4 +15,13 @@ pub fn bulk_lists<V>()
     ensures last_values { (k : List ℕ) (es : List (List ℕ × V)) → first_fault es ≡ None → lookup k (last_wins es) ≡ lookup k (reverse es) }
     ensures strict_faultless { (es : List (List ℕ × V)) → IsAscending es → first_fault es ≡ None }
     ensures strict_stays { (es : List (List ℕ × V)) → IsAscending es → last_wins es ≡ es }
+{}
+
+/// What one more item does to the keys and values that stay of a list without fault, told by how its key
+/// compares with the last that stays: a later key stays behind them, at the same key the value takes the
+/// place of the last, and an earlier key is the first fault.
+pub fn one_item_more<V>()
+    ensures later { (es : List (List ℕ × V)) (ks : List (List ℕ)) (vs : List V) (k : List ℕ) (v : V) → WasRead es ks vs → order_behind ks k ≡ Less → WasRead (es ++ (k, v) ∷ []) (ks ++ k ∷ []) (vs ++ v ∷ []) }
+    ensures same { (es : List (List ℕ × V)) (ks : List (List ℕ)) (vs ws : List V) (w : V) (k : List ℕ) (v : V) → WasRead es ks vs → order_behind ks k ≡ Equal → vs ≡ ws ++ w ∷ [] → WasRead (es ++ (k, v) ∷ []) ks (ws ++ v ∷ []) }
+    ensures earlier { (es : List (List ℕ × V)) (ks : List (List ℕ)) (vs : List V) (k : List ℕ) (v : V) → WasRead es ks vs → order_behind ks k ≡ Greater → first_fault (es ++ (k, v) ∷ []) ≡ Some (length es) }
 {}

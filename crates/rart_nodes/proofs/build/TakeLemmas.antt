@@ -1,6 +1,12 @@
 -- Calls that give the values of keys, one after the other.
-use Rattle.std.proofs.Common.{◌≡◌, ℕ, ◌+◌, ◌<◌, ◌≤◌, zero, suc, List, [], ◌∷◌, ◌++◌, length, arith, ap, ◌∙◌}
+use Rattle.std.proofs.Common.{◌≡◌, ℕ, ◌+◌, ◌<◌, ◌≤◌, zero, suc, List, [], ◌∷◌, ◌++◌, length, arith, ap, ◌∙◌, Result, Ok, Err}
+use Rattle.std.specs.Prelude.{OnErr}
 use Rattle.rart_nodes.specs.build.ValueCalls.{CanTake, Takes}
+
+-- what holds anyhow holds on an error
+pub on_err : {A E P : Type 0} (r : Result A E) → P → OnErr r P
+on_err (Ok x) p = tt
+on_err (Err x) p = p
 
 -- the calls that give values
 module _ {F V : Type 0} (pre : F → ℕ → Type 0) (step : F → ℕ → V → F → Type 0) where

@@ -4,7 +4,7 @@ use Rattle.rart_nodes.proofs.build.RunLemmas.{part-from}
 use Rattle.rart_nodes.proofs.build.StretchLemmas.{reach-at}
 use Rattle.rart_nodes.proofs.build.OpeningLemmas.{byte-is, opening, own-one, own-none, rest-goes_on, rest-ascends}
 use Rattle.rart_nodes.proofs.build.BuildLemmas.{start-here, start-on, started, next-room, next-fewer, next-stretch, next-callable, building-refused, building-step, building-end}
-use Rattle.rart_nodes.proofs.edits.InsertLemmas.{on_err}
+use Rattle.rart_nodes.proofs.build.TakeLemmas.{on_err}
 use Rattle.std.proofs.lemmas.List.{length-take-le}
 use Rattle.rart_nodes.proofs.node.DefaultNode.+build_below.Goals as goal
 use Rattle.rart_nodes.proofs.node.DefaultNode.+build_below.Goals.{then-own-eq1, else-own-eq1}
