@@ -1,3 +1,7 @@
+pub mod BulkEndLemmas
+pub mod BulkLoadLemmas
+pub mod BulkTreeLemmas
+pub mod BulkValueLemmas
 pub mod EditLemmas
 pub mod PresentLemmas
 pub mod StepLemmas

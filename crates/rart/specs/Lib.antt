@@ -1,3 +1,4 @@
+pub mod BulkLoads
 pub mod Edits
 pub mod LawAnswers
 pub mod Loans
