@@ -55,8 +55,14 @@ module _ {U S K V : Type 0} (becomes : U → S → Type 0) (steps : S → Option
     pub sorted-refused : length keys ≤ MAX_PAIRS → {T : Type 0} (r : Result T BulkError) → IfErr r (λ e. e ≡ Memory) → OnErr r (0 < length keys)
         → IfErr r (λ e. Reads becomes steps items (λ xs. StopsSorted (pairs_in bytes xs) e))
     sorted-refused few (Ok t) m some = tt
-    sorted-refused few (Err e) m some = rw m (read.0, read.1, read.3.1.0, read.2, read.3.1.1,
-      (sorted-some some, read.4.faultless, omega (arith, few, read-length (pairs_in bytes read.1) (map bytes keys) vs read.4, length-map keys bytes)))
+    sorted-refused few (Err e) m some = rw m (
+      read.0,
+      read.1,
+      read.3.1.0,
+      read.2,
+      read.3.1.1,
+      (sorted-some some, read.4.faultless, omega (arith, few, read-length (pairs_in bytes read.1) (map bytes keys) vs read.4, length-map keys bytes)),
+    )
 
   module _ (read : ReadsAll becomes steps items (λ xs. (map bytes keys ≡ keys_of (pairs_in bytes xs)) × (vs ≡ values_of (pairs_in bytes xs)))) where
     pub unique-each : length keys ≡ length vs
@@ -76,5 +82,11 @@ module _ {U S K V : Type 0} (becomes : U → S → Type 0) (steps : S → Option
     pub unique-refused : length keys ≤ MAX_PAIRS → {T : Type 0} (r : Result T BulkError) → IfErr r (λ e. e ≡ Memory) → OnErr r (0 < length keys)
         → IfErr r (λ e. Reads becomes steps items (λ xs. StopsUnique (pairs_in bytes xs) e))
     unique-refused few (Ok t) m some = tt
-    unique-refused few (Err e) m some = rw m (read.0, read.1, read.3.1.0, read.2, read.3.1.1,
-      ((λ q. omega (arith, some, unique-count, ap length q)), omega (arith, few, unique-count)))
+    unique-refused few (Err e) m some = rw m (
+      read.0,
+      read.1,
+      read.3.1.0,
+      read.2,
+      read.3.1.1,
+      ((λ q. omega (arith, some, unique-count, ap length q)), omega (arith, few, unique-count)),
+    )

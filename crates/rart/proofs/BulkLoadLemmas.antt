@@ -59,9 +59,11 @@ module _ {K V : Type 0} (bytes : K → List ℕ) (es : List (List ℕ × V)) (ke
   fault-stops law at o a = (length es, law es (map bytes keys) vs (bytes k) v r (ordered Greater o), length-append es ((bytes k, v) ∷ []), a)
 
   pub full-stops : Later V → Less ≡ order_behind (map bytes seen) (bytes k) → length keys ≡ MAX_PAIRS → StopsSorted (es ++ (bytes k, v) ∷ []) Full
-  full-stops law o l = let m = law es (map bytes keys) vs (bytes k) v r (ordered Less o) in
-      (m.faultless, omega (arith, read-length (es ++ (bytes k, v) ∷ []) (map bytes keys ++ bytes k ∷ []) (vs ++ v ∷ []) m, length-append (map bytes keys) (bytes k ∷ []), length-map keys bytes, l),
-      (es, (bytes k, v), refl, omega (arith, read-length es (map bytes keys) vs r, length-map keys bytes, l)))
+  full-stops law o l = let m = law es (map bytes keys) vs (bytes k) v r (ordered Less o) in (
+    m.faultless,
+    omega (arith, read-length (es ++ (bytes k, v) ∷ []) (map bytes keys ++ bytes k ∷ []) (vs ++ v ∷ []) m, length-append (map bytes keys) (bytes k ∷ []), length-map keys bytes, l),
+    (es, (bytes k, v), refl, omega (arith, read-length es (map bytes keys) vs r, length-map keys bytes, l)),
+  )
 
   pub memory-at-new : Later V → Less ≡ order_behind (map bytes seen) (bytes k) → length keys ≤ MAX_PAIRS → (length keys ≡ MAX_PAIRS → ⊥) → StopsSorted (es ++ (bytes k, v) ∷ []) Memory
   memory-at-new law o l n = let m = law es (map bytes keys) vs (bytes k) v r (ordered Less o) in

@@ -61,7 +61,7 @@ module _ (At : ℕ → List ℕ → Type 0) where
   from_place j (q ∷ ks) k h a (suc i) l =
       let e : suc j + i ≡ j + suc i = omega arith in let f : j + suc (length ks) ≡ suc j + length ks = omega arith in
       subst (λ (z : ℕ). At z (get_or (ks ++ k ∷ []) i [])) e
-        (from_place (suc j) ks k (λ m b. let s : j + suc m ≡ suc j + m = omega arith in subst (λ (z : ℕ). At z (get_or ks m [])) s (h (suc m) (omega (arith, b)))) (subst (λ (z : ℕ). At z k) f a) i (omega (arith, l)))
+      (from_place (suc j) ks k (λ m b. let s : j + suc m ≡ suc j + m = omega arith in subst (λ (z : ℕ). At z (get_or ks m [])) s (h (suc m) (omega (arith, b)))) (subst (λ (z : ℕ). At z k) f a) i (omega (arith, l)))
 
   pub one-key-more : (n : ℕ) (ks ls : List (List ℕ)) (k : List ℕ) → AreKeysAt At ks → length ks ≡ n → At n k → ls ≡ ks ++ k ∷ [] → AreKeysAt At ls
   one-key-more n ks ls k h e a is i l =

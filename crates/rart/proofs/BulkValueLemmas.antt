@@ -23,7 +23,7 @@ module _ {F V : Type 0} (step : F → ℕ → V → F → Type 0) (items : F →
   values-all pairs (Err e) ks i f g xs ei n k v = tt
   values-all pairs (Ok t) ks i f g xs ei n k v =
       all-taken xs (values_of (pairs t)) (items g) (sym ei ∙ takes-list i f g (values_of (pairs t)) v)
-        (omega (arith, n, ap length k, length-map (pairs t) (λ e. e.0), length-map (pairs t) (λ e. e.1)))
+      (omega (arith, n, ap length k, length-map (pairs t) (λ e. e.0), length-map (pairs t) (λ e. e.1)))
     where
       all-taken : (xs vs rest : List V) → xs ≡ vs ++ rest → length vs ≡ length xs → vs ≡ xs
       all-taken xs vs [] e l = sym (append-nil vs) ∙ sym e

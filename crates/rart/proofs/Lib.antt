@@ -1,4 +1,5 @@
 pub mod BulkEndLemmas
+pub mod BulkLawLemmas
 pub mod BulkLoadLemmas
 pub mod BulkTreeLemmas
 pub mod BulkValueLemmas

@@ -1,3 +1,4 @@
+pub mod BulkLaw
 pub mod BulkLoads
 pub mod Edits
 pub mod LawAnswers

@@ -6,5 +6,6 @@ pub mod CommonPrefixes
 pub mod InlineBytes
 pub mod KeyComparisons
 pub mod NumberOrder
+pub mod PutAllLemmas
 pub mod SortedMaps
 pub mod WordLemmas

@@ -5,7 +5,7 @@ use Rattle.std.specs.declared.cmp.Ordering.TheVariants.{Less}
 use Rattle.std.specs.Ordering.{nat_cmp, match_ordering}
 use Rattle.std.specs.Cmp.Lexicographic.{slice_cmp}
 use Rattle.rart_keys.specs.ByteStrings.{bytes_eq, IsBelow}
-use Rattle.rart_keys.specs.SortedMap.{keys_of, values_of}
+use Rattle.rart_keys.specs.SortedMap.{keys_of, put, values_of}
 
 -- the key at a place is below the one before it
 abbrev pub IsFaultAt : {V : Type 0} → List (List ℕ × V) → ℕ → Type 0
@@ -42,3 +42,8 @@ pub record WasRead {V : Type 0} (es : List (List ℕ × V)) (ks : List (List ℕ
   pub faultless : first_fault es ≡ None
   pub keys : ks ≡ keys_of (last_wins es)
   pub values : vs ≡ values_of (last_wins es)
+
+-- the pairs put into m, one after the other
+abbrev pub put_all : {V : Type 0} → List (List ℕ × V) → List (List ℕ × V) → List (List ℕ × V)
+put_all [] m = m
+put_all (e ∷ es) m = put_all es (put e.0 e.1 m)

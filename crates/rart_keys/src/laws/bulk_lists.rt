@@ -1,8 +1,10 @@
 //! Laws of the lists that a bulk load reads.
-ghost use Rattle.std.specs.Prelude.{◌≡◌, ◌<◌, ◌++◌, ◌∷◌, ℕ, List, [], Some, None, length, reverse};
+ghost use Rattle.std.specs.Prelude.{◌≡◌, ◌<◌, ◌++◌, ◌∷◌, ℕ, List, [], Some, None, length, reverse, slice_index_or};
+ghost use Rattle.std.specs.List.Sorted.{IsPermutation};
+ghost use Rattle.rart_keys.specs.ByteStrings.{IsBelow};
 ghost use Rattle.std.specs.declared.cmp.Ordering.TheVariants.{Less, Equal, Greater};
-ghost use Rattle.rart_keys.specs.BulkLists.{IsFaultAt, WasRead, first_fault, last_wins, order_behind};
-ghost use Rattle.rart_keys.specs.SortedMap.{IsAscending, lookup};
+ghost use Rattle.rart_keys.specs.BulkLists.{IsFaultAt, WasRead, first_fault, last_wins, order_behind, put_all};
+ghost use Rattle.rart_keys.specs.SortedMap.{IsAscending, keys_of, lookup};
 
 /// `first_fault` is the first place whose key is below the one before it, and `None` where there is no
 /// such place. Where there is none, `last_wins` ascends strictly, and has at each key the value that
@@ -24,4 +26,17 @@ pub fn one_item_more<V>()
     ensures later { (es : List (List ℕ × V)) (ks : List (List ℕ)) (vs : List V) (k : List ℕ) (v : V) → WasRead es ks vs → order_behind ks k ≡ Less → WasRead (es ++ (k, v) ∷ []) (ks ++ k ∷ []) (vs ++ v ∷ []) }
     ensures same { (es : List (List ℕ × V)) (ks : List (List ℕ)) (vs ws : List V) (w : V) (k : List ℕ) (v : V) → WasRead es ks vs → order_behind ks k ≡ Equal → vs ≡ ws ++ w ∷ [] → WasRead (es ++ (k, v) ∷ []) ks (ws ++ v ∷ []) }
     ensures earlier { (es : List (List ℕ × V)) (ks : List (List ℕ)) (vs : List V) (k : List ℕ) (v : V) → WasRead es ks vs → order_behind ks k ≡ Greater → first_fault (es ++ (k, v) ∷ []) ≡ Some (length es) }
+{}
+
+/// Strictly ascending pairs are what is left of putting them in, in any order.
+pub fn put_in_any_order<V>()
+    ensures { (xs ys : List (List ℕ × V)) → IsAscending xs → IsPermutation xs ys → put_all ys [] ≡ xs }
+{}
+
+/// How pairs that ascend strictly are told, one by one from behind, and what then holds of a beginning and of
+/// any two of them.
+pub fn ascending_pairs<V>()
+    ensures one_more { (e f : List ℕ × V) (es : List (List ℕ × V)) → IsBelow e.0 f.0 → IsAscending (f ∷ es) → IsAscending (e ∷ f ∷ es) }
+    ensures beginning { (es more : List (List ℕ × V)) → IsAscending (es ++ more) → IsAscending es }
+    ensures any_two { (es : List (List ℕ × V)) (i j : ℕ) → IsAscending es → i < j → j < length es → IsBelow (slice_index_or (keys_of es) i []) (slice_index_or (keys_of es) j []) }
 {}

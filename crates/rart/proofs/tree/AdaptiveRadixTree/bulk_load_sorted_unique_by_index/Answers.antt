@@ -16,7 +16,7 @@ of_byte_strings-requires-clause-within g c =
 pub of_byte_strings-requires-clause-ascending : goal.of_byte_strings-requires-clause-ascending
 of_byte_strings-requires-clause-ascending g c =
     rw c.deref.ensures.value (keys-ascend (λ i key. (k : _) × goal.F-post g c.args.key_at i k × (key ≡ g.K.KeyTrait.bytes k.now)) c.args.len
-      (λ i j k l a b h i'. rw (h.2, i'.2) (c.requires.ascending i j h.0 i'.0 a b h.1 i'.1)) _ c.in_ok-keys.ensures.count c.in_ok-keys.ensures.keys)
+    (λ i j k l a b h i'. rw (h.2, i'.2) (c.requires.ascending i j h.0 i'.0 a b h.1 i'.1)) _ c.in_ok-keys.ensures.count c.in_ok-keys.ensures.keys)
 
 pub of_byte_strings-requires-clause-callable : goal.of_byte_strings-requires-clause-callable
 of_byte_strings-requires-clause-callable g c =
@@ -27,7 +27,7 @@ pub returns-clause-keys : goal.returns-clause-keys
 returns-clause-keys g c =
     let same = ap keys_in c.deref.ensures.value in
     IfOk-weaker c.of_byte_strings.result (λ t. keys_of t.pairs ≡ keys_in c.deref.result.now) _
-      (λ t e. (sym (length-map t.pairs (λ e. e.0)) ∙ ap length (e ∙ same) ∙ c.in_ok-keys.ensures.count, rw (e ∙ same) c.in_ok-keys.ensures.keys)) c.of_byte_strings.ensures.keys
+    (λ t e. (sym (length-map t.pairs (λ e. e.0)) ∙ ap length (e ∙ same) ∙ c.in_ok-keys.ensures.count, rw (e ∙ same) c.in_ok-keys.ensures.keys)) c.of_byte_strings.ensures.keys
 
 pub returns-clause-values : goal.returns-clause-values
 returns-clause-values g c = IfOk-weaker c.of_byte_strings.result _ _ (λ t h. (_, h)) c.of_byte_strings.ensures.values

@@ -25,15 +25,15 @@ returns-in_default-push-clause-refused g c es r a = elim c.match-order_after.bra
   | in-Less+else-len-eq-MAX_PAIRS+in-Ok w ↦
       let room : length c.args.keys.now.items ≡ MAX_PAIRS → ⊥ = search rules in
       memory-at-new g.K.KeyTrait.bytes es _ _ _ c.args.key c.args.value r c.deref.ensures.value c.one_item_more.ensures.later w.in-Less.ensures c.requires room
-  ]
+]
 
 pub returns-clause-kept : goal.returns-clause-kept
 returns-clause-kept g c es r = elim c.match-order_after.branch [
   | in-Equal w ↦
       let some : 0 < length c.args.values.now.items → IsSome w.pop.result = search rules in
       kept-equal g.K.KeyTrait.bytes es _ _ _ c.args.key c.args.value r c.deref.ensures.value _ _ w.pop.ensures.items some c.one_item_more.ensures.same _ _ w.in-Equal.ensures
-        (ap (λ z. z.items) w.keys-is) (c.in-Ok-push.ensures.items ∙ ap (λ z. z.items ++ c.args.value ∷ []) w.values-is)
+      (ap (λ z. z.items) w.keys-is) (c.in-Ok-push.ensures.items ∙ ap (λ z. z.items ++ c.args.value ∷ []) w.values-is)
   | in-Less+else-len-eq-MAX_PAIRS+in-Ok w ↦
       kept-new g.K.KeyTrait.bytes es _ _ _ c.args.key c.args.value r c.deref.ensures.value c.one_item_more.ensures.later _ _ w.in-Less.ensures
-        (ap (λ z. z.items) w.keys-is ∙ w.in-Ok.ensures.items) (c.in-Ok-push.ensures.items ∙ ap (λ z. z.items ++ c.args.value ∷ []) w.values-is)
-  ]
+      (ap (λ z. z.items) w.keys-is ∙ w.in-Ok.ensures.items) (c.in-Ok-push.ensures.items ∙ ap (λ z. z.items ++ c.args.value ∷ []) w.values-is)
+]
