@@ -1,3 +1,8 @@
+pub mod BulkEndLemmas
+pub mod BulkLawLemmas
+pub mod BulkLoadLemmas
+pub mod BulkTreeLemmas
+pub mod BulkValueLemmas
 pub mod CountLemmas
 pub mod EditLemmas
 pub mod LawLemmas

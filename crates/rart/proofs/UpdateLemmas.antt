@@ -3,8 +3,7 @@ use Rattle.std.proofs.Common.{◌≡◌, ◌≢◌, ℕ, ◌<◌, ◌≤◌, Boo
 use Rattle.std.proofs.lemmas.Bool.Decides.{nat_tests}
 use Rattle.std.specs.Borrow.{MutBor}
 use Rattle.std.specs.Fn.{Once, FnOnceReturnsAtMut}
-use Rattle.rart_keys.specs.SortedMap.{IsAscending, lookup, put}
-use Rattle.rart_nodes.specs.declared.refused.Refused.{Refused}
+use Rattle.rart_keys.specs.SortedMap.{lookup, put}
 use Rattle.rart_nodes.specs.declared.slot.Outcome.{Outcome}
 use Rattle.rart_nodes.specs.declared.slot.Slot.{Slot}
 use Rattle.rart_nodes.specs.declared.slot.SlotUpdate.{SlotUpdate}
@@ -19,7 +18,7 @@ use Rattle.rart.specs.MapAndShape.{MapAndShape}
 use Rattle.rart.specs.Refusals.{MayRefuse}
 use Rattle.rart.specs.declared.tree.update.Told.{Told}
 use Rattle.rart.specs.declared.tree.update.Told.TheVariants.{NotCloned, Failed, Answered}
-use Rattle.rart.specs.Updates.{EndsIn, IsAttempt, IsTryUpdate, IsUpdate, TakesNew, is_touched, touched_in}
+use Rattle.rart.specs.Updates.{EndsIn, IsAttempt, TakesNew, is_touched, touched_in}
 use Rattle.rart.specs.declared.tree.TheConstants.{MAX_PAIRS}
 
 full-is : (l n : ℕ) → nat_eq l n ≡ true → l ≡ n

@@ -1,3 +1,5 @@
+pub mod BulkLaw
+pub mod BulkLoads
 pub mod Edits
 pub mod LawAnswers
 pub mod Loans

@@ -2,8 +2,6 @@
 use Rattle.std.specs.Prelude.{◌≡◌, ◌≢◌, ℕ, Bool, true, false, List, length, Option, Some, None, Result, Ok, Err}
 use Rattle.std.specs.Borrow.{MutBor}
 use Rattle.std.specs.Fn.{Once, FnOnceReturnsAtMut}
-use Rattle.rart_keys.specs.SortedMap.{lookup}
-use Rattle.rart_nodes.specs.declared.refused.Refused.{Refused}
 use Rattle.rart_nodes.specs.declared.slot.Outcome.{Outcome}
 use Rattle.rart_nodes.specs.declared.slot.Outcome.TheVariants.{Absent}
 use Rattle.rart_nodes.specs.declared.slot.Slot.{Slot}

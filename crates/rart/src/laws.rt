@@ -17,6 +17,7 @@ use rart_nodes::Refused;
 use rart_nodes::iter::{Iter, ValuesIter};
 use rart_parts::TreeError;
 
+pub mod bulk_loads;
 pub mod counts;
 
 /// Trees with equal keys have equal nodes, whatever their key types, their values and the calls that

@@ -5,6 +5,7 @@
 //! every answer is the one of the sorted list of pairs; a refused call changes neither.
 #![tactic(auto)]
 
+mod bulk;
 pub mod iter;
 pub mod laws;
 mod prefixes;
@@ -14,6 +15,7 @@ pub mod tree;
 mod views;
 mod visits;
 
+pub use crate::bulk::BulkError;
 pub use crate::iter::{Iter, PrefixMatchIter, SeenIter, ValuesIter};
 pub use crate::stats::{NodeStats, TreeStats, TreeStatsTrait};
 pub use crate::tree::AdaptiveRadixTree;

@@ -14,6 +14,7 @@ use rart_parts::TreeError;
 use std::alloc::Global;
 use std::marker::{Model, PhantomData};
 
+mod bulk;
 pub mod guarded;
 mod intersect;
 mod loan;

@@ -1,9 +1,12 @@
 mod Examples
+pub mod BulkListLemmas
+pub mod BulkReadLemmas
 pub mod ByteOrder
 pub mod CommonPrefixes
 pub mod InlineBytes
 pub mod JoinsOfMaps
 pub mod KeyComparisons
 pub mod NumberOrder
+pub mod PutAllLemmas
 pub mod SortedMaps
 pub mod WordLemmas

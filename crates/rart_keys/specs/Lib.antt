@@ -1,5 +1,6 @@
 pub mod ArrPartialBytes
 pub mod ArrayKeyBytes
+pub mod BulkLists
 pub mod ByteStrings
 pub mod CommonPrefix
 pub mod ComparedKeys

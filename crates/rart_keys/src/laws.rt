@@ -4,6 +4,7 @@ ghost use Rattle.std.specs.Prelude.{◌≡◌, ◌≢◌, ◌≤◌, ◌+◌, �
 ghost use Rattle.rart_keys.specs.Joins.{both, join, swapped};
 ghost use Rattle.rart_keys.specs.SortedMap.{IsAscending, count_of, lookup, put, without};
 
+pub mod bulk_lists;
 pub mod key_order;
 
 /// Two ascending lists of pairs with the same look-ups are one list; `put` and `without` keep a list

@@ -1,3 +1,4 @@
+pub mod build
 pub mod edits
 pub mod joins
 pub mod shapes

@@ -12,6 +12,7 @@ use rart_keys::Partial;
 use std::marker::Model;
 
 mod below;
+mod build;
 mod children;
 mod control;
 mod fold;

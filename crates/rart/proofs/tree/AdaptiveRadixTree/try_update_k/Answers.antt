@@ -1,4 +1,4 @@
-use Rattle.std.proofs.Common.{◌≡◌, ◌≢◌, ◌∙◌, ap, sym, refl, Some, None, Ok, Err}
+use Rattle.std.proofs.Common.{◌≡◌, ◌∙◌, ap, sym, refl, Some, None, Ok, Err}
 use Rattle.rart_keys.specs.SortedMap.{keys_of, lookup}
 use Rattle.rart_nodes.specs.updates.Slots.{slot_of}
 use Rattle.rart.specs.Updates.{touched_in}

@@ -1,4 +1,4 @@
-use Rattle.std.proofs.Common.{◌≡◌, ◌∙◌, ap, sym, refl, arith, length, is_some, nat_eq}
+use Rattle.std.proofs.Common.{◌≡◌, ◌∙◌, ap, sym, refl, arith, is_some, nat_eq}
 use Rattle.std.specs.Fn.{FnOnceReturnsAtMut}
 use Rattle.rart_keys.specs.SortedMap.{lookup}
 use Rattle.rart_nodes.specs.tries.Tree.{tree_pairs}

@@ -1,4 +1,3 @@
-use Rattle.std.proofs.Common.{refl}
 use Rattle.rart.proofs.tree.update.update_plainly.Goals as goal
 
 pub update_with-outcome-requires-clause-stays : goal.update_with-outcome-requires-clause-stays

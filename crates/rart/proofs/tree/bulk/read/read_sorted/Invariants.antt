@@ -1,0 +1,14 @@
+use Rattle.std.proofs.Common.{◌≡◌, ◌≤◌, ◌-◌, ◌^◌, length, map, min}
+use Rattle.rart_keys.specs.BulkLists.{WasRead}
+use Rattle.rart.specs.Steps.{pairs_in}
+use Rattle.rart.specs.declared.tree.TheConstants.{MAX_PAIRS}
+use Rattle.rart.proofs.tree.bulk.read.read_sorted.Given as goal
+
+abbrev pub invariant-loop-key : goal.invariant-loop-key
+invariant-loop-key g l = record {
+  can : (goal.iterator-loop-key g).can_next l.key-iterator;
+  finite : (goal.iterator-loop-key g).is_finite l.key-iterator;
+  at_is : l.at ≡ min (length l.yielded) (2 ^ 64 - 1);
+  few : length l.keys.items ≤ MAX_PAIRS;
+  read : WasRead (pairs_in g.K.KeyTrait.bytes l.yielded) (map g.K.KeyTrait.bytes l.keys.items) l.values.items;
+}

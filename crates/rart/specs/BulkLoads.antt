@@ -1,0 +1,42 @@
+-- What a bulk load reads, and where it stops.
+use Rattle.std.specs.Prelude.{◌≡◌, ◌≢◌, ◌+◌, ◌-◌, ◌^◌, ◌<◌, ◌≤◌, min, ℕ, List, [], ◌∷◌, ◌++◌, length, Option, None, Some, slice_index_or}
+use Rattle.std.specs.Iterator.{Yields, Drains}
+use Rattle.rart_keys.specs.BulkLists.{first_fault, last_wins}
+use Rattle.rart.specs.declared.bulk.BulkError.{BulkError}
+use Rattle.rart.specs.declared.bulk.BulkError.TheVariants.{Memory, Full, Unsorted}
+use Rattle.rart.specs.declared.tree.TheConstants.{MAX_PAIRS}
+
+module _ {U S A : Type 0} (becomes : U → S → Type 0) (steps : S → Option A → S → Type 0) where
+  -- P holds of some items that were read from the front
+  abbrev pub Reads : U → (List A → Type 0) → Type 0
+  Reads items P = (s : S) × (xs : List A) × (t : S) × becomes items s × Yields steps s xs t × P xs
+
+  -- P holds of the items, which were read to the end
+  abbrev pub ReadsAll : U → (List A → Type 0) → Type 0
+  ReadsAll items P = (s : S) × (xs : List A) × becomes items s × Drains steps s xs × P xs
+
+-- P holds of the list without its last
+abbrev pub BeforeLast : {A : Type 0} → (List A → Type 0) → List A → Type 0
+BeforeLast {A} P xs = (before : List A) × (last : A) × (xs ≡ before ++ last ∷ []) × P before
+
+-- this refusal came at the last of these pairs, or where all were read: a key below the one before it, else one key too many, else want of memory
+abbrev pub StopsSorted : {V : Type 0} → List (List ℕ × V) → BulkError → Type 0
+StopsSorted es Memory = (es ≢ []) × (first_fault es ≡ None) × (length (last_wins es) ≤ MAX_PAIRS)
+StopsSorted es Full = (first_fault es ≡ None) × (length (last_wins es) ≡ MAX_PAIRS + 1) × BeforeLast (λ before. length (last_wins before) ≡ MAX_PAIRS) es
+StopsSorted es (Unsorted at) = (i : ℕ) × (first_fault es ≡ Some i) × (length es ≡ i + 1) × (at ≡ min i (2 ^ 64 - 1))
+
+-- the same, of pairs that ascend strictly
+abbrev pub StopsUnique : {V : Type 0} → List (List ℕ × V) → BulkError → Type 0
+StopsUnique es Memory = (es ≢ []) × (length es ≤ MAX_PAIRS)
+StopsUnique es Full = length es ≡ MAX_PAIRS + 1
+StopsUnique es (Unsorted at) = ⊥
+
+-- so many keys are refused so
+abbrev pub StopsByIndex : ℕ → BulkError → Type 0
+StopsByIndex len Memory = (0 < len) × (len ≤ MAX_PAIRS)
+StopsByIndex len Full = MAX_PAIRS < len
+StopsByIndex len (Unsorted at) = ⊥
+
+-- at each place stands a key that fits there
+abbrev pub AreKeysAt : (ℕ → List ℕ → Type 0) → List (List ℕ) → Type 0
+AreKeysAt At ks = (i : ℕ) → i < length ks → At i (slice_index_or ks i [])

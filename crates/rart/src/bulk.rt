@@ -1,0 +1,20 @@
+//! Why a bulk load is refused.
+
+use thiserror::Error;
+
+/// Why a bulk load gave no tree. What was read or taken until then is dropped.
+#[derive(Clone, Copy, PartialEq, Eq, Debug, Error)]
+pub enum BulkError {
+    /// The allocator had no memory for a growth.
+    #[error("out of memory")]
+    Memory,
+    /// There are more keys than a tree can count.
+    #[error("tree is full")]
+    Full,
+    /// An item's key is below the key of the item before it.
+    #[error("item {at} is below its predecessor")]
+    Unsorted {
+        /// The item's place, from 0; `usize::MAX` where the place is beyond it.
+        at: usize,
+    },
+}

@@ -1,0 +1,162 @@
+//! Bulk loads: trees built bottom up from items that ascend, each node made once.
+ghost use Rattle.std.specs.Prelude.{◌≡◌, ◌<◌, ◌≤◌, ◌∷◌, List, length, map, max, None, IfErr, IfOk, OnErr, OnOk};
+ghost use Rattle.std.specs.Iterator.{HoldsAlong, IsFinite};
+ghost use Rattle.std.specs.Vec.Iter.{into_iter_items};
+ghost use Rattle.rart_keys.specs.BulkLists.{first_fault, last_wins};
+ghost use Rattle.rart_keys.specs.ByteStrings.{IsBelow};
+ghost use Rattle.rart_keys.specs.SortedMap.{IsAscending, keys_of, longest_key, values_of};
+ghost use Rattle.rart_nodes.specs.build.Stretches.{AreWithin};
+ghost use Rattle.rart_nodes.specs.build.ValueCalls.{CanTake, Takes};
+ghost use Rattle.rart_nodes.specs.shapes.Shape.{HasShape};
+ghost use Rattle.rart_nodes.specs.shapes.ShapeRecords.{keys_in, lone_keys};
+ghost use Rattle.rart.specs.BulkLoads.{AreKeysAt, Reads, ReadsAll, StopsByIndex, StopsSorted, StopsUnique};
+ghost use Rattle.rart.specs.Steps.{pairs_in};
+
+use crate::bulk::BulkError;
+use crate::tree::{AdaptiveRadixTree, MAX_PAIRS};
+use rart_keys::KeyTrait;
+use rart_keys::laws::bulk_lists::bulk_lists;
+use rart_nodes::node::DefaultNode;
+use std::alloc::Global;
+use std::marker::PhantomData;
+
+mod keys;
+mod read;
+
+use keys::{keys_by_index, keys_in_slice, longest_of};
+use read::{read_sorted, read_unique};
+
+impl<K: KeyTrait, V: Drop> AdaptiveRadixTree<K, V> {
+    /// The tree of these items, whose keys ascend: of equal keys the last item stays. Asks items that
+    /// end. Their size hint isn't trusted.
+    ///
+    /// Each item is tested, in this order, before it is kept: refused with `Unsorted` at the first
+    /// place whose key is below the one before it, with `Full` where it has one key more than a tree
+    /// can count, with `Memory` where a request for it was refused. Nothing is read behind the first
+    /// refusal, and what was read is dropped. No items give an empty tree and take no memory.
+    pub fn bulk_load_sorted<I: IntoIterator<Item = (K, V)>>(
+        alloc: Global,
+        items: I,
+    ) -> Result<Self, BulkError>
+    where
+        K: Drop,
+        requires { (s : I.IntoIter) → I.into_iter_gives items s → I.IntoIter.can_next s × IsFinite (I.IntoIter.remaining s) }
+        ensures faultless { IfOk result (λ tree. ReadsAll I.into_iter_gives I.IntoIter.next_gives items (λ xs. (first_fault (pairs_in K.bytes xs) ≡ None) × (tree.pairs ≡ last_wins (pairs_in K.bytes xs)))) }
+        ensures shape { IfOk result (λ tree. HasShape (keys_of tree.pairs) tree.nodes) }
+        ensures refused { IfErr result (λ error. Reads I.into_iter_gives I.IntoIter.next_gives items (λ xs. StopsSorted (pairs_in K.bytes xs) error)) }
+    {
+        bulk_lists::<V>();
+        let (keys, values) = read_sorted(alloc, items)?;
+        AdaptiveRadixTree::of_keys_and_values(alloc, &keys, values)
+    }
+
+    /// The tree of these items. Asks items that end, whose keys ascend strictly.
+    ///
+    /// Refused as `bulk_load_sorted` is, and never with `Unsorted`.
+    pub fn bulk_load_sorted_unique<I: IntoIterator<Item = (K, V)>>(
+        alloc: Global,
+        items: I,
+    ) -> Result<Self, BulkError>
+    where
+        K: Drop,
+        requires { (s : I.IntoIter) → I.into_iter_gives items s → I.IntoIter.can_next s × IsFinite (I.IntoIter.remaining s) × HoldsAlong I.IntoIter.next_gives s (λ xs. IsAscending (pairs_in K.bytes xs)) }
+        ensures pairs { IfOk result (λ tree. ReadsAll I.into_iter_gives I.IntoIter.next_gives items (λ xs. tree.pairs ≡ pairs_in K.bytes xs)) }
+        ensures shape { IfOk result (λ tree. HasShape (keys_of tree.pairs) tree.nodes) }
+        ensures refused { IfErr result (λ error. Reads I.into_iter_gives I.IntoIter.next_gives items (λ xs. StopsUnique (pairs_in K.bytes xs) error)) }
+    {
+        let (keys, values) = read_unique(alloc, items)?;
+        AdaptiveRadixTree::of_keys_and_values(alloc, &keys, values)
+    }
+
+    /// The tree of `len` keys, each with the value at its index. Asks that what `key_at` answers at an
+    /// index is below what it answers at a later one, and that `take_value_at` can be called for 0, 1,
+    /// 2 and so on, once each, as it is here. `key_at` is called once for each index.
+    ///
+    /// Refused with `Full` where there are more keys than a tree can count, before any call; with
+    /// `Memory` where a request for it was refused: then the values of a beginning of the indices were
+    /// taken, and dropped. Without keys neither closure is called, and no memory is taken.
+    pub fn bulk_load_sorted_unique_by_index<'a, F: Fn(usize) -> &'a K, G: FnMut(usize) -> V>(
+        alloc: Global,
+        len: usize,
+        key_at: F,
+        take_value_at: G,
+    ) -> Result<Self, BulkError>
+    where
+        K: 'a,
+        F: Drop,
+        G: Drop,
+        requires key_at { (i : _) → i < len → F.pre key_at i }
+        requires ascending { (i j : _) (k l : _) → i < j → j < len → F.post key_at i k → F.post key_at j l → IsBelow (K.bytes k.now) (K.bytes l.now) }
+        requires take_value_at { CanTake G.pre G.step 0 len take_value_at }
+        ensures keys { IfOk result (λ tree. (length tree.pairs ≡ len) × AreKeysAt (λ i key. (k : _) × F.post key_at i k × (key ≡ K.bytes k.now)) (keys_of tree.pairs)) }
+        ensures values { IfOk result (λ tree. (left : G) × Takes G.step 0 take_value_at (values_of tree.pairs) left) }
+        ensures shape { IfOk result (λ tree. HasShape (keys_of tree.pairs) tree.nodes) }
+        ensures refused { IfErr result (StopsByIndex len) }
+        ensures not_full { OnOk result (len ≤ MAX_PAIRS) }
+    {
+        if len > MAX_PAIRS {
+            return Err(BulkError::Full);
+        }
+        if len == 0 {
+            return Ok(AdaptiveRadixTree::new(alloc));
+        }
+        let keys = keys_by_index(alloc, len, &key_at)?;
+        let mut take_value_at = take_value_at;
+        AdaptiveRadixTree::of_byte_strings(alloc, &keys, &mut take_value_at)
+    }
+
+    /// The tree of these keys, which ascend strictly, with the values in their order. Refused with
+    /// `Memory` alone, and never without keys.
+    fn of_keys_and_values(alloc: Global, keys: &[K], values: Vec<V>) -> Result<Self, BulkError>
+        requires each { length keys.now ≡ length values.items }
+        requires ascending { IsAscending (lone_keys (map K.bytes keys.now)) }
+        requires few { length keys.now ≤ MAX_PAIRS }
+        ensures keys { IfOk result (λ tree. keys_of tree.pairs ≡ map K.bytes keys.now) }
+        ensures values { IfOk result (λ tree. values_of tree.pairs ≡ values.items) }
+        ensures shape { IfOk result (λ tree. HasShape (keys_of tree.pairs) tree.nodes) }
+        ensures error { IfErr result (λ e. e ≡ BulkError.Memory) }
+        ensures some { OnErr result (0 < length keys.now) }
+    {
+        if keys.is_empty() {
+            return Ok(AdaptiveRadixTree::new(alloc));
+        }
+        let strings = keys_in_slice(alloc, keys)?;
+        let mut values = values.into_iter();
+        let mut take_value = |_: usize|
+            requires { 0 < length (into_iter_items values) }
+            ensures { into_iter_items values.entry ≡ result ∷ into_iter_items values.exit }
+        { values.next().unwrap() };
+        AdaptiveRadixTree::of_byte_strings(alloc, &strings, &mut take_value)
+    }
+
+    /// The tree of the keys with these bytes, some, which ascend strictly. The value of each is taken
+    /// once, in their order. Refused with `Memory` alone: then a beginning of the values was taken.
+    fn of_byte_strings<F: FnMut(usize) -> V>(
+        alloc: Global,
+        keys: &[&[u8]],
+        take_value: &mut F,
+    ) -> Result<Self, BulkError>
+        requires some { 0 < length keys.now }
+        requires few { length keys.now ≤ MAX_PAIRS }
+        requires within { AreWithin K.MAXIMUM_SIZE (keys_in keys.now) }
+        requires ascending { IsAscending (lone_keys (keys_in keys.now)) }
+        requires callable { CanTake F.pre F.step 0 (length keys.now) take_value.old }
+        ensures keys { IfOk result (λ tree. keys_of tree.pairs ≡ keys_in keys.now) }
+        ensures values { IfOk result (λ tree. Takes F.step 0 take_value.old (values_of tree.pairs) take_value.new) }
+        ensures taken { OnErr result ((vs : List V) × (length vs ≤ length keys.now) × Takes F.step 0 take_value.old vs take_value.new) }
+        ensures shape { IfOk result (λ tree. HasShape (keys_of tree.pairs) tree.nodes) }
+        ensures error { IfErr result (λ e. e ≡ BulkError.Memory) }
+    {
+        let Ok(root) = DefaultNode::build(alloc, keys, take_value) else {
+            return Err(BulkError::Memory);
+        };
+        root.canonical();
+        Ok(AdaptiveRadixTree {
+            root: Some(root),
+            len: keys.len(),
+            longest: longest_of(keys),
+            alloc,
+            of: PhantomData,
+        })
+    }
+}

@@ -1,0 +1,107 @@
+//! Items of a bulk load, read one after the other.
+ghost use Rattle.std.specs.Prelude.{◌≡◌, ◌≤◌, ◌-◌, ◌^◌, ◌++◌, ◌∷◌, [], ℕ, List, length, map, min, IfErr, IfOk, OnOk};
+ghost use Rattle.std.specs.Iterator.{HoldsAlong, IsFinite};
+ghost use Rattle.rart_keys.specs.BulkLists.{WasRead, order_behind};
+ghost use Rattle.rart_keys.specs.SortedMap.{IsAscending, keys_of, values_of};
+ghost use Rattle.rart.specs.BulkLoads.{Reads, ReadsAll, StopsSorted, StopsUnique};
+ghost use Rattle.rart.specs.Steps.{pairs_in};
+
+use crate::bulk::BulkError;
+use crate::tree::MAX_PAIRS;
+use rart_keys::KeyTrait;
+use rart_keys::laws::bulk_lists::one_item_more;
+use std::alloc::Global;
+use std::cmp::Ordering;
+
+/// How the last of the keys compares with `key`; `Less` where there is none.
+fn order_after<K: KeyTrait>(keys: &[K], key: &K) -> Ordering
+    ensures { result ≡ order_behind (map K.bytes keys.now) (K.bytes key.now) }
+{
+    match keys.last() {
+        Some(last) => last.cmp(key),
+        None => Ordering::Less,
+    }
+}
+
+/// Keeps an item, the one at the place `at`: at a key that was read last its value replaces the one
+/// there. Refused as a sorted load is.
+fn keep_last<K: KeyTrait + Drop, V: Drop>(
+    keys: &mut Vec<K>,
+    values: &mut Vec<V>,
+    key: K,
+    value: V,
+    at: usize,
+) -> Result<(), BulkError>
+    requires { length keys.old.items ≤ MAX_PAIRS }
+    ensures few { length keys.new.items ≤ MAX_PAIRS }
+    ensures kept { (es : List (List ℕ × V)) → WasRead es (map K.bytes keys.old.items) values.old.items → OnOk result (WasRead (es ++ (K.bytes key, value) ∷ []) (map K.bytes keys.new.items) values.new.items) }
+    ensures refused { (es : List (List ℕ × V)) → WasRead es (map K.bytes keys.old.items) values.old.items → at ≡ min (length es) (2 ^ 64 - 1) → IfErr result (StopsSorted (es ++ (K.bytes key, value) ∷ [])) }
+{
+    one_item_more::<V>();
+    match order_after(keys, &key) {
+        Ordering::Greater => return Err(BulkError::Unsorted { at }),
+        Ordering::Equal => {
+            values.pop();
+        }
+        Ordering::Less => {
+            if keys.len() == MAX_PAIRS {
+                return Err(BulkError::Full);
+            }
+            let Ok(()) = keys.push(key) else {
+                return Err(BulkError::Memory);
+            };
+        }
+    }
+    let Ok(()) = values.push(value) else {
+        return Err(BulkError::Memory);
+    };
+    Ok(())
+}
+
+/// The keys and values that stay of the items, of equal keys the last. Refused as the sorted load is.
+pub(super) fn read_sorted<K: KeyTrait + Drop, V: Drop, I: IntoIterator<Item = (K, V)>>(
+    alloc: Global,
+    items: I,
+) -> Result<(Vec<K>, Vec<V>), BulkError>
+    requires { (s : I.IntoIter) → I.into_iter_gives items s → I.IntoIter.can_next s × IsFinite (I.IntoIter.remaining s) }
+    ensures few { IfOk result (λ r. length r.0.items ≤ MAX_PAIRS) }
+    ensures read { IfOk result (λ r. ReadsAll I.into_iter_gives I.IntoIter.next_gives items (λ xs. WasRead (pairs_in K.bytes xs) (map K.bytes r.0.items) r.1.items)) }
+    ensures refused { IfErr result (λ error. Reads I.into_iter_gives I.IntoIter.next_gives items (λ xs. StopsSorted (pairs_in K.bytes xs) error)) }
+{
+    let mut keys = Vec::new(alloc);
+    let mut values = Vec::new(alloc);
+    let mut at: usize = 0;
+    for (key, value) in items {
+        if let Err(error) = keep_last(&mut keys, &mut values, key, value, at) {
+            return Err(error);
+        }
+        at = at.saturating_add(1);
+    }
+    Ok((keys, values))
+}
+
+/// The keys and values of items that ascend strictly. Refused as the unique load is.
+pub(super) fn read_unique<K: KeyTrait + Drop, V: Drop, I: IntoIterator<Item = (K, V)>>(
+    alloc: Global,
+    items: I,
+) -> Result<(Vec<K>, Vec<V>), BulkError>
+    requires { (s : I.IntoIter) → I.into_iter_gives items s → I.IntoIter.can_next s × IsFinite (I.IntoIter.remaining s) }
+    ensures few { IfOk result (λ r. length r.0.items ≤ MAX_PAIRS) }
+    ensures read { IfOk result (λ r. ReadsAll I.into_iter_gives I.IntoIter.next_gives items (λ xs. (map K.bytes r.0.items ≡ keys_of (pairs_in K.bytes xs)) × (r.1.items ≡ values_of (pairs_in K.bytes xs)))) }
+    ensures refused { IfErr result (λ error. Reads I.into_iter_gives I.IntoIter.next_gives items (λ xs. StopsUnique (pairs_in K.bytes xs) error)) }
+{
+    let mut keys = Vec::new(alloc);
+    let mut values = Vec::new(alloc);
+    for (key, value) in items {
+        if keys.len() == MAX_PAIRS {
+            return Err(BulkError::Full);
+        }
+        let Ok(()) = keys.push(key) else {
+            return Err(BulkError::Memory);
+        };
+        let Ok(()) = values.push(value) else {
+            return Err(BulkError::Memory);
+        };
+    }
+    Ok((keys, values))
+}

@@ -1,0 +1,13 @@
+use Rattle.rart_keys.proofs.BulkListLemmas.{fault-there, fault-first, fault-none, last_wins-ascends, lookup-last_wins, strict-faultless, strict-stays}
+use Rattle.rart_keys.proofs.laws.bulk_lists.bulk_lists.Goals as goal
+
+pub returns : goal.returns
+returns g c = record {
+  is_fault = fault-there;
+  is_first = fault-first;
+  no_fault = fault-none;
+  ascends = last_wins-ascends;
+  last_values = lookup-last_wins;
+  strict_faultless = strict-faultless;
+  strict_stays = strict-stays;
+}

@@ -1,0 +1,5 @@
+pub mod BuildLemmas
+pub mod OpeningLemmas
+pub mod RunLemmas
+pub mod StretchLemmas
+pub mod TakeLemmas

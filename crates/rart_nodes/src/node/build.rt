@@ -1,0 +1,181 @@
+//! Nodes built bottom up from keys that ascend: each is made once, with the storage that its children
+//! need, and no edit of a tree is made.
+ghost use Rattle.std.specs.Prelude.{◌≡◌, ◌+◌, ◌<◌, ◌≤◌, ◌^◌, List, [], drop, length, nat_eq, take, IfErr, IfOk, OnErr};
+ghost use Rattle.std.specs.List.{common_prefix_len};
+ghost use Rattle.rart_keys.specs.KeyBytes.{IsWithin};
+ghost use Rattle.rart_keys.specs.SortedMap.{IsAscending, keys_of, values_of};
+ghost use Rattle.rart_nodes.specs.build.Stretches.{AreWithin, GoOn, IsStretch, first_byte, first_run, rests};
+ghost use Rattle.rart_nodes.specs.build.ValueCalls.{CanTake, Takes};
+ghost use Rattle.rart_nodes.specs.shapes.Shape.{capacity_of, next_bytes};
+ghost use Rattle.rart_nodes.specs.shapes.ShapeRecords.{keys_in, lone_keys};
+ghost use Rattle.rart_nodes.specs.storages.Stored.{stored, width_of};
+ghost use Rattle.rart_nodes.specs.tries.Trie.{IsCanonical, pairs_of};
+
+use crate::node::DefaultNode;
+use crate::node::storage::Storage;
+use rart_keys::Partial;
+use rart_parts::TreeError;
+use std::alloc::Global;
+
+/// The byte of the first key behind `depth`, and how many keys from the first on have it there. Asks
+/// that all go on there, and ascend. Passes over long groups by leaps.
+fn first_group(keys: &[&[u8]], depth: usize) -> (u8, usize)
+    requires some { 0 < length keys.now }
+    requires go_on { GoOn (rests depth keys.now) }
+    requires ascending { IsAscending (lone_keys (rests depth keys.now)) }
+    ensures byte { result.0 ≡ first_byte (rests depth keys.now) }
+    ensures run { result.1 ≡ first_run (rests depth keys.now) }
+    ensures some { 0 < result.1 }
+    ensures within { result.1 ≤ length keys.now }
+{
+    let byte = keys[0][depth];
+    // the last place where the byte was seen, and a later one
+    let mut inside = 0;
+    let mut end = 1;
+    while end < keys.len() && keys[end][depth] == byte {
+        inside = end;
+        end = end.saturating_mul(2);
+    }
+    let mut end = end.min(keys.len());
+    while inside + 1 < end {
+        let middle = inside + (end - inside) / 2;
+        if keys[middle][depth] == byte {
+            inside = middle;
+        } else {
+            end = middle;
+        }
+    }
+    (byte, end)
+}
+
+/// By how many bytes the keys go on behind `depth`. Asks that all go on there, and ascend.
+fn count_branches(keys: &[&[u8]], depth: usize) -> usize
+    requires go_on { GoOn (rests depth keys.now) }
+    requires ascending { IsAscending (lone_keys (rests depth keys.now)) }
+    ensures { result ≡ length (next_bytes (rests depth keys.now) []) }
+{
+    let mut count = 0;
+    let mut rest = keys;
+    while !rest.is_empty() {
+        let (_, end) = first_group(rest, depth);
+        rest = &rest[end..];
+        count += 1;
+    }
+    count
+}
+
+/// The part that two keys share behind `depth`.
+fn shared_part<P: Partial>(first: &[u8], last: &[u8], depth: usize) -> P
+    requires first { depth ≤ length first.now }
+    requires last { depth ≤ length last.now }
+    requires within { IsWithin P.MAXIMUM_SIZE (length first.now) }
+    ensures part { P.bytes result ≡ take (common_prefix_len nat_eq (drop depth first.now) (drop depth last.now)) (drop depth first.now) }
+    ensures reach { depth + length (P.bytes result) ≤ length first.now }
+    ensures fits { depth + length (P.bytes result) < 2 ^ 64 }
+{
+    let part = P::from_slice(&first[depth..]);
+    let shared = part.prefix_length_slice(&last[depth..]);
+    part.partial_before(shared)
+}
+
+/// What is left of a key behind `depth`.
+fn rest_of<P: Partial>(key: &[u8], depth: usize) -> P
+    requires reach { depth ≤ length key.now }
+    requires within { IsWithin P.MAXIMUM_SIZE (length key.now) }
+    ensures { P.bytes result ≡ drop depth key.now }
+{
+    P::from_slice(&key[depth..])
+}
+
+impl<N> Storage<N> {
+    /// Storage without a child, of the kind for so many; refused where memory is.
+    fn for_children(alloc: Global, count: usize) -> Result<Self, TreeError>
+        ensures stored { IfOk result (λ s. stored s ≡ []) }
+        ensures width { IfOk result (λ s. width_of s ≡ capacity_of count) }
+        ensures error { IfErr result (λ e. e ≡ TreeError.Memory) }
+    {
+        if count == 0 {
+            Ok(Storage::empty())
+        } else if count <= 4 {
+            Storage::new_4(alloc)
+        } else if count <= 16 {
+            Storage::new_16(alloc)
+        } else if count <= 48 {
+            Storage::new_48(alloc)
+        } else {
+            Storage::new_256(alloc)
+        }
+    }
+}
+
+impl<P: Partial, V: Drop> DefaultNode<P, V> {
+    /// The root of a tree with these keys, some, that ascend and are within the maximum. The value of
+    /// each is taken once, in their order, as `take_value` at its place.
+    ///
+    /// Refused with `Memory` alone: then a beginning of the values was taken, and dropped. Asks for
+    /// memory once for each inner node, and for nothing else.
+    pub fn build<F: FnMut(usize) -> V>(
+        alloc: Global,
+        keys: &[&[u8]],
+        take_value: &mut F,
+    ) -> Result<Self, TreeError>
+        requires some { 0 < length keys.now }
+        requires within { AreWithin P.MAXIMUM_SIZE (keys_in keys.now) }
+        requires ascending { IsAscending (lone_keys (keys_in keys.now)) }
+        requires callable { CanTake F.pre F.step 0 (length keys.now) take_value.old }
+        ensures canonical { IfOk result IsCanonical }
+        ensures keys { IfOk result (λ t. keys_of (pairs_of t) ≡ keys_in keys.now) }
+        ensures values { IfOk result (λ t. Takes F.step 0 take_value.old (values_of (pairs_of t)) take_value.new) }
+        ensures taken { OnErr result ((vs : List V) × (length vs ≤ length keys.now) × Takes F.step 0 take_value.old vs take_value.new) }
+        ensures error { IfErr result (λ e. e ≡ TreeError.Memory) }
+    {
+        DefaultNode::build_below(alloc, keys, 0, 0, take_value)
+    }
+
+    /// The node of a stretch of keys that ascend and agree up to `depth`, the first of which has the
+    /// place `from` in the whole list. Otherwise as `build`.
+    fn build_below<F: FnMut(usize) -> V>(
+        alloc: Global,
+        keys: &[&[u8]],
+        depth: usize,
+        from: usize,
+        take_value: &mut F,
+    ) -> Result<Self, TreeError>
+        requires stretch { IsStretch P.MAXIMUM_SIZE depth keys.now }
+        requires fits { from + length keys.now < 2 ^ 64 }
+        requires callable { CanTake F.pre F.step from (length keys.now) take_value.old }
+        ensures canonical { IfOk result IsCanonical }
+        ensures keys { IfOk result (λ t. keys_of (pairs_of t) ≡ rests depth keys.now) }
+        ensures values { IfOk result (λ t. Takes F.step from take_value.old (values_of (pairs_of t)) take_value.new) }
+        ensures taken { OnErr result ((vs : List V) × (length vs ≤ length keys.now) × Takes F.step from take_value.old vs take_value.new) }
+        ensures error { IfErr result (λ e. e ≡ TreeError.Memory) }
+    {
+        if keys.len() == 1 {
+            let prefix = rest_of(keys[0], depth);
+            return Ok(DefaultNode::new_leaf(prefix, take_value(from)));
+        }
+        let prefix: P = shared_part(keys[0], keys[keys.len() - 1], depth);
+        let below = depth + prefix.len();
+        let own = usize::from(keys[0].len() == below);
+        let mut rest = &keys[own..];
+        let mut storage = Storage::for_children(alloc, count_branches(rest, below))?;
+        let value = if own == 1 {
+            Some(take_value(from))
+        } else {
+            None
+        };
+        let mut at = from + own;
+        while !rest.is_empty() {
+            let (byte, end) = first_group(rest, below);
+            let child = DefaultNode::build_below(alloc, &rest[..end], below, at, take_value)?;
+            storage.add_within(byte, child);
+            rest = &rest[end..];
+            at += end;
+        }
+        Ok(DefaultNode {
+            prefix,
+            value,
+            storage,
+        })
+    }
+}
