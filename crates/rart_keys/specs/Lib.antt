@@ -7,5 +7,6 @@ pub mod Filters
 pub mod KeyBytes
 pub mod LittleEndianWord
 pub mod NumberBytes
+pub mod Ranges
 pub mod SortedMap
 pub mod TailKeyBytes

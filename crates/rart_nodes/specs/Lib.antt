@@ -1,4 +1,5 @@
 pub mod edits
+pub mod ranges
 pub mod shapes
 pub mod statistics
 pub mod storages

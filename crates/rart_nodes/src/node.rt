@@ -20,6 +20,7 @@ mod lend;
 mod look_up;
 mod made;
 mod matching;
+pub mod range;
 mod remove;
 mod rest;
 pub mod seen;
