@@ -1,5 +1,5 @@
 -- What comes behind a start, at a node and below it.
-use Rattle.std.proofs.Common.{◌≡◌, ℕ, suc, zero, ◌+◌, ◌<◌, ◌≤◌, ◌⊎◌, ⊎_elim, Bool, true, false, cond, List, [], ◌∷◌, ◌++◌, length, reverse, Option, Some, None, refl, sym, ap, ◌∙◌, arith, Less, Equal, Greater, if◌then◌else◌, option_map}
+use Rattle.std.proofs.Common.{◌≡◌, ℕ, suc, ◌<◌, ⊎_elim, Bool, true, false, List, [], ◌∷◌, ◌++◌, reverse, Option, Some, None, refl, sym, ap, ◌∙◌, arith, Less, Greater, if◌then◌else◌}
 use Rattle.std.specs.Prelude.{slice_get}
 use Rattle.std.specs.Ordering.{nat_cmp}
 use Rattle.std.specs.Cmp.Lexicographic.{slice_cmp}
@@ -10,7 +10,7 @@ use Rattle.std.specs.declared.ops.Bound.{Bound}
 use Rattle.rart_keys.specs.ByteStrings.{strip_prefix}
 use Rattle.rart_keys.specs.Ranges.{between, bound_bytes, is_from, is_inclusive, is_since, pairs_since, up_to}
 use Rattle.rart_keys.specs.SortedMap.{IsAscending}
-use Rattle.rart_keys.proofs.ByteOrder.{order, is_less, is_equal, is_greater, eq-yes, eq-no}
+use Rattle.rart_keys.proofs.ByteOrder.{order, is_less, is_greater, eq-yes, eq-no}
 use Rattle.rart_keys.proofs.RangeLemmas.{cmp-apart, cmp-past, since-bytes, up_to-since}
 use Rattle.rart_nodes.specs.ranges.Starts.{children_above, stops_since}
 use Rattle.rart_nodes.specs.tries.CanonicalTest.{is_canonical}

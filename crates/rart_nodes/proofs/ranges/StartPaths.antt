@@ -1,19 +1,17 @@
 -- The levels that a walk keeps on its way down to a start.
-use Rattle.std.proofs.Common.{◌≡◌, ℕ, suc, ◌+◌, ◌<◌, ◌≤◌, ⊎_elim, Bool, true, false, cond, eqb, ltb, List, [], ◌∷◌, ◌++◌, length, length-append, take, reverse, Option, Some, None, refl, sym, ap, ◌∙◌, arith}
+use Rattle.std.proofs.Common.{◌≡◌, ℕ, suc, ◌+◌, ◌<◌, ◌≤◌, ⊎_elim, true, false, cond, eqb, ltb, List, [], ◌∷◌, ◌++◌, length, length-append, reverse, Option, Some, None, refl, sym, ap, ◌∙◌, arith}
 use Rattle.std.proofs.lemmas.List.{length-reverse, take_all}
-use Rattle.std.proofs.lemmas.Bool.{lt-ltb, le-ltb, cases_lt}
 use Rattle.rart_keys.specs.SortedMap.{longest_key}
 use Rattle.rart_parts.specs.Entries.{entries_above}
 use Rattle.rart_nodes.specs.ranges.Starts.{children_above}
 use Rattle.rart_nodes.specs.tries.CanonicalTest.{is_canonical}
-use Rattle.rart_nodes.specs.tries.Tree.{tree_pairs}
 use Rattle.rart_nodes.specs.tries.Trie.{Trie, node, Children, no_children, child, children_in, children_pairs, pairs_of, prefix_of, child_of, child_in, AreCanonical}
 use Rattle.rart_nodes.specs.tries.TrieCode.{as_children}
-use Rattle.rart_nodes.specs.walks.Tour.{Pieces, Grown, IsShort, Level, IsTour, AreStations, behind_pieces, children_stops, stops_below}
+use Rattle.rart_nodes.specs.walks.Tour.{Pieces, Grown, IsShort, Level, IsTour, behind_pieces, children_stops, stops_below}
 use Rattle.rart_nodes.proofs.tries.CanonicalTests.{IsCanonical-test, longest_key-append}
 use Rattle.rart_nodes.proofs.walks.PartLemmas.{child-deep}
 use Rattle.rart_nodes.proofs.walks.SeenLemmas.{child-canonical, longest-of, pick}
-use Rattle.rart_nodes.proofs.walks.TourLemmas.{below-canonical, deepest, deeper, longest-below, prefix-short, starts-long, stops_below-same}
+use Rattle.rart_nodes.proofs.walks.TourLemmas.{below-canonical, deepest, deeper, longest-below, starts-long, stops_below-same}
 
 -- the children of a storage above a byte are those of the trie
 pub as_children-above : {V : Type 0} (b : ℕ) (es : List (ℕ × Trie V)) → as_children (entries_above b es) ≡ children_above b (as_children es)

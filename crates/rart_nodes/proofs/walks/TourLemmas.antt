@@ -1,12 +1,11 @@
 -- What a walk over a tree keeps as it goes on to a node, or leaves a level.
-use Rattle.std.proofs.Common.{◌≡◌, ◌≢◌, ℕ, zero, suc, ◌+◌, ◌*◌, ◌<◌, ◌≤◌, ◌⊎◌, ⊎_elim, inl, inr, true, List, [], ◌∷◌, ◌++◌, length, take, reverse, Option, Some, None, refl, sym, ap, ◌∙◌, arith, length-append, slice_index_or, slice_set}
-use Rattle.std.specs.Prelude.{nat_le}
+use Rattle.std.proofs.Common.{◌≡◌, ◌≢◌, ℕ, zero, suc, ◌+◌, ◌*◌, ◌<◌, ◌≤◌, ⊎_elim, true, List, [], ◌∷◌, ◌++◌, length, take, reverse, Option, Some, None, refl, sym, ap, ◌∙◌, arith, length-append, slice_index_or, slice_set}
 use Rattle.std.proofs.lemmas.Bool.Decides.{nat_tests}
 use Rattle.std.proofs.lemmas.List.{append-nil, append_assoc, length-reverse, length-take, map-append, reverse-append, take-append-le, take_all}
 use Rattle.rart_nodes.specs.tries.CanonicalTest.{is_canonical}
 use Rattle.rart_keys.specs.SortedMap.{longest_key}
 use Rattle.rart_nodes.specs.shapes.Shape.{capacity_of}
-use Rattle.rart_nodes.specs.walks.Tour.{Pieces, Grown, IsShort, Level, HasRoom, behind_pieces, value_at, stops_of, children_stops, tree_stops, stops_below, nodes_below, AreStations, IsTour}
+use Rattle.rart_nodes.specs.walks.Tour.{Pieces, Grown, IsShort, Level, HasRoom, behind_pieces, value_at, stops_of, children_stops, stops_below, nodes_below, AreStations, IsTour}
 use Rattle.rart_nodes.specs.walks.TourSteps.{DeepestLeft, DeepestStep, GoesOn}
 use Rattle.rart_nodes.specs.tries.Trie.{Trie, node, Children, no_children, child, children_in, children_pairs, pairs_of, prefix_of, value_of, with_prefix, own_pair, StartsWith, IsCanonical, AreCanonical, capacity_in, edges_of}
 use Rattle.rart_nodes.specs.tries.Tree.{tree_pairs}

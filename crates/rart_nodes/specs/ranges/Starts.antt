@@ -3,7 +3,7 @@ use Rattle.std.specs.Prelude.{ℕ, ◌+◌, Bool, cond, ltb, List, [], ◌∷◌
 use Rattle.std.specs.List.{filter}
 use Rattle.std.specs.declared.ops.Bound.{Bound}
 use Rattle.rart_keys.specs.Ranges.{is_from, is_since}
-use Rattle.rart_nodes.specs.tries.Trie.{Trie, Children, no_children, child}
+use Rattle.rart_nodes.specs.tries.Trie.{Children, no_children, child}
 use Rattle.rart_nodes.specs.walks.Tour.{Pieces, joined}
 
 -- the children whose byte is above b

@@ -1,6 +1,6 @@
 use Rattle.std.proofs.Common.{ap, ◌∙◌}
 use Rattle.std.specs.Option.{option_copied}
-use Rattle.rart_keys.specs.Ranges.{bound_bytes, bound_in, is_inclusive, pairs_since, up_to}
+use Rattle.rart_keys.specs.Ranges.{bound_in, pairs_since, up_to}
 use Rattle.rart_nodes.specs.tries.Tree.{tree_pairs}
 use Rattle.rart_nodes.proofs.ranges.StartLemmas.{since-between}
 use Rattle.rart_nodes.proofs.tries.CanonicalTests.{IsCanonicalTree-test}

@@ -1,11 +1,10 @@
-use Rattle.std.proofs.Common.{◌≡◌, ◌≢◌, ◌≤◌, ◌<◌, ◌+◌, ◌++◌, ◌∙◌, ℕ, Some, None, Greater, arith, length, ap, sym, refl, option_map, reverse}
+use Rattle.std.proofs.Common.{◌≡◌, ◌<◌, ◌++◌, ◌∙◌, Some, None, Greater, arith, length, ap, sym, refl, option_map, reverse}
 use Rattle.std.specs.Cmp.Lexicographic.{slice_cmp}
 use Rattle.std.specs.Ordering.{nat_cmp}
 use Rattle.std.specs.Option.{option_copied}
 use Rattle.rart_keys.specs.ByteStrings.{strip_prefix}
-use Rattle.rart_keys.specs.SortedMap.{longest_key}
 use Rattle.rart_keys.proofs.RangeLemmas.{lower-apart}
-use Rattle.rart_nodes.specs.tries.Trie.{pairs_of, prefix_of, value_of}
+use Rattle.rart_nodes.specs.tries.Trie.{prefix_of, value_of}
 use Rattle.rart_nodes.specs.walks.ProbeCount.{tree_entered}
 use Rattle.rart_nodes.specs.walks.Tour.{stops_below, tree_count}
 use Rattle.rart_nodes.proofs.ranges.StartLemmas.{ahead-ended, ahead-higher, ahead-lower, ahead-on, ahead-start, value_if}
