@@ -1,3 +1,4 @@
+pub mod CountLemmas
 pub mod EditLemmas
 pub mod PresentLemmas
 pub mod StepLemmas

@@ -1,5 +1,7 @@
 -- What calls of a tree reply, and what they leave of its map.
 use Rattle.std.specs.Prelude.{◌≡◌, ◌≢◌, ℕ, List, [], ◌∷◌, length, map, ◌==◌, Some, None, Ok, Err}
+use Rattle.std.specs.Option.{option_map}
+use Rattle.rart_keys.specs.Filters.{below, longest_match, matches}
 use Rattle.rart_keys.specs.SortedMap.{keys_of, lookup, values_of}
 use Rattle.rart_nodes.specs.shapes.Shape.{HasShape, NodeRecord}
 use Rattle.rart_nodes.specs.statistics.Statistics.{statistics_in, statistics_of}
@@ -46,6 +48,11 @@ IsStep bytes m (call.TryUpdate key w a) reply.Failed n = IsTryUpdate (bytes key)
 IsStep bytes m (call.TryUpdate key w a) (reply.Returned error back) n = IsTryUpdate (bytes key) a (left_by w (lookup (bytes key) m)) m (Err (try_update.Insert (record { error = error; value = back }))) n
 IsStep bytes m (call.TryUpdate key w a) reply.NoRemove n = IsTryUpdate (bytes key) a (left_by w (lookup (bytes key) m)) m (Err try_update.Remove) n
 IsStep bytes m (call.TryUpdate key w a) reply.NoClone n = (lookup (bytes key) m ≢ None) × (n ≡ m)
+IsStep bytes m (call.Longest probe) (reply.Pair found) n = (option_map (λ p. (bytes p.0, p.1)) found ≡ longest_match (bytes probe) m) × (n ≡ m)
+IsStep bytes m (call.Matches probe) (reply.Pairs pairs) n = (pairs_in bytes pairs.items ≡ matches (bytes probe) m) × (n ≡ m)
+IsStep bytes m (call.Matches probe) (reply.Refused error) n = (error ≡ Memory) × (matches (bytes probe) m ≢ []) × (n ≡ m)
+IsStep bytes m (call.Prefix prefix) (reply.Pairs pairs) n = (pairs_in bytes pairs.items ≡ below (bytes prefix) m) × (n ≡ m)
+IsStep bytes m (call.Prefix prefix) (reply.Refused error) n = (error ≡ Memory) × (m ≢ []) × (n ≡ m)
 IsStep bytes m call.Iter (reply.Pairs pairs) n = (pairs_in bytes pairs.items ≡ m) × (n ≡ m)
 IsStep bytes m call.Iter (reply.Refused error) n = (error ≡ Memory) × (m ≢ []) × (n ≡ m)
 IsStep bytes m call.Values (reply.Values values) n = (values.items ≡ values_of m) × (n ≡ m)

@@ -15,6 +15,8 @@ use rart_nodes::Refused;
 use rart_nodes::iter::{Iter, ValuesIter};
 use rart_parts::TreeError;
 
+pub mod counts;
+
 /// Trees with equal keys have equal nodes, whatever their key types, their values and the calls that
 /// made them.
 pub fn equal_keys_equal_nodes<K: KeyTrait, V, L: KeyTrait, W>(

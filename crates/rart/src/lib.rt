@@ -12,6 +12,8 @@ pub mod range;
 pub mod script;
 pub mod stats;
 pub mod tree;
+mod views;
+mod visits;
 
 pub use crate::iter::{Iter, PrefixMatchIter, SeenIter, ValuesIter};
 pub use crate::range::{Range, SeenRange};
@@ -21,5 +23,8 @@ pub use crate::tree::guarded::{NotInserted, TryInsertError};
 pub use crate::tree::update::TryUpdateError;
 pub use rart_keys::{ArrPartial, ArrayKey, KeyTrait, Partial, keys, partials};
 pub use rart_nodes::node::{VisitControl, VisitError};
-pub use rart_nodes::{Count, Refused, Seen, Slot, SlotUpdate, UpdateError, Visits, node};
+pub use rart_nodes::{
+    Count, LendingKeyBytes, LendingKeyView, Refused, Seen, Slot, SlotUpdate, UpdateError, Visits,
+    node,
+};
 pub use rart_parts::{TreeError, mapping, utils};

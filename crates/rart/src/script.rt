@@ -16,9 +16,11 @@ use rart_parts::TreeError;
 use std::alloc::Global;
 
 mod call;
+mod probe;
 mod reply;
 
 pub use self::call::Call;
+use self::probe::{reply_to_longest, reply_to_matches, reply_to_prefix};
 pub use self::reply::Reply;
 
 /// Makes one call. A refused call leaves the tree as it was, and says why: `Returned` is a refused
@@ -40,6 +42,9 @@ pub fn step<K: KeyTrait + Drop, V: Copy>(
         Call::Delete(key) => reply_to_delete(tree, key),
         Call::Update(key, written, answer) => reply_to_update(tree, key, written, answer),
         Call::TryUpdate(key, written, answer) => reply_to_try_update(tree, key, written, answer),
+        Call::Longest(key) => reply_to_longest(tree, key),
+        Call::Matches(key) => reply_to_matches(alloc, tree, key),
+        Call::Prefix(key) => reply_to_prefix(alloc, tree, key),
         Call::Iter => reply_to_iter(alloc, tree),
         Call::Values => reply_to_values(alloc, tree),
         Call::Len => Reply::Len(tree.len()),

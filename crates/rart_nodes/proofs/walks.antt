@@ -1,5 +1,9 @@
+pub mod CutLemmas
+pub mod FirstBelow
 pub mod MatchLemmas
+pub mod PartCuts
 pub mod PartLemmas
+pub mod PieceLemmas
 pub mod ProbeLemmas
 pub mod SeenLemmas
 pub mod StopLemmas

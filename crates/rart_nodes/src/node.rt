@@ -14,9 +14,12 @@ use std::marker::Model;
 mod below;
 mod children;
 mod control;
+mod fold;
 mod insert;
 pub mod iter;
 mod lend;
+mod lending;
+mod longest_view;
 mod look_up;
 mod made;
 mod matching;
@@ -30,11 +33,13 @@ mod tour;
 mod trail;
 mod tries;
 mod update;
+mod view;
 mod visit;
 
 pub use children::NodeIter;
 pub use control::{VisitControl, VisitError};
 pub use made::Node;
+pub use view::{LendingKeyBytes, LendingKeyView};
 
 /// A node. A child's prefix begins with the byte by which it stands; only the prefix of a root may
 /// be empty.

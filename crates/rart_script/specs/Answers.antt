@@ -1,6 +1,7 @@
 -- What a command prints.
 use Rattle.std.specs.Prelude.{◌≡◌, ℕ, [], ◌∷◌, ◌++◌, List, map, codes, decimal, Option, Some, None}
 use Rattle.std.specs.List.{join_with_byte}
+use Rattle.std.specs.Option.{option_map}
 use Rattle.rart_keys.specs.ArrayKeyBytes.{array_key_bytes}
 use Rattle.rart_keys.specs.declared.keys.array_key.ArrayKey.{ArrayKey}
 use Rattle.rart_nodes.specs.statistics.Statistics.{statistics_in}
@@ -42,10 +43,16 @@ abbrev pub pairs_line : List (List ℕ × ℕ) → List ℕ
 pairs_line [] = codes "empty" ++ 10 ∷ []
 pairs_line (pair ∷ pairs) = join_with_byte 32 (map pair_word (pair ∷ pairs)) ++ 10 ∷ []
 
+-- the line for a pair, where there is one
+abbrev pub found_line : Option (List ℕ × ℕ) → List ℕ
+found_line None = codes "none" ++ 10 ∷ []
+found_line (Some pair) = codes "some " ++ pair_word pair ++ 10 ∷ []
+
 -- the line for a reply. No command of a script gets one of the replies without a line
 abbrev pub reply_line : Reply (ArrayKey KEY_SIZE) ℕ → List ℕ
 reply_line (reply.Value found) = value_line found
 reply_line (reply.Len count) = number_line count
+reply_line (reply.Pair found) = found_line (option_map (λ p. (array_key_bytes p.0, p.1)) found)
 reply_line (reply.Pairs pairs) = pairs_line (pairs_in array_key_bytes pairs.items)
 reply_line (reply.Stats stats) = stats_line (statistics_in stats)
 reply_line (reply.Refused error) = refusal_line error

@@ -19,6 +19,9 @@ call_in bytes (call.Remove key) = call.Remove (bytes key)
 call_in bytes (call.Delete key) = call.Delete (bytes key)
 call_in bytes (call.Update key written answer) = call.Update (bytes key) written answer
 call_in bytes (call.TryUpdate key written answer) = call.TryUpdate (bytes key) written answer
+call_in bytes (call.Longest key) = call.Longest (bytes key)
+call_in bytes (call.Matches key) = call.Matches (bytes key)
+call_in bytes (call.Prefix key) = call.Prefix (bytes key)
 call_in bytes call.Iter = call.Iter
 call_in bytes call.Values = call.Values
 call_in bytes call.Len = call.Len
@@ -51,6 +54,8 @@ call_of name operands =
     if bytes_eq name (codes "insert") then insert_of operands
     else if bytes_eq name (codes "get") then option_map (λ k. call.Get k) (only_key_of operands)
     else if bytes_eq name (codes "remove") then option_map (λ k. call.Remove k) (only_key_of operands)
+    else if bytes_eq name (codes "prefix") then option_map (λ k. call.Prefix k) (only_key_of operands)
+    else if bytes_eq name (codes "longest") then option_map (λ k. call.Longest k) (only_key_of operands)
     else if bytes_eq name (codes "len") then complete_of call.Len operands
     else if bytes_eq name (codes "iter") then complete_of call.Iter operands
     else if bytes_eq name (codes "stats") then complete_of call.Stats operands

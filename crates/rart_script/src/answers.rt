@@ -1,9 +1,10 @@
 //! What a command prints, on a line of its own.
 ghost use Rattle.std.specs.Prelude.{OnOk};
 ghost use Rattle.std.specs.Io.KnownBytes.{Appends};
+ghost use Rattle.std.specs.Option.{option_map};
 ghost use Rattle.rart.specs.Steps.{pairs_in};
 ghost use Rattle.rart_keys.specs.ArrayKeyBytes.{array_key_bytes};
-ghost use Rattle.rart_script.specs.Answers.{pair_word, pairs_line, refusal_line, reply_line, value_line};
+ghost use Rattle.rart_script.specs.Answers.{found_line, pair_word, pairs_line, refusal_line, reply_line, value_line};
 
 use crate::key::Key;
 use crate::statistics::write_statistics;
@@ -19,6 +20,7 @@ pub fn write_reply<W: Write>(output: &mut W, reply: Reply<Key, u64>) -> io::Resu
     match reply {
         Reply::Value(value) => write_value(output, value),
         Reply::Len(count) => writeln!(output, "{count}"),
+        Reply::Pair(found) => write_found(output, found),
         Reply::Pairs(pairs) => write_pairs(output, pairs),
         Reply::Stats(stats) => write_statistics(output, &stats),
         Reply::Refused(error) => write_refusal(output, error),
@@ -66,6 +68,18 @@ fn write_pairs<W: Write>(output: &mut W, pairs: Vec<(Key, u64)>) -> io::Result<(
         write!(output, " ")?;
         write_pair(output, key.as_ref(), value)?;
     }
+    writeln!(output)
+}
+
+/// The pair that was found, where one was.
+fn write_found<W: Write>(output: &mut W, found: Option<(Key, u64)>) -> io::Result<()>
+    ensures { OnOk result (Appends (W.contents output.old) (W.contents output.new) (found_line (option_map (λ p. (array_key_bytes p.0, p.1)) found))) }
+{
+    let Some((key, value)) = found else {
+        return writeln!(output, "none");
+    };
+    write!(output, "some ")?;
+    write_pair(output, key.as_ref(), value)?;
     writeln!(output)
 }
 

@@ -39,6 +39,10 @@ fn parse_call(name: &[u8], operands: &[u8]) -> Option<Call<Key, u64>>
         Some(Call::Get(only_key(operands)?))
     } else if name == b"remove".as_slice() {
         Some(Call::Remove(only_key(operands)?))
+    } else if name == b"prefix".as_slice() {
+        Some(Call::Prefix(only_key(operands)?))
+    } else if name == b"longest".as_slice() {
+        Some(Call::Longest(only_key(operands)?))
     } else if name == b"len".as_slice() {
         complete(Call::Len, operands)
     } else if name == b"iter".as_slice() {

@@ -20,6 +20,12 @@ pub enum Call<K, V> {
     Update(K, Option<V>, SlotUpdate<V>),
     /// The same, by a callback that may fail.
     TryUpdate(K, Option<V>, Result<SlotUpdate<V>, ()>),
+    /// The pair whose key is the longest that begins a probe.
+    Longest(K),
+    /// The pairs whose key begins a probe.
+    Matches(K),
+    /// The pairs whose key begins with a prefix.
+    Prefix(K),
     /// All pairs.
     Iter,
     /// All values.

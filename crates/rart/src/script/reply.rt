@@ -15,7 +15,9 @@ pub enum Reply<K, V> {
     Inserted,
     /// The key is stored: the value that was offered, and the one that stands there.
     Occupied(V, V),
-    /// All pairs, ascending by key.
+    /// One pair, where there is one.
+    Pair(Option<(K, V)>),
+    /// The pairs that were asked for, ascending by key.
     Pairs(Vec<(K, V)>),
     /// All values, ascending by their keys.
     Values(Vec<V>),

@@ -46,7 +46,8 @@ fn pass<'a, P: Partial, V, C>(
     Some((at.child(*byte), passed))
 }
 
-fn beginning(probe: &[u8], depth: usize) -> &[u8]
+/// The probe's first `depth` bytes.
+pub(crate) fn beginning(probe: &[u8], depth: usize) -> &[u8]
     requires { depth ≤ length probe.now }
     ensures { result.now ≡ take depth probe.now }
 {
@@ -91,7 +92,7 @@ impl<'a, K: KeyTrait, V, C: Count> Seen<'a, K, V, C> {
     }
 
     /// The length and the value of the longest key that begins the probe.
-    fn last_match(self, probe: &[u8], counter: &mut C) -> Option<(usize, &'a V)>
+    pub(crate) fn last_match(self, probe: &[u8], counter: &mut C) -> Option<(usize, &'a V)>
         ensures pair { option_map (λ p. (take p.0 probe.now, p.1.now)) result ≡ longest_match probe.now (tree_pairs (option_copied self.entry.root)) }
         ensures within { IfSome result (λ p. p.0 ≤ length probe.now) }
         ensures visits { C.number counter.new ≡ C.number counter.old + probe_count (keys_of (tree_pairs (option_copied self.entry.root))) probe.now }

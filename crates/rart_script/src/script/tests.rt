@@ -61,7 +61,7 @@ type Row<'a> = (&'a [u8], &'a str, &'a str, u8);
 
 const FIRST: &str = "line 1: bad command\n";
 
-const ROWS: [Row<'static>; 47] = [
+const ROWS: [Row<'static>; 58] = [
     (
         b"insert cat 1\ninsert catalog 2\ninsert cat 5\nget cat\nget ca\nlen\n",
         "none\nnone\nsome 1\nsome 5\nnone\n2\n",
@@ -161,6 +161,25 @@ const ROWS: [Row<'static>; 47] = [
         "",
         0,
     ),
+    // Keys below a prefix, and the longest that begins a probe.
+    (
+        b"insert cat 1\ninsert catalog 2\ninsert dog 3\nprefix ca\nprefix catalogue\nlongest catalogue\nlongest do\n",
+        "none\nnone\nnone\ncat=1 catalog=2\nempty\nsome catalog=2\nnone\n",
+        "",
+        0,
+    ),
+    (
+        b"prefix -\nlongest -\nlongest a\ninsert - 0\ninsert a 1\nprefix -\nlongest -\nlongest b\nlongest ab\n",
+        "empty\nnone\nnone\nnone\nnone\n-=0 a=1\nsome -=0\nsome -=0\nsome a=1\n",
+        "",
+        0,
+    ),
+    (
+        b"insert prefix 1\nprefix longest\nlongest prefix\n",
+        "none\nempty\nsome prefix=1\n",
+        "",
+        0,
+    ),
     // A malformed line ends the run.
     (
         b"insert a 1\nfoo\nlen\n",
@@ -176,12 +195,18 @@ const ROWS: [Row<'static>; 47] = [
     (b"LEN", "", FIRST, 2),
     (b"Iter", "", FIRST, 2),
     (b"STATS", "", FIRST, 2),
+    (b"Prefix a", "", FIRST, 2),
+    (b"LONGEST a", "", FIRST, 2),
     // Missing and surplus words.
     (b"insert", "", FIRST, 2),
     (b"insert a", "", FIRST, 2),
     (b"insert a 1 2", "", FIRST, 2),
     (b"get", "", FIRST, 2),
     (b"get a b", "", FIRST, 2),
+    (b"prefix", "", FIRST, 2),
+    (b"prefix a b", "", FIRST, 2),
+    (b"longest", "", FIRST, 2),
+    (b"longest a b", "", FIRST, 2),
     (b"len 1", "", FIRST, 2),
     (b"iter x", "", FIRST, 2),
     (b"stats x", "", FIRST, 2),
@@ -198,6 +223,8 @@ const ROWS: [Row<'static>; 47] = [
     // A key of 33 bytes.
     (b"insert 0123456789abcdef0123456789abcdef0 1", "", FIRST, 2),
     (b"get 0123456789abcdef0123456789abcdef0", "", FIRST, 2),
+    (b"prefix 0123456789abcdef0123456789abcdef0", "", FIRST, 2),
+    (b"longest 0123456789abcdef0123456789abcdef0", "", FIRST, 2),
 ];
 
 #[test]

@@ -1,0 +1,9 @@
+use Rattle.std.proofs.Common.{List, ℕ, IfOk, subst}
+use Rattle.rart_keys.specs.Filters.{longest_match}
+use Rattle.rart_keys.specs.SortedMap.{keys_of}
+use Rattle.rart_nodes.specs.walks.Viewed.{SeesFound}
+use Rattle.rart.proofs.tree.AdaptiveRadixTree.with_longest_prefix_match_view_k.Goals as goal
+
+pub returns-clause-called : goal.returns-clause-called
+returns-clause-called g c =
+    subst (λ (m : List (List ℕ × g.row.V.Denot)). IfOk c.with_longest_prefix_match_view_k.result (SeesFound g.F.FnOnce c.args.f (keys_of m) (longest_match (g.K.KeyTrait.bytes c.args.probe.now) m))) c.seen.ensures.pairs c.with_longest_prefix_match_view_k.ensures.called

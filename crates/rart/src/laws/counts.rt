@@ -1,0 +1,19 @@
+//! Counts by walks with a callback: what a client can prove of them.
+ghost use Rattle.std.specs.Prelude.{◌≡◌, ◌≢◌, [], length, IfErr, IfOk};
+ghost use Rattle.rart_keys.specs.Filters.{below};
+
+use crate::tree::AdaptiveRadixTree;
+use rart_keys::KeyTrait;
+use rart_parts::TreeError;
+
+/// How many keys begin with `prefix`, counted by the fold over their values. Refused only where the fold is.
+pub fn count_below<K: KeyTrait, V>(
+    tree: &AdaptiveRadixTree<K, V>,
+    prefix: &K,
+) -> Result<usize, TreeError>
+    ensures count { IfOk result (λ n. n ≡ length (below (K.bytes prefix.now) tree.now.pairs)) }
+    ensures memory { IfErr result (λ e. (e ≡ TreeError.Memory) × (tree.now.pairs ≢ [])) }
+{
+    let _most = tree.len();
+    tree.prefix_values_fold_k(prefix, 0_usize, |count, _value| count.wrapping_add(1))
+}

@@ -1,0 +1,29 @@
+-- Calls of a callback with a key that is lent in segments.
+use Rattle.std.specs.Prelude.{ℕ, ◌≡◌, Bool, true, false, List, Option, Some, None}
+use Rattle.std.specs.Borrow.{Bor}
+use Rattle.std.specs.Fn.{Mut, Once, Called}
+use Rattle.rart_nodes.specs.walks.Cut.{cut}
+use Rattle.rart_nodes.specs.walks.Tour.{Pieces}
+use Rattle.rart_nodes.specs.walks.TrailParts.{lent_pieces}
+use Rattle.rart_nodes.specs.declared.node.view.LendingKeyView.{LendingKeyView}
+
+-- f was called with a view of the segments of x and with its value, and is then f'
+pub record Viewed {F V : Type 0} (g : Mut F (LendingKeyView × (Bor V × Unit {0})) (Unit {0})) (f : F) (x : Pieces × V) (f' : F) : Type 0 where
+  pub key : LendingKeyView
+  pub shown : Bor V
+  pub key_is : lent_pieces key.segments.now ≡ x.0
+  pub shows : shown.now ≡ x.1
+  pub called : Called g f (key, (shown, tt)) tt f'
+
+-- f was called once, with a view of the segments of x and with its value
+pub record ViewedOnce {F V : Type 0} (g : Once F (LendingKeyView × (Bor V × Unit {0})) (Unit {0})) (f : F) (x : Pieces × V) : Type 0 where
+  pub key : LendingKeyView
+  pub shown : Bor V
+  pub key_is : lent_pieces key.segments.now ≡ x.0
+  pub shows : shown.now ≡ x.1
+  pub called : g.post f (key, (shown, tt)) tt
+
+-- f was called once with the pair that was found, its key cut as s says, and not at all where there is none; and this was told
+abbrev pub SeesFound : {F V : Type 0} → Once F (LendingKeyView × (Bor V × Unit {0})) (Unit {0}) → F → List (List ℕ) → Option (List ℕ × V) → Bool → Type 0
+SeesFound g f s None told = told ≡ false
+SeesFound g f s (Some e) told = (told ≡ true) × ViewedOnce g f (cut s e.0, e.1)

@@ -1,0 +1,54 @@
+//! The longest key that begins a probe, lent in segments to one call.
+ghost use Rattle.std.specs.Prelude.{◌≡◌, ◌≢◌, None, IfErr, IfOk};
+ghost use Rattle.std.specs.Option.{option_copied};
+ghost use Rattle.rart_keys.specs.Filters.{longest_match};
+ghost use Rattle.rart_keys.specs.SortedMap.{keys_of};
+ghost use Rattle.rart_nodes.specs.tries.Tree.{tree_pairs};
+ghost use Rattle.rart_nodes.specs.walks.Viewed.{SeesFound};
+
+use crate::count::Visits;
+use crate::node::matching::beginning;
+use crate::node::seen::Seen;
+use crate::node::trail::SegmentTrail;
+use crate::node::view::LendingKeyView;
+use rart_keys::KeyTrait;
+use rart_parts::TreeError;
+
+impl<'a, K: KeyTrait, V> Seen<'a, K, V, Visits> {
+    fn with_longest_view<F: FnOnce(LendingKeyView<'_, '_>, &V) + Drop>(
+        self,
+        probe: &[u8],
+        f: F,
+    ) -> Result<bool, TreeError>
+        requires callable { F.IsAlwaysCallable f }
+        ensures called { IfOk result (SeesFound F.FnOnce f (keys_of (tree_pairs (option_copied self.entry.root))) (longest_match probe.now (tree_pairs (option_copied self.entry.root)))) }
+        ensures memory { IfErr result (λ e. (e ≡ TreeError.Memory) × (longest_match probe.now (tree_pairs (option_copied self.entry.root)) ≢ None)) }
+    {
+        let mut counter = Visits::new();
+        let Some((depth, _)) = self.last_match(probe, &mut counter) else {
+            return Ok(false);
+        };
+        let key = beginning(probe, depth);
+        let (mut tour, mut trail) = self.tour_below::<SegmentTrail<'a>>(key, &mut counter)?;
+        let Some(value) = tour.advance(&mut trail, &mut counter) else {
+            unreachable!()
+        };
+        f(LendingKeyView::of(trail.segments()), value);
+        Ok(true)
+    }
+
+    /// Calls `f` once with a view of the longest key that begins `probe`, cut at the branch points, and with its value, and answers
+    /// true; where there is none it calls nothing and answers false. Room for the segments is taken before the call, and only
+    /// where there is such a key; refused with `Memory` alone, and then `f` wasn't called.
+    pub fn with_longest_prefix_match_view_k<F: FnOnce(LendingKeyView<'_, '_>, &V) + Drop>(
+        self,
+        probe: &K,
+        f: F,
+    ) -> Result<bool, TreeError>
+        requires callable { F.IsAlwaysCallable f }
+        ensures called { IfOk result (SeesFound F.FnOnce f (keys_of (tree_pairs (option_copied self.entry.root))) (longest_match (K.bytes probe.now) (tree_pairs (option_copied self.entry.root)))) }
+        ensures memory { IfErr result (λ e. (e ≡ TreeError.Memory) × (longest_match (K.bytes probe.now) (tree_pairs (option_copied self.entry.root)) ≢ None)) }
+    {
+        self.with_longest_view(probe.as_ref(), f)
+    }
+}
