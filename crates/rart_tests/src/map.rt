@@ -5,6 +5,7 @@ mod drops;
 mod iterators;
 mod laws;
 mod prefixes;
+mod ranges;
 mod refused_in_turn;
 mod replies;
 mod statistics;
