@@ -16,6 +16,7 @@ use rart_nodes::iter::{Iter, ValuesIter};
 use rart_parts::TreeError;
 
 pub mod counts;
+pub mod probes;
 
 /// Trees with equal keys have equal nodes, whatever their key types, their values and the calls that
 /// made them.

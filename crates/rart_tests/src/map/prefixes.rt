@@ -100,7 +100,7 @@ fn plays(rt: &impl Abort, tree: &Tree, rows: &[Row]) -> Option<usize> {
     None
 }
 
-const THREE: [Pair; 3] = [("", 0), ("a", 1), ("ab", 2)];
+pub(super) const THREE: [Pair; 3] = [("", 0), ("a", 1), ("ab", 2)];
 
 const OF_THREE: [Row; 4] = [
     ("", &[("", 0)], &THREE),
