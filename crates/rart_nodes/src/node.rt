@@ -27,6 +27,7 @@ mod look_up;
 mod made;
 mod matching;
 mod meeting;
+pub mod range;
 mod remove;
 mod rest;
 pub mod seen;

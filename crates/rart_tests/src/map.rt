@@ -7,6 +7,7 @@ mod iterators;
 mod laws;
 mod prefixes;
 mod probes;
+mod ranges;
 mod refused_in_turn;
 mod replies;
 mod statistics;

@@ -28,7 +28,7 @@ pub(super) fn filled(rt: &impl Abort, alloc: Global, pairs: &[Pair]) -> Tree {
     tree
 }
 
-fn is_pair(found: &(Key, &u64), wanted: &Pair) -> bool {
+pub(super) fn is_pair(found: &(Key, &u64), wanted: &Pair) -> bool {
     found.0.as_ref() == wanted.0.as_bytes() && *found.1 == wanted.1
 }
 
