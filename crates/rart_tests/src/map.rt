@@ -11,4 +11,5 @@ mod replies;
 mod statistics;
 mod texts;
 mod updates;
+mod views;
 mod visits;
