@@ -14,5 +14,6 @@ mod statistics;
 mod texts;
 mod updates;
 mod updates_refused;
+mod views;
 mod visits;
 mod words;
