@@ -1,5 +1,8 @@
+pub mod CutLemmas
 pub mod MatchLemmas
+pub mod PartCuts
 pub mod PartLemmas
+pub mod PieceLemmas
 pub mod ProbeLemmas
 pub mod SeenLemmas
 pub mod StopLemmas

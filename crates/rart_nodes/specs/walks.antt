@@ -1,4 +1,5 @@
 pub mod ChildrenCode
+pub mod Cut
 pub mod Matched
 pub mod Matches
 pub mod Part
@@ -8,4 +9,6 @@ pub mod Tour
 pub mod TourSteps
 pub mod TrailParts
 pub mod Tried
+pub mod ViewPieces
+pub mod Viewed
 pub mod Walks

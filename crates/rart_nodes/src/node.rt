@@ -14,11 +14,13 @@ use std::marker::Model;
 mod below;
 mod children;
 mod control;
+mod fold;
 mod fork;
 mod insert;
 mod intersect;
 pub mod iter;
 mod lend;
+mod lending;
 mod look_up;
 mod made;
 mod matching;
@@ -33,11 +35,13 @@ mod trail;
 mod tries;
 mod twins;
 mod update;
+mod view;
 mod visit;
 
 pub use children::NodeIter;
 pub use control::{VisitControl, VisitError};
 pub use made::Node;
+pub use view::{LendingKeyBytes, LendingKeyView};
 
 /// A node. A child's prefix begins with the byte by which it stands; only the prefix of a root may
 /// be empty.

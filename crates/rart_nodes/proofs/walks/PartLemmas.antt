@@ -65,7 +65,7 @@ module _ {V : Type 0} where
   below-apart q p (e ∷ es) s = rw (begins-apart q p e.0 s, below-apart q p es s)
       (elim (begins p q) as (λ z. (if z then (q ++ e.0, e.1) ∷ (if z then with_prefix q es else []) else (if z then with_prefix q es else [])) ≡ (if z then with_prefix q (e ∷ es) else [])) [ true ↦ refl | false ↦ refl ])
 
-  below-nil : (es : List (List ℕ × V)) → below [] es ≡ es
+  pub below-nil : (es : List (List ℕ × V)) → below [] es ≡ es
   below-nil [] = refl
   below-nil (e ∷ es) = ap (λ z. e ∷ z) (below-nil es)
 

@@ -8,3 +8,9 @@ pub record Shown {F V : Type 0} (g : Mut F (Bor V × Unit {0}) (Unit {0})) (f : 
   pub shown : Bor V
   pub shows : shown.now ≡ x
   pub called : Called g f (shown, tt) tt f'
+
+-- f was called with the state of p and the value x, and q is what it then is and what it answered
+pub record Folded {F S V : Type 0} (g : Mut F (S × (Bor V × Unit {0})) S) (p : F × S) (x : V) (q : F × S) : Type 0 where
+  pub shown : Bor V
+  pub shows : shown.now ≡ x
+  pub called : Called g p.0 (p.1, (shown, tt)) q.1 q.0

@@ -1,0 +1,108 @@
+-- The segments of the keys at and below a prefix are their cuts, and can be lent.
+use Rattle.std.proofs.Common.{◌≡◌, ℕ, ◌<◌, ◌≤◌, ◌^◌, ⊎_elim, Bool, true, false, List, [], ◌∷◌, ◌++◌, length, map, refl, sym, ap, ◌∙◌, arith, Option, Some, None, is_some, subst, if◌then◌else◌}
+use Rattle.std.proofs.lemmas.List.{append_assoc, map-append}
+use Rattle.rart_keys.specs.ByteStrings.{strip_prefix, begins}
+use Rattle.rart_keys.specs.Filters.{below}
+use Rattle.rart_keys.specs.SortedMap.{keys_of, longest_key}
+use Rattle.rart_keys.proofs.ByteOrder.{order, is_less, is_equal, is_greater}
+use Rattle.rart_nodes.specs.shapes.Shape.{NodeRecord, record_at}
+use Rattle.rart_nodes.specs.tries.Tree.{tree_pairs, IsCanonicalTree}
+use Rattle.rart_nodes.specs.tries.Trie.{Trie, node, Children, no_children, child, pairs_of}
+use Rattle.rart_nodes.specs.walks.Cut.{with_piece, cut_by, cut, cut_pairs}
+use Rattle.rart_nodes.specs.walks.Part.{found_behind, part_found, part_child, tree_part, part_stops}
+use Rattle.rart_nodes.specs.walks.Tour.{Pieces, Grown, joined, join_all, behind_pieces, value_at, stops_of, children_stops, tree_stops}
+use Rattle.rart_nodes.specs.walks.TrailParts.{one_piece}
+use Rattle.rart_nodes.specs.walks.ViewPieces.{all_have_bytes, AreViews}
+use Rattle.rart_nodes.proofs.walks.CutLemmas.{joined-cut, tree-cut}
+use Rattle.rart_nodes.proofs.walks.PartLemmas.{part-keys}
+use Rattle.rart_nodes.proofs.walks.StopLemmas.{joins-one}
+
+-- no segment is empty
+bytes-piece : (p : List ℕ) (ps : Pieces) → all_have_bytes ps ≡ true → all_have_bytes (with_piece p ps) ≡ true
+bytes-piece [] ps h = h
+bytes-piece (b ∷ p) ps h = h
+
+bytes-cut_by : (f : List ℕ → Option NodeRecord) (p k : List ℕ) → all_have_bytes (cut_by f p k) ≡ true
+bytes-cut_by f p [] = bytes-piece p [] refl
+bytes-cut_by f p (b ∷ k) = elim (is_some (f [])) as (λ z. all_have_bytes (if z then with_piece p (cut_by (λ z. f (b ∷ z)) (b ∷ []) k) else cut_by (λ z. f (b ∷ z)) (p ++ b ∷ []) k) ≡ true) [
+  | true ↦ bytes-piece p (cut_by (λ z. f (b ∷ z)) (b ∷ []) k) (bytes-cut_by (λ z. f (b ∷ z)) (b ∷ []) k)
+  | false ↦ bytes-cut_by (λ z. f (b ∷ z)) (p ++ b ∷ []) k
+]
+
+module _ {V : Type 0} where
+  -- each path is the cut of its key
+  abbrev AreCut : List (List ℕ) → List (Pieces × V) → Type 0
+  AreCut s [] = Unit {0}
+  AreCut s (e ∷ es) = (e.0 ≡ cut s (joined e.0)) × AreCut s es
+
+  are_cut-front : (s : List (List ℕ)) (xs ys : List (Pieces × V)) → AreCut s (xs ++ ys) → AreCut s xs
+  are_cut-front s [] ys h = tt
+  are_cut-front s (x ∷ xs) ys h = (h.0, are_cut-front s xs ys h.1)
+
+  are_cut-back : (s : List (List ℕ)) (xs ys : List (Pieces × V)) → AreCut s (xs ++ ys) → AreCut s ys
+  are_cut-back s [] ys h = h
+  are_cut-back s (x ∷ xs) ys h = are_cut-back s xs ys h.1
+
+  are_cut-pairs : (s : List (List ℕ)) (es : List (List ℕ × V)) → AreCut s (cut_pairs s es)
+  are_cut-pairs s [] = tt
+  are_cut-pairs s (e ∷ es) = (ap (cut s) (sym (joined-cut s e.0)), are_cut-pairs s es)
+
+  from_are_cut : (s : List (List ℕ)) (es : List (Pieces × V)) → AreCut s es → es ≡ cut_pairs s (join_all es)
+  from_are_cut s [] h = refl
+  from_are_cut s (e ∷ es) h = ap (λ z. (z, e.1) ∷ es) h.0 ∙ ap (λ z. (cut s (joined e.0), e.1) ∷ z) (from_are_cut s es h.1)
+
+  behind-nothing : (es : List (Pieces × V)) → behind_pieces [] es ≡ es
+  behind-nothing [] = refl
+  behind-nothing (e ∷ es) = ap (λ z. e ∷ z) (behind-nothing es)
+
+  behind-twice : (q p : Pieces) (es : List (Pieces × V)) → behind_pieces q (behind_pieces p es) ≡ behind_pieces (q ++ p) es
+  behind-twice q p [] = refl
+  behind-twice q p (e ∷ es) = rw (append_assoc q p e.0, behind-twice q p es) refl
+
+  -- behind a node's prefix, without its own value
+  below-own : (s : List (List ℕ)) (g : Grown) (k : Pieces) (q : List ℕ) (v : Option V) (cs : Children V) → AreCut s (behind_pieces k (behind_pieces (g q) (value_at [] v ++ children_stops g cs))) → AreCut s (behind_pieces (k ++ g q) (children_stops g cs))
+  below-own s g k q v cs h = are_cut-back s (behind_pieces (k ++ g q) (value_at [] v)) (behind_pieces (k ++ g q) (children_stops g cs))
+      (subst (AreCut s) (behind-twice k (g q) (value_at [] v ++ children_stops g cs) ∙ map-append (λ e. (k ++ g q ++ e.0, e.1)) (value_at [] v) (children_stops g cs)) h)
+
+  -- what holds of the stops of a tree holds of those of its part
+  mutual
+    part-are_cut : (s : List (List ℕ)) (g : Grown) (k : Pieces) (p : List ℕ) (t : Trie V) → AreCut s (behind_pieces k (stops_of g t)) → AreCut s (part_stops g (part_found g k p t))
+    part-are_cut s g k p (node q v n cs) h = elim (strip_prefix q p) as (λ o. AreCut s (part_stops g (found_behind o (begins p q) (k, node q v n cs) (λ b r. part_child g (k ++ g q) b r cs)))) [
+      | None ↦ elim (begins p q) as (λ z. AreCut s (part_stops g (found_behind None z (k, node q v n cs) (λ b r. part_child g (k ++ g q) b r cs)))) [ true ↦ h | false ↦ tt ]
+      | Some r ↦ elim r as (λ r. AreCut s (part_stops g (found_behind (Some r) (begins p q) (k, node q v n cs) (λ b r. part_child g (k ++ g q) b r cs)))) [
+        | [] ↦ h
+        | b ∷ r ↦ child-are_cut s g (k ++ g q) b (b ∷ r) cs (below-own s g k q v cs h)
+      ]
+    ]
+
+    child-are_cut : (s : List (List ℕ)) (g : Grown) (k : Pieces) (b : ℕ) (p : List ℕ) (cs : Children V) → AreCut s (behind_pieces k (children_stops g cs)) → AreCut s (part_stops g (part_child g k b p cs))
+    child-are_cut s g k b p no_children h = tt
+    child-are_cut s g k b p (child c t cs) h =
+        let both : AreCut s (behind_pieces k (stops_of g t) ++ behind_pieces k (children_stops g cs)) = subst (AreCut s) (map-append (λ e. (k ++ e.0, e.1)) (stops_of g t) (children_stops g cs)) h in
+        ⊎_elim (λ e. rw (is_less b c e) tt)
+        (⊎_elim (λ e. rw (is_equal b c e) (part-are_cut s g k p t (are_cut-front s (behind_pieces k (stops_of g t)) (behind_pieces k (children_stops g cs)) both)))
+        (λ e. rw (is_greater b c e) (child-are_cut s g k b p cs (are_cut-back s (behind_pieces k (stops_of g t)) (behind_pieces k (children_stops g cs)) both)))) (order b c)
+
+  -- the segments at and below the prefix p
+  pub part-cut : (p : List ℕ) (o : Option (Trie V)) → IsCanonicalTree o → part_stops one_piece (tree_part one_piece [] p o) ≡ cut_pairs (keys_of (tree_pairs o)) (below p (tree_pairs o))
+  part-cut p None w = refl
+  part-cut p (Some t) w =
+      let s = keys_of (pairs_of t) in
+      let whole : AreCut s (behind_pieces [] (stops_of one_piece t)) = subst (AreCut s) (sym (behind-nothing (stops_of one_piece t) ∙ tree-cut (Some t) w)) (are_cut-pairs s (pairs_of t)) in
+      from_are_cut s (part_stops one_piece (part_found one_piece [] p t)) (part-are_cut s one_piece [] p t whole)
+      ∙ ap (cut_pairs s) (part-keys one_piece p (Some t) joins-one w)
+
+  longest-below : (p : List ℕ) (es : List (List ℕ × V)) → longest_key (below p es) ≤ longest_key es
+  longest-below p [] = omega arith
+  longest-below p (e ∷ es) = elim (begins p e.0) as (λ z. longest_key (if z then e ∷ below p es else below p es) ≤ longest_key (e ∷ es)) [
+    | true ↦ omega (arith, longest-below p es)
+    | false ↦ omega (arith, longest-below p es)
+  ]
+
+  views-cut : (n : ℕ) (s : List (List ℕ)) (es : List (List ℕ × V)) → longest_key es ≤ n → n < 2 ^ 64 → AreViews (cut_pairs s es)
+  views-cut n s [] l m = tt
+  views-cut n s (e ∷ es) l m = (bytes-cut_by (record_at s) [] e.0, omega (arith, l, ap length (joined-cut s e.0)), views-cut n s es (omega (arith, l)) m)
+
+  -- they can be lent
+  pub part-views : (n : ℕ) (p : List ℕ) (o : Option (Trie V)) → IsCanonicalTree o → longest_key (tree_pairs o) ≤ n → n < 2 ^ 64 → AreViews (part_stops one_piece (tree_part one_piece [] p o))
+  part-views n p o w l m = subst AreViews (sym (part-cut p o w)) (views-cut n (keys_of (tree_pairs o)) (below p (tree_pairs o)) (omega (arith, l, longest-below p (tree_pairs o))) m)

@@ -1,0 +1,18 @@
+-- Keys that are cut into pieces, none of them empty.
+use Rattle.std.specs.Prelude.{ℕ, ◌≡◌, ◌<◌, ◌^◌, Bool, true, false, ◌&&◌, List, [], ◌∷◌, length}
+use Rattle.rart_nodes.specs.walks.Tour.{Pieces, joined}
+
+-- there is a byte
+abbrev pub has_bytes : List ℕ → Bool
+has_bytes [] = false
+has_bytes (x ∷ xs) = true
+
+-- no piece is empty
+abbrev pub all_have_bytes : Pieces → Bool
+all_have_bytes [] = true
+all_have_bytes (p ∷ ps) = has_bytes p && all_have_bytes ps
+
+-- the pieces of each path have bytes, and these can be counted
+abbrev pub AreViews : {V : Type 0} → List (Pieces × V) → Type 0
+AreViews [] = Unit {0}
+AreViews (e ∷ es) = (all_have_bytes e.0 ≡ true) × (length (joined e.0) < 2 ^ 64) × AreViews es

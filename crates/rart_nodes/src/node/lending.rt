@@ -1,0 +1,130 @@
+//! Walks that call a callback with each key lent in segments.
+//!
+//! All room is taken before the first call, and the segments are pushed and popped as the walk goes. A callback that is lent
+//! (`&mut F`) shows the caller what the calls left in it.
+ghost use Rattle.std.specs.Prelude.{◌≡◌, ◌≢◌, ◌≤◌, ◌+◌, ◌*◌, [], length, reverse, vec_capacity, IfErr, OnErr, OnOk};
+ghost use Rattle.std.specs.List.{FoldsTo};
+ghost use Rattle.std.specs.Option.{option_copied};
+ghost use Rattle.rart_keys.specs.Filters.{below};
+ghost use Rattle.rart_keys.specs.SortedMap.{keys_of};
+ghost use Rattle.rart_nodes.specs.tries.Tree.{tree_pairs};
+ghost use Rattle.rart_nodes.specs.walks.Cut.{cut_pairs};
+ghost use Rattle.rart_nodes.specs.walks.ProbeCount.{probe_count};
+ghost use Rattle.rart_nodes.specs.walks.Tour.{IsTour, nodes_below, stops_ahead};
+ghost use Rattle.rart_nodes.specs.walks.TrailParts.{lent_pieces, one_piece};
+ghost use Rattle.rart_nodes.specs.walks.ViewPieces.{AreViews};
+ghost use Rattle.rart_nodes.specs.walks.Viewed.{Viewed};
+
+use crate::count::Count;
+use crate::node::seen::Seen;
+use crate::node::tour::Tour;
+use crate::node::trail::SegmentTrail;
+use crate::node::view::LendingKeyView;
+use rart_keys::{KeyTrait, Partial};
+use rart_parts::TreeError;
+
+fn feed_views<'a, P: Partial, V, C: Count, F: FnMut(LendingKeyView<'_, '_>, &V)>(
+    tour: &mut Tour<'a, P, V, C>,
+    trail: &mut SegmentTrail<'a>,
+    counter: &mut C,
+    f: &mut F,
+)
+    requires callable { F.IsAlwaysCallable f.old }
+    requires path { IsTour tour.old.longest (vec_capacity tour.old.levels) (lent_pieces trail.old.segments.items) (reverse tour.old.levels.items) }
+    requires room { tour.old.longest ≤ vec_capacity trail.old.segments }
+    requires views { AreViews (stops_ahead one_piece (lent_pieces trail.old.segments.items) (option_copied tour.old.first) tour.old.levels.items) }
+    ensures folds { FoldsTo (λ p x q. Viewed F.FnMut p x q) f.old (stops_ahead one_piece (lent_pieces trail.old.segments.items) (option_copied tour.old.first) tour.old.levels.items) f.new }
+    ensures visits { C.number counter.new ≤ C.number counter.old + nodes_below (reverse tour.old.levels.items) }
+{
+    while let Some(value) = tour.advance(trail, counter) {
+        f(LendingKeyView::of(trail.segments()), value);
+    }
+}
+
+impl<'a, K: KeyTrait, V, C: Count> Seen<'a, K, V, C> {
+    fn each_view_below<F: FnMut(LendingKeyView<'_, '_>, &V)>(
+        self,
+        prefix: &[u8],
+        f: &mut F,
+        counter: &mut C,
+    ) -> Result<(), TreeError>
+        requires callable { F.IsAlwaysCallable f.old }
+        ensures calls { OnOk result (FoldsTo (λ p x q. Viewed F.FnMut p x q) f.old (cut_pairs (keys_of (tree_pairs (option_copied self.entry.root))) (below prefix.now (tree_pairs (option_copied self.entry.root)))) f.new) }
+        ensures refused { OnErr result (f.new ≡ f.old) }
+        ensures memory { IfErr result (λ e. (e ≡ TreeError.Memory) × (tree_pairs (option_copied self.entry.root) ≢ [])) }
+        ensures visits { OnOk result (C.number counter.new ≤ C.number counter.old + probe_count (keys_of (tree_pairs (option_copied self.entry.root))) prefix.now + 2 * length (below prefix.now (tree_pairs (option_copied self.entry.root)))) }
+        ensures bound { C.number counter.new ≤ C.number counter.old + length prefix.now + 1 + 2 * length (below prefix.now (tree_pairs (option_copied self.entry.root))) }
+    {
+        let (mut tour, mut trail) = self.tour_below::<SegmentTrail<'a>>(prefix, counter)?;
+        feed_views(&mut tour, &mut trail, counter, f);
+        Ok(())
+    }
+
+    /// Calls `f` with each pair whose key begins with `prefix`, in order, and with a view of its key, cut at the branch points. All
+    /// room is taken before the first call; refused with `Memory` alone, only where the tree isn't empty, and then `f` wasn't
+    /// called. With m calls it visits at most one node more than the prefix has bytes, and 2m; none in an empty tree. `f` is lent,
+    /// so that the caller sees what the calls left in it.
+    pub fn prefix_for_each_view_with_k_counted<F: FnMut(LendingKeyView<'_, '_>, &V)>(
+        self,
+        prefix: &K,
+        f: &mut F,
+        counter: &mut C,
+    ) -> Result<(), TreeError>
+        requires callable { F.IsAlwaysCallable f.old }
+        ensures calls { OnOk result (FoldsTo (λ p x q. Viewed F.FnMut p x q) f.old (cut_pairs (keys_of (tree_pairs (option_copied self.entry.root))) (below (K.bytes prefix.now) (tree_pairs (option_copied self.entry.root)))) f.new) }
+        ensures refused { OnErr result (f.new ≡ f.old) }
+        ensures memory { IfErr result (λ e. (e ≡ TreeError.Memory) × (tree_pairs (option_copied self.entry.root) ≢ [])) }
+        ensures visits { OnOk result (C.number counter.new ≤ C.number counter.old + probe_count (keys_of (tree_pairs (option_copied self.entry.root))) (K.bytes prefix.now) + 2 * length (below (K.bytes prefix.now) (tree_pairs (option_copied self.entry.root)))) }
+        ensures bound { C.number counter.new ≤ C.number counter.old + length (K.bytes prefix.now) + 1 + 2 * length (below (K.bytes prefix.now) (tree_pairs (option_copied self.entry.root))) }
+    {
+        self.each_view_below(prefix.as_ref(), f, counter)
+    }
+
+    /// Calls `f` as `prefix_for_each_view_with_k_counted` does; `f` is gone after the call.
+    pub fn prefix_for_each_view_k_counted<F: FnMut(LendingKeyView<'_, '_>, &V) + Drop>(
+        self,
+        prefix: &K,
+        mut f: F,
+        counter: &mut C,
+    ) -> Result<(), TreeError>
+        requires callable { F.IsAlwaysCallable f }
+        ensures calls { OnOk result ((last : F) × FoldsTo (λ p x q. Viewed F.FnMut p x q) f (cut_pairs (keys_of (tree_pairs (option_copied self.entry.root))) (below (K.bytes prefix.now) (tree_pairs (option_copied self.entry.root)))) last) }
+        ensures memory { IfErr result (λ e. (e ≡ TreeError.Memory) × (tree_pairs (option_copied self.entry.root) ≢ [])) }
+        ensures visits { OnOk result (C.number counter.new ≤ C.number counter.old + probe_count (keys_of (tree_pairs (option_copied self.entry.root))) (K.bytes prefix.now) + 2 * length (below (K.bytes prefix.now) (tree_pairs (option_copied self.entry.root)))) }
+        ensures bound { C.number counter.new ≤ C.number counter.old + length (K.bytes prefix.now) + 1 + 2 * length (below (K.bytes prefix.now) (tree_pairs (option_copied self.entry.root))) }
+    {
+        self.prefix_for_each_view_with_k_counted(prefix, &mut f, counter)
+    }
+
+    /// Calls `f` with each pair, as `prefix_for_each_view_with_k_counted` does with those below a prefix: with n pairs it visits
+    /// at most 2n + 1 nodes, and none in an empty tree.
+    pub fn for_each_view_with_counted<F: FnMut(LendingKeyView<'_, '_>, &V)>(
+        self,
+        f: &mut F,
+        counter: &mut C,
+    ) -> Result<(), TreeError>
+        requires callable { F.IsAlwaysCallable f.old }
+        ensures calls { OnOk result (FoldsTo (λ p x q. Viewed F.FnMut p x q) f.old (cut_pairs (keys_of (tree_pairs (option_copied self.entry.root))) (tree_pairs (option_copied self.entry.root))) f.new) }
+        ensures refused { OnErr result (f.new ≡ f.old) }
+        ensures memory { IfErr result (λ e. (e ≡ TreeError.Memory) × (tree_pairs (option_copied self.entry.root) ≢ [])) }
+        ensures visits { OnOk result (C.number counter.new ≤ C.number counter.old + probe_count (keys_of (tree_pairs (option_copied self.entry.root))) [] + 2 * length (tree_pairs (option_copied self.entry.root))) }
+        ensures bound { C.number counter.new ≤ C.number counter.old + 1 + 2 * length (tree_pairs (option_copied self.entry.root)) }
+    {
+        self.each_view_below(&[], f, counter)
+    }
+
+    /// Calls `f` as `for_each_view_with_counted` does; `f` is gone after the call.
+    pub fn for_each_view_counted<F: FnMut(LendingKeyView<'_, '_>, &V) + Drop>(
+        self,
+        mut f: F,
+        counter: &mut C,
+    ) -> Result<(), TreeError>
+        requires callable { F.IsAlwaysCallable f }
+        ensures calls { OnOk result ((last : F) × FoldsTo (λ p x q. Viewed F.FnMut p x q) f (cut_pairs (keys_of (tree_pairs (option_copied self.entry.root))) (tree_pairs (option_copied self.entry.root))) last) }
+        ensures memory { IfErr result (λ e. (e ≡ TreeError.Memory) × (tree_pairs (option_copied self.entry.root) ≢ [])) }
+        ensures visits { OnOk result (C.number counter.new ≤ C.number counter.old + probe_count (keys_of (tree_pairs (option_copied self.entry.root))) [] + 2 * length (tree_pairs (option_copied self.entry.root))) }
+        ensures bound { C.number counter.new ≤ C.number counter.old + 1 + 2 * length (tree_pairs (option_copied self.entry.root)) }
+    {
+        self.for_each_view_with_counted(&mut f, counter)
+    }
+}
