@@ -16,6 +16,7 @@ impl<K: KeyTrait, V> AdaptiveRadixTree<K, V> {
         ensures { result ≡ length (join self.now.pairs other.now.pairs) }
     {
         self.len();
+        rart_keys::laws::joins::<V, W>();
         self.seen()
             .intersect_count_counted(other.seen(), &mut Visits::new())
     }

@@ -29,6 +29,7 @@ fn filled(rt: &impl Abort, alloc: Global, pairs: &[Pair]) -> Tree {
 }
 
 // What callbacks were given so far: how many, and whether all of it was wanted.
+#[derive(Drop)]
 struct Given<'a> {
     wanted: &'a [Triple],
     swapped: bool,
@@ -156,11 +157,7 @@ const ROWS: [Row; 9] = [
         &[("abcd", 2, 4)],
     ),
     (&[("a", 1)], &[("b", 2)], &[]),
-    (
-        &WORDS,
-        &OTHER_WORDS,
-        &[("abc\0", 2, 20), ("dog\0", 3, 30)],
-    ),
+    (&WORDS, &OTHER_WORDS, &[("abc\0", 2, 20), ("dog\0", 3, 30)]),
     (
         &WORDS,
         &WORDS,
@@ -245,7 +242,11 @@ fn refusals(alloc: Global, left: &Tree, right: &Tree, wanted: &[Triple]) -> Opti
         refuse(alloc, at);
         let given = gives(left, right, wanted, false);
         if !was_refused(alloc) {
-            return if given == Some(true) { Some(at - 1) } else { None };
+            return if given == Some(true) {
+                Some(at - 1)
+            } else {
+                None
+            };
         }
         if given.is_some() {
             return None;
