@@ -39,6 +39,7 @@ mod twins;
 mod update;
 mod view;
 mod visit;
+mod way;
 
 pub use children::NodeIter;
 pub use control::{VisitControl, VisitError};

@@ -5,11 +5,12 @@ ghost use Rattle.rart_keys.specs.SortedMap.{count_of, longest_key};
 ghost use Rattle.rart_nodes.specs.joins.Lockstep.{meet};
 ghost use Rattle.rart_nodes.specs.joins.SharedEdges.{more_visits};
 ghost use Rattle.rart_nodes.specs.joins.Twins.{IsFork, IsParted, twins_right, visits_all};
+ghost use Rattle.rart_nodes.specs.joins.Ways.{WayGrown, WayRoom};
 ghost use Rattle.rart_nodes.specs.tries.Trie.{child_in, children_in, pairs_of, prefix_of};
 
 use crate::count::Count;
-use crate::node::meeting::Meeting;
 use crate::node::seen::Entered;
+use crate::node::way::Way;
 use rart_keys::{Partial, common_prefix_length};
 
 /// The bytes with which both begin, and what each has behind them.
@@ -48,16 +49,16 @@ fn enter_behind<'a, P: Partial, V, C: Count>(
 }
 
 /// Goes on from two nodes just visited to the next two whose prefixes end together: where one prefix
-/// is longer, on inside it with the other node's child, which is visited alone. The trail goes along.
+/// is longer, on inside it with the other node's child, which is visited alone. The way goes along.
 /// `None` where the two part before, or there is no such child.
-pub(crate) fn next_fork<'a, 'b, P: Partial, V, W, C: Count, F, T: Meeting<V, W, F>>(
+pub(crate) fn next_fork<'a, 'b, P: Partial, V, W, C: Count>(
     left: Entered<'a, P, V, C>,
     right: Entered<'b, P, W, C>,
-    trail: &mut T,
+    way: &mut Way<'a>,
     counter: &mut C,
 ) -> Option<(Entered<'a, P, V, C>, Entered<'b, P, W, C>)>
-    requires { T.room trail.old (longest_key (pairs_of left.node.now)) }
-    ensures way { (p : List ℕ) × T.grown trail.old p trail.new × MatchOption result (meet left.entry.node.now right.entry.node.now ≡ []) (λ e. IsFork left.entry.node.now right.entry.node.now p e.0.node.now e.1.node.now) }
+    requires { WayRoom way.old (longest_key (pairs_of left.node.now)) }
+    ensures way { (p : List ℕ) × WayGrown way.old p way.new × MatchOption result (meet left.entry.node.now right.entry.node.now ≡ []) (λ e. IsFork left.entry.node.now right.entry.node.now p e.0.node.now e.1.node.now) }
     ensures visits { MatchOption result
         (C.number counter.new ≡ C.number counter.old + more_visits left.entry.node.now right.entry.node.now)
         (λ e. C.number counter.new + visits_all (twins_right e.0.node.now (children_in e.1.node.now)) ≡ C.number counter.old + more_visits left.entry.node.now right.entry.node.now) }
@@ -68,7 +69,7 @@ pub(crate) fn next_fork<'a, 'b, P: Partial, V, W, C: Count, F, T: Meeting<V, W, 
     let mut right_rest = right.prefix().to_slice();
     loop {
         let (shared, left_on, right_on) = part(left_rest, right_rest);
-        trail.grow(shared);
+        way.grow(shared);
         match next_byte(left_on) {
             None => {
                 let Some((byte, _, behind)) = next_byte(right_on) else {
@@ -77,7 +78,7 @@ pub(crate) fn next_fork<'a, 'b, P: Partial, V, W, C: Count, F, T: Meeting<V, W, 
                 let Some((child, edge, rest)) = enter_behind(left, byte, counter) else {
                     return None;
                 };
-                trail.grow(edge);
+                way.grow(edge);
                 left = child;
                 left_rest = rest;
                 right_rest = behind;
@@ -89,7 +90,7 @@ pub(crate) fn next_fork<'a, 'b, P: Partial, V, W, C: Count, F, T: Meeting<V, W, 
                 let Some((child, _, rest)) = enter_behind(right, byte, counter) else {
                     return None;
                 };
-                trail.grow(edge);
+                way.grow(edge);
                 right = child;
                 right_rest = rest;
                 left_rest = behind;
