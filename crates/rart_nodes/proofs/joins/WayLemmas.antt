@@ -4,7 +4,7 @@ use Rattle.std.proofs.lemmas.List.{append_assoc, append-nil, length-map, map-app
 use Rattle.std.proofs.Math.Seq.{take-append_seam}
 use Rattle.std.specs.Borrow.{Bor}
 use Rattle.std.specs.Global.{Vec}
-use Rattle.rart_nodes.specs.declared.node.way.Way.TheVariants.{Untold, Bytes, Segments}
+use Rattle.rart_nodes.specs.declared.node.intersect.way.Way.TheVariants.{Untold, Bytes, Segments}
 use Rattle.rart_keys.proofs.ByteOrder.{eq-yes}
 use Rattle.rart_nodes.specs.joins.Ways.{Kept, WayGrown, WayCut, BytesGrown, BytesCut, SegmentsGrown, SegmentsCut, way_mark}
 use Rattle.rart_nodes.specs.joins.Meetings.{joined-append, full-append}

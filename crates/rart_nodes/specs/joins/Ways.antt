@@ -2,8 +2,8 @@
 use Rattle.std.specs.Prelude.{ℕ, ◌≡◌, ◌+◌, ◌≤◌, true, List, [], ◌∷◌, ◌++◌, length, take, vec_capacity}
 use Rattle.std.specs.Borrow.{Bor}
 use Rattle.std.specs.Global.{Vec}
-use Rattle.rart_nodes.specs.declared.node.way.Way.{Way}
-use Rattle.rart_nodes.specs.declared.node.way.Way.TheVariants.{Untold, Bytes, Segments}
+use Rattle.rart_nodes.specs.declared.node.intersect.way.Way.{Way}
+use Rattle.rart_nodes.specs.declared.node.intersect.way.Way.TheVariants.{Untold, Bytes, Segments}
 use Rattle.rart_nodes.specs.walks.Tour.{Pieces, joined}
 use Rattle.rart_nodes.specs.walks.TrailParts.{lent_pieces}
 use Rattle.rart_nodes.specs.walks.ViewPieces.{all_have_bytes}

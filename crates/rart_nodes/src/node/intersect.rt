@@ -12,13 +12,18 @@ ghost use Rattle.rart_nodes.specs.joins.Ways.{WayGrown};
 ghost use Rattle.rart_nodes.specs.tries.Tree.{tree_nodes, tree_pairs};
 ghost use Rattle.rart_nodes.specs.tries.Trie.{pairs_of};
 
+mod fork;
+mod meeting;
+mod twins;
+mod way;
+
 use crate::count::Count;
-use crate::node::fork::next_fork;
-use crate::node::meeting::{ByKeys, ByValues, ByViews, Counted, Meeting, give_both};
+use crate::node::intersect::fork::next_fork;
+use crate::node::intersect::meeting::{ByKeys, ByValues, ByViews, Counted, Meeting, give_both};
+use crate::node::intersect::twins::Twins;
+use crate::node::intersect::way::Way;
 use crate::node::seen::{Entered, Seen};
-use crate::node::twins::Twins;
 use crate::node::view::LendingKeyView;
-use crate::node::way::Way;
 use rart_keys::{KeyTrait, Partial};
 use rart_parts::TreeError;
 
