@@ -1,7 +1,7 @@
 //! Intersections: the keys of two trees, with the values of both.
 
 use crate::play::went_well;
-use crate::refusals::{refuse, was_refused};
+use crate::refusals::{part_ends, refuse, was_refused};
 use rart::{AdaptiveRadixTree, ArrayKey, KeyTrait, LendingKeyView, TreeError};
 use std::alloc::Global;
 use std::process::Abort;
@@ -249,7 +249,7 @@ impl<'a> Cuts<'a> {
     }
 }
 
-fn cuts(left: &Tree, right: &Tree, wanted: &[&[&str]]) -> bool {
+fn is_cut_so(left: &Tree, right: &Tree, wanted: &[&[&str]]) -> bool {
     let mut cuts = Cuts {
         wanted,
         many: 0,
@@ -268,8 +268,8 @@ const CUT_WORDS: [&[&str]; 2] = [&["ab", "c", "\0"], &["dog\0"]];
 fn a_view_is_cut_where_prefixes_part_and_at_the_byte_behind(rt: HostRuntime) {
     let words = filled(&rt, rt.alloc(), &WORDS);
     let others = filled(&rt, rt.alloc(), &OTHER_WORDS);
-    assert!(rt; cuts(&words, &others, &CUT_WORDS));
-    assert!(rt; cuts(&others, &words, &CUT_WORDS));
+    assert!(rt; is_cut_so(&words, &others, &CUT_WORDS));
+    assert!(rt; is_cut_so(&others, &words, &CUT_WORDS));
 }
 
 // A node with a child at each byte from the first on, at every step to below the last.
@@ -355,15 +355,27 @@ fn refusals(
     None
 }
 
+// Whether the walk is refused at most once where both trees have pairs, and else never.
+fn is_swept(alloc: Global, left: &Tree, right: &Tree, wanted: &[Triple], lent: bool) -> bool {
+    let asks = !left.is_empty() && !right.is_empty();
+    let swept = match refusals(alloc, left, right, wanted, lent) {
+        Some(many) => many <= usize::from(asks),
+        None => false,
+    };
+    if asks {
+        part_ends(alloc);
+    }
+    swept
+}
+
 #[test]
 fn keys_and_views_are_refused_in_turn(rt: HostRuntime) {
     for row in &ROWS {
         let left = filled(&rt, rt.alloc(), row.0);
         let right = filled(&rt, rt.alloc(), row.1);
-        let most = usize::from(!row.0.is_empty() && !row.1.is_empty());
-        let given = refusals(rt.alloc(), &left, &right, row.2, false);
-        assert!(rt; given.is_some_and(|many| many <= most));
-        let lent = refusals(rt.alloc(), &left, &right, row.2, true);
-        assert!(rt; lent.is_some_and(|many| many <= most));
+        let keys = is_swept(rt.alloc(), &left, &right, row.2, false);
+        let views = is_swept(rt.alloc(), &left, &right, row.2, true);
+        assert!(rt; keys);
+        assert!(rt; views);
     }
 }
