@@ -2,6 +2,7 @@
 use Rattle.std.specs.Prelude.{◌≡◌, ◌≢◌, ℕ, List, [], ◌∷◌, length, map, ◌==◌, Some, None, Ok, Err}
 use Rattle.std.specs.Option.{option_map}
 use Rattle.rart_keys.specs.Filters.{below, longest_match, matches}
+use Rattle.rart_keys.specs.Ranges.{between, bound_in}
 use Rattle.rart_keys.specs.SortedMap.{keys_of, lookup, values_of}
 use Rattle.rart_nodes.specs.shapes.Shape.{HasShape, NodeRecord}
 use Rattle.rart_nodes.specs.statistics.Statistics.{statistics_in, statistics_of}
@@ -53,6 +54,8 @@ IsStep bytes m (call.Matches probe) (reply.Pairs pairs) n = (pairs_in bytes pair
 IsStep bytes m (call.Matches probe) (reply.Refused error) n = (error ≡ Memory) × (matches (bytes probe) m ≢ []) × (n ≡ m)
 IsStep bytes m (call.Prefix prefix) (reply.Pairs pairs) n = (pairs_in bytes pairs.items ≡ below (bytes prefix) m) × (n ≡ m)
 IsStep bytes m (call.Prefix prefix) (reply.Refused error) n = (error ≡ Memory) × (m ≢ []) × (n ≡ m)
+IsStep bytes m (call.Range start end) (reply.Pairs pairs) n = (pairs_in bytes pairs.items ≡ between (bound_in bytes start) (bound_in bytes end) m) × (n ≡ m)
+IsStep bytes m (call.Range start end) (reply.Refused error) n = (error ≡ Memory) × (m ≢ []) × (n ≡ m)
 IsStep bytes m call.Iter (reply.Pairs pairs) n = (pairs_in bytes pairs.items ≡ m) × (n ≡ m)
 IsStep bytes m call.Iter (reply.Refused error) n = (error ≡ Memory) × (m ≢ []) × (n ≡ m)
 IsStep bytes m call.Values (reply.Values values) n = (values.items ≡ values_of m) × (n ≡ m)

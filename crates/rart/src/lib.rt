@@ -9,6 +9,7 @@ mod bulk;
 pub mod iter;
 pub mod laws;
 mod prefixes;
+pub mod range;
 pub mod script;
 pub mod stats;
 pub mod tree;
@@ -17,6 +18,7 @@ mod visits;
 
 pub use crate::bulk::BulkError;
 pub use crate::iter::{Iter, PrefixMatchIter, SeenIter, ValuesIter};
+pub use crate::range::{Range, SeenRange};
 pub use crate::stats::{NodeStats, TreeStats, TreeStatsTrait};
 pub use crate::tree::AdaptiveRadixTree;
 pub use crate::tree::guarded::{NotInserted, TryInsertError};

@@ -17,10 +17,12 @@ use std::alloc::Global;
 
 mod call;
 mod probe;
+mod range;
 mod reply;
 
 pub use self::call::Call;
 use self::probe::{reply_to_longest, reply_to_matches, reply_to_prefix};
+use self::range::reply_to_range;
 pub use self::reply::Reply;
 
 /// Makes one call. A refused call leaves the tree as it was, and says why: `Returned` is a refused
@@ -45,6 +47,7 @@ pub fn step<K: KeyTrait + Drop, V: Copy>(
         Call::Longest(key) => reply_to_longest(tree, key),
         Call::Matches(key) => reply_to_matches(alloc, tree, key),
         Call::Prefix(key) => reply_to_prefix(alloc, tree, key),
+        Call::Range(start, end) => reply_to_range(alloc, tree, start, end),
         Call::Iter => reply_to_iter(alloc, tree),
         Call::Values => reply_to_values(alloc, tree),
         Call::Len => Reply::Len(tree.len()),

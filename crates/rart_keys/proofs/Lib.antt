@@ -8,5 +8,6 @@ pub mod JoinsOfMaps
 pub mod KeyComparisons
 pub mod NumberOrder
 pub mod PutAllLemmas
+pub mod RangeLemmas
 pub mod SortedMaps
 pub mod WordLemmas

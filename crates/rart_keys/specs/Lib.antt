@@ -9,5 +9,6 @@ pub mod Joins
 pub mod KeyBytes
 pub mod LittleEndianWord
 pub mod NumberBytes
+pub mod Ranges
 pub mod SortedMap
 pub mod TailKeyBytes

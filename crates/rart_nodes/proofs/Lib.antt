@@ -1,6 +1,7 @@
 pub mod build
 pub mod edits
 pub mod joins
+pub mod ranges
 pub mod shapes
 pub mod statistics
 pub mod storages

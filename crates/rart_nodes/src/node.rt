@@ -25,6 +25,7 @@ mod longest_view;
 mod look_up;
 mod made;
 mod matching;
+pub mod range;
 mod remove;
 mod rest;
 pub mod seen;

@@ -1,10 +1,11 @@
 -- An index from bytes to slots through its calls.
-use Rattle.std.proofs.Common.{◌≡◌, ◌≢◌, ℕ, zero, suc, ◌<◌, ◌≤◌, ◌+◌, ◌||◌, ◌&&◌, not, Bool, true, false, cond, eqb, List, [], ◌∷◌, Option, Some, None, length, map, get_or, set, replicate, sym, ap, ◌∙◌, refl, arith}
+use Rattle.std.proofs.Common.{◌≡◌, ◌≢◌, ℕ, zero, suc, ◌<◌, ◌≤◌, ◌+◌, ◌||◌, ◌&&◌, not, Bool, true, false, cond, eqb, ltb, List, [], ◌∷◌, Option, Some, None, length, map, get_or, set, replicate, sym, ap, ◌∙◌, refl, arith}
 use Rattle.std.proofs.lemmas.Bool.{ne_eqb}
 use Rattle.std.proofs.Math.ListN.{get_or-map}
 use Rattle.std.proofs.lemmas.Grind.{get_or_default_zero}
 use Rattle.std.proofs.lemmas.List.{length-set, length-replicate, map-set}
-use Rattle.rart_parts.specs.Bits.{words_have, members_from, IsFirst}
+use Rattle.rart_parts.specs.Bits.{words_have, members_from, positions_above, IsFirst}
+use Rattle.rart_parts.specs.Entries.{entries_above}
 use Rattle.rart_parts.specs.Places.{is_used, numbered}
 use Rattle.rart_parts.specs.ByteIndex.{slot_of, IsByteIndex, with_slots, AreBytes}
 use Rattle.rart_parts.proofs.PlaceLemmas.{used_with, used_without, none_used}
@@ -94,3 +95,18 @@ walked_all {words} {slots} i =
     let at : (j : ℕ) → 0 + j ≡ j = λ (j : ℕ). omega arith in
     ap (λ n. with_slots slots (members_from (has words) 0 n)) (sym i.whole)
     ∙ walked (has words) slots slots 0 (λ j h. ap (has words) (at j) ∙ i.agrees j (omega (arith, h, i.whole))) (λ j h. ap (λ m. get_or slots m 0) (at j))
+
+-- those of the bytes above k
+pub with_slots-above : (k : ℕ) (slots bs : List ℕ) → with_slots slots (positions_above k bs) ≡ entries_above k (with_slots slots bs)
+with_slots-above k slots [] = refl
+with_slots-above k slots (b ∷ bs) = elim (ltb k b) as (λ t. with_slots slots (cond t (b ∷ positions_above k bs) (positions_above k bs)) ≡ cond t ((b, get_or slots b 0) ∷ entries_above k (with_slots slots bs)) (entries_above k (with_slots slots bs))) [
+  | true ↦ ap (λ l. (b, get_or slots b 0) ∷ l) (with_slots-above k slots bs)
+  | false ↦ with_slots-above k slots bs
+]
+
+pub above-bytes : (k : ℕ) (bs : List ℕ) → AreBytes bs → AreBytes (positions_above k bs)
+above-bytes k [] h = tt
+above-bytes k (b ∷ bs) h = elim (ltb k b) as (λ t. AreBytes (cond t (b ∷ positions_above k bs) (positions_above k bs))) [
+  | true ↦ (h.0, above-bytes k bs h.1)
+  | false ↦ above-bytes k bs h.1
+]

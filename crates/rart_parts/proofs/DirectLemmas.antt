@@ -1,12 +1,12 @@
 -- The places of a direct mapping through its calls.
-use Rattle.std.proofs.Common.{◌≡◌, ℕ, zero, suc, ◌<◌, ◌≤◌, ◌+◌, ◌-◌, true, false, cond, eqb, List, [], ◌∷◌, Option, Some, None, length, get_or, set, replicate, is_some, sym, ap, ◌∙◌, refl, arith, ⊎_elim}
+use Rattle.std.proofs.Common.{◌≡◌, ℕ, zero, suc, ◌<◌, ◌≤◌, ◌+◌, ◌-◌, true, false, cond, eqb, List, [], ◌∷◌, Option, Some, None, length, drop, get_or, set, replicate, is_some, sym, ap, ◌∙◌, refl, arith, ⊎_elim}
 use Rattle.std.proofs.lemmas.Bool.{false≢true}
 use Rattle.std.proofs.lemmas.Bool.Decides.{eqb_tells}
 use Rattle.std.proofs.lemmas.List.{length-set, length-replicate, get_or-set_same, get_or-set_other}
-use Rattle.rart_parts.specs.Entries.{child_at, with_entry, without_byte, replaced, StartsAbove, BytesAscend}
+use Rattle.rart_parts.specs.Entries.{child_at, entries_above, with_entry, without_byte, replaced, StartsAbove, BytesAscend}
 use Rattle.rart_parts.specs.Places.{numbered}
 use Rattle.rart_parts.specs.Direct.{IsDirect}
-use Rattle.rart_parts.proofs.EntryLemmas.{at_same, at_other, same_lookups, child_at-with_entry, child_at-without_byte, child_at-replaced, with_entry-ascends, without_byte-ascends, replaced-ascends, length-with_entry, length-without_byte, length-replaced}
+use Rattle.rart_parts.proofs.EntryLemmas.{all_above, not_above, at_same, at_other, same_lookups, child_at-with_entry, child_at-without_byte, child_at-replaced, with_entry-ascends, without_byte-ascends, replaced-ascends, length-with_entry, length-without_byte, length-replaced}
 
 below_none : {X : Type 0} (n k : ℕ) (os : List (Option X)) → k < n → child_at k (numbered n os) ≡ None
 below_none n k [] h = refl
@@ -33,6 +33,16 @@ pub numbered-ascends : {X : Type 0} (n : ℕ) (os : List (Option X)) → BytesAs
 numbered-ascends n [] = tt
 numbered-ascends n (None ∷ os) = numbered-ascends (suc n) os
 numbered-ascends n (Some x ∷ os) = (starts n (suc n) os (omega arith), numbered-ascends (suc n) os)
+
+-- the places behind byte b
+pub numbered_above : {X : Type 0} (b n m : ℕ) (os : List (Option X)) → n + m ≡ b + 1 → numbered (n + m) (drop m os) ≡ entries_above b (numbered n os)
+numbered_above b n zero os e =
+    let here : n + 0 ≡ n = omega arith in
+    ap (λ i. numbered i os) here ∙ sym (all_above b (numbered n os) (starts b n os (omega arith)) (numbered-ascends n os))
+numbered_above b n (suc m) [] e = refl
+numbered_above b n (suc m) (None ∷ os) e = (let next : n + suc m ≡ suc n + m = omega arith in ap (λ i. numbered i (drop m os)) next) ∙ numbered_above b (suc n) m os (omega arith)
+numbered_above b n (suc m) (Some x ∷ os) e =
+    (let next : n + suc m ≡ suc n + m = omega arith in ap (λ i. numbered i (drop m os)) next) ∙ numbered_above b (suc n) m os (omega arith) ∙ sym (not_above b (n, x) (numbered (suc n) os) (omega arith))
 
 pub numbered-free : (X : Type 0) (n m : ℕ) → numbered {X = X} n (replicate m None) ≡ []
 numbered-free X n zero = refl

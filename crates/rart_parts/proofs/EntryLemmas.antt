@@ -1,8 +1,9 @@
 -- Maps from bytes as ascending lists of entries.
-use Rattle.std.proofs.Common.{◌≡◌, ◌≢◌, ℕ, suc, ◌<◌, ◌≤◌, ◌+◌, true, false, cond, eqb, List, [], ◌∷◌, Option, Some, None, length, sym, ap, ◌∙◌, refl, arith, ⊎_elim, subst}
+use Rattle.std.proofs.Common.{◌≡◌, ◌≢◌, ℕ, suc, ◌<◌, ◌≤◌, ◌+◌, true, false, cond, eqb, ◌-◌, List, [], ◌∷◌, Option, Some, None, length, take, drop, sym, ap, ◌∙◌, refl, arith, ⊎_elim, subst}
 use Rattle.std.proofs.lemmas.Bool.{eq-eqb, ne_eqb, lt-ltb, le-ltb, cases_lt}
+use Rattle.std.proofs.lemmas.List.{length-drop, take_all}
 use Rattle.std.proofs.lemmas.Bool.Decides.{eqb_tells}
-use Rattle.rart_parts.specs.Entries.{child_at, with_entry, with_another, without_byte, replaced, ascending, StartsAbove, BytesAscend}
+use Rattle.rart_parts.specs.Entries.{child_at, entries_above, with_entry, with_another, without_byte, replaced, ascending, StartsAbove, BytesAscend}
 
 some_none : {X : Type 0} {x : X} → Some x ≡ None → ⊥
 some_none h = cc
@@ -116,6 +117,14 @@ module _ {X : Type 0} where
   starts_lower : (a b : ℕ) (es : List (ℕ × X)) → a ≤ b → StartsAbove b es → StartsAbove a es
   starts_lower a b [] h s = tt
   starts_lower a b (e ∷ es) h s = omega (arith, h, s)
+
+  -- all are above a byte that the map starts above
+  pub all_above : (k : ℕ) (es : List (ℕ × X)) → StartsAbove k es → BytesAscend es → entries_above k es ≡ es
+  all_above k [] s a = refl
+  all_above k (e ∷ es) s a = ap (λ b. cond b (e ∷ entries_above k es) (entries_above k es)) (lt-ltb k e.0 s) ∙ ap (λ l. e ∷ l) (all_above k es (starts_lower k e.0 es (omega (arith, s)) a.0) a.1)
+
+  pub not_above : (k : ℕ) (e : ℕ × X) (es : List (ℕ × X)) → e.0 ≤ k → entries_above k (e ∷ es) ≡ entries_above k es
+  not_above k e es h = ap (λ b. cond b (e ∷ entries_above k es) (entries_above k es)) (le-ltb k e.0 h)
 
   starts_with : (b k : ℕ) (x : X) (es : List (ℕ × X)) → b < k → StartsAbove b es → StartsAbove b (with_entry k x es)
   starts_with b k x [] h s = h
@@ -242,3 +251,7 @@ module _ {X : Type 0} where
       (λ t. omega (arith, ap length (replaced_same k e es w t.1)))
       (λ t. omega (arith, ap length (replaced_other k e es w t.1), length-replaced k w es))
       (eqb_tells e.0 k)
+
+-- what a slice from n on has
+pub from_place : {A : Type 0} (n : ℕ) (xs : List A) → take (length xs - n) (drop n xs) ≡ drop n xs
+from_place n xs = take_all (length xs - n) (drop n xs) (omega (arith, length-drop n xs))

@@ -1,6 +1,7 @@
 -- The walk over an indexed mapping, in the order of its index.
-use Rattle.std.proofs.Common.{◌≡◌, ℕ, zero, suc, ◌<◌, ◌+◌, List, [], ◌∷◌, Option, Some, None, get_or, sym, ap, ◌∙◌, refl, arith}
-use Rattle.rart_parts.specs.Entries.{child_at, ascending, StartsAbove, BytesAscend}
+use Rattle.std.proofs.Common.{◌≡◌, ℕ, zero, suc, ◌<◌, ◌≤◌, ◌+◌, cond, ⊎_elim, List, [], ◌∷◌, Option, Some, None, get_or, sym, ap, ◌∙◌, refl, arith}
+use Rattle.std.proofs.lemmas.Bool.{lt-ltb, le-ltb, cases_lt}
+use Rattle.rart_parts.specs.Entries.{child_at, entries_above, ascending, StartsAbove, BytesAscend}
 use Rattle.rart_parts.specs.Indexed.{with_bytes, by_slots, IsIndex}
 use Rattle.rart_parts.specs.Places.{numbered}
 use Rattle.rart_parts.proofs.EntryLemmas.{at_same, at_other, same_lookups}
@@ -15,6 +16,32 @@ some_same h = cc
 -- the children in the order of the index, whose first entry is that of byte n
 abbrev by_bytes : {X : Type 0} → ℕ → List (Option ℕ) → List (Option X) → List (ℕ × X)
 by_bytes n at os = by_slots (numbered n at) os
+
+-- the children in slots, from the bytes above k on
+module _ {X : Type 0} (k : ℕ) (os : List (Option X)) where
+  -- an entry whose slot has o, before the entries es
+  abbrev in_slot : ℕ → Option X → List (ℕ × X) → List (ℕ × X)
+  in_slot b None es = es
+  in_slot b (Some x) es = (b, x) ∷ es
+
+  slot_above : (b : ℕ) (o : Option X) (es : List (ℕ × X)) → k < b → in_slot b o (entries_above k es) ≡ entries_above k (in_slot b o es)
+  slot_above b None es l = refl
+  slot_above b (Some x) es l = rw (lt-ltb k b l) refl
+
+  slot_passed : (b : ℕ) (o : Option X) (es : List (ℕ × X)) → b ≤ k → entries_above k es ≡ entries_above k (in_slot b o es)
+  slot_passed b None es l = refl
+  slot_passed b (Some x) es l = rw (le-ltb k b l) refl
+
+  in_slot_is : (e : ℕ × ℕ) (es : List (ℕ × ℕ)) → by_slots (e ∷ es) os ≡ in_slot e.0 (get_or os e.1 None) (by_slots es os)
+  in_slot_is e es = elim (get_or os e.1 None) as (λ o. (elim o [ None ↦ by_slots es os | Some x ↦ (e.0, x) ∷ by_slots es os ]) ≡ in_slot e.0 o (by_slots es os)) [ None ↦ refl | Some x ↦ refl ]
+
+  pub slots_above : (es : List (ℕ × ℕ)) → by_slots (entries_above k es) os ≡ entries_above k (by_slots es os)
+  slots_above [] = refl
+  slots_above (e ∷ es) = ⊎_elim
+      (λ l. ap (λ b. by_slots (cond b (e ∷ entries_above k es) (entries_above k es)) os) (lt-ltb k e.0 l) ∙ in_slot_is e (entries_above k es) ∙ ap (in_slot e.0 (get_or os e.1 None)) (slots_above es)
+      ∙ slot_above e.0 (get_or os e.1 None) (by_slots es os) l ∙ ap (entries_above k) (sym (in_slot_is e es)))
+      (λ l. ap (λ b. by_slots (cond b (e ∷ entries_above k es) (entries_above k es)) os) (le-ltb k e.0 l) ∙ slots_above es ∙ slot_passed e.0 (get_or os e.1 None) (by_slots es os) l ∙ ap (entries_above k) (sym (in_slot_is e es)))
+      (cases_lt k e.0)
 
 module _ {X : Type 0} (os : List (Option X)) where
   walk_below : (n k : ℕ) (at : List (Option ℕ)) → k < n → child_at k (by_bytes n at os) ≡ None

@@ -1,5 +1,5 @@
 -- The two columns of a sorted mapping through its calls.
-use Rattle.std.proofs.Common.{◌≡◌, ℕ, ◌<◌, ◌≤◌, ◌+◌, ◌-◌, List, [], ◌∷◌, ◌++◌, Option, Some, None, length, get_or, set, take, drop, sym, ap, ◌∙◌, refl, arith, subst, ⊎_elim}
+use Rattle.std.proofs.Common.{◌≡◌, ℕ, zero, suc, ◌<◌, ◌≤◌, ◌+◌, ◌-◌, List, [], ◌∷◌, ◌++◌, Option, Some, None, length, get_or, set, take, drop, sym, ap, ◌∙◌, refl, arith, subst, ⊎_elim}
 use Rattle.std.proofs.lemmas.Bool.Decides.{eqb_tells}
 use Rattle.std.specs.Prelude.{insert, OnSome, IsSome, IfSome}
 use Rattle.std.specs.Option.{option_copied_mut}
@@ -7,10 +7,10 @@ use Rattle.std.specs.Borrow.{MutBor}
 use Rattle.std.proofs.lemmas.Bool.{false≢true}
 use Rattle.std.specs.List.{zip}
 use Rattle.std.proofs.lemmas.List.{length-set, length-append, length-take, length-drop, get_or-set_same, get_or-set_other, get_or-append_right, get_or-drop}
-use Rattle.rart_parts.specs.Entries.{child_at, with_entry, without_byte, BytesAscend}
+use Rattle.rart_parts.specs.Entries.{child_at, entries_above, with_entry, without_byte, BytesAscend}
 use Rattle.rart_parts.specs.Keys.{IsAscendingBelow}
 use Rattle.rart_parts.specs.SortedKeyed.{IsSortedKeyed, IsPadded}
-use Rattle.rart_parts.proofs.EntryLemmas.{with_entry-ascends, without_byte-ascends}
+use Rattle.rart_parts.proofs.EntryLemmas.{all_above, not_above, with_entry-ascends, without_byte-ascends}
 use Rattle.rart_parts.proofs.Zipped.{length_zipped, zip_same, set_zip, set_child-ascends, inserted, child_found, keys_ascend, zip_last, front-ascends}
 
 one_zipped : {X : Type 0} (ks : List ℕ) (vs : List X) (x : X) → length vs ≤ length ks → length vs ≡ 1 → x ≡ get_or vs 0 x → zip ks vs ≡ (get_or ks 0 0, x) ∷ []
@@ -28,6 +28,17 @@ no_entries ks (v ∷ vs) e = absurd (omega arith)
 zip_nothing : {X : Type 0} (ks : List ℕ) → (let none : List X = [] in ◌≡◌ {A = List (ℕ × X)} (zip ks none) [])
 zip_nothing [] = refl
 zip_nothing (k ∷ ks) = refl
+
+-- from the first place on whose key is above
+pub zip_above : {X : Type 0} (k at : ℕ) (ks : List ℕ) (vs : List X) → length vs ≤ length ks → BytesAscend (zip ks vs) → at ≤ length vs → ((j : ℕ) → j < at → get_or ks j 0 ≤ k) → (at < length vs → k < get_or ks at 0)
+    → zip (drop at ks) (drop at vs) ≡ entries_above k (zip ks vs)
+zip_above k zero ks [] h a l below above = zip_nothing ks ∙ ap (entries_above k) (sym (zip_nothing ks))
+zip_above k zero [] (v ∷ vs) h a l below above = absurd (omega arith)
+zip_above k zero (y ∷ ks) (v ∷ vs) h a l below above = sym (all_above k ((y, v) ∷ zip ks vs) (above (omega arith)) a)
+zip_above k (suc at) ks [] h a l below above = absurd (omega arith)
+zip_above k (suc at) [] (v ∷ vs) h a l below above = absurd (omega arith)
+zip_above k (suc at) (y ∷ ks) (v ∷ vs) h a l below above =
+    zip_above k at ks vs (omega arith) a.1 (omega arith) (λ j m. below (suc j) (omega arith)) (λ m. above (omega arith)) ∙ sym (not_above k (y, v) (zip ks vs) (below 0 (omega arith)))
 
 -- keys in front of others, as many as there are children
 zip_front : {X : Type 0} (ks rest : List ℕ) (vs : List X) → length vs ≤ length ks → zip (take (length vs) ks ++ rest) vs ≡ zip ks vs

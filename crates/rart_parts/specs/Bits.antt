@@ -19,6 +19,11 @@ members_from has from (suc count) = cond (has from) (from ∷ members_from has (
 abbrev pub members : (ℕ → Bool) → ℕ → List ℕ
 members has capacity = members_from has 0 capacity
 
+-- those of a list that are above p, in their order
+abbrev pub positions_above : ℕ → List ℕ → List ℕ
+positions_above p [] = []
+positions_above p (k ∷ ks) = cond (nat_lt p k) (k ∷ positions_above p ks) (positions_above p ks)
+
 -- the answer is the least position of the set below a capacity, and None where the set has none
 abbrev pub IsFirst : (ℕ → Bool) → ℕ → Option ℕ → Type 0
 IsFirst has capacity answer = MatchOption answer ((k : ℕ) → k < capacity → has k ≡ false)

@@ -21,6 +21,11 @@ abbrev pub replaced : {X : Type 0} → ℕ → X → List (ℕ × X) → List (�
 replaced k x [] = []
 replaced k x (e ∷ es) = cond (eqb e.0 k) ((k, x) ∷ es) (e ∷ replaced k x es)
 
+-- those whose byte is above k, in their order
+abbrev pub entries_above : {X : Type 0} → ℕ → List (ℕ × X) → List (ℕ × X)
+entries_above k [] = []
+entries_above k (e ∷ es) = cond (ltb k e.0) (e ∷ entries_above k es) (entries_above k es)
+
 -- with one more child at a byte, before the first byte that is not below
 abbrev pub with_another : {X : Type 0} → ℕ → X → List (ℕ × X) → List (ℕ × X)
 with_another k x [] = (k, x) ∷ []

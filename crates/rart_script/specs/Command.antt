@@ -4,6 +4,8 @@ use Rattle.std.specs.Option.{option_map, option_and_then}
 use Rattle.std.specs.Str.{bytes_eq}
 use Rattle.rart.specs.declared.script.call.Call.{Call}
 use Rattle.rart.specs.declared.script.call.Call.TheVariants as call
+use Rattle.std.specs.declared.ops.Bound.TheVariants.{Included, Excluded}
+use Rattle.rart_keys.specs.Ranges.{bound_in}
 use Rattle.rart_keys.specs.ArrayKeyBytes.{array_key_bytes}
 use Rattle.rart_script.specs.Key.{key_of}
 use Rattle.rart_script.specs.Value.{value_of}
@@ -22,6 +24,7 @@ call_in bytes (call.TryUpdate key written answer) = call.TryUpdate (bytes key) w
 call_in bytes (call.Longest key) = call.Longest (bytes key)
 call_in bytes (call.Matches key) = call.Matches (bytes key)
 call_in bytes (call.Prefix key) = call.Prefix (bytes key)
+call_in bytes (call.Range start end) = call.Range (bound_in bytes start) (bound_in bytes end)
 call_in bytes call.Iter = call.Iter
 call_in bytes call.Values = call.Values
 call_in bytes call.Len = call.Len
@@ -37,6 +40,11 @@ asked_by (command.Call c) = Some (call_in array_key_bytes c)
 abbrev pub insert_of : List (List ℕ) → Option (Call (List ℕ) ℕ)
 insert_of (key ∷ value ∷ []) = option_and_then (λ k. option_map (λ v. call.Insert k v) (value_of value)) (key_of key)
 insert_of _ = None
+
+-- the call of two operands, a key that is within and one before which the pairs are
+abbrev pub range_of : List (List ℕ) → Option (Call (List ℕ) ℕ)
+range_of (start ∷ end ∷ []) = option_and_then (λ a. option_map (λ b. call.Range (Included a) (Excluded b)) (key_of end)) (key_of start)
+range_of _ = None
 
 -- the key that is the one operand
 abbrev pub only_key_of : List (List ℕ) → Option (List ℕ)
@@ -56,6 +64,7 @@ call_of name operands =
     else if bytes_eq name (codes "remove") then option_map (λ k. call.Remove k) (only_key_of operands)
     else if bytes_eq name (codes "prefix") then option_map (λ k. call.Prefix k) (only_key_of operands)
     else if bytes_eq name (codes "longest") then option_map (λ k. call.Longest k) (only_key_of operands)
+    else if bytes_eq name (codes "range") then range_of operands
     else if bytes_eq name (codes "len") then complete_of call.Len operands
     else if bytes_eq name (codes "iter") then complete_of call.Iter operands
     else if bytes_eq name (codes "stats") then complete_of call.Stats operands

@@ -2,13 +2,14 @@
 ghost use Rattle.std.specs.Prelude.{◌≡◌, MatchOption, None, Some};
 ghost use Rattle.std.specs.Option.{option_map};
 ghost use Rattle.rart_keys.specs.ArrayKeyBytes.{array_key_bytes};
-ghost use Rattle.rart_script.specs.Command.{asked_by, call_in, call_of, command_of, complete_of, insert_of, only_key_of};
+ghost use Rattle.rart_script.specs.Command.{asked_by, call_in, call_of, command_of, complete_of, insert_of, only_key_of, range_of};
 ghost use Rattle.rart_script.specs.Words.{words_of};
 
 use crate::key::{Key, parse_key};
 use crate::value::parse_value;
 use crate::words::next_word;
 use rart::script::Call;
+use std::ops::Bound;
 
 /// What a line asks for.
 #[derive(Drop)]
@@ -43,6 +44,8 @@ fn parse_call(name: &[u8], operands: &[u8]) -> Option<Call<Key, u64>>
         Some(Call::Prefix(only_key(operands)?))
     } else if name == b"longest".as_slice() {
         Some(Call::Longest(only_key(operands)?))
+    } else if name == b"range".as_slice() {
+        parse_range(operands)
     } else if name == b"len".as_slice() {
         complete(Call::Len, operands)
     } else if name == b"iter".as_slice() {
@@ -62,6 +65,20 @@ fn parse_insert(operands: &[u8]) -> Option<Call<Key, u64>>
     let key = parse_key(key)?;
     let value = parse_value(value)?;
     complete(Call::Insert(key, value), rest)
+}
+
+/// The pairs from one key on, before another.
+fn parse_range(operands: &[u8]) -> Option<Call<Key, u64>>
+    ensures { option_map (call_in array_key_bytes) result ≡ range_of (words_of operands.now) }
+{
+    let (start, rest) = next_word(operands)?;
+    let (end, rest) = next_word(rest)?;
+    let start = parse_key(start)?;
+    let end = parse_key(end)?;
+    complete(
+        Call::Range(Bound::Included(start), Bound::Excluded(end)),
+        rest,
+    )
 }
 
 /// The key that is the one operand.

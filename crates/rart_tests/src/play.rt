@@ -26,6 +26,12 @@ pub enum Ask<'a> {
     Overwrite(&'a str, u64),
     Remove(&'a str),
     Delete(&'a str),
+    /// The longest key that begins the probe.
+    Longest(&'a str),
+    /// The keys that begin the probe.
+    Matches(&'a str),
+    /// The keys that begin with the prefix.
+    Prefix(&'a str),
     Iter,
     Values,
     Len,
@@ -53,6 +59,7 @@ pub enum Want<'a> {
     Inserted,
     /// The value that was offered, and the one that stands there.
     Occupied(u64, u64),
+    Pair(&'a str, u64),
     Pairs(&'a [(&'a str, u64)]),
     Values(&'a [u64]),
     Len(usize),

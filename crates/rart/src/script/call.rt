@@ -1,6 +1,7 @@
 //! Calls of a tree.
 
 use rart_nodes::SlotUpdate;
+use std::ops::Bound;
 
 /// A call of a tree, as a value.
 #[derive(Drop)]
@@ -26,6 +27,8 @@ pub enum Call<K, V> {
     Matches(K),
     /// The pairs whose key begins with a prefix.
     Prefix(K),
+    /// The pairs within two bounds.
+    Range(Bound<K>, Bound<K>),
     /// All pairs.
     Iter,
     /// All values.

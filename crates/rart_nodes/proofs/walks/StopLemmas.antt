@@ -1,5 +1,5 @@
 -- What is kept of the keys of a tree joins to the keys, and the values are the tree's.
-use Rattle.std.proofs.Common.{◌≡◌, ℕ, ◌≤◌, suc, zero, List, [], ◌∷◌, ◌++◌, length, map, take, Option, Some, None, refl, sym, ap, ◌∙◌, arith}
+use Rattle.std.proofs.Common.{◌≡◌, ℕ, suc, zero, List, [], ◌∷◌, ◌++◌, length, map, take, Option, Some, None, refl, sym, ap, ◌∙◌, arith}
 use Rattle.std.proofs.lemmas.List.{append_assoc, append-nil, map-append}
 use Rattle.rart_keys.specs.SortedMap.{values_of}
 use Rattle.rart_nodes.specs.walks.Tour.{Pieces, Grown, Tells, Joins, joined, join_all, stop_values, behind_pieces, value_at, stops_of, children_stops, tree_stops}
@@ -48,7 +48,7 @@ module _ {V : Type 0} where
     joined-stops g (node p v c cs) j = join-behind (g p) (value_at [] v ++ children_stops g cs) ∙ ap (λ q. with_prefix q (join_all (value_at [] v ++ children_stops g cs))) (j p)
         ∙ ap (with_prefix p) (join-append (value_at [] v) (children_stops g cs) ∙ ap (λ z. z ++ join_all (children_stops g cs)) (join-own v) ∙ ap (λ z. own_pair v ++ z) (joined-children g cs j))
 
-    joined-children : (g : Grown) (cs : Children V) → Joins g → join_all (children_stops g cs) ≡ children_pairs cs
+    pub joined-children : (g : Grown) (cs : Children V) → Joins g → join_all (children_stops g cs) ≡ children_pairs cs
     joined-children g no_children j = refl
     joined-children g (child b t cs) j = join-append (stops_of g t) (children_stops g cs) ∙ ap (λ z. z ++ join_all (children_stops g cs)) (joined-stops g t j) ∙ ap (λ z. pairs_of t ++ z) (joined-children g cs j)
 

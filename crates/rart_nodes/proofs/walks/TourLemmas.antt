@@ -1,12 +1,11 @@
 -- What a walk over a tree keeps as it goes on to a node, or leaves a level.
-use Rattle.std.proofs.Common.{◌≡◌, ◌≢◌, ℕ, zero, suc, ◌+◌, ◌*◌, ◌<◌, ◌≤◌, ◌⊎◌, ⊎_elim, inl, inr, true, List, [], ◌∷◌, ◌++◌, length, take, reverse, Option, Some, None, refl, sym, ap, ◌∙◌, arith, length-append, slice_index_or, slice_set}
-use Rattle.std.specs.Prelude.{nat_le}
+use Rattle.std.proofs.Common.{◌≡◌, ◌≢◌, ℕ, zero, suc, ◌+◌, ◌*◌, ◌<◌, ◌≤◌, ⊎_elim, true, List, [], ◌∷◌, ◌++◌, length, take, reverse, Option, Some, None, refl, sym, ap, ◌∙◌, arith, length-append, slice_index_or, slice_set}
 use Rattle.std.proofs.lemmas.Bool.Decides.{nat_tests}
 use Rattle.std.proofs.lemmas.List.{append-nil, append_assoc, length-reverse, length-take, map-append, reverse-append, take-append-le, take_all}
 use Rattle.rart_nodes.specs.tries.CanonicalTest.{is_canonical}
 use Rattle.rart_keys.specs.SortedMap.{longest_key}
 use Rattle.rart_nodes.specs.shapes.Shape.{capacity_of}
-use Rattle.rart_nodes.specs.walks.Tour.{Pieces, Grown, IsShort, Level, HasRoom, behind_pieces, value_at, stops_of, children_stops, tree_stops, stops_below, nodes_below, AreStations, IsTour}
+use Rattle.rart_nodes.specs.walks.Tour.{Pieces, Grown, IsShort, Level, HasRoom, behind_pieces, value_at, stops_of, children_stops, stops_below, nodes_below, AreStations, IsTour}
 use Rattle.rart_nodes.specs.walks.TourSteps.{DeepestLeft, DeepestStep, GoesOn}
 use Rattle.rart_nodes.specs.tries.Trie.{Trie, node, Children, no_children, child, children_in, children_pairs, pairs_of, prefix_of, value_of, with_prefix, own_pair, StartsWith, IsCanonical, AreCanonical, capacity_in, edges_of}
 use Rattle.rart_nodes.specs.tries.Tree.{tree_pairs}
@@ -18,7 +17,7 @@ use Rattle.rart_nodes.proofs.tries.NodeCounts.{some-pairs}
 pub deepest : {A : Type 0} (xs ys : List A) (x : A) → xs ≡ ys ++ x ∷ [] → reverse xs ≡ x ∷ reverse ys
 deepest xs ys x e = ap reverse e ∙ reverse-append ys (x ∷ [])
 
-starts-long : (b : ℕ) (p : List ℕ) → StartsWith b p → 0 < length p
+pub starts-long : (b : ℕ) (p : List ℕ) → StartsWith b p → 0 < length p
 starts-long b [] h = absurd h
 starts-long b (x ∷ p) h = omega arith
 
@@ -93,19 +92,19 @@ module _ {V : Type 0} where
       let r = last-set st n l (ds, l.1) h e in
       record { rest = r.0; edge = f.0; others = ds; was = r.1.0 ∙ ap (λ cs. r.0 ++ (cs, l.1) ∷ []) f.1; is = r.1.1 }
 
-  behind-append : (q : Pieces) (xs ys : List (Pieces × V)) → behind_pieces q (xs ++ ys) ≡ behind_pieces q xs ++ behind_pieces q ys
+  pub behind-append : (q : Pieces) (xs ys : List (Pieces × V)) → behind_pieces q (xs ++ ys) ≡ behind_pieces q xs ++ behind_pieces q ys
   behind-append q xs ys = map-append (λ e. (q ++ e.0, e.1)) xs ys
 
-  behind-twice : (q p : Pieces) (es : List (Pieces × V)) → behind_pieces q (behind_pieces p es) ≡ behind_pieces (q ++ p) es
+  pub behind-twice : (q p : Pieces) (es : List (Pieces × V)) → behind_pieces q (behind_pieces p es) ≡ behind_pieces (q ++ p) es
   behind-twice q p [] = refl
   behind-twice q p (e ∷ es) = rw (append_assoc q p e.0, behind-twice q p es) refl
 
-  behind-own : (q : Pieces) (v : Option V) (es : List (Pieces × V)) → behind_pieces q (value_at [] v ++ es) ≡ value_at q v ++ behind_pieces q es
+  pub behind-own : (q : Pieces) (v : Option V) (es : List (Pieces × V)) → behind_pieces q (value_at [] v ++ es) ≡ value_at q v ++ behind_pieces q es
   behind-own q None es = refl
   behind-own q (Some v) es = ap (λ k. (k, v) ∷ behind_pieces q es) (append-nil q)
 
   -- what lies below the levels of a path doesn't hang on what it keeps behind them
-  stops_below-same : (g : Grown) (longest deep d : ℕ) (k p : Pieces) (ls : List (Level V)) → AreStations longest deep ls → deep ≤ d → d ≤ length k → stops_below g (take d k ++ p) ls ≡ stops_below g k ls
+  pub stops_below-same : (g : Grown) (longest deep d : ℕ) (k p : Pieces) (ls : List (Level V)) → AreStations longest deep ls → deep ≤ d → d ≤ length k → stops_below g (take d k ++ p) ls ≡ stops_below g k ls
   stops_below-same g longest deep d k p [] w h l = refl
   stops_below-same g longest deep d k p (x ∷ ls) w h l =
       rw (take-path x.1 d k p (omega (arith, w.0)) l, stops_below-same g longest x.1 d k p ls w.4 (omega (arith, w.0)) l) refl
@@ -186,7 +185,7 @@ module _ {V : Type 0} where
     pub falls : work_left rest < work_left ls
     pub counted : nodes_below ls ≡ nodes_below rest
 
-  deeper : (longest deep more : ℕ) (ls : List (Level V)) → deep ≤ more → AreStations longest deep ls → AreStations longest more ls
+  pub deeper : (longest deep more : ℕ) (ls : List (Level V)) → deep ≤ more → AreStations longest deep ls → AreStations longest more ls
   deeper longest deep more [] h w = tt
   deeper longest deep more (l ∷ ls) h w = (omega (arith, w.0), w.1, w.2, w.3, w.4)
 

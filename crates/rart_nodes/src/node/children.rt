@@ -2,6 +2,7 @@
 ghost use Rattle.std.specs.Prelude.{◌≡◌, ◌↔◌, IsTrue};
 ghost use Rattle.std.specs.Iterator.{YieldsFirstBy, item_count};
 ghost use Rattle.rart_nodes.specs.edits.Deletion.{JoinsWithin};
+ghost use Rattle.rart_nodes.specs.ranges.Starts.{children_above};
 ghost use Rattle.rart_nodes.specs.tries.Trie.{children_in, prefix_of};
 ghost use Rattle.rart_nodes.specs.tries.TrieCode.{as_children};
 
@@ -49,6 +50,15 @@ impl<P: Partial, V> DefaultNode<P, V> {
     {
         NodeIter {
             children: self.storage.iter(),
+        }
+    }
+
+    /// The children whose byte is above `byte`, ascending, none of the others looked at. Takes no memory.
+    pub fn iter_above(&self, byte: u8) -> NodeIter<'_, P, V>
+        ensures { as_children result ≡ children_above byte (children_in self.now) }
+    {
+        NodeIter {
+            children: self.storage.iter_above(byte),
         }
     }
 

@@ -5,6 +5,7 @@ ghost use Rattle.std.specs.Prelude.{◌≡◌, ◌≢◌, ◌≤◌, ◌+◌, []
 ghost use Rattle.std.specs.Iterator.{YieldsFirstBy, item_count};
 ghost use Rattle.std.specs.Option.{option_copied};
 ghost use Rattle.rart_keys.specs.Filters.{below};
+ghost use Rattle.rart_keys.specs.Ranges.{pairs_since};
 ghost use Rattle.rart_keys.specs.SortedMap.{count_of, keys_of, values_of};
 ghost use Rattle.rart_nodes.specs.tries.Tree.{tree_pairs};
 ghost use Rattle.rart_nodes.specs.walks.ProbeCount.{probe_count};
@@ -42,7 +43,7 @@ impl<'a, K: KeyTrait, P: Partial, V, C> Model for KeyTour<'a, K, P, V, C> {
 
 impl<'a, K: KeyTrait, P: Partial, V, C: Count> KeyTour<'a, K, P, V, C> {
     /// The next pair. Takes no memory.
-    fn step(&mut self, counter: &mut C) -> Option<(K, &'a V)>
+    pub(crate) fn step(&mut self, counter: &mut C) -> Option<(K, &'a V)>
         ensures pairs { MatchOption result ((self.old ≡ []) × (self.new ≡ [])) (λ p. self.old ≡ (K.bytes p.0, p.1.now) ∷ self.new) }
         ensures visits { MatchOption result (C.number counter.new ≡ C.number counter.old) (λ p. C.number counter.new ≤ C.number counter.old + length (K.bytes p.0)) }
     {
@@ -88,6 +89,15 @@ impl<'a, K: KeyTrait, P: Partial, V> Model for Iter<'a, K, P, V> {
     ghost Value = { List (List ℕ × V) };
 
     ghost view = { λ it. it.pairs };
+}
+
+impl<'a, K: KeyTrait, P: Partial, V> Iter<'a, K, P, V> {
+    /// The walk that is left.
+    pub(crate) fn into_walk(self) -> KeyTour<'a, K, P, V, Visits>
+        ensures { result ≡ self.entry }
+    {
+        self.pairs
+    }
 }
 
 impl<'a, K: KeyTrait, P: Partial, V> Iterator for Iter<'a, K, P, V> {
@@ -169,6 +179,29 @@ impl<'a, K: KeyTrait, V, C: Count> Seen<'a, K, V, C> {
     {
         let pairs = self.keys_tour(counter)?;
         Ok(SeenIter { pairs })
+    }
+}
+
+impl<'a, K: KeyTrait, V, C: Count> Seen<'a, K, V, C> {
+    /// A walk over the pairs that come behind `start`, and where `included` says so the one at it. It visits what a look-up of
+    /// `start` visits, and takes its room as `iter_counted` does.
+    pub(crate) fn keys_tour_from(
+        self,
+        start: &[u8],
+        included: bool,
+        counter: &mut C,
+    ) -> Result<KeyTour<'a, K, K::PartialType, V, C>, TreeError>
+        ensures pairs { IfOk result (λ it. it ≡ pairs_since included start.now (tree_pairs (option_copied self.entry.root))) }
+        ensures memory { IfErr result (λ e. (e ≡ TreeError.Memory) × (tree_pairs (option_copied self.entry.root) ≢ [])) }
+        ensures visits { IfOk result (λ _. C.number counter.new ≡ C.number counter.old + probe_count (keys_of (tree_pairs (option_copied self.entry.root))) start.now) }
+        ensures bound { C.number counter.new ≤ C.number counter.old + length start.now + 1 }
+    {
+        let (tour, trail) = self.tour_from(start, included, counter)?;
+        Ok(KeyTour {
+            tour,
+            trail,
+            of: PhantomData,
+        })
     }
 }
 

@@ -8,6 +8,7 @@ ghost use Rattle.std.specs.Prelude.{◌≡◌, ◌≤◌, ◌+◌, ℕ, IsTrue, 
 ghost use Rattle.std.specs.Option.{option_copied};
 ghost use Rattle.rart_keys.specs.KeyBytes.{IsWithin, IsWithin-prop};
 ghost use Rattle.rart_keys.specs.SortedMap.{count_of, longest_key};
+ghost use Rattle.rart_nodes.specs.ranges.Starts.{children_above};
 ghost use Rattle.rart_nodes.specs.tries.CanonicalTest.{is_canonical, is_canonical_tree};
 ghost use Rattle.rart_nodes.specs.tries.Tree.{IsCanonicalTree, tree_pairs};
 ghost use Rattle.rart_nodes.specs.tries.Trie.{child, child_in, children_in, edges_of, no_children, prefix_of, value_of};
@@ -231,6 +232,16 @@ impl<'a, P: Partial, V, C> Entered<'a, P, V, C> {
     {
         Branches {
             rest: self.node.iter(),
+            of: PhantomData,
+        }
+    }
+
+    /// The children whose byte is above `b`, none of them visited.
+    pub(crate) fn branches_above(self, b: u8) -> Branches<'a, P, V, C>
+        ensures { result ≡ children_above b (children_in self.entry.node.now) }
+    {
+        Branches {
+            rest: self.node.iter_above(b),
             of: PhantomData,
         }
     }

@@ -17,6 +17,8 @@ use crate::node::trail::Trail;
 use rart_keys::{KeyTrait, Partial};
 use std::alloc::{AllocError, Global};
 
+mod since;
+
 /// A walk over the pairs of a tree, in order. Its trail stands beside it.
 #[derive(Drop)]
 pub(crate) struct Tour<'a, P: Partial, V, C> {

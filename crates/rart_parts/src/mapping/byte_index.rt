@@ -2,6 +2,7 @@
 ghost use Rattle.std.specs.Prelude.{◌≡◌, ◌<◌, None, Some, replicate, slice_index_or, slice_set};
 ghost use Rattle.std.specs.Iterator.{YieldsFirst, item_count};
 ghost use Rattle.rart_parts.specs.Bits.{IsFirst};
+ghost use Rattle.rart_parts.specs.Entries.{entries_above};
 ghost use Rattle.rart_parts.specs.Places.{is_used, numbered};
 
 use crate::utils::bitset::{Bitset, Bitset64, BitsetOnesIter, BitsetTrait};
@@ -83,6 +84,20 @@ impl ByteIndex {
     {
         ByteIndexIter {
             bytes: self.used.iter(),
+            slots: &self.slots,
+        }
+    }
+}
+
+impl ByteIndex {
+    /// Those of the bytes above `byte`, ascending.
+    pub(crate) fn iter_above(&self, byte: u8) -> ByteIndexIter<'_>
+        ensures { result ≡ entries_above byte (numbered 0 self.now) }
+    {
+        let mut bytes = self.used.iter();
+        bytes.pass(byte as usize);
+        ByteIndexIter {
+            bytes,
             slots: &self.slots,
         }
     }

@@ -3,7 +3,7 @@
 ghost use Rattle.std.specs.Prelude.{◌≡◌, ℕ, [], ◌∷◌, IfSome, Some, ◌<◌, ◌≤◌, length, IfErr, IfOk, None, OnOk, OnErr};
 ghost use Rattle.std.specs.Iterator.{UpTo, YieldsFirst, YieldsFirstBy, item_count};
 ghost use Rattle.std.specs.Iterator.SizeHint.{IsWithinCount};
-ghost use Rattle.rart_parts.specs.Entries.{ascending};
+ghost use Rattle.rart_parts.specs.Entries.{ascending, entries_above};
 
 use crate::error::TreeError;
 use crate::mapping::{IndexedMapping, NodeMapping};
@@ -56,6 +56,17 @@ impl<N> DirectMapping<N> {
         DirectMappingIter {
             places: self.places.as_slice(),
             byte: 0,
+        }
+    }
+
+    /// The children whose byte is above `byte`, ascending. It goes straight to the place behind that byte.
+    pub fn iter_above(&self, byte: u8) -> DirectMappingIter<'_, N>
+        ensures { result ≡ entries_above byte self.now }
+    {
+        let from = byte as usize + 1;
+        DirectMappingIter {
+            places: &self.places.as_slice()[from..],
+            byte: from,
         }
     }
 

@@ -4,7 +4,7 @@
 ghost use Rattle.std.specs.Prelude.{◌≡◌, ℕ, [], ◌∷◌, IfSome, Some, ◌<◌, ◌≤◌, ◌^◌, length, IfErr, IfOk, OnOk, OnErr, MatchOption};
 ghost use Rattle.std.specs.Iterator.{UpTo, YieldsFirst, YieldsFirstBy, item_count};
 ghost use Rattle.std.specs.Iterator.SizeHint.{IsWithinCount};
-ghost use Rattle.rart_parts.specs.Entries.{ascending};
+ghost use Rattle.rart_parts.specs.Entries.{ascending, entries_above};
 
 use crate::error::TreeError;
 use crate::mapping::byte_index::{ByteIndex, ByteIndexIter};
@@ -271,6 +271,16 @@ impl<N, const W: usize, B: BitsetTrait> IndexedMapping<N, W, B> {
     {
         IndexedMappingIter {
             slots: self.index.iter(),
+            children: self.children.as_slice(),
+        }
+    }
+
+    /// The children whose byte is above `byte`, ascending. It passes the others over in the index.
+    pub fn iter_above(&self, byte: u8) -> IndexedMappingIter<'_, N>
+        ensures { result ≡ entries_above byte (ascending self.now) }
+    {
+        IndexedMappingIter {
+            slots: self.index.iter_above(byte),
             children: self.children.as_slice(),
         }
     }

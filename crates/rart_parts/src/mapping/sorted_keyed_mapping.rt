@@ -4,7 +4,7 @@
 ghost use Rattle.std.specs.Prelude.{◌≡◌, ℕ, [], ◌∷◌, IfSome, Some, ◌++◌, ◌<◌, ◌≤◌, length, IfErr, IfOk, OnOk, OnErr, MatchOption};
 ghost use Rattle.std.specs.Iterator.{UpTo, YieldsFirst, YieldsFirstBy, item_count};
 ghost use Rattle.std.specs.Iterator.SizeHint.{IsWithinCount};
-ghost use Rattle.rart_parts.specs.Entries.{ascending};
+ghost use Rattle.rart_parts.specs.Entries.{ascending, entries_above};
 ghost use Rattle.rart_parts.specs.Keys.{IsAscendingBelow, IsFirstAbove, IsPlaceOf};
 ghost use Rattle.rart_parts.specs.SortedKeyed.{IsPadded};
 
@@ -125,6 +125,18 @@ impl<N, const W: usize> SortedKeyedMapping<N, W> {
         SortedKeyedMappingIter {
             keys: &self.keys,
             children: self.children.as_slice(),
+        }
+    }
+
+    /// The children whose byte is above `byte`, ascending. It goes straight to the first of them.
+    pub fn iter_above(&self, byte: u8) -> SortedKeyedMappingIter<'_, N>
+        ensures { result ≡ entries_above byte self.now }
+    {
+        let keys: &[u8] = &self.keys;
+        let at = first_above(byte, &self.keys, self.children.len());
+        SortedKeyedMappingIter {
+            keys: &keys[at..],
+            children: &self.children.as_slice()[at..],
         }
     }
 

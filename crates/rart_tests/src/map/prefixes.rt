@@ -9,16 +9,16 @@ use rart::{AdaptiveRadixTree, ArrPartial, ArrayKey, Iter, KeyTrait, PrefixMatchI
 use std::alloc::Global;
 use std::process::Abort;
 
-type Key = ArrayKey<16>;
+pub(super) type Key = ArrayKey<16>;
 
-type Tree = AdaptiveRadixTree<Key, u64>;
+pub(super) type Tree = AdaptiveRadixTree<Key, u64>;
 
-type Pair = (&'static str, u64);
+pub(super) type Pair = (&'static str, u64);
 
 // A probe; the pairs whose key begins it, the shortest first; the pairs whose key it begins, ascending.
 type Row = (&'static str, &'static [Pair], &'static [Pair]);
 
-fn filled(rt: &impl Abort, alloc: Global, pairs: &[Pair]) -> Tree {
+pub(super) fn filled(rt: &impl Abort, alloc: Global, pairs: &[Pair]) -> Tree {
     let mut tree = Tree::new(alloc);
     for (text, value) in pairs {
         let bytes = text.as_bytes();
@@ -28,7 +28,7 @@ fn filled(rt: &impl Abort, alloc: Global, pairs: &[Pair]) -> Tree {
     tree
 }
 
-fn is_pair(found: &(Key, &u64), wanted: &Pair) -> bool {
+pub(super) fn is_pair(found: &(Key, &u64), wanted: &Pair) -> bool {
     found.0.as_ref() == wanted.0.as_bytes() && *found.1 == wanted.1
 }
 
@@ -100,7 +100,7 @@ fn plays(rt: &impl Abort, tree: &Tree, rows: &[Row]) -> Option<usize> {
     None
 }
 
-const THREE: [Pair; 3] = [("", 0), ("a", 1), ("ab", 2)];
+pub(super) const THREE: [Pair; 3] = [("", 0), ("a", 1), ("ab", 2)];
 
 const OF_THREE: [Row; 4] = [
     ("", &[("", 0)], &THREE),

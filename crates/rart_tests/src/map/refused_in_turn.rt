@@ -3,7 +3,7 @@
 
 use crate::play::replies::is_counted;
 use crate::play::{
-    Ask, Row, Want, plays_as_run, plays_refused_in_turn, run_is_refused_in_turn, went_well,
+    Ask, Row, Want, plays, plays_as_run, plays_refused_in_turn, run_is_refused_in_turn, went_well,
 };
 use crate::refusals::{refuse, was_refused};
 use rart::{AdaptiveRadixTree, ArrayKey, KeyTrait, Refused, TreeError, TreeStatsTrait};
@@ -207,6 +207,31 @@ fn lists_of_pairs_and_values_refused_in_turn(rt: HostRuntime) {
         &rt,
         plays_refused_in_turn::<ArrayKey<4>>(rt.alloc(), &LISTS),
     );
+}
+
+// A body that says it found no memory wherever it may keeps every contract; these don't pass with it.
+#[test]
+fn edits_succeed_with_memory(rt: HostRuntime) {
+    let alloc = rt.alloc();
+    for rows in [
+        &SPLITS[..],
+        &GROWTH,
+        &GROWTH_BY_NEW_KEYS,
+        &SHRINKING,
+        &SHRINKING_BY_DELETION,
+    ] {
+        went_well(&rt, plays::<ArrayKey<16>>(alloc, rows));
+    }
+}
+
+#[test]
+fn walks_succeed_with_memory(rt: HostRuntime) -> Result<(), Fail> {
+    let alloc = rt.alloc();
+    for rows in [&FOUR_WIDTHS[..], &LISTS, &EVERY_CALL] {
+        went_well(&rt, plays::<ArrayKey<16>>(alloc, rows));
+    }
+    went_well(&rt, plays_as_run::<ArrayKey<16>>(alloc, &LISTS)?);
+    Ok(())
 }
 
 type Tree = AdaptiveRadixTree<ArrayKey<4>, u64>;

@@ -18,10 +18,25 @@ where
         (Reply::Occupied(back, stored), Want::Occupied(proposed, present)) => {
             back == proposed && stored == present
         }
+        (Reply::Pair(found), Want::None) => found.is_none(),
+        (Reply::Pair(found), Want::Pair(text, value)) => {
+            is_pair(found, &(*text, *value), spelling)
+        }
         (Reply::Pairs(found), Want::Pairs(pairs)) => are_pairs(found.as_slice(), pairs, spelling),
         (Reply::Values(found), Want::Values(values)) => found.as_slice() == *values,
         (Reply::Len(found), Want::Len(count)) => found == count,
         (Reply::Stats(found), Want::Counts(counts, widths)) => is_counted(found, counts, widths),
+        _ => false,
+    }
+}
+
+fn is_pair<K: KeyTrait + Drop>(
+    found: &Option<(K, u64)>,
+    wanted: &(&str, u64),
+    spelling: Spelling,
+) -> bool {
+    match (found, key::<K>(wanted.0, spelling)) {
+        (Some((one, value)), Some(other)) => *one == other && *value == wanted.1,
         _ => false,
     }
 }
@@ -87,7 +102,13 @@ pub fn is_refusal<K>(reply: &Reply<K, u64>, ask: &Ask<'_>) -> bool {
         ) => *error == TreeError::Memory && back == value,
         (
             Reply::Refused(error),
-            Ask::Remove(_) | Ask::Delete(_) | Ask::Iter | Ask::Values | Ask::Stats,
+            Ask::Remove(_)
+            | Ask::Delete(_)
+            | Ask::Matches(_)
+            | Ask::Prefix(_)
+            | Ask::Iter
+            | Ask::Values
+            | Ask::Stats,
         ) => *error == TreeError::Memory,
         _ => false,
     }
@@ -101,6 +122,10 @@ pub fn are_same<K: KeyTrait>(one: &Reply<K, u64>, other: &Reply<K, u64>) -> bool
         (Reply::Inserted, Reply::Inserted) => true,
         (Reply::Occupied(back, stored), Reply::Occupied(proposed, present)) => {
             back == proposed && stored == present
+        }
+        (Reply::Pair(None), Reply::Pair(None)) => true,
+        (Reply::Pair(Some(left)), Reply::Pair(Some(right))) => {
+            left.0 == right.0 && left.1 == right.1
         }
         (Reply::Pairs(left), Reply::Pairs(right)) => are_same_pairs(
             left.as_slice(),

@@ -2,6 +2,7 @@
 //! the list of those still to come.
 ghost use Rattle.std.specs.Prelude.{◌≡◌, []};
 ghost use Rattle.std.specs.Iterator.{YieldsFirstBy};
+ghost use Rattle.rart_parts.specs.Entries.{entries_above};
 ghost use Rattle.rart_nodes.specs.storages.Stored.{stored};
 ghost use Rattle.rart_nodes.specs.walks.Walks.{to_come};
 
@@ -48,6 +49,19 @@ impl<N> Storage<N> {
             Storage::Sixteen(map) => StorageIter::Sorted(map.iter()),
             Storage::FortyEight(map) => StorageIter::Indexed(map.iter()),
             Storage::Full(map) => StorageIter::Direct(map.iter()),
+        }
+    }
+
+    /// The children whose byte is above `byte`, ascending. Takes no memory.
+    pub(crate) fn iter_above(&self, byte: u8) -> StorageIter<'_, N>
+        ensures { to_come result ≡ entries_above byte (stored self.now) }
+    {
+        match self {
+            Storage::Leaf => StorageIter::Childless,
+            Storage::Four(map) => StorageIter::Sorted(map.iter_above(byte)),
+            Storage::Sixteen(map) => StorageIter::Sorted(map.iter_above(byte)),
+            Storage::FortyEight(map) => StorageIter::Indexed(map.iter_above(byte)),
+            Storage::Full(map) => StorageIter::Direct(map.iter_above(byte)),
         }
     }
 }

@@ -1,7 +1,7 @@
 //! The positions of a set, ascending.
 ghost use Rattle.std.specs.Prelude.{◌≡◌, ℕ, ◌<◌, ◌*◌, ◌^◌};
 ghost use Rattle.std.specs.Iterator.{YieldsFirst, item_count};
-ghost use Rattle.rart_parts.specs.Bits.{words_have, members};
+ghost use Rattle.rart_parts.specs.Bits.{members, positions_above, words_have};
 
 use crate::utils::bitset::{Bitset, BitsetTrait, BitsetWord};
 use std::iter::FusedIterator;
@@ -35,6 +35,20 @@ impl<W: BitsetWord, const S: usize> Bitset<W, S> {
     {
         BitsetOnesIter {
             rest: Bitset { words: self.words },
+        }
+    }
+}
+
+impl<W: BitsetWord, const S: usize> BitsetOnesIter<W, S> {
+    /// Passes over the positions up to `position`, which is among them.
+    pub(crate) fn pass(&mut self, position: usize)
+        ensures { self.new ≡ positions_above position self.old }
+    {
+        while let Some(first) = self.rest.first_set() {
+            if first > position {
+                return;
+            }
+            self.rest.unset(first);
         }
     }
 }

@@ -1,0 +1,74 @@
+//! Laws of answers about a probe, of walks below a prefix, and of views.
+ghost use Rattle.std.specs.Prelude.{◌≡◌, ◌≢◌, ◌↔◌, [], None, true, length, option_map, IfErr, IfOk, IsTrue};
+ghost use Rattle.std.specs.List.{filter};
+ghost use Rattle.rart_keys.specs.ByteStrings.{begins};
+ghost use Rattle.rart_keys.specs.Filters.{last_or};
+ghost use Rattle.rart_keys.specs.KeyBytes.{IsWithin};
+ghost use Rattle.rart_nodes.specs.walks.Tour.{joined};
+ghost use Rattle.rart_nodes.specs.walks.TrailParts.{lent_pieces};
+
+use crate::tree::AdaptiveRadixTree;
+use rart_keys::KeyTrait;
+use rart_nodes::LendingKeyView;
+use rart_nodes::iter::{Iter, PrefixMatchIter};
+use rart_parts::TreeError;
+use std::alloc::Global;
+use std::cmp::Ordering;
+
+/// A walk below a prefix gives the pairs of the whole walk whose key begins with it, in the same order. Gives both walks.
+pub fn prefix_iter_filters_iter<'a, K: KeyTrait, V>(
+    tree: &'a AdaptiveRadixTree<K, V>,
+    prefix: &K,
+) -> Result<
+    (
+        Iter<'a, K, K::PartialType, V>,
+        Iter<'a, K, K::PartialType, V>,
+    ),
+    TreeError,
+>
+    ensures filters { IfOk result (λ walks. walks.1 ≡ filter (λ e. begins (K.bytes prefix.now) e.0) walks.0) }
+    ensures memory { IfErr result (λ e. (e ≡ TreeError.Memory) × (tree.now.pairs ≢ [])) }
+{
+    let all = tree.iter()?;
+    let below = tree.prefix_iter_k(prefix)?;
+    Ok((all, below))
+}
+
+/// The longest match is the last item of the walk over all matches, and none where that has none. Gives both.
+pub fn longest_is_the_last_match<'a, K: KeyTrait, V>(
+    tree: &'a AdaptiveRadixTree<K, V>,
+    probe: &K,
+) -> (
+    Option<(K, &'a V)>,
+    PrefixMatchIter<'a, K, K::PartialType, V>,
+)
+    ensures { option_map (λ p. (K.bytes p.0, p.1.now)) result.0 ≡ last_or None result.1 }
+{
+    (
+        tree.longest_prefix_match_k(probe),
+        tree.prefix_match_iter_k(probe),
+    )
+}
+
+/// A view is equal to a slice exactly where it compares as equal to it, exactly where its bytes are the slice.
+pub fn comparisons_agree(view: LendingKeyView<'_, '_>, slice: &[u8]) -> (Ordering, bool)
+    ensures agree { IsTrue result.1 ↔ (result.0 ≡ Ordering.Equal) }
+    ensures bytes { IsTrue result.1 ↔ (joined (lent_pieces view.entry.segments.now) ≡ slice.now) }
+{
+    (view.cmp_slice(slice), view.eq_slice(slice))
+}
+
+/// The key of a view has the view's bytes, and the view is equal to them. Asks that the bytes are within the maximum.
+pub fn key_of_a_view<K: KeyTrait>(
+    view: LendingKeyView<'_, '_>,
+    alloc: Global,
+) -> Result<(K, bool), TreeError>
+    requires { IsWithin K.MAXIMUM_SIZE (length (joined (lent_pieces view.segments.now))) }
+    ensures bytes { IfOk result (λ r. K.bytes r.0 ≡ joined (lent_pieces view.entry.segments.now)) }
+    ensures equal { IfOk result (λ r. r.1 ≡ true) }
+    ensures memory { IfErr result (λ e. e ≡ TreeError.Memory) }
+{
+    let key = view.to_key::<K>(alloc)?;
+    let equal = view.eq_slice(key.as_ref());
+    Ok((key, equal))
+}

@@ -1,0 +1,10 @@
+use Rattle.std.proofs.Common.{ap, ◌∙◌}
+use Rattle.rart_nodes.specs.ranges.Starts.{children_above}
+use Rattle.rart_nodes.specs.storages.Stored.{stored}
+use Rattle.rart_nodes.specs.tries.Trie.{children_in}
+use Rattle.rart_nodes.specs.tries.TrieCode.{as_children}
+use Rattle.rart_nodes.proofs.ranges.StartPaths.{as_children-above}
+use Rattle.rart_nodes.proofs.node.DefaultNode.iter_above.Goals as goal
+
+pub returns : goal.returns
+returns g c = ap as_children c.iter_above.ensures ∙ as_children-above c.args.byte (stored c.self.inside.storage) ∙ ap (λ t. children_above c.args.byte (children_in t)) c.self.view_is

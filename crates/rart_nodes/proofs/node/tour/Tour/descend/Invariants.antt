@@ -1,0 +1,22 @@
+use Rattle.std.proofs.Common.{◌≡◌, ◌≤◌, ◌<◌, ◌+◌, ◌++◌, None, length, reverse, vec_capacity, option_map}
+use Rattle.rart_nodes.specs.ranges.Starts.{stops_since}
+use Rattle.rart_nodes.specs.walks.ProbeCount.{entered_nodes, tree_entered}
+use Rattle.rart_nodes.specs.walks.Tour.{IsTour, behind_pieces, stops_below, stops_of, tree_count, tree_stops}
+use Rattle.rart_nodes.proofs.ranges.StartPaths.{HasWay}
+use Rattle.rart_nodes.proofs.node.tour.Tour.descend.Given as goal
+
+abbrev pub invariant-loop-next : goal.invariant-loop-next
+invariant-loop-next g l = record {
+  first : l.self.first ≡ None;
+  path : IsTour l.self.longest (vec_capacity l.self.levels) (g.T.Trail.kept l.trail) (reverse l.self.levels.items);
+  way : HasWay l.self.longest (g.T.Trail.kept l.trail) (length l.self.levels.items) (option_map (λ s. s.node.now) l.next);
+  room : l.self.longest ≤ g.T.Trail.room l.trail;
+  places : l.self.longest < vec_capacity l.self.levels;
+  still : behind_pieces (g.T.Trail.kept l.trail) (stops_since l.included l.rest (tree_stops g.T.Keeps.grown (option_map (λ s. s.node.now) l.next))) ++ stops_below g.T.Keeps.grown (g.T.Trail.kept l.trail) (reverse l.self.levels.items)
+      ≡ stops_since l.included l.fn.start (stops_of g.T.Keeps.grown l.fn.top.node.now);
+  visits : g.C.Count.number l.counter + tree_entered l.rest (option_map (λ s. s.node.now) l.next) ≡ g.C.Count.number l.fn.counter + entered_nodes l.fn.start l.fn.top.node.now;
+  longest : l.self.longest ≡ l.fn.self.longest;
+}
+
+abbrev pub decreases-loop-next : goal.decreases-loop-next
+decreases-loop-next g l = tree_count (option_map (λ s. s.node.now) l.next)
