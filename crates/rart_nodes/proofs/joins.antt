@@ -11,3 +11,4 @@ pub mod Reach
 pub mod SharedLemmas
 pub mod StringSets
 pub mod TwinLemmas
+pub mod WayLemmas

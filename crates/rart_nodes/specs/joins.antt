@@ -4,3 +4,5 @@ pub mod PairCalls
 pub mod SharedEdges
 pub mod Twins
 pub mod TwinsAhead
+pub mod ViewCalls
+pub mod Ways

@@ -4,10 +4,11 @@ ghost use Rattle.std.specs.List.{FoldsTo};
 ghost use Rattle.rart_keys.specs.Joins.{join};
 ghost use Rattle.rart_keys.specs.SortedMap.{values_of};
 ghost use Rattle.rart_nodes.specs.joins.PairCalls.{CalledAt, CalledWith};
+ghost use Rattle.rart_nodes.specs.joins.ViewCalls.{ViewedAt};
 
 use crate::tree::AdaptiveRadixTree;
 use rart_keys::KeyTrait;
-use rart_nodes::Visits;
+use rart_nodes::{LendingKeyView, Visits};
 use rart_parts::TreeError;
 
 impl<K: KeyTrait, V> AdaptiveRadixTree<K, V> {
@@ -82,5 +83,35 @@ impl<K: KeyTrait, V> AdaptiveRadixTree<K, V> {
     {
         self.seen()
             .intersect_with_counted(other.seen(), f, &mut Visits::new())
+    }
+    /// Calls `f` as `intersect_with_by_ref` does, with a view of the key in place of the key: no key is made. A segment of the
+    /// view is a stretch that prefixes of both trees have, or the byte by which a longer one is gone on with.
+    pub fn intersect_lending_with_by_ref<W, F: FnMut(LendingKeyView<'_, '_>, &V, &W)>(
+        &self,
+        other: &AdaptiveRadixTree<K, W>,
+        f: &mut F,
+    ) -> Result<(), TreeError>
+        requires { F.IsAlwaysCallable f.old }
+        ensures callable { F.IsAlwaysCallable f.new }
+        ensures calls { OnOk result (FoldsTo (λ p x q. ViewedAt F.FnMut p x q) f.old (join self.now.pairs other.now.pairs) f.new) }
+        ensures refused { OnErr result (f.new ≡ f.old) }
+        ensures memory { IfErr result (λ e. (e ≡ TreeError.Memory) × (self.now.pairs ≢ []) × (other.now.pairs ≢ [])) }
+    {
+        self.seen()
+            .intersect_lending_with_by_ref_counted(other.seen(), f, &mut Visits::new())
+    }
+
+    /// Calls `f` as `intersect_lending_with_by_ref` does. `f` is gone after the call.
+    pub fn intersect_lending_with<W, F: FnMut(LendingKeyView<'_, '_>, &V, &W) + Drop>(
+        &self,
+        other: &AdaptiveRadixTree<K, W>,
+        f: F,
+    ) -> Result<(), TreeError>
+        requires { F.IsAlwaysCallable f }
+        ensures calls { OnOk result ((last : F) × FoldsTo (λ p x q. ViewedAt F.FnMut p x q) f (join self.now.pairs other.now.pairs) last) }
+        ensures memory { IfErr result (λ e. (e ≡ TreeError.Memory) × (self.now.pairs ≢ []) × (other.now.pairs ≢ [])) }
+    {
+        self.seen()
+            .intersect_lending_with_counted(other.seen(), f, &mut Visits::new())
     }
 }

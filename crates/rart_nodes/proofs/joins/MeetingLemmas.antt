@@ -6,11 +6,13 @@ use Rattle.rart_keys.specs.Joins.{both}
 use Rattle.rart_keys.specs.SortedMap.{longest_key, values_of}
 use Rattle.rart_nodes.specs.joins.Lockstep.{meet}
 use Rattle.rart_nodes.specs.joins.Meetings.{AreMeetings, CountedOn, most_count, prefix-none}
+use Rattle.rart_nodes.specs.joins.Ways.{Kept, WayGrown, WayCut, way_mark}
 use Rattle.rart_nodes.specs.joins.SharedEdges.{more_visits}
 use Rattle.rart_nodes.specs.joins.Twins.{IsFork, meet_all, twin_if, twins_right, visits_all}
 use Rattle.rart_nodes.specs.tries.Trie.{Trie, node, Children, no_children, child, children_in, children_pairs, child_in, own_pair, pairs_of, value_of, with_prefix}
 use Rattle.rart_nodes.specs.tries.TrieCode.{child_count, node_count}
 use Rattle.rart_nodes.proofs.joins.ForkLemmas.{longest-child, some-count}
+use Rattle.rart_nodes.proofs.joins.WayLemmas.{way-on, way-back}
 use Rattle.rart_nodes.proofs.walks.SeenLemmas.{child-falls}
 
 -- a count of pairs, up to the most
@@ -57,20 +59,21 @@ module _ {V W : Type 0} where
       let h' : AreWithin n m ((t, u) ∷ qs) = subst (λ (z : List (Trie V × Trie W)). AreWithin n m z) e h in
       record { falls = h'.0; short = h'.1; others = h'.2; visits = ap visits_all e; fewer = omega (arith, ap length e) }
 
-  module _ {S F : Type 0} (room : S → ℕ → Type 0) (grown : S → List ℕ → S → Type 0) (mark : S → ℕ) (cut : ℕ → S → S → Type 0) (given : S → F → List (List ℕ × (V × W)) → F → Type 0) (laws : AreMeetings room grown mark cut given) where
+  module _ {F : Type 0} (room : Kept → ℕ → Type 0) (given : Kept → F → List (List ℕ × (V × W)) → F → Type 0) (laws : AreMeetings room given) where
     -- what was given at the same place
-    given-here : (s t : S) (f g : F) (es : List (List ℕ × (V × W))) → grown s [] t → given t f es g → given s f es g
+    given-here : (s t : Kept) (f g : F) (es : List (List ℕ × (V × W))) → WayGrown s [] t → given t f es g → given s f es g
     given-here s t f g es h k = subst (λ (z : List (List ℕ × (V × W))). given s f z g) (prefix-none es) (laws.gives_behind s t [] f g es h k)
 
-    pub given-next : (s t : S) (f g h : F) (ps : List (Trie V × Trie W)) (a : Trie V) (b : Trie W) (qs : List (Trie V × Trie W)) → ps ≡ (a, b) ∷ qs → grown s [] t → given t f (meet a b) g → given s g (meet_all qs) h → given s f (meet_all ps) h
+    pub given-next : (s t : Kept) (f g h : F) (ps : List (Trie V × Trie W)) (a : Trie V) (b : Trie W) (qs : List (Trie V × Trie W)) → ps ≡ (a, b) ∷ qs → WayGrown s [] t → given t f (meet a b) g → given s g (meet_all qs) h → given s f (meet_all ps) h
     given-next s t f g h ps a b qs e w i j = rw e (laws.gives_more s f g h (meet a b) (meet_all qs) (given-here s t f g (meet a b) w i) j)
 
-    pub given-fork : (s t : S) (f g h : F) (x : Trie V) (y : Trie W) (p : List ℕ) (a : Trie V) (b : Trie W) → IsFork x y p a b → grown s p t
+    pub given-fork : (s t : Kept) (f g h : F) (x : Trie V) (y : Trie W) (p : List ℕ) (a : Trie V) (b : Trie W) → IsFork x y p a b → WayGrown s p t
         → given t f (own_pair (both (value_of a) (value_of b))) g → given t g (meet_all (twins_right a (children_in b))) h → given s f (meet x y) h
     given-fork s t f g h x y p a b k w i j = rw k.given (laws.gives_behind s t p f h _ w (laws.gives_more t f g h _ _ i j))
 
-    pub back-again : (s t u v : S) (p : List ℕ) (m : ℕ) → m ≡ mark s → grown s p t → grown t [] u → cut m u v → grown s [] v
-    back-again s t u v p m e h i j = laws.goes_back s u v (p ++ []) (laws.goes_on s t u p [] h i) (rw (← e) j)
-
-    pub same-room : (s t : S) (m n : ℕ) → grown s [] t → room s m → n ≤ m → room t n
+    pub same-room : (s t : Kept) (m n : ℕ) → WayGrown s [] t → room s m → n ≤ m → room t n
     same-room s t m n h k i = laws.has_room s t [] m n h k (omega arith)
+
+-- gone on and back again
+pub back-again : (s t u v : Kept) (p : List ℕ) (m : ℕ) → m ≡ way_mark s → WayGrown s p t → WayGrown t [] u → WayCut m u v → WayGrown s [] v
+back-again s t u v p m e h i j = way-back s u v (p ++ []) (way-on s t u p [] h i) (rw (← e) j)

@@ -1,23 +1,26 @@
--- What a walk in lockstep keeps of its way, and what becomes of a caller's state as it is given pairs.
-use Rattle.std.specs.Prelude.{ℕ, ◌≡◌, ◌+◌, ◌-◌, ◌^◌, ◌≤◌, min, List, [], ◌∷◌, ◌++◌, length, take, vec_capacity, Option, Some, None}
+-- What becomes of a caller's state as a walk in lockstep gives it pairs, by what is kept of the way.
+use Rattle.std.specs.Prelude.{ℕ, ◌≡◌, ◌+◌, ◌-◌, ◌^◌, ◌≤◌, ◌<◌, true, min, List, [], ◌∷◌, ◌++◌, length, vec_capacity, Option, Some, None}
+use Rattle.std.specs.Borrow.{Bor}
 use Rattle.std.specs.Global.{Vec}
 use Rattle.std.proofs.Common.{refl, arith, sym, ap, ◌∙◌, length-append}
-use Rattle.std.proofs.lemmas.List.{append_assoc, append-nil}
-use Rattle.std.proofs.Math.Seq.{take-append_seam}
+use Rattle.std.proofs.lemmas.List.{append_assoc, length-map}
 use Rattle.std.specs.List.{FoldsTo}
 use Rattle.rart_keys.specs.KeyBytes.{IsWithin}
 use Rattle.rart_keys.specs.SortedMap.{values_of}
+use Rattle.rart_nodes.specs.declared.node.intersect.way.Way.TheVariants.{Untold, Bytes, Segments}
+use Rattle.rart_nodes.specs.joins.Ways.{Kept, WayRoom, WayGrown, BytesGrown, SegmentsGrown}
 use Rattle.rart_nodes.specs.tries.Trie.{with_prefix}
+use Rattle.rart_nodes.specs.walks.Tour.{Pieces, joined}
+use Rattle.rart_nodes.specs.walks.TrailParts.{lent_pieces}
+use Rattle.rart_nodes.specs.walks.ViewPieces.{all_have_bytes}
 
--- `grown s p t`: the trail t stands behind s by the bytes p. `given s f es g`: given the pairs es behind the trail s, f became g
-pub record AreMeetings {S F X : Type 0} (room : S → ℕ → Type 0) (grown : S → List ℕ → S → Type 0) (mark : S → ℕ) (cut : ℕ → S → S → Type 0) (given : S → F → List (List ℕ × X) → F → Type 0) : Type 0 where
-  pub stays : (s : S) → grown s [] s
-  pub goes_on : (s t u : S) (p q : List ℕ) → grown s p t → grown t q u → grown s (p ++ q) u
-  pub goes_back : (s t u : S) (p : List ℕ) → grown s p t → cut (mark s) t u → grown s [] u
-  pub has_room : (s t : S) (p : List ℕ) (m n : ℕ) → grown s p t → room s m → length p + n ≤ m → room t n
-  pub gives_none : (s : S) (f : F) → given s f [] f
-  pub gives_more : (s : S) (f g h : F) (xs ys : List (List ℕ × X)) → given s f xs g → given s g ys h → given s f (xs ++ ys) h
-  pub gives_behind : (s t : S) (p : List ℕ) (f g : F) (es : List (List ℕ × X)) → grown s p t → given t f es g → given s f (with_prefix p es) g
+-- `given s f es g`: given the pairs es behind the way s, f became g; `room s n`: it can go on by n bytes
+pub record AreMeetings {F X : Type 0} (room : Kept → ℕ → Type 0) (given : Kept → F → List (List ℕ × X) → F → Type 0) : Type 0 where
+  pub holds : (s : Kept) (n : ℕ) → room s n → WayRoom s n
+  pub has_room : (s t : Kept) (p : List ℕ) (m n : ℕ) → WayGrown s p t → room s m → length p + n ≤ m → room t n
+  pub gives_none : (s : Kept) (f : F) → given s f [] f
+  pub gives_more : (s : Kept) (f g h : F) (xs ys : List (List ℕ × X)) → given s f xs g → given s g ys h → given s f (xs ++ ys) h
+  pub gives_behind : (s t : Kept) (p : List ℕ) (f g : F) (es : List (List ℕ × X)) → WayGrown s p t → given t f es g → given s f (with_prefix p es) g
 
 folds-append : {P A : Type 0} (R : P → A → P → Type 0) (p q r : P) (xs ys : List A) → FoldsTo R p xs q → FoldsTo R q ys r → FoldsTo R p (xs ++ ys) r
 folds-append R p q r [] ys h g = rw h g
@@ -55,60 +58,152 @@ most_count = 2 ^ 64 - 1
 abbrev pub CountedOn : {X : Type 0} → ℕ → X → ℕ → Type 0
 CountedOn n x m = m ≡ min (n + 1) most_count
 
--- a trail that keeps nothing: pairs are given by their values
-abbrev pub NoRoom : {S : Type 0} → S → ℕ → Type 0
-NoRoom s n = Unit {0}
+-- room on ways
+bytes_room : (k l : Vec ℕ) (p : List ℕ) (m n : ℕ) → BytesGrown k p l → length k.items + m ≤ vec_capacity k → length p + n ≤ m → length l.items + n ≤ vec_capacity l
+bytes_room k l p m n a b c = omega (arith, a.place, b, c, ap length a.bytes, length-append k.items p)
 
-abbrev pub NoWay : {S : Type 0} → S → List ℕ → S → Type 0
-NoWay s p t = Unit {0}
+pub joined-append : (xs ys : Pieces) → joined (xs ++ ys) ≡ joined xs ++ joined ys
+joined-append [] ys = refl
+joined-append (x ∷ xs) ys = ap (λ z. x ++ z) (joined-append xs ys) ∙ sym (append_assoc x (joined xs) (joined ys))
 
-abbrev pub no_mark : {S : Type 0} → S → ℕ
-no_mark s = 0
+pub full-append : (xs ys : Pieces) → all_have_bytes xs ≡ true → all_have_bytes ys ≡ true → all_have_bytes (xs ++ ys) ≡ true
+full-append [] ys h k = k
+full-append ([] ∷ xs) ys h k = absurd (cc h)
+full-append ((b ∷ x) ∷ xs) ys h k = full-append xs ys h k
 
-abbrev pub NoCut : {S : Type 0} → ℕ → S → S → Type 0
-NoCut n s t = Unit {0}
+many-joined : (xs : Pieces) → all_have_bytes xs ≡ true → length xs ≤ length (joined xs)
+many-joined [] h = omega arith
+many-joined ([] ∷ xs) h = absurd (cc h)
+many-joined ((b ∷ x) ∷ xs) h = omega (arith, many-joined xs h, length-append x (joined xs))
 
-abbrev pub GivenValues : {S F X : Type 0} → (F → X → F → Type 0) → S → F → List (List ℕ × X) → F → Type 0
+segments_room : (k l : Vec (Bor (List ℕ))) (p : List ℕ) (m n : ℕ) → SegmentsGrown k p l → length k.items + m ≤ vec_capacity k → length p + n ≤ m → length l.items + n ≤ vec_capacity l
+segments_room k l p m n a b c =
+    omega (arith, a.place, b, c, ap length a.pieces, length-append (lent_pieces k.items) a.more, length-map k.items (λ x. x.now), length-map l.items (λ x. x.now), many-joined a.more a.full, ap length a.bytes)
+
+pub way-room : (s t : Kept) (p : List ℕ) (m n : ℕ) → WayGrown s p t → WayRoom s m → length p + n ≤ m → WayRoom t n
+way-room Untold Untold p m n a b c = tt
+way-room Untold (Bytes l) p m n a b c = absurd a
+way-room Untold (Segments l) p m n a b c = absurd a
+way-room (Bytes k) Untold p m n a b c = absurd a
+way-room (Bytes k) (Bytes l) p m n a b c = bytes_room k l p m n a b c
+way-room (Bytes k) (Segments l) p m n a b c = absurd a
+way-room (Segments k) Untold p m n a b c = absurd a
+way-room (Segments k) (Bytes l) p m n a b c = absurd a
+way-room (Segments k) (Segments l) p m n a b c = segments_room k l p m n a b c
+
+-- pairs given by their values
+abbrev pub GivenValues : {F X : Type 0} → (F → X → F → Type 0) → Kept → F → List (List ℕ × X) → F → Type 0
 GivenValues r s f es g = FoldsTo r f (values_of es) g
 
-pub give_values : {S F X : Type 0} (r : F → X → F → Type 0) → AreMeetings {S = S} NoRoom NoWay no_mark NoCut (GivenValues r)
+pub give_values : {F X : Type 0} (r : F → X → F → Type 0) → AreMeetings WayRoom (GivenValues r)
 give_values r = record {
-  stays = λ s. tt;
-  goes_on = λ s t u p q a b. tt;
-  goes_back = λ s t u p a b. tt;
-  has_room = λ s t p m n a b c. tt;
+  holds = λ s n h. h;
+  has_room = way-room;
   gives_none = λ s f. refl;
   gives_more = λ s f g h xs ys a b. rw (values_of-append xs ys) (folds-append r f g h (values_of xs) (values_of ys) a b);
   gives_behind = λ s t p f g es a b. rw (values_of-behind p es) b;
 }
 
--- a trail of the key's bytes: pairs are given with their keys
-pub record KeyRoom (most : Option ℕ) (s : Vec ℕ) (n : ℕ) : Type 0 where
-  pub place : length s.items + n ≤ vec_capacity s
-  pub within : IsWithin most (length s.items + n)
+-- pairs given with their keys, from the bytes of the way
+pub record KeyRoom (most : Option ℕ) (k : Vec ℕ) (n : ℕ) : Type 0 where
+  pub place : length k.items + n ≤ vec_capacity k
+  pub within : IsWithin most (length k.items + n)
 
-pub record KeyGrown (s : Vec ℕ) (p : List ℕ) (t : Vec ℕ) : Type 0 where
-  pub bytes : t.items ≡ s.items ++ p
-  pub place : vec_capacity s ≤ vec_capacity t
+abbrev pub KeysRoom : Option ℕ → Kept → ℕ → Type 0
+KeysRoom most Untold n = ⊥
+KeysRoom most (Bytes k) n = KeyRoom most k n
+KeysRoom most (Segments k) n = ⊥
 
-pub record KeyCut (n : ℕ) (s t : Vec ℕ) : Type 0 where
-  pub bytes : t.items ≡ take n s.items
-  pub place : vec_capacity s ≤ vec_capacity t
+keys-hold : (most : Option ℕ) (s : Kept) (n : ℕ) → KeysRoom most s n → WayRoom s n
+keys-hold most Untold n h = absurd h
+keys-hold most (Bytes k) n h = h.place
+keys-hold most (Segments k) n h = absurd h
 
-abbrev pub GivenKeys : {F X : Type 0} → (F → List ℕ × X → F → Type 0) → Vec ℕ → F → List (List ℕ × X) → F → Type 0
-GivenKeys r s f es g = FoldsTo r f (with_prefix s.items es) g
-
-pub give_keys : {S F X : Type 0} (key : S → Vec ℕ) (most : Option ℕ) (r : F → List ℕ × X → F → Type 0)
-    → AreMeetings {S = S} (λ s n. KeyRoom most (key s) n) (λ s p t. KeyGrown (key s) p (key t)) (λ s. length (key s).items) (λ n s t. KeyCut n (key s) (key t)) (λ s f es g. GivenKeys r (key s) f es g)
-give_keys {S} {F} {X} key most r = record {
-  stays = λ s. record { bytes = sym (append-nil (key s).items); place = omega arith };
-  goes_on = λ s t u p q a b. record { bytes = b.bytes ∙ ap (λ z. z ++ q) a.bytes ∙ append_assoc (key s).items p q; place = omega (arith, a.place, b.place) };
-  goes_back = λ s t u p a b. record { bytes = b.bytes ∙ ap (λ z. take (length (key s).items) z) a.bytes ∙ take-append_seam (key s).items p ∙ sym (append-nil (key s).items); place = omega (arith, a.place, b.place) };
-  has_room = λ s t p m n a b c. record {
-    place = omega (arith, a.place, b.place, ap length a.bytes, length-append (key s).items p);
-    within = within-less most (length (key s).items + m) (length (key t).items + n) b.within (omega (arith, ap length a.bytes, length-append (key s).items p));
-  };
-  gives_none = λ s f. refl;
-  gives_more = λ s f g h xs ys a b. rw (prefix-append (key s).items xs ys) (folds-append r f g h (with_prefix (key s).items xs) (with_prefix (key s).items ys) a b);
-  gives_behind = λ s t p f g es a b. rw (prefix-twice (key s).items p es, ← a.bytes) b;
+keys-room : (most : Option ℕ) (s t : Kept) (p : List ℕ) (m n : ℕ) → WayGrown s p t → KeysRoom most s m → length p + n ≤ m → KeysRoom most t n
+keys-room most Untold t p m n a b c = absurd b
+keys-room most (Segments k) t p m n a b c = absurd b
+keys-room most (Bytes k) Untold p m n a b c = absurd a
+keys-room most (Bytes k) (Segments l) p m n a b c = absurd a
+keys-room most (Bytes k) (Bytes l) p m n a b c = record {
+  place = bytes_room k l p m n a b.place c;
+  within = within-less most (length k.items + m) (length l.items + n) b.within (omega (arith, c, ap length a.bytes, length-append k.items p));
 }
+
+abbrev pub GivenKeys : {F X : Type 0} → (F → List ℕ × X → F → Type 0) → Kept → F → List (List ℕ × X) → F → Type 0
+GivenKeys r Untold f es g = Unit {0}
+GivenKeys r (Bytes k) f es g = FoldsTo r f (with_prefix k.items es) g
+GivenKeys r (Segments k) f es g = Unit {0}
+
+keys-none : {F X : Type 0} (r : F → List ℕ × X → F → Type 0) (s : Kept) (f : F) → GivenKeys r s f [] f
+keys-none r Untold f = tt
+keys-none r (Bytes k) f = refl
+keys-none r (Segments k) f = tt
+
+keys-more : {F X : Type 0} (r : F → List ℕ × X → F → Type 0) (s : Kept) (f g h : F) (xs ys : List (List ℕ × X)) → GivenKeys r s f xs g → GivenKeys r s g ys h → GivenKeys r s f (xs ++ ys) h
+keys-more r Untold f g h xs ys a b = tt
+keys-more r (Bytes k) f g h xs ys a b = rw (prefix-append k.items xs ys) (folds-append r f g h (with_prefix k.items xs) (with_prefix k.items ys) a b)
+keys-more r (Segments k) f g h xs ys a b = tt
+
+keys-behind : {F X : Type 0} (r : F → List ℕ × X → F → Type 0) (s t : Kept) (p : List ℕ) (f g : F) (es : List (List ℕ × X)) → WayGrown s p t → GivenKeys r t f es g → GivenKeys r s f (with_prefix p es) g
+keys-behind r Untold t p f g es a b = tt
+keys-behind r (Segments k) t p f g es a b = tt
+keys-behind r (Bytes k) Untold p f g es a b = absurd a
+keys-behind r (Bytes k) (Segments l) p f g es a b = absurd a
+keys-behind r (Bytes k) (Bytes l) p f g es a b = rw (prefix-twice k.items p es, ← a.bytes) b
+
+pub give_keys : {F X : Type 0} (most : Option ℕ) (r : F → List ℕ × X → F → Type 0) → AreMeetings (KeysRoom most) (GivenKeys r)
+give_keys most r = record { holds = keys-hold most; has_room = keys-room most; gives_none = keys-none r; gives_more = keys-more r; gives_behind = keys-behind r }
+
+-- pairs given with views of their keys, from the pieces of the way
+pub record ViewRoom (k : Vec (Bor (List ℕ))) (n : ℕ) : Type 0 where
+  pub place : length k.items + n ≤ vec_capacity k
+  pub fits : length (joined (lent_pieces k.items)) + n < 2 ^ 64
+  pub full : all_have_bytes (lent_pieces k.items) ≡ true
+
+abbrev pub ViewsRoom : Kept → ℕ → Type 0
+ViewsRoom Untold n = ⊥
+ViewsRoom (Bytes k) n = ⊥
+ViewsRoom (Segments k) n = ViewRoom k n
+
+views-hold : (s : Kept) (n : ℕ) → ViewsRoom s n → WayRoom s n
+views-hold Untold n h = absurd h
+views-hold (Bytes k) n h = absurd h
+views-hold (Segments k) n h = h.place
+
+views-room : (s t : Kept) (p : List ℕ) (m n : ℕ) → WayGrown s p t → ViewsRoom s m → length p + n ≤ m → ViewsRoom t n
+views-room Untold t p m n a b c = absurd b
+views-room (Bytes k) t p m n a b c = absurd b
+views-room (Segments k) Untold p m n a b c = absurd a
+views-room (Segments k) (Bytes l) p m n a b c = absurd a
+views-room (Segments k) (Segments l) p m n a b c = record {
+  place = segments_room k l p m n a b.place c;
+  fits = omega (arith, c, b.fits, ap (λ z. length (joined z)) a.pieces, ap length (joined-append (lent_pieces k.items) a.more), length-append (joined (lent_pieces k.items)) (joined a.more), ap length a.bytes);
+  full = rw a.pieces (full-append (lent_pieces k.items) a.more b.full a.full);
+}
+
+abbrev pub GivenViews : {F X : Type 0} → (F → List ℕ × X → F → Type 0) → Kept → F → List (List ℕ × X) → F → Type 0
+GivenViews r Untold f es g = Unit {0}
+GivenViews r (Bytes k) f es g = Unit {0}
+GivenViews r (Segments k) f es g = FoldsTo r f (with_prefix (joined (lent_pieces k.items)) es) g
+
+views-none : {F X : Type 0} (r : F → List ℕ × X → F → Type 0) (s : Kept) (f : F) → GivenViews r s f [] f
+views-none r Untold f = tt
+views-none r (Bytes k) f = tt
+views-none r (Segments k) f = refl
+
+views-more : {F X : Type 0} (r : F → List ℕ × X → F → Type 0) (s : Kept) (f g h : F) (xs ys : List (List ℕ × X)) → GivenViews r s f xs g → GivenViews r s g ys h → GivenViews r s f (xs ++ ys) h
+views-more r Untold f g h xs ys a b = tt
+views-more r (Bytes k) f g h xs ys a b = tt
+views-more r (Segments k) f g h xs ys a b = let p = joined (lent_pieces k.items) in rw (prefix-append p xs ys) (folds-append r f g h (with_prefix p xs) (with_prefix p ys) a b)
+
+views-behind : {F X : Type 0} (r : F → List ℕ × X → F → Type 0) (s t : Kept) (p : List ℕ) (f g : F) (es : List (List ℕ × X)) → WayGrown s p t → GivenViews r t f es g → GivenViews r s f (with_prefix p es) g
+views-behind r Untold t p f g es a b = tt
+views-behind r (Bytes k) t p f g es a b = tt
+views-behind r (Segments k) Untold p f g es a b = absurd a
+views-behind r (Segments k) (Bytes l) p f g es a b = absurd a
+views-behind r (Segments k) (Segments l) p f g es a b =
+    let whole : joined (lent_pieces l.items) ≡ joined (lent_pieces k.items) ++ p = ap joined a.pieces ∙ joined-append (lent_pieces k.items) a.more ∙ ap (λ z. joined (lent_pieces k.items) ++ z) a.bytes in
+    rw (prefix-twice (joined (lent_pieces k.items)) p es, ← whole) b
+
+pub give_views : {F X : Type 0} (r : F → List ℕ × X → F → Type 0) → AreMeetings ViewsRoom (GivenViews r)
+give_views r = record { holds = views-hold; has_room = views-room; gives_none = views-none r; gives_more = views-more r; gives_behind = views-behind r }

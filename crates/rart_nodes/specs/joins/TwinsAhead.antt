@@ -1,7 +1,7 @@
 -- The pairs of children that a walk over two nodes has still to visit.
 use Rattle.std.specs.Prelude.{List}
-use Rattle.rart_nodes.specs.declared.node.twins.Twins.{Twins}
-use Rattle.rart_nodes.specs.declared.node.twins.Twins.TheVariants.{OverLeft, OverRight}
+use Rattle.rart_nodes.specs.declared.node.intersect.twins.Twins.{Twins}
+use Rattle.rart_nodes.specs.declared.node.intersect.twins.Twins.TheVariants.{OverLeft, OverRight}
 use Rattle.rart_nodes.specs.joins.Twins.{twins_left, twins_right}
 use Rattle.rart_nodes.specs.tries.Trie.{Trie}
 

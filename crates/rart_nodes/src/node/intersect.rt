@@ -7,57 +7,66 @@ ghost use Rattle.rart_keys.specs.SortedMap.{keys_of, longest_key, values_of};
 ghost use Rattle.rart_nodes.specs.joins.Lockstep.{meet};
 ghost use Rattle.rart_nodes.specs.joins.PairCalls.{CalledAt, CalledWith};
 ghost use Rattle.rart_nodes.specs.joins.SharedEdges.{joint_visits, more_visits};
+ghost use Rattle.rart_nodes.specs.joins.ViewCalls.{ViewedAt};
+ghost use Rattle.rart_nodes.specs.joins.Ways.{WayGrown};
 ghost use Rattle.rart_nodes.specs.tries.Tree.{tree_nodes, tree_pairs};
 ghost use Rattle.rart_nodes.specs.tries.Trie.{pairs_of};
 
+mod fork;
+mod meeting;
+mod twins;
+mod way;
+
 use crate::count::Count;
-use crate::node::fork::next_fork;
-use crate::node::meeting::{ByKeys, ByValues, Counted, Meeting, give_both};
+use crate::node::intersect::fork::next_fork;
+use crate::node::intersect::meeting::{ByKeys, ByValues, ByViews, Counted, Meeting, give_both};
+use crate::node::intersect::twins::Twins;
+use crate::node::intersect::way::Way;
 use crate::node::seen::{Entered, Seen};
-use crate::node::twins::Twins;
+use crate::node::view::LendingKeyView;
 use rart_keys::{KeyTrait, Partial};
 use rart_parts::TreeError;
 
-/// Gives the pairs of both trees below two nodes just visited. The trail then is as it was.
-fn meet_below<P: Partial, V, W, C: Count, F, T: Meeting<V, W, F>>(
-    left: Entered<'_, P, V, C>,
+/// Gives the pairs of both trees below two nodes just visited. The way then is as it was.
+fn meet_below<'a, P: Partial, V, W, C: Count, F, T: Meeting<V, W, F>>(
+    left: Entered<'a, P, V, C>,
     right: Entered<'_, P, W, C>,
-    trail: &mut T,
+    way: &mut Way<'a>,
     counter: &mut C,
     f: &mut F,
 )
-    requires room { T.room trail.old (longest_key (pairs_of left.node.now)) }
+    requires room { T.room way.old (longest_key (pairs_of left.node.now)) }
     requires callable { T.callable f.old }
-    ensures place { T.grown trail.old [] trail.new }
+    ensures place { WayGrown way.old [] way.new }
     ensures callable { T.callable f.new }
-    ensures given { T.given trail.old f.old (meet left.entry.node.now right.entry.node.now) f.new }
+    ensures given { T.given way.old f.old (meet left.entry.node.now right.entry.node.now) f.new }
     ensures visits { C.number counter.new ≡ C.number counter.old + more_visits left.entry.node.now right.entry.node.now }
 {
-    let mark = trail.mark();
-    let Some((left_fork, right_fork)) = next_fork(left, right, trail, counter) else {
-        trail.cut(mark);
+    let mark = way.mark();
+    let Some((left_fork, right_fork)) = next_fork(left, right, way, counter) else {
+        way.cut(mark);
         return;
     };
-    give_both(left_fork.value(), right_fork.value(), trail, f);
+    give_both::<V, W, F, T>(left_fork.value(), right_fork.value(), way, f);
     let mut twins = Twins::of(left_fork, right_fork);
     while let Some((child, other)) = twins.enter_next(left_fork, right_fork, counter) {
-        meet_below(child, other, trail, counter, f);
+        meet_below::<P, V, W, C, F, T>(child, other, way, counter, f);
     }
-    trail.cut(mark);
+    way.cut(mark);
 }
 
 /// Gives the pairs of both trees.
-fn meet_trees<K: KeyTrait, V, W, C: Count, F, T: Meeting<V, W, F>>(
-    left: Seen<'_, K, V, C>,
+fn meet_trees<'a, K: KeyTrait, V, W, C: Count, F, T: Meeting<V, W, F>>(
+    left: Seen<'a, K, V, C>,
     right: Seen<'_, K, W, C>,
-    trail: &mut T,
+    way: &mut Way<'a>,
     counter: &mut C,
     f: &mut F,
 )
-    requires room { T.room trail.old (longest_key (tree_pairs (option_copied left.root))) }
+    requires room { T.room way.old (longest_key (tree_pairs (option_copied left.root))) }
     requires callable { T.callable f.old }
     ensures callable { T.callable f.new }
-    ensures given { T.given trail.old f.old (join (tree_pairs (option_copied left.entry.root)) (tree_pairs (option_copied right.entry.root))) f.new }
+    ensures given { T.given way.old f.old (join (tree_pairs (option_copied left.entry.root)) (tree_pairs (option_copied right.entry.root))) f.new }
     ensures visits { C.number counter.new ≡ C.number counter.old + joint_visits (keys_of (tree_pairs (option_copied left.entry.root))) (keys_of (tree_pairs (option_copied right.entry.root))) }
     ensures bound { C.number counter.new ≤ C.number counter.old + (length (tree_nodes (option_copied left.entry.root)) + length (tree_nodes (option_copied right.entry.root)) - 1) }
 {
@@ -68,7 +77,7 @@ fn meet_trees<K: KeyTrait, V, W, C: Count, F, T: Meeting<V, W, F>>(
         return;
     };
     let (left_root, right_root) = left_top.enter_pair(right_top, counter);
-    meet_below(left_root, right_root, trail, counter, f);
+    meet_below::<K::PartialType, V, W, C, F, T>(left_root, right_root, way, counter, f);
 }
 
 impl<'a, K: KeyTrait, V, C: Count> Seen<'a, K, V, C> {
@@ -81,7 +90,13 @@ impl<'a, K: KeyTrait, V, C: Count> Seen<'a, K, V, C> {
         ensures bound { C.number counter.new ≤ C.number counter.old + (length (tree_nodes (option_copied self.entry.root)) + length (tree_nodes (option_copied other.entry.root)) - 1) }
     {
         let mut count = 0;
-        meet_trees(self, other, &mut Counted, counter, &mut count);
+        meet_trees::<K, V, W, C, usize, Counted>(
+            self,
+            other,
+            &mut Way::Untold,
+            counter,
+            &mut count,
+        );
         count
     }
 
@@ -100,7 +115,7 @@ impl<'a, K: KeyTrait, V, C: Count> Seen<'a, K, V, C> {
         ensures visits { C.number counter.new ≡ C.number counter.old + joint_visits (keys_of (tree_pairs (option_copied self.entry.root))) (keys_of (tree_pairs (option_copied other.entry.root))) }
         ensures bound { C.number counter.new ≤ C.number counter.old + (length (tree_nodes (option_copied self.entry.root)) + length (tree_nodes (option_copied other.entry.root)) - 1) }
     {
-        meet_trees(self, other, &mut ByValues, counter, f);
+        meet_trees::<K, V, W, C, F, ByValues>(self, other, &mut Way::Untold, counter, f);
     }
 
     /// Calls `f` as `intersect_values_with_by_ref_counted` does; `f` is gone after the call.
@@ -141,8 +156,9 @@ impl<'a, K: KeyTrait, V, C: Count> Seen<'a, K, V, C> {
         let Some(_) = other.top() else {
             return Ok(());
         };
-        let mut trail = ByKeys::with_room(self.alloc(), self.longest())?;
-        meet_trees(self, other, &mut trail, counter, f);
+        let bytes = Vec::with_capacity(self.alloc(), self.longest())?;
+        let mut way = Way::Bytes(bytes);
+        meet_trees::<K, V, W, C, F, ByKeys<K>>(self, other, &mut way, counter, f);
         Ok(())
     }
 
@@ -161,5 +177,49 @@ impl<'a, K: KeyTrait, V, C: Count> Seen<'a, K, V, C> {
         ensures bound { C.number counter.new ≤ C.number counter.old + (length (tree_nodes (option_copied self.entry.root)) + length (tree_nodes (option_copied other.entry.root)) - 1) }
     {
         self.intersect_with_by_ref_counted(other, &mut f, counter)
+    }
+    /// As `intersect_with_by_ref_counted`, with a view of the key in place of it: no key is made. A segment is a stretch
+    /// that both prefixes of a pair have, or the byte by which a longer one is gone on with.
+    pub fn intersect_lending_with_by_ref_counted<'b, W, F: FnMut(LendingKeyView<'_, '_>, &V, &W)>(
+        self,
+        other: Seen<'b, K, W, C>,
+        f: &mut F,
+        counter: &mut C,
+    ) -> Result<(), TreeError>
+        requires { F.IsAlwaysCallable f.old }
+        ensures callable { F.IsAlwaysCallable f.new }
+        ensures calls { OnOk result (FoldsTo (λ p x q. ViewedAt F.FnMut p x q) f.old (join (tree_pairs (option_copied self.entry.root)) (tree_pairs (option_copied other.entry.root))) f.new) }
+        ensures memory { IfErr result (λ e. (e ≡ TreeError.Memory) × (tree_pairs (option_copied self.entry.root) ≢ []) × (tree_pairs (option_copied other.entry.root) ≢ [])) }
+        ensures refused { OnErr result ((f.new ≡ f.old) × (C.number counter.new ≡ C.number counter.old)) }
+        ensures visits { OnOk result (C.number counter.new ≡ C.number counter.old + joint_visits (keys_of (tree_pairs (option_copied self.entry.root))) (keys_of (tree_pairs (option_copied other.entry.root)))) }
+        ensures bound { C.number counter.new ≤ C.number counter.old + (length (tree_nodes (option_copied self.entry.root)) + length (tree_nodes (option_copied other.entry.root)) - 1) }
+    {
+        let Some(_) = self.top() else {
+            return Ok(());
+        };
+        let Some(_) = other.top() else {
+            return Ok(());
+        };
+        let segments = Vec::with_capacity(self.alloc(), self.longest())?;
+        let mut way = Way::Segments(segments);
+        meet_trees::<K, V, W, C, F, ByViews>(self, other, &mut way, counter, f);
+        Ok(())
+    }
+
+    /// Calls `f` as `intersect_lending_with_by_ref_counted` does; `f` is gone after the call.
+    pub fn intersect_lending_with_counted<'b, W, F: FnMut(LendingKeyView<'_, '_>, &V, &W) + Drop>(
+        self,
+        other: Seen<'b, K, W, C>,
+        mut f: F,
+        counter: &mut C,
+    ) -> Result<(), TreeError>
+        requires { F.IsAlwaysCallable f }
+        ensures calls { OnOk result ((last : F) × FoldsTo (λ p x q. ViewedAt F.FnMut p x q) f (join (tree_pairs (option_copied self.entry.root)) (tree_pairs (option_copied other.entry.root))) last) }
+        ensures memory { IfErr result (λ e. (e ≡ TreeError.Memory) × (tree_pairs (option_copied self.entry.root) ≢ []) × (tree_pairs (option_copied other.entry.root) ≢ [])) }
+        ensures unvisited { OnErr result (C.number counter.new ≡ C.number counter.old) }
+        ensures visits { OnOk result (C.number counter.new ≡ C.number counter.old + joint_visits (keys_of (tree_pairs (option_copied self.entry.root))) (keys_of (tree_pairs (option_copied other.entry.root)))) }
+        ensures bound { C.number counter.new ≤ C.number counter.old + (length (tree_nodes (option_copied self.entry.root)) + length (tree_nodes (option_copied other.entry.root)) - 1) }
+    {
+        self.intersect_lending_with_by_ref_counted(other, &mut f, counter)
     }
 }

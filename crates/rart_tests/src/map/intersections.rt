@@ -1,8 +1,8 @@
 //! Intersections: the keys of two trees, with the values of both.
 
 use crate::play::went_well;
-use crate::refusals::{refuse, was_refused};
-use rart::{AdaptiveRadixTree, ArrayKey, KeyTrait, TreeError};
+use crate::refusals::{part_ends, refuse, was_refused};
+use rart::{AdaptiveRadixTree, ArrayKey, KeyTrait, LendingKeyView, TreeError};
 use std::alloc::Global;
 use std::process::Abort;
 
@@ -70,6 +70,15 @@ impl<'a> Given<'a> {
         self.values(left, right);
     }
 
+    fn view(&mut self, key: LendingKeyView<'_, '_>, left: u64, right: u64) {
+        let as_wanted = match self.wanted.get(self.many) {
+            Some(triple) => key.eq_slice(triple.0.as_bytes()),
+            None => false,
+        };
+        self.well = self.well && as_wanted;
+        self.values(left, right);
+    }
+
     fn all(&self) -> bool {
         self.well && self.many == self.wanted.len()
     }
@@ -111,12 +120,39 @@ fn gives_by_ref(left: &Tree, right: &Tree, wanted: &[Triple], swapped: bool) -> 
     }
 }
 
+fn lends(left: &Tree, right: &Tree, wanted: &[Triple], swapped: bool) -> Option<bool> {
+    let mut given = Given::nothing(wanted, swapped);
+    let answer = left.intersect_lending_with(
+        right,
+        |key: LendingKeyView<'_, '_>, one: &u64, other: &u64| given.view(key, *one, *other),
+    );
+    match answer {
+        Ok(()) => Some(given.all()),
+        Err(TreeError::Memory) if given.many == 0 => None,
+        Err(_) => Some(false),
+    }
+}
+
+fn lends_by_ref(left: &Tree, right: &Tree, wanted: &[Triple], swapped: bool) -> Option<bool> {
+    let mut given = Given::nothing(wanted, swapped);
+    let mut give = |key: LendingKeyView<'_, '_>, one: &u64, other: &u64| {
+        given.view(key, *one, *other);
+    };
+    match left.intersect_lending_with_by_ref(right, &mut give) {
+        Ok(()) => Some(given.all()),
+        Err(TreeError::Memory) if given.many == 0 => None,
+        Err(_) => Some(false),
+    }
+}
+
 fn is_way(left: &Tree, right: &Tree, wanted: &[Triple], swapped: bool) -> bool {
     left.intersect_count(right) == wanted.len()
         && gives_values(left, right, wanted, swapped)
         && gives_values_by_ref(left, right, wanted, swapped)
         && gives(left, right, wanted, swapped) == Some(true)
         && gives_by_ref(left, right, wanted, swapped) == Some(true)
+        && lends(left, right, wanted, swapped) == Some(true)
+        && lends_by_ref(left, right, wanted, swapped) == Some(true)
 }
 
 fn is_met(left: &Tree, right: &Tree, wanted: &[Triple]) -> bool {
@@ -182,6 +218,60 @@ fn keys_of_both_trees(rt: HostRuntime) {
     went_well(&rt, plays(&rt, rt.alloc(), &ROWS));
 }
 
+// Whether the views so far were cut as wanted.
+#[derive(Drop)]
+struct Cuts<'a> {
+    wanted: &'a [&'a [&'a str]],
+    many: usize,
+    well: bool,
+}
+
+fn is_cut(segments: &[&[u8]], wanted: &[&str]) -> bool {
+    if segments.len() != wanted.len() {
+        return false;
+    }
+    for (segment, text) in segments.iter().zip(wanted) {
+        if *segment != text.as_bytes() {
+            return false;
+        }
+    }
+    true
+}
+
+impl<'a> Cuts<'a> {
+    fn view(&mut self, key: LendingKeyView<'_, '_>) {
+        let as_wanted = match self.wanted.get(self.many) {
+            Some(wanted) => is_cut(key.segments(), wanted),
+            None => false,
+        };
+        self.well = self.well && as_wanted;
+        self.many = self.many.wrapping_add(1);
+    }
+}
+
+fn is_cut_so(left: &Tree, right: &Tree, wanted: &[&[&str]]) -> bool {
+    let mut cuts = Cuts {
+        wanted,
+        many: 0,
+        well: true,
+    };
+    let answer = left.intersect_lending_with(
+        right,
+        |key: LendingKeyView<'_, '_>, _one: &u64, _other: &u64| cuts.view(key),
+    );
+    answer.is_ok() && cuts.well && cuts.many == wanted.len()
+}
+
+const CUT_WORDS: [&[&str]; 2] = [&["ab", "c", "\0"], &["dog\0"]];
+
+#[test]
+fn a_view_is_cut_where_prefixes_part_and_at_the_byte_behind(rt: HostRuntime) {
+    let words = filled(&rt, rt.alloc(), &WORDS);
+    let others = filled(&rt, rt.alloc(), &OTHER_WORDS);
+    assert!(rt; is_cut_so(&words, &others, &CUT_WORDS));
+    assert!(rt; is_cut_so(&others, &words, &CUT_WORDS));
+}
+
 // A node with a child at each byte from the first on, at every step to below the last.
 fn wide(rt: &impl Abort, alloc: Global, first: u8, last: u8, step: u8) -> Tree {
     let mut tree = Tree::new(alloc);
@@ -237,10 +327,20 @@ fn counts_and_values_ask_for_nothing(rt: HostRuntime) {
 }
 
 // How many requests were refused before all was given, each of which gave nothing; None where one went another way.
-fn refusals(alloc: Global, left: &Tree, right: &Tree, wanted: &[Triple]) -> Option<usize> {
+fn refusals(
+    alloc: Global,
+    left: &Tree,
+    right: &Tree,
+    wanted: &[Triple],
+    lent: bool,
+) -> Option<usize> {
     for at in 1..100_usize {
         refuse(alloc, at);
-        let given = gives(left, right, wanted, false);
+        let given = if lent {
+            lends(left, right, wanted, false)
+        } else {
+            gives(left, right, wanted, false)
+        };
         if !was_refused(alloc) {
             return if given == Some(true) {
                 Some(at - 1)
@@ -255,14 +355,27 @@ fn refusals(alloc: Global, left: &Tree, right: &Tree, wanted: &[Triple]) -> Opti
     None
 }
 
+// Whether the walk is refused at most once where both trees have pairs, and else never.
+fn is_swept(alloc: Global, left: &Tree, right: &Tree, wanted: &[Triple], lent: bool) -> bool {
+    let asks = !left.is_empty() && !right.is_empty();
+    let swept = match refusals(alloc, left, right, wanted, lent) {
+        Some(many) => many <= usize::from(asks),
+        None => false,
+    };
+    if asks {
+        part_ends(alloc);
+    }
+    swept
+}
+
 #[test]
-fn keys_are_refused_in_turn(rt: HostRuntime) {
+fn keys_and_views_are_refused_in_turn(rt: HostRuntime) {
     for row in &ROWS {
         let left = filled(&rt, rt.alloc(), row.0);
         let right = filled(&rt, rt.alloc(), row.1);
-        let given = refusals(rt.alloc(), &left, &right, row.2);
-        assert!(rt; given.is_some());
-        let most = usize::from(!row.0.is_empty() && !row.1.is_empty());
-        assert!(rt; given.is_some_and(|many| many <= most));
+        let keys = is_swept(rt.alloc(), &left, &right, row.2, false);
+        let views = is_swept(rt.alloc(), &left, &right, row.2, true);
+        assert!(rt; keys);
+        assert!(rt; views);
     }
 }

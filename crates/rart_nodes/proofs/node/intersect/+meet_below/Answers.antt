@@ -1,6 +1,17 @@
 use Rattle.std.proofs.Common.{[], arith}
 use Rattle.rart_nodes.proofs.joins.MeetingLemmas.{back-again, given-fork, given-next, next-twins, same-room, twins-within}
+use Rattle.rart_nodes.proofs.joins.WayLemmas.{way-stays, way-on}
 use Rattle.rart_nodes.proofs.node.intersect.+meet_below.Goals as goal
+
+pub returns-in_default-clause-place : goal.returns-in_default-clause-place
+returns-in_default-clause-place g t c =
+    let way = c.in_default.ensures.way in
+    back-again _ _ _ _ way.0 _ c.mark-mark.ensures way.1 (way-stays _) c.cut.ensures
+
+pub give_both-requires-clause-room : goal.give_both-requires-clause-room
+give_both-requires-clause-room g t c =
+    let way = c.in-Some.ensures.way in
+    g.met.T.Meeting.lawful.has_room _ _ way.0 _ 0 way.1 c.requires.room (omega (arith, way.2.short))
 
 pub loop-child-init : goal.loop-child-init
 loop-child-init g t c =
@@ -8,7 +19,7 @@ loop-child-init g t c =
     let way = c.in-Some.ensures.way in
     record {
       callable = c.give_both.ensures.callable;
-      place = laws.stays _;
+      place = way-stays _;
       room = laws.has_room _ _ way.0 _ _ way.1 c.requires.room way.2.short;
       given = λ last h. h;
       visits = rw c.of-twins.ensures c.in-Some.ensures.visits;
@@ -20,7 +31,7 @@ meet_below-requires g t c κs within =
     let laws = g.met.T.Meeting.lawful in
     let inv = c.loop-child.invariant in
     let next = next-twins _ _ _ _ _ _ c.in-Some-enter_next.ensures.twins inv.within in
-    let room = same-room _ _ _ _ _ laws _ _ _ _ (laws.stays _) inv.room next.short in
+    let room = same-room _ _ laws _ _ _ _ (way-stays _) inv.room next.short in
     (omega (arith, c.decreases, next.falls), (within.0, (within.1.0, (within.1.1.0, (within.1.1.1.0, (within.1.1.1.1.0, (within.1.1.1.1.1, (room, inv.callable))))))))
 
 pub loop-child-preserved : goal.loop-child-preserved
@@ -30,9 +41,9 @@ loop-child-preserved g t c =
     let next = next-twins _ _ _ _ _ _ c.in-Some-enter_next.ensures.twins inv.within in
     record {
       callable = c.meet_below.ensures.callable;
-      place = laws.goes_on _ _ _ [] [] inv.place c.meet_below.ensures.place;
+      place = way-on _ _ _ [] [] inv.place c.meet_below.ensures.place;
       room = laws.has_room _ _ [] _ _ c.meet_below.ensures.place inv.room (omega arith);
-      given = λ last h. inv.given last (given-next _ _ _ _ _ laws _ _ _ _ _ _ _ _ _ c.in-Some-enter_next.ensures.twins inv.place c.meet_below.ensures.given h);
+      given = λ last h. inv.given last (given-next _ _ laws _ _ _ _ _ _ _ _ _ c.in-Some-enter_next.ensures.twins inv.place c.meet_below.ensures.given h);
       visits = omega (arith, inv.visits, next.visits, c.in-Some-enter_next.ensures.counted, c.meet_below.ensures.visits);
       within = next.others;
     }
@@ -40,7 +51,7 @@ loop-child-preserved g t c =
 pub returns-clause-place : goal.returns-clause-place
 returns-clause-place g t c =
     let way = c.in-Some.ensures.way in
-    back-again _ _ _ _ _ g.met.T.Meeting.lawful _ _ _ _ way.0 _ c.mark-mark.ensures way.1 c.loop-child.invariant.place c.cut-2.ensures
+    back-again _ _ _ _ way.0 _ c.mark-mark.ensures way.1 c.loop-child.invariant.place c.cut-2.ensures
 
 pub returns-clause-given : goal.returns-clause-given
 returns-clause-given g t c =
@@ -48,4 +59,4 @@ returns-clause-given g t c =
     let way = c.in-Some.ensures.way in
     let here = rw (c.value.ensures, c.value-2.ensures) at c.give_both.ensures.given in
     let below = rw c.of-twins.ensures at (c.loop-child.invariant.given c.loop-child.f (rw c.in_default-enter_next.ensures.twins (laws.gives_none _ _))) in
-    given-fork _ _ _ _ _ laws _ _ _ _ _ _ _ way.0 _ _ way.2 way.1 here below
+    given-fork _ _ laws _ _ _ _ _ _ _ way.0 _ _ way.2 way.1 here below

@@ -3,6 +3,7 @@ use Rattle.rart_keys.specs.SortedMap.{longest_key}
 use Rattle.rart_nodes.specs.joins.SharedEdges.{more_visits}
 use Rattle.rart_nodes.specs.joins.Twins.{meet_all, visits_all}
 use Rattle.rart_nodes.specs.joins.TwinsAhead.{twins_ahead}
+use Rattle.rart_nodes.specs.joins.Ways.{WayGrown}
 use Rattle.rart_nodes.specs.tries.Trie.{children_in, children_pairs}
 use Rattle.rart_nodes.specs.tries.TrieCode.{node_count}
 use Rattle.rart_nodes.proofs.joins.MeetingLemmas.{AreWithin}
@@ -14,9 +15,9 @@ decreases-meet_below g l = node_count l.left.node.now + node_count l.right.node.
 abbrev pub invariant-loop-child : goal.invariant-loop-child
 invariant-loop-child g l = record {
   callable : g.T.Meeting.callable l.f;
-  place : g.T.Meeting.grown l.initial.trail [] l.trail;
-  room : g.T.Meeting.room l.trail (longest_key (children_pairs (children_in l.left_fork.node.now)));
-  given : (last : _) → g.T.Meeting.given l.initial.trail l.f (meet_all (twins_ahead l.twins l.left_fork.node.now l.right_fork.node.now)) last → g.T.Meeting.given l.initial.trail l.initial.f (meet_all (twins_ahead l.initial.twins l.left_fork.node.now l.right_fork.node.now)) last;
+  place : WayGrown l.initial.way [] l.way;
+  room : g.T.Meeting.room l.way (longest_key (children_pairs (children_in l.left_fork.node.now)));
+  given : (last : _) → g.T.Meeting.given l.initial.way l.f (meet_all (twins_ahead l.twins l.left_fork.node.now l.right_fork.node.now)) last → g.T.Meeting.given l.initial.way l.initial.f (meet_all (twins_ahead l.initial.twins l.left_fork.node.now l.right_fork.node.now)) last;
   visits : g.C.Count.number l.counter + visits_all (twins_ahead l.twins l.left_fork.node.now l.right_fork.node.now) ≡ g.C.Count.number l.fn.counter + more_visits l.fn.left.node.now l.fn.right.node.now;
   within : AreWithin (node_count l.fn.left.node.now + node_count l.fn.right.node.now) (longest_key (children_pairs (children_in l.left_fork.node.now))) (twins_ahead l.twins l.left_fork.node.now l.right_fork.node.now);
 }

@@ -15,8 +15,8 @@ returns-in_default-top-clause-calls g c =
     let none = joined-right_none (option_copied c.args.self.root) (option_copied c.args.other.root) c.in_default-top.ensures in
     rw none.0 refl
 
-pub returns-in_err-trail-clause-memory : goal.returns-in_err-trail-clause-memory
-returns-in_err-trail-clause-memory g c =
+pub returns-in_err-bytes-clause-memory : goal.returns-in_err-bytes-clause-memory
+returns-in_err-bytes-clause-memory g c =
     let left = has-pairs c.in-Some.field-0.node.now (option_copied c.args.self.root) c.in-Some.field-0.canonical c.in-Some.ensures in
     let right = has-pairs c.in-Some-top.field-0.node.now (option_copied c.args.other.root) c.in-Some-top.field-0.canonical c.in-Some-top.ensures in
     let memory : IfErr c.from_residual.result (λ e. e ≡ TreeError.Memory) = search rules in
@@ -24,4 +24,4 @@ returns-in_err-trail-clause-memory g c =
 
 pub returns-clause-calls : goal.returns-clause-calls
 returns-clause-calls g c =
-    given-whole (λ p x q. CalledAt g.F.FnMut g.K.KeyTrait.bytes p x q) c.in_ok-trail.trail.key.items _ _ (join (tree_pairs (option_copied c.args.self.root)) (tree_pairs (option_copied c.args.other.root))) c.in_ok-trail.ensures.empty c.meet_trees.ensures.given
+    given-whole (λ p x q. CalledAt g.F.FnMut g.K.KeyTrait.bytes p x q) c.in_ok-bytes.bytes.items _ _ (join (tree_pairs (option_copied c.args.self.root)) (tree_pairs (option_copied c.args.other.root))) c.in_ok-bytes.ensures.items c.meet_trees.ensures.given

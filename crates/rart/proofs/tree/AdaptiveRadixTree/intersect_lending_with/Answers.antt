@@ -1,0 +1,4 @@
+use Rattle.rart.proofs.tree.AdaptiveRadixTree.intersect_lending_with.Goals as goal
+
+pub returns-clause-calls : goal.returns-clause-calls
+returns-clause-calls g c = rw (← c.seen.ensures.pairs, ← c.seen-2.ensures.pairs) c.intersect_lending_with_counted.ensures.calls

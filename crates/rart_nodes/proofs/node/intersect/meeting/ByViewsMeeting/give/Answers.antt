@@ -1,0 +1,14 @@
+use Rattle.std.proofs.Common.{rules, of_calls, ◌≡◌, refl, sym, ap, ◌∙◌, ◌++◌, []}
+use Rattle.std.proofs.lemmas.List.{append-nil}
+use Rattle.rart_nodes.specs.joins.ViewCalls.{ViewedAt}
+use Rattle.rart_nodes.specs.walks.Tour.{joined}
+use Rattle.rart_nodes.specs.walks.TrailParts.{lent_pieces}
+use Rattle.rart_nodes.proofs.node.intersect.meeting.ByViewsMeeting.give.Goals as goal
+
+pub returns-clause-given : goal.returns-clause-given
+returns-clause-given g c =
+    let key = joined (lent_pieces c.in-Segments.segments.items) in
+    let same : joined (lent_pieces c.of.result.segments.now) ≡ key ++ [] = ap joined (c.of.ensures ∙ ap lent_pieces c.as_slice.ensures.value) ∙ sym (append-nil key) in
+    let called : ViewedAt g.F.FnMut c.args.f.now (key ++ [], (c.args.left.now, c.args.right.now)) c.f.new.self
+    = record { key = c.of.result; left = c.args.left; right = c.args.right; key_is = same; left_is = refl; right_is = refl; called = search (rules, of_calls) } in
+    rw c.in-Segments.is (c.f.new.self, called, refl)

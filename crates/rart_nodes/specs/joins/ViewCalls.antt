@@ -1,0 +1,17 @@
+-- Calls of a callback at a pair whose key is lent in segments.
+use Rattle.std.specs.Prelude.{ℕ, ◌≡◌, List}
+use Rattle.std.specs.Borrow.{Bor}
+use Rattle.std.specs.Fn.{Mut, Called}
+use Rattle.rart_nodes.specs.declared.node.view.LendingKeyView.{LendingKeyView}
+use Rattle.rart_nodes.specs.walks.Tour.{joined}
+use Rattle.rart_nodes.specs.walks.TrailParts.{lent_pieces}
+
+-- f was called with a view whose segments join to the key of x, and with the values of x, and is then f'
+pub record ViewedAt {F V W : Type 0} (g : Mut F (LendingKeyView × (Bor V × (Bor W × Unit {0}))) (Unit {0})) (f : F) (x : List ℕ × (V × W)) (f' : F) : Type 0 where
+  pub key : LendingKeyView
+  pub left : Bor V
+  pub right : Bor W
+  pub key_is : joined (lent_pieces key.segments.now) ≡ x.0
+  pub left_is : left.now ≡ x.1.0
+  pub right_is : right.now ≡ x.1.1
+  pub called : Called g f (key, (left, (right, tt))) tt f'

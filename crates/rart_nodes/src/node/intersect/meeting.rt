@@ -1,0 +1,139 @@
+//! What a walk through two trees in lockstep does with each pair that it finds: it counts it, or calls a callback with
+//! its values, with its key and its values, or with a view of its key and its values.
+ghost use Rattle.std.specs.Prelude.{◌≡◌, ℕ, List, [], ◌∷◌};
+ghost use Rattle.std.specs.Option.{option_copied};
+ghost use Rattle.rart_keys.specs.Joins.{both};
+ghost use Rattle.rart_nodes.specs.joins.Meetings.{AreMeetings};
+ghost use Rattle.rart_nodes.specs.joins.Ways.{Kept};
+ghost use Rattle.rart_nodes.specs.tries.Trie.{own_pair};
+
+use crate::node::intersect::way::Way;
+use crate::node::view::LendingKeyView;
+use rart_keys::KeyTrait;
+use std::marker::PhantomData;
+
+/// What is done at a pair, and the state `F` that it is done to.
+pub(crate) trait Meeting<V, W, F> {
+    ghost room: { Kept → ℕ → Type 0 };
+
+    ghost callable: { F → Type 0 };
+
+    ghost given: { Kept → F → List (List ℕ × (V × W)) → F → Type 0 };
+
+    /// Gives the pair at the end of the way.
+    fn give(way: &Way<'_>, f: &mut F, left: &V, right: &W)
+        requires room { room way.now 0 }
+        requires callable { callable f.old }
+        ensures callable { callable f.new }
+        ensures given { given way.now f.old (([], (left.now, right.now)) ∷ []) f.new };
+
+    ghost lawful: { AreMeetings room given };
+}
+
+/// Gives the pair at the end of the way, if both nodes hold a value.
+pub(crate) fn give_both<V, W, F, T: Meeting<V, W, F>>(
+    left: Option<&V>,
+    right: Option<&W>,
+    way: &Way<'_>,
+    f: &mut F,
+)
+    requires room { T.room way.now 0 }
+    requires callable { T.callable f.old }
+    ensures callable { T.callable f.new }
+    ensures given { T.given way.now f.old (own_pair (both (option_copied left.entry) (option_copied right.entry))) f.new }
+{
+    if let Some(value) = left {
+        if let Some(other) = right {
+            T::give(way, f, value, other);
+        }
+    }
+}
+
+/// Counts; where the count is full it stops.
+pub(crate) struct Counted;
+
+impl<V, W> Meeting<V, W, usize> for Counted {
+    ghost use Rattle.rart_nodes.specs.joins.Meetings.{CountedOn, GivenValues, give_values};
+    ghost use Rattle.rart_nodes.specs.joins.Ways.{WayRoom};
+
+    ghost room = { WayRoom };
+
+    ghost callable = { λ n. Unit {0} };
+
+    ghost given = { GivenValues CountedOn };
+
+    fn give(_way: &Way<'_>, count: &mut usize, _left: &V, _right: &W) {
+        *count = count.saturating_add(1);
+    }
+
+    ghost lawful = { give_values CountedOn };
+}
+
+/// Calls with the values.
+pub(crate) struct ByValues;
+
+impl<V, W, F: FnMut(&V, &W)> Meeting<V, W, F> for ByValues {
+    ghost use Rattle.rart_nodes.specs.joins.Meetings.{GivenValues, give_values};
+    ghost use Rattle.rart_nodes.specs.joins.PairCalls.{CalledWith};
+    ghost use Rattle.rart_nodes.specs.joins.Ways.{WayRoom};
+
+    ghost room = { WayRoom };
+
+    ghost callable = { F.IsAlwaysCallable };
+
+    ghost given = { GivenValues (λ p x q. CalledWith F.FnMut p x q) };
+
+    fn give(_way: &Way<'_>, f: &mut F, left: &V, right: &W) {
+        f(left, right);
+    }
+
+    ghost lawful = { give_values (λ p x q. CalledWith F.FnMut p x q) };
+}
+
+/// Calls with the key, made of the bytes of the way, and the values.
+pub(crate) struct ByKeys<K> {
+    of: PhantomData<K>,
+}
+
+impl<K: KeyTrait, V, W, F: FnMut(K, &V, &W)> Meeting<V, W, F> for ByKeys<K> {
+    ghost use Rattle.rart_nodes.specs.joins.Meetings.{GivenKeys, KeysRoom, give_keys};
+    ghost use Rattle.rart_nodes.specs.joins.PairCalls.{CalledAt};
+
+    ghost room = { KeysRoom K.MAXIMUM_SIZE };
+
+    ghost callable = { F.IsAlwaysCallable };
+
+    ghost given = { GivenKeys (λ p x q. CalledAt F.FnMut K.bytes p x q) };
+
+    fn give(way: &Way<'_>, f: &mut F, left: &V, right: &W) {
+        match way {
+            Way::Bytes(bytes) => f(K::new_from_slice(bytes.as_slice()), left, right),
+            _ => unreachable!(),
+        }
+    }
+
+    ghost lawful = { give_keys K.MAXIMUM_SIZE (λ p x q. CalledAt F.FnMut K.bytes p x q) };
+}
+
+/// Calls with a view of the segments of the way, and the values.
+pub(crate) struct ByViews;
+
+impl<V, W, F: FnMut(LendingKeyView<'_, '_>, &V, &W)> Meeting<V, W, F> for ByViews {
+    ghost use Rattle.rart_nodes.specs.joins.Meetings.{GivenViews, ViewsRoom, give_views};
+    ghost use Rattle.rart_nodes.specs.joins.ViewCalls.{ViewedAt};
+
+    ghost room = { ViewsRoom };
+
+    ghost callable = { F.IsAlwaysCallable };
+
+    ghost given = { GivenViews (λ p x q. ViewedAt F.FnMut p x q) };
+
+    fn give(way: &Way<'_>, f: &mut F, left: &V, right: &W) {
+        match way {
+            Way::Segments(segments) => f(LendingKeyView::of(segments.as_slice()), left, right),
+            _ => unreachable!(),
+        }
+    }
+
+    ghost lawful = { give_views (λ p x q. ViewedAt F.FnMut p x q) };
+}
