@@ -1,5 +1,6 @@
 -- A run of calls, as far as it has come.
-use Rattle.std.proofs.Common.{◌≡◌, ℕ, ◌+◌, List, [], ◌∷◌, ◌++◌, length, refl, sym, subst, arith, append_assoc, length-append}
+use Rattle.std.proofs.Common.{◌≡◌, ℕ, ◌+◌, List, [], ◌∷◌, ◌++◌, Result, Ok, Err, length, refl, sym, subst, arith, append_assoc, length-append}
+use Rattle.std.specs.Prelude.{IfErr, IsErrAnd}
 use Rattle.std.proofs.lemmas.List.{append-nil}
 use Rattle.rart.specs.declared.script.call.Call.{Call}
 use Rattle.rart.specs.declared.script.reply.Reply.{Reply}
@@ -27,3 +28,8 @@ pub run-ends : {K V : Type 0} (bytes : K → List ℕ) (map : List (List ℕ × 
     → length ahead ≡ 0 → HasRun bytes map calls replies now ahead → IsRun bytes map calls replies now
 run-ends bytes map calls replies now [] e run = subst (λ rs. IsRun bytes map calls rs now) (append-nil replies) (run.goes_on [] now refl)
 run-ends bytes map calls replies now (c ∷ cs) e run = absurd (omega arith)
+
+-- why a call was refused, beside a fact that holds then
+pub refused-some : {A E P : Type 0} (r : Result A E) (m : E) → IsErrAnd r (λ e. e ≡ m) → P → IfErr r (λ e. (e ≡ m) × P)
+refused-some (Ok x) m h p = tt
+refused-some (Err e) m h p = (h, p)

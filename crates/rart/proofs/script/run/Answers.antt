@@ -1,5 +1,7 @@
-use Rattle.std.proofs.Common.{arith}
-use Rattle.rart.proofs.StepLemmas.{run-begins, run-goes_on, run-ends}
+use Rattle.std.proofs.Common.{◌≢◌, [], ap, arith, length}
+use Rattle.std.proofs.lemmas.Bool.{false≢true}
+use Rattle.rart_parts.specs.declared.error.TreeError.TheVariants.{Memory}
+use Rattle.rart.proofs.StepLemmas.{refused-some, run-begins, run-goes_on, run-ends}
 use Rattle.rart.proofs.script.run.Goals as goal
 
 pub loop-call-init : goal.loop-call-init
@@ -16,3 +18,8 @@ loop-call-preserved g c = record {
 
 pub returns-clause-run : goal.returns-clause-run
 returns-clause-run g c = run-ends _ _ _ _ _ _ (omega (arith, c.in-None.ensures.steps.0, c.loop-call.call-iterator.rest.ok.0)) c.loop-call.invariant.run
+
+pub returns-in_err-replies-clause-memory : goal.returns-in_err-replies-clause-memory
+returns-in_err-replies-clause-memory g c =
+    let some : c.args.calls.items ≢ [] = λ e. false≢true (c.in_err-replies.ensures.succeeds (omega (arith, ap length e, c.len.ensures, c.args.calls.ok.0))) in
+    refused-some c.from_residual.result Memory c.from_residual.ensures.1 some
