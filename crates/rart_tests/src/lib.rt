@@ -10,6 +10,8 @@ mod counted;
 #[cfg(test)]
 mod keys;
 #[cfg(test)]
+mod loads;
+#[cfg(test)]
 mod map;
 #[cfg(test)]
 mod nodes;

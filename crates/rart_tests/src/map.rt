@@ -1,6 +1,7 @@
 //! Tests of the map.
 
 mod asks_for_nothing;
+mod bulk_loads;
 mod drops;
 mod intersections;
 mod iterators;

@@ -1,0 +1,133 @@
+//! Bulk loads by each form, of items that are tested to ascend, beside insertions one by one.
+ghost use Rattle.std.specs.Prelude.{◌≡◌, ◌<◌, length, reverse, slice_index_or, IfOk, IsTrue};
+ghost use Rattle.rart_keys.specs.SortedMap.{IsAscending};
+ghost use Rattle.rart.specs.Steps.{pairs_in};
+
+use crate::play::Tree;
+use crate::play::replies::are_alike;
+use rart::laws::bulk_loads::bulk_load_equals_insertion;
+use rart::{AdaptiveRadixTree, ArrayKey, BulkError, KeyTrait, TreeStats, TreeStatsTrait};
+use rart_keys::laws::bulk_lists::ascending_pairs;
+use std::alloc::{AllocError, Global};
+use std::cmp::Ordering;
+
+pub type Key = ArrayKey<8>;
+
+/// Whether the keys of the items ascend strictly.
+pub fn ascend<K: KeyTrait, V>(items: &[(K, V)]) -> bool
+    ensures { IsTrue result → IsAscending (pairs_in K.bytes items.now) }
+{
+    ascending_pairs::<V>();
+    let Some((first, rest)) = items.split_first() else {
+        return true;
+    };
+    match rest.first() {
+        Some(second) => first.0.cmp(&second.0) == Ordering::Less && ascend(rest),
+        None => true,
+    }
+}
+
+/// The items by `bulk_load_sorted_unique`.
+pub fn load_unique<K: KeyTrait + Drop, V: Drop>(
+    alloc: Global,
+    items: Vec<(K, V)>,
+) -> Result<AdaptiveRadixTree<K, V>, BulkError>
+    requires { IsAscending (pairs_in K.bytes items.items) }
+{
+    ascending_pairs::<V>();
+    AdaptiveRadixTree::bulk_load_sorted_unique(alloc, items)
+}
+
+/// The keys of the items by `bulk_load_sorted_unique_by_index`, with the values that `take` gives.
+pub fn load_by_index<K: KeyTrait, W, V: Drop, F: FnMut(usize) -> V + Drop>(
+    alloc: Global,
+    items: &[(K, W)],
+    take: F,
+) -> Result<AdaptiveRadixTree<K, V>, BulkError>
+    requires ascending { IsAscending (pairs_in K.bytes items.now) }
+    requires callable { (f : _) (i : _) → F.pre f i }
+{
+    ascending_pairs::<W>();
+    AdaptiveRadixTree::bulk_load_sorted_unique_by_index(
+        alloc,
+        items.len(),
+        |i|
+            requires { i < length items.now }
+            ensures { (d : K × W) → result.now ≡ (slice_index_or items.entry.now i d).0 }
+        { &items[i].0 },
+        take,
+    )
+}
+
+/// The keys, each with its place.
+pub fn items_of(alloc: Global, keys: &[Key]) -> Result<Vec<(Key, u64)>, AllocError> {
+    let mut items = Vec::new(alloc);
+    let mut place = 0_u64;
+    for key in keys {
+        items.push((*key, place))?;
+        place = place.wrapping_add(1);
+    }
+    Ok(items)
+}
+
+// The keys, each with its place, inserted from the last to the first.
+fn inserted(alloc: Global, keys: &[Key]) -> Option<Tree<Key>> {
+    let mut tree = Tree::new(alloc);
+    let mut place = keys.len();
+    while 0 < place {
+        place -= 1;
+        if tree.insert_k(&keys[place], place as u64).is_err() {
+            return None;
+        }
+    }
+    Some(tree)
+}
+
+fn is_alike(loaded: Result<Tree<Key>, BulkError>, wanted: &Tree<Key>) -> bool {
+    match loaded {
+        Ok(tree) => are_alike(&tree, wanted),
+        Err(_refused) => false,
+    }
+}
+
+/// Loads the keys, each with its place, by each form, and inserts them. The statistics, where the keys ascend and the
+/// trees are alike.
+pub fn loads_alike(alloc: Global, keys: &[Key]) -> Result<Option<TreeStats>, AllocError> {
+    let Some(wanted) = inserted(alloc, keys) else {
+        return Ok(None);
+    };
+    let items = items_of(alloc, keys)?;
+    if !ascend(&items)
+        || !is_alike(load_by_index(alloc, &items, |i| i as u64), &wanted)
+        || !is_alike(load_unique(alloc, items), &wanted)
+        || !is_alike(
+            Tree::bulk_load_sorted(alloc, items_of(alloc, keys)?),
+            &wanted,
+        )
+    {
+        return Ok(None);
+    }
+    Ok(wanted.get_tree_stats().ok())
+}
+
+// The keys, each with its place, twice: in their order and from the last on.
+fn both_ways(alloc: Global, keys: &[Key]) -> Result<(Vec<(Key, u64)>, Vec<(Key, u64)>), AllocError>
+    ensures { IfOk result (λ r. r.1.items ≡ reverse r.0.items) }
+{
+    let items = items_of(alloc, keys)?;
+    let mut backward = items.clone()?;
+    backward.reverse();
+    Ok((items, backward))
+}
+
+/// Whether the keys ascend and the law of bulk loads, called on them, gives trees that are alike.
+pub fn law_holds(alloc: Global, keys: &[Key]) -> Result<bool, AllocError> {
+    let (sorted, shuffled) = both_ways(alloc, keys)?;
+    if !ascend(&sorted) {
+        return Ok(false);
+    }
+    Ok(match bulk_load_equals_insertion(alloc, sorted, shuffled) {
+        Ok(((loaded, one), (inserted, other))) => one == other && are_alike(&loaded, &inserted),
+        Err(_refused) => false,
+    })
+}
