@@ -1,0 +1,30 @@
+//! Autocomplete: the words that begin with what was typed.
+ghost use Rattle.std.specs.Prelude.{◌≡◌, ◌≢◌, ◌≤◌, [], length, IfErr, IfOk};
+ghost use Rattle.rart_keys.specs.Filters.{below};
+
+use rart::iter::Iter;
+use rart::{AdaptiveRadixTree, ArrPartial, ArrayKey, KeyTrait, TreeError};
+
+/// Words of at most 32 bytes, and how often each was chosen.
+pub type Words = AdaptiveRadixTree<ArrayKey<32>, u64>;
+
+/// The words that begin with `typed`, ascending; the walk costs what it gives.
+pub fn completions<'a>(
+    words: &'a Words,
+    typed: &[u8],
+) -> Result<Iter<'a, ArrayKey<32>, ArrPartial<32>, u64>, TreeError>
+    requires { length typed.now ≤ 32 }
+    ensures words { IfOk result (λ found. found ≡ below typed.now words.now.pairs) }
+    ensures memory { IfErr result (λ e. (e ≡ TreeError.Memory) × (words.now.pairs ≢ [])) }
+{
+    words.prefix_iter_k(&ArrayKey::<32>::new_from_slice(typed))
+}
+
+/// How many there are.
+pub fn count_completions(words: &Words, typed: &[u8]) -> Result<usize, TreeError>
+    requires { length typed.now ≤ 32 }
+    ensures count { IfOk result (λ n. n ≡ length (below typed.now words.now.pairs)) }
+    ensures memory { IfErr result (λ e. (e ≡ TreeError.Memory) × (words.now.pairs ≢ [])) }
+{
+    rart::laws::counts::count_below(words, &ArrayKey::<32>::new_from_slice(typed))
+}
