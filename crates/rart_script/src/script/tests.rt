@@ -61,7 +61,7 @@ type Row<'a> = (&'a [u8], &'a str, &'a str, u8);
 
 const FIRST: &str = "line 1: bad command\n";
 
-const ROWS: [Row<'static>; 58] = [
+const ROWS: [Row<'static>; 64] = [
     (
         b"insert cat 1\ninsert catalog 2\ninsert cat 5\nget cat\nget ca\nlen\n",
         "none\nnone\nsome 1\nsome 5\nnone\n2\n",
@@ -180,6 +180,19 @@ const ROWS: [Row<'static>; 58] = [
         "",
         0,
     ),
+    // A range from its first key on, before its second.
+    (
+        b"range a b\ninsert cat 1\ninsert dog 2\nrange cat dog\nrange - dog\nrange dog cat\nrange cat cat\nrange a z\n",
+        "empty\nnone\nnone\ncat=1\ncat=1\nempty\nempty\ncat=1 dog=2\n",
+        "",
+        0,
+    ),
+    (
+        b"insert cat 1\ninsert catalog 2\ninsert dog 3\nprefix ca\nlongest catalogue\nrange cat dog\nremove cat\nstats\nget -\nlen\n",
+        "none\nnone\nnone\ncat=1 catalog=2\nsome catalog=2\ncat=1 catalog=2\nsome 1\nleaves 2 values 2 inner 1 children 2 width 4 height 2 w4:1/2\nnone\n2\n",
+        "",
+        0,
+    ),
     // A malformed line ends the run.
     (
         b"insert a 1\nfoo\nlen\n",
@@ -207,6 +220,9 @@ const ROWS: [Row<'static>; 58] = [
     (b"prefix a b", "", FIRST, 2),
     (b"longest", "", FIRST, 2),
     (b"longest a b", "", FIRST, 2),
+    (b"range", "", FIRST, 2),
+    (b"range a", "", FIRST, 2),
+    (b"range a b c", "", FIRST, 2),
     (b"len 1", "", FIRST, 2),
     (b"iter x", "", FIRST, 2),
     (b"stats x", "", FIRST, 2),
@@ -225,6 +241,7 @@ const ROWS: [Row<'static>; 58] = [
     (b"get 0123456789abcdef0123456789abcdef0", "", FIRST, 2),
     (b"prefix 0123456789abcdef0123456789abcdef0", "", FIRST, 2),
     (b"longest 0123456789abcdef0123456789abcdef0", "", FIRST, 2),
+    (b"range a 0123456789abcdef0123456789abcdef0", "", FIRST, 2),
 ];
 
 #[test]
