@@ -4,7 +4,9 @@ ghost use Rattle.rart_keys.specs.SortedMap.{values_of};
 
 use crate::tree::AdaptiveRadixTree;
 use rart_keys::KeyTrait;
-pub use rart_nodes::iter::{Iter, PrefixMatchIter, SeenIter, ValuesIter};
+pub use rart_nodes::iter::{
+    Iter, LendingKeyBytes, LendingKeyView, PrefixMatchIter, SeenIter, ValuesIter,
+};
 use rart_parts::TreeError;
 
 impl<K: KeyTrait, V> AdaptiveRadixTree<K, V> {

@@ -32,6 +32,8 @@ pub enum Ask<'a> {
     Matches(&'a str),
     /// The keys that begin with the prefix.
     Prefix(&'a str),
+    /// The keys from the first on, before the second.
+    Range(&'a str, &'a str),
     Iter,
     Values,
     Len,

@@ -1,8 +1,8 @@
 //! Laws of answers about a probe, of walks below a prefix, and of views.
-ghost use Rattle.std.specs.Prelude.{◌≡◌, ◌≢◌, ◌↔◌, [], None, true, length, option_map, IfErr, IfOk, IsTrue};
+ghost use Rattle.std.specs.Prelude.{◌≡◌, ◌≢◌, ◌↔◌, [], None, length, option_map, IfErr, IfOk, IsTrue};
 ghost use Rattle.std.specs.List.{filter};
 ghost use Rattle.rart_keys.specs.ByteStrings.{begins};
-ghost use Rattle.rart_keys.specs.Filters.{last_or};
+ghost use Rattle.rart_keys.specs.Filters.{last_or, matches};
 ghost use Rattle.rart_keys.specs.KeyBytes.{IsWithin};
 ghost use Rattle.rart_nodes.specs.walks.Tour.{joined};
 ghost use Rattle.rart_nodes.specs.walks.TrailParts.{lent_pieces};
@@ -26,6 +26,7 @@ pub fn prefix_iter_filters_iter<'a, K: KeyTrait, V>(
     ),
     TreeError,
 >
+    ensures whole { IfOk result (λ walks. walks.0 ≡ tree.now.pairs) }
     ensures filters { IfOk result (λ walks. walks.1 ≡ filter (λ e. begins (K.bytes prefix.now) e.0) walks.0) }
     ensures memory { IfErr result (λ e. (e ≡ TreeError.Memory) × (tree.now.pairs ≢ [])) }
 {
@@ -42,7 +43,8 @@ pub fn longest_is_the_last_match<'a, K: KeyTrait, V>(
     Option<(K, &'a V)>,
     PrefixMatchIter<'a, K, K::PartialType, V>,
 )
-    ensures { option_map (λ p. (K.bytes p.0, p.1.now)) result.0 ≡ last_or None result.1 }
+    ensures matches { result.1 ≡ matches (K.bytes probe.now) tree.now.pairs }
+    ensures last { option_map (λ p. (K.bytes p.0, p.1.now)) result.0 ≡ last_or None result.1 }
 {
     (
         tree.longest_prefix_match_k(probe),
@@ -58,17 +60,14 @@ pub fn comparisons_agree(view: LendingKeyView<'_, '_>, slice: &[u8]) -> (Orderin
     (view.cmp_slice(slice), view.eq_slice(slice))
 }
 
-/// The key of a view has the view's bytes, and the view is equal to them. Asks that the bytes are within the maximum.
+/// The key of a view has the view's bytes. Asks that the bytes are within the maximum.
 pub fn key_of_a_view<K: KeyTrait>(
     view: LendingKeyView<'_, '_>,
     alloc: Global,
-) -> Result<(K, bool), TreeError>
+) -> Result<K, TreeError>
     requires { IsWithin K.MAXIMUM_SIZE (length (joined (lent_pieces view.segments.now))) }
-    ensures bytes { IfOk result (λ r. K.bytes r.0 ≡ joined (lent_pieces view.entry.segments.now)) }
-    ensures equal { IfOk result (λ r. r.1 ≡ true) }
+    ensures bytes { IfOk result (λ key. K.bytes key ≡ joined (lent_pieces view.entry.segments.now)) }
     ensures memory { IfErr result (λ e. e ≡ TreeError.Memory) }
 {
-    let key = view.to_key::<K>(alloc)?;
-    let equal = view.eq_slice(key.as_ref());
-    Ok((key, equal))
+    view.to_key(alloc)
 }

@@ -23,7 +23,7 @@ pub record ViewedOnce {F V : Type 0} (g : Once F (LendingKeyView × (Bor V × Un
   pub shows : shown.now ≡ x.1
   pub called : g.post f (key, (shown, tt)) tt
 
--- f was called once with the pair that was found, its key cut as s says, and not at all where there is none; and this was told
+-- f was called once with the pair that was found, its key cut as s says; and whether there is one was told
 abbrev pub SeesFound : {F V : Type 0} → Once F (LendingKeyView × (Bor V × Unit {0})) (Unit {0}) → F → List (List ℕ) → Option (List ℕ × V) → Bool → Type 0
 SeesFound g f s None told = told ≡ false
 SeesFound g f s (Some e) told = (told ≡ true) × ViewedOnce g f (cut s e.0, e.1)

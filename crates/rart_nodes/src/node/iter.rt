@@ -15,6 +15,7 @@ pub use crate::node::matching::PrefixMatchIter;
 use crate::node::seen::Seen;
 use crate::node::tour::Tour;
 use crate::node::trail::{ByteTrail, NoTrail};
+pub use crate::node::view::{LendingKeyBytes, LendingKeyView};
 use rart_keys::{KeyTrait, Partial};
 use rart_parts::TreeError;
 use std::marker::{Model, PhantomData};

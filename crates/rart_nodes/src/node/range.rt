@@ -5,7 +5,7 @@
 ghost use Rattle.std.specs.Prelude.{◌≡◌, ◌≢◌, ◌≤◌, ◌+◌, [], ◌∷◌, length, option_map, IfErr, IfOk, MatchOption};
 ghost use Rattle.std.specs.Iterator.{YieldsFirstBy, item_count};
 ghost use Rattle.std.specs.Option.{option_copied};
-ghost use Rattle.rart_keys.specs.Ranges.{between, bound_bytes, bound_in, is_inclusive, is_to, is_until, up_to};
+ghost use Rattle.rart_keys.specs.Ranges.{between, bound_bytes, bound_in, is_inclusive, is_to, is_until, pairs_since, up_to};
 ghost use Rattle.rart_keys.specs.SortedMap.{keys_of};
 ghost use Rattle.rart_nodes.specs.ranges.Starts.{bytes_taken};
 ghost use Rattle.rart_nodes.specs.tries.Tree.{tree_pairs};
@@ -188,6 +188,8 @@ impl<'a, K: KeyTrait + Drop, V, C: Count> Seen<'a, K, V, C> {
         counter: &mut C,
     ) -> Result<Ended<'a, K, V, C>, TreeError>
         ensures pairs { IfOk result (λ r. up_to r.0 r.1 ≡ between (bound_in K.bytes start) (bound_in K.bytes end) (tree_pairs (option_copied self.entry.root))) }
+        ensures end { IfOk result (λ r. r.0 ≡ bound_in K.bytes end) }
+        ensures ahead { IfOk result (λ r. r.1 ≡ pairs_since (is_inclusive (bound_in K.bytes start)) (bound_bytes (bound_in K.bytes start)) (tree_pairs (option_copied self.entry.root))) }
         ensures memory { IfErr result (λ e. (e ≡ TreeError.Memory) × (tree_pairs (option_copied self.entry.root) ≢ [])) }
         ensures visits { IfOk result (λ _. C.number counter.new ≡ C.number counter.old + probe_count (keys_of (tree_pairs (option_copied self.entry.root))) (bound_bytes (bound_in K.bytes start))) }
         ensures bound { C.number counter.new ≤ C.number counter.old + length (bound_bytes (bound_in K.bytes start)) + 1 }
@@ -209,6 +211,8 @@ impl<'a, K: KeyTrait + Drop, V, C: Count> Seen<'a, K, V, C> {
         counter: &mut C,
     ) -> Result<SeenRange<'a, K, V, C>, TreeError>
         ensures pairs { IfOk result (λ r. up_to r.0 r.1 ≡ between (bound_in K.bytes start) (bound_in K.bytes end) (tree_pairs (option_copied self.entry.root))) }
+        ensures end { IfOk result (λ r. r.0 ≡ bound_in K.bytes end) }
+        ensures ahead { IfOk result (λ r. r.1 ≡ pairs_since (is_inclusive (bound_in K.bytes start)) (bound_bytes (bound_in K.bytes start)) (tree_pairs (option_copied self.entry.root))) }
         ensures memory { IfErr result (λ e. (e ≡ TreeError.Memory) × (tree_pairs (option_copied self.entry.root) ≢ [])) }
         ensures visits { IfOk result (λ _. C.number counter.new ≡ C.number counter.old + probe_count (keys_of (tree_pairs (option_copied self.entry.root))) (bound_bytes (bound_in K.bytes start))) }
         ensures bound { C.number counter.new ≤ C.number counter.old + length (bound_bytes (bound_in K.bytes start)) + 1 }

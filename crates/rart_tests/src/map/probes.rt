@@ -1,4 +1,4 @@
-//! Calls about a probe and about a prefix as values: the replies, also with requests for memory refused in turn.
+//! Calls about a probe, a prefix and two bounds as values: the replies, also with requests for memory refused in turn.
 
 use crate::play::{
     Ask, Row, Want, plays, plays_as_run, plays_refused_in_turn, run_is_refused_in_turn, went_well,
@@ -6,7 +6,7 @@ use crate::play::{
 use rart::ArrayKey;
 use std::test::Fail;
 
-const CALLS: [Row<'static>; 20] = [
+const CALLS: [Row<'static>; 24] = [
     (Ask::Matches("ab"), Want::Pairs(&[])),
     (Ask::Prefix(""), Want::Pairs(&[])),
     (Ask::Longest("ab"), Want::None),
@@ -30,6 +30,10 @@ const CALLS: [Row<'static>; 20] = [
     (Ask::Prefix("a"), Want::Pairs(&[("a", 1), ("ab", 2)])),
     (Ask::Prefix("abz"), Want::Pairs(&[])),
     (Ask::Prefix("b"), Want::Pairs(&[])),
+    (Ask::Range("", "ab"), Want::Pairs(&[("", 0), ("a", 1)])),
+    (Ask::Range("a", "b"), Want::Pairs(&[("a", 1), ("ab", 2)])),
+    (Ask::Range("aa", "ab"), Want::Pairs(&[])),
+    (Ask::Range("b", "a"), Want::Pairs(&[])),
     (Ask::Remove("a"), Want::Some(1)),
     (Ask::Prefix("a"), Want::Pairs(&[("ab", 2)])),
     (Ask::Matches("abz"), Want::Pairs(&[("", 0), ("ab", 2)])),

@@ -243,7 +243,7 @@ fn plays_refused(alloc: Global, tree: &Tree, rows: &[Row]) -> Option<usize> {
 }
 
 #[test]
-fn a_range_is_refused_before_its_first_pair(rt: HostRuntime) {
+fn ranges_refused_in_turn_give_nothing(rt: HostRuntime) {
     went_well(
         &rt,
         plays_refused(rt.alloc(), &filled(&rt, rt.alloc(), &PARTED), &OF_PARTED),
@@ -262,7 +262,7 @@ fn asks_for_nothing(alloc: Global, empty: &Tree, tree: &Tree) -> Result<bool, Tr
 }
 
 #[test]
-fn nothing_is_asked_for_where_nothing_is_walked(rt: HostRuntime) {
+fn ranges_ask_for_nothing_where_nothing_is_walked(rt: HostRuntime) {
     let empty = filled(&rt, rt.alloc(), &[]);
     let tree = filled(&rt, rt.alloc(), &FOUR);
     let well = asks_for_nothing(rt.alloc(), &empty, &tree) == Ok(true);

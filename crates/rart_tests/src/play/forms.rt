@@ -6,6 +6,7 @@ use super::{Ask, Form, How, Spelling, Tree};
 use rart::script::{Call, Reply, step};
 use rart::{ArrayKey, KeyTrait, NotInserted, TryInsertError};
 use std::alloc::Global;
+use std::ops::Bound;
 
 // The key of these bytes, where they aren't too many.
 fn key_of_bytes<K: KeyTrait>(bytes: &[u8]) -> Option<K> {
@@ -63,6 +64,10 @@ pub fn call<K: KeyTrait>(ask: Ask<'_>, spelling: Spelling) -> Option<Call<K, u64
         Ask::Longest(text) => Call::Longest(key(text, spelling)?),
         Ask::Matches(text) => Call::Matches(key(text, spelling)?),
         Ask::Prefix(text) => Call::Prefix(key(text, spelling)?),
+        Ask::Range(start, end) => Call::Range(
+            Bound::Included(key(start, spelling)?),
+            Bound::Excluded(key(end, spelling)?),
+        ),
         Ask::Iter => Call::Iter,
         Ask::Values => Call::Values,
         Ask::Len => Call::Len,

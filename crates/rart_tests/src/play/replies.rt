@@ -106,6 +106,7 @@ pub fn is_refusal<K>(reply: &Reply<K, u64>, ask: &Ask<'_>) -> bool {
             | Ask::Delete(_)
             | Ask::Matches(_)
             | Ask::Prefix(_)
+            | Ask::Range(_, _)
             | Ask::Iter
             | Ask::Values
             | Ask::Stats,

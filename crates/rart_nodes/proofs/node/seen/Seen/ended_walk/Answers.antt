@@ -11,3 +11,6 @@ returns-clause-pairs g c =
     let root = option_copied c.args.self.root in
     ap (up_to (bound_in g.K.KeyTrait.bytes c.args.end)) (c.in_ok-walk.ensures.pairs ∙ (λ i. pairs_since (c.bytes_of-included.ensures.inclusive i) (c.bytes_of-included.ensures.bytes i) (tree_pairs root)))
     ∙ since-between (bound_in g.K.KeyTrait.bytes c.args.start) (bound_in g.K.KeyTrait.bytes c.args.end) root (IsCanonicalTree-test _ c.args.self.canonical)
+
+pub returns-clause-ahead : goal.returns-clause-ahead
+returns-clause-ahead g c = c.in_ok-walk.ensures.pairs ∙ (λ i. pairs_since (c.bytes_of-included.ensures.inclusive i) (c.bytes_of-included.ensures.bytes i) (tree_pairs (option_copied c.args.self.root)))
