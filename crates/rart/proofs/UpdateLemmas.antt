@@ -103,8 +103,8 @@ module _ {V : Type 0} where
   slot-some u v h = ap is_some (slot-same u v h)
 
 -- an attempt keeps a slot occupied, or vacant, where the callback does
-pub attempt-stays : {F E V : Type 0} (g : Once F (MutBor (Slot V) × Unit {0}) (Result (SlotUpdate V) E × (MutBor (Slot V) × Unit {0}))) (f : F) (o : Option V) (r : SlotUpdate V) (x : Told V E) (w : Option V)
-    → ((a : SlotUpdate V) (u : Option V) → FnOnceReturnsAtMut g f (slot_of o) (Ok a) (slot_of u) → is_some u ≡ is_some o) → IsAttempt g f (slot_of o) r x (slot_of w) → is_some w ≡ is_some o
-attempt-stays g f o r NotCloned w law h = slot-some w o h.1
-attempt-stays g f o r (Failed e) w law h = slot-some w o h.1
-attempt-stays g f o r (Answered c) w law h = law r w h.0
+pub attempt-stays : {F E V : Type 0} (sure : V → Type 0) (g : Once F (MutBor (Slot V) × Unit {0}) (Result (SlotUpdate V) E × (MutBor (Slot V) × Unit {0}))) (f : F) (o : Option V) (r : SlotUpdate V) (x : Told V E) (w : Option V)
+    → ((a : SlotUpdate V) (u : Option V) → FnOnceReturnsAtMut g f (slot_of o) (Ok a) (slot_of u) → is_some u ≡ is_some o) → IsAttempt sure g f (slot_of o) r x (slot_of w) → is_some w ≡ is_some o
+attempt-stays sure g f o r NotCloned w law h = slot-some w o h.1
+attempt-stays sure g f o r (Failed e) w law h = slot-some w o h.1
+attempt-stays sure g f o r (Answered c) w law h = law r w h.0

@@ -60,11 +60,12 @@ abbrev pub touched_in : {V : Type 0} → Outcome V → Bool
 touched_in Absent = false
 touched_in o = true
 
--- f, shown the slot s, was tried: r is asked for, this is told, and s' is left; where f failed or wasn't called the slot is as before
-abbrev pub IsAttempt : {F E V : Type 0} → Once F (MutBor (Slot V) × Unit {0}) (Result (SlotUpdate V) E × (MutBor (Slot V) × Unit {0})) → F → Slot V → SlotUpdate V → Told V E → Slot V → Type 0
-IsAttempt {F} {E} {V} g f s r NotCloned s' = (r ≡ Keep) × (s' ≡ s) × (s ≢ Vacant)
-IsAttempt {F} {E} {V} g f s r (Failed e) s' = (r ≡ Keep) × (s' ≡ s) × ((w : Option V) × FnOnceReturnsAtMut g f s (Err e) (slot_of w))
-IsAttempt {F} {E} {V} g f s r (Answered o) s' = FnOnceReturnsAtMut g f s (Ok r) s' × (slot_of o ≡ s)
+-- f, shown the slot s, was tried: r is asked for, this is told, and s' is left; where f failed or wasn't called the slot is as before.
+-- It wasn't called only at a value whose clone may fail
+abbrev pub IsAttempt : {F E V : Type 0} → (V → Type 0) → Once F (MutBor (Slot V) × Unit {0}) (Result (SlotUpdate V) E × (MutBor (Slot V) × Unit {0})) → F → Slot V → SlotUpdate V → Told V E → Slot V → Type 0
+IsAttempt {F} {E} {V} sure g f s r NotCloned s' = (r ≡ Keep) × (s' ≡ s) × ((v : V) × (s ≡ Occupied v) × (sure v → ⊥))
+IsAttempt {F} {E} {V} sure g f s r (Failed e) s' = (r ≡ Keep) × (s' ≡ s) × ((w : Option V) × FnOnceReturnsAtMut g f s (Err e) (slot_of w))
+IsAttempt {F} {E} {V} sure g f s r (Answered o) s' = FnOnceReturnsAtMut g f s (Ok r) s' × (slot_of o ≡ s)
 
 -- what a callback leaves that writes this value where the slot is occupied
 abbrev pub written_slot : {V : Type 0} → Option V → Slot V → Slot V

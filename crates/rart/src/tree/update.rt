@@ -3,7 +3,7 @@
 ghost use Rattle.std.specs.Prelude.{◌≡◌, ◌≢◌, length, is_some, None, Option, Some, Result, Ok, Err, IfOk, OnErr};
 ghost use Rattle.std.specs.Fn.{FnOnceReturnsAtMut, FnOnceTakesAtMut};
 ghost use Rattle.rart_keys.specs.SortedMap.{keys_of, lookup, put};
-ghost use Rattle.rart_nodes.specs.declared.slot.Slot.TheVariants.{Vacant as Vacant_slot};
+ghost use Rattle.rart_nodes.specs.declared.slot.Slot.TheVariants.{Occupied as Occupied_slot};
 ghost use Rattle.rart_nodes.specs.declared.slot.SlotUpdate.{SlotUpdate};
 ghost use Rattle.rart_nodes.specs.shapes.Shape.{HasShape};
 ghost use Rattle.rart_nodes.specs.updates.Slots.{slot_of};
@@ -152,7 +152,7 @@ impl<K: KeyTrait, V> AdaptiveRadixTree<K, V> {
         requires callable { FnOnceTakesAtMut F.FnOnce f (slot_of (lookup (K.bytes key.now) self.old.pairs)) }
         requires stays { (r : SlotUpdate V) (w : Option V) → FnOnceReturnsAtMut F.FnOnce f (slot_of (lookup (K.bytes key.now) self.old.pairs)) (Ok r) (slot_of w) → is_some w ≡ is_some (lookup (K.bytes key.now) self.old.pairs) }
         ensures called { result ≢ Err Not_cloned → (a : Result (SlotUpdate V) E) × (w : Option V) × FnOnceReturnsAtMut F.FnOnce f (slot_of (lookup (K.bytes key.now) self.old.pairs)) a (slot_of w) × IsTryUpdate (K.bytes key.now) a w self.old.pairs result self.new.pairs }
-        ensures not_cloned { result ≡ Err Not_cloned → lookup (K.bytes key.now) self.old.pairs ≢ None }
+        ensures not_cloned { result ≡ Err Not_cloned → (v : V) × (lookup (K.bytes key.now) self.old.pairs ≡ Some v) × (V.is_infallible v → ⊥) }
         ensures shape { HasShape (keys_of self.new.pairs) self.new.nodes }
         ensures refused { OnErr result (self.new ≡ self.old) }
     {
@@ -191,7 +191,7 @@ impl<K: KeyTrait, V> AdaptiveRadixTree<K, V> {
         requires callable { FnOnceTakesAtMut F.FnOnce f (slot_of (lookup (K.bytes key) self.old.pairs)) }
         requires stays { (r : SlotUpdate V) (w : Option V) → FnOnceReturnsAtMut F.FnOnce f (slot_of (lookup (K.bytes key) self.old.pairs)) (Ok r) (slot_of w) → is_some w ≡ is_some (lookup (K.bytes key) self.old.pairs) }
         ensures called { result ≢ Err Not_cloned → (a : Result (SlotUpdate V) E) × (w : Option V) × FnOnceReturnsAtMut F.FnOnce f (slot_of (lookup (K.bytes key) self.old.pairs)) a (slot_of w) × IsTryUpdate (K.bytes key) a w self.old.pairs result self.new.pairs }
-        ensures not_cloned { result ≡ Err Not_cloned → lookup (K.bytes key) self.old.pairs ≢ None }
+        ensures not_cloned { result ≡ Err Not_cloned → (v : V) × (lookup (K.bytes key) self.old.pairs ≡ Some v) × (V.is_infallible v → ⊥) }
         ensures shape { HasShape (keys_of self.new.pairs) self.new.nodes }
         ensures refused { OnErr result (self.new ≡ self.old) }
     {
@@ -245,7 +245,7 @@ fn update_tried<
     requires clones { (x y : V) → V.is_clone x y → y ≡ x }
     requires callable { FnOnceTakesAtMut F.FnOnce f (slot_of (lookup (K.bytes key.now) tree.old.pairs)) }
     requires stays { (r : SlotUpdate V) (w : Option V) → FnOnceReturnsAtMut F.FnOnce f (slot_of (lookup (K.bytes key.now) tree.old.pairs)) (Ok r) (slot_of w) → is_some w ≡ is_some (lookup (K.bytes key.now) tree.old.pairs) }
-    ensures update { (r : SlotUpdate V) × (w : Option V) × IsAttempt F.FnOnce f (slot_of (lookup (K.bytes key.now) tree.old.pairs)) r result.1 (slot_of w) × EndsIn (K.bytes key.now) r w tree.old.pairs result.0 tree.new.pairs }
+    ensures update { (r : SlotUpdate V) × (w : Option V) × IsAttempt V.is_infallible F.FnOnce f (slot_of (lookup (K.bytes key.now) tree.old.pairs)) r result.1 (slot_of w) × EndsIn (K.bytes key.now) r w tree.old.pairs result.0 tree.new.pairs }
     ensures refused { OnErr result.0 (tree.new.nodes ≡ tree.old.nodes) }
     ensures nodes { keys_of tree.new.pairs ≡ keys_of tree.old.pairs → tree.new.nodes ≡ tree.old.nodes }
 {
@@ -254,7 +254,7 @@ fn update_tried<
         move |slot: &mut Slot<V>|
             requires clones { (x y : V) → V.is_clone x y → y ≡ x }
             requires callable { FnOnceTakesAtMut F.FnOnce f slot.old }
-            ensures { IsAttempt F.FnOnce f slot.old result.0 result.1 slot.new }
+            ensures { IsAttempt V.is_infallible F.FnOnce f slot.old result.0 result.1 slot.new }
         { attempt(slot, f) },
     )
 }
@@ -266,7 +266,7 @@ fn attempt<V: Clone, E, F: FnOnce(&mut Slot<V>) -> Result<SlotUpdate<V>, E> + Dr
 ) -> (SlotUpdate<V>, Told<V, E>)
     requires clones { (x y : V) → V.is_clone x y → y ≡ x }
     requires callable { FnOnceTakesAtMut F.FnOnce f slot.old }
-    ensures { IsAttempt F.FnOnce f slot.old result.0 result.1 slot.new }
+    ensures { IsAttempt V.is_infallible F.FnOnce f slot.old result.0 result.1 slot.new }
 {
     let Ok(copy) = saved(slot) else {
         return (SlotUpdate::Keep, Told::NotCloned);
@@ -283,7 +283,7 @@ fn attempt<V: Clone, E, F: FnOnce(&mut Slot<V>) -> Result<SlotUpdate<V>, E> + Dr
 fn saved<V: Clone>(slot: &Slot<V>) -> Result<Option<V>, AllocError>
     requires clones { (x y : V) → V.is_clone x y → y ≡ x }
     ensures saved { IfOk result (λ copy. slot_of copy ≡ slot.now) }
-    ensures stored { OnErr result (slot.now ≢ Vacant_slot) }
+    ensures stored { OnErr result ((v : V) × (slot.now ≡ Occupied_slot v) × (V.is_infallible v → ⊥)) }
 {
     match slot {
         Slot::Occupied(value) => Ok(Some(value.clone()?)),

@@ -23,7 +23,7 @@ returns-in-NotCloned-clause-not_cloned g c =
     let new = c.update_tried-outcome.new.tree in
     let e = c.update_tried-outcome.ensures.update in
     let tried = rw c.in-NotCloned.is at e.2 in
-    λ _ z. tried.2 (ap slot_of z)
+    λ _. (tried.2.0, sym (slot-is (Some tried.2.0) (lookup key old.pairs) (sym tried.2.1)), tried.2.2)
 
 -- it failed
 pub returns-in-Failed-clause-called : goal.returns-in-Failed-clause-called

@@ -3,4 +3,4 @@ use Rattle.rart.proofs.UpdateLemmas.{attempt-stays}
 use Rattle.rart.proofs.tree.update.update_tried.Goals as goal
 
 pub update_with-requires-clause-stays : goal.update_with-requires-clause-stays
-update_with-requires-clause-stays g c = λ r x w h. attempt-stays g.F.FnOnce c.args.f (lookup (g.K.KeyTrait.bytes c.args.key.now) c.args.tree.now.pairs) r x w c.requires.stays (rw (h.shows, h.leaves) at h.met)
+update_with-requires-clause-stays g c = λ r x w h. attempt-stays _ g.F.FnOnce c.args.f (lookup (g.K.KeyTrait.bytes c.args.key.now) c.args.tree.now.pairs) r x w c.requires.stays (rw (h.shows, h.leaves) at h.met)
