@@ -4,7 +4,7 @@ use crate::counted::Counted;
 use crate::loads::{Key, ascend, law_holds, load_by_index, load_unique, loads_alike};
 use crate::play::Tree;
 use crate::play::replies::is_counted;
-use crate::refusals::{refuse, was_refused};
+use crate::refusals::{part_ends, refuse, was_refused};
 use rart::{AdaptiveRadixTree, BulkError, KeyTrait, TreeStats};
 use std::alloc::{AllocError, Global};
 use std::cell::Cell;
@@ -300,7 +300,10 @@ fn is_refused_in_turn(alloc: Global, form: Form) -> Result<bool, AllocError> {
         };
         match refused {
             Some(true) => {}
-            Some(false) => return Ok(true),
+            Some(false) => {
+                part_ends(alloc);
+                return Ok(true);
+            }
             None => return Ok(false),
         }
     }

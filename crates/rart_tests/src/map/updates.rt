@@ -3,7 +3,7 @@
 
 use crate::play::went_well;
 use rart::script::{Call, Reply, step};
-use rart::{AdaptiveRadixTree, ArrayKey, KeyTrait, SlotUpdate};
+use rart::{AdaptiveRadixTree, ArrayKey, KeyTrait, Slot, SlotUpdate, TryUpdateError};
 use std::alloc::Global;
 use std::process::Abort;
 
@@ -113,4 +113,66 @@ fn updates_fill_a_bucket_and_empty_it(rt: HostRuntime) {
     let alloc = rt.alloc();
     let mut tree = Tree::new(alloc);
     went_well(&rt, plays(&rt, alloc, &mut tree, &OF_A_BUCKET));
+}
+
+fn key(bytes: &[u8]) -> Key {
+    Key::new_from_slice(&bytes[..bytes.len().min(16)])
+}
+
+/// Why a callback fails.
+#[derive(Drop)]
+struct Stop;
+
+fn was_stopped(answer: Result<bool, TryUpdateError<Stop, u64>>) -> bool {
+    matches!(answer, Err(TryUpdateError::Callback(Stop)))
+}
+
+// Writes 99 and fails, in both forms; whether both said so.
+fn write_and_fail(tree: &mut Tree) -> bool {
+    let by_reference = tree.try_update_k(&key(b"err"), |slot| {
+        if let Slot::Occupied(n) = slot {
+            *n = 99;
+        }
+        Err(Stop)
+    });
+    let by_value = tree.try_update(key(b"err"), |slot| {
+        if let Slot::Occupied(n) = slot {
+            *n = 99;
+        }
+        Err(Stop)
+    });
+    was_stopped(by_reference) && was_stopped(by_value)
+}
+
+// Adds 2 and keeps, in both forms.
+fn add_two_twice(tree: &mut Tree) -> bool {
+    let by_reference = tree.update_k(&key(b"err"), |slot| {
+        if let Slot::Occupied(n) = slot {
+            *n = n.wrapping_add(2);
+        }
+        SlotUpdate::Keep
+    });
+    let by_value = tree.update(key(b"err"), |slot| {
+        if let Slot::Occupied(n) = slot {
+            *n = n.wrapping_add(2);
+        }
+        SlotUpdate::Keep
+    });
+    matches!(by_reference, Ok(true)) && matches!(by_value, Ok(true))
+}
+
+#[test]
+fn a_failed_update_restores_and_a_kept_one_writes(rt: HostRuntime) {
+    let mut tree = Tree::new(rt.alloc());
+    let stored = tree.insert(key(b"err"), 1).is_ok();
+    assert!(rt; stored);
+    let failed = write_and_fail(&mut tree);
+    assert!(rt; failed);
+    assert_eq!(rt; tree.get_bytes(b"err"), Some(&1));
+    let added = add_two_twice(&mut tree);
+    assert!(rt; added);
+    assert_eq!(rt; tree.get_bytes(b"err"), Some(&5));
+    let absent = tree.update(key(b"x"), |_slot| SlotUpdate::Keep);
+    assert!(rt; matches!(absent, Ok(false)));
+    assert_eq!(rt; tree.len(), 1);
 }

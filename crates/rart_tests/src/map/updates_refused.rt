@@ -1,10 +1,10 @@
 //! Updates with each request for memory refused: what was written stays or is taken back, and the nodes are as before.
 
 use crate::play::Tree as PlayedTree;
-use crate::play::replies::have_same_statistics;
+use crate::play::replies::{are_alike, have_same_statistics};
 use crate::refusals::{part_ends, refuse, was_refused};
 use rart::script::{Call, Reply, step};
-use rart::{AdaptiveRadixTree, ArrayKey, KeyTrait, SlotUpdate, TryUpdateError};
+use rart::{AdaptiveRadixTree, ArrayKey, KeyTrait, SlotUpdate, TreeError, TryUpdateError};
 use std::alloc::{AllocError, Global};
 use std::cell::Cell;
 use std::process::Abort;
@@ -43,7 +43,9 @@ fn call(tries: bool, byte: u8, ask: Ask) -> Call<Key, u64> {
 fn is_refusal(reply: &Reply<Key, u64>, ask: Ask) -> bool {
     match (reply, ask) {
         (Reply::NoRemove, Ask::Remove) => true,
-        (Reply::Returned(_error, back), Ask::Insert(value)) => *back == value,
+        (Reply::Returned(error, back), Ask::Insert(value)) => {
+            *error == TreeError::Memory && *back == value
+        }
         _ => false,
     }
 }
@@ -61,7 +63,7 @@ fn filled(alloc: Global, count: u8) -> Tree {
 fn goes_well(alloc: Global, row: &Row) -> bool {
     let (count, tries, byte, ask, kept, after) = *row;
     let mut tree = filled(alloc, count);
-    let before = filled(alloc, count);
+    let mut before = filled(alloc, count);
     for at in 1..100_usize {
         refuse(alloc, at);
         let reply = step(alloc, &mut tree, call(tries, byte, ask));
@@ -69,7 +71,10 @@ fn goes_well(alloc: Global, row: &Row) -> bool {
         let found = tree.get_bytes(&[byte]).copied();
         if !refused {
             part_ends(alloc);
-            return matches!(reply, Reply::Done(true)) && found == after;
+            let _unrefused = step(alloc, &mut before, call(tries, byte, ask));
+            return matches!(reply, Reply::Done(true))
+                && found == after
+                && are_alike(&tree, &before);
         }
         if !is_refusal(&reply, ask)
             || found != kept

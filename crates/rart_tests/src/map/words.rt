@@ -51,3 +51,14 @@ fn words_are_counted(rt: HostRuntime) {
     assert_eq!(rt; counts.get_bytes(b"not"), Some(&1));
     assert_eq!(rt; counts.len(), 4);
 }
+
+#[test]
+fn a_full_counter_is_not_counted_up(rt: HostRuntime) {
+    let mut counts = Counts::new(rt.alloc());
+    let word = ArrayKey::<16>::new_from_slice(b"to");
+    let stored = counts.insert_k(&word, u64::MAX).is_ok();
+    assert!(rt; stored);
+    let counted = count_word(&mut counts, &word);
+    assert!(rt; matches!(counted, Err(TryUpdateError::Callback(IsFull))));
+    assert_eq!(rt; counts.get_bytes(b"to"), Some(&u64::MAX));
+}

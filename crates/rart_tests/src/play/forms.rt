@@ -54,7 +54,7 @@ pub fn answer<K: KeyTrait + Drop>(
 }
 
 /// The call as a value, where it is one.
-pub fn call<K: KeyTrait>(ask: Ask<'_>, spelling: Spelling) -> Option<Call<K, u64>> {
+pub fn call<K: KeyTrait + Drop>(ask: Ask<'_>, spelling: Spelling) -> Option<Call<K, u64>> {
     Some(match ask {
         Ask::Get(text) => Call::Get(key(text, spelling)?),
         Ask::Insert(text, value) => Call::Insert(key(text, spelling)?, value),
