@@ -18,4 +18,5 @@ mod updates;
 mod updates_refused;
 mod views;
 mod visits;
+mod with_memory;
 mod words;

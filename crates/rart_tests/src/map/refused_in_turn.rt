@@ -3,13 +3,13 @@
 
 use crate::play::replies::is_counted;
 use crate::play::{
-    Ask, Row, Want, plays, plays_as_run, plays_refused_in_turn, run_is_refused_in_turn, went_well,
+    Ask, Row, Want, plays_as_run, plays_refused_in_turn, run_is_refused_in_turn, went_well,
 };
 use crate::refusals::{refuse, was_refused};
 use rart::{AdaptiveRadixTree, ArrayKey, KeyTrait, Refused, TreeError, TreeStatsTrait};
 use std::test::Fail;
 
-const SPLITS: [Row<'static>; 8] = [
+pub(super) const SPLITS: [Row<'static>; 8] = [
     (Ask::Insert("abcd", 1), Want::None),
     (Ask::Insert("abxy", 2), Want::None),
     (Ask::Stats, Want::Counts([2, 2, 1, 2], &[(4, 1, 2)])),
@@ -46,7 +46,7 @@ fn a_split_above_a_leaf_refused_in_turn(rt: HostRuntime) {
     );
 }
 
-const GROWTH: [Row<'static>; 10] = [
+pub(super) const GROWTH: [Row<'static>; 10] = [
     (Ask::Fill(b"", 0, 4), Want::Is(true)),
     (Ask::Insert("\x04", 4), Want::None),
     (Ask::Stats, Want::Counts([5, 5, 1, 2], &[(16, 1, 5)])),
@@ -67,7 +67,7 @@ fn growing_insertions_refused_in_turn(rt: HostRuntime) {
     );
 }
 
-const GROWTH_BY_NEW_KEYS: [Row<'static>; 7] = [
+pub(super) const GROWTH_BY_NEW_KEYS: [Row<'static>; 7] = [
     (Ask::Fill(b"", 0, 4), Want::Is(true)),
     (Ask::TryInsert("\x04", 4), Want::Inserted),
     (Ask::Fill(b"", 5, 16), Want::Is(true)),
@@ -85,7 +85,7 @@ fn growing_insertions_of_new_keys_refused_in_turn(rt: HostRuntime) {
     );
 }
 
-const SHRINKING: [Row<'static>; 10] = [
+pub(super) const SHRINKING: [Row<'static>; 10] = [
     (Ask::Fill(b"", 0, 49), Want::Is(true)),
     (Ask::Remove("0"), Want::Some(48)),
     (Ask::Stats, Want::Counts([48, 48, 1, 2], &[(48, 1, 48)])),
@@ -106,7 +106,7 @@ fn shrinking_removals_refused_in_turn(rt: HostRuntime) {
     );
 }
 
-const SHRINKING_BY_DELETION: [Row<'static>; 7] = [
+pub(super) const SHRINKING_BY_DELETION: [Row<'static>; 7] = [
     (Ask::Fill(b"", 0, 49), Want::Is(true)),
     (Ask::Delete("0"), Want::Is(true)),
     (Ask::Empty(b"", 17, 48), Want::Is(true)),
@@ -124,7 +124,7 @@ fn shrinking_deletions_refused_in_turn(rt: HostRuntime) {
     );
 }
 
-const FOUR_WIDTHS: [Row<'static>; 6] = [
+pub(super) const FOUR_WIDTHS: [Row<'static>; 6] = [
     (Ask::Fill(b"a", 0, 2), Want::Is(true)),
     (Ask::Fill(b"b", 0, 5), Want::Is(true)),
     (Ask::Fill(b"c", 0, 17), Want::Is(true)),
@@ -147,7 +147,7 @@ fn statistics_refused_in_turn(rt: HostRuntime) {
     );
 }
 
-const EVERY_CALL: [Row<'static>; 25] = [
+pub(super) const EVERY_CALL: [Row<'static>; 25] = [
     (Ask::Insert("\0", 0), Want::None),
     (Ask::Insert("\x01", 1), Want::None),
     (Ask::Insert("\x02", 2), Want::None),
@@ -194,7 +194,7 @@ fn runs_refused_in_turn_go_on_without_the_refused_call(rt: HostRuntime) -> Resul
     Ok(())
 }
 
-const LISTS: [Row<'static>; 4] = [
+pub(super) const LISTS: [Row<'static>; 4] = [
     (Ask::Insert("ab", 1), Want::None),
     (Ask::Insert("a", 2), Want::None),
     (Ask::Iter, Want::Pairs(&[("a", 2), ("ab", 1)])),
@@ -207,31 +207,6 @@ fn lists_of_pairs_and_values_refused_in_turn(rt: HostRuntime) {
         &rt,
         plays_refused_in_turn::<ArrayKey<4>>(rt.alloc(), &LISTS),
     );
-}
-
-// A body that says it found no memory wherever it may keeps every contract; these don't pass with it.
-#[test]
-fn edits_succeed_with_memory(rt: HostRuntime) {
-    let alloc = rt.alloc();
-    for rows in [
-        &SPLITS[..],
-        &GROWTH,
-        &GROWTH_BY_NEW_KEYS,
-        &SHRINKING,
-        &SHRINKING_BY_DELETION,
-    ] {
-        went_well(&rt, plays::<ArrayKey<16>>(alloc, rows));
-    }
-}
-
-#[test]
-fn walks_succeed_with_memory(rt: HostRuntime) -> Result<(), Fail> {
-    let alloc = rt.alloc();
-    for rows in [&FOUR_WIDTHS[..], &LISTS, &EVERY_CALL] {
-        went_well(&rt, plays::<ArrayKey<16>>(alloc, rows));
-    }
-    went_well(&rt, plays_as_run::<ArrayKey<16>>(alloc, &LISTS)?);
-    Ok(())
 }
 
 type Tree = AdaptiveRadixTree<ArrayKey<4>, u64>;

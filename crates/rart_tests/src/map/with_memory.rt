@@ -1,0 +1,34 @@
+//! Edits and walks with ample memory.
+
+use super::refused_in_turn::{
+    EVERY_CALL, FOUR_WIDTHS, GROWTH, GROWTH_BY_NEW_KEYS, LISTS, SHRINKING, SHRINKING_BY_DELETION,
+    SPLITS,
+};
+use crate::play::{plays, plays_as_run, went_well};
+use rart::ArrayKey;
+use std::test::Fail;
+
+// A body that says it found no memory wherever it may keeps every contract; these don't pass with it.
+#[test]
+fn edits_succeed_with_memory(rt: HostRuntime) {
+    let alloc = rt.alloc();
+    for rows in [
+        &SPLITS[..],
+        &GROWTH,
+        &GROWTH_BY_NEW_KEYS,
+        &SHRINKING,
+        &SHRINKING_BY_DELETION,
+    ] {
+        went_well(&rt, plays::<ArrayKey<16>>(alloc, rows));
+    }
+}
+
+#[test]
+fn walks_succeed_with_memory(rt: HostRuntime) -> Result<(), Fail> {
+    let alloc = rt.alloc();
+    for rows in [&FOUR_WIDTHS[..], &LISTS, &EVERY_CALL] {
+        went_well(&rt, plays::<ArrayKey<16>>(alloc, rows));
+    }
+    went_well(&rt, plays_as_run::<ArrayKey<16>>(alloc, &LISTS)?);
+    Ok(())
+}
