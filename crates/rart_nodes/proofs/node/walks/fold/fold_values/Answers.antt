@@ -1,0 +1,19 @@
+use Rattle.std.proofs.Common.{rules, of_calls, ◌≡◌, [], ◌∷◌, List, sym, ap, subst, refl}
+use Rattle.std.specs.List.{FoldsTo}
+use Rattle.std.specs.Option.{option_copied}
+use Rattle.rart_nodes.specs.walks.Shown.{Folded}
+use Rattle.rart_nodes.specs.walks.Tour.{stop_values, stops_ahead}
+use Rattle.rart_nodes.specs.walks.TrailParts.{no_piece}
+use Rattle.rart_nodes.proofs.node.walks.fold.fold_values.Goals as goal
+
+pub loop-value-preserved : goal.loop-value-preserved
+loop-value-preserved g c =
+    let more = stop_values (stops_ahead no_piece [] (option_copied c.advance.new.self.first) c.advance.new.self.levels.items) in
+    let e : stop_values (stops_ahead no_piece [] (option_copied c.loop-value.tour.first) c.loop-value.tour.levels.items) ≡ c.in-Some.value.now ∷ more = ap stop_values c.in-Some.ensures.stops in
+    let v : Folded g.F.FnMut (c.loop-value.f, c.loop-value.state) c.in-Some.value.now (c.f-state.new.self, c.f-state.result) = record { shown = c.in-Some.value; shows = refl; called = search (rules, of_calls) } in
+    record {
+      callable = search (rules, of_calls);
+      path = c.in-Some.ensures.path;
+      room = c.in-Some.ensures.room;
+      folds = λ last h. c.loop-value.invariant.folds last (subst (λ (x : List g.row.V.Denot). FoldsTo (λ p x q. Folded g.F.FnMut p x q) (c.loop-value.f, c.loop-value.state) x last) (sym e) ((c.f-state.new.self, c.f-state.result), v, h));
+    }

@@ -1,0 +1,23 @@
+use Rattle.std.proofs.Common.{arith, rules, of_calls, ◌≡◌, ◌∷◌, List, ℕ, sym, ap, subst, refl, ◌∙◌}
+use Rattle.std.specs.List.{FoldsTo}
+use Rattle.std.specs.Option.{option_copied}
+use Rattle.rart_nodes.specs.walks.Tour.{Pieces, stops_ahead}
+use Rattle.rart_nodes.specs.walks.TrailParts.{lent_pieces, one_piece}
+use Rattle.rart_nodes.specs.walks.ViewPieces.{AreViews}
+use Rattle.rart_nodes.specs.walks.Viewed.{Viewed}
+use Rattle.rart_nodes.proofs.node.walks.lending.feed_views.Goals as goal
+
+pub loop-value-preserved : goal.loop-value-preserved
+loop-value-preserved g c =
+    let more = stops_ahead one_piece (lent_pieces c.advance.new.trail.segments.items) (option_copied c.advance.new.self.first) c.advance.new.self.levels.items in
+    let e : stops_ahead one_piece (lent_pieces c.loop-value.trail.segments.items) (option_copied c.loop-value.tour.first) c.loop-value.tour.levels.items ≡ (lent_pieces c.advance.new.trail.segments.items, c.in-Some.value.now) ∷ more = c.in-Some.ensures.stops in
+    let v : Viewed g.F.FnMut c.loop-value.f (lent_pieces c.advance.new.trail.segments.items, c.in-Some.value.now) c.f.new.self = record { key = c.of.result; shown = c.in-Some.value; key_is = c.of.ensures ∙ ap lent_pieces c.segments.ensures; shows = refl; called = search (rules, of_calls) } in
+    let w : AreViews ((lent_pieces c.advance.new.trail.segments.items, c.in-Some.value.now) ∷ more) = subst AreViews e c.loop-value.invariant.views in
+    record {
+      callable = search (rules, of_calls);
+      path = c.in-Some.ensures.path;
+      room = c.in-Some.ensures.room;
+      views = w.2;
+      folds = λ last h. c.loop-value.invariant.folds last (subst (λ (x : List (Pieces × g.row.V.Denot)). FoldsTo (λ p x q. Viewed g.F.FnMut p x q) c.loop-value.f x last) (sym e) (c.f.new.self, v, h));
+      visits = omega (arith, c.loop-value.invariant.visits, c.in-Some.ensures.visits);
+    }

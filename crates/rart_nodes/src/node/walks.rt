@@ -1,0 +1,9 @@
+//! Look-ups in a shared tree and walks below a prefix, over the counted way in alone: none of them sees a node but by a visit.
+
+mod below;
+mod fold;
+mod lending;
+mod longest_view;
+mod look_up;
+mod tries;
+mod visit;
