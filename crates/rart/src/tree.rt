@@ -223,6 +223,3 @@ impl<K: KeyTrait, V> AdaptiveRadixTree<K, V> {
         self.delete_k(&key)
     }
 }
-
-#[cfg(test)]
-mod tests;

@@ -22,6 +22,7 @@ impl<K: KeyTrait, V> AdaptiveRadixTree<K, V> {
         f: &mut F,
     ) -> Result<(), TreeError>
         requires callable { F.IsAlwaysCallable f.old }
+        ensures callable { F.IsAlwaysCallable f.new }
         ensures calls { OnOk result (FoldsTo (λ p x q. Viewed F.FnMut p x q) f.old (cut_pairs (keys_of self.now.pairs) self.now.pairs) f.new) }
         ensures refused { OnErr result (f.new ≡ f.old) }
         ensures memory { IfErr result (λ e. (e ≡ TreeError.Memory) × (self.now.pairs ≢ [])) }
@@ -50,6 +51,7 @@ impl<K: KeyTrait, V> AdaptiveRadixTree<K, V> {
         f: &mut F,
     ) -> Result<(), TreeError>
         requires callable { F.IsAlwaysCallable f.old }
+        ensures callable { F.IsAlwaysCallable f.new }
         ensures calls { OnOk result (FoldsTo (λ p x q. Viewed F.FnMut p x q) f.old (cut_pairs (keys_of self.now.pairs) (below (K.bytes prefix.now) self.now.pairs)) f.new) }
         ensures refused { OnErr result (f.new ≡ f.old) }
         ensures memory { IfErr result (λ e. (e ≡ TreeError.Memory) × (self.now.pairs ≢ [])) }
@@ -67,6 +69,7 @@ impl<K: KeyTrait, V> AdaptiveRadixTree<K, V> {
     where
         K: Drop,
         requires callable { F.IsAlwaysCallable f.old }
+        ensures callable { F.IsAlwaysCallable f.new }
         ensures calls { OnOk result (FoldsTo (λ p x q. Viewed F.FnMut p x q) f.old (cut_pairs (keys_of self.now.pairs) (below (K.bytes prefix) self.now.pairs)) f.new) }
         ensures refused { OnErr result (f.new ≡ f.old) }
         ensures memory { IfErr result (λ e. (e ≡ TreeError.Memory) × (self.now.pairs ≢ [])) }

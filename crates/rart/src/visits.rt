@@ -21,7 +21,8 @@ impl<K: KeyTrait, V> AdaptiveRadixTree<K, V> {
     /// bytes, nothing is copied. Takes no memory.
     pub fn prefix_match_for_each_with_k<F: FnMut(&[u8], &V)>(&self, probe: &K, f: &mut F)
         requires { F.IsAlwaysCallable f.old }
-        ensures { FoldsTo (λ p x q. Matched F.FnMut p x q) f.old (matches (K.bytes probe.now) self.now.pairs) f.new }
+        ensures callable { F.IsAlwaysCallable f.new }
+        ensures calls { FoldsTo (λ p x q. Matched F.FnMut p x q) f.old (matches (K.bytes probe.now) self.now.pairs) f.new }
     {
         self.seen()
             .prefix_match_for_each_with_k_counted(probe, f, &mut Visits::new())
@@ -32,7 +33,8 @@ impl<K: KeyTrait, V> AdaptiveRadixTree<K, V> {
     where
         K: Drop,
         requires { F.IsAlwaysCallable f.old }
-        ensures { FoldsTo (λ p x q. Matched F.FnMut p x q) f.old (matches (K.bytes probe) self.now.pairs) f.new }
+        ensures callable { F.IsAlwaysCallable f.new }
+        ensures calls { FoldsTo (λ p x q. Matched F.FnMut p x q) f.old (matches (K.bytes probe) self.now.pairs) f.new }
     {
         self.prefix_match_for_each_with_k(&probe, f)
     }
@@ -64,6 +66,7 @@ impl<K: KeyTrait, V> AdaptiveRadixTree<K, V> {
         f: &mut F,
     ) -> Result<(), TreeError>
         requires callable { F.IsAlwaysCallable f.old }
+        ensures callable { F.IsAlwaysCallable f.new }
         ensures calls { OnOk result (FoldsTo (λ p x q. Shown F.FnMut p x q) f.old (values_of (below (K.bytes prefix.now) self.now.pairs)) f.new) }
         ensures refused { OnErr result (f.new ≡ f.old) }
         ensures memory { IfErr result (λ e. (e ≡ TreeError.Memory) × (self.now.pairs ≢ [])) }
@@ -80,6 +83,7 @@ impl<K: KeyTrait, V> AdaptiveRadixTree<K, V> {
     where
         K: Drop,
         requires callable { F.IsAlwaysCallable f.old }
+        ensures callable { F.IsAlwaysCallable f.new }
         ensures calls { OnOk result (FoldsTo (λ p x q. Shown F.FnMut p x q) f.old (values_of (below (K.bytes prefix) self.now.pairs)) f.new) }
         ensures refused { OnErr result (f.new ≡ f.old) }
         ensures memory { IfErr result (λ e. (e ≡ TreeError.Memory) × (self.now.pairs ≢ [])) }
@@ -156,6 +160,7 @@ impl<K: KeyTrait, V> AdaptiveRadixTree<K, V> {
         f: &mut F,
     ) -> Result<(), VisitError<E>>
         requires callable { F.IsAlwaysCallable f.old }
+        ensures callable { F.IsAlwaysCallable f.new }
         ensures calls { EndsVisit F.FnMut f.old (values_of (below (K.bytes prefix.now) self.now.pairs)) result f.new }
         ensures memory { IfErr result (λ e. e ≡ VisitError.Memory → self.now.pairs ≢ []) }
     {
@@ -171,6 +176,7 @@ impl<K: KeyTrait, V> AdaptiveRadixTree<K, V> {
     where
         K: Drop,
         requires callable { F.IsAlwaysCallable f.old }
+        ensures callable { F.IsAlwaysCallable f.new }
         ensures calls { EndsVisit F.FnMut f.old (values_of (below (K.bytes prefix) self.now.pairs)) result f.new }
         ensures memory { IfErr result (λ e. e ≡ VisitError.Memory → self.now.pairs ≢ []) }
     {

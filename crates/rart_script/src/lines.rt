@@ -11,6 +11,7 @@ pub struct Lines<'a> {
 impl<'a> Lines<'a> {
     ghost use Rattle.rart_script.specs.Lines.{lines_of, lines_left};
 
+    /// The lines of `text`. A text that ends in a newline has an empty last line, which says nothing.
     pub fn new(text: &'a [u8]) -> Self
         ensures left { lines_left result ≡ lines_of text.now }
         // So they can be numbered.

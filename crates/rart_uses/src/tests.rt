@@ -1,3 +1,4 @@
+//! Each worked use, run once on a few rows.
 use crate::completions::{Words, completions, count_completions};
 use crate::hops::{Routes, add_route, next_hop};
 use crate::pairs::{Orders, key_of, orders_of};

@@ -44,6 +44,22 @@ fn statistics_of_two_leaves(rt: HostRuntime) {
     went_well(&rt, plays::<ArrayKey<16>>(rt.alloc(), &TWO_LEAVES));
 }
 
+const LONE_CHILD: [Row<'static>; 8] = [
+    (Ask::Insert("abcd", 1), Want::None),
+    (Ask::Insert("abce", 2), Want::None),
+    (Ask::Stats, Want::Counts([2, 2, 1, 2], &[(4, 1, 2)])),
+    (Ask::Remove("abce"), Want::Some(2)),
+    (Ask::Stats, Want::Counts([1, 1, 0, 1], &[])),
+    (Ask::Get("abcd"), Want::Some(1)),
+    (Ask::Remove("abcd"), Want::Some(1)),
+    (Ask::Stats, Want::Counts([0, 0, 0, 0], &[])),
+];
+
+#[test]
+fn a_lone_child_is_the_root_in_place_of_its_parent(rt: HostRuntime) {
+    went_well(&rt, plays::<ArrayKey<16>>(rt.alloc(), &LONE_CHILD));
+}
+
 const THREE_LEVELS: [Row<'static>; 6] = [
     (Ask::Insert("ab", 1), Want::None),
     (Ask::Insert("abcd", 2), Want::None),

@@ -1,3 +1,5 @@
+//! That a node's children stand in the map of their number, which no caller of the crate can see.
+
 use crate::node::storage::Storage;
 use crate::node::{DefaultNode, Node};
 use rart_keys::{ArrPartial, Partial};

@@ -3,7 +3,7 @@ ghost use Rattle.std.specs.Prelude.{◌≡◌, ◌≢◌, ◌≤◌, ◌^◌, []
 ghost use Rattle.std.specs.Option.{option_copied};
 ghost use Rattle.rart_keys.specs.Filters.{below};
 ghost use Rattle.rart_keys.specs.SortedMap.{values_of};
-ghost use Rattle.rart_nodes.specs.tries.Tree.{tree_pairs};
+ghost use Rattle.rart_nodes.specs.tries.SharedTree.{shared_pairs};
 ghost use Rattle.rart_nodes.specs.walks.Tour.{IsTour, stop_values, stops_ahead};
 ghost use Rattle.rart_nodes.specs.walks.TrailParts.{no_piece};
 ghost use Rattle.rart_nodes.specs.walks.Tried.{EndsAs, EndsVisit};
@@ -23,7 +23,8 @@ fn try_feed<'a, P: Partial, V, C: Count, E, F: FnMut(&V) -> Result<VisitControl,
     requires callable { F.IsAlwaysCallable f.old }
     requires path { IsTour tour.old.longest (vec_capacity tour.old.levels) [] (reverse tour.old.levels.items) }
     requires room { tour.old.longest ≤ 2 ^ 64 }
-    ensures { EndsAs F.FnMut f.old (stop_values (stops_ahead no_piece [] (option_copied tour.old.first) tour.old.levels.items)) result f.new }
+    ensures callable { F.IsAlwaysCallable f.new }
+    ensures calls { EndsAs F.FnMut f.old (stop_values (stops_ahead no_piece [] (option_copied tour.old.first) tour.old.levels.items)) result f.new }
 {
     while let Some(value) = tour.advance(&mut NoTrail, counter) {
         match f(value) {
@@ -45,8 +46,9 @@ impl<'a, K: KeyTrait, V> Seen<'a, K, V, Visits> {
         f: &mut F,
     ) -> Result<(), VisitError<E>>
         requires callable { F.IsAlwaysCallable f.old }
-        ensures calls { EndsVisit F.FnMut f.old (values_of (below (K.bytes prefix.now) (tree_pairs (option_copied self.entry.root)))) result f.new }
-        ensures memory { IfErr result (λ e. e ≡ VisitError.Memory → tree_pairs (option_copied self.entry.root) ≢ []) }
+        ensures callable { F.IsAlwaysCallable f.new }
+        ensures calls { EndsVisit F.FnMut f.old (values_of (below (K.bytes prefix.now) (shared_pairs self.entry.root))) result f.new }
+        ensures memory { IfErr result (λ e. e ≡ VisitError.Memory → shared_pairs self.entry.root ≢ []) }
     {
         let mut counter = Visits::new();
         let Ok((mut tour, _trail)) = self.tour_below::<NoTrail>(prefix.as_ref(), &mut counter)

@@ -6,7 +6,7 @@ ghost use Rattle.std.specs.List.{FoldsTo};
 ghost use Rattle.std.specs.Option.{option_copied};
 ghost use Rattle.rart_keys.specs.Filters.{below};
 ghost use Rattle.rart_keys.specs.SortedMap.{values_of};
-ghost use Rattle.rart_nodes.specs.tries.Tree.{tree_pairs};
+ghost use Rattle.rart_nodes.specs.tries.SharedTree.{shared_pairs};
 ghost use Rattle.rart_nodes.specs.walks.Shown.{Shown};
 ghost use Rattle.rart_nodes.specs.walks.Tour.{IsTour, stop_values, stops_ahead};
 ghost use Rattle.rart_nodes.specs.walks.TrailParts.{no_piece};
@@ -26,7 +26,8 @@ fn feed_values<'a, P: Partial, V, C: Count, F: FnMut(&V)>(
     requires callable { F.IsAlwaysCallable f.old }
     requires path { IsTour tour.old.longest (vec_capacity tour.old.levels) [] (reverse tour.old.levels.items) }
     requires room { tour.old.longest ≤ 2 ^ 64 }
-    ensures { FoldsTo (λ p x q. Shown F.FnMut p x q) f.old (stop_values (stops_ahead no_piece [] (option_copied tour.old.first) tour.old.levels.items)) f.new }
+    ensures callable { F.IsAlwaysCallable f.new }
+    ensures folds { FoldsTo (λ p x q. Shown F.FnMut p x q) f.old (stop_values (stops_ahead no_piece [] (option_copied tour.old.first) tour.old.levels.items)) f.new }
 {
     while let Some(value) = tour.advance(&mut NoTrail, counter) {
         f(value);
@@ -37,9 +38,10 @@ impl<'a, K: KeyTrait, V> Seen<'a, K, V, Visits> {
     /// Calls `f` with the value of each pair whose key begins with the bytes `prefix`, in order. Refused with `Memory` alone, before any call.
     fn each_value_below<F: FnMut(&V)>(self, prefix: &[u8], f: &mut F) -> Result<(), TreeError>
         requires callable { F.IsAlwaysCallable f.old }
-        ensures calls { OnOk result (FoldsTo (λ p x q. Shown F.FnMut p x q) f.old (values_of (below prefix.now (tree_pairs (option_copied self.entry.root)))) f.new) }
+        ensures callable { F.IsAlwaysCallable f.new }
+        ensures calls { OnOk result (FoldsTo (λ p x q. Shown F.FnMut p x q) f.old (values_of (below prefix.now (shared_pairs self.entry.root))) f.new) }
         ensures refused { OnErr result (f.new ≡ f.old) }
-        ensures memory { IfErr result (λ e. (e ≡ TreeError.Memory) × (tree_pairs (option_copied self.entry.root) ≢ [])) }
+        ensures memory { IfErr result (λ e. (e ≡ TreeError.Memory) × (shared_pairs self.entry.root ≢ [])) }
     {
         let mut counter = Visits::new();
         let (mut tour, _trail) = self.tour_below::<NoTrail>(prefix, &mut counter)?;
@@ -56,9 +58,10 @@ impl<'a, K: KeyTrait, V> Seen<'a, K, V, Visits> {
         f: &mut F,
     ) -> Result<(), TreeError>
         requires callable { F.IsAlwaysCallable f.old }
-        ensures calls { OnOk result (FoldsTo (λ p x q. Shown F.FnMut p x q) f.old (values_of (below (K.bytes prefix.now) (tree_pairs (option_copied self.entry.root)))) f.new) }
+        ensures callable { F.IsAlwaysCallable f.new }
+        ensures calls { OnOk result (FoldsTo (λ p x q. Shown F.FnMut p x q) f.old (values_of (below (K.bytes prefix.now) (shared_pairs self.entry.root))) f.new) }
         ensures refused { OnErr result (f.new ≡ f.old) }
-        ensures memory { IfErr result (λ e. (e ≡ TreeError.Memory) × (tree_pairs (option_copied self.entry.root) ≢ [])) }
+        ensures memory { IfErr result (λ e. (e ≡ TreeError.Memory) × (shared_pairs self.entry.root ≢ [])) }
     {
         self.each_value_below(prefix.as_ref(), f)
     }
@@ -70,8 +73,8 @@ impl<'a, K: KeyTrait, V> Seen<'a, K, V, Visits> {
         mut f: F,
     ) -> Result<(), TreeError>
         requires callable { F.IsAlwaysCallable f }
-        ensures calls { OnOk result ((last : F) × FoldsTo (λ p x q. Shown F.FnMut p x q) f (values_of (below (K.bytes prefix.now) (tree_pairs (option_copied self.entry.root)))) last) }
-        ensures memory { IfErr result (λ e. (e ≡ TreeError.Memory) × (tree_pairs (option_copied self.entry.root) ≢ [])) }
+        ensures calls { OnOk result ((last : F) × FoldsTo (λ p x q. Shown F.FnMut p x q) f (values_of (below (K.bytes prefix.now) (shared_pairs self.entry.root))) last) }
+        ensures memory { IfErr result (λ e. (e ≡ TreeError.Memory) × (shared_pairs self.entry.root ≢ [])) }
     {
         self.prefix_values_for_each_with_k(prefix, &mut f)
     }

@@ -17,4 +17,4 @@ returns-clause-calls g c =
     let e : stop_values (stops_ahead no_piece [] (option_copied c.in_ok-tour.tour.first) c.in_ok-tour.tour.levels.items) ≡ values_of (below (g.K.KeyTrait.bytes c.args.prefix.now) (tree_pairs (option_copied c.args.self.root)))
     = ap stop_values c.in_ok-tour.ensures.stops ∙ part-values no_piece byte_pieces c.as_ref.result.now (option_copied c.args.self.root) joins-bytes (IsCanonicalTree-test _ c.args.self.canonical)
     ∙ ap (λ q. values_of (below q (tree_pairs (option_copied c.args.self.root)))) c.as_ref.ensures in
-    (c.fold_values.new.f, subst (λ (x : List g.row.V.Denot). FoldsTo (λ p x q. Folded g.F.FnMut p x q) (c.args.f, c.args.init) x (c.fold_values.new.f, c.fold_values.result)) e c.fold_values.ensures)
+    (c.fold_values.new.f, subst (λ (x : List g.row.V.Denot). FoldsTo (λ p x q. Folded g.F.FnMut p x q) (c.args.f, c.args.init) x (c.fold_values.new.f, c.fold_values.result)) e c.fold_values.ensures.folds)

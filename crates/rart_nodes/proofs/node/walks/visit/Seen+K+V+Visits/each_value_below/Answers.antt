@@ -16,4 +16,4 @@ pub returns-clause-calls : goal.returns-clause-calls
 returns-clause-calls g c =
     let e : stop_values (stops_ahead no_piece [] (option_copied c.in_ok-tour.tour.first) c.in_ok-tour.tour.levels.items) ≡ values_of (below c.args.prefix.now (tree_pairs (option_copied c.args.self.root)))
     = ap stop_values c.in_ok-tour.ensures.stops ∙ part-values no_piece byte_pieces c.args.prefix.now (option_copied c.args.self.root) joins-bytes (IsCanonicalTree-test _ c.args.self.canonical) in
-    subst (λ (x : List g.row.V.Denot). FoldsTo (λ p x q. Shown g.F.FnMut p x q) c.args.f.now x c.feed_values.new.f) e c.feed_values.ensures
+    subst (λ (x : List g.row.V.Denot). FoldsTo (λ p x q. Shown g.F.FnMut p x q) c.args.f.now x c.feed_values.new.f) e c.feed_values.ensures.folds
