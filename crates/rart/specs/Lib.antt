@@ -5,5 +5,6 @@ pub mod LawAnswers
 pub mod Loans
 pub mod MapAndShape
 pub mod Refusals
+pub mod RouteLoans
 pub mod Steps
 pub mod Updates

@@ -20,6 +20,7 @@ use rart_parts::TreeError;
 pub mod bulk_loads;
 pub mod counts;
 pub mod probes;
+pub mod routes;
 
 /// Trees with equal keys have equal nodes, whatever their key types, their values and the calls that
 /// made them.

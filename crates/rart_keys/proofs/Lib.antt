@@ -6,6 +6,7 @@ pub mod CommonPrefixes
 pub mod InlineBytes
 pub mod JoinsOfMaps
 pub mod KeyComparisons
+pub mod LongestMatchLemmas
 pub mod NumberOrder
 pub mod PutAllLemmas
 pub mod RangeLemmas

@@ -8,6 +8,7 @@ pub mod Filters
 pub mod Joins
 pub mod KeyBytes
 pub mod LittleEndianWord
+pub mod LongestMatches
 pub mod NumberBytes
 pub mod Ranges
 pub mod SortedMap

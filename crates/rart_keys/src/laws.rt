@@ -1,4 +1,4 @@
-//! Laws, each the contract of a function: those of the sorted map here, with an empty body, and
+//! Laws, each the contract of a function: those of the sorted map here, with an empty body, those of longest matches, and
 //! those of keys and their order.
 ghost use Rattle.std.specs.Prelude.{◌≡◌, ◌≢◌, ◌≤◌, ◌+◌, ℕ, List, Some, None, length};
 ghost use Rattle.rart_keys.specs.Joins.{both, join, swapped};
@@ -6,6 +6,7 @@ ghost use Rattle.rart_keys.specs.SortedMap.{IsAscending, count_of, lookup, put, 
 
 pub mod bulk_lists;
 pub mod key_order;
+pub mod longest;
 
 /// Two ascending lists of pairs with the same look-ups are one list; `put` and `without` keep a list
 /// ascending, change the look-up of their key alone, and change the length by at most one. A new key

@@ -12,6 +12,7 @@ mod probes;
 mod ranges;
 mod refused_in_turn;
 mod replies;
+mod routes;
 mod statistics;
 mod texts;
 mod updates;

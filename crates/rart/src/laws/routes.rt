@@ -1,0 +1,56 @@
+//! What clients can count on of a route table: which probes an edit can reach.
+ghost use Rattle.std.specs.Prelude.{◌≡◌, true, false, Some, option_map, IfErr, IfOk, OnErr, OnOk};
+ghost use Rattle.rart_keys.specs.ByteStrings.{begins};
+ghost use Rattle.rart_keys.specs.Filters.{longest_match};
+ghost use Rattle.rart_keys.specs.LongestMatches.{HasLonger, HasNoLonger};
+ghost use Rattle.rart_keys.specs.SortedMap.{put, without};
+ghost use Rattle.rart.specs.Refusals.{MayKeep, TellsWhy};
+
+use crate::routes::RouteTable;
+use crate::tree::guarded::NotInserted;
+use rart_keys::KeyTrait;
+use rart_parts::TreeError;
+
+/// A route that was added is the one of each probe that its prefix begins and no longer stored prefix does; every other probe
+/// keeps its route. Gives the targets of `probe` before and after. Refused as `add_new` is, and then all is as before.
+pub fn add_then_route<K: KeyTrait, T: Copy>(
+    table: &mut RouteTable<K, T>,
+    prefix: &K,
+    target: T,
+    probe: &[u8],
+) -> Result<(Option<T>, Option<T>), NotInserted<T>>
+    ensures pairs { OnOk result (table.new.pairs ≡ put (K.bytes prefix.now) target table.old.pairs) }
+    ensures before { IfOk result (λ r. r.0 ≡ option_map (λ e. e.1) (longest_match probe.now table.old.pairs)) }
+    ensures after { IfOk result (λ r. r.1 ≡ option_map (λ e. e.1) (longest_match probe.now table.new.pairs)) }
+    ensures longest { OnOk result (begins (K.bytes prefix.now) probe.now ≡ true → HasNoLonger (K.bytes prefix.now) probe.now table.old.pairs → longest_match probe.now table.new.pairs ≡ Some (K.bytes prefix.now, target)) }
+    ensures longer_stays { OnOk result (HasLonger (K.bytes prefix.now) probe.now table.old.pairs → longest_match probe.now table.new.pairs ≡ longest_match probe.now table.old.pairs) }
+    ensures others_stay { OnOk result (begins (K.bytes prefix.now) probe.now ≡ false → longest_match probe.now table.new.pairs ≡ longest_match probe.now table.old.pairs) }
+    ensures refused { IfErr result (TellsWhy table.old.pairs (K.bytes prefix.now) target) }
+    ensures unchanged { OnErr result (table.new ≡ table.old) }
+{
+    table.canonical();
+    rart_keys::laws::longest::longest_matches::<T>();
+    let before = table.route(probe).copied();
+    table.add_new(prefix, target)?;
+    Ok((before, table.route(probe).copied()))
+}
+
+/// A route that was withdrawn leaves each probe that its prefix doesn't begin with its route. Gives the targets of `probe` before
+/// and after. Refused as `withdraw` is, and then all is as before.
+pub fn withdraw_then_route<K: KeyTrait, T: Copy>(
+    table: &mut RouteTable<K, T>,
+    prefix: &K,
+    probe: &[u8],
+) -> Result<(Option<T>, Option<T>), TreeError>
+    ensures pairs { OnOk result (table.new.pairs ≡ without (K.bytes prefix.now) table.old.pairs) }
+    ensures before { IfOk result (λ r. r.0 ≡ option_map (λ e. e.1) (longest_match probe.now table.old.pairs)) }
+    ensures after { IfOk result (λ r. r.1 ≡ option_map (λ e. e.1) (longest_match probe.now table.new.pairs)) }
+    ensures others_stay { OnOk result (begins (K.bytes prefix.now) probe.now ≡ false → longest_match probe.now table.new.pairs ≡ longest_match probe.now table.old.pairs) }
+    ensures refused { IfErr result (MayKeep table.old.pairs (K.bytes prefix.now)) }
+    ensures unchanged { OnErr result (table.new ≡ table.old) }
+{
+    rart_keys::laws::longest::longest_matches::<T>();
+    let before = table.route(probe).copied();
+    let _target = table.withdraw(prefix)?;
+    Ok((before, table.route(probe).copied()))
+}

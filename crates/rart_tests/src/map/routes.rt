@@ -1,0 +1,293 @@
+//! A route table: rows of calls and what they answer, walks over its routes, and each request for memory refused in turn.
+
+use crate::refusals::{refuse, was_refused};
+use rart::{ArrayKey, KeyTrait, LendingKeyView, RouteTable, TreeError, TryInsertError};
+use std::alloc::Global;
+use std::cell::Cell;
+
+type Key = ArrayKey<16>;
+
+type Table = RouteTable<Key, u64>;
+
+#[derive(Clone, Copy)]
+enum Ask {
+    Add(&'static str, u64),
+    Replace(&'static str, u64),
+    Withdraw(&'static str),
+    Route(&'static str),
+    // whether the probe's longest prefix and its target are these
+    IsRoute(&'static str, &'static str, u64),
+    Len,
+    IsEmpty,
+}
+
+#[derive(Clone, Copy, PartialEq, Eq)]
+enum Reply {
+    Added,
+    Occupied(u64, u64),
+    Value(Option<u64>),
+    Is(bool),
+    Len(usize),
+    // refused with `Memory`, and the target comes back
+    Returned(u64),
+    // refused with `Memory`
+    Refused,
+    Other,
+}
+
+type Row = (Ask, Reply);
+
+// The key of a text of at most 16 bytes.
+fn key(text: &str) -> Key {
+    let bytes = text.as_bytes();
+    if bytes.len() <= 16 {
+        Key::new_from_slice(bytes)
+    } else {
+        Key::new_from_slice(&[])
+    }
+}
+
+fn add(table: &mut Table, prefix: &str, target: u64) -> Reply {
+    match table.add(&key(prefix), target) {
+        Ok(()) => Reply::Added,
+        Err(TryInsertError::Occupied(back, present)) => Reply::Occupied(back, *present),
+        Err(TryInsertError::Refused(refused)) => returned(refused.error, refused.value),
+    }
+}
+
+fn returned(error: TreeError, back: u64) -> Reply {
+    if error == TreeError::Memory {
+        Reply::Returned(back)
+    } else {
+        Reply::Other
+    }
+}
+
+fn is_route(table: &Table, probe: &str, prefix: &str, target: u64) -> bool {
+    match table.route_with_prefix(&key(probe)) {
+        Some((found, value)) => found.as_slice() == prefix.as_bytes() && *value == target,
+        None => false,
+    }
+}
+
+fn answer(table: &mut Table, ask: Ask) -> Reply {
+    match ask {
+        Ask::Add(prefix, target) => add(table, prefix, target),
+        Ask::Replace(prefix, target) => match table.replace(&key(prefix), target) {
+            Ok(old) => Reply::Value(old),
+            Err(refused) => returned(refused.error, refused.value),
+        },
+        Ask::Withdraw(prefix) => match table.withdraw(&key(prefix)) {
+            Ok(was) => Reply::Value(was),
+            Err(TreeError::Memory) => Reply::Refused,
+            Err(TreeError::Full) => Reply::Other,
+        },
+        Ask::Route(probe) => Reply::Value(table.route(probe.as_bytes()).copied()),
+        Ask::IsRoute(probe, prefix, target) => Reply::Is(is_route(table, probe, prefix, target)),
+        Ask::Len => Reply::Len(table.len()),
+        Ask::IsEmpty => Reply::Is(table.is_empty()),
+    }
+}
+
+// Plays the rows, and answers the first that went another way.
+fn plays(table: &mut Table, rows: &[Row]) -> Option<usize> {
+    let mut at = 0_usize;
+    for (ask, want) in rows {
+        if answer(table, *ask) != *want {
+            return Some(at);
+        }
+        at = at.wrapping_add(1);
+    }
+    None
+}
+
+const VERSIONS: [Row; 9] = [
+    (Ask::IsEmpty, Reply::Is(true)),
+    (Ask::Add("/", 1), Reply::Added),
+    (Ask::Add("/api", 2), Reply::Added),
+    (Ask::Add("/api/v1", 3), Reply::Added),
+    (Ask::Route("/api/v1/users"), Reply::Value(Some(3))),
+    (Ask::Route("/api/v2"), Reply::Value(Some(2))),
+    (Ask::Route("/home"), Reply::Value(Some(1))),
+    (Ask::Route("home"), Reply::Value(None)),
+    (Ask::Len, Reply::Len(3)),
+];
+
+const EDITED: [Row; 14] = [
+    (Ask::IsRoute("/api/v1/users", "/api/v1", 3), Reply::Is(true)),
+    (Ask::IsRoute("/apis", "/api", 2), Reply::Is(true)),
+    (Ask::IsRoute("/ap", "/", 1), Reply::Is(true)),
+    (Ask::IsRoute("", "", 0), Reply::Is(false)),
+    (
+        Ask::Route("/api/v1/users/of/every/place"),
+        Reply::Value(Some(3)),
+    ),
+    (Ask::Withdraw("/api"), Reply::Value(Some(2))),
+    (Ask::Route("/api/v2"), Reply::Value(Some(1))),
+    (Ask::Route("/api/v1"), Reply::Value(Some(3))),
+    (Ask::Withdraw("/api"), Reply::Value(None)),
+    (Ask::Add("/api", 9), Reply::Added),
+    (Ask::Add("/api", 8), Reply::Occupied(8, 9)),
+    (Ask::Route("/api/v2"), Reply::Value(Some(9))),
+    (Ask::Replace("/api", 7), Reply::Value(Some(9))),
+    (Ask::Replace("/apple", 5), Reply::Value(None)),
+];
+
+// The routes that come in turn are counted; past all of them where another comes.
+fn next_route(seen: usize, wanted: &[(&str, u64)], prefix: &[u8], target: u64) -> usize {
+    match wanted.get(seen) {
+        Some((text, value)) if text.as_bytes() == prefix && *value == target => {
+            seen.wrapping_add(1)
+        }
+        _ => 1000,
+    }
+}
+
+// The same of a view.
+fn next_view(
+    seen: usize,
+    wanted: &[(&str, u64)],
+    view: LendingKeyView<'_, '_>,
+    target: u64,
+) -> usize {
+    match wanted.get(seen) {
+        Some((text, value)) if view.eq_slice(text.as_bytes()) && *value == target => {
+            seen.wrapping_add(1)
+        }
+        _ => 1000,
+    }
+}
+
+// Both forms of the walk over the routes that cover the probe give these.
+fn covers(table: &Table, probe: &str, wanted: &[(&str, u64)]) -> bool {
+    let seen = Cell::new(0_usize);
+    table.covering_for_each(&key(probe), |prefix: &[u8], target: &u64| {
+        seen.set(next_route(seen.get(), wanted, prefix, *target));
+    });
+    let mut lent = 0_usize;
+    let mut callback = |prefix: &[u8], target: &u64| {
+        lent = next_route(lent, wanted, prefix, *target);
+    };
+    table.covering_for_each_with(&key(probe), &mut callback);
+    seen.get() == wanted.len() && lent == wanted.len()
+}
+
+// Both forms of the walk over the routes below the prefix give these.
+fn stands_below(table: &Table, prefix: &str, wanted: &[(&str, u64)]) -> Result<bool, TreeError> {
+    let seen = Cell::new(0_usize);
+    table.below_for_each(&key(prefix), |view: LendingKeyView<'_, '_>, target: &u64| {
+        seen.set(next_view(seen.get(), wanted, view, *target));
+    })?;
+    let mut lent = 0_usize;
+    let mut callback = |view: LendingKeyView<'_, '_>, target: &u64| {
+        lent = next_view(lent, wanted, view, *target);
+    };
+    table.below_for_each_with(&key(prefix), &mut callback)?;
+    Ok(seen.get() == wanted.len() && lent == wanted.len())
+}
+
+fn walks_go_well(table: &Table) -> Result<bool, TreeError> {
+    Ok(
+        covers(table, "/api/v1", &[("/", 1), ("/api", 2), ("/api/v1", 3)])
+            && covers(table, "api", &[])
+            && stands_below(table, "/ap", &[("/api", 2), ("/api/v1", 3)])?
+            && stands_below(table, "/b", &[])?,
+    )
+}
+
+#[test]
+fn probes_are_routed_by_their_longest_prefix(rt: HostRuntime) {
+    let mut table = Table::new(rt.alloc());
+    let (filled, walked, edited) = (
+        plays(&mut table, &VERSIONS),
+        walks_go_well(&table),
+        plays(&mut table, &EDITED),
+    );
+    assert_eq!(rt; filled, None);
+    assert!(rt; walked == Ok(true));
+    assert_eq!(rt; edited, None);
+}
+
+const BRANCHES: [Row; 10] = [
+    (Ask::Add("/a/b", 1), Reply::Added),
+    (Ask::Add("/a/c", 2), Reply::Added),
+    (Ask::Add("/a/d", 3), Reply::Added),
+    (Ask::Replace("/a/e", 4), Reply::Value(None)),
+    (Ask::Add("/a/f", 5), Reply::Added),
+    (Ask::Add("/a/f", 6), Reply::Occupied(6, 5)),
+    (Ask::Add("/", 7), Reply::Added),
+    (Ask::Withdraw("/a/c"), Reply::Value(Some(2))),
+    (Ask::Route("/a/c"), Reply::Value(Some(7))),
+    (Ask::Len, Reply::Len(5)),
+];
+
+const PROBES: [&str; 7] = ["/a/b", "/a/c", "/a/d", "/a/e", "/a/f", "/a", "a"];
+
+// Where the probes are routed.
+fn targets(table: &Table) -> [Option<u64>; 7] {
+    let mut found = [None; 7];
+    for (place, probe) in found.iter_mut().zip(&PROBES) {
+        *place = table.route(probe.as_bytes()).copied();
+    }
+    found
+}
+
+// A refused edit hands its target back and changes no route; the same call then answers as it would have.
+fn is_refused_well(alloc: Global, table: &mut Table, row: &Row, at: usize) -> bool {
+    let before = (table.len(), targets(table));
+    refuse(alloc, at);
+    let first = answer(table, row.0);
+    if !was_refused(alloc) {
+        return first == row.1;
+    }
+    let handed_back = match row.0 {
+        Ask::Add(_, target) | Ask::Replace(_, target) => first == Reply::Returned(target),
+        Ask::Withdraw(_) => first == Reply::Refused,
+        _ => false,
+    };
+    handed_back && (table.len(), targets(table)) == before && answer(table, row.0) == row.1
+}
+
+fn edits_are_refused_well(alloc: Global, at: usize) -> bool {
+    let mut table = Table::new(alloc);
+    for row in &BRANCHES {
+        if !is_refused_well(alloc, &mut table, row, at) {
+            return false;
+        }
+    }
+    true
+}
+
+#[test]
+fn edits_of_routes_refused_in_turn(rt: HostRuntime) {
+    for at in 1..4_usize {
+        assert!(rt; edits_are_refused_well(rt.alloc(), at), "request {at}");
+    }
+}
+
+// The walk is refused before any call, or calls for all.
+fn walk_is_refused_well(alloc: Global, table: &Table, at: usize) -> bool {
+    let seen = Cell::new(0_usize);
+    refuse(alloc, at);
+    let walked = table.below_for_each(&key("/a"), |_view: LendingKeyView<'_, '_>, _target: &u64| {
+        seen.set(seen.get().wrapping_add(1));
+    });
+    let refused = was_refused(alloc);
+    match walked {
+        Ok(()) => !refused && seen.get() == 4,
+        Err(error) => refused && error == TreeError::Memory && seen.get() == 0,
+    }
+}
+
+#[test]
+fn views_of_routes_refused_in_turn(rt: HostRuntime) {
+    let mut table = Table::new(rt.alloc());
+    let filled = plays(&mut table, &BRANCHES);
+    for at in 1..6_usize {
+        assert!(rt;
+            walk_is_refused_well(rt.alloc(), &table, at),
+            "request {at}"
+        );
+    }
+    assert_eq!(rt; filled, None);
+}
