@@ -20,7 +20,8 @@ impl<K: KeyTrait, T> RouteTable<K, T> {
     /// bytes, nothing is copied. Takes no memory.
     pub fn covering_for_each_with<F: FnMut(&[u8], &T)>(&self, probe: &K, f: &mut F)
         requires { F.IsAlwaysCallable f.old }
-        ensures { FoldsTo (λ p x q. Matched F.FnMut p x q) f.old (matches (K.bytes probe.now) self.now.pairs) f.new }
+        ensures callable { F.IsAlwaysCallable f.new }
+        ensures calls { FoldsTo (λ p x q. Matched F.FnMut p x q) f.old (matches (K.bytes probe.now) self.now.pairs) f.new }
     {
         self.routes.prefix_match_for_each_with_k(probe, f)
     }
@@ -41,6 +42,7 @@ impl<K: KeyTrait, T> RouteTable<K, T> {
         f: &mut F,
     ) -> Result<(), TreeError>
         requires callable { F.IsAlwaysCallable f.old }
+        ensures callable { F.IsAlwaysCallable f.new }
         ensures calls { OnOk result (FoldsTo (λ p x q. Viewed F.FnMut p x q) f.old (cut_pairs (keys_of self.now.pairs) (below (K.bytes prefix.now) self.now.pairs)) f.new) }
         ensures refused { OnErr result (f.new ≡ f.old) }
         ensures memory { IfErr result (λ e. (e ≡ TreeError.Memory) × (self.now.pairs ≢ [])) }

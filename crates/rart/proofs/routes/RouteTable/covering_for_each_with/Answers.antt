@@ -5,6 +5,6 @@ use Rattle.rart_nodes.specs.walks.Matched.{Matched}
 use Rattle.rart.specs.MapAndShape.{MapAndShape}
 use Rattle.rart.proofs.routes.RouteTable.covering_for_each_with.Goals as goal
 
-pub returns : goal.returns
-returns g c =
-    subst (λ (t : MapAndShape g.row.T.Denot). FoldsTo (λ p x q. Matched g.F.FnMut p x q) c.args.f.now (matches (g.K.KeyTrait.bytes c.args.probe.now) t.pairs) c.prefix_match_for_each_with_k.new.f) c.self.view_is c.prefix_match_for_each_with_k.ensures
+pub returns-clause-calls : goal.returns-clause-calls
+returns-clause-calls g c =
+    subst (λ (t : MapAndShape g.row.T.Denot). FoldsTo (λ p x q. Matched g.F.FnMut p x q) c.args.f.now (matches (g.K.KeyTrait.bytes c.args.probe.now) t.pairs) c.prefix_match_for_each_with_k.new.f) c.self.view_is c.prefix_match_for_each_with_k.ensures.calls
