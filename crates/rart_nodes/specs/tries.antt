@@ -1,5 +1,4 @@
 pub mod CanonicalTest
-pub mod SharedTree
 pub mod Tree
 pub mod Trie
 pub mod TrieCode

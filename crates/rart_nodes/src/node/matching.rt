@@ -7,7 +7,7 @@ ghost use Rattle.std.specs.Iterator.{YieldsFirstBy, item_count};
 ghost use Rattle.std.specs.List.{FoldsTo};
 ghost use Rattle.std.specs.Option.{option_copied};
 ghost use Rattle.rart_keys.specs.Filters.{longest_match, matches};
-ghost use Rattle.rart_nodes.specs.tries.SharedTree.{shared_keys, shared_pairs};
+ghost use Rattle.rart_nodes.specs.tries.Tree.{seen_keys, seen_pairs};
 ghost use Rattle.rart_nodes.specs.walks.Matched.{Matched};
 ghost use Rattle.rart_nodes.specs.walks.Matches.{Passes, PassesNone, matches_ahead, entered_ahead};
 ghost use Rattle.rart_nodes.specs.walks.ProbeCount.{probe_count};
@@ -92,9 +92,9 @@ impl<'a, K: KeyTrait, V, C: Count> Seen<'a, K, V, C> {
 
     /// The length and the value of the longest key that begins the probe.
     pub(crate) fn last_match(self, probe: &[u8], counter: &mut C) -> Option<(usize, &'a V)>
-        ensures pair { option_map (λ p. (take p.0 probe.now, p.1.now)) result ≡ longest_match probe.now (shared_pairs self.entry.root) }
+        ensures pair { option_map (λ p. (take p.0 probe.now, p.1.now)) result ≡ longest_match probe.now (seen_pairs self.entry.root) }
         ensures within { IfSome result (λ p. p.0 ≤ length probe.now) }
-        ensures visits { C.number counter.new ≡ C.number counter.old + probe_count (shared_keys self.entry.root) probe.now }
+        ensures visits { C.number counter.new ≡ C.number counter.old + probe_count (seen_keys self.entry.root) probe.now }
         ensures bound { C.number counter.new ≤ C.number counter.old + length probe.now + 1 }
     {
         let mut matching = self.matching();
@@ -107,8 +107,8 @@ impl<'a, K: KeyTrait, V, C: Count> Seen<'a, K, V, C> {
 
     /// The pair whose key is the longest that begins the probe.
     pub fn longest_prefix_match_k_counted(self, probe: &K, counter: &mut C) -> Option<(K, &'a V)>
-        ensures pair { option_map (λ p. (K.bytes p.0, p.1.now)) result ≡ longest_match (K.bytes probe.now) (shared_pairs self.entry.root) }
-        ensures visits { C.number counter.new ≡ C.number counter.old + probe_count (shared_keys self.entry.root) (K.bytes probe.now) }
+        ensures pair { option_map (λ p. (K.bytes p.0, p.1.now)) result ≡ longest_match (K.bytes probe.now) (seen_pairs self.entry.root) }
+        ensures visits { C.number counter.new ≡ C.number counter.old + probe_count (seen_keys self.entry.root) (K.bytes probe.now) }
         ensures bound { C.number counter.new ≤ C.number counter.old + length (K.bytes probe.now) + 1 }
     {
         let bytes = probe.as_ref();
@@ -118,8 +118,8 @@ impl<'a, K: KeyTrait, V, C: Count> Seen<'a, K, V, C> {
 
     /// The value at the longest key that begins the bytes `probe`, which may be longer than any key.
     pub fn longest_prefix_value_bytes_counted(self, probe: &[u8], counter: &mut C) -> Option<&'a V>
-        ensures value { option_copied result ≡ option_map (λ e. e.1) (longest_match probe.now (shared_pairs self.entry.root)) }
-        ensures visits { C.number counter.new ≡ C.number counter.old + probe_count (shared_keys self.entry.root) probe.now }
+        ensures value { option_copied result ≡ option_map (λ e. e.1) (longest_match probe.now (seen_pairs self.entry.root)) }
+        ensures visits { C.number counter.new ≡ C.number counter.old + probe_count (seen_keys self.entry.root) probe.now }
         ensures bound { C.number counter.new ≤ C.number counter.old + length probe.now + 1 }
     {
         let (_, value) = self.last_match(probe, counter)?;
@@ -128,8 +128,8 @@ impl<'a, K: KeyTrait, V, C: Count> Seen<'a, K, V, C> {
 
     /// The value at the longest key that begins the probe.
     pub fn longest_prefix_value_k_counted(self, probe: &K, counter: &mut C) -> Option<&'a V>
-        ensures value { option_copied result ≡ option_map (λ e. e.1) (longest_match (K.bytes probe.now) (shared_pairs self.entry.root)) }
-        ensures visits { C.number counter.new ≡ C.number counter.old + probe_count (shared_keys self.entry.root) (K.bytes probe.now) }
+        ensures value { option_copied result ≡ option_map (λ e. e.1) (longest_match (K.bytes probe.now) (seen_pairs self.entry.root)) }
+        ensures visits { C.number counter.new ≡ C.number counter.old + probe_count (seen_keys self.entry.root) (K.bytes probe.now) }
         ensures bound { C.number counter.new ≤ C.number counter.old + length (K.bytes probe.now) + 1 }
     {
         self.longest_prefix_value_bytes_counted(probe.as_ref(), counter)
@@ -138,8 +138,8 @@ impl<'a, K: KeyTrait, V, C: Count> Seen<'a, K, V, C> {
     fn each_match<F: FnMut(&[u8], &V)>(self, probe: &[u8], f: &mut F, counter: &mut C)
         requires callable { F.IsAlwaysCallable f.old }
         ensures callable { F.IsAlwaysCallable f.new }
-        ensures calls { FoldsTo (λ p x q. Matched F.FnMut p x q) f.old (matches probe.now (shared_pairs self.entry.root)) f.new }
-        ensures visits { C.number counter.new ≡ C.number counter.old + probe_count (shared_keys self.entry.root) probe.now }
+        ensures calls { FoldsTo (λ p x q. Matched F.FnMut p x q) f.old (matches probe.now (seen_pairs self.entry.root)) f.new }
+        ensures visits { C.number counter.new ≡ C.number counter.old + probe_count (seen_keys self.entry.root) probe.now }
         ensures bound { C.number counter.new ≤ C.number counter.old + length probe.now + 1 }
     {
         let mut matching = self.matching();
@@ -158,8 +158,8 @@ impl<'a, K: KeyTrait, V, C: Count> Seen<'a, K, V, C> {
     )
         requires callable { F.IsAlwaysCallable f.old }
         ensures callable { F.IsAlwaysCallable f.new }
-        ensures calls { FoldsTo (λ p x q. Matched F.FnMut p x q) f.old (matches (K.bytes probe.now) (shared_pairs self.entry.root)) f.new }
-        ensures visits { C.number counter.new ≡ C.number counter.old + probe_count (shared_keys self.entry.root) (K.bytes probe.now) }
+        ensures calls { FoldsTo (λ p x q. Matched F.FnMut p x q) f.old (matches (K.bytes probe.now) (seen_pairs self.entry.root)) f.new }
+        ensures visits { C.number counter.new ≡ C.number counter.old + probe_count (seen_keys self.entry.root) (K.bytes probe.now) }
         ensures bound { C.number counter.new ≤ C.number counter.old + length (K.bytes probe.now) + 1 }
     {
         self.each_match(probe.as_ref(), f, counter);
@@ -174,8 +174,8 @@ impl<'a, K: KeyTrait, V, C: Count> Seen<'a, K, V, C> {
         counter: &mut C,
     )
         requires callable { F.IsAlwaysCallable f }
-        ensures calls { (last : F) × FoldsTo (λ p x q. Matched F.FnMut p x q) f (matches (K.bytes probe.now) (shared_pairs self.entry.root)) last }
-        ensures visits { C.number counter.new ≡ C.number counter.old + probe_count (shared_keys self.entry.root) (K.bytes probe.now) }
+        ensures calls { (last : F) × FoldsTo (λ p x q. Matched F.FnMut p x q) f (matches (K.bytes probe.now) (seen_pairs self.entry.root)) last }
+        ensures visits { C.number counter.new ≡ C.number counter.old + probe_count (seen_keys self.entry.root) (K.bytes probe.now) }
         ensures bound { C.number counter.new ≤ C.number counter.old + length (K.bytes probe.now) + 1 }
     {
         self.prefix_match_for_each_with_k_counted(probe, &mut f, counter);
@@ -229,7 +229,7 @@ impl<'a, K: KeyTrait, P: Partial, V> Iterator for PrefixMatchIter<'a, K, P, V> {
 impl<'a, K: KeyTrait, V> Seen<'a, K, V, Visits> {
     /// The pairs whose key begins `probe`, the shortest first. It keeps a copy of the probe, and visits nothing yet.
     pub fn prefix_match_iter_k(self, probe: &K) -> PrefixMatchIter<'a, K, K::PartialType, V>
-        ensures { result ≡ matches (K.bytes probe.now) (shared_pairs self.entry.root) }
+        ensures { result ≡ matches (K.bytes probe.now) (seen_pairs self.entry.root) }
     {
         PrefixMatchIter {
             matching: self.matching(),

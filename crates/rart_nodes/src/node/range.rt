@@ -6,7 +6,7 @@ ghost use Rattle.std.specs.Prelude.{◌≡◌, ◌≢◌, ◌≤◌, ◌+◌, []
 ghost use Rattle.std.specs.Iterator.{YieldsFirstBy, item_count};
 ghost use Rattle.rart_keys.specs.Ranges.{between, bound_bytes, bound_in, is_inclusive, is_to, is_until, pairs_since, up_to};
 ghost use Rattle.rart_nodes.specs.ranges.Starts.{bytes_taken};
-ghost use Rattle.rart_nodes.specs.tries.SharedTree.{shared_keys, shared_pairs};
+ghost use Rattle.rart_nodes.specs.tries.Tree.{seen_keys, seen_pairs};
 ghost use Rattle.rart_nodes.specs.walks.ProbeCount.{probe_count};
 
 use crate::count::{Count, Visits};
@@ -185,11 +185,11 @@ impl<'a, K: KeyTrait + Drop, V, C: Count> Seen<'a, K, V, C> {
         end: Bound<K>,
         counter: &mut C,
     ) -> Result<Ended<'a, K, V, C>, TreeError>
-        ensures pairs { IfOk result (λ r. up_to r.0 r.1 ≡ between (bound_in K.bytes start) (bound_in K.bytes end) (shared_pairs self.entry.root)) }
+        ensures pairs { IfOk result (λ r. up_to r.0 r.1 ≡ between (bound_in K.bytes start) (bound_in K.bytes end) (seen_pairs self.entry.root)) }
         ensures end { IfOk result (λ r. r.0 ≡ bound_in K.bytes end) }
-        ensures ahead { IfOk result (λ r. r.1 ≡ pairs_since (is_inclusive (bound_in K.bytes start)) (bound_bytes (bound_in K.bytes start)) (shared_pairs self.entry.root)) }
-        ensures memory { IfErr result (λ e. (e ≡ TreeError.Memory) × (shared_pairs self.entry.root ≢ [])) }
-        ensures visits { IfOk result (λ _. C.number counter.new ≡ C.number counter.old + probe_count (shared_keys self.entry.root) (bound_bytes (bound_in K.bytes start))) }
+        ensures ahead { IfOk result (λ r. r.1 ≡ pairs_since (is_inclusive (bound_in K.bytes start)) (bound_bytes (bound_in K.bytes start)) (seen_pairs self.entry.root)) }
+        ensures memory { IfErr result (λ e. (e ≡ TreeError.Memory) × (seen_pairs self.entry.root ≢ [])) }
+        ensures visits { IfOk result (λ _. C.number counter.new ≡ C.number counter.old + probe_count (seen_keys self.entry.root) (bound_bytes (bound_in K.bytes start))) }
         ensures bound { C.number counter.new ≤ C.number counter.old + length (bound_bytes (bound_in K.bytes start)) + 1 }
     {
         let (bytes, included) = bytes_of(&start);
@@ -208,11 +208,11 @@ impl<'a, K: KeyTrait + Drop, V, C: Count> Seen<'a, K, V, C> {
         end: Bound<K>,
         counter: &mut C,
     ) -> Result<SeenRange<'a, K, V, C>, TreeError>
-        ensures pairs { IfOk result (λ r. up_to r.0 r.1 ≡ between (bound_in K.bytes start) (bound_in K.bytes end) (shared_pairs self.entry.root)) }
+        ensures pairs { IfOk result (λ r. up_to r.0 r.1 ≡ between (bound_in K.bytes start) (bound_in K.bytes end) (seen_pairs self.entry.root)) }
         ensures end { IfOk result (λ r. r.0 ≡ bound_in K.bytes end) }
-        ensures ahead { IfOk result (λ r. r.1 ≡ pairs_since (is_inclusive (bound_in K.bytes start)) (bound_bytes (bound_in K.bytes start)) (shared_pairs self.entry.root)) }
-        ensures memory { IfErr result (λ e. (e ≡ TreeError.Memory) × (shared_pairs self.entry.root ≢ [])) }
-        ensures visits { IfOk result (λ _. C.number counter.new ≡ C.number counter.old + probe_count (shared_keys self.entry.root) (bound_bytes (bound_in K.bytes start))) }
+        ensures ahead { IfOk result (λ r. r.1 ≡ pairs_since (is_inclusive (bound_in K.bytes start)) (bound_bytes (bound_in K.bytes start)) (seen_pairs self.entry.root)) }
+        ensures memory { IfErr result (λ e. (e ≡ TreeError.Memory) × (seen_pairs self.entry.root ≢ [])) }
+        ensures visits { IfOk result (λ _. C.number counter.new ≡ C.number counter.old + probe_count (seen_keys self.entry.root) (bound_bytes (bound_in K.bytes start))) }
         ensures bound { C.number counter.new ≤ C.number counter.old + length (bound_bytes (bound_in K.bytes start)) + 1 }
     {
         let pairs = self.ended_walk(start, end, counter)?;
@@ -223,8 +223,8 @@ impl<'a, K: KeyTrait + Drop, V, C: Count> Seen<'a, K, V, C> {
 impl<'a, K: KeyTrait + Drop, V> Seen<'a, K, V, Visits> {
     /// The pairs within two bounds. It takes its room as `iter_counted` does.
     pub fn range(self, start: Bound<K>, end: Bound<K>) -> Result<Range<'a, K, V>, TreeError>
-        ensures pairs { IfOk result (λ r. up_to r.0 r.1 ≡ between (bound_in K.bytes start) (bound_in K.bytes end) (shared_pairs self.entry.root)) }
-        ensures memory { IfErr result (λ e. (e ≡ TreeError.Memory) × (shared_pairs self.entry.root ≢ [])) }
+        ensures pairs { IfOk result (λ r. up_to r.0 r.1 ≡ between (bound_in K.bytes start) (bound_in K.bytes end) (seen_pairs self.entry.root)) }
+        ensures memory { IfErr result (λ e. (e ≡ TreeError.Memory) × (seen_pairs self.entry.root ≢ [])) }
     {
         let pairs = self.ended_walk(start, end, &mut Visits::new())?;
         Ok(Range { pairs })

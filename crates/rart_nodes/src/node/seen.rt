@@ -10,8 +10,7 @@ ghost use Rattle.rart_keys.specs.KeyBytes.{IsWithin, IsWithin-prop};
 ghost use Rattle.rart_keys.specs.SortedMap.{count_of, longest_key};
 ghost use Rattle.rart_nodes.specs.ranges.Starts.{children_above};
 ghost use Rattle.rart_nodes.specs.tries.CanonicalTest.{is_canonical, is_canonical_tree};
-ghost use Rattle.rart_nodes.specs.tries.SharedTree.{shared_pairs};
-ghost use Rattle.rart_nodes.specs.tries.Tree.{IsCanonicalTree};
+ghost use Rattle.rart_nodes.specs.tries.Tree.{IsCanonicalTree, seen_pairs};
 ghost use Rattle.rart_nodes.specs.tries.Trie.{child, child_in, children_in, edges_of, no_children, prefix_of, value_of};
 
 use crate::count::Count;
@@ -28,7 +27,7 @@ pub struct Seen<'a, K: KeyTrait, V, C> {
     longest: usize,
     of: PhantomData<(K, C)>,
     ghost canonical: { is_canonical_tree (option_copied root) ≡ true },
-    ghost short: { longest_key (shared_pairs root) ≤ longest },
+    ghost short: { longest_key (seen_pairs root) ≤ longest },
     ghost fits: { IsWithin K.MAXIMUM_SIZE longest } by { IsWithin-prop K.MAXIMUM_SIZE longest },
 }
 
@@ -117,7 +116,7 @@ impl<'a, K: KeyTrait, V, C> Seen<'a, K, V, C> {
 
     /// A number that no key of the tree is longer than, within the keys' maximum.
     pub(crate) fn longest(self) -> usize
-        ensures short { longest_key (shared_pairs self.entry.root) ≤ result }
+        ensures short { longest_key (seen_pairs self.entry.root) ≤ result }
         ensures fits { IsWithin K.MAXIMUM_SIZE result }
         ensures own { result ≡ self.entry.longest }
     {
@@ -143,7 +142,7 @@ impl<'a, K: KeyTrait, V, C> Seen<'a, K, V, C> {
         longest: usize,
     ) -> Self
         requires canonical { IsCanonicalTree (option_copied root) }
-        requires short { longest_key (shared_pairs root) ≤ longest }
+        requires short { longest_key (seen_pairs root) ≤ longest }
         requires fits { IsWithin K.MAXIMUM_SIZE longest }
         ensures { option_copied result.root ≡ option_copied root.entry }
     {

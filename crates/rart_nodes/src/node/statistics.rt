@@ -3,8 +3,7 @@ ghost use Rattle.std.specs.Prelude.{◌≡◌, ◌+◌, ◌*◌, ◌≤◌, leng
 ghost use Rattle.std.specs.Option.{option_copied};
 ghost use Rattle.rart_nodes.specs.statistics.CountedNodes.{counts_added, counts_in, counts_sum};
 ghost use Rattle.rart_nodes.specs.statistics.Statistics.{statistics_in, statistics_of, trie_height};
-ghost use Rattle.rart_nodes.specs.tries.SharedTree.{shared_keys, shared_pairs};
-ghost use Rattle.rart_nodes.specs.tries.Tree.{IsCanonicalTree, tree_nodes};
+ghost use Rattle.rart_nodes.specs.tries.Tree.{IsCanonicalTree, seen_keys, seen_pairs, tree_nodes};
 ghost use Rattle.rart_nodes.specs.tries.TrieCode.{node_count};
 
 use crate::node::DefaultNode;
@@ -37,10 +36,10 @@ impl<P: Partial, V> DefaultNode<P, V> {
     /// keys.
     pub fn tree_stats(root: Option<&Self>, alloc: Global) -> Result<TreeStats, TreeError>
         requires canonical { IsCanonicalTree (option_copied root) }
-        requires fits { 16 * length (shared_pairs root) ≤ usize.MAX }
-        ensures statistics { IfOk result (λ s. statistics_in s ≡ statistics_of (shared_keys root.entry) (tree_nodes (option_copied root.entry))) }
+        requires fits { 16 * length (seen_pairs root) ≤ usize.MAX }
+        ensures statistics { IfOk result (λ s. statistics_in s ≡ statistics_of (seen_keys root.entry) (tree_nodes (option_copied root.entry))) }
         ensures error { IfErr result (λ e. e ≡ TreeError.Memory) }
-        ensures asks { OnErr result (2 ≤ length (shared_pairs root.entry)) }
+        ensures asks { OnErr result (2 ≤ length (seen_pairs root.entry)) }
     {
         let Some(node) = root else {
             return Ok(TreeStats::new(alloc));

@@ -5,7 +5,7 @@
 ghost use Rattle.std.specs.Prelude.{◌≡◌, ◌≢◌, ◌≤◌, ◌<◌, ◌+◌, ◌++◌, ℕ, List, [], ◌∷◌, length, reverse, take, vec_len, vec_capacity, MatchOption, IfOk, OnErr};
 ghost use Rattle.std.specs.Option.{option_copied};
 ghost use Rattle.rart_keys.specs.SortedMap.{count_of, longest_key};
-ghost use Rattle.rart_nodes.specs.tries.SharedTree.{shared_pairs};
+ghost use Rattle.rart_nodes.specs.tries.Tree.{seen_pairs};
 ghost use Rattle.rart_nodes.specs.walks.Tour.{IsTour, Tells, behind_pieces, nodes_below, stops_ahead, stops_of, tree_count, tree_stops};
 ghost use Rattle.rart_nodes.specs.walks.TourSteps.{DeepestLeft, DeepestStep, GoesOn};
 ghost use Rattle.rart_nodes.specs.tries.Trie.{pairs_of, prefix_of};
@@ -119,7 +119,7 @@ impl<'a, K: KeyTrait, V, C: Count> Seen<'a, K, V, C> {
         ensures path { IfOk result (λ w. IsTour w.0.longest (vec_capacity w.0.levels) (T.kept w.1) (reverse w.0.levels.items)) }
         ensures room { IfOk result (λ w. w.0.longest ≤ T.room w.1) }
         ensures stops { IfOk result (λ w. stops_ahead T.grown (T.kept w.1) (option_copied w.0.first) w.0.levels.items ≡ tree_stops T.grown (option_copied self.entry.root)) }
-        ensures memory { OnErr result (shared_pairs self.entry.root ≢ []) }
+        ensures memory { OnErr result (seen_pairs self.entry.root ≢ []) }
         ensures visits { IfOk result (λ w. C.number counter.new + nodes_below (reverse w.0.levels.items) ≡ C.number counter.old + tree_count (option_copied self.entry.root)) }
         ensures longest { IfOk result (λ w. w.0.longest ≤ self.entry.longest) }
         ensures root { C.number counter.new ≡ C.number counter.old + count_of (option_copied self.entry.root) }

@@ -3,8 +3,7 @@ ghost use Rattle.std.specs.Prelude.{◌≡◌, ◌≢◌, ◌≤◌, ◌+◌, �
 ghost use Rattle.std.specs.Option.{option_copied};
 ghost use Rattle.rart_keys.specs.Filters.{below};
 ghost use Rattle.rart_keys.specs.SortedMap.{longest_key};
-ghost use Rattle.rart_nodes.specs.tries.SharedTree.{shared_keys, shared_pairs};
-ghost use Rattle.rart_nodes.specs.tries.Tree.{tree_pairs};
+ghost use Rattle.rart_nodes.specs.tries.Tree.{seen_keys, seen_pairs, tree_pairs};
 ghost use Rattle.rart_nodes.specs.tries.Trie.{pairs_of};
 ghost use Rattle.rart_nodes.specs.walks.Part.{part_stops, tree_part};
 ghost use Rattle.rart_nodes.specs.walks.ProbeCount.{probe_count, tree_entered};
@@ -63,10 +62,10 @@ impl<'a, K: KeyTrait, V, C: Count> Seen<'a, K, V, C> {
         ensures room { IfOk result (λ w. w.0.longest ≤ T.room w.1) }
         ensures longest { IfOk result (λ w. w.0.longest ≤ self.entry.longest) }
         ensures stops { IfOk result (λ w. stops_ahead T.grown (T.kept w.1) (option_copied w.0.first) w.0.levels.items ≡ part_stops T.grown (tree_part T.grown [] prefix.now (option_copied self.entry.root))) }
-        ensures memory { OnErr result (shared_pairs self.entry.root ≢ []) }
-        ensures visits { IfOk result (λ _. C.number counter.new ≡ C.number counter.old + probe_count (shared_keys self.entry.root) prefix.now) }
+        ensures memory { OnErr result (seen_pairs self.entry.root ≢ []) }
+        ensures visits { IfOk result (λ _. C.number counter.new ≡ C.number counter.old + probe_count (seen_keys self.entry.root) prefix.now) }
         ensures bound { C.number counter.new ≤ C.number counter.old + length prefix.now + 1 }
-        ensures few { IfOk result (λ w. nodes_below (reverse w.0.levels.items) ≤ 2 * length (below prefix.now (shared_pairs self.entry.root))) }
+        ensures few { IfOk result (λ w. nodes_below (reverse w.0.levels.items) ≤ 2 * length (below prefix.now (seen_pairs self.entry.root))) }
     {
         let alloc = self.alloc();
         let longest = self.longest();

@@ -4,7 +4,7 @@ ghost use Rattle.std.specs.List.{FoldsTo};
 ghost use Rattle.std.specs.Option.{option_copied};
 ghost use Rattle.rart_keys.specs.Filters.{below};
 ghost use Rattle.rart_keys.specs.SortedMap.{values_of};
-ghost use Rattle.rart_nodes.specs.tries.SharedTree.{shared_pairs};
+ghost use Rattle.rart_nodes.specs.tries.Tree.{seen_pairs};
 ghost use Rattle.rart_nodes.specs.walks.Shown.{Folded};
 ghost use Rattle.rart_nodes.specs.walks.Tour.{IsTour, stop_values, stops_ahead};
 ghost use Rattle.rart_nodes.specs.walks.TrailParts.{no_piece};
@@ -46,8 +46,8 @@ impl<'a, K: KeyTrait, V> Seen<'a, K, V, Visits> {
         mut f: F,
     ) -> Result<S, TreeError>
         requires callable { F.IsAlwaysCallable f }
-        ensures calls { IfOk result (λ state. (last : F) × FoldsTo (λ p x q. Folded F.FnMut p x q) (f, init) (values_of (below (K.bytes prefix.now) (shared_pairs self.entry.root))) (last, state)) }
-        ensures memory { IfErr result (λ e. (e ≡ TreeError.Memory) × (shared_pairs self.entry.root ≢ [])) }
+        ensures calls { IfOk result (λ state. (last : F) × FoldsTo (λ p x q. Folded F.FnMut p x q) (f, init) (values_of (below (K.bytes prefix.now) (seen_pairs self.entry.root))) (last, state)) }
+        ensures memory { IfErr result (λ e. (e ≡ TreeError.Memory) × (seen_pairs self.entry.root ≢ [])) }
     {
         let mut counter = Visits::new();
         let (mut tour, _trail) = self.tour_below::<NoTrail>(prefix.as_ref(), &mut counter)?;

@@ -6,7 +6,7 @@ ghost use Rattle.std.specs.Prelude.{◌≡◌, ◌≢◌, ◌≤◌, ◌+◌, �
 ghost use Rattle.std.specs.List.{FoldsTo};
 ghost use Rattle.std.specs.Option.{option_copied};
 ghost use Rattle.rart_keys.specs.Filters.{below};
-ghost use Rattle.rart_nodes.specs.tries.SharedTree.{shared_keys, shared_pairs};
+ghost use Rattle.rart_nodes.specs.tries.Tree.{seen_keys, seen_pairs};
 ghost use Rattle.rart_nodes.specs.walks.Cut.{cut_pairs};
 ghost use Rattle.rart_nodes.specs.walks.ProbeCount.{probe_count};
 ghost use Rattle.rart_nodes.specs.walks.Tour.{IsTour, nodes_below, stops_ahead};
@@ -50,11 +50,11 @@ impl<'a, K: KeyTrait, V, C: Count> Seen<'a, K, V, C> {
     ) -> Result<(), TreeError>
         requires callable { F.IsAlwaysCallable f.old }
         ensures callable { F.IsAlwaysCallable f.new }
-        ensures calls { OnOk result (FoldsTo (λ p x q. Viewed F.FnMut p x q) f.old (cut_pairs (shared_keys self.entry.root) (below prefix.now (shared_pairs self.entry.root))) f.new) }
+        ensures calls { OnOk result (FoldsTo (λ p x q. Viewed F.FnMut p x q) f.old (cut_pairs (seen_keys self.entry.root) (below prefix.now (seen_pairs self.entry.root))) f.new) }
         ensures refused { OnErr result (f.new ≡ f.old) }
-        ensures memory { IfErr result (λ e. (e ≡ TreeError.Memory) × (shared_pairs self.entry.root ≢ [])) }
-        ensures visits { OnOk result (C.number counter.new ≤ C.number counter.old + probe_count (shared_keys self.entry.root) prefix.now + 2 * length (below prefix.now (shared_pairs self.entry.root))) }
-        ensures bound { C.number counter.new ≤ C.number counter.old + length prefix.now + 1 + 2 * length (below prefix.now (shared_pairs self.entry.root)) }
+        ensures memory { IfErr result (λ e. (e ≡ TreeError.Memory) × (seen_pairs self.entry.root ≢ [])) }
+        ensures visits { OnOk result (C.number counter.new ≤ C.number counter.old + probe_count (seen_keys self.entry.root) prefix.now + 2 * length (below prefix.now (seen_pairs self.entry.root))) }
+        ensures bound { C.number counter.new ≤ C.number counter.old + length prefix.now + 1 + 2 * length (below prefix.now (seen_pairs self.entry.root)) }
     {
         let (mut tour, mut trail) = self.tour_below::<SegmentTrail<'a>>(prefix, counter)?;
         feed_views(&mut tour, &mut trail, counter, f);
@@ -73,11 +73,11 @@ impl<'a, K: KeyTrait, V, C: Count> Seen<'a, K, V, C> {
     ) -> Result<(), TreeError>
         requires callable { F.IsAlwaysCallable f.old }
         ensures callable { F.IsAlwaysCallable f.new }
-        ensures calls { OnOk result (FoldsTo (λ p x q. Viewed F.FnMut p x q) f.old (cut_pairs (shared_keys self.entry.root) (below (K.bytes prefix.now) (shared_pairs self.entry.root))) f.new) }
+        ensures calls { OnOk result (FoldsTo (λ p x q. Viewed F.FnMut p x q) f.old (cut_pairs (seen_keys self.entry.root) (below (K.bytes prefix.now) (seen_pairs self.entry.root))) f.new) }
         ensures refused { OnErr result (f.new ≡ f.old) }
-        ensures memory { IfErr result (λ e. (e ≡ TreeError.Memory) × (shared_pairs self.entry.root ≢ [])) }
-        ensures visits { OnOk result (C.number counter.new ≤ C.number counter.old + probe_count (shared_keys self.entry.root) (K.bytes prefix.now) + 2 * length (below (K.bytes prefix.now) (shared_pairs self.entry.root))) }
-        ensures bound { C.number counter.new ≤ C.number counter.old + length (K.bytes prefix.now) + 1 + 2 * length (below (K.bytes prefix.now) (shared_pairs self.entry.root)) }
+        ensures memory { IfErr result (λ e. (e ≡ TreeError.Memory) × (seen_pairs self.entry.root ≢ [])) }
+        ensures visits { OnOk result (C.number counter.new ≤ C.number counter.old + probe_count (seen_keys self.entry.root) (K.bytes prefix.now) + 2 * length (below (K.bytes prefix.now) (seen_pairs self.entry.root))) }
+        ensures bound { C.number counter.new ≤ C.number counter.old + length (K.bytes prefix.now) + 1 + 2 * length (below (K.bytes prefix.now) (seen_pairs self.entry.root)) }
     {
         self.each_view_below(prefix.as_ref(), f, counter)
     }
@@ -90,10 +90,10 @@ impl<'a, K: KeyTrait, V, C: Count> Seen<'a, K, V, C> {
         counter: &mut C,
     ) -> Result<(), TreeError>
         requires callable { F.IsAlwaysCallable f }
-        ensures calls { OnOk result ((last : F) × FoldsTo (λ p x q. Viewed F.FnMut p x q) f (cut_pairs (shared_keys self.entry.root) (below (K.bytes prefix.now) (shared_pairs self.entry.root))) last) }
-        ensures memory { IfErr result (λ e. (e ≡ TreeError.Memory) × (shared_pairs self.entry.root ≢ [])) }
-        ensures visits { OnOk result (C.number counter.new ≤ C.number counter.old + probe_count (shared_keys self.entry.root) (K.bytes prefix.now) + 2 * length (below (K.bytes prefix.now) (shared_pairs self.entry.root))) }
-        ensures bound { C.number counter.new ≤ C.number counter.old + length (K.bytes prefix.now) + 1 + 2 * length (below (K.bytes prefix.now) (shared_pairs self.entry.root)) }
+        ensures calls { OnOk result ((last : F) × FoldsTo (λ p x q. Viewed F.FnMut p x q) f (cut_pairs (seen_keys self.entry.root) (below (K.bytes prefix.now) (seen_pairs self.entry.root))) last) }
+        ensures memory { IfErr result (λ e. (e ≡ TreeError.Memory) × (seen_pairs self.entry.root ≢ [])) }
+        ensures visits { OnOk result (C.number counter.new ≤ C.number counter.old + probe_count (seen_keys self.entry.root) (K.bytes prefix.now) + 2 * length (below (K.bytes prefix.now) (seen_pairs self.entry.root))) }
+        ensures bound { C.number counter.new ≤ C.number counter.old + length (K.bytes prefix.now) + 1 + 2 * length (below (K.bytes prefix.now) (seen_pairs self.entry.root)) }
     {
         self.prefix_for_each_view_with_k_counted(prefix, &mut f, counter)
     }
@@ -107,11 +107,11 @@ impl<'a, K: KeyTrait, V, C: Count> Seen<'a, K, V, C> {
     ) -> Result<(), TreeError>
         requires callable { F.IsAlwaysCallable f.old }
         ensures callable { F.IsAlwaysCallable f.new }
-        ensures calls { OnOk result (FoldsTo (λ p x q. Viewed F.FnMut p x q) f.old (cut_pairs (shared_keys self.entry.root) (shared_pairs self.entry.root)) f.new) }
+        ensures calls { OnOk result (FoldsTo (λ p x q. Viewed F.FnMut p x q) f.old (cut_pairs (seen_keys self.entry.root) (seen_pairs self.entry.root)) f.new) }
         ensures refused { OnErr result (f.new ≡ f.old) }
-        ensures memory { IfErr result (λ e. (e ≡ TreeError.Memory) × (shared_pairs self.entry.root ≢ [])) }
-        ensures visits { OnOk result (C.number counter.new ≤ C.number counter.old + probe_count (shared_keys self.entry.root) [] + 2 * length (shared_pairs self.entry.root)) }
-        ensures bound { C.number counter.new ≤ C.number counter.old + 1 + 2 * length (shared_pairs self.entry.root) }
+        ensures memory { IfErr result (λ e. (e ≡ TreeError.Memory) × (seen_pairs self.entry.root ≢ [])) }
+        ensures visits { OnOk result (C.number counter.new ≤ C.number counter.old + probe_count (seen_keys self.entry.root) [] + 2 * length (seen_pairs self.entry.root)) }
+        ensures bound { C.number counter.new ≤ C.number counter.old + 1 + 2 * length (seen_pairs self.entry.root) }
     {
         self.each_view_below(&[], f, counter)
     }
@@ -123,10 +123,10 @@ impl<'a, K: KeyTrait, V, C: Count> Seen<'a, K, V, C> {
         counter: &mut C,
     ) -> Result<(), TreeError>
         requires callable { F.IsAlwaysCallable f }
-        ensures calls { OnOk result ((last : F) × FoldsTo (λ p x q. Viewed F.FnMut p x q) f (cut_pairs (shared_keys self.entry.root) (shared_pairs self.entry.root)) last) }
-        ensures memory { IfErr result (λ e. (e ≡ TreeError.Memory) × (shared_pairs self.entry.root ≢ [])) }
-        ensures visits { OnOk result (C.number counter.new ≤ C.number counter.old + probe_count (shared_keys self.entry.root) [] + 2 * length (shared_pairs self.entry.root)) }
-        ensures bound { C.number counter.new ≤ C.number counter.old + 1 + 2 * length (shared_pairs self.entry.root) }
+        ensures calls { OnOk result ((last : F) × FoldsTo (λ p x q. Viewed F.FnMut p x q) f (cut_pairs (seen_keys self.entry.root) (seen_pairs self.entry.root)) last) }
+        ensures memory { IfErr result (λ e. (e ≡ TreeError.Memory) × (seen_pairs self.entry.root ≢ [])) }
+        ensures visits { OnOk result (C.number counter.new ≤ C.number counter.old + probe_count (seen_keys self.entry.root) [] + 2 * length (seen_pairs self.entry.root)) }
+        ensures bound { C.number counter.new ≤ C.number counter.old + 1 + 2 * length (seen_pairs self.entry.root) }
     {
         self.for_each_view_with_counted(&mut f, counter)
     }

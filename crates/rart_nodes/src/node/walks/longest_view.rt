@@ -1,7 +1,7 @@
 //! The longest key that begins a probe, lent in segments to one call.
 ghost use Rattle.std.specs.Prelude.{◌≡◌, ◌≢◌, None, IfErr, IfOk};
 ghost use Rattle.rart_keys.specs.Filters.{longest_match};
-ghost use Rattle.rart_nodes.specs.tries.SharedTree.{shared_keys, shared_pairs};
+ghost use Rattle.rart_nodes.specs.tries.Tree.{seen_keys, seen_pairs};
 ghost use Rattle.rart_nodes.specs.walks.Viewed.{SeesFound};
 
 use crate::count::Visits;
@@ -19,8 +19,8 @@ impl<'a, K: KeyTrait, V> Seen<'a, K, V, Visits> {
         f: F,
     ) -> Result<bool, TreeError>
         requires callable { F.IsAlwaysCallable f }
-        ensures called { IfOk result (SeesFound F.FnOnce f (shared_keys self.entry.root) (longest_match probe.now (shared_pairs self.entry.root))) }
-        ensures memory { IfErr result (λ e. (e ≡ TreeError.Memory) × (longest_match probe.now (shared_pairs self.entry.root) ≢ None)) }
+        ensures called { IfOk result (SeesFound F.FnOnce f (seen_keys self.entry.root) (longest_match probe.now (seen_pairs self.entry.root))) }
+        ensures memory { IfErr result (λ e. (e ≡ TreeError.Memory) × (longest_match probe.now (seen_pairs self.entry.root) ≢ None)) }
     {
         let mut counter = Visits::new();
         let Some((depth, _)) = self.last_match(probe, &mut counter) else {
@@ -44,8 +44,8 @@ impl<'a, K: KeyTrait, V> Seen<'a, K, V, Visits> {
         f: F,
     ) -> Result<bool, TreeError>
         requires callable { F.IsAlwaysCallable f }
-        ensures called { IfOk result (SeesFound F.FnOnce f (shared_keys self.entry.root) (longest_match (K.bytes probe.now) (shared_pairs self.entry.root))) }
-        ensures memory { IfErr result (λ e. (e ≡ TreeError.Memory) × (longest_match (K.bytes probe.now) (shared_pairs self.entry.root) ≢ None)) }
+        ensures called { IfOk result (SeesFound F.FnOnce f (seen_keys self.entry.root) (longest_match (K.bytes probe.now) (seen_pairs self.entry.root))) }
+        ensures memory { IfErr result (λ e. (e ≡ TreeError.Memory) × (longest_match (K.bytes probe.now) (seen_pairs self.entry.root) ≢ None)) }
     {
         self.with_longest_view(probe.as_ref(), f)
     }

@@ -2,9 +2,8 @@
 ghost use Rattle.std.specs.Prelude.{◌≡◌, ◌≤◌, ◌+◌, length};
 ghost use Rattle.std.specs.Option.{option_copied};
 ghost use Rattle.rart_keys.specs.SortedMap.{lookup};
-ghost use Rattle.rart_nodes.specs.tries.SharedTree.{shared_keys, shared_pairs};
 ghost use Rattle.rart_nodes.specs.walks.ProbeCount.{probe_count, tree_entered};
-ghost use Rattle.rart_nodes.specs.tries.Tree.{tree_lookup};
+ghost use Rattle.rart_nodes.specs.tries.Tree.{seen_keys, seen_pairs, tree_lookup};
 
 use crate::count::Count;
 use crate::node::rest::rest_behind;
@@ -34,8 +33,8 @@ impl<'a, K: KeyTrait, V, C: Count> Seen<'a, K, V, C> {
 
     /// The value at the bytes `key`, which may be longer than any key.
     pub fn get_bytes_counted(self, key: &[u8], counter: &mut C) -> Option<&'a V>
-        ensures value { option_copied result ≡ lookup key.now (shared_pairs self.entry.root) }
-        ensures visits { C.number counter.new ≡ C.number counter.old + probe_count (shared_keys self.entry.root) key.now }
+        ensures value { option_copied result ≡ lookup key.now (seen_pairs self.entry.root) }
+        ensures visits { C.number counter.new ≡ C.number counter.old + probe_count (seen_keys self.entry.root) key.now }
         ensures bound { C.number counter.new ≤ C.number counter.old + length key.now + 1 }
     {
         self.descend(key, counter)
@@ -43,8 +42,8 @@ impl<'a, K: KeyTrait, V, C: Count> Seen<'a, K, V, C> {
 
     /// The value at a key.
     pub fn get_k_counted(self, key: &K, counter: &mut C) -> Option<&'a V>
-        ensures value { option_copied result ≡ lookup (K.bytes key.now) (shared_pairs self.entry.root) }
-        ensures visits { C.number counter.new ≡ C.number counter.old + probe_count (shared_keys self.entry.root) (K.bytes key.now) }
+        ensures value { option_copied result ≡ lookup (K.bytes key.now) (seen_pairs self.entry.root) }
+        ensures visits { C.number counter.new ≡ C.number counter.old + probe_count (seen_keys self.entry.root) (K.bytes key.now) }
         ensures bound { C.number counter.new ≤ C.number counter.old + length (K.bytes key.now) + 1 }
     {
         self.get_bytes_counted(key.as_ref(), counter)

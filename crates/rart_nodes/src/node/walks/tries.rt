@@ -3,7 +3,7 @@ ghost use Rattle.std.specs.Prelude.{◌≡◌, ◌≢◌, ◌≤◌, ◌^◌, []
 ghost use Rattle.std.specs.Option.{option_copied};
 ghost use Rattle.rart_keys.specs.Filters.{below};
 ghost use Rattle.rart_keys.specs.SortedMap.{values_of};
-ghost use Rattle.rart_nodes.specs.tries.SharedTree.{shared_pairs};
+ghost use Rattle.rart_nodes.specs.tries.Tree.{seen_pairs};
 ghost use Rattle.rart_nodes.specs.walks.Tour.{IsTour, stop_values, stops_ahead};
 ghost use Rattle.rart_nodes.specs.walks.TrailParts.{no_piece};
 ghost use Rattle.rart_nodes.specs.walks.Tried.{EndsAs, EndsVisit};
@@ -47,8 +47,8 @@ impl<'a, K: KeyTrait, V> Seen<'a, K, V, Visits> {
     ) -> Result<(), VisitError<E>>
         requires callable { F.IsAlwaysCallable f.old }
         ensures callable { F.IsAlwaysCallable f.new }
-        ensures calls { EndsVisit F.FnMut f.old (values_of (below (K.bytes prefix.now) (shared_pairs self.entry.root))) result f.new }
-        ensures memory { IfErr result (λ e. e ≡ VisitError.Memory → shared_pairs self.entry.root ≢ []) }
+        ensures calls { EndsVisit F.FnMut f.old (values_of (below (K.bytes prefix.now) (seen_pairs self.entry.root))) result f.new }
+        ensures memory { IfErr result (λ e. e ≡ VisitError.Memory → seen_pairs self.entry.root ≢ []) }
     {
         let mut counter = Visits::new();
         let Ok((mut tour, _trail)) = self.tour_below::<NoTrail>(prefix.as_ref(), &mut counter)

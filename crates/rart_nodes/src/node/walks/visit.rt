@@ -6,7 +6,7 @@ ghost use Rattle.std.specs.List.{FoldsTo};
 ghost use Rattle.std.specs.Option.{option_copied};
 ghost use Rattle.rart_keys.specs.Filters.{below};
 ghost use Rattle.rart_keys.specs.SortedMap.{values_of};
-ghost use Rattle.rart_nodes.specs.tries.SharedTree.{shared_pairs};
+ghost use Rattle.rart_nodes.specs.tries.Tree.{seen_pairs};
 ghost use Rattle.rart_nodes.specs.walks.Shown.{Shown};
 ghost use Rattle.rart_nodes.specs.walks.Tour.{IsTour, stop_values, stops_ahead};
 ghost use Rattle.rart_nodes.specs.walks.TrailParts.{no_piece};
@@ -39,9 +39,9 @@ impl<'a, K: KeyTrait, V> Seen<'a, K, V, Visits> {
     fn each_value_below<F: FnMut(&V)>(self, prefix: &[u8], f: &mut F) -> Result<(), TreeError>
         requires callable { F.IsAlwaysCallable f.old }
         ensures callable { F.IsAlwaysCallable f.new }
-        ensures calls { OnOk result (FoldsTo (λ p x q. Shown F.FnMut p x q) f.old (values_of (below prefix.now (shared_pairs self.entry.root))) f.new) }
+        ensures calls { OnOk result (FoldsTo (λ p x q. Shown F.FnMut p x q) f.old (values_of (below prefix.now (seen_pairs self.entry.root))) f.new) }
         ensures refused { OnErr result (f.new ≡ f.old) }
-        ensures memory { IfErr result (λ e. (e ≡ TreeError.Memory) × (shared_pairs self.entry.root ≢ [])) }
+        ensures memory { IfErr result (λ e. (e ≡ TreeError.Memory) × (seen_pairs self.entry.root ≢ [])) }
     {
         let mut counter = Visits::new();
         let (mut tour, _trail) = self.tour_below::<NoTrail>(prefix, &mut counter)?;
@@ -59,9 +59,9 @@ impl<'a, K: KeyTrait, V> Seen<'a, K, V, Visits> {
     ) -> Result<(), TreeError>
         requires callable { F.IsAlwaysCallable f.old }
         ensures callable { F.IsAlwaysCallable f.new }
-        ensures calls { OnOk result (FoldsTo (λ p x q. Shown F.FnMut p x q) f.old (values_of (below (K.bytes prefix.now) (shared_pairs self.entry.root))) f.new) }
+        ensures calls { OnOk result (FoldsTo (λ p x q. Shown F.FnMut p x q) f.old (values_of (below (K.bytes prefix.now) (seen_pairs self.entry.root))) f.new) }
         ensures refused { OnErr result (f.new ≡ f.old) }
-        ensures memory { IfErr result (λ e. (e ≡ TreeError.Memory) × (shared_pairs self.entry.root ≢ [])) }
+        ensures memory { IfErr result (λ e. (e ≡ TreeError.Memory) × (seen_pairs self.entry.root ≢ [])) }
     {
         self.each_value_below(prefix.as_ref(), f)
     }
@@ -73,8 +73,8 @@ impl<'a, K: KeyTrait, V> Seen<'a, K, V, Visits> {
         mut f: F,
     ) -> Result<(), TreeError>
         requires callable { F.IsAlwaysCallable f }
-        ensures calls { OnOk result ((last : F) × FoldsTo (λ p x q. Shown F.FnMut p x q) f (values_of (below (K.bytes prefix.now) (shared_pairs self.entry.root))) last) }
-        ensures memory { IfErr result (λ e. (e ≡ TreeError.Memory) × (shared_pairs self.entry.root ≢ [])) }
+        ensures calls { OnOk result ((last : F) × FoldsTo (λ p x q. Shown F.FnMut p x q) f (values_of (below (K.bytes prefix.now) (seen_pairs self.entry.root))) last) }
+        ensures memory { IfErr result (λ e. (e ≡ TreeError.Memory) × (seen_pairs self.entry.root ≢ [])) }
     {
         self.prefix_values_for_each_with_k(prefix, &mut f)
     }
