@@ -1,15 +1,14 @@
 //! Intersections of two shared trees: one walk through both in lockstep, with its visits counted.
 ghost use Rattle.std.specs.Prelude.{◌≡◌, ◌≢◌, ◌≤◌, ◌+◌, ◌-◌, [], IfErr, OnErr, OnOk, length, min};
 ghost use Rattle.std.specs.List.{FoldsTo};
-ghost use Rattle.std.specs.Option.{option_copied};
 ghost use Rattle.rart_keys.specs.Joins.{join};
-ghost use Rattle.rart_keys.specs.SortedMap.{keys_of, longest_key, values_of};
+ghost use Rattle.rart_keys.specs.SortedMap.{longest_key, values_of};
 ghost use Rattle.rart_nodes.specs.joins.Lockstep.{meet};
 ghost use Rattle.rart_nodes.specs.joins.PairCalls.{CalledAt, CalledWith};
 ghost use Rattle.rart_nodes.specs.joins.SharedEdges.{joint_visits, more_visits};
 ghost use Rattle.rart_nodes.specs.joins.ViewCalls.{ViewedAt};
 ghost use Rattle.rart_nodes.specs.joins.Ways.{WayGrown};
-ghost use Rattle.rart_nodes.specs.tries.Tree.{tree_nodes, tree_pairs};
+ghost use Rattle.rart_nodes.specs.tries.Tree.{seen_keys, seen_nodes, seen_pairs};
 ghost use Rattle.rart_nodes.specs.tries.Trie.{pairs_of};
 
 mod fork;
@@ -63,12 +62,12 @@ fn meet_trees<'a, K: KeyTrait, V, W, C: Count, F, T: Meeting<V, W, F>>(
     counter: &mut C,
     f: &mut F,
 )
-    requires room { T.room way.old (longest_key (tree_pairs (option_copied left.root))) }
+    requires room { T.room way.old (longest_key (seen_pairs left.root)) }
     requires callable { T.callable f.old }
     ensures callable { T.callable f.new }
-    ensures given { T.given way.old f.old (join (tree_pairs (option_copied left.entry.root)) (tree_pairs (option_copied right.entry.root))) f.new }
-    ensures visits { C.number counter.new ≡ C.number counter.old + joint_visits (keys_of (tree_pairs (option_copied left.entry.root))) (keys_of (tree_pairs (option_copied right.entry.root))) }
-    ensures bound { C.number counter.new ≤ C.number counter.old + (length (tree_nodes (option_copied left.entry.root)) + length (tree_nodes (option_copied right.entry.root)) - 1) }
+    ensures given { T.given way.old f.old (join (seen_pairs left.entry.root) (seen_pairs right.entry.root)) f.new }
+    ensures visits { C.number counter.new ≡ C.number counter.old + joint_visits (seen_keys left.entry.root) (seen_keys right.entry.root) }
+    ensures bound { C.number counter.new ≤ C.number counter.old + (length (seen_nodes left.entry.root) + length (seen_nodes right.entry.root) - 1) }
 {
     let Some(left_top) = left.top() else {
         return;
@@ -85,9 +84,9 @@ impl<'a, K: KeyTrait, V, C: Count> Seen<'a, K, V, C> {
     /// no node where a tree is empty, and else the two roots together and one more node or pair for each
     /// edge that both trees share: fewer than both trees have nodes.
     pub fn intersect_count_counted<'b, W>(self, other: Seen<'b, K, W, C>, counter: &mut C) -> usize
-        ensures count { result ≡ min (length (join (tree_pairs (option_copied self.entry.root)) (tree_pairs (option_copied other.entry.root)))) usize.MAX }
-        ensures visits { C.number counter.new ≡ C.number counter.old + joint_visits (keys_of (tree_pairs (option_copied self.entry.root))) (keys_of (tree_pairs (option_copied other.entry.root))) }
-        ensures bound { C.number counter.new ≤ C.number counter.old + (length (tree_nodes (option_copied self.entry.root)) + length (tree_nodes (option_copied other.entry.root)) - 1) }
+        ensures count { result ≡ min (length (join (seen_pairs self.entry.root) (seen_pairs other.entry.root))) usize.MAX }
+        ensures visits { C.number counter.new ≡ C.number counter.old + joint_visits (seen_keys self.entry.root) (seen_keys other.entry.root) }
+        ensures bound { C.number counter.new ≤ C.number counter.old + (length (seen_nodes self.entry.root) + length (seen_nodes other.entry.root) - 1) }
     {
         let mut count = 0;
         meet_trees::<K, V, W, C, usize, Counted>(
@@ -111,9 +110,9 @@ impl<'a, K: KeyTrait, V, C: Count> Seen<'a, K, V, C> {
     )
         requires { F.IsAlwaysCallable f.old }
         ensures callable { F.IsAlwaysCallable f.new }
-        ensures calls { FoldsTo (λ p x q. CalledWith F.FnMut p x q) f.old (values_of (join (tree_pairs (option_copied self.entry.root)) (tree_pairs (option_copied other.entry.root)))) f.new }
-        ensures visits { C.number counter.new ≡ C.number counter.old + joint_visits (keys_of (tree_pairs (option_copied self.entry.root))) (keys_of (tree_pairs (option_copied other.entry.root))) }
-        ensures bound { C.number counter.new ≤ C.number counter.old + (length (tree_nodes (option_copied self.entry.root)) + length (tree_nodes (option_copied other.entry.root)) - 1) }
+        ensures calls { FoldsTo (λ p x q. CalledWith F.FnMut p x q) f.old (values_of (join (seen_pairs self.entry.root) (seen_pairs other.entry.root))) f.new }
+        ensures visits { C.number counter.new ≡ C.number counter.old + joint_visits (seen_keys self.entry.root) (seen_keys other.entry.root) }
+        ensures bound { C.number counter.new ≤ C.number counter.old + (length (seen_nodes self.entry.root) + length (seen_nodes other.entry.root) - 1) }
     {
         meet_trees::<K, V, W, C, F, ByValues>(self, other, &mut Way::Untold, counter, f);
     }
@@ -126,9 +125,9 @@ impl<'a, K: KeyTrait, V, C: Count> Seen<'a, K, V, C> {
         counter: &mut C,
     )
         requires { F.IsAlwaysCallable f }
-        ensures calls { (last : F) × FoldsTo (λ p x q. CalledWith F.FnMut p x q) f (values_of (join (tree_pairs (option_copied self.entry.root)) (tree_pairs (option_copied other.entry.root)))) last }
-        ensures visits { C.number counter.new ≡ C.number counter.old + joint_visits (keys_of (tree_pairs (option_copied self.entry.root))) (keys_of (tree_pairs (option_copied other.entry.root))) }
-        ensures bound { C.number counter.new ≤ C.number counter.old + (length (tree_nodes (option_copied self.entry.root)) + length (tree_nodes (option_copied other.entry.root)) - 1) }
+        ensures calls { (last : F) × FoldsTo (λ p x q. CalledWith F.FnMut p x q) f (values_of (join (seen_pairs self.entry.root) (seen_pairs other.entry.root))) last }
+        ensures visits { C.number counter.new ≡ C.number counter.old + joint_visits (seen_keys self.entry.root) (seen_keys other.entry.root) }
+        ensures bound { C.number counter.new ≤ C.number counter.old + (length (seen_nodes self.entry.root) + length (seen_nodes other.entry.root) - 1) }
     {
         self.intersect_values_with_by_ref_counted(other, &mut f, counter);
     }
@@ -144,11 +143,11 @@ impl<'a, K: KeyTrait, V, C: Count> Seen<'a, K, V, C> {
     ) -> Result<(), TreeError>
         requires { F.IsAlwaysCallable f.old }
         ensures callable { F.IsAlwaysCallable f.new }
-        ensures calls { OnOk result (FoldsTo (λ p x q. CalledAt F.FnMut K.bytes p x q) f.old (join (tree_pairs (option_copied self.entry.root)) (tree_pairs (option_copied other.entry.root))) f.new) }
-        ensures memory { IfErr result (λ e. (e ≡ TreeError.Memory) × (tree_pairs (option_copied self.entry.root) ≢ []) × (tree_pairs (option_copied other.entry.root) ≢ [])) }
+        ensures calls { OnOk result (FoldsTo (λ p x q. CalledAt F.FnMut K.bytes p x q) f.old (join (seen_pairs self.entry.root) (seen_pairs other.entry.root)) f.new) }
+        ensures memory { IfErr result (λ e. (e ≡ TreeError.Memory) × (seen_pairs self.entry.root ≢ []) × (seen_pairs other.entry.root ≢ [])) }
         ensures refused { OnErr result ((f.new ≡ f.old) × (C.number counter.new ≡ C.number counter.old)) }
-        ensures visits { OnOk result (C.number counter.new ≡ C.number counter.old + joint_visits (keys_of (tree_pairs (option_copied self.entry.root))) (keys_of (tree_pairs (option_copied other.entry.root)))) }
-        ensures bound { C.number counter.new ≤ C.number counter.old + (length (tree_nodes (option_copied self.entry.root)) + length (tree_nodes (option_copied other.entry.root)) - 1) }
+        ensures visits { OnOk result (C.number counter.new ≡ C.number counter.old + joint_visits (seen_keys self.entry.root) (seen_keys other.entry.root)) }
+        ensures bound { C.number counter.new ≤ C.number counter.old + (length (seen_nodes self.entry.root) + length (seen_nodes other.entry.root) - 1) }
     {
         let Some(_) = self.top() else {
             return Ok(());
@@ -170,11 +169,11 @@ impl<'a, K: KeyTrait, V, C: Count> Seen<'a, K, V, C> {
         counter: &mut C,
     ) -> Result<(), TreeError>
         requires { F.IsAlwaysCallable f }
-        ensures calls { OnOk result ((last : F) × FoldsTo (λ p x q. CalledAt F.FnMut K.bytes p x q) f (join (tree_pairs (option_copied self.entry.root)) (tree_pairs (option_copied other.entry.root))) last) }
-        ensures memory { IfErr result (λ e. (e ≡ TreeError.Memory) × (tree_pairs (option_copied self.entry.root) ≢ []) × (tree_pairs (option_copied other.entry.root) ≢ [])) }
+        ensures calls { OnOk result ((last : F) × FoldsTo (λ p x q. CalledAt F.FnMut K.bytes p x q) f (join (seen_pairs self.entry.root) (seen_pairs other.entry.root)) last) }
+        ensures memory { IfErr result (λ e. (e ≡ TreeError.Memory) × (seen_pairs self.entry.root ≢ []) × (seen_pairs other.entry.root ≢ [])) }
         ensures unvisited { OnErr result (C.number counter.new ≡ C.number counter.old) }
-        ensures visits { OnOk result (C.number counter.new ≡ C.number counter.old + joint_visits (keys_of (tree_pairs (option_copied self.entry.root))) (keys_of (tree_pairs (option_copied other.entry.root)))) }
-        ensures bound { C.number counter.new ≤ C.number counter.old + (length (tree_nodes (option_copied self.entry.root)) + length (tree_nodes (option_copied other.entry.root)) - 1) }
+        ensures visits { OnOk result (C.number counter.new ≡ C.number counter.old + joint_visits (seen_keys self.entry.root) (seen_keys other.entry.root)) }
+        ensures bound { C.number counter.new ≤ C.number counter.old + (length (seen_nodes self.entry.root) + length (seen_nodes other.entry.root) - 1) }
     {
         self.intersect_with_by_ref_counted(other, &mut f, counter)
     }
@@ -188,11 +187,11 @@ impl<'a, K: KeyTrait, V, C: Count> Seen<'a, K, V, C> {
     ) -> Result<(), TreeError>
         requires { F.IsAlwaysCallable f.old }
         ensures callable { F.IsAlwaysCallable f.new }
-        ensures calls { OnOk result (FoldsTo (λ p x q. ViewedAt F.FnMut p x q) f.old (join (tree_pairs (option_copied self.entry.root)) (tree_pairs (option_copied other.entry.root))) f.new) }
-        ensures memory { IfErr result (λ e. (e ≡ TreeError.Memory) × (tree_pairs (option_copied self.entry.root) ≢ []) × (tree_pairs (option_copied other.entry.root) ≢ [])) }
+        ensures calls { OnOk result (FoldsTo (λ p x q. ViewedAt F.FnMut p x q) f.old (join (seen_pairs self.entry.root) (seen_pairs other.entry.root)) f.new) }
+        ensures memory { IfErr result (λ e. (e ≡ TreeError.Memory) × (seen_pairs self.entry.root ≢ []) × (seen_pairs other.entry.root ≢ [])) }
         ensures refused { OnErr result ((f.new ≡ f.old) × (C.number counter.new ≡ C.number counter.old)) }
-        ensures visits { OnOk result (C.number counter.new ≡ C.number counter.old + joint_visits (keys_of (tree_pairs (option_copied self.entry.root))) (keys_of (tree_pairs (option_copied other.entry.root)))) }
-        ensures bound { C.number counter.new ≤ C.number counter.old + (length (tree_nodes (option_copied self.entry.root)) + length (tree_nodes (option_copied other.entry.root)) - 1) }
+        ensures visits { OnOk result (C.number counter.new ≡ C.number counter.old + joint_visits (seen_keys self.entry.root) (seen_keys other.entry.root)) }
+        ensures bound { C.number counter.new ≤ C.number counter.old + (length (seen_nodes self.entry.root) + length (seen_nodes other.entry.root) - 1) }
     {
         let Some(_) = self.top() else {
             return Ok(());
@@ -214,11 +213,11 @@ impl<'a, K: KeyTrait, V, C: Count> Seen<'a, K, V, C> {
         counter: &mut C,
     ) -> Result<(), TreeError>
         requires { F.IsAlwaysCallable f }
-        ensures calls { OnOk result ((last : F) × FoldsTo (λ p x q. ViewedAt F.FnMut p x q) f (join (tree_pairs (option_copied self.entry.root)) (tree_pairs (option_copied other.entry.root))) last) }
-        ensures memory { IfErr result (λ e. (e ≡ TreeError.Memory) × (tree_pairs (option_copied self.entry.root) ≢ []) × (tree_pairs (option_copied other.entry.root) ≢ [])) }
+        ensures calls { OnOk result ((last : F) × FoldsTo (λ p x q. ViewedAt F.FnMut p x q) f (join (seen_pairs self.entry.root) (seen_pairs other.entry.root)) last) }
+        ensures memory { IfErr result (λ e. (e ≡ TreeError.Memory) × (seen_pairs self.entry.root ≢ []) × (seen_pairs other.entry.root ≢ [])) }
         ensures unvisited { OnErr result (C.number counter.new ≡ C.number counter.old) }
-        ensures visits { OnOk result (C.number counter.new ≡ C.number counter.old + joint_visits (keys_of (tree_pairs (option_copied self.entry.root))) (keys_of (tree_pairs (option_copied other.entry.root)))) }
-        ensures bound { C.number counter.new ≤ C.number counter.old + (length (tree_nodes (option_copied self.entry.root)) + length (tree_nodes (option_copied other.entry.root)) - 1) }
+        ensures visits { OnOk result (C.number counter.new ≡ C.number counter.old + joint_visits (seen_keys self.entry.root) (seen_keys other.entry.root)) }
+        ensures bound { C.number counter.new ≤ C.number counter.old + (length (seen_nodes self.entry.root) + length (seen_nodes other.entry.root) - 1) }
     {
         self.intersect_lending_with_by_ref_counted(other, &mut f, counter)
     }

@@ -6,8 +6,8 @@ ghost use Rattle.std.specs.Iterator.{YieldsFirstBy, item_count};
 ghost use Rattle.std.specs.Option.{option_copied};
 ghost use Rattle.rart_keys.specs.Filters.{below};
 ghost use Rattle.rart_keys.specs.Ranges.{pairs_since};
-ghost use Rattle.rart_keys.specs.SortedMap.{count_of, keys_of, values_of};
-ghost use Rattle.rart_nodes.specs.tries.Tree.{tree_pairs};
+ghost use Rattle.rart_keys.specs.SortedMap.{count_of, values_of};
+ghost use Rattle.rart_nodes.specs.tries.Tree.{seen_keys, seen_pairs};
 ghost use Rattle.rart_nodes.specs.walks.ProbeCount.{probe_count};
 
 use crate::count::{Count, Visits};
@@ -158,8 +158,8 @@ impl<'a, K: KeyTrait, V> Iterator for ValuesIter<'a, K, V> {
 
 impl<'a, K: KeyTrait, V, C: Count> Seen<'a, K, V, C> {
     fn keys_tour(self, counter: &mut C) -> Result<KeyTour<'a, K, K::PartialType, V, C>, TreeError>
-        ensures pairs { IfOk result (λ it. it ≡ tree_pairs (option_copied self.entry.root)) }
-        ensures memory { IfErr result (λ e. (e ≡ TreeError.Memory) × (tree_pairs (option_copied self.entry.root) ≢ [])) }
+        ensures pairs { IfOk result (λ it. it ≡ seen_pairs self.entry.root) }
+        ensures memory { IfErr result (λ e. (e ≡ TreeError.Memory) × (seen_pairs self.entry.root ≢ [])) }
         ensures visits { C.number counter.new ≡ C.number counter.old + count_of (option_copied self.entry.root) }
     {
         let (tour, trail) = self.tour(counter)?;
@@ -173,8 +173,8 @@ impl<'a, K: KeyTrait, V, C: Count> Seen<'a, K, V, C> {
     /// An iterator over all pairs, for which it visits the root. All its room is taken here, after
     /// the length of the longest key, and none for an empty tree. Refused with `Memory` alone.
     pub fn iter_counted(self, counter: &mut C) -> Result<SeenIter<'a, K, V, C>, TreeError>
-        ensures pairs { IfOk result (λ it. it ≡ tree_pairs (option_copied self.entry.root)) }
-        ensures memory { IfErr result (λ e. (e ≡ TreeError.Memory) × (tree_pairs (option_copied self.entry.root) ≢ [])) }
+        ensures pairs { IfOk result (λ it. it ≡ seen_pairs self.entry.root) }
+        ensures memory { IfErr result (λ e. (e ≡ TreeError.Memory) × (seen_pairs self.entry.root ≢ [])) }
         ensures visits { C.number counter.new ≡ C.number counter.old + count_of (option_copied self.entry.root) }
         ensures bound { C.number counter.new ≤ C.number counter.old + 1 }
     {
@@ -192,9 +192,9 @@ impl<'a, K: KeyTrait, V, C: Count> Seen<'a, K, V, C> {
         included: bool,
         counter: &mut C,
     ) -> Result<KeyTour<'a, K, K::PartialType, V, C>, TreeError>
-        ensures pairs { IfOk result (λ it. it ≡ pairs_since included start.now (tree_pairs (option_copied self.entry.root))) }
-        ensures memory { IfErr result (λ e. (e ≡ TreeError.Memory) × (tree_pairs (option_copied self.entry.root) ≢ [])) }
-        ensures visits { IfOk result (λ _. C.number counter.new ≡ C.number counter.old + probe_count (keys_of (tree_pairs (option_copied self.entry.root))) start.now) }
+        ensures pairs { IfOk result (λ it. it ≡ pairs_since included start.now (seen_pairs self.entry.root)) }
+        ensures memory { IfErr result (λ e. (e ≡ TreeError.Memory) × (seen_pairs self.entry.root ≢ [])) }
+        ensures visits { IfOk result (λ _. C.number counter.new ≡ C.number counter.old + probe_count (seen_keys self.entry.root) start.now) }
         ensures bound { C.number counter.new ≤ C.number counter.old + length start.now + 1 }
     {
         let (tour, trail) = self.tour_from(start, included, counter)?;
@@ -212,9 +212,9 @@ impl<'a, K: KeyTrait, V, C: Count> Seen<'a, K, V, C> {
         prefix: &[u8],
         counter: &mut C,
     ) -> Result<KeyTour<'a, K, K::PartialType, V, C>, TreeError>
-        ensures pairs { IfOk result (λ it. it ≡ below prefix.now (tree_pairs (option_copied self.entry.root))) }
-        ensures memory { IfErr result (λ e. (e ≡ TreeError.Memory) × (tree_pairs (option_copied self.entry.root) ≢ [])) }
-        ensures visits { IfOk result (λ _. C.number counter.new ≡ C.number counter.old + probe_count (keys_of (tree_pairs (option_copied self.entry.root))) prefix.now) }
+        ensures pairs { IfOk result (λ it. it ≡ below prefix.now (seen_pairs self.entry.root)) }
+        ensures memory { IfErr result (λ e. (e ≡ TreeError.Memory) × (seen_pairs self.entry.root ≢ [])) }
+        ensures visits { IfOk result (λ _. C.number counter.new ≡ C.number counter.old + probe_count (seen_keys self.entry.root) prefix.now) }
         ensures bound { C.number counter.new ≤ C.number counter.old + length prefix.now + 1 }
     {
         let (tour, trail) = self.tour_below(prefix, counter)?;
@@ -232,9 +232,9 @@ impl<'a, K: KeyTrait, V, C: Count> Seen<'a, K, V, C> {
         prefix: &K,
         counter: &mut C,
     ) -> Result<SeenIter<'a, K, V, C>, TreeError>
-        ensures pairs { IfOk result (λ it. it ≡ below (K.bytes prefix.now) (tree_pairs (option_copied self.entry.root))) }
-        ensures memory { IfErr result (λ e. (e ≡ TreeError.Memory) × (tree_pairs (option_copied self.entry.root) ≢ [])) }
-        ensures visits { IfOk result (λ _. C.number counter.new ≡ C.number counter.old + probe_count (keys_of (tree_pairs (option_copied self.entry.root))) (K.bytes prefix.now)) }
+        ensures pairs { IfOk result (λ it. it ≡ below (K.bytes prefix.now) (seen_pairs self.entry.root)) }
+        ensures memory { IfErr result (λ e. (e ≡ TreeError.Memory) × (seen_pairs self.entry.root ≢ [])) }
+        ensures visits { IfOk result (λ _. C.number counter.new ≡ C.number counter.old + probe_count (seen_keys self.entry.root) (K.bytes prefix.now)) }
         ensures bound { C.number counter.new ≤ C.number counter.old + length (K.bytes prefix.now) + 1 }
     {
         let pairs = self.keys_tour_below(prefix.as_ref(), counter)?;
@@ -245,8 +245,8 @@ impl<'a, K: KeyTrait, V, C: Count> Seen<'a, K, V, C> {
 impl<'a, K: KeyTrait, V> Seen<'a, K, V, Visits> {
     /// An iterator over the pairs whose key begins with `prefix`. It takes its room as `iter_counted` does.
     pub fn prefix_iter_k(self, prefix: &K) -> Result<Iter<'a, K, K::PartialType, V>, TreeError>
-        ensures pairs { IfOk result (λ it. it ≡ below (K.bytes prefix.now) (tree_pairs (option_copied self.entry.root))) }
-        ensures memory { IfErr result (λ e. (e ≡ TreeError.Memory) × (tree_pairs (option_copied self.entry.root) ≢ [])) }
+        ensures pairs { IfOk result (λ it. it ≡ below (K.bytes prefix.now) (seen_pairs self.entry.root)) }
+        ensures memory { IfErr result (λ e. (e ≡ TreeError.Memory) × (seen_pairs self.entry.root ≢ [])) }
     {
         let pairs = self.keys_tour_below(prefix.as_ref(), &mut Visits::new())?;
         Ok(Iter { pairs })
@@ -254,8 +254,8 @@ impl<'a, K: KeyTrait, V> Seen<'a, K, V, Visits> {
 
     /// An iterator over all pairs. It takes its room as `iter_counted` does.
     pub fn iter(self) -> Result<Iter<'a, K, K::PartialType, V>, TreeError>
-        ensures pairs { IfOk result (λ it. it ≡ tree_pairs (option_copied self.entry.root)) }
-        ensures memory { IfErr result (λ e. (e ≡ TreeError.Memory) × (tree_pairs (option_copied self.entry.root) ≢ [])) }
+        ensures pairs { IfOk result (λ it. it ≡ seen_pairs self.entry.root) }
+        ensures memory { IfErr result (λ e. (e ≡ TreeError.Memory) × (seen_pairs self.entry.root ≢ [])) }
     {
         let pairs = self.keys_tour(&mut Visits::new())?;
         Ok(Iter { pairs })
@@ -263,8 +263,8 @@ impl<'a, K: KeyTrait, V> Seen<'a, K, V, Visits> {
 
     /// An iterator over all values. It takes its room as `iter_counted` does.
     pub fn values_iter(self) -> Result<ValuesIter<'a, K, V>, TreeError>
-        ensures values { IfOk result (λ it. it ≡ values_of (tree_pairs (option_copied self.entry.root))) }
-        ensures memory { IfErr result (λ e. (e ≡ TreeError.Memory) × (tree_pairs (option_copied self.entry.root) ≢ [])) }
+        ensures values { IfOk result (λ it. it ≡ values_of (seen_pairs self.entry.root)) }
+        ensures memory { IfErr result (λ e. (e ≡ TreeError.Memory) × (seen_pairs self.entry.root ≢ [])) }
     {
         let (tour, _trail) = self.tour::<NoTrail>(&mut Visits::new())?;
         Ok(ValuesIter { tour })

@@ -2,15 +2,14 @@
 //!
 //! Contracts speak of the pairs of the sorted map whose key begins the probe, `matches`, and of the last of
 //! them, `longest_match`. Nothing here takes memory.
-ghost use Rattle.std.specs.Prelude.{◌≡◌, ◌≤◌, ◌+◌, ◌++◌, [], ◌∷◌, length, take, None, IfSome, MatchOption, option_map};
+ghost use Rattle.std.specs.Prelude.{◌≡◌, ◌≤◌, ◌+◌, length, take, None, IfSome, MatchOption, option_map};
 ghost use Rattle.std.specs.Iterator.{YieldsFirstBy, item_count};
 ghost use Rattle.std.specs.List.{FoldsTo};
 ghost use Rattle.std.specs.Option.{option_copied};
 ghost use Rattle.rart_keys.specs.Filters.{longest_match, matches};
-ghost use Rattle.rart_keys.specs.SortedMap.{keys_of};
-ghost use Rattle.rart_nodes.specs.tries.Tree.{tree_pairs};
+ghost use Rattle.rart_nodes.specs.tries.Tree.{seen_keys, seen_pairs};
 ghost use Rattle.rart_nodes.specs.walks.Matched.{Matched};
-ghost use Rattle.rart_nodes.specs.walks.Matches.{Passes, PassesNone, matches_ahead, entered_ahead};
+ghost use Rattle.rart_nodes.specs.walks.Matches.{Passes, PassesNone, entered_left, matches_left};
 ghost use Rattle.rart_nodes.specs.walks.ProbeCount.{probe_count};
 
 use crate::count::{Count, Visits};
@@ -59,10 +58,8 @@ impl<'a, P: Partial, V, C: Count> Matching<'a, P, V, C> {
     pub(crate) fn advance(&mut self, probe: &[u8], counter: &mut C) -> Option<&'a V>
         requires { self.old.depth ≤ length probe.now }
         ensures within { self.new.depth ≤ length probe.now }
-        ensures pairs { MatchOption result
-            ((matches_ahead probe.now self.old.depth (option_map (λ s. s.node.now) self.old.below) ≡ []) × (matches_ahead probe.now self.new.depth (option_map (λ s. s.node.now) self.new.below) ≡ []))
-            (λ v. matches_ahead probe.now self.old.depth (option_map (λ s. s.node.now) self.old.below) ≡ (take self.new.depth probe.now, v.now) ∷ matches_ahead probe.now self.new.depth (option_map (λ s. s.node.now) self.new.below)) }
-        ensures visits { C.number counter.new + entered_ahead probe.now self.new.depth (option_map (λ s. s.node.now) self.new.below) ≡ C.number counter.old + entered_ahead probe.now self.old.depth (option_map (λ s. s.node.now) self.old.below) }
+        ensures pairs { YieldsFirstBy (λ v. (take self.new.depth probe.now, v.now)) (matches_left probe.now) self.old result self.new }
+        ensures visits { C.number counter.new + entered_left probe.now self.new ≡ C.number counter.old + entered_left probe.now self.old }
         ensures ended { MatchOption result (option_map (λ s. s.node.now) self.new.below ≡ None) (λ _. Unit {0}) }
     {
         while let Some(node) = self.below.take() {
@@ -93,9 +90,9 @@ impl<'a, K: KeyTrait, V, C: Count> Seen<'a, K, V, C> {
 
     /// The length and the value of the longest key that begins the probe.
     pub(crate) fn last_match(self, probe: &[u8], counter: &mut C) -> Option<(usize, &'a V)>
-        ensures pair { option_map (λ p. (take p.0 probe.now, p.1.now)) result ≡ longest_match probe.now (tree_pairs (option_copied self.entry.root)) }
+        ensures pair { option_map (λ p. (take p.0 probe.now, p.1.now)) result ≡ longest_match probe.now (seen_pairs self.entry.root) }
         ensures within { IfSome result (λ p. p.0 ≤ length probe.now) }
-        ensures visits { C.number counter.new ≡ C.number counter.old + probe_count (keys_of (tree_pairs (option_copied self.entry.root))) probe.now }
+        ensures visits { C.number counter.new ≡ C.number counter.old + probe_count (seen_keys self.entry.root) probe.now }
         ensures bound { C.number counter.new ≤ C.number counter.old + length probe.now + 1 }
     {
         let mut matching = self.matching();
@@ -108,8 +105,8 @@ impl<'a, K: KeyTrait, V, C: Count> Seen<'a, K, V, C> {
 
     /// The pair whose key is the longest that begins the probe.
     pub fn longest_prefix_match_k_counted(self, probe: &K, counter: &mut C) -> Option<(K, &'a V)>
-        ensures pair { option_map (λ p. (K.bytes p.0, p.1.now)) result ≡ longest_match (K.bytes probe.now) (tree_pairs (option_copied self.entry.root)) }
-        ensures visits { C.number counter.new ≡ C.number counter.old + probe_count (keys_of (tree_pairs (option_copied self.entry.root))) (K.bytes probe.now) }
+        ensures pair { option_map (λ p. (K.bytes p.0, p.1.now)) result ≡ longest_match (K.bytes probe.now) (seen_pairs self.entry.root) }
+        ensures visits { C.number counter.new ≡ C.number counter.old + probe_count (seen_keys self.entry.root) (K.bytes probe.now) }
         ensures bound { C.number counter.new ≤ C.number counter.old + length (K.bytes probe.now) + 1 }
     {
         let bytes = probe.as_ref();
@@ -119,8 +116,8 @@ impl<'a, K: KeyTrait, V, C: Count> Seen<'a, K, V, C> {
 
     /// The value at the longest key that begins the bytes `probe`, which may be longer than any key.
     pub fn longest_prefix_value_bytes_counted(self, probe: &[u8], counter: &mut C) -> Option<&'a V>
-        ensures value { option_copied result ≡ option_map (λ e. e.1) (longest_match probe.now (tree_pairs (option_copied self.entry.root))) }
-        ensures visits { C.number counter.new ≡ C.number counter.old + probe_count (keys_of (tree_pairs (option_copied self.entry.root))) probe.now }
+        ensures value { option_copied result ≡ option_map (λ e. e.1) (longest_match probe.now (seen_pairs self.entry.root)) }
+        ensures visits { C.number counter.new ≡ C.number counter.old + probe_count (seen_keys self.entry.root) probe.now }
         ensures bound { C.number counter.new ≤ C.number counter.old + length probe.now + 1 }
     {
         let (_, value) = self.last_match(probe, counter)?;
@@ -129,8 +126,8 @@ impl<'a, K: KeyTrait, V, C: Count> Seen<'a, K, V, C> {
 
     /// The value at the longest key that begins the probe.
     pub fn longest_prefix_value_k_counted(self, probe: &K, counter: &mut C) -> Option<&'a V>
-        ensures value { option_copied result ≡ option_map (λ e. e.1) (longest_match (K.bytes probe.now) (tree_pairs (option_copied self.entry.root))) }
-        ensures visits { C.number counter.new ≡ C.number counter.old + probe_count (keys_of (tree_pairs (option_copied self.entry.root))) (K.bytes probe.now) }
+        ensures value { option_copied result ≡ option_map (λ e. e.1) (longest_match (K.bytes probe.now) (seen_pairs self.entry.root)) }
+        ensures visits { C.number counter.new ≡ C.number counter.old + probe_count (seen_keys self.entry.root) (K.bytes probe.now) }
         ensures bound { C.number counter.new ≤ C.number counter.old + length (K.bytes probe.now) + 1 }
     {
         self.longest_prefix_value_bytes_counted(probe.as_ref(), counter)
@@ -138,8 +135,8 @@ impl<'a, K: KeyTrait, V, C: Count> Seen<'a, K, V, C> {
 
     fn each_match<F: FnMut(&[u8], &V)>(self, probe: &[u8], f: &mut F, counter: &mut C)
         requires callable { F.IsAlwaysCallable f.old }
-        ensures calls { FoldsTo (λ p x q. Matched F.FnMut p x q) f.old (matches probe.now (tree_pairs (option_copied self.entry.root))) f.new }
-        ensures visits { C.number counter.new ≡ C.number counter.old + probe_count (keys_of (tree_pairs (option_copied self.entry.root))) probe.now }
+        ensures calls { FoldsTo (λ p x q. Matched F.FnMut p x q) f.old (matches probe.now (seen_pairs self.entry.root)) f.new }
+        ensures visits { C.number counter.new ≡ C.number counter.old + probe_count (seen_keys self.entry.root) probe.now }
         ensures bound { C.number counter.new ≤ C.number counter.old + length probe.now + 1 }
     {
         let mut matching = self.matching();
@@ -157,8 +154,8 @@ impl<'a, K: KeyTrait, V, C: Count> Seen<'a, K, V, C> {
         counter: &mut C,
     )
         requires callable { F.IsAlwaysCallable f.old }
-        ensures calls { FoldsTo (λ p x q. Matched F.FnMut p x q) f.old (matches (K.bytes probe.now) (tree_pairs (option_copied self.entry.root))) f.new }
-        ensures visits { C.number counter.new ≡ C.number counter.old + probe_count (keys_of (tree_pairs (option_copied self.entry.root))) (K.bytes probe.now) }
+        ensures calls { FoldsTo (λ p x q. Matched F.FnMut p x q) f.old (matches (K.bytes probe.now) (seen_pairs self.entry.root)) f.new }
+        ensures visits { C.number counter.new ≡ C.number counter.old + probe_count (seen_keys self.entry.root) (K.bytes probe.now) }
         ensures bound { C.number counter.new ≤ C.number counter.old + length (K.bytes probe.now) + 1 }
     {
         self.each_match(probe.as_ref(), f, counter);
@@ -173,8 +170,8 @@ impl<'a, K: KeyTrait, V, C: Count> Seen<'a, K, V, C> {
         counter: &mut C,
     )
         requires callable { F.IsAlwaysCallable f }
-        ensures calls { (last : F) × FoldsTo (λ p x q. Matched F.FnMut p x q) f (matches (K.bytes probe.now) (tree_pairs (option_copied self.entry.root))) last }
-        ensures visits { C.number counter.new ≡ C.number counter.old + probe_count (keys_of (tree_pairs (option_copied self.entry.root))) (K.bytes probe.now) }
+        ensures calls { (last : F) × FoldsTo (λ p x q. Matched F.FnMut p x q) f (matches (K.bytes probe.now) (seen_pairs self.entry.root)) last }
+        ensures visits { C.number counter.new ≡ C.number counter.old + probe_count (seen_keys self.entry.root) (K.bytes probe.now) }
         ensures bound { C.number counter.new ≤ C.number counter.old + length (K.bytes probe.now) + 1 }
     {
         self.prefix_match_for_each_with_k_counted(probe, &mut f, counter);
@@ -228,7 +225,7 @@ impl<'a, K: KeyTrait, P: Partial, V> Iterator for PrefixMatchIter<'a, K, P, V> {
 impl<'a, K: KeyTrait, V> Seen<'a, K, V, Visits> {
     /// The pairs whose key begins `probe`, the shortest first. It keeps a copy of the probe, and visits nothing yet.
     pub fn prefix_match_iter_k(self, probe: &K) -> PrefixMatchIter<'a, K, K::PartialType, V>
-        ensures { result ≡ matches (K.bytes probe.now) (tree_pairs (option_copied self.entry.root)) }
+        ensures { result ≡ matches (K.bytes probe.now) (seen_pairs self.entry.root) }
     {
         PrefixMatchIter {
             matching: self.matching(),
