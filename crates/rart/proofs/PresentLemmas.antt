@@ -1,8 +1,8 @@
 -- What `try_insert` says, from what the insertion said and the value that was added to it.
 use Rattle.std.proofs.Common.{◌≡◌, ℕ, List, sym, subst}
-use Rattle.std.specs.Prelude.{◌≢◌, None, Some, Result, Ok, Err, IfErr, OnErr, MatchResult}
-use Rattle.rart_keys.specs.SortedMap.{lookup, put}
-use Rattle.rart.specs.Edits.{InsertsNew, TriesInsert}
+use Rattle.std.specs.Prelude.{◌≢◌, None, Some, Result, Ok, Err, IfErr, OnErr}
+use Rattle.rart_keys.specs.SortedMap.{lookup}
+use Rattle.rart.specs.Edits.{InsertsNew, PutOrSame, TriesInsert}
 use Rattle.rart.specs.MapAndShape.{MapAndShape}
 use Rattle.rart.specs.Refusals.{AddsPresent, ShowsWhy, StandsAt}
 use Rattle.rart.specs.declared.tree.guarded.NotInserted.{NotInserted}
@@ -18,7 +18,7 @@ module _ {V : Type 0} (old new : MapAndShape V) (key : List ℕ) (value : V) whe
   stored_stands (Err (not_inserted.Refused refused)) inserted = tt
 
   abbrev pub EndsAs : Result (Unit {0}) (TryInsertError V) → MapAndShape V → Type 0
-  EndsAs answer tree = MatchResult answer (λ _. tree.pairs ≡ put key value old.pairs) (λ _. tree ≡ old)
+  EndsAs answer tree = PutOrSame key value answer old tree
 
   -- the tree ends as the answer says
   pub ends_as_told : (outcome : Result (Unit {0}) (NotInserted V)) (answer : Result (Unit {0}) (TryInsertError V)) → AddsPresent new.pairs key outcome answer

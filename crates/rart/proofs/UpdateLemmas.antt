@@ -2,8 +2,9 @@
 use Rattle.std.proofs.Common.{◌≡◌, ◌≢◌, ℕ, ◌<◌, ◌≤◌, Bool, true, false, List, length, nat_eq, Option, Some, None, Result, Ok, Err, is_some, refl, arith, sym, ap, ◌∙◌}
 use Rattle.std.proofs.lemmas.Bool.Decides.{nat_tests}
 use Rattle.std.specs.Borrow.{MutBor}
-use Rattle.std.specs.Fn.{Once, FnOnceReturnsAtMut}
-use Rattle.rart_keys.specs.SortedMap.{lookup, put}
+use Rattle.std.specs.Fn.{Once}
+use Rattle.rart_keys.specs.SortedMap.{IsAscending, lookup, put}
+use Rattle.rart_nodes.specs.declared.refused.Refused.{Refused}
 use Rattle.rart_nodes.specs.declared.slot.Outcome.{Outcome}
 use Rattle.rart_nodes.specs.declared.slot.Slot.{Slot}
 use Rattle.rart_nodes.specs.declared.slot.SlotUpdate.{SlotUpdate}
@@ -18,7 +19,8 @@ use Rattle.rart.specs.MapAndShape.{MapAndShape}
 use Rattle.rart.specs.Refusals.{MayRefuse}
 use Rattle.rart.specs.declared.tree.update.Told.{Told}
 use Rattle.rart.specs.declared.tree.update.Told.TheVariants.{NotCloned, Failed, Answered}
-use Rattle.rart.specs.Updates.{EndsIn, IsAttempt, TakesNew, is_touched, touched_in}
+use Rattle.rart.specs.declared.tree.update.TryUpdateError.TheVariants.{Callback, Insert as Try_not_inserted, Remove as Try_not_removed}
+use Rattle.rart.specs.Updates.{Attempts, EndsIn, IsAttempt, StaysIfOk, TakesNew, TriesUpdate, is_touched, touched_in}
 use Rattle.rart.specs.declared.tree.TheConstants.{MAX_PAIRS}
 
 full-is : (l n : ℕ) → nat_eq l n ≡ true → l ≡ n
@@ -104,7 +106,44 @@ module _ {V : Type 0} where
 
 -- an attempt keeps a slot occupied, or vacant, where the callback does
 pub attempt-stays : {F E V : Type 0} (sure : V → Type 0) (g : Once F (MutBor (Slot V) × Unit {0}) (Result (SlotUpdate V) E × (MutBor (Slot V) × Unit {0}))) (f : F) (o : Option V) (r : SlotUpdate V) (x : Told V E) (w : Option V)
-    → ((a : SlotUpdate V) (u : Option V) → FnOnceReturnsAtMut g f (slot_of o) (Ok a) (slot_of u) → is_some u ≡ is_some o) → IsAttempt sure g f (slot_of o) r x (slot_of w) → is_some w ≡ is_some o
+    → StaysIfOk g f o → IsAttempt sure g f (slot_of o) r x (slot_of w) → is_some w ≡ is_some o
 attempt-stays sure g f o r NotCloned w law h = slot-some w o h.1
 attempt-stays sure g f o r (Failed e) w law h = slot-some w o h.1
 attempt-stays sure g f o r (Answered c) w law h = law r w h.0
+
+-- what an attempt comes to, by what it tells
+module _ {F E V : Type 0} (sure : V → Type 0) (g : Once F (MutBor (Slot V) × Unit {0}) (Result (SlotUpdate V) E × (MutBor (Slot V) × Unit {0}))) (f : F) (k : List ℕ) (m n : List (List ℕ × V)) (res : Result (Outcome V) (UpdateError V)) where
+  module _ (law : (q : List ℕ) (v : V) (l : List (List ℕ × V)) → IsAscending l → lookup q l ≡ Some v → put q v l ≡ l) (up : IsAscending m) where
+    -- f wasn't called
+    pub not-called : Attempts sure g f k m NotCloned res n → (n ≡ m) × ((v : V) × (lookup k m ≡ Some v) × (sure v → ⊥))
+    not-called h = let t = h.2 in let v = t.2.0 in
+        (kept k h.0 h.1 m res n (λ x s. law k x m up s) t.0 t.1 h.3, (v, sym (slot-is (Some v) (lookup k m) (sym t.2.1)), t.2.2))
+
+    -- it failed
+    pub failed : (e : E) → Attempts sure g f k m (Failed e) res n → TriesUpdate g f k m (Err (Callback e)) n × (n ≡ m)
+    failed e h = let t = h.2 in
+        let same : n ≡ m = kept k h.0 h.1 m res n (λ x s. law k x m up s) t.0 t.1 h.3 in
+        ((Err e, t.2.0, t.2.1, (refl, same)), same)
+
+  -- what it asked for is done
+  pub done : (x : Option V) (o : Outcome V) (b : Bool) → b ≡ touched_in o → res ≡ Ok o → Attempts sure g f k m (Answered x) res n → TriesUpdate g f k m (Ok b) n
+  done x o b is r h = let e = rw r at h.3 in (Ok h.0, h.1, h.2.0, (is ∙ ap touched_in e.0 ∙ touched-is h.0 h.1, e.1, e.2))
+
+  -- its insertion is refused
+  pub not-inserted : (x : Option V) (d : Refused V) → res ≡ Err (Not_inserted d) → Attempts sure g f k m (Answered x) res n → TriesUpdate g f k m (Err (Try_not_inserted d)) n × (n ≡ m)
+  not-inserted x d r h = let e = rw r at h.3 in ((Ok h.0, h.1, h.2.0, e), e.3)
+
+  -- its removal is refused: what it left stands at the key, and what stood there is put back
+  module _ (x : Option V) (r : res ≡ Err Not_removed) (h : Attempts sure g f k m (Answered x) res n) where
+    pub some-left : ((q : List ℕ) (v : V) (l : List (List ℕ × V)) → lookup q (put q v l) ≡ Some v) → lookup k n ≢ None
+    some-left law = let e = rw r at h.3 in stands-left k h.1 m n (λ v. law k v m) e.1 e.3
+
+    pub some-stood : x ≢ None
+    some-stood = λ z. let e = rw r at h.3 in e.2.1 (sym (slot-is x (lookup k m) h.2.1) ∙ z)
+
+    pub put-back : ((q : List ℕ) (v w : V) (l : List (List ℕ × V)) → IsAscending l → lookup q l ≡ Some v → put q v (put q w l) ≡ l) → IsAscending m
+        → (v : V) (u : List (List ℕ × V)) → x ≡ Some v → u ≡ put k v n → TriesUpdate g f k m (Err Try_not_removed) u × (u ≡ m)
+    put-back law up v u s p = let e = rw r at h.3 in
+        let stood : lookup k m ≡ Some v = sym (slot-is x (lookup k m) h.2.1) ∙ s in
+        let same : u ≡ m = back-left k h.1 v m n u (λ y z t. law k y z m up t) e.1 stood e.3 p in
+        ((Ok h.0, h.1, h.2.0, (e.0, e.1, e.2, same)), same)

@@ -1,7 +1,8 @@
 -- What a bulk load reads, and where it stops.
-use Rattle.std.specs.Prelude.{◌≡◌, ◌≢◌, ◌+◌, ◌-◌, ◌^◌, ◌<◌, ◌≤◌, min, ℕ, List, [], ◌∷◌, ◌++◌, length, Option, None, Some, slice_index_or}
+use Rattle.std.specs.Prelude.{◌≡◌, ◌≢◌, ◌+◌, ◌-◌, ◌^◌, ◌<◌, ◌≤◌, min, ℕ, List, [], ◌∷◌, ◌++◌, length, Option, None, Some, Result, IfErr, OnOk, slice_index_or}
 use Rattle.std.specs.Iterator.{Yields, Drains}
-use Rattle.rart_keys.specs.BulkLists.{first_fault, last_wins}
+use Rattle.rart_keys.specs.BulkLists.{WasRead, first_fault, last_wins}
+use Rattle.rart_keys.specs.SortedMap.{keys_of, values_of}
 use Rattle.rart.specs.declared.bulk.BulkError.{BulkError}
 use Rattle.rart.specs.declared.bulk.BulkError.TheVariants.{Memory, Full, Unsorted}
 use Rattle.rart.specs.declared.tree.TheConstants.{MAX_PAIRS}
@@ -30,6 +31,22 @@ abbrev pub StopsUnique : {V : Type 0} → List (List ℕ × V) → BulkError →
 StopsUnique es Memory = (es ≢ []) × (length es ≤ MAX_PAIRS)
 StopsUnique es Full = length es ≡ MAX_PAIRS + 1
 StopsUnique es (Unsorted at) = ⊥
+
+-- the pairs that a sorted load leaves of these items, none of which is a fault
+abbrev pub LoadsSorted : {V : Type 0} → List (List ℕ × V) → List (List ℕ × V) → Type 0
+LoadsSorted es m = (first_fault es ≡ None) × (m ≡ last_wins es)
+
+-- keys and values of these pairs
+abbrev pub AreSplit : {V : Type 0} → List (List ℕ × V) → List (List ℕ) → List V → Type 0
+AreSplit es ks vs = (ks ≡ keys_of es) × (vs ≡ values_of es)
+
+-- one item more is read: with Ok, ks' and vs' are then what is kept
+abbrev pub KeepsItem : {A E V : Type 0} → List (List ℕ) → List V → List ℕ → V → Result A E → List (List ℕ) → List V → Type 0
+KeepsItem {A} {E} {V} ks vs k v r ks' vs' = (es : List (List ℕ × V)) → WasRead es ks vs → OnOk r (WasRead (es ++ (k, v) ∷ []) ks' vs')
+
+-- and with Err the load stops there; the item's place is `at`
+abbrev pub StopsAtItem : {A V : Type 0} → List (List ℕ) → List V → List ℕ → V → ℕ → Result A BulkError → Type 0
+StopsAtItem {A} {V} ks vs k v at r = (es : List (List ℕ × V)) → WasRead es ks vs → at ≡ min (length es) (2 ^ 64 - 1) → IfErr r (StopsSorted (es ++ (k, v) ∷ []))
 
 -- so many keys are refused so
 abbrev pub StopsByIndex : ℕ → BulkError → Type 0

@@ -1,8 +1,9 @@
 -- What each edit of a tree answers, and what it leaves of the map, with Ok and with Err.
-use Rattle.std.specs.Prelude.{◌≡◌, ◌≢◌, ℕ, Bool, List, length, is_some, Option, None, Result, Ok, Err}
+use Rattle.std.specs.Prelude.{◌≡◌, ◌≢◌, ℕ, Bool, List, length, is_some, Option, None, Result, Ok, Err, MatchResult}
 use Rattle.rart_keys.specs.SortedMap.{lookup, put, without}
 use Rattle.rart_nodes.specs.declared.refused.Refused.{Refused}
 use Rattle.rart_parts.specs.declared.error.TreeError.{TreeError}
+use Rattle.rart.specs.MapAndShape.{MapAndShape}
 use Rattle.rart.specs.Refusals.{MayKeep, MayRefuse, ShowsWhy, TellsWhy}
 use Rattle.rart.specs.declared.tree.TheConstants.{MAX_PAIRS}
 use Rattle.rart.specs.declared.tree.guarded.NotInserted.{NotInserted}
@@ -23,6 +24,10 @@ module _ {V : Type 0} where
   abbrev pub TriesInsert : List ℕ → V → List (List ℕ × V) → Result Unit (TryInsertError V) → Type 0
   TriesInsert key value old (Ok _) = (lookup key old ≡ None) × (length old ≢ MAX_PAIRS)
   TriesInsert key value old (Err why) = ShowsWhy old key value why
+
+  -- and what it leaves: the pair is there with Ok, and with Err all is as before
+  abbrev pub PutOrSame : {A E : Type 0} → List ℕ → V → Result A E → MapAndShape V → MapAndShape V → Type 0
+  PutOrSame key value answer old new = MatchResult answer (λ _. new.pairs ≡ put key value old.pairs) (λ _. new ≡ old)
 
   -- `remove`: the key is gone, and its value is answered. Refused, the map stays
   abbrev pub Removes : List ℕ → List (List ℕ × V) → List (List ℕ × V) → Result (Option V) TreeError → Type 0

@@ -1,7 +1,8 @@
 -- What an update of a tree answers, and what it leaves of the map.
-use Rattle.std.specs.Prelude.{◌≡◌, ◌≢◌, ℕ, Bool, true, false, List, length, Option, Some, None, Result, Ok, Err}
+use Rattle.std.specs.Prelude.{◌≡◌, ◌≢◌, ℕ, Bool, true, false, List, length, Option, Some, None, is_some, Result, Ok, Err}
 use Rattle.std.specs.Borrow.{MutBor}
 use Rattle.std.specs.Fn.{Once, FnOnceReturnsAtMut}
+use Rattle.rart_keys.specs.SortedMap.{lookup}
 use Rattle.rart_nodes.specs.declared.slot.Outcome.{Outcome}
 use Rattle.rart_nodes.specs.declared.slot.Outcome.TheVariants.{Absent}
 use Rattle.rart_nodes.specs.declared.slot.Slot.{Slot}
@@ -10,6 +11,7 @@ use Rattle.rart_nodes.specs.declared.slot.SlotUpdate.{SlotUpdate}
 use Rattle.rart_nodes.specs.declared.slot.SlotUpdate.TheVariants.{Keep, Remove, Insert}
 use Rattle.rart_nodes.specs.declared.slot.UpdateError.{UpdateError}
 use Rattle.rart_nodes.specs.declared.slot.UpdateError.TheVariants.{Insert as Not_inserted, Remove as Not_removed}
+use Rattle.rart_nodes.specs.updates.Callbacks.{AnswersSo}
 use Rattle.rart_nodes.specs.updates.Slots.{outcome_of, slot_of}
 use Rattle.rart_nodes.specs.updates.Updates.{map_left, map_updated}
 use Rattle.rart_parts.specs.declared.error.TreeError.TheVariants.{Memory}
@@ -55,6 +57,18 @@ IsTryUpdate key (Ok r) w old (Err Try_not_removed) new = (r ≡ Remove) × (w �
 IsTryUpdate key (Err e) w old (Err (Callback f)) new = (f ≡ e) × (new ≡ old)
 IsTryUpdate key a w old result new = ⊥
 
+-- `update` with the callback f, which was shown what stands at the key
+abbrev pub Updates : {F V : Type 0} → Once F (MutBor (Slot V) × Unit {0}) (SlotUpdate V × (MutBor (Slot V) × Unit {0})) → F → List ℕ → List (List ℕ × V) → Result Bool (UpdateError V) → List (List ℕ × V) → Type 0
+Updates g f key old result new = AnswersSo g f (lookup key old) (λ r w. IsUpdate key r w old result new)
+
+-- `try_update` with the callback f, where it was called
+abbrev pub TriesUpdate : {F E V : Type 0} → Once F (MutBor (Slot V) × Unit {0}) (Result (SlotUpdate V) E × (MutBor (Slot V) × Unit {0})) → F → List ℕ → List (List ℕ × V) → Result Bool (TryUpdateError E V) → List (List ℕ × V) → Type 0
+TriesUpdate g f key old result new = AnswersSo g f (lookup key old) (λ a w. IsTryUpdate key a w old result new)
+
+-- such a callback, shown o, keeps an occupied slot occupied and a vacant one vacant where it doesn't fail
+abbrev pub StaysIfOk : {F E V : Type 0} → Once F (MutBor (Slot V) × Unit {0}) (Result (SlotUpdate V) E × (MutBor (Slot V) × Unit {0})) → F → Option V → Type 0
+StaysIfOk {F} {E} {V} g f o = (r : SlotUpdate V) (w : Option V) → FnOnceReturnsAtMut g f (slot_of o) (Ok r) (slot_of w) → is_some w ≡ is_some o
+
 -- what an outcome answers
 abbrev pub touched_in : {V : Type 0} → Outcome V → Bool
 touched_in Absent = false
@@ -66,6 +80,10 @@ abbrev pub IsAttempt : {F E V : Type 0} → (V → Type 0) → Once F (MutBor (S
 IsAttempt {F} {E} {V} sure g f s r NotCloned s' = (r ≡ Keep) × (s' ≡ s) × ((v : V) × (s ≡ Occupied v) × (sure v → ⊥))
 IsAttempt {F} {E} {V} sure g f s r (Failed e) s' = (r ≡ Keep) × (s' ≡ s) × ((w : Option V) × FnOnceReturnsAtMut g f s (Err e) (slot_of w))
 IsAttempt {F} {E} {V} sure g f s r (Answered o) s' = FnOnceReturnsAtMut g f s (Ok r) s' × (slot_of o ≡ s)
+
+-- an update by such an attempt, of what stands at the key
+abbrev pub Attempts : {F E V : Type 0} → (V → Type 0) → Once F (MutBor (Slot V) × Unit {0}) (Result (SlotUpdate V) E × (MutBor (Slot V) × Unit {0})) → F → List ℕ → List (List ℕ × V) → Told V E → Result (Outcome V) (UpdateError V) → List (List ℕ × V) → Type 0
+Attempts {F} {E} {V} sure g f key old told result new = (r : SlotUpdate V) × (w : Option V) × IsAttempt sure g f (slot_of (lookup key old)) r told (slot_of w) × EndsIn key r w old result new
 
 -- what a callback leaves that writes this value where the slot is occupied
 abbrev pub written_slot : {V : Type 0} → Option V → Slot V → Slot V

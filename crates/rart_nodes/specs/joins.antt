@@ -1,3 +1,4 @@
+pub mod Forks
 pub mod Lockstep
 pub mod Meetings
 pub mod PairCalls

@@ -1,3 +1,4 @@
+pub mod Callbacks
 pub mod Slots
 pub mod TreeUpdates
 pub mod Updates

@@ -52,21 +52,25 @@ pub enum Outcome<V> {
     Removed(V),
 }
 
-fn open<V>(content: Option<V>) -> Slot<V>
-    ensures { result ≡ slot_of content }
-{
-    match content {
-        Some(value) => Slot::Occupied(value),
-        None => Slot::Vacant,
+impl<V> Slot<V> {
+    /// The slot that shows this.
+    pub fn new(content: Option<V>) -> Self
+        ensures { result ≡ slot_of content }
+    {
+        match content {
+            Some(value) => Slot::Occupied(value),
+            None => Slot::Vacant,
+        }
     }
-}
 
-fn close<V>(slot: Slot<V>) -> Option<V>
-    ensures { slot ≡ slot_of result }
-{
-    match slot {
-        Slot::Occupied(value) => Some(value),
-        Slot::Vacant => None,
+    /// What stands there.
+    pub fn into_option(self) -> Option<V>
+        ensures { self ≡ slot_of result }
+    {
+        match self {
+            Slot::Occupied(value) => Some(value),
+            Slot::Vacant => None,
+        }
     }
 }
 
@@ -88,10 +92,10 @@ pub(crate) fn show<V, X, F: FnOnce(&mut Slot<V>) -> (SlotUpdate<V>, X)>(
     requires callable { FnOnceTakesAtMut F.FnOnce f (slot_of content) }
     ensures { FnOnceReturnsAtMut F.FnOnce f (slot_of content) (result.answer, result.told) (slot_of result.left) }
 {
-    let mut slot = open(content);
+    let mut slot = Slot::new(content);
     let (answer, told) = f(&mut slot);
     Visit {
-        left: close(slot),
+        left: slot.into_option(),
         answer,
         told,
     }

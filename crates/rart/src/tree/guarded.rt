@@ -1,8 +1,8 @@
 //! Insertions that never replace a value.
-ghost use Rattle.std.specs.Prelude.{◌≡◌, IfErr, MatchResult, OnErr};
+ghost use Rattle.std.specs.Prelude.{◌≡◌, IfErr, OnErr};
 ghost use Rattle.std.specs.Borrow.{sem};
 ghost use Rattle.rart_keys.specs.SortedMap.{put};
-ghost use Rattle.rart.specs.Edits.{InsertsNew, TriesInsert};
+ghost use Rattle.rart.specs.Edits.{InsertsNew, PutOrSame, TriesInsert};
 ghost use Rattle.rart.specs.Loans.{ends_as};
 ghost use Rattle.rart.specs.Refusals.{AddsPresent, StandsAt};
 
@@ -62,7 +62,7 @@ impl<K: KeyTrait, V> AdaptiveRadixTree<K, V> {
     /// Puts `value` at `key` by `insert_new_k`, and shows the value that stands there where the key is
     /// stored. Once the result is over the tree holds the pair at `Ok`, and is as before otherwise.
     pub fn try_insert_k<'a>(&'a mut self, key: &K, value: V) -> Result<(), TryInsertError<'a, V>>
-        ensures* after { sem 𝓛 (ends_as K.row V.row K.PartialType.row K.KeyTrait K.PartialType.Partial self.entry (λ n. MatchResult result (λ _. n.pairs ≡ put (K.bytes key.now) value self.old.pairs) (λ _. n ≡ self.old))) }
+        ensures* after { sem 𝓛 (ends_as K.row V.row K.PartialType.row K.KeyTrait K.PartialType.Partial self.entry (PutOrSame (K.bytes key.now) value result self.old)) }
         ensures answer { TriesInsert (K.bytes key.now) value self.old.pairs result }
     {
         let outcome = self.insert_new_k(key, value);
@@ -92,7 +92,7 @@ impl<K: KeyTrait, V> AdaptiveRadixTree<K, V> {
     pub fn try_insert<'a>(&'a mut self, key: K, value: V) -> Result<(), TryInsertError<'a, V>>
     where
         K: Drop,
-        ensures* after { sem 𝓛 (ends_as K.row V.row K.PartialType.row K.KeyTrait K.PartialType.Partial self.entry (λ n. MatchResult result (λ _. n.pairs ≡ put (K.bytes key) value self.old.pairs) (λ _. n ≡ self.old))) }
+        ensures* after { sem 𝓛 (ends_as K.row V.row K.PartialType.row K.KeyTrait K.PartialType.Partial self.entry (PutOrSame (K.bytes key) value result self.old)) }
         ensures answer { TriesInsert (K.bytes key) value self.old.pairs result }
     {
         let tried = self.insert_new_with(key, value);

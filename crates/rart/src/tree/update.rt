@@ -1,13 +1,14 @@
 //! Updates through a slot: a callback is shown what stands at a key, may change it, and answers what is
 //! to be done with it.
-ghost use Rattle.std.specs.Prelude.{◌≡◌, ◌≢◌, length, is_some, None, Option, Some, Result, Ok, Err, IfOk, OnErr};
+ghost use Rattle.std.specs.Prelude.{◌≡◌, ◌≢◌, None, Option, Some, Result, Ok, Err, IfOk, OnErr};
 ghost use Rattle.std.specs.Fn.{FnOnceReturnsAtMut, FnOnceTakesAtMut};
 ghost use Rattle.rart_keys.specs.SortedMap.{keys_of, lookup, put};
 ghost use Rattle.rart_nodes.specs.declared.slot.Slot.TheVariants.{Occupied as Occupied_slot};
 ghost use Rattle.rart_nodes.specs.declared.slot.SlotUpdate.{SlotUpdate};
 ghost use Rattle.rart_nodes.specs.shapes.Shape.{HasShape};
+ghost use Rattle.rart_nodes.specs.updates.Callbacks.{AnswersSo, Stays, StaysTelling, TellsSo};
 ghost use Rattle.rart_nodes.specs.updates.Slots.{slot_of};
-ghost use Rattle.rart.specs.Updates.{EndsIn, IsAttempt, IsTryUpdate, IsUpdate, touched_in};
+ghost use Rattle.rart.specs.Updates.{Attempts, EndsIn, IsAttempt, StaysIfOk, TriesUpdate, Updates, touched_in};
 ghost use Rattle.rart.specs.declared.tree.update.TryUpdateError.TheVariants.{Clone as Not_cloned};
 
 use crate::tree::{AdaptiveRadixTree, MAX_PAIRS};
@@ -58,8 +59,8 @@ impl<K: KeyTrait, V> AdaptiveRadixTree<K, V> {
         f: F,
     ) -> (Result<Outcome<V>, UpdateError<V>>, X)
         requires callable { FnOnceTakesAtMut F.FnOnce f (slot_of (lookup (K.bytes key.now) self.old.pairs)) }
-        requires stays { (r : SlotUpdate V) (x : X) (w : Option V) → FnOnceReturnsAtMut F.FnOnce f (slot_of (lookup (K.bytes key.now) self.old.pairs)) (r, x) (slot_of w) → is_some w ≡ is_some (lookup (K.bytes key.now) self.old.pairs) }
-        ensures update { (r : SlotUpdate V) × (w : Option V) × FnOnceReturnsAtMut F.FnOnce f (slot_of (lookup (K.bytes key.now) self.old.pairs)) (r, result.1) (slot_of w) × EndsIn (K.bytes key.now) r w self.old.pairs result.0 self.new.pairs }
+        requires stays { StaysTelling F.FnOnce f (lookup (K.bytes key.now) self.old.pairs) }
+        ensures update { TellsSo F.FnOnce f (lookup (K.bytes key.now) self.old.pairs) result.1 (λ r w. EndsIn (K.bytes key.now) r w self.old.pairs result.0 self.new.pairs) }
         ensures refused { OnErr result.0 (self.new.nodes ≡ self.old.nodes) }
         ensures nodes { keys_of self.new.pairs ≡ keys_of self.old.pairs → self.new.nodes ≡ self.old.nodes }
     {
@@ -93,8 +94,8 @@ impl<K: KeyTrait, V> AdaptiveRadixTree<K, V> {
     where
         V: Drop,
         requires callable { FnOnceTakesAtMut F.FnOnce f (slot_of (lookup (K.bytes key.now) self.old.pairs)) }
-        requires stays { (r : SlotUpdate V) (w : Option V) → FnOnceReturnsAtMut F.FnOnce f (slot_of (lookup (K.bytes key.now) self.old.pairs)) r (slot_of w) → is_some w ≡ is_some (lookup (K.bytes key.now) self.old.pairs) }
-        ensures update { (r : SlotUpdate V) × (w : Option V) × FnOnceReturnsAtMut F.FnOnce f (slot_of (lookup (K.bytes key.now) self.old.pairs)) r (slot_of w) × IsUpdate (K.bytes key.now) r w self.old.pairs result self.new.pairs }
+        requires stays { Stays F.FnOnce f (lookup (K.bytes key.now) self.old.pairs) }
+        ensures update { Updates F.FnOnce f (K.bytes key.now) self.old.pairs result self.new.pairs }
         ensures shape { HasShape (keys_of self.new.pairs) self.new.nodes }
         ensures refused { OnErr result (self.new.nodes ≡ self.old.nodes) }
     {
@@ -116,8 +117,8 @@ impl<K: KeyTrait, V> AdaptiveRadixTree<K, V> {
         K: Drop,
         V: Drop,
         requires callable { FnOnceTakesAtMut F.FnOnce f (slot_of (lookup (K.bytes key) self.old.pairs)) }
-        requires stays { (r : SlotUpdate V) (w : Option V) → FnOnceReturnsAtMut F.FnOnce f (slot_of (lookup (K.bytes key) self.old.pairs)) r (slot_of w) → is_some w ≡ is_some (lookup (K.bytes key) self.old.pairs) }
-        ensures update { (r : SlotUpdate V) × (w : Option V) × FnOnceReturnsAtMut F.FnOnce f (slot_of (lookup (K.bytes key) self.old.pairs)) r (slot_of w) × IsUpdate (K.bytes key) r w self.old.pairs result self.new.pairs }
+        requires stays { Stays F.FnOnce f (lookup (K.bytes key) self.old.pairs) }
+        ensures update { Updates F.FnOnce f (K.bytes key) self.old.pairs result self.new.pairs }
         ensures shape { HasShape (keys_of self.new.pairs) self.new.nodes }
         ensures refused { OnErr result (self.new.nodes ≡ self.old.nodes) }
     {
@@ -150,8 +151,8 @@ impl<K: KeyTrait, V> AdaptiveRadixTree<K, V> {
         V: Clone,
         requires clones { (x y : V) → V.is_clone x y → y ≡ x }
         requires callable { FnOnceTakesAtMut F.FnOnce f (slot_of (lookup (K.bytes key.now) self.old.pairs)) }
-        requires stays { (r : SlotUpdate V) (w : Option V) → FnOnceReturnsAtMut F.FnOnce f (slot_of (lookup (K.bytes key.now) self.old.pairs)) (Ok r) (slot_of w) → is_some w ≡ is_some (lookup (K.bytes key.now) self.old.pairs) }
-        ensures called { result ≢ Err Not_cloned → (a : Result (SlotUpdate V) E) × (w : Option V) × FnOnceReturnsAtMut F.FnOnce f (slot_of (lookup (K.bytes key.now) self.old.pairs)) a (slot_of w) × IsTryUpdate (K.bytes key.now) a w self.old.pairs result self.new.pairs }
+        requires stays { StaysIfOk F.FnOnce f (lookup (K.bytes key.now) self.old.pairs) }
+        ensures called { result ≢ Err Not_cloned → TriesUpdate F.FnOnce f (K.bytes key.now) self.old.pairs result self.new.pairs }
         ensures not_cloned { result ≡ Err Not_cloned → (v : V) × (lookup (K.bytes key.now) self.old.pairs ≡ Some v) × (V.is_infallible v → ⊥) }
         ensures shape { HasShape (keys_of self.new.pairs) self.new.nodes }
         ensures refused { OnErr result (self.new ≡ self.old) }
@@ -189,8 +190,8 @@ impl<K: KeyTrait, V> AdaptiveRadixTree<K, V> {
         V: Clone,
         requires clones { (x y : V) → V.is_clone x y → y ≡ x }
         requires callable { FnOnceTakesAtMut F.FnOnce f (slot_of (lookup (K.bytes key) self.old.pairs)) }
-        requires stays { (r : SlotUpdate V) (w : Option V) → FnOnceReturnsAtMut F.FnOnce f (slot_of (lookup (K.bytes key) self.old.pairs)) (Ok r) (slot_of w) → is_some w ≡ is_some (lookup (K.bytes key) self.old.pairs) }
-        ensures called { result ≢ Err Not_cloned → (a : Result (SlotUpdate V) E) × (w : Option V) × FnOnceReturnsAtMut F.FnOnce f (slot_of (lookup (K.bytes key) self.old.pairs)) a (slot_of w) × IsTryUpdate (K.bytes key) a w self.old.pairs result self.new.pairs }
+        requires stays { StaysIfOk F.FnOnce f (lookup (K.bytes key) self.old.pairs) }
+        ensures called { result ≢ Err Not_cloned → TriesUpdate F.FnOnce f (K.bytes key) self.old.pairs result self.new.pairs }
         ensures not_cloned { result ≡ Err Not_cloned → (v : V) × (lookup (K.bytes key) self.old.pairs ≡ Some v) × (V.is_infallible v → ⊥) }
         ensures shape { HasShape (keys_of self.new.pairs) self.new.nodes }
         ensures refused { OnErr result (self.new ≡ self.old) }
@@ -206,8 +207,8 @@ fn update_plainly<V, K: KeyTrait, F: FnOnce(&mut Slot<V>) -> SlotUpdate<V>>(
     f: F,
 ) -> Result<Outcome<V>, UpdateError<V>>
     requires callable { FnOnceTakesAtMut F.FnOnce f (slot_of (lookup (K.bytes key.now) tree.old.pairs)) }
-    requires stays { (r : SlotUpdate V) (w : Option V) → FnOnceReturnsAtMut F.FnOnce f (slot_of (lookup (K.bytes key.now) tree.old.pairs)) r (slot_of w) → is_some w ≡ is_some (lookup (K.bytes key.now) tree.old.pairs) }
-    ensures update { (r : SlotUpdate V) × (w : Option V) × FnOnceReturnsAtMut F.FnOnce f (slot_of (lookup (K.bytes key.now) tree.old.pairs)) r (slot_of w) × EndsIn (K.bytes key.now) r w tree.old.pairs result tree.new.pairs }
+    requires stays { Stays F.FnOnce f (lookup (K.bytes key.now) tree.old.pairs) }
+    ensures update { AnswersSo F.FnOnce f (lookup (K.bytes key.now) tree.old.pairs) (λ r w. EndsIn (K.bytes key.now) r w tree.old.pairs result tree.new.pairs) }
     ensures refused { OnErr result (tree.new.nodes ≡ tree.old.nodes) }
 {
     let (outcome, ()) = tree.update_with(
@@ -244,8 +245,8 @@ fn update_tried<
 ) -> (Result<Outcome<V>, UpdateError<V>>, Told<V, E>)
     requires clones { (x y : V) → V.is_clone x y → y ≡ x }
     requires callable { FnOnceTakesAtMut F.FnOnce f (slot_of (lookup (K.bytes key.now) tree.old.pairs)) }
-    requires stays { (r : SlotUpdate V) (w : Option V) → FnOnceReturnsAtMut F.FnOnce f (slot_of (lookup (K.bytes key.now) tree.old.pairs)) (Ok r) (slot_of w) → is_some w ≡ is_some (lookup (K.bytes key.now) tree.old.pairs) }
-    ensures update { (r : SlotUpdate V) × (w : Option V) × IsAttempt V.is_infallible F.FnOnce f (slot_of (lookup (K.bytes key.now) tree.old.pairs)) r result.1 (slot_of w) × EndsIn (K.bytes key.now) r w tree.old.pairs result.0 tree.new.pairs }
+    requires stays { StaysIfOk F.FnOnce f (lookup (K.bytes key.now) tree.old.pairs) }
+    ensures update { Attempts V.is_infallible F.FnOnce f (K.bytes key.now) tree.old.pairs result.1 result.0 tree.new.pairs }
     ensures refused { OnErr result.0 (tree.new.nodes ≡ tree.old.nodes) }
     ensures nodes { keys_of tree.new.pairs ≡ keys_of tree.old.pairs → tree.new.nodes ≡ tree.old.nodes }
 {
@@ -274,7 +275,7 @@ fn attempt<V: Clone, E, F: FnOnce(&mut Slot<V>) -> Result<SlotUpdate<V>, E> + Dr
     match f(slot) {
         Ok(answer) => (answer, Told::Answered(copy)),
         Err(error) => {
-            let _left = close(mem::replace(slot, open(copy)));
+            let _left = mem::replace(slot, Slot::new(copy)).into_option();
             (SlotUpdate::Keep, Told::Failed(error))
         }
     }
@@ -288,23 +289,5 @@ fn saved<V: Clone>(slot: &Slot<V>) -> Result<Option<V>, AllocError>
     match slot {
         Slot::Occupied(value) => Ok(Some(value.clone()?)),
         Slot::Vacant => Ok(None),
-    }
-}
-
-fn open<V>(content: Option<V>) -> Slot<V>
-    ensures { result ≡ slot_of content }
-{
-    match content {
-        Some(value) => Slot::Occupied(value),
-        None => Slot::Vacant,
-    }
-}
-
-fn close<V>(slot: Slot<V>) -> Option<V>
-    ensures { slot ≡ slot_of result }
-{
-    match slot {
-        Slot::Occupied(value) => Some(value),
-        Slot::Vacant => None,
     }
 }

@@ -6,15 +6,16 @@ use Rattle.std.proofs.lemmas.Grind.{common_steps}
 use Rattle.std.proofs.lemmas.List.Elements.{filter-append}
 use Rattle.rart_keys.specs.ByteStrings.{strip_prefix, begins}
 use Rattle.rart_keys.specs.Filters.{matches, longest_match, last_or}
+use Rattle.rart_keys.specs.SortedMap.{keys_of}
 use Rattle.rart_keys.proofs.ByteOrder.{order, is_less, is_equal, is_greater, eq-no, eq-yes, equal_or_not}
 use Rattle.rart_nodes.specs.tries.CanonicalTest.{is_canonical}
 use Rattle.rart_nodes.specs.tries.Tree.{tree_pairs, IsCanonicalTree}
 use Rattle.rart_nodes.specs.tries.Trie.{Trie, node, Children, no_children, child, pairs_of, children_pairs, own_pair, prefix_of, value_of, child_of, child_in, with_prefix, IsCanonical, AreCanonical}
 use Rattle.rart_nodes.specs.walks.Matches.{Passes, PassesNone, pair_at, matches_behind, trie_matches, child_matches, tree_matches, matches_ahead, entered_ahead}
-use Rattle.rart_nodes.specs.walks.ProbeCount.{tree_entered}
+use Rattle.rart_nodes.specs.walks.ProbeCount.{probe_count, tree_entered}
 use Rattle.rart_nodes.proofs.tries.CanonicalTests.{IsCanonical-test}
 use Rattle.rart_nodes.proofs.tries.FirstBytes.{AllFirst, AllFrom, pairs_of-first, children_pairs-from}
-use Rattle.rart_nodes.proofs.walks.SeenLemmas.{child_of-low, child-falls, step-left, step-ended, step-on}
+use Rattle.rart_nodes.proofs.walks.SeenLemmas.{child_of-low, child-falls, few-tree_entered, step-left, step-ended, step-on, tree_entered-probe_count}
 
 abbrev begins_within : List ℕ → Option (List ℕ) → Bool
 begins_within l None = false
@@ -173,6 +174,15 @@ module _ {V : Type 0} where
   pub matches-ahead : (q : List ℕ) (d : ℕ) (o root : Option (Trie V)) → d ≡ 0 → o ≡ root → IsCanonicalTree root → matches_ahead q d o ≡ matches q (tree_pairs root)
   matches-ahead q d o None e f w = rw (e, f) refl
   matches-ahead q d o (Some t) e f w = rw (e, f) (prefix-none (trie_matches q t) ∙ trie_matches-matches q t w)
+
+  -- a way down that has ended, m visits after it began at n, entered the nodes that the keys say
+  pub all-entered : (q : List ℕ) (d : ℕ) (o root : Option (Trie V)) (m n i : ℕ) → IsCanonicalTree root → o ≡ None → m + entered_ahead q d o ≡ i → i ≡ n + tree_entered q root
+      → (m ≡ n + probe_count (keys_of (tree_pairs root)) q) × (m ≤ n + length q + 1)
+  all-entered q d o root m n i w e h k =
+      let none : entered_ahead q d o ≡ 0 = ap (entered_ahead q d) e in
+      let count = tree_entered-probe_count q root w in
+      let few = few-tree_entered q root w in
+      (omega (arith, none, h, k, count), omega (arith, none, h, k, few))
 
   pub entered-ahead : (q : List ℕ) (d : ℕ) (o root : Option (Trie V)) → d ≡ 0 → o ≡ root → entered_ahead q d o ≡ tree_entered q root
   entered-ahead q d o root e f = rw (e, f) refl

@@ -1,8 +1,9 @@
 -- Where an insertion may ask for memory: by the keys alone, and by the trie.
-use Rattle.std.specs.Prelude.{ℕ, ◌==◌, ◌||◌, ◌&&◌, not, nat_le, Bool, true, false, List, [], ◌∷◌, length, Option, Some, None, is_some, if◌then◌else◌}
+use Rattle.std.specs.Prelude.{ℕ, ◌≡◌, ◌<◌, ◌==◌, ◌||◌, ◌&&◌, not, nat_le, Bool, true, false, List, [], ◌∷◌, length, Option, Some, None, is_some, if◌then◌else◌}
 use Rattle.std.specs.Ordering.{nat_cmp, match_ordering}
 use Rattle.std.specs.List.{list_any}
 use Rattle.rart_keys.specs.ByteStrings.{strip_prefix}
+use Rattle.rart_keys.specs.SortedMap.{keys_of, lookup}
 use Rattle.rart_nodes.specs.shapes.Shape.{NodeRecord, record_at}
 use Rattle.rart_nodes.specs.tries.Trie.{Trie, node, Children, no_children, child, edges_of}
 
@@ -29,6 +30,10 @@ last_takes f (b ∷ q) = if any_along (λ p. f (b ∷ p)) q then last_takes (λ 
 abbrev pub insert_asks : List (List ℕ) → List ℕ → Bool
 insert_asks [] q = false
 insert_asks (k ∷ s) q = not (is_some (record_at (k ∷ s) q) || last_takes (record_at (k ∷ s)) q)
+
+-- an insertion at k in the map m may ask for memory, as its keys say: the key is new, and no branch point
+abbrev pub MayAskFor : {V : Type 0} → List ℕ → List (List ℕ × V) → Type 0
+MayAskFor k m = (0 < length m) × (lookup k m ≡ None) × (record_at (keys_of m) k ≡ None) × (insert_asks (keys_of m) k ≡ true)
 
 -- what the code does: a split, or a child that its node has no room for
 abbrev pub put_asks_behind : Option (List ℕ) → (ℕ → List ℕ → Bool) → Bool

@@ -1,10 +1,16 @@
 -- The pairs of children that a walk over two nodes has still to visit.
-use Rattle.std.specs.Prelude.{List}
+use Rattle.std.specs.Prelude.{◌≡◌, List, [], ◌∷◌, Option, MatchOption}
+use Rattle.rart_keys.specs.declared.partials.Partial.{Ghosts}
 use Rattle.rart_nodes.specs.declared.node.intersect.twins.Twins.{Twins}
 use Rattle.rart_nodes.specs.declared.node.intersect.twins.Twins.TheVariants.{OverLeft, OverRight}
+use Rattle.rart_nodes.specs.declared.node.seen.Entered.{Entered}
 use Rattle.rart_nodes.specs.joins.Twins.{twins_left, twins_right}
 use Rattle.rart_nodes.specs.tries.Trie.{Trie}
 
 abbrev pub twins_ahead : {P V W C : Type 0} → Twins P V W C → Trie V → Trie W → List (Trie V × Trie W)
 twins_ahead (OverLeft branches) t u = twins_left branches u
 twins_ahead (OverRight branches) t u = twins_right t branches
+
+-- a walk with these twins ahead came from s to s': it entered the first of them, or there were none
+abbrev pub EntersTwins : {P V W C S : Type 0} {G : Ghosts P} → (S → List (Trie V × Trie W)) → S → Option (Entered P V C G × Entered P W C G) → S → Type 0
+EntersTwins ahead s r s' = MatchOption r (ahead s ≡ []) (λ e. ahead s ≡ (e.0.node.now, e.1.node.now) ∷ ahead s')

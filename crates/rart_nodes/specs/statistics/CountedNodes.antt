@@ -1,5 +1,8 @@
 -- The numbers that the count of a tree's nodes keeps.
-use Rattle.std.specs.Prelude.{ℕ, ◌+◌, ◌*◌, ◌==◌, Bool, ◌++◌, if◌then◌else◌}
+use Rattle.std.specs.Prelude.{ℕ, ◌+◌, ◌*◌, ◌==◌, nat_le, Bool, List, ◌++◌, if◌then◌else◌}
+use Rattle.std.specs.BTreeMap.{insert_entry}
+use Rattle.std.specs.Ordering.{nat_cmp}
+use Rattle.rart_nodes.specs.declared.stats.NodeStats.{NodeStats}
 use Rattle.rart_nodes.specs.declared.stats.counts.Counts.{Counts}
 use Rattle.rart_nodes.specs.declared.stats.counts.WidthCount.{WidthCount}
 use Rattle.rart_nodes.specs.shapes.Shape.{NodeRecord}
@@ -32,6 +35,10 @@ width_counts_added a b = record { nodes = a.nodes + b.nodes; children = a.childr
 
 abbrev pub counts_added : Counts → Counts → Counts
 counts_added a b = record { leaves = a.leaves + b.leaves; values = a.values + b.values; four = width_counts_added a.four b.four; sixteen = width_counts_added a.sixteen b.sixteen; forty_eight = width_counts_added a.forty_eight b.forty_eight; full = width_counts_added a.full b.full }
+
+-- entries with that of the nodes of width w, if there are any
+abbrev pub with_width : WidthCount → ℕ → List (ℕ × NodeStats) → List (ℕ × NodeStats)
+with_width c w es = if nat_le 1 c.nodes then insert_entry nat_cmp es w (record { width = w; total_nodes = c.nodes; total_children = c.children }) else es
 
 -- the sum of all numbers, which bounds each
 abbrev pub counts_sum : Counts → ℕ

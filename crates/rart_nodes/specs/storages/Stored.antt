@@ -1,8 +1,9 @@
 -- What a storage holds.
-use Rattle.std.specs.Prelude.{ℕ, List, []}
-use Rattle.rart_parts.specs.Entries.{ascending}
+use Rattle.std.specs.Prelude.{ℕ, ◌≡◌, ◌≢◌, ◌<◌, ◌≤◌, ◌+◌, List, [], length, Option, None, OnSome}
+use Rattle.rart_parts.specs.Entries.{ascending, child_at, replaced}
 use Rattle.rart_nodes.specs.declared.node.storage.Storage.{Storage}
 use Rattle.rart_nodes.specs.declared.node.storage.Storage.TheVariants.{Leaf, Four, Sixteen, FortyEight, Full}
+use Rattle.rart_nodes.specs.storages.Widths.{previous_width}
 
 -- the children, each with its edge byte, in the order of the bytes
 abbrev pub stored : {N : Type 0} → Storage N → List (ℕ × N)
@@ -19,3 +20,18 @@ width_of (Four m) = 4
 width_of (Sixteen m) = 16
 width_of (FortyEight m) = 48
 width_of (Full m) = 256
+
+-- a child stands at b, and without it a smaller storage that has a width takes the rest
+abbrev pub NarrowsStored : {N : Type 0} → ℕ → Storage N → Type 0
+NarrowsStored b s = (child_at b (stored s) ≢ None) × (4 < width_of s) × (length (stored s) ≤ previous_width (width_of s) + 1)
+
+-- a storage of the same width that holds these children, or the same
+abbrev pub StoresSo : {N : Type 0} → Storage N → List (ℕ × N) → Storage N → Type 0
+StoresSo old es new = (width_of new ≡ width_of old) × (stored new ≡ es)
+
+abbrev pub StoresSame : {N : Type 0} → Storage N → Storage N → Type 0
+StoresSame old new = StoresSo old (stored old) new
+
+-- what was lent of the child at b, if anything was, is w in the new storage
+abbrev pub StoresLent : {A N : Type 0} → ℕ → N → Option A → Storage N → Storage N → Type 0
+StoresLent b w lent old new = OnSome lent (StoresSo old (replaced b w (stored old)) new)

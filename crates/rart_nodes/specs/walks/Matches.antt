@@ -1,7 +1,9 @@
 -- The values that a descent along a string passes, with the bytes up to each.
-use Rattle.std.specs.Prelude.{ℕ, ◌≡◌, ◌+◌, ◌<◌, ◌≤◌, List, [], ◌∷◌, ◌++◌, length, take, drop, Option, Some, None}
+use Rattle.std.specs.Prelude.{ℕ, ◌≡◌, ◌+◌, ◌<◌, ◌≤◌, List, [], ◌∷◌, ◌++◌, length, take, drop, Option, Some, None, option_map}
 use Rattle.std.specs.Ordering.{nat_cmp, match_ordering}
 use Rattle.rart_keys.specs.ByteStrings.{strip_prefix}
+use Rattle.rart_keys.specs.declared.partials.Partial.{Ghosts}
+use Rattle.rart_nodes.specs.declared.node.matching.Matching.{Matching}
 use Rattle.rart_nodes.specs.tries.Trie.{Trie, node, Children, no_children, child, own_pair, value_of, with_prefix}
 use Rattle.rart_nodes.specs.tries.TrieCode.{node_count}
 use Rattle.rart_nodes.specs.walks.ProbeCount.{tree_entered}
@@ -32,6 +34,13 @@ matches_ahead q d o = with_prefix (take d q) (tree_matches (drop d q) o)
 -- and the nodes that it has still to enter
 abbrev pub entered_ahead : {V : Type 0} → List ℕ → ℕ → Option (Trie V) → ℕ
 entered_ahead q d o = tree_entered (drop d q) o
+
+-- the same of a way down
+abbrev pub matches_left : {P V C : Type 0} {G : Ghosts P} → List ℕ → Matching P V C G → List (List ℕ × V)
+matches_left q m = matches_ahead q m.depth (option_map (λ s. s.node.now) m.below)
+
+abbrev pub entered_left : {P V C : Type 0} {G : Ghosts P} → List ℕ → Matching P V C G → ℕ
+entered_left q m = entered_ahead q m.depth (option_map (λ s. s.node.now) m.below)
 
 -- the value at the key k, if there is one
 abbrev pub pair_at : {V : Type 0} → List ℕ → Option V → List (List ℕ × V)

@@ -1,7 +1,9 @@
 -- The node at or below a prefix, where it is, with what a trail keeps of the way to it.
-use Rattle.std.specs.Prelude.{ℕ, Bool, true, false, List, [], ◌∷◌, ◌++◌, Option, Some, None}
+use Rattle.std.specs.Prelude.{ℕ, ◌≡◌, Bool, true, false, List, [], ◌∷◌, ◌++◌, Option, Some, None, MatchOption}
 use Rattle.std.specs.Ordering.{nat_cmp, match_ordering}
 use Rattle.rart_keys.specs.ByteStrings.{strip_prefix, begins}
+use Rattle.rart_keys.specs.declared.partials.Partial.{Ghosts}
+use Rattle.rart_nodes.specs.declared.node.seen.Entered.{Entered}
 use Rattle.rart_nodes.specs.tries.Trie.{Trie, node, Children, no_children, child, pairs_of, with_prefix}
 use Rattle.rart_nodes.specs.walks.Tour.{Pieces, Grown, behind_pieces, joined, stops_of}
 
@@ -24,6 +26,10 @@ abbrev mutual
 abbrev pub tree_part : {V : Type 0} → Grown → Pieces → List ℕ → Option (Trie V) → Option (Pieces × Trie V)
 tree_part g k p None = None
 tree_part g k p (Some t) = part_found g k p t
+
+-- that node was entered, and the trail keeps k' then; or there is none
+abbrev pub EntersPart : {P V C : Type 0} {G : Ghosts P} → Grown → Pieces → List ℕ → Option (Trie V) → Option (Entered P V C G) → Pieces → Type 0
+EntersPart g k p o r k' = MatchOption r (tree_part g k p o ≡ None) (λ e. tree_part g k p o ≡ Some (k', e.node.now))
 
 -- the values at and below it, with what is kept of the way to each
 abbrev pub part_stops : {V : Type 0} → Grown → Option (Pieces × Trie V) → List (Pieces × V)

@@ -1,10 +1,9 @@
 //! Insertion below a node. All room is taken before the first write.
-ghost use Rattle.std.specs.Prelude.{◌≡◌, ◌+◌, ◌<◌, ◌≤◌, length, max, true, IfErr, IfOk, None, OnErr, OnOk};
+ghost use Rattle.std.specs.Prelude.{◌≡◌, ◌+◌, ◌≤◌, length, max, true, IfErr, IfOk, None, OnErr, OnOk};
 ghost use Rattle.rart_keys.specs.ByteStrings.{strip_prefix};
 ghost use Rattle.rart_keys.specs.KeyBytes.{IsWithin};
-ghost use Rattle.rart_keys.specs.SortedMap.{count_of, keys_of, lookup, put, longest_key};
-ghost use Rattle.rart_nodes.specs.edits.InsertAsks.{insert_asks, trie_asks_put};
-ghost use Rattle.rart_nodes.specs.shapes.Shape.{record_at};
+ghost use Rattle.rart_keys.specs.SortedMap.{count_of, lookup, put, longest_key};
+ghost use Rattle.rart_nodes.specs.edits.InsertAsks.{MayAskFor, trie_asks_put};
 ghost use Rattle.rart_nodes.specs.tries.Trie.{IsCanonical, trie_lookup, pairs_of, prefix_of, trie_put, with_records};
 
 use crate::node::DefaultNode;
@@ -104,7 +103,7 @@ impl<P: Partial, V> DefaultNode<P, V> {
         ensures longest { OnOk result (longest_key (pairs_of self.new) ≤ max (longest_key (pairs_of self.old)) (length key.now)) }
         ensures refused { OnErr result (self.new ≡ self.old) }
         ensures back { IfErr result (λ r. (r.error ≡ TreeError.Memory) × (r.value ≡ value)) }
-        ensures asks { OnErr result ((0 < length (pairs_of self.old)) × (lookup key.now (pairs_of self.old) ≡ None) × (record_at (keys_of (pairs_of self.old)) key.now ≡ None) × (insert_asks (keys_of (pairs_of self.old)) key.now ≡ true)) }
+        ensures asks { OnErr result (MayAskFor key.now (pairs_of self.old)) }
     {
         self.put(alloc, key, value)
     }

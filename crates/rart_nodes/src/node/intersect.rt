@@ -1,7 +1,6 @@
 //! Intersections of two shared trees: one walk through both in lockstep, with its visits counted.
 ghost use Rattle.std.specs.Prelude.{◌≡◌, ◌≢◌, ◌≤◌, ◌+◌, ◌-◌, [], IfErr, OnErr, OnOk, length, min};
 ghost use Rattle.std.specs.List.{FoldsTo};
-ghost use Rattle.std.specs.Option.{option_copied};
 ghost use Rattle.rart_keys.specs.Joins.{join};
 ghost use Rattle.rart_keys.specs.SortedMap.{longest_key, values_of};
 ghost use Rattle.rart_nodes.specs.joins.Lockstep.{meet};
@@ -9,7 +8,7 @@ ghost use Rattle.rart_nodes.specs.joins.PairCalls.{CalledAt, CalledWith};
 ghost use Rattle.rart_nodes.specs.joins.SharedEdges.{joint_visits, more_visits};
 ghost use Rattle.rart_nodes.specs.joins.ViewCalls.{ViewedAt};
 ghost use Rattle.rart_nodes.specs.joins.Ways.{WayGrown};
-ghost use Rattle.rart_nodes.specs.tries.Tree.{seen_keys, seen_pairs, tree_nodes};
+ghost use Rattle.rart_nodes.specs.tries.Tree.{seen_keys, seen_nodes, seen_pairs};
 ghost use Rattle.rart_nodes.specs.tries.Trie.{pairs_of};
 
 mod fork;
@@ -68,7 +67,7 @@ fn meet_trees<'a, K: KeyTrait, V, W, C: Count, F, T: Meeting<V, W, F>>(
     ensures callable { T.callable f.new }
     ensures given { T.given way.old f.old (join (seen_pairs left.entry.root) (seen_pairs right.entry.root)) f.new }
     ensures visits { C.number counter.new ≡ C.number counter.old + joint_visits (seen_keys left.entry.root) (seen_keys right.entry.root) }
-    ensures bound { C.number counter.new ≤ C.number counter.old + (length (tree_nodes (option_copied left.entry.root)) + length (tree_nodes (option_copied right.entry.root)) - 1) }
+    ensures bound { C.number counter.new ≤ C.number counter.old + (length (seen_nodes left.entry.root) + length (seen_nodes right.entry.root) - 1) }
 {
     let Some(left_top) = left.top() else {
         return;
@@ -87,7 +86,7 @@ impl<'a, K: KeyTrait, V, C: Count> Seen<'a, K, V, C> {
     pub fn intersect_count_counted<'b, W>(self, other: Seen<'b, K, W, C>, counter: &mut C) -> usize
         ensures count { result ≡ min (length (join (seen_pairs self.entry.root) (seen_pairs other.entry.root))) usize.MAX }
         ensures visits { C.number counter.new ≡ C.number counter.old + joint_visits (seen_keys self.entry.root) (seen_keys other.entry.root) }
-        ensures bound { C.number counter.new ≤ C.number counter.old + (length (tree_nodes (option_copied self.entry.root)) + length (tree_nodes (option_copied other.entry.root)) - 1) }
+        ensures bound { C.number counter.new ≤ C.number counter.old + (length (seen_nodes self.entry.root) + length (seen_nodes other.entry.root) - 1) }
     {
         let mut count = 0;
         meet_trees::<K, V, W, C, usize, Counted>(
@@ -113,7 +112,7 @@ impl<'a, K: KeyTrait, V, C: Count> Seen<'a, K, V, C> {
         ensures callable { F.IsAlwaysCallable f.new }
         ensures calls { FoldsTo (λ p x q. CalledWith F.FnMut p x q) f.old (values_of (join (seen_pairs self.entry.root) (seen_pairs other.entry.root))) f.new }
         ensures visits { C.number counter.new ≡ C.number counter.old + joint_visits (seen_keys self.entry.root) (seen_keys other.entry.root) }
-        ensures bound { C.number counter.new ≤ C.number counter.old + (length (tree_nodes (option_copied self.entry.root)) + length (tree_nodes (option_copied other.entry.root)) - 1) }
+        ensures bound { C.number counter.new ≤ C.number counter.old + (length (seen_nodes self.entry.root) + length (seen_nodes other.entry.root) - 1) }
     {
         meet_trees::<K, V, W, C, F, ByValues>(self, other, &mut Way::Untold, counter, f);
     }
@@ -128,7 +127,7 @@ impl<'a, K: KeyTrait, V, C: Count> Seen<'a, K, V, C> {
         requires { F.IsAlwaysCallable f }
         ensures calls { (last : F) × FoldsTo (λ p x q. CalledWith F.FnMut p x q) f (values_of (join (seen_pairs self.entry.root) (seen_pairs other.entry.root))) last }
         ensures visits { C.number counter.new ≡ C.number counter.old + joint_visits (seen_keys self.entry.root) (seen_keys other.entry.root) }
-        ensures bound { C.number counter.new ≤ C.number counter.old + (length (tree_nodes (option_copied self.entry.root)) + length (tree_nodes (option_copied other.entry.root)) - 1) }
+        ensures bound { C.number counter.new ≤ C.number counter.old + (length (seen_nodes self.entry.root) + length (seen_nodes other.entry.root) - 1) }
     {
         self.intersect_values_with_by_ref_counted(other, &mut f, counter);
     }
@@ -148,7 +147,7 @@ impl<'a, K: KeyTrait, V, C: Count> Seen<'a, K, V, C> {
         ensures memory { IfErr result (λ e. (e ≡ TreeError.Memory) × (seen_pairs self.entry.root ≢ []) × (seen_pairs other.entry.root ≢ [])) }
         ensures refused { OnErr result ((f.new ≡ f.old) × (C.number counter.new ≡ C.number counter.old)) }
         ensures visits { OnOk result (C.number counter.new ≡ C.number counter.old + joint_visits (seen_keys self.entry.root) (seen_keys other.entry.root)) }
-        ensures bound { C.number counter.new ≤ C.number counter.old + (length (tree_nodes (option_copied self.entry.root)) + length (tree_nodes (option_copied other.entry.root)) - 1) }
+        ensures bound { C.number counter.new ≤ C.number counter.old + (length (seen_nodes self.entry.root) + length (seen_nodes other.entry.root) - 1) }
     {
         let Some(_) = self.top() else {
             return Ok(());
@@ -174,7 +173,7 @@ impl<'a, K: KeyTrait, V, C: Count> Seen<'a, K, V, C> {
         ensures memory { IfErr result (λ e. (e ≡ TreeError.Memory) × (seen_pairs self.entry.root ≢ []) × (seen_pairs other.entry.root ≢ [])) }
         ensures unvisited { OnErr result (C.number counter.new ≡ C.number counter.old) }
         ensures visits { OnOk result (C.number counter.new ≡ C.number counter.old + joint_visits (seen_keys self.entry.root) (seen_keys other.entry.root)) }
-        ensures bound { C.number counter.new ≤ C.number counter.old + (length (tree_nodes (option_copied self.entry.root)) + length (tree_nodes (option_copied other.entry.root)) - 1) }
+        ensures bound { C.number counter.new ≤ C.number counter.old + (length (seen_nodes self.entry.root) + length (seen_nodes other.entry.root) - 1) }
     {
         self.intersect_with_by_ref_counted(other, &mut f, counter)
     }
@@ -192,7 +191,7 @@ impl<'a, K: KeyTrait, V, C: Count> Seen<'a, K, V, C> {
         ensures memory { IfErr result (λ e. (e ≡ TreeError.Memory) × (seen_pairs self.entry.root ≢ []) × (seen_pairs other.entry.root ≢ [])) }
         ensures refused { OnErr result ((f.new ≡ f.old) × (C.number counter.new ≡ C.number counter.old)) }
         ensures visits { OnOk result (C.number counter.new ≡ C.number counter.old + joint_visits (seen_keys self.entry.root) (seen_keys other.entry.root)) }
-        ensures bound { C.number counter.new ≤ C.number counter.old + (length (tree_nodes (option_copied self.entry.root)) + length (tree_nodes (option_copied other.entry.root)) - 1) }
+        ensures bound { C.number counter.new ≤ C.number counter.old + (length (seen_nodes self.entry.root) + length (seen_nodes other.entry.root) - 1) }
     {
         let Some(_) = self.top() else {
             return Ok(());
@@ -218,7 +217,7 @@ impl<'a, K: KeyTrait, V, C: Count> Seen<'a, K, V, C> {
         ensures memory { IfErr result (λ e. (e ≡ TreeError.Memory) × (seen_pairs self.entry.root ≢ []) × (seen_pairs other.entry.root ≢ [])) }
         ensures unvisited { OnErr result (C.number counter.new ≡ C.number counter.old) }
         ensures visits { OnOk result (C.number counter.new ≡ C.number counter.old + joint_visits (seen_keys self.entry.root) (seen_keys other.entry.root)) }
-        ensures bound { C.number counter.new ≤ C.number counter.old + (length (tree_nodes (option_copied self.entry.root)) + length (tree_nodes (option_copied other.entry.root)) - 1) }
+        ensures bound { C.number counter.new ≤ C.number counter.old + (length (seen_nodes self.entry.root) + length (seen_nodes other.entry.root) - 1) }
     {
         self.intersect_lending_with_by_ref_counted(other, &mut f, counter)
     }

@@ -1,13 +1,12 @@
 //! Nodes made by hand: empty ones of each kind, and what a caller does with one. They need not be
 //! canonical.
-ghost use Rattle.std.specs.Prelude.{◌≡◌, ◌≢◌, ◌<◌, ◌≤◌, ◌+◌, ◌↔◌, length, None, Some, option_map, IfErr, IfOk, IsTrue, OnErr, OnOk, OnSome};
+ghost use Rattle.std.specs.Prelude.{◌≡◌, ◌≢◌, ◌↔◌, length, None, Some, option_map, IfErr, IfOk, IsTrue, OnErr, OnOk, OnSome};
 ghost use Rattle.std.specs.Borrow.{sem, LendsSo};
 ghost use Rattle.std.specs.Option.{option_copied, option_copied_mut};
 ghost use Rattle.rart_nodes.specs.edits.ChildChanges.{child_value, with_child_replaced, with_child_value};
-ghost use Rattle.rart_nodes.specs.edits.Deletion.{JoinsWithin, without_child};
+ghost use Rattle.rart_nodes.specs.edits.Deletion.{JoinsWithin, NarrowsWithout, without_child};
 ghost use Rattle.rart_nodes.specs.edits.NodeEdits.{with_child, with_value};
 ghost use Rattle.rart_nodes.specs.tries.Trie.{Trie, node, no_children, leaf, capacity_in, children_in, edges_of, prefix_of, value_of, child_in};
-ghost use Rattle.rart_nodes.specs.storages.Widths.{previous_width};
 
 use crate::node::DefaultNode;
 use crate::node::storage::Storage;
@@ -85,7 +84,7 @@ pub trait Node<P: Partial, V>: Sized {
         ensures taken { IfOk result (λ child. option_map trie child ≡ child_in key (trie self.old)) }
         ensures rest { OnOk result (trie self.new ≡ without_child key (trie self.old)) }
         ensures refused { OnErr result (trie self.new ≡ trie self.old) }
-        ensures asks { OnErr result ((child_in key (trie self.old) ≢ None) × (4 < capacity_in (trie self.old)) × (length (edges_of (children_in (trie self.old))) ≤ previous_width (capacity_in (trie self.old)) + 1)) }
+        ensures asks { OnErr result (NarrowsWithout key (trie self.old)) }
         ensures error { IfErr result (λ e. e ≡ TreeError.Memory) };
 
     /// How many children there is room for.

@@ -2,14 +2,14 @@
 //!
 //! Contracts speak of the pairs of the sorted map whose key begins the probe, `matches`, and of the last of
 //! them, `longest_match`. Nothing here takes memory.
-ghost use Rattle.std.specs.Prelude.{◌≡◌, ◌≤◌, ◌+◌, ◌++◌, [], ◌∷◌, length, take, None, IfSome, MatchOption, option_map};
+ghost use Rattle.std.specs.Prelude.{◌≡◌, ◌≤◌, ◌+◌, length, take, None, IfSome, MatchOption, option_map};
 ghost use Rattle.std.specs.Iterator.{YieldsFirstBy, item_count};
 ghost use Rattle.std.specs.List.{FoldsTo};
 ghost use Rattle.std.specs.Option.{option_copied};
 ghost use Rattle.rart_keys.specs.Filters.{longest_match, matches};
 ghost use Rattle.rart_nodes.specs.tries.Tree.{seen_keys, seen_pairs};
 ghost use Rattle.rart_nodes.specs.walks.Matched.{Matched};
-ghost use Rattle.rart_nodes.specs.walks.Matches.{Passes, PassesNone, matches_ahead, entered_ahead};
+ghost use Rattle.rart_nodes.specs.walks.Matches.{Passes, PassesNone, entered_left, matches_left};
 ghost use Rattle.rart_nodes.specs.walks.ProbeCount.{probe_count};
 
 use crate::count::{Count, Visits};
@@ -58,10 +58,8 @@ impl<'a, P: Partial, V, C: Count> Matching<'a, P, V, C> {
     pub(crate) fn advance(&mut self, probe: &[u8], counter: &mut C) -> Option<&'a V>
         requires { self.old.depth ≤ length probe.now }
         ensures within { self.new.depth ≤ length probe.now }
-        ensures pairs { MatchOption result
-            ((matches_ahead probe.now self.old.depth (option_map (λ s. s.node.now) self.old.below) ≡ []) × (matches_ahead probe.now self.new.depth (option_map (λ s. s.node.now) self.new.below) ≡ []))
-            (λ v. matches_ahead probe.now self.old.depth (option_map (λ s. s.node.now) self.old.below) ≡ (take self.new.depth probe.now, v.now) ∷ matches_ahead probe.now self.new.depth (option_map (λ s. s.node.now) self.new.below)) }
-        ensures visits { C.number counter.new + entered_ahead probe.now self.new.depth (option_map (λ s. s.node.now) self.new.below) ≡ C.number counter.old + entered_ahead probe.now self.old.depth (option_map (λ s. s.node.now) self.old.below) }
+        ensures pairs { YieldsFirstBy (λ v. (take self.new.depth probe.now, v.now)) (matches_left probe.now) self.old result self.new }
+        ensures visits { C.number counter.new + entered_left probe.now self.new ≡ C.number counter.old + entered_left probe.now self.old }
         ensures ended { MatchOption result (option_map (λ s. s.node.now) self.new.below ≡ None) (λ _. Unit {0}) }
     {
         while let Some(node) = self.below.take() {

@@ -1,12 +1,11 @@
 //! Removal below a node. Room for fewer children is taken before the first write.
-ghost use Rattle.std.specs.Prelude.{◌≡◌, ◌≢◌, ◌+◌, ◌<◌, ◌≤◌, length, true, false, [], IfErr, IfOk, None, Some, OnErr, OnOk};
+ghost use Rattle.std.specs.Prelude.{◌≡◌, ◌≢◌, ◌+◌, ◌≤◌, length, true, false, [], IfErr, IfOk, None, Some, OnErr, OnOk};
 ghost use Rattle.rart_keys.specs.KeyBytes.{IsWithin};
 ghost use Rattle.rart_keys.specs.SortedMap.{count_of, keys_of, lookup, without, longest_key};
-ghost use Rattle.rart_nodes.specs.edits.Deletion.{JoinsWithin, is_leaf_at, is_lone, joined_if_lone, without_child};
+ghost use Rattle.rart_nodes.specs.edits.Deletion.{JoinsWithin, NarrowsWithout, is_leaf_at, is_lone, joined_if_lone, without_child};
 ghost use Rattle.rart_nodes.specs.edits.RemoveAsks.{remove_asks, trie_asks_remove};
 ghost use Rattle.rart_nodes.specs.tries.Tree.{IsCanonicalTree, tree_lookup, tree_pairs, tree_remove};
 ghost use Rattle.rart_nodes.specs.tries.Trie.{IsCanonical, capacity_in, children_in, edges_of, trie_lookup, pairs_of, prefix_of, trie_remove, value_of, child_in};
-ghost use Rattle.rart_nodes.specs.storages.Widths.{previous_width};
 
 use crate::node::DefaultNode;
 use crate::node::rest::rest_behind;
@@ -52,7 +51,7 @@ impl<P: Partial, V> DefaultNode<P, V> {
         ensures taken { IfOk result (λ child. child ≡ child_in b self.old) }
         ensures rest { OnOk result (self.new ≡ without_child b self.old) }
         ensures refused { OnErr result (self.new ≡ self.old) }
-        ensures asks { OnErr result ((child_in b self.old ≢ None) × (4 < capacity_in self.old) × (length (edges_of (children_in self.old)) ≤ previous_width (capacity_in self.old) + 1)) }
+        ensures asks { OnErr result (NarrowsWithout b self.old) }
         ensures error { IfErr result (λ e. e ≡ TreeError.Memory) }
     {
         let narrow = self.storage.width() == 4;

@@ -3,7 +3,7 @@ ghost use Rattle.std.specs.Prelude.{◌≡◌, ◌+◌, ◌*◌, ◌≤◌, leng
 ghost use Rattle.std.specs.Option.{option_copied};
 ghost use Rattle.rart_nodes.specs.statistics.CountedNodes.{counts_added, counts_in, counts_sum};
 ghost use Rattle.rart_nodes.specs.statistics.Statistics.{statistics_in, statistics_of, trie_height};
-ghost use Rattle.rart_nodes.specs.tries.Tree.{IsCanonicalTree, seen_keys, seen_pairs, tree_nodes};
+ghost use Rattle.rart_nodes.specs.tries.Tree.{IsCanonicalTree, seen_keys, seen_nodes, seen_pairs};
 ghost use Rattle.rart_nodes.specs.tries.TrieCode.{node_count};
 
 use crate::node::DefaultNode;
@@ -37,7 +37,7 @@ impl<P: Partial, V> DefaultNode<P, V> {
     pub fn tree_stats(root: Option<&Self>, alloc: Global) -> Result<TreeStats, TreeError>
         requires canonical { IsCanonicalTree (option_copied root) }
         requires fits { 16 * length (seen_pairs root) ≤ usize.MAX }
-        ensures statistics { IfOk result (λ s. statistics_in s ≡ statistics_of (seen_keys root.entry) (tree_nodes (option_copied root.entry))) }
+        ensures statistics { IfOk result (λ s. statistics_in s ≡ statistics_of (seen_keys root.entry) (seen_nodes root.entry)) }
         ensures error { IfErr result (λ e. e ≡ TreeError.Memory) }
         ensures asks { OnErr result (2 ≤ length (seen_pairs root.entry)) }
     {

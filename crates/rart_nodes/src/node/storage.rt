@@ -1,6 +1,6 @@
 //! Where a node's children stand: in one of four maps, or nowhere where it has none. Seen as the list
 //! of (byte, child), ascending by byte, and a width.
-ghost use Rattle.std.specs.Prelude.{◌≡◌, ◌<◌, ◌≤◌, [], length, None};
+ghost use Rattle.std.specs.Prelude.{◌≡◌, ◌<◌, [], length, None};
 ghost use Rattle.std.specs.Option.{option_copied};
 ghost use Rattle.rart_parts.specs.Entries.{child_at, with_entry, without_byte};
 ghost use Rattle.rart_nodes.specs.storages.Stored.{stored, width_of};
@@ -109,16 +109,16 @@ impl<N> Storage<N> {
 }
 
 impl<N> Storage<N> {
-    ghost use Rattle.std.specs.Prelude.{◌≡◌, OnSome};
+    ghost use Rattle.std.specs.Prelude.{◌≡◌};
     ghost use Rattle.std.specs.Option.{option_copied_mut};
     ghost use Rattle.std.specs.Borrow.{sem, LendsSo};
-    ghost use Rattle.rart_parts.specs.Entries.{child_at, replaced};
-    ghost use Rattle.rart_nodes.specs.storages.Stored.{stored, width_of};
+    ghost use Rattle.rart_parts.specs.Entries.{child_at};
+    ghost use Rattle.rart_nodes.specs.storages.Stored.{StoresLent, StoresSame, stored};
     ghost use Rattle.rart_nodes.specs.contracts.node.storage.Storage.{the_row};
 
     /// The child at byte `b`, to be changed.
     pub(crate) fn seek_child_mut(&mut self, b: u8) -> Option<&mut N>
-        ensures* writes_back { sem 𝓛 (LendsSo (the_row N.row) N.row self.entry result (λ s w. OnSome result ((width_of s ≡ width_of self.old) × (stored s ≡ replaced b w (stored self.old)))) (λ s. (width_of s ≡ width_of self.old) × (stored s ≡ stored self.old))) }
+        ensures* writes_back { sem 𝓛 (LendsSo (the_row N.row) N.row self.entry result (λ s w. StoresLent b w result self.old s) (StoresSame self.old)) }
         ensures value { option_copied_mut result ≡ child_at b (stored self.old) }
     {
         match self {

@@ -1,6 +1,6 @@
 //! Updates below a node: the callback runs where the one pass down ends, and what it asks for is done
 //! there. Room is taken before the first write.
-ghost use Rattle.std.specs.Prelude.{◌≡◌, ◌≢◌, ◌<◌, ◌≤◌, [], ℕ, List, length, is_some, option_and_then, slice_get, false, true, None, Some, IfSome, IsSomeAnd, Option, OnErr};
+ghost use Rattle.std.specs.Prelude.{◌≡◌, ◌≢◌, ◌≤◌, [], ℕ, List, length, option_and_then, slice_get, false, true, None, Some, IfSome, IsSomeAnd, Option, OnErr};
 ghost use Rattle.std.specs.Fn.{FnOnceReturnsAtMut, FnOnceTakesAtMut};
 ghost use Rattle.rart_keys.specs.ByteStrings.{strip_prefix};
 ghost use Rattle.rart_keys.specs.KeyBytes.{IsWithin};
@@ -9,6 +9,7 @@ ghost use Rattle.rart_nodes.specs.declared.slot.SlotUpdate.{SlotUpdate};
 ghost use Rattle.rart_nodes.specs.edits.Deletion.{JoinsWithin, is_leaf_at, is_lone};
 ghost use Rattle.rart_nodes.specs.tries.Tree.{IsCanonicalTree, tree_lookup, tree_nodes, tree_pairs};
 ghost use Rattle.rart_nodes.specs.tries.Trie.{IsCanonical, capacity_in, child_in, children_in, edges_of, pairs_of, prefix_of, trie_lookup, value_of};
+ghost use Rattle.rart_nodes.specs.updates.Callbacks.{StaysTelling, TellsSo};
 ghost use Rattle.rart_nodes.specs.updates.Slots.{IsCounted, longest_after, slot_of};
 ghost use Rattle.rart_nodes.specs.updates.TreeUpdates.{EndsHere, EndsLeaf, EndsTree, LosesLeaf, LosesRoot};
 ghost use Rattle.rart_nodes.specs.updates.Updates.{EndsMap};
@@ -149,7 +150,7 @@ impl<P: Partial, V> DefaultNode<P, V> {
     ) -> (Option<Outcome<V>>, X)
         requires callable { FnOnceTakesAtMut F.FnOnce f (slot_of (value_of self.old)) }
         requires stays { (r : SlotUpdate V) (x : X) (w : Option V) → FnOnceReturnsAtMut F.FnOnce f (slot_of (value_of self.old)) (r, x) (slot_of w) → w ≢ None }
-        ensures { (r : SlotUpdate V) × (w : Option V) × FnOnceReturnsAtMut F.FnOnce f (slot_of (value_of self.old)) (r, result.1) (slot_of w) × EndsLeaf r w self.old result.0 self.new }
+        ensures { TellsSo F.FnOnce f (value_of self.old) result.1 (λ r w. EndsLeaf r w self.old result.0 self.new) }
     {
         let Visit { left, answer, told } = show(self.value.take(), f);
         let Some(left) = left else { unreachable!() };
@@ -198,8 +199,8 @@ impl<P: Partial, V> DefaultNode<P, V> {
         requires fits { IsWithin P.MAXIMUM_SIZE (longest_key (pairs_of self.old)) }
         requires inner { is_leaf_at key.now self.old ≡ false }
         requires callable { FnOnceTakesAtMut F.FnOnce f (slot_of (trie_lookup key.now self.old)) }
-        requires stays { (r : SlotUpdate V) (x : X) (w : Option V) → FnOnceReturnsAtMut F.FnOnce f (slot_of (trie_lookup key.now self.old)) (r, x) (slot_of w) → is_some w ≡ is_some (trie_lookup key.now self.old) }
-        ensures { (r : SlotUpdate V) × (w : Option V) × FnOnceReturnsAtMut F.FnOnce f (slot_of (trie_lookup key.now self.old)) (r, result.1) (slot_of w) × EndsTree full key.now r w (Some self.old) result.0 (Some self.new) }
+        requires stays { StaysTelling F.FnOnce f (trie_lookup key.now self.old) }
+        ensures { TellsSo F.FnOnce f (trie_lookup key.now self.old) result.1 (λ r w. EndsTree full key.now r w (Some self.old) result.0 (Some self.new)) }
     {
         let Some(rest) = rest_behind(&self.prefix, key) else {
             let (answer, told) = show_vacant(f);
@@ -265,8 +266,8 @@ impl<P: Partial, V> DefaultNode<P, V> {
         requires fits_key { IsWithin P.MAXIMUM_SIZE (length key.now) }
         requires fits { IsWithin P.MAXIMUM_SIZE (longest_key (tree_pairs root.old)) }
         requires callable { FnOnceTakesAtMut F.FnOnce f (slot_of (tree_lookup key.now root.old)) }
-        requires stays { (r : SlotUpdate V) (x : X) (w : Option V) → FnOnceReturnsAtMut F.FnOnce f (slot_of (tree_lookup key.now root.old)) (r, x) (slot_of w) → is_some w ≡ is_some (tree_lookup key.now root.old) }
-        ensures { (r : SlotUpdate V) × (w : Option V) × FnOnceReturnsAtMut F.FnOnce f (slot_of (tree_lookup key.now root.old)) (r, result.1) (slot_of w) × EndsTree full key.now r w root.old result.0 root.new }
+        requires stays { StaysTelling F.FnOnce f (tree_lookup key.now root.old) }
+        ensures { TellsSo F.FnOnce f (tree_lookup key.now root.old) result.1 (λ r w. EndsTree full key.now r w root.old result.0 root.new) }
     {
         let (outcome, told) = match root {
             Some(node) => {
@@ -320,8 +321,8 @@ impl<P: Partial, V> DefaultNode<P, V> {
         requires fits_key { IsWithin P.MAXIMUM_SIZE (length key.now) }
         requires fits { IsWithin P.MAXIMUM_SIZE (longest_key (tree_pairs root.old)) }
         requires callable { FnOnceTakesAtMut F.FnOnce f (slot_of (lookup key.now (tree_pairs root.old))) }
-        requires stays { (r : SlotUpdate V) (x : X) (w : Option V) → FnOnceReturnsAtMut F.FnOnce f (slot_of (lookup key.now (tree_pairs root.old))) (r, x) (slot_of w) → is_some w ≡ is_some (lookup key.now (tree_pairs root.old)) }
-        ensures update { (r : SlotUpdate V) × (w : Option V) × FnOnceReturnsAtMut F.FnOnce f (slot_of (lookup key.now (tree_pairs root.old))) (r, result.1) (slot_of w) × EndsMap full key.now r w (tree_pairs root.old) result.0 (tree_pairs root.new) }
+        requires stays { StaysTelling F.FnOnce f (lookup key.now (tree_pairs root.old)) }
+        ensures update { TellsSo F.FnOnce f (lookup key.now (tree_pairs root.old)) result.1 (λ r w. EndsMap full key.now r w (tree_pairs root.old) result.0 (tree_pairs root.new)) }
         ensures canonical { IsCanonicalTree root.new }
         ensures count { IsCounted result.0 (length (tree_pairs root.old)) (length (tree_pairs root.new)) }
         ensures longest { longest_key (tree_pairs root.new) ≤ longest_after result.0 (length key.now) (longest_key (tree_pairs root.old)) }

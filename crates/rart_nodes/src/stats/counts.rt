@@ -1,8 +1,6 @@
 //! The numbers that a count of nodes keeps. Only their statistics, made at the end, take memory.
-ghost use Rattle.std.specs.Prelude.{◌≡◌, ◌+◌, ◌<◌, ◌≤◌, nat_le, if◌then◌else◌, IfErr, IfOk, OnErr, OnOk};
-ghost use Rattle.std.specs.BTreeMap.{insert_entry};
-ghost use Rattle.std.specs.Ordering.{nat_cmp};
-ghost use Rattle.rart_nodes.specs.statistics.CountedNodes.{children_counted, counts_added, counts_by, counts_of_node, counts_sum, inner_counted, statistics_counted, width_counted, width_counts_added};
+ghost use Rattle.std.specs.Prelude.{◌≡◌, ◌+◌, ◌≤◌, IfErr, IfOk, OnErr, OnOk};
+ghost use Rattle.rart_nodes.specs.statistics.CountedNodes.{children_counted, counts_added, counts_by, counts_of_node, counts_sum, inner_counted, statistics_counted, width_counted, with_width};
 ghost use Rattle.rart_nodes.specs.statistics.Statistics.{one_if, statistics_in};
 
 use crate::stats::{NodeStats, TreeStats};
@@ -58,7 +56,7 @@ impl WidthCount {
         node_stats: &mut BTreeMap<usize, NodeStats>,
         width: usize,
     ) -> Result<(), TreeError>
-        ensures put { OnOk result (node_stats.new.entries ≡ (if nat_le 1 self.now.nodes then insert_entry nat_cmp node_stats.old.entries width (record { width = width; total_nodes = self.now.nodes; total_children = self.now.children }) else node_stats.old.entries)) }
+        ensures put { OnOk result (node_stats.new.entries ≡ with_width self.now width node_stats.old.entries) }
         ensures error { IfErr result (λ e. e ≡ TreeError.Memory) }
         ensures asks { OnErr result (1 ≤ self.now.nodes) }
     {

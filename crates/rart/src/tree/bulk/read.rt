@@ -1,9 +1,8 @@
 //! Items of a bulk load, read one after the other.
-ghost use Rattle.std.specs.Prelude.{◌≡◌, ◌≤◌, ◌-◌, ◌^◌, ◌++◌, ◌∷◌, [], ℕ, List, length, map, min, IfErr, IfOk, OnOk};
-ghost use Rattle.std.specs.Iterator.{HoldsAlong, IsFinite};
+ghost use Rattle.std.specs.Prelude.{◌≡◌, ◌≤◌, length, map, IfErr, IfOk};
+ghost use Rattle.std.specs.Iterator.{IsFinite};
 ghost use Rattle.rart_keys.specs.BulkLists.{WasRead, order_behind};
-ghost use Rattle.rart_keys.specs.SortedMap.{IsAscending, keys_of, values_of};
-ghost use Rattle.rart.specs.BulkLoads.{Reads, ReadsAll, StopsSorted, StopsUnique};
+ghost use Rattle.rart.specs.BulkLoads.{AreSplit, KeepsItem, Reads, ReadsAll, StopsAtItem, StopsSorted, StopsUnique};
 ghost use Rattle.rart.specs.Steps.{pairs_in};
 
 use crate::bulk::BulkError;
@@ -34,8 +33,8 @@ fn keep_last<K: KeyTrait + Drop, V: Drop>(
 ) -> Result<(), BulkError>
     requires { length keys.old.items ≤ MAX_PAIRS }
     ensures few { length keys.new.items ≤ MAX_PAIRS }
-    ensures kept { (es : List (List ℕ × V)) → WasRead es (map K.bytes keys.old.items) values.old.items → OnOk result (WasRead (es ++ (K.bytes key, value) ∷ []) (map K.bytes keys.new.items) values.new.items) }
-    ensures refused { (es : List (List ℕ × V)) → WasRead es (map K.bytes keys.old.items) values.old.items → at ≡ min (length es) (2 ^ 64 - 1) → IfErr result (StopsSorted (es ++ (K.bytes key, value) ∷ [])) }
+    ensures kept { KeepsItem (map K.bytes keys.old.items) values.old.items (K.bytes key) value result (map K.bytes keys.new.items) values.new.items }
+    ensures refused { StopsAtItem (map K.bytes keys.old.items) values.old.items (K.bytes key) value at result }
 {
     one_item_more::<V>();
     match order_after(keys, &key) {
@@ -87,7 +86,7 @@ pub(super) fn read_unique<K: KeyTrait + Drop, V: Drop, I: IntoIterator<Item = (K
 ) -> Result<(Vec<K>, Vec<V>), BulkError>
     requires { (s : I.IntoIter) → I.into_iter_gives items s → I.IntoIter.can_next s × IsFinite (I.IntoIter.remaining s) }
     ensures few { IfOk result (λ r. length r.0.items ≤ MAX_PAIRS) }
-    ensures read { IfOk result (λ r. ReadsAll I.into_iter_gives I.IntoIter.next_gives items (λ xs. (map K.bytes r.0.items ≡ keys_of (pairs_in K.bytes xs)) × (r.1.items ≡ values_of (pairs_in K.bytes xs)))) }
+    ensures read { IfOk result (λ r. ReadsAll I.into_iter_gives I.IntoIter.next_gives items (λ xs. AreSplit (pairs_in K.bytes xs) (map K.bytes r.0.items) r.1.items)) }
     ensures refused { IfErr result (λ error. Reads I.into_iter_gives I.IntoIter.next_gives items (λ xs. StopsUnique (pairs_in K.bytes xs) error)) }
 {
     let mut keys = Vec::new(alloc);

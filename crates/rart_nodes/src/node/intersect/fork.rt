@@ -1,12 +1,10 @@
 //! Two places in two trees, and the way to the next two nodes whose prefixes end together.
-ghost use Rattle.std.specs.Prelude.{◌≡◌, ◌+◌, ℕ, List, [], ◌∷◌, MatchOption, None, Some};
-ghost use Rattle.std.specs.Option.{option_copied};
+ghost use Rattle.std.specs.Prelude.{◌≡◌, ◌+◌, [], ◌∷◌, MatchOption};
 ghost use Rattle.rart_keys.specs.SortedMap.{count_of, longest_key};
-ghost use Rattle.rart_nodes.specs.joins.Lockstep.{meet};
-ghost use Rattle.rart_nodes.specs.joins.SharedEdges.{more_visits};
-ghost use Rattle.rart_nodes.specs.joins.Twins.{IsFork, IsParted, twins_right, visits_all};
-ghost use Rattle.rart_nodes.specs.joins.Ways.{WayGrown, WayRoom};
-ghost use Rattle.rart_nodes.specs.tries.Trie.{child_in, children_in, pairs_of, prefix_of};
+ghost use Rattle.rart_nodes.specs.joins.Forks.{EntersBehind, FindsFork, VisitsFork};
+ghost use Rattle.rart_nodes.specs.joins.Twins.{IsParted};
+ghost use Rattle.rart_nodes.specs.joins.Ways.{WayRoom};
+ghost use Rattle.rart_nodes.specs.tries.Trie.{child_in, pairs_of};
 
 use crate::count::Count;
 use crate::node::intersect::way::Way;
@@ -38,7 +36,7 @@ fn enter_behind<'a, P: Partial, V, C: Count>(
     byte: u8,
     counter: &mut C,
 ) -> Option<(Entered<'a, P, V, C>, &'a [u8], &'a [u8])>
-    ensures shown { MatchOption result (child_in byte at.entry.node.now ≡ None) (λ e. (child_in byte at.entry.node.now ≡ Some e.0.node.now) × (e.1.now ≡ byte ∷ []) × (prefix_of e.0.node.now ≡ byte ∷ e.2.now)) }
+    ensures shown { EntersBehind byte (child_in byte at.entry.node.now) result }
     ensures counted { C.number counter.new ≡ C.number counter.old + count_of result }
 {
     let child = at.child(byte)?.enter(counter);
@@ -58,10 +56,8 @@ pub(crate) fn next_fork<'a, 'b, P: Partial, V, W, C: Count>(
     counter: &mut C,
 ) -> Option<(Entered<'a, P, V, C>, Entered<'b, P, W, C>)>
     requires { WayRoom way.old (longest_key (pairs_of left.node.now)) }
-    ensures way { (p : List ℕ) × WayGrown way.old p way.new × MatchOption result (meet left.entry.node.now right.entry.node.now ≡ []) (λ e. IsFork left.entry.node.now right.entry.node.now p e.0.node.now e.1.node.now) }
-    ensures visits { MatchOption result
-        (C.number counter.new ≡ C.number counter.old + more_visits left.entry.node.now right.entry.node.now)
-        (λ e. C.number counter.new + visits_all (twins_right e.0.node.now (children_in e.1.node.now)) ≡ C.number counter.old + more_visits left.entry.node.now right.entry.node.now) }
+    ensures way { FindsFork left.entry.node.now right.entry.node.now way.old result way.new }
+    ensures visits { VisitsFork left.entry.node.now right.entry.node.now (C.number counter.old) result (C.number counter.new) }
 {
     let mut left = left;
     let mut right = right;

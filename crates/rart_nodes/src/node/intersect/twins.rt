@@ -1,8 +1,8 @@
 //! The children that two nodes have at the same bytes.
-ghost use Rattle.std.specs.Prelude.{◌≡◌, ◌+◌, [], ◌∷◌, MatchOption};
+ghost use Rattle.std.specs.Prelude.{◌≡◌, ◌+◌};
 ghost use Rattle.rart_keys.specs.SortedMap.{count_of};
 ghost use Rattle.rart_nodes.specs.joins.Twins.{twins_left, twins_right};
-ghost use Rattle.rart_nodes.specs.joins.TwinsAhead.{twins_ahead};
+ghost use Rattle.rart_nodes.specs.joins.TwinsAhead.{EntersTwins, twins_ahead};
 ghost use Rattle.rart_nodes.specs.tries.Trie.{children_in};
 
 use crate::count::Count;
@@ -23,7 +23,7 @@ fn next_over_left<'a, 'b, P: Partial, V, W, C: Count>(
     right: Entered<'b, P, W, C>,
     counter: &mut C,
 ) -> Option<(Entered<'a, P, V, C>, Entered<'b, P, W, C>)>
-    ensures twins { MatchOption result (twins_left branches.old right.entry.node.now ≡ []) (λ e. twins_left branches.old right.entry.node.now ≡ (e.0.node.now, e.1.node.now) ∷ twins_left branches.new right.entry.node.now) }
+    ensures twins { EntersTwins (λ s. twins_left s right.entry.node.now) branches.old result branches.new }
     ensures counted { C.number counter.new ≡ C.number counter.old + count_of result }
 {
     while let Some((byte, child)) = branches.next_child() {
@@ -39,7 +39,7 @@ fn next_over_right<'a, 'b, P: Partial, V, W, C: Count>(
     branches: &mut Branches<'b, P, W, C>,
     counter: &mut C,
 ) -> Option<(Entered<'a, P, V, C>, Entered<'b, P, W, C>)>
-    ensures twins { MatchOption result (twins_right left.entry.node.now branches.old ≡ []) (λ e. twins_right left.entry.node.now branches.old ≡ (e.0.node.now, e.1.node.now) ∷ twins_right left.entry.node.now branches.new) }
+    ensures twins { EntersTwins (twins_right left.entry.node.now) branches.old result branches.new }
     ensures counted { C.number counter.new ≡ C.number counter.old + count_of result }
 {
     while let Some((byte, other)) = branches.next_child() {
@@ -70,7 +70,7 @@ impl<'a, 'b, P: Partial, V, W, C: Count> Twins<'a, 'b, P, V, W, C> {
         right: Entered<'b, P, W, C>,
         counter: &mut C,
     ) -> Option<(Entered<'a, P, V, C>, Entered<'b, P, W, C>)>
-        ensures twins { MatchOption result (twins_ahead self.old left.entry.node.now right.entry.node.now ≡ []) (λ e. twins_ahead self.old left.entry.node.now right.entry.node.now ≡ (e.0.node.now, e.1.node.now) ∷ twins_ahead self.new left.entry.node.now right.entry.node.now) }
+        ensures twins { EntersTwins (λ s. twins_ahead s left.entry.node.now right.entry.node.now) self.old result self.new }
         ensures counted { C.number counter.new ≡ C.number counter.old + count_of result }
     {
         match self {

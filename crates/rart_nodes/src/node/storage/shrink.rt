@@ -1,8 +1,8 @@
 //! Taking children out: where few are left, they move into the kind before.
-ghost use Rattle.std.specs.Prelude.{◌≡◌, ◌≢◌, ◌⊎◌, ◌<◌, ◌≤◌, ◌+◌, ◌∷◌, ℕ, [], length, is_some, None, true, false, if◌then◌else◌, IfErr, IfOk, OnErr, OnOk};
+ghost use Rattle.std.specs.Prelude.{◌≡◌, ◌≢◌, ◌⊎◌, ◌<◌, ◌≤◌, ◌+◌, ◌∷◌, [], length, is_some, None, true, false, if◌then◌else◌, IfErr, IfOk, OnErr, OnOk};
 ghost use Rattle.rart_parts.specs.Entries.{child_at, without_byte};
 ghost use Rattle.rart_nodes.specs.storages.Widths.{narrowed, previous_width};
-ghost use Rattle.rart_nodes.specs.storages.Stored.{stored, width_of};
+ghost use Rattle.rart_nodes.specs.storages.Stored.{NarrowsStored, stored, width_of};
 
 use crate::node::storage::Storage;
 use crate::node::storage::room::{boxed_indexed, boxed_sorted};
@@ -42,7 +42,7 @@ impl<N> Storage<N> {
         ensures stored { OnOk result (stored self.new ≡ without_byte b (stored self.old)) }
         ensures width { OnOk result (width_of self.new ≡ (if is_some (child_at b (stored self.old)) then narrowed (length (stored self.new)) (width_of self.old) else width_of self.old)) }
         ensures refused { OnErr result (self.new ≡ self.old) }
-        ensures asks { OnErr result ((child_at b (stored self.old) ≢ None) × (4 < width_of self.old) × (length (stored self.old) ≤ previous_width (width_of self.old) + 1)) }
+        ensures asks { OnErr result (NarrowsStored b self.old) }
         ensures error { IfErr result (λ e. e ≡ TreeError.Memory) }
     {
         if self.keeps_kind(b) {

@@ -1,11 +1,11 @@
 //! The way down to the node at or below a prefix, and walks from there.
-ghost use Rattle.std.specs.Prelude.{◌≡◌, ◌≢◌, ◌≤◌, ◌+◌, ◌*◌, [], length, reverse, vec_capacity, MatchOption, IfErr, IfOk, None, OnErr, Some, option_map};
+ghost use Rattle.std.specs.Prelude.{◌≡◌, ◌≢◌, ◌≤◌, ◌+◌, ◌*◌, [], length, reverse, vec_capacity, MatchOption, IfOk, None, OnErr, Some, option_map};
 ghost use Rattle.std.specs.Option.{option_copied};
 ghost use Rattle.rart_keys.specs.Filters.{below};
 ghost use Rattle.rart_keys.specs.SortedMap.{longest_key};
 ghost use Rattle.rart_nodes.specs.tries.Tree.{seen_keys, seen_pairs, tree_pairs};
 ghost use Rattle.rart_nodes.specs.tries.Trie.{pairs_of};
-ghost use Rattle.rart_nodes.specs.walks.Part.{part_stops, tree_part};
+ghost use Rattle.rart_nodes.specs.walks.Part.{EntersPart, part_stops, tree_part};
 ghost use Rattle.rart_nodes.specs.walks.ProbeCount.{probe_count, tree_entered};
 ghost use Rattle.rart_nodes.specs.walks.Tour.{IsTour, nodes_below, stops_ahead};
 
@@ -25,7 +25,7 @@ fn enter_part<'a, P: Partial, V, C: Count, T: Trail<'a, P>>(
     counter: &mut C,
 ) -> Option<Entered<'a, P, V, C>>
     requires room { length (T.kept trail.old) + longest_key (tree_pairs (option_map (λ s. s.node.now) top)) ≤ T.room trail.old }
-    ensures found { MatchOption result (tree_part T.grown (T.kept trail.old) prefix.now (option_map (λ s. s.node.now) top.entry) ≡ None) (λ e. tree_part T.grown (T.kept trail.old) prefix.now (option_map (λ s. s.node.now) top.entry) ≡ Some (T.kept trail.new, e.node.now)) }
+    ensures found { EntersPart T.grown (T.kept trail.old) prefix.now (option_map (λ s. s.node.now) top.entry) result (T.kept trail.new) }
     ensures deep { MatchOption result (Unit {0}) (λ e. length (T.kept trail.new) + longest_key (pairs_of e.node.now) ≤ length (T.kept trail.old) + longest_key (tree_pairs (option_map (λ s. s.node.now) top.entry))) }
     ensures room { T.room trail.old ≤ T.room trail.new }
     ensures visits { C.number counter.new ≡ C.number counter.old + tree_entered prefix.now (option_map (λ s. s.node.now) top.entry) }

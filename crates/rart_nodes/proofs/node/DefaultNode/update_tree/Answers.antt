@@ -7,6 +7,9 @@ use Rattle.rart_nodes.proofs.node.DefaultNode.update_tree.Goals as goal
 pub update_below-requires-clause-stays : goal.update_below-requires-clause-stays
 update_below-requires-clause-stays g c = rw c.in-Some.is at c.requires.stays
 
+pub returns-then-not-is_leaf_at : goal.returns-then-not-is_leaf_at
+returns-then-not-is_leaf_at g c = rw c.in-Some.is c.update_below.ensures
+
 pub update_leaf-requires-clause-stays : goal.update_leaf-requires-clause-stays
 update_leaf-requires-clause-stays g c =
     let stays = rw c.in-Some.is at c.requires.stays in

@@ -2,10 +2,9 @@ use Rattle.std.proofs.Common.{arith, rules, of_calls, ◌≡◌, ◌+◌, ◌∷
 use Rattle.std.specs.List.{FoldsTo}
 use Rattle.std.specs.Option.{option_copied}
 use Rattle.rart_nodes.specs.walks.Matched.{Matched}
-use Rattle.rart_nodes.specs.walks.Matches.{matches_ahead, entered_ahead}
+use Rattle.rart_nodes.specs.walks.Matches.{matches_ahead}
 use Rattle.rart_nodes.proofs.tries.CanonicalTests.{IsCanonicalTree-test}
-use Rattle.rart_nodes.proofs.walks.MatchLemmas.{matches-ahead, entered-ahead}
-use Rattle.rart_nodes.proofs.walks.SeenLemmas.{few-tree_entered, tree_entered-probe_count}
+use Rattle.rart_nodes.proofs.walks.MatchLemmas.{all-entered, entered-ahead, matches-ahead}
 use Rattle.rart_nodes.proofs.node.seen.Seen.each_match.Goals as goal
 
 pub loop-value-init : goal.loop-value-init
@@ -31,20 +30,8 @@ loop-value-preserved g c =
 
 pub returns-clause-visits : goal.returns-clause-visits
 returns-clause-visits g c =
-    omega (
-      arith,
-      c.in_default.ensures.visits,
-      c.loop-value.invariant.visits,
-      ap (entered_ahead c.args.probe.now c.advance.new.self.depth) c.in_default.ensures.ended,
-      tree_entered-probe_count c.args.probe.now (option_copied c.args.self.root) (IsCanonicalTree-test _ c.args.self.canonical),
-    )
+    (all-entered c.args.probe.now c.advance.new.self.depth _ (option_copied c.args.self.root) (g.C.Count.number c.advance.new.counter) (g.C.Count.number c.args.counter.now) _ (IsCanonicalTree-test _ c.args.self.canonical) c.in_default.ensures.ended c.in_default.ensures.visits c.loop-value.invariant.visits).0
 
 pub returns-clause-bound : goal.returns-clause-bound
 returns-clause-bound g c =
-    omega (
-      arith,
-      c.in_default.ensures.visits,
-      c.loop-value.invariant.visits,
-      ap (entered_ahead c.args.probe.now c.advance.new.self.depth) c.in_default.ensures.ended,
-      few-tree_entered c.args.probe.now (option_copied c.args.self.root) (IsCanonicalTree-test _ c.args.self.canonical),
-    )
+    (all-entered c.args.probe.now c.advance.new.self.depth _ (option_copied c.args.self.root) (g.C.Count.number c.advance.new.counter) (g.C.Count.number c.args.counter.now) _ (IsCanonicalTree-test _ c.args.self.canonical) c.in_default.ensures.ended c.in_default.ensures.visits c.loop-value.invariant.visits).1

@@ -1,10 +1,8 @@
 use Rattle.std.proofs.Common.{◌+◌, arith, ap}
 use Rattle.std.specs.Option.{option_copied}
 use Rattle.rart_keys.specs.Filters.{last_or}
-use Rattle.rart_nodes.specs.walks.Matches.{entered_ahead}
 use Rattle.rart_nodes.proofs.tries.CanonicalTests.{IsCanonicalTree-test}
-use Rattle.rart_nodes.proofs.walks.MatchLemmas.{matches-ahead, entered-ahead}
-use Rattle.rart_nodes.proofs.walks.SeenLemmas.{few-tree_entered, tree_entered-probe_count}
+use Rattle.rart_nodes.proofs.walks.MatchLemmas.{all-entered, entered-ahead, matches-ahead}
 use Rattle.rart_nodes.proofs.node.seen.Seen.last_match.Goals as goal
 
 pub loop-value-init : goal.loop-value-init
@@ -17,20 +15,8 @@ loop-value-init g c = record {
 
 pub returns-clause-visits : goal.returns-clause-visits
 returns-clause-visits g c =
-    omega (
-      arith,
-      c.in_default.ensures.visits,
-      c.loop-value.invariant.visits,
-      ap (entered_ahead c.args.probe.now c.advance.new.self.depth) c.in_default.ensures.ended,
-      tree_entered-probe_count c.args.probe.now (option_copied c.args.self.root) (IsCanonicalTree-test _ c.args.self.canonical),
-    )
+    (all-entered c.args.probe.now c.advance.new.self.depth _ (option_copied c.args.self.root) (g.C.Count.number c.advance.new.counter) (g.C.Count.number c.args.counter.now) _ (IsCanonicalTree-test _ c.args.self.canonical) c.in_default.ensures.ended c.in_default.ensures.visits c.loop-value.invariant.visits).0
 
 pub returns-clause-bound : goal.returns-clause-bound
 returns-clause-bound g c =
-    omega (
-      arith,
-      c.in_default.ensures.visits,
-      c.loop-value.invariant.visits,
-      ap (entered_ahead c.args.probe.now c.advance.new.self.depth) c.in_default.ensures.ended,
-      few-tree_entered c.args.probe.now (option_copied c.args.self.root) (IsCanonicalTree-test _ c.args.self.canonical),
-    )
+    (all-entered c.args.probe.now c.advance.new.self.depth _ (option_copied c.args.self.root) (g.C.Count.number c.advance.new.counter) (g.C.Count.number c.args.counter.now) _ (IsCanonicalTree-test _ c.args.self.canonical) c.in_default.ensures.ended c.in_default.ensures.visits c.loop-value.invariant.visits).1
