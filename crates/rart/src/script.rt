@@ -2,7 +2,7 @@
 ghost use Rattle.std.specs.Prelude.{◌≡◌, ◌≢◌, [], Err, None, IfErr, IfOk, OnErr, length};
 ghost use Rattle.rart_keys.specs.SortedMap.{keys_of, lookup, values_of};
 ghost use Rattle.rart_nodes.specs.shapes.Shape.{HasShape};
-ghost use Rattle.rart.specs.Steps.{AreStatistics, IsRun, IsStep, pairs_in};
+ghost use Rattle.rart.specs.Steps.{IsRun, IsStep, pairs_in};
 ghost use Rattle.rart.specs.Updates.{IsTryUpdate, IsUpdate, left_by, written_slot};
 ghost use Rattle.rart.specs.declared.tree.update.TryUpdateError.TheVariants.{Clone as Not_cloned};
 

@@ -1,5 +1,5 @@
 //! The theorems of the canonical trie, each the contract of a function with an empty body.
-ghost use Rattle.std.specs.Prelude.{◌≡◌, ℕ, ◌+◌, ◌*◌, ◌≤◌, List, [], Option, None, Some, is_some, true, length};
+ghost use Rattle.std.specs.Prelude.{◌≡◌, ℕ, ◌+◌, ◌*◌, ◌≤◌, List, [], None, Some, is_some, true, length};
 ghost use Rattle.rart_keys.specs.Joins.{join};
 ghost use Rattle.rart_keys.specs.SortedMap.{IsAscending, lookup, put, without, keys_of};
 ghost use Rattle.rart_nodes.specs.shapes.BranchPoints.{IsBranchPoint};

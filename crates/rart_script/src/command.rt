@@ -1,5 +1,5 @@
 //! What a line asks for.
-ghost use Rattle.std.specs.Prelude.{◌≡◌, MatchOption, None, Some};
+ghost use Rattle.std.specs.Prelude.{◌≡◌, None, Some};
 ghost use Rattle.std.specs.Option.{option_map};
 ghost use Rattle.rart_keys.specs.ArrayKeyBytes.{array_key_bytes};
 ghost use Rattle.rart_script.specs.Command.{asked_by, call_in, call_of, command_of, complete_of, insert_of, only_key_of, range_of};

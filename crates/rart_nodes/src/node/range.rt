@@ -2,7 +2,7 @@
 //!
 //! The walk begins at the start, and ends for good at the first key past the end. It is seen as the end's bytes and the
 //! pairs that the walk below has still to give; `up_to` of these are the pairs that the range has still to give.
-ghost use Rattle.std.specs.Prelude.{◌≡◌, ◌≢◌, ◌≤◌, ◌+◌, [], ◌∷◌, length, option_map, IfErr, IfOk, MatchOption};
+ghost use Rattle.std.specs.Prelude.{◌≡◌, ◌≢◌, ◌≤◌, ◌+◌, [], ◌∷◌, length, IfErr, IfOk, MatchOption};
 ghost use Rattle.std.specs.Iterator.{YieldsFirstBy, item_count};
 ghost use Rattle.rart_keys.specs.Ranges.{between, bound_bytes, bound_in, is_inclusive, is_to, is_until, pairs_since, up_to};
 ghost use Rattle.rart_nodes.specs.ranges.Starts.{bytes_taken};

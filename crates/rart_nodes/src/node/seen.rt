@@ -4,7 +4,7 @@
 //! only to a caller that visits it, and each visit adds one to the caller's counter. Look-ups and
 //! walks stand in other modules. They go through `Shared` nodes, which keep nothing beside the node;
 //! allocator and longest key are read where a walk starts, from `Seen`.
-ghost use Rattle.std.specs.Prelude.{◌≡◌, ◌≤◌, ◌+◌, ℕ, IsTrue, MatchOption, None, Some, length, option_map, true};
+ghost use Rattle.std.specs.Prelude.{◌≡◌, ◌≤◌, ◌+◌, ℕ, IsTrue, MatchOption, Some, length, option_map, true};
 ghost use Rattle.std.specs.Option.{option_copied};
 ghost use Rattle.rart_keys.specs.KeyBytes.{IsWithin, IsWithin-prop};
 ghost use Rattle.rart_keys.specs.SortedMap.{count_of, longest_key};

@@ -2,7 +2,7 @@
 //!
 //! It keeps a cursor over the children of each inner node on the path to where it stands, and of that path
 //! what its trail says: the bytes, the pieces, or nothing.
-ghost use Rattle.std.specs.Prelude.{◌≡◌, ◌≢◌, ◌≤◌, ◌<◌, ◌+◌, ◌++◌, ℕ, List, [], ◌∷◌, length, reverse, take, vec_len, vec_capacity, MatchOption, IfOk, OnErr};
+ghost use Rattle.std.specs.Prelude.{◌≡◌, ◌≢◌, ◌≤◌, ◌<◌, ◌+◌, ◌++◌, [], ◌∷◌, length, reverse, take, vec_len, vec_capacity, MatchOption, IfOk, OnErr};
 ghost use Rattle.std.specs.Option.{option_copied};
 ghost use Rattle.rart_keys.specs.SortedMap.{count_of, longest_key};
 ghost use Rattle.rart_nodes.specs.tries.Tree.{seen_pairs};

@@ -1,5 +1,5 @@
 //! What a walk keeps of the path to where it stands: the bytes, the pieces that the nodes keep, or nothing.
-ghost use Rattle.std.specs.Prelude.{◌≡◌, ◌≤◌, ◌+◌, ◌^◌, ◌++◌, ℕ, List, [], length, take, IfOk};
+ghost use Rattle.std.specs.Prelude.{◌≡◌, ◌≤◌, ◌+◌, ◌^◌, ◌++◌, ℕ, [], length, take, IfOk};
 ghost use Rattle.rart_nodes.specs.walks.Tour.{Grown, IsShort, Pieces};
 
 use rart_keys::Partial;

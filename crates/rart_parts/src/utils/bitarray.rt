@@ -7,7 +7,7 @@
 mod iter;
 mod iter_mut;
 
-ghost use Rattle.std.specs.Prelude.{◌≡◌, ℕ, [], ◌<◌, ◌≤◌, ◌^◌, ◌↔◌, not, Bool, false, length, IfErr, IfOk, IfSome, IsTrue, MatchOption, OnSome, Option, Some, None, slice_index_or, slice_set, replicate};
+ghost use Rattle.std.specs.Prelude.{◌≡◌, [], ◌<◌, ◌≤◌, ◌^◌, ◌↔◌, not, false, length, IfErr, IfOk, IfSome, IsTrue, MatchOption, OnSome, Option, Some, None, slice_index_or, slice_set, replicate};
 ghost use Rattle.std.specs.Option.{option_copied, option_copied_mut};
 ghost use Rattle.rart_parts.specs.Bits.{IsFirst, IsLast};
 ghost use Rattle.rart_parts.specs.Places.{Agrees, is_used, values_in, GivesLast, PopsLast};

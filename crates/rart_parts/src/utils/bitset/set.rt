@@ -1,6 +1,6 @@
 //! A set of positions in a row of words: position i is bit `i mod width` of word `i div width`.
 ghost use Rattle.std.specs.Prelude.{◌≡◌, ℕ, ◌<◌, ◌*◌, ◌^◌, false, refl};
-ghost use Rattle.rart_parts.specs.Bits.{words_have, members};
+ghost use Rattle.rart_parts.specs.Bits.{words_have};
 
 use crate::utils::bitset::{BitsetOnesIter, BitsetTrait, BitsetWord};
 use std::alloc::AllocError;
