@@ -6,6 +6,7 @@ pub mod BulkValueLemmas
 pub mod CountLemmas
 pub mod EditLemmas
 pub mod LawLemmas
+pub mod MigrateLemmas
 pub mod PresentLemmas
 pub mod StepLemmas
 pub mod UpdateLemmas

@@ -4,6 +4,7 @@ pub mod Edits
 pub mod LawAnswers
 pub mod Loans
 pub mod MapAndShape
+pub mod Migrations
 pub mod Refusals
 pub mod RouteLoans
 pub mod Steps

@@ -8,6 +8,7 @@
 mod bulk;
 pub mod iter;
 pub mod laws;
+mod migrate;
 mod prefixes;
 pub mod range;
 pub mod routes;
@@ -19,6 +20,7 @@ mod visits;
 
 pub use crate::bulk::BulkError;
 pub use crate::iter::{Iter, PrefixMatchIter, SeenIter, ValuesIter};
+pub use crate::migrate::MigrateError;
 pub use crate::range::{Range, SeenRange};
 pub use crate::routes::RouteTable;
 pub use crate::stats::{NodeStats, TreeStats, TreeStatsTrait};

@@ -22,8 +22,11 @@ module _ {N : ℕ} (keys : ArrayKey N × ArrayKey N × Ordering) (xs ys : List �
     compared = given.compared ∙ ap₂ (slice_cmp nat_cmp) e f ∙ g;
   }
 
-  pub text_keys : (s t : List ℕ) → xs ≡ s ++ 0 ∷ [] → ys ≡ t ++ 0 ∷ [] → AreComparedAs keys (s ++ 0 ∷ []) (t ++ 0 ∷ []) (slice_cmp nat_cmp s t)
-  text_keys s t e f = compared_as _ _ _ e f (slice_cmp-closed s t)
+  pub text_keys : (s t : List ℕ) → xs ≡ s → ys ≡ t → AreComparedAs keys s t (slice_cmp nat_cmp s t)
+  text_keys s t e f = compared_as s t _ e f refl
+
+  pub terminated_keys : (s t : List ℕ) → xs ≡ s ++ 0 ∷ [] → ys ≡ t ++ 0 ∷ [] → AreComparedAs keys (s ++ 0 ∷ []) (t ++ 0 ∷ []) (slice_cmp nat_cmp s t)
+  terminated_keys s t e f = compared_as _ _ _ e f (slice_cmp-closed s t)
 
   pub unsigned_keys : (k m n : ℕ) → m < 256 ^ k → n < 256 ^ k → xs ≡ bytes_high_first k m → ys ≡ bytes_high_first k n
       → AreComparedAs keys (bytes_high_first k m) (bytes_high_first k n) (nat_cmp m n)

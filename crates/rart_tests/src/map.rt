@@ -6,6 +6,7 @@ mod drops;
 mod intersections;
 mod iterators;
 mod laws;
+mod migrations;
 mod plain_forms;
 mod prefixes;
 mod probes;

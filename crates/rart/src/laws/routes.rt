@@ -1,8 +1,7 @@
 //! What clients can count on of a route table: which probes an edit can reach.
-ghost use Rattle.std.specs.Prelude.{◌≡◌, true, false, Some, option_map, IfErr, IfOk, OnErr, OnOk};
-ghost use Rattle.rart_keys.specs.ByteStrings.{begins};
+ghost use Rattle.std.specs.Prelude.{◌≡◌, option_map, IfErr, IfOk, OnErr, OnOk};
 ghost use Rattle.rart_keys.specs.Filters.{longest_match};
-ghost use Rattle.rart_keys.specs.LongestMatches.{HasLonger, HasNoLonger};
+ghost use Rattle.rart_keys.specs.LongestMatches.{HasLonger, KeepsLongest, KeepsOthers, TakesLongest};
 ghost use Rattle.rart_keys.specs.SortedMap.{put, without};
 ghost use Rattle.rart.specs.Refusals.{MayKeep, TellsWhy};
 
@@ -22,9 +21,9 @@ pub fn add_then_route<K: KeyTrait, T: Copy>(
     ensures pairs { OnOk result (table.new.pairs ≡ put (K.bytes prefix.now) target table.old.pairs) }
     ensures before { IfOk result (λ r. r.0 ≡ option_map (λ e. e.1) (longest_match probe.now table.old.pairs)) }
     ensures after { IfOk result (λ r. r.1 ≡ option_map (λ e. e.1) (longest_match probe.now table.new.pairs)) }
-    ensures longest { OnOk result (begins (K.bytes prefix.now) probe.now ≡ true → HasNoLonger (K.bytes prefix.now) probe.now table.old.pairs → longest_match probe.now table.new.pairs ≡ Some (K.bytes prefix.now, target)) }
-    ensures longer_stays { OnOk result (HasLonger (K.bytes prefix.now) probe.now table.old.pairs → longest_match probe.now table.new.pairs ≡ longest_match probe.now table.old.pairs) }
-    ensures others_stay { OnOk result (begins (K.bytes prefix.now) probe.now ≡ false → longest_match probe.now table.new.pairs ≡ longest_match probe.now table.old.pairs) }
+    ensures longest { OnOk result (TakesLongest (K.bytes prefix.now) target probe.now table.old.pairs table.new.pairs) }
+    ensures longer_stays { OnOk result (HasLonger (K.bytes prefix.now) probe.now table.old.pairs → KeepsLongest probe.now table.old.pairs table.new.pairs) }
+    ensures others_stay { OnOk result (KeepsOthers (K.bytes prefix.now) probe.now table.old.pairs table.new.pairs) }
     ensures refused { IfErr result (TellsWhy table.old.pairs (K.bytes prefix.now) target) }
     ensures unchanged { OnErr result (table.new ≡ table.old) }
 {
@@ -45,7 +44,7 @@ pub fn withdraw_then_route<K: KeyTrait, T: Copy>(
     ensures pairs { OnOk result (table.new.pairs ≡ without (K.bytes prefix.now) table.old.pairs) }
     ensures before { IfOk result (λ r. r.0 ≡ option_map (λ e. e.1) (longest_match probe.now table.old.pairs)) }
     ensures after { IfOk result (λ r. r.1 ≡ option_map (λ e. e.1) (longest_match probe.now table.new.pairs)) }
-    ensures others_stay { OnOk result (begins (K.bytes prefix.now) probe.now ≡ false → longest_match probe.now table.new.pairs ≡ longest_match probe.now table.old.pairs) }
+    ensures others_stay { OnOk result (KeepsOthers (K.bytes prefix.now) probe.now table.old.pairs table.new.pairs) }
     ensures refused { IfErr result (MayKeep table.old.pairs (K.bytes prefix.now)) }
     ensures unchanged { OnErr result (table.new ≡ table.old) }
 {

@@ -20,6 +20,7 @@ use std::alloc::Global;
 use std::marker::PhantomData;
 
 mod keys;
+mod migrate;
 mod read;
 
 use keys::{keys_by_index, keys_in_slice, longest_of};

@@ -2,7 +2,7 @@
 //! the numbers, and keys of texts in the order of the texts.
 //!
 //! Where a call speaks of keys of numbers or texts, it makes them and gives them back.
-ghost use Rattle.std.specs.Prelude.{◌≡◌, ◌+◌, ◌≤◌, ◌↔◌, ◌++◌, ◌∷◌, [], length, IsTrue};
+ghost use Rattle.std.specs.Prelude.{◌≡◌, ◌+◌, ◌≤◌, ◌↔◌, ◌++◌, ◌∷◌, [], ℕ, List, length, IsTrue};
 ghost use Rattle.std.specs.Cmp.Lexicographic.{slice_cmp};
 ghost use Rattle.std.specs.Int.{w8, w16, w32, w64, w128, to_be_bytes};
 ghost use Rattle.std.specs.Ordering.{nat_cmp, int_cmp};
@@ -28,14 +28,35 @@ pub fn equality_and_order<const N: usize>(
 }
 
 /// The keys of two texts, and how they compare: as the texts do byte by byte, whatever bytes they
-/// have. Asks room for both and their closing zeros.
+/// have. Asks room for both.
 pub fn compared_text_keys<const N: usize>(x: &str, y: &str) -> (ArrayKey<N>, ArrayKey<N>, Ordering)
+    requires first_fits { length x.now ≤ N }
+    requires second_fits { length y.now ≤ N }
+    ensures { AreComparedAs result x.now y.now (slice_cmp nat_cmp x.now y.now) }
+{
+    compared(ArrayKey::new_from_str(x), ArrayKey::new_from_str(y))
+}
+
+/// The keys of two texts with closing zeros, and how they compare: as the texts do, too. Asks room for
+/// both and their zeros.
+pub fn compared_terminated_keys<const N: usize>(
+    x: &str,
+    y: &str,
+) -> (ArrayKey<N>, ArrayKey<N>, Ordering)
     requires first_fits { length x.now + 1 ≤ N }
     requires second_fits { length y.now + 1 ≤ N }
     ensures { AreComparedAs result (x.now ++ 0 ∷ []) (y.now ++ 0 ∷ []) (slice_cmp nat_cmp x.now y.now) }
 {
-    compared(ArrayKey::new_from_str(x), ArrayKey::new_from_str(y))
+    compared(
+        ArrayKey::new_from_str_terminated(x),
+        ArrayKey::new_from_str_terminated(y),
+    )
 }
+
+/// A zero byte behind both of two strings changes nothing of their order, whatever bytes they have.
+pub fn closing_zeros()
+    ensures { (xs ys : List ℕ) → slice_cmp nat_cmp (xs ++ 0 ∷ []) (ys ++ 0 ∷ []) ≡ slice_cmp nat_cmp xs ys }
+{}
 
 /// The keys of two `u8`, and how they compare: as the numbers do. Asks room for one byte.
 pub fn compared_u8_keys<const N: usize>(x: u8, y: u8) -> (ArrayKey<N>, ArrayKey<N>, Ordering)

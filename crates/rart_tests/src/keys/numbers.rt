@@ -61,7 +61,10 @@ fn the_first_eight_bytes_of_a_key_are_read_as_a_number(rt: HostRuntime) {
 #[test]
 fn keys_of_texts_and_numbers_are_in_their_order(rt: HostRuntime) {
     let (zero, _, order) = key_order::compared_text_keys::<4>("\0", "");
-    assert_eq!(rt; zero.as_slice(), b"\0\0".as_slice());
+    assert_eq!(rt; zero.as_slice(), b"\0".as_slice());
+    assert_eq!(rt; order, Ordering::Greater);
+    let (closed, _, order) = key_order::compared_terminated_keys::<4>("\0", "");
+    assert_eq!(rt; closed.as_slice(), b"\0\0".as_slice());
     assert_eq!(rt; order, Ordering::Greater);
     let orders = [
         key_order::compared_u8_keys::<16>(1, 0x80).2,

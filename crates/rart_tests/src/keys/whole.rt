@@ -61,18 +61,31 @@ fn a_key_is_taken_apart_and_joined(rt: HostRuntime) {
 }
 
 #[test]
-fn a_text_key_ends_in_a_zero_byte(rt: HostRuntime) -> Result<(), Fail> {
-    let want = [0x68, 0x65, 0x6c, 0x6c, 0x6f, 0x00];
-    let key = ArrayKey::<6>::new_from_str("hello");
+fn a_text_key_has_the_bytes_of_the_text(rt: HostRuntime) -> Result<(), Fail> {
+    let want = [0x68, 0x65, 0x6c, 0x6c, 0x6f];
+    let key = ArrayKey::<5>::new_from_str("hello");
     assert_eq!(rt; key.as_slice(), want.as_slice());
     let roomy = ArrayKey::<16>::new_from_str("hello");
     assert_eq!(rt; roomy.as_ref(), want.as_slice());
     let text = String::from_str(rt.alloc(), "hello")?;
     assert_eq!(rt; text.len(), 5);
-    assert!(rt; ArrayKey::<6>::new_from_string(&text) == key);
-    assert!(rt; ArrayKey::<6>::new_from_array(want) == key);
-    assert_eq!(rt; ArrayKey::<1>::new_from_str("").as_slice(), [0].as_slice());
+    assert!(rt; ArrayKey::<5>::new_from_string(&text) == key);
+    assert!(rt; ArrayKey::<5>::new_from_array(want) == key);
+    assert!(rt; ArrayKey::<0>::new_from_str("").as_slice().is_empty());
     Ok(())
+}
+
+#[test]
+fn a_terminated_key_ends_in_a_zero_byte(rt: HostRuntime) {
+    let want = [0x68, 0x65, 0x6c, 0x6c, 0x6f, 0x00];
+    let key = ArrayKey::<6>::new_from_str_terminated("hello");
+    assert_eq!(rt; key.as_slice(), want.as_slice());
+    let roomy = ArrayKey::<16>::new_from_str_terminated("hello");
+    assert_eq!(rt; roomy.as_ref(), want.as_slice());
+    assert_eq!(rt;
+        ArrayKey::<1>::new_from_str_terminated("").as_slice(),
+        [0].as_slice()
+    );
 }
 
 // Through the traits alone.

@@ -2,7 +2,7 @@
 
 use crate::play::went_well;
 use crate::refusals::{part_ends, refuse, was_refused};
-use rart::{AdaptiveRadixTree, ArrayKey, KeyTrait, LendingKeyView, TreeError};
+use rart::{AdaptiveRadixTree, ArrayKey, KeyTrait, LendingKeyView, TreeError, TreeStatsTrait};
 use std::alloc::Global;
 use std::process::Abort;
 
@@ -175,9 +175,9 @@ fn plays(rt: &impl Abort, alloc: Global, rows: &[Row]) -> Option<usize> {
 
 const BEGINNINGS: [Pair; 2] = [("", 1), ("b", 2)];
 
-const WORDS: [Pair; 3] = [("ab\0", 1), ("abc\0", 2), ("dog\0", 3)];
+const WORDS: [Pair; 3] = [("ab", 1), ("abc", 2), ("dog", 3)];
 
-const OTHER_WORDS: [Pair; 3] = [("abc\0", 20), ("dog\0", 30), ("zzz\0", 40)];
+const OTHER_WORDS: [Pair; 3] = [("abc", 20), ("dog", 30), ("zzz", 40)];
 
 const ROWS: [Row; 9] = [
     (&[], &[], &[]),
@@ -193,11 +193,11 @@ const ROWS: [Row; 9] = [
         &[("abcd", 2, 4)],
     ),
     (&[("a", 1)], &[("b", 2)], &[]),
-    (&WORDS, &OTHER_WORDS, &[("abc\0", 2, 20), ("dog\0", 3, 30)]),
+    (&WORDS, &OTHER_WORDS, &[("abc", 2, 20), ("dog", 3, 30)]),
     (
         &WORDS,
         &WORDS,
-        &[("ab\0", 1, 1), ("abc\0", 2, 2), ("dog\0", 3, 3)],
+        &[("ab", 1, 1), ("abc", 2, 2), ("dog", 3, 3)],
     ),
     // each key of one tree begins keys of the other
     (
@@ -262,7 +262,15 @@ fn is_cut_so(left: &Tree, right: &Tree, wanted: &[&[&str]]) -> bool {
     answer.is_ok() && cuts.well && cuts.many == wanted.len()
 }
 
-const CUT_WORDS: [&[&str]; 2] = [&["ab", "c", "\0"], &["dog\0"]];
+const CUT_WORDS: [&[&str]; 2] = [&["ab", "c"], &["dog"]];
+
+// How many nodes stand.
+fn count_nodes(tree: &Tree) -> Option<usize> {
+    match tree.get_tree_stats() {
+        Ok(stats) => Some(stats.num_leaves.wrapping_add(stats.num_inner_nodes)),
+        Err(_) => None,
+    }
+}
 
 #[test]
 fn a_view_is_cut_where_prefixes_part_and_at_the_byte_behind(rt: HostRuntime) {
@@ -270,6 +278,7 @@ fn a_view_is_cut_where_prefixes_part_and_at_the_byte_behind(rt: HostRuntime) {
     let others = filled(&rt, rt.alloc(), &OTHER_WORDS);
     assert!(rt; is_cut_so(&words, &others, &CUT_WORDS));
     assert!(rt; is_cut_so(&others, &words, &CUT_WORDS));
+    assert!(rt; count_nodes(&words) == Some(4) && count_nodes(&others) == Some(4));
 }
 
 // A node with a child at each byte from the first on, at every step to below the last.

@@ -119,11 +119,11 @@ const OF_PARTED: [Row; 15] = [
     (In("c"), Open, &[]),
 ];
 
-const FRUIT: [Pair; 3] = [("apple\0", 1), ("banana\0", 2), ("cherry\0", 3)];
+const FRUIT: [Pair; 3] = [("apple", 1), ("banana", 2), ("cherry", 3)];
 
 const OF_FRUIT: [Row; 2] = [
-    (In("a\0"), Out("b\0"), &[("apple\0", 1)]),
-    (In("b\0"), Out("d\0"), &[("banana\0", 2), ("cherry\0", 3)]),
+    (In("a"), Out("b"), &[("apple", 1)]),
+    (In("b"), Out("d"), &[("banana", 2), ("cherry", 3)]),
 ];
 
 #[test]

@@ -54,7 +54,44 @@ fn texts_removed_among_others(rt: HostRuntime) {
     went_well(&rt, plays_texts::<ArrayKey<16>>(rt.alloc(), &AMONG_OTHERS));
 }
 
+const WORDS: [Row<'static>; 6] = [
+    (Ask::Insert("cat", 1), Want::None),
+    (Ask::Insert("catalog", 2), Want::None),
+    (
+        Ask::Prefix("cat"),
+        Want::Pairs(&[("cat", 1), ("catalog", 2)]),
+    ),
+    (Ask::Longest("cats"), Want::Pair("cat", 1)),
+    // a text of full width
+    (Ask::Insert("catalogue_no_001", 3), Want::None),
+    (Ask::Len, Want::Len(3)),
+];
+
+#[test]
+fn a_text_begins_the_texts_that_go_on(rt: HostRuntime) {
+    went_well(&rt, plays_texts::<ArrayKey<16>>(rt.alloc(), &WORDS));
+}
+
 type Key = ArrayKey<16>;
+
+// How many keys a walk below the prefix gives.
+fn count_below(tree: &AdaptiveRadixTree<Key, u64>, prefix: &Key) -> Option<usize> {
+    tree.prefix_values_fold_k(prefix, 0_usize, |count, _value| count.wrapping_add(1))
+        .ok()
+}
+
+#[test]
+fn a_terminated_text_begins_no_other(rt: HostRuntime) {
+    let mut tree = AdaptiveRadixTree::<Key, u64>::new(rt.alloc());
+    let cat = Key::new_from_str_terminated("cat");
+    let stored = tree.insert_k(&cat, 1).is_ok()
+        && tree
+            .insert_k(&Key::new_from_str_terminated("catalog"), 2)
+            .is_ok();
+    assert!(rt; stored);
+    assert!(rt; count_below(&tree, &cat) == Some(1));
+    assert!(rt; count_below(&tree, &Key::new_from_str("cat")) == Some(2));
+}
 
 // The keys are put in with their values, each is found, and a walk gives them in this order.
 fn are_walked(rt: &impl Abort, alloc: Global, put: &[(Key, u64)], walked: &[(Key, u64)]) {

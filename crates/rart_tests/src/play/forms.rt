@@ -20,7 +20,7 @@ fn key_of_bytes<K: KeyTrait>(bytes: &[u8]) -> Option<K> {
 pub fn key<K: KeyTrait>(text: &str, spelling: Spelling) -> Option<K> {
     match spelling {
         Spelling::Bytes => key_of_bytes(text.as_bytes()),
-        Spelling::Text if text.len() < 16 => {
+        Spelling::Text if text.len() <= 16 => {
             key_of_bytes(ArrayKey::<16>::new_from_str(text).as_slice())
         }
         Spelling::Text => None,

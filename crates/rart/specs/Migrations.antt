@@ -1,0 +1,27 @@
+-- What becomes of text keys that lose their closing zeros.
+use Rattle.std.specs.Prelude.{◌≡◌, ◌≢◌, ℕ, List, [], ◌∷◌, ◌++◌, length, map}
+use Rattle.rart_keys.specs.SortedMap.{keys_of}
+use Rattle.rart.specs.declared.migrate.MigrateError.{MigrateError}
+use Rattle.rart.specs.declared.migrate.MigrateError.TheVariants.{Memory, NotText}
+
+-- a key with a zero byte behind it
+abbrev pub terminated : List ℕ → List ℕ
+terminated k = k ++ 0 ∷ []
+
+-- pairs with a zero byte behind each key
+abbrev pub with_zeros : {V : Type 0} → List (List ℕ × V) → List (List ℕ × V)
+with_zeros es = map (λ e. (terminated e.0, e.1)) es
+
+-- the key at this place is the first that doesn't end in a zero byte
+pub record IsFirstUnterminated (keys : List (List ℕ)) (place : ℕ) : Type 0 where
+  pub texts : List (List ℕ)
+  pub key : List ℕ
+  pub behind : List (List ℕ)
+  pub split : keys ≡ map terminated texts ++ key ∷ behind
+  pub many : place ≡ length texts
+  pub no_text : (text : List ℕ) → key ≢ terminated text
+
+-- why keys couldn't lose their closing zeros
+abbrev pub StopsMigration : {V : Type 0} → List (List ℕ × V) → MigrateError → Type 0
+StopsMigration es Memory = es ≢ []
+StopsMigration es (NotText at) = IsFirstUnterminated (keys_of es) at

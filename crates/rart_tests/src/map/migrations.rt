@@ -1,0 +1,181 @@
+//! Trees of keys that end in a zero byte, brought over to keys without it; also with each request for memory refused in turn.
+
+use crate::play::replies::is_counted;
+use crate::refusals::{part_ends, refuse, was_refused};
+use rart::{AdaptiveRadixTree, ArrayKey, KeyTrait, MigrateError, TreeStatsTrait};
+use std::alloc::Global;
+use std::process::Abort;
+use std::test::Fail;
+
+type Key = ArrayKey<16>;
+
+type Tree = AdaptiveRadixTree<Key, u64>;
+
+// The keys of a tree, ascending, with the values 0, 1 and so on; and those of the tree without closing zeros, or why there is none.
+type Row = (
+    &'static [&'static str],
+    Result<&'static [&'static str], MigrateError>,
+);
+
+const ROWS: [Row; 8] = [
+    (&[], Ok(&[])),
+    (&["cat\0", "catalog\0"], Ok(&["cat", "catalog"])),
+    (&["\0", "\0\0", "a\0", "a\0\0"], Ok(&["", "\0", "a", "a\0"])),
+    (&["fifteen letters\0"], Ok(&["fifteen letters"])),
+    (&["a\0", "b", "c"], Err(MigrateError::NotText { at: 1 })),
+    (&[""], Err(MigrateError::NotText { at: 0 })),
+    (&["a", "b\0"], Err(MigrateError::NotText { at: 0 })),
+    (
+        &["a\0", "b\0", "b\0c"],
+        Err(MigrateError::NotText { at: 2 }),
+    ),
+];
+
+// The key of a text of at most 16 bytes.
+fn key(text: &str) -> Key {
+    let bytes = text.as_bytes();
+    if bytes.len() <= 16 {
+        Key::new_from_slice(bytes)
+    } else {
+        Key::new_from_slice(&[])
+    }
+}
+
+fn filled(rt: &impl Abort, alloc: Global, texts: &[&str]) -> Tree {
+    let mut tree = Tree::new(alloc);
+    let mut value = 0_u64;
+    for text in texts {
+        assert!(rt; matches!(tree.insert(key(text), value), Ok(None)));
+        value = value.wrapping_add(1);
+    }
+    tree
+}
+
+// Whether these are the keys, with the values 0, 1 and so on.
+fn holds(tree: &Tree, texts: &[&str]) -> bool {
+    let mut value = 0_u64;
+    for text in texts {
+        if tree.get_k(&key(text)) != Some(&value) {
+            return false;
+        }
+        value = value.wrapping_add(1);
+    }
+    tree.len() == texts.len()
+}
+
+// What comes of the tree is the wanted, and the tree stays.
+fn goes_well(old: &Tree, row: &Row) -> bool {
+    let well = match (Tree::drop_closing_zeros(old), row.1) {
+        (Ok(tree), Ok(texts)) => holds(&tree, texts),
+        (Err(error), Err(wanted)) => error == wanted,
+        _ => false,
+    };
+    well && holds(old, row.0)
+}
+
+#[test]
+fn keys_lose_their_closing_zeros_or_the_first_without_is_told(rt: HostRuntime) {
+    for row in &ROWS {
+        let old = filled(&rt, rt.alloc(), row.0);
+        assert!(rt; goes_well(&old, row), "{} keys", row.0.len());
+    }
+}
+
+fn has_counts(tree: &Tree, counts: &[usize; 4], widths: &[(usize, usize, usize)]) -> bool {
+    match tree.get_tree_stats() {
+        Ok(stats) => is_counted(&stats, counts, widths),
+        Err(_refused) => false,
+    }
+}
+
+fn is_brought_over(old: &Tree) -> bool {
+    match Tree::drop_closing_zeros(old) {
+        Ok(tree) => {
+            has_counts(&tree, &[1, 2, 1, 2], &[(4, 1, 1)])
+                && tree.get_k(&Key::new_from_str("cat")) == Some(&1)
+                && tree.get_k(&Key::new_from_str("catalog")) == Some(&2)
+        }
+        Err(_error) => false,
+    }
+}
+
+#[test]
+fn terminated_texts_become_texts_that_begin_one_another(rt: HostRuntime) {
+    let mut old = Tree::new(rt.alloc());
+    let (one, other) = (
+        old.insert_k(&Key::new_from_str_terminated("cat"), 1),
+        old.insert_k(&Key::new_from_str_terminated("catalog"), 2),
+    );
+    assert!(rt; matches!((one, other), (Ok(None), Ok(None))));
+    assert!(rt; has_counts(&old, &[2, 2, 1, 2], &[(4, 1, 2)]));
+    assert!(rt; is_brought_over(&old));
+}
+
+const LETTERS: [&str; 7] = ["a\0", "b\0", "c\0", "d\0", "e\0", "ea\0", "eb\0"];
+
+const OPEN: [&str; 3] = ["a\0", "b", "c\0"];
+
+// A refused migration says `Memory`, and one that meets no refusal gives the whole tree; whether a request was refused.
+fn is_refused_well(alloc: Global, old: &Tree, at: usize) -> Option<bool> {
+    refuse(alloc, at);
+    let made = Tree::drop_closing_zeros(old);
+    let refused = was_refused(alloc);
+    let well = match made {
+        Ok(tree) => !refused && holds(&tree, &["a", "b", "c", "d", "e", "ea", "eb"]),
+        Err(error) => refused && error == MigrateError::Memory,
+    };
+    if well && holds(old, &LETTERS) {
+        Some(refused)
+    } else {
+        None
+    }
+}
+
+// The same where a key doesn't end in zero: it is told wherever the walk had its room.
+fn open_is_refused_well(alloc: Global, old: &Tree, at: usize) -> Option<bool> {
+    refuse(alloc, at);
+    let made = Tree::drop_closing_zeros(old);
+    let refused = was_refused(alloc);
+    let well = match made {
+        Ok(_tree) => false,
+        Err(MigrateError::Memory) => refused,
+        Err(error) => !refused && error == MigrateError::NotText { at: 1 },
+    };
+    if well && holds(old, &OPEN) {
+        Some(refused)
+    } else {
+        None
+    }
+}
+
+#[test]
+fn migrations_refused_in_turn(rt: HostRuntime) {
+    let alloc = rt.alloc();
+    let (old, open) = (filled(&rt, alloc, &LETTERS), filled(&rt, alloc, &OPEN));
+    for at in 1..24_usize {
+        assert!(rt; is_refused_well(alloc, &old, at).is_some(), "request {at}");
+    }
+    assert!(rt; is_refused_well(alloc, &old, 24) == Some(false));
+    part_ends(alloc);
+    for at in 1..8_usize {
+        assert!(rt;
+            open_is_refused_well(alloc, &open, at).is_some(),
+            "request {at}"
+        );
+    }
+    assert!(rt; open_is_refused_well(alloc, &open, 8) == Some(false));
+}
+
+#[test]
+fn errors_of_migrations_say_what_was_refused(rt: HostRuntime) -> Result<(), Fail> {
+    let alloc = rt.alloc();
+    assert_eq!(rt;
+        format!(in alloc; "{}", MigrateError::Memory)?.as_str(),
+        "out of memory"
+    );
+    assert_eq!(rt;
+        format!(in alloc; "{}", MigrateError::NotText { at: 3 })?.as_str(),
+        "key 3 has no closing zero"
+    );
+    Ok(())
+}
