@@ -1,8 +1,9 @@
 -- What a bulk load reads, and where it stops.
 use Rattle.std.specs.Prelude.{◌≡◌, ◌≢◌, ◌+◌, ◌-◌, ◌^◌, ◌<◌, ◌≤◌, min, ℕ, List, [], ◌∷◌, ◌++◌, length, Option, None, Some, Result, IfErr, OnOk, slice_index_or}
-use Rattle.std.specs.Iterator.{Yields, Drains}
+use Rattle.std.specs.Iterator.{Yields, Drains, HoldsAlong}
 use Rattle.rart_keys.specs.BulkLists.{WasRead, first_fault, last_wins}
-use Rattle.rart_keys.specs.SortedMap.{keys_of, values_of}
+use Rattle.rart_keys.specs.SortedMap.{IsAscending, keys_of, values_of}
+use Rattle.rart.specs.Steps.{pairs_in}
 use Rattle.rart.specs.declared.bulk.BulkError.{BulkError}
 use Rattle.rart.specs.declared.bulk.BulkError.TheVariants.{Memory, Full, Unsorted}
 use Rattle.rart.specs.declared.tree.TheConstants.{MAX_PAIRS}
@@ -15,6 +16,10 @@ module _ {U S A : Type 0} (becomes : U → S → Type 0) (steps : S → Option A
   -- P holds of the items, which were read to the end
   abbrev pub ReadsAll : U → (List A → Type 0) → Type 0
   ReadsAll items P = (s : S) × (xs : List A) × becomes items s × Drains steps s xs × P xs
+
+-- whatever is read from s on, the keys ascend strictly
+abbrev pub AscendAlong : {K S V : Type 0} → (K → List ℕ) → (S → Option (K × V) → S → Type 0) → S → Type 0
+AscendAlong bytes steps s = HoldsAlong steps s (λ xs. IsAscending (pairs_in bytes xs))
 
 -- P holds of the list without its last
 abbrev pub BeforeLast : {A : Type 0} → (List A → Type 0) → List A → Type 0

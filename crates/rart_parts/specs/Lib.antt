@@ -6,6 +6,7 @@ pub mod EntryShapes
 pub mod Indexed
 pub mod Keyed
 pub mod Keys
+pub mod Loans
 pub mod Places
 pub mod SortedKeyed
 pub mod formers

@@ -1,5 +1,5 @@
 -- Which lines a script runs.
-use Rattle.std.specs.Prelude.{◌≡◌, ℕ, zero, suc, ◌+◌, Bool, not, List, [], ◌++◌, length, slice_index_or, Option, Some, ⊤, position}
+use Rattle.std.specs.Prelude.{◌≡◌, ℕ, zero, suc, ◌+◌, Bool, not, List, [], ◌++◌, length, slice_index_or, Option, Some, ⊤, Result, MatchResult, position}
 use Rattle.std.specs.Io.KnownBytes.{Appends}
 use Rattle.std.specs.Option.{option_map, is_some}
 use Rattle.rart_script.specs.Answers.{PrintsReply}
@@ -53,3 +53,11 @@ abbrev pub PrintsUpTo : List ℕ → Option (List ℕ) → Option (List ℕ) →
 PrintsUpTo text old new (BadCommand line) = (n : ℕ) × ((line ≡ n + 1) × PrintsFirst text old new n)
 PrintsUpTo text old new CannotRead = ⊤
 PrintsUpTo text old new CannotWrite = ⊤
+
+-- a run that ended so printed all, or what comes before its end
+abbrev pub Prints : List ℕ → Result Unit Stop → Option (List ℕ) → Option (List ℕ) → Type 0
+Prints text result old new = MatchResult result (λ _. PrintsAll text old new) (PrintsUpTo text old new)
+
+-- a line is malformed, and an output grew by what the lines before it print
+abbrev pub PrintsToBad : List ℕ → Option (List ℕ) → Option (List ℕ) → Type 0
+PrintsToBad text old new = (n : ℕ) × ((bad_line text ≡ Some (n + 1)) × PrintsFirst text old new n)

@@ -2,7 +2,7 @@
 ghost use Rattle.std.specs.Prelude.{◌≡◌, ◌≢◌, ◌≤◌, ◌+◌, ℕ, List, None, Some, IfSome, IsSomeAnd, IfOk, IfErr, OnOk, MatchResult};
 ghost use Rattle.std.specs.Io.KnownBytes.{Appends};
 ghost use Rattle.rart_script.specs.Answers.{PrintsReply};
-ghost use Rattle.rart_script.specs.Script.{bad_line, PrintsAll, PrintsFirst, PrintsUpTo, StopsAt};
+ghost use Rattle.rart_script.specs.Script.{Prints, PrintsAll, PrintsToBad, StopsAt, bad_line};
 ghost use Rattle.rart_script.specs.Stop.{IsSaid};
 
 use crate::answers::write_reply;
@@ -29,7 +29,7 @@ pub fn run_lines<R: Read, W: Write, E: Write>(
     // With status 0 all lines were run, and their answers were printed.
     ensures answers { result ≡ 0 → IfSome (R.remaining input.old) (λ text. PrintsAll text (W.contents output.old) (W.contents output.new)) }
     // With status 2 those before the malformed line were.
-    ensures earlier_answers { result ≡ 2 → IfSome (R.remaining input.old) (λ text. (n : ℕ) × ((bad_line text ≡ Some (n + 1)) × PrintsFirst text (W.contents output.old) (W.contents output.new) n)) }
+    ensures earlier_answers { result ≡ 2 → IfSome (R.remaining input.old) (λ text. PrintsToBad text (W.contents output.old) (W.contents output.new)) }
     // What the status says of an input whose bytes are known.
     ensures done { result ≡ 0 → IfSome (R.remaining input.old) (λ text. bad_line text ≡ None) }
     ensures bad { result ≡ 2 → IfSome (R.remaining input.old) (λ text. IsSomeAnd (bad_line text)
@@ -54,7 +54,7 @@ fn say<E: Write>(stop: Stop, errors: &mut E) -> io::Result<()>
 
 fn run<R: Read, W: Write>(alloc: Global, input: &mut R, output: &mut W) -> Result<(), Stop>
     ensures stops { IfSome (R.remaining input.old) (λ text. MatchResult result (λ _. bad_line text ≡ None) (StopsAt text)) }
-    ensures answers { IfSome (R.remaining input.old) (λ text. MatchResult result (λ _. PrintsAll text (W.contents output.old) (W.contents output.new)) (PrintsUpTo text (W.contents output.old) (W.contents output.new))) }
+    ensures answers { IfSome (R.remaining input.old) (λ text. Prints text result (W.contents output.old) (W.contents output.new)) }
 {
     let text = read_all(alloc, input)?;
     let ended = run_text(alloc, text.as_slice(), output);
@@ -79,7 +79,7 @@ fn read_all<R: Read>(alloc: Global, input: &mut R) -> Result<Vec<u8>, Stop>
 /// Runs the lines of a text on a tree of their own, up to the first that is no command.
 fn run_text<W: Write>(alloc: Global, text: &[u8], output: &mut W) -> Result<(), Stop>
     ensures lines { MatchResult result (λ _. bad_line text.now ≡ None) (StopsAt text.now) }
-    ensures answers { MatchResult result (λ _. PrintsAll text.now (W.contents output.old) (W.contents output.new)) (PrintsUpTo text.now (W.contents output.old) (W.contents output.new)) }
+    ensures answers { Prints text.now result (W.contents output.old) (W.contents output.new) }
     ensures has_read { IfErr result (λ stop. stop ≢ Stop.CannotRead) }
 {
     let mut tree = Tree::new(alloc);

@@ -1,6 +1,6 @@
 //! Bulk loads: trees built bottom up from items that ascend, each node made once.
 ghost use Rattle.std.specs.Prelude.{◌≡◌, ◌<◌, ◌≤◌, ◌∷◌, List, length, map, IfErr, IfOk, OnErr, OnOk};
-ghost use Rattle.std.specs.Iterator.{HoldsAlong, IsFinite};
+ghost use Rattle.std.specs.Iterator.{IsFinite};
 ghost use Rattle.std.specs.Vec.Iter.{into_iter_items};
 ghost use Rattle.rart_keys.specs.ByteStrings.{IsBelow};
 ghost use Rattle.rart_keys.specs.SortedMap.{IsAscending, keys_of, values_of};
@@ -8,7 +8,7 @@ ghost use Rattle.rart_nodes.specs.build.Stretches.{AreWithin};
 ghost use Rattle.rart_nodes.specs.build.ValueCalls.{CanTake, Takes};
 ghost use Rattle.rart_nodes.specs.shapes.Shape.{HasShape};
 ghost use Rattle.rart_nodes.specs.shapes.ShapeRecords.{keys_in, lone_keys};
-ghost use Rattle.rart.specs.BulkLoads.{AreKeysAt, LoadsSorted, Reads, ReadsAll, StopsByIndex, StopsSorted, StopsUnique};
+ghost use Rattle.rart.specs.BulkLoads.{AreKeysAt, AscendAlong, LoadsSorted, Reads, ReadsAll, StopsByIndex, StopsSorted, StopsUnique};
 ghost use Rattle.rart.specs.Steps.{pairs_in};
 
 use crate::bulk::BulkError;
@@ -59,7 +59,7 @@ impl<K: KeyTrait, V: Drop> AdaptiveRadixTree<K, V> {
     ) -> Result<Self, BulkError>
     where
         K: Drop,
-        requires { (s : I.IntoIter) → I.into_iter_gives items s → I.IntoIter.can_next s × IsFinite (I.IntoIter.remaining s) × HoldsAlong I.IntoIter.next_gives s (λ xs. IsAscending (pairs_in K.bytes xs)) }
+        requires { (s : I.IntoIter) → I.into_iter_gives items s → I.IntoIter.can_next s × IsFinite (I.IntoIter.remaining s) × AscendAlong K.bytes I.IntoIter.next_gives s }
         ensures pairs { IfOk result (λ tree. ReadsAll I.into_iter_gives I.IntoIter.next_gives items (λ xs. tree.pairs ≡ pairs_in K.bytes xs)) }
         ensures shape { IfOk result (λ tree. HasShape (keys_of tree.pairs) tree.nodes) }
         ensures refused { IfErr result (λ error. Reads I.into_iter_gives I.IntoIter.next_gives items (λ xs. StopsUnique (pairs_in K.bytes xs) error)) }

@@ -246,15 +246,15 @@ impl<X, const RANGE_WIDTH: usize, B: BitsetTrait> BitArray<X, RANGE_WIDTH, B> {
 }
 
 impl<X, const RANGE_WIDTH: usize, B: BitsetTrait> BitArray<X, RANGE_WIDTH, B> {
-    ghost use Rattle.std.specs.Prelude.{◌≡◌, ◌<◌, OnSome, Some, None, slice_index_or, slice_set};
+    ghost use Rattle.std.specs.Prelude.{◌≡◌, ◌<◌, None, slice_index_or};
     ghost use Rattle.std.specs.Option.{option_copied_mut};
-    ghost use Rattle.std.specs.Borrow.{sem, LendsSo};
-    ghost use Rattle.rart_parts.specs.contracts.utils.bitarray.BitArray.{the_row};
+    ghost use Rattle.std.specs.Borrow.{sem};
+    ghost use Rattle.rart_parts.specs.Loans.{lends_place};
 
     /// The value at a place, to be changed.
     pub fn get_mut(&mut self, position: usize) -> Option<&mut X>
         requires { position < RANGE_WIDTH }
-        ensures* writes_back { sem 𝓛 (LendsSo (the_row X.row RANGE_WIDTH.row B.row (record { BIT_SHIFT = B.BIT_SHIFT; STORAGE_BIT_WIDTH = B.STORAGE_BIT_WIDTH; STORAGE_WORDS = B.STORAGE_WORDS; CAPACITY = B.CAPACITY; has = B.has }) (record { is_default = B.is_default })) X.row self.entry result (λ n w. OnSome result (n ≡ slice_set self.old position (Some w))) (λ n. n ≡ self.old)) }
+        ensures* writes_back { sem 𝓛 (lends_place X.row RANGE_WIDTH.row B.row B.BitsetTrait self.entry position result) }
         ensures value { option_copied_mut result ≡ slice_index_or self.old position None }
     {
         if self.places[position].is_some() {
