@@ -11,7 +11,7 @@ use Rattle.rart_nodes.specs.declared.slot.SlotUpdate.{SlotUpdate}
 use Rattle.rart_nodes.specs.declared.slot.SlotUpdate.TheVariants.{Keep, Remove, Insert}
 use Rattle.rart_nodes.specs.declared.slot.UpdateError.{UpdateError}
 use Rattle.rart_nodes.specs.declared.slot.UpdateError.TheVariants.{Insert as Not_inserted, Remove as Not_removed}
-use Rattle.rart_nodes.specs.updates.Callbacks.{AnswersSo}
+use Rattle.rart_nodes.specs.updates.Callbacks.{AnswersSo, TellsSo}
 use Rattle.rart_nodes.specs.updates.Slots.{outcome_of, slot_of}
 use Rattle.rart_nodes.specs.updates.Updates.{map_left, map_updated}
 use Rattle.rart_parts.specs.declared.error.TreeError.TheVariants.{Memory}
@@ -60,6 +60,10 @@ IsTryUpdate key a w old result new = ⊥
 -- `update` with the callback f, which was shown what stands at the key
 abbrev pub Updates : {F V : Type 0} → Once F (MutBor (Slot V) × Unit {0}) (SlotUpdate V × (MutBor (Slot V) × Unit {0})) → F → List ℕ → List (List ℕ × V) → Result Bool (UpdateError V) → List (List ℕ × V) → Type 0
 Updates g f key old result new = AnswersSo g f (lookup key old) (λ r w. IsUpdate key r w old result new)
+
+-- the same before it is told whether the key was stored, of a callback that tells something beside
+abbrev pub UpdatesTelling : {F X V : Type 0} → Once F (MutBor (Slot V) × Unit {0}) ((SlotUpdate V × X) × (MutBor (Slot V) × Unit {0})) → F → List ℕ → List (List ℕ × V) → Result (Outcome V) (UpdateError V) × X → List (List ℕ × V) → Type 0
+UpdatesTelling g f key old result new = TellsSo g f (lookup key old) result.1 (λ r w. EndsIn key r w old result.0 new)
 
 -- `try_update` with the callback f, where it was called
 abbrev pub TriesUpdate : {F E V : Type 0} → Once F (MutBor (Slot V) × Unit {0}) (Result (SlotUpdate V) E × (MutBor (Slot V) × Unit {0})) → F → List ℕ → List (List ℕ × V) → Result Bool (TryUpdateError E V) → List (List ℕ × V) → Type 0

@@ -3,11 +3,11 @@
 //! The shape has a record for each string that is a key, or from which the keys go on by two bytes
 //! or more. The functions here are plain and slow: each looks at all keys for all it answers, and
 //! they serve tests.
-ghost use Rattle.std.specs.Prelude.{◌≡◌, ◌↔◌, IfErr, IfOk, IsTrue, MatchOption, None, OnOk, Some};
+ghost use Rattle.std.specs.Prelude.{◌≡◌, ◌↔◌, IfErr, IfOk, IsTrue, None, OnOk, Some};
 ghost use Rattle.rart_keys.specs.ByteStrings.{byte_after};
 ghost use Rattle.rart_keys.specs.SortedMap.{IsAscending, put};
 ghost use Rattle.rart_nodes.specs.shapes.Shape.{HasShape, capacity_of, contains_key, next_bytes, record_at};
-ghost use Rattle.rart_nodes.specs.shapes.ShapeRecords.{keys_in, lone_keys, node_record, put_some, records_of};
+ghost use Rattle.rart_nodes.specs.shapes.ShapeRecords.{IsRecordAt, keys_in, lone_keys, node_record, put_some, records_of};
 
 use rart_parts::TreeError;
 use std::alloc::Global;
@@ -90,7 +90,7 @@ pub fn record_at(
     keys: &[&[u8]],
     path: &[u8],
 ) -> Result<Option<ShapeRecord>, TreeError>
-    ensures record { IfOk result (λ o. MatchOption o (record_at (keys_in keys.now) path.now ≡ None) (λ r. (r.path.items ≡ path.now) × (record_at (keys_in keys.now) path.now ≡ Some (node_record r)))) }
+    ensures record { IfOk result (IsRecordAt (keys_in keys.now) path.now) }
     ensures error { IfErr result (λ e. e ≡ TreeError.Memory) }
 {
     let holds_value = contains_key(keys, path);

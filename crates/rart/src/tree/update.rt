@@ -6,9 +6,9 @@ ghost use Rattle.rart_keys.specs.SortedMap.{keys_of, lookup, put};
 ghost use Rattle.rart_nodes.specs.declared.slot.Slot.TheVariants.{Occupied as Occupied_slot};
 ghost use Rattle.rart_nodes.specs.declared.slot.SlotUpdate.{SlotUpdate};
 ghost use Rattle.rart_nodes.specs.shapes.Shape.{HasShape};
-ghost use Rattle.rart_nodes.specs.updates.Callbacks.{AnswersSo, Stays, StaysTelling, TellsSo};
+ghost use Rattle.rart_nodes.specs.updates.Callbacks.{AnswersSo, Stays, StaysTelling};
 ghost use Rattle.rart_nodes.specs.updates.Slots.{slot_of};
-ghost use Rattle.rart.specs.Updates.{Attempts, EndsIn, IsAttempt, StaysIfOk, TriesUpdate, Updates, touched_in};
+ghost use Rattle.rart.specs.Updates.{Attempts, EndsIn, IsAttempt, StaysIfOk, TriesUpdate, Updates, UpdatesTelling, touched_in};
 ghost use Rattle.rart.specs.declared.tree.update.TryUpdateError.TheVariants.{Clone as Not_cloned};
 
 use crate::tree::{AdaptiveRadixTree, MAX_PAIRS};
@@ -60,7 +60,7 @@ impl<K: KeyTrait, V> AdaptiveRadixTree<K, V> {
     ) -> (Result<Outcome<V>, UpdateError<V>>, X)
         requires callable { FnOnceTakesAtMut F.FnOnce f (slot_of (lookup (K.bytes key.now) self.old.pairs)) }
         requires stays { StaysTelling F.FnOnce f (lookup (K.bytes key.now) self.old.pairs) }
-        ensures update { TellsSo F.FnOnce f (lookup (K.bytes key.now) self.old.pairs) result.1 (λ r w. EndsIn (K.bytes key.now) r w self.old.pairs result.0 self.new.pairs) }
+        ensures update { UpdatesTelling F.FnOnce f (K.bytes key.now) self.old.pairs result self.new.pairs }
         ensures refused { OnErr result.0 (self.new.nodes ≡ self.old.nodes) }
         ensures nodes { keys_of self.new.pairs ≡ keys_of self.old.pairs → self.new.nodes ≡ self.old.nodes }
     {

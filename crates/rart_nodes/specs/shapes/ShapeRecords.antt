@@ -1,8 +1,8 @@
 -- The records that a program keeps of a shape, read as the pairs of the shape.
-use Rattle.std.specs.Prelude.{ℕ, List, map, Option, Some, None}
+use Rattle.std.specs.Prelude.{ℕ, ◌≡◌, List, map, Option, Some, None, MatchOption}
 use Rattle.std.specs.Borrow.{Bor}
 use Rattle.rart_keys.specs.SortedMap.{put}
-use Rattle.rart_nodes.specs.shapes.Shape.{NodeRecord}
+use Rattle.rart_nodes.specs.shapes.Shape.{NodeRecord, record_at}
 use Rattle.rart_nodes.specs.declared.shape.ShapeRecord.{ShapeRecord}
 
 -- the keys that references point to
@@ -24,3 +24,7 @@ records_of rs = map (λ r. (r.path.items, node_record r)) rs
 abbrev pub put_some : List ℕ → Option NodeRecord → List (List ℕ × NodeRecord) → List (List ℕ × NodeRecord)
 put_some p None rs = rs
 put_some p (Some r) rs = put p r rs
+
+-- o is the record of the shape of the keys at p, with its path, or none
+abbrev pub IsRecordAt : List (List ℕ) → List ℕ → Option ShapeRecord → Type 0
+IsRecordAt ks p o = MatchOption o (record_at ks p ≡ None) (λ r. (r.path.items ≡ p) × (record_at ks p ≡ Some (node_record r)))

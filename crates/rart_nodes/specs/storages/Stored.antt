@@ -1,9 +1,9 @@
 -- What a storage holds.
-use Rattle.std.specs.Prelude.{ℕ, ◌≡◌, ◌≢◌, ◌<◌, ◌≤◌, ◌+◌, List, [], length, Option, None, OnSome}
+use Rattle.std.specs.Prelude.{ℕ, ◌≡◌, ◌≢◌, ◌<◌, ◌≤◌, ◌+◌, List, [], length, Option, None, is_some, if◌then◌else◌, OnSome}
 use Rattle.rart_parts.specs.Entries.{ascending, child_at, replaced}
 use Rattle.rart_nodes.specs.declared.node.storage.Storage.{Storage}
 use Rattle.rart_nodes.specs.declared.node.storage.Storage.TheVariants.{Leaf, Four, Sixteen, FortyEight, Full}
-use Rattle.rart_nodes.specs.storages.Widths.{previous_width}
+use Rattle.rart_nodes.specs.storages.Widths.{narrowed, previous_width}
 
 -- the children, each with its edge byte, in the order of the bytes
 abbrev pub stored : {N : Type 0} → Storage N → List (ℕ × N)
@@ -24,6 +24,10 @@ width_of (Full m) = 256
 -- a child stands at b, and without it a smaller storage that has a width takes the rest
 abbrev pub NarrowsStored : {N : Type 0} → ℕ → Storage N → Type 0
 NarrowsStored b s = (child_at b (stored s) ≢ None) × (4 < width_of s) × (length (stored s) ≤ previous_width (width_of s) + 1)
+
+-- the width of a storage that the child at b was taken from, if one stood there, and that has n left
+abbrev pub width_without : {N : Type 0} → ℕ → Storage N → ℕ → ℕ
+width_without b s n = if is_some (child_at b (stored s)) then narrowed n (width_of s) else width_of s
 
 -- a storage of the same width that holds these children, or the same
 abbrev pub StoresSo : {N : Type 0} → Storage N → List (ℕ × N) → Storage N → Type 0

@@ -1,9 +1,10 @@
 -- The values that a descent along a string passes, with the bytes up to each.
-use Rattle.std.specs.Prelude.{ℕ, ◌≡◌, ◌+◌, ◌<◌, ◌≤◌, List, [], ◌∷◌, ◌++◌, length, take, drop, Option, Some, None, option_map}
+use Rattle.std.specs.Prelude.{ℕ, ◌≡◌, ◌+◌, ◌<◌, ◌≤◌, List, [], ◌∷◌, ◌++◌, length, take, drop, Option, Some, None, MatchOption, option_map}
 use Rattle.std.specs.Ordering.{nat_cmp, match_ordering}
 use Rattle.rart_keys.specs.ByteStrings.{strip_prefix}
 use Rattle.rart_keys.specs.declared.partials.Partial.{Ghosts}
 use Rattle.rart_nodes.specs.declared.node.matching.Matching.{Matching}
+use Rattle.rart_nodes.specs.declared.node.seen.Shared.{Shared}
 use Rattle.rart_nodes.specs.tries.Trie.{Trie, node, Children, no_children, child, own_pair, value_of, with_prefix}
 use Rattle.rart_nodes.specs.tries.TrieCode.{node_count}
 use Rattle.rart_nodes.specs.walks.ProbeCount.{tree_entered}
@@ -58,3 +59,7 @@ pub record Passes {V : Type 0} (q : List ℕ) (d : ℕ) (t : Trie V) (d1 : ℕ) 
   pub still : matches_ahead q d (Some t) ≡ pair_at (take d1 q) (value_of t) ++ matches_ahead q d1 o
   pub counted : entered_ahead q d (Some t) ≡ 1 + entered_ahead q d1 o
   pub falls : tree_count o < node_count t
+
+-- at the node t the descent goes on before what r shows, or ends
+abbrev pub PassesTo : {P V C : Type 0} {G : Ghosts P} → List ℕ → ℕ → Trie V → Option (Option (Shared P V C G) × ℕ) → Type 0
+PassesTo q d t r = MatchOption r (PassesNone q d t) (λ e. Passes q d t e.1 (option_map (λ s. s.node.now) e.0))

@@ -1,5 +1,5 @@
 -- How many nodes a look-up enters.
-use Rattle.std.specs.Prelude.{ℕ, ◌+◌, ◌==◌, List, [], ◌∷◌, Option, Some, None, if◌then◌else◌}
+use Rattle.std.specs.Prelude.{ℕ, ◌≡◌, ◌≤◌, ◌+◌, ◌==◌, List, [], ◌∷◌, Option, Some, None, MatchOption, if◌then◌else◌}
 use Rattle.std.specs.Ordering.{nat_cmp, match_ordering}
 use Rattle.std.specs.List.{list_any}
 use Rattle.rart_keys.specs.ByteStrings.{strip_prefix}
@@ -40,3 +40,7 @@ abbrev mutual
 abbrev pub tree_entered : {V : Type 0} → List ℕ → Option (Trie V) → ℕ
 tree_entered k None = 0
 tree_entered k (Some t) = entered_nodes k t
+
+-- where a step gave x the count rose by `most x` at most, and else it stayed
+abbrev pub VisitsAtMost : {A : Type 0} → (A → ℕ) → ℕ → Option A → ℕ → Type 0
+VisitsAtMost most n r n' = MatchOption r (n' ≡ n) (λ x. n' ≤ n + most x)

@@ -8,7 +8,7 @@ ghost use Rattle.rart_keys.specs.Filters.{below};
 ghost use Rattle.rart_keys.specs.Ranges.{pairs_since};
 ghost use Rattle.rart_keys.specs.SortedMap.{count_of, values_of};
 ghost use Rattle.rart_nodes.specs.tries.Tree.{seen_keys, seen_pairs};
-ghost use Rattle.rart_nodes.specs.walks.ProbeCount.{probe_count};
+ghost use Rattle.rart_nodes.specs.walks.ProbeCount.{VisitsAtMost, probe_count};
 
 use crate::count::{Count, Visits};
 pub use crate::node::matching::PrefixMatchIter;
@@ -46,7 +46,7 @@ impl<'a, K: KeyTrait, P: Partial, V, C: Count> KeyTour<'a, K, P, V, C> {
     /// The next pair. Takes no memory.
     pub(crate) fn step(&mut self, counter: &mut C) -> Option<(K, &'a V)>
         ensures pairs { MatchOption result ((self.old ≡ []) × (self.new ≡ [])) (λ p. self.old ≡ (K.bytes p.0, p.1.now) ∷ self.new) }
-        ensures visits { MatchOption result (C.number counter.new ≡ C.number counter.old) (λ p. C.number counter.new ≤ C.number counter.old + length (K.bytes p.0)) }
+        ensures visits { VisitsAtMost (λ p. length (K.bytes p.0)) (C.number counter.old) result (C.number counter.new) }
     {
         let value = self.tour.advance(&mut self.trail, counter)?;
         Some((K::new_from_slice(self.trail.key()), value))
@@ -72,7 +72,7 @@ impl<'a, K: KeyTrait, V, C: Count> SeenIter<'a, K, V, C> {
     /// than the key has bytes; at the end it visits none.
     pub fn next_counted(&mut self, counter: &mut C) -> Option<(K, &'a V)>
         ensures pairs { MatchOption result ((self.old ≡ []) × (self.new ≡ [])) (λ p. self.old ≡ (K.bytes p.0, p.1.now) ∷ self.new) }
-        ensures visits { MatchOption result (C.number counter.new ≡ C.number counter.old) (λ p. C.number counter.new ≤ C.number counter.old + length (K.bytes p.0) + 1) }
+        ensures visits { VisitsAtMost (λ p. length (K.bytes p.0) + 1) (C.number counter.old) result (C.number counter.new) }
     {
         self.pairs.step(counter)
     }

@@ -3,11 +3,11 @@ ghost use Rattle.std.specs.Prelude.{◌≡◌, ◌<◌, ℕ, List};
 ghost use Rattle.std.specs.Borrow.{sem, LendsSo};
 ghost use Rattle.std.specs.Option.{option_copied_mut};
 ghost use Rattle.rart_keys.specs.SortedMap.{lookup};
-ghost use Rattle.rart_nodes.specs.edits.Loan.{EndsLent, LeavesAt};
+ghost use Rattle.rart_nodes.specs.edits.Lends.{lends_below, lends_in};
+ghost use Rattle.rart_nodes.specs.edits.Loan.{EndsLent};
 ghost use Rattle.rart_nodes.specs.tries.Tree.{IsCanonicalTree, tree_pairs};
 ghost use Rattle.rart_nodes.specs.tries.Trie.{Trie, IsCanonical, trie_lookup, trie_put};
 ghost use Rattle.rart_nodes.specs.tries.TrieCode.{node_count};
-ghost use Rattle.rart_nodes.specs.contracts.node.DefaultNode.{the_row};
 
 use crate::node::DefaultNode;
 use crate::node::rest::rest_behind;
@@ -51,7 +51,7 @@ where
     requires ready { (n : Trie V) → IsCanonical n → node_count n < node_count node.old → ⟦<DefaultNode<P, V> as Lends<V>>⟧.ready n }
     requires found { (n : Trie V) (k : List ℕ) → ⟦<DefaultNode<P, V> as Lends<V>>⟧.found n k ≡ trie_lookup k n }
     requires put { (n : Trie V) (k : List ℕ) (w : V) → ⟦<DefaultNode<P, V> as Lends<V>>⟧.put n k w ≡ trie_put k w n }
-    ensures* writes_back { sem 𝓛 (LendsSo (the_row P.row V.row P.Partial) V.row node.entry result (λ n w. EndsLent result (trie_put key.now w node.old) node.old n) (λ n. n ≡ node.old)) }
+    ensures* writes_back { sem 𝓛 (lends_below P.row V.row P.Partial node.entry key.now result) }
     ensures value { option_copied_mut result ≡ trie_lookup key.now node.old }
 {
     let Some(rest) = rest_behind(&node.prefix, key) else {
@@ -70,13 +70,11 @@ where
 }
 
 impl<P: Partial, V> DefaultNode<P, V> {
-    ghost use Rattle.std.specs.contracts.option.Option.{the_row as option_row};
-
     /// Lends the value at `key`. Once the loan is over the tree holds at `key` what
     /// was left there, and is else as it was. Takes no memory.
     pub fn get_mut<'a>(root: &'a mut Option<Self>, key: &[u8]) -> Option<&'a mut V>
         requires canonical { IsCanonicalTree root.old }
-        ensures* writes_back { sem 𝓛 (LendsSo (option_row (the_row P.row V.row P.Partial)) V.row root.entry result (λ t w. LeavesAt key.now w result root.old t) (λ t. t ≡ root.old)) }
+        ensures* writes_back { sem 𝓛 (lends_in P.row V.row P.Partial root.entry key.now result) }
         ensures value { option_copied_mut result ≡ lookup key.now (tree_pairs root.old) }
     {
         match root {

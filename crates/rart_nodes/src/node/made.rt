@@ -1,11 +1,12 @@
 //! Nodes made by hand: empty ones of each kind, and what a caller does with one. They need not be
 //! canonical.
-ghost use Rattle.std.specs.Prelude.{◌≡◌, ◌≢◌, ◌↔◌, length, None, Some, option_map, IfErr, IfOk, IsTrue, OnErr, OnOk, OnSome};
+ghost use Rattle.std.specs.Prelude.{◌≡◌, ◌≢◌, ◌↔◌, [], length, None, Some, option_map, IfErr, IfOk, IsTrue, OnErr, OnOk, OnSome};
 ghost use Rattle.std.specs.Borrow.{sem, LendsSo};
 ghost use Rattle.std.specs.Option.{option_copied, option_copied_mut};
 ghost use Rattle.rart_nodes.specs.edits.ChildChanges.{child_value, with_child_replaced, with_child_value};
 ghost use Rattle.rart_nodes.specs.edits.Deletion.{JoinsWithin, NarrowsWithout, without_child};
 ghost use Rattle.rart_nodes.specs.edits.NodeEdits.{with_child, with_value};
+ghost use Rattle.rart_nodes.specs.storages.Stored.{stored, width_of};
 ghost use Rattle.rart_nodes.specs.tries.Trie.{Trie, node, no_children, leaf, capacity_in, children_in, edges_of, prefix_of, value_of, child_in};
 
 use crate::node::DefaultNode;
@@ -169,17 +170,25 @@ impl<P: Partial, V> Node<P, V> for DefaultNode<P, V> {
 }
 
 impl<P: Partial, V> DefaultNode<P, V> {
+    // A node without value or children over this storage.
+    fn over(prefix: P, storage: Storage<Self>) -> Self
+        requires { stored storage ≡ [] }
+        ensures { result ≡ node (P.bytes prefix) None (width_of storage) no_children }
+    {
+        DefaultNode {
+            prefix,
+            value: None,
+            storage,
+        }
+    }
+
     /// A node without value or children that has storage of width 4; refused where memory is.
     pub fn new_4(alloc: Global, prefix: P) -> Result<Self, TreeError>
         ensures ok { IfOk result (λ n. n ≡ node (P.bytes prefix) None 4 no_children) }
         ensures error { IfErr result (λ e. e ≡ TreeError.Memory) }
     {
         let storage = Storage::new_4(alloc)?;
-        Ok(DefaultNode {
-            prefix,
-            value: None,
-            storage,
-        })
+        Ok(DefaultNode::over(prefix, storage))
     }
 
     /// The same with storage of width 16.
@@ -188,11 +197,7 @@ impl<P: Partial, V> DefaultNode<P, V> {
         ensures error { IfErr result (λ e. e ≡ TreeError.Memory) }
     {
         let storage = Storage::new_16(alloc)?;
-        Ok(DefaultNode {
-            prefix,
-            value: None,
-            storage,
-        })
+        Ok(DefaultNode::over(prefix, storage))
     }
 
     /// The same with storage of width 48.
@@ -201,11 +206,7 @@ impl<P: Partial, V> DefaultNode<P, V> {
         ensures error { IfErr result (λ e. e ≡ TreeError.Memory) }
     {
         let storage = Storage::new_48(alloc)?;
-        Ok(DefaultNode {
-            prefix,
-            value: None,
-            storage,
-        })
+        Ok(DefaultNode::over(prefix, storage))
     }
 
     /// The same with storage of width 256.
@@ -214,10 +215,6 @@ impl<P: Partial, V> DefaultNode<P, V> {
         ensures error { IfErr result (λ e. e ≡ TreeError.Memory) }
     {
         let storage = Storage::new_256(alloc)?;
-        Ok(DefaultNode {
-            prefix,
-            value: None,
-            storage,
-        })
+        Ok(DefaultNode::over(prefix, storage))
     }
 }

@@ -9,7 +9,7 @@ ghost use Rattle.std.specs.Option.{option_copied};
 ghost use Rattle.rart_keys.specs.Filters.{longest_match, matches};
 ghost use Rattle.rart_nodes.specs.tries.Tree.{seen_keys, seen_pairs};
 ghost use Rattle.rart_nodes.specs.walks.Matched.{Matched};
-ghost use Rattle.rart_nodes.specs.walks.Matches.{Passes, PassesNone, entered_left, matches_left};
+ghost use Rattle.rart_nodes.specs.walks.Matches.{PassesTo, entered_left, matches_left};
 ghost use Rattle.rart_nodes.specs.walks.ProbeCount.{probe_count};
 
 use crate::count::{Count, Visits};
@@ -35,7 +35,7 @@ fn pass<'a, P: Partial, V, C>(
     depth: usize,
 ) -> Option<(Option<Shared<'a, P, V, C>>, usize)>
     requires { depth ≤ length probe.now }
-    ensures { MatchOption result (PassesNone probe.now depth at.entry.node.now) (λ r. Passes probe.now depth at.entry.node.now r.1 (option_map (λ s. s.node.now) r.0)) }
+    ensures { PassesTo probe.now depth at.entry.node.now result }
 {
     let rest = rest_behind(at.prefix(), &probe[depth..])?;
     let passed = probe.len() - rest.len();

@@ -111,14 +111,14 @@ impl<N> Storage<N> {
 impl<N> Storage<N> {
     ghost use Rattle.std.specs.Prelude.{◌≡◌};
     ghost use Rattle.std.specs.Option.{option_copied_mut};
-    ghost use Rattle.std.specs.Borrow.{sem, LendsSo};
+    ghost use Rattle.std.specs.Borrow.{sem};
     ghost use Rattle.rart_parts.specs.Entries.{child_at};
-    ghost use Rattle.rart_nodes.specs.storages.Stored.{StoresLent, StoresSame, stored};
-    ghost use Rattle.rart_nodes.specs.contracts.node.storage.Storage.{the_row};
+    ghost use Rattle.rart_nodes.specs.storages.Lends.{lends_child};
+    ghost use Rattle.rart_nodes.specs.storages.Stored.{stored};
 
     /// The child at byte `b`, to be changed.
     pub(crate) fn seek_child_mut(&mut self, b: u8) -> Option<&mut N>
-        ensures* writes_back { sem 𝓛 (LendsSo (the_row N.row) N.row self.entry result (λ s w. StoresLent b w result self.old s) (StoresSame self.old)) }
+        ensures* writes_back { sem 𝓛 (lends_child N.row self.entry b result) }
         ensures value { option_copied_mut result ≡ child_at b (stored self.old) }
     {
         match self {

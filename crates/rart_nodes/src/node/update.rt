@@ -12,7 +12,7 @@ ghost use Rattle.rart_nodes.specs.tries.Trie.{IsCanonical, capacity_in, child_in
 ghost use Rattle.rart_nodes.specs.updates.Callbacks.{StaysTelling, TellsSo};
 ghost use Rattle.rart_nodes.specs.updates.Slots.{IsCounted, longest_after, slot_of};
 ghost use Rattle.rart_nodes.specs.updates.TreeUpdates.{EndsHere, EndsLeaf, EndsTree, LosesLeaf, LosesRoot};
-ghost use Rattle.rart_nodes.specs.updates.Updates.{EndsMap};
+ghost use Rattle.rart_nodes.specs.updates.Updates.{UpdatesMap};
 
 use crate::node::DefaultNode;
 use crate::node::rest::rest_behind;
@@ -322,7 +322,7 @@ impl<P: Partial, V> DefaultNode<P, V> {
         requires fits { IsWithin P.MAXIMUM_SIZE (longest_key (tree_pairs root.old)) }
         requires callable { FnOnceTakesAtMut F.FnOnce f (slot_of (lookup key.now (tree_pairs root.old))) }
         requires stays { StaysTelling F.FnOnce f (lookup key.now (tree_pairs root.old)) }
-        ensures update { TellsSo F.FnOnce f (lookup key.now (tree_pairs root.old)) result.1 (λ r w. EndsMap full key.now r w (tree_pairs root.old) result.0 (tree_pairs root.new)) }
+        ensures update { UpdatesMap F.FnOnce f full key.now (tree_pairs root.old) result (tree_pairs root.new) }
         ensures canonical { IsCanonicalTree root.new }
         ensures count { IsCounted result.0 (length (tree_pairs root.old)) (length (tree_pairs root.new)) }
         ensures longest { longest_key (tree_pairs root.new) ≤ longest_after result.0 (length key.now) (longest_key (tree_pairs root.old)) }

@@ -1,8 +1,8 @@
 //! Taking children out: where few are left, they move into the kind before.
-ghost use Rattle.std.specs.Prelude.{◌≡◌, ◌≢◌, ◌⊎◌, ◌<◌, ◌≤◌, ◌+◌, ◌∷◌, [], length, is_some, None, true, false, if◌then◌else◌, IfErr, IfOk, OnErr, OnOk};
+ghost use Rattle.std.specs.Prelude.{◌≡◌, ◌≢◌, ◌⊎◌, ◌<◌, ◌≤◌, ◌+◌, ◌∷◌, [], length, None, true, false, IfErr, IfOk, OnErr, OnOk};
 ghost use Rattle.rart_parts.specs.Entries.{child_at, without_byte};
-ghost use Rattle.rart_nodes.specs.storages.Widths.{narrowed, previous_width};
-ghost use Rattle.rart_nodes.specs.storages.Stored.{NarrowsStored, stored, width_of};
+ghost use Rattle.rart_nodes.specs.storages.Widths.{previous_width};
+ghost use Rattle.rart_nodes.specs.storages.Stored.{NarrowsStored, stored, width_of, width_without};
 
 use crate::node::storage::Storage;
 use crate::node::storage::room::{boxed_indexed, boxed_sorted};
@@ -40,7 +40,7 @@ impl<N> Storage<N> {
     pub(crate) fn delete_child(&mut self, alloc: Global, b: u8) -> Result<Option<N>, TreeError>
         ensures taken { IfOk result (λ c. c ≡ child_at b (stored self.old)) }
         ensures stored { OnOk result (stored self.new ≡ without_byte b (stored self.old)) }
-        ensures width { OnOk result (width_of self.new ≡ (if is_some (child_at b (stored self.old)) then narrowed (length (stored self.new)) (width_of self.old) else width_of self.old)) }
+        ensures width { OnOk result (width_of self.new ≡ width_without b self.old (length (stored self.new))) }
         ensures refused { OnErr result (self.new ≡ self.old) }
         ensures asks { OnErr result (NarrowsStored b self.old) }
         ensures error { IfErr result (λ e. e ≡ TreeError.Memory) }
