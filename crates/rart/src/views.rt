@@ -5,7 +5,9 @@
 ghost use Rattle.std.specs.Prelude.{◌≡◌, ◌≢◌, [], None, IfErr, IfOk, OnErr, OnOk};
 ghost use Rattle.std.specs.List.{FoldsTo};
 ghost use Rattle.rart_keys.specs.Filters.{below, longest_match};
+ghost use Rattle.rart_keys.specs.Ranges.{bound_in};
 ghost use Rattle.rart_keys.specs.SortedMap.{keys_of};
+ghost use Rattle.rart_nodes.specs.ranges.Spans.{cut_between};
 ghost use Rattle.rart_nodes.specs.walks.Cut.{cut_pairs};
 ghost use Rattle.rart_nodes.specs.walks.Viewed.{SeesFound, Viewed};
 
@@ -13,6 +15,7 @@ use crate::tree::AdaptiveRadixTree;
 use rart_keys::KeyTrait;
 use rart_nodes::{LendingKeyView, Visits};
 use rart_parts::TreeError;
+use std::ops::Bound;
 
 impl<K: KeyTrait, V> AdaptiveRadixTree<K, V> {
     /// Calls `f` with a view of each key and with its value, in order. All room is taken before the first call, after the length
@@ -104,6 +107,43 @@ impl<K: KeyTrait, V> AdaptiveRadixTree<K, V> {
         ensures memory { IfErr result (λ e. (e ≡ TreeError.Memory) × (self.now.pairs ≢ [])) }
     {
         self.prefix_for_each_view_k(&prefix, f)
+    }
+
+    /// Calls `f` with a view of each key within two bounds and with its value, in order; with none where the end comes before the
+    /// start. It takes its room as `for_each_view_with` does, goes straight to the start, and ends at the first key past the end.
+    pub fn for_each_range_view_with<F: FnMut(LendingKeyView<'_, '_>, &V)>(
+        &self,
+        start: Bound<K>,
+        end: Bound<K>,
+        f: &mut F,
+    ) -> Result<(), TreeError>
+    where
+        K: Drop,
+        requires callable { F.IsAlwaysCallable f.old }
+        ensures callable { F.IsAlwaysCallable f.new }
+        ensures calls { OnOk result (FoldsTo (λ p x q. Viewed F.FnMut p x q) f.old (cut_between (bound_in K.bytes start) (bound_in K.bytes end) self.now.pairs) f.new) }
+        ensures refused { OnErr result (f.new ≡ f.old) }
+        ensures memory { IfErr result (λ e. (e ≡ TreeError.Memory) × (self.now.pairs ≢ [])) }
+    {
+        self.seen()
+            .for_each_range_view_with_counted(start, end, f, &mut Visits::new())
+    }
+
+    /// Calls `f` as `for_each_range_view_with` does; `f` is gone after the call.
+    pub fn for_each_range_view<F: FnMut(LendingKeyView<'_, '_>, &V) + Drop>(
+        &self,
+        start: Bound<K>,
+        end: Bound<K>,
+        f: F,
+    ) -> Result<(), TreeError>
+    where
+        K: Drop,
+        requires callable { F.IsAlwaysCallable f }
+        ensures calls { OnOk result ((last : F) × FoldsTo (λ p x q. Viewed F.FnMut p x q) f (cut_between (bound_in K.bytes start) (bound_in K.bytes end) self.now.pairs) last) }
+        ensures memory { IfErr result (λ e. (e ≡ TreeError.Memory) × (self.now.pairs ≢ [])) }
+    {
+        self.seen()
+            .for_each_range_view_counted(start, end, f, &mut Visits::new())
     }
 
     /// Calls `f` once with a view of the longest key that begins `probe` and with its value, and answers true; where there is none

@@ -1,2 +1,4 @@
+pub mod DueLemmas
+pub mod RangeCuts
 pub mod StartLemmas
 pub mod StartPaths

@@ -1,1 +1,3 @@
+pub mod Dues
+pub mod Spans
 pub mod Starts

@@ -99,7 +99,7 @@ module _ {V : Type 0} where
     | false ↦ omega (arith, longest-below p es)
   ]
 
-  views-cut : (n : ℕ) (s : List (List ℕ)) (es : List (List ℕ × V)) → longest_key es ≤ n → n < 2 ^ 64 → AreViews (cut_pairs s es)
+  pub views-cut : (n : ℕ) (s : List (List ℕ)) (es : List (List ℕ × V)) → longest_key es ≤ n → n < 2 ^ 64 → AreViews (cut_pairs s es)
   views-cut n s [] l m = tt
   views-cut n s (e ∷ es) l m = (bytes-cut_by (record_at s) [] e.0, omega (arith, l, ap length (joined-cut s e.0)), views-cut n s es (omega (arith, l)) m)
 

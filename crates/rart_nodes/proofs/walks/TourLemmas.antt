@@ -24,7 +24,7 @@ starts-long b (x ∷ p) h = omega arith
 falls-by : (n m w : ℕ) → 2 * n + 1 + (2 * m + 1 + w) < 2 * (n + 1 + m) + 1 + w
 falls-by n m w = omega arith
 
-same-rest : {A : Type 0} (x y : A) (xs ys : List A) → x ∷ xs ≡ y ∷ ys → xs ≡ ys
+pub same-rest : {A : Type 0} (x y : A) (xs ys : List A) → x ∷ xs ≡ y ∷ ys → xs ≡ ys
 same-rest x y xs ys e = cc
 
 some-capacity : (n : ℕ) → capacity_of (suc n) ≡ 0 → ⊥

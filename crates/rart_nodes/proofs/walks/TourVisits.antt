@@ -51,7 +51,7 @@ module _ {V : Type 0} where
   fresh-node (node p None n (child b t cs)) k ls w v = refl
   fresh-node (node p (Some x) n cs) k ls w v = absurd (cc)
 
-  has-child : (t : Trie V) → is_canonical t ≡ true → None ≡ value_of t → children_in t ≡ no_children → ⊥
+  pub has-child : (t : Trie V) → is_canonical t ≡ true → None ≡ value_of t → children_in t ≡ no_children → ⊥
   has-child (node p None n no_children) w v e = not-bare V p n (IsCanonical-test {V = V} (node p None n no_children) w)
   has-child (node p None n (child b t cs)) w v e = cc
   has-child (node p (Some x) n cs) w v e = cc

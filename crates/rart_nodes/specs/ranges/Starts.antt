@@ -1,8 +1,8 @@
 -- What a walk has ahead of it from a start on.
-use Rattle.std.specs.Prelude.{ℕ, ◌+◌, Bool, cond, ltb, List, [], ◌∷◌, length, Option, Some, None}
+use Rattle.std.specs.Prelude.{ℕ, ◌+◌, Bool, cond, ltb, List, [], ◌∷◌, length, Option, Some, None, if◌then◌else◌}
 use Rattle.std.specs.List.{filter}
 use Rattle.std.specs.declared.ops.Bound.{Bound}
-use Rattle.rart_keys.specs.Ranges.{is_from, is_since}
+use Rattle.rart_keys.specs.Ranges.{is_since, is_to}
 use Rattle.rart_nodes.specs.tries.Trie.{Children, no_children, child}
 use Rattle.rart_nodes.specs.walks.Tour.{Pieces, joined}
 
@@ -15,9 +15,10 @@ children_above b (child c t cs) = cond (ltb b c) (child c t (children_above b cs
 abbrev pub stops_since : {V : Type 0} → Bool → List ℕ → List (Pieces × V) → List (Pieces × V)
 stops_since h s es = filter (λ e. is_since h s (joined e.0)) es
 
--- the stops within a start
-abbrev pub stops_from : {V : Type 0} → Bound (List ℕ) → List (Pieces × V) → List (Pieces × V)
-stops_from a es = filter (λ e. is_from a (joined e.0)) es
+-- the stops before the first one past an end
+abbrev pub stops_to : {V : Type 0} → Bound (List ℕ) → List (Pieces × V) → List (Pieces × V)
+stops_to b [] = []
+stops_to b (e ∷ es) = if is_to b (joined e.0) then e ∷ stops_to b es else []
 
 -- what a walk has left, which is nothing once it is gone
 abbrev pub pairs_left : {A : Type 0} → Option (List A) → List A

@@ -2,9 +2,10 @@
 //!
 //! The walk begins at the start, and ends for good at the first key past the end. It is seen as the end's bytes and the
 //! pairs that the walk below has still to give; `up_to` of these are the pairs that the range has still to give.
-ghost use Rattle.std.specs.Prelude.{◌≡◌, ◌≢◌, ◌≤◌, ◌+◌, [], ◌∷◌, length, IfErr, IfOk, MatchOption};
 ghost use Rattle.std.specs.Iterator.{YieldsFirstBy, item_count};
-ghost use Rattle.rart_keys.specs.Ranges.{between, bound_bytes, bound_in, is_inclusive, is_to, is_until, pairs_since, up_to};
+ghost use Rattle.std.specs.Ordering.{match_ordering};
+ghost use Rattle.std.specs.Prelude.{◌≡◌, ◌≢◌, ◌≤◌, ◌+◌, [], ◌∷◌, length, IfErr, IfOk, MatchOption, true, false};
+ghost use Rattle.rart_keys.specs.Ranges.{between, bound_bytes, bound_in, is_inclusive, is_to, pairs_since, up_to};
 ghost use Rattle.rart_nodes.specs.ranges.Starts.{bytes_taken};
 ghost use Rattle.rart_nodes.specs.tries.Tree.{seen_keys, seen_pairs};
 ghost use Rattle.rart_nodes.specs.walks.ProbeCount.{probe_count};
@@ -18,11 +19,11 @@ use std::cmp::Ordering;
 use std::marker::Model;
 use std::ops::Bound;
 
-/// Whether a key comes before an end; where it is the end, `included`.
-fn is_before(key: &[u8], end: &[u8], included: bool) -> bool
-    ensures { result ≡ is_until included end.now key.now }
+/// Whether a key that stands so to an end comes before it; where it is the end, `included`.
+pub(crate) fn is_before(at: Ordering, included: bool) -> bool
+    ensures { result ≡ match_ordering at true included false }
 {
-    match key.cmp(end) {
+    match at {
         Ordering::Less => true,
         Ordering::Equal => included,
         Ordering::Greater => false,
@@ -34,14 +35,14 @@ fn is_within<K: KeyTrait>(key: &K, end: &Bound<K>) -> bool
     ensures { result ≡ is_to (bound_in K.bytes end.now) (K.bytes key.now) }
 {
     match end {
-        Bound::Included(end) => is_before(key.as_ref(), end.as_ref(), true),
-        Bound::Excluded(end) => is_before(key.as_ref(), end.as_ref(), false),
+        Bound::Included(end) => is_before(key.as_ref().cmp(end.as_ref()), true),
+        Bound::Excluded(end) => is_before(key.as_ref().cmp(end.as_ref()), false),
         Bound::Unbounded => true,
     }
 }
 
 /// The bytes of a start, and whether it has them within. Without a start the walk is from the empty string.
-fn bytes_of<K: KeyTrait>(start: &Bound<K>) -> (&[u8], bool)
+pub(crate) fn bytes_of<K: KeyTrait>(start: &Bound<K>) -> (&[u8], bool)
     ensures bytes { result.0.now ≡ bound_bytes (bound_in K.bytes start.now) }
     ensures inclusive { result.1 ≡ is_inclusive (bound_in K.bytes start.now) }
 {

@@ -5,6 +5,7 @@
 ghost use Rattle.std.specs.Prelude.{◌≡◌, ◌≢◌, ◌≤◌, ◌<◌, ◌+◌, ◌++◌, [], ◌∷◌, length, reverse, take, vec_len, vec_capacity, MatchOption, IfOk, OnErr};
 ghost use Rattle.std.specs.Option.{option_copied};
 ghost use Rattle.rart_keys.specs.SortedMap.{count_of, longest_key};
+ghost use Rattle.rart_nodes.specs.ranges.Dues.{HasPaid, due};
 ghost use Rattle.rart_nodes.specs.tries.Tree.{seen_pairs};
 ghost use Rattle.rart_nodes.specs.walks.Tour.{IsTour, Tells, behind_pieces, nodes_below, stops_ahead, stops_of, tree_count, tree_stops};
 ghost use Rattle.rart_nodes.specs.walks.TourSteps.{DeepestLeft, DeepestStep, GoesOn};
@@ -100,6 +101,7 @@ pub(crate) fn nowhere<'a, P: Partial, V, C, T: Trail<'a, P>>(
     ensures room { result.0.longest ≤ T.room result.1 }
     ensures stops { stops_ahead T.grown (T.kept result.1) (option_copied result.0.first) result.0.levels.items ≡ [] }
     ensures visits { nodes_below (reverse result.0.levels.items) ≡ 0 }
+    ensures levels { result.0.levels.items ≡ [] }
     ensures longest { result.0.longest ≡ 0 }
 {
     let tour = Tour {
@@ -159,6 +161,9 @@ impl<'a, P: Partial, V, C: Count> Tour<'a, P, V, C> {
         ensures visits { C.number counter.new + nodes_below (reverse self.new.levels.items) ≡ C.number counter.old + nodes_below (reverse self.old.levels.items) }
         ensures longest { self.new.longest ≡ self.old.longest }
         ensures few { Tells T.grown → MatchOption result (C.number counter.new ≡ C.number counter.old) (λ _. C.number counter.new ≤ C.number counter.old + length (T.kept trail.new)) }
+        ensures paid { MatchOption result
+            (C.number counter.new + due (reverse self.old.levels.items) ≤ C.number counter.old)
+            (λ _. HasPaid (C.number counter.old) (C.number counter.new) (reverse self.old.levels.items) (reverse self.new.levels.items)) }
     {
         if let Some(value) = self.first.take() {
             return Some(value);

@@ -5,5 +5,6 @@ mod fold;
 mod lending;
 mod longest_view;
 mod look_up;
+mod range_views;
 mod tries;
 mod visit;

@@ -2,7 +2,9 @@
 ghost use Rattle.std.specs.Prelude.{◌≡◌, ◌≢◌, ◌≤◌, ◌<◌, ◌+◌, ◌++◌, [], ◌∷◌, length, reverse, vec_capacity, vec_len, IfOk, None, OnErr};
 ghost use Rattle.std.specs.Option.{option_copied};
 ghost use Rattle.rart_keys.specs.SortedMap.{longest_key};
+ghost use Rattle.rart_nodes.specs.ranges.Dues.{AreLow};
 ghost use Rattle.rart_nodes.specs.ranges.Starts.{stops_since};
+ghost use Rattle.rart_nodes.specs.statistics.Statistics.{height, trie_height};
 ghost use Rattle.rart_nodes.specs.tries.Tree.{seen_keys, seen_pairs};
 ghost use Rattle.rart_nodes.specs.tries.Trie.{pairs_of, prefix_of};
 ghost use Rattle.rart_nodes.specs.walks.ProbeCount.{entered_nodes, probe_count};
@@ -57,6 +59,7 @@ impl<'a, P: Partial, V, C: Count> Tour<'a, P, V, C> {
         ensures room { self.new.longest ≤ T.room trail.new }
         ensures stops { stops_ahead T.grown (T.kept trail.new) (option_copied self.new.first) self.new.levels.items ≡ stops_since included start.now (stops_of T.grown top.entry.node.now) }
         ensures visits { C.number counter.new ≡ C.number counter.old + entered_nodes start.now top.entry.node.now }
+        ensures low { AreLow (trie_height top.entry.node.now) (reverse self.new.levels.items) }
         ensures longest { self.new.longest ≡ self.old.longest }
     {
         let mut next = Some(top);
@@ -99,6 +102,7 @@ impl<'a, K: KeyTrait, V, C: Count> Seen<'a, K, V, C> {
         ensures room { IfOk result (λ w. w.0.longest ≤ T.room w.1) }
         ensures longest { IfOk result (λ w. w.0.longest ≤ self.entry.longest) }
         ensures stops { IfOk result (λ w. stops_ahead T.grown (T.kept w.1) (option_copied w.0.first) w.0.levels.items ≡ stops_since included start.now (tree_stops T.grown (option_copied self.entry.root))) }
+        ensures low { IfOk result (λ w. AreLow (height (seen_keys self.entry.root)) (reverse w.0.levels.items)) }
         ensures memory { OnErr result (seen_pairs self.entry.root ≢ []) }
         ensures visits { IfOk result (λ _. C.number counter.new ≡ C.number counter.old + probe_count (seen_keys self.entry.root) start.now) }
         ensures bound { C.number counter.new ≤ C.number counter.old + length start.now + 1 }

@@ -1,7 +1,11 @@
 use Rattle.std.proofs.Common.{arith, sym, refl, ◌∙◌, ◌≤◌, vec_capacity}
+use Rattle.rart_nodes.proofs.ranges.DueLemmas.{due-leave, due-on, low-leave, low-on, paid-first, paid-given}
 use Rattle.rart_nodes.proofs.walks.TourLemmas.{leave, space, turn-either}
 use Rattle.rart_nodes.proofs.walks.TourVisits.{visit-one, visit-on, visit-none}
 use Rattle.rart_nodes.proofs.node.tour.Tour.advance.Goals as goal
+
+pub returns-in-Some-clause-paid : goal.returns-in-Some-clause-paid
+returns-in-Some-clause-paid g c = paid-first _ _
 
 pub go_on-requires : goal.go_on-requires
 go_on-requires g c κs =
@@ -29,6 +33,10 @@ pub returns-in-Some-value-clause-few : goal.returns-in-Some-value-clause-few
 returns-in-Some-value-clause-few g c = λ tells.
     visit-one g.T.Keeps.grown _ _ _ _ _ _ _ _ c.in-Some-enter_deepest.at.node.now _ _ tells c.loop-self.invariant.path (c.loop-self.invariant.few tells) c.in-Some-enter_deepest.ensures.shown c.go_on.ensures.kept c.in-Some-enter_deepest.ensures.counted
 
+pub returns-in-Some-value-clause-paid : goal.returns-in-Some-value-clause-paid
+returns-in-Some-value-clause-paid g c =
+    paid-given _ _ _ _ _ c.in-Some-enter_deepest.at.node.now c.args.self.now.levels.items _ _ _ c.in-Some-enter_deepest.ensures.shown c.go_on.ensures.levels c.in-Some-enter_deepest.ensures.counted c.loop-self.invariant.due c.loop-self.invariant.low
+
 pub loop-self-preserved : goal.loop-self-preserved
 loop-self-preserved g c =
     let cap : vec_capacity c.loop-self.self.levels ≤ vec_capacity c.go_on.new.levels = omega (arith, c.enter_deepest.ensures.capacity, c.go_on.ensures.level_room) in
@@ -42,6 +50,8 @@ loop-self-preserved g c =
       longest = c.loop-self.invariant.longest;
       few = λ tells. visit-on _ _ c.in-Some-enter_deepest.at.node.now _ _ _ c.in-Some-enter_deepest.at.canonical c.in_default-value.ensures c.go_on.ensures.levels
           (visit-one g.T.Keeps.grown _ _ _ _ _ _ _ _ c.in-Some-enter_deepest.at.node.now _ _ tells c.loop-self.invariant.path (c.loop-self.invariant.few tells) c.in-Some-enter_deepest.ensures.shown c.go_on.ensures.kept c.in-Some-enter_deepest.ensures.counted);
+      due = due-on _ _ _ _ _ _ c.in-Some-enter_deepest.at.node.now _ _ _ c.in-Some-enter_deepest.at.canonical c.in_default-value.ensures c.in-Some-enter_deepest.ensures.shown c.go_on.ensures.levels c.in-Some-enter_deepest.ensures.counted c.loop-self.invariant.due;
+      low = λ h w. low-on h _ _ c.in-Some-enter_deepest.at.node.now _ _ _ c.in-Some-enter_deepest.ensures.shown c.go_on.ensures.levels (c.loop-self.invariant.low h w);
     }
 
 pub loop-self-smaller : goal.loop-self-smaller
@@ -60,4 +70,6 @@ loop-self-preserved-in-None g c =
       visits = omega (arith, t.counted, c.loop-self.invariant.visits, c.in-None.ensures.counted);
       longest = c.loop-self.invariant.longest;
       few = λ tells. visit-none _ _ _ _ _ _ c.take_last.new.self.items (c.loop-self.invariant.few tells) c.in-None.ensures.shown c.in-None.ensures.counted;
+      due = due-leave _ _ _ _ _ _ _ c.take_last.result c.in-None.ensures.shown c.take_last.ensures.items c.in-None.ensures.counted c.loop-self.invariant.due;
+      low = λ h w. low-leave h _ _ _ c.take_last.result c.in-None.ensures.shown c.take_last.ensures.items (c.loop-self.invariant.low h w);
     }

@@ -1,5 +1,6 @@
-use Rattle.std.proofs.Common.{◌≡◌, ◌≤◌, ◌+◌, None, reverse, vec_capacity}
+use Rattle.std.proofs.Common.{◌≡◌, ℕ, ◌≤◌, ◌+◌, None, reverse, vec_capacity}
 use Rattle.std.specs.Option.{option_copied}
+use Rattle.rart_nodes.specs.ranges.Dues.{AreLow, due}
 use Rattle.rart_nodes.specs.walks.Tour.{IsTour, Tells, nodes_below, stops_ahead, stops_below}
 use Rattle.rart_nodes.proofs.walks.TourLemmas.{work_left}
 use Rattle.rart_nodes.proofs.walks.TourVisits.{HasVisited}
@@ -14,6 +15,8 @@ invariant-loop-self g l = record {
   visits : g.C.Count.number l.counter + nodes_below (reverse l.self.levels.items) ≡ g.C.Count.number l.fn.counter + nodes_below (reverse l.fn.self.levels.items);
   longest : l.self.longest ≡ l.fn.self.longest;
   few : Tells g.T.Keeps.grown → HasVisited (g.C.Count.number l.fn.counter) (g.C.Count.number l.counter) (g.T.Trail.kept l.trail) (reverse l.self.levels.items);
+  due : g.C.Count.number l.counter + due (reverse l.fn.self.levels.items) ≤ g.C.Count.number l.fn.counter + due (reverse l.self.levels.items);
+  low : (h : ℕ) → AreLow h (reverse l.fn.self.levels.items) → AreLow h (reverse l.self.levels.items);
 }
 
 abbrev pub decreases-loop-self : goal.decreases-loop-self

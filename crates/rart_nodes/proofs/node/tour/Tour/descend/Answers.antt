@@ -7,6 +7,7 @@ use Rattle.rart_keys.proofs.RangeLemmas.{lower-apart}
 use Rattle.rart_nodes.specs.tries.Trie.{prefix_of, value_of}
 use Rattle.rart_nodes.specs.walks.ProbeCount.{tree_entered}
 use Rattle.rart_nodes.specs.walks.Tour.{stops_below, tree_count}
+use Rattle.rart_nodes.proofs.ranges.DueLemmas.{height-on, low-above, low-all, low-start}
 use Rattle.rart_nodes.proofs.ranges.StartLemmas.{ahead-ended, ahead-higher, ahead-lower, ahead-on, ahead-start, value_if}
 use Rattle.rart_nodes.proofs.ranges.StartPaths.{all-deepened, some-deepened, way-on}
 use Rattle.rart_nodes.proofs.tries.CanonicalTests.{IsCanonical-test}
@@ -24,6 +25,8 @@ loop-next-init g c = record {
   still = ahead-start g.T.Keeps.grown _ _ _ c.requires.nothing c.requires.nowhere;
   visits = refl;
   longest = refl;
+  low = low-start _ _ c.requires.nowhere;
+  height = omega (arith, ap length c.requires.nowhere);
 }
 
 pub deepen-requires : goal.deepen-requires
@@ -48,6 +51,10 @@ returns-in-Greater-clause-stops g c =
     ahead-higher g.T.Keeps.grown c.args.included (g.T.Trail.kept c.loop-next.trail) (g.T.Trail.kept c.deepen.new.trail) c.loop-next.rest.now t _ _ _ _ _ c.requires.joins e past
     c.deepen.ensures.kept c.value-self.ensures c.branches.ensures d.still (rw (c.in-Some.is, ← c.enter-at.ensures.shown) at c.loop-next.invariant.still)
 
+pub returns-in-Greater-clause-low : goal.returns-in-Greater-clause-low
+returns-in-Greater-clause-low g c =
+    low-all _ _ c.enter-at.result.node.now _ _ _ c.loop-next.invariant.low (rw (c.in-Some.is, ← c.enter-at.ensures.shown) at c.loop-next.invariant.height) c.branches.ensures c.deepen.ensures.levels
+
 pub returns-in_default-cmp : goal.returns-in_default-cmp
 returns-in_default-cmp g c =
     let t = c.enter-at.result.node.now in
@@ -61,6 +68,7 @@ returns-in_default-cmp g c =
       stops = rw c.loop-next.invariant.first (ahead-lower g.T.Keeps.grown c.args.included (g.T.Trail.kept c.loop-next.trail) c.loop-next.rest.now t (stops_below g.T.Keeps.grown (g.T.Trail.kept c.loop-next.trail) (reverse c.loop-next.self.levels.items)) _ c.requires.joins e less (rw (c.in-Some.is, ← c.enter-at.ensures.shown) at c.loop-next.invariant.still));
       visits = omega (arith, (step-left t c.loop-next.rest.now e).1, c.enter-at.ensures.counted, rw (c.in-Some.is, ← c.enter-at.ensures.shown) at c.loop-next.invariant.visits);
       longest = c.loop-next.invariant.longest;
+      low = c.loop-next.invariant.low;
     }
 
 pub deepen-requires-in_default-first : goal.deepen-requires-in_default-first
@@ -85,6 +93,10 @@ returns-then-included-clause-stops g c =
     ∙ ahead-ended g.T.Keeps.grown c.args.included (g.T.Trail.kept c.loop-next.trail) k1 c.loop-next.rest.now c.in-Some-rest_behind.after.now t _ _ _ _ _ c.requires.joins c.enter-at.result.canonical e c.in_default-first.ensures.value
     c.deepen-in_default-first.ensures.kept (ap (value_if c.args.included k1) c.value-self-then-included.ensures) c.branches-in_default-first.ensures d.still (rw (c.in-Some.is, ← c.enter-at.ensures.shown) at c.loop-next.invariant.still)
 
+pub returns-then-included-clause-low : goal.returns-then-included-clause-low
+returns-then-included-clause-low g c =
+    low-all _ _ c.enter-at.result.node.now _ _ _ c.loop-next.invariant.low (rw (c.in-Some.is, ← c.enter-at.ensures.shown) at c.loop-next.invariant.height) c.branches-in_default-first.ensures c.deepen-in_default-first.ensures.levels
+
 pub returns-else-included-clause-path : goal.returns-else-included-clause-path
 returns-else-included-clause-path g c =
     let w = rw (c.in-Some.is, ← c.enter-at.ensures.shown) at c.loop-next.invariant.way in
@@ -100,6 +112,10 @@ returns-else-included-clause-stops g c =
     rw c.loop-next.invariant.first (ap (λ h. value_if h k1 (value_of t) ++ stops_below g.T.Keeps.grown k1 (reverse c.deepen-in_default-first.new.levels.items)) (sym c.if-included.false)
     ∙ ahead-ended g.T.Keeps.grown c.args.included (g.T.Trail.kept c.loop-next.trail) k1 c.loop-next.rest.now c.in-Some-rest_behind.after.now t (value_of t) _ _ _ _ c.requires.joins c.enter-at.result.canonical e c.in_default-first.ensures.value
     c.deepen-in_default-first.ensures.kept refl c.branches-in_default-first.ensures d.still (rw (c.in-Some.is, ← c.enter-at.ensures.shown) at c.loop-next.invariant.still))
+
+pub returns-else-included-clause-low : goal.returns-else-included-clause-low
+returns-else-included-clause-low g c =
+    low-all _ _ c.enter-at.result.node.now _ _ _ c.loop-next.invariant.low (rw (c.in-Some.is, ← c.enter-at.ensures.shown) at c.loop-next.invariant.height) c.branches-in_default-first.ensures c.deepen-in_default-first.ensures.levels
 
 pub deepen-requires-in-Some : goal.deepen-requires-in-Some
 deepen-requires-in-Some g c κs =
@@ -131,4 +147,6 @@ loop-next-preserved g c =
           c.deepen-in-Some.ensures.kept c.child-next.ensures c.branches_above.ensures d.still (rw (c.in-Some.is, ← c.enter-at.ensures.shown) at c.loop-next.invariant.still);
       visits = omega (arith, h.1, ap (tree_entered c.in-Some-rest_behind.after.now) c.child-next.ensures, c.enter-at.ensures.counted, rw (c.in-Some.is, ← c.enter-at.ensures.shown) at c.loop-next.invariant.visits);
       longest = c.loop-next.invariant.longest;
+      low = low-above _ _ c.in-Some-first.byte.now t _ _ _ c.loop-next.invariant.low (rw (c.in-Some.is, ← c.enter-at.ensures.shown) at c.loop-next.invariant.height) c.branches_above.ensures c.deepen-in-Some.ensures.levels;
+      height = height-on _ c.in-Some-first.byte.now t _ _ _ _ (rw (c.in-Some.is, ← c.enter-at.ensures.shown) at c.loop-next.invariant.height) c.deepen-in-Some.ensures.levels c.child-next.ensures;
     }

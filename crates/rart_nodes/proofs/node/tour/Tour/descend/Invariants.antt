@@ -1,7 +1,10 @@
 use Rattle.std.proofs.Common.{◌≡◌, ◌≤◌, ◌<◌, ◌+◌, ◌++◌, None, length, reverse, vec_capacity, option_map}
+use Rattle.rart_nodes.specs.ranges.Dues.{AreLow}
 use Rattle.rart_nodes.specs.ranges.Starts.{stops_since}
+use Rattle.rart_nodes.specs.statistics.Statistics.{trie_height}
 use Rattle.rart_nodes.specs.walks.ProbeCount.{entered_nodes, tree_entered}
 use Rattle.rart_nodes.specs.walks.Tour.{IsTour, behind_pieces, stops_below, stops_of, tree_count, tree_stops}
+use Rattle.rart_nodes.proofs.ranges.DueLemmas.{HasHeight}
 use Rattle.rart_nodes.proofs.ranges.StartPaths.{HasWay}
 use Rattle.rart_nodes.proofs.node.tour.Tour.descend.Given as goal
 
@@ -16,6 +19,8 @@ invariant-loop-next g l = record {
       ≡ stops_since l.included l.fn.start (stops_of g.T.Keeps.grown l.fn.top.node.now);
   visits : g.C.Count.number l.counter + tree_entered l.rest (option_map (λ s. s.node.now) l.next) ≡ g.C.Count.number l.fn.counter + entered_nodes l.fn.start l.fn.top.node.now;
   longest : l.self.longest ≡ l.fn.self.longest;
+  low : AreLow (trie_height l.fn.top.node.now) (reverse l.self.levels.items);
+  height : HasHeight (trie_height l.fn.top.node.now) (length l.self.levels.items) (option_map (λ s. s.node.now) l.next);
 }
 
 abbrev pub decreases-loop-next : goal.decreases-loop-next

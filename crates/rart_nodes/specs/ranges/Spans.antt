@@ -1,0 +1,21 @@
+-- What a walk over views between two bounds gives, and how many nodes it may visit.
+use Rattle.std.specs.Prelude.{ℕ, ◌+◌, ◌*◌, List, length}
+use Rattle.std.specs.declared.ops.Bound.{Bound}
+use Rattle.rart_keys.specs.Ranges.{between, bound_bytes}
+use Rattle.rart_keys.specs.SortedMap.{keys_of}
+use Rattle.rart_nodes.specs.statistics.Statistics.{height}
+use Rattle.rart_nodes.specs.walks.Cut.{cut_pairs}
+use Rattle.rart_nodes.specs.walks.ProbeCount.{probe_count}
+use Rattle.rart_nodes.specs.walks.Tour.{Pieces}
+
+-- the pairs between two bounds, with their keys cut
+abbrev pub cut_between : {V : Type 0} → Bound (List ℕ) → Bound (List ℕ) → List (List ℕ × V) → List (Pieces × V)
+cut_between a b es = cut_pairs (keys_of es) (between a b es)
+
+-- the way to the start, two nodes for each pair, and the tree's height
+abbrev pub span_visits : {V : Type 0} → Bound (List ℕ) → Bound (List ℕ) → List (List ℕ × V) → ℕ
+span_visits a b es = probe_count (keys_of es) (bound_bytes a) + 2 * length (between a b es) + height (keys_of es)
+
+-- no fewer, told without the tree's branch points
+abbrev pub span_bound : {V : Type 0} → Bound (List ℕ) → Bound (List ℕ) → List (List ℕ × V) → ℕ
+span_bound a b es = length (bound_bytes a) + 1 + 2 * length (between a b es) + height (keys_of es)

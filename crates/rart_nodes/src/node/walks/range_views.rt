@@ -1,0 +1,108 @@
+//! Walks between two bounds that call a callback with each key lent in segments.
+//!
+//! They go straight to the start as `range` does, and end at the first key past the end. It is told by the segments, one by one,
+//! so that no byte of a key is copied.
+ghost use Rattle.std.specs.Prelude.{◌≡◌, ◌≢◌, ◌≤◌, ◌+◌, ◌*◌, ℕ, [], length, reverse, vec_capacity, IfErr, OnErr, OnOk};
+ghost use Rattle.std.specs.List.{FoldsTo};
+ghost use Rattle.std.specs.Option.{option_copied};
+ghost use Rattle.rart_keys.specs.Ranges.{bound_in, is_to};
+ghost use Rattle.rart_nodes.specs.ranges.Dues.{AreLow};
+ghost use Rattle.rart_nodes.specs.ranges.Spans.{cut_between, span_bound, span_visits};
+ghost use Rattle.rart_nodes.specs.ranges.Starts.{stops_to};
+ghost use Rattle.rart_nodes.specs.tries.Tree.{seen_pairs};
+ghost use Rattle.rart_nodes.specs.walks.Tour.{IsTour, joined, stops_ahead};
+ghost use Rattle.rart_nodes.specs.walks.TrailParts.{lent_pieces, one_piece};
+ghost use Rattle.rart_nodes.specs.walks.ViewPieces.{AreViews};
+ghost use Rattle.rart_nodes.specs.walks.Viewed.{Viewed};
+
+use crate::count::Count;
+use crate::node::range::{bytes_of, is_before};
+use crate::node::seen::Seen;
+use crate::node::tour::Tour;
+use crate::node::trail::SegmentTrail;
+use crate::node::view::LendingKeyView;
+use rart_keys::KeyTrait;
+use rart_parts::TreeError;
+use std::ops::Bound;
+
+/// Whether a lent key is within an end.
+fn is_within<K: KeyTrait>(view: LendingKeyView<'_, '_>, end: &Bound<K>) -> bool
+    ensures { result ≡ is_to (bound_in K.bytes end.now) (joined (lent_pieces view.entry.segments.now)) }
+{
+    match end {
+        Bound::Included(end) => is_before(view.cmp_slice(end.as_ref()), true),
+        Bound::Excluded(end) => is_before(view.cmp_slice(end.as_ref()), false),
+        Bound::Unbounded => true,
+    }
+}
+
+fn feed_views_to<'a, K: KeyTrait, V, C: Count, F: FnMut(LendingKeyView<'_, '_>, &V)>(
+    tour: &mut Tour<'a, K::PartialType, V, C>,
+    trail: &mut SegmentTrail<'a>,
+    end: &Bound<K>,
+    counter: &mut C,
+    f: &mut F,
+)
+    requires callable { F.IsAlwaysCallable f.old }
+    requires path { IsTour tour.old.longest (vec_capacity tour.old.levels) (lent_pieces trail.old.segments.items) (reverse tour.old.levels.items) }
+    requires room { tour.old.longest ≤ vec_capacity trail.old.segments }
+    requires views { AreViews (stops_ahead one_piece (lent_pieces trail.old.segments.items) (option_copied tour.old.first) tour.old.levels.items) }
+    ensures callable { F.IsAlwaysCallable f.new }
+    ensures folds { FoldsTo (λ p x q. Viewed F.FnMut p x q) f.old (stops_to (bound_in K.bytes end.now) (stops_ahead one_piece (lent_pieces trail.old.segments.items) (option_copied tour.old.first) tour.old.levels.items)) f.new }
+    ensures visits { (h : ℕ) → AreLow h (reverse tour.old.levels.items) →
+        C.number counter.new ≤ C.number counter.old + 2 * length (stops_to (bound_in K.bytes end.now) (stops_ahead one_piece (lent_pieces trail.old.segments.items) (option_copied tour.old.first) tour.old.levels.items)) + h }
+{
+    while let Some(value) = tour.advance(trail, counter) {
+        let view = LendingKeyView::of(trail.segments());
+        if !is_within(view, end) {
+            return;
+        }
+        f(view, value);
+    }
+}
+
+impl<'a, K: KeyTrait + Drop, V, C: Count> Seen<'a, K, V, C> {
+    /// Calls `f` with each pair within two bounds, in order, and with a view of its key, cut at the branch points; with none where
+    /// the end comes before the start. All room is taken before the first call; refused with `Memory` alone, only where the tree
+    /// isn't empty, and then `f` wasn't called. With m calls in a tree of height h it visits at most one node more than the start
+    /// has bytes, and 2m + h; none in an empty tree. `f` is lent, so that the caller sees what the calls left in it.
+    pub fn for_each_range_view_with_counted<F: FnMut(LendingKeyView<'_, '_>, &V)>(
+        self,
+        start: Bound<K>,
+        end: Bound<K>,
+        f: &mut F,
+        counter: &mut C,
+    ) -> Result<(), TreeError>
+        requires callable { F.IsAlwaysCallable f.old }
+        ensures callable { F.IsAlwaysCallable f.new }
+        ensures calls { OnOk result (FoldsTo (λ p x q. Viewed F.FnMut p x q) f.old (cut_between (bound_in K.bytes start) (bound_in K.bytes end) (seen_pairs self.entry.root)) f.new) }
+        ensures refused { OnErr result (f.new ≡ f.old) }
+        ensures memory { IfErr result (λ e. (e ≡ TreeError.Memory) × (seen_pairs self.entry.root ≢ [])) }
+        ensures visits { OnOk result (C.number counter.new ≤ C.number counter.old + span_visits (bound_in K.bytes start) (bound_in K.bytes end) (seen_pairs self.entry.root)) }
+        ensures bound { C.number counter.new ≤ C.number counter.old + span_bound (bound_in K.bytes start) (bound_in K.bytes end) (seen_pairs self.entry.root) }
+        ensures none { seen_pairs self.entry.root ≡ [] → C.number counter.new ≤ C.number counter.old }
+    {
+        let (bytes, included) = bytes_of(&start);
+        let (mut tour, mut trail) = self.tour_from::<SegmentTrail<'a>>(bytes, included, counter)?;
+        feed_views_to(&mut tour, &mut trail, &end, counter, f);
+        Ok(())
+    }
+
+    /// Calls `f` as `for_each_range_view_with_counted` does; `f` is gone after the call.
+    pub fn for_each_range_view_counted<F: FnMut(LendingKeyView<'_, '_>, &V) + Drop>(
+        self,
+        start: Bound<K>,
+        end: Bound<K>,
+        mut f: F,
+        counter: &mut C,
+    ) -> Result<(), TreeError>
+        requires callable { F.IsAlwaysCallable f }
+        ensures calls { OnOk result ((last : F) × FoldsTo (λ p x q. Viewed F.FnMut p x q) f (cut_between (bound_in K.bytes start) (bound_in K.bytes end) (seen_pairs self.entry.root)) last) }
+        ensures memory { IfErr result (λ e. (e ≡ TreeError.Memory) × (seen_pairs self.entry.root ≢ [])) }
+        ensures visits { OnOk result (C.number counter.new ≤ C.number counter.old + span_visits (bound_in K.bytes start) (bound_in K.bytes end) (seen_pairs self.entry.root)) }
+        ensures bound { C.number counter.new ≤ C.number counter.old + span_bound (bound_in K.bytes start) (bound_in K.bytes end) (seen_pairs self.entry.root) }
+        ensures none { seen_pairs self.entry.root ≡ [] → C.number counter.new ≤ C.number counter.old }
+    {
+        self.for_each_range_view_with_counted(start, end, &mut f, counter)
+    }
+}
