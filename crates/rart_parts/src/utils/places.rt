@@ -14,7 +14,7 @@ pub(crate) fn new_places<X>(alloc: Global, count: usize) -> Result<Vec<Option<X>
 {
     let mut places = Vec::with_capacity(alloc, count)?;
     for i in 0..count {
-        places.push(None).unwrap();
+        places.push_reserved(None);
     }
     Ok(places)
 }
