@@ -1,6 +1,7 @@
 //! A route table: rows of calls and what they answer, walks over its routes, and each request for memory refused in turn.
 
 use crate::refusals::{refuse, was_refused};
+use rart::laws::routes::{add_then_route, withdraw_then_route};
 use rart::{ArrayKey, KeyTrait, LendingKeyView, RouteTable, TreeError, TryInsertError};
 use std::alloc::Global;
 use std::cell::Cell;
@@ -206,6 +207,44 @@ fn probes_are_routed_by_their_longest_prefix(rt: HostRuntime) {
     assert_eq!(rt; filled, None);
     assert!(rt; walked == Ok(true));
     assert_eq!(rt; edited, None);
+}
+
+// The targets of a probe before and after an edit.
+type Targets = (Option<u64>, Option<u64>);
+
+const ADDED: [(&str, u64, &str, Targets); 3] = [
+    ("/api/v", 7, "/api/v2", (Some(2), Some(7))),
+    ("/api/w", 8, "/api/v1/users", (Some(3), Some(3))),
+    ("/a", 9, "/api/v1", (Some(3), Some(3))),
+];
+
+const WITHDRAWN: [(&str, &str, Targets); 3] = [
+    ("/api/v", "/api/v2", (Some(7), Some(2))),
+    ("/a", "/home", (Some(1), Some(1))),
+    ("/", "/home", (Some(1), None)),
+];
+
+fn laws_give(table: &mut Table) -> bool {
+    for (prefix, target, probe, wanted) in &ADDED {
+        match add_then_route(table, &key(prefix), *target, probe.as_bytes()) {
+            Ok(found) if found == *wanted => {}
+            _ => return false,
+        }
+    }
+    for (prefix, probe, wanted) in &WITHDRAWN {
+        match withdraw_then_route(table, &key(prefix), probe.as_bytes()) {
+            Ok(found) if found == *wanted => {}
+            _ => return false,
+        }
+    }
+    true
+}
+
+#[test]
+fn edits_reach_the_probes_that_their_prefix_begins(rt: HostRuntime) {
+    let mut table = Table::new(rt.alloc());
+    let (filled, given) = (plays(&mut table, &VERSIONS), laws_give(&mut table));
+    assert!(rt; filled.is_none() && given);
 }
 
 const BRANCHES: [Row; 10] = [
