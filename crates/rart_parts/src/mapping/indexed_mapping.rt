@@ -1,10 +1,10 @@
 //! A map from bytes to children with an index from bytes to slots. It is seen as the list of its children in the order
 //! of their slots, each with its byte; what callers learn is that list in the order of the bytes.
 
-ghost use Rattle.std.specs.Prelude.{◌≡◌, ℕ, [], ◌∷◌, IfSome, Some, ◌<◌, ◌≤◌, ◌^◌, length, IfErr, IfOk, OnOk, OnErr, MatchOption};
+ghost use Rattle.std.specs.Prelude.{◌≡◌, ℕ, [], ◌∷◌, IfSome, IsSome, None, Some, ◌<◌, ◌≤◌, ◌^◌, length, IfErr, IfOk, OnOk, OnErr, MatchOption};
 ghost use Rattle.std.specs.Iterator.{UpTo, YieldsFirst, YieldsFirstBy, item_count};
 ghost use Rattle.std.specs.Iterator.SizeHint.{IsWithinCount};
-ghost use Rattle.rart_parts.specs.Entries.{ascending, entries_above};
+ghost use Rattle.rart_parts.specs.Entries.{ascending, child_at, entries_above};
 
 use crate::error::TreeError;
 use crate::mapping::byte_index::{ByteIndex, ByteIndexIter};
@@ -156,6 +156,17 @@ impl<N, const W: usize, B: BitsetTrait> IndexedMapping<N, W, B> {
         while let Some((key, child)) = source.take_any() {
             self.add_child(key, child);
         }
+    }
+
+    /// The least byte with a child.
+    pub(crate) fn first_byte(&self) -> Option<u8>
+        ensures some { MatchOption result (ascending self.now ≡ []) (λ b. IsSome (child_at b (ascending self.now))) }
+        ensures least { IfSome result (λ b. (k : ℕ) → k < b → child_at k (ascending self.now) ≡ None) }
+    {
+        let Some(byte) = self.index.first_used() else {
+            return None;
+        };
+        Some(byte as u8)
     }
 
     /// Takes out the child at the least byte.

@@ -113,7 +113,9 @@ impl<N, const W: usize> SortedKeyedMapping<N, W> {
     {
         // Its bytes ascend.
         let _count = source.num_children();
-        while let Some((key, child)) = source.take_first() {
+        // The child is taken out alone: beside its byte it would be moved twice more.
+        while let Some(key) = source.first_byte() {
+            let child = source.delete_child(key).unwrap();
             self.add_child(key, child);
         }
     }
