@@ -1,11 +1,12 @@
-//! Ranges: for each two ends the pairs that are given; ranges over what an iterator has left; starts at every byte of each of the
-//! four storages; memory refused.
+//! Ranges: for each two ends the pairs that are given, by the iterator and by the walks over views; ranges over what an iterator has
+//! left; starts at every byte of each of the four storages; memory refused.
 
 use super::prefixes::{Key, Pair, Tree, filled, is_pair};
 use crate::play::went_well;
 use crate::refusals::{refuse, was_refused};
-use rart::{ArrPartial, Iter, KeyTrait, Range, TreeError};
+use rart::{ArrPartial, Iter, KeyTrait, LendingKeyView, Range, TreeError};
 use std::alloc::Global;
+use std::cell::Cell;
 use std::ops::Bound;
 use std::process::Abort;
 
@@ -51,19 +52,90 @@ fn gives(mut range: Range<'_, Key, u64>, wanted: &[Pair]) -> bool {
     range.next().is_none() && range.next().is_none() && range.next().is_none()
 }
 
-// Whether the row's range gives its pairs; it is refused where memory is.
-fn is_row(tree: &Tree, row: &Row) -> Result<bool, TreeError> {
-    match (bound(row.0), bound(row.1)) {
-        (Some(start), Some(end)) => Ok(gives(tree.range(start, end)?, row.2)),
-        _ => Ok(false),
+// Counts the pairs that come in turn, and is past all of them where another comes.
+fn next_pair(seen: usize, wanted: &[Pair], view: LendingKeyView<'_, '_>, value: u64) -> usize {
+    match wanted.get(seen) {
+        Some(pair) if pair.1 == value && view.eq_slice(pair.0.as_bytes()) => seen.wrapping_add(1),
+        _ => 1000,
     }
+}
+
+// How a walk ended that saw so many pairs: a refused one saw none.
+fn ended(walked: Result<(), TreeError>, seen: usize, wanted: usize) -> Result<bool, TreeError> {
+    match walked {
+        Ok(()) => Ok(seen == wanted),
+        Err(error) if seen == 0 => Err(error),
+        Err(_) => Ok(false),
+    }
+}
+
+fn is_viewed(
+    tree: &Tree,
+    start: Bound<Key>,
+    end: Bound<Key>,
+    wanted: &[Pair],
+) -> Result<bool, TreeError> {
+    let seen = Cell::new(0_usize);
+    let walked = tree.for_each_range_view(
+        start,
+        end,
+        |view: LendingKeyView<'_, '_>, value: &u64| {
+            seen.set(next_pair(seen.get(), wanted, view, *value));
+        },
+    );
+    ended(walked, seen.get(), wanted.len())
+}
+
+fn is_lent(
+    tree: &Tree,
+    start: Bound<Key>,
+    end: Bound<Key>,
+    wanted: &[Pair],
+) -> Result<bool, TreeError> {
+    let mut seen = 0_usize;
+    let mut callback = |view: LendingKeyView<'_, '_>, value: &u64| {
+        seen = next_pair(seen, wanted, view, *value);
+    };
+    let walked = tree.for_each_range_view_with(start, end, &mut callback);
+    ended(walked, seen, wanted.len())
+}
+
+/// A call that gives the pairs within two ends.
+#[derive(Clone, Copy)]
+enum Form {
+    Iterator,
+    Views,
+    LentViews,
+}
+
+const FORMS: [Form; 3] = [Form::Iterator, Form::Views, Form::LentViews];
+
+// Whether the row's range gives its pairs; it is refused where memory is.
+fn is_row(tree: &Tree, row: &Row, form: Form) -> Result<bool, TreeError> {
+    let (Some(start), Some(end)) = (bound(row.0), bound(row.1)) else {
+        return Ok(false);
+    };
+    match form {
+        Form::Iterator => Ok(gives(tree.range(start, end)?, row.2)),
+        Form::Views => is_viewed(tree, start, end, row.2),
+        Form::LentViews => is_lent(tree, start, end, row.2),
+    }
+}
+
+fn is_row_in_each_form(tree: &Tree, row: &Row) -> bool {
+    for form in FORMS {
+        if is_row(tree, row, form) != Ok(true) {
+            return false;
+        }
+    }
+    true
 }
 
 // The first row that goes another way, if one does.
 fn plays(tree: &Tree, rows: &[Row]) -> Option<usize> {
     let mut row = 0_usize;
     for one in rows {
-        if is_row(tree, one) != Ok(true) {
+        if !is_row_in_each_form(tree, one) {
             return Some(row);
         }
         row = row.wrapping_add(1);
@@ -119,7 +191,7 @@ const OF_PARTED: [Row; 15] = [
     (In("c"), Open, &[]),
 ];
 
-const FRUIT: [Pair; 3] = [("apple", 1), ("banana", 2), ("cherry", 3)];
+const FRUIT: [Pair; 4] = [("apple", 1), ("banana", 2), ("cherry", 3), ("date", 4)];
 
 const OF_FRUIT: [Row; 2] = [
     (In("a"), Out("b"), &[("apple", 1)]),
@@ -217,10 +289,10 @@ fn every_kind_of_node_is_entered_at_any_byte(rt: HostRuntime) {
     }
 }
 
-// Whether the row's range is refused while a request is, and gives its pairs where none was.
-fn is_refused_or_right(alloc: Global, tree: &Tree, row: &Row, at: usize) -> bool {
+// Whether the row's range is refused while a request is, and gives its pairs where none was. A refused walk calls nothing.
+fn is_refused_or_right(alloc: Global, tree: &Tree, row: &Row, form: Form, at: usize) -> bool {
     refuse(alloc, at);
-    let answer = is_row(tree, row);
+    let answer = is_row(tree, row, form);
     if was_refused(alloc) {
         answer == Err(TreeError::Memory)
     } else {
@@ -229,11 +301,11 @@ fn is_refused_or_right(alloc: Global, tree: &Tree, row: &Row, at: usize) -> bool
 }
 
 // The first row that goes another way, if one does, with each of its requests refused.
-fn plays_refused(alloc: Global, tree: &Tree, rows: &[Row]) -> Option<usize> {
+fn plays_refused(alloc: Global, tree: &Tree, rows: &[Row], form: Form) -> Option<usize> {
     let mut row = 0_usize;
     for one in rows {
         for at in 1..4_usize {
-            if !is_refused_or_right(alloc, tree, one, at) {
+            if !is_refused_or_right(alloc, tree, one, form, at) {
                 return Some(row);
             }
         }
@@ -244,20 +316,22 @@ fn plays_refused(alloc: Global, tree: &Tree, rows: &[Row]) -> Option<usize> {
 
 #[test]
 fn ranges_refused_in_turn_give_nothing(rt: HostRuntime) {
-    went_well(
-        &rt,
-        plays_refused(rt.alloc(), &filled(&rt, rt.alloc(), &PARTED), &OF_PARTED),
-    );
+    for form in FORMS {
+        let tree = filled(&rt, rt.alloc(), &PARTED);
+        went_well(&rt, plays_refused(rt.alloc(), &tree, &OF_PARTED, form));
+    }
 }
 
-// A range of an empty tree, an empty one and one over an iterator take no memory.
+// A range of an empty tree, an empty one, one over an iterator and a walk over an empty tree take no memory.
 fn asks_for_nothing(alloc: Global, empty: &Tree, tree: &Tree) -> Result<bool, TreeError> {
     let pairs = tree.iter()?;
     refuse(alloc, 1);
     let nothing = empty.range(Bound::Unbounded, Bound::Unbounded)?;
     let well = gives(nothing, &[])
         && gives(Range::empty(), &[])
-        && gives(Range::for_iter(pairs, Bound::Unbounded), &FOUR);
+        && gives(Range::for_iter(pairs, Bound::Unbounded), &FOUR)
+        && is_viewed(empty, Bound::Unbounded, Bound::Unbounded, &[])?
+        && is_lent(empty, Bound::Unbounded, Bound::Unbounded, &[])?;
     Ok(well && !was_refused(alloc))
 }
 

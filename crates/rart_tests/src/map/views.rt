@@ -9,6 +9,7 @@ use rart::{KeyTrait, LendingKeyView, TreeError};
 use std::alloc::Global;
 use std::cell::Cell;
 use std::cmp::Ordering;
+use std::ops::Bound;
 
 const TREE_A: [Pair; 2] = [("ab", 1), ("abcd", 2)];
 
@@ -80,6 +81,23 @@ fn walks_see(tree: &Tree, prefix: &[u8], rows: &[Row]) -> Result<bool, TreeError
     Ok(first == rows.len() && lent == rows.len() && seen.get() == rows.len())
 }
 
+// What a walk over the views between two bounds saw, its start within.
+fn walk_sees_between(
+    tree: &Tree,
+    start: &[u8],
+    end: Bound<Key>,
+    rows: &[Row],
+) -> Result<bool, TreeError>
+    requires { length start.now ≤ 16 }
+{
+    let start = Bound::Included(Key::new_from_slice(start));
+    let seen = Cell::new(0_usize);
+    tree.for_each_range_view(start, end, |view: LendingKeyView<'_, '_>, value: &u64| {
+        seen.set(next_row(seen.get(), rows, view, *value));
+    })?;
+    Ok(seen.get() == rows.len())
+}
+
 fn walk_sees_all(tree: &Tree, rows: &[Row]) -> Result<bool, TreeError> {
     let seen = Cell::new(0_usize);
     tree.for_each_view(|view: LendingKeyView<'_, '_>, value: &u64| {
@@ -108,6 +126,19 @@ fn views_of_the_empty_key_and_of_no_tree(rt: HostRuntime) {
     let empty = filled(&rt, rt.alloc(), &[]);
     assert!(rt; walk_sees_all(&empty, &[]) == Ok(true));
     assert!(rt; walks_see(&empty, b"a", &[]) == Ok(true));
+}
+
+#[test]
+fn views_between_two_bounds_are_cut_at_the_branch_points(rt: HostRuntime) {
+    let tree = filled(&rt, rt.alloc(), &WITH_EMPTY);
+    let empty: Row = ("", 7, "", "");
+    let b: Row = ("b", 8, "b", "");
+    let bcd: Row = ("bcd", 9, "b", "cd");
+    let end = Bound::Excluded(Key::new_from_slice(b"bcd"));
+    assert!(rt; walk_sees_between(&tree, b"", Bound::Unbounded, &[empty, b, bcd]) == Ok(true));
+    assert!(rt; walk_sees_between(&tree, b"a", Bound::Unbounded, &[b, bcd]) == Ok(true));
+    assert!(rt; walk_sees_between(&tree, b"bc", Bound::Unbounded, &[bcd]) == Ok(true));
+    assert!(rt; walk_sees_between(&tree, b"a", end, &[b]) == Ok(true));
 }
 
 // What is told of the longest match of the probe, and how often it was shown as wanted: 100 where it wasn't.
