@@ -10,6 +10,8 @@ and, of those with
   refused_in_turn            which have one request after the other refused, a request was really refused in each part;
   ask_for_nothing, asks_...  which say so of the calls in them, a message came and no request was refused.
 
+Then the program crates/rart_script/out/rart_script runs from outside, by refused_program.
+
 PASSED and FAILED are the gate's counts: the last line adds to them and closes the run.
 """
 import os
@@ -19,6 +21,10 @@ import shutil
 import subprocess
 import sys
 import tempfile
+
+sys.dont_write_bytecode = True
+
+import refused_program  # noqa: E402
 
 TOP = pathlib.Path(__file__).resolve().parents[2]
 
@@ -77,14 +83,24 @@ def run(program, test, library):
     return "", refused
 
 
+def outcomes(found, library):
+    """Each test and each check of the program: its name, why it failed, or nothing, and how many requests were refused."""
+    for program, test in found:
+        yield f"{program.name[:-6]} {test}", *run(program, test, library)
+    program = TOP / "crates" / "rart_script" / "out" / "rart_script"
+    if not os.access(program, os.X_OK):
+        yield "rart_script", "the program isn't built", 0
+        return
+    for name, why, refused in refused_program.checks(program, library):
+        yield f"rart_script {name}", why, refused
+
+
 def main():
     passed, failed = int(sys.argv[1]), int(sys.argv[2])
     found = list(tests())
     with tempfile.TemporaryDirectory() as folder:
-        library = build(folder)
-        for program, test in found:
-            why, refused = run(program, test, library)
-            print(f"refused: {program.name[:-6]} {test}: {'FAILED: ' + why if why else 'ok'}, {refused} requests refused")
+        for name, why, refused in outcomes(found, build(folder)):
+            print(f"refused: {name}: {'FAILED: ' + why if why else 'ok'}, {refused} requests refused")
             if why:
                 failed += 1
             else:

@@ -9,7 +9,7 @@ ghost use Rattle.rart_keys.specs.Ranges.{bound_in};
 ghost use Rattle.rart_keys.specs.SortedMap.{keys_of};
 ghost use Rattle.rart_nodes.specs.ranges.Spans.{cut_between};
 ghost use Rattle.rart_nodes.specs.walks.Cut.{cut_pairs};
-ghost use Rattle.rart_nodes.specs.walks.Viewed.{SeesFound, Viewed};
+ghost use Rattle.rart_nodes.specs.walks.Viewed.{SeesFound, ShowsFound, Viewed};
 
 use crate::tree::AdaptiveRadixTree;
 use rart_keys::KeyTrait;
@@ -144,6 +144,24 @@ impl<K: KeyTrait, V> AdaptiveRadixTree<K, V> {
     {
         self.seen()
             .for_each_range_view_counted(start, end, f, &mut Visits::new())
+    }
+
+    /// Calls `f` once with a view of the longest key that begins `probe` and with its value, and answers true; where there is none
+    /// it doesn't call `f`, and answers false. Room is taken as in `with_longest_prefix_match_view_k`; where it is refused `f` wasn't
+    /// called. `f` is lent, so that the caller sees so.
+    pub fn with_longest_prefix_match_view_with_k<F: FnMut(LendingKeyView<'_, '_>, &V)>(
+        &self,
+        probe: &K,
+        f: &mut F,
+    ) -> Result<bool, TreeError>
+        requires callable { F.IsAlwaysCallable f.old }
+        ensures callable { F.IsAlwaysCallable f.new }
+        ensures called { IfOk result (ShowsFound F.FnMut f.old (keys_of self.now.pairs) (longest_match (K.bytes probe.now) self.now.pairs) f.new) }
+        ensures refused { OnErr result (f.new ≡ f.old) }
+        ensures memory { IfErr result (λ e. (e ≡ TreeError.Memory) × (longest_match (K.bytes probe.now) self.now.pairs ≢ None)) }
+    {
+        self.seen()
+            .with_longest_prefix_match_view_with_k_counted(probe, f, &mut Visits::new())
     }
 
     /// Calls `f` once with a view of the longest key that begins `probe` and with its value, and answers true; where there is none

@@ -7,6 +7,9 @@ use Rattle.rart_keys.specs.LittleEndianWord.{little_endian_number}
 use Rattle.rart_keys.specs.NumberBytes.{sign_flipped, big_endian_number}
 use Rattle.rart_keys.proofs.CommonPrefixes.{greatest_from_value}
 use Rattle.rart_keys.specs.ByteStrings.{IsBelow, begins, byte_after, strip_prefix}
+use Rattle.std.specs.declared.ops.Bound.TheVariants.{Included, Excluded, Unbounded}
+use Rattle.rart_keys.specs.Filters.{below, matches, longest_match}
+use Rattle.rart_keys.specs.Ranges.{between}
 use Rattle.rart_keys.specs.SortedMap.{lookup, put, without}
 
 -- 513 is twice 256 and one, so its bytes from the lowest on are 1 and 2
@@ -89,3 +92,25 @@ bytes_of_signed_numbers = (refl, refl)
 -- "ab" is 97 times 256 and 98; of the bytes of a 1 in sixteen the first eight are zeros
 numbers_of_bytes : (big_endian_number (codes "ab") ≡ 24930) × (big_endian_number [] ≡ 0) × (big_endian_number (take 8 (to_be_bytes w128 1)) ≡ 0) × (big_endian_number (to_be_bytes w64 123213123123123) ≡ 123213123123123)
 numbers_of_bytes = (refl, refl, refl, refl)
+
+-- "" 0, "a" 1, "ab" 2, "b" 3
+abbrev nested : List (List ℕ × ℕ)
+nested = ([], 0) ∷ (97 ∷ [], 1) ∷ (97 ∷ 98 ∷ [], 2) ∷ (98 ∷ [], 3) ∷ []
+
+-- those that begin with "a", with nothing, with "c"
+pairs_below : (below (97 ∷ []) nested ≡ (97 ∷ [], 1) ∷ (97 ∷ 98 ∷ [], 2) ∷ []) × (below [] nested ≡ nested) × (below (99 ∷ []) nested ≡ [])
+pairs_below = (refl, refl, refl)
+
+-- those whose key begins "abz", "", "c"
+pairs_matched : (matches (97 ∷ 98 ∷ 122 ∷ []) nested ≡ ([], 0) ∷ (97 ∷ [], 1) ∷ (97 ∷ 98 ∷ [], 2) ∷ []) × (matches [] nested ≡ ([], 0) ∷ []) × (matches (99 ∷ []) nested ≡ ([], 0) ∷ [])
+pairs_matched = (refl, refl, refl)
+
+-- the longest of them, and none where the empty key isn't stored
+longest_matched : (longest_match (97 ∷ 98 ∷ 122 ∷ []) nested ≡ Some (97 ∷ 98 ∷ [], 2)) × (longest_match (99 ∷ []) nested ≡ Some ([], 0)) × (longest_match (99 ∷ []) stored ≡ None)
+longest_matched = (refl, refl, refl)
+
+-- both ends, each with its own key within and without; ends the wrong way round; no ends
+within_ends : (between (Included (97 ∷ [])) (Excluded (98 ∷ [])) nested ≡ (97 ∷ [], 1) ∷ (97 ∷ 98 ∷ [], 2) ∷ []) × (between (Excluded (97 ∷ [])) (Included (98 ∷ [])) nested ≡ (97 ∷ 98 ∷ [], 2) ∷ (98 ∷ [], 3) ∷ [])
+    × (between (Included (97 ∷ [])) (Included (97 ∷ [])) nested ≡ (97 ∷ [], 1) ∷ []) × (between (Excluded (97 ∷ [])) (Excluded (97 ∷ [])) nested ≡ [])
+    × (between (Included (98 ∷ [])) (Excluded (97 ∷ [])) nested ≡ []) × (between Unbounded Unbounded nested ≡ nested) × (between Unbounded (Excluded []) nested ≡ [])
+within_ends = (refl, refl, refl, refl, refl, refl, refl)

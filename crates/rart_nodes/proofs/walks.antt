@@ -1,3 +1,4 @@
+pub mod CutCounts
 pub mod CutLemmas
 pub mod FirstBelow
 pub mod MatchLemmas

@@ -1,13 +1,13 @@
 -- Items that are tested to ascend, as the bulk loads ask them.
-use Rattle.std.proofs.Common.{◌≡◌, ℕ, ◌+◌, ◌<◌, zero, suc, List, [], ◌∷◌, ◌++◌, length, get_or, map, reverse, refl, sym, ap, ◌∙◌, arith}
+use Rattle.std.proofs.Common.{◌≡◌, ℕ, drop, take, ◌+◌, ◌<◌, zero, suc, List, [], ◌∷◌, ◌++◌, length, get_or, map, reverse, refl, sym, ap, ◌∙◌, arith}
 use Rattle.std.specs.Iterator.{HoldsAlong}
 use Rattle.std.specs.Vec.Iter.{into_iter_items, into_iter_len, into_iter_steps}
 use Rattle.std.proofs.iter.Yields.{gives_along}
 use Rattle.std.proofs.lemmas.Iterator.Adapters.{YieldsList-from_vec}
-use Rattle.std.proofs.lemmas.List.{map-append, map-id}
+use Rattle.std.proofs.lemmas.List.{map-append, map-id, take-append-drop}
 use Rattle.std.specs.List.Sorted.{IsPermutation}
 use Rattle.std.proofs.lemmas.Grind.{reverse_onto}
-use Rattle.std.proofs.lemmas.List.Sorted.{IsPermutation-reverse}
+use Rattle.std.proofs.lemmas.List.Sorted.{IsPermutation-append_comm, IsPermutation-reverse}
 use Rattle.rart_keys.specs.ByteStrings.{IsBelow}
 use Rattle.rart_keys.specs.SortedMap.{IsAscending, keys_of}
 use Rattle.rart_nodes.specs.build.ValueCalls.{CanTake}
@@ -46,6 +46,13 @@ module _ {K V : Type 0} (bytes : K → List ℕ) where
 
   pub backward : (xs ys : List (K × V)) → ys ≡ reverse xs → IsPermutation (pairs_in bytes xs) (pairs_in bytes ys)
   backward xs ys e = rw (e, pairs-reverse xs) (IsPermutation-reverse (pairs_in bytes xs))
+
+  pub exchanged : (xs ys : List (K × V)) (n : ℕ) → ys ≡ drop n xs ++ take n xs → IsPermutation (pairs_in bytes xs) (pairs_in bytes ys)
+  exchanged xs ys n e =
+      let p : K × V → List ℕ × V = λ x. (bytes x.0, x.1) in
+      let halves : pairs_in bytes xs ≡ pairs_in bytes (take n xs) ++ pairs_in bytes (drop n xs) = ap (pairs_in bytes) (sym (take-append-drop n xs)) ∙ map-append p (take n xs) (drop n xs) in
+      let turned : pairs_in bytes ys ≡ pairs_in bytes (drop n xs) ++ pairs_in bytes (take n xs) = ap (pairs_in bytes) e ∙ map-append p (drop n xs) (take n xs) in
+      rw (halves, turned) (IsPermutation-append_comm (pairs_in bytes (take n xs)) (pairs_in bytes (drop n xs)))
 
 pub can-always : {F V : Type 0} (pre : F → ℕ → Type 0) (step : F → ℕ → V → F → Type 0) → ((f : F) (i : ℕ) → pre f i) → (i n : ℕ) (f : F) → CanTake pre step i n f
 can-always pre step always i zero f = tt

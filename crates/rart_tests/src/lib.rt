@@ -6,7 +6,11 @@
 #![tactic(auto)]
 
 #[cfg(test)]
+mod bulk;
+#[cfg(test)]
 mod counted;
+#[cfg(test)]
+mod joins;
 #[cfg(test)]
 mod keys;
 #[cfg(test)]
@@ -23,3 +27,5 @@ mod play;
 mod refusals;
 #[cfg(test)]
 mod shapes;
+#[cfg(test)]
+mod walks;

@@ -1,5 +1,7 @@
 //! Bulk loads by each form, of items that are tested to ascend, beside insertions one by one.
-ghost use Rattle.std.specs.Prelude.{◌≡◌, ◌<◌, length, reverse, slice_index_or, IfOk, IsTrue};
+ghost use Rattle.std.specs.Prelude.{◌≡◌, ◌<◌, ◌++◌, ℕ, drop, length, reverse, slice_index_or, take, IfOk, IsTrue};
+ghost use Rattle.std.specs.List.Sorted.{IsPermutation};
+ghost use Rattle.rart_keys.specs.ArrayKeyBytes.{array_key_bytes};
 ghost use Rattle.rart_keys.specs.SortedMap.{IsAscending};
 ghost use Rattle.rart.specs.Steps.{pairs_in};
 
@@ -120,14 +122,38 @@ fn both_ways(alloc: Global, keys: &[Key]) -> Result<(Vec<(Key, u64)>, Vec<(Key, 
     Ok((items, backward))
 }
 
-/// Whether the keys ascend and the law of bulk loads, called on them, gives trees that are alike.
-pub fn law_holds(alloc: Global, keys: &[Key]) -> Result<bool, AllocError> {
-    let (sorted, shuffled) = both_ways(alloc, keys)?;
+// The keys, each with its place, twice: in their order, and those of the second half before those of the first.
+fn halves_exchanged(
+    alloc: Global,
+    keys: &[Key],
+) -> Result<(Vec<(Key, u64)>, Vec<(Key, u64)>), AllocError>
+    ensures { IfOk result (λ r. (n : ℕ) × (r.1.items ≡ drop n r.0.items ++ take n r.0.items)) }
+{
+    let items = items_of(alloc, keys)?;
+    let mut first = items.clone()?;
+    let half = first.len() / 2;
+    let mut exchanged = first.split_off(half)?;
+    exchanged.append(&mut first)?;
+    Ok((items, exchanged))
+}
+
+// Whether the first items ascend and the law of bulk loads, called on both, gives trees that are alike.
+fn law_holds_of(alloc: Global, sorted: Vec<(Key, u64)>, shuffled: Vec<(Key, u64)>) -> bool
+    requires { IsPermutation (pairs_in array_key_bytes sorted.items) (pairs_in array_key_bytes shuffled.items) }
+{
     if !ascend(&sorted) {
-        return Ok(false);
+        return false;
     }
-    Ok(match bulk_load_equals_insertion(alloc, sorted, shuffled) {
+    match bulk_load_equals_insertion(alloc, sorted, shuffled) {
         Ok(((loaded, one), (inserted, other))) => one == other && are_alike(&loaded, &inserted),
         Err(_refused) => false,
-    })
+    }
+}
+
+/// Whether the keys ascend and the law of bulk loads, called on them in both orders, gives trees that are alike.
+pub fn law_holds(alloc: Global, keys: &[Key]) -> Result<bool, AllocError> {
+    let (sorted, shuffled) = both_ways(alloc, keys)?;
+    let backward = law_holds_of(alloc, sorted, shuffled);
+    let (sorted, shuffled) = halves_exchanged(alloc, keys)?;
+    Ok(backward && law_holds_of(alloc, sorted, shuffled))
 }

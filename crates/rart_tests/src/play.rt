@@ -26,6 +26,10 @@ pub enum Ask<'a> {
     Overwrite(&'a str, u64),
     Remove(&'a str),
     Delete(&'a str),
+    /// Updates what stands at the key: this value is written first where the key is stored, and this is then asked for.
+    Update(&'a str, Option<u64>, Then),
+    /// The same by a callback that may fail.
+    TryUpdate(&'a str, Option<u64>, Then),
     /// The longest key that begins the probe.
     Longest(&'a str),
     /// The keys that begin the probe.
@@ -48,6 +52,16 @@ pub enum Ask<'a> {
     Holds(&'a [u8], usize),
 }
 
+/// What the callback of an update asks for.
+#[derive(Clone, Copy)]
+pub enum Then {
+    Keep,
+    Remove,
+    Insert(u64),
+    /// It fails; only that of a `TryUpdate` can.
+    Fail,
+}
+
 /// What is to be replied.
 #[derive(Clone, Copy)]
 pub enum Want<'a> {
@@ -61,6 +75,8 @@ pub enum Want<'a> {
     Inserted,
     /// The value that was offered, and the one that stands there.
     Occupied(u64, u64),
+    /// The callback failed.
+    Failed,
     Pair(&'a str, u64),
     Pairs(&'a [(&'a str, u64)]),
     Values(&'a [u64]),

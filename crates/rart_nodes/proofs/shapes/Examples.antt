@@ -1,11 +1,11 @@
 -- Rows of the definitions, by computation.
-use Rattle.std.proofs.Common.{◌≡◌, ℕ, zero, suc, ◌+◌, List, [], ◌∷◌, ◌++◌, refl, Option, Some, None, Bool, true, false}
-use Rattle.rart_keys.specs.SortedMap.{keys_of, lookup}
-use Rattle.rart_nodes.specs.edits.EditRuns.{Edit, puts, removes, run_tree, run_map}
+use Rattle.std.proofs.Common.{◌≡◌, ℕ, zero, suc, List, [], ◌∷◌, ◌++◌, refl, Option, Some, None, Bool, true, false}
+use Rattle.rart_nodes.specs.edits.EditRuns.{Edit, puts, removes, run_tree}
 use Rattle.rart_nodes.specs.edits.InsertAsks.{insert_asks}
+use Rattle.rart_nodes.specs.walks.Cut.{cut}
 use Rattle.rart_nodes.specs.walks.ProbeCount.{probe_count}
 use Rattle.rart_nodes.specs.edits.RemoveAsks.{remove_asks}
-use Rattle.rart_nodes.specs.shapes.Shape.{NodeRecord, capacity_of, next_bytes, record_at}
+use Rattle.rart_nodes.specs.shapes.Shape.{NodeRecord, capacity_of, record_at}
 use Rattle.rart_nodes.specs.tries.Tree.{tree_nodes}
 
 -- a leaf, and an inner node with these edge bytes
@@ -86,3 +86,11 @@ chain = [] ∷ (97 ∷ []) ∷ (97 ∷ 98 ∷ []) ∷ (97 ∷ 98 ∷ 99 ∷ []) 
 
 visits : (probe_count chain (97 ∷ 98 ∷ 99 ∷ []) ∷ probe_count chain (97 ∷ 98 ∷ 100 ∷ []) ∷ probe_count [] (97 ∷ []) ∷ probe_count chain (98 ∷ []) ∷ []) ≡ 4 ∷ 3 ∷ 0 ∷ 1 ∷ []
 visits = refl
+
+-- keys are cut at each branch point that begins them: "ab", "abcd" and "abce" at "ab" and "abc"; a lone key and the empty one aren't
+abbrev branched : List (List ℕ)
+branched = (97 ∷ 98 ∷ []) ∷ (97 ∷ 98 ∷ 99 ∷ 100 ∷ []) ∷ (97 ∷ 98 ∷ 99 ∷ 101 ∷ []) ∷ []
+
+cuts : (cut branched (97 ∷ 98 ∷ 99 ∷ 100 ∷ []) ≡ (97 ∷ 98 ∷ []) ∷ (99 ∷ []) ∷ (100 ∷ []) ∷ []) × (cut branched (97 ∷ 98 ∷ []) ≡ (97 ∷ 98 ∷ []) ∷ [])
+    × (cut ((97 ∷ 98 ∷ []) ∷ []) (97 ∷ 98 ∷ []) ≡ (97 ∷ 98 ∷ []) ∷ []) × (cut ([] ∷ (97 ∷ []) ∷ []) [] ≡ []) × (cut ([] ∷ (97 ∷ []) ∷ []) (97 ∷ []) ≡ (97 ∷ []) ∷ [])
+cuts = (refl, refl, refl, refl, refl)

@@ -27,3 +27,8 @@ pub record ViewedOnce {F V : Type 0} (g : Once F (LendingKeyView × (Bor V × Un
 abbrev pub SeesFound : {F V : Type 0} → Once F (LendingKeyView × (Bor V × Unit {0})) (Unit {0}) → F → List (List ℕ) → Option (List ℕ × V) → Bool → Type 0
 SeesFound g f s None told = told ≡ false
 SeesFound g f s (Some e) told = (told ≡ true) × ViewedOnce g f (cut s e.0, e.1)
+
+-- f was called once with the pair that was found, its key cut as s says, and is then f'; where there is none it wasn't called; and whether there is one was told
+abbrev pub ShowsFound : {F V : Type 0} → Mut F (LendingKeyView × (Bor V × Unit {0})) (Unit {0}) → F → List (List ℕ) → Option (List ℕ × V) → F → Bool → Type 0
+ShowsFound g f s None f' told = (told ≡ false) × (f' ≡ f)
+ShowsFound g f s (Some e) f' told = (told ≡ true) × Viewed g f (cut s e.0, e.1) f'

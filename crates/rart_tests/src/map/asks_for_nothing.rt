@@ -1,10 +1,13 @@
 //! Calls that may not ask for memory. Under the library that refuses it each would be seen to, were it to ask.
 
-use crate::play::{Ask, Row, Want, plays_asking_for_nothing, went_well};
+use crate::loads::{Key, ascend, load_by_index, load_unique};
+use crate::play::{Ask, Row, Then, Want, plays_asking_for_nothing, went_well};
 use crate::refusals::{refuse, was_refused};
 use rart::script::run;
 use rart::{AdaptiveRadixTree, ArrPartial, ArrayKey, Iter, KeyTrait, ValuesIter};
+use std::alloc::{AllocError, Global};
 use std::process::Abort;
+use std::test::Fail;
 
 const FIRST_KEY: [Row<'static>; 9] = [
     (Ask::Get("a"), Want::None),
@@ -111,6 +114,59 @@ fn absent_keys_ask_for_nothing(rt: HostRuntime) {
         &rt,
         plays_asking_for_nothing::<ArrayKey<16>>(rt.alloc(), &FIVE_KEYS, &ABSENT),
     );
+}
+
+const UPDATED: [Row<'static>; 11] = [
+    (Ask::Update("a\x01", Some(9), Then::Keep), Want::Is(true)),
+    (
+        Ask::Update("a\x02", Some(9), Then::Insert(8)),
+        Want::Is(true),
+    ),
+    (Ask::Update("a\x03", None, Then::Insert(7)), Want::Is(true)),
+    (Ask::Update("b\x01", None, Then::Remove), Want::Is(true)),
+    (Ask::Update("zz", None, Then::Remove), Want::Is(false)),
+    (Ask::Update("zz", Some(6), Then::Keep), Want::Is(false)),
+    (Ask::TryUpdate("c\x01", Some(5), Then::Keep), Want::Is(true)),
+    (Ask::TryUpdate("c\x01", Some(6), Then::Fail), Want::Failed),
+    (Ask::TryUpdate("d\x01", None, Then::Keep), Want::Is(false)),
+    (
+        Ask::TryUpdate("d\x01", None, Then::Insert(4)),
+        Want::Is(true),
+    ),
+    (Ask::Longest("a\x01x"), Want::Pair("a\x01", 9)),
+];
+
+#[test]
+fn updates_of_standing_nodes_and_of_absent_keys_ask_for_nothing(rt: HostRuntime) {
+    went_well(
+        &rt,
+        plays_asking_for_nothing::<ArrayKey<16>>(rt.alloc(), &ROOM_IN_EACH_KIND, &UPDATED),
+    );
+}
+
+// Whether each load of no items gives an empty tree while the next request is refused.
+fn nothing_is_loaded(alloc: Global) -> Result<bool, AllocError> {
+    let items: Vec<(Key, u64)> = Vec::new(alloc);
+    if !ascend(&items) {
+        return Ok(false);
+    }
+    refuse(alloc, 1);
+    let by_index = load_by_index(alloc, &items, |i| i as u64);
+    let sorted = AdaptiveRadixTree::<Key, u64>::bulk_load_sorted(alloc, Vec::new(alloc));
+    let unique = load_unique(alloc, items);
+    let refused = was_refused(alloc);
+    Ok(match (by_index, sorted, unique) {
+        (Ok(one), Ok(two), Ok(three)) => {
+            !refused && one.is_empty() && two.is_empty() && three.is_empty()
+        }
+        _ => false,
+    })
+}
+
+#[test]
+fn loads_of_no_items_ask_for_nothing(rt: HostRuntime) -> Result<(), Fail> {
+    assert!(rt; nothing_is_loaded(rt.alloc())?);
+    Ok(())
 }
 
 type Tree = AdaptiveRadixTree<ArrayKey<4>, u64>;

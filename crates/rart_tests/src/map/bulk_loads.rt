@@ -10,20 +10,20 @@ use std::alloc::{AllocError, Global};
 use std::cell::Cell;
 use std::test::Fail;
 
-type Pairs<'a> = &'a [(&'a str, u64)];
+pub type Pairs<'a> = &'a [(&'a str, u64)];
 
 // The key of a text, cut to eight bytes.
-fn key_of(text: &str) -> Key {
+pub fn key_of(text: &str) -> Key {
     let bytes = text.as_bytes();
     Key::new_from_slice(&bytes[..bytes.len().min(8)])
 }
 
 /// Items that tell how many of them were read.
 #[derive(Drop)]
-struct Read<'a> {
-    items: Pairs<'a>,
-    at: usize,
-    count: &'a Cell<usize>,
+pub struct Read<'a> {
+    pub items: Pairs<'a>,
+    pub at: usize,
+    pub count: &'a Cell<usize>,
 }
 
 impl<'a> Iterator for Read<'a> {

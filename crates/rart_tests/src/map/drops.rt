@@ -35,6 +35,27 @@ fn a_dropped_tree_drops_each_value_once(rt: HostRuntime) {
     }
 }
 
+// A thousand keys of two bytes.
+fn thousand<'a>(rt: &impl Abort, alloc: Global, drops: &'a Cell<usize>) -> Tree<'a> {
+    let mut tree = Tree::new(alloc);
+    for number in 0..1000_usize {
+        let key = Key::new_from_slice(&[(number / 256) as u8, (number % 256) as u8]);
+        let inserted = tree.insert(key, Counted((number % 256) as u8, drops));
+        assert!(rt; matches!(inserted, Ok(None)));
+    }
+    tree
+}
+
+#[test]
+fn a_dropped_tree_of_a_thousand_keys_drops_each_value_once(rt: HostRuntime) {
+    let drops = Cell::new(0_usize);
+    let tree = thousand(&rt, rt.alloc(), &drops);
+    assert_eq!(rt; tree.len(), 1000);
+    assert_eq!(rt; drops.get(), 0);
+    drop(tree);
+    assert_eq!(rt; drops.get(), 1000);
+}
+
 /// A call, with the number of the value that it offers.
 #[derive(Clone, Copy)]
 enum Ask {

@@ -6,19 +6,19 @@ use rart::{AdaptiveRadixTree, ArrayKey, KeyTrait, LendingKeyView, TreeError, Tre
 use std::alloc::Global;
 use std::process::Abort;
 
-type Key = ArrayKey<16>;
+pub type Key = ArrayKey<16>;
 
-type Tree = AdaptiveRadixTree<Key, u64>;
+pub type Tree = AdaptiveRadixTree<Key, u64>;
 
-type Pair = (&'static str, u64);
+pub type Pair = (&'static str, u64);
 
 // A key of both trees, with the value of the one and of the other.
-type Triple = (&'static str, u64, u64);
+pub type Triple = (&'static str, u64, u64);
 
 // The pairs of two trees; and what both have.
-type Row = (&'static [Pair], &'static [Pair], &'static [Triple]);
+pub type Row = (&'static [Pair], &'static [Pair], &'static [Triple]);
 
-fn filled(rt: &impl Abort, alloc: Global, pairs: &[Pair]) -> Tree {
+pub fn filled(rt: &impl Abort, alloc: Global, pairs: &[Pair]) -> Tree {
     let mut tree = Tree::new(alloc);
     for (text, value) in pairs {
         let bytes = text.as_bytes();
@@ -30,7 +30,7 @@ fn filled(rt: &impl Abort, alloc: Global, pairs: &[Pair]) -> Tree {
 
 // What callbacks were given so far: how many, and whether all of it was wanted.
 #[derive(Drop)]
-struct Given<'a> {
+pub struct Given<'a> {
     wanted: &'a [Triple],
     swapped: bool,
     many: usize,
@@ -38,7 +38,7 @@ struct Given<'a> {
 }
 
 impl<'a> Given<'a> {
-    fn nothing(wanted: &'a [Triple], swapped: bool) -> Self {
+    pub fn nothing(wanted: &'a [Triple], swapped: bool) -> Self {
         Given {
             wanted,
             swapped,
@@ -47,7 +47,7 @@ impl<'a> Given<'a> {
         }
     }
 
-    fn values(&mut self, left: u64, right: u64) {
+    pub fn values(&mut self, left: u64, right: u64) {
         let (one, other) = if self.swapped {
             (right, left)
         } else {
@@ -61,7 +61,7 @@ impl<'a> Given<'a> {
         self.many = self.many.wrapping_add(1);
     }
 
-    fn pair(&mut self, key: &[u8], left: u64, right: u64) {
+    pub fn pair(&mut self, key: &[u8], left: u64, right: u64) {
         let as_wanted = match self.wanted.get(self.many) {
             Some(triple) => triple.0.as_bytes() == key,
             None => false,
@@ -70,7 +70,7 @@ impl<'a> Given<'a> {
         self.values(left, right);
     }
 
-    fn view(&mut self, key: LendingKeyView<'_, '_>, left: u64, right: u64) {
+    pub fn view(&mut self, key: LendingKeyView<'_, '_>, left: u64, right: u64) {
         let as_wanted = match self.wanted.get(self.many) {
             Some(triple) => key.eq_slice(triple.0.as_bytes()),
             None => false,
@@ -79,7 +79,7 @@ impl<'a> Given<'a> {
         self.values(left, right);
     }
 
-    fn all(&self) -> bool {
+    pub fn all(&self) -> bool {
         self.well && self.many == self.wanted.len()
     }
 }
@@ -155,7 +155,7 @@ fn is_way(left: &Tree, right: &Tree, wanted: &[Triple], swapped: bool) -> bool {
         && lends_by_ref(left, right, wanted, swapped) == Some(true)
 }
 
-fn is_met(left: &Tree, right: &Tree, wanted: &[Triple]) -> bool {
+pub fn is_met(left: &Tree, right: &Tree, wanted: &[Triple]) -> bool {
     is_way(left, right, wanted, false) && is_way(right, left, wanted, true)
 }
 
@@ -175,11 +175,11 @@ fn plays(rt: &impl Abort, alloc: Global, rows: &[Row]) -> Option<usize> {
 
 const BEGINNINGS: [Pair; 2] = [("", 1), ("b", 2)];
 
-const WORDS: [Pair; 3] = [("ab", 1), ("abc", 2), ("dog", 3)];
+pub const WORDS: [Pair; 3] = [("ab", 1), ("abc", 2), ("dog", 3)];
 
-const OTHER_WORDS: [Pair; 3] = [("abc", 20), ("dog", 30), ("zzz", 40)];
+pub const OTHER_WORDS: [Pair; 3] = [("abc", 20), ("dog", 30), ("zzz", 40)];
 
-const ROWS: [Row; 9] = [
+pub const ROWS: [Row; 9] = [
     (&[], &[], &[]),
     (&[], &WORDS, &[]),
     (
@@ -281,42 +281,6 @@ fn a_view_is_cut_where_prefixes_part_and_at_the_byte_behind(rt: HostRuntime) {
     assert!(rt; count_nodes(&words) == Some(4) && count_nodes(&others) == Some(4));
 }
 
-// A node with a child at each byte from the first on, at every step to below the last.
-fn wide(rt: &impl Abort, alloc: Global, first: u8, last: u8, step: u8) -> Tree {
-    let mut tree = Tree::new(alloc);
-    for byte in first..=last {
-        if byte.checked_rem(step) == Some(0) {
-            let inserted = tree.insert(Key::new_from_slice(&[byte]), u64::from(byte));
-            assert!(rt; matches!(inserted, Ok(None)));
-        }
-    }
-    tree
-}
-
-const FIVE: [Pair; 5] = [("\0", 1), ("2", 2), ("33", 3), ("d", 4), ("}", 5)];
-
-const OF_FIVE: [Triple; 4] = [("\0", 0, 1), ("2", 50, 2), ("d", 100, 4), ("}", 125, 5)];
-
-#[test]
-fn wide_nodes(rt: HostRuntime) {
-    let all = wide(&rt, rt.alloc(), 0, 255, 1);
-    let five = filled(&rt, rt.alloc(), &FIVE);
-    assert!(rt; is_met(&all, &five, &OF_FIVE));
-}
-
-#[test]
-fn a_wide_node_with_itself(rt: HostRuntime) {
-    let all = wide(&rt, rt.alloc(), 0, 255, 1);
-    assert!(rt; all.intersect_count(&all) == 256);
-}
-
-#[test]
-fn two_wide_nodes(rt: HostRuntime) {
-    let thirds = wide(&rt, rt.alloc(), 0, 255, 3);
-    let fifths = wide(&rt, rt.alloc(), 0, 255, 5);
-    assert!(rt; thirds.intersect_count(&fifths) == 18);
-}
-
 // Whether counts and values are given while the next request for memory is refused.
 fn is_asked_for_nothing(alloc: Global, left: &Tree, right: &Tree, wanted: &[Triple]) -> bool {
     refuse(alloc, 1);
@@ -335,20 +299,30 @@ fn counts_and_values_ask_for_nothing(rt: HostRuntime) {
     }
 }
 
+/// An intersection that asks for memory, by a form of its call.
+#[derive(Clone, Copy)]
+enum Form {
+    Keys,
+    KeysByRef,
+    Views,
+    ViewsByRef,
+}
+
 // How many requests were refused before all was given, each of which gave nothing; None where one went another way.
 fn refusals(
     alloc: Global,
     left: &Tree,
     right: &Tree,
     wanted: &[Triple],
-    lent: bool,
+    form: Form,
 ) -> Option<usize> {
     for at in 1..100_usize {
         refuse(alloc, at);
-        let given = if lent {
-            lends(left, right, wanted, false)
-        } else {
-            gives(left, right, wanted, false)
+        let given = match form {
+            Form::Keys => gives(left, right, wanted, false),
+            Form::KeysByRef => gives_by_ref(left, right, wanted, false),
+            Form::Views => lends(left, right, wanted, false),
+            Form::ViewsByRef => lends_by_ref(left, right, wanted, false),
         };
         if !was_refused(alloc) {
             return if given == Some(true) {
@@ -365,9 +339,9 @@ fn refusals(
 }
 
 // Whether the walk is refused at most once where both trees have pairs, and else never.
-fn is_swept(alloc: Global, left: &Tree, right: &Tree, wanted: &[Triple], lent: bool) -> bool {
+fn is_swept(alloc: Global, left: &Tree, right: &Tree, wanted: &[Triple], form: Form) -> bool {
     let asks = !left.is_empty() && !right.is_empty();
-    let swept = match refusals(alloc, left, right, wanted, lent) {
+    let swept = match refusals(alloc, left, right, wanted, form) {
         Some(many) => many <= usize::from(asks),
         None => false,
     };
@@ -382,9 +356,9 @@ fn keys_and_views_are_refused_in_turn(rt: HostRuntime) {
     for row in &ROWS {
         let left = filled(&rt, rt.alloc(), row.0);
         let right = filled(&rt, rt.alloc(), row.1);
-        let keys = is_swept(rt.alloc(), &left, &right, row.2, false);
-        let views = is_swept(rt.alloc(), &left, &right, row.2, true);
-        assert!(rt; keys);
-        assert!(rt; views);
+        for form in [Form::Keys, Form::KeysByRef, Form::Views, Form::ViewsByRef] {
+            let swept = is_swept(rt.alloc(), &left, &right, row.2, form);
+            assert!(rt; swept);
+        }
     }
 }

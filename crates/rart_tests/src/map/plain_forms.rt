@@ -55,3 +55,12 @@ fn a_probe_may_be_longer_than_any_key_of_its_type(rt: HostRuntime) {
     assert_eq!(rt; tree.longest_prefix_value_bytes(b"abcde"), Some(&1));
     assert_eq!(rt; tree.longest_prefix_value_bytes(b"abc"), None);
 }
+
+#[test]
+fn a_key_without_bytes_begins_every_probe(rt: HostRuntime) {
+    let mut tree = AdaptiveRadixTree::<ArrayKey<0>, u64>::new(rt.alloc());
+    let stored = tree.insert(ArrayKey::<0>::new_from_slice(b""), 1).is_ok();
+    assert!(rt; stored);
+    assert_eq!(rt; tree.longest_prefix_value_bytes(b"a"), Some(&1));
+    assert_eq!(rt; tree.get_bytes(b"a"), None);
+}

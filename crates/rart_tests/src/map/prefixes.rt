@@ -9,16 +9,16 @@ use rart::{AdaptiveRadixTree, ArrPartial, ArrayKey, Iter, KeyTrait, PrefixMatchI
 use std::alloc::Global;
 use std::process::Abort;
 
-pub(super) type Key = ArrayKey<16>;
+pub type Key = ArrayKey<16>;
 
-pub(super) type Tree = AdaptiveRadixTree<Key, u64>;
+pub type Tree = AdaptiveRadixTree<Key, u64>;
 
-pub(super) type Pair = (&'static str, u64);
+pub type Pair = (&'static str, u64);
 
 // A probe; the pairs whose key begins it, the shortest first; the pairs whose key it begins, ascending.
 type Row = (&'static str, &'static [Pair], &'static [Pair]);
 
-pub(super) fn filled(rt: &impl Abort, alloc: Global, pairs: &[Pair]) -> Tree {
+pub fn filled(rt: &impl Abort, alloc: Global, pairs: &[Pair]) -> Tree {
     let mut tree = Tree::new(alloc);
     for (text, value) in pairs {
         let bytes = text.as_bytes();
@@ -28,7 +28,7 @@ pub(super) fn filled(rt: &impl Abort, alloc: Global, pairs: &[Pair]) -> Tree {
     tree
 }
 
-pub(super) fn is_pair(found: &(Key, &u64), wanted: &Pair) -> bool {
+pub fn is_pair(found: &(Key, &u64), wanted: &Pair) -> bool {
     found.0.as_ref() == wanted.0.as_bytes() && *found.1 == wanted.1
 }
 
@@ -100,7 +100,7 @@ fn plays(rt: &impl Abort, tree: &Tree, rows: &[Row]) -> Option<usize> {
     None
 }
 
-pub(super) const THREE: [Pair; 3] = [("", 0), ("a", 1), ("ab", 2)];
+pub const THREE: [Pair; 3] = [("", 0), ("a", 1), ("ab", 2)];
 
 const OF_THREE: [Row; 4] = [
     ("", &[("", 0)], &THREE),
@@ -143,6 +143,76 @@ const OF_WORDS: [Row; 4] = [
         &[("alpha", 2), ("alphabet", 3), ("alphabetical", 4)],
     ),
 ];
+
+const ALPS: [Pair; 5] = [
+    ("alpha1", 1),
+    ("alpha2", 2),
+    ("alphabet", 3),
+    ("alpine", 4),
+    ("beta", 5),
+];
+
+const OF_ALPS: [Row; 1] = [(
+    "alp",
+    &[],
+    &[("alpha1", 1), ("alpha2", 2), ("alphabet", 3), ("alpine", 4)],
+)];
+
+const TWO: [Pair; 2] = [("alpha", 1), ("alphabet", 2)];
+
+const OF_TWO: [Row; 1] = [("alpine", &[], &[])];
+
+const PETS: [Pair; 2] = [("cat", 10), ("dog", 20)];
+
+const OF_PETS: [Row; 5] = [
+    ("catalog", &[("cat", 10)], &[]),
+    ("dog", &[("dog", 20)], &[("dog", 20)]),
+    ("doge", &[("dog", 20)], &[]),
+    ("do", &[], &[("dog", 20)]),
+    ("zebra", &[], &[]),
+];
+
+const NESTED: [Pair; 5] = [
+    ("", 0),
+    ("a", 1),
+    ("alpha", 2),
+    ("alphabet", 3),
+    ("apple", 4),
+];
+
+const OF_NESTED: [Row; 4] = [
+    (
+        "alphabetical",
+        &[("", 0), ("a", 1), ("alpha", 2), ("alphabet", 3)],
+        &[],
+    ),
+    (
+        "alpha",
+        &[("", 0), ("a", 1), ("alpha", 2)],
+        &[("alpha", 2), ("alphabet", 3)],
+    ),
+    ("alpine", &[("", 0), ("a", 1)], &[]),
+    ("zebra", &[("", 0)], &[]),
+];
+
+const OF_BYTES: [Pair; 3] = [("\x01\x02a", 1), ("\x01\x02b", 2), ("\x01\x03c", 3)];
+
+const OF_FIRST_BYTES: [Row; 1] = [("\x01\x02", &[], &[("\x01\x02a", 1), ("\x01\x02b", 2)])];
+
+const GROUPS: [(&[Pair], &[Row]); 5] = [
+    (&ALPS, &OF_ALPS),
+    (&TWO, &OF_TWO),
+    (&PETS, &OF_PETS),
+    (&NESTED, &OF_NESTED),
+    (&OF_BYTES, &OF_FIRST_BYTES),
+];
+
+#[test]
+fn groups_of_keys_that_share_beginnings(rt: HostRuntime) {
+    for (pairs, rows) in &GROUPS {
+        went_well(&rt, plays(&rt, &filled(&rt, rt.alloc(), pairs), rows));
+    }
+}
 
 #[test]
 fn keys_that_begin_a_probe_and_keys_that_it_begins(rt: HostRuntime) {

@@ -3,7 +3,8 @@
 
 use crate::play::replies::is_counted;
 use crate::play::{
-    Ask, Row, Want, plays_as_run, plays_refused_in_turn, run_is_refused_in_turn, went_well,
+    Ask, Row, Then, Want, plays, plays_as_run, plays_refused_in_turn, run_is_refused_in_turn,
+    went_well,
 };
 use crate::refusals::{refuse, was_refused};
 use rart::{AdaptiveRadixTree, ArrayKey, KeyTrait, Refused, TreeError, TreeStatsTrait};
@@ -191,6 +192,40 @@ pub(super) const EVERY_CALL: [Row<'static>; 25] = [
 fn runs_refused_in_turn_go_on_without_the_refused_call(rt: HostRuntime) -> Result<(), Fail> {
     went_well(&rt, plays_as_run::<ArrayKey<16>>(rt.alloc(), &EVERY_CALL)?);
     assert!(rt; run_is_refused_in_turn::<ArrayKey<16>>(rt.alloc(), &EVERY_CALL)?);
+    Ok(())
+}
+
+const ALL_CASES: [Row<'static>; 20] = [
+    (Ask::Insert("ab", 1), Want::None),
+    (Ask::TryInsert("ac", 2), Want::Inserted),
+    (Ask::Insert("a", 3), Want::None),
+    (Ask::Update("ab", Some(7), Then::Keep), Want::Is(true)),
+    (Ask::Update("ad", None, Then::Insert(4)), Want::Is(true)),
+    (Ask::Update("ad", None, Then::Remove), Want::Is(true)),
+    (Ask::TryUpdate("ac", Some(8), Then::Fail), Want::Failed),
+    (Ask::TryUpdate("ac", Some(9), Then::Keep), Want::Is(true)),
+    (Ask::Get("ac"), Want::Some(9)),
+    (Ask::Longest("abz"), Want::Pair("ab", 7)),
+    (Ask::Matches("abz"), Want::Pairs(&[("a", 3), ("ab", 7)])),
+    (
+        Ask::Prefix("a"),
+        Want::Pairs(&[("a", 3), ("ab", 7), ("ac", 9)]),
+    ),
+    (Ask::Range("ab", "b"), Want::Pairs(&[("ab", 7), ("ac", 9)])),
+    (Ask::Iter, Want::Pairs(&[("a", 3), ("ab", 7), ("ac", 9)])),
+    (Ask::Values, Want::Values(&[3, 7, 9])),
+    (Ask::Len, Want::Len(3)),
+    (Ask::IsEmpty, Want::Is(false)),
+    (Ask::Stats, Want::Counts([2, 3, 1, 2], &[(4, 1, 2)])),
+    (Ask::Delete("a"), Want::Is(true)),
+    (Ask::Remove("ab"), Want::Some(7)),
+];
+
+#[test]
+fn a_run_of_all_cases_refused_in_turn(rt: HostRuntime) -> Result<(), Fail> {
+    went_well(&rt, plays::<ArrayKey<16>>(rt.alloc(), &ALL_CASES));
+    went_well(&rt, plays_as_run::<ArrayKey<16>>(rt.alloc(), &ALL_CASES)?);
+    assert!(rt; run_is_refused_in_turn::<ArrayKey<16>>(rt.alloc(), &ALL_CASES)?);
     Ok(())
 }
 

@@ -2,6 +2,7 @@
 
 use crate::play::{Ask, Row, Want, plays, plays_as_run, went_well};
 use rart::ArrayKey;
+use rart::keys::tail_key::TailKey;
 use std::test::Fail;
 
 const EMPTY: [Row<'static>; 12] = [
@@ -123,6 +124,22 @@ const NO_BYTES: [Row<'static>; 8] = [
 #[test]
 fn keys_without_bytes(rt: HostRuntime) {
     went_well(&rt, plays::<ArrayKey<0>>(rt.alloc(), &NO_BYTES));
+}
+
+#[test]
+fn keys_kept_at_the_end_reply_alike(rt: HostRuntime) {
+    for rows in [
+        &KEYS_THAT_BEGIN_ONE_ANOTHER[..],
+        &CHAIN,
+        &FULL_WIDTH,
+        &REMOVED,
+        &NEVER_REPLACED,
+        &IN_ORDER,
+    ] {
+        went_well(&rt, plays::<TailKey<16>>(rt.alloc(), rows));
+    }
+    went_well(&rt, plays::<TailKey<4>>(rt.alloc(), &LONG_PROBE));
+    went_well(&rt, plays::<TailKey<0>>(rt.alloc(), &NO_BYTES));
 }
 
 const EVERY_BYTE: [Row<'static>; 7] = [

@@ -2,6 +2,7 @@
 
 use crate::play::replies::is_counted;
 use crate::play::{Ask, Row, Want, plays, went_well};
+use rart::keys::tail_key::TailKey;
 use rart::{AdaptiveRadixTree, ArrayKey, NodeStats, TreeStats, TreeStatsTrait};
 use std::alloc::Global;
 use std::process::Abort;
@@ -152,6 +153,21 @@ const NARROWING: [Row<'static>; 15] = [
 #[test]
 fn a_root_narrows_with_its_children_at_once(rt: HostRuntime) {
     went_well(&rt, plays::<ArrayKey<16>>(rt.alloc(), &NARROWING));
+}
+
+#[test]
+fn keys_kept_at_the_end_have_the_same_statistics(rt: HostRuntime) {
+    for rows in [
+        &LEAF_AND_PARENT[..],
+        &TWO_LEAVES,
+        &THREE_LEVELS,
+        &JOINED_WITH_A_WIDER_CHILD,
+        &JOINED_WITH_A_LEAF,
+        &WIDENING,
+        &NARROWING,
+    ] {
+        went_well(&rt, plays::<TailKey<8>>(rt.alloc(), rows));
+    }
 }
 
 type Numbers = AdaptiveRadixTree<ArrayKey<8>, u64>;

@@ -4,7 +4,9 @@ use crate::play::Tree as PlayedTree;
 use crate::play::replies::{are_alike, have_same_statistics};
 use crate::refusals::{part_ends, refuse, was_refused};
 use rart::script::{Call, Reply, step};
-use rart::{AdaptiveRadixTree, ArrayKey, KeyTrait, SlotUpdate, TreeError, TryUpdateError};
+use rart::{
+    AdaptiveRadixTree, ArrayKey, KeyTrait, Slot, SlotUpdate, TreeError, TryUpdateError, UpdateError,
+};
 use std::alloc::{AllocError, Global};
 use std::cell::Cell;
 use std::process::Abort;
@@ -28,15 +30,70 @@ fn key(byte: u8) -> Key {
     Key::new_from_slice(&[byte])
 }
 
-fn call(tries: bool, byte: u8, ask: Ask) -> Call<Key, u64> {
-    let update = match ask {
+fn asked(ask: Ask) -> SlotUpdate<u64> {
+    match ask {
         Ask::Remove => SlotUpdate::Remove,
         Ask::Insert(value) => SlotUpdate::Insert(value),
-    };
+    }
+}
+
+// By the form that takes a reference.
+fn by_reference(
+    alloc: Global,
+    tree: &mut Tree,
+    tries: bool,
+    byte: u8,
+    ask: Ask,
+) -> Reply<Key, u64> {
     if tries {
-        Call::TryUpdate(key(byte), Some(7), Ok(update))
+        step(
+            alloc,
+            tree,
+            Call::TryUpdate(key(byte), Some(7), Ok(asked(ask))),
+        )
     } else {
-        Call::Update(key(byte), Some(7), update)
+        step(alloc, tree, Call::Update(key(byte), Some(7), asked(ask)))
+    }
+}
+
+fn update_by_value(tree: &mut Tree, byte: u8, update: SlotUpdate<u64>) -> Reply<Key, u64> {
+    let answer = tree.update(key(byte), move |slot| {
+        if let Slot::Occupied(n) = slot {
+            *n = 7;
+        }
+        update
+    });
+    match answer {
+        Ok(touched) => Reply::Done(touched),
+        Err(UpdateError::Insert(refused)) => Reply::Returned(refused.error, refused.value),
+        Err(UpdateError::Remove) => Reply::NoRemove,
+    }
+}
+
+fn try_update_by_value(tree: &mut Tree, byte: u8, update: SlotUpdate<u64>) -> Reply<Key, u64> {
+    let answer: Result<bool, TryUpdateError<(), u64>> = tree.try_update(key(byte), move |slot| {
+        if let Slot::Occupied(n) = slot {
+            *n = 7;
+        }
+        Ok(update)
+    });
+    match answer {
+        Ok(touched) => Reply::Done(touched),
+        Err(TryUpdateError::Callback(())) => Reply::Failed,
+        Err(TryUpdateError::Insert(refused)) => Reply::Returned(refused.error, refused.value),
+        Err(TryUpdateError::Remove) => Reply::NoRemove,
+        Err(TryUpdateError::Clone) => Reply::NoClone,
+    }
+}
+
+fn answer(alloc: Global, tree: &mut Tree, row: &Row, by_value: bool) -> Reply<Key, u64> {
+    let (_count, tries, byte, ask, _kept, _after) = *row;
+    if !by_value {
+        by_reference(alloc, tree, tries, byte, ask)
+    } else if tries {
+        try_update_by_value(tree, byte, asked(ask))
+    } else {
+        update_by_value(tree, byte, asked(ask))
     }
 }
 
@@ -60,18 +117,18 @@ fn filled(alloc: Global, count: u8) -> Tree {
 
 // Makes the update with its first request refused, then with its second and so on, and at last with memory; whether each
 // went well.
-fn goes_well(alloc: Global, row: &Row) -> bool {
-    let (count, tries, byte, ask, kept, after) = *row;
+fn goes_well(alloc: Global, row: &Row, by_value: bool) -> bool {
+    let (count, _tries, byte, ask, kept, after) = *row;
     let mut tree = filled(alloc, count);
     let mut before = filled(alloc, count);
     for at in 1..100_usize {
         refuse(alloc, at);
-        let reply = step(alloc, &mut tree, call(tries, byte, ask));
+        let reply = answer(alloc, &mut tree, row, by_value);
         let refused = was_refused(alloc);
         let found = tree.get_bytes(&[byte]).copied();
         if !refused {
             part_ends(alloc);
-            let _unrefused = step(alloc, &mut before, call(tries, byte, ask));
+            let _unrefused = answer(alloc, &mut before, row, by_value);
             return matches!(reply, Reply::Done(true))
                 && found == after
                 && are_alike(&tree, &before);
@@ -106,7 +163,8 @@ const GROWING_AND_SHRINKING: [Row; 12] = [
 fn updates_refused_in_turn_keep_the_nodes(rt: HostRuntime) {
     let mut row = 0_usize;
     for update in &GROWING_AND_SHRINKING {
-        assert!(rt; goes_well(rt.alloc(), update), "row {row}");
+        assert!(rt; goes_well(rt.alloc(), update, false), "row {row}");
+        assert!(rt; goes_well(rt.alloc(), update, true), "row {row} by value");
         row = row.wrapping_add(1);
     }
 }
@@ -166,4 +224,66 @@ fn a_clone_refused_in_turn_calls_nothing_back(rt: HostRuntime) {
     let not_cloned = is_not_cloned(&mut values, &calls);
     assert!(rt; !not_cloned && calls.get() == 1);
     assert!(rt; values.get_k(&key(0)).is_some_and(|kept| kept.value == 5));
+}
+
+// So many keys of one byte from 0 on, each with its byte.
+fn with_clones(alloc: Global, count: u8) -> Values {
+    let mut values = Values::new(alloc);
+    for byte in 0..count {
+        let _old = values.insert(key(byte), Roomy { alloc, value: byte });
+    }
+    values
+}
+
+// The keys stand as they were put in, or all but the one at byte 2.
+fn holds(values: &Values, count: u8, all: bool) -> bool {
+    for byte in 0..count {
+        let value = values.get_k(&key(byte)).map(|roomy| roomy.value);
+        if value != (all || byte != 2).then_some(byte) {
+            return false;
+        }
+    }
+    values.len() == usize::from(count).wrapping_sub(usize::from(!all))
+}
+
+// Writes 99 at byte 2 and removes it. What is said, and how often it was called back.
+fn write_and_remove(values: &mut Values) -> (Result<bool, TryUpdateError<(), Roomy>>, usize) {
+    let calls = Cell::new(0_usize);
+    let answer = values.try_update_k(&key(2), |slot| {
+        calls.set(calls.get().wrapping_add(1));
+        if let Slot::Occupied(roomy) = slot {
+            roomy.value = 99;
+        }
+        Ok(SlotUpdate::Remove)
+    });
+    (answer, calls.get())
+}
+
+// Each request refused in turn: that of the clone calls nothing back, that of the removal restores the value.
+fn removal_goes_well(alloc: Global, count: u8) -> bool {
+    let mut values = with_clones(alloc, count);
+    for at in 1..100_usize {
+        refuse(alloc, at);
+        let (answer, calls) = write_and_remove(&mut values);
+        if !was_refused(alloc) {
+            part_ends(alloc);
+            return matches!(answer, Ok(true)) && calls == 1 && holds(&values, count, false);
+        }
+        let well = match answer {
+            Err(TryUpdateError::Clone) => at == 1 && calls == 0,
+            Err(TryUpdateError::Remove) => 1 < at && calls == 1,
+            _ => false,
+        };
+        if !well || !holds(&values, count, true) {
+            return false;
+        }
+    }
+    false
+}
+
+#[test]
+fn removals_of_values_with_clones_refused_in_turn(rt: HostRuntime) {
+    for count in [5_u8, 17, 49] {
+        assert!(rt; removal_goes_well(rt.alloc(), count), "{count} keys");
+    }
 }

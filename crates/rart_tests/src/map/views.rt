@@ -1,17 +1,15 @@
-//! Keys lent in segments: the segments, what a view says of its bytes, copies of them, and walks over views; also with each
-//! request for memory refused in turn.
+//! Keys lent in segments: the segments, what a view says of its bytes, copies of them, and walks over views.
 
 ghost use Rattle.std.specs.Prelude.{◌≤◌, length};
 
 use super::prefixes::{Key, Pair, Tree, filled};
-use crate::refusals::{refuse, was_refused};
 use rart::{KeyTrait, LendingKeyView, TreeError};
 use std::alloc::Global;
 use std::cell::Cell;
 use std::cmp::Ordering;
 use std::ops::Bound;
 
-const TREE_A: [Pair; 2] = [("ab", 1), ("abcd", 2)];
+pub const TREE_A: [Pair; 2] = [("ab", 1), ("abcd", 2)];
 
 const TREE_B: [Pair; 1] = [("abcd", 3)];
 
@@ -49,10 +47,10 @@ fn is_view(view: LendingKeyView<'_, '_>, row: &Row) -> bool {
 }
 
 // A pair, and the segments of its key, at most two.
-type Row = (&'static str, u64, &'static str, &'static str);
+pub type Row = (&'static str, u64, &'static str, &'static str);
 
 // Counts the rows that come in turn, and is past all of them where another comes.
-fn next_row(seen: usize, rows: &[Row], view: LendingKeyView<'_, '_>, value: u64) -> usize {
+pub fn next_row(seen: usize, rows: &[Row], view: LendingKeyView<'_, '_>, value: u64) -> usize {
     match rows.get(seen) {
         Some(row) if row.1 == value && is_view(view, row) => seen.wrapping_add(1),
         _ => 1000,
@@ -103,7 +101,12 @@ fn walk_sees_all(tree: &Tree, rows: &[Row]) -> Result<bool, TreeError> {
     tree.for_each_view(|view: LendingKeyView<'_, '_>, value: &u64| {
         seen.set(next_row(seen.get(), rows, view, *value));
     })?;
-    Ok(seen.get() == rows.len())
+    let mut lent = 0_usize;
+    let mut callback = |view: LendingKeyView<'_, '_>, value: &u64| {
+        lent = next_row(lent, rows, view, *value);
+    };
+    tree.for_each_view_with(&mut callback)?;
+    Ok(seen.get() == rows.len() && lent == rows.len())
 }
 
 #[test]
@@ -242,73 +245,4 @@ fn bytes_of_a_view_are_copied(rt: HostRuntime) {
         |view: LendingKeyView<'_, '_>, _value: &u64| well.set(copies(alloc, view) == Ok(true)),
     );
     assert!(rt; shown == Ok(true) && well.get());
-}
-
-// With a request refused the destination stays, and the copy says so.
-fn copy_is_refused_well(alloc: Global, view: LendingKeyView<'_, '_>, at: usize) -> bool {
-    let mut bytes = Vec::new(alloc);
-    refuse(alloc, at);
-    let copied = view.write_into(&mut bytes);
-    let refused = was_refused(alloc);
-    let well = match copied {
-        Ok(()) => !refused && bytes.as_slice() == b"abcd".as_slice(),
-        Err(error) => refused && error == TreeError::Memory && bytes.is_empty(),
-    };
-    refuse(alloc, at);
-    let vector = view.to_vec(alloc);
-    let refused = was_refused(alloc);
-    well && match vector {
-        Ok(bytes) => !refused && bytes.as_slice() == b"abcd".as_slice(),
-        Err(error) => refused && error == TreeError::Memory,
-    }
-}
-
-// The walk is refused before any call, or calls for all.
-fn walk_is_refused_well(alloc: Global, tree: &Tree, key: &Key, at: usize) -> bool {
-    let seen = Cell::new(0_usize);
-    refuse(alloc, at);
-    let walked = tree.prefix_for_each_view_k(key, |_view: LendingKeyView<'_, '_>, _value: &u64| {
-        seen.set(seen.get().wrapping_add(1));
-    });
-    let refused = was_refused(alloc);
-    let well = match walked {
-        Ok(()) => !refused && seen.get() == 2,
-        Err(error) => refused && error == TreeError::Memory && seen.get() == 0,
-    };
-    seen.set(0);
-    refuse(alloc, at);
-    let shown = tree.with_longest_prefix_match_view_k(
-        key,
-        |_view: LendingKeyView<'_, '_>, _value: &u64| seen.set(seen.get().wrapping_add(1)),
-    );
-    let refused = was_refused(alloc);
-    well && match shown {
-        Ok(told) => !refused && told && seen.get() == 1,
-        Err(error) => refused && error == TreeError::Memory && seen.get() == 0,
-    }
-}
-
-#[test]
-fn views_refused_in_turn(rt: HostRuntime) {
-    let alloc = rt.alloc();
-    let tree = filled(&rt, alloc, &TREE_A);
-    let key = Key::new_from_slice(b"ab");
-    for at in 1..6_usize {
-        assert!(rt;
-            walk_is_refused_well(alloc, &tree, &key, at),
-            "request {at}"
-        );
-    }
-    let copied = Cell::new(0_usize);
-    let shown = tree.with_longest_prefix_match_view_k(
-        &Key::new_from_slice(b"abcd"),
-        |view: LendingKeyView<'_, '_>, _value: &u64| {
-            for at in 1..4_usize {
-                if copy_is_refused_well(alloc, view, at) {
-                    copied.set(copied.get().wrapping_add(1));
-                }
-            }
-        },
-    );
-    assert!(rt; shown == Ok(true) && copied.get() == 3);
 }

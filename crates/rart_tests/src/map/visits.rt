@@ -1,5 +1,4 @@
-//! Walks with a callback: with what it is called, in order, and how the walk ends, in each form; and with each request for
-//! memory refused in turn.
+//! Walks with a callback: with what it is called, in order, and how the walk ends, in each form.
 //!
 //! What a callback saw is kept as digits behind a first 1: of each value one, of each key its length.
 
@@ -7,13 +6,11 @@ ghost use Rattle.std.specs.Prelude.{◌≤◌, length};
 
 use super::prefixes::{Key, Pair, THREE, Tree, filled};
 use crate::play::went_well;
-use crate::refusals::{refuse, was_refused};
-use rart::{KeyTrait, TreeError, VisitControl, VisitError};
-use std::alloc::Global;
+use rart::{KeyTrait, VisitControl, VisitError};
 use std::cell::Cell;
 use std::process::Abort;
 
-fn with_digit(seen: u64, digit: u64) -> u64 {
+pub fn with_digit(seen: u64, digit: u64) -> u64 {
     seen.wrapping_mul(10).wrapping_add(digit)
 }
 
@@ -85,32 +82,44 @@ fn tries_lent(tree: &Tree, key: Key, row: &Row) -> bool {
     ends_as(ended, row) && ends_as(again, row) && first == row.3 && seen == row.3
 }
 
-// A walk that can't end early.
+// A walk that can't end early, lent its callback.
+fn visits_all_lent(tree: &Tree, key: Key, row: &Row) -> bool {
+    let mut seen = 1_u64;
+    let mut callback = |value: &u64| seen = with_digit(seen, *value);
+    let by_reference = tree.prefix_values_for_each_with_k(&key, &mut callback);
+    let first = seen;
+    seen = 1;
+    let mut callback = |value: &u64| seen = with_digit(seen, *value);
+    let by_value = tree.prefix_values_for_each_with(key, &mut callback);
+    by_reference == Ok(()) && by_value == Ok(()) && first == row.3 && seen == row.3
+}
+
+fn folds_all(tree: &Tree, key: Key, row: &Row) -> bool {
+    let by_reference = tree.prefix_values_fold_k(
+        &key,
+        1_u64,
+        |seen, value: &u64| with_digit(seen, *value),
+    );
+    let by_value = tree.prefix_values_fold(
+        key,
+        1_u64,
+        |seen, value: &u64| with_digit(seen, *value),
+    );
+    by_reference == Ok(row.3) && by_value == Ok(row.3)
+}
+
+// The forms that take the callback.
 fn visits_all(tree: &Tree, key: Key, row: &Row) -> bool {
     let seen = Cell::new(1_u64);
     let callback = |value: &u64| seen.set(with_digit(seen.get(), *value));
     let by_reference = tree.prefix_values_for_each_k(&key, callback);
     let first = seen.get();
-    let mut lent = 1_u64;
-    let mut callback = |value: &u64| lent = with_digit(lent, *value);
-    let with = tree.prefix_values_for_each_with_k(&key, &mut callback);
-    let folded = tree.prefix_values_fold_k(
-        &key,
-        1_u64,
-        |seen, value: &u64| with_digit(seen, *value),
-    );
     seen.set(1);
     let by_value = tree.prefix_values_for_each(
         key,
         |value: &u64| seen.set(with_digit(seen.get(), *value)),
     );
-    by_reference == Ok(())
-        && with == Ok(())
-        && by_value == Ok(())
-        && folded == Ok(row.3)
-        && first == row.3
-        && lent == row.3
-        && seen.get() == row.3
+    by_reference == Ok(()) && by_value == Ok(()) && first == row.3 && seen.get() == row.3
 }
 
 fn is_row(tree: &Tree, probe: &[u8], row: &Row) -> bool
@@ -120,6 +129,8 @@ fn is_row(tree: &Tree, probe: &[u8], row: &Row) -> bool
     tries_by_value(tree, Key::new_from_slice(probe), row)
         && tries_lent(tree, Key::new_from_slice(probe), row)
         && (ends_early || visits_all(tree, Key::new_from_slice(probe), row))
+        && (ends_early || visits_all_lent(tree, Key::new_from_slice(probe), row))
+        && (ends_early || folds_all(tree, Key::new_from_slice(probe), row))
 }
 
 // The first row that goes another way, if one does.
@@ -142,9 +153,14 @@ fn values_below_a_prefix(rt: HostRuntime) {
 }
 
 // A probe, and of each match the length of its key and its value.
-const OF_THREE: [(&str, u64); 4] = [("abz", 1_00_11_22), ("b", 1_00), ("", 1_00), ("a", 1_00_11)];
+pub const OF_THREE: [(&str, u64); 4] = [
+    ("abz", 1_00_11_22),
+    ("b", 1_00),
+    ("", 1_00),
+    ("a", 1_00_11),
+];
 
-fn with_match(seen: u64, probe: &[u8], key: &[u8], value: u64) -> u64 {
+pub fn with_match(seen: u64, probe: &[u8], key: &[u8], value: u64) -> u64 {
     if probe.starts_with(key) {
         with_digit(with_digit(seen, key.len() as u64), value)
     } else {
@@ -178,65 +194,5 @@ fn matches_of_a_probe(rt: HostRuntime) {
         let probe = text.as_bytes();
         assert!(rt; probe.len() <= 16);
         assert!(rt; matches_are(&tree, probe, wanted), "probe {text}");
-    }
-}
-
-// What was seen, and whether the walk found room.
-fn seen_below(tree: &Tree, key: &Key) -> (u64, Result<(), TreeError>) {
-    let seen = Cell::new(1_u64);
-    let ended = tree.prefix_values_for_each_k(
-        key,
-        |value: &u64| seen.set(with_digit(seen.get(), *value)),
-    );
-    (seen.get(), ended)
-}
-
-fn tried_below(tree: &Tree, key: &Key) -> (u64, Result<(), TreeError>) {
-    let seen = Cell::new(1_u64);
-    let ended = tree.try_prefix_values_for_each_k(key, |value: &u64| {
-        seen.set(with_digit(seen.get(), *value));
-        Ok::<VisitControl, ()>(VisitControl::Continue)
-    });
-    match ended {
-        Ok(()) => (seen.get(), Ok(())),
-        Err(VisitError::Memory) => (seen.get(), Err(TreeError::Memory)),
-        Err(VisitError::Callback(())) => (0, Ok(())),
-    }
-}
-
-fn folded_below(tree: &Tree, key: &Key) -> (u64, Result<(), TreeError>) {
-    match tree.prefix_values_fold_k(key, 1_u64, |seen, value: &u64| with_digit(seen, *value)) {
-        Ok(seen) => (seen, Ok(())),
-        Err(error) => (1, Err(error)),
-    }
-}
-
-// A refused walk says `Memory` and has called nothing; another has called all.
-fn is_all_or_nothing(walk: (u64, Result<(), TreeError>), refused: bool) -> bool {
-    match walk.1 {
-        Ok(()) => !refused && walk.0 == 1_1234,
-        Err(error) => refused && error == TreeError::Memory && walk.0 == 1,
-    }
-}
-
-fn is_refused_well(alloc: Global, tree: &Tree, key: &Key, at: usize) -> bool {
-    refuse(alloc, at);
-    let walk = seen_below(tree, key);
-    let visits = is_all_or_nothing(walk, was_refused(alloc));
-    refuse(alloc, at);
-    let walk = tried_below(tree, key);
-    let tries = is_all_or_nothing(walk, was_refused(alloc));
-    refuse(alloc, at);
-    let walk = folded_below(tree, key);
-    visits && tries && is_all_or_nothing(walk, was_refused(alloc))
-}
-
-#[test]
-fn walks_refused_in_turn_call_nothing(rt: HostRuntime) {
-    let alloc = rt.alloc();
-    let tree = filled(&rt, alloc, &ALP);
-    let key = Key::new_from_slice(b"alp");
-    for at in 1..6_usize {
-        assert!(rt; is_refused_well(alloc, &tree, &key, at), "request {at}");
     }
 }

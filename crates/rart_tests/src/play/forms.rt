@@ -2,9 +2,9 @@
 ghost use Rattle.std.specs.Prelude.{◌≡◌, ◌≢◌, None};
 ghost use Rattle.rart_keys.specs.SortedMap.{lookup, put};
 
-use super::{Ask, Form, How, Spelling, Tree};
+use super::{Ask, Form, How, Spelling, Then, Tree};
 use rart::script::{Call, Reply, step};
-use rart::{ArrayKey, KeyTrait, NotInserted, TryInsertError};
+use rart::{ArrayKey, KeyTrait, NotInserted, SlotUpdate, TryInsertError};
 use std::alloc::Global;
 use std::ops::Bound;
 
@@ -53,6 +53,15 @@ pub fn answer<K: KeyTrait + Drop>(
     })
 }
 
+fn asked(then: Then) -> Result<SlotUpdate<u64>, ()> {
+    match then {
+        Then::Keep => Ok(SlotUpdate::Keep),
+        Then::Remove => Ok(SlotUpdate::Remove),
+        Then::Insert(value) => Ok(SlotUpdate::Insert(value)),
+        Then::Fail => Err(()),
+    }
+}
+
 /// The call as a value, where it is one.
 pub fn call<K: KeyTrait + Drop>(ask: Ask<'_>, spelling: Spelling) -> Option<Call<K, u64>> {
     Some(match ask {
@@ -61,6 +70,12 @@ pub fn call<K: KeyTrait + Drop>(ask: Ask<'_>, spelling: Spelling) -> Option<Call
         Ask::TryInsert(text, value) => Call::TryInsert(key(text, spelling)?, value),
         Ask::Remove(text) => Call::Remove(key(text, spelling)?),
         Ask::Delete(text) => Call::Delete(key(text, spelling)?),
+        Ask::Update(text, written, then) => {
+            Call::Update(key(text, spelling)?, written, asked(then).ok()?)
+        }
+        Ask::TryUpdate(text, written, then) => {
+            Call::TryUpdate(key(text, spelling)?, written, asked(then))
+        }
         Ask::Longest(text) => Call::Longest(key(text, spelling)?),
         Ask::Matches(text) => Call::Matches(key(text, spelling)?),
         Ask::Prefix(text) => Call::Prefix(key(text, spelling)?),

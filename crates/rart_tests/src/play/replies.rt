@@ -1,7 +1,7 @@
 //! Whether a reply is the wanted one.
 
 use super::forms::key;
-use super::{Ask, Spelling, Tree, Want};
+use super::{Ask, Spelling, Then, Tree, Want};
 use rart::script::Reply;
 use rart::{KeyTrait, NodeStats, TreeError, TreeStats, TreeStatsTrait};
 
@@ -14,7 +14,7 @@ where
         (Reply::Value(found), Want::None) => found.is_none(),
         (Reply::Value(found), Want::Some(value)) => *found == Some(*value),
         (Reply::Done(found), Want::Is(answer)) => found == answer,
-        (Reply::Inserted, Want::Inserted) => true,
+        (Reply::Inserted, Want::Inserted) | (Reply::Failed, Want::Failed) => true,
         (Reply::Occupied(back, stored), Want::Occupied(proposed, present)) => {
             back == proposed && stored == present
         }
@@ -98,7 +98,11 @@ pub fn is_refusal<K>(reply: &Reply<K, u64>, ask: &Ask<'_>) -> bool {
     match (reply, ask) {
         (
             Reply::Returned(error, back),
-            Ask::Insert(_, value) | Ask::TryInsert(_, value) | Ask::InsertNew(_, value),
+            Ask::Insert(_, value)
+            | Ask::TryInsert(_, value)
+            | Ask::InsertNew(_, value)
+            | Ask::Update(_, _, Then::Insert(value))
+            | Ask::TryUpdate(_, _, Then::Insert(value)),
         ) => *error == TreeError::Memory && back == value,
         (
             Reply::Refused(error),
@@ -111,6 +115,8 @@ pub fn is_refusal<K>(reply: &Reply<K, u64>, ask: &Ask<'_>) -> bool {
             | Ask::Values
             | Ask::Stats,
         ) => *error == TreeError::Memory,
+        (Reply::NoRemove, Ask::Update(_, _, Then::Remove) | Ask::TryUpdate(_, _, Then::Remove)) =>
+            true,
         _ => false,
     }
 }
@@ -120,7 +126,7 @@ pub fn are_same<K: KeyTrait>(one: &Reply<K, u64>, other: &Reply<K, u64>) -> bool
     match (one, other) {
         (Reply::Value(left), Reply::Value(right)) => left == right,
         (Reply::Done(left), Reply::Done(right)) => left == right,
-        (Reply::Inserted, Reply::Inserted) => true,
+        (Reply::Inserted, Reply::Inserted) | (Reply::Failed, Reply::Failed) => true,
         (Reply::Occupied(back, stored), Reply::Occupied(proposed, present)) => {
             back == proposed && stored == present
         }

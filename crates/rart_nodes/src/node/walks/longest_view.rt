@@ -1,10 +1,10 @@
 //! The longest key that begins a probe, lent in segments to one call.
-ghost use Rattle.std.specs.Prelude.{◌≡◌, ◌≢◌, None, IfErr, IfOk};
+ghost use Rattle.std.specs.Prelude.{◌≡◌, ◌≢◌, ◌≤◌, ◌+◌, ◌*◌, None, IfErr, IfOk, OnErr, length};
 ghost use Rattle.rart_keys.specs.Filters.{longest_match};
 ghost use Rattle.rart_nodes.specs.tries.Tree.{seen_keys, seen_pairs};
-ghost use Rattle.rart_nodes.specs.walks.Viewed.{SeesFound};
+ghost use Rattle.rart_nodes.specs.walks.Viewed.{SeesFound, ShowsFound};
 
-use crate::count::Visits;
+use crate::count::{Count, Visits};
 use crate::node::matching::beginning;
 use crate::node::seen::Seen;
 use crate::node::trail::SegmentTrail;
@@ -48,5 +48,51 @@ impl<'a, K: KeyTrait, V> Seen<'a, K, V, Visits> {
         ensures memory { IfErr result (λ e. (e ≡ TreeError.Memory) × (longest_match (K.bytes probe.now) (seen_pairs self.entry.root) ≢ None)) }
     {
         self.with_longest_view(probe.as_ref(), f)
+    }
+}
+
+impl<'a, K: KeyTrait, V, C: Count> Seen<'a, K, V, C> {
+    fn lend_longest_view<F: FnMut(LendingKeyView<'_, '_>, &V)>(
+        self,
+        probe: &[u8],
+        f: &mut F,
+        counter: &mut C,
+    ) -> Result<bool, TreeError>
+        requires callable { F.IsAlwaysCallable f.old }
+        ensures callable { F.IsAlwaysCallable f.new }
+        ensures called { IfOk result (ShowsFound F.FnMut f.old (seen_keys self.entry.root) (longest_match probe.now (seen_pairs self.entry.root)) f.new) }
+        ensures refused { OnErr result (f.new ≡ f.old) }
+        ensures memory { IfErr result (λ e. (e ≡ TreeError.Memory) × (longest_match probe.now (seen_pairs self.entry.root) ≢ None)) }
+        ensures bound { C.number counter.new ≤ C.number counter.old + 3 * length probe.now + 2 }
+    {
+        let Some((depth, _)) = self.last_match(probe, counter) else {
+            return Ok(false);
+        };
+        let key = beginning(probe, depth);
+        let (mut tour, mut trail) = self.tour_below::<SegmentTrail<'a>>(key, counter)?;
+        let Some(value) = tour.advance(&mut trail, counter) else {
+            unreachable!()
+        };
+        f(LendingKeyView::of(trail.segments()), value);
+        Ok(true)
+    }
+
+    /// Calls `f` once with a view of the longest key that begins `probe` and with its value, as `with_longest_prefix_match_view_k`
+    /// does. `f` is lent, so that the caller sees that it wasn't called where there is no such key or the room was refused. It visits
+    /// at most three nodes for each byte of the probe, and two.
+    pub fn with_longest_prefix_match_view_with_k_counted<F: FnMut(LendingKeyView<'_, '_>, &V)>(
+        self,
+        probe: &K,
+        f: &mut F,
+        counter: &mut C,
+    ) -> Result<bool, TreeError>
+        requires callable { F.IsAlwaysCallable f.old }
+        ensures callable { F.IsAlwaysCallable f.new }
+        ensures called { IfOk result (ShowsFound F.FnMut f.old (seen_keys self.entry.root) (longest_match (K.bytes probe.now) (seen_pairs self.entry.root)) f.new) }
+        ensures refused { OnErr result (f.new ≡ f.old) }
+        ensures memory { IfErr result (λ e. (e ≡ TreeError.Memory) × (longest_match (K.bytes probe.now) (seen_pairs self.entry.root) ≢ None)) }
+        ensures bound { C.number counter.new ≤ C.number counter.old + 3 * length (K.bytes probe.now) + 2 }
+    {
+        self.lend_longest_view(probe.as_ref(), f, counter)
     }
 }

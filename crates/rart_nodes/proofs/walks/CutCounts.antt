@@ -1,0 +1,30 @@
+-- A key is cut into no more pieces than it has bytes.
+use Rattle.std.proofs.Common.{ℕ, ◌+◌, ◌≤◌, suc, Bool, true, false, List, [], ◌∷◌, ◌++◌, length, arith, Option, if◌then◌else◌, is_some}
+use Rattle.std.proofs.lemmas.List.{length-append}
+use Rattle.rart_nodes.specs.shapes.Shape.{NodeRecord, record_at}
+use Rattle.rart_nodes.specs.walks.Cut.{cut, cut_by, with_piece}
+use Rattle.rart_nodes.specs.walks.Tour.{Pieces, Tells}
+use Rattle.rart_nodes.specs.walks.TrailParts.{one_piece}
+
+piece-few : (p : List ℕ) (ps : Pieces) → length (with_piece p ps) ≤ length p + length ps
+piece-few [] ps = omega arith
+piece-few (b ∷ p) ps = omega arith
+
+either-few : (t : Bool) (n : ℕ) (xs ys : Pieces) → length xs ≤ n → length ys ≤ n → length (if t then xs else ys) ≤ n
+either-few true n xs ys p q = p
+either-few false n xs ys p q = q
+
+cut_by-few : (f : List ℕ → Option NodeRecord) (p k : List ℕ) → length (cut_by f p k) ≤ length p + length k
+cut_by-few f p [] = piece-few p []
+cut_by-few f p (b ∷ k) =
+    let f' : List ℕ → Option NodeRecord = λ z. f (b ∷ z) in
+    let one = piece-few p (cut_by f' (b ∷ []) k) in
+    let behind = cut_by-few f' (b ∷ []) k in
+    let more = cut_by-few f' (p ++ b ∷ []) k in
+    either-few (is_some (f [])) (length p + suc (length k)) (with_piece p (cut_by f' (b ∷ []) k)) (cut_by f' (p ++ b ∷ []) k) (omega (arith, one, behind)) (omega (arith, more, length-append p (b ∷ [])))
+
+pub cut-few : (s : List (List ℕ)) (k : List ℕ) → length (cut s k) ≤ length k
+cut-few s k = let few = cut_by-few (record_at s) [] k in omega (arith, few)
+
+pub tells-one : Tells one_piece
+tells-one b p = omega arith

@@ -1,0 +1,10 @@
+//! Walks in every form: with each request for memory refused in turn, by their counted forms, and where nothing may be asked
+//! for.
+
+mod asking;
+mod copies;
+mod counted;
+mod forms;
+mod laws;
+mod segments;
+mod sweeps;

@@ -1,0 +1,132 @@
+"""The program, run from outside: each request for memory refused in turn, reads that are short or fail, writes that fail.
+
+In a run with one request refused the program ends with status 0, and each line is the answer of a run in which the refused
+command was left out, or `Memory`; or it ends with status 1 and says that it cannot read, and has printed nothing.
+"""
+import os
+import pathlib
+import subprocess
+import tempfile
+
+CANNOT_READ = b"rart_script: cannot read\n"
+CANNOT_WRITE = b"rart_script: cannot write\n"
+
+TEN_LINES = b"""insert cat 1
+insert catalog 2
+insert dog 3
+prefix ca
+longest catalogue
+range cat dog
+remove cat
+stats
+get -
+len
+"""
+
+TEN_ANSWERS = b"""none
+none
+none
+cat=1 catalog=2
+some catalog=2
+cat=1 catalog=2
+some 1
+leaves 2 values 2 inner 1 children 2 width 4 height 2 w4:1/2
+none
+2
+"""
+
+
+def all_widths():
+    """A root that grows from a leaf to 256 places for its children, and shrinks to a leaf again."""
+    keys = [bytes([byte]) for byte in range(0x80, 0x80 + 50)]
+    lines = []
+    for i, key in enumerate(keys):
+        lines.append(b"insert %s %d" % (key, i))
+        if i in (3, 4, 15, 16, 47, 48):
+            lines.append(b"stats")
+    lines += [b"iter", b"range \x90 \x98", b"prefix -"]
+    for i, key in enumerate(keys):
+        lines.append(b"remove %s" % key)
+        if i in (0, 1, 2, 33, 34, 45, 46):
+            lines.append(b"stats")
+    return b"\n".join(lines + [b"len", b""])
+
+
+def run(program, script, refuse=0, library=None, **how):
+    """The status, what was printed and said, and whether a request was refused."""
+    with tempfile.TemporaryDirectory() as room:
+        report = pathlib.Path(room) / "report"
+        env = {"PATH": "/usr/bin:/bin", "REFUSE": str(refuse), "REFUSE_REPORT": str(report)}
+        if library:
+            env["LD_PRELOAD"] = str(library)
+        how = {"stdout": subprocess.PIPE, "stderr": subprocess.PIPE, **how}
+        if "stdin" not in how:
+            how["input"] = script
+        ended = subprocess.run([program], env=env, cwd=room, timeout=120, **how)
+        refused = report.exists() and " refused=0" not in report.read_text()
+    return ended.returncode, ended.stdout, ended.stderr, refused
+
+
+def swept(program, script, library):
+    """Why the sweep failed, or nothing, and how many requests were refused. Each line of the script prints one."""
+    lines = script.splitlines(keepends=True)
+    status, whole, said, _ = run(program, script)
+    if status != 0 or said or len(whole.splitlines()) != len(lines):
+        return "it goes wrong with ample memory", 0
+    for at in range(1, 10_000):
+        status, printed, said, refused = run(program, script, at, library)
+        if not refused:
+            well = at > 1 and (status, printed, said) == (0, whole, b"")
+            return "" if well else "no request was refused, or it then went wrong", at - 1
+        if status == 1 and not printed and said == CANNOT_READ:
+            continue
+        answers = printed.splitlines()
+        if status != 0 or said or len(answers) != len(lines):
+            return f"request {at}: status {status}, {len(answers)} lines", at
+        kept = [i for i, answer in enumerate(answers) if answer != b"Memory"]
+        _, wanted, _, _ = run(program, b"".join(lines[i] for i in kept))
+        if [answers[i] for i in kept] != wanted.splitlines():
+            return f"request {at}: the other answers differ", at
+    return "refused for ever", 0
+
+
+def short_reads(program):
+    """The script in pieces of three bytes."""
+    read, write = os.pipe()
+    child = subprocess.Popen([program], stdin=read, stdout=subprocess.PIPE, stderr=subprocess.PIPE, env={})
+    os.close(read)
+    for at in range(0, len(TEN_LINES), 3):
+        os.write(write, TEN_LINES[at:at + 3])
+    os.close(write)
+    printed, said = child.communicate(timeout=60)
+    return "" if (child.returncode, printed, said) == (0, TEN_ANSWERS, b"") else "short reads change the answers"
+
+
+def failed_read(program):
+    """A folder can't be read."""
+    folder = os.open("/", os.O_RDONLY)
+    status, printed, said, _ = run(program, b"", stdin=folder)
+    os.close(folder)
+    return "" if (status, printed, said) == (1, b"", CANNOT_READ) else f"status {status}, {said!r}"
+
+
+def failed_write(program):
+    """A full disk, and then a pipe that nobody reads."""
+    with open("/dev/full", "wb") as full:
+        status, _, said, _ = run(program, TEN_LINES, stdout=full)
+    if (status, said) != (1, CANNOT_WRITE):
+        return f"/dev/full: status {status}, {said!r}"
+    with open("/dev/full", "wb") as full:
+        status, _, _, _ = run(program, b"foo\n", stderr=full)
+    return "" if status == 1 else f"errors to /dev/full: status {status}"
+
+
+def checks(program, library):
+    """Each check: its name, why it failed, or nothing, and how many requests were refused."""
+    for name, script in (("ten lines", TEN_LINES), ("all widths", all_widths())):
+        why, refused = swept(program, script, library)
+        yield f"{name}, each request refused", why, refused
+    status, printed, said, _ = run(program, TEN_LINES)
+    yield "ten lines", "" if (status, printed, said) == (0, TEN_ANSWERS, b"") else "other answers", 0
+    for name, check in (("short reads", short_reads), ("a failed read", failed_read), ("failed writes", failed_write)):
+        yield name, check(program), 0
