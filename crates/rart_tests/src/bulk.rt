@@ -1,7 +1,9 @@
 //! How far a bulk load reads where memory is refused, and which index it asks for.
 
+pub mod rows;
+
+use crate::bulk::rows::{Pairs, Read, key_of};
 use crate::loads::Key;
-use crate::map::bulk_loads::{Pairs, Read, key_of};
 use crate::play::Tree;
 use crate::refusals::{part_ends, refuse, was_refused};
 use rart::BulkError;

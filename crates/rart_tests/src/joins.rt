@@ -2,4 +2,5 @@
 
 mod counted;
 mod laws;
+pub mod rows;
 mod wide;

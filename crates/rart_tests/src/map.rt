@@ -1,9 +1,7 @@
 //! Tests of the map.
 
 mod asks_for_nothing;
-pub mod bulk_loads;
 mod drops;
-pub mod intersections;
 mod iterators;
 mod laws;
 mod migrations;
@@ -17,7 +15,6 @@ mod routes;
 pub mod statistics;
 mod texts;
 mod updates;
-mod updates_refused;
 pub mod views;
 pub mod visits;
 mod with_memory;

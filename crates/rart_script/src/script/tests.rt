@@ -1,9 +1,11 @@
 //! Whole scripts, by what they print, what they say and their status.
 
 use super::run_lines;
+use std::alloc::Global;
 use std::cell::RefCell;
 use std::io;
 use std::io::{BufWriter, ErrorKind, Read, Write};
+use std::process::Abort;
 use std::test::Fail;
 
 /// A reader of some bytes whose next read fails.
@@ -16,6 +18,17 @@ impl Read for Breaks<'_> {
             return Err(io::Error::from(ErrorKind::Other));
         }
         self.0.read(buf)
+    }
+}
+
+/// A reader that gives one byte at a time.
+#[derive(Drop)]
+struct Slow<'a>(&'a [u8]);
+
+impl Read for Slow<'_> {
+    fn read(&mut self, buf: &mut [u8]) -> io::Result<usize> {
+        let most = buf.len().min(1);
+        self.0.read(&mut buf[..most])
     }
 }
 
@@ -244,18 +257,45 @@ const ROWS: [Row<'static>; 64] = [
     (b"range a 0123456789abcdef0123456789abcdef0", "", FIRST, 2),
 ];
 
+// What lines between and around the others do.
+const MIXED: [Row<'static>; 5] = [
+    (
+        b"insert - 5\r\n\ninsert a 007\niter",
+        "none\nnone\n-=5 a=7\n",
+        "",
+        0,
+    ),
+    (b"insert b 1\nrange c a\n", "none\nempty\n", "", 0),
+    (b"insert - 5\n\nget\n", "none\n", "line 3: bad command\n", 2),
+    (b"len x", "", FIRST, 2),
+    (b"remove", "", FIRST, 2),
+];
+
+// The row's output, message and status are those of a run over its input.
+fn goes_so(rt: &impl Abort, alloc: Global, row: &Row<'static>, at: usize) {
+    let (mut input, output, message, status) = *row;
+    let mut printed = Vec::new(alloc);
+    let mut said = Vec::new(alloc);
+    let ended = run_lines(alloc, &mut input, &mut printed, &mut said);
+    assert_eq!(rt; printed.as_slice(), output.as_bytes(), "output of row {at}");
+    assert_eq!(rt; said.as_slice(), message.as_bytes(), "message of row {at}");
+    assert_eq!(rt; ended, status, "status of row {at}");
+}
+
 #[test]
 fn scripts_print_and_say_what_the_rows_have(rt: HostRuntime) {
-    let alloc = rt.alloc();
     let mut at = 0_usize;
-    for (input, output, message, status) in ROWS {
-        let mut printed = Vec::new(alloc);
-        let mut said = Vec::new(alloc);
-        let mut input = input;
-        let ended = run_lines(alloc, &mut input, &mut printed, &mut said);
-        assert_eq!(rt; printed.as_slice(), output.as_bytes(), "output of row {at}");
-        assert_eq!(rt; said.as_slice(), message.as_bytes(), "message of row {at}");
-        assert_eq!(rt; ended, status, "status of row {at}");
+    for row in ROWS {
+        goes_so(&rt, rt.alloc(), &row, at);
+        at = at.wrapping_add(1);
+    }
+}
+
+#[test]
+fn mixed_lines_print_and_say_what_the_rows_have(rt: HostRuntime) {
+    let mut at = 0_usize;
+    for row in MIXED {
+        goes_so(&rt, rt.alloc(), &row, at);
         at = at.wrapping_add(1);
     }
 }
@@ -274,6 +314,18 @@ fn answers_stand_before_the_message(rt: HostRuntime) -> Result<(), Fail> {
     );
     assert_eq!(rt; status, 2);
     Ok(())
+}
+
+#[test]
+fn short_reads_change_nothing(rt: HostRuntime) {
+    let alloc = rt.alloc();
+    let mut printed = Vec::new(alloc);
+    let mut said = Vec::new(alloc);
+    let mut input = Slow(b"insert - 5\r\n\ninsert a 007\niter\nfoo");
+    let status = run_lines(alloc, &mut input, &mut printed, &mut said);
+    assert_eq!(rt; printed.as_slice(), b"none\nnone\n-=5 a=7\n".as_slice());
+    assert_eq!(rt; said.as_slice(), b"line 5: bad command\n".as_slice());
+    assert_eq!(rt; status, 2);
 }
 
 #[test]

@@ -1,6 +1,6 @@
 //! The counted calls of intersections: each answers as the plain one does.
 
-use crate::map::intersections::{Given, Key, ROWS, Tree, Triple, filled};
+use crate::joins::rows::{Given, Key, ROWS, Tree, Triple, filled};
 use rart::{KeyTrait, LendingKeyView, Seen, Visits};
 
 fn seen(tree: &Tree) -> Seen<'_, Key, u64, Visits> {

@@ -1,6 +1,6 @@
 //! The law of intersections, called on each row; and how many nodes stand in two trees that meet.
 
-use crate::map::intersections::{Given, Key, Pair, ROWS, Tree, Triple, filled};
+use crate::joins::rows::{Given, Key, Pair, ROWS, Tree, Triple, filled};
 use crate::play::replies::is_counted;
 use crate::refusals::{refuse, was_refused};
 use rart::laws::intersections::intersections_are_symmetric;

@@ -1,6 +1,6 @@
 //! Intersections of nodes of every two widths, key by key, and of trees whose values have two types.
 
-use crate::map::intersections::{Key, Pair, Tree, Triple, filled, is_met};
+use crate::joins::rows::{Key, Pair, Tree, Triple, filled, is_met};
 use rart::{AdaptiveRadixTree, KeyTrait, TreeError};
 use std::alloc::Global;
 use std::cell::Cell;

@@ -1,6 +1,8 @@
 //! Updates through a slot, as calls that are values: what is written where the slot is occupied, what is asked for then, the
 //! reply, and the value that the key has afterwards.
 
+mod refused;
+
 use crate::play::went_well;
 use rart::script::{Call, Reply, step};
 use rart::{AdaptiveRadixTree, ArrayKey, KeyTrait, Slot, SlotUpdate, TryUpdateError};
