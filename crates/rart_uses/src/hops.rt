@@ -1,19 +1,22 @@
 //! A route table: networks by their first bytes, each with a next hop.
-ghost use Rattle.std.specs.Prelude.{◌≡◌, ◌≤◌, length, option_map, OnErr, OnOk};
+ghost use Rattle.std.specs.Prelude.{◌≡◌, ◌≤◌, length, option_map, IfErr, OnErr, OnOk};
 ghost use Rattle.std.specs.Option.{option_copied};
 ghost use Rattle.rart_keys.specs.Filters.{longest_match};
 ghost use Rattle.rart_keys.specs.SortedMap.{put};
+ghost use Rattle.rart.specs.Refusals.{MayRefuse};
 
 use rart::{AdaptiveRadixTree, ArrayKey, KeyTrait, Refused};
 
 /// Networks of at most 16 bytes, and the number of the next hop of each.
 pub type Routes = AdaptiveRadixTree<ArrayKey<16>, u32>;
 
-/// Sends what goes to `network` to `hop` from now on. Refused, the table is as before.
+/// Sends what goes to `network` to `hop` from now on. Refused, only where the network is new, the table is as before, and `hop`
+/// comes back with the reason.
 pub fn add_route(routes: &mut Routes, network: &[u8], hop: u32) -> Result<(), Refused<u32>>
     requires { length network.now ≤ 16 }
     ensures added { OnOk result (routes.new.pairs ≡ put network.now hop routes.old.pairs) }
-    ensures refused { OnErr result (routes.new ≡ routes.old) }
+    ensures refused { IfErr result (λ e. (e.value ≡ hop) × MayRefuse routes.old.pairs network.now e.error) }
+    ensures unchanged { OnErr result (routes.new ≡ routes.old) }
 {
     match routes.insert_k(&ArrayKey::<16>::new_from_slice(network), hop) {
         Ok(_old) => Ok(()),

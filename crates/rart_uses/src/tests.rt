@@ -69,6 +69,11 @@ fn readings_of_a_stretch_leave_out_its_end(rt: HostRuntime) -> Result<(), Fail> 
     let mut stretch = readings_between(&readings, 15, 30)?;
     let values = (stretch.next().map(|pair| *pair.1), stretch.next().is_none());
     assert!(rt; values == (Some(20), true));
+    let mut sum = 0_u64;
+    for (_time, value) in readings_between(&readings, 15, 31)? {
+        sum = sum.wrapping_add(*value);
+    }
+    assert_eq!(rt; sum, 50);
     assert_eq!(rt; count_shared(&readings, &readings), 3);
     Ok(())
 }

@@ -21,6 +21,8 @@ pub fn intersections_are_symmetric<K: KeyTrait, V, W, F: FnMut(K, &V, &W), G: Fn
 ) -> Result<(), TreeError>
     requires one_way { F.IsAlwaysCallable f.old }
     requires back { G.IsAlwaysCallable g.old }
+    ensures callable { F.IsAlwaysCallable f.new }
+    ensures callable_back { G.IsAlwaysCallable g.new }
     ensures ascending { IsAscending (join one.now.pairs other.now.pairs) }
     ensures common { (k : _) → lookup k (join one.now.pairs other.now.pairs) ≡ both (lookup k one.now.pairs) (lookup k other.now.pairs) }
     ensures calls { OnOk result (FoldsTo (λ p x q. CalledAt F.FnMut K.bytes p x q) f.old (join one.now.pairs other.now.pairs) f.new) }

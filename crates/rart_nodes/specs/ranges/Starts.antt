@@ -1,5 +1,5 @@
 -- What a walk has ahead of it from a start on.
-use Rattle.std.specs.Prelude.{ℕ, ◌+◌, Bool, cond, ltb, List, [], ◌∷◌, length, Option, Some, None, if◌then◌else◌}
+use Rattle.std.specs.Prelude.{ℕ, ◌+◌, Bool, cond, ltb, List, [], ◌∷◌, length, if◌then◌else◌}
 use Rattle.std.specs.List.{filter}
 use Rattle.std.specs.declared.ops.Bound.{Bound}
 use Rattle.rart_keys.specs.Ranges.{is_since, is_to}
@@ -19,11 +19,6 @@ stops_since h s es = filter (λ e. is_since h s (joined e.0)) es
 abbrev pub stops_to : {V : Type 0} → Bound (List ℕ) → List (Pieces × V) → List (Pieces × V)
 stops_to b [] = []
 stops_to b (e ∷ es) = if is_to b (joined e.0) then e ∷ stops_to b es else []
-
--- what a walk has left, which is nothing once it is gone
-abbrev pub pairs_left : {A : Type 0} → Option (List A) → List A
-pairs_left None = []
-pairs_left (Some es) = es
 
 -- one more than the bytes of the first key, or nothing where no pair is left
 abbrev pub bytes_taken : {V : Type 0} → List (List ℕ × V) → ℕ

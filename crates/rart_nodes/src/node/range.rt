@@ -13,7 +13,7 @@ ghost use Rattle.rart_nodes.specs.walks.ProbeCount.{probe_count};
 use crate::count::{Count, Visits};
 use crate::node::iter::{Iter, KeyTour};
 use crate::node::seen::Seen;
-use rart_keys::KeyTrait;
+use rart_keys::{KeyTrait, Partial};
 use rart_parts::TreeError;
 use std::cmp::Ordering;
 use std::marker::Model;
@@ -53,26 +53,33 @@ pub(crate) fn bytes_of<K: KeyTrait>(start: &Bound<K>) -> (&[u8], bool)
     }
 }
 
+/// What is left of a walk with an end. An `Option` of a walk isn't shown to be droppable by a caller's proof.
+#[derive(Drop)]
+enum Rest<'a, K: KeyTrait, P: Partial, V, C> {
+    Ahead(KeyTour<'a, K, P, V, C>),
+    /// The end was passed.
+    Over,
+}
+
 /// A walk that ends for good at the first key past its end.
 #[derive(Drop)]
-struct Ended<'a, K: KeyTrait, V, C> {
-    // none once the end was passed
-    walk: Option<KeyTour<'a, K, K::PartialType, V, C>>,
+struct Ended<'a, K: KeyTrait, P: Partial, V, C> {
+    walk: Rest<'a, K, P, V, C>,
     end: Bound<K>,
 }
 
-impl<'a, K: KeyTrait, V, C> Model for Ended<'a, K, V, C> {
-    ghost use Rattle.std.specs.Prelude.{ℕ, List};
+impl<'a, K: KeyTrait, P: Partial, V, C> Model for Ended<'a, K, P, V, C> {
+    ghost use Rattle.std.specs.Prelude.{ℕ, List, []};
     ghost use Rattle.std.specs.declared.ops.Bound.{Bound};
     ghost use Rattle.rart_keys.specs.Ranges.{bound_in};
-    ghost use Rattle.rart_nodes.specs.ranges.Starts.{pairs_left};
+    ghost use Rattle.rart_nodes.specs.declared.node.range.Rest.TheVariants.{Ahead, Over};
 
     ghost Value = { Bound (List ℕ) × List (List ℕ × V) };
 
-    ghost view = { λ e. (bound_in K.bytes e.end, pairs_left e.walk) };
+    ghost view = { λ e. (bound_in K.bytes e.end, elim e.walk [ Ahead es ↦ es | Over ↦ [] ]) };
 }
 
-impl<'a, K: KeyTrait + Drop, V, C: Count> Ended<'a, K, V, C> {
+impl<'a, K: KeyTrait + Drop, P: Partial, V, C: Count> Ended<'a, K, P, V, C> {
     /// The next pair. Takes no memory.
     fn step(&mut self, counter: &mut C) -> Option<(K, &'a V)>
         ensures pairs { MatchOption result ((up_to self.old.0 self.old.1 ≡ []) × (self.new.1 ≡ [])) (λ p. (up_to self.old.0 self.old.1 ≡ (K.bytes p.0, p.1.now) ∷ up_to self.new.0 self.new.1)) }
@@ -80,13 +87,13 @@ impl<'a, K: KeyTrait + Drop, V, C: Count> Ended<'a, K, V, C> {
         ensures visits { C.number counter.new ≤ C.number counter.old + bytes_taken self.old.1 }
     {
         let (key, value) = match &mut self.walk {
-            Some(walk) => walk.step(counter)?,
-            None => return None,
+            Rest::Ahead(walk) => walk.step(counter)?,
+            Rest::Over => return None,
         };
         if is_within(&key, &self.end) {
             return Some((key, value));
         }
-        self.walk = None;
+        self.walk = Rest::Over;
         None
     }
 }
@@ -94,7 +101,7 @@ impl<'a, K: KeyTrait + Drop, V, C: Count> Ended<'a, K, V, C> {
 /// The pairs within two bounds, ascending by key.
 #[derive(Drop)]
 pub struct Range<'a, K: KeyTrait, V> {
-    pairs: Ended<'a, K, V, Visits>,
+    pairs: Ended<'a, K, K::PartialType, V, Visits>,
 }
 
 impl<'a, K: KeyTrait, V> Model for Range<'a, K, V> {
@@ -113,7 +120,7 @@ impl<'a, K: KeyTrait, V> Range<'a, K, V> {
     {
         Range {
             pairs: Ended {
-                walk: None,
+                walk: Rest::Over,
                 end: Bound::Unbounded,
             },
         }
@@ -126,7 +133,7 @@ impl<'a, K: KeyTrait, V> Range<'a, K, V> {
     {
         Range {
             pairs: Ended {
-                walk: Some(iter.into_walk()),
+                walk: Rest::Ahead(iter.into_walk()),
                 end,
             },
         }
@@ -154,7 +161,7 @@ impl<'a, K: KeyTrait + Drop, V> Iterator for Range<'a, K, V> {
 /// The pairs within two bounds with their visits counted, ascending by key.
 #[derive(Drop)]
 pub struct SeenRange<'a, K: KeyTrait, V, C> {
-    pairs: Ended<'a, K, V, C>,
+    pairs: Ended<'a, K, K::PartialType, V, C>,
 }
 
 impl<'a, K: KeyTrait, V, C> Model for SeenRange<'a, K, V, C> {
@@ -185,7 +192,7 @@ impl<'a, K: KeyTrait + Drop, V, C: Count> Seen<'a, K, V, C> {
         start: Bound<K>,
         end: Bound<K>,
         counter: &mut C,
-    ) -> Result<Ended<'a, K, V, C>, TreeError>
+    ) -> Result<Ended<'a, K, K::PartialType, V, C>, TreeError>
         ensures pairs { IfOk result (λ r. up_to r.0 r.1 ≡ between (bound_in K.bytes start) (bound_in K.bytes end) (seen_pairs self.entry.root)) }
         ensures end { IfOk result (λ r. r.0 ≡ bound_in K.bytes end) }
         ensures ahead { IfOk result (λ r. r.1 ≡ pairs_since (is_inclusive (bound_in K.bytes start)) (bound_bytes (bound_in K.bytes start)) (seen_pairs self.entry.root)) }
@@ -196,7 +203,7 @@ impl<'a, K: KeyTrait + Drop, V, C: Count> Seen<'a, K, V, C> {
         let (bytes, included) = bytes_of(&start);
         let walk = self.keys_tour_from(bytes, included, counter)?;
         Ok(Ended {
-            walk: Some(walk),
+            walk: Rest::Ahead(walk),
             end,
         })
     }
