@@ -3,10 +3,13 @@
 In a run with one request refused the program ends with status 0, and each line is the answer of a run in which the refused
 command was left out, or `Memory`; or it ends with status 1 and says that it cannot read, and has printed nothing.
 """
+import fcntl
 import os
 import pathlib
 import subprocess
 import tempfile
+import termios
+import time
 
 CANNOT_READ = b"rart_script: cannot read\n"
 CANNOT_WRITE = b"rart_script: cannot write\n"
@@ -90,15 +93,29 @@ def swept(program, script, library):
     return "refused for ever", 0
 
 
+def is_drained(pipe, child, deadline):
+    """Whether nothing is left to be read in the pipe, before the child ends and before the deadline."""
+    left = bytearray(4)
+    while child.poll() is None and time.monotonic() < deadline:
+        fcntl.ioctl(pipe, termios.FIONREAD, left)
+        if not any(left):
+            return True
+        time.sleep(0.001)
+    return False
+
+
 def short_reads(program):
-    """The script in pieces of three bytes."""
+    """The script in pieces of three bytes. Each is written once the one before it was read, so that no read gets more."""
     read, write = os.pipe()
     child = subprocess.Popen([program], stdin=read, stdout=subprocess.PIPE, stderr=subprocess.PIPE, env={})
+    deadline = time.monotonic() + 60
+    pieces = [TEN_LINES[at:at + 3] for at in range(0, len(TEN_LINES), 3)]
+    was_read = all(os.write(write, piece) and is_drained(read, child, deadline) for piece in pieces)
     os.close(read)
-    for at in range(0, len(TEN_LINES), 3):
-        os.write(write, TEN_LINES[at:at + 3])
     os.close(write)
     printed, said = child.communicate(timeout=60)
+    if not was_read:
+        return "it stops reading"
     return "" if (child.returncode, printed, said) == (0, TEN_ANSWERS, b"") else "short reads change the answers"
 
 

@@ -1,14 +1,20 @@
 //! How far a bulk load reads where memory is refused, and which index it asks for.
+ghost use Rattle.std.specs.Prelude.{◌≡◌, ◌<◌, length, slice_index_or};
+ghost use Rattle.rart_keys.specs.SortedMap.{IsAscending};
+ghost use Rattle.rart.specs.Steps.{pairs_in};
 
+mod drops;
 pub mod rows;
 
 use crate::bulk::rows::{Pairs, Read, key_of};
-use crate::loads::Key;
+use crate::loads::{Key, ascend};
 use crate::play::Tree;
 use crate::refusals::{part_ends, refuse, was_refused};
-use rart::BulkError;
-use std::alloc::Global;
+use rart::{AdaptiveRadixTree, BulkError, KeyTrait};
+use rart_keys::laws::bulk_lists::ascending_pairs;
+use std::alloc::{AllocError, Global};
 use std::cell::Cell;
+use std::test::Fail;
 
 const ITEMS: Pairs<'static> = &[
     ("a", 1),
@@ -61,33 +67,70 @@ fn loads_refused_in_turn_read_nothing_behind(rt: HostRuntime) {
     assert!(rt; reads_no_further(rt.alloc()));
 }
 
-// How often the key of a load of one key was asked for, and how often its value was taken: 100 at another index.
-fn asked_of_one_key(alloc: Global) -> Option<(usize, usize)> {
-    let asked = Cell::new(0_usize);
-    let taken = Cell::new(0_usize);
-    let key = key_of("a");
-    let result = Tree::<Key>::bulk_load_sorted_unique_by_index(
+// Counts a call at the hexadecimal digit of its index.
+fn count(calls: &Cell<usize>, i: usize) {
+    let one = match i {
+        0 => 0x1,
+        1 => 0x10,
+        2 => 0x100,
+        3 => 0x1000,
+        _ => 0x1_0000,
+    };
+    calls.set(calls.get().wrapping_add(one));
+}
+
+// The load by index of the items' keys, which counts how often each is asked for.
+fn load_counting<K: KeyTrait, W, V: Drop, F: FnMut(usize) -> V + Drop>(
+    alloc: Global,
+    items: &[(K, W)],
+    asked: &Cell<usize>,
+    take: F,
+) -> Result<AdaptiveRadixTree<K, V>, BulkError>
+    requires ascending { IsAscending (pairs_in K.bytes items.now) }
+    requires callable { (f : _) (i : _) → F.pre f i }
+{
+    ascending_pairs::<W>();
+    AdaptiveRadixTree::bulk_load_sorted_unique_by_index(
         alloc,
-        1,
-        |i| {
-            asked.set(asked.get().wrapping_add(if i == 0 { 1 } else { 100 }));
-            &key
+        items.len(),
+        |i|
+            requires { i < length items.now }
+            ensures { (d : K × W) → result.now ≡ (slice_index_or items.entry.now i d).0 }
+        {
+            count(asked, i);
+            &items[i].0
         },
-        |i| {
-            taken.set(taken.get().wrapping_add(if i == 0 { 1 } else { 100 }));
-            7
-        },
-    );
-    match result {
-        Ok(tree) if tree.get_bytes(b"a") == Some(&7) => Some((asked.get(), taken.get())),
-        _ => None,
+        take,
+    )
+}
+
+// How often each of the first so many keys was asked for, and how often its value was taken.
+fn calls_of(alloc: Global, many: usize) -> Result<Option<(usize, usize)>, AllocError> {
+    let mut items = Vec::new(alloc);
+    for (text, value) in &ITEMS[..many.min(ITEMS.len())] {
+        items.push((key_of(text), *value))?;
+    }
+    if !ascend(&items) {
+        return Ok(None);
+    }
+    let (asked, taken) = (Cell::new(0_usize), Cell::new(0_usize));
+    let loaded = load_counting(alloc, &items, &asked, |i| {
+        count(&taken, i);
+        7_u64
+    });
+    match loaded {
+        Ok(tree) if tree.len() == many => Ok(Some((asked.get(), taken.get()))),
+        _ => Ok(None),
     }
 }
 
 #[test]
-fn one_key_is_asked_for_at_its_index_alone(rt: HostRuntime) {
-    match asked_of_one_key(rt.alloc()) {
-        Some((asked, taken)) => assert!(rt; 1 <= asked && asked < 100 && taken == 1),
-        None => assert!(rt; false, "refused with ample memory"),
+fn each_key_is_asked_for_once_and_each_value_taken_once(rt: HostRuntime) -> Result<(), Fail> {
+    for (many, wanted) in [(1, 0x1), (2, 0x11), (3, 0x111), (4, 0x1111)] {
+        assert!(rt;
+            calls_of(rt.alloc(), many)? == Some((wanted, wanted)),
+            "{many} keys"
+        );
     }
+    Ok(())
 }

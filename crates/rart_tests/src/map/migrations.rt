@@ -148,22 +148,29 @@ fn open_is_refused_well(alloc: Global, old: &Tree, at: usize) -> Option<bool> {
     }
 }
 
+// Whether each request refused in turn goes well, up to the first that isn't made.
+fn is_swept<F: Fn(usize) -> Option<bool> + Drop>(alloc: Global, is_refused_well: F) -> bool
+    requires { (at : _) → F.pre is_refused_well at }
+{
+    for at in 1..100_usize {
+        match is_refused_well(at) {
+            Some(true) => {}
+            Some(false) => {
+                part_ends(alloc);
+                return true;
+            }
+            None => return false,
+        }
+    }
+    false
+}
+
 #[test]
 fn migrations_refused_in_turn(rt: HostRuntime) {
     let alloc = rt.alloc();
     let (old, open) = (filled(&rt, alloc, &LETTERS), filled(&rt, alloc, &OPEN));
-    for at in 1..24_usize {
-        assert!(rt; is_refused_well(alloc, &old, at).is_some(), "request {at}");
-    }
-    assert!(rt; is_refused_well(alloc, &old, 24) == Some(false));
-    part_ends(alloc);
-    for at in 1..8_usize {
-        assert!(rt;
-            open_is_refused_well(alloc, &open, at).is_some(),
-            "request {at}"
-        );
-    }
-    assert!(rt; open_is_refused_well(alloc, &open, 8) == Some(false));
+    assert!(rt; is_swept(alloc, |at| is_refused_well(alloc, &old, at)));
+    assert!(rt; is_swept(alloc, |at| open_is_refused_well(alloc, &open, at)));
 }
 
 #[test]

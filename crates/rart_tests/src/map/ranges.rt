@@ -3,7 +3,7 @@
 
 use super::prefixes::{Key, Pair, Tree, filled, is_pair};
 use crate::play::went_well;
-use crate::refusals::{refuse, was_refused};
+use crate::refusals::{part_ends, refuse, was_refused};
 use rart::{ArrPartial, Iter, KeyTrait, LendingKeyView, Range, TreeError};
 use std::alloc::Global;
 use std::cell::Cell;
@@ -289,25 +289,28 @@ fn every_kind_of_node_is_entered_at_any_byte(rt: HostRuntime) {
     }
 }
 
-// Whether the row's range is refused while a request is, and gives its pairs where none was. A refused walk calls nothing.
-fn is_refused_or_right(alloc: Global, tree: &Tree, row: &Row, form: Form, at: usize) -> bool {
-    refuse(alloc, at);
-    let answer = is_row(tree, row, form);
-    if was_refused(alloc) {
-        answer == Err(TreeError::Memory)
-    } else {
-        answer == Ok(true)
+// Whether the row's range is refused while a request is, and then gives its pairs. A refused walk calls nothing.
+fn is_swept(alloc: Global, tree: &Tree, row: &Row, form: Form) -> bool {
+    for at in 1..100_usize {
+        refuse(alloc, at);
+        let answer = is_row(tree, row, form);
+        if !was_refused(alloc) {
+            part_ends(alloc);
+            return answer == Ok(true);
+        }
+        if answer != Err(TreeError::Memory) {
+            return false;
+        }
     }
+    false
 }
 
 // The first row that goes another way, if one does, with each of its requests refused.
 fn plays_refused(alloc: Global, tree: &Tree, rows: &[Row], form: Form) -> Option<usize> {
     let mut row = 0_usize;
     for one in rows {
-        for at in 1..4_usize {
-            if !is_refused_or_right(alloc, tree, one, form, at) {
-                return Some(row);
-            }
+        if !is_swept(alloc, tree, one, form) {
+            return Some(row);
         }
         row = row.wrapping_add(1);
     }

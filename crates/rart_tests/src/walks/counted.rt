@@ -144,6 +144,32 @@ fn views_are(tree: &Tree, rows: &[Row]) -> Result<bool, TreeError> {
     Ok(many.get() == rows.len() && lent == rows.len())
 }
 
+fn views_within_are(tree: &Tree, start: &[u8], rows: &[Row]) -> Result<bool, TreeError>
+    requires { length start.now ≤ 16 }
+{
+    let start = Bound::Included(Key::new_from_slice(start));
+    let many = Cell::new(0_usize);
+    seen(tree).for_each_range_view_counted(
+        start,
+        Bound::Unbounded,
+        |view: LendingKeyView<'_, '_>, value: &u64| {
+            many.set(next_row(many.get(), rows, view, *value));
+        },
+        &mut Visits::new(),
+    )?;
+    let mut lent = 0_usize;
+    let mut callback = |view: LendingKeyView<'_, '_>, value: &u64| {
+        lent = next_row(lent, rows, view, *value);
+    };
+    seen(tree).for_each_range_view_with_counted(
+        start,
+        Bound::Unbounded,
+        &mut callback,
+        &mut Visits::new(),
+    )?;
+    Ok(many.get() == rows.len() && lent == rows.len())
+}
+
 #[test]
 fn views_are_those_of_the_plain_walks(rt: HostRuntime) {
     let tree = filled(&rt, rt.alloc(), &TREE_A);
@@ -151,6 +177,9 @@ fn views_are_those_of_the_plain_walks(rt: HostRuntime) {
     let ab: Row = ("ab", 1, "ab", "");
     assert!(rt; views_are(&tree, &[ab, abcd]) == Ok(true));
     assert!(rt; views_below_are(&tree, b"abc", &[abcd]) == Ok(true));
+    assert!(rt; views_within_are(&tree, b"ab", &[ab, abcd]) == Ok(true));
+    assert!(rt; views_within_are(&tree, b"abc", &[abcd]) == Ok(true));
+    assert!(rt; views_within_are(&tree, b"b", &[]) == Ok(true));
 }
 
 // What is told of the longest match of the probe, and how often it was shown as wanted: past all of them where it wasn't.

@@ -2,9 +2,10 @@
 
 use crate::map::prefixes::{Key, Pair, Tree};
 use crate::refusals::refuse;
-use rart::{LendingKeyView, TreeError, VisitControl, VisitError};
+use rart::{KeyTrait, LendingKeyView, TreeError, VisitControl, VisitError};
 use std::alloc::Global;
 use std::cell::Cell;
+use std::ops::Bound;
 
 /// A walk, by a form of its call.
 #[derive(Clone, Copy)]
@@ -15,6 +16,8 @@ pub enum Walk {
     ViewsBelowByValue,
     ViewsBelowLent,
     ViewsBelowLentByValue,
+    ViewsWithin,
+    ViewsWithinLent,
     Longest,
     LongestByValue,
     LongestLent,
@@ -39,13 +42,15 @@ pub const PAIRS: [Pair; 5] = [
 ];
 
 /// Each walk of PAIRS about "alp", and how often it calls.
-pub const WALKS: [(Walk, usize); 19] = [
+pub const WALKS: [(Walk, usize); 21] = [
     (Walk::Views, 5),
     (Walk::ViewsLent, 5),
     (Walk::ViewsBelow, 4),
     (Walk::ViewsBelowByValue, 4),
     (Walk::ViewsBelowLent, 4),
     (Walk::ViewsBelowLentByValue, 4),
+    (Walk::ViewsWithin, 3),
+    (Walk::ViewsWithinLent, 3),
     (Walk::Longest, 1),
     (Walk::LongestByValue, 1),
     (Walk::LongestLent, 1),
@@ -115,6 +120,18 @@ fn views_below_lent(tree: &Tree, key: Key, by_value: bool, calls: &Calls) -> End
         tree.prefix_for_each_view_with(key, &mut callback)
     } else {
         tree.prefix_for_each_view_with_k(&key, &mut callback)
+    }
+}
+
+// From behind the key to before "beta".
+fn views_within(tree: &Tree, key: Key, lent: bool, calls: &Calls) -> Ended {
+    let start = Bound::Excluded(key);
+    let end = Bound::Excluded(Key::new_from_slice(b"beta"));
+    let mut callback = |_view: LendingKeyView<'_, '_>, _value: &u64| calls.call();
+    if lent {
+        tree.for_each_range_view_with(start, end, &mut callback)
+    } else {
+        tree.for_each_range_view(start, end, callback)
     }
 }
 
@@ -221,6 +238,8 @@ pub fn make(tree: &Tree, key: Key, walk: Walk, calls: &Calls) -> Ended {
         Walk::ViewsBelowByValue => views_below(tree, key, true, calls),
         Walk::ViewsBelowLent => views_below_lent(tree, key, false, calls),
         Walk::ViewsBelowLentByValue => views_below_lent(tree, key, true, calls),
+        Walk::ViewsWithin => views_within(tree, key, false, calls),
+        Walk::ViewsWithinLent => views_within(tree, key, true, calls),
         Walk::Longest => longest(tree, key, false, calls),
         Walk::LongestByValue => longest(tree, key, true, calls),
         Walk::LongestLent => longest_lent(tree, key, calls),

@@ -1,0 +1,84 @@
+//! Sorted loads of values that count their drops: a value that a later one of its key replaces is dropped once, and a refused load
+//! drops each.
+
+use crate::bulk::rows::key_of;
+use crate::counted::Counted;
+use crate::loads::Key;
+use rart::{AdaptiveRadixTree, BulkError};
+use std::alloc::{AllocError, Global};
+use std::cell::Cell;
+use std::test::Fail;
+
+type Tree<'a> = AdaptiveRadixTree<Key, Counted<'a>>;
+
+// Keys, whose values have their places as numbers; and those that stay with their numbers, or the place at which the load finds
+// them unsorted.
+type Row = (
+    &'static [&'static str],
+    Result<&'static [(&'static str, u8)], usize>,
+);
+
+const LISTS: [Row; 7] = [
+    (&["a", "b"], Ok(&[("a", 0), ("b", 1)])),
+    (&["a", "a", "b"], Ok(&[("a", 1), ("b", 2)])),
+    (&["a", "b", "b", "b"], Ok(&[("a", 0), ("b", 3)])),
+    (&["", "", "a", "b", "b"], Ok(&[("", 1), ("a", 2), ("b", 4)])),
+    (&["b", "a"], Err(1)),
+    (&["a", "c", "c", "b", "z"], Err(3)),
+    (&["a", "a", "a", ""], Err(3)),
+];
+
+fn items<'a>(
+    alloc: Global,
+    texts: &[&str],
+    drops: &'a Cell<usize>,
+) -> Result<Vec<(Key, Counted<'a>)>, AllocError> {
+    let mut items = Vec::new(alloc);
+    let mut place = 0_u8;
+    for text in texts {
+        items.push((key_of(text), Counted(place, drops)))?;
+        place = place.wrapping_add(1);
+    }
+    Ok(items)
+}
+
+fn holds(tree: &Tree<'_>, wanted: &[(&str, u8)]) -> bool {
+    for (text, number) in wanted {
+        match tree.get_k(&key_of(text)) {
+            Some(value) if value.0 == *number => {}
+            _ => return false,
+        }
+    }
+    tree.len() == wanted.len()
+}
+
+// What doesn't stay is dropped by the load, and each value once the tree is.
+fn goes_well(alloc: Global, row: &Row) -> Result<bool, AllocError> {
+    let (texts, wanted) = *row;
+    let drops = Cell::new(0_usize);
+    let loaded = Tree::bulk_load_sorted(alloc, items(alloc, texts, &drops)?);
+    Ok(match (loaded, wanted) {
+        (Ok(tree), Ok(pairs)) => {
+            let held = holds(&tree, pairs);
+            let early = drops.get();
+            drop(tree);
+            held && early.wrapping_add(pairs.len()) == texts.len() && drops.get() == texts.len()
+        }
+        (Err(error), Err(at)) => {
+            error == BulkError::Unsorted { at } && drops.get() == texts.len()
+        }
+        _ => false,
+    })
+}
+
+#[test]
+fn a_replaced_value_and_those_of_an_unsorted_load_are_dropped_once(
+    rt: HostRuntime,
+) -> Result<(), Fail> {
+    let mut number = 0_usize;
+    for row in &LISTS {
+        assert!(rt; goes_well(rt.alloc(), row)?, "row {number}");
+        number = number.wrapping_add(1);
+    }
+    Ok(())
+}
