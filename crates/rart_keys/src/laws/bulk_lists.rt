@@ -23,9 +23,12 @@ pub fn bulk_lists<V>()
 /// compares with the last that stays: a later key stays behind them, at the same key the value takes the
 /// place of the last, and an earlier key is the first fault.
 pub fn one_item_more<V>()
-    ensures later { (es : List (List ℕ × V)) (ks : List (List ℕ)) (vs : List V) (k : List ℕ) (v : V) → WasRead es ks vs → order_behind ks k ≡ Less → WasRead (es ++ (k, v) ∷ []) (ks ++ k ∷ []) (vs ++ v ∷ []) }
-    ensures same { (es : List (List ℕ × V)) (ks : List (List ℕ)) (vs ws : List V) (w : V) (k : List ℕ) (v : V) → WasRead es ks vs → order_behind ks k ≡ Equal → vs ≡ ws ++ w ∷ [] → WasRead (es ++ (k, v) ∷ []) ks (ws ++ v ∷ []) }
-    ensures earlier { (es : List (List ℕ × V)) (ks : List (List ℕ)) (vs : List V) (k : List ℕ) (v : V) → WasRead es ks vs → order_behind ks k ≡ Greater → first_fault (es ++ (k, v) ∷ []) ≡ Some (length es) }
+    ensures later { (es : List (List ℕ × V)) (ks : List (List ℕ)) (vs : List V) (k : List ℕ) (v : V) → WasRead es ks vs → order_behind ks k ≡ Less
+        → WasRead (es ++ (k, v) ∷ []) (ks ++ k ∷ []) (vs ++ v ∷ []) }
+    ensures same { (es : List (List ℕ × V)) (ks : List (List ℕ)) (vs ws : List V) (w : V) (k : List ℕ) (v : V) → WasRead es ks vs → order_behind ks k ≡ Equal → vs ≡ ws ++ w ∷ []
+        → WasRead (es ++ (k, v) ∷ []) ks (ws ++ v ∷ []) }
+    ensures earlier { (es : List (List ℕ × V)) (ks : List (List ℕ)) (vs : List V) (k : List ℕ) (v : V) → WasRead es ks vs → order_behind ks k ≡ Greater
+        → first_fault (es ++ (k, v) ∷ []) ≡ Some (length es) }
 {}
 
 /// Strictly ascending pairs are what is left of putting them in, in any order.

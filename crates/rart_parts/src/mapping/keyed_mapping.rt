@@ -1,9 +1,9 @@
 //! A map from bytes to children with its keys in slots, in no order, beside its children. It is seen as the list of its
 //! children in the order of their slots, each with its byte; what callers learn is that list in the order of the bytes.
 
-ghost use Rattle.std.specs.Prelude.{◌≡◌, ℕ, [], ◌<◌, ◌≤◌, ◌^◌, length, IfErr, IfOk, OnOk, OnErr, MatchOption};
+ghost use Rattle.std.specs.Prelude.{◌≡◌, ℕ, [], ◌<◌, ◌≤◌, ◌^◌, length, IfErr, IfOk, OnOk, OnErr};
 ghost use Rattle.rart_parts.specs.Bits.{IsFirst};
-ghost use Rattle.rart_parts.specs.Entries.{ascending, child_at, without_byte};
+ghost use Rattle.rart_parts.specs.Entries.{TakesEntry, ascending};
 ghost use Rattle.rart_parts.specs.Keys.{is_held};
 ghost use Rattle.rart_parts.specs.Places.{is_used};
 
@@ -96,7 +96,7 @@ impl<N, const W: usize, B: BitsetTrait> KeyedMapping<N, W, B> {
 
     /// Takes out the child in the first used slot.
     pub(crate) fn take_any(&mut self) -> Option<(u8, N)>
-        ensures { MatchOption result ((ascending self.old ≡ []) × (ascending self.new ≡ [])) (λ e. (child_at e.0 (ascending self.old) ≡ Some e.1) × (ascending self.new ≡ without_byte e.0 (ascending self.old))) }
+        ensures { TakesEntry (ascending self.old) (ascending self.new) result }
     {
         let Some(slot) = self.children.first_used() else {
             return None;
