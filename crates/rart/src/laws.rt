@@ -4,6 +4,7 @@ ghost use Rattle.std.specs.Borrow.{sem};
 ghost use Rattle.std.specs.Option.{option_copied};
 ghost use Rattle.rart_keys.specs.SortedMap.{IsAscending, keys_of, lookup, put, values_of, without};
 ghost use Rattle.rart_nodes.specs.statistics.Statistics.{statistics_in, statistics_of};
+ghost use Rattle.rart.specs.Edits.{PutOrSame};
 ghost use Rattle.rart.specs.LawAnswers.{IsCounted, RefusesCall};
 ghost use Rattle.rart.specs.Loans.{ends_as};
 ghost use Rattle.rart.specs.Refusals.{MayKeep, MayRefuse};
@@ -62,7 +63,7 @@ pub fn insert_then_get<'a, K: KeyTrait, V>(
 ) -> Result<(Option<&'a V>, Option<&'a V>), TreeError>
 where
     V: Drop,
-    ensures* after { sem 𝓛 (ends_as K.row V.row K.PartialType.row K.KeyTrait K.PartialType.Partial tree.entry (λ n. MatchResult result (λ _. n.pairs ≡ put (K.bytes key.now) value tree.old.pairs) (λ _. n ≡ tree.old))) }
+    ensures* after { sem 𝓛 (ends_as K.row V.row K.PartialType.row K.KeyTrait K.PartialType.Partial tree.entry (PutOrSame (K.bytes key.now) value result tree.old)) }
     ensures found { IfOk result (λ r. option_copied r.0 ≡ Some value) }
     ensures kept { K.bytes other.now ≢ K.bytes key.now → IfOk result (λ r. option_copied r.1 ≡ lookup (K.bytes other.now) tree.old.pairs) }
     ensures refused { IfErr result (MayRefuse tree.old.pairs (K.bytes key.now)) }

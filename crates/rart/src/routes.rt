@@ -2,14 +2,14 @@
 //!
 //! Contracts see a table as they see a tree, its pairs of prefix and target ascending by prefix, and the records of its nodes.
 //! It stands on the public contracts of the tree alone.
-ghost use Rattle.std.specs.Prelude.{◌≡◌, ◌≢◌, ◌*◌, ◌-◌, ◌≤◌, ◌↔◌, [], length, option_map, IfErr, IsTrue, MatchResult, OnErr};
+ghost use Rattle.std.specs.Prelude.{◌≡◌, ◌≢◌, ◌*◌, ◌-◌, ◌≤◌, ◌↔◌, [], length, option_map, IfErr, IsTrue, OnErr};
 ghost use Rattle.std.specs.Borrow.{sem};
 ghost use Rattle.std.specs.Option.{option_copied};
 ghost use Rattle.rart_keys.specs.Filters.{longest_match};
-ghost use Rattle.rart_keys.specs.SortedMap.{IsAscending, keys_of, put};
+ghost use Rattle.rart_keys.specs.SortedMap.{IsAscending, keys_of};
 ghost use Rattle.rart_nodes.specs.shapes.Shape.{HasShape};
 ghost use Rattle.rart_nodes.specs.tries.Tree.{tree_nodes, tree_pairs};
-ghost use Rattle.rart.specs.Edits.{Inserts, InsertsNew, Removes, TriesInsert};
+ghost use Rattle.rart.specs.Edits.{Inserts, InsertsNew, PutOrSame, Removes, TriesInsert};
 ghost use Rattle.rart.specs.Refusals.{AddsPresent, StandsAt};
 ghost use Rattle.rart.specs.RouteLoans.{table_ends_as};
 ghost use Rattle.rart.specs.declared.tree.TheConstants.{MAX_PAIRS};
@@ -88,7 +88,7 @@ impl<K: KeyTrait, T> RouteTable<K, T> {
     ///
     /// Looks the prefix up, inserts it, and looks it up again where it is stored.
     pub fn add<'a>(&'a mut self, prefix: &K, target: T) -> Result<(), TryInsertError<'a, T>>
-        ensures* after { sem 𝓛 (table_ends_as K.row T.row K.PartialType.row K.KeyTrait K.PartialType.Partial self.entry (λ n. MatchResult result (λ _. n.pairs ≡ put (K.bytes prefix.now) target self.old.pairs) (λ _. n ≡ self.old))) }
+        ensures* after { sem 𝓛 (table_ends_as K.row T.row K.PartialType.row K.KeyTrait K.PartialType.Partial self.entry (PutOrSame (K.bytes prefix.now) target result self.old)) }
         ensures answer { TriesInsert (K.bytes prefix.now) target self.old.pairs result }
     {
         let outcome = self.add_new(prefix, target);

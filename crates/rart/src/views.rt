@@ -4,10 +4,11 @@
 //! state that the last call left.
 ghost use Rattle.std.specs.Prelude.{◌≡◌, ◌≢◌, [], None, IfErr, IfOk, OnErr, OnOk};
 ghost use Rattle.std.specs.List.{FoldsTo};
-ghost use Rattle.rart_keys.specs.Filters.{below, longest_match};
+ghost use Rattle.rart_keys.specs.Filters.{longest_match};
 ghost use Rattle.rart_keys.specs.Ranges.{bound_in};
 ghost use Rattle.rart_keys.specs.SortedMap.{keys_of};
 ghost use Rattle.rart_nodes.specs.ranges.Spans.{cut_between};
+ghost use Rattle.rart_nodes.specs.walks.BelowPrefix.{cut_below};
 ghost use Rattle.rart_nodes.specs.walks.Cut.{cut_pairs};
 ghost use Rattle.rart_nodes.specs.walks.Viewed.{SeesFound, ShowsFound, Viewed};
 
@@ -55,7 +56,7 @@ impl<K: KeyTrait, V> AdaptiveRadixTree<K, V> {
     ) -> Result<(), TreeError>
         requires callable { F.IsAlwaysCallable f.old }
         ensures callable { F.IsAlwaysCallable f.new }
-        ensures calls { OnOk result (FoldsTo (λ p x q. Viewed F.FnMut p x q) f.old (cut_pairs (keys_of self.now.pairs) (below (K.bytes prefix.now) self.now.pairs)) f.new) }
+        ensures calls { OnOk result (FoldsTo (λ p x q. Viewed F.FnMut p x q) f.old (cut_below (K.bytes prefix.now) self.now.pairs) f.new) }
         ensures refused { OnErr result (f.new ≡ f.old) }
         ensures memory { IfErr result (λ e. (e ≡ TreeError.Memory) × (self.now.pairs ≢ [])) }
     {
@@ -73,7 +74,7 @@ impl<K: KeyTrait, V> AdaptiveRadixTree<K, V> {
         K: Drop,
         requires callable { F.IsAlwaysCallable f.old }
         ensures callable { F.IsAlwaysCallable f.new }
-        ensures calls { OnOk result (FoldsTo (λ p x q. Viewed F.FnMut p x q) f.old (cut_pairs (keys_of self.now.pairs) (below (K.bytes prefix) self.now.pairs)) f.new) }
+        ensures calls { OnOk result (FoldsTo (λ p x q. Viewed F.FnMut p x q) f.old (cut_below (K.bytes prefix) self.now.pairs) f.new) }
         ensures refused { OnErr result (f.new ≡ f.old) }
         ensures memory { IfErr result (λ e. (e ≡ TreeError.Memory) × (self.now.pairs ≢ [])) }
     {
@@ -87,7 +88,7 @@ impl<K: KeyTrait, V> AdaptiveRadixTree<K, V> {
         f: F,
     ) -> Result<(), TreeError>
         requires callable { F.IsAlwaysCallable f }
-        ensures calls { OnOk result ((last : F) × FoldsTo (λ p x q. Viewed F.FnMut p x q) f (cut_pairs (keys_of self.now.pairs) (below (K.bytes prefix.now) self.now.pairs)) last) }
+        ensures calls { OnOk result ((last : F) × FoldsTo (λ p x q. Viewed F.FnMut p x q) f (cut_below (K.bytes prefix.now) self.now.pairs) last) }
         ensures memory { IfErr result (λ e. (e ≡ TreeError.Memory) × (self.now.pairs ≢ [])) }
     {
         self.seen()
@@ -103,7 +104,7 @@ impl<K: KeyTrait, V> AdaptiveRadixTree<K, V> {
     where
         K: Drop,
         requires callable { F.IsAlwaysCallable f }
-        ensures calls { OnOk result ((last : F) × FoldsTo (λ p x q. Viewed F.FnMut p x q) f (cut_pairs (keys_of self.now.pairs) (below (K.bytes prefix) self.now.pairs)) last) }
+        ensures calls { OnOk result ((last : F) × FoldsTo (λ p x q. Viewed F.FnMut p x q) f (cut_below (K.bytes prefix) self.now.pairs) last) }
         ensures memory { IfErr result (λ e. (e ≡ TreeError.Memory) × (self.now.pairs ≢ [])) }
     {
         self.prefix_for_each_view_k(&prefix, f)

@@ -1,3 +1,4 @@
+pub mod BelowPrefix
 pub mod ChildrenCode
 pub mod Cut
 pub mod Matched

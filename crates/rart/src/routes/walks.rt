@@ -4,9 +4,8 @@
 //! state that the last call left.
 ghost use Rattle.std.specs.Prelude.{◌≡◌, ◌≢◌, [], IfErr, OnErr, OnOk};
 ghost use Rattle.std.specs.List.{FoldsTo};
-ghost use Rattle.rart_keys.specs.Filters.{below, matches};
-ghost use Rattle.rart_keys.specs.SortedMap.{keys_of};
-ghost use Rattle.rart_nodes.specs.walks.Cut.{cut_pairs};
+ghost use Rattle.rart_keys.specs.Filters.{matches};
+ghost use Rattle.rart_nodes.specs.walks.BelowPrefix.{cut_below};
 ghost use Rattle.rart_nodes.specs.walks.Matched.{Matched};
 ghost use Rattle.rart_nodes.specs.walks.Viewed.{Viewed};
 
@@ -43,7 +42,7 @@ impl<K: KeyTrait, T> RouteTable<K, T> {
     ) -> Result<(), TreeError>
         requires callable { F.IsAlwaysCallable f.old }
         ensures callable { F.IsAlwaysCallable f.new }
-        ensures calls { OnOk result (FoldsTo (λ p x q. Viewed F.FnMut p x q) f.old (cut_pairs (keys_of self.now.pairs) (below (K.bytes prefix.now) self.now.pairs)) f.new) }
+        ensures calls { OnOk result (FoldsTo (λ p x q. Viewed F.FnMut p x q) f.old (cut_below (K.bytes prefix.now) self.now.pairs) f.new) }
         ensures refused { OnErr result (f.new ≡ f.old) }
         ensures memory { IfErr result (λ e. (e ≡ TreeError.Memory) × (self.now.pairs ≢ [])) }
     {
@@ -57,7 +56,7 @@ impl<K: KeyTrait, T> RouteTable<K, T> {
         f: F,
     ) -> Result<(), TreeError>
         requires callable { F.IsAlwaysCallable f }
-        ensures calls { OnOk result ((last : F) × FoldsTo (λ p x q. Viewed F.FnMut p x q) f (cut_pairs (keys_of self.now.pairs) (below (K.bytes prefix.now) self.now.pairs)) last) }
+        ensures calls { OnOk result ((last : F) × FoldsTo (λ p x q. Viewed F.FnMut p x q) f (cut_below (K.bytes prefix.now) self.now.pairs) last) }
         ensures memory { IfErr result (λ e. (e ≡ TreeError.Memory) × (self.now.pairs ≢ [])) }
     {
         self.routes.prefix_for_each_view_k(prefix, f)

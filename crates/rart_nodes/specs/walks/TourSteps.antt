@@ -1,7 +1,8 @@
 -- Steps of a walk from its deepest level, which stands last.
-use Rattle.std.specs.Prelude.{ℕ, ◌≡◌, ◌⊎◌, List, [], ◌∷◌, ◌++◌}
+use Rattle.std.specs.Prelude.{ℕ, ◌≡◌, ◌⊎◌, List, [], ◌∷◌, ◌++◌, Option, MatchOption}
+use Rattle.std.specs.Borrow.{Bor}
 use Rattle.rart_nodes.specs.tries.Trie.{Trie, Children, no_children, child, children_in}
-use Rattle.rart_nodes.specs.walks.Tour.{Level}
+use Rattle.rart_nodes.specs.walks.Tour.{Level, Pieces}
 
 -- there is no level, or the deepest has no more children
 pub record DeepestLeft {V : Type 0} (before after : List (Level V)) : Type 0 where
@@ -19,3 +20,7 @@ pub record DeepestStep {V : Type 0} (before : List (Level V)) (t : Trie V) (d : 
 -- a level of t's children comes behind the others, n deep, unless t has none
 abbrev pub GoesOn : {V : Type 0} → List (Level V) → Trie V → ℕ → List (Level V) → Type 0
 GoesOn before t n after = (after ≡ before ++ (children_in t, n) ∷ []) ⊎ ((after ≡ before) × (children_in t ≡ no_children))
+
+-- the value that lay ahead first was given, at the path that is kept now; or nothing lay ahead, and nothing does
+abbrev pub TakesStop : {V : Type 0} → List (Pieces × V) → Pieces → Option (Bor V) → List (Pieces × V) → Type 0
+TakesStop before k given after = MatchOption given ((before ≡ []) × (after ≡ [])) (λ v. before ≡ (k, v.now) ∷ after)

@@ -1,6 +1,9 @@
 -- Keys that are cut into pieces, none of them empty.
-use Rattle.std.specs.Prelude.{ℕ, ◌≡◌, ◌<◌, ◌^◌, Bool, true, false, ◌&&◌, List, [], ◌∷◌, length}
-use Rattle.rart_nodes.specs.walks.Tour.{Pieces, joined}
+use Rattle.std.specs.Prelude.{ℕ, ◌≡◌, ◌<◌, ◌^◌, Bool, true, false, ◌&&◌, List, [], ◌∷◌, length, Option}
+use Rattle.std.specs.Borrow.{Bor}
+use Rattle.std.specs.Option.{option_copied}
+use Rattle.rart_nodes.specs.walks.Tour.{Level, Pieces, joined, stops_ahead}
+use Rattle.rart_nodes.specs.walks.TrailParts.{lent_pieces, one_piece}
 
 -- there is a byte
 abbrev pub has_bytes : List ℕ → Bool
@@ -16,3 +19,7 @@ all_have_bytes (p ∷ ps) = has_bytes p && all_have_bytes ps
 abbrev pub AreViews : {V : Type 0} → List (Pieces × V) → Type 0
 AreViews [] = Unit {0}
 AreViews (e ∷ es) = (all_have_bytes e.0 ≡ true) × (length (joined e.0) < 2 ^ 64) × AreViews es
+
+-- what lies ahead of a walk whose trail is of segments that are lent
+abbrev pub views_ahead : {V : Type 0} → List (Bor (List ℕ)) → Option (Bor V) → List (Level V) → List (Pieces × V)
+views_ahead segments first levels = stops_ahead one_piece (lent_pieces segments) (option_copied first) levels

@@ -39,7 +39,8 @@ impl<'a, K: KeyTrait, P: Partial, V, C> Model for KeyTour<'a, K, P, V, C> {
 
     ghost view = { λ w. join_all (stops_ahead byte_pieces (byte_pieces w.trail.key.items) (option_copied w.tour.first) w.tour.levels.items) };
 
-    ghost invariant = { λ w. IsTour w.tour.longest (vec_capacity w.tour.levels) (byte_pieces w.trail.key.items) (reverse w.tour.levels.items) × (w.tour.longest ≤ vec_capacity w.trail.key) × IsWithin K.MAXIMUM_SIZE w.tour.longest };
+    ghost invariant = { λ w. IsTour w.tour.longest (vec_capacity w.tour.levels) (byte_pieces w.trail.key.items) (reverse w.tour.levels.items)
+        × (w.tour.longest ≤ vec_capacity w.trail.key) × IsWithin K.MAXIMUM_SIZE w.tour.longest };
 }
 
 impl<'a, K: KeyTrait, P: Partial, V, C: Count> KeyTour<'a, K, P, V, C> {

@@ -2,13 +2,13 @@
 //!
 //! It keeps a cursor over the children of each inner node on the path to where it stands, and of that path
 //! what its trail says: the bytes, the pieces, or nothing.
-ghost use Rattle.std.specs.Prelude.{◌≡◌, ◌≢◌, ◌≤◌, ◌<◌, ◌+◌, ◌++◌, [], ◌∷◌, length, reverse, take, vec_len, vec_capacity, MatchOption, IfOk, OnErr};
+ghost use Rattle.std.specs.Prelude.{◌≡◌, ◌≢◌, ◌≤◌, ◌<◌, ◌+◌, ◌++◌, [], length, reverse, take, vec_len, vec_capacity, MatchOption, IfOk, OnErr};
 ghost use Rattle.std.specs.Option.{option_copied};
 ghost use Rattle.rart_keys.specs.SortedMap.{count_of, longest_key};
 ghost use Rattle.rart_nodes.specs.ranges.Dues.{HasPaid, due};
 ghost use Rattle.rart_nodes.specs.tries.Tree.{seen_pairs};
 ghost use Rattle.rart_nodes.specs.walks.Tour.{IsTour, Tells, behind_pieces, nodes_below, stops_ahead, stops_of, tree_count, tree_stops};
-ghost use Rattle.rart_nodes.specs.walks.TourSteps.{DeepestLeft, DeepestStep, GoesOn};
+ghost use Rattle.rart_nodes.specs.walks.TourSteps.{DeepestLeft, DeepestStep, GoesOn, TakesStop};
 ghost use Rattle.rart_nodes.specs.tries.Trie.{pairs_of, prefix_of};
 ghost use Rattle.rart_nodes.specs.tries.TrieCode.{node_count};
 
@@ -155,9 +155,9 @@ impl<'a, P: Partial, V, C: Count> Tour<'a, P, V, C> {
         requires room { self.old.longest ≤ T.room trail.old }
         ensures path { IsTour self.new.longest (vec_capacity self.new.levels) (T.kept trail.new) (reverse self.new.levels.items) }
         ensures room { self.new.longest ≤ T.room trail.new }
-        ensures stops { MatchOption result
-            ((stops_ahead T.grown (T.kept trail.old) (option_copied self.old.first) self.old.levels.items ≡ []) × (stops_ahead T.grown (T.kept trail.new) (option_copied self.new.first) self.new.levels.items ≡ []))
-            (λ v. stops_ahead T.grown (T.kept trail.old) (option_copied self.old.first) self.old.levels.items ≡ (T.kept trail.new, v.now) ∷ stops_ahead T.grown (T.kept trail.new) (option_copied self.new.first) self.new.levels.items) }
+        ensures stops { TakesStop
+            (stops_ahead T.grown (T.kept trail.old) (option_copied self.old.first) self.old.levels.items) (T.kept trail.new) result
+            (stops_ahead T.grown (T.kept trail.new) (option_copied self.new.first) self.new.levels.items) }
         ensures visits { C.number counter.new + nodes_below (reverse self.new.levels.items) ≡ C.number counter.old + nodes_below (reverse self.old.levels.items) }
         ensures longest { self.new.longest ≡ self.old.longest }
         ensures few { Tells T.grown → MatchOption result (C.number counter.new ≡ C.number counter.old) (λ _. C.number counter.new ≤ C.number counter.old + length (T.kept trail.new)) }

@@ -101,7 +101,8 @@ impl<'a, K: KeyTrait, V, C: Count> Seen<'a, K, V, C> {
         ensures path { IfOk result (λ w. IsTour w.0.longest (vec_capacity w.0.levels) (T.kept w.1) (reverse w.0.levels.items)) }
         ensures room { IfOk result (λ w. w.0.longest ≤ T.room w.1) }
         ensures longest { IfOk result (λ w. w.0.longest ≤ self.entry.longest) }
-        ensures stops { IfOk result (λ w. stops_ahead T.grown (T.kept w.1) (option_copied w.0.first) w.0.levels.items ≡ stops_since included start.now (tree_stops T.grown (option_copied self.entry.root))) }
+        ensures stops { IfOk result (λ w. stops_ahead T.grown (T.kept w.1) (option_copied w.0.first) w.0.levels.items
+            ≡ stops_since included start.now (tree_stops T.grown (option_copied self.entry.root))) }
         ensures low { IfOk result (λ w. AreLow (height (seen_keys self.entry.root)) (reverse w.0.levels.items)) }
         ensures memory { OnErr result (seen_pairs self.entry.root ≢ []) }
         ensures visits { IfOk result (λ _. C.number counter.new ≡ C.number counter.old + probe_count (seen_keys self.entry.root) start.now) }

@@ -26,7 +26,8 @@ fn enter_part<'a, P: Partial, V, C: Count, T: Trail<'a, P>>(
 ) -> Option<Entered<'a, P, V, C>>
     requires room { length (T.kept trail.old) + longest_key (tree_pairs (option_map (λ s. s.node.now) top)) ≤ T.room trail.old }
     ensures found { EntersPart T.grown (T.kept trail.old) prefix.now (option_map (λ s. s.node.now) top.entry) result (T.kept trail.new) }
-    ensures deep { MatchOption result (Unit {0}) (λ e. length (T.kept trail.new) + longest_key (pairs_of e.node.now) ≤ length (T.kept trail.old) + longest_key (tree_pairs (option_map (λ s. s.node.now) top.entry))) }
+    ensures deep { MatchOption result (Unit {0}) (λ e. length (T.kept trail.new) + longest_key (pairs_of e.node.now)
+        ≤ length (T.kept trail.old) + longest_key (tree_pairs (option_map (λ s. s.node.now) top.entry))) }
     ensures room { T.room trail.old ≤ T.room trail.new }
     ensures visits { C.number counter.new ≡ C.number counter.old + tree_entered prefix.now (option_map (λ s. s.node.now) top.entry) }
 {
@@ -61,7 +62,8 @@ impl<'a, K: KeyTrait, V, C: Count> Seen<'a, K, V, C> {
         ensures path { IfOk result (λ w. IsTour w.0.longest (vec_capacity w.0.levels) (T.kept w.1) (reverse w.0.levels.items)) }
         ensures room { IfOk result (λ w. w.0.longest ≤ T.room w.1) }
         ensures longest { IfOk result (λ w. w.0.longest ≤ self.entry.longest) }
-        ensures stops { IfOk result (λ w. stops_ahead T.grown (T.kept w.1) (option_copied w.0.first) w.0.levels.items ≡ part_stops T.grown (tree_part T.grown [] prefix.now (option_copied self.entry.root))) }
+        ensures stops { IfOk result (λ w. stops_ahead T.grown (T.kept w.1) (option_copied w.0.first) w.0.levels.items
+            ≡ part_stops T.grown (tree_part T.grown [] prefix.now (option_copied self.entry.root))) }
         ensures memory { OnErr result (seen_pairs self.entry.root ≢ []) }
         ensures visits { IfOk result (λ _. C.number counter.new ≡ C.number counter.old + probe_count (seen_keys self.entry.root) prefix.now) }
         ensures bound { C.number counter.new ≤ C.number counter.old + length prefix.now + 1 }

@@ -4,14 +4,13 @@
 //! (`&mut F`) shows the caller what the calls left in it.
 ghost use Rattle.std.specs.Prelude.{◌≡◌, ◌≢◌, ◌≤◌, ◌+◌, ◌*◌, [], length, reverse, vec_capacity, IfErr, OnErr, OnOk};
 ghost use Rattle.std.specs.List.{FoldsTo};
-ghost use Rattle.std.specs.Option.{option_copied};
-ghost use Rattle.rart_keys.specs.Filters.{below};
 ghost use Rattle.rart_nodes.specs.tries.Tree.{seen_keys, seen_pairs};
+ghost use Rattle.rart_nodes.specs.walks.BelowPrefix.{below_bound, below_visits, cut_below};
 ghost use Rattle.rart_nodes.specs.walks.Cut.{cut_pairs};
 ghost use Rattle.rart_nodes.specs.walks.ProbeCount.{probe_count};
-ghost use Rattle.rart_nodes.specs.walks.Tour.{IsTour, nodes_below, stops_ahead};
-ghost use Rattle.rart_nodes.specs.walks.TrailParts.{lent_pieces, one_piece};
-ghost use Rattle.rart_nodes.specs.walks.ViewPieces.{AreViews};
+ghost use Rattle.rart_nodes.specs.walks.Tour.{IsTour, nodes_below};
+ghost use Rattle.rart_nodes.specs.walks.TrailParts.{lent_pieces};
+ghost use Rattle.rart_nodes.specs.walks.ViewPieces.{AreViews, views_ahead};
 ghost use Rattle.rart_nodes.specs.walks.Viewed.{Viewed};
 
 use crate::count::Count;
@@ -31,9 +30,9 @@ fn feed_views<'a, P: Partial, V, C: Count, F: FnMut(LendingKeyView<'_, '_>, &V)>
     requires callable { F.IsAlwaysCallable f.old }
     requires path { IsTour tour.old.longest (vec_capacity tour.old.levels) (lent_pieces trail.old.segments.items) (reverse tour.old.levels.items) }
     requires room { tour.old.longest ≤ vec_capacity trail.old.segments }
-    requires views { AreViews (stops_ahead one_piece (lent_pieces trail.old.segments.items) (option_copied tour.old.first) tour.old.levels.items) }
+    requires views { AreViews (views_ahead trail.old.segments.items tour.old.first tour.old.levels.items) }
     ensures callable { F.IsAlwaysCallable f.new }
-    ensures folds { FoldsTo (λ p x q. Viewed F.FnMut p x q) f.old (stops_ahead one_piece (lent_pieces trail.old.segments.items) (option_copied tour.old.first) tour.old.levels.items) f.new }
+    ensures folds { FoldsTo (λ p x q. Viewed F.FnMut p x q) f.old (views_ahead trail.old.segments.items tour.old.first tour.old.levels.items) f.new }
     ensures visits { C.number counter.new ≤ C.number counter.old + nodes_below (reverse tour.old.levels.items) }
 {
     while let Some(value) = tour.advance(trail, counter) {
@@ -50,11 +49,11 @@ impl<'a, K: KeyTrait, V, C: Count> Seen<'a, K, V, C> {
     ) -> Result<(), TreeError>
         requires callable { F.IsAlwaysCallable f.old }
         ensures callable { F.IsAlwaysCallable f.new }
-        ensures calls { OnOk result (FoldsTo (λ p x q. Viewed F.FnMut p x q) f.old (cut_pairs (seen_keys self.entry.root) (below prefix.now (seen_pairs self.entry.root))) f.new) }
+        ensures calls { OnOk result (FoldsTo (λ p x q. Viewed F.FnMut p x q) f.old (cut_below prefix.now (seen_pairs self.entry.root)) f.new) }
         ensures refused { OnErr result (f.new ≡ f.old) }
         ensures memory { IfErr result (λ e. (e ≡ TreeError.Memory) × (seen_pairs self.entry.root ≢ [])) }
-        ensures visits { OnOk result (C.number counter.new ≤ C.number counter.old + probe_count (seen_keys self.entry.root) prefix.now + 2 * length (below prefix.now (seen_pairs self.entry.root))) }
-        ensures bound { C.number counter.new ≤ C.number counter.old + length prefix.now + 1 + 2 * length (below prefix.now (seen_pairs self.entry.root)) }
+        ensures visits { OnOk result (C.number counter.new ≤ C.number counter.old + below_visits prefix.now (seen_pairs self.entry.root)) }
+        ensures bound { C.number counter.new ≤ C.number counter.old + below_bound prefix.now (seen_pairs self.entry.root) }
     {
         let (mut tour, mut trail) = self.tour_below::<SegmentTrail<'a>>(prefix, counter)?;
         feed_views(&mut tour, &mut trail, counter, f);
@@ -73,11 +72,11 @@ impl<'a, K: KeyTrait, V, C: Count> Seen<'a, K, V, C> {
     ) -> Result<(), TreeError>
         requires callable { F.IsAlwaysCallable f.old }
         ensures callable { F.IsAlwaysCallable f.new }
-        ensures calls { OnOk result (FoldsTo (λ p x q. Viewed F.FnMut p x q) f.old (cut_pairs (seen_keys self.entry.root) (below (K.bytes prefix.now) (seen_pairs self.entry.root))) f.new) }
+        ensures calls { OnOk result (FoldsTo (λ p x q. Viewed F.FnMut p x q) f.old (cut_below (K.bytes prefix.now) (seen_pairs self.entry.root)) f.new) }
         ensures refused { OnErr result (f.new ≡ f.old) }
         ensures memory { IfErr result (λ e. (e ≡ TreeError.Memory) × (seen_pairs self.entry.root ≢ [])) }
-        ensures visits { OnOk result (C.number counter.new ≤ C.number counter.old + probe_count (seen_keys self.entry.root) (K.bytes prefix.now) + 2 * length (below (K.bytes prefix.now) (seen_pairs self.entry.root))) }
-        ensures bound { C.number counter.new ≤ C.number counter.old + length (K.bytes prefix.now) + 1 + 2 * length (below (K.bytes prefix.now) (seen_pairs self.entry.root)) }
+        ensures visits { OnOk result (C.number counter.new ≤ C.number counter.old + below_visits (K.bytes prefix.now) (seen_pairs self.entry.root)) }
+        ensures bound { C.number counter.new ≤ C.number counter.old + below_bound (K.bytes prefix.now) (seen_pairs self.entry.root) }
     {
         self.each_view_below(prefix.as_ref(), f, counter)
     }
@@ -90,10 +89,10 @@ impl<'a, K: KeyTrait, V, C: Count> Seen<'a, K, V, C> {
         counter: &mut C,
     ) -> Result<(), TreeError>
         requires callable { F.IsAlwaysCallable f }
-        ensures calls { OnOk result ((last : F) × FoldsTo (λ p x q. Viewed F.FnMut p x q) f (cut_pairs (seen_keys self.entry.root) (below (K.bytes prefix.now) (seen_pairs self.entry.root))) last) }
+        ensures calls { OnOk result ((last : F) × FoldsTo (λ p x q. Viewed F.FnMut p x q) f (cut_below (K.bytes prefix.now) (seen_pairs self.entry.root)) last) }
         ensures memory { IfErr result (λ e. (e ≡ TreeError.Memory) × (seen_pairs self.entry.root ≢ [])) }
-        ensures visits { OnOk result (C.number counter.new ≤ C.number counter.old + probe_count (seen_keys self.entry.root) (K.bytes prefix.now) + 2 * length (below (K.bytes prefix.now) (seen_pairs self.entry.root))) }
-        ensures bound { C.number counter.new ≤ C.number counter.old + length (K.bytes prefix.now) + 1 + 2 * length (below (K.bytes prefix.now) (seen_pairs self.entry.root)) }
+        ensures visits { OnOk result (C.number counter.new ≤ C.number counter.old + below_visits (K.bytes prefix.now) (seen_pairs self.entry.root)) }
+        ensures bound { C.number counter.new ≤ C.number counter.old + below_bound (K.bytes prefix.now) (seen_pairs self.entry.root) }
     {
         self.prefix_for_each_view_with_k_counted(prefix, &mut f, counter)
     }
@@ -110,7 +109,7 @@ impl<'a, K: KeyTrait, V, C: Count> Seen<'a, K, V, C> {
         ensures calls { OnOk result (FoldsTo (λ p x q. Viewed F.FnMut p x q) f.old (cut_pairs (seen_keys self.entry.root) (seen_pairs self.entry.root)) f.new) }
         ensures refused { OnErr result (f.new ≡ f.old) }
         ensures memory { IfErr result (λ e. (e ≡ TreeError.Memory) × (seen_pairs self.entry.root ≢ [])) }
-        ensures visits { OnOk result (C.number counter.new ≤ C.number counter.old + probe_count (seen_keys self.entry.root) [] + 2 * length (seen_pairs self.entry.root)) }
+        ensures visits { OnOk result (C.number counter.new ≤ C.number counter.old + (probe_count (seen_keys self.entry.root) [] + 2 * length (seen_pairs self.entry.root))) }
         ensures bound { C.number counter.new ≤ C.number counter.old + 1 + 2 * length (seen_pairs self.entry.root) }
     {
         self.each_view_below(&[], f, counter)
@@ -125,7 +124,7 @@ impl<'a, K: KeyTrait, V, C: Count> Seen<'a, K, V, C> {
         requires callable { F.IsAlwaysCallable f }
         ensures calls { OnOk result ((last : F) × FoldsTo (λ p x q. Viewed F.FnMut p x q) f (cut_pairs (seen_keys self.entry.root) (seen_pairs self.entry.root)) last) }
         ensures memory { IfErr result (λ e. (e ≡ TreeError.Memory) × (seen_pairs self.entry.root ≢ [])) }
-        ensures visits { OnOk result (C.number counter.new ≤ C.number counter.old + probe_count (seen_keys self.entry.root) [] + 2 * length (seen_pairs self.entry.root)) }
+        ensures visits { OnOk result (C.number counter.new ≤ C.number counter.old + (probe_count (seen_keys self.entry.root) [] + 2 * length (seen_pairs self.entry.root))) }
         ensures bound { C.number counter.new ≤ C.number counter.old + 1 + 2 * length (seen_pairs self.entry.root) }
     {
         self.for_each_view_with_counted(&mut f, counter)

@@ -4,15 +4,14 @@
 //! so that no byte of a key is copied.
 ghost use Rattle.std.specs.Prelude.{◌≡◌, ◌≢◌, ◌≤◌, ◌+◌, ◌*◌, ℕ, [], length, reverse, vec_capacity, IfErr, OnErr, OnOk};
 ghost use Rattle.std.specs.List.{FoldsTo};
-ghost use Rattle.std.specs.Option.{option_copied};
 ghost use Rattle.rart_keys.specs.Ranges.{bound_in, is_to};
 ghost use Rattle.rart_nodes.specs.ranges.Dues.{AreLow};
 ghost use Rattle.rart_nodes.specs.ranges.Spans.{cut_between, span_bound, span_visits};
 ghost use Rattle.rart_nodes.specs.ranges.Starts.{stops_to};
 ghost use Rattle.rart_nodes.specs.tries.Tree.{seen_pairs};
-ghost use Rattle.rart_nodes.specs.walks.Tour.{IsTour, joined, stops_ahead};
-ghost use Rattle.rart_nodes.specs.walks.TrailParts.{lent_pieces, one_piece};
-ghost use Rattle.rart_nodes.specs.walks.ViewPieces.{AreViews};
+ghost use Rattle.rart_nodes.specs.walks.Tour.{IsTour, joined};
+ghost use Rattle.rart_nodes.specs.walks.TrailParts.{lent_pieces};
+ghost use Rattle.rart_nodes.specs.walks.ViewPieces.{AreViews, views_ahead};
 ghost use Rattle.rart_nodes.specs.walks.Viewed.{Viewed};
 
 use crate::count::Count;
@@ -46,11 +45,11 @@ fn feed_views_to<'a, K: KeyTrait, V, C: Count, F: FnMut(LendingKeyView<'_, '_>, 
     requires callable { F.IsAlwaysCallable f.old }
     requires path { IsTour tour.old.longest (vec_capacity tour.old.levels) (lent_pieces trail.old.segments.items) (reverse tour.old.levels.items) }
     requires room { tour.old.longest ≤ vec_capacity trail.old.segments }
-    requires views { AreViews (stops_ahead one_piece (lent_pieces trail.old.segments.items) (option_copied tour.old.first) tour.old.levels.items) }
+    requires views { AreViews (views_ahead trail.old.segments.items tour.old.first tour.old.levels.items) }
     ensures callable { F.IsAlwaysCallable f.new }
-    ensures folds { FoldsTo (λ p x q. Viewed F.FnMut p x q) f.old (stops_to (bound_in K.bytes end.now) (stops_ahead one_piece (lent_pieces trail.old.segments.items) (option_copied tour.old.first) tour.old.levels.items)) f.new }
+    ensures folds { FoldsTo (λ p x q. Viewed F.FnMut p x q) f.old (stops_to (bound_in K.bytes end.now) (views_ahead trail.old.segments.items tour.old.first tour.old.levels.items)) f.new }
     ensures visits { (h : ℕ) → AreLow h (reverse tour.old.levels.items) →
-        C.number counter.new ≤ C.number counter.old + 2 * length (stops_to (bound_in K.bytes end.now) (stops_ahead one_piece (lent_pieces trail.old.segments.items) (option_copied tour.old.first) tour.old.levels.items)) + h }
+        C.number counter.new ≤ C.number counter.old + 2 * length (stops_to (bound_in K.bytes end.now) (views_ahead trail.old.segments.items tour.old.first tour.old.levels.items)) + h }
 {
     while let Some(value) = tour.advance(trail, counter) {
         let view = LendingKeyView::of(trail.segments());
