@@ -51,8 +51,8 @@ IsUpdate key r w old (Err e) new = IsRefusal key r w old e new
 
 -- `try_update`, where the callback left w and answered a: as `update`, but with Err the map stays
 abbrev pub IsTryUpdate : {E V : Type 0} → List ℕ → Result (SlotUpdate V) E → Option V → List (List ℕ × V) → Result Bool (TryUpdateError E V) → List (List ℕ × V) → Type 0
-IsTryUpdate key (Ok r) w old (Ok touched) new = (touched ≡ is_touched r w) × TakesNew r w old × (new ≡ map_updated key r w old)
-IsTryUpdate key (Ok r) w old (Err (Try_not_inserted e)) new = (r ≡ Insert e.value) × (w ≡ None) × MayRefuse old key e.error × (new ≡ old)
+IsTryUpdate key (Ok r) w old (Ok touched) new = IsUpdate key r w old (Ok touched) new
+IsTryUpdate key (Ok r) w old (Err (Try_not_inserted e)) new = IsRefusal key r w old (Not_inserted e) new
 IsTryUpdate key (Ok r) w old (Err Try_not_removed) new = (r ≡ Remove) × (w ≢ None) × MayKeep old key Memory × (new ≡ old)
 IsTryUpdate key (Err e) w old (Err (Callback f)) new = (f ≡ e) × (new ≡ old)
 IsTryUpdate key a w old result new = ⊥

@@ -2,10 +2,12 @@
 //!
 //! Contracts see a tree as its sorted pairs and the records of its nodes. After any list of calls the
 //! nodes are exactly the branch points of the keys, each of the kind that its child count fixes, and
-//! every answer is the one of the sorted list of pairs; a refused call changes neither.
+//! every answer is the one of the sorted list of pairs; a refused call changes neither, save that the removal of an
+//! update, where it is refused, leaves at the key what the callback wrote.
 #![tactic(auto)]
 
 mod bulk;
+mod callbacks;
 pub mod iter;
 pub mod laws;
 mod migrate;
@@ -16,7 +18,6 @@ pub mod script;
 pub mod stats;
 pub mod tree;
 mod views;
-mod visits;
 
 pub use crate::bulk::BulkError;
 pub use crate::iter::{Iter, PrefixMatchIter, SeenIter, ValuesIter};

@@ -1,7 +1,8 @@
 //! Answers about a probe, the keys that begin it, which take no memory; and walks below a prefix, the keys that it begins.
-ghost use Rattle.std.specs.Prelude.{◌≡◌, ◌≢◌, [], option_map, IfErr, IfOk};
+ghost use Rattle.std.specs.Prelude.{◌≡◌, option_map, IfErr, IfOk};
 ghost use Rattle.std.specs.Option.{option_copied};
-ghost use Rattle.rart_keys.specs.Filters.{below, longest_match, matches};
+ghost use Rattle.rart_keys.specs.Filters.{below, longest_match, longest_value, matches};
+ghost use Rattle.rart_nodes.specs.walks.Calls.{MayLackRoom};
 
 use crate::tree::AdaptiveRadixTree;
 use rart_keys::KeyTrait;
@@ -29,7 +30,7 @@ impl<K: KeyTrait, V> AdaptiveRadixTree<K, V> {
 
     /// The value at the longest key that begins `probe`.
     pub fn longest_prefix_value_k(&self, probe: &K) -> Option<&V>
-        ensures { option_copied result ≡ option_map (λ e. e.1) (longest_match (K.bytes probe.now) self.now.pairs) }
+        ensures { option_copied result ≡ longest_value (K.bytes probe.now) self.now.pairs }
     {
         self.seen()
             .longest_prefix_value_k_counted(probe, &mut Visits::new())
@@ -39,14 +40,14 @@ impl<K: KeyTrait, V> AdaptiveRadixTree<K, V> {
     pub fn longest_prefix_value(&self, probe: K) -> Option<&V>
     where
         K: Drop,
-        ensures { option_copied result ≡ option_map (λ e. e.1) (longest_match (K.bytes probe) self.now.pairs) }
+        ensures { option_copied result ≡ longest_value (K.bytes probe) self.now.pairs }
     {
         self.longest_prefix_value_k(&probe)
     }
 
     /// The value at the longest key that begins the bytes `probe`, which may be longer than any key.
     pub fn longest_prefix_value_bytes(&self, probe: &[u8]) -> Option<&V>
-        ensures { option_copied result ≡ option_map (λ e. e.1) (longest_match probe.now self.now.pairs) }
+        ensures { option_copied result ≡ longest_value probe.now self.now.pairs }
     {
         self.seen()
             .longest_prefix_value_bytes_counted(probe, &mut Visits::new())
@@ -71,7 +72,7 @@ impl<K: KeyTrait, V> AdaptiveRadixTree<K, V> {
     /// The pairs whose key begins with `prefix`, ascending. It takes its room as `iter` does.
     pub fn prefix_iter_k(&self, prefix: &K) -> Result<Iter<'_, K, K::PartialType, V>, TreeError>
         ensures pairs { IfOk result (λ it. it ≡ below (K.bytes prefix.now) self.now.pairs) }
-        ensures memory { IfErr result (λ e. (e ≡ TreeError.Memory) × (self.now.pairs ≢ [])) }
+        ensures memory { IfErr result (MayLackRoom self.now.pairs) }
     {
         self.seen().prefix_iter_k(prefix)
     }
@@ -81,7 +82,7 @@ impl<K: KeyTrait, V> AdaptiveRadixTree<K, V> {
     where
         K: Drop,
         ensures pairs { IfOk result (λ it. it ≡ below (K.bytes prefix) self.now.pairs) }
-        ensures memory { IfErr result (λ e. (e ≡ TreeError.Memory) × (self.now.pairs ≢ [])) }
+        ensures memory { IfErr result (MayLackRoom self.now.pairs) }
     {
         self.prefix_iter_k(&prefix)
     }

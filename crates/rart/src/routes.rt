@@ -2,10 +2,10 @@
 //!
 //! Contracts see a table as they see a tree, its pairs of prefix and target ascending by prefix, and the records of its nodes.
 //! It stands on the public contracts of the tree alone.
-ghost use Rattle.std.specs.Prelude.{◌≡◌, ◌≢◌, ◌*◌, ◌-◌, ◌≤◌, ◌↔◌, [], length, option_map, IfErr, IsTrue, OnErr};
+ghost use Rattle.std.specs.Prelude.{◌≡◌, ◌*◌, ◌-◌, ◌≤◌, ◌↔◌, [], length, option_map, IfErr, IsTrue, OnErr};
 ghost use Rattle.std.specs.Borrow.{sem};
 ghost use Rattle.std.specs.Option.{option_copied};
-ghost use Rattle.rart_keys.specs.Filters.{longest_match};
+ghost use Rattle.rart_keys.specs.Filters.{longest_match, longest_value};
 ghost use Rattle.rart_keys.specs.SortedMap.{IsAscending, keys_of};
 ghost use Rattle.rart_nodes.specs.shapes.Shape.{HasShape};
 ghost use Rattle.rart_nodes.specs.tries.Tree.{tree_nodes, tree_pairs};
@@ -74,7 +74,7 @@ impl<K: KeyTrait, T> RouteTable<K, T> {
         self.routes.canonical()
     }
 
-    /// The table's tree with its reads counted by a `C`: what its counted calls say of visits is said of the calls here.
+    /// The table's tree with its reads counted by a `C`: its counted calls answer as the calls here do, and bound their visits.
     pub fn seen<C>(&self) -> Seen<'_, K, T, C>
         ensures pairs { tree_pairs (option_copied result.root) ≡ self.now.pairs }
         ensures nodes { tree_nodes (option_copied result.root) ≡ self.now.nodes }
@@ -143,7 +143,7 @@ impl<K: KeyTrait, T> RouteTable<K, T> {
 
     /// The target of the longest prefix that begins the bytes `probe`, which may be longer than any key. Takes no memory.
     pub fn route(&self, probe: &[u8]) -> Option<&T>
-        ensures { option_copied result ≡ option_map (λ e. e.1) (longest_match probe.now self.now.pairs) }
+        ensures { option_copied result ≡ longest_value probe.now self.now.pairs }
     {
         self.routes.longest_prefix_value_bytes(probe)
     }

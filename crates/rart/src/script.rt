@@ -1,7 +1,8 @@
 //! Calls of a tree as values: a list of calls is run on a tree, and gives the list of replies.
-ghost use Rattle.std.specs.Prelude.{◌≡◌, ◌≢◌, [], Err, None, IfErr, IfOk, OnErr, length};
+ghost use Rattle.std.specs.Prelude.{◌≡◌, ◌≢◌, Err, None, IfErr, IfOk, OnErr, length};
 ghost use Rattle.rart_keys.specs.SortedMap.{keys_of, lookup, values_of};
 ghost use Rattle.rart_nodes.specs.shapes.Shape.{HasShape};
+ghost use Rattle.rart_nodes.specs.walks.Calls.{MayLackRoom};
 ghost use Rattle.rart.specs.Steps.{IsRun, IsStep, pairs_in};
 ghost use Rattle.rart.specs.Updates.{IsTryUpdate, IsUpdate, left_by, written_slot};
 ghost use Rattle.rart.specs.declared.tree.update.TryUpdateError.TheVariants.{Clone as Not_cloned};
@@ -225,7 +226,7 @@ fn copied_pairs<K: KeyTrait + Drop, V: Copy>(
     tree: &AdaptiveRadixTree<K, V>,
 ) -> Result<Vec<(K, V)>, TreeError>
     ensures pairs { IfOk result (λ pairs. pairs_in K.bytes pairs.items ≡ tree.now.pairs) }
-    ensures memory { IfErr result (λ e. (e ≡ TreeError.Memory) × (tree.now.pairs ≢ [])) }
+    ensures memory { IfErr result (MayLackRoom tree.now.pairs) }
 {
     let mut pairs = Vec::with_capacity(alloc, tree.len())?;
     let mut rest = tree.iter()?;
@@ -243,7 +244,7 @@ fn copied_values<K: KeyTrait + Drop, V: Copy>(
     tree: &AdaptiveRadixTree<K, V>,
 ) -> Result<Vec<V>, TreeError>
     ensures values { IfOk result (λ values. values.items ≡ values_of tree.now.pairs) }
-    ensures memory { IfErr result (λ e. (e ≡ TreeError.Memory) × (tree.now.pairs ≢ [])) }
+    ensures memory { IfErr result (MayLackRoom tree.now.pairs) }
 {
     let mut values = Vec::with_capacity(alloc, tree.len())?;
     let mut rest = tree.values_iter()?;
@@ -269,7 +270,7 @@ pub fn run<K: KeyTrait + Drop, V: Copy>(
     ensures shape_before { HasShape (keys_of tree.old.pairs) tree.old.nodes }
     ensures shape_after { HasShape (keys_of tree.new.pairs) tree.new.nodes }
     ensures refused { OnErr result (tree.new ≡ tree.old) }
-    ensures memory { IfErr result (λ e. (e ≡ TreeError.Memory) × (calls.items ≢ [])) }
+    ensures memory { IfErr result (MayLackRoom calls.items) }
 {
     tree.canonical();
     let mut replies = Vec::with_capacity(alloc, calls.len())?;

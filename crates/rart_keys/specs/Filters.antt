@@ -1,5 +1,5 @@
 -- The pairs of a sorted map whose key a string begins, and those whose key begins it.
-use Rattle.std.specs.Prelude.{ℕ, List, [], ◌∷◌, Option, Some, None}
+use Rattle.std.specs.Prelude.{ℕ, List, [], ◌∷◌, Option, Some, None, option_map}
 use Rattle.std.specs.List.{filter}
 use Rattle.rart_keys.specs.ByteStrings.{begins}
 
@@ -19,3 +19,7 @@ last_or o (e ∷ es) = last_or (Some e) es
 -- the pair with the longest key that begins q
 abbrev pub longest_match : {V : Type 0} → List ℕ → List (List ℕ × V) → Option (List ℕ × V)
 longest_match q es = last_or None (matches q es)
+
+-- the value that stands there
+abbrev pub longest_value : {V : Type 0} → List ℕ → List (List ℕ × V) → Option V
+longest_value q es = option_map (λ e. e.1) (longest_match q es)

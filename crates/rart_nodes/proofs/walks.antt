@@ -7,6 +7,7 @@ pub mod PartLemmas
 pub mod PieceLemmas
 pub mod ProbeLemmas
 pub mod SeenLemmas
+pub mod ShownCuts
 pub mod StopLemmas
 pub mod TourLemmas
 pub mod TourVisits

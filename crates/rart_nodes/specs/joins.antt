@@ -2,6 +2,7 @@ pub mod Forks
 pub mod Lockstep
 pub mod Meetings
 pub mod PairCalls
+pub mod SeenJoins
 pub mod SharedEdges
 pub mod Twins
 pub mod TwinsAhead

@@ -1,4 +1,5 @@
 pub mod BelowPrefix
+pub mod Calls
 pub mod ChildrenCode
 pub mod Cut
 pub mod Matched

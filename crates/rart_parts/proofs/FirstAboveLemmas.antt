@@ -5,13 +5,13 @@ use Rattle.rart_parts.specs.Keys.{IsAscendingBelow, IsFirstAbove}
 use Rattle.rart_parts.specs.SortedKeyed.{IsPadded}
 
 -- of the first i keys p are not above, and these are the first ones, so far as the keys ascend
-pub record IsCounted (keys : List ℕ) (n key i p : ℕ) : Type 0 where
+pub record CountsBelow (keys : List ℕ) (n key i p : ℕ) : Type 0 where
   pub within : p ≤ i
   pub passed : (k : ℕ) → k < p → k < n → get_or keys k 0 ≤ key
   pub next : p < i → p < n → key < get_or keys p 0
 
-module _ (keys : List ℕ) (n key width i p : ℕ) (ascend : IsAscendingBelow keys n) (padded : IsPadded keys n width) (bytes : (k : ℕ) → get_or keys k 0 ≤ 255) (h : i < width) (c : IsCounted keys n key i p) where
-  pub counted_low : get_or keys i 0 ≤ key → IsCounted keys n key (i + 1) (p + 1)
+module _ (keys : List ℕ) (n key width i p : ℕ) (ascend : IsAscendingBelow keys n) (padded : IsPadded keys n width) (bytes : (k : ℕ) → get_or keys k 0 ≤ 255) (h : i < width) (c : CountsBelow keys n key i p) where
+  pub counted_low : get_or keys i 0 ≤ key → CountsBelow keys n key (i + 1) (p + 1)
   counted_low low = ⊎_elim
       (λ inside.
       let here : p ≡ i = ⊎_elim (λ l. absurd (omega (arith, ascend p i l inside, c.next l (omega (arith, l, inside)), low))) (λ l. omega (arith, c.within, l)) (cases_lt p i) in
@@ -29,14 +29,14 @@ module _ (keys : List ℕ) (n key width i p : ℕ) (ascend : IsAscendingBelow ke
       })
       (cases_lt i n)
 
-  pub counted_high : key < get_or keys i 0 → IsCounted keys n key (i + 1) p
+  pub counted_high : key < get_or keys i 0 → CountsBelow keys n key (i + 1) p
   counted_high high = record {
     within = omega (arith, c.within);
     passed = c.passed;
     next = λ l m. ⊎_elim (λ q. c.next q m) (λ q. let same : p ≡ i = omega (arith, c.within, q) in subst (λ j. key < get_or keys j 0) (sym same) high) (cases_lt p i);
   }
 
-module _ (keys : List ℕ) (n key width p : ℕ) (h : n ≤ width) (c : IsCounted keys n key width p) where
+module _ (keys : List ℕ) (n key width p : ℕ) (h : n ≤ width) (c : CountsBelow keys n key width p) where
   pub first_inside : p < n → IsFirstAbove keys n key p
   first_inside l = (omega (arith, l), λ k q. c.passed k q (omega (arith, q, l)), λ q. c.next (omega (arith, l, h)) l)
 

@@ -1,7 +1,7 @@
 //! A route table: networks by their first bytes, each with a next hop.
-ghost use Rattle.std.specs.Prelude.{◌≡◌, ◌≤◌, length, option_map, IfErr, OnErr, OnOk};
+ghost use Rattle.std.specs.Prelude.{◌≡◌, ◌≤◌, length, IfErr, OnErr, OnOk};
 ghost use Rattle.std.specs.Option.{option_copied};
-ghost use Rattle.rart_keys.specs.Filters.{longest_match};
+ghost use Rattle.rart_keys.specs.Filters.{longest_value};
 ghost use Rattle.rart_keys.specs.SortedMap.{put};
 ghost use Rattle.rart.specs.Refusals.{MayRefuse};
 
@@ -26,7 +26,7 @@ pub fn add_route(routes: &mut Routes, network: &[u8], hop: u32) -> Result<(), Re
 
 /// The next hop of the longest network that `address` begins with. One way down, no memory.
 pub fn next_hop<'a>(routes: &'a Routes, address: &[u8]) -> Option<&'a u32>
-    ensures { option_copied result ≡ option_map (λ e. e.1) (longest_match address.now routes.now.pairs) }
+    ensures { option_copied result ≡ longest_value address.now routes.now.pairs }
 {
     routes.longest_prefix_value_bytes(address)
 }

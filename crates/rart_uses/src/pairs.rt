@@ -1,8 +1,9 @@
 //! A tuple index: two numbers in one key, big-endian, so that keys are in the order of the pairs.
-ghost use Rattle.std.specs.Prelude.{◌≡◌, ◌≢◌, ◌++◌, [], IfErr, IfOk};
+ghost use Rattle.std.specs.Prelude.{◌≡◌, ◌++◌, IfErr, IfOk};
 ghost use Rattle.std.specs.Int.{to_be_bytes, w32};
 ghost use Rattle.rart_keys.specs.ArrayKeyBytes.{array_key_bytes};
 ghost use Rattle.rart_keys.specs.Filters.{below};
+ghost use Rattle.rart_nodes.specs.walks.Calls.{MayLackRoom};
 
 use rart::iter::Iter;
 use rart::{AdaptiveRadixTree, ArrPartial, ArrayKey, KeyTrait, TreeError};
@@ -26,7 +27,7 @@ pub fn orders_of<'a>(
     customer: u32,
 ) -> Result<Iter<'a, ArrayKey<8>, ArrPartial<8>, u64>, TreeError>
     ensures rows { IfOk result (λ rows. rows ≡ below (to_be_bytes w32 customer) orders.now.pairs) }
-    ensures memory { IfErr result (λ e. (e ≡ TreeError.Memory) × (orders.now.pairs ≢ [])) }
+    ensures memory { IfErr result (MayLackRoom orders.now.pairs) }
 {
     orders.prefix_iter_k(&ArrayKey::<8>::from_u32(customer))
 }

@@ -1,11 +1,12 @@
 //! Laws of answers about a probe, of walks below a prefix, and of views.
-ghost use Rattle.std.specs.Prelude.{◌≡◌, ◌≢◌, ◌↔◌, [], None, length, option_map, IfErr, IfOk, IsTrue};
+ghost use Rattle.std.specs.Prelude.{◌≡◌, ◌↔◌, None, length, option_map, IfErr, IfOk, IsTrue};
 ghost use Rattle.std.specs.List.{filter};
 ghost use Rattle.rart_keys.specs.ByteStrings.{begins};
 ghost use Rattle.rart_keys.specs.Filters.{last_or, matches};
 ghost use Rattle.rart_keys.specs.KeyBytes.{IsWithin};
 ghost use Rattle.rart_nodes.specs.walks.Tour.{joined};
 ghost use Rattle.rart_nodes.specs.walks.TrailParts.{lent_pieces};
+ghost use Rattle.rart_nodes.specs.walks.Calls.{MayLackRoom};
 
 use crate::tree::AdaptiveRadixTree;
 use rart_keys::KeyTrait;
@@ -28,7 +29,7 @@ pub fn prefix_iter_filters_iter<'a, K: KeyTrait, V>(
 >
     ensures whole { IfOk result (λ walks. walks.0 ≡ tree.now.pairs) }
     ensures filters { IfOk result (λ walks. walks.1 ≡ filter (λ e. begins (K.bytes prefix.now) e.0) walks.0) }
-    ensures memory { IfErr result (λ e. (e ≡ TreeError.Memory) × (tree.now.pairs ≢ [])) }
+    ensures memory { IfErr result (MayLackRoom tree.now.pairs) }
 {
     let all = tree.iter()?;
     let below = tree.prefix_iter_k(prefix)?;

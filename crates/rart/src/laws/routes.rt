@@ -1,6 +1,6 @@
 //! What clients can count on of a route table: which probes an edit can reach.
-ghost use Rattle.std.specs.Prelude.{◌≡◌, option_map, IfErr, IfOk, OnErr, OnOk};
-ghost use Rattle.rart_keys.specs.Filters.{longest_match};
+ghost use Rattle.std.specs.Prelude.{◌≡◌, IfErr, IfOk, OnErr, OnOk};
+ghost use Rattle.rart_keys.specs.Filters.{longest_value};
 ghost use Rattle.rart_keys.specs.LongestMatches.{HasLonger, KeepsLongest, KeepsOthers, TakesLongest};
 ghost use Rattle.rart_keys.specs.SortedMap.{put, without};
 ghost use Rattle.rart.specs.Refusals.{MayKeep, TellsWhy};
@@ -19,8 +19,8 @@ pub fn add_then_route<K: KeyTrait, T: Copy>(
     probe: &[u8],
 ) -> Result<(Option<T>, Option<T>), NotInserted<T>>
     ensures pairs { OnOk result (table.new.pairs ≡ put (K.bytes prefix.now) target table.old.pairs) }
-    ensures before { IfOk result (λ r. r.0 ≡ option_map (λ e. e.1) (longest_match probe.now table.old.pairs)) }
-    ensures after { IfOk result (λ r. r.1 ≡ option_map (λ e. e.1) (longest_match probe.now table.new.pairs)) }
+    ensures before { IfOk result (λ r. r.0 ≡ longest_value probe.now table.old.pairs) }
+    ensures after { IfOk result (λ r. r.1 ≡ longest_value probe.now table.new.pairs) }
     ensures longest { OnOk result (TakesLongest (K.bytes prefix.now) target probe.now table.old.pairs table.new.pairs) }
     ensures longer_stays { OnOk result (HasLonger (K.bytes prefix.now) probe.now table.old.pairs → KeepsLongest probe.now table.old.pairs table.new.pairs) }
     ensures others_stay { OnOk result (KeepsOthers (K.bytes prefix.now) probe.now table.old.pairs table.new.pairs) }
@@ -42,8 +42,8 @@ pub fn withdraw_then_route<K: KeyTrait, T: Copy>(
     probe: &[u8],
 ) -> Result<(Option<T>, Option<T>), TreeError>
     ensures pairs { OnOk result (table.new.pairs ≡ without (K.bytes prefix.now) table.old.pairs) }
-    ensures before { IfOk result (λ r. r.0 ≡ option_map (λ e. e.1) (longest_match probe.now table.old.pairs)) }
-    ensures after { IfOk result (λ r. r.1 ≡ option_map (λ e. e.1) (longest_match probe.now table.new.pairs)) }
+    ensures before { IfOk result (λ r. r.0 ≡ longest_value probe.now table.old.pairs) }
+    ensures after { IfOk result (λ r. r.1 ≡ longest_value probe.now table.new.pairs) }
     ensures others_stay { OnOk result (KeepsOthers (K.bytes prefix.now) probe.now table.old.pairs table.new.pairs) }
     ensures refused { IfErr result (MayKeep table.old.pairs (K.bytes prefix.now)) }
     ensures unchanged { OnErr result (table.new ≡ table.old) }

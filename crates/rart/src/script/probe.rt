@@ -1,7 +1,8 @@
 //! Replies to calls about a probe and about a prefix.
-ghost use Rattle.std.specs.Prelude.{◌≡◌, ◌≢◌, [], IfErr, IfOk};
+ghost use Rattle.std.specs.Prelude.{◌≡◌, IfErr, IfOk};
 ghost use Rattle.rart_keys.specs.Filters.{below, matches};
 ghost use Rattle.rart.specs.Steps.{IsStep, pairs_in};
+ghost use Rattle.rart_nodes.specs.walks.Calls.{MayLackRoom};
 
 use super::{Call, Reply};
 use crate::tree::AdaptiveRadixTree;
@@ -54,7 +55,7 @@ fn copied_matches<K: KeyTrait + Drop, V: Copy>(
     probe: &K,
 ) -> Result<Vec<(K, V)>, TreeError>
     ensures pairs { IfOk result (λ pairs. pairs_in K.bytes pairs.items ≡ matches (K.bytes probe.now) tree.now.pairs) }
-    ensures memory { IfErr result (λ e. (e ≡ TreeError.Memory) × (matches (K.bytes probe.now) tree.now.pairs ≢ [])) }
+    ensures memory { IfErr result (MayLackRoom (matches (K.bytes probe.now) tree.now.pairs)) }
 {
     let mut pairs = Vec::new(alloc);
     let mut rest = tree.prefix_match_iter_k(probe);
@@ -73,7 +74,7 @@ fn copied_below<K: KeyTrait + Drop, V: Copy>(
     prefix: &K,
 ) -> Result<Vec<(K, V)>, TreeError>
     ensures pairs { IfOk result (λ pairs. pairs_in K.bytes pairs.items ≡ below (K.bytes prefix.now) tree.now.pairs) }
-    ensures memory { IfErr result (λ e. (e ≡ TreeError.Memory) × (tree.now.pairs ≢ [])) }
+    ensures memory { IfErr result (MayLackRoom tree.now.pairs) }
 {
     let mut pairs = Vec::new(alloc);
     let mut rest = tree.prefix_iter_k(prefix)?;

@@ -1,7 +1,8 @@
 //! Replies to calls about two bounds.
-ghost use Rattle.std.specs.Prelude.{◌≡◌, ◌≢◌, [], IfErr, IfOk};
+ghost use Rattle.std.specs.Prelude.{◌≡◌, IfErr, IfOk};
 ghost use Rattle.rart_keys.specs.Ranges.{between, bound_in};
 ghost use Rattle.rart.specs.Steps.{IsStep, pairs_in};
+ghost use Rattle.rart_nodes.specs.walks.Calls.{MayLackRoom};
 
 use super::{Call, Reply};
 use crate::tree::AdaptiveRadixTree;
@@ -32,7 +33,7 @@ fn copied_between<K: KeyTrait + Drop, V: Copy>(
     end: Bound<K>,
 ) -> Result<Vec<(K, V)>, TreeError>
     ensures pairs { IfOk result (λ pairs. pairs_in K.bytes pairs.items ≡ between (bound_in K.bytes start) (bound_in K.bytes end) tree.now.pairs) }
-    ensures memory { IfErr result (λ e. (e ≡ TreeError.Memory) × (tree.now.pairs ≢ [])) }
+    ensures memory { IfErr result (MayLackRoom tree.now.pairs) }
 {
     let mut pairs = Vec::new(alloc);
     let mut rest = tree.range(start, end)?;

@@ -95,12 +95,12 @@ impl<K: KeyTrait, V> AdaptiveRadixTree<K, V> {
         ensures* after { sem 𝓛 (ends_as K.row V.row K.PartialType.row K.KeyTrait K.PartialType.Partial self.entry (PutOrSame (K.bytes key) value result self.old)) }
         ensures answer { TriesInsert (K.bytes key) value self.old.pairs result }
     {
-        let tried = self.insert_new_with(key, value);
+        let tried = self.insert_new_keeping_key(key, value);
         self.tried_with_present(tried)
     }
 
     // Puts in a new key as `insert_new_k` does, and hands the key back.
-    fn insert_new_with(&mut self, key: K, value: V) -> Tried<K, V>
+    fn insert_new_keeping_key(&mut self, key: K, value: V) -> Tried<K, V>
         ensures key { result.key ≡ key }
         ensures inserts_new { InsertsNew (K.bytes key) value self.old.pairs self.new.pairs result.outcome }
         ensures unchanged { OnErr result.outcome (self.new ≡ self.old) }

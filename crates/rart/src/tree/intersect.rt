@@ -5,6 +5,7 @@ ghost use Rattle.rart_keys.specs.Joins.{join};
 ghost use Rattle.rart_keys.specs.SortedMap.{values_of};
 ghost use Rattle.rart_nodes.specs.joins.PairCalls.{CalledAt, CalledWith};
 ghost use Rattle.rart_nodes.specs.joins.ViewCalls.{ViewedAt};
+ghost use Rattle.rart_nodes.specs.walks.Calls.{CallsEach};
 
 use crate::tree::AdaptiveRadixTree;
 use rart_keys::KeyTrait;
@@ -46,7 +47,7 @@ impl<K: KeyTrait, V> AdaptiveRadixTree<K, V> {
         f: F,
     )
         requires { F.IsAlwaysCallable f }
-        ensures { (last : F) × FoldsTo (λ p x q. CalledWith F.FnMut p x q) f (values_of (join self.now.pairs other.now.pairs)) last }
+        ensures { CallsEach (λ p x q. CalledWith F.FnMut p x q) f (values_of (join self.now.pairs other.now.pairs)) }
     {
         self.seen()
             .intersect_values_with_counted(other.seen(), f, &mut Visits::new());
@@ -78,7 +79,7 @@ impl<K: KeyTrait, V> AdaptiveRadixTree<K, V> {
         f: F,
     ) -> Result<(), TreeError>
         requires { F.IsAlwaysCallable f }
-        ensures calls { OnOk result ((last : F) × FoldsTo (λ p x q. CalledAt F.FnMut K.bytes p x q) f (join self.now.pairs other.now.pairs) last) }
+        ensures calls { OnOk result (CallsEach (λ p x q. CalledAt F.FnMut K.bytes p x q) f (join self.now.pairs other.now.pairs)) }
         ensures memory { IfErr result (λ e. (e ≡ TreeError.Memory) × (self.now.pairs ≢ []) × (other.now.pairs ≢ [])) }
     {
         self.seen()
@@ -108,7 +109,7 @@ impl<K: KeyTrait, V> AdaptiveRadixTree<K, V> {
         f: F,
     ) -> Result<(), TreeError>
         requires { F.IsAlwaysCallable f }
-        ensures calls { OnOk result ((last : F) × FoldsTo (λ p x q. ViewedAt F.FnMut p x q) f (join self.now.pairs other.now.pairs) last) }
+        ensures calls { OnOk result (CallsEach (λ p x q. ViewedAt F.FnMut p x q) f (join self.now.pairs other.now.pairs)) }
         ensures memory { IfErr result (λ e. (e ≡ TreeError.Memory) × (self.now.pairs ≢ []) × (other.now.pairs ≢ [])) }
     {
         self.seen()

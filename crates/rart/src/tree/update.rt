@@ -53,7 +53,7 @@ fn is_touched<V: Drop>(outcome: Outcome<V>) -> bool
 impl<K: KeyTrait, V> AdaptiveRadixTree<K, V> {
     // Shows `f` what stands at `key`, once and in one pass down, and does what it asks for; hands on what
     // it tells beside.
-    pub(crate) fn update_with<X, F: FnOnce(&mut Slot<V>) -> (SlotUpdate<V>, X)>(
+    pub(crate) fn update_telling<X, F: FnOnce(&mut Slot<V>) -> (SlotUpdate<V>, X)>(
         &mut self,
         key: &K,
         f: F,
@@ -126,7 +126,7 @@ impl<K: KeyTrait, V> AdaptiveRadixTree<K, V> {
     }
 
     // Puts `value` at `key`, where another stands.
-    fn put_back(&mut self, key: &K, value: V)
+    fn restore(&mut self, key: &K, value: V)
     where
         V: Drop,
         requires stands { lookup (K.bytes key.now) self.old.pairs ≢ None }
@@ -170,7 +170,7 @@ impl<K: KeyTrait, V> AdaptiveRadixTree<K, V> {
                 Err(UpdateError::Insert(refused)) => Err(TryUpdateError::Insert(refused)),
                 Err(UpdateError::Remove) => match old {
                     Some(old) => {
-                        self.put_back(key, old);
+                        self.restore(key, old);
                         Err(TryUpdateError::Remove)
                     }
                     None => unreachable!(),
@@ -211,7 +211,7 @@ fn update_plainly<V, K: KeyTrait, F: FnOnce(&mut Slot<V>) -> SlotUpdate<V>>(
     ensures update { AnswersSo F.FnOnce f (lookup (K.bytes key.now) tree.old.pairs) (λ r w. EndsIn (K.bytes key.now) r w tree.old.pairs result tree.new.pairs) }
     ensures refused { OnErr result (tree.new.nodes ≡ tree.old.nodes) }
 {
-    let (outcome, ()) = tree.update_with(
+    let (outcome, ()) = tree.update_telling(
         key,
         move |slot: &mut Slot<V>|
             requires { FnOnceTakesAtMut F.FnOnce f slot.old }
@@ -250,7 +250,7 @@ fn update_tried<
     ensures refused { OnErr result.0 (tree.new.nodes ≡ tree.old.nodes) }
     ensures nodes { keys_of tree.new.pairs ≡ keys_of tree.old.pairs → tree.new.nodes ≡ tree.old.nodes }
 {
-    tree.update_with(
+    tree.update_telling(
         key,
         move |slot: &mut Slot<V>|
             requires clones { (x y : V) → V.is_clone x y → y ≡ x }

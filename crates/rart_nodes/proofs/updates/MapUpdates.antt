@@ -15,7 +15,7 @@ use Rattle.rart_nodes.specs.declared.slot.UpdateError.TheVariants.{Insert as Not
 use Rattle.rart_nodes.specs.edits.EditRuns.{puts, removes}
 use Rattle.rart_nodes.specs.tries.Tree.{IsCanonicalTree, tree_nodes, tree_pairs}
 use Rattle.rart_nodes.specs.tries.Trie.{Trie}
-use Rattle.rart_nodes.specs.updates.Slots.{IsCounted, longest_after, outcome_of}
+use Rattle.rart_nodes.specs.updates.Slots.{CountsPairs, longest_after, outcome_of}
 use Rattle.rart_nodes.specs.updates.TreeUpdates.{AsksRemove, EndsTree, RefusesPut, tree_left, tree_updated}
 use Rattle.rart_nodes.specs.updates.Updates.{EndsMap, RefusesNew, map_left, map_updated}
 use Rattle.rart_nodes.specs.edits.RemoveAsks.{remove_asks}
@@ -90,7 +90,7 @@ module _ {V : Type 0} where
   longest-stored : (k : List ℕ) (w x : V) (m : List (List ℕ × V)) → IsAscending m → is_some (Some w) ≡ is_some (lookup k m) → longest_key (put k x m) ≡ longest_key m
   longest-stored k w x m a s = longest-alike (put k x m) m (keys-stored k w x m (lookup k m) a refl s)
 
-  counted : (k : List ℕ) (r : SlotUpdate V) (w : Option V) (m : List (List ℕ × V)) → IsAscending m → is_some w ≡ is_some (lookup k m) → IsCounted (Ok (outcome_of r w)) (length m) (length (map_updated k r w m))
+  counted : (k : List ℕ) (r : SlotUpdate V) (w : Option V) (m : List (List ℕ × V)) → IsAscending m → is_some w ≡ is_some (lookup k m) → CountsPairs (Ok (outcome_of r w)) (length m) (length (map_updated k r w m))
   counted k Keep None m a s = refl
   counted k Remove None m a s = refl
   counted k (Insert x) None m a s = omega (arith, length-put k x m a, none-stored (lookup k m) s)
@@ -103,7 +103,7 @@ module _ {V : Type 0} where
   left-counted k (Some w) m a s = length-stored k w w m a s
 
   pub ends-counted : (full : Bool) (k : List ℕ) (r : SlotUpdate V) (w : Option V) (m : List (List ℕ × V)) (res : Result (Outcome V) (UpdateError V)) (n : List (List ℕ × V)) → IsAscending m → is_some w ≡ is_some (lookup k m)
-      → EndsMap full k r w m res n → IsCounted res (length m) (length n)
+      → EndsMap full k r w m res n → CountsPairs res (length m) (length n)
   ends-counted full k r w m (Ok o) n a s h = rw (h.0, h.1) (counted k r w m a s)
   ends-counted full k r w m (Err (Not_inserted d)) n a s h = ap length h.0
   ends-counted full k r w m (Err Not_removed) n a s h = ap length h.0 ∙ left-counted k w m a s

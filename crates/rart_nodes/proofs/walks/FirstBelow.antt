@@ -1,5 +1,5 @@
 -- The longest key that begins a probe is the first of those that it begins.
-use Rattle.std.proofs.Common.{◌≡◌, ℕ, ◌⊎◌, inl, inr, ⊎_elim, true, false, List, [], ◌∷◌, refl, sym, ap, ◌∙◌, Option, Some, None, if◌then◌else◌}
+use Rattle.std.proofs.Common.{◌≡◌, ◌≢◌, ℕ, ◌⊎◌, inl, inr, ⊎_elim, true, false, List, [], ◌∷◌, refl, sym, ap, ◌∙◌, Option, Some, None, if◌then◌else◌}
 use Rattle.rart_keys.specs.ByteStrings.{begins, IsBelow, strip_prefix}
 use Rattle.rart_keys.specs.Filters.{below, matches, last_or, longest_match}
 use Rattle.rart_keys.specs.SortedMap.{AreAbove, IsAscending, keys_of}
@@ -62,13 +62,26 @@ module _ {V : Type 0} where
   in-longest q e xs h = ⊎_elim (λ a. absurd (cc)) (λ a. in-matches q e xs a) (in-last None e (matches q xs) h)
 
   -- equal lists begin alike
-  pub first-same : (p q : Pieces) (x y : V) (xs ys : List (Pieces × V)) → (p, x) ∷ xs ≡ (q, y) ∷ ys → (p ≡ q) × (x ≡ y)
+  first-same : (p q : Pieces) (x y : V) (xs ys : List (Pieces × V)) → (p, x) ∷ xs ≡ (q, y) ∷ ys → (p ≡ q) × (x ≡ y)
   first-same p q x y xs ys e = let h : ◌≡◌ {A = Pieces × V} (p, x) (q, y) = cc in (ap (λ z. z.0) h, ap (λ z. z.1) h)
 
   -- the walk below it begins with it
-  pub longest-part : (q : List ℕ) (e : List ℕ × V) (o : Option (Trie V)) → IsCanonicalTree o → longest_match q (tree_pairs o) ≡ Some e
+  longest-part : (q : List ℕ) (e : List ℕ × V) (o : Option (Trie V)) → IsCanonicalTree o → longest_match q (tree_pairs o) ≡ Some e
       → (rest : List (Pieces × V)) × (part_stops one_piece (tree_part one_piece [] e.0 o) ≡ (cut (keys_of (tree_pairs o)) e.0, e.1) ∷ rest)
   longest-part q e None w h = absurd (cc)
   longest-part q e (Some t) w h =
       let first = first-below e (tree_pairs (Some t)) (pairs_of-ascend t w) (in-longest q e (tree_pairs (Some t)) h) in
       (cut_pairs (keys_of (tree_pairs (Some t))) first.0, part-cut e.0 (Some t) w ∙ ap (cut_pairs (keys_of (tree_pairs (Some t)))) first.1)
+
+  -- so what is kept of the way to the first stop there is its cut, and the value its own
+  pub first-cut : (q k : List ℕ) (v : V) (o : Option (Trie V)) → IsCanonicalTree o → longest_match q (tree_pairs o) ≡ Some (k, v)
+      → (p : Pieces) (x : V) (more : List (Pieces × V)) → (p, x) ∷ more ≡ part_stops one_piece (tree_part one_piece [] k o)
+      → (p ≡ cut (keys_of (tree_pairs o)) k) × (x ≡ v)
+  first-cut q k v o w h p x more e =
+      let part = longest-part q (k, v) o w h in
+      first-same p (cut (keys_of (tree_pairs o)) k) x v more part.0 (e ∙ part.1)
+
+  -- there is one
+  pub first-stands : (q k : List ℕ) (v : V) (o : Option (Trie V)) → IsCanonicalTree o → longest_match q (tree_pairs o) ≡ Some (k, v)
+      → part_stops one_piece (tree_part one_piece [] k o) ≢ []
+  first-stands q k v o w h e = let part = longest-part q (k, v) o w h in let none = sym part.1 ∙ e in absurd (cc)

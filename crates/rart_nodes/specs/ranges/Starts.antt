@@ -1,8 +1,9 @@
 -- What a walk has ahead of it from a start on.
-use Rattle.std.specs.Prelude.{ℕ, ◌+◌, Bool, cond, ltb, List, [], ◌∷◌, length, if◌then◌else◌}
+use Rattle.std.specs.Prelude.{ℕ, ◌+◌, Bool, cond, ltb, List, [], ◌≡◌, ◌∷◌, length, Option, MatchOption, if◌then◌else◌}
+use Rattle.std.specs.Borrow.{Bor}
 use Rattle.std.specs.List.{filter}
 use Rattle.std.specs.declared.ops.Bound.{Bound}
-use Rattle.rart_keys.specs.Ranges.{is_since, is_to}
+use Rattle.rart_keys.specs.Ranges.{is_since, is_to, up_to}
 use Rattle.rart_nodes.specs.tries.Trie.{Children, no_children, child}
 use Rattle.rart_nodes.specs.walks.Tour.{Pieces, joined}
 
@@ -24,3 +25,7 @@ stops_to b (e ∷ es) = if is_to b (joined e.0) then e ∷ stops_to b es else []
 abbrev pub bytes_taken : {V : Type 0} → List (List ℕ × V) → ℕ
 bytes_taken [] = 0
 bytes_taken (e ∷ es) = length e.0 + 1
+
+-- the first pair within the end was given, as a key of these bytes; or there is none, and nothing is left
+abbrev pub TakesUpTo : {K V : Type 0} → (K → List ℕ) → Bound (List ℕ) × List (List ℕ × V) → Option (K × Bor V) → Bound (List ℕ) × List (List ℕ × V) → Type 0
+TakesUpTo bytes old given new = MatchOption given ((up_to old.0 old.1 ≡ []) × (new.1 ≡ [])) (λ p. up_to old.0 old.1 ≡ (bytes p.0, p.1.now) ∷ up_to new.0 new.1)

@@ -28,10 +28,10 @@ HasRoom full New = full ≡ false
 HasRoom full o = Unit {0}
 
 -- how many pairs there are before and after
-abbrev pub IsCounted : {V : Type 0} → Result (Outcome V) (UpdateError V) → ℕ → ℕ → Type 0
-IsCounted (Ok New) old new = new ≡ old + 1
-IsCounted (Ok (Removed w)) old new = new + 1 ≡ old
-IsCounted result old new = new ≡ old
+abbrev pub CountsPairs : {V : Type 0} → Result (Outcome V) (UpdateError V) → ℕ → ℕ → Type 0
+CountsPairs (Ok New) old new = new ≡ old + 1
+CountsPairs (Ok (Removed w)) old new = new + 1 ≡ old
+CountsPairs result old new = new ≡ old
 
 -- the length of the longest key is at most this, where it was n before and the key's is m
 abbrev pub longest_after : {V : Type 0} → Result (Outcome V) (UpdateError V) → ℕ → ℕ → ℕ

@@ -1,8 +1,9 @@
 -- What trails keep of a prefix: its bytes, one by one, the prefix as one piece, or nothing.
-use Rattle.std.specs.Prelude.{ℕ, ◌≤◌, List, [], ◌∷◌, length, map}
+use Rattle.std.specs.Prelude.{ℕ, ◌≤◌, List, [], ◌∷◌, length, map, Option}
 use Rattle.std.specs.Borrow.{Bor}
+use Rattle.std.specs.Option.{option_copied}
 use Rattle.std.proofs.Common.{arith}
-use Rattle.rart_nodes.specs.walks.Tour.{Pieces, Grown, IsShort}
+use Rattle.rart_nodes.specs.walks.Tour.{Grown, IsShort, Level, Pieces, stop_values, stops_ahead}
 
 abbrev pub byte_pieces : Grown
 byte_pieces p = map (λ b. b ∷ []) p
@@ -28,3 +29,7 @@ short-no p = omega arith
 -- the bytes that are lent
 abbrev pub lent_pieces : List (Bor (List ℕ)) → Pieces
 lent_pieces ps = map (λ p. p.now) ps
+
+-- the values that lie ahead of a walk whose trail keeps nothing
+abbrev pub values_ahead : {V : Type 0} → Option (Bor V) → List (Level V) → List V
+values_ahead first levels = stop_values (stops_ahead no_piece [] (option_copied first) levels)

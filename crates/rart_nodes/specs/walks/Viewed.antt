@@ -1,10 +1,11 @@
 -- Calls of a callback with a key that is lent in segments.
-use Rattle.std.specs.Prelude.{ℕ, ◌≡◌, Bool, true, false, List, Option, Some, None}
+use Rattle.std.specs.Prelude.{ℕ, ◌≡◌, Bool, true, false, List, Option, Some, None, IsSomeAnd}
 use Rattle.std.specs.Borrow.{Bor}
 use Rattle.std.specs.Fn.{Mut, Once, Called}
 use Rattle.rart_nodes.specs.walks.Cut.{cut}
 use Rattle.rart_nodes.specs.walks.Tour.{Pieces}
 use Rattle.rart_nodes.specs.walks.TrailParts.{lent_pieces}
+use Rattle.rart_nodes.specs.declared.node.trail.SegmentTrail.{SegmentTrail}
 use Rattle.rart_nodes.specs.declared.node.view.LendingKeyView.{LendingKeyView}
 
 -- f was called with a view of the segments of x and with its value, and is then f'
@@ -22,6 +23,11 @@ pub record ViewedOnce {F V : Type 0} (g : Once F (LendingKeyView × (Bor V × Un
   pub key_is : lent_pieces key.segments.now ≡ x.0
   pub shows : shown.now ≡ x.1
   pub called : g.post f (key, (shown, tt)) tt
+
+-- the segments of the key that was found, cut as s says, with its value; or nothing where none was found
+abbrev pub IsCutOf : {V : Type 0} → List (List ℕ) → Option (List ℕ × V) → Option (SegmentTrail × Bor V) → Type 0
+IsCutOf s None r = r ≡ None
+IsCutOf s (Some e) r = IsSomeAnd r (λ p. (lent_pieces p.0.segments.items ≡ cut s e.0) × (p.1.now ≡ e.1))
 
 -- f was called once with the pair that was found, its key cut as s says; and whether there is one was told
 abbrev pub SeesFound : {F V : Type 0} → Once F (LendingKeyView × (Bor V × Unit {0})) (Unit {0}) → F → List (List ℕ) → Option (List ℕ × V) → Bool → Type 0

@@ -5,11 +5,13 @@ ghost use Rattle.rart_keys.specs.Joins.{join};
 ghost use Rattle.rart_keys.specs.SortedMap.{longest_key, values_of};
 ghost use Rattle.rart_nodes.specs.joins.Lockstep.{meet};
 ghost use Rattle.rart_nodes.specs.joins.PairCalls.{CalledAt, CalledWith};
+ghost use Rattle.rart_nodes.specs.joins.SeenJoins.{seen_bound, seen_join, seen_visits};
 ghost use Rattle.rart_nodes.specs.joins.SharedEdges.{joint_visits, more_visits};
 ghost use Rattle.rart_nodes.specs.joins.ViewCalls.{ViewedAt};
 ghost use Rattle.rart_nodes.specs.joins.Ways.{WayGrown};
 ghost use Rattle.rart_nodes.specs.tries.Tree.{seen_keys, seen_nodes, seen_pairs};
 ghost use Rattle.rart_nodes.specs.tries.Trie.{pairs_of};
+ghost use Rattle.rart_nodes.specs.walks.Calls.{CallsEach};
 
 mod fork;
 mod meeting;
@@ -84,9 +86,9 @@ impl<'a, K: KeyTrait, V, C: Count> Seen<'a, K, V, C> {
     /// no node where a tree is empty, and else the two roots together and one more node or pair for each
     /// edge that both trees share: fewer than both trees have nodes.
     pub fn intersect_count_counted<'b, W>(self, other: Seen<'b, K, W, C>, counter: &mut C) -> usize
-        ensures count { result ≡ min (length (join (seen_pairs self.entry.root) (seen_pairs other.entry.root))) usize.MAX }
-        ensures visits { C.number counter.new ≡ C.number counter.old + joint_visits (seen_keys self.entry.root) (seen_keys other.entry.root) }
-        ensures bound { C.number counter.new ≤ C.number counter.old + (length (seen_nodes self.entry.root) + length (seen_nodes other.entry.root) - 1) }
+        ensures count { result ≡ min (length (seen_join self.entry.root other.entry.root)) usize.MAX }
+        ensures visits { C.number counter.new ≡ C.number counter.old + seen_visits self.entry.root other.entry.root }
+        ensures bound { C.number counter.new ≤ C.number counter.old + seen_bound self.entry.root other.entry.root }
     {
         let mut count = 0;
         meet_trees::<K, V, W, C, usize, Counted>(
@@ -110,9 +112,9 @@ impl<'a, K: KeyTrait, V, C: Count> Seen<'a, K, V, C> {
     )
         requires { F.IsAlwaysCallable f.old }
         ensures callable { F.IsAlwaysCallable f.new }
-        ensures calls { FoldsTo (λ p x q. CalledWith F.FnMut p x q) f.old (values_of (join (seen_pairs self.entry.root) (seen_pairs other.entry.root))) f.new }
-        ensures visits { C.number counter.new ≡ C.number counter.old + joint_visits (seen_keys self.entry.root) (seen_keys other.entry.root) }
-        ensures bound { C.number counter.new ≤ C.number counter.old + (length (seen_nodes self.entry.root) + length (seen_nodes other.entry.root) - 1) }
+        ensures calls { FoldsTo (λ p x q. CalledWith F.FnMut p x q) f.old (values_of (seen_join self.entry.root other.entry.root)) f.new }
+        ensures visits { C.number counter.new ≡ C.number counter.old + seen_visits self.entry.root other.entry.root }
+        ensures bound { C.number counter.new ≤ C.number counter.old + seen_bound self.entry.root other.entry.root }
     {
         meet_trees::<K, V, W, C, F, ByValues>(self, other, &mut Way::Untold, counter, f);
     }
@@ -125,9 +127,9 @@ impl<'a, K: KeyTrait, V, C: Count> Seen<'a, K, V, C> {
         counter: &mut C,
     )
         requires { F.IsAlwaysCallable f }
-        ensures calls { (last : F) × FoldsTo (λ p x q. CalledWith F.FnMut p x q) f (values_of (join (seen_pairs self.entry.root) (seen_pairs other.entry.root))) last }
-        ensures visits { C.number counter.new ≡ C.number counter.old + joint_visits (seen_keys self.entry.root) (seen_keys other.entry.root) }
-        ensures bound { C.number counter.new ≤ C.number counter.old + (length (seen_nodes self.entry.root) + length (seen_nodes other.entry.root) - 1) }
+        ensures calls { CallsEach (λ p x q. CalledWith F.FnMut p x q) f (values_of (seen_join self.entry.root other.entry.root)) }
+        ensures visits { C.number counter.new ≡ C.number counter.old + seen_visits self.entry.root other.entry.root }
+        ensures bound { C.number counter.new ≤ C.number counter.old + seen_bound self.entry.root other.entry.root }
     {
         self.intersect_values_with_by_ref_counted(other, &mut f, counter);
     }
@@ -143,11 +145,11 @@ impl<'a, K: KeyTrait, V, C: Count> Seen<'a, K, V, C> {
     ) -> Result<(), TreeError>
         requires { F.IsAlwaysCallable f.old }
         ensures callable { F.IsAlwaysCallable f.new }
-        ensures calls { OnOk result (FoldsTo (λ p x q. CalledAt F.FnMut K.bytes p x q) f.old (join (seen_pairs self.entry.root) (seen_pairs other.entry.root)) f.new) }
+        ensures calls { OnOk result (FoldsTo (λ p x q. CalledAt F.FnMut K.bytes p x q) f.old (seen_join self.entry.root other.entry.root) f.new) }
         ensures memory { IfErr result (λ e. (e ≡ TreeError.Memory) × (seen_pairs self.entry.root ≢ []) × (seen_pairs other.entry.root ≢ [])) }
         ensures refused { OnErr result ((f.new ≡ f.old) × (C.number counter.new ≡ C.number counter.old)) }
-        ensures visits { OnOk result (C.number counter.new ≡ C.number counter.old + joint_visits (seen_keys self.entry.root) (seen_keys other.entry.root)) }
-        ensures bound { C.number counter.new ≤ C.number counter.old + (length (seen_nodes self.entry.root) + length (seen_nodes other.entry.root) - 1) }
+        ensures visits { OnOk result (C.number counter.new ≡ C.number counter.old + seen_visits self.entry.root other.entry.root) }
+        ensures bound { C.number counter.new ≤ C.number counter.old + seen_bound self.entry.root other.entry.root }
     {
         let Some(_) = self.top() else {
             return Ok(());
@@ -169,14 +171,15 @@ impl<'a, K: KeyTrait, V, C: Count> Seen<'a, K, V, C> {
         counter: &mut C,
     ) -> Result<(), TreeError>
         requires { F.IsAlwaysCallable f }
-        ensures calls { OnOk result ((last : F) × FoldsTo (λ p x q. CalledAt F.FnMut K.bytes p x q) f (join (seen_pairs self.entry.root) (seen_pairs other.entry.root)) last) }
+        ensures calls { OnOk result (CallsEach (λ p x q. CalledAt F.FnMut K.bytes p x q) f (seen_join self.entry.root other.entry.root)) }
         ensures memory { IfErr result (λ e. (e ≡ TreeError.Memory) × (seen_pairs self.entry.root ≢ []) × (seen_pairs other.entry.root ≢ [])) }
         ensures unvisited { OnErr result (C.number counter.new ≡ C.number counter.old) }
-        ensures visits { OnOk result (C.number counter.new ≡ C.number counter.old + joint_visits (seen_keys self.entry.root) (seen_keys other.entry.root)) }
-        ensures bound { C.number counter.new ≤ C.number counter.old + (length (seen_nodes self.entry.root) + length (seen_nodes other.entry.root) - 1) }
+        ensures visits { OnOk result (C.number counter.new ≡ C.number counter.old + seen_visits self.entry.root other.entry.root) }
+        ensures bound { C.number counter.new ≤ C.number counter.old + seen_bound self.entry.root other.entry.root }
     {
         self.intersect_with_by_ref_counted(other, &mut f, counter)
     }
+
     /// As `intersect_with_by_ref_counted`, with a view of the key in place of it: no key is made. A segment is a stretch
     /// that both prefixes of a pair have, or the byte by which a longer one is gone on with.
     pub fn intersect_lending_with_by_ref_counted<'b, W, F: FnMut(LendingKeyView<'_, '_>, &V, &W)>(
@@ -187,11 +190,11 @@ impl<'a, K: KeyTrait, V, C: Count> Seen<'a, K, V, C> {
     ) -> Result<(), TreeError>
         requires { F.IsAlwaysCallable f.old }
         ensures callable { F.IsAlwaysCallable f.new }
-        ensures calls { OnOk result (FoldsTo (λ p x q. ViewedAt F.FnMut p x q) f.old (join (seen_pairs self.entry.root) (seen_pairs other.entry.root)) f.new) }
+        ensures calls { OnOk result (FoldsTo (λ p x q. ViewedAt F.FnMut p x q) f.old (seen_join self.entry.root other.entry.root) f.new) }
         ensures memory { IfErr result (λ e. (e ≡ TreeError.Memory) × (seen_pairs self.entry.root ≢ []) × (seen_pairs other.entry.root ≢ [])) }
         ensures refused { OnErr result ((f.new ≡ f.old) × (C.number counter.new ≡ C.number counter.old)) }
-        ensures visits { OnOk result (C.number counter.new ≡ C.number counter.old + joint_visits (seen_keys self.entry.root) (seen_keys other.entry.root)) }
-        ensures bound { C.number counter.new ≤ C.number counter.old + (length (seen_nodes self.entry.root) + length (seen_nodes other.entry.root) - 1) }
+        ensures visits { OnOk result (C.number counter.new ≡ C.number counter.old + seen_visits self.entry.root other.entry.root) }
+        ensures bound { C.number counter.new ≤ C.number counter.old + seen_bound self.entry.root other.entry.root }
     {
         let Some(_) = self.top() else {
             return Ok(());
@@ -213,11 +216,11 @@ impl<'a, K: KeyTrait, V, C: Count> Seen<'a, K, V, C> {
         counter: &mut C,
     ) -> Result<(), TreeError>
         requires { F.IsAlwaysCallable f }
-        ensures calls { OnOk result ((last : F) × FoldsTo (λ p x q. ViewedAt F.FnMut p x q) f (join (seen_pairs self.entry.root) (seen_pairs other.entry.root)) last) }
+        ensures calls { OnOk result (CallsEach (λ p x q. ViewedAt F.FnMut p x q) f (seen_join self.entry.root other.entry.root)) }
         ensures memory { IfErr result (λ e. (e ≡ TreeError.Memory) × (seen_pairs self.entry.root ≢ []) × (seen_pairs other.entry.root ≢ [])) }
         ensures unvisited { OnErr result (C.number counter.new ≡ C.number counter.old) }
-        ensures visits { OnOk result (C.number counter.new ≡ C.number counter.old + joint_visits (seen_keys self.entry.root) (seen_keys other.entry.root)) }
-        ensures bound { C.number counter.new ≤ C.number counter.old + (length (seen_nodes self.entry.root) + length (seen_nodes other.entry.root) - 1) }
+        ensures visits { OnOk result (C.number counter.new ≡ C.number counter.old + seen_visits self.entry.root other.entry.root) }
+        ensures bound { C.number counter.new ≤ C.number counter.old + seen_bound self.entry.root other.entry.root }
     {
         self.intersect_lending_with_by_ref_counted(other, &mut f, counter)
     }

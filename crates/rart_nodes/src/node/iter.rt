@@ -1,7 +1,7 @@
 //! Iterators over a shared tree, in the order of its keys.
 //!
 //! Each takes its room when it is made, and is seen as the list of what is still to come.
-ghost use Rattle.std.specs.Prelude.{◌≡◌, ◌≢◌, ◌≤◌, ◌+◌, [], ◌∷◌, length, IfErr, IfOk, MatchOption};
+ghost use Rattle.std.specs.Prelude.{◌≡◌, ◌≤◌, ◌+◌, [], ◌∷◌, length, IfErr, IfOk, MatchOption};
 ghost use Rattle.std.specs.Iterator.{YieldsFirstBy, item_count};
 ghost use Rattle.std.specs.Option.{option_copied};
 ghost use Rattle.rart_keys.specs.Filters.{below};
@@ -9,6 +9,7 @@ ghost use Rattle.rart_keys.specs.Ranges.{pairs_since};
 ghost use Rattle.rart_keys.specs.SortedMap.{count_of, values_of};
 ghost use Rattle.rart_nodes.specs.tries.Tree.{seen_keys, seen_pairs};
 ghost use Rattle.rart_nodes.specs.walks.ProbeCount.{VisitsAtMost, probe_count};
+ghost use Rattle.rart_nodes.specs.walks.Calls.{MayLackRoom};
 
 use crate::count::{Count, Visits};
 pub use crate::node::matching::PrefixMatchIter;
@@ -128,13 +129,12 @@ pub struct ValuesIter<'a, K: KeyTrait, V> {
 
 impl<'a, K: KeyTrait, V> Model for ValuesIter<'a, K, V> {
     ghost use Rattle.std.specs.Prelude.{◌≤◌, ◌^◌, List, [], reverse, vec_capacity};
-    ghost use Rattle.std.specs.Option.{option_copied};
-    ghost use Rattle.rart_nodes.specs.walks.Tour.{IsTour, stop_values, stops_ahead};
-    ghost use Rattle.rart_nodes.specs.walks.TrailParts.{no_piece};
+    ghost use Rattle.rart_nodes.specs.walks.Tour.{IsTour};
+    ghost use Rattle.rart_nodes.specs.walks.TrailParts.{values_ahead};
 
     ghost Value = { List V };
 
-    ghost view = { λ it. stop_values (stops_ahead no_piece [] (option_copied it.tour.first) it.tour.levels.items) };
+    ghost view = { λ it. values_ahead it.tour.first it.tour.levels.items };
 
     ghost invariant = { λ it. IsTour it.tour.longest (vec_capacity it.tour.levels) [] (reverse it.tour.levels.items) × (it.tour.longest ≤ 2 ^ 64) };
 }
@@ -160,7 +160,7 @@ impl<'a, K: KeyTrait, V> Iterator for ValuesIter<'a, K, V> {
 impl<'a, K: KeyTrait, V, C: Count> Seen<'a, K, V, C> {
     fn keys_tour(self, counter: &mut C) -> Result<KeyTour<'a, K, K::PartialType, V, C>, TreeError>
         ensures pairs { IfOk result (λ it. it ≡ seen_pairs self.entry.root) }
-        ensures memory { IfErr result (λ e. (e ≡ TreeError.Memory) × (seen_pairs self.entry.root ≢ [])) }
+        ensures memory { IfErr result (MayLackRoom (seen_pairs self.entry.root)) }
         ensures visits { C.number counter.new ≡ C.number counter.old + count_of (option_copied self.entry.root) }
     {
         let (tour, trail) = self.tour(counter)?;
@@ -175,7 +175,7 @@ impl<'a, K: KeyTrait, V, C: Count> Seen<'a, K, V, C> {
     /// the length of the longest key, and none for an empty tree. Refused with `Memory` alone.
     pub fn iter_counted(self, counter: &mut C) -> Result<SeenIter<'a, K, V, C>, TreeError>
         ensures pairs { IfOk result (λ it. it ≡ seen_pairs self.entry.root) }
-        ensures memory { IfErr result (λ e. (e ≡ TreeError.Memory) × (seen_pairs self.entry.root ≢ [])) }
+        ensures memory { IfErr result (MayLackRoom (seen_pairs self.entry.root)) }
         ensures visits { C.number counter.new ≡ C.number counter.old + count_of (option_copied self.entry.root) }
         ensures bound { C.number counter.new ≤ C.number counter.old + 1 }
     {
@@ -194,7 +194,7 @@ impl<'a, K: KeyTrait, V, C: Count> Seen<'a, K, V, C> {
         counter: &mut C,
     ) -> Result<KeyTour<'a, K, K::PartialType, V, C>, TreeError>
         ensures pairs { IfOk result (λ it. it ≡ pairs_since included start.now (seen_pairs self.entry.root)) }
-        ensures memory { IfErr result (λ e. (e ≡ TreeError.Memory) × (seen_pairs self.entry.root ≢ [])) }
+        ensures memory { IfErr result (MayLackRoom (seen_pairs self.entry.root)) }
         ensures visits { IfOk result (λ _. C.number counter.new ≡ C.number counter.old + probe_count (seen_keys self.entry.root) start.now) }
         ensures bound { C.number counter.new ≤ C.number counter.old + length start.now + 1 }
     {
@@ -214,7 +214,7 @@ impl<'a, K: KeyTrait, V, C: Count> Seen<'a, K, V, C> {
         counter: &mut C,
     ) -> Result<KeyTour<'a, K, K::PartialType, V, C>, TreeError>
         ensures pairs { IfOk result (λ it. it ≡ below prefix.now (seen_pairs self.entry.root)) }
-        ensures memory { IfErr result (λ e. (e ≡ TreeError.Memory) × (seen_pairs self.entry.root ≢ [])) }
+        ensures memory { IfErr result (MayLackRoom (seen_pairs self.entry.root)) }
         ensures visits { IfOk result (λ _. C.number counter.new ≡ C.number counter.old + probe_count (seen_keys self.entry.root) prefix.now) }
         ensures bound { C.number counter.new ≤ C.number counter.old + length prefix.now + 1 }
     {
@@ -234,7 +234,7 @@ impl<'a, K: KeyTrait, V, C: Count> Seen<'a, K, V, C> {
         counter: &mut C,
     ) -> Result<SeenIter<'a, K, V, C>, TreeError>
         ensures pairs { IfOk result (λ it. it ≡ below (K.bytes prefix.now) (seen_pairs self.entry.root)) }
-        ensures memory { IfErr result (λ e. (e ≡ TreeError.Memory) × (seen_pairs self.entry.root ≢ [])) }
+        ensures memory { IfErr result (MayLackRoom (seen_pairs self.entry.root)) }
         ensures visits { IfOk result (λ _. C.number counter.new ≡ C.number counter.old + probe_count (seen_keys self.entry.root) (K.bytes prefix.now)) }
         ensures bound { C.number counter.new ≤ C.number counter.old + length (K.bytes prefix.now) + 1 }
     {
@@ -247,7 +247,7 @@ impl<'a, K: KeyTrait, V> Seen<'a, K, V, Visits> {
     /// An iterator over the pairs whose key begins with `prefix`. It takes its room as `iter_counted` does.
     pub fn prefix_iter_k(self, prefix: &K) -> Result<Iter<'a, K, K::PartialType, V>, TreeError>
         ensures pairs { IfOk result (λ it. it ≡ below (K.bytes prefix.now) (seen_pairs self.entry.root)) }
-        ensures memory { IfErr result (λ e. (e ≡ TreeError.Memory) × (seen_pairs self.entry.root ≢ [])) }
+        ensures memory { IfErr result (MayLackRoom (seen_pairs self.entry.root)) }
     {
         let pairs = self.keys_tour_below(prefix.as_ref(), &mut Visits::new())?;
         Ok(Iter { pairs })
@@ -256,7 +256,7 @@ impl<'a, K: KeyTrait, V> Seen<'a, K, V, Visits> {
     /// An iterator over all pairs. It takes its room as `iter_counted` does.
     pub fn iter(self) -> Result<Iter<'a, K, K::PartialType, V>, TreeError>
         ensures pairs { IfOk result (λ it. it ≡ seen_pairs self.entry.root) }
-        ensures memory { IfErr result (λ e. (e ≡ TreeError.Memory) × (seen_pairs self.entry.root ≢ [])) }
+        ensures memory { IfErr result (MayLackRoom (seen_pairs self.entry.root)) }
     {
         let pairs = self.keys_tour(&mut Visits::new())?;
         Ok(Iter { pairs })
@@ -265,7 +265,7 @@ impl<'a, K: KeyTrait, V> Seen<'a, K, V, Visits> {
     /// An iterator over all values. It takes its room as `iter_counted` does.
     pub fn values_iter(self) -> Result<ValuesIter<'a, K, V>, TreeError>
         ensures values { IfOk result (λ it. it ≡ values_of (seen_pairs self.entry.root)) }
-        ensures memory { IfErr result (λ e. (e ≡ TreeError.Memory) × (seen_pairs self.entry.root ≢ [])) }
+        ensures memory { IfErr result (MayLackRoom (seen_pairs self.entry.root)) }
     {
         let (tour, _trail) = self.tour::<NoTrail>(&mut Visits::new())?;
         Ok(ValuesIter { tour })

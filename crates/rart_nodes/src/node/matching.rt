@@ -6,11 +6,12 @@ ghost use Rattle.std.specs.Prelude.{◌≡◌, ◌≤◌, ◌+◌, length, take,
 ghost use Rattle.std.specs.Iterator.{YieldsFirstBy, item_count};
 ghost use Rattle.std.specs.List.{FoldsTo};
 ghost use Rattle.std.specs.Option.{option_copied};
-ghost use Rattle.rart_keys.specs.Filters.{longest_match, matches};
+ghost use Rattle.rart_keys.specs.Filters.{longest_match, longest_value, matches};
 ghost use Rattle.rart_nodes.specs.tries.Tree.{seen_keys, seen_pairs};
 ghost use Rattle.rart_nodes.specs.walks.Matched.{Matched};
 ghost use Rattle.rart_nodes.specs.walks.Matches.{PassesTo, entered_left, matches_left};
 ghost use Rattle.rart_nodes.specs.walks.ProbeCount.{probe_count};
+ghost use Rattle.rart_nodes.specs.walks.Calls.{CallsEach};
 
 use crate::count::{Count, Visits};
 use crate::node::rest::rest_behind;
@@ -116,7 +117,7 @@ impl<'a, K: KeyTrait, V, C: Count> Seen<'a, K, V, C> {
 
     /// The value at the longest key that begins the bytes `probe`, which may be longer than any key.
     pub fn longest_prefix_value_bytes_counted(self, probe: &[u8], counter: &mut C) -> Option<&'a V>
-        ensures value { option_copied result ≡ option_map (λ e. e.1) (longest_match probe.now (seen_pairs self.entry.root)) }
+        ensures value { option_copied result ≡ longest_value probe.now (seen_pairs self.entry.root) }
         ensures visits { C.number counter.new ≡ C.number counter.old + probe_count (seen_keys self.entry.root) probe.now }
         ensures bound { C.number counter.new ≤ C.number counter.old + length probe.now + 1 }
     {
@@ -126,7 +127,7 @@ impl<'a, K: KeyTrait, V, C: Count> Seen<'a, K, V, C> {
 
     /// The value at the longest key that begins the probe.
     pub fn longest_prefix_value_k_counted(self, probe: &K, counter: &mut C) -> Option<&'a V>
-        ensures value { option_copied result ≡ option_map (λ e. e.1) (longest_match (K.bytes probe.now) (seen_pairs self.entry.root)) }
+        ensures value { option_copied result ≡ longest_value (K.bytes probe.now) (seen_pairs self.entry.root) }
         ensures visits { C.number counter.new ≡ C.number counter.old + probe_count (seen_keys self.entry.root) (K.bytes probe.now) }
         ensures bound { C.number counter.new ≤ C.number counter.old + length (K.bytes probe.now) + 1 }
     {
@@ -148,7 +149,7 @@ impl<'a, K: KeyTrait, V, C: Count> Seen<'a, K, V, C> {
 
     /// Calls `f` with each pair whose key begins the probe, the shortest first. The key is lent from the probe: its
     /// first bytes. `f` is lent too, so that the caller sees what the calls left in it.
-    pub fn prefix_match_for_each_with_k_counted<F: FnMut(&[u8], &V)>(
+    pub fn prefix_match_for_each_by_ref_k_counted<F: FnMut(&[u8], &V)>(
         self,
         probe: &K,
         f: &mut F,
@@ -163,7 +164,7 @@ impl<'a, K: KeyTrait, V, C: Count> Seen<'a, K, V, C> {
         self.each_match(probe.as_ref(), f, counter);
     }
 
-    /// Calls `f` with each pair whose key begins the probe, as `prefix_match_for_each_with_k_counted` does; `f` is gone
+    /// Calls `f` with each pair whose key begins the probe, as `prefix_match_for_each_by_ref_k_counted` does; `f` is gone
     /// after the call.
     pub fn prefix_match_for_each_k_counted<F: FnMut(&[u8], &V) + Drop>(
         self,
@@ -172,11 +173,11 @@ impl<'a, K: KeyTrait, V, C: Count> Seen<'a, K, V, C> {
         counter: &mut C,
     )
         requires callable { F.IsAlwaysCallable f }
-        ensures calls { (last : F) × FoldsTo (λ p x q. Matched F.FnMut p x q) f (matches (K.bytes probe.now) (seen_pairs self.entry.root)) last }
+        ensures calls { CallsEach (λ p x q. Matched F.FnMut p x q) f (matches (K.bytes probe.now) (seen_pairs self.entry.root)) }
         ensures visits { C.number counter.new ≡ C.number counter.old + probe_count (seen_keys self.entry.root) (K.bytes probe.now) }
         ensures bound { C.number counter.new ≤ C.number counter.old + length (K.bytes probe.now) + 1 }
     {
-        self.prefix_match_for_each_with_k_counted(probe, &mut f, counter);
+        self.prefix_match_for_each_by_ref_k_counted(probe, &mut f, counter);
     }
 }
 

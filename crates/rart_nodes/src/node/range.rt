@@ -4,11 +4,12 @@
 //! pairs that the walk below has still to give; `up_to` of these are the pairs that the range has still to give.
 ghost use Rattle.std.specs.Iterator.{YieldsFirstBy, item_count};
 ghost use Rattle.std.specs.Ordering.{match_ordering};
-ghost use Rattle.std.specs.Prelude.{◌≡◌, ◌≢◌, ◌≤◌, ◌+◌, [], ◌∷◌, length, IfErr, IfOk, MatchOption, true, false};
+ghost use Rattle.std.specs.Prelude.{◌≡◌, ◌≤◌, ◌+◌, [], length, IfErr, IfOk, true, false};
 ghost use Rattle.rart_keys.specs.Ranges.{between, bound_bytes, bound_in, is_inclusive, is_to, pairs_since, up_to};
-ghost use Rattle.rart_nodes.specs.ranges.Starts.{bytes_taken};
+ghost use Rattle.rart_nodes.specs.ranges.Starts.{TakesUpTo, bytes_taken};
 ghost use Rattle.rart_nodes.specs.tries.Tree.{seen_keys, seen_pairs};
 ghost use Rattle.rart_nodes.specs.walks.ProbeCount.{probe_count};
+ghost use Rattle.rart_nodes.specs.walks.Calls.{MayLackRoom};
 
 use crate::count::{Count, Visits};
 use crate::node::iter::{Iter, KeyTour};
@@ -82,7 +83,7 @@ impl<'a, K: KeyTrait, P: Partial, V, C> Model for Ended<'a, K, P, V, C> {
 impl<'a, K: KeyTrait + Drop, P: Partial, V, C: Count> Ended<'a, K, P, V, C> {
     /// The next pair. Takes no memory.
     fn step(&mut self, counter: &mut C) -> Option<(K, &'a V)>
-        ensures pairs { MatchOption result ((up_to self.old.0 self.old.1 ≡ []) × (self.new.1 ≡ [])) (λ p. (up_to self.old.0 self.old.1 ≡ (K.bytes p.0, p.1.now) ∷ up_to self.new.0 self.new.1)) }
+        ensures pairs { TakesUpTo K.bytes self.old result self.new }
         ensures end { self.new.0 ≡ self.old.0 }
         ensures visits { C.number counter.new ≤ C.number counter.old + bytes_taken self.old.1 }
     {
@@ -178,7 +179,7 @@ impl<'a, K: KeyTrait + Drop, V, C: Count> SeenRange<'a, K, V, C> {
     /// most one node more than the key that it takes has bytes, also where that is the one past the end; where it takes
     /// none it visits none.
     pub fn next_counted(&mut self, counter: &mut C) -> Option<(K, &'a V)>
-        ensures pairs { MatchOption result ((up_to self.old.0 self.old.1 ≡ []) × (self.new.1 ≡ [])) (λ p. (up_to self.old.0 self.old.1 ≡ (K.bytes p.0, p.1.now) ∷ up_to self.new.0 self.new.1)) }
+        ensures pairs { TakesUpTo K.bytes self.old result self.new }
         ensures end { self.new.0 ≡ self.old.0 }
         ensures visits { C.number counter.new ≤ C.number counter.old + bytes_taken self.old.1 }
     {
@@ -196,7 +197,7 @@ impl<'a, K: KeyTrait + Drop, V, C: Count> Seen<'a, K, V, C> {
         ensures pairs { IfOk result (λ r. up_to r.0 r.1 ≡ between (bound_in K.bytes start) (bound_in K.bytes end) (seen_pairs self.entry.root)) }
         ensures end { IfOk result (λ r. r.0 ≡ bound_in K.bytes end) }
         ensures ahead { IfOk result (λ r. r.1 ≡ pairs_since (is_inclusive (bound_in K.bytes start)) (bound_bytes (bound_in K.bytes start)) (seen_pairs self.entry.root)) }
-        ensures memory { IfErr result (λ e. (e ≡ TreeError.Memory) × (seen_pairs self.entry.root ≢ [])) }
+        ensures memory { IfErr result (MayLackRoom (seen_pairs self.entry.root)) }
         ensures visits { IfOk result (λ _. C.number counter.new ≡ C.number counter.old + probe_count (seen_keys self.entry.root) (bound_bytes (bound_in K.bytes start))) }
         ensures bound { C.number counter.new ≤ C.number counter.old + length (bound_bytes (bound_in K.bytes start)) + 1 }
     {
@@ -219,7 +220,7 @@ impl<'a, K: KeyTrait + Drop, V, C: Count> Seen<'a, K, V, C> {
         ensures pairs { IfOk result (λ r. up_to r.0 r.1 ≡ between (bound_in K.bytes start) (bound_in K.bytes end) (seen_pairs self.entry.root)) }
         ensures end { IfOk result (λ r. r.0 ≡ bound_in K.bytes end) }
         ensures ahead { IfOk result (λ r. r.1 ≡ pairs_since (is_inclusive (bound_in K.bytes start)) (bound_bytes (bound_in K.bytes start)) (seen_pairs self.entry.root)) }
-        ensures memory { IfErr result (λ e. (e ≡ TreeError.Memory) × (seen_pairs self.entry.root ≢ [])) }
+        ensures memory { IfErr result (MayLackRoom (seen_pairs self.entry.root)) }
         ensures visits { IfOk result (λ _. C.number counter.new ≡ C.number counter.old + probe_count (seen_keys self.entry.root) (bound_bytes (bound_in K.bytes start))) }
         ensures bound { C.number counter.new ≤ C.number counter.old + length (bound_bytes (bound_in K.bytes start)) + 1 }
     {
@@ -232,7 +233,7 @@ impl<'a, K: KeyTrait + Drop, V> Seen<'a, K, V, Visits> {
     /// The pairs within two bounds. It takes its room as `iter_counted` does.
     pub fn range(self, start: Bound<K>, end: Bound<K>) -> Result<Range<'a, K, V>, TreeError>
         ensures pairs { IfOk result (λ r. up_to r.0 r.1 ≡ between (bound_in K.bytes start) (bound_in K.bytes end) (seen_pairs self.entry.root)) }
-        ensures memory { IfErr result (λ e. (e ≡ TreeError.Memory) × (seen_pairs self.entry.root ≢ [])) }
+        ensures memory { IfErr result (MayLackRoom (seen_pairs self.entry.root)) }
     {
         let pairs = self.ended_walk(start, end, &mut Visits::new())?;
         Ok(Range { pairs })

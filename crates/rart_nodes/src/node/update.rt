@@ -10,7 +10,7 @@ ghost use Rattle.rart_nodes.specs.edits.Deletion.{JoinsWithin, is_leaf_at, is_lo
 ghost use Rattle.rart_nodes.specs.tries.Tree.{IsCanonicalTree, tree_lookup, tree_nodes, tree_pairs};
 ghost use Rattle.rart_nodes.specs.tries.Trie.{IsCanonical, capacity_in, child_in, children_in, edges_of, pairs_of, prefix_of, trie_lookup, value_of};
 ghost use Rattle.rart_nodes.specs.updates.Callbacks.{StaysTelling, TellsSo};
-ghost use Rattle.rart_nodes.specs.updates.Slots.{IsCounted, longest_after, slot_of};
+ghost use Rattle.rart_nodes.specs.updates.Slots.{CountsPairs, longest_after, slot_of};
 ghost use Rattle.rart_nodes.specs.updates.TreeUpdates.{EndsHere, EndsLeaf, EndsTree, LosesLeaf, LosesRoot};
 ghost use Rattle.rart_nodes.specs.updates.Updates.{UpdatesMap};
 
@@ -324,7 +324,7 @@ impl<P: Partial, V> DefaultNode<P, V> {
         requires stays { StaysTelling F.FnOnce f (lookup key.now (tree_pairs root.old)) }
         ensures update { UpdatesMap F.FnOnce f full key.now (tree_pairs root.old) result (tree_pairs root.new) }
         ensures canonical { IsCanonicalTree root.new }
-        ensures count { IsCounted result.0 (length (tree_pairs root.old)) (length (tree_pairs root.new)) }
+        ensures count { CountsPairs result.0 (length (tree_pairs root.old)) (length (tree_pairs root.new)) }
         ensures longest { longest_key (tree_pairs root.new) ≤ longest_after result.0 (length key.now) (longest_key (tree_pairs root.old)) }
         ensures refused { OnErr result.0 (tree_nodes root.new ≡ tree_nodes root.old) }
         ensures nodes { keys_of (tree_pairs root.new) ≡ keys_of (tree_pairs root.old) → tree_nodes root.new ≡ tree_nodes root.old }

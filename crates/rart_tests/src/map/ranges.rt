@@ -96,7 +96,7 @@ fn is_lent(
     let mut callback = |view: LendingKeyView<'_, '_>, value: &u64| {
         seen = next_pair(seen, wanted, view, *value);
     };
-    let walked = tree.for_each_range_view_with(start, end, &mut callback);
+    let walked = tree.for_each_range_view_by_ref(start, end, &mut callback);
     ended(walked, seen, wanted.len())
 }
 

@@ -169,7 +169,7 @@ fn covers(table: &Table, probe: &str, wanted: &[(&str, u64)]) -> bool {
     let mut callback = |prefix: &[u8], target: &u64| {
         lent = next_route(lent, wanted, prefix, *target);
     };
-    table.covering_for_each_with(&key(probe), &mut callback);
+    table.covering_for_each_by_ref(&key(probe), &mut callback);
     seen.get() == wanted.len() && lent == wanted.len()
 }
 
@@ -183,7 +183,7 @@ fn stands_below(table: &Table, prefix: &str, wanted: &[(&str, u64)]) -> Result<b
     let mut callback = |view: LendingKeyView<'_, '_>, target: &u64| {
         lent = next_view(lent, wanted, view, *target);
     };
-    table.below_for_each_with(&key(prefix), &mut callback)?;
+    table.below_for_each_by_ref(&key(prefix), &mut callback)?;
     Ok(seen.get() == wanted.len() && lent == wanted.len())
 }
 
@@ -344,7 +344,7 @@ fn views_below(table: &Table, lent: bool) -> (Result<(), TreeError>, usize) {
         seen.set(seen.get().wrapping_add(1));
     };
     let walked = if lent {
-        table.below_for_each_with(&key("/a"), &mut callback)
+        table.below_for_each_by_ref(&key("/a"), &mut callback)
     } else {
         table.below_for_each(&key("/a"), callback)
     };

@@ -71,7 +71,7 @@ fn walks_see(tree: &Tree, prefix: &[u8], rows: &[Row]) -> Result<bool, TreeError
     let mut callback = |view: LendingKeyView<'_, '_>, value: &u64| {
         lent = next_row(lent, rows, view, *value);
     };
-    tree.prefix_for_each_view_with_k(&key, &mut callback)?;
+    tree.prefix_for_each_view_by_ref_k(&key, &mut callback)?;
     seen.set(0);
     tree.prefix_for_each_view(key, |view: LendingKeyView<'_, '_>, value: &u64| {
         seen.set(next_row(seen.get(), rows, view, *value));
@@ -105,7 +105,7 @@ fn walk_sees_all(tree: &Tree, rows: &[Row]) -> Result<bool, TreeError> {
     let mut callback = |view: LendingKeyView<'_, '_>, value: &u64| {
         lent = next_row(lent, rows, view, *value);
     };
-    tree.for_each_view_with(&mut callback)?;
+    tree.for_each_view_by_ref(&mut callback)?;
     Ok(seen.get() == rows.len() && lent == rows.len())
 }
 

@@ -71,14 +71,14 @@ fn tries_lent(tree: &Tree, key: Key, row: &Row) -> bool {
         seen = with_digit(seen, *value);
         control(*value, row)
     };
-    let ended = tree.try_prefix_values_for_each_with_k(&key, &mut callback);
+    let ended = tree.try_prefix_values_for_each_by_ref_k(&key, &mut callback);
     let first = seen;
     seen = 1;
     let mut callback = |value: &u64| {
         seen = with_digit(seen, *value);
         control(*value, row)
     };
-    let again = tree.try_prefix_values_for_each_with(key, &mut callback);
+    let again = tree.try_prefix_values_for_each_by_ref(key, &mut callback);
     ends_as(ended, row) && ends_as(again, row) && first == row.3 && seen == row.3
 }
 
@@ -86,11 +86,11 @@ fn tries_lent(tree: &Tree, key: Key, row: &Row) -> bool {
 fn visits_all_lent(tree: &Tree, key: Key, row: &Row) -> bool {
     let mut seen = 1_u64;
     let mut callback = |value: &u64| seen = with_digit(seen, *value);
-    let by_reference = tree.prefix_values_for_each_with_k(&key, &mut callback);
+    let by_reference = tree.prefix_values_for_each_by_ref_k(&key, &mut callback);
     let first = seen;
     seen = 1;
     let mut callback = |value: &u64| seen = with_digit(seen, *value);
-    let by_value = tree.prefix_values_for_each_with(key, &mut callback);
+    let by_value = tree.prefix_values_for_each_by_ref(key, &mut callback);
     by_reference == Ok(()) && by_value == Ok(()) && first == row.3 && seen == row.3
 }
 
@@ -179,7 +179,7 @@ fn matches_are(tree: &Tree, probe: &[u8], wanted: u64) -> bool
     let first = seen.get();
     let mut lent = 1_u64;
     let mut callback = |found: &[u8], value: &u64| lent = with_match(lent, probe, found, *value);
-    tree.prefix_match_for_each_with_k(&key, &mut callback);
+    tree.prefix_match_for_each_by_ref_k(&key, &mut callback);
     seen.set(1);
     tree.prefix_match_for_each(key, |found: &[u8], value: &u64| {
         seen.set(with_match(seen.get(), probe, found, *value));

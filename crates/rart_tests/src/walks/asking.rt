@@ -49,10 +49,10 @@ fn matches_by_callback(tree: &Tree, key: Key) -> usize {
     let calls = Calls::none(None);
     tree.prefix_match_for_each_k(&key, |_found: &[u8], _value: &u64| calls.call());
     let mut callback = |_found: &[u8], _value: &u64| calls.call();
-    tree.prefix_match_for_each_with_k(&key, &mut callback);
+    tree.prefix_match_for_each_by_ref_k(&key, &mut callback);
     tree.prefix_match_for_each(key, |_found: &[u8], _value: &u64| calls.call());
     let mut callback = |_found: &[u8], _value: &u64| calls.call();
-    tree.prefix_match_for_each_with(key, &mut callback);
+    tree.prefix_match_for_each_by_ref(key, &mut callback);
     calls.many()
 }
 

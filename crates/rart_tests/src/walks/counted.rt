@@ -48,7 +48,7 @@ fn matches_are(tree: &Tree, probe: &[u8], wanted: u64) -> bool
     );
     let mut lent = 1_u64;
     let mut callback = |found: &[u8], value: &u64| lent = with_match(lent, probe, found, *value);
-    seen(tree).prefix_match_for_each_with_k_counted(&key, &mut callback, &mut Visits::new());
+    seen(tree).prefix_match_for_each_by_ref_k_counted(&key, &mut callback, &mut Visits::new());
     shown.get() == wanted && lent == wanted
 }
 
@@ -124,7 +124,7 @@ fn views_below_are(tree: &Tree, prefix: &[u8], rows: &[Row]) -> Result<bool, Tre
     let mut callback = |view: LendingKeyView<'_, '_>, value: &u64| {
         lent = next_row(lent, rows, view, *value);
     };
-    seen(tree).prefix_for_each_view_with_k_counted(&key, &mut callback, &mut Visits::new())?;
+    seen(tree).prefix_for_each_view_by_ref_k_counted(&key, &mut callback, &mut Visits::new())?;
     Ok(many.get() == rows.len() && lent == rows.len())
 }
 
@@ -140,7 +140,7 @@ fn views_are(tree: &Tree, rows: &[Row]) -> Result<bool, TreeError> {
     let mut callback = |view: LendingKeyView<'_, '_>, value: &u64| {
         lent = next_row(lent, rows, view, *value);
     };
-    seen(tree).for_each_view_with_counted(&mut callback, &mut Visits::new())?;
+    seen(tree).for_each_view_by_ref_counted(&mut callback, &mut Visits::new())?;
     Ok(many.get() == rows.len() && lent == rows.len())
 }
 
@@ -161,7 +161,7 @@ fn views_within_are(tree: &Tree, start: &[u8], rows: &[Row]) -> Result<bool, Tre
     let mut callback = |view: LendingKeyView<'_, '_>, value: &u64| {
         lent = next_row(lent, rows, view, *value);
     };
-    seen(tree).for_each_range_view_with_counted(
+    seen(tree).for_each_range_view_by_ref_counted(
         start,
         Bound::Unbounded,
         &mut callback,
@@ -191,7 +191,7 @@ fn shows_longest(tree: &Tree, probe: &[u8], rows: &[Row]) -> (Result<bool, TreeE
     let mut callback = |view: LendingKeyView<'_, '_>, value: &u64| {
         many = next_row(many, rows, view, *value);
     };
-    let told = seen(tree).with_longest_prefix_match_view_with_k_counted(
+    let told = seen(tree).with_longest_prefix_match_view_by_ref_k_counted(
         &key,
         &mut callback,
         &mut Visits::new(),

@@ -99,7 +99,7 @@ type Ended = Result<(), TreeError>;
 fn views(tree: &Tree, lent: bool, calls: &Calls) -> Ended {
     let mut callback = |_view: LendingKeyView<'_, '_>, _value: &u64| calls.call();
     if lent {
-        tree.for_each_view_with(&mut callback)
+        tree.for_each_view_by_ref(&mut callback)
     } else {
         tree.for_each_view(callback)
     }
@@ -117,9 +117,9 @@ fn views_below(tree: &Tree, key: Key, by_value: bool, calls: &Calls) -> Ended {
 fn views_below_lent(tree: &Tree, key: Key, by_value: bool, calls: &Calls) -> Ended {
     let mut callback = |_view: LendingKeyView<'_, '_>, _value: &u64| calls.call();
     if by_value {
-        tree.prefix_for_each_view_with(key, &mut callback)
+        tree.prefix_for_each_view_by_ref(key, &mut callback)
     } else {
-        tree.prefix_for_each_view_with_k(&key, &mut callback)
+        tree.prefix_for_each_view_by_ref_k(&key, &mut callback)
     }
 }
 
@@ -129,7 +129,7 @@ fn views_within(tree: &Tree, key: Key, lent: bool, calls: &Calls) -> Ended {
     let end = Bound::Excluded(Key::new_from_slice(b"beta"));
     let mut callback = |_view: LendingKeyView<'_, '_>, _value: &u64| calls.call();
     if lent {
-        tree.for_each_range_view_with(start, end, &mut callback)
+        tree.for_each_range_view_by_ref(start, end, &mut callback)
     } else {
         tree.for_each_range_view(start, end, callback)
     }
@@ -157,7 +157,7 @@ fn longest(tree: &Tree, key: Key, by_value: bool, calls: &Calls) -> Ended {
 fn longest_lent(tree: &Tree, key: Key, calls: &Calls) -> Ended {
     let mut callback = |_view: LendingKeyView<'_, '_>, _value: &u64| calls.call();
     is_told(
-        tree.with_longest_prefix_match_view_with_k(&key, &mut callback),
+        tree.with_longest_prefix_match_view_by_ref_k(&key, &mut callback),
         calls,
     )
 }
@@ -174,9 +174,9 @@ fn values(tree: &Tree, key: Key, by_value: bool, calls: &Calls) -> Ended {
 fn values_lent(tree: &Tree, key: Key, by_value: bool, calls: &Calls) -> Ended {
     let mut callback = |_value: &u64| calls.call();
     if by_value {
-        tree.prefix_values_for_each_with(key, &mut callback)
+        tree.prefix_values_for_each_by_ref(key, &mut callback)
     } else {
-        tree.prefix_values_for_each_with_k(&key, &mut callback)
+        tree.prefix_values_for_each_by_ref_k(&key, &mut callback)
     }
 }
 
@@ -223,9 +223,9 @@ fn tries_lent(tree: &Tree, key: Key, by_value: bool, calls: &Calls) -> Ended {
         Ok(VisitControl::Continue)
     };
     if by_value {
-        ended(tree.try_prefix_values_for_each_with(key, &mut callback))
+        ended(tree.try_prefix_values_for_each_by_ref(key, &mut callback))
     } else {
-        ended(tree.try_prefix_values_for_each_with_k(&key, &mut callback))
+        ended(tree.try_prefix_values_for_each_by_ref_k(&key, &mut callback))
     }
 }
 

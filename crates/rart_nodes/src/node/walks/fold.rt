@@ -1,13 +1,13 @@
 //! A fold over the values below a prefix: the walk with a callback whose state the caller gets back.
-ghost use Rattle.std.specs.Prelude.{◌≡◌, ◌≢◌, ◌≤◌, ◌^◌, [], reverse, vec_capacity, IfErr, IfOk};
+ghost use Rattle.std.specs.Prelude.{◌≤◌, ◌^◌, [], reverse, vec_capacity, IfErr, IfOk};
 ghost use Rattle.std.specs.List.{FoldsTo};
-ghost use Rattle.std.specs.Option.{option_copied};
 ghost use Rattle.rart_keys.specs.Filters.{below};
 ghost use Rattle.rart_keys.specs.SortedMap.{values_of};
 ghost use Rattle.rart_nodes.specs.tries.Tree.{seen_pairs};
 ghost use Rattle.rart_nodes.specs.walks.Shown.{Folded};
-ghost use Rattle.rart_nodes.specs.walks.Tour.{IsTour, stop_values, stops_ahead};
-ghost use Rattle.rart_nodes.specs.walks.TrailParts.{no_piece};
+ghost use Rattle.rart_nodes.specs.walks.Tour.{IsTour};
+ghost use Rattle.rart_nodes.specs.walks.TrailParts.{values_ahead};
+ghost use Rattle.rart_nodes.specs.walks.Calls.{MayLackRoom};
 
 use crate::count::{Count, Visits};
 use crate::node::seen::Seen;
@@ -26,7 +26,7 @@ fn fold_values<'a, P: Partial, V, C: Count, S, F: FnMut(S, &V) -> S>(
     requires path { IsTour tour.old.longest (vec_capacity tour.old.levels) [] (reverse tour.old.levels.items) }
     requires room { tour.old.longest ≤ 2 ^ 64 }
     ensures callable { F.IsAlwaysCallable f.new }
-    ensures folds { FoldsTo (λ p x q. Folded F.FnMut p x q) (f.old, init) (stop_values (stops_ahead no_piece [] (option_copied tour.old.first) tour.old.levels.items)) (f.new, result) }
+    ensures folds { FoldsTo (λ p x q. Folded F.FnMut p x q) (f.old, init) (values_ahead tour.old.first tour.old.levels.items) (f.new, result) }
 {
     let mut state = init;
     while let Some(value) = tour.advance(&mut NoTrail, counter) {
@@ -47,7 +47,7 @@ impl<'a, K: KeyTrait, V> Seen<'a, K, V, Visits> {
     ) -> Result<S, TreeError>
         requires callable { F.IsAlwaysCallable f }
         ensures calls { IfOk result (λ state. (last : F) × FoldsTo (λ p x q. Folded F.FnMut p x q) (f, init) (values_of (below (K.bytes prefix.now) (seen_pairs self.entry.root))) (last, state)) }
-        ensures memory { IfErr result (λ e. (e ≡ TreeError.Memory) × (seen_pairs self.entry.root ≢ [])) }
+        ensures memory { IfErr result (MayLackRoom (seen_pairs self.entry.root)) }
     {
         let mut counter = Visits::new();
         let (mut tour, _trail) = self.tour_below::<NoTrail>(prefix.as_ref(), &mut counter)?;

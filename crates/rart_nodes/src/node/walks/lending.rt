@@ -2,7 +2,7 @@
 //!
 //! All room is taken before the first call, and the segments are pushed and popped as the walk goes. A callback that is lent
 //! (`&mut F`) shows the caller what the calls left in it.
-ghost use Rattle.std.specs.Prelude.{◌≡◌, ◌≢◌, ◌≤◌, ◌+◌, ◌*◌, [], length, reverse, vec_capacity, IfErr, OnErr, OnOk};
+ghost use Rattle.std.specs.Prelude.{◌≡◌, ◌≤◌, ◌+◌, ◌*◌, [], length, reverse, vec_capacity, IfErr, OnErr, OnOk};
 ghost use Rattle.std.specs.List.{FoldsTo};
 ghost use Rattle.rart_nodes.specs.tries.Tree.{seen_keys, seen_pairs};
 ghost use Rattle.rart_nodes.specs.walks.BelowPrefix.{below_bound, below_visits, cut_below};
@@ -12,6 +12,7 @@ ghost use Rattle.rart_nodes.specs.walks.Tour.{IsTour, nodes_below};
 ghost use Rattle.rart_nodes.specs.walks.TrailParts.{lent_pieces};
 ghost use Rattle.rart_nodes.specs.walks.ViewPieces.{AreViews, views_ahead};
 ghost use Rattle.rart_nodes.specs.walks.Viewed.{Viewed};
+ghost use Rattle.rart_nodes.specs.walks.Calls.{CallsEach, MayLackRoom};
 
 use crate::count::Count;
 use crate::node::seen::Seen;
@@ -51,7 +52,7 @@ impl<'a, K: KeyTrait, V, C: Count> Seen<'a, K, V, C> {
         ensures callable { F.IsAlwaysCallable f.new }
         ensures calls { OnOk result (FoldsTo (λ p x q. Viewed F.FnMut p x q) f.old (cut_below prefix.now (seen_pairs self.entry.root)) f.new) }
         ensures refused { OnErr result (f.new ≡ f.old) }
-        ensures memory { IfErr result (λ e. (e ≡ TreeError.Memory) × (seen_pairs self.entry.root ≢ [])) }
+        ensures memory { IfErr result (MayLackRoom (seen_pairs self.entry.root)) }
         ensures visits { OnOk result (C.number counter.new ≤ C.number counter.old + below_visits prefix.now (seen_pairs self.entry.root)) }
         ensures bound { C.number counter.new ≤ C.number counter.old + below_bound prefix.now (seen_pairs self.entry.root) }
     {
@@ -64,7 +65,7 @@ impl<'a, K: KeyTrait, V, C: Count> Seen<'a, K, V, C> {
     /// room is taken before the first call; refused with `Memory` alone, only where the tree isn't empty, and then `f` wasn't
     /// called. With m calls it visits at most one node more than the prefix has bytes, and 2m; none in an empty tree. `f` is lent,
     /// so that the caller sees what the calls left in it.
-    pub fn prefix_for_each_view_with_k_counted<F: FnMut(LendingKeyView<'_, '_>, &V)>(
+    pub fn prefix_for_each_view_by_ref_k_counted<F: FnMut(LendingKeyView<'_, '_>, &V)>(
         self,
         prefix: &K,
         f: &mut F,
@@ -74,14 +75,14 @@ impl<'a, K: KeyTrait, V, C: Count> Seen<'a, K, V, C> {
         ensures callable { F.IsAlwaysCallable f.new }
         ensures calls { OnOk result (FoldsTo (λ p x q. Viewed F.FnMut p x q) f.old (cut_below (K.bytes prefix.now) (seen_pairs self.entry.root)) f.new) }
         ensures refused { OnErr result (f.new ≡ f.old) }
-        ensures memory { IfErr result (λ e. (e ≡ TreeError.Memory) × (seen_pairs self.entry.root ≢ [])) }
+        ensures memory { IfErr result (MayLackRoom (seen_pairs self.entry.root)) }
         ensures visits { OnOk result (C.number counter.new ≤ C.number counter.old + below_visits (K.bytes prefix.now) (seen_pairs self.entry.root)) }
         ensures bound { C.number counter.new ≤ C.number counter.old + below_bound (K.bytes prefix.now) (seen_pairs self.entry.root) }
     {
         self.each_view_below(prefix.as_ref(), f, counter)
     }
 
-    /// Calls `f` as `prefix_for_each_view_with_k_counted` does; `f` is gone after the call.
+    /// Calls `f` as `prefix_for_each_view_by_ref_k_counted` does; `f` is gone after the call.
     pub fn prefix_for_each_view_k_counted<F: FnMut(LendingKeyView<'_, '_>, &V) + Drop>(
         self,
         prefix: &K,
@@ -89,17 +90,17 @@ impl<'a, K: KeyTrait, V, C: Count> Seen<'a, K, V, C> {
         counter: &mut C,
     ) -> Result<(), TreeError>
         requires callable { F.IsAlwaysCallable f }
-        ensures calls { OnOk result ((last : F) × FoldsTo (λ p x q. Viewed F.FnMut p x q) f (cut_below (K.bytes prefix.now) (seen_pairs self.entry.root)) last) }
-        ensures memory { IfErr result (λ e. (e ≡ TreeError.Memory) × (seen_pairs self.entry.root ≢ [])) }
+        ensures calls { OnOk result (CallsEach (λ p x q. Viewed F.FnMut p x q) f (cut_below (K.bytes prefix.now) (seen_pairs self.entry.root))) }
+        ensures memory { IfErr result (MayLackRoom (seen_pairs self.entry.root)) }
         ensures visits { OnOk result (C.number counter.new ≤ C.number counter.old + below_visits (K.bytes prefix.now) (seen_pairs self.entry.root)) }
         ensures bound { C.number counter.new ≤ C.number counter.old + below_bound (K.bytes prefix.now) (seen_pairs self.entry.root) }
     {
-        self.prefix_for_each_view_with_k_counted(prefix, &mut f, counter)
+        self.prefix_for_each_view_by_ref_k_counted(prefix, &mut f, counter)
     }
 
-    /// Calls `f` with each pair, as `prefix_for_each_view_with_k_counted` does with those below a prefix: with n pairs it visits
+    /// Calls `f` with each pair, as `prefix_for_each_view_by_ref_k_counted` does with those below a prefix: with n pairs it visits
     /// at most 2n + 1 nodes, and none in an empty tree.
-    pub fn for_each_view_with_counted<F: FnMut(LendingKeyView<'_, '_>, &V)>(
+    pub fn for_each_view_by_ref_counted<F: FnMut(LendingKeyView<'_, '_>, &V)>(
         self,
         f: &mut F,
         counter: &mut C,
@@ -108,25 +109,25 @@ impl<'a, K: KeyTrait, V, C: Count> Seen<'a, K, V, C> {
         ensures callable { F.IsAlwaysCallable f.new }
         ensures calls { OnOk result (FoldsTo (λ p x q. Viewed F.FnMut p x q) f.old (cut_pairs (seen_keys self.entry.root) (seen_pairs self.entry.root)) f.new) }
         ensures refused { OnErr result (f.new ≡ f.old) }
-        ensures memory { IfErr result (λ e. (e ≡ TreeError.Memory) × (seen_pairs self.entry.root ≢ [])) }
+        ensures memory { IfErr result (MayLackRoom (seen_pairs self.entry.root)) }
         ensures visits { OnOk result (C.number counter.new ≤ C.number counter.old + (probe_count (seen_keys self.entry.root) [] + 2 * length (seen_pairs self.entry.root))) }
         ensures bound { C.number counter.new ≤ C.number counter.old + 1 + 2 * length (seen_pairs self.entry.root) }
     {
         self.each_view_below(&[], f, counter)
     }
 
-    /// Calls `f` as `for_each_view_with_counted` does; `f` is gone after the call.
+    /// Calls `f` as `for_each_view_by_ref_counted` does; `f` is gone after the call.
     pub fn for_each_view_counted<F: FnMut(LendingKeyView<'_, '_>, &V) + Drop>(
         self,
         mut f: F,
         counter: &mut C,
     ) -> Result<(), TreeError>
         requires callable { F.IsAlwaysCallable f }
-        ensures calls { OnOk result ((last : F) × FoldsTo (λ p x q. Viewed F.FnMut p x q) f (cut_pairs (seen_keys self.entry.root) (seen_pairs self.entry.root)) last) }
-        ensures memory { IfErr result (λ e. (e ≡ TreeError.Memory) × (seen_pairs self.entry.root ≢ [])) }
+        ensures calls { OnOk result (CallsEach (λ p x q. Viewed F.FnMut p x q) f (cut_pairs (seen_keys self.entry.root) (seen_pairs self.entry.root))) }
+        ensures memory { IfErr result (MayLackRoom (seen_pairs self.entry.root)) }
         ensures visits { OnOk result (C.number counter.new ≤ C.number counter.old + (probe_count (seen_keys self.entry.root) [] + 2 * length (seen_pairs self.entry.root))) }
         ensures bound { C.number counter.new ≤ C.number counter.old + 1 + 2 * length (seen_pairs self.entry.root) }
     {
-        self.for_each_view_with_counted(&mut f, counter)
+        self.for_each_view_by_ref_counted(&mut f, counter)
     }
 }

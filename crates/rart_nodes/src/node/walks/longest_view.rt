@@ -1,8 +1,10 @@
 //! The longest key that begins a probe, lent in segments to one call.
-ghost use Rattle.std.specs.Prelude.{◌≡◌, ◌≢◌, ◌≤◌, ◌+◌, ◌*◌, None, IfErr, IfOk, OnErr, length};
+ghost use Rattle.std.specs.Prelude.{◌≡◌, ◌≢◌, ◌≤◌, ◌+◌, ◌*◌, [], ◌∷◌, None, IfErr, IfOk, IfSome, OnErr, length};
 ghost use Rattle.rart_keys.specs.Filters.{longest_match};
 ghost use Rattle.rart_nodes.specs.tries.Tree.{seen_keys, seen_pairs};
-ghost use Rattle.rart_nodes.specs.walks.Viewed.{SeesFound, ShowsFound};
+ghost use Rattle.rart_nodes.specs.walks.TrailParts.{lent_pieces};
+ghost use Rattle.rart_nodes.specs.walks.ViewPieces.{AreViews};
+ghost use Rattle.rart_nodes.specs.walks.Viewed.{IsCutOf, SeesFound, ShowsFound};
 
 use crate::count::{Count, Visits};
 use crate::node::matching::beginning;
@@ -23,13 +25,8 @@ impl<'a, K: KeyTrait, V> Seen<'a, K, V, Visits> {
         ensures memory { IfErr result (λ e. (e ≡ TreeError.Memory) × (longest_match probe.now (seen_pairs self.entry.root) ≢ None)) }
     {
         let mut counter = Visits::new();
-        let Some((depth, _)) = self.last_match(probe, &mut counter) else {
+        let Some((trail, value)) = self.longest_trail(probe, &mut counter)? else {
             return Ok(false);
-        };
-        let key = beginning(probe, depth);
-        let (mut tour, mut trail) = self.tour_below::<SegmentTrail<'a>>(key, &mut counter)?;
-        let Some(value) = tour.advance(&mut trail, &mut counter) else {
-            unreachable!()
         };
         f(LendingKeyView::of(trail.segments()), value);
         Ok(true)
@@ -52,6 +49,28 @@ impl<'a, K: KeyTrait, V> Seen<'a, K, V, Visits> {
 }
 
 impl<'a, K: KeyTrait, V, C: Count> Seen<'a, K, V, C> {
+    /// The segments of the longest key that begins `probe`, and its value. Takes room only where there is such a key.
+    fn longest_trail(
+        self,
+        probe: &[u8],
+        counter: &mut C,
+    ) -> Result<Option<(SegmentTrail<'a>, &'a V)>, TreeError>
+        ensures found { IfOk result (IsCutOf (seen_keys self.entry.root) (longest_match probe.now (seen_pairs self.entry.root))) }
+        ensures views { IfOk result (λ r. IfSome r (λ p. AreViews ((lent_pieces p.0.segments.items, p.1.now) ∷ []))) }
+        ensures memory { IfErr result (λ e. (e ≡ TreeError.Memory) × (longest_match probe.now (seen_pairs self.entry.root) ≢ None)) }
+        ensures bound { C.number counter.new ≤ C.number counter.old + 3 * length probe.now + 2 }
+    {
+        let Some((depth, _)) = self.last_match(probe, counter) else {
+            return Ok(None);
+        };
+        let key = beginning(probe, depth);
+        let (mut tour, mut trail) = self.tour_below::<SegmentTrail<'a>>(key, counter)?;
+        let Some(value) = tour.advance(&mut trail, counter) else {
+            unreachable!()
+        };
+        Ok(Some((trail, value)))
+    }
+
     fn lend_longest_view<F: FnMut(LendingKeyView<'_, '_>, &V)>(
         self,
         probe: &[u8],
@@ -65,13 +84,8 @@ impl<'a, K: KeyTrait, V, C: Count> Seen<'a, K, V, C> {
         ensures memory { IfErr result (λ e. (e ≡ TreeError.Memory) × (longest_match probe.now (seen_pairs self.entry.root) ≢ None)) }
         ensures bound { C.number counter.new ≤ C.number counter.old + 3 * length probe.now + 2 }
     {
-        let Some((depth, _)) = self.last_match(probe, counter) else {
+        let Some((trail, value)) = self.longest_trail(probe, counter)? else {
             return Ok(false);
-        };
-        let key = beginning(probe, depth);
-        let (mut tour, mut trail) = self.tour_below::<SegmentTrail<'a>>(key, counter)?;
-        let Some(value) = tour.advance(&mut trail, counter) else {
-            unreachable!()
         };
         f(LendingKeyView::of(trail.segments()), value);
         Ok(true)
@@ -80,7 +94,7 @@ impl<'a, K: KeyTrait, V, C: Count> Seen<'a, K, V, C> {
     /// Calls `f` once with a view of the longest key that begins `probe` and with its value, as `with_longest_prefix_match_view_k`
     /// does. `f` is lent, so that the caller sees that it wasn't called where there is no such key or the room was refused. It visits
     /// at most three nodes for each byte of the probe, and two.
-    pub fn with_longest_prefix_match_view_with_k_counted<F: FnMut(LendingKeyView<'_, '_>, &V)>(
+    pub fn with_longest_prefix_match_view_by_ref_k_counted<F: FnMut(LendingKeyView<'_, '_>, &V)>(
         self,
         probe: &K,
         f: &mut F,

@@ -2,7 +2,7 @@
 //!
 //! They go straight to the start as `range` does, and end at the first key past the end. It is told by the segments, one by one,
 //! so that no byte of a key is copied.
-ghost use Rattle.std.specs.Prelude.{◌≡◌, ◌≢◌, ◌≤◌, ◌+◌, ◌*◌, ℕ, [], length, reverse, vec_capacity, IfErr, OnErr, OnOk};
+ghost use Rattle.std.specs.Prelude.{◌≡◌, ◌≤◌, ◌+◌, ◌*◌, ℕ, [], length, reverse, vec_capacity, IfErr, OnErr, OnOk};
 ghost use Rattle.std.specs.List.{FoldsTo};
 ghost use Rattle.rart_keys.specs.Ranges.{bound_in, is_to};
 ghost use Rattle.rart_nodes.specs.ranges.Dues.{AreLow};
@@ -13,6 +13,7 @@ ghost use Rattle.rart_nodes.specs.walks.Tour.{IsTour, joined};
 ghost use Rattle.rart_nodes.specs.walks.TrailParts.{lent_pieces};
 ghost use Rattle.rart_nodes.specs.walks.ViewPieces.{AreViews, views_ahead};
 ghost use Rattle.rart_nodes.specs.walks.Viewed.{Viewed};
+ghost use Rattle.rart_nodes.specs.walks.Calls.{CallsEach, MayLackRoom};
 
 use crate::count::Count;
 use crate::node::range::{bytes_of, is_before};
@@ -65,7 +66,7 @@ impl<'a, K: KeyTrait + Drop, V, C: Count> Seen<'a, K, V, C> {
     /// the end comes before the start. All room is taken before the first call; refused with `Memory` alone, only where the tree
     /// isn't empty, and then `f` wasn't called. With m calls in a tree of height h it visits at most one node more than the start
     /// has bytes, and 2m + h; none in an empty tree. `f` is lent, so that the caller sees what the calls left in it.
-    pub fn for_each_range_view_with_counted<F: FnMut(LendingKeyView<'_, '_>, &V)>(
+    pub fn for_each_range_view_by_ref_counted<F: FnMut(LendingKeyView<'_, '_>, &V)>(
         self,
         start: Bound<K>,
         end: Bound<K>,
@@ -76,7 +77,7 @@ impl<'a, K: KeyTrait + Drop, V, C: Count> Seen<'a, K, V, C> {
         ensures callable { F.IsAlwaysCallable f.new }
         ensures calls { OnOk result (FoldsTo (λ p x q. Viewed F.FnMut p x q) f.old (cut_between (bound_in K.bytes start) (bound_in K.bytes end) (seen_pairs self.entry.root)) f.new) }
         ensures refused { OnErr result (f.new ≡ f.old) }
-        ensures memory { IfErr result (λ e. (e ≡ TreeError.Memory) × (seen_pairs self.entry.root ≢ [])) }
+        ensures memory { IfErr result (MayLackRoom (seen_pairs self.entry.root)) }
         ensures visits { OnOk result (C.number counter.new ≤ C.number counter.old + span_visits (bound_in K.bytes start) (bound_in K.bytes end) (seen_pairs self.entry.root)) }
         ensures bound { C.number counter.new ≤ C.number counter.old + span_bound (bound_in K.bytes start) (bound_in K.bytes end) (seen_pairs self.entry.root) }
         ensures none { seen_pairs self.entry.root ≡ [] → C.number counter.new ≤ C.number counter.old }
@@ -87,7 +88,7 @@ impl<'a, K: KeyTrait + Drop, V, C: Count> Seen<'a, K, V, C> {
         Ok(())
     }
 
-    /// Calls `f` as `for_each_range_view_with_counted` does; `f` is gone after the call.
+    /// Calls `f` as `for_each_range_view_by_ref_counted` does; `f` is gone after the call.
     pub fn for_each_range_view_counted<F: FnMut(LendingKeyView<'_, '_>, &V) + Drop>(
         self,
         start: Bound<K>,
@@ -96,12 +97,12 @@ impl<'a, K: KeyTrait + Drop, V, C: Count> Seen<'a, K, V, C> {
         counter: &mut C,
     ) -> Result<(), TreeError>
         requires callable { F.IsAlwaysCallable f }
-        ensures calls { OnOk result ((last : F) × FoldsTo (λ p x q. Viewed F.FnMut p x q) f (cut_between (bound_in K.bytes start) (bound_in K.bytes end) (seen_pairs self.entry.root)) last) }
-        ensures memory { IfErr result (λ e. (e ≡ TreeError.Memory) × (seen_pairs self.entry.root ≢ [])) }
+        ensures calls { OnOk result (CallsEach (λ p x q. Viewed F.FnMut p x q) f (cut_between (bound_in K.bytes start) (bound_in K.bytes end) (seen_pairs self.entry.root))) }
+        ensures memory { IfErr result (MayLackRoom (seen_pairs self.entry.root)) }
         ensures visits { OnOk result (C.number counter.new ≤ C.number counter.old + span_visits (bound_in K.bytes start) (bound_in K.bytes end) (seen_pairs self.entry.root)) }
         ensures bound { C.number counter.new ≤ C.number counter.old + span_bound (bound_in K.bytes start) (bound_in K.bytes end) (seen_pairs self.entry.root) }
         ensures none { seen_pairs self.entry.root ≡ [] → C.number counter.new ≤ C.number counter.old }
     {
-        self.for_each_range_view_with_counted(start, end, &mut f, counter)
+        self.for_each_range_view_by_ref_counted(start, end, &mut f, counter)
     }
 }

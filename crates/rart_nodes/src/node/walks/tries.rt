@@ -1,11 +1,10 @@
 //! Walks over the values below a prefix that a callback can end.
 ghost use Rattle.std.specs.Prelude.{◌≡◌, ◌≢◌, ◌≤◌, ◌^◌, [], reverse, vec_capacity, IfErr};
-ghost use Rattle.std.specs.Option.{option_copied};
 ghost use Rattle.rart_keys.specs.Filters.{below};
 ghost use Rattle.rart_keys.specs.SortedMap.{values_of};
 ghost use Rattle.rart_nodes.specs.tries.Tree.{seen_pairs};
-ghost use Rattle.rart_nodes.specs.walks.Tour.{IsTour, stop_values, stops_ahead};
-ghost use Rattle.rart_nodes.specs.walks.TrailParts.{no_piece};
+ghost use Rattle.rart_nodes.specs.walks.Tour.{IsTour};
+ghost use Rattle.rart_nodes.specs.walks.TrailParts.{values_ahead};
 ghost use Rattle.rart_nodes.specs.walks.Tried.{EndsAs, EndsVisit};
 
 use crate::count::{Count, Visits};
@@ -24,7 +23,7 @@ fn try_feed<'a, P: Partial, V, C: Count, E, F: FnMut(&V) -> Result<VisitControl,
     requires path { IsTour tour.old.longest (vec_capacity tour.old.levels) [] (reverse tour.old.levels.items) }
     requires room { tour.old.longest ≤ 2 ^ 64 }
     ensures callable { F.IsAlwaysCallable f.new }
-    ensures calls { EndsAs F.FnMut f.old (stop_values (stops_ahead no_piece [] (option_copied tour.old.first) tour.old.levels.items)) result f.new }
+    ensures calls { EndsAs F.FnMut f.old (values_ahead tour.old.first tour.old.levels.items) result f.new }
 {
     while let Some(value) = tour.advance(&mut NoTrail, counter) {
         match f(value) {
@@ -40,7 +39,7 @@ impl<'a, K: KeyTrait, V> Seen<'a, K, V, Visits> {
     /// Calls `f` with the value of each pair whose key begins with `prefix`, in order, until it says `Stop`, and then the call is `Ok`, or
     /// fails, and then the call fails with `Callback`. All room is taken before the first call; refused with `Memory`, only where
     /// the tree isn't empty, `f` wasn't called. `f` is lent, so that the caller sees what the calls left in it.
-    pub fn try_prefix_values_for_each_with_k<E, F: FnMut(&V) -> Result<VisitControl, E>>(
+    pub fn try_prefix_values_for_each_by_ref_k<E, F: FnMut(&V) -> Result<VisitControl, E>>(
         self,
         prefix: &K,
         f: &mut F,

@@ -1,4 +1,4 @@
--- `try_insert` is to `try_insert_k` as `insert_new_with` is to `insert_new_k`: the same walk, where the key is passed by value.
+-- `try_insert` is to `try_insert_k` as `insert_new_keeping_key` is to `insert_new_k`: the same walk, where the key is passed by value.
 use mathlib.Core.Path.{◌≡◌, refl, sym, subst}
 use mathlib.Core.List.{List, [], ◌∷◌, ◌++◌}
 use mathlib.Core.Option.{none}
@@ -72,9 +72,9 @@ use Rattle.rart.specs.contracts.tree.guarded.Tried as tried
 use Rattle.rart.proofs.tree.guarded.Tried.TheLaws as tried_laws
 use Rattle.rart.specs.contracts.tree.guarded.TryInsertError as try_insert_error
 use Rattle.rart.proofs.tree.guarded.TryInsertError.TheLaws as try_insert_error_laws
-use Rattle.rart.specs.contracts.tree.AdaptiveRadixTree.insert_new_with as inserts
-use Rattle.rart.specs.contracts.tree.AdaptiveRadixTree.insert_new_with.Key.{name as #inserts}
-use Rattle.rart.proofs.tree.AdaptiveRadixTree.insert_new_with.Met as inserts_met
+use Rattle.rart.specs.contracts.tree.AdaptiveRadixTree.insert_new_keeping_key as inserts
+use Rattle.rart.specs.contracts.tree.AdaptiveRadixTree.insert_new_keeping_key.Key.{name as #inserts}
+use Rattle.rart.proofs.tree.AdaptiveRadixTree.insert_new_keeping_key.Met as inserts_met
 use Rattle.rart.specs.contracts.tree.AdaptiveRadixTree.tried_with_present as with_present
 use Rattle.rart.specs.contracts.tree.AdaptiveRadixTree.tried_with_present.Key.{name as #with_present}
 use Rattle.rart.proofs.tree.AdaptiveRadixTree.tried_with_present.Met as with_present_met
@@ -133,7 +133,7 @@ module _ {M : Type 1} (𝓤 : Ura M) (𝓛 : Logic 𝓤) (𝓜 : Model 𝓤 𝓛
 
   inserts_by : Triple 𝓤 (𝓡.run (𝓡.env (#inserts (passed dnil)))) I
   unfolding code.code
-  inserts_by = inserts_met.met 𝓤 𝓛 𝓜 𝓡 (code.calls-rart::tree::AdaptiveRadixTree::insert_new_with 𝓡.env wired) K V P LK LV LP gk dk ge de gpe dpe go d-o gpo dpo gp dp dd mk me mpe mo mpo mp md
+  inserts_by = inserts_met.met 𝓤 𝓛 𝓜 𝓡 (code.calls-rart::tree::AdaptiveRadixTree::insert_new_keeping_key 𝓡.env wired) K V P LK LV LP gk dk ge de gpe dpe go d-o gpo dpo gp dp dd mk me mpe mo mpo mp md
 
   with_present_by : Triple 𝓤 (𝓡.run (𝓡.env (#with_present (passed (dcons dr dnil))))) S
   unfolding code.code

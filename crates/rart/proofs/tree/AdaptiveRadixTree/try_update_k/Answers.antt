@@ -4,7 +4,7 @@ use Rattle.rart.specs.Updates.{TriesUpdate}
 use Rattle.rart.specs.declared.tree.update.TryUpdateError.TheVariants.{Remove}
 use Rattle.rart.proofs.UpdateLemmas.{done, failed, not-called, not-inserted, put-back, same-map, some-left, some-stood}
 use Rattle.rart.proofs.tree.AdaptiveRadixTree.try_update_k.Given.{Over}
-use Rattle.rart.proofs.tree.AdaptiveRadixTree.try_update_k.Goals.{After-put_back-in-Some}
+use Rattle.rart.proofs.tree.AdaptiveRadixTree.try_update_k.Goals.{After-restore}
 use Rattle.rart.proofs.tree.AdaptiveRadixTree.try_update_k.Goals as goal
 
 -- it wasn't called
@@ -43,8 +43,8 @@ returns-in-Err-Insert-clause-refused g c =
     same-map c.update_tried-outcome.new.tree c.args.self.now pairs (c.update_tried-outcome.ensures.nodes (ap keys_of pairs))
 
 -- a removal is refused
-pub put_back-requires-in-Some : goal.put_back-requires-in-Some
-put_back-requires-in-Some g c = record {
+pub restore-requires : goal.restore-requires
+restore-requires g c = record {
   stands = some-left g.V.Clone.is_infallible g.F.FnOnce c.args.f (g.K.KeyTrait.bytes c.args.key.now) c.args.self.now.pairs c.update_tried-outcome.new.tree.pairs c.update_tried-outcome.result.0 _ (c.in-Err-Remove.is ∙ ap Err c.in-Err-Remove.field-0-is) (rw c.in-Answered.is at c.update_tried-outcome.ensures.update) c.sorted_map.ensures.put_at;
 }
 
@@ -52,21 +52,21 @@ pub unreachable-requires : goal.unreachable-requires
 unreachable-requires g c =
     some-stood g.V.Clone.is_infallible g.F.FnOnce c.args.f (g.K.KeyTrait.bytes c.args.key.now) c.args.self.now.pairs c.update_tried-outcome.new.tree.pairs c.update_tried-outcome.result.0 _ (c.in-Err-Remove.is ∙ ap Err c.in-Err-Remove.field-0-is) (rw c.in-Answered.is at c.update_tried-outcome.ensures.update) c.in-None.is
 
-back : (g : Over) (c : After-put_back-in-Some g) → TriesUpdate g.F.FnOnce c.args.f (g.K.KeyTrait.bytes c.args.key.now) c.args.self.now.pairs (Err Remove) c.put_back-in-Some.new.self.pairs × (c.put_back-in-Some.new.self.pairs ≡ c.args.self.now.pairs)
+back : (g : Over) (c : After-restore g) → TriesUpdate g.F.FnOnce c.args.f (g.K.KeyTrait.bytes c.args.key.now) c.args.self.now.pairs (Err Remove) c.restore.new.self.pairs × (c.restore.new.self.pairs ≡ c.args.self.now.pairs)
 back g c =
     put-back g.V.Clone.is_infallible g.F.FnOnce c.args.f (g.K.KeyTrait.bytes c.args.key.now) c.args.self.now.pairs c.update_tried-outcome.new.tree.pairs c.update_tried-outcome.result.0 _ (c.in-Err-Remove.is ∙ ap Err c.in-Err-Remove.field-0-is) (rw c.in-Answered.is at c.update_tried-outcome.ensures.update)
-    c.put_back.ensures.back c.canonical.ensures.ascending c.in-Some.old _ c.in-Some.is c.put_back-in-Some.ensures.pairs
+    c.put_back.ensures.back c.canonical.ensures.ascending c.in-Some.old _ c.in-Some.is c.restore.ensures.pairs
 
-as-before : (g : Over) (c : After-put_back-in-Some g) → c.put_back-in-Some.new.self ≡ c.args.self.now
+as-before : (g : Over) (c : After-restore g) → c.restore.new.self ≡ c.args.self.now
 as-before g c =
-    let nodes : c.put_back-in-Some.new.self.nodes ≡ c.args.self.now.nodes = c.put_back-in-Some.ensures.nodes ∙ (rw c.in-Err-Remove.is at c.update_tried-outcome.ensures.refused) in
-    same-map c.put_back-in-Some.new.self c.args.self.now (back g c).1 nodes
+    let nodes : c.restore.new.self.nodes ≡ c.args.self.now.nodes = c.restore.ensures.nodes ∙ (rw c.in-Err-Remove.is at c.update_tried-outcome.ensures.refused) in
+    same-map c.restore.new.self c.args.self.now (back g c).1 nodes
 
 pub returns-in-Some-clause-called : goal.returns-in-Some-clause-called
-returns-in-Some-clause-called g c = λ _. (back g (goal.at.returns-in-Some-clause-called g c).After-put_back-in-Some).0
+returns-in-Some-clause-called g c = λ _. (back g (goal.at.returns-in-Some-clause-called g c).After-restore).0
 
 pub returns-in-Some-clause-shape : goal.returns-in-Some-clause-shape
-returns-in-Some-clause-shape g c = rw (as-before g (goal.at.returns-in-Some-clause-shape g c).After-put_back-in-Some) c.canonical.ensures.shape
+returns-in-Some-clause-shape g c = rw (as-before g (goal.at.returns-in-Some-clause-shape g c).After-restore) c.canonical.ensures.shape
 
 pub returns-in-Some-clause-refused : goal.returns-in-Some-clause-refused
-returns-in-Some-clause-refused g c = as-before g (goal.at.returns-in-Some-clause-refused g c).After-put_back-in-Some
+returns-in-Some-clause-refused g c = as-before g (goal.at.returns-in-Some-clause-refused g c).After-restore

@@ -2,4 +2,4 @@ use Rattle.rart_nodes.proofs.node.walks.visit.Seen+K+V+Visits.prefix_values_for_
 use Rattle.std.proofs.lemmas.Result.{on_ok_weaker}
 
 pub returns-clause-calls : goal.returns-clause-calls
-returns-clause-calls g c = on_ok_weaker c.prefix_values_for_each_with_k.result (λ h. (c.prefix_values_for_each_with_k.new.f, h)) c.prefix_values_for_each_with_k.ensures.calls
+returns-clause-calls g c = on_ok_weaker c.prefix_values_for_each_by_ref_k.result (λ h. (c.prefix_values_for_each_by_ref_k.new.f, h)) c.prefix_values_for_each_by_ref_k.ensures.calls

@@ -1,0 +1,12 @@
+use Rattle.std.proofs.Common.{OnOk, subst}
+use Rattle.std.specs.List.{FoldsTo}
+use Rattle.rart_keys.specs.Filters.{below}
+use Rattle.rart_keys.specs.SortedMap.{keys_of}
+use Rattle.rart_nodes.specs.walks.Cut.{cut_pairs}
+use Rattle.rart_nodes.specs.walks.Viewed.{Viewed}
+use Rattle.rart.specs.MapAndShape.{MapAndShape}
+use Rattle.rart.proofs.routes.RouteTable.below_for_each_by_ref.Goals as goal
+
+pub returns-clause-calls : goal.returns-clause-calls
+returns-clause-calls g c =
+    subst (λ (t : MapAndShape g.row.T.Denot). OnOk c.prefix_for_each_view_by_ref_k.result (FoldsTo (λ p x q. Viewed g.F.FnMut p x q) c.args.f.now (cut_pairs (keys_of t.pairs) (below (g.K.KeyTrait.bytes c.args.prefix.now) t.pairs)) c.prefix_for_each_view_by_ref_k.new.f)) c.self.view_is c.prefix_for_each_view_by_ref_k.ensures.calls

@@ -1,9 +1,0 @@
-use Rattle.std.proofs.Common.{List, ℕ, OnOk, subst}
-use Rattle.std.specs.List.{FoldsTo}
-use Rattle.rart_keys.specs.Filters.{matches}
-use Rattle.rart_nodes.specs.walks.Matched.{Matched}
-use Rattle.rart.proofs.tree.AdaptiveRadixTree.prefix_match_for_each_with_k.Goals as goal
-
-pub returns-clause-calls : goal.returns-clause-calls
-returns-clause-calls g c =
-    subst (λ (m : List (List ℕ × g.row.V.Denot)). FoldsTo (λ p x q. Matched g.F.FnMut p x q) c.args.f.now (matches (g.K.KeyTrait.bytes c.args.probe.now) m) c.prefix_match_for_each_with_k_counted.new.f) c.seen.ensures.pairs c.prefix_match_for_each_with_k_counted.ensures.calls

@@ -1,0 +1,9 @@
+use Rattle.std.proofs.Common.{List, ℕ, subst}
+use Rattle.rart_keys.specs.Filters.{below}
+use Rattle.rart_keys.specs.SortedMap.{values_of}
+use Rattle.rart_nodes.specs.walks.Tried.{EndsVisit}
+use Rattle.rart.proofs.tree.AdaptiveRadixTree.try_prefix_values_for_each_by_ref_k.Goals as goal
+
+pub returns-clause-calls : goal.returns-clause-calls
+returns-clause-calls g c =
+    subst (λ (m : List (List ℕ × g.row.V.Denot)). EndsVisit g.F.FnMut c.args.f.now (values_of (below (g.K.KeyTrait.bytes c.args.prefix.now) m)) c.try_prefix_values_for_each_by_ref_k.result c.try_prefix_values_for_each_by_ref_k.new.f) c.seen.ensures.pairs c.try_prefix_values_for_each_by_ref_k.ensures.calls

@@ -1,0 +1,19 @@
+-- Intersections of two trees that are shared.
+use Rattle.std.specs.Prelude.{ℕ, ◌+◌, ◌-◌, List, Option, length}
+use Rattle.std.specs.Borrow.{Bor}
+use Rattle.rart_keys.specs.Joins.{join}
+use Rattle.rart_nodes.specs.joins.SharedEdges.{joint_visits}
+use Rattle.rart_nodes.specs.tries.Tree.{seen_keys, seen_nodes, seen_pairs}
+use Rattle.rart_nodes.specs.tries.Trie.{Trie}
+
+-- the keys of both, each with both values
+abbrev pub seen_join : {V W : Type 0} → Option (Bor (Trie V)) → Option (Bor (Trie W)) → List (List ℕ × (V × W))
+seen_join t u = join (seen_pairs t) (seen_pairs u)
+
+-- the visits of an intersection of them
+abbrev pub seen_visits : {V W : Type 0} → Option (Bor (Trie V)) → Option (Bor (Trie W)) → ℕ
+seen_visits t u = joint_visits (seen_keys t) (seen_keys u)
+
+-- no fewer: one less than both have nodes
+abbrev pub seen_bound : {V W : Type 0} → Option (Bor (Trie V)) → Option (Bor (Trie W)) → ℕ
+seen_bound t u = length (seen_nodes t) + length (seen_nodes u) - 1
