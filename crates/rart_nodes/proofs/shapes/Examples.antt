@@ -5,6 +5,7 @@ use Rattle.rart_nodes.specs.edits.InsertAsks.{insert_asks}
 use Rattle.rart_nodes.specs.walks.Cut.{cut}
 use Rattle.rart_nodes.specs.walks.ProbeCount.{probe_count}
 use Rattle.rart_nodes.specs.edits.RemoveAsks.{remove_asks}
+use Rattle.rart_nodes.specs.joins.SharedEdges.{joint_visits, shared_edges}
 use Rattle.rart_nodes.specs.shapes.Shape.{NodeRecord, capacity_of, record_at}
 use Rattle.rart_nodes.specs.tries.Tree.{tree_nodes}
 
@@ -94,3 +95,16 @@ branched = (97 ∷ 98 ∷ []) ∷ (97 ∷ 98 ∷ 99 ∷ 100 ∷ []) ∷ (97 ∷ 
 cuts : (cut branched (97 ∷ 98 ∷ 99 ∷ 100 ∷ []) ≡ (97 ∷ 98 ∷ []) ∷ (99 ∷ []) ∷ (100 ∷ []) ∷ []) × (cut branched (97 ∷ 98 ∷ []) ≡ (97 ∷ 98 ∷ []) ∷ [])
     × (cut ((97 ∷ 98 ∷ []) ∷ []) (97 ∷ 98 ∷ []) ≡ (97 ∷ 98 ∷ []) ∷ []) × (cut ([] ∷ (97 ∷ []) ∷ []) [] ≡ []) × (cut ([] ∷ (97 ∷ []) ∷ []) (97 ∷ []) ≡ (97 ∷ []) ∷ [])
 cuts = (refl, refl, refl, refl, refl)
+
+-- "ab", "abc", "dog" beside "abc", "dog", "zzz": the roots together, and the edges "a", "d" and "abc"; with no keys nothing is visited
+abbrev words_of_one : List (List ℕ)
+words_of_one = (97 ∷ 98 ∷ []) ∷ (97 ∷ 98 ∷ 99 ∷ []) ∷ (100 ∷ 111 ∷ 103 ∷ []) ∷ []
+
+abbrev words_of_other : List (List ℕ)
+words_of_other = (97 ∷ 98 ∷ 99 ∷ []) ∷ (100 ∷ 111 ∷ 103 ∷ []) ∷ (122 ∷ 122 ∷ 122 ∷ []) ∷ []
+
+visits_of_both : (joint_visits words_of_one words_of_other ∷ joint_visits [] words_of_other ∷ joint_visits words_of_one [] ∷ []) ≡ 4 ∷ 0 ∷ 0 ∷ []
+visits_of_both = refl
+
+edges_of_both : shared_edges words_of_one words_of_other ≡ (97 ∷ []) ∷ (97 ∷ 98 ∷ 99 ∷ []) ∷ (100 ∷ []) ∷ []
+edges_of_both = refl
