@@ -1,8 +1,8 @@
 //! Trees of keys that end in a zero byte, brought over to keys without it; also with each request for memory refused in turn.
 
 use crate::play::replies::is_counted;
-use crate::refusals::{part_ends, refuse, was_refused};
 use rart::{AdaptiveRadixTree, ArrayKey, KeyTrait, MigrateError, TreeStatsTrait};
+use rart_test_tools::refusals::{part_ends, refuse, was_refused};
 use std::alloc::Global;
 use std::process::Abort;
 use std::test::Fail;

@@ -110,6 +110,26 @@ fn a_lone_child_takes_the_place_of_its_parent(rt: HostRuntime) {
     went_well(&rt, plays::<ArrayKey<4>>(rt.alloc(), &JOINED_WITH_A_LEAF));
 }
 
+const FIVE_NODES: [Row<'static>; 4] = [
+    (Ask::Insert("ab\0", 1), Want::None),
+    (Ask::Insert("abc\0", 2), Want::None),
+    (Ask::Insert("dog\0", 3), Want::None),
+    (Ask::Stats, Want::Counts([3, 3, 2, 3], &[(4, 2, 4)])),
+];
+
+const FOUR_NODES: [Row<'static>; 4] = [
+    (Ask::Insert("abc\0", 20), Want::None),
+    (Ask::Insert("dog\0", 30), Want::None),
+    (Ask::Insert("zzz\0", 40), Want::None),
+    (Ask::Stats, Want::Counts([3, 3, 1, 2], &[(4, 1, 3)])),
+];
+
+#[test]
+fn five_and_four_nodes_stand(rt: HostRuntime) {
+    went_well(&rt, plays::<ArrayKey<16>>(rt.alloc(), &FIVE_NODES));
+    went_well(&rt, plays::<ArrayKey<16>>(rt.alloc(), &FOUR_NODES));
+}
+
 const WIDENING: [Row<'static>; 14] = [
     (Ask::Fill(b"", 0, 4), Want::Is(true)),
     (Ask::Stats, Want::Counts([4, 4, 1, 2], &[(4, 1, 4)])),

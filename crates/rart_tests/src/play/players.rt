@@ -4,9 +4,9 @@
 use super::forms::{answer, call};
 use super::replies::{are_alike, are_same, is, is_refusal};
 use super::{Ask, Form, How, Row, Spelling, Tree};
-use crate::refusals::{part_ends, refuse, was_refused};
 use rart::script::{Call, Reply, run};
 use rart::{KeyTrait, TreeError};
+use rart_test_tools::refusals::{part_ends, refuse, was_refused};
 use std::alloc::{AllocError, Global};
 use std::process::Abort;
 

@@ -2,11 +2,11 @@
 
 use crate::play::Tree as PlayedTree;
 use crate::play::replies::{are_alike, have_same_statistics};
-use crate::refusals::{part_ends, refuse, was_refused};
 use rart::script::{Call, Reply, step};
 use rart::{
     AdaptiveRadixTree, ArrayKey, KeyTrait, Slot, SlotUpdate, TreeError, TryUpdateError, UpdateError,
 };
+use rart_test_tools::refusals::{part_ends, refuse, was_refused};
 use std::alloc::{AllocError, Global};
 use std::cell::Cell;
 use std::process::Abort;
