@@ -1,5 +1,7 @@
 //! How far a bulk load reads where memory is refused, and which index it asks for.
 ghost use Rattle.std.specs.Prelude.{◌≡◌, ◌<◌, length, slice_index_or};
+ghost use Rattle.std.specs.Iterator.{YieldsFirst, item_count};
+ghost use Rattle.rart_keys.specs.ArrayKeyBytes.{array_key_bytes};
 ghost use Rattle.rart_keys.specs.SortedMap.{IsAscending};
 ghost use Rattle.rart.specs.Steps.{pairs_in};
 
@@ -31,8 +33,33 @@ const ITEMS: Pairs<'static> = &[
     ("l", 12),
 ];
 
-// A load with a request refused: how many items were read, why it was refused, and whether a request was.
-fn read_with_refusal(alloc: Global, at: usize) -> (usize, Option<BulkError>, bool) {
+/// The items of a slice, which tell how many of them were read.
+#[derive(Drop)]
+struct ReadSlice<'a> {
+    items: &'a [(Key, u64)],
+    count: &'a Cell<usize>,
+}
+
+impl<'a> Iterator for ReadSlice<'a> {
+    type Item = (Key, u64);
+
+    ghost next_gives = { YieldsFirst (λ s. s.items.now) };
+
+    ghost remaining = { item_count (λ s. s.items.now) };
+
+    fn next(&mut self) -> Option<(Key, u64)> {
+        let (first, others) = self.items.split_first()?;
+        self.items = others;
+        self.count.set(self.count.get().wrapping_add(1));
+        Some(*first)
+    }
+}
+
+// How many items a load read, why it was refused, and whether a request was.
+type Ended = (usize, Option<BulkError>, bool);
+
+// A load with a request refused.
+fn read_with_refusal(alloc: Global, at: usize) -> Ended {
     let count = Cell::new(0_usize);
     let items = Read {
         items: ITEMS,
@@ -45,26 +72,89 @@ fn read_with_refusal(alloc: Global, at: usize) -> (usize, Option<BulkError>, boo
     (count.get(), loaded.err(), refused)
 }
 
-// The first request comes with the first item, and a later one never with an earlier item.
-fn reads_no_further(alloc: Global) -> bool {
+// A load of items that ascend, with a request refused.
+fn read_unique_with_refusal(alloc: Global, items: &[(Key, u64)], at: usize) -> Ended
+    requires { IsAscending (pairs_in array_key_bytes items.now) }
+{
+    ascending_pairs::<u64>();
+    let count = Cell::new(0_usize);
+    let read = ReadSlice {
+        items,
+        count: &count,
+    };
+    refuse(alloc, at);
+    let loaded = Tree::<Key>::bulk_load_sorted_unique(alloc, read);
+    let refused = was_refused(alloc);
+    (count.get(), loaded.err(), refused)
+}
+
+// Of a load of ITEMS, whose request of this number was to be refused, and which is to have read so many items at least: how many
+// it read, all of them where none was refused. The first request comes with the first item, and a later one never with an
+// earlier item.
+fn reads_no_further(ended: Ended, at: usize, least: usize) -> Option<usize> {
+    let (read, error, refused) = ended;
+    let well = if refused {
+        error == Some(BulkError::Memory) && least <= read && (at != 1 || read == 1)
+    } else {
+        error.is_none() && read == ITEMS.len()
+    };
+    well.then_some(read)
+}
+
+fn sorted_reads_no_further(alloc: Global) -> bool {
     let mut most = 1_usize;
     for at in 1..100_usize {
-        let (read, error, refused) = read_with_refusal(alloc, at);
-        if !refused {
+        let ended = read_with_refusal(alloc, at);
+        match reads_no_further(ended, at, most) {
+            Some(read) => most = read,
+            None => return false,
+        }
+        if !ended.2 {
             part_ends(alloc);
-            return error.is_none() && read == ITEMS.len();
+            return true;
         }
-        if error != Some(BulkError::Memory) || read < most || (at == 1 && read != 1) {
-            return false;
-        }
-        most = read;
     }
     false
 }
 
 #[test]
 fn loads_refused_in_turn_read_nothing_behind(rt: HostRuntime) {
-    assert!(rt; reads_no_further(rt.alloc()));
+    assert!(rt; sorted_reads_no_further(rt.alloc()));
+}
+
+// The first so many items.
+fn first_items(alloc: Global, many: usize) -> Result<Vec<(Key, u64)>, AllocError> {
+    let mut items = Vec::new(alloc);
+    for (text, value) in &ITEMS[..many.min(ITEMS.len())] {
+        items.push((key_of(text), *value))?;
+    }
+    Ok(items)
+}
+
+fn unique_reads_no_further(alloc: Global, items: &[(Key, u64)]) -> bool {
+    if !ascend(items) {
+        return false;
+    }
+    let mut most = 1_usize;
+    for at in 1..100_usize {
+        let ended = read_unique_with_refusal(alloc, items, at);
+        match reads_no_further(ended, at, most) {
+            Some(read) => most = read,
+            None => return false,
+        }
+        if !ended.2 {
+            part_ends(alloc);
+            return true;
+        }
+    }
+    false
+}
+
+#[test]
+fn unique_loads_refused_in_turn_read_nothing_behind(rt: HostRuntime) -> Result<(), Fail> {
+    let items = first_items(rt.alloc(), ITEMS.len())?;
+    assert!(rt; unique_reads_no_further(rt.alloc(), &items));
+    Ok(())
 }
 
 // Counts a call at the hexadecimal digit of its index.
@@ -106,10 +196,7 @@ fn load_counting<K: KeyTrait, W, V: Drop, F: FnMut(usize) -> V + Drop>(
 
 // How often each of the first so many keys was asked for, and how often its value was taken.
 fn calls_of(alloc: Global, many: usize) -> Result<Option<(usize, usize)>, AllocError> {
-    let mut items = Vec::new(alloc);
-    for (text, value) in &ITEMS[..many.min(ITEMS.len())] {
-        items.push((key_of(text), *value))?;
-    }
+    let items = first_items(alloc, many)?;
     if !ascend(&items) {
         return Ok(None);
     }
