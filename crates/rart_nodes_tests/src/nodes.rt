@@ -279,21 +279,26 @@ fn made(
     }
 }
 
+fn is_made_in_turn(rt: &impl Abort, alloc: Global, width: usize, room: usize) {
+    for at in 1..100_usize {
+        match made(rt, alloc, width, at) {
+            (Ok(seen), refused) => {
+                assert!(rt; !refused && seen == (0, room, false), "width {width}");
+                part_ends(alloc);
+                return;
+            }
+            (Err(error), refused) => {
+                assert!(rt; refused && error == TreeError::Memory, "width {width}");
+            }
+        }
+    }
+    assert!(rt; false, "refused for ever");
+}
+
 #[test]
 fn new_nodes_refused_in_turn(rt: HostRuntime) {
     for (width, room) in [(0_usize, 4_usize), (4, 4), (16, 16), (48, 48), (256, 256)] {
-        for at in 1..100_usize {
-            match made(&rt, rt.alloc(), width, at) {
-                (Ok(seen), refused) => {
-                    assert!(rt; !refused && seen == (0, room, false), "width {width}");
-                    break;
-                }
-                (Err(error), refused) => {
-                    assert!(rt; refused && error == TreeError::Memory, "width {width}");
-                }
-            }
-        }
-        part_ends(rt.alloc());
+        is_made_in_turn(&rt, rt.alloc(), width, room);
     }
 }
 
@@ -339,6 +344,16 @@ fn try_change(
     refused
 }
 
+fn is_changed_in_turn(rt: &impl Abort, alloc: Global, from: usize, grows: bool) {
+    for at in 1..100_usize {
+        if !change_refused(rt, alloc, from, at, grows) {
+            part_ends(alloc);
+            return;
+        }
+    }
+    assert!(rt; false, "refused for ever");
+}
+
 #[test]
 fn added_and_deleted_children_refused_in_turn(rt: HostRuntime) {
     for (count, grows) in [
@@ -350,11 +365,6 @@ fn added_and_deleted_children_refused_in_turn(rt: HostRuntime) {
         (17, false),
         (49, false),
     ] {
-        for at in 1..100_usize {
-            if !change_refused(&rt, rt.alloc(), count, at, grows) {
-                break;
-            }
-        }
-        part_ends(rt.alloc());
+        is_changed_in_turn(&rt, rt.alloc(), count, grows);
     }
 }

@@ -8,7 +8,7 @@ ghost use Rattle.rart.specs.Steps.{pairs_in};
 mod drops;
 pub mod rows;
 
-use crate::bulk::rows::{Pairs, Read, key_of};
+use crate::bulk::rows::{Pairs, key_of};
 use crate::loads::{Key, ascend};
 use crate::play::Tree;
 use rart::{AdaptiveRadixTree, BulkError, KeyTrait};
@@ -55,25 +55,20 @@ impl<'a> Iterator for ReadSlice<'a> {
     }
 }
 
-// How many items a load read, why it was refused, and whether a request was.
-type Ended = (usize, Option<BulkError>, bool);
-
-// A load with a request refused.
-fn read_with_refusal(alloc: Global, at: usize) -> Ended {
-    let count = Cell::new(0_usize);
-    let items = Read {
-        items: ITEMS,
-        at: 0,
-        count: &count,
-    };
-    refuse(alloc, at);
-    let loaded = Tree::<Key>::bulk_load_sorted(alloc, items);
-    let refused = was_refused(alloc);
-    (count.get(), loaded.err(), refused)
+/// A load that reads its items one by one.
+#[derive(Clone, Copy)]
+enum Form {
+    Sorted,
+    Unique,
 }
 
-// A load of items that ascend, with a request refused.
-fn read_unique_with_refusal(alloc: Global, items: &[(Key, u64)], at: usize) -> Ended
+// A load of items that ascend with a request refused: how many items were read, why it was refused, and whether a request was.
+fn read_with_refusal(
+    alloc: Global,
+    items: &[(Key, u64)],
+    form: Form,
+    at: usize,
+) -> (usize, Option<BulkError>, bool)
     requires { IsAscending (pairs_in array_key_bytes items.now) }
 {
     ascending_pairs::<u64>();
@@ -83,43 +78,31 @@ fn read_unique_with_refusal(alloc: Global, items: &[(Key, u64)], at: usize) -> E
         count: &count,
     };
     refuse(alloc, at);
-    let loaded = Tree::<Key>::bulk_load_sorted_unique(alloc, read);
+    let loaded = match form {
+        Form::Sorted => Tree::<Key>::bulk_load_sorted(alloc, read),
+        Form::Unique => Tree::<Key>::bulk_load_sorted_unique(alloc, read),
+    };
     let refused = was_refused(alloc);
     (count.get(), loaded.err(), refused)
 }
 
-// Of a load of ITEMS, whose request of this number was to be refused, and which is to have read so many items at least: how many
-// it read, all of them where none was refused. The first request comes with the first item, and a later one never with an
-// earlier item.
-fn reads_no_further(ended: Ended, at: usize, least: usize) -> Option<usize> {
-    let (read, error, refused) = ended;
-    let well = if refused {
-        error == Some(BulkError::Memory) && least <= read && (at != 1 || read == 1)
-    } else {
-        error.is_none() && read == ITEMS.len()
-    };
-    well.then_some(read)
-}
-
-fn sorted_reads_no_further(alloc: Global) -> bool {
+// The first request comes with the first item, and a later one never with an earlier item.
+fn reads_no_further(alloc: Global, items: &[(Key, u64)], form: Form) -> bool
+    requires { IsAscending (pairs_in array_key_bytes items.now) }
+{
     let mut most = 1_usize;
     for at in 1..100_usize {
-        let ended = read_with_refusal(alloc, at);
-        match reads_no_further(ended, at, most) {
-            Some(read) => most = read,
-            None => return false,
-        }
-        if !ended.2 {
+        let (read, error, refused) = read_with_refusal(alloc, items, form, at);
+        if !refused {
             part_ends(alloc);
-            return true;
+            return error.is_none() && read == items.len();
         }
+        if error != Some(BulkError::Memory) || read < most || (at == 1 && read != 1) {
+            return false;
+        }
+        most = read;
     }
     false
-}
-
-#[test]
-fn loads_refused_in_turn_read_nothing_behind(rt: HostRuntime) {
-    assert!(rt; sorted_reads_no_further(rt.alloc()));
 }
 
 // The first so many items.
@@ -131,29 +114,20 @@ fn first_items(alloc: Global, many: usize) -> Result<Vec<(Key, u64)>, AllocError
     Ok(items)
 }
 
-fn unique_reads_no_further(alloc: Global, items: &[(Key, u64)]) -> bool {
-    if !ascend(items) {
-        return false;
-    }
-    let mut most = 1_usize;
-    for at in 1..100_usize {
-        let ended = read_unique_with_refusal(alloc, items, at);
-        match reads_no_further(ended, at, most) {
-            Some(read) => most = read,
-            None => return false,
-        }
-        if !ended.2 {
-            part_ends(alloc);
-            return true;
-        }
-    }
-    false
+fn all_reads_no_further(alloc: Global, form: Form) -> Result<bool, AllocError> {
+    let items = first_items(alloc, ITEMS.len())?;
+    Ok(items.len() == ITEMS.len() && ascend(&items) && reads_no_further(alloc, &items, form))
+}
+
+#[test]
+fn loads_refused_in_turn_read_nothing_behind(rt: HostRuntime) -> Result<(), Fail> {
+    assert!(rt; all_reads_no_further(rt.alloc(), Form::Sorted)?);
+    Ok(())
 }
 
 #[test]
 fn unique_loads_refused_in_turn_read_nothing_behind(rt: HostRuntime) -> Result<(), Fail> {
-    let items = first_items(rt.alloc(), ITEMS.len())?;
-    assert!(rt; unique_reads_no_further(rt.alloc(), &items));
+    assert!(rt; all_reads_no_further(rt.alloc(), Form::Unique)?);
     Ok(())
 }
 

@@ -4,6 +4,7 @@ mod asks_for_nothing;
 mod drops;
 mod laws;
 mod migrations;
+mod names;
 mod probes;
 mod refused_in_turn;
 mod replies;

@@ -146,12 +146,13 @@ fn iterators_refused_in_turn(rt: HostRuntime) {
                 assert!(rt; !refused, "request {at}");
                 come_next(&rt, &mut all, &FIVE);
                 assert!(rt; all.next().is_none());
-                break;
+                return;
             }
             Err(error) => assert!(rt; refused && error == TreeError::Memory, "request {at}"),
         }
         gives_all(&rt, &tree, &FIVE);
     }
+    assert!(rt; false, "refused for ever");
 }
 
 #[test]
@@ -166,10 +167,11 @@ fn iterators_over_values_refused_in_turn(rt: HostRuntime) {
             Ok(values) => {
                 assert!(rt; !refused, "request {at}");
                 ascend(&rt, values, 5);
-                break;
+                return;
             }
             Err(error) => assert!(rt; refused && error == TreeError::Memory, "request {at}"),
         }
         gives_all(&rt, &tree, &FIVE);
     }
+    assert!(rt; false, "refused for ever");
 }

@@ -1,14 +1,8 @@
 //! Answers about a probe by the forms that take their key by value, and rows that other key types have.
 
-use crate::prefixes::{Key, Pair, Tree, filled, is_pair};
+use crate::prefixes::{Pair, THREE, Tree, filled, is_pair, key};
 use rart::{AdaptiveRadixTree, ArrayKey, KeyTrait, TreeError};
 use std::test::Fail;
-
-const NESTED: [Pair; 3] = [("", 0), ("a", 1), ("ab", 2)];
-
-fn key(bytes: &[u8]) -> Key {
-    Key::new_from_slice(&bytes[..bytes.len().min(16)])
-}
 
 fn longest_is(tree: &Tree, probe: &[u8], wanted: &Pair) -> bool {
     match tree.longest_prefix_match(key(probe)) {
@@ -36,7 +30,7 @@ fn first_below(tree: &Tree, prefix: &[u8]) -> Result<(Option<u64>, Option<u64>),
 
 #[test]
 fn keys_by_value_are_answered_as_those_by_reference(rt: HostRuntime) -> Result<(), Fail> {
-    let tree = filled(&rt, rt.alloc(), &NESTED);
+    let tree = filled(&rt, rt.alloc(), &THREE);
     assert!(rt; longest_is(&tree, b"abz", &("ab", 2)));
     assert!(rt; longest_is(&tree, b"b", &("", 0)));
     assert!(rt; tree.longest_prefix_value(key(b"az")) == Some(&1));

@@ -27,6 +27,11 @@ pub fn filled(rt: &impl Abort, alloc: Global, pairs: &[Pair]) -> Tree {
     tree
 }
 
+/// The key of these bytes, cut to sixteen.
+pub fn key(bytes: &[u8]) -> Key {
+    Key::new_from_slice(&bytes[..bytes.len().min(16)])
+}
+
 pub fn is_pair(found: &(Key, &u64), wanted: &Pair) -> bool {
     found.0.as_ref() == wanted.0.as_bytes() && *found.1 == wanted.1
 }

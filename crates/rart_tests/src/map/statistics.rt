@@ -95,19 +95,9 @@ fn a_joined_child_keeps_its_kind(rt: HostRuntime) {
     );
 }
 
-const JOINED_WITH_A_LEAF: [Row<'static>; 7] = [
-    (Ask::Insert("abcd", 1), Want::None),
-    (Ask::Insert("abce", 2), Want::None),
-    (Ask::Remove("abce"), Want::Some(2)),
-    (Ask::Stats, Want::Counts([1, 1, 0, 1], &[])),
-    (Ask::Get("abcd"), Want::Some(1)),
-    (Ask::Remove("abcd"), Want::Some(1)),
-    (Ask::Stats, Want::Counts([0, 0, 0, 0], &[])),
-];
-
 #[test]
 fn a_lone_child_takes_the_place_of_its_parent(rt: HostRuntime) {
-    went_well(&rt, plays::<ArrayKey<4>>(rt.alloc(), &JOINED_WITH_A_LEAF));
+    went_well(&rt, plays::<ArrayKey<4>>(rt.alloc(), &LONE_CHILD));
 }
 
 const FIVE_NODES: [Row<'static>; 4] = [
@@ -182,7 +172,7 @@ fn keys_kept_at_the_end_have_the_same_statistics(rt: HostRuntime) {
         &TWO_LEAVES,
         &THREE_LEVELS,
         &JOINED_WITH_A_WIDER_CHILD,
-        &JOINED_WITH_A_LEAF,
+        &LONE_CHILD,
         &WIDENING,
         &NARROWING,
     ] {

@@ -249,7 +249,10 @@ pub fn run_is_refused_in_turn<K: KeyTrait + Drop>(
     for at in 1..200_usize {
         match run_refused::<K>(alloc, rows, at)? {
             Some(true) => {}
-            Some(false) => return Ok(true),
+            Some(false) => {
+                part_ends(alloc);
+                return Ok(true);
+            }
             None => return Ok(false),
         }
     }

@@ -2,8 +2,8 @@
 
 use crate::joins::rows::{Given, ROWS, Triple};
 use crate::prefixes::{Key, Pair, Tree, filled};
-use rart::{KeyTrait, LendingKeyView};
 use rart::laws::intersections::intersections_are_symmetric;
+use rart::{KeyTrait, LendingKeyView};
 use rart_test_tools::refusals::{refuse, was_refused};
 use std::alloc::Global;
 use std::cell::Cell;

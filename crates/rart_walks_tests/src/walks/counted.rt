@@ -2,7 +2,7 @@
 
 ghost use Rattle.std.specs.Prelude.{◌≤◌, length};
 
-use crate::prefixes::{Key, Pair, Tree, filled, is_pair};
+use crate::prefixes::{Key, Pair, THREE, Tree, filled, is_pair};
 use crate::views::{Row, TREE_A, next_row};
 use crate::visits::{OF_THREE, with_match};
 use rart::{KeyTrait, LendingKeyView, Seen, TreeError, Visits};
@@ -12,8 +12,6 @@ use std::ops::Bound;
 fn seen(tree: &Tree) -> Seen<'_, Key, u64, Visits> {
     tree.seen()
 }
-
-const THREE: [Pair; 3] = [("", 0), ("a", 1), ("ab", 2)];
 
 fn longest_is(tree: &Tree, probe: &[u8], wanted: &Pair) -> bool
     requires { length probe.now ≤ 16 }

@@ -1,6 +1,6 @@
 //! The laws of answers about a probe, of walks below a prefix, and of views, called on trees that aren't empty.
 
-use crate::prefixes::{Key, Pair, Tree, filled, is_pair};
+use crate::prefixes::{Key, Pair, Tree, filled, is_pair, key};
 use rart::laws::probes::{
     comparisons_agree, key_of_a_view, longest_is_the_last_match, prefix_iter_filters_iter,
 };
@@ -10,10 +10,6 @@ use std::cell::Cell;
 use std::cmp::Ordering;
 
 const PAIRS: [Pair; 4] = [("", 0), ("ab", 1), ("abcd", 2), ("b", 3)];
-
-fn key(bytes: &[u8]) -> Key {
-    Key::new_from_slice(&bytes[..bytes.len().min(16)])
-}
 
 // The values of all pairs and of those below the prefix, as digits behind a first 1.
 fn walked(tree: &Tree, prefix: &[u8]) -> Option<(u64, u64)> {

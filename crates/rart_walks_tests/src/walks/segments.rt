@@ -1,7 +1,7 @@
 //! Views of three and more segments: a key is cut at each node above its own.
 
-use crate::prefixes::{Key, Pair, Tree, filled};
-use rart::{KeyTrait, LendingKeyView};
+use crate::prefixes::{Pair, Tree, filled, key};
+use rart::LendingKeyView;
 use std::cell::Cell;
 
 // "abcd" and "abce" part below "abc", "abcd" stands above "abcdef", and "abcdeg" parts from that below "abcde".
@@ -68,7 +68,7 @@ fn are_cut(tree: &Tree) -> bool {
 fn cut_below(tree: &Tree) -> usize {
     let seen = Cell::new(2_usize);
     let ended = tree.prefix_for_each_view_k(
-        &Key::new_from_slice(b"abcde"),
+        &key(b"abcde"),
         |view: LendingKeyView<'_, '_>, value: &u64| {
             seen.set(next_row(seen.get(), view, *value));
         },
@@ -83,7 +83,7 @@ fn cut_below(tree: &Tree) -> usize {
 fn longest_is_cut(tree: &Tree, probe: &[u8], row: usize) -> bool {
     let well = Cell::new(false);
     let shown = tree.with_longest_prefix_match_view_k(
-        &Key::new_from_slice(&probe[..probe.len().min(16)]),
+        &key(probe),
         |view: LendingKeyView<'_, '_>, value: &u64| {
             well.set(next_row(row, view, *value) == row.wrapping_add(1));
         },

@@ -1,25 +1,16 @@
 //! Values that count their drops, through updates: what a callback writes over, what is removed, replaced or cloned, and what it
 //! offers, each dropped once.
 
+use crate::play::Then;
 use rart::{AdaptiveRadixTree, ArrayKey, KeyTrait, Slot, SlotUpdate, TryUpdateError, UpdateError};
 use rart_test_tools::counted::Counted;
-use rart_test_tools::refusals::{part_ends, refuse, was_refused};
+use rart_test_tools::refusals::{is_swept, refuse, was_refused};
 use std::alloc::Global;
 use std::cell::Cell;
 
 type Key = ArrayKey<4>;
 
 type Tree<'a> = AdaptiveRadixTree<Key, Counted<'a>>;
-
-/// What the callback asks for.
-#[derive(Clone, Copy)]
-enum Ask {
-    Keep,
-    Remove,
-    Insert(u8),
-    /// The callback of a `try_update` fails.
-    Fail,
-}
 
 #[derive(Clone, Copy, PartialEq, Eq)]
 enum Answer {
@@ -48,15 +39,20 @@ fn filled<'a>(alloc: Global, drops: &'a Cell<usize>, count: u8) -> Tree<'a> {
     tree
 }
 
-fn update<'a>(tree: &mut Tree<'a>, byte: u8, ask: Ask, drops: &'a Cell<usize>) -> Answer {
+// The value of this number that a callback offers.
+fn offered(number: u64, drops: &Cell<usize>) -> Counted<'_> {
+    Counted((number % 256) as u8, drops)
+}
+
+fn update<'a>(tree: &mut Tree<'a>, byte: u8, then: Then, drops: &'a Cell<usize>) -> Answer {
     let answer = tree.update(key(byte), |slot| {
         if let Slot::Occupied(value) = slot {
             *value = Counted(WRITTEN, drops);
         }
-        match ask {
-            Ask::Insert(number) => SlotUpdate::Insert(Counted(number, drops)),
-            Ask::Remove => SlotUpdate::Remove,
-            Ask::Keep | Ask::Fail => SlotUpdate::Keep,
+        match then {
+            Then::Insert(number) => SlotUpdate::Insert(offered(number, drops)),
+            Then::Remove => SlotUpdate::Remove,
+            Then::Keep | Then::Fail => SlotUpdate::Keep,
         }
     });
     match answer {
@@ -66,16 +62,16 @@ fn update<'a>(tree: &mut Tree<'a>, byte: u8, ask: Ask, drops: &'a Cell<usize>) -
     }
 }
 
-fn try_update<'a>(tree: &mut Tree<'a>, byte: u8, ask: Ask, drops: &'a Cell<usize>) -> Answer {
+fn try_update<'a>(tree: &mut Tree<'a>, byte: u8, then: Then, drops: &'a Cell<usize>) -> Answer {
     let answer = tree.try_update(key(byte), |slot| {
         if let Slot::Occupied(value) = slot {
             *value = Counted(WRITTEN, drops);
         }
-        match ask {
-            Ask::Insert(number) => Ok(SlotUpdate::Insert(Counted(number, drops))),
-            Ask::Remove => Ok(SlotUpdate::Remove),
-            Ask::Keep => Ok(SlotUpdate::Keep),
-            Ask::Fail => Err(()),
+        match then {
+            Then::Insert(number) => Ok(SlotUpdate::Insert(offered(number, drops))),
+            Then::Remove => Ok(SlotUpdate::Remove),
+            Then::Keep => Ok(SlotUpdate::Keep),
+            Then::Fail => Err(()),
         }
     });
     match answer {
@@ -91,13 +87,13 @@ fn updated<'a>(
     tree: &mut Tree<'a>,
     tries: bool,
     byte: u8,
-    ask: Ask,
+    then: Then,
     drops: &'a Cell<usize>,
 ) -> Answer {
     if tries {
-        try_update(tree, byte, ask, drops)
+        try_update(tree, byte, then, drops)
     } else {
-        update(tree, byte, ask, drops)
+        update(tree, byte, then, drops)
     }
 }
 
@@ -108,43 +104,51 @@ fn number_at(tree: &Tree<'_>, byte: u8) -> Option<u8> {
 
 // Whether by `try_update`; the byte; what is asked for; what is answered; the number that then stands there; how many values are
 // made on the way, and how many are dropped.
-type Row = (bool, u8, Ask, Answer, Option<u8>, usize, usize);
+type Row = (bool, u8, Then, Answer, Option<u8>, usize, usize);
 
 const UPDATES: [Row; 16] = [
     // the value that stands there is written over, and `try_update` drops its clone
-    (false, 0, Ask::Keep, Answer::Done(true), Some(WRITTEN), 1, 1),
-    (true, 1, Ask::Keep, Answer::Done(true), Some(WRITTEN), 2, 2),
-    (false, 9, Ask::Keep, Answer::Done(false), None, 0, 0),
-    (true, 9, Ask::Keep, Answer::Done(false), None, 0, 0),
+    (
+        false,
+        0,
+        Then::Keep,
+        Answer::Done(true),
+        Some(WRITTEN),
+        1,
+        1,
+    ),
+    (true, 1, Then::Keep, Answer::Done(true), Some(WRITTEN), 2, 2),
+    (false, 9, Then::Keep, Answer::Done(false), None, 0, 0),
+    (true, 9, Then::Keep, Answer::Done(false), None, 0, 0),
     // what was written is replaced
-    (false, 0, Ask::Insert(7), Answer::Done(true), Some(7), 2, 2),
-    (true, 1, Ask::Insert(8), Answer::Done(true), Some(8), 3, 3),
-    (false, 9, Ask::Insert(9), Answer::Done(true), Some(9), 1, 0),
+    (false, 0, Then::Insert(7), Answer::Done(true), Some(7), 2, 2),
+    (true, 1, Then::Insert(8), Answer::Done(true), Some(8), 3, 3),
+    (false, 9, Then::Insert(9), Answer::Done(true), Some(9), 1, 0),
     (
         true,
         10,
-        Ask::Insert(10),
+        Then::Insert(10),
         Answer::Done(true),
         Some(10),
         1,
         0,
     ),
     // what was written is dropped, and the clone stands there
-    (true, 2, Ask::Fail, Answer::Failed, Some(2), 2, 2),
-    (true, 11, Ask::Fail, Answer::Failed, None, 0, 0),
+    (true, 2, Then::Fail, Answer::Failed, Some(2), 2, 2),
+    (true, 11, Then::Fail, Answer::Failed, None, 0, 0),
     // what was written is removed
-    (false, 0, Ask::Remove, Answer::Done(true), None, 1, 2),
-    (true, 1, Ask::Remove, Answer::Done(true), None, 2, 3),
-    (false, 9, Ask::Remove, Answer::Done(true), None, 1, 2),
-    (true, 10, Ask::Remove, Answer::Done(true), None, 2, 3),
-    (false, 0, Ask::Remove, Answer::Done(false), None, 0, 0),
-    (true, 1, Ask::Remove, Answer::Done(false), None, 0, 0),
+    (false, 0, Then::Remove, Answer::Done(true), None, 1, 2),
+    (true, 1, Then::Remove, Answer::Done(true), None, 2, 3),
+    (false, 9, Then::Remove, Answer::Done(true), None, 1, 2),
+    (true, 10, Then::Remove, Answer::Done(true), None, 2, 3),
+    (false, 0, Then::Remove, Answer::Done(false), None, 0, 0),
+    (true, 1, Then::Remove, Answer::Done(false), None, 0, 0),
 ];
 
 fn goes_well<'a>(tree: &mut Tree<'a>, row: &Row, drops: &'a Cell<usize>) -> bool {
-    let (tries, byte, ask, wanted, number, _made, dropped) = *row;
+    let (tries, byte, then, wanted, number, _made, dropped) = *row;
     let before = drops.get();
-    let answered = updated(tree, tries, byte, ask, drops);
+    let answered = updated(tree, tries, byte, then, drops);
     answered == wanted
         && number_at(tree, byte) == number
         && drops.get() == before.wrapping_add(dropped)
@@ -179,22 +183,22 @@ type Sweep = (u8, Row, (Answer, Option<u8>, usize));
 const REFUSED: [Sweep; 4] = [
     (
         4,
-        (false, 4, Ask::Insert(7), Answer::Done(true), Some(7), 1, 0),
+        (false, 4, Then::Insert(7), Answer::Done(true), Some(7), 1, 0),
         (Answer::Back(7), None, 1),
     ),
     (
         4,
-        (true, 4, Ask::Insert(7), Answer::Done(true), Some(7), 1, 0),
+        (true, 4, Then::Insert(7), Answer::Done(true), Some(7), 1, 0),
         (Answer::Back(7), None, 1),
     ),
     (
         5,
-        (false, 2, Ask::Remove, Answer::Done(true), None, 1, 2),
+        (false, 2, Then::Remove, Answer::Done(true), None, 1, 2),
         (Answer::NotRemoved, Some(WRITTEN), 1),
     ),
     (
         5,
-        (true, 2, Ask::Remove, Answer::Done(true), None, 2, 3),
+        (true, 2, Then::Remove, Answer::Done(true), None, 2, 3),
         (Answer::NotRemoved, Some(2), 2),
     ),
 ];
@@ -202,11 +206,11 @@ const REFUSED: [Sweep; 4] = [
 // The update with a request refused, and whether one was; None where something else went wrong.
 fn refused_once(alloc: Global, sweep: &Sweep, at: usize) -> Option<bool> {
     let (count, row, (refusal, kept, early)) = *sweep;
-    let (tries, byte, ask, wanted, number, made, dropped) = row;
+    let (tries, byte, then, wanted, number, made, dropped) = row;
     let drops = Cell::new(0_usize);
     let mut tree = filled(alloc, &drops, count);
     refuse(alloc, at);
-    let answered = updated(&mut tree, tries, byte, ask, &drops);
+    let answered = updated(&mut tree, tries, byte, then, &drops);
     let refused = was_refused(alloc);
     let found = (answered, number_at(&tree, byte), drops.get());
     drop(tree);
@@ -218,25 +222,13 @@ fn refused_once(alloc: Global, sweep: &Sweep, at: usize) -> Option<bool> {
     (well && drops.get() == usize::from(count).wrapping_add(made)).then_some(refused)
 }
 
-fn is_swept(alloc: Global, sweep: &Sweep) -> bool {
-    for at in 1..100_usize {
-        match refused_once(alloc, sweep, at) {
-            Some(true) => {}
-            Some(false) => {
-                part_ends(alloc);
-                return true;
-            }
-            None => return false,
-        }
-    }
-    false
-}
-
 #[test]
 fn updates_refused_in_turn_drop_each_value_once(rt: HostRuntime) {
     let mut number = 0_usize;
     for sweep in &REFUSED {
-        assert!(rt; is_swept(rt.alloc(), sweep), "row {number}");
+        let alloc = rt.alloc();
+        let swept = is_swept(alloc, |at| refused_once(alloc, sweep, at));
+        assert!(rt; swept, "row {number}");
         number = number.wrapping_add(1);
     }
 }

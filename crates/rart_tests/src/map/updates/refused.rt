@@ -121,6 +121,9 @@ fn goes_well(alloc: Global, row: &Row, by_value: bool) -> bool {
     let (count, _tries, byte, ask, kept, after) = *row;
     let mut tree = filled(alloc, count);
     let mut before = filled(alloc, count);
+    if before.len() != usize::from(count) {
+        return false;
+    }
     for at in 1..100_usize {
         refuse(alloc, at);
         let reply = answer(alloc, &mut tree, row, by_value);

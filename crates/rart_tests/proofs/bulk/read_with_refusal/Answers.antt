@@ -1,7 +1,6 @@
-use Rattle.std.proofs.Common.{◌∙◌}
 use Rattle.rart_keys.specs.ArrayKeyBytes.{array_key_bytes}
 use Rattle.rart_tests.proofs.LoadLemmas.{slice-ascends}
-use Rattle.rart_tests.proofs.bulk.read_unique_with_refusal.Goals as goal
+use Rattle.rart_tests.proofs.bulk.read_with_refusal.Goals as goal
 
 pub bulk_load_sorted_unique-requires : goal.bulk_load_sorted_unique-requires
 bulk_load_sorted_unique-requires c s given =
