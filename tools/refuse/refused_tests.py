@@ -3,12 +3,14 @@
 
 usage: refused_tests.py PASSED FAILED
 
-After the gate, each test program crates/*/out/*_tests has the tests. Two kinds, told by a word in their names, speak to the
-library by messages; each runs here in a process of its own with the library preloaded, and passes where it ends with status 0
-and, of those with
+After the gate, each test program crates/*/out/*_tests has the tests of its crate. Two kinds, told by a word in their names, speak
+to the library by messages; each runs here in a process of its own with the library preloaded, and passes where it ends with status
+0 and, of those with
 
   refused_in_turn            which have one request after the other refused, a request was really refused in each part;
   ask_for_nothing, asks_...  which say so of the calls in them, a message came and no request was refused.
+
+Such a test of the sources that is in no program fails: its crate wasn't built, or not with its tests.
 
 Then the program crates/rart_script/out/rart_script runs from outside, by refused_program.
 
@@ -30,6 +32,7 @@ TOP = pathlib.Path(__file__).resolve().parents[2]
 
 SWEEP = re.compile(r"refused_in_turn")
 QUIET = re.compile(r"asks?_for_nothing")
+IN_SOURCE = re.compile(r"^\s*#\[test\]\s+fn (\w+)", re.M)
 
 
 def compiler():
@@ -57,6 +60,16 @@ def tests():
         for test in re.findall(r"^(\S+): test$", listed, re.M):
             if SWEEP.search(test) or QUIET.search(test):
                 yield program, test
+
+
+def missing(found):
+    """Each test of both kinds that stands in a crate's sources and in no program of that crate."""
+    for crate in sorted(TOP.glob("crates/*")):
+        ran = {test.split("::")[-1] for program, test in found if program.parents[1] == crate}
+        for source in sorted(crate.glob("src/**/*.rt")):
+            for test in IN_SOURCE.findall(source.read_text()):
+                if (SWEEP.search(test) or QUIET.search(test)) and test not in ran:
+                    yield f"{crate.name} {test}"
 
 
 def run(program, test, library):
@@ -105,6 +118,9 @@ def main():
                 failed += 1
             else:
                 passed += 1
+    for name in missing(found):
+        print(f"refused: {name}: FAILED: it is in no test program")
+        failed += 1
     for kind in (SWEEP, QUIET):
         if not any(kind.search(test) for _, test in found):
             print(f"refused: no test named {kind.pattern}")

@@ -1,9 +1,10 @@
 -- Items that are tested to ascend, as the bulk loads ask them.
 use Rattle.std.proofs.Common.{◌≡◌, ℕ, drop, take, ◌+◌, ◌<◌, zero, suc, List, [], ◌∷◌, ◌++◌, length, get_or, map, reverse, refl, sym, ap, ◌∙◌, arith}
-use Rattle.std.specs.Iterator.{HoldsAlong}
+use Rattle.std.specs.Iterator.{HoldsAlong, YieldsFirst}
 use Rattle.std.specs.Vec.Iter.{into_iter_items, into_iter_len, into_iter_steps}
 use Rattle.std.proofs.iter.Yields.{gives_along}
 use Rattle.std.proofs.lemmas.Iterator.Adapters.{YieldsList-from_vec}
+use Rattle.std.proofs.lemmas.Iterator.Consumers.{YieldsList-from_first}
 use Rattle.std.proofs.lemmas.List.{map-append, map-id, take-append-drop}
 use Rattle.std.specs.List.Sorted.{IsPermutation}
 use Rattle.std.proofs.lemmas.Grind.{reverse_onto}
@@ -33,6 +34,12 @@ module _ {K V : Type 0} (bytes : K → List ℕ) where
   vec-ascends begins s items e l up =
       gives_along into_iter_steps (λ y. y) (λ xs. IsAscending (pairs_in bytes xs)) items s (YieldsList-from_vec items e l).runs
       (λ seen more q. let parts : pairs_in bytes items ≡ pairs_in bytes seen ++ pairs_in bytes more = ap (pairs_in bytes) (q ∙ ap (λ z. z ++ more) (map-id seen)) ∙ map-append (λ p. (bytes p.0, p.1)) seen more in
+      begins (pairs_in bytes seen) (pairs_in bytes more) (rw parts at up))
+
+  pub slice-ascends : {S : Type 0} (rest : S → List (K × V)) → ((es more : List (List ℕ × V)) → IsAscending (es ++ more) → IsAscending es) → (s : S) → IsAscending (pairs_in bytes (rest s)) → HoldsAlong (YieldsFirst rest) s (λ xs. IsAscending (pairs_in bytes xs))
+  slice-ascends rest begins s up =
+      gives_along (YieldsFirst rest) (λ y. y) (λ xs. IsAscending (pairs_in bytes xs)) (rest s) s (YieldsList-from_first (λ x. x) rest (rest s) refl).runs
+      (λ seen more q. let parts : pairs_in bytes (rest s) ≡ pairs_in bytes seen ++ pairs_in bytes more = ap (pairs_in bytes) (q ∙ ap (λ z. z ++ more) (map-id seen)) ∙ map-append (λ p. (bytes p.0, p.1)) seen more in
       begins (pairs_in bytes seen) (pairs_in bytes more) (rw parts at up))
 
   pub below-each : ((es : List (List ℕ × V)) (i j : ℕ) → IsAscending es → i < j → j < length es → IsBelow (get_or (keys_of es) i []) (get_or (keys_of es) j [])) → (items : List (K × V)) (i j : ℕ) (k l : K) → ((d : K × V) → k ≡ (get_or items i d).0) → ((d : K × V) → l ≡ (get_or items j d).0)

@@ -1,17 +1,19 @@
 //! How far a bulk load reads where memory is refused, and which index it asks for.
 ghost use Rattle.std.specs.Prelude.{◌≡◌, ◌<◌, length, slice_index_or};
+ghost use Rattle.std.specs.Iterator.{YieldsFirst, item_count};
+ghost use Rattle.rart_keys.specs.ArrayKeyBytes.{array_key_bytes};
 ghost use Rattle.rart_keys.specs.SortedMap.{IsAscending};
 ghost use Rattle.rart.specs.Steps.{pairs_in};
 
 mod drops;
 pub mod rows;
 
-use crate::bulk::rows::{Pairs, Read, key_of};
+use crate::bulk::rows::{Pairs, key_of};
 use crate::loads::{Key, ascend};
 use crate::play::Tree;
-use crate::refusals::{part_ends, refuse, was_refused};
 use rart::{AdaptiveRadixTree, BulkError, KeyTrait};
 use rart_keys::laws::bulk_lists::ascending_pairs;
+use rart_test_tools::refusals::{part_ends, refuse, was_refused};
 use std::alloc::{AllocError, Global};
 use std::cell::Cell;
 use std::test::Fail;
@@ -31,28 +33,69 @@ const ITEMS: Pairs<'static> = &[
     ("l", 12),
 ];
 
-// A load with a request refused: how many items were read, why it was refused, and whether a request was.
-fn read_with_refusal(alloc: Global, at: usize) -> (usize, Option<BulkError>, bool) {
+/// The items of a slice, which tell how many of them were read.
+#[derive(Drop)]
+struct ReadSlice<'a> {
+    items: &'a [(Key, u64)],
+    count: &'a Cell<usize>,
+}
+
+impl<'a> Iterator for ReadSlice<'a> {
+    type Item = (Key, u64);
+
+    ghost next_gives = { YieldsFirst (λ s. s.items.now) };
+
+    ghost remaining = { item_count (λ s. s.items.now) };
+
+    fn next(&mut self) -> Option<(Key, u64)> {
+        let (first, others) = self.items.split_first()?;
+        self.items = others;
+        self.count.set(self.count.get().wrapping_add(1));
+        Some(*first)
+    }
+}
+
+/// A load that reads its items one by one.
+#[derive(Clone, Copy)]
+enum Form {
+    Sorted,
+    Unique,
+}
+
+// A load of items that ascend with a request refused: how many items were read, why it was refused, and whether a request was.
+fn read_with_refusal(
+    alloc: Global,
+    items: &[(Key, u64)],
+    form: Form,
+    at: usize,
+) -> (usize, Option<BulkError>, bool)
+    requires { IsAscending (pairs_in array_key_bytes items.now) }
+{
+    ascending_pairs::<u64>();
     let count = Cell::new(0_usize);
-    let items = Read {
-        items: ITEMS,
-        at: 0,
+    let read = ReadSlice {
+        items,
         count: &count,
     };
     refuse(alloc, at);
-    let loaded = Tree::<Key>::bulk_load_sorted(alloc, items);
+    let loaded = match form {
+        Form::Sorted => Tree::<Key>::bulk_load_sorted(alloc, read),
+        Form::Unique => Tree::<Key>::bulk_load_sorted_unique(alloc, read),
+    };
     let refused = was_refused(alloc);
     (count.get(), loaded.err(), refused)
 }
 
 // The first request comes with the first item, and a later one never with an earlier item.
-fn reads_no_further(alloc: Global) -> bool {
+fn reads_no_further(alloc: Global, items: &[(Key, u64)], form: Form) -> bool
+    requires { IsAscending (pairs_in array_key_bytes items.now) }
+{
     let mut most = 1_usize;
     for at in 1..100_usize {
-        let (read, error, refused) = read_with_refusal(alloc, at);
+        let (read, error, refused) = read_with_refusal(alloc, items, form, at);
         if !refused {
             part_ends(alloc);
-            return error.is_none() && read == ITEMS.len();
+            return error.is_none() && read == items.len();
         }
         if error != Some(BulkError::Memory) || read < most || (at == 1 && read != 1) {
             return false;
@@ -62,9 +105,30 @@ fn reads_no_further(alloc: Global) -> bool {
     false
 }
 
+// The first so many items.
+fn first_items(alloc: Global, many: usize) -> Result<Vec<(Key, u64)>, AllocError> {
+    let mut items = Vec::new(alloc);
+    for (text, value) in &ITEMS[..many.min(ITEMS.len())] {
+        items.push((key_of(text), *value))?;
+    }
+    Ok(items)
+}
+
+fn all_reads_no_further(alloc: Global, form: Form) -> Result<bool, AllocError> {
+    let items = first_items(alloc, ITEMS.len())?;
+    Ok(items.len() == ITEMS.len() && ascend(&items) && reads_no_further(alloc, &items, form))
+}
+
 #[test]
-fn loads_refused_in_turn_read_nothing_behind(rt: HostRuntime) {
-    assert!(rt; reads_no_further(rt.alloc()));
+fn loads_refused_in_turn_read_nothing_behind(rt: HostRuntime) -> Result<(), Fail> {
+    assert!(rt; all_reads_no_further(rt.alloc(), Form::Sorted)?);
+    Ok(())
+}
+
+#[test]
+fn unique_loads_refused_in_turn_read_nothing_behind(rt: HostRuntime) -> Result<(), Fail> {
+    assert!(rt; all_reads_no_further(rt.alloc(), Form::Unique)?);
+    Ok(())
 }
 
 // Counts a call at the hexadecimal digit of its index.
@@ -106,10 +170,7 @@ fn load_counting<K: KeyTrait, W, V: Drop, F: FnMut(usize) -> V + Drop>(
 
 // How often each of the first so many keys was asked for, and how often its value was taken.
 fn calls_of(alloc: Global, many: usize) -> Result<Option<(usize, usize)>, AllocError> {
-    let mut items = Vec::new(alloc);
-    for (text, value) in &ITEMS[..many.min(ITEMS.len())] {
-        items.push((key_of(text), *value))?;
-    }
+    let items = first_items(alloc, many)?;
     if !ascend(&items) {
         return Ok(None);
     }

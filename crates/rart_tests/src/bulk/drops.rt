@@ -2,9 +2,9 @@
 //! drops each.
 
 use crate::bulk::rows::key_of;
-use crate::counted::Counted;
 use crate::loads::Key;
 use rart::{AdaptiveRadixTree, BulkError};
+use rart_test_tools::counted::Counted;
 use std::alloc::{AllocError, Global};
 use std::cell::Cell;
 use std::test::Fail;

@@ -1,11 +1,11 @@
 //! Bulk loads: what each form answers, how far it reads, and what is dropped where memory is refused.
 
-use crate::counted::Counted;
 use crate::loads::{Key, ascend, law_holds, load_by_index, load_unique, loads_alike};
 use crate::play::Tree;
 use crate::play::replies::is_counted;
-use crate::refusals::{part_ends, refuse, was_refused};
 use rart::{AdaptiveRadixTree, BulkError, KeyTrait, TreeStats};
+use rart_test_tools::counted::Counted;
+use rart_test_tools::refusals::{part_ends, refuse, was_refused};
 use std::alloc::{AllocError, Global};
 use std::cell::Cell;
 use std::test::Fail;

@@ -2,9 +2,9 @@
 
 use crate::loads::{Key, ascend, load_by_index, load_unique};
 use crate::play::{Ask, Row, Then, Want, plays_asking_for_nothing, went_well};
-use crate::refusals::{refuse, was_refused};
 use rart::script::run;
 use rart::{AdaptiveRadixTree, ArrPartial, ArrayKey, Iter, KeyTrait, ValuesIter};
+use rart_test_tools::refusals::{refuse, was_refused};
 use std::alloc::{AllocError, Global};
 use std::process::Abort;
 use std::test::Fail;

@@ -1,8 +1,8 @@
 //! Values that count when they are dropped: none is lost, and none is dropped twice.
 
-use crate::counted::Counted;
-use crate::refusals::{refuse, was_refused};
 use rart::{AdaptiveRadixTree, ArrayKey, KeyTrait, NotInserted, TreeError, TryInsertError};
+use rart_test_tools::counted::Counted;
+use rart_test_tools::refusals::{refuse, was_refused};
 use std::alloc::Global;
 use std::cell::Cell;
 use std::process::Abort;

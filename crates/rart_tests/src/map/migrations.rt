@@ -1,8 +1,8 @@
 //! Trees of keys that end in a zero byte, brought over to keys without it; also with each request for memory refused in turn.
 
 use crate::play::replies::is_counted;
-use crate::refusals::{part_ends, refuse, was_refused};
 use rart::{AdaptiveRadixTree, ArrayKey, KeyTrait, MigrateError, TreeStatsTrait};
+use rart_test_tools::refusals::{is_swept, refuse, was_refused};
 use std::alloc::Global;
 use std::process::Abort;
 use std::test::Fail;
@@ -146,23 +146,6 @@ fn open_is_refused_well(alloc: Global, old: &Tree, at: usize) -> Option<bool> {
     } else {
         None
     }
-}
-
-// Whether each request refused in turn goes well, up to the first that isn't made.
-fn is_swept<F: Fn(usize) -> Option<bool> + Drop>(alloc: Global, is_refused_well: F) -> bool
-    requires { (at : _) → F.pre is_refused_well at }
-{
-    for at in 1..100_usize {
-        match is_refused_well(at) {
-            Some(true) => {}
-            Some(false) => {
-                part_ends(alloc);
-                return true;
-            }
-            None => return false,
-        }
-    }
-    false
 }
 
 #[test]

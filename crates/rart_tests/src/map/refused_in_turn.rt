@@ -6,8 +6,8 @@ use crate::play::{
     Ask, Row, Then, Want, plays, plays_as_run, plays_refused_in_turn, run_is_refused_in_turn,
     went_well,
 };
-use crate::refusals::{refuse, was_refused};
 use rart::{AdaptiveRadixTree, ArrayKey, KeyTrait, Refused, TreeError, TreeStatsTrait};
+use rart_test_tools::refusals::{refuse, was_refused};
 use std::test::Fail;
 
 pub(super) const SPLITS: [Row<'static>; 8] = [

@@ -95,19 +95,29 @@ fn a_joined_child_keeps_its_kind(rt: HostRuntime) {
     );
 }
 
-const JOINED_WITH_A_LEAF: [Row<'static>; 7] = [
-    (Ask::Insert("abcd", 1), Want::None),
-    (Ask::Insert("abce", 2), Want::None),
-    (Ask::Remove("abce"), Want::Some(2)),
-    (Ask::Stats, Want::Counts([1, 1, 0, 1], &[])),
-    (Ask::Get("abcd"), Want::Some(1)),
-    (Ask::Remove("abcd"), Want::Some(1)),
-    (Ask::Stats, Want::Counts([0, 0, 0, 0], &[])),
+#[test]
+fn a_lone_child_takes_the_place_of_its_parent(rt: HostRuntime) {
+    went_well(&rt, plays::<ArrayKey<4>>(rt.alloc(), &LONE_CHILD));
+}
+
+const FIVE_NODES: [Row<'static>; 4] = [
+    (Ask::Insert("ab\0", 1), Want::None),
+    (Ask::Insert("abc\0", 2), Want::None),
+    (Ask::Insert("dog\0", 3), Want::None),
+    (Ask::Stats, Want::Counts([3, 3, 2, 3], &[(4, 2, 4)])),
+];
+
+const FOUR_NODES: [Row<'static>; 4] = [
+    (Ask::Insert("abc\0", 20), Want::None),
+    (Ask::Insert("dog\0", 30), Want::None),
+    (Ask::Insert("zzz\0", 40), Want::None),
+    (Ask::Stats, Want::Counts([3, 3, 1, 2], &[(4, 1, 3)])),
 ];
 
 #[test]
-fn a_lone_child_takes_the_place_of_its_parent(rt: HostRuntime) {
-    went_well(&rt, plays::<ArrayKey<4>>(rt.alloc(), &JOINED_WITH_A_LEAF));
+fn five_and_four_nodes_stand(rt: HostRuntime) {
+    went_well(&rt, plays::<ArrayKey<16>>(rt.alloc(), &FIVE_NODES));
+    went_well(&rt, plays::<ArrayKey<16>>(rt.alloc(), &FOUR_NODES));
 }
 
 const WIDENING: [Row<'static>; 14] = [
@@ -162,7 +172,7 @@ fn keys_kept_at_the_end_have_the_same_statistics(rt: HostRuntime) {
         &TWO_LEAVES,
         &THREE_LEVELS,
         &JOINED_WITH_A_WIDER_CHILD,
-        &JOINED_WITH_A_LEAF,
+        &LONE_CHILD,
         &WIDENING,
         &NARROWING,
     ] {

@@ -1,9 +1,11 @@
 //! Updates through a slot, as calls that are values: what is written where the slot is occupied, what is asked for then, the
 //! reply, and the value that the key has afterwards.
 
+mod drops;
 mod refused;
 
-use crate::play::went_well;
+use crate::play::forms::asked;
+use crate::play::{Then, went_well};
 use rart::script::{Call, Reply, step};
 use rart::{AdaptiveRadixTree, ArrayKey, KeyTrait, Slot, SlotUpdate, TryUpdateError};
 use std::alloc::Global;
@@ -13,38 +15,19 @@ type Key = ArrayKey<16>;
 
 type Tree = AdaptiveRadixTree<Key, u64>;
 
-/// What the callback asks for.
-#[derive(Clone, Copy)]
-enum Ask {
-    Keep,
-    Remove,
-    Insert(u64),
-    /// The callback of a `try_update` fails.
-    Fail,
-}
-
 // Whether by `try_update`; the key; what is written; what is asked for; what is replied, nothing where the callback fails; the
 // value afterwards.
 type Row = (
     bool,
     &'static str,
     Option<u64>,
-    Ask,
+    Then,
     Option<bool>,
     Option<u64>,
 );
 
-fn asked(ask: Ask) -> Result<SlotUpdate<u64>, ()> {
-    match ask {
-        Ask::Keep => Ok(SlotUpdate::Keep),
-        Ask::Remove => Ok(SlotUpdate::Remove),
-        Ask::Insert(value) => Ok(SlotUpdate::Insert(value)),
-        Ask::Fail => Err(()),
-    }
-}
-
-fn call(tries: bool, key: Key, written: Option<u64>, ask: Ask) -> Call<Key, u64> {
-    match asked(ask) {
+fn call(tries: bool, key: Key, written: Option<u64>, then: Then) -> Call<Key, u64> {
+    match asked(then) {
         Ok(update) => {
             if tries {
                 Call::TryUpdate(key, written, Ok(update))
@@ -67,11 +50,11 @@ fn is(reply: &Reply<Key, u64>, want: Option<bool>) -> bool {
 // The first row that goes another way, if one does.
 fn plays(rt: &impl Abort, alloc: Global, tree: &mut Tree, rows: &[Row]) -> Option<usize> {
     let mut row = 0_usize;
-    for (tries, text, written, ask, want, after) in rows {
+    for (tries, text, written, then, want, after) in rows {
         let bytes = text.as_bytes();
         assert!(rt; bytes.len() <= 16);
         let key = Key::new_from_slice(bytes);
-        let reply = step(alloc, tree, call(*tries, key, *written, *ask));
+        let reply = step(alloc, tree, call(*tries, key, *written, *then));
         if !is(&reply, *want) || tree.get_bytes(bytes).copied() != *after {
             return Some(row);
         }
@@ -81,23 +64,30 @@ fn plays(rt: &impl Abort, alloc: Global, tree: &mut Tree, rows: &[Row]) -> Optio
 }
 
 const OF_A_STORED_AND_A_NEW_KEY: [Row; 9] = [
-    (false, "a", None, Ask::Insert(1), Some(true), Some(1)),
-    (false, "a", Some(7), Ask::Keep, Some(true), Some(7)),
-    (false, "a", Some(8), Ask::Insert(9), Some(true), Some(9)),
-    (false, "z", Some(5), Ask::Insert(6), Some(true), Some(6)),
-    (false, "z", None, Ask::Remove, Some(true), None),
-    (false, "z", None, Ask::Remove, Some(false), None),
-    (true, "a", Some(3), Ask::Fail, None, Some(9)),
-    (true, "q", Some(3), Ask::Fail, None, None),
-    (true, "a", Some(3), Ask::Keep, Some(true), Some(3)),
+    (false, "a", None, Then::Insert(1), Some(true), Some(1)),
+    (false, "a", Some(7), Then::Keep, Some(true), Some(7)),
+    (false, "a", Some(8), Then::Insert(9), Some(true), Some(9)),
+    (false, "z", Some(5), Then::Insert(6), Some(true), Some(6)),
+    (false, "z", None, Then::Remove, Some(true), None),
+    (false, "z", None, Then::Remove, Some(false), None),
+    (true, "a", Some(3), Then::Fail, None, Some(9)),
+    (true, "q", Some(3), Then::Fail, None, None),
+    (true, "a", Some(3), Then::Keep, Some(true), Some(3)),
 ];
 
 const OF_A_BUCKET: [Row; 5] = [
-    (false, "bucket", None, Ask::Keep, Some(false), None),
-    (false, "bucket", None, Ask::Insert(10), Some(true), Some(10)),
-    (false, "bucket", Some(15), Ask::Keep, Some(true), Some(15)),
-    (false, "bucket", None, Ask::Remove, Some(true), None),
-    (true, "bucket", None, Ask::Remove, Some(false), None),
+    (false, "bucket", None, Then::Keep, Some(false), None),
+    (
+        false,
+        "bucket",
+        None,
+        Then::Insert(10),
+        Some(true),
+        Some(10),
+    ),
+    (false, "bucket", Some(15), Then::Keep, Some(true), Some(15)),
+    (false, "bucket", None, Then::Remove, Some(true), None),
+    (true, "bucket", None, Then::Remove, Some(false), None),
 ];
 
 #[test]

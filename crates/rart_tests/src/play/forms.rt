@@ -53,7 +53,8 @@ pub fn answer<K: KeyTrait + Drop>(
     })
 }
 
-fn asked(then: Then) -> Result<SlotUpdate<u64>, ()> {
+/// What a callback answers that asks for this.
+pub fn asked(then: Then) -> Result<SlotUpdate<u64>, ()> {
     match then {
         Then::Keep => Ok(SlotUpdate::Keep),
         Then::Remove => Ok(SlotUpdate::Remove),

@@ -4,9 +4,9 @@
 use super::forms::{answer, call};
 use super::replies::{are_alike, are_same, is, is_refusal};
 use super::{Ask, Form, How, Row, Spelling, Tree};
-use crate::refusals::{part_ends, refuse, was_refused};
 use rart::script::{Call, Reply, run};
 use rart::{KeyTrait, TreeError};
+use rart_test_tools::refusals::{part_ends, refuse, was_refused};
 use std::alloc::{AllocError, Global};
 use std::process::Abort;
 
@@ -249,7 +249,10 @@ pub fn run_is_refused_in_turn<K: KeyTrait + Drop>(
     for at in 1..200_usize {
         match run_refused::<K>(alloc, rows, at)? {
             Some(true) => {}
-            Some(false) => return Ok(true),
+            Some(false) => {
+                part_ends(alloc);
+                return Ok(true);
+            }
             None => return Ok(false),
         }
     }

@@ -2,11 +2,11 @@
 
 use crate::play::Tree as PlayedTree;
 use crate::play::replies::{are_alike, have_same_statistics};
-use crate::refusals::{part_ends, refuse, was_refused};
 use rart::script::{Call, Reply, step};
 use rart::{
     AdaptiveRadixTree, ArrayKey, KeyTrait, Slot, SlotUpdate, TreeError, TryUpdateError, UpdateError,
 };
+use rart_test_tools::refusals::{part_ends, refuse, was_refused};
 use std::alloc::{AllocError, Global};
 use std::cell::Cell;
 use std::process::Abort;
@@ -121,6 +121,9 @@ fn goes_well(alloc: Global, row: &Row, by_value: bool) -> bool {
     let (count, _tries, byte, ask, kept, after) = *row;
     let mut tree = filled(alloc, count);
     let mut before = filled(alloc, count);
+    if before.len() != usize::from(count) {
+        return false;
+    }
     for at in 1..100_usize {
         refuse(alloc, at);
         let reply = answer(alloc, &mut tree, row, by_value);

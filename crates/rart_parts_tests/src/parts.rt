@@ -1,0 +1,24 @@
+//! Tests of the parts that nodes stand on.
+
+mod arrays;
+mod conversions;
+mod key_search;
+mod mappings;
+mod sets;
+
+use rart_parts::TreeError;
+use std::test::Fail;
+
+#[test]
+fn errors_say_what_was_refused(rt: HostRuntime) -> Result<(), Fail> {
+    let alloc = rt.alloc();
+    assert_eq!(rt;
+        format!(in alloc; "{}", TreeError::Memory)?.as_str(),
+        "out of memory"
+    );
+    assert_eq!(rt;
+        format!(in alloc; "{}", TreeError::Full)?.as_str(),
+        "tree is full"
+    );
+    Ok(())
+}

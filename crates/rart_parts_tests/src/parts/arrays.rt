@@ -1,0 +1,349 @@
+//! Arrays of places, as rows of calls and wanted answers.
+
+use rart_parts::TreeError;
+use rart_parts::utils::bitarray::BitArray;
+use rart_parts::utils::bitset::{Bitset8, Bitset16, Bitset64, BitsetTrait};
+use rart_test_tools::counted::Counted;
+use rart_test_tools::refusals::{refuse, was_refused};
+use std::cell::Cell;
+use std::process::Abort;
+use std::test::Fail;
+
+/// A call of an array.
+#[derive(Clone, Copy)]
+enum Ask {
+    Push(u8),
+    Pop,
+    Set(usize, u8),
+    Update(usize, u8),
+    Erase(usize),
+    Get(usize),
+    /// Writes through the loan of `get_mut`: the old value.
+    Write(usize, u8),
+    /// Adds to each value through the loans of `iter_mut`: how many there are.
+    WriteAll(u8),
+    Last,
+    LastUsed,
+    FirstUsed,
+    FirstEmpty,
+    /// Whether there is a value at a place, as 1 or 0.
+    Check(usize),
+    IsEmpty,
+    Size,
+    Clear,
+}
+
+type Row = (Ask, Option<usize>);
+
+fn number(value: Option<u8>) -> Option<usize> {
+    Some(usize::from(value?))
+}
+
+fn write<const W: usize, B: BitsetTrait>(
+    rt: &impl Abort,
+    array: &mut BitArray<u8, W, B>,
+    position: usize,
+    value: u8,
+) -> Option<u8> {
+    assert!(rt; position < W);
+    let place = array.get_mut(position)?;
+    let old = *place;
+    *place = value;
+    Some(old)
+}
+
+fn write_all<const W: usize, B: BitsetTrait>(array: &mut BitArray<u8, W, B>, more: u8) -> usize {
+    let mut count = 0_usize;
+    for (_, value) in array.iter_mut() {
+        *value = value.wrapping_add(more);
+        count = count.wrapping_add(1);
+    }
+    count
+}
+
+fn change<const W: usize, B: BitsetTrait>(
+    rt: &impl Abort,
+    array: &mut BitArray<u8, W, B>,
+    ask: Ask,
+) -> Option<usize> {
+    match ask {
+        Ask::Push(value) => array.push(value),
+        Ask::Pop => number(array.pop()),
+        Ask::Set(position, value) => {
+            assert!(rt; position < W);
+            array.set(position, value);
+            None
+        }
+        Ask::Update(position, value) => {
+            assert!(rt; position < W);
+            number(array.update(position, value))
+        }
+        Ask::Erase(position) => {
+            assert!(rt; position < W);
+            number(array.erase(position))
+        }
+        Ask::Write(position, value) => number(write(rt, array, position, value)),
+        Ask::WriteAll(more) => Some(write_all(array, more)),
+        Ask::Clear => {
+            array.clear();
+            None
+        }
+        _ => look(rt, array, ask),
+    }
+}
+
+fn look<const W: usize, B: BitsetTrait>(
+    rt: &impl Abort,
+    array: &BitArray<u8, W, B>,
+    ask: Ask,
+) -> Option<usize> {
+    match ask {
+        Ask::Get(position) => {
+            assert!(rt; position < W);
+            number(array.get(position).copied())
+        }
+        Ask::Last => number(array.last().copied()),
+        Ask::LastUsed => array.last_used_pos(),
+        Ask::FirstUsed => array.first_used(),
+        Ask::FirstEmpty => array.first_empty(),
+        Ask::Check(position) => {
+            assert!(rt; position < W);
+            Some(usize::from(array.check(position)))
+        }
+        Ask::IsEmpty => Some(usize::from(array.is_empty())),
+        Ask::Size => Some(array.size()),
+        _ => panic!(rt; "the call changes the array"),
+    }
+}
+
+fn plays<const W: usize, B: BitsetTrait>(
+    rt: &impl Abort,
+    array: &mut BitArray<u8, W, B>,
+    rows: &[Row],
+) {
+    let mut row = 0_usize;
+    for (ask, want) in rows {
+        let found = change(rt, array, *ask);
+        assert!(rt; found == *want, "row {row}");
+        row = row.wrapping_add(1);
+    }
+}
+
+const FIRST_FREE_PLACE: [Row; 27] = [
+    (Ask::IsEmpty, Some(1)),
+    (Ask::Pop, None),
+    (Ask::Last, None),
+    (Ask::Push(123), Some(0)),
+    (Ask::Push(124), Some(1)),
+    (Ask::Push(55), Some(2)),
+    (Ask::Push(126), Some(3)),
+    (Ask::Pop, Some(126)),
+    (Ask::FirstEmpty, Some(3)),
+    (Ask::Erase(0), Some(123)),
+    (Ask::Erase(0), None),
+    (Ask::FirstEmpty, Some(0)),
+    (Ask::LastUsed, Some(2)),
+    (Ask::Size, Some(2)),
+    (Ask::Set(0, 126), None),
+    (Ask::Get(0), Some(126)),
+    (Ask::Update(0, 123), Some(126)),
+    (Ask::Write(0, 7), Some(123)),
+    (Ask::Get(0), Some(7)),
+    (Ask::Update(40, 9), None),
+    (Ask::Last, Some(9)),
+    (Ask::FirstUsed, Some(0)),
+    (Ask::Size, Some(4)),
+    (Ask::Clear, None),
+    (Ask::IsEmpty, Some(1)),
+    (Ask::Get(0), None),
+    (Ask::Push(1), Some(0)),
+];
+
+#[test]
+fn an_array_fills_its_first_free_place_and_asks_for_nothing(rt: HostRuntime) -> Result<(), Fail> {
+    let alloc = rt.alloc();
+    let mut array: BitArray<u8, 48, Bitset16<3>> = BitArray::new(alloc)?;
+    refuse(alloc, 1);
+    plays(&rt, &mut array, &FIRST_FREE_PLACE);
+    assert!(rt; !was_refused(alloc));
+    Ok(())
+}
+
+const FULL: [Row; 5] = [
+    (Ask::FirstEmpty, None),
+    (Ask::Push(1), None),
+    (Ask::Size, Some(48)),
+    (Ask::Erase(20), Some(9)),
+    (Ask::Push(1), Some(20)),
+];
+
+#[test]
+fn a_full_array_refuses_a_push(rt: HostRuntime) -> Result<(), Fail> {
+    let mut array: BitArray<u8, 48, Bitset64<1>> = BitArray::new(rt.alloc())?;
+    for position in 0..48_usize {
+        array.set(position, 9);
+    }
+    plays(&rt, &mut array, &FULL);
+    Ok(())
+}
+
+const WRITTEN_BY_WALKS: [Row; 28] = [
+    (Ask::WriteAll(1), Some(0)),
+    (Ask::IsEmpty, Some(1)),
+    (Ask::Set(0, 10), None),
+    (Ask::Set(8, 20), None),
+    (Ask::Set(12, 30), None),
+    (Ask::WriteAll(1), Some(3)),
+    (Ask::Get(0), Some(11)),
+    (Ask::Get(8), Some(21)),
+    (Ask::Get(12), Some(31)),
+    (Ask::Get(1), None),
+    (Ask::WriteAll(1), Some(3)),
+    (Ask::IsEmpty, Some(0)),
+    (Ask::Size, Some(3)),
+    (Ask::FirstUsed, Some(0)),
+    (Ask::LastUsed, Some(12)),
+    (Ask::FirstEmpty, Some(1)),
+    (Ask::Check(8), Some(1)),
+    (Ask::Check(9), Some(0)),
+    (Ask::Last, Some(32)),
+    (Ask::Push(50), Some(1)),
+    (Ask::Size, Some(4)),
+    (Ask::WriteAll(1), Some(4)),
+    (Ask::Erase(0), Some(13)),
+    (Ask::WriteAll(1), Some(3)),
+    (Ask::Pop, Some(34)),
+    (Ask::WriteAll(1), Some(2)),
+    (Ask::Update(1, 9), Some(53)),
+    (Ask::Size, Some(2)),
+];
+
+#[test]
+fn an_array_is_known_and_changed_after_each_walk_that_writes(rt: HostRuntime) -> Result<(), Fail> {
+    let mut array: BitArray<u8, 16, Bitset8<2>> = BitArray::new(rt.alloc())?;
+    plays(&rt, &mut array, &WRITTEN_BY_WALKS);
+    Ok(())
+}
+
+#[test]
+fn an_array_is_walked_from_both_ends(rt: HostRuntime) -> Result<(), Fail> {
+    let mut array: BitArray<u8, 48, Bitset64<1>> = BitArray::new(rt.alloc())?;
+    array.set(3, 1);
+    array.set(7, 2);
+    array.set(40, 3);
+    let mut keys = array.iter_keys();
+    assert_eq!(rt; keys.next(), Some(3));
+    assert_eq!(rt; keys.next_back(), Some(40));
+    assert_eq!(rt; keys.next(), Some(7));
+    assert!(rt; keys.next().is_none() && keys.next_back().is_none());
+    let mut entries = array.iter();
+    assert!(rt; entries.next_back() == Some((40, &3)));
+    assert!(rt; entries.next() == Some((3, &1)));
+    assert!(rt; entries.next_back() == Some((7, &2)));
+    assert!(rt; entries.next().is_none() && entries.next_back().is_none());
+    Ok(())
+}
+
+// Writes to an entry of a walk: its place and its old value.
+fn written(entry: Option<(usize, &mut u8)>, value: u8) -> Option<(usize, u8)> {
+    let (position, place) = entry?;
+    let old = *place;
+    *place = value;
+    Some((position, old))
+}
+
+#[test]
+fn values_are_changed_on_a_walk_from_both_ends(rt: HostRuntime) -> Result<(), Fail> {
+    let mut array: BitArray<u8, 48, Bitset64<1>> = BitArray::new(rt.alloc())?;
+    array.set(3, 1);
+    array.set(7, 2);
+    array.set(40, 3);
+    let mut walk = array.iter_mut();
+    assert_eq!(rt; written(walk.next(), 31), Some((3, 1)));
+    assert_eq!(rt; written(walk.next_back(), 33), Some((40, 3)));
+    assert_eq!(rt; written(walk.next(), 32), Some((7, 2)));
+    assert!(rt; walk.next().is_none() && walk.next_back().is_none());
+    assert!(rt; walk.next().is_none() && walk.next_back().is_none());
+    assert_eq!(rt; array.get(3).copied(), Some(31));
+    assert_eq!(rt; array.get(7).copied(), Some(32));
+    assert_eq!(rt; array.get(40).copied(), Some(33));
+    assert_eq!(rt; array.size(), 3);
+    Ok(())
+}
+
+type Counts<'a> = BitArray<Counted<'a>, 48, Bitset64<1>>;
+
+fn full<'a>(array: &mut Counts<'a>, drops: &'a Cell<usize>) {
+    for position in 0..48_usize {
+        array.set(position, Counted(1, drops));
+    }
+}
+
+#[test]
+fn a_value_put_over_another_drops_that_once(rt: HostRuntime) -> Result<(), Fail> {
+    let drops = Cell::new(0_usize);
+    let mut array: Counts<'_> = BitArray::new(rt.alloc())?;
+    full(&mut array, &drops);
+    assert_eq!(rt; drops.get(), 0);
+    array.set(3, Counted(2, &drops));
+    assert_eq!(rt; drops.get(), 1);
+    assert_eq!(rt; array.push(Counted(3, &drops)), None);
+    assert_eq!(rt; drops.get(), 2);
+    drop(array);
+    assert_eq!(rt; drops.get(), 50);
+    Ok(())
+}
+
+#[test]
+fn a_cleared_array_drops_each_value_once(rt: HostRuntime) -> Result<(), Fail> {
+    let drops = Cell::new(0_usize);
+    let mut array: Counts<'_> = BitArray::new(rt.alloc())?;
+    full(&mut array, &drops);
+    array.clear();
+    assert_eq!(rt; drops.get(), 48);
+    assert!(rt; array.is_empty());
+    array.clear();
+    assert_eq!(rt; drops.get(), 48);
+    assert_eq!(rt; array.push(Counted(3, &drops)), Some(0));
+    drop(array);
+    assert_eq!(rt; drops.get(), 49);
+    Ok(())
+}
+
+#[test]
+fn values_taken_out_of_an_array_are_handed_out(rt: HostRuntime) -> Result<(), Fail> {
+    let drops = Cell::new(0_usize);
+    let mut array: Counts<'_> = BitArray::new(rt.alloc())?;
+    full(&mut array, &drops);
+    let taken = (
+        array.pop(),
+        array.erase(5),
+        array.update(6, Counted(2, &drops)),
+    );
+    assert!(rt; taken.0.is_some() && taken.1.is_some() && taken.2.is_some());
+    assert_eq!(rt; drops.get(), 0);
+    drop(taken);
+    assert_eq!(rt; drops.get(), 3);
+    drop(array);
+    assert_eq!(rt; drops.get(), 49);
+    Ok(())
+}
+
+#[test]
+fn a_new_array_refused_in_turn(rt: HostRuntime) {
+    let alloc = rt.alloc();
+    for at in 1..100_usize {
+        refuse(alloc, at);
+        let answer: Result<BitArray<u8, 48, Bitset64<1>>, TreeError> = BitArray::new(alloc);
+        let refused = was_refused(alloc);
+        match answer {
+            Ok(mut array) => {
+                assert!(rt; !refused && array.is_empty(), "request {at}");
+                plays(&rt, &mut array, &FIRST_FREE_PLACE);
+                return;
+            }
+            Err(error) => assert!(rt; refused && error == TreeError::Memory, "request {at}"),
+        }
+    }
+    assert!(rt; false, "refused for ever");
+}

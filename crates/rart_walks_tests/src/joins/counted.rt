@@ -1,0 +1,73 @@
+//! The counted calls of intersections: each answers as the plain one does.
+
+use crate::joins::rows::{Given, ROWS, Triple};
+use crate::prefixes::{Key, Tree, filled};
+use rart::{KeyTrait, LendingKeyView, Seen, Visits};
+
+fn seen(tree: &Tree) -> Seen<'_, Key, u64, Visits> {
+    tree.seen()
+}
+
+fn counts_and_values(left: &Tree, right: &Tree, wanted: &[Triple]) -> bool {
+    let count = seen(left).intersect_count_counted(seen(right), &mut Visits::new());
+    let mut given = Given::nothing(wanted, false);
+    seen(left).intersect_values_with_counted(
+        seen(right),
+        |one: &u64, other: &u64| given.values(*one, *other),
+        &mut Visits::new(),
+    );
+    let mut lent = Given::nothing(wanted, false);
+    let mut give = |one: &u64, other: &u64| lent.values(*one, *other);
+    seen(left).intersect_values_with_by_ref_counted(seen(right), &mut give, &mut Visits::new());
+    count == wanted.len() && given.all() && lent.all()
+}
+
+fn keys(left: &Tree, right: &Tree, wanted: &[Triple]) -> bool {
+    let mut given = Given::nothing(wanted, false);
+    let answer = seen(left).intersect_with_counted(
+        seen(right),
+        |key: Key, one: &u64, other: &u64| given.pair(key.as_ref(), *one, *other),
+        &mut Visits::new(),
+    );
+    let mut lent = Given::nothing(wanted, false);
+    let mut give = |key: Key, one: &u64, other: &u64| lent.pair(key.as_ref(), *one, *other);
+    let by_ref = seen(left).intersect_with_by_ref_counted(
+        seen(right),
+        &mut give,
+        &mut Visits::new(),
+    );
+    answer.is_ok() && by_ref.is_ok() && given.all() && lent.all()
+}
+
+fn views(left: &Tree, right: &Tree, wanted: &[Triple]) -> bool {
+    let mut given = Given::nothing(wanted, false);
+    let answer = seen(left).intersect_lending_with_counted(
+        seen(right),
+        |key: LendingKeyView<'_, '_>, one: &u64, other: &u64| given.view(key, *one, *other),
+        &mut Visits::new(),
+    );
+    let mut lent = Given::nothing(wanted, false);
+    let mut give = |key: LendingKeyView<'_, '_>, one: &u64, other: &u64| {
+        lent.view(key, *one, *other);
+    };
+    let by_ref = seen(left).intersect_lending_with_by_ref_counted(
+        seen(right),
+        &mut give,
+        &mut Visits::new(),
+    );
+    answer.is_ok() && by_ref.is_ok() && given.all() && lent.all()
+}
+
+#[test]
+fn keys_of_both_trees_are_those_of_the_plain_calls(rt: HostRuntime) {
+    let mut at = 0_usize;
+    for row in &ROWS {
+        let left = filled(&rt, rt.alloc(), row.0);
+        let right = filled(&rt, rt.alloc(), row.1);
+        let well = counts_and_values(&left, &right, row.2)
+            && keys(&left, &right, row.2)
+            && views(&left, &right, row.2);
+        assert!(rt; well, "row {at}");
+        at = at.wrapping_add(1);
+    }
+}

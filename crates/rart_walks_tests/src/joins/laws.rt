@@ -1,0 +1,58 @@
+//! The law of intersections, called on each row; and intersections with an empty tree.
+
+use crate::joins::rows::{Given, ROWS, Triple};
+use crate::prefixes::{Key, Pair, Tree, filled};
+use rart::laws::intersections::intersections_are_symmetric;
+use rart::{KeyTrait, LendingKeyView};
+use rart_test_tools::refusals::{refuse, was_refused};
+use std::alloc::Global;
+use std::cell::Cell;
+
+// Whether the law's call gives what both trees have, and with swapped values once more.
+fn gives_both_ways(left: &Tree, right: &Tree, wanted: &[Triple]) -> bool {
+    let mut there = Given::nothing(wanted, false);
+    let mut back = Given::nothing(wanted, true);
+    let mut one_way = |key: Key, one: &u64, other: &u64| there.pair(key.as_ref(), *one, *other);
+    let mut other_way = |key: Key, one: &u64, other: &u64| back.pair(key.as_ref(), *one, *other);
+    let answer = intersections_are_symmetric(left, right, &mut one_way, &mut other_way);
+    answer.is_ok() && there.all() && back.all()
+}
+
+#[test]
+fn swapped_trees_give_swapped_values(rt: HostRuntime) {
+    let mut at = 0_usize;
+    for row in &ROWS {
+        let left = filled(&rt, rt.alloc(), row.0);
+        let right = filled(&rt, rt.alloc(), row.1);
+        let well = gives_both_ways(&left, &right, row.2);
+        assert!(rt; well, "row {at}");
+        at = at.wrapping_add(1);
+    }
+}
+
+const ENDED: [Pair; 3] = [("ab\0", 1), ("abc\0", 2), ("dog\0", 3)];
+
+// Whether intersections with an empty tree call nothing while the next request is refused.
+fn is_quiet(alloc: Global, one: &Tree, other: &Tree) -> bool {
+    let many = Cell::new(0_usize);
+    refuse(alloc, 1);
+    let keys = one.intersect_with(other, |_key: Key, _one: &u64, _other: &u64| {
+        many.set(many.get().wrapping_add(1));
+    });
+    let views = one.intersect_lending_with(
+        other,
+        |_key: LendingKeyView<'_, '_>, _one: &u64, _other: &u64| {
+            many.set(many.get().wrapping_add(1));
+        },
+    );
+    !was_refused(alloc) && keys == Ok(()) && views == Ok(()) && many.get() == 0
+}
+
+#[test]
+fn intersections_with_an_empty_tree_ask_for_nothing(rt: HostRuntime) {
+    let empty = filled(&rt, rt.alloc(), &[]);
+    let words = filled(&rt, rt.alloc(), &ENDED);
+    assert!(rt; is_quiet(rt.alloc(), &empty, &words));
+    assert!(rt; is_quiet(rt.alloc(), &words, &empty));
+    assert!(rt; is_quiet(rt.alloc(), &empty, &empty));
+}

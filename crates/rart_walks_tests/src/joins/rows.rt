@@ -1,0 +1,348 @@
+//! Intersections: the keys of two trees, with the values of both.
+
+use crate::prefixes::{Key, Pair, Tree, filled};
+use rart::{KeyTrait, LendingKeyView, TreeError, TreeStatsTrait};
+use rart_test_tools::refusals::{part_ends, refuse, was_refused};
+use std::alloc::Global;
+use std::process::Abort;
+
+// A key of both trees, with the value of the one and of the other.
+pub type Triple = (&'static str, u64, u64);
+
+// The pairs of two trees; and what both have.
+pub type Row = (&'static [Pair], &'static [Pair], &'static [Triple]);
+
+// What callbacks were given so far: how many, and whether all of it was wanted.
+#[derive(Drop)]
+pub struct Given<'a> {
+    wanted: &'a [Triple],
+    swapped: bool,
+    many: usize,
+    well: bool,
+}
+
+impl<'a> Given<'a> {
+    pub fn nothing(wanted: &'a [Triple], swapped: bool) -> Self {
+        Given {
+            wanted,
+            swapped,
+            many: 0,
+            well: true,
+        }
+    }
+
+    pub fn values(&mut self, left: u64, right: u64) {
+        let (one, other) = if self.swapped {
+            (right, left)
+        } else {
+            (left, right)
+        };
+        let as_wanted = match self.wanted.get(self.many) {
+            Some(triple) => triple.1 == one && triple.2 == other,
+            None => false,
+        };
+        self.well = self.well && as_wanted;
+        self.many = self.many.wrapping_add(1);
+    }
+
+    pub fn pair(&mut self, key: &[u8], left: u64, right: u64) {
+        let as_wanted = match self.wanted.get(self.many) {
+            Some(triple) => triple.0.as_bytes() == key,
+            None => false,
+        };
+        self.well = self.well && as_wanted;
+        self.values(left, right);
+    }
+
+    pub fn view(&mut self, key: LendingKeyView<'_, '_>, left: u64, right: u64) {
+        let as_wanted = match self.wanted.get(self.many) {
+            Some(triple) => key.eq_slice(triple.0.as_bytes()),
+            None => false,
+        };
+        self.well = self.well && as_wanted;
+        self.values(left, right);
+    }
+
+    pub fn all(&self) -> bool {
+        self.well && self.many == self.wanted.len()
+    }
+}
+
+fn gives_values(left: &Tree, right: &Tree, wanted: &[Triple], swapped: bool) -> bool {
+    let mut given = Given::nothing(wanted, swapped);
+    left.intersect_values_with(right, |one: &u64, other: &u64| given.values(*one, *other));
+    given.all()
+}
+
+fn gives_values_by_ref(left: &Tree, right: &Tree, wanted: &[Triple], swapped: bool) -> bool {
+    let mut given = Given::nothing(wanted, swapped);
+    let mut give = |one: &u64, other: &u64| given.values(*one, *other);
+    left.intersect_values_with_by_ref(right, &mut give);
+    given.all()
+}
+
+// Some(whether all was given), or None where memory was refused before anything was.
+fn gives(left: &Tree, right: &Tree, wanted: &[Triple], swapped: bool) -> Option<bool> {
+    let mut given = Given::nothing(wanted, swapped);
+    let answer = left.intersect_with(right, |key: Key, one: &u64, other: &u64| {
+        given.pair(key.as_ref(), *one, *other);
+    });
+    match answer {
+        Ok(()) => Some(given.all()),
+        Err(TreeError::Memory) if given.many == 0 => None,
+        Err(_) => Some(false),
+    }
+}
+
+fn gives_by_ref(left: &Tree, right: &Tree, wanted: &[Triple], swapped: bool) -> Option<bool> {
+    let mut given = Given::nothing(wanted, swapped);
+    let mut give = |key: Key, one: &u64, other: &u64| given.pair(key.as_ref(), *one, *other);
+    match left.intersect_with_by_ref(right, &mut give) {
+        Ok(()) => Some(given.all()),
+        Err(TreeError::Memory) if given.many == 0 => None,
+        Err(_) => Some(false),
+    }
+}
+
+fn lends(left: &Tree, right: &Tree, wanted: &[Triple], swapped: bool) -> Option<bool> {
+    let mut given = Given::nothing(wanted, swapped);
+    let answer = left.intersect_lending_with(
+        right,
+        |key: LendingKeyView<'_, '_>, one: &u64, other: &u64| given.view(key, *one, *other),
+    );
+    match answer {
+        Ok(()) => Some(given.all()),
+        Err(TreeError::Memory) if given.many == 0 => None,
+        Err(_) => Some(false),
+    }
+}
+
+fn lends_by_ref(left: &Tree, right: &Tree, wanted: &[Triple], swapped: bool) -> Option<bool> {
+    let mut given = Given::nothing(wanted, swapped);
+    let mut give = |key: LendingKeyView<'_, '_>, one: &u64, other: &u64| {
+        given.view(key, *one, *other);
+    };
+    match left.intersect_lending_with_by_ref(right, &mut give) {
+        Ok(()) => Some(given.all()),
+        Err(TreeError::Memory) if given.many == 0 => None,
+        Err(_) => Some(false),
+    }
+}
+
+fn is_way(left: &Tree, right: &Tree, wanted: &[Triple], swapped: bool) -> bool {
+    left.intersect_count(right) == wanted.len()
+        && gives_values(left, right, wanted, swapped)
+        && gives_values_by_ref(left, right, wanted, swapped)
+        && gives(left, right, wanted, swapped) == Some(true)
+        && gives_by_ref(left, right, wanted, swapped) == Some(true)
+        && lends(left, right, wanted, swapped) == Some(true)
+        && lends_by_ref(left, right, wanted, swapped) == Some(true)
+}
+
+pub fn is_met(left: &Tree, right: &Tree, wanted: &[Triple]) -> bool {
+    is_way(left, right, wanted, false) && is_way(right, left, wanted, true)
+}
+
+// The first row that goes another way, if one does.
+fn plays(rt: &impl Abort, alloc: Global, rows: &[Row]) -> Option<usize> {
+    let mut at = 0_usize;
+    for row in rows {
+        let left = filled(rt, alloc, row.0);
+        let right = filled(rt, alloc, row.1);
+        if !is_met(&left, &right, row.2) {
+            return Some(at);
+        }
+        at = at.wrapping_add(1);
+    }
+    None
+}
+
+const BEGINNINGS: [Pair; 2] = [("", 1), ("b", 2)];
+
+pub const WORDS: [Pair; 3] = [("ab", 1), ("abc", 2), ("dog", 3)];
+
+pub const OTHER_WORDS: [Pair; 3] = [("abc", 20), ("dog", 30), ("zzz", 40)];
+
+pub const ROWS: [Row; 9] = [
+    (&[], &[], &[]),
+    (&[], &WORDS, &[]),
+    (
+        &BEGINNINGS,
+        &[("", 10), ("a", 20), ("b", 30)],
+        &[("", 1, 10), ("b", 2, 30)],
+    ),
+    (
+        &[("ab", 1), ("abcd", 2)],
+        &[("abc", 3), ("abcd", 4)],
+        &[("abcd", 2, 4)],
+    ),
+    (&[("a", 1)], &[("b", 2)], &[]),
+    (&WORDS, &OTHER_WORDS, &[("abc", 2, 20), ("dog", 3, 30)]),
+    (
+        &WORDS,
+        &WORDS,
+        &[("ab", 1, 1), ("abc", 2, 2), ("dog", 3, 3)],
+    ),
+    // each key of one tree begins keys of the other
+    (
+        &[("a", 1), ("abc", 2), ("abcde", 3)],
+        &[("ab", 4), ("abc", 5), ("abcd", 6), ("abcdef", 7)],
+        &[("abc", 2, 5)],
+    ),
+    // prefixes of nodes that part in their midst, and one that ends in the midst of another
+    (
+        &[("prefix", 1), ("prelude", 2), ("press", 3)],
+        &[("pre", 4), ("prelude", 5), ("press", 6), ("pretty", 7)],
+        &[("prelude", 2, 5), ("press", 3, 6)],
+    ),
+];
+
+#[test]
+fn keys_of_both_trees(rt: HostRuntime) {
+    assert_eq!(rt; plays(&rt, rt.alloc(), &ROWS), None);
+}
+
+// Whether the views so far were cut as wanted.
+#[derive(Drop)]
+struct Cuts<'a> {
+    wanted: &'a [&'a [&'a str]],
+    many: usize,
+    well: bool,
+}
+
+fn is_cut(segments: &[&[u8]], wanted: &[&str]) -> bool {
+    if segments.len() != wanted.len() {
+        return false;
+    }
+    for (segment, text) in segments.iter().zip(wanted) {
+        if *segment != text.as_bytes() {
+            return false;
+        }
+    }
+    true
+}
+
+impl<'a> Cuts<'a> {
+    fn view(&mut self, key: LendingKeyView<'_, '_>) {
+        let as_wanted = match self.wanted.get(self.many) {
+            Some(wanted) => is_cut(key.segments(), wanted),
+            None => false,
+        };
+        self.well = self.well && as_wanted;
+        self.many = self.many.wrapping_add(1);
+    }
+}
+
+fn is_cut_so(left: &Tree, right: &Tree, wanted: &[&[&str]]) -> bool {
+    let mut cuts = Cuts {
+        wanted,
+        many: 0,
+        well: true,
+    };
+    let answer = left.intersect_lending_with(
+        right,
+        |key: LendingKeyView<'_, '_>, _one: &u64, _other: &u64| cuts.view(key),
+    );
+    answer.is_ok() && cuts.well && cuts.many == wanted.len()
+}
+
+const CUT_WORDS: [&[&str]; 2] = [&["ab", "c"], &["dog"]];
+
+// How many nodes stand.
+fn count_nodes(tree: &Tree) -> Option<usize> {
+    match tree.get_tree_stats() {
+        Ok(stats) => Some(stats.num_leaves.wrapping_add(stats.num_inner_nodes)),
+        Err(_) => None,
+    }
+}
+
+#[test]
+fn a_view_is_cut_where_prefixes_part_and_at_the_byte_behind(rt: HostRuntime) {
+    let words = filled(&rt, rt.alloc(), &WORDS);
+    let others = filled(&rt, rt.alloc(), &OTHER_WORDS);
+    assert!(rt; is_cut_so(&words, &others, &CUT_WORDS));
+    assert!(rt; is_cut_so(&others, &words, &CUT_WORDS));
+    assert!(rt; count_nodes(&words) == Some(4) && count_nodes(&others) == Some(4));
+}
+
+// Whether counts and values are given while the next request for memory is refused.
+fn is_asked_for_nothing(alloc: Global, left: &Tree, right: &Tree, wanted: &[Triple]) -> bool {
+    refuse(alloc, 1);
+    let count = left.intersect_count(right);
+    let well = gives_values(left, right, wanted, false);
+    count == wanted.len() && well && !was_refused(alloc)
+}
+
+#[test]
+fn counts_and_values_ask_for_nothing(rt: HostRuntime) {
+    for row in &ROWS {
+        let left = filled(&rt, rt.alloc(), row.0);
+        let right = filled(&rt, rt.alloc(), row.1);
+        let well = is_asked_for_nothing(rt.alloc(), &left, &right, row.2);
+        assert!(rt; well);
+    }
+}
+
+/// An intersection that asks for memory, by a form of its call.
+#[derive(Clone, Copy)]
+enum Form {
+    Keys,
+    KeysByRef,
+    Views,
+    ViewsByRef,
+}
+
+// How many requests were refused before all was given, each of which gave nothing; None where one went another way.
+fn refusals(
+    alloc: Global,
+    left: &Tree,
+    right: &Tree,
+    wanted: &[Triple],
+    form: Form,
+) -> Option<usize> {
+    for at in 1..100_usize {
+        refuse(alloc, at);
+        let given = match form {
+            Form::Keys => gives(left, right, wanted, false),
+            Form::KeysByRef => gives_by_ref(left, right, wanted, false),
+            Form::Views => lends(left, right, wanted, false),
+            Form::ViewsByRef => lends_by_ref(left, right, wanted, false),
+        };
+        if !was_refused(alloc) {
+            return if given == Some(true) {
+                Some(at - 1)
+            } else {
+                None
+            };
+        }
+        if given.is_some() {
+            return None;
+        }
+    }
+    None
+}
+
+// Whether the walk is refused at most once where both trees have pairs, and else never.
+fn is_swept(alloc: Global, left: &Tree, right: &Tree, wanted: &[Triple], form: Form) -> bool {
+    let asks = !left.is_empty() && !right.is_empty();
+    let swept = match refusals(alloc, left, right, wanted, form) {
+        Some(many) => many <= usize::from(asks),
+        None => false,
+    };
+    if asks {
+        part_ends(alloc);
+    }
+    swept
+}
+
+#[test]
+fn keys_and_views_are_refused_in_turn(rt: HostRuntime) {
+    for row in &ROWS {
+        let left = filled(&rt, rt.alloc(), row.0);
+        let right = filled(&rt, rt.alloc(), row.1);
+        for form in [Form::Keys, Form::KeysByRef, Form::Views, Form::ViewsByRef] {
+            let swept = is_swept(rt.alloc(), &left, &right, row.2, form);
+            assert!(rt; swept);
+        }
+    }
+}

@@ -1,0 +1,145 @@
+//! Intersections of nodes of every two widths, key by key, and of trees whose values have two types.
+
+use crate::joins::rows::{Triple, is_met};
+use crate::prefixes::{Key, Pair, Tree, filled};
+use rart::{AdaptiveRadixTree, KeyTrait, TreeError};
+use std::alloc::Global;
+use std::cell::Cell;
+use std::process::Abort;
+
+// A node with a child at each byte that the number divides, with itself as the value.
+fn multiples(rt: &impl Abort, alloc: Global, of: u8) -> Tree {
+    let mut tree = Tree::new(alloc);
+    for byte in 0..=255_u8 {
+        if byte.checked_rem(of) == Some(0) {
+            let inserted = tree.insert(Key::new_from_slice(&[byte]), u64::from(byte));
+            assert!(rt; matches!(inserted, Ok(None)));
+        }
+    }
+    tree
+}
+
+const FIVE: [Pair; 5] = [("\0", 1), ("2", 2), ("33", 3), ("d", 4), ("}", 5)];
+
+const OF_FIVE: [Triple; 4] = [("\0", 0, 1), ("2", 50, 2), ("d", 100, 4), ("}", 125, 5)];
+
+#[test]
+fn a_full_node_beside_five_keys(rt: HostRuntime) {
+    let all = multiples(&rt, rt.alloc(), 1);
+    let five = filled(&rt, rt.alloc(), &FIVE);
+    assert!(rt; is_met(&all, &five, &OF_FIVE));
+}
+
+// The next number that both divide, from this one on.
+fn next_multiple(from: usize, one: u8, other: u8) -> usize {
+    for number in from..256_usize {
+        if number.checked_rem(usize::from(one)) == Some(0)
+            && number.checked_rem(usize::from(other)) == Some(0)
+        {
+            return number;
+        }
+    }
+    256
+}
+
+// The number behind this one where the key is its byte and both values are it; and else one past all.
+fn behind(number: usize, key: &[u8], left: u64, right: u64) -> usize {
+    match key {
+        [byte] if usize::from(*byte) == number && left == u64::from(*byte) && right == left => {
+            number.wrapping_add(1)
+        }
+        _ => 1000,
+    }
+}
+
+// Whether exactly the multiples of both are given, in order.
+fn gives_multiples_of_both(
+    left: &Tree,
+    right: &Tree,
+    one: u8,
+    other: u8,
+) -> Result<bool, TreeError> {
+    let next = Cell::new(next_multiple(0, one, other));
+    left.intersect_with(right, |key: Key, left: &u64, right: &u64| {
+        let number = behind(next.get(), key.as_ref(), *left, *right);
+        next.set(next_multiple(number, one, other));
+    })?;
+    Ok(next.get() == 256)
+}
+
+// Of 1 there are 256 children, of 6 there are 43, of 17 sixteen, and of 64 four.
+const WIDTHS: [u8; 4] = [1, 6, 17, 64];
+
+#[test]
+fn nodes_of_every_two_widths(rt: HostRuntime) {
+    for one in WIDTHS {
+        let left = multiples(&rt, rt.alloc(), one);
+        for other in WIDTHS {
+            let right = multiples(&rt, rt.alloc(), other);
+            let well = gives_multiples_of_both(&left, &right, one, other) == Ok(true);
+            assert!(rt; well, "{one} and {other}");
+        }
+    }
+}
+
+#[test]
+fn a_node_that_has_more_and_fewer_children_than_another(rt: HostRuntime) {
+    let thirds = multiples(&rt, rt.alloc(), 3);
+    let fifths = multiples(&rt, rt.alloc(), 5);
+    assert!(rt; gives_multiples_of_both(&thirds, &fifths, 3, 5) == Ok(true));
+    assert!(rt; gives_multiples_of_both(&fifths, &thirds, 5, 3) == Ok(true));
+    assert_eq!(rt; thirds.intersect_count(&fifths), 18);
+}
+
+/// A value of another type than a number.
+#[derive(Clone, Copy, Drop)]
+enum Name {
+    Two,
+    Three,
+    Four,
+}
+
+type Names = AdaptiveRadixTree<Key, Name>;
+
+fn names(rt: &impl Abort, alloc: Global, pairs: &[(&'static str, Name)]) -> Names {
+    let mut tree = Names::new(alloc);
+    for (text, name) in pairs {
+        let bytes = text.as_bytes();
+        assert!(rt; bytes.len() <= 16);
+        assert!(rt; matches!(tree.insert(Key::new_from_slice(bytes), *name), Ok(None)));
+    }
+    tree
+}
+
+// Once, where the name is that of the number: 100 where it isn't.
+fn named(number: u64, name: Name) -> usize {
+    match (number, name) {
+        (2, Name::Two) | (3, Name::Three) => 1,
+        _ => 100,
+    }
+}
+
+fn meets_names(numbers: &Tree, names: &Names) -> bool {
+    let many = Cell::new(0_usize);
+    let one_way = numbers.intersect_with(names, |_key: Key, number: &u64, name: &Name| {
+        many.set(many.get().wrapping_add(named(*number, *name)));
+    });
+    numbers.intersect_values_with(names, |number: &u64, name: &Name| {
+        many.set(many.get().wrapping_add(named(*number, *name)));
+    });
+    names.intersect_values_with(numbers, |name: &Name, number: &u64| {
+        many.set(many.get().wrapping_add(named(*number, *name)));
+    });
+    one_way == Ok(()) && many.get() == 6 && numbers.intersect_count(names) == 2
+}
+
+#[test]
+fn trees_of_two_value_types(rt: HostRuntime) {
+    let numbers = filled(&rt, rt.alloc(), &[("a", 1), ("b", 2), ("bc", 3)]);
+    let named = names(
+        &rt,
+        rt.alloc(),
+        &[("b", Name::Two), ("bc", Name::Three), ("c", Name::Four)],
+    );
+    assert!(rt; meets_names(&numbers, &named));
+}

@@ -1,0 +1,255 @@
+//! Answers about a probe and walks below a prefix: for each probe the longest key that begins it, all keys that do, and the keys
+//! that it begins.
+
+ghost use Rattle.std.specs.Prelude.{◌≤◌, length};
+
+use rart::{AdaptiveRadixTree, ArrPartial, ArrayKey, Iter, KeyTrait, PrefixMatchIter, TreeError};
+use rart_test_tools::refusals::{refuse, was_refused};
+use std::alloc::Global;
+use std::process::Abort;
+
+pub type Key = ArrayKey<16>;
+
+pub type Tree = AdaptiveRadixTree<Key, u64>;
+
+pub type Pair = (&'static str, u64);
+
+// A probe; the pairs whose key begins it, the shortest first; the pairs whose key it begins, ascending.
+type Row = (&'static str, &'static [Pair], &'static [Pair]);
+
+pub fn filled(rt: &impl Abort, alloc: Global, pairs: &[Pair]) -> Tree {
+    let mut tree = Tree::new(alloc);
+    for (text, value) in pairs {
+        let bytes = text.as_bytes();
+        assert!(rt; bytes.len() <= 16);
+        assert!(rt; matches!(tree.insert(Key::new_from_slice(bytes), *value), Ok(None)));
+    }
+    tree
+}
+
+/// The key of these bytes, cut to sixteen.
+pub fn key(bytes: &[u8]) -> Key {
+    Key::new_from_slice(&bytes[..bytes.len().min(16)])
+}
+
+pub fn is_pair(found: &(Key, &u64), wanted: &Pair) -> bool {
+    found.0.as_ref() == wanted.0.as_bytes() && *found.1 == wanted.1
+}
+
+// The matches are these and no others, and after the last always none.
+fn are_matches(mut found: PrefixMatchIter<'_, Key, ArrPartial<16>, u64>, wanted: &[Pair]) -> bool {
+    for pair in wanted {
+        match found.next() {
+            Some(one) => {
+                if !is_pair(&one, pair) {
+                    return false;
+                }
+            }
+            None => return false,
+        }
+    }
+    found.next().is_none() && found.next().is_none()
+}
+
+fn are_below(mut found: Iter<'_, Key, ArrPartial<16>, u64>, wanted: &[Pair]) -> bool {
+    for pair in wanted {
+        match found.next() {
+            Some(one) => {
+                if !is_pair(&one, pair) {
+                    return false;
+                }
+            }
+            None => return false,
+        }
+    }
+    found.next().is_none() && found.next().is_none()
+}
+
+fn is_longest(tree: &Tree, key: &Key, probe: &[u8], matches: &[Pair]) -> bool {
+    let value = matches.last().map(|pair| pair.1);
+    let longest = match (tree.longest_prefix_match_k(key), matches.last()) {
+        (Some(found), Some(pair)) => is_pair(&found, pair),
+        (None, None) => true,
+        _ => false,
+    };
+    longest
+        && tree.longest_prefix_value_k(key).copied() == value
+        && tree.longest_prefix_value_bytes(probe).copied() == value
+}
+
+// Whether the row's answers are the tree's; the walk below is refused where memory is.
+fn is_row(tree: &Tree, probe: &[u8], row: &Row) -> Result<bool, TreeError>
+    requires { length probe.now ≤ 16 }
+{
+    let key = Key::new_from_slice(probe);
+    let below = are_below(tree.prefix_iter_k(&key)?, row.2);
+    Ok(
+        below
+            && is_longest(tree, &key, probe, row.1)
+            && are_matches(tree.prefix_match_iter_k(&key), row.1),
+    )
+}
+
+// The first row that goes another way, if one does.
+fn plays(rt: &impl Abort, tree: &Tree, rows: &[Row]) -> Option<usize> {
+    let mut row = 0_usize;
+    for one in rows {
+        let probe = one.0.as_bytes();
+        assert!(rt; probe.len() <= 16);
+        if is_row(tree, probe, one) != Ok(true) {
+            return Some(row);
+        }
+        row = row.wrapping_add(1);
+    }
+    None
+}
+
+pub const THREE: [Pair; 3] = [("", 0), ("a", 1), ("ab", 2)];
+
+const OF_THREE: [Row; 4] = [
+    ("", &[("", 0)], &THREE),
+    ("b", &[("", 0)], &[]),
+    ("abz", &THREE, &[]),
+    ("a", &[("", 0), ("a", 1)], &[("a", 1), ("ab", 2)]),
+];
+
+const ANIMALS: [Pair; 3] = [("cat", 1), ("catalog", 2), ("dog", 3)];
+
+const OF_ANIMALS: [Row; 6] = [
+    ("catalogue", &[("cat", 1), ("catalog", 2)], &[]),
+    ("do", &[], &[("dog", 3)]),
+    ("ca", &[], &[("cat", 1), ("catalog", 2)]),
+    ("catal", &[("cat", 1)], &[("catalog", 2)]),
+    ("cow", &[], &[]),
+    ("dogs", &[("dog", 3)], &[]),
+];
+
+const WORDS: [Pair; 6] = [
+    ("", 0),
+    ("a", 1),
+    ("alpha", 2),
+    ("alphabet", 3),
+    ("alphabetical", 4),
+    ("apple", 5),
+];
+
+const OF_WORDS: [Row; 4] = [
+    (
+        "alphabet",
+        &[("", 0), ("a", 1), ("alpha", 2), ("alphabet", 3)],
+        &[("alphabet", 3), ("alphabetical", 4)],
+    ),
+    ("alpine", &[("", 0), ("a", 1)], &[]),
+    ("zebra", &[("", 0)], &[]),
+    (
+        "al",
+        &[("", 0), ("a", 1)],
+        &[("alpha", 2), ("alphabet", 3), ("alphabetical", 4)],
+    ),
+];
+
+const ALPS: [Pair; 5] = [
+    ("alpha1", 1),
+    ("alpha2", 2),
+    ("alphabet", 3),
+    ("alpine", 4),
+    ("beta", 5),
+];
+
+const OF_ALPS: [Row; 1] = [(
+    "alp",
+    &[],
+    &[("alpha1", 1), ("alpha2", 2), ("alphabet", 3), ("alpine", 4)],
+)];
+
+const TWO: [Pair; 2] = [("alpha", 1), ("alphabet", 2)];
+
+const OF_TWO: [Row; 1] = [("alpine", &[], &[])];
+
+const PETS: [Pair; 2] = [("cat", 10), ("dog", 20)];
+
+const OF_PETS: [Row; 5] = [
+    ("catalog", &[("cat", 10)], &[]),
+    ("dog", &[("dog", 20)], &[("dog", 20)]),
+    ("doge", &[("dog", 20)], &[]),
+    ("do", &[], &[("dog", 20)]),
+    ("zebra", &[], &[]),
+];
+
+const NESTED: [Pair; 5] = [
+    ("", 0),
+    ("a", 1),
+    ("alpha", 2),
+    ("alphabet", 3),
+    ("apple", 4),
+];
+
+const OF_NESTED: [Row; 4] = [
+    (
+        "alphabetical",
+        &[("", 0), ("a", 1), ("alpha", 2), ("alphabet", 3)],
+        &[],
+    ),
+    (
+        "alpha",
+        &[("", 0), ("a", 1), ("alpha", 2)],
+        &[("alpha", 2), ("alphabet", 3)],
+    ),
+    ("alpine", &[("", 0), ("a", 1)], &[]),
+    ("zebra", &[("", 0)], &[]),
+];
+
+const OF_BYTES: [Pair; 3] = [("\x01\x02a", 1), ("\x01\x02b", 2), ("\x01\x03c", 3)];
+
+const OF_FIRST_BYTES: [Row; 1] = [("\x01\x02", &[], &[("\x01\x02a", 1), ("\x01\x02b", 2)])];
+
+const GROUPS: [(&[Pair], &[Row]); 5] = [
+    (&ALPS, &OF_ALPS),
+    (&TWO, &OF_TWO),
+    (&PETS, &OF_PETS),
+    (&NESTED, &OF_NESTED),
+    (&OF_BYTES, &OF_FIRST_BYTES),
+];
+
+#[test]
+fn groups_of_keys_that_share_beginnings(rt: HostRuntime) {
+    for (pairs, rows) in &GROUPS {
+        assert_eq!(rt; plays(&rt, &filled(&rt, rt.alloc(), pairs), rows), None);
+    }
+}
+
+#[test]
+fn keys_that_begin_a_probe_and_keys_that_it_begins(rt: HostRuntime) {
+    assert_eq!(rt;
+        plays(&rt, &filled(&rt, rt.alloc(), &THREE), &OF_THREE),
+        None
+    );
+    assert_eq!(rt;
+        plays(&rt, &filled(&rt, rt.alloc(), &ANIMALS), &OF_ANIMALS),
+        None
+    );
+    assert_eq!(rt;
+        plays(&rt, &filled(&rt, rt.alloc(), &WORDS), &OF_WORDS),
+        None
+    );
+}
+
+// Whether the row's answers about a probe are the tree's, while the next request for memory is refused.
+fn is_asked_for_nothing(rt: &impl Abort, alloc: Global, tree: &Tree, row: &Row) -> bool {
+    let probe = row.0.as_bytes();
+    assert!(rt; probe.len() <= 16);
+    let key = Key::new_from_slice(probe);
+    refuse(alloc, 1);
+    let as_wanted = is_longest(tree, &key, probe, row.1)
+        && are_matches(tree.prefix_match_iter_k(&key), row.1);
+    as_wanted && !was_refused(alloc)
+}
+
+#[test]
+fn answers_about_a_probe_ask_for_nothing(rt: HostRuntime) {
+    let tree = filled(&rt, rt.alloc(), &WORDS);
+    for row in &OF_WORDS {
+        let well = is_asked_for_nothing(&rt, rt.alloc(), &tree, row);
+        assert!(rt; well);
+    }
+}

@@ -1,0 +1,346 @@
+//! Ranges: for each two ends the pairs that are given, by the iterator and by the walks over views; ranges over what an iterator has
+//! left; starts at every byte of each of the four storages; memory refused.
+
+use crate::prefixes::{Key, Pair, Tree, filled, is_pair};
+use rart::{ArrPartial, Iter, KeyTrait, LendingKeyView, Range, TreeError};
+use rart_test_tools::refusals::{part_ends, refuse, was_refused};
+use std::alloc::Global;
+use std::cell::Cell;
+use std::ops::Bound;
+use std::process::Abort;
+
+/// An end of a range.
+#[derive(Clone, Copy)]
+enum End {
+    Open,
+    In(&'static str),
+    Out(&'static str),
+}
+
+use End::{In, Open, Out};
+
+// Two ends, and the pairs within them, ascending.
+type Row = (End, End, &'static [Pair]);
+
+// The key of the text's bytes, where they aren't too many.
+fn key(text: &str) -> Option<Key> {
+    let bytes = text.as_bytes();
+    (bytes.len() <= 16).then(|| Key::new_from_slice(bytes))
+}
+
+fn bound(end: End) -> Option<Bound<Key>> {
+    Some(match end {
+        Open => Bound::Unbounded,
+        In(text) => Bound::Included(key(text)?),
+        Out(text) => Bound::Excluded(key(text)?),
+    })
+}
+
+// The pairs are these and no others, and after the last always none.
+fn gives(mut range: Range<'_, Key, u64>, wanted: &[Pair]) -> bool {
+    for pair in wanted {
+        match range.next() {
+            Some(one) => {
+                if !is_pair(&one, pair) {
+                    return false;
+                }
+            }
+            None => return false,
+        }
+    }
+    range.next().is_none() && range.next().is_none() && range.next().is_none()
+}
+
+// Counts the pairs that come in turn, and is past all of them where another comes.
+fn next_pair(seen: usize, wanted: &[Pair], view: LendingKeyView<'_, '_>, value: u64) -> usize {
+    match wanted.get(seen) {
+        Some(pair) if pair.1 == value && view.eq_slice(pair.0.as_bytes()) => seen.wrapping_add(1),
+        _ => 1000,
+    }
+}
+
+// How a walk ended that saw so many pairs: a refused one saw none.
+fn ended(walked: Result<(), TreeError>, seen: usize, wanted: usize) -> Result<bool, TreeError> {
+    match walked {
+        Ok(()) => Ok(seen == wanted),
+        Err(error) if seen == 0 => Err(error),
+        Err(_) => Ok(false),
+    }
+}
+
+fn is_viewed(
+    tree: &Tree,
+    start: Bound<Key>,
+    end: Bound<Key>,
+    wanted: &[Pair],
+) -> Result<bool, TreeError> {
+    let seen = Cell::new(0_usize);
+    let walked = tree.for_each_range_view(
+        start,
+        end,
+        |view: LendingKeyView<'_, '_>, value: &u64| {
+            seen.set(next_pair(seen.get(), wanted, view, *value));
+        },
+    );
+    ended(walked, seen.get(), wanted.len())
+}
+
+fn is_lent(
+    tree: &Tree,
+    start: Bound<Key>,
+    end: Bound<Key>,
+    wanted: &[Pair],
+) -> Result<bool, TreeError> {
+    let mut seen = 0_usize;
+    let mut callback = |view: LendingKeyView<'_, '_>, value: &u64| {
+        seen = next_pair(seen, wanted, view, *value);
+    };
+    let walked = tree.for_each_range_view_by_ref(start, end, &mut callback);
+    ended(walked, seen, wanted.len())
+}
+
+/// A call that gives the pairs within two ends.
+#[derive(Clone, Copy)]
+enum Form {
+    Iterator,
+    Views,
+    LentViews,
+}
+
+const FORMS: [Form; 3] = [Form::Iterator, Form::Views, Form::LentViews];
+
+// Whether the row's range gives its pairs; it is refused where memory is.
+fn is_row(tree: &Tree, row: &Row, form: Form) -> Result<bool, TreeError> {
+    let (Some(start), Some(end)) = (bound(row.0), bound(row.1)) else {
+        return Ok(false);
+    };
+    match form {
+        Form::Iterator => Ok(gives(tree.range(start, end)?, row.2)),
+        Form::Views => is_viewed(tree, start, end, row.2),
+        Form::LentViews => is_lent(tree, start, end, row.2),
+    }
+}
+
+fn is_row_in_each_form(tree: &Tree, row: &Row) -> bool {
+    for form in FORMS {
+        if is_row(tree, row, form) != Ok(true) {
+            return false;
+        }
+    }
+    true
+}
+
+// The first row that goes another way, if one does.
+fn plays(tree: &Tree, rows: &[Row]) -> Option<usize> {
+    let mut row = 0_usize;
+    for one in rows {
+        if !is_row_in_each_form(tree, one) {
+            return Some(row);
+        }
+        row = row.wrapping_add(1);
+    }
+    None
+}
+
+const FOUR: [Pair; 4] = [("aa", 1), ("ab", 2), ("az", 3), ("b", 4)];
+
+const OF_FOUR: [Row; 9] = [
+    (Open, Open, &FOUR),
+    (In("a"), Out("b"), &[("aa", 1), ("ab", 2), ("az", 3)]),
+    (Out("ab"), Open, &[("az", 3), ("b", 4)]),
+    (In("ac"), In("az"), &[("az", 3)]),
+    (In("ab"), In("ab"), &[("ab", 2)]),
+    (Out("ab"), Out("ab"), &[]),
+    (Open, Out("aa"), &[]),
+    (Out("aa"), In("ab"), &[("ab", 2)]),
+    // the end comes before the start
+    (In("b"), Out("a"), &[]),
+];
+
+// A node without a value stands at "ab" and at "abc", and "abcd" and "abce" part behind the latter.
+const PARTED: [Pair; 5] = [("", 0), ("abcd", 1), ("abce", 2), ("abx", 3), ("b", 4)];
+
+const OF_PARTED: [Row; 15] = [
+    // the empty key at either end
+    (In(""), Open, &PARTED),
+    (
+        Out(""),
+        Open,
+        &[("abcd", 1), ("abce", 2), ("abx", 3), ("b", 4)],
+    ),
+    (Open, In(""), &[("", 0)]),
+    (Open, Out(""), &[]),
+    // a start inside a prefix, before it, behind it and at a node without a value
+    (In("a"), Out("b"), &[("abcd", 1), ("abce", 2), ("abx", 3)]),
+    (
+        Out("aa"),
+        In("b"),
+        &[("abcd", 1), ("abce", 2), ("abx", 3), ("b", 4)],
+    ),
+    (In("ac"), Open, &[("b", 4)]),
+    (In("ab"), In("abce"), &[("abcd", 1), ("abce", 2)]),
+    (Out("abc"), Out("abx"), &[("abcd", 1), ("abce", 2)]),
+    // a start between two children, at a leaf and behind it
+    (In("abd"), Open, &[("abx", 3), ("b", 4)]),
+    (Out("abcd"), Open, &[("abce", 2), ("abx", 3), ("b", 4)]),
+    (In("abcda"), Out("abx"), &[("abce", 2)]),
+    (Out("abxa"), Open, &[("b", 4)]),
+    // a start past the last key
+    (Out("b"), Open, &[]),
+    (In("c"), Open, &[]),
+];
+
+const FRUIT: [Pair; 4] = [("apple", 1), ("banana", 2), ("cherry", 3), ("date", 4)];
+
+const OF_FRUIT: [Row; 2] = [
+    (In("a"), Out("b"), &[("apple", 1)]),
+    (In("b"), Out("d"), &[("banana", 2), ("cherry", 3)]),
+];
+
+#[test]
+fn a_range_gives_the_pairs_within_its_ends(rt: HostRuntime) {
+    assert_eq!(rt; plays(&filled(&rt, rt.alloc(), &FOUR), &OF_FOUR), None);
+    assert_eq!(rt; plays(&filled(&rt, rt.alloc(), &PARTED), &OF_PARTED), None);
+    assert_eq!(rt; plays(&filled(&rt, rt.alloc(), &FRUIT), &OF_FRUIT), None);
+    assert_eq!(rt;
+        plays(&filled(&rt, rt.alloc(), &[]), &[(Open, Open, &[])]),
+        None
+    );
+}
+
+// What an iterator over FOUR whose first pair was taken has left before "az".
+fn is_left_within(mut pairs: Iter<'_, Key, ArrPartial<16>, u64>) -> bool {
+    match (pairs.next(), bound(Out("az"))) {
+        (Some(first), Some(end)) => {
+            is_pair(&first, &("aa", 1)) && gives(Range::for_iter(pairs, end), &[("ab", 2)])
+        }
+        _ => false,
+    }
+}
+
+fn goes_on_from_an_iterator(tree: &Tree) -> Result<bool, TreeError> {
+    Ok(is_left_within(tree.iter()?) && gives(Range::empty(), &[]))
+}
+
+#[test]
+fn a_range_over_an_iterator_ends_for_good(rt: HostRuntime) {
+    let tree = filled(&rt, rt.alloc(), &FOUR);
+    let well = goes_on_from_an_iterator(&tree) == Ok(true);
+    assert!(rt; well);
+}
+
+// A tree of so many one-byte keys, every second byte from 2 on, each its own value.
+fn spaced(rt: &impl Abort, alloc: Global, count: usize) -> Tree {
+    let mut tree = Tree::new(alloc);
+    for byte in 0..=255_u8 {
+        let number = usize::from(byte);
+        if number >= 2 && number % 2 == 0 && number / 2 <= count {
+            let new = tree.insert(Key::new_from_slice(&[byte]), u64::from(byte));
+            assert!(rt; matches!(new, Ok(None)));
+        }
+    }
+    tree
+}
+
+// Whether the values from this byte on come, up to the last of so many.
+fn counts_up(mut range: Range<'_, Key, u64>, from: usize, count: usize) -> bool {
+    for number in from..257_usize {
+        if number >= 2 && number % 2 == 0 && number / 2 <= count {
+            match range.next() {
+                Some((_, value)) if *value == number as u64 => {}
+                _ => return false,
+            }
+        }
+    }
+    range.next().is_none()
+}
+
+fn starts_well(tree: &Tree, byte: u8, count: usize) -> Result<bool, TreeError> {
+    let from = usize::from(byte);
+    let at = tree.range(
+        Bound::Included(Key::new_from_slice(&[byte])),
+        Bound::Unbounded,
+    )?;
+    let behind = tree.range(
+        Bound::Excluded(Key::new_from_slice(&[byte])),
+        Bound::Unbounded,
+    )?;
+    Ok(counts_up(at, from, count) && counts_up(behind, from + 1, count))
+}
+
+// The first byte from which a range goes another way, if there is one.
+fn starts_at_every_byte(tree: &Tree, count: usize) -> Option<usize> {
+    for byte in 0..=255_u8 {
+        if starts_well(tree, byte, count) != Ok(true) {
+            return Some(usize::from(byte));
+        }
+    }
+    None
+}
+
+#[test]
+fn every_kind_of_node_is_entered_at_any_byte(rt: HostRuntime) {
+    for count in [1, 3, 4, 5, 16, 17, 48, 49, 127] {
+        assert_eq!(rt;
+            starts_at_every_byte(&spaced(&rt, rt.alloc(), count), count),
+            None
+        );
+    }
+}
+
+// Whether the row's range is refused while a request is, and then gives its pairs. A refused walk calls nothing.
+fn is_swept(alloc: Global, tree: &Tree, row: &Row, form: Form) -> bool {
+    for at in 1..100_usize {
+        refuse(alloc, at);
+        let answer = is_row(tree, row, form);
+        if !was_refused(alloc) {
+            part_ends(alloc);
+            return answer == Ok(true);
+        }
+        if answer != Err(TreeError::Memory) {
+            return false;
+        }
+    }
+    false
+}
+
+// The first row that goes another way, if one does, with each of its requests refused.
+fn plays_refused(alloc: Global, tree: &Tree, rows: &[Row], form: Form) -> Option<usize> {
+    let mut row = 0_usize;
+    for one in rows {
+        if !is_swept(alloc, tree, one, form) {
+            return Some(row);
+        }
+        row = row.wrapping_add(1);
+    }
+    None
+}
+
+#[test]
+fn ranges_refused_in_turn_give_nothing(rt: HostRuntime) {
+    for form in FORMS {
+        let tree = filled(&rt, rt.alloc(), &PARTED);
+        assert_eq!(rt; plays_refused(rt.alloc(), &tree, &OF_PARTED, form), None);
+    }
+}
+
+// A range of an empty tree, an empty one, one over an iterator and a walk over an empty tree take no memory.
+fn asks_for_nothing(alloc: Global, empty: &Tree, tree: &Tree) -> Result<bool, TreeError> {
+    let pairs = tree.iter()?;
+    refuse(alloc, 1);
+    let nothing = empty.range(Bound::Unbounded, Bound::Unbounded)?;
+    let well = gives(nothing, &[])
+        && gives(Range::empty(), &[])
+        && gives(Range::for_iter(pairs, Bound::Unbounded), &FOUR)
+        && is_viewed(empty, Bound::Unbounded, Bound::Unbounded, &[])?
+        && is_lent(empty, Bound::Unbounded, Bound::Unbounded, &[])?;
+    Ok(well && !was_refused(alloc))
+}
+
+#[test]
+fn ranges_ask_for_nothing_where_nothing_is_walked(rt: HostRuntime) {
+    let empty = filled(&rt, rt.alloc(), &[]);
+    let tree = filled(&rt, rt.alloc(), &FOUR);
+    let well = asks_for_nothing(rt.alloc(), &empty, &tree) == Ok(true);
+    assert!(rt; well);
+}

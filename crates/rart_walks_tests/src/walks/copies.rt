@@ -1,0 +1,123 @@
+//! Copies of a view with each request refused: what is copied to is then as it was.
+
+use crate::prefixes::{Key, Pair, filled};
+use rart::{KeyTrait, LendingKeyView, TreeError};
+use rart_test_tools::refusals::{part_ends, refuse, was_refused};
+use std::alloc::{AllocError, Global};
+use std::cell::Cell;
+
+/// A copy of a view.
+#[derive(Clone, Copy)]
+enum Copied {
+    Behind,
+    Vector,
+    Key,
+}
+
+// A vector of two bytes and no room for more.
+fn two_bytes(alloc: Global) -> Result<Vec<u8>, AllocError> {
+    let mut bytes = Vec::with_capacity(alloc, 2)?;
+    bytes.push(1)?;
+    bytes.push(2)?;
+    Ok(bytes)
+}
+
+// Whether the bytes of the view came behind others, with a request refused; and where one was, whether those others stand alone.
+fn is_behind(
+    alloc: Global,
+    view: LendingKeyView<'_, '_>,
+    at: usize,
+) -> (Result<bool, TreeError>, bool) {
+    let Ok(mut bytes) = two_bytes(alloc) else {
+        return (Ok(false), false);
+    };
+    refuse(alloc, at);
+    let copied = view.write_into(&mut bytes);
+    let refused = was_refused(alloc);
+    match copied {
+        Ok(()) => (Ok(bytes.as_slice() == b"\x01\x02abcd".as_slice()), refused),
+        Err(error) if bytes.as_slice() == b"\x01\x02".as_slice() => (Err(error), refused),
+        Err(_error) => (Ok(false), refused),
+    }
+}
+
+fn is_vector(
+    alloc: Global,
+    view: LendingKeyView<'_, '_>,
+    at: usize,
+) -> (Result<bool, TreeError>, bool) {
+    refuse(alloc, at);
+    let copied = view.to_vec(alloc);
+    let refused = was_refused(alloc);
+    match copied {
+        Ok(bytes) => (Ok(bytes.as_slice() == b"abcd".as_slice()), refused),
+        Err(error) => (Err(error), refused),
+    }
+}
+
+fn is_key(
+    alloc: Global,
+    view: LendingKeyView<'_, '_>,
+    at: usize,
+) -> (Result<bool, TreeError>, bool) {
+    if view.len() > 16 {
+        return (Ok(false), false);
+    }
+    refuse(alloc, at);
+    let copied = view.to_key::<Key>(alloc);
+    let refused = was_refused(alloc);
+    match copied {
+        Ok(key) => (Ok(key.as_ref() == b"abcd".as_slice()), refused),
+        Err(error) => (Err(error), refused),
+    }
+}
+
+fn copy(
+    alloc: Global,
+    view: LendingKeyView<'_, '_>,
+    copied: Copied,
+    at: usize,
+) -> (Result<bool, TreeError>, bool) {
+    match copied {
+        Copied::Behind => is_behind(alloc, view, at),
+        Copied::Vector => is_vector(alloc, view, at),
+        Copied::Key => is_key(alloc, view, at),
+    }
+}
+
+fn is_swept(alloc: Global, view: LendingKeyView<'_, '_>, copied: Copied) -> bool {
+    for at in 1..100_usize {
+        match copy(alloc, view, copied, at) {
+            (Ok(well), refused) => {
+                part_ends(alloc);
+                return well && !refused;
+            }
+            (Err(error), refused) => {
+                if !refused || error != TreeError::Memory {
+                    return false;
+                }
+            }
+        }
+    }
+    false
+}
+
+const PAIRS: [Pair; 2] = [("ab", 1), ("abcd", 2)];
+
+#[test]
+fn copies_of_a_view_refused_in_turn(rt: HostRuntime) {
+    let alloc = rt.alloc();
+    let tree = filled(&rt, alloc, &PAIRS);
+    let well = Cell::new(0_usize);
+    let shown = tree.with_longest_prefix_match_view_k(
+        &Key::new_from_slice(b"abcd"),
+        |view: LendingKeyView<'_, '_>, _value: &u64| {
+            for copied in [Copied::Behind, Copied::Vector, Copied::Key] {
+                if is_swept(alloc, view, copied) {
+                    well.set(well.get().wrapping_add(1));
+                }
+            }
+        },
+    );
+    assert!(rt; shown == Ok(true) && well.get() == 3);
+}

@@ -1,0 +1,82 @@
+//! The laws of answers about a probe, of walks below a prefix, and of views, called on trees that aren't empty.
+
+use crate::prefixes::{Key, Pair, Tree, filled, is_pair, key};
+use rart::laws::probes::{
+    comparisons_agree, key_of_a_view, longest_is_the_last_match, prefix_iter_filters_iter,
+};
+use rart::{KeyTrait, LendingKeyView};
+use std::alloc::Global;
+use std::cell::Cell;
+use std::cmp::Ordering;
+
+const PAIRS: [Pair; 4] = [("", 0), ("ab", 1), ("abcd", 2), ("b", 3)];
+
+// The values of all pairs and of those below the prefix, as digits behind a first 1.
+fn walked(tree: &Tree, prefix: &[u8]) -> Option<(u64, u64)> {
+    let Ok((mut all, mut below)) = prefix_iter_filters_iter(tree, &key(prefix)) else {
+        return None;
+    };
+    let mut seen = (1_u64, 1_u64);
+    while let Some((_key, value)) = all.next() {
+        seen.0 = seen.0.wrapping_mul(10).wrapping_add(*value);
+    }
+    while let Some((_key, value)) = below.next() {
+        seen.1 = seen.1.wrapping_mul(10).wrapping_add(*value);
+    }
+    Some(seen)
+}
+
+#[test]
+fn a_walk_below_a_prefix_is_a_part_of_the_whole_one(rt: HostRuntime) {
+    let tree = filled(&rt, rt.alloc(), &PAIRS);
+    assert!(rt; walked(&tree, b"a") == Some((1_0123, 1_12)));
+    assert!(rt; walked(&tree, b"") == Some((1_0123, 1_0123)));
+    assert!(rt; walked(&tree, b"c") == Some((1_0123, 1)));
+}
+
+// Whether the longest match is this pair, and the values of all matches, as digits behind a first 1.
+fn matched(tree: &Tree, probe: &[u8], wanted: &Pair) -> (bool, u64) {
+    let (longest, mut matches) = longest_is_the_last_match(tree, &key(probe));
+    let mut seen = 1_u64;
+    while let Some((_key, value)) = matches.next() {
+        seen = seen.wrapping_mul(10).wrapping_add(*value);
+    }
+    match longest {
+        Some(found) => (is_pair(&found, wanted), seen),
+        None => (false, seen),
+    }
+}
+
+#[test]
+fn the_longest_match_comes_last(rt: HostRuntime) {
+    let tree = filled(&rt, rt.alloc(), &PAIRS);
+    assert!(rt; matched(&tree, b"abcde", &("abcd", 2)) == (true, 1_012));
+    assert!(rt; matched(&tree, b"x", &("", 0)) == (true, 1_0));
+}
+
+// Whether the view of "abcd" compares with slices as its bytes do, and its key is made of them.
+fn is_abcd(alloc: Global, view: LendingKeyView<'_, '_>) -> bool {
+    if view.len() > 16 {
+        return false;
+    }
+    let is_key = match key_of_a_view::<Key>(view, alloc) {
+        Ok(key) => key.as_ref() == b"abcd".as_slice(),
+        Err(_refused) => false,
+    };
+    is_key
+        && comparisons_agree(view, b"abcd") == (Ordering::Equal, true)
+        && comparisons_agree(view, b"abc") == (Ordering::Greater, false)
+        && comparisons_agree(view, b"abce") == (Ordering::Less, false)
+}
+
+#[test]
+fn a_view_compares_as_its_bytes_and_is_the_key_of_them(rt: HostRuntime) {
+    let alloc = rt.alloc();
+    let tree = filled(&rt, alloc, &PAIRS);
+    let well = Cell::new(false);
+    let shown = tree.with_longest_prefix_match_view_k(
+        &Key::new_from_slice(b"abcd"),
+        |view: LendingKeyView<'_, '_>, _value: &u64| well.set(is_abcd(alloc, view)),
+    );
+    assert!(rt; shown == Ok(true) && well.get());
+}

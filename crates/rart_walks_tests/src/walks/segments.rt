@@ -1,0 +1,101 @@
+//! Views of three and more segments: a key is cut at each node above its own.
+
+use crate::prefixes::{Pair, Tree, filled, key};
+use rart::LendingKeyView;
+use std::cell::Cell;
+
+// "abcd" and "abce" part below "abc", "abcd" stands above "abcdef", and "abcdeg" parts from that below "abcde".
+const PAIRS: [Pair; 7] = [
+    ("a", 1),
+    ("abcd", 2),
+    ("abcdef", 3),
+    ("abcdeg", 4),
+    ("abcdeghij", 5),
+    ("abce", 6),
+    ("b", 7),
+];
+
+// The value of a key, and its segments, each with a bar behind it.
+const CUT: [(u64, &str); 7] = [
+    (1, "a|"),
+    (2, "a|bc|d|"),
+    (3, "a|bc|d|e|f|"),
+    (4, "a|bc|d|e|g|"),
+    (5, "a|bc|d|e|g|hij|"),
+    (6, "a|bc|e|"),
+    (7, "b|"),
+];
+
+// What is left of a text behind a segment and a bar.
+fn behind<'a>(text: &'a [u8], segment: &[u8]) -> Option<&'a [u8]> {
+    if !text.starts_with(segment) {
+        return None;
+    }
+    match text.get(segment.len()..)? {
+        [b'|', rest @ ..] => Some(rest),
+        _ => None,
+    }
+}
+
+fn is_cut(view: LendingKeyView<'_, '_>, text: &[u8]) -> bool {
+    let mut rest = text;
+    for segment in view.segments() {
+        match behind(rest, *segment) {
+            Some(left) => rest = left,
+            None => return false,
+        }
+    }
+    rest.is_empty()
+}
+
+// Counts the rows that come in turn, and is past all of them where another comes.
+fn next_row(seen: usize, view: LendingKeyView<'_, '_>, value: u64) -> usize {
+    match CUT.get(seen) {
+        Some(row) if row.0 == value && is_cut(view, row.1.as_bytes()) => seen.wrapping_add(1),
+        _ => 1000,
+    }
+}
+
+fn are_cut(tree: &Tree) -> bool {
+    let seen = Cell::new(0_usize);
+    let ended = tree.for_each_view(|view: LendingKeyView<'_, '_>, value: &u64| {
+        seen.set(next_row(seen.get(), view, *value));
+    });
+    ended == Ok(()) && seen.get() == CUT.len()
+}
+
+// How many views below "abcde" are cut as wanted, of the three that are.
+fn cut_below(tree: &Tree) -> usize {
+    let seen = Cell::new(2_usize);
+    let ended = tree.prefix_for_each_view_k(
+        &key(b"abcde"),
+        |view: LendingKeyView<'_, '_>, value: &u64| {
+            seen.set(next_row(seen.get(), view, *value));
+        },
+    );
+    if ended == Ok(()) {
+        seen.get().wrapping_sub(2)
+    } else {
+        0
+    }
+}
+
+fn longest_is_cut(tree: &Tree, probe: &[u8], row: usize) -> bool {
+    let well = Cell::new(false);
+    let shown = tree.with_longest_prefix_match_view_k(
+        &key(probe),
+        |view: LendingKeyView<'_, '_>, value: &u64| {
+            well.set(next_row(row, view, *value) == row.wrapping_add(1));
+        },
+    );
+    shown == Ok(true) && well.get()
+}
+
+#[test]
+fn a_key_is_cut_at_each_node_above_its_own(rt: HostRuntime) {
+    let tree = filled(&rt, rt.alloc(), &PAIRS);
+    assert!(rt; are_cut(&tree));
+    assert_eq!(rt; cut_below(&tree), 3);
+    assert!(rt; longest_is_cut(&tree, b"abcdeghijk", 4));
+    assert!(rt; longest_is_cut(&tree, b"abcde", 1));
+}
