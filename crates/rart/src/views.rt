@@ -166,6 +166,23 @@ impl<K: KeyTrait, V> AdaptiveRadixTree<K, V> {
             .with_longest_prefix_match_view_by_ref_k_counted(probe, f, &mut Visits::new())
     }
 
+    /// Calls `f` as `with_longest_prefix_match_view_by_ref_k` does, with a probe by value.
+    pub fn with_longest_prefix_match_view_by_ref<F: FnMut(LendingKeyView<'_, '_>, &V)>(
+        &self,
+        probe: K,
+        f: &mut F,
+    ) -> Result<bool, TreeError>
+    where
+        K: Drop,
+        requires callable { F.IsAlwaysCallable f.old }
+        ensures callable { F.IsAlwaysCallable f.new }
+        ensures called { IfOk result (ShowsFound F.FnMut f.old (keys_of self.now.pairs) (longest_match (K.bytes probe) self.now.pairs) f.new) }
+        ensures refused { OnErr result (f.new ≡ f.old) }
+        ensures memory { IfErr result (λ e. (e ≡ TreeError.Memory) × (longest_match (K.bytes probe) self.now.pairs ≢ None)) }
+    {
+        self.with_longest_prefix_match_view_by_ref_k(&probe, f)
+    }
+
     /// Calls `f` once with a view of the longest key that begins `probe` and with its value, and answers true; where there is none
     /// it calls nothing and answers false. Room for the segments is taken before the call, and only where there is such a key;
     /// refused with `Memory` alone, and then `f` wasn't called.

@@ -1,4 +1,5 @@
-//! Look-ups in a shared tree and walks below a prefix, over the counted way in alone: none of them sees a node but by a visit.
+//! Look-ups in a shared tree, and walks below a prefix and between two bounds, over the counted way in alone: none of them
+//! sees a node but by a visit.
 
 mod below;
 mod fold;
