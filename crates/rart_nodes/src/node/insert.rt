@@ -1,5 +1,5 @@
 //! Insertion below a node. All room is taken before the first write.
-ghost use Rattle.std.specs.Prelude.{◌≡◌, ◌+◌, ◌≤◌, length, max, true, IfErr, IfOk, None, OnErr, OnOk};
+ghost use Rattle.std.specs.Prelude.{◌≡◌, ◌+◌, ◌≤◌, length, max, true, IfErr, IfOk, None, Some, OnErr, OnOk};
 ghost use Rattle.rart_keys.specs.ByteStrings.{strip_prefix};
 ghost use Rattle.rart_keys.specs.KeyBytes.{IsWithin};
 ghost use Rattle.rart_keys.specs.SortedMap.{count_of, lookup, put, longest_key};
@@ -58,6 +58,54 @@ impl<P: Partial, V> DefaultNode<P, V> {
         Ok(())
     }
 
+    // The old value, or the one that is refused, comes back in a place of the caller's: a result that holds a value would
+    // be copied once more at each level.
+    fn put_below(
+        &mut self,
+        alloc: Global,
+        key: &[u8],
+        value: V,
+        back: &mut Option<V>,
+    ) -> Result<(), TreeError>
+        requires canonical { IsCanonical self.old }
+        requires fits { IsWithin P.MAXIMUM_SIZE (length key.now) }
+        requires empty { back.old ≡ None }
+        ensures ok { OnOk result (self.new ≡ trie_put key.now value self.old) }
+        ensures answer { OnOk result (back.new ≡ trie_lookup key.now self.old) }
+        ensures refused { OnErr result (self.new ≡ self.old) }
+        ensures back { OnErr result (back.new ≡ Some value) }
+        ensures error { IfErr result (λ e. e ≡ TreeError.Memory) }
+        ensures asks { OnErr result ((trie_asks_put key.now self.old ≡ true) × (trie_lookup key.now (with_records self.old) ≡ None)) }
+    {
+        let Some(rest) = rest_behind(&self.prefix, key) else {
+            return match self.split(alloc, key, value) {
+                Ok(()) => Ok(()),
+                Err(Refused { error, value }) => {
+                    give_back(back, Some(value));
+                    Err(error)
+                }
+            };
+        };
+        let Some(&byte) = rest.first() else {
+            give_back(back, self.value.replace(value));
+            return Ok(());
+        };
+        if let Some(child) = self.storage.seek_child_mut(byte) {
+            return child.put_below(alloc, rest, value, back);
+        }
+        match self.storage.make_room(alloc, byte) {
+            Ok(()) => {
+                let leaf = DefaultNode::new_leaf(P::from_slice(rest), value);
+                self.storage.add_within(byte, leaf);
+                Ok(())
+            }
+            Err(error) => {
+                give_back(back, Some(value));
+                Err(error)
+            }
+        }
+    }
+
     fn put(&mut self, alloc: Global, key: &[u8], value: V) -> Result<Option<V>, Refused<V>>
         requires canonical { IsCanonical self.old }
         requires fits { IsWithin P.MAXIMUM_SIZE (length key.now) }
@@ -67,23 +115,13 @@ impl<P: Partial, V> DefaultNode<P, V> {
         ensures back { IfErr result (λ r. (r.error ≡ TreeError.Memory) × (r.value ≡ value)) }
         ensures asks { OnErr result ((trie_asks_put key.now self.old ≡ true) × (trie_lookup key.now (with_records self.old) ≡ None)) }
     {
-        let Some(rest) = rest_behind(&self.prefix, key) else {
-            self.split(alloc, key, value)?;
-            return Ok(None);
-        };
-        let Some(&byte) = rest.first() else {
-            return Ok(self.value.replace(value));
-        };
-        if let Some(child) = self.storage.seek_child_mut(byte) {
-            return child.put(alloc, rest, value);
-        }
-        match self.storage.make_room(alloc, byte) {
-            Ok(()) => {
-                let leaf = DefaultNode::new_leaf(P::from_slice(rest), value);
-                self.storage.add_within(byte, leaf);
-                Ok(None)
-            }
-            Err(error) => Err(Refused { error, value }),
+        let mut back: Option<V> = None;
+        match self.put_below(alloc, key, value, &mut back) {
+            Ok(()) => Ok(back),
+            Err(error) => Err(Refused {
+                error,
+                value: back.unwrap(),
+            }),
         }
     }
 
@@ -106,5 +144,16 @@ impl<P: Partial, V> DefaultNode<P, V> {
         ensures asks { OnErr result (MayAskFor key.now (pairs_of self.old)) }
     {
         self.put(alloc, key, value)
+    }
+}
+
+/// Puts what comes back into a place that is empty.
+pub(super) fn give_back<V>(back: &mut Option<V>, value: Option<V>)
+    requires { back.old ≡ None }
+    ensures { back.new ≡ value }
+{
+    match mem::replace(back, value) {
+        Some(_) => unreachable!(),
+        None => {}
     }
 }

@@ -8,6 +8,7 @@ ghost use Rattle.rart_nodes.specs.tries.Tree.{IsCanonicalTree, tree_lookup, tree
 ghost use Rattle.rart_nodes.specs.tries.Trie.{IsCanonical, capacity_in, children_in, edges_of, trie_lookup, pairs_of, prefix_of, trie_remove, value_of, child_in};
 
 use crate::node::DefaultNode;
+use crate::node::insert::give_back;
 use crate::node::rest::rest_behind;
 use rart_keys::Partial;
 use rart_parts::TreeError;
@@ -46,6 +47,8 @@ impl<P: Partial, V> DefaultNode<P, V> {
     ///
     /// Memory is asked for only where the node gets a smaller kind that has a width. Refused, all
     /// stands as it was.
+    // Inline with what it calls: a child that is handed on as a result is copied each time.
+    #[inline(always)]
     pub(crate) fn take_child(&mut self, alloc: Global, b: u8) -> Result<Option<Self>, TreeError>
         requires within { JoinsWithin P.MAXIMUM_SIZE (prefix_of self.old) (children_in self.old) }
         ensures taken { IfOk result (λ child. child ≡ child_in b self.old) }
@@ -91,6 +94,50 @@ impl<P: Partial, V> DefaultNode<P, V> {
         value
     }
 
+    // The value comes back in a place of the caller's, which is empty: a result that holds it would be copied once more
+    // at each level.
+    fn take_below(
+        &mut self,
+        alloc: Global,
+        key: &[u8],
+        removed: &mut Option<V>,
+    ) -> Result<(), TreeError>
+        requires canonical { IsCanonical self.old }
+        requires fits { IsWithin P.MAXIMUM_SIZE (longest_key (pairs_of self.old)) }
+        requires stays { is_leaf_at key.now self.old ≡ false }
+        requires empty { removed.old ≡ None }
+        ensures ok { OnOk result (Some self.new ≡ trie_remove key.now self.old) }
+        ensures answer { OnOk result (removed.new ≡ trie_lookup key.now self.old) }
+        ensures refused { OnErr result (self.new ≡ self.old) }
+        ensures nothing { OnErr result (removed.new ≡ None) }
+        ensures error { IfErr result (λ e. e ≡ TreeError.Memory) }
+        ensures asks { OnErr result ((trie_asks_remove None key.now self.old ≡ true) × (trie_lookup key.now self.old ≢ None)) }
+    {
+        let Some(rest) = rest_behind(&self.prefix, key) else {
+            return Ok(());
+        };
+        let Some(&byte) = rest.first() else {
+            give_back(removed, self.value.take());
+            self.join_lone_child();
+            return Ok(());
+        };
+        match self.storage.seek_child_mut(byte) {
+            Some(child) => {
+                if !child.is_leaf_at(rest) {
+                    return child.take_below(alloc, rest, removed);
+                }
+            }
+            None => return Ok(()),
+        }
+        match self.take_child(alloc, byte)? {
+            Some(child) => {
+                give_back(removed, child.into_value());
+                Ok(())
+            }
+            None => unreachable!(),
+        }
+    }
+
     fn remove_below(&mut self, alloc: Global, key: &[u8]) -> Result<Option<V>, TreeError>
         requires canonical { IsCanonical self.old }
         requires fits { IsWithin P.MAXIMUM_SIZE (longest_key (pairs_of self.old)) }
@@ -101,25 +148,13 @@ impl<P: Partial, V> DefaultNode<P, V> {
         ensures error { IfErr result (λ e. e ≡ TreeError.Memory) }
         ensures asks { OnErr result ((trie_asks_remove None key.now self.old ≡ true) × (trie_lookup key.now self.old ≢ None)) }
     {
-        let Some(rest) = rest_behind(&self.prefix, key) else {
-            return Ok(None);
-        };
-        let Some(&byte) = rest.first() else {
-            let value = self.value.take();
-            self.join_lone_child();
-            return Ok(value);
-        };
-        match self.storage.seek_child_mut(byte) {
-            Some(child) => {
-                if !child.is_leaf_at(rest) {
-                    return child.remove_below(alloc, rest);
-                }
-            }
-            None => return Ok(None),
-        }
-        match self.take_child(alloc, byte)? {
-            Some(child) => Ok(child.into_value()),
-            None => unreachable!(),
+        let mut removed: Option<V> = None;
+        match self.take_below(alloc, key, &mut removed) {
+            Ok(()) => Ok(removed),
+            Err(error) => match removed {
+                Some(_) => unreachable!(),
+                None => Err(error),
+            },
         }
     }
 

@@ -76,7 +76,9 @@ impl<N> Storage<N> {
         }
     }
 
-    /// Puts a child in at byte `b`, where none stands. Takes no memory.
+    /// Puts a child in at byte `b`, where none stands. Takes no memory. Inline, so that a child that was just made isn't
+    /// copied once more on its way.
+    #[inline(always)]
     pub(crate) fn add_within(&mut self, b: u8, node: N)
         requires absent { child_at b (stored self.old) ≡ None }
         requires room { length (stored self.old) < width_of self.old }
@@ -116,7 +118,9 @@ impl<N> Storage<N> {
     ghost use Rattle.rart_nodes.specs.storages.Lends.{lends_child};
     ghost use Rattle.rart_nodes.specs.storages.Stored.{stored};
 
-    /// The child at byte `b`, to be changed.
+    /// The child at byte `b`, to be changed. Inline, so that the caller's branch on it needs no child's address made
+    /// from a test of the child: two reads of memory then go side by side.
+    #[inline(always)]
     pub(crate) fn seek_child_mut(&mut self, b: u8) -> Option<&mut N>
         ensures* writes_back { sem 𝓛 (lends_child N.row self.entry b result) }
         ensures value { option_copied_mut result ≡ child_at b (stored self.old) }

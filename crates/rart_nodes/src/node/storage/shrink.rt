@@ -37,6 +37,8 @@ impl<N> Storage<N> {
     /// becomes one of that kind, and one of width 4 without a child gives its memory back. Memory is
     /// asked for only where a width above 4 is given up, and before the first write: refused, all
     /// stands as it was.
+    // Inline, as the call that it stands in is: a child that is handed on as a result is copied each time.
+    #[inline(always)]
     pub(crate) fn delete_child(&mut self, alloc: Global, b: u8) -> Result<Option<N>, TreeError>
         ensures taken { IfOk result (λ c. c ≡ child_at b (stored self.old)) }
         ensures stored { OnOk result (stored self.new ≡ without_byte b (stored self.old)) }

@@ -7,7 +7,7 @@ use Rattle.std.proofs.lemmas.Result.{on_ok_weaker, on_err_weaker}
 use Rattle.rart_nodes.proofs.edits.Outcomes.{if_ok_weaker}
 use Rattle.rart_nodes.proofs.edits.PutAskLemmas.{asks_put-below, asks_put-full}
 use Rattle.rart_nodes.proofs.tries.RestLemmas.{trie_lookup-child, trie_lookup-no_child, trie_put-ended}
-use Rattle.rart_nodes.proofs.node.DefaultNode.+put.Goals as goal
+use Rattle.rart_nodes.proofs.node.DefaultNode.+put_below.Goals as goal
 
 -- the key ends here
 pub returns-in_default-first-clause-ok : goal.returns-in_default-first-clause-ok
@@ -15,8 +15,8 @@ returns-in_default-first-clause-ok g t c = rw (← c.self.view_is, c.replace.ens
     (sym (trie_put-ended _ c.args.key.now _ c.args.value _ _ _ c.in-Some.ensures c.in_default-first.ensures.value))
 
 -- it goes on in a child
-pub put-requires : goal.put-requires
-put-requires g t c κs within =
+pub put_below-requires : goal.put_below-requires
+put_below-requires g t c κs within =
     let canonical = rw (← c.self.view_is) at c.requires.canonical in (
       omega (arith, c.decreases, ap node_count c.self.view_is, count-found _ 0 c.in-Some-seek_child_mut.child.now (stored c.self.inside.storage) canonical.2 c.in-Some-seek_child_mut.ensures.value),
       (
@@ -25,7 +25,7 @@ put-requires g t c κs within =
           within.1,
           (
             canonical-found _ 0 c.in-Some-seek_child_mut.child.now (stored c.self.inside.storage) canonical.2 c.in-Some-seek_child_mut.ensures.value,
-            rest-within _ _ c.args.key.now _ c.in-Some.ensures c.requires.fits,
+            (rest-within _ _ c.args.key.now _ c.in-Some.ensures c.requires.fits, c.requires.empty),
           ),
         ),
       ),
@@ -33,48 +33,48 @@ put-requires g t c κs within =
 
 pub returns-in-Some-seek_child_mut-clause-ok : goal.returns-in-Some-seek_child_mut-clause-ok
 returns-in-Some-seek_child_mut-clause-ok g t c =
-    let left = rw c.in-Some-seek_child_mut.is at c.seek_child_mut.follows.holds c.put.new.self in
-    on_ok_weaker c.put.result (λ e. rw (← c.self.view_is) (put-below _ c.args.key.now _ c.args.value _ _ _ _ c.in-Some-seek_child_mut.child.now c.put.new.self (stored c.self.inside.storage) _
-    (rw (← c.self.view_is) at c.requires.canonical) c.in-Some.ensures c.in-Some-first.ensures.value c.in-Some-seek_child_mut.ensures.value e left.0 left.1)) c.put.ensures.ok
+    let left = rw c.in-Some-seek_child_mut.is at c.seek_child_mut.follows.holds c.put_below.new.self in
+    on_ok_weaker c.put_below.result (λ e. rw (← c.self.view_is) (put-below _ c.args.key.now _ c.args.value _ _ _ _ c.in-Some-seek_child_mut.child.now c.put_below.new.self (stored c.self.inside.storage) _
+    (rw (← c.self.view_is) at c.requires.canonical) c.in-Some.ensures c.in-Some-first.ensures.value c.in-Some-seek_child_mut.ensures.value e left.0 left.1)) c.put_below.ensures.ok
 
 pub returns-in-Some-seek_child_mut-clause-answer : goal.returns-in-Some-seek_child_mut-clause-answer
-returns-in-Some-seek_child_mut-clause-answer g t c = if_ok_weaker c.put.result (λ x e. rw (← c.self.view_is) (e ∙ sym (trie_lookup-child _ c.args.key.now _ _ _ _ c.in-Some-seek_child_mut.child.now (stored c.self.inside.storage)
-    (rw (← c.self.view_is) at c.requires.canonical) c.in-Some.ensures c.in-Some-first.ensures.value c.in-Some-seek_child_mut.ensures.value))) c.put.ensures.answer
+returns-in-Some-seek_child_mut-clause-answer g t c = if_ok_weaker c.put_below.result (λ x e. rw (← c.self.view_is) (e ∙ sym (trie_lookup-child _ c.args.key.now _ _ _ _ c.in-Some-seek_child_mut.child.now (stored c.self.inside.storage)
+    (rw (← c.self.view_is) at c.requires.canonical) c.in-Some.ensures c.in-Some-first.ensures.value c.in-Some-seek_child_mut.ensures.value))) c.put_below.ensures.answer
 
 pub returns-in-Some-seek_child_mut-clause-refused : goal.returns-in-Some-seek_child_mut-clause-refused
 returns-in-Some-seek_child_mut-clause-refused g t c =
-    let left = rw c.in-Some-seek_child_mut.is at c.seek_child_mut.follows.holds c.put.new.self in
-    on_err_weaker c.put.result (λ e. rw (← c.self.view_is) (child-put_back _ _ _ _ _ c.in-Some-seek_child_mut.child.now c.put.new.self (stored c.self.inside.storage) _ c.in-Some-seek_child_mut.ensures.value e left.0 left.1)) c.put.ensures.refused
+    let left = rw c.in-Some-seek_child_mut.is at c.seek_child_mut.follows.holds c.put_below.new.self in
+    on_err_weaker c.put_below.result (λ e. rw (← c.self.view_is) (child-put_back _ _ _ _ _ c.in-Some-seek_child_mut.child.now c.put_below.new.self (stored c.self.inside.storage) _ c.in-Some-seek_child_mut.ensures.value e left.0 left.1)) c.put_below.ensures.refused
 
 pub returns-in-Some-seek_child_mut-clause-asks : goal.returns-in-Some-seek_child_mut-clause-asks
 returns-in-Some-seek_child_mut-clause-asks g t c =
     let canonical = rw (← c.self.view_is) at c.requires.canonical in
-    on_err_weaker c.put.result (λ a. rw (← c.self.view_is) (
+    on_err_weaker c.put_below.result (λ a. rw (← c.self.view_is) (
       asks_put-below _ c.args.key.now _ _ _ _ c.in-Some-seek_child_mut.child.now (stored c.self.inside.storage) canonical c.in-Some.ensures c.in-Some-first.ensures.value c.in-Some-seek_child_mut.ensures.value a.0,
       record-child _ c.args.key.now _ _ _ _ c.in-Some-seek_child_mut.child.now (stored c.self.inside.storage) canonical c.in-Some.ensures c.in-Some-first.ensures.value c.in-Some-seek_child_mut.ensures.value a.1,
-    )) c.put.ensures.asks
+    )) c.put_below.ensures.asks
 
 -- no child stands there
 pub from_slice-requires : goal.from_slice-requires
 from_slice-requires g t c = rest-within _ _ c.args.key.now _ c.in-Some.ensures c.requires.fits
 
-pub returns-in-Ok-clause-ok : goal.returns-in-Ok-clause-ok
-returns-in-Ok-clause-ok g t c =
+pub returns-in-Ok-make_room-clause-ok : goal.returns-in-Ok-make_room-clause-ok
+returns-in-Ok-make_room-clause-ok g t c =
     let left = c.seek_child_mut.follows.holds-at-none in
     rw (← c.self.view_is) (put-beside _ c.args.key.now _ c.args.value _ _ _ _ (stored c.self.inside.storage) _
     (rw (← c.self.view_is) at c.requires.canonical) c.in-Some.ensures c.in-Some-first.ensures.value c.in_default-seek_child_mut.ensures.value
-    (c.add_within.ensures.width ∙ rw (left.0, left.1) at c.in-Ok.ensures.width)
-    (rw (c.add_within.ensures.stored, c.in-Ok.ensures.stored, left.1, c.new_leaf-leaf.ensures.leaf, c.from_slice.ensures) refl))
+    (c.add_within.ensures.width ∙ rw (left.0, left.1) at c.in-Ok-make_room.ensures.width)
+    (rw (c.add_within.ensures.stored, c.in-Ok-make_room.ensures.stored, left.1, c.new_leaf-leaf.ensures.leaf, c.from_slice.ensures) refl))
 
-pub returns-in-Ok-clause-answer : goal.returns-in-Ok-clause-answer
-returns-in-Ok-clause-answer g t c = rw (← c.self.view_is) (sym (trie_lookup-no_child _ c.args.key.now _ _ _ (width_of c.self.inside.storage) (stored c.self.inside.storage)
+pub returns-in-Ok-make_room-clause-answer : goal.returns-in-Ok-make_room-clause-answer
+returns-in-Ok-make_room-clause-answer g t c = rw (← c.self.view_is) (c.requires.empty ∙ sym (trie_lookup-no_child _ c.args.key.now _ _ _ (width_of c.self.inside.storage) (stored c.self.inside.storage)
     c.in-Some.ensures c.in-Some-first.ensures.value c.in_default-seek_child_mut.ensures.value))
 
-pub returns-in-Err-clause-asks : goal.returns-in-Err-clause-asks
-returns-in-Err-clause-asks g t c =
+pub returns-in-Err-make_room-clause-asks : goal.returns-in-Err-make_room-clause-asks
+returns-in-Err-make_room-clause-asks g t c =
     let left = c.seek_child_mut.follows.holds-at-none in
     rw (← c.self.view_is) (
       asks_put-full _ c.args.key.now _ c.self.inside.value (width_of c.self.inside.storage) _ _ (stored c.self.inside.storage) _ c.in-Some.ensures c.in-Some-first.ensures.value c.in_default-seek_child_mut.ensures.value
-          left.0 left.1 c.in-Err.ensures.asks,
+          left.0 left.1 c.in-Err-make_room.ensures.asks,
       record-no_child _ c.args.key.now _ _ (width_of c.self.inside.storage) _ (stored c.self.inside.storage) c.in-Some.ensures c.in-Some-first.ensures.value c.in_default-seek_child_mut.ensures.value,
     )

@@ -17,7 +17,7 @@ use Rattle.rart_nodes.proofs.edits.RemoveAskSteps.{asks_remove-below, asks_remov
 use Rattle.rart_nodes.proofs.edits.RemoveSteps.{value-removed, removed-below, removed-leaf, same-node}
 use Rattle.rart_nodes.proofs.tries.RestLemmas.{trie_lookup-left, trie_lookup-child, trie_lookup-no_child}
 use Rattle.rart_nodes.proofs.walks.SeenLemmas.{child_of-entries}
-use Rattle.rart_nodes.proofs.node.DefaultNode.+remove_below.Goals as goal
+use Rattle.rart_nodes.proofs.node.DefaultNode.+take_below.Goals as goal
 
 -- the key leaves the prefix
 pub returns-in_default-clause-ok : goal.returns-in_default-clause-ok
@@ -30,12 +30,12 @@ pub join_lone_child-requires-clause-within : goal.join_lone_child-requires-claus
 join_lone_child-requires-clause-within g t c = joins-canonical _ _ _ (width_of c.self.inside.storage) _ (rw (← c.self.view_is) at c.requires.canonical) (rw (← c.self.view_is) at c.requires.fits)
 
 pub returns-in_default-first-clause-ok : goal.returns-in_default-first-clause-ok
-returns-in_default-first-clause-ok g t c = ap Some (c.join_lone_child.ensures ∙ ap (λ v. joined_if_lone (node (g.P.Partial.bytes c.self.inside.prefix) v (width_of c.self.inside.storage) (as_children (stored c.self.inside.storage)))) c.take-value.ensures.after)
+returns-in_default-first-clause-ok g t c = ap Some (c.join_lone_child.ensures ∙ ap (λ v. joined_if_lone (node (g.P.Partial.bytes c.self.inside.prefix) v (width_of c.self.inside.storage) (as_children (stored c.self.inside.storage)))) c.take.ensures.after)
     ∙ rw (← c.self.view_is) (value-removed _ c.args.key.now _ _ _ (stored c.self.inside.storage) (rw (← c.self.view_is) at c.requires.canonical) c.in-Some.ensures c.in_default-first.ensures.value (rw (← c.self.view_is) at c.requires.stays))
 
 -- it goes on in a child that stays
-pub remove_below-requires : goal.remove_below-requires
-remove_below-requires g t c κs within =
+pub take_below-requires : goal.take_below-requires
+take_below-requires g t c κs within =
     let canonical = rw (← c.self.view_is) at c.requires.canonical in (
       omega (arith, c.decreases, ap node_count c.self.view_is, count-found _ 0 c.in-Some-seek_child_mut.child.now (stored c.self.inside.storage) canonical.2 c.in-Some-seek_child_mut.ensures.value),
       (
@@ -46,7 +46,7 @@ remove_below-requires g t c κs within =
             canonical-found _ 0 c.in-Some-seek_child_mut.child.now (stored c.self.inside.storage) canonical.2 c.in-Some-seek_child_mut.ensures.value,
             (
               fewer-within _ (longest_key (pairs_of c.args.self.now)) (longest_key (pairs_of c.in-Some-seek_child_mut.child.now)) (rw (← c.self.view_is) (entry-short _ _ (width_of c.self.inside.storage) _ c.in-Some-seek_child_mut.child.now (stored c.self.inside.storage) c.in-Some-seek_child_mut.ensures.value)) c.requires.fits,
-              sym c.is_leaf_at.ensures ∙ c.if-not-is_leaf_at.true,
+              (sym c.is_leaf_at.ensures ∙ c.if-not-is_leaf_at.true, c.requires.empty),
             ),
           ),
         ),
@@ -55,28 +55,28 @@ remove_below-requires g t c κs within =
 
 pub returns-then-not-is_leaf_at-clause-ok : goal.returns-then-not-is_leaf_at-clause-ok
 returns-then-not-is_leaf_at-clause-ok g t c =
-    let left = rw c.in-Some-seek_child_mut.is at c.seek_child_mut.follows.holds c.remove_below.new.self in
-    on_ok_weaker c.remove_below.result (λ r. rw (← c.self.view_is) (removed-below _ c.args.key.now _ _ _ _ _ c.in-Some-seek_child_mut.child.now c.remove_below.new.self (stored c.self.inside.storage) _
-    (rw (← c.self.view_is) at c.requires.canonical) c.in-Some.ensures c.in-Some-first.ensures.value c.in-Some-seek_child_mut.ensures.value r left.0 left.1)) c.remove_below.ensures.ok
+    let left = rw c.in-Some-seek_child_mut.is at c.seek_child_mut.follows.holds c.take_below.new.self in
+    on_ok_weaker c.take_below.result (λ r. rw (← c.self.view_is) (removed-below _ c.args.key.now _ _ _ _ _ c.in-Some-seek_child_mut.child.now c.take_below.new.self (stored c.self.inside.storage) _
+    (rw (← c.self.view_is) at c.requires.canonical) c.in-Some.ensures c.in-Some-first.ensures.value c.in-Some-seek_child_mut.ensures.value r left.0 left.1)) c.take_below.ensures.ok
 
 pub returns-then-not-is_leaf_at-clause-answer : goal.returns-then-not-is_leaf_at-clause-answer
-returns-then-not-is_leaf_at-clause-answer g t c = if_ok_weaker c.remove_below.result (λ x e. rw (← c.self.view_is) (e ∙ sym (trie_lookup-child _ c.args.key.now _ _ _ (width_of c.self.inside.storage) c.in-Some-seek_child_mut.child.now (stored c.self.inside.storage)
-    (rw (← c.self.view_is) at c.requires.canonical) c.in-Some.ensures c.in-Some-first.ensures.value c.in-Some-seek_child_mut.ensures.value))) c.remove_below.ensures.answer
+returns-then-not-is_leaf_at-clause-answer g t c = if_ok_weaker c.take_below.result (λ x e. rw (← c.self.view_is) (e ∙ sym (trie_lookup-child _ c.args.key.now _ _ _ (width_of c.self.inside.storage) c.in-Some-seek_child_mut.child.now (stored c.self.inside.storage)
+    (rw (← c.self.view_is) at c.requires.canonical) c.in-Some.ensures c.in-Some-first.ensures.value c.in-Some-seek_child_mut.ensures.value))) c.take_below.ensures.answer
 
 pub returns-then-not-is_leaf_at-clause-refused : goal.returns-then-not-is_leaf_at-clause-refused
 returns-then-not-is_leaf_at-clause-refused g t c =
-    let left = rw c.in-Some-seek_child_mut.is at c.seek_child_mut.follows.holds c.remove_below.new.self in
-    on_err_weaker c.remove_below.result (λ e. rw (← c.self.view_is) (child-put_back _ _ _ _ _ c.in-Some-seek_child_mut.child.now c.remove_below.new.self (stored c.self.inside.storage) _ c.in-Some-seek_child_mut.ensures.value e left.0 left.1)) c.remove_below.ensures.refused
+    let left = rw c.in-Some-seek_child_mut.is at c.seek_child_mut.follows.holds c.take_below.new.self in
+    on_err_weaker c.take_below.result (λ e. rw (← c.self.view_is) (child-put_back _ _ _ _ _ c.in-Some-seek_child_mut.child.now c.take_below.new.self (stored c.self.inside.storage) _ c.in-Some-seek_child_mut.ensures.value e left.0 left.1)) c.take_below.ensures.refused
 
 pub returns-then-not-is_leaf_at-clause-asks : goal.returns-then-not-is_leaf_at-clause-asks
 returns-then-not-is_leaf_at-clause-asks g t c =
     let canonical = rw (← c.self.view_is) at c.requires.canonical in
-    on_err_weaker c.remove_below.result (λ a. rw (← c.self.view_is) (
+    on_err_weaker c.take_below.result (λ a. rw (← c.self.view_is) (
       asks_remove-below _ c.args.key.now _ _ (width_of c.self.inside.storage) _ c.in-Some-seek_child_mut.child.now (stored c.self.inside.storage) canonical c.in-Some.ensures c.in-Some-first.ensures.value c.in-Some-seek_child_mut.ensures.value
           (sym c.is_leaf_at.ensures ∙ c.if-not-is_leaf_at.true) a.0,
       λ z. a.1 (sym (trie_lookup-child _ c.args.key.now _ _ _ (width_of c.self.inside.storage) c.in-Some-seek_child_mut.child.now (stored c.self.inside.storage)
           canonical c.in-Some.ensures c.in-Some-first.ensures.value c.in-Some-seek_child_mut.ensures.value) ∙ z),
-    )) c.remove_below.ensures.asks
+    )) c.take_below.ensures.asks
 
 -- no child stands there
 pub returns-in-None-clause-ok : goal.returns-in-None-clause-ok
@@ -86,7 +86,7 @@ returns-in-None-clause-ok g t c =
     ap Some (same-node _ _ _ _ (stored c.self.inside.storage) _ left.0 left.1 ∙ c.self.view_is) ∙ sym (remove-absent c.args.key.now c.args.self.now c.requires.canonical (rw (← c.self.view_is) none))
 
 pub returns-in-None-clause-answer : goal.returns-in-None-clause-answer
-returns-in-None-clause-answer g t c = rw (← c.self.view_is) (sym (trie_lookup-no_child _ c.args.key.now _ _ _ (width_of c.self.inside.storage) (stored c.self.inside.storage) c.in-Some.ensures c.in-Some-first.ensures.value c.in-None.ensures.value))
+returns-in-None-clause-answer g t c = rw (← c.self.view_is) (c.requires.empty ∙ sym (trie_lookup-no_child _ c.args.key.now _ _ _ (width_of c.self.inside.storage) (stored c.self.inside.storage) c.in-Some.ensures c.in-Some-first.ensures.value c.in-None.ensures.value))
 
 -- it goes on in a leaf that goes
 pub take_child-requires : goal.take_child-requires
@@ -142,5 +142,5 @@ returns-clause-answer g t c =
     let same = left.1 ∙ replaced-same _ c.in-Some-seek_child_mut.child.now (stored c.self.inside.storage) c.in-Some-seek_child_mut.ensures.value in
     let goes = sym c.is_leaf_at.ensures ∙ c.if-not-is_leaf_at.false in
     let child = some-equal c.in-Some-2.child c.in-Some-seek_child_mut.child.now (sym c.in-Some-2.is ∙ c.in_ok-child.ensures.taken ∙ child_of-entries _ (stored (c.seek_child_mut.follows.lender c.in-Some-seek_child_mut.child.now)) ∙ ap (child_at _) same ∙ sym c.in-Some-seek_child_mut.ensures.value) in
-    c.into_value.ensures ∙ ap value_of child ∙ rw (← c.self.view_is) (sym (leaf-value _ c.in-Some-seek_child_mut.child.now goes) ∙ sym (trie_lookup-child _ c.args.key.now _ _ _ (width_of c.self.inside.storage) c.in-Some-seek_child_mut.child.now (stored c.self.inside.storage)
+    c.give_back-in-Some-2.ensures ∙ c.into_value.ensures ∙ ap value_of child ∙ rw (← c.self.view_is) (sym (leaf-value _ c.in-Some-seek_child_mut.child.now goes) ∙ sym (trie_lookup-child _ c.args.key.now _ _ _ (width_of c.self.inside.storage) c.in-Some-seek_child_mut.child.now (stored c.self.inside.storage)
     (rw (← c.self.view_is) at c.requires.canonical) c.in-Some.ensures c.in-Some-first.ensures.value c.in-Some-seek_child_mut.ensures.value))
