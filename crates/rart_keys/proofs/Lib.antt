@@ -1,6 +1,7 @@
 mod Examples
 pub mod BulkListLemmas
 pub mod BulkReadLemmas
+pub mod ByteComparisons
 pub mod ByteOrder
 pub mod CommonPrefixes
 pub mod InlineBytes

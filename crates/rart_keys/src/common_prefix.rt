@@ -3,9 +3,13 @@
 //! Contracts see the answer twice: as the number that std's `common_prefix_len` computes, and as
 //! the greatest number of bytes with which both begin.
 ghost use Rattle.std.specs.Prelude.{◌≡◌, ◌+◌, ◌≤◌, length, take, drop, nat_eq};
+ghost use Rattle.std.specs.Cmp.Lexicographic.{slice_cmp};
 ghost use Rattle.std.specs.List.{common_prefix_len};
+ghost use Rattle.std.specs.Ordering.{nat_cmp};
 ghost use Rattle.rart_keys.specs.CommonPrefix.{IsCommonPrefixLength};
 ghost use Rattle.rart_keys.specs.LittleEndianWord.{little_endian_number};
+
+use std::cmp::Ordering;
 
 /// The number of bytes that are read at once.
 const WORD_BYTES: usize = 8;
@@ -16,6 +20,14 @@ pub fn common_prefix_length(left: &[u8], right: &[u8]) -> usize
     ensures greatest { IsCommonPrefixLength left.now right.now result }
 {
     prefix_length_words(left, right)
+}
+
+/// The order of two byte strings, byte by byte. What both begin with is passed over by words. Takes no memory.
+pub fn compare_bytes(left: &[u8], right: &[u8]) -> Ordering
+    ensures { result ≡ slice_cmp nat_cmp left.now right.now }
+{
+    let shared = common_prefix_length(left, right);
+    left[shared..].cmp(&right[shared..])
 }
 
 // Whole words as long as they are equal. In the first two that differ, the lowest different bit

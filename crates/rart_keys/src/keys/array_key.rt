@@ -4,6 +4,7 @@
 ghost use Rattle.std.specs.Prelude.{◌≡◌, ◌-◌, ◌≤◌, length, drop, replicate};
 ghost use Rattle.rart_keys.specs.KeyBytes.{AreBytes};
 
+use crate::common_prefix::compare_bytes;
 use crate::inline_bytes::joined;
 use crate::keys::KeyTrait;
 use crate::partials::Partial;
@@ -111,7 +112,7 @@ impl<const N: usize> Ord for ArrayKey<N> {
     ghost matches_eq = { λ a b. texts_ties (array_key_bytes a) (array_key_bytes b) };
 
     fn cmp(&self, other: &Self) -> Ordering {
-        self.as_slice().cmp(other.as_slice())
+        compare_bytes(self.as_slice(), other.as_slice())
     }
 }
 

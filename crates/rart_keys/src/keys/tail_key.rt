@@ -4,6 +4,7 @@
 ghost use Rattle.std.specs.Prelude.{◌≡◌, ◌≤◌, length, take, replicate};
 ghost use Rattle.rart_keys.specs.KeyBytes.{AreBytes};
 
+use crate::common_prefix::compare_bytes;
 use crate::inline_bytes::joined_at_end;
 use crate::keys::KeyTrait;
 use crate::partials::Partial;
@@ -101,7 +102,7 @@ impl<const N: usize> Ord for TailKey<N> {
     ghost matches_eq = { λ a b. texts_ties (tail_key_bytes a) (tail_key_bytes b) };
 
     fn cmp(&self, other: &Self) -> Ordering {
-        self.as_slice().cmp(other.as_slice())
+        compare_bytes(self.as_slice(), other.as_slice())
     }
 }
 

@@ -13,7 +13,7 @@ ghost use Rattle.rart_nodes.specs.tries.Trie.{IsCanonical, pairs_of};
 
 use crate::node::DefaultNode;
 use crate::node::storage::Storage;
-use rart_keys::Partial;
+use rart_keys::{Partial, common_prefix_length};
 use rart_parts::TreeError;
 use std::alloc::Global;
 
@@ -73,9 +73,8 @@ fn shared_part<P: Partial>(first: &[u8], last: &[u8], depth: usize) -> P
     ensures reach { depth + length (P.bytes result) ≤ length first.now }
     ensures fits { depth + length (P.bytes result) < 2 ^ 64 }
 {
-    let part = P::from_slice(&first[depth..]);
-    let shared = part.prefix_length_slice(&last[depth..]);
-    part.partial_before(shared)
+    let shared = common_prefix_length(&first[depth..], &last[depth..]);
+    P::from_slice(&first[depth..depth + shared])
 }
 
 /// What is left of a key behind `depth`.

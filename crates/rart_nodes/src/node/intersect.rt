@@ -49,6 +49,10 @@ fn meet_below<'a, P: Partial, V, W, C: Count, F, T: Meeting<V, W, F>>(
         return;
     };
     give_both::<V, W, F, T>(left_fork.value(), right_fork.value(), way, f);
+    if right_fork.is_bare() {
+        way.cut(mark);
+        return;
+    }
     let mut twins = Twins::of(left_fork, right_fork);
     while let Some((child, other)) = twins.enter_next(left_fork, right_fork, counter) {
         meet_below::<P, V, W, C, F, T>(child, other, way, counter, f);

@@ -13,6 +13,21 @@ give_both-requires-clause-room g t c =
     let way = c.in-Some.ensures.way in
     g.met.T.Meeting.lawful.has_room _ _ way.0 _ 0 way.1 c.requires.room (omega (arith, way.2.short))
 
+pub returns-then-is_bare-clause-place : goal.returns-then-is_bare-clause-place
+returns-then-is_bare-clause-place g t c =
+    let way = c.in-Some.ensures.way in
+    back-again _ _ _ _ way.0 _ c.mark-mark.ensures way.1 (way-stays _) c.cut-then-is_bare.ensures
+
+pub returns-then-is_bare-clause-given : goal.returns-then-is_bare-clause-given
+returns-then-is_bare-clause-given g t c =
+    let laws = g.met.T.Meeting.lawful in
+    let way = c.in-Some.ensures.way in
+    let here = rw (c.value.ensures, c.value-2.ensures) at c.give_both.ensures.given in
+    given-fork _ _ laws _ _ _ _ _ _ _ way.0 _ _ way.2 way.1 here (rw (c.is_bare.ensures c.if-is_bare.true) (laws.gives_none _ _))
+
+pub returns-then-is_bare-clause-visits : goal.returns-then-is_bare-clause-visits
+returns-then-is_bare-clause-visits g t c = omega (arith, (rw (c.is_bare.ensures c.if-is_bare.true) at c.in-Some.ensures.visits))
+
 pub loop-child-init : goal.loop-child-init
 loop-child-init g t c =
     let laws = g.met.T.Meeting.lawful in
