@@ -1,9 +1,12 @@
-//! A route table: rows of calls and what they answer, walks over its routes, and each request for memory refused in turn.
+//! A route table: rows of calls and what they answer, and walks over its routes.
+
+mod asking;
+mod refused;
 
 use rart::laws::routes::{add_then_route, withdraw_then_route};
-use rart::{ArrayKey, KeyTrait, LendingKeyView, RouteTable, TreeError, TryInsertError};
-use rart_test_tools::refusals::{part_ends, refuse, was_refused};
-use std::alloc::Global;
+use rart::{
+    ArrayKey, KeyTrait, LendingKeyView, NotInserted, RouteTable, TreeError, TryInsertError, Visits,
+};
 use std::cell::Cell;
 
 type Key = ArrayKey<16>;
@@ -13,9 +16,12 @@ type Table = RouteTable<Key, u64>;
 #[derive(Clone, Copy)]
 enum Ask {
     Add(&'static str, u64),
+    AddNew(&'static str, u64),
     Replace(&'static str, u64),
     Withdraw(&'static str),
     Route(&'static str),
+    // the target of a route of the counted tree
+    RouteSeen(&'static str),
     // whether the probe's longest prefix and its target are these
     IsRoute(&'static str, &'static str, u64),
     Len,
@@ -26,6 +32,8 @@ enum Ask {
 enum Reply {
     Added,
     Occupied(u64, u64),
+    // the prefix is stored, and the target comes back
+    Stored(u64),
     Value(Option<u64>),
     Is(bool),
     Len(usize),
@@ -56,6 +64,21 @@ fn add(table: &mut Table, prefix: &str, target: u64) -> Reply {
     }
 }
 
+fn add_new(table: &mut Table, prefix: &str, target: u64) -> Reply {
+    match table.add_new(&key(prefix), target) {
+        Ok(()) => Reply::Added,
+        Err(NotInserted::Stored(back)) => Reply::Stored(back),
+        Err(NotInserted::Refused(refused)) => returned(refused.error, refused.value),
+    }
+}
+
+fn route_seen(table: &Table, probe: &str) -> Option<u64> {
+    table
+        .seen::<Visits>()
+        .longest_prefix_value_bytes_counted(probe.as_bytes(), &mut Visits::new())
+        .copied()
+}
+
 fn returned(error: TreeError, back: u64) -> Reply {
     if error == TreeError::Memory {
         Reply::Returned(back)
@@ -74,6 +97,7 @@ fn is_route(table: &Table, probe: &str, prefix: &str, target: u64) -> bool {
 fn answer(table: &mut Table, ask: Ask) -> Reply {
     match ask {
         Ask::Add(prefix, target) => add(table, prefix, target),
+        Ask::AddNew(prefix, target) => add_new(table, prefix, target),
         Ask::Replace(prefix, target) => match table.replace(&key(prefix), target) {
             Ok(old) => Reply::Value(old),
             Err(refused) => returned(refused.error, refused.value),
@@ -84,6 +108,7 @@ fn answer(table: &mut Table, ask: Ask) -> Reply {
             Err(TreeError::Full) => Reply::Other,
         },
         Ask::Route(probe) => Reply::Value(table.route(probe.as_bytes()).copied()),
+        Ask::RouteSeen(probe) => Reply::Value(route_seen(table, probe)),
         Ask::IsRoute(probe, prefix, target) => Reply::Is(is_route(table, probe, prefix, target)),
         Ask::Len => Reply::Len(table.len()),
         Ask::IsEmpty => Reply::Is(table.is_empty()),
@@ -114,7 +139,7 @@ const VERSIONS: [Row; 9] = [
     (Ask::Len, Reply::Len(3)),
 ];
 
-const EDITED: [Row; 14] = [
+const EDITED: [Row; 19] = [
     (Ask::IsRoute("/api/v1/users", "/api/v1", 3), Reply::Is(true)),
     (Ask::IsRoute("/apis", "/api", 2), Reply::Is(true)),
     (Ask::IsRoute("/ap", "/", 1), Reply::Is(true)),
@@ -132,6 +157,11 @@ const EDITED: [Row; 14] = [
     (Ask::Route("/api/v2"), Reply::Value(Some(9))),
     (Ask::Replace("/api", 7), Reply::Value(Some(9))),
     (Ask::Replace("/apple", 5), Reply::Value(None)),
+    (Ask::RouteSeen("/api/v2"), Reply::Value(Some(7))),
+    (Ask::RouteSeen("home"), Reply::Value(None)),
+    (Ask::AddNew("/b", 6), Reply::Added),
+    (Ask::AddNew("/b", 8), Reply::Stored(8)),
+    (Ask::Route("/b"), Reply::Value(Some(6))),
 ];
 
 // The routes that come in turn are counted; past all of them where another comes.
@@ -245,134 +275,4 @@ fn edits_reach_the_probes_that_their_prefix_begins(rt: HostRuntime) {
     let mut table = Table::new(rt.alloc());
     let (filled, given) = (plays(&mut table, &VERSIONS), laws_give(&mut table));
     assert!(rt; filled.is_none() && given);
-}
-
-const BRANCHES: [Row; 7] = [
-    (Ask::Add("/a/b", 1), Reply::Added),
-    (Ask::Add("/a/c", 2), Reply::Added),
-    (Ask::Add("/a/d", 3), Reply::Added),
-    (Ask::Add("/a/e", 4), Reply::Added),
-    (Ask::Replace("/a/f", 5), Reply::Value(None)),
-    (Ask::Add("/", 7), Reply::Added),
-    (Ask::Len, Reply::Len(6)),
-];
-
-// What stands before an edit that makes a node anew, and the edit.
-const EDITS: [(&[Row], Row); 5] = [
-    // a node for two routes, and its growth beyond four
-    (
-        &[(Ask::Add("/a/b", 1), Reply::Added)],
-        (Ask::Add("/a/c", 2), Reply::Added),
-    ),
-    (
-        &[(Ask::Add("/a/b", 1), Reply::Added)],
-        (Ask::Replace("/a/c", 2), Reply::Value(None)),
-    ),
-    (&FOUR, (Ask::Add("/a/f", 5), Reply::Added)),
-    (&FOUR, (Ask::Replace("/a/f", 5), Reply::Value(None))),
-    // its shrinking to four
-    (&BRANCHES, (Ask::Withdraw("/a/c"), Reply::Value(Some(2)))),
-];
-
-const FOUR: [Row; 4] = [
-    (Ask::Add("/a/b", 1), Reply::Added),
-    (Ask::Add("/a/c", 2), Reply::Added),
-    (Ask::Add("/a/d", 3), Reply::Added),
-    (Ask::Add("/a/e", 4), Reply::Added),
-];
-
-const PROBES: [&str; 7] = ["/a/b", "/a/c", "/a/d", "/a/e", "/a/f", "/a", "a"];
-
-// Where the probes are routed.
-fn targets(table: &Table) -> [Option<u64>; 7] {
-    let mut found = [None; 7];
-    for (place, probe) in found.iter_mut().zip(&PROBES) {
-        *place = table.route(probe.as_bytes()).copied();
-    }
-    found
-}
-
-// A refused edit hands its target back and changes no route. Whether a request was refused.
-fn edit_is_refused_well(alloc: Global, table: &mut Table, row: &Row, at: usize) -> Option<bool> {
-    let before = (table.len(), targets(table));
-    refuse(alloc, at);
-    let reply = answer(table, row.0);
-    let refused = was_refused(alloc);
-    let well = if !refused {
-        reply == row.1
-    } else {
-        let handed_back = match row.0 {
-            Ask::Add(_, target) | Ask::Replace(_, target) => reply == Reply::Returned(target),
-            Ask::Withdraw(_) => reply == Reply::Refused,
-            _ => false,
-        };
-        handed_back && (table.len(), targets(table)) == before
-    };
-    well.then_some(refused)
-}
-
-// Each request of the edit refused in turn, and at last none.
-fn edit_is_swept(alloc: Global, stands: &[Row], edit: &Row) -> bool {
-    let mut table = Table::new(alloc);
-    let filled = plays(&mut table, stands);
-    for at in 1..100_usize {
-        match edit_is_refused_well(alloc, &mut table, edit, at) {
-            Some(true) => {}
-            Some(false) => {
-                part_ends(alloc);
-                return filled.is_none();
-            }
-            None => return false,
-        }
-    }
-    false
-}
-
-#[test]
-fn edits_of_routes_refused_in_turn(rt: HostRuntime) {
-    let mut number = 0_usize;
-    for (stands, edit) in &EDITS {
-        assert!(rt; edit_is_swept(rt.alloc(), stands, edit), "row {number}");
-        number = number.wrapping_add(1);
-    }
-}
-
-// How often the walk over the routes below "/a" called.
-fn views_below(table: &Table, lent: bool) -> (Result<(), TreeError>, usize) {
-    let seen = Cell::new(0_usize);
-    let mut callback = |_view: LendingKeyView<'_, '_>, _target: &u64| {
-        seen.set(seen.get().wrapping_add(1));
-    };
-    let walked = if lent {
-        table.below_for_each_by_ref(&key("/a"), &mut callback)
-    } else {
-        table.below_for_each(&key("/a"), callback)
-    };
-    (walked, seen.get())
-}
-
-// The walk is refused before any call, or calls for all.
-fn walk_is_swept(alloc: Global, table: &Table, lent: bool) -> bool {
-    for at in 1..100_usize {
-        refuse(alloc, at);
-        let walked = views_below(table, lent);
-        if !was_refused(alloc) {
-            part_ends(alloc);
-            return walked == (Ok(()), 5);
-        }
-        if walked != (Err(TreeError::Memory), 0) {
-            return false;
-        }
-    }
-    false
-}
-
-#[test]
-fn views_of_routes_refused_in_turn(rt: HostRuntime) {
-    let mut table = Table::new(rt.alloc());
-    let filled = plays(&mut table, &BRANCHES);
-    assert_eq!(rt; filled, None);
-    for lent in [false, true] {
-        assert!(rt; walk_is_swept(rt.alloc(), &table, lent), "lent {lent}");
-    }
 }

@@ -9,9 +9,9 @@ use std::cell::Cell;
 use std::cmp::Ordering;
 use std::ops::Bound;
 
-pub const TREE_A: [Pair; 2] = [("ab", 1), ("abcd", 2)];
+pub const AB_AND_ABCD: [Pair; 2] = [("ab", 1), ("abcd", 2)];
 
-const TREE_B: [Pair; 1] = [("abcd", 3)];
+const ABCD_ALONE: [Pair; 1] = [("abcd", 3)];
 
 const WITH_EMPTY: [Pair; 3] = [("", 7), ("b", 8), ("bcd", 9)];
 
@@ -111,7 +111,7 @@ fn walk_sees_all(tree: &Tree, rows: &[Row]) -> Result<bool, TreeError> {
 
 #[test]
 fn views_below_a_prefix(rt: HostRuntime) {
-    let tree = filled(&rt, rt.alloc(), &TREE_A);
+    let tree = filled(&rt, rt.alloc(), &AB_AND_ABCD);
     let abcd: Row = ("abcd", 2, "ab", "cd");
     let ab: Row = ("ab", 1, "ab", "");
     assert!(rt; walks_see(&tree, b"abc", &[abcd]) == Ok(true));
@@ -160,9 +160,49 @@ fn shows_longest(tree: &Tree, probe: &[u8], row: &Row) -> (Result<bool, TreeErro
     (told, seen.get())
 }
 
+// The same of the forms that lend the callback, with the probe by reference and by value.
+fn shows_longest_by_ref(
+    tree: &Tree,
+    probe: &[u8],
+    row: &Row,
+) -> (
+    Result<bool, TreeError>,
+    Result<bool, TreeError>,
+    usize,
+    usize,
+)
+    requires { length probe.now ≤ 16 }
+{
+    let key = Key::new_from_slice(probe);
+    let mut first = 0_usize;
+    let mut callback = |view: LendingKeyView<'_, '_>, value: &u64| {
+        let wanted = *value == row.1 && is_view(view, row);
+        first = first.wrapping_add(if wanted { 1 } else { 100 });
+    };
+    let by_reference = tree.with_longest_prefix_match_view_by_ref_k(&key, &mut callback);
+    let mut second = 0_usize;
+    let mut callback = |view: LendingKeyView<'_, '_>, value: &u64| {
+        let wanted = *value == row.1 && is_view(view, row);
+        second = second.wrapping_add(if wanted { 1 } else { 100 });
+    };
+    let by_value = tree.with_longest_prefix_match_view_by_ref(key, &mut callback);
+    (by_reference, by_value, first, second)
+}
+
+#[test]
+fn the_longest_match_is_shown_once_by_ref(rt: HostRuntime) {
+    let tree = filled(&rt, rt.alloc(), &AB_AND_ABCD);
+    let shown = shows_longest_by_ref(&tree, b"abcx", &("ab", 1, "ab", ""));
+    assert!(rt; shown == (Ok(true), Ok(true), 1, 1));
+    let shown = shows_longest_by_ref(&tree, b"abcde", &("abcd", 2, "ab", "cd"));
+    assert!(rt; shown == (Ok(true), Ok(true), 1, 1));
+    let shown = shows_longest_by_ref(&tree, b"x", &("", 0, "", ""));
+    assert!(rt; shown == (Ok(false), Ok(false), 0, 0));
+}
+
 #[test]
 fn the_longest_match_is_shown_once(rt: HostRuntime) {
-    let tree = filled(&rt, rt.alloc(), &TREE_A);
+    let tree = filled(&rt, rt.alloc(), &AB_AND_ABCD);
     assert!(rt; shows_longest(&tree, b"abcx", &("ab", 1, "ab", "")) == (Ok(true), 1));
     assert!(rt; shows_longest(&tree, b"abcde", &("abcd", 2, "ab", "cd")) == (Ok(true), 1));
     assert!(rt; shows_longest(&tree, b"x", &("", 0, "", "")) == (Ok(false), 0));
@@ -188,8 +228,8 @@ fn compare(one: LendingKeyView<'_, '_>, other: LendingKeyView<'_, '_>) -> bool {
 #[test]
 fn views_of_equal_bytes_can_differ(rt: HostRuntime) {
     let (left, right) = (
-        filled(&rt, rt.alloc(), &TREE_A),
-        filled(&rt, rt.alloc(), &TREE_B),
+        filled(&rt, rt.alloc(), &AB_AND_ABCD),
+        filled(&rt, rt.alloc(), &ABCD_ALONE),
     );
     let key = Key::new_from_slice(b"abcd");
     let well = Cell::new(0_usize);
@@ -238,7 +278,7 @@ fn copies(alloc: Global, view: LendingKeyView<'_, '_>) -> Result<bool, TreeError
 #[test]
 fn bytes_of_a_view_are_copied(rt: HostRuntime) {
     let alloc = rt.alloc();
-    let tree = filled(&rt, alloc, &TREE_A);
+    let tree = filled(&rt, alloc, &AB_AND_ABCD);
     let well = Cell::new(false);
     let shown = tree.with_longest_prefix_match_view_k(
         &Key::new_from_slice(b"ab"),

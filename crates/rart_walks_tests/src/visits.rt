@@ -18,7 +18,7 @@ type Row = (&'static str, u64, u64, u64, bool);
 
 const ALP: [Pair; 4] = [("alpha1", 1), ("alpha2", 2), ("alphabet", 3), ("alpine", 4)];
 
-const OF_ALP: [Row; 8] = [
+const OF_ALP: [Row; 9] = [
     ("alp", 0, 0, 11234, false),
     ("alp", 2, 0, 112, false),
     ("alp", 0, 3, 1123, true),
@@ -27,6 +27,7 @@ const OF_ALP: [Row; 8] = [
     ("", 1, 0, 11, false),
     ("alpine", 0, 4, 14, true),
     ("zebra", 0, 1, 1, false),
+    ("zebra", 0, 0, 1, false),
 ];
 
 fn control(value: u64, row: &Row) -> Result<VisitControl, &'static str> {

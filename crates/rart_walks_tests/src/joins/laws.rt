@@ -3,8 +3,8 @@
 use crate::joins::rows::{Given, ROWS, Triple};
 use crate::prefixes::{Key, Pair, Tree, filled};
 use rart::laws::intersections::intersections_are_symmetric;
-use rart::{KeyTrait, LendingKeyView};
-use rart_test_tools::refusals::{refuse, was_refused};
+use rart::{KeyTrait, LendingKeyView, TreeError};
+use rart_test_tools::refusals::{is_swept, refuse, was_refused};
 use std::alloc::Global;
 use std::cell::Cell;
 
@@ -25,6 +25,53 @@ fn swapped_trees_give_swapped_values(rt: HostRuntime) {
         let left = filled(&rt, rt.alloc(), row.0);
         let right = filled(&rt, rt.alloc(), row.1);
         let well = gives_both_ways(&left, &right, row.2);
+        assert!(rt; well, "row {at}");
+        at = at.wrapping_add(1);
+    }
+}
+
+// A refused law says `Memory`: the second callback wasn't called, and the first was called at all pairs or at none. Whether a
+// request was refused.
+fn is_refused_well(
+    alloc: Global,
+    left: &Tree,
+    right: &Tree,
+    wanted: &[Triple],
+    at: usize,
+) -> Option<bool> {
+    let mut there = Given::nothing(wanted, false);
+    let mut back = Given::nothing(wanted, true);
+    let mut one_way = |key: Key, one: &u64, other: &u64| there.pair(key.as_ref(), *one, *other);
+    let mut other_way = |key: Key, one: &u64, other: &u64| back.pair(key.as_ref(), *one, *other);
+    refuse(alloc, at);
+    let answer = intersections_are_symmetric(left, right, &mut one_way, &mut other_way);
+    let refused = was_refused(alloc);
+    let well = match answer {
+        Ok(()) => !refused && there.all() && back.all(),
+        Err(error) => {
+            let once_or_never = there.all() || there.is_uncalled();
+            refused && error == TreeError::Memory && back.is_uncalled() && once_or_never
+        }
+    };
+    well.then_some(refused)
+}
+
+// Nothing is asked for where a tree is empty.
+fn law_is_swept(alloc: Global, left: &Tree, right: &Tree, wanted: &[Triple]) -> bool {
+    if left.is_empty() || right.is_empty() {
+        is_refused_well(alloc, left, right, wanted, 1) == Some(false)
+    } else {
+        is_swept(alloc, |at| is_refused_well(alloc, left, right, wanted, at))
+    }
+}
+
+#[test]
+fn swapped_trees_refused_in_turn(rt: HostRuntime) {
+    let mut at = 0_usize;
+    for row in &ROWS {
+        let left = filled(&rt, rt.alloc(), row.0);
+        let right = filled(&rt, rt.alloc(), row.1);
+        let well = law_is_swept(rt.alloc(), &left, &right, row.2);
         assert!(rt; well, "row {at}");
         at = at.wrapping_add(1);
     }

@@ -66,6 +66,10 @@ impl<'a> Given<'a> {
     pub fn all(&self) -> bool {
         self.well && self.many == self.wanted.len()
     }
+
+    pub fn is_uncalled(&self) -> bool {
+        self.many == 0
+    }
 }
 
 fn gives_values(left: &Tree, right: &Tree, wanted: &[Triple], swapped: bool) -> bool {

@@ -119,18 +119,33 @@ fn named(number: u64, name: Name) -> usize {
     }
 }
 
+// The same, where the key is that of the number too.
+fn named_at(key: &[u8], number: u64, name: Name) -> usize {
+    match (key, number) {
+        (b"b", 2) | (b"bc", 3) => named(number, name),
+        _ => 100,
+    }
+}
+
 fn meets_names(numbers: &Tree, names: &Names) -> bool {
     let many = Cell::new(0_usize);
-    let one_way = numbers.intersect_with(names, |_key: Key, number: &u64, name: &Name| {
-        many.set(many.get().wrapping_add(named(*number, *name)));
+    let one_way = numbers.intersect_with(names, |key: Key, number: &u64, name: &Name| {
+        let times = named_at(key.as_ref(), *number, *name);
+        many.set(many.get().wrapping_add(times));
     });
+    let with_keys = many.get();
     numbers.intersect_values_with(names, |number: &u64, name: &Name| {
         many.set(many.get().wrapping_add(named(*number, *name)));
     });
+    let with_values = many.get();
     names.intersect_values_with(numbers, |name: &Name, number: &u64| {
         many.set(many.get().wrapping_add(named(*number, *name)));
     });
-    one_way == Ok(()) && many.get() == 6 && numbers.intersect_count(names) == 2
+    one_way == Ok(())
+        && with_keys == 2
+        && with_values == 4
+        && many.get() == 6
+        && numbers.intersect_count(names) == 2
 }
 
 #[test]

@@ -3,7 +3,7 @@
 ghost use Rattle.std.specs.Prelude.{◌≤◌, length};
 
 use crate::prefixes::{Key, Pair, THREE, Tree, filled, is_pair};
-use crate::views::{Row, TREE_A, next_row};
+use crate::views::{AB_AND_ABCD, Row, next_row};
 use crate::visits::{OF_THREE, with_match};
 use rart::{KeyTrait, LendingKeyView, Seen, TreeError, Visits};
 use std::cell::Cell;
@@ -170,7 +170,7 @@ fn views_within_are(tree: &Tree, start: &[u8], rows: &[Row]) -> Result<bool, Tre
 
 #[test]
 fn views_are_those_of_the_plain_walks(rt: HostRuntime) {
-    let tree = filled(&rt, rt.alloc(), &TREE_A);
+    let tree = filled(&rt, rt.alloc(), &AB_AND_ABCD);
     let abcd: Row = ("abcd", 2, "ab", "cd");
     let ab: Row = ("ab", 1, "ab", "");
     assert!(rt; views_are(&tree, &[ab, abcd]) == Ok(true));
@@ -199,7 +199,7 @@ fn shows_longest(tree: &Tree, probe: &[u8], rows: &[Row]) -> (Result<bool, TreeE
 
 #[test]
 fn the_longest_match_is_shown_once_or_never(rt: HostRuntime) {
-    let tree = filled(&rt, rt.alloc(), &TREE_A);
+    let tree = filled(&rt, rt.alloc(), &AB_AND_ABCD);
     assert!(rt; shows_longest(&tree, b"abcx", &[("ab", 1, "ab", "")]) == (Ok(true), 1));
     assert!(rt; shows_longest(&tree, b"abcde", &[("abcd", 2, "ab", "cd")]) == (Ok(true), 1));
     assert!(rt; shows_longest(&tree, b"x", &[]) == (Ok(false), 0));

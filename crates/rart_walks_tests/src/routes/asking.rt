@@ -1,0 +1,40 @@
+//! Calls of a route table that may ask for no memory.
+
+use super::{Ask, Reply, Row, Table, VERSIONS, covers, plays};
+use rart_test_tools::refusals::{refuse, was_refused};
+use std::alloc::Global;
+
+// Look-ups, and edits that change no node.
+const QUIET: [Row; 12] = [
+    (Ask::Len, Reply::Len(3)),
+    (Ask::IsEmpty, Reply::Is(false)),
+    (Ask::Route("/api/v2"), Reply::Value(Some(2))),
+    (Ask::Route("home"), Reply::Value(None)),
+    (Ask::RouteSeen("/api/v2"), Reply::Value(Some(2))),
+    (Ask::IsRoute("/api/v1/users", "/api/v1", 3), Reply::Is(true)),
+    (Ask::IsRoute("", "", 0), Reply::Is(false)),
+    (Ask::Replace("/api", 9), Reply::Value(Some(2))),
+    (Ask::Add("/api", 8), Reply::Occupied(8, 9)),
+    (Ask::AddNew("/api", 8), Reply::Stored(8)),
+    (Ask::Withdraw("/ap"), Reply::Value(None)),
+    (Ask::Route("/api/v2"), Reply::Value(Some(9))),
+];
+
+// Whether all goes well while the next request is refused, and none is made.
+fn is_quiet(alloc: Global, table: &mut Table) -> bool {
+    refuse(alloc, 1);
+    let covered = covers(table, "/api/v1", &[("/", 1), ("/api", 2), ("/api/v1", 3)])
+        && covers(table, "api", &[]);
+    let played = plays(table, &QUIET);
+    !was_refused(alloc) && covered && played.is_none()
+}
+
+#[test]
+fn look_ups_of_routes_ask_for_nothing(rt: HostRuntime) {
+    let mut table = Table::new(rt.alloc());
+    let (filled, quiet) = (
+        plays(&mut table, &VERSIONS),
+        is_quiet(rt.alloc(), &mut table),
+    );
+    assert!(rt; filled.is_none() && quiet);
+}
