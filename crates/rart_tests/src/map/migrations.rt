@@ -2,7 +2,7 @@
 
 use crate::play::replies::is_counted;
 use rart::{AdaptiveRadixTree, ArrayKey, KeyTrait, MigrateError, TreeStatsTrait};
-use rart_test_tools::refusals::{is_swept, refuse, was_refused};
+use rart_test_tools::refusals::{is_swept, part_ends, refuse, was_refused};
 use std::alloc::Global;
 use std::process::Abort;
 use std::test::Fail;
@@ -154,6 +154,57 @@ fn migrations_refused_in_turn(rt: HostRuntime) {
     let (old, open) = (filled(&rt, alloc, &LETTERS), filled(&rt, alloc, &OPEN));
     assert!(rt; is_swept(alloc, |at| is_refused_well(alloc, &old, at)));
     assert!(rt; is_swept(alloc, |at| open_is_refused_well(alloc, &open, at)));
+}
+
+// How many requests were refused before none was; None where one went another way.
+fn count_refused_of_open(alloc: Global, old: &Tree) -> Option<usize> {
+    for at in 1..100_usize {
+        match open_is_refused_well(alloc, old, at) {
+            Some(true) => {}
+            Some(false) => {
+                part_ends(alloc);
+                return Some(at - 1);
+            }
+            None => return None,
+        }
+    }
+    None
+}
+
+// The same of a walk over all pairs.
+fn count_refused_of_walk(alloc: Global, old: &Tree) -> Option<usize> {
+    for at in 1..100_usize {
+        refuse(alloc, at);
+        let started = old.iter().is_ok();
+        let refused = was_refused(alloc);
+        if started == refused {
+            return None;
+        }
+        if !refused {
+            part_ends(alloc);
+            return Some(at - 1);
+        }
+    }
+    None
+}
+
+// Whether exactly the room of the walk and of a list of keys and one of values is asked for, where a key has no closing zero.
+// Where nothing can be refused, nothing is told.
+fn asks_for_no_node(alloc: Global, old: &Tree) -> bool {
+    match (
+        count_refused_of_open(alloc, old),
+        count_refused_of_walk(alloc, old),
+    ) {
+        (Some(0), Some(0)) => true,
+        (Some(many), Some(of_walk)) => of_walk > 0 && many == of_walk.wrapping_add(2),
+        _ => false,
+    }
+}
+
+#[test]
+fn all_keys_are_tested_before_a_node_is_made_refused_in_turn(rt: HostRuntime) {
+    let open = filled(&rt, rt.alloc(), &OPEN);
+    assert!(rt; asks_for_no_node(rt.alloc(), &open));
 }
 
 #[test]
