@@ -1,6 +1,7 @@
 //! Updates through a slot, as calls that are values: what is written where the slot is occupied, what is asked for then, the
 //! reply, and the value that the key has afterwards.
 
+mod drops;
 mod refused;
 
 use crate::play::forms::asked;
