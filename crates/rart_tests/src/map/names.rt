@@ -1,10 +1,12 @@
 //! What the map hands on of the crates below is theirs, by its own names.
 
+use rart::TreeError;
 use rart::keys::tail_key::TailKey;
 use rart::mapping::{DirectMapping, NodeMapping};
 use rart::node::{DefaultNode, Node};
 use rart::partials::array_partial::ArrPartial;
 use rart::utils::bitset::{Bitset8, BitsetTrait};
+use std::alloc::Global;
 use std::test::Fail;
 
 fn is_empty_set(set: &rart_parts::utils::bitset::Bitset8<1>) -> bool {
@@ -23,20 +25,23 @@ fn is_empty_key(key: &rart_keys::keys::tail_key::TailKey<4>) -> bool {
     rart_keys::KeyTrait::as_ref(key).is_empty()
 }
 
-#[test]
-fn sets_maps_nodes_and_keys_are_those_of_the_crates_below(rt: HostRuntime) -> Result<(), Fail> {
-    let map: DirectMapping<u8> = DirectMapping::new(rt.alloc())?;
+fn are_theirs(alloc: Global) -> Result<bool, TreeError> {
+    let map: DirectMapping<u8> = DirectMapping::new(alloc)?;
     let leaf: DefaultNode<ArrPartial<4>, u8> = Node::new_leaf(
         rart::Partial::from_slice(b"abcd"),
         1,
     );
     let key: TailKey<4> = rart::KeyTrait::new_from_slice(b"");
-    let seen = (
-        is_empty_set(&Bitset8::<1>::new()),
-        is_empty_map(&map),
-        is_leaf(&leaf),
-        is_empty_key(&key),
-    );
-    assert!(rt; seen == (true, true, true, true));
+    Ok(
+        is_empty_set(&Bitset8::<1>::new())
+            && is_empty_map(&map)
+            && is_leaf(&leaf)
+            && is_empty_key(&key),
+    )
+}
+
+#[test]
+fn sets_maps_nodes_and_keys_are_those_of_the_crates_below(rt: HostRuntime) -> Result<(), Fail> {
+    assert!(rt; are_theirs(rt.alloc())?);
     Ok(())
 }
