@@ -3,8 +3,6 @@
 use rart::TreeError;
 use rart::keys::tail_key::TailKey;
 use rart::mapping::{DirectMapping, NodeMapping};
-use rart::node::{DefaultNode, Node};
-use rart::partials::array_partial::ArrPartial;
 use rart::utils::bitset::{Bitset8, BitsetTrait};
 use std::alloc::Global;
 use std::test::Fail;
@@ -17,31 +15,18 @@ fn is_empty_map(map: &rart_parts::mapping::DirectMapping<u8>) -> bool {
     map.num_children() == 0
 }
 
-fn is_leaf(node: &rart_nodes::node::DefaultNode<rart_keys::ArrPartial<4>, u8>) -> bool {
-    node.is_leaf()
-}
-
 fn is_empty_key(key: &rart_keys::keys::tail_key::TailKey<4>) -> bool {
     rart_keys::KeyTrait::as_ref(key).is_empty()
 }
 
 fn are_theirs(alloc: Global) -> Result<bool, TreeError> {
     let map: DirectMapping<u8> = DirectMapping::new(alloc)?;
-    let leaf: DefaultNode<ArrPartial<4>, u8> = Node::new_leaf(
-        rart::Partial::from_slice(b"abcd"),
-        1,
-    );
     let key: TailKey<4> = rart::KeyTrait::new_from_slice(b"");
-    Ok(
-        is_empty_set(&Bitset8::<1>::new())
-            && is_empty_map(&map)
-            && is_leaf(&leaf)
-            && is_empty_key(&key),
-    )
+    Ok(is_empty_set(&Bitset8::<1>::new()) && is_empty_map(&map) && is_empty_key(&key))
 }
 
 #[test]
-fn sets_maps_nodes_and_keys_are_those_of_the_crates_below(rt: HostRuntime) -> Result<(), Fail> {
+fn sets_maps_and_keys_are_those_of_the_crates_below(rt: HostRuntime) -> Result<(), Fail> {
     assert!(rt; are_theirs(rt.alloc())?);
     Ok(())
 }
