@@ -1,6 +1,9 @@
 //! Iterators of the map, and look-ups and walks of a tree that is seen.
 
-use rart::{AdaptiveRadixTree, ArrPartial, ArrayKey, Iter, KeyTrait, Seen, ValuesIter, Visits};
+use rart::{
+    AdaptiveRadixTree, ArrPartial, ArrayKey, Iter, KeyTrait, Seen, TreeError, ValuesIter, Visits,
+};
+use rart_test_tools::refusals::{refuse, was_refused};
 use std::alloc::Global;
 use std::process::Abort;
 
@@ -128,4 +131,47 @@ fn a_counted_iteration_answers_as_the_plain_one(rt: HostRuntime) {
         }
     }
     assert!(rt; all.next_counted(&mut Visits::new()).is_none());
+}
+
+#[test]
+fn iterators_refused_in_turn(rt: HostRuntime) {
+    let alloc = rt.alloc();
+    let tree = filled(&rt, alloc, &FIVE);
+    for at in 1..10_usize {
+        refuse(alloc, at);
+        let answer = tree.iter();
+        let refused = was_refused(alloc);
+        match answer {
+            Ok(mut all) => {
+                assert!(rt; !refused, "request {at}");
+                come_next(&rt, &mut all, &FIVE);
+                assert!(rt; all.next().is_none());
+                return;
+            }
+            Err(error) => assert!(rt; refused && error == TreeError::Memory, "request {at}"),
+        }
+        gives_all(&rt, &tree, &FIVE);
+    }
+    assert!(rt; false, "refused for ever");
+}
+
+#[test]
+fn iterators_over_values_refused_in_turn(rt: HostRuntime) {
+    let alloc = rt.alloc();
+    let tree = filled(&rt, alloc, &FIVE);
+    for at in 1..10_usize {
+        refuse(alloc, at);
+        let answer = tree.values_iter();
+        let refused = was_refused(alloc);
+        match answer {
+            Ok(values) => {
+                assert!(rt; !refused, "request {at}");
+                ascend(&rt, values, 5);
+                return;
+            }
+            Err(error) => assert!(rt; refused && error == TreeError::Memory, "request {at}"),
+        }
+        gives_all(&rt, &tree, &FIVE);
+    }
+    assert!(rt; false, "refused for ever");
 }

@@ -14,6 +14,6 @@ seen_join t u = join (seen_pairs t) (seen_pairs u)
 abbrev pub seen_visits : {V W : Type 0} → Option (Bor (Trie V)) → Option (Bor (Trie W)) → ℕ
 seen_visits t u = joint_visits (seen_keys t) (seen_keys u)
 
--- no fewer: one less than both have nodes
+-- at least as many: the nodes of both together less one; 0 where neither has any
 abbrev pub seen_bound : {V W : Type 0} → Option (Bor (Trie V)) → Option (Bor (Trie W)) → ℕ
 seen_bound t u = length (seen_nodes t) + length (seen_nodes u) - 1

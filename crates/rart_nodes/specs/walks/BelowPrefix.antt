@@ -14,6 +14,6 @@ cut_below p es = cut_pairs (keys_of es) (below p es)
 abbrev pub below_visits : {V : Type 0} → List ℕ → List (List ℕ × V) → ℕ
 below_visits p es = probe_count (keys_of es) p + 2 * length (below p es)
 
--- no fewer, with the bytes of the prefix in place of the branch points on its way
+-- at least as many: with the bytes of the prefix in place of the branch points on its way
 abbrev pub below_bound : {V : Type 0} → List ℕ → List (List ℕ × V) → ℕ
 below_bound p es = length p + 1 + 2 * length (below p es)

@@ -4,7 +4,7 @@ use Rattle.std.specs.List.{FoldsTo}
 use Rattle.rart_parts.specs.declared.error.TreeError.{TreeError}
 use Rattle.rart_parts.specs.declared.error.TreeError.TheVariants.{Memory}
 
--- calls of which R tells were made at each of these in turn, by a callback f that is gone
+-- there are calls of which R tells, at each of these in turn, by a callback f that is gone; others aren't excluded
 abbrev pub CallsEach : {F A : Type 0} → (F → A → F → Type 0) → F → List A → Type 0
 CallsEach {F} R f xs = (last : F) × FoldsTo R f xs last
 

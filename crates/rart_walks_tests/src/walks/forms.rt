@@ -21,6 +21,7 @@ pub enum Walk {
     Longest,
     LongestByValue,
     LongestLent,
+    LongestLentByValue,
     Values,
     ValuesByValue,
     ValuesLent,
@@ -42,7 +43,7 @@ pub const PAIRS: [Pair; 5] = [
 ];
 
 /// Each walk of PAIRS about "alp", and how often it calls.
-pub const WALKS: [(Walk, usize); 21] = [
+pub const WALKS: [(Walk, usize); 22] = [
     (Walk::Views, 5),
     (Walk::ViewsLent, 5),
     (Walk::ViewsBelow, 4),
@@ -54,6 +55,7 @@ pub const WALKS: [(Walk, usize); 21] = [
     (Walk::Longest, 1),
     (Walk::LongestByValue, 1),
     (Walk::LongestLent, 1),
+    (Walk::LongestLentByValue, 1),
     (Walk::Values, 4),
     (Walk::ValuesByValue, 4),
     (Walk::ValuesLent, 4),
@@ -154,12 +156,14 @@ fn longest(tree: &Tree, key: Key, by_value: bool, calls: &Calls) -> Ended {
     is_told(told, calls)
 }
 
-fn longest_lent(tree: &Tree, key: Key, calls: &Calls) -> Ended {
+fn longest_lent(tree: &Tree, key: Key, by_value: bool, calls: &Calls) -> Ended {
     let mut callback = |_view: LendingKeyView<'_, '_>, _value: &u64| calls.call();
-    is_told(
-        tree.with_longest_prefix_match_view_by_ref_k(&key, &mut callback),
-        calls,
-    )
+    let told = if by_value {
+        tree.with_longest_prefix_match_view_by_ref(key, &mut callback)
+    } else {
+        tree.with_longest_prefix_match_view_by_ref_k(&key, &mut callback)
+    };
+    is_told(told, calls)
 }
 
 fn values(tree: &Tree, key: Key, by_value: bool, calls: &Calls) -> Ended {
@@ -242,7 +246,8 @@ pub fn make(tree: &Tree, key: Key, walk: Walk, calls: &Calls) -> Ended {
         Walk::ViewsWithinLent => views_within(tree, key, true, calls),
         Walk::Longest => longest(tree, key, false, calls),
         Walk::LongestByValue => longest(tree, key, true, calls),
-        Walk::LongestLent => longest_lent(tree, key, calls),
+        Walk::LongestLent => longest_lent(tree, key, false, calls),
+        Walk::LongestLentByValue => longest_lent(tree, key, true, calls),
         Walk::Values => values(tree, key, false, calls),
         Walk::ValuesByValue => values(tree, key, true, calls),
         Walk::ValuesLent => values_lent(tree, key, false, calls),
