@@ -15,6 +15,6 @@ pub mod stats;
 pub use count::{Count, Visits};
 pub use node::seen::Seen;
 pub use node::{LendingKeyBytes, LendingKeyView, VisitControl, VisitError, iter, range};
-pub use refused::Refused;
+pub use refused::{NotInserted, Refused};
 pub use slot::{Outcome, Slot, SlotUpdate, UpdateError};
 pub use stats::{NodeStats, TreeStats};

@@ -1,4 +1,4 @@
-//! A refusal that hands back what was offered.
+//! Refusals that hand back what was offered.
 
 use rart_parts::TreeError;
 
@@ -9,4 +9,13 @@ pub struct Refused<T> {
     pub error: TreeError,
     /// What was offered, as it was.
     pub value: T,
+}
+
+/// Why an insertion of a new key put nothing in. All stands as it was before the call.
+#[derive(Drop)]
+pub enum NotInserted<V> {
+    /// The key is stored. The value that was offered.
+    Stored(V),
+    /// The insertion was refused, as one that replaces is.
+    Refused(Refused<V>),
 }

@@ -15,6 +15,14 @@ module _ {A E : Type 0} where
   if_ok_weaker_on (Ok x) f p q = f x p q
   if_ok_weaker_on (Err x) f p q = tt
 
+  pub if_err_weaker : {P Q : E → Type 0} (r : Result A E) → ((e : E) → P e → Q e) → IfErr r P → IfErr r Q
+  if_err_weaker (Ok x) f p = tt
+  if_err_weaker (Err e) f p = f e p
+
+  pub on_ok_both : {P Q R : Type 0} (r : Result A E) → (P → Q → R) → OnOk r P → OnOk r Q → OnOk r R
+  on_ok_both (Ok x) f p q = f p q
+  on_ok_both (Err x) f p q = tt
+
 pub on_some_weaker : {A P Q : Type 0} (r : Option A) → (P → Q) → OnSome r P → OnSome r Q
 on_some_weaker None f p = tt
 on_some_weaker (Some x) f p = f p

@@ -4,12 +4,13 @@ ghost use Rattle.rart_keys.specs.ByteStrings.{strip_prefix};
 ghost use Rattle.rart_keys.specs.KeyBytes.{IsWithin};
 ghost use Rattle.rart_keys.specs.SortedMap.{count_of, lookup, put, longest_key};
 ghost use Rattle.rart_nodes.specs.edits.InsertAsks.{MayAskFor, trie_asks_put};
+ghost use Rattle.rart_nodes.specs.edits.Stops.{StopsPut, TellsNotPut, TellsStop};
 ghost use Rattle.rart_nodes.specs.tries.Trie.{IsCanonical, trie_lookup, pairs_of, prefix_of, trie_put, with_records};
 
 use crate::node::DefaultNode;
 use crate::node::rest::rest_behind;
 use crate::node::storage::Storage;
-use crate::refused::Refused;
+use crate::refused::{NotInserted, Refused};
 use rart_keys::Partial;
 use rart_parts::TreeError;
 use std::alloc::Global;
@@ -58,40 +59,45 @@ impl<P: Partial, V> DefaultNode<P, V> {
         Ok(())
     }
 
-    // The old value, or the one that is refused, comes back in a place of the caller's: a result that holds a value would
-    // be copied once more at each level.
+    // The old value, or the one that isn't put in, comes back in a place of the caller's: a result that holds a value would
+    // be copied once more at each level. Where only a new key is wanted, a value that stands at the key stops the insertion.
     fn put_below(
         &mut self,
         alloc: Global,
+        only_new: bool,
         key: &[u8],
         value: V,
         back: &mut Option<V>,
-    ) -> Result<(), TreeError>
+    ) -> Result<(), Stop>
         requires canonical { IsCanonical self.old }
         requires fits { IsWithin P.MAXIMUM_SIZE (length key.now) }
         requires empty { back.old ≡ None }
         ensures ok { OnOk result (self.new ≡ trie_put key.now value self.old) }
         ensures answer { OnOk result (back.new ≡ trie_lookup key.now self.old) }
+        ensures fresh { OnOk result (only_new ≡ true → trie_lookup key.now self.old ≡ None) }
         ensures refused { OnErr result (self.new ≡ self.old) }
         ensures back { OnErr result (back.new ≡ Some value) }
-        ensures error { IfErr result (λ e. e ≡ TreeError.Memory) }
-        ensures asks { OnErr result ((trie_asks_put key.now self.old ≡ true) × (trie_lookup key.now (with_records self.old) ≡ None)) }
+        ensures why { IfErr result (StopsPut only_new key.now self.old) }
     {
         let Some(rest) = rest_behind(&self.prefix, key) else {
             return match self.split(alloc, key, value) {
                 Ok(()) => Ok(()),
-                Err(Refused { error, value }) => {
+                Err(Refused { error: _, value }) => {
                     give_back(back, Some(value));
-                    Err(error)
+                    Err(Stop::Memory)
                 }
             };
         };
         let Some(&byte) = rest.first() else {
+            if only_new && self.value.is_some() {
+                give_back(back, Some(value));
+                return Err(Stop::Stored);
+            }
             give_back(back, self.value.replace(value));
             return Ok(());
         };
         if let Some(child) = self.storage.seek_child_mut(byte) {
-            return child.put_below(alloc, rest, value, back);
+            return child.put_below(alloc, only_new, rest, value, back);
         }
         match self.storage.make_room(alloc, byte) {
             Ok(()) => {
@@ -99,9 +105,9 @@ impl<P: Partial, V> DefaultNode<P, V> {
                 self.storage.add_within(byte, leaf);
                 Ok(())
             }
-            Err(error) => {
+            Err(_) => {
                 give_back(back, Some(value));
-                Err(error)
+                Err(Stop::Memory)
             }
         }
     }
@@ -116,12 +122,35 @@ impl<P: Partial, V> DefaultNode<P, V> {
         ensures asks { OnErr result ((trie_asks_put key.now self.old ≡ true) × (trie_lookup key.now (with_records self.old) ≡ None)) }
     {
         let mut back: Option<V> = None;
-        match self.put_below(alloc, key, value, &mut back) {
+        match self.put_below(alloc, false, key, value, &mut back) {
             Ok(()) => Ok(back),
-            Err(error) => Err(Refused {
-                error,
+            Err(Stop::Memory) => Err(Refused {
+                error: TreeError::Memory,
                 value: back.unwrap(),
             }),
+            Err(Stop::Stored) => unreachable!(),
+        }
+    }
+
+    fn put_new(&mut self, alloc: Global, key: &[u8], value: V) -> Result<(), NotInserted<V>>
+        requires canonical { IsCanonical self.old }
+        requires fits { IsWithin P.MAXIMUM_SIZE (length key.now) }
+        ensures ok { OnOk result (self.new ≡ trie_put key.now value self.old) }
+        ensures fresh { OnOk result (trie_lookup key.now self.old ≡ None) }
+        ensures refused { OnErr result (self.new ≡ self.old) }
+        ensures why { IfErr result (TellsStop key.now value self.old) }
+    {
+        let mut back: Option<V> = None;
+        match self.put_below(alloc, true, key, value, &mut back) {
+            Ok(()) => match back {
+                None => Ok(()),
+                Some(_) => unreachable!(),
+            },
+            Err(Stop::Memory) => Err(NotInserted::Refused(Refused {
+                error: TreeError::Memory,
+                value: back.unwrap(),
+            })),
+            Err(Stop::Stored) => Err(NotInserted::Stored(back.unwrap())),
         }
     }
 
@@ -145,6 +174,32 @@ impl<P: Partial, V> DefaultNode<P, V> {
     {
         self.put(alloc, key, value)
     }
+
+    /// Puts `value` at `key`, which must be new, as `insert` does: one pass down, which stops where a
+    /// value stands at the key. Then, and where the insertion is refused, all stands as it was, and the
+    /// value is handed back.
+    pub fn insert_new(&mut self, alloc: Global, key: &[u8], value: V) -> Result<(), NotInserted<V>>
+        requires canonical { IsCanonical self.old }
+        requires fits { IsWithin P.MAXIMUM_SIZE (length key.now) }
+        ensures canonical { OnOk result (IsCanonical self.new) }
+        ensures pairs { OnOk result (pairs_of self.new ≡ put key.now value (pairs_of self.old)) }
+        ensures fresh { OnOk result (lookup key.now (pairs_of self.old) ≡ None) }
+        ensures count { OnOk result (length (pairs_of self.new) ≡ length (pairs_of self.old) + 1) }
+        ensures longest { OnOk result (longest_key (pairs_of self.new) ≤ max (longest_key (pairs_of self.old)) (length key.now)) }
+        ensures refused { OnErr result (self.new ≡ self.old) }
+        ensures why { IfErr result (TellsNotPut key.now value (pairs_of self.old)) }
+    {
+        self.put_new(alloc, key, value)
+    }
+}
+
+// Why an insertion stopped, with all as it was.
+#[derive(Clone, Copy)]
+enum Stop {
+    // Only a new key was wanted, and this one is stored.
+    Stored,
+    // A request for memory was refused.
+    Memory,
 }
 
 /// Puts what comes back into a place that is empty.

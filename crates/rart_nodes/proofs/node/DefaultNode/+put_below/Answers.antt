@@ -2,10 +2,11 @@ use Rattle.std.proofs.Common.{arith, ap, ◌∙◌, sym, refl}
 use Rattle.rart_nodes.specs.storages.Stored.{stored, width_of}
 use Rattle.rart_nodes.specs.tries.TrieCode.{node_count}
 use Rattle.rart_nodes.proofs.storages.ChildLemmas.{canonical-found, count-found}
-use Rattle.rart_nodes.proofs.edits.InsertLemmas.{put-below, put-beside, child-put_back, record-child, record-no_child, rest-within}
+use Rattle.rart_nodes.proofs.edits.InsertLemmas.{put-below, put-beside, child-put_back, record-no_child, rest-within}
 use Rattle.std.proofs.lemmas.Result.{on_ok_weaker, on_err_weaker}
-use Rattle.rart_nodes.proofs.edits.Outcomes.{if_ok_weaker}
-use Rattle.rart_nodes.proofs.edits.PutAskLemmas.{asks_put-below, asks_put-full}
+use Rattle.rart_nodes.proofs.edits.Outcomes.{if_ok_weaker, if_err_weaker}
+use Rattle.rart_nodes.proofs.edits.StopLemmas.{stops-below}
+use Rattle.rart_nodes.proofs.edits.PutAskLemmas.{asks_put-full}
 use Rattle.rart_nodes.proofs.tries.RestLemmas.{trie_lookup-child, trie_lookup-no_child, trie_put-ended}
 use Rattle.rart_nodes.proofs.node.DefaultNode.+put_below.Goals as goal
 
@@ -46,13 +47,15 @@ returns-in-Some-seek_child_mut-clause-refused g t c =
     let left = rw c.in-Some-seek_child_mut.is at c.seek_child_mut.follows.holds c.put_below.new.self in
     on_err_weaker c.put_below.result (λ e. rw (← c.self.view_is) (child-put_back _ _ _ _ _ c.in-Some-seek_child_mut.child.now c.put_below.new.self (stored c.self.inside.storage) _ c.in-Some-seek_child_mut.ensures.value e left.0 left.1)) c.put_below.ensures.refused
 
-pub returns-in-Some-seek_child_mut-clause-asks : goal.returns-in-Some-seek_child_mut-clause-asks
-returns-in-Some-seek_child_mut-clause-asks g t c =
-    let canonical = rw (← c.self.view_is) at c.requires.canonical in
-    on_err_weaker c.put_below.result (λ a. rw (← c.self.view_is) (
-      asks_put-below _ c.args.key.now _ _ _ _ c.in-Some-seek_child_mut.child.now (stored c.self.inside.storage) canonical c.in-Some.ensures c.in-Some-first.ensures.value c.in-Some-seek_child_mut.ensures.value a.0,
-      record-child _ c.args.key.now _ _ _ _ c.in-Some-seek_child_mut.child.now (stored c.self.inside.storage) canonical c.in-Some.ensures c.in-Some-first.ensures.value c.in-Some-seek_child_mut.ensures.value a.1,
-    )) c.put_below.ensures.asks
+pub returns-in-Some-seek_child_mut-clause-fresh : goal.returns-in-Some-seek_child_mut-clause-fresh
+returns-in-Some-seek_child_mut-clause-fresh g t c = on_ok_weaker c.put_below.result (λ fresh only. rw (← c.self.view_is) (trie_lookup-child _ c.args.key.now _ _ _ _ c.in-Some-seek_child_mut.child.now (stored c.self.inside.storage)
+    (rw (← c.self.view_is) at c.requires.canonical) c.in-Some.ensures c.in-Some-first.ensures.value c.in-Some-seek_child_mut.ensures.value ∙ fresh only)) c.put_below.ensures.fresh
+
+pub returns-in-Some-seek_child_mut-clause-why : goal.returns-in-Some-seek_child_mut-clause-why
+returns-in-Some-seek_child_mut-clause-why g t c = if_err_weaker c.put_below.result (λ stop why. rw (← c.self.view_is) (
+      stops-below _ c.args.key.now _ _ _ _ c.in-Some-seek_child_mut.child.now (stored c.self.inside.storage) c.args.only_new stop (rw (← c.self.view_is) at c.requires.canonical)
+          c.in-Some.ensures c.in-Some-first.ensures.value c.in-Some-seek_child_mut.ensures.value why
+    )) c.put_below.ensures.why
 
 -- no child stands there
 pub from_slice-requires : goal.from_slice-requires
@@ -70,8 +73,12 @@ pub returns-in-Ok-make_room-clause-answer : goal.returns-in-Ok-make_room-clause-
 returns-in-Ok-make_room-clause-answer g t c = rw (← c.self.view_is) (c.requires.empty ∙ sym (trie_lookup-no_child _ c.args.key.now _ _ _ (width_of c.self.inside.storage) (stored c.self.inside.storage)
     c.in-Some.ensures c.in-Some-first.ensures.value c.in_default-seek_child_mut.ensures.value))
 
-pub returns-in-Err-make_room-clause-asks : goal.returns-in-Err-make_room-clause-asks
-returns-in-Err-make_room-clause-asks g t c =
+pub returns-in-Ok-make_room-clause-fresh : goal.returns-in-Ok-make_room-clause-fresh
+returns-in-Ok-make_room-clause-fresh g t c only = rw (← c.self.view_is) (trie_lookup-no_child _ c.args.key.now _ _ _ (width_of c.self.inside.storage) (stored c.self.inside.storage)
+    c.in-Some.ensures c.in-Some-first.ensures.value c.in_default-seek_child_mut.ensures.value)
+
+pub returns-in-Err-make_room-clause-why : goal.returns-in-Err-make_room-clause-why
+returns-in-Err-make_room-clause-why g t c =
     let left = c.seek_child_mut.follows.holds-at-none in
     rw (← c.self.view_is) (
       asks_put-full _ c.args.key.now _ c.self.inside.value (width_of c.self.inside.storage) _ _ (stored c.self.inside.storage) _ c.in-Some.ensures c.in-Some-first.ensures.value c.in_default-seek_child_mut.ensures.value
