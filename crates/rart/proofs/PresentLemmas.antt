@@ -5,8 +5,8 @@ use Rattle.rart_keys.specs.SortedMap.{lookup}
 use Rattle.rart.specs.Edits.{InsertsNew, PutOrSame, TriesInsert}
 use Rattle.rart.specs.MapAndShape.{MapAndShape}
 use Rattle.rart.specs.Refusals.{AddsPresent, ShowsWhy, StandsAt}
-use Rattle.rart.specs.declared.tree.guarded.NotInserted.{NotInserted}
-use Rattle.rart.specs.declared.tree.guarded.NotInserted.TheVariants as not_inserted
+use Rattle.rart_nodes.specs.declared.refused.NotInserted.{NotInserted}
+use Rattle.rart_nodes.specs.declared.refused.NotInserted.TheVariants as not_inserted
 use Rattle.rart.specs.declared.tree.guarded.TryInsertError.{TryInsertError}
 use Rattle.rart.specs.declared.tree.guarded.TryInsertError.TheVariants as try_insert
 

@@ -6,7 +6,7 @@ use Rattle.rart_parts.specs.declared.error.TreeError.{TreeError}
 use Rattle.rart.specs.MapAndShape.{MapAndShape}
 use Rattle.rart.specs.Refusals.{MayKeep, MayRefuse, ShowsWhy, TellsWhy}
 use Rattle.rart.specs.declared.tree.TheConstants.{MAX_PAIRS}
-use Rattle.rart.specs.declared.tree.guarded.NotInserted.{NotInserted}
+use Rattle.rart_nodes.specs.declared.refused.NotInserted.{NotInserted}
 use Rattle.rart.specs.declared.tree.guarded.TryInsertError.{TryInsertError}
 
 module _ {V : Type 0} where

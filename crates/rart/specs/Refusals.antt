@@ -6,8 +6,8 @@ use Rattle.rart_nodes.specs.edits.RemoveAsks.{remove_asks}
 use Rattle.rart_parts.specs.declared.error.TreeError.{TreeError}
 use Rattle.rart_parts.specs.declared.error.TreeError.TheVariants.{Memory, Full}
 use Rattle.rart.specs.declared.tree.TheConstants.{MAX_PAIRS}
-use Rattle.rart.specs.declared.tree.guarded.NotInserted.{NotInserted}
-use Rattle.rart.specs.declared.tree.guarded.NotInserted.TheVariants as not_inserted
+use Rattle.rart_nodes.specs.declared.refused.NotInserted.{NotInserted}
+use Rattle.rart_nodes.specs.declared.refused.NotInserted.TheVariants as not_inserted
 use Rattle.rart.specs.declared.tree.guarded.TryInsertError.{TryInsertError}
 use Rattle.rart.specs.declared.tree.guarded.TryInsertError.TheVariants as try_insert
 

@@ -17,7 +17,7 @@ use Rattle.rart.specs.declared.script.call.Call.{Call}
 use Rattle.rart.specs.declared.script.call.Call.TheVariants as call
 use Rattle.rart.specs.declared.script.reply.Reply.{Reply}
 use Rattle.rart.specs.declared.script.reply.Reply.TheVariants as reply
-use Rattle.rart.specs.declared.tree.guarded.NotInserted.TheVariants as not_inserted
+use Rattle.rart_nodes.specs.declared.refused.NotInserted.TheVariants as not_inserted
 
 -- pairs with the bytes of their keys
 abbrev pub pairs_in : {K V : Type 0} → (K → List ℕ) → List (K × V) → List (List ℕ × V)

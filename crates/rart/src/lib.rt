@@ -26,12 +26,12 @@ pub use crate::range::{Range, SeenRange};
 pub use crate::routes::RouteTable;
 pub use crate::stats::{NodeStats, TreeStats, TreeStatsTrait};
 pub use crate::tree::AdaptiveRadixTree;
-pub use crate::tree::guarded::{NotInserted, TryInsertError};
+pub use crate::tree::guarded::TryInsertError;
 pub use crate::tree::update::TryUpdateError;
 pub use rart_keys::{ArrPartial, ArrayKey, KeyTrait, Partial, keys, partials};
 pub use rart_nodes::node::{VisitControl, VisitError};
 pub use rart_nodes::{
-    Count, LendingKeyBytes, LendingKeyView, Refused, Seen, Slot, SlotUpdate, UpdateError, Visits,
-    node,
+    Count, LendingKeyBytes, LendingKeyView, NotInserted, Refused, Seen, Slot, SlotUpdate,
+    UpdateError, Visits, node,
 };
 pub use rart_parts::{TreeError, mapping, utils};

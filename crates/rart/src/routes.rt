@@ -17,9 +17,9 @@ ghost use Rattle.rart.specs.declared.tree.TheConstants.{MAX_PAIRS};
 mod walks;
 
 use crate::tree::AdaptiveRadixTree;
-use crate::tree::guarded::{NotInserted, TryInsertError};
+use crate::tree::guarded::TryInsertError;
 use rart_keys::KeyTrait;
-use rart_nodes::{Refused, Seen};
+use rart_nodes::{NotInserted, Refused, Seen};
 use rart_parts::TreeError;
 use std::alloc::Global;
 use std::marker::Model;

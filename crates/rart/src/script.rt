@@ -9,10 +9,9 @@ ghost use Rattle.rart.specs.declared.tree.update.TryUpdateError.TheVariants.{Clo
 
 use crate::stats::TreeStatsTrait;
 use crate::tree::AdaptiveRadixTree;
-use crate::tree::guarded::NotInserted;
 use crate::tree::update::TryUpdateError;
 use rart_keys::KeyTrait;
-use rart_nodes::{Slot, SlotUpdate, UpdateError};
+use rart_nodes::{NotInserted, Slot, SlotUpdate, UpdateError};
 use rart_parts::TreeError;
 use std::alloc::Global;
 

@@ -1,10 +1,10 @@
 //! The map: seen as its pairs, ascending by key, and the records of its nodes.
-ghost use Rattle.std.specs.Prelude.{◌≡◌, ◌+◌, ◌-◌, ◌*◌, ◌<◌, ◌≤◌, ◌↔◌, [], length, max, IsTrue, OnErr};
+ghost use Rattle.std.specs.Prelude.{◌≡◌, ◌+◌, ◌-◌, ◌*◌, ◌<◌, ◌≤◌, ◌↔◌, [], ◌∷◌, length, max, IsTrue, None, OnErr};
 ghost use Rattle.std.specs.Option.{option_copied};
 ghost use Rattle.rart_keys.specs.KeyBytes.{IsWithin};
 ghost use Rattle.rart_keys.specs.SortedMap.{IsAscending, keys_of, lookup};
 ghost use Rattle.rart_nodes.specs.shapes.Shape.{HasShape};
-ghost use Rattle.rart_nodes.specs.tries.Tree.{tree_nodes, tree_pairs};
+ghost use Rattle.rart_nodes.specs.tries.Tree.{IsCanonicalTree, tree_nodes, tree_pairs};
 ghost use Rattle.rart.specs.Edits.{Deletes, Inserts, Removes};
 
 use rart_keys::{KeyTrait, Partial};
@@ -156,11 +156,7 @@ impl<K: KeyTrait, V> AdaptiveRadixTree<K, V> {
             },
             None => {}
         }
-        let leaf = DefaultNode::new_leaf(key.to_partial(0), value);
-        match self.root.replace(leaf) {
-            Some(_) => unreachable!(),
-            None => {}
-        }
+        plant(&mut self.root, key, value);
         self.len = 1;
         self.longest = self.longest.max(bytes.len());
         Ok(None)
@@ -221,5 +217,18 @@ impl<K: KeyTrait, V> AdaptiveRadixTree<K, V> {
         ensures unchanged { OnErr result (self.new ≡ self.old) }
     {
         self.delete_k(&key)
+    }
+}
+
+// Gives a tree without a root its first leaf.
+fn plant<K: KeyTrait, V>(root: &mut Option<DefaultNode<K::PartialType, V>>, key: &K, value: V)
+    requires empty { root.old ≡ None }
+    ensures canonical { IsCanonicalTree root.new }
+    ensures pairs { tree_pairs root.new ≡ (K.bytes key.now, value) ∷ [] }
+{
+    let leaf = DefaultNode::new_leaf(key.to_partial(0), value);
+    match root.replace(leaf) {
+        Some(_) => unreachable!(),
+        None => {}
     }
 }

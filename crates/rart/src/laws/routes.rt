@@ -6,8 +6,8 @@ ghost use Rattle.rart_keys.specs.SortedMap.{put, without};
 ghost use Rattle.rart.specs.Refusals.{MayKeep, TellsWhy};
 
 use crate::routes::RouteTable;
-use crate::tree::guarded::NotInserted;
 use rart_keys::KeyTrait;
+use rart_nodes::NotInserted;
 use rart_parts::TreeError;
 
 /// A route that was added is the one of each probe that its prefix begins and no longer stored prefix does; every other probe

@@ -6,18 +6,10 @@ ghost use Rattle.rart.specs.Edits.{InsertsNew, PutOrSame, TriesInsert};
 ghost use Rattle.rart.specs.Loans.{ends_as};
 ghost use Rattle.rart.specs.Refusals.{AddsPresent, StandsAt};
 
-use crate::tree::AdaptiveRadixTree;
+use crate::tree::{AdaptiveRadixTree, MAX_PAIRS, plant};
 use rart_keys::KeyTrait;
-use rart_nodes::Refused;
-
-/// Why `insert_new` put nothing in.
-#[derive(Drop)]
-pub enum NotInserted<V> {
-    /// The key is stored. The value that was offered.
-    Stored(V),
-    /// Refused as `insert_k` is.
-    Refused(Refused<V>),
-}
+use rart_nodes::{NotInserted, Refused};
+use rart_parts::TreeError;
 
 /// Why `try_insert` put nothing in.
 #[derive(Drop)]
@@ -32,21 +24,36 @@ impl<K: KeyTrait, V> AdaptiveRadixTree<K, V> {
     /// Puts `value` at `key`, which must be new: where it is stored, or where the insertion is refused
     /// as one by `insert_k` is, the value is handed back, and pairs and nodes are as before.
     ///
-    /// Looks the key up, and then inserts it. A stored key asks for no memory.
+    /// One pass down, which ends where a value stands at the key. A stored key asks for no memory.
     pub fn insert_new_k(&mut self, key: &K, value: V) -> Result<(), NotInserted<V>>
         ensures inserts_new { InsertsNew (K.bytes key.now) value self.old.pairs self.new.pairs result }
         ensures unchanged { OnErr result (self.new ≡ self.old) }
     {
-        if self.get_k(key).is_some() {
-            return Err(NotInserted::Stored(value));
+        if self.len == MAX_PAIRS {
+            if self.get_k(key).is_some() {
+                return Err(NotInserted::Stored(value));
+            }
+            return Err(NotInserted::Refused(Refused {
+                error: TreeError::Full,
+                value,
+            }));
         }
-        match self.insert_k(key, value) {
-            Ok(old) => match old {
-                None => Ok(()),
-                Some(_) => unreachable!(),
+        let bytes = key.as_ref();
+        match &mut self.root {
+            Some(root) => match root.insert_new(self.alloc, bytes, value) {
+                Ok(()) => {
+                    self.len += 1;
+                    self.longest = self.longest.max(bytes.len());
+                    return Ok(());
+                }
+                Err(why) => return Err(why),
             },
-            Err(refused) => Err(NotInserted::Refused(refused)),
+            None => {}
         }
+        plant(&mut self.root, key, value);
+        self.len = 1;
+        self.longest = self.longest.max(bytes.len());
+        Ok(())
     }
 
     /// Puts `value` at `key`, as `insert_new_k` does.

@@ -68,8 +68,8 @@ use Rattle.std.specs.contracts.result.Result as result
 use Rattle.std.proofs.result.Result.TheLaws as result_laws
 use Rattle.rart.specs.contracts.routes.RouteTable as table
 use Rattle.rart.proofs.routes.RouteTable.TheLaws as table_laws
-use Rattle.rart.specs.contracts.tree.guarded.NotInserted as not_inserted
-use Rattle.rart.proofs.tree.guarded.NotInserted.TheLaws as not_inserted_laws
+use Rattle.rart_nodes.specs.contracts.refused.NotInserted as not_inserted
+use Rattle.rart_nodes.proofs.refused.NotInserted.TheLaws as not_inserted_laws
 use Rattle.rart.specs.contracts.tree.guarded.TryInsertError as try_insert_error
 use Rattle.rart.proofs.tree.guarded.TryInsertError.TheLaws as try_insert_error_laws
 use Rattle.rart.specs.contracts.routes.RouteTable.add_new as adds
