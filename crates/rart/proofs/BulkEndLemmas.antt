@@ -8,12 +8,12 @@ use Rattle.rart_keys.specs.KeyBytes.{IsWithin}
 use Rattle.rart_keys.specs.SortedMap.{AreAbove, IsAscending, keys_of, longest_key, values_of}
 use Rattle.rart_nodes.specs.build.Stretches.{AreWithin}
 use Rattle.rart_nodes.specs.shapes.ShapeRecords.{lone_keys}
-use Rattle.rart.specs.BulkLoads.{Reads, ReadsAll, StopsSorted, StopsUnique}
+use Rattle.rart.specs.BulkLoads.{Reads, ReadsAll, StopsSorted}
 use Rattle.rart.specs.Steps.{pairs_in}
 use Rattle.rart.specs.declared.bulk.BulkError.{BulkError}
 use Rattle.rart.specs.declared.bulk.BulkError.TheVariants.{Memory}
 use Rattle.rart.specs.declared.tree.TheConstants.{MAX_PAIRS}
-use Rattle.rart.proofs.BulkLoadLemmas.{read-length, values-length}
+use Rattle.rart.proofs.BulkLoadLemmas.{read-length}
 use Rattle.rart.proofs.BulkTreeLemmas.{longest-by-keys, longest-within, same-pairs}
 
 -- what the fields of a loaded tree keep
@@ -38,9 +38,6 @@ ascending-by-keys (e ∷ es) h = (above-by-keys e.0 es h.0, ascending-by-keys es
 -- a result and the pairs of what it holds
 module _ {U S K V : Type 0} (becomes : U → S → Type 0) (steps : S → Option (K × V) → S → Type 0) (items : U) (bytes : K → List ℕ) (keys : List K) (vs : List V) where
   module _ (read : ReadsAll becomes steps items (λ xs. WasRead (pairs_in bytes xs) (map bytes keys) vs)) where
-    pub sorted-each : length keys ≡ length vs
-    sorted-each = omega (arith, values-length (pairs_in bytes read.1) (map bytes keys) vs read.4, length-map keys bytes)
-
     pub sorted-ascends : ((es : List (List ℕ × V)) → first_fault es ≡ None → IsAscending (last_wins es)) → IsAscending (lone_keys (map bytes keys))
     sorted-ascends law = rw read.4.keys (ascending-by-keys (last_wins (pairs_in bytes read.1)) (law (pairs_in bytes read.1) read.4.faultless))
 
@@ -65,9 +62,6 @@ module _ {U S K V : Type 0} (becomes : U → S → Type 0) (steps : S → Option
     )
 
   module _ (read : ReadsAll becomes steps items (λ xs. (map bytes keys ≡ keys_of (pairs_in bytes xs)) × (vs ≡ values_of (pairs_in bytes xs)))) where
-    pub unique-each : length keys ≡ length vs
-    unique-each = omega (arith, ap length read.4.0, ap length read.4.1, length-map keys bytes, length-map (pairs_in bytes read.1) (λ e. e.0), length-map (pairs_in bytes read.1) (λ e. e.1))
-
     pub unique-ascends : ((s : S) → becomes items s → HoldsAlong steps s (λ xs. IsAscending (pairs_in bytes xs))) → IsAscending (lone_keys (map bytes keys))
     unique-ascends up = rw read.4.0 (ascending-by-keys (pairs_in bytes read.1) (up read.0 read.2 read.1 read.3.1.0 read.3.1.1))
 
@@ -75,18 +69,3 @@ module _ {U S K V : Type 0} (becomes : U → S → Type 0) (steps : S → Option
         → IfOk r (λ t. ReadsAll becomes steps items (λ xs. pairs t ≡ pairs_in bytes xs))
     unique-loaded pairs (Err e) k v = tt
     unique-loaded pairs (Ok t) k v = (read.0, read.1, read.2, read.3, same-pairs (pairs t) (pairs_in bytes read.1) (k ∙ read.4.0) (v ∙ read.4.1))
-
-    unique-count : length (pairs_in bytes read.1) ≡ length keys
-    unique-count = omega (arith, ap length read.4.0, length-map keys bytes, length-map (pairs_in bytes read.1) (λ e. e.0))
-
-    pub unique-refused : length keys ≤ MAX_PAIRS → {T : Type 0} (r : Result T BulkError) → IfErr r (λ e. e ≡ Memory) → OnErr r (0 < length keys)
-        → IfErr r (λ e. Reads becomes steps items (λ xs. StopsUnique (pairs_in bytes xs) e))
-    unique-refused few (Ok t) m some = tt
-    unique-refused few (Err e) m some = rw m (
-      read.0,
-      read.1,
-      read.3.1.0,
-      read.2,
-      read.3.1.1,
-      ((λ q. omega (arith, some, unique-count, ap length q)), omega (arith, few, unique-count)),
-    )

@@ -1,13 +1,12 @@
 -- What the law of bulk loads rests on: the items of a vector, and the pairs that were put in.
-use Rattle.std.proofs.Common.{◌≡◌, ℕ, ◌+◌, ◌<◌, List, [], ◌∷◌, ◌++◌, length, length-append, map, refl, sym, ap, ◌∙◌, arith, Option, Some, None}
+use Rattle.std.proofs.Common.{◌≡◌, ℕ, List, [], ◌∷◌, ◌++◌, length, length-append, refl, sym, ap, ◌∙◌, arith, Some, None}
 use Rattle.std.specs.Iterator.{Drains, Yields}
 use Rattle.std.specs.Vec.Iter.{into_iter_items, into_iter_len, into_iter_steps}
-use Rattle.std.proofs.iter.Next.{Yields-more}
 use Rattle.std.proofs.iter.Yields.{gives_Drains, gives_left}
 use Rattle.std.proofs.lemmas.Iterator.Adapters.{YieldsList-from_vec}
 use Rattle.std.proofs.lemmas.List.{append_assoc, map-append, map-id}
 use Rattle.rart_keys.specs.BulkLists.{first_fault, last_wins, put_all}
-use Rattle.rart_keys.specs.SortedMap.{IsAscending, lookup, put}
+use Rattle.rart_keys.specs.SortedMap.{IsAscending, put}
 use Rattle.rart.specs.BulkLaw.{MayRefuseLoad, MayRefuseOneOf}
 use Rattle.rart.specs.BulkLoads.{StopsSorted}
 use Rattle.rart.specs.Refusals.{MayRefuse}

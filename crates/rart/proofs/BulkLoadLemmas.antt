@@ -8,7 +8,7 @@ use Rattle.std.specs.Cmp.Lexicographic.{slice_cmp}
 use Rattle.std.proofs.iter.Next.{Yields-more}
 use Rattle.std.proofs.lemmas.List.{length-map, map-append}
 use Rattle.rart_keys.specs.BulkLists.{WasRead, first_fault, last_wins, order_behind}
-use Rattle.rart_keys.specs.SortedMap.{keys_of, values_of}
+use Rattle.rart_keys.specs.SortedMap.{keys_of}
 use Rattle.rart.specs.BulkLoads.{Reads, StopsSorted, StopsUnique}
 use Rattle.rart.specs.Steps.{pairs_in}
 use Rattle.rart.specs.declared.bulk.BulkError.TheVariants.{Memory, Full, Unsorted}
@@ -86,9 +86,6 @@ pairs-more bytes xs x = map-append (λ p. (bytes p.0, p.1)) xs (x ∷ [])
 pub reads-more : {U S A : Type 0} (becomes : U → S → Type 0) (steps : S → Option A → S → Type 0) (items : U) (P : List A → Type 0) (s t u : S) (xs : List A) (x : A) (o : Option A) → becomes items s → Yields steps s xs t → o ≡ Some x → steps t o u → P (xs ++ x ∷ []) → Reads becomes steps items P
 reads-more becomes steps items P s t u xs x o b y e h p = (s, xs ++ x ∷ [], u, b, Yields-more steps s xs t x u y (rw e at h), p)
 
-pub next-place : (at n : ℕ) → at ≡ min n (2 ^ 64 - 1) → min (at + 1) (2 ^ 64 - 1) ≡ min (n + 1) (2 ^ 64 - 1)
-next-place at n e = omega (arith, e)
-
 -- items that ascend strictly: an item behind so many, of which all were kept
 module _ {K V : Type 0} (bytes : K → List ℕ) (xs : List (K × V)) (x : K × V) (keys : List K) (same : map bytes keys ≡ keys_of (pairs_in bytes xs)) where
   unique-length : length (pairs_in bytes (xs ++ x ∷ [])) ≡ length keys + 1
@@ -99,9 +96,3 @@ module _ {K V : Type 0} (bytes : K → List ℕ) (xs : List (K × V)) (x : K × 
 
   pub unique-memory : length keys ≤ MAX_PAIRS → (length keys ≡ MAX_PAIRS → ⊥) → StopsUnique (pairs_in bytes (xs ++ x ∷ [])) Memory
   unique-memory l n = (λ e. omega (arith, ap length e, unique-length), omega (arith, unique-length, l, n))
-
-  pub unique-keys : (keys' : List K) → keys' ≡ keys ++ x.0 ∷ [] → map bytes keys' ≡ keys_of (pairs_in bytes (xs ++ x ∷ []))
-  unique-keys keys' e = ap (map bytes) e ∙ map-append bytes keys (x.0 ∷ []) ∙ ap (λ z. z ++ bytes x.0 ∷ []) same ∙ sym (map-append (λ e. e.0) (pairs_in bytes xs) ((bytes x.0, x.1) ∷ [])) ∙ ap keys_of (sym (pairs-more bytes xs x))
-
-pub unique-values : {K V : Type 0} (bytes : K → List ℕ) (xs : List (K × V)) (x : K × V) (vs vs' : List V) → vs ≡ values_of (pairs_in bytes xs) → vs' ≡ vs ++ x.1 ∷ [] → vs' ≡ values_of (pairs_in bytes (xs ++ x ∷ []))
-unique-values bytes xs x vs vs' same e = e ∙ ap (λ z. z ++ x.1 ∷ []) same ∙ sym (map-append (λ e. e.1) (pairs_in bytes xs) ((bytes x.0, x.1) ∷ [])) ∙ ap values_of (sym (pairs-more bytes xs x))

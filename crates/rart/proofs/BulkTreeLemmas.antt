@@ -1,7 +1,7 @@
 -- The keys of a bulk load, and what the tree that is made of them keeps.
-use Rattle.std.proofs.Common.{◌≡◌, ℕ, ◌+◌, ◌<◌, ◌≤◌, max, zero, suc, List, [], ◌∷◌, ◌++◌, length, get_or, drop, map, refl, sym, ap, ◌∙◌, arith, subst, Option, Some, None}
+use Rattle.std.proofs.Common.{◌≡◌, ℕ, ◌+◌, ◌<◌, ◌≤◌, max, zero, suc, List, [], ◌∷◌, ◌++◌, length, get_or, drop, map, refl, ap, ◌∙◌, arith, subst, Option, Some, None}
 use Rattle.std.specs.Borrow.{Bor}
-use Rattle.std.proofs.lemmas.List.{append_assoc, drop_all, map-append}
+use Rattle.std.proofs.lemmas.List.{drop_all}
 use Rattle.rart_keys.specs.ByteStrings.{IsBelow}
 use Rattle.rart_keys.specs.KeyBytes.{IsWithin}
 use Rattle.rart_keys.specs.SortedMap.{AreAbove, IsAscending, keys_of, longest_key, values_of}
@@ -44,13 +44,6 @@ longest-end longest i total keys l e = let none : longest_key (lone_keys (keys_i
 pub keys-within : {K : Type 0} (m : Option ℕ) (bytes : K → List ℕ) → ((k : K) → IsWithin m (length (bytes k))) → (keys : List K) → AreWithin m (map bytes keys)
 keys-within m bytes within [] = tt
 keys-within m bytes within (k ∷ keys) = (within k, keys-within m bytes within keys)
-
--- the bytes of one key more
-pub strings-more : {K : Type 0} (bytes : K → List ℕ) (all : List (List ℕ)) (xs ys : List (Bor (List ℕ))) (x : Bor (List ℕ)) (key : K) (rest tail : List K) → keys_in xs ++ map bytes rest ≡ all → rest ≡ key ∷ tail → x.now ≡ bytes key → ys ≡ xs ++ x ∷ []
-    → keys_in ys ++ map bytes tail ≡ all
-strings-more bytes all xs ys x key rest tail so_far er ex ey =
-    ap (λ z. keys_in z ++ map bytes tail) ey ∙ ap (λ z. z ++ map bytes tail) (map-append (λ k. k.now) xs (x ∷ [])) ∙ append_assoc (keys_in xs) (x.now ∷ []) (map bytes tail)
-    ∙ ap (λ z. keys_in xs ++ z ∷ map bytes tail) ex ∙ ap (λ z. keys_in xs ++ map bytes z) (sym er) ∙ so_far
 
 -- keys at their places
 module _ (At : ℕ → List ℕ → Type 0) where

@@ -1,10 +1,8 @@
 -- What the laws of insertions and removals answer, also where one of their calls was refused.
 use Rattle.std.specs.Prelude.{◌≡◌, ℕ, List, Err}
 use Rattle.rart_keys.specs.SortedMap.{keys_of, put}
-use Rattle.rart_nodes.specs.declared.refused.Refused.{Refused}
 use Rattle.rart_nodes.specs.shapes.Shape.{HasShape, NodeRecord}
 use Rattle.rart_nodes.specs.statistics.Statistics.{Statistics, statistics_of}
-use Rattle.rart_parts.specs.declared.error.TreeError.{TreeError}
 use Rattle.rart.specs.Edits.{Inserts, Removes}
 use Rattle.rart.specs.MapAndShape.{MapAndShape}
 use Rattle.rart.specs.Refusals.{MayLackStatistics}

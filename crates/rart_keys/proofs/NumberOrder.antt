@@ -10,7 +10,7 @@ use Rattle.std.specs.Int.{byte_at, bytes_high_first, Width, w128}
 use Rattle.std.specs.Int.Bits.{bit_xor, xor_block, xor_zero_r}
 use Rattle.std.specs.Int.Digits.{number_from_digits_after}
 use Rattle.std.specs.Ordering.{nat_cmp, int_cmp, ordering_then}
-use Rattle.rart_keys.specs.NumberBytes.{sign_flipped, big_endian_number}
+use Rattle.rart_keys.specs.NumberBytes.{sign_flipped}
 use Rattle.rart_keys.proofs.ByteOrder.{is_less, is_equal, is_greater}
 use lib.IntN.{◌+ℤ◌}
 use mir.Val.{SFits, hbits, of_z}
@@ -112,13 +112,6 @@ number_from_digits_after-bytes_high_first (suc k) a n =
     let spread : (a * 256 + d) * 256 ^ k ≡ a * 256 * 256 ^ k + d * 256 ^ k = add-mul (a * 256) d (256 ^ k) in
     let group : a * 256 * 256 ^ k ≡ a * (256 * 256 ^ k) = mul_assoc a 256 (256 ^ k) in
     rw (number_from_digits_after-bytes_high_first k (a * 256 + byte_at k n) n, byte_at-pow k n, pow-succ' 256 k, hn) (omega (arith, spread, group))
-
--- a number that its bytes hold comes back
-pub big_endian_number-bytes_high_first : (k n : ℕ) → n < 256 ^ k → big_endian_number (bytes_high_first k n) ≡ n
-big_endian_number-bytes_high_first k n h =
-    let e = number_from_digits_after-bytes_high_first k 0 n in
-    let m = mod-eq_of_lt h in
-    omega (arith, e, m)
 
 -- up to seven digits leave room for one more in eight
 pub seven_digits : (i n : ℕ) → i < 8 → n < 256 ^ i → n < 256 ^ 7

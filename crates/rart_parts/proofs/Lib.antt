@@ -1,7 +1,7 @@
 pub mod ByteIndexLemmas
 pub mod DirectLemmas
 pub mod EntryLemmas
-pub mod FirstAboveLemmas
+pub mod FirstAbove
 pub mod FreedLemmas
 pub mod IndexLemmas
 pub mod IndexWalk

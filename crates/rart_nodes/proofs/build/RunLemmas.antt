@@ -44,10 +44,6 @@ pub run-within : (b : ℕ) (rs : List (List ℕ)) → run_of b rs ≤ length rs
 run-within b [] = omega arith
 run-within b (r ∷ rs) = elim (slice_index r 0 == b) as (λ z. (if z then suc (run_of b rs) else 0) ≤ suc (length rs)) [ true ↦ omega (arith, run-within b rs) | false ↦ omega arith ]
 
-pub first_run-some : (rs : List (List ℕ)) → 0 < length rs → 0 < first_run rs
-first_run-some [] h = absurd (omega arith)
-first_run-some (r ∷ rs) h = rw (eq-yes (slice_index r 0) (slice_index r 0) refl) (omega arith)
-
 -- how many runs there are
 with_first-head : (b : ℕ) (bs : List ℕ) → (zs : List ℕ) × (with_first b bs ≡ b ∷ zs)
 with_first-head b [] = ([], refl)

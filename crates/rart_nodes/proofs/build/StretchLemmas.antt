@@ -209,9 +209,3 @@ reach-whole m (k ∷ ks) h = (omega arith, h.0, reach-whole m ks h.1)
 
 pub whole-stretch : (m : Option ℕ) (ks : List (Bor (List ℕ))) → 0 < length ks → AreWithin m (keys_in ks) → IsAscending (lone_keys (keys_in ks)) → IsStretch m 0 ks
 whole-stretch m ks some within up = record { some = some; reach = reach-whole m ks within; ascending = rw (rests-whole ks) up }
-
--- a single key
-pub lone-rest : (d : ℕ) (ks : List (Bor (List ℕ))) (x : Bor (List ℕ)) → length ks ≡ 1 → rests d ks ≡ drop d (get_or ks 0 x).now ∷ []
-lone-rest d [] x h = absurd (omega (arith, h))
-lone-rest d (k ∷ []) x h = refl
-lone-rest d (k ∷ l ∷ ks) x h = absurd (omega (arith, h))

@@ -1,14 +1,13 @@
 -- One step of a descent: how the prefix of a node and a key agree, and what follows for look-ups, visits and insertions.
-use Rattle.std.proofs.Common.{◌≡◌, ℕ, zero, suc, ◌+◌, ◌-◌, ◌<◌, ◌≤◌, Bool, true, false, cond, List, [], ◌∷◌, length, take, drop, get_or, nat_eq, Option, Some, None, refl, arith, sym, ap, ◌∙◌}
+use Rattle.std.proofs.Common.{◌≡◌, ℕ, suc, ◌+◌, ◌-◌, ◌<◌, ◌≤◌, Bool, true, false, cond, List, [], ◌∷◌, length, take, drop, get_or, nat_eq, Option, Some, None, refl, arith, sym, ap, ◌∙◌}
 use Rattle.std.proofs.lemmas.Grind.{common_steps}
-use Rattle.std.proofs.lemmas.List.{length-drop, take_all}
+use Rattle.std.proofs.lemmas.List.{length-drop}
 use Rattle.std.proofs.Math.Numerals.{one-add}
 use Rattle.std.specs.List.{common_prefix_len}
 use Rattle.std.proofs.lemmas.Bool.{false≢true}
 use Rattle.rart_keys.specs.ByteStrings.{strip_prefix}
 use Rattle.rart_keys.proofs.ByteOrder.{eq-yes}
-use Rattle.rart_nodes.specs.walks.ProbeCount.{entered_nodes, entered_child, entered_behind}
-use Rattle.rart_nodes.specs.tries.Trie.{Trie, node, Children, no_children, child, Overlap, overlap, grown_overlap, answer_behind, trie_lookup, child_lookup, trie_put, put_child, put_overlap, put_split, fitting_node, fork, leaf}
+use Rattle.rart_nodes.specs.tries.Trie.{node, Children, no_children, child, Overlap, overlap, grown_overlap, trie_put, put_child, put_overlap, put_split, fitting_node, fork, leaf}
 
 -- the first byte of a string
 abbrev pub first : List ℕ → ℕ
@@ -43,15 +42,6 @@ overlap-is (x ∷ p) (y ∷ k) = overlap-step (nat_eq x y) x y p k (common_prefi
 pub slice_from-is : (k : List ℕ) (n : ℕ) → take (length k - n) (drop n k) ≡ drop n k
 slice_from-is k n = grind (arith, common_steps, length-drop n k)
 
--- what a descent enters at a node
-entered-empty : (r : List ℕ) (f : ℕ → List ℕ → ℕ) → length r ≡ 0 → entered_behind (Some r) f ≡ 1
-entered-empty [] f h = refl
-entered-empty (b ∷ r) f h = absurd (omega arith)
-
-entered-more : (r : List ℕ) (f : ℕ → List ℕ → ℕ) → 0 < length r → entered_behind (Some r) f ≡ 1 + f (first r) r
-entered-more [] f h = absurd (omega arith)
-entered-more (b ∷ r) f h = refl
-
 differ-step : (z : Bool) (x y : ℕ) (p k : List ℕ) (n : ℕ) → nat_eq x y ≡ z → (n < length p → n < length k → first (drop n p) ≡ first (drop n k) → ⊥)
     → cond z (1 + n) 0 < suc (length p) → cond z (1 + n) 0 < suc (length k) → first (drop (cond z (1 + n) 0) (x ∷ p)) ≡ first (drop (cond z (1 + n) 0) (y ∷ k)) → ⊥
 differ-step true x y p k n e ih h g s = ih (omega arith) (omega arith) (rw (one-add n) at s)
@@ -66,44 +56,6 @@ first-differ (x ∷ p) (y ∷ k) n e h more s = differ-step (nat_eq x y) x y p k
     (omega (arith, e)) (omega (arith, e, (common-within (x ∷ p) (y ∷ k)).1, more)) (rw e at s)
 
 module _ {V : Type 0} where
-  -- what a look-up does at a node
-  answer-empty : (r : List ℕ) (v : Option V) (f : ℕ → List ℕ → Option V) → length r ≡ 0 → answer_behind (Some r) v f ≡ v
-  answer-empty [] v f h = refl
-  answer-empty (b ∷ r) v f h = absurd (omega arith)
-
-  answer-more : (r : List ℕ) (v : Option V) (f : ℕ → List ℕ → Option V) → 0 < length r → answer_behind (Some r) v f ≡ f (first r) r
-  answer-more [] v f h = absurd (omega arith)
-  answer-more (b ∷ r) v f h = refl
-
-  pub trie_lookup-short : (p k : List ℕ) (v : Option V) (w : ℕ) (cs : Children V) (n : ℕ) → n ≡ common_prefix_len nat_eq p k → n < length p → trie_lookup k (node p v w cs) ≡ None
-  trie_lookup-short p k v w cs n e h = ap (λ o. answer_behind o v (λ b r. child_lookup b r cs)) (strip_prefix-short p k (omega arith))
-
-  pub trie_lookup-here : (p k : List ℕ) (v : Option V) (w : ℕ) (cs : Children V) (n : ℕ) → n ≡ common_prefix_len nat_eq p k → length p ≤ n → length k ≡ n → trie_lookup k (node p v w cs) ≡ v
-  trie_lookup-here p k v w cs n e full end = ap (λ o. answer_behind o v (λ b r. child_lookup b r cs)) (strip_prefix-full p k (omega arith))
-      ∙ answer-empty (drop (length p) k) v (λ b r. child_lookup b r cs) (omega (arith, length-drop (length p) k, (common-within p k).0))
-
-  pub trie_lookup-down : (p k : List ℕ) (v : Option V) (w : ℕ) (cs : Children V) (n : ℕ) → n ≡ common_prefix_len nat_eq p k → length p ≤ n → (length k ≡ n → ⊥) → trie_lookup k (node p v w cs) ≡ child_lookup (first (drop n k)) (drop n k) cs
-  trie_lookup-down p k v w cs n e full more =
-      let same : length p ≡ n = omega (arith, (common-within p k).0) in
-      ap (λ o. answer_behind o v (λ b r. child_lookup b r cs)) (strip_prefix-full p k (omega arith))
-      ∙ answer-more (drop (length p) k) v (λ b r. child_lookup b r cs) (omega (arith, length-drop (length p) k, (common-within p k).1, more))
-      ∙ ap (λ m. child_lookup (first (drop m k)) (drop m k) cs) same
-
-  -- what it enters
-  pub entered-short : (p k : List ℕ) (v : Option V) (w : ℕ) (cs : Children V) (n : ℕ) → n ≡ common_prefix_len nat_eq p k → n < length p → entered_nodes k (node p v w cs) ≡ 1
-  entered-short p k v w cs n e h = ap (λ o. entered_behind o (λ b r. entered_child b r cs)) (strip_prefix-short p k (omega arith))
-
-  pub entered-here : (p k : List ℕ) (v : Option V) (w : ℕ) (cs : Children V) (n : ℕ) → n ≡ common_prefix_len nat_eq p k → length p ≤ n → length k ≡ n → entered_nodes k (node p v w cs) ≡ 1
-  entered-here p k v w cs n e full end = ap (λ o. entered_behind o (λ b r. entered_child b r cs)) (strip_prefix-full p k (omega arith))
-      ∙ entered-empty (drop (length p) k) (λ b r. entered_child b r cs) (omega (arith, length-drop (length p) k, (common-within p k).0))
-
-  pub entered-down : (p k : List ℕ) (v : Option V) (w : ℕ) (cs : Children V) (n : ℕ) → n ≡ common_prefix_len nat_eq p k → length p ≤ n → (length k ≡ n → ⊥) → entered_nodes k (node p v w cs) ≡ 1 + entered_child (first (drop n k)) (drop n k) cs
-  entered-down p k v w cs n e full more =
-      let same : length p ≡ n = omega (arith, (common-within p k).0) in
-      ap (λ o. entered_behind o (λ b r. entered_child b r cs)) (strip_prefix-full p k (omega arith))
-      ∙ entered-more (drop (length p) k) (λ b r. entered_child b r cs) (omega (arith, length-drop (length p) k, (common-within p k).1, more))
-      ∙ ap (λ m. 1 + entered_child (first (drop m k)) (drop m k) cs) same
-
   -- what an insertion leaves
   put_split-lower : (q l r : List ℕ) (v : V) (old : Option V) (w : ℕ) (cs : Children V) (f : ℕ → List ℕ → Children V) → 0 < length l → length r ≡ 0
       → put_split q l r v old w cs f ≡ node q (Some v) 4 (child (first l) (node l old w cs) no_children)

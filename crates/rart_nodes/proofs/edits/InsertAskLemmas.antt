@@ -1,5 +1,5 @@
 -- An insertion asks for memory just where the keys say so.
-use Rattle.std.proofs.Common.{◌+◌, ◌≤◌, ◌≡◌, ℕ, ◌<◌, ◌==◌, ◌||◌, ◌&&◌, ⊎_elim, not, suc, Bool, true, false, List, [], ◌∷◌, length, refl, sym, ap, ◌∙◌, arith, Option, Some, None, is_some, if◌then◌else◌}
+use Rattle.std.proofs.Common.{◌≡◌, ℕ, ◌<◌, ◌==◌, ◌||◌, ◌&&◌, ⊎_elim, not, suc, Bool, true, false, List, [], ◌∷◌, length, refl, sym, ap, ◌∙◌, arith, Option, Some, None, is_some, if◌then◌else◌}
 use Rattle.std.specs.List.{list_any}
 use Rattle.rart_keys.specs.ByteStrings.{strip_prefix}
 use Rattle.rart_keys.specs.SortedMap.{keys_of}

@@ -1,19 +1,18 @@
 -- What an insertion leaves at one node, as the code makes it, is what `trie_put` says.
-use Rattle.std.proofs.Common.{◌≡◌, ℕ, suc, ◌-◌, ◌<◌, ◌≤◌, true, false, cond, eqb, List, [], ◌∷◌, length, take, drop, nat_eq, Option, Some, None, Result, Ok, Err, refl, arith, sym, ap, ◌∙◌, inl, ⊎_elim}
+use Rattle.std.proofs.Common.{◌≡◌, ℕ, suc, ◌<◌, ◌≤◌, List, [], ◌∷◌, length, take, drop, nat_eq, Option, Some, None, refl, arith, sym, ap, ◌∙◌, inl, ⊎_elim}
 use Rattle.std.proofs.lemmas.List.{append-nil}
-use Rattle.std.specs.Prelude.{OnErr, slice_get}
+use Rattle.std.specs.Prelude.{slice_get}
 use Rattle.std.specs.List.{common_prefix_len}
 use Rattle.std.proofs.lemmas.Bool.Decides.{nat_tests}
-use Rattle.std.proofs.lemmas.List.{length-drop}
 use Rattle.rart_keys.specs.ByteStrings.{strip_prefix}
 use Rattle.rart_keys.specs.KeyBytes.{IsWithin}
 use Rattle.rart_keys.proofs.ByteOrder.{order, is_less, is_equal, is_greater, eq-yes, eq-no}
 use Rattle.rart_parts.specs.Entries.{child_at, with_entry, replaced}
-use Rattle.rart_nodes.specs.storages.Widths.{widened, next_width}
+use Rattle.rart_nodes.specs.storages.Widths.{widened}
 use Rattle.rart_nodes.specs.shapes.Shape.{capacity_of}
-use Rattle.rart_nodes.specs.tries.Trie.{Trie, node, Children, no_children, child, edges_of, IsCanonical, AreCanonical, trie_lookup, child_lookup, trie_put, put_child, fitting_node, leaf, fork, pairs_of, with_records, children_with_records}
+use Rattle.rart_nodes.specs.tries.Trie.{Trie, node, Children, edges_of, IsCanonical, AreCanonical, trie_lookup, child_lookup, trie_put, put_child, fitting_node, leaf, fork, pairs_of, with_records, children_with_records}
 use Rattle.rart_nodes.specs.tries.TrieCode.{as_children}
-use Rattle.rart_nodes.proofs.storages.ChildLemmas.{edges_of-length, replaced-length, with_entry-length, found, Found, at_first, behind_first, child_lookup-found, child_lookup-none, put_child-found, put_child-none, tail-none, fork-is, child_at-beside}
+use Rattle.rart_nodes.proofs.storages.ChildLemmas.{edges_of-length, replaced-length, with_entry-length, found, at_first, behind_first, put_child-found, put_child-none, tail-none, fork-is, child_at-beside}
 use Rattle.rart_nodes.proofs.edits.Descent.{first, first-differ, put-lower, put-fork}
 use Rattle.rart_nodes.proofs.tries.RestLemmas.{rest-length, trie_lookup-followed, trie_put-followed}
 

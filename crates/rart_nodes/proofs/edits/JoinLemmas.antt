@@ -1,16 +1,14 @@
 -- What a deletion leaves of a node, as the code makes it.
-use Rattle.std.proofs.Common.{◌≡◌, ◌≢◌, ◌⊎◌, ℕ, suc, ◌+◌, ◌<◌, ◌≤◌, ◌==◌, ◌&&◌, ⊎_elim, true, false, cond, eqb, List, [], ◌∷◌, ◌++◌, length, Option, Some, None, is_some, refl, arith, sym, ap, ◌∙◌, if◌then◌else◌}
-use Rattle.std.proofs.lemmas.Bool.Decides.{nat_tests}
+use Rattle.std.proofs.Common.{◌≡◌, ◌≢◌, ℕ, ◌+◌, ◌≤◌, ◌&&◌, true, false, cond, eqb, List, [], ◌∷◌, length, Option, Some, None, is_some, refl, arith, sym, ap, ◌∙◌, if◌then◌else◌}
 use Rattle.rart_keys.specs.KeyBytes.{IsWithin}
 use Rattle.rart_keys.proofs.ByteOrder.{eq-no}
 use Rattle.rart_parts.specs.Entries.{child_at}
 use Rattle.rart_parts.specs.Entries as entries
 use Rattle.rart_nodes.specs.edits.Deletion.{JoinsWithin, children_without, is_lone, joined_child, joined_if_lone, left_behind, without_child}
-use Rattle.rart_nodes.specs.tries.Trie.{Trie, node, Children, no_children, child, edges_of, prefix_of, value_of, capacity_in, children_in, child_of}
+use Rattle.rart_nodes.specs.tries.Trie.{Trie, node, Children, no_children, child, edges_of, prefix_of}
 use Rattle.rart_nodes.specs.tries.TrieCode.{as_children}
 use Rattle.rart_nodes.specs.storages.Widths.{narrowed}
 use Rattle.rart_nodes.proofs.storages.ChildLemmas.{edges_of-length}
-use Rattle.rart_nodes.proofs.storages.DeletionLemmas.{length-without_byte}
 use Rattle.rart_nodes.proofs.walks.SeenLemmas.{child_of-entries}
 
 pub within-most : (m : Option ℕ) (most n : ℕ) → m ≡ Some most → IsWithin m n → n ≤ most

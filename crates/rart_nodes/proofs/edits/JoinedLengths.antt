@@ -1,24 +1,13 @@
 -- The prefixes of a node and of its child, joined, are no longer than a key.
-use Rattle.std.proofs.Common.{◌≡◌, ◌≢◌, ℕ, suc, ◌+◌, ◌-◌, ◌<◌, ◌≤◌, ◌==◌, ◌&&◌, ⊎_elim, not, true, false, Bool, cond, eqb, List, [], ◌∷◌, ◌++◌, length, length-append, take, drop, nat_eq, max, Option, Some, None, is_some, refl, arith, sym, ap, ◌∙◌, if◌then◌else◌}
-use Rattle.std.specs.Prelude.{nat_le, slice_get}
-use Rattle.std.proofs.lemmas.Bool.Decides.{nat_tests}
+use Rattle.std.proofs.Common.{◌≡◌, ℕ, suc, ◌+◌, ◌<◌, ◌≤◌, List, [], ◌∷◌, ◌++◌, length, length-append, Option, Some, refl, arith, sym, ◌∙◌}
 use Rattle.rart_keys.specs.KeyBytes.{IsWithin}
-use Rattle.rart_keys.specs.ByteStrings.{strip_prefix}
-use Rattle.rart_keys.proofs.ByteOrder.{is_equal, is_greater, eq-yes, eq-no, equal_or_not}
-use Rattle.rart_parts.specs.Entries.{child_at, replaced}
-use Rattle.rart_parts.specs.Entries as entries
-use Rattle.rart_nodes.specs.edits.Deletion.{JoinsWithin, is_lone, joined_child, joined_if_lone, left_behind, without_child, is_end, is_leaf_at}
+use Rattle.rart_parts.specs.Entries.{child_at}
+use Rattle.rart_nodes.specs.edits.Deletion.{JoinsWithin}
 use Rattle.rart_keys.specs.SortedMap.{longest_key}
-use Rattle.rart_nodes.specs.edits.RemoveAsks.{moves_down, remove_asks_behind, trie_asks_remove, child_asks_remove}
-use Rattle.rart_nodes.specs.shapes.Shape.{NodeRecord, capacity_of}
-use Rattle.rart_nodes.specs.tries.Trie.{Trie, node, Children, no_children, child, edges_of, prefix_of, value_of, capacity_in, children_in, IsCanonical, AreCanonical, HasTwoChildren, fitting_node, pairs_of, children_pairs, own_pair, with_prefix, answer_behind, trie_lookup, child_lookup, collapsed, removed_behind, child_if, trie_remove, remove_child}
+use Rattle.rart_nodes.specs.tries.Trie.{Trie, node, Children, no_children, child, prefix_of, IsCanonical, AreCanonical, pairs_of, children_pairs, own_pair, with_prefix}
 use Rattle.rart_nodes.specs.tries.TrieCode.{as_children}
-use Rattle.rart_nodes.specs.storages.Widths.{narrowed, previous_width}
-use Rattle.rart_nodes.proofs.storages.ChildLemmas.{edges_of-length, replaced-length, found, at_first, behind_first}
-use Rattle.rart_nodes.proofs.storages.DeletionLemmas.{length-without_byte}
 use Rattle.rart_nodes.proofs.tries.CanonicalTests.{longest_key-append}
 use Rattle.rart_nodes.proofs.edits.InsertLemmas.{fewer-within}
-use Rattle.rart_nodes.proofs.edits.JoinLemmas.{without-some}
 use Rattle.rart_nodes.proofs.tries.NodeCounts.{some-pairs}
 use Rattle.rart_nodes.proofs.walks.SeenLemmas.{child-short, child_of-entries}
 

@@ -3,7 +3,7 @@ use Rattle.std.proofs.Common.{◌≡◌, ℕ, cond, eqb, ltb, true, false, List,
 use Rattle.std.specs.Prelude.{option_map}
 use Rattle.rart_parts.specs.Entries as entries
 use Rattle.rart_nodes.specs.edits.NodeEdits.{children_with, with_child}
-use Rattle.rart_nodes.specs.tries.Trie.{Trie, node, Children, child, edges_of}
+use Rattle.rart_nodes.specs.tries.Trie.{Trie, node, child, edges_of}
 use Rattle.rart_nodes.specs.tries.TrieCode.{as_children}
 use Rattle.rart_nodes.specs.storages.Widths.{widened}
 use Rattle.rart_nodes.proofs.storages.ChildLemmas.{edges_of-length}

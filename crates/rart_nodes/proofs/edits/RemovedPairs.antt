@@ -1,11 +1,9 @@
 -- What a removal leaves of a tree's pairs: their number and the longest key.
-use Rattle.std.proofs.Common.{◌≡◌, ℕ, ◌+◌, ◌≤◌, ⊎_elim, not, max, Bool, true, false, List, [], ◌∷◌, length, Option, Some, None, refl, sym, ap, ◌∙◌, arith, if◌then◌else◌}
-use Rattle.std.specs.List.{filter}
+use Rattle.std.proofs.Common.{◌≡◌, ℕ, ◌+◌, ◌≤◌, not, true, false, List, [], ◌∷◌, length, Option, Some, None, refl, ap, arith, if◌then◌else◌}
 use Rattle.rart_keys.specs.ByteStrings.{bytes_eq}
 use Rattle.rart_keys.specs.SortedMap.{AreAbove, IsAscending, count_of, lookup, without, longest_key}
 use Rattle.rart_keys.proofs.ByteOrder.{below-not_eq, bytes_eq-back, bytes_eq-equal}
-use Rattle.rart_keys.proofs.SortedMaps.{lookup-above}
-use Rattle.rart_nodes.specs.tries.Tree.{IsCanonicalTree, tree_pairs, tree_remove, tree_lookup}
+use Rattle.rart_nodes.specs.tries.Tree.{IsCanonicalTree, tree_pairs, tree_remove}
 use Rattle.rart_nodes.specs.tries.Trie.{Trie}
 use Rattle.rart_nodes.proofs.tries.PairLemmas.{pairs_of-ascend}
 use Rattle.rart_nodes.proofs.edits.RemoveLemmas.{canonical-removed, pairs_of-removed}

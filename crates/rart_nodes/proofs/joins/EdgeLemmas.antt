@@ -7,7 +7,7 @@ use Rattle.rart_nodes.specs.joins.Lockstep.{lockstep, meet_each}
 use Rattle.rart_nodes.specs.joins.SharedEdges.{above}
 use Rattle.rart_keys.proofs.ByteOrder.{order, is_less, is_equal, is_greater, eq-yes, eq-no, equal_or_not}
 use Rattle.rart_nodes.proofs.tries.PairLemmas.{or_else, lookup-append}
-use Rattle.rart_nodes.proofs.tries.LongerPrefix.{longer, trie_lookup-longer}
+use Rattle.rart_nodes.proofs.tries.LongerPrefix.{longer}
 use Rattle.rart_nodes.proofs.joins.MeetLemmas.{lookup-step, lookup-step_nil}
 use Rattle.rart_nodes.proofs.joins.Reach.{reaches, reaches_child}
 
@@ -84,9 +84,6 @@ child_mark b p cs = is_some (child_lookup b p (children_with_records cs))
 pub mark-nil : {V : Type 0} (b : ℕ) (t : Trie V) → StartsWith b (prefix_of t) → mark t [] ≡ false
 mark-nil b (node [] v n cs) f = absurd f
 mark-nil b (node (x ∷ p) v n cs) f = refl
-
-mark-longer : {V : Type 0} (x y : ℕ) (k : List ℕ) (t : Trie V) → mark (longer x t) (y ∷ k) ≡ (if x == y then mark t k else false)
-mark-longer x y k (node p v n cs) = rw (trie_lookup-longer x y k (with_records (node p v n cs))) (elim (x == y) as (λ b. is_some (if b then trie_lookup k (with_records (node p v n cs)) else None) ≡ (if b then mark (node p v n cs) k else false)) [ true ↦ refl | false ↦ refl ])
 
 -- G, or true at the root
 abbrev pub from_root : (List ℕ → Bool) → List ℕ → Bool

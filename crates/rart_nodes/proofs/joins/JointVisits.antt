@@ -8,7 +8,7 @@ use Rattle.rart_nodes.specs.joins.SharedEdges.{shared_edges, joint_visits, more_
 use Rattle.rart_nodes.specs.tries.Tree.{tree_nodes, tree_pairs, IsCanonicalTree}
 use Rattle.rart_nodes.specs.tries.Trie.{Trie, pairs_of}
 use Rattle.rart_nodes.proofs.joins.MeetLemmas.{meet-join}
-use Rattle.rart_nodes.proofs.joins.MeetSteps.{met, met_visits}
+use Rattle.rart_nodes.proofs.joins.MeetSteps.{met_visits}
 use Rattle.rart_nodes.proofs.joins.MeetVisits.{visits-shared, visits_below_nodes}
 use Rattle.rart_nodes.proofs.tries.NodeCounts.{some-pairs}
 
@@ -17,11 +17,6 @@ joint-none [] = refl
 joint-none (e ∷ l) = refl
 
 module _ {V W : Type 0} where
-  pub met-join : (t : Option (Trie V)) (u : Option (Trie W)) → IsCanonicalTree t → IsCanonicalTree u → met t u ≡ join (tree_pairs t) (tree_pairs u)
-  met-join None u w z = refl
-  met-join (Some t) None w z = sym (join-nil (pairs_of t))
-  met-join (Some t) (Some u) w z = meet-join t u w z
-
   joint-some : (l : List (List ℕ × V)) (m : List (List ℕ × W)) → 0 < length l → 0 < length m → joint_visits (keys_of l) (keys_of m) ≡ 1 + length (shared_edges (keys_of l) (keys_of m))
   joint-some [] m h k = absurd (omega arith)
   joint-some (e ∷ l) [] h k = absurd (omega arith)
@@ -31,11 +26,6 @@ module _ {V W : Type 0} where
   met_visits-joint None u w z = refl
   met_visits-joint (Some t) None w z = sym (joint-none (pairs_of t))
   met_visits-joint (Some t) (Some u) w z = visits-shared t u w z ∙ sym (joint-some (pairs_of t) (pairs_of u) (some-pairs t w) (some-pairs u z))
-
-  -- by the roots
-  pub joined-left_none : (t : Option (Trie V)) (u : Option (Trie W)) → None ≡ t → (join (tree_pairs t) (tree_pairs u) ≡ []) × (joint_visits (keys_of (tree_pairs t)) (keys_of (tree_pairs u)) ≡ 0)
-  joined-left_none None u e = (refl, refl)
-  joined-left_none (Some t) u e = absurd (cc)
 
   pub joined-right_none : (t : Option (Trie V)) (u : Option (Trie W)) → None ≡ u → (join (tree_pairs t) (tree_pairs u) ≡ []) × (joint_visits (keys_of (tree_pairs t)) (keys_of (tree_pairs u)) ≡ 0)
   joined-right_none t None e = (join-nil (tree_pairs t), joint-none (tree_pairs t))

@@ -1,5 +1,5 @@
 -- The children that two nodes have in common are the same from either side.
-use Rattle.std.proofs.Common.{◌≡◌, ℕ, suc, ◌<◌, ⊎_elim, List, [], ◌∷◌, Option, Some, None, true, refl, arith, sym, ap, ◌∙◌}
+use Rattle.std.proofs.Common.{◌≡◌, ℕ, suc, ◌<◌, ⊎_elim, List, [], ◌∷◌, Option, Some, true, refl, arith, sym, ap, ◌∙◌}
 use Rattle.rart_keys.specs.Joins.{both}
 use Rattle.rart_keys.proofs.ByteOrder.{order, eq-yes, eq-no}
 use Rattle.rart_nodes.specs.joins.Twins.{twin_if, twins_left, twins_right}
@@ -9,10 +9,6 @@ use Rattle.rart_nodes.proofs.tries.CanonicalTests.{IsCanonical-test}
 use Rattle.rart_nodes.proofs.walks.SeenLemmas.{child_of-low}
 
 module _ {V W : Type 0} where
-  twin-none : (o : Option (Trie V)) (ps : List (Trie V × Trie W)) → twin_if (both o None) ps ≡ ps
-  twin-none None ps = refl
-  twin-none (Some t) ps = refl
-
   abbrev over_left : Children V → Children W → List (Trie V × Trie W)
   over_left no_children ds = []
   over_left (child b t cs) ds = twin_if (both (Some t) (child_of b ds)) (over_left cs ds)

@@ -1,13 +1,11 @@
 -- A trie's children that are given as entries: what stands at a byte, and what an edit there leaves.
-use Rattle.std.proofs.Common.{◌≡◌, ℕ, suc, ◌+◌, ◌<◌, ◌≤◌, ◌==◌, ◌⊎◌, ⊎_elim, true, false, cond, eqb, ltb, List, [], ◌∷◌, length, Option, Some, None, refl, arith, sym, ap, ◌∙◌}
-use Rattle.std.specs.Ordering.{nat_cmp}
+use Rattle.std.proofs.Common.{◌≡◌, ℕ, suc, ◌<◌, ◌≤◌, ⊎_elim, true, false, cond, eqb, ltb, List, [], ◌∷◌, length, Some, None, refl, arith, sym, ap, ◌∙◌}
 use Rattle.std.proofs.lemmas.Bool.Decides.{nat_tests}
 use Rattle.rart_keys.proofs.ByteOrder.{order, is_less, is_equal, is_greater, eq-yes, eq-no}
 use Rattle.rart_parts.specs.Entries.{child_at, with_entry, replaced}
 use Rattle.rart_parts.proofs.EntryLemmas.{length-with_entry}
 use Rattle.rart_nodes.specs.walks.ProbeCount.{entered_nodes, entered_child}
-use Rattle.rart_nodes.specs.shapes.Shape.{capacity_of}
-use Rattle.rart_nodes.specs.tries.Trie.{Trie, node, Children, no_children, child, edges_of, IsCanonical, AreCanonical, trie_lookup, child_lookup, trie_put, put_child, leaf, fork}
+use Rattle.rart_nodes.specs.tries.Trie.{Trie, child, edges_of, IsCanonical, AreCanonical, trie_lookup, child_lookup, trie_put, put_child, leaf, fork}
 use Rattle.rart_nodes.specs.tries.TrieCode.{as_children, node_count, child_count}
 
 lt-yes : (b c : ℕ) → b < c → ltb b c ≡ true

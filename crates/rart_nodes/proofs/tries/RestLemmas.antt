@@ -7,7 +7,7 @@ use Rattle.std.proofs.lemmas.Grind.{common_steps}
 use Rattle.std.proofs.lemmas.List.{length-drop}
 use Rattle.rart_keys.specs.ByteStrings.{strip_prefix}
 use Rattle.rart_parts.specs.Entries.{child_at}
-use Rattle.rart_nodes.specs.tries.Trie.{Trie, node, Children, Overlap, overlap, grown_overlap, IsCanonical, answer_behind, trie_lookup, child_lookup, trie_put, put_child, put_overlap, put_split, fitting_node}
+use Rattle.rart_nodes.specs.tries.Trie.{Trie, node, Children, overlap, grown_overlap, IsCanonical, answer_behind, trie_lookup, child_lookup, trie_put, put_child, put_overlap, put_split, fitting_node}
 use Rattle.rart_nodes.specs.tries.TrieCode.{as_children}
 use Rattle.rart_nodes.proofs.storages.ChildLemmas.{child_lookup-found, child_lookup-none}
 

@@ -1,5 +1,5 @@
 -- What an update leaves at one node.
-use Rattle.std.proofs.Common.{◌≡◌, ◌≢◌, ℕ, ◌-◌, ⊎_elim, true, false, Bool, List, [], ◌∷◌, length, Option, Some, None, Result, Ok, Err, is_some, option_and_then, refl, sym, ap, subst, ◌∙◌}
+use Rattle.std.proofs.Common.{◌≡◌, ◌≢◌, ℕ, ⊎_elim, true, false, Bool, List, [], ◌∷◌, length, Option, Some, None, Result, Ok, Err, is_some, option_and_then, refl, sym, ap, subst, ◌∙◌}
 use Rattle.std.specs.Prelude.{slice_get}
 use Rattle.rart_keys.specs.ByteStrings.{strip_prefix}
 use Rattle.rart_keys.proofs.ByteOrder.{eq-yes, eq-no, equal_or_not}

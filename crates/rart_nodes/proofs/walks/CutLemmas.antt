@@ -1,10 +1,8 @@
 -- The prefixes of the nodes on the way to a key are its cut.
-use Rattle.std.proofs.Common.{◌≡◌, ℕ, ◌<◌, ◌≤◌, ◌^◌, ⊎_elim, suc, true, false, List, [], ◌∷◌, ◌++◌, length, map, refl, sym, ap, ◌∙◌, arith, Option, Some, None, is_some, if◌then◌else◌}
+use Rattle.std.proofs.Common.{◌≡◌, ℕ, ◌≤◌, suc, true, false, List, [], ◌∷◌, ◌++◌, map, refl, sym, ap, ◌∙◌, arith, Option, Some, None, is_some, if◌then◌else◌}
 use Rattle.std.proofs.lemmas.List.{append-nil, append_assoc, map-append}
-use Rattle.rart_keys.specs.ByteStrings.{strip_prefix, begins}
-use Rattle.rart_keys.specs.Filters.{below}
-use Rattle.rart_keys.specs.SortedMap.{keys_of, longest_key}
-use Rattle.rart_keys.proofs.ByteOrder.{order, is_less, is_equal, is_greater, eq-yes, eq-no, equal_or_not}
+use Rattle.rart_keys.specs.SortedMap.{keys_of}
+use Rattle.rart_keys.proofs.ByteOrder.{is_equal, is_greater, eq-yes}
 use Rattle.rart_nodes.specs.shapes.Shape.{NodeRecord, record_at}
 use Rattle.rart_nodes.specs.tries.Tree.{tree_pairs, IsCanonicalTree}
 use Rattle.rart_nodes.specs.tries.Trie.{Trie, node, Children, no_children, child, trie_lookup, child_lookup, pairs_of, children_pairs, own_pair, with_prefix, with_records, children_with_records, StartsWith, prefix_of, IsCanonical, AreCanonical}

@@ -1,6 +1,6 @@
 -- The longest key that begins a probe is the first of those that it begins.
 use Rattle.std.proofs.Common.{◌≡◌, ◌≢◌, ℕ, ◌⊎◌, inl, inr, ⊎_elim, true, false, List, [], ◌∷◌, refl, sym, ap, ◌∙◌, Option, Some, None, if◌then◌else◌}
-use Rattle.rart_keys.specs.ByteStrings.{begins, IsBelow, strip_prefix}
+use Rattle.rart_keys.specs.ByteStrings.{begins, IsBelow}
 use Rattle.rart_keys.specs.Filters.{below, matches, last_or, longest_match}
 use Rattle.rart_keys.specs.SortedMap.{AreAbove, IsAscending, keys_of}
 use Rattle.rart_keys.proofs.ByteOrder.{is_equal, eq-yes, eq-no, equal_or_not}

@@ -1,21 +1,21 @@
 -- A descent that collects what it passes gives the pairs whose key begins the string.
-use Rattle.std.proofs.Common.{◌≡◌, ℕ, ◌+◌, ◌-◌, ◌<◌, ◌≤◌, ◌==◌, ⊎_elim, suc, zero, Bool, true, false, List, [], ◌∷◌, ◌++◌, length, length-append, take, drop, refl, sym, ap, ◌∙◌, arith, Option, Some, None, is_some, if◌then◌else◌}
+use Rattle.std.proofs.Common.{◌≡◌, ℕ, ◌+◌, ◌-◌, ◌<◌, ◌≤◌, ◌==◌, ⊎_elim, suc, Bool, true, false, List, [], ◌∷◌, ◌++◌, length, length-append, take, drop, refl, sym, ap, ◌∙◌, arith, Option, Some, None, is_some, if◌then◌else◌}
 use Rattle.std.specs.Prelude.{slice_get}
 use Rattle.std.proofs.lemmas.List.{append-nil, append_assoc, length-drop, take-append-drop, take-append-le, take_all}
 use Rattle.std.proofs.lemmas.Grind.{common_steps}
 use Rattle.std.proofs.lemmas.List.Elements.{filter-append}
 use Rattle.rart_keys.specs.ByteStrings.{strip_prefix, begins}
-use Rattle.rart_keys.specs.Filters.{matches, longest_match, last_or}
+use Rattle.rart_keys.specs.Filters.{matches}
 use Rattle.rart_keys.specs.SortedMap.{keys_of}
 use Rattle.rart_keys.proofs.ByteOrder.{order, is_less, is_equal, is_greater, eq-no, eq-yes, equal_or_not}
 use Rattle.rart_nodes.specs.tries.CanonicalTest.{is_canonical}
 use Rattle.rart_nodes.specs.tries.Tree.{tree_pairs, IsCanonicalTree}
-use Rattle.rart_nodes.specs.tries.Trie.{Trie, node, Children, no_children, child, pairs_of, children_pairs, own_pair, prefix_of, value_of, child_of, child_in, with_prefix, IsCanonical, AreCanonical}
-use Rattle.rart_nodes.specs.walks.Matches.{Passes, PassesNone, pair_at, matches_behind, trie_matches, child_matches, tree_matches, matches_ahead, entered_ahead}
+use Rattle.rart_nodes.specs.tries.Trie.{Trie, node, Children, no_children, child, pairs_of, children_pairs, own_pair, prefix_of, child_of, child_in, with_prefix, IsCanonical, AreCanonical}
+use Rattle.rart_nodes.specs.walks.Matches.{Passes, pair_at, matches_behind, trie_matches, child_matches, tree_matches, matches_ahead, entered_ahead}
 use Rattle.rart_nodes.specs.walks.ProbeCount.{probe_count, tree_entered}
 use Rattle.rart_nodes.proofs.tries.CanonicalTests.{IsCanonical-test}
 use Rattle.rart_nodes.proofs.tries.FirstBytes.{AllFirst, AllFrom, pairs_of-first, children_pairs-from}
-use Rattle.rart_nodes.proofs.walks.SeenLemmas.{child_of-low, child-falls, few-tree_entered, step-left, step-ended, step-on, tree_entered-probe_count}
+use Rattle.rart_nodes.proofs.walks.SeenLemmas.{child_of-low, child-falls, few-tree_entered, step-ended, step-on, tree_entered-probe_count}
 
 abbrev begins_within : List ℕ → Option (List ℕ) → Bool
 begins_within l None = false
@@ -134,14 +134,7 @@ module _ {V : Type 0} where
   prefix-own_alone q None = refl
   prefix-own_alone q (Some v) = ap (λ k. (k, v) ∷ []) (append-nil q)
 
-  -- a descent along q at the node t behind d bytes: q leaves the prefix
-  pub pass-left : (t : Trie V) (q k : List ℕ) (d : ℕ) → k ≡ drop d q → None ≡ strip_prefix (prefix_of t) k → PassesNone q d t
-  pass-left (node p v n cs) q k d i e = record {
-    still = rw (← i) (ap (λ o. with_prefix (take d q) (matches_behind o p v (λ b r. child_matches b r cs))) (sym e));
-    counted = rw (← i) (step-left (node p v n cs) k e).1;
-  }
-
-  -- q ends behind it
+  -- a descent along q at the node t behind d bytes: q ends behind its prefix
   pub pass-ended : (t : Trie V) (q k r : List ℕ) (d d1 : ℕ) → d ≤ length q → k ≡ drop d q → Some r ≡ strip_prefix (prefix_of t) k → d1 ≡ length q - length r → None ≡ slice_get r 0 → Passes q d t d1 None
   pass-ended (node p v n cs) q k [] d d1 l i e f h =
       let s = split-at p q k [] d d1 l i e f in

@@ -1,5 +1,5 @@
 -- The segments of the keys at and below a prefix are their cuts, and can be lent.
-use Rattle.std.proofs.Common.{◌≡◌, ℕ, ◌<◌, ◌≤◌, ◌^◌, ⊎_elim, Bool, true, false, List, [], ◌∷◌, ◌++◌, length, map, refl, sym, ap, ◌∙◌, arith, Option, Some, None, is_some, subst, if◌then◌else◌}
+use Rattle.std.proofs.Common.{◌≡◌, ℕ, ◌<◌, ◌≤◌, ◌^◌, ⊎_elim, true, false, List, [], ◌∷◌, ◌++◌, length, refl, sym, ap, ◌∙◌, arith, Option, Some, None, is_some, subst, if◌then◌else◌}
 use Rattle.std.proofs.lemmas.List.{append_assoc, map-append}
 use Rattle.rart_keys.specs.ByteStrings.{strip_prefix, begins}
 use Rattle.rart_keys.specs.Filters.{below}
@@ -10,7 +10,7 @@ use Rattle.rart_nodes.specs.tries.Tree.{tree_pairs, IsCanonicalTree}
 use Rattle.rart_nodes.specs.tries.Trie.{Trie, node, Children, no_children, child, pairs_of}
 use Rattle.rart_nodes.specs.walks.Cut.{with_piece, cut_by, cut, cut_pairs}
 use Rattle.rart_nodes.specs.walks.Part.{found_behind, part_found, part_child, tree_part, part_stops}
-use Rattle.rart_nodes.specs.walks.Tour.{Pieces, Grown, joined, join_all, behind_pieces, value_at, stops_of, children_stops, tree_stops}
+use Rattle.rart_nodes.specs.walks.Tour.{Pieces, Grown, joined, join_all, behind_pieces, value_at, stops_of, children_stops}
 use Rattle.rart_nodes.specs.walks.TrailParts.{one_piece}
 use Rattle.rart_nodes.specs.walks.ViewPieces.{all_have_bytes, AreViews}
 use Rattle.rart_nodes.proofs.walks.CutLemmas.{joined-cut, tree-cut}

@@ -1,5 +1,5 @@
 -- What is found at and below a prefix: the pairs whose key it begins.
-use Rattle.std.proofs.Common.{◌≡◌, ℕ, zero, suc, ◌+◌, ◌*◌, ◌-◌, ◌<◌, ◌≤◌, ⊎_elim, Bool, true, false, ◌&&◌, eqb, nat_eq, List, [], ◌∷◌, ◌++◌, length, length-append, refl, sym, ap, ◌∙◌, arith, Option, Some, None, is_some, option_map, if◌then◌else◌}
+use Rattle.std.proofs.Common.{◌≡◌, ℕ, suc, ◌+◌, ◌*◌, ◌<◌, ◌≤◌, ⊎_elim, Bool, true, false, ◌&&◌, nat_eq, List, [], ◌∷◌, ◌++◌, length, length-append, refl, sym, ap, ◌∙◌, arith, Option, Some, None, is_some, option_map, if◌then◌else◌}
 use Rattle.std.specs.Prelude.{slice_get}
 use Rattle.std.specs.List.{starts_with}
 use Rattle.std.specs.Ordering.{nat_cmp, match_ordering}
@@ -14,9 +14,9 @@ use Rattle.rart_nodes.specs.tries.Tree.{tree_pairs, IsCanonicalTree}
 use Rattle.rart_nodes.specs.tries.Trie.{Trie, node, Children, no_children, child, pairs_of, children_pairs, own_pair, edges_of, prefix_of, child_of, child_in, with_prefix, IsCanonical, AreCanonical}
 use Rattle.rart_nodes.specs.tries.TrieCode.{node_count, child_count}
 use Rattle.rart_nodes.specs.walks.Part.{found_behind, part_found, part_child, tree_part, part_stops, part_pairs}
-use Rattle.rart_nodes.specs.walks.Tour.{Pieces, Grown, IsShort, Joins, joined, join_all, stop_values, behind_pieces, stops_of}
+use Rattle.rart_nodes.specs.walks.Tour.{Pieces, Grown, Joins, joined, join_all, stop_values, stops_of}
 use Rattle.rart_nodes.specs.walks.TrailParts.{byte_pieces}
-use Rattle.rart_nodes.proofs.tries.CanonicalTests.{IsCanonical-test, longest_key-append}
+use Rattle.rart_nodes.proofs.tries.CanonicalTests.{IsCanonical-test}
 use Rattle.rart_nodes.proofs.tries.FirstBytes.{AllFirst, AllFrom, pairs_of-first, children_pairs-from}
 use Rattle.rart_nodes.proofs.tries.NodeCounts.{length-own_pair, two-edges}
 use Rattle.rart_nodes.proofs.walks.SeenLemmas.{child_of-low, longest-of}
@@ -180,10 +180,6 @@ module _ {V : Type 0} where
 
   pub part-within : (g : Grown) (k : Pieces) (t : Trie V) (p : List ℕ) → None ≡ strip_prefix (prefix_of t) p → begins p (prefix_of t) ≡ true → Some (k, t) ≡ part_found g k p t
   part-within g k (node q v n cs) p e h = rw (← e, h) refl
-
-  pub part-ended : (g : Grown) (k : Pieces) (t : Trie V) (p r : List ℕ) → Some r ≡ strip_prefix (prefix_of t) p → None ≡ slice_get r 0 → Some (k, t) ≡ part_found g k p t
-  part-ended g k (node q v n cs) p [] e h = rw (← e) refl
-  part-ended g k (node q v n cs) p (b ∷ r) e h = absurd (cc)
 
   part_child-of : (g : Grown) (k : Pieces) (b low : ℕ) (p : List ℕ) (cs : Children V) → AreCanonical low cs → part_child g k b p cs ≡ tree_part g k p (child_of b cs)
   part_child-of g k b low p no_children w = refl

@@ -1,5 +1,5 @@
 -- What a descent of a shared trie meets: its children are canonical and smaller, and answer for what lies below them.
-use Rattle.std.proofs.Common.{◌≡◌, ℕ, suc, ◌+◌, ◌-◌, ◌<◌, ◌≤◌, ◌⊎◌, inl, inr, ⊎_elim, max, Bool, true, false, cond, eqb, List, [], ◌∷◌, ◌++◌, length, length-append, take, drop, nat_eq, Option, Some, None, refl, arith, sym, ap, ◌∙◌}
+use Rattle.std.proofs.Common.{◌≡◌, ℕ, suc, ◌+◌, ◌<◌, ◌≤◌, ◌⊎◌, inl, inr, ⊎_elim, Bool, true, false, cond, eqb, List, [], ◌∷◌, ◌++◌, length, Option, Some, None, refl, arith, sym, ap, ◌∙◌}
 use Rattle.std.specs.Prelude.{slice_get}
 use Rattle.rart_keys.specs.ByteStrings.{strip_prefix}
 use Rattle.rart_keys.specs.SortedMap.{keys_of, lookup, longest_key}
@@ -8,7 +8,7 @@ use Rattle.rart_nodes.specs.tries.CanonicalTest.{is_canonical}
 use Rattle.rart_parts.specs.Entries.{child_at}
 use Rattle.rart_nodes.specs.walks.ProbeCount.{probe_count, entered_behind, entered_nodes, entered_child, tree_entered}
 use Rattle.rart_nodes.specs.tries.Tree.{tree_lookup, tree_pairs, IsCanonicalTree}
-use Rattle.rart_nodes.specs.tries.Trie.{Trie, node, Children, no_children, child, prefix_of, value_of, pairs_of, children_pairs, with_prefix, own_pair, IsCanonical, AreCanonical, trie_lookup, child_lookup, child_of, child_in}
+use Rattle.rart_nodes.specs.tries.Trie.{Trie, node, Children, no_children, child, prefix_of, value_of, pairs_of, children_pairs, own_pair, IsCanonical, AreCanonical, trie_lookup, child_lookup, child_of, child_in}
 use Rattle.rart_nodes.specs.tries.TrieCode.{as_children, node_count, child_count}
 use Rattle.rart_nodes.specs.walks.Tour.{tree_count}
 use Rattle.rart_nodes.proofs.tries.CanonicalTests.{IsCanonical-test, test-IsCanonical, longest_key-append, longest_key-with_prefix}

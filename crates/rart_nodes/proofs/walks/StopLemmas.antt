@@ -2,7 +2,7 @@
 use Rattle.std.proofs.Common.{◌≡◌, ℕ, suc, zero, List, [], ◌∷◌, ◌++◌, length, map, take, Option, Some, None, refl, sym, ap, ◌∙◌, arith}
 use Rattle.std.proofs.lemmas.List.{append_assoc, append-nil, map-append}
 use Rattle.rart_keys.specs.SortedMap.{values_of}
-use Rattle.rart_nodes.specs.walks.Tour.{Pieces, Grown, Tells, Joins, joined, join_all, stop_values, behind_pieces, value_at, stops_of, children_stops, tree_stops}
+use Rattle.rart_nodes.specs.walks.Tour.{Pieces, Grown, Joins, joined, join_all, stop_values, behind_pieces, value_at, stops_of, children_stops, tree_stops}
 use Rattle.rart_nodes.specs.walks.TrailParts.{byte_pieces, one_piece}
 use Rattle.rart_nodes.specs.tries.Tree.{tree_pairs}
 use Rattle.rart_nodes.specs.tries.Trie.{Trie, node, Children, no_children, child, children_pairs, pairs_of, own_pair, with_prefix}
@@ -18,9 +18,6 @@ joins-one (b ∷ p) = append-nil (b ∷ p)
 pub joins-bytes : Joins byte_pieces
 joins-bytes [] = refl
 joins-bytes (b ∷ p) = ap (λ z. b ∷ z) (joins-bytes p)
-
-pub tells-bytes : Tells byte_pieces
-tells-bytes b p = omega arith
 
 pub length-bytes : (p : List ℕ) → length (byte_pieces p) ≡ length p
 length-bytes [] = refl

@@ -1,12 +1,12 @@
 -- A walk whose trail tells the bytes of a key visits no more nodes on its way to the key than that has bytes.
-use Rattle.std.proofs.Common.{◌≡◌, ℕ, ◌+◌, ◌<◌, ◌≤◌, ◌⊎◌, inl, inr, ⊎_elim, true, List, [], ◌∷◌, ◌++◌, length, length-append, take, reverse, Some, None, refl, ap, ◌∙◌, arith}
+use Rattle.std.proofs.Common.{◌≡◌, ℕ, ◌+◌, ◌<◌, ◌≤◌, ◌⊎◌, inl, inr, ⊎_elim, true, List, [], ◌∷◌, ◌++◌, length, length-append, take, reverse, Some, None, refl, ap, arith}
 use Rattle.std.proofs.lemmas.List.{length-take}
 use Rattle.rart_nodes.specs.tries.CanonicalTest.{is_canonical}
 use Rattle.rart_nodes.specs.walks.Tour.{Pieces, Grown, Tells, Level, IsTour}
 use Rattle.rart_nodes.specs.walks.TourSteps.{DeepestLeft, DeepestStep, GoesOn}
 use Rattle.rart_nodes.specs.tries.Trie.{Trie, node, Children, no_children, child, children_in, prefix_of, value_of, IsCanonical}
 use Rattle.rart_nodes.proofs.tries.CanonicalTests.{IsCanonical-test}
-use Rattle.rart_nodes.proofs.walks.TourLemmas.{Child, first-child, deepest}
+use Rattle.rart_nodes.proofs.walks.TourLemmas.{first-child, deepest}
 
 not-bare : (V : Type 0) (p : List ℕ) (n : ℕ) → IsCanonical {V = V} (node p None n no_children) → ⊥
 not-bare V p n w = ⊎_elim (λ h. cc) (λ h. absurd h) w.0
@@ -68,6 +68,3 @@ module _ {V : Type 0} where
       (λ e. let h1 : HasVisited n m k (reverse []) = rw e at h in inl (⊎_elim (λ f. omega (arith, f, q)) (λ f. absurd f.1) h1))
       (λ z. let e : reverse st ≡ (no_children, z.1.0) ∷ reverse z.0 = deepest st z.0 (no_children, z.1.0) z.1.1 in
       inl (omega (arith, q, none-here n m z.1.0 k (reverse z.0) (rw e at h)))) s.left
-
-  pub visit-end : (n m : ℕ) (k : Pieces) (st : List (Level V)) → HasVisited n m k (reverse st) → st ≡ [] → m ≡ n
-  visit-end n m k st h e = let h1 : HasVisited n m k (reverse []) = rw e at h in ⊎_elim (λ f. f) (λ f. absurd f.1) h1

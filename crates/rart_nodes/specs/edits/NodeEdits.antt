@@ -1,5 +1,5 @@
 -- What the calls of a node leave of it.
-use Rattle.std.specs.Prelude.{ℕ, cond, eqb, ltb, length, Option, Some}
+use Rattle.std.specs.Prelude.{ℕ, cond, eqb, ltb, length, Some}
 use Rattle.rart_nodes.specs.tries.Trie.{Trie, node, Children, no_children, child, edges_of}
 use Rattle.rart_nodes.specs.storages.Widths.{widened}
 

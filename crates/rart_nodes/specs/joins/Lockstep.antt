@@ -1,5 +1,5 @@
 -- A walk through two tries in lockstep: the keys of both, with both values.
-use Rattle.std.specs.Prelude.{ℕ, ◌==◌, List, [], ◌∷◌, ◌++◌, Option, Some, None, if◌then◌else◌}
+use Rattle.std.specs.Prelude.{ℕ, ◌==◌, List, [], ◌∷◌, ◌++◌, Option, if◌then◌else◌}
 use Rattle.std.specs.Ordering.{nat_cmp, match_ordering}
 use Rattle.rart_keys.specs.Joins.{both}
 use Rattle.rart_nodes.specs.tries.Trie.{Trie, node, Children, no_children, child, own_pair, with_prefix}
@@ -36,8 +36,3 @@ abbrev mutual
 -- a node of which the rest p of its prefix is left
 abbrev pub with_rest : {V : Type 0} → List ℕ → Trie V → Trie V
 with_rest p (node q v n cs) = node p v n cs
-
--- what both nodes hold, as a list
-abbrev pub some_pair : {V W : Type 0} → Option (V × W) → List (V × W)
-some_pair None = []
-some_pair (Some e) = e ∷ []

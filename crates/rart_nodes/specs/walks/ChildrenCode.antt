@@ -1,5 +1,5 @@
 -- How a proof tells children apart.
-use Rattle.std.specs.Prelude.{List, [], None, refl}
+use Rattle.std.specs.Prelude.{[], None, refl}
 use Rattle.std.specs.Coded.{Coded, code_by}
 use Rattle.rart_nodes.specs.tries.Trie.{Trie, node, Children, children_in}
 use Rattle.rart_nodes.specs.tries.TrieCode.{trie_code}

@@ -1,5 +1,5 @@
 -- What trails keep of a prefix: its bytes, one by one, the prefix as one piece, or nothing.
-use Rattle.std.specs.Prelude.{ℕ, ◌≤◌, List, [], ◌∷◌, length, map, Option}
+use Rattle.std.specs.Prelude.{ℕ, List, [], ◌∷◌, map, Option}
 use Rattle.std.specs.Borrow.{Bor}
 use Rattle.std.specs.Option.{option_copied}
 use Rattle.std.proofs.Common.{arith}

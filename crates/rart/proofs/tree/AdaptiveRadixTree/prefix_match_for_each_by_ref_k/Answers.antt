@@ -1,4 +1,4 @@
-use Rattle.std.proofs.Common.{List, ℕ, OnOk, subst}
+use Rattle.std.proofs.Common.{List, ℕ, subst}
 use Rattle.std.specs.List.{FoldsTo}
 use Rattle.rart_keys.specs.Filters.{matches}
 use Rattle.rart_nodes.specs.walks.Matched.{Matched}

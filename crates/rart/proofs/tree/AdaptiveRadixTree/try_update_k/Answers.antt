@@ -1,4 +1,4 @@
-use Rattle.std.proofs.Common.{◌≡◌, ◌∙◌, ap, Some, None, Ok, Err}
+use Rattle.std.proofs.Common.{◌≡◌, ◌∙◌, ap, Err}
 use Rattle.rart_keys.specs.SortedMap.{keys_of}
 use Rattle.rart.specs.Updates.{TriesUpdate}
 use Rattle.rart.specs.declared.tree.update.TryUpdateError.TheVariants.{Remove}

@@ -1,7 +1,5 @@
 use Rattle.std.proofs.Common.{◌≡◌, ◌+◌, ◌≤◌, ◌∙◌, sym, refl, ap, arith, length}
-use Rattle.rart_nodes.specs.edits.Deletion.{JoinsWithin}
-use Rattle.rart_nodes.specs.tries.Trie.{children_in, prefix_of}
-use Rattle.rart_nodes.specs.tries.TrieCode.{as_children}
+use Rattle.rart_nodes.specs.tries.Trie.{prefix_of}
 use Rattle.rart_nodes.proofs.edits.JoinLemmas.{joins-unbounded, within-most, most-within}
 use Rattle.rart_nodes.proofs.node.DefaultNode.children_fit.Goals as goal
 

@@ -1,7 +1,7 @@
-use Rattle.std.proofs.Common.{◌≡◌, ◌+◌, ◌≤◌, length, max, arith, sym, ap, ◌∙◌}
-use Rattle.rart_keys.specs.SortedMap.{count_of, put, longest_key}
+use Rattle.std.proofs.Common.{length, max, arith, sym, ap, ◌∙◌}
+use Rattle.rart_keys.specs.SortedMap.{count_of, longest_key}
 use Rattle.rart_keys.proofs.SortedMaps.{length-put}
-use Rattle.rart_nodes.specs.tries.Trie.{IsCanonical, pairs_of}
+use Rattle.rart_nodes.specs.tries.Trie.{pairs_of}
 use Rattle.rart_nodes.proofs.tries.CanonicalTests.{longest_key-put}
 use Rattle.rart_nodes.proofs.edits.InsertAskLemmas.{asks-insert}
 use Rattle.std.proofs.lemmas.Result.{on_ok_weaker, on_err_weaker}

@@ -1,4 +1,4 @@
-use Rattle.std.proofs.Common.{◌∙◌, sym, ap, arith}
+use Rattle.std.proofs.Common.{◌∙◌, sym, arith}
 use Rattle.rart_nodes.specs.storages.Stored.{stored, width_of}
 use Rattle.rart_nodes.proofs.edits.LeafLemmas.{leaf_at-inner, leaf_at-left, leaf_at-rest}
 use Rattle.rart_nodes.proofs.node.DefaultNode.is_leaf_at.Goals as goal

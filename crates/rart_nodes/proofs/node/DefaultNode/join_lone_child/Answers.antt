@@ -1,9 +1,9 @@
-use Rattle.std.proofs.Common.{◌≡◌, ◌≢◌, ◌+◌, ◌∙◌, sym, ap, refl, length}
+use Rattle.std.proofs.Common.{◌+◌, ◌∙◌, sym, length}
 use Rattle.rart_keys.specs.KeyBytes.{IsWithin}
 use Rattle.rart_nodes.specs.edits.Deletion.{JoinsWithin}
 use Rattle.rart_nodes.specs.tries.Trie.{prefix_of}
 use Rattle.rart_nodes.specs.tries.TrieCode.{as_children}
-use Rattle.rart_nodes.specs.storages.Stored.{stored, width_of}
+use Rattle.rart_nodes.specs.storages.Stored.{stored}
 use Rattle.rart_nodes.proofs.edits.JoinLemmas.{lone-valued, lone-many, lone-yes, joined-not, joins-only}
 use Rattle.rart_nodes.proofs.node.DefaultNode.join_lone_child.Goals as goal
 use Rattle.rart_nodes.proofs.node.DefaultNode.join_lone_child.Goals.{then-is_some-via-then-is_some, then-is_some-via-else-is_some+then-num_children-ne1}

@@ -1,4 +1,4 @@
-use Rattle.std.proofs.Common.{◌+◌, ◌≤◌, ◌≡◌, length, arith, sym, ap, ◌∙◌, Some}
+use Rattle.std.proofs.Common.{length, arith, ap, ◌∙◌}
 use Rattle.rart_keys.specs.SortedMap.{count_of, longest_key}
 use Rattle.rart_nodes.specs.tries.Tree.{tree_pairs}
 use Rattle.std.proofs.lemmas.Result.{on_ok_weaker, on_err_weaker}

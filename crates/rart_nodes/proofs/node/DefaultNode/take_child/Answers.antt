@@ -1,4 +1,4 @@
-use Rattle.std.proofs.Common.{◌≡◌, ◌≢◌, ◌∙◌, sym, ap, refl, None, length, is_some, if◌then◌else◌}
+use Rattle.std.proofs.Common.{◌∙◌, sym, ap, length, is_some, if◌then◌else◌}
 use Rattle.rart_parts.specs.Entries.{child_at}
 use Rattle.rart_nodes.specs.storages.Stored.{stored, width_of}
 use Rattle.rart_nodes.specs.storages.Widths.{narrowed}

@@ -1,7 +1,7 @@
 use Rattle.std.proofs.Common.{◌≡◌, ◌-◌, List, ℕ, length, take, drop, Some, refl}
 use Rattle.rart_keys.specs.ByteStrings.{strip_prefix}
 use Rattle.rart_nodes.specs.tries.Trie.{prefix_of}
-use Rattle.rart_nodes.proofs.walks.MatchLemmas.{pass-ended, pass-left, pass-on, rest-fits, slice-behind}
+use Rattle.rart_nodes.proofs.walks.MatchLemmas.{pass-ended, pass-on, rest-fits, slice-behind}
 use Rattle.rart_nodes.proofs.node.matching.pass.Goals as goal
 
 pub overflow_sub-passed : goal.overflow_sub-passed

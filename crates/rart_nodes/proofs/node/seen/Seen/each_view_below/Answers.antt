@@ -1,4 +1,4 @@
-use Rattle.std.proofs.Common.{arith, rules, ◌≡◌, ◌<◌, ◌^◌, ◌∙◌, List, ℕ, sym, subst}
+use Rattle.std.proofs.Common.{rules, ◌<◌, ◌^◌, ◌∙◌, List, sym, subst}
 use Rattle.std.specs.List.{FoldsTo}
 use Rattle.std.specs.Option.{option_copied}
 use Rattle.rart_nodes.specs.walks.Tour.{Pieces}

@@ -1,4 +1,4 @@
-use Rattle.std.proofs.Common.{arith, rules, ◌≤◌, length, ◌≡◌, ◌<◌, ◌^◌, ◌∙◌, Some, sym, ap, subst, refl}
+use Rattle.std.proofs.Common.{arith, rules, ◌≤◌, length, ◌≡◌, ◌<◌, ◌^◌, ◌∙◌, Some, sym, ap, subst}
 use Rattle.std.specs.Option.{option_copied}
 use Rattle.rart_keys.specs.Filters.{longest_match}
 use Rattle.rart_keys.specs.SortedMap.{keys_of}

@@ -1,4 +1,4 @@
-use Rattle.std.proofs.Common.{◌≡◌, ◌+◌, ◌∙◌, arith, ap, sym, Some}
+use Rattle.std.proofs.Common.{◌≡◌, ◌∙◌, arith, ap, sym, Some}
 use Rattle.std.specs.Option.{option_copied}
 use Rattle.rart_nodes.specs.walks.Part.{tree_part}
 use Rattle.rart_nodes.specs.walks.ProbeCount.{tree_entered}

@@ -1,4 +1,4 @@
-use Rattle.std.proofs.Common.{◌≡◌, ap, ◌∙◌, sym, refl, arith, length}
+use Rattle.std.proofs.Common.{ap, ◌∙◌, sym, arith}
 use Rattle.rart_parts.specs.Entries.{without_byte, ascending}
 use Rattle.rart_nodes.specs.storages.Stored.{stored, width_of}
 use Rattle.rart_nodes.proofs.storages.DeletionLemmas.{few-left, none-left, width-kept, width-given}

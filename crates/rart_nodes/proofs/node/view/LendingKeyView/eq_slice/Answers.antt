@@ -1,4 +1,4 @@
-use Rattle.std.proofs.Common.{rules, ◌≡◌, sym, ◌∙◌, refl, ⊎_elim}
+use Rattle.std.proofs.Common.{rules, sym, ◌∙◌, ⊎_elim}
 use Rattle.rart_nodes.specs.walks.Tour.{joined}
 use Rattle.rart_nodes.specs.walks.TrailParts.{lent_pieces}
 use Rattle.rart_nodes.proofs.walks.PieceLemmas.{cmp-tells}

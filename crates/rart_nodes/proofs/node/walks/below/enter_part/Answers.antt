@@ -1,9 +1,7 @@
-use Rattle.std.proofs.Common.{◌≡◌, ◌≤◌, ◌<◌, ◌+◌, ◌++◌, arith, length, length-append, nat_eq, refl, sym, ◌∙◌, ap, true, false, Some, None, option_map}
+use Rattle.std.proofs.Common.{◌≡◌, ◌<◌, ◌++◌, arith, length, length-append, nat_eq, refl, sym, ◌∙◌, ap, true, false, Some, None, option_map}
 use Rattle.std.specs.List.{starts_with}
 use Rattle.rart_keys.specs.ByteStrings.{strip_prefix, begins}
-use Rattle.rart_keys.specs.SortedMap.{longest_key}
-use Rattle.rart_nodes.specs.tries.Tree.{tree_pairs}
-use Rattle.rart_nodes.specs.tries.Trie.{pairs_of, prefix_of}
+use Rattle.rart_nodes.specs.tries.Trie.{prefix_of}
 use Rattle.rart_nodes.specs.walks.Part.{tree_part}
 use Rattle.rart_nodes.specs.walks.ProbeCount.{tree_entered}
 use Rattle.rart_nodes.specs.walks.Tour.{tree_count}

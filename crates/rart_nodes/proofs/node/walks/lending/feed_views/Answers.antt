@@ -1,4 +1,4 @@
-use Rattle.std.proofs.Common.{arith, rules, of_calls, ◌≡◌, ◌∷◌, List, ℕ, sym, ap, subst, refl, ◌∙◌}
+use Rattle.std.proofs.Common.{arith, rules, of_calls, ◌≡◌, ◌∷◌, List, sym, ap, subst, refl, ◌∙◌}
 use Rattle.std.specs.List.{FoldsTo}
 use Rattle.std.specs.Option.{option_copied}
 use Rattle.rart_nodes.specs.walks.Tour.{Pieces, stops_ahead}

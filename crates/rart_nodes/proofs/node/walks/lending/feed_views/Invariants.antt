@@ -1,4 +1,4 @@
-use Rattle.std.proofs.Common.{◌≡◌, ◌≤◌, ◌+◌, length, reverse, vec_capacity}
+use Rattle.std.proofs.Common.{◌≤◌, ◌+◌, length, reverse, vec_capacity}
 use Rattle.std.specs.List.{FoldsTo}
 use Rattle.std.specs.Option.{option_copied}
 use Rattle.rart_nodes.specs.walks.Tour.{IsTour, nodes_below, stops_ahead}

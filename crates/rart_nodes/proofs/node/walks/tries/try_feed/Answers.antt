@@ -2,7 +2,7 @@ use Rattle.std.proofs.Common.{rules, of_calls, ◌≡◌, [], ◌∷◌, List, s
 use Rattle.std.specs.Option.{option_copied}
 use Rattle.rart_nodes.specs.walks.Tour.{Pieces, stop_values, stops_ahead}
 use Rattle.rart_nodes.specs.walks.TrailParts.{no_piece}
-use Rattle.rart_nodes.specs.walks.Tried.{EndsAs, GoesOnAs}
+use Rattle.rart_nodes.specs.walks.Tried.{EndsAs}
 use Rattle.rart_nodes.proofs.node.walks.tries.try_feed.Goals as goal
 
 pub loop-value-preserved : goal.loop-value-preserved
