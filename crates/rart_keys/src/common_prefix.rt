@@ -22,12 +22,16 @@ pub fn common_prefix_length(left: &[u8], right: &[u8]) -> usize
     prefix_length_words(left, right)
 }
 
-/// The order of two byte strings, byte by byte. What both begin with is passed over by words. Takes no memory.
+/// The order of two byte strings, byte by byte. What both begin with is passed over by words; the byte behind it decides,
+/// or the lengths where one begins the other. Takes no memory.
 pub fn compare_bytes(left: &[u8], right: &[u8]) -> Ordering
     ensures { result ≡ slice_cmp nat_cmp left.now right.now }
 {
     let shared = common_prefix_length(left, right);
-    left[shared..].cmp(&right[shared..])
+    if shared < left.len() && shared < right.len() {
+        return left[shared].cmp(&right[shared]);
+    }
+    left.len().cmp(&right.len())
 }
 
 // Whole words as long as they are equal. In the first two that differ, the lowest different bit

@@ -209,3 +209,8 @@ reach-whole m (k ∷ ks) h = (omega arith, h.0, reach-whole m ks h.1)
 
 pub whole-stretch : (m : Option ℕ) (ks : List (Bor (List ℕ))) → 0 < length ks → AreWithin m (keys_in ks) → IsAscending (lone_keys (keys_in ks)) → IsStretch m 0 ks
 whole-stretch m ks some within up = record { some = some; reach = reach-whole m ks within; ascending = rw (rests-whole ks) up }
+
+-- a stretch of one key
+pub lone-rests : (d n : ℕ) (ks : List (Bor (List ℕ))) (x : Bor (List ℕ)) (k : List ℕ) → n ≡ 1 → 0 < length ks → k ≡ drop d (get_or ks 0 x).now → k ∷ [] ≡ rests d (take n ks)
+lone-rests d n [] x k one some e = absurd (omega arith)
+lone-rests d n (l ∷ ks) x k one some e = rw (one, e) refl

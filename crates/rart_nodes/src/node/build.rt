@@ -166,7 +166,11 @@ impl<P: Partial, V: Drop> DefaultNode<P, V> {
         let mut at = from + own;
         while !rest.is_empty() {
             let (byte, end) = first_group(rest, below);
-            let child = DefaultNode::build_below(alloc, &rest[..end], below, at, take_value)?;
+            let child = if end == 1 {
+                DefaultNode::new_leaf(rest_of(rest[0], below), take_value(at))
+            } else {
+                DefaultNode::build_below(alloc, &rest[..end], below, at, take_value)?
+            };
             storage.add_within(byte, child);
             rest = &rest[end..];
             at += end;

@@ -1,13 +1,14 @@
-use Rattle.std.proofs.Common.{rules, ◌≡◌, ◌+◌, arith, ap, ◌∙◌, refl, length, drop}
+use Rattle.std.proofs.Common.{rules, ◌≡◌, ◌+◌, ◌<◌, arith, ap, ◌∙◌, refl, length, drop}
+use Rattle.rart_keys.specs.SortedMap.{keys_of}
 use Rattle.rart_nodes.specs.shapes.Shape.{capacity_of}
 use Rattle.rart_nodes.proofs.build.RunLemmas.{part-from}
-use Rattle.rart_nodes.proofs.build.StretchLemmas.{reach-at}
+use Rattle.rart_nodes.proofs.build.StretchLemmas.{lone-rests, reach-at}
 use Rattle.rart_nodes.proofs.build.OpeningLemmas.{byte-is, opening, own-one, own-none, rest-goes_on, rest-ascends}
 use Rattle.rart_nodes.proofs.build.BuildLemmas.{start-here, start-on, started, next-room, next-fewer, next-stretch, next-callable, building-refused, building-step, building-end}
 use Rattle.rart_nodes.proofs.build.TakeLemmas.{on_err}
 use Rattle.std.proofs.lemmas.List.{length-take-le}
 use Rattle.rart_nodes.proofs.node.DefaultNode.+build_below.Goals as goal
-use Rattle.rart_nodes.proofs.node.DefaultNode.+build_below.Goals.{then-own-eq1, else-own-eq1}
+use Rattle.rart_nodes.proofs.node.DefaultNode.+build_below.Goals.{then-own-eq1, else-own-eq1, then-end-eq1, else-end-eq1+in_ok-child}
 
 pub shared_part-prefix-requires-clause-last : goal.shared_part-prefix-requires-clause-last
 shared_part-prefix-requires-clause-last g t c = (reach-at _ _ _ c.args.keys.now _ c.requires.stretch.reach (omega (arith, c.requires.stretch.some))).0
@@ -66,9 +67,18 @@ add_within-requires-clause-room g t c = (next-room _ _ _ _ _ _ _ _ _ _ _ _ _ c.l
 pub loop-rest-preserved : goal.loop-rest-preserved
 loop-rest-preserved g t c =
     let now = c.first_group-byte.ensures in
-    let child = c.in_ok-child.ensures in
-    started _ _ _ _ _ _ _ _ _ _ _ _ _ (building-step _ _ _ _ _ _ _ _ _ _ _ _ _ c.loop-rest.invariant.building _ _ _ _ c.in_ok-child.child _ _ _ _ (omega (arith, c.loop-rest-test.true)) now.run now.some now.within now.byte
-    refl (part-from _ c.loop-rest.rest.now) child.canonical child.keys child.values c.add_within.ensures.stored c.add_within.ensures.width refl)
+    let some : 0 < length c.loop-rest.rest.now = omega (arith, c.loop-rest-test.true) in
+    elim c.if-end-eq1.branch [
+      | then-end-eq1 w ↦
+          let leaf = w.new_leaf-child.ensures in
+          started _ _ _ _ _ _ _ _ _ _ _ _ _ (building-step _ _ _ _ _ _ _ _ _ _ _ _ _ c.loop-rest.invariant.building _ _ _ _ c.if-end-eq1.child _ _ _ _ some now.run now.some now.within now.byte
+          refl (part-from _ c.loop-rest.rest.now) (rw w.child-is leaf.canonical) (rw w.child-is (ap keys_of leaf.pairs ∙ lone-rests _ _ c.loop-rest.rest.now _ _ w.if-end-eq1.true some w.rest_of.ensures))
+          (rw (w.child-is, w.take_value-is, leaf.pairs) (_, w.take_value-then-end-eq1.ensures, refl)) c.add_within.ensures.stored c.add_within.ensures.width refl)
+      | else-end-eq1+in_ok-child w ↦
+          let child = w.in_ok-child.ensures in
+          started _ _ _ _ _ _ _ _ _ _ _ _ _ (building-step _ _ _ _ _ _ _ _ _ _ _ _ _ c.loop-rest.invariant.building _ _ _ _ c.if-end-eq1.child _ _ _ _ some now.run now.some now.within now.byte
+          refl (part-from _ c.loop-rest.rest.now) (rw w.child-is child.canonical) (rw w.child-is child.keys) (rw (w.child-is, w.take_value-is) child.values) c.add_within.ensures.stored c.add_within.ensures.width refl)
+    ]
 
 pub returns-clause-canonical : goal.returns-clause-canonical
 returns-clause-canonical g t c =
