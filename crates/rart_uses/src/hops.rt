@@ -24,7 +24,7 @@ pub fn add_route(routes: &mut Routes, network: &[u8], hop: u32) -> Result<(), Re
     }
 }
 
-/// The next hop of the longest network that `address` begins with. One way down, no memory.
+/// The next hop of the longest network that `address` begins with. Takes no memory.
 pub fn next_hop<'a>(routes: &'a Routes, address: &[u8]) -> Option<&'a u32>
     ensures { option_copied result ≡ longest_value address.now routes.now.pairs }
 {

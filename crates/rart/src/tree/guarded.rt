@@ -24,7 +24,7 @@ impl<K: KeyTrait, V> AdaptiveRadixTree<K, V> {
     /// Puts `value` at `key`, which must be new: where it is stored, or where the insertion is refused
     /// as one by `insert_k` is, the value is handed back, and pairs and nodes are as before.
     ///
-    /// One pass down, which ends where a value stands at the key. A stored key asks for no memory.
+    /// A stored key asks for no memory.
     pub fn insert_new_k(&mut self, key: &K, value: V) -> Result<(), NotInserted<V>>
         ensures inserts_new { InsertsNew (K.bytes key.now) value self.old.pairs self.new.pairs result }
         ensures unchanged { OnErr result (self.new ≡ self.old) }

@@ -78,10 +78,10 @@ impl<K: KeyTrait, V> AdaptiveRadixTree<K, V> {
         (outcome, told)
     }
 
-    /// Shows `f` what stands at `key`, once and in one pass down, and does what it answers: the pair stays
-    /// as `f` left it, the value that it answers is put there, or the key is removed. `f` may change the
-    /// value, and is asked to leave an occupied slot occupied and a vacant one vacant. Answers whether the
-    /// key was stored, or now is.
+    /// Shows `f` what stands at `key`, once, and does what it answers: the pair stays as `f` left it, the
+    /// value that it answers is put there, or the key is removed. `f` may change the value, and is asked
+    /// to leave an occupied slot occupied and a vacant one vacant. Answers whether the key was stored, or
+    /// now is.
     ///
     /// Refused is an insertion of a new key, as one by `insert_k` is: then pairs and nodes are as before,
     /// and the value is handed back. Refused is a removal, as one by `remove_k` is: then the nodes are as

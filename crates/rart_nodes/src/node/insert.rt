@@ -175,9 +175,8 @@ impl<P: Partial, V> DefaultNode<P, V> {
         self.put(alloc, key, value)
     }
 
-    /// Puts `value` at `key`, which must be new, as `insert` does: one pass down, which stops where a
-    /// value stands at the key. Then, and where the insertion is refused, all stands as it was, and the
-    /// value is handed back.
+    /// Puts `value` at `key`, which must be new, as `insert` does. Where a value stands at the key, and
+    /// where the insertion is refused, all stands as it was, and the value is handed back.
     pub fn insert_new(&mut self, alloc: Global, key: &[u8], value: V) -> Result<(), NotInserted<V>>
         requires canonical { IsCanonical self.old }
         requires fits { IsWithin P.MAXIMUM_SIZE (length key.now) }

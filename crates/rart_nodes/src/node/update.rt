@@ -301,10 +301,10 @@ impl<P: Partial, V> DefaultNode<P, V> {
         }
     }
 
-    /// Shows `f` what stands at `key` in a tree that is a root or none, once and in one pass down, and
-    /// does what it asks for; hands on what `f` tells beside. Asks a canonical tree, whose keys are
-    /// within the maximum as `key` is, and an `f` that leaves an occupied slot occupied and a vacant one
-    /// vacant. A tree that is `full` takes no new key.
+    /// Shows `f` what stands at `key` in a tree that is a root or none, once, and does what it asks for;
+    /// hands on what `f` tells beside. Asks a canonical tree, whose keys are within the maximum as `key`
+    /// is, and an `f` that leaves an occupied slot occupied and a vacant one vacant. A tree that is `full`
+    /// takes no new key.
     ///
     /// Refused is an insertion of a new key, with `Full` where the tree is full, with `Memory` only where
     /// the keys say that it needs room: then all stands as it was, and the value is handed back. Refused
