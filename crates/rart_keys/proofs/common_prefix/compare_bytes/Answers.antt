@@ -8,6 +8,6 @@ returns-then-shared-right c = c.cmp.ensures ∙ compared-at _ _ _ c.common_prefi
 
 pub returns : goal.returns
 returns c = c.cmp-2.ensures ∙ compared-ended c.args.left.now c.args.right.now c.common_prefix_length-shared.result c.common_prefix_length-shared.ensures.value (elim c.else-shared-left.branch [
-      | else-shared-left-via-then-shared-left+else-shared-right w ↦ λ h k. omega (arith, k, w.if-shared-right.false)
-      | else-shared-left-via-else-shared-left w ↦ λ h k. omega (arith, h, w.if-shared-left.false)
-    ])
+  | else-shared-left-via-then-shared-left+else-shared-right w ↦ λ h k. omega (arith, k, w.if-shared-right.false)
+  | else-shared-left-via-else-shared-left w ↦ λ h k. omega (arith, h, w.if-shared-left.false)
+])

@@ -53,8 +53,8 @@ returns-in-Some-seek_child_mut-clause-fresh g t c = on_ok_weaker c.put_below.res
 
 pub returns-in-Some-seek_child_mut-clause-why : goal.returns-in-Some-seek_child_mut-clause-why
 returns-in-Some-seek_child_mut-clause-why g t c = if_err_weaker c.put_below.result (λ stop why. rw (← c.self.view_is) (
-      stops-below _ c.args.key.now _ _ _ _ c.in-Some-seek_child_mut.child.now (stored c.self.inside.storage) c.args.only_new stop (rw (← c.self.view_is) at c.requires.canonical)
-          c.in-Some.ensures c.in-Some-first.ensures.value c.in-Some-seek_child_mut.ensures.value why
+    stops-below _ c.args.key.now _ _ _ _ c.in-Some-seek_child_mut.child.now (stored c.self.inside.storage) c.args.only_new stop (rw (← c.self.view_is) at c.requires.canonical)
+    c.in-Some.ensures c.in-Some-first.ensures.value c.in-Some-seek_child_mut.ensures.value why
     )) c.put_below.ensures.why
 
 -- no child stands there
