@@ -85,8 +85,6 @@ impl<K: KeyTrait, T> RouteTable<K, T> {
     /// Adds the route from `prefix`, which must be new, to `target`, and shows the target that stands there where it isn't. Where
     /// nothing is added the target comes back: the prefix is stored, which asks for no memory, or refused as an insertion into a
     /// tree is, `Full` or `Memory`. Once the result is over the table has the route at `Ok`, and is as before otherwise.
-    ///
-    /// Looks the prefix up, inserts it, and looks it up again where it is stored.
     pub fn add<'a>(&'a mut self, prefix: &K, target: T) -> Result<(), TryInsertError<'a, T>>
         ensures* after { sem 𝓛 (table_ends_as K.row T.row K.PartialType.row K.KeyTrait K.PartialType.Partial self.entry (PutOrSame (K.bytes prefix.now) target result self.old)) }
         ensures answer { TriesInsert (K.bytes prefix.now) target self.old.pairs result }

@@ -149,6 +149,7 @@ impl<P: Partial, V: Drop> DefaultNode<P, V> {
         ensures taken { OnErr result ((vs : List V) × (length vs ≤ length keys.now) × Takes F.step from take_value.old vs take_value.new) }
         ensures error { IfErr result (λ e. e ≡ TreeError.Memory) }
     {
+        // a single key is the whole list: below it leaves are made in their parent's loop
         if keys.len() == 1 {
             let prefix = rest_of(keys[0], depth);
             return Ok(DefaultNode::new_leaf(prefix, take_value(from)));

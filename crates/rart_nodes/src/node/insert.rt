@@ -16,6 +16,15 @@ use rart_parts::TreeError;
 use std::alloc::Global;
 use std::mem;
 
+// Why an insertion stopped, with all as it was.
+#[derive(Clone, Copy)]
+enum Stop {
+    // Only a new key was wanted, and this one is stored.
+    Stored,
+    // A request for memory was refused.
+    Memory,
+}
+
 impl<P: Partial, V> DefaultNode<P, V> {
     /// Cuts the node where `key`, which its prefix doesn't begin, parts from the prefix, and puts `value` at
     /// the key. Refused, all stands as it was and the value is handed back.
@@ -175,8 +184,9 @@ impl<P: Partial, V> DefaultNode<P, V> {
         self.put(alloc, key, value)
     }
 
-    /// Puts `value` at `key`, which must be new, as `insert` does. Where a value stands at the key, and
-    /// where the insertion is refused, all stands as it was, and the value is handed back.
+    /// Puts `value` at `key`, which must be new, as `insert` does, and asks what that asks. Where a value
+    /// stands at the key, and where the insertion is refused, all stands as it was, and the value is
+    /// handed back. A stored key asks for no memory.
     pub fn insert_new(&mut self, alloc: Global, key: &[u8], value: V) -> Result<(), NotInserted<V>>
         requires canonical { IsCanonical self.old }
         requires fits { IsWithin P.MAXIMUM_SIZE (length key.now) }
@@ -190,15 +200,6 @@ impl<P: Partial, V> DefaultNode<P, V> {
     {
         self.put_new(alloc, key, value)
     }
-}
-
-// Why an insertion stopped, with all as it was.
-#[derive(Clone, Copy)]
-enum Stop {
-    // Only a new key was wanted, and this one is stored.
-    Stored,
-    // A request for memory was refused.
-    Memory,
 }
 
 /// Puts what comes back into a place that is empty.

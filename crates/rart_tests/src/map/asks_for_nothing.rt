@@ -34,7 +34,7 @@ const TWO_LEAVES: [Row<'static>; 2] = [
     (Ask::Insert("abxy", 2), Want::None),
 ];
 
-const AT_STANDING_NODES: [Row<'static>; 11] = [
+const AT_STANDING_NODES: [Row<'static>; 14] = [
     (Ask::Insert("ab", 3), Want::None),
     (Ask::Insert("abxy", 4), Want::Some(2)),
     (Ask::TryInsert("abxy", 5), Want::Occupied(5, 4)),
@@ -44,7 +44,10 @@ const AT_STANDING_NODES: [Row<'static>; 11] = [
     (Ask::Get("ab"), Want::Some(3)),
     (Ask::GetBytes("abcd"), Want::Some(6)),
     (Ask::Remove("ab"), Want::Some(3)),
-    (Ask::Len, Want::Len(2)),
+    (Ask::InsertNew("ab", 7), Want::Inserted),
+    (Ask::Remove("ab"), Want::Some(7)),
+    (Ask::TryInsert("ab", 8), Want::Inserted),
+    (Ask::Len, Want::Len(3)),
     (Ask::IsEmpty, Want::Is(false)),
 ];
 
