@@ -11,5 +11,6 @@ pub mod LongestMatchLemmas
 pub mod NumberOrder
 pub mod PutAllLemmas
 pub mod RangeLemmas
+pub mod SharedBeginnings
 pub mod SortedMaps
 pub mod WordLemmas

@@ -12,7 +12,7 @@ ghost use Rattle.rart_keys.specs.LittleEndianWord.{little_endian_number};
 use std::cmp::Ordering;
 
 /// The number of bytes that are read at once.
-const WORD_BYTES: usize = 8;
+pub(crate) const WORD_BYTES: usize = 8;
 
 /// The number of bytes with which both begin. Takes no memory.
 pub fn common_prefix_length(left: &[u8], right: &[u8]) -> usize
@@ -52,7 +52,7 @@ fn prefix_length_words(left: &[u8], right: &[u8]) -> usize
 }
 
 // The word that begins at the place `i`.
-fn word_at(bytes: &[u8], i: usize) -> u64
+pub(crate) fn word_at(bytes: &[u8], i: usize) -> u64
     requires { i + WORD_BYTES ≤ length bytes.now }
     ensures { result ≡ little_endian_number (take WORD_BYTES (drop i bytes.now)) }
 {
@@ -62,7 +62,7 @@ fn word_at(bytes: &[u8], i: usize) -> u64
 
 // Byte by byte, for what is shorter than a word.
 #[tactic(auto, using(crate::proofs::CommonPrefixes::past_the_end))]
-fn prefix_length_bytes(left: &[u8], right: &[u8]) -> usize
+pub(crate) fn prefix_length_bytes(left: &[u8], right: &[u8]) -> usize
     ensures value { result ≡ common_prefix_len nat_eq left.now right.now }
     ensures within { result ≤ length left.now }
 {

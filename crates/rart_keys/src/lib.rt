@@ -8,9 +8,11 @@ mod inline_bytes;
 pub mod keys;
 pub mod laws;
 pub mod partials;
+mod strip;
 
 pub use crate::common_prefix::common_prefix_length;
 pub use crate::keys::KeyTrait;
 pub use crate::keys::array_key::ArrayKey;
 pub use crate::partials::Partial;
 pub use crate::partials::array_partial::ArrPartial;
+pub use crate::strip::strip_prefix;
