@@ -8,6 +8,7 @@ pub mod InlineBytes
 pub mod JoinsOfMaps
 pub mod KeyComparisons
 pub mod LongestMatchLemmas
+pub mod LongestStored
 pub mod NumberOrder
 pub mod PutAllLemmas
 pub mod RangeLemmas

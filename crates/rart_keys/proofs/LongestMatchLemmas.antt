@@ -9,7 +9,7 @@ use Rattle.rart_keys.proofs.ByteOrder.{is_equal, eq-yes, eq-no, equal_or_not, by
 use Rattle.rart_keys.proofs.SortedMaps.{above-trans, lookup-first}
 
 -- of two strings that begin a third the lower one is shorter
-below-shorter : (p k q : List ℕ) → IsBelow p k → begins p q ≡ true → begins k q ≡ true → length p < length k
+pub below-shorter : (p k q : List ℕ) → IsBelow p k → begins p q ≡ true → begins k q ≡ true → length p < length k
 below-shorter [] [] q b f g = absurd (cc)
 below-shorter [] (y ∷ k) q b f g = omega arith
 below-shorter (x ∷ p) [] q b f g = absurd (cc)
@@ -24,13 +24,13 @@ module _ {V : Type 0} where
   first-begins : (o : Option (List ℕ × V)) (q : List ℕ) (e : List ℕ × V) (es : List (List ℕ × V)) → begins e.0 q ≡ true → last_or o (matches q (e ∷ es)) ≡ last_or (Some e) (matches q es)
   first-begins o q e es f = rw f refl
 
-  first-stored : (e : List ℕ × V) (es : List (List ℕ × V)) → lookup e.0 (e ∷ es) ≢ None
+  pub first-stored : (e : List ℕ × V) (es : List (List ℕ × V)) → lookup e.0 (e ∷ es) ≢ None
   first-stored e es n = let f = lookup-first e.0 e.1 es in cc
 
-  stored-behind : (k : List ℕ) (e : List ℕ × V) (es : List (List ℕ × V)) → lookup k es ≢ None → lookup k (e ∷ es) ≢ None
+  pub stored-behind : (k : List ℕ) (e : List ℕ × V) (es : List (List ℕ × V)) → lookup k es ≢ None → lookup k (e ∷ es) ≢ None
   stored-behind k e es h = elim (bytes_eq e.0 k) as (λ b. (if b then Some e.1 else lookup k es) ≢ None) [ true ↦ λ n. cc | false ↦ h ]
 
-  other-stored : (k : List ℕ) (e : List ℕ × V) (es : List (List ℕ × V)) → lookup k (e ∷ es) ≢ None → (e.0 ≡ k → ⊥) → lookup k es ≢ None
+  pub other-stored : (k : List ℕ) (e : List ℕ × V) (es : List (List ℕ × V)) → lookup k (e ∷ es) ≢ None → (e.0 ≡ k → ⊥) → lookup k es ≢ None
   other-stored k e es h n m = h (rw (bytes_eq-differ e.0 k n) m)
 
   no-longer-behind : (p q : List ℕ) (e : List ℕ × V) (es : List (List ℕ × V)) → HasNoLonger p q (e ∷ es) → HasNoLonger p q es
