@@ -19,6 +19,7 @@ module _ {N : ℕ} (keys : ArrayKey N × ArrayKey N × Ordering) (xs ys : List �
   compared_as us vs o e f g = record {
     first_bytes = given.first_bytes ∙ e;
     second_bytes = given.second_bytes ∙ f;
+    order_of_keys = given.order_of_keys;
     compared = given.compared ∙ ap₂ (slice_cmp nat_cmp) e f ∙ g;
   }
 

@@ -2,14 +2,14 @@
 //! the numbers, and keys of texts in the order of the texts.
 //!
 //! Where a call speaks of keys of numbers or texts, it makes them and gives them back.
-ghost use Rattle.std.specs.Prelude.{◌≡◌, ◌+◌, ◌≤◌, ◌↔◌, ◌++◌, ◌∷◌, [], ℕ, List, length, IsTrue};
+ghost use Rattle.std.specs.Prelude.{◌≡◌, ◌+◌, ◌≤◌, ◌↔◌, ◌++◌, ◌∷◌, [], ℕ, List, length, take, IsTrue};
 ghost use Rattle.std.specs.Cmp.Lexicographic.{slice_cmp};
 ghost use Rattle.std.specs.Int.{w8, w16, w32, w64, w128, to_be_bytes};
 ghost use Rattle.std.specs.Ordering.{nat_cmp, int_cmp};
 ghost use Rattle.std.specs.declared.cmp.Ordering.TheVariants.{Equal};
 ghost use Rattle.rart_keys.specs.ArrayKeyBytes.{array_key_bytes};
 ghost use Rattle.rart_keys.specs.ComparedKeys.{AreComparedAs};
-ghost use Rattle.rart_keys.specs.NumberBytes.{sign_flipped};
+ghost use Rattle.rart_keys.specs.NumberBytes.{big_endian_number, sign_flipped};
 
 use crate::keys::array_key::ArrayKey;
 use std::cmp::Ordering;
@@ -160,11 +160,12 @@ pub fn compared_isize_keys<const N: usize>(
     compared(ArrayKey::from_isize(x), ArrayKey::from_isize(y))
 }
 
-/// The key of a number, and the number that is read from it again: the same. Asks room for eight
-/// bytes.
+/// The key of a number, and the number that its first eight bytes write, which is the same number. The key must
+/// have room for eight bytes.
 pub fn key_and_number_again<const N: usize>(x: u64) -> (ArrayKey<N>, u64)
     requires { 8 ≤ N }
     ensures key { array_key_bytes result.0 ≡ to_be_bytes w64 x }
+    ensures number_of_key { result.1 ≡ big_endian_number (take 8 (array_key_bytes result.0)) }
     ensures again { result.1 ≡ x }
 {
     let key = ArrayKey::from_u64(x);
