@@ -1,3 +1,4 @@
 pub mod BranchPoints
+pub mod SampleKeys
 pub mod Shape
 pub mod ShapeRecords

@@ -1,14 +1,15 @@
 //! The theorems of the canonical trie, each the contract of a function with an empty body.
-ghost use Rattle.std.specs.Prelude.{◌≡◌, ℕ, ◌+◌, ◌*◌, ◌≤◌, List, [], None, Some, is_some, true, length};
+ghost use Rattle.std.specs.Prelude.{◌≡◌, ℕ, ◌+◌, ◌*◌, ◌≤◌, List, [], ◌∷◌, None, Some, is_some, true, length};
 ghost use Rattle.rart_keys.specs.Joins.{join};
 ghost use Rattle.rart_keys.specs.SortedMap.{IsAscending, lookup, put, without, keys_of};
 ghost use Rattle.rart_nodes.specs.shapes.BranchPoints.{IsBranchPoint};
 ghost use Rattle.rart_nodes.specs.edits.EditRuns.{Edit, run_tree, run_map};
 ghost use Rattle.rart_nodes.specs.joins.Lockstep.{meet};
-ghost use Rattle.rart_nodes.specs.joins.SharedEdges.{as_map, is_shared, meet_visits, shared_edges};
+ghost use Rattle.rart_nodes.specs.joins.SharedEdges.{as_map, is_shared, joint_visits, meet_visits, shared_edges};
 ghost use Rattle.rart_nodes.specs.edits.InsertAsks.{insert_asks, trie_asks_put};
 ghost use Rattle.rart_nodes.specs.walks.ProbeCount.{probe_count, entered_nodes};
 ghost use Rattle.rart_nodes.specs.edits.RemoveAsks.{remove_asks, trie_asks_remove};
+ghost use Rattle.rart_nodes.specs.shapes.SampleKeys.{nested_keys, left_keys, right_keys};
 ghost use Rattle.rart_nodes.specs.shapes.Shape.{HasShape, NodeRecord, contains_key, record_at};
 ghost use Rattle.rart_nodes.specs.tries.Tree.{tree_pairs, tree_nodes, IsCanonicalTree};
 ghost use Rattle.rart_nodes.specs.tries.Trie.{Trie, IsCanonical, trie_lookup, pairs_of, nodes_of, trie_put, trie_remove};
@@ -71,4 +72,20 @@ pub fn intersections<V, W>()
     ensures visits_below_nodes { (t : Trie V) (u : Trie W) → IsCanonical u → meet_visits t u + 1 ≤ length (nodes_of t) + length (nodes_of u) }
     ensures edges { (x : List ℕ) (s t : List (List ℕ)) → contains_key (shared_edges s t) x ≡ is_shared s t x }
     ensures edges_ascend { (s t : List (List ℕ)) → IsAscending (as_map (shared_edges s t)) }
+{}
+
+/// Numbers of visits, by computation.
+///
+/// In a tree of "", "a", "ab" and "abc" a look-up of "abc" visits four nodes, one of "abd" three and one of "b" the root
+/// alone. The intersection of "ab", "abc" and "dog" with "abc", "dog" and "zzz" visits both roots together and then one
+/// node for each of the edges "a", "abc" and "d". In an empty tree nothing is visited.
+pub fn sample_visits()
+    ensures deepest { probe_count nested_keys (97 ∷ 98 ∷ 99 ∷ []) ≡ 4 }
+    ensures absent { probe_count nested_keys (97 ∷ 98 ∷ 100 ∷ []) ≡ 3 }
+    ensures root { probe_count nested_keys (98 ∷ []) ≡ 1 }
+    ensures both { joint_visits left_keys right_keys ≡ 4 }
+    ensures edges { shared_edges left_keys right_keys ≡ (97 ∷ []) ∷ (97 ∷ 98 ∷ 99 ∷ []) ∷ (100 ∷ []) ∷ [] }
+    ensures no_keys { (k : List ℕ) → probe_count [] k ≡ 0 }
+    ensures no_left { (s : List (List ℕ)) → joint_visits [] s ≡ 0 }
+    ensures no_right { (s : List (List ℕ)) → joint_visits s [] ≡ 0 }
 {}

@@ -6,6 +6,7 @@ use Rattle.rart_nodes.specs.walks.Cut.{cut}
 use Rattle.rart_nodes.specs.walks.ProbeCount.{probe_count}
 use Rattle.rart_nodes.specs.edits.RemoveAsks.{remove_asks}
 use Rattle.rart_nodes.specs.joins.SharedEdges.{joint_visits, shared_edges}
+use Rattle.rart_nodes.specs.shapes.SampleKeys.{nested_keys, left_keys, right_keys}
 use Rattle.rart_nodes.specs.shapes.Shape.{NodeRecord, capacity_of, record_at}
 use Rattle.rart_nodes.specs.tries.Tree.{tree_nodes}
 
@@ -81,12 +82,18 @@ removal_asks : (remove_asks (one_byte_keys 4) (3 ∷ []) ∷ remove_asks (one_by
     ∷ remove_asks (one_byte_keys 49) (3 ∷ []) ∷ remove_asks (one_byte_keys 5) (9 ∷ []) ∷ []) ≡ false ∷ true ∷ false ∷ true ∷ true ∷ false ∷ []
 removal_asks = refl
 
--- "", "a", "ab", "abc": a look-up of "abc" visits four nodes, one of "abd" three
-abbrev chain : List (List ℕ)
-chain = [] ∷ (97 ∷ []) ∷ (97 ∷ 98 ∷ []) ∷ (97 ∷ 98 ∷ 99 ∷ []) ∷ []
+-- the visits of a look-up
+pub visits-deepest : probe_count nested_keys (97 ∷ 98 ∷ 99 ∷ []) ≡ 4
+visits-deepest = refl
 
-visits : (probe_count chain (97 ∷ 98 ∷ 99 ∷ []) ∷ probe_count chain (97 ∷ 98 ∷ 100 ∷ []) ∷ probe_count [] (97 ∷ []) ∷ probe_count chain (98 ∷ []) ∷ []) ≡ 4 ∷ 3 ∷ 0 ∷ 1 ∷ []
-visits = refl
+pub visits-absent : probe_count nested_keys (97 ∷ 98 ∷ 100 ∷ []) ≡ 3
+visits-absent = refl
+
+pub visits-root : probe_count nested_keys (98 ∷ []) ≡ 1
+visits-root = refl
+
+pub visits-no_keys : (k : List ℕ) → probe_count [] k ≡ 0
+visits-no_keys k = refl
 
 -- keys are cut at each branch point that begins them: "ab", "abcd" and "abce" at "ab" and "abc"; a lone key and the empty one aren't
 abbrev branched : List (List ℕ)
@@ -96,15 +103,16 @@ cuts : (cut branched (97 ∷ 98 ∷ 99 ∷ 100 ∷ []) ≡ (97 ∷ 98 ∷ []) �
     × (cut ((97 ∷ 98 ∷ []) ∷ []) (97 ∷ 98 ∷ []) ≡ (97 ∷ 98 ∷ []) ∷ []) × (cut ([] ∷ (97 ∷ []) ∷ []) [] ≡ []) × (cut ([] ∷ (97 ∷ []) ∷ []) (97 ∷ []) ≡ (97 ∷ []) ∷ [])
 cuts = (refl, refl, refl, refl, refl)
 
--- "ab", "abc", "dog" beside "abc", "dog", "zzz": the roots together, and the edges "a", "d" and "abc"; with no keys nothing is visited
-abbrev words_of_one : List (List ℕ)
-words_of_one = (97 ∷ 98 ∷ []) ∷ (97 ∷ 98 ∷ 99 ∷ []) ∷ (100 ∷ 111 ∷ 103 ∷ []) ∷ []
+-- the visits of an intersection
+pub visits-both : joint_visits left_keys right_keys ≡ 4
+visits-both = refl
 
-abbrev words_of_other : List (List ℕ)
-words_of_other = (97 ∷ 98 ∷ 99 ∷ []) ∷ (100 ∷ 111 ∷ 103 ∷ []) ∷ (122 ∷ 122 ∷ 122 ∷ []) ∷ []
+pub edges-both : shared_edges left_keys right_keys ≡ (97 ∷ []) ∷ (97 ∷ 98 ∷ 99 ∷ []) ∷ (100 ∷ []) ∷ []
+edges-both = refl
 
-visits_of_both : (joint_visits words_of_one words_of_other ∷ joint_visits [] words_of_other ∷ joint_visits words_of_one [] ∷ []) ≡ 4 ∷ 0 ∷ 0 ∷ []
-visits_of_both = refl
+pub visits-no_left : (s : List (List ℕ)) → joint_visits [] s ≡ 0
+visits-no_left s = refl
 
-edges_of_both : shared_edges words_of_one words_of_other ≡ (97 ∷ []) ∷ (97 ∷ 98 ∷ 99 ∷ []) ∷ (100 ∷ []) ∷ []
-edges_of_both = refl
+pub visits-no_right : (s : List (List ℕ)) → joint_visits s [] ≡ 0
+visits-no_right [] = refl
+visits-no_right (k ∷ s) = refl

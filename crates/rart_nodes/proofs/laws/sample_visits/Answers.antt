@@ -1,0 +1,14 @@
+use Rattle.rart_nodes.proofs.shapes.Examples.{visits-deepest, visits-absent, visits-root, visits-both, edges-both, visits-no_keys, visits-no_left, visits-no_right}
+use Rattle.rart_nodes.proofs.laws.sample_visits.Goals as goal
+
+pub returns : goal.returns
+returns c = record {
+  deepest = visits-deepest;
+  absent = visits-absent;
+  root = visits-root;
+  both = visits-both;
+  edges = edges-both;
+  no_keys = visits-no_keys;
+  no_left = visits-no_left;
+  no_right = visits-no_right;
+}

@@ -1,0 +1,176 @@
+#!/usr/bin/env python3
+"""Tries bodies that must not compile, each in a copy of the repository.
+
+usage: must_not_compile.py [PASSED FAILED]
+
+A row of BODIES replaces one text of one source file. The row passes if the compiler refuses the copy with the errors
+of the row and no others. The check stops there, before it proves anything.
+
+PASSED and FAILED are the counts of the step before. The last line adds the rows to them.
+"""
+import concurrent.futures
+import os
+import pathlib
+import re
+import shutil
+import signal
+import subprocess
+import sys
+import tempfile
+import typing
+
+sys.dont_write_bytecode = True
+
+TOP = pathlib.Path(__file__).resolve().parents[1]
+
+# The compiler answers within seconds. A body that compiles would go on to its proofs, which take minutes.
+SECONDS = 120
+
+# The help that follows an error may change with the toolchain.
+ERROR = re.compile(r"^(\S+?):\d+:\d+: (error\[[\w-]+\]: .*?)(?:: help: .*)?$", re.M)
+
+
+class Body(typing.NamedTuple):
+    """What a wrong body does, where it stands, the text before and after, and the compiler's errors."""
+
+    does: str
+    crate: str
+    file: str
+    old: str
+    new: str
+    errors: tuple
+
+
+LOOK_UP = ("rart_nodes", "src/node/walks/look_up.rt", "self.descend(key, counter)")
+LENDING = ("rart_nodes", "src/node/walks/lending.rt", "feed_views(&mut tour, &mut trail, counter, f);")
+MEETING = ("rart_nodes", "src/node/intersect/meeting.rt", "f(left, right);")
+SHRINK = ("rart_nodes", "src/node/storage/shrink.rt")
+ROOM = ("rart_nodes", "src/node/storage/room.rt")
+
+BODIES = (
+    Body(
+        "a look-up counts with its own counter",
+        *LOOK_UP,
+        "self.descend(key, &mut crate::count::Visits::new())",
+        ("error[mismatched-types]: expected `&mut C`, found `&mut Visits`",),
+    ),
+    Body(
+        "a walk counts with its own counter",
+        *LENDING,
+        "feed_views(&mut tour, &mut trail, &mut crate::count::Visits::new(), f);",
+        ("error[mismatched-types]: expected `&mut C`, found `&mut Visits`",),
+    ),
+    Body(
+        "a look-up reads the root without a visit",
+        *LOOK_UP,
+        "self.root.and_then(|node| node.value())",
+        ("error[private-field]: field `root` of struct `Seen` is private",),
+    ),
+    Body(
+        "a look-up reads the node of the top without a visit",
+        *LOOK_UP,
+        "self.top().and_then(|top| top.node.value())",
+        ("error[private-field]: field `node` of struct `Shared` is private",),
+    ),
+    Body(
+        "a look-up reads the value of the top without a visit",
+        *LOOK_UP,
+        "self.top().and_then(|top| top.value())",
+        ("error[unknown-method]: no method named `value` found for type `Shared<<K as KeyTrait>::PartialType, V, C>`",),
+    ),
+    Body(
+        "a counted look-up reads the uncounted iterator",
+        *LOOK_UP,
+        "match self.iter() { Ok(_) => None, Err(_) => None }",
+        (
+            "error[unknown-method]: the method `iter` takes `self` as `Seen<K, V, Visits>`, and is called on "
+            "`Seen<K, V, C>`",
+        ),
+    ),
+    Body(
+        "an intersection exchanges the two values",
+        *MEETING,
+        "f(right, left);",
+        (
+            "error[mismatched-types]: expected `&V`, found `&W`",
+            "error[mismatched-types]: expected `&W`, found `&V`",
+        ),
+    ),
+    Body(
+        "a deletion removes the child before it allocates the smaller storage",
+        *SHRINK,
+        "let mut next = boxed_sorted(alloc)?;\n                let child = map.delete_child(b);\n"
+        "                next.fill_from_resized(map);",
+        "let child = map.delete_child(b);\n                let mut next = boxed_sorted(alloc)?;\n"
+        "                next.fill_from_resized(map);",
+        (
+            "error[linear-value-let-go]: control leaves here and lets `child` go, and `Option<N>` is not `Drop`, since "
+            "`N` is not",
+        ),
+    ),
+    Body(
+        "a wider storage loses a child",
+        *ROOM,
+        "next.fill_from_resized(map);",
+        "next.fill_from_resized(map);\n                let _lost = next.delete_child(b);",
+        (
+            "error[linear-value-let-go]: `_lost` is let go where its block ends, and `Option<N>` is not `Drop`, since "
+            "`N` is not",
+        ),
+    ),
+)
+
+
+def copy_sources(folder):
+    """Copies the sources, specifications and proofs of every crate."""
+    for name in ("crates.txt", "HANDLES"):
+        shutil.copy(TOP / name, folder / name)
+    for crate in (TOP / "crates").iterdir():
+        for part in ("src", "specs", "proofs"):
+            if (crate / part).is_dir():
+                shutil.copytree(crate / part, folder / "crates" / crate.name / part)
+
+
+def compiler_output(folder):
+    """Returns what the check of the crate in `folder` prints until it ends, or until its time is over."""
+    command = ["rt", "check", "--only", "", "--jobs", "1"]
+    pipes = {"stdin": subprocess.DEVNULL, "stdout": subprocess.PIPE, "stderr": subprocess.STDOUT}
+    with subprocess.Popen(command, cwd=folder, text=True, errors="replace", start_new_session=True, **pipes) as check:
+        try:
+            return check.communicate(timeout=SECONDS)[0]
+        except subprocess.TimeoutExpired:
+            os.killpg(check.pid, signal.SIGKILL)
+            return check.communicate()[0]
+
+
+def fault(body):
+    """Returns why the row fails, or an empty text if the compiler refuses the body with the row's errors alone."""
+    with tempfile.TemporaryDirectory(prefix="must-not-compile-") as room:
+        copy_sources(pathlib.Path(room))
+        folder = pathlib.Path(room) / "crates" / body.crate
+        text = (folder / body.file).read_text()
+        if text.count(body.old) != 1:
+            return f"{body.file} has the text that the row replaces {text.count(body.old)} times"
+        (folder / body.file).write_text(text.replace(body.old, body.new))
+        output = compiler_output(folder)
+    errors = ERROR.findall(output)
+    if errors == [(body.file, error) for error in body.errors]:
+        return ""
+    if not errors:
+        return f"the compiler accepts it: {output[-300:]!r}"
+    return f"the compiler has other errors: {errors}"
+
+
+def main():
+    passed, failed = (int(sys.argv[1]), int(sys.argv[2])) if len(sys.argv) == 3 else (0, 0)
+    with concurrent.futures.ThreadPoolExecutor(max_workers=min(4, os.cpu_count() or 1)) as workers:
+        for body, why in zip(BODIES, workers.map(fault, BODIES)):
+            print(f"must not compile: {body.does}: {'FAILED: ' + why if why else 'refused'}", flush=True)
+            failed += bool(why)
+            passed += not why
+    print(f"{passed} passed, {failed} failed")
+    return 1 if failed else 0
+
+
+if __name__ == "__main__":
+    sys.exit(main())
