@@ -1,4 +1,5 @@
 pub mod CanonicalTests
+pub mod Descents
 pub mod FirstBytes
 pub mod LongerPrefix
 pub mod NodeCounts

@@ -9,7 +9,7 @@ use Rattle.rart_nodes.specs.tries.Trie.{Trie, node, Children, no_children, child
 use Rattle.rart_nodes.specs.tries.TrieCode.{as_children}
 use Rattle.rart_nodes.specs.storages.Widths.{narrowed}
 use Rattle.rart_nodes.proofs.storages.ChildLemmas.{edges_of-length}
-use Rattle.rart_nodes.proofs.walks.SeenLemmas.{child_of-entries}
+use Rattle.rart_nodes.proofs.tries.Descents.{child_of-entries}
 
 pub within-most : (m : Option ℕ) (most n : ℕ) → m ≡ Some most → IsWithin m n → n ≤ most
 within-most m most n e h = rw e at h

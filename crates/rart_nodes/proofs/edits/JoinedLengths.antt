@@ -9,7 +9,8 @@ use Rattle.rart_nodes.specs.tries.TrieCode.{as_children}
 use Rattle.rart_nodes.proofs.tries.CanonicalTests.{longest_key-append}
 use Rattle.rart_nodes.proofs.edits.InsertLemmas.{fewer-within}
 use Rattle.rart_nodes.proofs.tries.NodeCounts.{some-pairs}
-use Rattle.rart_nodes.proofs.walks.SeenLemmas.{child-short, child_of-entries}
+use Rattle.rart_nodes.proofs.tries.Descents.{child_of-entries}
+use Rattle.rart_nodes.proofs.walks.SeenLemmas.{child-short}
 
 module _ {V : Type 0} where
   -- the paths to the children are parts of keys

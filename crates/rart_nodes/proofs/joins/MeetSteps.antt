@@ -9,7 +9,7 @@ use Rattle.rart_nodes.specs.joins.Twins.{twin_if, twins_right, meet_all, visits_
 use Rattle.rart_nodes.specs.tries.CanonicalTest.{is_canonical}
 use Rattle.rart_nodes.specs.tries.Trie.{Trie, node, Children, no_children, child, prefix_of, value_of, children_in, with_prefix, own_pair, AreCanonical, child_of, child_in}
 use Rattle.rart_nodes.proofs.tries.CanonicalTests.{IsCanonical-test}
-use Rattle.rart_nodes.proofs.walks.SeenLemmas.{child_of-low}
+use Rattle.rart_nodes.proofs.tries.Descents.{child_of-low}
 
 pub with_rest-whole : {V : Type 0} (p : List ℕ) (t : Trie V) → p ≡ prefix_of t → with_rest p t ≡ t
 with_rest-whole p (node q v n cs) e = ap (λ z. node z v n cs) e

@@ -6,7 +6,7 @@ use Rattle.rart_nodes.specs.joins.Twins.{twin_if, twins_left, twins_right}
 use Rattle.rart_nodes.specs.tries.CanonicalTest.{is_canonical}
 use Rattle.rart_nodes.specs.tries.Trie.{Trie, node, Children, no_children, child, children_in, AreCanonical, child_of}
 use Rattle.rart_nodes.proofs.tries.CanonicalTests.{IsCanonical-test}
-use Rattle.rart_nodes.proofs.walks.SeenLemmas.{child_of-low}
+use Rattle.rart_nodes.proofs.tries.Descents.{child_of-low}
 
 module _ {V W : Type 0} where
   abbrev over_left : Children V → Children W → List (Trie V × Trie W)

@@ -20,7 +20,7 @@ use Rattle.rart_nodes.specs.walks.Tour.{Pieces, Grown, Joins, Level, joined, joi
 use Rattle.rart_nodes.proofs.tries.CanonicalTests.{IsCanonical-test}
 use Rattle.rart_nodes.proofs.tries.FirstBytes.{AllFirst, AllFrom, from_first, pairs_of-first, children_pairs-from}
 use Rattle.rart_nodes.proofs.tries.PairLemmas.{pairs_of-ascend}
-use Rattle.rart_nodes.proofs.walks.SeenLemmas.{child_of-low}
+use Rattle.rart_nodes.proofs.tries.Descents.{child_of-low}
 use Rattle.rart_nodes.proofs.walks.StopLemmas.{joined-append, joined-stops, joined-children, joined-tree}
 use Rattle.rart_nodes.proofs.walks.TourLemmas.{behind-append, behind-none, behind-twice, behind-own}
 

@@ -4,8 +4,7 @@ use Rattle.std.proofs.lemmas.Bool.Decides.{nat_tests}
 use Rattle.rart_keys.proofs.ByteOrder.{order, is_less, is_equal, is_greater, eq-yes, eq-no}
 use Rattle.rart_parts.specs.Entries.{child_at, with_entry, replaced}
 use Rattle.rart_parts.proofs.EntryLemmas.{length-with_entry}
-use Rattle.rart_nodes.specs.walks.ProbeCount.{entered_nodes, entered_child}
-use Rattle.rart_nodes.specs.tries.Trie.{Trie, child, edges_of, IsCanonical, AreCanonical, trie_lookup, child_lookup, trie_put, put_child, leaf, fork}
+use Rattle.rart_nodes.specs.tries.Trie.{Trie, child, edges_of, IsCanonical, AreCanonical, trie_put, put_child, leaf, fork}
 use Rattle.rart_nodes.specs.tries.TrieCode.{as_children, node_count, child_count}
 
 lt-yes : (b c : ℕ) → b < c → ltb b c ≡ true
@@ -52,20 +51,6 @@ module _ {V : Type 0} where
   count-found b low t [] w s = absurd (cc)
   count-found b low t (e ∷ es) w s = elim (found b low t e es w s) [ at_first h q ↦ rw q (omega arith) | behind_first h q ↦ omega (arith, count-found b (suc e.0) t es w.3 q) ]
 
-  pub child_lookup-found : (b low : ℕ) (k : List ℕ) (t : Trie V) (es : List (ℕ × Trie V)) → AreCanonical low (as_children es) → Some t ≡ child_at b es → child_lookup b k (as_children es) ≡ trie_lookup k t
-  child_lookup-found b low k t [] w s = absurd (cc)
-  child_lookup-found b low k t (e ∷ es) w s = elim (found b low t e es w s) [
-    | at_first h q ↦ rw (is_equal b e.0 h, q) refl
-    | behind_first h q ↦ rw (is_greater b e.0 h) (child_lookup-found b (suc e.0) k t es w.3 q)
-  ]
-
-  pub entered_child-found : (b low : ℕ) (k : List ℕ) (t : Trie V) (es : List (ℕ × Trie V)) → AreCanonical low (as_children es) → Some t ≡ child_at b es → entered_child b k (as_children es) ≡ entered_nodes k t
-  entered_child-found b low k t [] w s = absurd (cc)
-  entered_child-found b low k t (e ∷ es) w s = elim (found b low t e es w s) [
-    | at_first h q ↦ rw (is_equal b e.0 h, q) refl
-    | behind_first h q ↦ rw (is_greater b e.0 h) (entered_child-found b (suc e.0) k t es w.3 q)
-  ]
-
   pub put_child-found : (b low : ℕ) (k : List ℕ) (v : V) (t : Trie V) (es : List (ℕ × Trie V)) → AreCanonical low (as_children es) → Some t ≡ child_at b es → put_child b k v (as_children es) ≡ as_children (replaced b (trie_put k v t) es)
   put_child-found b low k v t [] w s = absurd (cc)
   put_child-found b low k v t (e ∷ es) w s = elim (found b low t e es w s) [
@@ -77,18 +62,6 @@ module _ {V : Type 0} where
   pub tail-none : (b : ℕ) (e : ℕ × Trie V) (es : List (ℕ × Trie V)) → None ≡ child_at b (e ∷ es) → (b ≡ e.0 → ⊥) × (None ≡ child_at b es)
   tail-none b e es s = ⊎_elim (λ h. (λ q. let f = rw (eq-yes e.0 b (sym q)) at s in cc, rw (eq-no e.0 b (λ q. omega arith)) at s))
       (⊎_elim (λ h. let f = rw (eq-yes e.0 b (sym h)) at s in absurd (cc)) (λ h. (λ q. omega arith, rw (eq-no e.0 b (λ q. omega arith)) at s))) (order b e.0)
-
-  pub child_lookup-none : (b : ℕ) (k : List ℕ) (es : List (ℕ × Trie V)) → None ≡ child_at b es → child_lookup b k (as_children es) ≡ None
-  child_lookup-none b k [] s = refl
-  child_lookup-none b k (e ∷ es) s = let t = tail-none b e es s in ⊎_elim
-      (λ h. rw (is_less b e.0 h) refl)
-      (⊎_elim (λ h. absurd (t.0 h)) (λ h. rw (is_greater b e.0 h) (child_lookup-none b k es t.1))) (order b e.0)
-
-  pub entered_child-none : (b : ℕ) (k : List ℕ) (es : List (ℕ × Trie V)) → None ≡ child_at b es → entered_child b k (as_children es) ≡ 0
-  entered_child-none b k [] s = refl
-  entered_child-none b k (e ∷ es) s = let t = tail-none b e es s in ⊎_elim
-      (λ h. rw (is_less b e.0 h) refl)
-      (⊎_elim (λ h. absurd (t.0 h)) (λ h. rw (is_greater b e.0 h) (entered_child-none b k es t.1))) (order b e.0)
 
   pub put_child-none : (b : ℕ) (k : List ℕ) (v : V) (es : List (ℕ × Trie V)) → None ≡ child_at b es → put_child b k v (as_children es) ≡ as_children (with_entry b (leaf k v) es)
   put_child-none b k v [] s = refl

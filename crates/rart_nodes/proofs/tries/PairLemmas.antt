@@ -1,9 +1,11 @@
 -- The pairs of a canonical tree ascend, and a look-up in them is a descent.
-use Rattle.std.proofs.Common.{◌≡◌, ℕ, ◌<◌, ◌==◌, Bool, true, false, List, [], ◌∷◌, ◌++◌, suc, refl, sym, ◌∙◌, arith, Option, Some, None, ⊎_elim, if◌then◌else◌}
+use Rattle.std.proofs.Common.{◌≡◌, ℕ, ◌<◌, ◌==◌, Bool, true, false, List, [], ◌∷◌, ◌++◌, suc, refl, sym, ap, ◌∙◌, arith, Option, Some, None, ⊎_elim, if◌then◌else◌}
 use Rattle.rart_keys.specs.ByteStrings.{bytes_eq, strip_prefix}
 use Rattle.rart_keys.specs.SortedMap.{lookup, IsAscending}
-use Rattle.rart_nodes.specs.tries.Trie.{Trie, node, Children, no_children, child, answer_behind, trie_lookup, child_lookup, pairs_of, children_pairs, with_prefix, own_pair, prefix_of, StartsWith, IsCanonical, AreCanonical}
-use Rattle.rart_keys.proofs.ByteOrder.{order, is_less, is_equal, is_greater, eq-no}
+use Rattle.rart_nodes.specs.tries.Trie.{Trie, node, Children, no_children, child, looks_up, trie_lookup, child_lookup, pairs_of, children_pairs, with_prefix, own_pair, prefix_of, StartsWith, IsCanonical, AreCanonical}
+use Rattle.rart_keys.proofs.ByteOrder.{is_less, eq-yes, eq-no, equal_or_not}
+use Rattle.rart_nodes.specs.tries.Tree.{tree_pairs}
+use Rattle.rart_nodes.proofs.tries.Descents.{Keeps, by_byte, children-by, descends}
 use Rattle.rart_nodes.proofs.tries.FirstBytes.{ascending-append, ascending-with_prefix, pairs_of-first, children_pairs-from, nil-above, AllFrom}
 
 pub ascending-own_pair : {V : Type 0} (v : Option V) (es : List (List ℕ × V)) → AllFrom 0 es → IsAscending es → IsAscending (own_pair v ++ es)
@@ -71,25 +73,23 @@ pub lookup-nil : {V : Type 0} (v : Option V) (es : List (List ℕ × V)) → loo
 lookup-nil None es h = h
 lookup-nil (Some v) es h = refl
 
-mutual
-  pub lookup-pairs_of : {V : Type 0} (k : List ℕ) (t : Trie V) → IsCanonical t → lookup k (pairs_of t) ≡ trie_lookup k t
-  lookup-pairs_of k (node p v n cs) w = lookup-with_prefix p k (own_pair v ++ children_pairs cs) ∙
-      (elim (strip_prefix p k) as (λ o. within o (own_pair v ++ children_pairs cs) ≡ answer_behind o v (λ b r. child_lookup b r cs)) [
-        | None ↦ refl
-        | Some r ↦ elim r as (λ r. lookup r (own_pair v ++ children_pairs cs) ≡ answer_behind (Some r) v (λ b r. child_lookup b r cs)) [
-          | [] ↦ lookup-nil v (children_pairs cs) (children-nil 0 cs w.2)
-          | b ∷ r ↦ lookup-own_pair b r v (children_pairs cs) ∙ lookup-children b r 0 cs w.2
-        ]
-      ])
+lookup-nil_from : {V : Type 0} (low : ℕ) (es : List (List ℕ × V)) → AllFrom low es → lookup [] es ≡ None
+lookup-nil_from low [] f = refl
+lookup-nil_from low (([], v) ∷ es) f = absurd f.0
+lookup-nil_from low ((x ∷ k, v) ∷ es) f = lookup-nil_from low es f.1
 
-  lookup-children : {V : Type 0} (b : ℕ) (r : List ℕ) (low : ℕ) (cs : Children V) → AreCanonical low cs → lookup (b ∷ r) (children_pairs cs) ≡ child_lookup b (b ∷ r) cs
-  lookup-children b r low no_children w = refl
-  lookup-children b r low (child c t cs) w = lookup-append (b ∷ r) (pairs_of t) (children_pairs cs) ∙
-      rw (lookup-pairs_of (b ∷ r) t w.2, lookup-children b r (suc c) cs w.3)
-      (⊎_elim (λ h. rw (is_less b c h, trie_lookup-other b c r t w.1 (λ e. omega arith), child_lookup-low b (suc c) (b ∷ r) cs (omega arith) w.3) refl)
-      (⊎_elim (λ h. rw (is_equal b c h, child_lookup-low b (suc c) (b ∷ r) cs (omega arith) w.3) (or_none (trie_lookup (b ∷ r) t)))
-      (λ h. rw (is_greater b c h, trie_lookup-other b c r t w.1 (λ e. omega arith)) refl)) (order b c))
+lookup-by : {V : Type 0} (b : ℕ) (r : List ℕ) (es : List (List ℕ × V)) → lookup (b ∷ r) es ≡ lookup (b ∷ r) (by_byte b es)
+lookup-by b r [] = refl
+lookup-by b r (([], v) ∷ es) = lookup-by b r es
+lookup-by b r ((x ∷ k, v) ∷ es) = ⊎_elim (λ e. rw (eq-yes x b e) (rw (eq-yes x b e, lookup-by b r es) refl)) (λ n. rw (eq-no x b n) (lookup-by b r es)) (equal_or_not x b)
 
-  children-nil : {V : Type 0} (low : ℕ) (cs : Children V) → AreCanonical low cs → lookup [] (children_pairs cs) ≡ None
-  children-nil low no_children w = refl
-  children-nil low (child c t cs) w = lookup-append [] (pairs_of t) (children_pairs cs) ∙ rw (lookup-pairs_of [] t w.2, trie_lookup-nil c t w.1) (children-nil (suc c) cs w.3)
+lookup-kept : {V : Type 0} → Keeps {V = V} looks_up (λ k o a. lookup k (tree_pairs o) ≡ a)
+lookup-kept = record {
+  absent = λ k. refl;
+  left = λ k p v n cs w s. lookup-with_prefix p k (own_pair v ++ children_pairs cs) ∙ rw s refl;
+  ended = λ k p v n cs w s. lookup-with_prefix p k (own_pair v ++ children_pairs cs) ∙ rw s (lookup-nil v (children_pairs cs) (lookup-nil_from 0 (children_pairs cs) (children_pairs-from 0 cs w.2)));
+  on = λ k p v n cs b r a w s h. lookup-with_prefix p k (own_pair v ++ children_pairs cs) ∙ rw s (lookup-own_pair b r v (children_pairs cs) ∙ lookup-by b r (children_pairs cs) ∙ ap (lookup (b ∷ r)) (children-by b 0 cs w.2) ∙ h);
+}
+
+pub lookup-pairs_of : {V : Type 0} (k : List ℕ) (t : Trie V) → IsCanonical t → lookup k (pairs_of t) ≡ trie_lookup k t
+lookup-pairs_of k t w = descends looks_up (λ k o a. lookup k (tree_pairs o) ≡ a) lookup-kept k (Some t) w

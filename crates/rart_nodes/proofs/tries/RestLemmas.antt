@@ -7,9 +7,9 @@ use Rattle.std.proofs.lemmas.Grind.{common_steps}
 use Rattle.std.proofs.lemmas.List.{length-drop}
 use Rattle.rart_keys.specs.ByteStrings.{strip_prefix}
 use Rattle.rart_parts.specs.Entries.{child_at}
-use Rattle.rart_nodes.specs.tries.Trie.{Trie, node, Children, overlap, grown_overlap, IsCanonical, answer_behind, trie_lookup, child_lookup, trie_put, put_child, put_overlap, put_split, fitting_node}
+use Rattle.rart_nodes.specs.tries.Trie.{Trie, node, Children, overlap, grown_overlap, IsCanonical, looks_up, trie_lookup, child_lookup, trie_put, put_child, put_overlap, put_split, fitting_node}
 use Rattle.rart_nodes.specs.tries.TrieCode.{as_children}
-use Rattle.rart_nodes.proofs.storages.ChildLemmas.{child_lookup-found, child_lookup-none}
+use Rattle.rart_nodes.proofs.tries.Descents.{descend-left, descend-ended, descend-followed, descend-at, descend-absent}
 
 -- the prefix doesn't begin the key
 pub strip_prefix-short : (p k : List ℕ) (n : ℕ) → n ≡ common_prefix_len nat_eq p k → n < length p → None ≡ strip_prefix p k
@@ -65,33 +65,25 @@ overlap-behind (x ∷ p) [] r e = absurd (cc)
 overlap-behind (x ∷ p) (y ∷ k) r e = overlap-step (x == y) x y p k r (overlap-behind p k r) e
 
 module _ {V : Type 0} where
-  answer-ended : (r : List ℕ) (v : Option V) (f : ℕ → List ℕ → Option V) → None ≡ slice_get r 0 → answer_behind (Some r) v f ≡ v
-  answer-ended [] v f h = refl
-  answer-ended (b ∷ r) v f h = absurd (cc)
-
-  answer-followed : (r : List ℕ) (b : ℕ) (v : Option V) (f : ℕ → List ℕ → Option V) → Some b ≡ slice_get r 0 → answer_behind (Some r) v f ≡ f b r
-  answer-followed [] b v f h = absurd (cc)
-  answer-followed (c ∷ r) b v f h = let same : b ≡ c = cc in rw same refl
-
   -- a look-up at a node: the key leaves the prefix, ends behind it, or goes on
   pub trie_lookup-left : (p k : List ℕ) (v : Option V) (w : ℕ) (cs : Children V) → None ≡ strip_prefix p k → trie_lookup k (node p v w cs) ≡ None
-  trie_lookup-left p k v w cs e = ap (λ o. answer_behind o v (λ b r. child_lookup b r cs)) (sym e)
+  trie_lookup-left p k v w cs e = descend-left looks_up (node p v w cs) k e
 
   pub trie_lookup-ended : (p k r : List ℕ) (v : Option V) (w : ℕ) (cs : Children V) → Some r ≡ strip_prefix p k → None ≡ slice_get r 0 → trie_lookup k (node p v w cs) ≡ v
-  trie_lookup-ended p k r v w cs e h = ap (λ o. answer_behind o v (λ b r. child_lookup b r cs)) (sym e) ∙ answer-ended r v (λ b r. child_lookup b r cs) h
+  trie_lookup-ended p k r v w cs e h = descend-ended looks_up (node p v w cs) k r e h
 
   pub trie_lookup-followed : (p k r : List ℕ) (b : ℕ) (v : Option V) (w : ℕ) (cs : Children V) → Some r ≡ strip_prefix p k → Some b ≡ slice_get r 0 → trie_lookup k (node p v w cs) ≡ child_lookup b r cs
-  trie_lookup-followed p k r b v w cs e h = ap (λ o. answer_behind o v (λ b r. child_lookup b r cs)) (sym e) ∙ answer-followed r b v (λ b r. child_lookup b r cs) h
+  trie_lookup-followed p k r b v w cs e h = descend-followed looks_up p k r b v w cs e h
 
   pub trie_lookup-child : (p k r : List ℕ) (b : ℕ) (v : Option V) (w : ℕ) (t : Trie V) (es : List (ℕ × Trie V))
       → IsCanonical (node p v w (as_children es)) → Some r ≡ strip_prefix p k → Some b ≡ slice_get r 0 → Some t ≡ child_at b es
       → trie_lookup k (node p v w (as_children es)) ≡ trie_lookup r t
-  trie_lookup-child p k r b v w t es c e h at = trie_lookup-followed p k r b v w (as_children es) e h ∙ child_lookup-found b 0 r t es c.2 at
+  trie_lookup-child p k r b v w t es c e h at = descend-followed looks_up p k r b v w (as_children es) e h ∙ descend-at looks_up b 0 r (Some t) es c.2 at
 
   pub trie_lookup-no_child : (p k r : List ℕ) (b : ℕ) (v : Option V) (w : ℕ) (es : List (ℕ × Trie V))
       → Some r ≡ strip_prefix p k → Some b ≡ slice_get r 0 → None ≡ child_at b es
       → trie_lookup k (node p v w (as_children es)) ≡ None
-  trie_lookup-no_child p k r b v w es e h at = trie_lookup-followed p k r b v w (as_children es) e h ∙ child_lookup-none b r es at
+  trie_lookup-no_child p k r b v w es e h at = descend-followed looks_up p k r b v w (as_children es) e h ∙ descend-absent looks_up b r es at
 
   -- an insertion at a node whose prefix begins the key
   split-ended : (p r : List ℕ) (v : V) (old : Option V) (w : ℕ) (cs : Children V) (f : ℕ → List ℕ → Children V) → None ≡ slice_get r 0 → put_split p [] r v old w cs f ≡ node p (Some v) w cs

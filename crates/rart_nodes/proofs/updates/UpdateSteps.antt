@@ -24,7 +24,7 @@ use Rattle.rart_nodes.proofs.edits.PutAskLemmas.{asks_put-below}
 use Rattle.rart_nodes.proofs.edits.RemoveAskSteps.{asks_remove-below, asks_remove-leaf}
 use Rattle.rart_nodes.proofs.edits.RemoveSteps.{removed-below, removed-leaf, value-removed}
 use Rattle.rart_nodes.proofs.tries.RestLemmas.{trie_lookup-left, trie_put-ended}
-use Rattle.rart_nodes.proofs.walks.SeenLemmas.{child_of-entries}
+use Rattle.rart_nodes.proofs.tries.Descents.{child_of-entries}
 
 -- nothing is left of a key that ends
 end-rest : (o : Option (List ℕ)) → is_end o ≡ true → Some [] ≡ o

@@ -1,21 +1,21 @@
 -- A descent that collects what it passes gives the pairs whose key begins the string.
-use Rattle.std.proofs.Common.{◌≡◌, ℕ, ◌+◌, ◌-◌, ◌<◌, ◌≤◌, ◌==◌, ⊎_elim, suc, Bool, true, false, List, [], ◌∷◌, ◌++◌, length, length-append, take, drop, refl, sym, ap, ◌∙◌, arith, Option, Some, None, is_some, if◌then◌else◌}
+use Rattle.std.proofs.Common.{◌≡◌, ℕ, ◌+◌, ◌-◌, ◌≤◌, ◌==◌, ⊎_elim, Bool, true, false, List, [], ◌∷◌, ◌++◌, length, length-append, take, drop, refl, sym, ap, ◌∙◌, arith, Option, Some, None, is_some, if◌then◌else◌}
 use Rattle.std.specs.Prelude.{slice_get}
 use Rattle.std.proofs.lemmas.List.{append-nil, append_assoc, length-drop, take-append-drop, take-append-le, take_all}
 use Rattle.std.proofs.lemmas.Grind.{common_steps}
-use Rattle.std.proofs.lemmas.List.Elements.{filter-append}
 use Rattle.rart_keys.specs.ByteStrings.{strip_prefix, begins}
 use Rattle.rart_keys.specs.Filters.{matches}
 use Rattle.rart_keys.specs.SortedMap.{keys_of}
-use Rattle.rart_keys.proofs.ByteOrder.{order, is_less, is_equal, is_greater, eq-no, eq-yes, equal_or_not}
+use Rattle.rart_keys.proofs.ByteOrder.{eq-no, eq-yes, equal_or_not}
+use Rattle.rart_nodes.specs.joins.Meetings.{prefix-none, prefix-twice}
 use Rattle.rart_nodes.specs.tries.CanonicalTest.{is_canonical}
 use Rattle.rart_nodes.specs.tries.Tree.{tree_pairs, IsCanonicalTree}
-use Rattle.rart_nodes.specs.tries.Trie.{Trie, node, Children, no_children, child, pairs_of, children_pairs, own_pair, prefix_of, child_of, child_in, with_prefix, IsCanonical, AreCanonical}
-use Rattle.rart_nodes.specs.walks.Matches.{Passes, pair_at, matches_behind, trie_matches, child_matches, tree_matches, matches_ahead, entered_ahead}
-use Rattle.rart_nodes.specs.walks.ProbeCount.{probe_count, tree_entered}
-use Rattle.rart_nodes.proofs.tries.CanonicalTests.{IsCanonical-test}
-use Rattle.rart_nodes.proofs.tries.FirstBytes.{AllFirst, AllFrom, pairs_of-first, children_pairs-from}
-use Rattle.rart_nodes.proofs.walks.SeenLemmas.{child_of-low, child-falls, few-tree_entered, step-ended, step-on, tree_entered-probe_count}
+use Rattle.rart_nodes.specs.tries.Trie.{Trie, node, children_pairs, own_pair, prefix_of, child_in, with_prefix}
+use Rattle.rart_nodes.specs.walks.Matches.{Passes, pair_at, collects, tree_matches, matches_ahead, entered_ahead}
+use Rattle.rart_nodes.specs.walks.ProbeCount.{probe_count, counts, tree_entered}
+use Rattle.rart_nodes.proofs.tries.Descents.{Keeps, children-filter, descend-ended, descend-on, descends}
+use Rattle.rart_nodes.proofs.tries.FirstBytes.{AllFrom, children_pairs-from}
+use Rattle.rart_nodes.proofs.walks.SeenLemmas.{child-falls, few-tree_entered, tree_entered-probe_count}
 
 abbrev begins_within : List ℕ → Option (List ℕ) → Bool
 begins_within l None = false
@@ -75,16 +75,6 @@ module _ {V : Type 0} where
         | Some r ↦ elim (begins e.0 r) as (λ b. (if b then (p ++ e.0, e.1) ∷ with_prefix p (matches r es) else with_prefix p (matches r es)) ≡ with_prefix p (if b then e ∷ matches r es else matches r es)) [ true ↦ refl | false ↦ refl ]
       ])
 
-  matches-other : (c b : ℕ) (r : List ℕ) (es : List (List ℕ × V)) → AllFirst c es → (b ≡ c → ⊥) → matches (b ∷ r) es ≡ []
-  matches-other c b r [] f n = refl
-  matches-other c b r (([], v) ∷ es) f n = absurd f.0
-  matches-other c b r ((x ∷ k, v) ∷ es) f n = rw (eq-no x b (λ e. n (sym e ∙ f.0))) (matches-other c b r es f.1 n)
-
-  matches-from : (low b : ℕ) (r : List ℕ) (es : List (List ℕ × V)) → AllFrom low es → b < low → matches (b ∷ r) es ≡ []
-  matches-from low b r [] f n = refl
-  matches-from low b r (([], v) ∷ es) f n = absurd f.0
-  matches-from low b r ((x ∷ k, v) ∷ es) f n = rw (eq-no x b (λ e. omega (arith, f.0))) (matches-from low b r es f.1 n)
-
   matches-nil : (low : ℕ) (es : List (List ℕ × V)) → AllFrom low es → matches [] es ≡ []
   matches-nil low [] f = refl
   matches-nil low (([], v) ∷ es) f = absurd f.0
@@ -94,37 +84,14 @@ module _ {V : Type 0} where
   matches-here q None es = refl
   matches-here q (Some v) es = refl
 
-  mutual
-    pub trie_matches-matches : (q : List ℕ) (t : Trie V) → IsCanonical t → trie_matches q t ≡ matches q (pairs_of t)
-    trie_matches-matches q (node p v n cs) w = sym (matches-behind p q (own_pair v ++ children_pairs cs) ∙
-        (elim (strip_prefix p q) as (λ o. matches_within p o (own_pair v ++ children_pairs cs) ≡ matches_behind o p v (λ b r. child_matches b r cs)) [
-          | None ↦ refl
-          | Some r ↦ ap (with_prefix p) (matches-here r v (children_pairs cs)) ∙ elim r as (λ r. with_prefix p (own_pair v ++ matches r (children_pairs cs)) ≡ matches_behind (Some r) p v (λ b r. child_matches b r cs)) [
-            | [] ↦ ap (with_prefix p) (rw (matches-nil 0 (children_pairs cs) (children_pairs-from 0 cs w.2)) (append-nil (own_pair v)))
-            | b ∷ r ↦ ap (λ z. with_prefix p (own_pair v ++ z)) (sym (child-matches b r 0 cs w.2))
-          ]
-        ]))
-
-    child-matches : (b : ℕ) (r : List ℕ) (low : ℕ) (cs : Children V) → AreCanonical low cs → child_matches b (b ∷ r) cs ≡ matches (b ∷ r) (children_pairs cs)
-    child-matches b r low no_children w = refl
-    child-matches b r low (child c t cs) w = rw (filter-append (λ e. begins e.0 (b ∷ r)) (pairs_of t) (children_pairs cs)) (⊎_elim
-        (λ h. rw (is_less b c h, matches-other c b r (pairs_of t) (pairs_of-first c t w.1) (λ e. omega arith), matches-from (suc c) b r (children_pairs cs) (children_pairs-from (suc c) cs w.3) (omega arith)) refl)
-        (⊎_elim (λ h. rw (is_equal b c h, matches-from (suc c) b r (children_pairs cs) (children_pairs-from (suc c) cs w.3) (omega arith), append-nil (matches (b ∷ r) (pairs_of t))) (trie_matches-matches (b ∷ r) t w.2))
-        (λ h. rw (is_greater b c h, matches-other c b r (pairs_of t) (pairs_of-first c t w.1) (λ e. omega arith)) (child-matches b r (suc c) cs w.3))) (order b c))
-
-  child_matches-of : (b low : ℕ) (k : List ℕ) (cs : Children V) → AreCanonical low cs → child_matches b k cs ≡ tree_matches k (child_of b cs)
-  child_matches-of b low k no_children w = refl
-  child_matches-of b low k (child c t cs) w = ⊎_elim
-      (λ h. rw (is_less b c h, eq-no c b (λ q. omega arith), child_of-low b (suc c) cs (omega arith) w.3) refl)
-      (⊎_elim (λ h. rw (is_equal b c h, eq-yes c b (sym h)) refl) (λ h. rw (is_greater b c h, eq-no c b (λ q. omega arith)) (child_matches-of b (suc c) k cs w.3))) (order b c)
-
-  prefix-none : (es : List (List ℕ × V)) → with_prefix [] es ≡ es
-  prefix-none [] = refl
-  prefix-none (e ∷ es) = ap (λ z. e ∷ z) (prefix-none es)
-
-  prefix-twice : (q p : List ℕ) (es : List (List ℕ × V)) → with_prefix q (with_prefix p es) ≡ with_prefix (q ++ p) es
-  prefix-twice q p [] = refl
-  prefix-twice q p (e ∷ es) = rw (append_assoc q p e.0, prefix-twice q p es) refl
+  matches-kept : Keeps {V = V} collects (λ q o a. a ≡ matches q (tree_pairs o))
+  matches-kept = record {
+    absent = λ q. refl;
+    left = λ q p v n cs w s. sym (matches-behind p q (own_pair v ++ children_pairs cs) ∙ rw s refl);
+    ended = λ q p v n cs w s. sym (matches-behind p q (own_pair v ++ children_pairs cs) ∙ rw s (ap (with_prefix p) (matches-here [] v (children_pairs cs) ∙ rw (matches-nil 0 (children_pairs cs) (children_pairs-from 0 cs w.2)) (append-nil (own_pair v)))));
+    on = λ q p v n cs b r a w s h. sym (matches-behind p q (own_pair v ++ children_pairs cs) ∙ rw s (ap (with_prefix p) (matches-here (b ∷ r) v (children_pairs cs)
+        ∙ ap (λ z. own_pair v ++ z) (children-filter (λ e. begins e.0 (b ∷ r)) b cs w.2 (λ x k v n. rw (eq-no x b n) refl) ∙ sym h))));
+  }
 
   prefix-own : (q : List ℕ) (v : Option V) (es : List (List ℕ × V)) → with_prefix q (own_pair v ++ es) ≡ pair_at q v ++ with_prefix q es
   prefix-own q None es = refl
@@ -136,37 +103,33 @@ module _ {V : Type 0} where
 
   -- a descent along q at the node t behind d bytes: q ends behind its prefix
   pub pass-ended : (t : Trie V) (q k r : List ℕ) (d d1 : ℕ) → d ≤ length q → k ≡ drop d q → Some r ≡ strip_prefix (prefix_of t) k → d1 ≡ length q - length r → None ≡ slice_get r 0 → Passes q d t d1 None
-  pass-ended (node p v n cs) q k [] d d1 l i e f h =
-      let s = split-at p q k [] d d1 l i e f in
+  pass-ended (node p v n cs) q k r d d1 l i e f h =
+      let s = split-at p q k r d d1 l i e f in
       record {
         within = s.within;
-        still = rw (← i) (ap (λ o. with_prefix (take d q) (matches_behind o p v (λ b r. child_matches b r cs))) (sym e) ∙ prefix-twice (take d q) p (own_pair v) ∙ ap (λ z. with_prefix z (own_pair v)) (sym s.front)) ∙ prefix-own_alone (take d1 q) v;
-        counted = rw (← i) (step-ended (node p v n cs) k [] e h).1;
+        still = rw (← i) (ap (with_prefix (take d q)) (descend-ended collects (node p v n cs) k r e h) ∙ prefix-twice (take d q) p (own_pair v) ∙ ap (λ z. with_prefix z (own_pair v)) (sym s.front)) ∙ prefix-own_alone (take d1 q) v;
+        counted = rw (← i) (descend-ended counts (node p v n cs) k r e h);
         falls = omega arith;
       }
-  pass-ended (node p v n cs) q k (b ∷ r) d d1 l i e f h = absurd (cc)
 
   -- or goes on by b
   pub pass-on : (t : Trie V) (q k r : List ℕ) (b d d1 : ℕ) (o : Option (Trie V)) → is_canonical t ≡ true → d ≤ length q → k ≡ drop d q → Some r ≡ strip_prefix (prefix_of t) k → d1 ≡ length q - length r → Some b ≡ slice_get r 0
       → o ≡ child_in b t → Passes q d t d1 o
-  pass-on (node p v n cs) q k [] b d d1 o c l i e f h j = absurd (cc)
-  pass-on (node p v n cs) q k (x ∷ r) b d d1 o c l i e f h j =
-      let s = split-at p q k (x ∷ r) d d1 l i e f in
-      let same : b ≡ x = cc in
-      let below : child_matches x (x ∷ r) cs ≡ tree_matches (x ∷ r) o = child_matches-of x 0 (x ∷ r) cs (IsCanonical-test (node p v n cs) c).2 ∙ ap (tree_matches (x ∷ r)) (ap (λ z. child_of z cs) (sym same) ∙ sym j) in
+  pass-on (node p v n cs) q k r b d d1 o c l i e f h j =
+      let s = split-at p q k r d d1 l i e f in
+      let below = λ (z : Option (Trie V)). with_prefix p (own_pair v ++ tree_matches r z) in
       record {
         within = s.within;
-        still = rw (← i) (ap (λ o. with_prefix (take d q) (matches_behind o p v (λ b r. child_matches b r cs))) (sym e) ∙ prefix-twice (take d q) p (own_pair v ++ child_matches x (x ∷ r) cs)
-            ∙ ap (λ z. with_prefix z (own_pair v ++ child_matches x (x ∷ r) cs)) (sym s.front)) ∙ prefix-own (take d1 q) v (child_matches x (x ∷ r) cs)
-            ∙ ap (λ z. pair_at (take d1 q) v ++ with_prefix (take d1 q) z) (below ∙ ap (λ z. tree_matches z o) (sym s.behind));
-        counted = rw (← i) ((step-on (node p v n cs) k (x ∷ r) b c e h).1 ∙ ap (λ z. 1 + tree_entered (x ∷ r) z) (sym j) ∙ ap (λ z. 1 + tree_entered z o) (sym s.behind));
+        still = rw (← i) (ap (with_prefix (take d q)) (descend-on collects (node p v n cs) k r b c e h ∙ ap below (sym j)) ∙ prefix-twice (take d q) p (own_pair v ++ tree_matches r o)
+            ∙ ap (λ z. with_prefix z (own_pair v ++ tree_matches r o)) (sym s.front)) ∙ prefix-own (take d1 q) v (tree_matches r o)
+            ∙ ap (λ z. pair_at (take d1 q) v ++ with_prefix (take d1 q) (tree_matches z o)) (sym s.behind);
+        counted = rw (← i) (descend-on counts (node p v n cs) k r b c e h ∙ ap (λ z. 1 + tree_entered r z) (sym j) ∙ ap (λ z. 1 + tree_entered z o) (sym s.behind));
         falls = child-falls b (node p v n cs) o (sym j);
       }
 
   -- what a descent from the top has to pass
   pub matches-ahead : (q : List ℕ) (d : ℕ) (o root : Option (Trie V)) → d ≡ 0 → o ≡ root → IsCanonicalTree root → matches_ahead q d o ≡ matches q (tree_pairs root)
-  matches-ahead q d o None e f w = rw (e, f) refl
-  matches-ahead q d o (Some t) e f w = rw (e, f) (prefix-none (trie_matches q t) ∙ trie_matches-matches q t w)
+  matches-ahead q d o root e f w = rw (e, f) (prefix-none (tree_matches q root) ∙ descends collects (λ q o a. a ≡ matches q (tree_pairs o)) matches-kept q root w)
 
   -- a way down that has ended, m visits after it began at n, entered the nodes that the keys say
   pub all-entered : (q : List ℕ) (d : ℕ) (o root : Option (Trie V)) (m n i : ℕ) → IsCanonicalTree root → o ≡ None → m + entered_ahead q d o ≡ i → i ≡ n + tree_entered q root

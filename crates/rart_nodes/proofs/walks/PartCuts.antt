@@ -1,16 +1,16 @@
 -- The segments of the keys at and below a prefix are their cuts, and can be lent.
-use Rattle.std.proofs.Common.{◌≡◌, ℕ, ◌<◌, ◌≤◌, ◌^◌, ⊎_elim, true, false, List, [], ◌∷◌, ◌++◌, length, refl, sym, ap, ◌∙◌, arith, Option, Some, None, is_some, subst, if◌then◌else◌}
+use Rattle.std.proofs.Common.{◌≡◌, ℕ, ◌<◌, ◌≤◌, ◌^◌, true, false, cond, eqb, List, [], ◌∷◌, ◌++◌, length, refl, sym, ap, ◌∙◌, arith, Option, Some, None, is_some, subst, if◌then◌else◌}
 use Rattle.std.proofs.lemmas.List.{append_assoc, map-append}
-use Rattle.rart_keys.specs.ByteStrings.{strip_prefix, begins}
+use Rattle.rart_keys.specs.ByteStrings.{begins}
 use Rattle.rart_keys.specs.Filters.{below}
 use Rattle.rart_keys.specs.SortedMap.{keys_of, longest_key}
-use Rattle.rart_keys.proofs.ByteOrder.{order, is_less, is_equal, is_greater}
 use Rattle.rart_nodes.specs.shapes.Shape.{NodeRecord, record_at}
 use Rattle.rart_nodes.specs.tries.Tree.{tree_pairs, IsCanonicalTree}
-use Rattle.rart_nodes.specs.tries.Trie.{Trie, node, Children, no_children, child, pairs_of}
+use Rattle.rart_nodes.specs.tries.Trie.{Trie, node, Children, no_children, child, child_of}
 use Rattle.rart_nodes.specs.walks.Cut.{with_piece, cut_by, cut, cut_pairs}
-use Rattle.rart_nodes.specs.walks.Part.{found_behind, part_found, part_child, tree_part, part_stops}
-use Rattle.rart_nodes.specs.walks.Tour.{Pieces, Grown, joined, join_all, behind_pieces, value_at, stops_of, children_stops}
+use Rattle.rart_nodes.specs.walks.Part.{finds, tree_part, part_stops}
+use Rattle.rart_nodes.proofs.tries.Descents.{Keeps, descends}
+use Rattle.rart_nodes.specs.walks.Tour.{Pieces, Grown, joined, join_all, behind_pieces, value_at, stops_of, children_stops, tree_stops}
 use Rattle.rart_nodes.specs.walks.TrailParts.{one_piece}
 use Rattle.rart_nodes.specs.walks.ViewPieces.{all_have_bytes, AreViews}
 use Rattle.rart_nodes.proofs.walks.CutLemmas.{joined-cut, tree-cut}
@@ -64,33 +64,31 @@ module _ {V : Type 0} where
   below-own s g k q v cs h = are_cut-back s (behind_pieces (k ++ g q) (value_at [] v)) (behind_pieces (k ++ g q) (children_stops g cs))
       (subst (AreCut s) (behind-twice k (g q) (value_at [] v ++ children_stops g cs) ∙ map-append (λ e. (k ++ g q ++ e.0, e.1)) (value_at [] v) (children_stops g cs)) h)
 
-  -- what holds of the stops of a tree holds of those of its part
-  mutual
-    part-are_cut : (s : List (List ℕ)) (g : Grown) (k : Pieces) (p : List ℕ) (t : Trie V) → AreCut s (behind_pieces k (stops_of g t)) → AreCut s (part_stops g (part_found g k p t))
-    part-are_cut s g k p (node q v n cs) h = elim (strip_prefix q p) as (λ o. AreCut s (part_stops g (found_behind o (begins p q) (k, node q v n cs) (λ b r. part_child g (k ++ g q) b r cs)))) [
-      | None ↦ elim (begins p q) as (λ z. AreCut s (part_stops g (found_behind None z (k, node q v n cs) (λ b r. part_child g (k ++ g q) b r cs)))) [ true ↦ h | false ↦ tt ]
-      | Some r ↦ elim r as (λ r. AreCut s (part_stops g (found_behind (Some r) (begins p q) (k, node q v n cs) (λ b r. part_child g (k ++ g q) b r cs)))) [
-        | [] ↦ h
-        | b ∷ r ↦ child-are_cut s g (k ++ g q) b (b ∷ r) cs (below-own s g k q v cs h)
+  child-are_cut : (s : List (List ℕ)) (g : Grown) (k : Pieces) (b : ℕ) (cs : Children V) → AreCut s (behind_pieces k (children_stops g cs)) → AreCut s (behind_pieces k (tree_stops g (child_of b cs)))
+  child-are_cut s g k b no_children h = tt
+  child-are_cut s g k b (child c t cs) h =
+      let both : AreCut s (behind_pieces k (stops_of g t) ++ behind_pieces k (children_stops g cs)) = subst (AreCut s) (map-append (λ e. (k ++ e.0, e.1)) (stops_of g t) (children_stops g cs)) h in
+      elim (eqb c b) as (λ z. AreCut s (behind_pieces k (tree_stops g (cond z (Some t) (child_of b cs))))) [
+        | true ↦ are_cut-front s (behind_pieces k (stops_of g t)) (behind_pieces k (children_stops g cs)) both
+        | false ↦ child-are_cut s g k b cs (are_cut-back s (behind_pieces k (stops_of g t)) (behind_pieces k (children_stops g cs)) both)
       ]
-    ]
 
-    child-are_cut : (s : List (List ℕ)) (g : Grown) (k : Pieces) (b : ℕ) (p : List ℕ) (cs : Children V) → AreCut s (behind_pieces k (children_stops g cs)) → AreCut s (part_stops g (part_child g k b p cs))
-    child-are_cut s g k b p no_children h = tt
-    child-are_cut s g k b p (child c t cs) h =
-        let both : AreCut s (behind_pieces k (stops_of g t) ++ behind_pieces k (children_stops g cs)) = subst (AreCut s) (map-append (λ e. (k ++ e.0, e.1)) (stops_of g t) (children_stops g cs)) h in
-        ⊎_elim (λ e. rw (is_less b c e) tt)
-        (⊎_elim (λ e. rw (is_equal b c e) (part-are_cut s g k p t (are_cut-front s (behind_pieces k (stops_of g t)) (behind_pieces k (children_stops g cs)) both)))
-        (λ e. rw (is_greater b c e) (child-are_cut s g k b p cs (are_cut-back s (behind_pieces k (stops_of g t)) (behind_pieces k (children_stops g cs)) both)))) (order b c)
+  -- what holds of the stops of a tree holds of those of its part
+  part-are_cut : (s : List (List ℕ)) (g : Grown) → Keeps {V = V} (finds g) (λ p o a. (k : Pieces) → AreCut s (behind_pieces k (tree_stops g o)) → AreCut s (part_stops g (a k)))
+  part-are_cut s g = record {
+    absent = λ p k h. tt;
+    left = λ p q v n cs w e k h. elim (begins p q) as (λ z. AreCut s (part_stops g (if z then Some (k, node q v n cs) else None))) [ true ↦ h | false ↦ tt ];
+    ended = λ p q v n cs w e k h. h;
+    on = λ p q v n cs b r a w e f k h. f (k ++ g q) (child-are_cut s g (k ++ g q) b cs (below-own s g k q v cs h));
+  }
 
   -- the segments at and below the prefix p
   pub part-cut : (p : List ℕ) (o : Option (Trie V)) → IsCanonicalTree o → part_stops one_piece (tree_part one_piece [] p o) ≡ cut_pairs (keys_of (tree_pairs o)) (below p (tree_pairs o))
-  part-cut p None w = refl
-  part-cut p (Some t) w =
-      let s = keys_of (pairs_of t) in
-      let whole : AreCut s (behind_pieces [] (stops_of one_piece t)) = subst (AreCut s) (sym (behind-nothing (stops_of one_piece t) ∙ tree-cut (Some t) w)) (are_cut-pairs s (pairs_of t)) in
-      from_are_cut s (part_stops one_piece (part_found one_piece [] p t)) (part-are_cut s one_piece [] p t whole)
-      ∙ ap (cut_pairs s) (part-keys one_piece p (Some t) joins-one w)
+  part-cut p o w =
+      let s = keys_of (tree_pairs o) in
+      let whole : AreCut s (behind_pieces [] (tree_stops one_piece o)) = subst (AreCut s) (sym (behind-nothing (tree_stops one_piece o) ∙ tree-cut o w)) (are_cut-pairs s (tree_pairs o)) in
+      from_are_cut s (part_stops one_piece (tree_part one_piece [] p o)) (descends (finds one_piece) (λ p o a. (k : Pieces) → AreCut s (behind_pieces k (tree_stops one_piece o)) → AreCut s (part_stops one_piece (a k))) (part-are_cut s one_piece) p o w [] whole)
+      ∙ ap (cut_pairs s) (part-keys one_piece p o joins-one w)
 
   longest-below : (p : List ℕ) (es : List (List ℕ × V)) → longest_key (below p es) ≤ longest_key es
   longest-below p [] = omega arith

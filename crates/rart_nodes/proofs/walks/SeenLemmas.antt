@@ -1,34 +1,20 @@
 -- What a descent of a shared trie meets: its children are canonical and smaller, and answer for what lies below them.
-use Rattle.std.proofs.Common.{◌≡◌, ℕ, suc, ◌+◌, ◌<◌, ◌≤◌, ◌⊎◌, inl, inr, ⊎_elim, Bool, true, false, cond, eqb, List, [], ◌∷◌, ◌++◌, length, Option, Some, None, refl, arith, sym, ap, ◌∙◌}
+use Rattle.std.proofs.Common.{◌≡◌, ℕ, suc, ◌+◌, ◌<◌, ◌≤◌, ◌⊎◌, inl, inr, ⊎_elim, Bool, true, false, cond, eqb, List, ◌++◌, length, Option, Some, None, refl, arith, sym}
 use Rattle.std.specs.Prelude.{slice_get}
 use Rattle.rart_keys.specs.ByteStrings.{strip_prefix}
 use Rattle.rart_keys.specs.SortedMap.{keys_of, lookup, longest_key}
-use Rattle.rart_keys.proofs.ByteOrder.{order, is_less, is_equal, is_greater, eq-yes, eq-no}
 use Rattle.rart_nodes.specs.tries.CanonicalTest.{is_canonical}
-use Rattle.rart_parts.specs.Entries.{child_at}
-use Rattle.rart_nodes.specs.walks.ProbeCount.{probe_count, entered_behind, entered_nodes, entered_child, tree_entered}
+use Rattle.rart_nodes.specs.walks.ProbeCount.{probe_count, counts, entered_nodes, tree_entered}
 use Rattle.rart_nodes.specs.tries.Tree.{tree_lookup, tree_pairs, IsCanonicalTree}
-use Rattle.rart_nodes.specs.tries.Trie.{Trie, node, Children, no_children, child, prefix_of, value_of, pairs_of, children_pairs, own_pair, IsCanonical, AreCanonical, trie_lookup, child_lookup, child_of, child_in}
-use Rattle.rart_nodes.specs.tries.TrieCode.{as_children, node_count, child_count}
+use Rattle.rart_nodes.specs.tries.Trie.{Trie, node, Children, no_children, child, prefix_of, value_of, pairs_of, children_pairs, own_pair, IsCanonical, AreCanonical, looks_up, trie_lookup, child_of, child_in}
+use Rattle.rart_nodes.specs.tries.TrieCode.{node_count, child_count}
 use Rattle.rart_nodes.specs.walks.Tour.{tree_count}
 use Rattle.rart_nodes.proofs.tries.CanonicalTests.{IsCanonical-test, test-IsCanonical, longest_key-append, longest_key-with_prefix}
-use Rattle.rart_nodes.proofs.tries.RestLemmas.{trie_lookup-left, trie_lookup-ended, trie_lookup-followed}
+use Rattle.rart_nodes.proofs.tries.Descents.{descend-left, descend-ended, descend-on}
 use Rattle.rart_nodes.proofs.tries.PairLemmas.{lookup-pairs_of}
 use Rattle.rart_nodes.proofs.walks.ProbeLemmas.{entered_nodes-probe_count, few-entered_nodes}
 
-entered-ended : (r : List ℕ) (f : ℕ → List ℕ → ℕ) → None ≡ slice_get r 0 → entered_behind (Some r) f ≡ 1
-entered-ended [] f h = refl
-entered-ended (b ∷ r) f h = absurd (cc)
-
-entered-followed : (r : List ℕ) (b : ℕ) (f : ℕ → List ℕ → ℕ) → Some b ≡ slice_get r 0 → entered_behind (Some r) f ≡ 1 + f b r
-entered-followed [] b f h = absurd (cc)
-entered-followed (c ∷ r) b f h = let same : b ≡ c = cc in rw same refl
-
 module _ {V : Type 0} where
-  pub child_of-entries : (b : ℕ) (es : List (ℕ × Trie V)) → child_of b (as_children es) ≡ child_at b es
-  child_of-entries b [] = refl
-  child_of-entries b (e ∷ es) = ap (λ r. cond (eqb e.0 b) (Some e.1) r) (child_of-entries b es)
-
   -- the child at a byte is the first one, or one of the others
   pub pick : (z : Bool) (t u : Trie V) (o : Option (Trie V)) → cond z (Some t) o ≡ Some u → (t ≡ u) ⊎ (o ≡ Some u)
   pick true t u o e = inl (cc)
@@ -58,37 +44,16 @@ module _ {V : Type 0} where
   child-falls b (node p v n cs) None e = omega arith
   child-falls b (node p v n cs) (Some u) e = omega (arith, count-of b u cs e)
 
-  -- a child that a byte doesn't reach
-  pub child_of-low : (b low : ℕ) (cs : Children V) → b < low → AreCanonical low cs → child_of b cs ≡ None
-  child_of-low b low no_children h w = refl
-  child_of-low b low (child c t cs) h w = rw (eq-no c b (λ q. omega (arith, w.0))) (child_of-low b (suc c) cs (omega (arith, w.0)) w.3)
-
-  child_lookup-of : (b low : ℕ) (k : List ℕ) (cs : Children V) → AreCanonical low cs → child_lookup b k cs ≡ tree_lookup k (child_of b cs)
-  child_lookup-of b low k no_children w = refl
-  child_lookup-of b low k (child c t cs) w = ⊎_elim
-      (λ h. rw (is_less b c h, eq-no c b (λ q. omega arith), child_of-low b (suc c) cs (omega arith) w.3) refl)
-      (⊎_elim (λ h. rw (is_equal b c h, eq-yes c b (sym h)) refl) (λ h. rw (is_greater b c h, eq-no c b (λ q. omega arith)) (child_lookup-of b (suc c) k cs w.3))) (order b c)
-
-  entered_child-of : (b low : ℕ) (k : List ℕ) (cs : Children V) → AreCanonical low cs → entered_child b k cs ≡ tree_entered k (child_of b cs)
-  entered_child-of b low k no_children w = refl
-  entered_child-of b low k (child c t cs) w = ⊎_elim
-      (λ h. rw (is_less b c h, eq-no c b (λ q. omega arith), child_of-low b (suc c) cs (omega arith) w.3) refl)
-      (⊎_elim (λ h. rw (is_equal b c h, eq-yes c b (sym h)) refl) (λ h. rw (is_greater b c h, eq-no c b (λ q. omega arith)) (entered_child-of b (suc c) k cs w.3))) (order b c)
-
   -- a descent to k at a node t: k leaves the prefix, ends behind it, or goes on by b
   pub step-left : (t : Trie V) (k : List ℕ) → None ≡ strip_prefix (prefix_of t) k → (trie_lookup k t ≡ None) × (entered_nodes k t ≡ 1)
-  step-left (node p v w cs) k e = (trie_lookup-left p k v w cs e, ap (λ o. entered_behind o (λ b r. entered_child b r cs)) (sym e))
+  step-left t k e = (descend-left looks_up t k e, descend-left counts t k e)
 
   pub step-ended : (t : Trie V) (k r : List ℕ) → Some r ≡ strip_prefix (prefix_of t) k → None ≡ slice_get r 0 → (trie_lookup k t ≡ value_of t) × (entered_nodes k t ≡ 1)
-  step-ended (node p v w cs) k r e h = (trie_lookup-ended p k r v w cs e h, ap (λ o. entered_behind o (λ b r. entered_child b r cs)) (sym e) ∙ entered-ended r (λ b r. entered_child b r cs) h)
+  step-ended t k r e h = (descend-ended looks_up t k r e h, descend-ended counts t k r e h)
 
   pub step-on : (t : Trie V) (k r : List ℕ) (b : ℕ) → is_canonical t ≡ true → Some r ≡ strip_prefix (prefix_of t) k → Some b ≡ slice_get r 0
       → (trie_lookup k t ≡ tree_lookup r (child_in b t)) × (entered_nodes k t ≡ 1 + tree_entered r (child_in b t))
-  step-on (node p v w cs) k r b c e h =
-      let below = (IsCanonical-test (node p v w cs) c).2 in (
-        trie_lookup-followed p k r b v w cs e h ∙ child_lookup-of b 0 r cs below,
-        ap (λ o. entered_behind o (λ b r. entered_child b r cs)) (sym e) ∙ entered-followed r b (λ b r. entered_child b r cs) h ∙ ap (λ m. 1 + m) (entered_child-of b 0 r cs below),
-      )
+  step-on t k r b c e h = (descend-on looks_up t k r b c e h, descend-on counts t k r b c e h)
 
   -- what a descent answers and enters, by the tree's pairs
   pub tree_lookup-lookup : (k : List ℕ) (o : Option (Trie V)) → IsCanonicalTree o → tree_lookup k o ≡ lookup k (tree_pairs o)

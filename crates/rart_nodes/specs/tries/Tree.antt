@@ -4,7 +4,7 @@ use Rattle.std.specs.Borrow.{Bor}
 use Rattle.std.specs.Option.{option_copied}
 use Rattle.rart_keys.specs.SortedMap.{keys_of}
 use Rattle.rart_nodes.specs.shapes.Shape.{NodeRecord}
-use Rattle.rart_nodes.specs.tries.Trie.{Trie, pairs_of, nodes_of, trie_lookup, leaf, trie_put, trie_remove, IsCanonical}
+use Rattle.rart_nodes.specs.tries.Trie.{Trie, pairs_of, nodes_of, descend_tree, looks_up, leaf, trie_put, trie_remove, IsCanonical}
 
 -- the pairs of a tree
 abbrev pub tree_pairs : {V : Type 0} → Option (Trie V) → List (List ℕ × V)
@@ -18,8 +18,7 @@ tree_nodes (Some t) = nodes_of t
 
 -- a look-up in it
 abbrev pub tree_lookup : {V : Type 0} → List ℕ → Option (Trie V) → Option V
-tree_lookup k None = None
-tree_lookup k (Some t) = trie_lookup k t
+tree_lookup k o = descend_tree looks_up k o
 
 -- an insertion into it
 abbrev pub tree_put : {V : Type 0} → List ℕ → V → Option (Trie V) → Trie V

@@ -81,20 +81,44 @@ abbrev mutual
   AreCanonical low no_children = Unit {0}
   AreCanonical low (child b t cs) = (low ≤ b) × StartsWith b (prefix_of t) × IsCanonical t × AreCanonical (suc b) cs
 
--- what a node answers, by what is left of the key behind its prefix
-abbrev pub answer_behind : {V : Type 0} → Option (List ℕ) → Option V → (ℕ → List ℕ → Option V) → Option V
-answer_behind None v f = None
-answer_behind (Some []) v f = v
-answer_behind (Some (b ∷ k)) v f = f b (b ∷ k)
+-- what is made of a descent along a key: where it leaves a node's prefix, ends behind it, finds no child, or goes on, of what the child gives
+pub record Descent (V A : Type 0) : Type 0 where
+  pub left : List ℕ → Trie V → A
+  pub ended : Trie V → A
+  pub absent : A
+  pub on : Trie V → A → A
 
--- a look-up, one descent
+-- at a node, by what is left of the key behind its prefix
+abbrev pub behind : {A : Type 0} → A → A → (A → A) → Option (List ℕ) → (ℕ → List ℕ → A) → A
+behind left ended on None f = left
+behind left ended on (Some []) f = ended
+behind left ended on (Some (b ∷ k)) f = on (f b (b ∷ k))
+
 abbrev mutual
-  pub trie_lookup : {V : Type 0} → List ℕ → Trie V → Option V
-  trie_lookup k (node p v c cs) = answer_behind (strip_prefix p k) v (λ b r. child_lookup b r cs)
+  pub descend : {V A : Type 0} → Descent V A → List ℕ → Trie V → A
+  descend d k (node p v n cs) = behind (d.left k (node p v n cs)) (d.ended (node p v n cs)) (d.on (node p v n cs)) (strip_prefix p k) (λ b r. descend_child d b r cs)
 
-  pub child_lookup : {V : Type 0} → ℕ → List ℕ → Children V → Option V
-  child_lookup b k no_children = None
-  child_lookup b k (child c t cs) = match_ordering (nat_cmp b c) None (trie_lookup k t) (child_lookup b k cs)
+  pub descend_child : {V A : Type 0} → Descent V A → ℕ → List ℕ → Children V → A
+  descend_child d b k no_children = d.absent
+  descend_child d b k (child c t cs) = match_ordering (nat_cmp b c) d.absent (descend d k t) (descend_child d b k cs)
+
+-- the same of a tree
+abbrev pub descend_tree : {V A : Type 0} → Descent V A → List ℕ → Option (Trie V) → A
+descend_tree d k None = d.absent
+descend_tree d k (Some t) = descend d k t
+
+-- a look-up
+abbrev pub looks_up : {V : Type 0} → Descent V (Option V)
+looks_up = record { left = λ k t. None; ended = value_of; absent = None; on = λ t x. x }
+
+abbrev pub trie_lookup : {V : Type 0} → List ℕ → Trie V → Option V
+trie_lookup k t = descend looks_up k t
+
+abbrev pub child_lookup : {V : Type 0} → ℕ → List ℕ → Children V → Option V
+child_lookup b k cs = descend_child looks_up b k cs
+
+abbrev pub answer_behind : {V : Type 0} → Option (List ℕ) → Option V → (ℕ → List ℕ → Option V) → Option V
+answer_behind o v f = behind None v (λ x. x) o f
 
 -- a node of the capacity that its children fix
 abbrev pub fitting_node : {V : Type 0} → List ℕ → Option V → Children V → Trie V

@@ -1,32 +1,33 @@
 -- The values that a descent along a string passes, with the bytes up to each.
 use Rattle.std.specs.Prelude.{ℕ, ◌≡◌, ◌+◌, ◌<◌, ◌≤◌, List, [], ◌∷◌, ◌++◌, length, take, drop, Option, Some, None, MatchOption, option_map}
-use Rattle.std.specs.Ordering.{nat_cmp, match_ordering}
-use Rattle.rart_keys.specs.ByteStrings.{strip_prefix}
 use Rattle.rart_keys.specs.declared.partials.Partial.{Ghosts}
 use Rattle.rart_nodes.specs.declared.node.matching.Matching.{Matching}
 use Rattle.rart_nodes.specs.declared.node.seen.Shared.{Shared}
-use Rattle.rart_nodes.specs.tries.Trie.{Trie, node, Children, no_children, child, own_pair, value_of, with_prefix}
+use Rattle.rart_nodes.specs.tries.Trie.{Trie, Children, Descent, behind, descend, descend_child, descend_tree, own_pair, prefix_of, value_of, with_prefix}
 use Rattle.rart_nodes.specs.tries.TrieCode.{node_count}
 use Rattle.rart_nodes.specs.walks.ProbeCount.{tree_entered}
 use Rattle.rart_nodes.specs.walks.Tour.{tree_count}
 
--- by what is left of the string behind the node's prefix p
+-- of a node its own pair, in front of what lies below it
+abbrev pub collects : {V : Type 0} → Descent V (List (List ℕ × V))
+collects = record {
+  left = λ k t. [];
+  ended = λ t. with_prefix (prefix_of t) (own_pair (value_of t));
+  absent = [];
+  on = λ t es. with_prefix (prefix_of t) (own_pair (value_of t) ++ es);
+}
+
+abbrev pub trie_matches : {V : Type 0} → List ℕ → Trie V → List (List ℕ × V)
+trie_matches k t = descend collects k t
+
+abbrev pub child_matches : {V : Type 0} → ℕ → List ℕ → Children V → List (List ℕ × V)
+child_matches b k cs = descend_child collects b k cs
+
 abbrev pub matches_behind : {V : Type 0} → Option (List ℕ) → List ℕ → Option V → (ℕ → List ℕ → List (List ℕ × V)) → List (List ℕ × V)
-matches_behind None p v f = []
-matches_behind (Some []) p v f = with_prefix p (own_pair v)
-matches_behind (Some (b ∷ k)) p v f = with_prefix p (own_pair v ++ f b (b ∷ k))
-
-abbrev mutual
-  pub trie_matches : {V : Type 0} → List ℕ → Trie V → List (List ℕ × V)
-  trie_matches k (node p v n cs) = matches_behind (strip_prefix p k) p v (λ b r. child_matches b r cs)
-
-  pub child_matches : {V : Type 0} → ℕ → List ℕ → Children V → List (List ℕ × V)
-  child_matches b k no_children = []
-  child_matches b k (child c t cs) = match_ordering (nat_cmp b c) [] (trie_matches k t) (child_matches b k cs)
+matches_behind o p v f = behind [] (with_prefix p (own_pair v)) (λ es. with_prefix p (own_pair v ++ es)) o f
 
 abbrev pub tree_matches : {V : Type 0} → List ℕ → Option (Trie V) → List (List ℕ × V)
-tree_matches k None = []
-tree_matches k (Some t) = trie_matches k t
+tree_matches k o = descend_tree collects k o
 
 -- what a descent along q has still to pass, where it stands before the tree o behind the first d bytes
 abbrev pub matches_ahead : {V : Type 0} → List ℕ → ℕ → Option (Trie V) → List (List ℕ × V)

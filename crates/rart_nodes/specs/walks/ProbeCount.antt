@@ -1,10 +1,8 @@
 -- How many nodes a look-up enters.
 use Rattle.std.specs.Prelude.{ℕ, ◌≡◌, ◌≤◌, ◌+◌, ◌==◌, List, [], ◌∷◌, Option, Some, None, MatchOption, if◌then◌else◌}
-use Rattle.std.specs.Ordering.{nat_cmp, match_ordering}
 use Rattle.std.specs.List.{list_any}
-use Rattle.rart_keys.specs.ByteStrings.{strip_prefix}
 use Rattle.rart_nodes.specs.shapes.Shape.{NodeRecord, record_at}
-use Rattle.rart_nodes.specs.tries.Trie.{Trie, node, Children, no_children, child}
+use Rattle.rart_nodes.specs.tries.Trie.{Trie, Children, Descent, behind, descend, descend_child, descend_tree}
 
 -- 1 where there is a branch point from which keys go on by b
 abbrev pub goes_on : Option NodeRecord → ℕ → ℕ
@@ -22,24 +20,21 @@ probe_count [] q = 0
 probe_count (k ∷ s) q = 1 + steps_along (record_at (k ∷ s)) q
 
 -- the nodes that a descent enters
+abbrev pub counts : {V : Type 0} → Descent V ℕ
+counts = record { left = λ k t. 1; ended = λ t. 1; absent = 0; on = λ t n. 1 + n }
+
+abbrev pub entered_nodes : {V : Type 0} → List ℕ → Trie V → ℕ
+entered_nodes k t = descend counts k t
+
+abbrev pub entered_child : {V : Type 0} → ℕ → List ℕ → Children V → ℕ
+entered_child b k cs = descend_child counts b k cs
+
 abbrev pub entered_behind : Option (List ℕ) → (ℕ → List ℕ → ℕ) → ℕ
-entered_behind None f = 1
-entered_behind (Some []) f = 1
-entered_behind (Some (b ∷ k)) f = 1 + f b (b ∷ k)
-
--- the nodes that the descent to k enters
-abbrev mutual
-  pub entered_nodes : {V : Type 0} → List ℕ → Trie V → ℕ
-  entered_nodes k (node p v n cs) = entered_behind (strip_prefix p k) (λ b r. entered_child b r cs)
-
-  pub entered_child : {V : Type 0} → ℕ → List ℕ → Children V → ℕ
-  entered_child b k no_children = 0
-  entered_child b k (child c t cs) = match_ordering (nat_cmp b c) 0 (entered_nodes k t) (entered_child b k cs)
+entered_behind o f = behind 1 1 (λ n. 1 + n) o f
 
 -- the same of a tree
 abbrev pub tree_entered : {V : Type 0} → List ℕ → Option (Trie V) → ℕ
-tree_entered k None = 0
-tree_entered k (Some t) = entered_nodes k t
+tree_entered k o = descend_tree counts k o
 
 -- where a step gave x the count rose by `most x` at most, and else it stayed
 abbrev pub VisitsAtMost : {A : Type 0} → (A → ℕ) → ℕ → Option A → ℕ → Type 0

@@ -5,7 +5,7 @@ use Rattle.rart_nodes.specs.storages.Widths.{narrowed}
 use Rattle.rart_nodes.proofs.storages.ChildLemmas.{edges_of-length}
 use Rattle.rart_nodes.proofs.edits.Outcomes.{err-any}
 use Rattle.rart_nodes.proofs.edits.JoinLemmas.{joins-without, some-there, without-none, without-joined, without-wide}
-use Rattle.rart_nodes.proofs.walks.SeenLemmas.{child_of-entries}
+use Rattle.rart_nodes.proofs.tries.Descents.{child_of-entries}
 use Rattle.rart_nodes.proofs.node.DefaultNode.take_child.Goals as goal
 use Rattle.rart_nodes.proofs.node.DefaultNode.take_child.Goals.{then-narrow, else-narrow}
 

@@ -3,7 +3,7 @@ use Rattle.rart_parts.specs.Entries.{child_at, with_entry}
 use Rattle.rart_nodes.specs.storages.Stored.{stored, width_of}
 use Rattle.rart_nodes.proofs.storages.ChildLemmas.{edges_of-length}
 use Rattle.rart_nodes.proofs.edits.NodeEditLemmas.{with_child-is}
-use Rattle.rart_nodes.proofs.walks.SeenLemmas.{child_of-entries}
+use Rattle.rart_nodes.proofs.tries.Descents.{child_of-entries}
 use Rattle.rart_nodes.proofs.node.made.DefaultNodeNode.add_child.Goals as goal
 
 pub make_room-requires : goal.make_room-requires

@@ -7,7 +7,7 @@ use Rattle.rart_nodes.specs.tries.TrieCode.{as_children}
 use Rattle.rart_nodes.specs.storages.Stored.{stored, width_of}
 use Rattle.rart_nodes.proofs.edits.ChildChangeLemmas.{with_child_value-is}
 use Rattle.rart_nodes.proofs.edits.InsertLemmas.{child-put_back}
-use Rattle.rart_nodes.proofs.walks.SeenLemmas.{child_of-entries}
+use Rattle.rart_nodes.proofs.tries.Descents.{child_of-entries}
 use Rattle.rart_nodes.proofs.node.made.DefaultNodeNode.child_value_mut.Goals as goal
 
 some-any : {A P : Type 0} (r : Option A) → P → OnSome r P

@@ -2,7 +2,7 @@ use Rattle.std.proofs.Common.{◌∙◌, sym, ap}
 use Rattle.rart_parts.specs.Entries.{replaced}
 use Rattle.rart_nodes.specs.storages.Stored.{stored, width_of}
 use Rattle.rart_nodes.proofs.edits.ChildChangeLemmas.{with_child_replaced-is}
-use Rattle.rart_nodes.proofs.walks.SeenLemmas.{child_of-entries}
+use Rattle.rart_nodes.proofs.tries.Descents.{child_of-entries}
 use Rattle.rart_nodes.proofs.node.made.DefaultNodeNode.replace_child.Goals.{in-Some, in-None}
 use Rattle.rart_nodes.proofs.node.made.DefaultNodeNode.replace_child.Goals as goal
 

@@ -1,7 +1,7 @@
 use Rattle.std.proofs.Common.{◌∙◌, sym}
 use Rattle.rart_nodes.specs.storages.Stored.{stored}
 use Rattle.rart_nodes.proofs.edits.NodeEditLemmas.{same-option}
-use Rattle.rart_nodes.proofs.walks.SeenLemmas.{child_of-entries}
+use Rattle.rart_nodes.proofs.tries.Descents.{child_of-entries}
 use Rattle.rart_nodes.proofs.node.made.DefaultNodeNode.seek_child.Goals as goal
 
 pub returns : goal.returns
