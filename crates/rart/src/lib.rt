@@ -31,7 +31,7 @@ pub use crate::tree::update::TryUpdateError;
 pub use rart_keys::{ArrPartial, ArrayKey, KeyTrait, Partial, keys, partials};
 pub use rart_nodes::node::{VisitControl, VisitError};
 pub use rart_nodes::{
-    Count, LendingKeyBytes, LendingKeyView, NotInserted, Refused, Seen, Slot, SlotUpdate,
+    Count, LendingKeyBytes, LendingKeyView, NotInserted, Paired, Refused, Seen, Slot, SlotUpdate,
     UpdateError, Visits, node,
 };
 pub use rart_parts::{TreeError, mapping, utils};

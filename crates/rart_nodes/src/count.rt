@@ -3,7 +3,7 @@
 //! Two proofs by hand name the paths of this module, so nothing in it is renamed.
 ghost use Rattle.std.specs.Prelude.{◌≡◌, ℕ, ◌+◌};
 
-use std::marker::Model;
+use std::marker::{Model, PhantomData};
 
 /// What a contract sees as a number. Code that is generic in a `Count` can neither make one nor set
 /// it back: it can only add one.
@@ -49,3 +49,10 @@ impl Count for Visits {
 }
 
 const _: () = prove!(std::mem::size_of::<Visits>() == 0);
+
+/// Marks the other tree of an intersection, whose visits a `C` counts as well. It is no `Count`: a
+/// node of that tree is visited together with one of the first tree, or alone on the way to such a
+/// pair, and a tree and itself are no pair.
+pub struct Paired<C> {
+    of: PhantomData<C>,
+}

@@ -12,7 +12,7 @@ pub mod shape;
 pub mod slot;
 pub mod stats;
 
-pub use count::{Count, Visits};
+pub use count::{Count, Paired, Visits};
 pub use node::seen::Seen;
 pub use node::{LendingKeyBytes, LendingKeyView, VisitControl, VisitError, iter, range};
 pub use refused::{NotInserted, Refused};

@@ -14,9 +14,9 @@ abbrev pub EntersBehind : {P V C : Type 0} {G : Ghosts P} → ℕ → Option (Tr
 EntersBehind b o r = MatchOption r (o ≡ None) (λ e. (o ≡ Some e.0.node.now) × (e.1.now ≡ b ∷ []) × (prefix_of e.0.node.now ≡ b ∷ e.2.now))
 
 -- from the nodes t and u the walk came to a fork, and its way went along; or the two have nothing in common
-abbrev pub FindsFork : {P V W C : Type 0} {G : Ghosts P} → Trie V → Trie W → Kept → Option (Entered P V C G × Entered P W C G) → Kept → Type 0
+abbrev pub FindsFork : {P V W C D : Type 0} {G : Ghosts P} → Trie V → Trie W → Kept → Option (Entered P V C G × Entered P W D G) → Kept → Type 0
 FindsFork t u k r k' = (p : List ℕ) × WayGrown k p k' × MatchOption r (meet t u ≡ []) (λ e. IsFork t u p e.0.node.now e.1.node.now)
 
 -- the visits from t and u on: those that it took to come there, and those that are then ahead
-abbrev pub VisitsFork : {P V W C : Type 0} {G : Ghosts P} → Trie V → Trie W → ℕ → Option (Entered P V C G × Entered P W C G) → ℕ → Type 0
+abbrev pub VisitsFork : {P V W C D : Type 0} {G : Ghosts P} → Trie V → Trie W → ℕ → Option (Entered P V C G × Entered P W D G) → ℕ → Type 0
 VisitsFork t u n r n' = MatchOption r (n' ≡ n + more_visits t u) (λ e. n' + visits_all (twins_right e.0.node.now (children_in e.1.node.now)) ≡ n + more_visits t u)

@@ -12,5 +12,5 @@ twins_ahead (OverLeft branches) t u = twins_left branches u
 twins_ahead (OverRight branches) t u = twins_right t branches
 
 -- a walk with these twins ahead came from s to s': it entered the first of them, or there were none
-abbrev pub EntersTwins : {P V W C S : Type 0} {G : Ghosts P} → (S → List (Trie V × Trie W)) → S → Option (Entered P V C G × Entered P W C G) → S → Type 0
+abbrev pub EntersTwins : {P V W C D S : Type 0} {G : Ghosts P} → (S → List (Trie V × Trie W)) → S → Option (Entered P V C G × Entered P W D G) → S → Type 0
 EntersTwins ahead s r s' = MatchOption r (ahead s ≡ []) (λ e. ahead s ≡ (e.0.node.now, e.1.node.now) ∷ ahead s')

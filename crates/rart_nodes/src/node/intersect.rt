@@ -18,7 +18,7 @@ mod meeting;
 mod twins;
 mod way;
 
-use crate::count::Count;
+use crate::count::{Count, Paired};
 use crate::node::intersect::fork::next_fork;
 use crate::node::intersect::meeting::{ByKeys, ByValues, ByViews, Counted, Meeting, give_both};
 use crate::node::intersect::twins::Twins;
@@ -31,7 +31,7 @@ use rart_parts::TreeError;
 /// Gives the pairs of both trees below two nodes just visited. The way then is as it was.
 fn meet_below<'a, P: Partial, V, W, C: Count, F, T: Meeting<V, W, F>>(
     left: Entered<'a, P, V, C>,
-    right: Entered<'_, P, W, C>,
+    right: Entered<'_, P, W, Paired<C>>,
     way: &mut Way<'a>,
     counter: &mut C,
     f: &mut F,
@@ -63,7 +63,7 @@ fn meet_below<'a, P: Partial, V, W, C: Count, F, T: Meeting<V, W, F>>(
 /// Gives the pairs of both trees.
 fn meet_trees<'a, K: KeyTrait, V, W, C: Count, F, T: Meeting<V, W, F>>(
     left: Seen<'a, K, V, C>,
-    right: Seen<'_, K, W, C>,
+    right: Seen<'_, K, W, Paired<C>>,
     way: &mut Way<'a>,
     counter: &mut C,
     f: &mut F,
@@ -89,7 +89,11 @@ impl<'a, K: KeyTrait, V, C: Count> Seen<'a, K, V, C> {
     /// How many keys both trees have; where that is no `usize`, the greatest. Takes no memory. It visits
     /// no node where a tree is empty, and else the two roots together and one more node or pair for each
     /// edge that both trees share: fewer than both trees have nodes.
-    pub fn intersect_count_counted<'b, W>(self, other: Seen<'b, K, W, C>, counter: &mut C) -> usize
+    pub fn intersect_count_counted<'b, W>(
+        self,
+        other: Seen<'b, K, W, Paired<C>>,
+        counter: &mut C,
+    ) -> usize
         ensures count { result ≡ min (length (seen_join self.entry.root other.entry.root)) usize.MAX }
         ensures visits { C.number counter.new ≡ C.number counter.old + seen_visits self.entry.root other.entry.root }
         ensures bound { C.number counter.new ≤ C.number counter.old + seen_bound self.entry.root other.entry.root }
@@ -110,7 +114,7 @@ impl<'a, K: KeyTrait, V, C: Count> Seen<'a, K, V, C> {
     /// memory, and visits what `intersect_count_counted` does.
     pub fn intersect_values_with_by_ref_counted<'b, W, F: FnMut(&V, &W)>(
         self,
-        other: Seen<'b, K, W, C>,
+        other: Seen<'b, K, W, Paired<C>>,
         f: &mut F,
         counter: &mut C,
     )
@@ -126,7 +130,7 @@ impl<'a, K: KeyTrait, V, C: Count> Seen<'a, K, V, C> {
     /// Calls `f` as `intersect_values_with_by_ref_counted` does; `f` is gone after the call.
     pub fn intersect_values_with_counted<'b, W, F: FnMut(&V, &W) + Drop>(
         self,
-        other: Seen<'b, K, W, C>,
+        other: Seen<'b, K, W, Paired<C>>,
         mut f: F,
         counter: &mut C,
     )
@@ -143,7 +147,7 @@ impl<'a, K: KeyTrait, V, C: Count> Seen<'a, K, V, C> {
     /// nothing was visited, and `f` was not called.
     pub fn intersect_with_by_ref_counted<'b, W, F: FnMut(K, &V, &W)>(
         self,
-        other: Seen<'b, K, W, C>,
+        other: Seen<'b, K, W, Paired<C>>,
         f: &mut F,
         counter: &mut C,
     ) -> Result<(), TreeError>
@@ -170,7 +174,7 @@ impl<'a, K: KeyTrait, V, C: Count> Seen<'a, K, V, C> {
     /// Calls `f` as `intersect_with_by_ref_counted` does; `f` is gone after the call.
     pub fn intersect_with_counted<'b, W, F: FnMut(K, &V, &W) + Drop>(
         self,
-        other: Seen<'b, K, W, C>,
+        other: Seen<'b, K, W, Paired<C>>,
         mut f: F,
         counter: &mut C,
     ) -> Result<(), TreeError>
@@ -188,7 +192,7 @@ impl<'a, K: KeyTrait, V, C: Count> Seen<'a, K, V, C> {
     /// that both prefixes of a pair have, or the byte by which a longer one is gone on with.
     pub fn intersect_lending_with_by_ref_counted<'b, W, F: FnMut(LendingKeyView<'_, '_>, &V, &W)>(
         self,
-        other: Seen<'b, K, W, C>,
+        other: Seen<'b, K, W, Paired<C>>,
         f: &mut F,
         counter: &mut C,
     ) -> Result<(), TreeError>
@@ -215,7 +219,7 @@ impl<'a, K: KeyTrait, V, C: Count> Seen<'a, K, V, C> {
     /// Calls `f` as `intersect_lending_with_by_ref_counted` does; `f` is gone after the call.
     pub fn intersect_lending_with_counted<'b, W, F: FnMut(LendingKeyView<'_, '_>, &V, &W) + Drop>(
         self,
-        other: Seen<'b, K, W, C>,
+        other: Seen<'b, K, W, Paired<C>>,
         mut f: F,
         counter: &mut C,
     ) -> Result<(), TreeError>

@@ -83,7 +83,8 @@ impl<'a, K: KeyTrait, V, C: Count> SeenIter<'a, K, V, C> {
 /// The pairs of a tree, ascending by key. `P` is what the nodes keep of keys `K`.
 #[derive(Drop)]
 pub struct Iter<'a, K: KeyTrait, P: Partial, V> {
-    pairs: KeyTour<'a, K, P, V, Visits>,
+    pairs: SeenIter<'a, K, V, Visits>,
+    of: PhantomData<P>,
 }
 
 impl<'a, K: KeyTrait, P: Partial, V> Model for Iter<'a, K, P, V> {
@@ -96,10 +97,10 @@ impl<'a, K: KeyTrait, P: Partial, V> Model for Iter<'a, K, P, V> {
 
 impl<'a, K: KeyTrait, P: Partial, V> Iter<'a, K, P, V> {
     /// The walk that is left.
-    pub(crate) fn into_walk(self) -> KeyTour<'a, K, P, V, Visits>
+    pub(crate) fn into_walk(self) -> KeyTour<'a, K, K::PartialType, V, Visits>
         ensures { result ≡ self.entry }
     {
-        self.pairs
+        self.pairs.pairs
     }
 }
 
@@ -117,7 +118,7 @@ impl<'a, K: KeyTrait, P: Partial, V> Iterator for Iter<'a, K, P, V> {
 
     /// The next pair. After `None` always `None`. Takes no memory.
     fn next(&mut self) -> Option<(K, &'a V)> {
-        self.pairs.step(&mut Visits::new())
+        self.pairs.next_counted(&mut Visits::new())
     }
 }
 
@@ -249,8 +250,11 @@ impl<'a, K: KeyTrait, V> Seen<'a, K, V, Visits> {
         ensures pairs { IfOk result (λ it. it ≡ below (K.bytes prefix.now) (seen_pairs self.entry.root)) }
         ensures memory { IfErr result (MayLackRoom (seen_pairs self.entry.root)) }
     {
-        let pairs = self.keys_tour_below(prefix.as_ref(), &mut Visits::new())?;
-        Ok(Iter { pairs })
+        let pairs = self.prefix_iter_k_counted(prefix, &mut Visits::new())?;
+        Ok(Iter {
+            pairs,
+            of: PhantomData,
+        })
     }
 
     /// An iterator over all pairs. It takes its room as `iter_counted` does.
@@ -258,8 +262,11 @@ impl<'a, K: KeyTrait, V> Seen<'a, K, V, Visits> {
         ensures pairs { IfOk result (λ it. it ≡ seen_pairs self.entry.root) }
         ensures memory { IfErr result (MayLackRoom (seen_pairs self.entry.root)) }
     {
-        let pairs = self.keys_tour(&mut Visits::new())?;
-        Ok(Iter { pairs })
+        let pairs = self.iter_counted(&mut Visits::new())?;
+        Ok(Iter {
+            pairs,
+            of: PhantomData,
+        })
     }
 
     /// An iterator over all values. It takes its room as `iter_counted` does.

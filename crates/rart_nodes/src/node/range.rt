@@ -102,7 +102,7 @@ impl<'a, K: KeyTrait + Drop, P: Partial, V, C: Count> Ended<'a, K, P, V, C> {
 /// The pairs within two bounds, ascending by key.
 #[derive(Drop)]
 pub struct Range<'a, K: KeyTrait, V> {
-    pairs: Ended<'a, K, K::PartialType, V, Visits>,
+    pairs: SeenRange<'a, K, V, Visits>,
 }
 
 impl<'a, K: KeyTrait, V> Model for Range<'a, K, V> {
@@ -119,11 +119,12 @@ impl<'a, K: KeyTrait, V> Range<'a, K, V> {
     pub fn empty() -> Self
         ensures { up_to result.0 result.1 ≡ [] }
     {
+        let pairs = Ended {
+            walk: Rest::Over,
+            end: Bound::Unbounded,
+        };
         Range {
-            pairs: Ended {
-                walk: Rest::Over,
-                end: Bound::Unbounded,
-            },
+            pairs: SeenRange { pairs },
         }
     }
 
@@ -132,11 +133,12 @@ impl<'a, K: KeyTrait, V> Range<'a, K, V> {
         ensures end { result.0 ≡ bound_in K.bytes end }
         ensures pairs { result.1 ≡ iter.entry }
     {
+        let pairs = Ended {
+            walk: Rest::Ahead(iter.into_walk()),
+            end,
+        };
         Range {
-            pairs: Ended {
-                walk: Rest::Ahead(iter.into_walk()),
-                end,
-            },
+            pairs: SeenRange { pairs },
         }
     }
 }
@@ -155,7 +157,7 @@ impl<'a, K: KeyTrait + Drop, V> Iterator for Range<'a, K, V> {
 
     /// The next pair. After `None` always `None`, and nothing is walked then. Takes no memory.
     fn next(&mut self) -> Option<(K, &'a V)> {
-        self.pairs.step(&mut Visits::new())
+        self.pairs.next_counted(&mut Visits::new())
     }
 }
 
@@ -235,7 +237,7 @@ impl<'a, K: KeyTrait + Drop, V> Seen<'a, K, V, Visits> {
         ensures pairs { IfOk result (λ r. up_to r.0 r.1 ≡ between (bound_in K.bytes start) (bound_in K.bytes end) (seen_pairs self.entry.root)) }
         ensures memory { IfErr result (MayLackRoom (seen_pairs self.entry.root)) }
     {
-        let pairs = self.ended_walk(start, end, &mut Visits::new())?;
+        let pairs = self.range_counted(start, end, &mut Visits::new())?;
         Ok(Range { pairs })
     }
 }

@@ -13,7 +13,7 @@ ghost use Rattle.rart_nodes.specs.tries.CanonicalTest.{is_canonical, is_canonica
 ghost use Rattle.rart_nodes.specs.tries.Tree.{IsCanonicalTree, seen_pairs};
 ghost use Rattle.rart_nodes.specs.tries.Trie.{child, child_in, children_in, edges_of, no_children, prefix_of, value_of};
 
-use crate::count::Count;
+use crate::count::{Count, Paired};
 use crate::node::{DefaultNode, Node, NodeIter};
 use rart_keys::{KeyTrait, Partial};
 use std::alloc::{AllocError, Global};
@@ -171,9 +171,9 @@ impl<'a, P: Partial, V, C: Count> Shared<'a, P, V, C> {
     /// Visits two nodes together, one of each of two trees, which adds one to the counter.
     pub(crate) fn enter_pair<'b, W>(
         self,
-        other: Shared<'b, P, W, C>,
+        other: Shared<'b, P, W, Paired<C>>,
         counter: &mut C,
-    ) -> (Entered<'a, P, V, C>, Entered<'b, P, W, C>)
+    ) -> (Entered<'a, P, V, C>, Entered<'b, P, W, Paired<C>>)
         ensures left { result.0.node.now ≡ self.entry.node.now }
         ensures right { result.1.node.now ≡ other.entry.node.now }
         ensures counted { C.number counter.new ≡ C.number counter.old + 1 }
@@ -183,6 +183,20 @@ impl<'a, P: Partial, V, C: Count> Shared<'a, P, V, C> {
             of: PhantomData,
         };
         (self.enter(counter), right)
+    }
+}
+
+impl<'a, P: Partial, V, C: Count> Shared<'a, P, V, Paired<C>> {
+    /// Visits a node of the other tree alone, which adds one to the counter.
+    pub(crate) fn enter_other(self, counter: &mut C) -> Entered<'a, P, V, Paired<C>>
+        ensures shown { result.node.now ≡ self.entry.node.now }
+        ensures counted { C.number counter.new ≡ C.number counter.old + 1 }
+    {
+        counter.add_one();
+        Entered {
+            node: self.node,
+            of: PhantomData,
+        }
     }
 }
 

@@ -9,30 +9,30 @@ fn seen(tree: &Tree) -> Seen<'_, Key, u64, Visits> {
 }
 
 fn counts_and_values(left: &Tree, right: &Tree, wanted: &[Triple]) -> bool {
-    let count = seen(left).intersect_count_counted(seen(right), &mut Visits::new());
+    let count = seen(left).intersect_count_counted(right.seen(), &mut Visits::new());
     let mut given = Given::nothing(wanted, false);
     seen(left).intersect_values_with_counted(
-        seen(right),
+        right.seen(),
         |one: &u64, other: &u64| given.values(*one, *other),
         &mut Visits::new(),
     );
     let mut lent = Given::nothing(wanted, false);
     let mut give = |one: &u64, other: &u64| lent.values(*one, *other);
-    seen(left).intersect_values_with_by_ref_counted(seen(right), &mut give, &mut Visits::new());
+    seen(left).intersect_values_with_by_ref_counted(right.seen(), &mut give, &mut Visits::new());
     count == wanted.len() && given.all() && lent.all()
 }
 
 fn keys(left: &Tree, right: &Tree, wanted: &[Triple]) -> bool {
     let mut given = Given::nothing(wanted, false);
     let answer = seen(left).intersect_with_counted(
-        seen(right),
+        right.seen(),
         |key: Key, one: &u64, other: &u64| given.pair(key.as_ref(), *one, *other),
         &mut Visits::new(),
     );
     let mut lent = Given::nothing(wanted, false);
     let mut give = |key: Key, one: &u64, other: &u64| lent.pair(key.as_ref(), *one, *other);
     let by_ref = seen(left).intersect_with_by_ref_counted(
-        seen(right),
+        right.seen(),
         &mut give,
         &mut Visits::new(),
     );
@@ -42,7 +42,7 @@ fn keys(left: &Tree, right: &Tree, wanted: &[Triple]) -> bool {
 fn views(left: &Tree, right: &Tree, wanted: &[Triple]) -> bool {
     let mut given = Given::nothing(wanted, false);
     let answer = seen(left).intersect_lending_with_counted(
-        seen(right),
+        right.seen(),
         |key: LendingKeyView<'_, '_>, one: &u64, other: &u64| given.view(key, *one, *other),
         &mut Visits::new(),
     );
@@ -51,7 +51,7 @@ fn views(left: &Tree, right: &Tree, wanted: &[Triple]) -> bool {
         lent.view(key, *one, *other);
     };
     let by_ref = seen(left).intersect_lending_with_by_ref_counted(
-        seen(right),
+        right.seen(),
         &mut give,
         &mut Visits::new(),
     );

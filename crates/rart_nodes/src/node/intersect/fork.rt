@@ -6,7 +6,7 @@ ghost use Rattle.rart_nodes.specs.joins.Twins.{IsParted};
 ghost use Rattle.rart_nodes.specs.joins.Ways.{WayRoom};
 ghost use Rattle.rart_nodes.specs.tries.Trie.{child_in, pairs_of};
 
-use crate::count::Count;
+use crate::count::{Count, Paired};
 use crate::node::intersect::way::Way;
 use crate::node::seen::Entered;
 use rart_keys::{Partial, common_prefix_length};
@@ -30,7 +30,7 @@ fn next_byte(rest: &[u8]) -> Option<(u8, &[u8], &[u8])>
     Some((rest[0], edge, behind))
 }
 
-/// Visits the child at `byte`, and gives with it that byte as a piece of its prefix, and the rest of it.
+/// Visits the child at `byte` of a left node, and gives with it that byte as a piece of its prefix, and the rest of it.
 fn enter_behind<'a, P: Partial, V, C: Count>(
     at: Entered<'a, P, V, C>,
     byte: u8,
@@ -46,15 +46,31 @@ fn enter_behind<'a, P: Partial, V, C: Count>(
     Some((child, edge, rest))
 }
 
+/// Visits the child at `byte` of a right node, as `enter_behind` does of a left one.
+fn enter_other_behind<'b, P: Partial, W, C: Count>(
+    at: Entered<'b, P, W, Paired<C>>,
+    byte: u8,
+    counter: &mut C,
+) -> Option<(Entered<'b, P, W, Paired<C>>, &'b [u8], &'b [u8])>
+    ensures shown { EntersBehind byte (child_in byte at.entry.node.now) result }
+    ensures counted { C.number counter.new ≡ C.number counter.old + count_of result }
+{
+    let child = at.child(byte)?.enter_other(counter);
+    let Some((_, edge, rest)) = next_byte(child.prefix().to_slice()) else {
+        unreachable!()
+    };
+    Some((child, edge, rest))
+}
+
 /// Goes on from two nodes just visited to the next two whose prefixes end together: where one prefix
 /// is longer, on inside it with the other node's child, which is visited alone. The way goes along.
 /// `None` where the two part before, or there is no such child.
 pub(crate) fn next_fork<'a, 'b, P: Partial, V, W, C: Count>(
     left: Entered<'a, P, V, C>,
-    right: Entered<'b, P, W, C>,
+    right: Entered<'b, P, W, Paired<C>>,
     way: &mut Way<'a>,
     counter: &mut C,
-) -> Option<(Entered<'a, P, V, C>, Entered<'b, P, W, C>)>
+) -> Option<(Entered<'a, P, V, C>, Entered<'b, P, W, Paired<C>>)>
     requires { WayRoom way.old (longest_key (pairs_of left.node.now)) }
     ensures way { FindsFork left.entry.node.now right.entry.node.now way.old result way.new }
     ensures visits { VisitsFork left.entry.node.now right.entry.node.now (C.number counter.old) result (C.number counter.new) }
@@ -83,7 +99,7 @@ pub(crate) fn next_fork<'a, 'b, P: Partial, V, W, C: Count>(
                 if !right_on.is_empty() {
                     return None;
                 }
-                let Some((child, _, rest)) = enter_behind(right, byte, counter) else {
+                let Some((child, _, rest)) = enter_other_behind(right, byte, counter) else {
                     return None;
                 };
                 way.grow(edge);

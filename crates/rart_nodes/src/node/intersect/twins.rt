@@ -5,7 +5,7 @@ ghost use Rattle.rart_nodes.specs.joins.Twins.{twins_left, twins_right};
 ghost use Rattle.rart_nodes.specs.joins.TwinsAhead.{EntersTwins, twins_ahead};
 ghost use Rattle.rart_nodes.specs.tries.Trie.{children_in};
 
-use crate::count::Count;
+use crate::count::{Count, Paired};
 use crate::node::seen::{Branches, Entered};
 use rart_keys::Partial;
 
@@ -15,14 +15,14 @@ pub(crate) enum Twins<'a, 'b, P: Partial, V, W, C> {
     /// Those of the left node.
     OverLeft(Branches<'a, P, V, C>),
     /// Those of the right node.
-    OverRight(Branches<'b, P, W, C>),
+    OverRight(Branches<'b, P, W, Paired<C>>),
 }
 
 fn next_over_left<'a, 'b, P: Partial, V, W, C: Count>(
     branches: &mut Branches<'a, P, V, C>,
-    right: Entered<'b, P, W, C>,
+    right: Entered<'b, P, W, Paired<C>>,
     counter: &mut C,
-) -> Option<(Entered<'a, P, V, C>, Entered<'b, P, W, C>)>
+) -> Option<(Entered<'a, P, V, C>, Entered<'b, P, W, Paired<C>>)>
     ensures twins { EntersTwins (λ s. twins_left s right.entry.node.now) branches.old result branches.new }
     ensures counted { C.number counter.new ≡ C.number counter.old + count_of result }
 {
@@ -36,9 +36,9 @@ fn next_over_left<'a, 'b, P: Partial, V, W, C: Count>(
 
 fn next_over_right<'a, 'b, P: Partial, V, W, C: Count>(
     left: Entered<'a, P, V, C>,
-    branches: &mut Branches<'b, P, W, C>,
+    branches: &mut Branches<'b, P, W, Paired<C>>,
     counter: &mut C,
-) -> Option<(Entered<'a, P, V, C>, Entered<'b, P, W, C>)>
+) -> Option<(Entered<'a, P, V, C>, Entered<'b, P, W, Paired<C>>)>
     ensures twins { EntersTwins (twins_right left.entry.node.now) branches.old result branches.new }
     ensures counted { C.number counter.new ≡ C.number counter.old + count_of result }
 {
@@ -52,7 +52,7 @@ fn next_over_right<'a, 'b, P: Partial, V, W, C: Count>(
 
 impl<'a, 'b, P: Partial, V, W, C: Count> Twins<'a, 'b, P, V, W, C> {
     /// The children of the node that has fewer. Visits nothing yet.
-    pub(crate) fn of(left: Entered<'a, P, V, C>, right: Entered<'b, P, W, C>) -> Self
+    pub(crate) fn of(left: Entered<'a, P, V, C>, right: Entered<'b, P, W, Paired<C>>) -> Self
         ensures { twins_ahead result left.entry.node.now right.entry.node.now ≡ twins_right left.entry.node.now (children_in right.entry.node.now) }
     {
         if left.num_children() < right.num_children() {
@@ -67,9 +67,9 @@ impl<'a, 'b, P: Partial, V, W, C: Count> Twins<'a, 'b, P, V, W, C> {
     pub(crate) fn enter_next(
         &mut self,
         left: Entered<'a, P, V, C>,
-        right: Entered<'b, P, W, C>,
+        right: Entered<'b, P, W, Paired<C>>,
         counter: &mut C,
-    ) -> Option<(Entered<'a, P, V, C>, Entered<'b, P, W, C>)>
+    ) -> Option<(Entered<'a, P, V, C>, Entered<'b, P, W, Paired<C>>)>
         ensures twins { EntersTwins (λ s. twins_ahead s left.entry.node.now right.entry.node.now) self.old result self.new }
         ensures counted { C.number counter.new ≡ C.number counter.old + count_of result }
     {

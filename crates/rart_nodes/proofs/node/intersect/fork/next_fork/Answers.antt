@@ -87,22 +87,22 @@ returns-then-not-is_empty-clause-visits g c =
     end.visits
 
 -- the right prefix ends first
-pub returns-in_default-enter_behind-2-clause-way : goal.returns-in_default-enter_behind-2-clause-way
-returns-in_default-enter_behind-2-clause-way g c =
+pub returns-in_default-enter_other_behind-clause-way : goal.returns-in_default-enter_other_behind-clause-way
+returns-in_default-enter_other_behind-clause-way g c =
     let inv = c.loop-byte.invariant in
     let at = place-common c.args.left.node.now c.args.right.node.now inv.0 c.part.result.0.now c.part.result.1.now c.part.result.2.now c.loop-byte.left_rest.now c.loop-byte.right_rest.now c.loop-byte.left.node.now c.loop-byte.right.node.now (g.C.Count.number c.loop-byte.counter) (g.C.Count.number c.args.counter.now) c.part.ensures.left_is c.part.ensures.right_is inv.2 in
     let way = way-on _ _ _ inv.0 _ inv.1 c.grow.ensures in
     let none : c.part.result.2.now ≡ [] = nil-when _ _ c.is_empty.ensures c.if-not-is_empty.false in
-    let end = place-right_none c.args.left.node.now c.args.right.node.now (inv.0 ++ c.part.result.0.now) c.part.result.1.now c.part.result.2.now c.in-Some.behind.now c.in-Some.byte c.loop-byte.left.node.now c.loop-byte.right.node.now (g.C.Count.number c.loop-byte.counter) (g.C.Count.number c.args.counter.now) c.loop-byte.right.canonical c.in-Some.ensures.0 none c.in_default-enter_behind-2.ensures.shown at in
+    let end = place-right_none c.args.left.node.now c.args.right.node.now (inv.0 ++ c.part.result.0.now) c.part.result.1.now c.part.result.2.now c.in-Some.behind.now c.in-Some.byte c.loop-byte.left.node.now c.loop-byte.right.node.now (g.C.Count.number c.loop-byte.counter) (g.C.Count.number c.args.counter.now) c.loop-byte.right.canonical c.in-Some.ensures.0 none c.in_default-enter_other_behind.ensures.shown at in
     (inv.0 ++ c.part.result.0.now, way, end.given)
 
-pub returns-in_default-enter_behind-2-clause-visits : goal.returns-in_default-enter_behind-2-clause-visits
-returns-in_default-enter_behind-2-clause-visits g c =
+pub returns-in_default-enter_other_behind-clause-visits : goal.returns-in_default-enter_other_behind-clause-visits
+returns-in_default-enter_other_behind-clause-visits g c =
     let inv = c.loop-byte.invariant in
     let at = place-common c.args.left.node.now c.args.right.node.now inv.0 c.part.result.0.now c.part.result.1.now c.part.result.2.now c.loop-byte.left_rest.now c.loop-byte.right_rest.now c.loop-byte.left.node.now c.loop-byte.right.node.now (g.C.Count.number c.loop-byte.counter) (g.C.Count.number c.args.counter.now) c.part.ensures.left_is c.part.ensures.right_is inv.2 in
     let none : c.part.result.2.now ≡ [] = nil-when _ _ c.is_empty.ensures c.if-not-is_empty.false in
-    let end = place-right_none c.args.left.node.now c.args.right.node.now (inv.0 ++ c.part.result.0.now) c.part.result.1.now c.part.result.2.now c.in-Some.behind.now c.in-Some.byte c.loop-byte.left.node.now c.loop-byte.right.node.now (g.C.Count.number c.loop-byte.counter) (g.C.Count.number c.args.counter.now) c.loop-byte.right.canonical c.in-Some.ensures.0 none c.in_default-enter_behind-2.ensures.shown at in
-    omega (arith, end.visits, c.in_default-enter_behind-2.ensures.counted)
+    let end = place-right_none c.args.left.node.now c.args.right.node.now (inv.0 ++ c.part.result.0.now) c.part.result.1.now c.part.result.2.now c.in-Some.behind.now c.in-Some.byte c.loop-byte.left.node.now c.loop-byte.right.node.now (g.C.Count.number c.loop-byte.counter) (g.C.Count.number c.args.counter.now) c.loop-byte.right.canonical c.in-Some.ensures.0 none c.in_default-enter_other_behind.ensures.shown at in
+    omega (arith, end.visits, c.in_default-enter_other_behind.ensures.counted)
 
 pub grow-requires-in-Some : goal.grow-requires-in-Some
 grow-requires-in-Some g c =
@@ -110,7 +110,7 @@ grow-requires-in-Some g c =
     let at = place-common c.args.left.node.now c.args.right.node.now inv.0 c.part.result.0.now c.part.result.1.now c.part.result.2.now c.loop-byte.left_rest.now c.loop-byte.right_rest.now c.loop-byte.left.node.now c.loop-byte.right.node.now (g.C.Count.number c.loop-byte.counter) (g.C.Count.number c.args.counter.now) c.part.ensures.left_is c.part.ensures.right_is inv.2 in
     let way = way-on _ _ _ inv.0 _ inv.1 c.grow.ensures in
     let none : c.part.result.2.now ≡ [] = nil-when _ _ c.is_empty.ensures c.if-not-is_empty.false in
-    let step = place-right c.args.left.node.now c.args.right.node.now (inv.0 ++ c.part.result.0.now) c.part.result.1.now c.part.result.2.now c.in-Some.behind.now c.in-Some-enter_behind-2.rest.now c.in-Some.byte c.loop-byte.left.node.now c.loop-byte.right.node.now c.in-Some-enter_behind-2.child.node.now (g.C.Count.number c.loop-byte.counter) (g.C.Count.number c.args.counter.now) c.loop-byte.right.canonical c.in-Some.ensures.0 none c.in-Some-enter_behind-2.ensures.shown.0 c.in-Some-enter_behind-2.ensures.shown.2 at in
+    let step = place-right c.args.left.node.now c.args.right.node.now (inv.0 ++ c.part.result.0.now) c.part.result.1.now c.part.result.2.now c.in-Some.behind.now c.in-Some-enter_other_behind.rest.now c.in-Some.byte c.loop-byte.left.node.now c.loop-byte.right.node.now c.in-Some-enter_other_behind.child.node.now (g.C.Count.number c.loop-byte.counter) (g.C.Count.number c.args.counter.now) c.loop-byte.right.canonical c.in-Some.ensures.0 none c.in-Some-enter_other_behind.ensures.shown.0 c.in-Some-enter_other_behind.ensures.shown.2 at in
     way-room _ _ (inv.0 ++ c.part.result.0.now) (longest_key (pairs_of c.args.left.node.now)) (length c.in-Some.edge.now) way c.requires (omega (arith, step.place.short, length-append (inv.0 ++ c.part.result.0.now) (c.in-Some.byte ∷ []), ap length c.in-Some.ensures.1))
 
 pub loop-byte-smaller : goal.loop-byte-smaller
@@ -118,7 +118,7 @@ loop-byte-smaller g c =
     let inv = c.loop-byte.invariant in
     let at = place-common c.args.left.node.now c.args.right.node.now inv.0 c.part.result.0.now c.part.result.1.now c.part.result.2.now c.loop-byte.left_rest.now c.loop-byte.right_rest.now c.loop-byte.left.node.now c.loop-byte.right.node.now (g.C.Count.number c.loop-byte.counter) (g.C.Count.number c.args.counter.now) c.part.ensures.left_is c.part.ensures.right_is inv.2 in
     let none : c.part.result.2.now ≡ [] = nil-when _ _ c.is_empty.ensures c.if-not-is_empty.false in
-    let step = place-right c.args.left.node.now c.args.right.node.now (inv.0 ++ c.part.result.0.now) c.part.result.1.now c.part.result.2.now c.in-Some.behind.now c.in-Some-enter_behind-2.rest.now c.in-Some.byte c.loop-byte.left.node.now c.loop-byte.right.node.now c.in-Some-enter_behind-2.child.node.now (g.C.Count.number c.loop-byte.counter) (g.C.Count.number c.args.counter.now) c.loop-byte.right.canonical c.in-Some.ensures.0 none c.in-Some-enter_behind-2.ensures.shown.0 c.in-Some-enter_behind-2.ensures.shown.2 at in
+    let step = place-right c.args.left.node.now c.args.right.node.now (inv.0 ++ c.part.result.0.now) c.part.result.1.now c.part.result.2.now c.in-Some.behind.now c.in-Some-enter_other_behind.rest.now c.in-Some.byte c.loop-byte.left.node.now c.loop-byte.right.node.now c.in-Some-enter_other_behind.child.node.now (g.C.Count.number c.loop-byte.counter) (g.C.Count.number c.args.counter.now) c.loop-byte.right.canonical c.in-Some.ensures.0 none c.in-Some-enter_other_behind.ensures.shown.0 c.in-Some-enter_other_behind.ensures.shown.2 at in
     step.falls
 
 pub loop-byte-preserved : goal.loop-byte-preserved
@@ -127,5 +127,5 @@ loop-byte-preserved g c =
     let at = place-common c.args.left.node.now c.args.right.node.now inv.0 c.part.result.0.now c.part.result.1.now c.part.result.2.now c.loop-byte.left_rest.now c.loop-byte.right_rest.now c.loop-byte.left.node.now c.loop-byte.right.node.now (g.C.Count.number c.loop-byte.counter) (g.C.Count.number c.args.counter.now) c.part.ensures.left_is c.part.ensures.right_is inv.2 in
     let way = way-on _ _ _ inv.0 _ inv.1 c.grow.ensures in
     let none : c.part.result.2.now ≡ [] = nil-when _ _ c.is_empty.ensures c.if-not-is_empty.false in
-    let step = place-right c.args.left.node.now c.args.right.node.now (inv.0 ++ c.part.result.0.now) c.part.result.1.now c.part.result.2.now c.in-Some.behind.now c.in-Some-enter_behind-2.rest.now c.in-Some.byte c.loop-byte.left.node.now c.loop-byte.right.node.now c.in-Some-enter_behind-2.child.node.now (g.C.Count.number c.loop-byte.counter) (g.C.Count.number c.args.counter.now) c.loop-byte.right.canonical c.in-Some.ensures.0 none c.in-Some-enter_behind-2.ensures.shown.0 c.in-Some-enter_behind-2.ensures.shown.2 at in
-    ((inv.0 ++ c.part.result.0.now) ++ c.in-Some.edge.now, way-on _ _ _ (inv.0 ++ c.part.result.0.now) _ way c.grow-in-Some.ensures, rw (c.in-Some.ensures.1, c.in-Some-enter_behind-2.ensures.counted) step.place)
+    let step = place-right c.args.left.node.now c.args.right.node.now (inv.0 ++ c.part.result.0.now) c.part.result.1.now c.part.result.2.now c.in-Some.behind.now c.in-Some-enter_other_behind.rest.now c.in-Some.byte c.loop-byte.left.node.now c.loop-byte.right.node.now c.in-Some-enter_other_behind.child.node.now (g.C.Count.number c.loop-byte.counter) (g.C.Count.number c.args.counter.now) c.loop-byte.right.canonical c.in-Some.ensures.0 none c.in-Some-enter_other_behind.ensures.shown.0 c.in-Some-enter_other_behind.ensures.shown.2 at in
+    ((inv.0 ++ c.part.result.0.now) ++ c.in-Some.edge.now, way-on _ _ _ (inv.0 ++ c.part.result.0.now) _ way c.grow-in-Some.ensures, rw (c.in-Some.ensures.1, c.in-Some-enter_other_behind.ensures.counted) step.place)
