@@ -1,9 +1,10 @@
-//! `rart`: an ordered map over byte keys that shares prefixes, an Adaptive Radix Tree.
+//! An ordered map over byte keys that shares prefixes: an Adaptive Radix Tree.
 //!
-//! Contracts see a tree as its sorted pairs and the records of its nodes. After any list of calls the
-//! nodes are exactly the branch points of the keys, each of the kind that its child count fixes, and
-//! every answer is the one of the sorted list of pairs; a refused call changes neither, save that the removal of an
-//! update, where it is refused, leaves at the key what the callback wrote.
+//! Contracts see a tree as its sorted pairs and the records of its nodes. After any list of calls the nodes are
+//! exactly the branch points of the keys, each of the kind that its child count fixes, and every answer is that of
+//! the sorted list of pairs. A call of the map that fails changes neither, with one exception: if the removal that
+//! the callback of `update*` asks for fails, the value that the callback wrote stays. A law that makes several calls
+//! says what stands if one of them fails.
 #![tactic(auto)]
 
 mod bulk;
