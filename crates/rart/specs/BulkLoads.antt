@@ -3,6 +3,7 @@ use Rattle.std.specs.Prelude.{◌≡◌, ◌≢◌, ◌+◌, ◌-◌, ◌^◌, �
 use Rattle.std.specs.Iterator.{Yields, Drains, HoldsAlong}
 use Rattle.rart_keys.specs.BulkLists.{WasRead, first_fault, last_wins}
 use Rattle.rart_keys.specs.SortedMap.{IsAscending, keys_of, values_of}
+use Rattle.rart_nodes.specs.build.ValueCalls.{Takes}
 use Rattle.rart.specs.Steps.{pairs_in}
 use Rattle.rart.specs.declared.bulk.BulkError.{BulkError}
 use Rattle.rart.specs.declared.bulk.BulkError.TheVariants.{Memory, Full, Unsorted}
@@ -62,3 +63,9 @@ StopsByIndex len (Unsorted at) = ⊥
 -- at each place stands a key that fits there
 abbrev pub AreKeysAt : (ℕ → List ℕ → Type 0) → List (List ℕ) → Type 0
 AreKeysAt At ks = (i : ℕ) → i < length ks → At i (slice_index_or ks i [])
+
+-- a load of so many keys that failed called f at a beginning of the indices, in order, which left g; where it was full it called nothing
+abbrev pub TakesBeginning : {F V : Type 0} → (F → ℕ → V → F → Type 0) → ℕ → F → F → BulkError → Type 0
+TakesBeginning {F} {V} step len f g Memory = (taken : List V) × (length taken ≤ len) × Takes step 0 f taken g
+TakesBeginning step len f g Full = g ≡ f
+TakesBeginning step len f g (Unsorted at) = ⊥

@@ -38,14 +38,19 @@ pub fn equal_keys_equal_nodes<K: KeyTrait, V, L: KeyTrait, W>(
     rart_nodes::laws::one_shape();
 }
 
-/// Trees with equal keys have equal statistics, whatever the calls that made them. Gives those of
-/// both; refused only where memory is, and never below two keys.
+/// Trees with equal keys have equal statistics, whatever the calls that made them. Returns those of both, each
+/// of its own tree's keys and nodes.
+///
+/// # Errors
+///
+/// [`TreeError::Memory`] if an allocation fails, which needs at least two keys.
 pub fn equal_keys_equal_statistics<K: KeyTrait, V, L: KeyTrait, W>(
     one: &AdaptiveRadixTree<K, V>,
     other: &AdaptiveRadixTree<L, W>,
 ) -> Result<(TreeStats, TreeStats), TreeError>
     requires { keys_of one.now.pairs ≡ keys_of other.now.pairs }
     ensures statistics { IfOk result (λ r. statistics_in r.0 ≡ statistics_of (keys_of one.now.pairs) one.now.nodes) }
+    ensures of_other { IfOk result (λ r. statistics_in r.1 ≡ statistics_of (keys_of other.now.pairs) other.now.nodes) }
     ensures equal { IfOk result (λ r. statistics_in r.1 ≡ statistics_in r.0) }
     ensures error { IfErr result (λ e. e ≡ TreeError.Memory) }
     ensures asks { OnErr result (2 ≤ length (keys_of one.now.pairs)) }
@@ -54,8 +59,12 @@ pub fn equal_keys_equal_statistics<K: KeyTrait, V, L: KeyTrait, W>(
     Ok((one.get_tree_stats()?, other.get_tree_stats()?))
 }
 
-/// A value that was put at `key` is found there, and every other key keeps its answer. Gives the two
-/// answers after the insertion; refused, why the insertion was, and then pairs and nodes are as before.
+/// Inserts `value` at `key`, and returns the values at `key` and at `other` after the insertion. The first is
+/// `value`. So is the second where both keys have the same bytes; else it is what `other` had before.
+///
+/// # Errors
+///
+/// The insertion's error. Pairs and nodes are then unchanged.
 pub fn insert_then_get<'a, K: KeyTrait, V>(
     tree: &'a mut AdaptiveRadixTree<K, V>,
     key: &K,
@@ -66,6 +75,7 @@ where
     V: Drop,
     ensures* after { sem 𝓛 (ends_as K.row V.row K.PartialType.row K.KeyTrait K.PartialType.Partial tree.entry (PutOrSame (K.bytes key.now) value result tree.old)) }
     ensures found { IfOk result (λ r. option_copied r.0 ≡ Some value) }
+    ensures same_bytes { K.bytes other.now ≡ K.bytes key.now → IfOk result (λ r. option_copied r.1 ≡ Some value) }
     ensures kept { K.bytes other.now ≢ K.bytes key.now → IfOk result (λ r. option_copied r.1 ≡ lookup (K.bytes other.now) tree.old.pairs) }
     ensures refused { IfErr result (MayRefuse tree.old.pairs (K.bytes key.now)) }
 {
@@ -104,11 +114,12 @@ fn both_answers<'a, K: KeyTrait, V>(
     Ok((tree.get_k(key), tree.get_k(other)))
 }
 
-/// The pairs and the values of a tree, each from its start: the pairs ascend strictly by key and are
-/// as many as the tree counts, and the values are theirs, in the same order.
+/// The pairs and the values of a tree, each from its start: the pairs are the tree's, ascend strictly by key
+/// and are as many as the tree counts, and the values are theirs, in the same order.
 pub fn pairs_and_values<'a, K: KeyTrait, V>(
     tree: &'a AdaptiveRadixTree<K, V>,
 ) -> Result<(Iter<'a, K, K::PartialType, V>, ValuesIter<'a, K, V>), TreeError>
+    ensures pairs { IfOk result (λ r. r.0 ≡ tree.now.pairs) }
     ensures ascending { IfOk result (λ r. IsAscending r.0) }
     ensures many { IfOk result (λ r. length r.0 ≡ length tree.now.pairs) }
     ensures same { IfOk result (λ r. r.1 ≡ values_of r.0) }

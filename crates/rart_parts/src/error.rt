@@ -1,6 +1,6 @@
 //! What a call that can be refused answers.
 
-use std::alloc::AllocError;
+use std::alloc::{AllocError, AllocFailed};
 use thiserror::Error;
 
 /// Why a call was refused. What stands after a refusal is said at each call.
@@ -21,6 +21,18 @@ impl From<AllocError> for TreeError {
     ghost from_gives = { λ _ e. e ≡ Memory };
 
     fn from(_refusal: AllocError) -> TreeError {
+        TreeError::Memory
+    }
+}
+
+/// `vec![in alloc; a, b]?` fails with an error that hands the items back; `?` drops them.
+impl<T: Drop> From<AllocFailed<T>> for TreeError {
+    ghost use Rattle.std.specs.Prelude.{◌≡◌};
+    ghost use Rattle.rart_parts.specs.declared.error.TreeError.TheVariants.{Memory};
+
+    ghost from_gives = { λ _ e. e ≡ Memory };
+
+    fn from(_refusal: AllocFailed<T>) -> TreeError {
         TreeError::Memory
     }
 }

@@ -2,8 +2,8 @@
 ghost use Rattle.std.specs.Prelude.{◌≡◌, [], IfErr, IfOk};
 ghost use Rattle.std.specs.List.Sorted.{IsPermutation};
 ghost use Rattle.rart_keys.specs.BulkLists.{put_all};
-ghost use Rattle.rart_keys.specs.SortedMap.{IsAscending};
-ghost use Rattle.rart_nodes.specs.statistics.Statistics.{statistics_in};
+ghost use Rattle.rart_keys.specs.SortedMap.{IsAscending, keys_of};
+ghost use Rattle.rart_nodes.specs.statistics.Statistics.{statistics_in, statistics_of};
 ghost use Rattle.rart.specs.BulkLaw.{MayRefuseLoad, MayRefuseOneOf, RefusesStep};
 ghost use Rattle.rart.specs.Steps.{pairs_in};
 
@@ -31,8 +31,11 @@ pub enum RefusedStep {
 pub type Counted<K, V> = (AdaptiveRadixTree<K, V>, TreeStats);
 
 /// Bulk loading pairs that ascend strictly and inserting them one by one, in any order, give equal
-/// pairs, equal nodes and equal statistics. Gives both trees with their statistics. Refused where one
-/// of these calls was, and tells which.
+/// pairs, equal nodes and equal statistics. Returns both trees, each with its own statistics.
+///
+/// # Errors
+///
+/// The call that was refused, and why.
 pub fn bulk_load_equals_insertion<K: KeyTrait + Drop, V: Drop>(
     alloc: Global,
     sorted: Vec<(K, V)>,
@@ -43,6 +46,8 @@ pub fn bulk_load_equals_insertion<K: KeyTrait + Drop, V: Drop>(
     ensures loaded { IfOk result (λ r. r.0.0.pairs ≡ pairs_in K.bytes sorted.items) }
     ensures pairs { IfOk result (λ r. r.1.0.pairs ≡ r.0.0.pairs) }
     ensures nodes { IfOk result (λ r. r.1.0.nodes ≡ r.0.0.nodes) }
+    ensures of_loaded { IfOk result (λ r. statistics_in r.0.1 ≡ statistics_of (keys_of r.0.0.pairs) r.0.0.nodes) }
+    ensures of_inserted { IfOk result (λ r. statistics_in r.1.1 ≡ statistics_of (keys_of r.1.0.pairs) r.1.0.nodes) }
     ensures statistics { IfOk result (λ r. statistics_in r.1.1 ≡ statistics_in r.0.1) }
     ensures refused { IfErr result (RefusesStep (pairs_in K.bytes sorted.items) (pairs_in K.bytes shuffled.items)) }
 {

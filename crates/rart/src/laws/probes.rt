@@ -1,6 +1,8 @@
 //! Laws of answers about a probe, of walks below a prefix, and of views.
 ghost use Rattle.std.specs.Prelude.{◌≡◌, ◌↔◌, None, length, option_map, IfErr, IfOk, IsTrue};
+ghost use Rattle.std.specs.Cmp.Lexicographic.{slice_cmp};
 ghost use Rattle.std.specs.List.{filter};
+ghost use Rattle.std.specs.Ordering.{nat_cmp};
 ghost use Rattle.rart_keys.specs.ByteStrings.{begins};
 ghost use Rattle.rart_keys.specs.Filters.{last_or, matches};
 ghost use Rattle.rart_keys.specs.KeyBytes.{IsWithin};
@@ -53,8 +55,10 @@ pub fn longest_is_the_last_match<'a, K: KeyTrait, V>(
     )
 }
 
-/// A view is equal to a slice exactly where it compares as equal to it, exactly where its bytes are the slice.
+/// How a view compares with a slice, and whether they are equal. The order is that of the view's bytes and the
+/// slice. They are equal exactly where they compare as equal, exactly where the view's bytes are the slice.
 pub fn comparisons_agree(view: LendingKeyView<'_, '_>, slice: &[u8]) -> (Ordering, bool)
+    ensures order { result.0 ≡ slice_cmp nat_cmp (joined (lent_pieces view.entry.segments.now)) slice.now }
     ensures agree { IsTrue result.1 ↔ (result.0 ≡ Ordering.Equal) }
     ensures bytes { IsTrue result.1 ↔ (joined (lent_pieces view.entry.segments.now) ≡ slice.now) }
 {

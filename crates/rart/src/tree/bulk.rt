@@ -8,7 +8,7 @@ ghost use Rattle.rart_nodes.specs.build.Stretches.{AreWithin};
 ghost use Rattle.rart_nodes.specs.build.ValueCalls.{CanTake, Takes};
 ghost use Rattle.rart_nodes.specs.shapes.Shape.{HasShape};
 ghost use Rattle.rart_nodes.specs.shapes.ShapeRecords.{keys_in, lone_keys};
-ghost use Rattle.rart.specs.BulkLoads.{AreKeysAt, AscendAlong, LoadsSorted, Reads, ReadsAll, StopsByIndex, StopsSorted, StopsUnique};
+ghost use Rattle.rart.specs.BulkLoads.{AreKeysAt, AscendAlong, LoadsSorted, Reads, ReadsAll, StopsByIndex, StopsSorted, StopsUnique, TakesBeginning};
 ghost use Rattle.rart.specs.Steps.{pairs_in};
 
 use crate::bulk::BulkError;
@@ -68,13 +68,16 @@ impl<K: KeyTrait, V: Drop> AdaptiveRadixTree<K, V> {
         AdaptiveRadixTree::of_keys_and_values(alloc, &keys, values)
     }
 
-    /// The tree of `len` keys, each with the value at its index. Asks that what `key_at` answers at an
-    /// index is below what it answers at a later one, and that `take_value_at` can be called for 0, 1,
-    /// 2 and so on, once each, as it is here. `key_at` is called once for each index.
+    /// The tree of `len` keys, each with the value at its index. Where there are no more keys than a tree can count,
+    /// `key_at` must return ascending keys, and `take_value_at` must be callable at 0, 1, 2 and so on, once each.
+    /// `key_at` is called once for each index.
     ///
-    /// Refused with `Full` where there are more keys than a tree can count, before any call; with
-    /// `Memory` where a request for it was refused: then the values of a beginning of the indices were
-    /// taken, and dropped. Without keys neither closure is called, and no memory is taken.
+    /// # Errors
+    ///
+    /// [`BulkError::Full`] if there are more keys than a tree can count; then neither closure is called.
+    /// [`BulkError::Memory`] if an allocation fails. The values taken until then, of a beginning of the indices, are
+    /// dropped; [`bulk_load_sorted_unique_by_index_by_ref`](Self::bulk_load_sorted_unique_by_index_by_ref) shows the
+    /// closure that is left. Without keys neither closure is called, and nothing is allocated.
     pub fn bulk_load_sorted_unique_by_index<'a, F: Fn(usize) -> &'a K, G: FnMut(usize) -> V>(
         alloc: Global,
         len: usize,
@@ -85,14 +88,49 @@ impl<K: KeyTrait, V: Drop> AdaptiveRadixTree<K, V> {
         K: 'a,
         F: Drop,
         G: Drop,
-        requires key_at { (i : _) → i < len → F.pre key_at i }
-        requires ascending { (i j : _) (k l : _) → i < j → j < len → F.post key_at i k → F.post key_at j l → IsBelow (K.bytes k.now) (K.bytes l.now) }
-        requires take_value_at { CanTake G.pre G.step 0 len take_value_at }
+        requires key_at { (i : _) → i < len → len ≤ MAX_PAIRS → F.pre key_at i }
+        requires ascending { (i j : _) (k l : _) → i < j → j < len → len ≤ MAX_PAIRS → F.post key_at i k → F.post key_at j l → IsBelow (K.bytes k.now) (K.bytes l.now) }
+        requires take_value_at { len ≤ MAX_PAIRS → CanTake G.pre G.step 0 len take_value_at }
         ensures keys { IfOk result (λ tree. (length tree.pairs ≡ len) × AreKeysAt (λ i key. (k : _) × F.post key_at i k × (key ≡ K.bytes k.now)) (keys_of tree.pairs)) }
         ensures values { IfOk result (λ tree. (left : G) × Takes G.step 0 take_value_at (values_of tree.pairs) left) }
         ensures shape { IfOk result (λ tree. HasShape (keys_of tree.pairs) tree.nodes) }
         ensures refused { IfErr result (StopsByIndex len) }
         ensures not_full { OnOk result (len ≤ MAX_PAIRS) }
+    {
+        let mut take_value_at = take_value_at;
+        AdaptiveRadixTree::bulk_load_sorted_unique_by_index_by_ref(
+            alloc,
+            len,
+            key_at,
+            &mut take_value_at,
+        )
+    }
+
+    /// As [`bulk_load_sorted_unique_by_index`](Self::bulk_load_sorted_unique_by_index), with a closure that is lent.
+    ///
+    /// # Errors
+    ///
+    /// [`BulkError::Full`] if there are more keys than a tree can count; then neither closure is called.
+    /// [`BulkError::Memory`] if an allocation fails. The values of a beginning of the indices were then taken, once
+    /// each and in order, and are dropped.
+    pub fn bulk_load_sorted_unique_by_index_by_ref<'a, F: Fn(usize) -> &'a K, G: FnMut(usize) -> V>(
+        alloc: Global,
+        len: usize,
+        key_at: F,
+        take_value_at: &mut G,
+    ) -> Result<Self, BulkError>
+    where
+        K: 'a,
+        F: Drop,
+        requires key_at { (i : _) → i < len → len ≤ MAX_PAIRS → F.pre key_at i }
+        requires ascending { (i j : _) (k l : _) → i < j → j < len → len ≤ MAX_PAIRS → F.post key_at i k → F.post key_at j l → IsBelow (K.bytes k.now) (K.bytes l.now) }
+        requires take_value_at { len ≤ MAX_PAIRS → CanTake G.pre G.step 0 len take_value_at.old }
+        ensures keys { IfOk result (λ tree. (length tree.pairs ≡ len) × AreKeysAt (λ i key. (k : _) × F.post key_at i k × (key ≡ K.bytes k.now)) (keys_of tree.pairs)) }
+        ensures values { IfOk result (λ tree. Takes G.step 0 take_value_at.old (values_of tree.pairs) take_value_at.new) }
+        ensures shape { IfOk result (λ tree. HasShape (keys_of tree.pairs) tree.nodes) }
+        ensures refused { IfErr result (StopsByIndex len) }
+        ensures not_full { OnOk result (len ≤ MAX_PAIRS) }
+        ensures taken { IfErr result (TakesBeginning G.step len take_value_at.old take_value_at.new) }
     {
         if len > MAX_PAIRS {
             return Err(BulkError::Full);
@@ -101,8 +139,7 @@ impl<K: KeyTrait, V: Drop> AdaptiveRadixTree<K, V> {
             return Ok(AdaptiveRadixTree::new(alloc));
         }
         let keys = keys_by_index(alloc, len, &key_at)?;
-        let mut take_value_at = take_value_at;
-        AdaptiveRadixTree::of_byte_strings(alloc, &keys, &mut take_value_at)
+        AdaptiveRadixTree::of_byte_strings(alloc, &keys, take_value_at)
     }
 
     /// The tree of these keys, which ascend strictly, with the values in their order. Refused with
