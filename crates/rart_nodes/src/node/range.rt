@@ -5,6 +5,8 @@
 ghost use Rattle.std.specs.Iterator.{YieldsFirstBy, item_count};
 ghost use Rattle.std.specs.Ordering.{match_ordering};
 ghost use Rattle.std.specs.Prelude.{◌≡◌, ◌≤◌, ◌+◌, [], length, IfErr, IfOk, true, false};
+ghost use Rattle.std.specs.declared.ops.Bound.TheVariants.{Unbounded};
+ghost use Rattle.rart_keys.specs.SortedMap.{IsAscending};
 ghost use Rattle.rart_keys.specs.Ranges.{between, bound_bytes, bound_in, is_inclusive, is_to, pairs_since, up_to};
 ghost use Rattle.rart_nodes.specs.ranges.Starts.{TakesUpTo, bytes_taken};
 ghost use Rattle.rart_nodes.specs.tries.Tree.{seen_keys, seen_pairs};
@@ -128,10 +130,12 @@ impl<'a, K: KeyTrait, V> Range<'a, K, V> {
         }
     }
 
-    /// Those pairs of what an iterator has left that come before the first one past `end`. Takes no memory.
+    /// Those pairs of what an iterator has left that come before the first one past `end`: where the keys ascend, those within
+    /// `end`. Takes no memory.
     pub fn for_iter(iter: Iter<'a, K, K::PartialType, V>, end: Bound<K>) -> Self
         ensures end { result.0 ≡ bound_in K.bytes end }
         ensures pairs { result.1 ≡ iter.entry }
+        ensures within { IsAscending iter.entry → up_to result.0 result.1 ≡ between Unbounded (bound_in K.bytes end) iter.entry }
     {
         let pairs = Ended {
             walk: Rest::Ahead(iter.into_walk()),

@@ -4,7 +4,7 @@
 //! only to a caller that visits it, and each visit adds one to the caller's counter. Look-ups and
 //! walks stand in other modules. They go through `Shared` nodes, which keep nothing beside the node;
 //! allocator and longest key are read where a walk starts, from `Seen`.
-ghost use Rattle.std.specs.Prelude.{◌≡◌, ◌≤◌, ◌+◌, ℕ, IsTrue, MatchOption, Some, length, option_map, true};
+ghost use Rattle.std.specs.Prelude.{◌≡◌, ◌↔◌, ◌≤◌, ◌+◌, ℕ, IsTrue, MatchOption, Some, length, option_map, true};
 ghost use Rattle.std.specs.Option.{option_copied};
 ghost use Rattle.rart_keys.specs.KeyBytes.{IsWithin, IsWithin-prop};
 ghost use Rattle.rart_keys.specs.SortedMap.{count_of, longest_key};
@@ -134,8 +134,8 @@ impl<'a, K: KeyTrait, V, C> Seen<'a, K, V, C> {
         })
     }
 
-    /// The tree below `root`. Asks nodes that have the shape of their keys, no key longer than
-    /// `longest`, and `longest` within the keys' maximum.
+    /// The tree below `root`, whose walks take room for keys of `longest` bytes. Requires nodes that have the
+    /// shape of their keys, no key longer than `longest`, and `longest` within the keys' maximum.
     pub fn of(
         root: Option<&'a DefaultNode<K::PartialType, V>>,
         alloc: Global,
@@ -144,7 +144,8 @@ impl<'a, K: KeyTrait, V, C> Seen<'a, K, V, C> {
         requires canonical { IsCanonicalTree (option_copied root) }
         requires short { longest_key (seen_pairs root) ≤ longest }
         requires fits { IsWithin K.MAXIMUM_SIZE longest }
-        ensures { option_copied result.root ≡ option_copied root.entry }
+        ensures root { option_copied result.root ≡ option_copied root.entry }
+        ensures room { result.longest ≡ longest }
     {
         Seen {
             root,
@@ -217,7 +218,7 @@ impl<'a, P: Partial, V, C> Entered<'a, P, V, C> {
 
     /// Whether the node has no children.
     pub(crate) fn is_bare(self) -> bool
-        ensures { IsTrue result → children_in self.entry.node.now ≡ no_children }
+        ensures { IsTrue result ↔ (children_in self.entry.node.now ≡ no_children) }
     {
         self.node.is_leaf()
     }

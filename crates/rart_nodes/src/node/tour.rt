@@ -83,6 +83,7 @@ pub(crate) fn start<'a, P: Partial, V, C, T: Trail<'a, P>>(
     ensures stops { stops_ahead T.grown (T.kept trail.new) (option_copied result.first) result.levels.items ≡ behind_pieces (T.kept trail.old) (stops_of T.grown at.entry.node.now) }
     ensures visits { nodes_below (reverse result.levels.items) + 1 ≡ node_count at.entry.node.now }
     ensures longest { result.longest ≡ longest }
+    ensures places { vec_capacity result.levels ≡ vec_capacity levels.entry }
 {
     trail.grow(at.prefix());
     levels.push_reserved((at.branches(), trail.mark()));
@@ -125,6 +126,7 @@ impl<'a, K: KeyTrait, V, C: Count> Seen<'a, K, V, C> {
         ensures visits { IfOk result (λ w. C.number counter.new + nodes_below (reverse w.0.levels.items) ≡ C.number counter.old + tree_count (option_copied self.entry.root)) }
         ensures longest { IfOk result (λ w. w.0.longest ≤ self.entry.longest) }
         ensures root { C.number counter.new ≡ C.number counter.old + count_of (option_copied self.entry.root) }
+        ensures places { IfOk result (λ w. w.0.levels.items ≢ [] → vec_capacity w.0.levels ≡ self.entry.longest + 1) }
     {
         let alloc = self.alloc();
         let longest = self.longest();
@@ -132,11 +134,9 @@ impl<'a, K: KeyTrait, V, C: Count> Seen<'a, K, V, C> {
             return Ok(nowhere(alloc));
         };
         let root = root.enter(counter);
-        let Some(places) = longest.checked_add(1) else {
-            return Err(AllocError);
-        };
         let mut trail = T::with_room(alloc, longest)?;
-        let levels = Vec::with_capacity(alloc, places)?;
+        // no vector has room for `usize::MAX` levels, so that at such a length the request is refused
+        let levels = Vec::with_capacity(alloc, longest.saturating_add(1))?;
         let tour = start(levels, longest, &mut trail, root);
         Ok((tour, trail))
     }

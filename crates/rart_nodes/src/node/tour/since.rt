@@ -61,6 +61,7 @@ impl<'a, P: Partial, V, C: Count> Tour<'a, P, V, C> {
         ensures visits { C.number counter.new ≡ C.number counter.old + entered_nodes start.now top.entry.node.now }
         ensures low { AreLow (trie_height top.entry.node.now) (reverse self.new.levels.items) }
         ensures longest { self.new.longest ≡ self.old.longest }
+        ensures places { vec_capacity self.new.levels ≡ vec_capacity self.old.levels }
     {
         let mut next = Some(top);
         let mut rest = start;
@@ -107,17 +108,16 @@ impl<'a, K: KeyTrait, V, C: Count> Seen<'a, K, V, C> {
         ensures memory { OnErr result (seen_pairs self.entry.root ≢ []) }
         ensures visits { IfOk result (λ _. C.number counter.new ≡ C.number counter.old + probe_count (seen_keys self.entry.root) start.now) }
         ensures bound { C.number counter.new ≤ C.number counter.old + length start.now + 1 }
+        ensures places { IfOk result (λ w. w.0.levels.items ≢ [] → vec_capacity w.0.levels ≡ self.entry.longest + 1) }
     {
         let alloc = self.alloc();
         let longest = self.longest();
         let Some(top) = self.top() else {
             return Ok(nowhere(alloc));
         };
-        let Some(places) = longest.checked_add(1) else {
-            return Err(AllocError);
-        };
         let mut trail = T::with_room(alloc, longest)?;
-        let levels = Vec::with_capacity(alloc, places)?;
+        // no vector has room for `usize::MAX` levels, so that at such a length the request is refused
+        let levels = Vec::with_capacity(alloc, longest.saturating_add(1))?;
         let mut tour: Tour<'a, K::PartialType, V, C> = Tour {
             levels,
             first: None,

@@ -68,17 +68,16 @@ impl<'a, K: KeyTrait, V, C: Count> Seen<'a, K, V, C> {
         ensures visits { IfOk result (λ _. C.number counter.new ≡ C.number counter.old + probe_count (seen_keys self.entry.root) prefix.now) }
         ensures bound { C.number counter.new ≤ C.number counter.old + length prefix.now + 1 }
         ensures few { IfOk result (λ w. nodes_below (reverse w.0.levels.items) ≤ 2 * length (below prefix.now (seen_pairs self.entry.root))) }
+        ensures places { IfOk result (λ w. w.0.levels.items ≢ [] → vec_capacity w.0.levels ≡ self.entry.longest + 1) }
     {
         let alloc = self.alloc();
         let longest = self.longest();
         let Some(top) = self.top() else {
             return Ok(nowhere(alloc));
         };
-        let Some(places) = longest.checked_add(1) else {
-            return Err(AllocError);
-        };
         let mut trail = T::with_room(alloc, longest)?;
-        let levels = Vec::with_capacity(alloc, places)?;
+        // no vector has room for `usize::MAX` levels, so that at such a length the request is refused
+        let levels = Vec::with_capacity(alloc, longest.saturating_add(1))?;
         let Some(at) = enter_part(Some(top), prefix, &mut trail, counter) else {
             return Ok(nowhere(alloc));
         };

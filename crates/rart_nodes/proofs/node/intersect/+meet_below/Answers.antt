@@ -23,10 +23,10 @@ returns-then-is_bare-clause-given g t c =
     let laws = g.met.T.Meeting.lawful in
     let way = c.in-Some.ensures.way in
     let here = rw (c.value.ensures, c.value-2.ensures) at c.give_both.ensures.given in
-    given-fork _ _ laws _ _ _ _ _ _ _ way.0 _ _ way.2 way.1 here (rw (c.is_bare.ensures c.if-is_bare.true) (laws.gives_none _ _))
+    given-fork _ _ laws _ _ _ _ _ _ _ way.0 _ _ way.2 way.1 here (rw (c.is_bare.ensures.0 c.if-is_bare.true) (laws.gives_none _ _))
 
 pub returns-then-is_bare-clause-visits : goal.returns-then-is_bare-clause-visits
-returns-then-is_bare-clause-visits g t c = omega (arith, (rw (c.is_bare.ensures c.if-is_bare.true) at c.in-Some.ensures.visits))
+returns-then-is_bare-clause-visits g t c = omega (arith, (rw (c.is_bare.ensures.0 c.if-is_bare.true) at c.in-Some.ensures.visits))
 
 pub loop-child-init : goal.loop-child-init
 loop-child-init g t c =

@@ -4,9 +4,6 @@ use Rattle.rart_nodes.proofs.edits.Outcomes.{err-any}
 use Rattle.rart_nodes.proofs.walks.TourLemmas.{behind-none, has-pairs}
 use Rattle.rart_nodes.proofs.node.seen.Seen.tour.Goals as goal
 
-pub returns-in_default-checked_add-clause-memory : goal.returns-in_default-checked_add-clause-memory
-returns-in_default-checked_add-clause-memory g c = has-pairs c.in-Some.root.node.now _ c.in-Some.root.canonical c.in-Some.ensures
-
 pub returns-in_err-trail-clause-memory : goal.returns-in_err-trail-clause-memory
 returns-in_err-trail-clause-memory g c = err-any c.from_residual.result (has-pairs c.in-Some.root.node.now _ c.in-Some.root.canonical c.in-Some.ensures)
 

@@ -8,9 +8,6 @@ use Rattle.rart_nodes.proofs.walks.SeenLemmas.{few-tree_entered, tree_entered-pr
 use Rattle.rart_nodes.proofs.walks.TourLemmas.{has-pairs}
 use Rattle.rart_nodes.proofs.node.seen.Seen.tour_from.Goals as goal
 
-pub returns-in_default-checked_add-clause-memory : goal.returns-in_default-checked_add-clause-memory
-returns-in_default-checked_add-clause-memory g c = has-pairs c.in-Some.top.node.now _ c.in-Some.top.canonical c.in-Some.ensures
-
 pub returns-in_err-trail-clause-memory : goal.returns-in_err-trail-clause-memory
 returns-in_err-trail-clause-memory g c = err-any c.from_residual.result (has-pairs c.in-Some.top.node.now _ c.in-Some.top.canonical c.in-Some.ensures)
 

@@ -25,6 +25,7 @@ loop-next-init g c = record {
   still = ahead-start g.T.Keeps.grown _ _ _ c.requires.nothing c.requires.nowhere;
   visits = refl;
   longest = refl;
+  level_room = refl;
   low = low-start _ _ c.requires.nowhere;
   height = omega (arith, ap length c.requires.nowhere);
 }
@@ -68,6 +69,7 @@ returns-in_default-cmp g c =
       stops = rw c.loop-next.invariant.first (ahead-lower g.T.Keeps.grown c.args.included (g.T.Trail.kept c.loop-next.trail) c.loop-next.rest.now t (stops_below g.T.Keeps.grown (g.T.Trail.kept c.loop-next.trail) (reverse c.loop-next.self.levels.items)) _ c.requires.joins e less (rw (c.in-Some.is, ← c.enter-at.ensures.shown) at c.loop-next.invariant.still));
       visits = omega (arith, (step-left t c.loop-next.rest.now e).1, c.enter-at.ensures.counted, rw (c.in-Some.is, ← c.enter-at.ensures.shown) at c.loop-next.invariant.visits);
       longest = c.loop-next.invariant.longest;
+      places = c.loop-next.invariant.level_room;
       low = c.loop-next.invariant.low;
     }
 
@@ -147,6 +149,7 @@ loop-next-preserved g c =
           c.deepen-in-Some.ensures.kept c.child-next.ensures c.branches_above.ensures d.still (rw (c.in-Some.is, ← c.enter-at.ensures.shown) at c.loop-next.invariant.still);
       visits = omega (arith, h.1, ap (tree_entered c.in-Some-rest_behind.after.now) c.child-next.ensures, c.enter-at.ensures.counted, rw (c.in-Some.is, ← c.enter-at.ensures.shown) at c.loop-next.invariant.visits);
       longest = c.loop-next.invariant.longest;
+      level_room = c.deepen-in-Some.ensures.level_room ∙ c.loop-next.invariant.level_room;
       low = low-above _ _ c.in-Some-first.byte.now t _ _ _ c.loop-next.invariant.low (rw (c.in-Some.is, ← c.enter-at.ensures.shown) at c.loop-next.invariant.height) c.branches_above.ensures c.deepen-in-Some.ensures.levels;
       height = height-on _ c.in-Some-first.byte.now t _ _ _ _ (rw (c.in-Some.is, ← c.enter-at.ensures.shown) at c.loop-next.invariant.height) c.deepen-in-Some.ensures.levels c.child-next.ensures;
     }

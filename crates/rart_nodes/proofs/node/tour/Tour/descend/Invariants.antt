@@ -19,6 +19,7 @@ invariant-loop-next g l = record {
       ≡ stops_since l.included l.fn.start (stops_of g.T.Keeps.grown l.fn.top.node.now);
   visits : g.C.Count.number l.counter + tree_entered l.rest (option_map (λ s. s.node.now) l.next) ≡ g.C.Count.number l.fn.counter + entered_nodes l.fn.start l.fn.top.node.now;
   longest : l.self.longest ≡ l.fn.self.longest;
+  level_room : vec_capacity l.self.levels ≡ vec_capacity l.fn.self.levels;
   low : AreLow (trie_height l.fn.top.node.now) (reverse l.self.levels.items);
   height : HasHeight (trie_height l.fn.top.node.now) (length l.self.levels.items) (option_map (λ s. s.node.now) l.next);
 }
