@@ -1,15 +1,22 @@
-use Rattle.std.proofs.Common.{◌≡◌, [], List, Ok, Err, ap, ◌∙◌, subst}
+use Rattle.std.proofs.Common.{◌≡◌, [], List, Ok, Err, ap, ◌∙◌, sym, subst}
 use Rattle.std.specs.Option.{option_copied}
 use Rattle.rart_keys.specs.Filters.{below}
 use Rattle.rart_keys.specs.SortedMap.{values_of}
 use Rattle.rart_nodes.specs.tries.Tree.{tree_pairs}
 use Rattle.rart_nodes.specs.walks.Tour.{stop_values, stops_ahead}
 use Rattle.rart_nodes.specs.walks.TrailParts.{byte_pieces, no_piece}
-use Rattle.rart_nodes.specs.walks.Tried.{EndsAs}
+use Rattle.rart_nodes.specs.walks.Tried.{CanTry, EndsAs}
 use Rattle.rart_nodes.proofs.tries.CanonicalTests.{IsCanonicalTree-test}
 use Rattle.rart_nodes.proofs.walks.PartLemmas.{part-values}
 use Rattle.rart_nodes.proofs.walks.StopLemmas.{joins-bytes}
-use Rattle.rart_nodes.proofs.node.walks.tries.Seen+K+V+Visits.try_prefix_values_for_each_by_ref_k.Goals as goal
+use Rattle.rart_nodes.proofs.node.seen.Seen.try_prefix_values_for_each_by_ref_k_counted.Goals as goal
+
+pub try_feed-requires-clause-callable : goal.try_feed-requires-clause-callable
+try_feed-requires-clause-callable g c =
+    let e : stop_values (stops_ahead no_piece [] (option_copied c.in-Ok.tour.first) c.in-Ok.tour.levels.items) ≡ values_of (below (g.K.KeyTrait.bytes c.args.prefix.now) (tree_pairs (option_copied c.args.self.root)))
+    = ap stop_values c.in-Ok.ensures.stops ∙ part-values no_piece byte_pieces c.as_ref.result.now (option_copied c.args.self.root) joins-bytes (IsCanonicalTree-test _ c.args.self.canonical)
+    ∙ ap (λ q. values_of (below q (tree_pairs (option_copied c.args.self.root)))) c.as_ref.ensures in
+    subst (λ (x : List g.row.V.Denot). CanTry g.F.FnMut c.args.f.now x) (sym e) c.requires.callable
 
 pub returns-in-Ok-try_feed-clause-calls : goal.returns-in-Ok-try_feed-clause-calls
 returns-in-Ok-try_feed-clause-calls g c =
