@@ -1,17 +1,17 @@
--- Counting by a fold whose number is taken in 64 bits.
-use Rattle.std.proofs.Common.{◌≡◌, ℕ, ◌+◌, ◌%◌, ◌^◌, ◌<◌, List, [], ◌∷◌, length, ap, ◌∙◌, arith}
-use Rattle.std.proofs.Math.Nat.{mod-eq_of_lt}
+-- Counting by a fold.
+use Rattle.std.proofs.Common.{◌≡◌, ℕ, ◌+◌, ◌^◌, ◌<◌, List, [], ◌∷◌, ◌++◌, length, length-append, ap, arith}
 use Rattle.std.specs.List.{FoldsTo}
+use Rattle.rart_nodes.specs.walks.Calls.{CallableAtEach}
 
-module _ {F V : Type 0} where
-  count-from : (R : F × ℕ → V → F × ℕ → Type 0) → ((p q : F × ℕ) (x : V) → R p x q → q.1 ≡ (p.1 + 1) % 2 ^ 64)
-      → (p q : F × ℕ) (xs : List V) → p.1 + length xs < 2 ^ 64 → FoldsTo R p xs q → q.1 ≡ p.1 + length xs
-  count-from R step p q [] l h = omega (arith, ap (λ z. z.1) h)
-  count-from R step p q (x ∷ xs) l h =
-      let e : h.0.1 ≡ p.1 + 1 = step p h.0 x h.1 ∙ mod-eq_of_lt (omega (arith, l)) in
-      omega (arith, e, count-from R step h.0 q xs (omega (arith, l, e)) h.2)
+module _ {F V : Type 0} (R : F × ℕ → V → F × ℕ → Type 0) (step : (p q : F × ℕ) (x : V) → R p x q → q.1 ≡ p.1 + 1) where
+  count-from : (p q : F × ℕ) (xs : List V) → FoldsTo R p xs q → q.1 ≡ p.1 + length xs
+  count-from p q [] h = omega (arith, ap (λ z. z.1) h)
+  count-from p q (x ∷ xs) h = omega (arith, step p h.0 x h.1, count-from h.0 q xs h.2)
 
   -- each call answers one more: the last answer is the length of the list
-  pub count-fold : (R : F × ℕ → V → F × ℕ → Type 0) → ((p q : F × ℕ) (x : V) → R p x q → q.1 ≡ (p.1 + 1) % 2 ^ 64)
-      → (f last : F) (n : ℕ) (xs : List V) → length xs < 2 ^ 64 → FoldsTo R (f, 0) xs (last, n) → n ≡ length xs
-  count-fold R step f last n xs l h = omega (arith, count-from R step (f, 0) (last, n) xs (omega (arith, l)) h)
+  pub count-fold : (f last : F) (n : ℕ) (xs : List V) → FoldsTo R (f, 0) xs (last, n) → n ≡ length xs
+  count-fold f last n xs h = omega (arith, count-from (f, 0) (last, n) xs h)
+
+  -- and each number before it has another behind it
+  pub can-count : (Q : F × ℕ → V → Type 0) → ((p : F × ℕ) (x : V) → p.1 + 1 < 2 ^ 64 → Q p x) → (f : F) (xs : List V) → length xs < 2 ^ 64 → CallableAtEach {F = F × ℕ} R Q (f, 0) xs
+  can-count Q asks f xs l = record { at = λ before x after g same h. asks g x (omega (arith, l, ap length same, length-append before (x ∷ after), count-from (f, 0) g before h)) }

@@ -1,17 +1,17 @@
 //! Walks that lend each key in segments, cut at the branch points: no byte of a key is copied.
 //!
-//! A callback that is handed over is gone after the call; one that is lent (the forms `_by_ref`) is the caller's again, in the
-//! state that the last call left.
-ghost use Rattle.std.specs.Prelude.{◌≡◌, ◌≢◌, None, IfErr, IfOk, OnErr, OnOk};
-ghost use Rattle.std.specs.List.{FoldsTo};
+//! Each call asks that its callback can be called with each item in turn, as the calls before leave it. A callback
+//! without a condition always can. The caller of a `_by_ref` form keeps its callback, in the state that the last call
+//! left.
+ghost use Rattle.std.specs.Prelude.{◌≡◌, IfErr, IfOk, OnErr, OnOk};
 ghost use Rattle.rart_keys.specs.Filters.{longest_match};
 ghost use Rattle.rart_keys.specs.Ranges.{bound_in};
 ghost use Rattle.rart_keys.specs.SortedMap.{keys_of};
 ghost use Rattle.rart_nodes.specs.ranges.Spans.{cut_between};
-ghost use Rattle.rart_nodes.specs.walks.BelowPrefix.{cut_below};
+ghost use Rattle.rart_nodes.specs.walks.BelowPrefix.{MayLackMatch, cut_below};
 ghost use Rattle.rart_nodes.specs.walks.Cut.{cut_pairs};
-ghost use Rattle.rart_nodes.specs.walks.Viewed.{SeesFound, ShowsFound, Viewed};
-ghost use Rattle.rart_nodes.specs.walks.Calls.{CallsEach, MayLackRoom};
+ghost use Rattle.rart_nodes.specs.walks.Viewed.{CanSeeFound, CanShowFound, CanView, SeesFound, ShowsFound, ViewedEach, ViewsEach};
+ghost use Rattle.rart_nodes.specs.walks.Calls.{MayLackRoom};
 
 use crate::tree::AdaptiveRadixTree;
 use rart_keys::KeyTrait;
@@ -20,15 +20,19 @@ use rart_parts::TreeError;
 use std::ops::Bound;
 
 impl<K: KeyTrait, V> AdaptiveRadixTree<K, V> {
-    /// Calls `f` with a view of each key and with its value, in order. All room is taken before the first call, after the length
-    /// of the longest key ever stored; refused with `Memory` alone, only where the tree isn't empty, and then `f` wasn't called.
+    /// Calls `f` with a view of each key and with its value, in order. The caller keeps `f`.
+    ///
+    /// # Errors
+    ///
+    /// [`TreeError::Memory`] if the tree isn't empty and the allocation for the walk fails. `f` is then not called.
     pub fn for_each_view_by_ref<F: FnMut(LendingKeyView<'_, '_>, &V)>(
         &self,
         f: &mut F,
     ) -> Result<(), TreeError>
-        requires callable { F.IsAlwaysCallable f.old }
-        ensures callable { F.IsAlwaysCallable f.new }
-        ensures calls { OnOk result (FoldsTo (λ p x q. Viewed F.FnMut p x q) f.old (cut_pairs (keys_of self.now.pairs) self.now.pairs) f.new) }
+        requires callable { CanView F.FnMut f.old (cut_pairs (keys_of self.now.pairs) self.now.pairs) }
+        ensures callable { F.IsAlwaysCallable f.old → F.IsAlwaysCallable f.new }
+        ensures calls { OnOk result (ViewsEach F.FnMut f.old
+            (cut_pairs (keys_of self.now.pairs) self.now.pairs) f.new) }
         ensures refused { OnErr result (f.new ≡ f.old) }
         ensures memory { IfErr result (MayLackRoom self.now.pairs) }
     {
@@ -36,28 +40,34 @@ impl<K: KeyTrait, V> AdaptiveRadixTree<K, V> {
             .for_each_view_by_ref_counted(f, &mut Visits::new())
     }
 
-    /// Calls `f` as `for_each_view_by_ref` does; `f` is gone after the call.
+    /// Calls `f` as `for_each_view_by_ref` does, and drops it.
     pub fn for_each_view<F: FnMut(LendingKeyView<'_, '_>, &V) + Drop>(
         &self,
         f: F,
     ) -> Result<(), TreeError>
-        requires callable { F.IsAlwaysCallable f }
-        ensures calls { OnOk result (CallsEach (λ p x q. Viewed F.FnMut p x q) f (cut_pairs (keys_of self.now.pairs) self.now.pairs)) }
+        requires callable { CanView F.FnMut f (cut_pairs (keys_of self.now.pairs) self.now.pairs) }
+        ensures calls { OnOk result (ViewedEach F.FnMut f
+            (cut_pairs (keys_of self.now.pairs) self.now.pairs)) }
         ensures memory { IfErr result (MayLackRoom self.now.pairs) }
     {
         self.seen().for_each_view_counted(f, &mut Visits::new())
     }
 
-    /// Calls `f` with a view of each key that begins with `prefix` and with its value, in order. It takes its room as
-    /// `for_each_view_by_ref` does, goes down along the prefix, and then walks through that part of the tree alone.
+    /// Calls `f` with a view of each key that begins with `prefix` and with its value, in order. Visits the way along
+    /// the prefix and then that part of the tree alone. The caller keeps `f`.
+    ///
+    /// # Errors
+    ///
+    /// [`TreeError::Memory`] if the tree isn't empty and the allocation for the walk fails. `f` is then not called.
     pub fn prefix_for_each_view_by_ref_k<F: FnMut(LendingKeyView<'_, '_>, &V)>(
         &self,
         prefix: &K,
         f: &mut F,
     ) -> Result<(), TreeError>
-        requires callable { F.IsAlwaysCallable f.old }
-        ensures callable { F.IsAlwaysCallable f.new }
-        ensures calls { OnOk result (FoldsTo (λ p x q. Viewed F.FnMut p x q) f.old (cut_below (K.bytes prefix.now) self.now.pairs) f.new) }
+        requires callable { CanView F.FnMut f.old (cut_below (K.bytes prefix.now) self.now.pairs) }
+        ensures callable { F.IsAlwaysCallable f.old → F.IsAlwaysCallable f.new }
+        ensures calls { OnOk result (ViewsEach F.FnMut f.old
+            (cut_below (K.bytes prefix.now) self.now.pairs) f.new) }
         ensures refused { OnErr result (f.new ≡ f.old) }
         ensures memory { IfErr result (MayLackRoom self.now.pairs) }
     {
@@ -73,30 +83,32 @@ impl<K: KeyTrait, V> AdaptiveRadixTree<K, V> {
     ) -> Result<(), TreeError>
     where
         K: Drop,
-        requires callable { F.IsAlwaysCallable f.old }
-        ensures callable { F.IsAlwaysCallable f.new }
-        ensures calls { OnOk result (FoldsTo (λ p x q. Viewed F.FnMut p x q) f.old (cut_below (K.bytes prefix) self.now.pairs) f.new) }
+        requires callable { CanView F.FnMut f.old (cut_below (K.bytes prefix) self.now.pairs) }
+        ensures callable { F.IsAlwaysCallable f.old → F.IsAlwaysCallable f.new }
+        ensures calls { OnOk result (ViewsEach F.FnMut f.old
+            (cut_below (K.bytes prefix) self.now.pairs) f.new) }
         ensures refused { OnErr result (f.new ≡ f.old) }
         ensures memory { IfErr result (MayLackRoom self.now.pairs) }
     {
         self.prefix_for_each_view_by_ref_k(&prefix, f)
     }
 
-    /// Calls `f` as `prefix_for_each_view_by_ref_k` does; `f` is gone after the call.
+    /// Calls `f` as `prefix_for_each_view_by_ref_k` does, and drops it.
     pub fn prefix_for_each_view_k<F: FnMut(LendingKeyView<'_, '_>, &V) + Drop>(
         &self,
         prefix: &K,
         f: F,
     ) -> Result<(), TreeError>
-        requires callable { F.IsAlwaysCallable f }
-        ensures calls { OnOk result (CallsEach (λ p x q. Viewed F.FnMut p x q) f (cut_below (K.bytes prefix.now) self.now.pairs)) }
+        requires callable { CanView F.FnMut f (cut_below (K.bytes prefix.now) self.now.pairs) }
+        ensures calls { OnOk result (ViewedEach F.FnMut f
+            (cut_below (K.bytes prefix.now) self.now.pairs)) }
         ensures memory { IfErr result (MayLackRoom self.now.pairs) }
     {
         self.seen()
             .prefix_for_each_view_k_counted(prefix, f, &mut Visits::new())
     }
 
-    /// Calls `f` as `prefix_for_each_view_by_ref_k` does; `f` is gone after the call.
+    /// Calls `f` as `prefix_for_each_view_by_ref_k` does, and drops it.
     pub fn prefix_for_each_view<F: FnMut(LendingKeyView<'_, '_>, &V) + Drop>(
         &self,
         prefix: K,
@@ -104,15 +116,20 @@ impl<K: KeyTrait, V> AdaptiveRadixTree<K, V> {
     ) -> Result<(), TreeError>
     where
         K: Drop,
-        requires callable { F.IsAlwaysCallable f }
-        ensures calls { OnOk result (CallsEach (λ p x q. Viewed F.FnMut p x q) f (cut_below (K.bytes prefix) self.now.pairs)) }
+        requires callable { CanView F.FnMut f (cut_below (K.bytes prefix) self.now.pairs) }
+        ensures calls { OnOk result (ViewedEach F.FnMut f
+            (cut_below (K.bytes prefix) self.now.pairs)) }
         ensures memory { IfErr result (MayLackRoom self.now.pairs) }
     {
         self.prefix_for_each_view_k(&prefix, f)
     }
 
-    /// Calls `f` with a view of each key within two bounds and with its value, in order; with none where the end comes before the
-    /// start. It takes its room as `for_each_view_by_ref` does, goes straight to the start, and ends at the first key past the end.
+    /// Calls `f` with a view of each key between two bounds and with its value, in order; with none if the end is
+    /// before the start. Goes straight to the start, and ends at the first key past the end. The caller keeps `f`.
+    ///
+    /// # Errors
+    ///
+    /// [`TreeError::Memory`] if the tree isn't empty and the allocation for the walk fails. `f` is then not called.
     pub fn for_each_range_view_by_ref<F: FnMut(LendingKeyView<'_, '_>, &V)>(
         &self,
         start: Bound<K>,
@@ -121,9 +138,11 @@ impl<K: KeyTrait, V> AdaptiveRadixTree<K, V> {
     ) -> Result<(), TreeError>
     where
         K: Drop,
-        requires callable { F.IsAlwaysCallable f.old }
-        ensures callable { F.IsAlwaysCallable f.new }
-        ensures calls { OnOk result (FoldsTo (λ p x q. Viewed F.FnMut p x q) f.old (cut_between (bound_in K.bytes start) (bound_in K.bytes end) self.now.pairs) f.new) }
+        requires callable { CanView F.FnMut f.old
+            (cut_between (bound_in K.bytes start) (bound_in K.bytes end) self.now.pairs) }
+        ensures callable { F.IsAlwaysCallable f.old → F.IsAlwaysCallable f.new }
+        ensures calls { OnOk result (ViewsEach F.FnMut f.old
+            (cut_between (bound_in K.bytes start) (bound_in K.bytes end) self.now.pairs) f.new) }
         ensures refused { OnErr result (f.new ≡ f.old) }
         ensures memory { IfErr result (MayLackRoom self.now.pairs) }
     {
@@ -131,7 +150,7 @@ impl<K: KeyTrait, V> AdaptiveRadixTree<K, V> {
             .for_each_range_view_by_ref_counted(start, end, f, &mut Visits::new())
     }
 
-    /// Calls `f` as `for_each_range_view_by_ref` does; `f` is gone after the call.
+    /// Calls `f` as `for_each_range_view_by_ref` does, and drops it.
     pub fn for_each_range_view<F: FnMut(LendingKeyView<'_, '_>, &V) + Drop>(
         &self,
         start: Bound<K>,
@@ -140,27 +159,34 @@ impl<K: KeyTrait, V> AdaptiveRadixTree<K, V> {
     ) -> Result<(), TreeError>
     where
         K: Drop,
-        requires callable { F.IsAlwaysCallable f }
-        ensures calls { OnOk result (CallsEach (λ p x q. Viewed F.FnMut p x q) f (cut_between (bound_in K.bytes start) (bound_in K.bytes end) self.now.pairs)) }
+        requires callable { CanView F.FnMut f
+            (cut_between (bound_in K.bytes start) (bound_in K.bytes end) self.now.pairs) }
+        ensures calls { OnOk result (ViewedEach F.FnMut f
+            (cut_between (bound_in K.bytes start) (bound_in K.bytes end) self.now.pairs)) }
         ensures memory { IfErr result (MayLackRoom self.now.pairs) }
     {
         self.seen()
             .for_each_range_view_counted(start, end, f, &mut Visits::new())
     }
 
-    /// Calls `f` once with a view of the longest key that begins `probe` and with its value, and answers true; where there is none
-    /// it doesn't call `f`, and answers false. Room is taken as in `with_longest_prefix_match_view_k`; where it is refused `f` wasn't
-    /// called. `f` is lent, so that the caller sees so.
+    /// Calls `f` once with a view of the longest key that begins `probe` and with its value, and returns `true`;
+    /// returns `false` if there is no such key. The caller keeps `f`.
+    ///
+    /// # Errors
+    ///
+    /// [`TreeError::Memory`] if there is such a key and the allocation for its segments fails. `f` is then not called.
     pub fn with_longest_prefix_match_view_by_ref_k<F: FnMut(LendingKeyView<'_, '_>, &V)>(
         &self,
         probe: &K,
         f: &mut F,
     ) -> Result<bool, TreeError>
-        requires callable { F.IsAlwaysCallable f.old }
-        ensures callable { F.IsAlwaysCallable f.new }
-        ensures called { IfOk result (ShowsFound F.FnMut f.old (keys_of self.now.pairs) (longest_match (K.bytes probe.now) self.now.pairs) f.new) }
+        requires callable { CanShowFound F.FnMut f.old (keys_of self.now.pairs)
+            (longest_match (K.bytes probe.now) self.now.pairs) }
+        ensures callable { F.IsAlwaysCallable f.old → F.IsAlwaysCallable f.new }
+        ensures called { IfOk result (ShowsFound F.FnMut f.old (keys_of self.now.pairs)
+            (longest_match (K.bytes probe.now) self.now.pairs) f.new) }
         ensures refused { OnErr result (f.new ≡ f.old) }
-        ensures memory { IfErr result (λ e. (e ≡ TreeError.Memory) × (longest_match (K.bytes probe.now) self.now.pairs ≢ None)) }
+        ensures memory { IfErr result (MayLackMatch (K.bytes probe.now) self.now.pairs) }
     {
         self.seen()
             .with_longest_prefix_match_view_by_ref_k_counted(probe, f, &mut Visits::new())
@@ -174,26 +200,33 @@ impl<K: KeyTrait, V> AdaptiveRadixTree<K, V> {
     ) -> Result<bool, TreeError>
     where
         K: Drop,
-        requires callable { F.IsAlwaysCallable f.old }
-        ensures callable { F.IsAlwaysCallable f.new }
-        ensures called { IfOk result (ShowsFound F.FnMut f.old (keys_of self.now.pairs) (longest_match (K.bytes probe) self.now.pairs) f.new) }
+        requires callable { CanShowFound F.FnMut f.old (keys_of self.now.pairs)
+            (longest_match (K.bytes probe) self.now.pairs) }
+        ensures callable { F.IsAlwaysCallable f.old → F.IsAlwaysCallable f.new }
+        ensures called { IfOk result (ShowsFound F.FnMut f.old (keys_of self.now.pairs)
+            (longest_match (K.bytes probe) self.now.pairs) f.new) }
         ensures refused { OnErr result (f.new ≡ f.old) }
-        ensures memory { IfErr result (λ e. (e ≡ TreeError.Memory) × (longest_match (K.bytes probe) self.now.pairs ≢ None)) }
+        ensures memory { IfErr result (MayLackMatch (K.bytes probe) self.now.pairs) }
     {
         self.with_longest_prefix_match_view_by_ref_k(&probe, f)
     }
 
-    /// Calls `f` once with a view of the longest key that begins `probe` and with its value, and answers true; where there is none
-    /// it calls nothing and answers false. Room for the segments is taken before the call, and only where there is such a key;
-    /// refused with `Memory` alone, and then `f` wasn't called.
+    /// Calls `f` once with a view of the longest key that begins `probe` and with its value, and returns `true`;
+    /// returns `false` if there is no such key.
+    ///
+    /// # Errors
+    ///
+    /// [`TreeError::Memory`] if there is such a key and the allocation for its segments fails. `f` is then not called.
     pub fn with_longest_prefix_match_view_k<F: FnOnce(LendingKeyView<'_, '_>, &V) + Drop>(
         &self,
         probe: &K,
         f: F,
     ) -> Result<bool, TreeError>
-        requires callable { F.IsAlwaysCallable f }
-        ensures called { IfOk result (SeesFound F.FnOnce f (keys_of self.now.pairs) (longest_match (K.bytes probe.now) self.now.pairs)) }
-        ensures memory { IfErr result (λ e. (e ≡ TreeError.Memory) × (longest_match (K.bytes probe.now) self.now.pairs ≢ None)) }
+        requires callable { CanSeeFound F.FnOnce f (keys_of self.now.pairs)
+            (longest_match (K.bytes probe.now) self.now.pairs) }
+        ensures called { IfOk result (SeesFound F.FnOnce f (keys_of self.now.pairs)
+            (longest_match (K.bytes probe.now) self.now.pairs)) }
+        ensures memory { IfErr result (MayLackMatch (K.bytes probe.now) self.now.pairs) }
     {
         self.seen().with_longest_prefix_match_view_k(probe, f)
     }
@@ -206,9 +239,11 @@ impl<K: KeyTrait, V> AdaptiveRadixTree<K, V> {
     ) -> Result<bool, TreeError>
     where
         K: Drop,
-        requires callable { F.IsAlwaysCallable f }
-        ensures called { IfOk result (SeesFound F.FnOnce f (keys_of self.now.pairs) (longest_match (K.bytes probe) self.now.pairs)) }
-        ensures memory { IfErr result (λ e. (e ≡ TreeError.Memory) × (longest_match (K.bytes probe) self.now.pairs ≢ None)) }
+        requires callable { CanSeeFound F.FnOnce f (keys_of self.now.pairs)
+            (longest_match (K.bytes probe) self.now.pairs) }
+        ensures called { IfOk result (SeesFound F.FnOnce f (keys_of self.now.pairs)
+            (longest_match (K.bytes probe) self.now.pairs)) }
+        ensures memory { IfErr result (MayLackMatch (K.bytes probe) self.now.pairs) }
     {
         self.with_longest_prefix_match_view_k(&probe, f)
     }

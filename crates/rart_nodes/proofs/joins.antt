@@ -1,3 +1,4 @@
+pub mod CallLemmas
 pub mod EdgeLemmas
 pub mod ForkLemmas
 pub mod JointVisits

@@ -1,3 +1,4 @@
+pub mod CallLemmas
 pub mod CutCounts
 pub mod CutLemmas
 pub mod FirstBelow

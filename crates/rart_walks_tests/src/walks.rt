@@ -2,9 +2,11 @@
 //! for.
 
 mod asking;
+mod conditions;
 mod copies;
 mod counted;
 mod forms;
 mod laws;
+mod seen_forms;
 mod segments;
 mod sweeps;

@@ -7,7 +7,12 @@ use crate::tree::AdaptiveRadixTree;
 use rart_keys::KeyTrait;
 use rart_parts::TreeError;
 
-/// How many keys begin with `prefix`, counted by the fold over their values. Refused only where the fold is.
+/// Counts the keys that begin with `prefix` by a fold over their values. Adding one asks each time that the sum fits,
+/// which the fold lets be proved of each call: a count so far is less than the tree's length.
+///
+/// # Errors
+///
+/// [`TreeError::Memory`] as [`AdaptiveRadixTree::prefix_values_fold_k`].
 pub fn count_below<K: KeyTrait, V>(
     tree: &AdaptiveRadixTree<K, V>,
     prefix: &K,
@@ -16,5 +21,5 @@ pub fn count_below<K: KeyTrait, V>(
     ensures memory { IfErr result (MayLackRoom tree.now.pairs) }
 {
     let _most = tree.len();
-    tree.prefix_values_fold_k(prefix, 0_usize, |count, _value| count.wrapping_add(1))
+    tree.prefix_values_fold_k(prefix, 0_usize, |count, _value| count + 1)
 }

@@ -1,14 +1,13 @@
 //! Walks over the routes that cover a probe, and over those below a prefix.
 //!
-//! A callback that is handed over is gone after the call; one that is lent (the forms `_by_ref`) is the caller's again, in the
-//! state that the last call left.
+//! A callback that is handed over is gone after the call; one that is lent (the forms `_by_ref`) is the caller's
+//! again, in the state that the last call left.
 ghost use Rattle.std.specs.Prelude.{◌≡◌, IfErr, OnErr, OnOk};
-ghost use Rattle.std.specs.List.{FoldsTo};
 ghost use Rattle.rart_keys.specs.Filters.{matches};
 ghost use Rattle.rart_nodes.specs.walks.BelowPrefix.{cut_below};
-ghost use Rattle.rart_nodes.specs.walks.Matched.{Matched};
-ghost use Rattle.rart_nodes.specs.walks.Viewed.{Viewed};
-ghost use Rattle.rart_nodes.specs.walks.Calls.{CallsEach, MayLackRoom};
+ghost use Rattle.rart_nodes.specs.walks.Matched.{CanMatch, MatchedEach, MatchesEach};
+ghost use Rattle.rart_nodes.specs.walks.Viewed.{CanView, ViewedEach, ViewsEach};
+ghost use Rattle.rart_nodes.specs.walks.Calls.{MayLackRoom};
 
 use crate::routes::RouteTable;
 use rart_keys::KeyTrait;
@@ -16,34 +15,36 @@ use rart_nodes::LendingKeyView;
 use rart_parts::TreeError;
 
 impl<K: KeyTrait, T> RouteTable<K, T> {
-    /// Calls `f` with each route whose prefix begins `probe`, the shortest first. The prefix is lent from the probe: its first
-    /// bytes, nothing is copied. Takes no memory.
+    /// Calls `f` with each route whose prefix begins `probe`, the shortest first. The prefix is lent from the probe:
+    /// its first bytes, nothing is copied. Takes no memory.
     pub fn covering_for_each_by_ref<F: FnMut(&[u8], &T)>(&self, probe: &K, f: &mut F)
-        requires { F.IsAlwaysCallable f.old }
-        ensures callable { F.IsAlwaysCallable f.new }
-        ensures calls { FoldsTo (λ p x q. Matched F.FnMut p x q) f.old (matches (K.bytes probe.now) self.now.pairs) f.new }
+        requires callable { CanMatch F.FnMut f.old (matches (K.bytes probe.now) self.now.pairs) }
+        ensures callable { F.IsAlwaysCallable f.old → F.IsAlwaysCallable f.new }
+        ensures calls { MatchesEach F.FnMut f.old (matches (K.bytes probe.now) self.now.pairs) f.new }
     {
         self.routes.prefix_match_for_each_by_ref_k(probe, f)
     }
 
     /// Calls `f` as `covering_for_each_by_ref` does; `f` is gone after the call.
     pub fn covering_for_each<F: FnMut(&[u8], &T) + Drop>(&self, probe: &K, f: F)
-        requires { F.IsAlwaysCallable f }
-        ensures { CallsEach (λ p x q. Matched F.FnMut p x q) f (matches (K.bytes probe.now) self.now.pairs) }
+        requires callable { CanMatch F.FnMut f (matches (K.bytes probe.now) self.now.pairs) }
+        ensures { MatchedEach F.FnMut f (matches (K.bytes probe.now) self.now.pairs) }
     {
         self.routes.prefix_match_for_each_k(probe, f)
     }
 
-    /// Calls `f` with a view of each prefix that begins with `prefix` and with its target, in order. All room is taken before the
-    /// first call; refused with `Memory` alone, only where the table isn't empty, and then `f` wasn't called.
+    /// Calls `f` with a view of each prefix that begins with `prefix` and with its target, in order. All room is
+    /// taken before the first call; refused with `Memory` alone, only where the table isn't empty, and then `f`
+    /// wasn't called.
     pub fn below_for_each_by_ref<F: FnMut(LendingKeyView<'_, '_>, &T)>(
         &self,
         prefix: &K,
         f: &mut F,
     ) -> Result<(), TreeError>
-        requires callable { F.IsAlwaysCallable f.old }
-        ensures callable { F.IsAlwaysCallable f.new }
-        ensures calls { OnOk result (FoldsTo (λ p x q. Viewed F.FnMut p x q) f.old (cut_below (K.bytes prefix.now) self.now.pairs) f.new) }
+        requires callable { CanView F.FnMut f.old (cut_below (K.bytes prefix.now) self.now.pairs) }
+        ensures callable { F.IsAlwaysCallable f.old → F.IsAlwaysCallable f.new }
+        ensures calls { OnOk result (ViewsEach F.FnMut f.old
+            (cut_below (K.bytes prefix.now) self.now.pairs) f.new) }
         ensures refused { OnErr result (f.new ≡ f.old) }
         ensures memory { IfErr result (MayLackRoom self.now.pairs) }
     {
@@ -56,8 +57,9 @@ impl<K: KeyTrait, T> RouteTable<K, T> {
         prefix: &K,
         f: F,
     ) -> Result<(), TreeError>
-        requires callable { F.IsAlwaysCallable f }
-        ensures calls { OnOk result (CallsEach (λ p x q. Viewed F.FnMut p x q) f (cut_below (K.bytes prefix.now) self.now.pairs)) }
+        requires callable { CanView F.FnMut f (cut_below (K.bytes prefix.now) self.now.pairs) }
+        ensures calls { OnOk result (ViewedEach F.FnMut f
+            (cut_below (K.bytes prefix.now) self.now.pairs)) }
         ensures memory { IfErr result (MayLackRoom self.now.pairs) }
     {
         self.routes.prefix_for_each_view_k(prefix, f)

@@ -1,11 +1,10 @@
 //! Intersections of two trees, which go through both together and never below a node that one lacks.
-ghost use Rattle.std.specs.Prelude.{◌≡◌, ◌≢◌, [], IfErr, OnErr, OnOk, length};
-ghost use Rattle.std.specs.List.{FoldsTo};
+ghost use Rattle.std.specs.Prelude.{◌≡◌, IfErr, OnErr, OnOk, length};
 ghost use Rattle.rart_keys.specs.Joins.{join};
 ghost use Rattle.rart_keys.specs.SortedMap.{values_of};
-ghost use Rattle.rart_nodes.specs.joins.PairCalls.{CalledAt, CalledWith};
-ghost use Rattle.rart_nodes.specs.joins.ViewCalls.{ViewedAt};
-ghost use Rattle.rart_nodes.specs.walks.Calls.{CallsEach};
+ghost use Rattle.rart_nodes.specs.joins.PairCalls.{CalledAtEach, CalledWithEach, CallsAtEach, CallsWithEach, CanCallAt, CanCallWith};
+ghost use Rattle.rart_nodes.specs.joins.SeenJoins.{MayLackBoth};
+ghost use Rattle.rart_nodes.specs.joins.ViewCalls.{CanViewAt, ViewedAtEach, ViewsAtEach};
 
 use crate::tree::AdaptiveRadixTree;
 use rart_keys::KeyTrait;
@@ -31,9 +30,9 @@ impl<K: KeyTrait, V> AdaptiveRadixTree<K, V> {
         other: &AdaptiveRadixTree<K, W>,
         f: &mut F,
     )
-        requires { F.IsAlwaysCallable f.old }
-        ensures callable { F.IsAlwaysCallable f.new }
-        ensures calls { FoldsTo (λ p x q. CalledWith F.FnMut p x q) f.old (values_of (join self.now.pairs other.now.pairs)) f.new }
+        requires callable { CanCallWith F.FnMut f.old (values_of (join self.now.pairs other.now.pairs)) }
+        ensures callable { F.IsAlwaysCallable f.old → F.IsAlwaysCallable f.new }
+        ensures calls { CallsWithEach F.FnMut f.old (values_of (join self.now.pairs other.now.pairs)) f.new }
     {
         self.seen()
             .intersect_values_with_by_ref_counted(other.seen(), f, &mut Visits::new());
@@ -46,8 +45,8 @@ impl<K: KeyTrait, V> AdaptiveRadixTree<K, V> {
         other: &AdaptiveRadixTree<K, W>,
         f: F,
     )
-        requires { F.IsAlwaysCallable f }
-        ensures { CallsEach (λ p x q. CalledWith F.FnMut p x q) f (values_of (join self.now.pairs other.now.pairs)) }
+        requires callable { CanCallWith F.FnMut f (values_of (join self.now.pairs other.now.pairs)) }
+        ensures { CalledWithEach F.FnMut f (values_of (join self.now.pairs other.now.pairs)) }
     {
         self.seen()
             .intersect_values_with_counted(other.seen(), f, &mut Visits::new());
@@ -62,11 +61,11 @@ impl<K: KeyTrait, V> AdaptiveRadixTree<K, V> {
         other: &AdaptiveRadixTree<K, W>,
         f: &mut F,
     ) -> Result<(), TreeError>
-        requires { F.IsAlwaysCallable f.old }
-        ensures callable { F.IsAlwaysCallable f.new }
-        ensures calls { OnOk result (FoldsTo (λ p x q. CalledAt F.FnMut K.bytes p x q) f.old (join self.now.pairs other.now.pairs) f.new) }
+        requires callable { CanCallAt F.FnMut K.bytes f.old (join self.now.pairs other.now.pairs) }
+        ensures callable { F.IsAlwaysCallable f.old → F.IsAlwaysCallable f.new }
+        ensures calls { OnOk result (CallsAtEach F.FnMut K.bytes f.old (join self.now.pairs other.now.pairs) f.new) }
         ensures refused { OnErr result (f.new ≡ f.old) }
-        ensures memory { IfErr result (λ e. (e ≡ TreeError.Memory) × (self.now.pairs ≢ []) × (other.now.pairs ≢ [])) }
+        ensures memory { IfErr result (MayLackBoth self.now.pairs other.now.pairs) }
     {
         self.seen()
             .intersect_with_by_ref_counted(other.seen(), f, &mut Visits::new())
@@ -78,25 +77,26 @@ impl<K: KeyTrait, V> AdaptiveRadixTree<K, V> {
         other: &AdaptiveRadixTree<K, W>,
         f: F,
     ) -> Result<(), TreeError>
-        requires { F.IsAlwaysCallable f }
-        ensures calls { OnOk result (CallsEach (λ p x q. CalledAt F.FnMut K.bytes p x q) f (join self.now.pairs other.now.pairs)) }
-        ensures memory { IfErr result (λ e. (e ≡ TreeError.Memory) × (self.now.pairs ≢ []) × (other.now.pairs ≢ [])) }
+        requires callable { CanCallAt F.FnMut K.bytes f (join self.now.pairs other.now.pairs) }
+        ensures calls { OnOk result (CalledAtEach F.FnMut K.bytes f (join self.now.pairs other.now.pairs)) }
+        ensures memory { IfErr result (MayLackBoth self.now.pairs other.now.pairs) }
     {
         self.seen()
             .intersect_with_counted(other.seen(), f, &mut Visits::new())
     }
-    /// Calls `f` as `intersect_with_by_ref` does, with a view of the key in place of the key: no key is made. A segment of the
-    /// view is a stretch that prefixes of both trees have, or the byte by which a longer one is gone on with.
+    /// Calls `f` as `intersect_with_by_ref` does, with a view of the key in place of the key: no key is made. A
+    /// segment of the view is a stretch that prefixes of both trees have, or the byte by which a longer one is gone
+    /// on with.
     pub fn intersect_lending_with_by_ref<W, F: FnMut(LendingKeyView<'_, '_>, &V, &W)>(
         &self,
         other: &AdaptiveRadixTree<K, W>,
         f: &mut F,
     ) -> Result<(), TreeError>
-        requires { F.IsAlwaysCallable f.old }
-        ensures callable { F.IsAlwaysCallable f.new }
-        ensures calls { OnOk result (FoldsTo (λ p x q. ViewedAt F.FnMut p x q) f.old (join self.now.pairs other.now.pairs) f.new) }
+        requires callable { CanViewAt F.FnMut f.old (join self.now.pairs other.now.pairs) }
+        ensures callable { F.IsAlwaysCallable f.old → F.IsAlwaysCallable f.new }
+        ensures calls { OnOk result (ViewsAtEach F.FnMut f.old (join self.now.pairs other.now.pairs) f.new) }
         ensures refused { OnErr result (f.new ≡ f.old) }
-        ensures memory { IfErr result (λ e. (e ≡ TreeError.Memory) × (self.now.pairs ≢ []) × (other.now.pairs ≢ [])) }
+        ensures memory { IfErr result (MayLackBoth self.now.pairs other.now.pairs) }
     {
         self.seen()
             .intersect_lending_with_by_ref_counted(other.seen(), f, &mut Visits::new())
@@ -108,9 +108,9 @@ impl<K: KeyTrait, V> AdaptiveRadixTree<K, V> {
         other: &AdaptiveRadixTree<K, W>,
         f: F,
     ) -> Result<(), TreeError>
-        requires { F.IsAlwaysCallable f }
-        ensures calls { OnOk result (CallsEach (λ p x q. ViewedAt F.FnMut p x q) f (join self.now.pairs other.now.pairs)) }
-        ensures memory { IfErr result (λ e. (e ≡ TreeError.Memory) × (self.now.pairs ≢ []) × (other.now.pairs ≢ [])) }
+        requires callable { CanViewAt F.FnMut f (join self.now.pairs other.now.pairs) }
+        ensures calls { OnOk result (ViewedAtEach F.FnMut f (join self.now.pairs other.now.pairs)) }
+        ensures memory { IfErr result (MayLackBoth self.now.pairs other.now.pairs) }
     {
         self.seen()
             .intersect_lending_with_counted(other.seen(), f, &mut Visits::new())

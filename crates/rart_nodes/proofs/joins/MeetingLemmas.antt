@@ -1,11 +1,11 @@
 -- What a walk in lockstep has given, where two nodes fork and at each pair of their children.
-use Rattle.std.proofs.Common.{◌≡◌, ℕ, ◌+◌, ◌<◌, ◌≤◌, min, List, [], ◌∷◌, ◌++◌, length, Option, Some, None, refl, arith, ap, subst, ◌∙◌}
-use Rattle.std.proofs.lemmas.List.{length-map}
+use Rattle.std.proofs.Common.{◌≡◌, ℕ, ◌+◌, ◌<◌, ◌≤◌, min, List, [], ◌∷◌, ◌++◌, length, Option, Some, None, refl, arith, ap, subst, sym, ◌∙◌}
+use Rattle.std.proofs.lemmas.List.{append_assoc, length-map}
 use Rattle.std.specs.List.{FoldsTo}
 use Rattle.rart_keys.specs.Joins.{both}
 use Rattle.rart_keys.specs.SortedMap.{longest_key, values_of}
 use Rattle.rart_nodes.specs.joins.Lockstep.{meet}
-use Rattle.rart_nodes.specs.joins.Meetings.{AreMeetings, CountedOn, most_count, prefix-none}
+use Rattle.rart_nodes.specs.joins.Meetings.{AreMeetings, CanBehind, CanGive, CountedOn, most_count, prefix-append, prefix-none}
 use Rattle.rart_nodes.specs.joins.Ways.{Kept, WayGrown, WayCut, way_mark}
 use Rattle.rart_nodes.specs.joins.SharedEdges.{more_visits}
 use Rattle.rart_nodes.specs.joins.Twins.{IsFork, meet_all, twin_if, twins_right, visits_all}
@@ -73,6 +73,34 @@ module _ {V W : Type 0} where
 
     pub same-room : (s t : Kept) (m n : ℕ) → WayGrown s [] t → room s m → n ≤ m → room t n
     same-room s t m n h k i = laws.has_room s t [] m n h k (omega arith)
+
+    -- whom pairs may be given
+    module _ (can : Kept → F → List ℕ × (V × W) → Type 0) where
+      pub can-one : (s : Kept) (f : F) (x : List ℕ × (V × W)) → CanGive can given s f (x ∷ []) → can s f x
+      can-one s f x h = h.at [] x [] f refl (laws.gives_none s f)
+
+      pub can-start : (s : Kept) (f : F) (xs ys : List (List ℕ × (V × W))) → CanGive can given s f (xs ++ ys) → CanGive can given s f xs
+      can-start s f xs ys h = record { at = λ before x after g e k. h.at before x (after ++ ys) g (ap (λ z. z ++ ys) e ∙ append_assoc before (x ∷ after) ys) k }
+
+      pub can-rest : (s : Kept) (f g : F) (xs ys : List (List ℕ × (V × W))) → CanGive can given s f (xs ++ ys) → given s f xs g → CanGive can given s g ys
+      can-rest s f g xs ys h r = record { at = λ before x after j e k. h.at (xs ++ before) x after j (ap (λ z. xs ++ z) e ∙ sym (append_assoc xs before (x ∷ after))) (laws.gives_more s f g j xs before r k) }
+
+      module _ (behind : CanBehind can) where
+        can-behind : (s t : Kept) (p : List ℕ) (f : F) (es : List (List ℕ × (V × W))) → WayGrown s p t → CanGive can given s f (with_prefix p es) → CanGive can given t f es
+        can-behind s t p f es w h = record { at = λ before x after g e k. behind s t p g x w (h.at (with_prefix p before) (p ++ x.0, x.1) (with_prefix p after) g (ap (λ z. with_prefix p z) e ∙ prefix-append p before (x ∷ after)) (laws.gives_behind s t p f g before w k)) }
+
+        pub can-fork : (s t : Kept) (f : F) (x : Trie V) (y : Trie W) (p : List ℕ) (a : Trie V) (b : Trie W) → IsFork x y p a b → WayGrown s p t → CanGive can given s f (meet x y)
+            → CanGive can given t f (own_pair (both (value_of a) (value_of b)) ++ meet_all (twins_right a (children_in b)))
+        can-fork s t f x y p a b k w h = can-behind s t p f _ w (subst (λ (z : List (List ℕ × (V × W))). CanGive can given s f z) k.given h)
+
+        -- the first two, and then the others
+        pub can-next : (s t : Kept) (f : F) (ps : List (Trie V × Trie W)) (a : Trie V) (b : Trie W) (qs : List (Trie V × Trie W)) → ps ≡ (a, b) ∷ qs → WayGrown s [] t → CanGive can given s f (meet_all ps) → CanGive can given t f (meet a b)
+        can-next s t f ps a b qs e w h =
+            let first : CanGive can given s f (meet a b) = can-start s f (meet a b) (meet_all qs) (subst (λ (z : List (Trie V × Trie W)). CanGive can given s f (meet_all z)) e h) in
+            can-behind s t [] f (meet a b) w (subst (λ (z : List (List ℕ × (V × W))). CanGive can given s f z) (sym (prefix-none (meet a b))) first)
+
+        pub can-others : (s t : Kept) (f g : F) (ps : List (Trie V × Trie W)) (a : Trie V) (b : Trie W) (qs : List (Trie V × Trie W)) → ps ≡ (a, b) ∷ qs → WayGrown s [] t → given t f (meet a b) g → CanGive can given s f (meet_all ps) → CanGive can given s g (meet_all qs)
+        can-others s t f g ps a b qs e w i h = can-rest s f g (meet a b) (meet_all qs) (subst (λ (z : List (Trie V × Trie W)). CanGive can given s f (meet_all z)) e h) (given-here s t f g (meet a b) w i)
 
 -- gone on and back again
 pub back-again : (s t u v : Kept) (p : List ℕ) (m : ℕ) → m ≡ way_mark s → WayGrown s p t → WayGrown t [] u → WayCut m u v → WayGrown s [] v

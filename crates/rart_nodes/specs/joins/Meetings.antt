@@ -22,6 +22,14 @@ pub record AreMeetings {F X : Type 0} (room : Kept → ℕ → Type 0) (given : 
   pub gives_more : (s : Kept) (f g h : F) (xs ys : List (List ℕ × X)) → given s f xs g → given s g ys h → given s f (xs ++ ys) h
   pub gives_behind : (s t : Kept) (p : List ℕ) (f g : F) (es : List (List ℕ × X)) → WayGrown s p t → given t f es g → given s f (with_prefix p es) g
 
+-- `can s f x`: behind the way s, f may be given x. It is so behind more of the way with less of the key
+abbrev pub CanBehind : {F X : Type 0} → (Kept → F → List ℕ × X → Type 0) → Type 0
+CanBehind {F} {X} can = (s t : Kept) (p : List ℕ) (f : F) (x : List ℕ × X) → WayGrown s p t → can s f (p ++ x.0, x.1) → can t f x
+
+-- behind the way s, f may be given each of the pairs es, as those before it leave f
+pub record CanGive {F X : Type 0} (can : Kept → F → List ℕ × X → Type 0) (given : Kept → F → List (List ℕ × X) → F → Type 0) (s : Kept) (f : F) (es : List (List ℕ × X)) : Type 0 where
+  pub at : (before : List (List ℕ × X)) (x : List ℕ × X) (after : List (List ℕ × X)) (g : F) → es ≡ before ++ x ∷ after → given s f before g → can s g x
+
 folds-append : {P A : Type 0} (R : P → A → P → Type 0) (p q r : P) (xs ys : List A) → FoldsTo R p xs q → FoldsTo R q ys r → FoldsTo R p (xs ++ ys) r
 folds-append R p q r [] ys h g = rw h g
 folds-append R p q r (x ∷ xs) ys h g = (h.0, h.1, folds-append R h.0 q r xs ys h.2 g)
@@ -30,7 +38,7 @@ within-less : (m : Option ℕ) (i j : ℕ) → IsWithin m i → j ≤ i → IsWi
 within-less None i j h k = tt
 within-less (Some m) i j h k = omega arith
 
-values_of-append : {X : Type 0} (xs ys : List (List ℕ × X)) → values_of (xs ++ ys) ≡ values_of xs ++ values_of ys
+pub values_of-append : {X : Type 0} (xs ys : List (List ℕ × X)) → values_of (xs ++ ys) ≡ values_of xs ++ values_of ys
 values_of-append [] ys = refl
 values_of-append (x ∷ xs) ys = ap (λ z. x.1 ∷ z) (values_of-append xs ys)
 
@@ -46,7 +54,7 @@ pub prefix-none : {X : Type 0} (es : List (List ℕ × X)) → with_prefix [] es
 prefix-none [] = refl
 prefix-none (e ∷ es) = ap (λ z. e ∷ z) (prefix-none es)
 
-prefix-append : {X : Type 0} (p : List ℕ) (xs ys : List (List ℕ × X)) → with_prefix p (xs ++ ys) ≡ with_prefix p xs ++ with_prefix p ys
+pub prefix-append : {X : Type 0} (p : List ℕ) (xs ys : List (List ℕ × X)) → with_prefix p (xs ++ ys) ≡ with_prefix p xs ++ with_prefix p ys
 prefix-append p [] ys = refl
 prefix-append p (x ∷ xs) ys = ap (λ z. (p ++ x.0, x.1) ∷ z) (prefix-append p xs ys)
 
@@ -95,6 +103,12 @@ way-room (Segments k) (Segments l) p m n a b c = segments_room k l p m n a b c
 abbrev pub GivenValues : {F X : Type 0} → (F → X → F → Type 0) → Kept → F → List (List ℕ × X) → F → Type 0
 GivenValues r s f es g = FoldsTo r f (values_of es) g
 
+abbrev pub CanGiveValues : {F X : Type 0} → (F → X → Type 0) → Kept → F → List ℕ × X → Type 0
+CanGiveValues q s f x = q f x.1
+
+pub can_values : {F X : Type 0} (q : F → X → Type 0) → CanBehind (CanGiveValues q)
+can_values q s t p f x w h = h
+
 pub give_values : {F X : Type 0} (r : F → X → F → Type 0) → AreMeetings WayRoom (GivenValues r)
 give_values r = record {
   holds = λ s n h. h;
@@ -133,6 +147,22 @@ abbrev pub GivenKeys : {F X : Type 0} → (F → List ℕ × X → F → Type 0)
 GivenKeys r Untold f es g = Unit {0}
 GivenKeys r (Bytes k) f es g = FoldsTo r f (with_prefix k.items es) g
 GivenKeys r (Segments k) f es g = Unit {0}
+
+abbrev pub CanGiveKeys : {F X : Type 0} → (F → List ℕ × X → Type 0) → Kept → F → List ℕ × X → Type 0
+CanGiveKeys q Untold f x = Unit {0}
+CanGiveKeys q (Bytes k) f x = q f (k.items ++ x.0, x.1)
+CanGiveKeys q (Segments k) f x = Unit {0}
+
+pub can_keys : {F X : Type 0} (q : F → List ℕ × X → Type 0) → CanBehind (CanGiveKeys q)
+can_keys q Untold Untold p f x w h = tt
+can_keys q Untold (Bytes l) p f x w h = absurd w
+can_keys q Untold (Segments l) p f x w h = tt
+can_keys q (Bytes k) Untold p f x w h = tt
+can_keys q (Bytes k) (Bytes l) p f x w h = rw (w.bytes, append_assoc k.items p x.0) h
+can_keys q (Bytes k) (Segments l) p f x w h = tt
+can_keys q (Segments k) Untold p f x w h = tt
+can_keys q (Segments k) (Bytes l) p f x w h = absurd w
+can_keys q (Segments k) (Segments l) p f x w h = tt
 
 keys-none : {F X : Type 0} (r : F → List ℕ × X → F → Type 0) (s : Kept) (f : F) → GivenKeys r s f [] f
 keys-none r Untold f = tt
@@ -185,6 +215,24 @@ abbrev pub GivenViews : {F X : Type 0} → (F → List ℕ × X → F → Type 0
 GivenViews r Untold f es g = Unit {0}
 GivenViews r (Bytes k) f es g = Unit {0}
 GivenViews r (Segments k) f es g = FoldsTo r f (with_prefix (joined (lent_pieces k.items)) es) g
+
+abbrev pub CanGiveViews : {F X : Type 0} → (F → List ℕ × X → Type 0) → Kept → F → List ℕ × X → Type 0
+CanGiveViews q Untold f x = Unit {0}
+CanGiveViews q (Bytes k) f x = Unit {0}
+CanGiveViews q (Segments k) f x = q f (joined (lent_pieces k.items) ++ x.0, x.1)
+
+pub can_views : {F X : Type 0} (q : F → List ℕ × X → Type 0) → CanBehind (CanGiveViews q)
+can_views q Untold Untold p f x w h = tt
+can_views q Untold (Bytes l) p f x w h = tt
+can_views q Untold (Segments l) p f x w h = absurd w
+can_views q (Bytes k) Untold p f x w h = tt
+can_views q (Bytes k) (Bytes l) p f x w h = tt
+can_views q (Bytes k) (Segments l) p f x w h = absurd w
+can_views q (Segments k) Untold p f x w h = tt
+can_views q (Segments k) (Bytes l) p f x w h = tt
+can_views q (Segments k) (Segments l) p f x w h =
+    let whole : joined (lent_pieces l.items) ≡ joined (lent_pieces k.items) ++ p = ap joined w.pieces ∙ joined-append (lent_pieces k.items) w.more ∙ ap (λ z. joined (lent_pieces k.items) ++ z) w.bytes in
+    rw (whole, append_assoc (joined (lent_pieces k.items)) p x.0) h
 
 views-none : {F X : Type 0} (r : F → List ℕ × X → F → Type 0) (s : Kept) (f : F) → GivenViews r s f [] f
 views-none r Untold f = tt

@@ -1,5 +1,5 @@
 -- How a callback is called along a list, and how what goes through a list may be refused.
-use Rattle.std.specs.Prelude.{◌≡◌, ◌≢◌, List, []}
+use Rattle.std.specs.Prelude.{◌≡◌, ◌≢◌, List, [], ◌∷◌, ◌++◌}
 use Rattle.std.specs.List.{FoldsTo}
 use Rattle.rart_parts.specs.declared.error.TreeError.{TreeError}
 use Rattle.rart_parts.specs.declared.error.TreeError.TheVariants.{Memory}
@@ -11,3 +11,7 @@ CallsEach {F} R f xs = (last : F) × FoldsTo R f xs last
 -- memory was refused, and there is something to go through
 abbrev pub MayLackRoom : {A : Type 0} → List A → TreeError → Type 0
 MayLackRoom xs e = (e ≡ Memory) × (xs ≢ [])
+
+-- Q holds at each item, of f as calls of which R tells leave it at the items before
+pub record CallableAtEach {F A : Type 0} (R : F → A → F → Type 0) (Q : F → A → Type 0) (f : F) (xs : List A) : Type 0 where
+  pub at : (before : List A) (x : A) (after : List A) (g : F) → xs ≡ before ++ x ∷ after → FoldsTo R f before g → Q g x

@@ -1,11 +1,16 @@
 -- Calls of a callback that can end a walk.
-use Rattle.std.specs.Prelude.{◌≡◌, List, [], ◌∷◌, Result, Ok, Err}
+use Rattle.std.specs.Prelude.{◌≡◌, ◌≢◌, List, [], ◌∷◌, Result, Ok, Err}
 use Rattle.std.specs.Borrow.{Bor}
-use Rattle.std.specs.Fn.{Mut, Called}
+use Rattle.std.specs.Fn.{Mut, Called, CalledAt, TakesAt}
+use Rattle.rart_nodes.specs.walks.Calls.{CallableAtEach}
 use Rattle.rart_nodes.specs.declared.node.control.VisitControl.{VisitControl}
 use Rattle.rart_nodes.specs.declared.node.control.VisitControl.TheVariants.{Continue, Stop}
 use Rattle.rart_nodes.specs.declared.node.control.VisitError.{VisitError}
 use Rattle.rart_nodes.specs.declared.node.control.VisitError.TheVariants.{Callback, Memory}
+
+-- f may be called with each value in turn, for as long as each call has said that the walk goes on
+abbrev pub CanTry : {F V E : Type 0} → Mut F (Bor V × Unit {0}) (Result VisitControl E) → F → List V → Type 0
+CanTry g f xs = CallableAtEach (λ p x q. CalledAt g p x (Ok Continue) q) (λ p x. TakesAt g p x) f xs
 
 -- how a walk goes on or ends behind an answer, as `more` goes on
 abbrev pub GoesOnAs : {F E : Type 0} → Result VisitControl E → F → (F → Type 0) → Result (Unit {0}) E → F → Type 0
@@ -23,3 +28,17 @@ abbrev pub EndsVisit : {F V E : Type 0} → Mut F (Bor V × Unit {0}) (Result Vi
 EndsVisit g f vs (Ok u) f' = EndsAs g f vs (Ok tt) f'
 EndsVisit g f vs (Err (Callback e)) f' = EndsAs g f vs (Err e) f'
 EndsVisit g f vs (Err Memory) f' = f ≡ f'
+
+-- the same of an f that is gone
+abbrev pub EndedVisit : {F V E : Type 0} → Mut F (Bor V × Unit {0}) (Result VisitControl E) → F → List V → Result (Unit {0}) (VisitError E) → Type 0
+EndedVisit {F} g f vs r = (last : F) × EndsVisit g f vs r last
+
+-- P holds, unless there was no room
+abbrev pub IfRoom : {E : Type 0} → Result (Unit {0}) (VisitError E) → Type 0 → Type 0
+IfRoom (Ok u) P = P
+IfRoom (Err (Callback e)) P = P
+IfRoom (Err Memory) P = Unit {0}
+
+-- there was no room, and there is something to go through
+abbrev pub MayStopAtRoom : {A E : Type 0} → List A → VisitError E → Type 0
+MayStopAtRoom xs e = e ≡ Memory → xs ≢ []

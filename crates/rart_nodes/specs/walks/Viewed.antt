@@ -1,7 +1,9 @@
 -- Calls of a callback with a key that is lent in segments.
 use Rattle.std.specs.Prelude.{ℕ, ◌≡◌, Bool, true, false, List, Option, Some, None, IsSomeAnd}
 use Rattle.std.specs.Borrow.{Bor}
-use Rattle.std.specs.Fn.{Mut, Once, Called}
+use Rattle.std.specs.Fn.{Mut, Once, Called, Takes}
+use Rattle.std.specs.List.{FoldsTo}
+use Rattle.rart_nodes.specs.walks.Calls.{CallableAtEach, CallsEach}
 use Rattle.rart_nodes.specs.walks.Cut.{cut}
 use Rattle.rart_nodes.specs.walks.Tour.{Pieces}
 use Rattle.rart_nodes.specs.walks.TrailParts.{lent_pieces}
@@ -15,6 +17,33 @@ pub record Viewed {F V : Type 0} (g : Mut F (LendingKeyView × (Bor V × Unit {0
   pub key_is : lent_pieces key.segments.now ≡ x.0
   pub shows : shown.now ≡ x.1
   pub called : Called g f (key, (shown, tt)) tt f'
+
+module _ {F V : Type 0} (g : Mut F (LendingKeyView × (Bor V × Unit {0})) (Unit {0})) where
+  -- f may be called with a view of the segments of x and with its value
+  abbrev pub TakesView : F → Pieces × V → Type 0
+  TakesView f x = (key : LendingKeyView) (shown : Bor V) → lent_pieces key.segments.now ≡ x.0 → shown.now ≡ x.1 → Takes g f (key, (shown, tt))
+
+  -- f may be called with a view of each pair in turn
+  abbrev pub CanView : F → List (Pieces × V) → Type 0
+  CanView f xs = CallableAtEach (λ p x q. Viewed g p x q) (λ p x. TakesView p x) f xs
+
+  -- f was called with a view of each pair in turn, and is then f'
+  abbrev pub ViewsEach : F → List (Pieces × V) → F → Type 0
+  ViewsEach f xs f' = FoldsTo (λ p x q. Viewed g p x q) f xs f'
+
+  -- the same of an f that is gone
+  abbrev pub ViewedEach : F → List (Pieces × V) → Type 0
+  ViewedEach f xs = CallsEach (λ p x q. Viewed g p x q) f xs
+
+-- f may be called with a view of the pair that is found, if there is one, its key cut as s says
+abbrev pub CanShowFound : {F V : Type 0} → Mut F (LendingKeyView × (Bor V × Unit {0})) (Unit {0}) → F → List (List ℕ) → Option (List ℕ × V) → Type 0
+CanShowFound g f s None = Unit {0}
+CanShowFound g f s (Some e) = TakesView g f (cut s e.0, e.1)
+
+-- the same of an f that is called once
+abbrev pub CanSeeFound : {F V : Type 0} → Once F (LendingKeyView × (Bor V × Unit {0})) (Unit {0}) → F → List (List ℕ) → Option (List ℕ × V) → Type 0
+CanSeeFound g f s None = Unit {0}
+CanSeeFound {F} {V} g f s (Some e) = (key : LendingKeyView) (shown : Bor V) → lent_pieces key.segments.now ≡ cut s e.0 → shown.now ≡ e.1 → g.pre f (key, (shown, tt))
 
 -- f was called once, with a view of the segments of x and with its value
 pub record ViewedOnce {F V : Type 0} (g : Once F (LendingKeyView × (Bor V × Unit {0})) (Unit {0})) (f : F) (x : Pieces × V) : Type 0 where

@@ -1,17 +1,16 @@
 //! Intersections of two shared trees: one walk through both in lockstep, with its visits counted.
-ghost use Rattle.std.specs.Prelude.{◌≡◌, ◌≢◌, ◌≤◌, ◌+◌, ◌-◌, [], IfErr, OnErr, OnOk, length, min};
-ghost use Rattle.std.specs.List.{FoldsTo};
+ghost use Rattle.std.specs.Prelude.{◌≡◌, ◌≤◌, ◌+◌, ◌-◌, [], IfErr, OnErr, OnOk, length, min};
 ghost use Rattle.rart_keys.specs.Joins.{join};
 ghost use Rattle.rart_keys.specs.SortedMap.{longest_key, values_of};
 ghost use Rattle.rart_nodes.specs.joins.Lockstep.{meet};
-ghost use Rattle.rart_nodes.specs.joins.PairCalls.{CalledAt, CalledWith};
-ghost use Rattle.rart_nodes.specs.joins.SeenJoins.{seen_bound, seen_join, seen_visits};
+ghost use Rattle.rart_nodes.specs.joins.Meetings.{CanGive};
+ghost use Rattle.rart_nodes.specs.joins.PairCalls.{CalledAtEach, CalledWithEach, CallsAtEach, CallsWithEach, CanCallAt, CanCallWith};
+ghost use Rattle.rart_nodes.specs.joins.SeenJoins.{MayLackBoth, seen_bound, seen_join, seen_visits};
 ghost use Rattle.rart_nodes.specs.joins.SharedEdges.{joint_visits, more_visits};
-ghost use Rattle.rart_nodes.specs.joins.ViewCalls.{ViewedAt};
+ghost use Rattle.rart_nodes.specs.joins.ViewCalls.{CanViewAt, ViewedAtEach, ViewsAtEach};
 ghost use Rattle.rart_nodes.specs.joins.Ways.{WayGrown};
 ghost use Rattle.rart_nodes.specs.tries.Tree.{seen_keys, seen_nodes, seen_pairs};
 ghost use Rattle.rart_nodes.specs.tries.Trie.{pairs_of};
-ghost use Rattle.rart_nodes.specs.walks.Calls.{CallsEach};
 
 mod fork;
 mod meeting;
@@ -37,9 +36,8 @@ fn meet_below<'a, P: Partial, V, W, C: Count, F, T: Meeting<V, W, F>>(
     f: &mut F,
 )
     requires room { T.room way.old (longest_key (pairs_of left.node.now)) }
-    requires callable { T.callable f.old }
+    requires callable { CanGive T.can T.given way.old f.old (meet left.node.now right.node.now) }
     ensures place { WayGrown way.old [] way.new }
-    ensures callable { T.callable f.new }
     ensures given { T.given way.old f.old (meet left.entry.node.now right.entry.node.now) f.new }
     ensures visits { C.number counter.new ≡ C.number counter.old + more_visits left.entry.node.now right.entry.node.now }
 {
@@ -69,8 +67,7 @@ fn meet_trees<'a, K: KeyTrait, V, W, C: Count, F, T: Meeting<V, W, F>>(
     f: &mut F,
 )
     requires room { T.room way.old (longest_key (seen_pairs left.root)) }
-    requires callable { T.callable f.old }
-    ensures callable { T.callable f.new }
+    requires callable { CanGive T.can T.given way.old f.old (seen_join left.root right.root) }
     ensures given { T.given way.old f.old (join (seen_pairs left.entry.root) (seen_pairs right.entry.root)) f.new }
     ensures visits { C.number counter.new ≡ C.number counter.old + joint_visits (seen_keys left.entry.root) (seen_keys right.entry.root) }
     ensures bound { C.number counter.new ≤ C.number counter.old + (length (seen_nodes left.entry.root) + length (seen_nodes right.entry.root) - 1) }
@@ -109,54 +106,69 @@ impl<'a, K: KeyTrait, V, C: Count> Seen<'a, K, V, C> {
         count
     }
 
-    /// Calls `f` once for each key of both trees, ascending, with the values of this tree and of the
-    /// other. `f` is lent, so that the caller sees what the calls left in it. Makes no key and takes no
-    /// memory, and visits what `intersect_count_counted` does.
+    /// Calls `f` once for each key of both trees, ascending, with the values of this tree and of `other`. Makes no
+    /// key and allocates nothing. `f` must be callable with each of these in turn. The caller keeps `f`.
+    ///
+    /// # Visits
+    ///
+    /// As `intersect_count_counted`.
     pub fn intersect_values_with_by_ref_counted<'b, W, F: FnMut(&V, &W)>(
         self,
         other: Seen<'b, K, W, Paired<C>>,
         f: &mut F,
         counter: &mut C,
     )
-        requires { F.IsAlwaysCallable f.old }
-        ensures callable { F.IsAlwaysCallable f.new }
-        ensures calls { FoldsTo (λ p x q. CalledWith F.FnMut p x q) f.old (values_of (seen_join self.entry.root other.entry.root)) f.new }
+        requires callable { CanCallWith F.FnMut f.old (values_of (seen_join self.root other.root)) }
+        ensures callable { F.IsAlwaysCallable f.old → F.IsAlwaysCallable f.new }
+        ensures calls { CallsWithEach F.FnMut f.old
+            (values_of (seen_join self.entry.root other.entry.root)) f.new }
         ensures visits { C.number counter.new ≡ C.number counter.old + seen_visits self.entry.root other.entry.root }
         ensures bound { C.number counter.new ≤ C.number counter.old + seen_bound self.entry.root other.entry.root }
     {
         meet_trees::<K, V, W, C, F, ByValues>(self, other, &mut Way::Untold, counter, f);
     }
 
-    /// Calls `f` as `intersect_values_with_by_ref_counted` does; `f` is gone after the call.
+    /// Calls `f` as `intersect_values_with_by_ref_counted` does, and drops it.
     pub fn intersect_values_with_counted<'b, W, F: FnMut(&V, &W) + Drop>(
         self,
         other: Seen<'b, K, W, Paired<C>>,
         mut f: F,
         counter: &mut C,
     )
-        requires { F.IsAlwaysCallable f }
-        ensures calls { CallsEach (λ p x q. CalledWith F.FnMut p x q) f (values_of (seen_join self.entry.root other.entry.root)) }
+        requires callable { CanCallWith F.FnMut f (values_of (seen_join self.root other.root)) }
+        ensures calls { CalledWithEach F.FnMut f (values_of (seen_join self.entry.root other.entry.root)) }
         ensures visits { C.number counter.new ≡ C.number counter.old + seen_visits self.entry.root other.entry.root }
         ensures bound { C.number counter.new ≤ C.number counter.old + seen_bound self.entry.root other.entry.root }
     {
         self.intersect_values_with_by_ref_counted(other, &mut f, counter);
     }
 
-    /// As `intersect_values_with_by_ref_counted`, with the key. All room is taken before the first visit, after
-    /// the longest key of this tree, and none where a tree is empty. Refused with `Memory` alone: then
-    /// nothing was visited, and `f` was not called.
+    /// Calls `f` once for each key of both trees, ascending, with the key and the values of this tree and of `other`.
+    /// `f` must be callable with each of these in turn. The caller keeps `f`.
+    ///
+    /// # Errors
+    ///
+    /// [`TreeError::Memory`] if neither tree is empty and the allocation for the longest key of this tree fails.
+    /// Nothing is then visited, and `f` is not called.
+    ///
+    /// # Visits
+    ///
+    /// As `intersect_count_counted`.
     pub fn intersect_with_by_ref_counted<'b, W, F: FnMut(K, &V, &W)>(
         self,
         other: Seen<'b, K, W, Paired<C>>,
         f: &mut F,
         counter: &mut C,
     ) -> Result<(), TreeError>
-        requires { F.IsAlwaysCallable f.old }
-        ensures callable { F.IsAlwaysCallable f.new }
-        ensures calls { OnOk result (FoldsTo (λ p x q. CalledAt F.FnMut K.bytes p x q) f.old (seen_join self.entry.root other.entry.root) f.new) }
-        ensures memory { IfErr result (λ e. (e ≡ TreeError.Memory) × (seen_pairs self.entry.root ≢ []) × (seen_pairs other.entry.root ≢ [])) }
+        requires callable { CanCallAt F.FnMut K.bytes f.old (seen_join self.root other.root) }
+        ensures callable { F.IsAlwaysCallable f.old → F.IsAlwaysCallable f.new }
+        ensures calls { OnOk result (CallsAtEach F.FnMut K.bytes f.old
+            (seen_join self.entry.root other.entry.root) f.new) }
+        ensures memory { IfErr result
+            (MayLackBoth (seen_pairs self.entry.root) (seen_pairs other.entry.root)) }
         ensures refused { OnErr result ((f.new ≡ f.old) × (C.number counter.new ≡ C.number counter.old)) }
-        ensures visits { OnOk result (C.number counter.new ≡ C.number counter.old + seen_visits self.entry.root other.entry.root) }
+        ensures visits { OnOk result (C.number counter.new
+            ≡ C.number counter.old + seen_visits self.entry.root other.entry.root) }
         ensures bound { C.number counter.new ≤ C.number counter.old + seen_bound self.entry.root other.entry.root }
     {
         let Some(_) = self.top() else {
@@ -171,37 +183,43 @@ impl<'a, K: KeyTrait, V, C: Count> Seen<'a, K, V, C> {
         Ok(())
     }
 
-    /// Calls `f` as `intersect_with_by_ref_counted` does; `f` is gone after the call.
+    /// Calls `f` as `intersect_with_by_ref_counted` does, and drops it.
     pub fn intersect_with_counted<'b, W, F: FnMut(K, &V, &W) + Drop>(
         self,
         other: Seen<'b, K, W, Paired<C>>,
         mut f: F,
         counter: &mut C,
     ) -> Result<(), TreeError>
-        requires { F.IsAlwaysCallable f }
-        ensures calls { OnOk result (CallsEach (λ p x q. CalledAt F.FnMut K.bytes p x q) f (seen_join self.entry.root other.entry.root)) }
-        ensures memory { IfErr result (λ e. (e ≡ TreeError.Memory) × (seen_pairs self.entry.root ≢ []) × (seen_pairs other.entry.root ≢ [])) }
+        requires callable { CanCallAt F.FnMut K.bytes f (seen_join self.root other.root) }
+        ensures calls { OnOk result (CalledAtEach F.FnMut K.bytes f
+            (seen_join self.entry.root other.entry.root)) }
+        ensures memory { IfErr result
+            (MayLackBoth (seen_pairs self.entry.root) (seen_pairs other.entry.root)) }
         ensures unvisited { OnErr result (C.number counter.new ≡ C.number counter.old) }
-        ensures visits { OnOk result (C.number counter.new ≡ C.number counter.old + seen_visits self.entry.root other.entry.root) }
+        ensures visits { OnOk result (C.number counter.new
+            ≡ C.number counter.old + seen_visits self.entry.root other.entry.root) }
         ensures bound { C.number counter.new ≤ C.number counter.old + seen_bound self.entry.root other.entry.root }
     {
         self.intersect_with_by_ref_counted(other, &mut f, counter)
     }
 
-    /// As `intersect_with_by_ref_counted`, with a view of the key in place of it: no key is made. A segment is a stretch
-    /// that both prefixes of a pair have, or the byte by which a longer one is gone on with.
+    /// As `intersect_with_by_ref_counted`, with a view of the key in place of it: no key is made. A segment is a
+    /// stretch that both prefixes of a pair have, or the byte by which a longer one is gone on with.
     pub fn intersect_lending_with_by_ref_counted<'b, W, F: FnMut(LendingKeyView<'_, '_>, &V, &W)>(
         self,
         other: Seen<'b, K, W, Paired<C>>,
         f: &mut F,
         counter: &mut C,
     ) -> Result<(), TreeError>
-        requires { F.IsAlwaysCallable f.old }
-        ensures callable { F.IsAlwaysCallable f.new }
-        ensures calls { OnOk result (FoldsTo (λ p x q. ViewedAt F.FnMut p x q) f.old (seen_join self.entry.root other.entry.root) f.new) }
-        ensures memory { IfErr result (λ e. (e ≡ TreeError.Memory) × (seen_pairs self.entry.root ≢ []) × (seen_pairs other.entry.root ≢ [])) }
+        requires callable { CanViewAt F.FnMut f.old (seen_join self.root other.root) }
+        ensures callable { F.IsAlwaysCallable f.old → F.IsAlwaysCallable f.new }
+        ensures calls { OnOk result (ViewsAtEach F.FnMut f.old
+            (seen_join self.entry.root other.entry.root) f.new) }
+        ensures memory { IfErr result
+            (MayLackBoth (seen_pairs self.entry.root) (seen_pairs other.entry.root)) }
         ensures refused { OnErr result ((f.new ≡ f.old) × (C.number counter.new ≡ C.number counter.old)) }
-        ensures visits { OnOk result (C.number counter.new ≡ C.number counter.old + seen_visits self.entry.root other.entry.root) }
+        ensures visits { OnOk result (C.number counter.new
+            ≡ C.number counter.old + seen_visits self.entry.root other.entry.root) }
         ensures bound { C.number counter.new ≤ C.number counter.old + seen_bound self.entry.root other.entry.root }
     {
         let Some(_) = self.top() else {
@@ -216,18 +234,21 @@ impl<'a, K: KeyTrait, V, C: Count> Seen<'a, K, V, C> {
         Ok(())
     }
 
-    /// Calls `f` as `intersect_lending_with_by_ref_counted` does; `f` is gone after the call.
+    /// Calls `f` as `intersect_lending_with_by_ref_counted` does, and drops it.
     pub fn intersect_lending_with_counted<'b, W, F: FnMut(LendingKeyView<'_, '_>, &V, &W) + Drop>(
         self,
         other: Seen<'b, K, W, Paired<C>>,
         mut f: F,
         counter: &mut C,
     ) -> Result<(), TreeError>
-        requires { F.IsAlwaysCallable f }
-        ensures calls { OnOk result (CallsEach (λ p x q. ViewedAt F.FnMut p x q) f (seen_join self.entry.root other.entry.root)) }
-        ensures memory { IfErr result (λ e. (e ≡ TreeError.Memory) × (seen_pairs self.entry.root ≢ []) × (seen_pairs other.entry.root ≢ [])) }
+        requires callable { CanViewAt F.FnMut f (seen_join self.root other.root) }
+        ensures calls { OnOk result (ViewedAtEach F.FnMut f
+            (seen_join self.entry.root other.entry.root)) }
+        ensures memory { IfErr result
+            (MayLackBoth (seen_pairs self.entry.root) (seen_pairs other.entry.root)) }
         ensures unvisited { OnErr result (C.number counter.new ≡ C.number counter.old) }
-        ensures visits { OnOk result (C.number counter.new ≡ C.number counter.old + seen_visits self.entry.root other.entry.root) }
+        ensures visits { OnOk result (C.number counter.new
+            ≡ C.number counter.old + seen_visits self.entry.root other.entry.root) }
         ensures bound { C.number counter.new ≤ C.number counter.old + seen_bound self.entry.root other.entry.root }
     {
         self.intersect_lending_with_by_ref_counted(other, &mut f, counter)

@@ -4,14 +4,12 @@
 //! them, `longest_match`. Nothing here takes memory.
 ghost use Rattle.std.specs.Prelude.{◌≡◌, ◌≤◌, ◌+◌, length, take, None, IfSome, MatchOption, option_map};
 ghost use Rattle.std.specs.Iterator.{YieldsFirstBy, item_count};
-ghost use Rattle.std.specs.List.{FoldsTo};
 ghost use Rattle.std.specs.Option.{option_copied};
 ghost use Rattle.rart_keys.specs.Filters.{longest_match, longest_value, matches};
 ghost use Rattle.rart_nodes.specs.tries.Tree.{seen_keys, seen_pairs};
-ghost use Rattle.rart_nodes.specs.walks.Matched.{Matched};
+ghost use Rattle.rart_nodes.specs.walks.Matched.{CanMatch, MatchedEach, MatchesEach};
 ghost use Rattle.rart_nodes.specs.walks.Matches.{PassesTo, entered_left, matches_left};
 ghost use Rattle.rart_nodes.specs.walks.ProbeCount.{probe_count};
-ghost use Rattle.rart_nodes.specs.walks.Calls.{CallsEach};
 
 use crate::count::{Count, Visits};
 use crate::node::rest::rest_behind;
@@ -135,9 +133,9 @@ impl<'a, K: KeyTrait, V, C: Count> Seen<'a, K, V, C> {
     }
 
     fn each_match<F: FnMut(&[u8], &V)>(self, probe: &[u8], f: &mut F, counter: &mut C)
-        requires callable { F.IsAlwaysCallable f.old }
-        ensures callable { F.IsAlwaysCallable f.new }
-        ensures calls { FoldsTo (λ p x q. Matched F.FnMut p x q) f.old (matches probe.now (seen_pairs self.entry.root)) f.new }
+        requires callable { CanMatch F.FnMut f.old (matches probe.now (seen_pairs self.root)) }
+        ensures callable { F.IsAlwaysCallable f.old → F.IsAlwaysCallable f.new }
+        ensures calls { MatchesEach F.FnMut f.old (matches probe.now (seen_pairs self.entry.root)) f.new }
         ensures visits { C.number counter.new ≡ C.number counter.old + probe_count (seen_keys self.entry.root) probe.now }
         ensures bound { C.number counter.new ≤ C.number counter.old + length probe.now + 1 }
     {
@@ -147,33 +145,39 @@ impl<'a, K: KeyTrait, V, C: Count> Seen<'a, K, V, C> {
         }
     }
 
-    /// Calls `f` with each pair whose key begins the probe, the shortest first. The key is lent from the probe: its
-    /// first bytes. `f` is lent too, so that the caller sees what the calls left in it.
+    /// Calls `f` with each pair whose key begins `probe`, the shortest first. The key is borrowed from the probe: its
+    /// first bytes. `f` must be callable with each of these in turn. The caller keeps `f`.
+    ///
+    /// # Visits
+    ///
+    /// At most `probe.len() + 1` nodes.
     pub fn prefix_match_for_each_by_ref_k_counted<F: FnMut(&[u8], &V)>(
         self,
         probe: &K,
         f: &mut F,
         counter: &mut C,
     )
-        requires callable { F.IsAlwaysCallable f.old }
-        ensures callable { F.IsAlwaysCallable f.new }
-        ensures calls { FoldsTo (λ p x q. Matched F.FnMut p x q) f.old (matches (K.bytes probe.now) (seen_pairs self.entry.root)) f.new }
+        requires callable { CanMatch F.FnMut f.old
+            (matches (K.bytes probe.now) (seen_pairs self.root)) }
+        ensures callable { F.IsAlwaysCallable f.old → F.IsAlwaysCallable f.new }
+        ensures calls { MatchesEach F.FnMut f.old
+            (matches (K.bytes probe.now) (seen_pairs self.entry.root)) f.new }
         ensures visits { C.number counter.new ≡ C.number counter.old + probe_count (seen_keys self.entry.root) (K.bytes probe.now) }
         ensures bound { C.number counter.new ≤ C.number counter.old + length (K.bytes probe.now) + 1 }
     {
         self.each_match(probe.as_ref(), f, counter);
     }
 
-    /// Calls `f` with each pair whose key begins the probe, as `prefix_match_for_each_by_ref_k_counted` does; `f` is gone
-    /// after the call.
+    /// Calls `f` as `prefix_match_for_each_by_ref_k_counted` does, and drops it.
     pub fn prefix_match_for_each_k_counted<F: FnMut(&[u8], &V) + Drop>(
         self,
         probe: &K,
         mut f: F,
         counter: &mut C,
     )
-        requires callable { F.IsAlwaysCallable f }
-        ensures calls { CallsEach (λ p x q. Matched F.FnMut p x q) f (matches (K.bytes probe.now) (seen_pairs self.entry.root)) }
+        requires callable { CanMatch F.FnMut f (matches (K.bytes probe.now) (seen_pairs self.root)) }
+        ensures calls { MatchedEach F.FnMut f
+            (matches (K.bytes probe.now) (seen_pairs self.entry.root)) }
         ensures visits { C.number counter.new ≡ C.number counter.old + probe_count (seen_keys self.entry.root) (K.bytes probe.now) }
         ensures bound { C.number counter.new ≤ C.number counter.old + length (K.bytes probe.now) + 1 }
     {

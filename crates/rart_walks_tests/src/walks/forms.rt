@@ -1,5 +1,6 @@
 //! A walk with a callback in each of its forms: how often it called, and how it ended.
 
+use super::seen_forms;
 use crate::prefixes::{Key, Pair, Tree};
 use rart::{KeyTrait, LendingKeyView, TreeError, VisitControl, VisitError};
 use rart_test_tools::refusals::refuse;
@@ -28,10 +29,20 @@ pub enum Walk {
     ValuesLentByValue,
     Fold,
     FoldByValue,
+    FoldLent,
+    FoldLentByValue,
     Tries,
     TriesByValue,
     TriesLent,
     TriesLentByValue,
+    TriesSeen,
+    ValuesCounted,
+    ValuesLentCounted,
+    FoldCounted,
+    FoldLentCounted,
+    TriesCounted,
+    TriesLentCounted,
+    LongestCounted,
 }
 
 pub const PAIRS: [Pair; 5] = [
@@ -43,7 +54,7 @@ pub const PAIRS: [Pair; 5] = [
 ];
 
 /// Each walk of PAIRS about "alp", and how often it calls.
-pub const WALKS: [(Walk, usize); 22] = [
+pub const WALKS: [(Walk, usize); 32] = [
     (Walk::Views, 5),
     (Walk::ViewsLent, 5),
     (Walk::ViewsBelow, 4),
@@ -62,10 +73,20 @@ pub const WALKS: [(Walk, usize); 22] = [
     (Walk::ValuesLentByValue, 4),
     (Walk::Fold, 4),
     (Walk::FoldByValue, 4),
+    (Walk::FoldLent, 4),
+    (Walk::FoldLentByValue, 4),
     (Walk::Tries, 4),
     (Walk::TriesByValue, 4),
     (Walk::TriesLent, 4),
     (Walk::TriesLentByValue, 4),
+    (Walk::TriesSeen, 4),
+    (Walk::ValuesCounted, 4),
+    (Walk::ValuesLentCounted, 4),
+    (Walk::FoldCounted, 4),
+    (Walk::FoldLentCounted, 4),
+    (Walk::TriesCounted, 4),
+    (Walk::TriesLentCounted, 4),
+    (Walk::LongestCounted, 1),
 ];
 
 /// The calls of a callback. Where `watched` the first one has the next request for memory refused, so that a walk which asks
@@ -96,7 +117,7 @@ impl Calls {
     }
 }
 
-type Ended = Result<(), TreeError>;
+pub type Ended = Result<(), TreeError>;
 
 fn views(tree: &Tree, lent: bool, calls: &Calls) -> Ended {
     let mut callback = |_view: LendingKeyView<'_, '_>, _value: &u64| calls.call();
@@ -138,7 +159,7 @@ fn views_within(tree: &Tree, key: Key, lent: bool, calls: &Calls) -> Ended {
 }
 
 // It says whether it called.
-fn is_told(told: Result<bool, TreeError>, calls: &Calls) -> Ended {
+pub fn is_told(told: Result<bool, TreeError>, calls: &Calls) -> Ended {
     match told {
         Ok(called) if called == (calls.many() == 1) => Ok(()),
         Ok(_) => Err(TreeError::Full),
@@ -201,7 +222,24 @@ fn fold(tree: &Tree, key: Key, by_value: bool, calls: &Calls) -> Ended {
     }
 }
 
-fn ended(tried: Result<(), VisitError<()>>) -> Ended {
+fn fold_lent(tree: &Tree, key: Key, by_value: bool, calls: &Calls) -> Ended {
+    let mut callback = |many: usize, _value: &u64| {
+        calls.call();
+        many.wrapping_add(1)
+    };
+    let folded = if by_value {
+        tree.prefix_values_fold_by_ref(key, 0, &mut callback)
+    } else {
+        tree.prefix_values_fold_by_ref_k(&key, 0, &mut callback)
+    };
+    match folded {
+        Ok(many) if many == calls.many() => Ok(()),
+        Ok(_) => Err(TreeError::Full),
+        Err(error) => Err(error),
+    }
+}
+
+pub fn ended(tried: Result<(), VisitError<()>>) -> Ended {
     match tried {
         Ok(()) => Ok(()),
         Err(VisitError::Memory) => Err(TreeError::Memory),
@@ -254,9 +292,19 @@ pub fn make(tree: &Tree, key: Key, walk: Walk, calls: &Calls) -> Ended {
         Walk::ValuesLentByValue => values_lent(tree, key, true, calls),
         Walk::Fold => fold(tree, key, false, calls),
         Walk::FoldByValue => fold(tree, key, true, calls),
+        Walk::FoldLent => fold_lent(tree, key, false, calls),
+        Walk::FoldLentByValue => fold_lent(tree, key, true, calls),
         Walk::Tries => tries(tree, key, false, calls),
         Walk::TriesByValue => tries(tree, key, true, calls),
         Walk::TriesLent => tries_lent(tree, key, false, calls),
         Walk::TriesLentByValue => tries_lent(tree, key, true, calls),
+        Walk::TriesSeen => seen_forms::tries_plainly(tree, key, calls),
+        Walk::ValuesCounted => seen_forms::values(tree, key, false, calls),
+        Walk::ValuesLentCounted => seen_forms::values(tree, key, true, calls),
+        Walk::FoldCounted => seen_forms::fold(tree, key, false, calls),
+        Walk::FoldLentCounted => seen_forms::fold(tree, key, true, calls),
+        Walk::TriesCounted => seen_forms::tries(tree, key, false, calls),
+        Walk::TriesLentCounted => seen_forms::tries(tree, key, true, calls),
+        Walk::LongestCounted => seen_forms::longest(tree, key, calls),
     }
 }

@@ -3,7 +3,7 @@
 ghost use Rattle.std.specs.Prelude.{◌≡◌, ℕ, List, [], ◌∷◌};
 ghost use Rattle.std.specs.Option.{option_copied};
 ghost use Rattle.rart_keys.specs.Joins.{both};
-ghost use Rattle.rart_nodes.specs.joins.Meetings.{AreMeetings};
+ghost use Rattle.rart_nodes.specs.joins.Meetings.{AreMeetings, CanBehind, CanGive};
 ghost use Rattle.rart_nodes.specs.joins.Ways.{Kept};
 ghost use Rattle.rart_nodes.specs.tries.Trie.{own_pair};
 
@@ -16,18 +16,19 @@ use std::marker::PhantomData;
 pub(crate) trait Meeting<V, W, F> {
     ghost room: { Kept → ℕ → Type 0 };
 
-    ghost callable: { F → Type 0 };
+    ghost can: { Kept → F → List ℕ × (V × W) → Type 0 };
 
     ghost given: { Kept → F → List (List ℕ × (V × W)) → F → Type 0 };
 
     /// Gives the pair at the end of the way.
     fn give(way: &Way<'_>, f: &mut F, left: &V, right: &W)
         requires room { room way.now 0 }
-        requires callable { callable f.old }
-        ensures callable { callable f.new }
+        requires callable { can way.now f.old ([], (left.now, right.now)) }
         ensures given { given way.now f.old (([], (left.now, right.now)) ∷ []) f.new };
 
     ghost lawful: { AreMeetings room given };
+
+    ghost behind: { CanBehind can };
 }
 
 /// Gives the pair at the end of the way, if both nodes hold a value.
@@ -38,8 +39,8 @@ pub(crate) fn give_both<V, W, F, T: Meeting<V, W, F>>(
     f: &mut F,
 )
     requires room { T.room way.now 0 }
-    requires callable { T.callable f.old }
-    ensures callable { T.callable f.new }
+    requires callable { CanGive T.can T.given way.now f.old
+        (own_pair (both (option_copied left) (option_copied right))) }
     ensures given { T.given way.now f.old (own_pair (both (option_copied left.entry) (option_copied right.entry))) f.new }
 {
     if let Some(value) = left {
@@ -58,7 +59,7 @@ impl<V, W> Meeting<V, W, usize> for Counted {
 
     ghost room = { WayRoom };
 
-    ghost callable = { λ n. Unit {0} };
+    ghost can = { λ s n x. Unit {0} };
 
     ghost given = { GivenValues CountedOn };
 
@@ -67,19 +68,21 @@ impl<V, W> Meeting<V, W, usize> for Counted {
     }
 
     ghost lawful = { give_values CountedOn };
+
+    ghost behind = { λ s t p f x w h. tt };
 }
 
 /// Calls with the values.
 pub(crate) struct ByValues;
 
 impl<V, W, F: FnMut(&V, &W)> Meeting<V, W, F> for ByValues {
-    ghost use Rattle.rart_nodes.specs.joins.Meetings.{GivenValues, give_values};
-    ghost use Rattle.rart_nodes.specs.joins.PairCalls.{CalledWith};
+    ghost use Rattle.rart_nodes.specs.joins.Meetings.{CanGiveValues, GivenValues, can_values, give_values};
+    ghost use Rattle.rart_nodes.specs.joins.PairCalls.{CalledWith, TakesWith};
     ghost use Rattle.rart_nodes.specs.joins.Ways.{WayRoom};
 
     ghost room = { WayRoom };
 
-    ghost callable = { F.IsAlwaysCallable };
+    ghost can = { CanGiveValues (λ p x. TakesWith F.FnMut p x) };
 
     ghost given = { GivenValues (λ p x q. CalledWith F.FnMut p x q) };
 
@@ -88,6 +91,8 @@ impl<V, W, F: FnMut(&V, &W)> Meeting<V, W, F> for ByValues {
     }
 
     ghost lawful = { give_values (λ p x q. CalledWith F.FnMut p x q) };
+
+    ghost behind = { can_values (λ p x. TakesWith F.FnMut p x) };
 }
 
 /// Calls with the key, made of the bytes of the way, and the values.
@@ -96,12 +101,12 @@ pub(crate) struct ByKeys<K> {
 }
 
 impl<K: KeyTrait, V, W, F: FnMut(K, &V, &W)> Meeting<V, W, F> for ByKeys<K> {
-    ghost use Rattle.rart_nodes.specs.joins.Meetings.{GivenKeys, KeysRoom, give_keys};
-    ghost use Rattle.rart_nodes.specs.joins.PairCalls.{CalledAt};
+    ghost use Rattle.rart_nodes.specs.joins.Meetings.{CanGiveKeys, GivenKeys, KeysRoom, can_keys, give_keys};
+    ghost use Rattle.rart_nodes.specs.joins.PairCalls.{CalledAt, TakesAtKey};
 
     ghost room = { KeysRoom K.MAXIMUM_SIZE };
 
-    ghost callable = { F.IsAlwaysCallable };
+    ghost can = { CanGiveKeys (λ p x. TakesAtKey F.FnMut K.bytes p x) };
 
     ghost given = { GivenKeys (λ p x q. CalledAt F.FnMut K.bytes p x q) };
 
@@ -113,18 +118,20 @@ impl<K: KeyTrait, V, W, F: FnMut(K, &V, &W)> Meeting<V, W, F> for ByKeys<K> {
     }
 
     ghost lawful = { give_keys K.MAXIMUM_SIZE (λ p x q. CalledAt F.FnMut K.bytes p x q) };
+
+    ghost behind = { can_keys (λ p x. TakesAtKey F.FnMut K.bytes p x) };
 }
 
 /// Calls with a view of the segments of the way, and the values.
 pub(crate) struct ByViews;
 
 impl<V, W, F: FnMut(LendingKeyView<'_, '_>, &V, &W)> Meeting<V, W, F> for ByViews {
-    ghost use Rattle.rart_nodes.specs.joins.Meetings.{GivenViews, ViewsRoom, give_views};
-    ghost use Rattle.rart_nodes.specs.joins.ViewCalls.{ViewedAt};
+    ghost use Rattle.rart_nodes.specs.joins.Meetings.{CanGiveViews, GivenViews, ViewsRoom, can_views, give_views};
+    ghost use Rattle.rart_nodes.specs.joins.ViewCalls.{TakesViewAt, ViewedAt};
 
     ghost room = { ViewsRoom };
 
-    ghost callable = { F.IsAlwaysCallable };
+    ghost can = { CanGiveViews (λ p x. TakesViewAt F.FnMut p x) };
 
     ghost given = { GivenViews (λ p x q. ViewedAt F.FnMut p x q) };
 
@@ -136,4 +143,6 @@ impl<V, W, F: FnMut(LendingKeyView<'_, '_>, &V, &W)> Meeting<V, W, F> for ByView
     }
 
     ghost lawful = { give_views (λ p x q. ViewedAt F.FnMut p x q) };
+
+    ghost behind = { can_views (λ p x. TakesViewAt F.FnMut p x) };
 }

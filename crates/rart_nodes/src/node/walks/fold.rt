@@ -1,11 +1,9 @@
-//! A fold over the values below a prefix: the walk with a callback whose state the caller gets back.
-ghost use Rattle.std.specs.Prelude.{◌≤◌, ◌^◌, [], reverse, vec_capacity, IfErr, IfOk};
-ghost use Rattle.std.specs.List.{FoldsTo};
-ghost use Rattle.rart_keys.specs.Filters.{below};
-ghost use Rattle.rart_keys.specs.SortedMap.{values_of};
+//! Folds over the values below a prefix: the callback gets the answer of its last call with each value.
+ghost use Rattle.std.specs.Prelude.{◌≡◌, ◌≤◌, ◌+◌, ◌^◌, [], reverse, vec_capacity, IfErr, IfOk, OnErr, OnOk};
 ghost use Rattle.rart_nodes.specs.tries.Tree.{seen_pairs};
-ghost use Rattle.rart_nodes.specs.walks.Shown.{Folded};
-ghost use Rattle.rart_nodes.specs.walks.Tour.{IsTour};
+ghost use Rattle.rart_nodes.specs.walks.BelowPrefix.{below_bound, below_visits, values_below};
+ghost use Rattle.rart_nodes.specs.walks.Shown.{CanFold, FoldedEach, FoldsEach};
+ghost use Rattle.rart_nodes.specs.walks.Tour.{IsTour, nodes_below};
 ghost use Rattle.rart_nodes.specs.walks.TrailParts.{values_ahead};
 ghost use Rattle.rart_nodes.specs.walks.Calls.{MayLackRoom};
 
@@ -22,11 +20,16 @@ fn fold_values<'a, P: Partial, V, C: Count, S, F: FnMut(S, &V) -> S>(
     init: S,
     f: &mut F,
 ) -> S
-    requires callable { F.IsAlwaysCallable f.old }
-    requires path { IsTour tour.old.longest (vec_capacity tour.old.levels) [] (reverse tour.old.levels.items) }
+    requires callable { CanFold F.FnMut f.old init
+        (values_ahead tour.old.first tour.old.levels.items) }
+    requires path { IsTour tour.old.longest (vec_capacity tour.old.levels) []
+        (reverse tour.old.levels.items) }
     requires room { tour.old.longest ≤ 2 ^ 64 }
-    ensures callable { F.IsAlwaysCallable f.new }
-    ensures folds { FoldsTo (λ p x q. Folded F.FnMut p x q) (f.old, init) (values_ahead tour.old.first tour.old.levels.items) (f.new, result) }
+    ensures callable { F.IsAlwaysCallable f.old → F.IsAlwaysCallable f.new }
+    ensures folds { FoldsEach F.FnMut f.old init
+        (values_ahead tour.old.first tour.old.levels.items) f.new result }
+    ensures visits { C.number counter.new
+        ≤ C.number counter.old + nodes_below (reverse tour.old.levels.items) }
 {
     let mut state = init;
     while let Some(value) = tour.advance(&mut NoTrail, counter) {
@@ -35,22 +38,136 @@ fn fold_values<'a, P: Partial, V, C: Count, S, F: FnMut(S, &V) -> S>(
     state
 }
 
-impl<'a, K: KeyTrait, V> Seen<'a, K, V, Visits> {
-    /// Calls `f` with the value of each pair whose key begins with `prefix`, in order, and with what the call before it
-    /// answered, the first time with `init`; gives what the last call answered. All room is taken before the first call; refused
-    /// with `Memory` alone, only where the tree isn't empty, and then `f` wasn't called.
-    pub fn prefix_values_fold_k<S: Drop, F: FnMut(S, &V) -> S + Drop>(
+impl<'a, K: KeyTrait, V, C: Count> Seen<'a, K, V, C> {
+    /// Folds the values of the pairs whose key begins with the bytes `prefix`, in order.
+    fn fold_below<S: Drop, F: FnMut(S, &V) -> S>(
+        self,
+        prefix: &[u8],
+        init: S,
+        f: &mut F,
+        counter: &mut C,
+    ) -> Result<S, TreeError>
+        requires callable { CanFold F.FnMut f.old init
+            (values_below prefix.now (seen_pairs self.root)) }
+        ensures callable { F.IsAlwaysCallable f.old → F.IsAlwaysCallable f.new }
+        ensures calls { IfOk result (λ state. FoldsEach F.FnMut f.old init
+            (values_below prefix.now (seen_pairs self.entry.root)) f.new state) }
+        ensures refused { OnErr result (f.new ≡ f.old) }
+        ensures memory { IfErr result (MayLackRoom (seen_pairs self.entry.root)) }
+        ensures visits { OnOk result (C.number counter.new
+            ≤ C.number counter.old + below_visits prefix.now (seen_pairs self.entry.root)) }
+        ensures bound { C.number counter.new
+            ≤ C.number counter.old + below_bound prefix.now (seen_pairs self.entry.root) }
+    {
+        let (mut tour, _trail) = self.tour_below::<NoTrail>(prefix, counter)?;
+        Ok(fold_values(&mut tour, counter, init, f))
+    }
+
+    /// Calls `f` with the value of each pair whose key begins with `prefix`, in order. The first call gets `init`,
+    /// each later one the answer of the call before it; returns the last answer. `f` must be callable so. The caller
+    /// keeps `f`.
+    ///
+    /// # Errors
+    ///
+    /// [`TreeError::Memory`] if the tree isn't empty and the allocation for the walk fails. `f` is then not called.
+    ///
+    /// # Visits
+    ///
+    /// At most `prefix.len() + 1 + 2 * m` nodes with `m` calls, none in an empty tree.
+    pub fn prefix_values_fold_by_ref_k_counted<S: Drop, F: FnMut(S, &V) -> S>(
+        self,
+        prefix: &K,
+        init: S,
+        f: &mut F,
+        counter: &mut C,
+    ) -> Result<S, TreeError>
+        requires callable { CanFold F.FnMut f.old init
+            (values_below (K.bytes prefix.now) (seen_pairs self.root)) }
+        ensures callable { F.IsAlwaysCallable f.old → F.IsAlwaysCallable f.new }
+        ensures calls { IfOk result (λ state. FoldsEach F.FnMut f.old init
+            (values_below (K.bytes prefix.now) (seen_pairs self.entry.root)) f.new state) }
+        ensures refused { OnErr result (f.new ≡ f.old) }
+        ensures memory { IfErr result (MayLackRoom (seen_pairs self.entry.root)) }
+        ensures visits { OnOk result (C.number counter.new
+            ≤ C.number counter.old + below_visits (K.bytes prefix.now) (seen_pairs self.entry.root)) }
+        ensures bound { C.number counter.new
+            ≤ C.number counter.old + below_bound (K.bytes prefix.now) (seen_pairs self.entry.root) }
+    {
+        self.fold_below(prefix.as_ref(), init, f, counter)
+    }
+
+    /// Folds as `prefix_values_fold_by_ref_k_counted` does, and drops `f`.
+    ///
+    /// # Errors
+    ///
+    /// [`TreeError::Memory`] as there.
+    ///
+    /// # Visits
+    ///
+    /// As there.
+    pub fn prefix_values_fold_k_counted<S: Drop, F: FnMut(S, &V) -> S + Drop>(
         self,
         prefix: &K,
         init: S,
         mut f: F,
+        counter: &mut C,
     ) -> Result<S, TreeError>
-        requires callable { F.IsAlwaysCallable f }
-        ensures calls { IfOk result (λ state. (last : F) × FoldsTo (λ p x q. Folded F.FnMut p x q) (f, init) (values_of (below (K.bytes prefix.now) (seen_pairs self.entry.root))) (last, state)) }
+        requires callable { CanFold F.FnMut f init
+            (values_below (K.bytes prefix.now) (seen_pairs self.root)) }
+        ensures calls { IfOk result (FoldedEach F.FnMut f init
+            (values_below (K.bytes prefix.now) (seen_pairs self.entry.root))) }
+        ensures memory { IfErr result (MayLackRoom (seen_pairs self.entry.root)) }
+        ensures visits { OnOk result (C.number counter.new
+            ≤ C.number counter.old + below_visits (K.bytes prefix.now) (seen_pairs self.entry.root)) }
+        ensures bound { C.number counter.new
+            ≤ C.number counter.old + below_bound (K.bytes prefix.now) (seen_pairs self.entry.root) }
+    {
+        self.prefix_values_fold_by_ref_k_counted(prefix, init, &mut f, counter)
+    }
+}
+
+impl<'a, K: KeyTrait, V> Seen<'a, K, V, Visits> {
+    /// Calls `f` with the value of each pair whose key begins with `prefix`, in order. The first call gets `init`,
+    /// each later one the answer of the call before it; returns the last answer. `f` must be callable so. The caller
+    /// keeps `f`.
+    ///
+    /// # Errors
+    ///
+    /// [`TreeError::Memory`] if the tree isn't empty and the allocation for the walk fails. `f` is then not called.
+    pub fn prefix_values_fold_by_ref_k<S: Drop, F: FnMut(S, &V) -> S>(
+        self,
+        prefix: &K,
+        init: S,
+        f: &mut F,
+    ) -> Result<S, TreeError>
+        requires callable { CanFold F.FnMut f.old init
+            (values_below (K.bytes prefix.now) (seen_pairs self.root)) }
+        ensures callable { F.IsAlwaysCallable f.old → F.IsAlwaysCallable f.new }
+        ensures calls { IfOk result (λ state. FoldsEach F.FnMut f.old init
+            (values_below (K.bytes prefix.now) (seen_pairs self.entry.root)) f.new state) }
+        ensures refused { OnErr result (f.new ≡ f.old) }
         ensures memory { IfErr result (MayLackRoom (seen_pairs self.entry.root)) }
     {
-        let mut counter = Visits::new();
-        let (mut tour, _trail) = self.tour_below::<NoTrail>(prefix.as_ref(), &mut counter)?;
-        Ok(fold_values(&mut tour, &mut counter, init, &mut f))
+        self.prefix_values_fold_by_ref_k_counted(prefix, init, f, &mut Visits::new())
+    }
+
+    /// Folds as `prefix_values_fold_by_ref_k` does, and drops `f`.
+    ///
+    /// # Errors
+    ///
+    /// [`TreeError::Memory`] as there.
+    pub fn prefix_values_fold_k<S: Drop, F: FnMut(S, &V) -> S + Drop>(
+        self,
+        prefix: &K,
+        init: S,
+        f: F,
+    ) -> Result<S, TreeError>
+        requires callable { CanFold F.FnMut f init
+            (values_below (K.bytes prefix.now) (seen_pairs self.root)) }
+        ensures calls { IfOk result (FoldedEach F.FnMut f init
+            (values_below (K.bytes prefix.now) (seen_pairs self.entry.root))) }
+        ensures memory { IfErr result (MayLackRoom (seen_pairs self.entry.root)) }
+    {
+        self.prefix_values_fold_k_counted(prefix, init, f, &mut Visits::new())
     }
 }

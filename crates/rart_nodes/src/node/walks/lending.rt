@@ -1,9 +1,8 @@
 //! Walks that call a callback with each key lent in segments.
 //!
-//! All room is taken before the first call, and the segments are pushed and popped as the walk goes. A callback that is lent
-//! (`&mut F`) shows the caller what the calls left in it.
+//! A walk allocates before its first call; the segments are pushed and popped as it goes. The caller of a `_by_ref`
+//! form keeps its callback, and with it the state that the last call left.
 ghost use Rattle.std.specs.Prelude.{◌≡◌, ◌≤◌, ◌+◌, ◌*◌, [], length, reverse, vec_capacity, IfErr, OnErr, OnOk};
-ghost use Rattle.std.specs.List.{FoldsTo};
 ghost use Rattle.rart_nodes.specs.tries.Tree.{seen_keys, seen_pairs};
 ghost use Rattle.rart_nodes.specs.walks.BelowPrefix.{below_bound, below_visits, cut_below};
 ghost use Rattle.rart_nodes.specs.walks.Cut.{cut_pairs};
@@ -11,8 +10,8 @@ ghost use Rattle.rart_nodes.specs.walks.ProbeCount.{probe_count};
 ghost use Rattle.rart_nodes.specs.walks.Tour.{IsTour, nodes_below};
 ghost use Rattle.rart_nodes.specs.walks.TrailParts.{lent_pieces};
 ghost use Rattle.rart_nodes.specs.walks.ViewPieces.{AreViews, views_ahead};
-ghost use Rattle.rart_nodes.specs.walks.Viewed.{Viewed};
-ghost use Rattle.rart_nodes.specs.walks.Calls.{CallsEach, MayLackRoom};
+ghost use Rattle.rart_nodes.specs.walks.Viewed.{CanView, ViewedEach, ViewsEach};
+ghost use Rattle.rart_nodes.specs.walks.Calls.{MayLackRoom};
 
 use crate::count::Count;
 use crate::node::seen::Seen;
@@ -28,13 +27,18 @@ fn feed_views<'a, P: Partial, V, C: Count, F: FnMut(LendingKeyView<'_, '_>, &V)>
     counter: &mut C,
     f: &mut F,
 )
-    requires callable { F.IsAlwaysCallable f.old }
-    requires path { IsTour tour.old.longest (vec_capacity tour.old.levels) (lent_pieces trail.old.segments.items) (reverse tour.old.levels.items) }
+    requires callable { CanView F.FnMut f.old
+        (views_ahead trail.old.segments.items tour.old.first tour.old.levels.items) }
+    requires path { IsTour tour.old.longest (vec_capacity tour.old.levels)
+        (lent_pieces trail.old.segments.items) (reverse tour.old.levels.items) }
     requires room { tour.old.longest ≤ vec_capacity trail.old.segments }
-    requires views { AreViews (views_ahead trail.old.segments.items tour.old.first tour.old.levels.items) }
-    ensures callable { F.IsAlwaysCallable f.new }
-    ensures folds { FoldsTo (λ p x q. Viewed F.FnMut p x q) f.old (views_ahead trail.old.segments.items tour.old.first tour.old.levels.items) f.new }
-    ensures visits { C.number counter.new ≤ C.number counter.old + nodes_below (reverse tour.old.levels.items) }
+    requires views { AreViews
+        (views_ahead trail.old.segments.items tour.old.first tour.old.levels.items) }
+    ensures callable { F.IsAlwaysCallable f.old → F.IsAlwaysCallable f.new }
+    ensures folds { ViewsEach F.FnMut f.old
+        (views_ahead trail.old.segments.items tour.old.first tour.old.levels.items) f.new }
+    ensures visits { C.number counter.new
+        ≤ C.number counter.old + nodes_below (reverse tour.old.levels.items) }
 {
     while let Some(value) = tour.advance(trail, counter) {
         f(LendingKeyView::of(trail.segments()), value);
@@ -48,85 +52,119 @@ impl<'a, K: KeyTrait, V, C: Count> Seen<'a, K, V, C> {
         f: &mut F,
         counter: &mut C,
     ) -> Result<(), TreeError>
-        requires callable { F.IsAlwaysCallable f.old }
-        ensures callable { F.IsAlwaysCallable f.new }
-        ensures calls { OnOk result (FoldsTo (λ p x q. Viewed F.FnMut p x q) f.old (cut_below prefix.now (seen_pairs self.entry.root)) f.new) }
+        requires callable { CanView F.FnMut f.old
+            (cut_below prefix.now (seen_pairs self.root)) }
+        ensures callable { F.IsAlwaysCallable f.old → F.IsAlwaysCallable f.new }
+        ensures calls { OnOk result (ViewsEach F.FnMut f.old
+            (cut_below prefix.now (seen_pairs self.entry.root)) f.new) }
         ensures refused { OnErr result (f.new ≡ f.old) }
         ensures memory { IfErr result (MayLackRoom (seen_pairs self.entry.root)) }
-        ensures visits { OnOk result (C.number counter.new ≤ C.number counter.old + below_visits prefix.now (seen_pairs self.entry.root)) }
-        ensures bound { C.number counter.new ≤ C.number counter.old + below_bound prefix.now (seen_pairs self.entry.root) }
+        ensures visits { OnOk result (C.number counter.new
+            ≤ C.number counter.old + below_visits prefix.now (seen_pairs self.entry.root)) }
+        ensures bound { C.number counter.new
+            ≤ C.number counter.old + below_bound prefix.now (seen_pairs self.entry.root) }
     {
         let (mut tour, mut trail) = self.tour_below::<SegmentTrail<'a>>(prefix, counter)?;
         feed_views(&mut tour, &mut trail, counter, f);
         Ok(())
     }
 
-    /// Calls `f` with each pair whose key begins with `prefix`, in order, and with a view of its key, cut at the branch points. All
-    /// room is taken before the first call; refused with `Memory` alone, only where the tree isn't empty, and then `f` wasn't
-    /// called. With m calls it visits at most one node more than the prefix has bytes, and 2m; none in an empty tree. `f` is lent,
-    /// so that the caller sees what the calls left in it.
+    /// Calls `f` with each pair whose key begins with `prefix`, in order, and with a view of its key, cut at the
+    /// branch points. `f` must be callable with each of these in turn. The caller keeps `f`.
+    ///
+    /// # Errors
+    ///
+    /// [`TreeError::Memory`] if the tree isn't empty and the allocation for the walk fails. `f` is then not called.
+    ///
+    /// # Visits
+    ///
+    /// At most `prefix.len() + 1 + 2 * m` nodes with `m` calls, none in an empty tree.
     pub fn prefix_for_each_view_by_ref_k_counted<F: FnMut(LendingKeyView<'_, '_>, &V)>(
         self,
         prefix: &K,
         f: &mut F,
         counter: &mut C,
     ) -> Result<(), TreeError>
-        requires callable { F.IsAlwaysCallable f.old }
-        ensures callable { F.IsAlwaysCallable f.new }
-        ensures calls { OnOk result (FoldsTo (λ p x q. Viewed F.FnMut p x q) f.old (cut_below (K.bytes prefix.now) (seen_pairs self.entry.root)) f.new) }
+        requires callable { CanView F.FnMut f.old
+            (cut_below (K.bytes prefix.now) (seen_pairs self.root)) }
+        ensures callable { F.IsAlwaysCallable f.old → F.IsAlwaysCallable f.new }
+        ensures calls { OnOk result (ViewsEach F.FnMut f.old
+            (cut_below (K.bytes prefix.now) (seen_pairs self.entry.root)) f.new) }
         ensures refused { OnErr result (f.new ≡ f.old) }
         ensures memory { IfErr result (MayLackRoom (seen_pairs self.entry.root)) }
-        ensures visits { OnOk result (C.number counter.new ≤ C.number counter.old + below_visits (K.bytes prefix.now) (seen_pairs self.entry.root)) }
-        ensures bound { C.number counter.new ≤ C.number counter.old + below_bound (K.bytes prefix.now) (seen_pairs self.entry.root) }
+        ensures visits { OnOk result (C.number counter.new
+            ≤ C.number counter.old + below_visits (K.bytes prefix.now) (seen_pairs self.entry.root)) }
+        ensures bound { C.number counter.new
+            ≤ C.number counter.old + below_bound (K.bytes prefix.now) (seen_pairs self.entry.root) }
     {
         self.each_view_below(prefix.as_ref(), f, counter)
     }
 
-    /// Calls `f` as `prefix_for_each_view_by_ref_k_counted` does; `f` is gone after the call.
+    /// Calls `f` as `prefix_for_each_view_by_ref_k_counted` does, and drops it.
     pub fn prefix_for_each_view_k_counted<F: FnMut(LendingKeyView<'_, '_>, &V) + Drop>(
         self,
         prefix: &K,
         mut f: F,
         counter: &mut C,
     ) -> Result<(), TreeError>
-        requires callable { F.IsAlwaysCallable f }
-        ensures calls { OnOk result (CallsEach (λ p x q. Viewed F.FnMut p x q) f (cut_below (K.bytes prefix.now) (seen_pairs self.entry.root))) }
+        requires callable { CanView F.FnMut f
+            (cut_below (K.bytes prefix.now) (seen_pairs self.root)) }
+        ensures calls { OnOk result (ViewedEach F.FnMut f
+            (cut_below (K.bytes prefix.now) (seen_pairs self.entry.root))) }
         ensures memory { IfErr result (MayLackRoom (seen_pairs self.entry.root)) }
-        ensures visits { OnOk result (C.number counter.new ≤ C.number counter.old + below_visits (K.bytes prefix.now) (seen_pairs self.entry.root)) }
-        ensures bound { C.number counter.new ≤ C.number counter.old + below_bound (K.bytes prefix.now) (seen_pairs self.entry.root) }
+        ensures visits { OnOk result (C.number counter.new
+            ≤ C.number counter.old + below_visits (K.bytes prefix.now) (seen_pairs self.entry.root)) }
+        ensures bound { C.number counter.new
+            ≤ C.number counter.old + below_bound (K.bytes prefix.now) (seen_pairs self.entry.root) }
     {
         self.prefix_for_each_view_by_ref_k_counted(prefix, &mut f, counter)
     }
 
-    /// Calls `f` with each pair, as `prefix_for_each_view_by_ref_k_counted` does with those below a prefix: with n pairs it visits
-    /// at most 2n + 1 nodes, and none in an empty tree.
+    /// Calls `f` with each pair, in order, and with a view of its key, as `prefix_for_each_view_by_ref_k_counted`
+    /// does with those below a prefix. The caller keeps `f`.
+    ///
+    /// # Errors
+    ///
+    /// [`TreeError::Memory`] if the tree isn't empty and the allocation for the walk fails. `f` is then not called.
+    ///
+    /// # Visits
+    ///
+    /// At most `2 * n + 1` nodes with `n` pairs, none in an empty tree.
     pub fn for_each_view_by_ref_counted<F: FnMut(LendingKeyView<'_, '_>, &V)>(
         self,
         f: &mut F,
         counter: &mut C,
     ) -> Result<(), TreeError>
-        requires callable { F.IsAlwaysCallable f.old }
-        ensures callable { F.IsAlwaysCallable f.new }
-        ensures calls { OnOk result (FoldsTo (λ p x q. Viewed F.FnMut p x q) f.old (cut_pairs (seen_keys self.entry.root) (seen_pairs self.entry.root)) f.new) }
+        requires callable { CanView F.FnMut f.old
+            (cut_pairs (seen_keys self.root) (seen_pairs self.root)) }
+        ensures callable { F.IsAlwaysCallable f.old → F.IsAlwaysCallable f.new }
+        ensures calls { OnOk result (ViewsEach F.FnMut f.old
+            (cut_pairs (seen_keys self.entry.root) (seen_pairs self.entry.root)) f.new) }
         ensures refused { OnErr result (f.new ≡ f.old) }
         ensures memory { IfErr result (MayLackRoom (seen_pairs self.entry.root)) }
-        ensures visits { OnOk result (C.number counter.new ≤ C.number counter.old + (probe_count (seen_keys self.entry.root) [] + 2 * length (seen_pairs self.entry.root))) }
-        ensures bound { C.number counter.new ≤ C.number counter.old + 1 + 2 * length (seen_pairs self.entry.root) }
+        ensures visits { OnOk result (C.number counter.new ≤ C.number counter.old
+            + (probe_count (seen_keys self.entry.root) [] + 2 * length (seen_pairs self.entry.root))) }
+        ensures bound { C.number counter.new
+            ≤ C.number counter.old + 1 + 2 * length (seen_pairs self.entry.root) }
     {
         self.each_view_below(&[], f, counter)
     }
 
-    /// Calls `f` as `for_each_view_by_ref_counted` does; `f` is gone after the call.
+    /// Calls `f` as `for_each_view_by_ref_counted` does, and drops it.
     pub fn for_each_view_counted<F: FnMut(LendingKeyView<'_, '_>, &V) + Drop>(
         self,
         mut f: F,
         counter: &mut C,
     ) -> Result<(), TreeError>
-        requires callable { F.IsAlwaysCallable f }
-        ensures calls { OnOk result (CallsEach (λ p x q. Viewed F.FnMut p x q) f (cut_pairs (seen_keys self.entry.root) (seen_pairs self.entry.root))) }
+        requires callable { CanView F.FnMut f
+            (cut_pairs (seen_keys self.root) (seen_pairs self.root)) }
+        ensures calls { OnOk result (ViewedEach F.FnMut f
+            (cut_pairs (seen_keys self.entry.root) (seen_pairs self.entry.root))) }
         ensures memory { IfErr result (MayLackRoom (seen_pairs self.entry.root)) }
-        ensures visits { OnOk result (C.number counter.new ≤ C.number counter.old + (probe_count (seen_keys self.entry.root) [] + 2 * length (seen_pairs self.entry.root))) }
-        ensures bound { C.number counter.new ≤ C.number counter.old + 1 + 2 * length (seen_pairs self.entry.root) }
+        ensures visits { OnOk result (C.number counter.new ≤ C.number counter.old
+            + (probe_count (seen_keys self.entry.root) [] + 2 * length (seen_pairs self.entry.root))) }
+        ensures bound { C.number counter.new
+            ≤ C.number counter.old + 1 + 2 * length (seen_pairs self.entry.root) }
     {
         self.for_each_view_by_ref_counted(&mut f, counter)
     }

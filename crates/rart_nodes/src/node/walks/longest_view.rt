@@ -1,10 +1,11 @@
 //! The longest key that begins a probe, lent in segments to one call.
-ghost use Rattle.std.specs.Prelude.{◌≡◌, ◌≢◌, ◌≤◌, ◌+◌, ◌*◌, [], ◌∷◌, None, IfErr, IfOk, IfSome, OnErr, length};
+ghost use Rattle.std.specs.Prelude.{◌≡◌, ◌≤◌, ◌+◌, ◌*◌, [], ◌∷◌, IfErr, IfOk, IfSome, OnErr, OnOk, length};
 ghost use Rattle.rart_keys.specs.Filters.{longest_match};
 ghost use Rattle.rart_nodes.specs.tries.Tree.{seen_keys, seen_pairs};
+ghost use Rattle.rart_nodes.specs.walks.BelowPrefix.{MayLackMatch, match_visits};
 ghost use Rattle.rart_nodes.specs.walks.TrailParts.{lent_pieces};
 ghost use Rattle.rart_nodes.specs.walks.ViewPieces.{AreViews};
-ghost use Rattle.rart_nodes.specs.walks.Viewed.{IsCutOf, SeesFound, ShowsFound};
+ghost use Rattle.rart_nodes.specs.walks.Viewed.{CanSeeFound, CanShowFound, IsCutOf, SeesFound, ShowsFound};
 
 use crate::count::{Count, Visits};
 use crate::node::matching::beginning;
@@ -14,50 +15,20 @@ use crate::node::view::LendingKeyView;
 use rart_keys::KeyTrait;
 use rart_parts::TreeError;
 
-impl<'a, K: KeyTrait, V> Seen<'a, K, V, Visits> {
-    fn with_longest_view<F: FnOnce(LendingKeyView<'_, '_>, &V) + Drop>(
-        self,
-        probe: &[u8],
-        f: F,
-    ) -> Result<bool, TreeError>
-        requires callable { F.IsAlwaysCallable f }
-        ensures called { IfOk result (SeesFound F.FnOnce f (seen_keys self.entry.root) (longest_match probe.now (seen_pairs self.entry.root))) }
-        ensures memory { IfErr result (λ e. (e ≡ TreeError.Memory) × (longest_match probe.now (seen_pairs self.entry.root) ≢ None)) }
-    {
-        let mut counter = Visits::new();
-        let Some((trail, value)) = self.longest_trail(probe, &mut counter)? else {
-            return Ok(false);
-        };
-        f(LendingKeyView::of(trail.segments()), value);
-        Ok(true)
-    }
-
-    /// Calls `f` once with a view of the longest key that begins `probe`, cut at the branch points, and with its value, and answers
-    /// true; where there is none it calls nothing and answers false. Room for the segments is taken before the call, and only
-    /// where there is such a key; refused with `Memory` alone, and then `f` wasn't called.
-    pub fn with_longest_prefix_match_view_k<F: FnOnce(LendingKeyView<'_, '_>, &V) + Drop>(
-        self,
-        probe: &K,
-        f: F,
-    ) -> Result<bool, TreeError>
-        requires callable { F.IsAlwaysCallable f }
-        ensures called { IfOk result (SeesFound F.FnOnce f (seen_keys self.entry.root) (longest_match (K.bytes probe.now) (seen_pairs self.entry.root))) }
-        ensures memory { IfErr result (λ e. (e ≡ TreeError.Memory) × (longest_match (K.bytes probe.now) (seen_pairs self.entry.root) ≢ None)) }
-    {
-        self.with_longest_view(probe.as_ref(), f)
-    }
-}
-
 impl<'a, K: KeyTrait, V, C: Count> Seen<'a, K, V, C> {
-    /// The segments of the longest key that begins `probe`, and its value. Takes room only where there is such a key.
+    /// The segments of the longest key that begins `probe`, and its value. Allocates only where there is such a key.
     fn longest_trail(
         self,
         probe: &[u8],
         counter: &mut C,
     ) -> Result<Option<(SegmentTrail<'a>, &'a V)>, TreeError>
-        ensures found { IfOk result (IsCutOf (seen_keys self.entry.root) (longest_match probe.now (seen_pairs self.entry.root))) }
-        ensures views { IfOk result (λ r. IfSome r (λ p. AreViews ((lent_pieces p.0.segments.items, p.1.now) ∷ []))) }
-        ensures memory { IfErr result (λ e. (e ≡ TreeError.Memory) × (longest_match probe.now (seen_pairs self.entry.root) ≢ None)) }
+        ensures found { IfOk result (IsCutOf (seen_keys self.entry.root)
+            (longest_match probe.now (seen_pairs self.entry.root))) }
+        ensures views { IfOk result (λ r. IfSome r
+            (λ p. AreViews ((lent_pieces p.0.segments.items, p.1.now) ∷ []))) }
+        ensures memory { IfErr result (MayLackMatch probe.now (seen_pairs self.entry.root)) }
+        ensures visits { OnOk result (C.number counter.new
+            ≤ C.number counter.old + match_visits probe.now (seen_pairs self.entry.root)) }
         ensures bound { C.number counter.new ≤ C.number counter.old + 3 * length probe.now + 2 }
     {
         let Some((depth, _)) = self.last_match(probe, counter) else {
@@ -71,17 +42,19 @@ impl<'a, K: KeyTrait, V, C: Count> Seen<'a, K, V, C> {
         Ok(Some((trail, value)))
     }
 
-    fn lend_longest_view<F: FnMut(LendingKeyView<'_, '_>, &V)>(
+    fn with_longest_view<F: FnOnce(LendingKeyView<'_, '_>, &V) + Drop>(
         self,
         probe: &[u8],
-        f: &mut F,
+        f: F,
         counter: &mut C,
     ) -> Result<bool, TreeError>
-        requires callable { F.IsAlwaysCallable f.old }
-        ensures callable { F.IsAlwaysCallable f.new }
-        ensures called { IfOk result (ShowsFound F.FnMut f.old (seen_keys self.entry.root) (longest_match probe.now (seen_pairs self.entry.root)) f.new) }
-        ensures refused { OnErr result (f.new ≡ f.old) }
-        ensures memory { IfErr result (λ e. (e ≡ TreeError.Memory) × (longest_match probe.now (seen_pairs self.entry.root) ≢ None)) }
+        requires callable { CanSeeFound F.FnOnce f (seen_keys self.root)
+            (longest_match probe.now (seen_pairs self.root)) }
+        ensures called { IfOk result (SeesFound F.FnOnce f (seen_keys self.entry.root)
+            (longest_match probe.now (seen_pairs self.entry.root))) }
+        ensures memory { IfErr result (MayLackMatch probe.now (seen_pairs self.entry.root)) }
+        ensures visits { OnOk result (C.number counter.new
+            ≤ C.number counter.old + match_visits probe.now (seen_pairs self.entry.root)) }
         ensures bound { C.number counter.new ≤ C.number counter.old + 3 * length probe.now + 2 }
     {
         let Some((trail, value)) = self.longest_trail(probe, counter)? else {
@@ -91,22 +64,109 @@ impl<'a, K: KeyTrait, V, C: Count> Seen<'a, K, V, C> {
         Ok(true)
     }
 
-    /// Calls `f` once with a view of the longest key that begins `probe` and with its value, as `with_longest_prefix_match_view_k`
-    /// does. `f` is lent, so that the caller sees that it wasn't called where there is no such key or the room was refused. It visits
-    /// at most three nodes for each byte of the probe, and two.
+    fn lend_longest_view<F: FnMut(LendingKeyView<'_, '_>, &V)>(
+        self,
+        probe: &[u8],
+        f: &mut F,
+        counter: &mut C,
+    ) -> Result<bool, TreeError>
+        requires callable { CanShowFound F.FnMut f.old (seen_keys self.root)
+            (longest_match probe.now (seen_pairs self.root)) }
+        ensures callable { F.IsAlwaysCallable f.old → F.IsAlwaysCallable f.new }
+        ensures called { IfOk result (ShowsFound F.FnMut f.old (seen_keys self.entry.root)
+            (longest_match probe.now (seen_pairs self.entry.root)) f.new) }
+        ensures refused { OnErr result (f.new ≡ f.old) }
+        ensures memory { IfErr result (MayLackMatch probe.now (seen_pairs self.entry.root)) }
+        ensures visits { OnOk result (C.number counter.new
+            ≤ C.number counter.old + match_visits probe.now (seen_pairs self.entry.root)) }
+        ensures bound { C.number counter.new ≤ C.number counter.old + 3 * length probe.now + 2 }
+    {
+        let Some((trail, value)) = self.longest_trail(probe, counter)? else {
+            return Ok(false);
+        };
+        f(LendingKeyView::of(trail.segments()), value);
+        Ok(true)
+    }
+
+    /// Calls `f` once with a view of the longest key that begins `probe`, cut at the branch points, and with its
+    /// value, and returns `true`; returns `false` if there is no such key. `f` must be callable with that key. The
+    /// caller keeps `f`.
+    ///
+    /// # Errors
+    ///
+    /// [`TreeError::Memory`] if there is such a key and the allocation for its segments fails. `f` is then not called.
+    ///
+    /// # Visits
+    ///
+    /// At most `3 * probe.len() + 2` nodes.
     pub fn with_longest_prefix_match_view_by_ref_k_counted<F: FnMut(LendingKeyView<'_, '_>, &V)>(
         self,
         probe: &K,
         f: &mut F,
         counter: &mut C,
     ) -> Result<bool, TreeError>
-        requires callable { F.IsAlwaysCallable f.old }
-        ensures callable { F.IsAlwaysCallable f.new }
-        ensures called { IfOk result (ShowsFound F.FnMut f.old (seen_keys self.entry.root) (longest_match (K.bytes probe.now) (seen_pairs self.entry.root)) f.new) }
+        requires callable { CanShowFound F.FnMut f.old (seen_keys self.root)
+            (longest_match (K.bytes probe.now) (seen_pairs self.root)) }
+        ensures callable { F.IsAlwaysCallable f.old → F.IsAlwaysCallable f.new }
+        ensures called { IfOk result (ShowsFound F.FnMut f.old (seen_keys self.entry.root)
+            (longest_match (K.bytes probe.now) (seen_pairs self.entry.root)) f.new) }
         ensures refused { OnErr result (f.new ≡ f.old) }
-        ensures memory { IfErr result (λ e. (e ≡ TreeError.Memory) × (longest_match (K.bytes probe.now) (seen_pairs self.entry.root) ≢ None)) }
-        ensures bound { C.number counter.new ≤ C.number counter.old + 3 * length (K.bytes probe.now) + 2 }
+        ensures memory { IfErr result (MayLackMatch (K.bytes probe.now) (seen_pairs self.entry.root)) }
+        ensures visits { OnOk result (C.number counter.new
+            ≤ C.number counter.old + match_visits (K.bytes probe.now) (seen_pairs self.entry.root)) }
+        ensures bound { C.number counter.new
+            ≤ C.number counter.old + 3 * length (K.bytes probe.now) + 2 }
     {
         self.lend_longest_view(probe.as_ref(), f, counter)
+    }
+
+    /// Calls `f` as `with_longest_prefix_match_view_by_ref_k_counted` does, and consumes it.
+    ///
+    /// # Errors
+    ///
+    /// [`TreeError::Memory`] as there.
+    ///
+    /// # Visits
+    ///
+    /// As there.
+    pub fn with_longest_prefix_match_view_k_counted<F: FnOnce(LendingKeyView<'_, '_>, &V) + Drop>(
+        self,
+        probe: &K,
+        f: F,
+        counter: &mut C,
+    ) -> Result<bool, TreeError>
+        requires callable { CanSeeFound F.FnOnce f (seen_keys self.root)
+            (longest_match (K.bytes probe.now) (seen_pairs self.root)) }
+        ensures called { IfOk result (SeesFound F.FnOnce f (seen_keys self.entry.root)
+            (longest_match (K.bytes probe.now) (seen_pairs self.entry.root))) }
+        ensures memory { IfErr result (MayLackMatch (K.bytes probe.now) (seen_pairs self.entry.root)) }
+        ensures visits { OnOk result (C.number counter.new
+            ≤ C.number counter.old + match_visits (K.bytes probe.now) (seen_pairs self.entry.root)) }
+        ensures bound { C.number counter.new
+            ≤ C.number counter.old + 3 * length (K.bytes probe.now) + 2 }
+    {
+        self.with_longest_view(probe.as_ref(), f, counter)
+    }
+}
+
+impl<'a, K: KeyTrait, V> Seen<'a, K, V, Visits> {
+    /// Calls `f` once with a view of the longest key that begins `probe`, cut at the branch points, and with its
+    /// value, and returns `true`; returns `false` if there is no such key. `f` must be callable with that key.
+    ///
+    /// # Errors
+    ///
+    /// [`TreeError::Memory`] if there is such a key and the allocation for its segments fails. `f` is then not called.
+    pub fn with_longest_prefix_match_view_k<F: FnOnce(LendingKeyView<'_, '_>, &V) + Drop>(
+        self,
+        probe: &K,
+        f: F,
+    ) -> Result<bool, TreeError>
+        requires callable { CanSeeFound F.FnOnce f (seen_keys self.root)
+            (longest_match (K.bytes probe.now) (seen_pairs self.root)) }
+        ensures called { IfOk result (SeesFound F.FnOnce f (seen_keys self.entry.root)
+            (longest_match (K.bytes probe.now) (seen_pairs self.entry.root))) }
+        ensures memory { IfErr result (MayLackMatch (K.bytes probe.now) (seen_pairs self.entry.root)) }
+    {
+        self.with_longest_prefix_match_view_k_counted(probe, f, &mut Visits::new())
     }
 }

@@ -1,9 +1,8 @@
 //! Walks between two bounds that call a callback with each key lent in segments.
 //!
-//! They go straight to the start as `range` does, and end at the first key past the end. It is told by the segments, one by one,
-//! so that no byte of a key is copied.
+//! They go straight to the start as `range` does, and end at the first key past the end. The end is compared with the
+//! segments, one by one, so that no byte of a key is copied.
 ghost use Rattle.std.specs.Prelude.{◌≡◌, ◌≤◌, ◌+◌, ◌*◌, ℕ, [], length, reverse, vec_capacity, IfErr, OnErr, OnOk};
-ghost use Rattle.std.specs.List.{FoldsTo};
 ghost use Rattle.rart_keys.specs.Ranges.{bound_in, is_to};
 ghost use Rattle.rart_nodes.specs.ranges.Dues.{AreLow};
 ghost use Rattle.rart_nodes.specs.ranges.Spans.{cut_between, span_bound, span_visits};
@@ -12,8 +11,8 @@ ghost use Rattle.rart_nodes.specs.tries.Tree.{seen_pairs};
 ghost use Rattle.rart_nodes.specs.walks.Tour.{IsTour, joined};
 ghost use Rattle.rart_nodes.specs.walks.TrailParts.{lent_pieces};
 ghost use Rattle.rart_nodes.specs.walks.ViewPieces.{AreViews, views_ahead};
-ghost use Rattle.rart_nodes.specs.walks.Viewed.{Viewed};
-ghost use Rattle.rart_nodes.specs.walks.Calls.{CallsEach, MayLackRoom};
+ghost use Rattle.rart_nodes.specs.walks.Viewed.{CanView, ViewedEach, ViewsEach};
+ghost use Rattle.rart_nodes.specs.walks.Calls.{MayLackRoom};
 
 use crate::count::Count;
 use crate::node::range::{bytes_of, is_before};
@@ -43,14 +42,19 @@ fn feed_views_to<'a, K: KeyTrait, V, C: Count, F: FnMut(LendingKeyView<'_, '_>, 
     counter: &mut C,
     f: &mut F,
 )
-    requires callable { F.IsAlwaysCallable f.old }
-    requires path { IsTour tour.old.longest (vec_capacity tour.old.levels) (lent_pieces trail.old.segments.items) (reverse tour.old.levels.items) }
+    requires callable { CanView F.FnMut f.old (stops_to (bound_in K.bytes end.now)
+        (views_ahead trail.old.segments.items tour.old.first tour.old.levels.items)) }
+    requires path { IsTour tour.old.longest (vec_capacity tour.old.levels)
+        (lent_pieces trail.old.segments.items) (reverse tour.old.levels.items) }
     requires room { tour.old.longest ≤ vec_capacity trail.old.segments }
-    requires views { AreViews (views_ahead trail.old.segments.items tour.old.first tour.old.levels.items) }
-    ensures callable { F.IsAlwaysCallable f.new }
-    ensures folds { FoldsTo (λ p x q. Viewed F.FnMut p x q) f.old (stops_to (bound_in K.bytes end.now) (views_ahead trail.old.segments.items tour.old.first tour.old.levels.items)) f.new }
+    requires views { AreViews
+        (views_ahead trail.old.segments.items tour.old.first tour.old.levels.items) }
+    ensures callable { F.IsAlwaysCallable f.old → F.IsAlwaysCallable f.new }
+    ensures folds { ViewsEach F.FnMut f.old (stops_to (bound_in K.bytes end.now)
+        (views_ahead trail.old.segments.items tour.old.first tour.old.levels.items)) f.new }
     ensures visits { (h : ℕ) → AreLow h (reverse tour.old.levels.items) →
-        C.number counter.new ≤ C.number counter.old + 2 * length (stops_to (bound_in K.bytes end.now) (views_ahead trail.old.segments.items tour.old.first tour.old.levels.items)) + h }
+        C.number counter.new ≤ C.number counter.old + 2 * length (stops_to (bound_in K.bytes end.now)
+        (views_ahead trail.old.segments.items tour.old.first tour.old.levels.items)) + h }
 {
     while let Some(value) = tour.advance(trail, counter) {
         let view = LendingKeyView::of(trail.segments());
@@ -62,10 +66,17 @@ fn feed_views_to<'a, K: KeyTrait, V, C: Count, F: FnMut(LendingKeyView<'_, '_>, 
 }
 
 impl<'a, K: KeyTrait + Drop, V, C: Count> Seen<'a, K, V, C> {
-    /// Calls `f` with each pair within two bounds, in order, and with a view of its key, cut at the branch points; with none where
-    /// the end comes before the start. All room is taken before the first call; refused with `Memory` alone, only where the tree
-    /// isn't empty, and then `f` wasn't called. With m calls in a tree of height h it visits at most one node more than the start
-    /// has bytes, and 2m + h; none in an empty tree. `f` is lent, so that the caller sees what the calls left in it.
+    /// Calls `f` with each pair between two bounds, in order, and with a view of its key, cut at the branch points;
+    /// with none if the end is before the start. `f` must be callable with each of these in turn. The caller keeps
+    /// `f`.
+    ///
+    /// # Errors
+    ///
+    /// [`TreeError::Memory`] if the tree isn't empty and the allocation for the walk fails. `f` is then not called.
+    ///
+    /// # Visits
+    ///
+    /// At most `start.len() + 1 + 2 * m + h` nodes with `m` calls in a tree of height `h`, none in an empty tree.
     pub fn for_each_range_view_by_ref_counted<F: FnMut(LendingKeyView<'_, '_>, &V)>(
         self,
         start: Bound<K>,
@@ -73,13 +84,17 @@ impl<'a, K: KeyTrait + Drop, V, C: Count> Seen<'a, K, V, C> {
         f: &mut F,
         counter: &mut C,
     ) -> Result<(), TreeError>
-        requires callable { F.IsAlwaysCallable f.old }
-        ensures callable { F.IsAlwaysCallable f.new }
-        ensures calls { OnOk result (FoldsTo (λ p x q. Viewed F.FnMut p x q) f.old (cut_between (bound_in K.bytes start) (bound_in K.bytes end) (seen_pairs self.entry.root)) f.new) }
+        requires callable { CanView F.FnMut f.old
+            (cut_between (bound_in K.bytes start) (bound_in K.bytes end) (seen_pairs self.root)) }
+        ensures callable { F.IsAlwaysCallable f.old → F.IsAlwaysCallable f.new }
+        ensures calls { OnOk result (ViewsEach F.FnMut f.old
+            (cut_between (bound_in K.bytes start) (bound_in K.bytes end) (seen_pairs self.entry.root)) f.new) }
         ensures refused { OnErr result (f.new ≡ f.old) }
         ensures memory { IfErr result (MayLackRoom (seen_pairs self.entry.root)) }
-        ensures visits { OnOk result (C.number counter.new ≤ C.number counter.old + span_visits (bound_in K.bytes start) (bound_in K.bytes end) (seen_pairs self.entry.root)) }
-        ensures bound { C.number counter.new ≤ C.number counter.old + span_bound (bound_in K.bytes start) (bound_in K.bytes end) (seen_pairs self.entry.root) }
+        ensures visits { OnOk result (C.number counter.new ≤ C.number counter.old
+            + span_visits (bound_in K.bytes start) (bound_in K.bytes end) (seen_pairs self.entry.root)) }
+        ensures bound { C.number counter.new ≤ C.number counter.old
+            + span_bound (bound_in K.bytes start) (bound_in K.bytes end) (seen_pairs self.entry.root) }
         ensures none { seen_pairs self.entry.root ≡ [] → C.number counter.new ≤ C.number counter.old }
     {
         let (bytes, included) = bytes_of(&start);
@@ -88,7 +103,7 @@ impl<'a, K: KeyTrait + Drop, V, C: Count> Seen<'a, K, V, C> {
         Ok(())
     }
 
-    /// Calls `f` as `for_each_range_view_by_ref_counted` does; `f` is gone after the call.
+    /// Calls `f` as `for_each_range_view_by_ref_counted` does, and drops it.
     pub fn for_each_range_view_counted<F: FnMut(LendingKeyView<'_, '_>, &V) + Drop>(
         self,
         start: Bound<K>,
@@ -96,11 +111,15 @@ impl<'a, K: KeyTrait + Drop, V, C: Count> Seen<'a, K, V, C> {
         mut f: F,
         counter: &mut C,
     ) -> Result<(), TreeError>
-        requires callable { F.IsAlwaysCallable f }
-        ensures calls { OnOk result (CallsEach (λ p x q. Viewed F.FnMut p x q) f (cut_between (bound_in K.bytes start) (bound_in K.bytes end) (seen_pairs self.entry.root))) }
+        requires callable { CanView F.FnMut f
+            (cut_between (bound_in K.bytes start) (bound_in K.bytes end) (seen_pairs self.root)) }
+        ensures calls { OnOk result (ViewedEach F.FnMut f
+            (cut_between (bound_in K.bytes start) (bound_in K.bytes end) (seen_pairs self.entry.root))) }
         ensures memory { IfErr result (MayLackRoom (seen_pairs self.entry.root)) }
-        ensures visits { OnOk result (C.number counter.new ≤ C.number counter.old + span_visits (bound_in K.bytes start) (bound_in K.bytes end) (seen_pairs self.entry.root)) }
-        ensures bound { C.number counter.new ≤ C.number counter.old + span_bound (bound_in K.bytes start) (bound_in K.bytes end) (seen_pairs self.entry.root) }
+        ensures visits { OnOk result (C.number counter.new ≤ C.number counter.old
+            + span_visits (bound_in K.bytes start) (bound_in K.bytes end) (seen_pairs self.entry.root)) }
+        ensures bound { C.number counter.new ≤ C.number counter.old
+            + span_bound (bound_in K.bytes start) (bound_in K.bytes end) (seen_pairs self.entry.root) }
         ensures none { seen_pairs self.entry.root ≡ [] → C.number counter.new ≤ C.number counter.old }
     {
         self.for_each_range_view_by_ref_counted(start, end, &mut f, counter)

@@ -1,11 +1,10 @@
 //! Walks over the values below a prefix that a callback can end.
-ghost use Rattle.std.specs.Prelude.{◌≡◌, ◌≢◌, ◌≤◌, ◌^◌, [], reverse, vec_capacity, IfErr};
-ghost use Rattle.rart_keys.specs.Filters.{below};
-ghost use Rattle.rart_keys.specs.SortedMap.{values_of};
+ghost use Rattle.std.specs.Prelude.{◌≡◌, ◌≤◌, ◌+◌, ◌^◌, [], reverse, vec_capacity, IfErr};
 ghost use Rattle.rart_nodes.specs.tries.Tree.{seen_pairs};
-ghost use Rattle.rart_nodes.specs.walks.Tour.{IsTour};
+ghost use Rattle.rart_nodes.specs.walks.BelowPrefix.{below_bound, below_visits, values_below};
+ghost use Rattle.rart_nodes.specs.walks.Tour.{IsTour, nodes_below};
 ghost use Rattle.rart_nodes.specs.walks.TrailParts.{values_ahead};
-ghost use Rattle.rart_nodes.specs.walks.Tried.{EndsAs, EndsVisit};
+ghost use Rattle.rart_nodes.specs.walks.Tried.{CanTry, EndedVisit, EndsAs, EndsVisit, IfRoom, MayStopAtRoom};
 
 use crate::count::{Count, Visits};
 use crate::node::control::{VisitControl, VisitError};
@@ -19,11 +18,15 @@ fn try_feed<'a, P: Partial, V, C: Count, E, F: FnMut(&V) -> Result<VisitControl,
     counter: &mut C,
     f: &mut F,
 ) -> Result<(), E>
-    requires callable { F.IsAlwaysCallable f.old }
-    requires path { IsTour tour.old.longest (vec_capacity tour.old.levels) [] (reverse tour.old.levels.items) }
+    requires callable { CanTry F.FnMut f.old (values_ahead tour.old.first tour.old.levels.items) }
+    requires path { IsTour tour.old.longest (vec_capacity tour.old.levels) []
+        (reverse tour.old.levels.items) }
     requires room { tour.old.longest ≤ 2 ^ 64 }
-    ensures callable { F.IsAlwaysCallable f.new }
-    ensures calls { EndsAs F.FnMut f.old (values_ahead tour.old.first tour.old.levels.items) result f.new }
+    ensures callable { F.IsAlwaysCallable f.old → F.IsAlwaysCallable f.new }
+    ensures calls { EndsAs F.FnMut f.old (values_ahead tour.old.first tour.old.levels.items)
+        result f.new }
+    ensures visits { C.number counter.new
+        ≤ C.number counter.old + nodes_below (reverse tour.old.levels.items) }
 {
     while let Some(value) = tour.advance(&mut NoTrail, counter) {
         match f(value) {
@@ -35,28 +38,112 @@ fn try_feed<'a, P: Partial, V, C: Count, E, F: FnMut(&V) -> Result<VisitControl,
     Ok(())
 }
 
+impl<'a, K: KeyTrait, V, C: Count> Seen<'a, K, V, C> {
+    /// Calls `f` with the value of each pair whose key begins with `prefix`, in order. `Stop` ends the walk with
+    /// `Ok(())`; an `Err(e)` of the callback ends it with [`VisitError::Callback`]. `f` must be callable with each
+    /// value in turn for as long as it returns `Continue`. The caller keeps `f`.
+    ///
+    /// # Errors
+    ///
+    /// [`VisitError::Memory`] if the tree isn't empty and the allocation for the walk fails. `f` is then not called.
+    ///
+    /// # Visits
+    ///
+    /// At most `prefix.len() + 1 + 2 * m` nodes where `m` keys begin with `prefix`, none in an empty tree.
+    pub fn try_prefix_values_for_each_by_ref_k_counted<E, F: FnMut(&V) -> Result<VisitControl, E>>(
+        self,
+        prefix: &K,
+        f: &mut F,
+        counter: &mut C,
+    ) -> Result<(), VisitError<E>>
+        requires callable { CanTry F.FnMut f.old
+            (values_below (K.bytes prefix.now) (seen_pairs self.root)) }
+        ensures callable { F.IsAlwaysCallable f.old → F.IsAlwaysCallable f.new }
+        ensures calls { EndsVisit F.FnMut f.old
+            (values_below (K.bytes prefix.now) (seen_pairs self.entry.root)) result f.new }
+        ensures memory { IfErr result (MayStopAtRoom (seen_pairs self.entry.root)) }
+        ensures visits { IfRoom result (C.number counter.new
+            ≤ C.number counter.old + below_visits (K.bytes prefix.now) (seen_pairs self.entry.root)) }
+        ensures bound { C.number counter.new
+            ≤ C.number counter.old + below_bound (K.bytes prefix.now) (seen_pairs self.entry.root) }
+    {
+        let Ok((mut tour, _trail)) = self.tour_below::<NoTrail>(prefix.as_ref(), counter) else {
+            return Err(VisitError::Memory);
+        };
+        match try_feed(&mut tour, counter, f) {
+            Ok(()) => Ok(()),
+            Err(error) => Err(VisitError::Callback(error)),
+        }
+    }
+
+    /// Calls `f` as `try_prefix_values_for_each_by_ref_k_counted` does, and drops it.
+    ///
+    /// # Errors
+    ///
+    /// [`VisitError`] as there.
+    ///
+    /// # Visits
+    ///
+    /// As there.
+    pub fn try_prefix_values_for_each_k_counted<E, F: FnMut(&V) -> Result<VisitControl, E> + Drop>(
+        self,
+        prefix: &K,
+        mut f: F,
+        counter: &mut C,
+    ) -> Result<(), VisitError<E>>
+        requires callable { CanTry F.FnMut f
+            (values_below (K.bytes prefix.now) (seen_pairs self.root)) }
+        ensures calls { EndedVisit F.FnMut f
+            (values_below (K.bytes prefix.now) (seen_pairs self.entry.root)) result }
+        ensures memory { IfErr result (MayStopAtRoom (seen_pairs self.entry.root)) }
+        ensures visits { IfRoom result (C.number counter.new
+            ≤ C.number counter.old + below_visits (K.bytes prefix.now) (seen_pairs self.entry.root)) }
+        ensures bound { C.number counter.new
+            ≤ C.number counter.old + below_bound (K.bytes prefix.now) (seen_pairs self.entry.root) }
+    {
+        self.try_prefix_values_for_each_by_ref_k_counted(prefix, &mut f, counter)
+    }
+}
+
 impl<'a, K: KeyTrait, V> Seen<'a, K, V, Visits> {
-    /// Calls `f` with the value of each pair whose key begins with `prefix`, in order, until it says `Stop`, and then the call is `Ok`, or
-    /// fails, and then the call fails with `Callback`. All room is taken before the first call; refused with `Memory`, only where
-    /// the tree isn't empty, `f` wasn't called. `f` is lent, so that the caller sees what the calls left in it.
+    /// Calls `f` with the value of each pair whose key begins with `prefix`, in order. `Stop` ends the walk with
+    /// `Ok(())`; an `Err(e)` of the callback ends it with [`VisitError::Callback`]. `f` must be callable with each
+    /// value in turn for as long as it returns `Continue`. The caller keeps `f`.
+    ///
+    /// # Errors
+    ///
+    /// [`VisitError::Memory`] if the tree isn't empty and the allocation for the walk fails. `f` is then not called.
     pub fn try_prefix_values_for_each_by_ref_k<E, F: FnMut(&V) -> Result<VisitControl, E>>(
         self,
         prefix: &K,
         f: &mut F,
     ) -> Result<(), VisitError<E>>
-        requires callable { F.IsAlwaysCallable f.old }
-        ensures callable { F.IsAlwaysCallable f.new }
-        ensures calls { EndsVisit F.FnMut f.old (values_of (below (K.bytes prefix.now) (seen_pairs self.entry.root))) result f.new }
-        ensures memory { IfErr result (λ e. e ≡ VisitError.Memory → seen_pairs self.entry.root ≢ []) }
+        requires callable { CanTry F.FnMut f.old
+            (values_below (K.bytes prefix.now) (seen_pairs self.root)) }
+        ensures callable { F.IsAlwaysCallable f.old → F.IsAlwaysCallable f.new }
+        ensures calls { EndsVisit F.FnMut f.old
+            (values_below (K.bytes prefix.now) (seen_pairs self.entry.root)) result f.new }
+        ensures memory { IfErr result (MayStopAtRoom (seen_pairs self.entry.root)) }
     {
-        let mut counter = Visits::new();
-        let Ok((mut tour, _trail)) = self.tour_below::<NoTrail>(prefix.as_ref(), &mut counter)
-        else {
-            return Err(VisitError::Memory);
-        };
-        match try_feed(&mut tour, &mut counter, f) {
-            Ok(()) => Ok(()),
-            Err(error) => Err(VisitError::Callback(error)),
-        }
+        self.try_prefix_values_for_each_by_ref_k_counted(prefix, f, &mut Visits::new())
+    }
+
+    /// Calls `f` as `try_prefix_values_for_each_by_ref_k` does, and drops it.
+    ///
+    /// # Errors
+    ///
+    /// [`VisitError`] as there.
+    pub fn try_prefix_values_for_each_k<E, F: FnMut(&V) -> Result<VisitControl, E> + Drop>(
+        self,
+        prefix: &K,
+        f: F,
+    ) -> Result<(), VisitError<E>>
+        requires callable { CanTry F.FnMut f
+            (values_below (K.bytes prefix.now) (seen_pairs self.root)) }
+        ensures calls { EndedVisit F.FnMut f
+            (values_below (K.bytes prefix.now) (seen_pairs self.entry.root)) result }
+        ensures memory { IfErr result (MayStopAtRoom (seen_pairs self.entry.root)) }
+    {
+        self.try_prefix_values_for_each_k_counted(prefix, f, &mut Visits::new())
     }
 }

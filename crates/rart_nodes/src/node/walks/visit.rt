@@ -1,15 +1,14 @@
-//! Walks that call a callback with the values below a prefix.
+//! Walks that call a callback with each value below a prefix.
 //!
-//! All room is taken before the first call. A callback that is lent (`&mut F`) shows the caller what the calls left in it.
-ghost use Rattle.std.specs.Prelude.{◌≡◌, ◌≤◌, ◌^◌, [], reverse, vec_capacity, IfErr, OnErr, OnOk};
-ghost use Rattle.std.specs.List.{FoldsTo};
-ghost use Rattle.rart_keys.specs.Filters.{below};
-ghost use Rattle.rart_keys.specs.SortedMap.{values_of};
+//! A walk allocates before its first call. The caller of a `_by_ref` form keeps its callback, and with it the state
+//! that the last call left.
+ghost use Rattle.std.specs.Prelude.{◌≡◌, ◌≤◌, ◌+◌, ◌^◌, [], reverse, vec_capacity, IfErr, OnErr, OnOk};
 ghost use Rattle.rart_nodes.specs.tries.Tree.{seen_pairs};
-ghost use Rattle.rart_nodes.specs.walks.Shown.{Shown};
-ghost use Rattle.rart_nodes.specs.walks.Tour.{IsTour};
+ghost use Rattle.rart_nodes.specs.walks.BelowPrefix.{below_bound, below_visits, values_below};
+ghost use Rattle.rart_nodes.specs.walks.Shown.{CanShow, ShowedEach, ShowsEach};
+ghost use Rattle.rart_nodes.specs.walks.Tour.{IsTour, nodes_below};
 ghost use Rattle.rart_nodes.specs.walks.TrailParts.{values_ahead};
-ghost use Rattle.rart_nodes.specs.walks.Calls.{CallsEach, MayLackRoom};
+ghost use Rattle.rart_nodes.specs.walks.Calls.{MayLackRoom};
 
 use crate::count::{Count, Visits};
 use crate::node::seen::Seen;
@@ -23,59 +22,143 @@ fn feed_values<'a, P: Partial, V, C: Count, F: FnMut(&V)>(
     counter: &mut C,
     f: &mut F,
 )
-    requires callable { F.IsAlwaysCallable f.old }
-    requires path { IsTour tour.old.longest (vec_capacity tour.old.levels) [] (reverse tour.old.levels.items) }
+    requires callable { CanShow F.FnMut f.old (values_ahead tour.old.first tour.old.levels.items) }
+    requires path { IsTour tour.old.longest (vec_capacity tour.old.levels) []
+        (reverse tour.old.levels.items) }
     requires room { tour.old.longest ≤ 2 ^ 64 }
-    ensures callable { F.IsAlwaysCallable f.new }
-    ensures folds { FoldsTo (λ p x q. Shown F.FnMut p x q) f.old (values_ahead tour.old.first tour.old.levels.items) f.new }
+    ensures callable { F.IsAlwaysCallable f.old → F.IsAlwaysCallable f.new }
+    ensures folds { ShowsEach F.FnMut f.old (values_ahead tour.old.first tour.old.levels.items) f.new }
+    ensures visits { C.number counter.new
+        ≤ C.number counter.old + nodes_below (reverse tour.old.levels.items) }
 {
     while let Some(value) = tour.advance(&mut NoTrail, counter) {
         f(value);
     }
 }
 
-impl<'a, K: KeyTrait, V> Seen<'a, K, V, Visits> {
-    /// Calls `f` with the value of each pair whose key begins with the bytes `prefix`, in order. Refused with `Memory` alone, before any call.
-    fn each_value_below<F: FnMut(&V)>(self, prefix: &[u8], f: &mut F) -> Result<(), TreeError>
-        requires callable { F.IsAlwaysCallable f.old }
-        ensures callable { F.IsAlwaysCallable f.new }
-        ensures calls { OnOk result (FoldsTo (λ p x q. Shown F.FnMut p x q) f.old (values_of (below prefix.now (seen_pairs self.entry.root))) f.new) }
+impl<'a, K: KeyTrait, V, C: Count> Seen<'a, K, V, C> {
+    /// Calls `f` with the value of each pair whose key begins with the bytes `prefix`, in order.
+    fn each_value_below<F: FnMut(&V)>(
+        self,
+        prefix: &[u8],
+        f: &mut F,
+        counter: &mut C,
+    ) -> Result<(), TreeError>
+        requires callable { CanShow F.FnMut f.old (values_below prefix.now (seen_pairs self.root)) }
+        ensures callable { F.IsAlwaysCallable f.old → F.IsAlwaysCallable f.new }
+        ensures calls { OnOk result
+            (ShowsEach F.FnMut f.old (values_below prefix.now (seen_pairs self.entry.root)) f.new) }
         ensures refused { OnErr result (f.new ≡ f.old) }
         ensures memory { IfErr result (MayLackRoom (seen_pairs self.entry.root)) }
+        ensures visits { OnOk result (C.number counter.new
+            ≤ C.number counter.old + below_visits prefix.now (seen_pairs self.entry.root)) }
+        ensures bound { C.number counter.new
+            ≤ C.number counter.old + below_bound prefix.now (seen_pairs self.entry.root) }
     {
-        let mut counter = Visits::new();
-        let (mut tour, _trail) = self.tour_below::<NoTrail>(prefix, &mut counter)?;
-        feed_values(&mut tour, &mut counter, f);
+        let (mut tour, _trail) = self.tour_below::<NoTrail>(prefix, counter)?;
+        feed_values(&mut tour, counter, f);
         Ok(())
     }
 
-    /// Calls `f` with the value of each pair whose key begins with `prefix`, in order. All room is taken before the first call;
-    /// refused with `Memory` alone, only where the tree isn't empty, and then `f` wasn't called. `f` is lent, so that the caller
-    /// sees what the calls left in it.
+    /// Calls `f` with the value of each pair whose key begins with `prefix`, in order. `f` must be callable with each
+    /// of these values in turn. The caller keeps `f`.
+    ///
+    /// # Errors
+    ///
+    /// [`TreeError::Memory`] if the tree isn't empty and the allocation for the walk fails. `f` is then not called.
+    ///
+    /// # Visits
+    ///
+    /// At most `prefix.len() + 1 + 2 * m` nodes with `m` calls, none in an empty tree.
+    pub fn prefix_values_for_each_by_ref_k_counted<F: FnMut(&V)>(
+        self,
+        prefix: &K,
+        f: &mut F,
+        counter: &mut C,
+    ) -> Result<(), TreeError>
+        requires callable { CanShow F.FnMut f.old
+            (values_below (K.bytes prefix.now) (seen_pairs self.root)) }
+        ensures callable { F.IsAlwaysCallable f.old → F.IsAlwaysCallable f.new }
+        ensures calls { OnOk result (ShowsEach F.FnMut f.old
+            (values_below (K.bytes prefix.now) (seen_pairs self.entry.root)) f.new) }
+        ensures refused { OnErr result (f.new ≡ f.old) }
+        ensures memory { IfErr result (MayLackRoom (seen_pairs self.entry.root)) }
+        ensures visits { OnOk result (C.number counter.new
+            ≤ C.number counter.old + below_visits (K.bytes prefix.now) (seen_pairs self.entry.root)) }
+        ensures bound { C.number counter.new
+            ≤ C.number counter.old + below_bound (K.bytes prefix.now) (seen_pairs self.entry.root) }
+    {
+        self.each_value_below(prefix.as_ref(), f, counter)
+    }
+
+    /// Calls `f` as `prefix_values_for_each_by_ref_k_counted` does, and drops it.
+    ///
+    /// # Errors
+    ///
+    /// [`TreeError::Memory`] as there.
+    ///
+    /// # Visits
+    ///
+    /// As there.
+    pub fn prefix_values_for_each_k_counted<F: FnMut(&V) + Drop>(
+        self,
+        prefix: &K,
+        mut f: F,
+        counter: &mut C,
+    ) -> Result<(), TreeError>
+        requires callable { CanShow F.FnMut f
+            (values_below (K.bytes prefix.now) (seen_pairs self.root)) }
+        ensures calls { OnOk result (ShowedEach F.FnMut f
+            (values_below (K.bytes prefix.now) (seen_pairs self.entry.root))) }
+        ensures memory { IfErr result (MayLackRoom (seen_pairs self.entry.root)) }
+        ensures visits { OnOk result (C.number counter.new
+            ≤ C.number counter.old + below_visits (K.bytes prefix.now) (seen_pairs self.entry.root)) }
+        ensures bound { C.number counter.new
+            ≤ C.number counter.old + below_bound (K.bytes prefix.now) (seen_pairs self.entry.root) }
+    {
+        self.prefix_values_for_each_by_ref_k_counted(prefix, &mut f, counter)
+    }
+}
+
+impl<'a, K: KeyTrait, V> Seen<'a, K, V, Visits> {
+    /// Calls `f` with the value of each pair whose key begins with `prefix`, in order. `f` must be callable with each
+    /// of these values in turn. The caller keeps `f`.
+    ///
+    /// # Errors
+    ///
+    /// [`TreeError::Memory`] if the tree isn't empty and the allocation for the walk fails. `f` is then not called.
     pub fn prefix_values_for_each_by_ref_k<F: FnMut(&V)>(
         self,
         prefix: &K,
         f: &mut F,
     ) -> Result<(), TreeError>
-        requires callable { F.IsAlwaysCallable f.old }
-        ensures callable { F.IsAlwaysCallable f.new }
-        ensures calls { OnOk result (FoldsTo (λ p x q. Shown F.FnMut p x q) f.old (values_of (below (K.bytes prefix.now) (seen_pairs self.entry.root))) f.new) }
+        requires callable { CanShow F.FnMut f.old
+            (values_below (K.bytes prefix.now) (seen_pairs self.root)) }
+        ensures callable { F.IsAlwaysCallable f.old → F.IsAlwaysCallable f.new }
+        ensures calls { OnOk result (ShowsEach F.FnMut f.old
+            (values_below (K.bytes prefix.now) (seen_pairs self.entry.root)) f.new) }
         ensures refused { OnErr result (f.new ≡ f.old) }
         ensures memory { IfErr result (MayLackRoom (seen_pairs self.entry.root)) }
     {
-        self.each_value_below(prefix.as_ref(), f)
+        self.prefix_values_for_each_by_ref_k_counted(prefix, f, &mut Visits::new())
     }
 
-    /// Calls `f` as `prefix_values_for_each_by_ref_k` does; `f` is gone after the call.
+    /// Calls `f` as `prefix_values_for_each_by_ref_k` does, and drops it.
+    ///
+    /// # Errors
+    ///
+    /// [`TreeError::Memory`] as there.
     pub fn prefix_values_for_each_k<F: FnMut(&V) + Drop>(
         self,
         prefix: &K,
-        mut f: F,
+        f: F,
     ) -> Result<(), TreeError>
-        requires callable { F.IsAlwaysCallable f }
-        ensures calls { OnOk result (CallsEach (λ p x q. Shown F.FnMut p x q) f (values_of (below (K.bytes prefix.now) (seen_pairs self.entry.root)))) }
+        requires callable { CanShow F.FnMut f
+            (values_below (K.bytes prefix.now) (seen_pairs self.root)) }
+        ensures calls { OnOk result (ShowedEach F.FnMut f
+            (values_below (K.bytes prefix.now) (seen_pairs self.entry.root))) }
         ensures memory { IfErr result (MayLackRoom (seen_pairs self.entry.root)) }
     {
-        self.prefix_values_for_each_by_ref_k(prefix, &mut f)
+        self.prefix_values_for_each_k_counted(prefix, f, &mut Visits::new())
     }
 }

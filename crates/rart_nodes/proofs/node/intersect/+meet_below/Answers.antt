@@ -1,5 +1,5 @@
 use Rattle.std.proofs.Common.{[], arith}
-use Rattle.rart_nodes.proofs.joins.MeetingLemmas.{back-again, given-fork, given-next, next-twins, same-room, twins-within}
+use Rattle.rart_nodes.proofs.joins.MeetingLemmas.{back-again, can-fork, can-next, can-others, can-rest, can-start, given-fork, given-next, next-twins, same-room, twins-within}
 use Rattle.rart_nodes.proofs.joins.WayLemmas.{way-stays, way-on}
 use Rattle.rart_nodes.proofs.node.intersect.+meet_below.Goals as goal
 
@@ -12,6 +12,12 @@ pub give_both-requires-clause-room : goal.give_both-requires-clause-room
 give_both-requires-clause-room g t c =
     let way = c.in-Some.ensures.way in
     g.met.T.Meeting.lawful.has_room _ _ way.0 _ 0 way.1 c.requires.room (omega (arith, way.2.short))
+
+pub give_both-requires-clause-callable : goal.give_both-requires-clause-callable
+give_both-requires-clause-callable g t c =
+    let laws = g.met.T.Meeting.lawful in
+    let way = c.in-Some.ensures.way in
+    rw (c.value.ensures, c.value-2.ensures) (can-start _ _ laws _ _ _ _ _ (can-fork _ _ laws _ g.met.T.Meeting.behind _ _ _ _ _ way.0 _ _ way.2 way.1 c.requires.callable))
 
 pub returns-then-is_bare-clause-place : goal.returns-then-is_bare-clause-place
 returns-then-is_bare-clause-place g t c =
@@ -33,7 +39,7 @@ loop-child-init g t c =
     let laws = g.met.T.Meeting.lawful in
     let way = c.in-Some.ensures.way in
     record {
-      callable = c.give_both.ensures.callable;
+      callable = rw c.of-twins.ensures (can-rest _ _ laws _ _ _ _ _ _ (can-fork _ _ laws _ g.met.T.Meeting.behind _ _ _ _ _ way.0 _ _ way.2 way.1 c.requires.callable) (rw (c.value.ensures, c.value-2.ensures) at c.give_both.ensures.given));
       place = way-stays _;
       room = laws.has_room _ _ way.0 _ _ way.1 c.requires.room way.2.short;
       given = λ last h. h;
@@ -47,7 +53,7 @@ meet_below-requires g t c κs within =
     let inv = c.loop-child.invariant in
     let next = next-twins _ _ _ _ _ _ c.in-Some-enter_next.ensures.twins inv.within in
     let room = same-room _ _ laws _ _ _ _ (way-stays _) inv.room next.short in
-    (omega (arith, c.decreases, next.falls), (within.0, (within.1.0, (within.1.1.0, (within.1.1.1.0, (within.1.1.1.1.0, (within.1.1.1.1.1, (room, inv.callable))))))))
+    (omega (arith, c.decreases, next.falls), (within.0, (within.1.0, (within.1.1.0, (within.1.1.1.0, (within.1.1.1.1.0, (within.1.1.1.1.1, (room, can-next _ _ laws _ g.met.T.Meeting.behind _ _ _ _ _ _ _ c.in-Some-enter_next.ensures.twins inv.place inv.callable))))))))
 
 pub loop-child-preserved : goal.loop-child-preserved
 loop-child-preserved g t c =
@@ -55,7 +61,7 @@ loop-child-preserved g t c =
     let inv = c.loop-child.invariant in
     let next = next-twins _ _ _ _ _ _ c.in-Some-enter_next.ensures.twins inv.within in
     record {
-      callable = c.meet_below.ensures.callable;
+      callable = can-others _ _ laws _ g.met.T.Meeting.behind _ _ _ _ _ _ _ _ c.in-Some-enter_next.ensures.twins inv.place c.meet_below.ensures.given inv.callable;
       place = way-on _ _ _ [] [] inv.place c.meet_below.ensures.place;
       room = laws.has_room _ _ [] _ _ c.meet_below.ensures.place inv.room (omega arith);
       given = λ last h. inv.given last (given-next _ _ laws _ _ _ _ _ _ _ _ _ c.in-Some-enter_next.ensures.twins inv.place c.meet_below.ensures.given h);

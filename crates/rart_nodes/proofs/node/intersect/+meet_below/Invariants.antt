@@ -1,5 +1,6 @@
 use Rattle.std.proofs.Common.{◌≡◌, ◌+◌, [], length}
 use Rattle.rart_keys.specs.SortedMap.{longest_key}
+use Rattle.rart_nodes.specs.joins.Meetings.{CanGive}
 use Rattle.rart_nodes.specs.joins.SharedEdges.{more_visits}
 use Rattle.rart_nodes.specs.joins.Twins.{meet_all, visits_all}
 use Rattle.rart_nodes.specs.joins.TwinsAhead.{twins_ahead}
@@ -14,7 +15,7 @@ decreases-meet_below g l = node_count l.left.node.now + node_count l.right.node.
 
 abbrev pub invariant-loop-child : goal.invariant-loop-child
 invariant-loop-child g l = record {
-  callable : g.T.Meeting.callable l.f;
+  callable : CanGive g.T.Meeting.can g.T.Meeting.given l.initial.way l.f (meet_all (twins_ahead l.twins l.left_fork.node.now l.right_fork.node.now));
   place : WayGrown l.initial.way [] l.way;
   room : g.T.Meeting.room l.way (longest_key (children_pairs (children_in l.left_fork.node.now)));
   given : (last : _) → g.T.Meeting.given l.initial.way l.f (meet_all (twins_ahead l.twins l.left_fork.node.now l.right_fork.node.now)) last → g.T.Meeting.given l.initial.way l.initial.f (meet_all (twins_ahead l.initial.twins l.left_fork.node.now l.right_fork.node.now)) last;

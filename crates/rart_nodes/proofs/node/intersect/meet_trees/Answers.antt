@@ -9,6 +9,11 @@ returns-in_default-top-clause-given g c =
     let none = joined-right_none (option_copied c.args.left.root) (option_copied c.args.right.root) c.in_default-top.ensures in
     rw none.0 (g.met.T.Meeting.lawful.gives_none _ _)
 
+pub meet_below-requires-clause-callable : goal.meet_below-requires-clause-callable
+meet_below-requires-clause-callable g c =
+    let both = joined-both _ _ _ _ (IsCanonicalTree-test _ c.args.left.canonical) (IsCanonicalTree-test _ c.args.right.canonical) c.in-Some.ensures c.in-Some-top.ensures in
+    rw (both.pairs, ← c.enter_pair.ensures.left, ← c.enter_pair.ensures.right) at c.requires.callable
+
 pub returns-clause-given : goal.returns-clause-given
 returns-clause-given g c =
     let both = joined-both _ _ _ _ (IsCanonicalTree-test _ c.args.left.canonical) (IsCanonicalTree-test _ c.args.right.canonical) c.in-Some.ensures c.in-Some-top.ensures in

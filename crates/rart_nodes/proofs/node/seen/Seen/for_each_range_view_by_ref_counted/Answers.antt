@@ -1,5 +1,4 @@
 use Rattle.std.proofs.Common.{arith, rules, ◌≡◌, ◌≤◌, ◌<◌, ◌+◌, ◌^◌, ◌∙◌, List, length, ap, sym, subst, refl}
-use Rattle.std.specs.List.{FoldsTo}
 use Rattle.std.specs.Option.{option_copied}
 use Rattle.rart_keys.specs.Ranges.{bound_bytes, bound_in, is_inclusive}
 use Rattle.rart_keys.specs.SortedMap.{keys_of}
@@ -11,7 +10,7 @@ use Rattle.rart_nodes.specs.walks.ProbeCount.{probe_count}
 use Rattle.rart_nodes.specs.walks.Tour.{Pieces, tree_stops}
 use Rattle.rart_nodes.specs.walks.TrailParts.{one_piece}
 use Rattle.rart_nodes.specs.walks.ViewPieces.{AreViews, views_ahead}
-use Rattle.rart_nodes.specs.walks.Viewed.{Viewed}
+use Rattle.rart_nodes.specs.walks.Viewed.{CanView, ViewsEach}
 use Rattle.rart_nodes.proofs.ranges.RangeCuts.{none-visited, range-cut, range-length, since-views}
 use Rattle.rart_nodes.proofs.tries.CanonicalTests.{IsCanonicalTree-test}
 use Rattle.rart_nodes.proofs.walks.StopLemmas.{joins-one}
@@ -32,13 +31,21 @@ ahead-is : (g : Over) (c : In_ok-tour g) → views_ahead c.in_ok-tour.trail.segm
     ≡ stops_since (is_inclusive (bound_in g.K.KeyTrait.bytes c.args.start)) (bound_bytes (bound_in g.K.KeyTrait.bytes c.args.start)) (tree_stops one_piece (option_copied c.args.self.root))
 ahead-is g c = rw (← c.bytes_of-included.ensures.bytes, ← c.bytes_of-included.ensures.inclusive) c.in_ok-tour.ensures.stops
 
+pub feed_views_to-requires-clause-callable : goal.feed_views_to-requires-clause-callable
+feed_views_to-requires-clause-callable g c =
+    let a = bound_in g.K.KeyTrait.bytes c.args.start in
+    let b = bound_in g.K.KeyTrait.bytes c.args.end in
+    let o = option_copied c.args.self.root in
+    let at = ahead-is g (goal.at.feed_views_to-requires-clause-callable g c).In_ok-tour in
+    subst (λ (w : List (Pieces × g.row.V.Denot)). CanView g.F.FnMut c.args.f.now w) (sym (ap (stops_to b) at ∙ range-cut a b o (IsCanonicalTree-test _ c.args.self.canonical))) c.requires.callable
+
 pub returns-clause-calls : goal.returns-clause-calls
 returns-clause-calls g c =
     let a = bound_in g.K.KeyTrait.bytes c.args.start in
     let b = bound_in g.K.KeyTrait.bytes c.args.end in
     let o = option_copied c.args.self.root in
     let at = ahead-is g (goal.at.returns-clause-calls g c).In_ok-tour in
-    subst (λ (w : List (Pieces × g.row.V.Denot)). FoldsTo (λ p x q. Viewed g.F.FnMut p x q) c.args.f.now w c.feed_views_to.new.f) (ap (stops_to b) at ∙ range-cut a b o (IsCanonicalTree-test _ c.args.self.canonical)) c.feed_views_to.ensures.folds
+    subst (λ (w : List (Pieces × g.row.V.Denot)). ViewsEach g.F.FnMut c.args.f.now w c.feed_views_to.new.f) (ap (stops_to b) at ∙ range-cut a b o (IsCanonicalTree-test _ c.args.self.canonical)) c.feed_views_to.ensures.folds
 
 pub returns-clause-visits : goal.returns-clause-visits
 returns-clause-visits g c =

@@ -1,16 +1,20 @@
-use Rattle.std.proofs.Common.{arith, ap, length, List, ℕ, subst, OnOk}
-use Rattle.std.specs.List.{FoldsTo}
+use Rattle.std.proofs.Common.{arith, ap, length, List, ℕ, sym, subst, OnOk}
 use Rattle.std.specs.Option.{option_copied}
 use Rattle.rart_keys.specs.SortedMap.{keys_of}
 use Rattle.rart_nodes.specs.tries.Tree.{tree_pairs}
 use Rattle.rart_nodes.specs.walks.Cut.{cut_pairs}
-use Rattle.rart_nodes.specs.walks.Viewed.{Viewed}
+use Rattle.rart_nodes.specs.walks.Viewed.{CanView, ViewsEach}
 use Rattle.rart_nodes.proofs.walks.PartLemmas.{below-nil}
 use Rattle.rart_nodes.proofs.node.seen.Seen.for_each_view_by_ref_counted.Goals as goal
 
+pub each_view_below-requires : goal.each_view_below-requires
+each_view_below-requires g c = record {
+  callable = subst (λ (w : List (List ℕ × g.row.V.Denot)). CanView g.F.FnMut c.args.f.now (cut_pairs (keys_of (tree_pairs (option_copied c.args.self.root))) w)) (sym (below-nil (tree_pairs (option_copied c.args.self.root)))) c.requires.callable;
+}
+
 pub returns-clause-calls : goal.returns-clause-calls
 returns-clause-calls g c =
-    subst (λ (w : List (List ℕ × g.row.V.Denot)). OnOk c.each_view_below.result (FoldsTo (λ p x q. Viewed g.F.FnMut p x q) c.args.f.now (cut_pairs (keys_of (tree_pairs (option_copied c.args.self.root))) w) c.each_view_below.new.f)) (below-nil (tree_pairs (option_copied c.args.self.root))) c.each_view_below.ensures.calls
+    subst (λ (w : List (List ℕ × g.row.V.Denot)). OnOk c.each_view_below.result (ViewsEach g.F.FnMut c.args.f.now (cut_pairs (keys_of (tree_pairs (option_copied c.args.self.root))) w) c.each_view_below.new.f)) (below-nil (tree_pairs (option_copied c.args.self.root))) c.each_view_below.ensures.calls
 
 pub returns-clause-visits : goal.returns-clause-visits
 returns-clause-visits g c = rw (below-nil (tree_pairs (option_copied c.args.self.root))) at c.each_view_below.ensures.visits

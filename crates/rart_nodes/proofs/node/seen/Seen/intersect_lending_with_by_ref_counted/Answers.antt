@@ -2,11 +2,12 @@ use Rattle.std.proofs.Common.{rules, ◌≡◌, refl, ap, IfErr}
 use Rattle.std.proofs.lemmas.Result.{IfErr-weaker}
 use Rattle.std.specs.Option.{option_copied}
 use Rattle.rart_keys.specs.Joins.{join}
-use Rattle.rart_nodes.specs.joins.ViewCalls.{ViewedAt}
+use Rattle.rart_nodes.specs.joins.ViewCalls.{TakesViewAt, ViewedAt}
 use Rattle.rart_nodes.specs.tries.Tree.{tree_pairs}
 use Rattle.rart_nodes.specs.walks.Tour.{joined}
 use Rattle.rart_nodes.specs.walks.TrailParts.{lent_pieces}
 use Rattle.rart_parts.specs.declared.error.TreeError.{TreeError}
+use Rattle.rart_nodes.proofs.joins.CallLemmas.{always-after-view-at, can-views}
 use Rattle.rart_nodes.proofs.joins.JointVisits.{joined-right_none}
 use Rattle.rart_nodes.proofs.joins.MeetingLemmas.{given-whole}
 use Rattle.rart_nodes.proofs.walks.TourLemmas.{has-pairs}
@@ -27,3 +28,10 @@ returns-in_err-segments-clause-memory g c =
 pub returns-clause-calls : goal.returns-clause-calls
 returns-clause-calls g c =
     given-whole (λ p x q. ViewedAt g.F.FnMut p x q) (joined (lent_pieces c.in_ok-segments.segments.items)) _ _ (join (tree_pairs (option_copied c.args.self.root)) (tree_pairs (option_copied c.args.other.root))) (ap (λ z. joined (lent_pieces z)) c.in_ok-segments.ensures.items) c.meet_trees.ensures.given
+
+pub meet_trees-requires-clause-callable : goal.meet_trees-requires-clause-callable
+meet_trees-requires-clause-callable g c =
+    can-views (λ p x q. ViewedAt g.F.FnMut p x q) (λ p x. TakesViewAt g.F.FnMut p x) _ (join (tree_pairs (option_copied c.args.self.root)) (tree_pairs (option_copied c.args.other.root))) c.in_ok-segments.segments (ap (λ z. joined (lent_pieces z)) c.in_ok-segments.ensures.items) c.requires.callable
+
+pub returns-clause-callable : goal.returns-clause-callable
+returns-clause-callable g c = always-after-view-at g.F.FnMut _ _ _ (returns-clause-calls g c)

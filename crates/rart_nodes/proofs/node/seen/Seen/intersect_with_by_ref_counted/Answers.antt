@@ -2,9 +2,10 @@ use Rattle.std.proofs.Common.{rules, ◌≡◌, refl, IfErr}
 use Rattle.std.proofs.lemmas.Result.{IfErr-weaker}
 use Rattle.std.specs.Option.{option_copied}
 use Rattle.rart_keys.specs.Joins.{join}
-use Rattle.rart_nodes.specs.joins.PairCalls.{CalledAt}
+use Rattle.rart_nodes.specs.joins.PairCalls.{CalledAt, TakesAtKey}
 use Rattle.rart_nodes.specs.tries.Tree.{tree_pairs}
 use Rattle.rart_parts.specs.declared.error.TreeError.{TreeError}
+use Rattle.rart_nodes.proofs.joins.CallLemmas.{always-after-at, can-keys}
 use Rattle.rart_nodes.proofs.joins.JointVisits.{joined-right_none}
 use Rattle.rart_nodes.proofs.joins.MeetingLemmas.{given-whole}
 use Rattle.rart_nodes.proofs.walks.TourLemmas.{has-pairs}
@@ -25,3 +26,10 @@ returns-in_err-bytes-clause-memory g c =
 pub returns-clause-calls : goal.returns-clause-calls
 returns-clause-calls g c =
     given-whole (λ p x q. CalledAt g.F.FnMut g.K.KeyTrait.bytes p x q) c.in_ok-bytes.bytes.items _ _ (join (tree_pairs (option_copied c.args.self.root)) (tree_pairs (option_copied c.args.other.root))) c.in_ok-bytes.ensures.items c.meet_trees.ensures.given
+
+pub meet_trees-requires-clause-callable : goal.meet_trees-requires-clause-callable
+meet_trees-requires-clause-callable g c =
+    can-keys (λ p x q. CalledAt g.F.FnMut g.K.KeyTrait.bytes p x q) (λ p x. TakesAtKey g.F.FnMut g.K.KeyTrait.bytes p x) _ (join (tree_pairs (option_copied c.args.self.root)) (tree_pairs (option_copied c.args.other.root))) c.in_ok-bytes.bytes c.in_ok-bytes.ensures.items c.requires.callable
+
+pub returns-clause-callable : goal.returns-clause-callable
+returns-clause-callable g c = always-after-at g.F.FnMut g.K.KeyTrait.bytes _ _ _ (returns-clause-calls g c)

@@ -48,3 +48,10 @@ returns-clause-bound g c =
     let short : length c.beginning-key.result.now ≤ length c.args.probe.now = rw c.beginning-key.ensures (length-take-within _ _ c.args.probe.now c.in-Some.ensures.within) in
     let pieces : length (lent_pieces c.advance.new.trail.segments.items) ≤ length c.beginning-key.result.now = rw both.0 (cut-few (keys_of (tree_pairs (option_copied c.args.self.root))) c.beginning-key.result.now) in
     omega (arith, short, pieces, c.in-Some-advance.ensures.few tells-one, c.in_ok-tour.ensures.bound, c.in-Some.ensures.bound)
+
+pub returns-clause-visits : goal.returns-clause-visits
+returns-clause-visits g c =
+    let at = goal.at.returns-clause-visits g c in
+    let h = found g at.In_ok-tour in
+    let both = first g at.In-Some-advance h in
+    rw h (omega (arith, ap length both.0, c.in-Some-advance.ensures.few tells-one, c.in_ok-tour.ensures.visits, c.in-Some.ensures.visits))

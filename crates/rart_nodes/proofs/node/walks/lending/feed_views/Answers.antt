@@ -1,11 +1,14 @@
-use Rattle.std.proofs.Common.{arith, rules, of_calls, ◌≡◌, ◌∷◌, List, sym, ap, subst, refl, ◌∙◌}
-use Rattle.std.specs.List.{FoldsTo}
+use Rattle.std.proofs.Common.{arith, rules, of_calls, ◌≡◌, [], ◌∷◌, List, sym, ap, subst, refl, ◌∙◌}
 use Rattle.std.specs.Option.{option_copied}
 use Rattle.rart_nodes.specs.walks.Tour.{Pieces, stops_ahead}
 use Rattle.rart_nodes.specs.walks.TrailParts.{lent_pieces, one_piece}
 use Rattle.rart_nodes.specs.walks.ViewPieces.{AreViews}
-use Rattle.rart_nodes.specs.walks.Viewed.{Viewed}
+use Rattle.rart_nodes.specs.walks.Viewed.{Viewed, ViewsEach}
+use Rattle.rart_nodes.proofs.walks.CallLemmas.{always-after-views, can-first, can-rest}
 use Rattle.rart_nodes.proofs.node.walks.lending.feed_views.Goals as goal
+
+pub f-requires : goal.f-requires
+f-requires g c = can-first _ _ _ _ _ _ c.in-Some.ensures.stops c.loop-value.invariant.callable _ _ (c.of.ensures ∙ ap lent_pieces c.segments.ensures) refl
 
 pub loop-value-preserved : goal.loop-value-preserved
 loop-value-preserved g c =
@@ -14,10 +17,15 @@ loop-value-preserved g c =
     let v : Viewed g.F.FnMut c.loop-value.f (lent_pieces c.advance.new.trail.segments.items, c.in-Some.value.now) c.f.new.self = record { key = c.of.result; shown = c.in-Some.value; key_is = c.of.ensures ∙ ap lent_pieces c.segments.ensures; shows = refl; called = search (rules, of_calls) } in
     let w : AreViews ((lent_pieces c.advance.new.trail.segments.items, c.in-Some.value.now) ∷ more) = subst AreViews e c.loop-value.invariant.views in
     record {
-      callable = search (rules, of_calls);
+      callable = can-rest _ _ _ _ _ _ _ e v c.loop-value.invariant.callable;
       path = c.in-Some.ensures.path;
       room = c.in-Some.ensures.room;
       views = w.2;
-      folds = λ last h. c.loop-value.invariant.folds last (subst (λ (x : List (Pieces × g.row.V.Denot)). FoldsTo (λ p x q. Viewed g.F.FnMut p x q) c.loop-value.f x last) (sym e) (c.f.new.self, v, h));
+      folds = λ last h. c.loop-value.invariant.folds last (subst (λ (x : List (Pieces × g.row.V.Denot)). ViewsEach g.F.FnMut c.loop-value.f x last) (sym e) (c.f.new.self, v, h));
       visits = omega (arith, c.loop-value.invariant.visits, c.in-Some.ensures.visits);
     }
+
+pub returns-clause-callable : goal.returns-clause-callable
+returns-clause-callable g c =
+    let e : stops_ahead one_piece (lent_pieces c.loop-value.trail.segments.items) (option_copied c.loop-value.tour.first) c.loop-value.tour.levels.items ≡ [] = c.in_default.ensures.stops.0 in
+    always-after-views g.F.FnMut _ _ _ (c.loop-value.invariant.folds c.loop-value.f (subst (λ (x : List (Pieces × g.row.V.Denot)). ViewsEach g.F.FnMut c.loop-value.f x c.loop-value.f) (sym e) refl))

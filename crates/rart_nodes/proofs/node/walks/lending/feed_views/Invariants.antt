@@ -1,20 +1,19 @@
 use Rattle.std.proofs.Common.{◌≤◌, ◌+◌, length, reverse, vec_capacity}
-use Rattle.std.specs.List.{FoldsTo}
 use Rattle.std.specs.Option.{option_copied}
 use Rattle.rart_nodes.specs.walks.Tour.{IsTour, nodes_below, stops_ahead}
 use Rattle.rart_nodes.specs.walks.TrailParts.{lent_pieces, one_piece}
 use Rattle.rart_nodes.specs.walks.ViewPieces.{AreViews}
-use Rattle.rart_nodes.specs.walks.Viewed.{Viewed}
+use Rattle.rart_nodes.specs.walks.Viewed.{CanView, ViewsEach}
 use Rattle.rart_nodes.proofs.node.walks.lending.feed_views.Given as goal
 
 abbrev pub invariant-loop-value : goal.invariant-loop-value
 invariant-loop-value g l = record {
-  callable : goal.F-IsAlwaysCallable g l.f;
+  callable : CanView g.F.FnMut l.f (stops_ahead one_piece (lent_pieces l.trail.segments.items) (option_copied l.tour.first) l.tour.levels.items);
   path : IsTour l.tour.longest (vec_capacity l.tour.levels) (lent_pieces l.trail.segments.items) (reverse l.tour.levels.items);
   room : l.tour.longest ≤ vec_capacity l.trail.segments;
   views : AreViews (stops_ahead one_piece (lent_pieces l.trail.segments.items) (option_copied l.tour.first) l.tour.levels.items);
-  folds : (last : _) → FoldsTo (λ p x q. Viewed g.F.FnMut p x q) l.f (stops_ahead one_piece (lent_pieces l.trail.segments.items) (option_copied l.tour.first) l.tour.levels.items) last
-      → FoldsTo (λ p x q. Viewed g.F.FnMut p x q) l.fn.f (stops_ahead one_piece (lent_pieces l.fn.trail.segments.items) (option_copied l.fn.tour.first) l.fn.tour.levels.items) last;
+  folds : (last : _) → ViewsEach g.F.FnMut l.f (stops_ahead one_piece (lent_pieces l.trail.segments.items) (option_copied l.tour.first) l.tour.levels.items) last
+      → ViewsEach g.F.FnMut l.fn.f (stops_ahead one_piece (lent_pieces l.fn.trail.segments.items) (option_copied l.fn.tour.first) l.fn.tour.levels.items) last;
   visits : g.C.Count.number l.counter + nodes_below (reverse l.tour.levels.items) ≤ g.C.Count.number l.fn.counter + nodes_below (reverse l.fn.tour.levels.items);
 }
 

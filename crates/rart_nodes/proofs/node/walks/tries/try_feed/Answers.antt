@@ -1,19 +1,28 @@
-use Rattle.std.proofs.Common.{rules, of_calls, ◌≡◌, [], ◌∷◌, List, sym, subst, refl, Ok, Err}
+use Rattle.std.proofs.Common.{arith, rules, of_calls, ◌≡◌, [], ◌∷◌, List, sym, ap, subst, refl, Ok, Err}
+use Rattle.std.specs.Fn.{CalledAt}
+use Rattle.rart_nodes.specs.declared.node.control.VisitControl.TheVariants.{Continue}
 use Rattle.std.specs.Option.{option_copied}
 use Rattle.rart_nodes.specs.walks.Tour.{Pieces, stop_values, stops_ahead}
 use Rattle.rart_nodes.specs.walks.TrailParts.{no_piece}
 use Rattle.rart_nodes.specs.walks.Tried.{EndsAs}
+use Rattle.rart_nodes.proofs.walks.CallLemmas.{always-after-tries, can-first, can-rest}
 use Rattle.rart_nodes.proofs.node.walks.tries.try_feed.Goals as goal
+
+pub f-requires : goal.f-requires
+f-requires g c = can-first _ _ _ _ _ _ (ap stop_values c.in-Some.ensures.stops) c.loop-value.invariant.callable _ refl
 
 pub loop-value-preserved : goal.loop-value-preserved
 loop-value-preserved g c =
     let e : stops_ahead no_piece [] (option_copied c.loop-value.tour.first) c.loop-value.tour.levels.items ≡ ([], c.in-Some.value.now) ∷ stops_ahead no_piece [] (option_copied c.advance.new.self.first) c.advance.new.self.levels.items = c.in-Some.ensures.stops in
+    let on : c.f.result ≡ Ok Continue = rw (c.in-Ok-Continue.is, c.in-Ok-Continue.field-0-is) refl in
+    let v : CalledAt g.F.FnMut c.loop-value.f c.in-Some.value.now (Ok Continue) c.f.new.self = record { shown = c.in-Some.value; shows = refl; called = rw (← on) (search (rules, of_calls)) } in
     record {
-      callable = search (rules, of_calls);
+      callable = can-rest _ _ _ _ _ _ _ (ap stop_values e) v c.loop-value.invariant.callable;
       path = c.in-Some.ensures.path;
       room = search rules;
       ends = λ r last h. c.loop-value.invariant.ends r last (subst (λ (x : List (Pieces × g.row.V.Denot)). EndsAs g.F.FnMut c.loop-value.f (stop_values x) r last) (sym e)
           (c.in-Some.value, (c.f.result, (c.f.new.self, (refl, (search (rules, of_calls), rw (c.in-Ok-Continue.is, c.in-Ok-Continue.field-0-is) h))))));
+      visits = omega (arith, c.loop-value.invariant.visits, c.in-Some.ensures.visits);
     }
 
 pub returns-in-Ok-Stop-clause-calls : goal.returns-in-Ok-Stop-clause-calls
@@ -27,3 +36,17 @@ returns-in-Err-clause-calls g c =
     let e : stops_ahead no_piece [] (option_copied c.loop-value.tour.first) c.loop-value.tour.levels.items ≡ ([], c.in-Some.value.now) ∷ stops_ahead no_piece [] (option_copied c.advance.new.self.first) c.advance.new.self.levels.items = c.in-Some.ensures.stops in
     c.loop-value.invariant.ends _ _ (subst (λ (x : List (Pieces × g.row.V.Denot)). EndsAs g.F.FnMut c.loop-value.f (stop_values x) (Err c.in-Err.error) c.f.new.self) (sym e)
     (c.in-Some.value, (c.f.result, (c.f.new.self, (refl, (search (rules, of_calls), rw c.in-Err.is (refl, refl)))))))
+
+pub returns-in-Ok-Stop-clause-callable : goal.returns-in-Ok-Stop-clause-callable
+returns-in-Ok-Stop-clause-callable g c = always-after-tries g.F.FnMut _ _ _ _ (returns-in-Ok-Stop-clause-calls g c)
+
+pub returns-in-Err-clause-callable : goal.returns-in-Err-clause-callable
+returns-in-Err-clause-callable g c = always-after-tries g.F.FnMut _ _ _ _ (returns-in-Err-clause-calls g c)
+
+pub returns-clause-calls : goal.returns-clause-calls
+returns-clause-calls g c =
+    let e : stop_values (stops_ahead no_piece [] (option_copied c.loop-value.tour.first) c.loop-value.tour.levels.items) ≡ [] = ap stop_values c.in_default.ensures.stops.0 in
+    c.loop-value.invariant.ends _ _ (subst (λ (x : List g.row.V.Denot). EndsAs g.F.FnMut c.loop-value.f x (Ok tt) c.loop-value.f) (sym e) (refl, refl))
+
+pub returns-clause-callable : goal.returns-clause-callable
+returns-clause-callable g c = always-after-tries g.F.FnMut _ _ _ _ (returns-clause-calls g c)

@@ -5,10 +5,16 @@ use Rattle.rart_nodes.specs.walks.Tour.{joined}
 use Rattle.rart_nodes.specs.walks.TrailParts.{lent_pieces}
 use Rattle.rart_nodes.proofs.node.intersect.meeting.ByViewsMeeting.give.Goals as goal
 
-pub returns-clause-given : goal.returns-clause-given
-returns-clause-given g c =
+pub f-requires : goal.f-requires
+f-requires g c =
+    let key = joined (lent_pieces c.in-Segments.segments.items) in
+    let same : joined (lent_pieces c.of.result.segments.now) ≡ key ++ [] = ap joined (c.of.ensures ∙ ap lent_pieces c.as_slice.ensures.value) ∙ sym (append-nil key) in
+    (rw c.in-Segments.is at c.requires.callable) _ _ _ same refl refl
+
+pub returns : goal.returns
+returns g c =
     let key = joined (lent_pieces c.in-Segments.segments.items) in
     let same : joined (lent_pieces c.of.result.segments.now) ≡ key ++ [] = ap joined (c.of.ensures ∙ ap lent_pieces c.as_slice.ensures.value) ∙ sym (append-nil key) in
     let called : ViewedAt g.F.FnMut c.args.f.now (key ++ [], (c.args.left.now, c.args.right.now)) c.f.new.self
     = record { key = c.of.result; left = c.args.left; right = c.args.right; key_is = same; left_is = refl; right_is = refl; called = search (rules, of_calls) } in
-    rw c.in-Segments.is (c.f.new.self, called, refl)
+    record { given = rw c.in-Segments.is (c.f.new.self, called, refl) }
