@@ -2,7 +2,7 @@
 ghost use Rattle.std.specs.Prelude.{◌≡◌, ◌+◌, ◌-◌, ◌*◌, ◌<◌, ◌≤◌, ◌↔◌, [], ◌∷◌, length, max, IsTrue, None, OnErr};
 ghost use Rattle.std.specs.Option.{option_copied};
 ghost use Rattle.rart_keys.specs.KeyBytes.{IsWithin};
-ghost use Rattle.rart_keys.specs.SortedMap.{IsAscending, keys_of, lookup};
+ghost use Rattle.rart_keys.specs.SortedMap.{IsAscending, keys_of, longest_key, lookup};
 ghost use Rattle.rart_nodes.specs.shapes.Shape.{HasShape};
 ghost use Rattle.rart_nodes.specs.tries.Tree.{IsCanonicalTree, tree_nodes, tree_pairs};
 ghost use Rattle.rart.specs.Edits.{Deletes, Inserts, Removes};
@@ -95,10 +95,12 @@ impl<K: KeyTrait, V> AdaptiveRadixTree<K, V> {
         }
     }
 
-    /// The tree with its reads counted by a `C`.
+    /// The tree with its reads counted by a `C`. Its walks take room for the longest key ever stored.
     pub fn seen<C>(&self) -> Seen<'_, K, V, C>
         ensures pairs { tree_pairs (option_copied result.root) ≡ self.now.pairs }
         ensures nodes { tree_nodes (option_copied result.root) ≡ self.now.nodes }
+        ensures room { longest_key self.now.pairs ≤ result.longest }
+        ensures within { IsWithin K.MAXIMUM_SIZE result.longest }
     {
         Seen::of(self.root.as_ref(), self.alloc, self.longest)
     }
