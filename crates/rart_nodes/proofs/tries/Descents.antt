@@ -61,7 +61,7 @@ module _ {V : Type 0} where
   children-filter h b cs w n = filter-by h b 0 (children_pairs cs) (children_pairs-from 0 cs w) n ∙ ap (filter h) (children-by b 0 cs w)
 
 module _ {V A : Type 0} where
-  descend-child_of : (d : Descent V A) (b low : ℕ) (k : List ℕ) (cs : Children V) → AreCanonical low cs → descend_child d b k cs ≡ descend_tree d k (child_of b cs)
+  pub descend-child_of : (d : Descent V A) (b low : ℕ) (k : List ℕ) (cs : Children V) → AreCanonical low cs → descend_child d b k cs ≡ descend_tree d k (child_of b cs)
   descend-child_of d b low k no_children w = refl
   descend-child_of d b low k (child c t cs) w = ⊎_elim
       (λ h. rw (is_less b c h, eq-no c b (λ q. omega arith), child_of-low b (suc c) cs (omega arith) w.3) refl)
