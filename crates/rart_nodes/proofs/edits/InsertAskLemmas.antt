@@ -4,14 +4,15 @@ use Rattle.std.specs.List.{list_any}
 use Rattle.std.specs.Option.{unwrap_or}
 use Rattle.std.specs.Prelude.{nat_le}
 use Rattle.std.proofs.lemmas.Bool.Decides.{nat_tests}
+use Rattle.std.proofs.Math.Bool.{and-false, and-true}
 use Rattle.rart_keys.specs.SortedMap.{keys_of}
 use Rattle.rart_nodes.specs.shapes.Shape.{NodeRecord, record_at, capacity_of}
-use Rattle.rart_nodes.specs.tries.Trie.{Trie, node, Children, trie_lookup, child_lookup, child_of, pairs_of, edges_of, with_records, children_with_records, IsCanonical, AreCanonical}
+use Rattle.rart_nodes.specs.tries.Trie.{Trie, node, Children, child_of, pairs_of, edges_of, IsCanonical, AreCanonical, descend, descend_child}
 use Rattle.rart_nodes.specs.edits.InsertAsks.{has_room, takes_child, any_along, last_takes, insert_asks, asks_put, is_full, trie_asks_put}
-use Rattle.rart_nodes.proofs.tries.Descents.{Keeps, descends}
+use Rattle.rart_nodes.proofs.tries.Descents.{Keeps, descends, descend-child_of}
 use Rattle.rart_nodes.proofs.tries.NodeCounts.{few_nodes}
-use Rattle.rart_nodes.proofs.shapes.RecordsAlong.{AreReadings, edge-is_some, none-first, reads-apart, reads-behind, records-below, records_in}
-use Rattle.rart_nodes.proofs.shapes.ShapeLemmas.{record_is}
+use Rattle.rart_nodes.proofs.shapes.RecordsAlong.{AreReadings, edge-is_some, none-first, reads-apart, reads-behind, records_in}
+use Rattle.rart_nodes.proofs.shapes.ShapeLemmas.{records, records-at}
 
 -- equal records, and none
 same_any : (f g : List ℕ → Option NodeRecord) (q : List ℕ) → ((p : List ℕ) → f p ≡ g p) → any_along f q ≡ any_along g q
@@ -41,14 +42,6 @@ no_last f (b ∷ q) = elim (f []) as (λ o. (if is_some o || any_along (λ p. f 
 last-none : (f : List ℕ → Option NodeRecord) (b : ℕ) (q : List ℕ) → f [] ≡ None → last_takes f (b ∷ q) ≡ last_takes (λ p. f (b ∷ p)) q
 last-none f b q e = rw e (no_last (λ p. f (b ∷ p)) q)
 
-and_false : (a : Bool) → (a && false) ≡ false
-and_false true = refl
-and_false false = refl
-
-and_true : (a : Bool) → (a && true) ≡ a
-and_true true = refl
-and_true false = refl
-
 -- where the capacity is the one of the count, "full" is "no room"
 room_is : (m n : ℕ) → n ≡ capacity_of m → nat_le n m ≡ not (has_room m)
 room_is m n e = grind (arith, nat_tests)
@@ -70,14 +63,14 @@ module _ {V : Type 0} where
   asked_along q o = option_map (λ t. needs_by (records_in (Some t)) q) o
 
   asks-below : (m n b : ℕ) (r : List ℕ) (cs : Children V) → n ≡ capacity_of m → AreCanonical 0 cs →
-      not (is_some (child_lookup b (b ∷ r) (children_with_records cs)) || (if any_along (λ z. child_lookup b (b ∷ z) (children_with_records cs)) r then last_takes (λ z. child_lookup b (b ∷ z) (children_with_records cs)) r else has_room m && not (list_any (λ c. c == b) (edges_of cs))))
+      not (is_some (descend_child records b (b ∷ r) cs) || (if any_along (λ z. descend_child records b (b ∷ z) cs) r then last_takes (λ z. descend_child records b (b ∷ z) cs) r else has_room m && not (list_any (λ c. c == b) (edges_of cs))))
       ≡ unwrap_or (asked_along (b ∷ r) (child_of b cs)) (nat_le n m)
   asks-below m n b r cs c w =
-      let same : (z : List ℕ) → child_lookup b (b ∷ z) (children_with_records cs) ≡ records_in (child_of b cs) (b ∷ z) = λ z. records-below b 0 (b ∷ z) cs w in
-      rw (edge-is_some b cs, same r, same_any (λ z. child_lookup b (b ∷ z) (children_with_records cs)) (λ z. records_in (child_of b cs) (b ∷ z)) r same, same_last (λ z. child_lookup b (b ∷ z) (children_with_records cs)) (λ z. records_in (child_of b cs) (b ∷ z)) r same)
+      let same : (z : List ℕ) → descend_child records b (b ∷ z) cs ≡ records_in (child_of b cs) (b ∷ z) = λ z. descend-child_of records b 0 (b ∷ z) cs w in
+      rw (edge-is_some b cs, same r, same_any (λ z. descend_child records b (b ∷ z) cs) (λ z. records_in (child_of b cs) (b ∷ z)) r same, same_last (λ z. descend_child records b (b ∷ z) cs) (λ z. records_in (child_of b cs) (b ∷ z)) r same)
       (elim (child_of b cs) as (λ o. child_of b cs ≡ o → not (is_some (records_in o (b ∷ r)) || (if any_along (λ z. records_in o (b ∷ z)) r then last_takes (λ z. records_in o (b ∷ z)) r else has_room m && not (is_some o))) ≡ unwrap_or (asked_along (b ∷ r) o) (nat_le n m)) [
-        | None ↦ λ e. rw (none_any r, and_true (has_room m)) (sym (room_is m n c))
-        | Some t ↦ λ e. ap (λ z. not (is_some (records_in (Some t) (b ∷ r)) || z)) (rw (and_false (has_room m)) (no_last (λ z. records_in (Some t) (b ∷ z)) r) ∙ sym (last-none (records_in (Some t)) b r (sym (ap (λ o. records_in o []) e) ∙ none-first b cs w)))
+        | None ↦ λ e. rw (none_any r, and-true (has_room m)) (sym (room_is m n c))
+        | Some t ↦ λ e. ap (λ z. not (is_some (records_in (Some t) (b ∷ r)) || z)) (rw (and-false (has_room m)) (no_last (λ z. records_in (Some t) (b ∷ z)) r) ∙ sym (last-none (records_in (Some t)) b r (sym (ap (λ o. records_in o []) e) ∙ none-first b cs w)))
       ] refl)
 
   asks-kept : Keeps {V = V} asks_put (λ q o a. a ≡ asked_along q o)
@@ -94,6 +87,6 @@ module _ {V : Type 0} where
   needs_is (e ∷ es) q h = refl
 
   pub asks-insert : (q : List ℕ) (t : Trie V) → IsCanonical t → trie_asks_put q t ≡ insert_asks (keys_of (pairs_of t)) q
-  asks-insert q t w = ap (λ o. unwrap_or o false) (descends asks_put (λ q o a. a ≡ asked_along q o) asks-kept q (Some t) w) ∙ ap (λ o. not (is_some o || last_takes (λ z. trie_lookup z (with_records t)) q)) (record_is q t w)
-      ∙ ap (λ z. not (is_some (record_at (keys_of (pairs_of t)) q) || z)) (same_last (λ p. trie_lookup p (with_records t)) (record_at (keys_of (pairs_of t))) q (λ p. record_is p t w))
+  asks-insert q t w = ap (λ o. unwrap_or o false) (descends asks_put (λ q o a. a ≡ asked_along q o) asks-kept q (Some t) w) ∙ ap (λ o. not (is_some o || last_takes (λ z. descend records z t) q)) (records-at q t w)
+      ∙ ap (λ z. not (is_some (record_at (keys_of (pairs_of t)) q) || z)) (same_last (λ p. descend records p t) (record_at (keys_of (pairs_of t))) q (λ p. records-at p t w))
       ∙ sym (needs_is (pairs_of t) q (omega (arith, few_nodes t w)))

@@ -1,8 +1,7 @@
 -- Where an insertion asks for memory at one node, as the code does.
-use Rattle.std.proofs.Common.{◌≡◌, ℕ, ◌≤◌, Bool, true, false, List, length, Option, Some, None, refl, arith, ap, ◌∙◌}
+use Rattle.std.proofs.Common.{◌≡◌, ℕ, Bool, true, false, List, length, Option, Some, None, arith, ap, ◌∙◌}
 use Rattle.std.specs.Option.{unwrap_or}
-use Rattle.std.specs.Prelude.{nat_le, slice_get}
-use Rattle.std.proofs.lemmas.Bool.Decides.{nat_tests}
+use Rattle.std.specs.Prelude.{slice_get}
 use Rattle.rart_keys.specs.ByteStrings.{strip_prefix}
 use Rattle.rart_parts.specs.Entries.{child_at}
 use Rattle.rart_nodes.specs.edits.InsertAsks.{asks_put, is_full, trie_asks_put}
@@ -10,9 +9,7 @@ use Rattle.rart_nodes.specs.tries.Trie.{Trie, node, descend, edges_of, IsCanonic
 use Rattle.rart_nodes.specs.tries.TrieCode.{as_children}
 use Rattle.rart_nodes.proofs.storages.ChildLemmas.{edges_of-length}
 use Rattle.rart_nodes.proofs.tries.Descents.{descend-absent, descend-at, descend-followed}
-
-le-yes : (a b : ℕ) → a ≤ b → nat_le a b ≡ true
-le-yes a b h = grind (arith, nat_tests)
+use Rattle.rart_nodes.proofs.tries.CanonicalTests.{true-le}
 
 -- what is asked below is asked, whatever the parent says of a new child or a lost one
 pub asked : (o : Option Bool) (parent : Bool) → unwrap_or o false ≡ true → unwrap_or o parent ≡ true
@@ -35,4 +32,4 @@ module _ {V : Type 0} where
   asks_put-full p k rest old w w' b es es' e h at ew ee many = let t' = node p old w (as_children es) in
       ap (λ o. unwrap_or o false) (descend-followed asks_put p k rest b old w (as_children es) e h)
       ∙ ap (λ o. unwrap_or o (is_full t')) (descend-absent asks_put b rest es at)
-      ∙ le-yes w (length (edges_of (as_children es))) (omega (arith, edges_of-length es, ap length ee, many, ew))
+      ∙ true-le w (length (edges_of (as_children es))) (omega (arith, edges_of-length es, ap length ee, many, ew))

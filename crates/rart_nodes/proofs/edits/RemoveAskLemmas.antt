@@ -5,11 +5,11 @@ use Rattle.std.specs.Prelude.{nat_le, not, ◌-◌, ◌||◌}
 use Rattle.std.proofs.lemmas.Bool.Decides.{nat_tests}
 use Rattle.rart_keys.specs.SortedMap.{keys_of}
 use Rattle.rart_nodes.specs.shapes.Shape.{NodeRecord, record_at, capacity_of}
-use Rattle.rart_nodes.specs.tries.Trie.{Trie, node, Children, trie_lookup, child_lookup, child_of, pairs_of, edges_of, with_records, children_with_records, IsCanonical, AreCanonical}
-use Rattle.rart_nodes.specs.edits.RemoveAsks.{asks_remove, record_of, shrinks, moves_down, is_leaf_record, last_before, remove_asks, trie_asks_remove}
-use Rattle.rart_nodes.proofs.tries.Descents.{Keeps, descends}
-use Rattle.rart_nodes.proofs.shapes.RecordsAlong.{AreReadings, none-first, reads-apart, reads-behind, records-below, records_in}
-use Rattle.rart_nodes.proofs.shapes.ShapeLemmas.{record_is}
+use Rattle.rart_nodes.specs.tries.Trie.{Trie, node, Children, child_of, pairs_of, edges_of, IsCanonical, AreCanonical, record_of, descend, descend_child}
+use Rattle.rart_nodes.specs.edits.RemoveAsks.{asks_remove, shrinks, moves_down, is_leaf_record, last_before, remove_asks, trie_asks_remove}
+use Rattle.rart_nodes.proofs.tries.Descents.{Keeps, descends, descend-child_of}
+use Rattle.rart_nodes.proofs.shapes.RecordsAlong.{AreReadings, none-first, reads-apart, reads-behind, records_in}
+use Rattle.rart_nodes.proofs.shapes.ShapeLemmas.{records, records-at}
 
 same_before : (f g : List ℕ → Option NodeRecord) (l : Option NodeRecord) (q : List ℕ) → ((p : List ℕ) → f p ≡ g p) → last_before f l q ≡ last_before g l q
 same_before f g l [] h = refl
@@ -33,9 +33,9 @@ module _ {V : Type 0} where
   RemovesBy q o a = (l : Option NodeRecord) → moves_down l ≡ shrinks l → unwrap_or a (moves_down l) ≡ removes_by (records_in o) l q
 
   removes-below : (b : ℕ) (r : List ℕ) (l : Option NodeRecord) (cs : Children V) (a : Option Bool) → moves_down l ≡ shrinks l → AreCanonical 0 cs → RemovesBy (b ∷ r) (child_of b cs) a
-      → removes_by (λ z. child_lookup b (b ∷ z) (children_with_records cs)) l r ≡ unwrap_or a (moves_down l)
+      → removes_by (λ z. descend_child records b (b ∷ z) cs) l r ≡ unwrap_or a (moves_down l)
   removes-below b r l cs a e w h = let f = records_in (child_of b cs) in
-      (removes_read l).same (λ z. f (b ∷ z)) _ r _ (λ z. sym (records-below b 0 (b ∷ z) cs w))
+      (removes_read l).same (λ z. f (b ∷ z)) _ r _ (λ z. sym (descend-child_of records b 0 (b ∷ z) cs w))
       (sym (h l e ∙ ap (λ o. is_leaf_record (f (b ∷ r)) && shrinks (last_before (λ z. f (b ∷ z)) (if is_some o then o else l) r)) (none-first b cs w)))
 
   removes-kept : Keeps {V = V} asks_remove RemovesBy
@@ -49,5 +49,5 @@ module _ {V : Type 0} where
   }
 
   pub asks-remove : (q : List ℕ) (t : Trie V) → IsCanonical t → trie_asks_remove None q t ≡ remove_asks (keys_of (pairs_of t)) q
-  asks-remove q t w = descends asks_remove RemovesBy removes-kept q (Some t) w None refl ∙ ap (λ o. is_leaf_record o && shrinks (last_before (λ z. trie_lookup z (with_records t)) None q)) (record_is q t w)
-      ∙ ap (λ z. is_leaf_record (record_at (keys_of (pairs_of t)) q) && shrinks z) (same_before (λ p. trie_lookup p (with_records t)) (record_at (keys_of (pairs_of t))) None q (λ p. record_is p t w))
+  asks-remove q t w = descends asks_remove RemovesBy removes-kept q (Some t) w None refl ∙ ap (λ o. is_leaf_record o && shrinks (last_before (λ z. descend records z t) None q)) (records-at q t w)
+      ∙ ap (λ z. is_leaf_record (record_at (keys_of (pairs_of t)) q) && shrinks z) (same_before (λ p. descend records p t) (record_at (keys_of (pairs_of t))) None q (λ p. records-at p t w))

@@ -6,9 +6,9 @@ use Rattle.std.proofs.lemmas.Bool.Decides.{nat_tests}
 use Rattle.rart_keys.specs.ByteStrings.{strip_prefix}
 use Rattle.rart_parts.specs.Entries.{child_at}
 use Rattle.rart_nodes.specs.edits.Deletion.{is_end, is_leaf_at}
-use Rattle.rart_nodes.specs.edits.RemoveAsks.{asks_remove, moves_down, record_of, trie_asks_remove}
+use Rattle.rart_nodes.specs.edits.RemoveAsks.{asks_remove, moves_down, trie_asks_remove}
 use Rattle.rart_nodes.specs.shapes.Shape.{capacity_of}
-use Rattle.rart_nodes.specs.tries.Trie.{Trie, node, no_children, child, behind, descend, edges_of, IsCanonical}
+use Rattle.rart_nodes.specs.tries.Trie.{Trie, node, no_children, child, behind, descend, edges_of, IsCanonical, record_of}
 use Rattle.rart_nodes.specs.tries.TrieCode.{as_children}
 use Rattle.rart_nodes.specs.storages.Widths.{previous_width}
 use Rattle.rart_nodes.proofs.edits.PutAskLemmas.{asked}

@@ -1,31 +1,21 @@
 -- Sets of strings, and the strings that begin a key.
 use Rattle.std.proofs.Common.{◌≡◌, ℕ, ◌<◌, ◌==◌, ◌||◌, ◌&&◌, Bool, ⊎_elim, true, false, List, [], ◌∷◌, ◌++◌, length, map, refl, sym, ap, ◌∙◌, arith, Option, Some, None, is_some, if◌then◌else◌}
 use Rattle.std.specs.List.{filter}
+use Rattle.std.proofs.Math.Bool.{or-false, or_assoc, or_self}
 use Rattle.rart_keys.specs.ByteStrings.{bytes_eq, strip_prefix, begins}
 use Rattle.rart_nodes.specs.shapes.BranchPoints.{begins_any}
 use Rattle.rart_keys.specs.SortedMap.{keys_of, IsAscending, lookup}
 use Rattle.rart_nodes.specs.shapes.Shape.{contains_key}
 use Rattle.rart_nodes.specs.joins.SharedEdges.{starts, all_starts, set_map}
+use Rattle.rart_nodes.specs.tries.PrefixLaws.{length-with_prefix}
 use Rattle.rart_nodes.specs.tries.Tree.{tree_pairs}
 use Rattle.rart_nodes.specs.tries.Trie.{Trie, node, Children, pairs_of, children_pairs, own_pair, with_prefix, IsCanonical}
 use Rattle.rart_keys.proofs.ByteOrder.{eq-yes, eq-no, equal_or_not, bytes_eq-equal, bytes_eq-itself}
 use Rattle.rart_keys.proofs.SortedMaps.{ascending-put, lookup-put}
 use Rattle.rart_nodes.proofs.tries.Descents.{Keeps, by_byte, children-by, descends}
 use Rattle.rart_nodes.proofs.tries.NodeCounts.{few_nodes}
-use Rattle.rart_nodes.proofs.joins.PrefixedStrings.{begins-behind, begins-apart, length-behind}
+use Rattle.rart_nodes.proofs.tries.PrefixedStrings.{begins-behind, begins-apart}
 use Rattle.rart_nodes.proofs.joins.Reach.{reaching, reaches}
-
-or-false : (a : Bool) → (a || false) ≡ a
-or-false true = refl
-or-false false = refl
-
-or-itself : (a : Bool) → (a || a) ≡ a
-or-itself true = refl
-or-itself false = refl
-
-or-assoc : (a b c : Bool) → ((a || b) || c) ≡ (a || (b || c))
-or-assoc true b c = refl
-or-assoc false b c = refl
 
 -- sets
 pub set-ascends : (xs : List (List ℕ)) → IsAscending (set_map xs)
@@ -48,7 +38,7 @@ contains-filter f x (y ∷ ys) = elim (bytes_eq y x) as (λ b. bytes_eq y x ≡ 
 
 contains-append : (x : List ℕ) (xs ys : List (List ℕ)) → contains_key (xs ++ ys) x ≡ (contains_key xs x || contains_key ys x)
 contains-append x [] ys = refl
-contains-append x (z ∷ xs) ys = rw (contains-append x xs ys) (sym (or-assoc (bytes_eq z x) (contains_key xs x) (contains_key ys x)))
+contains-append x (z ∷ xs) ys = rw (contains-append x xs ys) (sym (or_assoc (bytes_eq z x) (contains_key xs x) (contains_key ys x)))
 
 contains-longer : (b y : ℕ) (x : List ℕ) (xs : List (List ℕ)) → contains_key (map (λ z. b ∷ z) xs) (y ∷ x) ≡ (if b == y then contains_key xs x else false)
 contains-longer b y x [] = elim (b == y) as (λ o. false ≡ (if o then false else false)) [ true ↦ refl | false ↦ refl ]
@@ -72,7 +62,7 @@ module _ {V : Type 0} where
   any-apart : (q p : List ℕ) (es : List (List ℕ × V)) → strip_prefix q p ≡ None → 0 < length es → begins_any p (keys_of (with_prefix q es)) ≡ begins p q
   any-apart q p [] s h = absurd (omega arith)
   any-apart q p (e ∷ []) s h = ap (λ z. z || false) (begins-apart q p e.0 s) ∙ or-false (begins p q)
-  any-apart q p (e ∷ f ∷ es) s h = ap (λ z. z || begins_any p (keys_of (with_prefix q (f ∷ es)))) (begins-apart q p e.0 s) ∙ ap (λ z. begins p q || z) (any-apart q p (f ∷ es) s (omega arith)) ∙ or-itself (begins p q)
+  any-apart q p (e ∷ f ∷ es) s h = ap (λ z. z || begins_any p (keys_of (with_prefix q (f ∷ es)))) (begins-apart q p e.0 s) ∙ ap (λ z. begins p q || z) (any-apart q p (f ∷ es) s (omega arith)) ∙ or_self (begins p q)
 
   any-nil : (es : List (List ℕ × V)) → 0 < length es → begins_any [] (keys_of es) ≡ true
   any-nil [] h = absurd (omega arith)
@@ -89,7 +79,7 @@ module _ {V : Type 0} where
       (λ n. rw (eq-no x b n, eq-no b x (λ e. n (sym e))) (any-by b r es)) (equal_or_not x b)
 
   some-keys : (q : List ℕ) (v : Option V) (n : ℕ) (cs : Children V) → IsCanonical (node q v n cs) → 0 < length (own_pair v ++ children_pairs cs)
-  some-keys q v n cs w = omega (arith, few_nodes (node q v n cs) w, length-behind q (own_pair v ++ children_pairs cs))
+  some-keys q v n cs w = omega (arith, few_nodes (node q v n cs) w, length-with_prefix q (own_pair v ++ children_pairs cs))
 
   reach-kept : Keeps {V = V} reaching (λ p o a. begins_any p (keys_of (tree_pairs o)) ≡ a)
   reach-kept = record {

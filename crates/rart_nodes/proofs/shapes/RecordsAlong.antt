@@ -1,15 +1,12 @@
--- What is read off the records along a string, at a node by what is left of the string after its prefix.
-use Rattle.std.proofs.Common.{◌≡◌, ℕ, ◌==◌, ⊎_elim, cond, eqb, false, true, List, [], ◌∷◌, Option, Some, None, is_some, option_map, if◌then◌else◌, refl, sym, ap, ◌∙◌}
+-- What the records along a string say, at a node by what is left of the string after its prefix.
+use Rattle.std.proofs.Common.{◌≡◌, ℕ, ◌==◌, ⊎_elim, false, true, List, [], ◌∷◌, Option, Some, None, is_some, if◌then◌else◌, refl, sym, ap, ◌∙◌}
 use Rattle.std.specs.List.{list_any}
 use Rattle.rart_keys.specs.ByteStrings.{strip_prefix}
 use Rattle.rart_keys.proofs.ByteOrder.{eq-yes, eq-no, equal_or_not}
 use Rattle.rart_nodes.specs.shapes.Shape.{NodeRecord}
-use Rattle.rart_nodes.specs.tries.Tree.{tree_lookup}
-use Rattle.rart_nodes.specs.tries.Trie.{Trie, node, Children, no_children, child, child_lookup, child_of, children_with_records, edges_of, looks_up, prefix_of, trie_lookup, with_records, AreCanonical, StartsWith}
-use Rattle.rart_nodes.proofs.shapes.ShapeLemmas.{canonical-children_with_records, prefix-with_records}
-use Rattle.rart_nodes.proofs.tries.Descents.{descend-child_of}
-use Rattle.rart_nodes.proofs.tries.LongerPrefix.{trie_lookup-longer}
-use Rattle.rart_nodes.proofs.tries.PairLemmas.{trie_lookup-nil}
+use Rattle.rart_nodes.specs.tries.Trie.{Trie, node, Children, no_children, child, child_of, edges_of, AreCanonical, behind, descend_child, descend_tree, record_of, prefix_of, StartsWith}
+use Rattle.rart_nodes.proofs.shapes.ShapeLemmas.{records}
+use Rattle.rart_nodes.proofs.tries.Descents.{child-first}
 
 -- `Says f q a`: along q, where f gives the records, a is read
 pub record AreReadings {A : Type 0} (Says : (List ℕ → Option NodeRecord) → List ℕ → A → Type 0) : Type 0 where
@@ -19,35 +16,28 @@ pub record AreReadings {A : Type 0} (Says : (List ℕ → Option NodeRecord) →
 
 module _ {V : Type 0} where
   abbrev pub records_in : Option (Trie V) → List ℕ → Option NodeRecord
-  records_in o z = tree_lookup z (option_map with_records o)
+  records_in o z = descend_tree records z o
 
-  child_of-records : (b : ℕ) (cs : Children V) → child_of b (children_with_records cs) ≡ option_map with_records (child_of b cs)
-  child_of-records b no_children = refl
-  child_of-records b (child c t cs) = elim (eqb c b) as (λ z. cond z (Some (with_records t)) (child_of b (children_with_records cs)) ≡ option_map with_records (cond z (Some t) (child_of b cs))) [ true ↦ refl | false ↦ child_of-records b cs ]
+  records-longer : (x y : ℕ) (q p : List ℕ) (v : Option V) (n : ℕ) (cs : Children V) → records_in (Some (node (x ∷ p) v n cs)) (y ∷ q) ≡ (if x == y then records_in (Some (node p v n cs)) q else None)
+  records-longer x y q p v n cs = elim (x == y) as (λ z. behind None (Some (record_of (node p v n cs))) (λ r. r) (if z then strip_prefix p q else None) (λ b r. descend_child records b r cs) ≡ (if z then records_in (Some (node p v n cs)) q else None)) [ true ↦ refl | false ↦ refl ]
 
-  -- the records below a node's children
-  pub records-below : (b low : ℕ) (z : List ℕ) (cs : Children V) → AreCanonical low cs → child_lookup b z (children_with_records cs) ≡ records_in (child_of b cs) z
-  records-below b low z cs w = descend-child_of looks_up b low z (children_with_records cs) (canonical-children_with_records low cs w) ∙ ap (tree_lookup z) (child_of-records b cs)
+  records-nil : (b : ℕ) (t : Trie V) → StartsWith b (prefix_of t) → records_in (Some t) [] ≡ None
+  records-nil b (node [] v n cs) f = absurd f
+  records-nil b (node (x ∷ p) v n cs) f = refl
 
   pub edge-is_some : (b : ℕ) (cs : Children V) → list_any (λ c. c == b) (edges_of cs) ≡ is_some (child_of b cs)
   edge-is_some b no_children = refl
   edge-is_some b (child c t cs) = ⊎_elim (λ e. rw (eq-yes c b e) refl) (λ n. rw (eq-no c b n) (edge-is_some b cs)) (equal_or_not c b)
 
-  child-first : (b low : ℕ) (t : Trie V) (cs : Children V) → AreCanonical low cs → child_of b cs ≡ Some t → StartsWith b (prefix_of t)
-  child-first b low t no_children w e = absurd (cc)
-  child-first b low t (child c u cs) w e = ⊎_elim
-      (λ q. let s : Some u ≡ Some t = sym (ap (λ z. cond z (Some u) (child_of b cs)) (eq-yes c b q)) ∙ e in let same : u ≡ t = cc in rw (← same, ← q) w.1)
-      (λ n. child-first b _ t cs w.3 (sym (ap (λ z. cond z (Some u) (child_of b cs)) (eq-no c b n)) ∙ e)) (equal_or_not c b)
-
   pub none-first : (b : ℕ) (cs : Children V) → AreCanonical 0 cs → records_in (child_of b cs) [] ≡ None
   none-first b cs w = elim (child_of b cs) as (λ o. child_of b cs ≡ o → records_in o [] ≡ None) [
     | None ↦ λ e. refl
-    | Some t ↦ λ e. trie_lookup-nil b (with_records t) (rw (prefix-with_records t) (child-first b 0 t cs w e))
+    | Some t ↦ λ e. records-nil b t (child-first b 0 t cs w e)
   ] refl
 
   module _ {A : Type 0} (Says : (List ℕ → Option NodeRecord) → List ℕ → A → Type 0) (laws : AreReadings Says) where
     longer-reads : (x b : ℕ) (p q : List ℕ) (v : Option V) (n : ℕ) (cs : Children V) (a : A) → x ≡ b → Says (records_in (Some (node p v n cs))) q a → Says (records_in (Some (node (x ∷ p) v n cs))) (b ∷ q) a
-    longer-reads x b p q v n cs a e h = laws.past _ b q a refl (laws.same _ _ q a (λ z. sym (trie_lookup-longer x b z (with_records (node p v n cs)) ∙ rw (eq-yes x b e) refl)) h)
+    longer-reads x b p q v n cs a e h = laws.past _ b q a refl (laws.same _ _ q a (λ z. sym (records-longer x b z p v n cs ∙ ap (λ y. if y then records_in (Some (node p v n cs)) z else None) (eq-yes x b e))) h)
 
     -- the string goes on after the prefix
     pub reads-behind : (p q r : List ℕ) (v : Option V) (n : ℕ) (cs : Children V) (a : A) → strip_prefix p q ≡ Some r → Says (records_in (Some (node [] v n cs))) r a → Says (records_in (Some (node p v n cs))) q a
@@ -64,4 +54,4 @@ module _ {V : Type 0} where
     reads-apart (x ∷ p) [] v n cs a s ends none = ends _ refl
     reads-apart (x ∷ p) (b ∷ q) v n cs a s ends none = ⊎_elim
         (λ e. let f = rw (eq-yes x b e) at s in longer-reads x b p q v n cs a e (reads-apart p q v n cs a f ends none))
-        (λ d. laws.past (records_in (Some (node (x ∷ p) v n cs))) b q a refl (laws.same (λ z. None) (λ z. records_in (Some (node (x ∷ p) v n cs)) (b ∷ z)) q a (λ z. sym (trie_lookup-longer x b z (with_records (node p v n cs)) ∙ ap (λ y. if y then trie_lookup z (with_records (node p v n cs)) else None) (eq-no x b d))) (none q))) (equal_or_not x b)
+        (λ d. laws.past (records_in (Some (node (x ∷ p) v n cs))) b q a refl (laws.same (λ z. None) (λ z. records_in (Some (node (x ∷ p) v n cs)) (b ∷ z)) q a (λ z. sym (records-longer x b z p v n cs ∙ ap (λ y. if y then records_in (Some (node p v n cs)) z else None) (eq-no x b d))) (none q))) (equal_or_not x b)

@@ -3,12 +3,12 @@ use Rattle.std.proofs.Common.{◌≡◌, ℕ, ◌+◌, ◌<◌, ◌≤◌, ◌==
 use Rattle.std.specs.List.{list_any}
 use Rattle.rart_keys.specs.SortedMap.{keys_of}
 use Rattle.rart_nodes.specs.shapes.Shape.{NodeRecord, record_at}
-use Rattle.rart_nodes.specs.tries.Trie.{Trie, node, Children, trie_lookup, child_lookup, child_of, pairs_of, edges_of, with_records, children_with_records, IsCanonical, AreCanonical}
+use Rattle.rart_nodes.specs.tries.Trie.{Trie, Children, child_of, pairs_of, edges_of, IsCanonical, AreCanonical, descend, descend_child}
 use Rattle.rart_nodes.specs.walks.ProbeCount.{goes_on, steps_along, probe_count, counts, entered_nodes}
-use Rattle.rart_nodes.proofs.tries.Descents.{Keeps, descends}
+use Rattle.rart_nodes.proofs.tries.Descents.{Keeps, descends, descend-child_of}
 use Rattle.rart_nodes.proofs.tries.NodeCounts.{few_nodes}
-use Rattle.rart_nodes.proofs.shapes.RecordsAlong.{AreReadings, edge-is_some, none-first, reads-apart, reads-behind, records-below, records_in}
-use Rattle.rart_nodes.proofs.shapes.ShapeLemmas.{record_is}
+use Rattle.rart_nodes.proofs.shapes.RecordsAlong.{AreReadings, edge-is_some, none-first, reads-apart, reads-behind, records_in}
+use Rattle.rart_nodes.proofs.shapes.ShapeLemmas.{records, records-at}
 
 steps_along-cong : (f g : List ℕ → Option NodeRecord) (q : List ℕ) → ((p : List ℕ) → f p ≡ g p) → steps_along f q ≡ steps_along g q
 steps_along-cong f g [] h = refl
@@ -39,8 +39,8 @@ module _ {V : Type 0} where
   nodes_along q (Some t) = 1 + steps_along (records_in (Some t)) q
 
   steps-below : (b : ℕ) (r : List ℕ) (cs : Children V) → AreCanonical 0 cs
-      → (if list_any (λ c. c == b) (edges_of cs) then 1 else 0) + steps_along (λ z. child_lookup b (b ∷ z) (children_with_records cs)) r ≡ nodes_along (b ∷ r) (child_of b cs)
-  steps-below b r cs w = rw (edge-is_some b cs, steps_along-cong (λ z. child_lookup b (b ∷ z) (children_with_records cs)) (λ z. records_in (child_of b cs) (b ∷ z)) r (λ z. records-below b 0 (b ∷ z) cs w))
+      → (if list_any (λ c. c == b) (edges_of cs) then 1 else 0) + steps_along (λ z. descend_child records b (b ∷ z) cs) r ≡ nodes_along (b ∷ r) (child_of b cs)
+  steps-below b r cs w = rw (edge-is_some b cs, steps_along-cong (λ z. descend_child records b (b ∷ z) cs) (λ z. records_in (child_of b cs) (b ∷ z)) r (λ z. descend-child_of records b 0 (b ∷ z) cs w))
       (elim (child_of b cs) as (λ o. child_of b cs ≡ o → (if is_some o then 1 else 0) + steps_along (λ z. records_in o (b ∷ z)) r ≡ nodes_along (b ∷ r) o) [
         | None ↦ λ e. omega (arith, no_steps r)
         | Some t ↦ λ e. omega (arith, ap (λ o. goes_on o b) (sym (ap (λ o. records_in o []) e) ∙ none-first b cs w))
@@ -54,7 +54,7 @@ module _ {V : Type 0} where
     on = λ q p v n cs b r a w s h. ap (λ m. 1 + m) (sym (reads-behind (λ f q a. steps_along f q ≡ a) steps_read p q (b ∷ r) v n cs a s (steps-below b r cs w.2 ∙ sym h)));
   }
 
-  entered_nodes-steps : (q : List ℕ) (t : Trie V) → IsCanonical t → entered_nodes q t ≡ 1 + steps_along (λ p. trie_lookup p (with_records t)) q
+  entered_nodes-steps : (q : List ℕ) (t : Trie V) → IsCanonical t → entered_nodes q t ≡ 1 + steps_along (λ p. descend records p t) q
   entered_nodes-steps q t w = descends counts (λ q o a. a ≡ nodes_along q o) counts-kept q (Some t) w
 
   probe_is : (es : List (List ℕ × V)) (q : List ℕ) → 0 < length es → probe_count (keys_of es) q ≡ 1 + steps_along (record_at (keys_of es)) q
@@ -62,8 +62,8 @@ module _ {V : Type 0} where
   probe_is (e ∷ es) q h = refl
 
   pub entered_nodes-probe_count : (q : List ℕ) (t : Trie V) → IsCanonical t → entered_nodes q t ≡ probe_count (keys_of (pairs_of t)) q
-  entered_nodes-probe_count q t w = entered_nodes-steps q t w ∙ ap (λ m. 1 + m) (steps_along-cong (λ p. trie_lookup p (with_records t)) (record_at (keys_of (pairs_of t))) q (λ p. record_is p t w)) ∙ sym (probe_is (pairs_of t) q (omega (arith, few_nodes t w)))
+  entered_nodes-probe_count q t w = entered_nodes-steps q t w ∙ ap (λ m. 1 + m) (steps_along-cong (λ p. descend records p t) (record_at (keys_of (pairs_of t))) q (λ p. records-at p t w)) ∙ sym (probe_is (pairs_of t) q (omega (arith, few_nodes t w)))
 
   -- at most one more than the probe has bytes
   pub few-entered_nodes : (q : List ℕ) (t : Trie V) → IsCanonical t → entered_nodes q t ≤ length q + 1
-  few-entered_nodes q t w = omega (arith, entered_nodes-steps q t w, few_steps (λ p. trie_lookup p (with_records t)) q)
+  few-entered_nodes q t w = omega (arith, entered_nodes-steps q t w, few_steps (λ p. descend records p t) q)

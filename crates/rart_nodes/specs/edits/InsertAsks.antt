@@ -38,9 +38,15 @@ MayAskFor k m = (0 < length m) × (lookup k m ≡ None) × (record_at (keys_of m
 abbrev pub is_full : {V : Type 0} → Trie V → Bool
 is_full (node p v n cs) = nat_le n (length (edges_of cs))
 
--- whether an insertion by descent asks for memory: where it splits a node, and where a full node gets a child. None where there is no node
+-- Whether an insertion by descent asks for memory: where it splits a node, and where a full node gets a child.
+-- None where there is no node: then the node above gets one.
 abbrev pub asks_put : {V : Type 0} → Descent V (Option Bool)
-asks_put = record { left = λ k t. Some true; ended = λ t. Some false; absent = None; on = λ t asks. Some (unwrap_or asks (is_full t)) }
+asks_put = record {
+  left = λ k t. Some true;
+  ended = λ t. Some false;
+  absent = None;
+  on = λ t asks. Some (unwrap_or asks (is_full t));
+}
 
 abbrev pub trie_asks_put : {V : Type 0} → List ℕ → Trie V → Bool
 trie_asks_put k t = unwrap_or (descend asks_put k t) false

@@ -2,7 +2,7 @@
 use Rattle.std.specs.Prelude.{nat_le, not, ◌-◌, ℕ, ◌==◌, ◌||◌, ◌&&◌, Bool, false, List, [], ◌∷◌, length, Option, Some, None, is_some, if◌then◌else◌}
 use Rattle.std.specs.Option.{unwrap_or}
 use Rattle.rart_nodes.specs.shapes.Shape.{NodeRecord, record_at, capacity_of}
-use Rattle.rart_nodes.specs.tries.Trie.{Trie, node, Descent, children_in, descend, edges_of}
+use Rattle.rart_nodes.specs.tries.Trie.{Trie, Descent, children_in, descend, edges_of, record_of}
 
 -- a node with this record gets other room when it gives one child up
 abbrev pub shrinks : Option NodeRecord → Bool
@@ -28,14 +28,11 @@ abbrev pub moves_down : Option NodeRecord → Bool
 moves_down None = false
 moves_down (Some r) = nat_le 2 (length r.edges) && not (capacity_of (length r.edges - 1) == r.capacity)
 
--- the record of a node
-abbrev pub record_of : {V : Type 0} → Trie V → NodeRecord
-record_of (node p v n cs) = record { holds_value = is_some v; edges = edges_of cs; capacity = n }
-
 abbrev pub is_leaf : {V : Type 0} → Trie V → Bool
 is_leaf t = length (edges_of (children_in t)) == 0
 
--- whether a removal by descent asks for memory: where a node gives up a leaf and moves its children. None at that leaf
+-- Whether a removal by descent asks for memory: where a node gives up a leaf and moves its children.
+-- None at the leaf: then the node above gives it up.
 abbrev pub asks_remove : {V : Type 0} → Descent V (Option Bool)
 asks_remove = record {
   left = λ k t. Some false;
