@@ -7,7 +7,6 @@ pub mod MeetSteps
 pub mod MeetVisits
 pub mod MeetingLemmas
 pub mod PartedLemmas
-pub mod PrefixedStrings
 pub mod Reach
 pub mod SharedLemmas
 pub mod StringSets

@@ -4,4 +4,5 @@ pub mod FirstBytes
 pub mod LongerPrefix
 pub mod NodeCounts
 pub mod PairLemmas
+pub mod PrefixedStrings
 pub mod RestLemmas

@@ -1,4 +1,5 @@
 pub mod Forks
+pub mod Given
 pub mod Lockstep
 pub mod Meetings
 pub mod PairCalls

@@ -1,4 +1,5 @@
 pub mod CanonicalTest
+pub mod PrefixLaws
 pub mod Tree
 pub mod Trie
 pub mod TrieCode

@@ -5,6 +5,7 @@ pub mod Cut
 pub mod Matched
 pub mod Matches
 pub mod Part
+pub mod PieceLaws
 pub mod ProbeCount
 pub mod Shown
 pub mod Tour

@@ -1,5 +1,5 @@
 -- What the building of a node from a stretch of keys keeps, child by child.
-use Rattle.std.proofs.Common.{◌≡◌, ℕ, ◌+◌, ◌<◌, ◌≤◌, ◌⊎◌, inl, inr, ⊎_elim, suc, false, ltb, List, [], ◌∷◌, ◌++◌, length, length-append, take, drop, map, refl, arith, sym, ap, ◌∙◌, Option, Some, None, IsSome}
+use Rattle.std.proofs.Common.{◌≡◌, ℕ, ◌+◌, ◌<◌, ◌≤◌, ◌⊎◌, inl, inr, ⊎_elim, suc, List, [], ◌∷◌, ◌++◌, length, length-append, take, drop, map, refl, arith, sym, ap, ◌∙◌, Option, Some, None, IsSome}
 use Rattle.std.specs.Prelude.{slice_index}
 use Rattle.std.specs.Borrow.{Bor}
 use Rattle.std.proofs.lemmas.Bool.Decides.{nat_tests}
@@ -11,9 +11,10 @@ use Rattle.rart_nodes.specs.shapes.Shape.{next_bytes, capacity_of}
 use Rattle.rart_nodes.specs.shapes.ShapeRecords.{lone_keys}
 use Rattle.rart_nodes.specs.build.Stretches.{rests, first_byte, run_of, first_run, GoOn, Reach, IsStretch}
 use Rattle.rart_nodes.specs.build.ValueCalls.{CanTake, Takes}
+use Rattle.rart_nodes.specs.tries.PrefixLaws.{values-with_prefix}
 use Rattle.rart_nodes.specs.tries.Trie.{Trie, node, no_children, child, edges_of, pairs_of, children_pairs, own_pair, with_prefix, prefix_of, StartsWith, HasTwoChildren, IsCanonical, AreCanonical}
 use Rattle.rart_nodes.specs.tries.TrieCode.{as_children}
-use Rattle.rart_nodes.proofs.storages.ChildLemmas.{edges_of-length}
+use Rattle.rart_nodes.proofs.storages.ChildLemmas.{edges_of-length, lt-no}
 use Rattle.rart_nodes.proofs.tries.FirstBytes.{AllFirst, pairs_of-first}
 use Rattle.rart_nodes.proofs.tries.NodeCounts.{some-pairs}
 use Rattle.rart_nodes.proofs.build.RunLemmas.{ascending-drop, rests-drop, rests-take, rests-length, branches-step, go_on-drop}
@@ -38,9 +39,6 @@ one-first b c (x ∷ k) h g = sym h ∙ g
 -- room for a child less than there will be
 capacity-room : (n k : ℕ) → n < k → n < 256 → n < capacity_of k
 capacity-room n k h l = grind (arith, nat_tests)
-
-lt-no : (b c : ℕ) → c ≤ b → ltb b c ≡ false
-lt-no b c h = grind (arith, nat_tests)
 
 module _ {V : Type 0} where
   all_first-keys : (b : ℕ) (es : List (List ℕ × V)) → AllStart b (keys_of es) → AllFirst b es
@@ -127,10 +125,6 @@ module _ {V : Type 0} where
   keys-with_prefix : (p : List ℕ) (es : List (List ℕ × V)) → keys_of (with_prefix p es) ≡ map (λ r. p ++ r) (keys_of es)
   keys-with_prefix p [] = refl
   keys-with_prefix p (e ∷ es) = ap (λ z. (p ++ e.0) ∷ z) (keys-with_prefix p es)
-
-  values-with_prefix : (p : List ℕ) (es : List (List ℕ × V)) → values_of (with_prefix p es) ≡ values_of es
-  values-with_prefix p [] = refl
-  values-with_prefix p (e ∷ es) = ap (λ z. e.1 ∷ z) (values-with_prefix p es)
 
 -- the pairs that are made: the node's own and those of its children
 abbrev pub made : {V : Type 0} → Option V → List (ℕ × Trie V) → List (List ℕ × V)

@@ -1,8 +1,8 @@
 -- Runs of strings that begin with one byte, and how many there are.
-use Rattle.std.proofs.Common.{◌≡◌, ℕ, ◌+◌, ◌-◌, ◌<◌, ◌≤◌, ◌==◌, ⊎_elim, zero, suc, true, false, List, [], ◌∷◌, length, take, drop, get_or, map, refl, arith, sym, ap, ◌∙◌, if◌then◌else◌}
+use Rattle.std.proofs.Common.{◌≡◌, ℕ, ◌+◌, ◌<◌, ◌≤◌, ◌==◌, ⊎_elim, zero, suc, true, false, List, [], ◌∷◌, length, take, drop, get_or, map, refl, arith, sym, ap, ◌∙◌, if◌then◌else◌}
 use Rattle.std.specs.Prelude.{slice_index}
 use Rattle.std.specs.Borrow.{Bor}
-use Rattle.std.proofs.lemmas.List.{drop-map, take-map, get_or-drop, take_all, length-drop}
+use Rattle.std.proofs.lemmas.List.{drop-map, take-map, get_or-drop, length-drop}
 use Rattle.rart_keys.specs.SortedMap.{IsAscending}
 use Rattle.rart_keys.proofs.ByteOrder.{eq-yes, eq-no, equal_or_not}
 use Rattle.rart_nodes.specs.shapes.Shape.{with_first, next_bytes}
@@ -81,9 +81,6 @@ pub ascending-drop : (n : ℕ) (rs : List (List ℕ)) → IsAscending (lone_keys
 ascending-drop zero rs a = a
 ascending-drop (suc n) [] a = tt
 ascending-drop (suc n) (r ∷ rs) a = ascending-drop n rs a.1
-
-pub part-from : {A : Type 0} (n : ℕ) (xs : List A) → take (length xs - n) (drop n xs) ≡ drop n xs
-part-from n xs = take_all (length xs - n) (drop n xs) (omega (arith, length-drop n xs))
 
 -- one run counted
 pub count-step : (d count n total most : ℕ) (ks ls : List (Bor (List ℕ))) → ls ≡ drop n ks → 0 < length ks → n ≡ first_run (rests d ks) → 0 < n → n ≤ length ks → GoOn (rests d ks) → IsAscending (lone_keys (rests d ks)) → count + length ks ≤ most

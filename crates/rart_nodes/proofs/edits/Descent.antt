@@ -1,27 +1,15 @@
 -- One step of a descent: how the prefix of a node and a key agree, and what follows for look-ups, visits and insertions.
-use Rattle.std.proofs.Common.{◌≡◌, ℕ, suc, ◌+◌, ◌-◌, ◌<◌, ◌≤◌, Bool, true, false, cond, List, [], ◌∷◌, length, take, drop, get_or, nat_eq, Option, Some, None, refl, arith, sym, ap, ◌∙◌}
-use Rattle.std.proofs.lemmas.Grind.{common_steps}
+use Rattle.std.proofs.Common.{◌≡◌, ℕ, suc, ◌+◌, ◌<◌, ◌≤◌, Bool, true, false, cond, List, [], ◌∷◌, length, take, drop, get_or, nat_eq, Option, Some, None, refl, arith, sym, ap, ◌∙◌}
 use Rattle.std.proofs.lemmas.List.{length-drop}
 use Rattle.std.proofs.Math.Numerals.{one-add}
 use Rattle.std.specs.List.{common_prefix_len}
 use Rattle.std.proofs.lemmas.Bool.{false≢true}
-use Rattle.rart_keys.specs.ByteStrings.{strip_prefix}
 use Rattle.rart_keys.proofs.ByteOrder.{eq-yes}
 use Rattle.rart_nodes.specs.tries.Trie.{node, Children, no_children, child, Overlap, overlap, grown_overlap, trie_put, put_child, put_overlap, put_split, fitting_node, fork, leaf}
 
 -- the first byte of a string
 abbrev pub first : List ℕ → ℕ
 first k = get_or k 0 0
-
-pub strip_prefix-short : (p k : List ℕ) → common_prefix_len nat_eq p k < length p → strip_prefix p k ≡ None
-strip_prefix-short [] k h = absurd (omega arith)
-strip_prefix-short (x ∷ p) [] h = refl
-strip_prefix-short (x ∷ p) (y ∷ k) h = grind (arith, strip_prefix-short p k)
-
-pub strip_prefix-full : (p k : List ℕ) → length p ≤ common_prefix_len nat_eq p k → strip_prefix p k ≡ Some (drop (length p) k)
-strip_prefix-full [] k h = refl
-strip_prefix-full (x ∷ p) [] h = absurd (omega arith)
-strip_prefix-full (x ∷ p) (y ∷ k) h = grind (arith, strip_prefix-full p k)
 
 pub common-within : (p k : List ℕ) → (common_prefix_len nat_eq p k ≤ length p) × (common_prefix_len nat_eq p k ≤ length k)
 common-within [] k = (omega arith, omega arith)
@@ -37,10 +25,6 @@ pub overlap-is : (p k : List ℕ) → overlap p k ≡ record { shared = take (co
 overlap-is [] k = refl
 overlap-is (x ∷ p) [] = refl
 overlap-is (x ∷ p) (y ∷ k) = overlap-step (nat_eq x y) x y p k (common_prefix_len nat_eq p k) (overlap p k) (overlap-is p k)
-
--- the rest of a slice from a place on, as code names it
-pub slice_from-is : (k : List ℕ) (n : ℕ) → take (length k - n) (drop n k) ≡ drop n k
-slice_from-is k n = grind (arith, common_steps, length-drop n k)
 
 differ-step : (z : Bool) (x y : ℕ) (p k : List ℕ) (n : ℕ) → nat_eq x y ≡ z → (n < length p → n < length k → first (drop n p) ≡ first (drop n k) → ⊥)
     → cond z (1 + n) 0 < suc (length p) → cond z (1 + n) 0 < suc (length k) → first (drop (cond z (1 + n) 0) (x ∷ p)) ≡ first (drop (cond z (1 + n) 0) (y ∷ k)) → ⊥

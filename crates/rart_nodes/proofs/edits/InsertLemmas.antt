@@ -6,15 +6,17 @@ use Rattle.std.specs.List.{common_prefix_len}
 use Rattle.std.proofs.lemmas.Bool.Decides.{nat_tests}
 use Rattle.rart_keys.specs.ByteStrings.{strip_prefix}
 use Rattle.rart_keys.specs.KeyBytes.{IsWithin}
-use Rattle.rart_keys.proofs.ByteOrder.{order, is_less, is_equal, is_greater, eq-yes, eq-no}
+use Rattle.rart_keys.proofs.ByteOrder.{order, eq-yes, eq-no}
 use Rattle.rart_parts.specs.Entries.{child_at, with_entry, replaced}
 use Rattle.rart_nodes.specs.storages.Widths.{widened}
 use Rattle.rart_nodes.specs.shapes.Shape.{capacity_of}
-use Rattle.rart_nodes.specs.tries.Trie.{Trie, node, Children, edges_of, IsCanonical, AreCanonical, trie_lookup, child_lookup, trie_put, put_child, fitting_node, leaf, fork, pairs_of, with_records, children_with_records}
+use Rattle.rart_nodes.specs.tries.Trie.{Trie, node, Children, edges_of, IsCanonical, trie_lookup, trie_put, put_child, fitting_node, leaf, fork, pairs_of, with_records}
 use Rattle.rart_nodes.specs.tries.TrieCode.{as_children}
-use Rattle.rart_nodes.proofs.storages.ChildLemmas.{edges_of-length, replaced-length, with_entry-length, found, at_first, behind_first, put_child-found, put_child-none, tail-none, fork-is, child_at-beside}
+use Rattle.rart_nodes.proofs.storages.ChildLemmas.{edges_of-length, replaced-length, with_entry-length, put_child-found, put_child-none, fork-is, child_at-beside}
 use Rattle.rart_nodes.proofs.edits.Descent.{first, first-differ, put-lower, put-fork}
-use Rattle.rart_nodes.proofs.tries.RestLemmas.{rest-length, trie_lookup-followed, trie_put-followed}
+use Rattle.rart_nodes.proofs.tries.RestLemmas.{rest-length, trie_put-followed}
+use Rattle.rart_nodes.proofs.tries.Descents.{descend-absent, descend-at, descend-followed}
+use Rattle.rart_nodes.proofs.shapes.ShapeLemmas.{lookup-records, records}
 
 -- one more child keeps the width that the number of children fixes
 pub widened-capacity : (n : ℕ) → widened n (capacity_of n) ≡ capacity_of (suc n)
@@ -67,29 +69,17 @@ module _ {V : Type 0} where
       = ap as_children ee ∙ sym (put_child-none b rest v es at) in
       ap (λ z. node p old z (as_children es')) width ∙ ap (fitting_node p old) below ∙ sym (trie_put-followed p k rest b v old w (as_children es) e h)
 
-  -- the records of children that are given as entries
-  records-found : (b low : ℕ) (k : List ℕ) (t : Trie V) (es : List (ℕ × Trie V)) → AreCanonical low (as_children es) → Some t ≡ child_at b es → child_lookup b k (children_with_records (as_children es)) ≡ trie_lookup k (with_records t)
-  records-found b low k t [] w s = absurd (cc)
-  records-found b low k t (e ∷ es) w s = elim (found b low t e es w s) [
-    | at_first h q ↦ rw (is_equal b e.0 h, q) refl
-    | behind_first h q ↦ rw (is_greater b e.0 h) (records-found b (suc e.0) k t es w.3 q)
-  ]
-
-  records-none : (b : ℕ) (k : List ℕ) (es : List (ℕ × Trie V)) → None ≡ child_at b es → child_lookup b k (children_with_records (as_children es)) ≡ None
-  records-none b k [] s = refl
-  records-none b k (e ∷ es) s = let t = tail-none b e es s in ⊎_elim
-      (λ h. rw (is_less b e.0 h) refl)
-      (⊎_elim (λ h. absurd (t.0 h)) (λ h. rw (is_greater b e.0 h) (records-none b k es t.1))) (order b e.0)
-
   pub record-child : (p k rest : List ℕ) (old : Option V) (w b : ℕ) (t : Trie V) (es : List (ℕ × Trie V))
       → IsCanonical (node p old w (as_children es)) → Some rest ≡ strip_prefix p k → Some b ≡ slice_get rest 0 → Some t ≡ child_at b es
       → trie_lookup rest (with_records t) ≡ None → trie_lookup k (with_records (node p old w (as_children es))) ≡ None
-  record-child p k rest old w b t es c e h at none = trie_lookup-followed p k rest b _ w (children_with_records (as_children es)) e h ∙ records-found b 0 rest t es c.2 at ∙ none
+  record-child p k rest old w b t es c e h at none = lookup-records k (node p old w (as_children es)) ∙ descend-followed records p k rest b old w (as_children es) e h
+      ∙ descend-at records b 0 rest (Some t) es c.2 at ∙ sym (lookup-records rest t) ∙ none
 
   pub record-no_child : (p k rest : List ℕ) (old : Option V) (w b : ℕ) (es : List (ℕ × Trie V))
       → Some rest ≡ strip_prefix p k → Some b ≡ slice_get rest 0 → None ≡ child_at b es
       → trie_lookup k (with_records (node p old w (as_children es))) ≡ None
-  record-no_child p k rest old w b es e h at = trie_lookup-followed p k rest b _ w (children_with_records (as_children es)) e h ∙ records-none b rest es at
+  record-no_child p k rest old w b es e h at = lookup-records k (node p old w (as_children es)) ∙ descend-followed records p k rest b old w (as_children es) e h
+      ∙ descend-absent records b rest es at
 
   -- a child that is put back as it was
   pub replaced-same : (b : ℕ) (t : Trie V) (es : List (ℕ × Trie V)) → Some t ≡ child_at b es → replaced b t es ≡ es

@@ -1,31 +1,27 @@
 -- The prefixes of a node and of its child, joined, are no longer than a key.
-use Rattle.std.proofs.Common.{◌≡◌, ℕ, suc, ◌+◌, ◌<◌, ◌≤◌, List, [], ◌∷◌, ◌++◌, length, length-append, Option, Some, refl, arith, sym, ◌∙◌}
+use Rattle.std.proofs.Common.{◌≡◌, ℕ, suc, ◌+◌, ◌≤◌, List, ◌++◌, length, Option, Some, arith, sym, ◌∙◌}
 use Rattle.rart_keys.specs.KeyBytes.{IsWithin}
 use Rattle.rart_parts.specs.Entries.{child_at}
 use Rattle.rart_nodes.specs.edits.Deletion.{JoinsWithin}
 use Rattle.rart_keys.specs.SortedMap.{longest_key}
-use Rattle.rart_nodes.specs.tries.Trie.{Trie, node, Children, no_children, child, prefix_of, IsCanonical, AreCanonical, pairs_of, children_pairs, own_pair, with_prefix}
+use Rattle.rart_nodes.specs.tries.PrefixLaws.{length-with_prefix}
+use Rattle.rart_nodes.specs.tries.Trie.{Trie, node, Children, no_children, child, prefix_of, IsCanonical, AreCanonical, pairs_of, children_pairs, own_pair}
 use Rattle.rart_nodes.specs.tries.TrieCode.{as_children}
-use Rattle.rart_nodes.proofs.tries.CanonicalTests.{longest_key-append}
+use Rattle.rart_nodes.proofs.tries.CanonicalTests.{longest_key-append, longest_key-behind}
 use Rattle.rart_nodes.proofs.edits.InsertLemmas.{fewer-within}
 use Rattle.rart_nodes.proofs.tries.NodeCounts.{some-pairs}
 use Rattle.rart_nodes.proofs.tries.Descents.{child_of-entries}
 use Rattle.rart_nodes.proofs.walks.SeenLemmas.{child-short}
 
 module _ {V : Type 0} where
-  -- the paths to the children are parts of keys
-  length-with_prefix : (p : List ℕ) (es : List (List ℕ × V)) → length (with_prefix p es) ≡ length es
-  length-with_prefix p [] = refl
-  length-with_prefix p (e ∷ es) = omega (arith, length-with_prefix p es)
-
-  longest-with_prefix : (p : List ℕ) (es : List (List ℕ × V)) → 0 < length es → length p + longest_key es ≤ longest_key (with_prefix p es)
-  longest-with_prefix p [] h = absurd (omega arith)
-  longest-with_prefix p (e ∷ []) h = omega (arith, length-append p e.0)
-  longest-with_prefix p (e ∷ f ∷ es) h = omega (arith, length-append p e.0, longest-with_prefix p (f ∷ es) (omega arith))
+  -- a node's keys have its prefix
+  prefix-before : (p : List ℕ) (v : Option V) (w : ℕ) (cs : Children V) → IsCanonical (node p v w cs) → longest_key (pairs_of (node p v w cs)) ≡ length p + longest_key (own_pair v ++ children_pairs cs)
+  prefix-before p v w cs c = longest_key-behind p (own_pair v ++ children_pairs cs) (omega (arith, some-pairs (node p v w cs) c, length-with_prefix p (own_pair v ++ children_pairs cs)))
 
   prefix-short : (t : Trie V) → IsCanonical t → length (prefix_of t) ≤ longest_key (pairs_of t)
-  prefix-short (node p v w cs) c = omega (arith, longest-with_prefix p (own_pair v ++ children_pairs cs) (omega (arith, some-pairs (node p v w cs) c, length-with_prefix p (own_pair v ++ children_pairs cs))))
+  prefix-short (node p v w cs) c = omega (arith, prefix-before p v w cs c)
 
+  -- the paths to the children are parts of keys
   joins-children : (m : Option ℕ) (p : List ℕ) (n low : ℕ) (cs : Children V) → AreCanonical low cs → longest_key (children_pairs cs) ≤ n → IsWithin m (length p + n) → JoinsWithin m p cs
   joins-children m p n low no_children c l h = tt
   joins-children m p n low (child b t cs) c l h =
@@ -34,7 +30,7 @@ module _ {V : Type 0} where
 
   pub joins-canonical : (m : Option ℕ) (p : List ℕ) (v : Option V) (w : ℕ) (cs : Children V) → IsCanonical (node p v w cs) → IsWithin m (longest_key (pairs_of (node p v w cs))) → JoinsWithin m p cs
   joins-canonical m p v w cs c h = joins-children m p (longest_key (own_pair v ++ children_pairs cs)) 0 cs c.2 (omega (arith, longest_key-append (own_pair v) (children_pairs cs)))
-      (fewer-within m (longest_key (pairs_of (node p v w cs))) _ (longest-with_prefix p (own_pair v ++ children_pairs cs) (omega (arith, some-pairs (node p v w cs) c, length-with_prefix p (own_pair v ++ children_pairs cs)))) h)
+      (fewer-within m (longest_key (pairs_of (node p v w cs))) (length p + longest_key (own_pair v ++ children_pairs cs)) (omega (arith, prefix-before p v w cs c)) h)
 
   pub entry-short : (p : List ℕ) (v : Option V) (w b : ℕ) (t : Trie V) (es : List (ℕ × Trie V)) → Some t ≡ child_at b es → longest_key (pairs_of t) ≤ longest_key (pairs_of (node p v w (as_children es)))
   entry-short p v w b t es at = child-short b (longest_key (pairs_of (node p v w (as_children es)))) (node p v w (as_children es)) t (omega arith) (child_of-entries b es ∙ sym at)

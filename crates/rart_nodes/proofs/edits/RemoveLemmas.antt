@@ -2,20 +2,17 @@
 use Rattle.std.proofs.Common.{◌≡◌, ℕ, ◌≤◌, ◌==◌, inl, inr, ⊎_elim, suc, Bool, true, false, List, [], ◌∷◌, ◌++◌, refl, sym, ap, ◌∙◌, arith, Option, Some, None, nat_cmp, if◌then◌else◌}
 use Rattle.std.specs.Ordering.{match_ordering}
 use Rattle.rart_keys.specs.ByteStrings.{bytes_eq, strip_prefix}
-use Rattle.rart_keys.specs.SortedMap.{without, lookup, IsAscending}
+use Rattle.rart_keys.specs.SortedMap.{without, lookup}
 use Rattle.rart_nodes.specs.tries.Trie.{Trie, node, Children, no_children, child, answer_behind, trie_lookup, child_lookup, pairs_of, prefix_of, StartsWith, IsCanonical, AreCanonical, collapsed, removed_behind, child_if, trie_remove, remove_child}
 use Rattle.rart_nodes.specs.tries.Tree.{tree_pairs, tree_lookup, IsCanonicalTree}
-use Rattle.rart_keys.proofs.ByteOrder.{order, is_less, is_equal, is_greater, eq-yes, eq-no, bytes_eq-equal, equal_or_not}
+use Rattle.rart_keys.proofs.ByteOrder.{order, is_less, is_equal, is_greater, eq-no, bytes_eq-equal}
 use Rattle.rart_keys.proofs.SortedMaps.{equal_by_lookups, ascending-without, lookup-without}
 use Rattle.rart_nodes.proofs.tries.FirstBytes.{first-append}
-use Rattle.rart_nodes.proofs.tries.PairLemmas.{trie_lookup-nil, child_lookup-low, bytes_eq-with_prefix, bytes_eq_within, pairs_of-ascend, lookup-pairs_of}
+use Rattle.rart_nodes.proofs.tries.PairLemmas.{trie_lookup-nil, child_lookup-low, bytes_eq-with_prefix, bytes_eq_within, pairs_of-ascend, lookup-pairs_of, tree_pairs-ascend}
 use Rattle.rart_nodes.proofs.edits.PutLemmas.{trie_lookup-one}
 use Rattle.rart_nodes.proofs.tries.LongerPrefix.{trie_lookup-longer}
-
-strip_prefix-is : (p k r : List ℕ) → strip_prefix p k ≡ Some r → p ++ r ≡ k
-strip_prefix-is [] k r s = cc
-strip_prefix-is (x ∷ p) [] r s = cc
-strip_prefix-is (x ∷ p) (y ∷ k) r s = ⊎_elim (λ e. let h = strip_prefix-is p k r (rw (eq-yes x y e) at s) in cc) (λ n. let h = rw (eq-no x y n) at s in cc) (equal_or_not x y)
+use Rattle.rart_nodes.proofs.tries.PrefixedStrings.{strip_prefix-is}
+use Rattle.rart_nodes.proofs.tries.CanonicalTests.{canonical-lower}
 
 none-or : {V : Type 0} (b : Bool) → ◌≡◌ {A = Option V} (if b then None else None) None
 none-or true = refl
@@ -56,10 +53,6 @@ module _ {V : Type 0} where
     | None ↦ first-collapsed c p v cs f
     | Some r ↦ elim r as (λ r. IsFirstIn c (removed_behind (Some r) p v cs (λ b r. remove_child b r cs))) [ [] ↦ first-collapsed c p None cs f | b ∷ r ↦ first-collapsed c p v (remove_child b (b ∷ r) cs) f ]
   ]
-
-  canonical-lower : (low high : ℕ) (cs : Children V) → low ≤ high → AreCanonical high cs → AreCanonical low cs
-  canonical-lower low high no_children l w = tt
-  canonical-lower low high (child b t cs) l w = (omega (arith, w.0), w.1, w.2, w.3)
 
   canonical-child_if : (low c : ℕ) (o : Option (Trie V)) (cs : Children V) → low ≤ c → IsFirstIn c o → IsCanonicalTree o → AreCanonical (suc c) cs → AreCanonical low (child_if c o cs)
   canonical-child_if low c None cs l f z w = canonical-lower low (suc c) cs (omega arith) w
@@ -113,11 +106,7 @@ module _ {V : Type 0} where
   lookup-tree q None w = refl
   lookup-tree q (Some t) w = lookup-pairs_of q t w
 
-  tree-ascend : (o : Option (Trie V)) → IsCanonicalTree o → IsAscending (tree_pairs o)
-  tree-ascend None w = tt
-  tree-ascend (Some t) w = pairs_of-ascend t w
-
   pub pairs_of-removed : (k : List ℕ) (t : Trie V) → IsCanonical t → tree_pairs (trie_remove k t) ≡ without k (pairs_of t)
   pairs_of-removed k t w = let z = canonical-removed k t w in
-      equal_by_lookups (tree_pairs (trie_remove k t)) (without k (pairs_of t)) (tree-ascend (trie_remove k t) z) (ascending-without k (pairs_of t) (pairs_of-ascend t w))
+      equal_by_lookups (tree_pairs (trie_remove k t)) (without k (pairs_of t)) (tree_pairs-ascend (trie_remove k t) z) (ascending-without k (pairs_of t) (pairs_of-ascend t w))
       (λ q. lookup-tree q (trie_remove k t) z ∙ trie_lookup-removed k q t w ∙ ap (λ o. if bytes_eq k q then None else o) (sym (lookup-pairs_of q t w)) ∙ sym (lookup-without q k (pairs_of t)))

@@ -5,7 +5,6 @@ use Rattle.rart_keys.specs.SortedMap.{AreAbove, IsAscending, count_of, lookup, w
 use Rattle.rart_keys.proofs.ByteOrder.{below-not_eq, bytes_eq-back, bytes_eq-equal}
 use Rattle.rart_nodes.specs.tries.Tree.{IsCanonicalTree, tree_pairs, tree_remove}
 use Rattle.rart_nodes.specs.tries.Trie.{Trie}
-use Rattle.rart_nodes.proofs.tries.PairLemmas.{pairs_of-ascend}
 use Rattle.rart_nodes.proofs.edits.RemoveLemmas.{canonical-removed, pairs_of-removed}
 
 module _ {V : Type 0} where
@@ -34,7 +33,3 @@ module _ {V : Type 0} where
   pub tree_pairs-removed : (k : List ℕ) (t : Option (Trie V)) → IsCanonicalTree t → tree_pairs (tree_remove k t) ≡ without k (tree_pairs t)
   tree_pairs-removed k None w = refl
   tree_pairs-removed k (Some t) w = pairs_of-removed k t w
-
-  pub tree_pairs-ascend : (t : Option (Trie V)) → IsCanonicalTree t → IsAscending (tree_pairs t)
-  tree_pairs-ascend None w = tt
-  tree_pairs-ascend (Some t) w = pairs_of-ascend t w

@@ -6,7 +6,8 @@ use Rattle.std.specs.Global.{Vec}
 use Rattle.rart_keys.specs.SortedMap.{values_of}
 use Rattle.rart_nodes.specs.declared.node.intersect.way.Way.TheVariants.{Untold, Bytes, Segments}
 use Rattle.rart_nodes.specs.declared.node.view.LendingKeyView.{LendingKeyView}
-use Rattle.rart_nodes.specs.joins.Meetings.{CanGive, CanGiveKeys, CanGiveValues, CanGiveViews, GivenKeys, GivenValues, GivenViews, values_of-append}
+use Rattle.rart_nodes.specs.joins.Meetings.{CanGive, CanGiveKeys, CanGiveValues, CanGiveViews, GivenKeys, GivenValues, GivenViews}
+use Rattle.rart_nodes.specs.tries.PrefixLaws.{values-append}
 use Rattle.rart_nodes.specs.joins.PairCalls.{CallsAtEach, CallsWithEach, CanCallAt, CanCallWith}
 use Rattle.rart_nodes.specs.joins.ViewCalls.{CanViewAt, ViewsAtEach}
 use Rattle.rart_nodes.specs.walks.Calls.{CallableAtEach}
@@ -16,7 +17,7 @@ use Rattle.rart_nodes.proofs.joins.MeetingLemmas.{given-whole}
 use Rattle.rart_nodes.proofs.walks.CallLemmas.{always-now, always-on, can-kept, folds-keep}
 
 pub can-values : {F X : Type 0} (r : F → X → F → Type 0) (q : F → X → Type 0) (f : F) (es : List (List ℕ × X)) → CallableAtEach r q f (values_of es) → CanGive (CanGiveValues q) (GivenValues r) Untold f es
-can-values r q f es h = record { at = λ before x after g e k. h.at (values_of before) x.1 (values_of after) g (ap (λ z. values_of z) e ∙ values_of-append before (x ∷ after)) k }
+can-values r q f es h = record { at = λ before x after g e k. h.at (values_of before) x.1 (values_of after) g (ap (λ z. values_of z) e ∙ values-append before (x ∷ after)) k }
 
 module _ {F X : Type 0} (r : F → List ℕ × X → F → Type 0) (q : F → List ℕ × X → Type 0) (f : F) (es : List (List ℕ × X)) where
   pub can-keys : (k : Vec ℕ) → k.items ≡ [] → CallableAtEach r q f es → CanGive (CanGiveKeys q) (GivenKeys r) (Bytes k) f es

@@ -1,9 +1,9 @@
 -- The strings at which a walk in lockstep enters a node or a pair.
-use Rattle.std.specs.Ordering.{nat_cmp, match_ordering}
-use Rattle.std.proofs.Common.{◌≡◌, ℕ, ◌<◌, ◌==◌, ◌||◌, ◌&&◌, Bool, ⊎_elim, suc, true, false, List, [], ◌∷◌, refl, sym, ap, ◌∙◌, arith, Option, Some, None, is_some, if◌then◌else◌}
+use Rattle.std.proofs.Common.{◌≡◌, ℕ, ◌<◌, ◌==◌, ◌||◌, ◌&&◌, Bool, ⊎_elim, suc, true, false, List, [], ◌∷◌, ◌++◌, refl, sym, ap, ◌∙◌, arith, Option, Some, None, is_some, if◌then◌else◌}
+use Rattle.std.proofs.Math.Bool.{and-false, or-false}
 use Rattle.rart_keys.specs.SortedMap.{lookup}
 use Rattle.rart_nodes.specs.tries.Trie.{Trie, node, Children, no_children, child, trie_lookup, child_lookup, with_records, children_with_records, with_prefix, prefix_of, StartsWith, IsCanonical, AreCanonical}
-use Rattle.rart_nodes.specs.joins.Lockstep.{lockstep, meet_each}
+use Rattle.rart_nodes.specs.joins.Lockstep.{Pairing, meet_each, pair_child, pair_down, pair_in, pair_tries}
 use Rattle.rart_nodes.specs.joins.SharedEdges.{above}
 use Rattle.rart_keys.proofs.ByteOrder.{order, is_less, is_equal, is_greater, eq-yes, eq-no, equal_or_not}
 use Rattle.rart_nodes.proofs.tries.PairLemmas.{or_else, lookup-append}
@@ -11,32 +11,20 @@ use Rattle.rart_nodes.proofs.tries.LongerPrefix.{longer}
 use Rattle.rart_nodes.proofs.joins.MeetLemmas.{lookup-step, lookup-step_nil}
 use Rattle.rart_nodes.proofs.joins.Reach.{reaches, reaches_child}
 
-abbrev Set : Type 0
-Set = List (List ℕ × Unit {0})
+abbrev pub marks_edges : Pairing (List (List ℕ × Unit {0}))
+marks_edges = record { apart = []; shared = λ x es. with_prefix (x ∷ []) es; also = λ xs ys. xs ++ ys; entered = λ b es. (b ∷ [], tt) ∷ es }
 
-abbrev mutual
-  pub edges_in : {W : Type 0} → List ℕ → (ℕ → Trie W → List (List ℕ × Unit {0})) → Trie W → List (List ℕ × Unit {0})
-  edges_in p f (node q w m ds) = lockstep p q (meet_each f ds) (λ b r. f b (node r w m ds)) (λ b l. edges_down b l f ds)
+abbrev pub edges_in : {W : Type 0} → List ℕ → (ℕ → Trie W → List (List ℕ × Unit {0})) → Trie W → List (List ℕ × Unit {0})
+edges_in p f u = pair_in marks_edges p (λ w es. es) f u
 
-  pub edges_down : {W : Type 0} → ℕ → List ℕ → (ℕ → Trie W → List (List ℕ × Unit {0})) → Children W → List (List ℕ × Unit {0})
-  edges_down b l f no_children = []
-  edges_down b l f (child c u ds) = match_ordering (nat_cmp b c) [] ((b ∷ [], tt) ∷ edges_in l f u) (edges_down b l f ds)
+abbrev pub edges_down : {W : Type 0} → ℕ → List ℕ → (ℕ → Trie W → List (List ℕ × Unit {0})) → Children W → List (List ℕ × Unit {0})
+edges_down b l f ds = pair_down marks_edges b l (λ w es. es) f ds
 
-abbrev mutual
-  pub edges : {V W : Type 0} → Trie V → Trie W → List (List ℕ × Unit {0})
-  edges (node p v n cs) u = edges_in p (λ b z. edges_child b z cs) u
+abbrev pub edges : {V W : Type 0} → Trie V → Trie W → List (List ℕ × Unit {0})
+edges t u = pair_tries marks_edges (λ v w es. es) t u
 
-  pub edges_child : {V W : Type 0} → ℕ → Trie W → Children V → List (List ℕ × Unit {0})
-  edges_child b u no_children = []
-  edges_child b u (child c t cs) = match_ordering (nat_cmp b c) [] ((b ∷ [], tt) ∷ edges t u) (edges_child b u cs)
-
-pub and-false : (a : Bool) → (a && false) ≡ false
-and-false true = refl
-and-false false = refl
-
-or-false : (a : Bool) → (a || false) ≡ a
-or-false true = refl
-or-false false = refl
+abbrev pub edges_child : {V W : Type 0} → ℕ → Trie W → Children V → List (List ℕ × Unit {0})
+edges_child b u cs = pair_child marks_edges (λ v w es. es) b u cs
 
 none-of : (a b c d e : Bool) → ((a && (b && false)) || (c && (d && false))) ≡ (e && (d && false))
 none-of a b c d e = rw (and-false b, and-false d, and-false a, and-false c, and-false e) refl

@@ -1,19 +1,19 @@
 -- The way of two places through two tries to the next two nodes whose prefixes end together.
-use Rattle.std.proofs.Common.{◌≡◌, ℕ, suc, ◌+◌, ◌<◌, ◌≤◌, ◌==◌, Bool, true, false, cond, eqb, List, [], ◌∷◌, ◌++◌, length, length-append, drop, Option, Some, None, refl, arith, sym, ap, subst, ◌∙◌}
-use Rattle.std.proofs.lemmas.Bool.{eqb-true}
+use Rattle.std.proofs.Common.{◌≡◌, ℕ, ◌+◌, ◌<◌, ◌≤◌, ◌==◌, Bool, true, false, List, [], ◌∷◌, ◌++◌, length, length-append, drop, Some, None, refl, arith, sym, ap, subst, ◌∙◌}
 use Rattle.rart_keys.specs.SortedMap.{longest_key}
 use Rattle.rart_keys.proofs.ByteOrder.{eq-yes, eq-no}
 use Rattle.rart_nodes.specs.joins.Lockstep.{meet, with_rest}
-use Rattle.rart_nodes.specs.joins.Meetings.{prefix-none, prefix-twice}
+use Rattle.rart_nodes.specs.tries.PrefixLaws.{length-with_prefix, prefix-none, prefix-twice}
 use Rattle.rart_nodes.specs.joins.SharedEdges.{more_visits}
 use Rattle.rart_nodes.specs.joins.Twins.{twins_right, visits_all, IsFork}
 use Rattle.rart_nodes.specs.tries.CanonicalTest.{is_canonical}
-use Rattle.rart_nodes.specs.tries.Trie.{Trie, node, Children, no_children, child, prefix_of, value_of, children_in, children_pairs, pairs_of, with_prefix, own_pair, StartsWith, AreCanonical, child_of, child_in}
+use Rattle.rart_nodes.specs.tries.Trie.{Trie, node, Children, child, prefix_of, value_of, children_in, children_pairs, pairs_of, with_prefix, own_pair, StartsWith, child_in}
 use Rattle.rart_nodes.specs.tries.TrieCode.{child_count, node_count}
 use Rattle.rart_nodes.proofs.joins.MeetSteps.{Turn, met, met_visits, turn-common, turn-apart, turn-left, turn-right, turn-both, with_rest-whole}
-use Rattle.rart_nodes.proofs.tries.CanonicalTests.{IsCanonical-test, longest_key-append}
+use Rattle.rart_nodes.proofs.tries.CanonicalTests.{IsCanonical-test, longest_key-append, longest_key-behind}
 use Rattle.rart_nodes.proofs.tries.NodeCounts.{some-pairs}
 use Rattle.rart_nodes.proofs.walks.SeenLemmas.{child-falls, longest-of}
+use Rattle.rart_nodes.proofs.tries.Descents.{child-first}
 
 -- a test for an empty string
 nil-of : (q : List ℕ) → true ≡ (length q == 0) → q ≡ []
@@ -39,22 +39,13 @@ fewer-left b t cs ds e = rw e (omega (arith, some-count t))
 
 -- lengths of keys
 module _ {V : Type 0} where
-  longest-behind : (p : List ℕ) (es : List (List ℕ × V)) → 0 < length es → longest_key (with_prefix p es) ≡ length p + longest_key es
-  longest-behind p [] h = absurd (omega arith)
-  longest-behind p (e ∷ []) h = omega (arith, length-append p e.0)
-  longest-behind p (e ∷ d ∷ es) h = omega (arith, length-append p e.0, longest-behind p (d ∷ es) (omega arith))
-
-  length-behind : (p : List ℕ) (es : List (List ℕ × V)) → length (with_prefix p es) ≡ length es
-  length-behind p [] = refl
-  length-behind p (e ∷ es) = ap suc (length-behind p es)
-
   -- the longest key below a node, without its prefix
   abbrev longest_below : Trie V → ℕ
   longest_below t = longest_key (own_pair (value_of t) ++ children_pairs (children_in t))
 
   longest-rest : (l : List ℕ) (t : Trie V) → is_canonical t ≡ true → longest_key (pairs_of (with_rest l t)) ≡ length l + longest_below t
-  longest-rest l (node p v n cs) c = longest-behind l (own_pair v ++ children_pairs cs)
-      (omega (arith, some-pairs (node p v n cs) (IsCanonical-test (node p v n cs) c), length-behind p (own_pair v ++ children_pairs cs)))
+  longest-rest l (node p v n cs) c = longest_key-behind l (own_pair v ++ children_pairs cs)
+      (omega (arith, some-pairs (node p v n cs) (IsCanonical-test (node p v n cs) c), length-with_prefix p (own_pair v ++ children_pairs cs)))
 
   pub longest-child : (b : ℕ) (t z : Trie V) → child_in b t ≡ Some z → longest_key (pairs_of z) ≤ longest_key (children_pairs (children_in t))
   longest-child b (node p v n cs) z e = longest-of b z cs e
@@ -62,17 +53,9 @@ module _ {V : Type 0} where
   longest-children : (t : Trie V) → longest_key (children_pairs (children_in t)) ≤ longest_below t
   longest-children (node p v n cs) = omega (arith, longest_key-append (own_pair v) (children_pairs cs))
 
-  starts-pick : (z : Bool) (b c : ℕ) (t u : Trie V) (o : Option (Trie V)) → eqb c b ≡ z → StartsWith c (prefix_of u) → (o ≡ Some t → StartsWith b (prefix_of t)) → cond z (Some u) o ≡ Some t → StartsWith b (prefix_of t)
-  starts-pick true b c t u o s h k e = let same : u ≡ t = cc in rw (← same, ← eqb-true c b s) h
-  starts-pick false b c t u o s h k e = k e
-
-  starts-of : (b low : ℕ) (t : Trie V) (cs : Children V) → AreCanonical low cs → child_of b cs ≡ Some t → StartsWith b (prefix_of t)
-  starts-of b low t no_children w e = absurd (cc)
-  starts-of b low t (child c u cs) w e = starts-pick (eqb c b) b c t u (child_of b cs) refl w.1 (λ q. starts-of b (suc c) t cs w.3 q) e
-
   -- a child's prefix begins with its byte
   pub child-starts : (b : ℕ) (t z : Trie V) (q : List ℕ) → is_canonical t ≡ true → child_in b t ≡ Some z → q ≡ prefix_of z → q ≡ b ∷ drop 1 q
-  child-starts b (node p v n cs) z q c e f = starts-cons q (rw f (starts-of b 0 z cs (IsCanonical-test (node p v n cs) c).2 e))
+  child-starts b (node p v n cs) z q c e f = starts-cons q (rw f (child-first b 0 z cs (IsCanonical-test (node p v n cs) c).2 e))
     where
       starts-cons : (q : List ℕ) → StartsWith b q → q ≡ b ∷ drop 1 q
       starts-cons [] s = absurd s

@@ -3,7 +3,7 @@ use Rattle.std.proofs.Common.{◌≡◌, ℕ, suc, ◌+◌, ⊎_elim, true, List
 use Rattle.rart_keys.specs.Joins.{both}
 use Rattle.rart_keys.proofs.ByteOrder.{order, is_less, is_equal, is_greater, eq-yes, eq-no}
 use Rattle.rart_nodes.specs.joins.Lockstep.{lockstep, meet_each, meet_down, meet, meet_child, with_rest}
-use Rattle.rart_nodes.specs.joins.Meetings.{prefix-none, prefix-twice}
+use Rattle.rart_nodes.specs.tries.PrefixLaws.{prefix-none, prefix-twice}
 use Rattle.rart_nodes.specs.joins.SharedEdges.{count_lockstep, visits_each, visits_down, more_visits, visits_child}
 use Rattle.rart_nodes.specs.joins.Twins.{twin_if, twins_right, meet_all, visits_all}
 use Rattle.rart_nodes.specs.tries.CanonicalTest.{is_canonical}

@@ -5,7 +5,8 @@ use Rattle.std.specs.List.{FoldsTo}
 use Rattle.rart_keys.specs.Joins.{both}
 use Rattle.rart_keys.specs.SortedMap.{longest_key, values_of}
 use Rattle.rart_nodes.specs.joins.Lockstep.{meet}
-use Rattle.rart_nodes.specs.joins.Meetings.{AreMeetings, CanBehind, CanGive, CountedOn, most_count, prefix-append, prefix-none}
+use Rattle.rart_nodes.specs.joins.Meetings.{AreMeetings, CanBehind, CanGive, CountedOn, most_count}
+use Rattle.rart_nodes.specs.tries.PrefixLaws.{prefix-append, prefix-none}
 use Rattle.rart_nodes.specs.joins.Ways.{Kept, WayGrown, WayCut, way_mark}
 use Rattle.rart_nodes.specs.joins.SharedEdges.{more_visits}
 use Rattle.rart_nodes.specs.joins.Twins.{IsFork, meet_all, twin_if, twins_right, visits_all}

@@ -1,9 +1,10 @@
 -- Two strings behind the bytes with which both begin.
 use Rattle.std.proofs.Common.{◌≡◌, ℕ, ◌+◌, ◌-◌, ◌≤◌, List, [], ◌∷◌, ◌++◌, length, length-append, take, drop, arith, sym, ap, ◌∙◌}
-use Rattle.std.proofs.lemmas.List.{append_assoc, take-append-drop, length-take-le, length-drop, take_all}
+use Rattle.std.proofs.lemmas.List.{append_assoc, take-append-drop, length-take-le}
 use Rattle.std.proofs.Math.Seq.{take-append_seam}
 use Rattle.rart_keys.specs.CommonPrefix.{IsCommonPrefixLength}
 use Rattle.rart_nodes.specs.joins.Twins.{IsParted}
+use Rattle.rart_nodes.proofs.tries.PrefixedStrings.{slice_from-is}
 
 -- one byte more is taken
 take-more : (l w k : List ℕ) (x n : ℕ) → l ≡ w ++ x ∷ k → length w ≡ n → take (n + 1) l ≡ w ++ x ∷ []
@@ -12,11 +13,8 @@ take-more l w k x n e f =
     let many : n + 1 ≡ length (w ++ x ∷ []) = omega (arith, length-append w (x ∷ [])) in
     ap (λ i. take i l) many ∙ ap (λ z. take (length (w ++ x ∷ [])) z) whole ∙ take-append_seam (w ++ x ∷ []) k
 
-rest-is : (l : List ℕ) (m : ℕ) → take (length l - m) (drop m l) ≡ drop m l
-rest-is l m = take_all (length l - m) (drop m l) (omega (arith, length-drop m l))
-
 pub parted : (l r : List ℕ) (m : ℕ) → IsCommonPrefixLength l r m → IsParted l r (take m l) (take (length l - m) (drop m l)) (take (length r - m) (drop m r))
-parted l r m h = rw (rest-is l m, rest-is r m) (record {
+parted l r m h = rw (slice_from-is l m, slice_from-is r m) (record {
   left_is = left;
   right_is = right;
   apart = λ x y k q i j s.

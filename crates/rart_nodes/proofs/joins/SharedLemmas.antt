@@ -1,6 +1,7 @@
 -- The edges of a walk in lockstep are the shared edges of the keys.
 use Rattle.std.proofs.Common.{◌≡◌, ℕ, ◌==◌, ◌||◌, ◌&&◌, Bool, ⊎_elim, suc, true, false, List, [], ◌∷◌, refl, sym, ap, ◌∙◌, Option, Some, None, is_some, if◌then◌else◌}
 use Rattle.std.specs.List.{filter}
+use Rattle.std.proofs.Math.Bool.{and-false}
 use Rattle.rart_nodes.specs.shapes.BranchPoints.{begins_any}
 use Rattle.rart_keys.specs.ByteStrings.{bytes_eq, IsBelow}
 use Rattle.rart_keys.specs.SortedMap.{AreAbove, IsAscending, lookup, keys_of}
@@ -13,7 +14,7 @@ use Rattle.rart_keys.proofs.SortedMaps.{equal_by_lookups, lookup-first}
 use Rattle.rart_nodes.proofs.tries.FirstBytes.{AllFirst, AllFrom, ascending-append, ascending-with_prefix, all_from-first, all_first-looks}
 use Rattle.rart_nodes.proofs.shapes.ShapeLemmas.{record_is, contains_key-keys_of}
 use Rattle.rart_nodes.proofs.joins.Reach.{reaches, reaches_child}
-use Rattle.rart_nodes.proofs.joins.EdgeLemmas.{edges_in, edges_down, edges, edges_child, and-false, same_above, reach-other, mark, mark-nil, child_mark, Edges, edges-in, lookup-edges, lookup-edges_kid}
+use Rattle.rart_nodes.proofs.joins.EdgeLemmas.{edges_in, edges_down, edges, edges_child, same_above, reach-other, mark, mark-nil, child_mark, Edges, edges-in, lookup-edges, lookup-edges_kid}
 use Rattle.rart_nodes.proofs.joins.StringSets.{set-ascends, lookup-set, contains-filter, contains-all_starts, reach-any}
 
 no-some : {X : Type 0} (x : Option X) (v : X) → is_some x ≡ false → x ≡ Some v → ⊥

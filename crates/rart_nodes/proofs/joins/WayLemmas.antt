@@ -7,7 +7,7 @@ use Rattle.std.specs.Global.{Vec}
 use Rattle.rart_nodes.specs.declared.node.intersect.way.Way.TheVariants.{Untold, Bytes, Segments}
 use Rattle.rart_keys.proofs.ByteOrder.{eq-yes}
 use Rattle.rart_nodes.specs.joins.Ways.{Kept, WayGrown, WayCut, BytesGrown, BytesCut, SegmentsGrown, SegmentsCut, way_mark}
-use Rattle.rart_nodes.specs.joins.Meetings.{joined-append, full-append}
+use Rattle.rart_nodes.specs.walks.PieceLaws.{joined-append, full-append}
 use Rattle.rart_nodes.specs.walks.Tour.{joined}
 use Rattle.rart_nodes.specs.walks.TrailParts.{lent_pieces}
 use Rattle.rart_nodes.specs.walks.ViewPieces.{all_have_bytes}

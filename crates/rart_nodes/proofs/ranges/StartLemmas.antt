@@ -9,19 +9,19 @@ use Rattle.std.proofs.lemmas.List.Elements.{filter-append, filter_agree}
 use Rattle.std.specs.declared.ops.Bound.{Bound}
 use Rattle.rart_keys.specs.ByteStrings.{strip_prefix}
 use Rattle.rart_keys.specs.Ranges.{between, bound_bytes, is_from, is_inclusive, is_since, pairs_since, up_to}
-use Rattle.rart_keys.specs.SortedMap.{IsAscending}
 use Rattle.rart_keys.proofs.ByteOrder.{order, is_less, is_greater, eq-yes, eq-no}
 use Rattle.rart_keys.proofs.RangeLemmas.{cmp-apart, cmp-past, since-bytes, up_to-since}
 use Rattle.rart_nodes.specs.ranges.Starts.{children_above, stops_since}
 use Rattle.rart_nodes.specs.tries.CanonicalTest.{is_canonical}
 use Rattle.rart_nodes.specs.tries.Tree.{tree_pairs, IsCanonicalTree}
 use Rattle.rart_nodes.specs.tries.Trie.{Trie, node, Children, no_children, child, children_in, prefix_of, value_of, child_of, child_in, pairs_of, StartsWith, AreCanonical}
+use Rattle.rart_nodes.specs.walks.PieceLaws.{joined-append}
 use Rattle.rart_nodes.specs.walks.Tour.{Pieces, Grown, Joins, Level, joined, join_all, behind_pieces, value_at, stops_of, children_stops, stops_below, tree_stops}
 use Rattle.rart_nodes.proofs.tries.CanonicalTests.{IsCanonical-test}
 use Rattle.rart_nodes.proofs.tries.FirstBytes.{AllFirst, AllFrom, from_first, pairs_of-first, children_pairs-from}
-use Rattle.rart_nodes.proofs.tries.PairLemmas.{pairs_of-ascend}
+use Rattle.rart_nodes.proofs.tries.PairLemmas.{tree_pairs-ascend}
 use Rattle.rart_nodes.proofs.tries.Descents.{child_of-low}
-use Rattle.rart_nodes.proofs.walks.StopLemmas.{joined-append, joined-stops, joined-children, joined-tree}
+use Rattle.rart_nodes.proofs.walks.StopLemmas.{joined-stops, joined-children, joined-tree}
 use Rattle.rart_nodes.proofs.walks.TourLemmas.{behind-append, behind-none, behind-twice, behind-own}
 
 module _ {V : Type 0} where
@@ -188,10 +188,6 @@ module _ {V : Type 0} where
   pub since-tree : (g : Grown) (h : Bool) (s : List ℕ) (o : Option (Trie V)) → Joins g → join_all (stops_since h s (tree_stops g o)) ≡ pairs_since h s (tree_pairs o)
   since-tree g h s o j = joined-since h s (tree_stops g o) ∙ ap (pairs_since h s) (joined-tree g o j)
 
-  ascends : (o : Option (Trie V)) → IsCanonicalTree o → IsAscending (tree_pairs o)
-  ascends None w = tt
-  ascends (Some t) w = pairs_of-ascend t w
-
   -- up to an end
   pub since-between : (a b : Bound (List ℕ)) (o : Option (Trie V)) → IsCanonicalTree o → up_to b (pairs_since (is_inclusive a) (bound_bytes a) (tree_pairs o)) ≡ between a b (tree_pairs o)
-  since-between a b o w = ap (up_to b) (filter_agree (λ e. is_since (is_inclusive a) (bound_bytes a) e.0) (λ e. is_from a e.0) (λ e. since-bytes a e.0) (tree_pairs o)) ∙ up_to-since a b (tree_pairs o) (ascends o w)
+  since-between a b o w = ap (up_to b) (filter_agree (λ e. is_since (is_inclusive a) (bound_bytes a) e.0) (λ e. is_from a e.0) (λ e. since-bytes a e.0) (tree_pairs o)) ∙ up_to-since a b (tree_pairs o) (tree_pairs-ascend o w)

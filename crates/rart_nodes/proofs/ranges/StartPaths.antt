@@ -8,7 +8,7 @@ use Rattle.rart_nodes.specs.tries.CanonicalTest.{is_canonical}
 use Rattle.rart_nodes.specs.tries.Trie.{Trie, node, Children, no_children, child, children_in, children_pairs, pairs_of, prefix_of, child_of, child_in, AreCanonical}
 use Rattle.rart_nodes.specs.tries.TrieCode.{as_children}
 use Rattle.rart_nodes.specs.walks.Tour.{Pieces, Grown, IsShort, Level, IsTour, behind_pieces, children_stops, stops_below}
-use Rattle.rart_nodes.proofs.tries.CanonicalTests.{IsCanonical-test, longest_key-append}
+use Rattle.rart_nodes.proofs.tries.CanonicalTests.{IsCanonical-test, longest_key-append, canonical-lower}
 use Rattle.rart_nodes.proofs.walks.PartLemmas.{child-deep}
 use Rattle.rart_nodes.proofs.walks.SeenLemmas.{child-canonical, longest-of, pick}
 use Rattle.rart_nodes.proofs.walks.TourLemmas.{below-canonical, deepest, deeper, longest-below, starts-long, stops_below-same}
@@ -22,15 +22,11 @@ as_children-above b (e ∷ es) = elim (ltb b e.0) as (λ z. as_children (cond z 
 ]
 
 module _ {V : Type 0} where
-  weaker : (low more : ℕ) (cs : Children V) → low ≤ more → AreCanonical more cs → AreCanonical low cs
-  weaker low more no_children h w = tt
-  weaker low more (child c t cs) h w = (omega (arith, w.0), w.1, w.2, w.3)
-
   pub above-canonical : (b low : ℕ) (cs : Children V) → AreCanonical low cs → AreCanonical low (children_above b cs)
   above-canonical b low no_children w = tt
   above-canonical b low (child c t cs) w = elim (ltb b c) as (λ z. AreCanonical low (cond z (child c t (children_above b cs)) (children_above b cs))) [
     | true ↦ (w.0, w.1, w.2, above-canonical b (suc c) cs w.3)
-    | false ↦ weaker low (suc c) (children_above b cs) (omega (arith, w.0)) (above-canonical b (suc c) cs w.3)
+    | false ↦ canonical-lower low (suc c) (children_above b cs) (omega (arith, w.0)) (above-canonical b (suc c) cs w.3)
   ]
 
   above-short : (b : ℕ) (cs : Children V) → longest_key (children_pairs (children_above b cs)) ≤ longest_key (children_pairs cs)

@@ -1,6 +1,6 @@
 -- The nodes of a canonical tree are the shape of its keys.
-use Rattle.std.proofs.Common.{◌≡◌, ℕ, ◌<◌, ◌≤◌, ◌==◌, ◌||◌, ◌⊎◌, inl, inr, ⊎_elim, suc, Bool, true, false, List, [], ◌∷◌, ◌++◌, length, refl, sym, ap, ◌∙◌, arith, Option, Some, None, is_some, if◌then◌else◌}
-use Rattle.std.proofs.lemmas.List.{map-append, append-nil}
+use Rattle.std.proofs.Common.{◌≡◌, ℕ, ◌<◌, ◌≤◌, ◌==◌, ◌||◌, ◌⊎◌, inl, inr, ⊎_elim, suc, Bool, true, false, List, [], ◌∷◌, ◌++◌, length, refl, sym, ap, ◌∙◌, arith, Option, Some, None, is_some, if◌then◌else◌, Less, Equal, Greater}
+use Rattle.std.proofs.lemmas.List.{map-append}
 use Rattle.std.proofs.lemmas.List.Elements.{filter_map-append}
 use Rattle.std.specs.List.{filter_map}
 use Rattle.std.specs.Prelude.{nat_le}
@@ -8,12 +8,15 @@ use Rattle.std.proofs.lemmas.Bool.Decides.{nat_tests}
 use Rattle.rart_keys.specs.ByteStrings.{bytes_eq, strip_prefix, byte_after}
 use Rattle.rart_keys.specs.SortedMap.{lookup, keys_of}
 use Rattle.rart_nodes.specs.shapes.Shape.{with_first, without_repeats, next_bytes, contains_key, capacity_of, NodeRecord, record_from, record_at, HasShape}
-use Rattle.rart_nodes.specs.tries.Trie.{Trie, node, Children, no_children, child, answer_behind, trie_lookup, child_lookup, pairs_of, children_pairs, edges_of, own_pair, with_prefix, nodes_of, with_records, children_with_records, prefix_of, IsCanonical, AreCanonical}
-use Rattle.rart_keys.proofs.ByteOrder.{order, is_less, is_equal, is_greater, eq-yes, eq-no, equal_or_not}
+use Rattle.rart_nodes.specs.tries.Trie.{Trie, node, Children, no_children, child, trie_lookup, child_lookup, pairs_of, children_pairs, edges_of, own_pair, with_prefix, nodes_of, with_records, children_with_records, prefix_of, IsCanonical, AreCanonical, Descent, behind, child_of, descend, descend_child, looks_up, record_of}
+use Rattle.rart_keys.proofs.ByteOrder.{eq-yes, eq-no, equal_or_not}
 use Rattle.rart_keys.proofs.SortedMaps.{equal_by_lookups}
-use Rattle.rart_nodes.proofs.tries.FirstBytes.{AllFirst, AllFrom, pairs_of-first, children_pairs-from}
+use Rattle.rart_nodes.proofs.tries.FirstBytes.{AllFirst, pairs_of-first}
 use Rattle.rart_nodes.proofs.tries.PairLemmas.{pairs_of-ascend, lookup-pairs_of}
 use Rattle.rart_nodes.proofs.tries.NodeCounts.{few_nodes, two-edges}
+use Rattle.std.specs.Ordering.{nat_cmp, match_ordering}
+use Rattle.rart_nodes.specs.tries.Tree.{tree_lookup, tree_pairs}
+use Rattle.rart_nodes.proofs.tries.Descents.{Keeps, by_byte, children-by, descend-child_of, descend-ended, descend-followed, descend-left, descends}
 
 -- the marked tree is canonical
 edges_of-with_records : {V : Type 0} (cs : Children V) → edges_of (children_with_records cs) ≡ edges_of cs
@@ -78,16 +81,11 @@ record-lone o [] h = refl
 record-lone o (b ∷ []) h = refl
 record-lone o (b ∷ c ∷ bs) h = absurd h
 
--- keys that begin with another byte, or a greater one
-steps-other : {V : Type 0} (b c : ℕ) (r : List ℕ) (es : List (List ℕ × V)) → AllFirst b es → (b ≡ c → ⊥) → steps (c ∷ r) es ≡ []
-steps-other b c r [] f z = refl
-steps-other b c r (([], v) ∷ es) f z = absurd f.0
-steps-other b c r ((x ∷ k, v) ∷ es) f z = rw (eq-no x c (λ e. z (sym f.0 ∙ e))) (steps-other b c r es f.1 z)
-
-steps-from : {V : Type 0} (low c : ℕ) (r : List ℕ) (es : List (List ℕ × V)) → AllFrom low es → c < low → steps (c ∷ r) es ≡ []
-steps-from low c r [] f z = refl
-steps-from low c r (([], v) ∷ es) f z = absurd f.0
-steps-from low c r ((x ∷ k, v) ∷ es) f z = rw (eq-no x c (λ e. omega (arith, f.0))) (steps-from low c r es f.1 z)
+-- those of the keys that begin with a byte
+steps-by : {V : Type 0} (c : ℕ) (r : List ℕ) (es : List (List ℕ × V)) → steps (c ∷ r) es ≡ steps (c ∷ r) (by_byte c es)
+steps-by c r [] = refl
+steps-by c r (([], v) ∷ es) = steps-by c r es
+steps-by c r ((x ∷ k, v) ∷ es) = ⊎_elim (λ e. rw (eq-yes x c e) (rw (eq-yes x c e, steps-by c r es) refl)) (λ n. rw (eq-no x c n) (steps-by c r es)) (equal_or_not x c)
 
 steps-own_pair : {V : Type 0} (p : List ℕ) (v : Option V) (es : List (List ℕ × V)) → steps p (own_pair v ++ es) ≡ steps p es
 steps-own_pair p None es = refl
@@ -122,29 +120,52 @@ record-node : (h : Bool) (bs : List ℕ) (n : ℕ) → (h ≡ true) ⊎ (2 ≤ l
 record-node true bs n c e = ap (λ z. Some (record { holds_value = true; edges = bs; capacity = z })) e
 record-node false bs n c e = ⊎_elim (λ h. cc) (λ h. rw (two_is (length bs) h) (ap (λ z. Some (record { holds_value = false; edges = bs; capacity = z })) e)) c
 
--- a record in the marked tree is that of the keys
-mutual
-  trie_lookup-with_records : {V : Type 0} (p : List ℕ) (t : Trie V) → IsCanonical t → trie_lookup p (with_records t) ≡ record_from (is_some (trie_lookup p t)) (without_repeats (steps p (pairs_of t)))
-  trie_lookup-with_records p (node q v n cs) w = elim (strip_prefix q p) as (λ o. strip_prefix q p ≡ o → answer_behind o (Some (record { holds_value = is_some v; edges = edges_of cs; capacity = n })) (λ b r. child_lookup b r (children_with_records cs)) ≡
-      record_from (is_some (answer_behind o v (λ b r. child_lookup b r cs))) (without_repeats (steps p (with_prefix q (own_pair v ++ children_pairs cs))))) [
-        | None ↦ λ s. sym (record-lone (byte_after p q) (without_repeats (steps p (with_prefix q (own_pair v ++ children_pairs cs)))) (steps-apart q p (own_pair v ++ children_pairs cs) (byte_after p q) s refl))
-        | Some r ↦ λ s. rw (steps-with_prefix q p r (own_pair v ++ children_pairs cs) s, steps-own_pair r v (children_pairs cs))
-            (elim r as (λ r. answer_behind (Some r) (Some (record { holds_value = is_some v; edges = edges_of cs; capacity = n })) (λ b r. child_lookup b r (children_with_records cs)) ≡ record_from (is_some (answer_behind (Some r) v (λ b r. child_lookup b r cs))) (without_repeats (steps r (children_pairs cs)))) [
-              | [] ↦ rw (without_repeats-children 0 cs w.2) (record-node (is_some v) (edges_of cs) n (⊎_elim (λ h. inl h) (λ h. inr (two-edges cs h)) w.0) w.1)
-              | c ∷ r ↦ trie_lookup-children_with_records c r 0 cs w.2
-            ])
-      ] refl
+-- the record of the node at which a key ends
+abbrev pub records : {V : Type 0} → Descent V (Option NodeRecord)
+records = record { left = λ k t. None; ended = λ t. Some (record_of t); absent = None; on = λ t r. r }
 
-  trie_lookup-children_with_records : {V : Type 0} (c : ℕ) (r : List ℕ) (low : ℕ) (cs : Children V) → AreCanonical low cs → child_lookup c (c ∷ r) (children_with_records cs) ≡ record_from (is_some (child_lookup c (c ∷ r) cs)) (without_repeats (steps (c ∷ r) (children_pairs cs)))
-  trie_lookup-children_with_records c r low no_children w = refl
-  trie_lookup-children_with_records c r low (child b t cs) w = rw (steps-append (c ∷ r) (pairs_of t) (children_pairs cs))
-      (⊎_elim (λ h. rw (is_less c b h, steps-other b c r (pairs_of t) (pairs_of-first b t w.1) (λ e. omega arith), steps-from (suc b) c r (children_pairs cs) (children_pairs-from (suc b) cs w.3) (omega arith)) refl)
-      (⊎_elim (λ h. rw (is_equal c b h, steps-from (suc b) c r (children_pairs cs) (children_pairs-from (suc b) cs w.3) (omega arith), append-nil (steps (c ∷ r) (pairs_of t))) (trie_lookup-with_records (c ∷ r) t w.2))
-      (λ h. rw (is_greater c b h, steps-other b c r (pairs_of t) (pairs_of-first b t w.1) (λ e. omega arith)) (trie_lookup-children_with_records c r (suc b) cs w.3))) (order c b))
+-- it is what the marked tree holds
+mutual
+  pub lookup-records : {V : Type 0} (k : List ℕ) (t : Trie V) → trie_lookup k (with_records t) ≡ descend records k t
+  lookup-records k (node p v n cs) = elim (strip_prefix p k) as (λ o. behind None (Some (record_of (node p v n cs))) (λ x. x) o (λ b r. child_lookup b r (children_with_records cs)) ≡ behind None (Some (record_of (node p v n cs))) (λ x. x) o (λ b r. descend_child records b r cs)) [
+    | None ↦ refl
+    | Some r ↦ elim r as (λ r. behind None (Some (record_of (node p v n cs))) (λ x. x) (Some r) (λ b r. child_lookup b r (children_with_records cs)) ≡ behind None (Some (record_of (node p v n cs))) (λ x. x) (Some r) (λ b r. descend_child records b r cs)) [ [] ↦ refl | b ∷ r ↦ lookup-child_records b (b ∷ r) cs ]
+  ]
+
+  lookup-child_records : {V : Type 0} (b : ℕ) (k : List ℕ) (cs : Children V) → child_lookup b k (children_with_records cs) ≡ descend_child records b k cs
+  lookup-child_records b k no_children = refl
+  lookup-child_records b k (child c t cs) = elim (nat_cmp b c) as (λ o. match_ordering o None (trie_lookup k (with_records t)) (child_lookup b k (children_with_records cs)) ≡ match_ordering o None (descend records k t) (descend_child records b k cs)) [
+    | Less ↦ refl
+    | Equal ↦ lookup-records k t
+    | Greater ↦ lookup-child_records b k cs
+  ]
 
 module _ {V : Type 0} where
+  -- and that of the keys
+  abbrev record_in : List ℕ → Option (Trie V) → Option NodeRecord
+  record_in p o = record_from (is_some (tree_lookup p o)) (without_repeats (steps p (tree_pairs o)))
+
+  records-kept : Keeps {V = V} records (λ p o a. a ≡ record_in p o)
+  records-kept = record {
+    absent = λ p. refl;
+    left = λ p q v n cs w s. sym (ap (λ o. record_from (is_some o) (without_repeats (steps p (with_prefix q (own_pair v ++ children_pairs cs))))) (descend-left looks_up (node q v n cs) p (sym s))
+        ∙ record-lone (byte_after p q) (without_repeats (steps p (with_prefix q (own_pair v ++ children_pairs cs)))) (steps-apart q p (own_pair v ++ children_pairs cs) (byte_after p q) s refl));
+    ended = λ p q v n cs w s. record-node (is_some v) (edges_of cs) n (⊎_elim (λ h. inl h) (λ h. inr (two-edges cs h)) w.0) w.1
+        ∙ sym (ap (λ o. record_from (is_some o) (without_repeats (steps p (with_prefix q (own_pair v ++ children_pairs cs))))) (descend-ended looks_up (node q v n cs) p [] (sym s) refl)
+        ∙ ap (λ bs. record_from (is_some v) (without_repeats bs)) (steps-with_prefix q p [] (own_pair v ++ children_pairs cs) s ∙ steps-own_pair [] v (children_pairs cs))
+        ∙ ap (record_from (is_some v)) (without_repeats-children 0 cs w.2));
+    on = λ p q v n cs b r a w s h. h
+        ∙ sym (ap (λ o. record_from (is_some o) (without_repeats (steps p (with_prefix q (own_pair v ++ children_pairs cs))))) (descend-followed looks_up q p (b ∷ r) b v n cs (sym s) refl ∙ descend-child_of looks_up b 0 (b ∷ r) cs w.2)
+        ∙ ap (λ bs. record_from (is_some (tree_lookup (b ∷ r) (child_of b cs))) (without_repeats bs))
+        (steps-with_prefix q p (b ∷ r) (own_pair v ++ children_pairs cs) s ∙ steps-own_pair (b ∷ r) v (children_pairs cs) ∙ steps-by b r (children_pairs cs) ∙ ap (steps (b ∷ r)) (children-by b 0 cs w.2)));
+  }
+
+  pub records-at : (p : List ℕ) (t : Trie V) → IsCanonical t → descend records p t ≡ record_at (keys_of (pairs_of t)) p
+  records-at p t w = descends records (λ p o a. a ≡ record_in p o) records-kept p (Some t) w
+      ∙ ap (λ h. record_from h (next_bytes (keys_of (pairs_of t)) p)) (sym (contains_key-keys_of p (pairs_of t) ∙ ap is_some (lookup-pairs_of p t w)))
+
   pub record_is : (p : List ℕ) (t : Trie V) → IsCanonical t → trie_lookup p (with_records t) ≡ record_at (keys_of (pairs_of t)) p
-  record_is p t w = trie_lookup-with_records p t w ∙ ap (λ h. record_from h (next_bytes (keys_of (pairs_of t)) p)) (sym (contains_key-keys_of p (pairs_of t) ∙ ap is_some (lookup-pairs_of p t w)))
+  record_is p t w = lookup-records p t ∙ records-at p t w
 
   pub nodes_of-shape : (t : Trie V) → IsCanonical t → HasShape (keys_of (pairs_of t)) (nodes_of t)
   nodes_of-shape t w = let z = canonical-with_records t w in record {

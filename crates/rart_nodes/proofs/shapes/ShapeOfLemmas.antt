@@ -6,6 +6,7 @@ use Rattle.std.specs.List.{filter_map}
 use Rattle.std.proofs.Math.Seq.{take-suc, take-length}
 use Rattle.std.proofs.lemmas.List.{map-append}
 use Rattle.std.proofs.lemmas.List.Folds.{list_any-append}
+use Rattle.std.proofs.Math.Bool.{or-false, or_assoc}
 use Rattle.rart_keys.specs.ByteStrings.{bytes_eq, begins, byte_after}
 use Rattle.rart_keys.specs.SortedMap.{IsAscending, lookup, put}
 use Rattle.rart_keys.proofs.ByteOrder.{eq-yes, eq-no, equal_or_not, bytes_eq-equal}
@@ -25,14 +26,6 @@ is_short zero p k = false
 is_short (suc n) [] k = true
 is_short (suc n) (x ∷ p) [] = false
 is_short (suc n) (x ∷ p) (y ∷ k) = if x == y then is_short n p k else false
-
-or-false : (a : Bool) → (a || false) ≡ a
-or-false true = refl
-or-false false = refl
-
-or-assoc : (a b c : Bool) → ((a || b) || c) ≡ (a || (b || c))
-or-assoc true b c = refl
-or-assoc false b c = refl
 
 short-more : (n : ℕ) (p k : List ℕ) → n ≤ length k → is_short (suc n) p k ≡ (is_short n p k || bytes_eq (take n k) p)
 short-more zero [] k h = refl
@@ -111,7 +104,7 @@ covers-put s seen q r rs n c = record {
 }
 
 one-length : (d : List (List ℕ)) (k : List ℕ) (n : ℕ) → n ≤ length k → (p : List ℕ) → ((begins_any p d || is_short n p k) || bytes_eq (take n k) p) ≡ (begins_any p d || is_short (suc n) p k)
-one-length d k n h p = or-assoc (begins_any p d) (is_short n p k) (bytes_eq (take n k) p) ∙ ap (λ b. begins_any p d || b) (sym (short-more n p k h))
+one-length d k n h p = or_assoc (begins_any p d) (is_short n p k) (bytes_eq (take n k) p) ∙ ap (λ b. begins_any p d || b) (sym (short-more n p k h))
 
 covers-found : (s : List (List ℕ)) (seen : List ℕ → Bool) (q : List ℕ) (rs : List (List ℕ × NodeRecord)) (o : Option NodeRecord) → record_at s q ≡ o → Covers s seen rs → Covers s (λ p. seen p || bytes_eq q p) (put_some q o rs)
 covers-found s seen q rs None e c = covers-skip s seen q rs e c

@@ -4,6 +4,7 @@ use Rattle.std.specs.Prelude.{max}
 use Rattle.std.proofs.Common.{length-append}
 use Rattle.rart_keys.specs.SortedMap.{keys_of}
 use Rattle.rart_nodes.specs.shapes.Shape.{NodeRecord, record_at}
+use Rattle.rart_nodes.specs.tries.PrefixLaws.{prefix-none}
 use Rattle.rart_nodes.specs.tries.Trie.{Trie, node, Children, no_children, child, trie_lookup, child_lookup, pairs_of, children_pairs, edges_of, own_pair, with_prefix, nodes_of, with_records, children_with_records, HasTwoChildren, IsCanonical, AreCanonical}
 use Rattle.rart_nodes.specs.statistics.Statistics.{sum_over, one_if_some, records_along, most_along, height, statistics_of, sum_in, sum_in_children, trie_height, children_height, trie_statistics}
 use Rattle.rart_keys.proofs.ByteOrder.{is_equal, is_greater, eq-yes}
@@ -66,10 +67,6 @@ module _ {V : Type 0} where
   most-from f g low (([], v) ∷ es) a h i = absurd a.0
   most-from f g low ((x ∷ k, v) ∷ es) a h i = rw (h, same-along (λ z. f (x ∷ z)) (λ z. g (x ∷ z)) k (λ z. i x z a.0), most-from f g low es a.1 h i) refl
 
-  with_prefix-nil : (es : List (List ℕ × V)) → with_prefix [] es ≡ es
-  with_prefix-nil [] = refl
-  with_prefix-nil (e ∷ es) = rw (with_prefix-nil es) refl
-
   -- one more record, at the empty string
   most-top : (f g : List ℕ → Option NodeRecord) (r : NodeRecord) (es : List (List ℕ × V)) → AllFrom 0 es → f [] ≡ Some r → g [] ≡ None → ((x : ℕ) (z : List ℕ) → f (x ∷ z) ≡ g (x ∷ z)) → 0 < length es → most f es ≡ 1 + most g es
   most-top f g r [] a h i j l = absurd (omega arith)
@@ -87,8 +84,8 @@ module _ {V : Type 0} where
   most-node : (p : List ℕ) (v : Option V) (n : ℕ) (cs : Children V) → IsCanonical (node p v n cs) → most (λ z. record_below (children_with_records cs) z) (children_pairs cs) ≡ children_height cs →
       most (λ z. trie_lookup z (with_records (node p v n cs))) (pairs_of (node p v n cs)) ≡ 1 + children_height cs
   most-node [] (Some v) n no_children w ih = omega arith
-  most-node [] (Some v) n (child b t cs) w ih = rw (with_prefix-nil (children_pairs (child b t cs)), most-top (λ z. trie_lookup z (with_records (node [] (Some v) n (child b t cs)))) (λ z. record_below (children_with_records (child b t cs)) z) (own_record (Some v) (child b t cs) n) (children_pairs (child b t cs)) (children_pairs-from 0 (child b t cs) w.2) refl refl (λ x z. refl) (simp length-append (omega (arith, some-pairs t w.2.2)))) (omega (arith, ih))
-  most-node [] None n cs w ih = rw (with_prefix-nil (children_pairs cs), most-top (λ z. trie_lookup z (with_records (node [] None n cs))) (λ z. record_below (children_with_records cs) z) (own_record None cs n) (children_pairs cs) (children_pairs-from 0 cs w.2) refl refl (λ x z. refl) (⊎_elim (λ h. cc) (λ h. some-children_pairs 0 cs h w.2) w.0)) (omega (arith, ih))
+  most-node [] (Some v) n (child b t cs) w ih = rw (prefix-none (children_pairs (child b t cs)), most-top (λ z. trie_lookup z (with_records (node [] (Some v) n (child b t cs)))) (λ z. record_below (children_with_records (child b t cs)) z) (own_record (Some v) (child b t cs) n) (children_pairs (child b t cs)) (children_pairs-from 0 (child b t cs) w.2) refl refl (λ x z. refl) (simp length-append (omega (arith, some-pairs t w.2.2)))) (omega (arith, ih))
+  most-node [] None n cs w ih = rw (prefix-none (children_pairs cs), most-top (λ z. trie_lookup z (with_records (node [] None n cs))) (λ z. record_below (children_with_records cs) z) (own_record None cs n) (children_pairs cs) (children_pairs-from 0 cs w.2) refl refl (λ x z. refl) (⊎_elim (λ h. cc) (λ h. some-children_pairs 0 cs h w.2) w.0)) (omega (arith, ih))
   most-node (x ∷ p) v n cs w ih = most-with_prefix (λ z. trie_lookup z (with_records (node (x ∷ p) v n cs))) x p (own_pair v ++ children_pairs cs) refl ∙
       same-most (λ z. trie_lookup (x ∷ z) (longer x (with_records (node p v n cs)))) (λ z. trie_lookup z (with_records (node p v n cs))) (keys_of (with_prefix p (own_pair v ++ children_pairs cs))) (λ z. trie_lookup-longer x x z (with_records (node p v n cs)) ∙ rw (eq-yes x x refl) refl) ∙ most-node p v n cs w ih
 

@@ -10,7 +10,7 @@ use Rattle.rart_nodes.specs.tries.TrieCode.{as_children, node_count, child_count
 lt-yes : (b c : ℕ) → b < c → ltb b c ≡ true
 lt-yes b c h = grind (arith, nat_tests)
 
-lt-no : (b c : ℕ) → c ≤ b → ltb b c ≡ false
+pub lt-no : (b c : ℕ) → c ≤ b → ltb b c ≡ false
 lt-no b c h = grind (arith, nat_tests)
 
 module _ {V : Type 0} where

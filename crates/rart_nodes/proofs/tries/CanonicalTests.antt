@@ -1,5 +1,5 @@
 -- The test of canonical form says what the word says, and what a tree keeps of it below a child.
-use Rattle.std.proofs.Common.{◌≡◌, ℕ, ◌≤◌, ◌==◌, ◌&&◌, ◌||◌, ◌⊎◌, inl, inr, ⊎_elim, nat_le, suc, max, Bool, true, false, List, [], ◌∷◌, ◌++◌, length, length-append, Option, Some, None, IsSome, is_some, refl, arith, Less, Equal, Greater}
+use Rattle.std.proofs.Common.{◌≡◌, ℕ, ◌≤◌, ◌+◌, ◌==◌, ◌&&◌, ◌||◌, ◌⊎◌, inl, inr, ⊎_elim, nat_le, suc, max, Bool, true, false, List, [], ◌∷◌, ◌++◌, length, length-append, Option, Some, None, IsSome, is_some, refl, arith, Less, Equal, Greater, ◌<◌}
 use Rattle.std.specs.Cmp.Lexicographic.{slice_cmp}
 use Rattle.std.specs.Ordering.{nat_cmp, match_ordering}
 use Rattle.std.proofs.lemmas.Bool.Decides.{nat_tests}
@@ -26,7 +26,7 @@ true-eq b c h = grind (arith, nat_tests)
 le-true : (b c : ℕ) → nat_le b c ≡ true → b ≤ c
 le-true b c h = grind (arith, nat_tests)
 
-true-le : (b c : ℕ) → b ≤ c → nat_le b c ≡ true
+pub true-le : (b c : ℕ) → b ≤ c → nat_le b c ≡ true
 true-le b c h = grind (arith, nat_tests)
 
 StartsWith-test : (b : ℕ) (xs : List ℕ) → starts_with_byte b xs ≡ true → StartsWith b xs
@@ -90,10 +90,20 @@ module _ {V : Type 0} where
   test-IsCanonicalTree None w = refl
   test-IsCanonicalTree (Some t) w = test-IsCanonical t w
 
+  -- children in order from a byte on are so from a lower one
+  pub canonical-lower : (low high : ℕ) (cs : Children V) → low ≤ high → AreCanonical high cs → AreCanonical low cs
+  canonical-lower low high no_children l w = tt
+  canonical-lower low high (child b t cs) l w = (omega (arith, w.0), w.1, w.2, w.3)
+
   -- the longest key
   pub longest_key-append : (xs ys : List (List ℕ × V)) → longest_key (xs ++ ys) ≡ max (longest_key xs) (longest_key ys)
   longest_key-append [] ys = omega arith
   longest_key-append (x ∷ xs) ys = omega (arith, longest_key-append xs ys)
+
+  pub longest_key-behind : (p : List ℕ) (es : List (List ℕ × V)) → 0 < length es → longest_key (with_prefix p es) ≡ length p + longest_key es
+  longest_key-behind p [] h = absurd (omega arith)
+  longest_key-behind p (e ∷ []) h = omega (arith, length-append p e.0)
+  longest_key-behind p (e ∷ d ∷ es) h = omega (arith, length-append p e.0, longest_key-behind p (d ∷ es) (omega arith))
 
   pub longest_key-with_prefix : (p : List ℕ) (es : List (List ℕ × V)) → longest_key es ≤ longest_key (with_prefix p es)
   longest_key-with_prefix p [] = omega arith

@@ -9,7 +9,7 @@ use Rattle.rart_keys.proofs.ByteOrder.{order, is_less, is_equal, is_greater, eq-
 use Rattle.rart_parts.specs.Entries.{child_at}
 use Rattle.rart_nodes.specs.tries.CanonicalTest.{is_canonical, starts_with_byte}
 use Rattle.rart_nodes.specs.tries.Tree.{tree_pairs, IsCanonicalTree}
-use Rattle.rart_nodes.specs.tries.Trie.{Trie, node, Children, no_children, child, children_pairs, pairs_of, prefix_of, child_of, child_in, Descent, behind, descend, descend_child, descend_tree, IsCanonical, AreCanonical}
+use Rattle.rart_nodes.specs.tries.Trie.{Trie, node, Children, no_children, child, children_pairs, pairs_of, prefix_of, StartsWith, child_of, child_in, Descent, behind, descend, descend_child, descend_tree, IsCanonical, AreCanonical}
 use Rattle.rart_nodes.specs.tries.TrieCode.{as_children}
 use Rattle.rart_nodes.proofs.storages.ChildLemmas.{tail-none}
 use Rattle.rart_nodes.proofs.tries.CanonicalTests.{IsCanonical-test}
@@ -24,6 +24,13 @@ module _ {V : Type 0} where
   pub child_of-low : (b low : ℕ) (cs : Children V) → b < low → AreCanonical low cs → child_of b cs ≡ None
   child_of-low b low no_children h w = refl
   child_of-low b low (child c t cs) h w = rw (eq-no c b (λ q. omega (arith, w.0))) (child_of-low b (suc c) cs (omega (arith, w.0)) w.3)
+
+  -- the child at a byte begins with it
+  pub child-first : (b low : ℕ) (t : Trie V) (cs : Children V) → AreCanonical low cs → child_of b cs ≡ Some t → StartsWith b (prefix_of t)
+  child-first b low t no_children w e = absurd (cc)
+  child-first b low t (child c u cs) w e = ⊎_elim
+      (λ q. let s : Some u ≡ Some t = sym (ap (λ z. cond z (Some u) (child_of b cs)) (eq-yes c b q)) ∙ e in let same : u ≡ t = cc in rw (← same, ← q) w.1)
+      (λ n. child-first b _ t cs w.3 (sym (ap (λ z. cond z (Some u) (child_of b cs)) (eq-no c b n)) ∙ e)) (equal_or_not c b)
 
   -- the pairs whose key begins with b
   abbrev pub by_byte : ℕ → List (List ℕ × V) → List (List ℕ × V)
@@ -61,7 +68,7 @@ module _ {V : Type 0} where
   children-filter h b cs w n = filter-by h b 0 (children_pairs cs) (children_pairs-from 0 cs w) n ∙ ap (filter h) (children-by b 0 cs w)
 
 module _ {V A : Type 0} where
-  descend-child_of : (d : Descent V A) (b low : ℕ) (k : List ℕ) (cs : Children V) → AreCanonical low cs → descend_child d b k cs ≡ descend_tree d k (child_of b cs)
+  pub descend-child_of : (d : Descent V A) (b low : ℕ) (k : List ℕ) (cs : Children V) → AreCanonical low cs → descend_child d b k cs ≡ descend_tree d k (child_of b cs)
   descend-child_of d b low k no_children w = refl
   descend-child_of d b low k (child c t cs) w = ⊎_elim
       (λ h. rw (is_less b c h, eq-no c b (λ q. omega arith), child_of-low b (suc c) cs (omega arith) w.3) refl)

@@ -4,7 +4,7 @@ use Rattle.rart_keys.specs.ByteStrings.{bytes_eq, strip_prefix}
 use Rattle.rart_keys.specs.SortedMap.{lookup, IsAscending}
 use Rattle.rart_nodes.specs.tries.Trie.{Trie, node, Children, no_children, child, looks_up, trie_lookup, child_lookup, pairs_of, children_pairs, with_prefix, own_pair, prefix_of, StartsWith, IsCanonical, AreCanonical}
 use Rattle.rart_keys.proofs.ByteOrder.{is_less, eq-yes, eq-no, equal_or_not}
-use Rattle.rart_nodes.specs.tries.Tree.{tree_pairs}
+use Rattle.rart_nodes.specs.tries.Tree.{tree_pairs, IsCanonicalTree}
 use Rattle.rart_nodes.proofs.tries.Descents.{Keeps, by_byte, children-by, descends}
 use Rattle.rart_nodes.proofs.tries.FirstBytes.{ascending-append, ascending-with_prefix, pairs_of-first, children_pairs-from, nil-above, AllFrom}
 
@@ -19,6 +19,10 @@ mutual
   children-ascend : {V : Type 0} (low : ℕ) (cs : Children V) → AreCanonical low cs → IsAscending (children_pairs cs)
   children-ascend low no_children w = tt
   children-ascend low (child b t cs) w = ascending-append b (pairs_of t) (children_pairs cs) (pairs_of-first b t w.1) (children_pairs-from (suc b) cs w.3) (pairs_of-ascend t w.2) (children-ascend (suc b) cs w.3)
+
+pub tree_pairs-ascend : {V : Type 0} (o : Option (Trie V)) → IsCanonicalTree o → IsAscending (tree_pairs o)
+tree_pairs-ascend None w = tt
+tree_pairs-ascend (Some t) w = pairs_of-ascend t w
 
 abbrev pub or_else : {V : Type 0} → Option V → Option V → Option V
 or_else None y = y

@@ -1,49 +1,24 @@
 -- What is left of a key behind a prefix, as code finds it, and what the functions on tries do with it.
-use Rattle.std.proofs.Common.{◌≡◌, ℕ, suc, ◌-◌, ◌<◌, ◌≤◌, ◌==◌, Bool, true, false, cond, List, [], ◌∷◌, length, take, drop, nat_eq, Option, Some, None, refl, arith, sym, ap, ◌∙◌}
-use Rattle.std.specs.Prelude.{nat_le, slice_get}
+use Rattle.std.proofs.Common.{◌≡◌, ℕ, suc, ◌+◌, ◌<◌, ◌≤◌, ◌==◌, Bool, true, false, cond, List, [], ◌∷◌, length, nat_eq, Option, Some, None, refl, arith, sym, ap, ◌∙◌}
+use Rattle.std.specs.Prelude.{slice_get}
 use Rattle.std.specs.List.{common_prefix_len}
-use Rattle.std.proofs.lemmas.Bool.Decides.{nat_tests}
-use Rattle.std.proofs.lemmas.Grind.{common_steps}
-use Rattle.std.proofs.lemmas.List.{length-drop}
 use Rattle.rart_keys.specs.ByteStrings.{strip_prefix}
 use Rattle.rart_parts.specs.Entries.{child_at}
 use Rattle.rart_nodes.specs.tries.Trie.{Trie, node, Children, overlap, grown_overlap, IsCanonical, looks_up, trie_lookup, child_lookup, trie_put, put_child, put_overlap, put_split, fitting_node}
 use Rattle.rart_nodes.specs.tries.TrieCode.{as_children}
 use Rattle.rart_nodes.proofs.tries.Descents.{descend-left, descend-ended, descend-followed, descend-at, descend-absent}
 
--- the prefix doesn't begin the key
-pub strip_prefix-short : (p k : List ℕ) (n : ℕ) → n ≡ common_prefix_len nat_eq p k → n < length p → None ≡ strip_prefix p k
-strip_prefix-short [] k n e h = absurd (omega arith)
-strip_prefix-short (x ∷ p) [] n e h = refl
-strip_prefix-short (x ∷ p) (y ∷ k) n e h = grind (arith, strip_prefix-short p k (common_prefix_len nat_eq p k) refl)
-
-common_prefix_len-within : (p k : List ℕ) → common_prefix_len nat_eq p k ≤ length p
-common_prefix_len-within [] k = omega arith
-common_prefix_len-within (x ∷ p) [] = omega arith
-common_prefix_len-within (x ∷ p) (y ∷ k) = grind (arith, common_prefix_len-within p k)
-
-strip_prefix-common : (p k : List ℕ) → length p ≤ common_prefix_len nat_eq p k → Some (drop (length p) k) ≡ strip_prefix p k
-strip_prefix-common [] k h = refl
-strip_prefix-common (x ∷ p) [] h = absurd (omega arith)
-strip_prefix-common (x ∷ p) (y ∷ k) h = grind (arith, strip_prefix-common p k)
-
-slice_from : (k : List ℕ) (n : ℕ) → take (length k - n) (drop n k) ≡ drop n k
-slice_from k n = grind (arith, common_steps, length-drop n k)
-
--- it does: what is left is the slice from its length on
-pub strip_prefix-full : (p k : List ℕ) (n : ℕ) → n ≡ common_prefix_len nat_eq p k → length p ≤ n → Some (take (length k - n) (drop n k)) ≡ strip_prefix p k
-strip_prefix-full p k n e h =
-    let whole : n ≡ length p = omega (arith, common_prefix_len-within p k) in
-    ap Some (slice_from k n ∙ ap (λ m. drop m k) whole) ∙ strip_prefix-common p k (omega arith)
-
 -- where the prefix doesn't begin the key, they part within it
-pub parts-within : (p k : List ℕ) (n : ℕ) → n ≡ common_prefix_len nat_eq p k → None ≡ strip_prefix p k → n < length p
-parts-within p k n e s = elim (nat_le (length p) n) as (λ z. nat_le (length p) n ≡ z → n < length p) [
-  | true ↦ λ h. let f = strip_prefix-full p k n e (grind (arith, nat_tests)) in absurd (cc)
-  | false ↦ λ h. grind (arith, nat_tests)
-] refl
+parts-step : (z : Bool) (p k : List ℕ) (m : ℕ) → (None ≡ strip_prefix p k → m < length p) → None ≡ cond z (strip_prefix p k) None → cond z (1 + m) 0 < suc (length p)
+parts-step true p k m f s = omega (arith, f s)
+parts-step false p k m f s = omega arith
 
--- it is no longer than the key
+pub parts-within : (p k : List ℕ) (n : ℕ) → n ≡ common_prefix_len nat_eq p k → None ≡ strip_prefix p k → n < length p
+parts-within [] k n e s = absurd (cc)
+parts-within (x ∷ p) [] n e s = omega (arith, e)
+parts-within (x ∷ p) (y ∷ k) n e s = rw e (parts-step (x == y) p k (common_prefix_len nat_eq p k) (parts-within p k (common_prefix_len nat_eq p k) refl) s)
+
+-- what is left is no longer than the key
 rest-step : (z : Bool) (p k r : List ℕ) → (Some r ≡ strip_prefix p k → length r ≤ length k) → Some r ≡ cond z (strip_prefix p k) None → length r ≤ suc (length k)
 rest-step true p k r f e = let l = f e in omega arith
 rest-step false p k r f e = absurd (cc)

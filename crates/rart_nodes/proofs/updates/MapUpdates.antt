@@ -23,9 +23,10 @@ use Rattle.rart_nodes.proofs.edits.EditRunLemmas.{run-canonical, run-pairs_of, t
 use Rattle.rart_nodes.proofs.edits.InsertAskLemmas.{asks-insert}
 use Rattle.rart_nodes.proofs.edits.LoanLemmas.{keys-put, longest-alike, lengths-alike}
 use Rattle.rart_nodes.proofs.edits.RemoveAskLemmas.{asks-remove}
-use Rattle.rart_nodes.proofs.edits.RemovedPairs.{length-without_key, longest_key-without, tree_pairs-ascend}
+use Rattle.rart_nodes.proofs.edits.RemovedPairs.{length-without_key, longest_key-without}
 use Rattle.rart_nodes.proofs.shapes.ShapeLemmas.{one_shape}
 use Rattle.rart_nodes.proofs.tries.CanonicalTests.{longest_key-put}
+use Rattle.rart_nodes.proofs.tries.PairLemmas.{tree_pairs-ascend}
 
 module _ {V : Type 0} where
   -- the pairs

@@ -1,5 +1,6 @@
 -- What an update leaves at one node.
 use Rattle.std.proofs.Common.{◌≡◌, ◌≢◌, ℕ, ⊎_elim, true, false, Bool, List, [], ◌∷◌, length, Option, Some, None, Result, Ok, Err, is_some, option_and_then, refl, sym, ap, subst, ◌∙◌}
+use Rattle.std.specs.Option.{unwrap_or}
 use Rattle.std.specs.Prelude.{slice_get}
 use Rattle.rart_keys.specs.ByteStrings.{strip_prefix}
 use Rattle.rart_keys.proofs.ByteOrder.{eq-yes, eq-no, equal_or_not}
@@ -13,7 +14,7 @@ use Rattle.rart_nodes.specs.declared.slot.SlotUpdate.TheVariants.{Keep, Remove, 
 use Rattle.rart_nodes.specs.declared.slot.UpdateError.{UpdateError}
 use Rattle.rart_nodes.specs.declared.slot.UpdateError.TheVariants.{Insert as Not_inserted, Remove as Not_removed}
 use Rattle.rart_nodes.specs.edits.Deletion.{JoinsWithin, children_without, is_end, is_leaf_at, without_child}
-use Rattle.rart_nodes.specs.edits.InsertAsks.{child_asks_put, put_asks_behind}
+use Rattle.rart_nodes.specs.edits.InsertAsks.{asks_put}
 use Rattle.rart_nodes.specs.tries.Trie.{Trie, node, no_children, child, child_of, children_in, edges_of, prefix_of, value_of, IsCanonical, trie_put, trie_remove}
 use Rattle.rart_nodes.specs.tries.TrieCode.{as_children}
 use Rattle.rart_nodes.specs.updates.TreeUpdates.{AsksPut, EndsHere, EndsLeaf, EndsTree, LosesLeaf, RefusesPut, node_holding, tree_left}
@@ -24,7 +25,7 @@ use Rattle.rart_nodes.proofs.edits.PutAskLemmas.{asks_put-below}
 use Rattle.rart_nodes.proofs.edits.RemoveAskSteps.{asks_remove-below, asks_remove-leaf}
 use Rattle.rart_nodes.proofs.edits.RemoveSteps.{removed-below, removed-leaf, value-removed}
 use Rattle.rart_nodes.proofs.tries.RestLemmas.{trie_lookup-left, trie_put-ended}
-use Rattle.rart_nodes.proofs.tries.Descents.{child_of-entries}
+use Rattle.rart_nodes.proofs.tries.Descents.{child_of-entries, descend-left}
 
 -- nothing is left of a key that ends
 end-rest : (o : Option (List ℕ)) → is_end o ≡ true → Some [] ≡ o
@@ -49,7 +50,7 @@ module _ {V : Type 0} where
 
   -- a split asks for memory
   pub left-asks : (k : List ℕ) (t : Trie V) → None ≡ strip_prefix (prefix_of t) k → AsksPut k (Some t)
-  left-asks k (node p v w cs) e = (ap (λ o. put_asks_behind o (λ b r. child_asks_put (length (edges_of cs)) w b r cs)) (sym e), trie_lookup-left p k _ w _ e)
+  left-asks k (node p v w cs) e = (ap (λ o. unwrap_or o false) (descend-left asks_put (node p v w cs) k e), trie_lookup-left p k _ w _ e)
 
   -- the same update of the same tree
   pub ends-same : (full : Bool) (k : List ℕ) (r : SlotUpdate V) (w : Option V) (t t' : Trie V) (res : Result (Outcome V) (UpdateError V)) (u : Option (Trie V)) → t' ≡ t → EndsTree full k r w (Some t') res u → EndsTree full k r w (Some t) res u

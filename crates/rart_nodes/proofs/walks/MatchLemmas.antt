@@ -1,19 +1,19 @@
 -- A descent that collects what it passes gives the pairs whose key begins the string.
-use Rattle.std.proofs.Common.{◌≡◌, ℕ, ◌+◌, ◌-◌, ◌≤◌, ◌==◌, ⊎_elim, Bool, true, false, List, [], ◌∷◌, ◌++◌, length, length-append, take, drop, refl, sym, ap, ◌∙◌, arith, Option, Some, None, is_some, if◌then◌else◌}
+use Rattle.std.proofs.Common.{◌≡◌, ℕ, ◌+◌, ◌-◌, ◌≤◌, ◌==◌, Bool, true, false, List, [], ◌∷◌, ◌++◌, length, length-append, take, drop, refl, sym, ap, ◌∙◌, arith, Option, Some, None, is_some, if◌then◌else◌}
 use Rattle.std.specs.Prelude.{slice_get}
 use Rattle.std.proofs.lemmas.List.{append-nil, append_assoc, length-drop, take-append-drop, take-append-le, take_all}
-use Rattle.std.proofs.lemmas.Grind.{common_steps}
 use Rattle.rart_keys.specs.ByteStrings.{strip_prefix, begins}
 use Rattle.rart_keys.specs.Filters.{matches}
 use Rattle.rart_keys.specs.SortedMap.{keys_of}
-use Rattle.rart_keys.proofs.ByteOrder.{eq-no, eq-yes, equal_or_not}
-use Rattle.rart_nodes.specs.joins.Meetings.{prefix-none, prefix-twice}
+use Rattle.rart_keys.proofs.ByteOrder.{eq-no}
+use Rattle.rart_nodes.specs.tries.PrefixLaws.{prefix-none, prefix-twice}
 use Rattle.rart_nodes.specs.tries.CanonicalTest.{is_canonical}
 use Rattle.rart_nodes.specs.tries.Tree.{tree_pairs, IsCanonicalTree}
 use Rattle.rart_nodes.specs.tries.Trie.{Trie, node, children_pairs, own_pair, prefix_of, child_in, with_prefix}
 use Rattle.rart_nodes.specs.walks.Matches.{Passes, pair_at, collects, tree_matches, matches_ahead, entered_ahead}
 use Rattle.rart_nodes.specs.walks.ProbeCount.{probe_count, counts, tree_entered}
 use Rattle.rart_nodes.proofs.tries.Descents.{Keeps, children-filter, descend-ended, descend-on, descends}
+use Rattle.rart_nodes.proofs.tries.PrefixedStrings.{strip_prefix-is}
 use Rattle.rart_nodes.proofs.tries.FirstBytes.{AllFrom, children_pairs-from}
 use Rattle.rart_nodes.proofs.walks.SeenLemmas.{child-falls, few-tree_entered, tree_entered-probe_count}
 
@@ -25,13 +25,6 @@ begins-append : (p l q : List ℕ) → begins (p ++ l) q ≡ begins_within l (st
 begins-append [] l q = refl
 begins-append (x ∷ p) l [] = refl
 begins-append (x ∷ p) l (y ∷ q) = elim (x == y) as (λ b. is_some (if b then strip_prefix (p ++ l) q else None) ≡ begins_within l (if b then strip_prefix p q else None)) [ true ↦ begins-append p l q | false ↦ refl ]
-
-strip-join : (p k r : List ℕ) → Some r ≡ strip_prefix p k → k ≡ p ++ r
-strip-join [] k r s = let e : r ≡ k = cc in sym e
-strip-join (x ∷ p) [] r s = absurd (cc)
-strip-join (x ∷ p) (y ∷ k) r s = ⊎_elim
-    (λ e. let h = rw (eq-yes x y e) at s in rw (e, strip-join p k r h) refl)
-    (λ n. let h = rw (eq-no x y n) at s in absurd (cc)) (equal_or_not x y)
 
 drop-front : (a r : List ℕ) → drop (length a) (a ++ r) ≡ r
 drop-front [] r = refl
@@ -46,7 +39,7 @@ record SplitAt (p q r : List ℕ) (d d1 : ℕ) : Type 0 where
 split-at : (p q k r : List ℕ) (d d1 : ℕ) → d ≤ length q → k ≡ drop d q → Some r ≡ strip_prefix p k → d1 ≡ length q - length r → SplitAt p q r d d1
 split-at p q k r d d1 l i e f =
     let a : List ℕ = take d q ++ p in
-    let whole : q ≡ a ++ r = sym (take-append-drop d q) ∙ ap (λ z. take d q ++ z) (sym i ∙ strip-join p k r e) ∙ sym (append_assoc (take d q) p r) in
+    let whole : q ≡ a ++ r = sym (take-append-drop d q) ∙ ap (λ z. take d q ++ z) (sym i ∙ sym (strip_prefix-is p k r (sym e))) ∙ sym (append_assoc (take d q) p r) in
     let n : d1 ≡ length a = omega (arith, f, ap length whole, length-append a r) in
     record {
       within = omega arith;
@@ -54,13 +47,8 @@ split-at p q k r d d1 l i e f =
       behind = ap (drop d1) whole ∙ ap (λ m. drop m (a ++ r)) n ∙ drop-front a r;
     }
 
--- the rest of a slice from a place on, as code names it
-pub slice-behind : (k : List ℕ) (n : ℕ) → take (length k - n) (drop n k) ≡ drop n k
-slice-behind k n = grind (arith, common_steps, length-drop n k)
-
--- what is left is no longer than the whole
 pub rest-fits : (p q k r : List ℕ) (d : ℕ) → k ≡ drop d q → Some r ≡ strip_prefix p k → length r ≤ length q
-rest-fits p q k r d i e = omega (arith, ap length (strip-join p k r e), length-append p r, ap length i, length-drop d q)
+rest-fits p q k r d i e = omega (arith, ap length (sym (strip_prefix-is p k r (sym e))), length-append p r, ap length i, length-drop d q)
 
 module _ {V : Type 0} where
   abbrev matches_within : List ℕ → Option (List ℕ) → List (List ℕ × V) → List (List ℕ × V)

@@ -1,6 +1,6 @@
 -- The segments of the keys at and below a prefix are their cuts, and can be lent.
 use Rattle.std.proofs.Common.{◌≡◌, ℕ, ◌<◌, ◌≤◌, ◌^◌, true, false, cond, eqb, List, [], ◌∷◌, ◌++◌, length, refl, sym, ap, ◌∙◌, arith, Option, Some, None, is_some, subst, if◌then◌else◌}
-use Rattle.std.proofs.lemmas.List.{append_assoc, map-append}
+use Rattle.std.proofs.lemmas.List.{map-append}
 use Rattle.rart_keys.specs.ByteStrings.{begins}
 use Rattle.rart_keys.specs.Filters.{below}
 use Rattle.rart_keys.specs.SortedMap.{keys_of, longest_key}
@@ -16,6 +16,7 @@ use Rattle.rart_nodes.specs.walks.ViewPieces.{all_have_bytes, AreViews}
 use Rattle.rart_nodes.proofs.walks.CutLemmas.{joined-cut, tree-cut}
 use Rattle.rart_nodes.proofs.walks.PartLemmas.{part-keys}
 use Rattle.rart_nodes.proofs.walks.StopLemmas.{joins-one}
+use Rattle.rart_nodes.proofs.walks.TourLemmas.{behind-none, behind-twice}
 
 -- no segment is empty
 bytes-piece : (p : List ℕ) (ps : Pieces) → all_have_bytes ps ≡ true → all_have_bytes (with_piece p ps) ≡ true
@@ -51,14 +52,6 @@ module _ {V : Type 0} where
   from_are_cut s [] h = refl
   from_are_cut s (e ∷ es) h = ap (λ z. (z, e.1) ∷ es) h.0 ∙ ap (λ z. (cut s (joined e.0), e.1) ∷ z) (from_are_cut s es h.1)
 
-  behind-nothing : (es : List (Pieces × V)) → behind_pieces [] es ≡ es
-  behind-nothing [] = refl
-  behind-nothing (e ∷ es) = ap (λ z. e ∷ z) (behind-nothing es)
-
-  behind-twice : (q p : Pieces) (es : List (Pieces × V)) → behind_pieces q (behind_pieces p es) ≡ behind_pieces (q ++ p) es
-  behind-twice q p [] = refl
-  behind-twice q p (e ∷ es) = rw (append_assoc q p e.0, behind-twice q p es) refl
-
   -- behind a node's prefix, without its own value
   below-own : (s : List (List ℕ)) (g : Grown) (k : Pieces) (q : List ℕ) (v : Option V) (cs : Children V) → AreCut s (behind_pieces k (behind_pieces (g q) (value_at [] v ++ children_stops g cs))) → AreCut s (behind_pieces (k ++ g q) (children_stops g cs))
   below-own s g k q v cs h = are_cut-back s (behind_pieces (k ++ g q) (value_at [] v)) (behind_pieces (k ++ g q) (children_stops g cs))
@@ -86,7 +79,7 @@ module _ {V : Type 0} where
   pub part-cut : (p : List ℕ) (o : Option (Trie V)) → IsCanonicalTree o → part_stops one_piece (tree_part one_piece [] p o) ≡ cut_pairs (keys_of (tree_pairs o)) (below p (tree_pairs o))
   part-cut p o w =
       let s = keys_of (tree_pairs o) in
-      let whole : AreCut s (behind_pieces [] (tree_stops one_piece o)) = subst (AreCut s) (sym (behind-nothing (tree_stops one_piece o) ∙ tree-cut o w)) (are_cut-pairs s (tree_pairs o)) in
+      let whole : AreCut s (behind_pieces [] (tree_stops one_piece o)) = subst (AreCut s) (sym (behind-none (tree_stops one_piece o) ∙ tree-cut o w)) (are_cut-pairs s (tree_pairs o)) in
       from_are_cut s (part_stops one_piece (tree_part one_piece [] p o)) (descends (finds one_piece) (λ p o a. (k : Pieces) → AreCut s (behind_pieces k (tree_stops one_piece o)) → AreCut s (part_stops one_piece (a k))) (part-are_cut s one_piece) p o w [] whole)
       ∙ ap (cut_pairs s) (part-keys one_piece p o joins-one w)
 

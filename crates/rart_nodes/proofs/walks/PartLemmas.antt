@@ -6,20 +6,22 @@ use Rattle.std.proofs.lemmas.List.{append-nil, append_assoc}
 use Rattle.rart_keys.specs.ByteStrings.{strip_prefix, begins}
 use Rattle.rart_keys.specs.Filters.{below}
 use Rattle.rart_keys.specs.SortedMap.{longest_key, values_of}
-use Rattle.rart_keys.proofs.ByteOrder.{eq-yes, eq-no, equal_or_not}
-use Rattle.rart_nodes.specs.joins.Meetings.{prefix-none, prefix-twice}
+use Rattle.rart_keys.proofs.ByteOrder.{eq-no}
+use Rattle.rart_nodes.specs.tries.PrefixLaws.{length-with_prefix, prefix-none, prefix-twice, values-with_prefix}
 use Rattle.rart_nodes.specs.tries.CanonicalTest.{is_canonical}
 use Rattle.rart_nodes.specs.tries.Tree.{tree_pairs, IsCanonicalTree}
 use Rattle.rart_nodes.specs.tries.Trie.{Trie, node, Children, no_children, child, pairs_of, children_pairs, own_pair, edges_of, prefix_of, child_of, child_in, with_prefix, IsCanonical, AreCanonical}
 use Rattle.rart_nodes.specs.tries.TrieCode.{node_count, child_count}
+use Rattle.rart_nodes.specs.walks.PieceLaws.{joined-append}
 use Rattle.rart_nodes.specs.walks.Part.{finds, tree_part, part_stops}
 use Rattle.rart_nodes.specs.walks.Tour.{Pieces, Grown, Joins, joined, join_all, stop_values, stops_of}
 use Rattle.rart_nodes.proofs.tries.CanonicalTests.{IsCanonical-test}
 use Rattle.rart_nodes.proofs.tries.NodeCounts.{length-own_pair, two-edges}
+use Rattle.rart_nodes.proofs.tries.PrefixedStrings.{begins-apart, begins-behind}
 use Rattle.rart_nodes.proofs.tries.Descents.{Keeps, children-filter, descend-left, descend-on, descends}
 use Rattle.rart_nodes.proofs.walks.SeenLemmas.{longest-of}
-use Rattle.rart_nodes.proofs.walks.StopLemmas.{joined-append, join-behind, joined-stops, values-behind, values-stops, values-with_prefix}
-use Rattle.rart_nodes.proofs.walks.TourLemmas.{length-with_prefix, longest-below}
+use Rattle.rart_nodes.proofs.walks.StopLemmas.{join-behind, joined-stops, values-behind, values-stops}
+use Rattle.rart_nodes.proofs.walks.TourLemmas.{longest-below}
 
 -- whether a slice begins with another, as code tests it
 pub starts_with-begins : (p q : List ℕ) → starts_with nat_eq q p ≡ begins p q
@@ -27,20 +29,10 @@ starts_with-begins [] q = refl
 starts_with-begins (x ∷ p) [] = refl
 starts_with-begins (x ∷ p) (y ∷ q) = elim (nat_eq x y) as (λ b. (b && starts_with nat_eq q p) ≡ is_some (if b then strip_prefix p q else None)) [ true ↦ starts_with-begins p q | false ↦ refl ]
 
-begins-past : (q p r k : List ℕ) → strip_prefix q p ≡ Some r → begins p (q ++ k) ≡ begins r k
-begins-past [] p r k s = let e : p ≡ r = cc in ap (λ z. begins z k) e
-begins-past (x ∷ q) [] r k s = cc
-begins-past (x ∷ q) (y ∷ p) r k s = ⊎_elim (λ e. let h = rw (eq-yes x y e) at s in rw (eq-yes y x (sym e)) (begins-past q p r k h)) (λ n. let h = rw (eq-no x y n) at s in cc) (equal_or_not x y)
-
-begins-apart : (q p k : List ℕ) → strip_prefix q p ≡ None → begins p (q ++ k) ≡ begins p q
-begins-apart [] p k s = cc
-begins-apart (x ∷ q) [] k s = refl
-begins-apart (x ∷ q) (y ∷ p) k s = ⊎_elim (λ e. let h = rw (eq-yes x y e) at s in rw (eq-yes y x (sym e)) (begins-apart q p k h)) (λ n. rw (eq-no y x (λ e. n (sym e))) refl) (equal_or_not x y)
-
 module _ {V : Type 0} where
   below-behind_some : (q p r : List ℕ) (es : List (List ℕ × V)) → strip_prefix q p ≡ Some r → below p (with_prefix q es) ≡ with_prefix q (below r es)
   below-behind_some q p r [] s = refl
-  below-behind_some q p r (e ∷ es) s = rw (begins-past q p r e.0 s, below-behind_some q p r es s)
+  below-behind_some q p r (e ∷ es) s = rw (begins-behind q p r e.0 s, below-behind_some q p r es s)
       (elim (begins r e.0) as (λ z. (if z then (q ++ e.0, e.1) ∷ with_prefix q (below r es) else with_prefix q (below r es)) ≡ with_prefix q (if z then e ∷ below r es else below r es)) [ true ↦ refl | false ↦ refl ])
 
   below-apart : (q p : List ℕ) (es : List (List ℕ × V)) → strip_prefix q p ≡ None → below p (with_prefix q es) ≡ (if begins p q then with_prefix q es else [])

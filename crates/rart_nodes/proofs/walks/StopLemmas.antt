@@ -1,15 +1,13 @@
 -- What is kept of the keys of a tree joins to the keys, and the values are the tree's.
-use Rattle.std.proofs.Common.{◌≡◌, ℕ, suc, zero, List, [], ◌∷◌, ◌++◌, length, map, take, Option, Some, None, refl, sym, ap, ◌∙◌, arith}
-use Rattle.std.proofs.lemmas.List.{append_assoc, append-nil, map-append}
+use Rattle.std.proofs.Common.{◌≡◌, ℕ, List, [], ◌∷◌, ◌++◌, length, Option, Some, None, refl, sym, ap, ◌∙◌, arith}
+use Rattle.std.proofs.lemmas.List.{append-nil, map-append}
 use Rattle.rart_keys.specs.SortedMap.{values_of}
 use Rattle.rart_nodes.specs.walks.Tour.{Pieces, Grown, Joins, joined, join_all, stop_values, behind_pieces, value_at, stops_of, children_stops, tree_stops}
 use Rattle.rart_nodes.specs.walks.TrailParts.{byte_pieces, one_piece}
+use Rattle.rart_nodes.specs.tries.PrefixLaws.{values-with_prefix}
 use Rattle.rart_nodes.specs.tries.Tree.{tree_pairs}
+use Rattle.rart_nodes.specs.walks.PieceLaws.{joined-append}
 use Rattle.rart_nodes.specs.tries.Trie.{Trie, node, Children, no_children, child, children_pairs, pairs_of, own_pair, with_prefix}
-
-pub joined-append : (ps qs : Pieces) → joined (ps ++ qs) ≡ joined ps ++ joined qs
-joined-append [] qs = refl
-joined-append (p ∷ ps) qs = ap (λ z. p ++ z) (joined-append ps qs) ∙ sym (append_assoc p (joined ps) (joined qs))
 
 pub joins-one : Joins one_piece
 joins-one [] = refl
@@ -22,11 +20,6 @@ joins-bytes (b ∷ p) = ap (λ z. b ∷ z) (joins-bytes p)
 pub length-bytes : (p : List ℕ) → length (byte_pieces p) ≡ length p
 length-bytes [] = refl
 length-bytes (b ∷ p) = omega (arith, length-bytes p)
-
-pub map_take : {A B : Type 0} (f : A → B) (n : ℕ) (xs : List A) → map f (take n xs) ≡ take n (map f xs)
-map_take f zero xs = refl
-map_take f (suc n) [] = refl
-map_take f (suc n) (x ∷ xs) = ap (λ z. f x ∷ z) (map_take f n xs)
 
 module _ {V : Type 0} where
   join-append : (xs ys : List (Pieces × V)) → join_all (xs ++ ys) ≡ join_all xs ++ join_all ys
@@ -59,10 +52,6 @@ module _ {V : Type 0} where
   pub values-behind : (ps : Pieces) (es : List (Pieces × V)) → stop_values (behind_pieces ps es) ≡ stop_values es
   values-behind ps [] = refl
   values-behind ps (e ∷ es) = ap (λ z. e.1 ∷ z) (values-behind ps es)
-
-  pub values-with_prefix : (p : List ℕ) (es : List (List ℕ × V)) → values_of (with_prefix p es) ≡ values_of es
-  values-with_prefix p [] = refl
-  values-with_prefix p (e ∷ es) = ap (λ z. e.1 ∷ z) (values-with_prefix p es)
 
   values-own : (v : Option V) → stop_values (value_at [] v) ≡ values_of (own_pair v)
   values-own None = refl

@@ -7,10 +7,11 @@ use Rattle.rart_keys.specs.SortedMap.{longest_key}
 use Rattle.rart_nodes.specs.shapes.Shape.{capacity_of}
 use Rattle.rart_nodes.specs.walks.Tour.{Pieces, Grown, IsShort, Level, HasRoom, behind_pieces, value_at, stops_of, children_stops, stops_below, nodes_below, AreStations, IsTour}
 use Rattle.rart_nodes.specs.walks.TourSteps.{DeepestLeft, DeepestStep, GoesOn}
-use Rattle.rart_nodes.specs.tries.Trie.{Trie, node, Children, no_children, child, children_in, children_pairs, pairs_of, prefix_of, value_of, with_prefix, own_pair, StartsWith, IsCanonical, AreCanonical, capacity_in, edges_of}
+use Rattle.rart_nodes.specs.tries.PrefixLaws.{length-with_prefix}
+use Rattle.rart_nodes.specs.tries.Trie.{Trie, node, Children, no_children, child, children_in, children_pairs, pairs_of, prefix_of, value_of, own_pair, StartsWith, IsCanonical, AreCanonical, capacity_in, edges_of}
 use Rattle.rart_nodes.specs.tries.Tree.{tree_pairs}
 use Rattle.rart_nodes.specs.tries.TrieCode.{node_count, child_count}
-use Rattle.rart_nodes.proofs.tries.CanonicalTests.{IsCanonical-test, test-IsCanonical, longest_key-append}
+use Rattle.rart_nodes.proofs.tries.CanonicalTests.{IsCanonical-test, test-IsCanonical, longest_key-append, longest_key-behind, canonical-lower}
 use Rattle.rart_nodes.proofs.tries.NodeCounts.{some-pairs}
 
 -- what is pushed last stands first
@@ -52,23 +53,10 @@ module _ {V : Type 0} where
   work_left [] = 0
   work_left (l ∷ ls) = 2 * child_count l.0 + 1 + work_left ls
 
-  canonical-low : (low : ℕ) (cs : Children V) → AreCanonical low cs → AreCanonical 0 cs
-  canonical-low low no_children w = tt
-  canonical-low low (child b t cs) w = (omega arith, w.1, w.2, w.3)
-
-  longest-some : (p : List ℕ) (es : List (List ℕ × V)) → 0 < length es → length p + longest_key es ≤ longest_key (with_prefix p es)
-  longest-some p [] h = absurd (omega arith)
-  longest-some p (e ∷ []) h = omega (arith, length-append p e.0)
-  longest-some p (e ∷ f ∷ es) h = omega (arith, length-append p e.0, longest-some p (f ∷ es) (omega arith))
-
-  pub length-with_prefix : (p : List ℕ) (es : List (List ℕ × V)) → length (with_prefix p es) ≡ length es
-  length-with_prefix p [] = refl
-  length-with_prefix p (e ∷ es) = omega (arith, length-with_prefix p es)
-
   pub longest-below : (t : Trie V) → IsCanonical t → length (prefix_of t) + longest_key (children_pairs (children_in t)) ≤ longest_key (pairs_of t)
   longest-below (node p v n cs) w =
       let some : 0 < length (own_pair v ++ children_pairs cs) = omega (arith, some-pairs (node p v n cs) w, length-with_prefix p (own_pair v ++ children_pairs cs)) in
-      omega (arith, longest-some p (own_pair v ++ children_pairs cs) some, longest_key-append (own_pair v) (children_pairs cs))
+      omega (arith, longest_key-behind p (own_pair v ++ children_pairs cs) some, longest_key-append (own_pair v) (children_pairs cs))
 
   pub below-canonical : (t : Trie V) → IsCanonical t → AreCanonical 0 (children_in t)
   below-canonical (node p v n cs) w = w.2
@@ -85,7 +73,7 @@ module _ {V : Type 0} where
 
   -- the first child and the others
   pub next-branches : (cs ds : Children V) (b : ℕ) (t : Trie V) → cs ≡ child b t ds → AreCanonical 0 cs → (is_canonical t ≡ true) × AreCanonical 0 ds
-  next-branches cs ds b t e w = let c = rw e at w in (test-IsCanonical t c.2, canonical-low (suc b) ds c.3)
+  next-branches cs ds b t e w = let c = rw e at w in (test-IsCanonical t c.2, canonical-lower 0 (suc b) ds (omega arith) c.3)
 
   pub step-last : (st : List (Level V)) (n : ℕ) (l : Level V) (ds : Children V) (t : Trie V) → n + 1 ≡ length st → l ≡ slice_index_or st n l → (b : ℕ) × (l.0 ≡ child b t ds) → DeepestStep st t l.1 (slice_set st n (ds, l.1))
   step-last st n l ds t h e f =
@@ -147,7 +135,7 @@ module _ {V : Type 0} where
         fits = omega (arith, w.2, m, longest-below t w.1.2);
         deep = omega (arith, w.3, m, longest-below t w.1.2);
         below = below-canonical t w.1.2;
-        others = canonical-low (suc b) cs w.1.3;
+        others = canonical-lower 0 (suc b) cs (omega arith) w.1.3;
         others_fit = omega (arith, w.2, m);
         others_deep = omega (arith, w.3, m);
         above = w.4;

@@ -1,11 +1,10 @@
 -- Where an insertion may ask for memory: by the keys alone, and by the trie.
 use Rattle.std.specs.Prelude.{ℕ, ◌≡◌, ◌<◌, ◌==◌, ◌||◌, ◌&&◌, not, nat_le, Bool, true, false, List, [], ◌∷◌, length, Option, Some, None, is_some, if◌then◌else◌}
-use Rattle.std.specs.Ordering.{nat_cmp, match_ordering}
 use Rattle.std.specs.List.{list_any}
-use Rattle.rart_keys.specs.ByteStrings.{strip_prefix}
+use Rattle.std.specs.Option.{unwrap_or}
 use Rattle.rart_keys.specs.SortedMap.{keys_of, lookup}
 use Rattle.rart_nodes.specs.shapes.Shape.{NodeRecord, record_at}
-use Rattle.rart_nodes.specs.tries.Trie.{Trie, node, Children, no_children, child, edges_of}
+use Rattle.rart_nodes.specs.tries.Trie.{Trie, node, Descent, descend, edges_of}
 
 -- a node with n children takes another without memory
 abbrev pub has_room : ℕ → Bool
@@ -35,17 +34,19 @@ insert_asks (k ∷ s) q = not (is_some (record_at (k ∷ s) q) || last_takes (re
 abbrev pub MayAskFor : {V : Type 0} → List ℕ → List (List ℕ × V) → Type 0
 MayAskFor k m = (0 < length m) × (lookup k m ≡ None) × (record_at (keys_of m) k ≡ None) × (insert_asks (keys_of m) k ≡ true)
 
--- what the code does: a split, or a child that its node has no room for
-abbrev pub put_asks_behind : Option (List ℕ) → (ℕ → List ℕ → Bool) → Bool
-put_asks_behind None f = true
-put_asks_behind (Some []) f = false
-put_asks_behind (Some (b ∷ k)) f = f b (b ∷ k)
+-- the node has as many children as it has room for
+abbrev pub is_full : {V : Type 0} → Trie V → Bool
+is_full (node p v n cs) = nat_le n (length (edges_of cs))
 
--- m children in a node for n
-abbrev mutual
-  pub trie_asks_put : {V : Type 0} → List ℕ → Trie V → Bool
-  trie_asks_put k (node p v n cs) = put_asks_behind (strip_prefix p k) (λ b r. child_asks_put (length (edges_of cs)) n b r cs)
+-- Whether an insertion by descent asks for memory: where it splits a node, and where a full node gets a child.
+-- None where there is no node: then the node above gets one.
+abbrev pub asks_put : {V : Type 0} → Descent V (Option Bool)
+asks_put = record {
+  left = λ k t. Some true;
+  ended = λ t. Some false;
+  absent = None;
+  on = λ t asks. Some (unwrap_or asks (is_full t));
+}
 
-  pub child_asks_put : {V : Type 0} → ℕ → ℕ → ℕ → List ℕ → Children V → Bool
-  child_asks_put m n b k no_children = nat_le n m
-  child_asks_put m n b k (child c t cs) = match_ordering (nat_cmp b c) (nat_le n m) (trie_asks_put k t) (child_asks_put m n b k cs)
+abbrev pub trie_asks_put : {V : Type 0} → List ℕ → Trie V → Bool
+trie_asks_put k t = unwrap_or (descend asks_put k t) false

@@ -1,9 +1,8 @@
 -- Where a removal may ask for memory: by the keys alone, and by the trie.
 use Rattle.std.specs.Prelude.{nat_le, not, ◌-◌, ℕ, ◌==◌, ◌||◌, ◌&&◌, Bool, false, List, [], ◌∷◌, length, Option, Some, None, is_some, if◌then◌else◌}
-use Rattle.std.specs.Ordering.{nat_cmp, match_ordering}
-use Rattle.rart_keys.specs.ByteStrings.{strip_prefix}
+use Rattle.std.specs.Option.{unwrap_or}
 use Rattle.rart_nodes.specs.shapes.Shape.{NodeRecord, record_at, capacity_of}
-use Rattle.rart_nodes.specs.tries.Trie.{Trie, node, Children, no_children, child, edges_of}
+use Rattle.rart_nodes.specs.tries.Trie.{Trie, Descent, children_in, descend, edges_of, record_of}
 
 -- a node with this record gets other room when it gives one child up
 abbrev pub shrinks : Option NodeRecord → Bool
@@ -29,17 +28,19 @@ abbrev pub moves_down : Option NodeRecord → Bool
 moves_down None = false
 moves_down (Some r) = nat_le 2 (length r.edges) && not (capacity_of (length r.edges - 1) == r.capacity)
 
--- what the code does: it takes a child from a node whose record is l
-abbrev pub remove_asks_behind : Option (List ℕ) → Bool → (ℕ → List ℕ → Bool) → Bool
-remove_asks_behind None h f = false
-remove_asks_behind (Some []) h f = h
-remove_asks_behind (Some (b ∷ k)) h f = f b (b ∷ k)
+abbrev pub is_leaf : {V : Type 0} → Trie V → Bool
+is_leaf t = length (edges_of (children_in t)) == 0
 
--- the same read off a trie whose parent has the record l
-abbrev mutual
-  pub trie_asks_remove : {V : Type 0} → Option NodeRecord → List ℕ → Trie V → Bool
-  trie_asks_remove l k (node p v n cs) = remove_asks_behind (strip_prefix p k) (length (edges_of cs) == 0 && moves_down l) (λ b r. child_asks_remove (Some (record { holds_value = is_some v; edges = edges_of cs; capacity = n })) b r cs)
+-- Whether a removal by descent asks for memory: where a node gives up a leaf and moves its children.
+-- None at the leaf: then the node above gives it up.
+abbrev pub asks_remove : {V : Type 0} → Descent V (Option Bool)
+asks_remove = record {
+  left = λ k t. Some false;
+  ended = λ t. if is_leaf t then None else Some false;
+  absent = Some false;
+  on = λ t asks. Some (unwrap_or asks (moves_down (Some (record_of t))));
+}
 
-  pub child_asks_remove : {V : Type 0} → Option NodeRecord → ℕ → List ℕ → Children V → Bool
-  child_asks_remove l b k no_children = false
-  child_asks_remove l b k (child c t cs) = match_ordering (nat_cmp b c) false (trie_asks_remove l k t) (child_asks_remove l b k cs)
+-- the same at a node whose parent has the record l
+abbrev pub trie_asks_remove : {V : Type 0} → Option NodeRecord → List ℕ → Trie V → Bool
+trie_asks_remove l k t = unwrap_or (descend asks_remove k t) (moves_down l)

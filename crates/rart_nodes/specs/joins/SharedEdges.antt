@@ -1,11 +1,11 @@
 -- The strings at which two trees branch and both go on, and the visits of a walk in lockstep.
-use Rattle.std.specs.Prelude.{ℕ, ◌==◌, ◌+◌, ◌||◌, ◌&&◌, Bool, false, List, [], ◌∷◌, ◌++◌, map, length, is_some, if◌then◌else◌}
+use Rattle.std.specs.Prelude.{ℕ, ◌+◌, ◌||◌, ◌&&◌, Bool, false, List, [], ◌∷◌, ◌++◌, map, length, is_some}
 use Rattle.std.specs.List.{filter}
-use Rattle.std.specs.Ordering.{nat_cmp, match_ordering}
+use Rattle.rart_nodes.specs.joins.Lockstep.{Pairing, pair_child, pair_down, pair_each, pair_in, pair_prefixes, pair_tries}
 use Rattle.rart_nodes.specs.shapes.BranchPoints.{begins_any}
 use Rattle.rart_keys.specs.SortedMap.{keys_of, put}
 use Rattle.rart_nodes.specs.shapes.Shape.{record_at}
-use Rattle.rart_nodes.specs.tries.Trie.{Trie, node, Children, no_children, child}
+use Rattle.rart_nodes.specs.tries.Trie.{Trie, Children}
 
 -- f at x without its last byte; d where x is empty
 abbrev pub above : Bool → (List ℕ → Bool) → List ℕ → Bool
@@ -41,34 +41,28 @@ as_map (x ∷ xs) = (x, tt) ∷ as_map xs
 abbrev pub shared_edges : List (List ℕ) → List (List ℕ) → List (List ℕ)
 shared_edges s t = keys_of (set_map (filter (λ x. is_shared s t x) (all_starts s)))
 
--- the visits behind two prefixes
+-- 1 for each child that is entered, alone where the other side goes on with it, or with the other side's child
+abbrev pub counts_visits : Pairing ℕ
+counts_visits = record { apart = 0; shared = λ x n. n; also = λ m n. m + n; entered = λ b n. 1 + n }
+
+abbrev pub more_visits : {V W : Type 0} → Trie V → Trie W → ℕ
+more_visits t u = pair_tries counts_visits (λ v w n. n) t u
+
+-- the same step by step
 abbrev pub count_lockstep : List ℕ → List ℕ → ℕ → (ℕ → List ℕ → ℕ) → (ℕ → List ℕ → ℕ) → ℕ
-count_lockstep [] [] n f g = n
-count_lockstep [] (y ∷ q) n f g = f y (y ∷ q)
-count_lockstep (x ∷ p) [] n f g = g x (x ∷ p)
-count_lockstep (x ∷ p) (y ∷ q) n f g = if x == y then count_lockstep p q n f g else 0
+count_lockstep p q ended f g = pair_prefixes 0 (λ x n. n) p q ended f g
 
 abbrev pub visits_each : {W : Type 0} → (ℕ → Trie W → ℕ) → Children W → ℕ
-visits_each f no_children = 0
-visits_each f (child c u ds) = f c u + visits_each f ds
+visits_each f ds = pair_each 0 (λ m n. m + n) f ds
 
--- 1 for the child that is entered alone, as the right side goes on with it
-abbrev mutual
-  pub visits_in : {W : Type 0} → List ℕ → (ℕ → Trie W → ℕ) → Trie W → ℕ
-  visits_in p f (node q w m ds) = count_lockstep p q (visits_each f ds) (λ b r. f b (node r w m ds)) (λ b l. visits_down b l f ds)
+abbrev pub visits_in : {W : Type 0} → List ℕ → (ℕ → Trie W → ℕ) → Trie W → ℕ
+visits_in p f u = pair_in counts_visits p (λ w n. n) f u
 
-  pub visits_down : {W : Type 0} → ℕ → List ℕ → (ℕ → Trie W → ℕ) → Children W → ℕ
-  visits_down b l f no_children = 0
-  visits_down b l f (child c u ds) = match_ordering (nat_cmp b c) 0 (1 + visits_in l f u) (visits_down b l f ds)
+abbrev pub visits_down : {W : Type 0} → ℕ → List ℕ → (ℕ → Trie W → ℕ) → Children W → ℕ
+visits_down b l f ds = pair_down counts_visits b l (λ w n. n) f ds
 
--- 1 for the child that is entered alone, or with the right side's child
-abbrev mutual
-  pub more_visits : {V W : Type 0} → Trie V → Trie W → ℕ
-  more_visits (node p v n cs) u = visits_in p (λ b z. visits_child b z cs) u
-
-  pub visits_child : {V W : Type 0} → ℕ → Trie W → Children V → ℕ
-  visits_child b u no_children = 0
-  visits_child b u (child c t cs) = match_ordering (nat_cmp b c) 0 (1 + more_visits t u) (visits_child b u cs)
+abbrev pub visits_child : {V W : Type 0} → ℕ → Trie W → Children V → ℕ
+visits_child b u cs = pair_child counts_visits (λ v w n. n) b u cs
 
 -- 1 for the two roots
 abbrev pub meet_visits : {V W : Type 0} → Trie V → Trie W → ℕ

@@ -35,6 +35,9 @@ abbrev pub edges_of : {V : Type 0} → Children V → List ℕ
 edges_of no_children = []
 edges_of (child b t cs) = b ∷ edges_of cs
 
+abbrev pub record_of : {V : Type 0} → Trie V → NodeRecord
+record_of (node p v n cs) = record { holds_value = is_some v; edges = edges_of cs; capacity = n }
+
 -- the same tree, with its record in the place of each node's value
 abbrev mutual
   pub with_records : {V : Type 0} → Trie V → Trie NodeRecord
@@ -81,14 +84,15 @@ abbrev mutual
   AreCanonical low no_children = Unit {0}
   AreCanonical low (child b t cs) = (low ≤ b) × StartsWith b (prefix_of t) × IsCanonical t × AreCanonical (suc b) cs
 
--- what is made of a descent along a key: where it leaves a node's prefix, ends behind it, finds no child, or goes on, of what the child gives
+-- What a descent along a key returns: `left` where the key leaves a node's prefix, `ended` at the node where it ends,
+-- `absent` where no child has its next byte, and `on` at a node that it passes, from what the child returns.
 pub record Descent (V A : Type 0) : Type 0 where
   pub left : List ℕ → Trie V → A
   pub ended : Trie V → A
   pub absent : A
   pub on : Trie V → A → A
 
--- at a node, by what is left of the key behind its prefix
+-- at a node, by what is left of the key after its prefix
 abbrev pub behind : {A : Type 0} → A → A → (A → A) → Option (List ℕ) → (ℕ → List ℕ → A) → A
 behind left ended on None f = left
 behind left ended on (Some []) f = ended
@@ -159,7 +163,7 @@ put_split q (c ∷ l) (b ∷ r) v old n cs f = fitting_node q None (fork c (node
 abbrev pub put_overlap : {V : Type 0} → Overlap → V → Option V → ℕ → Children V → (ℕ → List ℕ → Children V) → Trie V
 put_overlap s v old n cs f = put_split s.shared s.left s.right v old n cs f
 
--- an insertion, one descent
+-- An insertion. It rebuilds the nodes that it passes, so it has a recursion of its own, as a removal has.
 abbrev mutual
   pub trie_put : {V : Type 0} → List ℕ → V → Trie V → Trie V
   trie_put k v (node p old n cs) = put_overlap (overlap p k) v old n cs (λ b r. put_child b r v cs)
@@ -186,7 +190,7 @@ abbrev pub child_if : {V : Type 0} → ℕ → Option (Trie V) → Children V �
 child_if b None cs = cs
 child_if b (Some t) cs = child b t cs
 
--- a removal, one descent
+-- a removal, which rebuilds them too
 abbrev mutual
   pub trie_remove : {V : Type 0} → List ℕ → Trie V → Option (Trie V)
   trie_remove k (node p v n cs) = removed_behind (strip_prefix p k) p v cs (λ b r. remove_child b r cs)

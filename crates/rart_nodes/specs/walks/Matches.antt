@@ -3,7 +3,7 @@ use Rattle.std.specs.Prelude.{ℕ, ◌≡◌, ◌+◌, ◌<◌, ◌≤◌, List,
 use Rattle.rart_keys.specs.declared.partials.Partial.{Ghosts}
 use Rattle.rart_nodes.specs.declared.node.matching.Matching.{Matching}
 use Rattle.rart_nodes.specs.declared.node.seen.Shared.{Shared}
-use Rattle.rart_nodes.specs.tries.Trie.{Trie, Children, Descent, behind, descend, descend_child, descend_tree, own_pair, prefix_of, value_of, with_prefix}
+use Rattle.rart_nodes.specs.tries.Trie.{Trie, Descent, descend_tree, own_pair, prefix_of, value_of, with_prefix}
 use Rattle.rart_nodes.specs.tries.TrieCode.{node_count}
 use Rattle.rart_nodes.specs.walks.ProbeCount.{tree_entered}
 use Rattle.rart_nodes.specs.walks.Tour.{tree_count}
@@ -16,15 +16,6 @@ collects = record {
   absent = [];
   on = λ t es. with_prefix (prefix_of t) (own_pair (value_of t) ++ es);
 }
-
-abbrev pub trie_matches : {V : Type 0} → List ℕ → Trie V → List (List ℕ × V)
-trie_matches k t = descend collects k t
-
-abbrev pub child_matches : {V : Type 0} → ℕ → List ℕ → Children V → List (List ℕ × V)
-child_matches b k cs = descend_child collects b k cs
-
-abbrev pub matches_behind : {V : Type 0} → Option (List ℕ) → List ℕ → Option V → (ℕ → List ℕ → List (List ℕ × V)) → List (List ℕ × V)
-matches_behind o p v f = behind [] (with_prefix p (own_pair v)) (λ es. with_prefix p (own_pair v ++ es)) o f
 
 abbrev pub tree_matches : {V : Type 0} → List ℕ → Option (Trie V) → List (List ℕ × V)
 tree_matches k o = descend_tree collects k o

@@ -2,7 +2,7 @@
 use Rattle.std.specs.Prelude.{ℕ, ◌≡◌, ◌≤◌, ◌+◌, ◌==◌, List, [], ◌∷◌, Option, Some, None, MatchOption, if◌then◌else◌}
 use Rattle.std.specs.List.{list_any}
 use Rattle.rart_nodes.specs.shapes.Shape.{NodeRecord, record_at}
-use Rattle.rart_nodes.specs.tries.Trie.{Trie, Children, Descent, behind, descend, descend_child, descend_tree}
+use Rattle.rart_nodes.specs.tries.Trie.{Trie, Descent, descend, descend_tree}
 
 -- 1 where there is a branch point from which keys go on by b
 abbrev pub goes_on : Option NodeRecord → ℕ → ℕ
@@ -25,12 +25,6 @@ counts = record { left = λ k t. 1; ended = λ t. 1; absent = 0; on = λ t n. 1 
 
 abbrev pub entered_nodes : {V : Type 0} → List ℕ → Trie V → ℕ
 entered_nodes k t = descend counts k t
-
-abbrev pub entered_child : {V : Type 0} → ℕ → List ℕ → Children V → ℕ
-entered_child b k cs = descend_child counts b k cs
-
-abbrev pub entered_behind : Option (List ℕ) → (ℕ → List ℕ → ℕ) → ℕ
-entered_behind o f = behind 1 1 (λ n. 1 + n) o f
 
 -- the same of a tree
 abbrev pub tree_entered : {V : Type 0} → List ℕ → Option (Trie V) → ℕ

@@ -1,7 +1,7 @@
 use Rattle.std.proofs.Common.{rules, ◌≡◌, ◌+◌, ◌<◌, arith, ap, ◌∙◌, refl, length, drop}
 use Rattle.rart_keys.specs.SortedMap.{keys_of}
 use Rattle.rart_nodes.specs.shapes.Shape.{capacity_of}
-use Rattle.rart_nodes.proofs.build.RunLemmas.{part-from}
+use Rattle.rart_nodes.proofs.tries.PrefixedStrings.{slice_from-is}
 use Rattle.rart_nodes.proofs.build.StretchLemmas.{lone-rests, reach-at}
 use Rattle.rart_nodes.proofs.build.OpeningLemmas.{byte-is, opening, own-one, own-none, rest-goes_on, rest-ascends}
 use Rattle.rart_nodes.proofs.build.BuildLemmas.{start-here, start-on, started, next-room, next-fewer, next-stretch, next-callable, building-refused, building-step, building-end}
@@ -17,8 +17,8 @@ pub count_branches-requires : goal.count_branches-requires
 count_branches-requires g t c =
     let at_start = opening _ c.args.depth _ _ c.args.keys.now _ c.requires.stretch c.shared_part-prefix.ensures.part c.len.ensures in
     record {
-      go_on = rest-goes_on _ _ _ _ c.args.keys.now _ _ _ at_start (rw c.len.ensures c.shared_part-prefix.ensures.reach) (c.from-own.ensures ∙ byte-is _) (part-from _ c.args.keys.now);
-      ascending = rest-ascends _ _ _ _ c.args.keys.now _ _ _ at_start (part-from _ c.args.keys.now);
+      go_on = rest-goes_on _ _ _ _ c.args.keys.now _ _ _ at_start (rw c.len.ensures c.shared_part-prefix.ensures.reach) (c.from-own.ensures ∙ byte-is _) (slice_from-is c.args.keys.now _);
+      ascending = rest-ascends _ _ _ _ c.args.keys.now _ _ _ at_start (slice_from-is c.args.keys.now _);
     }
 
 pub loop-rest-init : goal.loop-rest-init
@@ -27,11 +27,11 @@ loop-rest-init g t c =
     let wide = c.in_ok-storage.ensures.width ∙ ap capacity_of c.count_branches.ensures in
     elim c.if-own-eq1.branch [
       | then-own-eq1 w ↦ started _ _ _ _ _ _ _ _ _ _ _ _ _ (rw (w.value-is, w.take_value-is) (start-here _ _ _ _ _ _ _ _ _ _ _ _ _ at_start c.in_ok-storage.ensures.stored wide _ _ _
-          (part-from _ c.args.keys.now ∙ ap (λ z. drop z c.args.keys.now) w.if-own-eq1.true) (own-one _ _ _ (c.from-own.ensures ∙ byte-is _) w.if-own-eq1.true) (ap (λ z. c.args.from + z) w.if-own-eq1.true) c.requires.callable w.take_value-then-own-eq1.ensures))
+          (slice_from-is c.args.keys.now _ ∙ ap (λ z. drop z c.args.keys.now) w.if-own-eq1.true) (own-one _ _ _ (c.from-own.ensures ∙ byte-is _) w.if-own-eq1.true) (ap (λ z. c.args.from + z) w.if-own-eq1.true) c.requires.callable w.take_value-then-own-eq1.ensures))
       | else-own-eq1 w ↦
           let none = own-none _ _ _ (c.from-own.ensures ∙ byte-is _) w.if-own-eq1.false (rw c.len.ensures c.shared_part-prefix.ensures.reach) in
           started _ _ _ _ _ _ _ _ _ _ _ _ _ (rw (w.value-is, w.take_value-is) (start-on _ _ _ _ _ _ _ _ _ _ _ _ _ at_start c.in_ok-storage.ensures.stored wide _ _
-          (part-from _ c.args.keys.now ∙ ap (λ z. drop z c.args.keys.now) none.0) none.1 (omega (arith, none.0)) refl c.requires.callable))
+          (slice_from-is c.args.keys.now _ ∙ ap (λ z. drop z c.args.keys.now) none.0) none.1 (omega (arith, none.0)) refl c.requires.callable))
     ]
 
 pub build_below-requires : goal.build_below-requires
@@ -72,12 +72,12 @@ loop-rest-preserved g t c =
       | then-end-eq1 w ↦
           let leaf = w.new_leaf-child.ensures in
           started _ _ _ _ _ _ _ _ _ _ _ _ _ (building-step _ _ _ _ _ _ _ _ _ _ _ _ _ c.loop-rest.invariant.building _ _ _ _ c.if-end-eq1.child _ _ _ _ some now.run now.some now.within now.byte
-          refl (part-from _ c.loop-rest.rest.now) (rw w.child-is leaf.canonical) (rw w.child-is (ap keys_of leaf.pairs ∙ lone-rests _ _ c.loop-rest.rest.now _ _ w.if-end-eq1.true some w.rest_of.ensures))
+          refl (slice_from-is c.loop-rest.rest.now _) (rw w.child-is leaf.canonical) (rw w.child-is (ap keys_of leaf.pairs ∙ lone-rests _ _ c.loop-rest.rest.now _ _ w.if-end-eq1.true some w.rest_of.ensures))
           (rw (w.child-is, w.take_value-is, leaf.pairs) (_, w.take_value-then-end-eq1.ensures, refl)) c.add_within.ensures.stored c.add_within.ensures.width refl)
       | else-end-eq1+in_ok-child w ↦
           let child = w.in_ok-child.ensures in
           started _ _ _ _ _ _ _ _ _ _ _ _ _ (building-step _ _ _ _ _ _ _ _ _ _ _ _ _ c.loop-rest.invariant.building _ _ _ _ c.if-end-eq1.child _ _ _ _ some now.run now.some now.within now.byte
-          refl (part-from _ c.loop-rest.rest.now) (rw w.child-is child.canonical) (rw w.child-is child.keys) (rw (w.child-is, w.take_value-is) child.values) c.add_within.ensures.stored c.add_within.ensures.width refl)
+          refl (slice_from-is c.loop-rest.rest.now _) (rw w.child-is child.canonical) (rw w.child-is child.keys) (rw (w.child-is, w.take_value-is) child.values) c.add_within.ensures.stored c.add_within.ensures.width refl)
     ]
 
 pub returns-clause-canonical : goal.returns-clause-canonical

@@ -2,7 +2,8 @@ use Rattle.std.proofs.Common.{ap, ◌∙◌, refl, sym, arith}
 use Rattle.std.proofs.lemmas.List.{length-drop}
 use Rattle.rart_nodes.specs.storages.Stored.{stored, width_of}
 use Rattle.rart_nodes.proofs.storages.ChildLemmas.{child_at-beside}
-use Rattle.rart_nodes.proofs.edits.Descent.{first, first-differ, slice_from-is}
+use Rattle.rart_nodes.proofs.edits.Descent.{first, first-differ}
+use Rattle.rart_nodes.proofs.tries.PrefixedStrings.{slice_from-is}
 use Rattle.rart_nodes.proofs.edits.InsertLemmas.{cut-lower, cut-fork}
 use Rattle.rart_nodes.proofs.tries.RestLemmas.{parts-within}
 use Rattle.rart_nodes.proofs.node.DefaultNode.split.Goals as goal
