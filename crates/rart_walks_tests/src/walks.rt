@@ -2,7 +2,6 @@
 //! for.
 
 mod asking;
-mod conditions;
 mod copies;
 mod counted;
 mod forms;
