@@ -6,7 +6,7 @@ ghost use Rattle.rart_keys.specs.SortedMap.{IsAscending};
 ghost use Rattle.rart.specs.Steps.{pairs_in};
 
 use crate::play::Tree;
-use crate::play::replies::are_alike;
+use crate::play::replies::{are_alike, is_counted};
 use rart::laws::bulk_loads::bulk_load_equals_insertion;
 use rart::{AdaptiveRadixTree, ArrayKey, BulkError, KeyTrait, TreeStats, TreeStatsTrait};
 use rart_keys::laws::bulk_lists::ascending_pairs;
@@ -61,6 +61,27 @@ pub fn load_by_index<K: KeyTrait, W, V: Drop, F: FnMut(usize) -> V + Drop>(
     )
 }
 
+/// The keys of the items by `bulk_load_sorted_unique_by_index_by_ref`, with the values that `take` gives.
+fn load_by_index_lent<K: KeyTrait, W, V: Drop, F: FnMut(usize) -> V>(
+    alloc: Global,
+    items: &[(K, W)],
+    take: &mut F,
+) -> Result<AdaptiveRadixTree<K, V>, BulkError>
+    requires ascending { IsAscending (pairs_in K.bytes items.now) }
+    requires callable { (f : _) (i : _) → F.pre f i }
+{
+    ascending_pairs::<W>();
+    AdaptiveRadixTree::bulk_load_sorted_unique_by_index_by_ref(
+        alloc,
+        items.len(),
+        |i|
+            requires { i < length items.now }
+            ensures { (d : K × W) → result.now ≡ (slice_index_or items.entry.now i d).0 }
+        { &items[i].0 },
+        take,
+    )
+}
+
 /// The keys, each with its place.
 pub fn items_of(alloc: Global, keys: &[Key]) -> Result<Vec<(Key, u64)>, AllocError> {
     let mut items = Vec::new(alloc);
@@ -99,8 +120,10 @@ pub fn loads_alike(alloc: Global, keys: &[Key]) -> Result<Option<TreeStats>, All
         return Ok(None);
     };
     let items = items_of(alloc, keys)?;
+    let mut take = |i: usize| i as u64;
     if !ascend(&items)
         || !is_alike(load_by_index(alloc, &items, |i| i as u64), &wanted)
+        || !is_alike(load_by_index_lent(alloc, &items, &mut take), &wanted)
         || !is_alike(load_unique(alloc, items), &wanted)
         || !is_alike(
             Tree::bulk_load_sorted(alloc, items_of(alloc, keys)?),
@@ -137,23 +160,47 @@ fn halves_exchanged(
     Ok((items, exchanged))
 }
 
-// Whether the first items ascend and the law of bulk loads, called on both, gives trees that are alike.
-fn law_holds_of(alloc: Global, sorted: Vec<(Key, u64)>, shuffled: Vec<(Key, u64)>) -> bool
+// The statistics of both trees that the law of bulk loads gives, where the first items ascend and the trees are alike.
+fn law_holds_of(
+    alloc: Global,
+    sorted: Vec<(Key, u64)>,
+    shuffled: Vec<(Key, u64)>,
+) -> Option<(TreeStats, TreeStats)>
     requires { IsPermutation (pairs_in array_key_bytes sorted.items) (pairs_in array_key_bytes shuffled.items) }
 {
     if !ascend(&sorted) {
-        return false;
+        return None;
     }
     match bulk_load_equals_insertion(alloc, sorted, shuffled) {
-        Ok(((loaded, one), (inserted, other))) => one == other && are_alike(&loaded, &inserted),
-        Err(_refused) => false,
+        Ok(((loaded, one), (inserted, other))) => {
+            if are_alike(&loaded, &inserted) {
+                Some((one, other))
+            } else {
+                None
+            }
+        }
+        Err(_refused) => None,
     }
 }
 
-/// Whether the keys ascend and the law of bulk loads, called on them in both orders, gives trees that are alike.
-pub fn law_holds(alloc: Global, keys: &[Key]) -> Result<bool, AllocError> {
+/// Leaves, values, inner nodes and height; and for each capacity its nodes and their children.
+pub type Counts<'a> = ([usize; 4], &'a [(usize, usize, usize)]);
+
+fn are_both(of_both: Option<(TreeStats, TreeStats)>, counts: &Counts<'_>) -> bool {
+    match of_both {
+        Some((one, other)) => {
+            is_counted(&one, &counts.0, counts.1) && is_counted(&other, &counts.0, counts.1)
+        }
+        None => false,
+    }
+}
+
+/// Whether the keys ascend and the law of bulk loads, called on them in two orders, gives trees that are alike and
+/// have these statistics.
+pub fn law_holds(alloc: Global, keys: &[Key], counts: &Counts<'_>) -> Result<bool, AllocError> {
     let (sorted, shuffled) = both_ways(alloc, keys)?;
     let backward = law_holds_of(alloc, sorted, shuffled);
     let (sorted, shuffled) = halves_exchanged(alloc, keys)?;
-    Ok(backward && law_holds_of(alloc, sorted, shuffled))
+    let exchanged = law_holds_of(alloc, sorted, shuffled);
+    Ok(are_both(backward, counts) && are_both(exchanged, counts))
 }

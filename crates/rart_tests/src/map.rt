@@ -1,6 +1,7 @@
 //! Tests of the map.
 
 mod asks_for_nothing;
+mod calls;
 mod drops;
 mod laws;
 mod migrations;

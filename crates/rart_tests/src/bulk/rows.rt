@@ -1,6 +1,6 @@
 //! Bulk loads: what each form answers, how far it reads, and what is dropped where memory is refused.
 
-use crate::loads::{Key, ascend, law_holds, load_by_index, load_unique, loads_alike};
+use crate::loads::{Counts, Key, ascend, law_holds, load_by_index, load_unique, loads_alike};
 use crate::play::Tree;
 use crate::play::replies::is_counted;
 use rart::{AdaptiveRadixTree, BulkError, KeyTrait, TreeStats};
@@ -115,9 +115,6 @@ fn number_keys(alloc: Global, count: u64) -> Result<Vec<Key>, AllocError> {
     Ok(keys)
 }
 
-// Leaves, values, inner nodes and height; and for each width its nodes and their children.
-type Counts<'a> = ([usize; 4], &'a [(usize, usize, usize)]);
-
 fn are(loaded: Option<TreeStats>, counts: &Counts<'_>) -> bool {
     match loaded {
         Some(stats) => is_counted(&stats, &counts.0, counts.1),
@@ -143,8 +140,8 @@ fn texts_are_loaded_as_they_are_inserted(rt: HostRuntime) -> Result<(), Fail> {
 #[test]
 fn the_law_holds_of_texts(rt: HostRuntime) -> Result<(), Fail> {
     let alloc = rt.alloc();
-    for (texts, _counts) in &TEXTS {
-        assert!(rt; law_holds(alloc, &keys_of(alloc, texts)?)?);
+    for (texts, counts) in &TEXTS {
+        assert!(rt; law_holds(alloc, &keys_of(alloc, texts)?, counts)?);
     }
     Ok(())
 }

@@ -11,7 +11,7 @@ type Key = ArrayKey<16>;
 
 type Tree = AdaptiveRadixTree<Key, u64>;
 
-// The keys of a tree, ascending, with the values 0, 1 and so on; and those of the tree without closing zeros, or why there is none.
+// The keys of a tree, ascending, with the values 1, 2 and so on; and those of the tree without closing zeros, or why there is none.
 type Row = (
     &'static [&'static str],
     Result<&'static [&'static str], MigrateError>,
@@ -43,7 +43,7 @@ fn key(text: &str) -> Key {
 
 fn filled(rt: &impl Abort, alloc: Global, texts: &[&str]) -> Tree {
     let mut tree = Tree::new(alloc);
-    let mut value = 0_u64;
+    let mut value = 1_u64;
     for text in texts {
         assert!(rt; matches!(tree.insert(key(text), value), Ok(None)));
         value = value.wrapping_add(1);
@@ -51,9 +51,9 @@ fn filled(rt: &impl Abort, alloc: Global, texts: &[&str]) -> Tree {
     tree
 }
 
-// Whether these are the keys, with the values 0, 1 and so on.
+// Whether these are the keys, with the values 1, 2 and so on.
 fn holds(tree: &Tree, texts: &[&str]) -> bool {
-    let mut value = 0_u64;
+    let mut value = 1_u64;
     for text in texts {
         if tree.get_k(&key(text)) != Some(&value) {
             return false;
