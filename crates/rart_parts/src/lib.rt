@@ -6,11 +6,13 @@
 //! - [`utils::u8_keys`]: the place of a byte among keys, in order or not.
 //! - [`mapping`]: maps from bytes to children, sorted, in keyed slots, by an index, and with a place for each byte. Each
 //!   conversion keeps the map and empties its source; a refused one leaves the source as it was.
+//! - [`laws`]: facts on maps from bytes for the proofs of crates above.
 //!
 //! Memory is taken by each `new` and each `from_*` alone, which answer a Result.
 #![tactic(auto)]
 
 pub mod error;
+pub mod laws;
 pub mod mapping;
 pub mod utils;
 

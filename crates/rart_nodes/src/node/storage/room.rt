@@ -5,9 +5,9 @@ ghost use Rattle.rart_nodes.specs.storages.Widths.{widened};
 ghost use Rattle.rart_nodes.specs.storages.Stored.{stored, width_of};
 
 use crate::node::storage::Storage;
-use rart_parts::TreeError;
 use rart_parts::mapping::{DirectMapping, IndexedMapping, NodeMapping, SortedKeyedMapping};
 use rart_parts::utils::bitset::Bitset64;
+use rart_parts::{TreeError, laws};
 use std::alloc::{AllocFailed, Global};
 use std::mem;
 
@@ -102,6 +102,7 @@ impl<N> Storage<N> {
         ensures full { result ≡ false → length (stored self.now) ≡ width_of self.now }
         ensures not_widest { result ≡ false → width_of self.now < 256 }
     {
+        laws::free_byte::<N>();
         match self {
             Storage::Leaf => false,
             Storage::Four(map) => map.num_children() < 4,

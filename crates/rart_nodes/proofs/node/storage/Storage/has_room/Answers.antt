@@ -1,7 +1,6 @@
 use Rattle.std.proofs.Common.{◌≡◌, ◌<◌, None, arith, sym, ap, ◌∙◌}
 use Rattle.std.proofs.lemmas.Bool.Decides.{nat_tests}
 use Rattle.rart_parts.specs.Entries.{child_at}
-use Rattle.rart_parts.proofs.EntryLemmas.{length-between_absent}
 use Rattle.rart_nodes.specs.storages.Stored.{stored}
 use Rattle.rart_nodes.proofs.node.storage.Storage.has_room.Goals as goal
 
@@ -10,5 +9,5 @@ returns-in-Full-clause-not_widest g c =
     let n = c.num_children-in-Full.ensures in
     let es = c.deref-in-Full.result.now in
     let absent : child_at c.args.b es ≡ None = ap (child_at c.args.b) c.deref-in-Full.ensures ∙ sym (ap (λ s. child_at c.args.b (stored s)) c.in-Full.is) ∙ c.requires in
-    let less : c.num_children-in-Full.result < 256 = omega (arith, n.count, length-between_absent 0 256 c.args.b es (omega arith) (omega (arith, c.ranges.b.fits)) absent n.ascends (λ b l. absurd (omega (arith, l))) n.bytes) in
+    let less : c.num_children-in-Full.result < 256 = omega (arith, n.count, c.free_byte.ensures.few c.args.b es (omega (arith, c.ranges.b.fits)) absent n.ascends n.bytes) in
     λ full. grind (arith, nat_tests)
