@@ -6,5 +6,5 @@ mod copies;
 mod counted;
 mod forms;
 mod laws;
-mod segments;
+pub mod segments;
 mod sweeps;

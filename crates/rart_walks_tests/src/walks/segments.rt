@@ -26,8 +26,8 @@ const CUT: [(u64, &str); 7] = [
     (7, "b|"),
 ];
 
-// What is left of a text behind a segment and a bar.
-fn behind<'a>(text: &'a [u8], segment: &[u8]) -> Option<&'a [u8]> {
+/// What is left of a text after a segment and a bar.
+pub fn behind<'a>(text: &'a [u8], segment: &[u8]) -> Option<&'a [u8]> {
     if !text.starts_with(segment) {
         return None;
     }
