@@ -2,6 +2,8 @@
 
 In a run with one request refused the program ends with status 0, and each line is the answer of a run in which the refused
 command was left out, or `Memory`; or it ends with status 1 and says that it cannot read, and has printed nothing.
+
+At a malformed line the program ends with status 2, and names the line.
 """
 import fcntl
 import os
@@ -37,6 +39,13 @@ leaves 2 values 2 inner 1 children 2 width 4 height 2 w4:1/2
 none
 2
 """
+
+# An input with a malformed line, the answers before that line, and its number.
+BAD_LINES = (
+    (b"insert a 1\nfoo\nlen\n", b"none\n", 2),
+    (b"insert - 5\n\nget\n", b"none\n", 3),
+    (b"INSERT a 1", b"", 1),
+)
 
 
 def all_widths():
@@ -138,6 +147,15 @@ def failed_write(program):
     return "" if status == 1 else f"errors to /dev/full: status {status}"
 
 
+def bad_lines(program):
+    """The answers before a malformed line, the message that names the line, and status 2."""
+    for script, answers, line in BAD_LINES:
+        ended = run(program, script)[:3]
+        if ended != (2, answers, b"line %d: bad command\n" % line):
+            return f"line {line}: {ended}"
+    return ""
+
+
 def checks(program, library):
     """Each check: its name, why it failed, or nothing, and how many requests were refused."""
     for name, script in (("ten lines", TEN_LINES), ("all widths", all_widths())):
@@ -145,5 +163,10 @@ def checks(program, library):
         yield f"{name}, each request refused", why, refused
     status, printed, said, _ = run(program, TEN_LINES)
     yield "ten lines", "" if (status, printed, said) == (0, TEN_ANSWERS, b"") else "other answers", 0
-    for name, check in (("short reads", short_reads), ("a failed read", failed_read), ("failed writes", failed_write)):
+    for name, check in (
+        ("bad lines", bad_lines),
+        ("short reads", short_reads),
+        ("a failed read", failed_read),
+        ("failed writes", failed_write),
+    ):
         yield name, check(program), 0

@@ -1,9 +1,10 @@
-//! Tests of the map over its public calls: tables of calls and wanted replies, and small helpers for what no call as a
-//! value can say.
+//! Tests of the map over its public calls: bulk loads, laws, migrations, drops, and updates with each request for memory
+//! refused.
 //!
 //! Nothing depends on this crate, and it is no part of the product. A crate with tests is proved twice, so the tests
-//! stand in crates of their own; what has to look at private parts stands beside them. What goes through a map is
-//! tested in `rart_walks_tests`, nodes in `rart_nodes_tests`, parts and keys in `rart_parts_tests`.
+//! stand in crates of their own; what has to look at private parts stands beside them. Rows of calls and replies are
+//! played in `rart_calls_tests`; what goes through a map is tested in `rart_walks_tests`, nodes in `rart_nodes_tests`,
+//! parts and keys in `rart_parts_tests`.
 #![tactic(auto)]
 
 #[cfg(test)]

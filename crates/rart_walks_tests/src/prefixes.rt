@@ -65,16 +65,27 @@ fn are_below(mut found: Iter<'_, Key, ArrPartial<16>, u64>, wanted: &[Pair]) -> 
     found.next().is_none() && found.next().is_none()
 }
 
-fn is_longest(tree: &Tree, key: &Key, probe: &[u8], matches: &[Pair]) -> bool {
-    let value = matches.last().map(|pair| pair.1);
-    let longest = match (tree.longest_prefix_match_k(key), matches.last()) {
+fn is_found(found: Option<(Key, &u64)>, wanted: Option<&Pair>) -> bool {
+    match (found, wanted) {
         (Some(found), Some(pair)) => is_pair(&found, pair),
         (None, None) => true,
         _ => false,
-    };
-    longest
-        && tree.longest_prefix_value_k(key).copied() == value
+    }
+}
+
+// In the forms that take a key, a reference to one, and bytes.
+fn is_longest(tree: &Tree, key: Key, probe: &[u8], matches: &[Pair]) -> bool {
+    let value = matches.last().map(|pair| pair.1);
+    is_found(tree.longest_prefix_match_k(&key), matches.last())
+        && is_found(tree.longest_prefix_match(key), matches.last())
+        && tree.longest_prefix_value_k(&key).copied() == value
+        && tree.longest_prefix_value(key).copied() == value
         && tree.longest_prefix_value_bytes(probe).copied() == value
+}
+
+fn are_all_matches(tree: &Tree, key: Key, wanted: &[Pair]) -> bool {
+    are_matches(tree.prefix_match_iter_k(&key), wanted)
+        && are_matches(tree.prefix_match_iter(key), wanted)
 }
 
 // Whether the row's answers are the tree's; the walk below is refused where memory is.
@@ -83,11 +94,7 @@ fn is_row(tree: &Tree, probe: &[u8], row: &Row) -> Result<bool, TreeError>
 {
     let key = Key::new_from_slice(probe);
     let below = are_below(tree.prefix_iter_k(&key)?, row.2);
-    Ok(
-        below
-            && is_longest(tree, &key, probe, row.1)
-            && are_matches(tree.prefix_match_iter_k(&key), row.1),
-    )
+    Ok(below && is_longest(tree, key, probe, row.1) && are_all_matches(tree, key, row.1))
 }
 
 // The first row that goes another way, if one does.
@@ -240,8 +247,7 @@ fn is_asked_for_nothing(rt: &impl Abort, alloc: Global, tree: &Tree, row: &Row) 
     assert!(rt; probe.len() <= 16);
     let key = Key::new_from_slice(probe);
     refuse(alloc, 1);
-    let as_wanted = is_longest(tree, &key, probe, row.1)
-        && are_matches(tree.prefix_match_iter_k(&key), row.1);
+    let as_wanted = is_longest(tree, key, probe, row.1) && are_all_matches(tree, key, row.1);
     as_wanted && !was_refused(alloc)
 }
 

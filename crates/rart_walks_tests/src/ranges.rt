@@ -208,6 +208,34 @@ fn a_range_gives_the_pairs_within_its_ends(rt: HostRuntime) {
     );
 }
 
+fn three_texts(rt: &impl Abort, alloc: Global) -> Tree {
+    let mut tree = Tree::new(alloc);
+    let stored = tree.insert(Key::new_from_str("cherry"), 3).is_ok()
+        && tree.insert(Key::new_from_str("banana"), 2).is_ok()
+        && tree.insert(Key::new_from_str("apple"), 1).is_ok();
+    assert!(rt; stored);
+    tree
+}
+
+// How many texts come before "b", from "a" on.
+fn count_before_b(tree: &Tree) -> Result<usize, TreeError> {
+    let mut texts = tree.range(
+        Bound::Included(Key::new_from_str("a")),
+        Bound::Excluded(Key::new_from_str("b")),
+    )?;
+    let mut count = 0_usize;
+    while let Some(_text) = texts.next() {
+        count = count.wrapping_add(1);
+    }
+    Ok(count)
+}
+
+#[test]
+fn one_of_three_texts_is_within_two_texts(rt: HostRuntime) {
+    let tree = three_texts(&rt, rt.alloc());
+    assert!(rt; count_before_b(&tree) == Ok(1));
+}
+
 // What an iterator over FOUR whose first pair was taken has left before "az".
 fn is_left_within(mut pairs: Iter<'_, Key, ArrPartial<16>, u64>) -> bool {
     match (pairs.next(), bound(Out("az"))) {

@@ -7,5 +7,5 @@ mod counted;
 mod forms;
 mod laws;
 mod seen_forms;
-mod segments;
+pub mod segments;
 mod sweeps;

@@ -285,3 +285,23 @@ fn conversions_of_keyed_maps_refused_in_turn_keep_the_children(
     assert!(rt; refused_in_turn::<16, 48, Keyed16, Indexed48>(alloc)?);
     Ok(())
 }
+
+fn is_empty<const W: usize>(map: &impl NodeMapping<u8, W>) -> bool {
+    map.num_children() == 0
+}
+
+#[test]
+fn five_scattered_children_are_converted_in_the_order_of_their_bytes(
+    rt: HostRuntime,
+) -> Result<(), Fail> {
+    let alloc = rt.alloc();
+    let mut sorted = Sorted16::new(alloc)?;
+    assert!(rt; fill(&mut sorted, &[17, 3, 47, 9, 31]));
+    let indexed = Indexed48::converted(alloc, &mut sorted)?;
+    assert!(rt; is_empty(&sorted) && lends(indexed.iter(), &[3, 9, 17, 31, 47]));
+    let mut indexed = Indexed48::new(alloc)?;
+    assert!(rt; fill(&mut indexed, &[200, 3, 47, 17, 129]));
+    let direct = Direct256::converted(alloc, &mut indexed)?;
+    assert!(rt; is_empty(&indexed) && lends(direct.iter(), &[3, 17, 47, 129, 200]));
+    Ok(())
+}

@@ -1,7 +1,7 @@
 //! Intersections: the keys of two trees, with the values of both.
 
 use crate::prefixes::{Key, Pair, Tree, filled};
-use rart::{KeyTrait, LendingKeyView, TreeError, TreeStatsTrait};
+use rart::{KeyTrait, LendingKeyView, TreeError};
 use rart_test_tools::refusals::{part_ends, refuse, was_refused};
 use std::alloc::Global;
 use std::process::Abort;
@@ -206,74 +206,12 @@ fn keys_of_both_trees(rt: HostRuntime) {
     assert_eq!(rt; plays(&rt, rt.alloc(), &ROWS), None);
 }
 
-// Whether the views so far were cut as wanted.
-#[derive(Drop)]
-struct Cuts<'a> {
-    wanted: &'a [&'a [&'a str]],
-    many: usize,
-    well: bool,
-}
-
-fn is_cut(segments: &[&[u8]], wanted: &[&str]) -> bool {
-    if segments.len() != wanted.len() {
-        return false;
-    }
-    for (segment, text) in segments.iter().zip(wanted) {
-        if *segment != text.as_bytes() {
-            return false;
-        }
-    }
-    true
-}
-
-impl<'a> Cuts<'a> {
-    fn view(&mut self, key: LendingKeyView<'_, '_>) {
-        let as_wanted = match self.wanted.get(self.many) {
-            Some(wanted) => is_cut(key.segments(), wanted),
-            None => false,
-        };
-        self.well = self.well && as_wanted;
-        self.many = self.many.wrapping_add(1);
-    }
-}
-
-fn is_cut_so(left: &Tree, right: &Tree, wanted: &[&[&str]]) -> bool {
-    let mut cuts = Cuts {
-        wanted,
-        many: 0,
-        well: true,
-    };
-    let answer = left.intersect_lending_with(
-        right,
-        |key: LendingKeyView<'_, '_>, _one: &u64, _other: &u64| cuts.view(key),
-    );
-    answer.is_ok() && cuts.well && cuts.many == wanted.len()
-}
-
-const CUT_WORDS: [&[&str]; 2] = [&["ab", "c"], &["dog"]];
-
-// How many nodes stand.
-fn count_nodes(tree: &Tree) -> Option<usize> {
-    match tree.get_tree_stats() {
-        Ok(stats) => Some(stats.num_leaves.wrapping_add(stats.num_inner_nodes)),
-        Err(_) => None,
-    }
-}
-
-#[test]
-fn a_view_is_cut_where_prefixes_part_and_at_the_byte_behind(rt: HostRuntime) {
-    let words = filled(&rt, rt.alloc(), &WORDS);
-    let others = filled(&rt, rt.alloc(), &OTHER_WORDS);
-    assert!(rt; is_cut_so(&words, &others, &CUT_WORDS));
-    assert!(rt; is_cut_so(&others, &words, &CUT_WORDS));
-    assert!(rt; count_nodes(&words) == Some(4) && count_nodes(&others) == Some(4));
-}
-
 // Whether counts and values are given while the next request for memory is refused.
 fn is_asked_for_nothing(alloc: Global, left: &Tree, right: &Tree, wanted: &[Triple]) -> bool {
     refuse(alloc, 1);
     let count = left.intersect_count(right);
-    let well = gives_values(left, right, wanted, false);
+    let well = gives_values(left, right, wanted, false)
+        && gives_values_by_ref(left, right, wanted, false);
     count == wanted.len() && well && !was_refused(alloc)
 }
 

@@ -30,7 +30,7 @@ fn a_full_node_beside_five_keys(rt: HostRuntime) {
     assert!(rt; is_met(&all, &five, &OF_FIVE));
 }
 
-// The next number that both divide, from this one on.
+// The next number that both divide, from this one on; 256 after the last one, and a number above that stays.
 fn next_multiple(from: usize, one: u8, other: u8) -> usize {
     for number in from..256_usize {
         if number.checked_rem(usize::from(one)) == Some(0)
@@ -39,7 +39,7 @@ fn next_multiple(from: usize, one: u8, other: u8) -> usize {
             return number;
         }
     }
-    256
+    from.max(256)
 }
 
 // The number behind this one where the key is its byte and both values are it; and else one past all.

@@ -23,6 +23,7 @@ const QUIET: [Row; 12] = [
 // Whether all goes well while the next request is refused, and none is made.
 fn is_quiet(alloc: Global, table: &mut Table) -> bool {
     refuse(alloc, 1);
+    table.canonical();
     let covered = covers(table, "/api/v1", &[("/", 1), ("/api", 2), ("/api/v1", 3)])
         && covers(table, "api", &[]);
     let played = plays(table, &QUIET);
@@ -37,4 +38,17 @@ fn look_ups_of_routes_ask_for_nothing(rt: HostRuntime) {
         is_quiet(rt.alloc(), &mut table),
     );
     assert!(rt; filled.is_none() && quiet);
+}
+
+fn is_quiet_when_new(alloc: Global) -> bool {
+    refuse(alloc, 1);
+    let table = Table::new(alloc);
+    table.canonical();
+    let empty = table.is_empty();
+    !was_refused(alloc) && empty
+}
+
+#[test]
+fn a_new_table_asks_for_nothing(rt: HostRuntime) {
+    assert!(rt; is_quiet_when_new(rt.alloc()));
 }

@@ -3,7 +3,7 @@
 use super::{Ask, Reply, Row, Table, answer, key, plays};
 use rart::{LendingKeyView, TreeError};
 use rart_test_tools::refusals::{part_ends, refuse, was_refused};
-use std::alloc::Global;
+use std::alloc::{AllocError, Global};
 use std::cell::Cell;
 
 const BRANCHES: [Row; 7] = [
@@ -17,7 +17,7 @@ const BRANCHES: [Row; 7] = [
 ];
 
 // What stands before an edit that makes a node anew, and the edit.
-const EDITS: [(&[Row], Row); 5] = [
+const EDITS: [(&[Row], Row); 7] = [
     // a node for two routes, and its growth beyond four
     (
         &[(Ask::Add("/a/b", 1), Reply::Added)],
@@ -27,7 +27,12 @@ const EDITS: [(&[Row], Row); 5] = [
         &[(Ask::Add("/a/b", 1), Reply::Added)],
         (Ask::Replace("/a/c", 2), Reply::Value(None)),
     ),
+    (
+        &[(Ask::Add("/a/b", 1), Reply::Added)],
+        (Ask::AddNew("/a/c", 2), Reply::Added),
+    ),
     (&FOUR, (Ask::Add("/a/f", 5), Reply::Added)),
+    (&FOUR, (Ask::AddNew("/a/f", 5), Reply::Added)),
     (&FOUR, (Ask::Replace("/a/f", 5), Reply::Value(None))),
     // its shrinking to four
     (&BRANCHES, (Ask::Withdraw("/a/c"), Reply::Value(Some(2)))),
@@ -40,46 +45,82 @@ const FOUR: [Row; 4] = [
     (Ask::Add("/a/e", 4), Reply::Added),
 ];
 
-const PROBES: [&str; 7] = ["/a/b", "/a/c", "/a/d", "/a/e", "/a/f", "/a", "a"];
-
-// Where the probes are routed.
-fn targets(table: &Table) -> [Option<u64>; 7] {
-    let mut found = [None; 7];
-    for (place, probe) in found.iter_mut().zip(&PROBES) {
-        *place = table.route(probe.as_bytes()).copied();
+// Writes a bar after each segment of the prefix, and then the target, which is below 256.
+fn write_route(
+    text: &mut Vec<u8>,
+    view: LendingKeyView<'_, '_>,
+    target: u64,
+) -> Result<(), AllocError> {
+    for segment in view.segments() {
+        text.extend_from_slice(*segment)?;
+        text.push(b'|')?;
     }
-    found
+    text.push((target % 256) as u8)?;
+    Ok(())
 }
 
-// A refused edit hands its target back and changes no route. Whether a request was refused.
-fn edit_is_refused_well(alloc: Global, table: &mut Table, row: &Row, at: usize) -> Option<bool> {
-    let before = (table.len(), targets(table));
+// All routes of the table: their prefixes, cut at the nodes above them, and their targets.
+fn written(alloc: Global, table: &Table) -> Option<Vec<u8>> {
+    let mut text = Vec::new(alloc);
+    let mut whole = true;
+    let mut write = |view: LendingKeyView<'_, '_>, target: &u64| {
+        whole = write_route(&mut text, view, *target).is_ok() && whole;
+    };
+    table.below_for_each_by_ref(&key(""), &mut write).ok()?;
+    whole.then_some(text)
+}
+
+// Whether both tables have the same routes and nodes at the same prefixes.
+fn are_alike(alloc: Global, one: &Table, other: &Table) -> bool {
+    match (written(alloc, one), written(alloc, other)) {
+        (Some(text), Some(wanted)) => {
+            one.len() == other.len() && text.as_slice() == wanted.as_slice()
+        }
+        _ => false,
+    }
+}
+
+// A refused edit hands its target back.
+fn is_handed_back(ask: Ask, reply: Reply) -> bool {
+    match ask {
+        Ask::Add(_, target) | Ask::AddNew(_, target) | Ask::Replace(_, target) => {
+            reply == Reply::Returned(target)
+        }
+        Ask::Withdraw(_) => reply == Reply::Refused,
+        _ => false,
+    }
+}
+
+// A refused edit leaves the table as `unrefused` is, and an edit with memory as that one is after it. Whether a request was
+// refused.
+fn edit_is_refused_well(
+    alloc: Global,
+    table: &mut Table,
+    unrefused: &mut Table,
+    row: &Row,
+    at: usize,
+) -> Option<bool> {
     refuse(alloc, at);
     let reply = answer(table, row.0);
     let refused = was_refused(alloc);
-    let well = if !refused {
-        reply == row.1
+    let well = if refused {
+        is_handed_back(row.0, reply)
     } else {
-        let handed_back = match row.0 {
-            Ask::Add(_, target) | Ask::Replace(_, target) => reply == Reply::Returned(target),
-            Ask::Withdraw(_) => reply == Reply::Refused,
-            _ => false,
-        };
-        handed_back && (table.len(), targets(table)) == before
+        reply == row.1 && answer(unrefused, row.0) == row.1
     };
-    well.then_some(refused)
+    (well && are_alike(alloc, table, unrefused)).then_some(refused)
 }
 
 // Each request of the edit refused in turn, and at last none.
 fn edit_is_swept(alloc: Global, stands: &[Row], edit: &Row) -> bool {
-    let mut table = Table::new(alloc);
-    let filled = plays(&mut table, stands);
+    let (mut table, mut unrefused) = (Table::new(alloc), Table::new(alloc));
+    let filled = plays(&mut table, stands).is_none() && plays(&mut unrefused, stands).is_none();
     for at in 1..100_usize {
-        match edit_is_refused_well(alloc, &mut table, edit, at) {
+        match edit_is_refused_well(alloc, &mut table, &mut unrefused, edit, at) {
             Some(true) => {}
             Some(false) => {
                 part_ends(alloc);
-                return filled.is_none();
+                return filled;
             }
             None => return false,
         }

@@ -1,8 +1,10 @@
 //! Views of three and more segments: a key is cut at each node above its own.
 
 use crate::prefixes::{Pair, Tree, filled, key};
-use rart::LendingKeyView;
+use rart::{AdaptiveRadixTree, ArrayKey, KeyTrait, LendingKeyView, TreeError, TreeStatsTrait};
+use std::alloc::Global;
 use std::cell::Cell;
+use std::process::Abort;
 
 // "abcd" and "abce" part below "abc", "abcd" stands above "abcdef", and "abcdeg" parts from that below "abcde".
 const PAIRS: [Pair; 7] = [
@@ -26,8 +28,8 @@ const CUT: [(u64, &str); 7] = [
     (7, "b|"),
 ];
 
-// What is left of a text behind a segment and a bar.
-fn behind<'a>(text: &'a [u8], segment: &[u8]) -> Option<&'a [u8]> {
+/// What is left of a text after a segment and a bar.
+pub fn behind<'a>(text: &'a [u8], segment: &[u8]) -> Option<&'a [u8]> {
     if !text.starts_with(segment) {
         return None;
     }
@@ -98,4 +100,43 @@ fn a_key_is_cut_at_each_node_above_its_own(rt: HostRuntime) {
     assert_eq!(rt; cut_below(&tree), 3);
     assert!(rt; longest_is_cut(&tree, b"abcdeghijk", 4));
     assert!(rt; longest_is_cut(&tree, b"abcde", 1));
+}
+
+type ShortKey = ArrayKey<4>;
+
+type ShortTree = AdaptiveRadixTree<ShortKey, u64>;
+
+fn abcd_and_abce(rt: &impl Abort, alloc: Global) -> ShortTree {
+    let mut tree = ShortTree::new(alloc);
+    let stored = tree.insert(ShortKey::new_from_slice(b"abcd"), 1).is_ok()
+        && tree.insert(ShortKey::new_from_slice(b"abce"), 2).is_ok();
+    assert!(rt; stored);
+    tree
+}
+
+fn without_abce(rt: &impl Abort, mut tree: ShortTree) -> ShortTree {
+    let removed = tree.remove_k(&ShortKey::new_from_slice(b"abce"));
+    assert!(rt; removed == Ok(Some(2)));
+    tree
+}
+
+// How many leaves and inner nodes stand, and how many keys are seen, the first of them cut as wanted.
+fn shape(tree: &ShortTree, first: &[u8]) -> Result<(usize, usize, usize), TreeError> {
+    let stats = tree.get_tree_stats()?;
+    let seen = Cell::new(0_usize);
+    tree.for_each_view(|view: LendingKeyView<'_, '_>, _value: &u64| {
+        if seen.get() != 0 || is_cut(view, first) {
+            seen.set(seen.get().wrapping_add(1));
+        }
+    })?;
+    Ok((stats.num_leaves, stats.num_inner_nodes, seen.get()))
+}
+
+// A key of one segment that is the only node's: the root is its leaf.
+#[test]
+fn a_removal_leaves_the_last_key_as_a_leaf_at_the_root(rt: HostRuntime) {
+    let tree = abcd_and_abce(&rt, rt.alloc());
+    assert!(rt; shape(&tree, b"abc|d|") == Ok((2, 1, 2)));
+    let tree = without_abce(&rt, tree);
+    assert!(rt; shape(&tree, b"abcd|") == Ok((1, 0, 1)));
 }

@@ -4,7 +4,6 @@
 ghost use Rattle.std.specs.Prelude.{◌≡◌};
 ghost use Rattle.rart.specs.Updates.{written_slot};
 
-use crate::play::Then;
 use rart::{AdaptiveRadixTree, ArrayKey, KeyTrait, Slot, SlotUpdate, TryUpdateError, UpdateError};
 use rart_test_tools::counted::Counted;
 use rart_test_tools::refusals::{is_swept, refuse, was_refused};
@@ -14,6 +13,16 @@ use std::cell::Cell;
 type Key = ArrayKey<4>;
 
 type Tree<'a> = AdaptiveRadixTree<Key, Counted<'a>>;
+
+/// What the callback of an update asks for.
+#[derive(Clone, Copy)]
+enum Then {
+    Keep,
+    Remove,
+    /// The value of this number.
+    Insert(u8),
+    Fail,
+}
 
 #[derive(Clone, Copy, PartialEq, Eq)]
 enum Answer {
@@ -45,7 +54,7 @@ fn filled<'a>(alloc: Global, drops: &'a Cell<usize>, count: u8) -> Tree<'a> {
 // What a callback asks for: nothing where it fails.
 fn asked<'a>(then: Then, drops: &'a Cell<usize>) -> Result<SlotUpdate<Counted<'a>>, ()> {
     match then {
-        Then::Insert(number) => Ok(SlotUpdate::Insert(Counted((number % 256) as u8, drops))),
+        Then::Insert(number) => Ok(SlotUpdate::Insert(Counted(number, drops))),
         Then::Remove => Ok(SlotUpdate::Remove),
         Then::Keep => Ok(SlotUpdate::Keep),
         Then::Fail => Err(()),

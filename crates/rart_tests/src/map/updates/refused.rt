@@ -1,19 +1,17 @@
 //! Updates with each request for memory refused: what was written stays or is taken back, and the nodes are as before.
 
-use crate::play::Tree as PlayedTree;
-use crate::play::replies::{are_alike, have_same_statistics};
 use rart::script::{Call, Reply, step};
 use rart::{
     AdaptiveRadixTree, ArrayKey, KeyTrait, Slot, SlotUpdate, TreeError, TryUpdateError, UpdateError,
 };
 use rart_test_tools::refusals::{part_ends, refuse, was_refused};
+use rart_test_trees::{are_alike, have_same_statistics};
 use std::alloc::{AllocError, Global};
 use std::cell::Cell;
-use std::process::Abort;
 
 type Key = ArrayKey<16>;
 
-type Tree = PlayedTree<Key>;
+type Tree = AdaptiveRadixTree<Key, u64>;
 
 /// An update of the key of one byte: 7 is written where the slot is occupied, and this is asked for.
 #[derive(Clone, Copy)]
@@ -172,6 +170,40 @@ fn updates_refused_in_turn_keep_the_nodes(rt: HostRuntime) {
     }
 }
 
+// The removal of key 1 of five with a request refused: the key keeps its value. Whether a request was refused.
+fn removal_is_refused_well(alloc: Global, tree: &mut Tree, at: usize) -> Option<bool> {
+    refuse(alloc, at);
+    let removed = tree.remove_k(&key(1));
+    let refused = was_refused(alloc);
+    let found = tree.get_bytes(&[1]).copied();
+    let well = if refused {
+        removed == Err(TreeError::Memory) && found == Some(10) && tree.len() == 5
+    } else {
+        removed == Ok(Some(10)) && found.is_none() && tree.len() == 4
+    };
+    well.then_some(refused)
+}
+
+fn removal_is_swept(alloc: Global) -> bool {
+    let mut tree = filled(alloc, 5);
+    for at in 1..100_usize {
+        match removal_is_refused_well(alloc, &mut tree, at) {
+            Some(true) => {}
+            Some(false) => {
+                part_ends(alloc);
+                return true;
+            }
+            None => return false,
+        }
+    }
+    false
+}
+
+#[test]
+fn a_removal_among_five_keys_refused_in_turn(rt: HostRuntime) {
+    assert!(rt; removal_is_swept(rt.alloc()));
+}
+
 /// A value whose clone asks for memory. (A clone of a `String` may differ in its room, so it isn't asked to equal it.)
 #[derive(Drop)]
 struct Roomy {
@@ -198,35 +230,56 @@ impl Clone for Roomy {
 type Values = AdaptiveRadixTree<Key, Roomy>;
 
 // A `try_update` of the value at byte 0 that keeps it; whether its clone was refused.
-fn is_not_cloned(values: &mut Values, calls: &Cell<usize>) -> bool {
-    let answer: Result<bool, TryUpdateError<(), Roomy>> = values.try_update_k(&key(0), |slot| {
+fn is_not_cloned(values: &mut Values, by_value: bool, calls: &Cell<usize>) -> bool {
+    let keep = |slot: &mut Slot<Roomy>| {
         calls.set(calls.get().wrapping_add(1));
         let _seen = &slot;
         Ok(SlotUpdate::Keep)
-    });
+    };
+    let answer: Result<bool, TryUpdateError<(), Roomy>> = if by_value {
+        values.try_update(key(0), keep)
+    } else {
+        values.try_update_k(&key(0), keep)
+    };
     matches!(answer, Err(TryUpdateError::Clone))
 }
 
-fn keep_refused(rt: &impl Abort, alloc: Global, values: &mut Values) {
+// Where the clone is refused nothing is called, and else the callback once.
+fn keep_is_refused_well(
+    alloc: Global,
+    values: &mut Values,
+    by_value: bool,
+    at: usize,
+) -> Option<bool> {
     let calls = Cell::new(0_usize);
-    refuse(alloc, 1);
-    let not_cloned = is_not_cloned(values, &calls);
+    refuse(alloc, at);
+    let not_cloned = is_not_cloned(values, by_value, &calls);
     let refused = was_refused(alloc);
-    assert!(rt; not_cloned == refused);
-    assert!(rt; calls.get() == usize::from(!refused));
+    let kept = values.get_k(&key(0)).is_some_and(|kept| kept.value == 5);
+    (kept && not_cloned == refused && calls.get() == usize::from(!refused)).then_some(refused)
+}
+
+// The request of the clone is refused, and then none.
+fn keep_is_swept(alloc: Global, by_value: bool) -> bool {
+    let mut values = Values::new(alloc);
+    let stored = values.insert_k(&key(0), Roomy { alloc, value: 5 }).is_ok();
+    for at in 1..100_usize {
+        match keep_is_refused_well(alloc, &mut values, by_value, at) {
+            Some(true) => {}
+            Some(false) => {
+                part_ends(alloc);
+                return stored;
+            }
+            None => return false,
+        }
+    }
+    false
 }
 
 #[test]
 fn a_clone_refused_in_turn_calls_nothing_back(rt: HostRuntime) {
-    let alloc = rt.alloc();
-    let mut values = Values::new(alloc);
-    let stored = values.insert_k(&key(0), Roomy { alloc, value: 5 }).is_ok();
-    assert!(rt; stored);
-    keep_refused(&rt, alloc, &mut values);
-    let calls = Cell::new(0_usize);
-    let not_cloned = is_not_cloned(&mut values, &calls);
-    assert!(rt; !not_cloned && calls.get() == 1);
-    assert!(rt; values.get_k(&key(0)).is_some_and(|kept| kept.value == 5));
+    assert!(rt; keep_is_swept(rt.alloc(), false));
+    assert!(rt; keep_is_swept(rt.alloc(), true), "by value");
 }
 
 // So many keys of one byte from 0 on, each with its byte.
@@ -250,24 +303,32 @@ fn holds(values: &Values, count: u8, all: bool) -> bool {
 }
 
 // Writes 99 at byte 2 and removes it. What is said, and how often it was called back.
-fn write_and_remove(values: &mut Values) -> (Result<bool, TryUpdateError<(), Roomy>>, usize) {
+fn write_and_remove(
+    values: &mut Values,
+    by_value: bool,
+) -> (Result<bool, TryUpdateError<(), Roomy>>, usize) {
     let calls = Cell::new(0_usize);
-    let answer = values.try_update_k(&key(2), |slot| {
+    let remove = |slot: &mut Slot<Roomy>| {
         calls.set(calls.get().wrapping_add(1));
         if let Slot::Occupied(roomy) = slot {
             roomy.value = 99;
         }
         Ok(SlotUpdate::Remove)
-    });
+    };
+    let answer = if by_value {
+        values.try_update(key(2), remove)
+    } else {
+        values.try_update_k(&key(2), remove)
+    };
     (answer, calls.get())
 }
 
 // Each request refused in turn: that of the clone calls nothing back, that of the removal restores the value.
-fn removal_goes_well(alloc: Global, count: u8) -> bool {
+fn removal_goes_well(alloc: Global, count: u8, by_value: bool) -> bool {
     let mut values = with_clones(alloc, count);
     for at in 1..100_usize {
         refuse(alloc, at);
-        let (answer, calls) = write_and_remove(&mut values);
+        let (answer, calls) = write_and_remove(&mut values, by_value);
         if !was_refused(alloc) {
             part_ends(alloc);
             return matches!(answer, Ok(true)) && calls == 1 && holds(&values, count, false);
@@ -287,6 +348,10 @@ fn removal_goes_well(alloc: Global, count: u8) -> bool {
 #[test]
 fn removals_of_values_with_clones_refused_in_turn(rt: HostRuntime) {
     for count in [5_u8, 17, 49] {
-        assert!(rt; removal_goes_well(rt.alloc(), count), "{count} keys");
+        assert!(rt; removal_goes_well(rt.alloc(), count, false), "{count} keys");
+        assert!(rt;
+            removal_goes_well(rt.alloc(), count, true),
+            "{count} keys by value"
+        );
     }
 }

@@ -1,4 +1,4 @@
-use Rattle.rart_tests.proofs.play.forms.overwrite_k.Goals as goal
+use Rattle.rart_calls_tests.proofs.play.forms.overwrite_k.Goals as goal
 
 pub returns-in-Some-clause-present : goal.returns-in-Some-clause-present
 returns-in-Some-clause-present g c = λ _. (rw c.in-Some.is at c.get_mut_k.follows.holds c.args.value).0

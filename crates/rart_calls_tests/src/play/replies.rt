@@ -1,9 +1,10 @@
 //! Whether a reply is the wanted one.
 
 use super::forms::key;
-use super::{Ask, Spelling, Then, Tree, Want};
+use super::{Ask, Spelling, Then, Want};
 use rart::script::Reply;
-use rart::{KeyTrait, NodeStats, TreeError, TreeStats, TreeStatsTrait};
+use rart::{KeyTrait, TreeError};
+use rart_test_trees::is_counted;
 
 /// Whether the reply is the wanted one.
 pub fn is<K: KeyTrait>(reply: &Reply<K, u64>, want: &Want<'_>, spelling: Spelling) -> bool
@@ -58,39 +59,6 @@ fn are_pairs<K: KeyTrait + Drop>(
         }
     }
     true
-}
-
-/// Whether the statistics have these leaves, values, inner nodes and height, for each of these widths as many nodes
-/// and children, and the sums of these.
-pub fn is_counted(
-    stats: &TreeStats,
-    counts: &[usize; 4],
-    widths: &[(usize, usize, usize)],
-) -> bool {
-    let found = [
-        stats.num_leaves,
-        stats.num_values,
-        stats.num_inner_nodes,
-        stats.max_height,
-    ];
-    if found != *counts || stats.node_stats.len() != widths.len() {
-        return false;
-    }
-    let mut children = 0_usize;
-    let mut room = 0_usize;
-    for (width, total_nodes, total_children) in widths {
-        let entry = NodeStats {
-            width: *width,
-            total_nodes: *total_nodes,
-            total_children: *total_children,
-        };
-        if stats.node_stats.get(width) != Some(&entry) {
-            return false;
-        }
-        children = children.wrapping_add(*total_children);
-        room = room.wrapping_add(width.wrapping_mul(*total_nodes));
-    }
-    stats.total_children == children && stats.total_width == room
 }
 
 /// Whether the reply says that there was no memory, and hands the value back that the call offered.
@@ -155,34 +123,4 @@ fn are_same_pairs<K: KeyTrait>(left: &[(K, u64)], right: &[(K, u64)]) -> bool {
         }
     }
     true
-}
-
-/// Whether two trees have the same pairs, as many of them, and the same statistics.
-pub fn are_alike<K: KeyTrait + Drop>(one: &Tree<K>, other: &Tree<K>) -> bool {
-    one.len() == other.len() && have_same_statistics(one, other) && have_same_pairs(one, other)
-}
-
-/// Whether the statistics of two trees are the same.
-pub fn have_same_statistics<K: KeyTrait>(one: &Tree<K>, other: &Tree<K>) -> bool {
-    match (one.get_tree_stats(), other.get_tree_stats()) {
-        (Ok(left), Ok(right)) => left == right,
-        _ => false,
-    }
-}
-
-fn have_same_pairs<K: KeyTrait + Drop>(one: &Tree<K>, other: &Tree<K>) -> bool {
-    let (Ok(mut left), Ok(mut right)) = (one.iter(), other.iter()) else {
-        return false;
-    };
-    while let Some((key, value)) = left.next() {
-        match right.next() {
-            Some((same_key, same_value)) => {
-                if key != same_key || value != same_value {
-                    return false;
-                }
-            }
-            None => return false,
-        }
-    }
-    right.next().is_none()
 }

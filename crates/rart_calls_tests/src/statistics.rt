@@ -1,9 +1,9 @@
 //! Statistics: what the nodes of a tree are, read after each call.
 
-use crate::play::replies::is_counted;
 use crate::play::{Ask, Row, Want, plays, went_well};
 use rart::keys::tail_key::TailKey;
 use rart::{AdaptiveRadixTree, ArrayKey, NodeStats, TreeStats, TreeStatsTrait};
+use rart_test_trees::is_counted;
 use std::alloc::Global;
 use std::process::Abort;
 use std::test::Fail;

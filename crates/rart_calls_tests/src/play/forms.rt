@@ -2,9 +2,10 @@
 ghost use Rattle.std.specs.Prelude.{◌≡◌, ◌≢◌, None};
 ghost use Rattle.rart_keys.specs.SortedMap.{lookup, put};
 
-use super::{Ask, Form, How, Spelling, Then, Tree};
+use super::{Ask, Form, How, Spelling, Then};
 use rart::script::{Call, Reply, step};
 use rart::{ArrayKey, KeyTrait, NotInserted, SlotUpdate, TryInsertError};
+use rart_test_trees::Tree;
 use std::alloc::Global;
 use std::ops::Bound;
 

@@ -2,11 +2,12 @@
 //! went another way than wanted: None where all went well.
 
 use super::forms::{answer, call};
-use super::replies::{are_alike, are_same, is, is_refusal};
-use super::{Ask, Form, How, Row, Spelling, Tree};
+use super::replies::{are_same, is, is_refusal};
+use super::{Ask, Form, How, Row, Spelling};
 use rart::script::{Call, Reply, run};
 use rart::{KeyTrait, TreeError};
 use rart_test_tools::refusals::{part_ends, refuse, was_refused};
+use rart_test_trees::{Tree, are_alike};
 use std::alloc::{AllocError, Global};
 use std::process::Abort;
 

@@ -1,16 +1,16 @@
 //! Each request for memory refused in turn: a refused call changes nothing and hands its value back, and with memory
 //! it answers as if none had been refused.
 
-use crate::play::replies::is_counted;
 use crate::play::{
     Ask, Row, Then, Want, plays, plays_as_run, plays_refused_in_turn, run_is_refused_in_turn,
     went_well,
 };
 use rart::{AdaptiveRadixTree, ArrayKey, KeyTrait, Refused, TreeError, TreeStatsTrait};
 use rart_test_tools::refusals::{refuse, was_refused};
+use rart_test_trees::is_counted;
 use std::test::Fail;
 
-pub(super) const SPLITS: [Row<'static>; 8] = [
+pub const SPLITS: [Row<'static>; 8] = [
     (Ask::Insert("abcd", 1), Want::None),
     (Ask::Insert("abxy", 2), Want::None),
     (Ask::Stats, Want::Counts([2, 2, 1, 2], &[(4, 1, 2)])),
@@ -47,7 +47,7 @@ fn a_split_above_a_leaf_refused_in_turn(rt: HostRuntime) {
     );
 }
 
-pub(super) const GROWTH: [Row<'static>; 10] = [
+pub const GROWTH: [Row<'static>; 10] = [
     (Ask::Fill(b"", 0, 4), Want::Is(true)),
     (Ask::Insert("\x04", 4), Want::None),
     (Ask::Stats, Want::Counts([5, 5, 1, 2], &[(16, 1, 5)])),
@@ -68,7 +68,7 @@ fn growing_insertions_refused_in_turn(rt: HostRuntime) {
     );
 }
 
-pub(super) const GROWTH_BY_NEW_KEYS: [Row<'static>; 7] = [
+pub const GROWTH_BY_NEW_KEYS: [Row<'static>; 7] = [
     (Ask::Fill(b"", 0, 4), Want::Is(true)),
     (Ask::TryInsert("\x04", 4), Want::Inserted),
     (Ask::Fill(b"", 5, 16), Want::Is(true)),
@@ -86,7 +86,7 @@ fn growing_insertions_of_new_keys_refused_in_turn(rt: HostRuntime) {
     );
 }
 
-pub(super) const SHRINKING: [Row<'static>; 10] = [
+pub const SHRINKING: [Row<'static>; 10] = [
     (Ask::Fill(b"", 0, 49), Want::Is(true)),
     (Ask::Remove("0"), Want::Some(48)),
     (Ask::Stats, Want::Counts([48, 48, 1, 2], &[(48, 1, 48)])),
@@ -107,7 +107,7 @@ fn shrinking_removals_refused_in_turn(rt: HostRuntime) {
     );
 }
 
-pub(super) const SHRINKING_BY_DELETION: [Row<'static>; 7] = [
+pub const SHRINKING_BY_DELETION: [Row<'static>; 7] = [
     (Ask::Fill(b"", 0, 49), Want::Is(true)),
     (Ask::Delete("0"), Want::Is(true)),
     (Ask::Empty(b"", 17, 48), Want::Is(true)),
@@ -125,7 +125,7 @@ fn shrinking_deletions_refused_in_turn(rt: HostRuntime) {
     );
 }
 
-pub(super) const FOUR_WIDTHS: [Row<'static>; 6] = [
+pub const FOUR_WIDTHS: [Row<'static>; 6] = [
     (Ask::Fill(b"a", 0, 2), Want::Is(true)),
     (Ask::Fill(b"b", 0, 5), Want::Is(true)),
     (Ask::Fill(b"c", 0, 17), Want::Is(true)),
@@ -148,7 +148,7 @@ fn statistics_refused_in_turn(rt: HostRuntime) {
     );
 }
 
-pub(super) const EVERY_CALL: [Row<'static>; 25] = [
+pub const EVERY_CALL: [Row<'static>; 25] = [
     (Ask::Insert("\0", 0), Want::None),
     (Ask::Insert("\x01", 1), Want::None),
     (Ask::Insert("\x02", 2), Want::None),
@@ -229,7 +229,7 @@ fn a_run_of_all_cases_refused_in_turn(rt: HostRuntime) -> Result<(), Fail> {
     Ok(())
 }
 
-pub(super) const LISTS: [Row<'static>; 4] = [
+pub const LISTS: [Row<'static>; 4] = [
     (Ask::Insert("ab", 1), Want::None),
     (Ask::Insert("a", 2), Want::None),
     (Ask::Iter, Want::Pairs(&[("a", 2), ("ab", 1)])),

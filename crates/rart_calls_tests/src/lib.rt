@@ -1,0 +1,25 @@
+//! Tests of the calls of the map: rows of calls with the replies wanted, played in each form, with ample memory, with each
+//! request for memory refused in turn, and where nothing may be asked for.
+//!
+//! Nothing depends on this crate, and it is no part of the product. The other tests of the map stand in `rart_tests`
+//! and `rart_walks_tests`, which are proved beside it.
+#![tactic(auto)]
+
+#[cfg(test)]
+mod asks_for_nothing;
+#[cfg(test)]
+mod play;
+#[cfg(test)]
+mod probes;
+#[cfg(test)]
+mod refused_in_turn;
+#[cfg(test)]
+mod replies;
+#[cfg(test)]
+mod statistics;
+#[cfg(test)]
+mod texts;
+#[cfg(test)]
+mod updates;
+#[cfg(test)]
+mod with_memory;

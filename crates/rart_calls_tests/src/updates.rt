@@ -1,0 +1,203 @@
+//! Updates through a slot, as calls that are values: what is written where the slot is occupied, what is asked for then, the
+//! reply, and the value that the key has afterwards.
+
+use crate::play::forms::asked;
+use crate::play::{Then, went_well};
+use rart::script::{Call, Reply, step};
+use rart::{AdaptiveRadixTree, ArrayKey, KeyTrait, Slot, SlotUpdate, TryUpdateError};
+use std::alloc::Global;
+use std::process::Abort;
+
+type Key = ArrayKey<16>;
+
+type Tree = AdaptiveRadixTree<Key, u64>;
+
+// Whether by `try_update`; the key; what is written; what is asked for; what is replied, nothing where the callback fails; the
+// value afterwards.
+type Row = (
+    bool,
+    &'static str,
+    Option<u64>,
+    Then,
+    Option<bool>,
+    Option<u64>,
+);
+
+fn call(tries: bool, key: Key, written: Option<u64>, then: Then) -> Call<Key, u64> {
+    match asked(then) {
+        Ok(update) => {
+            if tries {
+                Call::TryUpdate(key, written, Ok(update))
+            } else {
+                Call::Update(key, written, update)
+            }
+        }
+        Err(()) => Call::TryUpdate(key, written, Err(())),
+    }
+}
+
+fn is(reply: &Reply<Key, u64>, want: Option<bool>) -> bool {
+    match reply {
+        Reply::Done(touched) => want == Some(*touched),
+        Reply::Failed => want.is_none(),
+        _ => false,
+    }
+}
+
+// The first row that goes another way, if one does.
+fn plays(rt: &impl Abort, alloc: Global, tree: &mut Tree, rows: &[Row]) -> Option<usize> {
+    let mut row = 0_usize;
+    for (tries, text, written, then, want, after) in rows {
+        let bytes = text.as_bytes();
+        assert!(rt; bytes.len() <= 16);
+        let key = Key::new_from_slice(bytes);
+        let reply = step(alloc, tree, call(*tries, key, *written, *then));
+        if !is(&reply, *want) || tree.get_bytes(bytes).copied() != *after {
+            return Some(row);
+        }
+        row = row.wrapping_add(1);
+    }
+    None
+}
+
+const OF_A_STORED_AND_A_NEW_KEY: [Row; 9] = [
+    (false, "a", None, Then::Insert(1), Some(true), Some(1)),
+    (false, "a", Some(7), Then::Keep, Some(true), Some(7)),
+    (false, "a", Some(8), Then::Insert(9), Some(true), Some(9)),
+    (false, "z", Some(5), Then::Insert(6), Some(true), Some(6)),
+    (false, "z", None, Then::Remove, Some(true), None),
+    (false, "z", None, Then::Remove, Some(false), None),
+    (true, "a", Some(3), Then::Fail, None, Some(9)),
+    (true, "q", Some(3), Then::Fail, None, None),
+    (true, "a", Some(3), Then::Keep, Some(true), Some(3)),
+];
+
+const INTO_A_BUCKET: [Row; 2] = [
+    (false, "bucket", None, Then::Keep, Some(false), None),
+    (
+        false,
+        "bucket",
+        None,
+        Then::Insert(10),
+        Some(true),
+        Some(10),
+    ),
+];
+
+const OUT_OF_A_BUCKET: [Row; 2] = [
+    (false, "bucket", None, Then::Remove, Some(true), None),
+    (true, "bucket", None, Then::Remove, Some(false), None),
+];
+
+#[test]
+fn updates_of_a_stored_and_a_new_key(rt: HostRuntime) {
+    let alloc = rt.alloc();
+    let mut tree = Tree::new(alloc);
+    went_well(
+        &rt,
+        plays(&rt, alloc, &mut tree, &OF_A_STORED_AND_A_NEW_KEY),
+    );
+}
+
+fn key(bytes: &[u8]) -> Key {
+    Key::new_from_slice(&bytes[..bytes.len().min(16)])
+}
+
+// Adds 5 to the value in the bucket, and keeps it; the value then.
+fn add_five(tree: &mut Tree) -> Option<u64> {
+    let added = tree.update_k(&key(b"bucket"), |slot| {
+        if let Slot::Occupied(n) = slot {
+            *n = n.wrapping_add(5);
+        }
+        SlotUpdate::Keep
+    });
+    match added {
+        Ok(true) => tree.get_bytes(b"bucket").copied(),
+        _ => None,
+    }
+}
+
+#[test]
+fn updates_fill_a_bucket_add_to_it_and_empty_it(rt: HostRuntime) {
+    let alloc = rt.alloc();
+    let mut tree = Tree::new(alloc);
+    went_well(&rt, plays(&rt, alloc, &mut tree, &INTO_A_BUCKET));
+    assert_eq!(rt; add_five(&mut tree), Some(15));
+    went_well(&rt, plays(&rt, alloc, &mut tree, &OUT_OF_A_BUCKET));
+}
+
+/// Why a callback fails.
+#[derive(Drop)]
+struct Why(&'static str);
+
+fn was_stopped(answer: Result<bool, TryUpdateError<Why, u64>>) -> bool {
+    match answer {
+        Err(TryUpdateError::Callback(Why(text))) => text == "stop",
+        _ => false,
+    }
+}
+
+// Writes 99 and fails, in both forms; whether both said so.
+fn write_and_fail(tree: &mut Tree) -> bool {
+    let by_reference = tree.try_update_k(&key(b"err"), |slot| {
+        if let Slot::Occupied(n) = slot {
+            *n = 99;
+        }
+        Err(Why("stop"))
+    });
+    let by_value = tree.try_update(key(b"err"), |slot| {
+        if let Slot::Occupied(n) = slot {
+            *n = 99;
+        }
+        Err(Why("stop"))
+    });
+    was_stopped(by_reference) && was_stopped(by_value)
+}
+
+// Writes 5 and keeps it.
+fn write_five(tree: &mut Tree) -> bool {
+    let written = tree.update_k(&key(b"err"), |slot| {
+        if let Slot::Occupied(n) = slot {
+            *n = 5;
+        }
+        SlotUpdate::Keep
+    });
+    matches!(written, Ok(true))
+}
+
+// Adds 2 and keeps the sum.
+fn add_two(tree: &mut Tree) -> bool {
+    let added = tree.update(key(b"err"), |slot| {
+        if let Slot::Occupied(n) = slot {
+            *n = n.wrapping_add(2);
+        }
+        SlotUpdate::Keep
+    });
+    matches!(added, Ok(true))
+}
+
+// Keeps a slot without a value, in both forms.
+fn keep_absent(tree: &mut Tree) -> bool {
+    let by_reference = tree.update_k(&key(b"x"), |_slot| SlotUpdate::Keep);
+    let by_value = tree.update(key(b"x"), |_slot| SlotUpdate::Keep);
+    matches!(by_reference, Ok(false)) && matches!(by_value, Ok(false))
+}
+
+#[test]
+fn a_failed_update_restores_and_a_kept_one_writes(rt: HostRuntime) {
+    let mut tree = Tree::new(rt.alloc());
+    let stored = tree.insert(key(b"err"), 1).is_ok();
+    assert!(rt; stored);
+    let failed = write_and_fail(&mut tree);
+    assert!(rt; failed);
+    assert_eq!(rt; tree.get_bytes(b"err"), Some(&1));
+    let written = write_five(&mut tree);
+    assert!(rt; written);
+    assert_eq!(rt; tree.get_bytes(b"err"), Some(&5));
+    let added = add_two(&mut tree);
+    assert!(rt; added);
+    assert_eq!(rt; tree.get_bytes(b"err"), Some(&7));
+    let kept = keep_absent(&mut tree);
+    assert!(rt; kept);
+    assert_eq!(rt; tree.len(), 1);
+}

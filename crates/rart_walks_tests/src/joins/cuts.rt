@@ -1,0 +1,152 @@
+//! Where the views of an intersection are cut: after each stretch that both prefixes have, and after each edge byte by which
+//! a longer prefix continues.
+
+use crate::joins::rows::{OTHER_WORDS, WORDS};
+use crate::prefixes::{Key, Pair, Tree, filled};
+use crate::walks::segments::behind;
+use rart::{LendingKeyView, Seen, TreeError, TreeStatsTrait, Visits};
+use std::cell::Cell;
+
+// The pairs of two trees; and the keys that both have, each with a bar after each of its segments and a semicolon at its end.
+type Row = (&'static [Pair], &'static [Pair], &'static str);
+
+const NESTED: [Pair; 4] = [("", 0), ("alpha", 1), ("alphabet", 2), ("alpine", 3)];
+
+const ROWS: [Row; 9] = [
+    (&WORDS, &OTHER_WORDS, "ab|c|;dog|;"),
+    // one leaf each, with a stretch of eight bytes
+    (&[("alphabet", 1)], &[("alphabet", 2)], "alphabet|;"),
+    // an edge byte with three more bytes after it
+    (&[("ab", 1), ("abcdef", 2)], &[("abcdef", 3)], "ab|c|def|;"),
+    // two edge bytes of one tree within one prefix of the other
+    (
+        &[("ab", 1), ("abcdefgh", 2), ("abcdefghij", 3)],
+        &[("abcdefghij", 4), ("abcdefghijklm", 5)],
+        "ab|c|defgh|i|j|;",
+    ),
+    // an edge byte of the one tree, and then one of the other
+    (
+        &[("ab", 1), ("abcdefghij", 2)],
+        &[("abcdef", 3), ("abcdefghij", 4)],
+        "ab|c|def|g|hij|;",
+    ),
+    // three levels of nodes whose prefixes end together: the edge byte is not cut off
+    (&NESTED, &NESTED, ";alp|ha|;alp|ha|bet|;alp|ine|;"),
+    // an edge byte two levels down, beside a leaf that both trees have
+    (
+        &NESTED,
+        &[("", 4), ("alphabet", 5), ("alpine", 6), ("b", 7)],
+        ";alp|ha|b|et|;alp|ine|;",
+    ),
+    // an empty root prefix in one tree alone
+    (
+        &[("", 1), ("alphabet", 2)],
+        &[("alphabet", 3)],
+        "a|lphabet|;",
+    ),
+    (&[("", 1)], &[("", 2), ("a", 3)], ";"),
+];
+
+// More than any place in a text.
+const PAST: usize = 1000;
+
+// The place in the text after the key of this view; `PAST` where the view is cut another way than the text.
+fn next_cut(text: &[u8], at: usize, view: LendingKeyView<'_, '_>) -> usize {
+    let Some(mut rest) = text.get(at..) else {
+        return PAST;
+    };
+    for segment in view.segments() {
+        match behind(rest, *segment) {
+            Some(left) => rest = left,
+            None => return PAST,
+        }
+    }
+    match rest {
+        [b';', left @ ..] => text.len().wrapping_sub(left.len()),
+        _ => PAST,
+    }
+}
+
+fn owned(left: &Tree, right: &Tree, text: &[u8]) -> (Result<(), TreeError>, usize) {
+    let at = Cell::new(0_usize);
+    let answer = left.intersect_lending_with(
+        right,
+        |key: LendingKeyView<'_, '_>, _one: &u64, _other: &u64| {
+            at.set(next_cut(text, at.get(), key));
+        },
+    );
+    (answer, at.get())
+}
+
+fn by_ref(left: &Tree, right: &Tree, text: &[u8]) -> (Result<(), TreeError>, usize) {
+    let mut at = 0_usize;
+    let mut cut = |key: LendingKeyView<'_, '_>, _one: &u64, _other: &u64| {
+        at = next_cut(text, at, key);
+    };
+    let answer = left.intersect_lending_with_by_ref(right, &mut cut);
+    (answer, at)
+}
+
+fn seen(tree: &Tree) -> Seen<'_, Key, u64, Visits> {
+    tree.seen()
+}
+
+fn counted(left: &Tree, right: &Tree, text: &[u8]) -> (Result<(), TreeError>, usize) {
+    let at = Cell::new(0_usize);
+    let answer = seen(left).intersect_lending_with_counted(
+        seen(right),
+        |key: LendingKeyView<'_, '_>, _one: &u64, _other: &u64| {
+            at.set(next_cut(text, at.get(), key));
+        },
+        &mut Visits::new(),
+    );
+    (answer, at.get())
+}
+
+fn counted_by_ref(left: &Tree, right: &Tree, text: &[u8]) -> (Result<(), TreeError>, usize) {
+    let mut at = 0_usize;
+    let mut cut = |key: LendingKeyView<'_, '_>, _one: &u64, _other: &u64| {
+        at = next_cut(text, at, key);
+    };
+    let answer = seen(left).intersect_lending_with_by_ref_counted(
+        seen(right),
+        &mut cut,
+        &mut Visits::new(),
+    );
+    (answer, at)
+}
+
+fn is_cut(left: &Tree, right: &Tree, text: &[u8]) -> bool {
+    let whole = (Ok(()), text.len());
+    owned(left, right, text) == whole
+        && by_ref(left, right, text) == whole
+        && counted(left, right, text) == whole
+        && counted_by_ref(left, right, text) == whole
+}
+
+#[test]
+fn a_view_is_cut_after_each_shared_stretch_and_each_edge_byte(rt: HostRuntime) {
+    let mut at = 0_usize;
+    for row in &ROWS {
+        let left = filled(&rt, rt.alloc(), row.0);
+        let right = filled(&rt, rt.alloc(), row.1);
+        let text = row.2.as_bytes();
+        let well = is_cut(&left, &right, text) && is_cut(&right, &left, text);
+        assert!(rt; well, "row {at}");
+        at = at.wrapping_add(1);
+    }
+}
+
+fn count_nodes(tree: &Tree) -> Option<usize> {
+    match tree.get_tree_stats() {
+        Ok(stats) => Some(stats.num_leaves.wrapping_add(stats.num_inner_nodes)),
+        Err(_) => None,
+    }
+}
+
+#[test]
+fn both_trees_of_words_have_four_nodes(rt: HostRuntime) {
+    let words = filled(&rt, rt.alloc(), &WORDS);
+    let others = filled(&rt, rt.alloc(), &OTHER_WORDS);
+    assert!(rt; count_nodes(&words) == Some(4) && count_nodes(&others) == Some(4));
+}
