@@ -1,0 +1,5 @@
+mod BitLemmas
+mod EditLemmas
+mod LongestLemmas
+mod RouteLemmas
+mod StrideLemmas

@@ -1,0 +1,4 @@
+pub mod Bits
+pub mod Edits
+pub mod Longest
+pub mod Routes

@@ -1,0 +1,10 @@
+//! A route table for IPv4 and IPv6 networks of any prefix length, over the map's public contracts.
+//!
+//! Contracts see a network as the list of its bits, and a table as its routes, ascending by these bits.
+#![tactic(auto)]
+
+mod bits;
+mod stride;
+pub mod table;
+
+pub use crate::table::BitTable;

@@ -1,0 +1,122 @@
+//! A stride: the targets of the networks with the same whole bytes, by the code of the bits after these.
+//!
+//! Contracts see a stride as its pairs of a one-byte key, the code, and a target, ascending by code.
+ghost use Rattle.std.specs.Prelude.{◌≡◌, ◌≢◌, ◌<◌, ◌≤◌, [], ◌∷◌, length, Some, option_map, IsTrue};
+ghost use Rattle.std.specs.Option.{option_copied};
+ghost use Rattle.rart_keys.specs.ArrayKeyBytes.{array_key_bytes};
+ghost use Rattle.rart_keys.specs.SortedMap.{IsAscending, lookup};
+ghost use Rattle.rart.specs.Edits.{Inserts, Removes};
+ghost use Rattle.rart_cidr.specs.Routes.{IsLongestIn};
+
+use crate::bits::code_of;
+use rart::{AdaptiveRadixTree, ArrayKey, KeyTrait, Refused, TreeError};
+use std::alloc::Global;
+use std::marker::Model;
+
+/// Targets by code.
+#[derive(Drop)]
+pub struct Stride<T> {
+    targets: AdaptiveRadixTree<ArrayKey<1>, T>,
+}
+
+impl<T> Model for Stride<T> {
+    ghost use Rattle.std.specs.Prelude.{ℕ, List};
+
+    ghost Value = { List (List ℕ × T) };
+
+    ghost view = { λ s. s.targets.pairs };
+}
+
+fn key_of(code: u8) -> ArrayKey<1>
+    ensures { array_key_bytes result ≡ code ∷ [] }
+{
+    ArrayKey::<1>::new_from_slice(&[code])
+}
+
+impl<T> Stride<T> {
+    /// Creates a stride without targets. Allocates nothing.
+    pub fn new(alloc: Global) -> Self
+        ensures { result ≡ [] }
+    {
+        Stride {
+            targets: AdaptiveRadixTree::new(alloc),
+        }
+    }
+
+    /// Returns the number of targets.
+    pub fn len(&self) -> usize
+        ensures { result ≡ length self.now }
+    {
+        self.targets.len()
+    }
+
+    /// Shows that the codes ascend. Does nothing at run time.
+    pub fn ascends(&self)
+        ensures { IsAscending self.now }
+    {
+        self.targets.canonical()
+    }
+
+    /// Returns the target at `code`.
+    pub fn get(&self, code: u8) -> Option<&T>
+        ensures { option_copied result ≡ lookup (code ∷ []) self.now }
+    {
+        self.targets.get_bytes(&[code])
+    }
+
+    /// Inserts `target` at `code` and returns the old target.
+    ///
+    /// # Errors
+    ///
+    /// An insertion can fail as one into a tree does. The stride is then unchanged, and the error holds `target`.
+    pub fn insert(&mut self, code: u8, target: T) -> Result<Option<T>, Refused<T>>
+        ensures { Inserts (code ∷ []) target self.old self.new result }
+    {
+        self.targets.insert_k(&key_of(code), target)
+    }
+
+    /// Removes the target at `code` and returns it.
+    ///
+    /// # Errors
+    ///
+    /// [`TreeError::Memory`] if the removal must allocate. The stride is then unchanged.
+    pub fn remove(&mut self, code: u8) -> Result<Option<T>, TreeError>
+        ensures { Removes (code ∷ []) self.old self.new result }
+    {
+        self.targets.remove_k(&key_of(code))
+    }
+
+    /// Returns the only target, which stands at `code`.
+    pub fn into_only(self, code: u8) -> Option<T>
+    where
+        T: Drop,
+        requires stored { lookup (code ∷ []) self ≢ None }
+        requires only { length self ≡ 1 }
+        ensures { result ≡ lookup (code ∷ []) self }
+    {
+        let mut stride = self;
+        match stride.remove(code) {
+            Ok(target) => target,
+            Err(_) => unreachable!(),
+        }
+    }
+
+    /// Returns the target of the longest beginning of `byte` that has one, among those of at most `most` bits, and how many
+    /// bits it has.
+    pub fn longest(&self, byte: u8, most: usize) -> Option<(usize, &T)>
+        requires { most < 8 }
+        ensures { IsLongestIn self.now byte most (option_map (λ p. (p.0, p.1.now)) result) }
+    {
+        let mut bits = most;
+        while bits > 0 {
+            if let Some(target) = self.get(code_of(byte, bits)) {
+                return Some((bits, target));
+            }
+            bits -= 1;
+        }
+        match self.get(code_of(byte, 0)) {
+            Some(target) => Some((0, target)),
+            None => None,
+        }
+    }
+}
