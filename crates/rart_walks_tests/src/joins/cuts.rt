@@ -94,7 +94,7 @@ fn seen(tree: &Tree) -> Seen<'_, Key, u64, Visits> {
 fn counted(left: &Tree, right: &Tree, text: &[u8]) -> (Result<(), TreeError>, usize) {
     let at = Cell::new(0_usize);
     let answer = seen(left).intersect_lending_with_counted(
-        seen(right),
+        right.seen(),
         |key: LendingKeyView<'_, '_>, _one: &u64, _other: &u64| {
             at.set(next_cut(text, at.get(), key));
         },
@@ -109,7 +109,7 @@ fn counted_by_ref(left: &Tree, right: &Tree, text: &[u8]) -> (Result<(), TreeErr
         at = next_cut(text, at, key);
     };
     let answer = seen(left).intersect_lending_with_by_ref_counted(
-        seen(right),
+        right.seen(),
         &mut cut,
         &mut Visits::new(),
     );
