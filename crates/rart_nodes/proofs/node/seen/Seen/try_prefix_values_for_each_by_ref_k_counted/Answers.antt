@@ -33,5 +33,11 @@ returns-clause-calls g c =
 
 -- in numbers: what the walk down visited, and what the walk over the values did
 pub returns-clause-bound : goal.returns-clause-bound
-returns-clause-bound g c = omega (arith, c.in-Ok.ensures.bound, c.in-Ok.ensures.few, c.try_feed.ensures.visits, ap length c.as_ref.ensures,
-    ap (λ q. length (below q (seen_pairs c.args.self.root))) c.as_ref.ensures)
+returns-clause-bound g c = omega (
+  arith,
+  c.in-Ok.ensures.bound,
+  c.in-Ok.ensures.few,
+  c.try_feed.ensures.visits,
+  ap length c.as_ref.ensures,
+  ap (λ q. length (below q (seen_pairs c.args.self.root))) c.as_ref.ensures,
+)
