@@ -46,6 +46,9 @@ LENDING = ("rart_nodes", "src/node/walks/lending.rt", "feed_views(&mut tour, &mu
 MEETING = ("rart_nodes", "src/node/intersect/meeting.rt", "f(left, right);")
 SHRINK = ("rart_nodes", "src/node/storage/shrink.rt")
 ROOM = ("rart_nodes", "src/node/storage/room.rt")
+TWINS = ("rart_nodes", "src/node/intersect/twins.rt")
+TREES = ("rart_nodes", "src/node/intersect.rt", "let Some(right_top) = right.top() else {")
+OF_TREE = ("rart", "src/tree.rt", "self.seen().get_bytes_counted(key, &mut Visits::new())")
 
 BODIES = (
     Body(
@@ -86,6 +89,107 @@ BODIES = (
             "error[unknown-method]: the method `iter` takes `self` as `Seen<K, V, Visits>`, and is called on "
             "`Seen<K, V, C>`",
         ),
+    ),
+    Body(
+        "a look-up visits the top together with itself",
+        *LOOK_UP,
+        "self.top().and_then(|top| top.enter_pair(top, counter).1.value())",
+        (
+            "error[mismatched-types]: expected `Shared<<K as KeyTrait>::PartialType, _, Paired<C>>`, found "
+            "`Shared<<K as KeyTrait>::PartialType, V, C>`",
+        ),
+    ),
+    Body(
+        "children of one node are visited in pairs",
+        *TWINS,
+        "while let Some((byte, child)) = branches.next_child() {\n        if let Some(other) = right.child(byte) {",
+        "while let Some((byte, child)) = branches.next_child() {\n        if let Some(other) = Some(child) {",
+        ("error[mismatched-types]: expected `Shared<P, W, Paired<C>>`, found `Shared<P, V, C>`",),
+    ),
+    Body(
+        "an intersection visits the right root as a left one",
+        *TREES,
+        "let _right_root = right.top().map(|top| top.enter(counter));\n    let Some(right_top) = right.top() else {",
+        (
+            "error[unknown-method]: the method `enter` exists for `Shared<<K as KeyTrait>::PartialType, W, "
+            "Paired<C>>`, but its bounds are not met",
+        ),
+    ),
+    Body(
+        "an intersection looks up in the right tree",
+        *TREES,
+        "let _value = right.get_bytes_counted(&[], counter);\n    let Some(right_top) = right.top() else {",
+        (
+            "error[unknown-method]: the method `get_bytes_counted` exists for `Seen<K, W, Paired<C>>`, but "
+            "its bounds are not met",
+        ),
+    ),
+    Body(
+        "a look-up shows a node without a visit",
+        *LOOK_UP,
+        "self.top().and_then(|top| crate::node::seen::Entered { node: top.node, of: top.of }.value())",
+        (
+            "error[private-field]: field `node` of struct `Entered` is private",
+            "error[private-field]: field `node` of struct `Shared` is private",
+            "error[private-field]: field `of` of struct `Entered` is private",
+            "error[private-field]: field `of` of struct `Shared` is private",
+        ),
+    ),
+    Body(
+        "a look-up makes a shared tree of its own",
+        *LOOK_UP,
+        "Seen { root: self.root, alloc: self.alloc, longest: 0, of: self.of }.descend(key, counter)",
+        (
+            "error[private-field]: field `root` of struct `Seen` is private",
+            "error[private-field]: field `root` of struct `Seen` is private",
+            "error[private-field]: field `alloc` of struct `Seen` is private",
+            "error[private-field]: field `alloc` of struct `Seen` is private",
+            "error[private-field]: field `longest` of struct `Seen` is private",
+            "error[private-field]: field `of` of struct `Seen` is private",
+            "error[private-field]: field `of` of struct `Seen` is private",
+        ),
+    ),
+    Body(
+        "a look-up sets the counter back",
+        *LOOK_UP,
+        "let before = *counter;\n        let value = self.descend(key, counter);\n        *counter = before;\n"
+        "        value",
+        ("error[move-out-of-place]: cannot move out of `*counter` which is behind a mutable reference",),
+    ),
+    Body(
+        "the map makes a shared tree by its fields",
+        *OF_TREE,
+        "Seen { root: self.root.as_ref(), alloc: self.alloc, longest: 0, of: std::marker::PhantomData }\n"
+        "            .get_bytes_counted(key, &mut Visits::new())",
+        (
+            "error[private-field]: field `root` of struct `Seen` is private",
+            "error[private-field]: field `alloc` of struct `Seen` is private",
+            "error[private-field]: field `longest` of struct `Seen` is private",
+            "error[private-field]: field `of` of struct `Seen` is private",
+        ),
+    ),
+    Body(
+        "the map reads the root of a shared tree",
+        *OF_TREE,
+        "self.seen::<Visits>().root.and_then(|node| node.value())",
+        ("error[private-field]: field `root` of struct `Seen` is private",),
+    ),
+    Body(
+        "the map asks a shared tree for its top",
+        *OF_TREE,
+        "self.seen::<Visits>().top().and_then(|top| top.enter(&mut Visits::new()).value())",
+        (
+            "error[private-item]: method `top` is private",
+            "error[private-item]: method `enter` is private",
+            "error[private-item]: method `value` is private",
+        ),
+    ),
+    Body(
+        "the map holds a visited node",
+        *OF_TREE,
+        "let _held: Option<rart_nodes::node::seen::Entered<'_, K::PartialType, V, Visits>> = None;\n"
+        "        self.seen().get_bytes_counted(key, &mut Visits::new())",
+        ("error[private-item]: struct `Entered` is private",),
     ),
     Body(
         "an intersection exchanges the two values",

@@ -1,8 +1,8 @@
 #!/usr/bin/env python3
 """Tests that each `rust` block of README.md stands, line for line, in a source of the repository's examples.
 
-The gate compiles and proves those sources, so a block that a reader copies can't be out of date. Prints a line for each block
-that stands nowhere, and ends with status 1 if there is one.
+The gate compiles and proves those sources, so a block that a reader copies can't be out of date. Prints a line for each
+block that stands nowhere, and ends with status 1 if there is one.
 """
 import pathlib
 import re

@@ -18,7 +18,8 @@ extern long write(int, const void *, size_t);
 extern int close(int);
 extern int *__errno_location(void);
 
-enum { NO_MEMORY = 12, WRITE_CREATE_APPEND = 01 | 0100 | 02000, REFUSE_NTH = 0x5ef0, WAS_REFUSED = 0x5ef1, PART_ENDS = 0x5ef2 };
+enum { NO_MEMORY = 12, WRITE_CREATE_APPEND = 01 | 0100 | 02000 };
+enum { REFUSE_NTH = 0x5ef0, WAS_REFUSED = 0x5ef1, PART_ENDS = 0x5ef2 };
 
 static long until;         /* by message: how many requests until the one to be refused, 0 for none */
 static long process_until; /* the same by REFUSE */

@@ -12,7 +12,8 @@ to the library by messages; each runs here in a process of its own with the libr
 
 Such a test of the sources that is in no program fails: its crate wasn't built, or not with its tests.
 
-Then the program crates/rart_script/out/rart_script runs from outside, by refused_program.
+Then the program crates/rart_script/out/rart_script runs from outside, by refused_program and program_rows, and
+crates/rart_random/out/rart_random by refused_random.
 
 PASSED and FAILED are the gate's counts: the last line adds to them and closes the run.
 """
@@ -26,7 +27,9 @@ import tempfile
 
 sys.dont_write_bytecode = True
 
+import program_rows  # noqa: E402
 import refused_program  # noqa: E402
+import refused_random  # noqa: E402
 
 TOP = pathlib.Path(__file__).resolve().parents[2]
 
@@ -100,12 +103,17 @@ def outcomes(found, library):
     """Each test and each check of the program: its name, why it failed, or nothing, and how many requests were refused."""
     for program, test in found:
         yield f"{program.name[:-6]} {test}", *run(program, test, library)
+    random = TOP / "crates" / "rart_random" / "out" / "rart_random"
+    for name, why, refused in refused_random.checks(random, library):
+        yield f"rart_random {name}", why, refused
     program = TOP / "crates" / "rart_script" / "out" / "rart_script"
     if not os.access(program, os.X_OK):
         yield "rart_script", "the program isn't built", 0
         return
     for name, why, refused in refused_program.checks(program, library):
         yield f"rart_script {name}", why, refused
+    for name, why in program_rows.checks(program):
+        yield f"rart_script {name}", why, 0
 
 
 def main():

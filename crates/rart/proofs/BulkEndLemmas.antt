@@ -1,5 +1,6 @@
 -- What a bulk load answers, once its items were read.
-use Rattle.std.proofs.Common.{◌≡◌, ℕ, ◌<◌, ◌≤◌, List, [], ◌∷◌, length, map, sym, ap, ◌∙◌, arith, Option, None, Result, Ok, Err}
+use Rattle.std.proofs.Common.{◌≡◌, ℕ, ◌<◌, ◌≤◌, List, [], ◌∷◌, length, map, sym, ap, ◌∙◌, arith, Option, None, Result}
+use Rattle.std.proofs.Common.{Ok, Err}
 use Rattle.std.specs.Prelude.{IfOk, IfErr, OnErr}
 use Rattle.std.specs.Iterator.{HoldsAlong}
 use Rattle.std.proofs.lemmas.List.{length-map}
@@ -8,7 +9,7 @@ use Rattle.rart_keys.specs.KeyBytes.{IsWithin}
 use Rattle.rart_keys.specs.SortedMap.{AreAbove, IsAscending, keys_of, longest_key, values_of}
 use Rattle.rart_nodes.specs.build.Stretches.{AreWithin}
 use Rattle.rart_nodes.specs.shapes.ShapeRecords.{lone_keys}
-use Rattle.rart.specs.BulkLoads.{Reads, ReadsAll, StopsSorted}
+use Rattle.rart.specs.BulkLoads.{Reads, ReadsAll, FailsSorted}
 use Rattle.rart.specs.Steps.{pairs_in}
 use Rattle.rart.specs.declared.bulk.BulkError.{BulkError}
 use Rattle.rart.specs.declared.bulk.BulkError.TheVariants.{Memory}
@@ -17,7 +18,8 @@ use Rattle.rart.proofs.BulkLoadLemmas.{read-length}
 use Rattle.rart.proofs.BulkTreeLemmas.{longest-by-keys, longest-within, same-pairs}
 
 -- what the fields of a loaded tree keep
-pub loaded-fields : {V : Type 0} (m : Option ℕ) (es : List (List ℕ × V)) (ks : List (List ℕ)) (len longest most : ℕ) → keys_of es ≡ ks → len ≡ length ks → length ks ≤ most → longest ≡ longest_key (lone_keys ks) → AreWithin m ks
+pub loaded-fields : {V : Type 0} (m : Option ℕ) (es : List (List ℕ × V)) (ks : List (List ℕ)) (len longest most : ℕ)
+    → keys_of es ≡ ks → len ≡ length ks → length ks ≤ most → longest ≡ longest_key (lone_keys ks) → AreWithin m ks
     → (len ≡ length es) × (len ≤ most) × (longest_key es ≤ longest) × IsWithin m longest
 loaded-fields m es ks len longest most ek el few e within = (
   el ∙ ap length (sym ek) ∙ length-map es (λ e. e.0),
@@ -36,21 +38,44 @@ ascending-by-keys [] h = tt
 ascending-by-keys (e ∷ es) h = (above-by-keys e.0 es h.0, ascending-by-keys es h.1)
 
 -- a result and the pairs of what it holds
-module _ {U S K V : Type 0} (becomes : U → S → Type 0) (steps : S → Option (K × V) → S → Type 0) (items : U) (bytes : K → List ℕ) (keys : List K) (vs : List V) where
+module _ {U S K V : Type 0} (becomes : U → S → Type 0) (steps : S → Option (K × V) → S → Type 0) (items : U) (bytes : K
+    → List ℕ) (keys : List K) (vs : List V) where
   module _ (read : ReadsAll becomes steps items (λ xs. WasRead (pairs_in bytes xs) (map bytes keys) vs)) where
-    pub sorted-ascends : ((es : List (List ℕ × V)) → first_fault es ≡ None → IsAscending (last_wins es)) → IsAscending (lone_keys (map bytes keys))
-    sorted-ascends law = rw read.4.keys (ascending-by-keys (last_wins (pairs_in bytes read.1)) (law (pairs_in bytes read.1) read.4.faultless))
+    pub sorted-ascends : ((es : List (List ℕ × V)) → first_fault es ≡ None → IsAscending (last_wins es))
+        → IsAscending (lone_keys (map bytes keys))
+    sorted-ascends law = rw read.4.keys (ascending-by-keys (last_wins (pairs_in bytes read.1))
+        (law (pairs_in bytes read.1) read.4.faultless))
 
-    pub sorted-loaded : {T : Type 0} (pairs : T → List (List ℕ × V)) (r : Result T BulkError) → IfOk r (λ t. keys_of (pairs t) ≡ map bytes keys) → IfOk r (λ t. values_of (pairs t) ≡ vs)
-        → IfOk r (λ t. ReadsAll becomes steps items (λ xs. (first_fault (pairs_in bytes xs) ≡ None) × (pairs t ≡ last_wins (pairs_in bytes xs))))
+    pub sorted-loaded : {T : Type 0} (pairs : T → List (List ℕ × V)) (r : Result T BulkError)
+        → IfOk r (λ t. keys_of (pairs t) ≡ map bytes keys) → IfOk r (λ t. values_of (pairs t) ≡ vs)
+        → IfOk r (λ t. ReadsAll becomes steps items (λ xs. (first_fault (pairs_in bytes xs) ≡ None)
+        × (pairs t ≡ last_wins (pairs_in bytes xs))))
     sorted-loaded pairs (Err e) k v = tt
-    sorted-loaded pairs (Ok t) k v = (read.0, read.1, read.2, read.3, (read.4.faultless, same-pairs (pairs t) (last_wins (pairs_in bytes read.1)) (k ∙ read.4.keys) (v ∙ read.4.values)))
+    sorted-loaded pairs (Ok t) k v = (
+      read.0,
+      read.1,
+      read.2,
+      read.3,
+      (
+        read.4.faultless,
+        same-pairs (pairs t) (last_wins (pairs_in bytes read.1)) (k ∙ read.4.keys) (v
+            ∙ read.4.values),
+      ),
+    )
 
     sorted-some : 0 < length keys → pairs_in bytes read.1 ≡ [] → ⊥
-    sorted-some some e = omega (arith, some, read-length (pairs_in bytes read.1) (map bytes keys) vs read.4, length-map keys bytes, ap (λ z. length (last_wins z)) e)
+    sorted-some some e = omega (
+      arith,
+      some,
+      read-length (pairs_in bytes read.1) (map bytes keys) vs read.4,
+      length-map
+          keys bytes,
+      ap (λ z. length (last_wins z)) e,
+    )
 
-    pub sorted-refused : length keys ≤ MAX_PAIRS → {T : Type 0} (r : Result T BulkError) → IfErr r (λ e. e ≡ Memory) → OnErr r (0 < length keys)
-        → IfErr r (λ e. Reads becomes steps items (λ xs. StopsSorted (pairs_in bytes xs) e))
+    pub sorted-refused : length keys ≤ MAX_PAIRS → {T : Type 0} (r : Result T BulkError) → IfErr r (λ e. e ≡ Memory)
+        → OnErr r (0 < length keys)
+        → IfErr r (λ e. Reads becomes steps items (λ xs. FailsSorted (pairs_in bytes xs) e))
     sorted-refused few (Ok t) m some = tt
     sorted-refused few (Err e) m some = rw m (
       read.0,
@@ -58,14 +83,30 @@ module _ {U S K V : Type 0} (becomes : U → S → Type 0) (steps : S → Option
       read.3.1.0,
       read.2,
       read.3.1.1,
-      (sorted-some some, read.4.faultless, omega (arith, few, read-length (pairs_in bytes read.1) (map bytes keys) vs read.4, length-map keys bytes)),
+      (
+        sorted-some some,
+        read.4.faultless,
+        omega
+            (arith, few, read-length (pairs_in bytes read.1) (map bytes keys) vs read.4, length-map keys bytes),
+      ),
     )
 
-  module _ (read : ReadsAll becomes steps items (λ xs. (map bytes keys ≡ keys_of (pairs_in bytes xs)) × (vs ≡ values_of (pairs_in bytes xs)))) where
-    pub unique-ascends : ((s : S) → becomes items s → HoldsAlong steps s (λ xs. IsAscending (pairs_in bytes xs))) → IsAscending (lone_keys (map bytes keys))
-    unique-ascends up = rw read.4.0 (ascending-by-keys (pairs_in bytes read.1) (up read.0 read.2 read.1 read.3.1.0 read.3.1.1))
+  module _ (read : ReadsAll becomes steps items (λ xs. (map bytes keys ≡ keys_of (pairs_in bytes xs))
+      × (vs ≡ values_of (pairs_in bytes xs)))) where
+    pub unique-ascends : ((s : S) → becomes items s → HoldsAlong steps s (λ xs. IsAscending (pairs_in bytes xs)))
+        → IsAscending (lone_keys (map bytes keys))
+    unique-ascends up = rw read.4.0 (ascending-by-keys (pairs_in bytes read.1)
+        (up read.0 read.2 read.1 read.3.1.0 read.3.1.1))
 
-    pub unique-loaded : {T : Type 0} (pairs : T → List (List ℕ × V)) (r : Result T BulkError) → IfOk r (λ t. keys_of (pairs t) ≡ map bytes keys) → IfOk r (λ t. values_of (pairs t) ≡ vs)
+    pub unique-loaded : {T : Type 0} (pairs : T → List (List ℕ × V)) (r : Result T BulkError)
+        → IfOk r (λ t. keys_of (pairs t) ≡ map bytes keys) → IfOk r (λ t. values_of (pairs t) ≡ vs)
         → IfOk r (λ t. ReadsAll becomes steps items (λ xs. pairs t ≡ pairs_in bytes xs))
     unique-loaded pairs (Err e) k v = tt
-    unique-loaded pairs (Ok t) k v = (read.0, read.1, read.2, read.3, same-pairs (pairs t) (pairs_in bytes read.1) (k ∙ read.4.0) (v ∙ read.4.1))
+    unique-loaded pairs (Ok t) k v = (
+      read.0,
+      read.1,
+      read.2,
+      read.3,
+      same-pairs (pairs t) (pairs_in bytes read.1) (k
+          ∙ read.4.0) (v ∙ read.4.1),
+    )

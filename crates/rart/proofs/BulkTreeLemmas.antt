@@ -1,8 +1,9 @@
 -- The keys of a bulk load, and what the tree that is made of them keeps.
-use Rattle.std.proofs.Common.{◌≡◌, ℕ, ◌+◌, ◌<◌, ◌≤◌, max, zero, suc, List, [], ◌∷◌, ◌++◌, length, get_or, drop, map, refl, ap, ◌∙◌, arith, subst, Option, Some, None}
+use Rattle.std.proofs.Common.{◌≡◌, ℕ, ◌+◌, ◌<◌, ◌≤◌, max, zero, suc, List, [], ◌∷◌, ◌++◌, length, get_or, drop, map}
+use Rattle.std.proofs.Common.{refl, ap, ◌∙◌, arith, subst, Option, Some, None}
 use Rattle.std.specs.Borrow.{Bor}
 use Rattle.std.proofs.lemmas.List.{drop_all}
-use Rattle.rart_keys.specs.ByteStrings.{IsBelow}
+use Rattle.rart_keys.specs.ByteStrings.{IsLess}
 use Rattle.rart_keys.specs.KeyBytes.{IsWithin}
 use Rattle.rart_keys.specs.SortedMap.{AreAbove, IsAscending, keys_of, longest_key, values_of}
 use Rattle.rart_nodes.specs.build.Stretches.{AreWithin}
@@ -19,13 +20,16 @@ longest-within None ks h = tt
 longest-within (Some m) [] h = omega arith
 longest-within (Some m) (k ∷ ks) h = omega (arith, h.0, longest-within (Some m) ks h.1)
 
--- the longest of the keys behind a place
-longest-at : (i : ℕ) (keys : List (Bor (List ℕ))) (x : Bor (List ℕ)) → i < length keys → longest_key (lone_keys (keys_in (drop i keys))) ≡ max (length (get_or keys i x).now) (longest_key (lone_keys (keys_in (drop (suc i) keys))))
+-- the longest of the keys after a place
+longest-at : (i : ℕ) (keys : List (Bor (List ℕ))) (x : Bor (List ℕ)) → i < length keys
+    → longest_key (lone_keys (keys_in (drop i keys)))
+    ≡ max (length (get_or keys i x).now) (longest_key (lone_keys (keys_in (drop (suc i) keys))))
 longest-at i [] x h = absurd (omega arith)
 longest-at zero (k ∷ keys) x h = refl
 longest-at (suc i) (k ∷ keys) x h = longest-at i keys x (omega arith)
 
-pub longest-start : (keys : List (Bor (List ℕ))) → max 0 (longest_key (lone_keys (keys_in (drop 0 keys)))) ≡ longest_key (lone_keys (keys_in keys))
+pub longest-start : (keys : List (Bor (List ℕ))) → max 0 (longest_key (lone_keys (keys_in (drop 0 keys))))
+    ≡ longest_key (lone_keys (keys_in keys))
 longest-start keys = omega arith
 
 pub longer-one : (a b now : ℕ) → now ≡ b → a < b → now ≡ max a b
@@ -34,40 +38,53 @@ longer-one a b now e l = omega (arith, e, l)
 pub no-longer-one : (a b now : ℕ) → now ≡ a → b ≤ a → now ≡ max a b
 no-longer-one a b now e l = omega (arith, e, l)
 
-pub longest-step : (longest now i total : ℕ) (keys : List (Bor (List ℕ))) (x : Bor (List ℕ)) → i < length keys → max longest (longest_key (lone_keys (keys_in (drop i keys)))) ≡ total → now ≡ max longest (length (get_or keys i x).now)
+pub longest-step : (longest now i total : ℕ) (keys : List (Bor (List ℕ))) (x : Bor (List ℕ)) → i < length keys
+    → max longest (longest_key (lone_keys (keys_in (drop i keys)))) ≡ total
+    → now ≡ max longest (length (get_or keys i x).now)
     → max now (longest_key (lone_keys (keys_in (drop (i + 1) keys)))) ≡ total
-longest-step longest now i total keys x l e n = let s : i + 1 ≡ suc i = omega arith in rw s (omega (arith, n, e, longest-at i keys x l))
+longest-step longest now i total keys x l e n = let s : i + 1 ≡ suc i = omega arith in
+    rw s (omega (arith, n, e, longest-at i keys x l))
 
-pub longest-end : (longest i total : ℕ) (keys : List (Bor (List ℕ))) → length keys ≤ i → max longest (longest_key (lone_keys (keys_in (drop i keys)))) ≡ total → longest ≡ total
-longest-end longest i total keys l e = let none : longest_key (lone_keys (keys_in (drop i keys))) ≡ 0 = ap (λ z. longest_key (lone_keys (keys_in z))) (drop_all i keys l) in omega (arith, none, e)
+pub longest-end : (longest i total : ℕ) (keys : List (Bor (List ℕ))) → length keys ≤ i
+    → max longest (longest_key (lone_keys (keys_in (drop i keys)))) ≡ total → longest ≡ total
+longest-end longest i total keys l e = let none : longest_key (lone_keys (keys_in (drop i keys))) ≡ 0
+    = ap (λ z. longest_key (lone_keys (keys_in z))) (drop_all i keys l) in omega (arith, none, e)
 
-pub keys-within : {K : Type 0} (m : Option ℕ) (bytes : K → List ℕ) → ((k : K) → IsWithin m (length (bytes k))) → (keys : List K) → AreWithin m (map bytes keys)
+pub keys-within : {K : Type 0} (m : Option ℕ) (bytes : K → List ℕ) → ((k : K) → IsWithin m (length (bytes k)))
+    → (keys : List K) → AreWithin m (map bytes keys)
 keys-within m bytes within [] = tt
 keys-within m bytes within (k ∷ keys) = (within k, keys-within m bytes within keys)
 
 -- keys at their places
 module _ (At : ℕ → List ℕ → Type 0) where
-  from_place : (j : ℕ) (ks : List (List ℕ)) (k : List ℕ) → ((i : ℕ) → i < length ks → At (j + i) (get_or ks i [])) → At (j + length ks) k → (i : ℕ) → i < length (ks ++ k ∷ []) → At (j + i) (get_or (ks ++ k ∷ []) i [])
+  from_place : (j : ℕ) (ks : List (List ℕ)) (k : List ℕ) → ((i : ℕ) → i < length ks → At (j + i) (get_or ks i []))
+      → At (j + length ks) k → (i : ℕ) → i < length (ks ++ k ∷ []) → At (j + i) (get_or (ks ++ k ∷ []) i [])
   from_place j [] k h a zero l = a
   from_place j [] k h a (suc i) l = absurd (omega (arith, l))
   from_place j (q ∷ ks) k h a zero l = h 0 (omega arith)
   from_place j (q ∷ ks) k h a (suc i) l =
       let e : suc j + i ≡ j + suc i = omega arith in let f : j + suc (length ks) ≡ suc j + length ks = omega arith in
       subst (λ (z : ℕ). At z (get_or (ks ++ k ∷ []) i [])) e
-      (from_place (suc j) ks k (λ m b. let s : j + suc m ≡ suc j + m = omega arith in subst (λ (z : ℕ). At z (get_or ks m [])) s (h (suc m) (omega (arith, b)))) (subst (λ (z : ℕ). At z k) f a) i (omega (arith, l)))
+      (from_place (suc j) ks k (λ m b. let s : j + suc m ≡ suc j + m = omega arith in
+      subst (λ (z : ℕ). At z (get_or ks m [])) s (h (suc m) (omega (arith, b)))) (subst (λ (z : ℕ). At z k) f a) i
+      (omega (arith, l)))
 
-  pub one-key-more : (n : ℕ) (ks ls : List (List ℕ)) (k : List ℕ) → AreKeysAt At ks → length ks ≡ n → At n k → ls ≡ ks ++ k ∷ [] → AreKeysAt At ls
+  pub one-key-more : (n : ℕ) (ks ls : List (List ℕ)) (k : List ℕ) → AreKeysAt At ks → length ks ≡ n → At n k
+      → ls ≡ ks ++ k ∷ [] → AreKeysAt At ls
   one-key-more n ks ls k h e a is i l =
-      let whole = from_place 0 ks k (λ m b. let s : m ≡ 0 + m = omega arith in subst (λ (z : ℕ). At z (get_or ks m [])) s (h m b)) (let s : n ≡ 0 + length ks = omega (arith, e) in subst (λ (z : ℕ). At z k) s a) i (omega (arith, l, ap length is)) in
+      let whole = from_place 0 ks k (λ m b. let s : m ≡ 0 + m = omega arith in
+      subst (λ (z : ℕ). At z (get_or ks m [])) s (h m b)) (let s : n ≡ 0 + length ks = omega (arith, e) in
+      subst (λ (z : ℕ). At z k) s a) i (omega (arith, l, ap length is)) in
       let s : 0 + i ≡ i = omega arith in
       rw is (subst (λ (z : ℕ). At z (get_or (ks ++ k ∷ []) i [])) s whole)
 
-  -- what stands at the places from j on
+  -- what is stored at the places from j on
   abbrev StandFrom : ℕ → List (List ℕ) → Type 0
   StandFrom j ks = (i : ℕ) → i < length ks → At (j + i) (get_or ks i [])
 
   stand-tail : (j : ℕ) (k : List ℕ) (ks : List (List ℕ)) → StandFrom j (k ∷ ks) → StandFrom (suc j) ks
-  stand-tail j k ks h i l = let s : j + suc i ≡ suc j + i = omega arith in subst (λ (z : ℕ). At z (get_or ks i [])) s (h (suc i) (omega (arith, l)))
+  stand-tail j k ks h i l = let s : j + suc i ≡ suc j + i = omega arith in
+      subst (λ (z : ℕ). At z (get_or ks i [])) s (h (suc i) (omega (arith, l)))
 
   stand-head : (j : ℕ) (k : List ℕ) (ks : List (List ℕ)) → StandFrom j (k ∷ ks) → At j k
   stand-head j k ks h = let s : j + 0 ≡ j = omega arith in subst (λ (z : ℕ). At z k) s (h 0 (omega arith))
@@ -75,14 +92,23 @@ module _ (At : ℕ → List ℕ → Type 0) where
   stand-all : (ks : List (List ℕ)) → AreKeysAt At ks → StandFrom 0 ks
   stand-all ks h i l = let s : i ≡ 0 + i = omega arith in subst (λ (z : ℕ). At z (get_or ks i [])) s (h i l)
 
-  module _ (len : ℕ) (below : (i j : ℕ) (k l : List ℕ) → i < j → j < len → At i k → At j l → IsBelow k l) where
-    above-from : (i j : ℕ) (k : List ℕ) (ks : List (List ℕ)) → i < j → j + length ks ≡ len → At i k → StandFrom j ks → AreAbove k (lone_keys ks)
+  module _ (len : ℕ) (below : (i j : ℕ) (k l : List ℕ) → i < j → j < len → At i k → At j l → IsLess k l) where
+    above-from : (i j : ℕ) (k : List ℕ) (ks : List (List ℕ)) → i < j → j + length ks ≡ len → At i k → StandFrom j ks
+        → AreAbove k (lone_keys ks)
     above-from i j k [] l e a h = tt
-    above-from i j k (q ∷ ks) l e a h = (below i j k q l (omega (arith, e)) a (stand-head j q ks h), above-from i (suc j) k ks (omega (arith, l)) (omega (arith, e)) a (stand-tail j q ks h))
+    above-from i j k (q ∷ ks) l e a h = (
+      below i j k q l (omega (arith, e)) a (stand-head j q ks h),
+      above-from i
+          (suc j) k ks (omega (arith, l)) (omega (arith, e)) a (stand-tail j q ks h),
+    )
 
     ascend-from : (j : ℕ) (ks : List (List ℕ)) → j + length ks ≡ len → StandFrom j ks → IsAscending (lone_keys ks)
     ascend-from j [] e h = tt
-    ascend-from j (k ∷ ks) e h = (above-from j (suc j) k ks (omega arith) (omega (arith, e)) (stand-head j k ks h) (stand-tail j k ks h), ascend-from (suc j) ks (omega (arith, e)) (stand-tail j k ks h))
+    ascend-from j (k ∷ ks) e h = (
+      above-from j (suc j) k ks (omega arith) (omega (arith, e)) (stand-head j k ks h)
+          (stand-tail j k ks h),
+      ascend-from (suc j) ks (omega (arith, e)) (stand-tail j k ks h),
+    )
 
     pub keys-ascend : (ks : List (List ℕ)) → length ks ≡ len → AreKeysAt At ks → IsAscending (lone_keys ks)
     keys-ascend ks e h = ascend-from 0 ks (omega (arith, e)) (stand-all ks h)
@@ -96,7 +122,8 @@ module _ (At : ℕ → List ℕ → Type 0) where
     places-within ks h = within-from 0 ks (stand-all ks h)
 
 -- pairs are told by their keys and their values
-pub same-pairs : {V : Type 0} (xs ys : List (List ℕ × V)) → keys_of xs ≡ keys_of ys → values_of xs ≡ values_of ys → xs ≡ ys
+pub same-pairs : {V : Type 0} (xs ys : List (List ℕ × V)) → keys_of xs ≡ keys_of ys → values_of xs ≡ values_of ys
+    → xs ≡ ys
 same-pairs [] [] k v = refl
 same-pairs [] (y ∷ ys) k v = absurd (omega (arith, ap length k))
 same-pairs (x ∷ xs) [] k v = absurd (omega (arith, ap length k))

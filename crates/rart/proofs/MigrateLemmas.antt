@@ -9,21 +9,24 @@ use Rattle.rart.specs.Migrations.{terminated, with_zeros}
 use Rattle.rart.proofs.BulkEndLemmas.{ascending-by-keys}
 use Rattle.rart.proofs.BulkTreeLemmas.{same-pairs}
 
--- a closing zero behind both keys changes nothing of their order
+-- a closing zero after both keys changes nothing of their order
 abbrev pub ClosingZeros : Type 0
 ClosingZeros = (xs ys : List ℕ) → slice_cmp nat_cmp (xs ++ 0 ∷ []) (ys ++ 0 ∷ []) ≡ slice_cmp nat_cmp xs ys
 
-above-texts : ClosingZeros → (k : List ℕ) (ts : List (List ℕ)) → AreAbove (terminated k) (lone_keys (map terminated ts)) → AreAbove k (lone_keys ts)
+above-texts : ClosingZeros → (k : List ℕ) (ts : List (List ℕ)) → AreAbove (terminated k) (lone_keys (map terminated ts))
+    → AreAbove k (lone_keys ts)
 above-texts law k [] h = tt
 above-texts law k (t ∷ ts) h = (sym (law k t) ∙ h.0, above-texts law k ts h.1)
 
-ascending-texts : ClosingZeros → (ts : List (List ℕ)) → IsAscending (lone_keys (map terminated ts)) → IsAscending (lone_keys ts)
+ascending-texts : ClosingZeros → (ts : List (List ℕ)) → IsAscending (lone_keys (map terminated ts))
+    → IsAscending (lone_keys ts)
 ascending-texts law [] h = tt
 ascending-texts law (t ∷ ts) h = (above-texts law t ts h.0, ascending-texts law ts h.1)
 
 module _ {V : Type 0} where
   -- texts ascend as their terminated keys do
-  pub texts-ascend : ClosingZeros → (es : List (List ℕ × V)) (ts : List (List ℕ)) → IsAscending es → keys_of es ≡ map terminated ts → IsAscending (lone_keys ts)
+  pub texts-ascend : ClosingZeros → (es : List (List ℕ × V)) (ts : List (List ℕ)) → IsAscending es
+      → keys_of es ≡ map terminated ts → IsAscending (lone_keys ts)
   texts-ascend law es ts h k = ascending-texts law ts (rw (← k) (ascending-by-keys es h))
 
   keys-with_zeros : (es : List (List ℕ × V)) → keys_of (with_zeros es) ≡ map terminated (keys_of es)
@@ -35,9 +38,21 @@ module _ {V : Type 0} where
   values-with_zeros (e ∷ es) = ap (λ z. e.1 ∷ z) (values-with_zeros es)
 
   -- the pairs of both trees, by their keys and values
-  pub brought-over : (es ds : List (List ℕ × V)) (ts : List (List ℕ)) (vs : List V) → keys_of es ≡ map terminated ts → values_of es ≡ vs → keys_of ds ≡ ts → values_of ds ≡ vs → es ≡ with_zeros ds
-  brought-over es ds ts vs k v l w = same-pairs es (with_zeros ds) (k ∙ ap (map terminated) (sym l) ∙ sym (keys-with_zeros ds)) (v ∙ sym w ∙ sym (values-with_zeros ds))
+  pub brought-over : (es ds : List (List ℕ × V)) (ts : List (List ℕ)) (vs : List V) → keys_of es ≡ map terminated ts
+      → values_of es ≡ vs → keys_of ds ≡ ts → values_of ds ≡ vs → es ≡ with_zeros ds
+  brought-over es ds ts vs k v l w = same-pairs es (with_zeros ds) (k ∙ ap (map terminated) (sym l)
+      ∙ sym (keys-with_zeros ds)) (v ∙ sym w ∙ sym (values-with_zeros ds))
 
   -- keys that were read tell that there are some
-  pub some-read : {K : Type 0} (bytes : K → List ℕ) (es : List (List ℕ × V)) (ks : List K) → keys_of es ≡ map terminated (map bytes ks) → 0 < length ks → es ≡ [] → ⊥
-  some-read bytes es ks k some e = omega (arith, some, ap length k, ap length e, length-map es (λ d. d.0), length-map (map bytes ks) terminated, length-map ks bytes)
+  pub some-read : {K : Type 0} (bytes : K → List ℕ) (es : List (List ℕ × V)) (ks : List K)
+      → keys_of es ≡ map terminated (map bytes ks) → 0 < length ks → es ≡ [] → ⊥
+  some-read bytes es ks k some e = omega (
+    arith,
+    some,
+    ap length k,
+    ap length e,
+    length-map es (λ d. d.0),
+    length-map
+        (map bytes ks) terminated,
+    length-map ks bytes,
+  )

@@ -1,5 +1,6 @@
 -- What an update of a tree comes to.
-use Rattle.std.proofs.Common.{◌≡◌, ◌≢◌, ℕ, ◌<◌, ◌≤◌, Bool, true, false, List, length, nat_eq, Option, Some, None, Result, Ok, Err, is_some, refl, arith, sym, ap, ◌∙◌}
+use Rattle.std.proofs.Common.{◌≡◌, ◌≢◌, ℕ, ◌<◌, ◌≤◌, Bool, true, false, List, length, nat_eq, Option, Some, None}
+use Rattle.std.proofs.Common.{Result, Ok, Err, is_some, refl, arith, sym, ap, ◌∙◌}
 use Rattle.std.proofs.lemmas.Bool.Decides.{nat_tests}
 use Rattle.std.specs.Borrow.{MutBor}
 use Rattle.std.specs.Fn.{Once}
@@ -16,10 +17,11 @@ use Rattle.rart_nodes.specs.updates.Updates.{EndsMap, RefusesNew, map_left}
 use Rattle.rart_parts.specs.declared.error.TreeError.{TreeError}
 use Rattle.rart_parts.specs.declared.error.TreeError.TheVariants.{Memory, Full}
 use Rattle.rart.specs.MapAndShape.{MapAndShape}
-use Rattle.rart.specs.Refusals.{MayRefuse}
-use Rattle.rart.specs.declared.tree.update.Told.{Told}
-use Rattle.rart.specs.declared.tree.update.Told.TheVariants.{NotCloned, Failed, Answered}
-use Rattle.rart.specs.declared.tree.update.TryUpdateError.TheVariants.{Callback, Insert as Try_not_inserted, Remove as Try_not_removed}
+use Rattle.rart.specs.Refusals.{MayRefuseInsert}
+use Rattle.rart.specs.declared.tree.update.CallbackOutcome.{CallbackOutcome}
+use Rattle.rart.specs.declared.tree.update.CallbackOutcome.TheVariants.{NotCloned, Failed, Answered}
+use Rattle.rart.specs.declared.tree.update.TryUpdateError.TheVariants.{Callback, Insert as Try_not_inserted}
+use Rattle.rart.specs.declared.tree.update.TryUpdateError.TheVariants.{Remove as Try_not_removed}
 use Rattle.rart.specs.Updates.{Attempts, EndsIn, IsAttempt, StaysIfOk, TakesNew, TriesUpdate, is_touched, touched_in}
 use Rattle.rart.specs.declared.tree.TheConstants.{MAX_PAIRS}
 
@@ -34,7 +36,8 @@ room-below l n b h = grind (arith, nat_tests)
 
 pub same-map : {V : Type 0} (a b : MapAndShape V) → a.pairs ≡ b.pairs → a.nodes ≡ b.nodes → a ≡ b
 same-map {V} a b p n =
-    let q : a ≡ record { pairs = b.pairs; nodes = a.nodes } = ap (λ (z : List (List ℕ × V)). record { pairs = z; nodes = a.nodes }) p in
+    let q : a ≡ record { pairs = b.pairs; nodes = a.nodes }
+    = ap (λ (z : List (List ℕ × V)). record { pairs = z; nodes = a.nodes }) p in
     q ∙ ap (λ z. record { pairs = b.pairs; nodes = z }) n
 
 module _ {V : Type 0} where
@@ -54,21 +57,27 @@ module _ {V : Type 0} where
   some-stored (Some y) None h s = absurd (cc)
   some-stored (Some y) (Some x) h s = λ z. cc
 
-  takes-new : (full : Bool) (r : SlotUpdate V) (w : Option V) (o : Outcome V) (m : List (List ℕ × V)) → full ≡ nat_eq (length m) MAX_PAIRS → o ≡ outcome_of r w → HasRoom full o → TakesNew r w m
+  takes-new : (full : Bool) (r : SlotUpdate V) (w : Option V) (o : Outcome V) (m : List (List ℕ × V))
+      → full ≡ nat_eq (length m) MAX_PAIRS → o ≡ outcome_of r w → HasRoom full o → TakesNew r w m
   takes-new full Keep w o m f e h = tt
   takes-new full Remove w o m f e h = tt
   takes-new full (Insert x) (Some w) o m f e h = tt
-  takes-new full (Insert x) None o m f e h = let room : full ≡ false = rw e at h in room-is (length m) MAX_PAIRS (sym f ∙ room)
+  takes-new full (Insert x) None o m f e h = let room : full ≡ false = rw e at h in
+      room-is (length m) MAX_PAIRS (sym f ∙ room)
 
-  may-refuse : (full : Bool) (k : List ℕ) (m : List (List ℕ × V)) (e : TreeError) → full ≡ nat_eq (length m) MAX_PAIRS → length m ≤ MAX_PAIRS → lookup k m ≡ None → RefusesNew full k m e → MayRefuse m k e
+  may-refuse : (full : Bool) (k : List ℕ) (m : List (List ℕ × V)) (e : TreeError) → full ≡ nat_eq (length m) MAX_PAIRS
+      → length m ≤ MAX_PAIRS → lookup k m ≡ None → RefusesNew full k m e → MayRefuseInsert m k e
   may-refuse full k m Full f most none h = (none, full-is (length m) MAX_PAIRS (sym f ∙ h))
   may-refuse full k m Memory f most none h = (none, room-below (length m) MAX_PAIRS most (sym f ∙ h.0), h.1)
 
   -- the update of a root is one of the map
-  pub ends-in : (full : Bool) (k : List ℕ) (r : SlotUpdate V) (w : Option V) (m : List (List ℕ × V)) (res : Result (Outcome V) (UpdateError V)) (n : List (List ℕ × V)) → full ≡ nat_eq (length m) MAX_PAIRS → length m ≤ MAX_PAIRS
+  pub ends-in : (full : Bool) (k : List ℕ) (r : SlotUpdate V) (w : Option V) (m : List (List ℕ × V))
+      (res : Result (Outcome V) (UpdateError V)) (n : List (List ℕ × V)) → full ≡ nat_eq (length m) MAX_PAIRS
+      → length m ≤ MAX_PAIRS
       → is_some w ≡ is_some (lookup k m) → EndsMap full k r w m res n → EndsIn k r w m res n
   ends-in full k r w m (Ok o) n f most s h = (h.1, takes-new full r w o m f h.1 h.2, h.0)
-  ends-in full k r w m (Err (Not_inserted e)) n f most s h = (h.1, h.2, may-refuse full k m e.error f most (none-stored w (lookup k m) h.2 s) h.3, h.0)
+  ends-in full k r w m (Err (Not_inserted e)) n f most s h
+      = (h.1, h.2, may-refuse full k m e.error f most (none-stored w (lookup k m) h.2 s) h.3, h.0)
   ends-in full k r w m (Err Not_removed) n f most s h = (h.1, h.2, (refl, some-stored w (lookup k m) h.2 s, h.3), h.0)
 
   pub touched-is : (r : SlotUpdate V) (w : Option V) → touched_in (outcome_of r w) ≡ is_touched r w
@@ -80,7 +89,9 @@ module _ {V : Type 0} where
   touched-is (Insert x) (Some w) = refl
 
   -- what was left as it was shown changes nothing
-  pub kept : (k : List ℕ) (r : SlotUpdate V) (w : Option V) (m : List (List ℕ × V)) (res : Result (Outcome V) (UpdateError V)) (n : List (List ℕ × V)) → ((v : V) → lookup k m ≡ Some v → put k v m ≡ m)
+  pub kept : (k : List ℕ) (r : SlotUpdate V) (w : Option V) (m : List (List ℕ × V))
+      (res : Result (Outcome V) (UpdateError V)) (n : List (List ℕ × V))
+      → ((v : V) → lookup k m ≡ Some v → put k v m ≡ m)
       → r ≡ Keep → slot_of w ≡ slot_of (lookup k m) → EndsIn k r w m res n → n ≡ m
   kept k Remove w m res n law e s h = absurd (cc)
   kept k (Insert x) w m res n law e s h = absurd (cc)
@@ -90,11 +101,14 @@ module _ {V : Type 0} where
   kept k Keep w m (Err Not_removed) n law e s h = absurd (let z = h.0 in cc)
 
   -- a refused removal: what was left stands at the key, and what stood there is put back
-  pub stands-left : (k : List ℕ) (w : Option V) (m n : List (List ℕ × V)) → ((v : V) → lookup k (put k v m) ≡ Some v) → w ≢ None → n ≡ map_left k w m → lookup k n ≢ None
+  pub stands-left : (k : List ℕ) (w : Option V) (m n : List (List ℕ × V)) → ((v : V) → lookup k (put k v m) ≡ Some v)
+      → w ≢ None → n ≡ map_left k w m → lookup k n ≢ None
   stands-left k None m n law s e = absurd (s refl)
   stands-left k (Some w) m n law s e = λ z. let at = law w in let same = ap (lookup k) e in cc
 
-  pub back-left : (k : List ℕ) (w : Option V) (v : V) (m n u : List (List ℕ × V)) → ((x y : V) → lookup k m ≡ Some x → put k x (put k y m) ≡ m) → w ≢ None → lookup k m ≡ Some v → n ≡ map_left k w m → u ≡ put k v n → u ≡ m
+  pub back-left : (k : List ℕ) (w : Option V) (v : V) (m n u : List (List ℕ × V))
+      → ((x y : V) → lookup k m ≡ Some x → put k x (put k y m) ≡ m) → w ≢ None → lookup k m ≡ Some v
+      → n ≡ map_left k w m → u ≡ put k v n → u ≡ m
   back-left k None v m n u law s at e p = absurd (s refl)
   back-left k (Some w) v m n u law s at e p = p ∙ ap (put k v) e ∙ law v w at
 
@@ -105,19 +119,26 @@ module _ {V : Type 0} where
   slot-some u v h = ap is_some (slot-same u v h)
 
 -- an attempt keeps a slot occupied, or vacant, where the callback does
-pub attempt-stays : {F E V : Type 0} (sure : V → Type 0) (g : Once F (MutBor (Slot V) × Unit {0}) (Result (SlotUpdate V) E × (MutBor (Slot V) × Unit {0}))) (f : F) (o : Option V) (r : SlotUpdate V) (x : Told V E) (w : Option V)
+pub attempt-stays : {F E V : Type 0} (sure : V
+    → Type 0) (g : Once F (MutBor (Slot V) × Unit {0}) (Result (SlotUpdate V) E × (MutBor (Slot V) × Unit {0}))) (f : F)
+    (o : Option V) (r : SlotUpdate V) (x : CallbackOutcome V E) (w : Option V)
     → StaysIfOk g f o → IsAttempt sure g f (slot_of o) r x (slot_of w) → is_some w ≡ is_some o
 attempt-stays sure g f o r NotCloned w law h = slot-some w o h.1
 attempt-stays sure g f o r (Failed e) w law h = slot-some w o h.1
 attempt-stays sure g f o r (Answered c) w law h = law r w h.0
 
--- what an attempt comes to, by what it tells
-module _ {F E V : Type 0} (sure : V → Type 0) (g : Once F (MutBor (Slot V) × Unit {0}) (Result (SlotUpdate V) E × (MutBor (Slot V) × Unit {0}))) (f : F) (k : List ℕ) (m n : List (List ℕ × V)) (res : Result (Outcome V) (UpdateError V)) where
-  module _ (law : (q : List ℕ) (v : V) (l : List (List ℕ × V)) → IsAscending l → lookup q l ≡ Some v → put q v l ≡ l) (up : IsAscending m) where
+-- what an attempt comes to, by what it returns
+module _ {F E V : Type 0} (sure : V → Type 0)
+    (g : Once F (MutBor (Slot V) × Unit {0}) (Result (SlotUpdate V) E × (MutBor (Slot V) × Unit {0}))) (f : F)
+    (k : List ℕ) (m n : List (List ℕ × V)) (res : Result (Outcome V) (UpdateError V)) where
+  module _ (law : (q : List ℕ) (v : V) (l : List (List ℕ × V)) → IsAscending l → lookup q l ≡ Some v → put q v l ≡ l)
+      (up : IsAscending m) where
     -- f wasn't called
     pub not-called : Attempts sure g f k m NotCloned res n → (n ≡ m) × ((v : V) × (lookup k m ≡ Some v) × (sure v → ⊥))
-    not-called h = let t = h.2 in let v = t.2.0 in
-        (kept k h.0 h.1 m res n (λ x s. law k x m up s) t.0 t.1 h.3, (v, sym (slot-is (Some v) (lookup k m) (sym t.2.1)), t.2.2))
+    not-called h = let t = h.2 in let v = t.2.0 in (
+      kept k h.0 h.1 m res n (λ x s. law k x m up s) t.0 t.1 h.3,
+      (v, sym (slot-is (Some v) (lookup k m) (sym t.2.1)), t.2.2),
+    )
 
     -- it failed
     pub failed : (e : E) → Attempts sure g f k m (Failed e) res n → TriesUpdate g f k m (Err (Callback e)) n × (n ≡ m)
@@ -126,11 +147,14 @@ module _ {F E V : Type 0} (sure : V → Type 0) (g : Once F (MutBor (Slot V) × 
         ((Err e, t.2.0, t.2.1, (refl, same)), same)
 
   -- what it asked for is done
-  pub done : (x : Option V) (o : Outcome V) (b : Bool) → b ≡ touched_in o → res ≡ Ok o → Attempts sure g f k m (Answered x) res n → TriesUpdate g f k m (Ok b) n
-  done x o b is r h = let e = rw r at h.3 in (Ok h.0, h.1, h.2.0, (is ∙ ap touched_in e.0 ∙ touched-is h.0 h.1, e.1, e.2))
+  pub done : (x : Option V) (o : Outcome V) (b : Bool) → b ≡ touched_in o → res ≡ Ok o
+      → Attempts sure g f k m (Answered x) res n → TriesUpdate g f k m (Ok b) n
+  done x o b is r h = let e = rw r at h.3 in
+      (Ok h.0, h.1, h.2.0, (is ∙ ap touched_in e.0 ∙ touched-is h.0 h.1, e.1, e.2))
 
   -- its insertion is refused
-  pub not-inserted : (x : Option V) (d : Refused V) → res ≡ Err (Not_inserted d) → Attempts sure g f k m (Answered x) res n → TriesUpdate g f k m (Err (Try_not_inserted d)) n × (n ≡ m)
+  pub not-inserted : (x : Option V) (d : Refused V) → res ≡ Err (Not_inserted d)
+      → Attempts sure g f k m (Answered x) res n → TriesUpdate g f k m (Err (Try_not_inserted d)) n × (n ≡ m)
   not-inserted x d r h = let e = rw r at h.3 in ((Ok h.0, h.1, h.2.0, e), e.3)
 
   -- its removal is refused: what it left stands at the key, and what stood there is put back
@@ -141,8 +165,10 @@ module _ {F E V : Type 0} (sure : V → Type 0) (g : Once F (MutBor (Slot V) × 
     pub some-stood : x ≢ None
     some-stood = λ z. let e = rw r at h.3 in e.2.1 (sym (slot-is x (lookup k m) h.2.1) ∙ z)
 
-    pub put-back : ((q : List ℕ) (v w : V) (l : List (List ℕ × V)) → IsAscending l → lookup q l ≡ Some v → put q v (put q w l) ≡ l) → IsAscending m
-        → (v : V) (u : List (List ℕ × V)) → x ≡ Some v → u ≡ put k v n → TriesUpdate g f k m (Err Try_not_removed) u × (u ≡ m)
+    pub put-back : ((q : List ℕ) (v w : V) (l : List (List ℕ × V)) → IsAscending l → lookup q l ≡ Some v
+        → put q v (put q w l) ≡ l) → IsAscending m
+        → (v : V) (u : List (List ℕ × V)) → x ≡ Some v → u ≡ put k v n → TriesUpdate g f k m (Err Try_not_removed) u
+        × (u ≡ m)
     put-back law up v u s p = let e = rw r at h.3 in
         let stood : lookup k m ≡ Some v = sym (slot-is x (lookup k m) h.2.1) ∙ s in
         let same : u ≡ m = back-left k h.1 v m n u (λ y z t. law k y z m up t) e.1 stood e.3 p in

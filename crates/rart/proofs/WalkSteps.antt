@@ -26,8 +26,10 @@ module _ {M : Type 1} (𝓤 : Ura M) where
   beside φ {R} {Q} x h = via 𝓤 Q h (via 𝓤 (sep 𝓤 (emp 𝓤) Q) (emp∗ 𝓤 Q) (mono_l 𝓤 Q (fact_i 𝓤 φ (emp 𝓤) x)))
 
 -- the last value is said of a name that nothing follows
-pub rests : {M : Type 1} {𝓤 : Ura M} (𝓛 : Logic 𝓤) (R : RattleType) (γ : GName) (E : R.Denot → Type 0) (n : R.Denot) → E n
+pub rests : {M : Type 1} {𝓤 : Ura M} (𝓛 : Logic 𝓤) (R : RattleType) (γ : GName) (E : R.Denot → Type 0) (n : R.Denot)
+    → E n
     → ent 𝓤 (𝓛.A.res γ (R.coded.code n)) (sem 𝓛 (follows_so R R γ none (λ _ _. ⊤) E))
 unfolding such_by follows_by
 rests {𝓤 = 𝓤} 𝓛 R γ E n e =
-    ex_i 𝓤 (λ (s : (p : (R.Denot → R.Denot) × R.Denot) × ((w : R.Denot) → ⊤) × E p.1). sem 𝓛 (follows_by R.Denot R.Denot R.coded.code R.coded.code γ none s.0.0 s.0.1)) (((λ w. w), n), (λ _. tt), e)
+    ex_i 𝓤 (λ (s : (p : (R.Denot → R.Denot) × R.Denot) × ((w : R.Denot) → ⊤) × E p.1). sem 𝓛
+    (follows_by R.Denot R.Denot R.coded.code R.coded.code γ none s.0.0 s.0.1)) (((λ w. w), n), (λ _. tt), e)

@@ -3,7 +3,7 @@ use Rattle.std.specs.Prelude.{◌≡◌, ◌≢◌, ◌<◌, ◌++◌, ◌∷◌
 use Rattle.rart_keys.specs.BulkLists.{put_all}
 use Rattle.rart_keys.specs.SortedMap.{keys_of}
 use Rattle.rart_parts.specs.declared.error.TreeError.{TreeError}
-use Rattle.rart.specs.Refusals.{MayLackStatistics, MayRefuse}
+use Rattle.rart.specs.Refusals.{MayLackStatistics, MayRefuseInsert}
 use Rattle.rart.specs.declared.bulk.BulkError.{BulkError}
 use Rattle.rart.specs.declared.bulk.BulkError.TheVariants.{Memory, Full, Unsorted}
 use Rattle.rart.specs.declared.laws.bulk_loads.RefusedStep.{RefusedStep}
@@ -19,7 +19,8 @@ module _ {V : Type 0} where
 
   -- the insertion of one of these pairs, where those before it were put in, may be refused so
   abbrev pub MayRefuseOneOf : List (List ℕ × V) → TreeError → Type 0
-  MayRefuseOneOf pairs error = (before : List (List ℕ × V)) × (pair : List ℕ × V) × (after : List (List ℕ × V)) × (pairs ≡ before ++ pair ∷ after) × MayRefuse (put_all before []) pair.0 error
+  MayRefuseOneOf pairs error = (before : List (List ℕ × V)) × (pair : List ℕ × V) × (after : List (List ℕ × V))
+      × (pairs ≡ before ++ pair ∷ after) × MayRefuseInsert (put_all before []) pair.0 error
 
   -- the call that was refused, for a reason that the pairs allow
   abbrev pub RefusesStep : List (List ℕ × V) → List (List ℕ × V) → RefusedStep → Type 0

@@ -1,5 +1,6 @@
 -- What a bulk load reads, and where it stops.
-use Rattle.std.specs.Prelude.{◌≡◌, ◌≢◌, ◌+◌, ◌-◌, ◌^◌, ◌<◌, ◌≤◌, min, ℕ, List, [], ◌∷◌, ◌++◌, length, Option, None, Some, Result, IfErr, OnOk, slice_index_or}
+use Rattle.std.specs.Prelude.{◌≡◌, ◌≢◌, ◌+◌, ◌-◌, ◌^◌, ◌<◌, ◌≤◌, min, ℕ, List, [], ◌∷◌, ◌++◌, length, Option, None}
+use Rattle.std.specs.Prelude.{Some, Result, IfErr, OnOk, slice_index_or}
 use Rattle.std.specs.Iterator.{Yields, Drains, HoldsAlong}
 use Rattle.rart_keys.specs.BulkLists.{WasRead, first_fault, last_wins}
 use Rattle.rart_keys.specs.SortedMap.{IsAscending, keys_of, values_of}
@@ -26,17 +27,19 @@ AscendAlong bytes steps s = HoldsAlong steps s (λ xs. IsAscending (pairs_in byt
 abbrev pub BeforeLast : {A : Type 0} → (List A → Type 0) → List A → Type 0
 BeforeLast {A} P xs = (before : List A) × (last : A) × (xs ≡ before ++ last ∷ []) × P before
 
--- this refusal came at the last of these pairs, or where all were read: a key below the one before it, else one key too many, else want of memory
-abbrev pub StopsSorted : {V : Type 0} → List (List ℕ × V) → BulkError → Type 0
-StopsSorted es Memory = (es ≢ []) × (first_fault es ≡ None) × (length (last_wins es) ≤ MAX_PAIRS)
-StopsSorted es Full = (first_fault es ≡ None) × (length (last_wins es) ≡ MAX_PAIRS + 1) × BeforeLast (λ before. length (last_wins before) ≡ MAX_PAIRS) es
-StopsSorted es (Unsorted at) = (i : ℕ) × (first_fault es ≡ Some i) × (length es ≡ i + 1) × (at ≡ min i (2 ^ 64 - 1))
+-- this refusal came at the last of these pairs, or where all were read: a key below the one before it, else one key too
+-- many, else want of memory
+abbrev pub FailsSorted : {V : Type 0} → List (List ℕ × V) → BulkError → Type 0
+FailsSorted es Memory = (es ≢ []) × (first_fault es ≡ None) × (length (last_wins es) ≤ MAX_PAIRS)
+FailsSorted es Full = (first_fault es ≡ None) × (length (last_wins es) ≡ MAX_PAIRS + 1)
+    × BeforeLast (λ before. length (last_wins before) ≡ MAX_PAIRS) es
+FailsSorted es (Unsorted at) = (i : ℕ) × (first_fault es ≡ Some i) × (length es ≡ i + 1) × (at ≡ min i (2 ^ 64 - 1))
 
 -- the same, of pairs that ascend strictly
-abbrev pub StopsUnique : {V : Type 0} → List (List ℕ × V) → BulkError → Type 0
-StopsUnique es Memory = (es ≢ []) × (length es ≤ MAX_PAIRS)
-StopsUnique es Full = length es ≡ MAX_PAIRS + 1
-StopsUnique es (Unsorted at) = ⊥
+abbrev pub FailsUnique : {V : Type 0} → List (List ℕ × V) → BulkError → Type 0
+FailsUnique es Memory = (es ≢ []) × (length es ≤ MAX_PAIRS)
+FailsUnique es Full = length es ≡ MAX_PAIRS + 1
+FailsUnique es (Unsorted at) = ⊥
 
 -- the pairs that a sorted load leaves of these items, none of which is a fault
 abbrev pub LoadsSorted : {V : Type 0} → List (List ℕ × V) → List (List ℕ × V) → Type 0
@@ -47,24 +50,28 @@ abbrev pub AreSplit : {V : Type 0} → List (List ℕ × V) → List (List ℕ) 
 AreSplit es ks vs = (ks ≡ keys_of es) × (vs ≡ values_of es)
 
 -- one item more is read: with Ok, ks' and vs' are then what is kept
-abbrev pub KeepsItem : {A E V : Type 0} → List (List ℕ) → List V → List ℕ → V → Result A E → List (List ℕ) → List V → Type 0
-KeepsItem {A} {E} {V} ks vs k v r ks' vs' = (es : List (List ℕ × V)) → WasRead es ks vs → OnOk r (WasRead (es ++ (k, v) ∷ []) ks' vs')
+abbrev pub KeepsItem : {A E V : Type 0} → List (List ℕ) → List V → List ℕ → V → Result A E → List (List ℕ) → List V
+    → Type 0
+KeepsItem {A} {E} {V} ks vs k v r ks' vs' = (es : List (List ℕ × V)) → WasRead es ks vs
+    → OnOk r (WasRead (es ++ (k, v) ∷ []) ks' vs')
 
 -- and with Err the load stops there; the item's place is `at`
-abbrev pub StopsAtItem : {A V : Type 0} → List (List ℕ) → List V → List ℕ → V → ℕ → Result A BulkError → Type 0
-StopsAtItem {A} {V} ks vs k v at r = (es : List (List ℕ × V)) → WasRead es ks vs → at ≡ min (length es) (2 ^ 64 - 1) → IfErr r (StopsSorted (es ++ (k, v) ∷ []))
+abbrev pub FailsAtItem : {A V : Type 0} → List (List ℕ) → List V → List ℕ → V → ℕ → Result A BulkError → Type 0
+FailsAtItem {A} {V} ks vs k v at r = (es : List (List ℕ × V)) → WasRead es ks vs → at ≡ min (length es) (2 ^ 64 - 1)
+    → IfErr r (FailsSorted (es ++ (k, v) ∷ []))
 
 -- so many keys are refused so
-abbrev pub StopsByIndex : ℕ → BulkError → Type 0
-StopsByIndex len Memory = (0 < len) × (len ≤ MAX_PAIRS)
-StopsByIndex len Full = MAX_PAIRS < len
-StopsByIndex len (Unsorted at) = ⊥
+abbrev pub FailsByIndex : ℕ → BulkError → Type 0
+FailsByIndex len Memory = (0 < len) × (len ≤ MAX_PAIRS)
+FailsByIndex len Full = MAX_PAIRS < len
+FailsByIndex len (Unsorted at) = ⊥
 
 -- at each place stands a key that fits there
 abbrev pub AreKeysAt : (ℕ → List ℕ → Type 0) → List (List ℕ) → Type 0
 AreKeysAt At ks = (i : ℕ) → i < length ks → At i (slice_index_or ks i [])
 
--- a load of so many keys that failed called f at a beginning of the indices, in order, which left g; where it was full it called nothing
+-- a load of so many keys that failed called f at a beginning of the indices, in order, which left g; where it was full
+-- it called nothing
 abbrev pub TakesBeginning : {F V : Type 0} → (F → ℕ → V → F → Type 0) → ℕ → F → F → BulkError → Type 0
 TakesBeginning {F} {V} step len f g Memory = (taken : List V) × (length taken ≤ len) × Takes step 0 f taken g
 TakesBeginning step len f g Full = g ≡ f

@@ -2,16 +2,17 @@
 use Rattle.std.specs.Prelude.{◌≡◌, ℕ, List, Err}
 use Rattle.rart_keys.specs.SortedMap.{keys_of, put}
 use Rattle.rart_nodes.specs.shapes.Shape.{HasShape, NodeRecord}
-use Rattle.rart_nodes.specs.statistics.Statistics.{Statistics, statistics_of}
+use Rattle.rart_nodes.specs.statistics.Statistics.{Statistics, stats_of}
 use Rattle.rart.specs.Edits.{Inserts, Removes}
 use Rattle.rart.specs.MapAndShape.{MapAndShape}
 use Rattle.rart.specs.Refusals.{MayLackStatistics}
 use Rattle.rart.specs.declared.laws.RefusedCall.{RefusedCall}
-use Rattle.rart.specs.declared.laws.RefusedCall.TheVariants.{StatisticsBefore, Insertion, StatisticsBetween, Removal, StatisticsAfter}
+use Rattle.rart.specs.declared.laws.RefusedCall.TheVariants.{StatisticsBefore, Insertion, StatisticsBetween, Removal}
+use Rattle.rart.specs.declared.laws.RefusedCall.TheVariants.{StatisticsAfter}
 
 -- the statistics of a tree with these keys: their nodes are the ones of the keys' shape
 abbrev pub IsCounted : List (List ℕ) → Statistics → Type 0
-IsCounted keys numbers = (nodes : List (List ℕ × NodeRecord)) → HasShape keys nodes → numbers ≡ statistics_of keys nodes
+IsCounted keys numbers = (nodes : List (List ℕ × NodeRecord)) → HasShape keys nodes → numbers ≡ stats_of keys nodes
 
 module _ {V : Type 0} where
   -- the pair that was put in is there, and the nodes have the shape of the keys with it
@@ -22,6 +23,9 @@ module _ {V : Type 0} where
   abbrev pub RefusesCall : List ℕ → V → MapAndShape V → MapAndShape V → RefusedCall V → Type 0
   RefusesCall key value old new (StatisticsBefore error) = MayLackStatistics (keys_of old.pairs) error × (new ≡ old)
   RefusesCall key value old new (Insertion refused) = Inserts key value old.pairs new.pairs (Err refused) × (new ≡ old)
-  RefusesCall key value old new (StatisticsBetween error) = MayLackStatistics (keys_of new.pairs) error × HoldsPair key value old new
-  RefusesCall key value old new (Removal error) = Removes key (put key value old.pairs) new.pairs (Err error) × HoldsPair key value old new
-  RefusesCall key value old new (StatisticsAfter error) = MayLackStatistics (keys_of old.pairs) error × (new.pairs ≡ old.pairs) × (new.nodes ≡ old.nodes)
+  RefusesCall key value old new (StatisticsBetween error) = MayLackStatistics (keys_of new.pairs) error
+      × HoldsPair key value old new
+  RefusesCall key value old new (Removal error) = Removes key (put key value old.pairs) new.pairs (Err error)
+      × HoldsPair key value old new
+  RefusesCall key value old new (StatisticsAfter error) = MayLackStatistics (keys_of old.pairs) error
+      × (new.pairs ≡ old.pairs) × (new.nodes ≡ old.nodes)

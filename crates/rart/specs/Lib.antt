@@ -1,6 +1,7 @@
 pub mod BulkLaw
 pub mod BulkLoads
 pub mod Edits
+pub mod Errors
 pub mod LawAnswers
 pub mod Loans
 pub mod MapAndShape

@@ -11,16 +11,28 @@ use Rattle.rart.specs.contracts.tree.AdaptiveRadixTree.{the_row}
 
 -- what a clause has as K.KeyTrait
 abbrev pub KeyMembers : Type 0 → Type 0
-KeyMembers K = record { partial_cmp : K → K → Option Ordering; cmp : K → K → Ordering; eq : K → K → Bool; MAXIMUM_SIZE : Option ℕ; bytes : K → List ℕ }
+KeyMembers K = record {
+  partial_cmp : K → K → Option Ordering;
+  cmp : K → K → Ordering;
+  eq : K → K
+      → Bool;
+  MAXIMUM_SIZE : Option ℕ;
+  bytes : K → List ℕ;
+}
 
 -- the type of a tree
 abbrev pub tree_row : (K V P : RattleType) → KeyMembers K.Denot → partials.Ghosts P.Denot → RattleType
-tree_row K V P k p = the_row K V P (record { MAXIMUM_SIZE = k.MAXIMUM_SIZE; bytes = k.bytes }) (record { eq = k.eq }) (record { cmp = k.cmp }) (record { partial_cmp = k.partial_cmp }) p
+tree_row K V P k p = the_row K V P (record { MAXIMUM_SIZE = k.MAXIMUM_SIZE; bytes = k.bytes }) (record { eq = k.eq })
+    (record { cmp = k.cmp }) (record { partial_cmp = k.partial_cmp }) p
 
 -- whatever was borrowed from the tree only to be read, it ends as one of which E holds
-abbrev pub ends_as : (K V P : RattleType) → KeyMembers K.Denot → partials.Ghosts P.Denot → MutBor (MapAndShape V.Denot) → (MapAndShape V.Denot → Type 0) → Fml
+abbrev pub ends_as : (K V P : RattleType) → KeyMembers K.Denot → partials.Ghosts P.Denot → MutBor (MapAndShape V.Denot)
+    → (MapAndShape V.Denot → Type 0) → Fml
 ends_as K V P k p tree E = follows_so (tree_row K V P k p) (tree_row K V P k p) tree.ghost_name none (λ _ _. ⊤) E
 
--- the value at a key was lent from the tree, if it was there: the tree ends with what was left there at that key, and with the same nodes; where nothing was lent it ends as it was
-abbrev pub lends_value : (K V P : RattleType) → KeyMembers K.Denot → partials.Ghosts P.Denot → MutBor (MapAndShape V.Denot) → List ℕ → Option (MutBor V.Denot) → Fml
-lends_value K V P k p tree key lent = LendsSo (tree_row K V P k p) V tree lent (λ t w. OnSome lent ((t.pairs ≡ put key w tree.now.pairs) × (t.nodes ≡ tree.now.nodes))) (λ t. t ≡ tree.now)
+-- the value at a key was lent from the tree, if it was there: the tree ends with what was left there at that key, and
+-- with the same nodes; where nothing was lent it ends as it was
+abbrev pub lends_value : (K V P : RattleType) → KeyMembers K.Denot → partials.Ghosts P.Denot
+    → MutBor (MapAndShape V.Denot) → List ℕ → Option (MutBor V.Denot) → Fml
+lends_value K V P k p tree key lent = LendsSo (tree_row K V P k p) V tree lent
+    (λ t w. OnSome lent ((t.pairs ≡ put key w tree.now.pairs) × (t.nodes ≡ tree.now.nodes))) (λ t. t ≡ tree.now)

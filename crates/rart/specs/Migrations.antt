@@ -4,11 +4,11 @@ use Rattle.rart_keys.specs.SortedMap.{keys_of}
 use Rattle.rart.specs.declared.migrate.MigrateError.{MigrateError}
 use Rattle.rart.specs.declared.migrate.MigrateError.TheVariants.{Memory, NotText}
 
--- a key with a zero byte behind it
+-- a key with a zero byte after it
 abbrev pub terminated : List ℕ → List ℕ
 terminated k = k ++ 0 ∷ []
 
--- pairs with a zero byte behind each key
+-- pairs with a zero byte after each key
 abbrev pub with_zeros : {V : Type 0} → List (List ℕ × V) → List (List ℕ × V)
 with_zeros es = map (λ e. (terminated e.0, e.1)) es
 
@@ -22,6 +22,6 @@ pub record IsFirstUnterminated (keys : List (List ℕ)) (place : ℕ) : Type 0 w
   pub no_text : (text : List ℕ) → key ≢ terminated text
 
 -- why keys couldn't lose their closing zeros
-abbrev pub StopsMigration : {V : Type 0} → List (List ℕ × V) → MigrateError → Type 0
-StopsMigration es Memory = es ≢ []
-StopsMigration es (NotText at) = IsFirstUnterminated (keys_of es) at
+abbrev pub FailsMigration : {V : Type 0} → List (List ℕ × V) → MigrateError → Type 0
+FailsMigration es Memory = es ≢ []
+FailsMigration es (NotText at) = IsFirstUnterminated (keys_of es) at

@@ -8,17 +8,20 @@ use Rattle.rart_parts.specs.declared.error.TreeError.TheVariants.{Memory, Full}
 use Rattle.rart.specs.declared.tree.TheConstants.{MAX_PAIRS}
 use Rattle.rart_nodes.specs.declared.refused.NotInserted.{NotInserted}
 use Rattle.rart_nodes.specs.declared.refused.NotInserted.TheVariants as not_inserted
-use Rattle.rart.specs.declared.tree.guarded.TryInsertError.{TryInsertError}
-use Rattle.rart.specs.declared.tree.guarded.TryInsertError.TheVariants as try_insert
+use Rattle.rart.specs.declared.tree.try_insert.TryInsertError.{TryInsertError}
+use Rattle.rart.specs.declared.tree.try_insert.TryInsertError.TheVariants as try_insert
 
--- an insertion at this key may be refused for this reason: the key is new, and the map is as large as a map can be, or its keys say that the insertion asks for memory
-abbrev pub MayRefuse : {V : Type 0} → List (List ℕ × V) → List ℕ → TreeError → Type 0
-MayRefuse map key Full = (lookup key map ≡ None) × (length map ≡ MAX_PAIRS)
-MayRefuse map key Memory = (lookup key map ≡ None) × (length map < MAX_PAIRS) × (insert_asks (keys_of map) key ≡ true)
+-- an insertion at this key may be refused for this reason: the key is new, and the map is as large as a map can be, or
+-- its keys say that the insertion requests memory
+abbrev pub MayRefuseInsert : {V : Type 0} → List (List ℕ × V) → List ℕ → TreeError → Type 0
+MayRefuseInsert map key Full = (lookup key map ≡ None) × (length map ≡ MAX_PAIRS)
+MayRefuseInsert map key Memory = (lookup key map ≡ None) × (length map < MAX_PAIRS)
+    × (insert_asks (keys_of map) key ≡ true)
 
--- the removal of this key may be refused for this reason: the key is stored, and the keys say that its removal asks for memory
-abbrev pub MayKeep : {V : Type 0} → List (List ℕ × V) → List ℕ → TreeError → Type 0
-MayKeep map key error = (error ≡ Memory) × (lookup key map ≢ None) × (remove_asks (keys_of map) key ≡ true)
+-- the removal of this key may be refused for this reason: the key is stored, and the keys say that its removal requests
+-- memory
+abbrev pub MayRefuseRemove : {V : Type 0} → List (List ℕ × V) → List ℕ → TreeError → Type 0
+MayRefuseRemove map key error = (error ≡ Memory) × (lookup key map ≢ None) × (remove_asks (keys_of map) key ≡ true)
 
 -- the statistics of these keys may be refused for this reason: there are at least two keys
 abbrev pub MayLackStatistics : List (List ℕ) → TreeError → Type 0
@@ -27,12 +30,12 @@ MayLackStatistics keys error = (error ≡ Memory) × (2 ≤ length keys)
 -- the value that was offered comes back: the key is stored, or the insertion was refused
 abbrev pub TellsWhy : {V : Type 0} → List (List ℕ × V) → List ℕ → V → NotInserted V → Type 0
 TellsWhy map key value (not_inserted.Stored proposed) = (proposed ≡ value) × (lookup key map ≢ None)
-TellsWhy map key value (not_inserted.Refused refused) = (refused.value ≡ value) × MayRefuse map key refused.error
+TellsWhy map key value (not_inserted.Refused refused) = (refused.value ≡ value) × MayRefuseInsert map key refused.error
 
 -- the same, beside the value that stands at the key
 abbrev pub ShowsWhy : {V : Type 0} → List (List ℕ × V) → List ℕ → V → TryInsertError V → Type 0
 ShowsWhy map key value (try_insert.Occupied proposed present) = (proposed ≡ value) × (lookup key map ≡ Some present.now)
-ShowsWhy map key value (try_insert.Refused refused) = (refused.value ≡ value) × MayRefuse map key refused.error
+ShowsWhy map key value (try_insert.Refused refused) = (refused.value ≡ value) × MayRefuseInsert map key refused.error
 
 -- a key that is said to be stored is
 abbrev pub StandsAt : {V : Type 0} → List (List ℕ × V) → List ℕ → NotInserted V → Type 0
@@ -40,8 +43,10 @@ StandsAt map key (not_inserted.Stored proposed) = lookup key map ≢ None
 StandsAt map key (not_inserted.Refused refused) = Unit {0}
 
 -- the same outcome, with the value that stands at the key where it is stored
-abbrev pub AddsPresent : {V : Type 0} → List (List ℕ × V) → List ℕ → Result Unit (NotInserted V) → Result Unit (TryInsertError V) → Type 0
+abbrev pub AddsPresent : {V : Type 0} → List (List ℕ × V) → List ℕ → Result Unit (NotInserted V)
+    → Result Unit (TryInsertError V) → Type 0
 AddsPresent map key (Ok _) (Ok _) = Unit {0}
-AddsPresent map key (Err (not_inserted.Stored proposed)) (Err (try_insert.Occupied back present)) = (back ≡ proposed) × (lookup key map ≡ Some present.now)
+AddsPresent map key (Err (not_inserted.Stored proposed)) (Err (try_insert.Occupied back present)) = (back ≡ proposed)
+    × (lookup key map ≡ Some present.now)
 AddsPresent map key (Err (not_inserted.Refused refused)) (Err (try_insert.Refused back)) = back ≡ refused
 AddsPresent map key outcome answer = ⊥

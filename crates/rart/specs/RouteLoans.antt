@@ -10,8 +10,11 @@ use Rattle.rart.specs.contracts.routes.RouteTable.{the_row}
 
 -- the type of a route table
 abbrev pub table_row : (K T P : RattleType) → KeyMembers K.Denot → partials.Ghosts P.Denot → RattleType
-table_row K T P k p = the_row K T P (record { MAXIMUM_SIZE = k.MAXIMUM_SIZE; bytes = k.bytes }) (record { eq = k.eq }) (record { cmp = k.cmp }) (record { partial_cmp = k.partial_cmp }) p
+table_row K T P k p = the_row K T P (record { MAXIMUM_SIZE = k.MAXIMUM_SIZE; bytes = k.bytes }) (record { eq = k.eq })
+    (record { cmp = k.cmp }) (record { partial_cmp = k.partial_cmp }) p
 
 -- whatever was borrowed from the table only to be read, it ends as one of which E holds
-abbrev pub table_ends_as : (K T P : RattleType) → KeyMembers K.Denot → partials.Ghosts P.Denot → MutBor (MapAndShape T.Denot) → (MapAndShape T.Denot → Type 0) → Fml
-table_ends_as K T P k p table E = follows_so (table_row K T P k p) (table_row K T P k p) table.ghost_name none (λ _ _. ⊤) E
+abbrev pub table_ends_as : (K T P : RattleType) → KeyMembers K.Denot → partials.Ghosts P.Denot
+    → MutBor (MapAndShape T.Denot) → (MapAndShape T.Denot → Type 0) → Fml
+table_ends_as K T P k p table E = follows_so (table_row K T P k p) (table_row K T P k p) table.ghost_name none
+    (λ _ _. ⊤) E

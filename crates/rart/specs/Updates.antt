@@ -1,5 +1,6 @@
 -- What an update of a tree answers, and what it leaves of the map.
-use Rattle.std.specs.Prelude.{◌≡◌, ◌≢◌, ℕ, Bool, true, false, List, length, Option, Some, None, is_some, Result, Ok, Err}
+use Rattle.std.specs.Prelude.{◌≡◌, ◌≢◌, ℕ, Bool, true, false, List, length, Option, Some, None, is_some, Result, Ok}
+use Rattle.std.specs.Prelude.{Err}
 use Rattle.std.specs.Borrow.{MutBor}
 use Rattle.std.specs.Fn.{Once, FnOnceReturnsAtMut}
 use Rattle.rart_keys.specs.SortedMap.{lookup}
@@ -15,12 +16,13 @@ use Rattle.rart_nodes.specs.updates.Callbacks.{AnswersSo, TellsSo}
 use Rattle.rart_nodes.specs.updates.Slots.{outcome_of, slot_of}
 use Rattle.rart_nodes.specs.updates.Updates.{map_left, map_updated}
 use Rattle.rart_parts.specs.declared.error.TreeError.TheVariants.{Memory}
-use Rattle.rart.specs.Refusals.{MayKeep, MayRefuse}
+use Rattle.rart.specs.Refusals.{MayRefuseRemove, MayRefuseInsert}
 use Rattle.rart.specs.declared.tree.TheConstants.{MAX_PAIRS}
-use Rattle.rart.specs.declared.tree.update.Told.{Told}
-use Rattle.rart.specs.declared.tree.update.Told.TheVariants.{NotCloned, Failed, Answered}
+use Rattle.rart.specs.declared.tree.update.CallbackOutcome.{CallbackOutcome}
+use Rattle.rart.specs.declared.tree.update.CallbackOutcome.TheVariants.{NotCloned, Failed, Answered}
 use Rattle.rart.specs.declared.tree.update.TryUpdateError.{TryUpdateError}
-use Rattle.rart.specs.declared.tree.update.TryUpdateError.TheVariants.{Callback, Insert as Try_not_inserted, Remove as Try_not_removed}
+use Rattle.rart.specs.declared.tree.update.TryUpdateError.TheVariants.{Callback, Insert as Try_not_inserted}
+use Rattle.rart.specs.declared.tree.update.TryUpdateError.TheVariants.{Remove as Try_not_removed}
 
 -- whether a slot was occupied, or is filled
 abbrev pub is_touched : {V : Type 0} → SlotUpdate V → Option V → Bool
@@ -34,60 +36,82 @@ abbrev pub TakesNew : {V : Type 0} → SlotUpdate V → Option V → List (List 
 TakesNew (Insert x) None m = length m ≢ MAX_PAIRS
 TakesNew r w m = Unit {0}
 
--- an update where w was left and r asked for is refused: an insertion of a new key, and the map stays; or a removal, and w stands at the key
-abbrev pub IsRefusal : {V : Type 0} → List ℕ → SlotUpdate V → Option V → List (List ℕ × V) → UpdateError V → List (List ℕ × V) → Type 0
-IsRefusal key r w old (Not_inserted e) new = (r ≡ Insert e.value) × (w ≡ None) × MayRefuse old key e.error × (new ≡ old)
-IsRefusal key r w old Not_removed new = (r ≡ Remove) × (w ≢ None) × MayKeep old key Memory × (new ≡ map_left key w old)
+-- an update where w was left and r asked for is refused: an insertion of a new key, and the map stays; or a removal,
+-- and w stands at the key
+abbrev pub IsRefusal : {V : Type 0} → List ℕ → SlotUpdate V → Option V → List (List ℕ × V) → UpdateError V
+    → List (List ℕ × V) → Type 0
+IsRefusal key r w old (Not_inserted e) new = (r ≡ Insert e.value) × (w ≡ None) × MayRefuseInsert old key e.error
+    × (new ≡ old)
+IsRefusal key r w old Not_removed new = (r ≡ Remove) × (w ≢ None) × MayRefuseRemove old key Memory
+    × (new ≡ map_left key w old)
 
 -- what it comes to, and the map that it leaves
-abbrev pub EndsIn : {V : Type 0} → List ℕ → SlotUpdate V → Option V → List (List ℕ × V) → Result (Outcome V) (UpdateError V) → List (List ℕ × V) → Type 0
+abbrev pub EndsIn : {V : Type 0} → List ℕ → SlotUpdate V → Option V → List (List ℕ × V)
+    → Result (Outcome V) (UpdateError V) → List (List ℕ × V) → Type 0
 EndsIn key r w old (Ok o) new = (o ≡ outcome_of r w) × TakesNew r w old × (new ≡ map_updated key r w old)
 EndsIn key r w old (Err e) new = IsRefusal key r w old e new
 
--- `update`, where the callback left w and asked for r: whether the key was stored, or now is; and the map that it leaves
-abbrev pub IsUpdate : {V : Type 0} → List ℕ → SlotUpdate V → Option V → List (List ℕ × V) → Result Bool (UpdateError V) → List (List ℕ × V) → Type 0
+-- `update`, where the callback left w and asked for r: whether the key was stored, or now is; and the map that it
+-- leaves
+abbrev pub IsUpdate : {V : Type 0} → List ℕ → SlotUpdate V → Option V → List (List ℕ × V) → Result Bool (UpdateError V)
+    → List (List ℕ × V) → Type 0
 IsUpdate key r w old (Ok touched) new = (touched ≡ is_touched r w) × TakesNew r w old × (new ≡ map_updated key r w old)
 IsUpdate key r w old (Err e) new = IsRefusal key r w old e new
 
 -- `try_update`, where the callback left w and answered a: as `update`, but with Err the map stays
-abbrev pub IsTryUpdate : {E V : Type 0} → List ℕ → Result (SlotUpdate V) E → Option V → List (List ℕ × V) → Result Bool (TryUpdateError E V) → List (List ℕ × V) → Type 0
+abbrev pub IsTryUpdate : {E V : Type 0} → List ℕ → Result (SlotUpdate V) E → Option V → List (List ℕ × V)
+    → Result Bool (TryUpdateError E V) → List (List ℕ × V) → Type 0
 IsTryUpdate key (Ok r) w old (Ok touched) new = IsUpdate key r w old (Ok touched) new
 IsTryUpdate key (Ok r) w old (Err (Try_not_inserted e)) new = IsRefusal key r w old (Not_inserted e) new
-IsTryUpdate key (Ok r) w old (Err Try_not_removed) new = (r ≡ Remove) × (w ≢ None) × MayKeep old key Memory × (new ≡ old)
+IsTryUpdate key (Ok r) w old (Err Try_not_removed) new = (r ≡ Remove) × (w ≢ None) × MayRefuseRemove old key Memory
+    × (new ≡ old)
 IsTryUpdate key (Err e) w old (Err (Callback f)) new = (f ≡ e) × (new ≡ old)
 IsTryUpdate key a w old result new = ⊥
 
--- `update` with the callback f, which was shown what stands at the key
-abbrev pub Updates : {F V : Type 0} → Once F (MutBor (Slot V) × Unit {0}) (SlotUpdate V × (MutBor (Slot V) × Unit {0})) → F → List ℕ → List (List ℕ × V) → Result Bool (UpdateError V) → List (List ℕ × V) → Type 0
+-- `update` with the callback f, which was shown what is stored at the key
+abbrev pub Updates : {F V : Type 0} → Once F (MutBor (Slot V) × Unit {0}) (SlotUpdate V × (MutBor (Slot V) × Unit {0}))
+    → F → List ℕ → List (List ℕ × V) → Result Bool (UpdateError V) → List (List ℕ × V) → Type 0
 Updates g f key old result new = AnswersSo g f (lookup key old) (λ r w. IsUpdate key r w old result new)
 
--- the same before it is told whether the key was stored, of a callback that tells something beside
-abbrev pub UpdatesTelling : {F X V : Type 0} → Once F (MutBor (Slot V) × Unit {0}) ((SlotUpdate V × X) × (MutBor (Slot V) × Unit {0})) → F → List ℕ → List (List ℕ × V) → Result (Outcome V) (UpdateError V) × X → List (List ℕ × V) → Type 0
-UpdatesTelling g f key old result new = TellsSo g f (lookup key old) result.1 (λ r w. EndsIn key r w old result.0 new)
+-- the same before it is told whether the key was stored, of a callback that returns something more
+abbrev pub UpdatesReturning : {F X V : Type 0}
+    → Once F (MutBor (Slot V) × Unit {0}) ((SlotUpdate V × X) × (MutBor (Slot V) × Unit {0})) → F → List ℕ
+    → List (List ℕ × V) → Result (Outcome V) (UpdateError V) × X → List (List ℕ × V) → Type 0
+UpdatesReturning g f key old result new = TellsSo g f (lookup key old) result.1 (λ r w. EndsIn key r w old result.0 new)
 
 -- `try_update` with the callback f, where it was called
-abbrev pub TriesUpdate : {F E V : Type 0} → Once F (MutBor (Slot V) × Unit {0}) (Result (SlotUpdate V) E × (MutBor (Slot V) × Unit {0})) → F → List ℕ → List (List ℕ × V) → Result Bool (TryUpdateError E V) → List (List ℕ × V) → Type 0
+abbrev pub TriesUpdate : {F E V : Type 0}
+    → Once F (MutBor (Slot V) × Unit {0}) (Result (SlotUpdate V) E × (MutBor (Slot V) × Unit {0})) → F → List ℕ
+    → List (List ℕ × V) → Result Bool (TryUpdateError E V) → List (List ℕ × V) → Type 0
 TriesUpdate g f key old result new = AnswersSo g f (lookup key old) (λ a w. IsTryUpdate key a w old result new)
 
 -- such a callback, shown o, keeps an occupied slot occupied and a vacant one vacant where it doesn't fail
-abbrev pub StaysIfOk : {F E V : Type 0} → Once F (MutBor (Slot V) × Unit {0}) (Result (SlotUpdate V) E × (MutBor (Slot V) × Unit {0})) → F → Option V → Type 0
-StaysIfOk {F} {E} {V} g f o = (r : SlotUpdate V) (w : Option V) → FnOnceReturnsAtMut g f (slot_of o) (Ok r) (slot_of w) → is_some w ≡ is_some o
+abbrev pub StaysIfOk : {F E V : Type 0} → Once F (MutBor (Slot V) × Unit {0}) (Result (SlotUpdate V) E
+    × (MutBor (Slot V) × Unit {0})) → F → Option V → Type 0
+StaysIfOk {F} {E} {V} g f o = (r : SlotUpdate V) (w : Option V) → FnOnceReturnsAtMut g f (slot_of o) (Ok r) (slot_of w)
+    → is_some w ≡ is_some o
 
 -- what an outcome answers
 abbrev pub touched_in : {V : Type 0} → Outcome V → Bool
 touched_in Absent = false
 touched_in o = true
 
--- f, shown the slot s, was tried: r is asked for, this is told, and s' is left; where f failed or wasn't called the slot is as before.
--- It wasn't called only at a value whose clone may fail
-abbrev pub IsAttempt : {F E V : Type 0} → (V → Type 0) → Once F (MutBor (Slot V) × Unit {0}) (Result (SlotUpdate V) E × (MutBor (Slot V) × Unit {0})) → F → Slot V → SlotUpdate V → Told V E → Slot V → Type 0
+-- f, shown the slot s, was tried: r is asked for, this is told, and s' is left; where f failed or wasn't called the
+-- slot is as before. It wasn't called only at a value whose clone may fail
+abbrev pub IsAttempt : {F E V : Type 0} → (V → Type 0)
+    → Once F (MutBor (Slot V) × Unit {0}) (Result (SlotUpdate V) E × (MutBor (Slot V) × Unit {0})) → F → Slot V
+    → SlotUpdate V → CallbackOutcome V E → Slot V → Type 0
 IsAttempt {F} {E} {V} sure g f s r NotCloned s' = (r ≡ Keep) × (s' ≡ s) × ((v : V) × (s ≡ Occupied v) × (sure v → ⊥))
-IsAttempt {F} {E} {V} sure g f s r (Failed e) s' = (r ≡ Keep) × (s' ≡ s) × ((w : Option V) × FnOnceReturnsAtMut g f s (Err e) (slot_of w))
+IsAttempt {F} {E} {V} sure g f s r (Failed e) s' = (r ≡ Keep) × (s' ≡ s)
+    × ((w : Option V) × FnOnceReturnsAtMut g f s (Err e) (slot_of w))
 IsAttempt {F} {E} {V} sure g f s r (Answered o) s' = FnOnceReturnsAtMut g f s (Ok r) s' × (slot_of o ≡ s)
 
--- an update by such an attempt, of what stands at the key
-abbrev pub Attempts : {F E V : Type 0} → (V → Type 0) → Once F (MutBor (Slot V) × Unit {0}) (Result (SlotUpdate V) E × (MutBor (Slot V) × Unit {0})) → F → List ℕ → List (List ℕ × V) → Told V E → Result (Outcome V) (UpdateError V) → List (List ℕ × V) → Type 0
-Attempts {F} {E} {V} sure g f key old told result new = (r : SlotUpdate V) × (w : Option V) × IsAttempt sure g f (slot_of (lookup key old)) r told (slot_of w) × EndsIn key r w old result new
+-- an update by such an attempt, of what is stored at the key
+abbrev pub Attempts : {F E V : Type 0} → (V → Type 0)
+    → Once F (MutBor (Slot V) × Unit {0}) (Result (SlotUpdate V) E × (MutBor (Slot V) × Unit {0})) → F → List ℕ
+    → List (List ℕ × V) → CallbackOutcome V E → Result (Outcome V) (UpdateError V) → List (List ℕ × V) → Type 0
+Attempts {F} {E} {V} sure g f key old told result new = (r : SlotUpdate V) × (w : Option V)
+    × IsAttempt sure g f (slot_of (lookup key old)) r told (slot_of w) × EndsIn key r w old result new
 
 -- what a callback leaves that writes this value where the slot is occupied
 abbrev pub written_slot : {V : Type 0} → Option V → Slot V → Slot V
@@ -95,7 +119,7 @@ written_slot w Vacant = Vacant
 written_slot None (Occupied v) = Occupied v
 written_slot (Some w) (Occupied v) = Occupied w
 
--- the same, of what stands at the key
+-- the same, of what is stored at the key
 abbrev pub left_by : {V : Type 0} → Option V → Option V → Option V
 left_by w None = None
 left_by None (Some v) = Some v

@@ -1,14 +1,14 @@
-//! Why a bulk load is refused.
+//! The error of a bulk load.
 
 use thiserror::Error;
 
-/// Why a bulk load gave no tree. What was read or taken until then is dropped.
+/// Why a bulk load built no tree. What was read or taken until then is dropped.
 #[derive(Clone, Copy, PartialEq, Eq, Debug, Error)]
 pub enum BulkError {
-    /// The allocator had no memory for a growth.
+    /// An allocation failed.
     #[error("out of memory")]
     Memory,
-    /// There are more keys than a tree can count.
+    /// There are more keys than a tree holds.
     #[error("tree is full")]
     Full,
     /// An item's key is below the key of the item before it.

@@ -1,9 +1,9 @@
-//! Walks that call a callback: with the keys that begin a probe, and with the values below a prefix.
+//! Walks that call a callback: with the keys that begin a probe, and with the values of the keys with a prefix.
 //!
-//! Each call asks that its callback can be called with each item in turn, as the calls before leave it. A callback
-//! without a condition always can; of one with a condition the caller proves it. The caller of a `_by_ref` form keeps
-//! its callback, in the state that the last call left; but of what a closure borrows a proof knows nothing. To count
-//! or to collect take the fold, which returns its state.
+//! Each call requires that its callback is callable with each item in turn, as the earlier calls leave it. A callback
+//! without a condition always is; the caller proves a condition. The caller of a `_by_ref` form keeps its callback, in
+//! the state that the last call left, but a proof knows nothing of what a closure borrows. To count or to collect use
+//! the fold, which returns its state.
 ghost use Rattle.std.specs.Prelude.{◌≡◌, IfErr, IfOk, OnErr, OnOk};
 ghost use Rattle.rart_keys.specs.Filters.{matches};
 ghost use Rattle.rart_nodes.specs.walks.BelowPrefix.{values_below};
@@ -18,8 +18,8 @@ use rart_nodes::{VisitControl, VisitError, Visits};
 use rart_parts::TreeError;
 
 impl<K: KeyTrait, V> AdaptiveRadixTree<K, V> {
-    /// Calls `f` with each pair whose key begins `probe`, the shortest first. The key is lent from the probe: its
-    /// first bytes, nothing is copied. Takes no memory.
+    /// Calls `f` with each pair whose key begins `probe`, the shortest first. The key is borrowed from the probe: its
+    /// first bytes, nothing is copied. Allocates nothing.
     pub fn prefix_match_for_each_by_ref_k<F: FnMut(&[u8], &V)>(&self, probe: &K, f: &mut F)
         requires callable { CanMatch F.FnMut f.old (matches (K.bytes probe.now) self.now.pairs) }
         ensures callable { F.IsAlwaysCallable f.old → F.IsAlwaysCallable f.new }
@@ -80,6 +80,10 @@ impl<K: KeyTrait, V> AdaptiveRadixTree<K, V> {
     }
 
     /// Calls `f` as `prefix_values_for_each_by_ref_k` does.
+    ///
+    /// # Errors
+    ///
+    /// [`TreeError::Memory`] as there.
     pub fn prefix_values_for_each_by_ref<F: FnMut(&V)>(
         &self,
         prefix: K,
@@ -98,6 +102,10 @@ impl<K: KeyTrait, V> AdaptiveRadixTree<K, V> {
     }
 
     /// Calls `f` as `prefix_values_for_each_by_ref_k` does, and drops it.
+    ///
+    /// # Errors
+    ///
+    /// [`TreeError::Memory`] as there.
     pub fn prefix_values_for_each_k<F: FnMut(&V) + Drop>(
         &self,
         prefix: &K,
@@ -112,6 +120,10 @@ impl<K: KeyTrait, V> AdaptiveRadixTree<K, V> {
     }
 
     /// Calls `f` as `prefix_values_for_each_by_ref_k` does, and drops it.
+    ///
+    /// # Errors
+    ///
+    /// [`TreeError::Memory`] as there.
     pub fn prefix_values_for_each<F: FnMut(&V) + Drop>(
         &self,
         prefix: K,
@@ -127,9 +139,8 @@ impl<K: KeyTrait, V> AdaptiveRadixTree<K, V> {
         self.prefix_values_for_each_k(&prefix, f)
     }
 
-    /// Calls `f` with the value of each pair whose key begins with `prefix`, in order. The first call gets `init`,
-    /// each later one the answer of the call before it; returns the last answer. `f` must be callable so. The caller
-    /// keeps `f`.
+    /// Folds the values of the pairs whose key begins with `prefix`, in order. The first call of `f` gets `init`,
+    /// each later one the result of the call before it; returns the last result. The caller keeps `f`.
     ///
     /// # Errors
     ///
@@ -214,11 +225,12 @@ impl<K: KeyTrait, V> AdaptiveRadixTree<K, V> {
     }
 
     /// Calls `f` with the value of each pair whose key begins with `prefix`, in order. `Stop` ends the walk with
-    /// `Ok(())`; an `Err(e)` of the callback ends it with [`VisitError::Callback`]. The caller keeps `f`.
+    /// `Ok(())`. The caller keeps `f`.
     ///
     /// # Errors
     ///
-    /// [`VisitError::Memory`] if the tree isn't empty and the allocation for the walk fails. `f` is then not called.
+    /// [`VisitError::Callback`] with the error that `f` returned, which ends the walk. [`VisitError::Memory`] if the
+    /// tree isn't empty and the allocation for the walk fails; `f` is then not called.
     pub fn try_prefix_values_for_each_by_ref_k<E, F: FnMut(&V) -> Result<VisitControl, E>>(
         &self,
         prefix: &K,
@@ -234,6 +246,10 @@ impl<K: KeyTrait, V> AdaptiveRadixTree<K, V> {
     }
 
     /// Calls `f` as `try_prefix_values_for_each_by_ref_k` does.
+    ///
+    /// # Errors
+    ///
+    /// Those of `try_prefix_values_for_each_by_ref_k`.
     pub fn try_prefix_values_for_each_by_ref<E, F: FnMut(&V) -> Result<VisitControl, E>>(
         &self,
         prefix: K,
@@ -251,6 +267,10 @@ impl<K: KeyTrait, V> AdaptiveRadixTree<K, V> {
     }
 
     /// Calls `f` as `try_prefix_values_for_each_by_ref_k` does, and drops it.
+    ///
+    /// # Errors
+    ///
+    /// Those of `try_prefix_values_for_each_by_ref_k`.
     pub fn try_prefix_values_for_each_k<E, F: FnMut(&V) -> Result<VisitControl, E> + Drop>(
         &self,
         prefix: &K,
@@ -265,6 +285,10 @@ impl<K: KeyTrait, V> AdaptiveRadixTree<K, V> {
     }
 
     /// Calls `f` as `try_prefix_values_for_each_by_ref_k` does, and drops it.
+    ///
+    /// # Errors
+    ///
+    /// Those of `try_prefix_values_for_each_by_ref_k`.
     pub fn try_prefix_values_for_each<E, F: FnMut(&V) -> Result<VisitControl, E> + Drop>(
         &self,
         prefix: K,

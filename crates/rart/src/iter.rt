@@ -11,8 +11,21 @@ pub use rart_nodes::iter::{
 use rart_parts::TreeError;
 
 impl<K: KeyTrait, V> AdaptiveRadixTree<K, V> {
-    /// The pairs, ascending by key. All room is taken here, after the length of the longest key ever
-    /// stored, and none for an empty tree; the iterator itself takes none. Refused with `Memory` alone.
+    /// Returns an iterator over the pairs, ascending by key.
+    ///
+    /// Allocates here, and nothing for an empty tree; the iterator itself allocates nothing.
+    ///
+    /// # Errors
+    ///
+    /// [`TreeError::Memory`] if the tree isn't empty and the allocation fails.
+    ///
+    /// # Examples
+    ///
+    /// ```ignore
+    /// let Ok(mut pairs) = tree.iter() else {
+    ///     return false;
+    /// };
+    /// ```
     pub fn iter(&self) -> Result<Iter<'_, K, K::PartialType, V>, TreeError>
         ensures pairs { IfOk result (λ it. it ≡ self.now.pairs) }
         ensures memory { IfErr result (MayLackRoom self.now.pairs) }
@@ -20,7 +33,11 @@ impl<K: KeyTrait, V> AdaptiveRadixTree<K, V> {
         self.seen().iter()
     }
 
-    /// The values, ascending by their keys. It takes its room as `iter` does, and makes no keys.
+    /// Returns an iterator over the values, ascending by their keys. Makes no keys.
+    ///
+    /// # Errors
+    ///
+    /// [`TreeError::Memory`] if the tree isn't empty and the allocation fails.
     pub fn values_iter(&self) -> Result<ValuesIter<'_, K, V>, TreeError>
         ensures values { IfOk result (λ it. it ≡ values_of self.now.pairs) }
         ensures memory { IfErr result (MayLackRoom self.now.pairs) }

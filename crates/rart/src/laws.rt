@@ -3,12 +3,12 @@ ghost use Rattle.std.specs.Prelude.{◌≡◌, ◌≢◌, ◌≤◌, length, IfE
 ghost use Rattle.std.specs.Borrow.{sem};
 ghost use Rattle.std.specs.Option.{option_copied};
 ghost use Rattle.rart_keys.specs.SortedMap.{IsAscending, keys_of, lookup, put, values_of, without};
-ghost use Rattle.rart_nodes.specs.statistics.Statistics.{statistics_in, statistics_of};
+ghost use Rattle.rart_nodes.specs.statistics.Statistics.{stats_in, stats_of};
 ghost use Rattle.rart_nodes.specs.walks.Calls.{MayLackRoom};
 ghost use Rattle.rart.specs.Edits.{PutOrSame};
 ghost use Rattle.rart.specs.LawAnswers.{IsCounted, RefusesCall};
 ghost use Rattle.rart.specs.Loans.{ends_as};
-ghost use Rattle.rart.specs.Refusals.{MayKeep, MayRefuse};
+ghost use Rattle.rart.specs.Refusals.{MayRefuseRemove, MayRefuseInsert};
 
 pub mod intersections;
 
@@ -24,8 +24,7 @@ pub mod counts;
 pub mod probes;
 pub mod routes;
 
-/// Trees with equal keys have equal nodes, whatever their key types, their values and the calls that
-/// made them.
+/// Shows that trees with equal keys have equal nodes, whatever their key types, values and history.
 pub fn equal_keys_equal_nodes<K: KeyTrait, V, L: KeyTrait, W>(
     one: &AdaptiveRadixTree<K, V>,
     other: &AdaptiveRadixTree<L, W>,
@@ -38,8 +37,7 @@ pub fn equal_keys_equal_nodes<K: KeyTrait, V, L: KeyTrait, W>(
     rart_nodes::laws::one_shape();
 }
 
-/// Trees with equal keys have equal statistics, whatever the calls that made them. Returns those of both, each
-/// of its own tree's keys and nodes.
+/// Returns the statistics of two trees with equal keys, and shows that they are equal.
 ///
 /// # Errors
 ///
@@ -49,9 +47,9 @@ pub fn equal_keys_equal_statistics<K: KeyTrait, V, L: KeyTrait, W>(
     other: &AdaptiveRadixTree<L, W>,
 ) -> Result<(TreeStats, TreeStats), TreeError>
     requires { keys_of one.now.pairs ≡ keys_of other.now.pairs }
-    ensures statistics { IfOk result (λ r. statistics_in r.0 ≡ statistics_of (keys_of one.now.pairs) one.now.nodes) }
-    ensures of_other { IfOk result (λ r. statistics_in r.1 ≡ statistics_of (keys_of other.now.pairs) other.now.nodes) }
-    ensures equal { IfOk result (λ r. statistics_in r.1 ≡ statistics_in r.0) }
+    ensures statistics { IfOk result (λ r. stats_in r.0 ≡ stats_of (keys_of one.now.pairs) one.now.nodes) }
+    ensures of_other { IfOk result (λ r. stats_in r.1 ≡ stats_of (keys_of other.now.pairs) other.now.nodes) }
+    ensures equal { IfOk result (λ r. stats_in r.1 ≡ stats_in r.0) }
     ensures error { IfErr result (λ e. e ≡ TreeError.Memory) }
     ensures asks { OnErr result (2 ≤ length (keys_of one.now.pairs)) }
 {
@@ -59,12 +57,13 @@ pub fn equal_keys_equal_statistics<K: KeyTrait, V, L: KeyTrait, W>(
     Ok((one.get_tree_stats()?, other.get_tree_stats()?))
 }
 
-/// Inserts `value` at `key`, and returns the values at `key` and at `other` after the insertion. The first is
-/// `value`. So is the second where both keys have the same bytes; else it is what `other` had before.
+/// Inserts `value` at `key`, and returns the values at `key` and at `other` after the insertion.
+///
+/// The first is `value`. The second is `value` if both keys have the same bytes, and the old value of `other` if not.
 ///
 /// # Errors
 ///
-/// The insertion's error. Pairs and nodes are then unchanged.
+/// Those of [`AdaptiveRadixTree::insert_k`], without `value`. Pairs and nodes are then unchanged.
 pub fn insert_then_get<'a, K: KeyTrait, V>(
     tree: &'a mut AdaptiveRadixTree<K, V>,
     key: &K,
@@ -73,25 +72,27 @@ pub fn insert_then_get<'a, K: KeyTrait, V>(
 ) -> Result<(Option<&'a V>, Option<&'a V>), TreeError>
 where
     V: Drop,
-    ensures* after { sem 𝓛 (ends_as K.row V.row K.PartialType.row K.KeyTrait K.PartialType.Partial tree.entry (PutOrSame (K.bytes key.now) value result tree.old)) }
+    ensures* after { sem 𝓛 (ends_as K.row V.row K.PartialType.row K.KeyTrait K.PartialType.Partial tree.entry
+        (PutOrSame (K.bytes key.now) value result tree.old)) }
     ensures found { IfOk result (λ r. option_copied r.0 ≡ Some value) }
     ensures same_bytes { K.bytes other.now ≡ K.bytes key.now → IfOk result (λ r. option_copied r.1 ≡ Some value) }
-    ensures kept { K.bytes other.now ≢ K.bytes key.now → IfOk result (λ r. option_copied r.1 ≡ lookup (K.bytes other.now) tree.old.pairs) }
-    ensures refused { IfErr result (MayRefuse tree.old.pairs (K.bytes key.now)) }
+    ensures kept { K.bytes other.now ≢ K.bytes key.now
+        → IfOk result (λ r. option_copied r.1 ≡ lookup (K.bytes other.now) tree.old.pairs) }
+    ensures refused { IfErr result (MayRefuseInsert tree.old.pairs (K.bytes key.now)) }
 {
     rart_keys::laws::sorted_map::<V>();
     let inserted = put_in(tree, key, value);
     both_answers(tree, key, other, inserted)
 }
 
-// Puts in a pair, and drops the value that comes back.
+// Inserts a pair, and drops the old value.
 fn put_in<K: KeyTrait, V: Drop>(
     tree: &mut AdaptiveRadixTree<K, V>,
     key: &K,
     value: V,
 ) -> Result<(), TreeError>
     ensures pairs { OnOk result (tree.new.pairs ≡ put (K.bytes key.now) value tree.old.pairs) }
-    ensures refused { IfErr result (MayRefuse tree.old.pairs (K.bytes key.now)) }
+    ensures refused { IfErr result (MayRefuseInsert tree.old.pairs (K.bytes key.now)) }
     ensures unchanged { OnErr result (tree.new ≡ tree.old) }
 {
     match tree.insert_k(key, value) {
@@ -100,22 +101,26 @@ fn put_in<K: KeyTrait, V: Drop>(
     }
 }
 
-// The values at two keys, where there was no error before.
+// Returns the values at two keys, unless there was an error before.
 fn both_answers<'a, K: KeyTrait, V>(
     tree: &'a AdaptiveRadixTree<K, V>,
     key: &K,
     other: &K,
     before: Result<(), TreeError>,
 ) -> Result<(Option<&'a V>, Option<&'a V>), TreeError>
-    ensures answers { OnOk before (IfOk result (λ r. (option_copied r.0 ≡ lookup (K.bytes key.now) tree.now.pairs) × (option_copied r.1 ≡ lookup (K.bytes other.now) tree.now.pairs))) }
+    ensures answers { OnOk before (IfOk result (λ r. (option_copied r.0 ≡ lookup (K.bytes key.now) tree.now.pairs)
+        × (option_copied r.1 ≡ lookup (K.bytes other.now) tree.now.pairs))) }
     ensures error { MatchResult before (λ _. IsOk result) (λ e. result ≡ Err e) }
 {
     before?;
     Ok((tree.get_k(key), tree.get_k(other)))
 }
 
-/// The pairs and the values of a tree, each from its start: the pairs are the tree's, ascend strictly by key
-/// and are as many as the tree counts, and the values are theirs, in the same order.
+/// Returns iterators over the pairs and over the values of a tree, which ascend strictly by key.
+///
+/// # Errors
+///
+/// [`TreeError::Memory`] if the tree isn't empty and an allocation fails.
 pub fn pairs_and_values<'a, K: KeyTrait, V>(
     tree: &'a AdaptiveRadixTree<K, V>,
 ) -> Result<(Iter<'a, K, K::PartialType, V>, ValuesIter<'a, K, V>), TreeError>
@@ -129,8 +134,11 @@ pub fn pairs_and_values<'a, K: KeyTrait, V>(
     Ok((tree.iter()?, tree.values_iter()?))
 }
 
-/// A key that is removed leaves pairs and nodes as they are in a tree that never had it. Gives the
-/// value that stood there; where the removal is refused, all is as before.
+/// Removes `key` and returns its value. Pairs and nodes are then those of a tree that has the other pairs.
+///
+/// # Errors
+///
+/// Those of [`AdaptiveRadixTree::remove_k`]. The tree is then unchanged.
 pub fn removal_restores<K: KeyTrait, V, L: KeyTrait>(
     tree: &mut AdaptiveRadixTree<K, V>,
     key: &K,
@@ -140,7 +148,8 @@ pub fn removal_restores<K: KeyTrait, V, L: KeyTrait>(
     ensures removed { IfOk result (λ was. was ≡ lookup (K.bytes key.now) tree.old.pairs) }
     ensures pairs { OnOk result (tree.new.pairs ≡ without_it.now.pairs) }
     ensures nodes { OnOk result (tree.new.nodes ≡ without_it.now.nodes) }
-    ensures refused { IfErr result (λ error. MayKeep tree.old.pairs (K.bytes key.now) error × (tree.new ≡ tree.old)) }
+    ensures refused { IfErr result (λ error. MayRefuseRemove tree.old.pairs (K.bytes key.now) error
+        × (tree.new ≡ tree.old)) }
 {
     let removed = tree.remove_k(key);
     tree.canonical();
@@ -149,33 +158,38 @@ pub fn removal_restores<K: KeyTrait, V, L: KeyTrait>(
     removed
 }
 
-/// The call of `insert_then_remove` that was refused, and why.
+/// The call of `insert_then_remove` that failed, and why.
 #[derive(Drop)]
 pub enum RefusedCall<V> {
-    /// The statistics before the insertion. All is as before.
+    /// The statistics before the insertion. The tree is unchanged.
     StatisticsBefore(TreeError),
-    /// The insertion, with the value that it offered. All is as before.
+    /// The insertion, with the value that it offered. The tree is unchanged.
     Insertion(Refused<V>),
-    /// The statistics in between. The pair is there.
+    /// The statistics between both edits. The pair is stored.
     StatisticsBetween(TreeError),
-    /// The removal. The pair is there.
+    /// The removal. The pair is stored.
     Removal(TreeError),
-    /// The statistics after the removal. All is as before.
+    /// The statistics after the removal. Pairs and nodes are unchanged.
     StatisticsAfter(TreeError),
 }
 
-/// A new key that is put in and removed right after leaves pairs, nodes and statistics as they were.
-/// Gives the statistics before, in between, and after; those in between are of the keys with the new
-/// one. Refused where one of the five calls was, and tells which.
+/// Inserts a new key and removes it, which leaves pairs, nodes and statistics unchanged.
+///
+/// Returns the statistics before, between and after both edits; those between are of the keys with the new one.
+///
+/// # Errors
+///
+/// The first of the five calls that fails, as [`RefusedCall`] says; its variants say what is then stored.
 pub fn insert_then_remove<K: KeyTrait, V: Drop>(
     tree: &mut AdaptiveRadixTree<K, V>,
     key: &K,
     value: V,
 ) -> Result<(TreeStats, TreeStats, TreeStats), RefusedCall<V>>
     requires new_key { lookup (K.bytes key.now) tree.old.pairs ≡ None }
-    ensures before { IfOk result (λ r. statistics_in r.0 ≡ statistics_of (keys_of tree.old.pairs) tree.old.nodes) }
-    ensures between { IfOk result (λ r. IsCounted (keys_of (put (K.bytes key.now) value tree.old.pairs)) (statistics_in r.1)) }
-    ensures after { IfOk result (λ r. statistics_in r.2 ≡ statistics_in r.0) }
+    ensures before { IfOk result (λ r. stats_in r.0 ≡ stats_of (keys_of tree.old.pairs) tree.old.nodes) }
+    ensures between { IfOk result (λ r. IsCounted (keys_of (put (K.bytes key.now) value tree.old.pairs))
+        (stats_in r.1)) }
+    ensures after { IfOk result (λ r. stats_in r.2 ≡ stats_in r.0) }
     ensures pairs { OnOk result (tree.new.pairs ≡ tree.old.pairs) }
     ensures nodes { OnOk result (tree.new.nodes ≡ tree.old.nodes) }
     ensures refused { IfErr result (RefusesCall (K.bytes key.now) value tree.old tree.new) }

@@ -3,12 +3,13 @@
 //! Contracts see a tree as its sorted pairs and the records of its nodes. After any list of calls the nodes are
 //! exactly the branch points of the keys, each of the kind that its child count fixes, and every answer is that of
 //! the sorted list of pairs. A call of the map that fails changes neither, with one exception: if the removal that
-//! the callback of `update*` asks for fails, the value that the callback wrote stays. A law that makes several calls
-//! says what stands if one of them fails.
+//! the callback of `update*` requested fails, the value that the callback wrote stays. A law that makes several calls
+//! says which state remains if one of them fails.
 #![tactic(auto)]
 
 mod bulk;
 mod callbacks;
+mod error;
 pub mod iter;
 pub mod laws;
 mod migrate;
@@ -21,13 +22,14 @@ pub mod tree;
 mod views;
 
 pub use crate::bulk::BulkError;
+pub use crate::error::Error;
 pub use crate::iter::{Iter, PrefixMatchIter, SeenIter, ValuesIter};
 pub use crate::migrate::MigrateError;
 pub use crate::range::{Range, SeenRange};
 pub use crate::routes::RouteTable;
 pub use crate::stats::{NodeStats, TreeStats, TreeStatsTrait};
 pub use crate::tree::AdaptiveRadixTree;
-pub use crate::tree::guarded::TryInsertError;
+pub use crate::tree::try_insert::TryInsertError;
 pub use crate::tree::update::TryUpdateError;
 pub use rart_keys::{ArrPartial, ArrayKey, KeyTrait, Partial, keys, partials};
 pub use rart_nodes::node::{VisitControl, VisitError};

@@ -1,11 +1,11 @@
-//! Why a tree of text keys can't be brought over.
+//! The error of a migration of text keys.
 
 use thiserror::Error;
 
-/// Why no tree was made of one whose keys were to lose their closing zeros. The old tree is as before.
+/// Why a migration built no tree. The old tree is unchanged.
 #[derive(Clone, Copy, PartialEq, Eq, Debug, Error)]
 pub enum MigrateError {
-    /// The allocator had no memory for a growth.
+    /// An allocation failed.
     #[error("out of memory")]
     Memory,
     /// A key doesn't end in a zero byte.

@@ -1,4 +1,4 @@
-//! Answers about a probe, the keys that begin it, which take no memory; and walks below a prefix, the keys that it begins.
+//! Look-ups and walks of the keys that begin a probe, which allocate nothing, and of the keys that begin with a prefix.
 ghost use Rattle.std.specs.Prelude.{◌≡◌, option_map, IfErr, IfOk};
 ghost use Rattle.std.specs.Option.{option_copied};
 ghost use Rattle.rart_keys.specs.Filters.{below, longest_match, longest_value, matches};
@@ -11,7 +11,7 @@ use rart_nodes::iter::{Iter, PrefixMatchIter};
 use rart_parts::TreeError;
 
 impl<K: KeyTrait, V> AdaptiveRadixTree<K, V> {
-    /// The pair whose key is the longest that begins `probe`.
+    /// Returns the pair whose key is the longest that begins `probe`.
     pub fn longest_prefix_match_k(&self, probe: &K) -> Option<(K, &V)>
         ensures { option_map (λ p. (K.bytes p.0, p.1.now)) result ≡ longest_match (K.bytes probe.now) self.now.pairs }
     {
@@ -19,7 +19,7 @@ impl<K: KeyTrait, V> AdaptiveRadixTree<K, V> {
             .longest_prefix_match_k_counted(probe, &mut Visits::new())
     }
 
-    /// The pair whose key is the longest that begins `probe`.
+    /// Returns the pair whose key is the longest that begins `probe`.
     pub fn longest_prefix_match(&self, probe: K) -> Option<(K, &V)>
     where
         K: Drop,
@@ -28,7 +28,7 @@ impl<K: KeyTrait, V> AdaptiveRadixTree<K, V> {
         self.longest_prefix_match_k(&probe)
     }
 
-    /// The value at the longest key that begins `probe`.
+    /// Returns a reference to the value at the longest key that begins `probe`.
     pub fn longest_prefix_value_k(&self, probe: &K) -> Option<&V>
         ensures { option_copied result ≡ longest_value (K.bytes probe.now) self.now.pairs }
     {
@@ -36,7 +36,7 @@ impl<K: KeyTrait, V> AdaptiveRadixTree<K, V> {
             .longest_prefix_value_k_counted(probe, &mut Visits::new())
     }
 
-    /// The value at the longest key that begins `probe`.
+    /// Returns a reference to the value at the longest key that begins `probe`.
     pub fn longest_prefix_value(&self, probe: K) -> Option<&V>
     where
         K: Drop,
@@ -45,7 +45,16 @@ impl<K: KeyTrait, V> AdaptiveRadixTree<K, V> {
         self.longest_prefix_value_k(&probe)
     }
 
-    /// The value at the longest key that begins the bytes `probe`, which may be longer than any key.
+    /// Returns a reference to the value at the longest key that begins the bytes `probe`, which may be longer than
+    /// any key.
+    ///
+    /// # Examples
+    ///
+    /// ```ignore
+    /// if let Some(number) = words.longest_prefix_value_bytes(b"catalogue") {
+    ///     println!(rt; "catalogue: word {number}")?;
+    /// }
+    /// ```
     pub fn longest_prefix_value_bytes(&self, probe: &[u8]) -> Option<&V>
         ensures { option_copied result ≡ longest_value probe.now self.now.pairs }
     {
@@ -53,14 +62,15 @@ impl<K: KeyTrait, V> AdaptiveRadixTree<K, V> {
             .longest_prefix_value_bytes_counted(probe, &mut Visits::new())
     }
 
-    /// The pairs whose key begins `probe`, the shortest first; each `next` goes on down.
+    /// Returns an iterator over the pairs whose key begins `probe`, the shortest first; each `next` descends further.
     pub fn prefix_match_iter_k(&self, probe: &K) -> PrefixMatchIter<'_, K, K::PartialType, V>
         ensures { result ≡ matches (K.bytes probe.now) self.now.pairs }
     {
         self.seen().prefix_match_iter_k(probe)
     }
 
-    /// The pairs whose key begins `probe`, as `prefix_match_iter_k` gives them.
+    /// Returns an iterator over the pairs whose key begins `probe`, as
+    /// [`prefix_match_iter_k`](Self::prefix_match_iter_k).
     pub fn prefix_match_iter(&self, probe: K) -> PrefixMatchIter<'_, K, K::PartialType, V>
     where
         K: Drop,
@@ -69,7 +79,17 @@ impl<K: KeyTrait, V> AdaptiveRadixTree<K, V> {
         self.prefix_match_iter_k(&probe)
     }
 
-    /// The pairs whose key begins with `prefix`, ascending. It takes its room as `iter` does.
+    /// Returns an iterator over the pairs whose key begins with `prefix`, ascending.
+    ///
+    /// # Errors
+    ///
+    /// [`TreeError::Memory`] if the tree isn't empty and the allocation fails.
+    ///
+    /// # Examples
+    ///
+    /// ```ignore
+    /// words.prefix_iter_k(&ArrayKey::<32>::new_from_slice(typed))
+    /// ```
     pub fn prefix_iter_k(&self, prefix: &K) -> Result<Iter<'_, K, K::PartialType, V>, TreeError>
         ensures pairs { IfOk result (λ it. it ≡ below (K.bytes prefix.now) self.now.pairs) }
         ensures memory { IfErr result (MayLackRoom self.now.pairs) }
@@ -77,7 +97,11 @@ impl<K: KeyTrait, V> AdaptiveRadixTree<K, V> {
         self.seen().prefix_iter_k(prefix)
     }
 
-    /// The pairs whose key begins with `prefix`, as `prefix_iter_k` gives them.
+    /// Returns an iterator over the pairs whose key begins with `prefix`, as [`prefix_iter_k`](Self::prefix_iter_k).
+    ///
+    /// # Errors
+    ///
+    /// Those of [`prefix_iter_k`](Self::prefix_iter_k).
     pub fn prefix_iter(&self, prefix: K) -> Result<Iter<'_, K, K::PartialType, V>, TreeError>
     where
         K: Drop,

@@ -10,10 +10,23 @@ use rart_parts::TreeError;
 use std::ops::Bound;
 
 impl<K: KeyTrait + Drop, V> AdaptiveRadixTree<K, V> {
-    /// The pairs within two bounds, ascending by key; none where the end comes before the start. It goes straight to the start,
-    /// and takes its room as `iter` does.
+    /// Returns an iterator over the pairs within two bounds, ascending by key; over none if the end is below the start.
+    ///
+    /// # Errors
+    ///
+    /// [`TreeError::Memory`] if the tree isn't empty and the allocation fails.
+    ///
+    /// # Examples
+    ///
+    /// ```ignore
+    /// readings.range(
+    ///     Bound::Included(ArrayKey::<8>::from_u64(start)),
+    ///     Bound::Excluded(ArrayKey::<8>::from_u64(end)),
+    /// )
+    /// ```
     pub fn range(&self, start: Bound<K>, end: Bound<K>) -> Result<Range<'_, K, V>, TreeError>
-        ensures pairs { IfOk result (λ r. up_to r.0 r.1 ≡ between (bound_in K.bytes start) (bound_in K.bytes end) self.now.pairs) }
+        ensures pairs { IfOk result (λ r. up_to r.0 r.1
+            ≡ between (bound_in K.bytes start) (bound_in K.bytes end) self.now.pairs) }
         ensures memory { IfErr result (MayLackRoom self.now.pairs) }
     {
         self.seen().range(start, end)

@@ -1,14 +1,15 @@
-//! A route table: a map that is asked for the longest stored prefix of a probe.
+//! A route table: a map that is looked up by the longest stored prefix of a probe.
 //!
-//! Contracts see a table as they see a tree, its pairs of prefix and target ascending by prefix, and the records of its nodes.
-//! It stands on the public contracts of the tree alone.
-ghost use Rattle.std.specs.Prelude.{◌≡◌, ◌*◌, ◌-◌, ◌≤◌, ◌↔◌, [], length, option_map, IfErr, IsTrue, OnErr};
+//! Contracts see a table as they see a tree: its pairs of prefix and target, ascending by prefix, and the records of
+//! its nodes. It uses the public contracts of the tree alone.
+ghost use Rattle.std.specs.Prelude.{◌≡◌, ◌*◌, ◌-◌, ◌≤◌, ◌↔◌, [], length, option_map, IfErr, IfOk, IsTrue, OnErr};
 ghost use Rattle.std.specs.Borrow.{sem};
 ghost use Rattle.std.specs.Option.{option_copied};
 ghost use Rattle.rart_keys.specs.Filters.{longest_match, longest_value};
-ghost use Rattle.rart_keys.specs.SortedMap.{IsAscending, keys_of};
+ghost use Rattle.rart_keys.specs.SortedMap.{IsAscending, keys_of, lookup};
 ghost use Rattle.rart_nodes.specs.shapes.Shape.{HasShape};
 ghost use Rattle.rart_nodes.specs.tries.Tree.{tree_nodes, tree_pairs};
+ghost use Rattle.rart_nodes.specs.walks.Calls.{MayLackRoom};
 ghost use Rattle.rart.specs.Edits.{Inserts, InsertsNew, PutOrSame, Removes, TriesInsert};
 ghost use Rattle.rart.specs.Refusals.{AddsPresent, StandsAt};
 ghost use Rattle.rart.specs.RouteLoans.{table_ends_as};
@@ -16,9 +17,11 @@ ghost use Rattle.rart.specs.declared.tree.TheConstants.{MAX_PAIRS};
 
 mod walks;
 
+use crate::stats::{TreeStats, TreeStatsTrait};
 use crate::tree::AdaptiveRadixTree;
-use crate::tree::guarded::TryInsertError;
+use crate::tree::try_insert::TryInsertError;
 use rart_keys::KeyTrait;
+use rart_nodes::iter::Iter;
 use rart_nodes::{NotInserted, Refused, Seen};
 use rart_parts::TreeError;
 use std::alloc::Global;
@@ -39,7 +42,7 @@ impl<K: KeyTrait, T> Model for RouteTable<K, T> {
 }
 
 impl<K: KeyTrait, T> RouteTable<K, T> {
-    /// An empty table, which asks `alloc` for all memory later on. Takes none.
+    /// Creates an empty table, which requests all later memory from `alloc`. Allocates nothing.
     pub fn new(alloc: Global) -> Self
         ensures pairs { result.pairs ≡ [] }
         ensures nodes { result.nodes ≡ [] }
@@ -49,7 +52,7 @@ impl<K: KeyTrait, T> RouteTable<K, T> {
         }
     }
 
-    /// How many routes there are.
+    /// Returns the number of routes.
     pub fn len(&self) -> usize
         ensures value { result ≡ length self.now.pairs }
         ensures most { result ≤ MAX_PAIRS }
@@ -57,15 +60,17 @@ impl<K: KeyTrait, T> RouteTable<K, T> {
         self.routes.len()
     }
 
-    /// Whether there is no route.
+    /// Returns whether there is no route.
     pub fn is_empty(&self) -> bool
         ensures { IsTrue result ↔ (self.now.pairs ≡ []) }
     {
         self.routes.is_empty()
     }
 
-    /// What holds of every table, as of every tree: its pairs ascend by prefix, and its nodes are exactly the branch points of
-    /// the prefixes, at most 2n - 1 for n routes. Does nothing at run time.
+    /// Shows what holds of every table; does nothing at run time.
+    ///
+    /// The pairs ascend by prefix. The nodes are exactly the branch points of the prefixes. A table of n routes has
+    /// at most 2n - 1 nodes.
     pub fn canonical(&self)
         ensures ascending { IsAscending self.now.pairs }
         ensures shape { HasShape (keys_of self.now.pairs) self.now.nodes }
@@ -74,7 +79,7 @@ impl<K: KeyTrait, T> RouteTable<K, T> {
         self.routes.canonical()
     }
 
-    /// The table's tree with its reads counted by a `C`: its counted calls answer as the calls here do, and bound their visits.
+    /// Returns a view of the table's tree that counts its node reads in a `C`. Its `_counted` calls bound their visits.
     pub fn seen<C>(&self) -> Seen<'_, K, T, C>
         ensures pairs { tree_pairs (option_copied result.root) ≡ self.now.pairs }
         ensures nodes { tree_nodes (option_copied result.root) ≡ self.now.nodes }
@@ -82,19 +87,29 @@ impl<K: KeyTrait, T> RouteTable<K, T> {
         self.routes.seen()
     }
 
-    /// Adds the route from `prefix`, which must be new, to `target`, and shows the target that stands there where it isn't. Where
-    /// nothing is added the target comes back: the prefix is stored, which asks for no memory, or refused as an insertion into a
-    /// tree is, `Full` or `Memory`. Once the result is over the table has the route at `Ok`, and is as before otherwise.
+    /// Inserts a new route from `prefix` to `target`.
+    ///
+    /// # Errors
+    ///
+    /// [`TryInsertError::Occupied`] if the prefix is stored, with `target` and a reference to the stored one; this
+    /// allocates nothing. [`TryInsertError::Refused`] if the insertion fails, `Full` or `Memory`, with `target`.
+    /// After the borrow ends the table is unchanged.
     pub fn add<'a>(&'a mut self, prefix: &K, target: T) -> Result<(), TryInsertError<'a, T>>
-        ensures* after { sem 𝓛 (table_ends_as K.row T.row K.PartialType.row K.KeyTrait K.PartialType.Partial self.entry (PutOrSame (K.bytes prefix.now) target result self.old)) }
+        ensures* after { sem 𝓛 (table_ends_as K.row T.row K.PartialType.row K.KeyTrait K.PartialType.Partial self.entry
+            (PutOrSame (K.bytes prefix.now) target result self.old)) }
         ensures answer { TriesInsert (K.bytes prefix.now) target self.old.pairs result }
     {
         let outcome = self.add_new(prefix, target);
         self.with_present(prefix, outcome)
     }
 
-    /// Adds a route as `add` does, and says why where it doesn't, without the target that stands there: the call for a proof that
-    /// goes on with the table.
+    /// Inserts a new route as [`add`](Self::add), and borrows nothing: the call for a proof that uses the table
+    /// afterwards.
+    ///
+    /// # Errors
+    ///
+    /// [`NotInserted::Stored`] or [`NotInserted::Refused`], where [`add`](Self::add) fails. The table is then
+    /// unchanged, and the error holds `target`.
     pub fn add_new(&mut self, prefix: &K, target: T) -> Result<(), NotInserted<T>>
         ensures adds { InsertsNew (K.bytes prefix.now) target self.old.pairs self.new.pairs result }
         ensures unchanged { OnErr result (self.new ≡ self.old) }
@@ -102,7 +117,7 @@ impl<K: KeyTrait, T> RouteTable<K, T> {
         self.routes.insert_new_k(prefix, target)
     }
 
-    // What came of adding a route, with the target that stands at its prefix where it is none.
+    // Returns the outcome of an insertion, with the stored target if the prefix isn't new.
     fn with_present<'a>(
         &'a self,
         prefix: &K,
@@ -121,8 +136,12 @@ impl<K: KeyTrait, T> RouteTable<K, T> {
         }
     }
 
-    /// Routes `prefix` to `target` from now on, whether it is new or not, and answers the old target. Refused as an insertion into
-    /// a tree is, `Full` or `Memory`, and only where the prefix is new; then the table is as before, and the target comes back.
+    /// Inserts or replaces the route from `prefix` and returns the old target.
+    ///
+    /// # Errors
+    ///
+    /// [`TreeError::Full`] or [`TreeError::Memory`] if the prefix is new and the insertion fails. The table is then
+    /// unchanged, and the error holds `target`.
     pub fn replace(&mut self, prefix: &K, target: T) -> Result<Option<T>, Refused<T>>
         ensures replaces { Inserts (K.bytes prefix.now) target self.old.pairs self.new.pairs result }
         ensures unchanged { OnErr result (self.new ≡ self.old) }
@@ -130,8 +149,12 @@ impl<K: KeyTrait, T> RouteTable<K, T> {
         self.routes.insert_k(prefix, target)
     }
 
-    /// Takes the route from `prefix` out, and answers its target, None where there is no such route. Refused with `Memory` alone,
-    /// as a removal from a tree is, and then the table is as before.
+    /// Removes the route from `prefix` and returns its target, `None` if there is no such route.
+    ///
+    /// # Errors
+    ///
+    /// [`TreeError::Memory`] if the route is stored and the removal fails as one from a tree. The table is then
+    /// unchanged.
     pub fn withdraw(&mut self, prefix: &K) -> Result<Option<T>, TreeError>
         ensures withdraws { Removes (K.bytes prefix.now) self.old.pairs self.new.pairs result }
         ensures unchanged { OnErr result (self.new ≡ self.old) }
@@ -139,17 +162,63 @@ impl<K: KeyTrait, T> RouteTable<K, T> {
         self.routes.remove_k(prefix)
     }
 
-    /// The target of the longest prefix that begins the bytes `probe`, which may be longer than any key. Takes no memory.
+    /// Returns the target of `prefix` itself.
+    pub fn get(&self, prefix: &K) -> Option<&T>
+        ensures { option_copied result ≡ lookup (K.bytes prefix.now) self.now.pairs }
+    {
+        self.routes.get_k(prefix)
+    }
+
+    /// Returns an iterator over the routes, ascending by prefix.
+    ///
+    /// # Errors
+    ///
+    /// [`TreeError::Memory`] if the table isn't empty and the allocation for the iterator fails.
+    pub fn iter(&self) -> Result<Iter<'_, K, K::PartialType, T>, TreeError>
+        ensures routes { IfOk result (λ it. it ≡ self.now.pairs) }
+        ensures memory { IfErr result (MayLackRoom self.now.pairs) }
+    {
+        self.routes.iter()
+    }
+
+    /// Removes all routes and drops their targets. Never fails.
+    pub fn clear(&mut self)
+    where
+        T: Drop,
+        ensures pairs { self.new.pairs ≡ [] }
+        ensures nodes { self.new.nodes ≡ [] }
+    {
+        self.routes.clear()
+    }
+
+    /// Returns the target of the longest prefix that begins the bytes `probe`, which may be longer than any key.
+    /// Allocates nothing.
+    ///
+    /// # Examples
+    ///
+    /// ```ignore
+    /// let before = table.route(probe).copied();
+    /// ```
     pub fn route(&self, probe: &[u8]) -> Option<&T>
         ensures { option_copied result ≡ longest_value probe.now self.now.pairs }
     {
         self.routes.longest_prefix_value_bytes(probe)
     }
 
-    /// The longest prefix that begins `probe`, with its target. Takes no memory.
+    /// Returns the longest prefix that begins `probe`, with its target. Allocates nothing.
     pub fn route_with_prefix(&self, probe: &K) -> Option<(K, &T)>
         ensures { option_map (λ p. (K.bytes p.0, p.1.now)) result ≡ longest_match (K.bytes probe.now) self.now.pairs }
     {
         self.routes.longest_prefix_match_k(probe)
+    }
+}
+
+impl<K: KeyTrait, T> TreeStatsTrait for RouteTable<K, T> {
+    ghost keys = { λ t. keys_of t.pairs };
+
+    ghost nodes = { λ t. t.nodes };
+
+    fn get_tree_stats(&self) -> Result<TreeStats, TreeError> {
+        self.routes.get_tree_stats()
     }
 }

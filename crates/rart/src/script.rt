@@ -1,4 +1,4 @@
-//! Calls of a tree as values: a list of calls is run on a tree, and gives the list of replies.
+//! Calls of a tree as values: a list of calls runs on a tree and gives the list of replies.
 ghost use Rattle.std.specs.Prelude.{◌≡◌, ◌≢◌, Err, None, IfErr, IfOk, OnErr, length};
 ghost use Rattle.rart_keys.specs.SortedMap.{keys_of, lookup, values_of};
 ghost use Rattle.rart_nodes.specs.shapes.Shape.{HasShape};
@@ -25,9 +25,11 @@ use self::probe::{reply_to_longest, reply_to_matches, reply_to_prefix};
 use self::range::reply_to_range;
 pub use self::reply::Reply;
 
-/// Makes one call. A refused call leaves the tree as it was, and says why: `Returned` is a refused
-/// insertion, with the value that it offered. Memory for the lists of `Pairs` and `Values` comes from
-/// `alloc`.
+/// Makes one call and returns its reply.
+///
+/// A failed call leaves the tree unchanged, except that a failed removal by `Update` keeps the value that was written.
+/// Its reply holds the reason; that of an insertion is `Returned`, with the value that it offered. The lists of `Pairs`
+/// and `Values` are allocated from `alloc`.
 pub fn step<K: KeyTrait + Drop, V: Copy>(
     alloc: Global,
     tree: &mut AdaptiveRadixTree<K, V>,
@@ -125,14 +127,15 @@ fn reply_to_update<K: KeyTrait + Drop, V: Copy>(
     }
 }
 
-/// An update by a callback that writes this value where the slot is occupied, and answers so.
+/// Updates by a callback that writes this value in an occupied slot, and returns this edit.
 fn update_by<V: Copy, K: KeyTrait>(
     tree: &mut AdaptiveRadixTree<K, V>,
     key: &K,
     written: Option<V>,
     answer: SlotUpdate<V>,
 ) -> Result<bool, UpdateError<V>>
-    ensures { IsUpdate (K.bytes key.now) answer (left_by written (lookup (K.bytes key.now) tree.old.pairs)) tree.old.pairs result tree.new.pairs }
+    ensures { IsUpdate (K.bytes key.now) answer (left_by written (lookup (K.bytes key.now) tree.old.pairs))
+        tree.old.pairs result tree.new.pairs }
 {
     tree.update_k(key, move |slot| {
         write(slot, written);
@@ -158,7 +161,7 @@ fn reply_to_try_update<K: KeyTrait + Drop, V: Copy>(
     }
 }
 
-/// The same by one that may fail.
+/// Updates as `update_by`, by a callback that may fail.
 fn try_update_by<V: Copy, K: KeyTrait>(
     tree: &mut AdaptiveRadixTree<K, V>,
     key: &K,
@@ -166,8 +169,11 @@ fn try_update_by<V: Copy, K: KeyTrait>(
     answer: Result<SlotUpdate<V>, ()>,
 ) -> Result<bool, TryUpdateError<(), V>>
     requires clones { (x y : V) → V.is_clone x y → y ≡ x }
-    ensures called { result ≢ Err Not_cloned → IsTryUpdate (K.bytes key.now) answer (left_by written (lookup (K.bytes key.now) tree.old.pairs)) tree.old.pairs result tree.new.pairs }
-    ensures not_cloned { result ≡ Err Not_cloned → (lookup (K.bytes key.now) tree.old.pairs ≢ None) × (tree.new.pairs ≡ tree.old.pairs) }
+    ensures called { result ≢ Err Not_cloned
+        → IsTryUpdate (K.bytes key.now) answer (left_by written (lookup (K.bytes key.now) tree.old.pairs))
+        tree.old.pairs result tree.new.pairs }
+    ensures not_cloned { result ≡ Err Not_cloned → (lookup (K.bytes key.now) tree.old.pairs ≢ None)
+        × (tree.new.pairs ≡ tree.old.pairs) }
 {
     tree.try_update_k(key, move |slot| {
         write(slot, written);
@@ -219,7 +225,7 @@ fn reply_to_stats<K: KeyTrait + Drop, V: Copy>(tree: &AdaptiveRadixTree<K, V>) -
     }
 }
 
-/// The pairs of a tree. All room is taken before the first is copied.
+/// Returns the pairs of a tree. Allocates before the first is copied.
 fn copied_pairs<K: KeyTrait + Drop, V: Copy>(
     alloc: Global,
     tree: &AdaptiveRadixTree<K, V>,
@@ -237,7 +243,7 @@ fn copied_pairs<K: KeyTrait + Drop, V: Copy>(
     Ok(pairs)
 }
 
-/// The values of a tree. All room is taken before the first is copied.
+/// Returns the values of a tree. Allocates before the first is copied.
 fn copied_values<K: KeyTrait + Drop, V: Copy>(
     alloc: Global,
     tree: &AdaptiveRadixTree<K, V>,
@@ -255,9 +261,12 @@ fn copied_values<K: KeyTrait + Drop, V: Copy>(
     Ok(values)
 }
 
-/// Makes calls one after the other, and gives a reply for each: a refused call is one of the replies,
-/// and the calls behind it are made all the same. Room for the replies is taken before the first
-/// call; where there is none nothing is called.
+/// Makes calls in order and returns a reply for each. A failed call has its reply, and the calls after it are made.
+///
+/// # Errors
+///
+/// [`TreeError::Memory`] if there are calls and the allocation for their replies fails. No call is then made, and the
+/// tree is unchanged.
 pub fn run<K: KeyTrait + Drop, V: Copy>(
     alloc: Global,
     tree: &mut AdaptiveRadixTree<K, V>,

@@ -1,5 +1,6 @@
-//! The map: seen as its pairs, ascending by key, and the records of its nodes.
-ghost use Rattle.std.specs.Prelude.{◌≡◌, ◌+◌, ◌-◌, ◌*◌, ◌<◌, ◌≤◌, ◌↔◌, [], ◌∷◌, length, max, IsTrue, None, OnErr};
+//! The map, which contracts see as its pairs, ascending by key, and the records of its nodes.
+ghost use Rattle.std.specs.Prelude.{◌≡◌, ◌+◌, ◌-◌, ◌*◌, ◌<◌, ◌≤◌, ◌↔◌, [], ◌∷◌, length, max, is_some, IsTrue, None};
+ghost use Rattle.std.specs.Prelude.{OnErr};
 ghost use Rattle.std.specs.Option.{option_copied};
 ghost use Rattle.rart_keys.specs.KeyBytes.{IsWithin};
 ghost use Rattle.rart_keys.specs.SortedMap.{IsAscending, keys_of, longest_key, lookup};
@@ -15,13 +16,13 @@ use std::alloc::Global;
 use std::marker::{Model, PhantomData};
 
 mod bulk;
-pub mod guarded;
+mod get_mut;
 mod intersect;
-mod loan;
 mod statistics;
+pub mod try_insert;
 pub mod update;
 
-/// The most pairs that a tree holds.
+/// The largest number of pairs that a tree holds.
 pub const MAX_PAIRS: usize = usize::MAX / 16;
 
 /// An ordered map from keys, read as bytes, to values. Shared prefixes are stored once, and inner
@@ -48,11 +49,12 @@ impl<K: KeyTrait, V> Model for AdaptiveRadixTree<K, V> {
 
     ghost view = { λ t. record { pairs = tree_pairs t.root; nodes = tree_nodes t.root } };
 
-    ghost invariant = { λ t. IsCanonicalTree t.root × (t.len ≡ length (tree_pairs t.root)) × (t.len ≤ MAX_PAIRS) × (longest_key (tree_pairs t.root) ≤ t.longest) × IsWithin K.MAXIMUM_SIZE t.longest };
+    ghost invariant = { λ t. IsCanonicalTree t.root × (t.len ≡ length (tree_pairs t.root)) × (t.len ≤ MAX_PAIRS)
+        × (longest_key (tree_pairs t.root) ≤ t.longest) × IsWithin K.MAXIMUM_SIZE t.longest };
 }
 
 impl<K: KeyTrait, V> AdaptiveRadixTree<K, V> {
-    /// An empty tree, which asks `alloc` for all memory later on. Takes none.
+    /// Creates an empty tree, which requests all later memory from `alloc`. Allocates nothing.
     pub fn new(alloc: Global) -> Self
         ensures pairs { result.pairs ≡ [] }
         ensures nodes { result.nodes ≡ [] }
@@ -66,7 +68,7 @@ impl<K: KeyTrait, V> AdaptiveRadixTree<K, V> {
         }
     }
 
-    /// How many pairs there are.
+    /// Returns the number of pairs.
     pub fn len(&self) -> usize
         ensures value { result ≡ length self.now.pairs }
         ensures most { result ≤ MAX_PAIRS }
@@ -74,16 +76,29 @@ impl<K: KeyTrait, V> AdaptiveRadixTree<K, V> {
         self.len
     }
 
-    /// Whether there is no pair.
+    /// Returns whether there is no pair.
     pub fn is_empty(&self) -> bool
         ensures { IsTrue result ↔ (self.now.pairs ≡ []) }
     {
         self.len == 0
     }
 
-    /// What holds of every tree: its pairs ascend by key, and its nodes are exactly the branch points
-    /// of its keys, each of the kind that its child count fixes; at most 2n - 1 for n keys. Does
-    /// nothing at run time.
+    /// Removes all pairs and drops their values. Never fails; the tree is then as `new` makes it.
+    pub fn clear(&mut self)
+    where
+        V: Drop,
+        ensures pairs { self.new.pairs ≡ [] }
+        ensures nodes { self.new.nodes ≡ [] }
+    {
+        self.root = None;
+        self.len = 0;
+        self.longest = 0;
+    }
+
+    /// Shows what holds of every tree; does nothing at run time.
+    ///
+    /// The pairs ascend by key. The nodes are exactly the branch points of the keys, each of the kind that its child
+    /// count fixes. A tree of n keys has at most 2n - 1 nodes.
     pub fn canonical(&self)
         ensures ascending { IsAscending self.now.pairs }
         ensures shape { HasShape (keys_of self.now.pairs) self.now.nodes }
@@ -95,7 +110,9 @@ impl<K: KeyTrait, V> AdaptiveRadixTree<K, V> {
         }
     }
 
-    /// The tree with its reads counted by a `C`. Its walks take room for the longest key ever stored.
+    /// Returns a view of the tree that counts its node reads in a `C`.
+    ///
+    /// The capacity of its walks is at least the length of the longest stored key.
     pub fn seen<C>(&self) -> Seen<'_, K, V, C>
         ensures pairs { tree_pairs (option_copied result.root) ≡ self.now.pairs }
         ensures nodes { tree_nodes (option_copied result.root) ≡ self.now.nodes }
@@ -105,14 +122,22 @@ impl<K: KeyTrait, V> AdaptiveRadixTree<K, V> {
         Seen::of(self.root.as_ref(), self.alloc, self.longest)
     }
 
-    /// The value at `key`.
+    /// Returns a reference to the value at `key`.
+    ///
+    /// # Examples
+    ///
+    /// ```ignore
+    /// if tree.get_k(&key(text)) != Some(&value) {
+    ///     return false;
+    /// }
+    /// ```
     pub fn get_k(&self, key: &K) -> Option<&V>
         ensures { option_copied result ≡ lookup (K.bytes key.now) self.now.pairs }
     {
         self.seen().get_k_counted(key, &mut Visits::new())
     }
 
-    /// The value at `key`.
+    /// Returns a reference to the value at `key`, as [`get_k`](Self::get_k).
     pub fn get(&self, key: K) -> Option<&V>
     where
         K: Drop,
@@ -121,19 +146,52 @@ impl<K: KeyTrait, V> AdaptiveRadixTree<K, V> {
         self.get_k(&key)
     }
 
-    /// The value at the key with these bytes, which may be longer than any key.
+    /// Returns a reference to the value at the key with these bytes, which may be longer than any key.
     pub fn get_bytes(&self, key: &[u8]) -> Option<&V>
         ensures { option_copied result ≡ lookup key.now self.now.pairs }
     {
         self.seen().get_bytes_counted(key, &mut Visits::new())
     }
 
-    /// Puts `value` at `key`, and answers the old value.
+    /// Returns whether `key` is stored.
+    pub fn contains_key_k(&self, key: &K) -> bool
+        ensures { result ≡ is_some (lookup (K.bytes key.now) self.now.pairs) }
+    {
+        self.get_k(key).is_some()
+    }
+
+    /// Returns whether `key` is stored, as `contains_key_k` does.
+    pub fn contains_key(&self, key: K) -> bool
+    where
+        K: Drop,
+        ensures { result ≡ is_some (lookup (K.bytes key) self.now.pairs) }
+    {
+        self.contains_key_k(&key)
+    }
+
+    /// Returns whether the key with these bytes, which may be longer than any key, is stored.
+    pub fn contains_key_bytes(&self, key: &[u8]) -> bool
+        ensures { result ≡ is_some (lookup key.now self.now.pairs) }
+    {
+        self.get_bytes(key).is_some()
+    }
+
+    /// Inserts `value` at `key` and returns the old value, `None` for a new key.
     ///
-    /// Refused with `Full` exactly where the tree holds as many pairs as a tree can and the key is
-    /// new; with `Memory` only where a request for it was refused, and that comes only where the keys
-    /// say so: the tree isn't empty, no node stands at the key, and no node with room takes it as a new
-    /// child. Refused, pairs and nodes are as before, and the value is handed back.
+    /// # Errors
+    ///
+    /// [`TreeError::Full`] if the key is new and the tree holds [`MAX_PAIRS`] pairs. [`TreeError::Memory`] if an
+    /// allocation fails. An insertion allocates only if the tree isn't empty, the key is no branch point, and the
+    /// longest branch point that begins it has no room for another child or has one at its next byte. The tree is
+    /// then unchanged, and the error holds `value`.
+    ///
+    /// # Examples
+    ///
+    /// ```ignore
+    /// words
+    ///     .insert_k(&ArrayKey::new_from_slice(b"cat"), 1)
+    ///     .map_err(|refused| refused.error)?;
+    /// ```
     pub fn insert_k(&mut self, key: &K, value: V) -> Result<Option<V>, Refused<V>>
         ensures inserts { Inserts (K.bytes key.now) value self.old.pairs self.new.pairs result }
         ensures unchanged { OnErr result (self.new ≡ self.old) }
@@ -164,7 +222,11 @@ impl<K: KeyTrait, V> AdaptiveRadixTree<K, V> {
         Ok(None)
     }
 
-    /// Puts `value` at `key`, as `insert_k` does.
+    /// Inserts `value` at `key` and returns the old value, as [`insert_k`](Self::insert_k).
+    ///
+    /// # Errors
+    ///
+    /// Those of [`insert_k`](Self::insert_k). The tree is then unchanged, and the error holds `value`.
     pub fn insert(&mut self, key: K, value: V) -> Result<Option<V>, Refused<V>>
     where
         K: Drop,
@@ -174,11 +236,18 @@ impl<K: KeyTrait, V> AdaptiveRadixTree<K, V> {
         self.insert_k(&key, value)
     }
 
-    /// Removes `key`, and answers its value.
+    /// Removes `key` and returns its value.
     ///
-    /// Refused only where a request for memory was refused, and that comes only where the keys say so:
-    /// the key's node is a leaf whose parent goes from 5, 17 or 49 children to one fewer, and gets
-    /// smaller room. Refused, pairs and nodes are as before. An absent key is never refused.
+    /// # Errors
+    ///
+    /// [`TreeError::Memory`] if the parent must shrink to a smaller kind (5, 17 or 49 children to one fewer) and the
+    /// allocation fails. The tree is then unchanged. Removing an absent key never fails.
+    ///
+    /// # Examples
+    ///
+    /// ```ignore
+    /// let removed = tree.remove_k(&key(1));
+    /// ```
     pub fn remove_k(&mut self, key: &K) -> Result<Option<V>, TreeError>
         ensures removes { Removes (K.bytes key.now) self.old.pairs self.new.pairs result }
         ensures unchanged { OnErr result (self.new ≡ self.old) }
@@ -190,7 +259,11 @@ impl<K: KeyTrait, V> AdaptiveRadixTree<K, V> {
         Ok(removed)
     }
 
-    /// Removes `key`, as `remove_k` does.
+    /// Removes `key` and returns its value, as [`remove_k`](Self::remove_k).
+    ///
+    /// # Errors
+    ///
+    /// Those of [`remove_k`](Self::remove_k). The tree is then unchanged.
     pub fn remove(&mut self, key: K) -> Result<Option<V>, TreeError>
     where
         K: Drop,
@@ -200,7 +273,11 @@ impl<K: KeyTrait, V> AdaptiveRadixTree<K, V> {
         self.remove_k(&key)
     }
 
-    /// Removes `key` and drops its value, and answers whether there was one. Refused as `remove_k` is.
+    /// Removes `key`, drops its value, and returns whether the key was stored.
+    ///
+    /// # Errors
+    ///
+    /// Those of [`remove_k`](Self::remove_k). The tree is then unchanged.
     pub fn delete_k(&mut self, key: &K) -> Result<bool, TreeError>
     where
         V: Drop,
@@ -210,7 +287,11 @@ impl<K: KeyTrait, V> AdaptiveRadixTree<K, V> {
         Ok(self.remove_k(key)?.is_some())
     }
 
-    /// Removes `key`, as `delete_k` does.
+    /// Removes `key` and drops its value, as [`delete_k`](Self::delete_k).
+    ///
+    /// # Errors
+    ///
+    /// Those of [`remove_k`](Self::remove_k). The tree is then unchanged.
     pub fn delete(&mut self, key: K) -> Result<bool, TreeError>
     where
         K: Drop,
@@ -222,7 +303,7 @@ impl<K: KeyTrait, V> AdaptiveRadixTree<K, V> {
     }
 }
 
-// Gives a tree without a root its first leaf.
+// Inserts the first leaf of a tree without a root.
 fn plant<K: KeyTrait, V>(root: &mut Option<DefaultNode<K::PartialType, V>>, key: &K, value: V)
     requires empty { root.old ≡ None }
     ensures canonical { IsCanonicalTree root.new }

@@ -1,7 +1,7 @@
 //! Walks that lend each key in segments, cut at the branch points: no byte of a key is copied.
 //!
-//! Each call asks that its callback can be called with each item in turn, as the calls before leave it. A callback
-//! without a condition always can. The caller of a `_by_ref` form keeps its callback, in the state that the last call
+//! Each call requires that its callback is callable with each item in turn, as the earlier calls leave it. A callback
+//! without a condition always is. The caller of a `_by_ref` form keeps its callback, in the state that the last call
 //! left.
 ghost use Rattle.std.specs.Prelude.{◌≡◌, IfErr, IfOk, OnErr, OnOk};
 ghost use Rattle.rart_keys.specs.Filters.{longest_match};
@@ -10,7 +10,8 @@ ghost use Rattle.rart_keys.specs.SortedMap.{keys_of};
 ghost use Rattle.rart_nodes.specs.ranges.Spans.{cut_between};
 ghost use Rattle.rart_nodes.specs.walks.BelowPrefix.{MayLackMatch, cut_below};
 ghost use Rattle.rart_nodes.specs.walks.Cut.{cut_pairs};
-ghost use Rattle.rart_nodes.specs.walks.Viewed.{CanSeeFound, CanShowFound, CanView, SeesFound, ShowsFound, ViewedEach, ViewsEach};
+ghost use Rattle.rart_nodes.specs.walks.Viewed.{CanSeeFound, CanShowFound, CanView, SeesFound, ShowsFound, ViewedEach};
+ghost use Rattle.rart_nodes.specs.walks.Viewed.{ViewsEach};
 ghost use Rattle.rart_nodes.specs.walks.Calls.{MayLackRoom};
 
 use crate::tree::AdaptiveRadixTree;
@@ -41,6 +42,10 @@ impl<K: KeyTrait, V> AdaptiveRadixTree<K, V> {
     }
 
     /// Calls `f` as `for_each_view_by_ref` does, and drops it.
+    ///
+    /// # Errors
+    ///
+    /// [`TreeError::Memory`] if the tree isn't empty and the allocation for the walk fails.
     pub fn for_each_view<F: FnMut(LendingKeyView<'_, '_>, &V) + Drop>(
         &self,
         f: F,
@@ -53,8 +58,7 @@ impl<K: KeyTrait, V> AdaptiveRadixTree<K, V> {
         self.seen().for_each_view_counted(f, &mut Visits::new())
     }
 
-    /// Calls `f` with a view of each key that begins with `prefix` and with its value, in order. Visits the way along
-    /// the prefix and then that part of the tree alone. The caller keeps `f`.
+    /// Calls `f` with a view of each key that begins with `prefix` and with its value, in order. The caller keeps `f`.
     ///
     /// # Errors
     ///
@@ -76,6 +80,10 @@ impl<K: KeyTrait, V> AdaptiveRadixTree<K, V> {
     }
 
     /// Calls `f` as `prefix_for_each_view_by_ref_k` does.
+    ///
+    /// # Errors
+    ///
+    /// Those of `prefix_for_each_view_by_ref_k`. `f` is then not called.
     pub fn prefix_for_each_view_by_ref<F: FnMut(LendingKeyView<'_, '_>, &V)>(
         &self,
         prefix: K,
@@ -94,6 +102,10 @@ impl<K: KeyTrait, V> AdaptiveRadixTree<K, V> {
     }
 
     /// Calls `f` as `prefix_for_each_view_by_ref_k` does, and drops it.
+    ///
+    /// # Errors
+    ///
+    /// Those of `prefix_for_each_view_by_ref_k`.
     pub fn prefix_for_each_view_k<F: FnMut(LendingKeyView<'_, '_>, &V) + Drop>(
         &self,
         prefix: &K,
@@ -109,6 +121,10 @@ impl<K: KeyTrait, V> AdaptiveRadixTree<K, V> {
     }
 
     /// Calls `f` as `prefix_for_each_view_by_ref_k` does, and drops it.
+    ///
+    /// # Errors
+    ///
+    /// Those of `prefix_for_each_view_by_ref_k`.
     pub fn prefix_for_each_view<F: FnMut(LendingKeyView<'_, '_>, &V) + Drop>(
         &self,
         prefix: K,
@@ -124,8 +140,8 @@ impl<K: KeyTrait, V> AdaptiveRadixTree<K, V> {
         self.prefix_for_each_view_k(&prefix, f)
     }
 
-    /// Calls `f` with a view of each key between two bounds and with its value, in order; with none if the end is
-    /// before the start. Goes straight to the start, and ends at the first key past the end. The caller keeps `f`.
+    /// Calls `f` with a view of each key within two bounds and with its value, in order; with none if the end is
+    /// below the start. The caller keeps `f`.
     ///
     /// # Errors
     ///
@@ -151,6 +167,10 @@ impl<K: KeyTrait, V> AdaptiveRadixTree<K, V> {
     }
 
     /// Calls `f` as `for_each_range_view_by_ref` does, and drops it.
+    ///
+    /// # Errors
+    ///
+    /// Those of `for_each_range_view_by_ref`.
     pub fn for_each_range_view<F: FnMut(LendingKeyView<'_, '_>, &V) + Drop>(
         &self,
         start: Bound<K>,
@@ -193,6 +213,10 @@ impl<K: KeyTrait, V> AdaptiveRadixTree<K, V> {
     }
 
     /// Calls `f` as `with_longest_prefix_match_view_by_ref_k` does, with a probe by value.
+    ///
+    /// # Errors
+    ///
+    /// Those of `with_longest_prefix_match_view_by_ref_k`. `f` is then not called.
     pub fn with_longest_prefix_match_view_by_ref<F: FnMut(LendingKeyView<'_, '_>, &V)>(
         &self,
         probe: K,
@@ -216,7 +240,7 @@ impl<K: KeyTrait, V> AdaptiveRadixTree<K, V> {
     ///
     /// # Errors
     ///
-    /// [`TreeError::Memory`] if there is such a key and the allocation for its segments fails. `f` is then not called.
+    /// [`TreeError::Memory`] if there is such a key and the allocation for its segments fails.
     pub fn with_longest_prefix_match_view_k<F: FnOnce(LendingKeyView<'_, '_>, &V) + Drop>(
         &self,
         probe: &K,
@@ -232,6 +256,10 @@ impl<K: KeyTrait, V> AdaptiveRadixTree<K, V> {
     }
 
     /// Calls `f` as `with_longest_prefix_match_view_k` does.
+    ///
+    /// # Errors
+    ///
+    /// Those of `with_longest_prefix_match_view_k`.
     pub fn with_longest_prefix_match_view<F: FnOnce(LendingKeyView<'_, '_>, &V) + Drop>(
         &self,
         probe: K,

@@ -22,7 +22,7 @@ pub enum Ask<'a> {
     Overwrite(&'a str, u64),
     Remove(&'a str),
     Delete(&'a str),
-    /// Updates what stands at the key: this value is written first where the key is stored, and this is then asked for.
+    /// Updates the value at the key: a stored value is first replaced with this one, and then this is requested.
     Update(&'a str, Option<u64>, Then),
     /// The same by a callback that may fail.
     TryUpdate(&'a str, Option<u64>, Then),
@@ -39,8 +39,8 @@ pub enum Ask<'a> {
     Len,
     IsEmpty,
     Stats,
-    /// Inserts the keys of these bytes, two at most, and one more, for each from the first number to below the second, which is also
-    /// the value. Whether all were new.
+    /// Inserts the keys of these bytes, two at most, and one more, for each from the first number to below the second,
+    /// which is also the value. Whether all were new.
     Fill(&'a [u8], usize, usize),
     /// Removes such keys. Whether each had its value.
     Empty(&'a [u8], usize, usize),
@@ -48,7 +48,7 @@ pub enum Ask<'a> {
     Holds(&'a [u8], usize),
 }
 
-/// What the callback of an update asks for.
+/// What the callback of an update requests.
 #[derive(Clone, Copy)]
 pub enum Then {
     Keep,
@@ -69,7 +69,7 @@ pub enum Want<'a> {
     Is(bool),
     /// The key was new.
     Inserted,
-    /// The value that was offered, and the one that stands there.
+    /// The value that was offered, and the one that is stored there.
     Occupied(u64, u64),
     /// The callback failed.
     Failed,

@@ -1,5 +1,5 @@
-//! Updates through a slot, as calls that are values: what is written where the slot is occupied, what is asked for then, the
-//! reply, and the value that the key has afterwards.
+//! Updates through a slot, as calls that are values: what is written where the slot is occupied, what is asked for
+//! then, the reply, and the value that the key has afterwards.
 
 use crate::play::forms::asked;
 use crate::play::{Then, went_well};
@@ -12,8 +12,8 @@ type Key = ArrayKey<16>;
 
 type Tree = AdaptiveRadixTree<Key, u64>;
 
-// Whether by `try_update`; the key; what is written; what is asked for; what is replied, nothing where the callback fails; the
-// value afterwards.
+// Whether by `try_update`; the key; what is written; what is asked for; what is replied, nothing where the callback
+// fails; the value afterwards.
 type Row = (
     bool,
     &'static str,

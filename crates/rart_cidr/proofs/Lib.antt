@@ -1,5 +1,6 @@
 mod BitLemmas
 mod EditLemmas
 mod LongestLemmas
+mod NetworkLemmas
 mod RouteLemmas
 mod StrideLemmas

@@ -1,5 +1,6 @@
 -- Bits of bytes, the most significant first, and the codes of the first bits of a byte.
-use Rattle.std.specs.Prelude.{ℕ, zero, suc, ◌+◌, ◌-◌, ◌/◌, ◌%◌, ◌^◌, ◌++◌, List, [], ◌∷◌, take}
+use Rattle.std.specs.Prelude.{◌≡◌, ℕ, zero, suc, ◌+◌, ◌-◌, ◌*◌, ◌/◌, ◌%◌, ◌^◌, ◌++◌, List, [], ◌∷◌, drop, length}
+use Rattle.std.specs.Prelude.{replicate, take}
 
 -- the bits of a byte
 abbrev pub byte_bits : ℕ → List ℕ
@@ -28,3 +29,16 @@ after_one (suc b ∷ l) = l
 -- the bits that a code stands for
 abbrev pub code_bits : ℕ → List ℕ
 code_bits c = after_one (byte_bits c)
+
+-- the byte x with all but its first r bits cleared
+abbrev pub kept : ℕ → ℕ → ℕ
+kept x r = x / 2 ^ (8 - r) * 2 ^ (8 - r)
+
+-- the octets with all but their first n bits cleared
+abbrev pub cleared : List ℕ → ℕ → List ℕ
+cleared [] n = []
+cleared (x ∷ o) n = kept x n ∷ cleared o (n - 8)
+
+-- all but the first n bits are zeros
+abbrev pub AreClearAfter : List ℕ → ℕ → Type 0
+AreClearAfter bits n = drop n bits ≡ replicate (length bits - n) 0

@@ -14,10 +14,13 @@ module _ {T : Type 0} where
   MayRefuseRoute routes net Full = (lookup net routes ≡ None) × (length routes ≡ MAX_PAIRS)
   MayRefuseRoute routes net Memory = (lookup net routes ≡ None) × (length routes < MAX_PAIRS)
 
-  -- the network has the target, and the old one is returned; a full table takes no new network. On Err the target comes back, and no route changes
+  -- the network has the target, and the old one is returned; a full table takes no new network. On Err the target comes
+  -- back, and no route changes
   abbrev pub InsertsRoute : List ℕ → T → List (List ℕ × T) → List (List ℕ × T) → Result (Option T) (Refused T) → Type 0
-  InsertsRoute net target old new (Ok was) = (was ≡ lookup net old) × (length old ≡ MAX_PAIRS → lookup net old ≢ None) × (new ≡ put net target old)
-  InsertsRoute net target old new (Err refused) = (refused.value ≡ target) × MayRefuseRoute old net refused.error × (new ≡ old)
+  InsertsRoute net target old new (Ok was) = (was ≡ lookup net old) × (length old ≡ MAX_PAIRS → lookup net old ≢ None)
+      × (new ≡ put net target old)
+  InsertsRoute net target old new (Err refused) = (refused.value ≡ target) × MayRefuseRoute old net refused.error
+      × (new ≡ old)
 
   -- the network has no target, and the old one is returned. On Err, which only a stored network meets, no route changes
   abbrev pub RemovesRoute : List ℕ → List (List ℕ × T) → List (List ℕ × T) → Result (Option T) TreeError → Type 0
@@ -27,22 +30,31 @@ module _ {T : Type 0} where
   -- a new target may be refused for this reason: the strides are full, or the stride is
   abbrev pub MayRefuseTarget : List (List ℕ × List (List ℕ × T)) → List ℕ → List ℕ → TreeError → Type 0
   MayRefuseTarget old o k Memory = lookup k (stride_at o old) ≡ None
-  MayRefuseTarget old o k Full = (lookup k (stride_at o old) ≡ None) × (length (stride_at o old) < MAX_PAIRS → length old ≡ MAX_PAIRS)
+  MayRefuseTarget old o k Full = (lookup k (stride_at o old) ≡ None)
+      × (length (stride_at o old) < MAX_PAIRS → length old ≡ MAX_PAIRS)
 
   -- the stride at o gets the target at k
-  abbrev pub PutsTarget : List ℕ → List ℕ → T → List (List ℕ × List (List ℕ × T)) → List (List ℕ × List (List ℕ × T)) → Result (Option T) (Refused T) → Type 0
-  PutsTarget o k t old new (Ok was) = (was ≡ lookup k (stride_at o old)) × (new ≡ set_stride o (put k t (stride_at o old)) old)
+  abbrev pub PutsTarget : List ℕ → List ℕ → T → List (List ℕ × List (List ℕ × T)) → List (List ℕ × List (List ℕ × T))
+      → Result (Option T) (Refused T) → Type 0
+  PutsTarget o k t old new (Ok was) = (was ≡ lookup k (stride_at o old))
+      × (new ≡ set_stride o (put k t (stride_at o old)) old)
   PutsTarget o k t old new (Err refused) = (refused.value ≡ t) × MayRefuseTarget old o k refused.error × (new ≡ old)
 
   -- a stored stride s is edited in its place and left as n
-  abbrev pub PutsIn : List ℕ → List ℕ → T → List (List ℕ × List (List ℕ × T)) → List (List ℕ × List (List ℕ × T)) → Result (Option T) (Refused T) → Type 0
-  PutsIn o k t old new result = (s : List (List ℕ × T)) → lookup o old ≡ Some s → (n : List (List ℕ × T)) × (new ≡ put o n old) × Inserts k t s n result
+  abbrev pub PutsIn : List ℕ → List ℕ → T → List (List ℕ × List (List ℕ × T)) → List (List ℕ × List (List ℕ × T))
+      → Result (Option T) (Refused T) → Type 0
+  PutsIn o k t old new result = (s : List (List ℕ × T)) → lookup o old ≡ Some s → (n : List (List ℕ × T))
+      × (new ≡ put o n old) × Inserts k t s n result
 
-  abbrev pub TakesFrom : List ℕ → List ℕ → List (List ℕ × List (List ℕ × T)) → List (List ℕ × List (List ℕ × T)) → Result (Option T) TreeError → Type 0
-  TakesFrom o k old new result = (s : List (List ℕ × T)) → lookup o old ≡ Some s → (n : List (List ℕ × T)) × (new ≡ put o n old) × Removes k s n result
+  abbrev pub TakesFrom : List ℕ → List ℕ → List (List ℕ × List (List ℕ × T)) → List (List ℕ × List (List ℕ × T))
+      → Result (Option T) TreeError → Type 0
+  TakesFrom o k old new result = (s : List (List ℕ × T)) → lookup o old ≡ Some s → (n : List (List ℕ × T))
+      × (new ≡ put o n old) × Removes k s n result
 
   -- the stride at o loses the target at k
-  abbrev pub TakesTarget : List ℕ → List ℕ → List (List ℕ × List (List ℕ × T)) → List (List ℕ × List (List ℕ × T)) → Result (Option T) TreeError → Type 0
+  abbrev pub TakesTarget : List ℕ → List ℕ → List (List ℕ × List (List ℕ × T)) → List (List ℕ × List (List ℕ × T))
+      → Result (Option T) TreeError → Type 0
   TakesTarget o k old new (Ok None) = (lookup k (stride_at o old) ≡ None) × (new ≡ old)
-  TakesTarget o k old new (Ok (Some t)) = (lookup k (stride_at o old) ≡ Some t) × (new ≡ set_stride o (without k (stride_at o old)) old)
+  TakesTarget o k old new (Ok (Some t)) = (lookup k (stride_at o old) ≡ Some t)
+      × (new ≡ set_stride o (without k (stride_at o old)) old)
   TakesTarget o k old new (Err error) = (error ≡ Memory) × (lookup k (stride_at o old) ≢ None) × (new ≡ old)

@@ -1,4 +1,5 @@
 pub mod Bits
 pub mod Edits
 pub mod Longest
+pub mod Networks
 pub mod Routes

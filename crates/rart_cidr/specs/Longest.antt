@@ -11,7 +11,9 @@ module _ {T : Type 0} where
   -- of these the longest is the first n bits; or there is none
   abbrev pub IsLongestAfter : List (List ℕ × T) → List ℕ → ℕ → Option (ℕ × T) → Type 0
   IsLongestAfter routes o at None = HasNoneAfter routes o at
-  IsLongestAfter routes o at (Some p) = (p.0 / 8 ≡ at) × (p.0 ≤ 8 * length o) × (lookup (network o p.0) routes ≡ Some p.1) × ((n : ℕ) → p.0 < n → n / 8 ≡ at → n ≤ 8 * length o → lookup (network o n) routes ≡ None)
+  IsLongestAfter routes o at (Some p) = (p.0 / 8 ≡ at) × (p.0 ≤ 8 * length o)
+      × (lookup (network o p.0) routes ≡ Some p.1)
+      × ((n : ℕ) → p.0 < n → n / 8 ≡ at → n ≤ 8 * length o → lookup (network o n) routes ≡ None)
 
   -- no route's network is the first n bits or more of the octets
   abbrev pub HasNoneFrom : List (List ℕ × T) → List ℕ → ℕ → Type 0

@@ -1,5 +1,6 @@
 -- Routes, ascending by their networks' bits, and how strides hold them.
-use Rattle.std.specs.Prelude.{◌≡◌, ◌≢◌, ◌<◌, ◌≤◌, ℕ, ◌/◌, ◌%◌, ◌++◌, List, [], ◌∷◌, take, slice_index, Option, Some, None}
+use Rattle.std.specs.Prelude.{◌≡◌, ◌≢◌, ◌<◌, ◌≤◌, ℕ, ◌/◌, ◌%◌, ◌++◌, List, [], ◌∷◌, take, slice_index, Option, Some}
+use Rattle.std.specs.Prelude.{None}
 use Rattle.rart_keys.specs.KeyBytes.{AreBytes}
 use Rattle.rart_keys.specs.SortedMap.{IsAscending, lookup, put, without}
 use Rattle.rart_cidr.specs.Bits.{bits_of, code, code_bits}
@@ -45,7 +46,8 @@ module _ {T : Type 0} where
   stride_at o strides = stride_or_empty (lookup o strides)
 
   -- the strides with another one at a key; an empty one isn't kept
-  abbrev pub set_stride : List ℕ → List (List ℕ × T) → List (List ℕ × List (List ℕ × T)) → List (List ℕ × List (List ℕ × T))
+  abbrev pub set_stride : List ℕ → List (List ℕ × T) → List (List ℕ × List (List ℕ × T))
+      → List (List ℕ × List (List ℕ × T))
   set_stride o [] strides = without o strides
   set_stride o (e ∷ stride) strides = put o (e ∷ stride) strides
 
@@ -60,4 +62,5 @@ module _ {T : Type 0} where
   -- r bits of x, at most `most`, have a target in the stride, and no more have; or none have
   abbrev pub IsLongestIn : List (List ℕ × T) → ℕ → ℕ → Option (ℕ × T) → Type 0
   IsLongestIn stride x most None = (r : ℕ) → r ≤ most → in_stride stride x r ≡ None
-  IsLongestIn stride x most (Some p) = (p.0 ≤ most) × (in_stride stride x p.0 ≡ Some p.1) × ((r : ℕ) → p.0 < r → r ≤ most → in_stride stride x r ≡ None)
+  IsLongestIn stride x most (Some p) = (p.0 ≤ most) × (in_stride stride x p.0 ≡ Some p.1)
+      × ((r : ℕ) → p.0 < r → r ≤ most → in_stride stride x r ≡ None)

@@ -1,6 +1,7 @@
-//! The first bits of a byte.
-ghost use Rattle.std.specs.Prelude.{◌≡◌, ◌<◌, ◌≤◌};
-ghost use Rattle.rart_cidr.specs.Bits.{code};
+//! The first bits of a byte, and of some octets.
+ghost use Rattle.std.specs.Prelude.{◌≡◌, ◌<◌, ◌≤◌, length};
+ghost use Rattle.rart_keys.specs.KeyBytes.{AreBytes};
+ghost use Rattle.rart_cidr.specs.Bits.{cleared, code, kept};
 
 /// Returns the code of the first `bits` bits of `byte`: a one, followed by these bits.
 pub fn code_of(byte: u8, bits: usize) -> u8
@@ -19,3 +20,35 @@ pub fn code_of(byte: u8, bits: usize) -> u8
         _ => 128 + byte / 2,
     }
 }
+
+/// Returns `byte` with all but its first `bits` bits cleared.
+pub fn keep_bits(byte: u8, bits: usize) -> u8
+    ensures { result ≡ kept byte bits }
+{
+    match bits {
+        0 => 0,
+        1 => byte / 128 * 128,
+        2 => byte / 64 * 64,
+        3 => byte / 32 * 32,
+        4 => byte / 16 * 16,
+        5 => byte / 8 * 8,
+        6 => byte / 4 * 4,
+        7 => byte / 2 * 2,
+        _ => byte,
+    }
+}
+
+/// Clears all but the first `bits` bits of `octets`.
+pub fn clear_after(octets: &mut [u8], bits: usize)
+    requires { length octets.old ≤ 16 }
+    ensures { octets.new ≡ cleared octets.old bits }
+{
+    for at in 0..octets.len() {
+        octets[at] = keep_bits(octets[at], bits.saturating_sub(8 * at));
+    }
+}
+
+/// Shows that octets are bytes. Does nothing at run time.
+pub fn are_bytes(octets: &[u8])
+    ensures { AreBytes octets.now }
+{}

@@ -4,7 +4,11 @@
 #![tactic(auto)]
 
 mod bits;
+pub mod cidr;
 mod stride;
 pub mod table;
+pub mod table4;
 
+pub use crate::cidr::{Cidr4, Cidr6, CidrError};
 pub use crate::table::BitTable;
+pub use crate::table4::CidrTable4;

@@ -13,7 +13,7 @@ use rart::{AdaptiveRadixTree, ArrayKey, KeyTrait, Refused, TreeError};
 use std::alloc::Global;
 use std::marker::Model;
 
-/// Targets by code.
+/// The targets of a stride, by code.
 #[derive(Drop)]
 pub struct Stride<T> {
     targets: AdaptiveRadixTree<ArrayKey<1>, T>,
@@ -68,7 +68,8 @@ impl<T> Stride<T> {
     ///
     /// # Errors
     ///
-    /// An insertion can fail as one into a tree does. The stride is then unchanged, and the error holds `target`.
+    /// [`TreeError::Full`] or [`TreeError::Memory`] if the insertion into the tree of targets fails. The stride is then
+    /// unchanged, and the error holds `target`.
     pub fn insert(&mut self, code: u8, target: T) -> Result<Option<T>, Refused<T>>
         ensures { Inserts (code ∷ []) target self.old self.new result }
     {
@@ -79,14 +80,15 @@ impl<T> Stride<T> {
     ///
     /// # Errors
     ///
-    /// [`TreeError::Memory`] if the removal must allocate. The stride is then unchanged.
+    /// [`TreeError::Memory`] if a target is stored at `code`, its removal must allocate, and the allocation fails.
+    /// The stride is then unchanged.
     pub fn remove(&mut self, code: u8) -> Result<Option<T>, TreeError>
         ensures { Removes (code ∷ []) self.old self.new result }
     {
         self.targets.remove_k(&key_of(code))
     }
 
-    /// Returns the only target, which stands at `code`.
+    /// Returns the only target, which must be stored at `code`.
     pub fn into_only(self, code: u8) -> Option<T>
     where
         T: Drop,
@@ -101,8 +103,8 @@ impl<T> Stride<T> {
         }
     }
 
-    /// Returns the target of the longest beginning of `byte` that has one, among those of at most `most` bits, and how many
-    /// bits it has.
+    /// Returns the target of the longest beginning of `byte` that has one, among those of at most `most` bits, and its
+    /// number of bits.
     pub fn longest(&self, byte: u8, most: usize) -> Option<(usize, &T)>
         requires { most < 8 }
         ensures { IsLongestIn self.now byte most (option_map (λ p. (p.0, p.1.now)) result) }

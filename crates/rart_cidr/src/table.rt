@@ -1,4 +1,4 @@
-//! The table over octets and a number of bits, on which the typed tables stand.
+//! The table of routes by octets and a number of bits.
 ghost use Rattle.std.specs.Prelude.{◌≡◌, ◌≢◌, ◌≤◌, ◌↔◌, ◌*◌, ◌/◌, [], ◌∷◌, length, take, slice_index, IsTrue, None};
 ghost use Rattle.std.specs.Option.{option_copied};
 ghost use Rattle.rart_keys.specs.KeyBytes.{IsWithin};
@@ -36,7 +36,8 @@ impl<K: KeyTrait, T> Model for BitTable<K, T> {
 
     ghost view = { λ t. routes_of t.strides.pairs };
 
-    ghost invariant = { λ t. AreStrides t.strides.pairs × (t.len ≡ length (routes_of t.strides.pairs)) × (t.len ≤ MAX_PAIRS) };
+    ghost invariant = { λ t. AreStrides t.strides.pairs × (t.len ≡ length (routes_of t.strides.pairs))
+        × (t.len ≤ MAX_PAIRS) };
 }
 
 // The octet at `at`, or 0 after the last.
@@ -103,8 +104,9 @@ impl<K: KeyTrait, T> BitTable<K, T> {
     ///
     /// # Errors
     ///
-    /// [`TreeError::Full`] if the network is new and the table holds as many routes as a table can, [`TreeError::Memory`]
-    /// if it is new and an allocation fails. The table is then unchanged, and the error holds `target`.
+    /// [`TreeError::Full`] if the network is new and the table holds as many routes as a table can,
+    /// [`TreeError::Memory`] if it is new and an allocation fails. The table is then unchanged, and the error holds
+    /// `target`.
     pub fn insert(&mut self, octets: &[u8], bits: usize, target: T) -> Result<Option<T>, Refused<T>>
     where
         K: Drop,
@@ -132,7 +134,7 @@ impl<K: KeyTrait, T> BitTable<K, T> {
         }
     }
 
-    // Whether the table takes no route from this network: it is new, and there are as many routes as a table can hold.
+    // Returns whether the network is new and the table holds as many routes as a table can.
     fn is_full_for(&self, octets: &[u8], bits: usize) -> bool
         requires { bits ≤ 8 * length octets.now }
         ensures { IsTrue result ↔ ((length self.now ≡ MAX_PAIRS) × (lookup (network octets.now bits) self.now ≡ None)) }
@@ -144,7 +146,8 @@ impl<K: KeyTrait, T> BitTable<K, T> {
     ///
     /// # Errors
     ///
-    /// [`TreeError::Memory`] if the route is stored and its removal must allocate. The table is then unchanged.
+    /// [`TreeError::Memory`] if the route is stored, its removal must allocate, and the allocation fails. The table
+    /// is then unchanged.
     pub fn remove(&mut self, octets: &[u8], bits: usize) -> Result<Option<T>, TreeError>
     where
         K: Drop,
@@ -167,7 +170,7 @@ impl<K: KeyTrait, T> BitTable<K, T> {
     }
 }
 
-// Puts a target into the stride at `key`, which is created where none is stored.
+// Inserts a target into the stride at `key`, which is created if it isn't stored.
 fn put_target<K: KeyTrait, T: Drop>(
     strides: &mut AdaptiveRadixTree<K, Stride<T>>,
     alloc: Global,
@@ -184,7 +187,7 @@ fn put_target<K: KeyTrait, T: Drop>(
     }
 }
 
-// Puts a target into a stride that is stored.
+// Inserts a target into a stored stride.
 fn put_in<K: KeyTrait, T>(
     strides: &mut AdaptiveRadixTree<K, Stride<T>>,
     key: &K,
@@ -200,8 +203,7 @@ fn put_in<K: KeyTrait, T>(
     }
 }
 
-// Puts in a stride with one target where none is stored. The stride is complete before it is put in, so a refusal changes
-// nothing.
+// Inserts a stride with one target. The stride is complete before its insertion, so a failure changes nothing.
 fn put_new<K: KeyTrait, T: Drop>(
     strides: &mut AdaptiveRadixTree<K, Stride<T>>,
     alloc: Global,
@@ -229,7 +231,7 @@ fn put_new<K: KeyTrait, T: Drop>(
     }
 }
 
-// Takes a target out of its stride, and the stride out where this was its only target.
+// Removes a target from its stride, and the stride if this was its only target.
 fn take_target<K: KeyTrait, T: Drop>(
     strides: &mut AdaptiveRadixTree<K, Stride<T>>,
     key: &K,
@@ -252,7 +254,7 @@ fn take_target<K: KeyTrait, T: Drop>(
     }
 }
 
-// Takes a stride out, and answers its only target.
+// Removes a stride and returns its only target.
 fn take_stride<K: KeyTrait, T: Drop>(
     strides: &mut AdaptiveRadixTree<K, Stride<T>>,
     key: &K,
@@ -269,7 +271,7 @@ fn take_stride<K: KeyTrait, T: Drop>(
     }
 }
 
-// Takes a target out of a stride that has others.
+// Removes a target from a stride that has others.
 fn take_from<K: KeyTrait, T>(
     strides: &mut AdaptiveRadixTree<K, Stride<T>>,
     key: &K,

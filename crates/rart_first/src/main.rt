@@ -1,24 +1,18 @@
-//! The first program of the README: three words, and the longest of them that a text begins with.
+//! The first program of the README: it stores three words and looks up the longest that begins a text.
 #![tactic(auto)]
 
-use rart::{AdaptiveRadixTree, ArrayKey, KeyTrait, TreeError};
+use rart::{AdaptiveRadixTree, ArrayKey, Error, KeyTrait};
 use std::alloc::Global;
 use std::io;
 
 /// Words of at most 16 bytes, numbered.
 type Words = AdaptiveRadixTree<ArrayKey<16>, u64>;
 
-fn three_words(alloc: Global) -> Result<Words, TreeError> {
+fn three_words(alloc: Global) -> Result<Words, Error> {
     let mut words = Words::new(alloc);
-    words
-        .insert_k(&ArrayKey::new_from_slice(b"cat"), 1)
-        .map_err(|refused| refused.error)?;
-    words
-        .insert_k(&ArrayKey::new_from_slice(b"catalog"), 2)
-        .map_err(|refused| refused.error)?;
-    words
-        .insert_k(&ArrayKey::new_from_slice(b"dog"), 3)
-        .map_err(|refused| refused.error)?;
+    words.insert_k(&ArrayKey::new_from_slice(b"cat"), 1)?;
+    words.insert_k(&ArrayKey::new_from_slice(b"catalog"), 2)?;
+    words.insert_k(&ArrayKey::new_from_slice(b"dog"), 3)?;
     Ok(words)
 }
 

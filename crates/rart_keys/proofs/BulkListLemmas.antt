@@ -1,13 +1,15 @@
 -- Lists that a bulk load reads: their first fault, and the pairs of which the last stay.
-use Rattle.std.proofs.Common.{◌≡◌, ℕ, ◌+◌, ◌-◌, ◌<◌, ⊎_elim, zero, suc, true, false, List, [], ◌∷◌, ◌++◌, length, reverse, get_or, refl, sym, ap, ◌∙◌, arith, Option, Some, None, if◌then◌else◌, Equal}
+use Rattle.std.proofs.Common.{◌≡◌, ℕ, ◌+◌, ◌-◌, ◌<◌, ⊎_elim, zero, suc, true, false, List, [], ◌∷◌, ◌++◌, length}
+use Rattle.std.proofs.Common.{reverse, get_or, refl, sym, ap, ◌∙◌, arith, Option, Some, None, if◌then◌else◌, Equal}
 use Rattle.std.specs.Ordering.{nat_cmp}
 use Rattle.std.specs.Option.{option_or}
 use Rattle.std.specs.Cmp.Lexicographic.{slice_cmp}
 use Rattle.std.proofs.lemmas.Grind.{reverse_onto}
-use Rattle.rart_keys.specs.ByteStrings.{bytes_eq, IsBelow}
+use Rattle.rart_keys.specs.ByteStrings.{bytes_eq, IsLess}
 use Rattle.rart_keys.specs.SortedMap.{AreAbove, IsAscending, keys_of, lookup}
 use Rattle.rart_keys.specs.BulkLists.{IsFaultAt, first_fault_behind, first_fault, last_wins_from, last_wins}
-use Rattle.rart_keys.proofs.ByteOrder.{below-trans, below-not_eq, bytes_eq-itself, bytes_eq-equal, compare, below-greater, cmp-itself}
+use Rattle.rart_keys.proofs.ByteOrder.{below-trans, below-not_eq, bytes_eq-itself, bytes_eq-equal, compare}
+use Rattle.rart_keys.proofs.ByteOrder.{below-greater, cmp-itself}
 use Rattle.rart_keys.proofs.SortedMaps.{lookup-above}
 
 pub cmp-equal : (k l : List ℕ) → k ≡ l → slice_cmp nat_cmp l k ≡ Equal
@@ -16,7 +18,7 @@ cmp-equal k l q = ap (λ z. slice_cmp nat_cmp l z) q ∙ cmp-itself l
 pub bytes_eq-of : (k l : List ℕ) → k ≡ l → bytes_eq k l ≡ true
 bytes_eq-of k l q = ap (λ z. bytes_eq z l) q ∙ bytes_eq-itself l
 
-pub below-not_below : (k l : List ℕ) → IsBelow k l → IsBelow l k → ⊥
+pub below-not_below : (k l : List ℕ) → IsLess k l → IsLess l k → ⊥
 below-not_below k l b c = let g = below-greater k l b in cc
 
 or_none : {A : Type 0} (o : Option A) → option_or o None ≡ o
@@ -24,24 +26,33 @@ or_none None = refl
 or_none (Some a) = refl
 
 module _ {V : Type 0} where
-  -- with no fault, the key behind k isn't below it
-  pub faultless-behind : (n : ℕ) (k : List ℕ) (e : List ℕ × V) (es : List (List ℕ × V)) → first_fault_behind n k (e ∷ es) ≡ None → (IsBelow e.0 k → ⊥) × (first_fault_behind (suc n) e.0 es ≡ None)
+  -- with no fault, the key after k isn't below it
+  pub faultless-behind : (n : ℕ) (k : List ℕ) (e : List ℕ × V) (es : List (List ℕ × V))
+      → first_fault_behind n k (e ∷ es) ≡ None → (IsLess e.0 k → ⊥) × (first_fault_behind (suc n) e.0 es ≡ None)
   faultless-behind n k e es h = ⊎_elim
       (λ s. (λ b. below-not_below k e.0 s b, rw (below-greater k e.0 s) at h))
       (⊎_elim (λ q. (λ b. let g = cmp-equal k e.0 q in cc, rw (cmp-equal k e.0 q) at h))
       (λ s. let g = rw s at h in absurd (cc))) (compare k e.0)
 
-  above-last : (n : ℕ) (k : List ℕ) (e : List ℕ × V) (es : List (List ℕ × V)) → IsBelow k e.0 → first_fault_behind n e.0 es ≡ None → AreAbove k (last_wins_from e es)
+  above-last : (n : ℕ) (k : List ℕ) (e : List ℕ × V) (es : List (List ℕ × V)) → IsLess k e.0
+      → first_fault_behind n e.0 es ≡ None → AreAbove k (last_wins_from e es)
   above-last n k e [] b h = (b, tt)
   above-last n k e (f ∷ es) b h = ⊎_elim
-      (λ s. rw (below-not_eq e.0 f.0 s) (b, above-last (suc n) k f es (below-trans k e.0 f.0 b s) (rw (below-greater e.0 f.0 s) at h)))
-      (⊎_elim (λ q. let g = rw (cmp-equal e.0 f.0 q) at h in rw (bytes_eq-of e.0 f.0 q) (above-last (suc n) k f es (rw q at b) g))
+      (λ s. rw (below-not_eq e.0 f.0 s) (
+        b,
+        above-last (suc n) k f es (below-trans k e.0 f.0 b s)
+            (rw (below-greater e.0 f.0 s) at h),
+      ))
+      (⊎_elim (λ q. let g = rw (cmp-equal e.0 f.0 q) at h in
+      rw (bytes_eq-of e.0 f.0 q) (above-last (suc n) k f es (rw q at b) g))
       (λ s. let g = rw s at h in cc)) (compare e.0 f.0)
 
-  last-ascends : (n : ℕ) (e : List ℕ × V) (es : List (List ℕ × V)) → first_fault_behind n e.0 es ≡ None → IsAscending (last_wins_from e es)
+  last-ascends : (n : ℕ) (e : List ℕ × V) (es : List (List ℕ × V)) → first_fault_behind n e.0 es ≡ None
+      → IsAscending (last_wins_from e es)
   last-ascends n e [] h = (tt, tt)
   last-ascends n e (f ∷ es) h = ⊎_elim
-      (λ s. let g = rw (below-greater e.0 f.0 s) at h in rw (below-not_eq e.0 f.0 s) (above-last (suc n) e.0 f es s g, last-ascends (suc n) f es g))
+      (λ s. let g = rw (below-greater e.0 f.0 s) at h in
+      rw (below-not_eq e.0 f.0 s) (above-last (suc n) e.0 f es s g, last-ascends (suc n) f es g))
       (⊎_elim (λ q. let g = rw (cmp-equal e.0 f.0 q) at h in rw (bytes_eq-of e.0 f.0 q) (last-ascends (suc n) f es g))
       (λ s. let g = rw s at h in cc)) (compare e.0 f.0)
 
@@ -52,41 +63,52 @@ module _ {V : Type 0} where
   -- the value that stands last at a key
   lookup-append : (k : List ℕ) (xs ys : List (List ℕ × V)) → lookup k (xs ++ ys) ≡ option_or (lookup k xs) (lookup k ys)
   lookup-append k [] ys = refl
-  lookup-append k (x ∷ xs) ys = elim (bytes_eq x.0 k) as (λ b. (if b then Some x.1 else lookup k (xs ++ ys)) ≡ option_or (if b then Some x.1 else lookup k xs) (lookup k ys)) [
-    | true ↦ refl
-    | false ↦ lookup-append k xs ys
-  ]
+  lookup-append k (x ∷ xs) ys = elim (bytes_eq x.0 k) as (λ b. (if b then Some x.1 else lookup k (xs ++ ys))
+      ≡ option_or (if b then Some x.1 else lookup k xs) (lookup k ys)) [
+        | true ↦ refl
+        | false ↦ lookup-append k xs ys
+      ]
 
-  lookup-reverse : (k : List ℕ) (e : List ℕ × V) (es : List (List ℕ × V)) → lookup k (reverse (e ∷ es)) ≡ option_or (lookup k (reverse es)) (if bytes_eq e.0 k then Some e.1 else None)
+  lookup-reverse : (k : List ℕ) (e : List ℕ × V) (es : List (List ℕ × V))
+      → lookup k (reverse (e ∷ es)) ≡ option_or (lookup k (reverse es)) (if bytes_eq e.0 k then Some e.1 else None)
   lookup-reverse k e es = ap (lookup k) (reverse_onto es e []) ∙ lookup-append k (reverse es) (e ∷ [])
 
-  -- an equal key behind it hides a pair
+  -- an equal key after it hides a pair
   hidden : (x : Option V) (v : V) (o : Option V) → option_or (option_or x (Some v)) o ≡ option_or x (Some v)
   hidden None v o = refl
   hidden (Some w) v o = refl
 
-  lookup-last : (n : ℕ) (k : List ℕ) (e : List ℕ × V) (es : List (List ℕ × V)) → first_fault_behind n e.0 es ≡ None → lookup k (last_wins_from e es) ≡ lookup k (reverse (e ∷ es))
+  lookup-last : (n : ℕ) (k : List ℕ) (e : List ℕ × V) (es : List (List ℕ × V)) → first_fault_behind n e.0 es ≡ None
+      → lookup k (last_wins_from e es) ≡ lookup k (reverse (e ∷ es))
   lookup-last n k e [] h = refl
   lookup-last n k e (f ∷ es) h = ⊎_elim
       (λ s. let g = rw (below-greater e.0 f.0 s) at h in rw (below-not_eq e.0 f.0 s, lookup-reverse k e (f ∷ es))
-      (elim (bytes_eq e.0 k) as (λ b. bytes_eq e.0 k ≡ b → (if b then Some e.1 else lookup k (last_wins_from f es)) ≡ option_or (lookup k (reverse (f ∷ es))) (if b then Some e.1 else None)) [
-        | true ↦ λ m. let a : lookup k (reverse (f ∷ es)) ≡ None = sym (lookup-last (suc n) k f es g) ∙ ap (λ z. lookup z (last_wins_from f es)) (sym (bytes_eq-equal e.0 k m)) ∙ lookup-above e.0 (last_wins_from f es) (above-last (suc n) e.0 f es s g) in
+      (elim (bytes_eq e.0 k) as (λ b. bytes_eq e.0 k ≡ b → (if b then Some e.1 else lookup k (last_wins_from f es))
+      ≡ option_or (lookup k (reverse (f ∷ es))) (if b then Some e.1 else None)) [
+        | true ↦ λ m. let a : lookup k (reverse (f ∷ es)) ≡ None = sym (lookup-last (suc n) k f es g)
+            ∙ ap (λ z. lookup z (last_wins_from f es)) (sym (bytes_eq-equal e.0 k m))
+            ∙ lookup-above e.0 (last_wins_from f es) (above-last (suc n) e.0 f es s g) in
             sym (ap (λ z. option_or z (Some e.1)) a)
         | false ↦ λ m. lookup-last (suc n) k f es g ∙ sym (or_none (lookup k (reverse (f ∷ es))))
       ] refl))
-      (⊎_elim (λ q. let g = rw (cmp-equal e.0 f.0 q) at h in rw (bytes_eq-of e.0 f.0 q, lookup-reverse k e (f ∷ es)) (lookup-last (suc n) k f es g ∙
-      rw (lookup-reverse k f es, q) (elim (bytes_eq f.0 k) as (λ b. option_or (lookup k (reverse es)) (if b then Some f.1 else None) ≡ option_or (option_or (lookup k (reverse es)) (if b then Some f.1 else None)) (if b then Some e.1 else None)) [
+      (⊎_elim (λ q. let g = rw (cmp-equal e.0 f.0 q) at h in
+      rw (bytes_eq-of e.0 f.0 q, lookup-reverse k e (f ∷ es)) (lookup-last (suc n) k f es g ∙
+      rw (lookup-reverse k f es, q) (elim (bytes_eq f.0 k)
+      as (λ b. option_or (lookup k (reverse es)) (if b then Some f.1 else None)
+      ≡ option_or (option_or (lookup k (reverse es)) (if b then Some f.1 else None)) (if b then Some e.1 else None)) [
         | true ↦ sym (hidden (lookup k (reverse es)) f.1 (Some e.1))
         | false ↦ sym (or_none (option_or (lookup k (reverse es)) None))
       ])))
       (λ s. let g = rw s at h in cc)) (compare e.0 f.0)
 
-  pub lookup-last_wins : (k : List ℕ) (es : List (List ℕ × V)) → first_fault es ≡ None → lookup k (last_wins es) ≡ lookup k (reverse es)
+  pub lookup-last_wins : (k : List ℕ) (es : List (List ℕ × V)) → first_fault es ≡ None
+      → lookup k (last_wins es) ≡ lookup k (reverse es)
   lookup-last_wins k [] h = refl
   lookup-last_wins k (e ∷ es) h = lookup-last 1 k e es h
 
   -- strictly ascending pairs
-  strict-behind : (n : ℕ) (e : List ℕ × V) (es : List (List ℕ × V)) → IsAscending (e ∷ es) → (first_fault_behind n e.0 es ≡ None) × (last_wins_from e es ≡ e ∷ es)
+  strict-behind : (n : ℕ) (e : List ℕ × V) (es : List (List ℕ × V)) → IsAscending (e ∷ es)
+      → (first_fault_behind n e.0 es ≡ None) × (last_wins_from e es ≡ e ∷ es)
   strict-behind n e [] h = (refl, refl)
   strict-behind n e (f ∷ es) h = let r = strict-behind (suc n) f es h.1 in
       (rw (below-greater e.0 f.0 h.0.0) r.0, rw (below-not_eq e.0 f.0 h.0.0) (ap (λ z. e ∷ z) r.1))
@@ -99,32 +121,46 @@ module _ {V : Type 0} where
   strict-stays [] h = refl
   strict-stays (e ∷ es) h = (strict-behind 1 e es h).1
 
-  -- the place behind k, of which the list goes on with es
+  -- the place after k, of which the list continues with es
   abbrev FaultBehind : List ℕ → List (List ℕ × V) → ℕ → Type 0
-  FaultBehind k es i = (i < length es) × IsBelow (get_or (keys_of es) i []) (get_or (k ∷ keys_of es) i [])
+  FaultBehind k es i = (i < length es) × IsLess (get_or (keys_of es) i []) (get_or (k ∷ keys_of es) i [])
 
-  -- the first fault behind k, of a list whose places begin at n
+  -- the first fault after k, of a list whose places begin at n
   abbrev FirstBehind : ℕ → ℕ → List ℕ → List (List ℕ × V) → Type 0
   FirstBehind n i k es = (j : ℕ) × (i ≡ n + j) × FaultBehind k es j × ((m : ℕ) → m < j → FaultBehind k es m → ⊥)
 
-  none-before : (k : List ℕ) (e : List ℕ × V) (es : List (List ℕ × V)) (j : ℕ) → (IsBelow e.0 k → ⊥) → ((m : ℕ) → m < j → FaultBehind e.0 es m → ⊥) → (m : ℕ) → m < suc j → FaultBehind k (e ∷ es) m → ⊥
+  none-before : (k : List ℕ) (e : List ℕ × V) (es : List (List ℕ × V)) (j : ℕ) → (IsLess e.0 k → ⊥)
+      → ((m : ℕ) → m < j → FaultBehind e.0 es m → ⊥) → (m : ℕ) → m < suc j → FaultBehind k (e ∷ es) m → ⊥
   none-before k e es j differs r zero l f = differs f.1
   none-before k e es j differs r (suc m) l f = r m (omega arith) (omega (arith, f.0), f.1)
 
-  first-later : (n i : ℕ) (k : List ℕ) (e : List ℕ × V) (es : List (List ℕ × V)) → (IsBelow e.0 k → ⊥) → FirstBehind (suc n) i e.0 es → FirstBehind n i k (e ∷ es)
-  first-later n i k e es differs r = (suc r.0, omega (arith, r.1), (omega (arith, r.2.0), r.2.1), none-before k e es r.0 differs r.3)
+  first-later : (n i : ℕ) (k : List ℕ) (e : List ℕ × V) (es : List (List ℕ × V)) → (IsLess e.0 k → ⊥)
+      → FirstBehind (suc n) i e.0 es → FirstBehind n i k (e ∷ es)
+  first-later n i k e es differs r = (
+    suc r.0,
+    omega (arith, r.1),
+    (omega (arith, r.2.0), r.2.1),
+    none-before k e es r.0
+        differs r.3,
+  )
 
-  found-behind : (n i : ℕ) (k : List ℕ) (es : List (List ℕ × V)) → first_fault_behind n k es ≡ Some i → FirstBehind n i k es
+  found-behind : (n i : ℕ) (k : List ℕ) (es : List (List ℕ × V)) → first_fault_behind n k es ≡ Some i
+      → FirstBehind n i k es
   found-behind n i k [] h = absurd (cc)
   found-behind n i k (e ∷ es) h = ⊎_elim
-      (λ s. let g = rw (below-greater k e.0 s) at h in first-later n i k e es (λ b. below-not_below k e.0 s b) (found-behind (suc n) i e.0 es g))
-      (⊎_elim (λ q. let g = rw (cmp-equal k e.0 q) at h in first-later n i k e es (λ b. let f = cmp-equal k e.0 q in cc) (found-behind (suc n) i e.0 es g))
-      (λ s. let g = rw s at h in let f : n ≡ i = cc in (0, omega (arith, f), (omega arith, s), λ m l. absurd (omega arith)))) (compare k e.0)
+      (λ s. let g = rw (below-greater k e.0 s) at h in
+      first-later n i k e es (λ b. below-not_below k e.0 s b) (found-behind (suc n) i e.0 es g))
+      (⊎_elim (λ q. let g = rw (cmp-equal k e.0 q) at h in
+      first-later n i k e es (λ b. let f = cmp-equal k e.0 q in cc) (found-behind (suc n) i e.0 es g))
+      (λ s. let g = rw s at h in let f : n ≡ i = cc in
+      (0, omega (arith, f), (omega arith, s), λ m l. absurd (omega arith)))) (compare k e.0)
 
-  none-behind : (n : ℕ) (k : List ℕ) (es : List (List ℕ × V)) → first_fault_behind n k es ≡ None → (m : ℕ) → FaultBehind k es m → ⊥
+  none-behind : (n : ℕ) (k : List ℕ) (es : List (List ℕ × V)) → first_fault_behind n k es ≡ None → (m : ℕ)
+      → FaultBehind k es m → ⊥
   none-behind n k [] h m f = absurd (omega (arith, f.0))
   none-behind n k (e ∷ es) h zero f = (faultless-behind n k e es h).0 f.1
-  none-behind n k (e ∷ es) h (suc m) f = none-behind (suc n) e.0 es (faultless-behind n k e es h).1 m (omega (arith, f.0), f.1)
+  none-behind n k (e ∷ es) h (suc m) f = none-behind (suc n) e.0 es (faultless-behind n k e es h).1 m
+      (omega (arith, f.0), f.1)
 
   to-behind : (e : List ℕ × V) (es : List (List ℕ × V)) (i : ℕ) → IsFaultAt (e ∷ es) (suc i) → FaultBehind e.0 es i
   to-behind e es i h = let s : suc i - 1 ≡ i = omega arith in (omega (arith, h.1), rw s at h.2)
@@ -134,12 +170,14 @@ module _ {V : Type 0} where
 
   pub fault-there : (es : List (List ℕ × V)) (i : ℕ) → first_fault es ≡ Some i → IsFaultAt es i
   fault-there [] i h = absurd (cc)
-  fault-there (e ∷ es) i h = let r = found-behind 1 i e.0 es h in let s : i ≡ suc r.0 = omega (arith, r.1) in rw s (from-behind e es r.0 r.2)
+  fault-there (e ∷ es) i h = let r = found-behind 1 i e.0 es h in let s : i ≡ suc r.0 = omega (arith, r.1) in
+      rw s (from-behind e es r.0 r.2)
 
   pub fault-first : (es : List (List ℕ × V)) (i j : ℕ) → first_fault es ≡ Some i → j < i → IsFaultAt es j → ⊥
   fault-first [] i j h l f = absurd (cc)
   fault-first (e ∷ es) i zero h l f = absurd (omega (arith, f.0))
-  fault-first (e ∷ es) i (suc j) h l f = let r = found-behind 1 i e.0 es h in r.3 j (omega (arith, r.1, l)) (to-behind e es j f)
+  fault-first (e ∷ es) i (suc j) h l f = let r = found-behind 1 i e.0 es h in
+      r.3 j (omega (arith, r.1, l)) (to-behind e es j f)
 
   pub fault-none : (es : List (List ℕ × V)) (j : ℕ) → first_fault es ≡ None → IsFaultAt es j → ⊥
   fault-none [] j h f = absurd (omega (arith, f.1))

@@ -1,11 +1,12 @@
 -- The order of byte strings.
-use Rattle.std.proofs.Common.{◌≡◌, ℕ, ◌<◌, ◌==◌, ◌⊎◌, inl, inr, ⊎_elim, zero, suc, List, [], ◌∷◌, ◌++◌, true, false, refl, sym, ap, arith, Less, Equal, Greater}
+use Rattle.std.proofs.Common.{◌≡◌, ℕ, ◌<◌, ◌==◌, ◌⊎◌, inl, inr, ⊎_elim, zero, suc, List, [], ◌∷◌, ◌++◌, true, false}
+use Rattle.std.proofs.Common.{refl, sym, ap, arith, Less, Equal, Greater}
 use Rattle.std.specs.Ordering.{nat_cmp, ordering_then}
 use Rattle.std.specs.Cmp.{nat_cmp_is}
 use Rattle.std.specs.Cmp.Lexicographic.{slice_cmp}
 use Rattle.std.proofs.lemmas.Cmp.{nat_list_cmp_total, tied_itself}
 use Rattle.std.proofs.lemmas.Bool.Decides.{nat_tests}
-use Rattle.rart_keys.specs.ByteStrings.{bytes_eq, IsBelow}
+use Rattle.rart_keys.specs.ByteStrings.{bytes_eq, IsLess}
 
 pub is_less : (b c : ℕ) → b < c → nat_cmp b c ≡ Less
 is_less b c h = sym (nat_cmp_is b c Less h)
@@ -26,15 +27,16 @@ pub order : (b c : ℕ) → (b < c) ⊎ ((b ≡ c) ⊎ (c < b))
 order zero zero = inr (inl refl)
 order zero (suc c) = inl (omega arith)
 order (suc b) zero = inr (inr (omega arith))
-order (suc b) (suc c) = ⊎_elim (λ h. inl (omega arith)) (⊎_elim (λ h. inr (inl (ap suc h))) (λ h. inr (inr (omega arith)))) (order b c)
+order (suc b) (suc c) = ⊎_elim (λ h. inl (omega arith))
+    (⊎_elim (λ h. inr (inl (ap suc h))) (λ h. inr (inr (omega arith)))) (order b c)
 
 pub equal_or_not : (b c : ℕ) → (b ≡ c) ⊎ (b ≡ c → ⊥)
 equal_or_not b c = ⊎_elim (λ h. inr (λ e. omega arith)) (⊎_elim (λ h. inl h) (λ h. inr (λ e. omega arith))) (order b c)
 
-pub below-trans : (k l m : List ℕ) → IsBelow k l → IsBelow l m → IsBelow k m
+pub below-trans : (k l m : List ℕ) → IsLess k l → IsLess l m → IsLess k m
 below-trans k l m g h = nat_list_cmp_total.trans k l m g h
 
-pub below-not_eq : (k l : List ℕ) → IsBelow k l → bytes_eq k l ≡ false
+pub below-not_eq : (k l : List ℕ) → IsLess k l → bytes_eq k l ≡ false
 below-not_eq [] [] h = cc
 below-not_eq [] (y ∷ l) h = refl
 below-not_eq (x ∷ k) [] h = refl
@@ -62,27 +64,29 @@ bytes_eq-equal (x ∷ k) (y ∷ l) h = ⊎_elim
     (λ e. let t = bytes_eq-equal k l (rw (eq-yes x y e) at h) in cc)
     (λ n. let f = rw (eq-no x y n) at h in cc) (equal_or_not x y)
 
-pub compare : (k l : List ℕ) → (IsBelow k l) ⊎ ((k ≡ l) ⊎ (IsBelow l k))
+pub compare : (k l : List ℕ) → (IsLess k l) ⊎ ((k ≡ l) ⊎ (IsLess l k))
 compare [] [] = inr (inl refl)
 compare [] (y ∷ l) = inl refl
 compare (x ∷ k) [] = inr (inr refl)
 compare (x ∷ k) (y ∷ l) = ⊎_elim
     (λ h. inl (rw (is_less x y h) refl))
-    (⊎_elim (λ e. ⊎_elim (λ h. inl (rw (is_equal x y e) h)) (⊎_elim (λ h. inr (inl cc)) (λ h. inr (inr (rw (is_equal y x (sym e)) h)))) (compare k l))
+    (⊎_elim (λ e. ⊎_elim (λ h. inl (rw (is_equal x y e) h))
+    (⊎_elim (λ h. inr (inl cc)) (λ h. inr (inr (rw (is_equal y x (sym e)) h)))) (compare k l))
     (λ h. inr (inr (rw (is_less y x h) refl)))) (order x y)
 
-pub below-with_prefix : (p k l : List ℕ) → IsBelow k l → IsBelow (p ++ k) (p ++ l)
+pub below-with_prefix : (p k l : List ℕ) → IsLess k l → IsLess (p ++ k) (p ++ l)
 below-with_prefix [] k l h = h
 below-with_prefix (x ∷ p) k l h = rw (is_equal x x refl) (below-with_prefix p k l h)
 
-pub below-greater : (k l : List ℕ) → IsBelow k l → slice_cmp nat_cmp l k ≡ Greater
+pub below-greater : (k l : List ℕ) → IsLess k l → slice_cmp nat_cmp l k ≡ Greater
 below-greater k l h = rw (nat_list_cmp_total.antisymm l k, h) refl
 
 pub cmp-itself : (k : List ℕ) → slice_cmp nat_cmp k k ≡ Equal
 cmp-itself k = tied_itself nat_list_cmp_total k
 
 pub bytes_eq-differ : (k l : List ℕ) → (k ≡ l → ⊥) → bytes_eq k l ≡ false
-bytes_eq-differ k l n = elim (bytes_eq k l) as (λ b. bytes_eq k l ≡ b → b ≡ false) [ true ↦ λ e. absurd (n (bytes_eq-equal k l e)) | false ↦ λ e. refl ] refl
+bytes_eq-differ k l n = elim (bytes_eq k l) as (λ b. bytes_eq k l ≡ b → b ≡ false)
+    [ true ↦ λ e. absurd (n (bytes_eq-equal k l e)) | false ↦ λ e. refl ] refl
 
 -- a zero byte at the end of both changes nothing, also where they have zero bytes of their own
 pub slice_cmp-closed : (xs ys : List ℕ) → slice_cmp nat_cmp (xs ++ 0 ∷ []) (ys ++ 0 ∷ []) ≡ slice_cmp nat_cmp xs ys

@@ -1,12 +1,13 @@
 -- Rows of the definitions, worked out by hand.
-use Rattle.std.proofs.Common.{◌≡◌, ◌<◌, ℕ, List, true, false, Some, None, [], ◌∷◌, map, take, codes, refl, arith, pos, negsuc, w8, w16, w32, w64}
+use Rattle.std.proofs.Common.{◌≡◌, ◌<◌, ℕ, List, true, false, Some, None, [], ◌∷◌, map, take, codes, refl, arith, pos}
+use Rattle.std.proofs.Common.{negsuc, w8, w16, w32, w64}
 use Rattle.std.specs.Int.{to_be_bytes, w128}
 use Rattle.rart_keys.specs.KeyBytes.{IsWithin, AreBytes}
 use Rattle.rart_keys.specs.CommonPrefix.{IsCommonPrefixLength}
 use Rattle.rart_keys.specs.LittleEndianWord.{little_endian_number}
 use Rattle.rart_keys.specs.NumberBytes.{sign_flipped, big_endian_number}
 use Rattle.rart_keys.proofs.CommonPrefixes.{greatest_from_value}
-use Rattle.rart_keys.specs.ByteStrings.{IsBelow, begins, byte_after, strip_prefix}
+use Rattle.rart_keys.specs.ByteStrings.{IsLess, begins, byte_after, strip_prefix}
 use Rattle.std.specs.declared.ops.Bound.TheVariants.{Included, Excluded, Unbounded}
 use Rattle.rart_keys.specs.Filters.{below, matches, longest_match}
 use Rattle.rart_keys.specs.Ranges.{between}
@@ -46,16 +47,18 @@ nothing : IsCommonPrefixLength [] (codes "a") 0
 nothing = greatest_from_value _ _ 0 refl
 
 -- a proper beginning is below its extension; the first place that differs decides
-beginning_below : IsBelow (97 ∷ []) (97 ∷ 98 ∷ [])
+beginning_below : IsLess (97 ∷ []) (97 ∷ 98 ∷ [])
 beginning_below = refl
 
-first_difference_decides : IsBelow (97 ∷ 98 ∷ 99 ∷ []) (97 ∷ 99 ∷ [])
+first_difference_decides : IsLess (97 ∷ 98 ∷ 99 ∷ []) (97 ∷ 99 ∷ [])
 first_difference_decides = refl
 
-nothing_begins_all : (begins [] (97 ∷ []) ∷ begins (97 ∷ []) (97 ∷ []) ∷ begins (97 ∷ 98 ∷ []) (97 ∷ []) ∷ begins (98 ∷ []) (97 ∷ 98 ∷ []) ∷ []) ≡ true ∷ true ∷ false ∷ false ∷ []
+nothing_begins_all : (begins [] (97 ∷ []) ∷ begins (97 ∷ []) (97 ∷ []) ∷ begins (97 ∷ 98 ∷ []) (97 ∷ [])
+    ∷ begins (98 ∷ []) (97 ∷ 98 ∷ []) ∷ []) ≡ true ∷ true ∷ false ∷ false ∷ []
 nothing_begins_all = refl
 
-rest_and_next_byte : (strip_prefix (97 ∷ []) (97 ∷ 98 ∷ []) ≡ Some (98 ∷ [])) × (byte_after (97 ∷ []) (97 ∷ 98 ∷ []) ≡ Some 98) × (byte_after (97 ∷ []) (97 ∷ []) ≡ None)
+rest_and_next_byte : (strip_prefix (97 ∷ []) (97 ∷ 98 ∷ []) ≡ Some (98 ∷ []))
+    × (byte_after (97 ∷ []) (97 ∷ 98 ∷ []) ≡ Some 98) × (byte_after (97 ∷ []) (97 ∷ []) ≡ None)
 rest_and_next_byte = (refl, refl, refl)
 
 -- "cat" 1, "catalog" 2, then "cab" 3, "cat" 5 and no "catalog": in order, each key once
@@ -81,16 +84,20 @@ looked_up : (lookup cat stored ≡ Some 5) × (lookup catalog stored ≡ None)
 looked_up = (refl, refl)
 
 -- a number's highest byte comes first
-bytes_of_numbers : (to_be_bytes w32 42 ≡ 0 ∷ 0 ∷ 0 ∷ 42 ∷ []) × (to_be_bytes w16 258 ≡ 1 ∷ 2 ∷ []) × (to_be_bytes w8 255 ≡ 255 ∷ [])
+bytes_of_numbers : (to_be_bytes w32 42 ≡ 0 ∷ 0 ∷ 0 ∷ 42 ∷ []) × (to_be_bytes w16 258 ≡ 1 ∷ 2 ∷ [])
+    × (to_be_bytes w8 255 ≡ 255 ∷ [])
 bytes_of_numbers = (refl, refl, refl)
 
 -- -128, -1, 0 and 127 in order, and -1 in two bytes
 bytes_of_signed_numbers : (map (λ n. to_be_bytes w8 (sign_flipped w8 n)) (negsuc 127 ∷ negsuc 0 ∷ pos 0 ∷ pos 127 ∷ [])
-    ≡ (0 ∷ []) ∷ (127 ∷ []) ∷ (128 ∷ []) ∷ (255 ∷ []) ∷ []) × (to_be_bytes w16 (sign_flipped w16 (negsuc 0)) ≡ 127 ∷ 255 ∷ [])
+    ≡ (0 ∷ []) ∷ (127 ∷ []) ∷ (128 ∷ []) ∷ (255 ∷ []) ∷ [])
+    × (to_be_bytes w16 (sign_flipped w16 (negsuc 0)) ≡ 127 ∷ 255 ∷ [])
 bytes_of_signed_numbers = (refl, refl)
 
 -- "ab" is 97 times 256 and 98; of the bytes of a 1 in sixteen the first eight are zeros
-numbers_of_bytes : (big_endian_number (codes "ab") ≡ 24930) × (big_endian_number [] ≡ 0) × (big_endian_number (take 8 (to_be_bytes w128 1)) ≡ 0) × (big_endian_number (to_be_bytes w64 123213123123123) ≡ 123213123123123)
+numbers_of_bytes : (big_endian_number (codes "ab") ≡ 24930) × (big_endian_number [] ≡ 0)
+    × (big_endian_number (take 8 (to_be_bytes w128 1)) ≡ 0)
+    × (big_endian_number (to_be_bytes w64 123213123123123) ≡ 123213123123123)
 numbers_of_bytes = (refl, refl, refl, refl)
 
 -- "" 0, "a" 1, "ab" 2, "b" 3
@@ -98,19 +105,25 @@ abbrev nested : List (List ℕ × ℕ)
 nested = ([], 0) ∷ (97 ∷ [], 1) ∷ (97 ∷ 98 ∷ [], 2) ∷ (98 ∷ [], 3) ∷ []
 
 -- those that begin with "a", with nothing, with "c"
-pairs_below : (below (97 ∷ []) nested ≡ (97 ∷ [], 1) ∷ (97 ∷ 98 ∷ [], 2) ∷ []) × (below [] nested ≡ nested) × (below (99 ∷ []) nested ≡ [])
+pairs_below : (below (97 ∷ []) nested ≡ (97 ∷ [], 1) ∷ (97 ∷ 98 ∷ [], 2) ∷ []) × (below [] nested ≡ nested)
+    × (below (99 ∷ []) nested ≡ [])
 pairs_below = (refl, refl, refl)
 
 -- those whose key begins "abz", "", "c"
-pairs_matched : (matches (97 ∷ 98 ∷ 122 ∷ []) nested ≡ ([], 0) ∷ (97 ∷ [], 1) ∷ (97 ∷ 98 ∷ [], 2) ∷ []) × (matches [] nested ≡ ([], 0) ∷ []) × (matches (99 ∷ []) nested ≡ ([], 0) ∷ [])
+pairs_matched : (matches (97 ∷ 98 ∷ 122 ∷ []) nested ≡ ([], 0) ∷ (97 ∷ [], 1) ∷ (97 ∷ 98 ∷ [], 2) ∷ [])
+    × (matches [] nested ≡ ([], 0) ∷ []) × (matches (99 ∷ []) nested ≡ ([], 0) ∷ [])
 pairs_matched = (refl, refl, refl)
 
 -- the longest of them, and none where the empty key isn't stored
-longest_matched : (longest_match (97 ∷ 98 ∷ 122 ∷ []) nested ≡ Some (97 ∷ 98 ∷ [], 2)) × (longest_match (99 ∷ []) nested ≡ Some ([], 0)) × (longest_match (99 ∷ []) stored ≡ None)
+longest_matched : (longest_match (97 ∷ 98 ∷ 122 ∷ []) nested ≡ Some (97 ∷ 98 ∷ [], 2))
+    × (longest_match (99 ∷ []) nested ≡ Some ([], 0)) × (longest_match (99 ∷ []) stored ≡ None)
 longest_matched = (refl, refl, refl)
 
 -- both ends, each with its own key within and without; ends the wrong way round; no ends
-within_ends : (between (Included (97 ∷ [])) (Excluded (98 ∷ [])) nested ≡ (97 ∷ [], 1) ∷ (97 ∷ 98 ∷ [], 2) ∷ []) × (between (Excluded (97 ∷ [])) (Included (98 ∷ [])) nested ≡ (97 ∷ 98 ∷ [], 2) ∷ (98 ∷ [], 3) ∷ [])
-    × (between (Included (97 ∷ [])) (Included (97 ∷ [])) nested ≡ (97 ∷ [], 1) ∷ []) × (between (Excluded (97 ∷ [])) (Excluded (97 ∷ [])) nested ≡ [])
-    × (between (Included (98 ∷ [])) (Excluded (97 ∷ [])) nested ≡ []) × (between Unbounded Unbounded nested ≡ nested) × (between Unbounded (Excluded []) nested ≡ [])
+within_ends : (between (Included (97 ∷ [])) (Excluded (98 ∷ [])) nested ≡ (97 ∷ [], 1) ∷ (97 ∷ 98 ∷ [], 2) ∷ [])
+    × (between (Excluded (97 ∷ [])) (Included (98 ∷ [])) nested ≡ (97 ∷ 98 ∷ [], 2) ∷ (98 ∷ [], 3) ∷ [])
+    × (between (Included (97 ∷ [])) (Included (97 ∷ [])) nested ≡ (97 ∷ [], 1) ∷ [])
+    × (between (Excluded (97 ∷ [])) (Excluded (97 ∷ [])) nested ≡ [])
+    × (between (Included (98 ∷ [])) (Excluded (97 ∷ [])) nested ≡ []) × (between Unbounded Unbounded nested ≡ nested)
+    × (between Unbounded (Excluded []) nested ≡ [])
 within_ends = (refl, refl, refl, refl, refl, refl, refl)

@@ -1,5 +1,6 @@
 -- How keys with given bytes compare.
-use Rattle.std.proofs.Common.{◌≡◌, ℕ, ◌+◌, ◌^◌, ◌<◌, List, [], ◌∷◌, ◌++◌, Bool, IsTrue, ap, ap₂, ◌∙◌, refl, ℤ, Less, Equal, Greater}
+use Rattle.std.proofs.Common.{◌≡◌, ℕ, ◌+◌, ◌^◌, ◌<◌, List, [], ◌∷◌, ◌++◌, Bool, IsTrue, ap, ap₂, ◌∙◌, refl, ℤ, Less}
+use Rattle.std.proofs.Common.{Equal, Greater}
 use Rattle.std.specs.Cmp.Lexicographic.{slice_cmp, pointwise, texts_ties}
 use Rattle.std.specs.Int.{bytes_high_first, Width}
 use Rattle.std.specs.Ordering.{nat_cmp, int_cmp, is_eq}
@@ -13,9 +14,11 @@ use Rattle.rart_keys.proofs.ByteOrder.{slice_cmp-closed}
 use Rattle.rart_keys.proofs.NumberOrder.{slice_cmp-unsigned, slice_cmp-signed}
 use mir.Val.{SFits, hbits, of_z, to_z}
 
-module _ {N : ℕ} (keys : ArrayKey N × ArrayKey N × Ordering) (xs ys : List ℕ) (given : AreComparedAs keys xs ys (slice_cmp nat_cmp xs ys)) where
+module _ {N : ℕ} (keys : ArrayKey N × ArrayKey N × Ordering) (xs ys : List ℕ)
+    (given : AreComparedAs keys xs ys (slice_cmp nat_cmp xs ys)) where
   -- with the bytes and their order in other words
-  compared_as : (us vs : List ℕ) (o : Ordering) → xs ≡ us → ys ≡ vs → slice_cmp nat_cmp us vs ≡ o → AreComparedAs keys us vs o
+  compared_as : (us vs : List ℕ) (o : Ordering) → xs ≡ us → ys ≡ vs → slice_cmp nat_cmp us vs ≡ o
+      → AreComparedAs keys us vs o
   compared_as us vs o e f g = record {
     first_bytes = given.first_bytes ∙ e;
     second_bytes = given.second_bytes ∙ f;
@@ -26,7 +29,8 @@ module _ {N : ℕ} (keys : ArrayKey N × ArrayKey N × Ordering) (xs ys : List �
   pub text_keys : (s t : List ℕ) → xs ≡ s → ys ≡ t → AreComparedAs keys s t (slice_cmp nat_cmp s t)
   text_keys s t e f = compared_as s t _ e f refl
 
-  pub terminated_keys : (s t : List ℕ) → xs ≡ s ++ 0 ∷ [] → ys ≡ t ++ 0 ∷ [] → AreComparedAs keys (s ++ 0 ∷ []) (t ++ 0 ∷ []) (slice_cmp nat_cmp s t)
+  pub terminated_keys : (s t : List ℕ) → xs ≡ s ++ 0 ∷ [] → ys ≡ t ++ 0 ∷ []
+      → AreComparedAs keys (s ++ 0 ∷ []) (t ++ 0 ∷ []) (slice_cmp nat_cmp s t)
   terminated_keys s t e f = compared_as _ _ _ e f (slice_cmp-closed s t)
 
   pub unsigned_keys : (k m n : ℕ) → m < 256 ^ k → n < 256 ^ k → xs ≡ bytes_high_first k m → ys ≡ bytes_high_first k n
@@ -34,7 +38,8 @@ module _ {N : ℕ} (keys : ArrayKey N × ArrayKey N × Ordering) (xs ys : List �
   unsigned_keys k m n p q e f = compared_as _ _ _ e f (slice_cmp-unsigned k m n p q)
 
   pub signed_keys : (w : Width) (k : ℕ) (x y : ℤ) → SFits w x → SFits w y → 2 ^ hbits w + 2 ^ hbits w ≡ 256 ^ k
-      → xs ≡ bytes_high_first k (sign_flipped w (to_z w (of_z w x))) → ys ≡ bytes_high_first k (sign_flipped w (to_z w (of_z w y)))
+      → xs ≡ bytes_high_first k (sign_flipped w (to_z w (of_z w x)))
+      → ys ≡ bytes_high_first k (sign_flipped w (to_z w (of_z w y)))
       → AreComparedAs keys (bytes_high_first k (sign_flipped w x)) (bytes_high_first k (sign_flipped w y)) (int_cmp x y)
   signed_keys w k x y p q d e f =
       let key = λ (z : ℤ). bytes_high_first k (sign_flipped w z) in
@@ -46,5 +51,6 @@ tied b Equal e = (λ h. refl, λ h. e)
 tied b Greater e = (λ h. cc, λ h. cc)
 
 -- strings are equal exactly where they tie
-pub tied_where_equal : (xs ys : List ℕ) (b : Bool) (o : Ordering) → b ≡ pointwise nat_eq xs ys → o ≡ slice_cmp nat_cmp xs ys → (IsTrue b → o ≡ Equal) × (o ≡ Equal → IsTrue b)
+pub tied_where_equal : (xs ys : List ℕ) (b : Bool) (o : Ordering) → b ≡ pointwise nat_eq xs ys
+    → o ≡ slice_cmp nat_cmp xs ys → (IsTrue b → o ≡ Equal) × (o ≡ Equal → IsTrue b)
 tied_where_equal xs ys b o e f = tied b o (e ∙ texts_ties xs ys ∙ rw f refl)

@@ -1,8 +1,10 @@
 -- The longest match is the longest stored key that begins the probe, and matches ascend by length.
-use Rattle.std.proofs.Common.{◌≡◌, ℕ, ◌<◌, ◌≤◌, ◌⊎◌, ⊎_elim, inl, inr, length, arith, List, [], ◌∷◌, true, false, refl, sym, ap, subst, ◌∙◌, Option, Some, None, if◌then◌else◌}
-use Rattle.rart_keys.specs.ByteStrings.{begins, bytes_eq, IsBelow}
+use Rattle.std.proofs.Common.{◌≡◌, ℕ, ◌<◌, ◌≤◌, ◌⊎◌, ⊎_elim, inl, inr, length, arith, List, [], ◌∷◌, true, false, refl}
+use Rattle.std.proofs.Common.{sym, ap, subst, ◌∙◌, Option, Some, None, if◌then◌else◌}
+use Rattle.rart_keys.specs.ByteStrings.{begins, bytes_eq, IsLess}
 use Rattle.rart_keys.specs.Filters.{last_or, matches}
-use Rattle.rart_keys.specs.LongestMatches.{AreLonger, AscendByLength, HasNoMatch, IsLongest, LongestIsMatch, MatchIsLongest}
+use Rattle.rart_keys.specs.LongestMatches.{AreLonger, AscendByLength, HasNoMatch, IsLongest, LongestIsMatch}
+use Rattle.rart_keys.specs.LongestMatches.{MatchIsLongest}
 use Rattle.rart_keys.specs.SortedMap.{AreAbove, IsAscending, lookup}
 use Rattle.rart_keys.proofs.ByteOrder.{bytes_eq-equal, bytes_eq-differ, bytes_eq-itself, eq-no, eq-yes, equal_or_not}
 use Rattle.rart_keys.proofs.LongestMatchLemmas.{below-shorter, other-stored}
@@ -27,68 +29,73 @@ same_or_not k l = elim (bytes_eq k l) as (λ b. bytes_eq k l ≡ b → (k ≡ l)
 ] refl
 
 module _ {V : Type 0} where
-  above-stored : (p k : List ℕ) (v : V) (es : List (List ℕ × V)) → AreAbove p es → lookup k es ≡ Some v → IsBelow p k
+  above-stored : (p k : List ℕ) (v : V) (es : List (List ℕ × V)) → AreAbove p es → lookup k es ≡ Some v → IsLess p k
   above-stored p k v [] a h = absurd (cc)
-  above-stored p k v (e ∷ es) a h = elim (bytes_eq e.0 k) as (λ b. bytes_eq e.0 k ≡ b → (if b then Some e.1 else lookup k es) ≡ Some v → IsBelow p k) [
-    | true ↦ λ m t. subst (λ z. IsBelow p z) (bytes_eq-equal e.0 k m) a.0
-    | false ↦ λ m t. above-stored p k v es a.1 t
-  ] refl h
+  above-stored p k v (e ∷ es) a h = elim (bytes_eq e.0 k) as (λ b. bytes_eq e.0 k ≡ b
+      → (if b then Some e.1 else lookup k es) ≡ Some v → IsLess p k) [
+        | true ↦ λ m t. subst (λ z. IsLess p z) (bytes_eq-equal e.0 k m) a.0
+        | false ↦ λ m t. above-stored p k v es a.1 t
+      ] refl h
 
-  skipped : (k : List ℕ) (o : Option V) (e : List ℕ × V) (es : List (List ℕ × V)) → (e.0 ≡ k → ⊥) → lookup k es ≡ o → lookup k (e ∷ es) ≡ o
+  skipped : (k : List ℕ) (o : Option V) (e : List ℕ × V) (es : List (List ℕ × V)) → (e.0 ≡ k → ⊥) → lookup k es ≡ o
+      → lookup k (e ∷ es) ≡ o
   skipped k o e es n h = rw (bytes_eq-differ e.0 k n) h
 
-  -- what a walk along the matches of q has last: what it had, if no stored key begins q, and the longest of these otherwise
+  -- what a walk along the matches of q has last: what it had, if no stored key begins q, and the longest of these
+  -- otherwise
   Found : List ℕ → List (List ℕ × V) → Option (List ℕ × V) → Option (List ℕ × V) → Type 0
   Found q es o r = ((r ≡ o) × HasNoMatch q es) ⊎ ((e : List ℕ × V) × (r ≡ Some e) × IsLongest e.0 e.1 q es)
 
-  found : (q : List ℕ) (es : List (List ℕ × V)) (o : Option (List ℕ × V)) → IsAscending es → Found q es o (last_or o (matches q es))
+  found : (q : List ℕ) (es : List (List ℕ × V)) (o : Option (List ℕ × V)) → IsAscending es
+      → Found q es o (last_or o (matches q es))
   unfolding Found
   found q [] o a = inl (refl, λ k f. refl)
-  found q (e ∷ es) o a = elim (begins e.0 q) as (λ b. begins e.0 q ≡ b → Found q (e ∷ es) o (last_or o (if b then e ∷ matches q es else matches q es))) [
-    | true ↦ λ s. ⊎_elim
-        (λ h. inr (
-          e,
-          h.0,
-          (
-            lookup-first e.0 e.1 es,
-            s,
-            λ k t f. ⊎_elim
-                (λ m. omega (arith, ap length m))
-                (λ n. absurd (other-stored k e es t n (h.1 k f)))
-                (same_or_not e.0 k),
-          ),
-        ))
-        (λ h. let lower : IsBelow e.0 h.0.0 = above-stored e.0 h.0.0 h.0.1 es a.0 h.2.0 in
-        let short : length e.0 < length h.0.0 = below-shorter e.0 h.0.0 q lower s h.2.1 in
-        inr (
-          h.0,
-          h.1,
-          (
-            skipped h.0.0 (Some h.0.1) e es (λ m. omega (arith, ap length m, short)) h.2.0,
-            h.2.1,
-            λ k t f. ⊎_elim
-                (λ m. omega (arith, ap length m, short))
-                (λ n. h.2.2 k (other-stored k e es t n) f)
-                (same_or_not e.0 k),
-          ),
-        ))
-        (found q es (Some e) a.1)
-    | false ↦ λ s. ⊎_elim
-        (λ h. inl (h.0, λ k f. skipped k None e es (λ m. let t = ap (λ z. begins z q) m in cc) (h.1 k f)))
-        (λ h. inr (
-          h.0,
-          h.1,
-          (
-            skipped h.0.0 (Some h.0.1) e es (λ m. let t = ap (λ z. begins z q) m in let u = h.2.1 in cc) h.2.0,
-            h.2.1,
-            λ k t f. ⊎_elim
-                (λ m. let u = ap (λ z. begins z q) m in absurd (cc))
-                (λ n. h.2.2 k (other-stored k e es t n) f)
-                (same_or_not e.0 k),
-          ),
-        ))
-        (found q es o a.1)
-  ] refl
+  found q (e ∷ es) o a = elim (begins e.0 q) as (λ b. begins e.0 q ≡ b
+      → Found q (e ∷ es) o (last_or o (if b then e ∷ matches q es else matches q es))) [
+        | true ↦ λ s. ⊎_elim
+            (λ h. inr (
+              e,
+              h.0,
+              (
+                lookup-first e.0 e.1 es,
+                s,
+                λ k t f. ⊎_elim
+                    (λ m. omega (arith, ap length m))
+                    (λ n. absurd (other-stored k e es t n (h.1 k f)))
+                    (same_or_not e.0 k),
+              ),
+            ))
+            (λ h. let lower : IsLess e.0 h.0.0 = above-stored e.0 h.0.0 h.0.1 es a.0 h.2.0 in
+            let short : length e.0 < length h.0.0 = below-shorter e.0 h.0.0 q lower s h.2.1 in
+            inr (
+              h.0,
+              h.1,
+              (
+                skipped h.0.0 (Some h.0.1) e es (λ m. omega (arith, ap length m, short)) h.2.0,
+                h.2.1,
+                λ k t f. ⊎_elim
+                    (λ m. omega (arith, ap length m, short))
+                    (λ n. h.2.2 k (other-stored k e es t n) f)
+                    (same_or_not e.0 k),
+              ),
+            ))
+            (found q es (Some e) a.1)
+        | false ↦ λ s. ⊎_elim
+            (λ h. inl (h.0, λ k f. skipped k None e es (λ m. let t = ap (λ z. begins z q) m in cc) (h.1 k f)))
+            (λ h. inr (
+              h.0,
+              h.1,
+              (
+                skipped h.0.0 (Some h.0.1) e es (λ m. let t = ap (λ z. begins z q) m in let u = h.2.1 in cc) h.2.0,
+                h.2.1,
+                λ k t f. ⊎_elim
+                    (λ m. let u = ap (λ z. begins z q) m in absurd (cc))
+                    (λ n. h.2.2 k (other-stored k e es t n) f)
+                    (same_or_not e.0 k),
+              ),
+            ))
+            (found q es o a.1)
+      ] refl
 
   pub longest-stored : (p q : List ℕ) (v : V) (es : List (List ℕ × V)) → IsAscending es → MatchIsLongest p v q es
   unfolding Found
@@ -112,29 +119,33 @@ module _ {V : Type 0} where
 
   some-left : (q : List ℕ) (es : List (List ℕ × V)) (e : List ℕ × V) → last_or (Some e) (matches q es) ≡ None → ⊥
   some-left q [] e m = cc
-  some-left q (f ∷ es) e m = elim (begins f.0 q) as (λ b. last_or (Some e) (if b then f ∷ matches q es else matches q es) ≡ None → ⊥) [
-    | true ↦ λ n. some-left q es f n
-    | false ↦ λ n. some-left q es e n
-  ] m
+  some-left q (f ∷ es) e m = elim (begins f.0 q)
+      as (λ b. last_or (Some e) (if b then f ∷ matches q es else matches q es) ≡ None → ⊥) [
+        | true ↦ λ n. some-left q es f n
+        | false ↦ λ n. some-left q es e n
+      ] m
 
   pub no-match : (q : List ℕ) (es : List (List ℕ × V)) → last_or None (matches q es) ≡ None → HasNoMatch q es
   no-match q [] m = λ k f. refl
-  no-match q (e ∷ es) m = elim (begins e.0 q) as (λ b. begins e.0 q ≡ b → last_or None (if b then e ∷ matches q es else matches q es) ≡ None → HasNoMatch q (e ∷ es)) [
-    | true ↦ λ s n. absurd (some-left q es e n)
-    | false ↦ λ s n k f. skipped k None e es (λ o. let t = ap (λ z. begins z q) o in cc) (no-match q es n k f)
-  ] refl m
+  no-match q (e ∷ es) m = elim (begins e.0 q) as (λ b. begins e.0 q ≡ b
+      → last_or None (if b then e ∷ matches q es else matches q es) ≡ None → HasNoMatch q (e ∷ es)) [
+        | true ↦ λ s n. absurd (some-left q es e n)
+        | false ↦ λ s n k f. skipped k None e es (λ o. let t = ap (λ z. begins z q) o in cc) (no-match q es n k f)
+      ] refl m
 
   -- what is above a string that begins q, and begins q itself, is longer
   longer : (p q : List ℕ) (es : List (List ℕ × V)) → AreAbove p es → begins p q ≡ true → AreLonger p (matches q es)
   longer p q [] a f = tt
-  longer p q (e ∷ es) a f = elim (begins e.0 q) as (λ b. begins e.0 q ≡ b → AreLonger p (if b then e ∷ matches q es else matches q es)) [
-    | true ↦ λ s. (below-shorter p e.0 q a.0 f s, longer p q es a.1 f)
-    | false ↦ λ s. longer p q es a.1 f
-  ] refl
+  longer p q (e ∷ es) a f = elim (begins e.0 q) as (λ b. begins e.0 q ≡ b
+      → AreLonger p (if b then e ∷ matches q es else matches q es)) [
+        | true ↦ λ s. (below-shorter p e.0 q a.0 f s, longer p q es a.1 f)
+        | false ↦ λ s. longer p q es a.1 f
+      ] refl
 
   pub lengths-ascend : (q : List ℕ) (es : List (List ℕ × V)) → IsAscending es → AscendByLength (matches q es)
   lengths-ascend q [] a = tt
-  lengths-ascend q (e ∷ es) a = elim (begins e.0 q) as (λ b. begins e.0 q ≡ b → AscendByLength (if b then e ∷ matches q es else matches q es)) [
-    | true ↦ λ s. (longer e.0 q es a.0 s, lengths-ascend q es a.1)
-    | false ↦ λ s. lengths-ascend q es a.1
-  ] refl
+  lengths-ascend q (e ∷ es) a = elim (begins e.0 q) as (λ b. begins e.0 q ≡ b
+      → AscendByLength (if b then e ∷ matches q es else matches q es)) [
+        | true ↦ λ s. (longer e.0 q es a.0 s, lengths-ascend q es a.1)
+        | false ↦ λ s. lengths-ascend q es a.1
+      ] refl

@@ -1,6 +1,8 @@
 -- Numbers and their big-endian bytes: their order, and the way back.
-use Rattle.std.proofs.Common.{◌≡◌, ℕ, zero, suc, ◌+◌, ◌-◌, ◌*◌, ◌/◌, ◌^◌, ◌%◌, ◌<◌, ◌≤◌, inl, inr, refl, sym, ap, ap₂, ◌∙◌, arith, ℤ, pos, negsuc, Less, Equal, Greater}
-use Rattle.std.proofs.Math.Nat.{add-mul, add_assoc, div-add-mod', div-one, mod-eq_of_lt, mod-lt, mul-add-mod_self_right, mul-le-mul_right, mul_assoc, one-le-pow, pow-le-pow_right, pow-succ'}
+use Rattle.std.proofs.Common.{◌≡◌, ℕ, zero, suc, ◌+◌, ◌-◌, ◌*◌, ◌/◌, ◌^◌, ◌%◌, ◌<◌, ◌≤◌, inl, inr, refl, sym, ap, ap₂}
+use Rattle.std.proofs.Common.{◌∙◌, arith, ℤ, pos, negsuc, Less, Equal, Greater}
+use Rattle.std.proofs.Math.Nat.{add-mul, add_assoc, div-add-mod', div-one, mod-eq_of_lt, mod-lt, mul-add-mod_self_right}
+use Rattle.std.proofs.Math.Nat.{mul-le-mul_right, mul_assoc, one-le-pow, pow-le-pow_right, pow-succ'}
 use Rattle.std.proofs.lemmas.Bool.{cases_lt}
 use Rattle.std.proofs.lemmas.Cmp.{by_ranked, ranked}
 use Rattle.std.proofs.lemmas.Int.{ints}
@@ -25,9 +27,11 @@ mod-split n {m} {c} hm hc =
     let split : n ≡ n / c / m * (m * c) + (n / c % m * c + n % c) =
     sym (div-add-mod' n c)
     ∙ ap (λ (x : ℕ). x * c + n % c) (sym (div-add-mod' (n / c) m))
-    ∙ ap (λ (x : ℕ). x + n % c) (add-mul (n / c / m * m) (n / c % m) c ∙ ap (λ (x : ℕ). x + n / c % m * c) (mul_assoc (n / c / m) m c))
+    ∙ ap (λ (x : ℕ). x + n % c) (add-mul (n / c / m * m) (n / c % m) c
+    ∙ ap (λ (x : ℕ). x + n / c % m * c) (mul_assoc (n / c / m) m c))
     ∙ add_assoc (n / c / m * (m * c)) (n / c % m * c) (n % c) in
-    ap (λ (x : ℕ). x % (m * c)) split ∙ mul-add-mod_self_right (n / c / m) (m * c) (n / c % m * c + n % c) ∙ mod-eq_of_lt (omega arith)
+    ap (λ (x : ℕ). x % (m * c)) split ∙ mul-add-mod_self_right (n / c / m) (m * c) (n / c % m * c + n % c)
+    ∙ mod-eq_of_lt (omega arith)
 
 -- a byte of a number, by its place
 byte_at-pow : (k n : ℕ) → byte_at k n ≡ n / 256 ^ k % 256
@@ -54,16 +58,19 @@ nat_cmp-add r s u v e = elim (cases_lt r s) [
 ]
 
 -- the high digits decide, and the low ones break a tie
-nat_cmp-digits : (a b r s c : ℕ) → r < c → s < c → ordering_then (nat_cmp a b) (nat_cmp r s) ≡ nat_cmp (a * c + r) (b * c + s)
+nat_cmp-digits : (a b r s c : ℕ) → r < c → s < c → ordering_then (nat_cmp a b) (nat_cmp r s)
+    ≡ nat_cmp (a * c + r) (b * c + s)
 nat_cmp-digits a b r s c p q = elim (cases_lt a b) [
   | inl less ↦ rw (is_less a b less, is_less _ _ (less_by_digit a b r s c p less)) refl
   | inr at_least ↦ elim (cases_lt b a) [
     | inl more ↦ rw (is_greater a b more, is_greater _ _ (less_by_digit b a s r c q more)) refl
-    | inr at_most ↦ let e : a ≡ b = omega arith in rw (is_equal a b e) (nat_cmp-add r s (a * c) (b * c) (ap (λ k. k * c) e))
+    | inr at_most ↦ let e : a ≡ b = omega arith in
+        rw (is_equal a b e) (nat_cmp-add r s (a * c) (b * c) (ap (λ k. k * c) e))
   ]
 ]
 
-slice_cmp-bytes_high_first : (k m n : ℕ) → slice_cmp nat_cmp (bytes_high_first k m) (bytes_high_first k n) ≡ nat_cmp (m % 256 ^ k) (n % 256 ^ k)
+slice_cmp-bytes_high_first : (k m n : ℕ) → slice_cmp nat_cmp (bytes_high_first k m) (bytes_high_first k n)
+    ≡ nat_cmp (m % 256 ^ k) (n % 256 ^ k)
 slice_cmp-bytes_high_first zero m n = sym (is_equal (m % 1) (n % 1) (omega arith))
 slice_cmp-bytes_high_first (suc k) m n =
     let hm = mod-split m {m = 256} {c = 256 ^ k} (omega arith) (pow_above_zero k) in
@@ -72,7 +79,8 @@ slice_cmp-bytes_high_first (suc k) m n =
     (nat_cmp-digits _ _ _ _ (256 ^ k) (mod-lt m (pow_above_zero k)) (mod-lt n (pow_above_zero k)))
 
 -- the big-endian bytes of numbers that they hold compare as the numbers
-pub slice_cmp-unsigned : (k m n : ℕ) → m < 256 ^ k → n < 256 ^ k → slice_cmp nat_cmp (bytes_high_first k m) (bytes_high_first k n) ≡ nat_cmp m n
+pub slice_cmp-unsigned : (k m n : ℕ) → m < 256 ^ k → n < 256 ^ k
+    → slice_cmp nat_cmp (bytes_high_first k m) (bytes_high_first k n) ≡ nat_cmp m n
 slice_cmp-unsigned k m n p q = slice_cmp-bytes_high_first k m n ∙ ap₂ nat_cmp (mod-eq_of_lt p) (mod-eq_of_lt q)
 
 -- the sign bit flipped is an addition
@@ -80,7 +88,8 @@ sign_flipped-sum : (w : Width) (x : ℤ) → SFits w x → pos (sign_flipped w x
 sign_flipped-sum w (pos n) f = omega (arith, ints)
 sign_flipped-sum w (negsuc n) f = let h = f.sfits in omega (arith, ints, h)
 
-nat_cmp-sign_flipped : (w : Width) (x y : ℤ) → SFits w x → SFits w y → nat_cmp (sign_flipped w x) (sign_flipped w y) ≡ int_cmp x y
+nat_cmp-sign_flipped : (w : Width) (x y : ℤ) → SFits w x → SFits w y → nat_cmp (sign_flipped w x) (sign_flipped w y)
+    ≡ int_cmp x y
 nat_cmp-sign_flipped w x y f g =
     let a = sign_flipped w x in
     let b = sign_flipped w y in
@@ -104,26 +113,33 @@ slice_cmp-signed w k x y f g e =
     slice_cmp-unsigned k _ _ p q ∙ nat_cmp-sign_flipped w x y f g
 
 -- big-endian bytes are the number's digits in base 256
-number_from_digits_after-bytes_high_first : (k a n : ℕ) → number_from_digits_after 256 a (bytes_high_first k n) ≡ a * 256 ^ k + n % 256 ^ k
+number_from_digits_after-bytes_high_first : (k a n : ℕ) → number_from_digits_after 256 a (bytes_high_first k n)
+    ≡ a * 256 ^ k + n % 256 ^ k
 number_from_digits_after-bytes_high_first zero a n = omega arith
 number_from_digits_after-bytes_high_first (suc k) a n =
     let hn = mod-split n {m = 256} {c = 256 ^ k} (omega arith) (pow_above_zero k) in
     let d = n / 256 ^ k % 256 in
     let spread : (a * 256 + d) * 256 ^ k ≡ a * 256 * 256 ^ k + d * 256 ^ k = add-mul (a * 256) d (256 ^ k) in
     let group : a * 256 * 256 ^ k ≡ a * (256 * 256 ^ k) = mul_assoc a 256 (256 ^ k) in
-    rw (number_from_digits_after-bytes_high_first k (a * 256 + byte_at k n) n, byte_at-pow k n, pow-succ' 256 k, hn) (omega (arith, spread, group))
+    rw (number_from_digits_after-bytes_high_first k (a * 256 + byte_at k n) n, byte_at-pow k n, pow-succ' 256 k, hn)
+    (omega (arith, spread, group))
 
 -- up to seven digits leave room for one more in eight
 pub seven_digits : (i n : ℕ) → i < 8 → n < 256 ^ i → n < 256 ^ 7
-seven_digits i n h p = let m : 256 ^ i ≤ 256 ^ 7 = pow-le-pow_right {n = 256} (omega arith) {i = i} {j = 7} (omega arith) in omega (arith, m)
+seven_digits i n h p = let m : 256 ^ i ≤ 256 ^ 7
+    = pow-le-pow_right {n = 256} (omega arith) {i = i} {j = 7} (omega arith) in omega (arith, m)
 
 -- to flip the highest bit is to add it, or to take it away
-bit_xor-highest : (h a n m t : ℕ) → n < 2 ^ h → m ≡ a * 2 ^ h + n → t ≡ 1 * 2 ^ h + 0 → bit_xor m t ≡ bit_xor a 1 * 2 ^ h + n
-bit_xor-highest h a n m t p e f = ap₂ bit_xor e f ∙ xor_block h a 1 n 0 p (omega arith) ∙ ap (λ k. bit_xor a 1 * 2 ^ h + k) (xor_zero_r n)
+bit_xor-highest : (h a n m t : ℕ) → n < 2 ^ h → m ≡ a * 2 ^ h + n → t ≡ 1 * 2 ^ h + 0
+    → bit_xor m t ≡ bit_xor a 1 * 2 ^ h + n
+bit_xor-highest h a n m t p e f = ap₂ bit_xor e f ∙ xor_block h a 1 n 0 p (omega arith)
+    ∙ ap (λ k. bit_xor a 1 * 2 ^ h + k) (xor_zero_r n)
 
 pub bit_xor-sign_128 : (x : ℤ) → SFits w128 x → bit_xor (of_z w128 x) (2 ^ 127) ≡ sign_flipped w128 x
-bit_xor-sign_128 (pos n) f = let h = f.sfits in let e = bit_xor-highest 127 0 n n (2 ^ 127) h (omega arith) (omega arith) in omega (arith, e)
+bit_xor-sign_128 (pos n) f = let h = f.sfits in let e
+    = bit_xor-highest 127 0 n n (2 ^ 127) h (omega arith) (omega arith) in omega (arith, e)
 bit_xor-sign_128 (negsuc n) f =
     let h = f.sfits in
-    let e = bit_xor-highest 127 1 (2 ^ 127 - suc n) (2 ^ 128 - suc n) (2 ^ 127) (omega arith) (omega (arith, h)) (omega arith) in
+    let e = bit_xor-highest 127 1 (2 ^ 127 - suc n) (2 ^ 128 - suc n) (2 ^ 127) (omega arith) (omega (arith, h))
+    (omega arith) in
     omega (arith, e)

@@ -1,9 +1,10 @@
 -- Pairs that ascend strictly: what is left of putting them in, in any order, and how they are told.
-use Rattle.std.proofs.Common.{◌≡◌, ℕ, ◌<◌, ◌⊎◌, inl, inr, ⊎_elim, zero, suc, true, false, List, [], ◌∷◌, ◌++◌, length, get_or, refl, ap, ◌∙◌, arith, Some, None, if◌then◌else◌}
+use Rattle.std.proofs.Common.{◌≡◌, ℕ, ◌<◌, ◌⊎◌, inl, inr, ⊎_elim, zero, suc, true, false, List, [], ◌∷◌, ◌++◌, length}
+use Rattle.std.proofs.Common.{get_or, refl, ap, ◌∙◌, arith, Some, None, if◌then◌else◌}
 use Rattle.std.specs.List.{Contains}
 use Rattle.std.specs.List.Sorted.{IsPermutation}
 use Rattle.std.proofs.lemmas.List.Sorted.{IsPermutation-sym, Contains-permutation}
-use Rattle.rart_keys.specs.ByteStrings.{bytes_eq, IsBelow}
+use Rattle.rart_keys.specs.ByteStrings.{bytes_eq, IsLess}
 use Rattle.rart_keys.specs.SortedMap.{AreAbove, IsAscending, keys_of, lookup, put}
 use Rattle.rart_keys.specs.BulkLists.{put_all}
 use Rattle.rart_keys.proofs.ByteOrder.{below-not_eq, bytes_eq-differ, bytes_eq-equal, bytes_eq-itself}
@@ -26,34 +27,46 @@ module _ {V : Type 0} where
 
   found-stands : (q : List ℕ) (v : V) (es : List (List ℕ × V)) → lookup q es ≡ Some v → Contains es (q, v)
   found-stands q v [] h = absurd (cc)
-  found-stands q v (e ∷ es) h = elim (bytes_eq e.0 q) as (λ b. bytes_eq e.0 q ≡ b → (if b then Some e.1 else lookup q es) ≡ Some v → Contains (e ∷ es) (q, v)) [
-    | true ↦ λ m s. let k : e.0 ≡ q = bytes_eq-equal e.0 q m in let w : e.1 ≡ v = cc in contains-first e es (q, v) (ap (λ z. (z, e.1)) k ∙ ap (λ z. (q, z)) w)
-    | false ↦ λ m s. contains-behind e es (q, v) (found-stands q v es s)
-  ] refl h
+  found-stands q v (e ∷ es) h = elim (bytes_eq e.0 q) as (λ b. bytes_eq e.0 q ≡ b
+      → (if b then Some e.1 else lookup q es) ≡ Some v → Contains (e ∷ es) (q, v)) [
+        | true ↦ λ m s. let k : e.0 ≡ q = bytes_eq-equal e.0 q m in let w : e.1 ≡ v = cc in
+            contains-first e es (q, v) (ap (λ z. (z, e.1)) k ∙ ap (λ z. (q, z)) w)
+        | false ↦ λ m s. contains-behind e es (q, v) (found-stands q v es s)
+      ] refl h
 
-  above-contained : (k q : List ℕ) (v : V) (es : List (List ℕ × V)) → AreAbove k es → Contains es (q, v) → IsBelow k q
+  above-contained : (k q : List ℕ) (v : V) (es : List (List ℕ × V)) → AreAbove k es → Contains es (q, v) → IsLess k q
   above-contained k q v [] a c = absurd (omega (arith, c.1))
-  above-contained k q v (e ∷ es) a c = ⊎_elim (λ s. let t : e.0 ≡ q = ap (λ z. z.0) s in rw (← t) a.0) (λ s. above-contained k q v es a.1 s) (contains-split e es (q, v) c)
+  above-contained k q v (e ∷ es) a c = ⊎_elim (λ s. let t : e.0 ≡ q = ap (λ z. z.0) s in rw (← t) a.0)
+      (λ s. above-contained k q v es a.1 s) (contains-split e es (q, v) c)
 
-  stands-found : (q : List ℕ) (v : V) (es : List (List ℕ × V)) → IsAscending es → Contains es (q, v) → lookup q es ≡ Some v
+  stands-found : (q : List ℕ) (v : V) (es : List (List ℕ × V)) → IsAscending es → Contains es (q, v)
+      → lookup q es ≡ Some v
   stands-found q v [] a c = absurd (omega (arith, c.1))
   stands-found q v (e ∷ es) a c = ⊎_elim
-      (λ s. let k : e.0 ≡ q = ap (λ z. z.0) s in let w : e.1 ≡ v = ap (λ z. z.1) s in let m : bytes_eq e.0 q ≡ true = ap (λ z. bytes_eq z q) k ∙ bytes_eq-itself q in rw m (ap Some w))
-      (λ s. rw (below-not_eq e.0 q (above-contained e.0 q v es a.0 s)) (stands-found q v es a.1 s)) (contains-split e es (q, v) c)
+      (λ s. let k : e.0 ≡ q = ap (λ z. z.0) s in let w : e.1 ≡ v = ap (λ z. z.1) s in let m : bytes_eq e.0 q ≡ true
+      = ap (λ z. bytes_eq z q) k ∙ bytes_eq-itself q in rw m (ap Some w))
+      (λ s. rw (below-not_eq e.0 q (above-contained e.0 q v es a.0 s)) (stands-found q v es a.1 s))
+      (contains-split e es (q, v) c)
 
-  absent-stays : (q : List ℕ) (es m : List (List ℕ × V)) → ((w : V) → Contains es (q, w) → ⊥) → lookup q (put_all es m) ≡ lookup q m
+  absent-stays : (q : List ℕ) (es m : List (List ℕ × V)) → ((w : V) → Contains es (q, w) → ⊥)
+      → lookup q (put_all es m) ≡ lookup q m
   absent-stays q [] m n = refl
   absent-stays q (e ∷ es) m n =
       let other : e.0 ≡ q → ⊥ = λ s. n e.1 (contains-first e es (q, e.1) (ap (λ z. (z, e.1)) s)) in
-      absent-stays q es (put e.0 e.1 m) (λ w c. n w (contains-behind e es (q, w) c)) ∙ lookup-put q e.0 e.1 m ∙ ap (λ b. if b then Some e.1 else lookup q m) (bytes_eq-differ e.0 q other)
+      absent-stays q es (put e.0 e.1 m) (λ w c. n w (contains-behind e es (q, w) c)) ∙ lookup-put q e.0 e.1 m
+      ∙ ap (λ b. if b then Some e.1 else lookup q m) (bytes_eq-differ e.0 q other)
 
-  one-stands : (q : List ℕ) (v : V) (es m : List (List ℕ × V)) → ((w : V) → Contains es (q, w) → w ≡ v) → Contains es (q, v) ⊎ (lookup q m ≡ Some v) → lookup q (put_all es m) ≡ Some v
+  one-stands : (q : List ℕ) (v : V) (es m : List (List ℕ × V)) → ((w : V) → Contains es (q, w) → w ≡ v)
+      → Contains es (q, v) ⊎ (lookup q m ≡ Some v) → lookup q (put_all es m) ≡ Some v
   one-stands q v [] m u h = ⊎_elim (λ c. absurd (omega (arith, c.1))) (λ s. s) h
   one-stands q v (e ∷ es) m u h = one-stands q v es (put e.0 e.1 m) (λ w c. u w (contains-behind e es (q, w) c))
       (elim (bytes_eq e.0 q) as (λ b. bytes_eq e.0 q ≡ b → Contains es (q, v) ⊎ (lookup q (put e.0 e.1 m) ≡ Some v)) [
-        | true ↦ λ s. let k : e.0 ≡ q = bytes_eq-equal e.0 q s in inr (lookup-put q e.0 e.1 m ∙ ap (λ b. if b then Some e.1 else lookup q m) s ∙ ap Some (u e.1 (contains-first e es (q, e.1) (ap (λ z. (z, e.1)) k))))
+        | true ↦ λ s. let k : e.0 ≡ q = bytes_eq-equal e.0 q s in
+            inr (lookup-put q e.0 e.1 m ∙ ap (λ b. if b then Some e.1 else lookup q m) s
+            ∙ ap Some (u e.1 (contains-first e es (q, e.1) (ap (λ z. (z, e.1)) k))))
         | false ↦ λ s. ⊎_elim
-            (λ c. ⊎_elim (λ t. absurd (let k : e.0 ≡ q = ap (λ z. z.0) t in let y : bytes_eq e.0 q ≡ true = ap (λ z. bytes_eq z q) k ∙ bytes_eq-itself q in cc)) (λ c'. inl c') (contains-split e es (q, v) c))
+            (λ c. ⊎_elim (λ t. absurd (let k : e.0 ≡ q = ap (λ z. z.0) t in let y : bytes_eq e.0 q ≡ true
+            = ap (λ z. bytes_eq z q) k ∙ bytes_eq-itself q in cc)) (λ c'. inl c') (contains-split e es (q, v) c))
             (λ t. inr (lookup-put q e.0 e.1 m ∙ ap (λ b. if b then Some e.1 else lookup q m) s ∙ t)) h
       ] refl)
 
@@ -66,20 +79,24 @@ module _ {V : Type 0} where
       at : (q : List ℕ) → lookup q (put_all ys []) ≡ lookup q xs
       at q = elim (lookup q xs) as (λ o. lookup q xs ≡ o → lookup q (put_all ys []) ≡ o) [
         | None ↦ λ n. absent-stays q ys [] (λ w c. let s = back q w c in cc)
-        | Some v ↦ λ s. one-stands q v ys [] (λ w c. let t = back q w c in cc) (inl (Contains-permutation xs ys (q, v) p (found-stands q v xs s)))
+        | Some v ↦ λ s. one-stands q v ys [] (λ w c. let t = back q w c in
+            cc) (inl (Contains-permutation xs ys (q, v) p (found-stands q v xs s)))
       ] refl
 
 module _ {V : Type 0} where
   -- what a caller knows of neighbours, and what then holds of any two
-  pub ascends-on : (e f : List ℕ × V) (es : List (List ℕ × V)) → IsBelow e.0 f.0 → IsAscending (f ∷ es) → IsAscending (e ∷ f ∷ es)
+  pub ascends-on : (e f : List ℕ × V) (es : List (List ℕ × V)) → IsLess e.0 f.0 → IsAscending (f ∷ es)
+      → IsAscending (e ∷ f ∷ es)
   ascends-on e f es b up = ((b, above-trans e.0 f.0 es b up.0), up)
 
-  above-at : (k : List ℕ) (es : List (List ℕ × V)) (j : ℕ) → AreAbove k es → j < length es → IsBelow k (get_or (keys_of es) j [])
+  above-at : (k : List ℕ) (es : List (List ℕ × V)) (j : ℕ) → AreAbove k es → j < length es
+      → IsLess k (get_or (keys_of es) j [])
   above-at k [] j a l = absurd (omega (arith, l))
   above-at k (e ∷ es) zero a l = a.0
   above-at k (e ∷ es) (suc j) a l = above-at k es j a.1 (omega (arith, l))
 
-  pub below-later : (es : List (List ℕ × V)) (i j : ℕ) → IsAscending es → i < j → j < length es → IsBelow (get_or (keys_of es) i []) (get_or (keys_of es) j [])
+  pub below-later : (es : List (List ℕ × V)) (i j : ℕ) → IsAscending es → i < j → j < length es
+      → IsLess (get_or (keys_of es) i []) (get_or (keys_of es) j [])
   below-later [] i j up a l = absurd (omega (arith, l))
   below-later (e ∷ es) i zero up a l = absurd (omega (arith, a))
   below-later (e ∷ es) zero (suc j) up a l = above-at e.0 es j up.0 (omega (arith, l))

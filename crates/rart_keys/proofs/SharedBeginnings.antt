@@ -1,5 +1,7 @@
 -- Two byte strings that begin alike: what equal pieces of them say of the whole, and back.
-use Rattle.std.proofs.Common.{◌≡◌, ◌↔◌, ◌==◌, true, false, if◌then◌else◌, Some, None, IsTrue, eq-eqb, ℕ, zero, suc, ◌+◌, ◌^◌, ◌<◌, ◌≤◌, List, [], ◌∷◌, ◌++◌, length, take, drop, nat_eq, refl, sym, ap, ap₂, ◌∙◌, arith, length-take-le, length-drop}
+use Rattle.std.proofs.Common.{◌≡◌, ◌↔◌, ◌==◌, true, false, if◌then◌else◌, Some, None, IsTrue, eq-eqb, ℕ, zero, suc, ◌+◌}
+use Rattle.std.proofs.Common.{◌^◌, ◌<◌, ◌≤◌, List, [], ◌∷◌, ◌++◌, length, take, drop, nat_eq, refl, sym, ap, ap₂, ◌∙◌}
+use Rattle.std.proofs.Common.{arith, length-take-le, length-drop}
 use Rattle.std.proofs.lemmas.Bool.{eqb-true}
 use Rattle.std.proofs.Math.Seq.{take-add, take-length}
 use Rattle.std.proofs.lemmas.List.{drop-take, length-take}
@@ -9,8 +11,9 @@ use Rattle.rart_keys.specs.KeyBytes.{AreBytes, AreBytes-take, AreBytes-drop}
 use Rattle.rart_keys.specs.LittleEndianWord.{little_endian_number}
 use Rattle.rart_keys.proofs.CommonPrefixes.{common_prefix_len-greatest}
 
--- the number tells the bytes
-bytes_of_number : (xs ys : List ℕ) → AreBytes xs → AreBytes ys → length xs ≡ length ys → little_endian_number xs ≡ little_endian_number ys → xs ≡ ys
+-- the number determines the bytes
+bytes_of_number : (xs ys : List ℕ) → AreBytes xs → AreBytes ys → length xs ≡ length ys
+    → little_endian_number xs ≡ little_endian_number ys → xs ≡ ys
 bytes_of_number [] [] p q l e = refl
 bytes_of_number [] (y ∷ ys) p q l e = absurd (omega arith)
 bytes_of_number (x ∷ xs) [] p q l e = absurd (omega arith)
@@ -21,13 +24,17 @@ bytes_of_number (x ∷ xs) (y ∷ ys) p q l e =
 
 -- the pieces of w bytes at i are equal where their numbers are
 pub piece_of_number : (w i : ℕ) (xs ys : List ℕ) → AreBytes xs → AreBytes ys → i + w ≤ length xs → i + w ≤ length ys
-    → little_endian_number (take w (drop i xs)) ≡ little_endian_number (take w (drop i ys)) → take w (drop i xs) ≡ take w (drop i ys)
+    → little_endian_number (take w (drop i xs)) ≡ little_endian_number (take w (drop i ys))
+    → take w (drop i xs) ≡ take w (drop i ys)
 piece_of_number w i xs ys p q l k e =
-    bytes_of_number _ _ (AreBytes-take w (drop i xs) (AreBytes-drop i xs p)) (AreBytes-take w (drop i ys) (AreBytes-drop i ys q))
-    (length-take-le w (drop i xs) (omega (arith, length-drop i xs)) ∙ sym (length-take-le w (drop i ys) (omega (arith, length-drop i ys)))) e
+    bytes_of_number _ _ (AreBytes-take w (drop i xs) (AreBytes-drop i xs p))
+    (AreBytes-take w (drop i ys) (AreBytes-drop i ys q))
+    (length-take-le w (drop i xs) (omega (arith, length-drop i xs))
+    ∙ sym (length-take-le w (drop i ys) (omega (arith, length-drop i ys)))) e
 
 -- what begins alike goes on alike by an equal piece
-pub one_piece_more : (w i : ℕ) (xs ys : List ℕ) → take i xs ≡ take i ys → take w (drop i xs) ≡ take w (drop i ys) → take (i + w) xs ≡ take (i + w) ys
+pub one_piece_more : (w i : ℕ) (xs ys : List ℕ) → take i xs ≡ take i ys → take w (drop i xs) ≡ take w (drop i ys)
+    → take (i + w) xs ≡ take (i + w) ys
 one_piece_more w i xs ys e f = take-add i w xs ∙ ap₂ ◌++◌ e f ∙ sym (take-add i w ys)
 
 -- fewer bytes are equal too
@@ -53,7 +60,8 @@ begins-shared p k n e h =
     let g = common_prefix_len-greatest p k in
     whole p k _ (let l = g.within_left in omega arith) g.same
 
-pub shared-begins : (p k : List ℕ) (n : ℕ) → n ≡ common_prefix_len nat_eq p k → length p ≤ length k → take (length p) k ≡ p → length p ≤ n
+pub shared-begins : (p k : List ℕ) (n : ℕ) → n ≡ common_prefix_len nat_eq p k → length p ≤ length k
+    → take (length p) k ≡ p → length p ≤ n
 shared-begins p k n e l h =
     let g = common_prefix_len-greatest p k in
     let m = g.greatest (length p) (omega arith) l (take-length p ∙ sym h) in omega arith
@@ -61,17 +69,21 @@ shared-begins p k n e l h =
 -- two byte strings, the first not the longer, that are read at a place
 module _ (p k : List ℕ) (bytes_p : AreBytes p) (bytes_k : AreBytes k) (fits : length p ≤ length k) where
   -- equal numbers at i: what begins alike goes on alike
-  pub goes-on : (w i m n : ℕ) → i + w ≤ length p → m ≡ little_endian_number (take w (drop i p)) → n ≡ little_endian_number (take w (drop i k)) → m ≡ n
+  pub goes-on : (w i m n : ℕ) → i + w ≤ length p → m ≡ little_endian_number (take w (drop i p))
+      → n ≡ little_endian_number (take w (drop i k)) → m ≡ n
       → take i p ≡ take i k → take (i + w) p ≡ take (i + w) k
-  goes-on w i m n h e f s b = one_piece_more w i p k b (piece_of_number w i p k bytes_p bytes_k h (omega arith) (sym e ∙ s ∙ f))
+  goes-on w i m n h e f s b = one_piece_more w i p k b
+      (piece_of_number w i p k bytes_p bytes_k h (omega arith) (sym e ∙ s ∙ f))
 
   -- the strings begin alike: so do their numbers at i
-  pub same-number : (w i m n : ℕ) → i + w ≤ length p → m ≡ little_endian_number (take w (drop i p)) → n ≡ little_endian_number (take w (drop i k))
+  pub same-number : (w i m n : ℕ) → i + w ≤ length p → m ≡ little_endian_number (take w (drop i p))
+      → n ≡ little_endian_number (take w (drop i k))
       → take (length p) k ≡ p → m ≡ n
   same-number w i m n h e f s = e ∙ ap little_endian_number (piece w i (length p) p k h (take-length p ∙ sym s)) ∙ sym f
 
   -- the last piece decides, where all before it is known to be alike
-  pub last-decides : (w last i m n : ℕ) → last + w ≡ length p → last ≤ i → m ≡ little_endian_number (take w (drop last p)) → n ≡ little_endian_number (take w (drop last k))
+  pub last-decides : (w last i m n : ℕ) → last + w ≡ length p → last ≤ i
+      → m ≡ little_endian_number (take w (drop last p)) → n ≡ little_endian_number (take w (drop last k))
       → take i p ≡ take i k → IsTrue (nat_eq m n) ↔ (take (length p) k ≡ p)
   last-decides w last i m n l h e f b = (
     (λ t. whole p k (last + w) l (goes-on w last m n (omega arith) e f (eqb-true m n t) (fewer last i p k h b))),

@@ -1,20 +1,23 @@
 -- Lists of pairs that a bulk load reads: where they first fail to ascend, and what stays of equal keys.
-use Rattle.std.specs.Prelude.{◌≡◌, ℕ, ◌-◌, ◌<◌, suc, List, [], ◌∷◌, length, slice_index_or, Option, Some, None, if◌then◌else◌}
+use Rattle.std.specs.Prelude.{◌≡◌, ℕ, ◌-◌, ◌<◌, suc, List, [], ◌∷◌, length, slice_index_or, Option, Some, None}
+use Rattle.std.specs.Prelude.{if◌then◌else◌}
 use Rattle.std.specs.declared.cmp.Ordering.{Ordering}
 use Rattle.std.specs.declared.cmp.Ordering.TheVariants.{Less}
 use Rattle.std.specs.Ordering.{nat_cmp, match_ordering}
 use Rattle.std.specs.Cmp.Lexicographic.{slice_cmp}
-use Rattle.rart_keys.specs.ByteStrings.{bytes_eq, IsBelow}
+use Rattle.rart_keys.specs.ByteStrings.{bytes_eq, IsLess}
 use Rattle.rart_keys.specs.SortedMap.{keys_of, put, values_of}
 
 -- the key at a place is below the one before it
 abbrev pub IsFaultAt : {V : Type 0} → List (List ℕ × V) → ℕ → Type 0
-IsFaultAt es i = (0 < i) × (i < length es) × IsBelow (slice_index_or (keys_of es) i []) (slice_index_or (keys_of es) (i - 1) [])
+IsFaultAt es i = (0 < i) × (i < length es)
+    × IsLess (slice_index_or (keys_of es) i []) (slice_index_or (keys_of es) (i - 1) [])
 
 -- the first place, from `place` on, whose key is below the one before it, where k stands before the first
 abbrev pub first_fault_behind : {V : Type 0} → ℕ → List ℕ → List (List ℕ × V) → Option ℕ
 first_fault_behind place k [] = None
-first_fault_behind place k (e ∷ es) = match_ordering (slice_cmp nat_cmp e.0 k) (Some place) (first_fault_behind (suc place) e.0 es) (first_fault_behind (suc place) e.0 es)
+first_fault_behind place k (e ∷ es) = match_ordering (slice_cmp nat_cmp e.0 k) (Some place)
+    (first_fault_behind (suc place) e.0 es) (first_fault_behind (suc place) e.0 es)
 
 -- the first place whose key is below the one before it
 abbrev pub first_fault : {V : Type 0} → List (List ℕ × V) → Option ℕ

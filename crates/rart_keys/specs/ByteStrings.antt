@@ -1,5 +1,6 @@
 -- Byte strings.
-use Rattle.std.specs.Prelude.{ℕ, ◌≡◌, ◌==◌, Bool, true, false, List, [], ◌∷◌, Option, Some, None, is_some, if◌then◌else◌}
+use Rattle.std.specs.Prelude.{ℕ, ◌≡◌, ◌==◌, Bool, true, false, List, [], ◌∷◌, Option, Some, None, is_some}
+use Rattle.std.specs.Prelude.{if◌then◌else◌}
 use Rattle.std.proofs.Common.{Less}
 use Rattle.std.specs.Ordering.{nat_cmp}
 use Rattle.std.specs.Cmp.Lexicographic.{slice_cmp}
@@ -12,16 +13,16 @@ bytes_eq (x ∷ xs) [] = false
 bytes_eq (x ∷ xs) (y ∷ ys) = if x == y then bytes_eq xs ys else false
 
 -- decided by the first place that differs; a proper beginning is below its extension
-abbrev pub IsBelow : List ℕ → List ℕ → Type 0
-IsBelow k l = slice_cmp nat_cmp k l ≡ Less
+abbrev pub IsLess : List ℕ → List ℕ → Type 0
+IsLess k l = slice_cmp nat_cmp k l ≡ Less
 
--- what is left of k behind p, or None where p doesn't begin k
+-- what is left of k after p, or None where p doesn't begin k
 abbrev pub strip_prefix : List ℕ → List ℕ → Option (List ℕ)
 strip_prefix [] k = Some k
 strip_prefix (x ∷ p) [] = None
 strip_prefix (x ∷ p) (y ∷ k) = if x == y then strip_prefix p k else None
 
--- the byte of k behind p, where p properly begins k
+-- the byte of k after p, where p properly begins k
 abbrev pub byte_after : List ℕ → List ℕ → Option ℕ
 byte_after [] [] = None
 byte_after [] (y ∷ k) = Some y

@@ -20,6 +20,6 @@ last_or o (e ∷ es) = last_or (Some e) es
 abbrev pub longest_match : {V : Type 0} → List ℕ → List (List ℕ × V) → Option (List ℕ × V)
 longest_match q es = last_or None (matches q es)
 
--- the value that stands there
+-- the value that is stored there
 abbrev pub longest_value : {V : Type 0} → List ℕ → List (List ℕ × V) → Option V
 longest_value q es = option_map (λ e. e.1) (longest_match q es)

@@ -1,5 +1,6 @@
 -- What holds of the bytes of every key and every part of a key.
-use Rattle.std.specs.Prelude.{◌^◌, ◌<◌, ◌≤◌, ℕ, zero, suc, Option, Some, None, List, [], ◌∷◌, take, drop, length, slice_index}
+use Rattle.std.specs.Prelude.{◌^◌, ◌<◌, ◌≤◌, ℕ, zero, suc, Option, Some, None, List, [], ◌∷◌, take, drop, length}
+use Rattle.std.specs.Prelude.{slice_index}
 use Rattle.std.specs.Coded.{Unit-prop, le_prop}
 use Rattle.std.proofs.Common.{◌≡◌, arith, length-drop, length-take}
 
@@ -21,7 +22,7 @@ IsWithin-prop (Some m) n = le_prop
 pub length-take-within : (n m : ℕ) (bs : List ℕ) → n ≤ m → length (take n bs) ≤ m
 length-take-within n m bs h = omega (arith, length-take n bs)
 
--- what is behind some of m is at most m
+-- what is after some of m is at most m
 pub length-drop-within : (n m : ℕ) (bs : List ℕ) → length bs ≡ m → length (drop n bs) ≤ m
 length-drop-within n m bs h = omega (arith, length-drop n bs)
 
@@ -32,7 +33,7 @@ AreBytes-take (suc n) [] h i = omega arith
 AreBytes-take (suc n) (b ∷ bs) h zero = h 0
 AreBytes-take (suc n) (b ∷ bs) h (suc i) = AreBytes-take n bs (λ j. h (suc j)) i
 
--- the bytes behind some are bytes
+-- the bytes after some are bytes
 pub AreBytes-drop : (n : ℕ) (bs : List ℕ) → AreBytes bs → AreBytes (drop n bs)
 AreBytes-drop zero bs h i = h i
 AreBytes-drop (suc n) [] h i = omega arith

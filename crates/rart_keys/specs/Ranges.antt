@@ -12,9 +12,9 @@ bound_in bytes Unbounded = Unbounded
 bound_in bytes (Included key) = Included (bytes key)
 bound_in bytes (Excluded key) = Excluded (bytes key)
 
--- whether k comes behind s; where it is s the answer is h
-abbrev pub is_since : Bool → List ℕ → List ℕ → Bool
-is_since h s k = match_ordering (slice_cmp nat_cmp k s) false h true
+-- whether k comes after s; where it is s the answer is h
+abbrev pub is_from_bound : Bool → List ℕ → List ℕ → Bool
+is_from_bound h s k = match_ordering (slice_cmp nat_cmp k s) false h true
 
 -- whether k comes before s; where it is s the answer is h
 abbrev pub is_until : Bool → List ℕ → List ℕ → Bool
@@ -23,8 +23,8 @@ is_until h s k = match_ordering (slice_cmp nat_cmp k s) true h false
 -- whether a key is within a start
 abbrev pub is_from : Bound (List ℕ) → List ℕ → Bool
 is_from Unbounded k = true
-is_from (Included a) k = is_since true a k
-is_from (Excluded a) k = is_since false a k
+is_from (Included a) k = is_from_bound true a k
+is_from (Excluded a) k = is_from_bound false a k
 
 -- whether a key is within an end
 abbrev pub is_to : Bound (List ℕ) → List ℕ → Bool
@@ -33,12 +33,12 @@ is_to (Included a) k = is_until true a k
 is_to (Excluded a) k = is_until false a k
 
 -- the pairs within a start, in order
-abbrev pub since : {V : Type 0} → Bound (List ℕ) → List (List ℕ × V) → List (List ℕ × V)
-since a es = filter (λ e. is_from a e.0) es
+abbrev pub from_bound : {V : Type 0} → Bound (List ℕ) → List (List ℕ × V) → List (List ℕ × V)
+from_bound a es = filter (λ e. is_from a e.0) es
 
--- the pairs that come behind s, and where h says so the one at s
-abbrev pub pairs_since : {V : Type 0} → Bool → List ℕ → List (List ℕ × V) → List (List ℕ × V)
-pairs_since h s es = filter (λ e. is_since h s e.0) es
+-- the pairs that come after s, and where h says so the one at s
+abbrev pub pairs_from : {V : Type 0} → Bool → List ℕ → List (List ℕ × V) → List (List ℕ × V)
+pairs_from h s es = filter (λ e. is_from_bound h s e.0) es
 
 -- the pairs before the first one past an end
 abbrev pub up_to : {V : Type 0} → Bound (List ℕ) → List (List ℕ × V) → List (List ℕ × V)

@@ -3,12 +3,12 @@ use Rattle.std.specs.Prelude.{ℕ, not, max, length, List, [], ◌∷◌, map, O
 use Rattle.std.specs.List.{filter}
 use Rattle.std.specs.Ordering.{nat_cmp, match_ordering}
 use Rattle.std.specs.Cmp.Lexicographic.{slice_cmp}
-use Rattle.rart_keys.specs.ByteStrings.{bytes_eq, IsBelow}
+use Rattle.rart_keys.specs.ByteStrings.{bytes_eq, IsLess}
 
 -- each key of the list is above k
 abbrev pub AreAbove : {V : Type 0} → List ℕ → List (List ℕ × V) → Type 0
 AreAbove k [] = Unit {0}
-AreAbove k (e ∷ es) = IsBelow k e.0 × AreAbove k es
+AreAbove k (e ∷ es) = IsLess k e.0 × AreAbove k es
 
 -- the keys ascend strictly
 abbrev pub IsAscending : {V : Type 0} → List (List ℕ × V) → Type 0

@@ -1,7 +1,4 @@
-//! How many bytes two byte strings begin with in common.
-//!
-//! Contracts see the answer twice: as the number that std's `common_prefix_len` computes, and as
-//! the greatest number of bytes with which both begin.
+//! The length of the common prefix of two byte strings.
 ghost use Rattle.std.specs.Prelude.{◌≡◌, ◌+◌, ◌≤◌, length, take, drop, nat_eq};
 ghost use Rattle.std.specs.Cmp.Lexicographic.{slice_cmp};
 ghost use Rattle.std.specs.List.{common_prefix_len};
@@ -11,10 +8,10 @@ ghost use Rattle.rart_keys.specs.LittleEndianWord.{little_endian_number};
 
 use std::cmp::Ordering;
 
-/// The number of bytes that are read at once.
+/// Is the number of bytes that are read at once.
 pub(crate) const WORD_BYTES: usize = 8;
 
-/// The number of bytes with which both begin. Takes no memory.
+/// Returns the length of the longest common prefix. It does not allocate.
 pub fn common_prefix_length(left: &[u8], right: &[u8]) -> usize
     ensures value { result ≡ common_prefix_len nat_eq left.now right.now }
     ensures greatest { IsCommonPrefixLength left.now right.now result }
@@ -22,8 +19,7 @@ pub fn common_prefix_length(left: &[u8], right: &[u8]) -> usize
     prefix_length_words(left, right)
 }
 
-/// The order of two byte strings, byte by byte. What both begin with is passed over by words; the byte behind it decides,
-/// or the lengths where one begins the other. Takes no memory.
+/// Compares two byte strings lexicographically. It skips the common prefix by words and does not allocate.
 pub fn compare_bytes(left: &[u8], right: &[u8]) -> Ordering
     ensures { result ≡ slice_cmp nat_cmp left.now right.now }
 {

@@ -1,10 +1,7 @@
-//! Byte strings that lie at the front or at the end of an array of fixed width.
-//!
-//! Contracts see the whole array: the bytes, and zeros behind or before them.
+//! Arrays of fixed length that hold a shorter byte string and zeros.
 ghost use Rattle.std.specs.Prelude.{◌≡◌, ◌+◌, ◌-◌, ◌≤◌, ◌++◌, length, replicate};
 
-/// An array that begins with the bytes of `first` and then `second`, and has zeros behind them.
-/// It asks that both fit together.
+/// Returns an array of `first`, `second` and zeros, in this order.
 pub(crate) fn joined<const N: usize>(first: &[u8], second: &[u8]) -> [u8; N]
     requires { length first.now + length second.now ≤ N }
     ensures { result ≡ first.now ++ second.now ++ replicate (N - (length first.now + length second.now)) 0 }
@@ -18,8 +15,7 @@ pub(crate) fn joined<const N: usize>(first: &[u8], second: &[u8]) -> [u8; N]
     bytes
 }
 
-/// An array that ends with the bytes of `first` and then `second`, and has zeros before them. It asks
-/// that both fit together.
+/// Returns an array of zeros, `first` and `second`, in this order.
 pub(crate) fn joined_at_end<const N: usize>(first: &[u8], second: &[u8]) -> [u8; N]
     requires { length first.now + length second.now ≤ N }
     ensures { result ≡ replicate (N - (length first.now + length second.now)) 0 ++ first.now ++ second.now }

@@ -1,5 +1,4 @@
-//! Laws, each the contract of a function: those of the sorted map here, with an empty body, those of longest matches, and
-//! those of keys and their order.
+//! Laws of the sorted map, of keys and their order, and of longest matches, each the contract of a function.
 ghost use Rattle.std.specs.Prelude.{◌≡◌, ◌≢◌, ◌≤◌, ◌+◌, ℕ, List, Some, None, length};
 ghost use Rattle.rart_keys.specs.Joins.{both, join, swapped};
 ghost use Rattle.rart_keys.specs.SortedMap.{IsAscending, count_of, lookup, put, without};
@@ -8,26 +7,32 @@ pub mod bulk_lists;
 pub mod key_order;
 pub mod longest;
 
-/// Two ascending lists of pairs with the same look-ups are one list; `put` and `without` keep a list
-/// ascending, change the look-up of their key alone, and change the length by at most one. A new key
-/// that is put in and taken out again leaves the list as it was.
+/// Proves the laws of the sorted map. Ascending lists with the same look-ups are equal. `put` and `without` keep a
+/// list ascending and change only the look-up of their key. Removing a newly inserted key restores the list.
 pub fn sorted_map<V>()
-    ensures one_list { (xs ys : List (List ℕ × V)) → IsAscending xs → IsAscending ys → ((q : List ℕ) → lookup q xs ≡ lookup q ys) → xs ≡ ys }
+    ensures one_list { (xs ys : List (List ℕ × V)) → IsAscending xs → IsAscending ys
+        → ((q : List ℕ) → lookup q xs ≡ lookup q ys) → xs ≡ ys }
     ensures put_ascends { (k : List ℕ) (v : V) (es : List (List ℕ × V)) → IsAscending es → IsAscending (put k v es) }
     ensures put_at { (k : List ℕ) (v : V) (es : List (List ℕ × V)) → lookup k (put k v es) ≡ Some v }
-    ensures put_elsewhere { (q k : List ℕ) (v : V) (es : List (List ℕ × V)) → q ≢ k → lookup q (put k v es) ≡ lookup q es }
-    ensures put_length { (k : List ℕ) (v : V) (es : List (List ℕ × V)) → IsAscending es → length (put k v es) + count_of (lookup k es) ≡ length es + 1 }
+    ensures put_elsewhere { (q k : List ℕ) (v : V) (es : List (List ℕ × V)) → q ≢ k
+        → lookup q (put k v es) ≡ lookup q es }
+    ensures put_length { (k : List ℕ) (v : V) (es : List (List ℕ × V)) → IsAscending es
+        → length (put k v es) + count_of (lookup k es) ≡ length es + 1 }
     ensures without_ascends { (k : List ℕ) (es : List (List ℕ × V)) → IsAscending es → IsAscending (without k es) }
     ensures without_at { (k : List ℕ) (es : List (List ℕ × V)) → lookup k (without k es) ≡ None }
-    ensures without_elsewhere { (q k : List ℕ) (es : List (List ℕ × V)) → q ≢ k → lookup q (without k es) ≡ lookup q es }
-    ensures put_then_without { (k : List ℕ) (v : V) (es : List (List ℕ × V)) → IsAscending es → lookup k es ≡ None → without k (put k v es) ≡ es }
+    ensures without_elsewhere { (q k : List ℕ) (es : List (List ℕ × V)) → q ≢ k
+        → lookup q (without k es) ≡ lookup q es }
+    ensures put_then_without { (k : List ℕ) (v : V) (es : List (List ℕ × V)) → IsAscending es → lookup k es ≡ None
+        → without k (put k v es) ≡ es }
 {}
 
-/// The join of two maps ascends, has a key exactly where both maps do, with the value of each, and is
-/// no longer than the first. Swapping the maps swaps the values alone.
+/// Proves the laws of the join of two maps. It ascends, holds the keys of both with both values, and is no longer than
+/// the first map. Swapping the maps swaps the values.
 pub fn joins<V, W>()
     ensures ascends { (l : List (List ℕ × V)) (m : List (List ℕ × W)) → IsAscending l → IsAscending (join l m) }
-    ensures looks { (k : List ℕ) (l : List (List ℕ × V)) (m : List (List ℕ × W)) → IsAscending l → lookup k (join l m) ≡ both (lookup k l) (lookup k m) }
+    ensures looks { (k : List ℕ) (l : List (List ℕ × V)) (m : List (List ℕ × W)) → IsAscending l
+        → lookup k (join l m) ≡ both (lookup k l) (lookup k m) }
     ensures few { (l : List (List ℕ × V)) (m : List (List ℕ × W)) → length (join l m) ≤ length l }
-    ensures other_way { (l : List (List ℕ × V)) (m : List (List ℕ × W)) → IsAscending l → IsAscending m → join m l ≡ swapped (join l m) }
+    ensures other_way { (l : List (List ℕ × V)) (m : List (List ℕ × W)) → IsAscending l → IsAscending m
+        → join m l ≡ swapped (join l m) }
 {}

@@ -1,6 +1,5 @@
-//! Keys of a radix tree, and the parts of keys that its nodes keep.
-//!
-//! Contracts see a key and a part of one as its list of bytes. Nothing here takes memory.
+//! The keys of a radix tree, and the parts of keys that its nodes keep. Contracts read both as lists of bytes, and no
+//! call allocates.
 #![tactic(auto)]
 
 mod common_prefix;

@@ -1,4 +1,4 @@
-//! What follows a prefix in a byte string, found without measuring what the two share.
+//! The bytes of a key after a prefix, found without measuring the common prefix.
 ghost use Rattle.std.specs.Prelude.{◌≡◌, ◌↔◌, ◌+◌, ◌≤◌, length, take, drop, IsTrue};
 ghost use Rattle.std.specs.Option.{option_copied};
 ghost use Rattle.rart_keys.specs.ByteStrings.{strip_prefix};
@@ -6,10 +6,10 @@ ghost use Rattle.rart_keys.specs.LittleEndianWord.{little_endian_number};
 
 use crate::common_prefix::{WORD_BYTES, prefix_length_bytes, word_at};
 
-/// The number of bytes in half a word.
+/// Is the number of bytes in half a word.
 const HALF_BYTES: usize = 4;
 
-/// Returns what follows `prefix` in `key`, or `None` if `prefix` does not begin `key`. Takes no memory.
+/// Returns the bytes of `key` after `prefix`, or `None` if `prefix` does not begin `key`. It does not allocate.
 pub fn strip_prefix<'a>(prefix: &[u8], key: &'a [u8]) -> Option<&'a [u8]>
     ensures { option_copied result ≡ strip_prefix prefix.now key.now }
 {

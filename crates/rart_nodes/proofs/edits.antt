@@ -16,4 +16,4 @@ pub mod RemoveAskSteps
 pub mod RemoveLemmas
 pub mod RemoveSteps
 pub mod RemovedPairs
-pub mod StopLemmas
+pub mod InsertStopLemmas

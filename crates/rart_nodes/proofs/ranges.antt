@@ -1,4 +1,4 @@
-pub mod DueLemmas
+pub mod PotentialLemmas
 pub mod RangeCuts
 pub mod StartLemmas
 pub mod StartPaths

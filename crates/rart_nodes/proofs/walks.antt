@@ -5,10 +5,10 @@ pub mod FirstBelow
 pub mod MatchLemmas
 pub mod PartCuts
 pub mod PartLemmas
-pub mod PieceLemmas
+pub mod SegmentLemmas
 pub mod ProbeLemmas
 pub mod SeenLemmas
 pub mod ShownCuts
-pub mod StopLemmas
-pub mod TourLemmas
-pub mod TourVisits
+pub mod EntryLemmas
+pub mod WalkLemmas
+pub mod WalkVisits

@@ -6,4 +6,4 @@ pub mod Lends
 pub mod Loan
 pub mod NodeEdits
 pub mod RemoveAsks
-pub mod Stops
+pub mod InsertStops

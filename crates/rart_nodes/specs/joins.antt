@@ -1,11 +1,11 @@
-pub mod Forks
+pub mod Alignments
 pub mod Given
 pub mod Lockstep
-pub mod Meetings
+pub mod Visitors
 pub mod PairCalls
 pub mod SeenJoins
 pub mod SharedEdges
-pub mod Twins
-pub mod TwinsAhead
+pub mod SharedChildren
+pub mod SharedChildrenAhead
 pub mod ViewCalls
-pub mod Ways
+pub mod JoinPaths

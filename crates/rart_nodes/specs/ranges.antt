@@ -1,3 +1,3 @@
-pub mod Dues
+pub mod Potential
 pub mod Spans
 pub mod Starts

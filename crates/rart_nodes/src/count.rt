@@ -5,8 +5,7 @@ ghost use Rattle.std.specs.Prelude.{◌≡◌, ℕ, ◌+◌};
 
 use std::marker::{Model, PhantomData};
 
-/// What a contract sees as a number. Code that is generic in a `Count` can neither make one nor set
-/// it back: it can only add one.
+/// Counts visits for contracts. Generic code can neither create nor reset a `Count`; it can only add one.
 pub trait Count {
     ghost number: { Self → ℕ };
 
@@ -15,7 +14,7 @@ pub trait Count {
         ensures { number self.new ≡ number self.old + 1 };
 }
 
-/// A number of visits that exists in proofs alone, and takes no room at run time.
+/// Counts visits in proofs alone. It has size 0 at run time.
 #[derive(Drop)]
 pub struct Visits {
     ghost count: { ℕ },
@@ -28,7 +27,7 @@ impl Model for Visits {
 }
 
 impl Visits {
-    /// No visit yet.
+    /// Returns a counter of no visits.
     pub fn new() -> Visits
         ensures { result.count ≡ 0 }
     {
@@ -50,9 +49,8 @@ impl Count for Visits {
 
 const _: () = prove!(std::mem::size_of::<Visits>() == 0);
 
-/// Marks the other tree of an intersection, whose visits a `C` counts as well. It is no `Count`: a
-/// node of that tree is visited together with one of the first tree, or alone on the way to such a
-/// pair, and a tree and itself are no pair.
+/// Marks the second tree of an intersection. It implements no `Count`: the visits of both trees are counted by the `C`
+/// of the first tree, a pair of nodes as one visit.
 pub struct Paired<C> {
     of: PhantomData<C>,
 }

@@ -4,81 +4,94 @@ ghost use Rattle.rart_keys.specs.Joins.{join};
 ghost use Rattle.rart_keys.specs.SortedMap.{IsAscending, lookup, put, without, keys_of};
 ghost use Rattle.rart_nodes.specs.shapes.BranchPoints.{IsBranchPoint};
 ghost use Rattle.rart_nodes.specs.edits.EditRuns.{Edit, run_tree, run_map};
-ghost use Rattle.rart_nodes.specs.joins.Lockstep.{meet};
-ghost use Rattle.rart_nodes.specs.joins.SharedEdges.{as_map, is_shared, joint_visits, meet_visits, shared_edges};
+ghost use Rattle.rart_nodes.specs.joins.Lockstep.{intersect_nodes};
+ghost use Rattle.rart_nodes.specs.joins.SharedEdges.{as_map, is_shared, joint_visits, intersect_visits, shared_edges};
 ghost use Rattle.rart_nodes.specs.edits.InsertAsks.{insert_asks, trie_asks_put};
 ghost use Rattle.rart_nodes.specs.walks.ProbeCount.{probe_count, entered_nodes};
 ghost use Rattle.rart_nodes.specs.edits.RemoveAsks.{remove_asks, trie_asks_remove};
 ghost use Rattle.rart_nodes.specs.shapes.SampleKeys.{nested_keys, left_keys, right_keys};
 ghost use Rattle.rart_nodes.specs.shapes.Shape.{HasShape, NodeRecord, contains_key, record_at};
 ghost use Rattle.rart_nodes.specs.tries.Tree.{tree_pairs, tree_nodes, IsCanonicalTree};
-ghost use Rattle.rart_nodes.specs.tries.Trie.{Trie, IsCanonical, trie_lookup, pairs_of, nodes_of, trie_put, trie_remove};
+ghost use Rattle.rart_nodes.specs.tries.Trie.{Trie, IsCanonical, trie_lookup, pairs_of, nodes_of, trie_put};
+ghost use Rattle.rart_nodes.specs.tries.Trie.{trie_remove};
 
 pub mod statistics;
 
-/// A canonical trie is determined by its keys: its pairs ascend, a descent is a look-up in them,
-/// and its nodes are exactly the branch points of its keys.
+/// Proves that the keys determine a canonical trie. Its pairs ascend, a descent is a look-up in them, and its nodes
+/// are exactly the branch points of its keys.
 pub fn canonical_trie<V>()
     ensures pairs_ascend { (t : Trie V) → IsCanonical t → IsAscending (pairs_of t) }
     ensures looks_up { (k : List ℕ) (t : Trie V) → IsCanonical t → trie_lookup k t ≡ lookup k (pairs_of t) }
     ensures shape { (t : Trie V) → IsCanonical t → HasShape (keys_of (pairs_of t)) (nodes_of t) }
-    ensures equal_keys { (t u : Trie V) → IsCanonical t → IsCanonical u → keys_of (pairs_of t) ≡ keys_of (pairs_of u) → nodes_of t ≡ nodes_of u }
+    ensures equal_keys { (t u : Trie V) → IsCanonical t → IsCanonical u → keys_of (pairs_of t) ≡ keys_of (pairs_of u)
+        → nodes_of t ≡ nodes_of u }
     ensures few_nodes { (t : Trie V) → IsCanonical t → length (nodes_of t) + 1 ≤ 2 * length (pairs_of t) }
-    ensures visits { (k : List ℕ) (t : Trie V) → IsCanonical t → entered_nodes k t ≡ probe_count (keys_of (pairs_of t)) k }
+    ensures visits { (k : List ℕ) (t : Trie V) → IsCanonical t
+        → entered_nodes k t ≡ probe_count (keys_of (pairs_of t)) k }
 {}
 
-/// The shape of keys has a record at a string exactly if the string is a branch point of them.
+/// Proves that the shape of keys has a record at a string exactly if the string is a branch point.
 pub fn branch_points<V>()
-    ensures has_record { (p : List ℕ) (m : List (List ℕ × V)) → IsAscending m → IsBranchPoint (keys_of m) p → is_some (record_at (keys_of m) p) ≡ true }
-    ensures has_no_other { (p : List ℕ) (m : List (List ℕ × V)) → IsAscending m → is_some (record_at (keys_of m) p) ≡ true → IsBranchPoint (keys_of m) p }
+    ensures has_record { (p : List ℕ) (m : List (List ℕ × V)) → IsAscending m → IsBranchPoint (keys_of m) p
+        → is_some (record_at (keys_of m) p) ≡ true }
+    ensures has_no_other { (p : List ℕ) (m : List (List ℕ × V)) → IsAscending m → is_some (record_at (keys_of m) p)
+        ≡ true → IsBranchPoint (keys_of m) p }
 {}
 
-/// What an edit does to a canonical trie: it stays canonical, its pairs are those of the sorted
-/// map, and where the edit needs other room is told by the keys alone.
+/// Proves what an edit does to a canonical trie. The trie stays canonical, its pairs are those of the sorted map, and
+/// the keys alone determine where the edit allocates.
 pub fn edits<V>()
     ensures put_canonical { (k : List ℕ) (v : V) (t : Trie V) → IsCanonical t → IsCanonical (trie_put k v t) }
-    ensures put_pairs { (k : List ℕ) (v : V) (t : Trie V) → IsCanonical t → pairs_of (trie_put k v t) ≡ put k v (pairs_of t) }
-    ensures put_asks { (k : List ℕ) (t : Trie V) → IsCanonical t → trie_asks_put k t ≡ insert_asks (keys_of (pairs_of t)) k }
+    ensures put_pairs { (k : List ℕ) (v : V) (t : Trie V) → IsCanonical t
+        → pairs_of (trie_put k v t) ≡ put k v (pairs_of t) }
+    ensures put_asks { (k : List ℕ) (t : Trie V) → IsCanonical t
+        → trie_asks_put k t ≡ insert_asks (keys_of (pairs_of t)) k }
     ensures remove_canonical { (k : List ℕ) (t : Trie V) → IsCanonical t → IsCanonicalTree (trie_remove k t) }
-    ensures remove_pairs { (k : List ℕ) (t : Trie V) → IsCanonical t → tree_pairs (trie_remove k t) ≡ without k (pairs_of t) }
-    ensures remove_absent { (k : List ℕ) (t : Trie V) → IsCanonical t → trie_lookup k t ≡ None → trie_remove k t ≡ Some t }
-    ensures remove_asks { (k : List ℕ) (t : Trie V) → IsCanonical t → trie_asks_remove None k t ≡ remove_asks (keys_of (pairs_of t)) k }
+    ensures remove_pairs { (k : List ℕ) (t : Trie V) → IsCanonical t
+        → tree_pairs (trie_remove k t) ≡ without k (pairs_of t) }
+    ensures remove_absent { (k : List ℕ) (t : Trie V) → IsCanonical t → trie_lookup k t ≡ None
+        → trie_remove k t ≡ Some t }
+    ensures remove_asks { (k : List ℕ) (t : Trie V) → IsCanonical t
+        → trie_asks_remove None k t ≡ remove_asks (keys_of (pairs_of t)) k }
 {}
 
-/// After any list of edits of an empty tree the pairs are those of the sorted map, and the nodes
-/// have the shape of its keys.
+/// Proves that after any list of edits of an empty tree the pairs are those of the sorted map and the nodes have the
+/// shape of its keys.
 pub fn histories<V>()
     ensures pairs { (es : List (Edit V)) → tree_pairs (run_tree es None) ≡ run_map es [] }
     ensures shape { (es : List (Edit V)) → HasShape (keys_of (run_map es [])) (tree_nodes (run_tree es None)) }
 {}
 
-/// Keys have one shape: two lists of records that both have the shape of the same keys are equal.
+/// Proves that two lists of records with the shape of the same keys are equal.
 pub fn one_shape()
     ensures { (s : List (List ℕ)) (xs ys : List (List ℕ × NodeRecord)) → HasShape s xs → HasShape s ys → xs ≡ ys }
 {}
 
-/// A value that stands at a key and is put there again changes nothing, also where another stood there
-/// in between.
+/// Proves that storing the present value of a key changes nothing, and that it undoes the storing of another.
 pub fn put_back<V>()
     ensures same { (k : List ℕ) (v : V) (m : List (List ℕ × V)) → IsAscending m → lookup k m ≡ Some v → put k v m ≡ m }
-    ensures back { (k : List ℕ) (v w : V) (m : List (List ℕ × V)) → IsAscending m → lookup k m ≡ Some v → put k v (put k w m) ≡ m }
+    ensures back { (k : List ℕ) (v w : V) (m : List (List ℕ × V)) → IsAscending m → lookup k m ≡ Some v
+        → put k v (put k w m) ≡ m }
 {}
 
-/// A walk through two canonical tries in lockstep gives the join of their pairs, and makes one visit
-/// for the roots and one for each edge that both tries share: fewer than they have nodes together.
+/// Proves that the walk of an intersection yields the join of the pairs. It makes one visit for the roots and one for
+/// each shared edge, which is fewer than both tries have nodes.
 pub fn intersections<V, W>()
-    ensures meets { (t : Trie V) (u : Trie W) → IsCanonical t → IsCanonical u → meet t u ≡ join (pairs_of t) (pairs_of u) }
-    ensures visits { (t : Trie V) (u : Trie W) → IsCanonical t → IsCanonical u → meet_visits t u ≡ 1 + length (shared_edges (keys_of (pairs_of t)) (keys_of (pairs_of u))) }
-    ensures visits_below_nodes { (t : Trie V) (u : Trie W) → IsCanonical u → meet_visits t u + 1 ≤ length (nodes_of t) + length (nodes_of u) }
+    ensures meets { (t : Trie V) (u : Trie W) → IsCanonical t → IsCanonical u
+        → intersect_nodes t u ≡ join (pairs_of t) (pairs_of u) }
+    ensures visits { (t : Trie V) (u : Trie W) → IsCanonical t → IsCanonical u
+        → intersect_visits t u ≡ 1 + length (shared_edges (keys_of (pairs_of t)) (keys_of (pairs_of u))) }
+    ensures visits_below_nodes { (t : Trie V) (u : Trie W) → IsCanonical u
+        → intersect_visits t u + 1 ≤ length (nodes_of t) + length (nodes_of u) }
     ensures edges { (x : List ℕ) (s t : List (List ℕ)) → contains_key (shared_edges s t) x ≡ is_shared s t x }
     ensures edges_ascend { (s t : List (List ℕ)) → IsAscending (as_map (shared_edges s t)) }
 {}
 
-/// Numbers of visits, by computation.
+/// Proves numbers of visits by computation.
 ///
-/// In a tree of "", "a", "ab" and "abc" a look-up of "abc" visits four nodes, one of "abd" three and one of "b" the root
-/// alone. The intersection of "ab", "abc" and "dog" with "abc", "dog" and "zzz" visits both roots together and then one
-/// node for each of the edges "a", "abc" and "d". In an empty tree nothing is visited.
+/// In a tree of "", "a", "ab" and "abc" a look-up of "abc" visits four nodes, one of "abd" three, and one of "b" the
+/// root alone. The intersection of "ab", "abc" and "dog" with "abc", "dog" and "zzz" visits both roots together and
+/// one node for each of the edges "a", "abc" and "d". An empty tree has no visits.
 pub fn sample_visits()
     ensures deepest { probe_count nested_keys (97 ∷ 98 ∷ 99 ∷ []) ≡ 4 }
     ensures absent { probe_count nested_keys (97 ∷ 98 ∷ 100 ∷ []) ≡ 3 }

@@ -1,7 +1,7 @@
-//! Nodes of an Adaptive Radix Tree: their storage, insertion, and look-ups of a shared tree.
+//! The nodes of an Adaptive Radix Tree: storage, edits, counted reads of a shared tree, intersections and statistics.
 //!
-//! Contracts see a node as a trie, pure data with all that stands below it. The theorems of the
-//! subject are theorems on tries (`laws`); a node's calls are proved equal to functions on them.
+//! A contract reads a node as a trie, plain data that holds the whole subtree. The theorems are theorems on tries
+//! ([`laws`]), and the contract of each edit equates it with a function on them.
 #![tactic(auto)]
 
 mod count;

@@ -1,6 +1,5 @@
-//! A node of the tree: a prefix, an optional value, and children by their edge bytes.
-//!
-//! Contracts see a node as a trie: all that stands below it, whatever its storage is.
+//! A node of the tree: a prefix, an optional value, and children by edge byte. A contract reads it as a trie, whatever
+//! its storage.
 ghost use Rattle.std.specs.Prelude.{◌≡◌, ◌+◌, ◌*◌, ◌≤◌, [], ◌∷◌, length};
 ghost use Rattle.std.specs.Option.{option_copied};
 ghost use Rattle.rart_keys.specs.SortedMap.{IsAscending, keys_of};
@@ -14,31 +13,31 @@ use std::marker::Model;
 mod build;
 mod children;
 mod control;
+mod get_mut;
 mod insert;
 mod intersect;
 pub mod iter;
-mod lend;
-mod made;
 mod matching;
+mod node_trait;
+mod path;
 pub mod range;
 mod remove;
 mod rest;
 pub mod seen;
 mod statistics;
 mod storage;
-mod tour;
-mod trail;
 mod update;
 mod view;
+mod walk;
 mod walks;
 
 pub use children::NodeIter;
 pub use control::{VisitControl, VisitError};
-pub use made::Node;
+pub use node_trait::Node;
 pub use view::{LendingKeyBytes, LendingKeyView};
 
-/// A node. A child's prefix begins with the byte by which it stands; only the prefix of a root may
-/// be empty.
+/// Holds a prefix, an optional value and children. The prefix of a child begins with its edge byte; only a root has an
+/// empty prefix.
 #[derive(Drop)]
 pub struct DefaultNode<P: Partial, V> {
     prefix: P,
@@ -66,7 +65,7 @@ impl<P: Partial, V> Model for DefaultNode<P, V> {
 }
 
 impl<P: Partial, V> DefaultNode<P, V> {
-    /// A node without children that holds `value`. Takes no memory.
+    /// Returns a node without children that holds `value`. It does not allocate.
     pub fn new_leaf(prefix: P, value: V) -> Self
         ensures leaf { result ≡ leaf (P.bytes prefix) value }
         ensures canonical { IsCanonical result }
@@ -79,29 +78,29 @@ impl<P: Partial, V> DefaultNode<P, V> {
         }
     }
 
-    /// The value that the node holds.
+    /// Returns the value of the node.
     pub fn value(&self) -> Option<&V>
         ensures { option_copied result ≡ value_of self.now }
     {
         self.value.as_ref()
     }
 
-    /// The node's prefix.
+    /// Returns the prefix of the node.
     pub(crate) fn prefix(&self) -> &P
         ensures { P.bytes result.now ≡ prefix_of self.now }
     {
         &self.prefix
     }
 
-    /// The child at byte `b`.
+    /// Returns the child at byte `b`.
     pub fn seek_child(&self, b: u8) -> Option<&Self>
         ensures { option_copied result ≡ child_in b self.now }
     {
         self.storage.seek_child(b)
     }
 
-    /// A canonical node's pairs ascend by key, and its nodes are exactly the branch points of its
-    /// keys, each of the kind that its child count fixes: at most 2n - 1 for n keys.
+    /// Proves that the pairs of a canonical node ascend and that its nodes are exactly the branch points of its keys.
+    /// A tree of `n` keys has at most `2 * n - 1` nodes.
     pub fn canonical(&self)
         requires { IsCanonical self.now }
         ensures ascending { IsAscending (pairs_of self.now) }

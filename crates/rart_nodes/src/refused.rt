@@ -1,21 +1,21 @@
-//! Refusals that hand back what was offered.
+//! Errors that return the offered value.
 
 use rart_parts::TreeError;
 
-/// A refused call: why, and the value that was offered. All else stands as it was before the call.
+/// Holds the error of a failed call and the offered value.
 #[derive(Drop)]
 pub struct Refused<T> {
-    /// Why the call was refused.
+    /// Says why the call failed.
     pub error: TreeError,
-    /// What was offered, as it was.
+    /// Is the offered value, unchanged.
     pub value: T,
 }
 
-/// Why an insertion of a new key put nothing in. All stands as it was before the call.
+/// Says why a new key was not inserted. The tree is unchanged.
 #[derive(Drop)]
 pub enum NotInserted<V> {
-    /// The key is stored. The value that was offered.
+    /// The key is stored. Holds the offered value.
     Stored(V),
-    /// The insertion was refused, as one that replaces is.
+    /// The insertion failed. Holds the error and the offered value.
     Refused(Refused<V>),
 }

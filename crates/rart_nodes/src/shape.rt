@@ -1,33 +1,32 @@
 //! The shape of a set of keys, computed from its definition.
 //!
-//! The shape has a record for each string that is a key, or from which the keys go on by two bytes
-//! or more. The functions here are plain and slow: each looks at all keys for all it answers, and
-//! they serve tests.
+//! The shape has a record for each key and each string after which the keys have two or more different next bytes. The
+//! functions scan all keys for each result; they are slow and serve tests.
 ghost use Rattle.std.specs.Prelude.{◌≡◌, ◌↔◌, IfErr, IfOk, IsTrue, None, OnOk, Some};
 ghost use Rattle.rart_keys.specs.ByteStrings.{byte_after};
 ghost use Rattle.rart_keys.specs.SortedMap.{IsAscending, put};
 ghost use Rattle.rart_nodes.specs.shapes.Shape.{HasShape, capacity_of, contains_key, next_bytes, record_at};
-ghost use Rattle.rart_nodes.specs.shapes.ShapeRecords.{IsRecordAt, keys_in, lone_keys, node_record, put_some, records_of};
+ghost use Rattle.rart_nodes.specs.shapes.ShapeRecords.{IsRecordAt, keys_in, lone_keys, node_record, put_some};
+ghost use Rattle.rart_nodes.specs.shapes.ShapeRecords.{records_of};
 
 use rart_parts::TreeError;
 use std::alloc::Global;
 use std::cmp::Ordering;
 
-/// What a shape says of one string.
+/// Describes one string of a shape.
 #[derive(Debug, Drop, Eq, PartialEq)]
 pub struct ShapeRecord {
-    /// The string.
+    /// Is the string.
     pub path: Vec<u8>,
-    /// Whether it is a key.
+    /// Says whether the string is a key.
     pub holds_value: bool,
-    /// The bytes by which keys go on from it, ascending.
+    /// Lists the next bytes of the keys after the string, ascending.
     pub edges: Vec<u8>,
-    /// How many children its node can hold: 0, 4, 16, 48 or 256.
+    /// Is the capacity of its node: 0, 4, 16, 48 or 256.
     pub capacity: usize,
 }
 
-/// The capacity of a node with `count` children: the least of 0, 4, 16, 48 and 256 that has room for
-/// them.
+/// Returns the capacity of a node with `count` children: the least of 0, 4, 16, 48 and 256 that holds them.
 pub fn capacity_of(count: usize) -> usize
     ensures { result ≡ capacity_of count }
 {
@@ -44,7 +43,7 @@ pub fn capacity_of(count: usize) -> usize
     }
 }
 
-/// The byte of `key` behind `path`, where `path` properly begins it.
+/// Returns the byte of `key` after `path`, if `path` is a proper prefix of it.
 fn byte_after(path: &[u8], key: &[u8]) -> Option<u8>
     ensures { result ≡ byte_after path.now key.now }
 {
@@ -52,7 +51,7 @@ fn byte_after(path: &[u8], key: &[u8]) -> Option<u8>
     rest.first().copied()
 }
 
-/// Whether `path` is one of the keys.
+/// Returns whether `path` is one of the keys.
 fn contains_key(keys: &[&[u8]], path: &[u8]) -> bool
     ensures { result ≡ contains_key (keys_in keys.now) path.now }
 {
@@ -64,7 +63,7 @@ fn contains_key(keys: &[&[u8]], path: &[u8]) -> bool
     false
 }
 
-/// The bytes by which the keys go on from `path`, each once where the keys ascend.
+/// Returns the bytes of the keys after `path`, each once if the keys ascend.
 fn next_bytes(alloc: Global, keys: &[&[u8]], path: &[u8]) -> Result<Vec<u8>, TreeError>
     ensures bytes { IfOk result (λ v. v.items ≡ next_bytes (keys_in keys.now) path.now) }
     ensures error { IfErr result (λ e. e ≡ TreeError.Memory) }
@@ -83,8 +82,11 @@ fn next_bytes(alloc: Global, keys: &[&[u8]], path: &[u8]) -> Result<Vec<u8>, Tre
     Ok(bytes)
 }
 
-/// The record of the shape of `keys` at `path`, or `None` where the shape has none there; refused
-/// where memory is.
+/// Returns the record of the shape of `keys` at `path`, or `None` if the shape has none.
+///
+/// # Errors
+///
+/// [`TreeError::Memory`] if an allocation fails.
 pub fn record_at(
     alloc: Global,
     keys: &[&[u8]],
@@ -110,9 +112,10 @@ pub fn record_at(
     }))
 }
 
-/// Puts a record in before those of greater paths, or in the place of the one of its path.
+/// Inserts a record in the order of paths, or replaces the one of its path.
 fn put_record(records: &mut Vec<ShapeRecord>, added: ShapeRecord) -> Result<(), TreeError>
-    ensures put { OnOk result (records_of records.new.items ≡ put added.path.items (node_record added) (records_of records.old.items)) }
+    ensures put { OnOk result (records_of records.new.items
+        ≡ put added.path.items (node_record added) (records_of records.old.items)) }
     ensures error { IfErr result (λ e. e ≡ TreeError.Memory) }
 {
     for i in 0..records.len() {
@@ -136,14 +139,15 @@ fn put_record(records: &mut Vec<ShapeRecord>, added: ShapeRecord) -> Result<(), 
     Ok(())
 }
 
-/// Puts in the record of the shape of `keys` at `path`, if there is one.
+/// Inserts the record of the shape of `keys` at `path`, if there is one.
 fn put_record_at(
     alloc: Global,
     keys: &[&[u8]],
     path: &[u8],
     records: &mut Vec<ShapeRecord>,
 ) -> Result<(), TreeError>
-    ensures put { OnOk result (records_of records.new.items ≡ put_some path.now (record_at (keys_in keys.now) path.now) (records_of records.old.items)) }
+    ensures put { OnOk result (records_of records.new.items
+        ≡ put_some path.now (record_at (keys_in keys.now) path.now) (records_of records.old.items)) }
     ensures error { IfErr result (λ e. e ≡ TreeError.Memory) }
 {
     match record_at(alloc, keys, path)? {
@@ -152,7 +156,7 @@ fn put_record_at(
     }
 }
 
-/// Whether each key is below the next, as `shape_of` asks.
+/// Returns whether each key is less than the next. `shape_of` requires this.
 pub fn are_ascending(keys: &[&[u8]]) -> bool
     ensures { IsTrue result ↔ IsAscending (lone_keys (keys_in keys.now)) }
 {
@@ -164,8 +168,11 @@ pub fn are_ascending(keys: &[&[u8]]) -> bool
     true
 }
 
-/// The shape of keys in strictly ascending order: the record of each branch point, ascending by
-/// path, and no other; refused where memory is.
+/// Returns the shape of strictly ascending keys: the record of each branch point, ascending by path.
+///
+/// # Errors
+///
+/// [`TreeError::Memory`] if an allocation fails.
 pub fn shape_of(alloc: Global, keys: &[&[u8]]) -> Result<Vec<ShapeRecord>, TreeError>
     requires { IsAscending (lone_keys (keys_in keys.now)) }
     ensures shape { IfOk result (λ v. HasShape (keys_in keys.now) (records_of v.items)) }

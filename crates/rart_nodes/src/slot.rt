@@ -1,4 +1,4 @@
-//! What stands at a key, lent to a callback that may change it, and what the callback asks for.
+//! The slot of a key, which a callback can change, and the results of such callbacks.
 ghost use Rattle.std.specs.Prelude.{◌≡◌, None, Option};
 ghost use Rattle.std.specs.Fn.{FnOnceReturnsAtMut, FnOnceTakesAtMut};
 ghost use Rattle.rart_nodes.specs.updates.Slots.{slot_of};
@@ -6,54 +6,52 @@ ghost use Rattle.rart_nodes.specs.declared.slot.SlotUpdate.{SlotUpdate};
 
 use crate::refused::Refused;
 
-/// What stands at a key. A callback may change an occupied slot's value; that the slot stays
-/// occupied, or vacant, is asked of it.
+/// Holds the value at a key. A callback may change an occupied slot's value, and must keep a slot occupied or vacant.
 #[derive(Drop)]
 pub enum Slot<V> {
-    /// Nothing: the key isn't stored.
+    /// The key is not stored.
     Vacant,
-    /// The stored value.
+    /// The key is stored. Holds its value.
     Occupied(V),
 }
 
-/// What is to be done with what stands at a key.
+/// Says what an update does with its key.
 #[derive(Drop)]
 pub enum SlotUpdate<V> {
-    /// It stays, as it was left.
+    /// Keeps the pair as the callback left it.
     Keep,
-    /// The key is removed, where it is stored.
+    /// Removes the key if it is stored.
     Remove,
-    /// This value stands there from now on.
+    /// Stores this value at the key.
     Insert(V),
 }
 
-/// Why an update was refused.
+/// Says why an update failed.
 #[derive(Drop)]
 pub enum UpdateError<V> {
-    /// The insertion that was asked for: the key isn't stored, and all stands as it was. Why, and the
-    /// value that was offered.
+    /// The insertion of a new key failed. The tree is unchanged. Holds the error and the offered value.
     Insert(Refused<V>),
-    /// The removal that was asked for found no memory: the pair stands, with the value as it was left.
+    /// An allocation of the removal failed. The pair keeps the value that the callback left.
     Remove,
 }
 
-/// What an update came to.
+/// Says what an update did.
 #[derive(Drop)]
 pub enum Outcome<V> {
-    /// The key isn't stored, before or after.
+    /// The key is not stored, before or after.
     Absent,
-    /// The key was new, and now has a value.
+    /// The key was inserted.
     New,
-    /// The pair stands, with the value as it was left.
+    /// Keeps the pair with the value that the callback left.
     Kept,
-    /// The pair stands with another value. The one that was left.
+    /// The value was replaced. Holds the value that the callback left.
     Replaced(V),
-    /// The key was removed. The value that was left.
+    /// The key was removed. Holds the value that the callback left.
     Removed(V),
 }
 
 impl<V> Slot<V> {
-    /// The slot that shows this.
+    /// Returns the slot with this content.
     pub fn new(content: Option<V>) -> Self
         ensures { result ≡ slot_of content }
     {
@@ -63,7 +61,7 @@ impl<V> Slot<V> {
         }
     }
 
-    /// What stands there.
+    /// Returns the content of the slot.
     pub fn into_option(self) -> Option<V>
         ensures { self ≡ slot_of result }
     {
@@ -76,15 +74,15 @@ impl<V> Slot<V> {
 
 /// What a callback made of a slot.
 pub(crate) struct Visit<V, X> {
-    /// What it left there.
+    /// Is the content that the callback left.
     pub left: Option<V>,
-    /// What it asks for.
+    /// Is the requested update.
     pub answer: SlotUpdate<V>,
-    /// What it tells beside.
+    /// Is the second result of the callback.
     pub told: X,
 }
 
-/// Shows this content to `f`, once.
+/// Calls `f` once with the slot of this content.
 pub(crate) fn show<V, X, F: FnOnce(&mut Slot<V>) -> (SlotUpdate<V>, X)>(
     content: Option<V>,
     f: F,
@@ -101,12 +99,13 @@ pub(crate) fn show<V, X, F: FnOnce(&mut Slot<V>) -> (SlotUpdate<V>, X)>(
     }
 }
 
-/// Shows `f` that a key isn't stored, once. What it asks for, and what it tells beside.
+/// Calls `f` once with a vacant slot and returns its results.
 pub(crate) fn show_vacant<V, X, F: FnOnce(&mut Slot<V>) -> (SlotUpdate<V>, X)>(
     f: F,
 ) -> (SlotUpdate<V>, X)
     requires callable { FnOnceTakesAtMut F.FnOnce f (slot_of None) }
-    requires stays { (r : SlotUpdate V) (x : X) (w : Option V) → FnOnceReturnsAtMut F.FnOnce f (slot_of None) (r, x) (slot_of w) → w ≡ None }
+    requires stays { (r : SlotUpdate V) (x : X) (w : Option V)
+        → FnOnceReturnsAtMut F.FnOnce f (slot_of None) (r, x) (slot_of w) → w ≡ None }
     ensures { FnOnceReturnsAtMut F.FnOnce f (slot_of None) (result.0, result.1) (slot_of None) }
 {
     let Visit { left, answer, told } = show(None, f);

@@ -1,47 +1,46 @@
-//! Statistics of a tree: how many nodes of each width stand, how many children they have, and how
-//! many nodes stand one below another.
+//! Statistics of a tree: the number of nodes and children of each capacity, and the height.
 ghost use Rattle.std.specs.Prelude.{◌≡◌, []};
-ghost use Rattle.rart_nodes.specs.statistics.Statistics.{statistics_in, statistics_of};
+ghost use Rattle.rart_nodes.specs.statistics.Statistics.{stats_in, stats_of};
 
 use std::alloc::Global;
 use std::collections::BTreeMap;
 
 pub(crate) mod counts;
 
-/// The inner nodes of one width.
+/// Counts the inner nodes of one capacity.
 #[derive(Clone, Debug, Default, Drop, Eq, PartialEq)]
 pub struct NodeStats {
-    /// How many children each has room for: 4, 16, 48 or 256.
+    /// Is the capacity of each node: 4, 16, 48 or 256.
     pub width: usize,
-    /// How many such nodes there are.
+    /// Is the number of such nodes.
     pub total_nodes: usize,
-    /// How many children they have together.
+    /// Is the number of their children.
     pub total_children: usize,
 }
 
-/// Statistics of a tree. The keys determine them, whatever calls made the tree.
+/// Holds the statistics of a tree. The keys determine them, whatever calls made the tree.
 #[derive(Debug, Drop, Eq, PartialEq)]
 pub struct TreeStats {
-    /// The inner nodes by their width, with an entry only for a width of which there is a node.
+    /// Maps each capacity to its inner nodes, with an entry only if there is such a node.
     pub node_stats: BTreeMap<usize, NodeStats>,
-    /// How many nodes have no children.
+    /// Is the number of nodes without children.
     pub num_leaves: usize,
-    /// How many nodes hold a value.
+    /// Is the number of nodes with a value.
     pub num_values: usize,
-    /// How many nodes have children.
+    /// Is the number of nodes with children.
     pub num_inner_nodes: usize,
-    /// How many children the inner nodes have together.
+    /// Is the number of children of the inner nodes.
     pub total_children: usize,
-    /// How many children the inner nodes have room for together.
+    /// Is the sum of the capacities of the inner nodes.
     pub total_width: usize,
-    /// The most nodes on the way from the root to a leaf, the root being 1.
+    /// Is the greatest number of nodes on a path from the root to a leaf.
     pub max_height: usize,
 }
 
 impl TreeStats {
-    /// The statistics of an empty tree: every number is 0, and there is no entry. Takes no memory.
+    /// Returns the statistics of an empty tree: every number is 0, and there is no entry. It does not allocate.
     pub fn new(alloc: Global) -> Self
-        ensures { statistics_in result ≡ statistics_of [] [] }
+        ensures { stats_in result ≡ stats_of [] [] }
     {
         TreeStats {
             node_stats: BTreeMap::new(alloc),

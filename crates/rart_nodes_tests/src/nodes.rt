@@ -17,7 +17,8 @@ type TestNode = DefaultNode<Part, u64>;
 enum Ask {
     /// Puts a leaf in at a byte, with this value.
     Add(u8, u64),
-    /// Puts leaves in at the bytes from the first to below the second, from the last on; each has its byte as the value.
+    /// Puts leaves in at the bytes from the first to below the second, from the last on; each has its byte as the
+    /// value.
     Fill(usize, usize),
     /// Takes the child at a byte out: its value.
     Delete(u8),

@@ -6,22 +6,29 @@ use Rattle.rart_parts.specs.Places.{numbered, values_in}
 use Rattle.rart_parts.specs.Indexed.{IsIndexed, with_bytes}
 use Rattle.rart_parts.specs.Keyed.{IsKeyed, with_keys}
 
-values_in-last : {X : Type 0} (os : List (Option X)) (o : Option X) → values_in (os ++ o ∷ []) ≡ values_in os ++ values_in (o ∷ [])
+values_in-last : {X : Type 0} (os : List (Option X)) (o : Option X)
+    → values_in (os ++ o ∷ []) ≡ values_in os ++ values_in (o ∷ [])
 values_in-last [] o = refl
 values_in-last (None ∷ os) o = values_in-last os o
 values_in-last (Some x ∷ os) o = ap (λ l. x ∷ l) (values_in-last os o)
 
 -- of places without a value the last has none
 pub last_valueless : {X : Type 0} (os rest : List (Option X)) (x : X) → os ≡ rest ++ Some x ∷ [] → values_in os ≡ [] → ⊥
-last_valueless os rest x e h = omega (arith, ap length (sym h ∙ ap values_in e ∙ values_in-last rest (Some x)), length-append (values_in rest) (x ∷ []))
+last_valueless os rest x e h = omega (
+  arith,
+  ap length (sym h ∙ ap values_in e ∙ values_in-last rest (Some x)),
+  length-append (values_in rest) (x ∷ []),
+)
 
 append_none : {A : Type 0} (xs : List A) → xs ++ [] ≡ xs
 append_none [] = refl
 append_none (x ∷ xs) = ap (λ l. x ∷ l) (append_none xs)
 
 -- and so have the others
-pub rest_valueless : {X : Type 0} (os rest : List (Option X)) → os ≡ rest ++ None ∷ [] → values_in os ≡ [] → values_in rest ≡ []
-rest_valueless os rest e h = sym (append_none (values_in rest)) ∙ sym (values_in-last rest None) ∙ ap values_in (sym e) ∙ h
+pub rest_valueless : {X : Type 0} (os rest : List (Option X)) → os ≡ rest ++ None ∷ [] → values_in os ≡ []
+    → values_in rest ≡ []
+rest_valueless os rest e h = sym (append_none (values_in rest)) ∙ sym (values_in-last rest None) ∙ ap values_in (sym e)
+    ∙ h
 
 pub numbered_valueless : {X : Type 0} (n : ℕ) (os : List (Option X)) → numbered n os ≡ [] → values_in os ≡ []
 numbered_valueless n [] h = refl
@@ -32,8 +39,12 @@ nothing : {A : Type 0} (xs : List A) → length xs ≡ 0 → xs ≡ []
 nothing [] h = refl
 nothing (x ∷ xs) h = absurd (omega arith)
 
-pub index_valueless : {X : Type 0} {width : ℕ} {at : List (Option ℕ)} {os : List (Option X)} {count : ℕ} → IsIndexed width at os count → ascending (with_bytes at 0 os) ≡ [] → values_in os ≡ []
-index_valueless {os} w h = numbered_valueless 0 os (nothing (numbered 0 os) (omega (arith, sym w.counted ∙ w.entries, ap length h)))
+pub index_valueless : {X : Type 0} {width : ℕ} {at : List (Option ℕ)} {os : List (Option X)} {count : ℕ}
+    → IsIndexed width at os count → ascending (with_bytes at 0 os) ≡ [] → values_in os ≡ []
+index_valueless {os} w h = numbered_valueless 0 os
+    (nothing (numbered 0 os) (omega (arith, sym w.counted ∙ w.entries, ap length h)))
 
-pub keyed_valueless : {X : Type 0} {width : ℕ} {ks : List ℕ} {os : List (Option X)} {count : ℕ} → IsKeyed width ks os count → ascending (with_keys ks os) ≡ [] → values_in os ≡ []
-keyed_valueless {os} w h = numbered_valueless 0 os (nothing (numbered 0 os) (omega (arith, sym w.counted ∙ w.entries, ap length h)))
+pub keyed_valueless : {X : Type 0} {width : ℕ} {ks : List ℕ} {os : List (Option X)} {count : ℕ}
+    → IsKeyed width ks os count → ascending (with_keys ks os) ≡ [] → values_in os ≡ []
+keyed_valueless {os} w h = numbered_valueless 0 os
+    (nothing (numbered 0 os) (omega (arith, sym w.counted ∙ w.entries, ap length h)))

@@ -1,3 +1,4 @@
+pub mod AnswerReadings
 pub mod ByteIndexLemmas
 pub mod DirectLemmas
 pub mod EntryLemmas

@@ -1,10 +1,12 @@
 -- Entries that are moved one by one from one map to another.
-use Rattle.std.proofs.Common.{◌≡◌, ℕ, ◌<◌, ◌≤◌, ◌+◌, cond, List, [], ◌∷◌, ◌++◌, Some, None, length, sym, ap, ◌∙◌, refl, arith, ⊎_elim, subst, append_assoc}
+use Rattle.std.proofs.Common.{◌≡◌, ℕ, ◌<◌, ◌≤◌, ◌+◌, cond, List, [], ◌∷◌, ◌++◌, Some, None, length, sym, ap, ◌∙◌, refl}
+use Rattle.std.proofs.Common.{arith, ⊎_elim, subst, append_assoc}
 use Rattle.std.proofs.lemmas.List.{length-append}
 use Rattle.std.proofs.lemmas.Bool.Decides.{eqb_tells}
 use Rattle.std.proofs.lemmas.Bool.{cases_lt}
 use Rattle.rart_parts.specs.Entries.{child_at, with_entry, without_byte, StartsAbove, BytesAscend}
-use Rattle.rart_parts.proofs.EntryLemmas.{at_same, at_other, with_before, with_after, without_same, below_start, child_at-without_byte}
+use Rattle.rart_parts.proofs.EntryLemmas.{at_same, at_other, with_before, with_after, without_same, below_start}
+use Rattle.rart_parts.proofs.EntryLemmas.{child_at-without_byte}
 
 module _ {X : Type 0} (k : ℕ) (x : X) (s : List (ℕ × X)) where
   all_below : (b : ℕ) (t : List (ℕ × X)) → StartsAbove b (t ++ (k, x) ∷ s) → BytesAscend (t ++ (k, x) ∷ s) → b < k
@@ -39,7 +41,8 @@ some_none : {X : Type 0} {x : X} → Some x ≡ None → ⊥
 some_none h = cc
 
 -- the entry at the least byte that has one
-pub first_entry : {X : Type 0} (k : ℕ) (x : X) (es : List (ℕ × X)) → BytesAscend es → child_at k es ≡ Some x → ((b : ℕ) → b < k → child_at b es ≡ None) → es ≡ (k, x) ∷ without_byte k es
+pub first_entry : {X : Type 0} (k : ℕ) (x : X) (es : List (ℕ × X)) → BytesAscend es → child_at k es ≡ Some x
+    → ((b : ℕ) → b < k → child_at b es ≡ None) → es ≡ (k, x) ∷ without_byte k es
 first_entry k x [] a e none = cc
 first_entry k x (f ∷ es) a e none = ⊎_elim
     (λ t.
@@ -57,7 +60,8 @@ empty_map [] h = refl
 empty_map (e ∷ es) h = absurd (some_none (sym (at_same e.0 e es refl) ∙ h e.0))
 
 -- ---- one step of a move, from the front of `rest` to the end of `moved`
-module _ {X : Type 0} (whole moved rest : List (ℕ × X)) (e : ℕ × X) (a : BytesAscend whole) (is : moved ++ e ∷ rest ≡ whole) where
+module _ {X : Type 0} (whole moved rest : List (ℕ × X)) (e : ℕ × X) (a : BytesAscend whole)
+    (is : moved ++ e ∷ rest ≡ whole) where
   split_ascends : BytesAscend (moved ++ e ∷ rest)
   split_ascends = subst BytesAscend (sym is) a
 
@@ -71,7 +75,8 @@ module _ {X : Type 0} (whole moved rest : List (ℕ × X)) (e : ℕ × X) (a : B
   moved_room width h = omega (arith, ap length is, length-append moved (e ∷ rest), h)
 
 -- from the end of `rest` to the front of `moved`
-module _ {X : Type 0} (whole rest moved : List (ℕ × X)) (e : ℕ × X) (a : BytesAscend whole) (is : (rest ++ e ∷ []) ++ moved ≡ whole) where
+module _ {X : Type 0} (whole rest moved : List (ℕ × X)) (e : ℕ × X) (a : BytesAscend whole)
+    (is : (rest ++ e ∷ []) ++ moved ≡ whole) where
   joined : rest ++ e ∷ moved ≡ whole
   joined = sym (append_assoc rest (e ∷ []) moved) ∙ is
 
@@ -88,8 +93,9 @@ pub suffix-ascends : {X : Type 0} (t s : List (ℕ × X)) → BytesAscend (t ++ 
 suffix-ascends [] s a = a
 suffix-ascends (e ∷ t) s a = suffix-ascends t s a.1
 
--- ---- a move that asks for one byte after another
-module _ {X : Type 0} (whole moved rest : List (ℕ × X)) (k : ℕ) (a : BytesAscend whole) (is : moved ++ rest ≡ whole) (passed : (b : ℕ) → b < k → child_at b rest ≡ None) where
+-- ---- a move that takes one byte after another
+module _ {X : Type 0} (whole moved rest : List (ℕ × X)) (k : ℕ) (a : BytesAscend whole) (is : moved ++ rest ≡ whole)
+    (passed : (b : ℕ) → b < k → child_at b rest ≡ None) where
   rest_ascends : BytesAscend rest
   rest_ascends = suffix-ascends moved rest (subst BytesAscend (sym is) a)
 

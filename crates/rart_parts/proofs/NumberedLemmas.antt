@@ -1,8 +1,10 @@
 -- The values of places with the numbers of their places.
-use Rattle.std.proofs.Common.{◌≡◌, ℕ, suc, ◌<◌, ◌+◌, ◌^◌, List, [], ◌∷◌, ◌++◌, Option, Some, None, length, sym, ap, ◌∙◌, refl, arith}
+use Rattle.std.proofs.Common.{◌≡◌, ℕ, suc, ◌<◌, ◌+◌, ◌^◌, List, [], ◌∷◌, ◌++◌, Option, Some, None, length, sym, ap, ◌∙◌}
+use Rattle.std.proofs.Common.{refl, arith}
 use Rattle.rart_parts.specs.Places.{numbered}
 
-numbered-append : {X : Type 0} (n : ℕ) (os : List (Option X)) (o : Option X) → numbered n (os ++ o ∷ []) ≡ numbered n os ++ numbered (n + length os) (o ∷ [])
+numbered-append : {X : Type 0} (n : ℕ) (os : List (Option X)) (o : Option X)
+    → numbered n (os ++ o ∷ []) ≡ numbered n os ++ numbered (n + length os) (o ∷ [])
 numbered-append n [] o = let here : n ≡ n + 0 = omega arith in ap (λ m. numbered m (o ∷ [])) here
 numbered-append n (None ∷ os) o =
     let next : suc n + length os ≡ n + suc (length os) = omega arith in
@@ -16,7 +18,8 @@ append_none [] = refl
 append_none (x ∷ xs) = ap (λ l. x ∷ l) (append_none xs)
 
 -- the last place has a value
-pub last_used : {X : Type 0} (n : ℕ) (os rest : List (Option X)) (x : X) (all : List (ℕ × X)) → os ≡ rest ++ Some x ∷ [] → numbered n os ≡ all → all ≡ numbered n rest ++ (n + length rest, x) ∷ []
+pub last_used : {X : Type 0} (n : ℕ) (os rest : List (Option X)) (x : X) (all : List (ℕ × X)) → os ≡ rest ++ Some x ∷ []
+    → numbered n os ≡ all → all ≡ numbered n rest ++ (n + length rest, x) ∷ []
 last_used n os rest x all e is = sym is ∙ ap (numbered n) e ∙ numbered-append n rest (Some x)
 
 length-more : {A : Type 0} (xs : List A) (x : A) → length (xs ++ x ∷ []) ≡ length xs + 1
@@ -27,7 +30,11 @@ pub one_fewer : {A : Type 0} (all rest : List A) (x : A) → all ≡ rest ++ x �
 one_fewer all rest x e = omega (arith, ap length e, length-more rest x)
 
 -- the last place has none
-pub last_free : {X : Type 0} (n : ℕ) (os rest : List (Option X)) (all : List (ℕ × X)) → os ≡ rest ++ None ∷ [] → (n + length os < 2 ^ 64) × (numbered n os ≡ all)
+pub last_free : {X : Type 0} (n : ℕ) (os rest : List (Option X)) (all : List (ℕ × X)) → os ≡ rest ++ None ∷ []
+    → (n + length os < 2 ^ 64) × (numbered n os ≡ all)
     → (n + length rest < 2 ^ 64) × (numbered n rest ≡ all)
-last_free n os rest all e is =
-    (omega (arith, is.0, ap length e, length-more rest None), sym (sym is.1 ∙ ap (numbered n) e ∙ numbered-append n rest None ∙ append_none (numbered n rest)))
+last_free n os rest all e is = (
+  omega (arith, is.0, ap length e, length-more rest None),
+  sym (sym is.1 ∙ ap (numbered n) e
+      ∙ numbered-append n rest None ∙ append_none (numbered n rest)),
+)

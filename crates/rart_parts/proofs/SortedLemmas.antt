@@ -1,19 +1,23 @@
 -- The two columns of a sorted mapping through its calls.
-use Rattle.std.proofs.Common.{◌≡◌, ℕ, zero, suc, ◌<◌, ◌≤◌, ◌+◌, ◌-◌, List, [], ◌∷◌, ◌++◌, Option, Some, None, length, get_or, set, take, drop, sym, ap, ◌∙◌, refl, arith, subst, ⊎_elim}
+use Rattle.std.proofs.Common.{◌≡◌, ℕ, zero, suc, ◌<◌, ◌≤◌, ◌+◌, ◌-◌, List, [], ◌∷◌, ◌++◌, Option, Some, None, length}
+use Rattle.std.proofs.Common.{get_or, set, take, drop, sym, ap, ◌∙◌, refl, arith, subst, ⊎_elim}
 use Rattle.std.proofs.lemmas.Bool.Decides.{eqb_tells}
 use Rattle.std.specs.Prelude.{insert, OnSome, IsSome, IfSome}
 use Rattle.std.specs.Option.{option_copied_mut}
 use Rattle.std.specs.Borrow.{MutBor}
 use Rattle.std.proofs.lemmas.Bool.{false≢true}
 use Rattle.std.specs.List.{zip}
-use Rattle.std.proofs.lemmas.List.{length-set, length-append, length-take, length-drop, get_or-set_same, get_or-set_other, get_or-append_right, get_or-drop}
+use Rattle.std.proofs.lemmas.List.{length-set, length-append, length-take, length-drop, get_or-set_same}
+use Rattle.std.proofs.lemmas.List.{get_or-set_other, get_or-append_right, get_or-drop}
 use Rattle.rart_parts.specs.Entries.{child_at, entries_above, with_entry, without_byte, BytesAscend}
 use Rattle.rart_parts.specs.Keys.{IsAscendingBelow}
 use Rattle.rart_parts.specs.SortedKeyed.{IsSortedKeyed, IsPadded}
 use Rattle.rart_parts.proofs.EntryLemmas.{all_above, not_above, with_entry-ascends, without_byte-ascends}
-use Rattle.rart_parts.proofs.Zipped.{length_zipped, zip_same, set_zip, set_child-ascends, inserted, child_found, keys_ascend, zip_last, front-ascends}
+use Rattle.rart_parts.proofs.Zipped.{length_zipped, zip_same, set_zip, set_child-ascends, inserted, child_found}
+use Rattle.rart_parts.proofs.Zipped.{keys_ascend, zip_last, front-ascends}
 
-one_zipped : {X : Type 0} (ks : List ℕ) (vs : List X) (x : X) → length vs ≤ length ks → length vs ≡ 1 → x ≡ get_or vs 0 x → zip ks vs ≡ (get_or ks 0 0, x) ∷ []
+one_zipped : {X : Type 0} (ks : List ℕ) (vs : List X) (x : X) → length vs ≤ length ks → length vs ≡ 1
+    → x ≡ get_or vs 0 x → zip ks vs ≡ (get_or ks 0 0, x) ∷ []
 one_zipped ks [] x h one e = absurd (omega arith)
 one_zipped [] (v ∷ vs) x h one e = absurd (omega arith)
 one_zipped (k ∷ []) (v ∷ []) x h one e = λ i. (k, sym e i) ∷ []
@@ -30,7 +34,8 @@ zip_nothing [] = refl
 zip_nothing (k ∷ ks) = refl
 
 -- from the first place on whose key is above
-pub zip_above : {X : Type 0} (k at : ℕ) (ks : List ℕ) (vs : List X) → length vs ≤ length ks → BytesAscend (zip ks vs) → at ≤ length vs → ((j : ℕ) → j < at → get_or ks j 0 ≤ k) → (at < length vs → k < get_or ks at 0)
+pub zip_above : {X : Type 0} (k at : ℕ) (ks : List ℕ) (vs : List X) → length vs ≤ length ks → BytesAscend (zip ks vs)
+    → at ≤ length vs → ((j : ℕ) → j < at → get_or ks j 0 ≤ k) → (at < length vs → k < get_or ks at 0)
     → zip (drop at ks) (drop at vs) ≡ entries_above k (zip ks vs)
 zip_above k zero ks [] h a l below above = zip_nothing ks ∙ ap (entries_above k) (sym (zip_nothing ks))
 zip_above k zero [] (v ∷ vs) h a l below above = absurd (omega arith)
@@ -38,10 +43,12 @@ zip_above k zero (y ∷ ks) (v ∷ vs) h a l below above = sym (all_above k ((y,
 zip_above k (suc at) ks [] h a l below above = absurd (omega arith)
 zip_above k (suc at) [] (v ∷ vs) h a l below above = absurd (omega arith)
 zip_above k (suc at) (y ∷ ks) (v ∷ vs) h a l below above =
-    zip_above k at ks vs (omega arith) a.1 (omega arith) (λ j m. below (suc j) (omega arith)) (λ m. above (omega arith)) ∙ sym (not_above k (y, v) (zip ks vs) (below 0 (omega arith)))
+    zip_above k at ks vs (omega arith) a.1 (omega arith) (λ j m. below (suc j) (omega arith)) (λ m. above (omega arith))
+    ∙ sym (not_above k (y, v) (zip ks vs) (below 0 (omega arith)))
 
 -- keys in front of others, as many as there are children
-zip_front : {X : Type 0} (ks rest : List ℕ) (vs : List X) → length vs ≤ length ks → zip (take (length vs) ks ++ rest) vs ≡ zip ks vs
+zip_front : {X : Type 0} (ks rest : List ℕ) (vs : List X) → length vs ≤ length ks → zip (take (length vs) ks ++ rest) vs
+    ≡ zip ks vs
 zip_front ks rest [] h = zip_nothing (take 0 ks ++ rest) ∙ sym (zip_nothing ks)
 zip_front [] rest (v ∷ vs) h = absurd (omega arith)
 zip_front (k ∷ ks) rest (v ∷ vs) h = ap (λ es. (k, v) ∷ es) (zip_front ks rest vs (omega arith))
@@ -67,8 +74,10 @@ module _ {X : Type 0} {width : ℕ} {ks : List ℕ} {vs : List X} {room : ℕ} (
     padded = λ k l m. s.padded k (omega (arith, l, length-set vs i w)) m;
   }
 
-  pub added : (key : ℕ) (x : X) (ks' : List ℕ) (vs' : List X) (room' : ℕ) → length ks' ≡ length ks → length vs' ≡ length vs + 1 → length vs < width → room ≤ room'
-      → zip ks' vs' ≡ with_entry key x (zip ks vs) → IsPadded ks' (length vs + 1) width → IsSortedKeyed width ks' vs' room'
+  pub added : (key : ℕ) (x : X) (ks' : List ℕ) (vs' : List X) (room' : ℕ) → length ks' ≡ length ks
+      → length vs' ≡ length vs + 1 → length vs < width → room ≤ room'
+      → zip ks' vs' ≡ with_entry key x (zip ks vs) → IsPadded ks' (length vs + 1) width
+      → IsSortedKeyed width ks' vs' room'
   added key x ks' vs' room' n m l r e p = record {
     full = n ∙ s.full;
     few = omega (arith, m, l);
@@ -78,7 +87,8 @@ module _ {X : Type 0} {width : ℕ} {ks : List ℕ} {vs : List X} {room : ℕ} (
     padded = subst (λ n. IsPadded ks' n width) (sym m) p;
   }
 
-  pub deleted : (key : ℕ) (ks' : List ℕ) (vs' : List X) (room' : ℕ) → length ks' ≡ length ks → length vs ≡ length vs' + 1 → room' ≡ room
+  pub deleted : (key : ℕ) (ks' : List ℕ) (vs' : List X) (room' : ℕ) → length ks' ≡ length ks
+      → length vs ≡ length vs' + 1 → room' ≡ room
       → zip ks' vs' ≡ without_byte key (zip ks vs) → IsPadded ks' (length vs') width → IsSortedKeyed width ks' vs' room'
   deleted key ks' vs' room' n m r e p = record {
     full = n ∙ s.full;
@@ -98,7 +108,9 @@ module _ {X : Type 0} {width : ℕ} {ks : List ℕ} {vs : List X} {room : ℕ} (
     last_entry = ap (zip ks) e ∙ zip_last ks rest x last_within
 
     pub popped_zip : zip (set ks (length rest) 255) rest ≡ zip ks rest
-    popped_zip = zip_same ks (set ks (length rest) 255) rest (omega (arith, last_within)) (omega (arith, last_within, length-set ks (length rest) 255)) (λ j l. get_or-set_other ks (length rest) j 255 0 (λ q. omega (arith, q, l)))
+    popped_zip = zip_same ks (set ks (length rest) 255) rest (omega (arith, last_within))
+        (omega (arith, last_within, length-set ks (length rest) 255))
+        (λ j l. get_or-set_other ks (length rest) j 255 0 (λ q. omega (arith, q, l)))
 
     pub popped : (room' : ℕ) → room' ≡ room → IsSortedKeyed width (set ks (length rest) 255) rest room'
     popped room' r = record {
@@ -106,27 +118,47 @@ module _ {X : Type 0} {width : ℕ} {ks : List ℕ} {vs : List X} {room : ℕ} (
       few = omega (arith, s.few, ap length e, length-append rest (x ∷ []));
       room = omega (arith, r, s.room);
       narrow = s.narrow;
-      ascends = subst BytesAscend (sym popped_zip) (front-ascends (zip ks rest) _ (subst BytesAscend last_entry s.ascends));
+      ascends = subst BytesAscend (sym popped_zip)
+          (front-ascends (zip ks rest) _ (subst BytesAscend last_entry s.ascends));
       padded = λ k l m. ⊎_elim
-          (λ t. ap (λ j. get_or (set ks (length rest) 255) j 0) t.1 ∙ get_or-set_same ks (length rest) 255 0 last_within)
-          (λ t. get_or-set_other ks (length rest) k 255 0 t.1 ∙ s.padded k (omega (arith, l, t.1, ap length e, length-append rest (x ∷ []))) m)
+          (λ t. ap (λ j. get_or (set ks (length rest) 255) j 0) t.1
+          ∙ get_or-set_same ks (length rest) 255 0 last_within)
+          (λ t. get_or-set_other ks (length rest) k 255 0 t.1
+          ∙ s.padded k (omega (arith, l, t.1, ap length e, length-append rest (x ∷ []))) m)
           (eqb_tells k (length rest));
     }
 
-  pub emptied : (ks' : List ℕ) (vs' : List X) → length ks' ≡ width → length vs' ≡ 0 → (room' : ℕ) → room' ≡ room → IsPadded ks' 0 width → IsSortedKeyed width ks' vs' room'
-  emptied ks' [] full e room' r p = record { full = full; few = omega (arith, s.few); room = omega (arith, r, s.room); narrow = s.narrow; ascends = subst BytesAscend (sym (no_entries ks' [] refl)) tt; padded = p }
+  pub emptied : (ks' : List ℕ) (vs' : List X) → length ks' ≡ width → length vs' ≡ 0 → (room' : ℕ) → room' ≡ room
+      → IsPadded ks' 0 width → IsSortedKeyed width ks' vs' room'
+  emptied ks' [] full e room' r p = record {
+    full = full;
+    few = omega (arith, s.few);
+    room
+        = omega (arith, r, s.room);
+    narrow = s.narrow;
+    ascends
+        = subst BytesAscend (sym (no_entries ks' [] refl)) tt;
+    padded = p;
+  }
   emptied ks' (v ∷ vs') full e room' r p = absurd (omega arith)
 
-  -- one more key, at a place, with the keys behind it moved up
-  pub padded_more : (ks₁ : List ℕ) (n at key : ℕ) → n ≡ length vs → at ≤ n → ((k d : ℕ) → at + 1 + (n - at) ≤ k → get_or ks₁ k d ≡ get_or ks k d) → IsPadded (set ks₁ at key) (length vs + 1) width
+  -- one more key, at a place, with the keys after it moved up
+  pub padded_more : (ks₁ : List ℕ) (n at key : ℕ) → n ≡ length vs → at ≤ n
+      → ((k d : ℕ) → at + 1 + (n - at) ≤ k → get_or ks₁ k d ≡ get_or ks k d)
+      → IsPadded (set ks₁ at key) (length vs + 1) width
   padded_more ks₁ n at key count h same k l m =
-      get_or-set_other ks₁ at k key 0 (λ q. omega (arith, q, l, count, h)) ∙ same k 0 (omega (arith, l, count, h)) ∙ s.padded k (omega (arith, l)) m
+      get_or-set_other ks₁ at k key 0 (λ q. omega (arith, q, l, count, h)) ∙ same k 0 (omega (arith, l, count, h))
+      ∙ s.padded k (omega (arith, l)) m
 
-  -- one fewer, with the keys behind it moved down and the last one overwritten
-  pub padded_less : (ks₁ : List ℕ) (n at fewer : ℕ) → n ≡ length vs → at < n → length ks₁ ≡ length ks → ((k d : ℕ) → at + (n - (at + 1)) ≤ k → get_or ks₁ k d ≡ get_or ks k d) → length vs ≡ fewer + 1 → IsPadded (set ks₁ (n - 1) 255) fewer width
+  -- one fewer, with the keys after it moved down and the last one overwritten
+  pub padded_less : (ks₁ : List ℕ) (n at fewer : ℕ) → n ≡ length vs → at < n → length ks₁ ≡ length ks
+      → ((k d : ℕ) → at + (n - (at + 1)) ≤ k → get_or ks₁ k d ≡ get_or ks k d) → length vs ≡ fewer + 1
+      → IsPadded (set ks₁ (n - 1) 255) fewer width
   padded_less ks₁ n at fewer count h len same one k l m = ⊎_elim
-      (λ t. ap (λ j. get_or (set ks₁ (n - 1) 255) j 0) t.1 ∙ get_or-set_same ks₁ (n - 1) 255 0 (omega (arith, len, fits, count, h)))
-      (λ t. get_or-set_other ks₁ (n - 1) k 255 0 t.1 ∙ same k 0 (omega (arith, l, one, count, h)) ∙ s.padded k (omega (arith, l, one, count, t.1)) m)
+      (λ t. ap (λ j. get_or (set ks₁ (n - 1) 255) j 0) t.1
+      ∙ get_or-set_same ks₁ (n - 1) 255 0 (omega (arith, len, fits, count, h)))
+      (λ t. get_or-set_other ks₁ (n - 1) k 255 0 t.1 ∙ same k 0 (omega (arith, l, one, count, h))
+      ∙ s.padded k (omega (arith, l, one, count, t.1)) m)
       (eqb_tells k (n - 1))
 
   -- without the only child
@@ -142,20 +174,24 @@ module _ {X : Type 0} {width : ℕ} {ks : List ℕ} {vs : List X} {room : ℕ} (
 
   -- a key was put in at a place, and its child at the same place
   pub put_in : (ks₁ : List ℕ) (n at key : ℕ) (x : X) → n ≡ length vs → length vs < width → length ks₁ ≡ length ks
-      → (at ≤ n) × ((k : ℕ) → k < at → get_or ks k 0 ≤ key) × (at < n → key < get_or ks at 0) → child_at key (zip ks vs) ≡ None
+      → (at ≤ n) × ((k : ℕ) → k < at → get_or ks k 0 ≤ key) × (at < n → key < get_or ks at 0)
+      → child_at key (zip ks vs) ≡ None
       → ((k d : ℕ) → at + 1 ≤ k → k < at + 1 + (n - at) → get_or ks₁ k d ≡ get_or ks (at + (k - (at + 1))) d)
       → ((k d : ℕ) → k < at + 1 → get_or ks₁ k d ≡ get_or ks k d)
       → zip (set ks₁ at key) (insert vs at x) ≡ with_entry key x (zip ks vs)
   put_in ks₁ n at key x count room len place absent moved same =
-      inserted key x ks (set ks₁ at key) vs at (omega (arith, s.full, room)) (length-set ks₁ at key ∙ len) (omega (arith, place.0, count))
+      inserted key x ks (set ks₁ at key) vs at (omega (arith, s.full, room)) (length-set ks₁ at key ∙ len)
+      (omega (arith, place.0, count))
       place.1 (λ l. place.2 (omega (arith, l, count))) absent
       (λ j l. get_or-set_other ks₁ at j key 0 (λ e. omega (arith, e, l)) ∙ same j 0 (omega (arith, l)))
       (get_or-set_same ks₁ at key 0 (omega (arith, place.0, count, len, s.full, room)))
-      (λ j l m. get_or-set_other ks₁ at (j + 1) key 0 (λ e. omega (arith, e, l)) ∙ moved (j + 1) 0 (omega (arith, l)) (omega (arith, l, m, count))
+      (λ j l m. get_or-set_other ks₁ at (j + 1) key 0 (λ e. omega (arith, e, l))
+      ∙ moved (j + 1) 0 (omega (arith, l)) (omega (arith, l, m, count))
       ∙ (let back : at + (j + 1 - (at + 1)) ≡ j = omega (arith, l) in ap (λ q. get_or ks q 0) back))
 
   -- what a `&mut` to the child at a place reads
-  pub mut_read : (key i : ℕ) (r : Option (MutBor X)) → i < length vs → get_or ks i 0 ≡ key → ((j : ℕ) → j < i → get_or ks j 0 ≡ key → ⊥)
+  pub mut_read : (key i : ℕ) (r : Option (MutBor X)) → i < length vs → get_or ks i 0 ≡ key
+      → ((j : ℕ) → j < i → get_or ks j 0 ≡ key → ⊥)
       → IsSome r → IfSome r (λ m. m.now ≡ get_or vs i m.now) → option_copied_mut r ≡ child_at key (zip ks vs)
   mut_read key i None l at none is e = absurd (false≢true is)
   mut_read key i (Some m) l at none is e = sym (child_found key ks vs i m.now fits l at none e)
@@ -165,19 +201,31 @@ module _ {X : Type 0} {width : ℕ} {ks : List ℕ} {vs : List X} {room : ℕ} (
     pub resized_zip : zip (take n ks ++ drop n ks') vs ≡ zip ks vs
     resized_zip = ap (λ m. zip (take m ks ++ drop n ks') vs) count ∙ zip_front ks (drop n ks') vs fits
 
-    pub resized : (width' room' : ℕ) → length vs ≤ width' → width' ≤ room' → width' ≤ 255 → length ks' ≡ width' → IsPadded ks' 0 width' → IsSortedKeyed width' (take n ks ++ drop n ks') vs room'
+    pub resized : (width' room' : ℕ) → length vs ≤ width' → width' ≤ room' → width' ≤ 255 → length ks' ≡ width'
+        → IsPadded ks' 0 width' → IsSortedKeyed width' (take n ks ++ drop n ks') vs room'
     resized width' room' few r narrow full p = record {
-      full = omega (arith, length-append (take n ks) (drop n ks'), length-take n ks, length-drop n ks', full, few, count, fits);
+      full = omega (
+        arith,
+        length-append (take n ks) (drop n ks'),
+        length-take n ks,
+        length-drop n ks',
+        full,
+        few,
+        count,
+        fits,
+      );
       few = few;
       room = r;
       narrow = narrow;
       ascends = subst BytesAscend (sym resized_zip) s.ascends;
-      padded = λ k l m. get_or-append_right (take n ks) (drop n ks') n k 0 (omega (arith, length-take n ks, count, fits)) (omega (arith, l, count)) ∙ get_or-drop n ks' (k - n) 0
+      padded = λ k l m. get_or-append_right (take n ks) (drop n ks') n k 0
+          (omega (arith, length-take n ks, count, fits)) (omega (arith, l, count)) ∙ get_or-drop n ks' (k - n) 0
           ∙ (let at : n + (k - n) ≡ k = omega (arith, count, l) in ap (λ j. get_or ks' j 0) at) ∙ p k (omega arith) m;
     }
 
 -- as many entries as children, from a place on
-pub rest_counted : {X : Type 0} (ks : List ℕ) (at : ℕ) (vs : List X) → at + length vs ≤ length ks → length (zip (drop at ks) vs) ≡ length vs
+pub rest_counted : {X : Type 0} (ks : List ℕ) (at : ℕ) (vs : List X) → at + length vs ≤ length ks
+    → length (zip (drop at ks) vs) ≡ length vs
 rest_counted ks at vs h = length_zipped (drop at ks) vs (omega (arith, length-drop at ks, h))
 
 pub no_items : {A : Type 0} (xs : List A) → length xs ≡ 0 → xs ≡ []

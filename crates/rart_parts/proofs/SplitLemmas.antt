@@ -1,8 +1,10 @@
 -- Entries that are moved one by one, in any order, from one map to another.
-use Rattle.std.proofs.Common.{◌≡◌, ℕ, ◌<◌, ◌≤◌, ◌+◌, cond, eqb, false, List, [], Option, Some, None, length, sym, ap, ◌∙◌, refl, arith, ⊎_elim, subst}
+use Rattle.std.proofs.Common.{◌≡◌, ℕ, ◌<◌, ◌≤◌, ◌+◌, cond, eqb, false, List, [], Option, Some, None, length, sym, ap}
+use Rattle.std.proofs.Common.{◌∙◌, refl, arith, ⊎_elim, subst}
 use Rattle.std.proofs.lemmas.Bool.Decides.{eqb_tells}
 use Rattle.rart_parts.specs.Entries.{child_at, with_entry, without_byte, BytesAscend}
-use Rattle.rart_parts.proofs.EntryLemmas.{same_lookups, child_at-with_entry, child_at-without_byte, length-with_entry, length-without_byte, with_entry-ascends, without_byte-ascends}
+use Rattle.rart_parts.proofs.EntryLemmas.{same_lookups, child_at-with_entry, child_at-without_byte, length-with_entry}
+use Rattle.rart_parts.proofs.EntryLemmas.{length-without_byte, with_entry-ascends, without_byte-ascends}
 
 -- the first of two answers
 abbrev pub either : {X : Type 0} → Option X → Option X → Option X
@@ -37,10 +39,12 @@ split_start whole moved a e = record {
 
 pub split_done : {X : Type 0} (whole moved rest : List (ℕ × X)) → IsSplit whole moved rest → rest ≡ [] → moved ≡ whole
 split_done whole moved rest s e =
-    same_lookups moved whole s.moved_ascends s.whole_ascends (λ b. sym (s.reads b ∙ ap (λ l. either (child_at b moved) (child_at b l)) e ∙ either_none (child_at b moved)))
+    same_lookups moved whole s.moved_ascends s.whole_ascends
+    (λ b. sym (s.reads b ∙ ap (λ l. either (child_at b moved) (child_at b l)) e ∙ either_none (child_at b moved)))
 
 -- one step
-module _ {X : Type 0} (whole moved rest : List (ℕ × X)) (s : IsSplit whole moved rest) (k : ℕ) (x : X) (e : child_at k rest ≡ Some x) where
+module _ {X : Type 0} (whole moved rest : List (ℕ × X)) (s : IsSplit whole moved rest) (k : ℕ) (x : X)
+    (e : child_at k rest ≡ Some x) where
   pub split_absent : child_at k moved ≡ None
   split_absent = s.apart k x e
 
@@ -50,12 +54,15 @@ module _ {X : Type 0} (whole moved rest : List (ℕ × X)) (s : IsSplit whole mo
   pub split_next : IsSplit whole (with_entry k x moved) (without_byte k rest)
   split_next = record {
     reads = λ b. s.reads b ∙ ⊎_elim
-        (λ t. ap (λ n. either (child_at n moved) (child_at n rest)) (sym t.1) ∙ ap (λ o. either o (child_at k rest)) split_absent ∙ e
-        ∙ sym (ap (λ o. either o (child_at b (without_byte k rest))) (child_at-with_entry k x moved b ∙ ap (λ c. cond c (Some x) (child_at b moved)) t.0)))
+        (λ t. ap (λ n. either (child_at n moved) (child_at n rest)) (sym t.1)
+        ∙ ap (λ o. either o (child_at k rest)) split_absent ∙ e
+        ∙ sym (ap (λ o. either o (child_at b (without_byte k rest))) (child_at-with_entry k x moved b
+        ∙ ap (λ c. cond c (Some x) (child_at b moved)) t.0)))
         (λ t. (λ i. either (sym (kept_moved b t.0) i) (sym (kept_rest b t.0) i)))
         (eqb_tells k b);
     apart = λ b y h. ⊎_elim
-        (λ t. absurd (none_some (sym (child_at-without_byte k rest s.rest_ascends b ∙ ap (λ c. cond c None (child_at b rest)) t.0) ∙ h)))
+        (λ t. absurd (none_some (sym (child_at-without_byte k rest s.rest_ascends b
+        ∙ ap (λ c. cond c None (child_at b rest)) t.0) ∙ h)))
         (λ t. kept_moved b t.0 ∙ s.apart b y (sym (kept_rest b t.0) ∙ h))
         (eqb_tells k b);
     count = omega (arith, s.count, length-without_byte k x rest e, length-with_entry k x moved split_absent);

@@ -1,9 +1,11 @@
 -- A row of words, read as a set of positions: position k is bit `k mod width` of word `k div width`.
-use Rattle.std.proofs.Common.{◌≡◌, ℕ, suc, ◌<◌, ◌≤◌, ◌+◌, ◌-◌, ◌*◌, ◌/◌, ◌%◌, Bool, true, false, eqb, List, map, length, get_or, set, sym, ap, ◌∙◌, arith, ⊎_elim, rules}
+use Rattle.std.proofs.Common.{◌≡◌, ℕ, suc, ◌<◌, ◌≤◌, ◌+◌, ◌-◌, ◌*◌, ◌/◌, ◌%◌, Bool, true, false, eqb, List, map, length}
+use Rattle.std.proofs.Common.{get_or, set, sym, ap, ◌∙◌, arith, ⊎_elim, rules}
 use Rattle.std.specs.Prelude.{replicate}
 use Rattle.std.proofs.lemmas.Bool.{eq-eqb, ne_eqb, cases_lt}
 use Rattle.std.proofs.lemmas.Bool.Decides.{eqb_tells}
-use Rattle.std.proofs.lemmas.List.{get_or-set_same, get_or-set_other, get_or-map, get_or-replicate, length-replicate, length-set}
+use Rattle.std.proofs.lemmas.List.{get_or-set_same, get_or-set_other, get_or-map, get_or-replicate, length-replicate}
+use Rattle.std.proofs.lemmas.List.{length-set}
 use Rattle.std.proofs.lemmas.Nat.{div-mul-add, mod-mul-add}
 use Rattle.std.proofs.Math.Nat.{mod-lt, div-add-mod, mul-le-mul_right}
 use Rattle.rart_parts.specs.Bits.{has_bit, words_have, members_from, members}
@@ -29,7 +31,8 @@ module _ {W : Type 0} (width : ℕ) (number : W → ℕ) (p : 0 < width) where
   pub none_have : (z : W) (s k : ℕ) → number z ≡ 0 → k < s * width → words_have width number (replicate s z) k ≡ false
   none_have z s k e h =
       let lt = word_within s width k p h in
-      ap (λ n. has_bit n (k % width)) (get_or-map number (replicate s z) (k / width) z 0 (simp length-replicate lt) ∙ ap number (get_or-replicate s (k / width) z z lt) ∙ e) ∙ no_bits (k % width)
+      ap (λ n. has_bit n (k % width)) (get_or-map number (replicate s z) (k / width) z 0 (simp length-replicate lt)
+      ∙ ap number (get_or-replicate s (k / width) z z lt) ∙ e) ∙ no_bits (k % width)
 
   same_place : (k q : ℕ) → k / width ≡ q / width → eqb (k % width) (q % width) ≡ eqb k q
   same_place k q e = ⊎_elim
@@ -48,19 +51,25 @@ module _ {W : Type 0} (width : ℕ) (number : W → ℕ) (p : 0 < width) where
       let within : k / width < length (set ws (q / width) y) = simp length-set lk in
       ⊎_elim
       (λ t.
-      let here : get_or (set ws (q / width) y) (k / width) y ≡ y = ap (λ j. get_or (set ws (q / width) y) j y) t.1 ∙ get_or-set_same ws (q / width) y y lq in
+      let here : get_or (set ws (q / width) y) (k / width) y ≡ y = ap (λ j. get_or (set ws (q / width) y) j y) t.1
+      ∙ get_or-set_same ws (q / width) y y lq in
       let there : x ≡ get_or ws (k / width) x = e ∙ ap (λ j. get_or ws j x) (sym t.1) in
       ap (λ n. has_bit n (k % width)) (word_is (set ws (q / width) y) (k / width) y within (sym here))
-      ∙ one (k % width) (mod-lt k p) ∙ (λ i. change (same_place k q t.1 i) (has_bit (sym (word_is ws (k / width) x lk there) i) (k % width))))
+      ∙ one (k % width) (mod-lt k p) ∙ (λ i. change (same_place k q t.1 i)
+      (has_bit (sym (word_is ws (k / width) x lk there) i) (k % width))))
       (λ t.
-      let same : get_or (set ws (q / width) y) (k / width) x ≡ get_or ws (k / width) x = get_or-set_other ws (q / width) (k / width) y x t.1 in
-      ap (λ n. has_bit n (k % width)) (get_or-map number (set ws (q / width) y) (k / width) x 0 within ∙ ap number same ∙ sym (get_or-map number ws (k / width) x 0 lk))
+      let same : get_or (set ws (q / width) y) (k / width) x ≡ get_or ws (k / width) x
+      = get_or-set_other ws (q / width) (k / width) y x t.1 in
+      ap (λ n. has_bit n (k % width)) (get_or-map number (set ws (q / width) y) (k / width) x 0 within ∙ ap number same
+      ∙ sym (get_or-map number ws (k / width) x 0 lk))
       ∙ sym (kept (has_bit (get_or (map number ws) (k / width) 0) (k % width)))
-      ∙ ap (λ b. change b (has_bit (get_or (map number ws) (k / width) 0) (k % width))) (sym (ne_eqb k q (λ j. t.1 (ap (λ m. m / width) j)))))
+      ∙ ap (λ b. change b (has_bit (get_or (map number ws) (k / width) 0) (k % width)))
+      (sym (ne_eqb k q (λ j. t.1 (ap (λ m. m / width) j)))))
       (eqb_tells (k / width) (q / width))
 
   -- bit j of word i
-  pub row_has : (ws : List W) (i j : ℕ) (x : W) → i < length ws → x ≡ get_or ws i x → j < width → words_have width number ws (i * width + j) ≡ has_bit (number x) j
+  pub row_has : (ws : List W) (i j : ℕ) (x : W) → i < length ws → x ≡ get_or ws i x → j < width
+      → words_have width number ws (i * width + j) ≡ has_bit (number x) j
   row_has ws i j x h e l =
       (λ r. has_bit (get_or (map number ws) (div-mul-add i width j l r) 0) (mod-mul-add i width j l r))
       ∙ ap (λ n. has_bit n j) (word_is ws i x h e)
@@ -75,51 +84,80 @@ module _ {W : Type 0} (width : ℕ) (number : W → ℕ) (p : 0 < width) where
     row_reads j l = row_has ws i j x (omega (arith, h, len)) e l
 
     module _ (test : Bool → Bool) where
-      row_fails : ((j : ℕ) → j < width → test (has_bit (number x) j) ≡ false) → (k : ℕ) → i * width ≤ k → k < i * width + width → test (words_have width number ws k) ≡ false
+      row_fails : ((j : ℕ) → j < width → test (has_bit (number x) j) ≡ false) → (k : ℕ) → i * width ≤ k
+          → k < i * width + width → test (words_have width number ws k) ≡ false
       row_fails none k low high =
           let r = split_row i k low high in
           ap (λ n. test (words_have width number ws n)) r.2 ∙ ap test (row_reads r.0 r.1) ∙ none r.0 r.1
 
-      pub below_more : ((k : ℕ) → k < i * width → test (words_have width number ws k) ≡ false) → ((j : ℕ) → j < width → test (has_bit (number x) j) ≡ false)
+      pub below_more : ((k : ℕ) → k < i * width → test (words_have width number ws k) ≡ false)
+          → ((j : ℕ) → j < width → test (has_bit (number x) j) ≡ false)
           → (k : ℕ) → k < (i + 1) * width → test (words_have width number ws k) ≡ false
-      below_more below none k l = ⊎_elim (λ m. below k m) (λ m. row_fails none k m (omega arith)) (cases_lt k (i * width))
+      below_more below none k l = ⊎_elim (λ m. below k m) (λ m. row_fails none k m (omega arith))
+          (cases_lt k (i * width))
 
       pub first_found : (at : ℕ) → ((k : ℕ) → k < i * width → test (words_have width number ws k) ≡ false)
-          → (at < width) × (test (has_bit (number x) at) ≡ true) × ((j : ℕ) → j < at → test (has_bit (number x) j) ≡ false)
-          → (i * width + at < s * width) × (test (words_have width number ws (i * width + at)) ≡ true) × ((k : ℕ) → k < i * width + at → test (words_have width number ws k) ≡ false)
+          → (at < width) × (test (has_bit (number x) at) ≡ true)
+          × ((j : ℕ) → j < at → test (has_bit (number x) j) ≡ false)
+          → (i * width + at < s * width) × (test (words_have width number ws (i * width + at)) ≡ true)
+          × ((k : ℕ) → k < i * width + at → test (words_have width number ws k) ≡ false)
       first_found at below f = (
         in_row i s width at h f.0,
         ap test (row_reads at f.0) ∙ f.1,
         λ k l. ⊎_elim (λ m. below k m) (λ m. let r = split_row i k m (omega (arith, l, f.0)) in
-            ap (λ n. test (words_have width number ws n)) r.2 ∙ ap test (row_reads r.0 r.1) ∙ f.2 r.0 (omega (arith, l, r.2))) (cases_lt k (i * width)),
+            ap (λ n. test (words_have width number ws n)) r.2 ∙ ap test (row_reads r.0 r.1)
+            ∙ f.2 r.0 (omega (arith, l, r.2))) (cases_lt k (i * width)),
       )
 
     -- the rows from n on are those after row i
-    module _ (n : ℕ) (next : n ≡ i + 1) (above : (k : ℕ) → n * width ≤ k → k < s * width → words_have width number ws k ≡ false) where
+    module _ (n : ℕ) (next : n ≡ i + 1) (above : (k : ℕ) → n * width ≤ k → k < s * width
+        → words_have width number ws k ≡ false) where
       row_end : n * width ≡ i * width + width
       row_end = ap (λ m. m * width) next ∙ omega arith
 
-      pub above_more : ((j : ℕ) → j < width → has_bit (number x) j ≡ false) → (k : ℕ) → i * width ≤ k → k < s * width → words_have width number ws k ≡ false
-      above_more none k low high = ⊎_elim (λ m. row_fails (λ b. b) none k low (omega (arith, m, row_end))) (λ m. above k m high) (cases_lt k (n * width))
+      pub above_more : ((j : ℕ) → j < width → has_bit (number x) j ≡ false) → (k : ℕ) → i * width ≤ k → k < s * width
+          → words_have width number ws k ≡ false
+      above_more none k low high = ⊎_elim (λ m. row_fails (λ b. b) none k low (omega (arith, m, row_end)))
+          (λ m. above k m high) (cases_lt k (n * width))
 
-      pub last_found : (at : ℕ) → (at < width) × (has_bit (number x) at ≡ true) × ((j : ℕ) → at < j → j < width → has_bit (number x) j ≡ false)
-          → (i * width + at < s * width) × (words_have width number ws (i * width + at) ≡ true) × ((k : ℕ) → i * width + at < k → k < s * width → words_have width number ws k ≡ false)
+      pub last_found : (at : ℕ) → (at < width) × (has_bit (number x) at ≡ true)
+          × ((j : ℕ) → at < j → j < width → has_bit (number x) j ≡ false)
+          → (i * width + at < s * width) × (words_have width number ws (i * width + at) ≡ true)
+          × ((k : ℕ) → i * width + at < k → k < s * width → words_have width number ws k ≡ false)
       last_found at f = (
         in_row i s width at h f.0,
         row_reads at f.0 ∙ f.1,
         λ k l m. ⊎_elim (λ q. let r = split_row i k (omega arith) (omega (arith, q, row_end)) in
-            ap (words_have width number ws) r.2 ∙ row_reads r.0 r.1 ∙ f.2 r.0 (omega (arith, l, r.2)) r.1) (λ q. above k q m) (cases_lt k (n * width)),
+            ap (words_have width number ws) r.2 ∙ row_reads r.0 r.1 ∙ f.2 r.0 (omega (arith, l, r.2)) r.1)
+            (λ q. above k q m) (cases_lt k (n * width)),
       )
 
     -- the positions of one more word
-    pub size_more : (size count : ℕ) → size ≡ length (members (words_have width number ws) (i * width)) → count ≡ length (members (has_bit (number x)) width)
+    pub size_more : (size count : ℕ) → size ≡ length (members (words_have width number ws) (i * width))
+        → count ≡ length (members (has_bit (number x)) width)
         → size + count ≡ length (members (words_have width number ws) ((i + 1) * width))
     size_more size count a b =
         let next : (i + 1) * width ≡ i * width + width = omega arith in
-        let row : length (members_from (words_have width number ws) (0 + i * width) width) ≡ length (members_from (has_bit (number x)) 0 width)
-        = length-members_from-moved _ _ (0 + i * width) 0 width (λ j l. ap (words_have width number ws) (omega arith) ∙ row_reads j l ∙ ap (has_bit (number x)) (omega arith)) in
-        omega (arith, a, b, row, length-members_from-add (words_have width number ws) 0 (i * width) width, ap (λ n. length (members (words_have width number ws) n)) next)
+        let row : length (members_from (words_have width number ws) (0 + i * width) width)
+        ≡ length (members_from (has_bit (number x)) 0 width)
+        = length-members_from-moved _ _ (0 + i * width) 0 width (λ j l. ap (words_have width number ws) (omega arith)
+        ∙ row_reads j l ∙ ap (has_bit (number x)) (omega arith)) in
+        omega (
+          arith,
+          a,
+          b,
+          row,
+          length-members_from-add (words_have width number ws) 0 (i * width) width,
+          ap
+              (λ n. length (members (words_have width number ws) n)) next,
+        )
 
   -- no more positions than bits
-  pub size_below : (ws : List W) (i s : ℕ) → i < s → length (members (words_have width number ws) ((i + 1) * width)) ≤ s * width
-  size_below ws i s h = omega (arith, length-members_from (words_have width number ws) 0 ((i + 1) * width), next_row i s width h)
+  pub size_below : (ws : List W) (i s : ℕ) → i < s → length (members (words_have width number ws) ((i + 1) * width))
+      ≤ s * width
+  size_below ws i s h = omega (
+    arith,
+    length-members_from (words_have width number ws) 0 ((i + 1) * width),
+    next_row i s
+        width h,
+  )

@@ -1,5 +1,6 @@
 -- Bits of a number, bits of a row of words, and the set of positions that a test of positions is.
-use Rattle.std.specs.Prelude.{◌≡◌, ℕ, zero, suc, ◌<◌, ◌/◌, ◌%◌, Bool, true, false, cond, eqb, nat_lt, ◌&&◌, List, [], ◌∷◌, map, slice_index, Option, MatchOption}
+use Rattle.std.specs.Prelude.{◌≡◌, ℕ, zero, suc, ◌<◌, ◌/◌, ◌%◌, Bool, true, false, cond, eqb, nat_lt, ◌&&◌, List, []}
+use Rattle.std.specs.Prelude.{◌∷◌, map, slice_index, Option, MatchOption}
 use Rattle.std.specs.Int.{bit_at}
 
 -- whether bit i of n is set
@@ -13,7 +14,8 @@ words_have width number ws k = has_bit (slice_index (map number ws) (k / width))
 -- the positions of the set among `count` positions from `from` on, ascending
 abbrev pub members_from : (ℕ → Bool) → ℕ → ℕ → List ℕ
 members_from has from zero = []
-members_from has from (suc count) = cond (has from) (from ∷ members_from has (suc from) count) (members_from has (suc from) count)
+members_from has from (suc count) = cond (has from) (from ∷ members_from has (suc from) count)
+    (members_from has (suc from) count)
 
 -- the positions of the set below a capacity, ascending
 abbrev pub members : (ℕ → Bool) → ℕ → List ℕ

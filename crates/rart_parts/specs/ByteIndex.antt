@@ -1,4 +1,5 @@
--- An index from bytes to slots as a row of numbers, 255 where a byte has no slot, beside the set of the bytes that have one.
+-- An index from bytes to slots as a row of numbers, 255 where a byte has no slot, beside the set of the bytes that have
+-- one.
 use Rattle.std.specs.Prelude.{◌≡◌, ℕ, ◌<◌, cond, eqb, List, [], ◌∷◌, map, length, Option, Some, None, slice_index}
 use Rattle.rart_parts.specs.Bits.{words_have}
 use Rattle.rart_parts.specs.Places.{Agrees}

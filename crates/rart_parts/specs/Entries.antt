@@ -1,7 +1,8 @@
--- A map from bytes: a list of entries, each a byte and what stands at it.
-use Rattle.std.specs.Prelude.{ℕ, ◌≡◌, ◌<◌, zero, suc, cond, eqb, ltb, List, [], ◌∷◌, map, Option, Some, None, MatchOption}
+-- A map from bytes: a list of entries, each a byte and what is stored at it.
+use Rattle.std.specs.Prelude.{ℕ, ◌≡◌, ◌<◌, zero, suc, cond, eqb, ltb, List, [], ◌∷◌, map, Option, Some, None}
+use Rattle.std.specs.Prelude.{MatchOption}
 
--- what stands at a byte, if anything does
+-- what is stored at a byte, if anything does
 abbrev pub child_at : {X : Type 0} → ℕ → List (ℕ × X) → Option X
 child_at k [] = None
 child_at k (e ∷ es) = cond (eqb e.0 k) (Some e.1) (child_at k es)
@@ -11,14 +12,15 @@ abbrev pub with_entry : {X : Type 0} → ℕ → X → List (ℕ × X) → List 
 with_entry k x [] = (k, x) ∷ []
 with_entry k x (e ∷ es) = cond (ltb k e.0) ((k, x) ∷ e ∷ es) (cond (eqb e.0 k) ((k, x) ∷ es) (e ∷ with_entry k x es))
 
--- without what stands at a byte
+-- without what is stored at a byte
 abbrev pub without_byte : {X : Type 0} → ℕ → List (ℕ × X) → List (ℕ × X)
 without_byte k [] = []
 without_byte k (e ∷ es) = cond (eqb e.0 k) es (e ∷ without_byte k es)
 
 -- an entry was taken out and given; none of a map without entries
 abbrev pub TakesEntry : {X : Type 0} → List (ℕ × X) → List (ℕ × X) → Option (ℕ × X) → Type 0
-TakesEntry old new taken = MatchOption taken ((old ≡ []) × (new ≡ [])) (λ e. (child_at e.0 old ≡ Some e.1) × (new ≡ without_byte e.0 old))
+TakesEntry old new taken = MatchOption taken ((old ≡ []) × (new ≡ [])) (λ e. (child_at e.0 old ≡ Some e.1)
+    × (new ≡ without_byte e.0 old))
 
 -- with another child at a byte where one stands
 abbrev pub replaced : {X : Type 0} → ℕ → X → List (ℕ × X) → List (ℕ × X)

@@ -1,5 +1,6 @@
 -- Places, each with a value or without.
-use Rattle.std.specs.Prelude.{◌≡◌, ℕ, zero, suc, ◌<◌, ◌≤◌, ◌^◌, Bool, true, false, List, [], ◌∷◌, length, Option, None, Some, MatchOption, slice_index_or, slice_set}
+use Rattle.std.specs.Prelude.{◌≡◌, ℕ, zero, suc, ◌<◌, ◌≤◌, ◌^◌, Bool, true, false, List, [], ◌∷◌, length, Option, None}
+use Rattle.std.specs.Prelude.{Some, MatchOption, slice_index_or, slice_set}
 use Rattle.rart_parts.specs.Bits.{IsLast}
 
 abbrev pub is_filled : {X : Type 0} → Option X → Bool
@@ -32,7 +33,8 @@ GivesLast width os answer = MatchOption answer (IsLast (is_used os) width None)
 -- that value was taken out
 abbrev pub PopsLast : {X : Type 0} → ℕ → List (Option X) → Option X → List (Option X) → Type 0
 PopsLast width old answer new = MatchOption answer (IsLast (is_used old) width None × (new ≡ old))
-    (λ x. (p : ℕ) × (IsLast (is_used old) width (Some p) × (slice_index_or old p None ≡ Some x) × (new ≡ slice_set old p None)))
+    (λ x. (p : ℕ) × (IsLast (is_used old) width (Some p) × (slice_index_or old p None ≡ Some x)
+    × (new ≡ slice_set old p None)))
 
 -- a test of positions says of each one whether that place has a value
 abbrev pub Agrees : {X : Type 0} → ℕ → (ℕ → Bool) → List (Option X) → Type 0
@@ -42,7 +44,8 @@ Agrees capacity has os = (i : ℕ) → i < capacity → has i ≡ is_used os i
 abbrev pub AgreesIfAny : {X : Type 0} → ℕ → (ℕ → Bool) → List (Option X) → Type 0
 AgreesIfAny capacity has os = (k : ℕ) → k < capacity → has k ≡ true → Agrees capacity has os
 
--- so many places, a set that has room for them and whose positions fit a machine's number, and the set is that of the used places if it has any
+-- so many places, a set that has room for them and whose positions fit a machine's number, and the set is that of the
+-- used places if it has any
 pub record IsBitArray {X : Type 0} (width capacity : ℕ) (has : ℕ → Bool) (os : List (Option X)) : Type 0 where
   pub full : length os ≡ width
   pub covers : width ≤ capacity

@@ -1,12 +1,12 @@
-//! What a call that can be refused answers.
+//! The error of calls that allocate or count pairs.
 
 use std::alloc::{AllocError, AllocFailed};
 use thiserror::Error;
 
-/// Why a call was refused. What stands after a refusal is said at each call.
+/// Says why a call failed. Each call documents the state that a failure leaves.
 #[derive(Clone, Copy, PartialEq, Eq, Debug, Error)]
 pub enum TreeError {
-    /// The allocator had no memory for a growth.
+    /// The allocator had no memory.
     #[error("out of memory")]
     Memory,
     /// The tree holds as many pairs as it can count.

@@ -2,7 +2,7 @@
 ghost use Rattle.std.specs.Prelude.{◌≡◌, ℕ, ◌<◌, ◌≤◌, ◌+◌, List, None, length};
 ghost use Rattle.rart_parts.specs.Entries.{BytesAscend, child_at, with_entry};
 
-/// A map that has no child at byte `k` has fewer than 256 children. A new child there makes it one longer.
+/// Proves that a map with no child at a byte `k` has a free place, and that a new child at `k` makes it one longer.
 pub fn free_byte<N>()
     ensures few { (k : ℕ) (es : List (ℕ × N)) → k < 256 → child_at k es ≡ None → BytesAscend es
         → ((b : ℕ) → 256 ≤ b → child_at b es ≡ None) → length es < 256 }

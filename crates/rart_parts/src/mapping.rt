@@ -1,5 +1,5 @@
-//! Maps from bytes to children, in four kinds of storage. Each is seen as the list of its children in the order of
-//! their bytes, each with its byte.
+//! Maps from bytes to children, in four kinds of storage. A contract reads a map as the list of its entries, ascending
+//! by byte.
 
 mod byte_index;
 pub mod direct_mapping;
@@ -19,38 +19,39 @@ pub use sorted_keyed_mapping::{
     SortedKeyedMapping, SortedKeyedMappingIntoIter, SortedKeyedMappingIter,
 };
 
-/// A map from bytes to children, with room for NUM_CHILDREN. No call of it takes memory.
+/// Maps bytes to at most `NUM_CHILDREN` children. No call of this trait allocates.
 pub trait NodeMapping<N, const NUM_CHILDREN: usize> {
     ghost map: { Self → List (ℕ × N) };
 
-    /// Puts a child in at a byte that has none.
+    /// Inserts a child at a byte that has none.
     fn add_child(&mut self, key: u8, node: N)
         requires absent { child_at key (map self.old) ≡ None }
         requires room { length (map self.old) < NUM_CHILDREN }
         ensures { map self.new ≡ with_entry key node (map self.old) };
 
-    /// The child at a byte.
+    /// Returns the child at a byte.
     fn seek_child(&self, key: u8) -> Option<&N>
         ensures { option_copied result ≡ child_at key (map self.now) };
 
-    /// The child at a byte, to be changed.
+    /// Returns a mutable borrow of the child at a byte.
     fn seek_child_mut(&mut self, key: u8) -> Option<&mut N>
-        ensures* writes_back { sem 𝓛 (LendsSo Self.row N.row self.entry result (λ n w. OnSome result (map n ≡ replaced key w (map self.old))) (λ n. map n ≡ map self.old)) }
+        ensures* writes_back { sem 𝓛 (LendsSo Self.row N.row self.entry result
+            (λ n w. OnSome result (map n ≡ replaced key w (map self.old))) (λ n. map n ≡ map self.old)) }
         ensures value { option_copied_mut result ≡ child_at key (map self.old) };
 
-    /// Takes the child at a byte out.
+    /// Removes the child at a byte and returns it.
     fn delete_child(&mut self, key: u8) -> Option<N>
         ensures taken { result ≡ child_at key (map self.old) }
         ensures rest { map self.new ≡ without_byte key (map self.old) };
 
-    /// How many children there are: no more than there is room for, no two at one byte, and none above byte 255.
+    /// Returns the number of children. Its contract also states that the bytes ascend and are below 256.
     fn num_children(&self) -> usize
         ensures count { result ≡ length (map self.now) }
         ensures few { length (map self.now) ≤ NUM_CHILDREN }
         ensures ascends { BytesAscend (map self.now) }
         ensures bytes { (b : ℕ) → 256 ≤ b → child_at b (map self.now) ≡ None };
 
-    /// How many children there is room for.
+    /// Returns the greatest number of children.
     fn width(&self) -> usize
         ensures { result ≡ NUM_CHILDREN }
     {

@@ -1,4 +1,4 @@
-//! Sets of positions, arrays of places and searches among keys.
+//! Sets of positions, arrays of slots and searches among keys.
 
 pub mod bitarray;
 pub mod bitset;

@@ -1,5 +1,6 @@
 -- What the lines of a script print, one after the other.
-use Rattle.std.proofs.Common.{◌≡◌, ℕ, ◌+◌, List, [], ◌++◌, get_or, Option, Some, None, refl, sym, ap, ◌∙◌, append_assoc, add-one}
+use Rattle.std.proofs.Common.{◌≡◌, ℕ, ◌+◌, List, [], ◌++◌, get_or, Option, Some, None, refl, sym, ap, ◌∙◌, append_assoc}
+use Rattle.std.proofs.Common.{add-one}
 use Rattle.std.specs.Io.KnownBytes.{Appends}
 use Rattle.rart_script.specs.Answers.{PrintsReply}
 use Rattle.rart_script.specs.Command.{asked_by, command_of}
@@ -21,13 +22,25 @@ pub record HasPrintedLines (text : List ℕ) (n : ℕ) (map : List (List ℕ × 
   pub run : RunsLines text n map printed
   pub appends : Appends old new printed
 
-pub lines-go_on : (text : List ℕ) (n index : ℕ) (line : List ℕ) (command : Command) (map new_map : List (List ℕ × ℕ)) (answer : List ℕ) (a b c : Option (List ℕ))
-    → IsNext text n index line → command_of (words_of line) ≡ Some (asked_by command) → HasPrintedLines text n map a b → PrintsReply command map answer new_map → Appends b c answer
+pub lines-go_on : (text : List ℕ) (n index : ℕ) (line : List ℕ) (command : Command) (map new_map : List (List ℕ × ℕ))
+    (answer : List ℕ) (a b c : Option (List ℕ))
+    → IsNext text n index line → command_of (words_of line) ≡ Some (asked_by command) → HasPrintedLines text n map a b
+    → PrintsReply command map answer new_map → Appends b c answer
     → HasPrintedLines text (n + 1) new_map a c
 lines-go_on text n index line command map new_map answer a b c next is h step more =
     let k = is_line text n index line next in
     let run : GoesOn (get_or (lines_of text) n []) (RunsLines text n) new_map (h.printed ++ answer)
-    = record { command = command; old_map = map; earlier = h.printed; answer = answer; is_command = ap (λ l. command_of (words_of l)) (sym k.here) ∙ is; before = h.run; step = step; prints = refl } in
+    = record {
+      command = command;
+      old_map = map;
+      earlier = h.printed;
+      answer = answer;
+      is_command
+          = ap (λ l. command_of (words_of l)) (sym k.here) ∙ is;
+      before = h.run;
+      step = step;
+      prints = refl;
+    } in
     record {
       printed = h.printed ++ answer;
       run = rw (add-one n) run;

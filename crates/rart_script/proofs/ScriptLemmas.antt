@@ -1,5 +1,6 @@
 -- The number of a text's first malformed line.
-use Rattle.std.proofs.Common.{◌≡◌, ℕ, ◌+◌, ◌<◌, true, false, cond, List, [], length, get_or, Option, Some, None, ap, arith, sym, ◌∙◌, zero-add, not, below_more}
+use Rattle.std.proofs.Common.{◌≡◌, ℕ, ◌+◌, ◌<◌, true, false, cond, List, [], length, get_or, Option, Some, None, ap}
+use Rattle.std.proofs.Common.{arith, sym, ◌∙◌, zero-add, not, below_more}
 use Rattle.std.specs.Prelude.{nat_lt}
 use Rattle.std.specs.Option.{option_map, is_some}
 use Rattle.std.proofs.lemmas.List.FromFn.{get_or-enumerate_from, length-enumerate_from}
@@ -19,19 +20,26 @@ AreCommands text n = (k : ℕ) → k < n → is_malformed (get_or (lines_of text
 
 pub bad_line_none : (text : List ℕ) (n : ℕ) → n ≡ length (lines_of text) → AreCommands text n → bad_line text ≡ None
 bad_line_none text n e before =
-    let p : position_or_len is_malformed (lines_of text) ≡ n = position_or_len_is is_malformed (lines_of text) n [] (omega arith) before (λ l. absurd (omega arith)) in
-    let t : nat_lt (position_or_len is_malformed (lines_of text)) (length (lines_of text)) ≡ false = grind (arith, nat_tests) in
+    let p : position_or_len is_malformed (lines_of text) ≡ n
+    = position_or_len_is is_malformed (lines_of text) n [] (omega arith) before (λ l. absurd (omega arith)) in
+    let t : nat_lt (position_or_len is_malformed (lines_of text)) (length (lines_of text)) ≡ false
+    = grind (arith, nat_tests) in
     simp t
 
-pub bad_line_some : (text : List ℕ) (n : ℕ) → n < length (lines_of text) → AreCommands text n → is_malformed (get_or (lines_of text) n []) ≡ true → bad_line text ≡ Some (n + 1)
+pub bad_line_some : (text : List ℕ) (n : ℕ) → n < length (lines_of text) → AreCommands text n
+    → is_malformed (get_or (lines_of text) n []) ≡ true → bad_line text ≡ Some (n + 1)
 bad_line_some text n l before here =
-    let p : position_or_len is_malformed (lines_of text) ≡ n = position_or_len_is is_malformed (lines_of text) n [] (omega arith) before (λ _. here) in
-    let t : nat_lt (position_or_len is_malformed (lines_of text)) (length (lines_of text)) ≡ true = grind (arith, nat_tests) in
-    ap (λ b. option_map (λ index. index + 1) (cond b (Some (position_or_len is_malformed (lines_of text))) None)) t ∙ ap (λ m. Some (m + 1)) p
+    let p : position_or_len is_malformed (lines_of text) ≡ n
+    = position_or_len_is is_malformed (lines_of text) n [] (omega arith) before (λ _. here) in
+    let t : nat_lt (position_or_len is_malformed (lines_of text)) (length (lines_of text)) ≡ true
+    = grind (arith, nat_tests) in
+    ap (λ b. option_map (λ index. index + 1) (cond b (Some (position_or_len is_malformed (lines_of text))) None)) t
+    ∙ ap (λ m. Some (m + 1)) p
 
 -- the line of this number is the next, and there is one
 abbrev pub IsNext : List ℕ → ℕ → ℕ → List ℕ → Type 0
-IsNext text n index line = let all = enumerate_from 0 (lines_of text) in (n < length all) × ((index, line) ≡ get_or all n (index, line))
+IsNext text n index line = let all = enumerate_from 0 (lines_of text) in (n < length all)
+    × ((index, line) ≡ get_or all n (index, line))
 
 pub record IsLine (text : List ℕ) (n index : ℕ) (line : List ℕ) : Type 0 where
   pub below : n < length (lines_of text)
@@ -41,22 +49,27 @@ pub record IsLine (text : List ℕ) (n index : ℕ) (line : List ℕ) : Type 0 w
 pub is_line : (text : List ℕ) (n index : ℕ) (line : List ℕ) → IsNext text n index line → IsLine text n index line
 is_line text n index line h =
     let below : n < length (lines_of text) = omega (arith, length-enumerate_from 0 (lines_of text), h.0) in
-    let e : (index, line) ≡ (0 + n, get_or (lines_of text) n line) = h.1 ∙ get_or-enumerate_from 0 (lines_of text) n (index, line) below in
+    let e : (index, line) ≡ (0 + n, get_or (lines_of text) n line)
+    = h.1 ∙ get_or-enumerate_from 0 (lines_of text) n (index, line) below in
     record {
       below = below;
       number = ap (λ (p : ℕ × List ℕ). p.0) e ∙ zero-add n;
       here = ap (λ (p : ℕ × List ℕ). p.1) e ∙ get_or_default (lines_of text) n line [] below;
     }
 
-pub bad_line-at_next : (text : List ℕ) (n index : ℕ) (line : List ℕ) → IsNext text n index line → AreCommands text n → command_of (words_of line) ≡ None → bad_line text ≡ Some (index + 1)
+pub bad_line-at_next : (text : List ℕ) (n index : ℕ) (line : List ℕ) → IsNext text n index line → AreCommands text n
+    → command_of (words_of line) ≡ None → bad_line text ≡ Some (index + 1)
 bad_line-at_next text n index line h before e =
     let k = is_line text n index line h in
-    bad_line_some text n k.below before (ap is_malformed (sym k.here) ∙ ap (λ o. not (is_some o)) e) ∙ ap (λ m. Some (m + 1)) (sym k.number)
+    bad_line_some text n k.below before (ap is_malformed (sym k.here) ∙ ap (λ o. not (is_some o)) e)
+    ∙ ap (λ m. Some (m + 1)) (sym k.number)
 
-pub AreCommands-next : (text : List ℕ) (n index : ℕ) (line : List ℕ) (asked : Option (Call (List ℕ) ℕ)) → IsNext text n index line → AreCommands text n → command_of (words_of line) ≡ Some asked → AreCommands text (n + 1)
+pub AreCommands-next : (text : List ℕ) (n index : ℕ) (line : List ℕ) (asked : Option (Call (List ℕ) ℕ))
+    → IsNext text n index line → AreCommands text n → command_of (words_of line) ≡ Some asked → AreCommands text (n + 1)
 AreCommands-next text n index line asked h before e =
     let k = is_line text n index line h in
     below_more _ _ before (ap is_malformed (sym k.here) ∙ ap (λ o. not (is_some o)) e)
 
-pub bad_line-at_end : (text : List ℕ) (n : ℕ) → n ≡ length (enumerate_from 0 (lines_of text)) → AreCommands text n → bad_line text ≡ None
+pub bad_line-at_end : (text : List ℕ) (n : ℕ) → n ≡ length (enumerate_from 0 (lines_of text)) → AreCommands text n
+    → bad_line text ≡ None
 bad_line-at_end text n e before = bad_line_none text n (e ∙ length-enumerate_from 0 (lines_of text)) before

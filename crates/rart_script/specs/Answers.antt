@@ -4,7 +4,7 @@ use Rattle.std.specs.List.{join_with_byte}
 use Rattle.std.specs.Option.{option_map}
 use Rattle.rart_keys.specs.ArrayKeyBytes.{array_key_bytes}
 use Rattle.rart_keys.specs.declared.keys.array_key.ArrayKey.{ArrayKey}
-use Rattle.rart_nodes.specs.statistics.Statistics.{statistics_in}
+use Rattle.rart_nodes.specs.statistics.Statistics.{stats_in}
 use Rattle.rart_parts.specs.declared.error.TreeError.{TreeError}
 use Rattle.rart_parts.specs.declared.error.TreeError.TheVariants.{Memory, Full}
 use Rattle.rart.specs.Steps.{IsStep, pairs_in}
@@ -54,7 +54,7 @@ reply_line (reply.Value found) = value_line found
 reply_line (reply.Len count) = number_line count
 reply_line (reply.Pair found) = found_line (option_map (λ p. (array_key_bytes p.0, p.1)) found)
 reply_line (reply.Pairs pairs) = pairs_line (pairs_in array_key_bytes pairs.items)
-reply_line (reply.Stats stats) = stats_line (statistics_in stats)
+reply_line (reply.Stats stats) = stats_line (stats_in stats)
 reply_line (reply.Refused error) = refusal_line error
 reply_line (reply.Returned error back) = refusal_line error
 reply_line (reply.Done answer) = []
@@ -68,4 +68,5 @@ reply_line reply.NoRemove = []
 -- the command prints this line on the map old, and leaves the map new: the line of a reply that the call may get
 abbrev pub PrintsReply : Command → List (List ℕ × ℕ) → List ℕ → List (List ℕ × ℕ) → Type 0
 PrintsReply command.Nothing old line new = (line ≡ []) × (new ≡ old)
-PrintsReply (command.Call call) old line new = (r : Reply (ArrayKey KEY_SIZE) ℕ) × (IsStep array_key_bytes old call r new × (line ≡ reply_line r))
+PrintsReply (command.Call call) old line new = (r : Reply (ArrayKey KEY_SIZE) ℕ)
+    × (IsStep array_key_bytes old call r new × (line ≡ reply_line r))

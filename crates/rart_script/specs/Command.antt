@@ -31,7 +31,7 @@ call_in bytes call.Len = call.Len
 call_in bytes call.IsEmpty = call.IsEmpty
 call_in bytes call.Stats = call.Stats
 
--- the call that a command asks for, if it asks for one
+-- the call of a command, if it has one
 abbrev pub asked_by : Command → Option (Call (List ℕ) ℕ)
 asked_by command.Nothing = None
 asked_by (command.Call c) = Some (call_in array_key_bytes c)
@@ -43,7 +43,8 @@ insert_of _ = None
 
 -- the call of two operands, a key that is within and one before which the pairs are
 abbrev pub range_of : List (List ℕ) → Option (Call (List ℕ) ℕ)
-range_of (start ∷ end ∷ []) = option_and_then (λ a. option_map (λ b. call.Range (Included a) (Excluded b)) (key_of end)) (key_of start)
+range_of (start ∷ end ∷ []) = option_and_then (λ a. option_map (λ b. call.Range (Included a) (Excluded b)) (key_of end))
+    (key_of start)
 range_of _ = None
 
 -- the key that is the one operand

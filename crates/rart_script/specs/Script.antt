@@ -1,5 +1,6 @@
 -- Which lines a script runs.
-use Rattle.std.specs.Prelude.{◌≡◌, ℕ, zero, suc, ◌+◌, Bool, not, List, [], ◌++◌, length, slice_index_or, Option, Some, ⊤, Result, MatchResult, position}
+use Rattle.std.specs.Prelude.{◌≡◌, ℕ, zero, suc, ◌+◌, Bool, not, List, [], ◌++◌, length, slice_index_or, Option, Some}
+use Rattle.std.specs.Prelude.{⊤, Result, MatchResult, position}
 use Rattle.std.specs.Io.KnownBytes.{Appends}
 use Rattle.std.specs.Option.{option_map, is_some}
 use Rattle.rart_script.specs.Answers.{PrintsReply}
@@ -25,7 +26,8 @@ StopsAt text CannotRead = ⊤
 StopsAt text CannotWrite = ⊤
 
 -- a map that a line leaves, and what was printed by then, where Before says so of the lines before it
-pub record GoesOn (line : List ℕ) (Before : List (List ℕ × ℕ) → List ℕ → Type 0) (map : List (List ℕ × ℕ)) (printed : List ℕ) : Type 0 where
+pub record GoesOn (line : List ℕ) (Before : List (List ℕ × ℕ) → List ℕ → Type 0) (map : List (List ℕ × ℕ))
+    (printed : List ℕ) : Type 0 where
   pub command : Command
   pub old_map : List (List ℕ × ℕ)
   pub earlier : List ℕ
@@ -42,7 +44,8 @@ RunsLines text (suc n) map printed = GoesOn (slice_index_or (lines_of text) n []
 
 -- an output grew by what the first n lines print
 abbrev pub PrintsFirst : List ℕ → Option (List ℕ) → Option (List ℕ) → ℕ → Type 0
-PrintsFirst text old new n = (map : List (List ℕ × ℕ)) × ((printed : List ℕ) × (RunsLines text n map printed × Appends old new printed))
+PrintsFirst text old new n = (map : List (List ℕ × ℕ))
+    × ((printed : List ℕ) × (RunsLines text n map printed × Appends old new printed))
 
 -- an output grew by what all lines print
 abbrev pub PrintsAll : List ℕ → Option (List ℕ) → Option (List ℕ) → Type 0

@@ -4,14 +4,17 @@ use Rattle.std.specs.List.{concat}
 use Rattle.rart_nodes.specs.statistics.Statistics.{Statistics}
 use Rattle.rart_nodes.specs.declared.stats.NodeStats.{NodeStats}
 
--- the nodes of one width and their children, behind a space
+-- the nodes of one width and their children, after a space
 abbrev pub width_word : ℕ × NodeStats → List ℕ
-width_word (width, stats) = codes " w" ++ decimal width ++ codes ":" ++ decimal stats.total_nodes ++ codes "/" ++ decimal stats.total_children
+width_word (width, stats) = codes " w" ++ decimal width ++ codes ":" ++ decimal stats.total_nodes ++ codes "/"
+    ++ decimal stats.total_children
 
 -- the sums
 abbrev pub sums_text : Statistics → List ℕ
-sums_text s = codes "leaves " ++ decimal s.leaves ++ codes " values " ++ decimal s.values ++ codes " inner " ++ decimal s.inner_nodes
-    ++ codes " children " ++ decimal s.children ++ codes " width " ++ decimal s.width ++ codes " height " ++ decimal s.height
+sums_text s = codes "leaves " ++ decimal s.leaves ++ codes " values " ++ decimal s.values ++ codes " inner "
+    ++ decimal s.inner_nodes
+    ++ codes " children " ++ decimal s.children ++ codes " width " ++ decimal s.width ++ codes " height "
+    ++ decimal s.height
 
 -- the line for statistics
 abbrev pub stats_line : Statistics → List ℕ

@@ -16,6 +16,6 @@ message_of (BadCommand line) = codes "line " ++ decimal line ++ codes ": bad com
 message_of CannotRead = codes "rart_script: cannot read"
 message_of CannotWrite = codes "rart_script: cannot write"
 
--- a writer's known bytes grow by the line that tells of the stop
+-- a writer's known bytes grow by the line that names the stop
 abbrev pub IsSaid : Option (List ℕ) → Option (List ℕ) → Stop → Type 0
 IsSaid old new stop = Appends old new (message_of stop ++ 10 ∷ [])

@@ -1,4 +1,4 @@
-//! What a command prints, on a line of its own.
+//! The line that a command prints.
 ghost use Rattle.std.specs.Prelude.{OnOk};
 ghost use Rattle.std.specs.Io.KnownBytes.{Appends};
 ghost use Rattle.std.specs.Option.{option_map};
@@ -13,7 +13,12 @@ use rart::{KeyTrait, TreeError};
 use std::io;
 use std::io::Write;
 
-/// What the tree replied. No command asks what the last seven reply.
+/// Writes the reply of the tree on a line. No command returns one of the last seven replies, for which it writes
+/// nothing.
+///
+/// # Errors
+///
+/// The error of `output`, if a write fails.
 pub fn write_reply<W: Write>(output: &mut W, reply: Reply<Key, u64>) -> io::Result<()>
     ensures { OnOk result (Appends (W.contents output.old) (W.contents output.new) (reply_line reply)) }
 {
@@ -35,7 +40,7 @@ pub fn write_reply<W: Write>(output: &mut W, reply: Reply<Key, u64>) -> io::Resu
     }
 }
 
-/// The value that a key has or had, where there is one.
+/// Writes the value that a key has or had, or `none`.
 fn write_value<W: Write>(output: &mut W, value: Option<u64>) -> io::Result<()>
     ensures { OnOk result (Appends (W.contents output.old) (W.contents output.new) (value_line value)) }
 {
@@ -45,7 +50,7 @@ fn write_value<W: Write>(output: &mut W, value: Option<u64>) -> io::Result<()>
     }
 }
 
-/// Why the tree refused a command.
+/// Writes why the tree refused a command.
 fn write_refusal<W: Write>(output: &mut W, error: TreeError) -> io::Result<()>
     ensures { OnOk result (Appends (W.contents output.old) (W.contents output.new) (refusal_line error)) }
 {
@@ -55,9 +60,10 @@ fn write_refusal<W: Write>(output: &mut W, error: TreeError) -> io::Result<()>
     }
 }
 
-/// The pairs, one space between each two; `empty` where there is none.
+/// Writes the pairs, one space between each two; `empty` if there is none.
 fn write_pairs<W: Write>(output: &mut W, pairs: Vec<(Key, u64)>) -> io::Result<()>
-    ensures { OnOk result (Appends (W.contents output.old) (W.contents output.new) (pairs_line (pairs_in array_key_bytes pairs.items))) }
+    ensures { OnOk result (Appends (W.contents output.old) (W.contents output.new)
+        (pairs_line (pairs_in array_key_bytes pairs.items))) }
 {
     let mut pairs = pairs.into_iter();
     let Some((key, value)) = pairs.next() else {
@@ -71,9 +77,10 @@ fn write_pairs<W: Write>(output: &mut W, pairs: Vec<(Key, u64)>) -> io::Result<(
     writeln!(output)
 }
 
-/// The pair that was found, where one was.
+/// Writes the pair that was found, or `none`.
 fn write_found<W: Write>(output: &mut W, found: Option<(Key, u64)>) -> io::Result<()>
-    ensures { OnOk result (Appends (W.contents output.old) (W.contents output.new) (found_line (option_map (λ p. (array_key_bytes p.0, p.1)) found))) }
+    ensures { OnOk result (Appends (W.contents output.old) (W.contents output.new)
+        (found_line (option_map (λ p. (array_key_bytes p.0, p.1)) found))) }
 {
     let Some((key, value)) = found else {
         return writeln!(output, "none");
@@ -83,7 +90,7 @@ fn write_found<W: Write>(output: &mut W, found: Option<(Key, u64)>) -> io::Resul
     writeln!(output)
 }
 
-/// One pair; the empty key is printed as `-`.
+/// Writes one pair; the empty key is printed as `-`.
 fn write_pair<W: Write>(output: &mut W, key: &[u8], value: u64) -> io::Result<()>
     ensures { OnOk result (Appends (W.contents output.old) (W.contents output.new) (pair_word (key.now, value))) }
 {

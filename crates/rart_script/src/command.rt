@@ -1,8 +1,9 @@
-//! What a line asks for.
+//! The command of a line.
 ghost use Rattle.std.specs.Prelude.{◌≡◌, None, Some};
 ghost use Rattle.std.specs.Option.{option_map};
 ghost use Rattle.rart_keys.specs.ArrayKeyBytes.{array_key_bytes};
-ghost use Rattle.rart_script.specs.Command.{asked_by, call_in, call_of, command_of, complete_of, insert_of, only_key_of, range_of};
+ghost use Rattle.rart_script.specs.Command.{asked_by, call_in, call_of, command_of, complete_of, insert_of};
+ghost use Rattle.rart_script.specs.Command.{only_key_of, range_of};
 ghost use Rattle.rart_script.specs.Words.{words_of};
 
 use crate::key::{Key, parse_key};
@@ -11,16 +12,16 @@ use crate::words::next_word;
 use rart::script::Call;
 use std::ops::Bound;
 
-/// What a line asks for.
+/// The command of a line.
 #[derive(Drop)]
 pub enum Command {
-    /// Nothing: the line has no words.
+    /// Does nothing: the line has no words.
     Nothing,
-    /// A call of the tree.
+    /// Makes a call of the tree.
     Call(Call<Key, u64>),
 }
 
-/// The command that a line writes; `None` where it is malformed.
+/// Returns the command that a line writes; `None` if it is malformed.
 pub fn parse_command(line: &[u8]) -> Option<Command>
     ensures { option_map asked_by result ≡ command_of (words_of line.now) }
 {
@@ -30,7 +31,7 @@ pub fn parse_command(line: &[u8]) -> Option<Command>
     Some(Command::Call(parse_call(name, operands)?))
 }
 
-/// The call of this name with these operands.
+/// Returns the call of this name with these operands.
 fn parse_call(name: &[u8], operands: &[u8]) -> Option<Call<Key, u64>>
     ensures { option_map (call_in array_key_bytes) result ≡ call_of name.now (words_of operands.now) }
 {
@@ -67,7 +68,7 @@ fn parse_insert(operands: &[u8]) -> Option<Call<Key, u64>>
     complete(Call::Insert(key, value), rest)
 }
 
-/// The pairs from one key on, before another.
+/// Returns the call for the pairs from one key on, before another.
 fn parse_range(operands: &[u8]) -> Option<Call<Key, u64>>
     ensures { option_map (call_in array_key_bytes) result ≡ range_of (words_of operands.now) }
 {
@@ -81,7 +82,7 @@ fn parse_range(operands: &[u8]) -> Option<Call<Key, u64>>
     )
 }
 
-/// The key that is the one operand.
+/// Returns the key that is the one operand.
 fn only_key(operands: &[u8]) -> Option<Key>
     ensures { option_map array_key_bytes result ≡ only_key_of (words_of operands.now) }
 {
@@ -92,9 +93,10 @@ fn only_key(operands: &[u8]) -> Option<Key>
     }
 }
 
-/// The call, where no word stands after it.
+/// Returns the call if no word follows it.
 fn complete(call: Call<Key, u64>, rest: &[u8]) -> Option<Call<Key, u64>>
-    ensures { option_map (call_in array_key_bytes) result ≡ complete_of (call_in array_key_bytes call) (words_of rest.now) }
+    ensures { option_map (call_in array_key_bytes) result
+        ≡ complete_of (call_in array_key_bytes call) (words_of rest.now) }
 {
     match next_word(rest) {
         None => Some(call),

@@ -6,13 +6,13 @@ ghost use Rattle.rart_script.specs.Key.{key_of};
 
 use rart::{ArrayKey, KeyTrait};
 
-/// The most bytes that a key may have.
+/// The largest number of bytes of a key.
 pub const KEY_SIZE: usize = 32;
 
 /// A key of a script.
 pub type Key = ArrayKey<KEY_SIZE>;
 
-/// The key that a word writes: its bytes as they are, and none for `-`. `None` where there are more
+/// Returns the key that a word writes: its bytes as they are, or no bytes for `-`; `None` if the word has more bytes
 /// than a key may have.
 pub fn parse_key(word: &[u8]) -> Option<Key>
     ensures { option_map array_key_bytes result ≡ key_of word.now }

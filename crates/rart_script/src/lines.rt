@@ -4,14 +4,14 @@ ghost use Rattle.std.specs.Prelude.{◌≡◌, ◌<◌, ◌^◌, ◌==◌, lengt
 /// The parts of a text between its newlines, in order.
 #[derive(Drop)]
 pub struct Lines<'a> {
-    // What stands after the newline of the line before; nothing once the last line is given.
+    // The text after the newline of the previous line; nothing once the last line is returned.
     rest: Option<&'a [u8]>,
 }
 
 impl<'a> Lines<'a> {
     ghost use Rattle.rart_script.specs.Lines.{lines_of, lines_left};
 
-    /// The lines of `text`. A text that ends in a newline has an empty last line, which says nothing.
+    /// Returns the lines of `text`. A text that ends in a newline has an empty last line.
     pub fn new(text: &'a [u8]) -> Self
         ensures left { lines_left result ≡ lines_of text.now }
         // So they can be numbered.
@@ -46,7 +46,7 @@ impl<'a> Iterator for Lines<'a> {
     }
 }
 
-/// Where the first line of a text ends in a newline.
+/// Returns the position of the first newline of a text.
 fn line_end(text: &[u8]) -> Option<usize>
     ensures { result ≡ position (λ b. b == 10) text.now }
 {

@@ -1,5 +1,6 @@
-//! Runs a script: a text with one command on each line.
-ghost use Rattle.std.specs.Prelude.{◌≡◌, ◌≢◌, ◌≤◌, ◌+◌, ℕ, List, None, Some, IfSome, IsSomeAnd, IfOk, IfErr, OnOk, MatchResult};
+//! Scripts: texts with one command on each line.
+ghost use Rattle.std.specs.Prelude.{◌≡◌, ◌≢◌, ◌≤◌, ◌+◌, ℕ, List, None, Some, IfSome, IsSomeAnd, IfOk, IfErr, OnOk};
+ghost use Rattle.std.specs.Prelude.{MatchResult};
 ghost use Rattle.std.specs.Io.KnownBytes.{Appends};
 ghost use Rattle.rart_script.specs.Answers.{PrintsReply};
 ghost use Rattle.rart_script.specs.Script.{Prints, PrintsAll, PrintsToBad, StopsAt, bad_line};
@@ -18,7 +19,7 @@ use std::io::{Read, Write};
 
 type Tree = AdaptiveRadixTree<Key, u64>;
 
-/// Reads all of `input`, runs it line by line, and answers the status for the process.
+/// Reads all of `input`, runs it line by line, and returns the status for the process.
 pub fn run_lines<R: Read, W: Write, E: Write>(
     alloc: Global,
     input: &mut R,
@@ -27,9 +28,11 @@ pub fn run_lines<R: Read, W: Write, E: Write>(
 ) -> u8
     ensures status { result ≤ 2 }
     // With status 0 all lines were run, and their answers were printed.
-    ensures answers { result ≡ 0 → IfSome (R.remaining input.old) (λ text. PrintsAll text (W.contents output.old) (W.contents output.new)) }
+    ensures answers { result ≡ 0 → IfSome (R.remaining input.old)
+        (λ text. PrintsAll text (W.contents output.old) (W.contents output.new)) }
     // With status 2 those before the malformed line were.
-    ensures earlier_answers { result ≡ 2 → IfSome (R.remaining input.old) (λ text. PrintsToBad text (W.contents output.old) (W.contents output.new)) }
+    ensures earlier_answers { result ≡ 2 → IfSome (R.remaining input.old)
+        (λ text. PrintsToBad text (W.contents output.old) (W.contents output.new)) }
     // What the status says of an input whose bytes are known.
     ensures done { result ≡ 0 → IfSome (R.remaining input.old) (λ text. bad_line text ≡ None) }
     ensures bad { result ≡ 2 → IfSome (R.remaining input.old) (λ text. IsSomeAnd (bad_line text)
@@ -45,7 +48,7 @@ pub fn run_lines<R: Read, W: Write, E: Write>(
     }
 }
 
-/// Says why a script ended.
+/// Writes why a script ended.
 fn say<E: Write>(stop: Stop, errors: &mut E) -> io::Result<()>
     ensures { OnOk result (IsSaid (E.contents errors.old) (E.contents errors.new) stop) }
 {
@@ -53,8 +56,10 @@ fn say<E: Write>(stop: Stop, errors: &mut E) -> io::Result<()>
 }
 
 fn run<R: Read, W: Write>(alloc: Global, input: &mut R, output: &mut W) -> Result<(), Stop>
-    ensures stops { IfSome (R.remaining input.old) (λ text. MatchResult result (λ _. bad_line text ≡ None) (StopsAt text)) }
-    ensures answers { IfSome (R.remaining input.old) (λ text. Prints text result (W.contents output.old) (W.contents output.new)) }
+    ensures stops { IfSome (R.remaining input.old)
+        (λ text. MatchResult result (λ _. bad_line text ≡ None) (StopsAt text)) }
+    ensures answers { IfSome (R.remaining input.old)
+        (λ text. Prints text result (W.contents output.old) (W.contents output.new)) }
 {
     let text = read_all(alloc, input)?;
     let ended = run_text(alloc, text.as_slice(), output);
@@ -76,7 +81,7 @@ fn read_all<R: Read>(alloc: Global, input: &mut R) -> Result<Vec<u8>, Stop>
     }
 }
 
-/// Runs the lines of a text on a tree of their own, up to the first that is no command.
+/// Runs the lines of a text on a new tree, up to the first that is no command.
 fn run_text<W: Write>(alloc: Global, text: &[u8], output: &mut W) -> Result<(), Stop>
     ensures lines { MatchResult result (λ _. bad_line text.now ≡ None) (StopsAt text.now) }
     ensures answers { Prints text.now result (W.contents output.old) (W.contents output.new) }
@@ -94,14 +99,15 @@ fn run_text<W: Write>(alloc: Global, text: &[u8], output: &mut W) -> Result<(), 
     Ok(())
 }
 
-/// Runs one command, and prints the reply.
+/// Runs one command, and writes the reply.
 fn execute<W: Write>(
     alloc: Global,
     tree: &mut Tree,
     command: Command,
     output: &mut W,
 ) -> io::Result<()>
-    ensures { OnOk result ((line : List ℕ) × PrintsReply command tree.old.pairs line tree.new.pairs × Appends (W.contents output.old) (W.contents output.new) line) }
+    ensures { OnOk result ((line : List ℕ) × PrintsReply command tree.old.pairs line tree.new.pairs
+        × Appends (W.contents output.old) (W.contents output.new) line) }
 {
     match command {
         Command::Nothing => Ok(()),

@@ -1,16 +1,20 @@
-//! How the statistics of a tree are printed, on one line.
+//! The line of the statistics of a tree.
 ghost use Rattle.std.specs.Prelude.{OnOk};
 ghost use Rattle.std.specs.Io.KnownBytes.{Appends};
-ghost use Rattle.rart_nodes.specs.statistics.Statistics.{statistics_in};
+ghost use Rattle.rart_nodes.specs.statistics.Statistics.{stats_in};
 ghost use Rattle.rart_script.specs.Statistics.{stats_line, sums_text};
 
 use rart::TreeStats;
 use std::io;
 use std::io::Write;
 
-/// The sums, and then the nodes of each width with their children, ascending by width.
+/// Writes the sums, and then the nodes of each width with their children, ascending by width.
+///
+/// # Errors
+///
+/// The error of `output`, if a write fails.
 pub fn write_statistics<W: Write>(output: &mut W, stats: &TreeStats) -> io::Result<()>
-    ensures { OnOk result (Appends (W.contents output.old) (W.contents output.new) (stats_line (statistics_in stats.now))) }
+    ensures { OnOk result (Appends (W.contents output.old) (W.contents output.new) (stats_line (stats_in stats.now))) }
 {
     write_sums(output, stats)?;
     for (width, of_width) in &stats.node_stats {
@@ -23,9 +27,9 @@ pub fn write_statistics<W: Write>(output: &mut W, stats: &TreeStats) -> io::Resu
     writeln!(output)
 }
 
-/// The sums alone.
+/// Writes the sums alone.
 fn write_sums<W: Write>(output: &mut W, stats: &TreeStats) -> io::Result<()>
-    ensures { OnOk result (Appends (W.contents output.old) (W.contents output.new) (sums_text (statistics_in stats.now))) }
+    ensures { OnOk result (Appends (W.contents output.old) (W.contents output.new) (sums_text (stats_in stats.now))) }
 {
     write!(
         output,

@@ -9,12 +9,14 @@ use std::fmt;
 pub enum Stop {
     /// The line of this number, counted from 1, is no command.
     BadCommand { line: usize },
+    /// The input can't be read.
     CannotRead,
+    /// The output can't be written.
     CannotWrite,
 }
 
 impl Stop {
-    /// The status that the program ends with.
+    /// Returns the status that the program ends with.
     pub fn status(self) -> u8
         ensures { result ≡ status_of self }
     {

@@ -2,7 +2,7 @@
 ghost use Rattle.std.specs.Prelude.{◌≡◌};
 ghost use Rattle.rart_script.specs.Value.{value_of};
 
-/// The number that a word of one or more digits writes, where it fits a value.
+/// Returns the number that a word of one or more digits writes, if it fits a value.
 pub fn parse_value(word: &[u8]) -> Option<u64>
     ensures { result ≡ value_of word.now }
 {

@@ -21,8 +21,9 @@ pub fn part_ends(alloc: Global) {
     let _ = Vec::<u8>::with_capacity(alloc, 0x5ef2_0000_0000_0000_usize);
 }
 
-/// Whether each request refused in turn goes well, up to the first that isn't made, which ends a part. `is_refused_well` makes
-/// calls with the request of its number refused, and answers whether one was; None where something went another way.
+/// Whether each request refused in turn goes well, up to the first that isn't made, which ends a part.
+/// `is_refused_well` makes calls with the request of its number refused, and answers whether one was; None where
+/// something went another way.
 pub fn is_swept<F: Fn(usize) -> Option<bool> + Drop>(alloc: Global, is_refused_well: F) -> bool
     requires { (at : _) → F.pre is_refused_well at }
 {

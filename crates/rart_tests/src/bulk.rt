@@ -1,4 +1,4 @@
-//! How far a bulk load reads where memory is refused, and which index it asks for.
+//! How far a bulk load reads where memory is refused, and which index it requests.
 ghost use Rattle.std.specs.Prelude.{◌≡◌, ◌<◌, length, slice_index_or};
 ghost use Rattle.std.specs.Iterator.{YieldsFirst, item_count};
 ghost use Rattle.rart_keys.specs.ArrayKeyBytes.{array_key_bytes};
@@ -62,7 +62,8 @@ enum Form {
     Unique,
 }
 
-// A load of items that ascend with a request refused: how many items were read, why it was refused, and whether a request was.
+// A load of items that ascend with a request refused: how many items were read, why it was refused, and whether a
+// request was.
 fn read_with_refusal(
     alloc: Global,
     items: &[(Key, u64)],

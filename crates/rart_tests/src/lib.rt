@@ -1,5 +1,5 @@
-//! Tests of the map over its public calls: bulk loads, laws, migrations, drops, and updates with each request for memory
-//! refused.
+//! Tests of the map over its public calls: bulk loads, laws, migrations, drops, and updates with each request for
+//! memory refused.
 //!
 //! Nothing depends on this crate, and it is no part of the product. A crate with tests is proved twice, so the tests
 //! stand in crates of their own; what has to look at private parts stands beside them. Rows of calls and replies are

@@ -9,7 +9,11 @@ use rart::{AdaptiveRadixTree, ArrPartial, ArrayKey, KeyTrait, TreeError};
 /// Words of at most 32 bytes, and how often each was chosen.
 pub type Words = AdaptiveRadixTree<ArrayKey<32>, u64>;
 
-/// The words that begin with `typed`, ascending; the walk costs what it gives.
+/// Returns an iterator over the words that begin with `typed`, ascending.
+///
+/// # Errors
+///
+/// [`TreeError::Memory`] if there are words and the allocation fails.
 pub fn completions<'a>(
     words: &'a Words,
     typed: &[u8],
@@ -21,7 +25,11 @@ pub fn completions<'a>(
     words.prefix_iter_k(&ArrayKey::<32>::new_from_slice(typed))
 }
 
-/// How many there are.
+/// Returns the number of words that begin with `typed`.
+///
+/// # Errors
+///
+/// [`TreeError::Memory`] if there are words and the allocation fails.
 pub fn count_completions(words: &Words, typed: &[u8]) -> Result<usize, TreeError>
     requires { length typed.now ≤ 32 }
     ensures count { IfOk result (λ n. n ≡ length (below typed.now words.now.pairs)) }

@@ -11,7 +11,7 @@ use rart::{AdaptiveRadixTree, ArrPartial, ArrayKey, KeyTrait, TreeError};
 /// Rows by a customer and an order.
 pub type Orders = AdaptiveRadixTree<ArrayKey<8>, u64>;
 
-/// The key of a customer's order: the bytes of one number, and then those of the other.
+/// Returns the key of a customer's order: the bytes of one number, and then those of the other.
 pub fn key_of(customer: u32, order: u32) -> ArrayKey<8>
     ensures { array_key_bytes result ≡ to_be_bytes w32 customer ++ to_be_bytes w32 order }
 {
@@ -21,7 +21,11 @@ pub fn key_of(customer: u32, order: u32) -> ArrayKey<8>
     ArrayKey::<8>::new_from_slice(&bytes)
 }
 
-/// The rows of a customer, by ascending order.
+/// Returns an iterator over the rows of a customer, by ascending order.
+///
+/// # Errors
+///
+/// [`TreeError::Memory`] if there are rows and the allocation fails.
 pub fn orders_of<'a>(
     orders: &'a Orders,
     customer: u32,

@@ -1,10 +1,10 @@
-//! A join of two indexes: what stands in both, without a look at what only one has.
+//! A join of two indexes: the keys of both.
 ghost use Rattle.std.specs.Prelude.{◌≡◌, length};
 ghost use Rattle.rart_keys.specs.Joins.{join};
 
 use rart::{AdaptiveRadixTree, KeyTrait};
 
-/// How many keys two indexes have in common. Takes no memory.
+/// Returns the number of keys that both indexes have. Allocates nothing.
 pub fn count_shared<K: KeyTrait, V, W>(
     one: &AdaptiveRadixTree<K, V>,
     other: &AdaptiveRadixTree<K, W>,

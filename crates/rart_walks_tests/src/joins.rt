@@ -1,4 +1,5 @@
-//! Intersections of wide nodes and of trees of two value types, their law, their counted calls, and the cuts of their views.
+//! Intersections of wide nodes and of trees of two value types, their law, their counted calls, and the cuts of their
+//! views.
 
 mod counted;
 mod cuts;

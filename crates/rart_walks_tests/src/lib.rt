@@ -1,8 +1,8 @@
 //! Tests of what goes through a map: iterators, ranges, walks with a callback and over views, answers about a probe,
 //! intersections, and the route table with its walks.
 //!
-//! Nothing depends on this crate, and it is no part of the product. The other tests of the map stand in `rart_calls_tests`
-//! and `rart_tests`, which are proved beside it.
+//! Nothing depends on this crate, and it is no part of the product. The other tests of the map stand in
+//! `rart_calls_tests` and `rart_tests`, which are proved beside it.
 #![tactic(auto)]
 
 #[cfg(test)]

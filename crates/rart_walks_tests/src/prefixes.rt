@@ -1,5 +1,5 @@
-//! Answers about a probe and walks below a prefix: for each probe the longest key that begins it, all keys that do, and the keys
-//! that it begins.
+//! Answers about a probe and walks below a prefix: for each probe the longest key that begins it, all keys that do, and
+//! the keys that it begins.
 
 ghost use Rattle.std.specs.Prelude.{◌≤◌, length};
 

@@ -1,5 +1,5 @@
-//! Ranges: for each two ends the pairs that are given, by the iterator and by the walks over views; ranges over what an iterator has
-//! left; starts at every byte of each of the four storages; memory refused.
+//! Ranges: for each two ends the pairs that are given, by the iterator and by the walks over views; ranges over what an
+//! iterator has left; starts at every byte of each of the four storages; memory refused.
 
 use crate::prefixes::{Key, Pair, Tree, filled, is_pair};
 use rart::{ArrPartial, Iter, KeyTrait, LendingKeyView, Range, TreeError};
@@ -157,7 +157,7 @@ const OF_FOUR: [Row; 9] = [
     (In("b"), Out("a"), &[]),
 ];
 
-// A node without a value stands at "ab" and at "abc", and "abcd" and "abce" part behind the latter.
+// A node without a value stands at "ab" and at "abc", and "abcd" and "abce" part after the latter.
 const PARTED: [Pair; 5] = [("", 0), ("abcd", 1), ("abce", 2), ("abx", 3), ("b", 4)];
 
 const OF_PARTED: [Row; 15] = [
@@ -170,7 +170,7 @@ const OF_PARTED: [Row; 15] = [
     ),
     (Open, In(""), &[("", 0)]),
     (Open, Out(""), &[]),
-    // a start inside a prefix, before it, behind it and at a node without a value
+    // a start inside a prefix, before it, after it and at a node without a value
     (In("a"), Out("b"), &[("abcd", 1), ("abce", 2), ("abx", 3)]),
     (
         Out("aa"),
@@ -180,7 +180,7 @@ const OF_PARTED: [Row; 15] = [
     (In("ac"), Open, &[("b", 4)]),
     (In("ab"), In("abce"), &[("abcd", 1), ("abce", 2)]),
     (Out("abc"), Out("abx"), &[("abcd", 1), ("abce", 2)]),
-    // a start between two children, at a leaf and behind it
+    // a start between two children, at a leaf and after it
     (In("abd"), Open, &[("abx", 3), ("b", 4)]),
     (Out("abcd"), Open, &[("abce", 2), ("abx", 3), ("b", 4)]),
     (In("abcda"), Out("abx"), &[("abce", 2)]),

@@ -252,7 +252,7 @@ fn views_of_equal_bytes_can_differ(rt: HostRuntime) {
     assert!(rt; shown == Ok(true) && well.get() == 1);
 }
 
-// The bytes of a view are copied behind others, as a vector and as a key.
+// The bytes of a view are copied after others, as a vector and as a key.
 fn copies(alloc: Global, view: LendingKeyView<'_, '_>) -> Result<bool, TreeError> {
     let mut behind = Vec::new(alloc);
     for byte in [1_u8, 2] {

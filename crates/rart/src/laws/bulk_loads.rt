@@ -3,7 +3,7 @@ ghost use Rattle.std.specs.Prelude.{◌≡◌, [], IfErr, IfOk};
 ghost use Rattle.std.specs.List.Sorted.{IsPermutation};
 ghost use Rattle.rart_keys.specs.BulkLists.{put_all};
 ghost use Rattle.rart_keys.specs.SortedMap.{IsAscending, keys_of};
-ghost use Rattle.rart_nodes.specs.statistics.Statistics.{statistics_in, statistics_of};
+ghost use Rattle.rart_nodes.specs.statistics.Statistics.{stats_in, stats_of};
 ghost use Rattle.rart.specs.BulkLaw.{MayRefuseLoad, MayRefuseOneOf, RefusesStep};
 ghost use Rattle.rart.specs.Steps.{pairs_in};
 
@@ -16,7 +16,7 @@ use rart_keys::laws::bulk_lists::{ascending_pairs, bulk_lists, put_in_any_order}
 use rart_parts::TreeError;
 use std::alloc::Global;
 
-/// The call of `bulk_load_equals_insertion` that was refused, and why. What was made is dropped.
+/// The call of `bulk_load_equals_insertion` that failed, and why. What was built is dropped.
 #[derive(Clone, Copy, PartialEq, Eq, Debug)]
 pub enum RefusedStep {
     /// The bulk load.
@@ -30,12 +30,14 @@ pub enum RefusedStep {
 /// A tree and its statistics.
 pub type Counted<K, V> = (AdaptiveRadixTree<K, V>, TreeStats);
 
-/// Bulk loading pairs that ascend strictly and inserting them one by one, in any order, give equal
-/// pairs, equal nodes and equal statistics. Returns both trees, each with its own statistics.
+/// Builds a tree by a bulk load and one by insertions, and returns both, each with its statistics.
+///
+/// The load takes pairs that ascend strictly, the insertions the same pairs in any order. Pairs, nodes and statistics
+/// are equal.
 ///
 /// # Errors
 ///
-/// The call that was refused, and why.
+/// The first call that fails, with its error.
 pub fn bulk_load_equals_insertion<K: KeyTrait + Drop, V: Drop>(
     alloc: Global,
     sorted: Vec<(K, V)>,
@@ -46,9 +48,9 @@ pub fn bulk_load_equals_insertion<K: KeyTrait + Drop, V: Drop>(
     ensures loaded { IfOk result (λ r. r.0.0.pairs ≡ pairs_in K.bytes sorted.items) }
     ensures pairs { IfOk result (λ r. r.1.0.pairs ≡ r.0.0.pairs) }
     ensures nodes { IfOk result (λ r. r.1.0.nodes ≡ r.0.0.nodes) }
-    ensures of_loaded { IfOk result (λ r. statistics_in r.0.1 ≡ statistics_of (keys_of r.0.0.pairs) r.0.0.nodes) }
-    ensures of_inserted { IfOk result (λ r. statistics_in r.1.1 ≡ statistics_of (keys_of r.1.0.pairs) r.1.0.nodes) }
-    ensures statistics { IfOk result (λ r. statistics_in r.1.1 ≡ statistics_in r.0.1) }
+    ensures of_loaded { IfOk result (λ r. stats_in r.0.1 ≡ stats_of (keys_of r.0.0.pairs) r.0.0.nodes) }
+    ensures of_inserted { IfOk result (λ r. stats_in r.1.1 ≡ stats_of (keys_of r.1.0.pairs) r.1.0.nodes) }
+    ensures statistics { IfOk result (λ r. stats_in r.1.1 ≡ stats_in r.0.1) }
     ensures refused { IfErr result (RefusesStep (pairs_in K.bytes sorted.items) (pairs_in K.bytes shuffled.items)) }
 {
     put_in_any_order::<V>();
@@ -67,7 +69,7 @@ pub fn bulk_load_equals_insertion<K: KeyTrait + Drop, V: Drop>(
     }
 }
 
-// The tree of a bulk load of pairs that ascend strictly.
+// Builds the tree of a bulk load of pairs that ascend strictly.
 fn loaded<K: KeyTrait + Drop, V: Drop>(
     alloc: Global,
     sorted: Vec<(K, V)>,
@@ -81,7 +83,7 @@ fn loaded<K: KeyTrait + Drop, V: Drop>(
     AdaptiveRadixTree::bulk_load_sorted(alloc, sorted)
 }
 
-// The tree that the pairs make, inserted one by one.
+// Builds the tree of the pairs, inserted one by one.
 fn inserted<K: KeyTrait + Drop, V: Drop>(
     alloc: Global,
     pairs: Vec<(K, V)>,

@@ -7,8 +7,9 @@ use crate::tree::AdaptiveRadixTree;
 use rart_keys::KeyTrait;
 use rart_parts::TreeError;
 
-/// Counts the keys that begin with `prefix` by a fold over their values. Adding one asks each time that the sum fits,
-/// which the fold lets be proved of each call: a count so far is less than the tree's length.
+/// Returns the number of keys that begin with `prefix`, counted by a fold over their values.
+///
+/// The sum must fit at each call; the fold's contract proves it, since a count so far is less than the tree's length.
 ///
 /// # Errors
 ///

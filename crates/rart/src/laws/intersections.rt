@@ -9,9 +9,10 @@ use crate::tree::AdaptiveRadixTree;
 use rart_keys::KeyTrait;
 use rart_parts::TreeError;
 
-/// An intersection gives exactly the keys of both trees, ascending, each with the value of each tree; swapping the
-/// trees swaps the values alone. Calls `f` with the pairs of `one` and `other`, and then `g` with those of `other`
-/// and `one`. Each must be callable with its pairs in turn.
+/// Calls `f` with the pairs that `one` and `other` share, ascending, and then `g` with those of `other` and `one`.
+///
+/// Each key is shared by both trees and has the value of each. Swapping the trees swaps the values alone. Each callback
+/// must be callable with its pairs in turn.
 ///
 /// # Errors
 ///

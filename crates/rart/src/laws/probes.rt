@@ -1,4 +1,4 @@
-//! Laws of answers about a probe, of walks below a prefix, and of views.
+//! Laws of look-ups by a probe, of walks of keys with a prefix, and of views.
 ghost use Rattle.std.specs.Prelude.{◌≡◌, ◌↔◌, None, length, option_map, IfErr, IfOk, IsTrue};
 ghost use Rattle.std.specs.Cmp.Lexicographic.{slice_cmp};
 ghost use Rattle.std.specs.List.{filter};
@@ -6,8 +6,8 @@ ghost use Rattle.std.specs.Ordering.{nat_cmp};
 ghost use Rattle.rart_keys.specs.ByteStrings.{begins};
 ghost use Rattle.rart_keys.specs.Filters.{last_or, matches};
 ghost use Rattle.rart_keys.specs.KeyBytes.{IsWithin};
-ghost use Rattle.rart_nodes.specs.walks.Tour.{joined};
-ghost use Rattle.rart_nodes.specs.walks.TrailParts.{lent_pieces};
+ghost use Rattle.rart_nodes.specs.walks.Walk.{joined};
+ghost use Rattle.rart_nodes.specs.walks.PathParts.{lent_segments};
 ghost use Rattle.rart_nodes.specs.walks.Calls.{MayLackRoom};
 
 use crate::tree::AdaptiveRadixTree;
@@ -18,7 +18,11 @@ use rart_parts::TreeError;
 use std::alloc::Global;
 use std::cmp::Ordering;
 
-/// A walk below a prefix gives the pairs of the whole walk whose key begins with it, in the same order. Gives both walks.
+/// Returns the iterators over all pairs and over those with a prefix; the second is the first, filtered.
+///
+/// # Errors
+///
+/// [`TreeError::Memory`] if the tree isn't empty and an allocation fails.
 pub fn prefix_iter_filters_iter<'a, K: KeyTrait, V>(
     tree: &'a AdaptiveRadixTree<K, V>,
     prefix: &K,
@@ -38,7 +42,7 @@ pub fn prefix_iter_filters_iter<'a, K: KeyTrait, V>(
     Ok((all, below))
 }
 
-/// The longest match is the last item of the walk over all matches, and none where that has none. Gives both.
+/// Returns the longest match of `probe`, and the iterator over all matches, whose last item it is.
 pub fn longest_is_the_last_match<'a, K: KeyTrait, V>(
     tree: &'a AdaptiveRadixTree<K, V>,
     probe: &K,
@@ -55,23 +59,28 @@ pub fn longest_is_the_last_match<'a, K: KeyTrait, V>(
     )
 }
 
-/// How a view compares with a slice, and whether they are equal. The order is that of the view's bytes and the
-/// slice. They are equal exactly where they compare as equal, exactly where the view's bytes are the slice.
+/// Returns how a view compares with a slice, and whether they are equal, which agree.
+///
+/// The order is that of the view's bytes and the slice.
 pub fn comparisons_agree(view: LendingKeyView<'_, '_>, slice: &[u8]) -> (Ordering, bool)
-    ensures order { result.0 ≡ slice_cmp nat_cmp (joined (lent_pieces view.entry.segments.now)) slice.now }
+    ensures order { result.0 ≡ slice_cmp nat_cmp (joined (lent_segments view.entry.segments.now)) slice.now }
     ensures agree { IsTrue result.1 ↔ (result.0 ≡ Ordering.Equal) }
-    ensures bytes { IsTrue result.1 ↔ (joined (lent_pieces view.entry.segments.now) ≡ slice.now) }
+    ensures bytes { IsTrue result.1 ↔ (joined (lent_segments view.entry.segments.now) ≡ slice.now) }
 {
     (view.cmp_slice(slice), view.eq_slice(slice))
 }
 
-/// The key of a view has the view's bytes. Asks that the bytes are within the maximum.
+/// Returns the key of a view, which has the view's bytes; they must be within the maximum.
+///
+/// # Errors
+///
+/// [`TreeError::Memory`] if an allocation fails.
 pub fn key_of_a_view<K: KeyTrait>(
     view: LendingKeyView<'_, '_>,
     alloc: Global,
 ) -> Result<K, TreeError>
-    requires { IsWithin K.MAXIMUM_SIZE (length (joined (lent_pieces view.segments.now))) }
-    ensures bytes { IfOk result (λ key. K.bytes key ≡ joined (lent_pieces view.entry.segments.now)) }
+    requires { IsWithin K.MAXIMUM_SIZE (length (joined (lent_segments view.segments.now))) }
+    ensures bytes { IfOk result (λ key. K.bytes key ≡ joined (lent_segments view.entry.segments.now)) }
     ensures memory { IfErr result (λ e. e ≡ TreeError.Memory) }
 {
     view.to_key(alloc)

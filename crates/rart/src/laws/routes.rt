@@ -1,17 +1,23 @@
-//! What clients can count on of a route table: which probes an edit can reach.
+//! What clients can count on of a route table: the probes whose route an edit changes.
 ghost use Rattle.std.specs.Prelude.{◌≡◌, IfErr, IfOk, OnErr, OnOk};
 ghost use Rattle.rart_keys.specs.Filters.{longest_value};
 ghost use Rattle.rart_keys.specs.LongestMatches.{HasLonger, KeepsLongest, KeepsOthers, TakesLongest};
 ghost use Rattle.rart_keys.specs.SortedMap.{put, without};
-ghost use Rattle.rart.specs.Refusals.{MayKeep, TellsWhy};
+ghost use Rattle.rart.specs.Refusals.{MayRefuseRemove, TellsWhy};
 
 use crate::routes::RouteTable;
 use rart_keys::KeyTrait;
 use rart_nodes::NotInserted;
 use rart_parts::TreeError;
 
-/// A route that was added is the one of each probe that its prefix begins and no longer stored prefix does; every other probe
-/// keeps its route. Gives the targets of `probe` before and after. Refused as `add_new` is, and then all is as before.
+/// Inserts a new route and returns the targets of `probe` before and after.
+///
+/// The route takes each probe that its prefix begins and no longer stored prefix does. Each other probe keeps its
+/// route.
+///
+/// # Errors
+///
+/// Those of [`RouteTable::add_new`]. The table is then unchanged.
 pub fn add_then_route<K: KeyTrait, T: Copy>(
     table: &mut RouteTable<K, T>,
     prefix: &K,
@@ -22,7 +28,8 @@ pub fn add_then_route<K: KeyTrait, T: Copy>(
     ensures before { IfOk result (λ r. r.0 ≡ longest_value probe.now table.old.pairs) }
     ensures after { IfOk result (λ r. r.1 ≡ longest_value probe.now table.new.pairs) }
     ensures longest { OnOk result (TakesLongest (K.bytes prefix.now) target probe.now table.old.pairs table.new.pairs) }
-    ensures longer_stays { OnOk result (HasLonger (K.bytes prefix.now) probe.now table.old.pairs → KeepsLongest probe.now table.old.pairs table.new.pairs) }
+    ensures longer_stays { OnOk result (HasLonger (K.bytes prefix.now) probe.now table.old.pairs
+        → KeepsLongest probe.now table.old.pairs table.new.pairs) }
     ensures others_stay { OnOk result (KeepsOthers (K.bytes prefix.now) probe.now table.old.pairs table.new.pairs) }
     ensures refused { IfErr result (TellsWhy table.old.pairs (K.bytes prefix.now) target) }
     ensures unchanged { OnErr result (table.new ≡ table.old) }
@@ -34,8 +41,13 @@ pub fn add_then_route<K: KeyTrait, T: Copy>(
     Ok((before, table.route(probe).copied()))
 }
 
-/// A route that was withdrawn leaves each probe that its prefix doesn't begin with its route. Gives the targets of `probe` before
-/// and after. Refused as `withdraw` is, and then all is as before.
+/// Removes a route and returns the targets of `probe` before and after.
+///
+/// A probe that the prefix doesn't begin keeps its route.
+///
+/// # Errors
+///
+/// Those of [`RouteTable::withdraw`]. The table is then unchanged.
 pub fn withdraw_then_route<K: KeyTrait, T: Copy>(
     table: &mut RouteTable<K, T>,
     prefix: &K,
@@ -45,7 +57,7 @@ pub fn withdraw_then_route<K: KeyTrait, T: Copy>(
     ensures before { IfOk result (λ r. r.0 ≡ longest_value probe.now table.old.pairs) }
     ensures after { IfOk result (λ r. r.1 ≡ longest_value probe.now table.new.pairs) }
     ensures others_stay { OnOk result (KeepsOthers (K.bytes prefix.now) probe.now table.old.pairs table.new.pairs) }
-    ensures refused { IfErr result (MayKeep table.old.pairs (K.bytes prefix.now)) }
+    ensures refused { IfErr result (MayRefuseRemove table.old.pairs (K.bytes prefix.now)) }
     ensures unchanged { OnErr result (table.new ≡ table.old) }
 {
     rart_keys::laws::longest::longest_matches::<T>();

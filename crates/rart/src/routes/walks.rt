@@ -1,7 +1,7 @@
-//! Walks over the routes that cover a probe, and over those below a prefix.
+//! Walks over the routes that cover a probe, and over those with a prefix.
 //!
-//! A callback that is handed over is gone after the call; one that is lent (the forms `_by_ref`) is the caller's
-//! again, in the state that the last call left.
+//! A callback by value is dropped after the call. One that is borrowed (the forms `_by_ref`) is the caller's again, in
+//! the state that the last call left.
 ghost use Rattle.std.specs.Prelude.{◌≡◌, IfErr, OnErr, OnOk};
 ghost use Rattle.rart_keys.specs.Filters.{matches};
 ghost use Rattle.rart_nodes.specs.walks.BelowPrefix.{cut_below};
@@ -15,8 +15,8 @@ use rart_nodes::LendingKeyView;
 use rart_parts::TreeError;
 
 impl<K: KeyTrait, T> RouteTable<K, T> {
-    /// Calls `f` with each route whose prefix begins `probe`, the shortest first. The prefix is lent from the probe:
-    /// its first bytes, nothing is copied. Takes no memory.
+    /// Calls `f` with each route whose prefix begins `probe`, the shortest first. The prefix is borrowed from the
+    /// probe: its first bytes, nothing is copied. Allocates nothing.
     pub fn covering_for_each_by_ref<F: FnMut(&[u8], &T)>(&self, probe: &K, f: &mut F)
         requires callable { CanMatch F.FnMut f.old (matches (K.bytes probe.now) self.now.pairs) }
         ensures callable { F.IsAlwaysCallable f.old → F.IsAlwaysCallable f.new }
@@ -25,7 +25,7 @@ impl<K: KeyTrait, T> RouteTable<K, T> {
         self.routes.prefix_match_for_each_by_ref_k(probe, f)
     }
 
-    /// Calls `f` as `covering_for_each_by_ref` does; `f` is gone after the call.
+    /// Calls `f` as [`covering_for_each_by_ref`](Self::covering_for_each_by_ref) does, and drops it.
     pub fn covering_for_each<F: FnMut(&[u8], &T) + Drop>(&self, probe: &K, f: F)
         requires callable { CanMatch F.FnMut f (matches (K.bytes probe.now) self.now.pairs) }
         ensures { MatchedEach F.FnMut f (matches (K.bytes probe.now) self.now.pairs) }
@@ -33,9 +33,12 @@ impl<K: KeyTrait, T> RouteTable<K, T> {
         self.routes.prefix_match_for_each_k(probe, f)
     }
 
-    /// Calls `f` with a view of each prefix that begins with `prefix` and with its target, in order. All room is
-    /// taken before the first call; refused with `Memory` alone, only where the table isn't empty, and then `f`
-    /// wasn't called.
+    /// Calls `f` with a view of each prefix that begins with `prefix` and with its target, in order. The caller keeps
+    /// `f`.
+    ///
+    /// # Errors
+    ///
+    /// [`TreeError::Memory`] if the table isn't empty and the allocation for the walk fails. `f` is then not called.
     pub fn below_for_each_by_ref<F: FnMut(LendingKeyView<'_, '_>, &T)>(
         &self,
         prefix: &K,
@@ -51,7 +54,11 @@ impl<K: KeyTrait, T> RouteTable<K, T> {
         self.routes.prefix_for_each_view_by_ref_k(prefix, f)
     }
 
-    /// Calls `f` as `below_for_each_by_ref` does; `f` is gone after the call.
+    /// Calls `f` as [`below_for_each_by_ref`](Self::below_for_each_by_ref) does, and drops it.
+    ///
+    /// # Errors
+    ///
+    /// [`TreeError::Memory`] if the table isn't empty and the allocation for the walk fails.
     pub fn below_for_each<F: FnMut(LendingKeyView<'_, '_>, &T) + Drop>(
         &self,
         prefix: &K,

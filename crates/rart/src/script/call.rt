@@ -1,42 +1,41 @@
-//! Calls of a tree.
+//! The calls of a tree, as values.
 
 use rart_nodes::SlotUpdate;
 use std::ops::Bound;
 
-/// A call of a tree, as a value.
+/// A call of a tree.
 #[derive(Drop)]
 pub enum Call<K, V> {
-    /// The value at a key.
+    /// Returns the value at a key.
     Get(K),
-    /// Puts a value at a key.
+    /// Inserts a value at a key.
     Insert(K, V),
-    /// Puts a value at a key that is new.
+    /// Inserts a value at a new key.
     TryInsert(K, V),
-    /// Removes a key, and asks for its value.
+    /// Removes a key and returns its value.
     Remove(K),
-    /// Removes a key, and asks whether it was stored.
+    /// Removes a key and returns whether it was stored.
     Delete(K),
-    /// Updates what stands at a key: where it is stored the value is written first, if there is one; and
-    /// this is answered.
+    /// Updates the slot of a key: an occupied one gets the value first, if there is one; then this edit is made.
     Update(K, Option<V>, SlotUpdate<V>),
-    /// The same, by a callback that may fail.
+    /// Updates as `Update`, by a callback that may fail.
     TryUpdate(K, Option<V>, Result<SlotUpdate<V>, ()>),
-    /// The pair whose key is the longest that begins a probe.
+    /// Returns the pair whose key is the longest that begins a probe.
     Longest(K),
-    /// The pairs whose key begins a probe.
+    /// Returns the pairs whose key begins a probe.
     Matches(K),
-    /// The pairs whose key begins with a prefix.
+    /// Returns the pairs whose key begins with a prefix.
     Prefix(K),
-    /// The pairs within two bounds.
+    /// Returns the pairs within two bounds.
     Range(Bound<K>, Bound<K>),
-    /// All pairs.
+    /// Returns all pairs.
     Iter,
-    /// All values.
+    /// Returns all values.
     Values,
-    /// The number of pairs.
+    /// Returns the number of pairs.
     Len,
-    /// Whether there is no pair.
+    /// Returns whether there is no pair.
     IsEmpty,
-    /// The statistics.
+    /// Returns the statistics.
     Stats,
 }

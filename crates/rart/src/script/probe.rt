@@ -48,7 +48,7 @@ pub(super) fn reply_to_prefix<K: KeyTrait + Drop, V: Copy>(
     }
 }
 
-/// The pairs whose key begins the probe, copied. Room is taken as they come, and none where there are none.
+/// Returns copies of the pairs whose key begins the probe. Allocates as they come, and nothing without pairs.
 fn copied_matches<K: KeyTrait + Drop, V: Copy>(
     alloc: Global,
     tree: &AdaptiveRadixTree<K, V>,
@@ -67,7 +67,7 @@ fn copied_matches<K: KeyTrait + Drop, V: Copy>(
     Ok(pairs)
 }
 
-/// The pairs whose key begins with the prefix, copied. Room is taken as they come.
+/// Returns copies of the pairs whose key begins with the prefix. Allocates as they come.
 fn copied_below<K: KeyTrait + Drop, V: Copy>(
     alloc: Global,
     tree: &AdaptiveRadixTree<K, V>,

@@ -25,14 +25,15 @@ pub(super) fn reply_to_range<K: KeyTrait + Drop, V: Copy>(
     }
 }
 
-/// The pairs within two bounds, copied. Room is taken as they come.
+/// Returns copies of the pairs within two bounds. Allocates as they come.
 fn copied_between<K: KeyTrait + Drop, V: Copy>(
     alloc: Global,
     tree: &AdaptiveRadixTree<K, V>,
     start: Bound<K>,
     end: Bound<K>,
 ) -> Result<Vec<(K, V)>, TreeError>
-    ensures pairs { IfOk result (λ pairs. pairs_in K.bytes pairs.items ≡ between (bound_in K.bytes start) (bound_in K.bytes end) tree.now.pairs) }
+    ensures pairs { IfOk result (λ pairs. pairs_in K.bytes pairs.items
+        ≡ between (bound_in K.bytes start) (bound_in K.bytes end) tree.now.pairs) }
     ensures memory { IfErr result (MayLackRoom tree.now.pairs) }
 {
     let mut pairs = Vec::new(alloc);

@@ -1,4 +1,4 @@
-//! Replies to calls of a tree.
+//! The replies to calls of a tree.
 
 use crate::stats::TreeStats;
 use rart_parts::TreeError;
@@ -6,18 +6,18 @@ use rart_parts::TreeError;
 /// The reply to a call of a tree.
 #[derive(Drop)]
 pub enum Reply<K, V> {
-    /// The value that the key has or had, where it was stored.
+    /// The value that the key has or had, `None` if it wasn't stored.
     Value(Option<V>),
-    /// What was asked: of `Delete`, whether the key was stored; of `Update` and `TryUpdate`, whether it was
-    /// stored or now is; of `IsEmpty`, whether there is no pair.
+    /// Of `Delete`, whether the key was stored; of `Update` and `TryUpdate`, whether it was stored or now is; of
+    /// `IsEmpty`, whether there is no pair.
     Done(bool),
-    /// The key was new, and now has the value.
+    /// The key was new, and has the value.
     Inserted,
-    /// The key is stored: the value that was offered, and the one that stands there.
+    /// The key is stored: the value that was offered, and the stored one.
     Occupied(V, V),
-    /// One pair, where there is one.
+    /// One pair, `None` if there is none.
     Pair(Option<(K, V)>),
-    /// The pairs that were asked for, ascending by key.
+    /// The pairs that the call returned, ascending by key.
     Pairs(Vec<(K, V)>),
     /// All values, ascending by their keys.
     Values(Vec<V>),
@@ -25,15 +25,15 @@ pub enum Reply<K, V> {
     Len(usize),
     /// The statistics.
     Stats(TreeStats),
-    /// The call was refused, and the tree is as before.
+    /// The call failed, and the tree is unchanged.
     Refused(TreeError),
-    /// The insertion was refused, and the tree is as before: why, and the value that was offered.
+    /// The insertion failed, and the tree is unchanged: the reason, and the value that was offered.
     Returned(TreeError, V),
-    /// The callback failed, and the tree is as before.
+    /// The callback failed, and the tree is unchanged.
     Failed,
-    /// The value at the key could not be cloned. The callback wasn't called, and the tree is as before.
+    /// The stored value could not be cloned. The callback wasn't called, and the tree is unchanged.
     NoClone,
-    /// The removal that the callback asked for was refused: of `Update` the pair stands with what was
-    /// written, of `TryUpdate` the tree is as before.
+    /// The removal that the callback requested failed. `Update` leaves the pair with the value that was written,
+    /// `TryUpdate` the tree unchanged.
     NoRemove,
 }

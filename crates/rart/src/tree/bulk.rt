@@ -2,13 +2,14 @@
 ghost use Rattle.std.specs.Prelude.{◌≡◌, ◌<◌, ◌≤◌, ◌∷◌, List, length, map, IfErr, IfOk, OnErr, OnOk};
 ghost use Rattle.std.specs.Iterator.{IsFinite};
 ghost use Rattle.std.specs.Vec.Iter.{into_iter_items};
-ghost use Rattle.rart_keys.specs.ByteStrings.{IsBelow};
+ghost use Rattle.rart_keys.specs.ByteStrings.{IsLess};
 ghost use Rattle.rart_keys.specs.SortedMap.{IsAscending, keys_of, values_of};
 ghost use Rattle.rart_nodes.specs.build.Stretches.{AreWithin};
 ghost use Rattle.rart_nodes.specs.build.ValueCalls.{CanTake, Takes};
 ghost use Rattle.rart_nodes.specs.shapes.Shape.{HasShape};
 ghost use Rattle.rart_nodes.specs.shapes.ShapeRecords.{keys_in, lone_keys};
-ghost use Rattle.rart.specs.BulkLoads.{AreKeysAt, AscendAlong, LoadsSorted, Reads, ReadsAll, StopsByIndex, StopsSorted, StopsUnique, TakesBeginning};
+ghost use Rattle.rart.specs.BulkLoads.{AreKeysAt, AscendAlong, LoadsSorted, Reads, ReadsAll, FailsByIndex, FailsSorted};
+ghost use Rattle.rart.specs.BulkLoads.{FailsUnique, TakesBeginning};
 ghost use Rattle.rart.specs.Steps.{pairs_in};
 
 use crate::bulk::BulkError;
@@ -27,54 +28,72 @@ use keys::{keys_by_index, keys_in_slice, longest_of};
 use read::{read_sorted, read_unique};
 
 impl<K: KeyTrait, V: Drop> AdaptiveRadixTree<K, V> {
-    /// The tree of these items, whose keys ascend: of equal keys the last item stays. Asks items that
-    /// end. Their size hint isn't trusted.
+    /// Builds the tree of `items`, whose keys must ascend; keeps the last value of each key.
     ///
-    /// Each item is tested, in this order, before it is kept: refused with `Unsorted` at the first
-    /// place whose key is below the one before it, with `Full` where it has one key more than a tree
-    /// can count, with `Memory` where a request for it was refused. Nothing is read behind the first
-    /// refusal, and what was read is dropped. No items give an empty tree and take no memory.
+    /// The items must end. Their size hint isn't trusted. No items give an empty tree.
+    ///
+    /// # Errors
+    ///
+    /// Each item is tested before it is kept, in this order. [`BulkError::Unsorted`] at the first key below the one
+    /// before it. [`BulkError::Full`] at one key more than a tree holds. [`BulkError::Memory`] if an allocation fails,
+    /// which needs at least one item. Nothing is read after an item that fails, and what was read is dropped.
+    ///
+    /// # Examples
+    ///
+    /// ```ignore
+    /// AdaptiveRadixTree::bulk_load_sorted(alloc, sorted)
+    /// ```
     pub fn bulk_load_sorted<I: IntoIterator<Item = (K, V)>>(
         alloc: Global,
         items: I,
     ) -> Result<Self, BulkError>
     where
         K: Drop,
-        requires { (s : I.IntoIter) → I.into_iter_gives items s → I.IntoIter.can_next s × IsFinite (I.IntoIter.remaining s) }
-        ensures faultless { IfOk result (λ tree. ReadsAll I.into_iter_gives I.IntoIter.next_gives items (λ xs. LoadsSorted (pairs_in K.bytes xs) tree.pairs)) }
+        requires { (s : I.IntoIter) → I.into_iter_gives items s → I.IntoIter.can_next s
+            × IsFinite (I.IntoIter.remaining s) }
+        ensures faultless { IfOk result (λ tree. ReadsAll I.into_iter_gives I.IntoIter.next_gives items
+            (λ xs. LoadsSorted (pairs_in K.bytes xs) tree.pairs)) }
         ensures shape { IfOk result (λ tree. HasShape (keys_of tree.pairs) tree.nodes) }
-        ensures refused { IfErr result (λ error. Reads I.into_iter_gives I.IntoIter.next_gives items (λ xs. StopsSorted (pairs_in K.bytes xs) error)) }
+        ensures refused { IfErr result (λ error. Reads I.into_iter_gives I.IntoIter.next_gives items
+            (λ xs. FailsSorted (pairs_in K.bytes xs) error)) }
     {
         bulk_lists::<V>();
         let (keys, values) = read_sorted(alloc, items)?;
         AdaptiveRadixTree::of_keys_and_values(alloc, &keys, values)
     }
 
-    /// The tree of these items. Asks items that end, whose keys ascend strictly.
+    /// Builds the tree of `items`, which must end and whose keys must ascend strictly.
     ///
-    /// Refused as `bulk_load_sorted` is, and never with `Unsorted`.
+    /// # Errors
+    ///
+    /// [`BulkError::Full`] at one key more than a tree holds. [`BulkError::Memory`] if an allocation fails, which needs
+    /// at least one item. Nothing is read after an item that fails, and what was read is dropped.
     pub fn bulk_load_sorted_unique<I: IntoIterator<Item = (K, V)>>(
         alloc: Global,
         items: I,
     ) -> Result<Self, BulkError>
     where
         K: Drop,
-        requires { (s : I.IntoIter) → I.into_iter_gives items s → I.IntoIter.can_next s × IsFinite (I.IntoIter.remaining s) × AscendAlong K.bytes I.IntoIter.next_gives s }
-        ensures pairs { IfOk result (λ tree. ReadsAll I.into_iter_gives I.IntoIter.next_gives items (λ xs. tree.pairs ≡ pairs_in K.bytes xs)) }
+        requires { (s : I.IntoIter) → I.into_iter_gives items s → I.IntoIter.can_next s
+            × IsFinite (I.IntoIter.remaining s) × AscendAlong K.bytes I.IntoIter.next_gives s }
+        ensures pairs { IfOk result (λ tree. ReadsAll I.into_iter_gives I.IntoIter.next_gives items
+            (λ xs. tree.pairs ≡ pairs_in K.bytes xs)) }
         ensures shape { IfOk result (λ tree. HasShape (keys_of tree.pairs) tree.nodes) }
-        ensures refused { IfErr result (λ error. Reads I.into_iter_gives I.IntoIter.next_gives items (λ xs. StopsUnique (pairs_in K.bytes xs) error)) }
+        ensures refused { IfErr result (λ error. Reads I.into_iter_gives I.IntoIter.next_gives items
+            (λ xs. FailsUnique (pairs_in K.bytes xs) error)) }
     {
         let (keys, values) = read_unique(alloc, items)?;
         AdaptiveRadixTree::of_keys_and_values(alloc, &keys, values)
     }
 
-    /// The tree of `len` keys, each with the value at its index. Where there are no more keys than a tree can count,
-    /// `key_at` must return ascending keys, and `take_value_at` must be callable at 0, 1, 2 and so on, once each.
-    /// `key_at` is called once for each index.
+    /// Builds the tree of `len` keys, each with the value at its index.
+    ///
+    /// If there are no more keys than a tree holds, `key_at` must return ascending keys, and `take_value_at` must be
+    /// callable at 0, 1, 2 and so on, once each. `key_at` is called once for each index.
     ///
     /// # Errors
     ///
-    /// [`BulkError::Full`] if there are more keys than a tree can count; then neither closure is called.
+    /// [`BulkError::Full`] if there are more keys than a tree holds; then neither closure is called.
     /// [`BulkError::Memory`] if an allocation fails. The values taken until then, of a beginning of the indices, are
     /// dropped; [`bulk_load_sorted_unique_by_index_by_ref`](Self::bulk_load_sorted_unique_by_index_by_ref) shows the
     /// closure that is left. Without keys neither closure is called, and nothing is allocated.
@@ -89,12 +108,14 @@ impl<K: KeyTrait, V: Drop> AdaptiveRadixTree<K, V> {
         F: Drop,
         G: Drop,
         requires key_at { (i : _) → i < len → len ≤ MAX_PAIRS → F.pre key_at i }
-        requires ascending { (i j : _) (k l : _) → i < j → j < len → len ≤ MAX_PAIRS → F.post key_at i k → F.post key_at j l → IsBelow (K.bytes k.now) (K.bytes l.now) }
+        requires ascending { (i j : _) (k l : _) → i < j → j < len → len ≤ MAX_PAIRS → F.post key_at i k
+            → F.post key_at j l → IsLess (K.bytes k.now) (K.bytes l.now) }
         requires take_value_at { len ≤ MAX_PAIRS → CanTake G.pre G.step 0 len take_value_at }
-        ensures keys { IfOk result (λ tree. (length tree.pairs ≡ len) × AreKeysAt (λ i key. (k : _) × F.post key_at i k × (key ≡ K.bytes k.now)) (keys_of tree.pairs)) }
+        ensures keys { IfOk result (λ tree. (length tree.pairs ≡ len)
+            × AreKeysAt (λ i key. (k : _) × F.post key_at i k × (key ≡ K.bytes k.now)) (keys_of tree.pairs)) }
         ensures values { IfOk result (λ tree. (left : G) × Takes G.step 0 take_value_at (values_of tree.pairs) left) }
         ensures shape { IfOk result (λ tree. HasShape (keys_of tree.pairs) tree.nodes) }
-        ensures refused { IfErr result (StopsByIndex len) }
+        ensures refused { IfErr result (FailsByIndex len) }
         ensures not_full { OnOk result (len ≤ MAX_PAIRS) }
     {
         let mut take_value_at = take_value_at;
@@ -106,11 +127,12 @@ impl<K: KeyTrait, V: Drop> AdaptiveRadixTree<K, V> {
         )
     }
 
-    /// As [`bulk_load_sorted_unique_by_index`](Self::bulk_load_sorted_unique_by_index), with a closure that is lent.
+    /// Builds a tree as [`bulk_load_sorted_unique_by_index`](Self::bulk_load_sorted_unique_by_index); the caller keeps
+    /// `take_value_at`.
     ///
     /// # Errors
     ///
-    /// [`BulkError::Full`] if there are more keys than a tree can count; then neither closure is called.
+    /// [`BulkError::Full`] if there are more keys than a tree holds; then neither closure is called.
     /// [`BulkError::Memory`] if an allocation fails. The values of a beginning of the indices were then taken, once
     /// each and in order, and are dropped.
     pub fn bulk_load_sorted_unique_by_index_by_ref<'a, F: Fn(usize) -> &'a K, G: FnMut(usize) -> V>(
@@ -123,12 +145,15 @@ impl<K: KeyTrait, V: Drop> AdaptiveRadixTree<K, V> {
         K: 'a,
         F: Drop,
         requires key_at { (i : _) → i < len → len ≤ MAX_PAIRS → F.pre key_at i }
-        requires ascending { (i j : _) (k l : _) → i < j → j < len → len ≤ MAX_PAIRS → F.post key_at i k → F.post key_at j l → IsBelow (K.bytes k.now) (K.bytes l.now) }
+        requires ascending { (i j : _) (k l : _) → i < j → j < len → len ≤ MAX_PAIRS → F.post key_at i k
+            → F.post key_at j l → IsLess (K.bytes k.now) (K.bytes l.now) }
         requires take_value_at { len ≤ MAX_PAIRS → CanTake G.pre G.step 0 len take_value_at.old }
-        ensures keys { IfOk result (λ tree. (length tree.pairs ≡ len) × AreKeysAt (λ i key. (k : _) × F.post key_at i k × (key ≡ K.bytes k.now)) (keys_of tree.pairs)) }
-        ensures values { IfOk result (λ tree. Takes G.step 0 take_value_at.old (values_of tree.pairs) take_value_at.new) }
+        ensures keys { IfOk result (λ tree. (length tree.pairs ≡ len)
+            × AreKeysAt (λ i key. (k : _) × F.post key_at i k × (key ≡ K.bytes k.now)) (keys_of tree.pairs)) }
+        ensures values { IfOk result (λ tree. Takes G.step 0 take_value_at.old (values_of tree.pairs)
+            take_value_at.new) }
         ensures shape { IfOk result (λ tree. HasShape (keys_of tree.pairs) tree.nodes) }
-        ensures refused { IfErr result (StopsByIndex len) }
+        ensures refused { IfErr result (FailsByIndex len) }
         ensures not_full { OnOk result (len ≤ MAX_PAIRS) }
         ensures taken { IfErr result (TakesBeginning G.step len take_value_at.old take_value_at.new) }
     {
@@ -142,8 +167,8 @@ impl<K: KeyTrait, V: Drop> AdaptiveRadixTree<K, V> {
         AdaptiveRadixTree::of_byte_strings(alloc, &keys, take_value_at)
     }
 
-    /// The tree of these keys, which ascend strictly, with the values in their order. Refused with
-    /// `Memory` alone, and never without keys.
+    /// Builds the tree of these keys, which ascend strictly, with the values in their order. Fails with `Memory` alone,
+    /// and never without keys.
     fn of_keys_and_values(alloc: Global, keys: &[K], values: Vec<V>) -> Result<Self, BulkError>
         requires each { length keys.now ≡ length values.items }
         requires ascending { IsAscending (lone_keys (map K.bytes keys.now)) }
@@ -166,8 +191,8 @@ impl<K: KeyTrait, V: Drop> AdaptiveRadixTree<K, V> {
         AdaptiveRadixTree::of_byte_strings(alloc, &strings, &mut take_value)
     }
 
-    /// The tree of the keys with these bytes, some, which ascend strictly. The value of each is taken
-    /// once, in their order. Refused with `Memory` alone: then a beginning of the values was taken.
+    /// Builds the tree of at least one key with these bytes, which ascend strictly. Takes the value of each once, in
+    /// their order. Fails with `Memory` alone; a beginning of the values was then taken.
     fn of_byte_strings<F: FnMut(usize) -> V>(
         alloc: Global,
         keys: &[&[u8]],
@@ -180,7 +205,8 @@ impl<K: KeyTrait, V: Drop> AdaptiveRadixTree<K, V> {
         requires callable { CanTake F.pre F.step 0 (length keys.now) take_value.old }
         ensures keys { IfOk result (λ tree. keys_of tree.pairs ≡ keys_in keys.now) }
         ensures values { IfOk result (λ tree. Takes F.step 0 take_value.old (values_of tree.pairs) take_value.new) }
-        ensures taken { OnErr result ((vs : List V) × (length vs ≤ length keys.now) × Takes F.step 0 take_value.old vs take_value.new) }
+        ensures taken { OnErr result ((vs : List V) × (length vs ≤ length keys.now)
+            × Takes F.step 0 take_value.old vs take_value.new) }
         ensures shape { IfOk result (λ tree. HasShape (keys_of tree.pairs) tree.nodes) }
         ensures error { IfErr result (λ e. e ≡ BulkError.Memory) }
     {

@@ -1,8 +1,9 @@
-//! Intersections of two trees, which go through both together and never below a node that one lacks.
+//! Intersections of two trees, which walk both together and skip each node that one of them lacks.
 ghost use Rattle.std.specs.Prelude.{◌≡◌, IfErr, OnErr, OnOk, length};
 ghost use Rattle.rart_keys.specs.Joins.{join};
 ghost use Rattle.rart_keys.specs.SortedMap.{values_of};
-ghost use Rattle.rart_nodes.specs.joins.PairCalls.{CalledAtEach, CalledWithEach, CallsAtEach, CallsWithEach, CanCallAt, CanCallWith};
+ghost use Rattle.rart_nodes.specs.joins.PairCalls.{CalledAtEach, CalledWithEach, CallsAtEach, CallsWithEach, CanCallAt};
+ghost use Rattle.rart_nodes.specs.joins.PairCalls.{CanCallWith};
 ghost use Rattle.rart_nodes.specs.joins.SeenJoins.{MayLackBoth};
 ghost use Rattle.rart_nodes.specs.joins.ViewCalls.{CanViewAt, ViewedAtEach, ViewsAtEach};
 
@@ -12,7 +13,7 @@ use rart_nodes::{LendingKeyView, Visits};
 use rart_parts::TreeError;
 
 impl<K: KeyTrait, V> AdaptiveRadixTree<K, V> {
-    /// How many keys both trees have. Takes no memory.
+    /// Returns the number of keys that both trees have. Allocates nothing.
     pub fn intersect_count<W>(&self, other: &AdaptiveRadixTree<K, W>) -> usize
         ensures { result ≡ length (join self.now.pairs other.now.pairs) }
     {
@@ -22,9 +23,9 @@ impl<K: KeyTrait, V> AdaptiveRadixTree<K, V> {
             .intersect_count_counted(other.seen(), &mut Visits::new())
     }
 
-    /// Calls `f` once for each key of both trees, ascending, with the values of this tree and of `other`.
-    /// Makes no key and takes no memory. `f` is lent, so that the caller sees what the calls left in it:
-    /// take this form to count or to collect.
+    /// Calls `f` with both values of each key that both trees have, ascending by key. Makes no key, allocates nothing.
+    ///
+    /// The caller keeps `f`: take this form to count or to collect.
     pub fn intersect_values_with_by_ref<W, F: FnMut(&V, &W)>(
         &self,
         other: &AdaptiveRadixTree<K, W>,
@@ -38,8 +39,7 @@ impl<K: KeyTrait, V> AdaptiveRadixTree<K, V> {
             .intersect_values_with_by_ref_counted(other.seen(), f, &mut Visits::new());
     }
 
-    /// Calls `f` as `intersect_values_with_by_ref` does. `f` is gone after the call: take this form where
-    /// nothing need be proved of what it leaves.
+    /// Calls `f` as [`intersect_values_with_by_ref`](Self::intersect_values_with_by_ref) does, and drops it.
     pub fn intersect_values_with<W, F: FnMut(&V, &W) + Drop>(
         &self,
         other: &AdaptiveRadixTree<K, W>,
@@ -52,10 +52,11 @@ impl<K: KeyTrait, V> AdaptiveRadixTree<K, V> {
             .intersect_values_with_counted(other.seen(), f, &mut Visits::new());
     }
 
-    /// Calls `f` once for each key of both trees, ascending, with the key and the values of this tree and
-    /// of `other`. All room is taken before the first call, after the longest key that this tree ever
-    /// stored, and none where a tree is empty. Refused with `Memory` alone, and then `f` wasn't called.
-    /// `f` is lent, so that the caller sees what the calls left in it.
+    /// Calls `f` with each key that both trees have, ascending, and its value in each tree. The caller keeps `f`.
+    ///
+    /// # Errors
+    ///
+    /// [`TreeError::Memory`] if neither tree is empty and the allocation for the walk fails. `f` is then not called.
     pub fn intersect_with_by_ref<W, F: FnMut(K, &V, &W)>(
         &self,
         other: &AdaptiveRadixTree<K, W>,
@@ -71,7 +72,11 @@ impl<K: KeyTrait, V> AdaptiveRadixTree<K, V> {
             .intersect_with_by_ref_counted(other.seen(), f, &mut Visits::new())
     }
 
-    /// Calls `f` as `intersect_with_by_ref` does. `f` is gone after the call.
+    /// Calls `f` as [`intersect_with_by_ref`](Self::intersect_with_by_ref) does, and drops it.
+    ///
+    /// # Errors
+    ///
+    /// [`TreeError::Memory`] if neither tree is empty and the allocation for the walk fails.
     pub fn intersect_with<W, F: FnMut(K, &V, &W) + Drop>(
         &self,
         other: &AdaptiveRadixTree<K, W>,
@@ -84,9 +89,13 @@ impl<K: KeyTrait, V> AdaptiveRadixTree<K, V> {
         self.seen()
             .intersect_with_counted(other.seen(), f, &mut Visits::new())
     }
-    /// Calls `f` as `intersect_with_by_ref` does, with a view of the key in place of the key: no key is made. A
-    /// segment of the view is a stretch that prefixes of both trees have, or the byte by which a longer one is gone
-    /// on with.
+    /// Calls `f` with a view of each key that both trees have, ascending, and both values. The caller keeps `f`.
+    ///
+    /// A segment of the view is a stretch that the prefixes of both trees share, or the edge byte of the longer one.
+    ///
+    /// # Errors
+    ///
+    /// [`TreeError::Memory`] if neither tree is empty and the allocation for the walk fails. `f` is then not called.
     pub fn intersect_lending_with_by_ref<W, F: FnMut(LendingKeyView<'_, '_>, &V, &W)>(
         &self,
         other: &AdaptiveRadixTree<K, W>,
@@ -102,7 +111,11 @@ impl<K: KeyTrait, V> AdaptiveRadixTree<K, V> {
             .intersect_lending_with_by_ref_counted(other.seen(), f, &mut Visits::new())
     }
 
-    /// Calls `f` as `intersect_lending_with_by_ref` does. `f` is gone after the call.
+    /// Calls `f` as [`intersect_lending_with_by_ref`](Self::intersect_lending_with_by_ref) does, and drops it.
+    ///
+    /// # Errors
+    ///
+    /// [`TreeError::Memory`] if neither tree is empty and the allocation for the walk fails.
     pub fn intersect_lending_with<W, F: FnMut(LendingKeyView<'_, '_>, &V, &W) + Drop>(
         &self,
         other: &AdaptiveRadixTree<K, W>,

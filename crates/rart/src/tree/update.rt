@@ -1,14 +1,15 @@
-//! Updates through a slot: a callback is shown what stands at a key, may change it, and answers what is
-//! to be done with it.
+//! Updates through a slot: a callback is called with the slot of a key, may change the value in it, and returns the
+//! edit to make.
 ghost use Rattle.std.specs.Prelude.{◌≡◌, ◌≢◌, None, Option, Some, Result, Ok, Err, IfOk, OnErr};
 ghost use Rattle.std.specs.Fn.{FnOnceReturnsAtMut, FnOnceTakesAtMut};
 ghost use Rattle.rart_keys.specs.SortedMap.{keys_of, lookup, put};
 ghost use Rattle.rart_nodes.specs.declared.slot.Slot.TheVariants.{Occupied as Occupied_slot};
 ghost use Rattle.rart_nodes.specs.declared.slot.SlotUpdate.{SlotUpdate};
 ghost use Rattle.rart_nodes.specs.shapes.Shape.{HasShape};
-ghost use Rattle.rart_nodes.specs.updates.Callbacks.{AnswersSo, Stays, StaysTelling};
+ghost use Rattle.rart_nodes.specs.updates.Callbacks.{AnswersSo, Stays, StaysReturning};
 ghost use Rattle.rart_nodes.specs.updates.Slots.{slot_of};
-ghost use Rattle.rart.specs.Updates.{Attempts, EndsIn, IsAttempt, StaysIfOk, TriesUpdate, Updates, UpdatesTelling, touched_in};
+ghost use Rattle.rart.specs.Updates.{Attempts, EndsIn, IsAttempt, StaysIfOk, TriesUpdate, Updates, UpdatesReturning};
+ghost use Rattle.rart.specs.Updates.{touched_in};
 ghost use Rattle.rart.specs.declared.tree.update.TryUpdateError.TheVariants.{Clone as Not_cloned};
 
 use crate::tree::{AdaptiveRadixTree, MAX_PAIRS};
@@ -23,24 +24,24 @@ use std::mem;
 /// Why a fallible update changed nothing.
 #[derive(Drop)]
 pub enum TryUpdateError<E, V> {
-    /// The callback answered this error.
+    /// The callback returned this error.
     Callback(E),
-    /// The insertion that was asked for was refused as one by `insert_k` is.
+    /// The requested insertion failed as that of `insert_k`; the error holds the value.
     Insert(Refused<V>),
-    /// The removal that was asked for found no memory. The pair stands with its old value.
+    /// The allocation for the requested removal failed. The pair keeps its old value.
     Remove,
-    /// The value that stands at the key could not be cloned, and the callback wasn't called.
+    /// The stored value could not be cloned. The callback wasn't called.
     Clone,
 }
 
-/// What came of calling a callback that may fail.
+/// The outcome of a callback that may fail.
 #[derive(Drop)]
-pub(crate) enum Told<V, E> {
+pub(crate) enum CallbackOutcome<V, E> {
     /// It wasn't called, since the value could not be cloned.
     NotCloned,
     /// It failed.
     Failed(E),
-    /// It answered. What stood there, cloned.
+    /// It returned an edit. A clone of the value that was stored.
     Answered(Option<V>),
 }
 
@@ -51,16 +52,16 @@ fn is_touched<V: Drop>(outcome: Outcome<V>) -> bool
 }
 
 impl<K: KeyTrait, V> AdaptiveRadixTree<K, V> {
-    // Shows `f` what stands at `key`, once and in one pass down, and does what it asks for; hands on what
-    // it tells beside.
-    pub(crate) fn update_telling<X, F: FnOnce(&mut Slot<V>) -> (SlotUpdate<V>, X)>(
+    // Calls `f` once with the slot of `key`, in one pass down, and makes the edit that it returns; returns also what
+    // `f` returned beside.
+    pub(crate) fn update_returning<X, F: FnOnce(&mut Slot<V>) -> (SlotUpdate<V>, X)>(
         &mut self,
         key: &K,
         f: F,
     ) -> (Result<Outcome<V>, UpdateError<V>>, X)
         requires callable { FnOnceTakesAtMut F.FnOnce f (slot_of (lookup (K.bytes key.now) self.old.pairs)) }
-        requires stays { StaysTelling F.FnOnce f (lookup (K.bytes key.now) self.old.pairs) }
-        ensures update { UpdatesTelling F.FnOnce f (K.bytes key.now) self.old.pairs result self.new.pairs }
+        requires stays { StaysReturning F.FnOnce f (lookup (K.bytes key.now) self.old.pairs) }
+        ensures update { UpdatesReturning F.FnOnce f (K.bytes key.now) self.old.pairs result self.new.pairs }
         ensures refused { OnErr result.0 (self.new.nodes ≡ self.old.nodes) }
         ensures nodes { keys_of self.new.pairs ≡ keys_of self.old.pairs → self.new.nodes ≡ self.old.nodes }
     {
@@ -78,14 +79,28 @@ impl<K: KeyTrait, V> AdaptiveRadixTree<K, V> {
         (outcome, told)
     }
 
-    /// Shows `f` what stands at `key`, once, and does what it answers: the pair stays as `f` left it, the
-    /// value that it answers is put there, or the key is removed. `f` may change the value, and is asked
-    /// to leave an occupied slot occupied and a vacant one vacant. Answers whether the key was stored, or
-    /// now is.
+    /// Calls `f` once with the slot of `key`, and makes the edit that it returns.
     ///
-    /// Refused is an insertion of a new key, as one by `insert_k` is: then pairs and nodes are as before,
-    /// and the value is handed back. Refused is a removal, as one by `remove_k` is: then the nodes are as
-    /// before, and the pair stands with the value as `f` left it.
+    /// `Keep` leaves the value as `f` left it, `Insert` replaces or inserts, `Remove` removes the key. `f` may change
+    /// the value, and must leave an occupied slot occupied and a vacant one vacant. Returns whether the key was
+    /// stored, or now is.
+    ///
+    /// # Errors
+    ///
+    /// [`UpdateError::Insert`] if an insertion of a new key fails as that of [`insert_k`](Self::insert_k). The tree is
+    /// then unchanged, and the error holds the value. [`UpdateError::Remove`] if a removal fails as that of
+    /// [`remove_k`](Self::remove_k). The nodes are then unchanged, and the pair keeps the value that `f` left.
+    ///
+    /// # Examples
+    ///
+    /// ```ignore
+    /// let added = tree.update_k(&key(b"bucket"), |slot| {
+    ///     if let Slot::Occupied(n) = slot {
+    ///         *n = n.wrapping_add(5);
+    ///     }
+    ///     SlotUpdate::Keep
+    /// });
+    /// ```
     pub fn update_k<F: FnOnce(&mut Slot<V>) -> SlotUpdate<V>>(
         &mut self,
         key: &K,
@@ -107,7 +122,11 @@ impl<K: KeyTrait, V> AdaptiveRadixTree<K, V> {
         }
     }
 
-    /// Updates what stands at `key`, as `update_k` does.
+    /// Updates the slot of `key`, as [`update_k`](Self::update_k).
+    ///
+    /// # Errors
+    ///
+    /// Those of [`update_k`](Self::update_k).
     pub fn update<F: FnOnce(&mut Slot<V>) -> SlotUpdate<V>>(
         &mut self,
         key: K,
@@ -125,7 +144,7 @@ impl<K: KeyTrait, V> AdaptiveRadixTree<K, V> {
         self.update_k(&key, f)
     }
 
-    // Puts `value` at `key`, where another stands.
+    // Replaces the value at a stored `key`.
     fn restore(&mut self, key: &K, value: V)
     where
         V: Drop,
@@ -139,9 +158,15 @@ impl<K: KeyTrait, V> AdaptiveRadixTree<K, V> {
         }
     }
 
-    /// Updates what stands at `key`, as `update_k` does, by an `f` that may fail: then, or where what it
-    /// asks for is refused, pairs and nodes are as before. For that the value that stands at the key is
-    /// cloned, before `f` is called; refused, `f` isn't called. A clone of a value is asked to equal it.
+    /// Updates the slot of `key` as [`update_k`](Self::update_k), by an `f` that may fail.
+    ///
+    /// The stored value is cloned before `f` is called. A clone must equal its original.
+    ///
+    /// # Errors
+    ///
+    /// [`TryUpdateError::Callback`] if `f` fails, [`TryUpdateError::Insert`] or [`TryUpdateError::Remove`] if the
+    /// requested edit fails, and [`TryUpdateError::Clone`] if the clone fails; `f` is then not called. Pairs and
+    /// nodes are unchanged in each case.
     pub fn try_update_k<E, F: FnOnce(&mut Slot<V>) -> Result<SlotUpdate<V>, E> + Drop>(
         &mut self,
         key: &K,
@@ -152,8 +177,10 @@ impl<K: KeyTrait, V> AdaptiveRadixTree<K, V> {
         requires clones { (x y : V) → V.is_clone x y → y ≡ x }
         requires callable { FnOnceTakesAtMut F.FnOnce f (slot_of (lookup (K.bytes key.now) self.old.pairs)) }
         requires stays { StaysIfOk F.FnOnce f (lookup (K.bytes key.now) self.old.pairs) }
-        ensures called { result ≢ Err Not_cloned → TriesUpdate F.FnOnce f (K.bytes key.now) self.old.pairs result self.new.pairs }
-        ensures not_cloned { result ≡ Err Not_cloned → (v : V) × (lookup (K.bytes key.now) self.old.pairs ≡ Some v) × (V.is_infallible v → ⊥) }
+        ensures called { result ≢ Err Not_cloned
+            → TriesUpdate F.FnOnce f (K.bytes key.now) self.old.pairs result self.new.pairs }
+        ensures not_cloned { result ≡ Err Not_cloned → (v : V) × (lookup (K.bytes key.now) self.old.pairs ≡ Some v)
+            × (V.is_infallible v → ⊥) }
         ensures shape { HasShape (keys_of self.new.pairs) self.new.nodes }
         ensures refused { OnErr result (self.new ≡ self.old) }
     {
@@ -163,9 +190,9 @@ impl<K: KeyTrait, V> AdaptiveRadixTree<K, V> {
         let (outcome, told) = update_tried(self, key, f);
         self.canonical();
         match told {
-            Told::NotCloned => Err(TryUpdateError::Clone),
-            Told::Failed(error) => Err(TryUpdateError::Callback(error)),
-            Told::Answered(old) => match outcome {
+            CallbackOutcome::NotCloned => Err(TryUpdateError::Clone),
+            CallbackOutcome::Failed(error) => Err(TryUpdateError::Callback(error)),
+            CallbackOutcome::Answered(old) => match outcome {
                 Ok(outcome) => Ok(is_touched(outcome)),
                 Err(UpdateError::Insert(refused)) => Err(TryUpdateError::Insert(refused)),
                 Err(UpdateError::Remove) => match old {
@@ -179,7 +206,11 @@ impl<K: KeyTrait, V> AdaptiveRadixTree<K, V> {
         }
     }
 
-    /// Updates what stands at `key`, as `try_update_k` does.
+    /// Updates the slot of `key`, as [`try_update_k`](Self::try_update_k).
+    ///
+    /// # Errors
+    ///
+    /// Those of [`try_update_k`](Self::try_update_k). Pairs and nodes are then unchanged.
     pub fn try_update<E, F: FnOnce(&mut Slot<V>) -> Result<SlotUpdate<V>, E> + Drop>(
         &mut self,
         key: K,
@@ -191,8 +222,10 @@ impl<K: KeyTrait, V> AdaptiveRadixTree<K, V> {
         requires clones { (x y : V) → V.is_clone x y → y ≡ x }
         requires callable { FnOnceTakesAtMut F.FnOnce f (slot_of (lookup (K.bytes key) self.old.pairs)) }
         requires stays { StaysIfOk F.FnOnce f (lookup (K.bytes key) self.old.pairs) }
-        ensures called { result ≢ Err Not_cloned → TriesUpdate F.FnOnce f (K.bytes key) self.old.pairs result self.new.pairs }
-        ensures not_cloned { result ≡ Err Not_cloned → (v : V) × (lookup (K.bytes key) self.old.pairs ≡ Some v) × (V.is_infallible v → ⊥) }
+        ensures called { result ≢ Err Not_cloned
+            → TriesUpdate F.FnOnce f (K.bytes key) self.old.pairs result self.new.pairs }
+        ensures not_cloned { result ≡ Err Not_cloned → (v : V) × (lookup (K.bytes key) self.old.pairs ≡ Some v)
+            × (V.is_infallible v → ⊥) }
         ensures shape { HasShape (keys_of self.new.pairs) self.new.nodes }
         ensures refused { OnErr result (self.new ≡ self.old) }
     {
@@ -200,7 +233,7 @@ impl<K: KeyTrait, V> AdaptiveRadixTree<K, V> {
     }
 }
 
-// An update by `f`, which tells nothing beside.
+// Updates by `f`, which returns nothing beside.
 fn update_plainly<V, K: KeyTrait, F: FnOnce(&mut Slot<V>) -> SlotUpdate<V>>(
     tree: &mut AdaptiveRadixTree<K, V>,
     key: &K,
@@ -208,10 +241,11 @@ fn update_plainly<V, K: KeyTrait, F: FnOnce(&mut Slot<V>) -> SlotUpdate<V>>(
 ) -> Result<Outcome<V>, UpdateError<V>>
     requires callable { FnOnceTakesAtMut F.FnOnce f (slot_of (lookup (K.bytes key.now) tree.old.pairs)) }
     requires stays { Stays F.FnOnce f (lookup (K.bytes key.now) tree.old.pairs) }
-    ensures update { AnswersSo F.FnOnce f (lookup (K.bytes key.now) tree.old.pairs) (λ r w. EndsIn (K.bytes key.now) r w tree.old.pairs result tree.new.pairs) }
+    ensures update { AnswersSo F.FnOnce f (lookup (K.bytes key.now) tree.old.pairs)
+        (λ r w. EndsIn (K.bytes key.now) r w tree.old.pairs result tree.new.pairs) }
     ensures refused { OnErr result (tree.new.nodes ≡ tree.old.nodes) }
 {
-    let (outcome, ()) = tree.update_telling(
+    let (outcome, ()) = tree.update_returning(
         key,
         move |slot: &mut Slot<V>|
             requires { FnOnceTakesAtMut F.FnOnce f slot.old }
@@ -221,7 +255,7 @@ fn update_plainly<V, K: KeyTrait, F: FnOnce(&mut Slot<V>) -> SlotUpdate<V>>(
     outcome
 }
 
-// Calls `f`, which tells nothing beside.
+// Calls `f`, which returns nothing beside.
 fn asked<V, F: FnOnce(&mut Slot<V>) -> SlotUpdate<V>>(
     slot: &mut Slot<V>,
     f: F,
@@ -232,7 +266,7 @@ fn asked<V, F: FnOnce(&mut Slot<V>) -> SlotUpdate<V>>(
     (f(slot), ())
 }
 
-// An update by `f`, which may fail: what stands at the key is then as before.
+// Updates by `f`, which may fail; the value at the key is then unchanged.
 fn update_tried<
     V: Clone,
     E,
@@ -242,15 +276,16 @@ fn update_tried<
     tree: &mut AdaptiveRadixTree<K, V>,
     key: &K,
     f: F,
-) -> (Result<Outcome<V>, UpdateError<V>>, Told<V, E>)
+) -> (Result<Outcome<V>, UpdateError<V>>, CallbackOutcome<V, E>)
     requires clones { (x y : V) → V.is_clone x y → y ≡ x }
     requires callable { FnOnceTakesAtMut F.FnOnce f (slot_of (lookup (K.bytes key.now) tree.old.pairs)) }
     requires stays { StaysIfOk F.FnOnce f (lookup (K.bytes key.now) tree.old.pairs) }
-    ensures update { Attempts V.is_infallible F.FnOnce f (K.bytes key.now) tree.old.pairs result.1 result.0 tree.new.pairs }
+    ensures update { Attempts V.is_infallible F.FnOnce f (K.bytes key.now) tree.old.pairs result.1 result.0
+        tree.new.pairs }
     ensures refused { OnErr result.0 (tree.new.nodes ≡ tree.old.nodes) }
     ensures nodes { keys_of tree.new.pairs ≡ keys_of tree.old.pairs → tree.new.nodes ≡ tree.old.nodes }
 {
-    tree.update_telling(
+    tree.update_returning(
         key,
         move |slot: &mut Slot<V>|
             requires clones { (x y : V) → V.is_clone x y → y ≡ x }
@@ -260,23 +295,23 @@ fn update_tried<
     )
 }
 
-// Calls `f` once what stands there is cloned. Where it fails, the clone is put there.
+// Clones the value in the slot, then calls `f`. Where `f` fails, puts the clone back.
 fn attempt<V: Clone, E, F: FnOnce(&mut Slot<V>) -> Result<SlotUpdate<V>, E> + Drop>(
     slot: &mut Slot<V>,
     f: F,
-) -> (SlotUpdate<V>, Told<V, E>)
+) -> (SlotUpdate<V>, CallbackOutcome<V, E>)
     requires clones { (x y : V) → V.is_clone x y → y ≡ x }
     requires callable { FnOnceTakesAtMut F.FnOnce f slot.old }
     ensures { IsAttempt V.is_infallible F.FnOnce f slot.old result.0 result.1 slot.new }
 {
     let Ok(copy) = saved(slot) else {
-        return (SlotUpdate::Keep, Told::NotCloned);
+        return (SlotUpdate::Keep, CallbackOutcome::NotCloned);
     };
     match f(slot) {
-        Ok(answer) => (answer, Told::Answered(copy)),
+        Ok(answer) => (answer, CallbackOutcome::Answered(copy)),
         Err(error) => {
             let _left = mem::replace(slot, Slot::new(copy)).into_option();
-            (SlotUpdate::Keep, Told::Failed(error))
+            (SlotUpdate::Keep, CallbackOutcome::Failed(error))
         }
     }
 }

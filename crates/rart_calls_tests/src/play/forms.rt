@@ -54,7 +54,7 @@ pub fn answer<K: KeyTrait + Drop>(
     })
 }
 
-/// What a callback answers that asks for this.
+/// What a callback answers that requests this.
 pub fn asked(then: Then) -> Result<SlotUpdate<u64>, ()> {
     match then {
         Then::Keep => Ok(SlotUpdate::Keep),
@@ -176,7 +176,8 @@ fn insert_new<K: KeyTrait + Drop>(
 
 // Whether there was a value to write over. What the tree then is follows for any key type from the loan's own clause.
 fn overwrite_k<K: KeyTrait>(tree: &mut Tree<K>, key: &K, value: u64) -> bool
-    ensures present { lookup (K.bytes key.now) tree.old.pairs ≢ None → tree.new.pairs ≡ put (K.bytes key.now) value tree.old.pairs }
+    ensures present { lookup (K.bytes key.now) tree.old.pairs ≢ None
+        → tree.new.pairs ≡ put (K.bytes key.now) value tree.old.pairs }
     ensures nodes { tree.new.nodes ≡ tree.old.nodes }
     ensures absent { lookup (K.bytes key.now) tree.old.pairs ≡ None → tree.new ≡ tree.old }
 {

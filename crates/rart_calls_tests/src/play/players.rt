@@ -18,7 +18,7 @@ const BY_BYTES: How = How {
     spelling: Spelling::Bytes,
 };
 
-// Makes the call, and tells whether the reply is the wanted one.
+// Makes the call, and returns whether the reply is the wanted one.
 fn goes_well<K: KeyTrait + Drop>(
     alloc: Global,
     tree: &mut Tree<K>,
@@ -116,7 +116,7 @@ fn sweep_all<K: KeyTrait + Drop>(alloc: Global, rows: &[Row<'_>], how: How) -> O
     None
 }
 
-/// Plays the rows in each form, each call with its requests refused in turn: a refused call changes nothing, and behind
+/// Plays the rows in each form, each call with its requests refused in turn: a refused call changes nothing, and after
 /// each row the tree is as one that met no refusal.
 pub fn plays_refused_in_turn<K: KeyTrait + Drop>(alloc: Global, rows: &[Row<'_>]) -> Option<usize> {
     for form in FORMS {
@@ -136,7 +136,7 @@ pub fn plays_refused_in_turn<K: KeyTrait + Drop>(alloc: Global, rows: &[Row<'_>]
     None
 }
 
-/// Plays the first rows, and then the others, none of which may ask for memory; a row that did is one behind the last.
+/// Plays the first rows, and then the others, none of which may ask for memory; a row that did is one past the last.
 pub fn plays_asking_for_nothing<K: KeyTrait + Drop>(
     alloc: Global,
     before: &[Row<'_>],
@@ -219,7 +219,7 @@ fn refused_calls<K: KeyTrait + Drop>(
     Some(count)
 }
 
-// Runs the calls with a request of the run refused, and tells whether one was; None where something else went wrong.
+// Runs the calls with a request of the run refused, and returns whether one was; None where something else went wrong.
 fn run_refused<K: KeyTrait + Drop>(
     alloc: Global,
     rows: &[Row<'_>],

@@ -13,7 +13,8 @@ impl<K: KeyTrait, T> BitTable<K, T> {
     pub fn longest_match(&self, address: &[u8]) -> Option<(usize, &T)>
         requires { length address.now < 1000 }
         ensures within { IfSome result (λ p. p.0 ≤ 8 * length address.now) }
-        ensures value { option_map (λ p. (network address.now p.0, p.1.now)) result ≡ longest_match (bits_of address.now) self.now }
+        ensures value { option_map (λ p. (network address.now p.0, p.1.now)) result
+            ≡ longest_match (bits_of address.now) self.now }
     {
         self.ascends();
         let mut at = address.len() + 1;
@@ -26,7 +27,7 @@ impl<K: KeyTrait, T> BitTable<K, T> {
         None
     }
 
-    // Of the networks of `at` whole octets and at most seven bits more, the longest that begins the address.
+    // Returns the longest network that begins the address, of those of `at` whole octets and at most seven more bits.
     fn longest_after(&self, address: &[u8], at: usize) -> Option<(usize, &T)>
         requires at { at ≤ length address.now }
         requires small { length address.now < 1000 }
@@ -44,7 +45,7 @@ impl<K: KeyTrait, T> BitTable<K, T> {
     }
 }
 
-// How many bits of the octet at `at` a network can have that ends within it.
+// Returns the largest number of bits of the octet at `at` that a network can have that ends within it.
 fn bits_after(octets: &[u8], at: usize) -> usize
     requires { at ≤ length octets.now }
     ensures small { result < 8 }

@@ -1,6 +1,4 @@
-//! A key whose bytes lie in the value itself.
-//!
-//! Contracts see its bytes as `array_key_bytes`.
+//! A key whose bytes are stored inline, at the front of an array. Contracts read its bytes as `array_key_bytes`.
 ghost use Rattle.std.specs.Prelude.{◌≡◌, ◌-◌, ◌≤◌, length, drop, replicate};
 ghost use Rattle.rart_keys.specs.KeyBytes.{AreBytes};
 
@@ -14,7 +12,7 @@ use std::cmp::Ordering;
 mod numbers;
 mod texts;
 
-/// A key of at most `N` bytes. Bytes behind the length are always zero.
+/// Holds at most `N` bytes of a key. The bytes of the array after the key are zero.
 #[derive(Clone, Copy, Debug)]
 pub struct ArrayKey<const N: usize> {
     stored: [u8; N],
@@ -29,14 +27,14 @@ impl<const N: usize> ArrayKey<N> {
     ghost use Rattle.std.specs.Prelude.{◌≡◌, ◌+◌, ◌-◌, ◌≤◌, ◌++◌, length, replicate};
     ghost use Rattle.rart_keys.specs.ArrayKeyBytes.{array_key_bytes};
 
-    /// All `N` bytes: those of the key, and zeros behind its length.
+    /// Returns the whole array: the bytes of the key, then zeros.
     pub fn as_array(&self) -> &[u8; N]
         ensures { result.now ≡ array_key_bytes self.now ++ replicate (N - length (array_key_bytes self.now)) 0 }
     {
         &self.stored
     }
 
-    /// The bytes.
+    /// Returns the bytes.
     pub fn as_slice(&self) -> &[u8]
         ensures value { result.now ≡ array_key_bytes self.now }
         ensures within { length (array_key_bytes self.now) ≤ N }
@@ -44,7 +42,7 @@ impl<const N: usize> ArrayKey<N> {
         &self.stored[..self.len]
     }
 
-    // Every new value is made here, so that the zeros behind its length are shown once.
+    // The only constructor, so the zeros after the key are proved once.
     fn from_two(first: &[u8], second: &[u8]) -> Self
         requires { length first.now + length second.now ≤ N }
         ensures { array_key_bytes result ≡ first.now ++ second.now }

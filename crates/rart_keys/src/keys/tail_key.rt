@@ -1,6 +1,4 @@
-//! A key whose bytes lie at the end of its array.
-//!
-//! Contracts see its bytes as `tail_key_bytes`.
+//! A key whose bytes are stored inline, at the end of an array. Contracts read its bytes as `tail_key_bytes`.
 ghost use Rattle.std.specs.Prelude.{◌≡◌, ◌≤◌, length, take, replicate};
 ghost use Rattle.rart_keys.specs.KeyBytes.{AreBytes};
 
@@ -11,7 +9,7 @@ use crate::partials::Partial;
 use crate::partials::array_partial::ArrPartial;
 use std::cmp::Ordering;
 
-/// A key of at most `N` bytes, which are the last of its array. Bytes before them are always zero.
+/// Holds at most `N` bytes of a key at the end of its array. The bytes of the array before the key are zero.
 #[derive(Clone, Copy, Debug)]
 pub struct TailKey<const N: usize> {
     stored: [u8; N],

@@ -1,7 +1,4 @@
-//! Laws of keys: equality and order are those of the bytes, keys of numbers are in the order of
-//! the numbers, and keys of texts in the order of the texts.
-//!
-//! Where a call speaks of keys of numbers or texts, it makes them and gives them back.
+//! Laws of key order: the order of keys is that of their bytes, of the numbers and of the texts they are made of.
 ghost use Rattle.std.specs.Prelude.{◌≡◌, ◌+◌, ◌≤◌, ◌↔◌, ◌++◌, ◌∷◌, [], ℕ, List, length, take, IsTrue};
 ghost use Rattle.std.specs.Cmp.Lexicographic.{slice_cmp};
 ghost use Rattle.std.specs.Int.{w8, w16, w32, w64, w128, to_be_bytes};
@@ -14,8 +11,7 @@ ghost use Rattle.rart_keys.specs.NumberBytes.{big_endian_number, sign_flipped};
 use crate::keys::array_key::ArrayKey;
 use std::cmp::Ordering;
 
-/// Whether two keys are equal, and how they compare: equal exactly where they tie, and exactly
-/// where their bytes are the same.
+/// Returns whether two keys are equal, and how they compare. Both depend on the bytes alone.
 pub fn equality_and_order<const N: usize>(
     first: &ArrayKey<N>,
     second: &ArrayKey<N>,
@@ -27,8 +23,7 @@ pub fn equality_and_order<const N: usize>(
     (first == second, first.cmp(second))
 }
 
-/// The keys of two texts, and how they compare: as the texts do byte by byte, whatever bytes they
-/// have. Asks room for both.
+/// Returns the keys of two texts and their order, which is that of the texts. Both must fit in `N` bytes.
 pub fn compared_text_keys<const N: usize>(x: &str, y: &str) -> (ArrayKey<N>, ArrayKey<N>, Ordering)
     requires first_fits { length x.now ≤ N }
     requires second_fits { length y.now ≤ N }
@@ -37,8 +32,8 @@ pub fn compared_text_keys<const N: usize>(x: &str, y: &str) -> (ArrayKey<N>, Arr
     compared(ArrayKey::new_from_str(x), ArrayKey::new_from_str(y))
 }
 
-/// The keys of two texts with closing zeros, and how they compare: as the texts do, too. Asks room for
-/// both and their zeros.
+/// Returns the terminated keys of two texts and their order, which is that of the texts. Both must fit in `N` bytes
+/// with their zeros.
 pub fn compared_terminated_keys<const N: usize>(
     x: &str,
     y: &str,
@@ -53,12 +48,12 @@ pub fn compared_terminated_keys<const N: usize>(
     )
 }
 
-/// A zero byte behind both of two strings changes nothing of their order, whatever bytes they have.
+/// Proves that a zero byte at the end of both of two byte strings does not change their order.
 pub fn closing_zeros()
     ensures { (xs ys : List ℕ) → slice_cmp nat_cmp (xs ++ 0 ∷ []) (ys ++ 0 ∷ []) ≡ slice_cmp nat_cmp xs ys }
 {}
 
-/// The keys of two `u8`, and how they compare: as the numbers do. Asks room for one byte.
+/// Returns the keys of two `u8` and their order, which is that of the numbers. `N` must be at least 1.
 pub fn compared_u8_keys<const N: usize>(x: u8, y: u8) -> (ArrayKey<N>, ArrayKey<N>, Ordering)
     requires { 1 ≤ N }
     ensures { AreComparedAs result (to_be_bytes w8 x) (to_be_bytes w8 y) (nat_cmp x y) }
@@ -66,7 +61,7 @@ pub fn compared_u8_keys<const N: usize>(x: u8, y: u8) -> (ArrayKey<N>, ArrayKey<
     compared(ArrayKey::from_u8(x), ArrayKey::from_u8(y))
 }
 
-/// The keys of two `u16`, and how they compare: as the numbers do. Asks room for two bytes.
+/// Returns the keys of two `u16` and their order, which is that of the numbers. `N` must be at least 2.
 pub fn compared_u16_keys<const N: usize>(x: u16, y: u16) -> (ArrayKey<N>, ArrayKey<N>, Ordering)
     requires { 2 ≤ N }
     ensures { AreComparedAs result (to_be_bytes w16 x) (to_be_bytes w16 y) (nat_cmp x y) }
@@ -74,7 +69,7 @@ pub fn compared_u16_keys<const N: usize>(x: u16, y: u16) -> (ArrayKey<N>, ArrayK
     compared(ArrayKey::from_u16(x), ArrayKey::from_u16(y))
 }
 
-/// The keys of two `u32`, and how they compare: as the numbers do. Asks room for four bytes.
+/// Returns the keys of two `u32` and their order, which is that of the numbers. `N` must be at least 4.
 pub fn compared_u32_keys<const N: usize>(x: u32, y: u32) -> (ArrayKey<N>, ArrayKey<N>, Ordering)
     requires { 4 ≤ N }
     ensures { AreComparedAs result (to_be_bytes w32 x) (to_be_bytes w32 y) (nat_cmp x y) }
@@ -82,7 +77,7 @@ pub fn compared_u32_keys<const N: usize>(x: u32, y: u32) -> (ArrayKey<N>, ArrayK
     compared(ArrayKey::from_u32(x), ArrayKey::from_u32(y))
 }
 
-/// The keys of two `u64`, and how they compare: as the numbers do. Asks room for eight bytes.
+/// Returns the keys of two `u64` and their order, which is that of the numbers. `N` must be at least 8.
 pub fn compared_u64_keys<const N: usize>(x: u64, y: u64) -> (ArrayKey<N>, ArrayKey<N>, Ordering)
     requires { 8 ≤ N }
     ensures { AreComparedAs result (to_be_bytes w64 x) (to_be_bytes w64 y) (nat_cmp x y) }
@@ -90,7 +85,7 @@ pub fn compared_u64_keys<const N: usize>(x: u64, y: u64) -> (ArrayKey<N>, ArrayK
     compared(ArrayKey::from_u64(x), ArrayKey::from_u64(y))
 }
 
-/// The keys of two `u128`, and how they compare: as the numbers do. Asks room for sixteen bytes.
+/// Returns the keys of two `u128` and their order, which is that of the numbers. `N` must be at least 16.
 pub fn compared_u128_keys<const N: usize>(x: u128, y: u128) -> (ArrayKey<N>, ArrayKey<N>, Ordering)
     requires { 16 ≤ N }
     ensures { AreComparedAs result (to_be_bytes w128 x) (to_be_bytes w128 y) (nat_cmp x y) }
@@ -98,7 +93,7 @@ pub fn compared_u128_keys<const N: usize>(x: u128, y: u128) -> (ArrayKey<N>, Arr
     compared(ArrayKey::from_u128(x), ArrayKey::from_u128(y))
 }
 
-/// The keys of two `usize`, and how they compare: as the numbers do. Asks room for eight bytes.
+/// Returns the keys of two `usize` and their order, which is that of the numbers. `N` must be at least 8.
 pub fn compared_usize_keys<const N: usize>(
     x: usize,
     y: usize,
@@ -109,59 +104,64 @@ pub fn compared_usize_keys<const N: usize>(
     compared(ArrayKey::from_usize(x), ArrayKey::from_usize(y))
 }
 
-/// The keys of two `i8`, and how they compare: as the numbers do. Asks room for one byte.
+/// Returns the keys of two `i8` and their order, which is that of the numbers. `N` must be at least 1.
 pub fn compared_i8_keys<const N: usize>(x: i8, y: i8) -> (ArrayKey<N>, ArrayKey<N>, Ordering)
     requires { 1 ≤ N }
-    ensures { AreComparedAs result (to_be_bytes w8 (sign_flipped w8 x)) (to_be_bytes w8 (sign_flipped w8 y)) (int_cmp x y) }
+    ensures { AreComparedAs result (to_be_bytes w8 (sign_flipped w8 x)) (to_be_bytes w8 (sign_flipped w8 y))
+        (int_cmp x y) }
 {
     compared(ArrayKey::from_i8(x), ArrayKey::from_i8(y))
 }
 
-/// The keys of two `i16`, and how they compare: as the numbers do. Asks room for two bytes.
+/// Returns the keys of two `i16` and their order, which is that of the numbers. `N` must be at least 2.
 pub fn compared_i16_keys<const N: usize>(x: i16, y: i16) -> (ArrayKey<N>, ArrayKey<N>, Ordering)
     requires { 2 ≤ N }
-    ensures { AreComparedAs result (to_be_bytes w16 (sign_flipped w16 x)) (to_be_bytes w16 (sign_flipped w16 y)) (int_cmp x y) }
+    ensures { AreComparedAs result (to_be_bytes w16 (sign_flipped w16 x)) (to_be_bytes w16 (sign_flipped w16 y))
+        (int_cmp x y) }
 {
     compared(ArrayKey::from_i16(x), ArrayKey::from_i16(y))
 }
 
-/// The keys of two `i32`, and how they compare: as the numbers do. Asks room for four bytes.
+/// Returns the keys of two `i32` and their order, which is that of the numbers. `N` must be at least 4.
 pub fn compared_i32_keys<const N: usize>(x: i32, y: i32) -> (ArrayKey<N>, ArrayKey<N>, Ordering)
     requires { 4 ≤ N }
-    ensures { AreComparedAs result (to_be_bytes w32 (sign_flipped w32 x)) (to_be_bytes w32 (sign_flipped w32 y)) (int_cmp x y) }
+    ensures { AreComparedAs result (to_be_bytes w32 (sign_flipped w32 x)) (to_be_bytes w32 (sign_flipped w32 y))
+        (int_cmp x y) }
 {
     compared(ArrayKey::from_i32(x), ArrayKey::from_i32(y))
 }
 
-/// The keys of two `i64`, and how they compare: as the numbers do. Asks room for eight bytes.
+/// Returns the keys of two `i64` and their order, which is that of the numbers. `N` must be at least 8.
 pub fn compared_i64_keys<const N: usize>(x: i64, y: i64) -> (ArrayKey<N>, ArrayKey<N>, Ordering)
     requires { 8 ≤ N }
-    ensures { AreComparedAs result (to_be_bytes w64 (sign_flipped w64 x)) (to_be_bytes w64 (sign_flipped w64 y)) (int_cmp x y) }
+    ensures { AreComparedAs result (to_be_bytes w64 (sign_flipped w64 x)) (to_be_bytes w64 (sign_flipped w64 y))
+        (int_cmp x y) }
 {
     compared(ArrayKey::from_i64(x), ArrayKey::from_i64(y))
 }
 
-/// The keys of two `i128`, and how they compare: as the numbers do. Asks room for sixteen bytes.
+/// Returns the keys of two `i128` and their order, which is that of the numbers. `N` must be at least 16.
 pub fn compared_i128_keys<const N: usize>(x: i128, y: i128) -> (ArrayKey<N>, ArrayKey<N>, Ordering)
     requires { 16 ≤ N }
-    ensures { AreComparedAs result (to_be_bytes w128 (sign_flipped w128 x)) (to_be_bytes w128 (sign_flipped w128 y)) (int_cmp x y) }
+    ensures { AreComparedAs result (to_be_bytes w128 (sign_flipped w128 x)) (to_be_bytes w128 (sign_flipped w128 y))
+        (int_cmp x y) }
 {
     compared(ArrayKey::from_i128(x), ArrayKey::from_i128(y))
 }
 
-/// The keys of two `isize`, and how they compare: as the numbers do. Asks room for eight bytes.
+/// Returns the keys of two `isize` and their order, which is that of the numbers. `N` must be at least 8.
 pub fn compared_isize_keys<const N: usize>(
     x: isize,
     y: isize,
 ) -> (ArrayKey<N>, ArrayKey<N>, Ordering)
     requires { 8 ≤ N }
-    ensures { AreComparedAs result (to_be_bytes w64 (sign_flipped w64 x)) (to_be_bytes w64 (sign_flipped w64 y)) (int_cmp x y) }
+    ensures { AreComparedAs result (to_be_bytes w64 (sign_flipped w64 x)) (to_be_bytes w64 (sign_flipped w64 y))
+        (int_cmp x y) }
 {
     compared(ArrayKey::from_isize(x), ArrayKey::from_isize(y))
 }
 
-/// The key of a number, and the number that its first eight bytes write, which is the same number. The key must
-/// have room for eight bytes.
+/// Returns the key of a number, and the number read back from the key. `N` must be at least 8.
 pub fn key_and_number_again<const N: usize>(x: u64) -> (ArrayKey<N>, u64)
     requires { 8 ≤ N }
     ensures key { array_key_bytes result.0 ≡ to_be_bytes w64 x }
@@ -178,7 +178,8 @@ fn compared<const N: usize>(
     first: ArrayKey<N>,
     second: ArrayKey<N>,
 ) -> (ArrayKey<N>, ArrayKey<N>, Ordering)
-    ensures { AreComparedAs result (array_key_bytes first.entry) (array_key_bytes second.entry) (slice_cmp nat_cmp (array_key_bytes first.entry) (array_key_bytes second.entry)) }
+    ensures { AreComparedAs result (array_key_bytes first.entry) (array_key_bytes second.entry)
+        (slice_cmp nat_cmp (array_key_bytes first.entry) (array_key_bytes second.entry)) }
 {
     (first, second, first.cmp(&second))
 }

@@ -1,6 +1,4 @@
-//! A part of a key whose bytes lie in the value itself.
-//!
-//! Contracts see its bytes as `arr_partial_bytes`.
+//! A part of a key whose bytes are stored inline. Contracts read its bytes as `arr_partial_bytes`.
 ghost use Rattle.std.specs.Prelude.{◌≡◌, ◌-◌, ◌≤◌, length, drop, replicate};
 ghost use Rattle.rart_keys.specs.KeyBytes.{AreBytes};
 
@@ -12,7 +10,7 @@ use crate::partials::Partial;
 use std::alloc::AllocError;
 use std::slice::Iter;
 
-/// At most `SIZE` bytes of a key. Bytes behind the length are always zero.
+/// Holds at most `SIZE` bytes of a key. The bytes of the array after them are zero.
 #[derive(Debug, Drop)]
 pub struct ArrPartial<const SIZE: usize> {
     stored: [u8; SIZE],
@@ -27,7 +25,7 @@ impl<const SIZE: usize> ArrPartial<SIZE> {
     ghost use Rattle.std.specs.Prelude.{◌≡◌, ◌+◌, ◌≤◌, ◌++◌, ◌∷◌, [], length};
     ghost use Rattle.rart_keys.specs.ArrPartialBytes.{arr_partial_bytes};
 
-    /// The bytes of `src` and a zero byte behind them. Asks that they fit together.
+    /// Returns the bytes of `src` followed by a zero byte. Both must fit in `SIZE` bytes.
     pub fn key(src: &[u8]) -> Self
         requires { length src.now + 1 ≤ SIZE }
         ensures { arr_partial_bytes result ≡ src.now ++ 0 ∷ [] }
@@ -35,7 +33,7 @@ impl<const SIZE: usize> ArrPartial<SIZE> {
         Self::from_two(src, &[0])
     }
 
-    /// The bytes of `src`. Asks at most `SIZE` bytes.
+    /// Returns the part with the bytes of `src`, which must have at most `SIZE`.
     pub fn from_slice(src: &[u8]) -> Self
         requires { length src.now ≤ SIZE }
         ensures { arr_partial_bytes result ≡ src.now }
@@ -43,7 +41,7 @@ impl<const SIZE: usize> ArrPartial<SIZE> {
         Self::from_two(src, &[])
     }
 
-    /// The bytes.
+    /// Returns the bytes.
     pub fn to_slice(&self) -> &[u8]
         ensures value { result.now ≡ arr_partial_bytes self.now }
         ensures within { length (arr_partial_bytes self.now) ≤ SIZE }
@@ -51,7 +49,7 @@ impl<const SIZE: usize> ArrPartial<SIZE> {
         &self.stored[..self.len]
     }
 
-    // Every new value is made here, so that the zeros behind its length are shown once.
+    // The only constructor, so the zeros after the bytes are proved once.
     fn from_two(first: &[u8], second: &[u8]) -> Self
         requires { length first.now + length second.now ≤ SIZE }
         ensures { arr_partial_bytes result ≡ first.now ++ second.now }

@@ -1,5 +1,6 @@
 -- What an insertion leaves at one node, as the code makes it, is what `trie_put` says.
-use Rattle.std.proofs.Common.{◌≡◌, ℕ, suc, ◌<◌, ◌≤◌, List, [], ◌∷◌, length, take, drop, nat_eq, Option, Some, None, refl, arith, sym, ap, ◌∙◌, inl, ⊎_elim}
+use Rattle.std.proofs.Common.{◌≡◌, ℕ, suc, ◌<◌, ◌≤◌, List, [], ◌∷◌, length, take, drop, nat_eq, Option, Some, None}
+use Rattle.std.proofs.Common.{refl, arith, sym, ap, ◌∙◌, inl, ⊎_elim}
 use Rattle.std.proofs.lemmas.List.{append-nil}
 use Rattle.std.specs.Prelude.{slice_get}
 use Rattle.std.specs.List.{common_prefix_len}
@@ -10,10 +11,12 @@ use Rattle.rart_keys.proofs.ByteOrder.{order, eq-yes, eq-no}
 use Rattle.rart_parts.specs.Entries.{child_at, with_entry, replaced}
 use Rattle.rart_nodes.specs.storages.Widths.{widened}
 use Rattle.rart_nodes.specs.shapes.Shape.{capacity_of}
-use Rattle.rart_nodes.specs.tries.Trie.{Trie, node, Children, edges_of, IsCanonical, trie_lookup, trie_put, put_child, fitting_node, leaf, fork, pairs_of, with_records}
+use Rattle.rart_nodes.specs.tries.Trie.{Trie, node, Children, edges_of, IsCanonical, trie_lookup, trie_put, put_child}
+use Rattle.rart_nodes.specs.tries.Trie.{fitting_node, leaf, aligned, pairs_of, with_records}
 use Rattle.rart_nodes.specs.tries.TrieCode.{as_children}
-use Rattle.rart_nodes.proofs.storages.ChildLemmas.{edges_of-length, replaced-length, with_entry-length, put_child-found, put_child-none, fork-is, child_at-beside}
-use Rattle.rart_nodes.proofs.edits.Descent.{first, first-differ, put-lower, put-fork}
+use Rattle.rart_nodes.proofs.storages.ChildLemmas.{edges_of-length, replaced-length, with_entry-length, put_child-found}
+use Rattle.rart_nodes.proofs.storages.ChildLemmas.{put_child-none, aligned-is, child_at-beside}
+use Rattle.rart_nodes.proofs.edits.Descent.{first, first-differ, put-lower, put-aligned}
 use Rattle.rart_nodes.proofs.tries.RestLemmas.{rest-length, trie_put-followed}
 use Rattle.rart_nodes.proofs.tries.Descents.{descend-absent, descend-at, descend-followed}
 use Rattle.rart_nodes.proofs.shapes.ShapeLemmas.{lookup-records, records}
@@ -24,25 +27,37 @@ widened-capacity n = grind (arith, nat_tests)
 
 module _ {V : Type 0} where
   -- a node cut where the key ends
-  pub cut-lower : (p k : List ℕ) (v : V) (old : Option V) (w : ℕ) (cs : Children V) (n : ℕ) (head low : List ℕ) (o : Option V) (w' : ℕ) (es : List (ℕ × Trie V))
-      → n ≡ common_prefix_len nat_eq p k → n < length p → length k ≡ n → head ≡ take n p → low ≡ drop n p → o ≡ Some v → w' ≡ 4 → es ≡ (first low, node low old w cs) ∷ []
+  pub cut-lower : (p k : List ℕ) (v : V) (old : Option V) (w : ℕ) (cs : Children V) (n : ℕ) (head low : List ℕ)
+      (o : Option V) (w' : ℕ) (es : List (ℕ × Trie V))
+      → n ≡ common_prefix_len nat_eq p k → n < length p → length k ≡ n → head ≡ take n p → low ≡ drop n p → o ≡ Some v
+      → w' ≡ 4 → es ≡ (first low, node low old w cs) ∷ []
       → node head o w' (as_children es) ≡ trie_put k v (node p old w cs)
-  cut-lower p k v old w cs n head low o w' es e h end eh el eo ew ee = rw (ee, ew, eo, el, eh) (sym (put-lower p k v old w cs n e h end))
+  cut-lower p k v old w cs n head low o w' es e h end eh el eo ew ee
+      = rw (ee, ew, eo, el, eh) (sym (put-lower p k v old w cs n e h end))
 
   -- a node cut where the key goes on
-  pub cut-fork : (p k : List ℕ) (v : V) (old : Option V) (w : ℕ) (cs : Children V) (n : ℕ) (head low rest : List ℕ) (o : Option V) (w' : ℕ) (es : List (ℕ × Trie V))
-      → n ≡ common_prefix_len nat_eq p k → n < length p → (length k ≡ n → ⊥) → head ≡ take n p → low ≡ drop n p → rest ≡ drop n k → o ≡ None → w' ≡ 4
+  pub cut-aligned : (p k : List ℕ) (v : V) (old : Option V) (w : ℕ) (cs : Children V) (n : ℕ) (head low rest : List ℕ)
+      (o : Option V) (w' : ℕ) (es : List (ℕ × Trie V))
+      → n ≡ common_prefix_len nat_eq p k → n < length p → (length k ≡ n → ⊥) → head ≡ take n p → low ≡ drop n p
+      → rest ≡ drop n k → o ≡ None → w' ≡ 4
       → es ≡ with_entry (first rest) (leaf rest v) ((first low, node low old w cs) ∷ [])
       → node head o w' (as_children es) ≡ trie_put k v (node p old w cs)
-  cut-fork p k v old w cs n head low rest o w' es e h more eh el er eo ew ee =
+  cut-aligned p k v old w cs n head low rest o w' es e h more eh el er eo ew ee =
       let part : first low ≡ first rest → ⊥ = λ s. first-differ p k n e h more (ap first (sym el) ∙ s ∙ ap first er) in
-      let two : w' ≡ capacity_of (length (edges_of (as_children es))) = ew ∙ sym (ap capacity_of (edges_of-length es ∙ ap length ee ∙ with_entry-length (first rest) (leaf rest v) ((first low, node low old w cs) ∷ []) (sym (child_at-beside (first low) (first rest) (node low old w cs) _ refl part)))) in
-      let form : as_children es ≡ fork (first low) (node low old w cs) (first rest) (leaf rest v) = ap as_children ee ∙ fork-is (first low) (first rest) (node low old w cs) (leaf rest v) part in
-      ap (λ c. node head o c (as_children es)) two ∙ ap (λ q. node q o (capacity_of (length (edges_of (as_children es)))) (as_children es)) eh
-      ∙ ap (λ z. node (take n p) z (capacity_of (length (edges_of (as_children es)))) (as_children es)) eo ∙ ap (fitting_node (take n p) None) form
-      ∙ rw (el, er) (sym (put-fork p k v old w cs n e h more))
+      let two : w' ≡ capacity_of (length (edges_of (as_children es)))
+      = ew ∙ sym (ap capacity_of (edges_of-length es ∙ ap length ee
+      ∙ with_entry-length (first rest) (leaf rest v) ((first low, node low old w cs) ∷ [])
+      (sym (child_at-beside (first low) (first rest) (node low old w cs) _ refl part)))) in
+      let form : as_children es ≡ aligned (first low) (node low old w cs) (first rest) (leaf rest v) = ap as_children ee
+      ∙ aligned-is (first low) (first rest) (node low old w cs) (leaf rest v) part in
+      ap (λ c. node head o c (as_children es)) two
+      ∙ ap (λ q. node q o (capacity_of (length (edges_of (as_children es)))) (as_children es)) eh
+      ∙ ap (λ z. node (take n p) z (capacity_of (length (edges_of (as_children es)))) (as_children es)) eo
+      ∙ ap (fitting_node (take n p) None) form
+      ∙ rw (el, er) (sym (put-aligned p k v old w cs n e h more))
 
-  same-width : (w : ℕ) (es fs : List (ℕ × Trie V)) → w ≡ capacity_of (length (edges_of (as_children es))) → length fs ≡ length es → w ≡ capacity_of (length (edges_of (as_children fs)))
+  same-width : (w : ℕ) (es fs : List (ℕ × Trie V)) → w ≡ capacity_of (length (edges_of (as_children es)))
+      → length fs ≡ length es → w ≡ capacity_of (length (edges_of (as_children fs)))
   same-width w es fs e h = e ∙ ap capacity_of (edges_of-length es ∙ sym h ∙ sym (edges_of-length fs))
 
   -- an insertion below a child
@@ -51,10 +66,12 @@ module _ {V : Type 0} where
       → Some t ≡ child_at b es → t' ≡ trie_put rest v t → w' ≡ w → es' ≡ replaced b t' es
       → node p old w' (as_children es') ≡ trie_put k v (node p old w (as_children es))
   put-below p k rest v old w w' b t t' es es' c e h at et ew ee =
-      let width : w' ≡ capacity_of (length (edges_of (as_children es'))) = ew ∙ same-width w es es' c.1 (ap length ee ∙ replaced-length b t' es) in
+      let width : w' ≡ capacity_of (length (edges_of (as_children es')))
+      = ew ∙ same-width w es es' c.1 (ap length ee ∙ replaced-length b t' es) in
       let below : as_children es' ≡ put_child b rest v (as_children es)
       = ap as_children (ee ∙ ap (λ z. replaced b z es) et) ∙ sym (put_child-found b 0 rest v t es c.2 at) in
-      ap (λ z. node p old z (as_children es')) width ∙ ap (fitting_node p old) below ∙ sym (trie_put-followed p k rest b v old w (as_children es) e h)
+      ap (λ z. node p old z (as_children es')) width ∙ ap (fitting_node p old) below
+      ∙ sym (trie_put-followed p k rest b v old w (as_children es) e h)
 
   -- a new leaf beside the children
   pub put-beside : (p k rest : List ℕ) (v : V) (old : Option V) (w w' b : ℕ) (es es' : List (ℕ × Trie V))
@@ -62,48 +79,60 @@ module _ {V : Type 0} where
       → None ≡ child_at b es → w' ≡ widened (length es) w → es' ≡ with_entry b (leaf rest v) es
       → node p old w' (as_children es') ≡ trie_put k v (node p old w (as_children es))
   put-beside p k rest v old w w' b es es' c e h at ew ee =
-      let many : length (edges_of (as_children es')) ≡ suc (length es) = edges_of-length es' ∙ ap length ee ∙ with_entry-length b (leaf rest v) es at in
+      let many : length (edges_of (as_children es')) ≡ suc (length es) = edges_of-length es' ∙ ap length ee
+      ∙ with_entry-length b (leaf rest v) es at in
       let width : w' ≡ capacity_of (length (edges_of (as_children es')))
-      = ew ∙ ap (widened (length es)) (c.1 ∙ ap capacity_of (edges_of-length es)) ∙ widened-capacity (length es) ∙ sym (ap capacity_of many) in
+      = ew ∙ ap (widened (length es)) (c.1 ∙ ap capacity_of (edges_of-length es)) ∙ widened-capacity (length es)
+      ∙ sym (ap capacity_of many) in
       let below : as_children es' ≡ put_child b rest v (as_children es)
       = ap as_children ee ∙ sym (put_child-none b rest v es at) in
-      ap (λ z. node p old z (as_children es')) width ∙ ap (fitting_node p old) below ∙ sym (trie_put-followed p k rest b v old w (as_children es) e h)
+      ap (λ z. node p old z (as_children es')) width ∙ ap (fitting_node p old) below
+      ∙ sym (trie_put-followed p k rest b v old w (as_children es) e h)
 
   pub record-child : (p k rest : List ℕ) (old : Option V) (w b : ℕ) (t : Trie V) (es : List (ℕ × Trie V))
-      → IsCanonical (node p old w (as_children es)) → Some rest ≡ strip_prefix p k → Some b ≡ slice_get rest 0 → Some t ≡ child_at b es
+      → IsCanonical (node p old w (as_children es)) → Some rest ≡ strip_prefix p k → Some b ≡ slice_get rest 0
+      → Some t ≡ child_at b es
       → trie_lookup rest (with_records t) ≡ None → trie_lookup k (with_records (node p old w (as_children es))) ≡ None
-  record-child p k rest old w b t es c e h at none = lookup-records k (node p old w (as_children es)) ∙ descend-followed records p k rest b old w (as_children es) e h
+  record-child p k rest old w b t es c e h at none = lookup-records k (node p old w (as_children es))
+      ∙ descend-followed records p k rest b old w (as_children es) e h
       ∙ descend-at records b 0 rest (Some t) es c.2 at ∙ sym (lookup-records rest t) ∙ none
 
   pub record-no_child : (p k rest : List ℕ) (old : Option V) (w b : ℕ) (es : List (ℕ × Trie V))
       → Some rest ≡ strip_prefix p k → Some b ≡ slice_get rest 0 → None ≡ child_at b es
       → trie_lookup k (with_records (node p old w (as_children es))) ≡ None
-  record-no_child p k rest old w b es e h at = lookup-records k (node p old w (as_children es)) ∙ descend-followed records p k rest b old w (as_children es) e h
+  record-no_child p k rest old w b es e h at = lookup-records k (node p old w (as_children es))
+      ∙ descend-followed records p k rest b old w (as_children es) e h
       ∙ descend-absent records b rest es at
 
   -- a child that is put back as it was
   pub replaced-same : (b : ℕ) (t : Trie V) (es : List (ℕ × Trie V)) → Some t ≡ child_at b es → replaced b t es ≡ es
   replaced-same b t [] s = refl
   replaced-same b t (e ∷ es) s = ⊎_elim
-      (λ h. rw (eq-no e.0 b (λ q. omega arith)) (ap (λ l. e ∷ l) (replaced-same b t es (rw (eq-no e.0 b (λ q. omega arith)) at s))))
+      (λ h. rw (eq-no e.0 b (λ q. omega arith))
+      (ap (λ l. e ∷ l) (replaced-same b t es (rw (eq-no e.0 b (λ q. omega arith)) at s))))
       (⊎_elim (λ h. let f : t ≡ e.1 = cc (rw (eq-yes e.0 b (sym h)) at s) in rw (eq-yes e.0 b (sym h), f, h) refl)
-      (λ h. rw (eq-no e.0 b (λ q. omega arith)) (ap (λ l. e ∷ l) (replaced-same b t es (rw (eq-no e.0 b (λ q. omega arith)) at s))))) (order b e.0)
+      (λ h. rw (eq-no e.0 b (λ q. omega arith))
+      (ap (λ l. e ∷ l) (replaced-same b t es (rw (eq-no e.0 b (λ q. omega arith)) at s))))) (order b e.0)
 
-  pub child-put_back : (p : List ℕ) (old : Option V) (w w' b : ℕ) (t t' : Trie V) (es es' : List (ℕ × Trie V)) → Some t ≡ child_at b es → t' ≡ t → w' ≡ w → es' ≡ replaced b t' es
+  pub child-put_back : (p : List ℕ) (old : Option V) (w w' b : ℕ) (t t' : Trie V) (es es' : List (ℕ × Trie V))
+      → Some t ≡ child_at b es → t' ≡ t → w' ≡ w → es' ≡ replaced b t' es
       → node p old w' (as_children es') ≡ node p old w (as_children es)
-  child-put_back p old w w' b t t' es es' at et ew ee = ap (λ z. node p old z (as_children es')) ew ∙ ap (λ l. node p old w (as_children l)) (ee ∙ ap (λ z. replaced b z es) et ∙ replaced-same b t es at)
+  child-put_back p old w w' b t t' es es' at et ew ee = ap (λ z. node p old z (as_children es')) ew
+      ∙ ap (λ l. node p old w (as_children l)) (ee ∙ ap (λ z. replaced b z es) et ∙ replaced-same b t es at)
 
 pub fewer-within : (m : Option ℕ) (a b : ℕ) → b ≤ a → IsWithin m a → IsWithin m b
 fewer-within None a b h w = tt
 fewer-within (Some m) a b h w = omega arith
 
 -- what is left of a key is within the maximum
-pub rest-within : (m : Option ℕ) (p k rest : List ℕ) → Some rest ≡ strip_prefix p k → IsWithin m (length k) → IsWithin m (length rest)
+pub rest-within : (m : Option ℕ) (p k rest : List ℕ) → Some rest ≡ strip_prefix p k → IsWithin m (length k)
+    → IsWithin m (length rest)
 rest-within m p k rest e h = fewer-within m (length k) (length rest) (rest-length p k rest e) h
 
 module _ {V : Type 0} where
   -- a new leaf
-  pub leaf-is : (k : List ℕ) (v : V) (w : ℕ) (es : List (ℕ × Trie V)) → w ≡ 0 → es ≡ [] → node k (Some v) w (as_children es) ≡ leaf k v
+  pub leaf-is : (k : List ℕ) (v : V) (w : ℕ) (es : List (ℕ × Trie V)) → w ≡ 0 → es ≡ []
+      → node k (Some v) w (as_children es) ≡ leaf k v
   leaf-is k v w es ew ee = rw (ee, ew) refl
 
   pub leaf-canonical : (t : Trie V) (k : List ℕ) (v : V) → t ≡ leaf k v → IsCanonical t

@@ -1,9 +1,12 @@
--- A leaf that holds a key: how code tells it, and what a removal does with it.
-use Rattle.std.proofs.Common.{◌≡◌, ◌≢◌, ℕ, ◌<◌, ◌≤◌, ◌==◌, ⊎_elim, true, false, List, [], ◌∷◌, length, Option, Some, None, refl, arith, sym, ap, ◌∙◌}
+-- A leaf that holds a key: how code recognizes it, and what a removal does with it.
+use Rattle.std.proofs.Common.{◌≡◌, ◌≢◌, ℕ, ◌<◌, ◌≤◌, ◌==◌, ⊎_elim, true, false, List, [], ◌∷◌, length, Option, Some}
+use Rattle.std.proofs.Common.{None, refl, arith, sym, ap, ◌∙◌}
 use Rattle.rart_keys.specs.ByteStrings.{strip_prefix}
 use Rattle.rart_keys.proofs.ByteOrder.{eq-no}
 use Rattle.rart_nodes.specs.edits.Deletion.{is_end, is_leaf_at}
-use Rattle.rart_nodes.specs.tries.Trie.{Trie, node, Children, no_children, child, edges_of, value_of, children_in, IsCanonical, answer_behind, trie_lookup, child_lookup, removed_behind, trie_remove, remove_child}
+use Rattle.rart_nodes.specs.tries.Trie.{Trie, node, Children, no_children, child, edges_of, value_of, children_in}
+use Rattle.rart_nodes.specs.tries.Trie.{IsCanonical, answer_behind, trie_lookup, child_lookup, removed_behind}
+use Rattle.rart_nodes.specs.tries.Trie.{trie_remove, remove_child}
 use Rattle.rart_nodes.specs.tries.TrieCode.{as_children}
 
 end-empty : (r : List ℕ) → is_end (Some r) ≡ (length r == 0)
@@ -12,20 +15,24 @@ end-empty (b ∷ r) = sym (eq-no (length (b ∷ r)) 0 (λ e. omega (arith, e)))
 
 module _ {V : Type 0} where
   -- whether a node is such a leaf, as the code tests it
-  pub leaf_at-inner : (p k : List ℕ) (v : Option V) (w : ℕ) (es : List (ℕ × Trie V)) → 0 < length es → is_leaf_at k (node p v w (as_children es)) ≡ false
+  pub leaf_at-inner : (p k : List ℕ) (v : Option V) (w : ℕ) (es : List (ℕ × Trie V)) → 0 < length es
+      → is_leaf_at k (node p v w (as_children es)) ≡ false
   leaf_at-inner p k v w [] l = absurd (omega arith)
   leaf_at-inner p k v w (e ∷ es) l = refl
 
-  pub leaf_at-left : (p k : List ℕ) (v : Option V) (w : ℕ) (cs : Children V) → None ≡ strip_prefix p k → is_leaf_at k (node p v w cs) ≡ false
+  pub leaf_at-left : (p k : List ℕ) (v : Option V) (w : ℕ) (cs : Children V) → None ≡ strip_prefix p k
+      → is_leaf_at k (node p v w cs) ≡ false
   leaf_at-left p k v w no_children e = ap is_end (sym e)
   leaf_at-left p k v w (child b t cs) e = refl
 
-  pub leaf_at-rest : (p k r : List ℕ) (v : Option V) (w : ℕ) (es : List (ℕ × Trie V)) → length es ≤ 0 → Some r ≡ strip_prefix p k → is_leaf_at k (node p v w (as_children es)) ≡ (length r == 0)
+  pub leaf_at-rest : (p k r : List ℕ) (v : Option V) (w : ℕ) (es : List (ℕ × Trie V)) → length es ≤ 0
+      → Some r ≡ strip_prefix p k → is_leaf_at k (node p v w (as_children es)) ≡ (length r == 0)
   leaf_at-rest p k r v w [] l e = ap is_end (sym e) ∙ end-empty r
   leaf_at-rest p k r v w (x ∷ es) l e = absurd (omega arith)
 
   -- it goes, and its value is the answer
-  gone : (o : Option (List ℕ)) (p : List ℕ) (v : Option V) (f : ℕ → List ℕ → Children V) → is_end o ≡ true → None ≡ removed_behind o p v no_children f
+  gone : (o : Option (List ℕ)) (p : List ℕ) (v : Option V) (f : ℕ → List ℕ → Children V) → is_end o ≡ true
+      → None ≡ removed_behind o p v no_children f
   gone None p v f h = absurd (cc)
   gone (Some []) p v f h = refl
   gone (Some (b ∷ k)) p v f h = absurd (cc)
@@ -38,7 +45,8 @@ module _ {V : Type 0} where
   leaf-edges k (node p v w no_children) h = refl
   leaf-edges k (node p v w (child b t cs)) h = absurd (cc)
 
-  value-behind : (o : Option (List ℕ)) (v : Option V) (f : ℕ → List ℕ → Option V) → is_end o ≡ true → answer_behind o v f ≡ v
+  value-behind : (o : Option (List ℕ)) (v : Option V) (f : ℕ → List ℕ → Option V) → is_end o ≡ true
+      → answer_behind o v f ≡ v
   value-behind None v f h = absurd (cc)
   value-behind (Some []) v f h = refl
   value-behind (Some (b ∷ k)) v f h = absurd (cc)

@@ -11,7 +11,8 @@ module _ {A E : Type 0} where
   if_ok_weaker (Ok x) f p = f x p
   if_ok_weaker (Err x) f p = tt
 
-  pub if_ok_weaker_on : {P : Type 0} {Q R : A → Type 0} (r : Result A E) → ((x : A) → P → Q x → R x) → OnOk r P → IfOk r Q → IfOk r R
+  pub if_ok_weaker_on : {P : Type 0} {Q R : A → Type 0} (r : Result A E) → ((x : A) → P → Q x → R x) → OnOk r P
+      → IfOk r Q → IfOk r R
   if_ok_weaker_on (Ok x) f p q = f x p q
   if_ok_weaker_on (Err x) f p q = tt
 

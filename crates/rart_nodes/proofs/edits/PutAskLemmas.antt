@@ -1,4 +1,4 @@
--- Where an insertion asks for memory at one node, as the code does.
+-- Where an insertion requests memory at one node, as the code does.
 use Rattle.std.proofs.Common.{◌≡◌, ℕ, Bool, true, false, List, length, Option, Some, None, arith, ap, ◌∙◌}
 use Rattle.std.specs.Option.{unwrap_or}
 use Rattle.std.specs.Prelude.{slice_get}
@@ -19,11 +19,13 @@ asked (Some z) parent h = h
 module _ {V : Type 0} where
   -- an insertion below a child
   pub asks_put-below : (p k rest : List ℕ) (old : Option V) (w b : ℕ) (t : Trie V) (es : List (ℕ × Trie V))
-      → IsCanonical (node p old w (as_children es)) → Some rest ≡ strip_prefix p k → Some b ≡ slice_get rest 0 → Some t ≡ child_at b es
+      → IsCanonical (node p old w (as_children es)) → Some rest ≡ strip_prefix p k → Some b ≡ slice_get rest 0
+      → Some t ≡ child_at b es
       → trie_asks_put rest t ≡ true → trie_asks_put k (node p old w (as_children es)) ≡ true
   asks_put-below p k rest old w b t es c e h at below = let t' = node p old w (as_children es) in
       ap (λ o. unwrap_or o false) (descend-followed asks_put p k rest b old w (as_children es) e h)
-      ∙ ap (λ o. unwrap_or o (is_full t')) (descend-at asks_put b 0 rest (Some t) es c.2 at) ∙ asked (descend asks_put rest t) (is_full t') below
+      ∙ ap (λ o. unwrap_or o (is_full t')) (descend-at asks_put b 0 rest (Some t) es c.2 at)
+      ∙ asked (descend asks_put rest t) (is_full t') below
 
   -- a new leaf beside as many children as there is room for
   pub asks_put-full : (p k rest : List ℕ) (old : Option V) (w w' b : ℕ) (es es' : List (ℕ × Trie V))

@@ -1,36 +1,58 @@
 -- How what is kept of a way stays, goes on and goes back.
-use Rattle.std.proofs.Common.{◌≡◌, ℕ, ◌≤◌, ◌==◌, true, false, List, [], ◌∷◌, ◌++◌, length, take, vec_capacity, refl, arith, sym, ap, ◌∙◌}
+use Rattle.std.proofs.Common.{◌≡◌, ℕ, ◌≤◌, ◌==◌, true, false, List, [], ◌∷◌, ◌++◌, length, take, vec_capacity, refl}
+use Rattle.std.proofs.Common.{arith, sym, ap, ◌∙◌}
 use Rattle.std.proofs.lemmas.List.{append_assoc, append-nil, length-map, map-append, take-map}
 use Rattle.std.proofs.Math.Seq.{take-append_seam}
 use Rattle.std.specs.Borrow.{Bor}
 use Rattle.std.specs.Global.{Vec}
-use Rattle.rart_nodes.specs.declared.node.intersect.way.Way.TheVariants.{Untold, Bytes, Segments}
+use Rattle.rart_nodes.specs.declared.node.intersect.way.JoinPath.TheVariants.{Untold, Bytes, Segments}
 use Rattle.rart_keys.proofs.ByteOrder.{eq-yes}
-use Rattle.rart_nodes.specs.joins.Ways.{Kept, WayGrown, WayCut, BytesGrown, BytesCut, SegmentsGrown, SegmentsCut, way_mark}
-use Rattle.rart_nodes.specs.walks.PieceLaws.{joined-append, full-append}
-use Rattle.rart_nodes.specs.walks.Tour.{joined}
-use Rattle.rart_nodes.specs.walks.TrailParts.{lent_pieces}
-use Rattle.rart_nodes.specs.walks.ViewPieces.{all_have_bytes}
+use Rattle.rart_nodes.specs.joins.JoinPaths.{Kept, WayGrown, WayCut, BytesGrown, BytesCut, SegmentsGrown, SegmentsCut}
+use Rattle.rart_nodes.specs.joins.JoinPaths.{way_mark}
+use Rattle.rart_nodes.specs.walks.SegmentLaws.{joined-append, full-append}
+use Rattle.rart_nodes.specs.walks.Walk.{joined}
+use Rattle.rart_nodes.specs.walks.PathParts.{lent_segments}
+use Rattle.rart_nodes.specs.walks.ViewSegments.{all_have_bytes}
 
 pub way-stays : (s : Kept) → WayGrown s [] s
 way-stays Untold = tt
 way-stays (Bytes k) = record { bytes = sym (append-nil k.items); place = omega arith }
-way-stays (Segments k) = record { more = []; pieces = sym (append-nil (lent_pieces k.items)); bytes = refl; full = refl; place = omega arith }
+way-stays (Segments k) = record {
+  more = [];
+  segments = sym (append-nil (lent_segments k.items));
+  bytes = refl;
+  full
+      = refl;
+  place = omega arith;
+}
 
 has-bytes : (p : List ℕ) → false ≡ (length p == 0) → all_have_bytes (p ∷ []) ≡ true
 has-bytes [] h = absurd (cc (h, eq-yes 0 0 refl))
 has-bytes (b ∷ p) h = refl
 
-pub segments-one : (k l : Vec (Bor (List ℕ))) (p : Bor (List ℕ)) → l.items ≡ k.items ++ p ∷ [] → vec_capacity k ≤ vec_capacity l → false ≡ (length p.now == 0) → SegmentsGrown k p.now l
-segments-one k l p e c h = record { more = p.now ∷ []; pieces = ap lent_pieces e ∙ map-append (λ x. x.now) k.items (p ∷ []); bytes = append-nil p.now; full = has-bytes p.now h; place = c }
+pub segments-one : (k l : Vec (Bor (List ℕ))) (p : Bor (List ℕ)) → l.items ≡ k.items ++ p ∷ []
+    → vec_capacity k ≤ vec_capacity l → false ≡ (length p.now == 0) → SegmentsGrown k p.now l
+segments-one k l p e c h = record {
+  more = p.now ∷ [];
+  segments = ap lent_segments e
+      ∙ map-append (λ x. x.now) k.items (p ∷ []);
+  bytes = append-nil p.now;
+  full = has-bytes p.now h;
+  place = c;
+}
 
 bytes-on : (k l m : Vec ℕ) (p q : List ℕ) → BytesGrown k p l → BytesGrown l q m → BytesGrown k (p ++ q) m
-bytes-on k l m p q a b = record { bytes = b.bytes ∙ ap (λ z. z ++ q) a.bytes ∙ append_assoc k.items p q; place = omega (arith, a.place, b.place) }
+bytes-on k l m p q a b = record {
+  bytes = b.bytes ∙ ap (λ z. z ++ q) a.bytes ∙ append_assoc k.items p q;
+  place
+      = omega (arith, a.place, b.place);
+}
 
-segments-on : (k l m : Vec (Bor (List ℕ))) (p q : List ℕ) → SegmentsGrown k p l → SegmentsGrown l q m → SegmentsGrown k (p ++ q) m
+segments-on : (k l m : Vec (Bor (List ℕ))) (p q : List ℕ) → SegmentsGrown k p l → SegmentsGrown l q m
+    → SegmentsGrown k (p ++ q) m
 segments-on k l m p q a b = record {
   more = a.more ++ b.more;
-  pieces = b.pieces ∙ ap (λ z. z ++ b.more) a.pieces ∙ append_assoc (lent_pieces k.items) a.more b.more;
+  segments = b.segments ∙ ap (λ z. z ++ b.more) a.segments ∙ append_assoc (lent_segments k.items) a.more b.more;
   bytes = joined-append a.more b.more ∙ ap (λ z. z ++ joined b.more) a.bytes ∙ ap (λ z. p ++ z) b.bytes;
   full = full-append a.more b.more a.full b.full;
   place = omega (arith, a.place, b.place);
@@ -54,14 +76,28 @@ way-on (Segments k) (Segments l) (Bytes m) p q a b = absurd b
 way-on (Segments k) (Segments l) (Segments m) p q a b = segments-on k l m p q a b
 
 bytes-back : (k l m : Vec ℕ) (p : List ℕ) → BytesGrown k p l → BytesCut (length k.items) l m → BytesGrown k [] m
-bytes-back k l m p a b = record { bytes = b.bytes ∙ ap (λ z. take (length k.items) z) a.bytes ∙ take-append_seam k.items p ∙ sym (append-nil k.items); place = omega (arith, a.place, b.place) }
+bytes-back k l m p a b = record {
+  bytes = b.bytes ∙ ap (λ z. take (length k.items) z) a.bytes
+      ∙ take-append_seam k.items p ∙ sym (append-nil k.items);
+  place = omega (arith, a.place, b.place);
+}
 
-segments-back : (k l m : Vec (Bor (List ℕ))) (p : List ℕ) → SegmentsGrown k p l → SegmentsCut (length k.items) l m → SegmentsGrown k [] m
+segments-back : (k l m : Vec (Bor (List ℕ))) (p : List ℕ) → SegmentsGrown k p l → SegmentsCut (length k.items) l m
+    → SegmentsGrown k [] m
 segments-back k l m p a b =
-    let many : length k.items ≡ length (lent_pieces k.items) = sym (length-map k.items (λ x. x.now)) in
-    let same : lent_pieces m.items ≡ lent_pieces k.items
-    = ap lent_pieces b.segments ∙ sym (take-map (λ x. x.now) (length k.items) l.items) ∙ ap (λ z. take (length k.items) z) a.pieces ∙ ap (λ n. take n (lent_pieces k.items ++ a.more)) many ∙ take-append_seam (lent_pieces k.items) a.more in
-    record { more = []; pieces = same ∙ sym (append-nil (lent_pieces k.items)); bytes = refl; full = refl; place = omega (arith, a.place, b.place) }
+    let many : length k.items ≡ length (lent_segments k.items) = sym (length-map k.items (λ x. x.now)) in
+    let same : lent_segments m.items ≡ lent_segments k.items
+    = ap lent_segments b.segments ∙ sym (take-map (λ x. x.now) (length k.items) l.items)
+    ∙ ap (λ z. take (length k.items) z) a.segments ∙ ap (λ n. take n (lent_segments k.items ++ a.more)) many
+    ∙ take-append_seam (lent_segments k.items) a.more in
+    record {
+      more = [];
+      segments = same ∙ sym (append-nil (lent_segments k.items));
+      bytes = refl;
+      full = refl;
+      place
+          = omega (arith, a.place, b.place);
+    }
 
 pub way-back : (s t u : Kept) (p : List ℕ) → WayGrown s p t → WayCut (way_mark s) t u → WayGrown s [] u
 way-back Untold Untold Untold p a b = tt

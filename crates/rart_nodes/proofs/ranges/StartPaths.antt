@@ -1,92 +1,161 @@
 -- The levels that a walk keeps on its way down to a start.
-use Rattle.std.proofs.Common.{◌≡◌, ℕ, suc, ◌+◌, ◌<◌, ◌≤◌, ⊎_elim, true, false, cond, eqb, ltb, List, [], ◌∷◌, ◌++◌, length, length-append, reverse, Option, Some, None, refl, sym, ap, ◌∙◌, arith}
+use Rattle.std.proofs.Common.{◌≡◌, ℕ, suc, ◌+◌, ◌<◌, ◌≤◌, ⊎_elim, true, false, cond, eqb, ltb, List, [], ◌∷◌, ◌++◌}
+use Rattle.std.proofs.Common.{length, length-append, reverse, Option, Some, None, refl, sym, ap, ◌∙◌, arith}
 use Rattle.std.proofs.lemmas.List.{length-reverse, take_all}
 use Rattle.rart_keys.specs.SortedMap.{longest_key}
 use Rattle.rart_parts.specs.Entries.{entries_above}
 use Rattle.rart_nodes.specs.ranges.Starts.{children_above}
 use Rattle.rart_nodes.specs.tries.CanonicalTest.{is_canonical}
-use Rattle.rart_nodes.specs.tries.Trie.{Trie, node, Children, no_children, child, children_in, children_pairs, pairs_of, prefix_of, child_of, child_in, AreCanonical}
+use Rattle.rart_nodes.specs.tries.Trie.{Trie, node, Children, no_children, child, children_in, children_pairs, pairs_of}
+use Rattle.rart_nodes.specs.tries.Trie.{prefix_of, child_of, child_in, AreCanonical}
 use Rattle.rart_nodes.specs.tries.TrieCode.{as_children}
-use Rattle.rart_nodes.specs.walks.Tour.{Pieces, Grown, IsShort, Level, IsTour, behind_pieces, children_stops, stops_below}
+use Rattle.rart_nodes.specs.walks.Walk.{SegmentList, Grown, IsShort, Level, IsWalk, segments_after, children_entries}
+use Rattle.rart_nodes.specs.walks.Walk.{entries_below}
 use Rattle.rart_nodes.proofs.tries.CanonicalTests.{IsCanonical-test, longest_key-append, canonical-lower}
 use Rattle.rart_nodes.proofs.walks.PartLemmas.{child-deep}
 use Rattle.rart_nodes.proofs.walks.SeenLemmas.{child-canonical, longest-of, pick}
-use Rattle.rart_nodes.proofs.walks.TourLemmas.{below-canonical, deepest, deeper, longest-below, starts-long, stops_below-same}
+use Rattle.rart_nodes.proofs.walks.WalkLemmas.{below-canonical, deepest, deeper, longest-below, starts-long}
+use Rattle.rart_nodes.proofs.walks.WalkLemmas.{entries_below-same}
 
 -- the children of a storage above a byte are those of the trie
-pub as_children-above : {V : Type 0} (b : ℕ) (es : List (ℕ × Trie V)) → as_children (entries_above b es) ≡ children_above b (as_children es)
+pub as_children-above : {V : Type 0} (b : ℕ) (es : List (ℕ × Trie V))
+    → as_children (entries_above b es) ≡ children_above b (as_children es)
 as_children-above b [] = refl
-as_children-above b (e ∷ es) = elim (ltb b e.0) as (λ z. as_children (cond z (e ∷ entries_above b es) (entries_above b es)) ≡ cond z (child e.0 e.1 (children_above b (as_children es))) (children_above b (as_children es))) [
-  | true ↦ ap (λ z. child e.0 e.1 z) (as_children-above b es)
-  | false ↦ as_children-above b es
-]
+as_children-above b (e ∷ es) = elim (ltb b e.0)
+    as (λ z. as_children (cond z (e ∷ entries_above b es) (entries_above b es))
+    ≡ cond z (child e.0 e.1 (children_above b (as_children es))) (children_above b (as_children es))) [
+      | true ↦ ap (λ z. child e.0 e.1 z) (as_children-above b es)
+      | false ↦ as_children-above b es
+    ]
 
 module _ {V : Type 0} where
   pub above-canonical : (b low : ℕ) (cs : Children V) → AreCanonical low cs → AreCanonical low (children_above b cs)
   above-canonical b low no_children w = tt
-  above-canonical b low (child c t cs) w = elim (ltb b c) as (λ z. AreCanonical low (cond z (child c t (children_above b cs)) (children_above b cs))) [
-    | true ↦ (w.0, w.1, w.2, above-canonical b (suc c) cs w.3)
-    | false ↦ canonical-lower low (suc c) (children_above b cs) (omega (arith, w.0)) (above-canonical b (suc c) cs w.3)
-  ]
+  above-canonical b low (child c t cs) w = elim (ltb b c)
+      as (λ z. AreCanonical low (cond z (child c t (children_above b cs)) (children_above b cs))) [
+        | true ↦ (w.0, w.1, w.2, above-canonical b (suc c) cs w.3)
+        | false ↦ canonical-lower low (suc c) (children_above b cs) (omega (arith, w.0))
+            (above-canonical b (suc c) cs w.3)
+      ]
 
-  above-short : (b : ℕ) (cs : Children V) → longest_key (children_pairs (children_above b cs)) ≤ longest_key (children_pairs cs)
+  above-short : (b : ℕ) (cs : Children V) → longest_key (children_pairs (children_above b cs))
+      ≤ longest_key (children_pairs cs)
   above-short b no_children = omega arith
-  above-short b (child c t cs) = elim (ltb b c) as (λ z. longest_key (children_pairs (cond z (child c t (children_above b cs)) (children_above b cs))) ≤ longest_key (children_pairs (child c t cs))) [
-    | true ↦ omega (arith, longest_key-append (pairs_of t) (children_pairs (children_above b cs)), longest_key-append (pairs_of t) (children_pairs cs), above-short b cs)
-    | false ↦ omega (arith, longest_key-append (pairs_of t) (children_pairs cs), above-short b cs)
-  ]
+  above-short b (child c t cs) = elim (ltb b c)
+      as (λ z. longest_key (children_pairs (cond z (child c t (children_above b cs)) (children_above b cs)))
+      ≤ longest_key (children_pairs (child c t cs))) [
+        | true ↦ omega (
+          arith,
+          longest_key-append (pairs_of t) (children_pairs (children_above b cs)),
+          longest_key-append
+              (pairs_of t) (children_pairs cs),
+          above-short b cs,
+        )
+        | false ↦ omega (arith, longest_key-append (pairs_of t) (children_pairs cs), above-short b cs)
+      ]
 
   -- a node to which the way is kept as k, below n levels, has room
-  abbrev pub HasWay : ℕ → Pieces → ℕ → Option (Trie V) → Type 0
+  abbrev pub HasWay : ℕ → SegmentList → ℕ → Option (Trie V) → Type 0
   HasWay longest k n None = Unit {0}
-  HasWay longest k n (Some t) = (length k + longest_key (pairs_of t) ≤ longest) × (n + longest_key (children_pairs (children_in t)) ≤ longest)
+  HasWay longest k n (Some t) = (length k + longest_key (pairs_of t) ≤ longest)
+      × (n + longest_key (children_pairs (children_in t)) ≤ longest)
 
-  child-long : (b low : ℕ) (u : Trie V) (cs : Children V) → AreCanonical low cs → child_of b cs ≡ Some u → is_canonical u ≡ true → longest_key (children_pairs (children_in u)) + 1 ≤ longest_key (pairs_of u)
+  child-long : (b low : ℕ) (u : Trie V) (cs : Children V) → AreCanonical low cs → child_of b cs ≡ Some u
+      → is_canonical u ≡ true → longest_key (children_pairs (children_in u)) + 1 ≤ longest_key (pairs_of u)
   child-long b low u no_children w e i = absurd (cc)
   child-long b low u (child c t cs) w e i = ⊎_elim
-      (λ q. omega (arith, longest-below u (IsCanonical-test u i), starts-long c (prefix_of t) w.1, ap (λ x. length (prefix_of x)) q))
+      (λ q. omega (
+        arith,
+        longest-below u (IsCanonical-test u i),
+        starts-long c (prefix_of t) w.1,
+        ap
+            (λ x. length (prefix_of x)) q,
+      ))
       (λ q. child-long b (suc c) u cs w.3 q i) (pick (eqb c b) t u (child_of b cs) e)
 
-  pub way-on : (g : Grown) (longest b : ℕ) (k k1 : Pieces) (t : Trie V) (o : Option (Trie V)) (st st1 : List (Level V)) (l : Level V) → IsShort g → is_canonical t ≡ true → HasWay longest k (length st) (Some t)
+  pub way-on : (g : Grown) (longest b : ℕ) (k k1 : SegmentList) (t : Trie V) (o : Option (Trie V))
+      (st st1 : List (Level V)) (l : Level V) → IsShort g → is_canonical t ≡ true
+      → HasWay longest k (length st) (Some t)
       → k1 ≡ k ++ g (prefix_of t) → st1 ≡ st ++ l ∷ [] → o ≡ child_in b t → HasWay longest k1 (length st1) o
   way-on g longest b k k1 t None st st1 l s c w i f e = tt
   way-on g longest b k k1 (node p v m cs) (Some u) st st1 l s c w i f e = (
     omega (arith, w.0, child-deep (node p v m cs) b (Some u) c (sym e), ap length i, length-append k (g p), s p),
-    omega (arith, w.1, longest-of b u cs (sym e), child-long b 0 u cs (IsCanonical-test (node p v m cs) c).2 (sym e) (child-canonical b (node p v m cs) u c (sym e)), ap length f, length-append st (l ∷ [])),
+    omega (
+      arith,
+      w.1,
+      longest-of b u cs (sym e),
+      child-long b 0 u cs (IsCanonical-test (node p v m cs) c).2 (sym e)
+          (child-canonical b (node p v m cs) u c (sym e)),
+      ap length f,
+      length-append st (l ∷ []),
+    ),
   )
 
-  -- a level of some of its children comes behind the others
-  pub record Deepened (g : Grown) (longest places : ℕ) (k k1 : Pieces) (ls ms : List (Level V)) (cs : Children V) : Type 0 where
-    pub path : IsTour longest places k1 ms
-    pub still : stops_below g k1 ms ≡ behind_pieces k1 (children_stops g cs) ++ stops_below g k ls
+  -- a level of some of its children comes after the others
+  pub record Deepened (g : Grown) (longest places : ℕ) (k k1 : SegmentList) (ls ms : List (Level V))
+      (cs : Children V) : Type 0 where
+    pub path : IsWalk longest places k1 ms
+    pub still : entries_below g k1 ms ≡ segments_after k1 (children_entries g cs) ++ entries_below g k ls
 
-  deepened-at : (g : Grown) (longest places : ℕ) (k p : Pieces) (t : Trie V) (cs : Children V) (ls : List (Level V)) → IsShort g → is_canonical t ≡ true → IsTour longest places k ls → longest < places
-      → HasWay longest k (length ls) (Some t) → p ≡ g (prefix_of t) → AreCanonical 0 cs → longest_key (children_pairs cs) ≤ longest_key (children_pairs (children_in t))
+  deepened-at : (g : Grown) (longest places : ℕ) (k p : SegmentList) (t : Trie V) (cs : Children V)
+      (ls : List (Level V)) → IsShort g → is_canonical t ≡ true → IsWalk longest places k ls → longest < places
+      → HasWay longest k (length ls) (Some t) → p ≡ g (prefix_of t) → AreCanonical 0 cs
+      → longest_key (children_pairs cs) ≤ longest_key (children_pairs (children_in t))
       → Deepened g longest places k (k ++ p) ls ((cs, length (k ++ p)) ∷ ls) cs
   deepened-at g longest places k p t cs ls s c q r w i a l =
-      let n : length (k ++ p) ≤ length k + length (prefix_of t) = omega (arith, length-append k p, ap length i, s (prefix_of t)) in
+      let n : length (k ++ p) ≤ length k + length (prefix_of t)
+      = omega (arith, length-append k p, ap length i, s (prefix_of t)) in
       let below = longest-below t (IsCanonical-test t c) in
       let more : length k ≤ length (k ++ p) = omega (arith, length-append k p) in
       record {
-        path = record { stations = (omega arith, a, omega (arith, n, below, w.0, l), omega (arith, w.1, l), deeper longest (length k) (length (k ++ p)) ls more q.stations); room = r; short = omega (arith, n, below, w.0) };
-        still = rw (take_all (length (k ++ p)) (k ++ p) (omega arith)) (ap (λ z. behind_pieces (k ++ p) (children_stops g cs) ++ z)
-            (sym (ap (λ z. stops_below g (z ++ p) ls) (take_all (length k) k (omega arith))) ∙ stops_below-same g longest (length k) (length k) k p ls q.stations (omega arith) (omega arith)));
+        path = record {
+          stations = (
+            omega arith,
+            a,
+            omega (arith, n, below, w.0, l),
+            omega (arith, w.1, l),
+            deeper
+                longest (length k) (length (k ++ p)) ls more q.stations,
+          );
+          room = r;
+          short = omega (arith, n, below, w.0);
+        };
+        still = rw (take_all (length (k ++ p)) (k ++ p) (omega arith))
+            (ap (λ z. segments_after (k ++ p) (children_entries g cs) ++ z)
+            (sym (ap (λ z. entries_below g (z ++ p) ls) (take_all (length k) k (omega arith)))
+            ∙ entries_below-same g longest (length k) (length k) k p ls q.stations (omega arith) (omega arith)));
       }
 
-  pub deepened : (g : Grown) (longest places places1 n : ℕ) (k k1 : Pieces) (t : Trie V) (cs : Children V) (st st1 : List (Level V)) → IsShort g → is_canonical t ≡ true → IsTour longest places k (reverse st) → longest < places
-      → HasWay longest k n (Some t) → n ≡ length st → k1 ≡ k ++ g (prefix_of t) → AreCanonical 0 cs → longest_key (children_pairs cs) ≤ longest_key (children_pairs (children_in t))
-      → st1 ≡ st ++ (cs, length k1) ∷ [] → places1 ≡ places → Deepened g longest places1 k k1 (reverse st) (reverse st1) cs
+  pub deepened : (g : Grown) (longest places places1 n : ℕ) (k k1 : SegmentList) (t : Trie V) (cs : Children V)
+      (st st1 : List (Level V)) → IsShort g → is_canonical t ≡ true → IsWalk longest places k (reverse st)
+      → longest < places
+      → HasWay longest k n (Some t) → n ≡ length st → k1 ≡ k ++ g (prefix_of t) → AreCanonical 0 cs
+      → longest_key (children_pairs cs) ≤ longest_key (children_pairs (children_in t))
+      → st1 ≡ st ++ (cs, length k1) ∷ [] → places1 ≡ places
+      → Deepened g longest places1 k k1 (reverse st) (reverse st1) cs
   deepened g longest places places1 n k k1 t cs st st1 s c q r w m i a l e f =
       let h : HasWay longest k (length (reverse st)) (Some t) = (w.0, omega (arith, w.1, m, length-reverse st)) in
-      rw (deepest st1 st (cs, length k1) e, f, i) (deepened-at g longest places k (g (prefix_of t)) t cs (reverse st) s c q r h refl a l)
+      rw (deepest st1 st (cs, length k1) e, f, i)
+      (deepened-at g longest places k (g (prefix_of t)) t cs (reverse st) s c q r h refl a l)
 
   -- all children of the node, or those above a byte
-  pub all-deepened : (g : Grown) (longest places places1 : ℕ) (k k1 : Pieces) (t : Trie V) (cs : Children V) (st st1 : List (Level V)) → IsShort g → is_canonical t ≡ true → IsTour longest places k (reverse st) → longest < places
-      → HasWay longest k (length st) (Some t) → k1 ≡ k ++ g (prefix_of t) → cs ≡ children_in t → st1 ≡ st ++ (cs, length k1) ∷ [] → places1 ≡ places → Deepened g longest places1 k k1 (reverse st) (reverse st1) cs
+  pub all-deepened : (g : Grown) (longest places places1 : ℕ) (k k1 : SegmentList) (t : Trie V) (cs : Children V)
+      (st st1 : List (Level V)) → IsShort g → is_canonical t ≡ true → IsWalk longest places k (reverse st)
+      → longest < places
+      → HasWay longest k (length st) (Some t) → k1 ≡ k ++ g (prefix_of t) → cs ≡ children_in t
+      → st1 ≡ st ++ (cs, length k1) ∷ [] → places1 ≡ places
+      → Deepened g longest places1 k k1 (reverse st) (reverse st1) cs
   all-deepened g longest places places1 k k1 t cs st st1 s c q r w i a e f =
-      deepened g longest places places1 (length st) k k1 t cs st st1 s c q r w refl i (rw a (below-canonical t (IsCanonical-test t c))) (rw a (omega arith)) e f
+      deepened g longest places places1 (length st) k k1 t cs st st1 s c q r w refl i
+      (rw a (below-canonical t (IsCanonical-test t c))) (rw a (omega arith)) e f
 
-  pub some-deepened : (g : Grown) (longest places places1 b : ℕ) (k k1 : Pieces) (t : Trie V) (cs : Children V) (st st1 : List (Level V)) → IsShort g → is_canonical t ≡ true → IsTour longest places k (reverse st) → longest < places
-      → HasWay longest k (length st) (Some t) → k1 ≡ k ++ g (prefix_of t) → cs ≡ children_above b (children_in t) → st1 ≡ st ++ (cs, length k1) ∷ [] → places1 ≡ places → Deepened g longest places1 k k1 (reverse st) (reverse st1) cs
+  pub some-deepened : (g : Grown) (longest places places1 b : ℕ) (k k1 : SegmentList) (t : Trie V) (cs : Children V)
+      (st st1 : List (Level V)) → IsShort g → is_canonical t ≡ true → IsWalk longest places k (reverse st)
+      → longest < places
+      → HasWay longest k (length st) (Some t) → k1 ≡ k ++ g (prefix_of t) → cs ≡ children_above b (children_in t)
+      → st1 ≡ st ++ (cs, length k1) ∷ [] → places1 ≡ places
+      → Deepened g longest places1 k k1 (reverse st) (reverse st1) cs
   some-deepened g longest places places1 b k k1 t cs st st1 s c q r w i a e f =
-      deepened g longest places places1 (length st) k k1 t cs st st1 s c q r w refl i (rw a (above-canonical b 0 (children_in t) (below-canonical t (IsCanonical-test t c)))) (rw a (above-short b (children_in t))) e f
+      deepened g longest places places1 (length st) k k1 t cs st st1 s c q r w refl i
+      (rw a (above-canonical b 0 (children_in t) (below-canonical t (IsCanonical-test t c))))
+      (rw a (above-short b (children_in t))) e f

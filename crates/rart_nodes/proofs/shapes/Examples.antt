@@ -30,20 +30,24 @@ empty_key = refl
 empty_key_and_a : nodes_after (puts [] 0 ∷ puts (97 ∷ []) 1 ∷ []) ≡ ([], inner true (97 ∷ []) 4) ∷ (97 ∷ [], leaf) ∷ []
 empty_key_and_a = refl
 
--- a split, with the key's end at the split and behind it
-split_at_end : nodes_after (puts (1 ∷ 2 ∷ 3 ∷ []) 7 ∷ puts (1 ∷ []) 5 ∷ []) ≡ (1 ∷ [], inner true (2 ∷ []) 4) ∷ (1 ∷ 2 ∷ 3 ∷ [], leaf) ∷ []
+-- a split, with the key's end at the split and after it
+split_at_end : nodes_after (puts (1 ∷ 2 ∷ 3 ∷ []) 7 ∷ puts (1 ∷ []) 5 ∷ [])
+    ≡ (1 ∷ [], inner true (2 ∷ []) 4) ∷ (1 ∷ 2 ∷ 3 ∷ [], leaf) ∷ []
 split_at_end = refl
 
-split_and_on : nodes_after (puts (1 ∷ 2 ∷ 3 ∷ []) 7 ∷ puts (1 ∷ 2 ∷ 1 ∷ []) 5 ∷ []) ≡ (1 ∷ 2 ∷ [], inner false (1 ∷ 3 ∷ []) 4) ∷ (1 ∷ 2 ∷ 1 ∷ [], leaf) ∷ (1 ∷ 2 ∷ 3 ∷ [], leaf) ∷ []
+split_and_on : nodes_after (puts (1 ∷ 2 ∷ 3 ∷ []) 7 ∷ puts (1 ∷ 2 ∷ 1 ∷ []) 5 ∷ [])
+    ≡ (1 ∷ 2 ∷ [], inner false (1 ∷ 3 ∷ []) 4) ∷ (1 ∷ 2 ∷ 1 ∷ [], leaf) ∷ (1 ∷ 2 ∷ 3 ∷ [], leaf) ∷ []
 split_and_on = refl
 
 -- a removal that merges: the node with no value and one child goes
-merged : nodes_after (puts (1 ∷ 2 ∷ 3 ∷ []) 7 ∷ puts (1 ∷ 2 ∷ 4 ∷ []) 9 ∷ puts (1 ∷ []) 5 ∷ puts (6 ∷ []) 5 ∷ removes (6 ∷ []) ∷ removes (1 ∷ []) ∷ [])
+merged : nodes_after (puts (1 ∷ 2 ∷ 3 ∷ []) 7 ∷ puts (1 ∷ 2 ∷ 4 ∷ []) 9 ∷ puts (1 ∷ []) 5 ∷ puts (6 ∷ []) 5
+    ∷ removes (6 ∷ []) ∷ removes (1 ∷ []) ∷ [])
     ≡ (1 ∷ 2 ∷ [], inner false (3 ∷ 4 ∷ []) 4) ∷ (1 ∷ 2 ∷ 3 ∷ [], leaf) ∷ (1 ∷ 2 ∷ 4 ∷ [], leaf) ∷ []
 merged = refl
 
 -- the limits of the kinds
-kinds : (capacity_of 0 ∷ capacity_of 1 ∷ capacity_of 4 ∷ capacity_of 5 ∷ capacity_of 16 ∷ capacity_of 17 ∷ capacity_of 48 ∷ capacity_of 49 ∷ capacity_of 256 ∷ [])
+kinds : (capacity_of 0 ∷ capacity_of 1 ∷ capacity_of 4 ∷ capacity_of 5 ∷ capacity_of 16 ∷ capacity_of 17
+    ∷ capacity_of 48 ∷ capacity_of 49 ∷ capacity_of 256 ∷ [])
     ≡ 0 ∷ 4 ∷ 4 ∷ 16 ∷ 16 ∷ 48 ∷ 48 ∷ 256 ∷ 256 ∷ []
 kinds = refl
 
@@ -59,7 +63,8 @@ capacity_at_root (Some r) = r.capacity
 abbrev root_of : ℕ → ℕ
 root_of n = capacity_at_root (record_at (one_byte_keys n) [])
 
-roots : (root_of 4 ∷ root_of 5 ∷ root_of 16 ∷ root_of 17 ∷ root_of 48 ∷ root_of 49 ∷ root_of 256 ∷ []) ≡ 4 ∷ 16 ∷ 16 ∷ 48 ∷ 48 ∷ 256 ∷ 256 ∷ []
+roots : (root_of 4 ∷ root_of 5 ∷ root_of 16 ∷ root_of 17 ∷ root_of 48 ∷ root_of 49 ∷ root_of 256 ∷ [])
+    ≡ 4 ∷ 16 ∷ 16 ∷ 48 ∷ 48 ∷ 256 ∷ 256 ∷ []
 roots = refl
 
 -- one key is no branch below it, and its beginnings are none
@@ -67,19 +72,25 @@ one_key : record_at ((1 ∷ 2 ∷ []) ∷ []) (1 ∷ []) ≡ None
 one_key = refl
 
 -- an insertion asks at 4, 16 and 48 children, and not between; at a node that stands, and in an empty tree, never
-asks : (insert_asks (one_byte_keys 3) (9 ∷ []) ∷ insert_asks (one_byte_keys 4) (9 ∷ []) ∷ insert_asks (one_byte_keys 5) (9 ∷ []) ∷ insert_asks (one_byte_keys 16) (99 ∷ [])
-    ∷ insert_asks (one_byte_keys 17) (99 ∷ []) ∷ insert_asks (one_byte_keys 48) (99 ∷ []) ∷ insert_asks (one_byte_keys 49) (99 ∷ []) ∷ []) ≡ false ∷ true ∷ false ∷ true ∷ false ∷ true ∷ false ∷ []
+asks : (insert_asks (one_byte_keys 3) (9 ∷ []) ∷ insert_asks (one_byte_keys 4) (9 ∷ []) ∷ insert_asks (one_byte_keys 5)
+    (9 ∷ []) ∷ insert_asks (one_byte_keys 16) (99 ∷ [])
+    ∷ insert_asks (one_byte_keys 17) (99 ∷ []) ∷ insert_asks (one_byte_keys 48) (99 ∷ [])
+    ∷ insert_asks (one_byte_keys 49) (99 ∷ []) ∷ []) ≡ false ∷ true ∷ false ∷ true ∷ false ∷ true ∷ false ∷ []
 asks = refl
 
-asks_not : (insert_asks [] (1 ∷ []) ∷ insert_asks (one_byte_keys 4) [] ∷ insert_asks (one_byte_keys 4) (3 ∷ []) ∷ []) ≡ false ∷ false ∷ false ∷ []
+asks_not : (insert_asks [] (1 ∷ []) ∷ insert_asks (one_byte_keys 4) [] ∷ insert_asks (one_byte_keys 4) (3 ∷ []) ∷ [])
+    ≡ false ∷ false ∷ false ∷ []
 asks_not = refl
 
-asks_split : (insert_asks ((1 ∷ 2 ∷ []) ∷ []) (1 ∷ 3 ∷ []) ∷ insert_asks ((1 ∷ 2 ∷ []) ∷ []) (1 ∷ []) ∷ insert_asks ((1 ∷ []) ∷ []) (1 ∷ 2 ∷ []) ∷ []) ≡ true ∷ true ∷ true ∷ []
+asks_split : (insert_asks ((1 ∷ 2 ∷ []) ∷ []) (1 ∷ 3 ∷ []) ∷ insert_asks ((1 ∷ 2 ∷ []) ∷ []) (1 ∷ [])
+    ∷ insert_asks ((1 ∷ []) ∷ []) (1 ∷ 2 ∷ []) ∷ []) ≡ true ∷ true ∷ true ∷ []
 asks_split = refl
 
 -- a removal asks from 5, 17 and 49 children
-removal_asks : (remove_asks (one_byte_keys 4) (3 ∷ []) ∷ remove_asks (one_byte_keys 5) (3 ∷ []) ∷ remove_asks (one_byte_keys 6) (3 ∷ []) ∷ remove_asks (one_byte_keys 17) (3 ∷ [])
-    ∷ remove_asks (one_byte_keys 49) (3 ∷ []) ∷ remove_asks (one_byte_keys 5) (9 ∷ []) ∷ []) ≡ false ∷ true ∷ false ∷ true ∷ true ∷ false ∷ []
+removal_asks : (remove_asks (one_byte_keys 4) (3 ∷ []) ∷ remove_asks (one_byte_keys 5) (3 ∷ [])
+    ∷ remove_asks (one_byte_keys 6) (3 ∷ []) ∷ remove_asks (one_byte_keys 17) (3 ∷ [])
+    ∷ remove_asks (one_byte_keys 49) (3 ∷ []) ∷ remove_asks (one_byte_keys 5) (9 ∷ []) ∷ [])
+    ≡ false ∷ true ∷ false ∷ true ∷ true ∷ false ∷ []
 removal_asks = refl
 
 -- the visits of a look-up
@@ -95,12 +106,15 @@ visits-root = refl
 pub visits-no_keys : (k : List ℕ) → probe_count [] k ≡ 0
 visits-no_keys k = refl
 
--- keys are cut at each branch point that begins them: "ab", "abcd" and "abce" at "ab" and "abc"; a lone key and the empty one aren't
+-- keys are cut at each branch point that begins them: "ab", "abcd" and "abce" at "ab" and "abc"; a lone key and the
+-- empty one aren't
 abbrev branched : List (List ℕ)
 branched = (97 ∷ 98 ∷ []) ∷ (97 ∷ 98 ∷ 99 ∷ 100 ∷ []) ∷ (97 ∷ 98 ∷ 99 ∷ 101 ∷ []) ∷ []
 
-cuts : (cut branched (97 ∷ 98 ∷ 99 ∷ 100 ∷ []) ≡ (97 ∷ 98 ∷ []) ∷ (99 ∷ []) ∷ (100 ∷ []) ∷ []) × (cut branched (97 ∷ 98 ∷ []) ≡ (97 ∷ 98 ∷ []) ∷ [])
-    × (cut ((97 ∷ 98 ∷ []) ∷ []) (97 ∷ 98 ∷ []) ≡ (97 ∷ 98 ∷ []) ∷ []) × (cut ([] ∷ (97 ∷ []) ∷ []) [] ≡ []) × (cut ([] ∷ (97 ∷ []) ∷ []) (97 ∷ []) ≡ (97 ∷ []) ∷ [])
+cuts : (cut branched (97 ∷ 98 ∷ 99 ∷ 100 ∷ []) ≡ (97 ∷ 98 ∷ []) ∷ (99 ∷ []) ∷ (100 ∷ []) ∷ [])
+    × (cut branched (97 ∷ 98 ∷ []) ≡ (97 ∷ 98 ∷ []) ∷ [])
+    × (cut ((97 ∷ 98 ∷ []) ∷ []) (97 ∷ 98 ∷ []) ≡ (97 ∷ 98 ∷ []) ∷ []) × (cut ([] ∷ (97 ∷ []) ∷ []) [] ≡ [])
+    × (cut ([] ∷ (97 ∷ []) ∷ []) (97 ∷ []) ≡ (97 ∷ []) ∷ [])
 cuts = (refl, refl, refl, refl, refl)
 
 -- the visits of an intersection

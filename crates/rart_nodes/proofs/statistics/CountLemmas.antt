@@ -1,10 +1,12 @@
 -- What the count of a tree's nodes keeps, node by node.
-use Rattle.std.proofs.Common.{◌≡◌, ℕ, ◌+◌, ◌*◌, ◌<◌, ◌≤◌, ◌==◌, ⊎_elim, Bool, true, false, List, [], ◌∷◌, length, refl, sym, ap, ◌∙◌, arith, Option, is_some}
+use Rattle.std.proofs.Common.{◌≡◌, ℕ, ◌+◌, ◌*◌, ◌<◌, ◌≤◌, ◌==◌, ⊎_elim, Bool, true, false, List, [], ◌∷◌, length, refl}
+use Rattle.std.proofs.Common.{sym, ap, ◌∙◌, arith, Option, is_some}
 use Rattle.std.specs.Ordering.{nat_cmp, ord_max}
 use Rattle.std.specs.Prelude.{max}
 use Rattle.std.proofs.lemmas.Bool.Decides.{nat_tests}
 use Rattle.rart_nodes.specs.declared.stats.counts.Counts.{Counts}
-use Rattle.rart_nodes.specs.statistics.CountedNodes.{width_count_of, counts_of_node, counts_by, counts_added, counts_in, counts_in_children, counts_sum}
+use Rattle.rart_nodes.specs.statistics.CountedNodes.{width_count_of, counts_of_node, counts_by, counts_added, counts_in}
+use Rattle.rart_nodes.specs.statistics.CountedNodes.{counts_in_children, counts_sum}
 use Rattle.rart_nodes.specs.statistics.Statistics.{one_if, trie_height, children_height}
 use Rattle.rart_nodes.specs.tries.Trie.{Trie, node, Children, no_children, child, edges_of}
 use Rattle.rart_nodes.specs.tries.TrieCode.{as_children, node_count, child_count}
@@ -12,7 +14,8 @@ use Rattle.rart_keys.proofs.ByteOrder.{order, is_less, is_equal, is_greater}
 use Rattle.rart_nodes.proofs.storages.ChildLemmas.{edges_of-length}
 
 pub max-numbers : (a b : ℕ) → ord_max nat_cmp a b ≡ max a b
-max-numbers a b = ⊎_elim (λ h. rw (is_less b a h) (omega arith)) (⊎_elim (λ h. rw (is_equal b a h) (omega arith)) (λ h. rw (is_greater b a h) (omega arith))) (order b a)
+max-numbers a b = ⊎_elim (λ h. rw (is_less b a h) (omega arith))
+    (⊎_elim (λ h. rw (is_equal b a h) (omega arith)) (λ h. rw (is_greater b a h) (omega arith))) (order b a)
 
 add-assoc : (a b c : ℕ) → (a + b) + c ≡ a + (b + c)
 add-assoc a b c = omega arith
@@ -52,7 +55,8 @@ module _ {V : Type 0} where
     pub few-counted : (t : Trie V) → counts_sum (counts_in t) + 1 ≤ 4 * node_count t
     few-counted (node p v n cs) = omega (arith, few-own (is_some v) n (length (edges_of cs)), few-counted-children cs)
 
-    few-counted-children : (cs : Children V) → counts_sum (counts_in_children cs) + length (edges_of cs) ≤ 4 * child_count cs
+    few-counted-children : (cs : Children V) → counts_sum (counts_in_children cs) + length (edges_of cs)
+        ≤ 4 * child_count cs
     few-counted-children no_children = omega arith
     few-counted-children (child b t cs) = omega (arith, few-counted t, few-counted-children cs)
 
@@ -60,24 +64,40 @@ module _ {V : Type 0} where
   -- `before` with what t adds, and no sum passes 4 for each node
   pub record Counting (before counts : Counts) (below : ℕ) (t : Trie V) (es : List (ℕ × Trie V)) : Type 0 where
     pub counted : counts_added counts (counts_in_children (as_children es)) ≡ counts_added before (counts_in t)
-    pub fits : counts_sum counts + 4 * child_count (as_children es) + 1 ≤ counts_sum before + 4 * node_count t + length es
+    pub fits : counts_sum counts + 4 * child_count (as_children es) + 1 ≤ counts_sum before + 4 * node_count t
+        + length es
     pub fewer : child_count (as_children es) < node_count t
     pub tall : 1 + max below (children_height (as_children es)) ≡ trie_height t
 
-  pub count-start : (before counts : Counts) (p : List ℕ) (v : Option V) (n k : ℕ) (es stored : List (ℕ × Trie V)) → as_children es ≡ as_children stored → k ≡ length stored →
+  pub count-start : (before counts : Counts) (p : List ℕ) (v : Option V) (n k : ℕ) (es stored : List (ℕ × Trie V))
+      → as_children es ≡ as_children stored → k ≡ length stored →
       counts ≡ counts_added before (counts_of_node (is_some v) n k) →
       Counting before counts 0 (node p v n (as_children stored)) es
   count-start before counts p v n k es stored s l e =
-      let own : counts_of_node (is_some v) n k ≡ counts_of_node (is_some v) n (length (edges_of (as_children stored))) = ap (counts_of_node (is_some v) n) (l ∙ sym (edges_of-length stored)) in
+      let own : counts_of_node (is_some v) n k ≡ counts_of_node (is_some v) n (length (edges_of (as_children stored)))
+      = ap (counts_of_node (is_some v) n) (l ∙ sym (edges_of-length stored)) in
       record {
-        counted = rw (e, s) (added-assoc before (counts_of_node (is_some v) n k) (counts_in_children (as_children stored)) ∙ ap (λ o. counts_added before (counts_added o (counts_in_children (as_children stored)))) own);
-        fits = rw s (omega (arith, l, sym (edges_of-length es) ∙ ap (λ cs. length (edges_of cs)) s ∙ edges_of-length stored, ap counts_sum e, sum-added before (counts_of_node (is_some v) n k), few-own (is_some v) n k));
+        counted = rw (e, s) (added-assoc before (counts_of_node (is_some v) n k)
+            (counts_in_children (as_children stored))
+            ∙ ap (λ o. counts_added before (counts_added o (counts_in_children (as_children stored)))) own);
+        fits = rw s (omega (
+          arith,
+          l,
+          sym (edges_of-length es) ∙ ap (λ cs. length (edges_of cs)) s
+              ∙ edges_of-length stored,
+          ap counts_sum e,
+          sum-added before (counts_of_node (is_some v) n k),
+          few-own
+              (is_some v) n k,
+        ));
         fewer = rw s (omega arith);
         tall = rw s (omega arith);
       }
 
-  pub count-step : (before counts after : Counts) (below height : ℕ) (t u : Trie V) (b : ℕ) (es rest : List (ℕ × Trie V)) → es ≡ (b, u) ∷ rest →
-      after ≡ counts_added counts (counts_in u) → height ≡ max below (trie_height u) → Counting before counts below t es → Counting before after height t rest
+  pub count-step : (before counts after : Counts) (below height : ℕ) (t u : Trie V) (b : ℕ)
+      (es rest : List (ℕ × Trie V)) → es ≡ (b, u) ∷ rest →
+      after ≡ counts_added counts (counts_in u) → height ≡ max below (trie_height u) → Counting before counts below t es
+      → Counting before after height t rest
   count-step before counts after below height t u b es rest s e m i =
       let counted = rw s at i.counted in
       let fits = rw s at i.fits in
@@ -91,8 +111,10 @@ module _ {V : Type 0} where
       }
 
   -- a child that comes next leaves room, and is smaller
-  pub count-room : (before counts : Counts) (below : ℕ) (t u : Trie V) (b : ℕ) (es rest : List (ℕ × Trie V)) → es ≡ (b, u) ∷ rest →
-      Counting before counts below t es → (counts_sum counts + 4 * node_count u ≤ counts_sum before + 4 * node_count t) × (node_count u < node_count t)
+  pub count-room : (before counts : Counts) (below : ℕ) (t u : Trie V) (b : ℕ) (es rest : List (ℕ × Trie V))
+      → es ≡ (b, u) ∷ rest →
+      Counting before counts below t es → (counts_sum counts + 4 * node_count u ≤ counts_sum before + 4 * node_count t)
+      × (node_count u < node_count t)
   count-room before counts below t u b es rest s i =
       let fits = rw s at i.fits in
       let fewer = rw s at i.fewer in
@@ -106,7 +128,8 @@ module _ {V : Type 0} where
       (none-added counts ∙ counted, omega (arith, tall))
 
   -- a node leaves room for itself, and is as high as it has nodes at most
-  pub own-room : (p : List ℕ) (v : Option V) (n : ℕ) (es : List (ℕ × Trie V)) → 3 + length es ≤ 4 * node_count (node p v n (as_children es))
+  pub own-room : (p : List ℕ) (v : Option V) (n : ℕ) (es : List (ℕ × Trie V))
+      → 3 + length es ≤ 4 * node_count (node p v n (as_children es))
   own-room p v n es = omega (arith, few-edges (as_children es), edges_of-length es)
 
   mutual

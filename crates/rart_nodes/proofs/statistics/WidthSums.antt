@@ -3,7 +3,8 @@ use Rattle.std.proofs.Common.{◌≡◌, ℕ, ◌+◌, ◌*◌, ◌≤◌, ◌�
 use Rattle.std.proofs.lemmas.Bool.Decides.{nat_tests}
 use Rattle.std.proofs.lemmas.List.{length-map}
 use Rattle.rart_nodes.specs.shapes.Shape.{capacity_of}
-use Rattle.rart_nodes.specs.tries.Trie.{Trie, node, Children, no_children, child, pairs_of, children_pairs, edges_of, own_pair, IsCanonical, AreCanonical}
+use Rattle.rart_nodes.specs.tries.Trie.{Trie, node, Children, no_children, child, pairs_of, children_pairs, edges_of}
+use Rattle.rart_nodes.specs.tries.Trie.{own_pair, IsCanonical, AreCanonical}
 use Rattle.rart_nodes.specs.statistics.Statistics.{width_at, sum_in, sum_in_children}
 use Rattle.rart_nodes.proofs.tries.NodeCounts.{length-own_pair, two-edges}
 
@@ -14,8 +15,16 @@ module _ {V : Type 0} where
   mutual
     pub few_widths : (t : Trie V) → IsCanonical t → sum_in width_at t + 16 ≤ 16 * length (pairs_of t)
     few_widths (node p v n cs) w = simp (length-map, length-append)
-        (omega (arith, w.1, few_widths-children 0 cs w.2, few-places (length (edges_of cs)) (length (own_pair v)) (⊎_elim (λ h. inl (length-own_pair v h)) (λ h. inr (two-edges cs h)) w.0)))
+        (omega (
+          arith,
+          w.1,
+          few_widths-children 0 cs w.2,
+          few-places (length (edges_of cs)) (length (own_pair v))
+              (⊎_elim (λ h. inl (length-own_pair v h)) (λ h. inr (two-edges cs h)) w.0),
+        ))
 
-    few_widths-children : (low : ℕ) (cs : Children V) → AreCanonical low cs → sum_in_children width_at cs + 16 * length (edges_of cs) ≤ 16 * length (children_pairs cs)
+    few_widths-children : (low : ℕ) (cs : Children V) → AreCanonical low cs
+        → sum_in_children width_at cs + 16 * length (edges_of cs) ≤ 16 * length (children_pairs cs)
     few_widths-children low no_children w = omega arith
-    few_widths-children low (child b t cs) w = simp length-append (omega (arith, few_widths t w.2, few_widths-children _ cs w.3))
+    few_widths-children low (child b t cs) w
+        = simp length-append (omega (arith, few_widths t w.2, few_widths-children _ cs w.3))

@@ -1,10 +1,12 @@
--- A trie's children that are given as entries: what stands at a byte, and what an edit there leaves.
-use Rattle.std.proofs.Common.{◌≡◌, ℕ, suc, ◌<◌, ◌≤◌, ⊎_elim, true, false, cond, eqb, ltb, List, [], ◌∷◌, length, Some, None, refl, arith, sym, ap, ◌∙◌}
+-- A trie's children that are given as entries: what is stored at a byte, and what an edit there leaves.
+use Rattle.std.proofs.Common.{◌≡◌, ℕ, suc, ◌<◌, ◌≤◌, ⊎_elim, true, false, cond, eqb, ltb, List, [], ◌∷◌, length, Some}
+use Rattle.std.proofs.Common.{None, refl, arith, sym, ap, ◌∙◌}
 use Rattle.std.proofs.lemmas.Bool.Decides.{nat_tests}
 use Rattle.rart_keys.proofs.ByteOrder.{order, is_less, is_equal, is_greater, eq-yes, eq-no}
 use Rattle.rart_parts.specs.Entries.{child_at, with_entry, replaced}
 use Rattle.rart_parts.proofs.EntryLemmas.{length-with_entry}
-use Rattle.rart_nodes.specs.tries.Trie.{Trie, child, edges_of, IsCanonical, AreCanonical, trie_put, put_child, leaf, fork}
+use Rattle.rart_nodes.specs.tries.Trie.{Trie, child, edges_of, IsCanonical, AreCanonical, trie_put, put_child, leaf}
+use Rattle.rart_nodes.specs.tries.Trie.{aligned}
 use Rattle.rart_nodes.specs.tries.TrieCode.{as_children, node_count, child_count}
 
 lt-yes : (b c : ℕ) → b < c → ltb b c ≡ true
@@ -20,15 +22,19 @@ module _ {V : Type 0} where
 
   pub replaced-length : (b : ℕ) (t : Trie V) (es : List (ℕ × Trie V)) → length (replaced b t es) ≡ length es
   replaced-length b t [] = refl
-  replaced-length b t (e ∷ es) = elim (eqb e.0 b) as (λ z. length (cond z ((b, t) ∷ es) (e ∷ replaced b t es)) ≡ length (e ∷ es)) [ true ↦ refl | false ↦ ap suc (replaced-length b t es) ]
+  replaced-length b t (e ∷ es) = elim (eqb e.0 b) as (λ z. length (cond z ((b, t) ∷ es) (e ∷ replaced b t es))
+      ≡ length (e ∷ es)) [ true ↦ refl | false ↦ ap suc (replaced-length b t es) ]
 
-  pub with_entry-length : (b : ℕ) (t : Trie V) (es : List (ℕ × Trie V)) → None ≡ child_at b es → length (with_entry b t es) ≡ suc (length es)
+  pub with_entry-length : (b : ℕ) (t : Trie V) (es : List (ℕ × Trie V)) → None ≡ child_at b es
+      → length (with_entry b t es) ≡ suc (length es)
   with_entry-length b t es s = omega (arith, length-with_entry b t es (sym s))
 
   -- no child stands below the least byte
-  pub child_at-low : (b low : ℕ) (es : List (ℕ × Trie V)) → b < low → AreCanonical low (as_children es) → child_at b es ≡ None
+  pub child_at-low : (b low : ℕ) (es : List (ℕ × Trie V)) → b < low → AreCanonical low (as_children es)
+      → child_at b es ≡ None
   child_at-low b low [] h w = refl
-  child_at-low b low (e ∷ es) h w = rw (eq-no e.0 b (λ q. omega (arith, w.0))) (child_at-low b (suc e.0) es (omega (arith, w.0)) w.3)
+  child_at-low b low (e ∷ es) h w = rw (eq-no e.0 b (λ q. omega (arith, w.0)))
+      (child_at-low b (suc e.0) es (omega (arith, w.0)) w.3)
 
   -- how a byte stands to the first entry, where a child stands at it
   pub data Found (b : ℕ) (t : Trie V) (e : ℕ × Trie V) (es : List (ℕ × Trie V)) : Type 0 where
@@ -38,43 +44,69 @@ module _ {V : Type 0} where
   pub some-equal : (t u : Trie V) → Some t ≡ Some u → t ≡ u
   some-equal t u e = cc
 
-  pub found : (b low : ℕ) (t : Trie V) (e : ℕ × Trie V) (es : List (ℕ × Trie V)) → AreCanonical low (as_children (e ∷ es)) → Some t ≡ child_at b (e ∷ es) → Found b t e es
+  pub found : (b low : ℕ) (t : Trie V) (e : ℕ × Trie V) (es : List (ℕ × Trie V))
+      → AreCanonical low (as_children (e ∷ es)) → Some t ≡ child_at b (e ∷ es) → Found b t e es
   found b low t e es w s = ⊎_elim
       (λ h. let n = child_at-low b e.0 (e ∷ es) h (omega arith, w.1, w.2, w.3) in absurd (cc (s, n)))
-      (⊎_elim (λ h. at_first h (some-equal t e.1 (rw (eq-yes e.0 b (sym h)) at s))) (λ h. behind_first h (rw (eq-no e.0 b (λ q. omega arith)) at s))) (order b e.0)
+      (⊎_elim (λ h. at_first h (some-equal t e.1 (rw (eq-yes e.0 b (sym h)) at s)))
+      (λ h. behind_first h (rw (eq-no e.0 b (λ q. omega arith)) at s))) (order b e.0)
 
-  pub canonical-found : (b low : ℕ) (t : Trie V) (es : List (ℕ × Trie V)) → AreCanonical low (as_children es) → Some t ≡ child_at b es → IsCanonical t
+  pub canonical-found : (b low : ℕ) (t : Trie V) (es : List (ℕ × Trie V)) → AreCanonical low (as_children es)
+      → Some t ≡ child_at b es → IsCanonical t
   canonical-found b low t [] w s = absurd (cc)
-  canonical-found b low t (e ∷ es) w s = elim (found b low t e es w s) [ at_first h q ↦ rw q w.2 | behind_first h q ↦ canonical-found b (suc e.0) t es w.3 q ]
+  canonical-found b low t (e ∷ es) w s = elim (found b low t e es w s) [
+    | at_first h q ↦ rw q w.2
+    | behind_first h q ↦ canonical-found b (suc e.0) t es w.3 q
+  ]
 
-  pub count-found : (b low : ℕ) (t : Trie V) (es : List (ℕ × Trie V)) → AreCanonical low (as_children es) → Some t ≡ child_at b es → node_count t ≤ child_count (as_children es)
+  pub count-found : (b low : ℕ) (t : Trie V) (es : List (ℕ × Trie V)) → AreCanonical low (as_children es)
+      → Some t ≡ child_at b es → node_count t ≤ child_count (as_children es)
   count-found b low t [] w s = absurd (cc)
-  count-found b low t (e ∷ es) w s = elim (found b low t e es w s) [ at_first h q ↦ rw q (omega arith) | behind_first h q ↦ omega (arith, count-found b (suc e.0) t es w.3 q) ]
+  count-found b low t (e ∷ es) w s = elim (found b low t e es w s) [
+    | at_first h q ↦ rw q (omega arith)
+    | behind_first h q ↦ omega (arith, count-found b (suc e.0) t es w.3 q)
+  ]
 
-  pub put_child-found : (b low : ℕ) (k : List ℕ) (v : V) (t : Trie V) (es : List (ℕ × Trie V)) → AreCanonical low (as_children es) → Some t ≡ child_at b es → put_child b k v (as_children es) ≡ as_children (replaced b (trie_put k v t) es)
+  pub put_child-found : (b low : ℕ) (k : List ℕ) (v : V) (t : Trie V) (es : List (ℕ × Trie V))
+      → AreCanonical low (as_children es) → Some t ≡ child_at b es
+      → put_child b k v (as_children es) ≡ as_children (replaced b (trie_put k v t) es)
   put_child-found b low k v t [] w s = absurd (cc)
   put_child-found b low k v t (e ∷ es) w s = elim (found b low t e es w s) [
     | at_first h q ↦ rw (is_equal b e.0 h, eq-yes e.0 b (sym h), q, h) refl
-    | behind_first h q ↦ rw (is_greater b e.0 h, eq-no e.0 b (λ z. omega arith)) (ap (child e.0 e.1) (put_child-found b (suc e.0) k v t es w.3 q))
+    | behind_first h q ↦ rw (is_greater b e.0 h, eq-no e.0 b (λ z. omega arith))
+        (ap (child e.0 e.1) (put_child-found b (suc e.0) k v t es w.3 q))
   ]
 
   -- where no child stands
-  pub tail-none : (b : ℕ) (e : ℕ × Trie V) (es : List (ℕ × Trie V)) → None ≡ child_at b (e ∷ es) → (b ≡ e.0 → ⊥) × (None ≡ child_at b es)
-  tail-none b e es s = ⊎_elim (λ h. (λ q. let f = rw (eq-yes e.0 b (sym q)) at s in cc, rw (eq-no e.0 b (λ q. omega arith)) at s))
-      (⊎_elim (λ h. let f = rw (eq-yes e.0 b (sym h)) at s in absurd (cc)) (λ h. (λ q. omega arith, rw (eq-no e.0 b (λ q. omega arith)) at s))) (order b e.0)
+  pub tail-none : (b : ℕ) (e : ℕ × Trie V) (es : List (ℕ × Trie V)) → None ≡ child_at b (e ∷ es) → (b ≡ e.0 → ⊥)
+      × (None ≡ child_at b es)
+  tail-none b e es s = ⊎_elim (λ h. (
+    λ q. let f = rw (eq-yes e.0 b (sym q)) at s in
+        cc,
+    rw (eq-no e.0 b (λ q. omega arith)) at s,
+  ))
+      (⊎_elim (λ h. let f = rw (eq-yes e.0 b (sym h)) at s in absurd (cc))
+      (λ h. (λ q. omega arith, rw (eq-no e.0 b (λ q. omega arith)) at s))) (order b e.0)
 
-  pub put_child-none : (b : ℕ) (k : List ℕ) (v : V) (es : List (ℕ × Trie V)) → None ≡ child_at b es → put_child b k v (as_children es) ≡ as_children (with_entry b (leaf k v) es)
+  pub put_child-none : (b : ℕ) (k : List ℕ) (v : V) (es : List (ℕ × Trie V)) → None ≡ child_at b es
+      → put_child b k v (as_children es) ≡ as_children (with_entry b (leaf k v) es)
   put_child-none b k v [] s = refl
   put_child-none b k v (e ∷ es) s = let t = tail-none b e es s in ⊎_elim
       (λ h. rw (is_less b e.0 h, lt-yes b e.0 h) refl)
-      (⊎_elim (λ h. absurd (t.0 h)) (λ h. rw (is_greater b e.0 h, lt-no b e.0 (omega arith), eq-no e.0 b (λ q. omega arith)) (ap (child e.0 e.1) (put_child-none b k v es t.1)))) (order b e.0)
+      (⊎_elim (λ h. absurd (t.0 h)) (λ h. rw (
+        is_greater b e.0 h,
+        lt-no b e.0 (omega arith),
+        eq-no e.0 b
+            (λ q. omega arith),
+      ) (ap (child e.0 e.1) (put_child-none b k v es t.1)))) (order b e.0)
 
   -- a fork is two insertions
-  pub fork-is : (b c : ℕ) (s t : Trie V) → (b ≡ c → ⊥) → as_children (with_entry c t ((b, s) ∷ [])) ≡ fork b s c t
-  fork-is b c s t n = ⊎_elim
+  pub aligned-is : (b c : ℕ) (s t : Trie V) → (b ≡ c → ⊥) → as_children (with_entry c t ((b, s) ∷ [])) ≡ aligned b s c t
+  aligned-is b c s t n = ⊎_elim
       (λ h. rw (is_less b c h, lt-no c b (omega arith), eq-no b c n) refl)
       (⊎_elim (λ h. absurd (n h)) (λ h. rw (is_greater b c h, lt-yes c b h) refl)) (order b c)
 
   -- no child stands beside a lone one
-  pub child_at-beside : (b c : ℕ) (s : Trie V) (es : List (ℕ × Trie V)) → es ≡ (b, s) ∷ [] → (b ≡ c → ⊥) → child_at c es ≡ None
+  pub child_at-beside : (b c : ℕ) (s : Trie V) (es : List (ℕ × Trie V)) → es ≡ (b, s) ∷ [] → (b ≡ c → ⊥)
+      → child_at c es ≡ None
   child_at-beside b c s es e n = ap (child_at c) e ∙ ap (λ z. cond z (Some s) None) (eq-no b c n)

@@ -1,13 +1,17 @@
 -- The test of canonical form says what the word says, and what a tree keeps of it below a child.
-use Rattle.std.proofs.Common.{◌≡◌, ℕ, ◌≤◌, ◌+◌, ◌==◌, ◌&&◌, ◌||◌, ◌⊎◌, inl, inr, ⊎_elim, nat_le, suc, max, Bool, true, false, List, [], ◌∷◌, ◌++◌, length, length-append, Option, Some, None, IsSome, is_some, refl, arith, Less, Equal, Greater, ◌<◌}
+use Rattle.std.proofs.Common.{◌≡◌, ℕ, ◌≤◌, ◌+◌, ◌==◌, ◌&&◌, ◌||◌, ◌⊎◌, inl, inr, ⊎_elim, nat_le, suc, max, Bool, true}
+use Rattle.std.proofs.Common.{false, List, [], ◌∷◌, ◌++◌, length, length-append, Option, Some, None, IsSome, is_some}
+use Rattle.std.proofs.Common.{refl, arith, Less, Equal, Greater, ◌<◌}
 use Rattle.std.specs.Cmp.Lexicographic.{slice_cmp}
 use Rattle.std.specs.Ordering.{nat_cmp, match_ordering}
 use Rattle.std.proofs.lemmas.Bool.Decides.{nat_tests}
 use Rattle.rart_keys.specs.SortedMap.{put, longest_key}
-use Rattle.rart_nodes.specs.tries.CanonicalTest.{has_two_children, starts_with_byte, is_canonical, are_canonical, is_canonical_tree}
+use Rattle.rart_nodes.specs.tries.CanonicalTest.{has_two_children, starts_with_byte, is_canonical, are_canonical}
+use Rattle.rart_nodes.specs.tries.CanonicalTest.{is_canonical_tree}
 use Rattle.rart_nodes.specs.shapes.Shape.{capacity_of}
 use Rattle.rart_nodes.specs.tries.Tree.{IsCanonicalTree}
-use Rattle.rart_nodes.specs.tries.Trie.{Trie, node, Children, no_children, child, edges_of, prefix_of, with_prefix, StartsWith, HasTwoChildren, IsCanonical, AreCanonical}
+use Rattle.rart_nodes.specs.tries.Trie.{Trie, node, Children, no_children, child, edges_of, prefix_of, with_prefix}
+use Rattle.rart_nodes.specs.tries.Trie.{StartsWith, HasTwoChildren, IsCanonical, AreCanonical}
 
 and-split : (a b : Bool) → (a && b) ≡ true → (a ≡ true) × (b ≡ true)
 and-split true b h = (refl, h)
@@ -38,7 +42,8 @@ test-StartsWith b [] h = absurd h
 test-StartsWith b (x ∷ xs) h = true-eq x b h
 
 module _ {V : Type 0} where
-  needed-test : (v : Option V) (cs : Children V) → (is_some v || has_two_children cs) ≡ true → IsSome v ⊎ HasTwoChildren cs
+  needed-test : (v : Option V) (cs : Children V) → (is_some v || has_two_children cs) ≡ true
+      → IsSome v ⊎ HasTwoChildren cs
   needed-test (Some v) cs h = inl refl
   needed-test None no_children h = absurd (cc)
   needed-test None (child b t no_children) h = absurd (cc)
@@ -48,7 +53,8 @@ module _ {V : Type 0} where
   or-right None = refl
   or-right (Some v) = refl
 
-  test-needed : (v : Option V) (cs : Children V) → IsSome v ⊎ HasTwoChildren cs → (is_some v || has_two_children cs) ≡ true
+  test-needed : (v : Option V) (cs : Children V) → IsSome v ⊎ HasTwoChildren cs → (is_some v || has_two_children cs)
+      ≡ true
   test-needed (Some v) cs h = refl
   test-needed None no_children h = ⊎_elim (λ k. absurd (cc)) (λ k. absurd k) h
   test-needed None (child b t no_children) h = ⊎_elim (λ k. absurd (cc)) (λ k. absurd k) h
@@ -57,30 +63,41 @@ module _ {V : Type 0} where
   mutual
     pub IsCanonical-test : (t : Trie V) → is_canonical t ≡ true → IsCanonical t
     IsCanonical-test (node p v c cs) h =
-        let a = and-split (is_some v || has_two_children cs) ((c == capacity_of (length (edges_of cs))) && are_canonical 0 cs) h in
+        let a = and-split (is_some v || has_two_children cs)
+        ((c == capacity_of (length (edges_of cs))) && are_canonical 0 cs) h in
         let b = and-split (c == capacity_of (length (edges_of cs))) (are_canonical 0 cs) a.1 in
         (needed-test v cs a.0, eq-true c (capacity_of (length (edges_of cs))) b.0, AreCanonical-test 0 cs b.1)
 
     AreCanonical-test : (low : ℕ) (cs : Children V) → are_canonical low cs ≡ true → AreCanonical low cs
     AreCanonical-test low no_children h = tt
     AreCanonical-test low (child b t cs) h =
-        let a = and-split (nat_le low b && starts_with_byte b (prefix_of t)) (is_canonical t && are_canonical (suc b) cs) h in
+        let a = and-split (nat_le low b && starts_with_byte b (prefix_of t))
+        (is_canonical t && are_canonical (suc b) cs) h in
         let l = and-split (nat_le low b) (starts_with_byte b (prefix_of t)) a.0 in
-        let r = and-split (is_canonical t) (are_canonical (suc b) cs) a.1 in
-        (le-true low b l.0, StartsWith-test b (prefix_of t) l.1, IsCanonical-test t r.0, AreCanonical-test (suc b) cs r.1)
+        let r = and-split (is_canonical t) (are_canonical (suc b) cs) a.1 in (
+          le-true low b l.0,
+          StartsWith-test b (prefix_of t) l.1,
+          IsCanonical-test t r.0,
+          AreCanonical-test (suc b) cs
+              r.1,
+        )
 
   mutual
     pub test-IsCanonical : (t : Trie V) → IsCanonical t → is_canonical t ≡ true
     test-IsCanonical (node p v c cs) w =
-        and-join (is_some v || has_two_children cs) ((c == capacity_of (length (edges_of cs))) && are_canonical 0 cs) (test-needed v cs w.0)
-        (and-join (c == capacity_of (length (edges_of cs))) (are_canonical 0 cs) (true-eq c (capacity_of (length (edges_of cs))) w.1) (test-AreCanonical 0 cs w.2))
+        and-join (is_some v || has_two_children cs) ((c == capacity_of (length (edges_of cs))) && are_canonical 0 cs)
+        (test-needed v cs w.0)
+        (and-join (c == capacity_of (length (edges_of cs))) (are_canonical 0 cs)
+        (true-eq c (capacity_of (length (edges_of cs))) w.1) (test-AreCanonical 0 cs w.2))
 
     test-AreCanonical : (low : ℕ) (cs : Children V) → AreCanonical low cs → are_canonical low cs ≡ true
     test-AreCanonical low no_children w = refl
     test-AreCanonical low (child b t cs) w =
         and-join (nat_le low b && starts_with_byte b (prefix_of t)) (is_canonical t && are_canonical (suc b) cs)
-        (and-join (nat_le low b) (starts_with_byte b (prefix_of t)) (true-le low b w.0) (test-StartsWith b (prefix_of t) w.1))
-        (and-join (is_canonical t) (are_canonical (suc b) cs) (test-IsCanonical t w.2) (test-AreCanonical (suc b) cs w.3))
+        (and-join (nat_le low b) (starts_with_byte b (prefix_of t)) (true-le low b w.0)
+        (test-StartsWith b (prefix_of t) w.1))
+        (and-join (is_canonical t) (are_canonical (suc b) cs) (test-IsCanonical t w.2)
+        (test-AreCanonical (suc b) cs w.3))
 
   pub IsCanonicalTree-test : (o : Option (Trie V)) → is_canonical_tree o ≡ true → IsCanonicalTree o
   IsCanonicalTree-test None h = tt
@@ -100,7 +117,8 @@ module _ {V : Type 0} where
   longest_key-append [] ys = omega arith
   longest_key-append (x ∷ xs) ys = omega (arith, longest_key-append xs ys)
 
-  pub longest_key-behind : (p : List ℕ) (es : List (List ℕ × V)) → 0 < length es → longest_key (with_prefix p es) ≡ length p + longest_key es
+  pub longest_key-behind : (p : List ℕ) (es : List (List ℕ × V)) → 0 < length es
+      → longest_key (with_prefix p es) ≡ length p + longest_key es
   longest_key-behind p [] h = absurd (omega arith)
   longest_key-behind p (e ∷ []) h = omega (arith, length-append p e.0)
   longest_key-behind p (e ∷ d ∷ es) h = omega (arith, length-append p e.0, longest_key-behind p (d ∷ es) (omega arith))
@@ -109,10 +127,12 @@ module _ {V : Type 0} where
   longest_key-with_prefix p [] = omega arith
   longest_key-with_prefix p (e ∷ es) = omega (arith, longest_key-with_prefix p es, length-append p e.0)
 
-  pub longest_key-put : (k : List ℕ) (v : V) (n : ℕ) (es : List (List ℕ × V)) → longest_key es ≤ n → length k ≤ n → longest_key (put k v es) ≤ n
+  pub longest_key-put : (k : List ℕ) (v : V) (n : ℕ) (es : List (List ℕ × V)) → longest_key es ≤ n → length k ≤ n
+      → longest_key (put k v es) ≤ n
   longest_key-put k v n [] h l = omega arith
-  longest_key-put k v n (e ∷ es) h l = elim (slice_cmp nat_cmp k e.0) as (λ o. longest_key (match_ordering o ((k, v) ∷ e ∷ es) ((k, v) ∷ es) (e ∷ put k v es)) ≤ n) [
-    | Less ↦ omega arith
-    | Equal ↦ omega arith
-    | Greater ↦ omega (arith, longest_key-put k v n es (omega arith) l)
-  ]
+  longest_key-put k v n (e ∷ es) h l = elim (slice_cmp nat_cmp k e.0)
+      as (λ o. longest_key (match_ordering o ((k, v) ∷ e ∷ es) ((k, v) ∷ es) (e ∷ put k v es)) ≤ n) [
+        | Less ↦ omega arith
+        | Equal ↦ omega arith
+        | Greater ↦ omega (arith, longest_key-put k v n es (omega arith) l)
+      ]

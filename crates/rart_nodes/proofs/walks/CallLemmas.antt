@@ -7,23 +7,26 @@ use Rattle.std.proofs.lemmas.List.Elements.{All-head, All-rest}
 use Rattle.rart_nodes.specs.walks.Calls.{CallableAtEach}
 use Rattle.rart_nodes.specs.declared.node.control.VisitControl.{VisitControl}
 use Rattle.rart_nodes.specs.declared.node.control.VisitControl.TheVariants.{Continue, Stop}
-use Rattle.rart_nodes.specs.declared.node.trail.SegmentTrail.{SegmentTrail}
+use Rattle.rart_nodes.specs.declared.node.path.SegmentPath.{SegmentPath}
 use Rattle.rart_nodes.specs.declared.node.view.LendingKeyView.{LendingKeyView}
 use Rattle.rart_nodes.specs.walks.Matched.{CanMatch, MatchesEach}
-use Rattle.rart_nodes.specs.walks.Tour.{Pieces}
-use Rattle.rart_nodes.specs.walks.TrailParts.{lent_pieces}
+use Rattle.rart_nodes.specs.walks.Walk.{SegmentList}
+use Rattle.rart_nodes.specs.walks.PathParts.{lent_segments}
 use Rattle.rart_nodes.specs.walks.Tried.{CanTry, EndsAs, GoesOnAs}
 use Rattle.rart_nodes.specs.walks.Viewed.{CanView, ViewsEach, CanShowFound, CanSeeFound, IsCutOf}
 use Rattle.rart_nodes.specs.walks.Shown.{CanShow, CanFold, ShowsEach, FoldsEach}
 
 -- what holds of each item of a list holds of one
-pub holds-at : {A : Type 0} (P : A → Type 0) (xs before : List A) (x : A) (after : List A) → All P xs → xs ≡ before ++ x ∷ after → P x
+pub holds-at : {A : Type 0} (P : A → Type 0) (xs before : List A) (x : A) (after : List A) → All P xs
+    → xs ≡ before ++ x ∷ after → P x
 holds-at P xs [] x after h e = All-head P x after (subst (All P) e h)
-holds-at P xs (y ∷ before) x after h e = holds-at P (before ++ x ∷ after) before x after (All-rest P y (before ++ x ∷ after) xs e h) refl
+holds-at P xs (y ∷ before) x after h e = holds-at P (before ++ x ∷ after) before x after
+    (All-rest P y (before ++ x ∷ after) xs e h) refl
 
 module _ {F A : Type 0} (R : F → A → F → Type 0) where
   -- what each call keeps holds after all
-  pub folds-keep : (I : F → Type 0) → ((p : F) (x : A) (q : F) → R p x q → I p → I q) → (xs : List A) (p q : F) → FoldsTo R p xs q → I p → I q
+  pub folds-keep : (I : F → Type 0) → ((p : F) (x : A) (q : F) → R p x q → I p → I q) → (xs : List A) (p q : F)
+      → FoldsTo R p xs q → I p → I q
   folds-keep I keeps [] p q h i = subst I h i
   folds-keep I keeps (x ∷ xs) p q h i = folds-keep I keeps xs h.0 q h.2 (keeps p x h.0 h.1 i)
 
@@ -32,16 +35,25 @@ module _ {F A : Type 0} (R : F → A → F → Type 0) where
     pub can-first : (f : F) (xs : List A) (x : A) (ys : List A) → xs ≡ x ∷ ys → CallableAtEach R Q f xs → Q f x
     can-first f xs x ys e h = h.at [] x ys f e refl
 
-    -- those behind the first
-    pub can-rest : (f : F) (xs : List A) (x : A) (ys : List A) (g : F) → xs ≡ x ∷ ys → R f x g → CallableAtEach R Q f xs → CallableAtEach R Q g ys
-    can-rest f xs x ys g e r h = record { at = λ before y after j same k. h.at (x ∷ before) y after j (e ∙ ap (λ z. x ∷ z) same) (g, r, k) }
+    -- those after the first
+    pub can-rest : (f : F) (xs : List A) (x : A) (ys : List A) (g : F) → xs ≡ x ∷ ys → R f x g → CallableAtEach R Q f xs
+        → CallableAtEach R Q g ys
+    can-rest f xs x ys g e r h = record {
+      at
+          = λ before y after j same k. h.at (x ∷ before) y after j (e ∙ ap (λ z. x ∷ z) same) (g, r, k);
+    }
 
     -- where each call keeps I, and I is enough for a call
-    pub can-kept : (I : F → Type 0) → ((p : F) (x : A) (q : F) → R p x q → I p → I q) → ((p : F) (x : A) → I p → Q p x) → (f : F) (xs : List A) → I f → CallableAtEach R Q f xs
-    can-kept I keeps asks f xs i = record { at = λ before x after g same k. asks g x (folds-keep I keeps before f g k i) }
+    pub can-kept : (I : F → Type 0) → ((p : F) (x : A) (q : F) → R p x q → I p → I q) → ((p : F) (x : A) → I p → Q p x)
+        → (f : F) (xs : List A) → I f → CallableAtEach R Q f xs
+    can-kept I keeps asks f xs i = record {
+      at
+          = λ before x after g same k. asks g x (folds-keep I keeps before f g k i);
+    }
 
     -- where a condition of the item alone is enough for a call
-    pub can-where : (P : A → Type 0) → ((g : F) (x : A) → P x → Q g x) → (f : F) (xs : List A) → All P xs → CallableAtEach R Q f xs
+    pub can-where : (P : A → Type 0) → ((g : F) (x : A) → P x → Q g x) → (f : F) (xs : List A) → All P xs
+        → CallableAtEach R Q f xs
     can-where P asks f xs h = record { at = λ before x after g same k. asks g x (holds-at P xs before x after h same) }
 
 module _ {F A R : Type 0} (g : Mut F A R) where
@@ -55,53 +67,72 @@ module _ {F A R : Type 0} (g : Mut F A R) where
 
 module _ {F V : Type 0} (g : Mut F (Bor V × Unit {0}) (Unit {0})) where
   pub always-shows : (f : F) (xs : List V) → always_mut g f → CanShow g f xs
-  always-shows f xs h = can-kept _ _ (always_mut g) (λ p x q s i. always-on g p (s.shown, tt) tt q s.called i) (λ p x i y e. always-now g p (y, tt) i) f xs h
+  always-shows f xs h = can-kept _ _ (always_mut g) (λ p x q s i. always-on g p (s.shown, tt) tt q s.called i)
+      (λ p x i y e. always-now g p (y, tt) i) f xs h
 
   pub always-after-shows : (f : F) (xs : List V) (f' : F) → ShowsEach g f xs f' → always_mut g f → always_mut g f'
-  always-after-shows f xs f' k h = folds-keep _ (always_mut g) (λ p x q s i. always-on g p (s.shown, tt) tt q s.called i) xs f f' k h
+  always-after-shows f xs f' k h = folds-keep _ (always_mut g)
+      (λ p x q s i. always-on g p (s.shown, tt) tt q s.called i) xs f f' k h
 
 module _ {F S V : Type 0} (g : Mut F (S × (Bor V × Unit {0})) S) where
   pub always-folds : (f : F) (s : S) (xs : List V) → always_mut g f → CanFold g f s xs
-  always-folds f s xs h = can-kept _ _ (λ p. always_mut g p.0) (λ p x q c i. always-on g p.0 (p.1, (c.shown, tt)) q.1 q.0 c.called i) (λ p x i y e. always-now g p.0 (p.1, (y, tt)) i) (f, s) xs h
+  always-folds f s xs h = can-kept _ _ (λ p. always_mut g p.0)
+      (λ p x q c i. always-on g p.0 (p.1, (c.shown, tt)) q.1 q.0 c.called i)
+      (λ p x i y e. always-now g p.0 (p.1, (y, tt)) i) (f, s) xs h
 
-  pub always-after-folds : (f : F) (s : S) (xs : List V) (f' : F) (r : S) → FoldsEach g f s xs f' r → always_mut g f → always_mut g f'
-  always-after-folds f s xs f' r k h = folds-keep _ (λ p. always_mut g p.0) (λ p x q c i. always-on g p.0 (p.1, (c.shown, tt)) q.1 q.0 c.called i) xs (f, s) (f', r) k h
+  pub always-after-folds : (f : F) (s : S) (xs : List V) (f' : F) (r : S) → FoldsEach g f s xs f' r → always_mut g f
+      → always_mut g f'
+  always-after-folds f s xs f' r k h = folds-keep _ (λ p. always_mut g p.0)
+      (λ p x q c i. always-on g p.0 (p.1, (c.shown, tt)) q.1 q.0 c.called i) xs (f, s) (f', r) k h
 
 module _ {F V : Type 0} (g : Mut F (Bor (List ℕ) × (Bor V × Unit {0})) (Unit {0})) where
   pub always-matches : (f : F) (xs : List (List ℕ × V)) → always_mut g f → CanMatch g f xs
-  always-matches f xs h = can-kept _ _ (always_mut g) (λ p x q s i. always-on g p (s.key, (s.shown, tt)) tt q s.called i) (λ p x i k y d e. always-now g p (k, (y, tt)) i) f xs h
+  always-matches f xs h = can-kept _ _ (always_mut g)
+      (λ p x q s i. always-on g p (s.key, (s.shown, tt)) tt q s.called i)
+      (λ p x i k y d e. always-now g p (k, (y, tt)) i) f xs h
 
-  pub always-after-matches : (f : F) (xs : List (List ℕ × V)) (f' : F) → MatchesEach g f xs f' → always_mut g f → always_mut g f'
-  always-after-matches f xs f' k h = folds-keep _ (always_mut g) (λ p x q s i. always-on g p (s.key, (s.shown, tt)) tt q s.called i) xs f f' k h
+  pub always-after-matches : (f : F) (xs : List (List ℕ × V)) (f' : F) → MatchesEach g f xs f' → always_mut g f
+      → always_mut g f'
+  always-after-matches f xs f' k h = folds-keep _ (always_mut g)
+      (λ p x q s i. always-on g p (s.key, (s.shown, tt)) tt q s.called i) xs f f' k h
 
 module _ {F V : Type 0} (g : Mut F (LendingKeyView × (Bor V × Unit {0})) (Unit {0})) where
-  pub always-views : (f : F) (xs : List (Pieces × V)) → always_mut g f → CanView g f xs
-  always-views f xs h = can-kept _ _ (always_mut g) (λ p x q s i. always-on g p (s.key, (s.shown, tt)) tt q s.called i) (λ p x i k y d e. always-now g p (k, (y, tt)) i) f xs h
+  pub always-views : (f : F) (xs : List (SegmentList × V)) → always_mut g f → CanView g f xs
+  always-views f xs h = can-kept _ _ (always_mut g) (λ p x q s i. always-on g p (s.key, (s.shown, tt)) tt q s.called i)
+      (λ p x i k y d e. always-now g p (k, (y, tt)) i) f xs h
 
-  pub always-after-views : (f : F) (xs : List (Pieces × V)) (f' : F) → ViewsEach g f xs f' → always_mut g f → always_mut g f'
-  always-after-views f xs f' k h = folds-keep _ (always_mut g) (λ p x q s i. always-on g p (s.key, (s.shown, tt)) tt q s.called i) xs f f' k h
+  pub always-after-views : (f : F) (xs : List (SegmentList × V)) (f' : F) → ViewsEach g f xs f' → always_mut g f
+      → always_mut g f'
+  always-after-views f xs f' k h = folds-keep _ (always_mut g)
+      (λ p x q s i. always-on g p (s.key, (s.shown, tt)) tt q s.called i) xs f f' k h
 
   -- at the pair that was found
-  pub can-show : (f : F) (s : List (List ℕ)) (found : Option (List ℕ × V)) (t : SegmentTrail) (x : Bor V) (key : LendingKeyView) → CanShowFound g f s found → IsCutOf s found (Some (t, x))
-      → lent_pieces key.segments.now ≡ lent_pieces t.segments.items → g.pre f (key, (x, tt))
+  pub can-show : (f : F) (s : List (List ℕ)) (found : Option (List ℕ × V)) (t : SegmentPath) (x : Bor V)
+      (key : LendingKeyView) → CanShowFound g f s found → IsCutOf s found (Some (t, x))
+      → lent_segments key.segments.now ≡ lent_segments t.segments.items → g.pre f (key, (x, tt))
   can-show f s None t x key h e k = absurd (cc)
   can-show f s (Some o) t x key h e k = h key x (k ∙ e.0) e.1
 
 module _ {F V : Type 0} (g : Once F (LendingKeyView × (Bor V × Unit {0})) (Unit {0})) where
-  pub can-see : (f : F) (s : List (List ℕ)) (found : Option (List ℕ × V)) (t : SegmentTrail) (x : Bor V) (key : LendingKeyView) → CanSeeFound g f s found → IsCutOf s found (Some (t, x))
-      → lent_pieces key.segments.now ≡ lent_pieces t.segments.items → g.pre f (key, (x, tt))
+  pub can-see : (f : F) (s : List (List ℕ)) (found : Option (List ℕ × V)) (t : SegmentPath) (x : Bor V)
+      (key : LendingKeyView) → CanSeeFound g f s found → IsCutOf s found (Some (t, x))
+      → lent_segments key.segments.now ≡ lent_segments t.segments.items → g.pre f (key, (x, tt))
   can-see f s None t x key h e k = absurd (cc)
   can-see f s (Some o) t x key h e k = h key x (k ∙ e.0) e.1
 
 module _ {F V E : Type 0} (g : Mut F (Bor V × Unit {0}) (Result VisitControl E)) where
   pub always-tries : (f : F) (xs : List V) → always_mut g f → CanTry g f xs
-  always-tries f xs h = can-kept _ _ (always_mut g) (λ p x q s i. always-on g p (s.shown, tt) _ q s.called i) (λ p x i y e. always-now g p (y, tt) i) f xs h
+  always-tries f xs h = can-kept _ _ (always_mut g) (λ p x q s i. always-on g p (s.shown, tt) _ q s.called i)
+      (λ p x i y e. always-now g p (y, tt) i) f xs h
 
-  always-went-on : (f : F) (answer : Result VisitControl E) (M : F → Type 0) (r : Result (Unit {0}) E) (f' : F) → (M f → always_mut g f → always_mut g f') → GoesOnAs answer f M r f' → always_mut g f → always_mut g f'
+  always-went-on : (f : F) (answer : Result VisitControl E) (M : F → Type 0) (r : Result (Unit {0}) E) (f' : F)
+      → (M f → always_mut g f → always_mut g f') → GoesOnAs answer f M r f' → always_mut g f → always_mut g f'
   always-went-on f (Ok Continue) M r f' more k h = more k h
   always-went-on f (Ok Stop) M r f' more k h = subst (always_mut g) k.1 h
   always-went-on f (Err e) M r f' more k h = subst (always_mut g) k.1 h
 
-  pub always-after-tries : (f : F) (xs : List V) (r : Result (Unit {0}) E) (f' : F) → EndsAs g f xs r f' → always_mut g f → always_mut g f'
+  pub always-after-tries : (f : F) (xs : List V) (r : Result (Unit {0}) E) (f' : F) → EndsAs g f xs r f'
+      → always_mut g f → always_mut g f'
   always-after-tries f [] r f' k h = subst (always_mut g) k.1 h
-  always-after-tries f (v ∷ vs) r f' k h = always-went-on k.1.1.0 k.1.0 (λ j. EndsAs g j vs r f') r f' (λ m i. always-after-tries k.1.1.0 vs r f' m i) k.1.1.1.1.1 (always-on g f (k.0, tt) k.1.0 k.1.1.0 k.1.1.1.1.0 h)
+  always-after-tries f (v ∷ vs) r f' k h = always-went-on k.1.1.0 k.1.0 (λ j. EndsAs g j vs r f') r f'
+      (λ m i. always-after-tries k.1.1.0 vs r f' m i) k.1.1.1.1.1 (always-on g f (k.0, tt) k.1.0 k.1.1.0 k.1.1.1.1.0 h)

@@ -1,30 +1,33 @@
--- A key is cut into no more pieces than it has bytes.
-use Rattle.std.proofs.Common.{ℕ, ◌+◌, ◌≤◌, suc, Bool, true, false, List, [], ◌∷◌, ◌++◌, length, arith, Option, if◌then◌else◌, is_some}
+-- A key is cut into no more segments than it has bytes.
+use Rattle.std.proofs.Common.{ℕ, ◌+◌, ◌≤◌, suc, Bool, true, false, List, [], ◌∷◌, ◌++◌, length, arith, Option}
+use Rattle.std.proofs.Common.{if◌then◌else◌, is_some}
 use Rattle.std.proofs.lemmas.List.{length-append}
 use Rattle.rart_nodes.specs.shapes.Shape.{NodeRecord, record_at}
-use Rattle.rart_nodes.specs.walks.Cut.{cut, cut_by, with_piece}
-use Rattle.rart_nodes.specs.walks.Tour.{Pieces, Tells}
-use Rattle.rart_nodes.specs.walks.TrailParts.{one_piece}
+use Rattle.rart_nodes.specs.walks.Cut.{cut, cut_by, with_segment}
+use Rattle.rart_nodes.specs.walks.Walk.{SegmentList, Tells}
+use Rattle.rart_nodes.specs.walks.PathParts.{one_segment}
 
-piece-few : (p : List ℕ) (ps : Pieces) → length (with_piece p ps) ≤ length p + length ps
-piece-few [] ps = omega arith
-piece-few (b ∷ p) ps = omega arith
+segment-few : (p : List ℕ) (ps : SegmentList) → length (with_segment p ps) ≤ length p + length ps
+segment-few [] ps = omega arith
+segment-few (b ∷ p) ps = omega arith
 
-either-few : (t : Bool) (n : ℕ) (xs ys : Pieces) → length xs ≤ n → length ys ≤ n → length (if t then xs else ys) ≤ n
+either-few : (t : Bool) (n : ℕ) (xs ys : SegmentList) → length xs ≤ n → length ys ≤ n
+    → length (if t then xs else ys) ≤ n
 either-few true n xs ys p q = p
 either-few false n xs ys p q = q
 
 cut_by-few : (f : List ℕ → Option NodeRecord) (p k : List ℕ) → length (cut_by f p k) ≤ length p + length k
-cut_by-few f p [] = piece-few p []
+cut_by-few f p [] = segment-few p []
 cut_by-few f p (b ∷ k) =
     let f' : List ℕ → Option NodeRecord = λ z. f (b ∷ z) in
-    let one = piece-few p (cut_by f' (b ∷ []) k) in
+    let one = segment-few p (cut_by f' (b ∷ []) k) in
     let behind = cut_by-few f' (b ∷ []) k in
     let more = cut_by-few f' (p ++ b ∷ []) k in
-    either-few (is_some (f [])) (length p + suc (length k)) (with_piece p (cut_by f' (b ∷ []) k)) (cut_by f' (p ++ b ∷ []) k) (omega (arith, one, behind)) (omega (arith, more, length-append p (b ∷ [])))
+    either-few (is_some (f [])) (length p + suc (length k)) (with_segment p (cut_by f' (b ∷ []) k))
+    (cut_by f' (p ++ b ∷ []) k) (omega (arith, one, behind)) (omega (arith, more, length-append p (b ∷ [])))
 
 pub cut-few : (s : List (List ℕ)) (k : List ℕ) → length (cut s k) ≤ length k
 cut-few s k = let few = cut_by-few (record_at s) [] k in omega (arith, few)
 
-pub tells-one : Tells one_piece
+pub tells-one : Tells one_segment
 tells-one b p = omega arith

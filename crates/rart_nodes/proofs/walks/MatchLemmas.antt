@@ -1,5 +1,7 @@
 -- A descent that collects what it passes gives the pairs whose key begins the string.
-use Rattle.std.proofs.Common.{◌≡◌, ℕ, ◌+◌, ◌-◌, ◌≤◌, ◌==◌, Bool, true, false, List, [], ◌∷◌, ◌++◌, length, length-append, take, drop, refl, sym, ap, ◌∙◌, arith, Option, Some, None, is_some, if◌then◌else◌}
+use Rattle.std.proofs.Common.{◌≡◌, ℕ, ◌+◌, ◌-◌, ◌≤◌, ◌==◌, Bool, true, false, List, [], ◌∷◌, ◌++◌, length}
+use Rattle.std.proofs.Common.{length-append, take, drop, refl, sym, ap, ◌∙◌, arith, Option, Some, None, is_some}
+use Rattle.std.proofs.Common.{if◌then◌else◌}
 use Rattle.std.specs.Prelude.{slice_get}
 use Rattle.std.proofs.lemmas.List.{append-nil, append_assoc, length-drop, take-append-drop, take-append-le, take_all}
 use Rattle.rart_keys.specs.ByteStrings.{strip_prefix, begins}
@@ -24,43 +26,58 @@ begins_within l (Some r) = begins l r
 begins-append : (p l q : List ℕ) → begins (p ++ l) q ≡ begins_within l (strip_prefix p q)
 begins-append [] l q = refl
 begins-append (x ∷ p) l [] = refl
-begins-append (x ∷ p) l (y ∷ q) = elim (x == y) as (λ b. is_some (if b then strip_prefix (p ++ l) q else None) ≡ begins_within l (if b then strip_prefix p q else None)) [ true ↦ begins-append p l q | false ↦ refl ]
+begins-append (x ∷ p) l (y ∷ q) = elim (x == y) as (λ b. is_some (if b then strip_prefix (p ++ l) q else None)
+    ≡ begins_within l (if b then strip_prefix p q else None)) [ true ↦ begins-append p l q | false ↦ refl ]
 
 drop-front : (a r : List ℕ) → drop (length a) (a ++ r) ≡ r
 drop-front [] r = refl
 drop-front (x ∷ a) r = drop-front a r
 
--- where a string is read on behind d bytes and the prefix p, and r is left
+-- where a string is read on after d bytes and the prefix p, and r is left
 record SplitAt (p q r : List ℕ) (d d1 : ℕ) : Type 0 where
   pub within : d1 ≤ length q
   pub front : take d1 q ≡ take d q ++ p
   pub behind : drop d1 q ≡ r
 
-split-at : (p q k r : List ℕ) (d d1 : ℕ) → d ≤ length q → k ≡ drop d q → Some r ≡ strip_prefix p k → d1 ≡ length q - length r → SplitAt p q r d d1
+split-at : (p q k r : List ℕ) (d d1 : ℕ) → d ≤ length q → k ≡ drop d q → Some r ≡ strip_prefix p k
+    → d1 ≡ length q - length r → SplitAt p q r d d1
 split-at p q k r d d1 l i e f =
     let a : List ℕ = take d q ++ p in
-    let whole : q ≡ a ++ r = sym (take-append-drop d q) ∙ ap (λ z. take d q ++ z) (sym i ∙ sym (strip_prefix-is p k r (sym e))) ∙ sym (append_assoc (take d q) p r) in
+    let whole : q ≡ a ++ r = sym (take-append-drop d q)
+    ∙ ap (λ z. take d q ++ z) (sym i ∙ sym (strip_prefix-is p k r (sym e))) ∙ sym (append_assoc (take d q) p r) in
     let n : d1 ≡ length a = omega (arith, f, ap length whole, length-append a r) in
     record {
       within = omega arith;
-      front = ap (take d1) whole ∙ ap (λ m. take m (a ++ r)) n ∙ take-append-le (length a) a r (omega arith) ∙ take_all (length a) a (omega arith);
+      front = ap (take d1) whole ∙ ap (λ m. take m (a ++ r)) n ∙ take-append-le (length a) a r (omega arith)
+          ∙ take_all (length a) a (omega arith);
       behind = ap (drop d1) whole ∙ ap (λ m. drop m (a ++ r)) n ∙ drop-front a r;
     }
 
 pub rest-fits : (p q k r : List ℕ) (d : ℕ) → k ≡ drop d q → Some r ≡ strip_prefix p k → length r ≤ length q
-rest-fits p q k r d i e = omega (arith, ap length (sym (strip_prefix-is p k r (sym e))), length-append p r, ap length i, length-drop d q)
+rest-fits p q k r d i e = omega (
+  arith,
+  ap length (sym (strip_prefix-is p k r (sym e))),
+  length-append p r,
+  ap length i,
+  length-drop d q,
+)
 
 module _ {V : Type 0} where
   abbrev matches_within : List ℕ → Option (List ℕ) → List (List ℕ × V) → List (List ℕ × V)
   matches_within p None es = []
   matches_within p (Some r) es = with_prefix p (matches r es)
 
-  matches-behind : (p q : List ℕ) (es : List (List ℕ × V)) → matches q (with_prefix p es) ≡ matches_within p (strip_prefix p q) es
-  matches-behind p q [] = elim (strip_prefix p q) as (λ o. ◌≡◌ {A = List (List ℕ × V)} [] (matches_within p o [])) [ None ↦ refl | Some r ↦ refl ]
+  matches-behind : (p q : List ℕ) (es : List (List ℕ × V))
+      → matches q (with_prefix p es) ≡ matches_within p (strip_prefix p q) es
+  matches-behind p q [] = elim (strip_prefix p q) as (λ o. ◌≡◌ {A = List (List ℕ × V)} [] (matches_within p o []))
+      [ None ↦ refl | Some r ↦ refl ]
   matches-behind p q (e ∷ es) = rw (begins-append p e.0 q, matches-behind p q es)
-      (elim (strip_prefix p q) as (λ o. (if begins_within e.0 o then (p ++ e.0, e.1) ∷ matches_within p o es else matches_within p o es) ≡ matches_within p o (e ∷ es)) [
+      (elim (strip_prefix p q) as (λ o. (if begins_within e.0 o then (p ++ e.0, e.1) ∷ matches_within p o es
+      else matches_within p o es) ≡ matches_within p o (e ∷ es)) [
         | None ↦ refl
-        | Some r ↦ elim (begins e.0 r) as (λ b. (if b then (p ++ e.0, e.1) ∷ with_prefix p (matches r es) else with_prefix p (matches r es)) ≡ with_prefix p (if b then e ∷ matches r es else matches r es)) [ true ↦ refl | false ↦ refl ]
+        | Some r ↦ elim (begins e.0 r) as (λ b. (if b then (p ++ e.0, e.1) ∷ with_prefix p (matches r es)
+            else with_prefix p (matches r es)) ≡ with_prefix p (if b then e ∷ matches r es else matches r es))
+            [ true ↦ refl | false ↦ refl ]
       ])
 
   matches-nil : (low : ℕ) (es : List (List ℕ × V)) → AllFrom low es → matches [] es ≡ []
@@ -68,7 +85,8 @@ module _ {V : Type 0} where
   matches-nil low (([], v) ∷ es) f = absurd f.0
   matches-nil low ((x ∷ k, v) ∷ es) f = matches-nil low es f.1
 
-  matches-here : (q : List ℕ) (v : Option V) (es : List (List ℕ × V)) → matches q (own_pair v ++ es) ≡ own_pair v ++ matches q es
+  matches-here : (q : List ℕ) (v : Option V) (es : List (List ℕ × V))
+      → matches q (own_pair v ++ es) ≡ own_pair v ++ matches q es
   matches-here q None es = refl
   matches-here q (Some v) es = refl
 
@@ -76,12 +94,17 @@ module _ {V : Type 0} where
   matches-kept = record {
     absent = λ q. refl;
     left = λ q p v n cs w s. sym (matches-behind p q (own_pair v ++ children_pairs cs) ∙ rw s refl);
-    ended = λ q p v n cs w s. sym (matches-behind p q (own_pair v ++ children_pairs cs) ∙ rw s (ap (with_prefix p) (matches-here [] v (children_pairs cs) ∙ rw (matches-nil 0 (children_pairs cs) (children_pairs-from 0 cs w.2)) (append-nil (own_pair v)))));
-    on = λ q p v n cs b r a w s h. sym (matches-behind p q (own_pair v ++ children_pairs cs) ∙ rw s (ap (with_prefix p) (matches-here (b ∷ r) v (children_pairs cs)
-        ∙ ap (λ z. own_pair v ++ z) (children-filter (λ e. begins e.0 (b ∷ r)) b cs w.2 (λ x k v n. rw (eq-no x b n) refl) ∙ sym h))));
+    ended = λ q p v n cs w s. sym (matches-behind p q (own_pair v ++ children_pairs cs)
+        ∙ rw s (ap (with_prefix p) (matches-here [] v (children_pairs cs)
+        ∙ rw (matches-nil 0 (children_pairs cs) (children_pairs-from 0 cs w.2)) (append-nil (own_pair v)))));
+    on = λ q p v n cs b r a w s h. sym (matches-behind p q (own_pair v ++ children_pairs cs)
+        ∙ rw s (ap (with_prefix p) (matches-here (b ∷ r) v (children_pairs cs)
+        ∙ ap (λ z. own_pair v ++ z) (children-filter (λ e. begins e.0 (b ∷ r)) b cs w.2
+        (λ x k v n. rw (eq-no x b n) refl) ∙ sym h))));
   }
 
-  prefix-own : (q : List ℕ) (v : Option V) (es : List (List ℕ × V)) → with_prefix q (own_pair v ++ es) ≡ pair_at q v ++ with_prefix q es
+  prefix-own : (q : List ℕ) (v : Option V) (es : List (List ℕ × V))
+      → with_prefix q (own_pair v ++ es) ≡ pair_at q v ++ with_prefix q es
   prefix-own q None es = refl
   prefix-own q (Some v) es = ap (λ k. (k, v) ∷ with_prefix q es) (append-nil q)
 
@@ -89,38 +112,48 @@ module _ {V : Type 0} where
   prefix-own_alone q None = refl
   prefix-own_alone q (Some v) = ap (λ k. (k, v) ∷ []) (append-nil q)
 
-  -- a descent along q at the node t behind d bytes: q ends behind its prefix
-  pub pass-ended : (t : Trie V) (q k r : List ℕ) (d d1 : ℕ) → d ≤ length q → k ≡ drop d q → Some r ≡ strip_prefix (prefix_of t) k → d1 ≡ length q - length r → None ≡ slice_get r 0 → Passes q d t d1 None
+  -- a descent along q at the node t after d bytes: q ends after its prefix
+  pub pass-ended : (t : Trie V) (q k r : List ℕ) (d d1 : ℕ) → d ≤ length q → k ≡ drop d q
+      → Some r ≡ strip_prefix (prefix_of t) k → d1 ≡ length q - length r → None ≡ slice_get r 0 → Passes q d t d1 None
   pass-ended (node p v n cs) q k r d d1 l i e f h =
       let s = split-at p q k r d d1 l i e f in
       record {
         within = s.within;
-        still = rw (← i) (ap (with_prefix (take d q)) (descend-ended collects (node p v n cs) k r e h) ∙ prefix-twice (take d q) p (own_pair v) ∙ ap (λ z. with_prefix z (own_pair v)) (sym s.front)) ∙ prefix-own_alone (take d1 q) v;
+        still = rw (← i) (ap (with_prefix (take d q)) (descend-ended collects (node p v n cs) k r e h)
+            ∙ prefix-twice (take d q) p (own_pair v) ∙ ap (λ z. with_prefix z (own_pair v)) (sym s.front))
+            ∙ prefix-own_alone (take d1 q) v;
         counted = rw (← i) (descend-ended counts (node p v n cs) k r e h);
         falls = omega arith;
       }
 
   -- or goes on by b
-  pub pass-on : (t : Trie V) (q k r : List ℕ) (b d d1 : ℕ) (o : Option (Trie V)) → is_canonical t ≡ true → d ≤ length q → k ≡ drop d q → Some r ≡ strip_prefix (prefix_of t) k → d1 ≡ length q - length r → Some b ≡ slice_get r 0
+  pub pass-on : (t : Trie V) (q k r : List ℕ) (b d d1 : ℕ) (o : Option (Trie V)) → is_canonical t ≡ true → d ≤ length q
+      → k ≡ drop d q → Some r ≡ strip_prefix (prefix_of t) k → d1 ≡ length q - length r → Some b ≡ slice_get r 0
       → o ≡ child_in b t → Passes q d t d1 o
   pass-on (node p v n cs) q k r b d d1 o c l i e f h j =
       let s = split-at p q k r d d1 l i e f in
       let below = λ (z : Option (Trie V)). with_prefix p (own_pair v ++ tree_matches r z) in
       record {
         within = s.within;
-        still = rw (← i) (ap (with_prefix (take d q)) (descend-on collects (node p v n cs) k r b c e h ∙ ap below (sym j)) ∙ prefix-twice (take d q) p (own_pair v ++ tree_matches r o)
-            ∙ ap (λ z. with_prefix z (own_pair v ++ tree_matches r o)) (sym s.front)) ∙ prefix-own (take d1 q) v (tree_matches r o)
+        still = rw (← i) (ap (with_prefix (take d q)) (descend-on collects (node p v n cs) k r b c e h
+            ∙ ap below (sym j)) ∙ prefix-twice (take d q) p (own_pair v ++ tree_matches r o)
+            ∙ ap (λ z. with_prefix z (own_pair v ++ tree_matches r o)) (sym s.front))
+            ∙ prefix-own (take d1 q) v (tree_matches r o)
             ∙ ap (λ z. pair_at (take d1 q) v ++ with_prefix (take d1 q) (tree_matches z o)) (sym s.behind);
-        counted = rw (← i) (descend-on counts (node p v n cs) k r b c e h ∙ ap (λ z. 1 + tree_entered r z) (sym j) ∙ ap (λ z. 1 + tree_entered z o) (sym s.behind));
+        counted = rw (← i) (descend-on counts (node p v n cs) k r b c e h ∙ ap (λ z. 1 + tree_entered r z) (sym j)
+            ∙ ap (λ z. 1 + tree_entered z o) (sym s.behind));
         falls = child-falls b (node p v n cs) o (sym j);
       }
 
   -- what a descent from the top has to pass
-  pub matches-ahead : (q : List ℕ) (d : ℕ) (o root : Option (Trie V)) → d ≡ 0 → o ≡ root → IsCanonicalTree root → matches_ahead q d o ≡ matches q (tree_pairs root)
-  matches-ahead q d o root e f w = rw (e, f) (prefix-none (tree_matches q root) ∙ descends collects (λ q o a. a ≡ matches q (tree_pairs o)) matches-kept q root w)
+  pub matches-ahead : (q : List ℕ) (d : ℕ) (o root : Option (Trie V)) → d ≡ 0 → o ≡ root → IsCanonicalTree root
+      → matches_ahead q d o ≡ matches q (tree_pairs root)
+  matches-ahead q d o root e f w = rw (e, f) (prefix-none (tree_matches q root)
+      ∙ descends collects (λ q o a. a ≡ matches q (tree_pairs o)) matches-kept q root w)
 
   -- a way down that has ended, m visits after it began at n, entered the nodes that the keys say
-  pub all-entered : (q : List ℕ) (d : ℕ) (o root : Option (Trie V)) (m n i : ℕ) → IsCanonicalTree root → o ≡ None → m + entered_ahead q d o ≡ i → i ≡ n + tree_entered q root
+  pub all-entered : (q : List ℕ) (d : ℕ) (o root : Option (Trie V)) (m n i : ℕ) → IsCanonicalTree root → o ≡ None
+      → m + entered_ahead q d o ≡ i → i ≡ n + tree_entered q root
       → (m ≡ n + probe_count (keys_of (tree_pairs root)) q) × (m ≤ n + length q + 1)
   all-entered q d o root m n i w e h k =
       let none : entered_ahead q d o ≡ 0 = ap (entered_ahead q d) e in
@@ -128,5 +161,6 @@ module _ {V : Type 0} where
       let few = few-tree_entered q root w in
       (omega (arith, none, h, k, count), omega (arith, none, h, k, few))
 
-  pub entered-ahead : (q : List ℕ) (d : ℕ) (o root : Option (Trie V)) → d ≡ 0 → o ≡ root → entered_ahead q d o ≡ tree_entered q root
+  pub entered-ahead : (q : List ℕ) (d : ℕ) (o root : Option (Trie V)) → d ≡ 0 → o ≡ root
+      → entered_ahead q d o ≡ tree_entered q root
   entered-ahead q d o root e f = rw (e, f) refl

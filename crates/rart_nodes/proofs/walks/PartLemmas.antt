@@ -1,5 +1,7 @@
 -- What is found at and below a prefix: the pairs whose key it begins.
-use Rattle.std.proofs.Common.{◌≡◌, ℕ, ◌+◌, ◌*◌, ◌≤◌, ⊎_elim, true, false, ◌&&◌, nat_eq, List, [], ◌∷◌, ◌++◌, length, length-append, refl, sym, ap, ◌∙◌, arith, Option, Some, None, is_some, subst, if◌then◌else◌}
+use Rattle.std.proofs.Common.{◌≡◌, ℕ, ◌+◌, ◌*◌, ◌≤◌, ⊎_elim, true, false, ◌&&◌, nat_eq, List, [], ◌∷◌, ◌++◌, length}
+use Rattle.std.proofs.Common.{length-append, refl, sym, ap, ◌∙◌, arith, Option, Some, None, is_some, subst}
+use Rattle.std.proofs.Common.{if◌then◌else◌}
 use Rattle.std.specs.Prelude.{slice_get}
 use Rattle.std.specs.List.{starts_with}
 use Rattle.std.proofs.lemmas.List.{append-nil, append_assoc}
@@ -10,118 +12,171 @@ use Rattle.rart_keys.proofs.ByteOrder.{eq-no}
 use Rattle.rart_nodes.specs.tries.PrefixLaws.{length-with_prefix, prefix-none, prefix-twice, values-with_prefix}
 use Rattle.rart_nodes.specs.tries.CanonicalTest.{is_canonical}
 use Rattle.rart_nodes.specs.tries.Tree.{tree_pairs, IsCanonicalTree}
-use Rattle.rart_nodes.specs.tries.Trie.{Trie, node, Children, no_children, child, pairs_of, children_pairs, own_pair, edges_of, prefix_of, child_of, child_in, with_prefix, IsCanonical, AreCanonical}
+use Rattle.rart_nodes.specs.tries.Trie.{Trie, node, Children, no_children, child, pairs_of, children_pairs, own_pair}
+use Rattle.rart_nodes.specs.tries.Trie.{edges_of, prefix_of, child_of, child_in, with_prefix, IsCanonical, AreCanonical}
 use Rattle.rart_nodes.specs.tries.TrieCode.{node_count, child_count}
-use Rattle.rart_nodes.specs.walks.PieceLaws.{joined-append}
-use Rattle.rart_nodes.specs.walks.Part.{finds, tree_part, part_stops}
-use Rattle.rart_nodes.specs.walks.Tour.{Pieces, Grown, Joins, joined, join_all, stop_values, stops_of}
+use Rattle.rart_nodes.specs.walks.SegmentLaws.{joined-append}
+use Rattle.rart_nodes.specs.walks.Part.{finds, tree_part, part_entries}
+use Rattle.rart_nodes.specs.walks.Walk.{SegmentList, Grown, Joins, joined, join_all, entry_values, entries_of}
 use Rattle.rart_nodes.proofs.tries.CanonicalTests.{IsCanonical-test}
 use Rattle.rart_nodes.proofs.tries.NodeCounts.{length-own_pair, two-edges}
 use Rattle.rart_nodes.proofs.tries.PrefixedStrings.{begins-apart, begins-behind}
 use Rattle.rart_nodes.proofs.tries.Descents.{Keeps, children-filter, descend-left, descend-on, descends}
 use Rattle.rart_nodes.proofs.walks.SeenLemmas.{longest-of}
-use Rattle.rart_nodes.proofs.walks.StopLemmas.{join-behind, joined-stops, values-behind, values-stops}
-use Rattle.rart_nodes.proofs.walks.TourLemmas.{longest-below}
+use Rattle.rart_nodes.proofs.walks.EntryLemmas.{join-behind, joined-entries, values-behind, values-entries}
+use Rattle.rart_nodes.proofs.walks.WalkLemmas.{longest-below}
 
 -- whether a slice begins with another, as code tests it
 pub starts_with-begins : (p q : List ℕ) → starts_with nat_eq q p ≡ begins p q
 starts_with-begins [] q = refl
 starts_with-begins (x ∷ p) [] = refl
-starts_with-begins (x ∷ p) (y ∷ q) = elim (nat_eq x y) as (λ b. (b && starts_with nat_eq q p) ≡ is_some (if b then strip_prefix p q else None)) [ true ↦ starts_with-begins p q | false ↦ refl ]
+starts_with-begins (x ∷ p) (y ∷ q) = elim (nat_eq x y) as (λ b. (b && starts_with nat_eq q p)
+    ≡ is_some (if b then strip_prefix p q else None)) [ true ↦ starts_with-begins p q | false ↦ refl ]
 
 module _ {V : Type 0} where
-  below-behind_some : (q p r : List ℕ) (es : List (List ℕ × V)) → strip_prefix q p ≡ Some r → below p (with_prefix q es) ≡ with_prefix q (below r es)
+  below-behind_some : (q p r : List ℕ) (es : List (List ℕ × V)) → strip_prefix q p ≡ Some r
+      → below p (with_prefix q es) ≡ with_prefix q (below r es)
   below-behind_some q p r [] s = refl
   below-behind_some q p r (e ∷ es) s = rw (begins-behind q p r e.0 s, below-behind_some q p r es s)
-      (elim (begins r e.0) as (λ z. (if z then (q ++ e.0, e.1) ∷ with_prefix q (below r es) else with_prefix q (below r es)) ≡ with_prefix q (if z then e ∷ below r es else below r es)) [ true ↦ refl | false ↦ refl ])
+      (elim (begins r e.0) as (λ z. (if z then (q ++ e.0, e.1) ∷ with_prefix q (below r es)
+      else with_prefix q (below r es)) ≡ with_prefix q (if z then e ∷ below r es else below r es)) [
+        | true ↦ refl
+        | false ↦ refl
+      ])
 
-  below-apart : (q p : List ℕ) (es : List (List ℕ × V)) → strip_prefix q p ≡ None → below p (with_prefix q es) ≡ (if begins p q then with_prefix q es else [])
-  below-apart q p [] s = elim (begins p q) as (λ z. ◌≡◌ {A = List (List ℕ × V)} [] (if z then [] else [])) [ true ↦ refl | false ↦ refl ]
+  below-apart : (q p : List ℕ) (es : List (List ℕ × V)) → strip_prefix q p ≡ None
+      → below p (with_prefix q es) ≡ (if begins p q then with_prefix q es else [])
+  below-apart q p [] s = elim (begins p q) as (λ z. ◌≡◌ {A = List (List ℕ × V)} [] (if z then [] else [])) [
+    | true ↦ refl
+    | false ↦ refl
+  ]
   below-apart q p (e ∷ es) s = rw (begins-apart q p e.0 s, below-apart q p es s)
-      (elim (begins p q) as (λ z. (if z then (q ++ e.0, e.1) ∷ (if z then with_prefix q es else []) else (if z then with_prefix q es else [])) ≡ (if z then with_prefix q (e ∷ es) else [])) [ true ↦ refl | false ↦ refl ])
+      (elim (begins p q) as (λ z. (if z then (q ++ e.0, e.1) ∷ (if z then with_prefix q es else [])
+      else (if z then with_prefix q es else [])) ≡ (if z then with_prefix q (e ∷ es) else [])) [
+        | true ↦ refl
+        | false ↦ refl
+      ])
 
   pub below-nil : (es : List (List ℕ × V)) → below [] es ≡ es
   below-nil [] = refl
   below-nil (e ∷ es) = ap (λ z. e ∷ z) (below-nil es)
 
-  below-here : (b : ℕ) (r : List ℕ) (v : Option V) (es : List (List ℕ × V)) → below (b ∷ r) (own_pair v ++ es) ≡ below (b ∷ r) es
+  below-here : (b : ℕ) (r : List ℕ) (v : Option V) (es : List (List ℕ × V))
+      → below (b ∷ r) (own_pair v ++ es) ≡ below (b ∷ r) es
   below-here b r None es = refl
   below-here b r (Some v) es = refl
 
-  -- what was found is what is below: its keys are those of the node, behind one string, which is that of the pieces kept
-  abbrev Finds : Grown → Pieces → List (List ℕ × V) → Option (Pieces × Trie V) → Type 0
+  -- what was found is what is below: its keys are those of the node, after one string, which is that of the segments
+  -- kept
+  abbrev Finds : Grown → SegmentList → List (List ℕ × V) → Option (SegmentList × Trie V) → Type 0
   Finds g k es None = es ≡ []
   Finds g k es (Some e) = (q : List ℕ) × ((es ≡ with_prefix q (pairs_of e.1)) × (Joins g → joined e.0 ≡ joined k ++ q))
 
-  finds-up : (g : Grown) (k : Pieces) (q : List ℕ) (es fs : List (List ℕ × V)) (o : Option (Pieces × Trie V)) → fs ≡ with_prefix q es → Finds g (k ++ g q) es o → Finds g k fs o
+  finds-up : (g : Grown) (k : SegmentList) (q : List ℕ) (es fs : List (List ℕ × V)) (o : Option (SegmentList × Trie V))
+      → fs ≡ with_prefix q es → Finds g (k ++ g q) es o → Finds g k fs o
   finds-up g k q es fs None s h = s ∙ ap (with_prefix q) h
   finds-up g k q es fs (Some e) s h = (
     q ++ h.0,
     (
       s ∙ ap (with_prefix q) h.1.0 ∙ prefix-twice q h.0 (pairs_of e.1),
-      λ j. h.1.1 j ∙ ap (λ z. z ++ h.0) (joined-append k (g q) ∙ ap (λ z. joined k ++ z) (j q)) ∙ append_assoc (joined k) q h.0,
+      λ j. h.1.1 j ∙ ap (λ z. z ++ h.0) (joined-append k (g q) ∙ ap (λ z. joined k ++ z) (j q))
+          ∙ append_assoc (joined k) q h.0,
     ),
   )
 
-  finds-here : (g : Grown) (k : Pieces) (t : Trie V) (es : List (List ℕ × V)) → es ≡ pairs_of t → Finds g k es (Some (k, t))
+  finds-here : (g : Grown) (k : SegmentList) (t : Trie V) (es : List (List ℕ × V)) → es ≡ pairs_of t
+      → Finds g k es (Some (k, t))
   finds-here g k t es e = ([], (e ∙ sym (prefix-none (pairs_of t)), λ j. sym (append-nil (joined k))))
 
-  finds-kept : (g : Grown) → Keeps {V = V} (finds g) (λ p o a. (k : Pieces) → Finds g k (below p (tree_pairs o)) (a k))
+  finds-kept : (g : Grown) → Keeps {V = V} (finds g) (λ p o a. (k : SegmentList)
+      → Finds g k (below p (tree_pairs o)) (a k))
   finds-kept g = record {
     absent = λ p k. refl;
-    left = λ p q v n cs w s k. elim (begins p q) as (λ z. below p (pairs_of (node q v n cs)) ≡ (if z then pairs_of (node q v n cs) else []) → Finds g k (below p (pairs_of (node q v n cs))) (if z then Some (k, node q v n cs) else None)) [
-      | true ↦ λ e. finds-here g k (node q v n cs) _ e
-      | false ↦ λ e. e
-    ] (below-apart q p (own_pair v ++ children_pairs cs) s);
-    ended = λ p q v n cs w s k. finds-here g k (node q v n cs) _ (below-behind_some q p [] (own_pair v ++ children_pairs cs) s ∙ ap (with_prefix q) (below-nil (own_pair v ++ children_pairs cs)));
+    left = λ p q v n cs w s k. elim (begins p q) as (λ z. below p (pairs_of (node q v n cs))
+        ≡ (if z then pairs_of (node q v n cs) else [])
+        → Finds g k (below p (pairs_of (node q v n cs))) (if z then Some (k, node q v n cs) else None)) [
+          | true ↦ λ e. finds-here g k (node q v n cs) _ e
+          | false ↦ λ e. e
+        ] (below-apart q p (own_pair v ++ children_pairs cs) s);
+    ended = λ p q v n cs w s k. finds-here g k (node q v n cs) _
+        (below-behind_some q p [] (own_pair v ++ children_pairs cs) s
+        ∙ ap (with_prefix q) (below-nil (own_pair v ++ children_pairs cs)));
     on = λ p q v n cs b r a w s h k. finds-up g k q (below (b ∷ r) (tree_pairs (child_of b cs))) _ (a (k ++ g q))
-        (below-behind_some q p (b ∷ r) (own_pair v ++ children_pairs cs) s ∙ ap (with_prefix q) (below-here b r v (children_pairs cs) ∙ children-filter (λ e. begins (b ∷ r) e.0) b cs w.2 (λ x k v n. rw (eq-no b x (λ e. n (sym e))) refl)))
+        (below-behind_some q p (b ∷ r) (own_pair v ++ children_pairs cs) s
+        ∙ ap (with_prefix q) (below-here b r v (children_pairs cs)
+        ∙ children-filter (λ e. begins (b ∷ r) e.0) b cs w.2 (λ x k v n. rw (eq-no b x (λ e. n (sym e))) refl)))
         (h (k ++ g q));
   }
 
-  part-finds : (g : Grown) (k : Pieces) (p : List ℕ) (o : Option (Trie V)) → IsCanonicalTree o → Finds g k (below p (tree_pairs o)) (tree_part g k p o)
-  part-finds g k p o w = descends (finds g) (λ p o a. (k : Pieces) → Finds g k (below p (tree_pairs o)) (a k)) (finds-kept g) p o w k
+  part-finds : (g : Grown) (k : SegmentList) (p : List ℕ) (o : Option (Trie V)) → IsCanonicalTree o
+      → Finds g k (below p (tree_pairs o)) (tree_part g k p o)
+  part-finds g k p o w = descends (finds g) (λ p o a. (k : SegmentList) → Finds g k (below p (tree_pairs o)) (a k))
+      (finds-kept g) p o w k
 
-  keys-found : (g : Grown) (es : List (List ℕ × V)) (e : Option (Pieces × Trie V)) → Joins g → Finds g [] es e → join_all (part_stops g e) ≡ es
+  keys-found : (g : Grown) (es : List (List ℕ × V)) (e : Option (SegmentList × Trie V)) → Joins g → Finds g [] es e
+      → join_all (part_entries g e) ≡ es
   keys-found g es None j h = sym h
-  keys-found g es (Some e) j h = join-behind e.0 (stops_of g e.1) ∙ ap (with_prefix (joined e.0)) (joined-stops g e.1 j) ∙ ap (λ z. with_prefix z (pairs_of e.1)) (h.1.1 j) ∙ sym h.1.0
+  keys-found g es (Some e) j h = join-behind e.0 (entries_of g e.1)
+      ∙ ap (with_prefix (joined e.0)) (joined-entries g e.1 j) ∙ ap (λ z. with_prefix z (pairs_of e.1)) (h.1.1 j)
+      ∙ sym h.1.0
 
-  values-found : (g : Grown) (es : List (List ℕ × V)) (e : Option (Pieces × Trie V)) → Finds g [] es e → stop_values (part_stops g e) ≡ values_of es
+  values-found : (g : Grown) (es : List (List ℕ × V)) (e : Option (SegmentList × Trie V)) → Finds g [] es e
+      → entry_values (part_entries g e) ≡ values_of es
   values-found g es None h = ap values_of (sym h)
-  values-found g es (Some e) h = values-behind e.0 (stops_of g e.1) ∙ values-stops g e.1 ∙ sym (ap values_of h.1.0 ∙ values-with_prefix h.0 (pairs_of e.1))
+  values-found g es (Some e) h = values-behind e.0 (entries_of g e.1) ∙ values-entries g e.1
+      ∙ sym (ap values_of h.1.0 ∙ values-with_prefix h.0 (pairs_of e.1))
 
   -- the stops at and below the prefix p, by whole keys and by values
-  pub part-keys : (g : Grown) (p : List ℕ) (o : Option (Trie V)) → Joins g → IsCanonicalTree o → join_all (part_stops g (tree_part g [] p o)) ≡ below p (tree_pairs o)
+  pub part-keys : (g : Grown) (p : List ℕ) (o : Option (Trie V)) → Joins g → IsCanonicalTree o
+      → join_all (part_entries g (tree_part g [] p o)) ≡ below p (tree_pairs o)
   part-keys g p o j w = keys-found g (below p (tree_pairs o)) (tree_part g [] p o) j (part-finds g [] p o w)
 
-  pub part-values : (g : Grown) (p : List ℕ) (o : Option (Trie V)) → IsCanonicalTree o → stop_values (part_stops g (tree_part g [] p o)) ≡ values_of (below p (tree_pairs o))
+  pub part-values : (g : Grown) (p : List ℕ) (o : Option (Trie V)) → IsCanonicalTree o
+      → entry_values (part_entries g (tree_part g [] p o)) ≡ values_of (below p (tree_pairs o))
   part-values g p o w = values-found g (below p (tree_pairs o)) (tree_part g [] p o) (part-finds g [] p o w)
 
   -- there are as many pairs below a prefix as below the node that is found
-  pub part-length : (g : Grown) (k l : Pieces) (p : List ℕ) (o : Option (Trie V)) (u : Trie V) → IsCanonicalTree o → tree_part g k p o ≡ Some (l, u) → length (below p (tree_pairs o)) ≡ length (pairs_of u)
-  part-length g k l p o u w e = let h : Finds g k (below p (tree_pairs o)) (Some (l, u)) = subst (Finds g k (below p (tree_pairs o))) e (part-finds g k p o w) in ap length h.1.0 ∙ length-with_prefix h.0 (pairs_of u)
+  pub part-length : (g : Grown) (k l : SegmentList) (p : List ℕ) (o : Option (Trie V)) (u : Trie V) → IsCanonicalTree o
+      → tree_part g k p o ≡ Some (l, u) → length (below p (tree_pairs o)) ≡ length (pairs_of u)
+  part-length g k l p o u w e = let h : Finds g k (below p (tree_pairs o)) (Some (l, u))
+      = subst (Finds g k (below p (tree_pairs o))) e (part-finds g k p o w) in ap length h.1.0
+      ∙ length-with_prefix h.0 (pairs_of u)
 
-  -- one step of the way: the prefix leaves the node's own, ends within it or behind it, or goes on
-  pub part-out : (g : Grown) (k : Pieces) (t : Trie V) (p : List ℕ) → None ≡ strip_prefix (prefix_of t) p → begins p (prefix_of t) ≡ false → None ≡ tree_part g k p (Some t)
+  -- one step of the way: the prefix leaves the node's own, ends within it or after it, or goes on
+  pub part-out : (g : Grown) (k : SegmentList) (t : Trie V) (p : List ℕ) → None ≡ strip_prefix (prefix_of t) p
+      → begins p (prefix_of t) ≡ false → None ≡ tree_part g k p (Some t)
   part-out g k t p e h = sym (ap (λ f. f k) (descend-left (finds g) t p e) ∙ rw h refl)
 
-  pub part-within : (g : Grown) (k : Pieces) (t : Trie V) (p : List ℕ) → None ≡ strip_prefix (prefix_of t) p → begins p (prefix_of t) ≡ true → Some (k, t) ≡ tree_part g k p (Some t)
+  pub part-within : (g : Grown) (k : SegmentList) (t : Trie V) (p : List ℕ) → None ≡ strip_prefix (prefix_of t) p
+      → begins p (prefix_of t) ≡ true → Some (k, t) ≡ tree_part g k p (Some t)
   part-within g k t p e h = sym (ap (λ f. f k) (descend-left (finds g) t p e) ∙ rw h refl)
 
-  pub part-on : (g : Grown) (k : Pieces) (t : Trie V) (p r : List ℕ) (b : ℕ) → is_canonical t ≡ true → Some r ≡ strip_prefix (prefix_of t) p → Some b ≡ slice_get r 0 → tree_part g (k ++ g (prefix_of t)) r (child_in b t) ≡ tree_part g k p (Some t)
+  pub part-on : (g : Grown) (k : SegmentList) (t : Trie V) (p r : List ℕ) (b : ℕ) → is_canonical t ≡ true
+      → Some r ≡ strip_prefix (prefix_of t) p → Some b ≡ slice_get r 0
+      → tree_part g (k ++ g (prefix_of t)) r (child_in b t) ≡ tree_part g k p (Some t)
   part-on g k t p r b c e h = sym (ap (λ f. f k) (descend-on (finds g) t p r b c e h))
 
   -- a child's keys are shorter by what leads to it
-  pub child-deep : (t : Trie V) (b : ℕ) (o : Option (Trie V)) → is_canonical t ≡ true → child_in b t ≡ o → length (prefix_of t) + longest_key (tree_pairs o) ≤ longest_key (pairs_of t)
-  child-deep (node q v n cs) b None c e = omega (arith, longest-below (node q v n cs) (IsCanonical-test (node q v n cs) c))
-  child-deep (node q v n cs) b (Some u) c e = omega (arith, longest-below (node q v n cs) (IsCanonical-test (node q v n cs) c), longest-of b u cs e)
+  pub child-deep : (t : Trie V) (b : ℕ) (o : Option (Trie V)) → is_canonical t ≡ true → child_in b t ≡ o
+      → length (prefix_of t) + longest_key (tree_pairs o) ≤ longest_key (pairs_of t)
+  child-deep (node q v n cs) b None c e = omega
+      (arith, longest-below (node q v n cs) (IsCanonical-test (node q v n cs) c))
+  child-deep (node q v n cs) b (Some u) c e
+      = omega (arith, longest-below (node q v n cs) (IsCanonical-test (node q v n cs) c), longest-of b u cs e)
 
   mutual
     -- fewer nodes than twice the pairs
     pub few-count : (t : Trie V) → IsCanonical t → node_count t + 1 ≤ 2 * length (pairs_of t)
-    few-count (node p v n cs) w = rw (length-with_prefix p (own_pair v ++ children_pairs cs), length-append (own_pair v) (children_pairs cs))
-        (⊎_elim (λ h. omega (arith, few-child_count 0 cs w.2, length-own_pair v h)) (λ h. omega (arith, few-child_count 0 cs w.2, two-edges cs h)) w.0)
+    few-count (node p v n cs) w = rw (
+      length-with_prefix p (own_pair v ++ children_pairs cs),
+      length-append (own_pair v)
+          (children_pairs cs),
+    )
+        (⊎_elim (λ h. omega (arith, few-child_count 0 cs w.2, length-own_pair v h))
+        (λ h. omega (arith, few-child_count 0 cs w.2, two-edges cs h)) w.0)
 
-    few-child_count : (low : ℕ) (cs : Children V) → AreCanonical low cs → child_count cs + length (edges_of cs) ≤ 2 * length (children_pairs cs)
+    few-child_count : (low : ℕ) (cs : Children V) → AreCanonical low cs
+        → child_count cs + length (edges_of cs) ≤ 2 * length (children_pairs cs)
     few-child_count low no_children w = omega arith
-    few-child_count low (child b t cs) w = rw (length-append (pairs_of t) (children_pairs cs)) (omega (arith, few-count t w.2, few-child_count _ cs w.3))
+    few-child_count low (child b t cs) w = rw (length-append (pairs_of t) (children_pairs cs))
+        (omega (arith, few-count t w.2, few-child_count _ cs w.3))

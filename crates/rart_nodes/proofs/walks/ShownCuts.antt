@@ -2,18 +2,42 @@
 use Rattle.std.proofs.Common.{◌≡◌, ℕ, true, List, Option, Some, None, refl, ◌∙◌}
 use Rattle.std.specs.Borrow.{Bor}
 use Rattle.std.specs.Fn.{Mut, Once, Called}
-use Rattle.rart_nodes.specs.declared.node.trail.SegmentTrail.{SegmentTrail}
+use Rattle.rart_nodes.specs.declared.node.path.SegmentPath.{SegmentPath}
 use Rattle.rart_nodes.specs.declared.node.view.LendingKeyView.{LendingKeyView}
-use Rattle.rart_nodes.specs.walks.TrailParts.{lent_pieces}
+use Rattle.rart_nodes.specs.walks.PathParts.{lent_segments}
 use Rattle.rart_nodes.specs.walks.Viewed.{IsCutOf, SeesFound, ShowsFound}
 
-module _ {F V : Type 0} (s : List (List ℕ)) (t : SegmentTrail) (x : Bor V) (key : LendingKeyView) where
-  pub shows-cut : (g : Mut F (LendingKeyView × (Bor V × Unit {0})) (Unit {0})) (f f' : F) (found : Option (List ℕ × V)) → IsCutOf s found (Some (t, x))
-      → lent_pieces key.segments.now ≡ lent_pieces t.segments.items → Called g f (key, (x, tt)) tt f' → ShowsFound g f s found f' true
+module _ {F V : Type 0} (s : List (List ℕ)) (t : SegmentPath) (x : Bor V) (key : LendingKeyView) where
+  pub shows-cut : (g : Mut F (LendingKeyView × (Bor V × Unit {0})) (Unit {0})) (f f' : F) (found : Option (List ℕ × V))
+      → IsCutOf s found (Some (t, x))
+      → lent_segments key.segments.now ≡ lent_segments t.segments.items → Called g f (key, (x, tt)) tt f'
+      → ShowsFound g f s found f' true
   shows-cut g f f' None h k called = absurd (cc)
-  shows-cut g f f' (Some e) h k called = (refl, record { key = key; shown = x; key_is = k ∙ h.0; shows = h.1; called = called })
+  shows-cut g f f' (Some e) h k called = (
+    refl,
+    record {
+      key = key;
+      shown = x;
+      key_is = k ∙ h.0;
+      shows = h.1;
+      called
+          = called;
+    },
+  )
 
-  pub sees-cut : (g : Once F (LendingKeyView × (Bor V × Unit {0})) (Unit {0})) (f : F) (found : Option (List ℕ × V)) → IsCutOf s found (Some (t, x))
-      → lent_pieces key.segments.now ≡ lent_pieces t.segments.items → g.post f (key, (x, tt)) tt → SeesFound g f s found true
+  pub sees-cut : (g : Once F (LendingKeyView × (Bor V × Unit {0})) (Unit {0})) (f : F) (found : Option (List ℕ × V))
+      → IsCutOf s found (Some (t, x))
+      → lent_segments key.segments.now ≡ lent_segments t.segments.items → g.post f (key, (x, tt)) tt
+      → SeesFound g f s found true
   sees-cut g f None h k called = absurd (cc)
-  sees-cut g f (Some e) h k called = (refl, record { key = key; shown = x; key_is = k ∙ h.0; shows = h.1; called = called })
+  sees-cut g f (Some e) h k called = (
+    refl,
+    record {
+      key = key;
+      shown = x;
+      key_is = k ∙ h.0;
+      shows = h.1;
+      called
+          = called;
+    },
+  )

@@ -1,11 +1,12 @@
 -- Stretches of ascending keys, from which a tree is built.
-use Rattle.std.specs.Prelude.{ℕ, ◌==◌, ◌<◌, ◌≤◌, suc, Option, List, [], ◌∷◌, map, drop, length, slice_index, if◌then◌else◌}
+use Rattle.std.specs.Prelude.{ℕ, ◌==◌, ◌<◌, ◌≤◌, suc, Option, List, [], ◌∷◌, map, drop, length, slice_index}
+use Rattle.std.specs.Prelude.{if◌then◌else◌}
 use Rattle.std.specs.Borrow.{Bor}
 use Rattle.rart_keys.specs.KeyBytes.{IsWithin}
 use Rattle.rart_keys.specs.SortedMap.{IsAscending}
 use Rattle.rart_nodes.specs.shapes.ShapeRecords.{keys_in, lone_keys}
 
--- what is left of the keys behind a depth
+-- what is left of the keys after a depth
 abbrev pub rests : ℕ → List (Bor (List ℕ)) → List (List ℕ)
 rests d ks = map (λ k. drop d k) (keys_in ks)
 
@@ -38,7 +39,7 @@ abbrev pub AreWithin : Option ℕ → List (List ℕ) → Type 0
 AreWithin m [] = Unit {0}
 AreWithin m (k ∷ ks) = IsWithin m (length k) × AreWithin m ks
 
--- some keys whose rests behind a depth ascend
+-- some keys whose rests after a depth ascend
 pub record IsStretch (m : Option ℕ) (d : ℕ) (ks : List (Bor (List ℕ))) : Type 0 where
   pub some : 0 < length ks
   pub reach : Reach m d ks

@@ -1,8 +1,10 @@
 -- What a node is without one of its children.
-use Rattle.std.specs.Prelude.{ℕ, ◌≢◌, ◌<◌, ◌≤◌, ◌+◌, ◌==◌, ◌&&◌, Bool, true, false, eqb, cond, List, [], ◌∷◌, ◌++◌, length, Option, Some, None, is_some, if◌then◌else◌}
+use Rattle.std.specs.Prelude.{ℕ, ◌≢◌, ◌<◌, ◌≤◌, ◌+◌, ◌==◌, ◌&&◌, Bool, true, false, eqb, cond, List, [], ◌∷◌, ◌++◌}
+use Rattle.std.specs.Prelude.{length, Option, Some, None, is_some, if◌then◌else◌}
 use Rattle.rart_keys.specs.ByteStrings.{strip_prefix}
 use Rattle.rart_keys.specs.KeyBytes.{IsWithin}
-use Rattle.rart_nodes.specs.tries.Trie.{Trie, node, Children, no_children, child, edges_of, prefix_of, value_of, capacity_in, child_in, children_in, child_of}
+use Rattle.rart_nodes.specs.tries.Trie.{Trie, node, Children, no_children, child, edges_of, prefix_of, value_of}
+use Rattle.rart_nodes.specs.tries.Trie.{capacity_in, child_in, children_in, child_of}
 use Rattle.rart_nodes.specs.storages.Widths.{narrowed, previous_width}
 
 -- children without the one at a byte
@@ -33,15 +35,18 @@ joined_if_lone (node p v w cs) = if is_lone v cs then joined_child p cs else nod
 
 -- a node of width w that a child was taken from, and that has cs left
 abbrev pub left_behind : {V : Type 0} → List ℕ → Option V → ℕ → Children V → Trie V
-left_behind p v w cs = if w == 4 && is_lone v cs then joined_child p cs else node p v (narrowed (length (edges_of cs)) w) cs
+left_behind p v w cs = if w == 4 && is_lone v cs then joined_child p cs
+    else node p v (narrowed (length (edges_of cs)) w) cs
 
 -- a node without the child at a byte
 abbrev pub without_child : {V : Type 0} → ℕ → Trie V → Trie V
-without_child b (node p v w cs) = if is_some (child_of b cs) then left_behind p v w (children_without b cs) else node p v w cs
+without_child b (node p v w cs) = if is_some (child_of b cs) then left_behind p v w (children_without b cs)
+    else node p v w cs
 
 -- a child stands at b, and without it the node takes a smaller storage that has a width
 abbrev pub NarrowsWithout : {V : Type 0} → ℕ → Trie V → Type 0
-NarrowsWithout b t = (child_in b t ≢ None) × (4 < capacity_in t) × (length (edges_of (children_in t)) ≤ previous_width (capacity_in t) + 1)
+NarrowsWithout b t = (child_in b t ≢ None) × (4 < capacity_in t)
+    × (length (edges_of (children_in t)) ≤ previous_width (capacity_in t) + 1)
 
 -- nothing is left of a key
 abbrev pub is_end : Option (List ℕ) → Bool

@@ -1,5 +1,6 @@
 -- Where an insertion may ask for memory: by the keys alone, and by the trie.
-use Rattle.std.specs.Prelude.{ℕ, ◌≡◌, ◌<◌, ◌==◌, ◌||◌, ◌&&◌, not, nat_le, Bool, true, false, List, [], ◌∷◌, length, Option, Some, None, is_some, if◌then◌else◌}
+use Rattle.std.specs.Prelude.{ℕ, ◌≡◌, ◌<◌, ◌==◌, ◌||◌, ◌&&◌, not, nat_le, Bool, true, false, List, [], ◌∷◌, length}
+use Rattle.std.specs.Prelude.{Option, Some, None, is_some, if◌then◌else◌}
 use Rattle.std.specs.List.{list_any}
 use Rattle.std.specs.Option.{unwrap_or}
 use Rattle.rart_keys.specs.SortedMap.{keys_of, lookup}
@@ -32,13 +33,14 @@ insert_asks (k ∷ s) q = not (is_some (record_at (k ∷ s) q) || last_takes (re
 
 -- an insertion at k in the map m may ask for memory, as its keys say: the key is new, and no branch point
 abbrev pub MayAskFor : {V : Type 0} → List ℕ → List (List ℕ × V) → Type 0
-MayAskFor k m = (0 < length m) × (lookup k m ≡ None) × (record_at (keys_of m) k ≡ None) × (insert_asks (keys_of m) k ≡ true)
+MayAskFor k m = (0 < length m) × (lookup k m ≡ None) × (record_at (keys_of m) k ≡ None)
+    × (insert_asks (keys_of m) k ≡ true)
 
 -- the node has as many children as it has room for
 abbrev pub is_full : {V : Type 0} → Trie V → Bool
 is_full (node p v n cs) = nat_le n (length (edges_of cs))
 
--- Whether an insertion by descent asks for memory: where it splits a node, and where a full node gets a child.
+-- Whether an insertion by descent requests memory: where it splits a node, and where a full node gets a child.
 -- None where there is no node: then the node above gets one.
 abbrev pub asks_put : {V : Type 0} → Descent V (Option Bool)
 asks_put = record {

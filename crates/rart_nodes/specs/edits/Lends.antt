@@ -8,10 +8,15 @@ use Rattle.rart_nodes.specs.contracts.node.DefaultNode.{the_row}
 use Rattle.rart_nodes.specs.edits.Loan.{EndsLent, LeavesAt}
 use Rattle.rart_nodes.specs.tries.Trie.{Trie, trie_put}
 
--- the value at k, what is left of a key behind the path to the node, was lent, if there is one: the node ends with what was left there at k; where nothing was lent it ends as it was
-abbrev pub lends_below : (P V : RattleType) → partials.Ghosts P.Denot → MutBor (Trie V.Denot) → List ℕ → Option (MutBor V.Denot) → Fml
-lends_below P V G node k lent = LendsSo (the_row P V G) V node lent (λ n w. EndsLent lent (trie_put k w node.now) node.now n) (λ n. n ≡ node.now)
+-- the value at k, what is left of a key after the path to the node, was lent, if there is one: the node ends with what
+-- was left there at k; where nothing was lent it ends as it was
+abbrev pub lends_below : (P V : RattleType) → partials.Ghosts P.Denot → MutBor (Trie V.Denot) → List ℕ
+    → Option (MutBor V.Denot) → Fml
+lends_below P V G node k lent = LendsSo (the_row P V G) V node lent
+    (λ n w. EndsLent lent (trie_put k w node.now) node.now n) (λ n. n ≡ node.now)
 
 -- the same of a tree, a root or none, with what its pairs and nodes then are
-abbrev pub lends_in : (P V : RattleType) → partials.Ghosts P.Denot → MutBor (Option (Trie V.Denot)) → List ℕ → Option (MutBor V.Denot) → Fml
-lends_in P V G root k lent = LendsSo (option_row (the_row P V G)) V root lent (λ t w. LeavesAt k w lent root.now t) (λ t. t ≡ root.now)
+abbrev pub lends_in : (P V : RattleType) → partials.Ghosts P.Denot → MutBor (Option (Trie V.Denot)) → List ℕ
+    → Option (MutBor V.Denot) → Fml
+lends_in P V G root k lent = LendsSo (option_row (the_row P V G)) V root lent (λ t w. LeavesAt k w lent root.now t)
+    (λ t. t ≡ root.now)

@@ -6,7 +6,8 @@ use Rattle.rart_nodes.specs.storages.Widths.{widened}
 -- children with one more, before the first greater byte
 abbrev pub children_with : {V : Type 0} → ℕ → Trie V → Children V → Children V
 children_with b t no_children = child b t no_children
-children_with b t (child c u cs) = cond (ltb b c) (child b t (child c u cs)) (cond (eqb c b) (child b t cs) (child c u (children_with b t cs)))
+children_with b t (child c u cs) = cond (ltb b c) (child b t (child c u cs))
+    (cond (eqb c b) (child b t cs) (child c u (children_with b t cs)))
 
 -- a node with one more child
 abbrev pub with_child : {V : Type 0} → ℕ → Trie V → Trie V → Trie V

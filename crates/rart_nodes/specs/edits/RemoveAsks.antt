@@ -1,5 +1,6 @@
 -- Where a removal may ask for memory: by the keys alone, and by the trie.
-use Rattle.std.specs.Prelude.{nat_le, not, ◌-◌, ℕ, ◌==◌, ◌||◌, ◌&&◌, Bool, false, List, [], ◌∷◌, length, Option, Some, None, is_some, if◌then◌else◌}
+use Rattle.std.specs.Prelude.{nat_le, not, ◌-◌, ℕ, ◌==◌, ◌||◌, ◌&&◌, Bool, false, List, [], ◌∷◌, length, Option, Some}
+use Rattle.std.specs.Prelude.{None, is_some, if◌then◌else◌}
 use Rattle.std.specs.Option.{unwrap_or}
 use Rattle.rart_nodes.specs.shapes.Shape.{NodeRecord, record_at, capacity_of}
 use Rattle.rart_nodes.specs.tries.Trie.{Trie, Descent, children_in, descend, edges_of, record_of}
@@ -19,7 +20,7 @@ abbrev pub last_before : (List ℕ → Option NodeRecord) → Option NodeRecord 
 last_before f l [] = l
 last_before f l (b ∷ q) = last_before (λ p. f (b ∷ p)) (if is_some (f []) then f [] else l) q
 
--- k is a key with nothing behind it, and the longest branch point that properly begins it has 5, 17 or 49 children
+-- k is a key with nothing after it, and the longest branch point that properly begins it has 5, 17 or 49 children
 abbrev pub remove_asks : List (List ℕ) → List ℕ → Bool
 remove_asks s k = is_leaf_record (record_at s k) && shrinks (last_before (record_at s) None k)
 
@@ -31,7 +32,7 @@ moves_down (Some r) = nat_le 2 (length r.edges) && not (capacity_of (length r.ed
 abbrev pub is_leaf : {V : Type 0} → Trie V → Bool
 is_leaf t = length (edges_of (children_in t)) == 0
 
--- Whether a removal by descent asks for memory: where a node gives up a leaf and moves its children.
+-- Whether a removal by descent requests memory: where a node gives up a leaf and moves its children.
 -- None at the leaf: then the node above gives it up.
 abbrev pub asks_remove : {V : Type 0} → Descent V (Option Bool)
 asks_remove = record {

@@ -1,32 +1,39 @@
 -- What becomes of a caller's state as a walk in lockstep gives it pairs, by what is kept of the way.
-use Rattle.std.specs.Prelude.{ℕ, ◌≡◌, ◌+◌, ◌-◌, ◌^◌, ◌≤◌, ◌<◌, true, min, List, [], ◌∷◌, ◌++◌, length, vec_capacity, Option}
+use Rattle.std.specs.Prelude.{ℕ, ◌≡◌, ◌+◌, ◌-◌, ◌^◌, ◌≤◌, ◌<◌, true, min, List, [], ◌∷◌, ◌++◌, length, vec_capacity}
+use Rattle.std.specs.Prelude.{Option}
 use Rattle.std.specs.Borrow.{Bor}
 use Rattle.std.specs.Global.{Vec}
 use Rattle.std.specs.List.{FoldsTo}
 use Rattle.rart_keys.specs.KeyBytes.{IsWithin}
 use Rattle.rart_keys.specs.SortedMap.{values_of}
-use Rattle.rart_nodes.specs.declared.node.intersect.way.Way.TheVariants.{Untold, Bytes, Segments}
-use Rattle.rart_nodes.specs.joins.Ways.{Kept, WayRoom, WayGrown}
+use Rattle.rart_nodes.specs.declared.node.intersect.way.JoinPath.TheVariants.{Untold, Bytes, Segments}
+use Rattle.rart_nodes.specs.joins.JoinPaths.{Kept, WayRoom, WayGrown}
 use Rattle.rart_nodes.specs.tries.Trie.{with_prefix}
-use Rattle.rart_nodes.specs.walks.Tour.{joined}
-use Rattle.rart_nodes.specs.walks.TrailParts.{lent_pieces}
-use Rattle.rart_nodes.specs.walks.ViewPieces.{all_have_bytes}
+use Rattle.rart_nodes.specs.walks.Walk.{joined}
+use Rattle.rart_nodes.specs.walks.PathParts.{lent_segments}
+use Rattle.rart_nodes.specs.walks.ViewSegments.{all_have_bytes}
 
--- `given s f es g`: given the pairs es behind the way s, f became g; `room s n`: it can go on by n bytes
-pub record AreMeetings {F X : Type 0} (room : Kept → ℕ → Type 0) (given : Kept → F → List (List ℕ × X) → F → Type 0) : Type 0 where
+-- `given s f es g`: given the pairs es after the way s, f became g; `room s n`: it can go on by n bytes
+pub record AreVisitors {F X : Type 0} (room : Kept → ℕ → Type 0) (given : Kept → F → List (List ℕ × X) → F
+    → Type 0) : Type 0 where
   pub holds : (s : Kept) (n : ℕ) → room s n → WayRoom s n
   pub has_room : (s t : Kept) (p : List ℕ) (m n : ℕ) → WayGrown s p t → room s m → length p + n ≤ m → room t n
   pub gives_none : (s : Kept) (f : F) → given s f [] f
-  pub gives_more : (s : Kept) (f g h : F) (xs ys : List (List ℕ × X)) → given s f xs g → given s g ys h → given s f (xs ++ ys) h
-  pub gives_behind : (s t : Kept) (p : List ℕ) (f g : F) (es : List (List ℕ × X)) → WayGrown s p t → given t f es g → given s f (with_prefix p es) g
+  pub gives_more : (s : Kept) (f g h : F) (xs ys : List (List ℕ × X)) → given s f xs g → given s g ys h
+      → given s f (xs ++ ys) h
+  pub gives_behind : (s t : Kept) (p : List ℕ) (f g : F) (es : List (List ℕ × X)) → WayGrown s p t → given t f es g
+      → given s f (with_prefix p es) g
 
--- `can s f x`: behind the way s, f may be given x. It is so behind more of the way with less of the key
+-- `can s f x`: after the way s, f may be given x. It is so after more of the way with less of the key
 abbrev pub CanBehind : {F X : Type 0} → (Kept → F → List ℕ × X → Type 0) → Type 0
-CanBehind {F} {X} can = (s t : Kept) (p : List ℕ) (f : F) (x : List ℕ × X) → WayGrown s p t → can s f (p ++ x.0, x.1) → can t f x
+CanBehind {F} {X} can = (s t : Kept) (p : List ℕ) (f : F) (x : List ℕ × X) → WayGrown s p t → can s f (p ++ x.0, x.1)
+    → can t f x
 
--- behind the way s, f may be given each of the pairs es, as those before it leave f
-pub record CanGive {F X : Type 0} (can : Kept → F → List ℕ × X → Type 0) (given : Kept → F → List (List ℕ × X) → F → Type 0) (s : Kept) (f : F) (es : List (List ℕ × X)) : Type 0 where
-  pub at : (before : List (List ℕ × X)) (x : List ℕ × X) (after : List (List ℕ × X)) (g : F) → es ≡ before ++ x ∷ after → given s f before g → can s g x
+-- after the way s, f may be given each of the pairs es, as those before it leave f
+pub record CanGive {F X : Type 0} (can : Kept → F → List ℕ × X → Type 0) (given : Kept → F → List (List ℕ × X) → F
+    → Type 0) (s : Kept) (f : F) (es : List (List ℕ × X)) : Type 0 where
+  pub at : (before : List (List ℕ × X)) (x : List ℕ × X) (after : List (List ℕ × X)) (g : F) → es ≡ before ++ x ∷ after
+      → given s f before g → can s g x
 
 -- the most that a count can be, at which it stops
 abbrev pub most_count : ℕ
@@ -63,11 +70,11 @@ CanGiveKeys q Untold f x = Unit {0}
 CanGiveKeys q (Bytes k) f x = q f (k.items ++ x.0, x.1)
 CanGiveKeys q (Segments k) f x = Unit {0}
 
--- pairs given with views of their keys, from the pieces of the way
+-- pairs given with views of their keys, from the segments of the way
 pub record ViewRoom (k : Vec (Bor (List ℕ))) (n : ℕ) : Type 0 where
   pub place : length k.items + n ≤ vec_capacity k
-  pub fits : length (joined (lent_pieces k.items)) + n < 2 ^ 64
-  pub full : all_have_bytes (lent_pieces k.items) ≡ true
+  pub fits : length (joined (lent_segments k.items)) + n < 2 ^ 64
+  pub full : all_have_bytes (lent_segments k.items) ≡ true
 
 abbrev pub ViewsRoom : Kept → ℕ → Type 0
 ViewsRoom Untold n = ⊥
@@ -77,9 +84,9 @@ ViewsRoom (Segments k) n = ViewRoom k n
 abbrev pub GivenViews : {F X : Type 0} → (F → List ℕ × X → F → Type 0) → Kept → F → List (List ℕ × X) → F → Type 0
 GivenViews r Untold f es g = Unit {0}
 GivenViews r (Bytes k) f es g = Unit {0}
-GivenViews r (Segments k) f es g = FoldsTo r f (with_prefix (joined (lent_pieces k.items)) es) g
+GivenViews r (Segments k) f es g = FoldsTo r f (with_prefix (joined (lent_segments k.items)) es) g
 
 abbrev pub CanGiveViews : {F X : Type 0} → (F → List ℕ × X → Type 0) → Kept → F → List ℕ × X → Type 0
 CanGiveViews q Untold f x = Unit {0}
 CanGiveViews q (Bytes k) f x = Unit {0}
-CanGiveViews q (Segments k) f x = q f (joined (lent_pieces k.items) ++ x.0, x.1)
+CanGiveViews q (Segments k) f x = q f (joined (lent_segments k.items) ++ x.0, x.1)

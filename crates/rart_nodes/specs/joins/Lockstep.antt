@@ -13,11 +13,13 @@ pub record Pairing (A : Type 0) : Type 0 where
   pub entered : ℕ → A → A
 
 -- two prefixes byte by byte: they end together, the second goes on, the first goes on, or they differ
-abbrev pub pair_prefixes : {A : Type 0} → A → (ℕ → A → A) → List ℕ → List ℕ → A → (ℕ → List ℕ → A) → (ℕ → List ℕ → A) → A
+abbrev pub pair_prefixes : {A : Type 0} → A → (ℕ → A → A) → List ℕ → List ℕ → A → (ℕ → List ℕ → A) → (ℕ → List ℕ → A)
+    → A
 pair_prefixes apart shared [] [] ended f g = ended
 pair_prefixes apart shared [] (y ∷ q) ended f g = f y (y ∷ q)
 pair_prefixes apart shared (x ∷ p) [] ended f g = g x (x ∷ p)
-pair_prefixes apart shared (x ∷ p) (y ∷ q) ended f g = if x == y then shared x (pair_prefixes apart shared p q ended f g) else apart
+pair_prefixes apart shared (x ∷ p) (y ∷ q) ended f g
+    = if x == y then shared x (pair_prefixes apart shared p q ended f g) else apart
 
 -- f b u is made of the left node's child by b and u
 abbrev pub pair_each : {W A : Type 0} → A → (A → A → A) → (ℕ → Trie W → A) → Children W → A
@@ -28,11 +30,13 @@ pair_each apart also f (child c u ds) = also (f c u) (pair_each apart also f ds)
 -- trie and no key, so these recursions stand beside that of a descent.
 abbrev mutual
   pub pair_in : {W A : Type 0} → Pairing A → List ℕ → (Option W → A → A) → (ℕ → Trie W → A) → Trie W → A
-  pair_in d p own f (node q w m ds) = pair_prefixes d.apart d.shared p q (own w (pair_each d.apart d.also f ds)) (λ b r. f b (node r w m ds)) (λ b l. pair_down d b l own f ds)
+  pair_in d p own f (node q w m ds) = pair_prefixes d.apart d.shared p q (own w (pair_each d.apart d.also f ds))
+      (λ b r. f b (node r w m ds)) (λ b l. pair_down d b l own f ds)
 
   pub pair_down : {W A : Type 0} → Pairing A → ℕ → List ℕ → (Option W → A → A) → (ℕ → Trie W → A) → Children W → A
   pair_down d b l own f no_children = d.apart
-  pair_down d b l own f (child c u ds) = match_ordering (nat_cmp b c) d.apart (d.entered b (pair_in d l own f u)) (pair_down d b l own f ds)
+  pair_down d b l own f (child c u ds) = match_ordering (nat_cmp b c) d.apart (d.entered b (pair_in d l own f u))
+      (pair_down d b l own f ds)
 
 abbrev mutual
   pub pair_tries : {V W A : Type 0} → Pairing A → (Option V → Option W → A → A) → Trie V → Trie W → A
@@ -40,7 +44,8 @@ abbrev mutual
 
   pub pair_child : {V W A : Type 0} → Pairing A → (Option V → Option W → A → A) → ℕ → Trie W → Children V → A
   pair_child d own b u no_children = d.apart
-  pair_child d own b u (child c t cs) = match_ordering (nat_cmp b c) d.apart (d.entered b (pair_tries d own t u)) (pair_child d own b u cs)
+  pair_child d own b u (child c t cs) = match_ordering (nat_cmp b c) d.apart (d.entered b (pair_tries d own t u))
+      (pair_child d own b u cs)
 
 -- the keys of both
 abbrev pub meets : {X : Type 0} → Pairing (List (List ℕ × X))
@@ -49,24 +54,27 @@ meets = record { apart = []; shared = λ x es. with_prefix (x ∷ []) es; also =
 abbrev pub own_meet : {V W : Type 0} → Option V → Option W → List (List ℕ × (V × W)) → List (List ℕ × (V × W))
 own_meet v w es = own_pair (both v w) ++ es
 
-abbrev pub meet : {V W : Type 0} → Trie V → Trie W → List (List ℕ × (V × W))
-meet t u = pair_tries meets own_meet t u
+abbrev pub intersect_nodes : {V W : Type 0} → Trie V → Trie W → List (List ℕ × (V × W))
+intersect_nodes t u = pair_tries meets own_meet t u
 
 -- the same step by step
-abbrev pub lockstep : {X : Type 0} → List ℕ → List ℕ → List (List ℕ × X) → (ℕ → List ℕ → List (List ℕ × X)) → (ℕ → List ℕ → List (List ℕ × X)) → List (List ℕ × X)
+abbrev pub lockstep : {X : Type 0} → List ℕ → List ℕ → List (List ℕ × X) → (ℕ → List ℕ → List (List ℕ × X))
+    → (ℕ → List ℕ → List (List ℕ × X)) → List (List ℕ × X)
 lockstep {X} p q ended f g = pair_prefixes (meets {X = X}).apart (meets {X = X}).shared p q ended f g
 
-abbrev pub meet_each : {W X : Type 0} → (ℕ → Trie W → List (List ℕ × X)) → Children W → List (List ℕ × X)
-meet_each {W} {X} f ds = pair_each (meets {X = X}).apart (meets {X = X}).also f ds
+abbrev pub intersect_each : {W X : Type 0} → (ℕ → Trie W → List (List ℕ × X)) → Children W → List (List ℕ × X)
+intersect_each {W} {X} f ds = pair_each (meets {X = X}).apart (meets {X = X}).also f ds
 
-abbrev pub meet_in : {V W : Type 0} → List ℕ → Option V → (ℕ → Trie W → List (List ℕ × (V × W))) → Trie W → List (List ℕ × (V × W))
-meet_in p v f u = pair_in meets p (own_meet v) f u
+abbrev pub intersect_in : {V W : Type 0} → List ℕ → Option V → (ℕ → Trie W → List (List ℕ × (V × W))) → Trie W
+    → List (List ℕ × (V × W))
+intersect_in p v f u = pair_in meets p (own_meet v) f u
 
-abbrev pub meet_down : {V W : Type 0} → ℕ → List ℕ → Option V → (ℕ → Trie W → List (List ℕ × (V × W))) → Children W → List (List ℕ × (V × W))
-meet_down b l v f ds = pair_down meets b l (own_meet v) f ds
+abbrev pub intersect_down : {V W : Type 0} → ℕ → List ℕ → Option V → (ℕ → Trie W → List (List ℕ × (V × W))) → Children W
+    → List (List ℕ × (V × W))
+intersect_down b l v f ds = pair_down meets b l (own_meet v) f ds
 
-abbrev pub meet_child : {V W : Type 0} → ℕ → Trie W → Children V → List (List ℕ × (V × W))
-meet_child b u cs = pair_child meets own_meet b u cs
+abbrev pub intersect_child : {V W : Type 0} → ℕ → Trie W → Children V → List (List ℕ × (V × W))
+intersect_child b u cs = pair_child meets own_meet b u cs
 
 -- a node of which the rest p of its prefix is left
 abbrev pub with_rest : {V : Type 0} → List ℕ → Trie V → Trie V

@@ -6,7 +6,8 @@ use Rattle.std.specs.List.{FoldsTo}
 use Rattle.rart_nodes.specs.walks.Calls.{CallableAtEach, CallsEach}
 
 -- f was called at the values x, and is then f'
-pub record CalledWith {F V W : Type 0} (g : Mut F (Bor V × (Bor W × Unit {0})) (Unit {0})) (f : F) (x : V × W) (f' : F) : Type 0 where
+pub record CalledWith {F V W : Type 0} (g : Mut F (Bor V × (Bor W × Unit {0})) (Unit {0})) (f : F) (x : V × W)
+    (f' : F) : Type 0 where
   pub left : Bor V
   pub right : Bor W
   pub left_is : left.now ≡ x.0
@@ -26,12 +27,13 @@ module _ {F V W : Type 0} (g : Mut F (Bor V × (Bor W × Unit {0})) (Unit {0})) 
   abbrev pub CallsWithEach : F → List (V × W) → F → Type 0
   CallsWithEach f xs f' = FoldsTo (λ p x q. CalledWith g p x q) f xs f'
 
-  -- the same of an f that is gone
+  -- the same of an f taken by value
   abbrev pub CalledWithEach : F → List (V × W) → Type 0
   CalledWithEach f xs = CallsEach (λ p x q. CalledWith g p x q) f xs
 
 -- f was called at the key and the values x, and is then f'
-pub record CalledAt {F K V W : Type 0} (g : Mut F (K × (Bor V × (Bor W × Unit {0}))) (Unit {0})) (bytes : K → List ℕ) (f : F) (x : List ℕ × (V × W)) (f' : F) : Type 0 where
+pub record CalledAt {F K V W : Type 0} (g : Mut F (K × (Bor V × (Bor W × Unit {0}))) (Unit {0})) (bytes : K
+    → List ℕ) (f : F) (x : List ℕ × (V × W)) (f' : F) : Type 0 where
   pub key : K
   pub left : Bor V
   pub right : Bor W
@@ -43,7 +45,8 @@ pub record CalledAt {F K V W : Type 0} (g : Mut F (K × (Bor V × (Bor W × Unit
 module _ {F K V W : Type 0} (g : Mut F (K × (Bor V × (Bor W × Unit {0}))) (Unit {0})) (bytes : K → List ℕ) where
   -- f may be called at the key and the values x
   abbrev pub TakesAtKey : F → List ℕ × (V × W) → Type 0
-  TakesAtKey f x = (key : K) (left : Bor V) (right : Bor W) → bytes key ≡ x.0 → left.now ≡ x.1.0 → right.now ≡ x.1.1 → Takes g f (key, (left, (right, tt)))
+  TakesAtKey f x = (key : K) (left : Bor V) (right : Bor W) → bytes key ≡ x.0 → left.now ≡ x.1.0 → right.now ≡ x.1.1
+      → Takes g f (key, (left, (right, tt)))
 
   -- f may be called at each key and its values in turn
   abbrev pub CanCallAt : F → List (List ℕ × (V × W)) → Type 0
@@ -53,6 +56,6 @@ module _ {F K V W : Type 0} (g : Mut F (K × (Bor V × (Bor W × Unit {0}))) (Un
   abbrev pub CallsAtEach : F → List (List ℕ × (V × W)) → F → Type 0
   CallsAtEach f xs f' = FoldsTo (λ p x q. CalledAt g bytes p x q) f xs f'
 
-  -- the same of an f that is gone
+  -- the same of an f taken by value
   abbrev pub CalledAtEach : F → List (List ℕ × (V × W)) → Type 0
   CalledAtEach f xs = CallsEach (λ p x q. CalledAt g bytes p x q) f xs

@@ -1,7 +1,8 @@
 -- The strings at which two trees branch and both go on, and the visits of a walk in lockstep.
 use Rattle.std.specs.Prelude.{ℕ, ◌+◌, ◌||◌, ◌&&◌, Bool, false, List, [], ◌∷◌, ◌++◌, map, length, is_some}
 use Rattle.std.specs.List.{filter}
-use Rattle.rart_nodes.specs.joins.Lockstep.{Pairing, pair_child, pair_down, pair_each, pair_in, pair_prefixes, pair_tries}
+use Rattle.rart_nodes.specs.joins.Lockstep.{Pairing, pair_child, pair_down, pair_each, pair_in, pair_prefixes}
+use Rattle.rart_nodes.specs.joins.Lockstep.{pair_tries}
 use Rattle.rart_nodes.specs.shapes.BranchPoints.{begins_any}
 use Rattle.rart_keys.specs.SortedMap.{keys_of, put}
 use Rattle.rart_nodes.specs.shapes.Shape.{record_at}
@@ -41,7 +42,7 @@ as_map (x ∷ xs) = (x, tt) ∷ as_map xs
 abbrev pub shared_edges : List (List ℕ) → List (List ℕ) → List (List ℕ)
 shared_edges s t = keys_of (set_map (filter (λ x. is_shared s t x) (all_starts s)))
 
--- 1 for each child that is entered, alone where the other side goes on with it, or with the other side's child
+-- 1 for each child that is entered, alone where the other side continues with it, or with the other side's child
 abbrev pub counts_visits : Pairing ℕ
 counts_visits = record { apart = 0; shared = λ x n. n; also = λ m n. m + n; entered = λ b n. 1 + n }
 
@@ -65,10 +66,11 @@ abbrev pub visits_child : {V W : Type 0} → ℕ → Trie W → Children V → �
 visits_child b u cs = pair_child counts_visits (λ v w n. n) b u cs
 
 -- 1 for the two roots
-abbrev pub meet_visits : {V W : Type 0} → Trie V → Trie W → ℕ
-meet_visits t u = 1 + more_visits t u
+abbrev pub intersect_visits : {V W : Type 0} → Trie V → Trie W → ℕ
+intersect_visits t u = 1 + more_visits t u
 
--- the visits of an intersection of two maps with these keys: none where one is empty, else 1 for the roots and 1 for each shared_edges edge
+-- the visits of an intersection of two maps with these keys: none where one is empty, else 1 for the roots and 1 for
+-- each shared_edges edge
 abbrev pub joint_visits : List (List ℕ) → List (List ℕ) → ℕ
 joint_visits [] t = 0
 joint_visits (k ∷ s) [] = 0

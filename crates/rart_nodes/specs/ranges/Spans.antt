@@ -6,10 +6,10 @@ use Rattle.rart_keys.specs.SortedMap.{keys_of}
 use Rattle.rart_nodes.specs.statistics.Statistics.{height}
 use Rattle.rart_nodes.specs.walks.Cut.{cut_pairs}
 use Rattle.rart_nodes.specs.walks.ProbeCount.{probe_count}
-use Rattle.rart_nodes.specs.walks.Tour.{Pieces}
+use Rattle.rart_nodes.specs.walks.Walk.{SegmentList}
 
 -- the pairs between two bounds, with their keys cut
-abbrev pub cut_between : {V : Type 0} → Bound (List ℕ) → Bound (List ℕ) → List (List ℕ × V) → List (Pieces × V)
+abbrev pub cut_between : {V : Type 0} → Bound (List ℕ) → Bound (List ℕ) → List (List ℕ × V) → List (SegmentList × V)
 cut_between a b es = cut_pairs (keys_of es) (between a b es)
 
 -- the way to the start, two nodes for each pair, and the tree's height

@@ -3,23 +3,23 @@ use Rattle.std.specs.Prelude.{ℕ, ◌+◌, Bool, cond, ltb, List, [], ◌≡◌
 use Rattle.std.specs.Borrow.{Bor}
 use Rattle.std.specs.List.{filter}
 use Rattle.std.specs.declared.ops.Bound.{Bound}
-use Rattle.rart_keys.specs.Ranges.{is_since, is_to, up_to}
+use Rattle.rart_keys.specs.Ranges.{is_from_bound, is_to, up_to}
 use Rattle.rart_nodes.specs.tries.Trie.{Children, no_children, child}
-use Rattle.rart_nodes.specs.walks.Tour.{Pieces, joined}
+use Rattle.rart_nodes.specs.walks.Walk.{SegmentList, joined}
 
 -- the children whose byte is above b
 abbrev pub children_above : {V : Type 0} → ℕ → Children V → Children V
 children_above b no_children = no_children
 children_above b (child c t cs) = cond (ltb b c) (child c t (children_above b cs)) (children_above b cs)
 
--- the stops whose key comes behind s, and where h says so the one at s
-abbrev pub stops_since : {V : Type 0} → Bool → List ℕ → List (Pieces × V) → List (Pieces × V)
-stops_since h s es = filter (λ e. is_since h s (joined e.0)) es
+-- the entries whose key comes after s, and where h says so the one at s
+abbrev pub entries_from : {V : Type 0} → Bool → List ℕ → List (SegmentList × V) → List (SegmentList × V)
+entries_from h s es = filter (λ e. is_from_bound h s (joined e.0)) es
 
--- the stops before the first one past an end
-abbrev pub stops_to : {V : Type 0} → Bound (List ℕ) → List (Pieces × V) → List (Pieces × V)
-stops_to b [] = []
-stops_to b (e ∷ es) = if is_to b (joined e.0) then e ∷ stops_to b es else []
+-- the entries before the first one past an end
+abbrev pub entries_to : {V : Type 0} → Bound (List ℕ) → List (SegmentList × V) → List (SegmentList × V)
+entries_to b [] = []
+entries_to b (e ∷ es) = if is_to b (joined e.0) then e ∷ entries_to b es else []
 
 -- one more than the bytes of the first key, or nothing where no pair is left
 abbrev pub bytes_taken : {V : Type 0} → List (List ℕ × V) → ℕ
@@ -27,5 +27,7 @@ bytes_taken [] = 0
 bytes_taken (e ∷ es) = length e.0 + 1
 
 -- the first pair within the end was given, as a key of these bytes; or there is none, and nothing is left
-abbrev pub TakesUpTo : {K V : Type 0} → (K → List ℕ) → Bound (List ℕ) × List (List ℕ × V) → Option (K × Bor V) → Bound (List ℕ) × List (List ℕ × V) → Type 0
-TakesUpTo bytes old given new = MatchOption given ((up_to old.0 old.1 ≡ []) × (new.1 ≡ [])) (λ p. up_to old.0 old.1 ≡ (bytes p.0, p.1.now) ∷ up_to new.0 new.1)
+abbrev pub TakesUpTo : {K V : Type 0} → (K → List ℕ) → Bound (List ℕ) × List (List ℕ × V) → Option (K × Bor V)
+    → Bound (List ℕ) × List (List ℕ × V) → Type 0
+TakesUpTo bytes old given new = MatchOption given ((up_to old.0 old.1 ≡ []) × (new.1 ≡ []))
+    (λ p. up_to old.0 old.1 ≡ (bytes p.0, p.1.now) ∷ up_to new.0 new.1)

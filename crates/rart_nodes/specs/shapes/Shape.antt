@@ -1,5 +1,6 @@
 -- The shape of a set of keys: one record for each branch point, and no other.
-use Rattle.std.specs.Prelude.{ℕ, ◌≡◌, nat_le, Bool, ◌||◌, ◌==◌, List, [], ◌∷◌, length, Option, Some, None, if◌then◌else◌}
+use Rattle.std.specs.Prelude.{ℕ, ◌≡◌, nat_le, Bool, ◌||◌, ◌==◌, List, [], ◌∷◌, length, Option, Some, None}
+use Rattle.std.specs.Prelude.{if◌then◌else◌}
 use Rattle.std.specs.List.{filter_map, list_any}
 use Rattle.rart_keys.specs.ByteStrings.{bytes_eq, byte_after}
 use Rattle.rart_keys.specs.SortedMap.{IsAscending, lookup}
@@ -24,7 +25,8 @@ contains_key s p = list_any (λ k. bytes_eq k p) s
 
 -- how many children a node with n can hold
 abbrev pub capacity_of : ℕ → ℕ
-capacity_of n = if nat_le n 0 then 0 else if nat_le n 4 then 4 else if nat_le n 16 then 16 else if nat_le n 48 then 48 else 256
+capacity_of n = if nat_le n 0 then 0 else if nat_le n 4 then 4 else if nat_le n 16 then 16 else if nat_le n 48 then 48
+    else 256
 
 -- what is told of a node: whether it holds a value, its edge bytes, and how many children it has room for
 pub record NodeRecord : Type 0 where
@@ -34,7 +36,8 @@ pub record NodeRecord : Type 0 where
 
 -- the record of a string that is a key or not, and from which the keys go on by these bytes
 abbrev pub record_from : Bool → List ℕ → Option NodeRecord
-record_from h bs = if h || nat_le 2 (length bs) then Some (record { holds_value = h; edges = bs; capacity = capacity_of (length bs) }) else None
+record_from h bs = if h || nat_le 2 (length bs)
+    then Some (record { holds_value = h; edges = bs; capacity = capacity_of (length bs) }) else None
 
 -- a branch point is a key, or keys go on from it by two bytes or more
 abbrev pub record_at : List (List ℕ) → List ℕ → Option NodeRecord

@@ -27,4 +27,5 @@ put_some p (Some r) rs = put p r rs
 
 -- o is the record of the shape of the keys at p, with its path, or none
 abbrev pub IsRecordAt : List (List ℕ) → List ℕ → Option ShapeRecord → Type 0
-IsRecordAt ks p o = MatchOption o (record_at ks p ≡ None) (λ r. (r.path.items ≡ p) × (record_at ks p ≡ Some (node_record r)))
+IsRecordAt ks p o = MatchOption o (record_at ks p ≡ None) (λ r. (r.path.items ≡ p)
+    × (record_at ks p ≡ Some (node_record r)))

@@ -1,5 +1,6 @@
 -- Statistics of a set of keys by its shape, and of a trie.
-use Rattle.std.specs.Prelude.{ℕ, ◌+◌, ◌==◌, Bool, nat_le, max, List, [], ◌∷◌, ◌++◌, length, Option, Some, None, is_some, if◌then◌else◌}
+use Rattle.std.specs.Prelude.{ℕ, ◌+◌, ◌==◌, Bool, nat_le, max, List, [], ◌∷◌, ◌++◌, length, Option, Some, None, is_some}
+use Rattle.std.specs.Prelude.{if◌then◌else◌}
 use Rattle.rart_nodes.specs.shapes.Shape.{NodeRecord, record_at}
 use Rattle.rart_nodes.specs.declared.stats.NodeStats.{NodeStats}
 use Rattle.rart_nodes.specs.declared.stats.TreeStats.{TreeStats}
@@ -47,14 +48,34 @@ width_entry w n c = if nat_le 1 n then (w, record { width = w; total_nodes = n; 
 
 -- the entries, ascending by width, where f sums what the nodes add
 abbrev pub width_entries : ((NodeRecord → ℕ) → ℕ) → List (ℕ × NodeStats)
-width_entries f = width_entry 4 (f (nodes_of_width 4)) (f (children_of_width 4)) ++ width_entry 16 (f (nodes_of_width 16)) (f (children_of_width 16)) ++ width_entry 48 (f (nodes_of_width 48)) (f (children_of_width 48)) ++ width_entry 256 (f (nodes_of_width 256)) (f (children_of_width 256))
+width_entries f = width_entry 4 (f (nodes_of_width 4)) (f (children_of_width 4))
+    ++ width_entry 16 (f (nodes_of_width 16)) (f (children_of_width 16)) ++ width_entry 48 (f (nodes_of_width 48))
+    (f (children_of_width 48)) ++ width_entry 256 (f (nodes_of_width 256)) (f (children_of_width 256))
 
-abbrev pub statistics_by : ((NodeRecord → ℕ) → ℕ) → ℕ → Statistics
-statistics_by f h = record { leaves = f leaves_at; values = f values_at; inner_nodes = f inner_at; widths = width_entries f; children = f children_at; width = f width_at; height = h }
+abbrev pub stats_by : ((NodeRecord → ℕ) → ℕ) → ℕ → Statistics
+stats_by f h = record {
+  leaves = f leaves_at;
+  values = f values_at;
+  inner_nodes = f inner_at;
+  widths
+      = width_entries f;
+  children = f children_at;
+  width = f width_at;
+  height = h;
+}
 
 -- the numbers that a program keeps
-abbrev pub statistics_in : TreeStats → Statistics
-statistics_in s = record { leaves = s.num_leaves; values = s.num_values; inner_nodes = s.num_inner_nodes; widths = s.node_stats.entries; children = s.total_children; width = s.total_width; height = s.max_height }
+abbrev pub stats_in : TreeStats → Statistics
+stats_in s = record {
+  leaves = s.num_leaves;
+  values = s.num_values;
+  inner_nodes = s.num_inner_nodes;
+  widths
+      = s.node_stats.entries;
+  children = s.total_children;
+  width = s.total_width;
+  height = s.max_height;
+}
 
 -- the sum of what records add
 abbrev pub sum_over : (NodeRecord → ℕ) → List (List ℕ × NodeRecord) → ℕ
@@ -79,13 +100,14 @@ abbrev pub height : List (List ℕ) → ℕ
 height s = most_along (record_at s) s
 
 -- of keys s whose shape is rs
-abbrev pub statistics_of : List (List ℕ) → List (List ℕ × NodeRecord) → Statistics
-statistics_of s rs = statistics_by (λ m. sum_over m rs) (height s)
+abbrev pub stats_of : List (List ℕ) → List (List ℕ × NodeRecord) → Statistics
+stats_of s rs = stats_by (λ m. sum_over m rs) (height s)
 
 -- the sum of what the nodes of a trie add
 abbrev mutual
   pub sum_in : {V : Type 0} → (NodeRecord → ℕ) → Trie V → ℕ
-  sum_in m (node p v n cs) = m (record { holds_value = is_some v; edges = edges_of cs; capacity = n }) + sum_in_children m cs
+  sum_in m (node p v n cs) = m (record { holds_value = is_some v; edges = edges_of cs; capacity = n })
+      + sum_in_children m cs
 
   pub sum_in_children : {V : Type 0} → (NodeRecord → ℕ) → Children V → ℕ
   sum_in_children m no_children = 0
@@ -100,5 +122,5 @@ abbrev mutual
   children_height no_children = 0
   children_height (child b t cs) = max (trie_height t) (children_height cs)
 
-abbrev pub trie_statistics : {V : Type 0} → Trie V → Statistics
-trie_statistics t = statistics_by (λ m. sum_in m t) (trie_height t)
+abbrev pub trie_stats : {V : Type 0} → Trie V → Statistics
+trie_stats t = stats_by (λ m. sum_in m t) (trie_height t)

@@ -1,29 +1,31 @@
 -- What a storage holds.
-use Rattle.std.specs.Prelude.{ℕ, ◌≡◌, ◌≢◌, ◌<◌, ◌≤◌, ◌+◌, List, [], length, Option, None, is_some, if◌then◌else◌, OnSome}
+use Rattle.std.specs.Prelude.{ℕ, ◌≡◌, ◌≢◌, ◌<◌, ◌≤◌, ◌+◌, List, [], length, Option, None, is_some, if◌then◌else◌}
+use Rattle.std.specs.Prelude.{OnSome}
 use Rattle.rart_parts.specs.Entries.{ascending, child_at, replaced}
 use Rattle.rart_nodes.specs.declared.node.storage.Storage.{Storage}
-use Rattle.rart_nodes.specs.declared.node.storage.Storage.TheVariants.{Leaf, Four, Sixteen, FortyEight, Full}
+use Rattle.rart_nodes.specs.declared.node.storage.Storage.TheVariants.{Leaf, Node4, Node16, Node48, Node256}
 use Rattle.rart_nodes.specs.storages.Widths.{narrowed, previous_width}
 
 -- the children, each with its edge byte, in the order of the bytes
 abbrev pub stored : {N : Type 0} → Storage N → List (ℕ × N)
 stored Leaf = []
-stored (Four m) = m.value
-stored (Sixteen m) = m.value
-stored (FortyEight m) = ascending m.value
-stored (Full m) = m.value
+stored (Node4 m) = m.value
+stored (Node16 m) = m.value
+stored (Node48 m) = ascending m.value
+stored (Node256 m) = m.value
 
 -- how many children a storage of its kind holds at most
 abbrev pub width_of : {N : Type 0} → Storage N → ℕ
 width_of Leaf = 0
-width_of (Four m) = 4
-width_of (Sixteen m) = 16
-width_of (FortyEight m) = 48
-width_of (Full m) = 256
+width_of (Node4 m) = 4
+width_of (Node16 m) = 16
+width_of (Node48 m) = 48
+width_of (Node256 m) = 256
 
 -- a child stands at b, and without it a smaller storage that has a width takes the rest
 abbrev pub NarrowsStored : {N : Type 0} → ℕ → Storage N → Type 0
-NarrowsStored b s = (child_at b (stored s) ≢ None) × (4 < width_of s) × (length (stored s) ≤ previous_width (width_of s) + 1)
+NarrowsStored b s = (child_at b (stored s) ≢ None) × (4 < width_of s)
+    × (length (stored s) ≤ previous_width (width_of s) + 1)
 
 -- the width of a storage that the child at b was taken from, if one stood there, and that has n left
 abbrev pub width_without : {N : Type 0} → ℕ → Storage N → ℕ → ℕ

@@ -6,30 +6,35 @@ use Rattle.rart_keys.specs.declared.partials.Partial.{Ghosts}
 use Rattle.rart_parts.specs.Entries.{with_another, ascending}
 use Rattle.rart_nodes.specs.declared.node.DefaultNode.TheDeep.{deep-DefaultNode}
 use Rattle.rart_nodes.specs.declared.node.storage.Storage.{Storage}
-use Rattle.rart_nodes.specs.declared.node.storage.Storage.TheVariants.{Leaf, Four, Sixteen, FortyEight, Full}
+use Rattle.rart_nodes.specs.declared.node.storage.Storage.TheVariants.{Leaf, Node4, Node16, Node48, Node256}
 use Rattle.rart_nodes.specs.storages.Stored.{stored}
 use Rattle.rart_nodes.specs.tries.Trie.{Trie}
 use Rattle.rart_nodes.specs.tries.TrieCode.{as_children, node_count, child_count}
 
-most-children : {V : Type 0} (es : List (ℕ × Trie V)) → most (λ (e : ℕ × Trie V). max 0 (node_count e.1 + 1)) es ≤ child_count (as_children es) + 1
+most-children : {V : Type 0} (es : List (ℕ × Trie V)) → most (λ (e : ℕ × Trie V). max 0 (node_count e.1 + 1)) es
+    ≤ child_count (as_children es) + 1
 most-children [] = omega arith
 most-children (e ∷ es) = omega (arith, most-children es)
 
-count-cond : {V : Type 0} (t : Bool) (a b : List (ℕ × Trie V)) (n : ℕ) → child_count (as_children a) ≡ n → child_count (as_children b) ≡ n → child_count (as_children (cond t a b)) ≡ n
+count-cond : {V : Type 0} (t : Bool) (a b : List (ℕ × Trie V)) (n : ℕ) → child_count (as_children a) ≡ n
+    → child_count (as_children b) ≡ n → child_count (as_children (cond t a b)) ≡ n
 count-cond true a b n p q = p
 count-cond false a b n p q = q
 
-count-with_another : {V : Type 0} (k : ℕ) (t : Trie V) (es : List (ℕ × Trie V)) → child_count (as_children (with_another k t es)) ≡ node_count t + child_count (as_children es)
+count-with_another : {V : Type 0} (k : ℕ) (t : Trie V) (es : List (ℕ × Trie V))
+    → child_count (as_children (with_another k t es)) ≡ node_count t + child_count (as_children es)
 count-with_another k t [] = refl
 count-with_another k t (e ∷ es) = count-cond (ltb e.0 k) _ _ _ (omega (arith, count-with_another k t es)) refl
 
-count-ascending : {V : Type 0} (es : List (ℕ × Trie V)) → child_count (as_children (ascending es)) ≡ child_count (as_children es)
+count-ascending : {V : Type 0} (es : List (ℕ × Trie V)) → child_count (as_children (ascending es))
+    ≡ child_count (as_children es)
 count-ascending [] = refl
 count-ascending (e ∷ es) = omega (arith, count-with_another e.0 e.1 (ascending es), count-ascending es)
 
-pub deep_le-stored : {P V : Type 0} (G : Ghosts P) (p : P) (v : Option V) (s : Storage (Trie V)) → deep-DefaultNode P V G (record { prefix = p; value = v; storage = s }) ≤ child_count (as_children (stored s)) + 1
+pub deep_le-stored : {P V : Type 0} (G : Ghosts P) (p : P) (v : Option V) (s : Storage (Trie V))
+    → deep-DefaultNode P V G (record { prefix = p; value = v; storage = s }) ≤ child_count (as_children (stored s)) + 1
 deep_le-stored G p v Leaf = omega arith
-deep_le-stored G p v (Four m) = omega (arith, most-children m.value)
-deep_le-stored G p v (Sixteen m) = omega (arith, most-children m.value)
-deep_le-stored G p v (FortyEight m) = omega (arith, most-children m.value, count-ascending m.value)
-deep_le-stored G p v (Full m) = omega (arith, most-children m.value)
+deep_le-stored G p v (Node4 m) = omega (arith, most-children m.value)
+deep_le-stored G p v (Node16 m) = omega (arith, most-children m.value)
+deep_le-stored G p v (Node48 m) = omega (arith, most-children m.value, count-ascending m.value)
+deep_le-stored G p v (Node256 m) = omega (arith, most-children m.value)

@@ -1,4 +1,4 @@
--- Laws of pairs behind a prefix. They stand here, not in proofs/, since ghost fields name terms that rest on them.
+-- Laws of pairs after a prefix. They stand here, not in proofs/, since ghost fields name terms that rest on them.
 use Rattle.std.specs.Prelude.{ℕ, ◌≡◌, List, [], ◌∷◌, ◌++◌, length}
 use Rattle.std.proofs.Common.{refl, ap}
 use Rattle.std.proofs.lemmas.List.{append_assoc, length-map, map-append}
@@ -10,11 +10,13 @@ module _ {X : Type 0} where
   prefix-none [] = refl
   prefix-none (e ∷ es) = ap (λ z. e ∷ z) (prefix-none es)
 
-  pub prefix-twice : (q p : List ℕ) (es : List (List ℕ × X)) → with_prefix q (with_prefix p es) ≡ with_prefix (q ++ p) es
+  pub prefix-twice : (q p : List ℕ) (es : List (List ℕ × X))
+      → with_prefix q (with_prefix p es) ≡ with_prefix (q ++ p) es
   prefix-twice q p [] = refl
   prefix-twice q p (e ∷ es) = rw (append_assoc q p e.0, prefix-twice q p es) refl
 
-  pub prefix-append : (p : List ℕ) (xs ys : List (List ℕ × X)) → with_prefix p (xs ++ ys) ≡ with_prefix p xs ++ with_prefix p ys
+  pub prefix-append : (p : List ℕ) (xs ys : List (List ℕ × X))
+      → with_prefix p (xs ++ ys) ≡ with_prefix p xs ++ with_prefix p ys
   prefix-append p xs ys = map-append (λ e. (p ++ e.0, e.1)) xs ys
 
   pub length-with_prefix : (p : List ℕ) (es : List (List ℕ × X)) → length (with_prefix p es) ≡ length es

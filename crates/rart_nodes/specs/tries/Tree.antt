@@ -4,7 +4,8 @@ use Rattle.std.specs.Borrow.{Bor}
 use Rattle.std.specs.Option.{option_copied}
 use Rattle.rart_keys.specs.SortedMap.{keys_of}
 use Rattle.rart_nodes.specs.shapes.Shape.{NodeRecord}
-use Rattle.rart_nodes.specs.tries.Trie.{Trie, pairs_of, nodes_of, descend_tree, looks_up, leaf, trie_put, trie_remove, IsCanonical}
+use Rattle.rart_nodes.specs.tries.Trie.{Trie, pairs_of, nodes_of, descend_tree, looks_up, leaf, trie_put, trie_remove}
+use Rattle.rart_nodes.specs.tries.Trie.{IsCanonical}
 
 -- the pairs of a tree
 abbrev pub tree_pairs : {V : Type 0} → Option (Trie V) → List (List ℕ × V)

@@ -1,5 +1,6 @@
 -- A radix tree as data: a prefix, a value, a capacity, and children by their first byte.
-use Rattle.std.specs.Prelude.{ℕ, ◌≡◌, ◌≤◌, ◌==◌, ◌⊎◌, suc, cond, eqb, List, [], ◌∷◌, ◌++◌, map, length, Option, Some, None, IsSome, is_some, if◌then◌else◌}
+use Rattle.std.specs.Prelude.{ℕ, ◌≡◌, ◌≤◌, ◌==◌, ◌⊎◌, suc, cond, eqb, List, [], ◌∷◌, ◌++◌, map, length, Option, Some}
+use Rattle.std.specs.Prelude.{None, IsSome, is_some, if◌then◌else◌}
 use Rattle.std.specs.Ordering.{nat_cmp, match_ordering}
 use Rattle.rart_keys.specs.ByteStrings.{strip_prefix}
 use Rattle.rart_nodes.specs.shapes.Shape.{capacity_of, NodeRecord}
@@ -41,7 +42,8 @@ record_of (node p v n cs) = record { holds_value = is_some v; edges = edges_of c
 -- the same tree, with its record in the place of each node's value
 abbrev mutual
   pub with_records : {V : Type 0} → Trie V → Trie NodeRecord
-  with_records (node p v c cs) = node p (Some (record { holds_value = is_some v; edges = edges_of cs; capacity = c })) c (children_with_records cs)
+  with_records (node p v c cs) = node p (Some (record { holds_value = is_some v; edges = edges_of cs; capacity = c })) c
+      (children_with_records cs)
 
   pub children_with_records : {V : Type 0} → Children V → Children NodeRecord
   children_with_records no_children = no_children
@@ -75,10 +77,12 @@ HasTwoChildren no_children = ⊥
 HasTwoChildren (child b t no_children) = ⊥
 HasTwoChildren (child b t (child c u cs)) = Unit {0}
 
--- each node has a value or branches, its capacity is its children's, and they stand in order, each by the byte that its prefix begins with
+-- each node has a value or branches, its capacity is its children's, and they stand in order, each by the byte that its
+-- prefix begins with
 abbrev mutual
   pub IsCanonical : {V : Type 0} → Trie V → Type 0
-  IsCanonical (node p v c cs) = (IsSome v ⊎ HasTwoChildren cs) × (c ≡ capacity_of (length (edges_of cs))) × AreCanonical 0 cs
+  IsCanonical (node p v c cs) = (IsSome v ⊎ HasTwoChildren cs) × (c ≡ capacity_of (length (edges_of cs)))
+      × AreCanonical 0 cs
 
   pub AreCanonical : {V : Type 0} → ℕ → Children V → Type 0
   AreCanonical low no_children = Unit {0}
@@ -100,7 +104,8 @@ behind left ended on (Some (b ∷ k)) f = on (f b (b ∷ k))
 
 abbrev mutual
   pub descend : {V A : Type 0} → Descent V A → List ℕ → Trie V → A
-  descend d k (node p v n cs) = behind (d.left k (node p v n cs)) (d.ended (node p v n cs)) (d.on (node p v n cs)) (strip_prefix p k) (λ b r. descend_child d b r cs)
+  descend d k (node p v n cs) = behind (d.left k (node p v n cs)) (d.ended (node p v n cs)) (d.on (node p v n cs))
+      (strip_prefix p k) (λ b r. descend_child d b r cs)
 
   pub descend_child : {V A : Type 0} → Descent V A → ℕ → List ℕ → Children V → A
   descend_child d b k no_children = d.absent
@@ -146,18 +151,21 @@ grown_overlap x r = record { shared = x ∷ r.shared; left = r.left; right = r.r
 abbrev pub overlap : List ℕ → List ℕ → Overlap
 overlap [] k = record { shared = []; left = []; right = k }
 overlap (x ∷ p) [] = record { shared = []; left = x ∷ p; right = [] }
-overlap (x ∷ p) (y ∷ k) = if x == y then grown_overlap x (overlap p k) else record { shared = []; left = x ∷ p; right = y ∷ k }
+overlap (x ∷ p) (y ∷ k) = if x == y then grown_overlap x (overlap p k)
+    else record { shared = []; left = x ∷ p; right = y ∷ k }
 
 -- two children in order
-abbrev pub fork : {V : Type 0} → ℕ → Trie V → ℕ → Trie V → Children V
-fork b s c t = match_ordering (nat_cmp b c) (child b s (child c t no_children)) (child b s (child c t no_children)) (child c t (child b s no_children))
+abbrev pub aligned : {V : Type 0} → ℕ → Trie V → ℕ → Trie V → Children V
+aligned b s c t = match_ordering (nat_cmp b c) (child b s (child c t no_children)) (child b s (child c t no_children))
+    (child c t (child b s no_children))
 
 -- a node with v put in, by how its prefix p and the key part: q is shared, l is left of p and r of the key
-abbrev pub put_split : {V : Type 0} → List ℕ → List ℕ → List ℕ → V → Option V → ℕ → Children V → (ℕ → List ℕ → Children V) → Trie V
+abbrev pub put_split : {V : Type 0} → List ℕ → List ℕ → List ℕ → V → Option V → ℕ → Children V
+    → (ℕ → List ℕ → Children V) → Trie V
 put_split q [] [] v old n cs f = node q (Some v) n cs
 put_split q [] (b ∷ r) v old n cs f = fitting_node q old (f b (b ∷ r))
 put_split q (c ∷ l) [] v old n cs f = fitting_node q (Some v) (child c (node (c ∷ l) old n cs) no_children)
-put_split q (c ∷ l) (b ∷ r) v old n cs f = fitting_node q None (fork c (node (c ∷ l) old n cs) b (leaf (b ∷ r) v))
+put_split q (c ∷ l) (b ∷ r) v old n cs f = fitting_node q None (aligned c (node (c ∷ l) old n cs) b (leaf (b ∷ r) v))
 
 -- the same of an overlap
 abbrev pub put_overlap : {V : Type 0} → Overlap → V → Option V → ℕ → Children V → (ℕ → List ℕ → Children V) → Trie V
@@ -170,17 +178,20 @@ abbrev mutual
 
   pub put_child : {V : Type 0} → ℕ → List ℕ → V → Children V → Children V
   put_child b k v no_children = child b (leaf k v) no_children
-  put_child b k v (child c t cs) = match_ordering (nat_cmp b c) (child b (leaf k v) (child c t cs)) (child c (trie_put k v t) cs) (child c t (put_child b k v cs))
+  put_child b k v (child c t cs) = match_ordering (nat_cmp b c) (child b (leaf k v) (child c t cs))
+      (child c (trie_put k v t) cs) (child c t (put_child b k v cs))
 
--- a node whose value or children were taken: none where nothing is left, and merged with a lone child where it has no value
+-- a node whose value or children were taken: none where nothing is left, and merged with a lone child where it has no
+-- value
 abbrev pub collapsed : {V : Type 0} → List ℕ → Option V → Children V → Option (Trie V)
 collapsed p None no_children = None
 collapsed p None (child b (node q v n cs) no_children) = Some (node (p ++ q) v n cs)
 collapsed p None (child b t (child c u cs)) = Some (fitting_node p None (child b t (child c u cs)))
 collapsed p (Some v) cs = Some (fitting_node p (Some v) cs)
 
--- what is left without a key, by what is left of the key behind the prefix
-abbrev pub removed_behind : {V : Type 0} → Option (List ℕ) → List ℕ → Option V → Children V → (ℕ → List ℕ → Children V) → Option (Trie V)
+-- what is left without a key, by what is left of the key after the prefix
+abbrev pub removed_behind : {V : Type 0} → Option (List ℕ) → List ℕ → Option V → Children V → (ℕ → List ℕ → Children V)
+    → Option (Trie V)
 removed_behind None p v cs f = collapsed p v cs
 removed_behind (Some []) p v cs f = collapsed p None cs
 removed_behind (Some (b ∷ k)) p v cs f = collapsed p v (f b (b ∷ k))
@@ -197,9 +208,10 @@ abbrev mutual
 
   pub remove_child : {V : Type 0} → ℕ → List ℕ → Children V → Children V
   remove_child b k no_children = no_children
-  remove_child b k (child c t cs) = match_ordering (nat_cmp b c) (child c t cs) (child_if c (trie_remove k t) cs) (child c t (remove_child b k cs))
+  remove_child b k (child c t cs) = match_ordering (nat_cmp b c) (child c t cs) (child_if c (trie_remove k t) cs)
+      (child c t (remove_child b k cs))
 
--- the child at a byte, if one stands there
+-- the child at a byte, if there is one
 abbrev pub child_of : {V : Type 0} → ℕ → Children V → Option (Trie V)
 child_of b no_children = None
 child_of b (child c t cs) = cond (eqb c b) (Some t) (child_of b cs)

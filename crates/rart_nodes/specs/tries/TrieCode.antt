@@ -1,4 +1,4 @@
--- A trie's children as a list of entries, its number of nodes, and its code, by which a proof tells tries apart.
+-- A trie's children as a list of entries, its number of nodes, and its code, by which a proof distinguishes tries.
 use Rattle.std.specs.Prelude.{◌≡◌, ℕ, ◌+◌, List, [], ◌∷◌, Option, Some, None, refl}
 use Rattle.std.specs.Coded.{Coded, code_by, coded×, coded_list, coded_ℕ, coded_option}
 use Rattle.std.proofs.Common.{ap, ◌∙◌}
@@ -30,7 +30,7 @@ abbrev mutual
   child_marks no_children more = None ∷ more
   child_marks (child b t cs) more = trie_marks b t (child_marks cs more)
 
--- the node that a mark begins, made of the two rows behind the mark
+-- the node that a mark begins, made of the two rows after the mark
 abbrev pub built_node : {V : Type 0} → ℕ × (List ℕ × (Option V × ℕ)) → List (Children V) → List (Children V)
 built_node i (cs ∷ (rest ∷ more)) = child i.0 (node i.1.0 i.1.1.0 i.1.1.1 cs) rest ∷ more
 built_node i _ = []
@@ -42,8 +42,10 @@ built (None ∷ ms) = no_children ∷ built ms
 built (Some i ∷ ms) = built_node i (built ms)
 
 mutual
-  built-trie_marks : {V : Type 0} (b : ℕ) (t : Trie V) (ms : List (Mark V)) (rest : Children V) (more : List (Children V)) → built ms ≡ rest ∷ more → built (trie_marks b t ms) ≡ child b t rest ∷ more
-  built-trie_marks b (node p v n cs) ms rest more e = ap (built_node (b, (p, (v, n)))) (built-child_marks cs ms ∙ ap (λ rows. cs ∷ rows) e)
+  built-trie_marks : {V : Type 0} (b : ℕ) (t : Trie V) (ms : List (Mark V)) (rest : Children V)
+      (more : List (Children V)) → built ms ≡ rest ∷ more → built (trie_marks b t ms) ≡ child b t rest ∷ more
+  built-trie_marks b (node p v n cs) ms rest more e
+      = ap (built_node (b, (p, (v, n)))) (built-child_marks cs ms ∙ ap (λ rows. cs ∷ rows) e)
 
   built-child_marks : {V : Type 0} (cs : Children V) (ms : List (Mark V)) → built (child_marks cs ms) ≡ cs ∷ built ms
   built-child_marks no_children ms = refl
@@ -59,5 +61,6 @@ pub first_node-marks : {V : Type 0} (t : Trie V) → first_node (built (trie_mar
 first_node-marks t = ap first_node (built-trie_marks 0 t (None ∷ []) no_children [] refl)
 
 abbrev pub trie_code : {V : Type 0} → Coded V → Coded (Trie V)
-trie_code {V} c = code_by (List (Mark V)) (coded_list (coded_option (coded× coded_ℕ (coded× (coded_list coded_ℕ) (coded× (coded_option c) coded_ℕ)))))
+trie_code {V} c = code_by (List (Mark V))
+    (coded_list (coded_option (coded× coded_ℕ (coded× (coded_list coded_ℕ) (coded× (coded_option c) coded_ℕ)))))
     (λ t. trie_marks 0 t (None ∷ [])) (λ ms. first_node (built ms)) first_node-marks

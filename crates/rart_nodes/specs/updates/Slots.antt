@@ -8,7 +8,7 @@ use Rattle.rart_nodes.specs.declared.slot.SlotUpdate.{SlotUpdate}
 use Rattle.rart_nodes.specs.declared.slot.SlotUpdate.TheVariants.{Keep, Remove, Insert}
 use Rattle.rart_nodes.specs.declared.slot.UpdateError.{UpdateError}
 
--- the slot that shows what stands at a key
+-- the slot that shows what is stored at a key
 abbrev pub slot_of : {V : Type 0} → Option V → Slot V
 slot_of None = Vacant
 slot_of (Some v) = Occupied v

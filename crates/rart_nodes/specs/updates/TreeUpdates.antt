@@ -1,5 +1,6 @@
 -- What an update of a tree ends as.
-use Rattle.std.specs.Prelude.{ℕ, ◌≡◌, ◌≢◌, ◌<◌, ◌≤◌, ◌+◌, List, Bool, true, false, length, Option, Some, None, option_and_then, Result, Ok, Err}
+use Rattle.std.specs.Prelude.{ℕ, ◌≡◌, ◌≢◌, ◌<◌, ◌≤◌, ◌+◌, List, Bool, true, false, length, Option, Some, None}
+use Rattle.std.specs.Prelude.{option_and_then, Result, Ok, Err}
 use Rattle.rart_nodes.specs.declared.slot.Outcome.{Outcome}
 use Rattle.rart_nodes.specs.declared.slot.Outcome.TheVariants.{Absent, Kept, Replaced, Removed}
 use Rattle.rart_nodes.specs.declared.slot.SlotUpdate.{SlotUpdate}
@@ -11,7 +12,8 @@ use Rattle.rart_nodes.specs.edits.InsertAsks.{trie_asks_put}
 use Rattle.rart_nodes.specs.edits.RemoveAsks.{trie_asks_remove}
 use Rattle.rart_nodes.specs.storages.Widths.{previous_width}
 use Rattle.rart_nodes.specs.tries.Tree.{tree_put, tree_remove}
-use Rattle.rart_nodes.specs.tries.Trie.{Trie, node, capacity_in, children_in, edges_of, trie_lookup, value_of, with_records}
+use Rattle.rart_nodes.specs.tries.Trie.{Trie, node, capacity_in, children_in, edges_of, trie_lookup, value_of}
+use Rattle.rart_nodes.specs.tries.Trie.{with_records}
 use Rattle.rart_nodes.specs.updates.Slots.{HasRoom, outcome_of}
 use Rattle.rart_parts.specs.declared.error.TreeError.{TreeError}
 use Rattle.rart_parts.specs.declared.error.TreeError.TheVariants.{Memory, Full}
@@ -28,7 +30,7 @@ tree_updated k Remove None t = t
 tree_updated k Remove (Some w) t = tree_remove k t
 tree_updated k (Insert x) w t = Some (tree_put k x t)
 
--- an insertion at k may ask for memory, and no node stands there
+-- an insertion at k may ask for memory, and there is no node there
 abbrev pub AsksPut : {V : Type 0} → List ℕ → Option (Trie V) → Type 0
 AsksPut k None = ⊥
 AsksPut k (Some t) = (trie_asks_put k t ≡ true) × (trie_lookup k (with_records t) ≡ None)
@@ -44,9 +46,11 @@ RefusesPut full k t Full = full ≡ true
 RefusesPut full k t Memory = (full ≡ false) × AsksPut k t
 
 -- an update of t at k, where w was left and r asked for, gives this result and the tree u
-abbrev pub EndsTree : {V : Type 0} → Bool → List ℕ → SlotUpdate V → Option V → Option (Trie V) → Result (Outcome V) (UpdateError V) → Option (Trie V) → Type 0
+abbrev pub EndsTree : {V : Type 0} → Bool → List ℕ → SlotUpdate V → Option V → Option (Trie V)
+    → Result (Outcome V) (UpdateError V) → Option (Trie V) → Type 0
 EndsTree full k r w t (Ok o) u = (u ≡ tree_updated k r w t) × (o ≡ outcome_of r w) × HasRoom full o
-EndsTree full k r w t (Err (Not_inserted e)) u = (u ≡ t) × (r ≡ Insert e.value) × (w ≡ None) × RefusesPut full k t e.error
+EndsTree full k r w t (Err (Not_inserted e)) u = (u ≡ t) × (r ≡ Insert e.value) × (w ≡ None)
+    × RefusesPut full k t e.error
 EndsTree full k r w t (Err Not_removed) u = (u ≡ tree_left k w t) × (r ≡ Remove) × (w ≢ None) × AsksRemove k t
 
 -- a node with this in the place of its value
@@ -54,12 +58,14 @@ abbrev pub node_holding : {V : Type 0} → Option V → Trie V → Trie V
 node_holding v (node p old n cs) = node p v n cs
 
 -- an update at a node with children
-abbrev pub EndsHere : {V : Type 0} → Bool → SlotUpdate V → Option V → Trie V → Result (Outcome V) (UpdateError V) → Trie V → Type 0
+abbrev pub EndsHere : {V : Type 0} → Bool → SlotUpdate V → Option V → Trie V → Result (Outcome V) (UpdateError V)
+    → Trie V → Type 0
 EndsHere full Keep w t (Ok o) u = (u ≡ node_holding w t) × (o ≡ outcome_of Keep w)
 EndsHere full Remove None t (Ok o) u = (u ≡ node_holding None t) × (o ≡ Absent)
 EndsHere full Remove (Some w) t (Ok o) u = (u ≡ joined_if_lone (node_holding None t)) × (o ≡ Removed w)
 EndsHere full (Insert x) w t (Ok o) u = (u ≡ node_holding (Some x) t) × (o ≡ outcome_of (Insert x) w) × HasRoom full o
-EndsHere full r w t (Err (Not_inserted e)) u = (u ≡ node_holding None t) × (r ≡ Insert e.value) × (w ≡ None) × (e.error ≡ Full) × (full ≡ true)
+EndsHere full r w t (Err (Not_inserted e)) u = (u ≡ node_holding None t) × (r ≡ Insert e.value) × (w ≡ None)
+    × (e.error ≡ Full) × (full ≡ true)
 EndsHere full r w t (Err Not_removed) u = ⊥
 
 -- an update at a leaf, which stays where nothing is answered: then its parent is to remove it
@@ -72,7 +78,8 @@ EndsLeaf r None t o u = ⊥
 -- the leaf at a byte is removed, with this value
 abbrev pub LosesLeaf : {V : Type 0} → ℕ → Option V → Trie V → Result (Outcome V) (UpdateError V) → Trie V → Type 0
 LosesLeaf b w t (Ok (Removed v)) u = (Some v ≡ w) × (u ≡ without_child b t)
-LosesLeaf b w t (Err Not_removed) u = (u ≡ t) × (4 < capacity_in t) × (length (edges_of (children_in t)) ≤ previous_width (capacity_in t) + 1)
+LosesLeaf b w t (Err Not_removed) u = (u ≡ t) × (4 < capacity_in t)
+    × (length (edges_of (children_in t)) ≤ previous_width (capacity_in t) + 1)
 LosesLeaf b w t result u = ⊥
 
 -- a root that is a leaf is removed, with its value

@@ -34,11 +34,16 @@ RefusesNew full k m Full = full ≡ true
 RefusesNew full k m Memory = (full ≡ false) × (insert_asks (keys_of m) k ≡ true)
 
 -- an update of m at k, where w was left and r asked for, gives this result and the pairs n
-abbrev pub EndsMap : {V : Type 0} → Bool → List ℕ → SlotUpdate V → Option V → List (List ℕ × V) → Result (Outcome V) (UpdateError V) → List (List ℕ × V) → Type 0
+abbrev pub EndsMap : {V : Type 0} → Bool → List ℕ → SlotUpdate V → Option V → List (List ℕ × V)
+    → Result (Outcome V) (UpdateError V) → List (List ℕ × V) → Type 0
 EndsMap full k r w m (Ok o) n = (n ≡ map_updated k r w m) × (o ≡ outcome_of r w) × HasRoom full o
-EndsMap full k r w m (Err (Not_inserted e)) n = (n ≡ m) × (r ≡ Insert e.value) × (w ≡ None) × RefusesNew full k m e.error
-EndsMap full k r w m (Err Not_removed) n = (n ≡ map_left k w m) × (r ≡ Remove) × (w ≢ None) × (remove_asks (keys_of m) k ≡ true)
+EndsMap full k r w m (Err (Not_inserted e)) n = (n ≡ m) × (r ≡ Insert e.value) × (w ≡ None)
+    × RefusesNew full k m e.error
+EndsMap full k r w m (Err Not_removed) n = (n ≡ map_left k w m) × (r ≡ Remove) × (w ≢ None)
+    × (remove_asks (keys_of m) k ≡ true)
 
--- the same of an update with the callback f, which tells something beside
-abbrev pub UpdatesMap : {F X V : Type 0} → Once F (MutBor (Slot V) × Unit {0}) ((SlotUpdate V × X) × (MutBor (Slot V) × Unit {0})) → F → Bool → List ℕ → List (List ℕ × V) → Result (Outcome V) (UpdateError V) × X → List (List ℕ × V) → Type 0
+-- the same of an update with the callback f, which returns something more
+abbrev pub UpdatesMap : {F X V : Type 0}
+    → Once F (MutBor (Slot V) × Unit {0}) ((SlotUpdate V × X) × (MutBor (Slot V) × Unit {0})) → F → Bool → List ℕ
+    → List (List ℕ × V) → Result (Outcome V) (UpdateError V) × X → List (List ℕ × V) → Type 0
 UpdatesMap g f full k m res n = TellsSo g f (lookup k m) res.1 (λ r w. EndsMap full k r w m res.0 n)

@@ -6,14 +6,14 @@ use Rattle.rart_keys.specs.Filters.{below, longest_match}
 use Rattle.rart_keys.specs.SortedMap.{keys_of, values_of}
 use Rattle.rart_nodes.specs.walks.Cut.{cut, cut_pairs}
 use Rattle.rart_nodes.specs.walks.ProbeCount.{probe_count}
-use Rattle.rart_nodes.specs.walks.Tour.{Pieces}
+use Rattle.rart_nodes.specs.walks.Walk.{SegmentList}
 
 -- the values of the pairs below a prefix
 abbrev pub values_below : {V : Type 0} → List ℕ → List (List ℕ × V) → List V
 values_below p es = values_of (below p es)
 
 -- the pairs below a prefix, with their keys cut
-abbrev pub cut_below : {V : Type 0} → List ℕ → List (List ℕ × V) → List (Pieces × V)
+abbrev pub cut_below : {V : Type 0} → List ℕ → List (List ℕ × V) → List (SegmentList × V)
 cut_below p es = cut_pairs (keys_of es) (below p es)
 
 -- the way to the prefix, and two nodes for each pair

@@ -1,4 +1,4 @@
--- How a proof tells children apart.
+-- How a proof distinguishes children.
 use Rattle.std.specs.Prelude.{[], None, refl}
 use Rattle.std.specs.Coded.{Coded, code_by}
 use Rattle.rart_nodes.specs.tries.Trie.{Trie, node, Children, children_in}

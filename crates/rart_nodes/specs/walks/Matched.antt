@@ -6,7 +6,8 @@ use Rattle.std.specs.List.{FoldsTo}
 use Rattle.rart_nodes.specs.walks.Calls.{CallableAtEach, CallsEach}
 
 -- f was called with the key and the value of x, and is then f'
-pub record Matched {F V : Type 0} (g : Mut F (Bor (List ℕ) × (Bor V × Unit {0})) (Unit {0})) (f : F) (x : List ℕ × V) (f' : F) : Type 0 where
+pub record Matched {F V : Type 0} (g : Mut F (Bor (List ℕ) × (Bor V × Unit {0})) (Unit {0})) (f : F) (x : List ℕ × V)
+    (f' : F) : Type 0 where
   pub key : Bor (List ℕ)
   pub shown : Bor V
   pub key_is : key.now ≡ x.0
@@ -26,6 +27,6 @@ module _ {F V : Type 0} (g : Mut F (Bor (List ℕ) × (Bor V × Unit {0})) (Unit
   abbrev pub MatchesEach : F → List (List ℕ × V) → F → Type 0
   MatchesEach f xs f' = FoldsTo (λ p x q. Matched g p x q) f xs f'
 
-  -- the same of an f that is gone
+  -- the same of an f taken by value
   abbrev pub MatchedEach : F → List (List ℕ × V) → Type 0
   MatchedEach f xs = CallsEach (λ p x q. Matched g p x q) f xs

@@ -1,12 +1,13 @@
 -- The values that a descent along a string passes, with the bytes up to each.
-use Rattle.std.specs.Prelude.{ℕ, ◌≡◌, ◌+◌, ◌<◌, ◌≤◌, List, [], ◌∷◌, ◌++◌, length, take, drop, Option, Some, None, MatchOption, option_map}
+use Rattle.std.specs.Prelude.{ℕ, ◌≡◌, ◌+◌, ◌<◌, ◌≤◌, List, [], ◌∷◌, ◌++◌, length, take, drop, Option, Some, None}
+use Rattle.std.specs.Prelude.{MatchOption, option_map}
 use Rattle.rart_keys.specs.declared.partials.Partial.{Ghosts}
 use Rattle.rart_nodes.specs.declared.node.matching.Matching.{Matching}
 use Rattle.rart_nodes.specs.declared.node.seen.Shared.{Shared}
 use Rattle.rart_nodes.specs.tries.Trie.{Trie, Descent, descend_tree, own_pair, prefix_of, value_of, with_prefix}
 use Rattle.rart_nodes.specs.tries.TrieCode.{node_count}
 use Rattle.rart_nodes.specs.walks.ProbeCount.{tree_entered}
-use Rattle.rart_nodes.specs.walks.Tour.{tree_count}
+use Rattle.rart_nodes.specs.walks.Walk.{tree_count}
 
 -- of a node its own pair, in front of what lies below it
 abbrev pub collects : {V : Type 0} → Descent V (List (List ℕ × V))
@@ -20,7 +21,7 @@ collects = record {
 abbrev pub tree_matches : {V : Type 0} → List ℕ → Option (Trie V) → List (List ℕ × V)
 tree_matches k o = descend_tree collects k o
 
--- what a descent along q has still to pass, where it stands before the tree o behind the first d bytes
+-- what a descent along q has still to pass, where it stands before the tree o after the first d bytes
 abbrev pub matches_ahead : {V : Type 0} → List ℕ → ℕ → Option (Trie V) → List (List ℕ × V)
 matches_ahead q d o = with_prefix (take d q) (tree_matches (drop d q) o)
 
@@ -40,12 +41,12 @@ abbrev pub pair_at : {V : Type 0} → List ℕ → Option V → List (List ℕ �
 pair_at k None = []
 pair_at k (Some v) = (k, v) ∷ []
 
--- at the node t, behind the first d bytes of q, the descent ends without a value
+-- at the node t, after the first d bytes of q, the descent ends without a value
 pub record PassesNone {V : Type 0} (q : List ℕ) (d : ℕ) (t : Trie V) : Type 0 where
   pub still : matches_ahead q d (Some t) ≡ []
   pub counted : entered_ahead q d (Some t) ≡ 1
 
--- there it passes the node, and goes on before the tree o behind the first d1 bytes
+-- there it passes the node, and goes on before the tree o after the first d1 bytes
 pub record Passes {V : Type 0} (q : List ℕ) (d : ℕ) (t : Trie V) (d1 : ℕ) (o : Option (Trie V)) : Type 0 where
   pub within : d1 ≤ length q
   pub still : matches_ahead q d (Some t) ≡ pair_at (take d1 q) (value_of t) ++ matches_ahead q d1 o
@@ -53,5 +54,6 @@ pub record Passes {V : Type 0} (q : List ℕ) (d : ℕ) (t : Trie V) (d1 : ℕ) 
   pub falls : tree_count o < node_count t
 
 -- at the node t the descent goes on before what r shows, or ends
-abbrev pub PassesTo : {P V C : Type 0} {G : Ghosts P} → List ℕ → ℕ → Trie V → Option (Option (Shared P V C G) × ℕ) → Type 0
+abbrev pub PassesTo : {P V C : Type 0} {G : Ghosts P} → List ℕ → ℕ → Trie V → Option (Option (Shared P V C G) × ℕ)
+    → Type 0
 PassesTo q d t r = MatchOption r (PassesNone q d t) (λ e. Passes q d t e.1 (option_map (λ s. s.node.now) e.0))

@@ -12,25 +12,30 @@ use Rattle.rart_nodes.specs.declared.node.control.VisitError.TheVariants.{Callba
 abbrev pub CanTry : {F V E : Type 0} → Mut F (Bor V × Unit {0}) (Result VisitControl E) → F → List V → Type 0
 CanTry g f xs = CallableAtEach (λ p x q. CalledAt g p x (Ok Continue) q) (λ p x. TakesAt g p x) f xs
 
--- how a walk goes on or ends behind an answer, as `more` goes on
+-- how a walk goes on or ends after an answer, as `more` goes on
 abbrev pub GoesOnAs : {F E : Type 0} → Result VisitControl E → F → (F → Type 0) → Result (Unit {0}) E → F → Type 0
 GoesOnAs (Ok Continue) f more r f' = more f
 GoesOnAs (Ok Stop) f more r f' = (r ≡ Ok tt) × (f ≡ f')
 GoesOnAs (Err e) f more r f' = (r ≡ Err e) × (f ≡ f')
 
 -- f is called at each value in order until it says stop or fails, and the walk ends with r and f'
-abbrev pub EndsAs : {F V E : Type 0} → Mut F (Bor V × Unit {0}) (Result VisitControl E) → F → List V → Result (Unit {0}) E → F → Type 0
+abbrev pub EndsAs : {F V E : Type 0} → Mut F (Bor V × Unit {0}) (Result VisitControl E) → F → List V
+    → Result (Unit {0}) E → F → Type 0
 EndsAs {F} {V} {E} g f [] r f' = (r ≡ Ok tt) × (f ≡ f')
-EndsAs {F} {V} {E} g f (v ∷ vs) r f' = (shown : Bor V) × ((answer : Result VisitControl E) × ((next : F) × ((shown.now ≡ v) × (Called g f (shown, tt) answer next × GoesOnAs answer next (λ h. EndsAs g h vs r f') r f'))))
+EndsAs {F} {V} {E} g f (v ∷ vs) r f' = (shown : Bor V)
+    × ((answer : Result VisitControl E) × ((next : F)
+    × ((shown.now ≡ v) × (Called g f (shown, tt) answer next × GoesOnAs answer next (λ h. EndsAs g h vs r f') r f'))))
 
 -- the same of a walk that can also find no room, and then calls nothing
-abbrev pub EndsVisit : {F V E : Type 0} → Mut F (Bor V × Unit {0}) (Result VisitControl E) → F → List V → Result (Unit {0}) (VisitError E) → F → Type 0
+abbrev pub EndsVisit : {F V E : Type 0} → Mut F (Bor V × Unit {0}) (Result VisitControl E) → F → List V
+    → Result (Unit {0}) (VisitError E) → F → Type 0
 EndsVisit g f vs (Ok u) f' = EndsAs g f vs (Ok tt) f'
 EndsVisit g f vs (Err (Callback e)) f' = EndsAs g f vs (Err e) f'
 EndsVisit g f vs (Err Memory) f' = f ≡ f'
 
--- the same of an f that is gone
-abbrev pub EndedVisit : {F V E : Type 0} → Mut F (Bor V × Unit {0}) (Result VisitControl E) → F → List V → Result (Unit {0}) (VisitError E) → Type 0
+-- the same of an f taken by value
+abbrev pub EndedVisit : {F V E : Type 0} → Mut F (Bor V × Unit {0}) (Result VisitControl E) → F → List V
+    → Result (Unit {0}) (VisitError E) → Type 0
 EndedVisit {F} g f vs r = (last : F) × EndsVisit g f vs r last
 
 -- P holds, unless there was no room

@@ -1,19 +1,19 @@
 //! The theorems on statistics, each the contract of a function with an empty body.
 ghost use Rattle.std.specs.Prelude.{◌≡◌, ◌+◌, ◌*◌, ◌≤◌, length};
 ghost use Rattle.rart_keys.specs.SortedMap.{keys_of};
-ghost use Rattle.rart_nodes.specs.statistics.Statistics.{height, statistics_of, sum_in, trie_height, trie_statistics, width_at};
+ghost use Rattle.rart_nodes.specs.statistics.Statistics.{height, stats_of, sum_in, trie_height, trie_stats, width_at};
 ghost use Rattle.rart_nodes.specs.tries.Trie.{Trie, IsCanonical, nodes_of, pairs_of};
 
-/// Statistics of a canonical trie are those of its keys by their shape: its height is the greatest
-/// number of branch points that begin one key, and what its nodes have room for is at most 16 times
-/// the number of keys.
+/// Proves that the statistics of a canonical trie are those of its keys. The height is the greatest number of branch
+/// points that begin one key. The nodes have room for fewer children than 16 times the number of keys.
 pub fn of_keys<V>()
-    ensures value { (t : Trie V) → IsCanonical t → trie_statistics t ≡ statistics_of (keys_of (pairs_of t)) (nodes_of t) }
+    ensures value { (t : Trie V) → IsCanonical t → trie_stats t ≡ stats_of (keys_of (pairs_of t)) (nodes_of t) }
     ensures height { (t : Trie V) → IsCanonical t → trie_height t ≡ height (keys_of (pairs_of t)) }
     ensures few_widths { (t : Trie V) → IsCanonical t → sum_in width_at t + 16 ≤ 16 * length (pairs_of t) }
 {}
 
-/// Canonical tries with equal keys have equal statistics, whatever their values.
+/// Proves that canonical tries with equal keys have equal statistics.
 pub fn of_equal_keys<V, W>()
-    ensures { (t : Trie V) (u : Trie W) → IsCanonical t → IsCanonical u → keys_of (pairs_of t) ≡ keys_of (pairs_of u) → trie_statistics t ≡ trie_statistics u }
+    ensures { (t : Trie V) (u : Trie W) → IsCanonical t → IsCanonical u → keys_of (pairs_of t) ≡ keys_of (pairs_of u)
+        → trie_stats t ≡ trie_stats u }
 {}

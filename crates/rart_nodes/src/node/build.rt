@@ -1,5 +1,4 @@
-//! Nodes built bottom up from keys that ascend: each is made once, with the storage that its children
-//! need, and no edit of a tree is made.
+//! Bottom-up builds from ascending keys: each node is made once, with the storage that its children need.
 ghost use Rattle.std.specs.Prelude.{◌≡◌, ◌+◌, ◌<◌, ◌≤◌, ◌^◌, List, [], drop, length, nat_eq, take, IfErr, IfOk, OnErr};
 ghost use Rattle.std.specs.List.{common_prefix_len};
 ghost use Rattle.rart_keys.specs.KeyBytes.{IsWithin};
@@ -17,8 +16,7 @@ use rart_keys::{Partial, common_prefix_length};
 use rart_parts::TreeError;
 use std::alloc::Global;
 
-/// The byte of the first key behind `depth`, and how many keys from the first on have it there. Asks
-/// that all go on there, and ascend. Passes over long groups by leaps.
+/// Returns the byte of the first key at `depth`, and how many of the first keys have it there.
 fn first_group(keys: &[&[u8]], depth: usize) -> (u8, usize)
     requires some { 0 < length keys.now }
     requires go_on { GoOn (rests depth keys.now) }
@@ -48,7 +46,7 @@ fn first_group(keys: &[&[u8]], depth: usize) -> (u8, usize)
     (byte, end)
 }
 
-/// By how many bytes the keys go on behind `depth`. Asks that all go on there, and ascend.
+/// Returns the number of different bytes of the keys at `depth`.
 fn count_branches(keys: &[&[u8]], depth: usize) -> usize
     requires go_on { GoOn (rests depth keys.now) }
     requires ascending { IsAscending (lone_keys (rests depth keys.now)) }
@@ -64,12 +62,13 @@ fn count_branches(keys: &[&[u8]], depth: usize) -> usize
     count
 }
 
-/// The part that two keys share behind `depth`.
+/// Returns the common prefix of two keys from `depth` on.
 fn shared_part<P: Partial>(first: &[u8], last: &[u8], depth: usize) -> P
     requires first { depth ≤ length first.now }
     requires last { depth ≤ length last.now }
     requires within { IsWithin P.MAXIMUM_SIZE (length first.now) }
-    ensures part { P.bytes result ≡ take (common_prefix_len nat_eq (drop depth first.now) (drop depth last.now)) (drop depth first.now) }
+    ensures part { P.bytes result ≡ take (common_prefix_len nat_eq (drop depth first.now) (drop depth last.now))
+        (drop depth first.now) }
     ensures reach { depth + length (P.bytes result) ≤ length first.now }
     ensures fits { depth + length (P.bytes result) < 2 ^ 64 }
 {
@@ -77,7 +76,7 @@ fn shared_part<P: Partial>(first: &[u8], last: &[u8], depth: usize) -> P
     P::from_slice(&first[depth..depth + shared])
 }
 
-/// What is left of a key behind `depth`.
+/// Returns the bytes of a key from `depth` on.
 fn rest_of<P: Partial>(key: &[u8], depth: usize) -> P
     requires reach { depth ≤ length key.now }
     requires within { IsWithin P.MAXIMUM_SIZE (length key.now) }
@@ -87,7 +86,7 @@ fn rest_of<P: Partial>(key: &[u8], depth: usize) -> P
 }
 
 impl<N> Storage<N> {
-    /// Storage without a child, of the kind for so many; refused where memory is.
+    /// Returns empty storage of the kind for `count` children.
     fn for_children(alloc: Global, count: usize) -> Result<Self, TreeError>
         ensures stored { IfOk result (λ s. stored s ≡ []) }
         ensures width { IfOk result (λ s. width_of s ≡ capacity_of count) }
@@ -108,11 +107,13 @@ impl<N> Storage<N> {
 }
 
 impl<P: Partial, V: Drop> DefaultNode<P, V> {
-    /// The root of a tree with these keys, some, that ascend and are within the maximum. The value of
-    /// each is taken once, in their order, as `take_value` at its place.
+    /// Returns the root of a tree of `keys`, which must be non-empty, ascending and within the maximum. It calls
+    /// `take_value` with each index in order. It allocates only for inner nodes.
     ///
-    /// Refused with `Memory` alone: then a beginning of the values was taken, and dropped. Asks for
-    /// memory once for each inner node, and for nothing else.
+    /// # Errors
+    ///
+    /// [`TreeError::Memory`] if an allocation fails. The values of a prefix of the keys were then taken, and are
+    /// dropped.
     pub fn build<F: FnMut(usize) -> V>(
         alloc: Global,
         keys: &[&[u8]],
@@ -125,14 +126,14 @@ impl<P: Partial, V: Drop> DefaultNode<P, V> {
         ensures canonical { IfOk result IsCanonical }
         ensures keys { IfOk result (λ t. keys_of (pairs_of t) ≡ keys_in keys.now) }
         ensures values { IfOk result (λ t. Takes F.step 0 take_value.old (values_of (pairs_of t)) take_value.new) }
-        ensures taken { OnErr result ((vs : List V) × (length vs ≤ length keys.now) × Takes F.step 0 take_value.old vs take_value.new) }
+        ensures taken { OnErr result ((vs : List V) × (length vs ≤ length keys.now)
+            × Takes F.step 0 take_value.old vs take_value.new) }
         ensures error { IfErr result (λ e. e ≡ TreeError.Memory) }
     {
         DefaultNode::build_below(alloc, keys, 0, 0, take_value)
     }
 
-    /// The node of a stretch of keys that ascend and agree up to `depth`, the first of which has the
-    /// place `from` in the whole list. Otherwise as `build`.
+    /// Returns the node of keys that agree up to `depth`, the first of which has index `from` in the whole list.
     fn build_below<F: FnMut(usize) -> V>(
         alloc: Global,
         keys: &[&[u8]],
@@ -146,7 +147,8 @@ impl<P: Partial, V: Drop> DefaultNode<P, V> {
         ensures canonical { IfOk result IsCanonical }
         ensures keys { IfOk result (λ t. keys_of (pairs_of t) ≡ rests depth keys.now) }
         ensures values { IfOk result (λ t. Takes F.step from take_value.old (values_of (pairs_of t)) take_value.new) }
-        ensures taken { OnErr result ((vs : List V) × (length vs ≤ length keys.now) × Takes F.step from take_value.old vs take_value.new) }
+        ensures taken { OnErr result ((vs : List V) × (length vs ≤ length keys.now)
+            × Takes F.step from take_value.old vs take_value.new) }
         ensures error { IfErr result (λ e. e ≡ TreeError.Memory) }
     {
         // a single key is the whole list: below it leaves are made in their parent's loop

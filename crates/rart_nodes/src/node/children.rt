@@ -1,4 +1,4 @@
-//! The children of a node, each with its byte. The walk is seen as the list of those still to come.
+//! An iterator over the children of a node. A contract reads it as the list of remaining children.
 ghost use Rattle.std.specs.Prelude.{◌≡◌, ◌↔◌, IsTrue};
 ghost use Rattle.std.specs.Iterator.{YieldsFirstBy, item_count};
 ghost use Rattle.rart_nodes.specs.edits.Deletion.{JoinsWithin};
@@ -11,7 +11,7 @@ use crate::node::storage::walk::StorageIter;
 use rart_keys::Partial;
 use std::marker::Model;
 
-/// The children of a node with their bytes, ascending. After `None` always `None`.
+/// Iterates over the children with their bytes, ascending. It is fused.
 #[derive(Drop)]
 pub struct NodeIter<'a, P: Partial, V> {
     children: StorageIter<'a, DefaultNode<P, V>>,
@@ -44,7 +44,7 @@ impl<'a, P: Partial, V> Iterator for NodeIter<'a, P, V> {
 }
 
 impl<P: Partial, V> DefaultNode<P, V> {
-    /// The children with their bytes, ascending. Takes no memory.
+    /// Returns the children with their bytes, ascending. It does not allocate.
     pub fn iter(&self) -> NodeIter<'_, P, V>
         ensures { as_children result ≡ children_in self.now }
     {
@@ -53,7 +53,7 @@ impl<P: Partial, V> DefaultNode<P, V> {
         }
     }
 
-    /// The children whose byte is above `byte`, ascending, none of the others looked at. Takes no memory.
+    /// Returns the children at the bytes above `byte`, ascending. It reads no other child and does not allocate.
     pub fn iter_above(&self, byte: u8) -> NodeIter<'_, P, V>
         ensures { as_children result ≡ children_above byte (children_in self.now) }
     {
@@ -62,7 +62,8 @@ impl<P: Partial, V> DefaultNode<P, V> {
         }
     }
 
-    /// Whether the prefix of each child, joined to the node's, is within the maximum, as a deletion asks.
+    /// Returns whether the prefix of each child, appended to that of the node, is within the maximum. `delete_child`
+    /// requires this.
     pub fn children_fit(&self) -> bool
         ensures { IsTrue result ↔ JoinsWithin P.MAXIMUM_SIZE (prefix_of self.now) (children_in self.now) }
     {

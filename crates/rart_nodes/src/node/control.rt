@@ -1,19 +1,19 @@
-//! What a callback that can end a walk answers, and how such a walk fails.
+//! The results of callbacks that can end a walk, and the errors of such walks.
 
-/// Whether a walk goes on.
+/// Says whether a walk continues.
 #[derive(Clone, Copy, PartialEq, Eq, Debug)]
 pub enum VisitControl {
-    /// It goes on to the next value.
+    /// Continues with the next value.
     Continue,
-    /// It ends here, and the walk's call is `Ok`.
+    /// Ends the walk with `Ok(())`.
     Stop,
 }
 
-/// Why a walk ended that a callback can end. A walk changes nothing.
+/// Says why a walk failed. A walk changes nothing in the tree.
 #[derive(Drop)]
 pub enum VisitError<E> {
-    /// The callback answered this error; no later value was visited.
+    /// The callback returned this error. It was not called again.
     Callback(E),
-    /// There was no room for the walk; the callback wasn't called.
+    /// The allocation for the walk failed. The callback was not called.
     Memory,
 }

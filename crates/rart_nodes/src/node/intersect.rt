@@ -1,76 +1,84 @@
-//! Intersections of two shared trees: one walk through both in lockstep, with its visits counted.
+//! Intersections of two shared trees: one walk through both, with counted visits.
 ghost use Rattle.std.specs.Prelude.{◌≡◌, ◌≤◌, ◌+◌, ◌-◌, [], IfErr, OnErr, OnOk, length, min};
 ghost use Rattle.rart_keys.specs.Joins.{join};
 ghost use Rattle.rart_keys.specs.SortedMap.{longest_key, values_of};
-ghost use Rattle.rart_nodes.specs.joins.Lockstep.{meet};
-ghost use Rattle.rart_nodes.specs.joins.Meetings.{CanGive};
-ghost use Rattle.rart_nodes.specs.joins.PairCalls.{CalledAtEach, CalledWithEach, CallsAtEach, CallsWithEach, CanCallAt, CanCallWith};
+ghost use Rattle.rart_nodes.specs.joins.Lockstep.{intersect_nodes};
+ghost use Rattle.rart_nodes.specs.joins.Visitors.{CanGive};
+ghost use Rattle.rart_nodes.specs.joins.PairCalls.{CalledAtEach, CalledWithEach, CallsAtEach, CallsWithEach, CanCallAt};
+ghost use Rattle.rart_nodes.specs.joins.PairCalls.{CanCallWith};
 ghost use Rattle.rart_nodes.specs.joins.SeenJoins.{MayLackBoth, seen_bound, seen_join, seen_visits};
 ghost use Rattle.rart_nodes.specs.joins.SharedEdges.{joint_visits, more_visits};
 ghost use Rattle.rart_nodes.specs.joins.ViewCalls.{CanViewAt, ViewedAtEach, ViewsAtEach};
-ghost use Rattle.rart_nodes.specs.joins.Ways.{WayGrown};
+ghost use Rattle.rart_nodes.specs.joins.JoinPaths.{WayGrown};
 ghost use Rattle.rart_nodes.specs.tries.Tree.{seen_keys, seen_nodes, seen_pairs};
 ghost use Rattle.rart_nodes.specs.tries.Trie.{pairs_of};
 
-mod fork;
-mod meeting;
-mod twins;
+mod aligned;
+mod shared_children;
+mod visitor;
 mod way;
 
 use crate::count::{Count, Paired};
-use crate::node::intersect::fork::next_fork;
-use crate::node::intersect::meeting::{ByKeys, ByValues, ByViews, Counted, Meeting, give_both};
-use crate::node::intersect::twins::Twins;
-use crate::node::intersect::way::Way;
+use crate::node::intersect::aligned::next_aligned;
+use crate::node::intersect::shared_children::SharedChildren;
+use crate::node::intersect::visitor::{ByKeys, ByValues, ByViews, Counted, Visitor, give_both};
+use crate::node::intersect::way::JoinPath;
 use crate::node::seen::{Entered, Seen};
 use crate::node::view::LendingKeyView;
 use rart_keys::{KeyTrait, Partial};
 use rart_parts::TreeError;
 
-/// Gives the pairs of both trees below two nodes just visited. The way then is as it was.
-fn meet_below<'a, P: Partial, V, W, C: Count, F, T: Meeting<V, W, F>>(
+/// Visits the pairs of both trees below two visited nodes and restores the path.
+fn intersect_below<'a, P: Partial, V, W, C: Count, F, T: Visitor<V, W, F>>(
     left: Entered<'a, P, V, C>,
     right: Entered<'_, P, W, Paired<C>>,
-    way: &mut Way<'a>,
+    way: &mut JoinPath<'a>,
     counter: &mut C,
     f: &mut F,
 )
     requires room { T.room way.old (longest_key (pairs_of left.node.now)) }
-    requires callable { CanGive T.can T.given way.old f.old (meet left.node.now right.node.now) }
+    requires callable { CanGive T.can T.given way.old f.old (intersect_nodes left.node.now right.node.now) }
     ensures place { WayGrown way.old [] way.new }
-    ensures given { T.given way.old f.old (meet left.entry.node.now right.entry.node.now) f.new }
-    ensures visits { C.number counter.new ≡ C.number counter.old + more_visits left.entry.node.now right.entry.node.now }
+    ensures given { T.given way.old f.old (intersect_nodes left.entry.node.now right.entry.node.now) f.new }
+    ensures visits { C.number counter.new ≡ C.number counter.old
+        + more_visits left.entry.node.now right.entry.node.now }
 {
     let mark = way.mark();
-    let Some((left_fork, right_fork)) = next_fork(left, right, way, counter) else {
+    let Some((left_aligned, right_aligned)) = next_aligned(left, right, way, counter) else {
         way.cut(mark);
         return;
     };
-    give_both::<V, W, F, T>(left_fork.value(), right_fork.value(), way, f);
-    if right_fork.is_bare() {
+    give_both::<V, W, F, T>(left_aligned.value(), right_aligned.value(), way, f);
+    if right_aligned.has_no_children() {
         way.cut(mark);
         return;
     }
-    let mut twins = Twins::of(left_fork, right_fork);
-    while let Some((child, other)) = twins.enter_next(left_fork, right_fork, counter) {
-        meet_below::<P, V, W, C, F, T>(child, other, way, counter, f);
+    let mut shared_children = SharedChildren::of(left_aligned, right_aligned);
+    while let Some((child, other)) = shared_children.enter_next(
+        left_aligned,
+        right_aligned,
+        counter,
+    ) {
+        intersect_below::<P, V, W, C, F, T>(child, other, way, counter, f);
     }
     way.cut(mark);
 }
 
-/// Gives the pairs of both trees.
-fn meet_trees<'a, K: KeyTrait, V, W, C: Count, F, T: Meeting<V, W, F>>(
+/// Visits the pairs of both trees.
+fn intersect_trees<'a, K: KeyTrait, V, W, C: Count, F, T: Visitor<V, W, F>>(
     left: Seen<'a, K, V, C>,
     right: Seen<'_, K, W, Paired<C>>,
-    way: &mut Way<'a>,
+    way: &mut JoinPath<'a>,
     counter: &mut C,
     f: &mut F,
 )
     requires room { T.room way.old (longest_key (seen_pairs left.root)) }
     requires callable { CanGive T.can T.given way.old f.old (seen_join left.root right.root) }
     ensures given { T.given way.old f.old (join (seen_pairs left.entry.root) (seen_pairs right.entry.root)) f.new }
-    ensures visits { C.number counter.new ≡ C.number counter.old + joint_visits (seen_keys left.entry.root) (seen_keys right.entry.root) }
-    ensures bound { C.number counter.new ≤ C.number counter.old + (length (seen_nodes left.entry.root) + length (seen_nodes right.entry.root) - 1) }
+    ensures visits { C.number counter.new ≡ C.number counter.old + joint_visits (seen_keys left.entry.root)
+        (seen_keys right.entry.root) }
+    ensures bound { C.number counter.new ≤ C.number counter.old
+        + (length (seen_nodes left.entry.root) + length (seen_nodes right.entry.root) - 1) }
 {
     let Some(left_top) = left.top() else {
         return;
@@ -79,13 +87,16 @@ fn meet_trees<'a, K: KeyTrait, V, W, C: Count, F, T: Meeting<V, W, F>>(
         return;
     };
     let (left_root, right_root) = left_top.enter_pair(right_top, counter);
-    meet_below::<K::PartialType, V, W, C, F, T>(left_root, right_root, way, counter, f);
+    intersect_below::<K::PartialType, V, W, C, F, T>(left_root, right_root, way, counter, f);
 }
 
 impl<'a, K: KeyTrait, V, C: Count> Seen<'a, K, V, C> {
-    /// How many keys both trees have; where that is no `usize`, the greatest. Takes no memory. It visits
-    /// no node where a tree is empty, and else the two roots together and one more node or pair for each
-    /// edge that both trees share: fewer than both trees have nodes.
+    /// Returns the number of keys that both trees have, or `usize::MAX` if it is greater. It does not allocate.
+    ///
+    /// # Visits
+    ///
+    /// The two roots together and one node or pair for each shared edge: at most the nodes of both trees less one.
+    /// None if a tree is empty.
     pub fn intersect_count_counted<'b, W>(
         self,
         other: Seen<'b, K, W, Paired<C>>,
@@ -96,18 +107,18 @@ impl<'a, K: KeyTrait, V, C: Count> Seen<'a, K, V, C> {
         ensures bound { C.number counter.new ≤ C.number counter.old + seen_bound self.entry.root other.entry.root }
     {
         let mut count = 0;
-        meet_trees::<K, V, W, C, usize, Counted>(
+        intersect_trees::<K, V, W, C, usize, Counted>(
             self,
             other,
-            &mut Way::Untold,
+            &mut JoinPath::Untold,
             counter,
             &mut count,
         );
         count
     }
 
-    /// Calls `f` once for each key of both trees, ascending, with the values of this tree and of `other`. Makes no
-    /// key and allocates nothing. `f` must be callable with each of these in turn. The caller keeps `f`.
+    /// Calls `f` once for each key of both trees, ascending, with the values of this tree and of `other`. It makes no
+    /// key and does not allocate. `f` must be callable with each of these in turn. The caller keeps `f`.
     ///
     /// # Visits
     ///
@@ -125,10 +136,14 @@ impl<'a, K: KeyTrait, V, C: Count> Seen<'a, K, V, C> {
         ensures visits { C.number counter.new ≡ C.number counter.old + seen_visits self.entry.root other.entry.root }
         ensures bound { C.number counter.new ≤ C.number counter.old + seen_bound self.entry.root other.entry.root }
     {
-        meet_trees::<K, V, W, C, F, ByValues>(self, other, &mut Way::Untold, counter, f);
+        intersect_trees::<K, V, W, C, F, ByValues>(self, other, &mut JoinPath::Untold, counter, f);
     }
 
     /// Calls `f` as `intersect_values_with_by_ref_counted` does, and drops it.
+    ///
+    /// # Visits
+    ///
+    /// As `intersect_count_counted`.
     pub fn intersect_values_with_counted<'b, W, F: FnMut(&V, &W) + Drop>(
         self,
         other: Seen<'b, K, W, Paired<C>>,
@@ -178,12 +193,20 @@ impl<'a, K: KeyTrait, V, C: Count> Seen<'a, K, V, C> {
             return Ok(());
         };
         let bytes = Vec::with_capacity(self.alloc(), self.longest())?;
-        let mut way = Way::Bytes(bytes);
-        meet_trees::<K, V, W, C, F, ByKeys<K>>(self, other, &mut way, counter, f);
+        let mut way = JoinPath::Bytes(bytes);
+        intersect_trees::<K, V, W, C, F, ByKeys<K>>(self, other, &mut way, counter, f);
         Ok(())
     }
 
     /// Calls `f` as `intersect_with_by_ref_counted` does, and drops it.
+    ///
+    /// # Errors
+    ///
+    /// [`TreeError::Memory`] as there. Nothing is then visited.
+    ///
+    /// # Visits
+    ///
+    /// As `intersect_count_counted`.
     pub fn intersect_with_counted<'b, W, F: FnMut(K, &V, &W) + Drop>(
         self,
         other: Seen<'b, K, W, Paired<C>>,
@@ -203,8 +226,18 @@ impl<'a, K: KeyTrait, V, C: Count> Seen<'a, K, V, C> {
         self.intersect_with_by_ref_counted(other, &mut f, counter)
     }
 
-    /// As `intersect_with_by_ref_counted`, with a view of the key in place of it: no key is made. A segment is a
-    /// stretch that both prefixes of a pair have, or the byte by which a longer one is gone on with.
+    /// Calls `f` once for each key of both trees, ascending, with a view of the key and the values of both trees. It
+    /// makes no key. The segments are cut where a prefix of either tree ends, and after the edge byte of a child that
+    /// is visited alone. `f` must be callable with each of these in turn. The caller keeps `f`.
+    ///
+    /// # Errors
+    ///
+    /// [`TreeError::Memory`] if neither tree is empty and the allocation for the segments fails. Nothing is then
+    /// visited, and `f` is not called.
+    ///
+    /// # Visits
+    ///
+    /// As `intersect_count_counted`.
     pub fn intersect_lending_with_by_ref_counted<'b, W, F: FnMut(LendingKeyView<'_, '_>, &V, &W)>(
         self,
         other: Seen<'b, K, W, Paired<C>>,
@@ -229,12 +262,20 @@ impl<'a, K: KeyTrait, V, C: Count> Seen<'a, K, V, C> {
             return Ok(());
         };
         let segments = Vec::with_capacity(self.alloc(), self.longest())?;
-        let mut way = Way::Segments(segments);
-        meet_trees::<K, V, W, C, F, ByViews>(self, other, &mut way, counter, f);
+        let mut way = JoinPath::Segments(segments);
+        intersect_trees::<K, V, W, C, F, ByViews>(self, other, &mut way, counter, f);
         Ok(())
     }
 
     /// Calls `f` as `intersect_lending_with_by_ref_counted` does, and drops it.
+    ///
+    /// # Errors
+    ///
+    /// [`TreeError::Memory`] as there. Nothing is then visited.
+    ///
+    /// # Visits
+    ///
+    /// As `intersect_count_counted`.
     pub fn intersect_lending_with_counted<'b, W, F: FnMut(LendingKeyView<'_, '_>, &V, &W) + Drop>(
         self,
         other: Seen<'b, K, W, Paired<C>>,

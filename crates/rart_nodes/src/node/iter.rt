@@ -1,11 +1,10 @@
-//! Iterators over a shared tree, in the order of its keys.
-//!
-//! Each takes its room when it is made, and is seen as the list of what is still to come.
+//! Iterators over a shared tree in key order. Each allocates when it is created, and a contract reads it as the list
+//! of remaining items.
 ghost use Rattle.std.specs.Prelude.{◌≡◌, ◌≤◌, ◌+◌, [], ◌∷◌, length, IfErr, IfOk, MatchOption};
 ghost use Rattle.std.specs.Iterator.{YieldsFirstBy, item_count};
 ghost use Rattle.std.specs.Option.{option_copied};
 ghost use Rattle.rart_keys.specs.Filters.{below};
-ghost use Rattle.rart_keys.specs.Ranges.{pairs_since};
+ghost use Rattle.rart_keys.specs.Ranges.{pairs_from};
 ghost use Rattle.rart_keys.specs.SortedMap.{count_of, values_of};
 ghost use Rattle.rart_nodes.specs.tries.Tree.{seen_keys, seen_pairs};
 ghost use Rattle.rart_nodes.specs.walks.ProbeCount.{VisitsAtMost, probe_count};
@@ -13,52 +12,55 @@ ghost use Rattle.rart_nodes.specs.walks.Calls.{MayLackRoom};
 
 use crate::count::{Count, Visits};
 pub use crate::node::matching::PrefixMatchIter;
+use crate::node::path::{BytePath, NoPath};
 use crate::node::seen::Seen;
-use crate::node::tour::Tour;
-use crate::node::trail::{ByteTrail, NoTrail};
 pub use crate::node::view::{LendingKeyBytes, LendingKeyView};
+use crate::node::walk::Walk;
 use rart_keys::{KeyTrait, Partial};
 use rart_parts::TreeError;
 use std::marker::{Model, PhantomData};
 
 /// A walk that makes a key for each pair.
 #[derive(Drop)]
-pub(crate) struct KeyTour<'a, K: KeyTrait, P: Partial, V, C> {
-    tour: Tour<'a, P, V, C>,
-    trail: ByteTrail,
+pub(crate) struct KeyWalk<'a, K: KeyTrait, P: Partial, V, C> {
+    walk: Walk<'a, P, V, C>,
+    path: BytePath,
     of: PhantomData<K>,
 }
 
-impl<'a, K: KeyTrait, P: Partial, V, C> Model for KeyTour<'a, K, P, V, C> {
+impl<'a, K: KeyTrait, P: Partial, V, C> Model for KeyWalk<'a, K, P, V, C> {
     ghost use Rattle.std.specs.Prelude.{ℕ, List, ◌≤◌, reverse, vec_capacity};
     ghost use Rattle.std.specs.Option.{option_copied};
     ghost use Rattle.rart_keys.specs.KeyBytes.{IsWithin};
-    ghost use Rattle.rart_nodes.specs.walks.Tour.{IsTour, join_all, stops_ahead};
-    ghost use Rattle.rart_nodes.specs.walks.TrailParts.{byte_pieces};
+    ghost use Rattle.rart_nodes.specs.walks.Walk.{IsWalk, join_all, entries_ahead};
+    ghost use Rattle.rart_nodes.specs.walks.PathParts.{byte_segments};
 
     ghost Value = { List (List ℕ × V) };
 
-    ghost view = { λ w. join_all (stops_ahead byte_pieces (byte_pieces w.trail.key.items) (option_copied w.tour.first) w.tour.levels.items) };
+    ghost view = { λ w. join_all (entries_ahead byte_segments (byte_segments w.path.key.items)
+        (option_copied w.walk.first) w.walk.levels.items) };
 
-    ghost invariant = { λ w. IsTour w.tour.longest (vec_capacity w.tour.levels) (byte_pieces w.trail.key.items) (reverse w.tour.levels.items)
-        × (w.tour.longest ≤ vec_capacity w.trail.key) × IsWithin K.MAXIMUM_SIZE w.tour.longest };
+    ghost invariant = { λ w. IsWalk w.walk.longest (vec_capacity w.walk.levels) (byte_segments w.path.key.items)
+        (reverse w.walk.levels.items)
+        × (w.walk.longest ≤ vec_capacity w.path.key) × IsWithin K.MAXIMUM_SIZE w.walk.longest };
 }
 
-impl<'a, K: KeyTrait, P: Partial, V, C: Count> KeyTour<'a, K, P, V, C> {
-    /// The next pair. Takes no memory.
+impl<'a, K: KeyTrait, P: Partial, V, C: Count> KeyWalk<'a, K, P, V, C> {
+    /// Returns the next pair. It does not allocate.
     pub(crate) fn step(&mut self, counter: &mut C) -> Option<(K, &'a V)>
-        ensures pairs { MatchOption result ((self.old ≡ []) × (self.new ≡ [])) (λ p. self.old ≡ (K.bytes p.0, p.1.now) ∷ self.new) }
+        ensures pairs { MatchOption result ((self.old ≡ []) × (self.new ≡ []))
+            (λ p. self.old ≡ (K.bytes p.0, p.1.now) ∷ self.new) }
         ensures visits { VisitsAtMost (λ p. length (K.bytes p.0)) (C.number counter.old) result (C.number counter.new) }
     {
-        let value = self.tour.advance(&mut self.trail, counter)?;
-        Some((K::new_from_slice(self.trail.key()), value))
+        let value = self.walk.advance(&mut self.path, counter)?;
+        Some((K::new_from_slice(self.path.key()), value))
     }
 }
 
-/// The pairs of a tree with their visits counted, ascending by key.
+/// Iterates over the pairs of a tree, ascending by key, with counted visits.
 #[derive(Drop)]
 pub struct SeenIter<'a, K: KeyTrait, V, C> {
-    pairs: KeyTour<'a, K, K::PartialType, V, C>,
+    pairs: KeyWalk<'a, K, K::PartialType, V, C>,
 }
 
 impl<'a, K: KeyTrait, V, C> Model for SeenIter<'a, K, V, C> {
@@ -70,17 +72,22 @@ impl<'a, K: KeyTrait, V, C> Model for SeenIter<'a, K, V, C> {
 }
 
 impl<'a, K: KeyTrait, V, C: Count> SeenIter<'a, K, V, C> {
-    /// The next pair. After `None` always `None`. Takes no memory, and visits at most one node more
-    /// than the key has bytes; at the end it visits none.
+    /// Returns the next pair. It is fused and does not allocate.
+    ///
+    /// # Visits
+    ///
+    /// At most one node more than the key has bytes, and none at the end.
     pub fn next_counted(&mut self, counter: &mut C) -> Option<(K, &'a V)>
-        ensures pairs { MatchOption result ((self.old ≡ []) × (self.new ≡ [])) (λ p. self.old ≡ (K.bytes p.0, p.1.now) ∷ self.new) }
-        ensures visits { VisitsAtMost (λ p. length (K.bytes p.0) + 1) (C.number counter.old) result (C.number counter.new) }
+        ensures pairs { MatchOption result ((self.old ≡ []) × (self.new ≡ []))
+            (λ p. self.old ≡ (K.bytes p.0, p.1.now) ∷ self.new) }
+        ensures visits { VisitsAtMost (λ p. length (K.bytes p.0) + 1) (C.number counter.old) result
+            (C.number counter.new) }
     {
         self.pairs.step(counter)
     }
 }
 
-/// The pairs of a tree, ascending by key. `P` is what the nodes keep of keys `K`.
+/// Iterates over the pairs of a tree, ascending by key. `P` is the `PartialType` of `K`.
 #[derive(Drop)]
 pub struct Iter<'a, K: KeyTrait, P: Partial, V> {
     pairs: SeenIter<'a, K, V, Visits>,
@@ -96,8 +103,8 @@ impl<'a, K: KeyTrait, P: Partial, V> Model for Iter<'a, K, P, V> {
 }
 
 impl<'a, K: KeyTrait, P: Partial, V> Iter<'a, K, P, V> {
-    /// The walk that is left.
-    pub(crate) fn into_walk(self) -> KeyTour<'a, K, K::PartialType, V, Visits>
+    /// Returns the remaining walk.
+    pub(crate) fn into_walk(self) -> KeyWalk<'a, K, K::PartialType, V, Visits>
         ensures { result ≡ self.entry }
     {
         self.pairs.pairs
@@ -122,22 +129,23 @@ impl<'a, K: KeyTrait, P: Partial, V> Iterator for Iter<'a, K, P, V> {
     }
 }
 
-/// The values of a tree, ascending by their keys.
+/// Iterates over the values of a tree, ascending by key.
 #[derive(Drop)]
 pub struct ValuesIter<'a, K: KeyTrait, V> {
-    tour: Tour<'a, K::PartialType, V, Visits>,
+    walk: Walk<'a, K::PartialType, V, Visits>,
 }
 
 impl<'a, K: KeyTrait, V> Model for ValuesIter<'a, K, V> {
     ghost use Rattle.std.specs.Prelude.{◌≤◌, ◌^◌, List, [], reverse, vec_capacity};
-    ghost use Rattle.rart_nodes.specs.walks.Tour.{IsTour};
-    ghost use Rattle.rart_nodes.specs.walks.TrailParts.{values_ahead};
+    ghost use Rattle.rart_nodes.specs.walks.Walk.{IsWalk};
+    ghost use Rattle.rart_nodes.specs.walks.PathParts.{values_ahead};
 
     ghost Value = { List V };
 
-    ghost view = { λ it. values_ahead it.tour.first it.tour.levels.items };
+    ghost view = { λ it. values_ahead it.walk.first it.walk.levels.items };
 
-    ghost invariant = { λ it. IsTour it.tour.longest (vec_capacity it.tour.levels) [] (reverse it.tour.levels.items) × (it.tour.longest ≤ 2 ^ 64) };
+    ghost invariant = { λ it. IsWalk it.walk.longest (vec_capacity it.walk.levels) [] (reverse it.walk.levels.items)
+        × (it.walk.longest ≤ 2 ^ 64) };
 }
 
 impl<'a, K: KeyTrait, V> Iterator for ValuesIter<'a, K, V> {
@@ -154,81 +162,104 @@ impl<'a, K: KeyTrait, V> Iterator for ValuesIter<'a, K, V> {
 
     /// The next value. After `None` always `None`. Makes no key, and takes no memory.
     fn next(&mut self) -> Option<&'a V> {
-        self.tour.advance(&mut NoTrail, &mut Visits::new())
+        self.walk.advance(&mut NoPath, &mut Visits::new())
     }
 }
 
 impl<'a, K: KeyTrait, V, C: Count> Seen<'a, K, V, C> {
-    fn keys_tour(self, counter: &mut C) -> Result<KeyTour<'a, K, K::PartialType, V, C>, TreeError>
+    fn key_walk(self, counter: &mut C) -> Result<KeyWalk<'a, K, K::PartialType, V, C>, TreeError>
         ensures pairs { IfOk result (λ it. it ≡ seen_pairs self.entry.root) }
         ensures memory { IfErr result (MayLackRoom (seen_pairs self.entry.root)) }
         ensures visits { C.number counter.new ≡ C.number counter.old + count_of (option_copied self.entry.root) }
     {
-        let (tour, trail) = self.tour(counter)?;
-        Ok(KeyTour {
-            tour,
-            trail,
+        let (walk, path) = self.walk(counter)?;
+        Ok(KeyWalk {
+            walk,
+            path,
             of: PhantomData,
         })
     }
 
-    /// An iterator over all pairs, for which it visits the root. All its room is taken here, after
-    /// the length of the longest key, and none for an empty tree. Refused with `Memory` alone.
+    /// Returns an iterator over all pairs. It allocates for the longest key here, and nothing for an empty tree.
+    ///
+    /// # Errors
+    ///
+    /// [`TreeError::Memory`] if the tree isn't empty and the allocation fails.
+    ///
+    /// # Visits
+    ///
+    /// The root, or none of an empty tree.
     pub fn iter_counted(self, counter: &mut C) -> Result<SeenIter<'a, K, V, C>, TreeError>
         ensures pairs { IfOk result (λ it. it ≡ seen_pairs self.entry.root) }
         ensures memory { IfErr result (MayLackRoom (seen_pairs self.entry.root)) }
         ensures visits { C.number counter.new ≡ C.number counter.old + count_of (option_copied self.entry.root) }
         ensures bound { C.number counter.new ≤ C.number counter.old + 1 }
     {
-        let pairs = self.keys_tour(counter)?;
+        let pairs = self.key_walk(counter)?;
         Ok(SeenIter { pairs })
     }
 }
 
 impl<'a, K: KeyTrait, V, C: Count> Seen<'a, K, V, C> {
-    /// A walk over the pairs that come behind `start`, and where `included` says so the one at it. It visits what a look-up of
-    /// `start` visits, and takes its room as `iter_counted` does.
-    pub(crate) fn keys_tour_from(
+    /// Returns a walk over the pairs after `start`, and the one at it if `included`.
+    ///
+    /// # Errors
+    ///
+    /// [`TreeError::Memory`] if the tree isn't empty and the allocation fails.
+    ///
+    /// # Visits
+    ///
+    /// At most `start.len() + 1` nodes.
+    pub(crate) fn key_walk_from(
         self,
         start: &[u8],
         included: bool,
         counter: &mut C,
-    ) -> Result<KeyTour<'a, K, K::PartialType, V, C>, TreeError>
-        ensures pairs { IfOk result (λ it. it ≡ pairs_since included start.now (seen_pairs self.entry.root)) }
+    ) -> Result<KeyWalk<'a, K, K::PartialType, V, C>, TreeError>
+        ensures pairs { IfOk result (λ it. it ≡ pairs_from included start.now (seen_pairs self.entry.root)) }
         ensures memory { IfErr result (MayLackRoom (seen_pairs self.entry.root)) }
-        ensures visits { IfOk result (λ _. C.number counter.new ≡ C.number counter.old + probe_count (seen_keys self.entry.root) start.now) }
+        ensures visits { IfOk result (λ _. C.number counter.new
+            ≡ C.number counter.old + probe_count (seen_keys self.entry.root) start.now) }
         ensures bound { C.number counter.new ≤ C.number counter.old + length start.now + 1 }
     {
-        let (tour, trail) = self.tour_from(start, included, counter)?;
-        Ok(KeyTour {
-            tour,
-            trail,
+        let (walk, path) = self.walk_from(start, included, counter)?;
+        Ok(KeyWalk {
+            walk,
+            path,
             of: PhantomData,
         })
     }
 }
 
 impl<'a, K: KeyTrait, V, C: Count> Seen<'a, K, V, C> {
-    fn keys_tour_below(
+    fn key_walk_below(
         self,
         prefix: &[u8],
         counter: &mut C,
-    ) -> Result<KeyTour<'a, K, K::PartialType, V, C>, TreeError>
+    ) -> Result<KeyWalk<'a, K, K::PartialType, V, C>, TreeError>
         ensures pairs { IfOk result (λ it. it ≡ below prefix.now (seen_pairs self.entry.root)) }
         ensures memory { IfErr result (MayLackRoom (seen_pairs self.entry.root)) }
-        ensures visits { IfOk result (λ _. C.number counter.new ≡ C.number counter.old + probe_count (seen_keys self.entry.root) prefix.now) }
+        ensures visits { IfOk result (λ _. C.number counter.new
+            ≡ C.number counter.old + probe_count (seen_keys self.entry.root) prefix.now) }
         ensures bound { C.number counter.new ≤ C.number counter.old + length prefix.now + 1 }
     {
-        let (tour, trail) = self.tour_below(prefix, counter)?;
-        Ok(KeyTour {
-            tour,
-            trail,
+        let (walk, path) = self.walk_below(prefix, counter)?;
+        Ok(KeyWalk {
+            walk,
+            path,
             of: PhantomData,
         })
     }
 
-    /// An iterator over the pairs whose key begins with `prefix`, for which it goes down along the prefix: it visits at
-    /// most one node more than the prefix has bytes. It takes its room as `iter_counted` does.
+    /// Returns an iterator over the pairs whose key begins with `prefix`. It allocates as `iter_counted` does.
+    ///
+    /// # Errors
+    ///
+    /// [`TreeError::Memory`] if the tree isn't empty and the allocation fails.
+    ///
+    /// # Visits
+    ///
+    /// At most `prefix.len() + 1` nodes.
     pub fn prefix_iter_k_counted(
         self,
         prefix: &K,
@@ -236,16 +267,21 @@ impl<'a, K: KeyTrait, V, C: Count> Seen<'a, K, V, C> {
     ) -> Result<SeenIter<'a, K, V, C>, TreeError>
         ensures pairs { IfOk result (λ it. it ≡ below (K.bytes prefix.now) (seen_pairs self.entry.root)) }
         ensures memory { IfErr result (MayLackRoom (seen_pairs self.entry.root)) }
-        ensures visits { IfOk result (λ _. C.number counter.new ≡ C.number counter.old + probe_count (seen_keys self.entry.root) (K.bytes prefix.now)) }
+        ensures visits { IfOk result (λ _. C.number counter.new
+            ≡ C.number counter.old + probe_count (seen_keys self.entry.root) (K.bytes prefix.now)) }
         ensures bound { C.number counter.new ≤ C.number counter.old + length (K.bytes prefix.now) + 1 }
     {
-        let pairs = self.keys_tour_below(prefix.as_ref(), counter)?;
+        let pairs = self.key_walk_below(prefix.as_ref(), counter)?;
         Ok(SeenIter { pairs })
     }
 }
 
 impl<'a, K: KeyTrait, V> Seen<'a, K, V, Visits> {
-    /// An iterator over the pairs whose key begins with `prefix`. It takes its room as `iter_counted` does.
+    /// Returns an iterator over the pairs whose key begins with `prefix`. It allocates as `iter_counted` does.
+    ///
+    /// # Errors
+    ///
+    /// [`TreeError::Memory`] if the tree isn't empty and the allocation fails.
     pub fn prefix_iter_k(self, prefix: &K) -> Result<Iter<'a, K, K::PartialType, V>, TreeError>
         ensures pairs { IfOk result (λ it. it ≡ below (K.bytes prefix.now) (seen_pairs self.entry.root)) }
         ensures memory { IfErr result (MayLackRoom (seen_pairs self.entry.root)) }
@@ -257,7 +293,11 @@ impl<'a, K: KeyTrait, V> Seen<'a, K, V, Visits> {
         })
     }
 
-    /// An iterator over all pairs. It takes its room as `iter_counted` does.
+    /// Returns an iterator over all pairs. It allocates as `iter_counted` does.
+    ///
+    /// # Errors
+    ///
+    /// [`TreeError::Memory`] if the tree isn't empty and the allocation fails.
     pub fn iter(self) -> Result<Iter<'a, K, K::PartialType, V>, TreeError>
         ensures pairs { IfOk result (λ it. it ≡ seen_pairs self.entry.root) }
         ensures memory { IfErr result (MayLackRoom (seen_pairs self.entry.root)) }
@@ -269,12 +309,16 @@ impl<'a, K: KeyTrait, V> Seen<'a, K, V, Visits> {
         })
     }
 
-    /// An iterator over all values. It takes its room as `iter_counted` does.
+    /// Returns an iterator over all values in key order. It allocates as `iter_counted` does.
+    ///
+    /// # Errors
+    ///
+    /// [`TreeError::Memory`] if the tree isn't empty and the allocation fails.
     pub fn values_iter(self) -> Result<ValuesIter<'a, K, V>, TreeError>
         ensures values { IfOk result (λ it. it ≡ values_of (seen_pairs self.entry.root)) }
         ensures memory { IfErr result (MayLackRoom (seen_pairs self.entry.root)) }
     {
-        let (tour, _trail) = self.tour::<NoTrail>(&mut Visits::new())?;
-        Ok(ValuesIter { tour })
+        let (walk, _path) = self.walk::<NoPath>(&mut Visits::new())?;
+        Ok(ValuesIter { walk })
     }
 }

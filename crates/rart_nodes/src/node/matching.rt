@@ -1,7 +1,6 @@
-//! Answers about a probe: the keys that begin it, the shortest first, each found on one way down.
+//! Look-ups of the keys that begin a probe, the shortest first, on one descent. Nothing here allocates.
 //!
-//! Contracts speak of the pairs of the sorted map whose key begins the probe, `matches`, and of the last of
-//! them, `longest_match`. Nothing here takes memory.
+//! Contracts name the pairs whose key begins the probe `matches`, and the last of them `longest_match`.
 ghost use Rattle.std.specs.Prelude.{◌≡◌, ◌≤◌, ◌+◌, length, take, None, IfSome, MatchOption, option_map};
 ghost use Rattle.std.specs.Iterator.{YieldsFirstBy, item_count};
 ghost use Rattle.std.specs.Option.{option_copied};
@@ -12,7 +11,7 @@ ghost use Rattle.rart_nodes.specs.walks.Matches.{PassesTo, entered_left, matches
 ghost use Rattle.rart_nodes.specs.walks.ProbeCount.{probe_count};
 
 use crate::count::{Count, Visits};
-use crate::node::rest::rest_behind;
+use crate::node::rest::strip_prefix;
 use crate::node::seen::{Entered, Seen, Shared};
 use rart_keys::{KeyTrait, Partial};
 use std::marker::{Model, PhantomData};
@@ -26,8 +25,7 @@ pub(crate) struct Matching<'a, P: Partial, V, C> {
     depth: usize,
 }
 
-/// Where the way goes on behind a node just visited, and how much of the probe lies before that; `None` where
-/// the node's prefix leaves the probe.
+/// Returns the next node of the descent and the depth before it, or `None` if the prefix leaves the probe.
 fn pass<'a, P: Partial, V, C>(
     at: Entered<'a, P, V, C>,
     probe: &[u8],
@@ -36,7 +34,7 @@ fn pass<'a, P: Partial, V, C>(
     requires { depth ≤ length probe.now }
     ensures { PassesTo probe.now depth at.entry.node.now result }
 {
-    let rest = rest_behind(at.prefix(), &probe[depth..])?;
+    let rest = strip_prefix(at.prefix(), &probe[depth..])?;
     let passed = probe.len() - rest.len();
     let Some(byte) = rest.first() else {
         return Some((None, passed));
@@ -44,7 +42,7 @@ fn pass<'a, P: Partial, V, C>(
     Some((at.child(*byte), passed))
 }
 
-/// The probe's first `depth` bytes.
+/// Returns the first `depth` bytes of the probe.
 pub(crate) fn beginning(probe: &[u8], depth: usize) -> &[u8]
     requires { depth ≤ length probe.now }
     ensures { result.now ≡ take depth probe.now }
@@ -53,12 +51,14 @@ pub(crate) fn beginning(probe: &[u8], depth: usize) -> &[u8]
 }
 
 impl<'a, P: Partial, V, C: Count> Matching<'a, P, V, C> {
-    /// Goes on to the next value whose key begins the probe; its key is then the probe's first `depth` bytes.
+    /// Returns the next value whose key begins the probe. Its key is the first `depth` bytes.
     pub(crate) fn advance(&mut self, probe: &[u8], counter: &mut C) -> Option<&'a V>
         requires { self.old.depth ≤ length probe.now }
         ensures within { self.new.depth ≤ length probe.now }
-        ensures pairs { YieldsFirstBy (λ v. (take self.new.depth probe.now, v.now)) (matches_left probe.now) self.old result self.new }
-        ensures visits { C.number counter.new + entered_left probe.now self.new ≡ C.number counter.old + entered_left probe.now self.old }
+        ensures pairs { YieldsFirstBy (λ v. (take self.new.depth probe.now, v.now)) (matches_left probe.now) self.old
+            result self.new }
+        ensures visits { C.number counter.new + entered_left probe.now self.new
+            ≡ C.number counter.old + entered_left probe.now self.old }
         ensures ended { MatchOption result (option_map (λ s. s.node.now) self.new.below ≡ None) (λ _. Unit {0}) }
     {
         while let Some(node) = self.below.take() {
@@ -87,11 +87,13 @@ impl<'a, K: KeyTrait, V, C: Count> Seen<'a, K, V, C> {
         }
     }
 
-    /// The length and the value of the longest key that begins the probe.
+    /// Returns the length and the value of the longest key that begins the probe.
     pub(crate) fn last_match(self, probe: &[u8], counter: &mut C) -> Option<(usize, &'a V)>
-        ensures pair { option_map (λ p. (take p.0 probe.now, p.1.now)) result ≡ longest_match probe.now (seen_pairs self.entry.root) }
+        ensures pair { option_map (λ p. (take p.0 probe.now, p.1.now)) result
+            ≡ longest_match probe.now (seen_pairs self.entry.root) }
         ensures within { IfSome result (λ p. p.0 ≤ length probe.now) }
-        ensures visits { C.number counter.new ≡ C.number counter.old + probe_count (seen_keys self.entry.root) probe.now }
+        ensures visits { C.number counter.new ≡ C.number counter.old
+            + probe_count (seen_keys self.entry.root) probe.now }
         ensures bound { C.number counter.new ≤ C.number counter.old + length probe.now + 1 }
     {
         let mut matching = self.matching();
@@ -102,10 +104,16 @@ impl<'a, K: KeyTrait, V, C: Count> Seen<'a, K, V, C> {
         last
     }
 
-    /// The pair whose key is the longest that begins the probe.
+    /// Returns the pair with the longest key that begins the probe.
+    ///
+    /// # Visits
+    ///
+    /// At most `probe.len() + 1` nodes.
     pub fn longest_prefix_match_k_counted(self, probe: &K, counter: &mut C) -> Option<(K, &'a V)>
-        ensures pair { option_map (λ p. (K.bytes p.0, p.1.now)) result ≡ longest_match (K.bytes probe.now) (seen_pairs self.entry.root) }
-        ensures visits { C.number counter.new ≡ C.number counter.old + probe_count (seen_keys self.entry.root) (K.bytes probe.now) }
+        ensures pair { option_map (λ p. (K.bytes p.0, p.1.now)) result
+            ≡ longest_match (K.bytes probe.now) (seen_pairs self.entry.root) }
+        ensures visits { C.number counter.new ≡ C.number counter.old + probe_count (seen_keys self.entry.root)
+            (K.bytes probe.now) }
         ensures bound { C.number counter.new ≤ C.number counter.old + length (K.bytes probe.now) + 1 }
     {
         let bytes = probe.as_ref();
@@ -113,20 +121,30 @@ impl<'a, K: KeyTrait, V, C: Count> Seen<'a, K, V, C> {
         Some((K::new_from_slice(beginning(bytes, depth)), value))
     }
 
-    /// The value at the longest key that begins the bytes `probe`, which may be longer than any key.
+    /// Returns the value of the longest key that begins `probe`, which may be longer than any key.
+    ///
+    /// # Visits
+    ///
+    /// At most `probe.len() + 1` nodes.
     pub fn longest_prefix_value_bytes_counted(self, probe: &[u8], counter: &mut C) -> Option<&'a V>
         ensures value { option_copied result ≡ longest_value probe.now (seen_pairs self.entry.root) }
-        ensures visits { C.number counter.new ≡ C.number counter.old + probe_count (seen_keys self.entry.root) probe.now }
+        ensures visits { C.number counter.new ≡ C.number counter.old
+            + probe_count (seen_keys self.entry.root) probe.now }
         ensures bound { C.number counter.new ≤ C.number counter.old + length probe.now + 1 }
     {
         let (_, value) = self.last_match(probe, counter)?;
         Some(value)
     }
 
-    /// The value at the longest key that begins the probe.
+    /// Returns the value of the longest key that begins the probe.
+    ///
+    /// # Visits
+    ///
+    /// At most `probe.len() + 1` nodes.
     pub fn longest_prefix_value_k_counted(self, probe: &K, counter: &mut C) -> Option<&'a V>
         ensures value { option_copied result ≡ longest_value (K.bytes probe.now) (seen_pairs self.entry.root) }
-        ensures visits { C.number counter.new ≡ C.number counter.old + probe_count (seen_keys self.entry.root) (K.bytes probe.now) }
+        ensures visits { C.number counter.new ≡ C.number counter.old + probe_count (seen_keys self.entry.root)
+            (K.bytes probe.now) }
         ensures bound { C.number counter.new ≤ C.number counter.old + length (K.bytes probe.now) + 1 }
     {
         self.longest_prefix_value_bytes_counted(probe.as_ref(), counter)
@@ -136,7 +154,8 @@ impl<'a, K: KeyTrait, V, C: Count> Seen<'a, K, V, C> {
         requires callable { CanMatch F.FnMut f.old (matches probe.now (seen_pairs self.root)) }
         ensures callable { F.IsAlwaysCallable f.old → F.IsAlwaysCallable f.new }
         ensures calls { MatchesEach F.FnMut f.old (matches probe.now (seen_pairs self.entry.root)) f.new }
-        ensures visits { C.number counter.new ≡ C.number counter.old + probe_count (seen_keys self.entry.root) probe.now }
+        ensures visits { C.number counter.new ≡ C.number counter.old
+            + probe_count (seen_keys self.entry.root) probe.now }
         ensures bound { C.number counter.new ≤ C.number counter.old + length probe.now + 1 }
     {
         let mut matching = self.matching();
@@ -162,13 +181,18 @@ impl<'a, K: KeyTrait, V, C: Count> Seen<'a, K, V, C> {
         ensures callable { F.IsAlwaysCallable f.old → F.IsAlwaysCallable f.new }
         ensures calls { MatchesEach F.FnMut f.old
             (matches (K.bytes probe.now) (seen_pairs self.entry.root)) f.new }
-        ensures visits { C.number counter.new ≡ C.number counter.old + probe_count (seen_keys self.entry.root) (K.bytes probe.now) }
+        ensures visits { C.number counter.new ≡ C.number counter.old + probe_count (seen_keys self.entry.root)
+            (K.bytes probe.now) }
         ensures bound { C.number counter.new ≤ C.number counter.old + length (K.bytes probe.now) + 1 }
     {
         self.each_match(probe.as_ref(), f, counter);
     }
 
     /// Calls `f` as `prefix_match_for_each_by_ref_k_counted` does, and drops it.
+    ///
+    /// # Visits
+    ///
+    /// At most `probe.len() + 1` nodes.
     pub fn prefix_match_for_each_k_counted<F: FnMut(&[u8], &V) + Drop>(
         self,
         probe: &K,
@@ -178,14 +202,15 @@ impl<'a, K: KeyTrait, V, C: Count> Seen<'a, K, V, C> {
         requires callable { CanMatch F.FnMut f (matches (K.bytes probe.now) (seen_pairs self.root)) }
         ensures calls { MatchedEach F.FnMut f
             (matches (K.bytes probe.now) (seen_pairs self.entry.root)) }
-        ensures visits { C.number counter.new ≡ C.number counter.old + probe_count (seen_keys self.entry.root) (K.bytes probe.now) }
+        ensures visits { C.number counter.new ≡ C.number counter.old + probe_count (seen_keys self.entry.root)
+            (K.bytes probe.now) }
         ensures bound { C.number counter.new ≤ C.number counter.old + length (K.bytes probe.now) + 1 }
     {
         self.prefix_match_for_each_by_ref_k_counted(probe, &mut f, counter);
     }
 }
 
-/// The pairs whose key begins a probe, the shortest first. `P` is what the nodes keep of keys `K`.
+/// Iterates over the pairs whose key begins a probe, the shortest first. `P` is the `PartialType` of `K`.
 #[derive(Drop)]
 pub struct PrefixMatchIter<'a, K: KeyTrait, P: Partial, V> {
     matching: Matching<'a, P, V, Visits>,
@@ -201,9 +226,11 @@ impl<'a, K: KeyTrait, P: Partial, V> Model for PrefixMatchIter<'a, K, P, V> {
 
     ghost Value = { List (List ℕ × V) };
 
-    ghost view = { λ it. matches_ahead (P.bytes it.probe) it.matching.depth (option_map (λ s. s.node.now) it.matching.below) };
+    ghost view = { λ it. matches_ahead (P.bytes it.probe) it.matching.depth
+        (option_map (λ s. s.node.now) it.matching.below) };
 
-    ghost invariant = { λ it. (it.matching.depth ≤ length (P.bytes it.probe)) × IsWithin K.MAXIMUM_SIZE (length (P.bytes it.probe)) };
+    ghost invariant = { λ it. (it.matching.depth ≤ length (P.bytes it.probe))
+        × IsWithin K.MAXIMUM_SIZE (length (P.bytes it.probe)) };
 }
 
 impl<'a, K: KeyTrait, P: Partial, V> Iterator for PrefixMatchIter<'a, K, P, V> {
@@ -230,7 +257,8 @@ impl<'a, K: KeyTrait, P: Partial, V> Iterator for PrefixMatchIter<'a, K, P, V> {
 }
 
 impl<'a, K: KeyTrait, V> Seen<'a, K, V, Visits> {
-    /// The pairs whose key begins `probe`, the shortest first. It keeps a copy of the probe, and visits nothing yet.
+    /// Returns an iterator over the pairs whose key begins `probe`, the shortest first. It copies the probe and visits
+    /// no node.
     pub fn prefix_match_iter_k(self, probe: &K) -> PrefixMatchIter<'a, K, K::PartialType, V>
         ensures { result ≡ matches (K.bytes probe.now) (seen_pairs self.entry.root) }
     {

@@ -1,20 +1,20 @@
-//! The pairs of a tree within two bounds, in the order of its keys.
+//! Iterators over the pairs of a tree within two bounds, in key order.
 //!
-//! The walk begins at the start, and ends for good at the first key past the end. It is seen as the end's bytes and the
-//! pairs that the walk below has still to give; `up_to` of these are the pairs that the range has still to give.
+//! A range starts at its lower bound and ends for good at the first key past its upper bound. A contract reads it as
+//! the upper bound and the remaining pairs of the walk; `up_to` of both lists the remaining pairs of the range.
 ghost use Rattle.std.specs.Iterator.{YieldsFirstBy, item_count};
 ghost use Rattle.std.specs.Ordering.{match_ordering};
 ghost use Rattle.std.specs.Prelude.{◌≡◌, ◌≤◌, ◌+◌, [], length, IfErr, IfOk, true, false};
 ghost use Rattle.std.specs.declared.ops.Bound.TheVariants.{Unbounded};
 ghost use Rattle.rart_keys.specs.SortedMap.{IsAscending};
-ghost use Rattle.rart_keys.specs.Ranges.{between, bound_bytes, bound_in, is_inclusive, is_to, pairs_since, up_to};
+ghost use Rattle.rart_keys.specs.Ranges.{between, bound_bytes, bound_in, is_inclusive, is_to, pairs_from, up_to};
 ghost use Rattle.rart_nodes.specs.ranges.Starts.{TakesUpTo, bytes_taken};
 ghost use Rattle.rart_nodes.specs.tries.Tree.{seen_keys, seen_pairs};
 ghost use Rattle.rart_nodes.specs.walks.ProbeCount.{probe_count};
 ghost use Rattle.rart_nodes.specs.walks.Calls.{MayLackRoom};
 
 use crate::count::{Count, Visits};
-use crate::node::iter::{Iter, KeyTour};
+use crate::node::iter::{Iter, KeyWalk};
 use crate::node::seen::Seen;
 use rart_keys::{KeyTrait, Partial};
 use rart_parts::TreeError;
@@ -22,7 +22,7 @@ use std::cmp::Ordering;
 use std::marker::Model;
 use std::ops::Bound;
 
-/// Whether a key that stands so to an end comes before it; where it is the end, `included`.
+/// Returns whether a key that compares so to an end comes before it. At the end itself, returns `included`.
 pub(crate) fn is_before(at: Ordering, included: bool) -> bool
     ensures { result ≡ match_ordering at true included false }
 {
@@ -33,7 +33,7 @@ pub(crate) fn is_before(at: Ordering, included: bool) -> bool
     }
 }
 
-/// Whether a key is within an end.
+/// Returns whether a key is within an end.
 fn is_within<K: KeyTrait>(key: &K, end: &Bound<K>) -> bool
     ensures { result ≡ is_to (bound_in K.bytes end.now) (K.bytes key.now) }
 {
@@ -44,7 +44,7 @@ fn is_within<K: KeyTrait>(key: &K, end: &Bound<K>) -> bool
     }
 }
 
-/// The bytes of a start, and whether it has them within. Without a start the walk is from the empty string.
+/// Returns the bytes of a start and whether it is inclusive. Without a start, the bytes are empty.
 pub(crate) fn bytes_of<K: KeyTrait>(start: &Bound<K>) -> (&[u8], bool)
     ensures bytes { result.0.now ≡ bound_bytes (bound_in K.bytes start.now) }
     ensures inclusive { result.1 ≡ is_inclusive (bound_in K.bytes start.now) }
@@ -58,50 +58,50 @@ pub(crate) fn bytes_of<K: KeyTrait>(start: &Bound<K>) -> (&[u8], bool)
 
 /// What is left of a walk with an end. An `Option` of a walk isn't shown to be droppable by a caller's proof.
 #[derive(Drop)]
-enum Rest<'a, K: KeyTrait, P: Partial, V, C> {
-    Ahead(KeyTour<'a, K, P, V, C>),
+enum WalkState<'a, K: KeyTrait, P: Partial, V, C> {
+    Active(KeyWalk<'a, K, P, V, C>),
     /// The end was passed.
-    Over,
+    Done,
 }
 
 /// A walk that ends for good at the first key past its end.
 #[derive(Drop)]
-struct Ended<'a, K: KeyTrait, P: Partial, V, C> {
-    walk: Rest<'a, K, P, V, C>,
+struct BoundedWalk<'a, K: KeyTrait, P: Partial, V, C> {
+    walk: WalkState<'a, K, P, V, C>,
     end: Bound<K>,
 }
 
-impl<'a, K: KeyTrait, P: Partial, V, C> Model for Ended<'a, K, P, V, C> {
+impl<'a, K: KeyTrait, P: Partial, V, C> Model for BoundedWalk<'a, K, P, V, C> {
     ghost use Rattle.std.specs.Prelude.{ℕ, List, []};
     ghost use Rattle.std.specs.declared.ops.Bound.{Bound};
     ghost use Rattle.rart_keys.specs.Ranges.{bound_in};
-    ghost use Rattle.rart_nodes.specs.declared.node.range.Rest.TheVariants.{Ahead, Over};
+    ghost use Rattle.rart_nodes.specs.declared.node.range.WalkState.TheVariants.{Active, Done};
 
     ghost Value = { Bound (List ℕ) × List (List ℕ × V) };
 
-    ghost view = { λ e. (bound_in K.bytes e.end, elim e.walk [ Ahead es ↦ es | Over ↦ [] ]) };
+    ghost view = { λ e. (bound_in K.bytes e.end, elim e.walk [ Active es ↦ es | Done ↦ [] ]) };
 }
 
-impl<'a, K: KeyTrait + Drop, P: Partial, V, C: Count> Ended<'a, K, P, V, C> {
-    /// The next pair. Takes no memory.
+impl<'a, K: KeyTrait + Drop, P: Partial, V, C: Count> BoundedWalk<'a, K, P, V, C> {
+    /// Returns the next pair. It does not allocate.
     fn step(&mut self, counter: &mut C) -> Option<(K, &'a V)>
         ensures pairs { TakesUpTo K.bytes self.old result self.new }
         ensures end { self.new.0 ≡ self.old.0 }
         ensures visits { C.number counter.new ≤ C.number counter.old + bytes_taken self.old.1 }
     {
         let (key, value) = match &mut self.walk {
-            Rest::Ahead(walk) => walk.step(counter)?,
-            Rest::Over => return None,
+            WalkState::Active(walk) => walk.step(counter)?,
+            WalkState::Done => return None,
         };
         if is_within(&key, &self.end) {
             return Some((key, value));
         }
-        self.walk = Rest::Over;
+        self.walk = WalkState::Done;
         None
     }
 }
 
-/// The pairs within two bounds, ascending by key.
+/// Iterates over the pairs within two bounds, ascending by key.
 #[derive(Drop)]
 pub struct Range<'a, K: KeyTrait, V> {
     pairs: SeenRange<'a, K, V, Visits>,
@@ -117,12 +117,12 @@ impl<'a, K: KeyTrait, V> Model for Range<'a, K, V> {
 }
 
 impl<'a, K: KeyTrait, V> Range<'a, K, V> {
-    /// A range without a pair. Takes no memory.
+    /// Returns a range without a pair. It does not allocate.
     pub fn empty() -> Self
         ensures { up_to result.0 result.1 ≡ [] }
     {
-        let pairs = Ended {
-            walk: Rest::Over,
+        let pairs = BoundedWalk {
+            walk: WalkState::Done,
             end: Bound::Unbounded,
         };
         Range {
@@ -130,15 +130,16 @@ impl<'a, K: KeyTrait, V> Range<'a, K, V> {
         }
     }
 
-    /// Those pairs of what an iterator has left that come before the first one past `end`: where the keys ascend, those within
-    /// `end`. Takes no memory.
+    /// Returns the remaining pairs of `iter` up to the first one past `end`. If the keys ascend, these are the pairs
+    /// within `end`. It does not allocate.
     pub fn for_iter(iter: Iter<'a, K, K::PartialType, V>, end: Bound<K>) -> Self
         ensures end { result.0 ≡ bound_in K.bytes end }
         ensures pairs { result.1 ≡ iter.entry }
-        ensures within { IsAscending iter.entry → up_to result.0 result.1 ≡ between Unbounded (bound_in K.bytes end) iter.entry }
+        ensures within { IsAscending iter.entry → up_to result.0 result.1
+            ≡ between Unbounded (bound_in K.bytes end) iter.entry }
     {
-        let pairs = Ended {
-            walk: Rest::Ahead(iter.into_walk()),
+        let pairs = BoundedWalk {
+            walk: WalkState::Active(iter.into_walk()),
             end,
         };
         Range {
@@ -165,10 +166,10 @@ impl<'a, K: KeyTrait + Drop, V> Iterator for Range<'a, K, V> {
     }
 }
 
-/// The pairs within two bounds with their visits counted, ascending by key.
+/// Iterates over the pairs within two bounds, ascending by key, with counted visits.
 #[derive(Drop)]
 pub struct SeenRange<'a, K: KeyTrait, V, C> {
-    pairs: Ended<'a, K, K::PartialType, V, C>,
+    pairs: BoundedWalk<'a, K, K::PartialType, V, C>,
 }
 
 impl<'a, K: KeyTrait, V, C> Model for SeenRange<'a, K, V, C> {
@@ -181,9 +182,12 @@ impl<'a, K: KeyTrait, V, C> Model for SeenRange<'a, K, V, C> {
 }
 
 impl<'a, K: KeyTrait + Drop, V, C: Count> SeenRange<'a, K, V, C> {
-    /// The next pair. After `None` always `None`, and no pair of the walk below is taken then. Takes no memory, and visits at
-    /// most one node more than the key that it takes has bytes, also where that is the one past the end; where it takes
-    /// none it visits none.
+    /// Returns the next pair. It is fused and does not allocate.
+    ///
+    /// # Visits
+    ///
+    /// At most one node more than the next key of the walk has bytes, even if that key is past the end. None if the
+    /// walk has no next key.
     pub fn next_counted(&mut self, counter: &mut C) -> Option<(K, &'a V)>
         ensures pairs { TakesUpTo K.bytes self.old result self.new }
         ensures end { self.new.0 ≡ self.old.0 }
@@ -194,51 +198,71 @@ impl<'a, K: KeyTrait + Drop, V, C: Count> SeenRange<'a, K, V, C> {
 }
 
 impl<'a, K: KeyTrait + Drop, V, C: Count> Seen<'a, K, V, C> {
-    fn ended_walk(
+    fn bounded_walk(
         self,
         start: Bound<K>,
         end: Bound<K>,
         counter: &mut C,
-    ) -> Result<Ended<'a, K, K::PartialType, V, C>, TreeError>
-        ensures pairs { IfOk result (λ r. up_to r.0 r.1 ≡ between (bound_in K.bytes start) (bound_in K.bytes end) (seen_pairs self.entry.root)) }
+    ) -> Result<BoundedWalk<'a, K, K::PartialType, V, C>, TreeError>
+        ensures pairs { IfOk result (λ r. up_to r.0 r.1
+            ≡ between (bound_in K.bytes start) (bound_in K.bytes end) (seen_pairs self.entry.root)) }
         ensures end { IfOk result (λ r. r.0 ≡ bound_in K.bytes end) }
-        ensures ahead { IfOk result (λ r. r.1 ≡ pairs_since (is_inclusive (bound_in K.bytes start)) (bound_bytes (bound_in K.bytes start)) (seen_pairs self.entry.root)) }
+        ensures ahead { IfOk result (λ r. r.1 ≡ pairs_from (is_inclusive (bound_in K.bytes start))
+            (bound_bytes (bound_in K.bytes start)) (seen_pairs self.entry.root)) }
         ensures memory { IfErr result (MayLackRoom (seen_pairs self.entry.root)) }
-        ensures visits { IfOk result (λ _. C.number counter.new ≡ C.number counter.old + probe_count (seen_keys self.entry.root) (bound_bytes (bound_in K.bytes start))) }
-        ensures bound { C.number counter.new ≤ C.number counter.old + length (bound_bytes (bound_in K.bytes start)) + 1 }
+        ensures visits { IfOk result (λ _. C.number counter.new
+            ≡ C.number counter.old + probe_count (seen_keys self.entry.root) (bound_bytes (bound_in K.bytes start))) }
+        ensures bound { C.number counter.new ≤ C.number counter.old + length (bound_bytes (bound_in K.bytes start))
+            + 1 }
     {
         let (bytes, included) = bytes_of(&start);
-        let walk = self.keys_tour_from(bytes, included, counter)?;
-        Ok(Ended {
-            walk: Rest::Ahead(walk),
+        let walk = self.key_walk_from(bytes, included, counter)?;
+        Ok(BoundedWalk {
+            walk: WalkState::Active(walk),
             end,
         })
     }
 
-    /// The pairs within two bounds, for which it goes down to the start: it visits at most one node more than the start has
-    /// bytes, and none of an empty tree. It takes its room as `iter_counted` does.
+    /// Returns the pairs within two bounds. It allocates as `iter_counted` does.
+    ///
+    /// # Errors
+    ///
+    /// [`TreeError::Memory`] if the tree isn't empty and the allocation fails.
+    ///
+    /// # Visits
+    ///
+    /// At most one node more than the start has bytes, and none in an empty tree.
     pub fn range_counted(
         self,
         start: Bound<K>,
         end: Bound<K>,
         counter: &mut C,
     ) -> Result<SeenRange<'a, K, V, C>, TreeError>
-        ensures pairs { IfOk result (λ r. up_to r.0 r.1 ≡ between (bound_in K.bytes start) (bound_in K.bytes end) (seen_pairs self.entry.root)) }
+        ensures pairs { IfOk result (λ r. up_to r.0 r.1
+            ≡ between (bound_in K.bytes start) (bound_in K.bytes end) (seen_pairs self.entry.root)) }
         ensures end { IfOk result (λ r. r.0 ≡ bound_in K.bytes end) }
-        ensures ahead { IfOk result (λ r. r.1 ≡ pairs_since (is_inclusive (bound_in K.bytes start)) (bound_bytes (bound_in K.bytes start)) (seen_pairs self.entry.root)) }
+        ensures ahead { IfOk result (λ r. r.1 ≡ pairs_from (is_inclusive (bound_in K.bytes start))
+            (bound_bytes (bound_in K.bytes start)) (seen_pairs self.entry.root)) }
         ensures memory { IfErr result (MayLackRoom (seen_pairs self.entry.root)) }
-        ensures visits { IfOk result (λ _. C.number counter.new ≡ C.number counter.old + probe_count (seen_keys self.entry.root) (bound_bytes (bound_in K.bytes start))) }
-        ensures bound { C.number counter.new ≤ C.number counter.old + length (bound_bytes (bound_in K.bytes start)) + 1 }
+        ensures visits { IfOk result (λ _. C.number counter.new
+            ≡ C.number counter.old + probe_count (seen_keys self.entry.root) (bound_bytes (bound_in K.bytes start))) }
+        ensures bound { C.number counter.new ≤ C.number counter.old + length (bound_bytes (bound_in K.bytes start))
+            + 1 }
     {
-        let pairs = self.ended_walk(start, end, counter)?;
+        let pairs = self.bounded_walk(start, end, counter)?;
         Ok(SeenRange { pairs })
     }
 }
 
 impl<'a, K: KeyTrait + Drop, V> Seen<'a, K, V, Visits> {
-    /// The pairs within two bounds. It takes its room as `iter_counted` does.
+    /// Returns the pairs within two bounds. It allocates as `iter_counted` does.
+    ///
+    /// # Errors
+    ///
+    /// [`TreeError::Memory`] if the tree isn't empty and the allocation fails.
     pub fn range(self, start: Bound<K>, end: Bound<K>) -> Result<Range<'a, K, V>, TreeError>
-        ensures pairs { IfOk result (λ r. up_to r.0 r.1 ≡ between (bound_in K.bytes start) (bound_in K.bytes end) (seen_pairs self.entry.root)) }
+        ensures pairs { IfOk result (λ r. up_to r.0 r.1
+            ≡ between (bound_in K.bytes start) (bound_in K.bytes end) (seen_pairs self.entry.root)) }
         ensures memory { IfErr result (MayLackRoom (seen_pairs self.entry.root)) }
     {
         let pairs = self.range_counted(start, end, &mut Visits::new())?;

@@ -1,15 +1,17 @@
-//! Removal below a node. Room for fewer children is taken before the first write.
+//! Removal from the subtree of a node. It allocates smaller storage before the first write.
 ghost use Rattle.std.specs.Prelude.{◌≡◌, ◌≢◌, ◌+◌, ◌≤◌, length, true, false, [], IfErr, IfOk, None, Some, OnErr, OnOk};
 ghost use Rattle.rart_keys.specs.KeyBytes.{IsWithin};
 ghost use Rattle.rart_keys.specs.SortedMap.{count_of, keys_of, lookup, without, longest_key};
-ghost use Rattle.rart_nodes.specs.edits.Deletion.{JoinsWithin, NarrowsWithout, is_leaf_at, is_lone, joined_if_lone, without_child};
+ghost use Rattle.rart_nodes.specs.edits.Deletion.{JoinsWithin, NarrowsWithout, is_leaf_at, is_lone, joined_if_lone};
+ghost use Rattle.rart_nodes.specs.edits.Deletion.{without_child};
 ghost use Rattle.rart_nodes.specs.edits.RemoveAsks.{remove_asks, trie_asks_remove};
 ghost use Rattle.rart_nodes.specs.tries.Tree.{IsCanonicalTree, tree_lookup, tree_pairs, tree_remove};
-ghost use Rattle.rart_nodes.specs.tries.Trie.{IsCanonical, capacity_in, children_in, edges_of, trie_lookup, pairs_of, prefix_of, trie_remove, value_of, child_in};
+ghost use Rattle.rart_nodes.specs.tries.Trie.{IsCanonical, capacity_in, children_in, edges_of, trie_lookup, pairs_of};
+ghost use Rattle.rart_nodes.specs.tries.Trie.{prefix_of, trie_remove, value_of, child_in};
 
 use crate::node::DefaultNode;
 use crate::node::insert::give_back;
-use crate::node::rest::rest_behind;
+use crate::node::rest::strip_prefix;
 use rart_keys::Partial;
 use rart_parts::TreeError;
 use std::alloc::Global;
@@ -18,7 +20,7 @@ use std::mem;
 impl<P: Partial, V> DefaultNode<P, V> {
     /// Joins the node with its child where it has no value and no other child. The child keeps its
     /// kind. Takes no memory.
-    pub(super) fn join_lone_child(&mut self)
+    pub(super) fn merge_with_only_child(&mut self)
         requires width { is_lone (value_of self.old) (children_in self.old) ≡ true → capacity_in self.old ≡ 4 }
         requires within { JoinsWithin P.MAXIMUM_SIZE (prefix_of self.old) (children_in self.old) }
         ensures { self.new ≡ joined_if_lone self.old }
@@ -26,7 +28,7 @@ impl<P: Partial, V> DefaultNode<P, V> {
         if self.value.is_some() || self.storage.num_children() != 1 {
             return;
         }
-        let (_byte, child) = self.storage.take_lone();
+        let (_byte, child) = self.storage.take_only_child();
         let DefaultNode {
             prefix,
             value,
@@ -37,16 +39,10 @@ impl<P: Partial, V> DefaultNode<P, V> {
             Some(_) => unreachable!(),
             None => {}
         }
-        self.storage.succeed_empty(storage);
+        self.storage.replace_empty(storage);
     }
 
-    /// Takes the child at byte `b` out, if one stands there. A node left with few children gets the
-    /// kind before, one of width 4 without children none; one of width 4 that is left with one child
-    /// and has no value is joined with that child, which keeps its kind. Asks that the prefix of each
-    /// child, joined to the node's, is within the maximum.
-    ///
-    /// Memory is asked for only where the node gets a smaller kind that has a width. Refused, all
-    /// stands as it was.
+    /// Removes the child at byte `b` and returns it, as `Node::delete_child` does.
     // Inline with what it calls: a child that is handed on as a result is copied each time.
     #[inline(always)]
     pub(crate) fn take_child(&mut self, alloc: Global, b: u8) -> Result<Option<Self>, TreeError>
@@ -62,25 +58,25 @@ impl<P: Partial, V> DefaultNode<P, V> {
             return Ok(None);
         };
         if narrow {
-            self.join_lone_child();
+            self.merge_with_only_child();
         }
         Ok(Some(child))
     }
 
-    /// Whether the node is a leaf that holds `key`, what is left of a key behind the path to it.
+    /// Returns whether the node is a leaf that holds `key`, the rest of a key after the path to it.
     pub(crate) fn is_leaf_at(&self, key: &[u8]) -> bool
         ensures { result ≡ is_leaf_at key.now self.now }
     {
         if self.storage.num_children() > 0 {
             return false;
         }
-        match rest_behind(&self.prefix, key) {
+        match strip_prefix(&self.prefix, key) {
             Some(rest) => rest.is_empty(),
             None => false,
         }
     }
 
-    /// The value of a node without children, whose storage is freed.
+    /// Returns the value of a node without children and frees its storage.
     pub(crate) fn into_value(self) -> Option<V>
         requires { edges_of (children_in self) ≡ [] }
         ensures { result ≡ value_of self }
@@ -111,14 +107,15 @@ impl<P: Partial, V> DefaultNode<P, V> {
         ensures refused { OnErr result (self.new ≡ self.old) }
         ensures nothing { OnErr result (removed.new ≡ None) }
         ensures error { IfErr result (λ e. e ≡ TreeError.Memory) }
-        ensures asks { OnErr result ((trie_asks_remove None key.now self.old ≡ true) × (trie_lookup key.now self.old ≢ None)) }
+        ensures asks { OnErr result ((trie_asks_remove None key.now self.old ≡ true)
+            × (trie_lookup key.now self.old ≢ None)) }
     {
-        let Some(rest) = rest_behind(&self.prefix, key) else {
+        let Some(rest) = strip_prefix(&self.prefix, key) else {
             return Ok(());
         };
         let Some(&byte) = rest.first() else {
             give_back(removed, self.value.take());
-            self.join_lone_child();
+            self.merge_with_only_child();
             return Ok(());
         };
         match self.storage.seek_child_mut(byte) {
@@ -146,7 +143,8 @@ impl<P: Partial, V> DefaultNode<P, V> {
         ensures answer { IfOk result (λ old. old ≡ trie_lookup key.now self.old) }
         ensures refused { OnErr result (self.new ≡ self.old) }
         ensures error { IfErr result (λ e. e ≡ TreeError.Memory) }
-        ensures asks { OnErr result ((trie_asks_remove None key.now self.old ≡ true) × (trie_lookup key.now self.old ≢ None)) }
+        ensures asks { OnErr result ((trie_asks_remove None key.now self.old ≡ true)
+            × (trie_lookup key.now self.old ≢ None)) }
     {
         let mut removed: Option<V> = None;
         match self.take_below(alloc, key, &mut removed) {
@@ -158,7 +156,7 @@ impl<P: Partial, V> DefaultNode<P, V> {
         }
     }
 
-    /// Removes `key` from a tree that is a root or none: what it leaves is what `tree_remove` says.
+    /// Removes `key` from the tree of an optional root, as `tree_remove` says.
     fn take_from(root: &mut Option<Self>, alloc: Global, key: &[u8]) -> Result<Option<V>, TreeError>
         requires canonical { IsCanonicalTree root.old }
         requires fits { IsWithin P.MAXIMUM_SIZE (longest_key (tree_pairs root.old)) }
@@ -166,7 +164,8 @@ impl<P: Partial, V> DefaultNode<P, V> {
         ensures answer { IfOk result (λ old. old ≡ tree_lookup key.now root.old) }
         ensures refused { OnErr result (root.new ≡ root.old) }
         ensures error { IfErr result (λ e. e ≡ TreeError.Memory) }
-        ensures asks { OnErr result ((remove_asks (keys_of (tree_pairs root.old)) key.now ≡ true) × (tree_lookup key.now root.old ≢ None)) }
+        ensures asks { OnErr result ((remove_asks (keys_of (tree_pairs root.old)) key.now ≡ true)
+            × (tree_lookup key.now root.old ≢ None)) }
     {
         match root {
             Some(node) => {
@@ -182,12 +181,13 @@ impl<P: Partial, V> DefaultNode<P, V> {
         }
     }
 
-    /// Removes `key` from a tree that is a root or none, and answers its value. Asks a canonical tree
-    /// whose keys are within the maximum.
+    /// Removes `key` from the tree of an optional root and returns its value. The tree must be canonical and its keys
+    /// within the maximum.
     ///
-    /// Refused is only a request for memory, and that comes only where the keys say that a node needs
-    /// smaller room: the key's node is a leaf whose parent goes from 5, 17 or 49 children to one fewer.
-    /// Then all stands as it was.
+    /// # Errors
+    ///
+    /// [`TreeError::Memory`] if the parent of the key's leaf must shrink from 5, 17 or 49 children to one fewer and
+    /// the allocation fails. The tree is then unchanged.
     pub fn remove(
         root: &mut Option<Self>,
         alloc: Global,
@@ -198,11 +198,13 @@ impl<P: Partial, V> DefaultNode<P, V> {
         ensures canonical { OnOk result (IsCanonicalTree root.new) }
         ensures pairs { OnOk result (tree_pairs root.new ≡ without key.now (tree_pairs root.old)) }
         ensures answer { IfOk result (λ old. old ≡ lookup key.now (tree_pairs root.old)) }
-        ensures count { IfOk result (λ old. length (tree_pairs root.new) + count_of old ≡ length (tree_pairs root.old)) }
+        ensures count { IfOk result (λ old. length (tree_pairs root.new) + count_of old
+            ≡ length (tree_pairs root.old)) }
         ensures longest { OnOk result (longest_key (tree_pairs root.new) ≤ longest_key (tree_pairs root.old)) }
         ensures refused { OnErr result (root.new ≡ root.old) }
         ensures error { IfErr result (λ e. e ≡ TreeError.Memory) }
-        ensures asks { OnErr result ((remove_asks (keys_of (tree_pairs root.old)) key.now ≡ true) × (lookup key.now (tree_pairs root.old) ≢ None)) }
+        ensures asks { OnErr result ((remove_asks (keys_of (tree_pairs root.old)) key.now ≡ true)
+            × (lookup key.now (tree_pairs root.old) ≢ None)) }
     {
         DefaultNode::take_from(root, alloc, key)
     }

@@ -1,9 +1,8 @@
 //! A shared tree whose reads are counted.
 //!
-//! This module alone sees the nodes of a shared tree: it shows a node's prefix, value and children
-//! only to a caller that visits it, and each visit adds one to the caller's counter. Look-ups and
-//! walks stand in other modules. They go through `Shared` nodes, which keep nothing beside the node;
-//! allocator and longest key are read where a walk starts, from `Seen`.
+//! Only this module accesses the nodes of a shared tree. It returns the prefix, the value and the children of a node
+//! only to a caller that visits it, and each visit adds one to the caller's counter. Look-ups and walks are in other
+//! modules.
 ghost use Rattle.std.specs.Prelude.{◌≡◌, ◌↔◌, ◌≤◌, ◌+◌, ℕ, IsTrue, MatchOption, Some, length, option_map, true};
 ghost use Rattle.std.specs.Option.{option_copied};
 ghost use Rattle.rart_keys.specs.KeyBytes.{IsWithin, IsWithin-prop};
@@ -19,8 +18,7 @@ use rart_keys::{KeyTrait, Partial};
 use std::alloc::{AllocError, Global};
 use std::marker::{Model, PhantomData};
 
-/// A shared tree, or a part of one, whose reads are counted by a `C`. It stands for the map of the
-/// tree, and never gives its node back.
+/// Borrows a shared tree, or a part of one, whose reads a `C` counts. It never returns its node.
 pub struct Seen<'a, K: KeyTrait, V, C> {
     root: Option<&'a DefaultNode<K::PartialType, V>>,
     alloc: Global,
@@ -109,12 +107,12 @@ impl<'a, P: Partial, V, C> Model for Branches<'a, P, V, C> {
 }
 
 impl<'a, K: KeyTrait, V, C> Seen<'a, K, V, C> {
-    /// The allocator of the tree.
+    /// Returns the allocator of the tree.
     pub(crate) fn alloc(self) -> Global {
         self.alloc
     }
 
-    /// A number that no key of the tree is longer than, within the keys' maximum.
+    /// Returns an upper bound of the lengths of the keys, within the keys' maximum.
     pub(crate) fn longest(self) -> usize
         ensures short { longest_key (seen_pairs self.entry.root) ≤ result }
         ensures fits { IsWithin K.MAXIMUM_SIZE result }
@@ -123,7 +121,7 @@ impl<'a, K: KeyTrait, V, C> Seen<'a, K, V, C> {
         self.longest
     }
 
-    /// The topmost node, if there is one, not yet visited.
+    /// Returns the topmost node, not yet visited.
     pub(crate) fn top(self) -> Option<Shared<'a, K::PartialType, V, C>>
         ensures { option_map (λ s. s.node.now) result ≡ option_copied self.entry.root }
     {
@@ -134,8 +132,8 @@ impl<'a, K: KeyTrait, V, C> Seen<'a, K, V, C> {
         })
     }
 
-    /// The tree below `root`, whose walks take room for keys of `longest` bytes. Requires nodes that have the
-    /// shape of their keys, no key longer than `longest`, and `longest` within the keys' maximum.
+    /// Returns the shared tree of `root`, whose walks allocate for keys of `longest` bytes. The nodes must have the
+    /// shape of their keys, and `longest` must be within the keys' maximum and at least the length of each key.
     pub fn of(
         root: Option<&'a DefaultNode<K::PartialType, V>>,
         alloc: Global,
@@ -157,7 +155,7 @@ impl<'a, K: KeyTrait, V, C> Seen<'a, K, V, C> {
 }
 
 impl<'a, P: Partial, V, C: Count> Shared<'a, P, V, C> {
-    /// Visits the node, which adds one to the counter.
+    /// Visits the node.
     pub(crate) fn enter(self, counter: &mut C) -> Entered<'a, P, V, C>
         ensures shown { result.node.now ≡ self.entry.node.now }
         ensures counted { C.number counter.new ≡ C.number counter.old + 1 }
@@ -169,7 +167,7 @@ impl<'a, P: Partial, V, C: Count> Shared<'a, P, V, C> {
         }
     }
 
-    /// Visits two nodes together, one of each of two trees, which adds one to the counter.
+    /// Visits one node of each of two trees together, which counts once.
     pub(crate) fn enter_pair<'b, W>(
         self,
         other: Shared<'b, P, W, Paired<C>>,
@@ -188,7 +186,7 @@ impl<'a, P: Partial, V, C: Count> Shared<'a, P, V, C> {
 }
 
 impl<'a, P: Partial, V, C: Count> Shared<'a, P, V, Paired<C>> {
-    /// Visits a node of the other tree alone, which adds one to the counter.
+    /// Visits a node of the other tree alone.
     pub(crate) fn enter_other(self, counter: &mut C) -> Entered<'a, P, V, Paired<C>>
         ensures shown { result.node.now ≡ self.entry.node.now }
         ensures counted { C.number counter.new ≡ C.number counter.old + 1 }
@@ -202,35 +200,35 @@ impl<'a, P: Partial, V, C: Count> Shared<'a, P, V, Paired<C>> {
 }
 
 impl<'a, P: Partial, V, C> Entered<'a, P, V, C> {
-    /// The node's prefix.
+    /// Returns the prefix of the node.
     pub(crate) fn prefix(self) -> &'a P
         ensures { P.bytes result.now ≡ prefix_of self.entry.node.now }
     {
         self.node.prefix()
     }
 
-    /// The value that the node holds.
+    /// Returns the value of the node.
     pub(crate) fn value(self) -> Option<&'a V>
         ensures { option_copied result ≡ value_of self.entry.node.now }
     {
         self.node.value()
     }
 
-    /// Whether the node has no children.
-    pub(crate) fn is_bare(self) -> bool
+    /// Returns whether the node has no children.
+    pub(crate) fn has_no_children(self) -> bool
         ensures { IsTrue result ↔ (children_in self.entry.node.now ≡ no_children) }
     {
         self.node.is_leaf()
     }
 
-    /// How many children the node has.
+    /// Returns the number of children.
     pub(crate) fn num_children(self) -> usize
         ensures { result ≡ length (edges_of (children_in self.entry.node.now)) }
     {
         self.node.num_children()
     }
 
-    /// The child at byte `b`, not yet visited.
+    /// Returns the child at byte `b`, not yet visited.
     pub(crate) fn child(self, b: u8) -> Option<Shared<'a, P, V, C>>
         ensures { option_map (λ s. s.node.now) result ≡ child_in b self.entry.node.now }
     {
@@ -241,7 +239,7 @@ impl<'a, P: Partial, V, C> Entered<'a, P, V, C> {
         })
     }
 
-    /// The children, none of them visited.
+    /// Returns the children, none of them visited.
     pub(crate) fn branches(self) -> Branches<'a, P, V, C>
         ensures { result ≡ children_in self.entry.node.now }
     {
@@ -251,7 +249,7 @@ impl<'a, P: Partial, V, C> Entered<'a, P, V, C> {
         }
     }
 
-    /// The children whose byte is above `b`, none of them visited.
+    /// Returns the children at the bytes above `b`, none of them visited.
     pub(crate) fn branches_above(self, b: u8) -> Branches<'a, P, V, C>
         ensures { result ≡ children_above b (children_in self.entry.node.now) }
     {
@@ -263,9 +261,10 @@ impl<'a, P: Partial, V, C> Entered<'a, P, V, C> {
 }
 
 impl<'a, P: Partial, V, C: Count> Branches<'a, P, V, C> {
-    /// Visits the next child, if there is one, which adds one to the counter.
+    /// Visits the next child.
     pub(crate) fn enter_next(&mut self, counter: &mut C) -> Option<Entered<'a, P, V, C>>
-        ensures shown { MatchOption result ((self.old ≡ no_children) × (self.new ≡ no_children)) (λ e. (b : ℕ) × (self.old ≡ child b e.node.now self.new)) }
+        ensures shown { MatchOption result ((self.old ≡ no_children) × (self.new ≡ no_children)) (λ e. (b : ℕ)
+            × (self.old ≡ child b e.node.now self.new)) }
         ensures counted { C.number counter.new ≡ C.number counter.old + count_of result }
     {
         let (_, node) = self.rest.next()?;
@@ -278,9 +277,10 @@ impl<'a, P: Partial, V, C: Count> Branches<'a, P, V, C> {
 }
 
 impl<'a, P: Partial, V, C> Branches<'a, P, V, C> {
-    /// The next child with its byte, not yet visited.
+    /// Returns the next child with its byte, not yet visited.
     pub(crate) fn next_child(&mut self) -> Option<(u8, Shared<'a, P, V, C>)>
-        ensures { MatchOption result ((self.old ≡ no_children) × (self.new ≡ no_children)) (λ e. self.old ≡ child e.0 e.1.node.now self.new) }
+        ensures { MatchOption result ((self.old ≡ no_children) × (self.new ≡ no_children))
+            (λ e. self.old ≡ child e.0 e.1.node.now self.new) }
     {
         let (byte, node) = self.rest.next()?;
         let child = Shared {

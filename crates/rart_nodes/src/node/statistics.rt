@@ -1,8 +1,8 @@
-//! The count of a tree's nodes.
+//! The statistics of the nodes of a tree.
 ghost use Rattle.std.specs.Prelude.{◌≡◌, ◌+◌, ◌*◌, ◌≤◌, length, IfErr, IfOk, OnErr};
 ghost use Rattle.std.specs.Option.{option_copied};
 ghost use Rattle.rart_nodes.specs.statistics.CountedNodes.{counts_added, counts_in, counts_sum};
-ghost use Rattle.rart_nodes.specs.statistics.Statistics.{statistics_in, statistics_of, trie_height};
+ghost use Rattle.rart_nodes.specs.statistics.Statistics.{stats_in, stats_of, trie_height};
 ghost use Rattle.rart_nodes.specs.tries.Tree.{IsCanonicalTree, seen_keys, seen_nodes, seen_pairs};
 ghost use Rattle.rart_nodes.specs.tries.TrieCode.{node_count};
 
@@ -14,7 +14,7 @@ use rart_parts::TreeError;
 use std::alloc::Global;
 
 impl<P: Partial, V> DefaultNode<P, V> {
-    /// Counts the node and all that stands below it, and gives its height.
+    /// Counts the nodes of the subtree and returns its height.
     fn count_nodes(&self, counts: &mut Counts) -> usize
         requires { counts_sum counts.old + 4 * node_count self.now ≤ usize.MAX }
         ensures counts { counts.new ≡ counts_added counts.old (counts_in self.now) }
@@ -29,15 +29,16 @@ impl<P: Partial, V> DefaultNode<P, V> {
         1 + below
     }
 
-    /// The statistics of a tree that is a root or none: those of its keys by their shape. Asks a
-    /// canonical tree of at most `usize::MAX / 16` pairs, so that no sum wraps.
+    /// Returns the statistics of the tree of an optional root. The tree must be canonical and have at most `usize::MAX
+    /// / 16` pairs.
     ///
-    /// Refused is only a request for memory, and that comes only where the tree holds at least two
-    /// keys.
+    /// # Errors
+    ///
+    /// [`TreeError::Memory`] if the tree holds at least two keys and an allocation fails.
     pub fn tree_stats(root: Option<&Self>, alloc: Global) -> Result<TreeStats, TreeError>
         requires canonical { IsCanonicalTree (option_copied root) }
         requires fits { 16 * length (seen_pairs root) ≤ usize.MAX }
-        ensures statistics { IfOk result (λ s. statistics_in s ≡ statistics_of (seen_keys root.entry) (seen_nodes root.entry)) }
+        ensures statistics { IfOk result (λ s. stats_in s ≡ stats_of (seen_keys root.entry) (seen_nodes root.entry)) }
         ensures error { IfErr result (λ e. e ≡ TreeError.Memory) }
         ensures asks { OnErr result (2 ≤ length (seen_pairs root.entry)) }
     {

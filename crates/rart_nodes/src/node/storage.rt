@@ -1,5 +1,5 @@
-//! Where a node's children stand: in one of four maps, or nowhere where it has none. Seen as the list
-//! of (byte, child), ascending by byte, and a width.
+//! The children of a node, in one of four maps or in none. A contract reads storage as its ascending list of entries
+//! and a capacity.
 ghost use Rattle.std.specs.Prelude.{◌≡◌, ◌<◌, [], length, None};
 ghost use Rattle.std.specs.Option.{option_copied};
 ghost use Rattle.rart_parts.specs.Entries.{child_at, with_entry, without_byte};
@@ -19,17 +19,17 @@ pub(crate) enum Storage<N> {
     /// No child, and no memory.
     Leaf,
     /// At most four children, by sorted keys.
-    Four(Box<SortedKeyedMapping<N, 4>>),
+    Node4(Box<SortedKeyedMapping<N, 4>>),
     /// At most sixteen children, by sorted keys.
-    Sixteen(Box<SortedKeyedMapping<N, 16>>),
+    Node16(Box<SortedKeyedMapping<N, 16>>),
     /// At most 48 children, with an index from bytes to slots.
-    FortyEight(Box<IndexedMapping<N, 48, Bitset64<1>>>),
+    Node48(Box<IndexedMapping<N, 48, Bitset64<1>>>),
     /// A place for each byte.
-    Full(Box<DirectMapping<N>>),
+    Node256(Box<DirectMapping<N>>),
 }
 
 impl<N> Storage<N> {
-    /// Storage of width 0, for a node without children. Takes no memory.
+    /// Returns storage of capacity 0. It does not allocate.
     pub(crate) fn empty() -> Self
         ensures stored { stored result ≡ [] }
         ensures width { width_of result ≡ 0 }
@@ -37,47 +37,46 @@ impl<N> Storage<N> {
         Storage::Leaf
     }
 
-    /// How many children there are.
+    /// Returns the number of children.
     pub(crate) fn num_children(&self) -> usize
         ensures { result ≡ length (stored self.now) }
     {
         match self {
             Storage::Leaf => 0,
-            Storage::Four(map) => map.num_children(),
-            Storage::Sixteen(map) => map.num_children(),
-            Storage::FortyEight(map) => map.num_children(),
-            Storage::Full(map) => map.num_children(),
+            Storage::Node4(map) => map.num_children(),
+            Storage::Node16(map) => map.num_children(),
+            Storage::Node48(map) => map.num_children(),
+            Storage::Node256(map) => map.num_children(),
         }
     }
 
-    /// How many children storage of this kind holds at most: 0, 4, 16, 48 or 256.
+    /// Returns the capacity of this kind: 0, 4, 16, 48 or 256.
     pub(crate) fn width(&self) -> usize
         ensures { result ≡ width_of self.now }
     {
         match self {
             Storage::Leaf => 0,
-            Storage::Four(_) => 4,
-            Storage::Sixteen(_) => 16,
-            Storage::FortyEight(_) => 48,
-            Storage::Full(_) => 256,
+            Storage::Node4(_) => 4,
+            Storage::Node16(_) => 16,
+            Storage::Node48(_) => 48,
+            Storage::Node256(_) => 256,
         }
     }
 
-    /// The child at byte `b`.
+    /// Returns the child at byte `b`.
     pub(crate) fn seek_child(&self, b: u8) -> Option<&N>
         ensures { option_copied result ≡ child_at b (stored self.now) }
     {
         match self {
             Storage::Leaf => None,
-            Storage::Four(map) => map.seek_child(b),
-            Storage::Sixteen(map) => map.seek_child(b),
-            Storage::FortyEight(map) => map.seek_child(b),
-            Storage::Full(map) => map.seek_child(b),
+            Storage::Node4(map) => map.seek_child(b),
+            Storage::Node16(map) => map.seek_child(b),
+            Storage::Node48(map) => map.seek_child(b),
+            Storage::Node256(map) => map.seek_child(b),
         }
     }
 
-    /// Puts a child in at byte `b`, where none stands. Takes no memory. Inline, so that a child that was just made isn't
-    /// copied once more on its way.
+    /// Inserts a child at byte `b`, which has none. It does not allocate. Inline, so a new child is not copied again.
     #[inline(always)]
     pub(crate) fn add_within(&mut self, b: u8, node: N)
         requires absent { child_at b (stored self.old) ≡ None }
@@ -87,14 +86,14 @@ impl<N> Storage<N> {
     {
         match self {
             Storage::Leaf => unreachable!(),
-            Storage::Four(map) => map.add_child(b, node),
-            Storage::Sixteen(map) => map.add_child(b, node),
-            Storage::FortyEight(map) => map.add_child(b, node),
-            Storage::Full(map) => map.add_child(b, node),
+            Storage::Node4(map) => map.add_child(b, node),
+            Storage::Node16(map) => map.add_child(b, node),
+            Storage::Node48(map) => map.add_child(b, node),
+            Storage::Node256(map) => map.add_child(b, node),
         }
     }
 
-    /// Takes the child at byte `b` out, if one stands there, and keeps the kind. Takes no memory.
+    /// Removes the child at byte `b` and keeps the kind. It does not allocate.
     pub(crate) fn delete_within(&mut self, b: u8) -> Option<N>
         ensures taken { result ≡ child_at b (stored self.old) }
         ensures stored { stored self.new ≡ without_byte b (stored self.old) }
@@ -102,10 +101,10 @@ impl<N> Storage<N> {
     {
         match self {
             Storage::Leaf => None,
-            Storage::Four(map) => map.delete_child(b),
-            Storage::Sixteen(map) => map.delete_child(b),
-            Storage::FortyEight(map) => map.delete_child(b),
-            Storage::Full(map) => map.delete_child(b),
+            Storage::Node4(map) => map.delete_child(b),
+            Storage::Node16(map) => map.delete_child(b),
+            Storage::Node48(map) => map.delete_child(b),
+            Storage::Node256(map) => map.delete_child(b),
         }
     }
 }
@@ -118,8 +117,8 @@ impl<N> Storage<N> {
     ghost use Rattle.rart_nodes.specs.storages.Lends.{lends_child};
     ghost use Rattle.rart_nodes.specs.storages.Stored.{stored};
 
-    /// The child at byte `b`, to be changed. Inline, so that the caller's branch on it needs no child's address made
-    /// from a test of the child: two reads of memory then go side by side.
+    /// Returns a mutable borrow of the child at byte `b`. Inline, so that the caller's branch on it needs no child's
+    /// address made from a test of the child: two reads of memory then go side by side.
     #[inline(always)]
     pub(crate) fn seek_child_mut(&mut self, b: u8) -> Option<&mut N>
         ensures* writes_back { sem 𝓛 (lends_child N.row self.entry b result) }
@@ -127,10 +126,10 @@ impl<N> Storage<N> {
     {
         match self {
             Storage::Leaf => None,
-            Storage::Four(map) => map.seek_child_mut(b),
-            Storage::Sixteen(map) => map.seek_child_mut(b),
-            Storage::FortyEight(map) => map.seek_child_mut(b),
-            Storage::Full(map) => map.seek_child_mut(b),
+            Storage::Node4(map) => map.seek_child_mut(b),
+            Storage::Node16(map) => map.seek_child_mut(b),
+            Storage::Node48(map) => map.seek_child_mut(b),
+            Storage::Node256(map) => map.seek_child_mut(b),
         }
     }
 }

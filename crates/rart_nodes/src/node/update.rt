@@ -1,6 +1,7 @@
-//! Updates below a node: the callback runs where the one pass down ends, and what it asks for is done
-//! there. Room is taken before the first write.
-ghost use Rattle.std.specs.Prelude.{◌≡◌, ◌≢◌, ◌≤◌, [], ℕ, List, length, option_and_then, slice_get, false, true, None, Some, IfSome, IsSomeAnd, Option, OnErr};
+//! Updates below a node: one descent calls the callback at its end and applies the result. It allocates before the
+//! first write.
+ghost use Rattle.std.specs.Prelude.{◌≡◌, ◌≢◌, ◌≤◌, [], ℕ, List, length, option_and_then, slice_get, false, true, None};
+ghost use Rattle.std.specs.Prelude.{Some, IfSome, IsSomeAnd, Option, OnErr};
 ghost use Rattle.std.specs.Fn.{FnOnceReturnsAtMut, FnOnceTakesAtMut};
 ghost use Rattle.rart_keys.specs.ByteStrings.{strip_prefix};
 ghost use Rattle.rart_keys.specs.KeyBytes.{IsWithin};
@@ -8,21 +9,22 @@ ghost use Rattle.rart_keys.specs.SortedMap.{keys_of, lookup, longest_key};
 ghost use Rattle.rart_nodes.specs.declared.slot.SlotUpdate.{SlotUpdate};
 ghost use Rattle.rart_nodes.specs.edits.Deletion.{JoinsWithin, is_leaf_at, is_lone};
 ghost use Rattle.rart_nodes.specs.tries.Tree.{IsCanonicalTree, tree_lookup, tree_nodes, tree_pairs};
-ghost use Rattle.rart_nodes.specs.tries.Trie.{IsCanonical, capacity_in, child_in, children_in, edges_of, pairs_of, prefix_of, trie_lookup, value_of};
-ghost use Rattle.rart_nodes.specs.updates.Callbacks.{StaysTelling, TellsSo};
+ghost use Rattle.rart_nodes.specs.tries.Trie.{IsCanonical, capacity_in, child_in, children_in, edges_of, pairs_of};
+ghost use Rattle.rart_nodes.specs.tries.Trie.{prefix_of, trie_lookup, value_of};
+ghost use Rattle.rart_nodes.specs.updates.Callbacks.{StaysReturning, TellsSo};
 ghost use Rattle.rart_nodes.specs.updates.Slots.{CountsPairs, longest_after, slot_of};
 ghost use Rattle.rart_nodes.specs.updates.TreeUpdates.{EndsHere, EndsLeaf, EndsTree, LosesLeaf, LosesRoot};
 ghost use Rattle.rart_nodes.specs.updates.Updates.{UpdatesMap};
 
 use crate::node::DefaultNode;
-use crate::node::rest::rest_behind;
+use crate::node::rest::strip_prefix;
 use crate::refused::Refused;
 use crate::slot::{Outcome, Slot, SlotUpdate, UpdateError, Visit, show, show_vacant};
 use rart_keys::Partial;
 use rart_parts::TreeError;
 use std::alloc::Global;
 
-/// Puts a value in where none stands.
+/// Stores a value in an empty place.
 fn fill<V>(place: &mut Option<V>, value: V)
     requires { place.old ≡ None }
     ensures { place.new ≡ Some value }
@@ -34,8 +36,8 @@ fn fill<V>(place: &mut Option<V>, value: V)
 }
 
 impl<P: Partial, V> DefaultNode<P, V> {
-    // Does what was asked for a key that the prefix doesn't begin.
-    fn settle_split(
+    // Applies the result for a key that the prefix does not begin.
+    fn apply_split(
         &mut self,
         alloc: Global,
         full: bool,
@@ -63,9 +65,8 @@ impl<P: Partial, V> DefaultNode<P, V> {
         }
     }
 
-    // Does what was asked for a key that goes on with `rest` behind the prefix, where no child stands at
-    // its first byte.
-    fn settle_child(
+    // Applies the result for a key that needs a new child at the first byte of `rest`.
+    fn apply_to_child(
         &mut self,
         alloc: Global,
         full: bool,
@@ -77,7 +78,8 @@ impl<P: Partial, V> DefaultNode<P, V> {
         requires first { Some byte ≡ slice_get rest.now 0 }
         requires absent { child_in byte self.old ≡ None }
         requires fits { IsWithin P.MAXIMUM_SIZE (length rest.now) }
-        ensures { (key : List ℕ) → Some rest.now ≡ strip_prefix (prefix_of self.old) key → EndsTree full key answer None (Some self.old) result (Some self.new) }
+        ensures { (key : List ℕ) → Some rest.now ≡ strip_prefix (prefix_of self.old) key
+            → EndsTree full key answer None (Some self.old) result (Some self.new) }
     {
         match answer {
             SlotUpdate::Keep | SlotUpdate::Remove => Ok(Outcome::Absent),
@@ -100,8 +102,8 @@ impl<P: Partial, V> DefaultNode<P, V> {
         }
     }
 
-    // Does what was asked for the key at which a node with children stands, whose value was `left`.
-    fn settle_here(
+    // Applies the result at a node with children whose value was `left`.
+    fn apply_here(
         &mut self,
         full: bool,
         left: Option<V>,
@@ -123,7 +125,7 @@ impl<P: Partial, V> DefaultNode<P, V> {
                     Ok(Outcome::Replaced(left))
                 }
                 SlotUpdate::Remove => {
-                    self.join_lone_child();
+                    self.merge_with_only_child();
                     Ok(Outcome::Removed(left))
                 }
             },
@@ -143,13 +145,14 @@ impl<P: Partial, V> DefaultNode<P, V> {
         }
     }
 
-    // Shows a leaf's value to `f`, and does what it asks for. No outcome: the leaf is to be removed.
+    // Calls `f` with a leaf's value and applies the result. No outcome: the leaf is to be removed.
     fn update_leaf<X, F: FnOnce(&mut Slot<V>) -> (SlotUpdate<V>, X)>(
         &mut self,
         f: F,
     ) -> (Option<Outcome<V>>, X)
         requires callable { FnOnceTakesAtMut F.FnOnce f (slot_of (value_of self.old)) }
-        requires stays { (r : SlotUpdate V) (x : X) (w : Option V) → FnOnceReturnsAtMut F.FnOnce f (slot_of (value_of self.old)) (r, x) (slot_of w) → w ≢ None }
+        requires stays { (r : SlotUpdate V) (x : X) (w : Option V)
+            → FnOnceReturnsAtMut F.FnOnce f (slot_of (value_of self.old)) (r, x) (slot_of w) → w ≢ None }
         ensures { TellsSo F.FnOnce f (value_of self.old) result.1 (λ r w. EndsLeaf r w self.old result.0 self.new) }
     {
         let Visit { left, answer, told } = show(self.value.take(), f);
@@ -170,8 +173,8 @@ impl<P: Partial, V> DefaultNode<P, V> {
         }
     }
 
-    // Removes the leaf at `byte`. Refused, all stands as it was.
-    fn lose_leaf(&mut self, alloc: Global, byte: u8) -> Result<Outcome<V>, UpdateError<V>>
+    // Removes the leaf at `byte`; on an error the node is unchanged.
+    fn remove_leaf(&mut self, alloc: Global, byte: u8) -> Result<Outcome<V>, UpdateError<V>>
         requires within { JoinsWithin P.MAXIMUM_SIZE (prefix_of self.old) (children_in self.old) }
         requires stands { child_in byte self.old ≢ None }
         requires leaf { IfSome (child_in byte self.old) (λ t. (edges_of (children_in t) ≡ []) × (value_of t ≢ None)) }
@@ -199,16 +202,17 @@ impl<P: Partial, V> DefaultNode<P, V> {
         requires fits { IsWithin P.MAXIMUM_SIZE (longest_key (pairs_of self.old)) }
         requires inner { is_leaf_at key.now self.old ≡ false }
         requires callable { FnOnceTakesAtMut F.FnOnce f (slot_of (trie_lookup key.now self.old)) }
-        requires stays { StaysTelling F.FnOnce f (trie_lookup key.now self.old) }
-        ensures { TellsSo F.FnOnce f (trie_lookup key.now self.old) result.1 (λ r w. EndsTree full key.now r w (Some self.old) result.0 (Some self.new)) }
+        requires stays { StaysReturning F.FnOnce f (trie_lookup key.now self.old) }
+        ensures { TellsSo F.FnOnce f (trie_lookup key.now self.old) result.1
+            (λ r w. EndsTree full key.now r w (Some self.old) result.0 (Some self.new)) }
     {
-        let Some(rest) = rest_behind(&self.prefix, key) else {
+        let Some(rest) = strip_prefix(&self.prefix, key) else {
             let (answer, told) = show_vacant(f);
-            return (self.settle_split(alloc, full, key, answer), told);
+            return (self.apply_split(alloc, full, key, answer), told);
         };
         let Some(&byte) = rest.first() else {
             let Visit { left, answer, told } = show(self.value.take(), f);
-            return (self.settle_here(full, left, answer), told);
+            return (self.apply_here(full, left, answer), told);
         };
         let (outcome, told) = match self.storage.seek_child_mut(byte) {
             Some(child) => {
@@ -219,17 +223,17 @@ impl<P: Partial, V> DefaultNode<P, V> {
             }
             None => {
                 let (answer, told) = show_vacant(f);
-                return (self.settle_child(alloc, full, rest, byte, answer), told);
+                return (self.apply_to_child(alloc, full, rest, byte, answer), told);
             }
         };
         match outcome {
             Some(outcome) => (Ok(outcome), told),
-            None => (self.lose_leaf(alloc, byte), told),
+            None => (self.remove_leaf(alloc, byte), told),
         }
     }
 
-    // Does what was asked for a key in a tree without a root.
-    fn settle_root(
+    // Applies the result for a key in a tree without a root.
+    fn apply_to_root(
         root: &mut Option<Self>,
         full: bool,
         key: &[u8],
@@ -254,7 +258,7 @@ impl<P: Partial, V> DefaultNode<P, V> {
         }
     }
 
-    /// Updates a tree that is a root or none, as `EndsTree` says.
+    /// Updates the tree of an optional root, as `EndsTree` says.
     fn update_tree<X, F: FnOnce(&mut Slot<V>) -> (SlotUpdate<V>, X)>(
         root: &mut Option<Self>,
         alloc: Global,
@@ -266,8 +270,9 @@ impl<P: Partial, V> DefaultNode<P, V> {
         requires fits_key { IsWithin P.MAXIMUM_SIZE (length key.now) }
         requires fits { IsWithin P.MAXIMUM_SIZE (longest_key (tree_pairs root.old)) }
         requires callable { FnOnceTakesAtMut F.FnOnce f (slot_of (tree_lookup key.now root.old)) }
-        requires stays { StaysTelling F.FnOnce f (tree_lookup key.now root.old) }
-        ensures { TellsSo F.FnOnce f (tree_lookup key.now root.old) result.1 (λ r w. EndsTree full key.now r w root.old result.0 root.new) }
+        requires stays { StaysReturning F.FnOnce f (tree_lookup key.now root.old) }
+        ensures { TellsSo F.FnOnce f (tree_lookup key.now root.old) result.1
+            (λ r w. EndsTree full key.now r w root.old result.0 root.new) }
     {
         let (outcome, told) = match root {
             Some(node) => {
@@ -278,7 +283,7 @@ impl<P: Partial, V> DefaultNode<P, V> {
             }
             None => {
                 let (answer, told) = show_vacant(f);
-                return (DefaultNode::settle_root(root, full, key, answer), told);
+                return (DefaultNode::apply_to_root(root, full, key, answer), told);
             }
         };
         match outcome {
@@ -301,15 +306,15 @@ impl<P: Partial, V> DefaultNode<P, V> {
         }
     }
 
-    /// Shows `f` what stands at `key` in a tree that is a root or none, once, and does what it asks for;
-    /// hands on what `f` tells beside. Asks a canonical tree, whose keys are within the maximum as `key`
-    /// is, and an `f` that leaves an occupied slot occupied and a vacant one vacant. A tree that is `full`
-    /// takes no new key.
+    /// Calls `f` once with the slot of `key` in the tree of an optional root, applies the [`SlotUpdate`], and returns
+    /// the outcome and the second result of `f`. The tree must be canonical with its keys and `key` within the
+    /// maximum. `f` must leave an occupied slot occupied and a vacant one vacant.
     ///
-    /// Refused is an insertion of a new key, with `Full` where the tree is full, with `Memory` only where
-    /// the keys say that it needs room: then all stands as it was, and the value is handed back. Refused
-    /// is a removal, only where the keys say that a node needs smaller room: then the pair stands with
-    /// the value that was left.
+    /// # Errors
+    ///
+    /// [`UpdateError::Insert`] if a new key fails with `Full` in a tree that is `full`, or with `Memory` as in
+    /// `insert`. The tree is then unchanged, and the error holds the value. [`UpdateError::Remove`] if a removal fails
+    /// as in `remove`. The pair then keeps the value that `f` left.
     pub fn update<X, F: FnOnce(&mut Slot<V>) -> (SlotUpdate<V>, X)>(
         root: &mut Option<Self>,
         alloc: Global,
@@ -321,13 +326,15 @@ impl<P: Partial, V> DefaultNode<P, V> {
         requires fits_key { IsWithin P.MAXIMUM_SIZE (length key.now) }
         requires fits { IsWithin P.MAXIMUM_SIZE (longest_key (tree_pairs root.old)) }
         requires callable { FnOnceTakesAtMut F.FnOnce f (slot_of (lookup key.now (tree_pairs root.old))) }
-        requires stays { StaysTelling F.FnOnce f (lookup key.now (tree_pairs root.old)) }
+        requires stays { StaysReturning F.FnOnce f (lookup key.now (tree_pairs root.old)) }
         ensures update { UpdatesMap F.FnOnce f full key.now (tree_pairs root.old) result (tree_pairs root.new) }
         ensures canonical { IsCanonicalTree root.new }
         ensures count { CountsPairs result.0 (length (tree_pairs root.old)) (length (tree_pairs root.new)) }
-        ensures longest { longest_key (tree_pairs root.new) ≤ longest_after result.0 (length key.now) (longest_key (tree_pairs root.old)) }
+        ensures longest { longest_key (tree_pairs root.new)
+            ≤ longest_after result.0 (length key.now) (longest_key (tree_pairs root.old)) }
         ensures refused { OnErr result.0 (tree_nodes root.new ≡ tree_nodes root.old) }
-        ensures nodes { keys_of (tree_pairs root.new) ≡ keys_of (tree_pairs root.old) → tree_nodes root.new ≡ tree_nodes root.old }
+        ensures nodes { keys_of (tree_pairs root.new) ≡ keys_of (tree_pairs root.old)
+            → tree_nodes root.new ≡ tree_nodes root.old }
     {
         DefaultNode::update_tree(root, alloc, full, key, f)
     }

@@ -1,12 +1,12 @@
-//! A key that is lent in segments.
+//! A key lent in segments.
 ghost use Rattle.std.specs.Prelude.{◌≡◌, ◌<◌, ◌^◌, ◌↔◌, ◌++◌, true, length, IsTrue, IfOk, IfErr, OnOk, OnErr};
 ghost use Rattle.std.specs.Cmp.Lexicographic.{slice_cmp};
 ghost use Rattle.std.specs.Iterator.{YieldsFirstBy, item_count};
 ghost use Rattle.std.specs.Ordering.{nat_cmp};
 ghost use Rattle.rart_keys.specs.KeyBytes.{IsWithin};
-ghost use Rattle.rart_nodes.specs.walks.Tour.{joined};
-ghost use Rattle.rart_nodes.specs.walks.TrailParts.{lent_pieces};
-ghost use Rattle.rart_nodes.specs.walks.ViewPieces.{all_have_bytes};
+ghost use Rattle.rart_nodes.specs.walks.Walk.{joined};
+ghost use Rattle.rart_nodes.specs.walks.PathParts.{lent_segments};
+ghost use Rattle.rart_nodes.specs.walks.ViewSegments.{all_have_bytes};
 
 use rart_keys::KeyTrait;
 use rart_parts::TreeError;
@@ -15,67 +15,68 @@ use std::cmp::Ordering;
 use std::marker::Model;
 use std::slice::Iter;
 
-/// A key that is lent in segments, none of them empty: the prefixes of the nodes on the way to it. No byte of it is copied.
+/// Lends a key as non-empty segments that borrow its bytes from the prefixes of nodes. No byte is copied.
 ///
-/// Its calls speak of the bytes that the segments join to. `==` compares the segments themselves, so views of the same bytes
-/// can differ; `eq_slice` and `cmp_slice` compare bytes.
+/// The call that makes the view fixes where the segments are cut: at the branch points, or in an intersection also
+/// inside a prefix. `==` compares the segments, so views of the same bytes can differ; `eq_slice` and `cmp_slice`
+/// compare bytes.
 #[derive(Clone, Copy, PartialEq, Eq, Debug)]
 pub struct LendingKeyView<'tree, 'view> {
     segments: &'view [&'tree [u8]],
-    ghost fits: { length (joined (lent_pieces segments.now)) < 2 ^ 64 },
-    ghost nonempty: { all_have_bytes (lent_pieces segments.now) ≡ true },
+    ghost fits: { length (joined (lent_segments segments.now)) < 2 ^ 64 },
+    ghost nonempty: { all_have_bytes (lent_segments segments.now) ≡ true },
 }
 
 impl<'tree, 'view> LendingKeyView<'tree, 'view> {
-    /// The view of these segments. Asks that none is empty, and that their bytes can be counted.
+    /// Returns the view of non-empty segments, whose bytes together must be countable.
     pub(crate) fn of(segments: &'view [&'tree [u8]]) -> Self
-        requires fits { length (joined (lent_pieces segments.now)) < 2 ^ 64 }
-        requires nonempty { all_have_bytes (lent_pieces segments.now) ≡ true }
-        ensures { lent_pieces result.segments.now ≡ lent_pieces segments.now }
+        requires fits { length (joined (lent_segments segments.now)) < 2 ^ 64 }
+        requires nonempty { all_have_bytes (lent_segments segments.now) ≡ true }
+        ensures { lent_segments result.segments.now ≡ lent_segments segments.now }
     {
         LendingKeyView { segments }
     }
 
-    /// The segments, none of them empty.
+    /// Returns the segments, none of them empty.
     pub fn segments(self) -> &'view [&'tree [u8]]
-        ensures segments { lent_pieces result.now ≡ lent_pieces self.entry.segments.now }
-        ensures nonempty { all_have_bytes (lent_pieces result.now) ≡ true }
+        ensures segments { lent_segments result.now ≡ lent_segments self.entry.segments.now }
+        ensures nonempty { all_have_bytes (lent_segments result.now) ≡ true }
     {
         self.segments
     }
 
-    /// How many bytes the key has.
+    /// Returns the number of bytes of the key.
     pub fn len(self) -> usize
-        ensures { result ≡ length (joined (lent_pieces self.entry.segments.now)) }
+        ensures { result ≡ length (joined (lent_segments self.entry.segments.now)) }
     {
         let mut len = 0;
-        let mut pieces = self.segments.iter();
-        while let Some(piece) = pieces.next() {
-            len += piece.len();
+        let mut segments = self.segments.iter();
+        while let Some(segment) = segments.next() {
+            len += segment.len();
         }
         len
     }
 
-    /// Whether the key has no bytes.
+    /// Returns whether the key has no bytes.
     pub fn is_empty(self) -> bool
-        ensures { IsTrue result ↔ (length (joined (lent_pieces self.entry.segments.now)) ≡ 0) }
+        ensures { IsTrue result ↔ (length (joined (lent_segments self.entry.segments.now)) ≡ 0) }
     {
         self.len() == 0
     }
 
-    /// The bytes, one after the other.
+    /// Returns an iterator over the bytes.
     pub fn bytes(self) -> LendingKeyBytes<'tree, 'view>
-        ensures { result ≡ joined (lent_pieces self.entry.segments.now) }
+        ensures { result ≡ joined (lent_segments self.entry.segments.now) }
     {
         LendingKeyBytes {
-            piece: &[],
+            segment: &[],
             rest: self.segments.iter(),
         }
     }
 
-    /// Whether the bytes are those of the slice; true exactly where `cmp_slice` says `Equal`.
+    /// Returns whether the bytes equal `slice`, exactly if `cmp_slice` returns `Equal`.
     pub fn eq_slice(self, slice: &[u8]) -> bool
-        ensures { IsTrue result ↔ (joined (lent_pieces self.entry.segments.now) ≡ slice.now) }
+        ensures { IsTrue result ↔ (joined (lent_segments self.entry.segments.now) ≡ slice.now) }
     {
         match self.cmp_slice(slice) {
             Ordering::Equal => true,
@@ -83,18 +84,18 @@ impl<'tree, 'view> LendingKeyView<'tree, 'view> {
         }
     }
 
-    /// The bytes compared to those of the slice, from the front.
+    /// Compares the bytes with `slice` lexicographically.
     pub fn cmp_slice(self, slice: &[u8]) -> Ordering
-        ensures { result ≡ slice_cmp nat_cmp (joined (lent_pieces self.entry.segments.now)) slice.now }
+        ensures { result ≡ slice_cmp nat_cmp (joined (lent_segments self.entry.segments.now)) slice.now }
     {
         let mut left = slice;
-        let mut pieces = self.segments.iter();
-        while let Some(piece) = pieces.next() {
-            if left.len() < piece.len() {
-                return (*piece).cmp(left);
+        let mut segments = self.segments.iter();
+        while let Some(segment) = segments.next() {
+            if left.len() < segment.len() {
+                return (*segment).cmp(left);
             }
-            let (front, behind) = left.split_at(piece.len());
-            match (*piece).cmp(front) {
+            let (front, behind) = left.split_at(segment.len());
+            match (*segment).cmp(front) {
                 Ordering::Equal => {}
                 apart => return apart,
             }
@@ -107,25 +108,34 @@ impl<'tree, 'view> LendingKeyView<'tree, 'view> {
         }
     }
 
-    /// Appends the bytes. Refused with `Memory` alone; the destination then is as before.
+    /// Appends the bytes to `destination`.
+    ///
+    /// # Errors
+    ///
+    /// [`TreeError::Memory`] if the allocation fails. The bytes in `destination` are then unchanged.
     pub fn write_into(self, destination: &mut Vec<u8>) -> Result<(), TreeError>
-        ensures written { OnOk result (destination.new.items ≡ destination.old.items ++ joined (lent_pieces self.entry.segments.now)) }
+        ensures written { OnOk result (destination.new.items
+            ≡ destination.old.items ++ joined (lent_segments self.entry.segments.now)) }
         ensures refused { OnErr result (destination.new.items ≡ destination.old.items) }
         ensures memory { IfErr result (λ e. e ≡ TreeError.Memory) }
     {
         destination.reserve(self.len())?;
-        let mut pieces = self.segments.iter();
-        while let Some(piece) = pieces.next() {
-            let Ok(()) = destination.extend_from_slice(*piece) else {
+        let mut segments = self.segments.iter();
+        while let Some(segment) = segments.next() {
+            let Ok(()) = destination.extend_from_slice(*segment) else {
                 unreachable!()
             };
         }
         Ok(())
     }
 
-    /// The bytes as a vector. Refused with `Memory` alone.
+    /// Returns the bytes as a vector.
+    ///
+    /// # Errors
+    ///
+    /// [`TreeError::Memory`] if the allocation fails.
     pub fn to_vec(self, alloc: Global) -> Result<Vec<u8>, TreeError>
-        ensures bytes { IfOk result (λ v. v.items ≡ joined (lent_pieces self.entry.segments.now)) }
+        ensures bytes { IfOk result (λ v. v.items ≡ joined (lent_segments self.entry.segments.now)) }
         ensures memory { IfErr result (λ e. e ≡ TreeError.Memory) }
     {
         let mut bytes = Vec::new(alloc);
@@ -133,10 +143,14 @@ impl<'tree, 'view> LendingKeyView<'tree, 'view> {
         Ok(bytes)
     }
 
-    /// The key with these bytes. Asks that they are within the maximum of `K`. Refused with `Memory` alone.
+    /// Returns the key with these bytes, which must be within the maximum of `K`.
+    ///
+    /// # Errors
+    ///
+    /// [`TreeError::Memory`] if the allocation fails.
     pub fn to_key<K: KeyTrait>(self, alloc: Global) -> Result<K, TreeError>
-        requires { IsWithin K.MAXIMUM_SIZE (length (joined (lent_pieces self.segments.now))) }
-        ensures bytes { IfOk result (λ k. K.bytes k ≡ joined (lent_pieces self.entry.segments.now)) }
+        requires { IsWithin K.MAXIMUM_SIZE (length (joined (lent_segments self.segments.now))) }
+        ensures bytes { IfOk result (λ k. K.bytes k ≡ joined (lent_segments self.entry.segments.now)) }
         ensures memory { IfErr result (λ e. e ≡ TreeError.Memory) }
     {
         let bytes = self.to_vec(alloc)?;
@@ -144,22 +158,22 @@ impl<'tree, 'view> LendingKeyView<'tree, 'view> {
     }
 }
 
-/// The bytes of a view that are still to come.
+/// Iterates over the bytes of a view.
 #[derive(Drop)]
 pub struct LendingKeyBytes<'tree, 'view> {
-    piece: &'tree [u8],
+    segment: &'tree [u8],
     rest: Iter<'view, &'tree [u8]>,
 }
 
 impl<'tree, 'view> Model for LendingKeyBytes<'tree, 'view> {
     ghost use Rattle.std.specs.Prelude.{ℕ, List, ◌++◌};
     ghost use Rattle.std.specs.Slice.Iter.{iter_rest};
-    ghost use Rattle.rart_nodes.specs.walks.Tour.{joined};
-    ghost use Rattle.rart_nodes.specs.walks.TrailParts.{lent_pieces};
+    ghost use Rattle.rart_nodes.specs.walks.Walk.{joined};
+    ghost use Rattle.rart_nodes.specs.walks.PathParts.{lent_segments};
 
     ghost Value = { List ℕ };
 
-    ghost view = { λ b. b.piece.now ++ joined (lent_pieces (iter_rest b.rest)) };
+    ghost view = { λ b. b.segment.now ++ joined (lent_segments (iter_rest b.rest)) };
 }
 
 impl<'tree, 'view> Iterator for LendingKeyBytes<'tree, 'view> {
@@ -176,12 +190,12 @@ impl<'tree, 'view> Iterator for LendingKeyBytes<'tree, 'view> {
 
     /// The next byte. After `None` always `None`.
     fn next(&mut self) -> Option<u8> {
-        while self.piece.is_empty() {
-            let piece = self.rest.next()?;
-            self.piece = *piece;
+        while self.segment.is_empty() {
+            let segment = self.rest.next()?;
+            self.segment = *segment;
         }
-        let (first, behind) = self.piece.split_first()?;
-        self.piece = behind;
+        let (first, behind) = self.segment.split_first()?;
+        self.segment = behind;
         Some(*first)
     }
 }

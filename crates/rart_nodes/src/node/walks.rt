@@ -1,5 +1,5 @@
-//! Look-ups in a shared tree, and walks below a prefix and between two bounds, over the counted way in alone: none of them
-//! sees a node but by a visit.
+//! Look-ups in a shared tree, and walks below a prefix and between two bounds, which read nodes only by counted
+//! visits.
 
 mod below;
 mod fold;
@@ -7,5 +7,5 @@ mod lending;
 mod longest_view;
 mod look_up;
 mod range_views;
-mod tries;
+mod try_for_each;
 mod visit;

@@ -1,7 +1,9 @@
-//! The numbers that a count of nodes keeps. Only their statistics, made at the end, take memory.
+//! The counters for the statistics of a tree; only the conversion to statistics allocates.
 ghost use Rattle.std.specs.Prelude.{◌≡◌, ◌+◌, ◌≤◌, IfErr, IfOk, OnErr, OnOk};
-ghost use Rattle.rart_nodes.specs.statistics.CountedNodes.{children_counted, counts_added, counts_by, counts_of_node, counts_sum, inner_counted, statistics_counted, width_counted, with_width};
-ghost use Rattle.rart_nodes.specs.statistics.Statistics.{one_if, statistics_in};
+ghost use Rattle.rart_nodes.specs.statistics.CountedNodes.{children_counted, counts_added, counts_by, counts_of_node};
+ghost use Rattle.rart_nodes.specs.statistics.CountedNodes.{counts_sum, inner_counted, stats_counted, width_counted};
+ghost use Rattle.rart_nodes.specs.statistics.CountedNodes.{with_width};
+ghost use Rattle.rart_nodes.specs.statistics.Statistics.{one_if, stats_in};
 
 use crate::stats::{NodeStats, TreeStats};
 use rart_parts::TreeError;
@@ -50,7 +52,7 @@ impl WidthCount {
         self.children += children;
     }
 
-    /// Puts the entry of the nodes of one width in, if there are any.
+    /// Inserts the entry of the nodes of one capacity, if there are any.
     fn put_entry(
         &self,
         node_stats: &mut BTreeMap<usize, NodeStats>,
@@ -76,7 +78,7 @@ impl WidthCount {
 }
 
 impl Counts {
-    /// No node.
+    /// Returns the counts of no node.
     pub(crate) fn none() -> Self
         ensures { result ≡ counts_by (λ m. 0) }
     {
@@ -90,7 +92,7 @@ impl Counts {
         }
     }
 
-    /// Counts a node of this width.
+    /// Counts a node of capacity `width`.
     pub(crate) fn add_node(&mut self, holds_value: bool, width: usize, children: usize)
         requires { counts_sum self.old + 3 + children ≤ usize.MAX }
         ensures { self.new ≡ counts_added self.old (counts_of_node holds_value width children) }
@@ -130,12 +132,15 @@ impl Counts {
             + 256 * self.full.nodes
     }
 
-    /// The statistics of the counted nodes, which stand one below another up to `height`. Refused only
-    /// where memory is, and that is asked for only where an inner node was counted.
+    /// Returns the statistics of the counted nodes in a tree of height `height`.
+    ///
+    /// # Errors
+    ///
+    /// [`TreeError::Memory`] if an inner node was counted and an allocation fails.
     pub(crate) fn statistics(&self, alloc: Global, height: usize) -> Result<TreeStats, TreeError>
         requires counts { counts_sum self.now ≤ usize.MAX }
         requires width { width_counted self.now ≤ usize.MAX }
-        ensures value { IfOk result (λ s. statistics_in s ≡ statistics_counted self.now height) }
+        ensures value { IfOk result (λ s. stats_in s ≡ stats_counted self.now height) }
         ensures error { IfErr result (λ e. e ≡ TreeError.Memory) }
         ensures asks { OnErr result (1 ≤ inner_counted self.now) }
     {

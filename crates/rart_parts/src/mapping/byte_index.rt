@@ -1,4 +1,4 @@
-//! An index from bytes to slots, inline. It is seen as the list of the slots of the bytes 0 to 255, each there or not.
+//! An inline index from bytes to slots. A contract reads it as a list of 256 optional slots.
 ghost use Rattle.std.specs.Prelude.{◌≡◌, ◌<◌, None, Some, replicate, slice_index_or, slice_set};
 ghost use Rattle.std.specs.Iterator.{YieldsFirst, item_count};
 ghost use Rattle.rart_parts.specs.Bits.{IsFirst};
@@ -9,7 +9,7 @@ use crate::utils::bitset::{Bitset, Bitset64, BitsetOnesIter, BitsetTrait};
 use std::iter::FusedIterator;
 use std::marker::Model;
 
-/// A slot below 255, or none, for each byte. It takes no memory of its own.
+/// Maps each byte to a slot below 255, or to none.
 #[derive(Drop)]
 pub(crate) struct ByteIndex {
     // The bytes that have a slot.
@@ -33,7 +33,7 @@ impl Model for ByteIndex {
 }
 
 impl ByteIndex {
-    /// An index with no slot.
+    /// Returns an index with no slot.
     pub(crate) fn new() -> Self
         ensures { result ≡ replicate 256 None }
     {
@@ -43,7 +43,7 @@ impl ByteIndex {
         }
     }
 
-    /// The slot of a byte.
+    /// Returns the slot of a byte.
     pub(crate) fn get(&self, byte: u8) -> Option<u8>
         ensures { result ≡ slice_index_or self.now byte None }
     {
@@ -51,7 +51,7 @@ impl ByteIndex {
         if slot == 255 { None } else { Some(slot) }
     }
 
-    /// Gives a byte a slot, in place of its old one.
+    /// Sets the slot of a byte.
     pub(crate) fn set(&mut self, byte: u8, slot: u8)
         requires { slot < 255 }
         ensures { self.new ≡ slice_set self.old byte (Some slot) }
@@ -60,7 +60,7 @@ impl ByteIndex {
         self.slots[byte as usize] = slot;
     }
 
-    /// Takes the slot of a byte away.
+    /// Removes the slot of a byte and returns it.
     pub(crate) fn erase(&mut self, byte: u8) -> Option<u8>
         ensures old { result ≡ slice_index_or self.old byte None }
         ensures new { self.new ≡ slice_set self.old byte None }
@@ -71,14 +71,14 @@ impl ByteIndex {
         slot
     }
 
-    /// The least byte that has a slot.
+    /// Returns the least byte that has a slot.
     pub(crate) fn first_used(&self) -> Option<usize>
         ensures { IsFirst (is_used self.now) 256 result }
     {
         self.used.first_set()
     }
 
-    /// The bytes that have a slot with their slots, ascending.
+    /// Returns the bytes that have a slot, with their slots, ascending.
     pub(crate) fn iter(&self) -> ByteIndexIter<'_>
         ensures { result ≡ numbered 0 self.now }
     {
@@ -90,7 +90,7 @@ impl ByteIndex {
 }
 
 impl ByteIndex {
-    /// Those of the bytes above `byte`, ascending.
+    /// Returns the bytes above `byte` that have a slot, with their slots, ascending.
     pub(crate) fn iter_above(&self, byte: u8) -> ByteIndexIter<'_>
         ensures { result ≡ entries_above byte (numbered 0 self.now) }
     {
@@ -103,7 +103,7 @@ impl ByteIndex {
     }
 }
 
-/// The bytes that have a slot with their slots, ascending, seen as the list of those that are still to come.
+/// Iterates over the bytes that have a slot. A contract reads it as the list of remaining items.
 #[derive(Drop)]
 pub(crate) struct ByteIndexIter<'a> {
     bytes: BitsetOnesIter<u64, 4>,

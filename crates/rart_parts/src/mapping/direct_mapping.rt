@@ -1,4 +1,4 @@
-//! A map from bytes to children with a place for each byte. It is seen as the list of its entries, ascending.
+//! A map from bytes to children with a slot for each byte. A contract reads it as the list of its entries, ascending.
 
 ghost use Rattle.std.specs.Prelude.{◌≡◌, ℕ, [], ◌∷◌, IfSome, Some, ◌<◌, ◌≤◌, length, IfErr, IfOk, None, OnOk, OnErr};
 ghost use Rattle.std.specs.Iterator.{UpTo, YieldsFirst, YieldsFirstBy, item_count};
@@ -13,8 +13,7 @@ use std::alloc::Global;
 use std::iter::FusedIterator;
 use std::marker::Model;
 
-/// A map from bytes to children, with room for all 256. Only [`DirectMapping::new`] and the conversion that makes one
-/// take memory.
+/// Maps each of the 256 bytes to a child or to none.
 #[derive(Drop)]
 pub struct DirectMapping<N> {
     places: Vec<Option<N>>,
@@ -37,7 +36,11 @@ impl<N> Model for DirectMapping<N> {
 }
 
 impl<N> DirectMapping<N> {
-    /// A map with no child. It takes memory for all its places at once.
+    /// Returns a map with no child. It allocates all 256 slots at once.
+    ///
+    /// # Errors
+    ///
+    /// [`TreeError::Memory`] if the allocation fails.
     pub fn new(alloc: Global) -> Result<Self, TreeError>
         ensures ok { IfOk result (λ m. m ≡ []) }
         ensures err { IfErr result (λ e. e ≡ TreeError.Memory) }
@@ -49,7 +52,7 @@ impl<N> DirectMapping<N> {
         })
     }
 
-    /// The children with their bytes, ascending.
+    /// Returns the children with their bytes, ascending.
     pub fn iter(&self) -> DirectMappingIter<'_, N>
         ensures { result ≡ self.now }
     {
@@ -59,7 +62,7 @@ impl<N> DirectMapping<N> {
         }
     }
 
-    /// The children whose byte is above `byte`, ascending. It goes straight to the place behind that byte.
+    /// Returns the children at the bytes above `byte`, ascending. It starts at the slot after that byte.
     pub fn iter_above(&self, byte: u8) -> DirectMappingIter<'_, N>
         ensures { result ≡ entries_above byte self.now }
     {
@@ -70,7 +73,11 @@ impl<N> DirectMapping<N> {
         }
     }
 
-    /// Takes the children of an indexed mapping over. A refusal leaves that mapping as it was.
+    /// Moves the children of an indexed mapping into a new map.
+    ///
+    /// # Errors
+    ///
+    /// [`TreeError::Memory`] if the allocation fails. `source` is then unchanged.
     pub fn from_indexed<const U: usize, B: BitsetTrait>(
         alloc: Global,
         source: &mut IndexedMapping<N, U, B>,
@@ -85,7 +92,7 @@ impl<N> DirectMapping<N> {
         Ok(map)
     }
 
-    /// Moves the children of an indexed mapping in, in the order of their bytes. It takes no memory.
+    /// Moves the children of an indexed mapping into this empty map. It does not allocate.
     pub fn fill_from_indexed<const U: usize, B: BitsetTrait>(
         &mut self,
         source: &mut IndexedMapping<N, U, B>,
@@ -138,7 +145,7 @@ impl<N> NodeMapping<N, 256> for DirectMapping<N> {
 }
 
 impl<N> DirectMapping<N> {
-    /// Frees a map with no child. The type of its children need not allow them to be dropped.
+    /// Frees a map with no child. `N` needs no `Drop`.
     pub fn destroy_empty(self)
         requires { self ≡ [] }
     {
@@ -150,7 +157,7 @@ impl<N> DirectMapping<N> {
     }
 }
 
-/// The children of a direct mapping, each with its byte, ascending. It is seen as the list of those still to come.
+/// Iterates over the children with their bytes, ascending. A contract reads it as the list of remaining items.
 #[derive(Drop)]
 pub struct DirectMappingIter<'a, N> {
     places: &'a [Option<N>],
@@ -194,8 +201,7 @@ impl<'a, N> Iterator for DirectMappingIter<'a, N> {
 
 impl<'a, N> FusedIterator for DirectMappingIter<'a, N> {}
 
-/// The children of a direct mapping by value, each with its byte, ascending. It is seen as the list of those still to
-/// come, which are dropped with it.
+/// Iterates over the children by value, ascending by byte. Dropping it drops the remaining children.
 #[derive(Drop)]
 pub struct DirectMappingIntoIter<N> {
     places: std::vec::IntoIter<Option<N>>,
@@ -216,7 +222,8 @@ impl<N> Model for DirectMappingIntoIter<N> {
 
     ghost view = { λ it. numbered it.byte (into_iter_items it.places) };
 
-    ghost invariant = { λ it. (it.byte + length (into_iter_items it.places) ≤ 256) × (it.num_children ≡ length (numbered it.byte (into_iter_items it.places))) };
+    ghost invariant = { λ it. (it.byte + length (into_iter_items it.places) ≤ 256)
+        × (it.num_children ≡ length (numbered it.byte (into_iter_items it.places))) };
 }
 
 impl<N: Drop> IntoIterator for DirectMapping<N> {

@@ -1,7 +1,8 @@
-//! A map from bytes to children with an index from bytes to slots. It is seen as the list of its children in the order
-//! of their slots, each with its byte; what callers learn is that list in the order of the bytes.
+//! A map from bytes to children with an index from bytes to slots. The model lists the entries in slot order; the
+//! contracts of calls use `ascending` of it, the same entries in byte order.
 
-ghost use Rattle.std.specs.Prelude.{◌≡◌, ℕ, [], ◌∷◌, IfSome, IsSome, None, Some, ◌<◌, ◌≤◌, ◌^◌, length, IfErr, IfOk, OnOk, OnErr, MatchOption};
+ghost use Rattle.std.specs.Prelude.{◌≡◌, ℕ, [], ◌∷◌, IfSome, IsSome, None, Some, ◌<◌, ◌≤◌, ◌^◌, length, IfErr, IfOk};
+ghost use Rattle.std.specs.Prelude.{OnOk, OnErr, MatchOption};
 ghost use Rattle.std.specs.Iterator.{UpTo, YieldsFirst, YieldsFirstBy, item_count};
 ghost use Rattle.std.specs.Iterator.SizeHint.{IsWithinCount};
 ghost use Rattle.rart_parts.specs.Entries.{ascending, child_at, entries_above};
@@ -16,7 +17,7 @@ use std::alloc::Global;
 use std::iter::FusedIterator;
 use std::marker::Model;
 
-/// A map from bytes to at most W children. Only [`IndexedMapping::new`] and the conversions that make one take memory.
+/// Maps bytes to at most `W` children through an index of 256 bytes.
 #[derive(Drop)]
 pub struct IndexedMapping<N, const W: usize, B: BitsetTrait> {
     index: ByteIndex,
@@ -39,7 +40,11 @@ impl<N, const W: usize, B: BitsetTrait> Model for IndexedMapping<N, W, B> {
 }
 
 impl<N, const W: usize, B: BitsetTrait> IndexedMapping<N, W, B> {
-    /// A map with no child. It takes memory for W children at once.
+    /// Returns a map with no child. It allocates all `W` slots at once.
+    ///
+    /// # Errors
+    ///
+    /// [`TreeError::Memory`] if the allocation fails.
     pub fn new(alloc: Global) -> Result<Self, TreeError>
         requires narrow { W ≤ 255 }
         requires covers { W ≤ B.CAPACITY }
@@ -55,7 +60,11 @@ impl<N, const W: usize, B: BitsetTrait> IndexedMapping<N, W, B> {
         })
     }
 
-    /// Takes the children of a sorted mapping over. A refusal leaves that mapping as it was.
+    /// Moves the children of a sorted mapping into a new map.
+    ///
+    /// # Errors
+    ///
+    /// [`TreeError::Memory`] if the allocation fails. `source` is then unchanged.
     pub fn from_sorted_keyed<const U: usize>(
         alloc: Global,
         source: &mut SortedKeyedMapping<N, U>,
@@ -74,7 +83,7 @@ impl<N, const W: usize, B: BitsetTrait> IndexedMapping<N, W, B> {
         Ok(map)
     }
 
-    /// Moves the children of a sorted mapping in, from the last to the first. It takes no memory.
+    /// Moves the children of a sorted mapping into this empty map. It does not allocate.
     pub fn fill_from_sorted_keyed<const U: usize>(&mut self, source: &mut SortedKeyedMapping<N, U>)
         requires empty { ascending self.old ≡ [] }
         requires room { length source.old ≤ W }
@@ -88,7 +97,11 @@ impl<N, const W: usize, B: BitsetTrait> IndexedMapping<N, W, B> {
         }
     }
 
-    /// Takes the children of a direct mapping over. A refusal leaves that mapping as it was.
+    /// Moves the children of a direct mapping into a new map.
+    ///
+    /// # Errors
+    ///
+    /// [`TreeError::Memory`] if the allocation fails. `source` is then unchanged.
     pub fn from_direct(alloc: Global, source: &mut DirectMapping<N>) -> Result<Self, TreeError>
         requires narrow { W ≤ 255 }
         requires covers { W ≤ B.CAPACITY }
@@ -104,7 +117,7 @@ impl<N, const W: usize, B: BitsetTrait> IndexedMapping<N, W, B> {
         Ok(map)
     }
 
-    /// Moves the children of a direct mapping in, in the order of their bytes. It takes no memory.
+    /// Moves the children of a direct mapping into this empty map. It does not allocate.
     pub fn fill_from_direct(&mut self, source: &mut DirectMapping<N>)
         requires empty { ascending self.old ≡ [] }
         requires room { length source.old ≤ W }
@@ -122,7 +135,11 @@ impl<N, const W: usize, B: BitsetTrait> IndexedMapping<N, W, B> {
         let _left = source.num_children();
     }
 
-    /// Takes the children of a keyed mapping over. A refusal leaves that mapping as it was.
+    /// Moves the children of a keyed mapping into a new map.
+    ///
+    /// # Errors
+    ///
+    /// [`TreeError::Memory`] if the allocation fails. `source` is then unchanged.
     pub fn from_keyed<const U: usize, C: BitsetTrait>(
         alloc: Global,
         source: &mut KeyedMapping<N, U, C>,
@@ -141,7 +158,7 @@ impl<N, const W: usize, B: BitsetTrait> IndexedMapping<N, W, B> {
         Ok(map)
     }
 
-    /// Moves the children of a keyed mapping in, slot by slot. It takes no memory.
+    /// Moves the children of a keyed mapping into this empty map. It does not allocate.
     pub fn fill_from_keyed<const U: usize, C: BitsetTrait>(
         &mut self,
         source: &mut KeyedMapping<N, U, C>,
@@ -158,7 +175,7 @@ impl<N, const W: usize, B: BitsetTrait> IndexedMapping<N, W, B> {
         }
     }
 
-    /// The least byte with a child.
+    /// Returns the least byte with a child.
     pub(crate) fn first_byte(&self) -> Option<u8>
         ensures some { MatchOption result (ascending self.now ≡ []) (λ b. IsSome (child_at b (ascending self.now))) }
         ensures least { IfSome result (λ b. (k : ℕ) → k < b → child_at k (ascending self.now) ≡ None) }
@@ -169,9 +186,10 @@ impl<N, const W: usize, B: BitsetTrait> IndexedMapping<N, W, B> {
         Some(byte as u8)
     }
 
-    /// Takes out the child at the least byte.
+    /// Removes the child at the least byte and returns it with its byte.
     pub(crate) fn take_first(&mut self) -> Option<(u8, N)>
-        ensures { MatchOption result ((ascending self.old ≡ []) × (ascending self.new ≡ [])) (λ e. ascending self.old ≡ e ∷ ascending self.new) }
+        ensures { MatchOption result ((ascending self.old ≡ []) × (ascending self.new ≡ [])) (λ e. ascending self.old
+            ≡ e ∷ ascending self.new) }
     {
         let Some(byte) = self.index.first_used() else {
             return None;
@@ -220,7 +238,7 @@ impl<N, const W: usize, B: BitsetTrait> NodeMapping<N, W> for IndexedMapping<N, 
 }
 
 impl<N, const W: usize, B: BitsetTrait> IndexedMapping<N, W, B> {
-    /// Frees a map with no child. The type of its children need not allow them to be dropped.
+    /// Frees a map with no child. `N` needs no `Drop`.
     pub fn destroy_empty(self)
         requires { ascending self ≡ [] }
     {
@@ -237,7 +255,7 @@ impl<N, const W: usize, B: BitsetTrait> IndexedMapping<N, W, B> {
     }
 }
 
-/// The children of an indexed mapping, each with its byte, ascending. It is seen as the list of those still to come.
+/// Iterates over the children with their bytes, ascending. A contract reads it as the list of remaining items.
 #[derive(Drop)]
 pub struct IndexedMappingIter<'a, N> {
     slots: ByteIndexIter<'a>,
@@ -276,7 +294,7 @@ impl<'a, N> Iterator for IndexedMappingIter<'a, N> {
 impl<'a, N> FusedIterator for IndexedMappingIter<'a, N> {}
 
 impl<N, const W: usize, B: BitsetTrait> IndexedMapping<N, W, B> {
-    /// The children with their bytes, ascending.
+    /// Returns the children with their bytes, ascending.
     pub fn iter(&self) -> IndexedMappingIter<'_, N>
         ensures { result ≡ ascending self.now }
     {
@@ -286,7 +304,7 @@ impl<N, const W: usize, B: BitsetTrait> IndexedMapping<N, W, B> {
         }
     }
 
-    /// The children whose byte is above `byte`, ascending. It passes the others over in the index.
+    /// Returns the children at the bytes above `byte`, ascending. The index skips the other bytes.
     pub fn iter_above(&self, byte: u8) -> IndexedMappingIter<'_, N>
         ensures { result ≡ entries_above byte (ascending self.now) }
     {
@@ -297,8 +315,7 @@ impl<N, const W: usize, B: BitsetTrait> IndexedMapping<N, W, B> {
     }
 }
 
-/// The children of an indexed mapping by value, each with its byte, ascending. It is seen as the list of those still
-/// to come, which are dropped with it.
+/// Iterates over the children by value, ascending by byte. Dropping it drops the remaining children.
 #[derive(Drop)]
 pub struct IndexedMappingIntoIter<N, const W: usize, B: BitsetTrait> {
     rest: IndexedMapping<N, W, B>,

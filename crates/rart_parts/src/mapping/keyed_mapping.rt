@@ -1,5 +1,5 @@
-//! A map from bytes to children with its keys in slots, in no order, beside its children. It is seen as the list of its
-//! children in the order of their slots, each with its byte; what callers learn is that list in the order of the bytes.
+//! A map from bytes to children that keeps an unordered key beside each slot. The model lists the entries in slot
+//! order; the contracts of calls use `ascending` of it, the same entries in byte order.
 
 ghost use Rattle.std.specs.Prelude.{◌≡◌, ℕ, [], ◌<◌, ◌≤◌, ◌^◌, length, IfErr, IfOk, OnOk, OnErr};
 ghost use Rattle.rart_parts.specs.Bits.{IsFirst};
@@ -16,7 +16,7 @@ use crate::utils::u8_keys::{keys_are_bytes, u8_keys_find_key_position};
 use std::alloc::Global;
 use std::marker::Model;
 
-/// A map from bytes to at most W children. Only [`KeyedMapping::new`] and the conversion that makes one take memory.
+/// Maps bytes to at most `W` children, with one key byte for each slot.
 #[derive(Drop)]
 pub struct KeyedMapping<N, const W: usize, B: BitsetTrait> {
     // The key of each slot; 255 where the slot is free.
@@ -40,7 +40,11 @@ impl<N, const W: usize, B: BitsetTrait> Model for KeyedMapping<N, W, B> {
 }
 
 impl<N, const W: usize, B: BitsetTrait> KeyedMapping<N, W, B> {
-    /// A map with no child. It takes memory for W children at once.
+    /// Returns a map with no child. It allocates all `W` slots at once.
+    ///
+    /// # Errors
+    ///
+    /// [`TreeError::Memory`] if the allocation fails.
     pub fn new(alloc: Global) -> Result<Self, TreeError>
         requires narrow { W ≤ 255 }
         requires covers { W ≤ B.CAPACITY }
@@ -56,7 +60,11 @@ impl<N, const W: usize, B: BitsetTrait> KeyedMapping<N, W, B> {
         })
     }
 
-    /// Takes the children of a keyed mapping of a smaller width over. A refusal leaves that mapping as it was.
+    /// Moves the children of a keyed mapping of smaller capacity into a new map.
+    ///
+    /// # Errors
+    ///
+    /// [`TreeError::Memory`] if the allocation fails. `source` is then unchanged.
     pub fn from_resized_grow<const U: usize, C: BitsetTrait>(
         alloc: Global,
         source: &mut KeyedMapping<N, U, C>,
@@ -77,7 +85,7 @@ impl<N, const W: usize, B: BitsetTrait> KeyedMapping<N, W, B> {
         Ok(map)
     }
 
-    /// Moves the children of a keyed mapping in, slot by slot. It takes no memory.
+    /// Moves the children of a keyed mapping into this empty map. It does not allocate.
     pub fn fill_from_resized<const U: usize, C: BitsetTrait>(
         &mut self,
         source: &mut KeyedMapping<N, U, C>,
@@ -94,7 +102,7 @@ impl<N, const W: usize, B: BitsetTrait> KeyedMapping<N, W, B> {
         }
     }
 
-    /// Takes out the child in the first used slot.
+    /// Removes the child in the first used slot and returns it with its byte.
     pub(crate) fn take_any(&mut self) -> Option<(u8, N)>
         ensures { TakesEntry (ascending self.old) (ascending self.new) result }
     {
@@ -147,7 +155,7 @@ impl<N, const W: usize, B: BitsetTrait> NodeMapping<N, W> for KeyedMapping<N, W,
 }
 
 impl<N, const W: usize, B: BitsetTrait> KeyedMapping<N, W, B> {
-    /// Frees a map with no child. The type of its children need not allow them to be dropped.
+    /// Frees a map with no child. `N` needs no `Drop`.
     pub fn destroy_empty(self)
         requires { ascending self ≡ [] }
     {

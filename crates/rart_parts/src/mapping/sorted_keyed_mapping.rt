@@ -1,7 +1,8 @@
-//! A map from bytes to children that keeps its keys in order, inline, beside its children. It is seen as the list of
-//! its entries, ascending.
+//! A map from bytes to children that keeps its keys sorted and inline. A contract reads it as the list of its entries,
+//! ascending.
 
-ghost use Rattle.std.specs.Prelude.{◌≡◌, ℕ, [], ◌∷◌, IfSome, Some, ◌++◌, ◌<◌, ◌≤◌, length, IfErr, IfOk, OnOk, OnErr, MatchOption};
+ghost use Rattle.std.specs.Prelude.{◌≡◌, ℕ, [], ◌∷◌, IfSome, Some, ◌++◌, ◌<◌, ◌≤◌, length, IfErr, IfOk, OnOk, OnErr};
+ghost use Rattle.std.specs.Prelude.{MatchOption};
 ghost use Rattle.std.specs.Iterator.{UpTo, YieldsFirst, YieldsFirstBy, item_count};
 ghost use Rattle.std.specs.Iterator.SizeHint.{IsWithinCount};
 ghost use Rattle.rart_parts.specs.Entries.{ascending, entries_above};
@@ -16,8 +17,7 @@ use std::alloc::Global;
 use std::iter::FusedIterator;
 use std::marker::Model;
 
-/// A map from bytes to at most W children, ascending. Only [`SortedKeyedMapping::new`] and the conversions that make
-/// one take memory.
+/// Maps bytes to at most `W` children, kept in the order of the bytes.
 #[derive(Drop)]
 pub struct SortedKeyedMapping<N, const W: usize> {
     // Those past the children are 255.
@@ -41,7 +41,11 @@ impl<N, const W: usize> Model for SortedKeyedMapping<N, W> {
 }
 
 impl<N, const W: usize> SortedKeyedMapping<N, W> {
-    /// A map with no child. It takes memory for W children at once.
+    /// Returns a map with no child. It allocates room for `W` children at once.
+    ///
+    /// # Errors
+    ///
+    /// [`TreeError::Memory`] if the allocation fails.
     pub fn new(alloc: Global) -> Result<Self, TreeError>
         requires { W ≤ 255 }
         ensures ok { IfOk result (λ m. m ≡ []) }
@@ -53,7 +57,11 @@ impl<N, const W: usize> SortedKeyedMapping<N, W> {
         })
     }
 
-    /// Takes the children of a sorted mapping of another width over. A refusal leaves that mapping as it was.
+    /// Moves the children of a sorted mapping of another capacity into a new map.
+    ///
+    /// # Errors
+    ///
+    /// [`TreeError::Memory`] if the allocation fails. `source` is then unchanged.
     pub fn from_resized<const U: usize>(
         alloc: Global,
         source: &mut SortedKeyedMapping<N, U>,
@@ -70,7 +78,7 @@ impl<N, const W: usize> SortedKeyedMapping<N, W> {
         Ok(map)
     }
 
-    /// Moves the children of a sorted mapping in. It takes no memory.
+    /// Moves the children of a sorted mapping into this empty map. It does not allocate.
     pub fn fill_from_resized<const U: usize>(&mut self, source: &mut SortedKeyedMapping<N, U>)
         requires empty { self.old ≡ [] }
         requires room { length source.old ≤ W }
@@ -84,7 +92,11 @@ impl<N, const W: usize> SortedKeyedMapping<N, W> {
         self.children.append(&mut source.children).unwrap();
     }
 
-    /// Takes the children of an indexed mapping over. A refusal leaves that mapping as it was.
+    /// Moves the children of an indexed mapping into a new map.
+    ///
+    /// # Errors
+    ///
+    /// [`TreeError::Memory`] if the allocation fails. `source` is then unchanged.
     pub fn from_indexed<const U: usize, B: BitsetTrait>(
         alloc: Global,
         source: &mut IndexedMapping<N, U, B>,
@@ -101,7 +113,7 @@ impl<N, const W: usize> SortedKeyedMapping<N, W> {
         Ok(map)
     }
 
-    /// Moves the children of an indexed mapping in, in the order of their bytes. It takes no memory.
+    /// Moves the children of an indexed mapping into this empty map. It does not allocate.
     pub fn fill_from_indexed<const U: usize, B: BitsetTrait>(
         &mut self,
         source: &mut IndexedMapping<N, U, B>,
@@ -120,7 +132,7 @@ impl<N, const W: usize> SortedKeyedMapping<N, W> {
         }
     }
 
-    /// The children with their bytes, ascending.
+    /// Returns the children with their bytes, ascending.
     pub fn iter(&self) -> SortedKeyedMappingIter<'_, N>
         ensures { result ≡ self.now }
     {
@@ -130,7 +142,7 @@ impl<N, const W: usize> SortedKeyedMapping<N, W> {
         }
     }
 
-    /// The children whose byte is above `byte`, ascending. It goes straight to the first of them.
+    /// Returns the children at the bytes above `byte`, ascending. It starts at the first of them.
     pub fn iter_above(&self, byte: u8) -> SortedKeyedMappingIter<'_, N>
         ensures { result ≡ entries_above byte self.now }
     {
@@ -142,7 +154,7 @@ impl<N, const W: usize> SortedKeyedMapping<N, W> {
         }
     }
 
-    /// Takes out the only child.
+    /// Removes the only child and returns it with its byte.
     pub fn take_value_for_leaf(&mut self) -> (u8, N)
         requires { length self.old ≡ 1 }
         ensures taken { self.old ≡ result ∷ [] }
@@ -153,7 +165,7 @@ impl<N, const W: usize> SortedKeyedMapping<N, W> {
         (key, self.children.remove(0))
     }
 
-    /// Takes out the child at the greatest byte.
+    /// Removes the child at the greatest byte and returns it with its byte.
     pub(crate) fn take_last(&mut self) -> Option<(u8, N)>
         ensures { MatchOption result ((self.old ≡ []) × (self.new ≡ [])) (λ e. self.old ≡ self.new ++ e ∷ []) }
     {
@@ -211,7 +223,7 @@ impl<N, const W: usize> NodeMapping<N, W> for SortedKeyedMapping<N, W> {
 }
 
 impl<N, const W: usize> SortedKeyedMapping<N, W> {
-    /// Frees a map with no child. The type of its children need not allow them to be dropped.
+    /// Frees a map with no child. `N` needs no `Drop`.
     pub fn destroy_empty(self)
         requires { self ≡ [] }
     {
@@ -256,7 +268,7 @@ fn first_above<const W: usize>(key: u8, keys: &[u8; W], count: usize) -> usize
     if place < count { place } else { count }
 }
 
-/// The children of a sorted mapping, each with its byte, ascending. It is seen as the list of those still to come.
+/// Iterates over the children with their bytes, ascending. A contract reads it as the list of remaining items.
 #[derive(Drop)]
 pub struct SortedKeyedMappingIter<'a, N> {
     // The keys past the children do not count.
@@ -299,8 +311,7 @@ impl<'a, N> Iterator for SortedKeyedMappingIter<'a, N> {
 
 impl<'a, N> FusedIterator for SortedKeyedMappingIter<'a, N> {}
 
-/// The children of a sorted mapping by value, each with its byte, ascending. It is seen as the list of those still to
-/// come, which are dropped with it.
+/// Iterates over the children by value, ascending by byte. Dropping it drops the remaining children.
 #[derive(Drop)]
 pub struct SortedKeyedMappingIntoIter<N, const W: usize> {
     keys: [u8; W],

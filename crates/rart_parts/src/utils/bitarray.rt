@@ -1,13 +1,13 @@
-//! Places for values, with the set of those that are used. An array is seen as the list of its places, each with its
-//! value or without: a map from positions below its width.
+//! An array of slots for values, with a bitset of the used ones. A contract reads it as the list of its slots.
 //!
-//! An empty set says nothing: the places themselves are looked at then, and the next change finds the set again. So it
-//! is in an array with no value, and after a walk that lent the values.
+//! An empty bitset means *unknown*: calls scan the slots, and the next write rebuilds it. It is empty in an array with
+//! no value, and after `iter_mut`.
 
 mod iter;
 mod iter_mut;
 
-ghost use Rattle.std.specs.Prelude.{◌≡◌, [], ◌<◌, ◌≤◌, ◌^◌, ◌↔◌, not, false, length, IfErr, IfOk, IfSome, IsTrue, MatchOption, OnSome, Option, Some, None, slice_index_or, slice_set, replicate};
+ghost use Rattle.std.specs.Prelude.{◌≡◌, [], ◌<◌, ◌≤◌, ◌^◌, ◌↔◌, not, false, length, IfErr, IfOk, IfSome, IsTrue};
+ghost use Rattle.std.specs.Prelude.{MatchOption, OnSome, Option, Some, None, slice_index_or, slice_set, replicate};
 ghost use Rattle.std.specs.Option.{option_copied, option_copied_mut};
 ghost use Rattle.rart_parts.specs.Bits.{IsFirst, IsLast};
 ghost use Rattle.rart_parts.specs.Places.{Agrees, is_used, values_in, GivesLast, PopsLast};
@@ -23,7 +23,7 @@ pub use iter_mut::BitArrayIterMut;
 use std::alloc::Global;
 use std::marker::Model;
 
-/// Places below RANGE_WIDTH, each with a value or without. Only [`BitArray::new`] takes memory.
+/// Holds `RANGE_WIDTH` slots, each with a value or without. Only [`BitArray::new`] allocates.
 #[derive(Drop)]
 pub struct BitArray<X, const RANGE_WIDTH: usize, B: BitsetTrait> {
     // Empty, or the set of the used places.
@@ -46,7 +46,11 @@ impl<X, const RANGE_WIDTH: usize, B: BitsetTrait> Model for BitArray<X, RANGE_WI
 }
 
 impl<X, const RANGE_WIDTH: usize, B: BitsetTrait> BitArray<X, RANGE_WIDTH, B> {
-    /// An array with no value. It takes memory for all its places at once.
+    /// Returns an array with no value. It allocates all slots at once.
+    ///
+    /// # Errors
+    ///
+    /// [`TreeError::Memory`] if the allocation fails.
     pub fn new(alloc: Global) -> Result<Self, TreeError>
         requires covers { RANGE_WIDTH ≤ B.CAPACITY }
         requires fits { B.CAPACITY < 2 ^ 64 }
@@ -60,8 +64,8 @@ impl<X, const RANGE_WIDTH: usize, B: BitsetTrait> BitArray<X, RANGE_WIDTH, B> {
         })
     }
 
-    /// Puts a value at the first free place and answers that place. Where none is free it answers None, and the value
-    /// is dropped.
+    /// Stores a value in the first free slot and returns its position. Returns `None` and drops the value if no slot
+    /// is free.
     pub fn push(&mut self, x: X) -> Option<usize>
     where
         X: Drop,
@@ -73,7 +77,7 @@ impl<X, const RANGE_WIDTH: usize, B: BitsetTrait> BitArray<X, RANGE_WIDTH, B> {
         Some(position)
     }
 
-    /// Takes out the value at the greatest used place.
+    /// Removes the value in the last used slot and returns it.
     pub fn pop(&mut self) -> Option<X>
         ensures { PopsLast RANGE_WIDTH self.old result self.new }
     {
@@ -81,14 +85,14 @@ impl<X, const RANGE_WIDTH: usize, B: BitsetTrait> BitArray<X, RANGE_WIDTH, B> {
         self.erase(position)
     }
 
-    /// The value at the greatest used place.
+    /// Returns the value in the last used slot.
     pub fn last(&self) -> Option<&X>
         ensures { GivesLast RANGE_WIDTH self.now (option_copied result) }
     {
         self.get(self.last_used_pos()?)
     }
 
-    /// The greatest used place.
+    /// Returns the position of the last used slot.
     pub fn last_used_pos(&self) -> Option<usize>
         ensures { IsLast (is_used self.now) RANGE_WIDTH result }
     {
@@ -98,7 +102,7 @@ impl<X, const RANGE_WIDTH: usize, B: BitsetTrait> BitArray<X, RANGE_WIDTH, B> {
         }
     }
 
-    /// The least used place.
+    /// Returns the position of the first used slot.
     pub fn first_used(&self) -> Option<usize>
         ensures { IsFirst (is_used self.now) RANGE_WIDTH result }
     {
@@ -108,7 +112,7 @@ impl<X, const RANGE_WIDTH: usize, B: BitsetTrait> BitArray<X, RANGE_WIDTH, B> {
         }
     }
 
-    /// The least free place.
+    /// Returns the position of the first free slot.
     pub fn first_empty(&self) -> Option<usize>
         ensures { IsFirst (λ k. not (is_used self.now k)) RANGE_WIDTH result }
     {
@@ -123,7 +127,7 @@ impl<X, const RANGE_WIDTH: usize, B: BitsetTrait> BitArray<X, RANGE_WIDTH, B> {
         }
     }
 
-    /// Whether a place is used.
+    /// Returns whether a slot is used.
     pub fn check(&self, position: usize) -> bool
         requires { position < RANGE_WIDTH }
         ensures { result ≡ is_used self.now position }
@@ -131,7 +135,7 @@ impl<X, const RANGE_WIDTH: usize, B: BitsetTrait> BitArray<X, RANGE_WIDTH, B> {
         self.places[position].is_some()
     }
 
-    /// The value at a place.
+    /// Returns the value in a slot.
     pub fn get(&self, position: usize) -> Option<&X>
         requires { position < RANGE_WIDTH }
         ensures { option_copied result ≡ slice_index_or self.now position None }
@@ -139,14 +143,14 @@ impl<X, const RANGE_WIDTH: usize, B: BitsetTrait> BitArray<X, RANGE_WIDTH, B> {
         self.places[position].as_ref()
     }
 
-    /// The places, in order.
+    /// Returns the slots in order.
     pub(crate) fn as_slice(&self) -> &[Option<X>]
         ensures { result.now ≡ self.now }
     {
         self.places.as_slice()
     }
 
-    /// The set of the used places, where it is known.
+    /// Returns the bitset of the used slots if it is known.
     pub(crate) fn used(&self) -> Option<&B>
         ensures covers { RANGE_WIDTH ≤ B.CAPACITY }
         ensures fits { B.CAPACITY < 2 ^ 64 }
@@ -159,7 +163,7 @@ impl<X, const RANGE_WIDTH: usize, B: BitsetTrait> BitArray<X, RANGE_WIDTH, B> {
         }
     }
 
-    /// The set of the used places, found by a look at each place.
+    /// Returns the bitset of the used slots, found by a scan.
     pub(crate) fn found(&self) -> B
         ensures covers { RANGE_WIDTH ≤ B.CAPACITY }
         ensures same { Agrees B.CAPACITY (B.has result) self.now }
@@ -169,7 +173,7 @@ impl<X, const RANGE_WIDTH: usize, B: BitsetTrait> BitArray<X, RANGE_WIDTH, B> {
         used
     }
 
-    /// Puts a value at a place. An old value there is dropped.
+    /// Stores a value in a slot and drops the old one.
     pub fn set(&mut self, position: usize, x: X)
     where
         X: Drop,
@@ -179,7 +183,7 @@ impl<X, const RANGE_WIDTH: usize, B: BitsetTrait> BitArray<X, RANGE_WIDTH, B> {
         let _old = self.update(position, x);
     }
 
-    /// Puts a value at a free place. Nothing is dropped, so the value's type need not allow it.
+    /// Stores a value in a free slot. It drops nothing, so `X` needs no `Drop`.
     pub(crate) fn put(&mut self, position: usize, x: X)
         requires within { position < RANGE_WIDTH }
         requires free { is_used self.old position ≡ false }
@@ -190,7 +194,7 @@ impl<X, const RANGE_WIDTH: usize, B: BitsetTrait> BitArray<X, RANGE_WIDTH, B> {
         fill_place(&mut self.places[position], x);
     }
 
-    /// Puts a value at a place and answers the old one.
+    /// Stores a value in a slot and returns the old one.
     pub fn update(&mut self, position: usize, x: X) -> Option<X>
         requires { position < RANGE_WIDTH }
         ensures old { result ≡ slice_index_or self.old position None }
@@ -201,7 +205,7 @@ impl<X, const RANGE_WIDTH: usize, B: BitsetTrait> BitArray<X, RANGE_WIDTH, B> {
         self.places[position].replace(x)
     }
 
-    /// Takes the value at a place out.
+    /// Removes the value in a slot and returns it.
     pub fn erase(&mut self, position: usize) -> Option<X>
         requires { position < RANGE_WIDTH }
         ensures old { result ≡ slice_index_or self.old position None }
@@ -224,7 +228,7 @@ impl<X, const RANGE_WIDTH: usize, B: BitsetTrait> BitArray<X, RANGE_WIDTH, B> {
         self.bitset.clear();
     }
 
-    /// Whether no place is used.
+    /// Returns whether no slot is used.
     pub fn is_empty(&self) -> bool
         ensures { IsTrue result ↔ (values_in self.now ≡ []) }
     {
@@ -233,7 +237,7 @@ impl<X, const RANGE_WIDTH: usize, B: BitsetTrait> BitArray<X, RANGE_WIDTH, B> {
         self.first_used().is_none()
     }
 
-    /// How many places are used.
+    /// Returns the number of used slots.
     pub fn size(&self) -> usize
         ensures { result ≡ length (values_in self.now) }
     {
@@ -251,10 +255,11 @@ impl<X, const RANGE_WIDTH: usize, B: BitsetTrait> BitArray<X, RANGE_WIDTH, B> {
     ghost use Rattle.std.specs.Borrow.{sem};
     ghost use Rattle.rart_parts.specs.Loans.{lends_place};
 
-    /// The value at a place, to be changed.
+    /// Returns a mutable borrow of the value in a slot.
     pub fn get_mut(&mut self, position: usize) -> Option<&mut X>
         requires { position < RANGE_WIDTH }
-        ensures* writes_back { sem 𝓛 (lends_place X.row RANGE_WIDTH.row B.row B.BitsetTrait self.entry position result) }
+        ensures* writes_back { sem 𝓛 (lends_place X.row RANGE_WIDTH.row B.row B.BitsetTrait self.entry
+            position result) }
         ensures value { option_copied_mut result ≡ slice_index_or self.old position None }
     {
         if self.places[position].is_some() {
@@ -269,7 +274,7 @@ impl<X, const RANGE_WIDTH: usize, B: BitsetTrait> BitArray<X, RANGE_WIDTH, B> {
     ghost use Rattle.std.specs.Prelude.{◌≡◌, []};
     ghost use Rattle.rart_parts.specs.Places.{values_in};
 
-    /// Frees an array with no value. The type of its values need not allow them to be dropped.
+    /// Frees an array with no value. `X` needs no `Drop`.
     pub fn destroy_empty(self)
         requires { values_in self ≡ [] }
     {

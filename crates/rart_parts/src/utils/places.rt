@@ -1,4 +1,4 @@
-//! Places, each with a value or without.
+//! Functions on slices of slots, each with a value or without.
 ghost use Rattle.std.specs.Prelude.{◌≡◌, ◌<◌, ◌≤◌, ◌^◌, not, [], Some, None, length, replicate, IfErr, IfOk};
 ghost use Rattle.rart_parts.specs.Bits.{IsFirst, IsLast};
 ghost use Rattle.rart_parts.specs.Places.{is_used, values_in, Agrees, AgreesIfAny};
@@ -7,7 +7,7 @@ use crate::error::TreeError;
 use crate::utils::bitset::BitsetTrait;
 use std::alloc::Global;
 
-/// Places without a value. It takes memory for all of them at once.
+/// Returns `count` slots without values, allocated at once.
 pub(crate) fn new_places<X>(alloc: Global, count: usize) -> Result<Vec<Option<X>>, TreeError>
     ensures ok { IfOk result (λ places. places.items ≡ replicate count None) }
     ensures err { IfErr result (λ e. e ≡ TreeError.Memory) }
@@ -19,7 +19,7 @@ pub(crate) fn new_places<X>(alloc: Global, count: usize) -> Result<Vec<Option<X>
     Ok(places)
 }
 
-/// Puts a value at a place that has none. Nothing is dropped, so the value's type need not allow it.
+/// Stores a value in an empty slot. It drops nothing, so `X` needs no `Drop`.
 pub(crate) fn fill_place<X>(place: &mut Option<X>, x: X)
     requires { place.old ≡ None }
     ensures { place.new ≡ Some x }
@@ -31,7 +31,7 @@ pub(crate) fn fill_place<X>(place: &mut Option<X>, x: X)
     refused.unwrap();
 }
 
-/// Frees places none of which has a value. Nothing is dropped, so the type of the values need not allow it.
+/// Frees slots without values. It drops no value, so `X` needs no `Drop`.
 pub(crate) fn free_places<X>(places: Vec<Option<X>>)
     requires { values_in places.items ≡ [] }
 {
@@ -45,7 +45,7 @@ pub(crate) fn free_places<X>(places: Vec<Option<X>>)
     rest.destroy_empty();
 }
 
-/// The least place with a value.
+/// Returns the position of the first slot with a value.
 pub(crate) fn first_used_place<X>(places: &[Option<X>]) -> Option<usize>
     ensures { IsFirst (is_used places.now) (length places.now) result }
 {
@@ -57,7 +57,7 @@ pub(crate) fn first_used_place<X>(places: &[Option<X>]) -> Option<usize>
     None
 }
 
-/// The greatest place with a value.
+/// Returns the position of the last slot with a value.
 pub(crate) fn last_used_place<X>(places: &[Option<X>]) -> Option<usize>
     ensures { IsLast (is_used places.now) (length places.now) result }
 {
@@ -69,7 +69,7 @@ pub(crate) fn last_used_place<X>(places: &[Option<X>]) -> Option<usize>
     None
 }
 
-/// The least place without a value.
+/// Returns the position of the first slot without a value.
 pub(crate) fn first_free_place<X>(places: &[Option<X>]) -> Option<usize>
     ensures { IsFirst (λ k. not (is_used places.now k)) (length places.now) result }
 {
@@ -81,7 +81,7 @@ pub(crate) fn first_free_place<X>(places: &[Option<X>]) -> Option<usize>
     None
 }
 
-/// Finds the used places where the set has none. A set with any is theirs already.
+/// Rebuilds an empty bitset from the slots. A bitset with any position is kept.
 pub(crate) fn find_used<X, B: BitsetTrait>(used: &mut B, places: &[Option<X>])
     requires covers { length places.now ≤ B.CAPACITY }
     requires fits { B.CAPACITY < 2 ^ 64 }

@@ -1,11 +1,11 @@
-//! The place of a byte among the keys of a node.
+//! Searches for a byte among the keys of a node.
 ghost use Rattle.std.specs.Prelude.{◌≡◌, ℕ, ◌<◌, ◌≤◌, length, slice_index, IsSomeAnd};
 ghost use Rattle.rart_parts.specs.Bits.{IsFirst};
 ghost use Rattle.rart_parts.specs.Keys.{IsAscendingBelow, IsPlaceOf, IsFirstAbove, is_held};
 
 use crate::utils::bitset::BitsetTrait;
 
-/// The place of a key among the first `num_children` keys, which ascend.
+/// Returns the position of `key` among the first `num_children` keys, which ascend.
 pub fn u8_keys_find_key_position_sorted<const WIDTH: usize>(
     key: u8,
     keys: &[u8],
@@ -23,8 +23,8 @@ pub fn u8_keys_find_key_position_sorted<const WIDTH: usize>(
     }
 }
 
-/// The first place among the first `num_children` keys, which ascend, whose key is above; `num_children` where there
-/// is none.
+/// Returns the first position whose key is above `key` among the first `num_children` keys, which ascend. If there is
+/// none, returns `num_children`. The result is never `None`.
 pub fn u8_keys_find_insert_position_sorted<const WIDTH: usize>(
     key: u8,
     keys: &[u8],
@@ -37,8 +37,7 @@ pub fn u8_keys_find_insert_position_sorted<const WIDTH: usize>(
     Some(first_above::<WIDTH>(key, keys, num_children))
 }
 
-/// The first place that holds a key. Empty places hold 255, so for key 255 alone the place must be in the set of used
-/// places too.
+/// Returns the first position that holds `key`. Free slots hold 255, so key 255 must also be in `bitset`.
 pub fn u8_keys_find_key_position<const WIDTH: usize, B: BitsetTrait>(
     key: u8,
     keys: &[u8],
@@ -55,7 +54,7 @@ pub fn u8_keys_find_key_position<const WIDTH: usize, B: BitsetTrait>(
     None
 }
 
-/// Keys are bytes: this tells a proof, which doesn't know it of the elements of an array.
+/// Proves that the elements of an array of bytes are below 256.
 pub(crate) fn keys_are_bytes(keys: &[u8])
     ensures { (k : ℕ) → slice_index keys.now k ≤ 255 }
 {

@@ -1,4 +1,4 @@
-//! Conversions of maps: whole and in order, with the source emptied; refused, the source is as it was.
+//! Conversions of maps: whole and in order, with the source emptied; refused, the source is unchanged.
 
 use crate::parts::mappings::{fill, lends};
 use rart_parts::TreeError;

@@ -1,5 +1,5 @@
-//! Sorted loads of values that count their drops: a value that a later one of its key replaces is dropped once, and a refused load
-//! drops each.
+//! Sorted loads of values that count their drops: a value that a later one of its key replaces is dropped once, and a
+//! refused load drops each.
 
 use crate::bulk::rows::key_of;
 use crate::loads::Key;
@@ -11,8 +11,8 @@ use std::test::Fail;
 
 type Tree<'a> = AdaptiveRadixTree<Key, Counted<'a>>;
 
-// Keys, whose values have their places as numbers; and those that stay with their numbers, or the place at which the load finds
-// them unsorted.
+// Keys, whose values have their places as numbers; and those that stay with their numbers, or the place at which the
+// load finds them unsorted.
 type Row = (
     &'static [&'static str],
     Result<&'static [(&'static str, u8)], usize>,

@@ -65,7 +65,7 @@ const LISTS: [Row<'static>; 4] = [
     (&[("a", 1), ("a", 3), ("b", 2)], Ok(&[("a", 3), ("b", 2)])),
 ];
 
-// Nothing is read behind a fault.
+// Nothing is read after a fault.
 fn goes_well(alloc: Global, row: &Row<'_>) -> bool {
     let count = Cell::new(0_usize);
     let items = Read {

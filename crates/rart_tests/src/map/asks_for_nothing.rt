@@ -1,5 +1,5 @@
-//! Calls that make a tree of nothing, and may not ask for memory. Under the library that refuses it each would be seen to,
-//! were it to ask.
+//! Calls that make a tree of nothing, and may not ask for memory. Under the library that refuses it each would be seen
+//! to, were it to ask.
 
 use crate::loads::{Key, ascend, load_by_index, load_unique};
 use rart::AdaptiveRadixTree;

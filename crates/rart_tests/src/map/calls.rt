@@ -1,7 +1,7 @@
 //! Lists of calls that `vec!` makes: `?` converts its error to a `TreeError`.
 
 use rart::script::{Call, Reply, run};
-use rart::{AdaptiveRadixTree, ArrayKey, KeyTrait, TreeError};
+use rart::{AdaptiveRadixTree, ArrayKey, Error, KeyTrait, TreeError};
 use std::alloc::Global;
 
 type Key = ArrayKey<4>;
@@ -26,4 +26,19 @@ fn length_after_two_insertions(alloc: Global) -> Result<Option<usize>, TreeError
 #[test]
 fn a_list_of_calls_is_made_by_vec(rt: HostRuntime) {
     assert!(rt; matches!(length_after_two_insertions(rt.alloc()), Ok(Some(1))));
+}
+
+// Every call's error converts to the one of the crate; the last call offers a stored key.
+fn inserted_twice(alloc: Global) -> Result<(), Error> {
+    let items = vec![in alloc; (Key::new_from_slice(b"a"), 1_u64)]?;
+    let mut tree = Tree::bulk_load_sorted(alloc, items)?;
+    tree.insert_k(&Key::new_from_slice(b"b"), 2)?;
+    tree.remove_k(&Key::new_from_slice(b"a"))?;
+    tree.insert_new_k(&Key::new_from_slice(b"b"), 3)?;
+    Ok(())
+}
+
+#[test]
+fn every_error_converts_to_the_one_of_the_crate(rt: HostRuntime) {
+    assert!(rt; matches!(inserted_twice(rt.alloc()), Err(Error::Occupied)));
 }

@@ -35,6 +35,21 @@ fn a_dropped_tree_drops_each_value_once(rt: HostRuntime) {
     }
 }
 
+#[test]
+fn a_cleared_tree_drops_each_value_once_and_is_empty(rt: HostRuntime) {
+    for count in [0_u8, 1, 4, 16, 48, 255] {
+        let drops = Cell::new(0_usize);
+        let mut tree = filled(&rt, rt.alloc(), &drops, count);
+        assert!(rt; tree.contains_key(key(0)) == (count > 0));
+        tree.clear();
+        assert_eq!(rt; drops.get(), usize::from(count));
+        assert!(rt; tree.is_empty());
+        assert!(rt; !tree.contains_key(key(0)));
+        drop(tree);
+        assert_eq!(rt; drops.get(), usize::from(count));
+    }
+}
+
 // A thousand keys of two bytes.
 fn thousand<'a>(rt: &impl Abort, alloc: Global, drops: &'a Cell<usize>) -> Tree<'a> {
     let mut tree = Tree::new(alloc);

@@ -1,4 +1,5 @@
-//! Trees of keys that end in a zero byte, brought over to keys without it; also with each request for memory refused in turn.
+//! Trees of keys that end in a zero byte, brought over to keys without it; also with each request for memory refused in
+//! turn.
 
 use crate::play::replies::is_counted;
 use rart::{AdaptiveRadixTree, ArrayKey, KeyTrait, MigrateError, TreeStatsTrait};
@@ -11,7 +12,8 @@ type Key = ArrayKey<16>;
 
 type Tree = AdaptiveRadixTree<Key, u64>;
 
-// The keys of a tree, ascending, with the values 1, 2 and so on; and those of the tree without closing zeros, or why there is none.
+// The keys of a tree, ascending, with the values 1, 2 and so on; and those of the tree without closing zeros, or why
+// there is none.
 type Row = (
     &'static [&'static str],
     Result<&'static [&'static str], MigrateError>,
@@ -188,8 +190,8 @@ fn count_refused_of_walk(alloc: Global, old: &Tree) -> Option<usize> {
     None
 }
 
-// Whether exactly the room of the walk and of a list of keys and one of values is asked for, where a key has no closing zero.
-// Where nothing can be refused, nothing is told.
+// Whether exactly the room of the walk and of a list of keys and one of values is asked for, where a key has no closing
+// zero. Where nothing can be refused, nothing is told.
 fn asks_for_no_node(alloc: Global, old: &Tree) -> bool {
     match (
         count_refused_of_open(alloc, old),

@@ -14,8 +14,10 @@ pub fn count_word<K: KeyTrait>(
     counts: &mut AdaptiveRadixTree<K, u64>,
     word: &K,
 ) -> Result<bool, TryUpdateError<IsFull, u64>>
-    ensures first { lookup (K.bytes word.now) counts.old.pairs ≡ None → OnOk result (counts.new.pairs ≡ put (K.bytes word.now) 1 counts.old.pairs) }
-    ensures again { (n : ℕ) → lookup (K.bytes word.now) counts.old.pairs ≡ Some n → OnOk result (counts.new.pairs ≡ put (K.bytes word.now) (n + 1) counts.old.pairs) }
+    ensures first { lookup (K.bytes word.now) counts.old.pairs ≡ None
+        → OnOk result (counts.new.pairs ≡ put (K.bytes word.now) 1 counts.old.pairs) }
+    ensures again { (n : ℕ) → lookup (K.bytes word.now) counts.old.pairs ≡ Some n
+        → OnOk result (counts.new.pairs ≡ put (K.bytes word.now) (n + 1) counts.old.pairs) }
     ensures full { lookup (K.bytes word.now) counts.old.pairs ≡ Some (2 ^ 64 - 1) → IsErr result }
     ensures refused { OnErr result (counts.new ≡ counts.old) }
 {

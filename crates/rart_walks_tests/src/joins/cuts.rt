@@ -1,5 +1,5 @@
-//! Where the views of an intersection are cut: after each stretch that both prefixes have, and after each edge byte by which
-//! a longer prefix continues.
+//! Where the views of an intersection are cut: after each stretch that both prefixes have, and after each edge byte by
+//! which a longer prefix continues.
 
 use crate::joins::rows::{OTHER_WORDS, WORDS};
 use crate::prefixes::{Key, Pair, Tree, filled};
@@ -7,7 +7,8 @@ use crate::walks::segments::behind;
 use rart::{LendingKeyView, Seen, TreeError, TreeStatsTrait, Visits};
 use std::cell::Cell;
 
-// The pairs of two trees; and the keys that both have, each with a bar after each of its segments and a semicolon at its end.
+// The pairs of two trees; and the keys that both have, each with a bar after each of its segments and a semicolon at
+// its end.
 type Row = (&'static [Pair], &'static [Pair], &'static str);
 
 const NESTED: [Pair; 4] = [("", 0), ("alpha", 1), ("alphabet", 2), ("alpine", 3)];

@@ -30,8 +30,8 @@ fn swapped_trees_give_swapped_values(rt: HostRuntime) {
     }
 }
 
-// A refused law says `Memory`: the second callback wasn't called, and the first was called at all pairs or at none. Whether a
-// request was refused.
+// A refused law says `Memory`: the second callback wasn't called, and the first was called at all pairs or at none.
+// Whether a request was refused.
 fn is_refused_well(
     alloc: Global,
     left: &Tree,

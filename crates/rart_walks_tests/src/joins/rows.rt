@@ -225,7 +225,7 @@ fn counts_and_values_ask_for_nothing(rt: HostRuntime) {
     }
 }
 
-/// An intersection that asks for memory, by a form of its call.
+/// An intersection that requests memory, by a form of its call.
 #[derive(Clone, Copy)]
 enum Form {
     Keys,

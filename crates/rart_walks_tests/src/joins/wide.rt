@@ -42,7 +42,7 @@ fn next_multiple(from: usize, one: u8, other: u8) -> usize {
     from.max(256)
 }
 
-// The number behind this one where the key is its byte and both values are it; and else one past all.
+// The number after this one where the key is its byte and both values are it; and else one past all.
 fn behind(number: usize, key: &[u8], left: u64, right: u64) -> usize {
     match key {
         [byte] if usize::from(*byte) == number && left == u64::from(*byte) && right == left => {

@@ -91,8 +91,8 @@ fn is_handed_back(ask: Ask, reply: Reply) -> bool {
     }
 }
 
-// A refused edit leaves the table as `unrefused` is, and an edit with memory as that one is after it. Whether a request was
-// refused.
+// A refused edit leaves the table as `unrefused` is, and an edit with memory as that one is after it. Whether a request
+// was refused.
 fn edit_is_refused_well(
     alloc: Global,
     table: &mut Table,

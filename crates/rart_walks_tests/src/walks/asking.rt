@@ -1,4 +1,5 @@
-//! Walks and iterators where nothing may be asked for: of an empty tree, once a walk calls, and once an iterator was started.
+//! Walks and iterators where nothing may be asked for: of an empty tree, once a walk calls, and once an iterator was
+//! started.
 
 use super::forms::{Calls, PAIRS, WALKS, Walk, make};
 use crate::prefixes::{Key, Tree, filled};
@@ -65,7 +66,8 @@ fn calls_about_a_probe_ask_for_nothing(rt: HostRuntime) {
     assert_eq!(rt; called, 8);
 }
 
-// How many of ten calls give a pair, below "alp", between "alp" and "b", and of all, by the plain and the counted iterators.
+// How many of ten calls give a pair, below "alp", between "alp" and "b", and of all, by the plain and the counted
+// iterators.
 fn started(alloc: Global, tree: &Tree, key: Key) -> Result<[usize; 5], TreeError> {
     let end = Key::new_from_slice(b"b");
     let mut below = tree.prefix_iter_k(&key)?;

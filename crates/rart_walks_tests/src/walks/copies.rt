@@ -22,7 +22,8 @@ fn two_bytes(alloc: Global) -> Result<Vec<u8>, AllocError> {
     Ok(bytes)
 }
 
-// Whether the bytes of the view came behind others, with a request refused; and where one was, whether those others stand alone.
+// Whether the bytes of the view came after others, with a request refused; and where one was, whether those others
+// stand alone.
 fn is_behind(
     alloc: Global,
     view: LendingKeyView<'_, '_>,

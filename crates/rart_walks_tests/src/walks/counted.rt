@@ -180,7 +180,8 @@ fn views_are_those_of_the_plain_walks(rt: HostRuntime) {
     assert!(rt; views_within_are(&tree, b"b", &[]) == Ok(true));
 }
 
-// What is told of the longest match of the probe, and how often it was shown as wanted: past all of them where it wasn't.
+// What is told of the longest match of the probe, and how often it was shown as wanted: past all of them where it
+// wasn't.
 fn shows_longest(tree: &Tree, probe: &[u8], rows: &[Row]) -> (Result<bool, TreeError>, usize)
     requires { length probe.now ≤ 16 }
 {

@@ -89,8 +89,8 @@ pub const WALKS: [(Walk, usize); 32] = [
     (Walk::LongestCounted, 1),
 ];
 
-/// The calls of a callback. Where `watched` the first one has the next request for memory refused, so that a walk which asks
-/// between calls is seen.
+/// The calls of a callback. Where `watched` the first one has the next request for memory refused, so that a walk which
+/// asks between calls is seen.
 #[derive(Drop)]
 pub struct Calls {
     many: Cell<usize>,
@@ -146,7 +146,7 @@ fn views_below_lent(tree: &Tree, key: Key, by_value: bool, calls: &Calls) -> End
     }
 }
 
-// From behind the key to before "beta".
+// From after the key to before "beta".
 fn views_within(tree: &Tree, key: Key, lent: bool, calls: &Calls) -> Ended {
     let start = Bound::Excluded(key);
     let end = Bound::Excluded(Key::new_from_slice(b"beta"));

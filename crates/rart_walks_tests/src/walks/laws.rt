@@ -11,7 +11,7 @@ use std::cmp::Ordering;
 
 const PAIRS: [Pair; 4] = [("", 0), ("ab", 1), ("abcd", 2), ("b", 3)];
 
-// The values of all pairs and of those below the prefix, as digits behind a first 1.
+// The values of all pairs and of those below the prefix, as digits after a first 1.
 fn walked(tree: &Tree, prefix: &[u8]) -> Option<(u64, u64)> {
     let Ok((mut all, mut below)) = prefix_iter_filters_iter(tree, &key(prefix)) else {
         return None;
@@ -34,7 +34,7 @@ fn a_walk_below_a_prefix_is_a_part_of_the_whole_one(rt: HostRuntime) {
     assert!(rt; walked(&tree, b"c") == Some((1_0123, 1)));
 }
 
-// Whether the longest match is this pair, and the values of all matches, as digits behind a first 1.
+// Whether the longest match is this pair, and the values of all matches, as digits after a first 1.
 fn matched(tree: &Tree, probe: &[u8], wanted: &Pair) -> (bool, u64) {
     let (longest, mut matches) = longest_is_the_last_match(tree, &key(probe));
     let mut seen = 1_u64;

@@ -17,7 +17,7 @@ const PAIRS: [Pair; 7] = [
     ("b", 7),
 ];
 
-// The value of a key, and its segments, each with a bar behind it.
+// The value of a key, and its segments, each with a bar after it.
 const CUT: [(u64, &str); 7] = [
     (1, "a|"),
     (2, "a|bc|d|"),

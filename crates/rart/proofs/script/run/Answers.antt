@@ -12,14 +12,17 @@ loop-call-init g c = record {
 
 pub loop-call-preserved : goal.loop-call-preserved
 loop-call-preserved g c = record {
-  run = run-goes_on _ _ _ _ _ _ _ _ _ _ _ c.in-Some.ensures.steps.0 c.in-Ok.ensures.items c.loop-call.invariant.run c.step.ensures;
+  run = run-goes_on _ _ _ _ _ _ _ _ _ _ _ c.in-Some.ensures.steps.0 c.in-Ok.ensures.items c.loop-call.invariant.run
+      c.step.ensures;
   room = omega (arith, c.loop-call.invariant.room, c.in-Ok.ensures.capacity);
 }
 
 pub returns-clause-run : goal.returns-clause-run
-returns-clause-run g c = run-ends _ _ _ _ _ _ (omega (arith, c.in-None.ensures.steps.0, c.loop-call.call-iterator.rest.ok.0)) c.loop-call.invariant.run
+returns-clause-run g c = run-ends _ _ _ _ _ _
+    (omega (arith, c.in-None.ensures.steps.0, c.loop-call.call-iterator.rest.ok.0)) c.loop-call.invariant.run
 
 pub returns-in_err-replies-clause-memory : goal.returns-in_err-replies-clause-memory
 returns-in_err-replies-clause-memory g c =
-    let some : c.args.calls.items ≢ [] = λ e. false≢true (c.in_err-replies.ensures.succeeds (omega (arith, ap length e, c.len.ensures, c.args.calls.ok.0))) in
+    let some : c.args.calls.items ≢ [] = λ e. false≢true
+    (c.in_err-replies.ensures.succeeds (omega (arith, ap length e, c.len.ensures, c.args.calls.ok.0))) in
     refused-some c.from_residual.result Memory c.from_residual.ensures.1 some

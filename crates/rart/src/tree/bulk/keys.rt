@@ -8,7 +8,7 @@ use crate::bulk::BulkError;
 use rart_keys::KeyTrait;
 use std::alloc::Global;
 
-/// The bytes of each key. Refused where memory is.
+/// Returns the bytes of each key. Fails with `Memory` if an allocation fails.
 pub(super) fn keys_in_slice<K: KeyTrait>(alloc: Global, keys: &[K]) -> Result<Vec<&[u8]>, BulkError>
     ensures keys { IfOk result (λ v. keys_in v.items ≡ map K.bytes keys.now) }
     ensures error { IfErr result (λ e. e ≡ BulkError.Memory) }
@@ -26,7 +26,7 @@ pub(super) fn keys_in_slice<K: KeyTrait>(alloc: Global, keys: &[K]) -> Result<Ve
     Ok(strings)
 }
 
-/// The bytes of the keys at 0, 1 and so on. Refused where memory is.
+/// Returns the bytes of the keys at 0, 1 and so on. Fails with `Memory` if an allocation fails.
 pub(super) fn keys_by_index<'a, K: KeyTrait + 'a, F: Fn(usize) -> &'a K>(
     alloc: Global,
     len: usize,
@@ -34,7 +34,8 @@ pub(super) fn keys_by_index<'a, K: KeyTrait + 'a, F: Fn(usize) -> &'a K>(
 ) -> Result<Vec<&'a [u8]>, BulkError>
     requires { (i : _) → i < len → F.pre key_at.now i }
     ensures count { IfOk result (λ v. length (keys_in v.items) ≡ len) }
-    ensures keys { IfOk result (λ v. AreKeysAt (λ i key. (k : _) × F.post key_at.now i k × (key ≡ K.bytes k.now)) (keys_in v.items)) }
+    ensures keys { IfOk result (λ v. AreKeysAt (λ i key. (k : _) × F.post key_at.now i k × (key ≡ K.bytes k.now))
+        (keys_in v.items)) }
     ensures error { IfErr result (λ e. e ≡ BulkError.Memory) }
 {
     let Ok(mut strings) = Vec::with_capacity(alloc, len) else {
@@ -48,7 +49,7 @@ pub(super) fn keys_by_index<'a, K: KeyTrait + 'a, F: Fn(usize) -> &'a K>(
     Ok(strings)
 }
 
-/// The length of the longest key, 0 where there is none.
+/// Returns the length of the longest key, 0 for no keys.
 pub(super) fn longest_of(keys: &[&[u8]]) -> usize
     ensures { result ≡ longest_key (lone_keys (keys_in keys.now)) }
 {

@@ -1,9 +1,9 @@
-//! Trees of text keys that end in a zero byte, brought over to keys without it.
+//! Trees of text keys that end in a zero byte, migrated to keys without it.
 ghost use Rattle.std.specs.Prelude.{◌≡◌, ◌≢◌, ◌≤◌, ℕ, List, length, map, IfErr, IfNone, IfOk, IfSome};
 ghost use Rattle.rart_keys.specs.ArrayKeyBytes.{array_key_bytes};
 ghost use Rattle.rart_keys.specs.SortedMap.{keys_of, values_of};
 ghost use Rattle.rart_nodes.specs.shapes.Shape.{HasShape};
-ghost use Rattle.rart.specs.Migrations.{StopsMigration, terminated, with_zeros};
+ghost use Rattle.rart.specs.Migrations.{FailsMigration, terminated, with_zeros};
 
 use crate::migrate::MigrateError;
 use crate::tree::{AdaptiveRadixTree, MAX_PAIRS};
@@ -11,16 +11,18 @@ use rart_keys::laws::key_order::closing_zeros;
 use rart_keys::{ArrayKey, KeyTrait};
 
 impl<const N: usize, V: Copy> AdaptiveRadixTree<ArrayKey<N>, V> {
-    /// The tree of `old`'s pairs, each key without the zero byte that it ends in, as a bulk load makes it, with `old`'s allocator.
-    /// `old` stays as it is.
+    /// Builds the tree of `old`'s pairs, each key without its closing zero byte, with `old`'s allocator.
     ///
-    /// One walk reads all keys, with room for all taken before the first. Refused with `NotText` exactly where a key doesn't end
-    /// in a zero byte and the walk had its room, and then no node is made; with `Memory` where a request for it was refused, only
-    /// where `old` isn't empty.
+    /// One walk reads all keys. It allocates before the first.
+    ///
+    /// # Errors
+    ///
+    /// [`MigrateError::NotText`] at the first key that doesn't end in a zero byte; no node is then allocated.
+    /// [`MigrateError::Memory`] if an allocation fails, which needs an `old` that isn't empty.
     pub fn drop_closing_zeros(old: &Self) -> Result<Self, MigrateError>
         ensures pairs { IfOk result (λ tree. old.now.pairs ≡ with_zeros tree.pairs) }
         ensures shape { IfOk result (λ tree. HasShape (keys_of tree.pairs) tree.nodes) }
-        ensures refused { IfErr result (StopsMigration old.now.pairs) }
+        ensures refused { IfErr result (FailsMigration old.now.pairs) }
     {
         old.canonical();
         closing_zeros();
@@ -32,14 +34,14 @@ impl<const N: usize, V: Copy> AdaptiveRadixTree<ArrayKey<N>, V> {
     }
 }
 
-/// The keys of a tree, each without its closing zero, and their values. All room is taken before the first is read.
+/// Returns the keys of a tree, each without its closing zero, and their values. Allocates before the first is read.
 fn read_texts<const N: usize, V: Copy>(
     old: &AdaptiveRadixTree<ArrayKey<N>, V>,
 ) -> Result<(Vec<ArrayKey<N>>, Vec<V>), MigrateError>
     ensures keys { IfOk result (λ r. keys_of old.now.pairs ≡ map terminated (map array_key_bytes r.0.items)) }
     ensures values { IfOk result (λ r. values_of old.now.pairs ≡ r.1.items) }
     ensures few { IfOk result (λ r. length r.0.items ≤ MAX_PAIRS) }
-    ensures refused { IfErr result (StopsMigration old.now.pairs) }
+    ensures refused { IfErr result (FailsMigration old.now.pairs) }
 {
     let Ok(mut keys) = Vec::with_capacity(old.alloc, old.len()) else {
         return Err(MigrateError::Memory);
@@ -64,7 +66,7 @@ fn read_texts<const N: usize, V: Copy>(
     Ok((keys, values))
 }
 
-/// The key without the zero byte that it ends in, where it ends in one.
+/// Returns the key without its closing zero byte, `None` if it has none.
 fn without_zero<const N: usize>(key: &ArrayKey<N>) -> Option<ArrayKey<N>>
     ensures text { IfSome result (λ text. array_key_bytes key.now ≡ terminated (array_key_bytes text)) }
     ensures no_text { IfNone result ((text : List ℕ) → array_key_bytes key.now ≢ terminated text) }

@@ -2,7 +2,7 @@
 ghost use Rattle.std.specs.Prelude.{◌≡◌, ◌≤◌, length, map, IfErr, IfOk};
 ghost use Rattle.std.specs.Iterator.{IsFinite};
 ghost use Rattle.rart_keys.specs.BulkLists.{WasRead, order_behind};
-ghost use Rattle.rart.specs.BulkLoads.{AreSplit, KeepsItem, Reads, ReadsAll, StopsAtItem, StopsSorted, StopsUnique};
+ghost use Rattle.rart.specs.BulkLoads.{AreSplit, KeepsItem, Reads, ReadsAll, FailsAtItem, FailsSorted, FailsUnique};
 ghost use Rattle.rart.specs.Steps.{pairs_in};
 
 use crate::bulk::BulkError;
@@ -12,7 +12,7 @@ use rart_keys::laws::bulk_lists::one_item_more;
 use std::alloc::Global;
 use std::cmp::Ordering;
 
-/// How the last of the keys compares with `key`; `Less` where there is none.
+/// Compares the last of the keys with `key`; `Less` if there is none.
 fn order_after<K: KeyTrait>(keys: &[K], key: &K) -> Ordering
     ensures { result ≡ order_behind (map K.bytes keys.now) (K.bytes key.now) }
 {
@@ -22,8 +22,7 @@ fn order_after<K: KeyTrait>(keys: &[K], key: &K) -> Ordering
     }
 }
 
-/// Keeps an item, the one at the place `at`: at a key that was read last its value replaces the one
-/// there. Refused as a sorted load is.
+/// Keeps the item at the place `at`; at the key read last, its value replaces the stored one. Fails as a sorted load.
 fn keep_last<K: KeyTrait + Drop, V: Drop>(
     keys: &mut Vec<K>,
     values: &mut Vec<V>,
@@ -33,8 +32,9 @@ fn keep_last<K: KeyTrait + Drop, V: Drop>(
 ) -> Result<(), BulkError>
     requires { length keys.old.items ≤ MAX_PAIRS }
     ensures few { length keys.new.items ≤ MAX_PAIRS }
-    ensures kept { KeepsItem (map K.bytes keys.old.items) values.old.items (K.bytes key) value result (map K.bytes keys.new.items) values.new.items }
-    ensures refused { StopsAtItem (map K.bytes keys.old.items) values.old.items (K.bytes key) value at result }
+    ensures kept { KeepsItem (map K.bytes keys.old.items) values.old.items (K.bytes key) value result
+        (map K.bytes keys.new.items) values.new.items }
+    ensures refused { FailsAtItem (map K.bytes keys.old.items) values.old.items (K.bytes key) value at result }
 {
     one_item_more::<V>();
     match order_after(keys, &key) {
@@ -57,15 +57,18 @@ fn keep_last<K: KeyTrait + Drop, V: Drop>(
     Ok(())
 }
 
-/// The keys and values that stay of the items, of equal keys the last. Refused as the sorted load is.
+/// Returns the keys and values that the items leave, of equal keys the last. Fails as the sorted load.
 pub(super) fn read_sorted<K: KeyTrait + Drop, V: Drop, I: IntoIterator<Item = (K, V)>>(
     alloc: Global,
     items: I,
 ) -> Result<(Vec<K>, Vec<V>), BulkError>
-    requires { (s : I.IntoIter) → I.into_iter_gives items s → I.IntoIter.can_next s × IsFinite (I.IntoIter.remaining s) }
+    requires { (s : I.IntoIter) → I.into_iter_gives items s → I.IntoIter.can_next s
+        × IsFinite (I.IntoIter.remaining s) }
     ensures few { IfOk result (λ r. length r.0.items ≤ MAX_PAIRS) }
-    ensures read { IfOk result (λ r. ReadsAll I.into_iter_gives I.IntoIter.next_gives items (λ xs. WasRead (pairs_in K.bytes xs) (map K.bytes r.0.items) r.1.items)) }
-    ensures refused { IfErr result (λ error. Reads I.into_iter_gives I.IntoIter.next_gives items (λ xs. StopsSorted (pairs_in K.bytes xs) error)) }
+    ensures read { IfOk result (λ r. ReadsAll I.into_iter_gives I.IntoIter.next_gives items
+        (λ xs. WasRead (pairs_in K.bytes xs) (map K.bytes r.0.items) r.1.items)) }
+    ensures refused { IfErr result (λ error. Reads I.into_iter_gives I.IntoIter.next_gives items
+        (λ xs. FailsSorted (pairs_in K.bytes xs) error)) }
 {
     let mut keys = Vec::new(alloc);
     let mut values = Vec::new(alloc);
@@ -79,15 +82,18 @@ pub(super) fn read_sorted<K: KeyTrait + Drop, V: Drop, I: IntoIterator<Item = (K
     Ok((keys, values))
 }
 
-/// The keys and values of items that ascend strictly. Refused as the unique load is.
+/// Returns the keys and values of items that ascend strictly. Fails as the unique load.
 pub(super) fn read_unique<K: KeyTrait + Drop, V: Drop, I: IntoIterator<Item = (K, V)>>(
     alloc: Global,
     items: I,
 ) -> Result<(Vec<K>, Vec<V>), BulkError>
-    requires { (s : I.IntoIter) → I.into_iter_gives items s → I.IntoIter.can_next s × IsFinite (I.IntoIter.remaining s) }
+    requires { (s : I.IntoIter) → I.into_iter_gives items s → I.IntoIter.can_next s
+        × IsFinite (I.IntoIter.remaining s) }
     ensures few { IfOk result (λ r. length r.0.items ≤ MAX_PAIRS) }
-    ensures read { IfOk result (λ r. ReadsAll I.into_iter_gives I.IntoIter.next_gives items (λ xs. AreSplit (pairs_in K.bytes xs) (map K.bytes r.0.items) r.1.items)) }
-    ensures refused { IfErr result (λ error. Reads I.into_iter_gives I.IntoIter.next_gives items (λ xs. StopsUnique (pairs_in K.bytes xs) error)) }
+    ensures read { IfOk result (λ r. ReadsAll I.into_iter_gives I.IntoIter.next_gives items
+        (λ xs. AreSplit (pairs_in K.bytes xs) (map K.bytes r.0.items) r.1.items)) }
+    ensures refused { IfErr result (λ error. Reads I.into_iter_gives I.IntoIter.next_gives items
+        (λ xs. FailsUnique (pairs_in K.bytes xs) error)) }
 {
     let mut keys = Vec::new(alloc);
     let mut values = Vec::new(alloc);

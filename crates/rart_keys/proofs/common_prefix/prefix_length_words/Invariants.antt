@@ -5,7 +5,8 @@ use Rattle.rart_keys.proofs.common_prefix.prefix_length_words.Given as goal
 abbrev pub invariant-loop-i : goal.invariant-loop-i
 invariant-loop-i l = record {
   within : l.i ≤ l.len;
-  so_far : common_prefix_len nat_eq l.left l.right ≡ l.i + common_prefix_len nat_eq (drop l.i l.left) (drop l.i l.right);
+  so_far : common_prefix_len nat_eq l.left l.right
+      ≡ l.i + common_prefix_len nat_eq (drop l.i l.left) (drop l.i l.right);
 }
 
 abbrev pub decreases-loop-i : goal.decreases-loop-i

@@ -1,7 +1,5 @@
-//! Keys made of numbers, and back.
-//!
-//! A number's key is its big-endian bytes. A signed number has its sign bit flipped first, so that
-//! the keys of one type are in the order of the numbers.
+//! Conversions of numbers to keys and back. A key holds the big-endian bytes of its number, with the sign bit of a
+//! signed number flipped, so keys of one type order as their numbers.
 ghost use Rattle.std.specs.Prelude.{◌≡◌, ◌≤◌, take};
 ghost use Rattle.std.specs.Int.{w8, w16, w32, w64, w128, to_be_bytes};
 ghost use Rattle.rart_keys.specs.ArrayKeyBytes.{array_key_bytes};
@@ -9,11 +7,11 @@ ghost use Rattle.rart_keys.specs.NumberBytes.{sign_flipped, big_endian_number};
 
 use crate::keys::array_key::ArrayKey;
 
-/// The number of bytes of a `u64`.
+/// Is the number of bytes of a `u64`.
 const U64_BYTES: usize = 8;
 
 impl<const N: usize> ArrayKey<N> {
-    /// The number as its one byte. Asks room for it.
+    /// Returns the byte of `x`. `N` must be at least 1.
     pub fn from_u8(x: u8) -> Self
         requires { 1 ≤ N }
         ensures { array_key_bytes result ≡ to_be_bytes w8 x }
@@ -21,7 +19,7 @@ impl<const N: usize> ArrayKey<N> {
         Self::from_two(&u8::to_be_bytes(x), &[])
     }
 
-    /// The two bytes of the number, the highest first. Asks room for them.
+    /// Returns the 2 big-endian bytes of `x`. `N` must be at least 2.
     pub fn from_u16(x: u16) -> Self
         requires { 2 ≤ N }
         ensures { array_key_bytes result ≡ to_be_bytes w16 x }
@@ -29,7 +27,7 @@ impl<const N: usize> ArrayKey<N> {
         Self::from_two(&u16::to_be_bytes(x), &[])
     }
 
-    /// The four bytes of the number, the highest first. Asks room for them.
+    /// Returns the 4 big-endian bytes of `x`. `N` must be at least 4.
     pub fn from_u32(x: u32) -> Self
         requires { 4 ≤ N }
         ensures { array_key_bytes result ≡ to_be_bytes w32 x }
@@ -37,7 +35,7 @@ impl<const N: usize> ArrayKey<N> {
         Self::from_two(&u32::to_be_bytes(x), &[])
     }
 
-    /// The eight bytes of the number, the highest first. Asks room for them.
+    /// Returns the 8 big-endian bytes of `x`. `N` must be at least 8.
     pub fn from_u64(x: u64) -> Self
         requires { 8 ≤ N }
         ensures { array_key_bytes result ≡ to_be_bytes w64 x }
@@ -45,7 +43,7 @@ impl<const N: usize> ArrayKey<N> {
         Self::from_two(&u64::to_be_bytes(x), &[])
     }
 
-    /// The sixteen bytes of the number, the highest first. Asks room for them.
+    /// Returns the 16 big-endian bytes of `x`. `N` must be at least 16.
     pub fn from_u128(x: u128) -> Self
         requires { 16 ≤ N }
         ensures { array_key_bytes result ≡ to_be_bytes w128 x }
@@ -53,7 +51,7 @@ impl<const N: usize> ArrayKey<N> {
         Self::from_two(&u128::to_be_bytes(x), &[])
     }
 
-    /// The eight bytes of the number, the highest first. Asks room for them.
+    /// Returns the 8 big-endian bytes of `x`. `N` must be at least 8.
     pub fn from_usize(x: usize) -> Self
         requires { 8 ≤ N }
         ensures { array_key_bytes result ≡ to_be_bytes w64 x }
@@ -61,7 +59,7 @@ impl<const N: usize> ArrayKey<N> {
         Self::from_two(&usize::to_be_bytes(x), &[])
     }
 
-    /// The number as one byte, its sign bit flipped. Asks room for it.
+    /// Returns the byte of `x` with its sign bit flipped. `N` must be at least 1.
     pub fn from_i8(x: i8) -> Self
         requires { 1 ≤ N }
         ensures { array_key_bytes result ≡ to_be_bytes w8 (sign_flipped w8 x) }
@@ -69,8 +67,7 @@ impl<const N: usize> ArrayKey<N> {
         Self::from_u8(x.cast_unsigned() ^ (1 << 7))
     }
 
-    /// The two bytes of the number with its sign bit flipped, the highest first. Asks room for
-    /// them.
+    /// Returns the 2 big-endian bytes of `x` with its sign bit flipped. `N` must be at least 2.
     pub fn from_i16(x: i16) -> Self
         requires { 2 ≤ N }
         ensures { array_key_bytes result ≡ to_be_bytes w16 (sign_flipped w16 x) }
@@ -78,8 +75,7 @@ impl<const N: usize> ArrayKey<N> {
         Self::from_u16(x.cast_unsigned() ^ (1 << 15))
     }
 
-    /// The four bytes of the number with its sign bit flipped, the highest first. Asks room for
-    /// them.
+    /// Returns the 4 big-endian bytes of `x` with its sign bit flipped. `N` must be at least 4.
     pub fn from_i32(x: i32) -> Self
         requires { 4 ≤ N }
         ensures { array_key_bytes result ≡ to_be_bytes w32 (sign_flipped w32 x) }
@@ -87,8 +83,7 @@ impl<const N: usize> ArrayKey<N> {
         Self::from_u32(x.cast_unsigned() ^ (1 << 31))
     }
 
-    /// The eight bytes of the number with its sign bit flipped, the highest first. Asks room for
-    /// them.
+    /// Returns the 8 big-endian bytes of `x` with its sign bit flipped. `N` must be at least 8.
     pub fn from_i64(x: i64) -> Self
         requires { 8 ≤ N }
         ensures { array_key_bytes result ≡ to_be_bytes w64 (sign_flipped w64 x) }
@@ -96,8 +91,7 @@ impl<const N: usize> ArrayKey<N> {
         Self::from_u64(x.cast_unsigned() ^ (1 << 63))
     }
 
-    /// The sixteen bytes of the number with its sign bit flipped, the highest first. Asks room
-    /// for them.
+    /// Returns the 16 big-endian bytes of `x` with its sign bit flipped. `N` must be at least 16.
     pub fn from_i128(x: i128) -> Self
         requires { 16 ≤ N }
         ensures { array_key_bytes result ≡ to_be_bytes w128 (sign_flipped w128 x) }
@@ -105,8 +99,7 @@ impl<const N: usize> ArrayKey<N> {
         Self::from_u128(x.cast_unsigned() ^ (1 << 127))
     }
 
-    /// The eight bytes of the number with its sign bit flipped, the highest first. Asks room for
-    /// them.
+    /// Returns the 8 big-endian bytes of `x` with its sign bit flipped. `N` must be at least 8.
     pub fn from_isize(x: isize) -> Self
         requires { 8 ≤ N }
         ensures { array_key_bytes result ≡ to_be_bytes w64 (sign_flipped w64 x) }
@@ -114,8 +107,7 @@ impl<const N: usize> ArrayKey<N> {
         Self::from_usize(x.cast_unsigned() ^ (1 << 63))
     }
 
-    /// The first eight bytes, or all where there are fewer, as one big-endian number. The empty
-    /// key gives 0.
+    /// Returns the first eight bytes, or all of a shorter key, as a big-endian number. The empty key yields 0.
     pub fn to_be_u64(&self) -> u64
         ensures { result ≡ big_endian_number (take U64_BYTES (array_key_bytes self.now)) }
     {

@@ -1,14 +1,14 @@
-//! Keys made of texts and arrays.
+//! Conversions of texts and byte arrays to keys.
 ghost use Rattle.std.specs.Prelude.{◌≡◌, ◌+◌, ◌≤◌, ◌++◌, ◌∷◌, [], length, string_bytes, string_len};
 ghost use Rattle.rart_keys.specs.ArrayKeyBytes.{array_key_bytes};
 
 use crate::keys::array_key::ArrayKey;
 
-/// What closes a terminated key.
+/// Is the last byte of a terminated key.
 const CLOSING_ZERO: [u8; 1] = [0];
 
 impl<const N: usize> ArrayKey<N> {
-    /// The bytes of the text. Asks that they fit.
+    /// Returns the key with the bytes of `s`, which must have at most `N`.
     pub fn new_from_str(s: &str) -> Self
         requires { length s.now ≤ N }
         ensures { array_key_bytes result ≡ s.now }
@@ -16,7 +16,7 @@ impl<const N: usize> ArrayKey<N> {
         Self::from_two(s.as_bytes(), &[])
     }
 
-    /// The bytes of the text. Asks that they fit.
+    /// Returns the key with the bytes of `s`, which must have at most `N`.
     pub fn new_from_string(s: &String) -> Self
         requires { string_len s.now ≤ N }
         ensures { array_key_bytes result ≡ string_bytes s.now }
@@ -24,8 +24,8 @@ impl<const N: usize> ArrayKey<N> {
         Self::new_from_str(s.as_str())
     }
 
-    /// The bytes of the text, and behind them one zero byte, so that of texts without zero bytes none begins another. Asks that
-    /// both fit.
+    /// Returns the key with the bytes of `s` followed by a zero byte. Both must fit in `N` bytes. Of texts without
+    /// zero bytes, no such key is a proper prefix of another.
     pub fn new_from_str_terminated(s: &str) -> Self
         requires { length s.now + 1 ≤ N }
         ensures { array_key_bytes result ≡ s.now ++ 0 ∷ [] }
@@ -33,7 +33,7 @@ impl<const N: usize> ArrayKey<N> {
         Self::from_two(s.as_bytes(), &CLOSING_ZERO)
     }
 
-    /// The bytes of the array, all `S` of them. Asks that they fit.
+    /// Returns the key with all `S` bytes of `arr`. `S` must be at most `N`.
     pub fn new_from_array<const S: usize>(arr: [u8; S]) -> Self
         requires { S ≤ N }
         ensures { array_key_bytes result ≡ arr.entry }

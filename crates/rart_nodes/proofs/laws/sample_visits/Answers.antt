@@ -1,4 +1,5 @@
-use Rattle.rart_nodes.proofs.shapes.Examples.{visits-deepest, visits-absent, visits-root, visits-both, edges-both, visits-no_keys, visits-no_left, visits-no_right}
+use Rattle.rart_nodes.proofs.shapes.Examples.{visits-deepest, visits-absent, visits-root, visits-both, edges-both}
+use Rattle.rart_nodes.proofs.shapes.Examples.{visits-no_keys, visits-no_left, visits-no_right}
 use Rattle.rart_nodes.proofs.laws.sample_visits.Goals as goal
 
 pub returns : goal.returns

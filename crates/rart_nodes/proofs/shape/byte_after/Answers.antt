@@ -8,4 +8,5 @@ returns-in_err-rest c = let f = after-none c.args.path.now c.args.key.now c.in_e
 
 pub returns : goal.returns
 returns c = let h = c.in_ok-rest.ensures.cases in
-    c.copied.ensures ∙ c.first.ensures.value ∙ ap (λ bs. slice_get bs 0) h.1 ∙ sym (after-some c.args.path.now c.args.key.now h.0)
+    c.copied.ensures ∙ c.first.ensures.value ∙ ap (λ bs. slice_get bs 0) h.1
+    ∙ sym (after-some c.args.path.now c.args.key.now h.0)

@@ -3,7 +3,9 @@ use Rattle.rart_nodes.proofs.shapes.ShapeRecordLemmas.{contains-here, contains-b
 use Rattle.rart_nodes.proofs.shape.contains_key.Goals as goal
 
 pub returns-then-eq : goal.returns-then-eq
-returns-then-eq c = sym (contains-here c.args.keys.now c.loop-key.key-index _ c.args.path.now c.loop-key-test.true c.if-eq.ensures) ∙ c.loop-key.invariant
+returns-then-eq c = sym (contains-here c.args.keys.now c.loop-key.key-index _ c.args.path.now c.loop-key-test.true
+    c.if-eq.ensures) ∙ c.loop-key.invariant
 
 pub loop-key-preserved : goal.loop-key-preserved
-loop-key-preserved c = contains-behind c.args.keys.now c.loop-key.key-index _ c.args.path.now c.loop-key-test.true c.if-eq.ensures ∙ c.loop-key.invariant
+loop-key-preserved c = contains-behind c.args.keys.now c.loop-key.key-index _ c.args.path.now c.loop-key-test.true
+    c.if-eq.ensures ∙ c.loop-key.invariant

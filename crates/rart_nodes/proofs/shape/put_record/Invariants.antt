@@ -3,4 +3,8 @@ use Rattle.rart_nodes.proofs.shapes.ShapeRecordLemmas.{GoesBehind}
 use Rattle.rart_nodes.proofs.shape.put_record.Given as goal
 
 abbrev pub invariant-loop-i : goal.invariant-loop-i
-invariant-loop-i l = record { same : l.records.items ≡ l.initial.records.items; behind : GoesBehind l.i l.added.path.items l.records.items }
+invariant-loop-i l = record {
+  same : l.records.items
+      ≡ l.initial.records.items;
+  behind : GoesBehind l.i l.added.path.items l.records.items;
+}

@@ -5,7 +5,10 @@ use Rattle.rart_nodes.proofs.shapes.ShapeOfLemmas.{Covers, is_short}
 use Rattle.rart_nodes.proofs.shape.shape_of.Given as goal
 
 abbrev pub invariant-lengths : goal.invariant-lengths
-invariant-lengths l = Covers (keys_in l.keys) (λ p. begins_any p (keys_in (take l.key-index l.keys)) || is_short l.length p l.key.now) (records_of l.records.items)
+invariant-lengths l = Covers (keys_in l.keys)
+    (λ p. begins_any p (keys_in (take l.key-index l.keys)) || is_short l.length p l.key.now)
+    (records_of l.records.items)
 
 abbrev pub invariant-keys : goal.invariant-keys
-invariant-keys l = Covers (keys_in l.keys) (λ p. begins_any p (keys_in (take l.key-index l.keys))) (records_of l.records.items)
+invariant-keys l = Covers (keys_in l.keys) (λ p. begins_any p (keys_in (take l.key-index l.keys)))
+    (records_of l.records.items)

@@ -1,4 +1,4 @@
-//! Room for one more child: where a storage is full, its children move into the next kind.
+//! Growth of a storage: the children of a full one move into the next kind.
 ghost use Rattle.std.specs.Prelude.{◌≡◌, ◌<◌, ◌≤◌, [], length, None, true, false, IfErr, IfOk, OnErr, OnOk};
 ghost use Rattle.rart_parts.specs.Entries.{ascending, child_at};
 ghost use Rattle.rart_nodes.specs.storages.Widths.{widened};
@@ -44,7 +44,7 @@ pub(super) fn boxed_indexed<N>(
     }
 }
 
-/// A direct map with no child, on the heap.
+/// Returns a boxed direct map with no child.
 fn boxed_direct<N>(alloc: Global) -> Result<Box<DirectMapping<N>>, TreeError>
     ensures ok { IfOk result (λ m. m.value ≡ []) }
     ensures error { IfErr result (λ e. e ≡ TreeError.Memory) }
@@ -59,43 +59,43 @@ fn boxed_direct<N>(alloc: Global) -> Result<Box<DirectMapping<N>>, TreeError>
 }
 
 impl<N> Storage<N> {
-    /// Storage of width 4 with room for four children; refused where memory is.
+    /// Returns empty storage of capacity 4.
     pub(crate) fn new_4(alloc: Global) -> Result<Self, TreeError>
         ensures stored { IfOk result (λ s. stored s ≡ []) }
         ensures width { IfOk result (λ s. width_of s ≡ 4) }
         ensures error { IfErr result (λ e. e ≡ TreeError.Memory) }
     {
-        Ok(Storage::Four(boxed_sorted(alloc)?))
+        Ok(Storage::Node4(boxed_sorted(alloc)?))
     }
 
-    /// Storage of width 16, likewise.
+    /// Returns empty storage of capacity 16.
     pub(crate) fn new_16(alloc: Global) -> Result<Self, TreeError>
         ensures stored { IfOk result (λ s. stored s ≡ []) }
         ensures width { IfOk result (λ s. width_of s ≡ 16) }
         ensures error { IfErr result (λ e. e ≡ TreeError.Memory) }
     {
-        Ok(Storage::Sixteen(boxed_sorted(alloc)?))
+        Ok(Storage::Node16(boxed_sorted(alloc)?))
     }
 
-    /// Storage of width 48, likewise.
+    /// Returns empty storage of capacity 48.
     pub(crate) fn new_48(alloc: Global) -> Result<Self, TreeError>
         ensures stored { IfOk result (λ s. stored s ≡ []) }
         ensures width { IfOk result (λ s. width_of s ≡ 48) }
         ensures error { IfErr result (λ e. e ≡ TreeError.Memory) }
     {
-        Ok(Storage::FortyEight(boxed_indexed(alloc)?))
+        Ok(Storage::Node48(boxed_indexed(alloc)?))
     }
 
-    /// Storage of width 256, likewise.
+    /// Returns empty storage of capacity 256.
     pub(crate) fn new_256(alloc: Global) -> Result<Self, TreeError>
         ensures stored { IfOk result (λ s. stored s ≡ []) }
         ensures width { IfOk result (λ s. width_of s ≡ 256) }
         ensures error { IfErr result (λ e. e ≡ TreeError.Memory) }
     {
-        Ok(Storage::Full(boxed_direct(alloc)?))
+        Ok(Storage::Node256(boxed_direct(alloc)?))
     }
 
-    /// Whether another child fits, at byte `b`, where none stands.
+    /// Returns whether another child fits at byte `b`.
     fn has_room(&self, b: u8) -> bool
         requires { child_at b (stored self.now) ≡ None }
         ensures room { result ≡ true → length (stored self.now) < width_of self.now }
@@ -105,10 +105,10 @@ impl<N> Storage<N> {
         laws::free_byte::<N>();
         match self {
             Storage::Leaf => false,
-            Storage::Four(map) => map.num_children() < 4,
-            Storage::Sixteen(map) => map.num_children() < 16,
-            Storage::FortyEight(map) => map.num_children() < 48,
-            Storage::Full(map) => map.num_children() < 256,
+            Storage::Node4(map) => map.num_children() < 4,
+            Storage::Node16(map) => map.num_children() < 16,
+            Storage::Node48(map) => map.num_children() < 48,
+            Storage::Node256(map) => map.num_children() < 256,
         }
     }
 
@@ -118,24 +118,26 @@ impl<N> Storage<N> {
     {
         match self {
             Storage::Leaf => {}
-            Storage::Four(map) => Box::into_inner(map).destroy_empty(),
-            Storage::Sixteen(map) => Box::into_inner(map).destroy_empty(),
-            Storage::FortyEight(map) => Box::into_inner(map).destroy_empty(),
-            Storage::Full(map) => Box::into_inner(map).destroy_empty(),
+            Storage::Node4(map) => Box::into_inner(map).destroy_empty(),
+            Storage::Node16(map) => Box::into_inner(map).destroy_empty(),
+            Storage::Node48(map) => Box::into_inner(map).destroy_empty(),
+            Storage::Node256(map) => Box::into_inner(map).destroy_empty(),
         }
     }
 
-    /// Puts other storage in place of this one, which has no child and is freed.
-    pub(crate) fn succeed_empty(&mut self, next: Self)
+    /// Replaces this storage, which has no child, and frees it.
+    pub(crate) fn replace_empty(&mut self, next: Self)
         requires { stored self.old ≡ [] }
         ensures { self.new ≡ next }
     {
         mem::replace(self, next).destroy_empty();
     }
 
-    /// Makes room for a child at byte `b`, where none stands: a full storage becomes one of the next
-    /// width. Memory is asked for only where this one is full, and before the first write: refused,
-    /// all stands as it was.
+    /// Makes room for a child at byte `b`: a full storage is replaced by one of the next kind.
+    ///
+    /// # Errors
+    ///
+    /// [`TreeError::Memory`] if the storage is full and an allocation fails. The storage is then unchanged.
     pub(crate) fn make_room(&mut self, alloc: Global, b: u8) -> Result<(), TreeError>
         requires absent { child_at b (stored self.old) ≡ None }
         ensures stored { stored self.new ≡ stored self.old }
@@ -151,24 +153,24 @@ impl<N> Storage<N> {
         match self {
             Storage::Leaf => {
                 let next = boxed_sorted(alloc)?;
-                self.succeed_empty(Storage::Four(next));
+                self.replace_empty(Storage::Node4(next));
             }
-            Storage::Four(map) => {
+            Storage::Node4(map) => {
                 let mut next = boxed_sorted(alloc)?;
                 next.fill_from_resized(map);
-                self.succeed_empty(Storage::Sixteen(next));
+                self.replace_empty(Storage::Node16(next));
             }
-            Storage::Sixteen(map) => {
+            Storage::Node16(map) => {
                 let mut next = boxed_indexed(alloc)?;
                 next.fill_from_sorted_keyed(map);
-                self.succeed_empty(Storage::FortyEight(next));
+                self.replace_empty(Storage::Node48(next));
             }
-            Storage::FortyEight(map) => {
+            Storage::Node48(map) => {
                 let mut next = boxed_direct(alloc)?;
                 next.fill_from_indexed(map);
-                self.succeed_empty(Storage::Full(next));
+                self.replace_empty(Storage::Node256(next));
             }
-            Storage::Full(_) => unreachable!(),
+            Storage::Node256(_) => unreachable!(),
         }
         Ok(())
     }

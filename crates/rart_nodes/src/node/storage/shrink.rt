@@ -1,5 +1,6 @@
-//! Taking children out: where few are left, they move into the kind before.
-ghost use Rattle.std.specs.Prelude.{◌≡◌, ◌≢◌, ◌⊎◌, ◌<◌, ◌≤◌, ◌+◌, ◌∷◌, [], length, None, true, false, IfErr, IfOk, OnErr, OnOk};
+//! Removal from a storage: few remaining children move into the next smaller kind.
+ghost use Rattle.std.specs.Prelude.{◌≡◌, ◌≢◌, ◌⊎◌, ◌<◌, ◌≤◌, ◌+◌, ◌∷◌, [], length, None, true, false, IfErr, IfOk};
+ghost use Rattle.std.specs.Prelude.{OnErr, OnOk};
 ghost use Rattle.rart_parts.specs.Entries.{child_at, without_byte};
 ghost use Rattle.rart_nodes.specs.storages.Widths.{previous_width};
 ghost use Rattle.rart_nodes.specs.storages.Stored.{NarrowsStored, stored, width_of, width_without};
@@ -11,32 +12,32 @@ use rart_parts::mapping::NodeMapping;
 use std::alloc::Global;
 
 impl<N> Storage<N> {
-    /// One more than the kind before holds: with so many children a storage gives its kind up
-    /// together with a child.
+    /// Returns the capacity of the next smaller kind plus one, the number of children at which a removal changes the
+    /// kind.
     fn last_count(&self) -> usize
         ensures { result ≡ previous_width (width_of self.now) + 1 }
     {
         match self {
             Storage::Leaf => 1,
-            Storage::Four(_) => 1,
-            Storage::Sixteen(_) => 5,
-            Storage::FortyEight(_) => 17,
-            Storage::Full(_) => 49,
+            Storage::Node4(_) => 1,
+            Storage::Node16(_) => 5,
+            Storage::Node48(_) => 17,
+            Storage::Node256(_) => 49,
         }
     }
 
-    /// Whether the storage keeps its kind when the child at byte `b` is taken out.
+    /// Returns whether the storage keeps its kind when the child at byte `b` is removed.
     fn keeps_kind(&self, b: u8) -> bool
-        ensures keeps { result ≡ true → (child_at b (stored self.now) ≡ None) ⊎ (previous_width (width_of self.now) + 1 < length (stored self.now)) }
-        ensures gives_up { result ≡ false → (child_at b (stored self.now) ≢ None) × (length (stored self.now) ≤ previous_width (width_of self.now) + 1) }
+        ensures keeps { result ≡ true → (child_at b (stored self.now) ≡ None)
+            ⊎ (previous_width (width_of self.now) + 1 < length (stored self.now)) }
+        ensures gives_up { result ≡ false → (child_at b (stored self.now) ≢ None)
+            × (length (stored self.now) ≤ previous_width (width_of self.now) + 1) }
     {
         self.num_children() > self.last_count() || self.seek_child(b).is_none()
     }
 
-    /// Takes the child at byte `b` out, if one stands there: a storage whose rest fits the kind before
-    /// becomes one of that kind, and one of width 4 without a child gives its memory back. Memory is
-    /// asked for only where a width above 4 is given up, and before the first write: refused, all
-    /// stands as it was.
+    /// Removes the child at byte `b` and returns it. It allocates before the first write if the kind shrinks to one
+    /// with children; if that fails, the storage is unchanged.
     // Inline, as the call that it stands in is: a child that is handed on as a result is copied each time.
     #[inline(always)]
     pub(crate) fn delete_child(&mut self, alloc: Global, b: u8) -> Result<Option<N>, TreeError>
@@ -52,37 +53,37 @@ impl<N> Storage<N> {
         }
         match self {
             Storage::Leaf => Ok(None),
-            Storage::Four(map) => {
+            Storage::Node4(map) => {
                 let child = map.delete_child(b);
-                self.succeed_empty(Storage::Leaf);
+                self.replace_empty(Storage::Leaf);
                 Ok(child)
             }
-            Storage::Sixteen(map) => {
+            Storage::Node16(map) => {
                 let mut next = boxed_sorted(alloc)?;
                 let child = map.delete_child(b);
                 next.fill_from_resized(map);
-                self.succeed_empty(Storage::Four(next));
+                self.replace_empty(Storage::Node4(next));
                 Ok(child)
             }
-            Storage::FortyEight(map) => {
+            Storage::Node48(map) => {
                 let mut next = boxed_sorted(alloc)?;
                 let child = map.delete_child(b);
                 next.fill_from_indexed(map);
-                self.succeed_empty(Storage::Sixteen(next));
+                self.replace_empty(Storage::Node16(next));
                 Ok(child)
             }
-            Storage::Full(map) => {
+            Storage::Node256(map) => {
                 let mut next = boxed_indexed(alloc)?;
                 let child = map.delete_child(b);
                 next.fill_from_direct(map);
-                self.succeed_empty(Storage::FortyEight(next));
+                self.replace_empty(Storage::Node48(next));
                 Ok(child)
             }
         }
     }
 
-    /// Takes out the only child of storage of width 4, which is left empty.
-    pub(crate) fn take_lone(&mut self) -> (u8, N)
+    /// Removes the only child of storage of capacity 4 and returns it with its byte.
+    pub(crate) fn take_only_child(&mut self) -> (u8, N)
         requires width { width_of self.old ≡ 4 }
         requires lone { length (stored self.old) ≡ 1 }
         ensures taken { stored self.old ≡ result ∷ [] }
@@ -90,8 +91,8 @@ impl<N> Storage<N> {
         ensures width { width_of self.new ≡ 4 }
     {
         match self {
-            Storage::Four(map) => map.take_value_for_leaf(),
-            Storage::Leaf | Storage::Sixteen(_) | Storage::FortyEight(_) | Storage::Full(_) => {
+            Storage::Node4(map) => map.take_value_for_leaf(),
+            Storage::Leaf | Storage::Node16(_) | Storage::Node48(_) | Storage::Node256(_) => {
                 unreachable!()
             }
         }

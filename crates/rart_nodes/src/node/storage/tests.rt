@@ -1,4 +1,4 @@
-//! That a node's children stand in the map of their number, which no caller of the crate can see.
+//! Tests of the map that each number of children is stored in, which no caller of the crate can see.
 
 use crate::node::storage::Storage;
 use crate::node::{DefaultNode, Node};
@@ -37,10 +37,10 @@ fn seen_in<const W: usize>(map: &impl NodeMapping<TestNode, W>) -> (usize, usize
 fn seen_in_storage(node: &TestNode) -> (usize, usize, Option<u8>) {
     match &node.storage {
         Storage::Leaf => (0, 0, None),
-        Storage::Four(map) => seen_in(&**map),
-        Storage::Sixteen(map) => seen_in(&**map),
-        Storage::FortyEight(map) => seen_in(&**map),
-        Storage::Full(map) => seen_in(&**map),
+        Storage::Node4(map) => seen_in(&**map),
+        Storage::Node16(map) => seen_in(&**map),
+        Storage::Node48(map) => seen_in(&**map),
+        Storage::Node256(map) => seen_in(&**map),
     }
 }
 

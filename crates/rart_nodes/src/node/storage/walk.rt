@@ -1,5 +1,4 @@
-//! The walk over the children of a storage, in the order of their bytes in every kind. It is seen as
-//! the list of those still to come.
+//! An iterator over the children of a storage in byte order. A contract reads it as the list of remaining children.
 ghost use Rattle.std.specs.Prelude.{◌≡◌, []};
 ghost use Rattle.std.specs.Iterator.{YieldsFirstBy};
 ghost use Rattle.rart_parts.specs.Entries.{entries_above};
@@ -25,7 +24,7 @@ pub(crate) enum StorageIter<'a, N> {
 }
 
 impl<'a, N> StorageIter<'a, N> {
-    /// The next child with its byte. Takes no memory.
+    /// Returns the next child with its byte. It does not allocate.
     pub(crate) fn take_next(&mut self) -> Option<(u8, &'a N)>
         ensures { YieldsFirstBy (λ item. (item.0, item.1.now)) to_come self.old result self.new }
     {
@@ -39,29 +38,29 @@ impl<'a, N> StorageIter<'a, N> {
 }
 
 impl<N> Storage<N> {
-    /// The children with their bytes, ascending. Takes no memory.
+    /// Returns the children with their bytes, ascending. It does not allocate.
     pub(crate) fn iter(&self) -> StorageIter<'_, N>
         ensures { to_come result ≡ stored self.now }
     {
         match self {
             Storage::Leaf => StorageIter::Childless,
-            Storage::Four(map) => StorageIter::Sorted(map.iter()),
-            Storage::Sixteen(map) => StorageIter::Sorted(map.iter()),
-            Storage::FortyEight(map) => StorageIter::Indexed(map.iter()),
-            Storage::Full(map) => StorageIter::Direct(map.iter()),
+            Storage::Node4(map) => StorageIter::Sorted(map.iter()),
+            Storage::Node16(map) => StorageIter::Sorted(map.iter()),
+            Storage::Node48(map) => StorageIter::Indexed(map.iter()),
+            Storage::Node256(map) => StorageIter::Direct(map.iter()),
         }
     }
 
-    /// The children whose byte is above `byte`, ascending. Takes no memory.
+    /// Returns the children at the bytes above `byte`, ascending. It does not allocate.
     pub(crate) fn iter_above(&self, byte: u8) -> StorageIter<'_, N>
         ensures { to_come result ≡ entries_above byte (stored self.now) }
     {
         match self {
             Storage::Leaf => StorageIter::Childless,
-            Storage::Four(map) => StorageIter::Sorted(map.iter_above(byte)),
-            Storage::Sixteen(map) => StorageIter::Sorted(map.iter_above(byte)),
-            Storage::FortyEight(map) => StorageIter::Indexed(map.iter_above(byte)),
-            Storage::Full(map) => StorageIter::Direct(map.iter_above(byte)),
+            Storage::Node4(map) => StorageIter::Sorted(map.iter_above(byte)),
+            Storage::Node16(map) => StorageIter::Sorted(map.iter_above(byte)),
+            Storage::Node48(map) => StorageIter::Indexed(map.iter_above(byte)),
+            Storage::Node256(map) => StorageIter::Direct(map.iter_above(byte)),
         }
     }
 }

@@ -1,41 +1,45 @@
-//! The way down to the node at or below a prefix, and walks from there.
-ghost use Rattle.std.specs.Prelude.{◌≡◌, ◌≢◌, ◌≤◌, ◌+◌, ◌*◌, [], length, reverse, vec_capacity, MatchOption, IfOk, None, OnErr, Some, option_map};
+//! The descent to the node at or below a prefix, and walks from there.
+ghost use Rattle.std.specs.Prelude.{◌≡◌, ◌≢◌, ◌≤◌, ◌+◌, ◌*◌, [], length, reverse, vec_capacity, MatchOption, IfOk};
+ghost use Rattle.std.specs.Prelude.{None, OnErr, Some, option_map};
 ghost use Rattle.std.specs.Option.{option_copied};
 ghost use Rattle.rart_keys.specs.Filters.{below};
 ghost use Rattle.rart_keys.specs.SortedMap.{longest_key};
 ghost use Rattle.rart_nodes.specs.tries.Tree.{seen_keys, seen_pairs, tree_pairs};
 ghost use Rattle.rart_nodes.specs.tries.Trie.{pairs_of};
-ghost use Rattle.rart_nodes.specs.walks.Part.{EntersPart, part_stops, tree_part};
+ghost use Rattle.rart_nodes.specs.walks.Part.{EntersPart, part_entries, tree_part};
 ghost use Rattle.rart_nodes.specs.walks.ProbeCount.{probe_count, tree_entered};
-ghost use Rattle.rart_nodes.specs.walks.Tour.{IsTour, nodes_below, stops_ahead};
+ghost use Rattle.rart_nodes.specs.walks.Walk.{IsWalk, nodes_below, entries_ahead};
 
 use crate::count::Count;
-use crate::node::rest::rest_behind;
+use crate::node::path::Path;
+use crate::node::rest::strip_prefix;
 use crate::node::seen::{Entered, Seen, Shared};
-use crate::node::tour::{Tour, nowhere, start};
-use crate::node::trail::Trail;
+use crate::node::walk::{Walk, empty_walk, start};
 use rart_keys::{KeyTrait, Partial};
 use std::alloc::AllocError;
 
-/// Visits the node at or below `prefix`, if there is one; the trail is then that of the way to it, without its own prefix.
-fn enter_part<'a, P: Partial, V, C: Count, T: Trail<'a, P>>(
+/// Visits the node at or below `prefix`; the path is that of the path to it, without its own prefix.
+fn seek_prefix<'a, P: Partial, V, C: Count, T: Path<'a, P>>(
     top: Option<Shared<'a, P, V, C>>,
     prefix: &[u8],
-    trail: &mut T,
+    path: &mut T,
     counter: &mut C,
 ) -> Option<Entered<'a, P, V, C>>
-    requires room { length (T.kept trail.old) + longest_key (tree_pairs (option_map (λ s. s.node.now) top)) ≤ T.room trail.old }
-    ensures found { EntersPart T.grown (T.kept trail.old) prefix.now (option_map (λ s. s.node.now) top.entry) result (T.kept trail.new) }
-    ensures deep { MatchOption result (Unit {0}) (λ e. length (T.kept trail.new) + longest_key (pairs_of e.node.now)
-        ≤ length (T.kept trail.old) + longest_key (tree_pairs (option_map (λ s. s.node.now) top.entry))) }
-    ensures room { T.room trail.old ≤ T.room trail.new }
-    ensures visits { C.number counter.new ≡ C.number counter.old + tree_entered prefix.now (option_map (λ s. s.node.now) top.entry) }
+    requires room { length (T.kept path.old) + longest_key (tree_pairs (option_map (λ s. s.node.now) top))
+        ≤ T.room path.old }
+    ensures found { EntersPart T.grown (T.kept path.old) prefix.now (option_map (λ s. s.node.now) top.entry) result
+        (T.kept path.new) }
+    ensures deep { MatchOption result (Unit {0}) (λ e. length (T.kept path.new) + longest_key (pairs_of e.node.now)
+        ≤ length (T.kept path.old) + longest_key (tree_pairs (option_map (λ s. s.node.now) top.entry))) }
+    ensures room { T.room path.old ≤ T.room path.new }
+    ensures visits { C.number counter.new ≡ C.number counter.old
+        + tree_entered prefix.now (option_map (λ s. s.node.now) top.entry) }
 {
     let mut next = top;
     let mut rest = prefix;
     while let Some(node) = next {
         let at = node.enter(counter);
-        let Some(after) = rest_behind(at.prefix(), rest) else {
+        let Some(after) = strip_prefix(at.prefix(), rest) else {
             if at.prefix().starts_with(rest) {
                 return Some(at);
             }
@@ -44,7 +48,7 @@ fn enter_part<'a, P: Partial, V, C: Count, T: Trail<'a, P>>(
         let Some(byte) = after.first() else {
             return Some(at);
         };
-        trail.grow(at.prefix());
+        path.grow(at.prefix());
         next = at.child(*byte);
         rest = after;
     }
@@ -52,36 +56,41 @@ fn enter_part<'a, P: Partial, V, C: Count, T: Trail<'a, P>>(
 }
 
 impl<'a, K: KeyTrait, V, C: Count> Seen<'a, K, V, C> {
-    /// A walk over the pairs whose key begins with `prefix`, with its trail, for which it goes down along the prefix. All room is
-    /// taken here, before any node is visited, and none for an empty tree.
-    pub(crate) fn tour_below<T: Trail<'a, K::PartialType>>(
+    /// Returns a walk over the pairs whose key begins with `prefix`, with its path. It allocates before it visits a
+    /// node, and nothing for an empty tree.
+    pub(crate) fn walk_below<T: Path<'a, K::PartialType>>(
         self,
         prefix: &[u8],
         counter: &mut C,
-    ) -> Result<(Tour<'a, K::PartialType, V, C>, T), AllocError>
-        ensures path { IfOk result (λ w. IsTour w.0.longest (vec_capacity w.0.levels) (T.kept w.1) (reverse w.0.levels.items)) }
+    ) -> Result<(Walk<'a, K::PartialType, V, C>, T), AllocError>
+        ensures path { IfOk result (λ w. IsWalk w.0.longest (vec_capacity w.0.levels) (T.kept w.1)
+            (reverse w.0.levels.items)) }
         ensures room { IfOk result (λ w. w.0.longest ≤ T.room w.1) }
         ensures longest { IfOk result (λ w. w.0.longest ≤ self.entry.longest) }
-        ensures stops { IfOk result (λ w. stops_ahead T.grown (T.kept w.1) (option_copied w.0.first) w.0.levels.items
-            ≡ part_stops T.grown (tree_part T.grown [] prefix.now (option_copied self.entry.root))) }
+        ensures entries { IfOk result (λ w. entries_ahead T.grown (T.kept w.1) (option_copied w.0.first)
+            w.0.levels.items
+            ≡ part_entries T.grown (tree_part T.grown [] prefix.now (option_copied self.entry.root))) }
         ensures memory { OnErr result (seen_pairs self.entry.root ≢ []) }
-        ensures visits { IfOk result (λ _. C.number counter.new ≡ C.number counter.old + probe_count (seen_keys self.entry.root) prefix.now) }
+        ensures unread { OnErr result (counter.new ≡ counter.old) }
+        ensures visits { IfOk result (λ _. C.number counter.new
+            ≡ C.number counter.old + probe_count (seen_keys self.entry.root) prefix.now) }
         ensures bound { C.number counter.new ≤ C.number counter.old + length prefix.now + 1 }
-        ensures few { IfOk result (λ w. nodes_below (reverse w.0.levels.items) ≤ 2 * length (below prefix.now (seen_pairs self.entry.root))) }
+        ensures few { IfOk result (λ w. nodes_below (reverse w.0.levels.items)
+            ≤ 2 * length (below prefix.now (seen_pairs self.entry.root))) }
         ensures places { IfOk result (λ w. w.0.levels.items ≢ [] → vec_capacity w.0.levels ≡ self.entry.longest + 1) }
     {
         let alloc = self.alloc();
         let longest = self.longest();
         let Some(top) = self.top() else {
-            return Ok(nowhere(alloc));
+            return Ok(empty_walk(alloc));
         };
-        let mut trail = T::with_room(alloc, longest)?;
+        let mut path = T::with_room(alloc, longest)?;
         // no vector has room for `usize::MAX` levels, so that at such a length the request is refused
         let levels = Vec::with_capacity(alloc, longest.saturating_add(1))?;
-        let Some(at) = enter_part(Some(top), prefix, &mut trail, counter) else {
-            return Ok(nowhere(alloc));
+        let Some(at) = seek_prefix(Some(top), prefix, &mut path, counter) else {
+            return Ok(empty_walk(alloc));
         };
-        let tour = start(levels, longest, &mut trail, at);
-        Ok((tour, trail))
+        let walk = start(levels, longest, &mut path, at);
+        Ok((walk, path))
     }
 }

@@ -1,38 +1,38 @@
-//! Folds over the values below a prefix: the callback gets the answer of its last call with each value.
+//! Folds over the values below a prefix: each call of the callback gets the result of the previous one.
 ghost use Rattle.std.specs.Prelude.{◌≡◌, ◌≤◌, ◌+◌, ◌^◌, [], reverse, vec_capacity, IfErr, IfOk, OnErr, OnOk};
 ghost use Rattle.rart_nodes.specs.tries.Tree.{seen_pairs};
 ghost use Rattle.rart_nodes.specs.walks.BelowPrefix.{below_bound, below_visits, values_below};
 ghost use Rattle.rart_nodes.specs.walks.Shown.{CanFold, FoldedEach, FoldsEach};
-ghost use Rattle.rart_nodes.specs.walks.Tour.{IsTour, nodes_below};
-ghost use Rattle.rart_nodes.specs.walks.TrailParts.{values_ahead};
+ghost use Rattle.rart_nodes.specs.walks.Walk.{IsWalk, nodes_below};
+ghost use Rattle.rart_nodes.specs.walks.PathParts.{values_ahead};
 ghost use Rattle.rart_nodes.specs.walks.Calls.{MayLackRoom};
 
 use crate::count::{Count, Visits};
+use crate::node::path::NoPath;
 use crate::node::seen::Seen;
-use crate::node::tour::Tour;
-use crate::node::trail::NoTrail;
+use crate::node::walk::Walk;
 use rart_keys::{KeyTrait, Partial};
 use rart_parts::TreeError;
 
 fn fold_values<'a, P: Partial, V, C: Count, S, F: FnMut(S, &V) -> S>(
-    tour: &mut Tour<'a, P, V, C>,
+    walk: &mut Walk<'a, P, V, C>,
     counter: &mut C,
     init: S,
     f: &mut F,
 ) -> S
     requires callable { CanFold F.FnMut f.old init
-        (values_ahead tour.old.first tour.old.levels.items) }
-    requires path { IsTour tour.old.longest (vec_capacity tour.old.levels) []
-        (reverse tour.old.levels.items) }
-    requires room { tour.old.longest ≤ 2 ^ 64 }
+        (values_ahead walk.old.first walk.old.levels.items) }
+    requires path { IsWalk walk.old.longest (vec_capacity walk.old.levels) []
+        (reverse walk.old.levels.items) }
+    requires room { walk.old.longest ≤ 2 ^ 64 }
     ensures callable { F.IsAlwaysCallable f.old → F.IsAlwaysCallable f.new }
     ensures folds { FoldsEach F.FnMut f.old init
-        (values_ahead tour.old.first tour.old.levels.items) f.new result }
+        (values_ahead walk.old.first walk.old.levels.items) f.new result }
     ensures visits { C.number counter.new
-        ≤ C.number counter.old + nodes_below (reverse tour.old.levels.items) }
+        ≤ C.number counter.old + nodes_below (reverse walk.old.levels.items) }
 {
     let mut state = init;
-    while let Some(value) = tour.advance(&mut NoTrail, counter) {
+    while let Some(value) = walk.advance(&mut NoPath, counter) {
         state = f(state, value);
     }
     state
@@ -59,8 +59,8 @@ impl<'a, K: KeyTrait, V, C: Count> Seen<'a, K, V, C> {
         ensures bound { C.number counter.new
             ≤ C.number counter.old + below_bound prefix.now (seen_pairs self.entry.root) }
     {
-        let (mut tour, _trail) = self.tour_below::<NoTrail>(prefix, counter)?;
-        Ok(fold_values(&mut tour, counter, init, f))
+        let (mut walk, _path) = self.walk_below::<NoPath>(prefix, counter)?;
+        Ok(fold_values(&mut walk, counter, init, f))
     }
 
     /// Calls `f` with the value of each pair whose key begins with `prefix`, in order. The first call gets `init`,

@@ -7,41 +7,41 @@ ghost use Rattle.rart_nodes.specs.tries.Tree.{seen_keys, seen_pairs};
 ghost use Rattle.rart_nodes.specs.walks.BelowPrefix.{below_bound, below_visits, cut_below};
 ghost use Rattle.rart_nodes.specs.walks.Cut.{cut_pairs};
 ghost use Rattle.rart_nodes.specs.walks.ProbeCount.{probe_count};
-ghost use Rattle.rart_nodes.specs.walks.Tour.{IsTour, nodes_below};
-ghost use Rattle.rart_nodes.specs.walks.TrailParts.{lent_pieces};
-ghost use Rattle.rart_nodes.specs.walks.ViewPieces.{AreViews, views_ahead};
+ghost use Rattle.rart_nodes.specs.walks.Walk.{IsWalk, nodes_below};
+ghost use Rattle.rart_nodes.specs.walks.PathParts.{lent_segments};
+ghost use Rattle.rart_nodes.specs.walks.ViewSegments.{AreViews, views_ahead};
 ghost use Rattle.rart_nodes.specs.walks.Viewed.{CanView, ViewedEach, ViewsEach};
 ghost use Rattle.rart_nodes.specs.walks.Calls.{MayLackRoom};
 
 use crate::count::Count;
+use crate::node::path::SegmentPath;
 use crate::node::seen::Seen;
-use crate::node::tour::Tour;
-use crate::node::trail::SegmentTrail;
 use crate::node::view::LendingKeyView;
+use crate::node::walk::Walk;
 use rart_keys::{KeyTrait, Partial};
 use rart_parts::TreeError;
 
-fn feed_views<'a, P: Partial, V, C: Count, F: FnMut(LendingKeyView<'_, '_>, &V)>(
-    tour: &mut Tour<'a, P, V, C>,
-    trail: &mut SegmentTrail<'a>,
+fn for_each_view_of<'a, P: Partial, V, C: Count, F: FnMut(LendingKeyView<'_, '_>, &V)>(
+    walk: &mut Walk<'a, P, V, C>,
+    path: &mut SegmentPath<'a>,
     counter: &mut C,
     f: &mut F,
 )
     requires callable { CanView F.FnMut f.old
-        (views_ahead trail.old.segments.items tour.old.first tour.old.levels.items) }
-    requires path { IsTour tour.old.longest (vec_capacity tour.old.levels)
-        (lent_pieces trail.old.segments.items) (reverse tour.old.levels.items) }
-    requires room { tour.old.longest ≤ vec_capacity trail.old.segments }
+        (views_ahead path.old.segments.items walk.old.first walk.old.levels.items) }
+    requires path { IsWalk walk.old.longest (vec_capacity walk.old.levels)
+        (lent_segments path.old.segments.items) (reverse walk.old.levels.items) }
+    requires room { walk.old.longest ≤ vec_capacity path.old.segments }
     requires views { AreViews
-        (views_ahead trail.old.segments.items tour.old.first tour.old.levels.items) }
+        (views_ahead path.old.segments.items walk.old.first walk.old.levels.items) }
     ensures callable { F.IsAlwaysCallable f.old → F.IsAlwaysCallable f.new }
     ensures folds { ViewsEach F.FnMut f.old
-        (views_ahead trail.old.segments.items tour.old.first tour.old.levels.items) f.new }
+        (views_ahead path.old.segments.items walk.old.first walk.old.levels.items) f.new }
     ensures visits { C.number counter.new
-        ≤ C.number counter.old + nodes_below (reverse tour.old.levels.items) }
+        ≤ C.number counter.old + nodes_below (reverse walk.old.levels.items) }
 {
-    while let Some(value) = tour.advance(trail, counter) {
-        f(LendingKeyView::of(trail.segments()), value);
+    while let Some(value) = walk.advance(path, counter) {
+        f(LendingKeyView::of(path.segments()), value);
     }
 }
 
@@ -64,8 +64,8 @@ impl<'a, K: KeyTrait, V, C: Count> Seen<'a, K, V, C> {
         ensures bound { C.number counter.new
             ≤ C.number counter.old + below_bound prefix.now (seen_pairs self.entry.root) }
     {
-        let (mut tour, mut trail) = self.tour_below::<SegmentTrail<'a>>(prefix, counter)?;
-        feed_views(&mut tour, &mut trail, counter, f);
+        let (mut walk, mut path) = self.walk_below::<SegmentPath<'a>>(prefix, counter)?;
+        for_each_view_of(&mut walk, &mut path, counter, f);
         Ok(())
     }
 
@@ -101,6 +101,14 @@ impl<'a, K: KeyTrait, V, C: Count> Seen<'a, K, V, C> {
     }
 
     /// Calls `f` as `prefix_for_each_view_by_ref_k_counted` does, and drops it.
+    ///
+    /// # Errors
+    ///
+    /// [`TreeError::Memory`] as there.
+    ///
+    /// # Visits
+    ///
+    /// As there.
     pub fn prefix_for_each_view_k_counted<F: FnMut(LendingKeyView<'_, '_>, &V) + Drop>(
         self,
         prefix: &K,
@@ -151,6 +159,14 @@ impl<'a, K: KeyTrait, V, C: Count> Seen<'a, K, V, C> {
     }
 
     /// Calls `f` as `for_each_view_by_ref_counted` does, and drops it.
+    ///
+    /// # Errors
+    ///
+    /// [`TreeError::Memory`] as there.
+    ///
+    /// # Visits
+    ///
+    /// As there.
     pub fn for_each_view_counted<F: FnMut(LendingKeyView<'_, '_>, &V) + Drop>(
         self,
         mut f: F,

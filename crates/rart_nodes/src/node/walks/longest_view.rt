@@ -3,29 +3,29 @@ ghost use Rattle.std.specs.Prelude.{◌≡◌, ◌≤◌, ◌+◌, ◌*◌, [], 
 ghost use Rattle.rart_keys.specs.Filters.{longest_match};
 ghost use Rattle.rart_nodes.specs.tries.Tree.{seen_keys, seen_pairs};
 ghost use Rattle.rart_nodes.specs.walks.BelowPrefix.{MayLackMatch, match_visits};
-ghost use Rattle.rart_nodes.specs.walks.TrailParts.{lent_pieces};
-ghost use Rattle.rart_nodes.specs.walks.ViewPieces.{AreViews};
+ghost use Rattle.rart_nodes.specs.walks.PathParts.{lent_segments};
+ghost use Rattle.rart_nodes.specs.walks.ViewSegments.{AreViews};
 ghost use Rattle.rart_nodes.specs.walks.Viewed.{CanSeeFound, CanShowFound, IsCutOf, SeesFound, ShowsFound};
 
 use crate::count::{Count, Visits};
 use crate::node::matching::beginning;
+use crate::node::path::SegmentPath;
 use crate::node::seen::Seen;
-use crate::node::trail::SegmentTrail;
 use crate::node::view::LendingKeyView;
 use rart_keys::KeyTrait;
 use rart_parts::TreeError;
 
 impl<'a, K: KeyTrait, V, C: Count> Seen<'a, K, V, C> {
-    /// The segments of the longest key that begins `probe`, and its value. Allocates only where there is such a key.
-    fn longest_trail(
+    /// Returns the segments and the value of the longest key that begins `probe`. It allocates only if there is one.
+    fn longest_path(
         self,
         probe: &[u8],
         counter: &mut C,
-    ) -> Result<Option<(SegmentTrail<'a>, &'a V)>, TreeError>
+    ) -> Result<Option<(SegmentPath<'a>, &'a V)>, TreeError>
         ensures found { IfOk result (IsCutOf (seen_keys self.entry.root)
             (longest_match probe.now (seen_pairs self.entry.root))) }
         ensures views { IfOk result (λ r. IfSome r
-            (λ p. AreViews ((lent_pieces p.0.segments.items, p.1.now) ∷ []))) }
+            (λ p. AreViews ((lent_segments p.0.segments.items, p.1.now) ∷ []))) }
         ensures memory { IfErr result (MayLackMatch probe.now (seen_pairs self.entry.root)) }
         ensures visits { OnOk result (C.number counter.new
             ≤ C.number counter.old + match_visits probe.now (seen_pairs self.entry.root)) }
@@ -35,11 +35,11 @@ impl<'a, K: KeyTrait, V, C: Count> Seen<'a, K, V, C> {
             return Ok(None);
         };
         let key = beginning(probe, depth);
-        let (mut tour, mut trail) = self.tour_below::<SegmentTrail<'a>>(key, counter)?;
-        let Some(value) = tour.advance(&mut trail, counter) else {
+        let (mut walk, mut path) = self.walk_below::<SegmentPath<'a>>(key, counter)?;
+        let Some(value) = walk.advance(&mut path, counter) else {
             unreachable!()
         };
-        Ok(Some((trail, value)))
+        Ok(Some((path, value)))
     }
 
     fn with_longest_view<F: FnOnce(LendingKeyView<'_, '_>, &V) + Drop>(
@@ -57,10 +57,10 @@ impl<'a, K: KeyTrait, V, C: Count> Seen<'a, K, V, C> {
             ≤ C.number counter.old + match_visits probe.now (seen_pairs self.entry.root)) }
         ensures bound { C.number counter.new ≤ C.number counter.old + 3 * length probe.now + 2 }
     {
-        let Some((trail, value)) = self.longest_trail(probe, counter)? else {
+        let Some((path, value)) = self.longest_path(probe, counter)? else {
             return Ok(false);
         };
-        f(LendingKeyView::of(trail.segments()), value);
+        f(LendingKeyView::of(path.segments()), value);
         Ok(true)
     }
 
@@ -81,10 +81,10 @@ impl<'a, K: KeyTrait, V, C: Count> Seen<'a, K, V, C> {
             ≤ C.number counter.old + match_visits probe.now (seen_pairs self.entry.root)) }
         ensures bound { C.number counter.new ≤ C.number counter.old + 3 * length probe.now + 2 }
     {
-        let Some((trail, value)) = self.longest_trail(probe, counter)? else {
+        let Some((path, value)) = self.longest_path(probe, counter)? else {
             return Ok(false);
         };
-        f(LendingKeyView::of(trail.segments()), value);
+        f(LendingKeyView::of(path.segments()), value);
         Ok(true)
     }
 

@@ -1,4 +1,4 @@
-//! Look-ups of a shared tree, with their visits counted.
+//! Look-ups in a shared tree with counted visits.
 ghost use Rattle.std.specs.Prelude.{◌≡◌, ◌≤◌, ◌+◌, length};
 ghost use Rattle.std.specs.Option.{option_copied};
 ghost use Rattle.rart_keys.specs.SortedMap.{lookup};
@@ -6,20 +6,21 @@ ghost use Rattle.rart_nodes.specs.walks.ProbeCount.{probe_count, tree_entered};
 ghost use Rattle.rart_nodes.specs.tries.Tree.{seen_keys, seen_pairs, tree_lookup};
 
 use crate::count::Count;
-use crate::node::rest::rest_behind;
+use crate::node::rest::strip_prefix;
 use crate::node::seen::Seen;
 use rart_keys::KeyTrait;
 
 impl<'a, K: KeyTrait, V, C: Count> Seen<'a, K, V, C> {
     fn descend(self, key: &[u8], counter: &mut C) -> Option<&'a V>
         ensures value { option_copied result ≡ tree_lookup key.now (option_copied self.entry.root) }
-        ensures visits { C.number counter.new ≡ C.number counter.old + tree_entered key.now (option_copied self.entry.root) }
+        ensures visits { C.number counter.new ≡ C.number counter.old
+            + tree_entered key.now (option_copied self.entry.root) }
     {
         let mut next = self.top();
         let mut rest = key;
         while let Some(node) = next {
             let at = node.enter(counter);
-            let Some(after) = rest_behind(at.prefix(), rest) else {
+            let Some(after) = strip_prefix(at.prefix(), rest) else {
                 return None;
             };
             let Some(byte) = after.first() else {
@@ -31,7 +32,11 @@ impl<'a, K: KeyTrait, V, C: Count> Seen<'a, K, V, C> {
         None
     }
 
-    /// The value at the bytes `key`, which may be longer than any key.
+    /// Returns the value at the bytes `key`, which may be longer than any key.
+    ///
+    /// # Visits
+    ///
+    /// At most `key.len() + 1` nodes.
     pub fn get_bytes_counted(self, key: &[u8], counter: &mut C) -> Option<&'a V>
         ensures value { option_copied result ≡ lookup key.now (seen_pairs self.entry.root) }
         ensures visits { C.number counter.new ≡ C.number counter.old + probe_count (seen_keys self.entry.root) key.now }
@@ -40,10 +45,15 @@ impl<'a, K: KeyTrait, V, C: Count> Seen<'a, K, V, C> {
         self.descend(key, counter)
     }
 
-    /// The value at a key.
+    /// Returns the value at a key.
+    ///
+    /// # Visits
+    ///
+    /// At most `key.len() + 1` nodes.
     pub fn get_k_counted(self, key: &K, counter: &mut C) -> Option<&'a V>
         ensures value { option_copied result ≡ lookup (K.bytes key.now) (seen_pairs self.entry.root) }
-        ensures visits { C.number counter.new ≡ C.number counter.old + probe_count (seen_keys self.entry.root) (K.bytes key.now) }
+        ensures visits { C.number counter.new ≡ C.number counter.old + probe_count (seen_keys self.entry.root)
+            (K.bytes key.now) }
         ensures bound { C.number counter.new ≤ C.number counter.old + length (K.bytes key.now) + 1 }
     {
         self.get_bytes_counted(key.as_ref(), counter)

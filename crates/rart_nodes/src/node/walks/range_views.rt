@@ -1,32 +1,32 @@
 //! Walks between two bounds that call a callback with each key lent in segments.
 //!
-//! They go straight to the start as `range` does, and end at the first key past the end. The end is compared with the
-//! segments, one by one, so that no byte of a key is copied.
+//! They descend to the start as `range` does, and end at the first key past the end. The end is compared segment by
+//! segment, so no byte of a key is copied.
 ghost use Rattle.std.specs.Prelude.{◌≡◌, ◌≤◌, ◌+◌, ◌*◌, ℕ, [], length, reverse, vec_capacity, IfErr, OnErr, OnOk};
 ghost use Rattle.rart_keys.specs.Ranges.{bound_in, is_to};
-ghost use Rattle.rart_nodes.specs.ranges.Dues.{AreLow};
+ghost use Rattle.rart_nodes.specs.ranges.Potential.{AreLow};
 ghost use Rattle.rart_nodes.specs.ranges.Spans.{cut_between, span_bound, span_visits};
-ghost use Rattle.rart_nodes.specs.ranges.Starts.{stops_to};
+ghost use Rattle.rart_nodes.specs.ranges.Starts.{entries_to};
 ghost use Rattle.rart_nodes.specs.tries.Tree.{seen_pairs};
-ghost use Rattle.rart_nodes.specs.walks.Tour.{IsTour, joined};
-ghost use Rattle.rart_nodes.specs.walks.TrailParts.{lent_pieces};
-ghost use Rattle.rart_nodes.specs.walks.ViewPieces.{AreViews, views_ahead};
+ghost use Rattle.rart_nodes.specs.walks.Walk.{IsWalk, joined};
+ghost use Rattle.rart_nodes.specs.walks.PathParts.{lent_segments};
+ghost use Rattle.rart_nodes.specs.walks.ViewSegments.{AreViews, views_ahead};
 ghost use Rattle.rart_nodes.specs.walks.Viewed.{CanView, ViewedEach, ViewsEach};
 ghost use Rattle.rart_nodes.specs.walks.Calls.{MayLackRoom};
 
 use crate::count::Count;
+use crate::node::path::SegmentPath;
 use crate::node::range::{bytes_of, is_before};
 use crate::node::seen::Seen;
-use crate::node::tour::Tour;
-use crate::node::trail::SegmentTrail;
 use crate::node::view::LendingKeyView;
+use crate::node::walk::Walk;
 use rart_keys::KeyTrait;
 use rart_parts::TreeError;
 use std::ops::Bound;
 
-/// Whether a lent key is within an end.
+/// Returns whether a lent key is within an end.
 fn is_within<K: KeyTrait>(view: LendingKeyView<'_, '_>, end: &Bound<K>) -> bool
-    ensures { result ≡ is_to (bound_in K.bytes end.now) (joined (lent_pieces view.entry.segments.now)) }
+    ensures { result ≡ is_to (bound_in K.bytes end.now) (joined (lent_segments view.entry.segments.now)) }
 {
     match end {
         Bound::Included(end) => is_before(view.cmp_slice(end.as_ref()), true),
@@ -35,29 +35,29 @@ fn is_within<K: KeyTrait>(view: LendingKeyView<'_, '_>, end: &Bound<K>) -> bool
     }
 }
 
-fn feed_views_to<'a, K: KeyTrait, V, C: Count, F: FnMut(LendingKeyView<'_, '_>, &V)>(
-    tour: &mut Tour<'a, K::PartialType, V, C>,
-    trail: &mut SegmentTrail<'a>,
+fn for_each_view_to<'a, K: KeyTrait, V, C: Count, F: FnMut(LendingKeyView<'_, '_>, &V)>(
+    walk: &mut Walk<'a, K::PartialType, V, C>,
+    path: &mut SegmentPath<'a>,
     end: &Bound<K>,
     counter: &mut C,
     f: &mut F,
 )
-    requires callable { CanView F.FnMut f.old (stops_to (bound_in K.bytes end.now)
-        (views_ahead trail.old.segments.items tour.old.first tour.old.levels.items)) }
-    requires path { IsTour tour.old.longest (vec_capacity tour.old.levels)
-        (lent_pieces trail.old.segments.items) (reverse tour.old.levels.items) }
-    requires room { tour.old.longest ≤ vec_capacity trail.old.segments }
+    requires callable { CanView F.FnMut f.old (entries_to (bound_in K.bytes end.now)
+        (views_ahead path.old.segments.items walk.old.first walk.old.levels.items)) }
+    requires path { IsWalk walk.old.longest (vec_capacity walk.old.levels)
+        (lent_segments path.old.segments.items) (reverse walk.old.levels.items) }
+    requires room { walk.old.longest ≤ vec_capacity path.old.segments }
     requires views { AreViews
-        (views_ahead trail.old.segments.items tour.old.first tour.old.levels.items) }
+        (views_ahead path.old.segments.items walk.old.first walk.old.levels.items) }
     ensures callable { F.IsAlwaysCallable f.old → F.IsAlwaysCallable f.new }
-    ensures folds { ViewsEach F.FnMut f.old (stops_to (bound_in K.bytes end.now)
-        (views_ahead trail.old.segments.items tour.old.first tour.old.levels.items)) f.new }
-    ensures visits { (h : ℕ) → AreLow h (reverse tour.old.levels.items) →
-        C.number counter.new ≤ C.number counter.old + 2 * length (stops_to (bound_in K.bytes end.now)
-        (views_ahead trail.old.segments.items tour.old.first tour.old.levels.items)) + h }
+    ensures folds { ViewsEach F.FnMut f.old (entries_to (bound_in K.bytes end.now)
+        (views_ahead path.old.segments.items walk.old.first walk.old.levels.items)) f.new }
+    ensures visits { (h : ℕ) → AreLow h (reverse walk.old.levels.items) →
+        C.number counter.new ≤ C.number counter.old + 2 * length (entries_to (bound_in K.bytes end.now)
+        (views_ahead path.old.segments.items walk.old.first walk.old.levels.items)) + h }
 {
-    while let Some(value) = tour.advance(trail, counter) {
-        let view = LendingKeyView::of(trail.segments());
+    while let Some(value) = walk.advance(path, counter) {
+        let view = LendingKeyView::of(path.segments());
         if !is_within(view, end) {
             return;
         }
@@ -98,12 +98,20 @@ impl<'a, K: KeyTrait + Drop, V, C: Count> Seen<'a, K, V, C> {
         ensures none { seen_pairs self.entry.root ≡ [] → C.number counter.new ≤ C.number counter.old }
     {
         let (bytes, included) = bytes_of(&start);
-        let (mut tour, mut trail) = self.tour_from::<SegmentTrail<'a>>(bytes, included, counter)?;
-        feed_views_to(&mut tour, &mut trail, &end, counter, f);
+        let (mut walk, mut path) = self.walk_from::<SegmentPath<'a>>(bytes, included, counter)?;
+        for_each_view_to(&mut walk, &mut path, &end, counter, f);
         Ok(())
     }
 
     /// Calls `f` as `for_each_range_view_by_ref_counted` does, and drops it.
+    ///
+    /// # Errors
+    ///
+    /// [`TreeError::Memory`] as there.
+    ///
+    /// # Visits
+    ///
+    /// As there.
     pub fn for_each_range_view_counted<F: FnMut(LendingKeyView<'_, '_>, &V) + Drop>(
         self,
         start: Bound<K>,

@@ -6,32 +6,32 @@ ghost use Rattle.std.specs.Prelude.{◌≡◌, ◌≤◌, ◌+◌, ◌^◌, [], 
 ghost use Rattle.rart_nodes.specs.tries.Tree.{seen_pairs};
 ghost use Rattle.rart_nodes.specs.walks.BelowPrefix.{below_bound, below_visits, values_below};
 ghost use Rattle.rart_nodes.specs.walks.Shown.{CanShow, ShowedEach, ShowsEach};
-ghost use Rattle.rart_nodes.specs.walks.Tour.{IsTour, nodes_below};
-ghost use Rattle.rart_nodes.specs.walks.TrailParts.{values_ahead};
+ghost use Rattle.rart_nodes.specs.walks.Walk.{IsWalk, nodes_below};
+ghost use Rattle.rart_nodes.specs.walks.PathParts.{values_ahead};
 ghost use Rattle.rart_nodes.specs.walks.Calls.{MayLackRoom};
 
 use crate::count::{Count, Visits};
+use crate::node::path::NoPath;
 use crate::node::seen::Seen;
-use crate::node::tour::Tour;
-use crate::node::trail::NoTrail;
+use crate::node::walk::Walk;
 use rart_keys::{KeyTrait, Partial};
 use rart_parts::TreeError;
 
-fn feed_values<'a, P: Partial, V, C: Count, F: FnMut(&V)>(
-    tour: &mut Tour<'a, P, V, C>,
+fn for_each_value<'a, P: Partial, V, C: Count, F: FnMut(&V)>(
+    walk: &mut Walk<'a, P, V, C>,
     counter: &mut C,
     f: &mut F,
 )
-    requires callable { CanShow F.FnMut f.old (values_ahead tour.old.first tour.old.levels.items) }
-    requires path { IsTour tour.old.longest (vec_capacity tour.old.levels) []
-        (reverse tour.old.levels.items) }
-    requires room { tour.old.longest ≤ 2 ^ 64 }
+    requires callable { CanShow F.FnMut f.old (values_ahead walk.old.first walk.old.levels.items) }
+    requires path { IsWalk walk.old.longest (vec_capacity walk.old.levels) []
+        (reverse walk.old.levels.items) }
+    requires room { walk.old.longest ≤ 2 ^ 64 }
     ensures callable { F.IsAlwaysCallable f.old → F.IsAlwaysCallable f.new }
-    ensures folds { ShowsEach F.FnMut f.old (values_ahead tour.old.first tour.old.levels.items) f.new }
+    ensures folds { ShowsEach F.FnMut f.old (values_ahead walk.old.first walk.old.levels.items) f.new }
     ensures visits { C.number counter.new
-        ≤ C.number counter.old + nodes_below (reverse tour.old.levels.items) }
+        ≤ C.number counter.old + nodes_below (reverse walk.old.levels.items) }
 {
-    while let Some(value) = tour.advance(&mut NoTrail, counter) {
+    while let Some(value) = walk.advance(&mut NoPath, counter) {
         f(value);
     }
 }
@@ -55,8 +55,8 @@ impl<'a, K: KeyTrait, V, C: Count> Seen<'a, K, V, C> {
         ensures bound { C.number counter.new
             ≤ C.number counter.old + below_bound prefix.now (seen_pairs self.entry.root) }
     {
-        let (mut tour, _trail) = self.tour_below::<NoTrail>(prefix, counter)?;
-        feed_values(&mut tour, counter, f);
+        let (mut walk, _path) = self.walk_below::<NoPath>(prefix, counter)?;
+        for_each_value(&mut walk, counter, f);
         Ok(())
     }
 

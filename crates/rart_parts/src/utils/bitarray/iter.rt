@@ -1,4 +1,4 @@
-//! Walks over the used places of an array, ascending, from both ends.
+//! Double-ended iterators over the used slots of an array.
 ghost use Rattle.std.specs.Prelude.{◌≡◌, map};
 ghost use Rattle.std.specs.Iterator.{YieldsFirst, YieldsLast, YieldsFirstBy, YieldsLastBy, item_count};
 ghost use Rattle.rart_parts.specs.Places.{numbered};
@@ -8,7 +8,7 @@ use crate::utils::bitset::BitsetTrait;
 use std::iter::FusedIterator;
 use std::marker::Model;
 
-/// The used places and their values, seen as the list of those that are still to come.
+/// Iterates over the used slots as pairs of position and value. A contract reads it as the list of remaining items.
 #[derive(Drop)]
 pub struct BitArrayIter<'a, X> {
     places: &'a [Option<X>],
@@ -66,7 +66,7 @@ impl<'a, X> DoubleEndedIterator for BitArrayIter<'a, X> {
 
 impl<'a, X> FusedIterator for BitArrayIter<'a, X> {}
 
-/// The used places, seen as the list of those that are still to come.
+/// Iterates over the positions of the used slots. A contract reads it as the list of remaining items.
 #[derive(Drop)]
 pub struct BitArrayKeys<'a, X> {
     entries: BitArrayIter<'a, X>,
@@ -112,7 +112,7 @@ impl<'a, X> DoubleEndedIterator for BitArrayKeys<'a, X> {
 impl<'a, X> FusedIterator for BitArrayKeys<'a, X> {}
 
 impl<X, const RANGE_WIDTH: usize, B: BitsetTrait> BitArray<X, RANGE_WIDTH, B> {
-    /// The used places with their values, ascending.
+    /// Returns the used positions with their values, ascending.
     pub fn iter(&self) -> BitArrayIter<'_, X>
         ensures { result ≡ numbered 0 self.now }
     {
@@ -122,7 +122,7 @@ impl<X, const RANGE_WIDTH: usize, B: BitsetTrait> BitArray<X, RANGE_WIDTH, B> {
         }
     }
 
-    /// The used places, ascending.
+    /// Returns the used positions, ascending.
     pub fn iter_keys(&self) -> BitArrayKeys<'_, X>
         ensures { result ≡ map (λ e. e.0) (numbered 0 self.now) }
     {

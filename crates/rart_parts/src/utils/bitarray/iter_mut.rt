@@ -1,4 +1,4 @@
-//! A walk over the used places of an array whose values may be changed on the way.
+//! A double-ended iterator over the used slots of an array that lends the values mutably.
 ghost use Rattle.std.specs.Prelude.{◌≡◌};
 ghost use Rattle.std.specs.Iterator.{YieldsFirstBy, YieldsLastBy, item_count};
 ghost use Rattle.rart_parts.specs.Places.{numbered};
@@ -9,8 +9,8 @@ use std::iter::FusedIterator;
 use std::marker::Model;
 use std::slice;
 
-/// The used places and their values, to be changed, seen as the list of those that are still to come. It takes no
-/// memory.
+/// Iterates over the used slots as pairs of position and mutable value. A contract reads it as the list of remaining
+/// items.
 #[derive(Drop)]
 pub struct BitArrayIterMut<'a, X> {
     places: slice::IterMut<'a, Option<X>>,
@@ -68,7 +68,7 @@ impl<'a, X> DoubleEndedIterator for BitArrayIterMut<'a, X> {
 impl<'a, X> FusedIterator for BitArrayIterMut<'a, X> {}
 
 impl<X, const RANGE_WIDTH: usize, B: BitsetTrait> BitArray<X, RANGE_WIDTH, B> {
-    /// The used places with their values, to be changed, ascending, from both ends. It takes no memory.
+    /// Returns the used positions with mutable borrows of their values, ascending. It does not allocate.
     pub fn iter_mut(&mut self) -> BitArrayIterMut<'_, X>
         ensures { result ≡ numbered 0 self.old }
     {

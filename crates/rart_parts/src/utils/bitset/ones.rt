@@ -1,4 +1,4 @@
-//! The positions of a set, ascending.
+//! An iterator over the positions of a set.
 ghost use Rattle.std.specs.Prelude.{◌≡◌, ℕ, ◌<◌, ◌*◌, ◌^◌};
 ghost use Rattle.std.specs.Iterator.{YieldsFirst, item_count};
 ghost use Rattle.rart_parts.specs.Bits.{members, positions_above, words_have};
@@ -7,7 +7,7 @@ use crate::utils::bitset::{Bitset, BitsetTrait, BitsetWord};
 use std::iter::FusedIterator;
 use std::marker::Model;
 
-/// The positions of a set, ascending, seen as the list of those that are still to come.
+/// Iterates over the positions of a set, ascending. A contract reads it as the list of remaining positions.
 #[derive(Drop)]
 pub struct BitsetOnesIter<W: BitsetWord, const S: usize> {
     rest: Bitset<W, S>,
@@ -28,7 +28,7 @@ impl<W: BitsetWord, const S: usize> Model for BitsetOnesIter<W, S> {
 }
 
 impl<W: BitsetWord, const S: usize> Bitset<W, S> {
-    /// The positions of the set, ascending. It goes over a copy of the words and takes no memory.
+    /// Returns the positions of the set, ascending. It iterates over a copy of the words and does not allocate.
     pub fn iter(&self) -> BitsetOnesIter<W, S>
         requires { S * W.WIDTH < 2 ^ 64 }
         ensures { result ≡ members (words_have W.WIDTH W.number self.now.words) (S * W.WIDTH) }
@@ -40,7 +40,7 @@ impl<W: BitsetWord, const S: usize> Bitset<W, S> {
 }
 
 impl<W: BitsetWord, const S: usize> BitsetOnesIter<W, S> {
-    /// Passes over the positions up to `position`, which is among them.
+    /// Skips the positions up to and including `position`.
     pub(crate) fn pass(&mut self, position: usize)
         ensures { self.new ≡ positions_above position self.old }
     {

@@ -1,18 +1,18 @@
-//! A set of positions in a row of words: position i is bit `i mod width` of word `i div width`.
+//! A set of positions in an array of words: position `i` is bit `i % WIDTH` of word `i / WIDTH`.
 ghost use Rattle.std.specs.Prelude.{◌≡◌, ℕ, ◌<◌, ◌*◌, ◌^◌, false, refl};
 ghost use Rattle.rart_parts.specs.Bits.{words_have};
 
 use crate::utils::bitset::{BitsetOnesIter, BitsetTrait, BitsetWord};
 use std::alloc::AllocError;
 
-/// A set of positions below S times the bits of a word, in S words. It takes no memory.
+/// Holds positions below `S * W::WIDTH` in `S` inline words.
 #[derive(Drop)]
 pub struct Bitset<W: BitsetWord, const S: usize> {
     pub(crate) words: [W; S],
 }
 
 impl<W: BitsetWord, const S: usize> Bitset<W, S> {
-    /// The empty set.
+    /// Returns the empty set.
     pub fn new() -> Self
         ensures { (k : ℕ) → k < S * W.WIDTH → words_have W.WIDTH W.number result.words k ≡ false }
     {

@@ -1,9 +1,9 @@
-//! Words of bits: the unsigned numbers of at most 64 bits, each seen as a number.
+//! Words of bits: the unsigned integers of 8 to 64 bits, which contracts read as numbers.
 ghost use Rattle.std.specs.Prelude.{◌≡◌, ℕ, ◌<◌, ◌≤◌, ◌^◌, ◌||◌, ◌&&◌, not, eqb, refl, length};
 ghost use Rattle.std.proofs.Common.{arith};
 ghost use Rattle.rart_parts.specs.Bits.{has_bit, IsFirst, IsLast, members};
 
-/// A word whose bits are read and written one at a time, the lowest at position 0.
+/// Reads and writes single bits of a word. Position 0 is the lowest bit.
 pub trait BitsetWord: Copy {
     ghost SHIFT: { ℕ };
 
@@ -11,23 +11,23 @@ pub trait BitsetWord: Copy {
 
     ghost number: { Self → ℕ };
 
-    /// Two to this power is the number of bits.
+    /// Is the base-two logarithm of the number of bits.
     const SHIFT: usize;
 
-    /// The number of bits.
+    /// Is the number of bits.
     const WIDTH: usize;
 
-    /// The word as a number.
+    /// Returns the word as a number.
     fn to_u64(self) -> u64
         ensures same { result ≡ number self }
         ensures fits { result < 2 ^ WIDTH };
 
-    /// The word that is a number, which has no more bits than a word.
+    /// Returns the word of a number below `2^WIDTH`.
     fn from_u64(bits: u64) -> Self
         requires { bits < 2 ^ WIDTH }
         ensures { number result ≡ bits };
 
-    /// Whether a bit is set.
+    /// Returns whether a bit is set.
     fn test(self, at: usize) -> bool
         requires { at < WIDTH }
         ensures { result ≡ has_bit (number self) at }
@@ -35,7 +35,7 @@ pub trait BitsetWord: Copy {
         self.to_u64() & (1 << at) != 0
     }
 
-    /// The word with one more bit set.
+    /// Returns the word with one bit set.
     fn with(self, at: usize) -> Self
         requires { at < WIDTH }
         ensures { (k : ℕ) → k < WIDTH → has_bit (number result) k ≡ (eqb k at || has_bit (number self) k) }
@@ -43,7 +43,7 @@ pub trait BitsetWord: Copy {
         Self::from_u64(self.to_u64() | (1 << at))
     }
 
-    /// The word with one bit fewer set.
+    /// Returns the word with one bit cleared.
     fn without(self, at: usize) -> Self
         requires { at < WIDTH }
         ensures { (k : ℕ) → k < WIDTH → has_bit (number result) k ≡ (not (eqb k at) && has_bit (number self) k) }
@@ -51,7 +51,7 @@ pub trait BitsetWord: Copy {
         Self::from_u64(self.to_u64() & !(1 << at))
     }
 
-    /// The lowest bit that is set.
+    /// Returns the position of the lowest set bit.
     fn lowest(self) -> Option<usize>
         ensures { IsFirst (has_bit (number self)) WIDTH result }
     {
@@ -63,7 +63,7 @@ pub trait BitsetWord: Copy {
         }
     }
 
-    /// The lowest bit that is not set.
+    /// Returns the position of the lowest clear bit.
     fn lowest_unset(self) -> Option<usize>
         ensures { IsFirst (λ k. not (has_bit (number self) k)) WIDTH result }
     {
@@ -75,7 +75,7 @@ pub trait BitsetWord: Copy {
         if at < Self::WIDTH { Some(at) } else { None }
     }
 
-    /// The highest bit that is set.
+    /// Returns the position of the highest set bit.
     fn highest(self) -> Option<usize>
         ensures { IsLast (has_bit (number self)) WIDTH result }
     {
@@ -87,7 +87,7 @@ pub trait BitsetWord: Copy {
         }
     }
 
-    /// How many bits are set.
+    /// Returns the number of set bits.
     fn count(self) -> usize
         ensures { result ≡ length (members (has_bit (number self)) WIDTH) }
     {

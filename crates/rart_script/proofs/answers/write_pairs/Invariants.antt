@@ -6,4 +6,6 @@ use Rattle.rart_script.proofs.PrintLemmas.{HasPrinted, further_pairs}
 use Rattle.rart_script.proofs.answers.write_pairs.Given as goal
 
 abbrev pub invariant-loop-key : goal.invariant-loop-key
-invariant-loop-key g l = HasPrinted (g.W.Write.contents l.fn.output) (g.W.Write.contents l.output) (further_pairs (pairs_in array_key_bytes (into_iter_items l.key-iterator))) (pairs_line (pairs_in array_key_bytes l.fn.pairs.items))
+invariant-loop-key g l = HasPrinted (g.W.Write.contents l.fn.output) (g.W.Write.contents l.output)
+    (further_pairs (pairs_in array_key_bytes (into_iter_items l.key-iterator)))
+    (pairs_line (pairs_in array_key_bytes l.fn.pairs.items))

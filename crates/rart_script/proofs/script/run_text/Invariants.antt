@@ -6,5 +6,6 @@ use Rattle.rart_script.proofs.script.run_text.Given as goal
 abbrev pub invariant-loop-index : goal.invariant-loop-index
 invariant-loop-index g l = record {
   commands : AreCommands l.text (length l.yielded);
-  ran : HasPrintedLines l.text (length l.yielded) l.tree.pairs (g.W.Write.contents l.fn.output) (g.W.Write.contents l.output);
+  ran : HasPrintedLines l.text (length l.yielded) l.tree.pairs (g.W.Write.contents l.fn.output)
+      (g.W.Write.contents l.output);
 }

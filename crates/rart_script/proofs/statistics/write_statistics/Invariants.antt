@@ -1,7 +1,8 @@
-use Rattle.rart_nodes.specs.statistics.Statistics.{statistics_in}
+use Rattle.rart_nodes.specs.statistics.Statistics.{stats_in}
 use Rattle.rart_script.specs.Statistics.{stats_line}
 use Rattle.rart_script.proofs.PrintLemmas.{HasPrinted, further_widths}
 use Rattle.rart_script.proofs.statistics.write_statistics.Given as goal
 
 abbrev pub invariant-loop-width : goal.invariant-loop-width
-invariant-loop-width g l = HasPrinted (g.W.Write.contents l.fn.output) (g.W.Write.contents l.output) (further_widths l.width-iterator) (stats_line (statistics_in l.stats))
+invariant-loop-width g l = HasPrinted (g.W.Write.contents l.fn.output) (g.W.Write.contents l.output)
+    (further_widths l.width-iterator) (stats_line (stats_in l.stats))

@@ -1,5 +1,5 @@
-//! Values that count their drops, through updates: what a callback writes over, what is removed, replaced or cloned, and what it
-//! offers, each dropped once.
+//! Values that count their drops, through updates: what a callback writes over, what is removed, replaced or cloned,
+//! and what it offers, each dropped once.
 
 ghost use Rattle.std.specs.Prelude.{◌≡◌};
 ghost use Rattle.rart.specs.Updates.{written_slot};
@@ -14,7 +14,7 @@ type Key = ArrayKey<4>;
 
 type Tree<'a> = AdaptiveRadixTree<Key, Counted<'a>>;
 
-/// What the callback of an update asks for.
+/// What the callback of an update requests.
 #[derive(Clone, Copy)]
 enum Then {
     Keep,
@@ -35,7 +35,7 @@ enum Answer {
     NotCloned,
 }
 
-// The number of the value that a callback writes over the one that stands there.
+// The number of the value that a callback writes over the one that is stored there.
 const WRITTEN: u8 = 99;
 
 fn key(byte: u8) -> Key {
@@ -51,7 +51,7 @@ fn filled<'a>(alloc: Global, drops: &'a Cell<usize>, count: u8) -> Tree<'a> {
     tree
 }
 
-// What a callback asks for: nothing where it fails.
+// What a callback requests: nothing where it fails.
 fn asked<'a>(then: Then, drops: &'a Cell<usize>) -> Result<SlotUpdate<Counted<'a>>, ()> {
     match then {
         Then::Insert(number) => Ok(SlotUpdate::Insert(Counted(number, drops))),
@@ -72,8 +72,8 @@ fn write<V: Drop>(slot: &mut Slot<V>, written: Option<V>)
     }
 }
 
-// An update by a callback that writes this value and asks for this. Generic in the value, so that the callback holds what was
-// made before it: that it keeps an occupied slot occupied is then found.
+// An update by a callback that writes this value and requests this. Generic in the value, so that the callback holds
+// what was made before it: that it keeps an occupied slot occupied is then found.
 fn update_by<V: Drop>(
     tree: &mut AdaptiveRadixTree<Key, V>,
     key: &Key,
@@ -153,12 +153,12 @@ fn number_at(tree: &Tree<'_>, byte: u8) -> Option<u8> {
     tree.get_k(&key(byte)).map(|value| value.0)
 }
 
-// Whether by `try_update`; the byte; what is asked for; what is answered; the number that then stands there; how many values are
-// made on the way, and how many are dropped.
+// Whether by `try_update`; the byte; what is asked for; what is answered; the number that is then stored; how many
+// values are made on the way, and how many are dropped.
 type Row = (bool, u8, Then, Answer, Option<u8>, usize, usize);
 
 const UPDATES: [Row; 16] = [
-    // the value that stands there is written over, and `try_update` drops its clone
+    // the value that is stored there is written over, and `try_update` drops its clone
     (
         false,
         0,
@@ -184,7 +184,7 @@ const UPDATES: [Row; 16] = [
         1,
         0,
     ),
-    // what was written is dropped, and the clone stands there
+    // what was written is dropped, and the clone is stored
     (true, 2, Then::Fail, Answer::Failed, Some(2), 2, 2),
     (true, 11, Then::Fail, Answer::Failed, None, 0, 0),
     // what was written is removed
@@ -205,7 +205,7 @@ fn goes_well<'a>(tree: &mut Tree<'a>, row: &Row, drops: &'a Cell<usize>) -> bool
         && drops.get() == before.wrapping_add(dropped)
 }
 
-// The first row that goes another way, if one does; one behind the last where not all values are dropped with the tree.
+// The first row that goes another way, if one does; one past the last where not all values are dropped with the tree.
 fn plays(alloc: Global, count: u8, rows: &[Row]) -> Option<usize> {
     let drops = Cell::new(0_usize);
     let mut tree = filled(alloc, &drops, count);
@@ -227,8 +227,8 @@ fn an_update_drops_each_value_once(rt: HostRuntime) {
     assert_eq!(rt; plays(rt.alloc(), 3, &UPDATES), None);
 }
 
-// How many keys stand, the row where nothing is refused, and what is answered where a request is: the answer, the number that then
-// stands there, and how many values are dropped.
+// How many keys stand, the row where nothing is refused, and what is answered where a request is: the answer, the
+// number that is then stored, and how many values are dropped.
 type Sweep = (u8, Row, (Answer, Option<u8>, usize));
 
 const REFUSED: [Sweep; 4] = [

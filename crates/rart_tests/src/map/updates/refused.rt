@@ -20,8 +20,8 @@ enum Ask {
     Insert(u64),
 }
 
-// How many keys of one byte stand there, from 0 on, each with 10; whether by `try_update`; the byte; what is asked for; the
-// value at the byte while a request is refused, and afterwards.
+// How many keys of one byte stand there, from 0 on, each with 10; whether by `try_update`; the byte; what is asked for;
+// the value at the byte while a request is refused, and afterwards.
 type Row = (u8, bool, u8, Ask, Option<u64>, Option<u64>);
 
 fn key(byte: u8) -> Key {
@@ -113,8 +113,8 @@ fn filled(alloc: Global, count: u8) -> Tree {
     tree
 }
 
-// Makes the update with its first request refused, then with its second and so on, and at last with memory; whether each
-// went well.
+// Makes the update with its first request refused, then with its second and so on, and at last with memory; whether
+// each went well.
 fn goes_well(alloc: Global, row: &Row, by_value: bool) -> bool {
     let (count, _tries, byte, ask, kept, after) = *row;
     let mut tree = filled(alloc, count);
@@ -204,7 +204,7 @@ fn a_removal_among_five_keys_refused_in_turn(rt: HostRuntime) {
     assert!(rt; removal_is_swept(rt.alloc()));
 }
 
-/// A value whose clone asks for memory. (A clone of a `String` may differ in its room, so it isn't asked to equal it.)
+/// A value whose clone requests memory. (A clone of a `String` may differ in its room, so it isn't asked to equal it.)
 #[derive(Drop)]
 struct Roomy {
     alloc: Global,

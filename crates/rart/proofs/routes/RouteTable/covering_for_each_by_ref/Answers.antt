@@ -7,9 +7,12 @@ use Rattle.rart.proofs.routes.RouteTable.covering_for_each_by_ref.Goals as goal
 
 pub prefix_match_for_each_by_ref_k-requires : goal.prefix_match_for_each_by_ref_k-requires
 prefix_match_for_each_by_ref_k-requires g c = record {
-  callable = subst (λ (t : MapAndShape g.row.T.Denot). CanMatch g.F.FnMut c.args.f.now (matches (g.K.KeyTrait.bytes c.args.probe.now) t.pairs)) (sym c.self.view_is) c.requires.callable;
+  callable = subst (λ (t : MapAndShape g.row.T.Denot). CanMatch g.F.FnMut c.args.f.now
+      (matches (g.K.KeyTrait.bytes c.args.probe.now) t.pairs)) (sym c.self.view_is) c.requires.callable;
 }
 
 pub returns-clause-calls : goal.returns-clause-calls
 returns-clause-calls g c =
-    subst (λ (t : MapAndShape g.row.T.Denot). FoldsTo (λ p x q. Matched g.F.FnMut p x q) c.args.f.now (matches (g.K.KeyTrait.bytes c.args.probe.now) t.pairs) c.prefix_match_for_each_by_ref_k.new.f) c.self.view_is c.prefix_match_for_each_by_ref_k.ensures.calls
+    subst (λ (t : MapAndShape g.row.T.Denot). FoldsTo (λ p x q. Matched g.F.FnMut p x q) c.args.f.now
+    (matches (g.K.KeyTrait.bytes c.args.probe.now) t.pairs) c.prefix_match_for_each_by_ref_k.new.f) c.self.view_is
+    c.prefix_match_for_each_by_ref_k.ensures.calls

@@ -4,7 +4,8 @@ use Rattle.rart.specs.Steps.{pairs_in}
 use Rattle.rart.proofs.script.probe.copied_matches.Given as goal
 
 abbrev pub invariant-loop-key : goal.invariant-loop-key
-invariant-loop-key g l = pairs_in g.K.KeyTrait.bytes l.pairs.items ++ l.rest ≡ matches (g.K.KeyTrait.bytes l.probe) l.tree.pairs
+invariant-loop-key g l = pairs_in g.K.KeyTrait.bytes l.pairs.items ++ l.rest
+    ≡ matches (g.K.KeyTrait.bytes l.probe) l.tree.pairs
 
 abbrev pub decreases-loop-key : goal.decreases-loop-key
 decreases-loop-key g l = length l.rest

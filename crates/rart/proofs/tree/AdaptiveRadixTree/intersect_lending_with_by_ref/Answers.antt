@@ -1,7 +1,9 @@
 use Rattle.rart.proofs.tree.AdaptiveRadixTree.intersect_lending_with_by_ref.Goals as goal
 
 pub intersect_lending_with_by_ref_counted-requires : goal.intersect_lending_with_by_ref_counted-requires
-intersect_lending_with_by_ref_counted-requires g c = record { callable = rw (c.seen.ensures.pairs, c.seen-2.ensures.pairs) c.requires.callable }
+intersect_lending_with_by_ref_counted-requires g c
+    = record { callable = rw (c.seen.ensures.pairs, c.seen-2.ensures.pairs) c.requires.callable }
 
 pub returns-clause-calls : goal.returns-clause-calls
-returns-clause-calls g c = rw (← c.seen.ensures.pairs, ← c.seen-2.ensures.pairs) c.intersect_lending_with_by_ref_counted.ensures.calls
+returns-clause-calls g c = rw (← c.seen.ensures.pairs, ← c.seen-2.ensures.pairs)
+    c.intersect_lending_with_by_ref_counted.ensures.calls

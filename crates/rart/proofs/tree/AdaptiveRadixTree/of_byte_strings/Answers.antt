@@ -9,5 +9,6 @@ use Rattle.rart.proofs.tree.AdaptiveRadixTree.of_byte_strings.Goals as goal
 pub invariant_of-result : goal.invariant_of-result
 invariant_of-result g c =
     let count = sym (length-map c.args.keys.now (λ k. k.now)) in
-    let fields = loaded-fields g.K.KeyTrait.MAXIMUM_SIZE (pairs_of c.in-Ok.root) (keys_in c.args.keys.now) _ _ MAX_PAIRS c.in-Ok.ensures.keys count (omega (arith, count, c.requires.few)) c.longest_of.ensures c.requires.within in
+    let fields = loaded-fields g.K.KeyTrait.MAXIMUM_SIZE (pairs_of c.in-Ok.root) (keys_in c.args.keys.now) _ _ MAX_PAIRS
+    c.in-Ok.ensures.keys count (omega (arith, count, c.requires.few)) c.longest_of.ensures c.requires.within in
     (c.in-Ok.ensures.canonical, fields.0, fields.1, fields.2, fields.3)

@@ -8,9 +8,14 @@ use Rattle.rart.proofs.tree.AdaptiveRadixTree.prefix_for_each_view_k.Goals as go
 
 pub prefix_for_each_view_k_counted-requires : goal.prefix_for_each_view_k_counted-requires
 prefix_for_each_view_k_counted-requires g c = record {
-  callable = subst (λ (m : List (List ℕ × g.row.V.Denot)). CanView g.F.FnMut c.args.f (cut_pairs (keys_of m) (below (g.K.KeyTrait.bytes c.args.prefix.now) m))) (sym c.seen.ensures.pairs) c.requires.callable;
+  callable = subst (λ (m : List (List ℕ × g.row.V.Denot)). CanView g.F.FnMut c.args.f
+      (cut_pairs (keys_of m) (below (g.K.KeyTrait.bytes c.args.prefix.now) m))) (sym c.seen.ensures.pairs)
+      c.requires.callable;
 }
 
 pub returns-clause-calls : goal.returns-clause-calls
 returns-clause-calls g c =
-    subst (λ (m : List (List ℕ × g.row.V.Denot)). OnOk c.prefix_for_each_view_k_counted.result ((last : g.row.F.Denot) × FoldsTo (λ p x q. Viewed g.F.FnMut p x q) c.args.f (cut_pairs (keys_of m) (below (g.K.KeyTrait.bytes c.args.prefix.now) m)) last)) c.seen.ensures.pairs c.prefix_for_each_view_k_counted.ensures.calls
+    subst (λ (m : List (List ℕ × g.row.V.Denot)). OnOk c.prefix_for_each_view_k_counted.result ((last : g.row.F.Denot)
+    × FoldsTo (λ p x q. Viewed g.F.FnMut p x q) c.args.f
+    (cut_pairs (keys_of m) (below (g.K.KeyTrait.bytes c.args.prefix.now) m)) last)) c.seen.ensures.pairs
+    c.prefix_for_each_view_k_counted.ensures.calls

@@ -6,9 +6,12 @@ use Rattle.rart.proofs.tree.AdaptiveRadixTree.prefix_match_for_each_k.Goals as g
 
 pub prefix_match_for_each_k_counted-requires : goal.prefix_match_for_each_k_counted-requires
 prefix_match_for_each_k_counted-requires g c = record {
-  callable = subst (λ (m : List (List ℕ × g.row.V.Denot)). CanMatch g.F.FnMut c.args.f (matches (g.K.KeyTrait.bytes c.args.probe.now) m)) (sym c.seen.ensures.pairs) c.requires.callable;
+  callable = subst (λ (m : List (List ℕ × g.row.V.Denot)). CanMatch g.F.FnMut c.args.f
+      (matches (g.K.KeyTrait.bytes c.args.probe.now) m)) (sym c.seen.ensures.pairs) c.requires.callable;
 }
 
 pub returns : goal.returns
 returns g c =
-    subst (λ (m : List (List ℕ × g.row.V.Denot)). (last : g.row.F.Denot) × FoldsTo (λ p x q. Matched g.F.FnMut p x q) c.args.f (matches (g.K.KeyTrait.bytes c.args.probe.now) m) last) c.seen.ensures.pairs c.prefix_match_for_each_k_counted.ensures.calls
+    subst (λ (m : List (List ℕ × g.row.V.Denot)). (last : g.row.F.Denot)
+    × FoldsTo (λ p x q. Matched g.F.FnMut p x q) c.args.f (matches (g.K.KeyTrait.bytes c.args.probe.now) m) last)
+    c.seen.ensures.pairs c.prefix_match_for_each_k_counted.ensures.calls

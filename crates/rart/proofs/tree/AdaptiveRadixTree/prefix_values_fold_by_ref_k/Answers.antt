@@ -7,9 +7,13 @@ use Rattle.rart.proofs.tree.AdaptiveRadixTree.prefix_values_fold_by_ref_k.Goals 
 
 pub prefix_values_fold_by_ref_k-requires : goal.prefix_values_fold_by_ref_k-requires
 prefix_values_fold_by_ref_k-requires g c = record {
-  callable = subst (λ (m : List (List ℕ × g.row.V.Denot)). CanFold g.F.FnMut c.args.f.now c.args.init (values_of (below (g.K.KeyTrait.bytes c.args.prefix.now) m))) (sym c.seen.ensures.pairs) c.requires.callable;
+  callable = subst (λ (m : List (List ℕ × g.row.V.Denot)). CanFold g.F.FnMut c.args.f.now c.args.init
+      (values_of (below (g.K.KeyTrait.bytes c.args.prefix.now) m))) (sym c.seen.ensures.pairs) c.requires.callable;
 }
 
 pub returns-clause-calls : goal.returns-clause-calls
 returns-clause-calls g c =
-    subst (λ (m : List (List ℕ × g.row.V.Denot)). IfOk c.prefix_values_fold_by_ref_k.result (λ state. FoldsTo (λ p x q. Folded g.F.FnMut p x q) (c.args.f.now, c.args.init) (values_of (below (g.K.KeyTrait.bytes c.args.prefix.now) m)) (c.prefix_values_fold_by_ref_k.new.f, state))) c.seen.ensures.pairs c.prefix_values_fold_by_ref_k.ensures.calls
+    subst (λ (m : List (List ℕ × g.row.V.Denot)). IfOk c.prefix_values_fold_by_ref_k.result
+    (λ state. FoldsTo (λ p x q. Folded g.F.FnMut p x q) (c.args.f.now, c.args.init)
+    (values_of (below (g.K.KeyTrait.bytes c.args.prefix.now) m)) (c.prefix_values_fold_by_ref_k.new.f, state)))
+    c.seen.ensures.pairs c.prefix_values_fold_by_ref_k.ensures.calls

@@ -1,4 +1,5 @@
--- `try_insert` is to `try_insert_k` as `insert_new_keeping_key` is to `insert_new_k`: the same walk, where the key is passed by value.
+-- `try_insert` is to `try_insert_k` as `insert_new_keeping_key` is to `insert_new_k`: the same walk, where the key is
+-- passed by value.
 use mathlib.Core.Path.{◌≡◌, refl, sym, subst}
 use mathlib.Core.List.{List, [], ◌∷◌, ◌++◌}
 use mathlib.Core.Option.{none}
@@ -16,7 +17,8 @@ use prog.Wired.{Wired}
 use prog.Wp.{Tables, WpFn}
 use ghost.Rules.{Toks}
 use types.Logic.{Logic, sem, lfts}
-use types.Kit.{‵, raw, ◌⊛◌, some, later, ◌$◌, ◌∵◌, !, qed, by, move, drop, use0, use1, use2, use3, split, join, group, fsplit, fsplit3, fjoin, feq_l, feq_i, pick, await}
+use types.Kit.{‵, raw, ◌⊛◌, some, later, ◌$◌, ◌∵◌, !, qed, by, move, drop, use0, use1, use2, use3, split, join, group}
+use types.Kit.{fsplit, fsplit3, fjoin, feq_l, feq_i, pick, await}
 use types.Run.{enter, of_opd, addr, stop, no_more, and_then, returns}
 use types.ByLocal.{alloc_all, pass_all, free_all, look_at, get, through, sets, lands_as}
 use types.Tokens.{lft_new, lft_end}
@@ -68,10 +70,10 @@ use Rattle.std.specs.contracts.result.Result as result
 use Rattle.std.proofs.result.Result.TheLaws as result_laws
 use Rattle.rart.specs.contracts.tree.AdaptiveRadixTree as tree
 use Rattle.rart.proofs.tree.AdaptiveRadixTree.TheLaws as tree_laws
-use Rattle.rart.specs.contracts.tree.guarded.Tried as tried
-use Rattle.rart.proofs.tree.guarded.Tried.TheLaws as tried_laws
-use Rattle.rart.specs.contracts.tree.guarded.TryInsertError as try_insert_error
-use Rattle.rart.proofs.tree.guarded.TryInsertError.TheLaws as try_insert_error_laws
+use Rattle.rart.specs.contracts.tree.try_insert.Tried as tried
+use Rattle.rart.proofs.tree.try_insert.Tried.TheLaws as tried_laws
+use Rattle.rart.specs.contracts.tree.try_insert.TryInsertError as try_insert_error
+use Rattle.rart.proofs.tree.try_insert.TryInsertError.TheLaws as try_insert_error_laws
 use Rattle.rart.specs.contracts.tree.AdaptiveRadixTree.insert_new_keeping_key as inserts
 use Rattle.rart.specs.contracts.tree.AdaptiveRadixTree.insert_new_keeping_key.Key.{name as #inserts}
 use Rattle.rart.proofs.tree.AdaptiveRadixTree.insert_new_keeping_key.Met as inserts_met
@@ -84,16 +86,21 @@ use Rattle.rart.proofs.tree.AdaptiveRadixTree.try_insert.Code as code
 
 module _ {M : Type 1} (𝓤 : Ura M) (𝓛 : Logic 𝓤) (𝓜 : Model 𝓤 𝓛.H) (𝓡 : Running 𝓤 𝓛.H 𝓜) (wired : Wired 𝓡.env code.code)
     (K V P : RattleType) (LK : Laws K) (LV : Laws V) (LP : Laws P)
-    (gk : key_trait.Ghosts K.Denot P.Denot) (dk : Dict) (ge : eq.Ghosts K.Denot) (de : Dict) (gpe : partial_eq.Ghosts K.Denot) (dpe : Dict)
-    (go : ord.Ghosts K.Denot) (d-o : Dict) (gpo : partial_ord.Ghosts K.Denot) (dpo : Dict) (gp : partial.Ghosts P.Denot) (dp : Dict) (dd : Dict) (dr : Dict)
-    (mk : key_trait_bound.Met 𝓛 𝓜 𝓡 𝓡.env K P gk dk ge de gpe dpe go d-o gpo dpo gp dp) (me : eq_bound.Met 𝓛 𝓜 𝓡 𝓡.env K ge de gpe dpe) (mpe : partial_eq_bound.Met 𝓛 𝓜 𝓡 𝓡.env K gpe dpe)
-    (mo : ord_bound.Met 𝓛 𝓜 𝓡 𝓡.env K go d-o ge de gpe dpe gpo dpo) (mpo : partial_ord_bound.Met 𝓛 𝓜 𝓡 𝓡.env K gpo dpo gpe dpe)
+    (gk : key_trait.Ghosts K.Denot P.Denot) (dk : Dict) (ge : eq.Ghosts K.Denot) (de : Dict)
+    (gpe : partial_eq.Ghosts K.Denot) (dpe : Dict)
+    (go : ord.Ghosts K.Denot) (d-o : Dict) (gpo : partial_ord.Ghosts K.Denot) (dpo : Dict) (gp : partial.Ghosts P.Denot)
+    (dp : Dict) (dd : Dict) (dr : Dict)
+    (mk : key_trait_bound.Met 𝓛 𝓜 𝓡 𝓡.env K P gk dk ge de gpe dpe go d-o gpo dpo gp dp)
+    (me : eq_bound.Met 𝓛 𝓜 𝓡 𝓡.env K ge de gpe dpe) (mpe : partial_eq_bound.Met 𝓛 𝓜 𝓡 𝓡.env K gpe dpe)
+    (mo : ord_bound.Met 𝓛 𝓜 𝓡 𝓡.env K go d-o ge de gpe dpe gpo dpo)
+    (mpo : partial_ord_bound.Met 𝓛 𝓜 𝓡 𝓡.env K gpo dpo gpe dpe)
     (mp : partial_bound.Met 𝓛 𝓜 𝓡 𝓡.env P gp dp) (md : glue.Met 𝓛 𝓜 𝓡 𝓡.env P dd) (mr : glue.Met 𝓛 𝓜 𝓡 𝓡.env K dr) where
   abbrev kinds : List Kind
   kinds = a_type ∷ a_type ∷ a_type ∷ []
 
   abbrev passed : Dicts → Args
-  passed d = bounded kinds (K, (V, (P, tt))) (dcons dk (dcons de (dcons dpe (dcons d-o (dcons dpo (dcons dp (dcons dd d)))))))
+  passed d = bounded kinds (K, (V, (P, tt)))
+      (dcons dk (dcons de (dcons dpe (dcons d-o (dcons dpo (dcons dp (dcons dd d)))))))
 
   abbrev key : RattleType
   key = param 0 K
@@ -105,7 +112,8 @@ module _ {M : Type 1} (𝓤 : Ura M) (𝓛 : Logic 𝓤) (𝓜 : Model 𝓤 𝓛
   Tree = tree.the_row (param 0 K) (param 1 V) (param 2 P) gk gpe go gpo gp
 
   abbrev tree_is : Laws Tree
-  tree_is = tree_laws.the_row_laws (param 0 K) (param 1 V) (param 2 P) gk gpe go gpo gp (param_laws 0 K LK) (param_laws 1 V LV) (param_laws 2 P LP)
+  tree_is = tree_laws.the_row_laws (param 0 K) (param 1 V) (param 2 P) gk gpe go gpo gp (param_laws 0 K LK)
+      (param_laws 1 V LV) (param_laws 2 P LP)
 
   abbrev unit_is : Laws unit-field.row
   unit_is = of_field unit-field unit-laws refl (copy_shared unit-field unit-copy)
@@ -120,24 +128,32 @@ module _ {M : Type 1} (𝓤 : Ura M) (𝓛 : Logic 𝓤) (𝓜 : Model 𝓤 𝓛
   Shown κ = result.the_row unit-field.row (try_insert_error.the_row (record { mir = named 0; lft = κ }) (param 1 V))
 
   abbrev shown_is : (κ : Lft) → Laws (Shown κ)
-  shown_is κ = result_laws.the_row_laws unit-field.row (try_insert_error.the_row (record { mir = named 0; lft = κ }) (param 1 V)) unit_is (try_insert_error_laws.the_row_laws (record { mir = named 0; lft = κ }) (param 1 V) (param_laws 1 V LV))
+  shown_is κ = result_laws.the_row_laws unit-field.row
+      (try_insert_error.the_row (record { mir = named 0; lft = κ }) (param 1 V)) unit_is
+      (try_insert_error_laws.the_row_laws (record { mir = named 0; lft = κ }) (param 1 V) (param_laws 1 V LV))
 
   abbrev I : Contract 𝓤
-  I = triple_of 𝓛 (inserts.signature K V P gk dk ge de gpe dpe go d-o gpo dpo gp dp dd) (inserts.spec K V P gk dk ge de gpe dpe go d-o gpo dpo gp dp dd 𝓛 𝓜.mem 𝓡.returns)
+  I = triple_of 𝓛 (inserts.signature K V P gk dk ge de gpe dpe go d-o gpo dpo gp dp dd)
+      (inserts.spec K V P gk dk ge de gpe dpe go d-o gpo dpo gp dp dd 𝓛 𝓜.mem 𝓡.returns)
 
   abbrev S : Contract 𝓤
-  S = triple_of 𝓛 (with_present.signature K V P gk dk ge de gpe dpe go d-o gpo dpo gp dp dd dr) (with_present.spec K V P gk dk ge de gpe dpe go d-o gpo dpo gp dp dd dr 𝓛 𝓜.mem 𝓡.returns)
+  S = triple_of 𝓛 (with_present.signature K V P gk dk ge de gpe dpe go d-o gpo dpo gp dp dd dr)
+      (with_present.spec K V P gk dk ge de gpe dpe go d-o gpo dpo gp dp dd dr 𝓛 𝓜.mem 𝓡.returns)
 
   abbrev C : Contract 𝓤
-  C = triple_of 𝓛 (tries.signature K V P gk dk ge de gpe dpe go d-o gpo dpo gp dp dd dr) (tries.spec K V P gk dk ge de gpe dpe go d-o gpo dpo gp dp dd dr 𝓛 𝓜.mem 𝓡.returns)
+  C = triple_of 𝓛 (tries.signature K V P gk dk ge de gpe dpe go d-o gpo dpo gp dp dd dr)
+      (tries.spec K V P gk dk ge de gpe dpe go d-o gpo dpo gp dp dd dr 𝓛 𝓜.mem 𝓡.returns)
 
   inserts_by : Triple 𝓤 (𝓡.run (𝓡.env (#inserts (passed dnil)))) I
   unfolding code.code
-  inserts_by = inserts_met.met 𝓤 𝓛 𝓜 𝓡 (code.calls-rart::tree::AdaptiveRadixTree::insert_new_keeping_key 𝓡.env wired) K V P LK LV LP gk dk ge de gpe dpe go d-o gpo dpo gp dp dd mk me mpe mo mpo mp md
+  inserts_by = inserts_met.met 𝓤 𝓛 𝓜 𝓡 (code.calls-rart::tree::AdaptiveRadixTree::insert_new_keeping_key 𝓡.env wired) K
+      V P LK LV LP gk dk ge de gpe dpe go d-o gpo dpo gp dp dd mk me mpe mo mpo mp md
 
   with_present_by : Triple 𝓤 (𝓡.run (𝓡.env (#with_present (passed (dcons dr dnil))))) S
   unfolding code.code
-  with_present_by = with_present_met.met 𝓤 𝓛 𝓜 𝓡 (code.calls-rart::tree::AdaptiveRadixTree::tried_with_present 𝓡.env wired) K V P LK LV LP gk dk ge de gpe dpe go d-o gpo dpo gp dp dd dr mk me mpe mo mpo mp md mr
+  with_present_by = with_present_met.met 𝓤 𝓛 𝓜 𝓡
+      (code.calls-rart::tree::AdaptiveRadixTree::tried_with_present 𝓡.env wired) K V P LK LV LP gk dk ge de gpe dpe go
+      d-o gpo dpo gp dp dd dr mk me mpe mo mpo mp md mr
 
   abbrev tables' : Tables 𝓤 𝓛.H
   tables' = tables_of 𝓤 𝓛.H 𝓜 (tables 𝓤 𝓛.H 𝓜 𝓡 𝓡.env)
@@ -171,8 +187,8 @@ module _ {M : Type 1} (𝓤 : Ura M) (𝓛 : Logic 𝓤) (𝓜 : Model 𝓤 𝓛
   Unchanged y s n = OnErr s.outcome (n ≡ old y)
 
   -- what is said of the result
-  abbrev Told : (y : C.Ghost) → (Shown y.0.0.0).Denot → SProp 𝓤
-  Told y t = fact 𝓤 (TriesInsert (bytes y) y.0.3.1.1.0 (old y).pairs t)
+  abbrev CallbackOutcome : (y : C.Ghost) → (Shown y.0.0.0).Denot → SProp 𝓤
+  CallbackOutcome y t = fact 𝓤 (TriesInsert (bytes y) y.0.3.1.1.0 (old y).pairs t)
 
   abbrev Walked : C.Ghost → Type 1
   Walked y = ent 𝓤 (C.pre y) (WpFn 𝓤 𝓛.H tables'.C tables'.Λ function (C.args y) (C.post y))
@@ -183,99 +199,174 @@ module _ {M : Type 1} (𝓤 : Ura M) (𝓛 : Logic 𝓤) (𝓜 : Model 𝓤 𝓛
       let κs = y.0.0 in let qs = y.0.1 in let bounds = y.0.2 in
       let κ = κs.0 in let q = qs.0 in let ql = Share.left q in let qr = Share.right q in
       let κ₁ = κs.1.0 in let κ₂ = κs.1.1.0 in let κ₃ = κs.1.1.1.0 in let q₃ = qs.1.1.1.0 in
-      let a = y.0.3 in let r : MutBor (MapAndShape V.Denot) = a.0 in let k : K.Denot = a.1.0 in let x : V.Denot = a.1.1.0 in
+      let a = y.0.3 in let r : MutBor (MapAndShape V.Denot) = a.0 in let k : K.Denot = a.1.0 in let x : V.Denot
+      = a.1.1.0 in
       let b = r.ref_ptr.0 in let o = r.ref_ptr.1 in let γ = r.ghost_name in
       let Ref = λ (κ' : Lft) (m : MutBor (MapAndShape V.Denot)). (MutRef (named 0) κ' Tree).own_val m (vptr b o ∷ []) in
       let Rest = ‵ (flft κ₁ qs.1.0) ⊛ ‵ (flft κ₂ qs.1.1.0) ⊛ ‵ (flft κ₃ q₃) ⊛ ‵ ftrue in
-      qed 𝓛 (((‵ (flft κ q) ⊛ Rest) ⊛ (‵ (Ref κ r) ⊛ ‵ (key.own_val k (u ∷ [])) ⊛ ‵ (value.own_val x (v ∷ [])) ⊛ ‵ ftrue)) ∷ (raw (fact 𝓤 (κ₁ ⊑ K.lives)) ⊛ raw (fact 𝓤 (κ₂ ⊑ V.lives)) ⊛ raw (fact 𝓤 (κ₃ ⊑ P.lives)) ⊛ ‵ ftrue) ∷ []) ∵
-      move ! (1 ∷ []) $ split ! $ heard ! (κ₁ ⊑ K.lives) (λ in_key. split ! $ heard ! (κ₂ ⊑ V.lives) (λ in_value. split ! $ heard ! (κ₃ ⊑ P.lives) (λ in_partial. drop ! $
+      qed 𝓛 (((‵ (flft κ q) ⊛ Rest) ⊛ (‵ (Ref κ r) ⊛ ‵ (key.own_val k (u ∷ [])) ⊛ ‵ (value.own_val x (v ∷ [])) ⊛ ‵
+      ftrue)) ∷ (raw (fact 𝓤 (κ₁ ⊑ K.lives)) ⊛ raw (fact 𝓤 (κ₂ ⊑ V.lives)) ⊛ raw (fact 𝓤 (κ₃ ⊑ P.lives)) ⊛ ‵ ftrue)
+      ∷ []) ∵
+      move ! (1 ∷ []) $ split ! $ heard ! (κ₁ ⊑ K.lives)
+      (λ in_key. split ! $ heard ! (κ₂ ⊑ V.lives)
+      (λ in_value. split ! $ heard ! (κ₃ ⊑ P.lives) (λ in_partial. drop ! $
       split ! $ split ! $ move ! (2 ∷ []) $ split ! $ move ! (1 ∷ []) $ split ! $
-      peeks ! key (Is key) (shows 𝓛 key) k (u ∷ []) (λ is_key. let typed_key = (((param_laws 0 K LK).lawful 𝓛).typed k (u ∷ []) is_key).0 in
+      peeks ! key (Is key) (shows 𝓛 key) k (u ∷ []) (λ is_key. let typed_key
+      = (((param_laws 0 K LK).lawful 𝓛).typed k (u ∷ []) is_key).0 in
       move ! (1 ∷ []) $ split ! $ move ! (1 ∷ []) $ drop ! $
       -- [the value; the key; the tree; its token; the other tokens]
-      peeks ! value (Is value) (shows 𝓛 value) x (v ∷ []) (λ is_value. let typed_value = (((param_laws 1 V LV).lawful 𝓛).typed x (v ∷ []) is_value).0 in
+      peeks ! value (Is value) (shows 𝓛 value) x (v ∷ []) (λ is_value. let typed_value
+      = (((param_laws 1 V LV).lawful 𝓛).typed x (v ∷ []) is_value).0 in
       enter ! tables'.C tables'.Λ function (vptr b o ∷ u ∷ v ∷ []) _ $
       alloc_all ! (λ l. pass_all ! refl ((tt, tt), (typed_key, (typed_value, tt))) $
-      sets ! (addr ! (through ! refl (stop !))) refl (tt, tt) $ sets ! (of_opd ! (get ! refl)) refl typed_key $ sets ! (of_opd ! (get ! refl)) refl typed_value $
-      lft_new ! tt (λ α. let κ' : Lft = α ∷ κ in let Whole = wand 𝓤 (𝓛.A.lft (α ∷ []) qr) (𝓛.A.lft (α ∷ []) full_share) in
+      sets ! (addr ! (through ! refl (stop !))) refl (tt, tt) $ sets ! (of_opd ! (get ! refl)) refl typed_key $ sets !
+      (of_opd ! (get ! refl)) refl typed_value $
+      lft_new ! tt (λ α. let κ' : Lft = α ∷ κ in let Whole
+      = wand 𝓤 (𝓛.A.lft (α ∷ []) qr) (𝓛.A.lft (α ∷ []) full_share) in
       move ! (4 ∷ []) $ use1 𝓛 (‵ (flft κ ql) ⊛ ‵ (flft κ qr)) (𝓛.lfts.lft_split κ q) $ split ! $
       move ! (2 ∷ []) $ use1 𝓛 (‵ (flft (α ∷ []) qr) ⊛ raw Whole) (𝓛.lfts.lft_carve α qr) $ split ! $
       move ! (0 ∷ 3 ∷ []) $ use2 𝓛 (‵ (flft κ' qr)) (𝓛.lfts.lft_meet (α ∷ []) κ qr) $
       -- [the token of both; the way back; the tree's token; the value; the key; the tree; the other tokens]
-      move ! (5 ∷ 2 ∷ []) $ use2 𝓛 (later (some (λ (δ : GName). ‵ (Ref κ' (record r { ghost_name = δ })) ⊛ ‵ (LentAgain Tree κ κ' ql γ b o δ r.now))))
+      move ! (5 ∷ 2 ∷ []) $ use2 𝓛 (later (some
+      (λ (δ : GName). ‵ (Ref κ' (record r { ghost_name = δ })) ⊛ ‵ (LentAgain Tree κ κ' ql γ b o δ r.now))))
       (lends_again 𝓛 Tree (named 0) κ κ' ql γ b o (named 0) r.now) $ await ! tt $ pick ! (λ δ. split ! $
       -- [the loan; what the lender keeps; the token of both; the way back; the value; the key; the other tokens]
-      let κs' : Lfts 4 = (κ', κs.1) in let qs' : Shares 4 = (qr, qs.1) in let loan : MutBor (MapAndShape V.Denot) = record r { ghost_name = δ } in
-      let a' : ArgsAt (inserts.signature K V P gk dk ge de gpe dpe go d-o gpo dpo gp dp dd) κs' = (loan, (k, (x, tt))) in
-      let z : I.Ghost = ((κs', qs', (⊑_trans κ' κ κ₁ (meet_⊑_right (α ∷ []) κ) bounds.0, (⊑_trans κ' κ κ₂ (meet_⊑_right (α ∷ []) κ) bounds.1.0, tt)), a', (mut_vals loan, (u ∷ [], (v ∷ [], tt)))), tt) in
-      use0 𝓛 (raw (fact 𝓤 (κ₁ ⊑ K.lives)) ⊛ raw (fact 𝓤 (κ₂ ⊑ V.lives)) ⊛ raw (fact 𝓤 (κ₃ ⊑ P.lives)) ⊛ ‵ ftrue) (beside 𝓤 (κ₁ ⊑ K.lives) in_key (beside 𝓤 (κ₂ ⊑ V.lives) in_value (beside 𝓤 (κ₃ ⊑ P.lives) in_partial (id⊢ 𝓤 (emp 𝓤))))) $
+      let κs' : Lfts 4 = (κ', κs.1) in let qs' : Shares 4 = (qr, qs.1) in let loan : MutBor (MapAndShape V.Denot)
+      = record r { ghost_name = δ } in
+      let a' : ArgsAt (inserts.signature K V P gk dk ge de gpe dpe go d-o gpo dpo gp dp dd) κs'
+      = (loan, (k, (x, tt))) in
+      let z : I.Ghost = (
+        (
+          κs',
+          qs',
+          (
+            ⊑_trans κ' κ κ₁ (meet_⊑_right (α ∷ []) κ) bounds.0,
+            (⊑_trans κ' κ κ₂ (meet_⊑_right (α ∷ []) κ) bounds.1.0, tt),
+          ),
+          a',
+          (mut_vals loan, (u ∷ [], (v ∷ [], tt))),
+        ),
+        tt,
+      ) in
+      use0 𝓛 (raw (fact 𝓤 (κ₁ ⊑ K.lives)) ⊛ raw (fact 𝓤 (κ₂ ⊑ V.lives)) ⊛ raw (fact 𝓤 (κ₃ ⊑ P.lives)) ⊛ ‵ ftrue)
+      (beside 𝓤 (κ₁ ⊑ K.lives) in_key (beside 𝓤 (κ₂ ⊑ V.lives) in_value
+      (beside 𝓤 (κ₃ ⊑ P.lives) in_partial (id⊢ 𝓤 (emp 𝓤))))) $
       nothing ! $ move ! (2 ∷ 7 ∷ 6 ∷ 0 ∷ []) $ group ! 4 $
       -- [the arguments; what is asked; what the lender keeps; the token of both; the way back; the other tokens]
       move ! (3 ∷ 5 ∷ []) $ join ! $ move ! (0 ∷ 1 ∷ []) $ join ! $ join ! $ use1 𝓛 (raw (I.pre z)) (id⊢ 𝓤 _) $
-      calls_at ! (framed 𝓤 𝓛.H 𝓜 (tables 𝓤 𝓛.H 𝓜 𝓡 𝓡.env)) I inserts_by z (and_then ! (get ! refl) (and_then ! (get ! refl) (and_then ! (get ! refl) (no_more !)))) (λ v₁.
-      use1 𝓛 (later (some (λ (s : Tried.Denot). ((‵ (flft κ' qr) ⊛ Rest) ⊛ ‵ (Tried.own_val s (v₁ ∷ []))) ⊛ some (λ (ws : Lasts (inserts.ended K V P gk dk ge de gpe dpe go d-o gpo dpo gp dp dd) κs' a').
-      ‵ (lasts (inserts.ended K V P gk dk ge de gpe dpe go d-o gpo dpo gp dp dd) κs' a' ws) ⊛ raw (fact 𝓤 (s.key ≡ k)) ⊛ raw (fact 𝓤 (Inserted y s ws.0)) ⊛ raw (fact 𝓤 (Unchanged y s ws.0)))))) (id⊢ 𝓤 _) $
+      calls_at ! (framed 𝓤 𝓛.H 𝓜 (tables 𝓤 𝓛.H 𝓜 𝓡 𝓡.env)) I inserts_by z
+      (and_then ! (get ! refl) (and_then ! (get ! refl) (and_then ! (get ! refl) (no_more !)))) (λ v₁.
+      use1 𝓛 (later (some (λ (s : Tried.Denot). ((‵ (flft κ' qr) ⊛ Rest) ⊛ ‵ (Tried.own_val s (v₁ ∷ []))) ⊛ some
+      (λ (ws : Lasts (inserts.ended K V P gk dk ge de gpe dpe go d-o gpo dpo gp dp dd) κs' a').
+      ‵ (lasts (inserts.ended K V P gk dk ge de gpe dpe go d-o gpo dpo gp dp dd) κs' a' ws) ⊛ raw (fact 𝓤 (s.key ≡ k)) ⊛
+      raw (fact 𝓤 (Inserted y s ws.0)) ⊛ raw (fact 𝓤 (Unchanged y s ws.0)))))) (id⊢ 𝓤 _) $
       await ! tt $ pick ! (λ s. split ! $ split ! $ split ! $
       -- [the token of both; the other tokens; the outcome; what is said; what the lender keeps; the way back]
       move ! (3 ∷ []) $ pick ! (λ ws. let n : MapAndShape V.Denot = ws.0 in split ! $ move ! (1 ∷ []) $
-      split ! $ heard ! (s.key ≡ k) (λ same. split ! $ heard ! (Inserted y s n) (λ inserted. heard ! (Unchanged y s n) (λ unchanged.
+      split ! $ heard ! (s.key ≡ k) (λ same. split ! $ heard ! (Inserted y s n)
+      (λ inserted. heard ! (Unchanged y s n) (λ unchanged.
       fsplit ! $ fsplit ! $
-      -- [the loan's last value; its borrow; nothing; the token of both; the other tokens; the outcome; what the lender keeps; the way back]
+      -- [the loan's last value; its borrow; nothing; the token of both; the other tokens; the outcome; what the lender
+      -- keeps; the way back]
       move ! (3 ∷ []) $ use1 𝓛 (‵ (flft (α ∷ []) qr) ⊛ ‵ (flft κ qr)) (𝓛.lfts.lft_unmeet (α ∷ []) κ qr) $ split ! $
-      move ! (0 ∷ 8 ∷ []) $ use2 𝓛 (‵ (flft (α ∷ []) full_share)) (apply∗ 𝓤 (𝓛.A.lft (α ∷ []) qr) (𝓛.A.lft (α ∷ []) full_share)) $
+      move ! (0 ∷ 8 ∷ []) $ use2 𝓛 (‵ (flft (α ∷ []) full_share))
+      (apply∗ 𝓤 (𝓛.A.lft (α ∷ []) qr) (𝓛.A.lft (α ∷ []) full_share)) $
       lft_end ! tt $ use1 𝓛 (‵ (fdead κ')) (𝓛.lfts.dead-incl κ' (α ∷ []) (meet_⊑_left (α ∷ []) κ)) $
-      -- [the loan is over; a token of the tree; the last value; the borrow; nothing; the other tokens; the outcome; what the lender keeps]
-      move ! (0 ∷ 7 ∷ 2 ∷ []) $ use3 𝓛 (later (‵ (Ref κ (record r { now = n })) ⊛ ‵ (flft κ ql))) (comes_back 𝓛 Tree (named 0) κ κ' ql γ b o δ r.now n) $ await ! tt $ split ! $
-      move ! (1 ∷ 2 ∷ []) $ use2 𝓛 (‵ (flft κ q)) (𝓛.lfts.lft_join κ q) $ move ! (2 ∷ []) $ drop ! $ move ! (2 ∷ []) $ drop ! $
+      -- [the loan is over; a token of the tree; the last value; the borrow; nothing; the other tokens; the outcome;
+      -- what the lender keeps]
+      move ! (0 ∷ 7 ∷ 2 ∷ []) $ use3 𝓛 (later (‵ (Ref κ (record r { now = n })) ⊛ ‵ (flft κ ql)))
+      (comes_back 𝓛 Tree (named 0) κ κ' ql γ b o δ r.now n) $ await ! tt $ split ! $
+      move ! (1 ∷ 2 ∷ []) $ use2 𝓛 (‵ (flft κ q)) (𝓛.lfts.lft_join κ q) $ move ! (2 ∷ []) $ drop ! $ move ! (2 ∷ []) $
+      drop ! $
       -- [the tree's token; the tree; the other tokens; what was tried]
-      move ! (3 ∷ []) $ peeks ! Tried (Is Tried) (shows 𝓛 Tried) s (v₁ ∷ []) (λ is_tried. let typed_tried = ((tried_is.lawful 𝓛).typed s (v₁ ∷ []) is_tried).0 in
-      lands_as ! refl refl typed_tried $ sets ! (addr ! (through ! refl (stop !))) refl (tt, tt) $ sets ! (of_opd ! (get ! refl)) refl typed_tried $
+      move ! (3 ∷ []) $ peeks ! Tried (Is Tried) (shows 𝓛 Tried) s (v₁ ∷ []) (λ is_tried. let typed_tried
+      = ((tried_is.lawful 𝓛).typed s (v₁ ∷ []) is_tried).0 in
+      lands_as ! refl refl typed_tried $ sets ! (addr ! (through ! refl (stop !))) refl (tt, tt) $ sets !
+      (of_opd ! (get ! refl)) refl typed_tried $
       -- [what was tried; the tree's token; the tree; the other tokens]
       let tokens : Toks = (κ, q) ∷ (κ₃, q₃) ∷ [] in let in_tree = meet_⊑_left κ κ₃ in
-      let lives = tree_laws.the_within (param 0 K) (param 1 V) (param 2 P) gk gpe go gpo gp (κ ++ κ₃) (⊑_trans (κ ++ κ₃) κ K.lives in_tree (⊑_trans κ κ₁ K.lives bounds.0 in_key)) (⊑_trans (κ ++ κ₃) κ V.lives in_tree (⊑_trans κ κ₂ V.lives bounds.1.0 in_value)) (⊑_trans (κ ++ κ₃) κ₃ P.lives (meet_⊑_right κ κ₃) in_partial) in
+      let lives = tree_laws.the_within (param 0 K) (param 1 V) (param 2 P) gk gpe go gpo gp (κ ++ κ₃)
+      (⊑_trans (κ ++ κ₃) κ K.lives in_tree (⊑_trans κ κ₁ K.lives bounds.0 in_key))
+      (⊑_trans (κ ++ κ₃) κ V.lives in_tree (⊑_trans κ κ₂ V.lives bounds.1.0 in_value))
+      (⊑_trans (κ ++ κ₃) κ₃ P.lives (meet_⊑_right κ κ₃) in_partial) in
       move ! (2 ∷ []) $ fsplit3 ! $ feq_l ! (λ _.
       -- [the value with_present; the borrow; what was tried; the tree's token; the other tokens]
       move ! (4 ∷ []) $ split ! $ move ! (1 ∷ []) $ split ! $ move ! (1 ∷ []) $ split ! $
-      -- [P's token; nothing; V's token; K's token; the value with_present; the borrow; what was tried; the tree's token]
+      -- [P's token; nothing; V's token; K's token; the value with_present; the borrow; what was tried; the tree's
+      -- token]
       move ! (7 ∷ 0 ∷ []) $ join ! $ use1 𝓛 (raw (lfts 𝓛 tokens)) (id⊢ 𝓤 _) $ move ! (4 ∷ 5 ∷ 0 ∷ []) $
-      use3 𝓛 (later (‵ (fobs γ (Tree.coded.code n)) ⊛ (‵ (fbor κ (part_at Tree full_share n b o)) ⊛ raw (lfts 𝓛 tokens)))) (settles 𝓛 (mem Tree) κ tokens in_tree γ n b o) $ await ! tt $ split ! $
+      use3 𝓛 (later (‵ (fobs γ (Tree.coded.code n)) ⊛
+      (‵ (fbor κ (part_at Tree full_share n b o)) ⊛ raw (lfts 𝓛 tokens))))
+      (settles 𝓛 (mem Tree) κ tokens in_tree γ n b o) $ await ! tt $ split ! $
       use1 𝓛 (‵ (fres γ (Tree.coded.code n))) (𝓛.names.obs-res γ (Tree.coded.code n)) $ move ! (1 ∷ []) $
-      use1 𝓛 (later (‵ (hidden_shr Tree κ n b o) ⊛ raw (lfts 𝓛 tokens))) (tree_is.shares 𝓛 n κ tokens b o lives in_tree) $ await ! tt $ split ! $
-      feq_i ! (List Val) (vptr b o ∷ []) (vptr b o ∷ []) refl $ fjoin ! $ move ! (1 ∷ []) $ use1 𝓛 (‵ (flft κ q) ⊛ ‵ (flft κ₃ q₃)) (id⊢ 𝓤 _) $ split ! $
+      use1 𝓛 (later (‵ (hidden_shr Tree κ n b o) ⊛ raw (lfts 𝓛 tokens))) (tree_is.shares 𝓛 n κ tokens b o lives in_tree)
+      $ await ! tt $ split ! $
+      feq_i ! (List Val) (vptr b o ∷ []) (vptr b o ∷ []) refl $ fjoin ! $ move ! (1 ∷ []) $ use1 𝓛
+      (‵ (flft κ q) ⊛ ‵ (flft κ₃ q₃)) (id⊢ 𝓤 _) $ split ! $
       -- [the tree's token; P's token; the shared tree; its last value; nothing; V's token; K's token; what was tried]
-      move ! (0 ∷ 6 ∷ 5 ∷ 1 ∷ 4 ∷ []) $ group ! 5 $ nothing ! $ move ! (2 ∷ 4 ∷ 0 ∷ []) $ group ! 3 $ move ! (1 ∷ 0 ∷ []) $ join ! $
+      move ! (0 ∷ 6 ∷ 5 ∷ 1 ∷ 4 ∷ []) $ group ! 5 $ nothing ! $ move ! (2 ∷ 4 ∷ 0 ∷ []) $ group ! 3 $ move !
+      (1 ∷ 0 ∷ []) $ join ! $
       -- [the arguments with the tokens; the tree's last value]
       let seen : Bor (MapAndShape V.Denot) = record { ref_ptr = (b, o); now = n } in
       let z' : S.Ghost = ((κs, qs, bounds, (seen, (s, tt)), (shr_vals seen, (v₁ ∷ [], tt))), tt) in
-      let may = subst (λ (h : K.Denot). IfErr s.outcome (StandsAt n.pairs (gk.bytes h))) (sym same) (lemmas.stored_stands r.now n (gk.bytes k) x s.outcome inserted) in
-      use0 𝓛 (raw (fact 𝓤 (κ₁ ⊑ K.lives)) ⊛ raw (fact 𝓤 (κ₂ ⊑ V.lives)) ⊛ raw (fact 𝓤 (κ₃ ⊑ P.lives)) ⊛ raw (fact 𝓤 (IfErr s.outcome (StandsAt n.pairs (gk.bytes s.key)))))
-      (beside 𝓤 (κ₁ ⊑ K.lives) in_key (beside 𝓤 (κ₂ ⊑ V.lives) in_value (beside 𝓤 (κ₃ ⊑ P.lives) in_partial (fact_i 𝓤 _ (emp 𝓤) may)))) $
+      let may = subst (λ (h : K.Denot). IfErr s.outcome (StandsAt n.pairs (gk.bytes h))) (sym same)
+      (lemmas.stored_stands r.now n (gk.bytes k) x s.outcome inserted) in
+      use0 𝓛 (raw (fact 𝓤 (κ₁ ⊑ K.lives)) ⊛ raw (fact 𝓤 (κ₂ ⊑ V.lives)) ⊛ raw (fact 𝓤 (κ₃ ⊑ P.lives)) ⊛ raw
+      (fact 𝓤 (IfErr s.outcome (StandsAt n.pairs (gk.bytes s.key)))))
+      (beside 𝓤 (κ₁ ⊑ K.lives) in_key (beside 𝓤 (κ₂ ⊑ V.lives) in_value
+      (beside 𝓤 (κ₃ ⊑ P.lives) in_partial (fact_i 𝓤 _ (emp 𝓤) may)))) $
       move ! (1 ∷ 0 ∷ []) $ join ! $ use1 𝓛 (raw (S.pre z')) (id⊢ 𝓤 _) $
-      calls_at ! (framed 𝓤 𝓛.H 𝓜 (tables 𝓤 𝓛.H 𝓜 𝓡 𝓡.env)) S with_present_by z' (and_then ! (get ! refl) (and_then ! (get ! refl) (no_more !))) (λ v₂.
-      use1 𝓛 (later (some (λ (t : (Shown κ).Denot). (raw (alive 𝓛 signature κs qs) ⊛ ‵ ((Shown κ).own_val t (v₂ ∷ []))) ⊛ some (λ (ws : Lasts (with_present.ended K V P gk dk ge de gpe dpe go d-o gpo dpo gp dp dd dr) κs z'.0.3).
-      ‵ (lasts (with_present.ended K V P gk dk ge de gpe dpe go d-o gpo dpo gp dp dd dr) κs z'.0.3 ws) ⊛ raw (fact 𝓤 (AddsPresent n.pairs (gk.bytes s.key) s.outcome t)))))) (id⊢ 𝓤 _) $
-      await ! tt $ pick ! (λ t. split ! $ move ! (1 ∷ []) $ pick ! (λ ws'. split ! $ drop ! $ heard ! (AddsPresent n.pairs (gk.bytes s.key) s.outcome t) (λ is'. let is = subst (λ (h : K.Denot). AddsPresent n.pairs (gk.bytes h) s.outcome t) same is' in split ! $ move ! (1 ∷ []) $
+      calls_at ! (framed 𝓤 𝓛.H 𝓜 (tables 𝓤 𝓛.H 𝓜 𝓡 𝓡.env)) S with_present_by z'
+      (and_then ! (get ! refl) (and_then ! (get ! refl) (no_more !))) (λ v₂.
+      use1 𝓛 (later (some (λ (t : (Shown κ).Denot). (raw (alive 𝓛 signature κs qs) ⊛ ‵ ((Shown κ).own_val t (v₂ ∷ [])))
+      ⊛ some (λ (ws : Lasts (with_present.ended K V P gk dk ge de gpe dpe go d-o gpo dpo gp dp dd dr) κs z'.0.3).
+      ‵ (lasts (with_present.ended K V P gk dk ge de gpe dpe go d-o gpo dpo gp dp dd dr) κs z'.0.3 ws) ⊛ raw
+      (fact 𝓤 (AddsPresent n.pairs (gk.bytes s.key) s.outcome t)))))) (id⊢ 𝓤 _) $
+      await ! tt $ pick ! (λ t. split ! $ move ! (1 ∷ []) $ pick !
+      (λ ws'. split ! $ drop ! $ heard ! (AddsPresent n.pairs (gk.bytes s.key) s.outcome t) (λ is'. let is
+      = subst (λ (h : K.Denot). AddsPresent n.pairs (gk.bytes h) s.outcome t) same is' in
+      split ! $ move ! (1 ∷ []) $
       peeks ! (Shown κ) (Is (Shown κ)) (shows 𝓛 (Shown κ)) t (v₂ ∷ []) (λ is_shown.
-      lands_as ! refl refl ((((shown_is κ).lawful 𝓛).typed t (v₂ ∷ []) is_shown).0) $ returns ! (look_at ! 0 refl) $ free_all ! refl $
+      lands_as ! refl refl ((((shown_is κ).lawful 𝓛).typed t (v₂ ∷ []) is_shown).0) $ returns ! (look_at ! 0 refl) $
+      free_all ! refl $
       -- [the result; the tokens; the tree's last value]
       move ! (1 ∷ 0 ∷ []) $ join ! $ move ! (1 ∷ []) $
-      use1 𝓛 (‵ (follows_so Tree Tree γ none (λ _ _. ⊤) (lemmas.EndsAs r.now n (gk.bytes k) x t))) (rests 𝓛 Tree γ (lemmas.EndsAs r.now n (gk.bytes k) x t) n (lemmas.ends_as_told r.now n (gk.bytes k) x s.outcome t is inserted unchanged)) $
-      use0 𝓛 (raw (Told y t)) (fact_i 𝓤 _ (emp 𝓤) (lemmas.tries_insert r.now n (gk.bytes k) x s.outcome t is inserted)) $
-      move ! (1 ∷ 0 ∷ []) $ join ! $ nothing ! $ nothing ! $ fjoin ! $ nothing ! $ fjoin ! $ nothing ! $ fjoin ! $ join ! $
-      use1 𝓛 (raw ((Said (At y u v)).ensures tt t)) (ex_i 𝓤 (λ (us : Lasts (tries.ended K V P gk dk ge de gpe dpe go d-o gpo dpo gp dp dd dr) κs a). sep 𝓤 (sem 𝓛 (lasts (tries.ended K V P gk dk ge de gpe dpe go d-o gpo dpo gp dp dd dr) κs a us)) (sep 𝓤 (sem 𝓛 (follows_so Tree Tree γ none (λ _ _. ⊤) (lemmas.EndsAs r.now n (gk.bytes k) x t))) (Told y t))) (tt, (tt, (tt, tt)))) $ move ! (1 ∷ 0 ∷ []) $ join ! $
-      by ! (via 𝓤 (ex 𝓤 (Done (At y u v) v₂)) (ex_i 𝓤 (Done (At y u v) v₂) t) (𝓛.laws.⇛_intro (ex 𝓤 (Done (At y u v) v₂)))))))))))))))))))))))))
+      use1 𝓛 (‵ (follows_so Tree Tree γ none (λ _ _. ⊤) (lemmas.EndsAs r.now n (gk.bytes k) x t)))
+      (rests 𝓛 Tree γ (lemmas.EndsAs r.now n (gk.bytes k) x t) n
+      (lemmas.ends_as_told r.now n (gk.bytes k) x s.outcome t is inserted unchanged)) $
+      use0 𝓛 (raw (CallbackOutcome y t)) (fact_i 𝓤 _ (emp 𝓤)
+      (lemmas.tries_insert r.now n (gk.bytes k) x s.outcome t is inserted)) $
+      move ! (1 ∷ 0 ∷ []) $ join ! $ nothing ! $ nothing ! $ fjoin ! $ nothing ! $ fjoin ! $ nothing ! $ fjoin ! $ join
+      ! $
+      use1 𝓛 (raw ((Said (At y u v)).ensures tt t))
+      (ex_i 𝓤 (λ (us : Lasts (tries.ended K V P gk dk ge de gpe dpe go d-o gpo dpo gp dp dd dr) κs a). sep 𝓤
+      (sem 𝓛 (lasts (tries.ended K V P gk dk ge de gpe dpe go d-o gpo dpo gp dp dd dr) κs a us))
+      (sep 𝓤 (sem 𝓛 (follows_so Tree Tree γ none (λ _ _. ⊤) (lemmas.EndsAs r.now n (gk.bytes k) x t)))
+      (CallbackOutcome y t))) (tt, (tt, (tt, tt)))) $ move ! (1 ∷ 0 ∷ []) $ join ! $
+      by ! (via 𝓤 (ex 𝓤 (Done (At y u v) v₂)) (ex_i 𝓤 (Done (At y u v) v₂) t)
+      (𝓛.laws.⇛_intro (ex 𝓤 (Done (At y u v) v₂)))))))))))))))))))))))))
 
   walks : (y : C.Ghost) → Walked y
   walks y =
-      let a = y.0.3 in let vss = y.0.4 in let Rs = types_at signature.params y.0.0 in let On = on_entry 𝓛 signature y.0.0 y.0.1 a vss in
-      let with : List Val → List Val → List Val → C.Ghost = λ us us' us''. ((y.0.0, y.0.1, y.0.2, a, (us, (us', (us'', tt)))), tt) in
-      fact_use 𝓤 (Are Rs (Ises Rs) a vss) (via 𝓤 (sem 𝓛 (owns Rs a vss)) (via 𝓤 On (fst∗ 𝓤 On ((Said y).requires tt)) (snd∗ 𝓤 (alive 𝓛 signature y.0.0 y.0.1) (sem 𝓛 (owns Rs a vss)))) (owns_show 𝓛 Rs (Ises Rs) (showss 𝓛 Rs) a vss)) (λ are.
-      subst (λ (us : List Val). Walked (with us vss.1.0 vss.1.1.0)) (sym (mut_Tells (named 0) y.0.0.0 Tree a.0 vss.0 are.0))
-      (subst (λ (us : List Val). Walked (with (mut_vals a.0) us vss.1.1.0)) (sym (Lone-is vss.1.0 ((param_laws 0 K LK).single a.1.0 vss.1.0 are.1.0)))
-      (subst (λ (us : List Val). Walked (with (mut_vals a.0) (only vss.1.0 ∷ []) us)) (sym (Lone-is vss.1.1.0 ((param_laws 1 V LV).single a.1.1.0 vss.1.1.0 are.1.1.0))) (walk y (only vss.1.0) (only vss.1.1.0)))))
+      let a = y.0.3 in let vss = y.0.4 in let Rs = types_at signature.params y.0.0 in let On
+      = on_entry 𝓛 signature y.0.0 y.0.1 a vss in
+      let with : List Val → List Val → List Val → C.Ghost
+      = λ us us' us''. ((y.0.0, y.0.1, y.0.2, a, (us, (us', (us'', tt)))), tt) in
+      fact_use 𝓤 (Are Rs (Ises Rs) a vss) (via 𝓤 (sem 𝓛 (owns Rs a vss))
+      (via 𝓤 On (fst∗ 𝓤 On ((Said y).requires tt)) (snd∗ 𝓤 (alive 𝓛 signature y.0.0 y.0.1) (sem 𝓛 (owns Rs a vss))))
+      (owns_show 𝓛 Rs (Ises Rs) (showss 𝓛 Rs) a vss)) (λ are.
+      subst (λ (us : List Val). Walked (with us vss.1.0 vss.1.1.0))
+      (sym (mut_Tells (named 0) y.0.0.0 Tree a.0 vss.0 are.0))
+      (subst (λ (us : List Val). Walked (with (mut_vals a.0) us vss.1.1.0))
+      (sym (Lone-is vss.1.0 ((param_laws 0 K LK).single a.1.0 vss.1.0 are.1.0)))
+      (subst (λ (us : List Val). Walked (with (mut_vals a.0) (only vss.1.0 ∷ []) us))
+      (sym (Lone-is vss.1.1.0 ((param_laws 1 V LV).single a.1.1.0 vss.1.1.0 are.1.1.0)))
+      (walk y (only vss.1.0) (only vss.1.1.0)))))
 
 pub try_insert_spec : {M : Type 1} → statement M
 unfolding tables_of
 try_insert_spec 𝓤 𝓛 𝓜 𝓡 wired K V P LK LV LP gk dk ge de gpe dpe go d-o gpo dpo gp dp dd dr mk me mpe mo mpo mp md mr =
-    entered 𝓤 𝓛.H (triple_of 𝓛 (tries.signature K V P gk dk ge de gpe dpe go d-o gpo dpo gp dp dd dr) (tries.spec K V P gk dk ge de gpe dpe go d-o gpo dpo gp dp dd dr 𝓛 𝓜.mem 𝓡.returns)) _ _ _ _ (code.unfolded 𝓤 𝓛.H 𝓜 𝓡 wired (K, (V, (P, tt))) dk de dpe d-o dpo dp dd dr)
+    entered 𝓤 𝓛.H (triple_of 𝓛 (tries.signature K V P gk dk ge de gpe dpe go d-o gpo dpo gp dp dd dr)
+    (tries.spec K V P gk dk ge de gpe dpe go d-o gpo dpo gp dp dd dr 𝓛 𝓜.mem 𝓡.returns)) _ _ _ _
+    (code.unfolded 𝓤 𝓛.H 𝓜 𝓡 wired (K, (V, (P, tt))) dk de dpe d-o dpo dp dd dr)
     (walks 𝓤 𝓛 𝓜 𝓡 wired K V P LK LV LP gk dk ge de gpe dpe go d-o gpo dpo gp dp dd dr mk me mpe mo mpo mp md mr)

@@ -10,63 +10,95 @@ use Rattle.rart.proofs.tree.AdaptiveRadixTree.try_update_k.Goals as goal
 -- it wasn't called
 pub returns-in-NotCloned-clause-refused : goal.returns-in-NotCloned-clause-refused
 returns-in-NotCloned-clause-refused g c =
-    let pairs = (not-called g.V.Clone.is_infallible g.F.FnOnce c.args.f (g.K.KeyTrait.bytes c.args.key.now) c.args.self.now.pairs c.update_tried-outcome.new.tree.pairs c.update_tried-outcome.result.0 c.put_back.ensures.same c.canonical.ensures.ascending (rw c.in-NotCloned.is at c.update_tried-outcome.ensures.update)).0 in
-    same-map c.update_tried-outcome.new.tree c.args.self.now pairs (c.update_tried-outcome.ensures.nodes (ap keys_of pairs))
+    let pairs = (not-called g.V.Clone.is_infallible g.F.FnOnce c.args.f (g.K.KeyTrait.bytes c.args.key.now)
+    c.args.self.now.pairs c.update_tried-outcome.new.tree.pairs c.update_tried-outcome.result.0
+    c.put_back.ensures.same c.canonical.ensures.ascending
+    (rw c.in-NotCloned.is at c.update_tried-outcome.ensures.update)).0 in
+    same-map c.update_tried-outcome.new.tree c.args.self.now pairs
+    (c.update_tried-outcome.ensures.nodes (ap keys_of pairs))
 
 pub returns-in-NotCloned-clause-not_cloned : goal.returns-in-NotCloned-clause-not_cloned
 returns-in-NotCloned-clause-not_cloned g c =
-    λ _. (not-called g.V.Clone.is_infallible g.F.FnOnce c.args.f (g.K.KeyTrait.bytes c.args.key.now) c.args.self.now.pairs c.update_tried-outcome.new.tree.pairs c.update_tried-outcome.result.0 c.put_back.ensures.same c.canonical.ensures.ascending (rw c.in-NotCloned.is at c.update_tried-outcome.ensures.update)).1
+    λ _. (not-called g.V.Clone.is_infallible g.F.FnOnce c.args.f (g.K.KeyTrait.bytes c.args.key.now)
+    c.args.self.now.pairs c.update_tried-outcome.new.tree.pairs c.update_tried-outcome.result.0
+    c.put_back.ensures.same c.canonical.ensures.ascending
+    (rw c.in-NotCloned.is at c.update_tried-outcome.ensures.update)).1
 
 -- it failed
 pub returns-in-Failed-clause-called : goal.returns-in-Failed-clause-called
 returns-in-Failed-clause-called g c =
-    λ _. (failed g.V.Clone.is_infallible g.F.FnOnce c.args.f (g.K.KeyTrait.bytes c.args.key.now) c.args.self.now.pairs c.update_tried-outcome.new.tree.pairs c.update_tried-outcome.result.0 c.put_back.ensures.same c.canonical.ensures.ascending c.in-Failed.error (rw c.in-Failed.is at c.update_tried-outcome.ensures.update)).0
+    λ _. (failed g.V.Clone.is_infallible g.F.FnOnce c.args.f (g.K.KeyTrait.bytes c.args.key.now) c.args.self.now.pairs
+    c.update_tried-outcome.new.tree.pairs c.update_tried-outcome.result.0 c.put_back.ensures.same
+    c.canonical.ensures.ascending c.in-Failed.error (rw c.in-Failed.is at c.update_tried-outcome.ensures.update)).0
 
 pub returns-in-Failed-clause-refused : goal.returns-in-Failed-clause-refused
 returns-in-Failed-clause-refused g c =
-    let pairs = (failed g.V.Clone.is_infallible g.F.FnOnce c.args.f (g.K.KeyTrait.bytes c.args.key.now) c.args.self.now.pairs c.update_tried-outcome.new.tree.pairs c.update_tried-outcome.result.0 c.put_back.ensures.same c.canonical.ensures.ascending c.in-Failed.error (rw c.in-Failed.is at c.update_tried-outcome.ensures.update)).1 in
-    same-map c.update_tried-outcome.new.tree c.args.self.now pairs (c.update_tried-outcome.ensures.nodes (ap keys_of pairs))
+    let pairs = (failed g.V.Clone.is_infallible g.F.FnOnce c.args.f (g.K.KeyTrait.bytes c.args.key.now)
+    c.args.self.now.pairs c.update_tried-outcome.new.tree.pairs c.update_tried-outcome.result.0
+    c.put_back.ensures.same c.canonical.ensures.ascending c.in-Failed.error
+    (rw c.in-Failed.is at c.update_tried-outcome.ensures.update)).1 in
+    same-map c.update_tried-outcome.new.tree c.args.self.now pairs
+    (c.update_tried-outcome.ensures.nodes (ap keys_of pairs))
 
 -- what it asked for is done
 pub returns-in-Ok-clause-called : goal.returns-in-Ok-clause-called
 returns-in-Ok-clause-called g c =
-    λ _. done g.V.Clone.is_infallible g.F.FnOnce c.args.f (g.K.KeyTrait.bytes c.args.key.now) c.args.self.now.pairs c.update_tried-outcome.new.tree.pairs c.update_tried-outcome.result.0 _ c.in-Ok.outcome _ c.is_touched.ensures c.in-Ok.is (rw c.in-Answered.is at c.update_tried-outcome.ensures.update)
+    λ _. done g.V.Clone.is_infallible g.F.FnOnce c.args.f (g.K.KeyTrait.bytes c.args.key.now) c.args.self.now.pairs
+    c.update_tried-outcome.new.tree.pairs c.update_tried-outcome.result.0 _ c.in-Ok.outcome _ c.is_touched.ensures
+    c.in-Ok.is (rw c.in-Answered.is at c.update_tried-outcome.ensures.update)
 
 -- an insertion is refused
 pub returns-in-Err-Insert-clause-called : goal.returns-in-Err-Insert-clause-called
 returns-in-Err-Insert-clause-called g c =
-    λ _. (not-inserted g.V.Clone.is_infallible g.F.FnOnce c.args.f (g.K.KeyTrait.bytes c.args.key.now) c.args.self.now.pairs c.update_tried-outcome.new.tree.pairs c.update_tried-outcome.result.0 _ c.in-Err-Insert.refused (c.in-Err-Insert.is ∙ ap Err c.in-Err-Insert.field-0-is) (rw c.in-Answered.is at c.update_tried-outcome.ensures.update)).0
+    λ _. (not-inserted g.V.Clone.is_infallible g.F.FnOnce c.args.f (g.K.KeyTrait.bytes c.args.key.now)
+    c.args.self.now.pairs c.update_tried-outcome.new.tree.pairs c.update_tried-outcome.result.0 _
+    c.in-Err-Insert.refused (c.in-Err-Insert.is ∙ ap Err c.in-Err-Insert.field-0-is)
+    (rw c.in-Answered.is at c.update_tried-outcome.ensures.update)).0
 
 pub returns-in-Err-Insert-clause-refused : goal.returns-in-Err-Insert-clause-refused
 returns-in-Err-Insert-clause-refused g c =
-    let pairs = (not-inserted g.V.Clone.is_infallible g.F.FnOnce c.args.f (g.K.KeyTrait.bytes c.args.key.now) c.args.self.now.pairs c.update_tried-outcome.new.tree.pairs c.update_tried-outcome.result.0 _ c.in-Err-Insert.refused (c.in-Err-Insert.is ∙ ap Err c.in-Err-Insert.field-0-is) (rw c.in-Answered.is at c.update_tried-outcome.ensures.update)).1 in
-    same-map c.update_tried-outcome.new.tree c.args.self.now pairs (c.update_tried-outcome.ensures.nodes (ap keys_of pairs))
+    let pairs = (not-inserted g.V.Clone.is_infallible g.F.FnOnce c.args.f (g.K.KeyTrait.bytes c.args.key.now)
+    c.args.self.now.pairs c.update_tried-outcome.new.tree.pairs c.update_tried-outcome.result.0 _
+    c.in-Err-Insert.refused (c.in-Err-Insert.is ∙ ap Err c.in-Err-Insert.field-0-is)
+    (rw c.in-Answered.is at c.update_tried-outcome.ensures.update)).1 in
+    same-map c.update_tried-outcome.new.tree c.args.self.now pairs
+    (c.update_tried-outcome.ensures.nodes (ap keys_of pairs))
 
 -- a removal is refused
 pub restore-requires : goal.restore-requires
 restore-requires g c = record {
-  stands = some-left g.V.Clone.is_infallible g.F.FnOnce c.args.f (g.K.KeyTrait.bytes c.args.key.now) c.args.self.now.pairs c.update_tried-outcome.new.tree.pairs c.update_tried-outcome.result.0 _ (c.in-Err-Remove.is ∙ ap Err c.in-Err-Remove.field-0-is) (rw c.in-Answered.is at c.update_tried-outcome.ensures.update) c.sorted_map.ensures.put_at;
+  stands = some-left g.V.Clone.is_infallible g.F.FnOnce c.args.f (g.K.KeyTrait.bytes c.args.key.now)
+      c.args.self.now.pairs c.update_tried-outcome.new.tree.pairs c.update_tried-outcome.result.0 _ (c.in-Err-Remove.is
+      ∙ ap Err c.in-Err-Remove.field-0-is) (rw c.in-Answered.is at c.update_tried-outcome.ensures.update)
+      c.sorted_map.ensures.put_at;
 }
 
 pub unreachable-requires : goal.unreachable-requires
 unreachable-requires g c =
-    some-stood g.V.Clone.is_infallible g.F.FnOnce c.args.f (g.K.KeyTrait.bytes c.args.key.now) c.args.self.now.pairs c.update_tried-outcome.new.tree.pairs c.update_tried-outcome.result.0 _ (c.in-Err-Remove.is ∙ ap Err c.in-Err-Remove.field-0-is) (rw c.in-Answered.is at c.update_tried-outcome.ensures.update) c.in-None.is
+    some-stood g.V.Clone.is_infallible g.F.FnOnce c.args.f (g.K.KeyTrait.bytes c.args.key.now) c.args.self.now.pairs
+    c.update_tried-outcome.new.tree.pairs c.update_tried-outcome.result.0 _ (c.in-Err-Remove.is
+    ∙ ap Err c.in-Err-Remove.field-0-is) (rw c.in-Answered.is at c.update_tried-outcome.ensures.update) c.in-None.is
 
-back : (g : Over) (c : After-restore g) → TriesUpdate g.F.FnOnce c.args.f (g.K.KeyTrait.bytes c.args.key.now) c.args.self.now.pairs (Err Remove) c.restore.new.self.pairs × (c.restore.new.self.pairs ≡ c.args.self.now.pairs)
+back : (g : Over) (c : After-restore g) → TriesUpdate g.F.FnOnce c.args.f (g.K.KeyTrait.bytes c.args.key.now)
+    c.args.self.now.pairs (Err Remove) c.restore.new.self.pairs × (c.restore.new.self.pairs ≡ c.args.self.now.pairs)
 back g c =
-    put-back g.V.Clone.is_infallible g.F.FnOnce c.args.f (g.K.KeyTrait.bytes c.args.key.now) c.args.self.now.pairs c.update_tried-outcome.new.tree.pairs c.update_tried-outcome.result.0 _ (c.in-Err-Remove.is ∙ ap Err c.in-Err-Remove.field-0-is) (rw c.in-Answered.is at c.update_tried-outcome.ensures.update)
+    put-back g.V.Clone.is_infallible g.F.FnOnce c.args.f (g.K.KeyTrait.bytes c.args.key.now) c.args.self.now.pairs
+    c.update_tried-outcome.new.tree.pairs c.update_tried-outcome.result.0 _ (c.in-Err-Remove.is
+    ∙ ap Err c.in-Err-Remove.field-0-is) (rw c.in-Answered.is at c.update_tried-outcome.ensures.update)
     c.put_back.ensures.back c.canonical.ensures.ascending c.in-Some.old _ c.in-Some.is c.restore.ensures.pairs
 
 as-before : (g : Over) (c : After-restore g) → c.restore.new.self ≡ c.args.self.now
 as-before g c =
-    let nodes : c.restore.new.self.nodes ≡ c.args.self.now.nodes = c.restore.ensures.nodes ∙ (rw c.in-Err-Remove.is at c.update_tried-outcome.ensures.refused) in
+    let nodes : c.restore.new.self.nodes ≡ c.args.self.now.nodes = c.restore.ensures.nodes
+    ∙ (rw c.in-Err-Remove.is at c.update_tried-outcome.ensures.refused) in
     same-map c.restore.new.self c.args.self.now (back g c).1 nodes
 
 pub returns-in-Some-clause-called : goal.returns-in-Some-clause-called
 returns-in-Some-clause-called g c = λ _. (back g (goal.at.returns-in-Some-clause-called g c).After-restore).0
 
 pub returns-in-Some-clause-shape : goal.returns-in-Some-clause-shape
-returns-in-Some-clause-shape g c = rw (as-before g (goal.at.returns-in-Some-clause-shape g c).After-restore) c.canonical.ensures.shape
+returns-in-Some-clause-shape g c = rw (as-before g (goal.at.returns-in-Some-clause-shape g c).After-restore)
+    c.canonical.ensures.shape
 
 pub returns-in-Some-clause-refused : goal.returns-in-Some-clause-refused
 returns-in-Some-clause-refused g c = as-before g (goal.at.returns-in-Some-clause-refused g c).After-restore

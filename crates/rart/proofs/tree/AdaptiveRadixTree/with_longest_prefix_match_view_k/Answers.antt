@@ -6,9 +6,12 @@ use Rattle.rart.proofs.tree.AdaptiveRadixTree.with_longest_prefix_match_view_k.G
 
 pub with_longest_prefix_match_view_k-requires : goal.with_longest_prefix_match_view_k-requires
 with_longest_prefix_match_view_k-requires g c = record {
-  callable = subst (λ (m : List (List ℕ × g.row.V.Denot)). CanSeeFound g.F.FnOnce c.args.f (keys_of m) (longest_match (g.K.KeyTrait.bytes c.args.probe.now) m)) (sym c.seen.ensures.pairs) c.requires.callable;
+  callable = subst (λ (m : List (List ℕ × g.row.V.Denot)). CanSeeFound g.F.FnOnce c.args.f (keys_of m)
+      (longest_match (g.K.KeyTrait.bytes c.args.probe.now) m)) (sym c.seen.ensures.pairs) c.requires.callable;
 }
 
 pub returns-clause-called : goal.returns-clause-called
 returns-clause-called g c =
-    subst (λ (m : List (List ℕ × g.row.V.Denot)). IfOk c.with_longest_prefix_match_view_k.result (SeesFound g.F.FnOnce c.args.f (keys_of m) (longest_match (g.K.KeyTrait.bytes c.args.probe.now) m))) c.seen.ensures.pairs c.with_longest_prefix_match_view_k.ensures.called
+    subst (λ (m : List (List ℕ × g.row.V.Denot)). IfOk c.with_longest_prefix_match_view_k.result
+    (SeesFound g.F.FnOnce c.args.f (keys_of m) (longest_match (g.K.KeyTrait.bytes c.args.probe.now) m)))
+    c.seen.ensures.pairs c.with_longest_prefix_match_view_k.ensures.called

@@ -2,5 +2,7 @@ use Rattle.rart_keys.specs.SortedMap.{lookup}
 use Rattle.rart.proofs.UpdateLemmas.{attempt-stays}
 use Rattle.rart.proofs.tree.update.update_tried.Goals as goal
 
-pub update_telling-requires-clause-stays : goal.update_telling-requires-clause-stays
-update_telling-requires-clause-stays g c = λ r x w h. attempt-stays _ g.F.FnOnce c.args.f (lookup (g.K.KeyTrait.bytes c.args.key.now) c.args.tree.now.pairs) r x w c.requires.stays (rw (h.shows, h.leaves) at h.met)
+pub update_returning-requires-clause-stays : goal.update_returning-requires-clause-stays
+update_returning-requires-clause-stays g c
+    = λ r x w h. attempt-stays _ g.F.FnOnce c.args.f (lookup (g.K.KeyTrait.bytes c.args.key.now) c.args.tree.now.pairs)
+    r x w c.requires.stays (rw (h.shows, h.leaves) at h.met)

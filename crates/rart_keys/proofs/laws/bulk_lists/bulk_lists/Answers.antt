@@ -1,4 +1,5 @@
-use Rattle.rart_keys.proofs.BulkListLemmas.{fault-there, fault-first, fault-none, last_wins-ascends, lookup-last_wins, strict-faultless, strict-stays}
+use Rattle.rart_keys.proofs.BulkListLemmas.{fault-there, fault-first, fault-none, last_wins-ascends, lookup-last_wins}
+use Rattle.rart_keys.proofs.BulkListLemmas.{strict-faultless, strict-stays}
 use Rattle.rart_keys.proofs.laws.bulk_lists.bulk_lists.Goals as goal
 
 pub returns : goal.returns

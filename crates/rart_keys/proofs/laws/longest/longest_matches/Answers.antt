@@ -2,4 +2,10 @@ use Rattle.rart_keys.proofs.LongestMatchLemmas.{longest-put, shorter-put, elsewh
 use Rattle.rart_keys.proofs.laws.longest.longest_matches.Goals as goal
 
 pub returns : goal.returns
-returns g c = record { put_longest = longest-put; put_shorter = shorter-put; put_elsewhere = elsewhere-put; without_elsewhere = elsewhere-without }
+returns g c = record {
+  put_longest = longest-put;
+  put_shorter = shorter-put;
+  put_elsewhere
+      = elsewhere-put;
+  without_elsewhere = elsewhere-without;
+}

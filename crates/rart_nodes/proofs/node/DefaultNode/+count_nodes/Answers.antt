@@ -3,7 +3,8 @@ use Rattle.std.specs.Prelude.{max}
 use Rattle.rart_nodes.specs.storages.Stored.{stored, width_of}
 use Rattle.rart_nodes.specs.tries.Trie.{children_in}
 use Rattle.rart_nodes.specs.tries.TrieCode.{as_children, node_count}
-use Rattle.rart_nodes.proofs.statistics.CountLemmas.{own-room, few-high, count-start, count-step, count-room, count-end, max-numbers}
+use Rattle.rart_nodes.proofs.statistics.CountLemmas.{own-room, few-high, count-start, count-step, count-room, count-end}
+use Rattle.rart_nodes.proofs.statistics.CountLemmas.{max-numbers}
 use Rattle.rart_nodes.proofs.node.DefaultNode.+count_nodes.Goals as goal
 
 pub add_node-requires : goal.add_node-requires
@@ -12,7 +13,8 @@ add_node-requires g t c = omega (
   c.requires,
   ap node_count c.self.view_is,
   c.num_children-children.ensures,
-  own-room (g.P.Partial.bytes c.self.inside.prefix) c.self.inside.value (width_of c.self.inside.storage) (stored c.self.inside.storage),
+  own-room (g.P.Partial.bytes c.self.inside.prefix) c.self.inside.value (width_of c.self.inside.storage)
+      (stored c.self.inside.storage),
 )
 
 pub loop-byte-init : goal.loop-byte-init
@@ -20,7 +22,8 @@ loop-byte-init g t c = record {
   can = tt;
   finite = tt;
   counting = rw (← c.self.view_is) (count-start _ _ _ _ _ _ _ (stored c.self.inside.storage)
-      (ap as_children c.into_iter-byte-iterator.ensures.into_iter_gives ∙ c.iter-byte-items.ensures ∙ ap children_in (sym c.self.view_is))
+      (ap as_children c.into_iter-byte-iterator.ensures.into_iter_gives ∙ c.iter-byte-items.ensures
+      ∙ ap children_in (sym c.self.view_is))
       c.num_children-children.ensures (c.add_node.ensures ∙ rw (c.is_some.ensures, c.width.ensures) refl));
 }
 
@@ -37,7 +40,8 @@ loop-byte-preserved g t c = record {
   can = tt;
   finite = tt;
   counting = count-step _ _ _ _ _ _ _ _ _ _ c.in-Some.ensures.steps c.count_nodes.ensures.counts
-      (c.max-below.ensures ∙ max-numbers _ _ ∙ ap (max c.loop-byte.below) c.count_nodes.ensures.height) c.loop-byte.invariant.counting;
+      (c.max-below.ensures ∙ max-numbers _ _ ∙ ap (max c.loop-byte.below) c.count_nodes.ensures.height)
+      c.loop-byte.invariant.counting;
 }
 
 pub overflow_add-result : goal.overflow_add-result

@@ -26,26 +26,44 @@ returns-in_default-clause-ok g t c =
     sym (remove-absent c.args.key.now c.args.self.now c.requires.canonical (rw (← c.self.view_is) none))
 
 -- it ends here
-pub join_lone_child-requires-clause-within : goal.join_lone_child-requires-clause-within
-join_lone_child-requires-clause-within g t c = joins-canonical _ _ _ (width_of c.self.inside.storage) _ (rw (← c.self.view_is) at c.requires.canonical) (rw (← c.self.view_is) at c.requires.fits)
+pub merge_with_only_child-requires-clause-within : goal.merge_with_only_child-requires-clause-within
+merge_with_only_child-requires-clause-within g t c
+    = joins-canonical _ _ _ (width_of c.self.inside.storage) _ (rw (← c.self.view_is) at c.requires.canonical)
+    (rw (← c.self.view_is) at c.requires.fits)
 
 pub returns-in_default-first-clause-ok : goal.returns-in_default-first-clause-ok
-returns-in_default-first-clause-ok g t c = ap Some (c.join_lone_child.ensures ∙ ap (λ v. joined_if_lone (node (g.P.Partial.bytes c.self.inside.prefix) v (width_of c.self.inside.storage) (as_children (stored c.self.inside.storage)))) c.take.ensures.after)
-    ∙ rw (← c.self.view_is) (value-removed _ c.args.key.now _ _ _ (stored c.self.inside.storage) (rw (← c.self.view_is) at c.requires.canonical) c.in-Some.ensures c.in_default-first.ensures.value (rw (← c.self.view_is) at c.requires.stays))
+returns-in_default-first-clause-ok g t c
+    = ap Some (c.merge_with_only_child.ensures
+    ∙ ap (λ v. joined_if_lone (node (g.P.Partial.bytes c.self.inside.prefix) v (width_of c.self.inside.storage)
+    (as_children (stored c.self.inside.storage)))) c.take.ensures.after)
+    ∙ rw (← c.self.view_is) (value-removed _ c.args.key.now _ _ _ (stored c.self.inside.storage)
+    (rw (← c.self.view_is) at c.requires.canonical) c.in-Some.ensures c.in_default-first.ensures.value
+    (rw (← c.self.view_is) at c.requires.stays))
 
 -- it goes on in a child that stays
 pub take_below-requires : goal.take_below-requires
 take_below-requires g t c κs within =
     let canonical = rw (← c.self.view_is) at c.requires.canonical in (
-      omega (arith, c.decreases, ap node_count c.self.view_is, count-found _ 0 c.in-Some-seek_child_mut.child.now (stored c.self.inside.storage) canonical.2 c.in-Some-seek_child_mut.ensures.value),
+      omega (
+        arith,
+        c.decreases,
+        ap node_count c.self.view_is,
+        count-found _ 0 c.in-Some-seek_child_mut.child.now
+            (stored c.self.inside.storage) canonical.2 c.in-Some-seek_child_mut.ensures.value,
+      ),
       (
         within.0,
         (
           within.1,
           (
-            canonical-found _ 0 c.in-Some-seek_child_mut.child.now (stored c.self.inside.storage) canonical.2 c.in-Some-seek_child_mut.ensures.value,
+            canonical-found _ 0 c.in-Some-seek_child_mut.child.now (stored c.self.inside.storage) canonical.2
+                c.in-Some-seek_child_mut.ensures.value,
             (
-              fewer-within _ (longest_key (pairs_of c.args.self.now)) (longest_key (pairs_of c.in-Some-seek_child_mut.child.now)) (rw (← c.self.view_is) (entry-short _ _ (width_of c.self.inside.storage) _ c.in-Some-seek_child_mut.child.now (stored c.self.inside.storage) c.in-Some-seek_child_mut.ensures.value)) c.requires.fits,
+              fewer-within _ (longest_key (pairs_of c.args.self.now))
+                  (longest_key (pairs_of c.in-Some-seek_child_mut.child.now))
+                  (rw (← c.self.view_is) (entry-short _ _ (width_of c.self.inside.storage) _
+                  c.in-Some-seek_child_mut.child.now (stored c.self.inside.storage)
+                  c.in-Some-seek_child_mut.ensures.value)) c.requires.fits,
               (sym c.is_leaf_at.ensures ∙ c.if-not-is_leaf_at.true, c.requires.empty),
             ),
           ),
@@ -56,91 +74,141 @@ take_below-requires g t c κs within =
 pub returns-then-not-is_leaf_at-clause-ok : goal.returns-then-not-is_leaf_at-clause-ok
 returns-then-not-is_leaf_at-clause-ok g t c =
     let left = rw c.in-Some-seek_child_mut.is at c.seek_child_mut.follows.holds c.take_below.new.self in
-    on_ok_weaker c.take_below.result (λ r. rw (← c.self.view_is) (removed-below _ c.args.key.now _ _ _ _ _ c.in-Some-seek_child_mut.child.now c.take_below.new.self (stored c.self.inside.storage) _
-    (rw (← c.self.view_is) at c.requires.canonical) c.in-Some.ensures c.in-Some-first.ensures.value c.in-Some-seek_child_mut.ensures.value r left.0 left.1)) c.take_below.ensures.ok
+    on_ok_weaker c.take_below.result (λ r. rw (← c.self.view_is)
+    (removed-below _ c.args.key.now _ _ _ _ _ c.in-Some-seek_child_mut.child.now c.take_below.new.self
+    (stored c.self.inside.storage) _
+    (rw (← c.self.view_is) at c.requires.canonical) c.in-Some.ensures c.in-Some-first.ensures.value
+    c.in-Some-seek_child_mut.ensures.value r left.0 left.1)) c.take_below.ensures.ok
 
 pub returns-then-not-is_leaf_at-clause-answer : goal.returns-then-not-is_leaf_at-clause-answer
-returns-then-not-is_leaf_at-clause-answer g t c = if_ok_weaker c.take_below.result (λ x e. rw (← c.self.view_is) (e ∙ sym (trie_lookup-child _ c.args.key.now _ _ _ (width_of c.self.inside.storage) c.in-Some-seek_child_mut.child.now (stored c.self.inside.storage)
-    (rw (← c.self.view_is) at c.requires.canonical) c.in-Some.ensures c.in-Some-first.ensures.value c.in-Some-seek_child_mut.ensures.value))) c.take_below.ensures.answer
+returns-then-not-is_leaf_at-clause-answer g t c
+    = if_ok_weaker c.take_below.result (λ x e. rw (← c.self.view_is) (e
+    ∙ sym (trie_lookup-child _ c.args.key.now _ _ _ (width_of c.self.inside.storage) c.in-Some-seek_child_mut.child.now
+    (stored c.self.inside.storage)
+    (rw (← c.self.view_is) at c.requires.canonical) c.in-Some.ensures c.in-Some-first.ensures.value
+    c.in-Some-seek_child_mut.ensures.value))) c.take_below.ensures.answer
 
 pub returns-then-not-is_leaf_at-clause-refused : goal.returns-then-not-is_leaf_at-clause-refused
 returns-then-not-is_leaf_at-clause-refused g t c =
     let left = rw c.in-Some-seek_child_mut.is at c.seek_child_mut.follows.holds c.take_below.new.self in
-    on_err_weaker c.take_below.result (λ e. rw (← c.self.view_is) (child-put_back _ _ _ _ _ c.in-Some-seek_child_mut.child.now c.take_below.new.self (stored c.self.inside.storage) _ c.in-Some-seek_child_mut.ensures.value e left.0 left.1)) c.take_below.ensures.refused
+    on_err_weaker c.take_below.result (λ e. rw (← c.self.view_is)
+    (child-put_back _ _ _ _ _ c.in-Some-seek_child_mut.child.now c.take_below.new.self
+    (stored c.self.inside.storage) _ c.in-Some-seek_child_mut.ensures.value e left.0 left.1))
+    c.take_below.ensures.refused
 
 pub returns-then-not-is_leaf_at-clause-asks : goal.returns-then-not-is_leaf_at-clause-asks
 returns-then-not-is_leaf_at-clause-asks g t c =
     let canonical = rw (← c.self.view_is) at c.requires.canonical in
     on_err_weaker c.take_below.result (λ a. rw (← c.self.view_is) (
-      asks_remove-below _ c.args.key.now _ _ (width_of c.self.inside.storage) _ c.in-Some-seek_child_mut.child.now (stored c.self.inside.storage) canonical c.in-Some.ensures c.in-Some-first.ensures.value c.in-Some-seek_child_mut.ensures.value
+      asks_remove-below _ c.args.key.now _ _ (width_of c.self.inside.storage) _ c.in-Some-seek_child_mut.child.now
+          (stored c.self.inside.storage) canonical c.in-Some.ensures c.in-Some-first.ensures.value
+          c.in-Some-seek_child_mut.ensures.value
           (sym c.is_leaf_at.ensures ∙ c.if-not-is_leaf_at.true) a.0,
-      λ z. a.1 (sym (trie_lookup-child _ c.args.key.now _ _ _ (width_of c.self.inside.storage) c.in-Some-seek_child_mut.child.now (stored c.self.inside.storage)
+      λ z. a.1 (sym (trie_lookup-child _ c.args.key.now _ _ _ (width_of c.self.inside.storage)
+          c.in-Some-seek_child_mut.child.now (stored c.self.inside.storage)
           canonical c.in-Some.ensures c.in-Some-first.ensures.value c.in-Some-seek_child_mut.ensures.value) ∙ z),
     )) c.take_below.ensures.asks
 
--- no child stands there
+-- there is no child
 pub returns-in-None-clause-ok : goal.returns-in-None-clause-ok
 returns-in-None-clause-ok g t c =
     let left = c.seek_child_mut.follows.holds-at-none in
-    let none = trie_lookup-no_child _ c.args.key.now _ _ _ (width_of c.self.inside.storage) (stored c.self.inside.storage) c.in-Some.ensures c.in-Some-first.ensures.value c.in-None.ensures.value in
-    ap Some (same-node _ _ _ _ (stored c.self.inside.storage) _ left.0 left.1 ∙ c.self.view_is) ∙ sym (remove-absent c.args.key.now c.args.self.now c.requires.canonical (rw (← c.self.view_is) none))
+    let none = trie_lookup-no_child _ c.args.key.now _ _ _ (width_of c.self.inside.storage)
+    (stored c.self.inside.storage) c.in-Some.ensures c.in-Some-first.ensures.value c.in-None.ensures.value in
+    ap Some (same-node _ _ _ _ (stored c.self.inside.storage) _ left.0 left.1 ∙ c.self.view_is)
+    ∙ sym (remove-absent c.args.key.now c.args.self.now c.requires.canonical (rw (← c.self.view_is) none))
 
 pub returns-in-None-clause-answer : goal.returns-in-None-clause-answer
-returns-in-None-clause-answer g t c = rw (← c.self.view_is) (c.requires.empty ∙ sym (trie_lookup-no_child _ c.args.key.now _ _ _ (width_of c.self.inside.storage) (stored c.self.inside.storage) c.in-Some.ensures c.in-Some-first.ensures.value c.in-None.ensures.value))
+returns-in-None-clause-answer g t c = rw (← c.self.view_is) (c.requires.empty
+    ∙ sym (trie_lookup-no_child _ c.args.key.now _ _ _ (width_of c.self.inside.storage) (stored c.self.inside.storage)
+    c.in-Some.ensures c.in-Some-first.ensures.value c.in-None.ensures.value))
 
 -- it goes on in a leaf that goes
 pub take_child-requires : goal.take_child-requires
 take_child-requires g t c =
     let left = rw c.in-Some-seek_child_mut.is at c.seek_child_mut.follows.holds c.in-Some-seek_child_mut.child.now in
-    let same = left.1 ∙ replaced-same _ c.in-Some-seek_child_mut.child.now (stored c.self.inside.storage) c.in-Some-seek_child_mut.ensures.value in
-    record { within = rw same (joins-canonical _ _ _ (width_of c.self.inside.storage) _ (rw (← c.self.view_is) at c.requires.canonical) (rw (← c.self.view_is) at c.requires.fits)) }
+    let same = left.1 ∙ replaced-same _ c.in-Some-seek_child_mut.child.now (stored c.self.inside.storage)
+    c.in-Some-seek_child_mut.ensures.value in
+    record {
+      within = rw same (joins-canonical _ _ _ (width_of c.self.inside.storage) _
+          (rw (← c.self.view_is) at c.requires.canonical) (rw (← c.self.view_is) at c.requires.fits));
+    }
 
 pub returns-in_err-child-clause-refused : goal.returns-in_err-child-clause-refused
 returns-in_err-child-clause-refused g t c =
     let left = rw c.in-Some-seek_child_mut.is at c.seek_child_mut.follows.holds c.in-Some-seek_child_mut.child.now in
-    err-any c.from_residual.result (c.in_err-child.ensures.refused ∙ child-put_back _ _ _ _ _ c.in-Some-seek_child_mut.child.now c.in-Some-seek_child_mut.child.now (stored c.self.inside.storage) _ c.in-Some-seek_child_mut.ensures.value refl left.0 left.1 ∙ c.self.view_is)
+    err-any c.from_residual.result (c.in_err-child.ensures.refused
+    ∙ child-put_back _ _ _ _ _ c.in-Some-seek_child_mut.child.now c.in-Some-seek_child_mut.child.now
+    (stored c.self.inside.storage) _ c.in-Some-seek_child_mut.ensures.value refl left.0 left.1 ∙ c.self.view_is)
 
 pub returns-in_err-child-clause-asks : goal.returns-in_err-child-clause-asks
 returns-in_err-child-clause-asks g t c =
     let left = rw c.in-Some-seek_child_mut.is at c.seek_child_mut.follows.holds c.in-Some-seek_child_mut.child.now in
-    let same = left.1 ∙ replaced-same _ c.in-Some-seek_child_mut.child.now (stored c.self.inside.storage) c.in-Some-seek_child_mut.ensures.value in
+    let same = left.1 ∙ replaced-same _ c.in-Some-seek_child_mut.child.now (stored c.self.inside.storage)
+    c.in-Some-seek_child_mut.ensures.value in
     let canonical = rw (← c.self.view_is) at c.requires.canonical in
     let goes = sym c.is_leaf_at.ensures ∙ c.if-not-is_leaf_at.false in
     err-any c.from_residual.result (rw (← c.self.view_is) (
-      asks_remove-leaf _ c.args.key.now _ _ (width_of c.self.inside.storage) _ _ c.in-Some-seek_child_mut.child.now (stored c.self.inside.storage) _ canonical c.in-Some.ensures c.in-Some-first.ensures.value c.in-Some-seek_child_mut.ensures.value
+      asks_remove-leaf _ c.args.key.now _ _ (width_of c.self.inside.storage) _ _ c.in-Some-seek_child_mut.child.now
+          (stored c.self.inside.storage) _ canonical c.in-Some.ensures c.in-Some-first.ensures.value
+          c.in-Some-seek_child_mut.ensures.value
           goes left.0 same c.in_err-child.ensures.asks.1 c.in_err-child.ensures.asks.2,
-      λ z. leaf-some _ c.in-Some-seek_child_mut.child.now (canonical-found _ 0 c.in-Some-seek_child_mut.child.now (stored c.self.inside.storage) canonical.2 c.in-Some-seek_child_mut.ensures.value) goes
-          (sym (leaf-value _ c.in-Some-seek_child_mut.child.now goes) ∙ sym (trie_lookup-child _ c.args.key.now _ _ _ (width_of c.self.inside.storage) c.in-Some-seek_child_mut.child.now (stored c.self.inside.storage)
+      λ z. leaf-some _ c.in-Some-seek_child_mut.child.now
+          (canonical-found _ 0 c.in-Some-seek_child_mut.child.now (stored c.self.inside.storage) canonical.2
+          c.in-Some-seek_child_mut.ensures.value) goes
+          (sym (leaf-value _ c.in-Some-seek_child_mut.child.now goes)
+          ∙ sym (trie_lookup-child _ c.args.key.now _ _ _ (width_of c.self.inside.storage)
+          c.in-Some-seek_child_mut.child.now (stored c.self.inside.storage)
           canonical c.in-Some.ensures c.in-Some-first.ensures.value c.in-Some-seek_child_mut.ensures.value) ∙ z),
     ))
 
 pub into_value-requires : goal.into_value-requires
 into_value-requires g t c =
     let left = rw c.in-Some-seek_child_mut.is at c.seek_child_mut.follows.holds c.in-Some-seek_child_mut.child.now in
-    let same = left.1 ∙ replaced-same _ c.in-Some-seek_child_mut.child.now (stored c.self.inside.storage) c.in-Some-seek_child_mut.ensures.value in
+    let same = left.1 ∙ replaced-same _ c.in-Some-seek_child_mut.child.now (stored c.self.inside.storage)
+    c.in-Some-seek_child_mut.ensures.value in
     let goes = sym c.is_leaf_at.ensures ∙ c.if-not-is_leaf_at.false in
-    ap (λ t. edges_of (children_in t)) (some-equal c.in-Some-2.child c.in-Some-seek_child_mut.child.now (sym c.in-Some-2.is ∙ c.in_ok-child.ensures.taken ∙ child_of-entries _ (stored (c.seek_child_mut.follows.lender c.in-Some-seek_child_mut.child.now)) ∙ ap (child_at _) same ∙ sym c.in-Some-seek_child_mut.ensures.value))
+    ap (λ t. edges_of (children_in t)) (some-equal c.in-Some-2.child c.in-Some-seek_child_mut.child.now
+    (sym c.in-Some-2.is ∙ c.in_ok-child.ensures.taken
+    ∙ child_of-entries _ (stored (c.seek_child_mut.follows.lender c.in-Some-seek_child_mut.child.now))
+    ∙ ap (child_at _) same ∙ sym c.in-Some-seek_child_mut.ensures.value))
     ∙ leaf-edges _ c.in-Some-seek_child_mut.child.now goes
 
 pub unreachable-requires : goal.unreachable-requires
 unreachable-requires g t c =
     let left = rw c.in-Some-seek_child_mut.is at c.seek_child_mut.follows.holds c.in-Some-seek_child_mut.child.now in
-    let same = left.1 ∙ replaced-same _ c.in-Some-seek_child_mut.child.now (stored c.self.inside.storage) c.in-Some-seek_child_mut.ensures.value in
-    some-there c.in-Some-seek_child_mut.child.now _ (sym c.in-Some-seek_child_mut.ensures.value) (ap (child_at _) (sym same) ∙ sym (child_of-entries _ (stored (c.seek_child_mut.follows.lender c.in-Some-seek_child_mut.child.now))) ∙ sym c.in_ok-child.ensures.taken ∙ c.in-None-2.is)
+    let same = left.1 ∙ replaced-same _ c.in-Some-seek_child_mut.child.now (stored c.self.inside.storage)
+    c.in-Some-seek_child_mut.ensures.value in
+    some-there c.in-Some-seek_child_mut.child.now _ (sym c.in-Some-seek_child_mut.ensures.value)
+    (ap (child_at _) (sym same) ∙ sym (child_of-entries _
+    (stored (c.seek_child_mut.follows.lender c.in-Some-seek_child_mut.child.now))) ∙ sym c.in_ok-child.ensures.taken
+    ∙ c.in-None-2.is)
 
 pub returns-clause-ok : goal.returns-clause-ok
 returns-clause-ok g t c =
     let left = rw c.in-Some-seek_child_mut.is at c.seek_child_mut.follows.holds c.in-Some-seek_child_mut.child.now in
     let goes = sym c.is_leaf_at.ensures ∙ c.if-not-is_leaf_at.false in
-    ap Some (c.in_ok-child.ensures.rest ∙ ap (without_child _) (child-put_back _ _ _ _ _ c.in-Some-seek_child_mut.child.now c.in-Some-seek_child_mut.child.now (stored c.self.inside.storage) _ c.in-Some-seek_child_mut.ensures.value refl left.0 left.1))
-    ∙ rw (← c.self.view_is) (removed-leaf _ c.args.key.now _ _ _ _ c.in-Some-seek_child_mut.child.now (stored c.self.inside.storage)
-    (rw (← c.self.view_is) at c.requires.canonical) c.in-Some.ensures c.in-Some-first.ensures.value c.in-Some-seek_child_mut.ensures.value (leaf-gone _ c.in-Some-seek_child_mut.child.now goes))
+    ap Some (c.in_ok-child.ensures.rest ∙ ap (without_child _)
+    (child-put_back _ _ _ _ _ c.in-Some-seek_child_mut.child.now c.in-Some-seek_child_mut.child.now
+    (stored c.self.inside.storage) _ c.in-Some-seek_child_mut.ensures.value refl left.0 left.1))
+    ∙ rw (← c.self.view_is) (removed-leaf _ c.args.key.now _ _ _ _ c.in-Some-seek_child_mut.child.now
+    (stored c.self.inside.storage)
+    (rw (← c.self.view_is) at c.requires.canonical) c.in-Some.ensures c.in-Some-first.ensures.value
+    c.in-Some-seek_child_mut.ensures.value (leaf-gone _ c.in-Some-seek_child_mut.child.now goes))
 
 pub returns-clause-answer : goal.returns-clause-answer
 returns-clause-answer g t c =
     let left = rw c.in-Some-seek_child_mut.is at c.seek_child_mut.follows.holds c.in-Some-seek_child_mut.child.now in
-    let same = left.1 ∙ replaced-same _ c.in-Some-seek_child_mut.child.now (stored c.self.inside.storage) c.in-Some-seek_child_mut.ensures.value in
+    let same = left.1 ∙ replaced-same _ c.in-Some-seek_child_mut.child.now (stored c.self.inside.storage)
+    c.in-Some-seek_child_mut.ensures.value in
     let goes = sym c.is_leaf_at.ensures ∙ c.if-not-is_leaf_at.false in
-    let child = some-equal c.in-Some-2.child c.in-Some-seek_child_mut.child.now (sym c.in-Some-2.is ∙ c.in_ok-child.ensures.taken ∙ child_of-entries _ (stored (c.seek_child_mut.follows.lender c.in-Some-seek_child_mut.child.now)) ∙ ap (child_at _) same ∙ sym c.in-Some-seek_child_mut.ensures.value) in
-    c.give_back-in-Some-2.ensures ∙ c.into_value.ensures ∙ ap value_of child ∙ rw (← c.self.view_is) (sym (leaf-value _ c.in-Some-seek_child_mut.child.now goes) ∙ sym (trie_lookup-child _ c.args.key.now _ _ _ (width_of c.self.inside.storage) c.in-Some-seek_child_mut.child.now (stored c.self.inside.storage)
-    (rw (← c.self.view_is) at c.requires.canonical) c.in-Some.ensures c.in-Some-first.ensures.value c.in-Some-seek_child_mut.ensures.value))
+    let child = some-equal c.in-Some-2.child c.in-Some-seek_child_mut.child.now (sym c.in-Some-2.is
+    ∙ c.in_ok-child.ensures.taken ∙ child_of-entries _
+    (stored (c.seek_child_mut.follows.lender c.in-Some-seek_child_mut.child.now)) ∙ ap (child_at _) same
+    ∙ sym c.in-Some-seek_child_mut.ensures.value) in
+    c.give_back-in-Some-2.ensures ∙ c.into_value.ensures ∙ ap value_of child
+    ∙ rw (← c.self.view_is) (sym (leaf-value _ c.in-Some-seek_child_mut.child.now goes)
+    ∙ sym (trie_lookup-child _ c.args.key.now _ _ _ (width_of c.self.inside.storage)
+    c.in-Some-seek_child_mut.child.now (stored c.self.inside.storage)
+    (rw (← c.self.view_is) at c.requires.canonical) c.in-Some.ensures c.in-Some-first.ensures.value
+    c.in-Some-seek_child_mut.ensures.value))

@@ -7,10 +7,16 @@ pub returns-in_default : goal.returns-in_default
 returns-in_default g c = (λ _. joins-unbounded _ _ _ (sym c.MAXIMUM_SIZE.ensures ∙ c.in_default.is), λ _. refl)
 
 pub overflow_sub-room : goal.overflow_sub-room
-overflow_sub-room g c = rw c.len.ensures (within-most _ c.in-Some.most _ (sym c.MAXIMUM_SIZE.ensures ∙ c.in-Some.is) (g.met.P.Partial.within c.self.inside.prefix))
+overflow_sub-room g c = rw c.len.ensures
+    (within-most _ c.in-Some.most _ (sym c.MAXIMUM_SIZE.ensures ∙ c.in-Some.is)
+    (g.met.P.Partial.within c.self.inside.prefix))
 
 pub loop-byte-init : goal.loop-byte-init
-loop-byte-init g c = record { to_all = λ h. rw c.iter-children.ensures at h; of_all = λ h. rw (sym c.iter-children.ensures) at h }
+loop-byte-init g c = record {
+  to_all = λ h. rw c.iter-children.ensures at h;
+  of_all
+      = λ h. rw (sym c.iter-children.ensures) at h;
+}
 
 pub loop-byte-init-derived : goal.loop-byte-init-derived
 loop-byte-init-derived g c = (tt, tt)
@@ -20,9 +26,18 @@ loop-byte-preserved g c =
     let maximum = sym c.MAXIMUM_SIZE.ensures ∙ c.in-Some.is in
     let own : g.P.Partial.bytes c.self.inside.prefix ≡ prefix_of c.args.self.now = ap prefix_of c.self.view_is in
     let lengths : length (prefix_of c.args.self.now) + length (prefix_of c.in-Some-next.child.now) ≤ c.in-Some.most
-    = omega (arith, ap length own, c.len.ensures, c.len-in-Some-next.ensures, ap length c.prefix.ensures, c.if-len-room.false, within-most _ c.in-Some.most _ maximum (g.met.P.Partial.within c.self.inside.prefix)) in
+    = omega (
+      arith,
+      ap length own,
+      c.len.ensures,
+      c.len-in-Some-next.ensures,
+      ap length c.prefix.ensures,
+      c.if-len-room.false,
+      within-most _ c.in-Some.most _ maximum (g.met.P.Partial.within c.self.inside.prefix),
+    ) in
     record {
-      to_all = λ h. c.loop-byte.invariant.to_all (rw c.in-Some-next.ensures.steps (most-within _ c.in-Some.most _ maximum lengths, h));
+      to_all = λ h. c.loop-byte.invariant.to_all
+          (rw c.in-Some-next.ensures.steps (most-within _ c.in-Some.most _ maximum lengths, h));
       of_all = λ h. (rw c.in-Some-next.ensures.steps at c.loop-byte.invariant.of_all h).1;
     }
 
@@ -31,7 +46,16 @@ returns-then-len-room g c =
     let maximum = sym c.MAXIMUM_SIZE.ensures ∙ c.in-Some.is in
     let own : g.P.Partial.bytes c.self.inside.prefix ≡ prefix_of c.args.self.now = ap prefix_of c.self.view_is in (
       λ t. absurd (cc),
-      λ h. absurd (omega (arith, ap length own, c.len.ensures, c.len-in-Some-next.ensures, ap length c.prefix.ensures, c.if-len-room.true, within-most _ c.in-Some.most _ maximum (rw c.in-Some-next.ensures.steps at c.loop-byte.invariant.of_all h).0)),
+      λ h. absurd (omega (
+        arith,
+        ap length own,
+        c.len.ensures,
+        c.len-in-Some-next.ensures,
+        ap length c.prefix.ensures,
+        c.if-len-room.true,
+        within-most _ c.in-Some.most _ maximum
+            (rw c.in-Some-next.ensures.steps at c.loop-byte.invariant.of_all h).0,
+      )),
     )
 
 pub returns : goal.returns

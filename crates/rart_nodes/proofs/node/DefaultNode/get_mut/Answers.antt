@@ -13,8 +13,11 @@ returns-in-Some g c =
       (
         refl,
         λ w. let left = c.lend.follows.holds w in
-            rw c.in-Some.is (lent key w c.in-Some.node (c.lend.follows.lender w) c.lend.result canonical value
-            (on_some_weaker c.lend.result (λ h. h ∙ ap (trie_put key w) c.in-Some.node-is) left.0, if_none_weaker c.lend.result (λ h. h ∙ c.in-Some.node-is) left.1)),
+            rw c.in-Some.is (lent key w c.in-Some.node (c.lend.follows.lender w) c.lend.result canonical value (
+              on_some_weaker c.lend.result (λ h. h ∙ ap (trie_put key w) c.in-Some.node-is) left.0,
+              if_none_weaker
+                  c.lend.result (λ h. h ∙ c.in-Some.node-is) left.1,
+            )),
         rw c.in-Some.is (ap Some (c.lend.follows.holds-at-none ∙ c.in-Some.node-is)),
       ),
       record { writes_back = tt; value = rw c.in-Some.is (value ∙ sym (lookup-pairs_of key c.in-Some.node canonical)) },

@@ -23,9 +23,22 @@ returns g c =
       canonical = on_ok_weaker c.put.result (λ e. rw e (canonical-put key c.args.value old canonical)) c.put.ensures.ok;
       pairs = on_ok_weaker c.put.result (λ e. ap pairs_of e ∙ pairs) c.put.ensures.ok;
       answer = if_ok_weaker c.put.result (λ x e. e ∙ answer) c.put.ensures.answer;
-      count = if_ok_weaker_on c.put.result (λ x e a. omega (arith, length-put key c.args.value (pairs_of old) (pairs_of-ascend old canonical), ap length (ap pairs_of e ∙ pairs), ap count_of (a ∙ answer))) c.put.ensures.ok c.put.ensures.answer;
-      longest = on_ok_weaker c.put.result (λ e. omega (arith, ap longest_key (ap pairs_of e ∙ pairs), longest_key-put key c.args.value (max (longest_key (pairs_of old)) (length key)) (pairs_of old) (omega arith) (omega arith))) c.put.ensures.ok;
+      count = if_ok_weaker_on c.put.result (λ x e a. omega (
+        arith,
+        length-put key c.args.value (pairs_of old) (pairs_of-ascend old canonical),
+        ap length (ap pairs_of e
+            ∙ pairs),
+        ap count_of (a ∙ answer),
+      )) c.put.ensures.ok c.put.ensures.answer;
+      longest = on_ok_weaker c.put.result (λ e. omega (
+        arith,
+        ap longest_key (ap pairs_of e ∙ pairs),
+        longest_key-put key c.args.value
+            (max (longest_key (pairs_of old)) (length key)) (pairs_of old) (omega arith) (omega arith),
+      )) c.put.ensures.ok;
       refused = c.put.ensures.refused;
       back = c.put.ensures.back;
-      asks = on_err_weaker c.put.result (λ e. let none = sym (record_is key old canonical) ∙ e.1 in (some-pairs old canonical, new-key key (pairs_of old) none, none, sym (asks-insert key old canonical) ∙ e.0)) c.put.ensures.asks;
+      asks = on_err_weaker c.put.result (λ e. let none = sym (record_is key old canonical) ∙ e.1 in
+          (some-pairs old canonical, new-key key (pairs_of old) none, none, sym (asks-insert key old canonical) ∙ e.0))
+          c.put.ensures.asks;
     }

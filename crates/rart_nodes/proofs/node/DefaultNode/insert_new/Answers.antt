@@ -5,7 +5,7 @@ use Rattle.rart_nodes.specs.tries.Trie.{pairs_of}
 use Rattle.rart_nodes.proofs.tries.CanonicalTests.{longest_key-put}
 use Rattle.std.proofs.lemmas.Result.{on_ok_weaker}
 use Rattle.rart_nodes.proofs.edits.Outcomes.{if_err_weaker, on_ok_both}
-use Rattle.rart_nodes.proofs.edits.StopLemmas.{tells-not_put}
+use Rattle.rart_nodes.proofs.edits.InsertStopLemmas.{tells-not_put}
 use Rattle.rart_nodes.proofs.tries.PairLemmas.{pairs_of-ascend, lookup-pairs_of}
 use Rattle.rart_nodes.proofs.edits.PutLemmas.{canonical-put, pairs_of-put}
 use Rattle.rart_nodes.proofs.node.DefaultNode.insert_new.Goals as goal
@@ -17,11 +17,26 @@ returns g c =
     let canonical = c.requires.canonical in
     let pairs = pairs_of-put key c.args.value old canonical in
     record {
-      canonical = on_ok_weaker c.put_new.result (λ e. rw e (canonical-put key c.args.value old canonical)) c.put_new.ensures.ok;
+      canonical = on_ok_weaker c.put_new.result (λ e. rw e (canonical-put key c.args.value old canonical))
+          c.put_new.ensures.ok;
       pairs = on_ok_weaker c.put_new.result (λ e. ap pairs_of e ∙ pairs) c.put_new.ensures.ok;
       fresh = on_ok_weaker c.put_new.result (λ none. lookup-pairs_of key old canonical ∙ none) c.put_new.ensures.fresh;
-      count = on_ok_both c.put_new.result (λ e none. omega (arith, length-put key c.args.value (pairs_of old) (pairs_of-ascend old canonical), ap length (ap pairs_of e ∙ pairs), ap count_of (lookup-pairs_of key old canonical ∙ none))) c.put_new.ensures.ok c.put_new.ensures.fresh;
-      longest = on_ok_weaker c.put_new.result (λ e. omega (arith, ap longest_key (ap pairs_of e ∙ pairs), longest_key-put key c.args.value (max (longest_key (pairs_of old)) (length key)) (pairs_of old) (omega arith) (omega arith))) c.put_new.ensures.ok;
+      count = on_ok_both c.put_new.result (λ e none. omega (
+        arith,
+        length-put key c.args.value (pairs_of old) (pairs_of-ascend old canonical),
+        ap length (ap pairs_of e
+            ∙ pairs),
+        ap count_of (lookup-pairs_of key old canonical ∙ none),
+      )) c.put_new.ensures.ok
+          c.put_new.ensures.fresh;
+      longest = on_ok_weaker c.put_new.result (λ e. omega (
+        arith,
+        ap longest_key (ap pairs_of e ∙ pairs),
+        longest_key-put key c.args.value
+            (max (longest_key (pairs_of old)) (length key)) (pairs_of old) (omega arith) (omega arith),
+      ))
+          c.put_new.ensures.ok;
       refused = c.put_new.ensures.refused;
-      why = if_err_weaker c.put_new.result (λ why told. tells-not_put key c.args.value old why canonical told) c.put_new.ensures.why;
+      why = if_err_weaker c.put_new.result (λ why told. tells-not_put key c.args.value old why canonical told)
+          c.put_new.ensures.why;
     }

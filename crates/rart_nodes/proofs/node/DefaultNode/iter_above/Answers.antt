@@ -7,4 +7,5 @@ use Rattle.rart_nodes.proofs.ranges.StartPaths.{as_children-above}
 use Rattle.rart_nodes.proofs.node.DefaultNode.iter_above.Goals as goal
 
 pub returns : goal.returns
-returns g c = ap as_children c.iter_above.ensures ∙ as_children-above c.args.byte (stored c.self.inside.storage) ∙ ap (λ t. children_above c.args.byte (children_in t)) c.self.view_is
+returns g c = ap as_children c.iter_above.ensures ∙ as_children-above c.args.byte (stored c.self.inside.storage)
+    ∙ ap (λ t. children_above c.args.byte (children_in t)) c.self.view_is

@@ -4,4 +4,5 @@ use Rattle.rart_nodes.proofs.tries.Descents.{child_of-entries}
 use Rattle.rart_nodes.proofs.node.DefaultNode.seek_child.Goals as goal
 
 pub returns : goal.returns
-returns g c = rw (← c.self.view_is) (c.seek_child.ensures ∙ sym (child_of-entries c.args.b (stored c.self.inside.storage)))
+returns g c = rw (← c.self.view_is) (c.seek_child.ensures
+    ∙ sym (child_of-entries c.args.b (stored c.self.inside.storage)))

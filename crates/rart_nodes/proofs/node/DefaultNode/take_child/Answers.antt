@@ -17,26 +17,38 @@ returns-in_err-child-clause-asks g c = err-any c.from_residual.result (rw (← c
 ))
 
 pub returns-in_default-clause-taken : goal.returns-in_default-clause-taken
-returns-in_default-clause-taken g c = rw (← c.self.view_is) (sym c.in_default.is ∙ c.in_ok-child.ensures.taken ∙ sym (child_of-entries c.args.b (stored c.self.inside.storage)))
+returns-in_default-clause-taken g c = rw (← c.self.view_is) (sym c.in_default.is ∙ c.in_ok-child.ensures.taken
+    ∙ sym (child_of-entries c.args.b (stored c.self.inside.storage)))
 
 pub returns-in_default-clause-rest : goal.returns-in_default-clause-rest
 returns-in_default-clause-rest g c =
     let none = sym c.in_ok-child.ensures.taken ∙ c.in_default.is in
-    rw (← c.self.view_is) (without-none _ _ (width_of c.self.inside.storage) _ c.args.b (stored c.self.inside.storage) _ none c.in_ok-child.ensures.stored
-    (c.in_ok-child.ensures.width ∙ ap (λ o. if is_some o then narrowed (length (stored c.delete_child.new.self)) (width_of c.self.inside.storage) else width_of c.self.inside.storage) none))
+    rw (← c.self.view_is) (without-none _ _ (width_of c.self.inside.storage) _ c.args.b (stored c.self.inside.storage) _
+    none c.in_ok-child.ensures.stored
+    (c.in_ok-child.ensures.width ∙ ap (λ o. if is_some o then narrowed (length (stored c.delete_child.new.self))
+    (width_of c.self.inside.storage) else width_of c.self.inside.storage) none))
 
-pub join_lone_child-requires-clause-within : goal.join_lone_child-requires-clause-within
-join_lone_child-requires-clause-within g c = rw c.in_ok-child.ensures.stored (joins-without _ _ c.args.b (stored c.self.inside.storage) (rw (← c.self.view_is) at c.requires.within))
+pub merge_with_only_child-requires-clause-within : goal.merge_with_only_child-requires-clause-within
+merge_with_only_child-requires-clause-within g c
+    = rw c.in_ok-child.ensures.stored (joins-without _ _ c.args.b (stored c.self.inside.storage)
+    (rw (← c.self.view_is) at c.requires.within))
 
 pub returns-clause-taken : goal.returns-clause-taken
-returns-clause-taken g c = rw (← c.self.view_is) (sym c.in-Some.is ∙ c.in_ok-child.ensures.taken ∙ sym (child_of-entries c.args.b (stored c.self.inside.storage)))
+returns-clause-taken g c = rw (← c.self.view_is) (sym c.in-Some.is ∙ c.in_ok-child.ensures.taken
+    ∙ sym (child_of-entries c.args.b (stored c.self.inside.storage)))
 
 pub returns-clause-rest : goal.returns-clause-rest
 returns-clause-rest g c =
     let some = sym c.in_ok-child.ensures.taken ∙ c.in-Some.is in
     let there = some-there c.in-Some.child (child_at c.args.b (stored c.self.inside.storage)) some in
-    let width = c.in_ok-child.ensures.width ∙ ap (λ o. if is_some o then narrowed (length (stored c.delete_child.new.self)) (width_of c.self.inside.storage) else width_of c.self.inside.storage) some in
+    let width = c.in_ok-child.ensures.width ∙ ap
+    (λ o. if is_some o then narrowed (length (stored c.delete_child.new.self)) (width_of c.self.inside.storage)
+    else width_of c.self.inside.storage) some in
     rw (← c.self.view_is) (elim c.if-narrow.branch [
-      | then-narrow w ↦ w.self-is ∙ w.join_lone_child.ensures ∙ without-joined _ _ (width_of c.self.inside.storage) _ c.args.b (stored c.self.inside.storage) _ (sym c.width-narrow.ensures ∙ w.if-narrow.true) there c.in_ok-child.ensures.stored width
-      | else-narrow w ↦ w.self-is ∙ without-wide _ _ (width_of c.self.inside.storage) _ c.args.b (stored c.self.inside.storage) _ (λ e. w.if-narrow.false (c.width-narrow.ensures ∙ e)) there c.in_ok-child.ensures.stored width
+      | then-narrow w ↦ w.self-is ∙ w.merge_with_only_child.ensures
+          ∙ without-joined _ _ (width_of c.self.inside.storage) _ c.args.b (stored c.self.inside.storage) _
+          (sym c.width-narrow.ensures ∙ w.if-narrow.true) there c.in_ok-child.ensures.stored width
+      | else-narrow w ↦ w.self-is ∙ without-wide _ _ (width_of c.self.inside.storage) _ c.args.b
+          (stored c.self.inside.storage) _ (λ e. w.if-narrow.false (c.width-narrow.ensures ∙ e)) there
+          c.in_ok-child.ensures.stored width
     ])

@@ -2,7 +2,8 @@ use Rattle.std.proofs.Common.{◌≡◌, ◌∙◌, ap, sym, is_some}
 use Rattle.rart_keys.specs.SortedMap.{lookup}
 use Rattle.rart_nodes.specs.tries.Tree.{tree_pairs}
 use Rattle.rart_nodes.specs.updates.Slots.{slot_of}
-use Rattle.rart_nodes.proofs.updates.MapUpdates.{ends-canonical, ends-counted, ends-longest, ends-map, ends-nodes, nodes-alike}
+use Rattle.rart_nodes.proofs.updates.MapUpdates.{ends-canonical, ends-counted, ends-longest, ends-map, ends-nodes}
+use Rattle.rart_nodes.proofs.updates.MapUpdates.{nodes-alike}
 use Rattle.rart_nodes.proofs.walks.SeenLemmas.{tree_lookup-lookup}
 use Rattle.rart_nodes.proofs.node.DefaultNode.update.Goals as goal
 use Rattle.rart_nodes.proofs.tries.PairLemmas.{tree_pairs-ascend}
@@ -24,15 +25,19 @@ returns g c =
     let canonical = c.requires.canonical in
     let at = tree_lookup-lookup key old canonical in
     let e = c.update_tree.ensures in
-    let stays : is_some e.1 ≡ is_some (lookup key (tree_pairs old)) = c.requires.stays e.0 c.update_tree.result.1 e.1 (rw (← at) e.2) in
+    let stays : is_some e.1 ≡ is_some (lookup key (tree_pairs old))
+    = c.requires.stays e.0 c.update_tree.result.1 e.1 (rw (← at) e.2) in
     let ends = ends-map c.args.full key e.0 e.1 old c.update_tree.result.0 c.update_tree.new.root canonical e.3 in
     let ascend = tree_pairs-ascend old canonical in
     let done = ends-canonical c.args.full key e.0 e.1 old c.update_tree.result.0 c.update_tree.new.root canonical e.3 in
     record {
       update = (e.0, e.1, rw (← at) e.2, ends);
       canonical = done;
-      count = ends-counted c.args.full key e.0 e.1 (tree_pairs old) c.update_tree.result.0 (tree_pairs c.update_tree.new.root) ascend stays ends;
-      longest = ends-longest c.args.full key e.0 e.1 (tree_pairs old) c.update_tree.result.0 (tree_pairs c.update_tree.new.root) ascend stays ends;
-      refused = ends-nodes c.args.full key e.0 e.1 old c.update_tree.result.0 c.update_tree.new.root canonical stays e.3;
+      count = ends-counted c.args.full key e.0 e.1 (tree_pairs old) c.update_tree.result.0
+          (tree_pairs c.update_tree.new.root) ascend stays ends;
+      longest = ends-longest c.args.full key e.0 e.1 (tree_pairs old) c.update_tree.result.0
+          (tree_pairs c.update_tree.new.root) ascend stays ends;
+      refused = ends-nodes c.args.full key e.0 e.1 old c.update_tree.result.0 c.update_tree.new.root canonical stays
+          e.3;
       nodes = nodes-alike old c.update_tree.new.root canonical done;
     }

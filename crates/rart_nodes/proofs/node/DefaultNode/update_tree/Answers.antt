@@ -14,8 +14,10 @@ pub update_leaf-requires-clause-stays : goal.update_leaf-requires-clause-stays
 update_leaf-requires-clause-stays g c =
     let stays = rw c.in-Some.is at c.requires.stays in
     let goes = sym c.is_leaf_at.ensures ∙ c.if-not-is_leaf_at.false in
-    let leaf : trie_lookup c.args.key.now c.in-Some.node ≡ value_of c.in-Some.node = leaf-value c.args.key.now c.in-Some.node goes in
-    λ r x w h. some-stays w _ (stays r x w (rw leaf h) ∙ ap is_some leaf) (leaf-some c.args.key.now c.in-Some.node (rw c.in-Some.is at c.requires.canonical) goes)
+    let leaf : trie_lookup c.args.key.now c.in-Some.node ≡ value_of c.in-Some.node
+    = leaf-value c.args.key.now c.in-Some.node goes in
+    λ r x w h. some-stays w _ (stays r x w (rw leaf h) ∙ ap is_some leaf)
+    (leaf-some c.args.key.now c.in-Some.node (rw c.in-Some.is at c.requires.canonical) goes)
 
 pub show_vacant-answer-requires-clause-stays : goal.show_vacant-answer-requires-clause-stays
 show_vacant-answer-requires-clause-stays g c =
@@ -25,7 +27,14 @@ show_vacant-answer-requires-clause-stays g c =
 pub returns-in-Some-outcome : goal.returns-in-Some-outcome
 returns-in-Some-outcome g c =
     let goes = sym c.is_leaf_at.ensures ∙ c.if-not-is_leaf_at.false in
-    let leaf : trie_lookup c.args.key.now c.in-Some.node ≡ value_of c.in-Some.node = leaf-value c.args.key.now c.in-Some.node goes in
+    let leaf : trie_lookup c.args.key.now c.in-Some.node ≡ value_of c.in-Some.node
+    = leaf-value c.args.key.now c.in-Some.node goes in
     let e = c.update_leaf.ensures in
-    let done = rw c.in-Some-outcome.is at e.3 in
-    (e.0, e.1, rw (c.in-Some.is, leaf) e.2, rw c.in-Some.is (leaf-done c.args.full c.args.key.now c.in-Some.node c.update_leaf.new.self e.0 e.1 c.in-Some-outcome.outcome goes done))
+    let done = rw c.in-Some-outcome.is at e.3 in (
+      e.0,
+      e.1,
+      rw (c.in-Some.is, leaf) e.2,
+      rw c.in-Some.is
+          (leaf-done c.args.full c.args.key.now c.in-Some.node c.update_leaf.new.self e.0 e.1 c.in-Some-outcome.outcome
+          goes done),
+    )

@@ -6,10 +6,13 @@ use Rattle.rart_parts.proofs.utils.places.first_free_place.Goals as goal
 pub returns-then-is_none : goal.returns-then-is_none
 returns-then-is_none g c = (
   c.loop-position-test.true,
-  ap not (sym (read_used c.args.places.now c.loop-position.position _ c.loop-position-test.true c.index-places-position.is) ∙ c.if-is_none.ensures),
+  ap not (sym (read_used c.args.places.now c.loop-position.position _ c.loop-position-test.true
+      c.index-places-position.is) ∙ c.if-is_none.ensures),
   c.loop-position.invariant,
 )
 
 pub loop-position-preserved : goal.loop-position-preserved
-loop-position-preserved g c = below_more (λ k. not (is_used c.args.places.now k)) c.loop-position.position c.loop-position.invariant
-    (ap not (sym (read_used c.args.places.now c.loop-position.position _ c.loop-position-test.true c.index-places-position.is) ∙ c.if-is_none.ensures))
+loop-position-preserved g c = below_more (λ k. not (is_used c.args.places.now k)) c.loop-position.position
+    c.loop-position.invariant
+    (ap not (sym (read_used c.args.places.now c.loop-position.position _ c.loop-position-test.true
+    c.index-places-position.is) ∙ c.if-is_none.ensures))

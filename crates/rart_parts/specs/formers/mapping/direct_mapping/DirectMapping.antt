@@ -38,17 +38,23 @@ pub the_empty : List (ℕ × ⊥)
 the_empty = []
 
 abbrev fields : Former {0}
-fields = via (pair (vec.the_former (place this) Global) (const ℕ)) Inside (λ X a. (a.places, a.num_children)) (λ X v. record { places = v.0; num_children = v.1 }) (λ X a. refl) (λ X v. refl)
+fields = via (pair (vec.the_former (place this) Global) (const ℕ)) Inside (λ X a. (a.places, a.num_children))
+    (λ X v. record { places = v.0; num_children = v.1 }) (λ X a. refl) (λ X v. refl)
 
-pub numbered-map : {X Y : Type 0} (h : X → Y) (n : ℕ) (os : List (Option X)) → numbered n (map ((place this).map X Y h) os) ≡ map (on_value h) (numbered n os)
+pub numbered-map : {X Y : Type 0} (h : X → Y) (n : ℕ) (os : List (Option X))
+    → numbered n (map ((place this).map X Y h) os) ≡ map (on_value h) (numbered n os)
 numbered-map h n [] = refl
 numbered-map h n (None ∷ os) = numbered-map h (suc n) os
 numbered-map h n (Some x ∷ os) = ap (λ l. (n, h x) ∷ l) (numbered-map h (suc n) os)
 
-numbered-held : (X : Type 0) (n : ℕ) (os : List (Option X)) → held (list (entry this)) X (numbered n os) ≡ held (list (place this)) X os
+numbered-held : (X : Type 0) (n : ℕ) (os : List (Option X)) → held (list (entry this)) X (numbered n os)
+    ≡ held (list (place this)) X os
 numbered-held X n [] = refl
 numbered-held X n (None ∷ os) = numbered-held X (suc n) os
-numbered-held X n (Some x ∷ os) = λ i. (one_more (numbered-held X (suc n) os i).0, (x, (numbered-held X (suc n) os i).1))
+numbered-held X n (Some x ∷ os) = λ i. (
+  one_more (numbered-held X (suc n) os i).0,
+  (x, (numbered-held X (suc n) os i).1),
+)
 
 IsDirect-prop : {X : Type 0} (os : List (Option X)) (n : ℕ) → IsProp (IsDirect os n)
 IsDirect-prop os n = λ x y i. record { full = ℕ_set _ _ x.full y.full i; counted = ℕ_set _ _ x.counted y.counted i }
@@ -78,8 +84,14 @@ module _ (R R' : RattleType) (h : R.Denot → R'.Denot) where
       (invariant R.Denot) (invariant R'.Denot) (λ u. IsDirect-prop _ _) (λ u. IsDirect-prop _ _)
       (λ u e. along h u.places.items u.num_children e) (λ u e. back h u.places.items u.num_children e)
       (over (I.the_row R)) (over (I.the_row R'))
-      (struct_places (I.the_type R) (I.the_type R') (vec.mapped ((place this).map R.Denot R'.Denot h), (λ n. n, tt)) _ (λ d. refl) refl
-      (laid _ _ _ (vec.the_places heap.the_row ghosts (option.the_row R) (option.the_row R') ((place this).map R.Denot R'.Denot h) (places.place_alike R R' h a)), ((refl, (λ n. refl, λ n. refl)), tt)))
+      (struct_places (I.the_type R) (I.the_type R') (vec.mapped ((place this).map R.Denot R'.Denot h), (λ n. n, tt)) _
+      (λ d. refl) refl (
+        laid _ _ _ (vec.the_places heap.the_row ghosts (option.the_row R) (option.the_row R')
+            ((place this).map R.Denot R'.Denot h) (places.place_alike R R' h a)),
+        ((refl, (λ n. refl, λ n. refl)), tt),
+      ))
 
-  pub the_codes_placed : Recodes R R' h → Recodes (C.the_row R) (C.the_row R') ((the_former this).map R.Denot R'.Denot h)
-  the_codes_placed e es = sym (code_map (coded× coded_ℕ R.coded).code (coded× coded_ℕ R'.coded).code (on_value h) (λ x i. gcons (coded_ℕ.code x.0) (sym (e x.1) i)) es)
+  pub the_codes_placed : Recodes R R' h → Recodes (C.the_row R) (C.the_row R')
+      ((the_former this).map R.Denot R'.Denot h)
+  the_codes_placed e es = sym (code_map (coded× coded_ℕ R.coded).code (coded× coded_ℕ R'.coded).code (on_value h)
+      (λ x i. gcons (coded_ℕ.code x.0) (sym (e x.1) i)) es)

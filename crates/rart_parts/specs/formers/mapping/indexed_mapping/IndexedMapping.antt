@@ -41,22 +41,28 @@ the_weighed w W B = w_list (w_pair (w_const ℕ) w)
 abbrev pub the_items : (W : ℕ) (B X : Type 0) → List (ℕ × X) → List X
 the_items W B X d = children_of d
 
-pub the_items_listed : (W : ℕ) (B X : Type 0) (d : List (ℕ × X)) → listed _ (children (the_former this W B) X d) ≡ the_items W B X d
+pub the_items_listed : (W : ℕ) (B X : Type 0) (d : List (ℕ × X)) → listed _ (children (the_former this W B) X d)
+    ≡ the_items W B X d
 the_items_listed W B X [] = refl
 the_items_listed W B X (e ∷ es) = ap (λ l. e.1 ∷ l) (the_items_listed W B X es)
 
 abbrev fields : ℕ → Type 0 → Former {0}
-fields W B = via (pair (const (Index × ℕ)) (places.the_former this W B)) (λ X. Inside X W B) (λ X a. ((a.index, a.num_children), a.children)) (λ X v. record { index = v.0.0; children = v.1; num_children = v.0.1 }) (λ X a. refl) (λ X v. refl)
+fields W B = via (pair (const (Index × ℕ)) (places.the_former this W B)) (λ X. Inside X W B)
+    (λ X a. ((a.index, a.num_children), a.children))
+    (λ X v. record { index = v.0.0; children = v.1; num_children = v.0.1 }) (λ X a. refl) (λ X v. refl)
 
-with_bytes-map : {X Y : Type 0} (h : X → Y) (at : Index) (p : ℕ) (os : List (Option X)) → with_bytes at p (map ((place this).map X Y h) os) ≡ map (on_value h) (with_bytes at p os)
+with_bytes-map : {X Y : Type 0} (h : X → Y) (at : Index) (p : ℕ) (os : List (Option X))
+    → with_bytes at p (map ((place this).map X Y h) os) ≡ map (on_value h) (with_bytes at p os)
 with_bytes-map h at p [] = refl
 with_bytes-map h at p (None ∷ os) = with_bytes-map h at (suc p) os
 with_bytes-map h at p (Some x ∷ os) = ap (λ l. (byte_of at p, h x) ∷ l) (with_bytes-map h at (suc p) os)
 
-with_bytes-held : (X : Type 0) (at : Index) (p : ℕ) (os : List (Option X)) → held (list (entry this)) X (with_bytes at p os) ≡ held (list (place this)) X os
+with_bytes-held : (X : Type 0) (at : Index) (p : ℕ) (os : List (Option X))
+    → held (list (entry this)) X (with_bytes at p os) ≡ held (list (place this)) X os
 with_bytes-held X at p [] = refl
 with_bytes-held X at p (None ∷ os) = with_bytes-held X at (suc p) os
-with_bytes-held X at p (Some x ∷ os) = λ i. (one_more (with_bytes-held X at (suc p) os i).0, (x, (with_bytes-held X at (suc p) os i).1))
+with_bytes-held X at p (Some x ∷ os) = λ i.
+    (one_more (with_bytes-held X at (suc p) os i).0, (x, (with_bytes-held X at (suc p) os i).1))
 
 IsIndex-prop : {X : Type 0} (at : Index) (os : List (Option X)) → IsProp (IsIndex at os)
 IsIndex-prop at os = λ x y j. record {
@@ -75,18 +81,22 @@ IsIndexed-prop w at os n = λ x y j. record {
   entries = ℕ_set _ _ x.entries y.entries j;
 }
 
-with_another-map : {X Y : Type 0} (h : X → Y) (k : ℕ) (x : X) (es : List (ℕ × X)) → with_another k (h x) (map (on_value h) es) ≡ map (on_value h) (with_another k x es)
+with_another-map : {X Y : Type 0} (h : X → Y) (k : ℕ) (x : X) (es : List (ℕ × X))
+    → with_another k (h x) (map (on_value h) es) ≡ map (on_value h) (with_another k x es)
 with_another-map h k x [] = refl
 with_another-map h k x (e ∷ es) =
-    elim (ltb e.0 k) as (λ b. cond b (on_value h e ∷ with_another k (h x) (map (on_value h) es)) ((k, h x) ∷ on_value h e ∷ map (on_value h) es)
+    elim (ltb e.0 k) as (λ b. cond b (on_value h e ∷ with_another k (h x) (map (on_value h) es))
+    ((k, h x) ∷ on_value h e ∷ map (on_value h) es)
     ≡ map (on_value h) (cond b (e ∷ with_another k x es) ((k, x) ∷ e ∷ es))) [
       | true ↦ ap (λ l. on_value h e ∷ l) (with_another-map h k x es)
       | false ↦ refl
     ]
 
-pub ascending-map : {X Y : Type 0} (h : X → Y) (es : List (ℕ × X)) → ascending (map (on_value h) es) ≡ map (on_value h) (ascending es)
+pub ascending-map : {X Y : Type 0} (h : X → Y) (es : List (ℕ × X))
+    → ascending (map (on_value h) es) ≡ map (on_value h) (ascending es)
 ascending-map h [] = refl
-ascending-map h (e ∷ es) = ap (with_another e.0 (h e.1)) (ascending-map h es) ∙ with_another-map h e.0 e.1 (ascending es)
+ascending-map h (e ∷ es) = ap (with_another e.0 (h e.1)) (ascending-map h es)
+    ∙ with_another-map h e.0 e.1 (ascending es)
 
 module _ {X Y : Type 0} (h : X → Y) (w : ℕ) (at : Index) (os : List (Option X)) (n : ℕ) where
   abbrev moved : List (Option Y)
@@ -96,7 +106,8 @@ module _ {X Y : Type 0} (h : X → Y) (w : ℕ) (at : Index) (os : List (Option 
   same_slots = ap length (numbered-map h 0 os) ∙ length-map (numbered 0 os) (on_value h)
 
   same_entries : length (ascending (with_bytes at 0 moved)) ≡ length (ascending (with_bytes at 0 os))
-  same_entries = ap (λ es. length (ascending es)) (with_bytes-map h at 0 os) ∙ ap length (ascending-map h (with_bytes at 0 os)) ∙ length-map (ascending (with_bytes at 0 os)) (on_value h)
+  same_entries = ap (λ es. length (ascending es)) (with_bytes-map h at 0 os)
+      ∙ ap length (ascending-map h (with_bytes at 0 os)) ∙ length-map (ascending (with_bytes at 0 os)) (on_value h)
 
   along : IsIndexed w at os n → IsIndexed w at moved n
   along e = record {
@@ -126,17 +137,29 @@ module _ {X Y : Type 0} (h : X → Y) (w : ℕ) (at : Index) (os : List (Option 
     entries = e.entries ∙ same_entries;
   }
 
-module _ (W B : RattleType) (G : bits.Ghosts B.Denot) (G' : default.Ghosts B.Denot) (R R' : RattleType) (h : R.Denot → R'.Denot) where
-  pub the_places : Alike R R' h → Alike (C.the_row R W B G G') (C.the_row R' W B G G') ((the_former this (value_of W) B.Denot).map R.Denot R'.Denot h)
-  the_places a = view_places (fields (value_of W) B.Denot) (the_former this (value_of W) B.Denot) (λ X. view X (value_of W) B.Denot G G')
+module _ (W B : RattleType) (G : bits.Ghosts B.Denot) (G' : default.Ghosts B.Denot) (R R' : RattleType) (h : R.Denot
+    → R'.Denot) where
+  pub the_places : Alike R R' h → Alike (C.the_row R W B G G') (C.the_row R' W B G G')
+      ((the_former this (value_of W) B.Denot).map R.Denot R'.Denot h)
+  the_places a = view_places (fields (value_of W) B.Denot) (the_former this (value_of W) B.Denot)
+      (λ X. view X (value_of W) B.Denot G G')
       (λ X Y k u. with_bytes-map k u.index 0 u.children) (λ X u. with_bytes-held X u.index 0 u.children)
       R.Denot R'.Denot h (C.the_row R W B G G').coded (C.the_row R' W B G G').coded
       (invariant R.Denot (value_of W) B.Denot G G') (invariant R'.Denot (value_of W) B.Denot G G')
       (λ u. IsIndexed-prop _ _ _ _) (λ u. IsIndexed-prop _ _ _ _)
       (λ u e. along h _ u.index u.children u.num_children e) (λ u e. back h _ u.index u.children u.num_children e)
       (over (I.the_row R W B G G')) (over (I.the_row R' W B G G'))
-      (struct_places (I.the_type R W B G G') (I.the_type R' W B G G') (λ n. n, ((places.the_former this (value_of W) B.Denot).map R.Denot R'.Denot h, (λ n. n, tt))) _ (λ d. refl) refl
-      ((refl, (λ n. refl, λ n. refl)), (laid _ _ _ (places.the_places W B G G' R R' h a), ((refl, (λ n. refl, λ n. refl)), tt))))
+      (struct_places (I.the_type R W B G G') (I.the_type R' W B G G')
+      (λ n. n, ((places.the_former this (value_of W) B.Denot).map R.Denot R'.Denot h, (λ n. n, tt))) _ (λ d. refl)
+      refl (
+        (refl, (λ n. refl, λ n. refl)),
+        (
+          laid _ _ _ (places.the_places W B G G' R R' h a),
+          ((refl, (λ n. refl, λ n. refl)), tt),
+        ),
+      ))
 
-  pub the_codes_placed : Recodes R R' h → Recodes (C.the_row R W B G G') (C.the_row R' W B G G') ((the_former this (value_of W) B.Denot).map R.Denot R'.Denot h)
-  the_codes_placed e es = sym (code_map (coded× coded_ℕ R.coded).code (coded× coded_ℕ R'.coded).code (on_value h) (λ x i. gcons (coded_ℕ.code x.0) (sym (e x.1) i)) es)
+  pub the_codes_placed : Recodes R R' h → Recodes (C.the_row R W B G G') (C.the_row R' W B G G')
+      ((the_former this (value_of W) B.Denot).map R.Denot R'.Denot h)
+  the_codes_placed e es = sym (code_map (coded× coded_ℕ R.coded).code (coded× coded_ℕ R'.coded).code (on_value h)
+      (λ x i. gcons (coded_ℕ.code x.0) (sym (e x.1) i)) es)

@@ -39,25 +39,31 @@ the_weighed w W B = w_list (w_pair (w_const ℕ) w)
 abbrev pub the_items : (W : ℕ) (B X : Type 0) → List (ℕ × X) → List X
 the_items W B X d = children_of d
 
-pub the_items_listed : (W : ℕ) (B X : Type 0) (d : List (ℕ × X)) → listed _ (children (the_former this W B) X d) ≡ the_items W B X d
+pub the_items_listed : (W : ℕ) (B X : Type 0) (d : List (ℕ × X)) → listed _ (children (the_former this W B) X d)
+    ≡ the_items W B X d
 the_items_listed W B X [] = refl
 the_items_listed W B X (e ∷ es) = ap (λ l. e.1 ∷ l) (the_items_listed W B X es)
 
 abbrev fields : ℕ → Type 0 → Former {0}
-fields W B = via (pair (const (List ℕ × ℕ)) (places.the_former this W B)) (λ X. Inside X W B) (λ X a. ((a.keys, a.num_children), a.children)) (λ X v. record { keys = v.0.0; children = v.1; num_children = v.0.1 }) (λ X a. refl) (λ X v. refl)
+fields W B = via (pair (const (List ℕ × ℕ)) (places.the_former this W B)) (λ X. Inside X W B)
+    (λ X a. ((a.keys, a.num_children), a.children))
+    (λ X v. record { keys = v.0.0; children = v.1; num_children = v.0.1 }) (λ X a. refl) (λ X v. refl)
 
-with_keys-map : {X Y : Type 0} (h : X → Y) (ks : List ℕ) (os : List (Option X)) → with_keys ks (map ((place this).map X Y h) os) ≡ map (on_value h) (with_keys ks os)
+with_keys-map : {X Y : Type 0} (h : X → Y) (ks : List ℕ) (os : List (Option X))
+    → with_keys ks (map ((place this).map X Y h) os) ≡ map (on_value h) (with_keys ks os)
 with_keys-map h [] os = refl
 with_keys-map h (k ∷ ks) [] = refl
 with_keys-map h (k ∷ ks) (None ∷ os) = with_keys-map h ks os
 with_keys-map h (k ∷ ks) (Some x ∷ os) = ap (λ l. (k, h x) ∷ l) (with_keys-map h ks os)
 
-with_keys-held : (X : Type 0) (ks : List ℕ) (os : List (Option X)) → length os ≤ length ks → held (list (entry this)) X (with_keys ks os) ≡ held (list (place this)) X os
+with_keys-held : (X : Type 0) (ks : List ℕ) (os : List (Option X)) → length os ≤ length ks
+    → held (list (entry this)) X (with_keys ks os) ≡ held (list (place this)) X os
 with_keys-held X [] [] e = refl
 with_keys-held X [] (o ∷ os) e = absurd (omega arith)
 with_keys-held X (k ∷ ks) [] e = refl
 with_keys-held X (k ∷ ks) (None ∷ os) e = with_keys-held X ks os (omega arith)
-with_keys-held X (k ∷ ks) (Some x ∷ os) e = λ i. (one_more (with_keys-held X ks os (omega arith) i).0, (x, (with_keys-held X ks os (omega arith) i).1))
+with_keys-held X (k ∷ ks) (Some x ∷ os) e
+    = λ i. (one_more (with_keys-held X ks os (omega arith) i).0, (x, (with_keys-held X ks os (omega arith) i).1))
 
 IsSlots-prop : {X : Type 0} (ks : List ℕ) (os : List (Option X)) → IsProp (IsSlots ks os)
 IsSlots-prop ks os = λ x y j. record {
@@ -83,7 +89,8 @@ module _ {X Y : Type 0} (h : X → Y) (w : ℕ) (ks : List ℕ) (os : List (Opti
   same_slots = ap length (numbered-map h 0 os) ∙ length-map (numbered 0 os) (on_value h)
 
   same_entries : length (ascending (with_keys ks moved)) ≡ length (ascending (with_keys ks os))
-  same_entries = ap (λ es. length (ascending es)) (with_keys-map h ks os) ∙ ap length (ascending-map h (with_keys ks os)) ∙ length-map (ascending (with_keys ks os)) (on_value h)
+  same_entries = ap (λ es. length (ascending es)) (with_keys-map h ks os)
+      ∙ ap length (ascending-map h (with_keys ks os)) ∙ length-map (ascending (with_keys ks os)) (on_value h)
 
   same_length : length moved ≡ length os
   same_length = length-map os ((place this).map X Y h)
@@ -94,7 +101,8 @@ module _ {X Y : Type 0} (h : X → Y) (w : ℕ) (ks : List ℕ) (os : List (Opti
     narrow = e.narrow;
     slots = record {
       whole = e.slots.whole ∙ sym same_length;
-      apart = λ p q u v s. e.slots.apart p q (sym (places.used_along h os p) ∙ u) (sym (places.used_along h os q) ∙ v) s;
+      apart = λ p q u v s. e.slots.apart p q (sym (places.used_along h os p) ∙ u) (sym (places.used_along h os q) ∙ v)
+          s;
       free = λ p l u. e.slots.free p (subst (λ m. p < m) same_length l) (sym (places.used_along h os p) ∙ u);
     };
     counted = e.counted ∙ sym same_slots;
@@ -117,19 +125,33 @@ module _ {X Y : Type 0} (h : X → Y) (w : ℕ) (ks : List ℕ) (os : List (Opti
 le_self : (n : ℕ) → n ≤ n
 le_self n = omega arith
 
-module _ (W B : RattleType) (G : bits.Ghosts B.Denot) (G' : default.Ghosts B.Denot) (R R' : RattleType) (h : R.Denot → R'.Denot) where
-  pub the_places : Alike R R' h → Alike (C.the_row R W B G G') (C.the_row R' W B G G') ((the_former this (value_of W) B.Denot).map R.Denot R'.Denot h)
-  the_places a = view_places_where (fields (value_of W) B.Denot) (the_former this (value_of W) B.Denot) (λ X. view X (value_of W) B.Denot G G')
+module _ (W B : RattleType) (G : bits.Ghosts B.Denot) (G' : default.Ghosts B.Denot) (R R' : RattleType) (h : R.Denot
+    → R'.Denot) where
+  pub the_places : Alike R R' h → Alike (C.the_row R W B G G') (C.the_row R' W B G G')
+      ((the_former this (value_of W) B.Denot).map R.Denot R'.Denot h)
+  the_places a = view_places_where (fields (value_of W) B.Denot) (the_former this (value_of W) B.Denot)
+      (λ X. view X (value_of W) B.Denot G G')
       (λ X Y k u. with_keys-map k u.keys u.children)
-      (λ X u. length u.children ≤ length u.keys) (λ X Y k u e. subst (λ n. n ≤ length u.keys) (length-map u.children ((place this).map X Y k)) e) (λ X u e. with_keys-held X u.keys u.children e)
+      (λ X u. length u.children ≤ length u.keys)
+      (λ X Y k u e. subst (λ n. n ≤ length u.keys) (length-map u.children ((place this).map X Y k)) e)
+      (λ X u e. with_keys-held X u.keys u.children e)
       R.Denot R'.Denot h (C.the_row R W B G G').coded (C.the_row R' W B G G').coded
       (invariant R.Denot (value_of W) B.Denot G G') (invariant R'.Denot (value_of W) B.Denot G G')
       (λ u. IsKeyed-prop _ _ _ _) (λ u. IsKeyed-prop _ _ _ _)
       (λ u e. along h _ u.keys u.children u.num_children e) (λ u e. back h _ u.keys u.children u.num_children e)
       (λ u e. subst (λ n. n ≤ length u.keys) e.slots.whole (le_self (length u.keys)))
       (over (I.the_row R W B G G')) (over (I.the_row R' W B G G'))
-      (struct_places (I.the_type R W B G G') (I.the_type R' W B G G') (λ n. n, ((places.the_former this (value_of W) B.Denot).map R.Denot R'.Denot h, (λ n. n, tt))) _ (λ d. refl) refl
-      ((refl, (λ n. refl, λ n. refl)), (laid _ _ _ (places.the_places W B G G' R R' h a), ((refl, (λ n. refl, λ n. refl)), tt))))
+      (struct_places (I.the_type R W B G G') (I.the_type R' W B G G')
+      (λ n. n, ((places.the_former this (value_of W) B.Denot).map R.Denot R'.Denot h, (λ n. n, tt))) _ (λ d. refl)
+      refl (
+        (refl, (λ n. refl, λ n. refl)),
+        (
+          laid _ _ _ (places.the_places W B G G' R R' h a),
+          ((refl, (λ n. refl, λ n. refl)), tt),
+        ),
+      ))
 
-  pub the_codes_placed : Recodes R R' h → Recodes (C.the_row R W B G G') (C.the_row R' W B G G') ((the_former this (value_of W) B.Denot).map R.Denot R'.Denot h)
-  the_codes_placed e es = sym (code_map (coded× coded_ℕ R.coded).code (coded× coded_ℕ R'.coded).code (on_value h) (λ x i. gcons (coded_ℕ.code x.0) (sym (e x.1) i)) es)
+  pub the_codes_placed : Recodes R R' h → Recodes (C.the_row R W B G G') (C.the_row R' W B G G')
+      ((the_former this (value_of W) B.Denot).map R.Denot R'.Denot h)
+  the_codes_placed e es = sym (code_map (coded× coded_ℕ R.coded).code (coded× coded_ℕ R'.coded).code (on_value h)
+      (λ x i. gcons (coded_ℕ.code x.0) (sym (e x.1) i)) es)

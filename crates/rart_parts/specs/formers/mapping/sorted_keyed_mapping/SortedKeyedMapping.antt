@@ -35,14 +35,16 @@ abbrev pub the_weighed : {g : Former {0}} → Weighed g → (W : ℕ) → Weighe
 the_weighed w W = w_list (w_pair (w_const ℕ) w)
 
 abbrev fields : ℕ → Former {0}
-fields W = via (pair (const (List ℕ)) (vec.the_former this Global)) (λ X. Inside X W) (λ X a. (a.keys, a.children)) (λ X v. record { keys = v.0; children = v.1 }) (λ X a. refl) (λ X v. refl)
+fields W = via (pair (const (List ℕ)) (vec.the_former this Global)) (λ X. Inside X W) (λ X a. (a.keys, a.children))
+    (λ X v. record { keys = v.0; children = v.1 }) (λ X a. refl) (λ X v. refl)
 
 zip-map : {X Y : Type 0} (h : X → Y) (ks : List ℕ) (vs : List X) → zip ks (map h vs) ≡ map (on_value h) (zip ks vs)
 zip-map h [] vs = refl
 zip-map h (k ∷ ks) [] = refl
 zip-map h (k ∷ ks) (v ∷ vs) = ap (λ l. (k, h v) ∷ l) (zip-map h ks vs)
 
-starts-map : {X Y : Type 0} (h : X → Y) (k : ℕ) (es : List (ℕ × X)) → StartsAbove k (map (on_value h) es) ≡ StartsAbove k es
+starts-map : {X Y : Type 0} (h : X → Y) (k : ℕ) (es : List (ℕ × X)) → StartsAbove k (map (on_value h) es)
+    ≡ StartsAbove k es
 starts-map h k [] = refl
 starts-map h k (e ∷ es) = refl
 
@@ -68,7 +70,8 @@ IsSortedKeyed-prop w ks vs r = λ x y i. record {
   padded = λ k l m. ℕ_set _ _ (x.padded k l m) (y.padded k l m) i;
 }
 
-along : {X Y : Type 0} (h : X → Y) (w : ℕ) (ks : List ℕ) (vs : List X) (r : ℕ) → IsSortedKeyed w ks vs r → IsSortedKeyed w ks (map h vs) r
+along : {X Y : Type 0} (h : X → Y) (w : ℕ) (ks : List ℕ) (vs : List X) (r : ℕ) → IsSortedKeyed w ks vs r
+    → IsSortedKeyed w ks (map h vs) r
 along h w ks vs r e = record {
   full = e.full;
   few = subst (λ n. n ≤ w) (sym (length-map vs h)) e.few;
@@ -78,7 +81,8 @@ along h w ks vs r e = record {
   padded = λ k l. e.padded k (subst (λ n. n ≤ k) (length-map vs h) l);
 }
 
-back : {X Y : Type 0} (h : X → Y) (w : ℕ) (ks : List ℕ) (vs : List X) (r : ℕ) → IsSortedKeyed w ks (map h vs) r → IsSortedKeyed w ks vs r
+back : {X Y : Type 0} (h : X → Y) (w : ℕ) (ks : List ℕ) (vs : List X) (r : ℕ) → IsSortedKeyed w ks (map h vs) r
+    → IsSortedKeyed w ks vs r
 back h w ks vs r e = record {
   full = e.full;
   few = subst (λ n. n ≤ w) (length-map vs h) e.few;
@@ -88,30 +92,42 @@ back h w ks vs r e = record {
   padded = λ k l. e.padded k (subst (λ n. n ≤ k) (sym (length-map vs h)) l);
 }
 
-zip-held : (X : Type 0) (ks : List ℕ) (vs : List X) → length vs ≤ length ks → held (list (entry this)) X (zip ks vs) ≡ held (list this) X vs
+zip-held : (X : Type 0) (ks : List ℕ) (vs : List X) → length vs ≤ length ks → held (list (entry this)) X (zip ks vs)
+    ≡ held (list this) X vs
 zip-held X [] [] e = refl
 zip-held X [] (v ∷ vs) e = absurd (omega arith)
 zip-held X (k ∷ ks) [] e = refl
-zip-held X (k ∷ ks) (v ∷ vs) e = λ i. (one_more (zip-held X ks vs (omega arith) i).0, (v, (zip-held X ks vs (omega arith) i).1))
+zip-held X (k ∷ ks) (v ∷ vs) e = λ i. (
+  one_more (zip-held X ks vs (omega arith) i).0,
+  (v, (zip-held X ks vs (omega arith) i).1),
+)
 
 abbrev pub the_items : (W : ℕ) (X : Type 0) → List (ℕ × X) → List X
 the_items W X d = values_of d
 
-pub the_items_listed : (W : ℕ) (X : Type 0) (d : List (ℕ × X)) → listed _ (children (the_former this W) X d) ≡ the_items W X d
+pub the_items_listed : (W : ℕ) (X : Type 0) (d : List (ℕ × X)) → listed _ (children (the_former this W) X d)
+    ≡ the_items W X d
 the_items_listed W X [] = refl
 the_items_listed W X (e ∷ es) = ap (λ l. e.1 ∷ l) (the_items_listed W X es)
 
 module _ (W : RattleType) (R R' : RattleType) (h : R.Denot → R'.Denot) where
-  pub the_places : Alike R R' h → Alike (C.the_row R W) (C.the_row R' W) ((the_former this (value_of W)).map R.Denot R'.Denot h)
+  pub the_places : Alike R R' h → Alike (C.the_row R W) (C.the_row R' W)
+      ((the_former this (value_of W)).map R.Denot R'.Denot h)
   the_places a = view_places_where (fields (value_of W)) (the_former this (value_of W)) (λ X. view X (value_of W))
       (λ X Y k u. zip-map k u.keys u.children.items)
-      (λ X u. length u.children.items ≤ length u.keys) (λ X Y k u e. subst (λ n. n ≤ length u.keys) (length-map u.children.items k) e) (λ X u e. zip-held X u.keys u.children.items e)
+      (λ X u. length u.children.items ≤ length u.keys)
+      (λ X Y k u e. subst (λ n. n ≤ length u.keys) (length-map u.children.items k) e)
+      (λ X u e. zip-held X u.keys u.children.items e)
       R.Denot R'.Denot h (C.the_row R W).coded (C.the_row R' W).coded
-      (invariant R.Denot (value_of W)) (invariant R'.Denot (value_of W)) (λ u. IsSortedKeyed-prop _ _ _ _) (λ u. IsSortedKeyed-prop _ _ _ _)
-      (λ u e. along h _ u.keys u.children.items _ e) (λ u e. back h _ u.keys u.children.items _ e) (λ u e. subst (λ n. length u.children.items ≤ n) (sym e.full) e.few)
+      (invariant R.Denot (value_of W)) (invariant R'.Denot (value_of W)) (λ u. IsSortedKeyed-prop _ _ _ _)
+      (λ u. IsSortedKeyed-prop _ _ _ _)
+      (λ u e. along h _ u.keys u.children.items _ e) (λ u e. back h _ u.keys u.children.items _ e)
+      (λ u e. subst (λ n. length u.children.items ≤ n) (sym e.full) e.few)
       (over (I.the_row R W)) (over (I.the_row R' W))
       (struct_places (I.the_type R W) (I.the_type R' W) (λ n. n, (vec.mapped h, tt)) _ (λ d. refl) refl
       ((refl, (λ n. refl, λ n. refl)), (laid _ _ _ (vec.the_places heap.the_row ghosts R R' h a), tt)))
 
-  pub the_codes_placed : Recodes R R' h → Recodes (C.the_row R W) (C.the_row R' W) ((the_former this (value_of W)).map R.Denot R'.Denot h)
-  the_codes_placed e es = sym (code_map (coded× coded_ℕ R.coded).code (coded× coded_ℕ R'.coded).code (on_value h) (λ x i. gcons (coded_ℕ.code x.0) (sym (e x.1) i)) es)
+  pub the_codes_placed : Recodes R R' h → Recodes (C.the_row R W) (C.the_row R' W)
+      ((the_former this (value_of W)).map R.Denot R'.Denot h)
+  the_codes_placed e es = sym (code_map (coded× coded_ℕ R.coded).code (coded× coded_ℕ R'.coded).code (on_value h)
+      (λ x i. gcons (coded_ℕ.code x.0) (sym (e x.1) i)) es)

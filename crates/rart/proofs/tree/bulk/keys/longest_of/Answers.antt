@@ -7,8 +7,10 @@ loop-at-init c = longest-start c.args.keys.now
 
 pub loop-at-preserved : goal.loop-at-preserved
 loop-at-preserved c = elim c.if-longest-keys.branch [
-  | then-longest-keys w ↦ longest-step _ _ _ _ c.args.keys.now _ c.loop-at-test.true c.loop-at.invariant (longer-one _ _ _ w.longest-is w.if-longest-keys.true)
-  | else-longest-keys w ↦ longest-step _ _ _ _ c.args.keys.now _ c.loop-at-test.true c.loop-at.invariant (no-longer-one _ _ _ w.longest-is w.if-longest-keys.false)
+  | then-longest-keys w ↦ longest-step _ _ _ _ c.args.keys.now _ c.loop-at-test.true c.loop-at.invariant
+      (longer-one _ _ _ w.longest-is w.if-longest-keys.true)
+  | else-longest-keys w ↦ longest-step _ _ _ _ c.args.keys.now _ c.loop-at-test.true c.loop-at.invariant
+      (no-longer-one _ _ _ w.longest-is w.if-longest-keys.false)
 ]
 
 pub returns : goal.returns

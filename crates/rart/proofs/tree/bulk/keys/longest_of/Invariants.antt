@@ -4,7 +4,8 @@ use Rattle.rart_nodes.specs.shapes.ShapeRecords.{keys_in, lone_keys}
 use Rattle.rart.proofs.tree.bulk.keys.longest_of.Given as goal
 
 abbrev pub invariant-loop-at : goal.invariant-loop-at
-invariant-loop-at l = max l.longest (longest_key (lone_keys (keys_in (drop l.at l.keys)))) ≡ longest_key (lone_keys (keys_in l.keys))
+invariant-loop-at l = max l.longest (longest_key (lone_keys (keys_in (drop l.at l.keys))))
+    ≡ longest_key (lone_keys (keys_in l.keys))
 
 abbrev pub decreases-loop-at : goal.decreases-loop-at
 decreases-loop-at l = length l.keys - l.at

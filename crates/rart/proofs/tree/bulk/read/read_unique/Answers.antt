@@ -1,5 +1,5 @@
 use Rattle.std.proofs.Common.{rules, ◌≡◌, length}
-use Rattle.rart.specs.BulkLoads.{StopsUnique}
+use Rattle.rart.specs.BulkLoads.{FailsUnique}
 use Rattle.rart.specs.Steps.{pairs_in}
 use Rattle.rart.specs.declared.bulk.BulkError.TheVariants.{Memory, Full}
 use Rattle.rart.specs.declared.tree.TheConstants.{MAX_PAIRS}
@@ -9,20 +9,32 @@ use Rattle.rart.proofs.tree.bulk.read.read_unique.Goals as goal
 pub returns-then-len-eq-MAX_PAIRS-clause-refused : goal.returns-then-len-eq-MAX_PAIRS-clause-refused
 returns-then-len-eq-MAX_PAIRS-clause-refused g c =
     let full : length c.loop-key.keys.items ≡ MAX_PAIRS = search rules in
-    reads-more g.I.IntoIterator.into_iter_gives g.I.IntoIter.Iterator.next_gives c.args.items (λ xs. StopsUnique (pairs_in g.K.KeyTrait.bytes xs) Full) c.into_iter-key-iterator.result c.loop-key.key-iterator c.next.new.self
-    c.loop-key.yielded (c.in-Some.key, c.in-Some.value) c.next.result c.into_iter-key-iterator.ensures.into_iter_gives c.loop-key.yielded_by c.in-Some.is c.next.ensures.steps
-    (unique-full g.K.KeyTrait.bytes c.loop-key.yielded (c.in-Some.key, c.in-Some.value) c.loop-key.keys.items c.loop-key.invariant.keys full)
+    reads-more g.I.IntoIterator.into_iter_gives g.I.IntoIter.Iterator.next_gives c.args.items
+    (λ xs. FailsUnique (pairs_in g.K.KeyTrait.bytes xs) Full) c.into_iter-key-iterator.result
+    c.loop-key.key-iterator c.next.new.self
+    c.loop-key.yielded (c.in-Some.key, c.in-Some.value) c.next.result c.into_iter-key-iterator.ensures.into_iter_gives
+    c.loop-key.yielded_by c.in-Some.is c.next.ensures.steps
+    (unique-full g.K.KeyTrait.bytes c.loop-key.yielded (c.in-Some.key, c.in-Some.value) c.loop-key.keys.items
+    c.loop-key.invariant.keys full)
 
 pub returns-in_default-clause-refused : goal.returns-in_default-clause-refused
 returns-in_default-clause-refused g c =
     let room : length c.loop-key.keys.items ≡ MAX_PAIRS → ⊥ = search rules in
-    reads-more g.I.IntoIterator.into_iter_gives g.I.IntoIter.Iterator.next_gives c.args.items (λ xs. StopsUnique (pairs_in g.K.KeyTrait.bytes xs) Memory) c.into_iter-key-iterator.result c.loop-key.key-iterator c.next.new.self
-    c.loop-key.yielded (c.in-Some.key, c.in-Some.value) c.next.result c.into_iter-key-iterator.ensures.into_iter_gives c.loop-key.yielded_by c.in-Some.is c.next.ensures.steps
-    (unique-memory g.K.KeyTrait.bytes c.loop-key.yielded (c.in-Some.key, c.in-Some.value) c.loop-key.keys.items c.loop-key.invariant.keys c.loop-key.invariant.few room)
+    reads-more g.I.IntoIterator.into_iter_gives g.I.IntoIter.Iterator.next_gives c.args.items
+    (λ xs. FailsUnique (pairs_in g.K.KeyTrait.bytes xs) Memory) c.into_iter-key-iterator.result
+    c.loop-key.key-iterator c.next.new.self
+    c.loop-key.yielded (c.in-Some.key, c.in-Some.value) c.next.result c.into_iter-key-iterator.ensures.into_iter_gives
+    c.loop-key.yielded_by c.in-Some.is c.next.ensures.steps
+    (unique-memory g.K.KeyTrait.bytes c.loop-key.yielded (c.in-Some.key, c.in-Some.value) c.loop-key.keys.items
+    c.loop-key.invariant.keys c.loop-key.invariant.few room)
 
 pub returns-in_default-push-clause-refused : goal.returns-in_default-push-clause-refused
 returns-in_default-push-clause-refused g c =
     let room : length c.loop-key.keys.items ≡ MAX_PAIRS → ⊥ = search rules in
-    reads-more g.I.IntoIterator.into_iter_gives g.I.IntoIter.Iterator.next_gives c.args.items (λ xs. StopsUnique (pairs_in g.K.KeyTrait.bytes xs) Memory) c.into_iter-key-iterator.result c.loop-key.key-iterator c.next.new.self
-    c.loop-key.yielded (c.in-Some.key, c.in-Some.value) c.next.result c.into_iter-key-iterator.ensures.into_iter_gives c.loop-key.yielded_by c.in-Some.is c.next.ensures.steps
-    (unique-memory g.K.KeyTrait.bytes c.loop-key.yielded (c.in-Some.key, c.in-Some.value) c.loop-key.keys.items c.loop-key.invariant.keys c.loop-key.invariant.few room)
+    reads-more g.I.IntoIterator.into_iter_gives g.I.IntoIter.Iterator.next_gives c.args.items
+    (λ xs. FailsUnique (pairs_in g.K.KeyTrait.bytes xs) Memory) c.into_iter-key-iterator.result
+    c.loop-key.key-iterator c.next.new.self
+    c.loop-key.yielded (c.in-Some.key, c.in-Some.value) c.next.result c.into_iter-key-iterator.ensures.into_iter_gives
+    c.loop-key.yielded_by c.in-Some.is c.next.ensures.steps
+    (unique-memory g.K.KeyTrait.bytes c.loop-key.yielded (c.in-Some.key, c.in-Some.value) c.loop-key.keys.items
+    c.loop-key.invariant.keys c.loop-key.invariant.few room)

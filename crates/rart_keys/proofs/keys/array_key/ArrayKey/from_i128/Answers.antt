@@ -10,4 +10,5 @@ pub returns : goal.returns
 returns g c =
     let flip = λ (k : ℕ). bit_xor k (2 ^ 127) in
     c.from_u128.ensures
-    ∙ ap (bytes_high_first 16) (ap flip (c.cast_unsigned.ensures ∙ ap (of_z w128) (to_z-of_z w128 c.args.x c.ranges.x)) ∙ bit_xor-sign_128 c.args.x c.ranges.x)
+    ∙ ap (bytes_high_first 16) (ap flip (c.cast_unsigned.ensures ∙ ap (of_z w128) (to_z-of_z w128 c.args.x c.ranges.x))
+    ∙ bit_xor-sign_128 c.args.x c.ranges.x)

@@ -11,6 +11,7 @@ pub overflow_add-number : goal.overflow_add-number
 overflow_add-number g c =
     let k : c.loop-byte.byte-index < 8 = omega (arith, length-take c.min.result c.as_slice-bytes.result.now) in
     let h = seven_digits _ _ k c.loop-byte.invariant.below in
-    let f : Fits w8 (slice_index_or (take c.min.result c.as_slice-bytes.result.now) c.loop-byte.byte-index 0) = search rules in
+    let f : Fits w8 (slice_index_or (take c.min.result c.as_slice-bytes.result.now) c.loop-byte.byte-index 0)
+    = search rules in
     let b = f.fits in
     omega (arith, h, b)

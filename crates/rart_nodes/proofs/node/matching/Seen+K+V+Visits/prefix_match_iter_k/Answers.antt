@@ -8,5 +8,6 @@ use Rattle.rart_nodes.proofs.node.matching.Seen+K+V+Visits.prefix_match_iter_k.G
 
 pub returns : goal.returns
 returns g c =
-    matches-ahead (g.K.PartialType.Partial.bytes c.to_partial.result) _ _ (option_copied c.args.self.root) c.matching.ensures.depth c.matching.ensures.below (IsCanonicalTree-test _ c.args.self.canonical)
+    matches-ahead (g.K.PartialType.Partial.bytes c.to_partial.result) _ _ (option_copied c.args.self.root)
+    c.matching.ensures.depth c.matching.ensures.below (IsCanonicalTree-test _ c.args.self.canonical)
     ∙ ap (λ q. matches q (tree_pairs (option_copied c.args.self.root))) c.to_partial.ensures

@@ -3,22 +3,33 @@ use Rattle.rart_keys.specs.ByteStrings.{strip_prefix}
 use Rattle.rart_nodes.specs.walks.ProbeCount.{tree_entered}
 use Rattle.rart_nodes.specs.tries.Tree.{tree_lookup}
 use Rattle.rart_nodes.specs.tries.Trie.{prefix_of}
-use Rattle.rart_nodes.specs.walks.Tour.{tree_count}
+use Rattle.rart_nodes.specs.walks.Walk.{tree_count}
 use Rattle.rart_nodes.proofs.walks.SeenLemmas.{step-on, child-falls}
 use Rattle.rart_nodes.proofs.node.seen.Seen.descend.Goals as goal
 
 pub loop-next-smaller : goal.loop-next-smaller
 loop-next-smaller g c =
-    let h : tree_count (option_map (λ s. s.node.now) c.child-next.result) < tree_count (option_map (λ s. s.node.now) c.loop-next.next)
-    = rw (c.in-Some.is, c.child-next.ensures, c.enter-at.ensures.shown) (child-falls c.in-Some-first.byte.now c.in-Some.node.node.now _ refl) in
+    let h : tree_count (option_map (λ s. s.node.now) c.child-next.result)
+    < tree_count (option_map (λ s. s.node.now) c.loop-next.next)
+    = rw (c.in-Some.is, c.child-next.ensures, c.enter-at.ensures.shown)
+    (child-falls c.in-Some-first.byte.now c.in-Some.node.node.now _ refl) in
     h
 
 pub loop-next-preserved : goal.loop-next-preserved
 loop-next-preserved g c =
     let t = c.enter-at.result.node.now in
-    let rest : Some c.in-Some-rest_behind.after.now ≡ strip_prefix (prefix_of t) c.loop-next.rest.now = rw c.prefix.ensures at c.in-Some-rest_behind.ensures in
-    let h = step-on t c.loop-next.rest.now c.in-Some-rest_behind.after.now c.in-Some-first.byte.now c.enter-at.result.canonical rest c.in-Some-first.ensures.value in
+    let rest : Some c.in-Some-strip_prefix.after.now ≡ strip_prefix (prefix_of t) c.loop-next.rest.now
+    = rw c.prefix.ensures at c.in-Some-strip_prefix.ensures in
+    let h = step-on t c.loop-next.rest.now c.in-Some-strip_prefix.after.now c.in-Some-first.byte.now
+    c.enter-at.result.canonical rest c.in-Some-first.ensures.value in
     record {
-      value = ap (tree_lookup c.in-Some-rest_behind.after.now) c.child-next.ensures ∙ sym h.0 ∙ rw (c.in-Some.is, ← c.enter-at.ensures.shown) at c.loop-next.invariant.value;
-      visits = omega (arith, h.1, ap (tree_entered c.in-Some-rest_behind.after.now) c.child-next.ensures, c.enter-at.ensures.counted, rw (c.in-Some.is, ← c.enter-at.ensures.shown) at c.loop-next.invariant.visits);
+      value = ap (tree_lookup c.in-Some-strip_prefix.after.now) c.child-next.ensures ∙ sym h.0
+          ∙ rw (c.in-Some.is, ← c.enter-at.ensures.shown) at c.loop-next.invariant.value;
+      visits = omega (
+        arith,
+        h.1,
+        ap (tree_entered c.in-Some-strip_prefix.after.now) c.child-next.ensures,
+        c.enter-at.ensures.counted,
+        rw (c.in-Some.is, ← c.enter-at.ensures.shown) at c.loop-next.invariant.visits,
+      );
     }

@@ -9,12 +9,17 @@ use Rattle.rart_nodes.proofs.node.seen.Seen.each_match.Given as goal
 
 abbrev pub invariant-loop-value : goal.invariant-loop-value
 invariant-loop-value g l = record {
-  callable : CanMatch g.F.FnMut l.f (matches_ahead l.probe l.matching.depth (option_map (λ s. s.node.now) l.matching.below));
+  callable : CanMatch g.F.FnMut l.f (matches_ahead l.probe l.matching.depth
+      (option_map (λ s. s.node.now) l.matching.below));
   within : l.matching.depth ≤ length l.probe;
-  folds : (last : _) → MatchesEach g.F.FnMut l.f (matches_ahead l.probe l.matching.depth (option_map (λ s. s.node.now) l.matching.below)) last
+  folds : (last : _) → MatchesEach g.F.FnMut l.f
+      (matches_ahead l.probe l.matching.depth (option_map (λ s. s.node.now) l.matching.below)) last
       → MatchesEach g.F.FnMut l.fn.f (matches l.probe (tree_pairs (option_copied l.fn.self.root))) last;
-  visits : g.C.Count.number l.counter + entered_ahead l.probe l.matching.depth (option_map (λ s. s.node.now) l.matching.below) ≡ g.C.Count.number l.fn.counter + tree_entered l.probe (option_copied l.fn.self.root);
+  visits : g.C.Count.number l.counter + entered_ahead l.probe l.matching.depth
+      (option_map (λ s. s.node.now) l.matching.below)
+      ≡ g.C.Count.number l.fn.counter + tree_entered l.probe (option_copied l.fn.self.root);
 }
 
 abbrev pub decreases-loop-value : goal.decreases-loop-value
-decreases-loop-value g l = length (matches_ahead l.probe l.matching.depth (option_map (λ s. s.node.now) l.matching.below))
+decreases-loop-value g l = length (matches_ahead l.probe l.matching.depth
+    (option_map (λ s. s.node.now) l.matching.below))

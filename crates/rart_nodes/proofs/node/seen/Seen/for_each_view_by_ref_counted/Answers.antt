@@ -9,15 +9,26 @@ use Rattle.rart_nodes.proofs.node.seen.Seen.for_each_view_by_ref_counted.Goals a
 
 pub each_view_below-requires : goal.each_view_below-requires
 each_view_below-requires g c = record {
-  callable = subst (λ (w : List (List ℕ × g.row.V.Denot)). CanView g.F.FnMut c.args.f.now (cut_pairs (keys_of (tree_pairs (option_copied c.args.self.root))) w)) (sym (below-nil (tree_pairs (option_copied c.args.self.root)))) c.requires.callable;
+  callable = subst (λ (w : List (List ℕ × g.row.V.Denot)). CanView g.F.FnMut c.args.f.now
+      (cut_pairs (keys_of (tree_pairs (option_copied c.args.self.root))) w))
+      (sym (below-nil (tree_pairs (option_copied c.args.self.root)))) c.requires.callable;
 }
 
 pub returns-clause-calls : goal.returns-clause-calls
 returns-clause-calls g c =
-    subst (λ (w : List (List ℕ × g.row.V.Denot)). OnOk c.each_view_below.result (ViewsEach g.F.FnMut c.args.f.now (cut_pairs (keys_of (tree_pairs (option_copied c.args.self.root))) w) c.each_view_below.new.f)) (below-nil (tree_pairs (option_copied c.args.self.root))) c.each_view_below.ensures.calls
+    subst (λ (w : List (List ℕ × g.row.V.Denot)). OnOk c.each_view_below.result
+    (ViewsEach g.F.FnMut c.args.f.now (cut_pairs (keys_of (tree_pairs (option_copied c.args.self.root))) w)
+    c.each_view_below.new.f)) (below-nil (tree_pairs (option_copied c.args.self.root)))
+    c.each_view_below.ensures.calls
 
 pub returns-clause-visits : goal.returns-clause-visits
-returns-clause-visits g c = rw (below-nil (tree_pairs (option_copied c.args.self.root))) at c.each_view_below.ensures.visits
+returns-clause-visits g c = rw (below-nil (tree_pairs (option_copied c.args.self.root))) at
+    c.each_view_below.ensures.visits
 
 pub returns-clause-bound : goal.returns-clause-bound
-returns-clause-bound g c = omega (arith, c.each_view_below.ensures.bound, ap length (below-nil (tree_pairs (option_copied c.args.self.root))))
+returns-clause-bound g c = omega (
+  arith,
+  c.each_view_below.ensures.bound,
+  ap length
+      (below-nil (tree_pairs (option_copied c.args.self.root))),
+)

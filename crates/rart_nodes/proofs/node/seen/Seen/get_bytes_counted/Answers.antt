@@ -10,6 +10,7 @@ returns g c =
     let canonical = IsCanonicalTree-test root c.args.self.canonical in
     record {
       value = c.descend.ensures.value ∙ tree_lookup-lookup c.args.key.now root canonical;
-      visits = c.descend.ensures.visits ∙ ap (λ n. g.C.Count.number c.args.counter.now + n) (tree_entered-probe_count c.args.key.now root canonical);
+      visits = c.descend.ensures.visits ∙ ap (λ n. g.C.Count.number c.args.counter.now + n)
+          (tree_entered-probe_count c.args.key.now root canonical);
       bound = omega (arith, c.descend.ensures.visits, few-tree_entered c.args.key.now root canonical);
     }

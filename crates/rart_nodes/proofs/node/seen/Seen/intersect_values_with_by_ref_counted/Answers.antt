@@ -5,9 +5,11 @@ use Rattle.rart_nodes.specs.tries.Tree.{tree_pairs}
 use Rattle.rart_nodes.proofs.joins.CallLemmas.{always-after-with, can-values}
 use Rattle.rart_nodes.proofs.node.seen.Seen.intersect_values_with_by_ref_counted.Goals as goal
 
-pub meet_trees-requires-clause-callable : goal.meet_trees-requires-clause-callable
-meet_trees-requires-clause-callable g c =
-    can-values (λ p x q. CalledWith g.F.FnMut p x q) (λ p x. TakesWith g.F.FnMut p x) _ (join (tree_pairs (option_copied c.args.self.root)) (tree_pairs (option_copied c.args.other.root))) c.requires.callable
+pub intersect_trees-requires-clause-callable : goal.intersect_trees-requires-clause-callable
+intersect_trees-requires-clause-callable g c =
+    can-values (λ p x q. CalledWith g.F.FnMut p x q) (λ p x. TakesWith g.F.FnMut p x) _
+    (join (tree_pairs (option_copied c.args.self.root)) (tree_pairs (option_copied c.args.other.root)))
+    c.requires.callable
 
 pub returns-clause-callable : goal.returns-clause-callable
-returns-clause-callable g c = always-after-with g.F.FnMut _ _ _ c.meet_trees.ensures.given
+returns-clause-callable g c = always-after-with g.F.FnMut _ _ _ c.intersect_trees.ensures.given

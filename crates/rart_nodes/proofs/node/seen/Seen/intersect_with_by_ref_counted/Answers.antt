@@ -7,29 +7,36 @@ use Rattle.rart_nodes.specs.tries.Tree.{tree_pairs}
 use Rattle.rart_parts.specs.declared.error.TreeError.{TreeError}
 use Rattle.rart_nodes.proofs.joins.CallLemmas.{always-after-at, can-keys}
 use Rattle.rart_nodes.proofs.joins.JointVisits.{joined-right_none}
-use Rattle.rart_nodes.proofs.joins.MeetingLemmas.{given-whole}
-use Rattle.rart_nodes.proofs.walks.TourLemmas.{has-pairs}
+use Rattle.rart_nodes.proofs.joins.VisitorLemmas.{given-whole}
+use Rattle.rart_nodes.proofs.walks.WalkLemmas.{has-pairs}
 use Rattle.rart_nodes.proofs.node.seen.Seen.intersect_with_by_ref_counted.Goals as goal
 
 pub returns-in_default-top-clause-calls : goal.returns-in_default-top-clause-calls
 returns-in_default-top-clause-calls g c =
-    let none = joined-right_none (option_copied c.args.self.root) (option_copied c.args.other.root) c.in_default-top.ensures in
+    let none = joined-right_none (option_copied c.args.self.root) (option_copied c.args.other.root)
+    c.in_default-top.ensures in
     rw none.0 refl
 
 pub returns-in_err-bytes-clause-memory : goal.returns-in_err-bytes-clause-memory
 returns-in_err-bytes-clause-memory g c =
-    let left = has-pairs c.in-Some.field-0.node.now (option_copied c.args.self.root) c.in-Some.field-0.canonical c.in-Some.ensures in
-    let right = has-pairs c.in-Some-top.field-0.node.now (option_copied c.args.other.root) c.in-Some-top.field-0.canonical c.in-Some-top.ensures in
+    let left = has-pairs c.in-Some.field-0.node.now (option_copied c.args.self.root) c.in-Some.field-0.canonical
+    c.in-Some.ensures in
+    let right = has-pairs c.in-Some-top.field-0.node.now (option_copied c.args.other.root)
+    c.in-Some-top.field-0.canonical c.in-Some-top.ensures in
     let memory : IfErr c.from_residual.result (λ e. e ≡ TreeError.Memory) = search rules in
     IfErr-weaker c.from_residual.result (λ e. e ≡ TreeError.Memory) _ (λ e m. (m, left, right)) memory
 
 pub returns-clause-calls : goal.returns-clause-calls
 returns-clause-calls g c =
-    given-whole (λ p x q. CalledAt g.F.FnMut g.K.KeyTrait.bytes p x q) c.in_ok-bytes.bytes.items _ _ (join (tree_pairs (option_copied c.args.self.root)) (tree_pairs (option_copied c.args.other.root))) c.in_ok-bytes.ensures.items c.meet_trees.ensures.given
+    given-whole (λ p x q. CalledAt g.F.FnMut g.K.KeyTrait.bytes p x q) c.in_ok-bytes.bytes.items _ _
+    (join (tree_pairs (option_copied c.args.self.root)) (tree_pairs (option_copied c.args.other.root)))
+    c.in_ok-bytes.ensures.items c.intersect_trees.ensures.given
 
-pub meet_trees-requires-clause-callable : goal.meet_trees-requires-clause-callable
-meet_trees-requires-clause-callable g c =
-    can-keys (λ p x q. CalledAt g.F.FnMut g.K.KeyTrait.bytes p x q) (λ p x. TakesAtKey g.F.FnMut g.K.KeyTrait.bytes p x) _ (join (tree_pairs (option_copied c.args.self.root)) (tree_pairs (option_copied c.args.other.root))) c.in_ok-bytes.bytes c.in_ok-bytes.ensures.items c.requires.callable
+pub intersect_trees-requires-clause-callable : goal.intersect_trees-requires-clause-callable
+intersect_trees-requires-clause-callable g c =
+    can-keys (λ p x q. CalledAt g.F.FnMut g.K.KeyTrait.bytes p x q) (λ p x. TakesAtKey g.F.FnMut g.K.KeyTrait.bytes p x)
+    _ (join (tree_pairs (option_copied c.args.self.root)) (tree_pairs (option_copied c.args.other.root)))
+    c.in_ok-bytes.bytes c.in_ok-bytes.ensures.items c.requires.callable
 
 pub returns-clause-callable : goal.returns-clause-callable
 returns-clause-callable g c = always-after-at g.F.FnMut g.K.KeyTrait.bytes _ _ _ (returns-clause-calls g c)

@@ -7,9 +7,11 @@ use Rattle.rart_nodes.proofs.node.seen.Seen.prefix_match_for_each_by_ref_k_count
 
 pub each_match-requires : goal.each_match-requires
 each_match-requires g c = record {
-  callable = subst (λ (q : List ℕ). CanMatch g.F.FnMut c.args.f.now (matches q (tree_pairs (option_copied c.args.self.root)))) (sym c.as_ref.ensures) c.requires.callable;
+  callable = subst (λ (q : List ℕ). CanMatch g.F.FnMut c.args.f.now
+      (matches q (tree_pairs (option_copied c.args.self.root)))) (sym c.as_ref.ensures) c.requires.callable;
 }
 
 pub returns-clause-calls : goal.returns-clause-calls
 returns-clause-calls g c =
-    subst (λ (q : List ℕ). MatchesEach g.F.FnMut c.args.f.now (matches q (tree_pairs (option_copied c.args.self.root))) c.each_match.new.f) c.as_ref.ensures c.each_match.ensures.calls
+    subst (λ (q : List ℕ). MatchesEach g.F.FnMut c.args.f.now (matches q (tree_pairs (option_copied c.args.self.root)))
+    c.each_match.new.f) c.as_ref.ensures c.each_match.ensures.calls

@@ -8,10 +8,13 @@ use Rattle.rart_nodes.proofs.node.seen.Seen.prefix_values_fold_by_ref_k_counted.
 
 pub fold_below-requires : goal.fold_below-requires
 fold_below-requires g c = record {
-  callable = subst (λ (q : List ℕ). CanFold g.F.FnMut c.args.f.now c.args.init (values_of (below q (tree_pairs (option_copied c.args.self.root))))) (sym c.as_ref.ensures) c.requires.callable;
+  callable = subst (λ (q : List ℕ). CanFold g.F.FnMut c.args.f.now c.args.init
+      (values_of (below q (tree_pairs (option_copied c.args.self.root))))) (sym c.as_ref.ensures) c.requires.callable;
 }
 
 pub returns-clause-calls : goal.returns-clause-calls
 returns-clause-calls g c =
-    subst (λ (q : List ℕ). IfOk c.fold_below.result (λ state. FoldsEach g.F.FnMut c.args.f.now c.args.init (values_of (below q (tree_pairs (option_copied c.args.self.root)))) c.fold_below.new.f state))
+    subst (λ (q : List ℕ). IfOk c.fold_below.result
+    (λ state. FoldsEach g.F.FnMut c.args.f.now c.args.init
+    (values_of (below q (tree_pairs (option_copied c.args.self.root)))) c.fold_below.new.f state))
     c.as_ref.ensures c.fold_below.ensures.calls

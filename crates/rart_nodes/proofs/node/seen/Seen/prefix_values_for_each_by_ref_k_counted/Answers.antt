@@ -8,10 +8,13 @@ use Rattle.rart_nodes.proofs.node.seen.Seen.prefix_values_for_each_by_ref_k_coun
 
 pub each_value_below-requires : goal.each_value_below-requires
 each_value_below-requires g c = record {
-  callable = subst (λ (q : List ℕ). CanShow g.F.FnMut c.args.f.now (values_of (below q (tree_pairs (option_copied c.args.self.root))))) (sym c.as_ref.ensures) c.requires.callable;
+  callable = subst (λ (q : List ℕ). CanShow g.F.FnMut c.args.f.now
+      (values_of (below q (tree_pairs (option_copied c.args.self.root))))) (sym c.as_ref.ensures) c.requires.callable;
 }
 
 pub returns-clause-calls : goal.returns-clause-calls
 returns-clause-calls g c =
-    subst (λ (q : List ℕ). OnOk c.each_value_below.result (ShowsEach g.F.FnMut c.args.f.now (values_of (below q (tree_pairs (option_copied c.args.self.root)))) c.each_value_below.new.f))
+    subst (λ (q : List ℕ). OnOk c.each_value_below.result
+    (ShowsEach g.F.FnMut c.args.f.now (values_of (below q (tree_pairs (option_copied c.args.self.root))))
+    c.each_value_below.new.f))
     c.as_ref.ensures c.each_value_below.ensures.calls

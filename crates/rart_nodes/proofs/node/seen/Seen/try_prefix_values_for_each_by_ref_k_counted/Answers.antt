@@ -3,33 +3,41 @@ use Rattle.std.specs.Option.{option_copied}
 use Rattle.rart_keys.specs.Filters.{below}
 use Rattle.rart_keys.specs.SortedMap.{values_of}
 use Rattle.rart_nodes.specs.tries.Tree.{seen_pairs, tree_pairs}
-use Rattle.rart_nodes.specs.walks.Tour.{stop_values, stops_ahead}
-use Rattle.rart_nodes.specs.walks.TrailParts.{no_piece}
+use Rattle.rart_nodes.specs.walks.Walk.{entry_values, entries_ahead}
+use Rattle.rart_nodes.specs.walks.PathParts.{no_segment}
 use Rattle.rart_nodes.specs.walks.Tried.{CanTry, EndsAs}
 use Rattle.rart_nodes.proofs.tries.CanonicalTests.{IsCanonicalTree-test}
 use Rattle.rart_nodes.proofs.walks.PartLemmas.{part-values}
 use Rattle.rart_nodes.proofs.node.seen.Seen.try_prefix_values_for_each_by_ref_k_counted.Goals as goal
 
-pub try_feed-requires-clause-callable : goal.try_feed-requires-clause-callable
-try_feed-requires-clause-callable g c =
-    let e : stop_values (stops_ahead no_piece [] (option_copied c.in-Ok.tour.first) c.in-Ok.tour.levels.items) ≡ values_of (below (g.K.KeyTrait.bytes c.args.prefix.now) (tree_pairs (option_copied c.args.self.root)))
-    = ap stop_values c.in-Ok.ensures.stops ∙ part-values no_piece c.as_ref.result.now (option_copied c.args.self.root) (IsCanonicalTree-test _ c.args.self.canonical)
+pub try_for_each-requires-clause-callable : goal.try_for_each-requires-clause-callable
+try_for_each-requires-clause-callable g c =
+    let e : entry_values (entries_ahead no_segment [] (option_copied c.in-Ok.walk.first) c.in-Ok.walk.levels.items)
+    ≡ values_of (below (g.K.KeyTrait.bytes c.args.prefix.now) (tree_pairs (option_copied c.args.self.root)))
+    = ap entry_values c.in-Ok.ensures.entries ∙ part-values no_segment c.as_ref.result.now
+    (option_copied c.args.self.root) (IsCanonicalTree-test _ c.args.self.canonical)
     ∙ ap (λ q. values_of (below q (tree_pairs (option_copied c.args.self.root)))) c.as_ref.ensures in
     subst (λ (x : List g.row.V.Denot). CanTry g.F.FnMut c.args.f.now x) (sym e) c.requires.callable
 
-pub returns-in-Ok-try_feed-clause-calls : goal.returns-in-Ok-try_feed-clause-calls
-returns-in-Ok-try_feed-clause-calls g c =
-    let e : stop_values (stops_ahead no_piece [] (option_copied c.in-Ok.tour.first) c.in-Ok.tour.levels.items) ≡ values_of (below (g.K.KeyTrait.bytes c.args.prefix.now) (tree_pairs (option_copied c.args.self.root)))
-    = ap stop_values c.in-Ok.ensures.stops ∙ part-values no_piece c.as_ref.result.now (option_copied c.args.self.root) (IsCanonicalTree-test _ c.args.self.canonical)
+pub returns-in-Ok-try_for_each-clause-calls : goal.returns-in-Ok-try_for_each-clause-calls
+returns-in-Ok-try_for_each-clause-calls g c =
+    let e : entry_values (entries_ahead no_segment [] (option_copied c.in-Ok.walk.first) c.in-Ok.walk.levels.items)
+    ≡ values_of (below (g.K.KeyTrait.bytes c.args.prefix.now) (tree_pairs (option_copied c.args.self.root)))
+    = ap entry_values c.in-Ok.ensures.entries ∙ part-values no_segment c.as_ref.result.now
+    (option_copied c.args.self.root) (IsCanonicalTree-test _ c.args.self.canonical)
     ∙ ap (λ q. values_of (below q (tree_pairs (option_copied c.args.self.root)))) c.as_ref.ensures in
-    subst (λ (x : List g.row.V.Denot). EndsAs g.F.FnMut c.args.f.now x (Ok tt) c.try_feed.new.f) e c.in-Ok-try_feed.ensures.calls
+    subst (λ (x : List g.row.V.Denot). EndsAs g.F.FnMut c.args.f.now x (Ok tt) c.try_for_each.new.f) e
+    c.in-Ok-try_for_each.ensures.calls
 
 pub returns-clause-calls : goal.returns-clause-calls
 returns-clause-calls g c =
-    let e : stop_values (stops_ahead no_piece [] (option_copied c.in-Ok.tour.first) c.in-Ok.tour.levels.items) ≡ values_of (below (g.K.KeyTrait.bytes c.args.prefix.now) (tree_pairs (option_copied c.args.self.root)))
-    = ap stop_values c.in-Ok.ensures.stops ∙ part-values no_piece c.as_ref.result.now (option_copied c.args.self.root) (IsCanonicalTree-test _ c.args.self.canonical)
+    let e : entry_values (entries_ahead no_segment [] (option_copied c.in-Ok.walk.first) c.in-Ok.walk.levels.items)
+    ≡ values_of (below (g.K.KeyTrait.bytes c.args.prefix.now) (tree_pairs (option_copied c.args.self.root)))
+    = ap entry_values c.in-Ok.ensures.entries ∙ part-values no_segment c.as_ref.result.now
+    (option_copied c.args.self.root) (IsCanonicalTree-test _ c.args.self.canonical)
     ∙ ap (λ q. values_of (below q (tree_pairs (option_copied c.args.self.root)))) c.as_ref.ensures in
-    subst (λ (x : List g.row.V.Denot). EndsAs g.F.FnMut c.args.f.now x (Err c.in-Err.error) c.try_feed.new.f) e c.in-Err.ensures.calls
+    subst (λ (x : List g.row.V.Denot). EndsAs g.F.FnMut c.args.f.now x (Err c.in-Err.error) c.try_for_each.new.f) e
+    c.in-Err.ensures.calls
 
 -- in numbers: what the walk down visited, and what the walk over the values did
 pub returns-clause-bound : goal.returns-clause-bound
@@ -37,7 +45,7 @@ returns-clause-bound g c = omega (
   arith,
   c.in-Ok.ensures.bound,
   c.in-Ok.ensures.few,
-  c.try_feed.ensures.visits,
+  c.try_for_each.ensures.visits,
   ap length c.as_ref.ensures,
   ap (λ q. length (below q (seen_pairs c.args.self.root))) c.as_ref.ensures,
 )

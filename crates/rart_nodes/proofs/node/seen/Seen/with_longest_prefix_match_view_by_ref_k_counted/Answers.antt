@@ -8,9 +8,14 @@ use Rattle.rart_nodes.proofs.node.seen.Seen.with_longest_prefix_match_view_by_re
 
 pub lend_longest_view-requires : goal.lend_longest_view-requires
 lend_longest_view-requires g c = record {
-  callable = subst (λ (q : List ℕ). CanShowFound g.F.FnMut c.args.f.now (keys_of (tree_pairs (option_copied c.args.self.root))) (longest_match q (tree_pairs (option_copied c.args.self.root)))) (sym c.as_ref.ensures) c.requires.callable;
+  callable = subst (λ (q : List ℕ). CanShowFound g.F.FnMut c.args.f.now
+      (keys_of (tree_pairs (option_copied c.args.self.root)))
+      (longest_match q (tree_pairs (option_copied c.args.self.root)))) (sym c.as_ref.ensures) c.requires.callable;
 }
 
 pub returns-clause-called : goal.returns-clause-called
 returns-clause-called g c =
-    subst (λ (q : List ℕ). IfOk c.lend_longest_view.result (ShowsFound g.F.FnMut c.args.f.now (keys_of (tree_pairs (option_copied c.args.self.root))) (longest_match q (tree_pairs (option_copied c.args.self.root))) c.lend_longest_view.new.f)) c.as_ref.ensures c.lend_longest_view.ensures.called
+    subst (λ (q : List ℕ). IfOk c.lend_longest_view.result
+    (ShowsFound g.F.FnMut c.args.f.now (keys_of (tree_pairs (option_copied c.args.self.root)))
+    (longest_match q (tree_pairs (option_copied c.args.self.root))) c.lend_longest_view.new.f)) c.as_ref.ensures
+    c.lend_longest_view.ensures.called

@@ -8,9 +8,14 @@ use Rattle.rart_nodes.proofs.node.seen.Seen.with_longest_prefix_match_view_k_cou
 
 pub with_longest_view-requires : goal.with_longest_view-requires
 with_longest_view-requires g c = record {
-  callable = subst (λ (q : List ℕ). CanSeeFound g.F.FnOnce c.args.f (keys_of (tree_pairs (option_copied c.args.self.root))) (longest_match q (tree_pairs (option_copied c.args.self.root)))) (sym c.as_ref.ensures) c.requires.callable;
+  callable = subst (λ (q : List ℕ). CanSeeFound g.F.FnOnce c.args.f
+      (keys_of (tree_pairs (option_copied c.args.self.root)))
+      (longest_match q (tree_pairs (option_copied c.args.self.root)))) (sym c.as_ref.ensures) c.requires.callable;
 }
 
 pub returns-clause-called : goal.returns-clause-called
 returns-clause-called g c =
-    subst (λ (q : List ℕ). IfOk c.with_longest_view.result (SeesFound g.F.FnOnce c.args.f (keys_of (tree_pairs (option_copied c.args.self.root))) (longest_match q (tree_pairs (option_copied c.args.self.root))))) c.as_ref.ensures c.with_longest_view.ensures.called
+    subst (λ (q : List ℕ). IfOk c.with_longest_view.result
+    (SeesFound g.F.FnOnce c.args.f (keys_of (tree_pairs (option_copied c.args.self.root)))
+    (longest_match q (tree_pairs (option_copied c.args.self.root))))) c.as_ref.ensures
+    c.with_longest_view.ensures.called

@@ -4,10 +4,17 @@ use Rattle.rart_parts.specs.Entries.{child_at}
 use Rattle.rart_nodes.specs.storages.Stored.{stored}
 use Rattle.rart_nodes.proofs.node.storage.Storage.has_room.Goals as goal
 
-pub returns-in-Full-clause-not_widest : goal.returns-in-Full-clause-not_widest
-returns-in-Full-clause-not_widest g c =
-    let n = c.num_children-in-Full.ensures in
-    let es = c.deref-in-Full.result.now in
-    let absent : child_at c.args.b es ≡ None = ap (child_at c.args.b) c.deref-in-Full.ensures ∙ sym (ap (λ s. child_at c.args.b (stored s)) c.in-Full.is) ∙ c.requires in
-    let less : c.num_children-in-Full.result < 256 = omega (arith, n.count, c.free_byte.ensures.few c.args.b es (omega (arith, c.ranges.b.fits)) absent n.ascends n.bytes) in
+pub returns-in-Node256-clause-not_widest : goal.returns-in-Node256-clause-not_widest
+returns-in-Node256-clause-not_widest g c =
+    let n = c.num_children-in-Node256.ensures in
+    let es = c.deref-in-Node256.result.now in
+    let absent : child_at c.args.b es ≡ None = ap (child_at c.args.b) c.deref-in-Node256.ensures
+    ∙ sym (ap (λ s. child_at c.args.b (stored s)) c.in-Node256.is) ∙ c.requires in
+    let less : c.num_children-in-Node256.result < 256
+    = omega (
+      arith,
+      n.count,
+      c.free_byte.ensures.few c.args.b es (omega (arith, c.ranges.b.fits)) absent n.ascends
+          n.bytes,
+    ) in
     λ full. grind (arith, nat_tests)

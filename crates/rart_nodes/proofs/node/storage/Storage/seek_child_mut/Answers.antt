@@ -4,46 +4,74 @@ use Rattle.rart_nodes.specs.storages.Stored.{stored}
 use Rattle.rart_nodes.proofs.edits.Outcomes.{on_some_weaker}
 use Rattle.rart_nodes.proofs.node.storage.Storage.seek_child_mut.Goals as goal
 
-pub returns-in-Four : goal.returns-in-Four
-returns-in-Four g c =
-    let d : c.deref_mut.result.now ≡ c.in-Four.map.value = c.deref_mut.ensures.value ∙ ap (λ m. m.value) c.in-Four.map-is in (
+pub returns-in-Node4 : goal.returns-in-Node4
+returns-in-Node4 g c =
+    let d : c.deref_mut.result.now ≡ c.in-Node4.map.value = c.deref_mut.ensures.value
+    ∙ ap (λ m. m.value) c.in-Node4.map-is in (
       (
         refl,
-        λ w. on_some_weaker c.seek_child_mut.result (λ h. (rw c.in-Four.is refl, rw c.in-Four.is (h ∙ ap (replaced c.args.b w) d))) (c.seek_child_mut.follows.holds w),
-        (rw c.in-Four.is refl, rw c.in-Four.is (c.seek_child_mut.follows.holds-at-none ∙ d)),
+        λ w. on_some_weaker c.seek_child_mut.result
+            (λ h. (rw c.in-Node4.is refl, rw c.in-Node4.is (h ∙ ap (replaced c.args.b w) d)))
+            (c.seek_child_mut.follows.holds w),
+        (rw c.in-Node4.is refl, rw c.in-Node4.is (c.seek_child_mut.follows.holds-at-none ∙ d)),
       ),
-      record { writes_back = tt; value = c.seek_child_mut.ensures.value ∙ ap (child_at c.args.b) (d ∙ sym (ap stored c.in-Four.is)) },
+      record {
+        writes_back = tt;
+        value = c.seek_child_mut.ensures.value
+            ∙ ap (child_at c.args.b) (d ∙ sym (ap stored c.in-Node4.is));
+      },
     )
 
-pub returns-in-Sixteen : goal.returns-in-Sixteen
-returns-in-Sixteen g c =
-    let d : c.deref_mut-in-Sixteen.result.now ≡ c.in-Sixteen.map.value = c.deref_mut-in-Sixteen.ensures.value ∙ ap (λ m. m.value) c.in-Sixteen.map-is in (
+pub returns-in-Node16 : goal.returns-in-Node16
+returns-in-Node16 g c =
+    let d : c.deref_mut-in-Node16.result.now ≡ c.in-Node16.map.value = c.deref_mut-in-Node16.ensures.value
+    ∙ ap (λ m. m.value) c.in-Node16.map-is in (
       (
         refl,
-        λ w. on_some_weaker c.seek_child_mut-in-Sixteen.result (λ h. (rw c.in-Sixteen.is refl, rw c.in-Sixteen.is (h ∙ ap (replaced c.args.b w) d))) (c.seek_child_mut-in-Sixteen.follows.holds w),
-        (rw c.in-Sixteen.is refl, rw c.in-Sixteen.is (c.seek_child_mut-in-Sixteen.follows.holds-at-none ∙ d)),
+        λ w. on_some_weaker c.seek_child_mut-in-Node16.result
+            (λ h. (rw c.in-Node16.is refl, rw c.in-Node16.is (h ∙ ap (replaced c.args.b w) d)))
+            (c.seek_child_mut-in-Node16.follows.holds w),
+        (rw c.in-Node16.is refl, rw c.in-Node16.is (c.seek_child_mut-in-Node16.follows.holds-at-none ∙ d)),
       ),
-      record { writes_back = tt; value = c.seek_child_mut-in-Sixteen.ensures.value ∙ ap (child_at c.args.b) (d ∙ sym (ap stored c.in-Sixteen.is)) },
+      record {
+        writes_back = tt;
+        value = c.seek_child_mut-in-Node16.ensures.value
+            ∙ ap (child_at c.args.b) (d ∙ sym (ap stored c.in-Node16.is));
+      },
     )
 
-pub returns-in-FortyEight : goal.returns-in-FortyEight
-returns-in-FortyEight g c =
-    let d : c.deref_mut-in-FortyEight.result.now ≡ c.in-FortyEight.map.value = c.deref_mut-in-FortyEight.ensures.value ∙ ap (λ m. m.value) c.in-FortyEight.map-is in (
+pub returns-in-Node48 : goal.returns-in-Node48
+returns-in-Node48 g c =
+    let d : c.deref_mut-in-Node48.result.now ≡ c.in-Node48.map.value = c.deref_mut-in-Node48.ensures.value
+    ∙ ap (λ m. m.value) c.in-Node48.map-is in (
       (
         refl,
-        λ w. on_some_weaker c.seek_child_mut-in-FortyEight.result (λ h. (rw c.in-FortyEight.is refl, rw c.in-FortyEight.is (h ∙ ap (λ m. replaced c.args.b w (ascending m)) d))) (c.seek_child_mut-in-FortyEight.follows.holds w),
-        (rw c.in-FortyEight.is refl, rw c.in-FortyEight.is (c.seek_child_mut-in-FortyEight.follows.holds-at-none ∙ ap ascending d)),
+        λ w. on_some_weaker c.seek_child_mut-in-Node48.result
+            (λ h. (rw c.in-Node48.is refl, rw c.in-Node48.is (h ∙ ap (λ m. replaced c.args.b w (ascending m)) d)))
+            (c.seek_child_mut-in-Node48.follows.holds w),
+        (rw c.in-Node48.is refl, rw c.in-Node48.is (c.seek_child_mut-in-Node48.follows.holds-at-none ∙ ap ascending d)),
       ),
-      record { writes_back = tt; value = c.seek_child_mut-in-FortyEight.ensures.value ∙ ap (child_at c.args.b) (ap ascending d ∙ sym (ap stored c.in-FortyEight.is)) },
+      record {
+        writes_back = tt;
+        value = c.seek_child_mut-in-Node48.ensures.value
+            ∙ ap (child_at c.args.b) (ap ascending d ∙ sym (ap stored c.in-Node48.is));
+      },
     )
 
-pub returns-in-Full : goal.returns-in-Full
-returns-in-Full g c =
-    let d : c.deref_mut-in-Full.result.now ≡ c.in-Full.map.value = c.deref_mut-in-Full.ensures.value ∙ ap (λ m. m.value) c.in-Full.map-is in (
+pub returns-in-Node256 : goal.returns-in-Node256
+returns-in-Node256 g c =
+    let d : c.deref_mut-in-Node256.result.now ≡ c.in-Node256.map.value = c.deref_mut-in-Node256.ensures.value
+    ∙ ap (λ m. m.value) c.in-Node256.map-is in (
       (
         refl,
-        λ w. on_some_weaker c.seek_child_mut-in-Full.result (λ h. (rw c.in-Full.is refl, rw c.in-Full.is (h ∙ ap (replaced c.args.b w) d))) (c.seek_child_mut-in-Full.follows.holds w),
-        (rw c.in-Full.is refl, rw c.in-Full.is (c.seek_child_mut-in-Full.follows.holds-at-none ∙ d)),
+        λ w. on_some_weaker c.seek_child_mut-in-Node256.result
+            (λ h. (rw c.in-Node256.is refl, rw c.in-Node256.is (h ∙ ap (replaced c.args.b w) d)))
+            (c.seek_child_mut-in-Node256.follows.holds w),
+        (rw c.in-Node256.is refl, rw c.in-Node256.is (c.seek_child_mut-in-Node256.follows.holds-at-none ∙ d)),
       ),
-      record { writes_back = tt; value = c.seek_child_mut-in-Full.ensures.value ∙ ap (child_at c.args.b) (d ∙ sym (ap stored c.in-Full.is)) },
+      record {
+        writes_back = tt;
+        value = c.seek_child_mut-in-Node256.ensures.value
+            ∙ ap (child_at c.args.b) (d ∙ sym (ap stored c.in-Node256.is));
+      },
     )

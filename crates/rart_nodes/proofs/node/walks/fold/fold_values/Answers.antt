@@ -2,28 +2,43 @@ use Rattle.std.proofs.Common.{arith, rules, of_calls, ◌≡◌, [], ◌∷◌, 
 use Rattle.std.specs.List.{FoldsTo}
 use Rattle.std.specs.Option.{option_copied}
 use Rattle.rart_nodes.specs.walks.Shown.{Folded}
-use Rattle.rart_nodes.specs.walks.Tour.{stop_values, stops_ahead}
-use Rattle.rart_nodes.specs.walks.TrailParts.{no_piece}
+use Rattle.rart_nodes.specs.walks.Walk.{entry_values, entries_ahead}
+use Rattle.rart_nodes.specs.walks.PathParts.{no_segment}
 use Rattle.rart_nodes.proofs.walks.CallLemmas.{always-after-folds, can-first, can-rest}
 use Rattle.rart_nodes.proofs.node.walks.fold.fold_values.Goals as goal
 
 pub f-state-requires : goal.f-state-requires
-f-state-requires g c = can-first _ _ _ _ _ _ (ap stop_values c.in-Some.ensures.stops) c.loop-value.invariant.callable _ refl
+f-state-requires g c = can-first _ _ _ _ _ _ (ap entry_values c.in-Some.ensures.entries) c.loop-value.invariant.callable
+    _
+    refl
 
 pub loop-value-preserved : goal.loop-value-preserved
 loop-value-preserved g c =
-    let more = stop_values (stops_ahead no_piece [] (option_copied c.advance.new.self.first) c.advance.new.self.levels.items) in
-    let e : stop_values (stops_ahead no_piece [] (option_copied c.loop-value.tour.first) c.loop-value.tour.levels.items) ≡ c.in-Some.value.now ∷ more = ap stop_values c.in-Some.ensures.stops in
-    let v : Folded g.F.FnMut (c.loop-value.f, c.loop-value.state) c.in-Some.value.now (c.f-state.new.self, c.f-state.result) = record { shown = c.in-Some.value; shows = refl; called = search (rules, of_calls) } in
+    let more = entry_values (entries_ahead no_segment [] (option_copied c.advance.new.self.first)
+    c.advance.new.self.levels.items) in
+    let e : entry_values (entries_ahead no_segment [] (option_copied c.loop-value.walk.first)
+    c.loop-value.walk.levels.items) ≡ c.in-Some.value.now ∷ more = ap entry_values c.in-Some.ensures.entries in
+    let v : Folded g.F.FnMut (c.loop-value.f, c.loop-value.state) c.in-Some.value.now
+    (c.f-state.new.self, c.f-state.result) = record {
+      shown = c.in-Some.value;
+      shows = refl;
+      called
+          = search (rules, of_calls);
+    } in
     record {
       callable = can-rest _ _ _ _ _ _ _ e v c.loop-value.invariant.callable;
       path = c.in-Some.ensures.path;
       room = c.in-Some.ensures.room;
-      folds = λ last h. c.loop-value.invariant.folds last (subst (λ (x : List g.row.V.Denot). FoldsTo (λ p x q. Folded g.F.FnMut p x q) (c.loop-value.f, c.loop-value.state) x last) (sym e) ((c.f-state.new.self, c.f-state.result), v, h));
+      folds = λ last h. c.loop-value.invariant.folds last
+          (subst (λ (x : List g.row.V.Denot). FoldsTo (λ p x q. Folded g.F.FnMut p x q)
+          (c.loop-value.f, c.loop-value.state) x last) (sym e) ((c.f-state.new.self, c.f-state.result), v, h));
       visits = omega (arith, c.loop-value.invariant.visits, c.in-Some.ensures.visits);
     }
 
 pub returns-clause-callable : goal.returns-clause-callable
 returns-clause-callable g c =
-    let e : stop_values (stops_ahead no_piece [] (option_copied c.loop-value.tour.first) c.loop-value.tour.levels.items) ≡ [] = ap stop_values c.in_default.ensures.stops.0 in
-    always-after-folds g.F.FnMut _ _ _ _ _ (c.loop-value.invariant.folds (c.loop-value.f, c.loop-value.state) (subst (λ (x : List g.row.V.Denot). FoldsTo (λ p x q. Folded g.F.FnMut p x q) (c.loop-value.f, c.loop-value.state) x (c.loop-value.f, c.loop-value.state)) (sym e) refl))
+    let e : entry_values (entries_ahead no_segment [] (option_copied c.loop-value.walk.first)
+    c.loop-value.walk.levels.items) ≡ [] = ap entry_values c.in_default.ensures.entries.0 in
+    always-after-folds g.F.FnMut _ _ _ _ _ (c.loop-value.invariant.folds (c.loop-value.f, c.loop-value.state)
+    (subst (λ (x : List g.row.V.Denot). FoldsTo (λ p x q. Folded g.F.FnMut p x q)
+    (c.loop-value.f, c.loop-value.state) x (c.loop-value.f, c.loop-value.state)) (sym e) refl))

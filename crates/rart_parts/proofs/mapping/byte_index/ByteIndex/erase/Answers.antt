@@ -6,4 +6,5 @@ pub invariant_of-self : goal.invariant_of-self
 invariant_of-self c = index_without c.self.invariant _ c.args.byte (omega (arith, c.ranges.byte.fits)) c.unset.ensures
 
 pub returns-clause-new : goal.returns-clause-new
-returns-clause-new c = slots_without c.self.invariant c.unset.new.self.words c.args.byte (omega (arith, c.ranges.byte.fits)) ∙ ap (λ os. set os c.args.byte None) c.self.view_is
+returns-clause-new c = slots_without c.self.invariant c.unset.new.self.words c.args.byte
+    (omega (arith, c.ranges.byte.fits)) ∙ ap (λ os. set os c.args.byte None) c.self.view_is

@@ -3,7 +3,9 @@ use Rattle.rart_parts.proofs.ByteIndexLemmas.{read_none, read_slot}
 use Rattle.rart_parts.proofs.mapping.byte_index.ByteIndex.get.Goals as goal
 
 pub returns-then-slot : goal.returns-then-slot
-returns-then-slot c = rw (← c.self.view_is) (read_none c.self.invariant c.args.byte (omega (arith, c.ranges.byte.fits)) c.if-slot.true)
+returns-then-slot c = rw (← c.self.view_is)
+    (read_none c.self.invariant c.args.byte (omega (arith, c.ranges.byte.fits)) c.if-slot.true)
 
 pub returns-else-slot : goal.returns-else-slot
-returns-else-slot c = rw (← c.self.view_is) (read_slot c.self.invariant c.args.byte (omega (arith, c.ranges.byte.fits)) c.if-slot.false)
+returns-else-slot c = rw (← c.self.view_is)
+    (read_slot c.self.invariant c.args.byte (omega (arith, c.ranges.byte.fits)) c.if-slot.false)

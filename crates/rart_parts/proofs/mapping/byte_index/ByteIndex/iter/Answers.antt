@@ -6,7 +6,12 @@ use Rattle.rart_parts.proofs.ByteIndexLemmas.{walked_all, members-bytes}
 use Rattle.rart_parts.proofs.mapping.byte_index.ByteIndex.iter.Goals as goal
 
 pub invariant_of-result : goal.invariant_of-result
-invariant_of-result c = (c.self.invariant.whole, subst AreBytes (sym c.iter.ensures) (members-bytes (words_have 64 (λ w. w) c.self.inside.used.words) 0 256 (omega arith)))
+invariant_of-result c = (
+  c.self.invariant.whole,
+  subst AreBytes (sym c.iter.ensures)
+      (members-bytes (words_have 64 (λ w. w) c.self.inside.used.words) 0 256 (omega arith)),
+)
 
 pub returns : goal.returns
-returns c = ap (with_slots c.self.inside.slots) c.iter.ensures ∙ walked_all c.self.invariant ∙ ap (numbered 0) c.self.view_is
+returns c = ap (with_slots c.self.inside.slots) c.iter.ensures ∙ walked_all c.self.invariant
+    ∙ ap (numbered 0) c.self.view_is

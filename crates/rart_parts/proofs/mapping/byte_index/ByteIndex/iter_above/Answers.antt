@@ -7,10 +7,16 @@ use Rattle.rart_parts.proofs.ByteIndexLemmas.{above-bytes, with_slots-above, wal
 use Rattle.rart_parts.proofs.mapping.byte_index.ByteIndex.iter_above.Goals as goal
 
 pub invariant_of-result : goal.invariant_of-result
-invariant_of-result c =
-    (c.self.invariant.whole, subst AreBytes (sym (c.pass.ensures ∙ ap (positions_above c.args.byte) c.iter-bytes.ensures)) (above-bytes c.args.byte _ (members-bytes (words_have 64 (λ w. w) c.self.inside.used.words) 0 256 (omega arith))))
+invariant_of-result c = (
+  c.self.invariant.whole,
+  subst AreBytes (sym (c.pass.ensures
+      ∙ ap (positions_above c.args.byte) c.iter-bytes.ensures))
+      (above-bytes c.args.byte _ (members-bytes (words_have 64 (λ w. w) c.self.inside.used.words) 0 256
+      (omega arith))),
+)
 
 pub returns : goal.returns
 returns c =
     ap (with_slots c.self.inside.slots) (c.pass.ensures ∙ ap (positions_above c.args.byte) c.iter-bytes.ensures)
-    ∙ with_slots-above c.args.byte c.self.inside.slots _ ∙ ap (entries_above c.args.byte) (walked_all c.self.invariant ∙ ap (numbered 0) c.self.view_is)
+    ∙ with_slots-above c.args.byte c.self.inside.slots _
+    ∙ ap (entries_above c.args.byte) (walked_all c.self.invariant ∙ ap (numbered 0) c.self.view_is)

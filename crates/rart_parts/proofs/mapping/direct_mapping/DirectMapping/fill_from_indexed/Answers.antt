@@ -7,7 +7,8 @@ use Rattle.rart_parts.proofs.mapping.direct_mapping.DirectMapping.fill_from_inde
 
 pub loop-key-init : goal.loop-key-init
 loop-key-init g c =
-    let few = length-between 0 256 (ascending c.args.source.now) (omega arith) c.num_children-count.ensures.ascends (λ b l. absurd (omega (arith, l))) c.num_children-count.ensures.bytes in
+    let few = length-between 0 256 (ascending c.args.source.now) (omega arith) c.num_children-count.ensures.ascends
+    (λ b l. absurd (omega (arith, l))) c.num_children-count.ensures.bytes in
     (omega (arith, few), c.num_children-count.ensures.ascends, ap (λ es. es ++ ascending c.args.source.now) c.requires)
 
 pub unwrap-child-requires : goal.unwrap-child-requires
@@ -16,21 +17,39 @@ unwrap-child-requires g c = subst IsSome (sym c.delete_child.ensures.taken) c.in
 pub add_child-requires-clause-absent : goal.add_child-requires-clause-absent
 add_child-requires-clause-absent g c =
     let source = ascending c.loop-key.source in
-    let is = next_first (ascending c.args.source.now) c.loop-key.self source c.in-Some.key c.loop-key.invariant.1 c.loop-key.invariant.2 c.in-Some.ensures.least c.unwrap-child.result (sym c.delete_child.ensures.taken ∙ c.unwrap-child.ensures) in
-    moved_absent (ascending c.args.source.now) c.loop-key.self (without_byte c.in-Some.key source) (c.in-Some.key, c.unwrap-child.result) c.loop-key.invariant.1 is
+    let is = next_first (ascending c.args.source.now) c.loop-key.self source c.in-Some.key c.loop-key.invariant.1
+    c.loop-key.invariant.2 c.in-Some.ensures.least c.unwrap-child.result (sym c.delete_child.ensures.taken
+    ∙ c.unwrap-child.ensures) in
+    moved_absent (ascending c.args.source.now) c.loop-key.self (without_byte c.in-Some.key source)
+    (c.in-Some.key, c.unwrap-child.result) c.loop-key.invariant.1 is
 
 pub add_child-requires-clause-room : goal.add_child-requires-clause-room
 add_child-requires-clause-room g c =
     let source = ascending c.loop-key.source in
-    let is = next_first (ascending c.args.source.now) c.loop-key.self source c.in-Some.key c.loop-key.invariant.1 c.loop-key.invariant.2 c.in-Some.ensures.least c.unwrap-child.result (sym c.delete_child.ensures.taken ∙ c.unwrap-child.ensures) in
-    moved_room (ascending c.args.source.now) c.loop-key.self (without_byte c.in-Some.key source) (c.in-Some.key, c.unwrap-child.result) c.loop-key.invariant.1 is 256 (omega (arith, c.loop-key.invariant.0))
+    let is = next_first (ascending c.args.source.now) c.loop-key.self source c.in-Some.key c.loop-key.invariant.1
+    c.loop-key.invariant.2 c.in-Some.ensures.least c.unwrap-child.result (sym c.delete_child.ensures.taken
+    ∙ c.unwrap-child.ensures) in
+    moved_room (ascending c.args.source.now) c.loop-key.self (without_byte c.in-Some.key source)
+    (c.in-Some.key, c.unwrap-child.result) c.loop-key.invariant.1 is 256 (omega (arith, c.loop-key.invariant.0))
 
 pub loop-key-preserved : goal.loop-key-preserved
 loop-key-preserved g c =
     let source = ascending c.loop-key.source in
-    let is = next_first (ascending c.args.source.now) c.loop-key.self source c.in-Some.key c.loop-key.invariant.1 c.loop-key.invariant.2 c.in-Some.ensures.least c.unwrap-child.result (sym c.delete_child.ensures.taken ∙ c.unwrap-child.ensures) in
-    (c.loop-key.invariant.0, c.loop-key.invariant.1, (λ i. c.add_child.ensures i ++ c.delete_child.ensures.rest i) ∙ moved_next (ascending c.args.source.now) c.loop-key.self (without_byte c.in-Some.key source) (c.in-Some.key, c.unwrap-child.result) c.loop-key.invariant.1 is)
+    let is = next_first (ascending c.args.source.now) c.loop-key.self source c.in-Some.key c.loop-key.invariant.1
+    c.loop-key.invariant.2 c.in-Some.ensures.least c.unwrap-child.result (sym c.delete_child.ensures.taken
+    ∙ c.unwrap-child.ensures) in (
+      c.loop-key.invariant.0,
+      c.loop-key.invariant.1,
+      (λ i. c.add_child.ensures i ++ c.delete_child.ensures.rest i)
+          ∙ moved_next (ascending c.args.source.now) c.loop-key.self (without_byte c.in-Some.key source)
+          (c.in-Some.key, c.unwrap-child.result) c.loop-key.invariant.1 is,
+    )
 
 pub loop-key-smaller : goal.loop-key-smaller
 loop-key-smaller g c =
-    omega (arith, ap length c.delete_child.ensures.rest, length-without_byte c.in-Some.key c.unwrap-child.result (ascending c.loop-key.source) (sym c.delete_child.ensures.taken ∙ c.unwrap-child.ensures))
+    omega (
+      arith,
+      ap length c.delete_child.ensures.rest,
+      length-without_byte c.in-Some.key c.unwrap-child.result
+          (ascending c.loop-key.source) (sym c.delete_child.ensures.taken ∙ c.unwrap-child.ensures),
+    )

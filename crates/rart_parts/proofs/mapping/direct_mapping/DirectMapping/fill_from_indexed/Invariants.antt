@@ -4,7 +4,8 @@ use Rattle.rart_parts.proofs.mapping.direct_mapping.DirectMapping.fill_from_inde
 
 -- what was moved, and then what is left
 abbrev pub invariant-loop-key : goal.invariant-loop-key
-invariant-loop-key g l = (length (ascending l.fn.source) ≤ 256) × BytesAscend (ascending l.fn.source) × (l.self ++ ascending l.source ≡ ascending l.fn.source)
+invariant-loop-key g l = (length (ascending l.fn.source) ≤ 256) × BytesAscend (ascending l.fn.source)
+    × (l.self ++ ascending l.source ≡ ascending l.fn.source)
 
 abbrev pub decreases-loop-key : goal.decreases-loop-key
 decreases-loop-key g l = length (ascending l.source)

@@ -8,4 +8,7 @@ use Rattle.rart_parts.proofs.mapping.direct_mapping.DirectMapping.iter_above.Goa
 pub returns : goal.returns
 returns g c =
     let start : 0 + (c.args.byte + 1) ≡ c.args.byte + 1 = omega arith in
-    rw (c.as_slice.ensures.value, from_place (c.args.byte + 1) c.self.inside.places.items) (ap (λ n. numbered n (drop (c.args.byte + 1) c.self.inside.places.items)) (sym start) ∙ numbered_above c.args.byte 0 (c.args.byte + 1) c.self.inside.places.items (omega arith) ∙ ap (entries_above c.args.byte) c.self.view_is)
+    rw (c.as_slice.ensures.value, from_place (c.args.byte + 1) c.self.inside.places.items)
+    (ap (λ n. numbered n (drop (c.args.byte + 1) c.self.inside.places.items)) (sym start)
+    ∙ numbered_above c.args.byte 0 (c.args.byte + 1) c.self.inside.places.items (omega arith)
+    ∙ ap (entries_above c.args.byte) c.self.view_is)

@@ -4,11 +4,17 @@ use Rattle.rart_parts.proofs.DirectLemmas.{numbered-ascends, numbered_child, len
 use Rattle.rart_parts.proofs.mapping.direct_mapping.DirectMappingNodeMapping256.num_children.Goals as goal
 
 pub returns-clause-few : goal.returns-clause-few
-returns-clause-few g c = omega (arith, ap length c.self.view_is, length-numbered 0 c.self.inside.places.items, c.self.invariant.full)
+returns-clause-few g c = omega (
+  arith,
+  ap length c.self.view_is,
+  length-numbered 0 c.self.inside.places.items,
+  c.self.invariant.full,
+)
 
 pub returns-clause-ascends : goal.returns-clause-ascends
 returns-clause-ascends g c = rw (← c.self.view_is) (numbered-ascends 0 c.self.inside.places.items)
 
 pub returns-clause-bytes : goal.returns-clause-bytes
 returns-clause-bytes g c b h =
-    rw (← c.self.view_is) (numbered_child c.self.inside.places.items b ∙ get_or_past c.self.inside.places.items b None (omega (arith, h, c.self.invariant.full)))
+    rw (← c.self.view_is) (numbered_child c.self.inside.places.items b
+    ∙ get_or_past c.self.inside.places.items b None (omega (arith, h, c.self.invariant.full)))

@@ -5,4 +5,6 @@ use Rattle.rart_parts.proofs.mapping.direct_mapping.DirectMappingNodeMapping256.
 pub returns : goal.returns
 returns g c =
     let os = c.self.inside.places.items in
-    rw (← c.self.view_is) (c.as_ref.ensures.value ∙ sym (place_reads os c.args.key c.index.result.now None (omega (arith, c.ranges.key.fits, c.self.invariant.full)) c.index.ensures) ∙ sym (numbered_child os c.args.key))
+    rw (← c.self.view_is) (c.as_ref.ensures.value
+    ∙ sym (place_reads os c.args.key c.index.result.now None
+    (omega (arith, c.ranges.key.fits, c.self.invariant.full)) c.index.ensures) ∙ sym (numbered_child os c.args.key))

@@ -5,7 +5,8 @@ use Rattle.rart_parts.proofs.SplitLemmas.{split_start, split_absent, split_room,
 use Rattle.rart_parts.proofs.mapping.indexed_mapping.IndexedMapping.fill_from_keyed.Goals as goal
 
 pub loop-key-init : goal.loop-key-init
-loop-key-init g c = split_start (ascending c.args.source.now) (ascending c.args.self.now) c.num_children-count.ensures.ascends c.requires.empty
+loop-key-init g c = split_start (ascending c.args.source.now) (ascending c.args.self.now)
+    c.num_children-count.ensures.ascends c.requires.empty
 
 pub add_child-requires : goal.add_child-requires
 add_child-requires g c =
@@ -15,7 +16,8 @@ add_child-requires g c =
       omega arith,
       (
         split_absent whole moved rest c.loop-key.invariant c.in-Some.key c.in-Some.child c.in-Some.ensures.0,
-        split_room whole moved rest c.loop-key.invariant c.in-Some.key c.in-Some.child c.in-Some.ensures.0 g.row.W c.requires.room,
+        split_room whole moved rest c.loop-key.invariant c.in-Some.key c.in-Some.child c.in-Some.ensures.0 g.row.W
+            c.requires.room,
       ),
     )
 
@@ -24,12 +26,19 @@ loop-key-preserved g c =
     let whole = ascending c.args.source.now in
     let moved = ascending c.loop-key.self in
     let rest = ascending c.loop-key.source in
-    rw (c.add_child.ensures, c.in-Some.ensures.1) (split_next whole moved rest c.loop-key.invariant c.in-Some.key c.in-Some.child c.in-Some.ensures.0)
+    rw (c.add_child.ensures, c.in-Some.ensures.1)
+    (split_next whole moved rest c.loop-key.invariant c.in-Some.key c.in-Some.child c.in-Some.ensures.0)
 
 pub loop-key-smaller : goal.loop-key-smaller
 loop-key-smaller g c =
-    omega (arith, ap length c.in-Some.ensures.1, length-without_byte c.in-Some.key c.in-Some.child (ascending c.loop-key.source) c.in-Some.ensures.0)
+    omega (
+      arith,
+      ap length c.in-Some.ensures.1,
+      length-without_byte c.in-Some.key c.in-Some.child
+          (ascending c.loop-key.source) c.in-Some.ensures.0,
+    )
 
 pub returns-clause-filled : goal.returns-clause-filled
 returns-clause-filled g c =
-    split_done (ascending c.args.source.now) (ascending c.loop-key.self) (ascending c.loop-key.source) c.loop-key.invariant c.in_default.ensures.0
+    split_done (ascending c.args.source.now) (ascending c.loop-key.self) (ascending c.loop-key.source)
+    c.loop-key.invariant c.in_default.ensures.0

@@ -5,12 +5,27 @@ use Rattle.rart_parts.proofs.mapping.indexed_mapping.IndexedMapping.fill_from_so
 
 pub add_child-requires : goal.add_child-requires
 add_child-requires g c =
-    let is : (c.take_last.new.self ++ (c.in-Some.key, c.in-Some.child) ∷ []) ++ ascending c.loop-key.self ≡ c.args.source.now
-    = ap (λ es. es ++ ascending c.loop-key.self) (sym c.in-Some.ensures) ∙ c.loop-key.invariant.1 in
-    (omega arith, (taken_absent c.args.source.now c.take_last.new.self (ascending c.loop-key.self) (c.in-Some.key, c.in-Some.child) c.loop-key.invariant.0 is, taken_room c.args.source.now c.take_last.new.self (ascending c.loop-key.self) (c.in-Some.key, c.in-Some.child) c.loop-key.invariant.0 is g.row.W c.requires.room))
+    let is : (c.take_last.new.self ++ (c.in-Some.key, c.in-Some.child) ∷ []) ++ ascending c.loop-key.self
+    ≡ c.args.source.now
+    = ap (λ es. es ++ ascending c.loop-key.self) (sym c.in-Some.ensures) ∙ c.loop-key.invariant.1 in (
+      omega arith,
+      (
+        taken_absent c.args.source.now c.take_last.new.self (ascending c.loop-key.self)
+            (c.in-Some.key, c.in-Some.child) c.loop-key.invariant.0 is,
+        taken_room c.args.source.now c.take_last.new.self
+            (ascending c.loop-key.self) (c.in-Some.key, c.in-Some.child) c.loop-key.invariant.0 is g.row.W
+            c.requires.room,
+      ),
+    )
 
 pub loop-key-preserved : goal.loop-key-preserved
 loop-key-preserved g c =
-    let is : (c.take_last.new.self ++ (c.in-Some.key, c.in-Some.child) ∷ []) ++ ascending c.loop-key.self ≡ c.args.source.now
-    = ap (λ es. es ++ ascending c.loop-key.self) (sym c.in-Some.ensures) ∙ c.loop-key.invariant.1 in
-    (c.loop-key.invariant.0, ap (λ es. c.take_last.new.self ++ es) c.add_child.ensures ∙ taken_next c.args.source.now c.take_last.new.self (ascending c.loop-key.self) (c.in-Some.key, c.in-Some.child) c.loop-key.invariant.0 is)
+    let is : (c.take_last.new.self ++ (c.in-Some.key, c.in-Some.child) ∷ []) ++ ascending c.loop-key.self
+    ≡ c.args.source.now
+    = ap (λ es. es ++ ascending c.loop-key.self) (sym c.in-Some.ensures) ∙ c.loop-key.invariant.1 in (
+      c.loop-key.invariant.0,
+      ap (λ es. c.take_last.new.self ++ es) c.add_child.ensures
+          ∙ taken_next c.args.source.now c.take_last.new.self (ascending c.loop-key.self)
+          (c.in-Some.key, c.in-Some.child)
+          c.loop-key.invariant.0 is,
+    )

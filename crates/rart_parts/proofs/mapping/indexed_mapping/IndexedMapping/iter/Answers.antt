@@ -6,4 +6,5 @@ use Rattle.rart_parts.proofs.mapping.indexed_mapping.IndexedMapping.iter.Goals a
 
 pub returns : goal.returns
 returns g c =
-    (λ i. by_slots (c.iter.ensures i) (c.as_slice.ensures i)) ∙ walk_is c.self.inside.children c.self.inside.index c.self.invariant.index ∙ ap ascending c.self.view_is
+    (λ i. by_slots (c.iter.ensures i) (c.as_slice.ensures i))
+    ∙ walk_is c.self.inside.children c.self.inside.index c.self.invariant.index ∙ ap ascending c.self.view_is

@@ -10,7 +10,10 @@ use Rattle.rart_parts.proofs.mapping.indexed_mapping.IndexedMapping.take_first.G
 pub returns-in_default : goal.returns-in_default
 returns-in_default g c =
     let at = c.self.inside.index in
-    let none = ap ascending (sym c.self.view_is) ∙ empty_map _ (λ b. indexed_none c.self.invariant.index b (free_read at b (⊎_elim (λ h. c.in_default.ensures b h) (λ h. past_used at b (omega (arith, h, c.self.invariant.index.whole))) (cases_lt b 256)))) in
+    let none = ap ascending (sym c.self.view_is)
+    ∙ empty_map _ (λ b. indexed_none c.self.invariant.index b
+    (free_read at b (⊎_elim (λ h. c.in_default.ensures b h)
+    (λ h. past_used at b (omega (arith, h, c.self.invariant.index.whole))) (cases_lt b 256)))) in
     (none, none)
 
 pub unwrap-child-requires : goal.unwrap-child-requires
@@ -18,7 +21,8 @@ unwrap-child-requires g c =
     let f = c.in-Some.ensures in
     let slot = used_read c.self.inside.index c.in-Some.byte f.1 in
     let x = used_read c.self.inside.children slot.0 (c.self.invariant.index.has_child c.in-Some.byte slot.0 slot.1) in
-    let here = ap (λ es. child_at c.in-Some.byte (ascending es)) (sym c.self.view_is) ∙ indexed_some c.self.invariant.index c.in-Some.byte slot.0 slot.1 ∙ x.1 in
+    let here = ap (λ es. child_at c.in-Some.byte (ascending es)) (sym c.self.view_is)
+    ∙ indexed_some c.self.invariant.index c.in-Some.byte slot.0 slot.1 ∙ x.1 in
     subst IsSome (sym (c.delete_child.ensures.taken ∙ here)) (search_some x.0)
   where
     search_some : {X : Type 0} (x : X) → IsSome (Some x)
@@ -28,6 +32,9 @@ pub returns : goal.returns
 returns g c =
     let f = c.in-Some.ensures in
     let at = c.self.inside.index in
-    first_entry c.in-Some.byte c.unwrap-child.result (ascending c.args.self.now) (subst BytesAscend (ap ascending c.self.view_is) (map_of_ascends c.self.invariant.index)) (sym c.delete_child.ensures.taken ∙ c.unwrap-child.ensures)
-    (λ b h. ap (λ es. child_at b (ascending es)) (sym c.self.view_is) ∙ indexed_none c.self.invariant.index b (free_read at b (f.2 b h)))
+    first_entry c.in-Some.byte c.unwrap-child.result (ascending c.args.self.now)
+    (subst BytesAscend (ap ascending c.self.view_is) (map_of_ascends c.self.invariant.index))
+    (sym c.delete_child.ensures.taken ∙ c.unwrap-child.ensures)
+    (λ b h. ap (λ es. child_at b (ascending es)) (sym c.self.view_is)
+    ∙ indexed_none c.self.invariant.index b (free_read at b (f.2 b h)))
     ∙ ap (λ es. (c.in-Some.byte, c.unwrap-child.result) ∷ es) (sym c.delete_child.ensures.rest)

@@ -12,4 +12,6 @@ returns-clause-ascends g c = subst BytesAscend (ap ascending c.self.view_is) (ma
 
 pub returns-clause-bytes : goal.returns-clause-bytes
 returns-clause-bytes g c b h =
-    ap (λ es. child_at b (ascending es)) (sym c.self.view_is) ∙ indexed_none c.self.invariant.index b (get_or_past c.self.inside.index b None (omega (arith, h, c.self.invariant.index.whole)))
+    ap (λ es. child_at b (ascending es)) (sym c.self.view_is)
+    ∙ indexed_none c.self.invariant.index b (get_or_past c.self.inside.index b None
+    (omega (arith, h, c.self.invariant.index.whole)))

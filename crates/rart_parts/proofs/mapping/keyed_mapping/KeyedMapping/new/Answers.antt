@@ -8,4 +8,5 @@ pub invariant_of-result : goal.invariant_of-result
 invariant_of-result g c = rw c.in_ok-children.ensures.ok (keyed_start g.row.N.Denot g.row.W c.requires.narrow)
 
 pub returns-clause-ok : goal.returns-clause-ok
-returns-clause-ok g c = ap (λ os. ascending (with_keys (replicate g.row.W 255) os)) c.in_ok-children.ensures.ok ∙ keyed_empty g.row.N.Denot (replicate g.row.W 255) g.row.W
+returns-clause-ok g c = ap (λ os. ascending (with_keys (replicate g.row.W 255) os)) c.in_ok-children.ensures.ok
+    ∙ keyed_empty g.row.N.Denot (replicate g.row.W 255) g.row.W

@@ -14,7 +14,10 @@ pub unwrap-child-requires : goal.unwrap-child-requires
 unwrap-child-requires g c =
     let f = c.in-Some.ensures in
     let x = used_read c.self.inside.children c.in-Some.slot f.1 in
-    subst IsSome (sym (c.delete_child.ensures.taken ∙ ap (λ es. child_at (get_or c.self.inside.keys c.in-Some.slot 0) (ascending es)) (sym c.self.view_is) ∙ keyed_at c.self.invariant.slots (get_or c.self.inside.keys c.in-Some.slot 0) c.in-Some.slot x.0 refl x.1 f.1)) (is_some x.0)
+    subst IsSome (sym (c.delete_child.ensures.taken
+    ∙ ap (λ es. child_at (get_or c.self.inside.keys c.in-Some.slot 0) (ascending es)) (sym c.self.view_is)
+    ∙ keyed_at c.self.invariant.slots (get_or c.self.inside.keys c.in-Some.slot 0) c.in-Some.slot x.0 refl x.1 f.1))
+    (is_some x.0)
   where
     is_some : {X : Type 0} (x : X) → IsSome (Some x)
     is_some x = refl

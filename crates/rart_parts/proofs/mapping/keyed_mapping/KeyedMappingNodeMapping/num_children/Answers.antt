@@ -10,4 +10,5 @@ pub returns-clause-ascends : goal.returns-clause-ascends
 returns-clause-ascends g c = subst BytesAscend (ap ascending c.self.view_is) (slots_ascend c.self.invariant.slots)
 
 pub returns-clause-bytes : goal.returns-clause-bytes
-returns-clause-bytes g c b h = ap (λ es. child_at b (ascending es)) (sym c.self.view_is) ∙ keyed_absent c.self.invariant.slots b (λ j e. omega (arith, h, e, c.keys_are_bytes.ensures j))
+returns-clause-bytes g c b h = ap (λ es. child_at b (ascending es)) (sym c.self.view_is)
+    ∙ keyed_absent c.self.invariant.slots b (λ j e. omega (arith, h, e, c.keys_are_bytes.ensures j))

@@ -11,15 +11,36 @@ unwrap-child-requires g c = subst IsSome (sym c.delete_child.ensures.taken) c.in
 pub add_child-requires : goal.add_child-requires
 add_child-requires g c =
     let source = ascending c.loop-key.source in
-    let is = next_first (ascending c.args.source.now) c.loop-key.self source c.in-Some.key c.loop-key.invariant.0 c.loop-key.invariant.1 c.in-Some.ensures.least c.unwrap-child.result (sym c.delete_child.ensures.taken ∙ c.unwrap-child.ensures) in
-    (omega arith, (moved_absent (ascending c.args.source.now) c.loop-key.self (without_byte c.in-Some.key source) (c.in-Some.key, c.unwrap-child.result) c.loop-key.invariant.0 is, moved_room (ascending c.args.source.now) c.loop-key.self (without_byte c.in-Some.key source) (c.in-Some.key, c.unwrap-child.result) c.loop-key.invariant.0 is g.row.W c.requires.room))
+    let is = next_first (ascending c.args.source.now) c.loop-key.self source c.in-Some.key c.loop-key.invariant.0
+    c.loop-key.invariant.1 c.in-Some.ensures.least c.unwrap-child.result (sym c.delete_child.ensures.taken
+    ∙ c.unwrap-child.ensures) in (
+      omega arith,
+      (
+        moved_absent (ascending c.args.source.now) c.loop-key.self (without_byte c.in-Some.key source)
+            (c.in-Some.key, c.unwrap-child.result) c.loop-key.invariant.0 is,
+        moved_room (ascending c.args.source.now)
+            c.loop-key.self (without_byte c.in-Some.key source) (c.in-Some.key, c.unwrap-child.result)
+            c.loop-key.invariant.0 is g.row.W c.requires.room,
+      ),
+    )
 
 pub loop-key-preserved : goal.loop-key-preserved
 loop-key-preserved g c =
     let source = ascending c.loop-key.source in
-    let is = next_first (ascending c.args.source.now) c.loop-key.self source c.in-Some.key c.loop-key.invariant.0 c.loop-key.invariant.1 c.in-Some.ensures.least c.unwrap-child.result (sym c.delete_child.ensures.taken ∙ c.unwrap-child.ensures) in
-    (c.loop-key.invariant.0, (λ i. c.add_child.ensures i ++ c.delete_child.ensures.rest i) ∙ moved_next (ascending c.args.source.now) c.loop-key.self (without_byte c.in-Some.key source) (c.in-Some.key, c.unwrap-child.result) c.loop-key.invariant.0 is)
+    let is = next_first (ascending c.args.source.now) c.loop-key.self source c.in-Some.key c.loop-key.invariant.0
+    c.loop-key.invariant.1 c.in-Some.ensures.least c.unwrap-child.result (sym c.delete_child.ensures.taken
+    ∙ c.unwrap-child.ensures) in (
+      c.loop-key.invariant.0,
+      (λ i. c.add_child.ensures i ++ c.delete_child.ensures.rest i)
+          ∙ moved_next (ascending c.args.source.now) c.loop-key.self (without_byte c.in-Some.key source)
+          (c.in-Some.key, c.unwrap-child.result) c.loop-key.invariant.0 is,
+    )
 
 pub loop-key-smaller : goal.loop-key-smaller
 loop-key-smaller g c =
-    omega (arith, ap length c.delete_child.ensures.rest, length-without_byte c.in-Some.key c.unwrap-child.result (ascending c.loop-key.source) (sym c.delete_child.ensures.taken ∙ c.unwrap-child.ensures))
+    omega (
+      arith,
+      ap length c.delete_child.ensures.rest,
+      length-without_byte c.in-Some.key c.unwrap-child.result
+          (ascending c.loop-key.source) (sym c.delete_child.ensures.taken ∙ c.unwrap-child.ensures),
+    )

@@ -6,5 +6,8 @@ use Rattle.rart_parts.proofs.mapping.sorted_keyed_mapping.SortedKeyedMappingInto
 pub returns-in_default-clause-steps : goal.returns-in_default-clause-steps
 returns-in_default-clause-steps g c =
     let old : length (into_iter_items c.self.inside.children) ≡ 0 = search rules in
-    let new : length (into_iter_items c.next.new.self) ≡ 0 = search rules in
-    (sym c.self.view_is ∙ no_entries _ (into_iter_items c.self.inside.children) old, no_entries _ (into_iter_items c.next.new.self) new)
+    let new : length (into_iter_items c.next.new.self) ≡ 0 = search rules in (
+      sym c.self.view_is ∙ no_entries _ (into_iter_items c.self.inside.children) old,
+      no_entries _
+          (into_iter_items c.next.new.self) new,
+    )

@@ -22,5 +22,6 @@ returns-clause-exact g c =
     let items = into_iter_items c.self.inside.children in
     let count : into_iter_len c.self.inside.children ≡ length items = search rules in
     let all = rest_counted c.self.inside.keys c.self.inside.at items (omega (arith, c.self.invariant)) in
-    let same : c.len-rest.result ≡ length c.args.self.now = c.len-rest.ensures ∙ count ∙ sym all ∙ ap length c.self.view_is in
+    let same : c.len-rest.result ≡ length c.args.self.now = c.len-rest.ensures ∙ count ∙ sym all
+    ∙ ap length c.self.view_is in
     (λ i. (same i, Some (same i)))

@@ -8,21 +8,51 @@ use Rattle.rart_parts.proofs.mapping.sorted_keyed_mapping.SortedKeyedMappingNode
 
 pub first_above-at-requires : goal.first_above-at-requires
 first_above-at-requires g c =
-    let count = c.len-count.ensures ∙ c.self.inside.children.ok.0 in
-    (omega arith, (omega (arith, count, c.self.invariant.few), (ordered c.self.invariant _ count, λ k l. c.self.invariant.padded k (omega (arith, l, count)))))
+    let count = c.len-count.ensures ∙ c.self.inside.children.ok.0 in (
+      omega arith,
+      (
+        omega (arith, count, c.self.invariant.few),
+        (ordered c.self.invariant _ count, λ k l. c.self.invariant.padded k (omega (arith, l, count))),
+      ),
+    )
 
 pub copy_within-requires-clause-dest_in_bounds : goal.copy_within-requires-clause-dest_in_bounds
 copy_within-requires-clause-dest_in_bounds g c =
     let f = c.first_above-at.ensures in
-    omega (arith, f.0, c.len-count.ensures, c.self.inside.children.ok.0, c.self.told, c.requires.room, counted c.self.invariant _ c.self.view_is)
+    omega (
+      arith,
+      f.0,
+      c.len-count.ensures,
+      c.self.inside.children.ok.0,
+      c.self.told,
+      c.requires.room,
+      counted
+          c.self.invariant _ c.self.view_is,
+    )
 
 pub bounds-self-inside-at : goal.bounds-self-inside-at
 bounds-self-inside-at g c =
     let f = c.first_above-at.ensures in
-    omega (arith, f.0, c.len-count.ensures, c.self.inside.children.ok.0, c.requires.room, counted c.self.invariant _ c.self.view_is)
+    omega (
+      arith,
+      f.0,
+      c.len-count.ensures,
+      c.self.inside.children.ok.0,
+      c.requires.room,
+      counted c.self.invariant _
+          c.self.view_is,
+    )
 
 pub unwrap-requires : goal.unwrap-requires
-unwrap-requires g c = c.insert.ensures.succeeds (omega (arith, c.self.inside.children.ok.0, c.self.invariant.room, c.requires.room, counted c.self.invariant _ c.self.view_is))
+unwrap-requires g c = c.insert.ensures.succeeds
+    (omega (
+      arith,
+      c.self.inside.children.ok.0,
+      c.self.invariant.room,
+      c.requires.room,
+      counted c.self.invariant _
+          c.self.view_is,
+    ))
 
 pub invariant_of-self : goal.invariant_of-self
 invariant_of-self g c =
@@ -31,12 +61,17 @@ invariant_of-self g c =
     let items = rw c.unwrap.ensures at c.insert.ensures.items in
     let count = c.len-count.ensures ∙ c.self.inside.children.ok.0 in
     let few = counted c.self.invariant _ c.self.view_is in
-    let e = put_in c.self.invariant c.copy_within.new.self _ c.first_above-at.result c.args.key c.args.node count (omega (arith, few, c.requires.room)) c.copy_within.ensures.len place
+    let e = put_in c.self.invariant c.copy_within.new.self _ c.first_above-at.result c.args.key c.args.node count
+    (omega (arith, few, c.requires.room)) c.copy_within.ensures.len place
     (ap (child_at c.args.key) c.self.view_is ∙ c.requires.absent) by.0 by.1 in
-    added c.self.invariant c.args.key c.args.node _ c.insert.new.self.items _ (length-set c.copy_within.new.self c.first_above-at.result c.args.key ∙ c.copy_within.ensures.len)
-    (ap length items ∙ length-insert c.self.inside.children.items c.first_above-at.result c.args.node (omega (arith, place.0, count)))
-    (omega (arith, few, c.requires.room)) c.insert.ensures.capacity (ap (zip (set c.copy_within.new.self c.first_above-at.result c.args.key)) items ∙ e)
-    (padded_more c.self.invariant c.copy_within.new.self c.len-count.result c.first_above-at.result c.args.key count place.0 by.2)
+    added c.self.invariant c.args.key c.args.node _ c.insert.new.self.items _
+    (length-set c.copy_within.new.self c.first_above-at.result c.args.key ∙ c.copy_within.ensures.len)
+    (ap length items ∙ length-insert c.self.inside.children.items c.first_above-at.result c.args.node
+    (omega (arith, place.0, count)))
+    (omega (arith, few, c.requires.room)) c.insert.ensures.capacity
+    (ap (zip (set c.copy_within.new.self c.first_above-at.result c.args.key)) items ∙ e)
+    (padded_more c.self.invariant c.copy_within.new.self c.len-count.result c.first_above-at.result c.args.key count
+    place.0 by.2)
 
 pub returns : goal.returns
 returns g c =
@@ -45,6 +80,8 @@ returns g c =
     let items = rw c.unwrap.ensures at c.insert.ensures.items in
     let count = c.len-count.ensures ∙ c.self.inside.children.ok.0 in
     let few = counted c.self.invariant _ c.self.view_is in
-    let e = put_in c.self.invariant c.copy_within.new.self _ c.first_above-at.result c.args.key c.args.node count (omega (arith, few, c.requires.room)) c.copy_within.ensures.len place
+    let e = put_in c.self.invariant c.copy_within.new.self _ c.first_above-at.result c.args.key c.args.node count
+    (omega (arith, few, c.requires.room)) c.copy_within.ensures.len place
     (ap (child_at c.args.key) c.self.view_is ∙ c.requires.absent) by.0 by.1 in
-    ap (zip (set c.copy_within.new.self c.first_above-at.result c.args.key)) items ∙ e ∙ ap (with_entry c.args.key c.args.node) c.self.view_is
+    ap (zip (set c.copy_within.new.self c.first_above-at.result c.args.key)) items ∙ e
+    ∙ ap (with_entry c.args.key c.args.node) c.self.view_is

@@ -14,4 +14,6 @@ pub returns-clause-ascends : goal.returns-clause-ascends
 returns-clause-ascends g c = subst BytesAscend c.self.view_is c.self.invariant.ascends
 
 pub returns-clause-bytes : goal.returns-clause-bytes
-returns-clause-bytes g c b h = rw (← c.self.view_is) (child_none b c.self.inside.keys c.self.inside.children.items (λ j l e. omega (arith, h, e, c.keys_are_bytes.ensures j)))
+returns-clause-bytes g c b h = rw (← c.self.view_is)
+    (child_none b c.self.inside.keys c.self.inside.children.items
+    (λ j l e. omega (arith, h, e, c.keys_are_bytes.ensures j)))

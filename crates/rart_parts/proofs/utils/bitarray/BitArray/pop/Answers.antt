@@ -7,4 +7,5 @@ pub returns : goal.returns
 returns g c =
     let at = c.in_ok-position.ensures in
     let x = used_read c.args.self.now c.in_ok-position.position at.1 in
-    subst (λ r. PopsLast g.row.RANGE_WIDTH c.args.self.now r c.erase.new.self) (sym (c.erase.ensures.old ∙ x.1)) (c.in_ok-position.position, (at, x.1, c.erase.ensures.new))
+    subst (λ r. PopsLast g.row.RANGE_WIDTH c.args.self.now r c.erase.new.self) (sym (c.erase.ensures.old ∙ x.1))
+    (c.in_ok-position.position, (at, x.1, c.erase.ensures.new))

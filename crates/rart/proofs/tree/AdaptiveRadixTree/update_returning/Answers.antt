@@ -1,0 +1,58 @@
+use Rattle.std.proofs.Common.{◌≡◌, ◌∙◌, ap, sym, refl, arith, is_some, nat_eq}
+use Rattle.std.specs.Fn.{FnOnceReturnsAtMut}
+use Rattle.rart_keys.specs.SortedMap.{lookup}
+use Rattle.rart_nodes.specs.tries.Tree.{tree_pairs}
+use Rattle.rart_nodes.specs.updates.Slots.{slot_of}
+use Rattle.rart.specs.MapAndShape.{MapAndShape}
+use Rattle.rart.specs.declared.tree.TheConstants.{MAX_PAIRS}
+use Rattle.rart.proofs.UpdateLemmas.{ends-in}
+use Rattle.rart.proofs.tree.AdaptiveRadixTree.update_returning.Goals as goal
+use Rattle.rart.proofs.tree.AdaptiveRadixTree.update_returning.Goals.{in-Ok-New, in-Ok-Removed, in-Ok+in-Absent-1}
+use Rattle.rart.proofs.tree.AdaptiveRadixTree.update_returning.Goals.{in-Err-1}
+
+pub update-outcome-requires-clause-stays : goal.update-outcome-requires-clause-stays
+update-outcome-requires-clause-stays g c = λ r x w h.
+    let at : lookup (g.K.KeyTrait.bytes c.args.key.now) c.args.self.now.pairs
+    ≡ lookup c.as_ref-bytes.result.now (tree_pairs c.self.inside.root)
+    = rw (← c.self.view_is, c.as_ref-bytes.ensures) refl in
+    let shown : FnOnceReturnsAtMut g.F.FnOnce c.args.f
+    (slot_of (lookup (g.K.KeyTrait.bytes c.args.key.now) c.args.self.now.pairs)) (r, x) (slot_of w)
+    = record {
+      shown = h.shown;
+      shows = h.shows ∙ ap slot_of (sym at);
+      left = h.left;
+      met = h.met;
+      leaves
+          = h.leaves;
+    } in
+    c.requires.stays r x w shown ∙ ap is_some at
+
+pub returns-clause-update : goal.returns-clause-update
+returns-clause-update g c =
+    let at : lookup (g.K.KeyTrait.bytes c.args.key.now) c.args.self.now.pairs
+    ≡ lookup c.as_ref-bytes.result.now (tree_pairs c.self.inside.root)
+    = rw (← c.self.view_is, c.as_ref-bytes.ensures) refl in
+    let e = c.update-outcome.ensures.update in
+    let shown : FnOnceReturnsAtMut g.F.FnOnce c.args.f
+    (slot_of (lookup (g.K.KeyTrait.bytes c.args.key.now) c.args.self.now.pairs)) (e.0, c.update-outcome.result.1)
+    (slot_of e.1) = record {
+      shown = e.2.shown;
+      shows = e.2.shows ∙ ap slot_of (sym at);
+      left = e.2.left;
+      met
+          = e.2.met;
+      leaves = e.2.leaves;
+    } in
+    let stays : is_some e.1 ≡ is_some (lookup c.as_ref-bytes.result.now (tree_pairs c.self.inside.root))
+    = c.requires.stays e.0 c.update-outcome.result.1 e.1 shown ∙ ap is_some at in
+    let pairs : c.match-outcome.self.pairs ≡ tree_pairs c.update-outcome.new.root = elim c.match-outcome.branch [
+      | in-Ok-New w ↦ cc (ap (λ (m : MapAndShape g.row.V.Denot). m.pairs) w.self-is)
+      | in-Ok-Removed w ↦ cc (ap (λ (m : MapAndShape g.row.V.Denot). m.pairs) w.self-is)
+      | in-Ok+in-Absent-1 w ↦ cc (ap (λ (m : MapAndShape g.row.V.Denot). m.pairs) w.self-is)
+      | in-Err-1 w ↦ cc (ap (λ (m : MapAndShape g.row.V.Denot). m.pairs) w.self-is)
+    ] in
+    let ends = ends-in (nat_eq c.self.inside.len MAX_PAIRS) c.as_ref-bytes.result.now e.0 e.1
+    (tree_pairs c.self.inside.root) c.update-outcome.result.0 (tree_pairs c.update-outcome.new.root)
+    (ap (λ n. nat_eq n MAX_PAIRS) c.self.invariant.1) (omega (arith, c.self.invariant.1, c.self.invariant.2)) stays
+    e.3 in
+    (e.0, e.1, shown, rw (pairs, ← c.self.view_is, ← c.as_ref-bytes.ensures) ends)

@@ -1,0 +1,20 @@
+use Rattle.std.proofs.Common.{◌∙◌, ap}
+use Rattle.std.specs.Net.Addr.{ipv4_octets}
+use Rattle.rart_cidr.specs.Bits.{network}
+use Rattle.rart_cidr.proofs.NetworkLemmas.{cleared-bytes, cleared-clear, cleared-first, cleared-length}
+use Rattle.rart_cidr.proofs.cidr.v4.Cidr4.masked.Goals as goal
+
+pub invariant_of-result : goal.invariant_of-result
+invariant_of-result c =
+    let e = c.cleared_octets-octets.ensures in
+    rw (e.value) (record {
+      within = c.requires;
+      full_width = cleared-length (ipv4_octets c.args.addr) c.args.len ∙ e.width;
+      are_bytes = cleared-bytes (ipv4_octets c.args.addr) c.args.len e.bytes;
+      clear = cleared-clear (ipv4_octets c.args.addr) c.args.len e.bytes;
+    })
+
+pub returns : goal.returns
+returns c =
+    let e = c.cleared_octets-octets.ensures in
+    ap (λ z. network z c.args.len) e.value ∙ cleared-first (ipv4_octets c.args.addr) c.args.len e.bytes

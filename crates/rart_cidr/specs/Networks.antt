@@ -1,0 +1,21 @@
+-- Networks as lists of bits, and when an address and a length make one.
+use Rattle.std.specs.Prelude.{◌≡◌, ◌<◌, ◌≤◌, ℕ, List, length, take, Result, Ok, Err}
+use Rattle.rart_cidr.specs.declared.cidr.CidrError.{CidrError}
+use Rattle.rart_cidr.specs.declared.cidr.CidrError.TheVariants.{Length, HostBits}
+use Rattle.rart_cidr.specs.declared.cidr.v4.Cidr4.{Cidr4}
+use Rattle.rart_cidr.specs.declared.cidr.v6.Cidr6.{Cidr6}
+use Rattle.rart_cidr.specs.Bits.{AreClearAfter, network}
+
+-- the bits of an IPv4 network
+abbrev pub bits4 : Cidr4 → List ℕ
+bits4 net = network net.octets net.len
+
+-- the bits of an IPv6 network
+abbrev pub bits6 : Cidr6 → List ℕ
+bits6 net = network net.octets net.len
+
+-- the network of the first n of an address's bits, if there are so many and the others are zeros
+abbrev pub IsNew : {N : Type 0} → (N → List ℕ) → List ℕ → ℕ → Result N CidrError → Type 0
+IsNew view bits n (Ok net) = (n ≤ length bits) × AreClearAfter bits n × (view net ≡ take n bits)
+IsNew view bits n (Err Length) = length bits < n
+IsNew view bits n (Err HostBits) = (n ≤ length bits) × ¬ (AreClearAfter bits n)

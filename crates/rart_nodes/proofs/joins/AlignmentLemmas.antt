@@ -1,0 +1,247 @@
+-- The way of two places through two tries to the next two nodes whose prefixes end together.
+use Rattle.std.proofs.Common.{◌≡◌, ℕ, ◌+◌, ◌<◌, ◌≤◌, ◌==◌, Bool, true, false, List, [], ◌∷◌, ◌++◌, length}
+use Rattle.std.proofs.Common.{length-append, drop, Some, None, refl, arith, sym, ap, subst, ◌∙◌}
+use Rattle.rart_keys.specs.SortedMap.{longest_key}
+use Rattle.rart_keys.proofs.ByteOrder.{eq-yes, eq-no}
+use Rattle.rart_nodes.specs.joins.Lockstep.{intersect_nodes, with_rest}
+use Rattle.rart_nodes.specs.tries.PrefixLaws.{length-with_prefix, prefix-none, prefix-twice}
+use Rattle.rart_nodes.specs.joins.SharedEdges.{more_visits}
+use Rattle.rart_nodes.specs.joins.SharedChildren.{shared_right, visits_all, IsAligned}
+use Rattle.rart_nodes.specs.tries.CanonicalTest.{is_canonical}
+use Rattle.rart_nodes.specs.tries.Trie.{Trie, node, Children, child, prefix_of, value_of, children_in, children_pairs}
+use Rattle.rart_nodes.specs.tries.Trie.{pairs_of, with_prefix, own_pair, StartsWith, child_in}
+use Rattle.rart_nodes.specs.tries.TrieCode.{child_count, node_count}
+use Rattle.rart_nodes.proofs.joins.IntersectSteps.{Turn, met, met_visits, turn-common, turn-apart, turn-left}
+use Rattle.rart_nodes.proofs.joins.IntersectSteps.{turn-right, turn-both, with_rest-whole}
+use Rattle.rart_nodes.proofs.tries.CanonicalTests.{IsCanonical-test, longest_key-append, longest_key-behind}
+use Rattle.rart_nodes.proofs.tries.NodeCounts.{some-pairs}
+use Rattle.rart_nodes.proofs.walks.SeenLemmas.{child-falls, longest-of}
+use Rattle.rart_nodes.proofs.tries.Descents.{child-first}
+
+-- a test for an empty string
+nil-of : (q : List ℕ) → true ≡ (length q == 0) → q ≡ []
+nil-of [] h = refl
+nil-of (x ∷ q) h = absurd (cc (h, eq-no (length (x ∷ q)) 0 (λ e. omega arith)))
+
+some-of : (q : List ℕ) → false ≡ (length q == 0) → 0 < length q
+some-of [] h = absurd (cc (h, eq-yes 0 0 refl))
+some-of (x ∷ q) h = omega arith
+
+pub nil-when : (q : List ℕ) (b : Bool) → b ≡ (length q == 0) → b ≡ true → q ≡ []
+nil-when q b e h = nil-of q (sym h ∙ e)
+
+pub some-when : (q : List ℕ) (b : Bool) → b ≡ (length q == 0) → b ≡ false → 0 < length q
+some-when q b e h = some-of q (sym h ∙ e)
+
+-- how many nodes are left
+pub some-count : {V : Type 0} (t : Trie V) → 0 < node_count t
+some-count (node p v n cs) = omega arith
+
+pub fewer-left : {V : Type 0} (b : ℕ) (t : Trie V) (cs ds : Children V) → cs ≡ child b t ds
+    → child_count ds < child_count cs
+fewer-left b t cs ds e = rw e (omega (arith, some-count t))
+
+-- lengths of keys
+module _ {V : Type 0} where
+  -- the longest key below a node, without its prefix
+  abbrev longest_below : Trie V → ℕ
+  longest_below t = longest_key (own_pair (value_of t) ++ children_pairs (children_in t))
+
+  longest-rest : (l : List ℕ) (t : Trie V) → is_canonical t ≡ true → longest_key (pairs_of (with_rest l t))
+      ≡ length l + longest_below t
+  longest-rest l (node p v n cs) c = longest_key-behind l (own_pair v ++ children_pairs cs)
+      (omega (
+        arith,
+        some-pairs (node p v n cs) (IsCanonical-test (node p v n cs) c),
+        length-with_prefix p
+            (own_pair v ++ children_pairs cs),
+      ))
+
+  pub longest-child : (b : ℕ) (t z : Trie V) → child_in b t ≡ Some z
+      → longest_key (pairs_of z) ≤ longest_key (children_pairs (children_in t))
+  longest-child b (node p v n cs) z e = longest-of b z cs e
+
+  longest-children : (t : Trie V) → longest_key (children_pairs (children_in t)) ≤ longest_below t
+  longest-children (node p v n cs) = omega (arith, longest_key-append (own_pair v) (children_pairs cs))
+
+  -- a child's prefix begins with its byte
+  pub child-starts : (b : ℕ) (t z : Trie V) (q : List ℕ) → is_canonical t ≡ true → child_in b t ≡ Some z
+      → q ≡ prefix_of z → q ≡ b ∷ drop 1 q
+  child-starts b (node p v n cs) z q c e f
+      = starts-cons q (rw f (child-first b 0 z cs (IsCanonical-test (node p v n cs) c).2 e))
+    where
+      starts-cons : (q : List ℕ) → StartsWith b q → q ≡ b ∷ drop 1 q
+      starts-cons [] s = absurd s
+      starts-cons (x ∷ q) s = ap (λ y. y ∷ q) s
+
+module _ {V W : Type 0} where
+  -- p is the way from the beginnings of t and u to a and b, of whose prefixes the rests l and r are left; from j visits
+  -- there were i
+  pub record Place (t : Trie V) (u : Trie W) (p : List ℕ) (a : Trie V) (l : List ℕ) (b : Trie W) (r : List ℕ)
+      (i j : ℕ) : Type 0 where
+    pub given : intersect_nodes t u ≡ with_prefix p (intersect_nodes (with_rest l a) (with_rest r b))
+    pub visits : i + more_visits (with_rest l a) (with_rest r b) ≡ j + more_visits t u
+    pub few : node_count a + node_count b ≤ node_count t + node_count u
+    pub short : length p + (length l + longest_below a) ≤ longest_key (pairs_of t)
+
+  -- at the beginnings
+  pub place-start : (t : Trie V) (u : Trie W) (l r : List ℕ) (i : ℕ) → is_canonical t ≡ true → l ≡ prefix_of t
+      → r ≡ prefix_of u → Place t u [] t l u r i i
+  place-start t u l r i c e f =
+      let same = with_rest-whole l t e in
+      record {
+        given = rw (same, with_rest-whole r u f) (sym (prefix-none (intersect_nodes t u)));
+        visits = rw (same, with_rest-whole r u f) refl;
+        few = omega arith;
+        short = omega (arith, longest-rest l t c, ap (λ z. longest_key (pairs_of z)) same);
+      }
+
+  -- after the bytes that both rests begin with
+  pub place-common : (t : Trie V) (u : Trie W) (p w l r k q : List ℕ) (a : Trie V) (b : Trie W) (i j : ℕ) → k ≡ w ++ l
+      → q ≡ w ++ r → Place t u p a k b q i j → Place t u (p ++ w) a l b r i j
+  place-common t u p w l r k q a b i j e f h =
+      let h' : Place t u p a (w ++ l) b (w ++ r) i j = rw (← e, ← f) h in
+      let step = turn-common w l r a b in
+      record {
+        given = h'.given ∙ ap (λ es. with_prefix p es) step.given
+            ∙ prefix-twice p w (intersect_nodes (with_rest l a) (with_rest r b));
+        visits = omega (arith, h'.visits, step.visited);
+        few = h'.few;
+        short = omega (arith, h'.short, length-append p w, length-append w l);
+      }
+
+  -- nothing more is given
+  pub record IsEnd (t : Trie V) (u : Trie W) (i j : ℕ) : Type 0 where
+    pub given : intersect_nodes t u ≡ []
+    pub visits : i ≡ j + more_visits t u
+
+  ended : (t : Trie V) (u : Trie W) (p l r : List ℕ) (a : Trie V) (b : Trie W) (i j : ℕ) → Place t u p a l b r i j
+      → Turn (with_rest l a) (with_rest r b) [] 0 → IsEnd t u i j
+  ended t u p l r a b i j h s = record {
+    given = h.given ∙ ap (λ es. with_prefix p es) s.given;
+    visits
+        = omega (arith, h.visits, s.visited);
+  }
+
+  pub place-apart : (t : Trie V) (u : Trie W) (p l r k q : List ℕ) (x y : ℕ) (a : Trie V) (b : Trie W) (i j : ℕ)
+      → l ≡ x ∷ k → r ≡ y ∷ q → (x ≡ y → ⊥) → Place t u p a l b r i j → IsEnd t u i j
+  place-apart t u p l r k q x y a b i j e f d h = ended t u p l r a b i j h (rw (e, f) (turn-apart x y k q a b d))
+
+  pub place-parted : (t : Trie V) (u : Trie W) (p l r k : List ℕ) (x : ℕ) (a : Trie V) (b : Trie W) (i j : ℕ)
+      → l ≡ x ∷ k → 0 < length r
+      → ((x y : ℕ) (k q : List ℕ) → l ≡ x ∷ k → r ≡ y ∷ q → x ≡ y → ⊥) → Place t u p a l b r i j → IsEnd t u i j
+  place-parted t u p l [] k x a b i j e n d h = absurd (omega arith)
+  place-parted t u p l (y ∷ q) k x a b i j e n d h
+      = place-apart t u p l (y ∷ q) k q x y a b i j e refl (d x y k q e refl) h
+
+  pub place-left_none : (t : Trie V) (u : Trie W) (p l r q : List ℕ) (y : ℕ) (a : Trie V) (b : Trie W) (i j : ℕ)
+      → is_canonical a ≡ true → l ≡ [] → r ≡ y ∷ q → child_in y a ≡ None → Place t u p a l b r i j → IsEnd t u i j
+  place-left_none t u p l r q y a b i j c e f n h =
+      let step = turn-left y q a b c in
+      ended t u p l r a b i j h (rw (e, f) (record {
+        given = step.given
+            ∙ ap (λ o. met o (Some (with_rest (y ∷ q) b))) n;
+        visited = step.visited
+            ∙ ap (λ o. met_visits o (Some (with_rest (y ∷ q) b))) n;
+      }))
+
+  pub place-right_none : (t : Trie V) (u : Trie W) (p l r k : List ℕ) (x : ℕ) (a : Trie V) (b : Trie W) (i j : ℕ)
+      → is_canonical b ≡ true → l ≡ x ∷ k → r ≡ [] → child_in x b ≡ None → Place t u p a l b r i j → IsEnd t u i j
+  place-right_none t u p l r k x a b i j c e f n h =
+      let step = turn-right x k a b c in
+      ended t u p l r a b i j h (rw (e, f) (record {
+        given = step.given
+            ∙ ap (λ o. met (Some (with_rest (x ∷ k) a)) o) n;
+        visited = step.visited
+            ∙ ap (λ o. met_visits (Some (with_rest (x ∷ k) a)) o) n;
+      }))
+
+  -- on by the byte of the longer prefix, with a child of the other node
+  pub record Step (t : Trie V) (u : Trie W) (p : List ℕ) (a : Trie V) (l : List ℕ) (b : Trie W) (r : List ℕ)
+      (i j n : ℕ) : Type 0 where
+    pub place : Place t u p a l b r i j
+    pub falls : node_count a + node_count b < n
+
+  pub place-left : (t : Trie V) (u : Trie W) (p l r q k : List ℕ) (y : ℕ) (a z : Trie V) (b : Trie W) (i j : ℕ)
+      → is_canonical a ≡ true → is_canonical z ≡ true → l ≡ [] → r ≡ y ∷ q → child_in y a ≡ Some z → prefix_of z ≡ y ∷ k
+      → Place t u p a l b r i j → Step t u (p ++ y ∷ []) z k b q (i + 1) j (node_count a + node_count b)
+  place-left t u p l r q k y a z b i j c d e f n m h =
+      let step = turn-left y q a b c in
+      let same : with_rest (y ∷ k) z ≡ z = with_rest-whole (y ∷ k) z (sym m) in
+      let next = turn-common (y ∷ []) k q z b in
+      let h' : Place t u p a [] b (y ∷ q) i j = subst (λ (x : List ℕ). Place t u p a x b (y ∷ q) i j) e
+      (subst (λ (x : List ℕ). Place t u p a l b x i j) f h) in
+      let given : intersect_nodes (with_rest [] a) (with_rest (y ∷ q) b)
+      ≡ with_prefix (y ∷ []) (intersect_nodes (with_rest k z) (with_rest q b)) =
+      step.given ∙ ap (λ o. met o (Some (with_rest (y ∷ q) b))) n
+      ∙ ap (λ x. intersect_nodes x (with_rest (y ∷ q) b)) (sym same) ∙ next.given in
+      let visited : more_visits (with_rest [] a) (with_rest (y ∷ q) b) ≡ 1 + more_visits (with_rest k z) (with_rest q b)
+      =
+      step.visited ∙ ap (λ o. met_visits o (Some (with_rest (y ∷ q) b))) n
+      ∙ ap (λ x. 1 + more_visits x (with_rest (y ∷ q) b)) (sym same) ∙ ap (λ x. 1 + x) next.visited in
+      record {
+        place = record {
+          given = h'.given ∙ ap (λ es. with_prefix p es) given
+              ∙ prefix-twice p (y ∷ []) (intersect_nodes (with_rest k z) (with_rest q b));
+          visits = omega (arith, h'.visits, visited);
+          few = omega (arith, h'.few, child-falls y a (Some z) n);
+          short = omega (
+            arith,
+            h'.short,
+            length-append p (y ∷ []),
+            longest-child y a z n,
+            longest-children a,
+            longest-rest (y ∷ k) z d,
+            ap (λ x. longest_key (pairs_of x)) same,
+          );
+        };
+        falls = omega (arith, child-falls y a (Some z) n);
+      }
+
+  pub place-right : (t : Trie V) (u : Trie W) (p l r k q : List ℕ) (x : ℕ) (a : Trie V) (b z : Trie W) (i j : ℕ)
+      → is_canonical b ≡ true → l ≡ x ∷ k → r ≡ [] → child_in x b ≡ Some z → prefix_of z ≡ x ∷ q
+      → Place t u p a l b r i j → Step t u (p ++ x ∷ []) a k z q (i + 1) j (node_count a + node_count b)
+  place-right t u p l r k q x a b z i j c e f n m h =
+      let step = turn-right x k a b c in
+      let same : with_rest (x ∷ q) z ≡ z = with_rest-whole (x ∷ q) z (sym m) in
+      let next = turn-common (x ∷ []) k q a z in
+      let h' : Place t u p a (x ∷ k) b [] i j = subst (λ (y : List ℕ). Place t u p a y b [] i j) e
+      (subst (λ (y : List ℕ). Place t u p a l b y i j) f h) in
+      let given : intersect_nodes (with_rest (x ∷ k) a) (with_rest [] b)
+      ≡ with_prefix (x ∷ []) (intersect_nodes (with_rest k a) (with_rest q z)) =
+      step.given ∙ ap (λ o. met (Some (with_rest (x ∷ k) a)) o) n
+      ∙ ap (λ y. intersect_nodes (with_rest (x ∷ k) a) y) (sym same) ∙ next.given in
+      let visited : more_visits (with_rest (x ∷ k) a) (with_rest [] b) ≡ 1 + more_visits (with_rest k a) (with_rest q z)
+      =
+      step.visited ∙ ap (λ o. met_visits (Some (with_rest (x ∷ k) a)) o) n
+      ∙ ap (λ y. 1 + more_visits (with_rest (x ∷ k) a) y) (sym same) ∙ ap (λ y. 1 + y) next.visited in
+      record {
+        place = record {
+          given = h'.given ∙ ap (λ es. with_prefix p es) given
+              ∙ prefix-twice p (x ∷ []) (intersect_nodes (with_rest k a) (with_rest q z));
+          visits = omega (arith, h'.visits, visited);
+          few = omega (arith, h'.few, child-falls x b (Some z) n);
+          short = omega (arith, h'.short, length-append p (x ∷ []));
+        };
+        falls = omega (arith, child-falls x b (Some z) n);
+      }
+
+  -- both prefixes end
+  pub record Aligned (t : Trie V) (u : Trie W) (p : List ℕ) (a : Trie V) (b : Trie W) (i j : ℕ) : Type 0 where
+    pub aligned : IsAligned t u p a b
+    pub visits : i + visits_all (shared_right a (children_in b)) ≡ j + more_visits t u
+
+  pub place-aligned : (t : Trie V) (u : Trie W) (p l r : List ℕ) (a : Trie V) (b : Trie W) (i j : ℕ)
+      → is_canonical a ≡ true → l ≡ [] → r ≡ [] → Place t u p a l b r i j → Aligned t u p a b i j
+  place-aligned t u p l r a b i j c e f h =
+      let step = turn-both a b c in
+      let h' : Place t u p a [] b [] i j = subst (λ (z : List ℕ). Place t u p a z b [] i j) e
+      (subst (λ (z : List ℕ). Place t u p a l b z i j) f h) in
+      record {
+        aligned = record {
+          given = h'.given ∙ ap (λ es. with_prefix p es) step.given;
+          few = h'.few;
+          short = omega (arith, h'.short, longest-children a);
+        };
+        visits = omega (arith, h'.visits, step.visited);
+      }

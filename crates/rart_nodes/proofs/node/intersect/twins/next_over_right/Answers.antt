@@ -1,5 +1,0 @@
-use Rattle.rart_nodes.proofs.joins.ForkLemmas.{fewer-left}
-use Rattle.rart_nodes.proofs.node.intersect.twins.next_over_right.Goals as goal
-
-pub loop-byte-smaller : goal.loop-byte-smaller
-loop-byte-smaller g c = fewer-left _ _ _ _ c.in-Some.ensures

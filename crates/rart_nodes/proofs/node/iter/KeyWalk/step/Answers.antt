@@ -1,0 +1,42 @@
+use Rattle.std.proofs.Common.{arith, length, ap, sym, ◌∙◌, ◌∷◌, List, ℕ}
+use Rattle.std.specs.Option.{option_copied}
+use Rattle.rart_nodes.specs.walks.Walk.{join_all, entries_ahead}
+use Rattle.rart_nodes.specs.walks.PathParts.{byte_segments}
+use Rattle.rart_nodes.proofs.edits.InsertLemmas.{fewer-within}
+use Rattle.rart_nodes.proofs.walks.EntryLemmas.{joins-bytes, length-bytes}
+use Rattle.rart_nodes.proofs.node.iter.KeyWalk.step.Goals as goal
+
+pub invariant_of-self : goal.invariant_of-self
+invariant_of-self g c = (
+  c.advance.ensures.path,
+  c.advance.ensures.room,
+  fewer-within _ _ _
+      (omega (arith, c.advance.ensures.longest)) c.self.invariant.2,
+)
+
+pub new_from_slice-requires : goal.new_from_slice-requires
+new_from_slice-requires g c =
+    fewer-within _ _ _ (omega (
+      arith,
+      c.advance.ensures.path.short,
+      length-bytes c.advance.new.path.key.items,
+      ap length
+          c.key.ensures,
+      c.advance.ensures.longest,
+    )) c.self.invariant.2
+
+pub invariant_of-self-2 : goal.invariant_of-self-2
+invariant_of-self-2 g c = (
+  c.advance.ensures.path,
+  c.advance.ensures.room,
+  fewer-within _ _ _
+      (omega (arith, c.advance.ensures.longest)) c.self.invariant.2,
+)
+
+pub returns-clause-pairs : goal.returns-clause-pairs
+returns-clause-pairs g c =
+    let rest = join_all (entries_ahead byte_segments (byte_segments c.advance.new.path.key.items)
+    (option_copied c.advance.new.self.first) c.advance.new.self.levels.items) in
+    sym c.self.view_is ∙ ap join_all c.in_ok-value.ensures.entries
+    ∙ ap (λ (k : List ℕ). (k, c.in_ok-value.value.now) ∷ rest) (joins-bytes c.advance.new.path.key.items
+    ∙ sym c.key.ensures ∙ sym c.new_from_slice.ensures)

@@ -1,0 +1,14 @@
+use Rattle.std.proofs.Common.{ap, refl, ◌∙◌}
+use Rattle.std.specs.Option.{option_copied}
+use Rattle.rart_nodes.specs.walks.Walk.{join_all}
+use Rattle.rart_nodes.specs.walks.PathParts.{byte_segments}
+use Rattle.rart_nodes.proofs.ranges.StartLemmas.{from_bound-tree}
+use Rattle.rart_nodes.proofs.walks.EntryLemmas.{joins-bytes}
+use Rattle.rart_nodes.proofs.node.seen.Seen.key_walk_from.Goals as goal
+
+pub walk_from-requires : goal.walk_from-requires
+walk_from-requires g c κs = ((refl, tt), joins-bytes)
+
+pub returns-clause-pairs : goal.returns-clause-pairs
+returns-clause-pairs g c = ap join_all c.in_ok-walk.ensures.entries
+    ∙ from_bound-tree byte_segments c.args.included c.args.start.now (option_copied c.args.self.root) joins-bytes

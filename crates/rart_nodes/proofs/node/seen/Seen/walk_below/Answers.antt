@@ -1,0 +1,73 @@
+use Rattle.std.proofs.Common.{◌≡◌, ◌∙◌, arith, ap, sym, Some}
+use Rattle.std.specs.Option.{option_copied}
+use Rattle.rart_nodes.specs.walks.Part.{tree_part}
+use Rattle.rart_nodes.specs.walks.ProbeCount.{tree_entered}
+use Rattle.rart_nodes.proofs.edits.Outcomes.{err-any}
+use Rattle.rart_nodes.proofs.tries.CanonicalTests.{IsCanonical-test, IsCanonicalTree-test}
+use Rattle.rart_nodes.proofs.walks.PartLemmas.{few-count, part-length}
+use Rattle.rart_nodes.proofs.walks.SeenLemmas.{few-tree_entered, tree_entered-probe_count}
+use Rattle.rart_nodes.proofs.walks.WalkLemmas.{has-pairs}
+use Rattle.rart_nodes.proofs.node.seen.Seen.walk_below.Goals as goal
+
+pub returns-in_err-path-clause-memory : goal.returns-in_err-path-clause-memory
+returns-in_err-path-clause-memory g c = err-any c.from_residual.result
+    (has-pairs c.in-Some.top.node.now _ c.in-Some.top.canonical c.in-Some.ensures)
+
+pub returns-in_err-levels-clause-memory : goal.returns-in_err-levels-clause-memory
+returns-in_err-levels-clause-memory g c = err-any c.from_residual-in_err-levels.result
+    (has-pairs c.in-Some.top.node.now _ c.in-Some.top.canonical c.in-Some.ensures)
+
+pub returns-in_default-seek_prefix-clause-visits : goal.returns-in_default-seek_prefix-clause-visits
+returns-in_default-seek_prefix-clause-visits g c =
+    omega (
+      arith,
+      c.in_default-seek_prefix.ensures.visits,
+      ap (tree_entered c.args.prefix.now) c.in-Some.ensures,
+      tree_entered-probe_count c.args.prefix.now (option_copied c.args.self.root)
+          (IsCanonicalTree-test _ c.args.self.canonical),
+    )
+
+pub returns-in_default-seek_prefix-clause-bound : goal.returns-in_default-seek_prefix-clause-bound
+returns-in_default-seek_prefix-clause-bound g c =
+    omega (
+      arith,
+      c.in_default-seek_prefix.ensures.visits,
+      ap (tree_entered c.args.prefix.now) c.in-Some.ensures,
+      few-tree_entered c.args.prefix.now (option_copied c.args.self.root)
+          (IsCanonicalTree-test _ c.args.self.canonical),
+    )
+
+pub returns-clause-visits : goal.returns-clause-visits
+returns-clause-visits g c =
+    omega (
+      arith,
+      c.in-Some-seek_prefix.ensures.visits,
+      ap (tree_entered c.args.prefix.now) c.in-Some.ensures,
+      tree_entered-probe_count c.args.prefix.now (option_copied c.args.self.root)
+          (IsCanonicalTree-test _ c.args.self.canonical),
+    )
+
+pub returns-clause-bound : goal.returns-clause-bound
+returns-clause-bound g c =
+    omega (
+      arith,
+      c.in-Some-seek_prefix.ensures.visits,
+      ap (tree_entered c.args.prefix.now) c.in-Some.ensures,
+      few-tree_entered c.args.prefix.now (option_copied c.args.self.root)
+          (IsCanonicalTree-test _ c.args.self.canonical),
+    )
+
+pub returns-clause-few : goal.returns-clause-few
+returns-clause-few g c =
+    let u = c.in-Some-seek_prefix.at.node.now in
+    let found : tree_part g.T.Keeps.grown (g.T.Path.kept c.in_ok-path.path) c.args.prefix.now
+    (option_copied c.args.self.root) ≡ Some (g.T.Path.kept c.seek_prefix.new.path, u)
+    = ap (tree_part g.T.Keeps.grown (g.T.Path.kept c.in_ok-path.path) c.args.prefix.now) (sym c.in-Some.ensures)
+    ∙ c.in-Some-seek_prefix.ensures.found in
+    omega (
+      arith,
+      c.start-walk.ensures.visits,
+      few-count u (IsCanonical-test u c.in-Some-seek_prefix.at.canonical),
+      part-length g.T.Keeps.grown (g.T.Path.kept c.in_ok-path.path) (g.T.Path.kept c.seek_prefix.new.path)
+          c.args.prefix.now (option_copied c.args.self.root) u (IsCanonicalTree-test _ c.args.self.canonical) found,
+    )

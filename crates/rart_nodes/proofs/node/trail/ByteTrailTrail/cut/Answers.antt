@@ -1,7 +1,0 @@
-use Rattle.std.proofs.Common.{◌∙◌, ap, sym, [], ◌∷◌}
-use Rattle.std.proofs.lemmas.List.{take-map}
-use Rattle.rart_nodes.specs.walks.TrailParts.{byte_pieces}
-use Rattle.rart_nodes.proofs.node.trail.ByteTrailTrail.cut.Goals as goal
-
-pub returns-clause-kept : goal.returns-clause-kept
-returns-clause-kept g c = ap byte_pieces c.truncate.ensures.items ∙ sym (take-map (λ b. b ∷ []) c.args.mark c.args.self.now.key.items)

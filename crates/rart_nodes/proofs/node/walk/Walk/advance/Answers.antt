@@ -1,0 +1,111 @@
+use Rattle.std.proofs.Common.{arith, sym, refl, ◌∙◌, ◌≤◌, vec_capacity}
+use Rattle.rart_nodes.proofs.ranges.PotentialLemmas.{potential-leave, potential-on, low-leave, low-on, paid-first}
+use Rattle.rart_nodes.proofs.ranges.PotentialLemmas.{paid-given}
+use Rattle.rart_nodes.proofs.walks.WalkLemmas.{leave, space, turn-either}
+use Rattle.rart_nodes.proofs.walks.WalkVisits.{visit-one, visit-on, visit-none}
+use Rattle.rart_nodes.proofs.node.walk.Walk.advance.Goals as goal
+
+pub returns-in-Some-clause-paid : goal.returns-in-Some-clause-paid
+returns-in-Some-clause-paid g c = paid-first _ _
+
+pub go_on-requires : goal.go_on-requires
+go_on-requires g c κs =
+    let s = space _ _ _ _ c.in-Some-enter_deepest.at.node.now _ _ c.loop-self.invariant.path
+    c.in-Some-enter_deepest.ensures.shown in (
+      (refl, tt),
+      (
+        omega (arith, s.bytes, c.loop-self.invariant.room),
+        omega
+            (arith, s.place, c.enter_deepest.ensures.capacity, c.enter_deepest.new.levels.ok.0),
+      ),
+    )
+
+pub returns-in-Some-value-clause-path : goal.returns-in-Some-value-clause-path
+returns-in-Some-value-clause-path g c =
+    let cap : vec_capacity c.loop-self.self.levels ≤ vec_capacity c.go_on.new.levels
+    = omega (arith, c.enter_deepest.ensures.capacity, c.go_on.ensures.level_room) in
+    (turn-either _ _ _ _ _ _ _ c.in-Some-enter_deepest.at.node.now _ _ _ g.T.Keeps.short c.loop-self.invariant.path
+    c.in-Some-enter_deepest.ensures.shown c.go_on.ensures.kept c.go_on.ensures.levels cap).path
+
+pub returns-in-Some-value-clause-entries : goal.returns-in-Some-value-clause-entries
+returns-in-Some-value-clause-entries g c =
+    let cap : vec_capacity c.loop-self.self.levels ≤ vec_capacity c.go_on.new.levels
+    = omega (arith, c.enter_deepest.ensures.capacity, c.go_on.ensures.level_room) in
+    let t = turn-either _ _ _ _ _ _ _ c.in-Some-enter_deepest.at.node.now _ _ _ g.T.Keeps.short
+    c.loop-self.invariant.path c.in-Some-enter_deepest.ensures.shown c.go_on.ensures.kept c.go_on.ensures.levels
+    cap in
+    rw (c.loop-self.invariant.first) (sym c.loop-self.invariant.still ∙ t.still ∙ rw (← c.in-Some-value.ensures) refl)
+
+pub returns-in-Some-value-clause-visits : goal.returns-in-Some-value-clause-visits
+returns-in-Some-value-clause-visits g c =
+    let cap : vec_capacity c.loop-self.self.levels ≤ vec_capacity c.go_on.new.levels
+    = omega (arith, c.enter_deepest.ensures.capacity, c.go_on.ensures.level_room) in
+    let t = turn-either _ _ _ _ _ _ _ c.in-Some-enter_deepest.at.node.now _ _ _ g.T.Keeps.short
+    c.loop-self.invariant.path c.in-Some-enter_deepest.ensures.shown c.go_on.ensures.kept c.go_on.ensures.levels
+    cap in
+    omega (arith, t.counted, c.loop-self.invariant.visits, c.in-Some-enter_deepest.ensures.counted)
+
+pub returns-in-Some-value-clause-few : goal.returns-in-Some-value-clause-few
+returns-in-Some-value-clause-few g c = λ tells.
+    visit-one g.T.Keeps.grown _ _ _ _ _ _ _ _ c.in-Some-enter_deepest.at.node.now _ _ tells c.loop-self.invariant.path
+    (c.loop-self.invariant.few tells) c.in-Some-enter_deepest.ensures.shown c.go_on.ensures.kept
+    c.in-Some-enter_deepest.ensures.counted
+
+pub returns-in-Some-value-clause-paid : goal.returns-in-Some-value-clause-paid
+returns-in-Some-value-clause-paid g c =
+    paid-given _ _ _ _ _ c.in-Some-enter_deepest.at.node.now c.args.self.now.levels.items _ _ _
+    c.in-Some-enter_deepest.ensures.shown c.go_on.ensures.levels c.in-Some-enter_deepest.ensures.counted
+    c.loop-self.invariant.potential c.loop-self.invariant.low
+
+pub loop-self-preserved : goal.loop-self-preserved
+loop-self-preserved g c =
+    let cap : vec_capacity c.loop-self.self.levels ≤ vec_capacity c.go_on.new.levels
+    = omega (arith, c.enter_deepest.ensures.capacity, c.go_on.ensures.level_room) in
+    let t = turn-either _ _ _ _ _ _ _ c.in-Some-enter_deepest.at.node.now _ _ _ g.T.Keeps.short
+    c.loop-self.invariant.path c.in-Some-enter_deepest.ensures.shown c.go_on.ensures.kept c.go_on.ensures.levels
+    cap in
+    record {
+      first = c.loop-self.invariant.first;
+      path = t.path;
+      room = omega (arith, c.loop-self.invariant.room, c.go_on.ensures.path_room);
+      still = sym (t.still ∙ rw (← c.in_default-value.ensures) refl) ∙ c.loop-self.invariant.still;
+      visits = omega (arith, t.counted, c.loop-self.invariant.visits, c.in-Some-enter_deepest.ensures.counted);
+      longest = c.loop-self.invariant.longest;
+      few = λ tells. visit-on _ _ c.in-Some-enter_deepest.at.node.now _ _ _ c.in-Some-enter_deepest.at.canonical
+          c.in_default-value.ensures c.go_on.ensures.levels
+          (visit-one g.T.Keeps.grown _ _ _ _ _ _ _ _ c.in-Some-enter_deepest.at.node.now _ _ tells
+          c.loop-self.invariant.path (c.loop-self.invariant.few tells) c.in-Some-enter_deepest.ensures.shown
+          c.go_on.ensures.kept c.in-Some-enter_deepest.ensures.counted);
+      potential = potential-on _ _ _ _ _ _ c.in-Some-enter_deepest.at.node.now _ _ _
+          c.in-Some-enter_deepest.at.canonical c.in_default-value.ensures c.in-Some-enter_deepest.ensures.shown
+          c.go_on.ensures.levels c.in-Some-enter_deepest.ensures.counted c.loop-self.invariant.potential;
+      low = λ h w. low-on h _ _ c.in-Some-enter_deepest.at.node.now _ _ _ c.in-Some-enter_deepest.ensures.shown
+          c.go_on.ensures.levels (c.loop-self.invariant.low h w);
+    }
+
+pub loop-self-smaller : goal.loop-self-smaller
+loop-self-smaller g c =
+    let cap : vec_capacity c.loop-self.self.levels ≤ vec_capacity c.go_on.new.levels
+    = omega (arith, c.enter_deepest.ensures.capacity, c.go_on.ensures.level_room) in
+    (turn-either _ _ _ _ _ _ _ c.in-Some-enter_deepest.at.node.now _ _ _ g.T.Keeps.short c.loop-self.invariant.path
+    c.in-Some-enter_deepest.ensures.shown c.go_on.ensures.kept c.go_on.ensures.levels cap).falls
+
+pub loop-self-preserved-in-None : goal.loop-self-preserved-in-None
+loop-self-preserved-in-None g c =
+    let t = leave g.T.Keeps.grown _ _ _ (g.T.Path.kept c.loop-self.path) _ _ _ c.take_last.result
+    c.loop-self.invariant.path c.in-None.ensures.shown c.take_last.ensures.items (c.take_last.ensures.capacity
+    ∙ c.enter_deepest.ensures.capacity) in
+    record {
+      first = c.loop-self.invariant.first;
+      path = t.path;
+      room = c.loop-self.invariant.room;
+      still = sym t.still ∙ c.loop-self.invariant.still;
+      visits = omega (arith, t.counted, c.loop-self.invariant.visits, c.in-None.ensures.counted);
+      longest = c.loop-self.invariant.longest;
+      few = λ tells. visit-none _ _ _ _ _ _ c.take_last.new.self.items (c.loop-self.invariant.few tells)
+          c.in-None.ensures.shown c.in-None.ensures.counted;
+      potential = potential-leave _ _ _ _ _ _ _ c.take_last.result c.in-None.ensures.shown c.take_last.ensures.items
+          c.in-None.ensures.counted c.loop-self.invariant.potential;
+      low = λ h w. low-leave h _ _ _ c.take_last.result c.in-None.ensures.shown c.take_last.ensures.items
+          (c.loop-self.invariant.low h w);
+    }

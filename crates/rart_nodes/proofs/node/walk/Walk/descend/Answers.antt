@@ -1,0 +1,254 @@
+use Rattle.std.proofs.Common.{◌≡◌, ◌<◌, ◌++◌, ◌∙◌, Some, None, Greater, arith, length, ap, sym, refl, option_map}
+use Rattle.std.proofs.Common.{reverse}
+use Rattle.std.specs.Cmp.Lexicographic.{slice_cmp}
+use Rattle.std.specs.Ordering.{nat_cmp}
+use Rattle.std.specs.Option.{option_copied}
+use Rattle.rart_keys.specs.ByteStrings.{strip_prefix}
+use Rattle.rart_keys.proofs.RangeLemmas.{lower-apart}
+use Rattle.rart_nodes.specs.tries.Trie.{prefix_of, value_of}
+use Rattle.rart_nodes.specs.walks.ProbeCount.{tree_entered}
+use Rattle.rart_nodes.specs.walks.Walk.{entries_below, tree_count}
+use Rattle.rart_nodes.proofs.ranges.PotentialLemmas.{height-on, low-above, low-all, low-start}
+use Rattle.rart_nodes.proofs.ranges.StartLemmas.{ahead-ended, ahead-higher, ahead-lower, ahead-on, ahead-start}
+use Rattle.rart_nodes.proofs.ranges.StartLemmas.{value_if}
+use Rattle.rart_nodes.proofs.ranges.StartPaths.{all-deepened, some-deepened, way-on}
+use Rattle.rart_nodes.proofs.tries.CanonicalTests.{IsCanonical-test}
+use Rattle.rart_nodes.proofs.walks.SeenLemmas.{child-falls, step-left, step-on}
+use Rattle.rart_nodes.proofs.walks.WalkLemmas.{longest-below, no-walk, prefix-short}
+use Rattle.rart_nodes.proofs.node.walk.Walk.descend.Goals as goal
+
+pub loop-next-init : goal.loop-next-init
+loop-next-init g c = record {
+  first = c.requires.first;
+  path = no-walk _ _ _ _ c.requires.nothing c.requires.empty_walk;
+  way = (
+    omega (arith, ap length c.requires.nothing, c.requires.short),
+    omega (
+      arith,
+      ap length c.requires.empty_walk,
+      c.requires.short,
+      longest-below c.args.top.node.now
+          (IsCanonical-test c.args.top.node.now c.args.top.canonical),
+    ),
+  );
+  room = c.requires.room;
+  places = c.requires.places;
+  still = ahead-start g.T.Keeps.grown _ _ _ c.requires.nothing c.requires.empty_walk;
+  visits = refl;
+  longest = refl;
+  level_room = refl;
+  low = low-start _ _ c.requires.empty_walk;
+  height = omega (arith, ap length c.requires.empty_walk);
+}
+
+pub deepen-requires : goal.deepen-requires
+deepen-requires g c κs =
+    let t = c.enter-at.result.node.now in
+    let w = rw (c.in-Some.is, ← c.enter-at.ensures.shown) at c.loop-next.invariant.way in (
+      (refl, tt),
+      (
+        omega (arith, w.0, prefix-short t c.enter-at.result.canonical, c.loop-next.invariant.room),
+        omega
+            (arith, w.1, c.loop-next.invariant.places, c.loop-next.self.levels.ok.0),
+      ),
+    )
+
+pub returns-in-Greater-clause-path : goal.returns-in-Greater-clause-path
+returns-in-Greater-clause-path g c =
+    let w = rw (c.in-Some.is, ← c.enter-at.ensures.shown) at c.loop-next.invariant.way in
+    (all-deepened g.T.Keeps.grown _ _ _ _ _ c.enter-at.result.node.now _ _ _ g.T.Keeps.short c.enter-at.result.canonical
+    c.loop-next.invariant.path c.loop-next.invariant.places w c.deepen.ensures.kept c.branches.ensures
+    c.deepen.ensures.levels c.deepen.ensures.level_room).path
+
+pub returns-in-Greater-clause-entries : goal.returns-in-Greater-clause-entries
+returns-in-Greater-clause-entries g c =
+    let t = c.enter-at.result.node.now in
+    let w = rw (c.in-Some.is, ← c.enter-at.ensures.shown) at c.loop-next.invariant.way in
+    let d = all-deepened g.T.Keeps.grown _ _ _ _ _ t _ _ _ g.T.Keeps.short c.enter-at.result.canonical
+    c.loop-next.invariant.path c.loop-next.invariant.places w c.deepen.ensures.kept c.branches.ensures
+    c.deepen.ensures.levels c.deepen.ensures.level_room in
+    let e : None ≡ strip_prefix (prefix_of t) c.loop-next.rest.now
+    = rw c.prefix.ensures at c.in_default-strip_prefix.ensures in
+    let past : slice_cmp nat_cmp (prefix_of t) c.loop-next.rest.now ≡ Greater
+    = ap (λ z. slice_cmp nat_cmp z c.loop-next.rest.now) (sym c.prefix-in_default-strip_prefix.ensures
+    ∙ sym c.to_slice.ensures) ∙ sym c.cmp.ensures ∙ c.in-Greater.is in
+    ahead-higher g.T.Keeps.grown c.args.included (g.T.Path.kept c.loop-next.path) (g.T.Path.kept c.deepen.new.path)
+    c.loop-next.rest.now t _ _ _ _ _ c.requires.joins e past
+    c.deepen.ensures.kept c.value-self.ensures c.branches.ensures d.still
+    (rw (c.in-Some.is, ← c.enter-at.ensures.shown) at c.loop-next.invariant.still)
+
+pub returns-in-Greater-clause-low : goal.returns-in-Greater-clause-low
+returns-in-Greater-clause-low g c =
+    low-all _ _ c.enter-at.result.node.now _ _ _ c.loop-next.invariant.low
+    (rw (c.in-Some.is, ← c.enter-at.ensures.shown) at c.loop-next.invariant.height) c.branches.ensures
+    c.deepen.ensures.levels
+
+pub returns-in_default-cmp : goal.returns-in_default-cmp
+returns-in_default-cmp g c =
+    let t = c.enter-at.result.node.now in
+    let e : None ≡ strip_prefix (prefix_of t) c.loop-next.rest.now
+    = rw c.prefix.ensures at c.in_default-strip_prefix.ensures in
+    let same : slice_cmp nat_cmp (prefix_of t) c.loop-next.rest.now ≡ c.cmp.result
+    = ap (λ z. slice_cmp nat_cmp z c.loop-next.rest.now) (sym c.prefix-in_default-strip_prefix.ensures
+    ∙ sym c.to_slice.ensures) ∙ sym c.cmp.ensures in
+    let less = lower-apart (prefix_of t) c.loop-next.rest.now (sym e) (λ z. c.in_default-cmp.not-Greater (sym same ∙ z))
+    in
+    record {
+      path = c.loop-next.invariant.path;
+      room = c.loop-next.invariant.room;
+      entries = rw c.loop-next.invariant.first (ahead-lower g.T.Keeps.grown c.args.included
+          (g.T.Path.kept c.loop-next.path) c.loop-next.rest.now t
+          (entries_below g.T.Keeps.grown (g.T.Path.kept c.loop-next.path) (reverse c.loop-next.self.levels.items)) _
+          c.requires.joins e less (rw (c.in-Some.is, ← c.enter-at.ensures.shown) at c.loop-next.invariant.still));
+      visits = omega (
+        arith,
+        (step-left t c.loop-next.rest.now e).1,
+        c.enter-at.ensures.counted,
+        rw (c.in-Some.is, ← c.enter-at.ensures.shown) at c.loop-next.invariant.visits,
+      );
+      longest = c.loop-next.invariant.longest;
+      places = c.loop-next.invariant.level_room;
+      low = c.loop-next.invariant.low;
+    }
+
+pub deepen-requires-in_default-first : goal.deepen-requires-in_default-first
+deepen-requires-in_default-first g c κs =
+    let t = c.enter-at.result.node.now in
+    let w = rw (c.in-Some.is, ← c.enter-at.ensures.shown) at c.loop-next.invariant.way in (
+      (refl, tt),
+      (
+        omega (arith, w.0, prefix-short t c.enter-at.result.canonical, c.loop-next.invariant.room),
+        omega
+            (arith, w.1, c.loop-next.invariant.places, c.loop-next.self.levels.ok.0),
+      ),
+    )
+
+pub returns-then-included-clause-path : goal.returns-then-included-clause-path
+returns-then-included-clause-path g c =
+    let w = rw (c.in-Some.is, ← c.enter-at.ensures.shown) at c.loop-next.invariant.way in
+    (all-deepened g.T.Keeps.grown _ _ _ _ _ c.enter-at.result.node.now _ _ _ g.T.Keeps.short c.enter-at.result.canonical
+    c.loop-next.invariant.path c.loop-next.invariant.places w c.deepen-in_default-first.ensures.kept
+    c.branches-in_default-first.ensures c.deepen-in_default-first.ensures.levels
+    c.deepen-in_default-first.ensures.level_room).path
+
+pub returns-then-included-clause-entries : goal.returns-then-included-clause-entries
+returns-then-included-clause-entries g c =
+    let t = c.enter-at.result.node.now in
+    let k1 = g.T.Path.kept c.deepen-in_default-first.new.path in
+    let w = rw (c.in-Some.is, ← c.enter-at.ensures.shown) at c.loop-next.invariant.way in
+    let d = all-deepened g.T.Keeps.grown _ _ _ _ _ t _ _ _ g.T.Keeps.short c.enter-at.result.canonical
+    c.loop-next.invariant.path c.loop-next.invariant.places w c.deepen-in_default-first.ensures.kept
+    c.branches-in_default-first.ensures c.deepen-in_default-first.ensures.levels
+    c.deepen-in_default-first.ensures.level_room in
+    let e : Some c.in-Some-strip_prefix.after.now ≡ strip_prefix (prefix_of t) c.loop-next.rest.now
+    = rw c.prefix.ensures at c.in-Some-strip_prefix.ensures in
+    ap (λ h. value_if h k1 (option_copied c.value-self-then-included.result) ++ entries_below g.T.Keeps.grown k1
+    (reverse c.deepen-in_default-first.new.levels.items)) (sym c.if-included.true)
+    ∙ ahead-ended g.T.Keeps.grown c.args.included (g.T.Path.kept c.loop-next.path) k1 c.loop-next.rest.now
+    c.in-Some-strip_prefix.after.now t _ _ _ _ _ c.requires.joins c.enter-at.result.canonical e
+    c.in_default-first.ensures.value
+    c.deepen-in_default-first.ensures.kept (ap (value_if c.args.included k1) c.value-self-then-included.ensures)
+    c.branches-in_default-first.ensures d.still
+    (rw (c.in-Some.is, ← c.enter-at.ensures.shown) at c.loop-next.invariant.still)
+
+pub returns-then-included-clause-low : goal.returns-then-included-clause-low
+returns-then-included-clause-low g c =
+    low-all _ _ c.enter-at.result.node.now _ _ _ c.loop-next.invariant.low
+    (rw (c.in-Some.is, ← c.enter-at.ensures.shown) at c.loop-next.invariant.height)
+    c.branches-in_default-first.ensures c.deepen-in_default-first.ensures.levels
+
+pub returns-else-included-clause-path : goal.returns-else-included-clause-path
+returns-else-included-clause-path g c =
+    let w = rw (c.in-Some.is, ← c.enter-at.ensures.shown) at c.loop-next.invariant.way in
+    (all-deepened g.T.Keeps.grown _ _ _ _ _ c.enter-at.result.node.now _ _ _ g.T.Keeps.short c.enter-at.result.canonical
+    c.loop-next.invariant.path c.loop-next.invariant.places w c.deepen-in_default-first.ensures.kept
+    c.branches-in_default-first.ensures c.deepen-in_default-first.ensures.levels
+    c.deepen-in_default-first.ensures.level_room).path
+
+pub returns-else-included-clause-entries : goal.returns-else-included-clause-entries
+returns-else-included-clause-entries g c =
+    let t = c.enter-at.result.node.now in
+    let k1 = g.T.Path.kept c.deepen-in_default-first.new.path in
+    let w = rw (c.in-Some.is, ← c.enter-at.ensures.shown) at c.loop-next.invariant.way in
+    let d = all-deepened g.T.Keeps.grown _ _ _ _ _ t _ _ _ g.T.Keeps.short c.enter-at.result.canonical
+    c.loop-next.invariant.path c.loop-next.invariant.places w c.deepen-in_default-first.ensures.kept
+    c.branches-in_default-first.ensures c.deepen-in_default-first.ensures.levels
+    c.deepen-in_default-first.ensures.level_room in
+    let e : Some c.in-Some-strip_prefix.after.now ≡ strip_prefix (prefix_of t) c.loop-next.rest.now
+    = rw c.prefix.ensures at c.in-Some-strip_prefix.ensures in
+    rw c.loop-next.invariant.first (ap (λ h. value_if h k1 (value_of t)
+    ++ entries_below g.T.Keeps.grown k1 (reverse c.deepen-in_default-first.new.levels.items))
+    (sym c.if-included.false)
+    ∙ ahead-ended g.T.Keeps.grown c.args.included (g.T.Path.kept c.loop-next.path) k1 c.loop-next.rest.now
+    c.in-Some-strip_prefix.after.now t (value_of t) _ _ _ _ c.requires.joins c.enter-at.result.canonical e
+    c.in_default-first.ensures.value
+    c.deepen-in_default-first.ensures.kept refl c.branches-in_default-first.ensures d.still
+    (rw (c.in-Some.is, ← c.enter-at.ensures.shown) at c.loop-next.invariant.still))
+
+pub returns-else-included-clause-low : goal.returns-else-included-clause-low
+returns-else-included-clause-low g c =
+    low-all _ _ c.enter-at.result.node.now _ _ _ c.loop-next.invariant.low
+    (rw (c.in-Some.is, ← c.enter-at.ensures.shown) at c.loop-next.invariant.height)
+    c.branches-in_default-first.ensures c.deepen-in_default-first.ensures.levels
+
+pub deepen-requires-in-Some : goal.deepen-requires-in-Some
+deepen-requires-in-Some g c κs =
+    let t = c.enter-at.result.node.now in
+    let w = rw (c.in-Some.is, ← c.enter-at.ensures.shown) at c.loop-next.invariant.way in (
+      (refl, tt),
+      (
+        omega (arith, w.0, prefix-short t c.enter-at.result.canonical, c.loop-next.invariant.room),
+        omega
+            (arith, w.1, c.loop-next.invariant.places, c.loop-next.self.levels.ok.0),
+      ),
+    )
+
+pub loop-next-smaller : goal.loop-next-smaller
+loop-next-smaller g c =
+    let h : tree_count (option_map (λ s. s.node.now) c.child-next.result)
+    < tree_count (option_map (λ s. s.node.now) c.loop-next.next)
+    = rw (c.in-Some.is, c.child-next.ensures, c.enter-at.ensures.shown)
+    (child-falls c.in-Some-first.byte.now c.in-Some.node.node.now _ refl) in
+    h
+
+pub loop-next-preserved : goal.loop-next-preserved
+loop-next-preserved g c =
+    let t = c.enter-at.result.node.now in
+    let k = g.T.Path.kept c.loop-next.path in
+    let w = rw (c.in-Some.is, ← c.enter-at.ensures.shown) at c.loop-next.invariant.way in
+    let e : Some c.in-Some-strip_prefix.after.now ≡ strip_prefix (prefix_of t) c.loop-next.rest.now
+    = rw c.prefix.ensures at c.in-Some-strip_prefix.ensures in
+    let d = some-deepened g.T.Keeps.grown _ _ _ c.in-Some-first.byte.now _ _ t _ _ _ g.T.Keeps.short
+    c.enter-at.result.canonical c.loop-next.invariant.path c.loop-next.invariant.places w
+    c.deepen-in-Some.ensures.kept c.branches_above.ensures c.deepen-in-Some.ensures.levels
+    c.deepen-in-Some.ensures.level_room in
+    let h = step-on t c.loop-next.rest.now c.in-Some-strip_prefix.after.now c.in-Some-first.byte.now
+    c.enter-at.result.canonical e c.in-Some-first.ensures.value in
+    record {
+      first = c.loop-next.invariant.first;
+      path = d.path;
+      way = way-on g.T.Keeps.grown _ c.in-Some-first.byte.now k _ t _ _ _ _ g.T.Keeps.short c.enter-at.result.canonical
+          w c.deepen-in-Some.ensures.kept c.deepen-in-Some.ensures.levels c.child-next.ensures;
+      room = omega (arith, c.loop-next.invariant.room, c.deepen-in-Some.ensures.path_room);
+      places = omega (arith, c.loop-next.invariant.places, c.deepen-in-Some.ensures.level_room);
+      still = ahead-on g.T.Keeps.grown c.args.included k (g.T.Path.kept c.deepen-in-Some.new.path) c.loop-next.rest.now
+          c.in-Some-strip_prefix.after.now c.in-Some-first.byte.now t _ _ _ _ _ c.requires.joins
+          c.enter-at.result.canonical e c.in-Some-first.ensures.value
+          c.deepen-in-Some.ensures.kept c.child-next.ensures c.branches_above.ensures d.still
+          (rw (c.in-Some.is, ← c.enter-at.ensures.shown) at c.loop-next.invariant.still);
+      visits = omega (
+        arith,
+        h.1,
+        ap (tree_entered c.in-Some-strip_prefix.after.now) c.child-next.ensures,
+        c.enter-at.ensures.counted,
+        rw (c.in-Some.is, ← c.enter-at.ensures.shown) at c.loop-next.invariant.visits,
+      );
+      longest = c.loop-next.invariant.longest;
+      level_room = c.deepen-in-Some.ensures.level_room ∙ c.loop-next.invariant.level_room;
+      low = low-above _ _ c.in-Some-first.byte.now t _ _ _ c.loop-next.invariant.low
+          (rw (c.in-Some.is, ← c.enter-at.ensures.shown) at c.loop-next.invariant.height) c.branches_above.ensures
+          c.deepen-in-Some.ensures.levels;
+      height = height-on _ c.in-Some-first.byte.now t _ _ _ _
+          (rw (c.in-Some.is, ← c.enter-at.ensures.shown) at c.loop-next.invariant.height)
+          c.deepen-in-Some.ensures.levels c.child-next.ensures;
+    }

@@ -1,0 +1,5 @@
+use Rattle.rart_nodes.proofs.walks.WalkLemmas.{no-walk}
+use Rattle.rart_nodes.proofs.node.walk.empty_walk.Goals as goal
+
+pub returns-clause-path : goal.returns-clause-path
+returns-clause-path g c = no-walk _ _ _ _ c.empty.ensures c.new.ensures.items

@@ -1,0 +1,94 @@
+use Rattle.std.proofs.Common.{◌≡◌, ◌<◌, ◌++◌, arith, length, length-append, nat_eq, refl, sym, ◌∙◌, ap, true, false}
+use Rattle.std.proofs.Common.{Some, None, option_map}
+use Rattle.std.specs.List.{starts_with}
+use Rattle.rart_keys.specs.ByteStrings.{strip_prefix, begins}
+use Rattle.rart_nodes.specs.tries.Trie.{prefix_of}
+use Rattle.rart_nodes.specs.walks.Part.{tree_part}
+use Rattle.rart_nodes.specs.walks.ProbeCount.{tree_entered}
+use Rattle.rart_nodes.specs.walks.Walk.{tree_count}
+use Rattle.rart_nodes.proofs.walks.PartLemmas.{child-deep, part-on, part-out, part-within, starts_with-begins}
+use Rattle.rart_nodes.proofs.walks.SeenLemmas.{child-falls, step-on}
+use Rattle.rart_nodes.proofs.walks.WalkLemmas.{prefix-short}
+use Rattle.rart_nodes.proofs.node.walks.below.seek_prefix.Goals as goal
+
+pub returns-then-starts_with-clause-found : goal.returns-then-starts_with-clause-found
+returns-then-starts_with-clause-found g c =
+    let t = c.enter-at.result.node.now in
+    let e : None ≡ strip_prefix (prefix_of t) c.loop-next.rest.now
+    = rw c.prefix.ensures at c.in_default-strip_prefix.ensures in
+    let h : begins c.loop-next.rest.now (prefix_of t) ≡ true
+    = sym (starts_with-begins c.loop-next.rest.now (prefix_of t))
+    ∙ ap (λ p. starts_with nat_eq p c.loop-next.rest.now) (sym c.prefix-in_default-strip_prefix.ensures)
+    ∙ sym c.starts_with.ensures ∙ c.if-starts_with.true in
+    sym (rw (c.in-Some.is, ← c.enter-at.ensures.shown) at c.loop-next.invariant.still)
+    ∙ sym (part-within g.T.Keeps.grown (g.T.Path.kept c.loop-next.path) t c.loop-next.rest.now e h)
+
+pub returns-in_default-strip_prefix-clause-found : goal.returns-in_default-strip_prefix-clause-found
+returns-in_default-strip_prefix-clause-found g c =
+    let t = c.enter-at.result.node.now in
+    let e : None ≡ strip_prefix (prefix_of t) c.loop-next.rest.now
+    = rw c.prefix.ensures at c.in_default-strip_prefix.ensures in
+    let h : begins c.loop-next.rest.now (prefix_of t) ≡ false
+    = sym (starts_with-begins c.loop-next.rest.now (prefix_of t))
+    ∙ ap (λ p. starts_with nat_eq p c.loop-next.rest.now) (sym c.prefix-in_default-strip_prefix.ensures)
+    ∙ sym c.starts_with.ensures ∙ c.if-starts_with.false in
+    sym (rw (c.in-Some.is, ← c.enter-at.ensures.shown) at c.loop-next.invariant.still)
+    ∙ sym (part-out g.T.Keeps.grown (g.T.Path.kept c.loop-next.path) t c.loop-next.rest.now e h)
+
+pub grow-requires : goal.grow-requires
+grow-requires g c κs = (
+  (refl, tt),
+  omega (
+    arith,
+    rw (c.in-Some.is, ← c.enter-at.ensures.shown) at c.loop-next.invariant.deep,
+    c.loop-next.invariant.room,
+    c.requires.room,
+    prefix-short c.enter-at.result.node.now
+        c.enter-at.result.canonical,
+    ap length c.prefix-in-Some.ensures,
+  ),
+)
+
+pub loop-next-smaller : goal.loop-next-smaller
+loop-next-smaller g c =
+    let h : tree_count (option_map (λ s. s.node.now) c.child-next.result)
+    < tree_count (option_map (λ s. s.node.now) c.loop-next.next)
+    = rw (c.in-Some.is, c.child-next.ensures, c.enter-at.ensures.shown)
+    (child-falls c.in-Some-first.byte.now c.in-Some.node.node.now _ refl) in
+    h
+
+pub loop-next-preserved : goal.loop-next-preserved
+loop-next-preserved g c =
+    let t = c.enter-at.result.node.now in
+    let k = g.T.Path.kept c.loop-next.path in
+    let e : Some c.in-Some-strip_prefix.after.now ≡ strip_prefix (prefix_of t) c.loop-next.rest.now
+    = rw c.prefix.ensures at c.in-Some-strip_prefix.ensures in
+    let h = step-on t c.loop-next.rest.now c.in-Some-strip_prefix.after.now c.in-Some-first.byte.now
+    c.enter-at.result.canonical e c.in-Some-first.ensures.value in
+    record {
+      deep = omega (
+        arith,
+        rw (c.in-Some.is, ← c.enter-at.ensures.shown) at c.loop-next.invariant.deep,
+        child-deep t c.in-Some-first.byte.now _ c.enter-at.result.canonical (sym c.child-next.ensures),
+        ap length c.grow.ensures.kept,
+        length-append k (g.T.Keeps.grown (g.P.Partial.bytes c.prefix-in-Some.result.now)),
+        g.T.Keeps.short (g.P.Partial.bytes c.prefix-in-Some.result.now),
+        ap length c.prefix-in-Some.ensures,
+      );
+      room = omega (arith, c.loop-next.invariant.room, c.grow.ensures.room);
+      still = ap (λ z. tree_part g.T.Keeps.grown z c.in-Some-strip_prefix.after.now
+          (option_map (λ s. s.node.now) c.child-next.result)) (c.grow.ensures.kept
+          ∙ ap (λ p. k ++ g.T.Keeps.grown p) c.prefix-in-Some.ensures)
+          ∙ ap (tree_part g.T.Keeps.grown (k ++ g.T.Keeps.grown (prefix_of t)) c.in-Some-strip_prefix.after.now)
+          c.child-next.ensures
+          ∙ part-on g.T.Keeps.grown k t c.loop-next.rest.now c.in-Some-strip_prefix.after.now c.in-Some-first.byte.now
+          c.enter-at.result.canonical e c.in-Some-first.ensures.value
+          ∙ rw (c.in-Some.is, ← c.enter-at.ensures.shown) at c.loop-next.invariant.still;
+      visits = omega (
+        arith,
+        h.1,
+        ap (tree_entered c.in-Some-strip_prefix.after.now) c.child-next.ensures,
+        c.enter-at.ensures.counted,
+        rw (c.in-Some.is, ← c.enter-at.ensures.shown) at c.loop-next.invariant.visits,
+      );
+    }

@@ -1,0 +1,23 @@
+use Rattle.std.proofs.Common.{◌≤◌, ◌+◌, ◌^◌, [], length, reverse, vec_capacity}
+use Rattle.std.specs.Option.{option_copied}
+use Rattle.rart_nodes.specs.walks.Walk.{IsWalk, nodes_below, entry_values, entries_ahead}
+use Rattle.rart_nodes.specs.walks.PathParts.{no_segment}
+use Rattle.rart_nodes.specs.walks.Tried.{CanTry, EndsAs}
+use Rattle.rart_nodes.proofs.node.walks.try_for_each.try_for_each.Given as goal
+
+abbrev pub invariant-loop-value : goal.invariant-loop-value
+invariant-loop-value g l = record {
+  callable : CanTry g.F.FnMut l.f (entry_values
+      (entries_ahead no_segment [] (option_copied l.walk.first) l.walk.levels.items));
+  path : IsWalk l.walk.longest (vec_capacity l.walk.levels) [] (reverse l.walk.levels.items);
+  room : l.walk.longest ≤ 2 ^ 64;
+  ends : (r : _) (last : _) → EndsAs g.F.FnMut l.f
+      (entry_values (entries_ahead no_segment [] (option_copied l.walk.first) l.walk.levels.items)) r last
+      → EndsAs g.F.FnMut l.fn.f (entry_values (entries_ahead no_segment [] (option_copied l.fn.walk.first)
+      l.fn.walk.levels.items)) r last;
+  visits : g.C.Count.number l.counter + nodes_below (reverse l.walk.levels.items) ≤ g.C.Count.number l.fn.counter
+      + nodes_below (reverse l.fn.walk.levels.items);
+}
+
+abbrev pub decreases-loop-value : goal.decreases-loop-value
+decreases-loop-value g l = length (entries_ahead no_segment [] (option_copied l.walk.first) l.walk.levels.items)

@@ -1,0 +1,405 @@
+-- What a walk over a tree keeps as it goes on to a node, or leaves a level.
+use Rattle.std.proofs.Common.{◌≡◌, ◌≢◌, ℕ, zero, suc, ◌+◌, ◌*◌, ◌<◌, ◌≤◌, ⊎_elim, true, List, [], ◌∷◌, ◌++◌, length}
+use Rattle.std.proofs.Common.{take, reverse, Option, Some, None, refl, sym, ap, ◌∙◌, arith, length-append}
+use Rattle.std.proofs.Common.{slice_index_or, slice_set}
+use Rattle.std.proofs.lemmas.Bool.Decides.{nat_tests}
+use Rattle.std.proofs.lemmas.List.{append-nil, append_assoc, length-reverse, length-take, map-append, reverse-append}
+use Rattle.std.proofs.lemmas.List.{take-append-le, take_all}
+use Rattle.rart_nodes.specs.tries.CanonicalTest.{is_canonical}
+use Rattle.rart_keys.specs.SortedMap.{longest_key}
+use Rattle.rart_nodes.specs.shapes.Shape.{capacity_of}
+use Rattle.rart_nodes.specs.walks.Walk.{SegmentList, Grown, IsShort, Level, HasRoom, segments_after, value_at}
+use Rattle.rart_nodes.specs.walks.Walk.{entries_of, children_entries, entries_below, nodes_below, AreStations, IsWalk}
+use Rattle.rart_nodes.specs.walks.WalkSteps.{DeepestLeft, DeepestStep, GoesOn}
+use Rattle.rart_nodes.specs.tries.PrefixLaws.{length-with_prefix}
+use Rattle.rart_nodes.specs.tries.Trie.{Trie, node, Children, no_children, child, children_in, children_pairs, pairs_of}
+use Rattle.rart_nodes.specs.tries.Trie.{prefix_of, value_of, own_pair, StartsWith, IsCanonical, AreCanonical}
+use Rattle.rart_nodes.specs.tries.Trie.{capacity_in, edges_of}
+use Rattle.rart_nodes.specs.tries.Tree.{tree_pairs}
+use Rattle.rart_nodes.specs.tries.TrieCode.{node_count, child_count}
+use Rattle.rart_nodes.proofs.tries.CanonicalTests.{IsCanonical-test, test-IsCanonical, longest_key-append}
+use Rattle.rart_nodes.proofs.tries.CanonicalTests.{longest_key-behind, canonical-lower}
+use Rattle.rart_nodes.proofs.tries.NodeCounts.{some-pairs}
+
+-- what is pushed last stands first
+pub deepest : {A : Type 0} (xs ys : List A) (x : A) → xs ≡ ys ++ x ∷ [] → reverse xs ≡ x ∷ reverse ys
+deepest xs ys x e = ap reverse e ∙ reverse-append ys (x ∷ [])
+
+pub starts-long : (b : ℕ) (p : List ℕ) → StartsWith b p → 0 < length p
+starts-long b [] h = absurd h
+starts-long b (x ∷ p) h = omega arith
+
+falls-by : (n m w : ℕ) → 2 * n + 1 + (2 * m + 1 + w) < 2 * (n + 1 + m) + 1 + w
+falls-by n m w = omega arith
+
+pub same-rest : {A : Type 0} (x y : A) (xs ys : List A) → x ∷ xs ≡ y ∷ ys → xs ≡ ys
+same-rest x y xs ys e = cc
+
+some-capacity : (n : ℕ) → capacity_of (suc n) ≡ 0 → ⊥
+some-capacity n e = grind (arith, nat_tests)
+
+last-set : {A : Type 0} (xs : List A) (n : ℕ) (x y : A) → n + 1 ≡ length xs → x ≡ slice_index_or xs n x
+    → (rest : List A) × ((xs ≡ rest ++ x ∷ []) × (slice_set xs n y ≡ rest ++ y ∷ []))
+last-set [] n x y h e = absurd (omega arith)
+last-set (a ∷ []) zero x y h e = ([], (ap (λ z. z ∷ []) (sym e), refl))
+last-set (a ∷ b ∷ xs) zero x y h e = absurd (omega arith)
+last-set (a ∷ xs) (suc n) x y h e = let r = last-set xs n x y (omega arith) e in
+    (a ∷ r.0, (ap (λ z. a ∷ z) r.1.0, ap (λ z. a ∷ z) r.1.1))
+
+take_take : {A : Type 0} (i d : ℕ) (k : List A) → i ≤ d → take i (take d k) ≡ take i k
+take_take zero d k h = refl
+take_take (suc i) zero k h = absurd (omega arith)
+take_take (suc i) (suc d) [] h = refl
+take_take (suc i) (suc d) (x ∷ k) h = ap (λ y. x ∷ y) (take_take i d k (omega arith))
+
+-- the first segments of a path that was cut after them and goes on
+take-path : (i d : ℕ) (k p : SegmentList) → i ≤ d → d ≤ length k → take i (take d k ++ p) ≡ take i k
+take-path i d k p h l = take-append-le i (take d k) p (omega (arith, length-take d k)) ∙ take_take i d k h
+
+module _ {V : Type 0} where
+  -- how much there is to do at most
+  abbrev pub work_left : List (Level V) → ℕ
+  work_left [] = 0
+  work_left (l ∷ ls) = 2 * child_count l.0 + 1 + work_left ls
+
+  pub longest-below : (t : Trie V) → IsCanonical t → length (prefix_of t) + longest_key (children_pairs (children_in t))
+      ≤ longest_key (pairs_of t)
+  longest-below (node p v n cs) w =
+      let some : 0 < length (own_pair v ++ children_pairs cs)
+      = omega (arith, some-pairs (node p v n cs) w, length-with_prefix p (own_pair v ++ children_pairs cs)) in
+      omega (
+        arith,
+        longest_key-behind p (own_pair v ++ children_pairs cs) some,
+        longest_key-append (own_pair v)
+            (children_pairs cs),
+      )
+
+  pub below-canonical : (t : Trie V) → IsCanonical t → AreCanonical 0 (children_in t)
+  below-canonical (node p v n cs) w = w.2
+
+  room-behind : (longest places : ℕ) (l : Level V) (ls : List (Level V)) → HasRoom longest places (l ∷ ls)
+      → HasRoom longest places ls
+  room-behind longest places l [] h = tt
+  room-behind longest places l (m ∷ ls) h = h
+
+  -- a tree with a node has pairs
+  pub has-pairs : (t : Trie V) (o : Option (Trie V)) → is_canonical t ≡ true → Some t ≡ o → tree_pairs o ≢ []
+  has-pairs t o w e f =
+      let n : length (pairs_of t) ≡ 0 = ap length (ap tree_pairs e ∙ f) in
+      omega (arith, n, some-pairs t (IsCanonical-test t w))
+
+  -- the first child and the others
+  pub next-branches : (cs ds : Children V) (b : ℕ) (t : Trie V) → cs ≡ child b t ds → AreCanonical 0 cs
+      → (is_canonical t ≡ true) × AreCanonical 0 ds
+  next-branches cs ds b t e w = let c = rw e at w in
+      (test-IsCanonical t c.2, canonical-lower 0 (suc b) ds (omega arith) c.3)
+
+  pub step-last : (st : List (Level V)) (n : ℕ) (l : Level V) (ds : Children V) (t : Trie V) → n + 1 ≡ length st
+      → l ≡ slice_index_or st n l → (b : ℕ) × (l.0 ≡ child b t ds) → DeepestStep st t l.1 (slice_set st n (ds, l.1))
+  step-last st n l ds t h e f =
+      let r = last-set st n l (ds, l.1) h e in
+      record { rest = r.0; edge = f.0; others = ds; was = r.1.0 ∙ ap (λ cs. r.0 ++ (cs, l.1) ∷ []) f.1; is = r.1.1 }
+
+  pub behind-append : (q : SegmentList) (xs ys : List (SegmentList × V))
+      → segments_after q (xs ++ ys) ≡ segments_after q xs ++ segments_after q ys
+  behind-append q xs ys = map-append (λ e. (q ++ e.0, e.1)) xs ys
+
+  pub behind-twice : (q p : SegmentList) (es : List (SegmentList × V)) → segments_after q (segments_after p es)
+      ≡ segments_after (q ++ p) es
+  behind-twice q p [] = refl
+  behind-twice q p (e ∷ es) = rw (append_assoc q p e.0, behind-twice q p es) refl
+
+  pub behind-own : (q : SegmentList) (v : Option V) (es : List (SegmentList × V))
+      → segments_after q (value_at [] v ++ es) ≡ value_at q v ++ segments_after q es
+  behind-own q None es = refl
+  behind-own q (Some v) es = ap (λ k. (k, v) ∷ segments_after q es) (append-nil q)
+
+  -- what lies below the levels of a path doesn't hang on what it keeps after them
+  pub entries_below-same : (g : Grown) (longest deep d : ℕ) (k p : SegmentList) (ls : List (Level V))
+      → AreStations longest deep ls → deep ≤ d → d ≤ length k → entries_below g (take d k ++ p) ls
+      ≡ entries_below g k ls
+  entries_below-same g longest deep d k p [] w h l = refl
+  entries_below-same g longest deep d k p (x ∷ ls) w h l =
+      rw (
+        take-path x.1 d k p (omega (arith, w.0)) l,
+        entries_below-same g longest x.1 d k p ls w.4 (omega (arith, w.0))
+            l,
+      ) refl
+
+  -- a walk goes on from the deepest level to its first child t, after whose prefix the path is k1
+  pub record Turn (g : Grown) (longest places : ℕ) (k k1 : SegmentList) (ls ms : List (Level V)) (t : Trie V) : Type 0
+    where
+      pub path : IsWalk longest places k1 ms
+      pub still : entries_below g k ls ≡ value_at k1 (value_of t) ++ entries_below g k1 ms
+      pub falls : work_left ms < work_left ls
+      pub counted : nodes_below ls ≡ nodes_below ms + 1
+
+  turn-still : (g : Grown) (longest d : ℕ) (k : SegmentList) (t : Trie V) (b : ℕ) (cs : Children V)
+      (ls : List (Level V)) → AreStations longest d ls → d ≤ length k
+      → entries_below g k ((child b t cs, d) ∷ ls) ≡ value_at (take d k ++ g (prefix_of t)) (value_of t)
+      ++ entries_below g (take d k ++ g (prefix_of t))
+      ((children_in t, length (take d k ++ g (prefix_of t))) ∷ (cs, d) ∷ ls)
+  turn-still g longest d k (node p v n ds) b cs ls w h =
+      let q : SegmentList = take d k in
+      let own : segments_after q (entries_of g (node p v n ds))
+      ≡ value_at (q ++ g p) v ++ segments_after (q ++ g p) (children_entries g ds)
+      = behind-twice q (g p) (value_at [] v ++ children_entries g ds)
+      ∙ behind-own (q ++ g p) v (children_entries g ds) in
+      rw (
+        behind-append q (entries_of g (node p v n ds)) (children_entries g cs),
+        own,
+        take_all (length (q ++ g p))
+            (q ++ g p) (omega arith),
+        take-path d d k (g p) (omega arith) h,
+        entries_below-same g longest d d k (g p) ls w
+            (omega arith) h,
+      )
+      (simp append_assoc)
+
+  -- what is known of the first child of the deepest level
+  pub record Child (longest places : ℕ) (k : SegmentList) (d : ℕ) (t : Trie V) (cs : Children V)
+      (ls : List (Level V)) : Type 0 where
+    pub inside : d ≤ length k
+    pub long : 0 < length (prefix_of t)
+    pub fits : d + length (prefix_of t) + longest_key (children_pairs (children_in t)) ≤ longest
+    pub deep : length ls + length (prefix_of t) + longest_key (children_pairs (children_in t)) ≤ longest
+    pub below : AreCanonical 0 (children_in t)
+    pub others : AreCanonical 0 cs
+    pub others_fit : d + longest_key (children_pairs cs) ≤ longest
+    pub others_deep : length ls + longest_key (children_pairs cs) ≤ longest
+    pub above : AreStations longest d ls
+    pub room : longest < places
+
+  pub first-child : (longest places : ℕ) (k : SegmentList) (d : ℕ) (t : Trie V) (b : ℕ) (cs : Children V)
+      (ls : List (Level V)) → IsWalk longest places k ((child b t cs, d) ∷ ls) → Child longest places k d t cs ls
+  first-child longest places k d t b cs ls p =
+      let w = p.stations in
+      let m = longest_key-append (pairs_of t) (children_pairs cs) in
+      record {
+        inside = w.0;
+        long = starts-long b (prefix_of t) w.1.1;
+        fits = omega (arith, w.2, m, longest-below t w.1.2);
+        deep = omega (arith, w.3, m, longest-below t w.1.2);
+        below = below-canonical t w.1.2;
+        others = canonical-lower 0 (suc b) cs (omega arith) w.1.3;
+        others_fit = omega (arith, w.2, m);
+        others_deep = omega (arith, w.3, m);
+        above = w.4;
+        room = p.room;
+      }
+
+  work-falls : (t : Trie V) (cs : Children V) (w : ℕ)
+      → 2 * child_count (children_in t) + 1 + (2 * child_count cs + 1 + w) < 2 * (node_count t + child_count cs) + 1 + w
+  work-falls (node p v n ds) cs w = falls-by (child_count ds) (child_count cs) w
+
+  nodes-fall : (t : Trie V) (m w : ℕ) → node_count t + m + w ≡ child_count (children_in t) + (m + w) + 1
+  nodes-fall (node p v n ds) m w = omega arith
+
+  turn-at : (g : Grown) (longest places places1 d : ℕ) (k : SegmentList) (t : Trie V) (b : ℕ) (cs : Children V)
+      (ls : List (Level V)) → IsShort g → IsWalk longest places k ((child b t cs, d) ∷ ls) → places ≤ places1
+      → Turn g longest places1 k (take d k ++ g (prefix_of t)) ((child b t cs, d) ∷ ls)
+      ((children_in t, length (take d k ++ g (prefix_of t))) ∷ (cs, d) ∷ ls) t
+  turn-at g longest places places1 d k t b cs ls s p h =
+      let c = first-child longest places k d t b cs ls p in
+      let i = c.inside in
+      let n : length (take d k ++ g (prefix_of t)) ≡ d + length (g (prefix_of t))
+      = omega (arith, length-append (take d k) (g (prefix_of t)), length-take d k) in
+      let m = s (prefix_of t) in
+      let below : AreStations longest (length (take d k ++ g (prefix_of t))) ((cs, d) ∷ ls)
+      = (omega (arith, n), c.others, c.others_fit, c.others_deep, c.above) in
+      record {
+        path = record {
+          stations = (omega arith, c.below, omega (arith, n, m, c.fits), omega (arith, c.deep, c.long), below);
+          room = omega (arith, c.room);
+          short = omega (arith, n, m, c.fits);
+        };
+        still = turn-still g longest d k t b cs ls c.above i;
+        falls = work-falls t cs (work_left ls);
+        counted = nodes-fall t (child_count cs) (nodes_below ls);
+      }
+
+  pub record Left (g : Grown) (longest places : ℕ) (k : SegmentList) (ls rest : List (Level V)) : Type 0 where
+    pub path : IsWalk longest places k rest
+    pub still : entries_below g k ls ≡ entries_below g k rest
+    pub falls : work_left rest < work_left ls
+    pub counted : nodes_below ls ≡ nodes_below rest
+
+  pub deeper : (longest deep more : ℕ) (ls : List (Level V)) → deep ≤ more → AreStations longest deep ls
+      → AreStations longest more ls
+  deeper longest deep more [] h w = tt
+  deeper longest deep more (l ∷ ls) h w = (omega (arith, w.0), w.1, w.2, w.3, w.4)
+
+  leave-at : (g : Grown) (longest places d : ℕ) (k : SegmentList) (rest : List (Level V))
+      → IsWalk longest places k ((no_children, d) ∷ rest) → Left g longest places k ((no_children, d) ∷ rest) rest
+  leave-at g longest places d k rest q =
+      record {
+        path = record {
+          stations = deeper longest d (length k) rest q.stations.0 q.stations.4;
+          room
+              = room-behind longest places (no_children, d) rest q.room;
+          short = q.short;
+        };
+        still = refl;
+        falls = omega arith;
+        counted = omega arith;
+      }
+
+  -- the room that a turn finds
+  pub record Space (longest places : ℕ) (k : SegmentList) (d : ℕ) (t : Trie V) (after : List (Level V)) : Type 0 where
+    pub inside : d ≤ length k
+    pub bytes : d + length (prefix_of t) ≤ longest
+    pub place : length after < places
+
+  pub space : (longest places d : ℕ) (k : SegmentList) (t : Trie V) (st st1 : List (Level V))
+      → IsWalk longest places k (reverse st) → DeepestStep st t d st1 → Space longest places k d t st1
+  space longest places d k t st st1 p s =
+      let e : reverse st ≡ (child s.edge t s.others, d) ∷ reverse s.rest
+      = deepest st s.rest (child s.edge t s.others, d) s.was in
+      let q : IsWalk longest places k ((child s.edge t s.others, d) ∷ reverse s.rest) = rw e at p in
+      let c = first-child longest places k d t s.edge s.others (reverse s.rest) q in
+      record {
+        inside = c.inside;
+        bytes = omega (arith, c.fits);
+        place
+            = omega (
+              arith,
+              c.deep,
+              c.long,
+              c.room,
+              ap length s.is,
+              length-append s.rest ((s.others, d) ∷ []),
+              length-reverse s.rest,
+            );
+      }
+
+  -- a walk goes on to a child that has children
+  pub turn : (g : Grown) (longest places places1 d : ℕ) (k k1 : SegmentList) (t : Trie V) (cs : Children V)
+      (st st1 st2 : List (Level V)) → IsShort g → IsWalk longest places k (reverse st)
+      → DeepestStep st t d st1 → k1 ≡ take d k ++ g (prefix_of t) → cs ≡ children_in t
+      → st2 ≡ st1 ++ (cs, length k1) ∷ [] → places ≤ places1
+      → Turn g longest places1 k k1 (reverse st) (reverse st2) t
+  turn g longest places places1 d k k1 t cs st st1 st2 h p s i j f m =
+      let e : reverse st ≡ (child s.edge t s.others, d) ∷ reverse s.rest
+      = deepest st s.rest (child s.edge t s.others, d) s.was in
+      let q : IsWalk longest places k ((child s.edge t s.others, d) ∷ reverse s.rest) = rw e at p in
+      let e2 : reverse st2 ≡ (children_in t, length k1) ∷ (s.others, d) ∷ reverse s.rest
+      = deepest st2 st1 (cs, length k1) f ∙ ap (λ x. (x, length k1) ∷ reverse st1) j
+      ∙ ap (λ x. (children_in t, length k1) ∷ x) (deepest st1 s.rest (s.others, d) s.is) in
+      rw (e2, e, i) (turn-at g longest places places1 d k t s.edge s.others (reverse s.rest) h q m)
+
+  -- a walk goes on to a leaf
+  pub turn-leaf : (g : Grown) (longest places places1 d : ℕ) (k k1 : SegmentList) (t : Trie V) (st st1 : List (Level V))
+      → IsShort g → IsWalk longest places k (reverse st)
+      → DeepestStep st t d st1 → k1 ≡ take d k ++ g (prefix_of t) → children_in t ≡ no_children → places ≤ places1
+      → Turn g longest places1 k k1 (reverse st) (reverse st1) t
+  turn-leaf g longest places places1 d k k1 t st st1 h p s i j m =
+      let r = turn g longest places places1 d k k1 t no_children st st1 (st1 ++ (no_children, length k1) ∷ []) h p s i
+      (sym j) refl m in
+      let e : reverse (st1 ++ (no_children, length k1) ∷ []) ≡ (no_children, length k1) ∷ reverse st1
+      = deepest (st1 ++ (no_children, length k1) ∷ []) st1 (no_children, length k1) refl in
+      let u : Turn g longest places1 k k1 (reverse st) ((no_children, length k1) ∷ reverse st1) t = rw e at r in
+      let l = leave-at g longest places1 (length k1) k1 (reverse st1) u.path in
+      record {
+        path = l.path;
+        still = u.still;
+        falls = omega (arith, l.falls, u.falls);
+        counted
+            = omega (arith, u.counted);
+      }
+
+  -- a walk goes on to a child
+  pub turn-either : (g : Grown) (longest places places1 d : ℕ) (k k1 : SegmentList) (t : Trie V)
+      (st st1 st2 : List (Level V)) → IsShort g → IsWalk longest places k (reverse st)
+      → DeepestStep st t d st1 → k1 ≡ take d k ++ g (prefix_of t) → GoesOn st1 t (length k1) st2 → places ≤ places1
+      → Turn g longest places1 k k1 (reverse st) (reverse st2) t
+  turn-either g longest places places1 d k k1 t st st1 st2 h p s i o m = ⊎_elim
+      (λ f. turn g longest places places1 d k k1 t (children_in t) st st1 st2 h p s i refl f m)
+      (λ f. rw f.0 (turn-leaf g longest places places1 d k k1 t st st1 h p s i f.1 m)) o
+
+  leave-level : (g : Grown) (longest places places1 : ℕ) (k : SegmentList) (st st1 front rest : List (Level V)) (d : ℕ)
+      (l : Level V) → IsWalk longest places k (reverse st) → st1 ≡ st → st ≡ front ++ (no_children, d) ∷ []
+      → st1 ≡ rest ++ l ∷ [] → places1 ≡ places
+      → Left g longest places1 k (reverse st) (reverse rest)
+  leave-level g longest places places1 k st st1 front rest d l p same was e f =
+      let e1 : (no_children, d) ∷ reverse front ≡ l ∷ reverse rest = sym (deepest st front (no_children, d) was)
+      ∙ ap reverse (sym same) ∙ deepest st1 rest l e in
+      let e2 : reverse st ≡ (no_children, d) ∷ reverse rest = deepest st front (no_children, d) was
+      ∙ ap (λ x. (no_children, d) ∷ x) (same-rest _ _ _ _ e1) in
+      let q : IsWalk longest places k ((no_children, d) ∷ reverse rest) = rw e2 at p in
+      rw (f, e2) (leave-at g longest places d k (reverse rest) q)
+
+  -- a walk leaves a level of which nothing is left, if there is one
+  pub leave : (g : Grown) (longest places places1 : ℕ) (k : SegmentList) (st st1 rest : List (Level V)) (l : Level V)
+      → IsWalk longest places k (reverse st) → DeepestLeft st st1 → st1 ≡ rest ++ l ∷ [] → places1 ≡ places
+      → Left g longest places1 k (reverse st) (reverse rest)
+  leave g longest places places1 k st st1 rest l p s e f = ⊎_elim
+      (λ z. absurd (omega (arith, ap length z, ap length s.same, ap length e, length-append rest (l ∷ []))))
+      (λ z. leave-level g longest places places1 k st st1 z.0 rest z.1.0 l p s.same z.1.1 e f) s.left
+
+  -- a node of capacity 0 has no children
+  pub bare : (t : Trie V) → is_canonical t ≡ true → capacity_in t ≡ 0 → children_in t ≡ no_children
+  bare (node p v n no_children) w e = refl
+  bare (node p v n (child b t cs)) w e =
+      let c : n ≡ capacity_of (length (edges_of (child b t cs))) = (IsCanonical-test (node p v n (child b t cs)) w).1 in
+      absurd (some-capacity (length (edges_of cs)) (sym c ∙ e))
+
+  -- a walk begins at a node, to which the way is kept as k0
+  pub start : (g : Grown) (longest places : ℕ) (t : Trie V) (k0 k : SegmentList) (cs : Children V)
+      (st rest : List (Level V)) → IsShort g → is_canonical t ≡ true → length k0 + longest_key (pairs_of t) ≤ longest
+      → longest < places
+      → k ≡ k0 ++ g (prefix_of t) → cs ≡ children_in t → rest ≡ [] → st ≡ rest ++ (cs, length k) ∷ []
+      → IsWalk longest places k (reverse st)
+  start g longest places t k0 k cs st rest h w l r i j e f =
+      let c = IsCanonical-test t w in
+      let n : length k ≤ length k0 + length (prefix_of t)
+      = omega (arith, ap length i, length-append k0 (g (prefix_of t)), h (prefix_of t)) in
+      rw (deepest st rest (cs, length k) f, e, j)
+      (record {
+        stations = (
+          omega arith,
+          below-canonical t c,
+          omega (arith, n, l, longest-below t c),
+          omega
+              (arith, l, longest-below t c),
+          tt,
+        );
+        room = r;
+        short = omega (arith, n, l, longest-below t c);
+      })
+
+  start-at : (g : Grown) (t : Trie V) (k0 : SegmentList)
+      → value_at (k0 ++ g (prefix_of t)) (value_of t) ++ entries_below g (k0 ++ g (prefix_of t))
+      ((children_in t, length (k0 ++ g (prefix_of t))) ∷ []) ≡ segments_after k0 (entries_of g t)
+  start-at g (node p v n cs) k0 = rw (
+    take_all (length (k0 ++ g p)) (k0 ++ g p) (omega arith),
+    append-nil
+        (segments_after (k0 ++ g p) (children_entries g cs)),
+  )
+      (sym (behind-twice k0 (g p) (value_at [] v ++ children_entries g cs)
+      ∙ behind-own (k0 ++ g p) v (children_entries g cs)))
+
+  pub start-entries : (g : Grown) (t : Trie V) (k0 k : SegmentList) (o : Option V) (cs : Children V)
+      (st rest : List (Level V)) → k ≡ k0 ++ g (prefix_of t) → o ≡ value_of t → cs ≡ children_in t → rest ≡ []
+      → st ≡ rest ++ (cs, length k) ∷ []
+      → value_at k o ++ entries_below g k (reverse st) ≡ segments_after k0 (entries_of g t)
+  start-entries g t k0 k o cs st rest i v j e f = rw (deepest st rest (cs, length k) f, e, i, v, j) (start-at g t k0)
+
+  nodes-at : (t : Trie V) → child_count (children_in t) + 0 + 1 ≡ node_count t
+  nodes-at (node p v n cs) = omega arith
+
+  pub start-nodes : (t : Trie V) (d : ℕ) (cs : Children V) (st rest : List (Level V)) → cs ≡ children_in t → rest ≡ []
+      → st ≡ rest ++ (cs, d) ∷ [] → nodes_below (reverse st) + 1 ≡ node_count t
+  start-nodes t d cs st rest j e f = rw (deepest st rest (cs, d) f, e, j) (nodes-at t)
+
+  -- the prefix of a node is no longer than its longest key
+  pub prefix-short : (t : Trie V) → is_canonical t ≡ true → length (prefix_of t) ≤ longest_key (pairs_of t)
+  prefix-short t w = omega (arith, longest-below t (IsCanonical-test t w))
+
+  pub behind-none : (es : List (SegmentList × V)) → segments_after [] es ≡ es
+  behind-none [] = refl
+  behind-none (e ∷ es) = ap (λ z. e ∷ z) (behind-none es)
+
+  -- a walk over nothing
+  pub no-walk : (longest places : ℕ) (k : SegmentList) (st : List (Level V)) → k ≡ [] → st ≡ []
+      → IsWalk longest places k (reverse st)
+  no-walk longest places k st e f = rw (e, f) (record { stations = tt; room = tt; short = omega arith })

@@ -1,0 +1,88 @@
+-- A walk whose path keeps the bytes of a key visits no more nodes on its way to the key than that has bytes.
+use Rattle.std.proofs.Common.{◌≡◌, ℕ, ◌+◌, ◌<◌, ◌≤◌, ◌⊎◌, inl, inr, ⊎_elim, true, List, [], ◌∷◌, ◌++◌, length}
+use Rattle.std.proofs.Common.{length-append, take, reverse, Some, None, refl, ap, arith}
+use Rattle.std.proofs.lemmas.List.{length-take}
+use Rattle.rart_nodes.specs.tries.CanonicalTest.{is_canonical}
+use Rattle.rart_nodes.specs.walks.Walk.{SegmentList, Grown, Tells, Level, IsWalk}
+use Rattle.rart_nodes.specs.walks.WalkSteps.{DeepestLeft, DeepestStep, GoesOn}
+use Rattle.rart_nodes.specs.tries.Trie.{Trie, node, Children, no_children, child, children_in, prefix_of, value_of}
+use Rattle.rart_nodes.specs.tries.Trie.{IsCanonical}
+use Rattle.rart_nodes.proofs.tries.CanonicalTests.{IsCanonical-test}
+use Rattle.rart_nodes.proofs.walks.WalkLemmas.{first-child, deepest}
+
+not-bare : (V : Type 0) (p : List ℕ) (n : ℕ) → IsCanonical {V = V} (node p None n no_children) → ⊥
+not-bare V p n w = ⊎_elim (λ h. cc) (λ h. absurd h) w.0
+
+told : (g : Grown) (p : List ℕ) → Tells g → 0 < length p → 0 < length (g p)
+told g [] h l = absurd (omega arith)
+told g (b ∷ p) h l = h b p
+
+module _ {V : Type 0} where
+  -- the deepest level is at the end of the path, and none of its children was visited
+  abbrev pub IsFresh : SegmentList → List (Level V) → Type 0
+  IsFresh k [] = ⊥
+  IsFresh k ((no_children, d) ∷ ls) = ⊥
+  IsFresh k ((child b t cs, d) ∷ ls) = d ≡ length k
+
+  -- a walk that began with n visits has m: as many, or no more than its path has segments, and a pair lies ahead below
+  -- it
+  abbrev pub HasVisited : ℕ → ℕ → SegmentList → List (Level V) → Type 0
+  HasVisited n m k ls = (m ≡ n) ⊎ ((m ≤ n + length k) × IsFresh k ls)
+
+  fresh-at : (k : SegmentList) (cs : Children V) (d : ℕ) (ls : List (Level V)) → IsFresh k ((cs, d) ∷ ls) → d ≡ length k
+  fresh-at k no_children d ls f = absurd f
+  fresh-at k (child b t cs) d ls f = f
+
+  one-more : (n m d : ℕ) (k k1 : SegmentList) (cs : Children V) (ls : List (Level V)) → HasVisited n m k ((cs, d) ∷ ls)
+      → d < length k1 → m + 1 ≤ n + length k1
+  one-more n m d k k1 cs ls h l = ⊎_elim (λ e. omega arith) (λ f. omega (arith, f.0, fresh-at k cs d ls f.1)) h
+
+  none-here : (n m d : ℕ) (k : SegmentList) (ls : List (Level V)) → HasVisited n m k ((no_children, d) ∷ ls) → m ≡ n
+  none-here n m d k ls h = ⊎_elim (λ e. e) (λ f. absurd f.1) h
+
+  -- a child of the deepest level is visited
+  pub visit-one : (g : Grown) (longest places n m m1 d : ℕ) (k k1 : SegmentList) (t : Trie V) (st st1 : List (Level V))
+      → Tells g → IsWalk longest places k (reverse st) → HasVisited n m k (reverse st)
+      → DeepestStep st t d st1 → k1 ≡ take d k ++ g (prefix_of t) → m1 ≡ m + 1 → m1 ≤ n + length k1
+  visit-one g longest places n m m1 d k k1 t st st1 tells p h s i f =
+      let e : reverse st ≡ (child s.edge t s.others, d) ∷ reverse s.rest
+      = deepest st s.rest (child s.edge t s.others, d) s.was in
+      let q : IsWalk longest places k ((child s.edge t s.others, d) ∷ reverse s.rest) = rw e at p in
+      let c = first-child longest places k d t s.edge s.others (reverse s.rest) q in
+      let more : d < length k1 = omega (
+        arith,
+        ap length i,
+        length-append (take d k) (g (prefix_of t)),
+        length-take d k,
+        c.inside,
+        told g (prefix_of t) tells c.long,
+      ) in
+      omega (arith, f, one-more n m d k k1 (child s.edge t s.others) (reverse s.rest) (rw e at h) more)
+
+  fresh-node : (t : Trie V) (k : SegmentList) (ls : List (Level V)) → is_canonical t ≡ true → None ≡ value_of t
+      → IsFresh k ((children_in t, length k) ∷ ls)
+  fresh-node (node p None n no_children) k ls w v
+      = absurd (not-bare V p n (IsCanonical-test {V = V} (node p None n no_children) w))
+  fresh-node (node p None n (child b t cs)) k ls w v = refl
+  fresh-node (node p (Some x) n cs) k ls w v = absurd (cc)
+
+  pub has-child : (t : Trie V) → is_canonical t ≡ true → None ≡ value_of t → children_in t ≡ no_children → ⊥
+  has-child (node p None n no_children) w v e = not-bare V p n (IsCanonical-test {V = V} (node p None n no_children) w)
+  has-child (node p None n (child b t cs)) w v e = cc
+  has-child (node p (Some x) n cs) w v e = cc
+
+  -- the node that was visited has no value
+  pub visit-on : (n m : ℕ) (t : Trie V) (k : SegmentList) (st1 st2 : List (Level V)) → is_canonical t ≡ true
+      → None ≡ value_of t → GoesOn st1 t (length k) st2 → m ≤ n + length k → HasVisited n m k (reverse st2)
+  visit-on n m t k st1 st2 w v o h = ⊎_elim
+      (λ e. inr (h, rw (deepest st2 st1 (children_in t, length k) e) (fresh-node t k (reverse st1) w v)))
+      (λ e. absurd (has-child t w v e.1)) o
+
+  -- the deepest level has no more children, or there is no level
+  pub visit-none : (n m m1 : ℕ) (k : SegmentList) (st st1 rest : List (Level V)) → HasVisited n m k (reverse st)
+      → DeepestLeft st st1 → m1 ≡ m + 0 → HasVisited n m1 k (reverse rest)
+  visit-none n m m1 k st st1 rest h s q = ⊎_elim
+      (λ e. let h1 : HasVisited n m k (reverse []) = rw e at h in
+      inl (⊎_elim (λ f. omega (arith, f, q)) (λ f. absurd f.1) h1))
+      (λ z. let e : reverse st ≡ (no_children, z.1.0) ∷ reverse z.0 = deepest st z.0 (no_children, z.1.0) z.1.1 in
+      inl (omega (arith, q, none-here n m z.1.0 k (reverse z.0) (rw e at h)))) s.left

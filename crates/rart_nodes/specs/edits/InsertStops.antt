@@ -1,0 +1,28 @@
+-- Why an insertion stopped, with all as it was.
+use Rattle.std.specs.Prelude.{◌≡◌, ◌≢◌, ℕ, Bool, true, List, None}
+use Rattle.rart_keys.specs.SortedMap.{lookup}
+use Rattle.rart_nodes.specs.edits.InsertAsks.{MayAskFor, trie_asks_put}
+use Rattle.rart_nodes.specs.tries.Trie.{Trie, trie_lookup, with_records}
+use Rattle.rart_nodes.specs.declared.node.insert.InsertStop.{InsertStop}
+use Rattle.rart_nodes.specs.declared.node.insert.InsertStop.TheVariants as stop
+use Rattle.rart_nodes.specs.declared.refused.NotInserted.{NotInserted}
+use Rattle.rart_nodes.specs.declared.refused.NotInserted.TheVariants as not_inserted
+use Rattle.rart_parts.specs.declared.error.TreeError.TheVariants.{Memory}
+
+module _ {V : Type 0} where
+  -- at a node: a value stands at the key where only a new one is wanted, or a request for room was refused
+  abbrev pub FailsPut : Bool → List ℕ → Trie V → InsertStop → Type 0
+  FailsPut only_new key trie stop.Stored = (only_new ≡ true) × (trie_lookup key trie ≢ None)
+  FailsPut only_new key trie stop.Memory = (trie_asks_put key trie ≡ true)
+      × (trie_lookup key (with_records trie) ≡ None)
+
+  -- the same, with the value that comes back
+  abbrev pub TellsFailure : List ℕ → V → Trie V → NotInserted V → Type 0
+  TellsFailure key value trie (not_inserted.Stored back) = (back ≡ value) × (trie_lookup key trie ≢ None)
+  TellsFailure key value trie (not_inserted.Refused r) = (r.value ≡ value) × (r.error ≡ Memory)
+      × (trie_asks_put key trie ≡ true) × (trie_lookup key (with_records trie) ≡ None)
+
+  -- by the map alone
+  abbrev pub TellsNotPut : List ℕ → V → List (List ℕ × V) → NotInserted V → Type 0
+  TellsNotPut key value map (not_inserted.Stored back) = (back ≡ value) × (lookup key map ≢ None)
+  TellsNotPut key value map (not_inserted.Refused r) = (r.value ≡ value) × (r.error ≡ Memory) × MayAskFor key map

@@ -1,0 +1,220 @@
+-- The laws that the ghost fields of meetings name. They are proof terms, and stand here since a ghost field can name no
+-- lemma of proofs/. The words that they speak of are in Given.antt.
+pub use Rattle.rart_nodes.specs.joins.Given.{
+  AreVisitors,
+  CanBehind,
+  CanGive,
+  CanGiveKeys,
+  CanGiveValues,
+  CanGiveViews,
+  CountedOn,
+  GivenKeys,
+  GivenValues,
+  GivenViews,
+  KeyRoom,
+  KeysRoom,
+  ViewRoom,
+  ViewsRoom,
+  most_count,
+}
+use Rattle.std.specs.Prelude.{ℕ, ◌≡◌, ◌+◌, ◌≤◌, List, [], ◌∷◌, ◌++◌, length, vec_capacity, Option, Some, None}
+use Rattle.std.specs.Borrow.{Bor}
+use Rattle.std.specs.Global.{Vec}
+use Rattle.std.proofs.Common.{refl, arith, ap, ◌∙◌, length-append, append_assoc}
+use Rattle.std.proofs.lemmas.List.{length-map}
+use Rattle.std.specs.List.{FoldsTo}
+use Rattle.rart_keys.specs.KeyBytes.{IsWithin}
+use Rattle.rart_keys.specs.SortedMap.{values_of}
+use Rattle.rart_nodes.specs.declared.node.intersect.way.JoinPath.TheVariants.{Untold, Bytes, Segments}
+use Rattle.rart_nodes.specs.joins.JoinPaths.{Kept, WayRoom, WayGrown, BytesGrown, SegmentsGrown}
+use Rattle.rart_nodes.specs.tries.PrefixLaws.{prefix-append, prefix-twice, values-append, values-with_prefix}
+use Rattle.rart_nodes.specs.tries.Trie.{with_prefix}
+use Rattle.rart_nodes.specs.walks.SegmentLaws.{full-append, joined-append, many-joined}
+use Rattle.rart_nodes.specs.walks.Walk.{joined}
+use Rattle.rart_nodes.specs.walks.PathParts.{lent_segments}
+
+folds-append : {P A : Type 0} (R : P → A → P → Type 0) (p q r : P) (xs ys : List A) → FoldsTo R p xs q
+    → FoldsTo R q ys r → FoldsTo R p (xs ++ ys) r
+folds-append R p q r [] ys h g = rw h g
+folds-append R p q r (x ∷ xs) ys h g = (h.0, h.1, folds-append R h.0 q r xs ys h.2 g)
+
+within-less : (m : Option ℕ) (i j : ℕ) → IsWithin m i → j ≤ i → IsWithin m j
+within-less None i j h k = tt
+within-less (Some m) i j h k = omega arith
+
+-- room on ways
+bytes_room : (k l : Vec ℕ) (p : List ℕ) (m n : ℕ) → BytesGrown k p l → length k.items + m ≤ vec_capacity k
+    → length p + n ≤ m → length l.items + n ≤ vec_capacity l
+bytes_room k l p m n a b c = omega (arith, a.place, b, c, ap length a.bytes, length-append k.items p)
+
+segments_room : (k l : Vec (Bor (List ℕ))) (p : List ℕ) (m n : ℕ) → SegmentsGrown k p l
+    → length k.items + m ≤ vec_capacity k → length p + n ≤ m → length l.items + n ≤ vec_capacity l
+segments_room k l p m n a b c =
+    omega (
+      arith,
+      a.place,
+      b,
+      c,
+      ap length a.segments,
+      length-append (lent_segments k.items) a.more,
+      length-map k.items
+          (λ x. x.now),
+      length-map l.items (λ x. x.now),
+      many-joined a.more a.full,
+      ap length a.bytes,
+    )
+
+pub way-room : (s t : Kept) (p : List ℕ) (m n : ℕ) → WayGrown s p t → WayRoom s m → length p + n ≤ m → WayRoom t n
+way-room Untold Untold p m n a b c = tt
+way-room Untold (Bytes l) p m n a b c = absurd a
+way-room Untold (Segments l) p m n a b c = absurd a
+way-room (Bytes k) Untold p m n a b c = absurd a
+way-room (Bytes k) (Bytes l) p m n a b c = bytes_room k l p m n a b c
+way-room (Bytes k) (Segments l) p m n a b c = absurd a
+way-room (Segments k) Untold p m n a b c = absurd a
+way-room (Segments k) (Bytes l) p m n a b c = absurd a
+way-room (Segments k) (Segments l) p m n a b c = segments_room k l p m n a b c
+
+pub can_values : {F X : Type 0} (q : F → X → Type 0) → CanBehind (CanGiveValues q)
+can_values q s t p f x w h = h
+
+pub give_values : {F X : Type 0} (r : F → X → F → Type 0) → AreVisitors WayRoom (GivenValues r)
+give_values r = record {
+  holds = λ s n h. h;
+  has_room = way-room;
+  gives_none = λ s f. refl;
+  gives_more = λ s f g h xs ys a b. rw (values-append xs ys) (folds-append r f g h (values_of xs) (values_of ys) a b);
+  gives_behind = λ s t p f g es a b. rw (values-with_prefix p es) b;
+}
+
+keys-hold : (most : Option ℕ) (s : Kept) (n : ℕ) → KeysRoom most s n → WayRoom s n
+keys-hold most Untold n h = absurd h
+keys-hold most (Bytes k) n h = h.place
+keys-hold most (Segments k) n h = absurd h
+
+keys-room : (most : Option ℕ) (s t : Kept) (p : List ℕ) (m n : ℕ) → WayGrown s p t → KeysRoom most s m
+    → length p + n ≤ m → KeysRoom most t n
+keys-room most Untold t p m n a b c = absurd b
+keys-room most (Segments k) t p m n a b c = absurd b
+keys-room most (Bytes k) Untold p m n a b c = absurd a
+keys-room most (Bytes k) (Segments l) p m n a b c = absurd a
+keys-room most (Bytes k) (Bytes l) p m n a b c = record {
+  place = bytes_room k l p m n a b.place c;
+  within = within-less most (length k.items + m) (length l.items + n) b.within
+      (omega (arith, c, ap length a.bytes, length-append k.items p));
+}
+
+keys-none : {F X : Type 0} (r : F → List ℕ × X → F → Type 0) (s : Kept) (f : F) → GivenKeys r s f [] f
+keys-none r Untold f = tt
+keys-none r (Bytes k) f = refl
+keys-none r (Segments k) f = tt
+
+keys-more : {F X : Type 0} (r : F → List ℕ × X → F → Type 0) (s : Kept) (f g h : F) (xs ys : List (List ℕ × X))
+    → GivenKeys r s f xs g → GivenKeys r s g ys h → GivenKeys r s f (xs ++ ys) h
+keys-more r Untold f g h xs ys a b = tt
+keys-more r (Bytes k) f g h xs ys a b = rw (prefix-append k.items xs ys)
+    (folds-append r f g h (with_prefix k.items xs) (with_prefix k.items ys) a b)
+keys-more r (Segments k) f g h xs ys a b = tt
+
+keys-behind : {F X : Type 0} (r : F → List ℕ × X → F → Type 0) (s t : Kept) (p : List ℕ) (f g : F)
+    (es : List (List ℕ × X)) → WayGrown s p t → GivenKeys r t f es g → GivenKeys r s f (with_prefix p es) g
+keys-behind r Untold t p f g es a b = tt
+keys-behind r (Segments k) t p f g es a b = tt
+keys-behind r (Bytes k) Untold p f g es a b = absurd a
+keys-behind r (Bytes k) (Segments l) p f g es a b = absurd a
+keys-behind r (Bytes k) (Bytes l) p f g es a b = rw (prefix-twice k.items p es, ← a.bytes) b
+
+pub can_keys : {F X : Type 0} (q : F → List ℕ × X → Type 0) → CanBehind (CanGiveKeys q)
+can_keys q Untold Untold p f x w h = tt
+can_keys q Untold (Bytes l) p f x w h = absurd w
+can_keys q Untold (Segments l) p f x w h = tt
+can_keys q (Bytes k) Untold p f x w h = tt
+can_keys q (Bytes k) (Bytes l) p f x w h = rw (w.bytes, append_assoc k.items p x.0) h
+can_keys q (Bytes k) (Segments l) p f x w h = tt
+can_keys q (Segments k) Untold p f x w h = tt
+can_keys q (Segments k) (Bytes l) p f x w h = absurd w
+can_keys q (Segments k) (Segments l) p f x w h = tt
+
+pub give_keys : {F X : Type 0} (most : Option ℕ) (r : F → List ℕ × X → F → Type 0)
+    → AreVisitors (KeysRoom most) (GivenKeys r)
+give_keys most r = record {
+  holds = keys-hold most;
+  has_room = keys-room most;
+  gives_none = keys-none r;
+  gives_more
+      = keys-more r;
+  gives_behind = keys-behind r;
+}
+
+views-hold : (s : Kept) (n : ℕ) → ViewsRoom s n → WayRoom s n
+views-hold Untold n h = absurd h
+views-hold (Bytes k) n h = absurd h
+views-hold (Segments k) n h = h.place
+
+views-room : (s t : Kept) (p : List ℕ) (m n : ℕ) → WayGrown s p t → ViewsRoom s m → length p + n ≤ m → ViewsRoom t n
+views-room Untold t p m n a b c = absurd b
+views-room (Bytes k) t p m n a b c = absurd b
+views-room (Segments k) Untold p m n a b c = absurd a
+views-room (Segments k) (Bytes l) p m n a b c = absurd a
+views-room (Segments k) (Segments l) p m n a b c = record {
+  place = segments_room k l p m n a b.place c;
+  fits = omega (
+    arith,
+    c,
+    b.fits,
+    ap (λ z. length (joined z)) a.segments,
+    ap length
+        (joined-append (lent_segments k.items) a.more),
+    length-append (joined (lent_segments k.items)) (joined a.more),
+    ap
+        length a.bytes,
+  );
+  full = rw a.segments (full-append (lent_segments k.items) a.more b.full a.full);
+}
+
+views-none : {F X : Type 0} (r : F → List ℕ × X → F → Type 0) (s : Kept) (f : F) → GivenViews r s f [] f
+views-none r Untold f = tt
+views-none r (Bytes k) f = tt
+views-none r (Segments k) f = refl
+
+views-more : {F X : Type 0} (r : F → List ℕ × X → F → Type 0) (s : Kept) (f g h : F) (xs ys : List (List ℕ × X))
+    → GivenViews r s f xs g → GivenViews r s g ys h → GivenViews r s f (xs ++ ys) h
+views-more r Untold f g h xs ys a b = tt
+views-more r (Bytes k) f g h xs ys a b = tt
+views-more r (Segments k) f g h xs ys a b = let p = joined (lent_segments k.items) in
+    rw (prefix-append p xs ys) (folds-append r f g h (with_prefix p xs) (with_prefix p ys) a b)
+
+views-behind : {F X : Type 0} (r : F → List ℕ × X → F → Type 0) (s t : Kept) (p : List ℕ) (f g : F)
+    (es : List (List ℕ × X)) → WayGrown s p t → GivenViews r t f es g → GivenViews r s f (with_prefix p es) g
+views-behind r Untold t p f g es a b = tt
+views-behind r (Bytes k) t p f g es a b = tt
+views-behind r (Segments k) Untold p f g es a b = absurd a
+views-behind r (Segments k) (Bytes l) p f g es a b = absurd a
+views-behind r (Segments k) (Segments l) p f g es a b =
+    let whole : joined (lent_segments l.items) ≡ joined (lent_segments k.items) ++ p = ap joined a.segments
+    ∙ joined-append (lent_segments k.items) a.more ∙ ap (λ z. joined (lent_segments k.items) ++ z) a.bytes in
+    rw (prefix-twice (joined (lent_segments k.items)) p es, ← whole) b
+
+pub can_views : {F X : Type 0} (q : F → List ℕ × X → Type 0) → CanBehind (CanGiveViews q)
+can_views q Untold Untold p f x w h = tt
+can_views q Untold (Bytes l) p f x w h = tt
+can_views q Untold (Segments l) p f x w h = absurd w
+can_views q (Bytes k) Untold p f x w h = tt
+can_views q (Bytes k) (Bytes l) p f x w h = tt
+can_views q (Bytes k) (Segments l) p f x w h = absurd w
+can_views q (Segments k) Untold p f x w h = tt
+can_views q (Segments k) (Bytes l) p f x w h = tt
+can_views q (Segments k) (Segments l) p f x w h =
+    let whole : joined (lent_segments l.items) ≡ joined (lent_segments k.items) ++ p = ap joined w.segments
+    ∙ joined-append (lent_segments k.items) w.more ∙ ap (λ z. joined (lent_segments k.items) ++ z) w.bytes in
+    rw (whole, append_assoc (joined (lent_segments k.items)) p x.0) h
+
+pub give_views : {F X : Type 0} (r : F → List ℕ × X → F → Type 0) → AreVisitors ViewsRoom (GivenViews r)
+give_views r = record {
+  holds = views-hold;
+  has_room = views-room;
+  gives_none = views-none r;
+  gives_more
+      = views-more r;
+  gives_behind = views-behind r;
+}

@@ -1,0 +1,35 @@
+-- What paths keep of a prefix: its bytes, one by one, the prefix as one segment, or nothing.
+use Rattle.std.specs.Prelude.{ℕ, List, [], ◌∷◌, map, Option}
+use Rattle.std.specs.Borrow.{Bor}
+use Rattle.std.specs.Option.{option_copied}
+use Rattle.std.proofs.Common.{arith}
+use Rattle.rart_nodes.specs.walks.Walk.{Grown, IsShort, Level, SegmentList, entry_values, entries_ahead}
+
+abbrev pub byte_segments : Grown
+byte_segments p = map (λ b. b ∷ []) p
+
+abbrev pub one_segment : Grown
+one_segment [] = []
+one_segment (b ∷ p) = (b ∷ p) ∷ []
+
+abbrev pub no_segment : Grown
+no_segment p = []
+
+pub short-bytes : IsShort byte_segments
+short-bytes [] = omega arith
+short-bytes (b ∷ p) = omega (arith, short-bytes p)
+
+pub short-one : IsShort one_segment
+short-one [] = omega arith
+short-one (b ∷ p) = omega arith
+
+pub short-no : IsShort no_segment
+short-no p = omega arith
+
+-- the bytes that are lent
+abbrev pub lent_segments : List (Bor (List ℕ)) → SegmentList
+lent_segments ps = map (λ p. p.now) ps
+
+-- the values that lie ahead of a walk whose path keeps nothing
+abbrev pub values_ahead : {V : Type 0} → Option (Bor V) → List (Level V) → List V
+values_ahead first levels = entry_values (entries_ahead no_segment [] (option_copied first) levels)

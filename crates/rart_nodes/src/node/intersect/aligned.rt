@@ -1,0 +1,112 @@
+//! The step of an intersection from two visited nodes to the next two whose prefixes end together.
+ghost use Rattle.std.specs.Prelude.{◌≡◌, ◌+◌, [], ◌∷◌, MatchOption};
+ghost use Rattle.rart_keys.specs.SortedMap.{count_of, longest_key};
+ghost use Rattle.rart_nodes.specs.joins.Alignments.{EntersBehind, FindsAligned, VisitsAligned};
+ghost use Rattle.rart_nodes.specs.joins.SharedChildren.{IsParted};
+ghost use Rattle.rart_nodes.specs.joins.JoinPaths.{WayRoom};
+ghost use Rattle.rart_nodes.specs.tries.Trie.{child_in, pairs_of};
+
+use crate::count::{Count, Paired};
+use crate::node::intersect::way::JoinPath;
+use crate::node::seen::Entered;
+use rart_keys::{Partial, common_prefix_length};
+
+/// Returns the common prefix, and the rest of each string.
+fn part<'a, 'b>(left: &'a [u8], right: &'b [u8]) -> (&'a [u8], &'a [u8], &'b [u8])
+    ensures { IsParted left.now right.now result.0.now result.1.now result.2.now }
+{
+    let shared = common_prefix_length(left, right);
+    (&left[..shared], &left[shared..], &right[shared..])
+}
+
+/// Returns the first byte, as a number and as a segment, and the rest.
+fn next_byte(rest: &[u8]) -> Option<(u8, &[u8], &[u8])>
+    ensures { MatchOption result (rest.now ≡ []) (λ e. (rest.now ≡ e.0 ∷ e.2.now) × (e.1.now ≡ e.0 ∷ [])) }
+{
+    if rest.is_empty() {
+        return None;
+    }
+    let (edge, behind) = rest.split_at(1);
+    Some((rest[0], edge, behind))
+}
+
+/// Visits the child at `byte` of a left node. Returns it with that byte as a segment and the rest of its prefix.
+fn enter_behind<'a, P: Partial, V, C: Count>(
+    at: Entered<'a, P, V, C>,
+    byte: u8,
+    counter: &mut C,
+) -> Option<(Entered<'a, P, V, C>, &'a [u8], &'a [u8])>
+    ensures shown { EntersBehind byte (child_in byte at.entry.node.now) result }
+    ensures counted { C.number counter.new ≡ C.number counter.old + count_of result }
+{
+    let child = at.child(byte)?.enter(counter);
+    let Some((_, edge, rest)) = next_byte(child.prefix().to_slice()) else {
+        unreachable!()
+    };
+    Some((child, edge, rest))
+}
+
+/// Visits the child at `byte` of a right node, as `enter_behind` does.
+fn enter_other_behind<'b, P: Partial, W, C: Count>(
+    at: Entered<'b, P, W, Paired<C>>,
+    byte: u8,
+    counter: &mut C,
+) -> Option<(Entered<'b, P, W, Paired<C>>, &'b [u8], &'b [u8])>
+    ensures shown { EntersBehind byte (child_in byte at.entry.node.now) result }
+    ensures counted { C.number counter.new ≡ C.number counter.old + count_of result }
+{
+    let child = at.child(byte)?.enter_other(counter);
+    let Some((_, edge, rest)) = next_byte(child.prefix().to_slice()) else {
+        unreachable!()
+    };
+    Some((child, edge, rest))
+}
+
+/// Returns the next two nodes whose prefixes end together, and extends the path. Inside a longer prefix only the other
+/// node's child is visited. Returns `None` if the prefixes differ or there is no such child.
+pub(crate) fn next_aligned<'a, 'b, P: Partial, V, W, C: Count>(
+    left: Entered<'a, P, V, C>,
+    right: Entered<'b, P, W, Paired<C>>,
+    way: &mut JoinPath<'a>,
+    counter: &mut C,
+) -> Option<(Entered<'a, P, V, C>, Entered<'b, P, W, Paired<C>>)>
+    requires { WayRoom way.old (longest_key (pairs_of left.node.now)) }
+    ensures way { FindsAligned left.entry.node.now right.entry.node.now way.old result way.new }
+    ensures visits { VisitsAligned left.entry.node.now right.entry.node.now (C.number counter.old) result
+        (C.number counter.new) }
+{
+    let mut left = left;
+    let mut right = right;
+    let mut left_rest = left.prefix().to_slice();
+    let mut right_rest = right.prefix().to_slice();
+    loop {
+        let (shared, left_on, right_on) = part(left_rest, right_rest);
+        way.grow(shared);
+        match next_byte(left_on) {
+            None => {
+                let Some((byte, _, behind)) = next_byte(right_on) else {
+                    return Some((left, right));
+                };
+                let Some((child, edge, rest)) = enter_behind(left, byte, counter) else {
+                    return None;
+                };
+                way.grow(edge);
+                left = child;
+                left_rest = rest;
+                right_rest = behind;
+            }
+            Some((byte, edge, behind)) => {
+                if !right_on.is_empty() {
+                    return None;
+                }
+                let Some((child, _, rest)) = enter_other_behind(right, byte, counter) else {
+                    return None;
+                };
+                way.grow(edge);
+                right = child;
+                right_rest = rest;
+                left_rest = behind;
+            }
+        }
+    }
+}

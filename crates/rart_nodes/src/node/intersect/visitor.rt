@@ -1,0 +1,149 @@
+//! What an intersection does with each common pair: it counts, or calls a callback with the values, the key or a view
+//! of it.
+ghost use Rattle.std.specs.Prelude.{◌≡◌, ℕ, List, [], ◌∷◌};
+ghost use Rattle.std.specs.Option.{option_copied};
+ghost use Rattle.rart_keys.specs.Joins.{both};
+ghost use Rattle.rart_nodes.specs.joins.Visitors.{AreVisitors, CanBehind, CanGive};
+ghost use Rattle.rart_nodes.specs.joins.JoinPaths.{Kept};
+ghost use Rattle.rart_nodes.specs.tries.Trie.{own_pair};
+
+use crate::node::intersect::way::JoinPath;
+use crate::node::view::LendingKeyView;
+use rart_keys::KeyTrait;
+use std::marker::PhantomData;
+
+/// What is done at a pair, and the state `F` that it is done to.
+pub(crate) trait Visitor<V, W, F> {
+    ghost room: { Kept → ℕ → Type 0 };
+
+    ghost can: { Kept → F → List ℕ × (V × W) → Type 0 };
+
+    ghost given: { Kept → F → List (List ℕ × (V × W)) → F → Type 0 };
+
+    /// Gives the pair at the end of the way.
+    fn give(way: &JoinPath<'_>, f: &mut F, left: &V, right: &W)
+        requires room { room way.now 0 }
+        requires callable { can way.now f.old ([], (left.now, right.now)) }
+        ensures given { given way.now f.old (([], (left.now, right.now)) ∷ []) f.new };
+
+    ghost lawful: { AreVisitors room given };
+
+    ghost behind: { CanBehind can };
+}
+
+/// Passes on the pair at the end of the path if both nodes hold a value.
+pub(crate) fn give_both<V, W, F, T: Visitor<V, W, F>>(
+    left: Option<&V>,
+    right: Option<&W>,
+    way: &JoinPath<'_>,
+    f: &mut F,
+)
+    requires room { T.room way.now 0 }
+    requires callable { CanGive T.can T.given way.now f.old
+        (own_pair (both (option_copied left) (option_copied right))) }
+    ensures given { T.given way.now f.old (own_pair
+        (both (option_copied left.entry) (option_copied right.entry))) f.new }
+{
+    if let Some(value) = left {
+        if let Some(other) = right {
+            T::give(way, f, value, other);
+        }
+    }
+}
+
+/// Counts; where the count is full it stops.
+pub(crate) struct Counted;
+
+impl<V, W> Visitor<V, W, usize> for Counted {
+    ghost use Rattle.rart_nodes.specs.joins.Visitors.{CountedOn, GivenValues, give_values};
+    ghost use Rattle.rart_nodes.specs.joins.JoinPaths.{WayRoom};
+
+    ghost room = { WayRoom };
+
+    ghost can = { λ s n x. Unit {0} };
+
+    ghost given = { GivenValues CountedOn };
+
+    fn give(_way: &JoinPath<'_>, count: &mut usize, _left: &V, _right: &W) {
+        *count = count.saturating_add(1);
+    }
+
+    ghost lawful = { give_values CountedOn };
+
+    ghost behind = { λ s t p f x w h. tt };
+}
+
+/// Calls with the values.
+pub(crate) struct ByValues;
+
+impl<V, W, F: FnMut(&V, &W)> Visitor<V, W, F> for ByValues {
+    ghost use Rattle.rart_nodes.specs.joins.Visitors.{CanGiveValues, GivenValues, can_values, give_values};
+    ghost use Rattle.rart_nodes.specs.joins.PairCalls.{CalledWith, TakesWith};
+    ghost use Rattle.rart_nodes.specs.joins.JoinPaths.{WayRoom};
+
+    ghost room = { WayRoom };
+
+    ghost can = { CanGiveValues (λ p x. TakesWith F.FnMut p x) };
+
+    ghost given = { GivenValues (λ p x q. CalledWith F.FnMut p x q) };
+
+    fn give(_way: &JoinPath<'_>, f: &mut F, left: &V, right: &W) {
+        f(left, right);
+    }
+
+    ghost lawful = { give_values (λ p x q. CalledWith F.FnMut p x q) };
+
+    ghost behind = { can_values (λ p x. TakesWith F.FnMut p x) };
+}
+
+/// Calls with the key, made of the bytes of the way, and the values.
+pub(crate) struct ByKeys<K> {
+    of: PhantomData<K>,
+}
+
+impl<K: KeyTrait, V, W, F: FnMut(K, &V, &W)> Visitor<V, W, F> for ByKeys<K> {
+    ghost use Rattle.rart_nodes.specs.joins.Visitors.{CanGiveKeys, GivenKeys, KeysRoom, can_keys, give_keys};
+    ghost use Rattle.rart_nodes.specs.joins.PairCalls.{CalledAt, TakesAtKey};
+
+    ghost room = { KeysRoom K.MAXIMUM_SIZE };
+
+    ghost can = { CanGiveKeys (λ p x. TakesAtKey F.FnMut K.bytes p x) };
+
+    ghost given = { GivenKeys (λ p x q. CalledAt F.FnMut K.bytes p x q) };
+
+    fn give(way: &JoinPath<'_>, f: &mut F, left: &V, right: &W) {
+        match way {
+            JoinPath::Bytes(bytes) => f(K::new_from_slice(bytes.as_slice()), left, right),
+            _ => unreachable!(),
+        }
+    }
+
+    ghost lawful = { give_keys K.MAXIMUM_SIZE (λ p x q. CalledAt F.FnMut K.bytes p x q) };
+
+    ghost behind = { can_keys (λ p x. TakesAtKey F.FnMut K.bytes p x) };
+}
+
+/// Calls with a view of the segments of the way, and the values.
+pub(crate) struct ByViews;
+
+impl<V, W, F: FnMut(LendingKeyView<'_, '_>, &V, &W)> Visitor<V, W, F> for ByViews {
+    ghost use Rattle.rart_nodes.specs.joins.Visitors.{CanGiveViews, GivenViews, ViewsRoom, can_views, give_views};
+    ghost use Rattle.rart_nodes.specs.joins.ViewCalls.{TakesViewAt, ViewedAt};
+
+    ghost room = { ViewsRoom };
+
+    ghost can = { CanGiveViews (λ p x. TakesViewAt F.FnMut p x) };
+
+    ghost given = { GivenViews (λ p x q. ViewedAt F.FnMut p x q) };
+
+    fn give(way: &JoinPath<'_>, f: &mut F, left: &V, right: &W) {
+        match way {
+            JoinPath::Segments(segments) => f(LendingKeyView::of(segments.as_slice()), left, right),
+            _ => unreachable!(),
+        }
+    }
+
+    ghost lawful = { give_views (λ p x q. ViewedAt F.FnMut p x q) };
+
+    ghost behind = { can_views (λ p x. TakesViewAt F.FnMut p x) };
+}

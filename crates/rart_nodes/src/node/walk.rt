@@ -1,0 +1,195 @@
+//! A walk over a shared tree in key order that allocates when it is created. It keeps a cursor over the children of
+//! each inner node on its path.
+ghost use Rattle.std.specs.Prelude.{◌≡◌, ◌≢◌, ◌≤◌, ◌<◌, ◌+◌, ◌++◌, [], length, reverse, take, vec_len, vec_capacity};
+ghost use Rattle.std.specs.Prelude.{MatchOption, IfOk, OnErr};
+ghost use Rattle.std.specs.Option.{option_copied};
+ghost use Rattle.rart_keys.specs.SortedMap.{count_of, longest_key};
+ghost use Rattle.rart_nodes.specs.ranges.Potential.{IsAmortized, potential};
+ghost use Rattle.rart_nodes.specs.tries.Tree.{seen_pairs};
+ghost use Rattle.rart_nodes.specs.walks.Walk.{IsWalk, Tells, segments_after, nodes_below, entries_ahead, entries_of};
+ghost use Rattle.rart_nodes.specs.walks.Walk.{tree_count, tree_entries};
+ghost use Rattle.rart_nodes.specs.walks.WalkSteps.{DeepestLeft, DeepestStep, GoesOn, TakesEntry};
+ghost use Rattle.rart_nodes.specs.tries.Trie.{pairs_of, prefix_of};
+ghost use Rattle.rart_nodes.specs.tries.TrieCode.{node_count};
+
+use crate::count::Count;
+use crate::node::path::Path;
+use crate::node::seen::{Branches, Entered, Seen};
+use rart_keys::{KeyTrait, Partial};
+use std::alloc::{AllocError, Global};
+
+mod seek_lower_bound;
+
+/// A walk over the pairs of a tree, in order. Its path stands beside it.
+#[derive(Drop)]
+pub(crate) struct Walk<'a, P: Partial, V, C> {
+    // for each inner node on the path, what is left of its children, and how much is kept of its key; the root first
+    levels: Vec<(Branches<'a, P, V, C>, usize)>,
+    // the root's value, until it is given
+    first: Option<&'a V>,
+    longest: usize,
+}
+
+/// Visits the next child of the deepest level and returns it with the depth of the level.
+fn enter_deepest<'a, P: Partial, V, C: Count>(
+    levels: &mut Vec<(Branches<'a, P, V, C>, usize)>,
+    counter: &mut C,
+) -> Option<(Entered<'a, P, V, C>, usize)>
+    ensures shown { MatchOption result (DeepestLeft levels.old.items levels.new.items)
+        (λ e. DeepestStep levels.old.items e.0.node.now e.1 levels.new.items) }
+    ensures counted { C.number counter.new ≡ C.number counter.old + count_of result }
+    ensures len { vec_len levels.new ≡ vec_len levels.old }
+    ensures capacity { vec_capacity levels.new ≡ vec_capacity levels.old }
+{
+    let level = levels.last_mut()?;
+    let at = level.0.enter_next(counter)?;
+    Some((at, level.1))
+}
+
+/// Extends the path by a visited node. A leaf gets no level.
+fn go_on<'a, P: Partial, V, C, T: Path<'a, P>>(
+    levels: &mut Vec<(Branches<'a, P, V, C>, usize)>,
+    path: &mut T,
+    at: Entered<'a, P, V, C>,
+    depth: usize,
+)
+    requires bytes { depth + length (prefix_of at.node.now) ≤ T.room path.old }
+    requires place { vec_len levels.old < vec_capacity levels.old }
+    ensures kept { T.kept path.new ≡ take depth (T.kept path.old) ++ T.grown (prefix_of at.entry.node.now) }
+    ensures levels { GoesOn levels.old.items at.entry.node.now (length (T.kept path.new)) levels.new.items }
+    ensures path_room { T.room path.old ≤ T.room path.new }
+    ensures level_room { vec_capacity levels.new ≡ vec_capacity levels.old }
+{
+    path.cut(depth);
+    path.grow(at.prefix());
+    if at.has_no_children() {
+        return;
+    }
+    levels.push_reserved((at.branches(), path.mark()));
+}
+
+/// Returns a walk over the subtree of a visited node; the path is that of the path to it.
+pub(crate) fn start<'a, P: Partial, V, C, T: Path<'a, P>>(
+    mut levels: Vec<(Branches<'a, P, V, C>, usize)>,
+    longest: usize,
+    path: &mut T,
+    at: Entered<'a, P, V, C>,
+) -> Walk<'a, P, V, C>
+    requires short { length (T.kept path.old) + longest_key (pairs_of at.node.now) ≤ longest }
+    requires room { longest ≤ T.room path.old }
+    requires places { longest < vec_capacity levels }
+    requires empty_walk { levels.items ≡ [] }
+    ensures path { IsWalk result.longest (vec_capacity result.levels) (T.kept path.new) (reverse result.levels.items) }
+    ensures room { result.longest ≤ T.room path.new }
+    ensures entries { entries_ahead T.grown (T.kept path.new) (option_copied result.first) result.levels.items
+        ≡ segments_after (T.kept path.old) (entries_of T.grown at.entry.node.now) }
+    ensures visits { nodes_below (reverse result.levels.items) + 1 ≡ node_count at.entry.node.now }
+    ensures longest { result.longest ≡ longest }
+    ensures places { vec_capacity result.levels ≡ vec_capacity levels.entry }
+{
+    path.grow(at.prefix());
+    levels.push_reserved((at.branches(), path.mark()));
+    Walk {
+        levels,
+        first: at.value(),
+        longest,
+    }
+}
+
+/// Returns a walk over nothing, and an empty path.
+pub(crate) fn empty_walk<'a, P: Partial, V, C, T: Path<'a, P>>(
+    alloc: Global,
+) -> (Walk<'a, P, V, C>, T)
+    ensures path { IsWalk result.0.longest (vec_capacity result.0.levels) (T.kept result.1)
+        (reverse result.0.levels.items) }
+    ensures room { result.0.longest ≤ T.room result.1 }
+    ensures entries { entries_ahead T.grown (T.kept result.1) (option_copied result.0.first) result.0.levels.items
+        ≡ [] }
+    ensures visits { nodes_below (reverse result.0.levels.items) ≡ 0 }
+    ensures levels { result.0.levels.items ≡ [] }
+    ensures longest { result.0.longest ≡ 0 }
+{
+    let walk = Walk {
+        levels: Vec::new(alloc),
+        first: None,
+        longest: 0,
+    };
+    (walk, T::empty(alloc))
+}
+
+impl<'a, K: KeyTrait, V, C: Count> Seen<'a, K, V, C> {
+    /// Returns a walk over all pairs with its path. It visits the root, and allocates nothing for an empty tree.
+    pub(crate) fn walk<T: Path<'a, K::PartialType>>(
+        self,
+        counter: &mut C,
+    ) -> Result<(Walk<'a, K::PartialType, V, C>, T), AllocError>
+        ensures path { IfOk result (λ w. IsWalk w.0.longest (vec_capacity w.0.levels) (T.kept w.1)
+            (reverse w.0.levels.items)) }
+        ensures room { IfOk result (λ w. w.0.longest ≤ T.room w.1) }
+        ensures entries { IfOk result (λ w. entries_ahead T.grown (T.kept w.1) (option_copied w.0.first)
+            w.0.levels.items
+            ≡ tree_entries T.grown (option_copied self.entry.root)) }
+        ensures memory { OnErr result (seen_pairs self.entry.root ≢ []) }
+        ensures visits { IfOk result (λ w. C.number counter.new + nodes_below (reverse w.0.levels.items)
+            ≡ C.number counter.old + tree_count (option_copied self.entry.root)) }
+        ensures longest { IfOk result (λ w. w.0.longest ≤ self.entry.longest) }
+        ensures root { C.number counter.new ≡ C.number counter.old + count_of (option_copied self.entry.root) }
+        ensures places { IfOk result (λ w. w.0.levels.items ≢ [] → vec_capacity w.0.levels ≡ self.entry.longest + 1) }
+    {
+        let alloc = self.alloc();
+        let longest = self.longest();
+        let Some(root) = self.top() else {
+            return Ok(empty_walk(alloc));
+        };
+        let root = root.enter(counter);
+        let mut path = T::with_room(alloc, longest)?;
+        // no vector has room for `usize::MAX` levels, so that at such a length the request is refused
+        let levels = Vec::with_capacity(alloc, longest.saturating_add(1))?;
+        let walk = start(levels, longest, &mut path, root);
+        Ok((walk, path))
+    }
+}
+
+impl<'a, P: Partial, V, C: Count> Walk<'a, P, V, C> {
+    /// Returns the value of the next pair; the path then is that of its key. It does not allocate, and visits each
+    /// node once.
+    pub(crate) fn advance<T: Path<'a, P>>(&mut self, path: &mut T, counter: &mut C) -> Option<&'a V>
+        requires path { IsWalk self.old.longest (vec_capacity self.old.levels) (T.kept path.old)
+            (reverse self.old.levels.items) }
+        requires room { self.old.longest ≤ T.room path.old }
+        ensures path { IsWalk self.new.longest (vec_capacity self.new.levels) (T.kept path.new)
+            (reverse self.new.levels.items) }
+        ensures room { self.new.longest ≤ T.room path.new }
+        ensures entries { TakesEntry
+            (entries_ahead T.grown (T.kept path.old) (option_copied self.old.first) self.old.levels.items)
+            (T.kept path.new) result
+            (entries_ahead T.grown (T.kept path.new) (option_copied self.new.first) self.new.levels.items) }
+        ensures visits { C.number counter.new + nodes_below (reverse self.new.levels.items)
+            ≡ C.number counter.old + nodes_below (reverse self.old.levels.items) }
+        ensures longest { self.new.longest ≡ self.old.longest }
+        ensures few { Tells T.grown → MatchOption result (C.number counter.new ≡ C.number counter.old)
+            (λ _. C.number counter.new ≤ C.number counter.old + length (T.kept path.new)) }
+        ensures paid { MatchOption result
+            (C.number counter.new + potential (reverse self.old.levels.items) ≤ C.number counter.old)
+            (λ _. IsAmortized (C.number counter.old) (C.number counter.new) (reverse self.old.levels.items)
+            (reverse self.new.levels.items)) }
+    {
+        if let Some(value) = self.first.take() {
+            return Some(value);
+        }
+        while !self.levels.is_empty() {
+            match enter_deepest(&mut self.levels, counter) {
+                None => {
+                    self.levels.take_last();
+                }
+                Some((at, depth)) => {
+                    go_on(&mut self.levels, path, at, depth);
+                    if let Some(value) = at.value() {
+                        return Some(value);
+                    }
+                }
+            }
+        }
+        None
+    }
+}

@@ -1,0 +1,135 @@
+//! The descent to a start, and walks from there.
+ghost use Rattle.std.specs.Prelude.{◌≡◌, ◌≢◌, ◌≤◌, ◌<◌, ◌+◌, ◌++◌, [], ◌∷◌, length, reverse, vec_capacity, vec_len};
+ghost use Rattle.std.specs.Prelude.{IfOk, None, OnErr};
+ghost use Rattle.std.specs.Option.{option_copied};
+ghost use Rattle.rart_keys.specs.SortedMap.{longest_key};
+ghost use Rattle.rart_nodes.specs.ranges.Potential.{AreLow};
+ghost use Rattle.rart_nodes.specs.ranges.Starts.{entries_from};
+ghost use Rattle.rart_nodes.specs.statistics.Statistics.{height, trie_height};
+ghost use Rattle.rart_nodes.specs.tries.Tree.{seen_keys, seen_pairs};
+ghost use Rattle.rart_nodes.specs.tries.Trie.{pairs_of, prefix_of};
+ghost use Rattle.rart_nodes.specs.walks.ProbeCount.{entered_nodes, probe_count};
+ghost use Rattle.rart_nodes.specs.walks.Walk.{IsWalk, Joins, entries_ahead, entries_of, tree_entries};
+
+use crate::count::Count;
+use crate::node::path::Path;
+use crate::node::rest::strip_prefix;
+use crate::node::seen::{Branches, Entered, Seen, Shared};
+use crate::node::walk::{Walk, empty_walk};
+use rart_keys::{KeyTrait, Partial};
+use std::alloc::AllocError;
+use std::cmp::Ordering;
+
+/// Descends past the prefix of a visited node whose remaining children are `rest`.
+fn deepen<'a, P: Partial, V, C, T: Path<'a, P>>(
+    levels: &mut Vec<(Branches<'a, P, V, C>, usize)>,
+    path: &mut T,
+    at: Entered<'a, P, V, C>,
+    rest: Branches<'a, P, V, C>,
+)
+    requires bytes { length (T.kept path.old) + length (prefix_of at.node.now) ≤ T.room path.old }
+    requires place { vec_len levels.old < vec_capacity levels.old }
+    ensures kept { T.kept path.new ≡ T.kept path.old ++ T.grown (prefix_of at.entry.node.now) }
+    ensures levels { levels.new.items ≡ levels.old.items ++ (rest.entry, length (T.kept path.new)) ∷ [] }
+    ensures path_room { T.room path.old ≤ T.room path.new }
+    ensures level_room { vec_capacity levels.new ≡ vec_capacity levels.old }
+{
+    path.grow(at.prefix());
+    levels.push_reserved((rest, path.mark()));
+}
+
+impl<'a, P: Partial, V, C: Count> Walk<'a, P, V, C> {
+    /// Descends from `top` to `start`. The walk then yields the pairs after `start`, and the one at it if `included`.
+    fn descend<T: Path<'a, P>>(
+        &mut self,
+        top: Shared<'a, P, V, C>,
+        start: &[u8],
+        included: bool,
+        path: &mut T,
+        counter: &mut C,
+    )
+        requires joins { Joins T.grown }
+        requires nothing { T.kept path.old ≡ [] }
+        requires empty_walk { self.old.levels.items ≡ [] }
+        requires first { self.old.first ≡ None }
+        requires short { longest_key (pairs_of top.node.now) ≤ self.old.longest }
+        requires room { self.old.longest ≤ T.room path.old }
+        requires places { self.old.longest < vec_capacity self.old.levels }
+        ensures path { IsWalk self.new.longest (vec_capacity self.new.levels) (T.kept path.new)
+            (reverse self.new.levels.items) }
+        ensures room { self.new.longest ≤ T.room path.new }
+        ensures entries { entries_ahead T.grown (T.kept path.new) (option_copied self.new.first) self.new.levels.items
+            ≡ entries_from included start.now (entries_of T.grown top.entry.node.now) }
+        ensures visits { C.number counter.new ≡ C.number counter.old + entered_nodes start.now top.entry.node.now }
+        ensures low { AreLow (trie_height top.entry.node.now) (reverse self.new.levels.items) }
+        ensures longest { self.new.longest ≡ self.old.longest }
+        ensures places { vec_capacity self.new.levels ≡ vec_capacity self.old.levels }
+    {
+        let mut next = Some(top);
+        let mut rest = start;
+        while let Some(node) = next {
+            let at = node.enter(counter);
+            let Some(after) = strip_prefix(at.prefix(), rest) else {
+                // the node's keys all come before the start, or all after it
+                if let Ordering::Greater = at.prefix().to_slice().cmp(rest) {
+                    deepen(&mut self.levels, path, at, at.branches());
+                    self.first = at.value();
+                }
+                return;
+            };
+            let Some(byte) = after.first() else {
+                deepen(&mut self.levels, path, at, at.branches());
+                if included {
+                    self.first = at.value();
+                }
+                return;
+            };
+            deepen(&mut self.levels, path, at, at.branches_above(*byte));
+            next = at.child(*byte);
+            rest = after;
+        }
+    }
+}
+
+impl<'a, K: KeyTrait, V, C: Count> Seen<'a, K, V, C> {
+    /// Returns a walk from `start` on with its path; the pair at the start is yielded if `included`. It allocates
+    /// before it visits a node, and nothing for an empty tree.
+    pub(crate) fn walk_from<T: Path<'a, K::PartialType>>(
+        self,
+        start: &[u8],
+        included: bool,
+        counter: &mut C,
+    ) -> Result<(Walk<'a, K::PartialType, V, C>, T), AllocError>
+        requires joins { Joins T.grown }
+        ensures path { IfOk result (λ w. IsWalk w.0.longest (vec_capacity w.0.levels) (T.kept w.1)
+            (reverse w.0.levels.items)) }
+        ensures room { IfOk result (λ w. w.0.longest ≤ T.room w.1) }
+        ensures longest { IfOk result (λ w. w.0.longest ≤ self.entry.longest) }
+        ensures entries { IfOk result (λ w. entries_ahead T.grown (T.kept w.1) (option_copied w.0.first)
+            w.0.levels.items
+            ≡ entries_from included start.now (tree_entries T.grown (option_copied self.entry.root))) }
+        ensures low { IfOk result (λ w. AreLow (height (seen_keys self.entry.root)) (reverse w.0.levels.items)) }
+        ensures memory { OnErr result (seen_pairs self.entry.root ≢ []) }
+        ensures unread { OnErr result (counter.new ≡ counter.old) }
+        ensures visits { IfOk result (λ _. C.number counter.new
+            ≡ C.number counter.old + probe_count (seen_keys self.entry.root) start.now) }
+        ensures bound { C.number counter.new ≤ C.number counter.old + length start.now + 1 }
+        ensures places { IfOk result (λ w. w.0.levels.items ≢ [] → vec_capacity w.0.levels ≡ self.entry.longest + 1) }
+    {
+        let alloc = self.alloc();
+        let longest = self.longest();
+        let Some(top) = self.top() else {
+            return Ok(empty_walk(alloc));
+        };
+        let mut path = T::with_room(alloc, longest)?;
+        // no vector has room for `usize::MAX` levels, so that at such a length the request is refused
+        let levels = Vec::with_capacity(alloc, longest.saturating_add(1))?;
+        let mut walk: Walk<'a, K::PartialType, V, C> = Walk {
+            levels,
+            first: None,
+            longest,
+        };
+        walk.descend(top, start, included, &mut path, counter);
+        Ok((walk, path))
+    }
+}

@@ -1,0 +1,149 @@
+//! Walks over the values below a prefix that a callback can end.
+ghost use Rattle.std.specs.Prelude.{◌≡◌, ◌≤◌, ◌+◌, ◌^◌, [], reverse, vec_capacity, IfErr};
+ghost use Rattle.rart_nodes.specs.tries.Tree.{seen_pairs};
+ghost use Rattle.rart_nodes.specs.walks.BelowPrefix.{below_bound, below_visits, values_below};
+ghost use Rattle.rart_nodes.specs.walks.Walk.{IsWalk, nodes_below};
+ghost use Rattle.rart_nodes.specs.walks.PathParts.{values_ahead};
+ghost use Rattle.rart_nodes.specs.walks.Tried.{CanTry, EndedVisit, EndsAs, EndsVisit, IfRoom, MayStopAtRoom};
+
+use crate::count::{Count, Visits};
+use crate::node::control::{VisitControl, VisitError};
+use crate::node::path::NoPath;
+use crate::node::seen::Seen;
+use crate::node::walk::Walk;
+use rart_keys::{KeyTrait, Partial};
+
+fn try_for_each<'a, P: Partial, V, C: Count, E, F: FnMut(&V) -> Result<VisitControl, E>>(
+    walk: &mut Walk<'a, P, V, C>,
+    counter: &mut C,
+    f: &mut F,
+) -> Result<(), E>
+    requires callable { CanTry F.FnMut f.old (values_ahead walk.old.first walk.old.levels.items) }
+    requires path { IsWalk walk.old.longest (vec_capacity walk.old.levels) []
+        (reverse walk.old.levels.items) }
+    requires room { walk.old.longest ≤ 2 ^ 64 }
+    ensures callable { F.IsAlwaysCallable f.old → F.IsAlwaysCallable f.new }
+    ensures calls { EndsAs F.FnMut f.old (values_ahead walk.old.first walk.old.levels.items)
+        result f.new }
+    ensures visits { C.number counter.new
+        ≤ C.number counter.old + nodes_below (reverse walk.old.levels.items) }
+{
+    while let Some(value) = walk.advance(&mut NoPath, counter) {
+        match f(value) {
+            Ok(VisitControl::Continue) => {}
+            Ok(VisitControl::Stop) => return Ok(()),
+            Err(error) => return Err(error),
+        }
+    }
+    Ok(())
+}
+
+impl<'a, K: KeyTrait, V, C: Count> Seen<'a, K, V, C> {
+    /// Calls `f` with the value of each pair whose key begins with `prefix`, in order. `Stop` ends the walk with
+    /// `Ok(())`; an `Err(e)` of the callback ends it with [`VisitError::Callback`]. `f` must be callable with each
+    /// value in turn for as long as it returns `Continue`. The caller keeps `f`.
+    ///
+    /// # Errors
+    ///
+    /// [`VisitError::Memory`] if the tree isn't empty and the allocation for the walk fails. `f` is then not called.
+    ///
+    /// # Visits
+    ///
+    /// At most `prefix.len() + 1 + 2 * m` nodes where `m` keys begin with `prefix`, none in an empty tree.
+    pub fn try_prefix_values_for_each_by_ref_k_counted<E, F: FnMut(&V) -> Result<VisitControl, E>>(
+        self,
+        prefix: &K,
+        f: &mut F,
+        counter: &mut C,
+    ) -> Result<(), VisitError<E>>
+        requires callable { CanTry F.FnMut f.old
+            (values_below (K.bytes prefix.now) (seen_pairs self.root)) }
+        ensures callable { F.IsAlwaysCallable f.old → F.IsAlwaysCallable f.new }
+        ensures calls { EndsVisit F.FnMut f.old
+            (values_below (K.bytes prefix.now) (seen_pairs self.entry.root)) result f.new }
+        ensures memory { IfErr result (MayStopAtRoom (seen_pairs self.entry.root)) }
+        ensures visits { IfRoom result (C.number counter.new
+            ≤ C.number counter.old + below_visits (K.bytes prefix.now) (seen_pairs self.entry.root)) }
+        ensures bound { C.number counter.new
+            ≤ C.number counter.old + below_bound (K.bytes prefix.now) (seen_pairs self.entry.root) }
+    {
+        let Ok((mut walk, _path)) = self.walk_below::<NoPath>(prefix.as_ref(), counter) else {
+            return Err(VisitError::Memory);
+        };
+        match try_for_each(&mut walk, counter, f) {
+            Ok(()) => Ok(()),
+            Err(error) => Err(VisitError::Callback(error)),
+        }
+    }
+
+    /// Calls `f` as `try_prefix_values_for_each_by_ref_k_counted` does, and drops it.
+    ///
+    /// # Errors
+    ///
+    /// [`VisitError`] as there.
+    ///
+    /// # Visits
+    ///
+    /// As there.
+    pub fn try_prefix_values_for_each_k_counted<E, F: FnMut(&V) -> Result<VisitControl, E> + Drop>(
+        self,
+        prefix: &K,
+        mut f: F,
+        counter: &mut C,
+    ) -> Result<(), VisitError<E>>
+        requires callable { CanTry F.FnMut f
+            (values_below (K.bytes prefix.now) (seen_pairs self.root)) }
+        ensures calls { EndedVisit F.FnMut f
+            (values_below (K.bytes prefix.now) (seen_pairs self.entry.root)) result }
+        ensures memory { IfErr result (MayStopAtRoom (seen_pairs self.entry.root)) }
+        ensures visits { IfRoom result (C.number counter.new
+            ≤ C.number counter.old + below_visits (K.bytes prefix.now) (seen_pairs self.entry.root)) }
+        ensures bound { C.number counter.new
+            ≤ C.number counter.old + below_bound (K.bytes prefix.now) (seen_pairs self.entry.root) }
+    {
+        self.try_prefix_values_for_each_by_ref_k_counted(prefix, &mut f, counter)
+    }
+}
+
+impl<'a, K: KeyTrait, V> Seen<'a, K, V, Visits> {
+    /// Calls `f` with the value of each pair whose key begins with `prefix`, in order. `Stop` ends the walk with
+    /// `Ok(())`; an `Err(e)` of the callback ends it with [`VisitError::Callback`]. `f` must be callable with each
+    /// value in turn for as long as it returns `Continue`. The caller keeps `f`.
+    ///
+    /// # Errors
+    ///
+    /// [`VisitError::Memory`] if the tree isn't empty and the allocation for the walk fails. `f` is then not called.
+    pub fn try_prefix_values_for_each_by_ref_k<E, F: FnMut(&V) -> Result<VisitControl, E>>(
+        self,
+        prefix: &K,
+        f: &mut F,
+    ) -> Result<(), VisitError<E>>
+        requires callable { CanTry F.FnMut f.old
+            (values_below (K.bytes prefix.now) (seen_pairs self.root)) }
+        ensures callable { F.IsAlwaysCallable f.old → F.IsAlwaysCallable f.new }
+        ensures calls { EndsVisit F.FnMut f.old
+            (values_below (K.bytes prefix.now) (seen_pairs self.entry.root)) result f.new }
+        ensures memory { IfErr result (MayStopAtRoom (seen_pairs self.entry.root)) }
+    {
+        self.try_prefix_values_for_each_by_ref_k_counted(prefix, f, &mut Visits::new())
+    }
+
+    /// Calls `f` as `try_prefix_values_for_each_by_ref_k` does, and drops it.
+    ///
+    /// # Errors
+    ///
+    /// [`VisitError`] as there.
+    pub fn try_prefix_values_for_each_k<E, F: FnMut(&V) -> Result<VisitControl, E> + Drop>(
+        self,
+        prefix: &K,
+        f: F,
+    ) -> Result<(), VisitError<E>>
+        requires callable { CanTry F.FnMut f
+            (values_below (K.bytes prefix.now) (seen_pairs self.root)) }
+        ensures calls { EndedVisit F.FnMut f
+            (values_below (K.bytes prefix.now) (seen_pairs self.entry.root)) result }
+        ensures memory { IfErr result (MayStopAtRoom (seen_pairs self.entry.root)) }
+    {
+        self.try_prefix_values_for_each_k_counted(prefix, f, &mut Visits::new())
+    }
+}

@@ -1,0 +1,150 @@
+//! Edits of a tree: each returns the sum of its answer, or none if memory was refused.
+ghost use Rattle.std.specs.Prelude.{◌≡◌};
+ghost use Rattle.rart.specs.Updates.{written_slot};
+
+use crate::call::Call;
+use crate::numbers::{mix, sum_if, sum_of};
+use crate::sides::Tree;
+use rart::{
+    KeyTrait, NotInserted, Refused, Slot, SlotUpdate, TreeError, TryInsertError, TryUpdateError,
+    UpdateError,
+};
+
+/// The sum of an answer that is never right.
+pub const WRONG: u64 = 0;
+
+// What a refusal is worth: none if it is documented, and the value came back.
+fn refused(refusal: Refused<u64>, value: u64) -> Option<u64> {
+    if refusal.error == TreeError::Memory && refusal.value == value {
+        None
+    } else {
+        Some(WRONG)
+    }
+}
+
+fn insert<K: KeyTrait>(tree: &mut Tree<K>, key: &K, value: u64) -> Option<u64> {
+    match tree.insert_k(key, value) {
+        Ok(old) => Some(sum_of(old)),
+        Err(refusal) => refused(refusal, value),
+    }
+}
+
+fn try_insert<K: KeyTrait>(tree: &mut Tree<K>, key: &K, value: u64) -> Option<u64> {
+    match tree.try_insert_k(key, value) {
+        Ok(()) => Some(sum_of(None)),
+        Err(TryInsertError::Occupied(back, stored)) if back == value => Some(sum_of(Some(*stored))),
+        Err(TryInsertError::Occupied(_, _)) => Some(WRONG),
+        Err(TryInsertError::Refused(refusal)) => refused(refusal, value),
+    }
+}
+
+fn insert_new<K: KeyTrait>(tree: &mut Tree<K>, key: &K, value: u64) -> Option<u64> {
+    match tree.insert_new_k(key, value) {
+        Ok(()) => Some(sum_if(true)),
+        Err(NotInserted::Stored(back)) if back == value => Some(sum_if(false)),
+        Err(NotInserted::Stored(_)) => Some(WRONG),
+        Err(NotInserted::Refused(refusal)) => refused(refusal, value),
+    }
+}
+
+fn remove<K: KeyTrait>(tree: &mut Tree<K>, key: &K) -> Option<u64> {
+    match tree.remove_k(key) {
+        Ok(old) => Some(sum_of(old)),
+        Err(_refused) => None,
+    }
+}
+
+fn delete<K: KeyTrait>(tree: &mut Tree<K>, key: &K) -> Option<u64> {
+    match tree.delete_k(key) {
+        Ok(found) => Some(sum_if(found)),
+        Err(_refused) => None,
+    }
+}
+
+fn overwrite<K: KeyTrait>(tree: &mut Tree<K>, key: &K, value: u64) -> Option<u64> {
+    match tree.get_mut_k(key) {
+        Some(place) => {
+            let old = *place;
+            *place = value;
+            Some(sum_of(Some(old)))
+        }
+        None => Some(sum_of(None)),
+    }
+}
+
+// The answer of a callback, and whether it writes first. A removal writes nothing, since a refused one keeps it.
+fn update_of(call: &Call) -> SlotUpdate<u64> {
+    match call.choice % 4 {
+        0 => SlotUpdate::Keep,
+        1 => SlotUpdate::Insert(call.value),
+        _ => SlotUpdate::Remove,
+    }
+}
+
+/// Whether the callback writes `value + 1` at an occupied slot before it answers.
+pub fn writes(call: &Call) -> bool {
+    call.choice % 4 == 0 && call.choice % 8 < 4
+}
+
+fn write(slot: &mut Slot<u64>, written: Option<u64>)
+    ensures { slot.new ≡ written_slot written slot.old }
+{
+    if let Slot::Occupied(value) = slot {
+        if let Some(written) = written {
+            *value = written;
+        }
+    }
+}
+
+fn update<K: KeyTrait>(tree: &mut Tree<K>, key: &K, call: &Call) -> Option<u64> {
+    let answer = update_of(call);
+    let value = call.value;
+    let written = writes(call).then_some(value.wrapping_add(1));
+    match tree.update_k(key, move |slot| {
+        write(slot, written);
+        answer
+    }) {
+        Ok(touched) => Some(sum_if(touched)),
+        Err(UpdateError::Insert(refusal)) => refused(refusal, value),
+        Err(UpdateError::Remove) => None,
+    }
+}
+
+// What a callback that may fail answers.
+fn try_update_of(call: &Call) -> Result<SlotUpdate<u64>, u64> {
+    if call.choice % 16 < 4 {
+        Err(call.value)
+    } else {
+        Ok(update_of(call))
+    }
+}
+
+fn try_update<K: KeyTrait>(tree: &mut Tree<K>, key: &K, call: &Call) -> Option<u64> {
+    let answer = try_update_of(call);
+    let value = call.value;
+    let written = Some(value.wrapping_add(1));
+    match tree.try_update_k(key, move |slot| {
+        write(slot, written);
+        answer
+    }) {
+        Ok(touched) => Some(sum_if(touched)),
+        Err(TryUpdateError::Callback(error)) => Some(mix(11, error)),
+        Err(TryUpdateError::Insert(refusal)) => refused(refusal, value),
+        Err(TryUpdateError::Remove) => None,
+        Err(TryUpdateError::Clone) => Some(WRONG),
+    }
+}
+
+/// Makes the edit that the call names.
+pub fn edit<K: KeyTrait + Drop>(tree: &mut Tree<K>, key: &K, call: &Call) -> Option<u64> {
+    match call.kind {
+        0 | 1 => insert(tree, key, call.value),
+        2 => try_insert(tree, key, call.value),
+        3 => insert_new(tree, key, call.value),
+        4 => remove(tree, key),
+        5 => delete(tree, key),
+        6 => overwrite(tree, key, call.value),
+        7 => update(tree, key, call),
+        _ => try_update(tree, key, call),
+    }
+}

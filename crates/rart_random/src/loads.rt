@@ -1,0 +1,98 @@
+//! Bulk loads of lists that a model gives, in order or out of it.
+use crate::call::Call;
+use crate::edits::WRONG;
+use crate::model::{Model, Pair};
+use crate::numbers::mix;
+use crate::shape::{shape_in, shape_of};
+use crate::sides::{Tree, key_of, mix_key};
+use rart::{BulkError, KeyTrait};
+use std::alloc::{AllocError, Global};
+use std::cmp::Ordering;
+
+/// The most pairs of a list.
+const MOST: u64 = 300;
+
+/// The list of the call: pairs of the model from some place on, some of them twice, or two of them exchanged.
+pub fn list_of(alloc: Global, model: &Model, call: &Call) -> Result<Vec<Pair>, AllocError> {
+    let mut list = Vec::new(alloc);
+    let from = (call.choice >> 16)
+        .checked_rem(model.len() as u64)
+        .unwrap_or(0) as usize;
+    let count = (call.choice >> 32) % MOST;
+    let odd = (call.value % MOST) as usize;
+    for place in from..from.saturating_add(count as usize) {
+        let other = if call.kind == 33 && place.wrapping_sub(from) == odd {
+            place.saturating_add(2)
+        } else {
+            place
+        };
+        if let Some(pair) = model.at(other) {
+            list.push(pair)?;
+            if (call.value >> 16) % 3 == 0 {
+                list.push((pair.0, pair.1.wrapping_add(1)))?;
+            }
+        }
+    }
+    Ok(list)
+}
+
+fn items<K: KeyTrait + Drop>(alloc: Global, list: &[Pair]) -> Result<Vec<(K, u64)>, AllocError> {
+    let mut items = Vec::new(alloc);
+    for pair in list {
+        if let Some(key) = key_of::<K>(&pair.0) {
+            items.push((key, pair.1))?;
+        }
+    }
+    Ok(items)
+}
+
+/// The sum of all pairs of a tree.
+pub fn sum_in<K: KeyTrait + Drop>(tree: &Tree<K>) -> Option<u64> {
+    let mut sum = 1_u64;
+    let mut pairs = tree.iter().ok()?;
+    while let Some((key, value)) = pairs.next() {
+        sum = mix(mix_key(sum, &key), *value);
+    }
+    Some(sum)
+}
+
+/// The sum of the tree of the list, or of its fault.
+pub fn load<K: KeyTrait + Drop>(alloc: Global, list: &[Pair]) -> Option<u64> {
+    let items = items::<K>(alloc, list).ok()?;
+    match Tree::<K>::bulk_load_sorted(alloc, items) {
+        Ok(tree) => Some(mix(sum_in(&tree)?, shape_in(&tree)?)),
+        Err(BulkError::Unsorted { at }) => Some(mix(13, at as u64)),
+        Err(BulkError::Memory) => None,
+        Err(BulkError::Full) => Some(WRONG),
+    }
+}
+
+fn fault(list: &[Pair]) -> Option<u64> {
+    let mut at = 0_u64;
+    let mut last: Option<&Pair> = None;
+    for pair in list {
+        if let Some(before) = last {
+            if pair.0.order(&before.0) == Ordering::Less {
+                return Some(at);
+            }
+        }
+        last = Some(pair);
+        at = at.wrapping_add(1);
+    }
+    None
+}
+
+/// What the load must answer.
+pub fn wanted_load(alloc: Global, list: &[Pair]) -> u64 {
+    if let Some(at) = fault(list) {
+        return mix(13, at);
+    }
+    let mut model = Model::new(alloc);
+    for pair in list {
+        model.put(&pair.0, pair.1);
+    }
+    match shape_of(alloc, &model) {
+        Ok(shape) => mix(model.sum(0, model.len(), true), shape),
+        Err(_refused) => 1,
+    }
+}

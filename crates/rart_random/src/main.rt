@@ -1,0 +1,123 @@
+//! Plays calls that look random on two trees and a route table, beside models of them.
+//!
+//! Each line of standard input is a case: `KEYS SEED CALLS REFUSED`. The same case makes the same calls. A case that
+//! goes wrong is printed with its call, and with the shortest list of calls that still goes wrong; the status is then
+//! 1. The size of the largest tree of a case that goes well goes to standard error, so that kept cases change no
+//! output. It is no part of the product.
+#![tactic(auto)]
+
+mod call;
+mod cases;
+mod edits;
+mod loads;
+mod model;
+mod model_edits;
+mod model_reads;
+mod model_views;
+mod numbers;
+mod play;
+mod reads;
+mod routes;
+mod shape;
+mod sides;
+mod text;
+mod views;
+mod world;
+
+use crate::call::call_at;
+use crate::cases::Line;
+use crate::play::{Case, Played, numbers_to, play, shortened};
+use rart::keys::tail_key::TailKey;
+use rart::{ArrayKey, KeyTrait};
+use std::alloc::Global;
+use std::io;
+use std::io::Read;
+use std::process::ExitCode;
+
+fn say_list<K: KeyTrait + Drop>(
+    rt: &(impl Print + Eprint),
+    alloc: Global,
+    case: &Case,
+    at: usize,
+) -> io::Result<()> {
+    let Ok(list) = shortened::<K>(alloc, case, at) else {
+        return println!(rt; "  no memory to shorten the list");
+    };
+    let most = K::MAXIMUM_SIZE.unwrap_or(32).min(32) as u64;
+    for number in list {
+        let call = call_at(case.seed, number, most);
+        let (kind, tree) = (call.kind, call.on_second);
+        println!(rt; "  call {number}: kind {kind}, second {tree}")?;
+    }
+    Ok(())
+}
+
+fn run<K: KeyTrait + Drop>(
+    rt: &(impl Print + Eprint),
+    alloc: Global,
+    case: &Case,
+) -> io::Result<bool> {
+    let (keys, seed, calls, refused) = (case.keys, case.seed, case.calls, case.refused);
+    let Ok(list) = numbers_to(alloc, calls) else {
+        println!(rt; "{keys} {seed} {calls} {refused}: no memory")?;
+        return Ok(false);
+    };
+    let Played { wrong, largest } = play::<K>(alloc, case, list.as_slice());
+    match wrong {
+        None => {
+            eprintln!(rt; "{keys} {seed} {calls} {refused}: right, largest tree {largest}")?;
+            Ok(true)
+        }
+        Some(at) => {
+            println!(rt;
+                "{keys} {seed} {calls} {refused}: WRONG at call {at}; it still goes wrong with"
+            )?;
+            say_list::<K>(rt, alloc, case, at)?;
+            Ok(false)
+        }
+    }
+}
+
+fn run_case(rt: &(impl Print + Eprint), alloc: Global, case: &Case) -> io::Result<bool> {
+    match case.keys {
+        32 => run::<ArrayKey<32>>(rt, alloc, case),
+        8 => run::<ArrayKey<8>>(rt, alloc, case),
+        _ => run::<TailKey<16>>(rt, alloc, case),
+    }
+}
+
+fn run_lines(rt: &(impl Print + Eprint), alloc: Global, text: &[u8]) -> io::Result<bool> {
+    let mut are_right = true;
+    let mut line = Line::new();
+    for byte in text {
+        if *byte == b'\n' {
+            let is_right = run_case(rt, alloc, &line.case())?;
+            are_right = are_right && is_right;
+            line = Line::new();
+        } else {
+            line.read(*byte);
+        }
+    }
+    Ok(are_right)
+}
+
+// The status once the last line was written.
+fn said(written: io::Result<()>) -> ExitCode {
+    match written {
+        Ok(()) => ExitCode::from(0),
+        Err(_) => ExitCode::from(3),
+    }
+}
+
+fn main(rt: HostRuntime) -> ExitCode {
+    let alloc = rt.alloc();
+    let mut text = Vec::new(alloc);
+    if rt.stdin().read_to_end(&mut text).is_err() {
+        return ExitCode::from(2);
+    }
+    match run_lines(&rt, alloc, text.as_slice()) {
+        Ok(true) => said(println!(rt; "every case went well")),
+        Ok(false) => ExitCode::from(1),
+        Err(_) => ExitCode::from(3),
+    }
+}

@@ -1,0 +1,65 @@
+//! What an edit must answer, by the model, and what the model is after it.
+use crate::call::Call;
+use crate::edits::writes;
+use crate::model::Model;
+use crate::numbers::{mix, sum_if, sum_of};
+use crate::text::Text;
+
+fn insert_new(model: &mut Model, key: &Text, value: u64) -> Option<u64> {
+    let old = model.get(key);
+    if old.is_none() {
+        model.put(key, value);
+    }
+    old
+}
+
+fn overwrite(model: &mut Model, key: &Text, value: u64) -> u64 {
+    let old = model.get(key);
+    if old.is_some() {
+        model.put(key, value);
+    }
+    sum_of(old)
+}
+
+// The rest of an update whose callback answered: whether the key was or is stored.
+fn settle(model: &mut Model, key: &Text, call: &Call, is_written: bool) -> bool {
+    let old = model.get(key);
+    match call.choice % 4 {
+        0 => {
+            if old.is_some() && is_written {
+                model.put(key, call.value.wrapping_add(1));
+            }
+            old.is_some()
+        }
+        1 => {
+            model.put(key, call.value);
+            true
+        }
+        _ => model.remove(key).is_some(),
+    }
+}
+
+fn update(model: &mut Model, key: &Text, call: &Call) -> u64 {
+    sum_if(settle(model, key, call, writes(call)))
+}
+
+fn try_update(model: &mut Model, key: &Text, call: &Call) -> u64 {
+    if call.choice % 16 < 4 {
+        return mix(11, call.value);
+    }
+    sum_if(settle(model, key, call, true))
+}
+
+/// Makes the edit that the call names.
+pub fn edit(model: &mut Model, key: &Text, call: &Call) -> u64 {
+    match call.kind {
+        0 | 1 => sum_of(model.put(key, call.value)),
+        2 => sum_of(insert_new(model, key, call.value)),
+        3 => sum_if(insert_new(model, key, call.value).is_none()),
+        4 => sum_of(model.remove(key)),
+        5 => sum_if(model.remove(key).is_some()),
+        6 => overwrite(model, key, call.value),
+        7 => update(model, key, call),
+        _ => try_update(model, key, call),
+    }
+}

@@ -1,0 +1,123 @@
+//! What a read must answer, by the model.
+use crate::call::Call;
+use crate::model::{Mark, Model};
+use crate::numbers::{mix, mix_pair, sum_if, sum_of};
+use crate::text::Text;
+
+// The pair with the longest key that begins the probe.
+fn longest(model: &Model, probe: &Text) -> Option<(Text, u64)> {
+    let mut found = None;
+    for len in 0..=probe.len() {
+        let key = probe.cut(len);
+        if let Some(value) = model.get(&key) {
+            found = Some((key, value));
+        }
+    }
+    found
+}
+
+/// The sum of the longest pair.
+pub fn longest_pair(model: &Model, probe: &Text) -> u64 {
+    match longest(model, probe) {
+        Some((key, value)) => mix_pair(1, key.as_slice(), value),
+        None => 5,
+    }
+}
+
+/// The longest key that begins the probe.
+pub fn longest_key(model: &Model, probe: &Text) -> Option<Text> {
+    longest(model, probe).map(|pair| pair.0)
+}
+
+/// The sum of the value at the longest key that begins the probe.
+pub fn longest_value(model: &Model, probe: &Text) -> u64 {
+    sum_of(longest(model, probe).map(|pair| pair.1))
+}
+
+/// The sum of the first pairs whose keys begin the probe.
+pub fn matches(model: &Model, probe: &Text, most: u64) -> u64 {
+    let mut sum = 1_u64;
+    let mut left = most;
+    for len in 0..=probe.len() {
+        let key = probe.cut(len);
+        if let Some(value) = model.get(&key) {
+            if left == 0 {
+                return sum;
+            }
+            left = left.wrapping_sub(1);
+            sum = mix_pair(sum, key.as_slice(), value);
+        }
+    }
+    sum
+}
+
+/// The call about one key or probe.
+pub fn look(model: &Model, key: &Text, probe: &Text, call: &Call) -> u64 {
+    match call.kind {
+        9 => {
+            let found = sum_of(model.get(key));
+            mix(found, found)
+        }
+        10 => sum_of(model.get(probe)),
+        11 => longest_pair(model, key),
+        12 => longest_value(model, probe),
+        13 => matches(model, key, call.choice % 8),
+        14 => matches(model, key, 100),
+        _ => mix(model.len() as u64, sum_if(model.len() == 0)),
+    }
+}
+
+/// The first place of a range.
+pub fn start_of(model: &Model, start: &Text, way: u64) -> usize {
+    match way {
+        0 => 0,
+        1 => model.search(start, Mark::Before),
+        _ => model.search(start, Mark::After),
+    }
+}
+
+/// The place after a range.
+pub fn end_of(model: &Model, end: &Text, way: u64) -> usize {
+    match way {
+        0 => model.len(),
+        1 => model.search(end, Mark::After),
+        _ => model.search(end, Mark::Before),
+    }
+}
+
+// At most so many places of a range.
+fn some_of(span: (usize, usize), most: u64) -> (usize, usize) {
+    (span.0, span.1.min(span.0.saturating_add(most as usize)))
+}
+
+fn try_values(model: &Model, span: (usize, usize), most: u64, fails: bool) -> u64 {
+    let some = some_of(span, most);
+    let sum = model.sum(some.0, some.1, false);
+    if fails && some.1 < span.1 {
+        mix(sum, 17)
+    } else {
+        sum
+    }
+}
+
+/// The call about many pairs.
+pub fn walk(model: &Model, key: &Text, end: &Text, call: &Call) -> u64 {
+    let most = (call.choice >> 8) % 40;
+    let ways = call.choice % 9;
+    let below = model.below(key);
+    let (span, with_keys) = match call.kind {
+        16 => (some_of((0, model.len()), most), true),
+        17 => (some_of((0, model.len()), most), false),
+        18 => (some_of(below, most), true),
+        20 => return try_values(model, below, most, call.choice % 2 == 0),
+        19 | 21 => (below, false),
+        _ => (
+            some_of(
+                (start_of(model, key, ways / 3), end_of(model, end, ways % 3)),
+                most,
+            ),
+            true,
+        ),
+    };
+    model.sum(span.0, span.1, with_keys)
+}

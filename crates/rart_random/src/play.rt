@@ -1,0 +1,140 @@
+//! Lists of calls: played to the first that goes wrong, and shortened.
+use crate::call::call_at;
+use crate::numbers::mix;
+use crate::world::World;
+use rart::KeyTrait;
+use std::alloc::{AllocError, Global};
+
+/// What is played.
+#[derive(Clone, Copy)]
+pub struct Case {
+    /// Which key type: 32 and 8 for arrays, 16 for tails.
+    pub keys: u64,
+    /// The seed.
+    pub seed: u64,
+    /// How many calls.
+    pub calls: u64,
+    /// One of so many calls has a request for memory refused; 0: none.
+    pub refused: u64,
+}
+
+/// What came of it: the place in the list of the first call that went wrong, and the size of the largest tree.
+#[derive(Clone, Copy)]
+pub struct Played {
+    /// The place, none if all went well.
+    pub wrong: Option<usize>,
+    /// The most pairs of a tree.
+    pub largest: usize,
+}
+
+// Which request is refused in a call, 0 for none.
+fn refused_at(case: &Case, number: u64) -> usize {
+    let chance = mix(case.seed, number);
+    if case.refused > 0 && chance.checked_rem(case.refused) == Some(0) {
+        ((chance >> 32) % 4).wrapping_add(1) as usize
+    } else {
+        0
+    }
+}
+
+// Whether everything is compared after the call at this place.
+fn is_compared(place: usize, count: usize, size: usize) -> bool {
+    let step = if size < 1000 { 100 } else { 1000 };
+    count < 300 || place.wrapping_add(1) == count || place % step == 0
+}
+
+/// Plays the calls of these numbers.
+pub fn play<K: KeyTrait + Drop>(alloc: Global, case: &Case, list: &[u64]) -> Played {
+    let mut world = World::<K>::new(alloc);
+    let most = K::MAXIMUM_SIZE.unwrap_or(32).min(32);
+    let mut largest = 0_usize;
+    let mut place = 0_usize;
+    for number in list {
+        let call = call_at(case.seed, *number, most as u64);
+        let is_well = world.is_played(&call, most, refused_at(case, *number));
+        largest = largest.max(world.size());
+        if !is_well || (is_compared(place, list.len(), world.size()) && !world.is_right()) {
+            return Played {
+                wrong: Some(place),
+                largest,
+            };
+        }
+        place = place.wrapping_add(1);
+    }
+    Played {
+        wrong: None,
+        largest,
+    }
+}
+
+/// The numbers below `calls`.
+pub fn numbers_to(alloc: Global, calls: u64) -> Result<Vec<u64>, AllocError> {
+    let mut list = Vec::new(alloc);
+    for number in 0..calls {
+        list.push(number)?;
+    }
+    Ok(list)
+}
+
+// The list up to a place, without those from `from` on, `count` of them.
+fn without(
+    alloc: Global,
+    list: &[u64],
+    from: usize,
+    count: usize,
+    last: usize,
+) -> Result<Vec<u64>, AllocError> {
+    let mut rest = Vec::new(alloc);
+    let mut place = 0_usize;
+    for number in list {
+        if place <= last && (place < from || place.wrapping_sub(from) >= count) {
+            rest.push(*number)?;
+        }
+        place = place.wrapping_add(1);
+    }
+    Ok(rest)
+}
+
+// The most calls that are made to shorten a list.
+const BUDGET: usize = 20_000_000;
+
+// Leaves out each stretch of `count` calls without which the list still goes wrong.
+fn thinned<K: KeyTrait + Drop>(
+    alloc: Global,
+    case: &Case,
+    list: Vec<u64>,
+    count: usize,
+    spent: &mut usize,
+) -> Result<Vec<u64>, AllocError> {
+    let mut list = list;
+    let mut from = 0_usize;
+    for _ in 0..list.len() {
+        if from >= list.len() || *spent > BUDGET {
+            return Ok(list);
+        }
+        let tried = without(alloc, list.as_slice(), from, count, list.len())?;
+        *spent = spent.saturating_add(tried.len());
+        match play::<K>(alloc, case, tried.as_slice()).wrong {
+            Some(at) => list = without(alloc, tried.as_slice(), 0, 0, at)?,
+            None => from = from.saturating_add(count),
+        }
+    }
+    Ok(list)
+}
+
+/// A list that still goes wrong, with whatever can be left out left out: halves first, single calls last.
+pub fn shortened<K: KeyTrait + Drop>(
+    alloc: Global,
+    case: &Case,
+    at: usize,
+) -> Result<Vec<u64>, AllocError> {
+    let mut list = numbers_to(alloc, (at as u64).saturating_add(1))?;
+    let mut spent = 0_usize;
+    let mut count = list.len() / 2;
+    for _ in 0..40_u8 {
+        count = count.max(1);
+        list = thinned::<K>(alloc, case, list, count, &mut spent)?;
+        count = (count / 2).min(list.len());
+    }
+    Ok(list)
+}

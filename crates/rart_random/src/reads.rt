@@ -1,0 +1,149 @@
+//! Reads of a tree: each returns the sum of its answer, or none if memory was refused.
+use crate::call::Call;
+use crate::numbers::{mix, mix_pair, sum_if, sum_of};
+use crate::sides::{Tree, bound_of, mix_key, same_key};
+use crate::text::Text;
+use rart::{KeyTrait, VisitControl, VisitError};
+
+fn get<K: KeyTrait + Drop>(tree: &Tree<K>, key: &K) -> u64 {
+    let found = sum_of(tree.get_k(key).copied());
+    mix(found, sum_of(tree.get(same_key(key)).copied()))
+}
+
+fn longest<K: KeyTrait + Drop>(tree: &Tree<K>, probe: &K) -> u64 {
+    match tree.longest_prefix_match_k(probe) {
+        Some((key, value)) => mix(mix_key(1, &key), *value),
+        None => 5,
+    }
+}
+
+fn matches<K: KeyTrait + Drop>(tree: &Tree<K>, probe: &K, most: u64) -> u64 {
+    let mut sum = 1_u64;
+    let mut found = tree.prefix_match_iter_k(probe);
+    for _ in 0..most {
+        match found.next() {
+            Some((key, value)) => sum = mix(mix_key(sum, &key), *value),
+            None => return sum,
+        }
+    }
+    sum
+}
+
+fn match_for_each<K: KeyTrait>(tree: &Tree<K>, probe: &K) -> u64 {
+    let mut sum = 1_u64;
+    tree.prefix_match_for_each_k(probe, |key, value| sum = mix_pair(sum, key, *value));
+    sum
+}
+
+/// The call about one key or probe.
+pub fn look<K: KeyTrait + Drop>(tree: &Tree<K>, key: &K, probe: &Text, call: &Call) -> u64 {
+    match call.kind {
+        9 => get(tree, key),
+        10 => sum_of(tree.get_bytes(probe.as_slice()).copied()),
+        11 => longest(tree, key),
+        12 => sum_of(tree.longest_prefix_value_bytes(probe.as_slice()).copied()),
+        13 => matches(tree, key, call.choice % 8),
+        14 => match_for_each(tree, key),
+        _ => mix(tree.len() as u64, sum_if(tree.is_empty())),
+    }
+}
+
+fn iter<K: KeyTrait + Drop>(tree: &Tree<K>, most: u64) -> Option<u64> {
+    let mut sum = 1_u64;
+    let mut pairs = tree.iter().ok()?;
+    for _ in 0..most {
+        match pairs.next() {
+            Some((key, value)) => sum = mix(mix_key(sum, &key), *value),
+            None => return Some(sum),
+        }
+    }
+    Some(sum)
+}
+
+fn values<K: KeyTrait>(tree: &Tree<K>, most: u64) -> Option<u64> {
+    let mut sum = 1_u64;
+    let mut values = tree.values_iter().ok()?;
+    for _ in 0..most {
+        match values.next() {
+            Some(value) => sum = mix(sum, *value),
+            None => return Some(sum),
+        }
+    }
+    Some(sum)
+}
+
+fn prefix_iter<K: KeyTrait + Drop>(tree: &Tree<K>, prefix: &K, most: u64) -> Option<u64> {
+    let mut sum = 1_u64;
+    let mut pairs = tree.prefix_iter_k(prefix).ok()?;
+    for _ in 0..most {
+        match pairs.next() {
+            Some((key, value)) => sum = mix(mix_key(sum, &key), *value),
+            None => return Some(sum),
+        }
+    }
+    Some(sum)
+}
+
+fn values_for_each<K: KeyTrait>(tree: &Tree<K>, prefix: &K) -> Option<u64> {
+    let mut sum = 1_u64;
+    tree.prefix_values_for_each_k(prefix, |value| sum = mix(sum, *value))
+        .ok()?;
+    Some(sum)
+}
+
+// Stops or fails after `most` values.
+fn try_values<K: KeyTrait>(tree: &Tree<K>, prefix: &K, most: u64, fails: bool) -> Option<u64> {
+    let mut sum = 1_u64;
+    let mut left = most;
+    let ended = tree.try_prefix_values_for_each_k(prefix, |value| {
+        if left == 0 {
+            return if fails {
+                Err(17_u64)
+            } else {
+                Ok(VisitControl::Stop)
+            };
+        }
+        left = left.wrapping_sub(1);
+        sum = mix(sum, *value);
+        Ok(VisitControl::Continue)
+    });
+    match ended {
+        Ok(()) => Some(sum),
+        Err(VisitError::Callback(error)) => Some(mix(sum, error)),
+        Err(VisitError::Memory) => None,
+    }
+}
+
+fn fold<K: KeyTrait>(tree: &Tree<K>, prefix: &K) -> Option<u64> {
+    tree.prefix_values_fold_k(prefix, 1_u64, |sum, value| mix(sum, *value))
+        .ok()
+}
+
+fn range<K: KeyTrait + Drop>(tree: &Tree<K>, start: &K, end: &K, call: &Call) -> Option<u64> {
+    let ways = call.choice % 9;
+    let mut sum = 1_u64;
+    let mut pairs = tree
+        .range(bound_of(start, ways / 3), bound_of(end, ways % 3))
+        .ok()?;
+    for _ in 0..(call.choice >> 8) % 40 {
+        match pairs.next() {
+            Some((key, value)) => sum = mix(mix_key(sum, &key), *value),
+            None => return Some(sum),
+        }
+    }
+    Some(sum)
+}
+
+/// The call about many pairs.
+pub fn walk<K: KeyTrait + Drop>(tree: &Tree<K>, key: &K, end: &K, call: &Call) -> Option<u64> {
+    let most = (call.choice >> 8) % 40;
+    match call.kind {
+        16 => iter(tree, most),
+        17 => values(tree, most),
+        18 => prefix_iter(tree, key, most),
+        19 => values_for_each(tree, key),
+        20 => try_values(tree, key, most, call.choice % 2 == 0),
+        21 => fold(tree, key),
+        _ => range(tree, key, end, call),
+    }
+}

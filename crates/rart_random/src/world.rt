@@ -1,0 +1,213 @@
+//! Two trees and a route table, each beside its model, and one call made on both.
+use crate::call::Call;
+use crate::loads::{list_of, load, sum_in, wanted_load};
+use crate::model::{Model, Pair};
+use crate::numbers::low_byte;
+use crate::routes::{below, call_table, wanted_below, wanted_of_table};
+use crate::shape::{shape_in, shape_of};
+use crate::sides::{Side, key_of};
+use crate::text::Text;
+use crate::{edits, model_edits, model_reads, model_views, reads, views};
+use rart::KeyTrait;
+use rart::routes::RouteTable;
+use rart_test_tools::refusals::{refuse, was_refused};
+use std::alloc::Global;
+
+/// Two trees and a route table.
+#[derive(Drop)]
+pub struct World<K: KeyTrait> {
+    alloc: Global,
+    first: Side<K>,
+    second: Side<K>,
+    routes: RouteTable<K, u64>,
+    route_model: Model,
+}
+
+/// What a call is made with.
+#[derive(Drop)]
+struct Words {
+    key: Text,
+    end: Text,
+    // A key and more bytes, more than a key may have.
+    probe: Text,
+}
+
+// The key with six bytes more.
+fn longer(key: &Text, choice: u64) -> Text {
+    let mut text = *key;
+    for place in 0..6_u64 {
+        text.push(low_byte(choice.wrapping_shr((place.wrapping_mul(8)) as u32)));
+    }
+    text
+}
+
+// The key as the call wants it: a probe that goes on, or a beginning.
+fn shaped(key: &Text, call: &Call, most: usize) -> Text {
+    match call.kind {
+        11 | 13 | 14 | 27 | 38 => longer(key, call.value).cut(most),
+        18..22 | 25 | 39 => {
+            let len = (key.len() as u64).saturating_add(1);
+            key.cut((call.value >> 24).checked_rem(len).unwrap_or(0) as usize)
+        }
+        _ => *key,
+    }
+}
+
+fn words_of(model: &Model, call: &Call, most: usize) -> Words {
+    let near = if call.is_near {
+        model.near(&call.key)
+    } else {
+        call.key
+    };
+    let end = if call.value % 2 == 0 {
+        model.near(&call.end)
+    } else {
+        call.end
+    };
+    Words {
+        key: shaped(&near, call, most),
+        end,
+        probe: longer(&near, call.value),
+    }
+}
+
+fn is_right_side<K: KeyTrait + Drop>(alloc: Global, side: &Side<K>) -> bool {
+    side.tree.canonical();
+    let shape = match shape_of(alloc, &side.model) {
+        Ok(sum) => Some(sum),
+        Err(_refused) => None,
+    };
+    side.tree.len() == side.model.len()
+        && sum_in(&side.tree) == Some(side.model.sum(0, side.model.len(), true))
+        && shape.is_some()
+        && shape_in(&side.tree) == shape
+}
+
+fn read<K: KeyTrait + Drop>(
+    one: &Side<K>,
+    other: &Side<K>,
+    key: &K,
+    end: &K,
+    words: &Words,
+    call: &Call,
+) -> Option<u64> {
+    match call.kind {
+        9..16 => Some(reads::look(&one.tree, key, &words.probe, call)),
+        16..24 => reads::walk(&one.tree, key, end, call),
+        24..28 => views::view(&one.tree, key, end, call),
+        _ => views::join(&one.tree, &other.tree, call.kind),
+    }
+}
+
+fn wanted_read(one: &Model, other: &Model, words: &Words, call: &Call) -> u64 {
+    match call.kind {
+        9..16 => model_reads::look(one, &words.key, &words.probe, call),
+        16..24 => model_reads::walk(one, &words.key, &words.end, call),
+        24..28 => model_views::view(one, &words.key, &words.end, call),
+        _ => model_views::join(one, other, call.kind),
+    }
+}
+
+impl<K: KeyTrait + Drop> World<K> {
+    /// Empty trees and an empty table.
+    pub fn new(alloc: Global) -> Self {
+        World {
+            alloc,
+            first: Side::new(alloc),
+            second: Side::new(alloc),
+            routes: RouteTable::new(alloc),
+            route_model: Model::new(alloc),
+        }
+    }
+
+    /// How many pairs the larger tree has.
+    pub fn size(&self) -> usize {
+        self.first.model.len().max(self.second.model.len())
+    }
+
+    fn are_routes_right(&self) -> bool {
+        match key_of::<K>(&Text::new()) {
+            Some(key) => {
+                self.routes.len() == self.route_model.len()
+                    && below(&self.routes, &key)
+                        == Some(wanted_below(&self.route_model, &Text::new()))
+            }
+            None => false,
+        }
+    }
+
+    /// Whether pairs, shape and routes are those of the models.
+    pub fn is_right(&self) -> bool {
+        is_right_side(self.alloc, &self.first)
+            && is_right_side(self.alloc, &self.second)
+            && self.are_routes_right()
+    }
+
+    fn words(&self, call: &Call, most: usize) -> Words {
+        let model = if call.kind >= 34 {
+            &self.route_model
+        } else if call.on_second {
+            &self.second.model
+        } else {
+            &self.first.model
+        };
+        words_of(model, call, most)
+    }
+
+    fn list(&self, call: &Call) -> Vec<Pair> {
+        if call.kind != 32 && call.kind != 33 {
+            return Vec::new(self.alloc);
+        }
+        list_of(self.alloc, &self.first.model, call).unwrap_or(Vec::new(self.alloc))
+    }
+
+    // The sum of the call's answer; none if memory was refused.
+    fn answer(&mut self, words: &Words, list: &[Pair], call: &Call) -> Option<u64> {
+        let key = key_of::<K>(&words.key)?;
+        let end = key_of::<K>(&words.end)?;
+        match call.kind {
+            0..9 if call.on_second => edits::edit(&mut self.second.tree, &key, call),
+            0..9 => edits::edit(&mut self.first.tree, &key, call),
+            32 | 33 => load::<K>(self.alloc, list),
+            34..40 => call_table(&mut self.routes, &key, &words.probe, call),
+            _ if call.on_second => read(&self.second, &self.first, &key, &end, words, call),
+            _ => read(&self.first, &self.second, &key, &end, words, call),
+        }
+    }
+
+    // The sum that the models give.
+    fn wanted(&mut self, words: &Words, list: &[Pair], call: &Call) -> u64 {
+        match call.kind {
+            0..9 if call.on_second => model_edits::edit(&mut self.second.model, &words.key, call),
+            0..9 => model_edits::edit(&mut self.first.model, &words.key, call),
+            32 | 33 => wanted_load(self.alloc, list),
+            34..40 => wanted_of_table(&mut self.route_model, &words.key, &words.probe, call),
+            _ if call.on_second => wanted_read(&self.second.model, &self.first.model, words, call),
+            _ => wanted_read(&self.first.model, &self.second.model, words, call),
+        }
+    }
+
+    /// Makes the call, and says whether the answer is the model's. With `refused` above 0 that request of the call for
+    /// memory is refused first: then nothing may have changed, and the call is made again.
+    pub fn is_played(&mut self, call: &Call, most: usize, refused: usize) -> bool {
+        let words = self.words(call, most);
+        let list = self.list(call);
+        if refused > 0 {
+            refuse(self.alloc, refused);
+        }
+        let mut answer = self.answer(&words, list.as_slice(), call);
+        if refused > 0 {
+            let was = was_refused(self.alloc);
+            if was != answer.is_none() {
+                return false;
+            }
+            if was {
+                if !self.is_right() {
+                    return false;
+                }
+                answer = self.answer(&words, list.as_slice(), call);
+            }
+        }
+        answer == Some(self.wanted(&words, list.as_slice(), call))
+    }
+}
