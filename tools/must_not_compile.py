@@ -42,11 +42,11 @@ class Body(typing.NamedTuple):
 
 
 LOOK_UP = ("rart_nodes", "src/node/walks/look_up.rt", "self.descend(key, counter)")
-LENDING = ("rart_nodes", "src/node/walks/lending.rt", "feed_views(&mut tour, &mut trail, counter, f);")
-MEETING = ("rart_nodes", "src/node/intersect/meeting.rt", "f(left, right);")
+LENDING = ("rart_nodes", "src/node/walks/lending.rt", "for_each_view_of(&mut walk, &mut path, counter, f);")
+VISITOR = ("rart_nodes", "src/node/intersect/visitor.rt", "f(left, right);")
 SHRINK = ("rart_nodes", "src/node/storage/shrink.rt")
 ROOM = ("rart_nodes", "src/node/storage/room.rt")
-TWINS = ("rart_nodes", "src/node/intersect/twins.rt")
+SHARED_CHILDREN = ("rart_nodes", "src/node/intersect/shared_children.rt")
 TREES = ("rart_nodes", "src/node/intersect.rt", "let Some(right_top) = right.top() else {")
 OF_TREE = ("rart", "src/tree.rt", "self.seen().get_bytes_counted(key, &mut Visits::new())")
 
@@ -60,7 +60,7 @@ BODIES = (
     Body(
         "a walk counts with its own counter",
         *LENDING,
-        "feed_views(&mut tour, &mut trail, &mut crate::count::Visits::new(), f);",
+        "for_each_view_of(&mut walk, &mut path, &mut crate::count::Visits::new(), f);",
         ("error[mismatched-types]: expected `&mut C`, found `&mut Visits`",),
     ),
     Body(
@@ -101,7 +101,7 @@ BODIES = (
     ),
     Body(
         "children of one node are visited in pairs",
-        *TWINS,
+        *SHARED_CHILDREN,
         "while let Some((byte, child)) = branches.next_child() {\n        if let Some(other) = right.child(byte) {",
         "while let Some((byte, child)) = branches.next_child() {\n        if let Some(other) = Some(child) {",
         ("error[mismatched-types]: expected `Shared<P, W, Paired<C>>`, found `Shared<P, V, C>`",),
@@ -193,7 +193,7 @@ BODIES = (
     ),
     Body(
         "an intersection exchanges the two values",
-        *MEETING,
+        *VISITOR,
         "f(right, left);",
         (
             "error[mismatched-types]: expected `&V`, found `&W`",
