@@ -1,7 +1,9 @@
-"""The program, run from outside: each request for memory refused in turn, reads that are short or fail, writes that fail.
+"""The program, run from outside.
 
-In a run with one request refused the program ends with status 0, and each line is the answer of a run in which the refused
-command was left out, or `Memory`; or it ends with status 1 and says that it cannot read, and has printed nothing.
+Each request for memory is refused in turn, reads are short or fail, writes fail.
+
+In a run with one request refused the program ends with status 0, and each line is `Memory` or the answer of a run
+without the refused command; or it ends with status 1, says that it cannot read, and has printed nothing.
 
 At a malformed line the program ends with status 2, and names the line.
 """
@@ -114,7 +116,7 @@ def is_drained(pipe, child, deadline):
 
 
 def short_reads(program):
-    """The script in pieces of three bytes. Each is written once the one before it was read, so that no read gets more."""
+    """The script in pieces of three bytes, each written after the one before it was read."""
     read, write = os.pipe()
     child = subprocess.Popen([program], stdin=read, stdout=subprocess.PIPE, stderr=subprocess.PIPE, env={})
     deadline = time.monotonic() + 60

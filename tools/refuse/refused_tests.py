@@ -3,9 +3,9 @@
 
 usage: refused_tests.py PASSED FAILED
 
-After the gate, each test program crates/*/out/*_tests has the tests of its crate. Two kinds, told by a word in their names, speak
-to the library by messages; each runs here in a process of its own with the library preloaded, and passes where it ends with status
-0 and, of those with
+After the gate, each test program crates/*/out/*_tests has the tests of its crate. Two kinds, marked by a word in their
+names, send messages to the library. Each runs in a process of its own with the library preloaded, and passes if it ends
+with status 0 and
 
   refused_in_turn            which have one request after the other refused, a request was really refused in each part;
   ask_for_nothing, asks_...  which say so of the calls in them, a message came and no request was refused.
@@ -81,7 +81,8 @@ def run(program, test, library):
         report = pathlib.Path(room) / "report"
         env = {"PATH": "/usr/bin:/bin", "LD_PRELOAD": str(library), "REFUSE_REPORT": str(report)}
         try:
-            ended = subprocess.run([program, test], env=env, cwd=room, capture_output=True, text=True, errors="replace", timeout=600)
+            pipes = {"capture_output": True, "text": True, "errors": "replace"}
+            ended = subprocess.run([program, test], env=env, cwd=room, timeout=600, **pipes)
         except subprocess.TimeoutExpired:
             return "it ran out of time", 0
         counts = dict(word.split("=") for word in report.read_text().split()) if report.exists() else {}
@@ -100,7 +101,7 @@ def run(program, test, library):
 
 
 def outcomes(found, library):
-    """Each test and each check of the program: its name, why it failed, or nothing, and how many requests were refused."""
+    """Each test and each check of a program: its name, why it failed, if it did, and the count of refused requests."""
     for program, test in found:
         yield f"{program.name[:-6]} {test}", *run(program, test, library)
     random = TOP / "crates" / "rart_random" / "out" / "rart_random"

@@ -23,7 +23,8 @@ impl<K: KeyTrait, V> AdaptiveRadixTree<K, V> {
     pub fn prefix_match_for_each_by_ref_k<F: FnMut(&[u8], &V)>(&self, probe: &K, f: &mut F)
         requires callable { CanMatch F.FnMut f.old (matches (K.bytes probe.now) self.now.pairs) }
         ensures callable { F.IsAlwaysCallable f.old → F.IsAlwaysCallable f.new }
-        ensures calls { MatchesEach F.FnMut f.old (matches (K.bytes probe.now) self.now.pairs) f.new }
+        ensures calls { MatchesEach F.FnMut f.old
+            (matches (K.bytes probe.now) self.now.pairs) f.new }
     {
         self.seen()
             .prefix_match_for_each_by_ref_k_counted(probe, f, &mut Visits::new())
@@ -69,7 +70,8 @@ impl<K: KeyTrait, V> AdaptiveRadixTree<K, V> {
         prefix: &K,
         f: &mut F,
     ) -> Result<(), TreeError>
-        requires callable { CanShow F.FnMut f.old (values_below (K.bytes prefix.now) self.now.pairs) }
+        requires callable { CanShow F.FnMut f.old
+            (values_below (K.bytes prefix.now) self.now.pairs) }
         ensures callable { F.IsAlwaysCallable f.old → F.IsAlwaysCallable f.new }
         ensures calls { OnOk result
             (ShowsEach F.FnMut f.old (values_below (K.bytes prefix.now) self.now.pairs) f.new) }
@@ -151,7 +153,8 @@ impl<K: KeyTrait, V> AdaptiveRadixTree<K, V> {
         init: S,
         f: &mut F,
     ) -> Result<S, TreeError>
-        requires callable { CanFold F.FnMut f.old init (values_below (K.bytes prefix.now) self.now.pairs) }
+        requires callable { CanFold F.FnMut f.old init
+            (values_below (K.bytes prefix.now) self.now.pairs) }
         ensures callable { F.IsAlwaysCallable f.old → F.IsAlwaysCallable f.new }
         ensures calls { IfOk result (λ state. FoldsEach F.FnMut f.old init
             (values_below (K.bytes prefix.now) self.now.pairs) f.new state) }
@@ -174,7 +177,8 @@ impl<K: KeyTrait, V> AdaptiveRadixTree<K, V> {
     ) -> Result<S, TreeError>
     where
         K: Drop,
-        requires callable { CanFold F.FnMut f.old init (values_below (K.bytes prefix) self.now.pairs) }
+        requires callable { CanFold F.FnMut f.old init
+            (values_below (K.bytes prefix) self.now.pairs) }
         ensures callable { F.IsAlwaysCallable f.old → F.IsAlwaysCallable f.new }
         ensures calls { IfOk result (λ state. FoldsEach F.FnMut f.old init
             (values_below (K.bytes prefix) self.now.pairs) f.new state) }
@@ -195,7 +199,8 @@ impl<K: KeyTrait, V> AdaptiveRadixTree<K, V> {
         init: S,
         f: F,
     ) -> Result<S, TreeError>
-        requires callable { CanFold F.FnMut f init (values_below (K.bytes prefix.now) self.now.pairs) }
+        requires callable { CanFold F.FnMut f init
+            (values_below (K.bytes prefix.now) self.now.pairs) }
         ensures calls { IfOk result
             (FoldedEach F.FnMut f init (values_below (K.bytes prefix.now) self.now.pairs)) }
         ensures memory { IfErr result (MayLackRoom self.now.pairs) }
@@ -236,7 +241,8 @@ impl<K: KeyTrait, V> AdaptiveRadixTree<K, V> {
         prefix: &K,
         f: &mut F,
     ) -> Result<(), VisitError<E>>
-        requires callable { CanTry F.FnMut f.old (values_below (K.bytes prefix.now) self.now.pairs) }
+        requires callable { CanTry F.FnMut f.old
+            (values_below (K.bytes prefix.now) self.now.pairs) }
         ensures callable { F.IsAlwaysCallable f.old → F.IsAlwaysCallable f.new }
         ensures calls { EndsVisit F.FnMut f.old
             (values_below (K.bytes prefix.now) self.now.pairs) result f.new }

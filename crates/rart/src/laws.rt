@@ -47,8 +47,10 @@ pub fn equal_keys_equal_statistics<K: KeyTrait, V, L: KeyTrait, W>(
     other: &AdaptiveRadixTree<L, W>,
 ) -> Result<(TreeStats, TreeStats), TreeError>
     requires { keys_of one.now.pairs ≡ keys_of other.now.pairs }
-    ensures statistics { IfOk result (λ r. stats_in r.0 ≡ stats_of (keys_of one.now.pairs) one.now.nodes) }
-    ensures of_other { IfOk result (λ r. stats_in r.1 ≡ stats_of (keys_of other.now.pairs) other.now.nodes) }
+    ensures statistics { IfOk result
+        (λ r. stats_in r.0 ≡ stats_of (keys_of one.now.pairs) one.now.nodes) }
+    ensures of_other { IfOk result
+        (λ r. stats_in r.1 ≡ stats_of (keys_of other.now.pairs) other.now.nodes) }
     ensures equal { IfOk result (λ r. stats_in r.1 ≡ stats_in r.0) }
     ensures error { IfErr result (λ e. e ≡ TreeError.Memory) }
     ensures asks { OnErr result (2 ≤ length (keys_of one.now.pairs)) }
@@ -72,10 +74,12 @@ pub fn insert_then_get<'a, K: KeyTrait, V>(
 ) -> Result<(Option<&'a V>, Option<&'a V>), TreeError>
 where
     V: Drop,
-    ensures* after { sem 𝓛 (ends_as K.row V.row K.PartialType.row K.KeyTrait K.PartialType.Partial tree.entry
+    ensures* after { sem 𝓛
+        (ends_as K.row V.row K.PartialType.row K.KeyTrait K.PartialType.Partial tree.entry
         (PutOrSame (K.bytes key.now) value result tree.old)) }
     ensures found { IfOk result (λ r. option_copied r.0 ≡ Some value) }
-    ensures same_bytes { K.bytes other.now ≡ K.bytes key.now → IfOk result (λ r. option_copied r.1 ≡ Some value) }
+    ensures same_bytes { K.bytes other.now ≡ K.bytes key.now
+        → IfOk result (λ r. option_copied r.1 ≡ Some value) }
     ensures kept { K.bytes other.now ≢ K.bytes key.now
         → IfOk result (λ r. option_copied r.1 ≡ lookup (K.bytes other.now) tree.old.pairs) }
     ensures refused { IfErr result (MayRefuseInsert tree.old.pairs (K.bytes key.now)) }
@@ -108,7 +112,8 @@ fn both_answers<'a, K: KeyTrait, V>(
     other: &K,
     before: Result<(), TreeError>,
 ) -> Result<(Option<&'a V>, Option<&'a V>), TreeError>
-    ensures answers { OnOk before (IfOk result (λ r. (option_copied r.0 ≡ lookup (K.bytes key.now) tree.now.pairs)
+    ensures answers { OnOk before
+        (IfOk result (λ r. (option_copied r.0 ≡ lookup (K.bytes key.now) tree.now.pairs)
         × (option_copied r.1 ≡ lookup (K.bytes other.now) tree.now.pairs))) }
     ensures error { MatchResult before (λ _. IsOk result) (λ e. result ≡ Err e) }
 {
@@ -186,9 +191,10 @@ pub fn insert_then_remove<K: KeyTrait, V: Drop>(
     value: V,
 ) -> Result<(TreeStats, TreeStats, TreeStats), RefusedCall<V>>
     requires new_key { lookup (K.bytes key.now) tree.old.pairs ≡ None }
-    ensures before { IfOk result (λ r. stats_in r.0 ≡ stats_of (keys_of tree.old.pairs) tree.old.nodes) }
-    ensures between { IfOk result (λ r. IsCounted (keys_of (put (K.bytes key.now) value tree.old.pairs))
-        (stats_in r.1)) }
+    ensures before { IfOk result
+        (λ r. stats_in r.0 ≡ stats_of (keys_of tree.old.pairs) tree.old.nodes) }
+    ensures between { IfOk result
+        (λ r. IsCounted (keys_of (put (K.bytes key.now) value tree.old.pairs)) (stats_in r.1)) }
     ensures after { IfOk result (λ r. stats_in r.2 ≡ stats_in r.0) }
     ensures pairs { OnOk result (tree.new.pairs ≡ tree.old.pairs) }
     ensures nodes { OnOk result (tree.new.nodes ≡ tree.old.nodes) }

@@ -13,7 +13,8 @@ use rart_parts::TreeError;
 impl<K: KeyTrait, V> AdaptiveRadixTree<K, V> {
     /// Returns the pair whose key is the longest that begins `probe`.
     pub fn longest_prefix_match_k(&self, probe: &K) -> Option<(K, &V)>
-        ensures { option_map (λ p. (K.bytes p.0, p.1.now)) result ≡ longest_match (K.bytes probe.now) self.now.pairs }
+        ensures { option_map (λ p. (K.bytes p.0, p.1.now)) result
+            ≡ longest_match (K.bytes probe.now) self.now.pairs }
     {
         self.seen()
             .longest_prefix_match_k_counted(probe, &mut Visits::new())
@@ -23,7 +24,8 @@ impl<K: KeyTrait, V> AdaptiveRadixTree<K, V> {
     pub fn longest_prefix_match(&self, probe: K) -> Option<(K, &V)>
     where
         K: Drop,
-        ensures { option_map (λ p. (K.bytes p.0, p.1.now)) result ≡ longest_match (K.bytes probe) self.now.pairs }
+        ensures { option_map (λ p. (K.bytes p.0, p.1.now)) result
+            ≡ longest_match (K.bytes probe) self.now.pairs }
     {
         self.longest_prefix_match_k(&probe)
     }

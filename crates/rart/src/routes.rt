@@ -95,7 +95,8 @@ impl<K: KeyTrait, T> RouteTable<K, T> {
     /// allocates nothing. [`TryInsertError::Refused`] if the insertion fails, `Full` or `Memory`, with `target`.
     /// After the borrow ends the table is unchanged.
     pub fn add<'a>(&'a mut self, prefix: &K, target: T) -> Result<(), TryInsertError<'a, T>>
-        ensures* after { sem 𝓛 (table_ends_as K.row T.row K.PartialType.row K.KeyTrait K.PartialType.Partial self.entry
+        ensures* after { sem 𝓛
+            (table_ends_as K.row T.row K.PartialType.row K.KeyTrait K.PartialType.Partial self.entry
             (PutOrSame (K.bytes prefix.now) target result self.old)) }
         ensures answer { TriesInsert (K.bytes prefix.now) target self.old.pairs result }
     {
@@ -143,7 +144,8 @@ impl<K: KeyTrait, T> RouteTable<K, T> {
     /// [`TreeError::Full`] or [`TreeError::Memory`] if the prefix is new and the insertion fails. The table is then
     /// unchanged, and the error holds `target`.
     pub fn replace(&mut self, prefix: &K, target: T) -> Result<Option<T>, Refused<T>>
-        ensures replaces { Inserts (K.bytes prefix.now) target self.old.pairs self.new.pairs result }
+        ensures replaces { Inserts (K.bytes prefix.now) target self.old.pairs self.new.pairs
+            result }
         ensures unchanged { OnErr result (self.new ≡ self.old) }
     {
         self.routes.insert_k(prefix, target)
@@ -207,7 +209,8 @@ impl<K: KeyTrait, T> RouteTable<K, T> {
 
     /// Returns the longest prefix that begins `probe`, with its target. Allocates nothing.
     pub fn route_with_prefix(&self, probe: &K) -> Option<(K, &T)>
-        ensures { option_map (λ p. (K.bytes p.0, p.1.now)) result ≡ longest_match (K.bytes probe.now) self.now.pairs }
+        ensures { option_map (λ p. (K.bytes p.0, p.1.now)) result
+            ≡ longest_match (K.bytes probe.now) self.now.pairs }
     {
         self.routes.longest_prefix_match_k(probe)
     }

@@ -134,7 +134,8 @@ fn update_by<V: Copy, K: KeyTrait>(
     written: Option<V>,
     answer: SlotUpdate<V>,
 ) -> Result<bool, UpdateError<V>>
-    ensures { IsUpdate (K.bytes key.now) answer (left_by written (lookup (K.bytes key.now) tree.old.pairs))
+    ensures { IsUpdate (K.bytes key.now) answer
+        (left_by written (lookup (K.bytes key.now) tree.old.pairs))
         tree.old.pairs result tree.new.pairs }
 {
     tree.update_k(key, move |slot| {
@@ -150,7 +151,8 @@ fn reply_to_try_update<K: KeyTrait + Drop, V: Copy>(
     answer: Result<SlotUpdate<V>, ()>,
 ) -> Reply<K, V>
     requires clones { (x y : V) → V.is_clone x y → y ≡ x }
-    ensures { IsStep K.bytes tree.old.pairs (Call.TryUpdate key written answer) result tree.new.pairs }
+    ensures { IsStep K.bytes tree.old.pairs (Call.TryUpdate key written answer) result
+        tree.new.pairs }
 {
     match try_update_by(tree, &key, written, answer) {
         Ok(touched) => Reply::Done(touched),
@@ -170,7 +172,8 @@ fn try_update_by<V: Copy, K: KeyTrait>(
 ) -> Result<bool, TryUpdateError<(), V>>
     requires clones { (x y : V) → V.is_clone x y → y ≡ x }
     ensures called { result ≢ Err Not_cloned
-        → IsTryUpdate (K.bytes key.now) answer (left_by written (lookup (K.bytes key.now) tree.old.pairs))
+        → IsTryUpdate (K.bytes key.now) answer
+        (left_by written (lookup (K.bytes key.now) tree.old.pairs))
         tree.old.pairs result tree.new.pairs }
     ensures not_cloned { result ≡ Err Not_cloned → (lookup (K.bytes key.now) tree.old.pairs ≢ None)
         × (tree.new.pairs ≡ tree.old.pairs) }
@@ -273,7 +276,8 @@ pub fn run<K: KeyTrait + Drop, V: Copy>(
     calls: Vec<Call<K, V>>,
 ) -> Result<Vec<Reply<K, V>>, TreeError>
     requires clones { (x y : V) → V.is_clone x y → y ≡ x }
-    ensures run { IfOk result (λ replies. IsRun K.bytes tree.old.pairs calls.items replies.items tree.new.pairs) }
+    ensures run { IfOk result
+        (λ replies. IsRun K.bytes tree.old.pairs calls.items replies.items tree.new.pairs) }
     ensures one_each { IfOk result (λ replies. length replies.items ≡ length calls.items) }
     ensures shape_before { HasShape (keys_of tree.old.pairs) tree.old.nodes }
     ensures shape_after { HasShape (keys_of tree.new.pairs) tree.new.nodes }

@@ -30,7 +30,8 @@ impl<K: KeyTrait, V> AdaptiveRadixTree<K, V> {
         &self,
         f: &mut F,
     ) -> Result<(), TreeError>
-        requires callable { CanView F.FnMut f.old (cut_pairs (keys_of self.now.pairs) self.now.pairs) }
+        requires callable { CanView F.FnMut f.old
+            (cut_pairs (keys_of self.now.pairs) self.now.pairs) }
         ensures callable { F.IsAlwaysCallable f.old → F.IsAlwaysCallable f.new }
         ensures calls { OnOk result (ViewsEach F.FnMut f.old
             (cut_pairs (keys_of self.now.pairs) self.now.pairs) f.new) }

@@ -137,7 +137,8 @@ impl<K: KeyTrait, T> BitTable<K, T> {
     // Returns whether the network is new and the table holds as many routes as a table can.
     fn is_full_for(&self, octets: &[u8], bits: usize) -> bool
         requires { bits ≤ 8 * length octets.now }
-        ensures { IsTrue result ↔ ((length self.now ≡ MAX_PAIRS) × (lookup (network octets.now bits) self.now ≡ None)) }
+        ensures { IsTrue result
+            ↔ ((length self.now ≡ MAX_PAIRS) × (lookup (network octets.now bits) self.now ≡ None)) }
     {
         self.len == MAX_PAIRS && self.get(octets, bits).is_none()
     }
@@ -178,7 +179,8 @@ fn put_target<K: KeyTrait, T: Drop>(
     code: u8,
     target: T,
 ) -> Result<Option<T>, Refused<T>>
-    ensures { PutsTarget (K.bytes key.now) (code ∷ []) target strides.old.pairs strides.new.pairs result }
+    ensures { PutsTarget (K.bytes key.now) (code ∷ []) target strides.old.pairs strides.new.pairs
+        result }
 {
     strides.canonical();
     match strides.get_k(key) {
@@ -195,7 +197,8 @@ fn put_in<K: KeyTrait, T>(
     target: T,
 ) -> Result<Option<T>, Refused<T>>
     requires { lookup (K.bytes key.now) strides.old.pairs ≢ None }
-    ensures { PutsIn (K.bytes key.now) (code ∷ []) target strides.old.pairs strides.new.pairs result }
+    ensures { PutsIn (K.bytes key.now) (code ∷ []) target strides.old.pairs strides.new.pairs
+        result }
 {
     match strides.get_mut_k(key) {
         Some(stride) => stride.insert(code, target),
@@ -212,7 +215,8 @@ fn put_new<K: KeyTrait, T: Drop>(
     target: T,
 ) -> Result<Option<T>, Refused<T>>
     requires { lookup (K.bytes key.now) strides.old.pairs ≡ None }
-    ensures { PutsTarget (K.bytes key.now) (code ∷ []) target strides.old.pairs strides.new.pairs result }
+    ensures { PutsTarget (K.bytes key.now) (code ∷ []) target strides.old.pairs strides.new.pairs
+        result }
 {
     let mut stride = Stride::new(alloc);
     match stride.insert(code, target) {

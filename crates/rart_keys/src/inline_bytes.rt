@@ -4,7 +4,8 @@ ghost use Rattle.std.specs.Prelude.{◌≡◌, ◌+◌, ◌-◌, ◌≤◌, ◌+
 /// Returns an array of `first`, `second` and zeros, in this order.
 pub(crate) fn joined<const N: usize>(first: &[u8], second: &[u8]) -> [u8; N]
     requires { length first.now + length second.now ≤ N }
-    ensures { result ≡ first.now ++ second.now ++ replicate (N - (length first.now + length second.now)) 0 }
+    ensures { result ≡ first.now ++ second.now
+        ++ replicate (N - (length first.now + length second.now)) 0 }
 {
     let mut bytes = [0; N];
     let middle = first.len();
@@ -18,7 +19,8 @@ pub(crate) fn joined<const N: usize>(first: &[u8], second: &[u8]) -> [u8; N]
 /// Returns an array of zeros, `first` and `second`, in this order.
 pub(crate) fn joined_at_end<const N: usize>(first: &[u8], second: &[u8]) -> [u8; N]
     requires { length first.now + length second.now ≤ N }
-    ensures { result ≡ replicate (N - (length first.now + length second.now)) 0 ++ first.now ++ second.now }
+    ensures { result ≡ replicate (N - (length first.now + length second.now)) 0 ++ first.now
+        ++ second.now }
 {
     let mut bytes = [0; N];
     let start = N - (first.len() + second.len());

@@ -39,7 +39,8 @@ pub trait KeyTrait: Eq + Ord {
     /// Returns the key of these bytes followed by those of `partial`. The sum of the lengths must be within the
     /// maximum.
     fn extend_from_partial(&self, partial: &Self::PartialType) -> Self
-        requires { IsWithin MAXIMUM_SIZE (length (bytes self.now) + length (Self.PartialType.bytes partial.now)) }
+        requires { IsWithin MAXIMUM_SIZE
+            (length (bytes self.now) + length (Self.PartialType.bytes partial.now)) }
         ensures { bytes result ≡ bytes self.now ++ Self.PartialType.bytes partial.now };
 
     /// Returns the key of the first `at_depth` bytes. `at_depth` must be at most the length.

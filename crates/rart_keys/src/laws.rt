@@ -12,27 +12,33 @@ pub mod longest;
 pub fn sorted_map<V>()
     ensures one_list { (xs ys : List (List ℕ × V)) → IsAscending xs → IsAscending ys
         → ((q : List ℕ) → lookup q xs ≡ lookup q ys) → xs ≡ ys }
-    ensures put_ascends { (k : List ℕ) (v : V) (es : List (List ℕ × V)) → IsAscending es → IsAscending (put k v es) }
-    ensures put_at { (k : List ℕ) (v : V) (es : List (List ℕ × V)) → lookup k (put k v es) ≡ Some v }
+    ensures put_ascends { (k : List ℕ) (v : V) (es : List (List ℕ × V)) → IsAscending es
+        → IsAscending (put k v es) }
+    ensures put_at { (k : List ℕ) (v : V) (es : List (List ℕ × V))
+        → lookup k (put k v es) ≡ Some v }
     ensures put_elsewhere { (q k : List ℕ) (v : V) (es : List (List ℕ × V)) → q ≢ k
         → lookup q (put k v es) ≡ lookup q es }
     ensures put_length { (k : List ℕ) (v : V) (es : List (List ℕ × V)) → IsAscending es
         → length (put k v es) + count_of (lookup k es) ≡ length es + 1 }
-    ensures without_ascends { (k : List ℕ) (es : List (List ℕ × V)) → IsAscending es → IsAscending (without k es) }
+    ensures without_ascends { (k : List ℕ) (es : List (List ℕ × V)) → IsAscending es
+        → IsAscending (without k es) }
     ensures without_at { (k : List ℕ) (es : List (List ℕ × V)) → lookup k (without k es) ≡ None }
     ensures without_elsewhere { (q k : List ℕ) (es : List (List ℕ × V)) → q ≢ k
         → lookup q (without k es) ≡ lookup q es }
-    ensures put_then_without { (k : List ℕ) (v : V) (es : List (List ℕ × V)) → IsAscending es → lookup k es ≡ None
+    ensures put_then_without { (k : List ℕ) (v : V) (es : List (List ℕ × V)) → IsAscending es
+        → lookup k es ≡ None
         → without k (put k v es) ≡ es }
 {}
 
 /// Proves the laws of the join of two maps. It ascends, holds the keys of both with both values, and is no longer than
 /// the first map. Swapping the maps swaps the values.
 pub fn joins<V, W>()
-    ensures ascends { (l : List (List ℕ × V)) (m : List (List ℕ × W)) → IsAscending l → IsAscending (join l m) }
+    ensures ascends { (l : List (List ℕ × V)) (m : List (List ℕ × W)) → IsAscending l
+        → IsAscending (join l m) }
     ensures looks { (k : List ℕ) (l : List (List ℕ × V)) (m : List (List ℕ × W)) → IsAscending l
         → lookup k (join l m) ≡ both (lookup k l) (lookup k m) }
     ensures few { (l : List (List ℕ × V)) (m : List (List ℕ × W)) → length (join l m) ≤ length l }
-    ensures other_way { (l : List (List ℕ × V)) (m : List (List ℕ × W)) → IsAscending l → IsAscending m
+    ensures other_way { (l : List (List ℕ × V)) (m : List (List ℕ × W)) → IsAscending l
+        → IsAscending m
         → join m l ≡ swapped (join l m) }
 {}

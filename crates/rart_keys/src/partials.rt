@@ -74,8 +74,10 @@ pub trait Partial: Drop {
     /// length of the key.
     fn prefix_length_key(&self, key_bytes: &[u8], depth: usize) -> usize
         requires { depth ≤ length key_bytes.now }
-        ensures value { result ≡ common_prefix_len nat_eq (bytes self.now) (drop depth key_bytes.now) }
-        ensures greatest { IsCommonPrefixLength (bytes self.now) (drop depth key_bytes.now) result };
+        ensures value { result
+            ≡ common_prefix_len nat_eq (bytes self.now) (drop depth key_bytes.now) }
+        ensures greatest { IsCommonPrefixLength (bytes self.now) (drop depth key_bytes.now)
+            result };
 
     /// Returns the length of the common prefix of this part and `slice`.
     fn prefix_length_slice(&self, slice: &[u8]) -> usize

@@ -21,32 +21,39 @@ pub mod statistics;
 /// are exactly the branch points of its keys.
 pub fn canonical_trie<V>()
     ensures pairs_ascend { (t : Trie V) → IsCanonical t → IsAscending (pairs_of t) }
-    ensures looks_up { (k : List ℕ) (t : Trie V) → IsCanonical t → trie_lookup k t ≡ lookup k (pairs_of t) }
+    ensures looks_up { (k : List ℕ) (t : Trie V) → IsCanonical t
+        → trie_lookup k t ≡ lookup k (pairs_of t) }
     ensures shape { (t : Trie V) → IsCanonical t → HasShape (keys_of (pairs_of t)) (nodes_of t) }
-    ensures equal_keys { (t u : Trie V) → IsCanonical t → IsCanonical u → keys_of (pairs_of t) ≡ keys_of (pairs_of u)
+    ensures equal_keys { (t u : Trie V) → IsCanonical t → IsCanonical u
+        → keys_of (pairs_of t) ≡ keys_of (pairs_of u)
         → nodes_of t ≡ nodes_of u }
-    ensures few_nodes { (t : Trie V) → IsCanonical t → length (nodes_of t) + 1 ≤ 2 * length (pairs_of t) }
+    ensures few_nodes { (t : Trie V) → IsCanonical t
+        → length (nodes_of t) + 1 ≤ 2 * length (pairs_of t) }
     ensures visits { (k : List ℕ) (t : Trie V) → IsCanonical t
         → entered_nodes k t ≡ probe_count (keys_of (pairs_of t)) k }
 {}
 
 /// Proves that the shape of keys has a record at a string exactly if the string is a branch point.
 pub fn branch_points<V>()
-    ensures has_record { (p : List ℕ) (m : List (List ℕ × V)) → IsAscending m → IsBranchPoint (keys_of m) p
+    ensures has_record { (p : List ℕ) (m : List (List ℕ × V)) → IsAscending m
+        → IsBranchPoint (keys_of m) p
         → is_some (record_at (keys_of m) p) ≡ true }
-    ensures has_no_other { (p : List ℕ) (m : List (List ℕ × V)) → IsAscending m → is_some (record_at (keys_of m) p)
+    ensures has_no_other { (p : List ℕ) (m : List (List ℕ × V)) → IsAscending m
+        → is_some (record_at (keys_of m) p)
         ≡ true → IsBranchPoint (keys_of m) p }
 {}
 
 /// Proves what an edit does to a canonical trie. The trie stays canonical, its pairs are those of the sorted map, and
 /// the keys alone determine where the edit allocates.
 pub fn edits<V>()
-    ensures put_canonical { (k : List ℕ) (v : V) (t : Trie V) → IsCanonical t → IsCanonical (trie_put k v t) }
+    ensures put_canonical { (k : List ℕ) (v : V) (t : Trie V) → IsCanonical t
+        → IsCanonical (trie_put k v t) }
     ensures put_pairs { (k : List ℕ) (v : V) (t : Trie V) → IsCanonical t
         → pairs_of (trie_put k v t) ≡ put k v (pairs_of t) }
     ensures put_asks { (k : List ℕ) (t : Trie V) → IsCanonical t
         → trie_asks_put k t ≡ insert_asks (keys_of (pairs_of t)) k }
-    ensures remove_canonical { (k : List ℕ) (t : Trie V) → IsCanonical t → IsCanonicalTree (trie_remove k t) }
+    ensures remove_canonical { (k : List ℕ) (t : Trie V) → IsCanonical t
+        → IsCanonicalTree (trie_remove k t) }
     ensures remove_pairs { (k : List ℕ) (t : Trie V) → IsCanonical t
         → tree_pairs (trie_remove k t) ≡ without k (pairs_of t) }
     ensures remove_absent { (k : List ℕ) (t : Trie V) → IsCanonical t → trie_lookup k t ≡ None
@@ -59,18 +66,22 @@ pub fn edits<V>()
 /// shape of its keys.
 pub fn histories<V>()
     ensures pairs { (es : List (Edit V)) → tree_pairs (run_tree es None) ≡ run_map es [] }
-    ensures shape { (es : List (Edit V)) → HasShape (keys_of (run_map es [])) (tree_nodes (run_tree es None)) }
+    ensures shape { (es : List (Edit V))
+        → HasShape (keys_of (run_map es [])) (tree_nodes (run_tree es None)) }
 {}
 
 /// Proves that two lists of records with the shape of the same keys are equal.
 pub fn one_shape()
-    ensures { (s : List (List ℕ)) (xs ys : List (List ℕ × NodeRecord)) → HasShape s xs → HasShape s ys → xs ≡ ys }
+    ensures { (s : List (List ℕ)) (xs ys : List (List ℕ × NodeRecord)) → HasShape s xs
+        → HasShape s ys → xs ≡ ys }
 {}
 
 /// Proves that storing the present value of a key changes nothing, and that it undoes the storing of another.
 pub fn put_back<V>()
-    ensures same { (k : List ℕ) (v : V) (m : List (List ℕ × V)) → IsAscending m → lookup k m ≡ Some v → put k v m ≡ m }
-    ensures back { (k : List ℕ) (v w : V) (m : List (List ℕ × V)) → IsAscending m → lookup k m ≡ Some v
+    ensures same { (k : List ℕ) (v : V) (m : List (List ℕ × V)) → IsAscending m
+        → lookup k m ≡ Some v → put k v m ≡ m }
+    ensures back { (k : List ℕ) (v w : V) (m : List (List ℕ × V)) → IsAscending m
+        → lookup k m ≡ Some v
         → put k v (put k w m) ≡ m }
 {}
 
@@ -80,10 +91,12 @@ pub fn intersections<V, W>()
     ensures meets { (t : Trie V) (u : Trie W) → IsCanonical t → IsCanonical u
         → intersect_nodes t u ≡ join (pairs_of t) (pairs_of u) }
     ensures visits { (t : Trie V) (u : Trie W) → IsCanonical t → IsCanonical u
-        → intersect_visits t u ≡ 1 + length (shared_edges (keys_of (pairs_of t)) (keys_of (pairs_of u))) }
+        → intersect_visits t u
+        ≡ 1 + length (shared_edges (keys_of (pairs_of t)) (keys_of (pairs_of u))) }
     ensures visits_below_nodes { (t : Trie V) (u : Trie W) → IsCanonical u
         → intersect_visits t u + 1 ≤ length (nodes_of t) + length (nodes_of u) }
-    ensures edges { (x : List ℕ) (s t : List (List ℕ)) → contains_key (shared_edges s t) x ≡ is_shared s t x }
+    ensures edges { (x : List ℕ) (s t : List (List ℕ))
+        → contains_key (shared_edges s t) x ≡ is_shared s t x }
     ensures edges_ascend { (s t : List (List ℕ)) → IsAscending (as_map (shared_edges s t)) }
 {}
 
@@ -97,7 +110,8 @@ pub fn sample_visits()
     ensures absent { probe_count nested_keys (97 ∷ 98 ∷ 100 ∷ []) ≡ 3 }
     ensures root { probe_count nested_keys (98 ∷ []) ≡ 1 }
     ensures both { joint_visits left_keys right_keys ≡ 4 }
-    ensures edges { shared_edges left_keys right_keys ≡ (97 ∷ []) ∷ (97 ∷ 98 ∷ 99 ∷ []) ∷ (100 ∷ []) ∷ [] }
+    ensures edges { shared_edges left_keys right_keys
+        ≡ (97 ∷ []) ∷ (97 ∷ 98 ∷ 99 ∷ []) ∷ (100 ∷ []) ∷ [] }
     ensures no_keys { (k : List ℕ) → probe_count [] k ≡ 0 }
     ensures no_left { (s : List (List ℕ)) → joint_visits [] s ≡ 0 }
     ensures no_right { (s : List (List ℕ)) → joint_visits s [] ≡ 0 }

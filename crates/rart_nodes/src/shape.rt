@@ -147,7 +147,8 @@ fn put_record_at(
     records: &mut Vec<ShapeRecord>,
 ) -> Result<(), TreeError>
     ensures put { OnOk result (records_of records.new.items
-        ≡ put_some path.now (record_at (keys_in keys.now) path.now) (records_of records.old.items)) }
+        ≡ put_some path.now (record_at (keys_in keys.now) path.now)
+        (records_of records.old.items)) }
     ensures error { IfErr result (λ e. e ≡ TreeError.Memory) }
 {
     match record_at(alloc, keys, path)? {

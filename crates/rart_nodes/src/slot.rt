@@ -88,7 +88,8 @@ pub(crate) fn show<V, X, F: FnOnce(&mut Slot<V>) -> (SlotUpdate<V>, X)>(
     f: F,
 ) -> Visit<V, X>
     requires callable { FnOnceTakesAtMut F.FnOnce f (slot_of content) }
-    ensures { FnOnceReturnsAtMut F.FnOnce f (slot_of content) (result.answer, result.told) (slot_of result.left) }
+    ensures { FnOnceReturnsAtMut F.FnOnce f (slot_of content) (result.answer, result.told)
+        (slot_of result.left) }
 {
     let mut slot = Slot::new(content);
     let (answer, told) = f(&mut slot);

@@ -1,12 +1,13 @@
 -- An index from bytes to slots as a row of numbers, 255 where a byte has no slot, beside the set of the bytes that have
 -- one.
-use Rattle.std.specs.Prelude.{◌≡◌, ℕ, ◌<◌, cond, eqb, List, [], ◌∷◌, map, length, Option, Some, None, slice_index}
+use Rattle.std.specs.Prelude.{◌≡◌, ℕ, ◌<◌, ◌==◌, if◌then◌else◌, List, [], ◌∷◌, map, length, Option, Some, None}
+use Rattle.std.specs.Prelude.{slice_index}
 use Rattle.rart_parts.specs.Bits.{words_have}
 use Rattle.rart_parts.specs.Places.{Agrees}
 
 -- the slot that a number of the row is
 abbrev pub slot_of : ℕ → Option ℕ
-slot_of s = cond (eqb s 255) None (Some s)
+slot_of s = if s == 255 then None else Some s
 
 -- a number for each byte, and the set has the bytes that have a slot
 pub record IsByteIndex (words slots : List ℕ) : Type 0 where

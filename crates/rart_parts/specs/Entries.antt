@@ -1,21 +1,22 @@
 -- A map from bytes: a list of entries, each a byte and what is stored at it.
-use Rattle.std.specs.Prelude.{ℕ, ◌≡◌, ◌<◌, zero, suc, cond, eqb, ltb, List, [], ◌∷◌, map, Option, Some, None}
-use Rattle.std.specs.Prelude.{MatchOption}
+use Rattle.std.specs.Prelude.{ℕ, ◌≡◌, ◌<◌, ◌==◌, if◌then◌else◌, nat_lt, zero, suc, List, [], ◌∷◌, map, Option, Some}
+use Rattle.std.specs.Prelude.{None, MatchOption}
 
 -- what is stored at a byte, if anything does
 abbrev pub child_at : {X : Type 0} → ℕ → List (ℕ × X) → Option X
 child_at k [] = None
-child_at k (e ∷ es) = cond (eqb e.0 k) (Some e.1) (child_at k es)
+child_at k (e ∷ es) = if e.0 == k then Some e.1 else child_at k es
 
 -- with a child at a byte, before the first greater byte, in place of the one that stood there
 abbrev pub with_entry : {X : Type 0} → ℕ → X → List (ℕ × X) → List (ℕ × X)
 with_entry k x [] = (k, x) ∷ []
-with_entry k x (e ∷ es) = cond (ltb k e.0) ((k, x) ∷ e ∷ es) (cond (eqb e.0 k) ((k, x) ∷ es) (e ∷ with_entry k x es))
+with_entry k x (e ∷ es) = if nat_lt k e.0 then (k, x) ∷ e ∷ es
+    else if e.0 == k then (k, x) ∷ es else e ∷ with_entry k x es
 
 -- without what is stored at a byte
 abbrev pub without_byte : {X : Type 0} → ℕ → List (ℕ × X) → List (ℕ × X)
 without_byte k [] = []
-without_byte k (e ∷ es) = cond (eqb e.0 k) es (e ∷ without_byte k es)
+without_byte k (e ∷ es) = if e.0 == k then es else e ∷ without_byte k es
 
 -- an entry was taken out and given; none of a map without entries
 abbrev pub TakesEntry : {X : Type 0} → List (ℕ × X) → List (ℕ × X) → Option (ℕ × X) → Type 0
@@ -25,17 +26,17 @@ TakesEntry old new taken = MatchOption taken ((old ≡ []) × (new ≡ [])) (λ 
 -- with another child at a byte where one stands
 abbrev pub replaced : {X : Type 0} → ℕ → X → List (ℕ × X) → List (ℕ × X)
 replaced k x [] = []
-replaced k x (e ∷ es) = cond (eqb e.0 k) ((k, x) ∷ es) (e ∷ replaced k x es)
+replaced k x (e ∷ es) = if e.0 == k then (k, x) ∷ es else e ∷ replaced k x es
 
 -- those whose byte is above k, in their order
 abbrev pub entries_above : {X : Type 0} → ℕ → List (ℕ × X) → List (ℕ × X)
 entries_above k [] = []
-entries_above k (e ∷ es) = cond (ltb k e.0) (e ∷ entries_above k es) (entries_above k es)
+entries_above k (e ∷ es) = if nat_lt k e.0 then e ∷ entries_above k es else entries_above k es
 
 -- with one more child at a byte, before the first byte that is not below
 abbrev pub with_another : {X : Type 0} → ℕ → X → List (ℕ × X) → List (ℕ × X)
 with_another k x [] = (k, x) ∷ []
-with_another k x (e ∷ es) = cond (ltb e.0 k) (e ∷ with_another k x es) ((k, x) ∷ e ∷ es)
+with_another k x (e ∷ es) = if nat_lt e.0 k then e ∷ with_another k x es else (k, x) ∷ e ∷ es
 
 -- in the order of the bytes; entries at one byte stay in their order
 abbrev pub ascending : {X : Type 0} → List (ℕ × X) → List (ℕ × X)

@@ -1,18 +1,18 @@
 -- Children in slots, and an index from bytes to slots.
-use Rattle.std.specs.Prelude.{◌≡◌, ℕ, suc, ◌≤◌, Bool, true, false, cond, eqb, List, [], ◌∷◌, length, Option, Some, None}
-use Rattle.std.specs.Prelude.{slice_index_or}
+use Rattle.std.specs.Prelude.{◌≡◌, ℕ, suc, ◌≤◌, Bool, true, false, ◌==◌, List, [], ◌∷◌, length, Option, Some, None}
+use Rattle.std.specs.Prelude.{slice_index_or, if◌then◌else◌}
 use Rattle.rart_parts.specs.Entries.{ascending}
 use Rattle.rart_parts.specs.Places.{is_used, numbered}
 
 -- whether an entry of the index is slot p
 abbrev pub names : Option ℕ → ℕ → Bool
 names None p = false
-names (Some q) p = eqb q p
+names (Some q) p = q == p
 
 -- the first byte that the index sends to slot p
 abbrev pub byte_of : List (Option ℕ) → ℕ → ℕ
 byte_of [] p = 0
-byte_of (o ∷ os) p = cond (names o p) 0 (suc (byte_of os p))
+byte_of (o ∷ os) p = if names o p then 0 else suc (byte_of os p)
 
 -- the children with their bytes, in the order of their slots, the first slot being slot p
 abbrev pub with_bytes : {X : Type 0} → List (Option ℕ) → ℕ → List (Option X) → List (ℕ × X)

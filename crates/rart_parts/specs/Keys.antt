@@ -1,5 +1,6 @@
 -- A byte among the keys of a node.
-use Rattle.std.specs.Prelude.{◌≡◌, ◌≢◌, ℕ, ◌<◌, ◌≤◌, Bool, eqb, not, ◌||◌, ◌&&◌, List, slice_index, Option, MatchOption}
+use Rattle.std.specs.Prelude.{◌≡◌, ◌≢◌, ℕ, ◌<◌, ◌≤◌, ◌==◌, Bool, not, ◌||◌, ◌&&◌, List, slice_index, Option}
+use Rattle.std.specs.Prelude.{MatchOption}
 
 -- the first n keys ascend strictly
 abbrev pub IsAscendingBelow : List ℕ → ℕ → Type 0
@@ -16,4 +17,4 @@ IsFirstAbove keys n key p = (p ≤ n) × ((k : ℕ) → k < p → slice_index ke
 
 -- place p holds the key, and for key 255 the set of used places has it too
 abbrev pub is_held : List ℕ → ℕ → (ℕ → Bool) → ℕ → Bool
-is_held keys key used p = eqb (slice_index keys p) key && (not (eqb key 255) || used p)
+is_held keys key used p = (slice_index keys p == key) && (not (key == 255) || used p)

@@ -36,7 +36,8 @@ pub trait NodeMapping<N, const NUM_CHILDREN: usize> {
     /// Returns a mutable borrow of the child at a byte.
     fn seek_child_mut(&mut self, key: u8) -> Option<&mut N>
         ensures* writes_back { sem 𝓛 (LendsSo Self.row N.row self.entry result
-            (λ n w. OnSome result (map n ≡ replaced key w (map self.old))) (λ n. map n ≡ map self.old)) }
+            (λ n w. OnSome result (map n ≡ replaced key w (map self.old)))
+            (λ n. map n ≡ map self.old)) }
         ensures value { option_copied_mut result ≡ child_at key (map self.old) };
 
     /// Removes the child at a byte and returns it.

@@ -20,7 +20,8 @@ use std::io::Write;
 ///
 /// The error of `output`, if a write fails.
 pub fn write_reply<W: Write>(output: &mut W, reply: Reply<Key, u64>) -> io::Result<()>
-    ensures { OnOk result (Appends (W.contents output.old) (W.contents output.new) (reply_line reply)) }
+    ensures { OnOk result
+        (Appends (W.contents output.old) (W.contents output.new) (reply_line reply)) }
 {
     match reply {
         Reply::Value(value) => write_value(output, value),
@@ -42,7 +43,8 @@ pub fn write_reply<W: Write>(output: &mut W, reply: Reply<Key, u64>) -> io::Resu
 
 /// Writes the value that a key has or had, or `none`.
 fn write_value<W: Write>(output: &mut W, value: Option<u64>) -> io::Result<()>
-    ensures { OnOk result (Appends (W.contents output.old) (W.contents output.new) (value_line value)) }
+    ensures { OnOk result
+        (Appends (W.contents output.old) (W.contents output.new) (value_line value)) }
 {
     match value {
         Some(value) => writeln!(output, "some {value}"),
@@ -52,7 +54,8 @@ fn write_value<W: Write>(output: &mut W, value: Option<u64>) -> io::Result<()>
 
 /// Writes why the tree refused a command.
 fn write_refusal<W: Write>(output: &mut W, error: TreeError) -> io::Result<()>
-    ensures { OnOk result (Appends (W.contents output.old) (W.contents output.new) (refusal_line error)) }
+    ensures { OnOk result
+        (Appends (W.contents output.old) (W.contents output.new) (refusal_line error)) }
 {
     match error {
         TreeError::Memory => writeln!(output, "Memory"),
@@ -92,7 +95,8 @@ fn write_found<W: Write>(output: &mut W, found: Option<(Key, u64)>) -> io::Resul
 
 /// Writes one pair; the empty key is printed as `-`.
 fn write_pair<W: Write>(output: &mut W, key: &[u8], value: u64) -> io::Result<()>
-    ensures { OnOk result (Appends (W.contents output.old) (W.contents output.new) (pair_word (key.now, value))) }
+    ensures { OnOk result
+        (Appends (W.contents output.old) (W.contents output.new) (pair_word (key.now, value))) }
 {
     let key = if key.is_empty() { b"-".as_slice() } else { key };
     output.write_all(key)?;

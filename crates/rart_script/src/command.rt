@@ -33,7 +33,8 @@ pub fn parse_command(line: &[u8]) -> Option<Command>
 
 /// Returns the call of this name with these operands.
 fn parse_call(name: &[u8], operands: &[u8]) -> Option<Call<Key, u64>>
-    ensures { option_map (call_in array_key_bytes) result ≡ call_of name.now (words_of operands.now) }
+    ensures { option_map (call_in array_key_bytes) result
+        ≡ call_of name.now (words_of operands.now) }
 {
     if name == b"insert".as_slice() {
         parse_insert(operands)

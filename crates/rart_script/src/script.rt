@@ -71,7 +71,8 @@ fn run<R: Read, W: Write>(alloc: Global, input: &mut R, output: &mut W) -> Resul
 }
 
 fn read_all<R: Read>(alloc: Global, input: &mut R) -> Result<Vec<u8>, Stop>
-    ensures all { IfOk result (λ text. IfSome (R.remaining input.old) (λ bytes. text.items ≡ bytes)) }
+    ensures all { IfOk result
+        (λ text. IfSome (R.remaining input.old) (λ bytes. text.items ≡ bytes)) }
     ensures err { IfErr result (λ stop. stop ≡ Stop.CannotRead) }
 {
     let mut text = Vec::new(alloc);

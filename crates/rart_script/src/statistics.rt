@@ -14,7 +14,9 @@ use std::io::Write;
 ///
 /// The error of `output`, if a write fails.
 pub fn write_statistics<W: Write>(output: &mut W, stats: &TreeStats) -> io::Result<()>
-    ensures { OnOk result (Appends (W.contents output.old) (W.contents output.new) (stats_line (stats_in stats.now))) }
+    ensures { OnOk result
+        (Appends (W.contents output.old) (W.contents output.new)
+        (stats_line (stats_in stats.now))) }
 {
     write_sums(output, stats)?;
     for (width, of_width) in &stats.node_stats {
@@ -29,7 +31,8 @@ pub fn write_statistics<W: Write>(output: &mut W, stats: &TreeStats) -> io::Resu
 
 /// Writes the sums alone.
 fn write_sums<W: Write>(output: &mut W, stats: &TreeStats) -> io::Result<()>
-    ensures { OnOk result (Appends (W.contents output.old) (W.contents output.new) (sums_text (stats_in stats.now))) }
+    ensures { OnOk result
+        (Appends (W.contents output.old) (W.contents output.new) (sums_text (stats_in stats.now))) }
 {
     write!(
         output,

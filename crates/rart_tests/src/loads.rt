@@ -166,7 +166,8 @@ fn law_holds_of(
     sorted: Vec<(Key, u64)>,
     shuffled: Vec<(Key, u64)>,
 ) -> Option<(TreeStats, TreeStats)>
-    requires { IsPermutation (pairs_in array_key_bytes sorted.items) (pairs_in array_key_bytes shuffled.items) }
+    requires { IsPermutation (pairs_in array_key_bytes sorted.items)
+        (pairs_in array_key_bytes shuffled.items) }
 {
     if !ascend(&sorted) {
         return None;

@@ -19,7 +19,8 @@ pub type Routes = AdaptiveRadixTree<ArrayKey<16>, u32>;
 pub fn add_route(routes: &mut Routes, network: &[u8], hop: u32) -> Result<(), Refused<u32>>
     requires { length network.now ≤ 16 }
     ensures added { OnOk result (routes.new.pairs ≡ put network.now hop routes.old.pairs) }
-    ensures refused { IfErr result (λ e. (e.value ≡ hop) × MayRefuseInsert routes.old.pairs network.now e.error) }
+    ensures refused { IfErr result
+        (λ e. (e.value ≡ hop) × MayRefuseInsert routes.old.pairs network.now e.error) }
     ensures unchanged { OnErr result (routes.new ≡ routes.old) }
 {
     match routes.insert_k(&ArrayKey::<16>::new_from_slice(network), hop) {

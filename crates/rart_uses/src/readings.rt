@@ -23,7 +23,8 @@ pub fn readings_between<'a>(
     end: u64,
 ) -> Result<Range<'a, ArrayKey<8>, u64>, TreeError>
     ensures readings { IfOk result (λ r. up_to r.0 r.1
-        ≡ between (Included (to_be_bytes w64 start)) (Excluded (to_be_bytes w64 end)) readings.now.pairs) }
+        ≡ between (Included (to_be_bytes w64 start)) (Excluded (to_be_bytes w64 end))
+        readings.now.pairs) }
     ensures memory { IfErr result (MayLackRoom readings.now.pairs) }
 {
     readings.range(

@@ -44,14 +44,18 @@ pub fn bulk_load_equals_insertion<K: KeyTrait + Drop, V: Drop>(
     shuffled: Vec<(K, V)>,
 ) -> Result<(Counted<K, V>, Counted<K, V>), RefusedStep>
     requires ascending { IsAscending (pairs_in K.bytes sorted.items) }
-    requires same { IsPermutation (pairs_in K.bytes sorted.items) (pairs_in K.bytes shuffled.items) }
+    requires same { IsPermutation (pairs_in K.bytes sorted.items)
+        (pairs_in K.bytes shuffled.items) }
     ensures loaded { IfOk result (λ r. r.0.0.pairs ≡ pairs_in K.bytes sorted.items) }
     ensures pairs { IfOk result (λ r. r.1.0.pairs ≡ r.0.0.pairs) }
     ensures nodes { IfOk result (λ r. r.1.0.nodes ≡ r.0.0.nodes) }
-    ensures of_loaded { IfOk result (λ r. stats_in r.0.1 ≡ stats_of (keys_of r.0.0.pairs) r.0.0.nodes) }
-    ensures of_inserted { IfOk result (λ r. stats_in r.1.1 ≡ stats_of (keys_of r.1.0.pairs) r.1.0.nodes) }
+    ensures of_loaded { IfOk result
+        (λ r. stats_in r.0.1 ≡ stats_of (keys_of r.0.0.pairs) r.0.0.nodes) }
+    ensures of_inserted { IfOk result
+        (λ r. stats_in r.1.1 ≡ stats_of (keys_of r.1.0.pairs) r.1.0.nodes) }
     ensures statistics { IfOk result (λ r. stats_in r.1.1 ≡ stats_in r.0.1) }
-    ensures refused { IfErr result (RefusesStep (pairs_in K.bytes sorted.items) (pairs_in K.bytes shuffled.items)) }
+    ensures refused { IfErr result
+        (RefusesStep (pairs_in K.bytes sorted.items) (pairs_in K.bytes shuffled.items)) }
 {
     put_in_any_order::<V>();
     let loaded = match loaded(alloc, sorted) {

@@ -34,7 +34,8 @@ pub fn prefix_iter_filters_iter<'a, K: KeyTrait, V>(
     TreeError,
 >
     ensures whole { IfOk result (λ walks. walks.0 ≡ tree.now.pairs) }
-    ensures filters { IfOk result (λ walks. walks.1 ≡ filter (λ e. begins (K.bytes prefix.now) e.0) walks.0) }
+    ensures filters { IfOk result
+        (λ walks. walks.1 ≡ filter (λ e. begins (K.bytes prefix.now) e.0) walks.0) }
     ensures memory { IfErr result (MayLackRoom tree.now.pairs) }
 {
     let all = tree.iter()?;
@@ -63,7 +64,8 @@ pub fn longest_is_the_last_match<'a, K: KeyTrait, V>(
 ///
 /// The order is that of the view's bytes and the slice.
 pub fn comparisons_agree(view: LendingKeyView<'_, '_>, slice: &[u8]) -> (Ordering, bool)
-    ensures order { result.0 ≡ slice_cmp nat_cmp (joined (lent_segments view.entry.segments.now)) slice.now }
+    ensures order { result.0
+        ≡ slice_cmp nat_cmp (joined (lent_segments view.entry.segments.now)) slice.now }
     ensures agree { IsTrue result.1 ↔ (result.0 ≡ Ordering.Equal) }
     ensures bytes { IsTrue result.1 ↔ (joined (lent_segments view.entry.segments.now) ≡ slice.now) }
 {
@@ -80,7 +82,8 @@ pub fn key_of_a_view<K: KeyTrait>(
     alloc: Global,
 ) -> Result<K, TreeError>
     requires { IsWithin K.MAXIMUM_SIZE (length (joined (lent_segments view.segments.now))) }
-    ensures bytes { IfOk result (λ key. K.bytes key ≡ joined (lent_segments view.entry.segments.now)) }
+    ensures bytes { IfOk result
+        (λ key. K.bytes key ≡ joined (lent_segments view.entry.segments.now)) }
     ensures memory { IfErr result (λ e. e ≡ TreeError.Memory) }
 {
     view.to_key(alloc)

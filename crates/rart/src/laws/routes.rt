@@ -24,13 +24,16 @@ pub fn add_then_route<K: KeyTrait, T: Copy>(
     target: T,
     probe: &[u8],
 ) -> Result<(Option<T>, Option<T>), NotInserted<T>>
-    ensures pairs { OnOk result (table.new.pairs ≡ put (K.bytes prefix.now) target table.old.pairs) }
+    ensures pairs { OnOk result
+        (table.new.pairs ≡ put (K.bytes prefix.now) target table.old.pairs) }
     ensures before { IfOk result (λ r. r.0 ≡ longest_value probe.now table.old.pairs) }
     ensures after { IfOk result (λ r. r.1 ≡ longest_value probe.now table.new.pairs) }
-    ensures longest { OnOk result (TakesLongest (K.bytes prefix.now) target probe.now table.old.pairs table.new.pairs) }
+    ensures longest { OnOk result
+        (TakesLongest (K.bytes prefix.now) target probe.now table.old.pairs table.new.pairs) }
     ensures longer_stays { OnOk result (HasLonger (K.bytes prefix.now) probe.now table.old.pairs
         → KeepsLongest probe.now table.old.pairs table.new.pairs) }
-    ensures others_stay { OnOk result (KeepsOthers (K.bytes prefix.now) probe.now table.old.pairs table.new.pairs) }
+    ensures others_stay { OnOk result
+        (KeepsOthers (K.bytes prefix.now) probe.now table.old.pairs table.new.pairs) }
     ensures refused { IfErr result (TellsWhy table.old.pairs (K.bytes prefix.now) target) }
     ensures unchanged { OnErr result (table.new ≡ table.old) }
 {
@@ -56,7 +59,8 @@ pub fn withdraw_then_route<K: KeyTrait, T: Copy>(
     ensures pairs { OnOk result (table.new.pairs ≡ without (K.bytes prefix.now) table.old.pairs) }
     ensures before { IfOk result (λ r. r.0 ≡ longest_value probe.now table.old.pairs) }
     ensures after { IfOk result (λ r. r.1 ≡ longest_value probe.now table.new.pairs) }
-    ensures others_stay { OnOk result (KeepsOthers (K.bytes prefix.now) probe.now table.old.pairs table.new.pairs) }
+    ensures others_stay { OnOk result
+        (KeepsOthers (K.bytes prefix.now) probe.now table.old.pairs table.new.pairs) }
     ensures refused { IfErr result (MayRefuseRemove table.old.pairs (K.bytes prefix.now)) }
     ensures unchanged { OnErr result (table.new ≡ table.old) }
 {

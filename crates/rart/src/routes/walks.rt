@@ -20,7 +20,8 @@ impl<K: KeyTrait, T> RouteTable<K, T> {
     pub fn covering_for_each_by_ref<F: FnMut(&[u8], &T)>(&self, probe: &K, f: &mut F)
         requires callable { CanMatch F.FnMut f.old (matches (K.bytes probe.now) self.now.pairs) }
         ensures callable { F.IsAlwaysCallable f.old → F.IsAlwaysCallable f.new }
-        ensures calls { MatchesEach F.FnMut f.old (matches (K.bytes probe.now) self.now.pairs) f.new }
+        ensures calls { MatchesEach F.FnMut f.old
+            (matches (K.bytes probe.now) self.now.pairs) f.new }
     {
         self.routes.prefix_match_for_each_by_ref_k(probe, f)
     }

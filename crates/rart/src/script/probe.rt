@@ -54,7 +54,8 @@ fn copied_matches<K: KeyTrait + Drop, V: Copy>(
     tree: &AdaptiveRadixTree<K, V>,
     probe: &K,
 ) -> Result<Vec<(K, V)>, TreeError>
-    ensures pairs { IfOk result (λ pairs. pairs_in K.bytes pairs.items ≡ matches (K.bytes probe.now) tree.now.pairs) }
+    ensures pairs { IfOk result
+        (λ pairs. pairs_in K.bytes pairs.items ≡ matches (K.bytes probe.now) tree.now.pairs) }
     ensures memory { IfErr result (MayLackRoom (matches (K.bytes probe.now) tree.now.pairs)) }
 {
     let mut pairs = Vec::new(alloc);
@@ -73,7 +74,8 @@ fn copied_below<K: KeyTrait + Drop, V: Copy>(
     tree: &AdaptiveRadixTree<K, V>,
     prefix: &K,
 ) -> Result<Vec<(K, V)>, TreeError>
-    ensures pairs { IfOk result (λ pairs. pairs_in K.bytes pairs.items ≡ below (K.bytes prefix.now) tree.now.pairs) }
+    ensures pairs { IfOk result
+        (λ pairs. pairs_in K.bytes pairs.items ≡ below (K.bytes prefix.now) tree.now.pairs) }
     ensures memory { IfErr result (MayLackRoom tree.now.pairs) }
 {
     let mut pairs = Vec::new(alloc);

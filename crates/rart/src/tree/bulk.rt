@@ -51,7 +51,8 @@ impl<K: KeyTrait, V: Drop> AdaptiveRadixTree<K, V> {
         K: Drop,
         requires { (s : I.IntoIter) → I.into_iter_gives items s → I.IntoIter.can_next s
             × IsFinite (I.IntoIter.remaining s) }
-        ensures faultless { IfOk result (λ tree. ReadsAll I.into_iter_gives I.IntoIter.next_gives items
+        ensures faultless { IfOk result
+            (λ tree. ReadsAll I.into_iter_gives I.IntoIter.next_gives items
             (λ xs. LoadsSorted (pairs_in K.bytes xs) tree.pairs)) }
         ensures shape { IfOk result (λ tree. HasShape (keys_of tree.pairs) tree.nodes) }
         ensures refused { IfErr result (λ error. Reads I.into_iter_gives I.IntoIter.next_gives items
@@ -108,12 +109,15 @@ impl<K: KeyTrait, V: Drop> AdaptiveRadixTree<K, V> {
         F: Drop,
         G: Drop,
         requires key_at { (i : _) → i < len → len ≤ MAX_PAIRS → F.pre key_at i }
-        requires ascending { (i j : _) (k l : _) → i < j → j < len → len ≤ MAX_PAIRS → F.post key_at i k
+        requires ascending { (i j : _) (k l : _) → i < j → j < len → len ≤ MAX_PAIRS
+            → F.post key_at i k
             → F.post key_at j l → IsLess (K.bytes k.now) (K.bytes l.now) }
         requires take_value_at { len ≤ MAX_PAIRS → CanTake G.pre G.step 0 len take_value_at }
         ensures keys { IfOk result (λ tree. (length tree.pairs ≡ len)
-            × AreKeysAt (λ i key. (k : _) × F.post key_at i k × (key ≡ K.bytes k.now)) (keys_of tree.pairs)) }
-        ensures values { IfOk result (λ tree. (left : G) × Takes G.step 0 take_value_at (values_of tree.pairs) left) }
+            × AreKeysAt (λ i key. (k : _) × F.post key_at i k × (key ≡ K.bytes k.now))
+            (keys_of tree.pairs)) }
+        ensures values { IfOk result
+            (λ tree. (left : G) × Takes G.step 0 take_value_at (values_of tree.pairs) left) }
         ensures shape { IfOk result (λ tree. HasShape (keys_of tree.pairs) tree.nodes) }
         ensures refused { IfErr result (FailsByIndex len) }
         ensures not_full { OnOk result (len ≤ MAX_PAIRS) }
@@ -145,17 +149,20 @@ impl<K: KeyTrait, V: Drop> AdaptiveRadixTree<K, V> {
         K: 'a,
         F: Drop,
         requires key_at { (i : _) → i < len → len ≤ MAX_PAIRS → F.pre key_at i }
-        requires ascending { (i j : _) (k l : _) → i < j → j < len → len ≤ MAX_PAIRS → F.post key_at i k
+        requires ascending { (i j : _) (k l : _) → i < j → j < len → len ≤ MAX_PAIRS
+            → F.post key_at i k
             → F.post key_at j l → IsLess (K.bytes k.now) (K.bytes l.now) }
         requires take_value_at { len ≤ MAX_PAIRS → CanTake G.pre G.step 0 len take_value_at.old }
         ensures keys { IfOk result (λ tree. (length tree.pairs ≡ len)
-            × AreKeysAt (λ i key. (k : _) × F.post key_at i k × (key ≡ K.bytes k.now)) (keys_of tree.pairs)) }
-        ensures values { IfOk result (λ tree. Takes G.step 0 take_value_at.old (values_of tree.pairs)
-            take_value_at.new) }
+            × AreKeysAt (λ i key. (k : _) × F.post key_at i k × (key ≡ K.bytes k.now))
+            (keys_of tree.pairs)) }
+        ensures values { IfOk result
+            (λ tree. Takes G.step 0 take_value_at.old (values_of tree.pairs) take_value_at.new) }
         ensures shape { IfOk result (λ tree. HasShape (keys_of tree.pairs) tree.nodes) }
         ensures refused { IfErr result (FailsByIndex len) }
         ensures not_full { OnOk result (len ≤ MAX_PAIRS) }
-        ensures taken { IfErr result (TakesBeginning G.step len take_value_at.old take_value_at.new) }
+        ensures taken { IfErr result
+            (TakesBeginning G.step len take_value_at.old take_value_at.new) }
     {
         if len > MAX_PAIRS {
             return Err(BulkError::Full);
@@ -204,7 +211,8 @@ impl<K: KeyTrait, V: Drop> AdaptiveRadixTree<K, V> {
         requires ascending { IsAscending (lone_keys (keys_in keys.now)) }
         requires callable { CanTake F.pre F.step 0 (length keys.now) take_value.old }
         ensures keys { IfOk result (λ tree. keys_of tree.pairs ≡ keys_in keys.now) }
-        ensures values { IfOk result (λ tree. Takes F.step 0 take_value.old (values_of tree.pairs) take_value.new) }
+        ensures values { IfOk result
+            (λ tree. Takes F.step 0 take_value.old (values_of tree.pairs) take_value.new) }
         ensures taken { OnErr result ((vs : List V) × (length vs ≤ length keys.now)
             × Takes F.step 0 take_value.old vs take_value.new) }
         ensures shape { IfOk result (λ tree. HasShape (keys_of tree.pairs) tree.nodes) }

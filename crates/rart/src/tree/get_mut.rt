@@ -14,7 +14,8 @@ impl<K: KeyTrait, V> AdaptiveRadixTree<K, V> {
     ///
     /// After the borrow ends, only the value at `key` can have changed.
     pub fn get_mut_k<'a>(&'a mut self, key: &K) -> Option<&'a mut V>
-        ensures* writes_back { sem 𝓛 (lends_value K.row V.row K.PartialType.row K.KeyTrait K.PartialType.Partial
+        ensures* writes_back { sem 𝓛
+            (lends_value K.row V.row K.PartialType.row K.KeyTrait K.PartialType.Partial
             self.entry (K.bytes key.now) result) }
         ensures value { option_copied_mut result ≡ lookup (K.bytes key.now) self.old.pairs }
     {
@@ -25,7 +26,8 @@ impl<K: KeyTrait, V> AdaptiveRadixTree<K, V> {
     pub fn get_mut(&mut self, key: K) -> Option<&mut V>
     where
         K: Drop,
-        ensures* writes_back { sem 𝓛 (lends_value K.row V.row K.PartialType.row K.KeyTrait K.PartialType.Partial
+        ensures* writes_back { sem 𝓛
+            (lends_value K.row V.row K.PartialType.row K.KeyTrait K.PartialType.Partial
             self.entry (K.bytes key) result) }
         ensures value { option_copied_mut result ≡ lookup (K.bytes key) self.old.pairs }
     {

@@ -31,9 +31,11 @@ impl<K: KeyTrait, V> AdaptiveRadixTree<K, V> {
         other: &AdaptiveRadixTree<K, W>,
         f: &mut F,
     )
-        requires callable { CanCallWith F.FnMut f.old (values_of (join self.now.pairs other.now.pairs)) }
+        requires callable { CanCallWith F.FnMut f.old
+            (values_of (join self.now.pairs other.now.pairs)) }
         ensures callable { F.IsAlwaysCallable f.old → F.IsAlwaysCallable f.new }
-        ensures calls { CallsWithEach F.FnMut f.old (values_of (join self.now.pairs other.now.pairs)) f.new }
+        ensures calls { CallsWithEach F.FnMut f.old
+            (values_of (join self.now.pairs other.now.pairs)) f.new }
     {
         self.seen()
             .intersect_values_with_by_ref_counted(other.seen(), f, &mut Visits::new());
@@ -45,7 +47,8 @@ impl<K: KeyTrait, V> AdaptiveRadixTree<K, V> {
         other: &AdaptiveRadixTree<K, W>,
         f: F,
     )
-        requires callable { CanCallWith F.FnMut f (values_of (join self.now.pairs other.now.pairs)) }
+        requires callable { CanCallWith F.FnMut f
+            (values_of (join self.now.pairs other.now.pairs)) }
         ensures { CalledWithEach F.FnMut f (values_of (join self.now.pairs other.now.pairs)) }
     {
         self.seen()
@@ -64,7 +67,8 @@ impl<K: KeyTrait, V> AdaptiveRadixTree<K, V> {
     ) -> Result<(), TreeError>
         requires callable { CanCallAt F.FnMut K.bytes f.old (join self.now.pairs other.now.pairs) }
         ensures callable { F.IsAlwaysCallable f.old → F.IsAlwaysCallable f.new }
-        ensures calls { OnOk result (CallsAtEach F.FnMut K.bytes f.old (join self.now.pairs other.now.pairs) f.new) }
+        ensures calls { OnOk result
+            (CallsAtEach F.FnMut K.bytes f.old (join self.now.pairs other.now.pairs) f.new) }
         ensures refused { OnErr result (f.new ≡ f.old) }
         ensures memory { IfErr result (MayLackBoth self.now.pairs other.now.pairs) }
     {
@@ -83,7 +87,8 @@ impl<K: KeyTrait, V> AdaptiveRadixTree<K, V> {
         f: F,
     ) -> Result<(), TreeError>
         requires callable { CanCallAt F.FnMut K.bytes f (join self.now.pairs other.now.pairs) }
-        ensures calls { OnOk result (CalledAtEach F.FnMut K.bytes f (join self.now.pairs other.now.pairs)) }
+        ensures calls { OnOk result
+            (CalledAtEach F.FnMut K.bytes f (join self.now.pairs other.now.pairs)) }
         ensures memory { IfErr result (MayLackBoth self.now.pairs other.now.pairs) }
     {
         self.seen()
@@ -103,7 +108,8 @@ impl<K: KeyTrait, V> AdaptiveRadixTree<K, V> {
     ) -> Result<(), TreeError>
         requires callable { CanViewAt F.FnMut f.old (join self.now.pairs other.now.pairs) }
         ensures callable { F.IsAlwaysCallable f.old → F.IsAlwaysCallable f.new }
-        ensures calls { OnOk result (ViewsAtEach F.FnMut f.old (join self.now.pairs other.now.pairs) f.new) }
+        ensures calls { OnOk result
+            (ViewsAtEach F.FnMut f.old (join self.now.pairs other.now.pairs) f.new) }
         ensures refused { OnErr result (f.new ≡ f.old) }
         ensures memory { IfErr result (MayLackBoth self.now.pairs other.now.pairs) }
     {

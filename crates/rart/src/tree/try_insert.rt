@@ -28,7 +28,8 @@ impl<K: KeyTrait, V> AdaptiveRadixTree<K, V> {
     /// [`NotInserted::Stored`] if the key is stored. [`NotInserted::Refused`] if the insertion fails as that of
     /// [`insert_k`](Self::insert_k). The tree is then unchanged, and the error holds `value`.
     pub fn insert_new_k(&mut self, key: &K, value: V) -> Result<(), NotInserted<V>>
-        ensures inserts_new { InsertsNew (K.bytes key.now) value self.old.pairs self.new.pairs result }
+        ensures inserts_new { InsertsNew (K.bytes key.now) value self.old.pairs self.new.pairs
+            result }
         ensures unchanged { OnErr result (self.new ≡ self.old) }
     {
         if self.len == MAX_PAIRS {
@@ -80,7 +81,8 @@ impl<K: KeyTrait, V> AdaptiveRadixTree<K, V> {
     /// [`TryInsertError::Refused`] if the insertion fails as that of [`insert_k`](Self::insert_k), with `value`. After
     /// the borrow ends the tree is unchanged.
     pub fn try_insert_k<'a>(&'a mut self, key: &K, value: V) -> Result<(), TryInsertError<'a, V>>
-        ensures* after { sem 𝓛 (ends_as K.row V.row K.PartialType.row K.KeyTrait K.PartialType.Partial self.entry
+        ensures* after { sem 𝓛
+            (ends_as K.row V.row K.PartialType.row K.KeyTrait K.PartialType.Partial self.entry
             (PutOrSame (K.bytes key.now) value result self.old)) }
         ensures answer { TriesInsert (K.bytes key.now) value self.old.pairs result }
     {
@@ -115,7 +117,8 @@ impl<K: KeyTrait, V> AdaptiveRadixTree<K, V> {
     pub fn try_insert<'a>(&'a mut self, key: K, value: V) -> Result<(), TryInsertError<'a, V>>
     where
         K: Drop,
-        ensures* after { sem 𝓛 (ends_as K.row V.row K.PartialType.row K.KeyTrait K.PartialType.Partial self.entry
+        ensures* after { sem 𝓛
+            (ends_as K.row V.row K.PartialType.row K.KeyTrait K.PartialType.Partial self.entry
             (PutOrSame (K.bytes key) value result self.old)) }
         ensures answer { TriesInsert (K.bytes key) value self.old.pairs result }
     {
@@ -126,7 +129,8 @@ impl<K: KeyTrait, V> AdaptiveRadixTree<K, V> {
     // Inserts as `insert_new_k` and returns the key.
     fn insert_new_keeping_key(&mut self, key: K, value: V) -> Tried<K, V>
         ensures key { result.key ≡ key }
-        ensures inserts_new { InsertsNew (K.bytes key) value self.old.pairs self.new.pairs result.outcome }
+        ensures inserts_new { InsertsNew (K.bytes key) value self.old.pairs self.new.pairs
+            result.outcome }
         ensures unchanged { OnErr result.outcome (self.new ≡ self.old) }
     {
         let outcome = self.insert_new_k(&key, value);

@@ -59,11 +59,14 @@ impl<K: KeyTrait, V> AdaptiveRadixTree<K, V> {
         key: &K,
         f: F,
     ) -> (Result<Outcome<V>, UpdateError<V>>, X)
-        requires callable { FnOnceTakesAtMut F.FnOnce f (slot_of (lookup (K.bytes key.now) self.old.pairs)) }
+        requires callable { FnOnceTakesAtMut F.FnOnce f
+            (slot_of (lookup (K.bytes key.now) self.old.pairs)) }
         requires stays { StaysReturning F.FnOnce f (lookup (K.bytes key.now) self.old.pairs) }
-        ensures update { UpdatesReturning F.FnOnce f (K.bytes key.now) self.old.pairs result self.new.pairs }
+        ensures update { UpdatesReturning F.FnOnce f (K.bytes key.now) self.old.pairs result
+            self.new.pairs }
         ensures refused { OnErr result.0 (self.new.nodes ≡ self.old.nodes) }
-        ensures nodes { keys_of self.new.pairs ≡ keys_of self.old.pairs → self.new.nodes ≡ self.old.nodes }
+        ensures nodes { keys_of self.new.pairs ≡ keys_of self.old.pairs
+            → self.new.nodes ≡ self.old.nodes }
     {
         let full = self.len == MAX_PAIRS;
         let bytes = key.as_ref();
@@ -108,7 +111,8 @@ impl<K: KeyTrait, V> AdaptiveRadixTree<K, V> {
     ) -> Result<bool, UpdateError<V>>
     where
         V: Drop,
-        requires callable { FnOnceTakesAtMut F.FnOnce f (slot_of (lookup (K.bytes key.now) self.old.pairs)) }
+        requires callable { FnOnceTakesAtMut F.FnOnce f
+            (slot_of (lookup (K.bytes key.now) self.old.pairs)) }
         requires stays { Stays F.FnOnce f (lookup (K.bytes key.now) self.old.pairs) }
         ensures update { Updates F.FnOnce f (K.bytes key.now) self.old.pairs result self.new.pairs }
         ensures shape { HasShape (keys_of self.new.pairs) self.new.nodes }
@@ -135,7 +139,8 @@ impl<K: KeyTrait, V> AdaptiveRadixTree<K, V> {
     where
         K: Drop,
         V: Drop,
-        requires callable { FnOnceTakesAtMut F.FnOnce f (slot_of (lookup (K.bytes key) self.old.pairs)) }
+        requires callable { FnOnceTakesAtMut F.FnOnce f
+            (slot_of (lookup (K.bytes key) self.old.pairs)) }
         requires stays { Stays F.FnOnce f (lookup (K.bytes key) self.old.pairs) }
         ensures update { Updates F.FnOnce f (K.bytes key) self.old.pairs result self.new.pairs }
         ensures shape { HasShape (keys_of self.new.pairs) self.new.nodes }
@@ -175,11 +180,13 @@ impl<K: KeyTrait, V> AdaptiveRadixTree<K, V> {
     where
         V: Clone,
         requires clones { (x y : V) → V.is_clone x y → y ≡ x }
-        requires callable { FnOnceTakesAtMut F.FnOnce f (slot_of (lookup (K.bytes key.now) self.old.pairs)) }
+        requires callable { FnOnceTakesAtMut F.FnOnce f
+            (slot_of (lookup (K.bytes key.now) self.old.pairs)) }
         requires stays { StaysIfOk F.FnOnce f (lookup (K.bytes key.now) self.old.pairs) }
         ensures called { result ≢ Err Not_cloned
             → TriesUpdate F.FnOnce f (K.bytes key.now) self.old.pairs result self.new.pairs }
-        ensures not_cloned { result ≡ Err Not_cloned → (v : V) × (lookup (K.bytes key.now) self.old.pairs ≡ Some v)
+        ensures not_cloned { result ≡ Err Not_cloned
+            → (v : V) × (lookup (K.bytes key.now) self.old.pairs ≡ Some v)
             × (V.is_infallible v → ⊥) }
         ensures shape { HasShape (keys_of self.new.pairs) self.new.nodes }
         ensures refused { OnErr result (self.new ≡ self.old) }
@@ -220,11 +227,13 @@ impl<K: KeyTrait, V> AdaptiveRadixTree<K, V> {
         K: Drop,
         V: Clone,
         requires clones { (x y : V) → V.is_clone x y → y ≡ x }
-        requires callable { FnOnceTakesAtMut F.FnOnce f (slot_of (lookup (K.bytes key) self.old.pairs)) }
+        requires callable { FnOnceTakesAtMut F.FnOnce f
+            (slot_of (lookup (K.bytes key) self.old.pairs)) }
         requires stays { StaysIfOk F.FnOnce f (lookup (K.bytes key) self.old.pairs) }
         ensures called { result ≢ Err Not_cloned
             → TriesUpdate F.FnOnce f (K.bytes key) self.old.pairs result self.new.pairs }
-        ensures not_cloned { result ≡ Err Not_cloned → (v : V) × (lookup (K.bytes key) self.old.pairs ≡ Some v)
+        ensures not_cloned { result ≡ Err Not_cloned
+            → (v : V) × (lookup (K.bytes key) self.old.pairs ≡ Some v)
             × (V.is_infallible v → ⊥) }
         ensures shape { HasShape (keys_of self.new.pairs) self.new.nodes }
         ensures refused { OnErr result (self.new ≡ self.old) }
@@ -239,7 +248,8 @@ fn update_plainly<V, K: KeyTrait, F: FnOnce(&mut Slot<V>) -> SlotUpdate<V>>(
     key: &K,
     f: F,
 ) -> Result<Outcome<V>, UpdateError<V>>
-    requires callable { FnOnceTakesAtMut F.FnOnce f (slot_of (lookup (K.bytes key.now) tree.old.pairs)) }
+    requires callable { FnOnceTakesAtMut F.FnOnce f
+        (slot_of (lookup (K.bytes key.now) tree.old.pairs)) }
     requires stays { Stays F.FnOnce f (lookup (K.bytes key.now) tree.old.pairs) }
     ensures update { AnswersSo F.FnOnce f (lookup (K.bytes key.now) tree.old.pairs)
         (λ r w. EndsIn (K.bytes key.now) r w tree.old.pairs result tree.new.pairs) }
@@ -278,12 +288,14 @@ fn update_tried<
     f: F,
 ) -> (Result<Outcome<V>, UpdateError<V>>, CallbackOutcome<V, E>)
     requires clones { (x y : V) → V.is_clone x y → y ≡ x }
-    requires callable { FnOnceTakesAtMut F.FnOnce f (slot_of (lookup (K.bytes key.now) tree.old.pairs)) }
+    requires callable { FnOnceTakesAtMut F.FnOnce f
+        (slot_of (lookup (K.bytes key.now) tree.old.pairs)) }
     requires stays { StaysIfOk F.FnOnce f (lookup (K.bytes key.now) tree.old.pairs) }
-    ensures update { Attempts V.is_infallible F.FnOnce f (K.bytes key.now) tree.old.pairs result.1 result.0
-        tree.new.pairs }
+    ensures update { Attempts V.is_infallible F.FnOnce f (K.bytes key.now) tree.old.pairs result.1
+        result.0 tree.new.pairs }
     ensures refused { OnErr result.0 (tree.new.nodes ≡ tree.old.nodes) }
-    ensures nodes { keys_of tree.new.pairs ≡ keys_of tree.old.pairs → tree.new.nodes ≡ tree.old.nodes }
+    ensures nodes { keys_of tree.new.pairs ≡ keys_of tree.old.pairs
+        → tree.new.nodes ≡ tree.old.nodes }
 {
     tree.update_returning(
         key,
@@ -319,7 +331,8 @@ fn attempt<V: Clone, E, F: FnOnce(&mut Slot<V>) -> Result<SlotUpdate<V>, E> + Dr
 fn saved<V: Clone>(slot: &Slot<V>) -> Result<Option<V>, AllocError>
     requires clones { (x y : V) → V.is_clone x y → y ≡ x }
     ensures saved { IfOk result (λ copy. slot_of copy ≡ slot.now) }
-    ensures stored { OnErr result ((v : V) × (slot.now ≡ Occupied_slot v) × (V.is_infallible v → ⊥)) }
+    ensures stored { OnErr result
+        ((v : V) × (slot.now ≡ Occupied_slot v) × (V.is_infallible v → ⊥)) }
 {
     match slot {
         Slot::Occupied(value) => Ok(Some(value.clone()?)),

@@ -70,7 +70,8 @@ impl Cidr4 {
 
     /// Returns the network's first address.
     pub fn addr(&self) -> Ipv4Addr
-        ensures { bits_of (ipv4_octets result) ≡ bits4 self.now ++ replicate (32 - length (bits4 self.now)) 0 }
+        ensures { bits_of (ipv4_octets result)
+            ≡ bits4 self.now ++ replicate (32 - length (bits4 self.now)) 0 }
     {
         Ipv4Addr::from_octets(self.octets)
     }

@@ -70,7 +70,8 @@ impl Cidr6 {
 
     /// Returns the network's first address.
     pub fn addr(&self) -> Ipv6Addr
-        ensures { bits_of (ipv6_octets result) ≡ bits6 self.now ++ replicate (128 - length (bits6 self.now)) 0 }
+        ensures { bits_of (ipv6_octets result)
+            ≡ bits6 self.now ++ replicate (128 - length (bits6 self.now)) 0 }
     {
         Ipv6Addr::from_octets(self.octets)
     }

@@ -29,7 +29,8 @@ impl<const N: usize> ArrayKey<N> {
 
     /// Returns the whole array: the bytes of the key, then zeros.
     pub fn as_array(&self) -> &[u8; N]
-        ensures { result.now ≡ array_key_bytes self.now ++ replicate (N - length (array_key_bytes self.now)) 0 }
+        ensures { result.now
+            ≡ array_key_bytes self.now ++ replicate (N - length (array_key_bytes self.now)) 0 }
     {
         &self.stored
     }

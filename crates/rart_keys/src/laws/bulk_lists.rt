@@ -10,9 +10,12 @@ ghost use Rattle.rart_keys.specs.SortedMap.{IsAscending, keys_of, lookup};
 /// ascends and keeps the last value of each key. A strictly ascending list has no fault and stays unchanged.
 pub fn bulk_lists<V>()
     ensures is_fault { (es : List (List ℕ × V)) (i : ℕ) → first_fault es ≡ Some i → IsFaultAt es i }
-    ensures is_first { (es : List (List ℕ × V)) (i j : ℕ) → first_fault es ≡ Some i → j < i → ¬ (IsFaultAt es j) }
-    ensures no_fault { (es : List (List ℕ × V)) (i : ℕ) → first_fault es ≡ None → ¬ (IsFaultAt es i) }
-    ensures ascends { (es : List (List ℕ × V)) → first_fault es ≡ None → IsAscending (last_wins es) }
+    ensures is_first { (es : List (List ℕ × V)) (i j : ℕ) → first_fault es ≡ Some i → j < i
+        → ¬ (IsFaultAt es j) }
+    ensures no_fault { (es : List (List ℕ × V)) (i : ℕ) → first_fault es ≡ None
+        → ¬ (IsFaultAt es i) }
+    ensures ascends { (es : List (List ℕ × V)) → first_fault es ≡ None
+        → IsAscending (last_wins es) }
     ensures last_values { (k : List ℕ) (es : List (List ℕ × V)) → first_fault es ≡ None
         → lookup k (last_wins es) ≡ lookup k (reverse es) }
     ensures strict_faultless { (es : List (List ℕ × V)) → IsAscending es → first_fault es ≡ None }
@@ -22,25 +25,30 @@ pub fn bulk_lists<V>()
 /// Proves what one more item does to a faultless list. A greater key is appended, an equal key replaces the last
 /// value, and a smaller key is the first fault.
 pub fn one_item_more<V>()
-    ensures later { (es : List (List ℕ × V)) (ks : List (List ℕ)) (vs : List V) (k : List ℕ) (v : V) → WasRead es ks vs
+    ensures later { (es : List (List ℕ × V)) (ks : List (List ℕ)) (vs : List V) (k : List ℕ) (v : V)
+        → WasRead es ks vs
         → order_behind ks k ≡ Less
         → WasRead (es ++ (k, v) ∷ []) (ks ++ k ∷ []) (vs ++ v ∷ []) }
-    ensures same { (es : List (List ℕ × V)) (ks : List (List ℕ)) (vs ws : List V) (w : V) (k : List ℕ) (v : V)
+    ensures same { (es : List (List ℕ × V)) (ks : List (List ℕ)) (vs ws : List V) (w : V)
+        (k : List ℕ) (v : V)
         → WasRead es ks vs → order_behind ks k ≡ Equal → vs ≡ ws ++ w ∷ []
         → WasRead (es ++ (k, v) ∷ []) ks (ws ++ v ∷ []) }
-    ensures earlier { (es : List (List ℕ × V)) (ks : List (List ℕ)) (vs : List V) (k : List ℕ) (v : V)
+    ensures earlier { (es : List (List ℕ × V)) (ks : List (List ℕ)) (vs : List V)
+        (k : List ℕ) (v : V)
         → WasRead es ks vs → order_behind ks k ≡ Greater
         → first_fault (es ++ (k, v) ∷ []) ≡ Some (length es) }
 {}
 
 /// Proves that inserting a strictly ascending list in any order yields that list.
 pub fn put_in_any_order<V>()
-    ensures { (xs ys : List (List ℕ × V)) → IsAscending xs → IsPermutation xs ys → put_all ys [] ≡ xs }
+    ensures { (xs ys : List (List ℕ × V)) → IsAscending xs → IsPermutation xs ys
+        → put_all ys [] ≡ xs }
 {}
 
 /// Proves that an ascending list can be extended at the front, and that its prefixes and any two of its keys ascend.
 pub fn ascending_pairs<V>()
-    ensures one_more { (e f : List ℕ × V) (es : List (List ℕ × V)) → IsLess e.0 f.0 → IsAscending (f ∷ es)
+    ensures one_more { (e f : List ℕ × V) (es : List (List ℕ × V)) → IsLess e.0 f.0
+        → IsAscending (f ∷ es)
         → IsAscending (e ∷ f ∷ es) }
     ensures beginning { (es more : List (List ℕ × V)) → IsAscending (es ++ more) → IsAscending es }
     ensures any_two { (es : List (List ℕ × V)) (i j : ℕ) → IsAscending es → i < j → j < length es

@@ -16,9 +16,11 @@ pub fn equality_and_order<const N: usize>(
     first: &ArrayKey<N>,
     second: &ArrayKey<N>,
 ) -> (bool, Ordering)
-    ensures same_bytes { IsTrue result.0 ↔ (array_key_bytes first.now ≡ array_key_bytes second.now) }
+    ensures same_bytes { IsTrue result.0
+        ↔ (array_key_bytes first.now ≡ array_key_bytes second.now) }
     ensures ties { IsTrue result.0 ↔ (result.1 ≡ Equal) }
-    ensures order { result.1 ≡ slice_cmp nat_cmp (array_key_bytes first.now) (array_key_bytes second.now) }
+    ensures order { result.1
+        ≡ slice_cmp nat_cmp (array_key_bytes first.now) (array_key_bytes second.now) }
 {
     (first == second, first.cmp(second))
 }
@@ -40,7 +42,8 @@ pub fn compared_terminated_keys<const N: usize>(
 ) -> (ArrayKey<N>, ArrayKey<N>, Ordering)
     requires first_fits { length x.now + 1 ≤ N }
     requires second_fits { length y.now + 1 ≤ N }
-    ensures { AreComparedAs result (x.now ++ 0 ∷ []) (y.now ++ 0 ∷ []) (slice_cmp nat_cmp x.now y.now) }
+    ensures { AreComparedAs result (x.now ++ 0 ∷ []) (y.now ++ 0 ∷ [])
+        (slice_cmp nat_cmp x.now y.now) }
 {
     compared(
         ArrayKey::new_from_str_terminated(x),
@@ -50,7 +53,8 @@ pub fn compared_terminated_keys<const N: usize>(
 
 /// Proves that a zero byte at the end of both of two byte strings does not change their order.
 pub fn closing_zeros()
-    ensures { (xs ys : List ℕ) → slice_cmp nat_cmp (xs ++ 0 ∷ []) (ys ++ 0 ∷ []) ≡ slice_cmp nat_cmp xs ys }
+    ensures { (xs ys : List ℕ)
+        → slice_cmp nat_cmp (xs ++ 0 ∷ []) (ys ++ 0 ∷ []) ≡ slice_cmp nat_cmp xs ys }
 {}
 
 /// Returns the keys of two `u8` and their order, which is that of the numbers. `N` must be at least 1.
@@ -107,8 +111,8 @@ pub fn compared_usize_keys<const N: usize>(
 /// Returns the keys of two `i8` and their order, which is that of the numbers. `N` must be at least 1.
 pub fn compared_i8_keys<const N: usize>(x: i8, y: i8) -> (ArrayKey<N>, ArrayKey<N>, Ordering)
     requires { 1 ≤ N }
-    ensures { AreComparedAs result (to_be_bytes w8 (sign_flipped w8 x)) (to_be_bytes w8 (sign_flipped w8 y))
-        (int_cmp x y) }
+    ensures { AreComparedAs result (to_be_bytes w8 (sign_flipped w8 x))
+        (to_be_bytes w8 (sign_flipped w8 y)) (int_cmp x y) }
 {
     compared(ArrayKey::from_i8(x), ArrayKey::from_i8(y))
 }
@@ -116,8 +120,8 @@ pub fn compared_i8_keys<const N: usize>(x: i8, y: i8) -> (ArrayKey<N>, ArrayKey<
 /// Returns the keys of two `i16` and their order, which is that of the numbers. `N` must be at least 2.
 pub fn compared_i16_keys<const N: usize>(x: i16, y: i16) -> (ArrayKey<N>, ArrayKey<N>, Ordering)
     requires { 2 ≤ N }
-    ensures { AreComparedAs result (to_be_bytes w16 (sign_flipped w16 x)) (to_be_bytes w16 (sign_flipped w16 y))
-        (int_cmp x y) }
+    ensures { AreComparedAs result (to_be_bytes w16 (sign_flipped w16 x))
+        (to_be_bytes w16 (sign_flipped w16 y)) (int_cmp x y) }
 {
     compared(ArrayKey::from_i16(x), ArrayKey::from_i16(y))
 }
@@ -125,8 +129,8 @@ pub fn compared_i16_keys<const N: usize>(x: i16, y: i16) -> (ArrayKey<N>, ArrayK
 /// Returns the keys of two `i32` and their order, which is that of the numbers. `N` must be at least 4.
 pub fn compared_i32_keys<const N: usize>(x: i32, y: i32) -> (ArrayKey<N>, ArrayKey<N>, Ordering)
     requires { 4 ≤ N }
-    ensures { AreComparedAs result (to_be_bytes w32 (sign_flipped w32 x)) (to_be_bytes w32 (sign_flipped w32 y))
-        (int_cmp x y) }
+    ensures { AreComparedAs result (to_be_bytes w32 (sign_flipped w32 x))
+        (to_be_bytes w32 (sign_flipped w32 y)) (int_cmp x y) }
 {
     compared(ArrayKey::from_i32(x), ArrayKey::from_i32(y))
 }
@@ -134,8 +138,8 @@ pub fn compared_i32_keys<const N: usize>(x: i32, y: i32) -> (ArrayKey<N>, ArrayK
 /// Returns the keys of two `i64` and their order, which is that of the numbers. `N` must be at least 8.
 pub fn compared_i64_keys<const N: usize>(x: i64, y: i64) -> (ArrayKey<N>, ArrayKey<N>, Ordering)
     requires { 8 ≤ N }
-    ensures { AreComparedAs result (to_be_bytes w64 (sign_flipped w64 x)) (to_be_bytes w64 (sign_flipped w64 y))
-        (int_cmp x y) }
+    ensures { AreComparedAs result (to_be_bytes w64 (sign_flipped w64 x))
+        (to_be_bytes w64 (sign_flipped w64 y)) (int_cmp x y) }
 {
     compared(ArrayKey::from_i64(x), ArrayKey::from_i64(y))
 }
@@ -143,8 +147,8 @@ pub fn compared_i64_keys<const N: usize>(x: i64, y: i64) -> (ArrayKey<N>, ArrayK
 /// Returns the keys of two `i128` and their order, which is that of the numbers. `N` must be at least 16.
 pub fn compared_i128_keys<const N: usize>(x: i128, y: i128) -> (ArrayKey<N>, ArrayKey<N>, Ordering)
     requires { 16 ≤ N }
-    ensures { AreComparedAs result (to_be_bytes w128 (sign_flipped w128 x)) (to_be_bytes w128 (sign_flipped w128 y))
-        (int_cmp x y) }
+    ensures { AreComparedAs result (to_be_bytes w128 (sign_flipped w128 x))
+        (to_be_bytes w128 (sign_flipped w128 y)) (int_cmp x y) }
 {
     compared(ArrayKey::from_i128(x), ArrayKey::from_i128(y))
 }
@@ -155,8 +159,8 @@ pub fn compared_isize_keys<const N: usize>(
     y: isize,
 ) -> (ArrayKey<N>, ArrayKey<N>, Ordering)
     requires { 8 ≤ N }
-    ensures { AreComparedAs result (to_be_bytes w64 (sign_flipped w64 x)) (to_be_bytes w64 (sign_flipped w64 y))
-        (int_cmp x y) }
+    ensures { AreComparedAs result (to_be_bytes w64 (sign_flipped w64 x))
+        (to_be_bytes w64 (sign_flipped w64 y)) (int_cmp x y) }
 {
     compared(ArrayKey::from_isize(x), ArrayKey::from_isize(y))
 }

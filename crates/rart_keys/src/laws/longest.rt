@@ -12,15 +12,21 @@ pub fn longest_matches<V>()
         → TakesLongest p v q es (put p v es) }
     ensures put_shorter { (p q : List ℕ) (v : V) (es : List (List ℕ × V)) → HasLonger p q es
         → KeepsLongest q es (put p v es) }
-    ensures put_elsewhere { (p q : List ℕ) (v : V) (es : List (List ℕ × V)) → KeepsOthers p q es (put p v es) }
-    ensures without_elsewhere { (p q : List ℕ) (es : List (List ℕ × V)) → KeepsOthers p q es (without p es) }
+    ensures put_elsewhere { (p q : List ℕ) (v : V) (es : List (List ℕ × V))
+        → KeepsOthers p q es (put p v es) }
+    ensures without_elsewhere { (p q : List ℕ) (es : List (List ℕ × V))
+        → KeepsOthers p q es (without p es) }
 {}
 
 /// Proves that the longest match is the pair with the longest stored key that begins the probe. Without a longest
 /// match no stored key begins the probe. The keys of all matches ascend by length.
 pub fn longest_is_longest<V>()
-    ensures longest { (p q : List ℕ) (v : V) (es : List (List ℕ × V)) → IsAscending es → MatchIsLongest p v q es }
-    ensures only { (p q : List ℕ) (v : V) (es : List (List ℕ × V)) → IsAscending es → LongestIsMatch p v q es }
-    ensures none { (q : List ℕ) (es : List (List ℕ × V)) → longest_match q es ≡ None → HasNoMatch q es }
-    ensures lengths { (q : List ℕ) (es : List (List ℕ × V)) → IsAscending es → AscendByLength (matches q es) }
+    ensures longest { (p q : List ℕ) (v : V) (es : List (List ℕ × V)) → IsAscending es
+        → MatchIsLongest p v q es }
+    ensures only { (p q : List ℕ) (v : V) (es : List (List ℕ × V)) → IsAscending es
+        → LongestIsMatch p v q es }
+    ensures none { (q : List ℕ) (es : List (List ℕ × V)) → longest_match q es ≡ None
+        → HasNoMatch q es }
+    ensures lengths { (q : List ℕ) (es : List (List ℕ × V)) → IsAscending es
+        → AscendByLength (matches q es) }
 {}

@@ -1,12 +1,12 @@
 -- What a node is with a change of one child where it stands.
-use Rattle.std.specs.Prelude.{ℕ, cond, eqb, Option, Some, None}
+use Rattle.std.specs.Prelude.{ℕ, ◌==◌, if◌then◌else◌, Option, Some, None}
 use Rattle.rart_nodes.specs.edits.NodeEdits.{with_value}
 use Rattle.rart_nodes.specs.tries.Trie.{Trie, node, Children, no_children, child, value_of, child_in}
 
 -- children with t in the place of the one at a byte, if there is one
 abbrev pub children_replaced : {V : Type 0} → ℕ → Trie V → Children V → Children V
 children_replaced b t no_children = no_children
-children_replaced b t (child c u cs) = cond (eqb c b) (child b t cs) (child c u (children_replaced b t cs))
+children_replaced b t (child c u cs) = if c == b then child b t cs else child c u (children_replaced b t cs)
 
 -- a node with t in the place of its child at a byte
 abbrev pub with_child_replaced : {V : Type 0} → ℕ → Trie V → Trie V → Trie V
@@ -15,8 +15,8 @@ with_child_replaced b t (node p v w cs) = node p v w (children_replaced b t cs)
 -- children with x as the value of the one at a byte, if there is one
 abbrev pub children_with_value : {V : Type 0} → ℕ → V → Children V → Children V
 children_with_value b x no_children = no_children
-children_with_value b x (child c u cs) = cond (eqb c b) (child b (with_value x u) cs)
-    (child c u (children_with_value b x cs))
+children_with_value b x (child c u cs) = if c == b then child b (with_value x u) cs
+    else child c u (children_with_value b x cs)
 
 -- a node with x as the value of its child at a byte
 abbrev pub with_child_value : {V : Type 0} → ℕ → V → Trie V → Trie V

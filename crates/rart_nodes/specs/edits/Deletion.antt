@@ -1,5 +1,5 @@
 -- What a node is without one of its children.
-use Rattle.std.specs.Prelude.{ℕ, ◌≢◌, ◌<◌, ◌≤◌, ◌+◌, ◌==◌, ◌&&◌, Bool, true, false, eqb, cond, List, [], ◌∷◌, ◌++◌}
+use Rattle.std.specs.Prelude.{ℕ, ◌≢◌, ◌<◌, ◌≤◌, ◌+◌, ◌==◌, ◌&&◌, Bool, true, false, List, [], ◌∷◌, ◌++◌}
 use Rattle.std.specs.Prelude.{length, Option, Some, None, is_some, if◌then◌else◌}
 use Rattle.rart_keys.specs.ByteStrings.{strip_prefix}
 use Rattle.rart_keys.specs.KeyBytes.{IsWithin}
@@ -10,7 +10,7 @@ use Rattle.rart_nodes.specs.storages.Widths.{narrowed, previous_width}
 -- children without the one at a byte
 abbrev pub children_without : {V : Type 0} → ℕ → Children V → Children V
 children_without b no_children = no_children
-children_without b (child c t cs) = cond (eqb c b) cs (child c t (children_without b cs))
+children_without b (child c t cs) = if c == b then cs else child c t (children_without b cs)
 
 -- a node with this value and these children is there for one child alone
 abbrev pub is_lone : {V : Type 0} → Option V → Children V → Bool

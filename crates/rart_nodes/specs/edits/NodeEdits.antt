@@ -1,13 +1,13 @@
 -- What the calls of a node leave of it.
-use Rattle.std.specs.Prelude.{ℕ, cond, eqb, ltb, length, Some}
+use Rattle.std.specs.Prelude.{ℕ, ◌==◌, if◌then◌else◌, nat_lt, length, Some}
 use Rattle.rart_nodes.specs.tries.Trie.{Trie, node, Children, no_children, child, edges_of}
 use Rattle.rart_nodes.specs.storages.Widths.{widened}
 
 -- children with one more, before the first greater byte
 abbrev pub children_with : {V : Type 0} → ℕ → Trie V → Children V → Children V
 children_with b t no_children = child b t no_children
-children_with b t (child c u cs) = cond (ltb b c) (child b t (child c u cs))
-    (cond (eqb c b) (child b t cs) (child c u (children_with b t cs)))
+children_with b t (child c u cs) = if nat_lt b c then child b t (child c u cs)
+    else if c == b then child b t cs else child c u (children_with b t cs)
 
 -- a node with one more child
 abbrev pub with_child : {V : Type 0} → ℕ → Trie V → Trie V → Trie V

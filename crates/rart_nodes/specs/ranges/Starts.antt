@@ -1,5 +1,5 @@
 -- What a walk has ahead of it from a start on.
-use Rattle.std.specs.Prelude.{ℕ, ◌+◌, Bool, cond, ltb, List, [], ◌≡◌, ◌∷◌, length, Option, MatchOption, if◌then◌else◌}
+use Rattle.std.specs.Prelude.{ℕ, ◌+◌, Bool, nat_lt, List, [], ◌≡◌, ◌∷◌, length, Option, MatchOption, if◌then◌else◌}
 use Rattle.std.specs.Borrow.{Bor}
 use Rattle.std.specs.List.{filter}
 use Rattle.std.specs.declared.ops.Bound.{Bound}
@@ -10,7 +10,7 @@ use Rattle.rart_nodes.specs.walks.Walk.{SegmentList, joined}
 -- the children whose byte is above b
 abbrev pub children_above : {V : Type 0} → ℕ → Children V → Children V
 children_above b no_children = no_children
-children_above b (child c t cs) = cond (ltb b c) (child c t (children_above b cs)) (children_above b cs)
+children_above b (child c t cs) = if nat_lt b c then child c t (children_above b cs) else children_above b cs
 
 -- the entries whose key comes after s, and where h says so the one at s
 abbrev pub entries_from : {V : Type 0} → Bool → List ℕ → List (SegmentList × V) → List (SegmentList × V)

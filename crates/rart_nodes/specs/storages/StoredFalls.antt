@@ -1,5 +1,5 @@
 -- Each child has fewer nodes than its parent.
-use Rattle.std.specs.Prelude.{◌≡◌, ℕ, ◌+◌, ◌≤◌, max, Bool, true, false, cond, ltb, List, [], ◌∷◌, Option}
+use Rattle.std.specs.Prelude.{◌≡◌, ℕ, ◌+◌, ◌≤◌, max, Bool, true, false, nat_lt, List, [], ◌∷◌, Option, if◌then◌else◌}
 use Rattle.std.proofs.Common.{arith, refl}
 use denote.Param.Weighed.{most}
 use Rattle.rart_keys.specs.declared.partials.Partial.{Ghosts}
@@ -16,15 +16,15 @@ most-children : {V : Type 0} (es : List (ℕ × Trie V)) → most (λ (e : ℕ �
 most-children [] = omega arith
 most-children (e ∷ es) = omega (arith, most-children es)
 
-count-cond : {V : Type 0} (t : Bool) (a b : List (ℕ × Trie V)) (n : ℕ) → child_count (as_children a) ≡ n
-    → child_count (as_children b) ≡ n → child_count (as_children (cond t a b)) ≡ n
-count-cond true a b n p q = p
-count-cond false a b n p q = q
+count-either : {V : Type 0} (t : Bool) (a b : List (ℕ × Trie V)) (n : ℕ) → child_count (as_children a) ≡ n
+    → child_count (as_children b) ≡ n → child_count (as_children (if t then a else b)) ≡ n
+count-either true a b n p q = p
+count-either false a b n p q = q
 
 count-with_another : {V : Type 0} (k : ℕ) (t : Trie V) (es : List (ℕ × Trie V))
     → child_count (as_children (with_another k t es)) ≡ node_count t + child_count (as_children es)
 count-with_another k t [] = refl
-count-with_another k t (e ∷ es) = count-cond (ltb e.0 k) _ _ _ (omega (arith, count-with_another k t es)) refl
+count-with_another k t (e ∷ es) = count-either (nat_lt e.0 k) _ _ _ (omega (arith, count-with_another k t es)) refl
 
 count-ascending : {V : Type 0} (es : List (ℕ × Trie V)) → child_count (as_children (ascending es))
     ≡ child_count (as_children es)

@@ -1,5 +1,5 @@
 -- A radix tree as data: a prefix, a value, a capacity, and children by their first byte.
-use Rattle.std.specs.Prelude.{ℕ, ◌≡◌, ◌≤◌, ◌==◌, ◌⊎◌, suc, cond, eqb, List, [], ◌∷◌, ◌++◌, map, length, Option, Some}
+use Rattle.std.specs.Prelude.{ℕ, ◌≡◌, ◌≤◌, ◌==◌, ◌⊎◌, suc, List, [], ◌∷◌, ◌++◌, map, length, Option, Some}
 use Rattle.std.specs.Prelude.{None, IsSome, is_some, if◌then◌else◌}
 use Rattle.std.specs.Ordering.{nat_cmp, match_ordering}
 use Rattle.rart_keys.specs.ByteStrings.{strip_prefix}
@@ -214,7 +214,7 @@ abbrev mutual
 -- the child at a byte, if there is one
 abbrev pub child_of : {V : Type 0} → ℕ → Children V → Option (Trie V)
 child_of b no_children = None
-child_of b (child c t cs) = cond (eqb c b) (Some t) (child_of b cs)
+child_of b (child c t cs) = if c == b then Some t else child_of b cs
 
 abbrev pub child_in : {V : Type 0} → ℕ → Trie V → Option (Trie V)
 child_in b t = child_of b (children_in t)

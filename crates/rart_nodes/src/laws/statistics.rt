@@ -7,13 +7,16 @@ ghost use Rattle.rart_nodes.specs.tries.Trie.{Trie, IsCanonical, nodes_of, pairs
 /// Proves that the statistics of a canonical trie are those of its keys. The height is the greatest number of branch
 /// points that begin one key. The nodes have room for fewer children than 16 times the number of keys.
 pub fn of_keys<V>()
-    ensures value { (t : Trie V) → IsCanonical t → trie_stats t ≡ stats_of (keys_of (pairs_of t)) (nodes_of t) }
+    ensures value { (t : Trie V) → IsCanonical t
+        → trie_stats t ≡ stats_of (keys_of (pairs_of t)) (nodes_of t) }
     ensures height { (t : Trie V) → IsCanonical t → trie_height t ≡ height (keys_of (pairs_of t)) }
-    ensures few_widths { (t : Trie V) → IsCanonical t → sum_in width_at t + 16 ≤ 16 * length (pairs_of t) }
+    ensures few_widths { (t : Trie V) → IsCanonical t
+        → sum_in width_at t + 16 ≤ 16 * length (pairs_of t) }
 {}
 
 /// Proves that canonical tries with equal keys have equal statistics.
 pub fn of_equal_keys<V, W>()
-    ensures { (t : Trie V) (u : Trie W) → IsCanonical t → IsCanonical u → keys_of (pairs_of t) ≡ keys_of (pairs_of u)
+    ensures { (t : Trie V) (u : Trie W) → IsCanonical t → IsCanonical u
+        → keys_of (pairs_of t) ≡ keys_of (pairs_of u)
         → trie_stats t ≡ trie_stats u }
 {}

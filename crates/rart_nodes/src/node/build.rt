@@ -67,7 +67,8 @@ fn shared_part<P: Partial>(first: &[u8], last: &[u8], depth: usize) -> P
     requires first { depth ≤ length first.now }
     requires last { depth ≤ length last.now }
     requires within { IsWithin P.MAXIMUM_SIZE (length first.now) }
-    ensures part { P.bytes result ≡ take (common_prefix_len nat_eq (drop depth first.now) (drop depth last.now))
+    ensures part { P.bytes result
+        ≡ take (common_prefix_len nat_eq (drop depth first.now) (drop depth last.now))
         (drop depth first.now) }
     ensures reach { depth + length (P.bytes result) ≤ length first.now }
     ensures fits { depth + length (P.bytes result) < 2 ^ 64 }
@@ -125,7 +126,8 @@ impl<P: Partial, V: Drop> DefaultNode<P, V> {
         requires callable { CanTake F.pre F.step 0 (length keys.now) take_value.old }
         ensures canonical { IfOk result IsCanonical }
         ensures keys { IfOk result (λ t. keys_of (pairs_of t) ≡ keys_in keys.now) }
-        ensures values { IfOk result (λ t. Takes F.step 0 take_value.old (values_of (pairs_of t)) take_value.new) }
+        ensures values { IfOk result
+            (λ t. Takes F.step 0 take_value.old (values_of (pairs_of t)) take_value.new) }
         ensures taken { OnErr result ((vs : List V) × (length vs ≤ length keys.now)
             × Takes F.step 0 take_value.old vs take_value.new) }
         ensures error { IfErr result (λ e. e ≡ TreeError.Memory) }
@@ -146,7 +148,8 @@ impl<P: Partial, V: Drop> DefaultNode<P, V> {
         requires callable { CanTake F.pre F.step from (length keys.now) take_value.old }
         ensures canonical { IfOk result IsCanonical }
         ensures keys { IfOk result (λ t. keys_of (pairs_of t) ≡ rests depth keys.now) }
-        ensures values { IfOk result (λ t. Takes F.step from take_value.old (values_of (pairs_of t)) take_value.new) }
+        ensures values { IfOk result
+            (λ t. Takes F.step from take_value.old (values_of (pairs_of t)) take_value.new) }
         ensures taken { OnErr result ((vs : List V) × (length vs ≤ length keys.now)
             × Takes F.step from take_value.old vs take_value.new) }
         ensures error { IfErr result (λ e. e ≡ TreeError.Memory) }

@@ -65,7 +65,8 @@ impl<P: Partial, V> DefaultNode<P, V> {
     /// Returns whether the prefix of each child, appended to that of the node, is within the maximum. `delete_child`
     /// requires this.
     pub fn children_fit(&self) -> bool
-        ensures { IsTrue result ↔ JoinsWithin P.MAXIMUM_SIZE (prefix_of self.now) (children_in self.now) }
+        ensures { IsTrue result
+            ↔ JoinsWithin P.MAXIMUM_SIZE (prefix_of self.now) (children_in self.now) }
     {
         let Some(most) = P::MAXIMUM_SIZE else {
             return true;

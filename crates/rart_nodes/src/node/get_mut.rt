@@ -49,8 +49,10 @@ where
     requires canonical { IsCanonical node.old }
     requires ready { (n : Trie V) → IsCanonical n → node_count n < node_count node.old
         → ⟦<DefaultNode<P, V> as Lends<V>>⟧.ready n }
-    requires found { (n : Trie V) (k : List ℕ) → ⟦<DefaultNode<P, V> as Lends<V>>⟧.found n k ≡ trie_lookup k n }
-    requires put { (n : Trie V) (k : List ℕ) (w : V) → ⟦<DefaultNode<P, V> as Lends<V>>⟧.put n k w ≡ trie_put k w n }
+    requires found { (n : Trie V) (k : List ℕ)
+        → ⟦<DefaultNode<P, V> as Lends<V>>⟧.found n k ≡ trie_lookup k n }
+    requires put { (n : Trie V) (k : List ℕ) (w : V)
+        → ⟦<DefaultNode<P, V> as Lends<V>>⟧.put n k w ≡ trie_put k w n }
     ensures* writes_back { sem 𝓛 (lends_below P.row V.row P.Partial node.entry key.now result) }
     ensures value { option_copied_mut result ≡ trie_lookup key.now node.old }
 {

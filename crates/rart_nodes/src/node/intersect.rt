@@ -37,9 +37,11 @@ fn intersect_below<'a, P: Partial, V, W, C: Count, F, T: Visitor<V, W, F>>(
     f: &mut F,
 )
     requires room { T.room way.old (longest_key (pairs_of left.node.now)) }
-    requires callable { CanGive T.can T.given way.old f.old (intersect_nodes left.node.now right.node.now) }
+    requires callable { CanGive T.can T.given way.old f.old
+        (intersect_nodes left.node.now right.node.now) }
     ensures place { WayGrown way.old [] way.new }
-    ensures given { T.given way.old f.old (intersect_nodes left.entry.node.now right.entry.node.now) f.new }
+    ensures given { T.given way.old f.old
+        (intersect_nodes left.entry.node.now right.entry.node.now) f.new }
     ensures visits { C.number counter.new ≡ C.number counter.old
         + more_visits left.entry.node.now right.entry.node.now }
 {
@@ -74,8 +76,10 @@ fn intersect_trees<'a, K: KeyTrait, V, W, C: Count, F, T: Visitor<V, W, F>>(
 )
     requires room { T.room way.old (longest_key (seen_pairs left.root)) }
     requires callable { CanGive T.can T.given way.old f.old (seen_join left.root right.root) }
-    ensures given { T.given way.old f.old (join (seen_pairs left.entry.root) (seen_pairs right.entry.root)) f.new }
-    ensures visits { C.number counter.new ≡ C.number counter.old + joint_visits (seen_keys left.entry.root)
+    ensures given { T.given way.old f.old
+        (join (seen_pairs left.entry.root) (seen_pairs right.entry.root)) f.new }
+    ensures visits { C.number counter.new
+        ≡ C.number counter.old + joint_visits (seen_keys left.entry.root)
         (seen_keys right.entry.root) }
     ensures bound { C.number counter.new ≤ C.number counter.old
         + (length (seen_nodes left.entry.root) + length (seen_nodes right.entry.root) - 1) }
@@ -102,9 +106,12 @@ impl<'a, K: KeyTrait, V, C: Count> Seen<'a, K, V, C> {
         other: Seen<'b, K, W, Paired<C>>,
         counter: &mut C,
     ) -> usize
-        ensures count { result ≡ min (length (seen_join self.entry.root other.entry.root)) usize.MAX }
-        ensures visits { C.number counter.new ≡ C.number counter.old + seen_visits self.entry.root other.entry.root }
-        ensures bound { C.number counter.new ≤ C.number counter.old + seen_bound self.entry.root other.entry.root }
+        ensures count { result
+            ≡ min (length (seen_join self.entry.root other.entry.root)) usize.MAX }
+        ensures visits { C.number counter.new
+            ≡ C.number counter.old + seen_visits self.entry.root other.entry.root }
+        ensures bound { C.number counter.new
+            ≤ C.number counter.old + seen_bound self.entry.root other.entry.root }
     {
         let mut count = 0;
         intersect_trees::<K, V, W, C, usize, Counted>(
@@ -133,8 +140,10 @@ impl<'a, K: KeyTrait, V, C: Count> Seen<'a, K, V, C> {
         ensures callable { F.IsAlwaysCallable f.old → F.IsAlwaysCallable f.new }
         ensures calls { CallsWithEach F.FnMut f.old
             (values_of (seen_join self.entry.root other.entry.root)) f.new }
-        ensures visits { C.number counter.new ≡ C.number counter.old + seen_visits self.entry.root other.entry.root }
-        ensures bound { C.number counter.new ≤ C.number counter.old + seen_bound self.entry.root other.entry.root }
+        ensures visits { C.number counter.new
+            ≡ C.number counter.old + seen_visits self.entry.root other.entry.root }
+        ensures bound { C.number counter.new
+            ≤ C.number counter.old + seen_bound self.entry.root other.entry.root }
     {
         intersect_trees::<K, V, W, C, F, ByValues>(self, other, &mut JoinPath::Untold, counter, f);
     }
@@ -151,9 +160,12 @@ impl<'a, K: KeyTrait, V, C: Count> Seen<'a, K, V, C> {
         counter: &mut C,
     )
         requires callable { CanCallWith F.FnMut f (values_of (seen_join self.root other.root)) }
-        ensures calls { CalledWithEach F.FnMut f (values_of (seen_join self.entry.root other.entry.root)) }
-        ensures visits { C.number counter.new ≡ C.number counter.old + seen_visits self.entry.root other.entry.root }
-        ensures bound { C.number counter.new ≤ C.number counter.old + seen_bound self.entry.root other.entry.root }
+        ensures calls { CalledWithEach F.FnMut f
+            (values_of (seen_join self.entry.root other.entry.root)) }
+        ensures visits { C.number counter.new
+            ≡ C.number counter.old + seen_visits self.entry.root other.entry.root }
+        ensures bound { C.number counter.new
+            ≤ C.number counter.old + seen_bound self.entry.root other.entry.root }
     {
         self.intersect_values_with_by_ref_counted(other, &mut f, counter);
     }
@@ -181,10 +193,12 @@ impl<'a, K: KeyTrait, V, C: Count> Seen<'a, K, V, C> {
             (seen_join self.entry.root other.entry.root) f.new) }
         ensures memory { IfErr result
             (MayLackBoth (seen_pairs self.entry.root) (seen_pairs other.entry.root)) }
-        ensures refused { OnErr result ((f.new ≡ f.old) × (C.number counter.new ≡ C.number counter.old)) }
+        ensures refused { OnErr result
+            ((f.new ≡ f.old) × (C.number counter.new ≡ C.number counter.old)) }
         ensures visits { OnOk result (C.number counter.new
             ≡ C.number counter.old + seen_visits self.entry.root other.entry.root) }
-        ensures bound { C.number counter.new ≤ C.number counter.old + seen_bound self.entry.root other.entry.root }
+        ensures bound { C.number counter.new
+            ≤ C.number counter.old + seen_bound self.entry.root other.entry.root }
     {
         let Some(_) = self.top() else {
             return Ok(());
@@ -221,7 +235,8 @@ impl<'a, K: KeyTrait, V, C: Count> Seen<'a, K, V, C> {
         ensures unvisited { OnErr result (C.number counter.new ≡ C.number counter.old) }
         ensures visits { OnOk result (C.number counter.new
             ≡ C.number counter.old + seen_visits self.entry.root other.entry.root) }
-        ensures bound { C.number counter.new ≤ C.number counter.old + seen_bound self.entry.root other.entry.root }
+        ensures bound { C.number counter.new
+            ≤ C.number counter.old + seen_bound self.entry.root other.entry.root }
     {
         self.intersect_with_by_ref_counted(other, &mut f, counter)
     }
@@ -250,10 +265,12 @@ impl<'a, K: KeyTrait, V, C: Count> Seen<'a, K, V, C> {
             (seen_join self.entry.root other.entry.root) f.new) }
         ensures memory { IfErr result
             (MayLackBoth (seen_pairs self.entry.root) (seen_pairs other.entry.root)) }
-        ensures refused { OnErr result ((f.new ≡ f.old) × (C.number counter.new ≡ C.number counter.old)) }
+        ensures refused { OnErr result
+            ((f.new ≡ f.old) × (C.number counter.new ≡ C.number counter.old)) }
         ensures visits { OnOk result (C.number counter.new
             ≡ C.number counter.old + seen_visits self.entry.root other.entry.root) }
-        ensures bound { C.number counter.new ≤ C.number counter.old + seen_bound self.entry.root other.entry.root }
+        ensures bound { C.number counter.new
+            ≤ C.number counter.old + seen_bound self.entry.root other.entry.root }
     {
         let Some(_) = self.top() else {
             return Ok(());
@@ -290,7 +307,8 @@ impl<'a, K: KeyTrait, V, C: Count> Seen<'a, K, V, C> {
         ensures unvisited { OnErr result (C.number counter.new ≡ C.number counter.old) }
         ensures visits { OnOk result (C.number counter.new
             ≡ C.number counter.old + seen_visits self.entry.root other.entry.root) }
-        ensures bound { C.number counter.new ≤ C.number counter.old + seen_bound self.entry.root other.entry.root }
+        ensures bound { C.number counter.new
+            ≤ C.number counter.old + seen_bound self.entry.root other.entry.root }
     {
         self.intersect_lending_with_by_ref_counted(other, &mut f, counter)
     }

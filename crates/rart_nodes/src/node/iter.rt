@@ -50,7 +50,8 @@ impl<'a, K: KeyTrait, P: Partial, V, C: Count> KeyWalk<'a, K, P, V, C> {
     pub(crate) fn step(&mut self, counter: &mut C) -> Option<(K, &'a V)>
         ensures pairs { MatchOption result ((self.old ≡ []) × (self.new ≡ []))
             (λ p. self.old ≡ (K.bytes p.0, p.1.now) ∷ self.new) }
-        ensures visits { VisitsAtMost (λ p. length (K.bytes p.0)) (C.number counter.old) result (C.number counter.new) }
+        ensures visits { VisitsAtMost (λ p. length (K.bytes p.0)) (C.number counter.old) result
+            (C.number counter.new) }
     {
         let value = self.walk.advance(&mut self.path, counter)?;
         Some((K::new_from_slice(self.path.key()), value))
@@ -170,7 +171,8 @@ impl<'a, K: KeyTrait, V, C: Count> Seen<'a, K, V, C> {
     fn key_walk(self, counter: &mut C) -> Result<KeyWalk<'a, K, K::PartialType, V, C>, TreeError>
         ensures pairs { IfOk result (λ it. it ≡ seen_pairs self.entry.root) }
         ensures memory { IfErr result (MayLackRoom (seen_pairs self.entry.root)) }
-        ensures visits { C.number counter.new ≡ C.number counter.old + count_of (option_copied self.entry.root) }
+        ensures visits { C.number counter.new
+            ≡ C.number counter.old + count_of (option_copied self.entry.root) }
     {
         let (walk, path) = self.walk(counter)?;
         Ok(KeyWalk {
@@ -192,7 +194,8 @@ impl<'a, K: KeyTrait, V, C: Count> Seen<'a, K, V, C> {
     pub fn iter_counted(self, counter: &mut C) -> Result<SeenIter<'a, K, V, C>, TreeError>
         ensures pairs { IfOk result (λ it. it ≡ seen_pairs self.entry.root) }
         ensures memory { IfErr result (MayLackRoom (seen_pairs self.entry.root)) }
-        ensures visits { C.number counter.new ≡ C.number counter.old + count_of (option_copied self.entry.root) }
+        ensures visits { C.number counter.new
+            ≡ C.number counter.old + count_of (option_copied self.entry.root) }
         ensures bound { C.number counter.new ≤ C.number counter.old + 1 }
     {
         let pairs = self.key_walk(counter)?;
@@ -216,7 +219,8 @@ impl<'a, K: KeyTrait, V, C: Count> Seen<'a, K, V, C> {
         included: bool,
         counter: &mut C,
     ) -> Result<KeyWalk<'a, K, K::PartialType, V, C>, TreeError>
-        ensures pairs { IfOk result (λ it. it ≡ pairs_from included start.now (seen_pairs self.entry.root)) }
+        ensures pairs { IfOk result
+            (λ it. it ≡ pairs_from included start.now (seen_pairs self.entry.root)) }
         ensures memory { IfErr result (MayLackRoom (seen_pairs self.entry.root)) }
         ensures visits { IfOk result (λ _. C.number counter.new
             ≡ C.number counter.old + probe_count (seen_keys self.entry.root) start.now) }
@@ -265,11 +269,13 @@ impl<'a, K: KeyTrait, V, C: Count> Seen<'a, K, V, C> {
         prefix: &K,
         counter: &mut C,
     ) -> Result<SeenIter<'a, K, V, C>, TreeError>
-        ensures pairs { IfOk result (λ it. it ≡ below (K.bytes prefix.now) (seen_pairs self.entry.root)) }
+        ensures pairs { IfOk result
+            (λ it. it ≡ below (K.bytes prefix.now) (seen_pairs self.entry.root)) }
         ensures memory { IfErr result (MayLackRoom (seen_pairs self.entry.root)) }
         ensures visits { IfOk result (λ _. C.number counter.new
             ≡ C.number counter.old + probe_count (seen_keys self.entry.root) (K.bytes prefix.now)) }
-        ensures bound { C.number counter.new ≤ C.number counter.old + length (K.bytes prefix.now) + 1 }
+        ensures bound { C.number counter.new
+            ≤ C.number counter.old + length (K.bytes prefix.now) + 1 }
     {
         let pairs = self.key_walk_below(prefix.as_ref(), counter)?;
         Ok(SeenIter { pairs })
@@ -283,7 +289,8 @@ impl<'a, K: KeyTrait, V> Seen<'a, K, V, Visits> {
     ///
     /// [`TreeError::Memory`] if the tree isn't empty and the allocation fails.
     pub fn prefix_iter_k(self, prefix: &K) -> Result<Iter<'a, K, K::PartialType, V>, TreeError>
-        ensures pairs { IfOk result (λ it. it ≡ below (K.bytes prefix.now) (seen_pairs self.entry.root)) }
+        ensures pairs { IfOk result
+            (λ it. it ≡ below (K.bytes prefix.now) (seen_pairs self.entry.root)) }
         ensures memory { IfErr result (MayLackRoom (seen_pairs self.entry.root)) }
     {
         let pairs = self.prefix_iter_k_counted(prefix, &mut Visits::new())?;

@@ -55,11 +55,12 @@ impl<'a, P: Partial, V, C: Count> Matching<'a, P, V, C> {
     pub(crate) fn advance(&mut self, probe: &[u8], counter: &mut C) -> Option<&'a V>
         requires { self.old.depth ≤ length probe.now }
         ensures within { self.new.depth ≤ length probe.now }
-        ensures pairs { YieldsFirstBy (λ v. (take self.new.depth probe.now, v.now)) (matches_left probe.now) self.old
-            result self.new }
+        ensures pairs { YieldsFirstBy (λ v. (take self.new.depth probe.now, v.now))
+            (matches_left probe.now) self.old result self.new }
         ensures visits { C.number counter.new + entered_left probe.now self.new
             ≡ C.number counter.old + entered_left probe.now self.old }
-        ensures ended { MatchOption result (option_map (λ s. s.node.now) self.new.below ≡ None) (λ _. Unit {0}) }
+        ensures ended { MatchOption result (option_map (λ s. s.node.now) self.new.below ≡ None)
+            (λ _. Unit {0}) }
     {
         while let Some(node) = self.below.take() {
             let at = node.enter(counter);
@@ -112,9 +113,10 @@ impl<'a, K: KeyTrait, V, C: Count> Seen<'a, K, V, C> {
     pub fn longest_prefix_match_k_counted(self, probe: &K, counter: &mut C) -> Option<(K, &'a V)>
         ensures pair { option_map (λ p. (K.bytes p.0, p.1.now)) result
             ≡ longest_match (K.bytes probe.now) (seen_pairs self.entry.root) }
-        ensures visits { C.number counter.new ≡ C.number counter.old + probe_count (seen_keys self.entry.root)
-            (K.bytes probe.now) }
-        ensures bound { C.number counter.new ≤ C.number counter.old + length (K.bytes probe.now) + 1 }
+        ensures visits { C.number counter.new
+            ≡ C.number counter.old + probe_count (seen_keys self.entry.root) (K.bytes probe.now) }
+        ensures bound { C.number counter.new
+            ≤ C.number counter.old + length (K.bytes probe.now) + 1 }
     {
         let bytes = probe.as_ref();
         let (depth, value) = self.last_match(bytes, counter)?;
@@ -127,7 +129,8 @@ impl<'a, K: KeyTrait, V, C: Count> Seen<'a, K, V, C> {
     ///
     /// At most `probe.len() + 1` nodes.
     pub fn longest_prefix_value_bytes_counted(self, probe: &[u8], counter: &mut C) -> Option<&'a V>
-        ensures value { option_copied result ≡ longest_value probe.now (seen_pairs self.entry.root) }
+        ensures value { option_copied result
+            ≡ longest_value probe.now (seen_pairs self.entry.root) }
         ensures visits { C.number counter.new ≡ C.number counter.old
             + probe_count (seen_keys self.entry.root) probe.now }
         ensures bound { C.number counter.new ≤ C.number counter.old + length probe.now + 1 }
@@ -142,10 +145,12 @@ impl<'a, K: KeyTrait, V, C: Count> Seen<'a, K, V, C> {
     ///
     /// At most `probe.len() + 1` nodes.
     pub fn longest_prefix_value_k_counted(self, probe: &K, counter: &mut C) -> Option<&'a V>
-        ensures value { option_copied result ≡ longest_value (K.bytes probe.now) (seen_pairs self.entry.root) }
-        ensures visits { C.number counter.new ≡ C.number counter.old + probe_count (seen_keys self.entry.root)
-            (K.bytes probe.now) }
-        ensures bound { C.number counter.new ≤ C.number counter.old + length (K.bytes probe.now) + 1 }
+        ensures value { option_copied result
+            ≡ longest_value (K.bytes probe.now) (seen_pairs self.entry.root) }
+        ensures visits { C.number counter.new
+            ≡ C.number counter.old + probe_count (seen_keys self.entry.root) (K.bytes probe.now) }
+        ensures bound { C.number counter.new
+            ≤ C.number counter.old + length (K.bytes probe.now) + 1 }
     {
         self.longest_prefix_value_bytes_counted(probe.as_ref(), counter)
     }
@@ -153,7 +158,8 @@ impl<'a, K: KeyTrait, V, C: Count> Seen<'a, K, V, C> {
     fn each_match<F: FnMut(&[u8], &V)>(self, probe: &[u8], f: &mut F, counter: &mut C)
         requires callable { CanMatch F.FnMut f.old (matches probe.now (seen_pairs self.root)) }
         ensures callable { F.IsAlwaysCallable f.old → F.IsAlwaysCallable f.new }
-        ensures calls { MatchesEach F.FnMut f.old (matches probe.now (seen_pairs self.entry.root)) f.new }
+        ensures calls { MatchesEach F.FnMut f.old
+            (matches probe.now (seen_pairs self.entry.root)) f.new }
         ensures visits { C.number counter.new ≡ C.number counter.old
             + probe_count (seen_keys self.entry.root) probe.now }
         ensures bound { C.number counter.new ≤ C.number counter.old + length probe.now + 1 }
@@ -181,9 +187,10 @@ impl<'a, K: KeyTrait, V, C: Count> Seen<'a, K, V, C> {
         ensures callable { F.IsAlwaysCallable f.old → F.IsAlwaysCallable f.new }
         ensures calls { MatchesEach F.FnMut f.old
             (matches (K.bytes probe.now) (seen_pairs self.entry.root)) f.new }
-        ensures visits { C.number counter.new ≡ C.number counter.old + probe_count (seen_keys self.entry.root)
-            (K.bytes probe.now) }
-        ensures bound { C.number counter.new ≤ C.number counter.old + length (K.bytes probe.now) + 1 }
+        ensures visits { C.number counter.new
+            ≡ C.number counter.old + probe_count (seen_keys self.entry.root) (K.bytes probe.now) }
+        ensures bound { C.number counter.new
+            ≤ C.number counter.old + length (K.bytes probe.now) + 1 }
     {
         self.each_match(probe.as_ref(), f, counter);
     }
@@ -199,12 +206,14 @@ impl<'a, K: KeyTrait, V, C: Count> Seen<'a, K, V, C> {
         mut f: F,
         counter: &mut C,
     )
-        requires callable { CanMatch F.FnMut f (matches (K.bytes probe.now) (seen_pairs self.root)) }
+        requires callable { CanMatch F.FnMut f
+            (matches (K.bytes probe.now) (seen_pairs self.root)) }
         ensures calls { MatchedEach F.FnMut f
             (matches (K.bytes probe.now) (seen_pairs self.entry.root)) }
-        ensures visits { C.number counter.new ≡ C.number counter.old + probe_count (seen_keys self.entry.root)
-            (K.bytes probe.now) }
-        ensures bound { C.number counter.new ≤ C.number counter.old + length (K.bytes probe.now) + 1 }
+        ensures visits { C.number counter.new
+            ≡ C.number counter.old + probe_count (seen_keys self.entry.root) (K.bytes probe.now) }
+        ensures bound { C.number counter.new
+            ≤ C.number counter.old + length (K.bytes probe.now) + 1 }
     {
         self.prefix_match_for_each_by_ref_k_counted(probe, &mut f, counter);
     }

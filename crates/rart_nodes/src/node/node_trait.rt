@@ -42,7 +42,8 @@ pub trait Node<P: Partial, V>: Sized {
     /// Returns a mutable borrow of the value.
     fn value_mut(&mut self) -> Option<&mut V>
         ensures* writes_back { sem 𝓛 (LendsSo Self.row V.row self.entry result
-            (λ n x. OnSome result (trie n ≡ with_value x (trie self.old))) (λ n. trie n ≡ trie self.old)) }
+            (λ n x. OnSome result (trie n ≡ with_value x (trie self.old)))
+            (λ n. trie n ≡ trie self.old)) }
         ensures value { option_copied_mut result ≡ value_of (trie self.old) };
 
     /// Returns whether the node has no storage for children.
@@ -60,7 +61,8 @@ pub trait Node<P: Partial, V>: Sized {
     /// Returns a mutable borrow of the value of the child at a byte.
     fn child_value_mut(&mut self, key: u8) -> Option<&mut V>
         ensures* writes_back { sem 𝓛 (LendsSo Self.row V.row self.entry result
-            (λ n x. OnSome result (trie n ≡ with_child_value key x (trie self.old))) (λ n. trie n ≡ trie self.old)) }
+            (λ n x. OnSome result (trie n ≡ with_child_value key x (trie self.old)))
+            (λ n. trie n ≡ trie self.old)) }
         ensures value { option_copied_mut result ≡ child_value key (trie self.old) };
 
     /// Replaces the child at a byte by `node` and returns the old child. It does not allocate.
@@ -70,8 +72,10 @@ pub trait Node<P: Partial, V>: Sized {
     /// `node` if there is no child at the byte. The node is then unchanged.
     fn replace_child(&mut self, key: u8, node: Self) -> Result<Self, Self>
         ensures taken { IfOk result (λ child. child_in key (trie self.old) ≡ Some (trie child)) }
-        ensures put { OnOk result (trie self.new ≡ with_child_replaced key (trie node) (trie self.old)) }
-        ensures absent { OnErr result ((child_in key (trie self.old) ≡ None) × (trie self.new ≡ trie self.old)) }
+        ensures put { OnOk result
+            (trie self.new ≡ with_child_replaced key (trie node) (trie self.old)) }
+        ensures absent { OnErr result
+            ((child_in key (trie self.old) ≡ None) × (trie self.new ≡ trie self.old)) }
         ensures back { IfErr result (λ n. trie n ≡ trie node) };
 
     /// Inserts a child at a byte that has none.
@@ -84,8 +88,10 @@ pub trait Node<P: Partial, V>: Sized {
         requires absent { child_in key (trie self.old) ≡ None }
         ensures ok { OnOk result (trie self.new ≡ with_child key (trie node) (trie self.old)) }
         ensures refused { OnErr result (trie self.new ≡ trie self.old) }
-        ensures back { IfErr result (λ r. (r.error ≡ TreeError.Memory) × (trie r.value ≡ trie node)) }
-        ensures asks { OnErr result (length (edges_of (children_in (trie self.old))) ≡ capacity_in (trie self.old)) };
+        ensures back { IfErr result
+            (λ r. (r.error ≡ TreeError.Memory) × (trie r.value ≡ trie node)) }
+        ensures asks { OnErr result
+            (length (edges_of (children_in (trie self.old))) ≡ capacity_in (trie self.old)) };
 
     /// Removes the child at a byte and returns it. The node shrinks if its children fit the next smaller kind. A node
     /// of capacity 4 that is left with one child and no value is merged with that child. The prefix of each child,
@@ -96,8 +102,10 @@ pub trait Node<P: Partial, V>: Sized {
     /// [`TreeError::Memory`] if the node must shrink to a smaller kind with storage and the allocation fails. The node
     /// is then unchanged.
     fn delete_child(&mut self, alloc: Global, key: u8) -> Result<Option<Self>, TreeError>
-        requires within { JoinsWithin P.MAXIMUM_SIZE (prefix_of (trie self.old)) (children_in (trie self.old)) }
-        ensures taken { IfOk result (λ child. option_map trie child ≡ child_in key (trie self.old)) }
+        requires within { JoinsWithin P.MAXIMUM_SIZE (prefix_of (trie self.old))
+            (children_in (trie self.old)) }
+        ensures taken { IfOk result
+            (λ child. option_map trie child ≡ child_in key (trie self.old)) }
         ensures rest { OnOk result (trie self.new ≡ without_child key (trie self.old)) }
         ensures refused { OnErr result (trie self.new ≡ trie self.old) }
         ensures asks { OnErr result (NarrowsWithout key (trie self.old)) }

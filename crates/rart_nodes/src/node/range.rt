@@ -205,14 +205,17 @@ impl<'a, K: KeyTrait + Drop, V, C: Count> Seen<'a, K, V, C> {
         counter: &mut C,
     ) -> Result<BoundedWalk<'a, K, K::PartialType, V, C>, TreeError>
         ensures pairs { IfOk result (λ r. up_to r.0 r.1
-            ≡ between (bound_in K.bytes start) (bound_in K.bytes end) (seen_pairs self.entry.root)) }
+            ≡ between (bound_in K.bytes start) (bound_in K.bytes end)
+            (seen_pairs self.entry.root)) }
         ensures end { IfOk result (λ r. r.0 ≡ bound_in K.bytes end) }
         ensures ahead { IfOk result (λ r. r.1 ≡ pairs_from (is_inclusive (bound_in K.bytes start))
             (bound_bytes (bound_in K.bytes start)) (seen_pairs self.entry.root)) }
         ensures memory { IfErr result (MayLackRoom (seen_pairs self.entry.root)) }
         ensures visits { IfOk result (λ _. C.number counter.new
-            ≡ C.number counter.old + probe_count (seen_keys self.entry.root) (bound_bytes (bound_in K.bytes start))) }
-        ensures bound { C.number counter.new ≤ C.number counter.old + length (bound_bytes (bound_in K.bytes start))
+            ≡ C.number counter.old
+            + probe_count (seen_keys self.entry.root) (bound_bytes (bound_in K.bytes start))) }
+        ensures bound { C.number counter.new
+            ≤ C.number counter.old + length (bound_bytes (bound_in K.bytes start))
             + 1 }
     {
         let (bytes, included) = bytes_of(&start);
@@ -239,14 +242,17 @@ impl<'a, K: KeyTrait + Drop, V, C: Count> Seen<'a, K, V, C> {
         counter: &mut C,
     ) -> Result<SeenRange<'a, K, V, C>, TreeError>
         ensures pairs { IfOk result (λ r. up_to r.0 r.1
-            ≡ between (bound_in K.bytes start) (bound_in K.bytes end) (seen_pairs self.entry.root)) }
+            ≡ between (bound_in K.bytes start) (bound_in K.bytes end)
+            (seen_pairs self.entry.root)) }
         ensures end { IfOk result (λ r. r.0 ≡ bound_in K.bytes end) }
         ensures ahead { IfOk result (λ r. r.1 ≡ pairs_from (is_inclusive (bound_in K.bytes start))
             (bound_bytes (bound_in K.bytes start)) (seen_pairs self.entry.root)) }
         ensures memory { IfErr result (MayLackRoom (seen_pairs self.entry.root)) }
         ensures visits { IfOk result (λ _. C.number counter.new
-            ≡ C.number counter.old + probe_count (seen_keys self.entry.root) (bound_bytes (bound_in K.bytes start))) }
-        ensures bound { C.number counter.new ≤ C.number counter.old + length (bound_bytes (bound_in K.bytes start))
+            ≡ C.number counter.old
+            + probe_count (seen_keys self.entry.root) (bound_bytes (bound_in K.bytes start))) }
+        ensures bound { C.number counter.new
+            ≤ C.number counter.old + length (bound_bytes (bound_in K.bytes start))
             + 1 }
     {
         let pairs = self.bounded_walk(start, end, counter)?;
@@ -262,7 +268,8 @@ impl<'a, K: KeyTrait + Drop, V> Seen<'a, K, V, Visits> {
     /// [`TreeError::Memory`] if the tree isn't empty and the allocation fails.
     pub fn range(self, start: Bound<K>, end: Bound<K>) -> Result<Range<'a, K, V>, TreeError>
         ensures pairs { IfOk result (λ r. up_to r.0 r.1
-            ≡ between (bound_in K.bytes start) (bound_in K.bytes end) (seen_pairs self.entry.root)) }
+            ≡ between (bound_in K.bytes start) (bound_in K.bytes end)
+            (seen_pairs self.entry.root)) }
         ensures memory { IfErr result (MayLackRoom (seen_pairs self.entry.root)) }
     {
         let pairs = self.range_counted(start, end, &mut Visits::new())?;

@@ -21,7 +21,8 @@ impl<P: Partial, V> DefaultNode<P, V> {
     /// Joins the node with its child where it has no value and no other child. The child keeps its
     /// kind. Takes no memory.
     pub(super) fn merge_with_only_child(&mut self)
-        requires width { is_lone (value_of self.old) (children_in self.old) ≡ true → capacity_in self.old ≡ 4 }
+        requires width { is_lone (value_of self.old) (children_in self.old) ≡ true
+            → capacity_in self.old ≡ 4 }
         requires within { JoinsWithin P.MAXIMUM_SIZE (prefix_of self.old) (children_in self.old) }
         ensures { self.new ≡ joined_if_lone self.old }
     {
@@ -200,7 +201,8 @@ impl<P: Partial, V> DefaultNode<P, V> {
         ensures answer { IfOk result (λ old. old ≡ lookup key.now (tree_pairs root.old)) }
         ensures count { IfOk result (λ old. length (tree_pairs root.new) + count_of old
             ≡ length (tree_pairs root.old)) }
-        ensures longest { OnOk result (longest_key (tree_pairs root.new) ≤ longest_key (tree_pairs root.old)) }
+        ensures longest { OnOk result
+            (longest_key (tree_pairs root.new) ≤ longest_key (tree_pairs root.old)) }
         ensures refused { OnErr result (root.new ≡ root.old) }
         ensures error { IfErr result (λ e. e ≡ TreeError.Memory) }
         ensures asks { OnErr result ((remove_asks (keys_of (tree_pairs root.old)) key.now ≡ true)

@@ -263,7 +263,8 @@ impl<'a, P: Partial, V, C> Entered<'a, P, V, C> {
 impl<'a, P: Partial, V, C: Count> Branches<'a, P, V, C> {
     /// Visits the next child.
     pub(crate) fn enter_next(&mut self, counter: &mut C) -> Option<Entered<'a, P, V, C>>
-        ensures shown { MatchOption result ((self.old ≡ no_children) × (self.new ≡ no_children)) (λ e. (b : ℕ)
+        ensures shown { MatchOption result ((self.old ≡ no_children) × (self.new ≡ no_children))
+            (λ e. (b : ℕ)
             × (self.old ≡ child b e.node.now self.new)) }
         ensures counted { C.number counter.new ≡ C.number counter.old + count_of result }
     {

@@ -38,7 +38,8 @@ impl<P: Partial, V> DefaultNode<P, V> {
     pub fn tree_stats(root: Option<&Self>, alloc: Global) -> Result<TreeStats, TreeError>
         requires canonical { IsCanonicalTree (option_copied root) }
         requires fits { 16 * length (seen_pairs root) ≤ usize.MAX }
-        ensures statistics { IfOk result (λ s. stats_in s ≡ stats_of (seen_keys root.entry) (seen_nodes root.entry)) }
+        ensures statistics { IfOk result
+            (λ s. stats_in s ≡ stats_of (seen_keys root.entry) (seen_nodes root.entry)) }
         ensures error { IfErr result (λ e. e ≡ TreeError.Memory) }
         ensures asks { OnErr result (2 ≤ length (seen_pairs root.entry)) }
     {

@@ -152,8 +152,10 @@ impl<P: Partial, V> DefaultNode<P, V> {
     ) -> (Option<Outcome<V>>, X)
         requires callable { FnOnceTakesAtMut F.FnOnce f (slot_of (value_of self.old)) }
         requires stays { (r : SlotUpdate V) (x : X) (w : Option V)
-            → FnOnceReturnsAtMut F.FnOnce f (slot_of (value_of self.old)) (r, x) (slot_of w) → w ≢ None }
-        ensures { TellsSo F.FnOnce f (value_of self.old) result.1 (λ r w. EndsLeaf r w self.old result.0 self.new) }
+            → FnOnceReturnsAtMut F.FnOnce f (slot_of (value_of self.old)) (r, x) (slot_of w)
+            → w ≢ None }
+        ensures { TellsSo F.FnOnce f (value_of self.old) result.1
+            (λ r w. EndsLeaf r w self.old result.0 self.new) }
     {
         let Visit { left, answer, told } = show(self.value.take(), f);
         let Some(left) = left else { unreachable!() };
@@ -177,8 +179,10 @@ impl<P: Partial, V> DefaultNode<P, V> {
     fn remove_leaf(&mut self, alloc: Global, byte: u8) -> Result<Outcome<V>, UpdateError<V>>
         requires within { JoinsWithin P.MAXIMUM_SIZE (prefix_of self.old) (children_in self.old) }
         requires stands { child_in byte self.old ≢ None }
-        requires leaf { IfSome (child_in byte self.old) (λ t. (edges_of (children_in t) ≡ []) × (value_of t ≢ None)) }
-        ensures { LosesLeaf byte (option_and_then value_of (child_in byte self.old)) self.old result self.new }
+        requires leaf { IfSome (child_in byte self.old)
+            (λ t. (edges_of (children_in t) ≡ []) × (value_of t ≢ None)) }
+        ensures { LosesLeaf byte (option_and_then value_of (child_in byte self.old)) self.old result
+            self.new }
     {
         match self.take_child(alloc, byte) {
             Ok(Some(child)) => match child.into_value() {
@@ -294,7 +298,8 @@ impl<P: Partial, V> DefaultNode<P, V> {
 
     // Removes the root, which is a leaf.
     fn lose_root(root: &mut Option<Self>) -> Result<Outcome<V>, UpdateError<V>>
-        requires leaf { IsSomeAnd root.old (λ t. (edges_of (children_in t) ≡ []) × (value_of t ≢ None)) }
+        requires leaf { IsSomeAnd root.old
+            (λ t. (edges_of (children_in t) ≡ []) × (value_of t ≢ None)) }
         ensures { LosesRoot root.old result root.new }
     {
         match root.take() {
@@ -325,11 +330,14 @@ impl<P: Partial, V> DefaultNode<P, V> {
         requires canonical { IsCanonicalTree root.old }
         requires fits_key { IsWithin P.MAXIMUM_SIZE (length key.now) }
         requires fits { IsWithin P.MAXIMUM_SIZE (longest_key (tree_pairs root.old)) }
-        requires callable { FnOnceTakesAtMut F.FnOnce f (slot_of (lookup key.now (tree_pairs root.old))) }
+        requires callable { FnOnceTakesAtMut F.FnOnce f
+            (slot_of (lookup key.now (tree_pairs root.old))) }
         requires stays { StaysReturning F.FnOnce f (lookup key.now (tree_pairs root.old)) }
-        ensures update { UpdatesMap F.FnOnce f full key.now (tree_pairs root.old) result (tree_pairs root.new) }
+        ensures update { UpdatesMap F.FnOnce f full key.now (tree_pairs root.old) result
+            (tree_pairs root.new) }
         ensures canonical { IsCanonicalTree root.new }
-        ensures count { CountsPairs result.0 (length (tree_pairs root.old)) (length (tree_pairs root.new)) }
+        ensures count { CountsPairs result.0 (length (tree_pairs root.old))
+            (length (tree_pairs root.new)) }
         ensures longest { longest_key (tree_pairs root.new)
             ≤ longest_after result.0 (length key.now) (longest_key (tree_pairs root.old)) }
         ensures refused { OnErr result.0 (tree_nodes root.new ≡ tree_nodes root.old) }

@@ -86,7 +86,8 @@ impl<'tree, 'view> LendingKeyView<'tree, 'view> {
 
     /// Compares the bytes with `slice` lexicographically.
     pub fn cmp_slice(self, slice: &[u8]) -> Ordering
-        ensures { result ≡ slice_cmp nat_cmp (joined (lent_segments self.entry.segments.now)) slice.now }
+        ensures { result ≡ slice_cmp nat_cmp (joined (lent_segments self.entry.segments.now))
+            slice.now }
     {
         let mut left = slice;
         let mut segments = self.segments.iter();
@@ -135,7 +136,8 @@ impl<'tree, 'view> LendingKeyView<'tree, 'view> {
     ///
     /// [`TreeError::Memory`] if the allocation fails.
     pub fn to_vec(self, alloc: Global) -> Result<Vec<u8>, TreeError>
-        ensures bytes { IfOk result (λ v. v.items ≡ joined (lent_segments self.entry.segments.now)) }
+        ensures bytes { IfOk result
+            (λ v. v.items ≡ joined (lent_segments self.entry.segments.now)) }
         ensures memory { IfErr result (λ e. e ≡ TreeError.Memory) }
     {
         let mut bytes = Vec::new(alloc);
@@ -150,7 +152,8 @@ impl<'tree, 'view> LendingKeyView<'tree, 'view> {
     /// [`TreeError::Memory`] if the allocation fails.
     pub fn to_key<K: KeyTrait>(self, alloc: Global) -> Result<K, TreeError>
         requires { IsWithin K.MAXIMUM_SIZE (length (joined (lent_segments self.segments.now))) }
-        ensures bytes { IfOk result (λ k. K.bytes k ≡ joined (lent_segments self.entry.segments.now)) }
+        ensures bytes { IfOk result
+            (λ k. K.bytes k ≡ joined (lent_segments self.entry.segments.now)) }
         ensures memory { IfErr result (λ e. e ≡ TreeError.Memory) }
     {
         let bytes = self.to_vec(alloc)?;

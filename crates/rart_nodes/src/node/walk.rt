@@ -55,8 +55,10 @@ fn go_on<'a, P: Partial, V, C, T: Path<'a, P>>(
 )
     requires bytes { depth + length (prefix_of at.node.now) ≤ T.room path.old }
     requires place { vec_len levels.old < vec_capacity levels.old }
-    ensures kept { T.kept path.new ≡ take depth (T.kept path.old) ++ T.grown (prefix_of at.entry.node.now) }
-    ensures levels { GoesOn levels.old.items at.entry.node.now (length (T.kept path.new)) levels.new.items }
+    ensures kept { T.kept path.new
+        ≡ take depth (T.kept path.old) ++ T.grown (prefix_of at.entry.node.now) }
+    ensures levels { GoesOn levels.old.items at.entry.node.now (length (T.kept path.new))
+        levels.new.items }
     ensures path_room { T.room path.old ≤ T.room path.new }
     ensures level_room { vec_capacity levels.new ≡ vec_capacity levels.old }
 {
@@ -79,9 +81,11 @@ pub(crate) fn start<'a, P: Partial, V, C, T: Path<'a, P>>(
     requires room { longest ≤ T.room path.old }
     requires places { longest < vec_capacity levels }
     requires empty_walk { levels.items ≡ [] }
-    ensures path { IsWalk result.longest (vec_capacity result.levels) (T.kept path.new) (reverse result.levels.items) }
+    ensures path { IsWalk result.longest (vec_capacity result.levels) (T.kept path.new)
+        (reverse result.levels.items) }
     ensures room { result.longest ≤ T.room path.new }
-    ensures entries { entries_ahead T.grown (T.kept path.new) (option_copied result.first) result.levels.items
+    ensures entries { entries_ahead T.grown (T.kept path.new) (option_copied result.first)
+        result.levels.items
         ≡ segments_after (T.kept path.old) (entries_of T.grown at.entry.node.now) }
     ensures visits { nodes_below (reverse result.levels.items) + 1 ≡ node_count at.entry.node.now }
     ensures longest { result.longest ≡ longest }
@@ -103,7 +107,8 @@ pub(crate) fn empty_walk<'a, P: Partial, V, C, T: Path<'a, P>>(
     ensures path { IsWalk result.0.longest (vec_capacity result.0.levels) (T.kept result.1)
         (reverse result.0.levels.items) }
     ensures room { result.0.longest ≤ T.room result.1 }
-    ensures entries { entries_ahead T.grown (T.kept result.1) (option_copied result.0.first) result.0.levels.items
+    ensures entries { entries_ahead T.grown (T.kept result.1) (option_copied result.0.first)
+        result.0.levels.items
         ≡ [] }
     ensures visits { nodes_below (reverse result.0.levels.items) ≡ 0 }
     ensures levels { result.0.levels.items ≡ [] }
@@ -126,15 +131,18 @@ impl<'a, K: KeyTrait, V, C: Count> Seen<'a, K, V, C> {
         ensures path { IfOk result (λ w. IsWalk w.0.longest (vec_capacity w.0.levels) (T.kept w.1)
             (reverse w.0.levels.items)) }
         ensures room { IfOk result (λ w. w.0.longest ≤ T.room w.1) }
-        ensures entries { IfOk result (λ w. entries_ahead T.grown (T.kept w.1) (option_copied w.0.first)
-            w.0.levels.items
+        ensures entries { IfOk result
+            (λ w. entries_ahead T.grown (T.kept w.1) (option_copied w.0.first) w.0.levels.items
             ≡ tree_entries T.grown (option_copied self.entry.root)) }
         ensures memory { OnErr result (seen_pairs self.entry.root ≢ []) }
-        ensures visits { IfOk result (λ w. C.number counter.new + nodes_below (reverse w.0.levels.items)
+        ensures visits { IfOk result
+            (λ w. C.number counter.new + nodes_below (reverse w.0.levels.items)
             ≡ C.number counter.old + tree_count (option_copied self.entry.root)) }
         ensures longest { IfOk result (λ w. w.0.longest ≤ self.entry.longest) }
-        ensures root { C.number counter.new ≡ C.number counter.old + count_of (option_copied self.entry.root) }
-        ensures places { IfOk result (λ w. w.0.levels.items ≢ [] → vec_capacity w.0.levels ≡ self.entry.longest + 1) }
+        ensures root { C.number counter.new
+            ≡ C.number counter.old + count_of (option_copied self.entry.root) }
+        ensures places { IfOk result
+            (λ w. w.0.levels.items ≢ [] → vec_capacity w.0.levels ≡ self.entry.longest + 1) }
     {
         let alloc = self.alloc();
         let longest = self.longest();
@@ -161,18 +169,21 @@ impl<'a, P: Partial, V, C: Count> Walk<'a, P, V, C> {
             (reverse self.new.levels.items) }
         ensures room { self.new.longest ≤ T.room path.new }
         ensures entries { TakesEntry
-            (entries_ahead T.grown (T.kept path.old) (option_copied self.old.first) self.old.levels.items)
-            (T.kept path.new) result
-            (entries_ahead T.grown (T.kept path.new) (option_copied self.new.first) self.new.levels.items) }
+            (entries_ahead T.grown (T.kept path.old) (option_copied self.old.first)
+            self.old.levels.items) (T.kept path.new) result
+            (entries_ahead T.grown (T.kept path.new) (option_copied self.new.first)
+            self.new.levels.items) }
         ensures visits { C.number counter.new + nodes_below (reverse self.new.levels.items)
             ≡ C.number counter.old + nodes_below (reverse self.old.levels.items) }
         ensures longest { self.new.longest ≡ self.old.longest }
-        ensures few { Tells T.grown → MatchOption result (C.number counter.new ≡ C.number counter.old)
+        ensures few { Tells T.grown
+            → MatchOption result (C.number counter.new ≡ C.number counter.old)
             (λ _. C.number counter.new ≤ C.number counter.old + length (T.kept path.new)) }
         ensures paid { MatchOption result
-            (C.number counter.new + potential (reverse self.old.levels.items) ≤ C.number counter.old)
-            (λ _. IsAmortized (C.number counter.old) (C.number counter.new) (reverse self.old.levels.items)
-            (reverse self.new.levels.items)) }
+            (C.number counter.new + potential (reverse self.old.levels.items)
+            ≤ C.number counter.old)
+            (λ _. IsAmortized (C.number counter.old) (C.number counter.new)
+            (reverse self.old.levels.items) (reverse self.new.levels.items)) }
     {
         if let Some(value) = self.first.take() {
             return Some(value);

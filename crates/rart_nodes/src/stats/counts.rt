@@ -46,7 +46,8 @@ impl WidthCount {
 
     fn add_node(&mut self, children: usize)
         requires { self.old.nodes + self.old.children + 1 + children ≤ usize.MAX }
-        ensures { self.new ≡ record { nodes = self.old.nodes + 1; children = self.old.children + children } }
+        ensures { self.new
+            ≡ record { nodes = self.old.nodes + 1; children = self.old.children + children } }
     {
         self.nodes += 1;
         self.children += children;
@@ -58,7 +59,8 @@ impl WidthCount {
         node_stats: &mut BTreeMap<usize, NodeStats>,
         width: usize,
     ) -> Result<(), TreeError>
-        ensures put { OnOk result (node_stats.new.entries ≡ with_width self.now width node_stats.old.entries) }
+        ensures put { OnOk result
+            (node_stats.new.entries ≡ with_width self.now width node_stats.old.entries) }
         ensures error { IfErr result (λ e. e ≡ TreeError.Memory) }
         ensures asks { OnErr result (1 ≤ self.now.nodes) }
     {

@@ -177,8 +177,10 @@ impl<N, const W: usize, B: BitsetTrait> IndexedMapping<N, W, B> {
 
     /// Returns the least byte with a child.
     pub(crate) fn first_byte(&self) -> Option<u8>
-        ensures some { MatchOption result (ascending self.now ≡ []) (λ b. IsSome (child_at b (ascending self.now))) }
-        ensures least { IfSome result (λ b. (k : ℕ) → k < b → child_at k (ascending self.now) ≡ None) }
+        ensures some { MatchOption result (ascending self.now ≡ [])
+            (λ b. IsSome (child_at b (ascending self.now))) }
+        ensures least { IfSome result
+            (λ b. (k : ℕ) → k < b → child_at k (ascending self.now) ≡ None) }
     {
         let Some(byte) = self.index.first_used() else {
             return None;
@@ -188,7 +190,8 @@ impl<N, const W: usize, B: BitsetTrait> IndexedMapping<N, W, B> {
 
     /// Removes the child at the least byte and returns it with its byte.
     pub(crate) fn take_first(&mut self) -> Option<(u8, N)>
-        ensures { MatchOption result ((ascending self.old ≡ []) × (ascending self.new ≡ [])) (λ e. ascending self.old
+        ensures { MatchOption result ((ascending self.old ≡ []) × (ascending self.new ≡ []))
+            (λ e. ascending self.old
             ≡ e ∷ ascending self.new) }
     {
         let Some(byte) = self.index.first_used() else {

@@ -167,7 +167,8 @@ impl<N, const W: usize> SortedKeyedMapping<N, W> {
 
     /// Removes the child at the greatest byte and returns it with its byte.
     pub(crate) fn take_last(&mut self) -> Option<(u8, N)>
-        ensures { MatchOption result ((self.old ≡ []) × (self.new ≡ [])) (λ e. self.old ≡ self.new ++ e ∷ []) }
+        ensures { MatchOption result ((self.old ≡ []) × (self.new ≡ []))
+            (λ e. self.old ≡ self.new ++ e ∷ []) }
     {
         let Some(child) = self.children.pop() else {
             return None;

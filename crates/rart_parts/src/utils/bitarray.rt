@@ -70,7 +70,8 @@ impl<X, const RANGE_WIDTH: usize, B: BitsetTrait> BitArray<X, RANGE_WIDTH, B> {
     where
         X: Drop,
         ensures place { IsFirst (λ k. not (is_used self.old k)) RANGE_WIDTH result }
-        ensures new { MatchOption result (self.new ≡ self.old) (λ p. self.new ≡ slice_set self.old p (Some x)) }
+        ensures new { MatchOption result (self.new ≡ self.old)
+            (λ p. self.new ≡ slice_set self.old p (Some x)) }
     {
         let position = self.first_empty()?;
         self.put(position, x);
@@ -258,8 +259,8 @@ impl<X, const RANGE_WIDTH: usize, B: BitsetTrait> BitArray<X, RANGE_WIDTH, B> {
     /// Returns a mutable borrow of the value in a slot.
     pub fn get_mut(&mut self, position: usize) -> Option<&mut X>
         requires { position < RANGE_WIDTH }
-        ensures* writes_back { sem 𝓛 (lends_place X.row RANGE_WIDTH.row B.row B.BitsetTrait self.entry
-            position result) }
+        ensures* writes_back { sem 𝓛
+            (lends_place X.row RANGE_WIDTH.row B.row B.BitsetTrait self.entry position result) }
         ensures value { option_copied_mut result ≡ slice_index_or self.old position None }
     {
         if self.places[position].is_some() {

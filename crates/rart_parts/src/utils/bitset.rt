@@ -4,7 +4,8 @@ mod ones;
 mod set;
 mod word;
 
-ghost use Rattle.std.specs.Prelude.{◌≡◌, ℕ, ◌<◌, ◌≤◌, ◌*◌, ◌^◌, ◌||◌, ◌&&◌, ◌↔◌, not, Bool, eqb, false, length, IsTrue};
+ghost use Rattle.std.specs.Prelude.{◌≡◌, ℕ, ◌<◌, ◌≤◌, ◌*◌, ◌^◌, ◌||◌, ◌&&◌, ◌↔◌, ◌==◌, not, Bool, false, length};
+ghost use Rattle.std.specs.Prelude.{IsTrue};
 ghost use Rattle.rart_parts.specs.Bits.{IsFirst, IsLast, IsMask, members};
 
 pub use ones::BitsetOnesIter;
@@ -50,12 +51,13 @@ pub trait BitsetTrait: Default + Drop {
     /// Inserts a position.
     fn set(&mut self, position: usize)
         requires { position < CAPACITY }
-        ensures { (k : ℕ) → k < CAPACITY → has self.new k ≡ (eqb k position || has self.old k) };
+        ensures { (k : ℕ) → k < CAPACITY → has self.new k ≡ ((k == position) || has self.old k) };
 
     /// Removes a position.
     fn unset(&mut self, position: usize)
         requires { position < CAPACITY }
-        ensures { (k : ℕ) → k < CAPACITY → has self.new k ≡ (not (eqb k position) && has self.old k) };
+        ensures { (k : ℕ) → k < CAPACITY
+            → has self.new k ≡ (not (k == position) && has self.old k) };
 
     /// Returns whether a position is in the set.
     fn check(&self, position: usize) -> bool

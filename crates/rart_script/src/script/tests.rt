@@ -201,8 +201,10 @@ const ROWS: [Row<'static>; 64] = [
         0,
     ),
     (
-        b"insert cat 1\ninsert catalog 2\ninsert dog 3\nprefix ca\nlongest catalogue\nrange cat dog\nremove cat\nstats\nget -\nlen\n",
-        "none\nnone\nnone\ncat=1 catalog=2\nsome catalog=2\ncat=1 catalog=2\nsome 1\nleaves 2 values 2 inner 1 children 2 width 4 height 2 w4:1/2\nnone\n2\n",
+        b"insert cat 1\ninsert catalog 2\ninsert dog 3\nprefix ca\nlongest catalogue\nrange cat dog\n\
+          remove cat\nstats\nget -\nlen\n",
+        "none\nnone\nnone\ncat=1 catalog=2\nsome catalog=2\ncat=1 catalog=2\nsome 1\n\
+         leaves 2 values 2 inner 1 children 2 width 4 height 2 w4:1/2\nnone\n2\n",
         "",
         0,
     ),

@@ -34,7 +34,8 @@ pub(super) fn keys_by_index<'a, K: KeyTrait + 'a, F: Fn(usize) -> &'a K>(
 ) -> Result<Vec<&'a [u8]>, BulkError>
     requires { (i : _) → i < len → F.pre key_at.now i }
     ensures count { IfOk result (λ v. length (keys_in v.items) ≡ len) }
-    ensures keys { IfOk result (λ v. AreKeysAt (λ i key. (k : _) × F.post key_at.now i k × (key ≡ K.bytes k.now))
+    ensures keys { IfOk result
+        (λ v. AreKeysAt (λ i key. (k : _) × F.post key_at.now i k × (key ≡ K.bytes k.now))
         (keys_in v.items)) }
     ensures error { IfErr result (λ e. e ≡ BulkError.Memory) }
 {

@@ -38,7 +38,8 @@ impl<const N: usize, V: Copy> AdaptiveRadixTree<ArrayKey<N>, V> {
 fn read_texts<const N: usize, V: Copy>(
     old: &AdaptiveRadixTree<ArrayKey<N>, V>,
 ) -> Result<(Vec<ArrayKey<N>>, Vec<V>), MigrateError>
-    ensures keys { IfOk result (λ r. keys_of old.now.pairs ≡ map terminated (map array_key_bytes r.0.items)) }
+    ensures keys { IfOk result
+        (λ r. keys_of old.now.pairs ≡ map terminated (map array_key_bytes r.0.items)) }
     ensures values { IfOk result (λ r. values_of old.now.pairs ≡ r.1.items) }
     ensures few { IfOk result (λ r. length r.0.items ≤ MAX_PAIRS) }
     ensures refused { IfErr result (FailsMigration old.now.pairs) }
@@ -68,7 +69,8 @@ fn read_texts<const N: usize, V: Copy>(
 
 /// Returns the key without its closing zero byte, `None` if it has none.
 fn without_zero<const N: usize>(key: &ArrayKey<N>) -> Option<ArrayKey<N>>
-    ensures text { IfSome result (λ text. array_key_bytes key.now ≡ terminated (array_key_bytes text)) }
+    ensures text { IfSome result
+        (λ text. array_key_bytes key.now ≡ terminated (array_key_bytes text)) }
     ensures no_text { IfNone result ((text : List ℕ) → array_key_bytes key.now ≢ terminated text) }
 {
     match key.as_slice().split_last() {

@@ -32,9 +32,10 @@ fn keep_last<K: KeyTrait + Drop, V: Drop>(
 ) -> Result<(), BulkError>
     requires { length keys.old.items ≤ MAX_PAIRS }
     ensures few { length keys.new.items ≤ MAX_PAIRS }
-    ensures kept { KeepsItem (map K.bytes keys.old.items) values.old.items (K.bytes key) value result
-        (map K.bytes keys.new.items) values.new.items }
-    ensures refused { FailsAtItem (map K.bytes keys.old.items) values.old.items (K.bytes key) value at result }
+    ensures kept { KeepsItem (map K.bytes keys.old.items) values.old.items (K.bytes key)
+        value result (map K.bytes keys.new.items) values.new.items }
+    ensures refused { FailsAtItem (map K.bytes keys.old.items) values.old.items (K.bytes key) value
+        at result }
 {
     one_item_more::<V>();
     match order_after(keys, &key) {

@@ -21,7 +21,8 @@ fn part<'a, 'b>(left: &'a [u8], right: &'b [u8]) -> (&'a [u8], &'a [u8], &'b [u8
 
 /// Returns the first byte, as a number and as a segment, and the rest.
 fn next_byte(rest: &[u8]) -> Option<(u8, &[u8], &[u8])>
-    ensures { MatchOption result (rest.now ≡ []) (λ e. (rest.now ≡ e.0 ∷ e.2.now) × (e.1.now ≡ e.0 ∷ [])) }
+    ensures { MatchOption result (rest.now ≡ [])
+        (λ e. (rest.now ≡ e.0 ∷ e.2.now) × (e.1.now ≡ e.0 ∷ [])) }
 {
     if rest.is_empty() {
         return None;
@@ -72,8 +73,8 @@ pub(crate) fn next_aligned<'a, 'b, P: Partial, V, W, C: Count>(
 ) -> Option<(Entered<'a, P, V, C>, Entered<'b, P, W, Paired<C>>)>
     requires { WayRoom way.old (longest_key (pairs_of left.node.now)) }
     ensures way { FindsAligned left.entry.node.now right.entry.node.now way.old result way.new }
-    ensures visits { VisitsAligned left.entry.node.now right.entry.node.now (C.number counter.old) result
-        (C.number counter.new) }
+    ensures visits { VisitsAligned left.entry.node.now right.entry.node.now
+        (C.number counter.old) result (C.number counter.new) }
 {
     let mut left = left;
     let mut right = right;

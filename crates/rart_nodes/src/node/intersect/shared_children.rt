@@ -23,8 +23,8 @@ fn next_over_left<'a, 'b, P: Partial, V, W, C: Count>(
     right: Entered<'b, P, W, Paired<C>>,
     counter: &mut C,
 ) -> Option<(Entered<'a, P, V, C>, Entered<'b, P, W, Paired<C>>)>
-    ensures shared_children { EntersSharedChildren (λ s. shared_left s right.entry.node.now) branches.old result
-        branches.new }
+    ensures shared_children { EntersSharedChildren (λ s. shared_left s right.entry.node.now)
+        branches.old result branches.new }
     ensures counted { C.number counter.new ≡ C.number counter.old + count_of result }
 {
     while let Some((byte, child)) = branches.next_child() {
@@ -40,7 +40,8 @@ fn next_over_right<'a, 'b, P: Partial, V, W, C: Count>(
     branches: &mut Branches<'b, P, W, Paired<C>>,
     counter: &mut C,
 ) -> Option<(Entered<'a, P, V, C>, Entered<'b, P, W, Paired<C>>)>
-    ensures shared_children { EntersSharedChildren (shared_right left.entry.node.now) branches.old result branches.new }
+    ensures shared_children { EntersSharedChildren (shared_right left.entry.node.now) branches.old
+        result branches.new }
     ensures counted { C.number counter.new ≡ C.number counter.old + count_of result }
 {
     while let Some((byte, other)) = branches.next_child() {
@@ -71,7 +72,8 @@ impl<'a, 'b, P: Partial, V, W, C: Count> SharedChildren<'a, 'b, P, V, W, C> {
         right: Entered<'b, P, W, Paired<C>>,
         counter: &mut C,
     ) -> Option<(Entered<'a, P, V, C>, Entered<'b, P, W, Paired<C>>)>
-        ensures shared_children { EntersSharedChildren (λ s. shared_ahead s left.entry.node.now right.entry.node.now)
+        ensures shared_children { EntersSharedChildren
+            (λ s. shared_ahead s left.entry.node.now right.entry.node.now)
             self.old result self.new }
         ensures counted { C.number counter.new ≡ C.number counter.old + count_of result }
     {

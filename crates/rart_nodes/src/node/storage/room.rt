@@ -142,7 +142,8 @@ impl<N> Storage<N> {
         requires absent { child_at b (stored self.old) ≡ None }
         ensures stored { stored self.new ≡ stored self.old }
         ensures room { OnOk result (length (stored self.new) < width_of self.new) }
-        ensures width { OnOk result (width_of self.new ≡ widened (length (stored self.old)) (width_of self.old)) }
+        ensures width { OnOk result
+            (width_of self.new ≡ widened (length (stored self.old)) (width_of self.old)) }
         ensures refused { OnErr result (self.new ≡ self.old) }
         ensures asks { OnErr result (length (stored self.old) ≡ width_of self.old) }
         ensures error { IfErr result (λ e. e ≡ TreeError.Memory) }

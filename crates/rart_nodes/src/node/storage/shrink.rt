@@ -43,7 +43,8 @@ impl<N> Storage<N> {
     pub(crate) fn delete_child(&mut self, alloc: Global, b: u8) -> Result<Option<N>, TreeError>
         ensures taken { IfOk result (λ c. c ≡ child_at b (stored self.old)) }
         ensures stored { OnOk result (stored self.new ≡ without_byte b (stored self.old)) }
-        ensures width { OnOk result (width_of self.new ≡ width_without b self.old (length (stored self.new))) }
+        ensures width { OnOk result
+            (width_of self.new ≡ width_without b self.old (length (stored self.new))) }
         ensures refused { OnErr result (self.new ≡ self.old) }
         ensures asks { OnErr result (NarrowsStored b self.old) }
         ensures error { IfErr result (λ e. e ≡ TreeError.Memory) }

@@ -30,7 +30,8 @@ fn deepen<'a, P: Partial, V, C, T: Path<'a, P>>(
     requires bytes { length (T.kept path.old) + length (prefix_of at.node.now) ≤ T.room path.old }
     requires place { vec_len levels.old < vec_capacity levels.old }
     ensures kept { T.kept path.new ≡ T.kept path.old ++ T.grown (prefix_of at.entry.node.now) }
-    ensures levels { levels.new.items ≡ levels.old.items ++ (rest.entry, length (T.kept path.new)) ∷ [] }
+    ensures levels { levels.new.items
+        ≡ levels.old.items ++ (rest.entry, length (T.kept path.new)) ∷ [] }
     ensures path_room { T.room path.old ≤ T.room path.new }
     ensures level_room { vec_capacity levels.new ≡ vec_capacity levels.old }
 {
@@ -58,9 +59,11 @@ impl<'a, P: Partial, V, C: Count> Walk<'a, P, V, C> {
         ensures path { IsWalk self.new.longest (vec_capacity self.new.levels) (T.kept path.new)
             (reverse self.new.levels.items) }
         ensures room { self.new.longest ≤ T.room path.new }
-        ensures entries { entries_ahead T.grown (T.kept path.new) (option_copied self.new.first) self.new.levels.items
+        ensures entries { entries_ahead T.grown (T.kept path.new) (option_copied self.new.first)
+            self.new.levels.items
             ≡ entries_from included start.now (entries_of T.grown top.entry.node.now) }
-        ensures visits { C.number counter.new ≡ C.number counter.old + entered_nodes start.now top.entry.node.now }
+        ensures visits { C.number counter.new
+            ≡ C.number counter.old + entered_nodes start.now top.entry.node.now }
         ensures low { AreLow (trie_height top.entry.node.now) (reverse self.new.levels.items) }
         ensures longest { self.new.longest ≡ self.old.longest }
         ensures places { vec_capacity self.new.levels ≡ vec_capacity self.old.levels }
@@ -105,16 +108,19 @@ impl<'a, K: KeyTrait, V, C: Count> Seen<'a, K, V, C> {
             (reverse w.0.levels.items)) }
         ensures room { IfOk result (λ w. w.0.longest ≤ T.room w.1) }
         ensures longest { IfOk result (λ w. w.0.longest ≤ self.entry.longest) }
-        ensures entries { IfOk result (λ w. entries_ahead T.grown (T.kept w.1) (option_copied w.0.first)
-            w.0.levels.items
-            ≡ entries_from included start.now (tree_entries T.grown (option_copied self.entry.root))) }
-        ensures low { IfOk result (λ w. AreLow (height (seen_keys self.entry.root)) (reverse w.0.levels.items)) }
+        ensures entries { IfOk result
+            (λ w. entries_ahead T.grown (T.kept w.1) (option_copied w.0.first) w.0.levels.items
+            ≡ entries_from included start.now
+            (tree_entries T.grown (option_copied self.entry.root))) }
+        ensures low { IfOk result
+            (λ w. AreLow (height (seen_keys self.entry.root)) (reverse w.0.levels.items)) }
         ensures memory { OnErr result (seen_pairs self.entry.root ≢ []) }
         ensures unread { OnErr result (counter.new ≡ counter.old) }
         ensures visits { IfOk result (λ _. C.number counter.new
             ≡ C.number counter.old + probe_count (seen_keys self.entry.root) start.now) }
         ensures bound { C.number counter.new ≤ C.number counter.old + length start.now + 1 }
-        ensures places { IfOk result (λ w. w.0.levels.items ≢ [] → vec_capacity w.0.levels ≡ self.entry.longest + 1) }
+        ensures places { IfOk result
+            (λ w. w.0.levels.items ≢ [] → vec_capacity w.0.levels ≡ self.entry.longest + 1) }
     {
         let alloc = self.alloc();
         let longest = self.longest();

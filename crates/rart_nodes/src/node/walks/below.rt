@@ -25,12 +25,15 @@ fn seek_prefix<'a, P: Partial, V, C: Count, T: Path<'a, P>>(
     path: &mut T,
     counter: &mut C,
 ) -> Option<Entered<'a, P, V, C>>
-    requires room { length (T.kept path.old) + longest_key (tree_pairs (option_map (λ s. s.node.now) top))
+    requires room { length (T.kept path.old)
+        + longest_key (tree_pairs (option_map (λ s. s.node.now) top))
         ≤ T.room path.old }
-    ensures found { EntersPart T.grown (T.kept path.old) prefix.now (option_map (λ s. s.node.now) top.entry) result
-        (T.kept path.new) }
-    ensures deep { MatchOption result (Unit {0}) (λ e. length (T.kept path.new) + longest_key (pairs_of e.node.now)
-        ≤ length (T.kept path.old) + longest_key (tree_pairs (option_map (λ s. s.node.now) top.entry))) }
+    ensures found { EntersPart T.grown (T.kept path.old) prefix.now
+        (option_map (λ s. s.node.now) top.entry) result (T.kept path.new) }
+    ensures deep { MatchOption result (Unit {0})
+        (λ e. length (T.kept path.new) + longest_key (pairs_of e.node.now)
+        ≤ length (T.kept path.old)
+        + longest_key (tree_pairs (option_map (λ s. s.node.now) top.entry))) }
     ensures room { T.room path.old ≤ T.room path.new }
     ensures visits { C.number counter.new ≡ C.number counter.old
         + tree_entered prefix.now (option_map (λ s. s.node.now) top.entry) }
@@ -67,9 +70,10 @@ impl<'a, K: KeyTrait, V, C: Count> Seen<'a, K, V, C> {
             (reverse w.0.levels.items)) }
         ensures room { IfOk result (λ w. w.0.longest ≤ T.room w.1) }
         ensures longest { IfOk result (λ w. w.0.longest ≤ self.entry.longest) }
-        ensures entries { IfOk result (λ w. entries_ahead T.grown (T.kept w.1) (option_copied w.0.first)
-            w.0.levels.items
-            ≡ part_entries T.grown (tree_part T.grown [] prefix.now (option_copied self.entry.root))) }
+        ensures entries { IfOk result
+            (λ w. entries_ahead T.grown (T.kept w.1) (option_copied w.0.first) w.0.levels.items
+            ≡ part_entries T.grown
+            (tree_part T.grown [] prefix.now (option_copied self.entry.root))) }
         ensures memory { OnErr result (seen_pairs self.entry.root ≢ []) }
         ensures unread { OnErr result (counter.new ≡ counter.old) }
         ensures visits { IfOk result (λ _. C.number counter.new
@@ -77,7 +81,8 @@ impl<'a, K: KeyTrait, V, C: Count> Seen<'a, K, V, C> {
         ensures bound { C.number counter.new ≤ C.number counter.old + length prefix.now + 1 }
         ensures few { IfOk result (λ w. nodes_below (reverse w.0.levels.items)
             ≤ 2 * length (below prefix.now (seen_pairs self.entry.root))) }
-        ensures places { IfOk result (λ w. w.0.levels.items ≢ [] → vec_capacity w.0.levels ≡ self.entry.longest + 1) }
+        ensures places { IfOk result
+            (λ w. w.0.levels.items ≢ [] → vec_capacity w.0.levels ≡ self.entry.longest + 1) }
     {
         let alloc = self.alloc();
         let longest = self.longest();

@@ -89,7 +89,8 @@ impl<'a, K: KeyTrait, V, C: Count> Seen<'a, K, V, C> {
         ensures refused { OnErr result (f.new ≡ f.old) }
         ensures memory { IfErr result (MayLackRoom (seen_pairs self.entry.root)) }
         ensures visits { OnOk result (C.number counter.new
-            ≤ C.number counter.old + below_visits (K.bytes prefix.now) (seen_pairs self.entry.root)) }
+            ≤ C.number counter.old
+            + below_visits (K.bytes prefix.now) (seen_pairs self.entry.root)) }
         ensures bound { C.number counter.new
             ≤ C.number counter.old + below_bound (K.bytes prefix.now) (seen_pairs self.entry.root) }
     {
@@ -118,7 +119,8 @@ impl<'a, K: KeyTrait, V, C: Count> Seen<'a, K, V, C> {
             (values_below (K.bytes prefix.now) (seen_pairs self.entry.root))) }
         ensures memory { IfErr result (MayLackRoom (seen_pairs self.entry.root)) }
         ensures visits { OnOk result (C.number counter.new
-            ≤ C.number counter.old + below_visits (K.bytes prefix.now) (seen_pairs self.entry.root)) }
+            ≤ C.number counter.old
+            + below_visits (K.bytes prefix.now) (seen_pairs self.entry.root)) }
         ensures bound { C.number counter.new
             ≤ C.number counter.old + below_bound (K.bytes prefix.now) (seen_pairs self.entry.root) }
     {

@@ -93,7 +93,8 @@ impl<'a, K: KeyTrait, V, C: Count> Seen<'a, K, V, C> {
         ensures refused { OnErr result (f.new ≡ f.old) }
         ensures memory { IfErr result (MayLackRoom (seen_pairs self.entry.root)) }
         ensures visits { OnOk result (C.number counter.new
-            ≤ C.number counter.old + below_visits (K.bytes prefix.now) (seen_pairs self.entry.root)) }
+            ≤ C.number counter.old
+            + below_visits (K.bytes prefix.now) (seen_pairs self.entry.root)) }
         ensures bound { C.number counter.new
             ≤ C.number counter.old + below_bound (K.bytes prefix.now) (seen_pairs self.entry.root) }
     {
@@ -121,7 +122,8 @@ impl<'a, K: KeyTrait, V, C: Count> Seen<'a, K, V, C> {
             (cut_below (K.bytes prefix.now) (seen_pairs self.entry.root))) }
         ensures memory { IfErr result (MayLackRoom (seen_pairs self.entry.root)) }
         ensures visits { OnOk result (C.number counter.new
-            ≤ C.number counter.old + below_visits (K.bytes prefix.now) (seen_pairs self.entry.root)) }
+            ≤ C.number counter.old
+            + below_visits (K.bytes prefix.now) (seen_pairs self.entry.root)) }
         ensures bound { C.number counter.new
             ≤ C.number counter.old + below_bound (K.bytes prefix.now) (seen_pairs self.entry.root) }
     {
@@ -151,7 +153,8 @@ impl<'a, K: KeyTrait, V, C: Count> Seen<'a, K, V, C> {
         ensures refused { OnErr result (f.new ≡ f.old) }
         ensures memory { IfErr result (MayLackRoom (seen_pairs self.entry.root)) }
         ensures visits { OnOk result (C.number counter.new ≤ C.number counter.old
-            + (probe_count (seen_keys self.entry.root) [] + 2 * length (seen_pairs self.entry.root))) }
+            + (probe_count (seen_keys self.entry.root) []
+            + 2 * length (seen_pairs self.entry.root))) }
         ensures bound { C.number counter.new
             ≤ C.number counter.old + 1 + 2 * length (seen_pairs self.entry.root) }
     {
@@ -178,7 +181,8 @@ impl<'a, K: KeyTrait, V, C: Count> Seen<'a, K, V, C> {
             (cut_pairs (seen_keys self.entry.root) (seen_pairs self.entry.root))) }
         ensures memory { IfErr result (MayLackRoom (seen_pairs self.entry.root)) }
         ensures visits { OnOk result (C.number counter.new ≤ C.number counter.old
-            + (probe_count (seen_keys self.entry.root) [] + 2 * length (seen_pairs self.entry.root))) }
+            + (probe_count (seen_keys self.entry.root) []
+            + 2 * length (seen_pairs self.entry.root))) }
         ensures bound { C.number counter.new
             ≤ C.number counter.old + 1 + 2 * length (seen_pairs self.entry.root) }
     {

@@ -111,9 +111,11 @@ impl<'a, K: KeyTrait, V, C: Count> Seen<'a, K, V, C> {
         ensures called { IfOk result (ShowsFound F.FnMut f.old (seen_keys self.entry.root)
             (longest_match (K.bytes probe.now) (seen_pairs self.entry.root)) f.new) }
         ensures refused { OnErr result (f.new ≡ f.old) }
-        ensures memory { IfErr result (MayLackMatch (K.bytes probe.now) (seen_pairs self.entry.root)) }
+        ensures memory { IfErr result
+            (MayLackMatch (K.bytes probe.now) (seen_pairs self.entry.root)) }
         ensures visits { OnOk result (C.number counter.new
-            ≤ C.number counter.old + match_visits (K.bytes probe.now) (seen_pairs self.entry.root)) }
+            ≤ C.number counter.old
+            + match_visits (K.bytes probe.now) (seen_pairs self.entry.root)) }
         ensures bound { C.number counter.new
             ≤ C.number counter.old + 3 * length (K.bytes probe.now) + 2 }
     {
@@ -139,9 +141,11 @@ impl<'a, K: KeyTrait, V, C: Count> Seen<'a, K, V, C> {
             (longest_match (K.bytes probe.now) (seen_pairs self.root)) }
         ensures called { IfOk result (SeesFound F.FnOnce f (seen_keys self.entry.root)
             (longest_match (K.bytes probe.now) (seen_pairs self.entry.root))) }
-        ensures memory { IfErr result (MayLackMatch (K.bytes probe.now) (seen_pairs self.entry.root)) }
+        ensures memory { IfErr result
+            (MayLackMatch (K.bytes probe.now) (seen_pairs self.entry.root)) }
         ensures visits { OnOk result (C.number counter.new
-            ≤ C.number counter.old + match_visits (K.bytes probe.now) (seen_pairs self.entry.root)) }
+            ≤ C.number counter.old
+            + match_visits (K.bytes probe.now) (seen_pairs self.entry.root)) }
         ensures bound { C.number counter.new
             ≤ C.number counter.old + 3 * length (K.bytes probe.now) + 2 }
     {
@@ -165,7 +169,8 @@ impl<'a, K: KeyTrait, V> Seen<'a, K, V, Visits> {
             (longest_match (K.bytes probe.now) (seen_pairs self.root)) }
         ensures called { IfOk result (SeesFound F.FnOnce f (seen_keys self.entry.root)
             (longest_match (K.bytes probe.now) (seen_pairs self.entry.root))) }
-        ensures memory { IfErr result (MayLackMatch (K.bytes probe.now) (seen_pairs self.entry.root)) }
+        ensures memory { IfErr result
+            (MayLackMatch (K.bytes probe.now) (seen_pairs self.entry.root)) }
     {
         self.with_longest_prefix_match_view_k_counted(probe, f, &mut Visits::new())
     }

@@ -39,7 +39,8 @@ impl<'a, K: KeyTrait, V, C: Count> Seen<'a, K, V, C> {
     /// At most `key.len() + 1` nodes.
     pub fn get_bytes_counted(self, key: &[u8], counter: &mut C) -> Option<&'a V>
         ensures value { option_copied result ≡ lookup key.now (seen_pairs self.entry.root) }
-        ensures visits { C.number counter.new ≡ C.number counter.old + probe_count (seen_keys self.entry.root) key.now }
+        ensures visits { C.number counter.new
+            ≡ C.number counter.old + probe_count (seen_keys self.entry.root) key.now }
         ensures bound { C.number counter.new ≤ C.number counter.old + length key.now + 1 }
     {
         self.descend(key, counter)
@@ -51,9 +52,10 @@ impl<'a, K: KeyTrait, V, C: Count> Seen<'a, K, V, C> {
     ///
     /// At most `key.len() + 1` nodes.
     pub fn get_k_counted(self, key: &K, counter: &mut C) -> Option<&'a V>
-        ensures value { option_copied result ≡ lookup (K.bytes key.now) (seen_pairs self.entry.root) }
-        ensures visits { C.number counter.new ≡ C.number counter.old + probe_count (seen_keys self.entry.root)
-            (K.bytes key.now) }
+        ensures value { option_copied result
+            ≡ lookup (K.bytes key.now) (seen_pairs self.entry.root) }
+        ensures visits { C.number counter.new
+            ≡ C.number counter.old + probe_count (seen_keys self.entry.root) (K.bytes key.now) }
         ensures bound { C.number counter.new ≤ C.number counter.old + length (K.bytes key.now) + 1 }
     {
         self.get_bytes_counted(key.as_ref(), counter)

@@ -26,7 +26,8 @@ use std::ops::Bound;
 
 /// Returns whether a lent key is within an end.
 fn is_within<K: KeyTrait>(view: LendingKeyView<'_, '_>, end: &Bound<K>) -> bool
-    ensures { result ≡ is_to (bound_in K.bytes end.now) (joined (lent_segments view.entry.segments.now)) }
+    ensures { result ≡ is_to (bound_in K.bytes end.now)
+        (joined (lent_segments view.entry.segments.now)) }
 {
     match end {
         Bound::Included(end) => is_before(view.cmp_slice(end.as_ref()), true),
@@ -53,7 +54,8 @@ fn for_each_view_to<'a, K: KeyTrait, V, C: Count, F: FnMut(LendingKeyView<'_, '_
     ensures folds { ViewsEach F.FnMut f.old (entries_to (bound_in K.bytes end.now)
         (views_ahead path.old.segments.items walk.old.first walk.old.levels.items)) f.new }
     ensures visits { (h : ℕ) → AreLow h (reverse walk.old.levels.items) →
-        C.number counter.new ≤ C.number counter.old + 2 * length (entries_to (bound_in K.bytes end.now)
+        C.number counter.new
+        ≤ C.number counter.old + 2 * length (entries_to (bound_in K.bytes end.now)
         (views_ahead path.old.segments.items walk.old.first walk.old.levels.items)) + h }
 {
     while let Some(value) = walk.advance(path, counter) {
@@ -88,14 +90,18 @@ impl<'a, K: KeyTrait + Drop, V, C: Count> Seen<'a, K, V, C> {
             (cut_between (bound_in K.bytes start) (bound_in K.bytes end) (seen_pairs self.root)) }
         ensures callable { F.IsAlwaysCallable f.old → F.IsAlwaysCallable f.new }
         ensures calls { OnOk result (ViewsEach F.FnMut f.old
-            (cut_between (bound_in K.bytes start) (bound_in K.bytes end) (seen_pairs self.entry.root)) f.new) }
+            (cut_between (bound_in K.bytes start) (bound_in K.bytes end)
+            (seen_pairs self.entry.root)) f.new) }
         ensures refused { OnErr result (f.new ≡ f.old) }
         ensures memory { IfErr result (MayLackRoom (seen_pairs self.entry.root)) }
         ensures visits { OnOk result (C.number counter.new ≤ C.number counter.old
-            + span_visits (bound_in K.bytes start) (bound_in K.bytes end) (seen_pairs self.entry.root)) }
+            + span_visits (bound_in K.bytes start) (bound_in K.bytes end)
+            (seen_pairs self.entry.root)) }
         ensures bound { C.number counter.new ≤ C.number counter.old
-            + span_bound (bound_in K.bytes start) (bound_in K.bytes end) (seen_pairs self.entry.root) }
-        ensures none { seen_pairs self.entry.root ≡ [] → C.number counter.new ≤ C.number counter.old }
+            + span_bound (bound_in K.bytes start) (bound_in K.bytes end)
+            (seen_pairs self.entry.root) }
+        ensures none { seen_pairs self.entry.root ≡ []
+            → C.number counter.new ≤ C.number counter.old }
     {
         let (bytes, included) = bytes_of(&start);
         let (mut walk, mut path) = self.walk_from::<SegmentPath<'a>>(bytes, included, counter)?;
@@ -122,13 +128,17 @@ impl<'a, K: KeyTrait + Drop, V, C: Count> Seen<'a, K, V, C> {
         requires callable { CanView F.FnMut f
             (cut_between (bound_in K.bytes start) (bound_in K.bytes end) (seen_pairs self.root)) }
         ensures calls { OnOk result (ViewedEach F.FnMut f
-            (cut_between (bound_in K.bytes start) (bound_in K.bytes end) (seen_pairs self.entry.root))) }
+            (cut_between (bound_in K.bytes start) (bound_in K.bytes end)
+            (seen_pairs self.entry.root))) }
         ensures memory { IfErr result (MayLackRoom (seen_pairs self.entry.root)) }
         ensures visits { OnOk result (C.number counter.new ≤ C.number counter.old
-            + span_visits (bound_in K.bytes start) (bound_in K.bytes end) (seen_pairs self.entry.root)) }
+            + span_visits (bound_in K.bytes start) (bound_in K.bytes end)
+            (seen_pairs self.entry.root)) }
         ensures bound { C.number counter.new ≤ C.number counter.old
-            + span_bound (bound_in K.bytes start) (bound_in K.bytes end) (seen_pairs self.entry.root) }
-        ensures none { seen_pairs self.entry.root ≡ [] → C.number counter.new ≤ C.number counter.old }
+            + span_bound (bound_in K.bytes start) (bound_in K.bytes end)
+            (seen_pairs self.entry.root) }
+        ensures none { seen_pairs self.entry.root ≡ []
+            → C.number counter.new ≤ C.number counter.old }
     {
         self.for_each_range_view_by_ref_counted(start, end, &mut f, counter)
     }

@@ -63,7 +63,8 @@ impl<'a, K: KeyTrait, V, C: Count> Seen<'a, K, V, C> {
             (values_below (K.bytes prefix.now) (seen_pairs self.entry.root)) result f.new }
         ensures memory { IfErr result (MayStopAtRoom (seen_pairs self.entry.root)) }
         ensures visits { IfRoom result (C.number counter.new
-            ≤ C.number counter.old + below_visits (K.bytes prefix.now) (seen_pairs self.entry.root)) }
+            ≤ C.number counter.old
+            + below_visits (K.bytes prefix.now) (seen_pairs self.entry.root)) }
         ensures bound { C.number counter.new
             ≤ C.number counter.old + below_bound (K.bytes prefix.now) (seen_pairs self.entry.root) }
     {
@@ -97,7 +98,8 @@ impl<'a, K: KeyTrait, V, C: Count> Seen<'a, K, V, C> {
             (values_below (K.bytes prefix.now) (seen_pairs self.entry.root)) result }
         ensures memory { IfErr result (MayStopAtRoom (seen_pairs self.entry.root)) }
         ensures visits { IfRoom result (C.number counter.new
-            ≤ C.number counter.old + below_visits (K.bytes prefix.now) (seen_pairs self.entry.root)) }
+            ≤ C.number counter.old
+            + below_visits (K.bytes prefix.now) (seen_pairs self.entry.root)) }
         ensures bound { C.number counter.new
             ≤ C.number counter.old + below_bound (K.bytes prefix.now) (seen_pairs self.entry.root) }
     {

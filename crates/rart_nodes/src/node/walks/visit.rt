@@ -27,7 +27,8 @@ fn for_each_value<'a, P: Partial, V, C: Count, F: FnMut(&V)>(
         (reverse walk.old.levels.items) }
     requires room { walk.old.longest ≤ 2 ^ 64 }
     ensures callable { F.IsAlwaysCallable f.old → F.IsAlwaysCallable f.new }
-    ensures folds { ShowsEach F.FnMut f.old (values_ahead walk.old.first walk.old.levels.items) f.new }
+    ensures folds { ShowsEach F.FnMut f.old
+        (values_ahead walk.old.first walk.old.levels.items) f.new }
     ensures visits { C.number counter.new
         ≤ C.number counter.old + nodes_below (reverse walk.old.levels.items) }
 {
@@ -84,7 +85,8 @@ impl<'a, K: KeyTrait, V, C: Count> Seen<'a, K, V, C> {
         ensures refused { OnErr result (f.new ≡ f.old) }
         ensures memory { IfErr result (MayLackRoom (seen_pairs self.entry.root)) }
         ensures visits { OnOk result (C.number counter.new
-            ≤ C.number counter.old + below_visits (K.bytes prefix.now) (seen_pairs self.entry.root)) }
+            ≤ C.number counter.old
+            + below_visits (K.bytes prefix.now) (seen_pairs self.entry.root)) }
         ensures bound { C.number counter.new
             ≤ C.number counter.old + below_bound (K.bytes prefix.now) (seen_pairs self.entry.root) }
     {
@@ -112,7 +114,8 @@ impl<'a, K: KeyTrait, V, C: Count> Seen<'a, K, V, C> {
             (values_below (K.bytes prefix.now) (seen_pairs self.entry.root))) }
         ensures memory { IfErr result (MayLackRoom (seen_pairs self.entry.root)) }
         ensures visits { OnOk result (C.number counter.new
-            ≤ C.number counter.old + below_visits (K.bytes prefix.now) (seen_pairs self.entry.root)) }
+            ≤ C.number counter.old
+            + below_visits (K.bytes prefix.now) (seen_pairs self.entry.root)) }
         ensures bound { C.number counter.new
             ≤ C.number counter.old + below_bound (K.bytes prefix.now) (seen_pairs self.entry.root) }
     {

@@ -1,5 +1,5 @@
 //! Words of bits: the unsigned integers of 8 to 64 bits, which contracts read as numbers.
-ghost use Rattle.std.specs.Prelude.{◌≡◌, ℕ, ◌<◌, ◌≤◌, ◌^◌, ◌||◌, ◌&&◌, not, eqb, refl, length};
+ghost use Rattle.std.specs.Prelude.{◌≡◌, ℕ, ◌<◌, ◌≤◌, ◌^◌, ◌||◌, ◌&&◌, not, ◌==◌, refl, length};
 ghost use Rattle.std.proofs.Common.{arith};
 ghost use Rattle.rart_parts.specs.Bits.{has_bit, IsFirst, IsLast, members};
 
@@ -38,7 +38,8 @@ pub trait BitsetWord: Copy {
     /// Returns the word with one bit set.
     fn with(self, at: usize) -> Self
         requires { at < WIDTH }
-        ensures { (k : ℕ) → k < WIDTH → has_bit (number result) k ≡ (eqb k at || has_bit (number self) k) }
+        ensures { (k : ℕ) → k < WIDTH
+            → has_bit (number result) k ≡ ((k == at) || has_bit (number self) k) }
     {
         Self::from_u64(self.to_u64() | (1 << at))
     }
@@ -46,7 +47,8 @@ pub trait BitsetWord: Copy {
     /// Returns the word with one bit cleared.
     fn without(self, at: usize) -> Self
         requires { at < WIDTH }
-        ensures { (k : ℕ) → k < WIDTH → has_bit (number result) k ≡ (not (eqb k at) && has_bit (number self) k) }
+        ensures { (k : ℕ) → k < WIDTH
+            → has_bit (number result) k ≡ (not (k == at) && has_bit (number self) k) }
     {
         Self::from_u64(self.to_u64() & !(1 << at))
     }

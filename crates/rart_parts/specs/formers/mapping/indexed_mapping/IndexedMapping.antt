@@ -1,5 +1,6 @@
 -- `IndexedMapping` as a type that may hold the type that holds it, by its children.
-use Rattle.std.specs.Prelude.{◌≡◌, ℕ, suc, List, [], ◌∷◌, Option, None, true, false, cond, ltb, Some, map, length}
+use Rattle.std.specs.Prelude.{◌≡◌, ℕ, suc, List, [], ◌∷◌, Option, None, true, false, nat_lt, Some, map, length}
+use Rattle.std.specs.Prelude.{if◌then◌else◌}
 use mathlib.Core.Path.{refl, sym, ap, ◌∙◌}
 use mathlib.Core.Former.{Former, one_more, this, const, pair, list, via, children}
 use native.Mathlib.Nat.{ℕ_set}
@@ -85,9 +86,9 @@ with_another-map : {X Y : Type 0} (h : X → Y) (k : ℕ) (x : X) (es : List (�
     → with_another k (h x) (map (on_value h) es) ≡ map (on_value h) (with_another k x es)
 with_another-map h k x [] = refl
 with_another-map h k x (e ∷ es) =
-    elim (ltb e.0 k) as (λ b. cond b (on_value h e ∷ with_another k (h x) (map (on_value h) es))
-    ((k, h x) ∷ on_value h e ∷ map (on_value h) es)
-    ≡ map (on_value h) (cond b (e ∷ with_another k x es) ((k, x) ∷ e ∷ es))) [
+    elim (nat_lt e.0 k) as (λ b. (if b then on_value h e ∷ with_another k (h x) (map (on_value h) es)
+    else (k, h x) ∷ on_value h e ∷ map (on_value h) es)
+    ≡ map (on_value h) (if b then e ∷ with_another k x es else (k, x) ∷ e ∷ es)) [
       | true ↦ ap (λ l. on_value h e ∷ l) (with_another-map h k x es)
       | false ↦ refl
     ]
