@@ -8,7 +8,7 @@ use Rattle.std.specs.Ordering.{nat_cmp}
 use Rattle.std.specs.Cmp.Lexicographic.{slice_cmp}
 use Rattle.std.proofs.iter.Next.{Yields-more}
 use Rattle.std.proofs.lemmas.List.{length-map, map-append}
-use Rattle.rart_keys.specs.BulkLists.{WasRead, first_fault, last_wins, order_behind}
+use Rattle.rart_keys.specs.BulkLists.{WasRead, first_fault, last_wins, order_of_last}
 use Rattle.rart_keys.specs.SortedMap.{keys_of}
 use Rattle.rart.specs.BulkLoads.{Reads, FailsSorted, FailsUnique}
 use Rattle.rart.specs.Steps.{pairs_in}
@@ -18,22 +18,22 @@ use Rattle.rart.specs.declared.tree.TheConstants.{MAX_PAIRS}
 -- what one more item does to the keys and values that stay of a list without fault
 abbrev pub Later : Type 0 → Type 0
 Later V = (es : List (List ℕ × V)) (ks : List (List ℕ)) (vs : List V) (k : List ℕ) (v : V) → WasRead es ks vs
-    → order_behind ks k ≡ Less → WasRead (es ++ (k, v) ∷ []) (ks ++ k ∷ []) (vs ++ v ∷ [])
+    → order_of_last ks k ≡ Less → WasRead (es ++ (k, v) ∷ []) (ks ++ k ∷ []) (vs ++ v ∷ [])
 
 abbrev pub Same : Type 0 → Type 0
 Same V = (es : List (List ℕ × V)) (ks : List (List ℕ)) (vs ws : List V) (w : V) (k : List ℕ) (v : V) → WasRead es ks vs
-    → order_behind ks k ≡ Equal → vs ≡ ws ++ w ∷ [] → WasRead (es ++ (k, v) ∷ []) ks (ws ++ v ∷ [])
+    → order_of_last ks k ≡ Equal → vs ≡ ws ++ w ∷ [] → WasRead (es ++ (k, v) ∷ []) ks (ws ++ v ∷ [])
 
 abbrev pub Earlier : Type 0 → Type 0
 Earlier V = (es : List (List ℕ × V)) (ks : List (List ℕ)) (vs : List V) (k : List ℕ) (v : V) → WasRead es ks vs
-    → order_behind ks k ≡ Greater → first_fault (es ++ (k, v) ∷ []) ≡ Some (length es)
+    → order_of_last ks k ≡ Greater → first_fault (es ++ (k, v) ∷ []) ≡ Some (length es)
 
 not-empty : {A : Type 0} (xs : List A) (x : A) → xs ++ x ∷ [] ≡ [] → ⊥
 not-empty xs x e = omega (arith, ap length e, length-append xs (x ∷ []))
 
 -- how the last of a program's keys compares with another
 pub order-at-end : {K : Type 0} (bytes : K → List ℕ) (keys : List K) (x : K) (k : List ℕ)
-    → Some x ≡ slice_get keys (length keys - 1) → slice_cmp nat_cmp (bytes x) k ≡ order_behind (map bytes keys) k
+    → Some x ≡ slice_get keys (length keys - 1) → slice_cmp nat_cmp (bytes x) k ≡ order_of_last (map bytes keys) k
 order-at-end bytes [] x k h = absurd (cc)
 order-at-end bytes (y ∷ []) x k h = let s : Some x ≡ Some y = h in let e : x ≡ y = cc in
     ap (λ z. slice_cmp nat_cmp (bytes z) k) e
@@ -56,7 +56,7 @@ module _ {V : Type 0} where
 
   -- an equal key again: the value that was kept last goes
   popped-again : Same V → (es : List (List ℕ × V)) (ks : List (List ℕ)) (vs ws : List V) (last : Option V) (k : List ℕ)
-      (v : V) → WasRead es ks vs → order_behind ks k ≡ Equal → vs ≡ ws ++ option_to_list last
+      (v : V) → WasRead es ks vs → order_of_last ks k ≡ Equal → vs ≡ ws ++ option_to_list last
       → (0 < length vs → IsSome last) → WasRead (es ++ (k, v) ∷ []) ks (ws ++ v ∷ [])
   popped-again law es ks vs ws (Some w) k v r o s n = law es ks vs ws w k v r o s
   popped-again law es [] vs ws None k v r o s n = absurd (cc)
@@ -66,10 +66,10 @@ module _ {V : Type 0} where
 -- an item (k, v) after the pairs es, of which keys and values were kept; `seen` are the keys that were looked at
 module _ {K V : Type 0} (bytes : K → List ℕ) (es : List (List ℕ × V)) (keys seen : List K) (vs : List V) (k : K) (v : V)
     (r : WasRead es (map bytes keys) vs) (same : seen ≡ keys) where
-  ordered : (o : _) → o ≡ order_behind (map bytes seen) (bytes k) → order_behind (map bytes keys) (bytes k) ≡ o
-  ordered o e = ap (λ z. order_behind (map bytes z) (bytes k)) (sym same) ∙ sym e
+  ordered : (o : _) → o ≡ order_of_last (map bytes seen) (bytes k) → order_of_last (map bytes keys) (bytes k) ≡ o
+  ordered o e = ap (λ z. order_of_last (map bytes z) (bytes k)) (sym same) ∙ sym e
 
-  pub fault-fails : Earlier V → (at : ℕ) → Greater ≡ order_behind (map bytes seen) (bytes k)
+  pub fault-fails : Earlier V → (at : ℕ) → Greater ≡ order_of_last (map bytes seen) (bytes k)
       → at ≡ min (length es) (2 ^ 64 - 1) → FailsSorted (es ++ (bytes k, v) ∷ []) (Unsorted at)
   fault-fails law at o a = (
     length es,
@@ -79,7 +79,7 @@ module _ {K V : Type 0} (bytes : K → List ℕ) (es : List (List ℕ × V)) (ke
     a,
   )
 
-  pub full-fails : Later V → Less ≡ order_behind (map bytes seen) (bytes k) → length keys ≡ MAX_PAIRS
+  pub full-fails : Later V → Less ≡ order_of_last (map bytes seen) (bytes k) → length keys ≡ MAX_PAIRS
       → FailsSorted (es ++ (bytes k, v) ∷ []) Full
   full-fails law o l = let m = law es (map bytes keys) vs (bytes k) v r (ordered Less o) in (
     m.faultless,
@@ -94,26 +94,26 @@ module _ {K V : Type 0} (bytes : K → List ℕ) (es : List (List ℕ × V)) (ke
     (es, (bytes k, v), refl, omega (arith, read-length es (map bytes keys) vs r, length-map keys bytes, l)),
   )
 
-  pub memory-at-new : Later V → Less ≡ order_behind (map bytes seen) (bytes k) → length keys ≤ MAX_PAIRS
+  pub memory-at-new : Later V → Less ≡ order_of_last (map bytes seen) (bytes k) → length keys ≤ MAX_PAIRS
       → (length keys ≡ MAX_PAIRS → ⊥) → FailsSorted (es ++ (bytes k, v) ∷ []) Memory
   memory-at-new law o l n = let m = law es (map bytes keys) vs (bytes k) v r (ordered Less o) in
       memory-fails es (map bytes keys ++ bytes k ∷ []) (vs ++ v ∷ []) (bytes k, v) m
       (omega (arith, length-append (map bytes keys) (bytes k ∷ []), length-map keys bytes, l, n))
 
-  pub kept-new : Later V → (keys' : List K) (vs' : List V) → Less ≡ order_behind (map bytes seen) (bytes k)
+  pub kept-new : Later V → (keys' : List K) (vs' : List V) → Less ≡ order_of_last (map bytes seen) (bytes k)
       → keys' ≡ keys ++ k ∷ [] → vs' ≡ vs ++ v ∷ [] → WasRead (es ++ (bytes k, v) ∷ []) (map bytes keys') vs'
   kept-new law keys' vs' o ek ev = rw (ek, ev, map-append bytes keys (k ∷ []))
       (law es (map bytes keys) vs (bytes k) v r (ordered Less o))
 
   module _ (ws : List V) (last : Option V) (popped : vs ≡ ws ++ option_to_list last) (some : 0 < length vs
       → IsSome last) where
-    pub memory-at-equal : Same V → Equal ≡ order_behind (map bytes seen) (bytes k) → length keys ≤ MAX_PAIRS
+    pub memory-at-equal : Same V → Equal ≡ order_of_last (map bytes seen) (bytes k) → length keys ≤ MAX_PAIRS
         → FailsSorted (es ++ (bytes k, v) ∷ []) Memory
     memory-at-equal law o l = memory-fails es (map bytes keys) (ws ++ v ∷ []) (bytes k, v)
         (popped-again law es (map bytes keys) vs ws last (bytes k) v r (ordered Equal o) popped some)
         (omega (arith, length-map keys bytes, l))
 
-    pub kept-equal : Same V → (keys' : List K) (vs' : List V) → Equal ≡ order_behind (map bytes seen) (bytes k)
+    pub kept-equal : Same V → (keys' : List K) (vs' : List V) → Equal ≡ order_of_last (map bytes seen) (bytes k)
         → keys' ≡ keys → vs' ≡ ws ++ v ∷ [] → WasRead (es ++ (bytes k, v) ∷ []) (map bytes keys') vs'
     kept-equal law keys' vs' o ek ev = rw (ek, ev)
         (popped-again law es (map bytes keys) vs ws last (bytes k) v r (ordered Equal o) popped some)

@@ -5,7 +5,7 @@ use Rattle.std.specs.Ordering.{nat_cmp}
 use Rattle.std.proofs.lemmas.List.{length-map}
 use Rattle.rart_keys.specs.SortedMap.{AreAbove, IsAscending, keys_of, values_of}
 use Rattle.rart_nodes.specs.shapes.ShapeRecords.{lone_keys}
-use Rattle.rart.specs.Migrations.{terminated, with_zeros}
+use Rattle.rart.specs.Migrations.{terminated_key, with_zeros}
 use Rattle.rart.proofs.BulkEndLemmas.{ascending-by-keys}
 use Rattle.rart.proofs.BulkTreeLemmas.{same-pairs}
 
@@ -13,12 +13,13 @@ use Rattle.rart.proofs.BulkTreeLemmas.{same-pairs}
 abbrev pub ClosingZeros : Type 0
 ClosingZeros = (xs ys : List ℕ) → slice_cmp nat_cmp (xs ++ 0 ∷ []) (ys ++ 0 ∷ []) ≡ slice_cmp nat_cmp xs ys
 
-above-texts : ClosingZeros → (k : List ℕ) (ts : List (List ℕ)) → AreAbove (terminated k) (lone_keys (map terminated ts))
+above-texts : ClosingZeros → (k : List ℕ) (ts : List (List ℕ)) → AreAbove (terminated_key k)
+    (lone_keys (map terminated_key ts))
     → AreAbove k (lone_keys ts)
 above-texts law k [] h = tt
 above-texts law k (t ∷ ts) h = (sym (law k t) ∙ h.0, above-texts law k ts h.1)
 
-ascending-texts : ClosingZeros → (ts : List (List ℕ)) → IsAscending (lone_keys (map terminated ts))
+ascending-texts : ClosingZeros → (ts : List (List ℕ)) → IsAscending (lone_keys (map terminated_key ts))
     → IsAscending (lone_keys ts)
 ascending-texts law [] h = tt
 ascending-texts law (t ∷ ts) h = (above-texts law t ts h.0, ascending-texts law ts h.1)
@@ -26,26 +27,26 @@ ascending-texts law (t ∷ ts) h = (above-texts law t ts h.0, ascending-texts la
 module _ {V : Type 0} where
   -- texts ascend as their terminated keys do
   pub texts-ascend : ClosingZeros → (es : List (List ℕ × V)) (ts : List (List ℕ)) → IsAscending es
-      → keys_of es ≡ map terminated ts → IsAscending (lone_keys ts)
+      → keys_of es ≡ map terminated_key ts → IsAscending (lone_keys ts)
   texts-ascend law es ts h k = ascending-texts law ts (rw (← k) (ascending-by-keys es h))
 
-  keys-with_zeros : (es : List (List ℕ × V)) → keys_of (with_zeros es) ≡ map terminated (keys_of es)
+  keys-with_zeros : (es : List (List ℕ × V)) → keys_of (with_zeros es) ≡ map terminated_key (keys_of es)
   keys-with_zeros [] = refl
-  keys-with_zeros (e ∷ es) = ap (λ z. terminated e.0 ∷ z) (keys-with_zeros es)
+  keys-with_zeros (e ∷ es) = ap (λ z. terminated_key e.0 ∷ z) (keys-with_zeros es)
 
   values-with_zeros : (es : List (List ℕ × V)) → values_of (with_zeros es) ≡ values_of es
   values-with_zeros [] = refl
   values-with_zeros (e ∷ es) = ap (λ z. e.1 ∷ z) (values-with_zeros es)
 
   -- the pairs of both trees, by their keys and values
-  pub brought-over : (es ds : List (List ℕ × V)) (ts : List (List ℕ)) (vs : List V) → keys_of es ≡ map terminated ts
+  pub brought-over : (es ds : List (List ℕ × V)) (ts : List (List ℕ)) (vs : List V) → keys_of es ≡ map terminated_key ts
       → values_of es ≡ vs → keys_of ds ≡ ts → values_of ds ≡ vs → es ≡ with_zeros ds
-  brought-over es ds ts vs k v l w = same-pairs es (with_zeros ds) (k ∙ ap (map terminated) (sym l)
+  brought-over es ds ts vs k v l w = same-pairs es (with_zeros ds) (k ∙ ap (map terminated_key) (sym l)
       ∙ sym (keys-with_zeros ds)) (v ∙ sym w ∙ sym (values-with_zeros ds))
 
   -- keys that were read tell that there are some
   pub some-read : {K : Type 0} (bytes : K → List ℕ) (es : List (List ℕ × V)) (ks : List K)
-      → keys_of es ≡ map terminated (map bytes ks) → 0 < length ks → es ≡ [] → ⊥
+      → keys_of es ≡ map terminated_key (map bytes ks) → 0 < length ks → es ≡ [] → ⊥
   some-read bytes es ks k some e = omega (
     arith,
     some,
@@ -53,6 +54,6 @@ module _ {V : Type 0} where
     ap length e,
     length-map es (λ d. d.0),
     length-map
-        (map bytes ks) terminated,
+        (map bytes ks) terminated_key,
     length-map ks bytes,
   )

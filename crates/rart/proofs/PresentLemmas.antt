@@ -4,7 +4,7 @@ use Rattle.std.specs.Prelude.{◌≢◌, None, Some, Result, Ok, Err, IfErr, OnE
 use Rattle.rart_keys.specs.SortedMap.{lookup}
 use Rattle.rart.specs.Edits.{InsertsNew, PutOrSame, TriesInsert}
 use Rattle.rart.specs.MapAndShape.{MapAndShape}
-use Rattle.rart.specs.Refusals.{AddsPresent, ShowsWhy, StandsAt}
+use Rattle.rart.specs.Refusals.{AddsPresent, ShowsWhy, IsStoredAt}
 use Rattle.rart_nodes.specs.declared.refused.NotInserted.{NotInserted}
 use Rattle.rart_nodes.specs.declared.refused.NotInserted.TheVariants as not_inserted
 use Rattle.rart.specs.declared.tree.try_insert.TryInsertError.{TryInsertError}
@@ -13,7 +13,7 @@ use Rattle.rart.specs.declared.tree.try_insert.TryInsertError.TheVariants as try
 module _ {V : Type 0} (old new : MapAndShape V) (key : List ℕ) (value : V) where
   -- a key that is told to be stored still is
   pub stored_stands : (outcome : Result (Unit {0}) (NotInserted V)) → InsertsNew key value old.pairs new.pairs outcome
-      → IfErr outcome (StandsAt new.pairs key)
+      → IfErr outcome (IsStoredAt new.pairs key)
   stored_stands (Ok _) inserted = tt
   stored_stands (Err (not_inserted.Stored proposed)) inserted
       = subst (λ (pairs : List (List ℕ × V)). lookup key pairs ≢ None) (sym inserted.1) inserted.0.1

@@ -10,14 +10,15 @@ use Rattle.rart.specs.Steps.{IsRun, IsStep}
 -- the calls that are still ahead end the run that began with `map`, and there was a reply for each of the others
 pub record HasRun {K V : Type 0} (bytes : K → List ℕ) (map : List (List ℕ × V)) (calls : List (Call K V))
     (replies : List (Reply K V)) (now : List (List ℕ × V)) (ahead : List (Call K V)) : Type 0 where
-  pub goes_on : (later : List (Reply K V)) (last : List (List ℕ × V)) → IsRun bytes now ahead later last
+  pub continues_by : (later : List (Reply K V)) (last : List (List ℕ × V)) → IsRun bytes now ahead later last
       → IsRun bytes map calls (replies ++ later) last
   pub many : length replies + length ahead ≡ length calls
 
 pub run-begins : {K V : Type 0} (bytes : K → List ℕ) (map : List (List ℕ × V)) (calls : List (Call K V))
     (replies : List (Reply K V)) (ahead : List (Call K V))
     → replies ≡ [] → ahead ≡ calls → HasRun bytes map calls replies map ahead
-run-begins bytes map calls replies ahead e f = rw (e, f) (record { goes_on = λ later last h. h; many = omega arith })
+run-begins bytes map calls replies ahead e f = rw (e, f)
+    (record { continues_by = λ later last h. h; many = omega arith })
 
 pub run-goes_on : {K V : Type 0} (bytes : K → List ℕ) (map : List (List ℕ × V)) (calls : List (Call K V))
     (replies more : List (Reply K V)) (now next : List (List ℕ × V)) (call : Call K V) (reply : Reply K V)
@@ -27,8 +28,8 @@ pub run-goes_on : {K V : Type 0} (bytes : K → List ℕ) (map : List (List ℕ 
 run-goes_on {K} {V} bytes map calls replies more now next call reply ahead rest e f run step =
     let had : HasRun bytes map calls replies now (call ∷ rest) = rw e at run in
     rw f (record {
-      goes_on = λ later last h. subst (λ rs. IsRun bytes map calls rs last)
-          (sym (append_assoc replies (reply ∷ []) later)) (had.goes_on (reply ∷ later) last (next, (step, h)));
+      continues_by = λ later last h. subst (λ rs. IsRun bytes map calls rs last)
+          (sym (append_assoc replies (reply ∷ []) later)) (had.continues_by (reply ∷ later) last (next, (step, h)));
       many = omega (arith, had.many, length-append replies (reply ∷ []));
     })
 
@@ -36,7 +37,7 @@ pub run-ends : {K V : Type 0} (bytes : K → List ℕ) (map : List (List ℕ × 
     (replies : List (Reply K V)) (now : List (List ℕ × V)) (ahead : List (Call K V))
     → length ahead ≡ 0 → HasRun bytes map calls replies now ahead → IsRun bytes map calls replies now
 run-ends bytes map calls replies now [] e run
-    = subst (λ rs. IsRun bytes map calls rs now) (append-nil replies) (run.goes_on [] now refl)
+    = subst (λ rs. IsRun bytes map calls rs now) (append-nil replies) (run.continues_by [] now refl)
 run-ends bytes map calls replies now (c ∷ cs) e run = absurd (omega arith)
 
 -- why a call was refused, beside a fact that holds then

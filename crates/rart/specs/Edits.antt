@@ -4,7 +4,7 @@ use Rattle.rart_keys.specs.SortedMap.{lookup, put, without}
 use Rattle.rart_nodes.specs.declared.refused.Refused.{Refused}
 use Rattle.rart_parts.specs.declared.error.TreeError.{TreeError}
 use Rattle.rart.specs.MapAndShape.{MapAndShape}
-use Rattle.rart.specs.Refusals.{MayRefuseRemove, MayRefuseInsert, ShowsWhy, TellsWhy}
+use Rattle.rart.specs.Refusals.{MayRefuseRemove, MayRefuseInsert, ShowsWhy, IsNotInserted}
 use Rattle.rart.specs.declared.tree.TheConstants.{MAX_PAIRS}
 use Rattle.rart_nodes.specs.declared.refused.NotInserted.{NotInserted}
 use Rattle.rart.specs.declared.tree.try_insert.TryInsertError.{TryInsertError}
@@ -21,7 +21,7 @@ module _ {V : Type 0} where
   -- `insert_new`: the key was new, and has the value. Otherwise the value comes back and the map stays
   abbrev pub InsertsNew : List ℕ → V → List (List ℕ × V) → List (List ℕ × V) → Result Unit (NotInserted V) → Type 0
   InsertsNew key value old new (Ok _) = (lookup key old ≡ None) × (length old ≢ MAX_PAIRS) × (new ≡ put key value old)
-  InsertsNew key value old new (Err why) = TellsWhy old key value why × (new ≡ old)
+  InsertsNew key value old new (Err why) = IsNotInserted old key value why × (new ≡ old)
 
   -- what `try_insert` answers: the key was new, or the value comes back beside the one that is stored there
   abbrev pub TriesInsert : List ℕ → V → List (List ℕ × V) → Result Unit (TryInsertError V) → Type 0

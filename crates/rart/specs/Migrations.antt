@@ -5,21 +5,21 @@ use Rattle.rart.specs.declared.migrate.MigrateError.{MigrateError}
 use Rattle.rart.specs.declared.migrate.MigrateError.TheVariants.{Memory, NotText}
 
 -- a key with a zero byte after it
-abbrev pub terminated : List ℕ → List ℕ
-terminated k = k ++ 0 ∷ []
+abbrev pub terminated_key : List ℕ → List ℕ
+terminated_key k = k ++ 0 ∷ []
 
 -- pairs with a zero byte after each key
 abbrev pub with_zeros : {V : Type 0} → List (List ℕ × V) → List (List ℕ × V)
-with_zeros es = map (λ e. (terminated e.0, e.1)) es
+with_zeros es = map (λ e. (terminated_key e.0, e.1)) es
 
 -- the key at this place is the first that doesn't end in a zero byte
 pub record IsFirstUnterminated (keys : List (List ℕ)) (place : ℕ) : Type 0 where
   pub texts : List (List ℕ)
   pub key : List ℕ
-  pub behind : List (List ℕ)
-  pub split : keys ≡ map terminated texts ++ key ∷ behind
+  pub rest : List (List ℕ)
+  pub split : keys ≡ map terminated_key texts ++ key ∷ rest
   pub many : place ≡ length texts
-  pub no_text : (text : List ℕ) → key ≢ terminated text
+  pub no_text : (text : List ℕ) → key ≢ terminated_key text
 
 -- why keys couldn't lose their closing zeros
 abbrev pub FailsMigration : {V : Type 0} → List (List ℕ × V) → MigrateError → Type 0

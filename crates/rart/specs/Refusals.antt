@@ -28,9 +28,10 @@ abbrev pub MayLackStatistics : List (List ℕ) → TreeError → Type 0
 MayLackStatistics keys error = (error ≡ Memory) × (2 ≤ length keys)
 
 -- the value that was offered comes back: the key is stored, or the insertion was refused
-abbrev pub TellsWhy : {V : Type 0} → List (List ℕ × V) → List ℕ → V → NotInserted V → Type 0
-TellsWhy map key value (not_inserted.Stored proposed) = (proposed ≡ value) × (lookup key map ≢ None)
-TellsWhy map key value (not_inserted.Refused refused) = (refused.value ≡ value) × MayRefuseInsert map key refused.error
+abbrev pub IsNotInserted : {V : Type 0} → List (List ℕ × V) → List ℕ → V → NotInserted V → Type 0
+IsNotInserted map key value (not_inserted.Stored proposed) = (proposed ≡ value) × (lookup key map ≢ None)
+IsNotInserted map key value (not_inserted.Refused refused) = (refused.value ≡ value) × MayRefuseInsert map key
+    refused.error
 
 -- the same, beside the value that stands at the key
 abbrev pub ShowsWhy : {V : Type 0} → List (List ℕ × V) → List ℕ → V → TryInsertError V → Type 0
@@ -38,9 +39,9 @@ ShowsWhy map key value (try_insert.Occupied proposed present) = (proposed ≡ va
 ShowsWhy map key value (try_insert.Refused refused) = (refused.value ≡ value) × MayRefuseInsert map key refused.error
 
 -- a key that is said to be stored is
-abbrev pub StandsAt : {V : Type 0} → List (List ℕ × V) → List ℕ → NotInserted V → Type 0
-StandsAt map key (not_inserted.Stored proposed) = lookup key map ≢ None
-StandsAt map key (not_inserted.Refused refused) = Unit {0}
+abbrev pub IsStoredAt : {V : Type 0} → List (List ℕ × V) → List ℕ → NotInserted V → Type 0
+IsStoredAt map key (not_inserted.Stored proposed) = lookup key map ≢ None
+IsStoredAt map key (not_inserted.Refused refused) = Unit {0}
 
 -- the same outcome, with the value that stands at the key where it is stored
 abbrev pub AddsPresent : {V : Type 0} → List (List ℕ × V) → List ℕ → Result Unit (NotInserted V)

@@ -11,7 +11,7 @@ ghost use Rattle.rart_nodes.specs.shapes.Shape.{HasShape};
 ghost use Rattle.rart_nodes.specs.tries.Tree.{tree_nodes, tree_pairs};
 ghost use Rattle.rart_nodes.specs.walks.Calls.{MayLackRoom};
 ghost use Rattle.rart.specs.Edits.{Inserts, InsertsNew, PutOrSame, Removes, TriesInsert};
-ghost use Rattle.rart.specs.Refusals.{AddsPresent, StandsAt};
+ghost use Rattle.rart.specs.Refusals.{AddsPresent, IsStoredAt};
 ghost use Rattle.rart.specs.RouteLoans.{table_ends_as};
 ghost use Rattle.rart.specs.declared.tree.TheConstants.{MAX_PAIRS};
 
@@ -124,7 +124,7 @@ impl<K: KeyTrait, T> RouteTable<K, T> {
         prefix: &K,
         outcome: Result<(), NotInserted<T>>,
     ) -> Result<(), TryInsertError<'a, T>>
-        requires stored { IfErr outcome (StandsAt self.now.pairs (K.bytes prefix.now)) }
+        requires stored { IfErr outcome (IsStoredAt self.now.pairs (K.bytes prefix.now)) }
         ensures { AddsPresent self.now.pairs (K.bytes prefix.now) outcome result }
     {
         match outcome {

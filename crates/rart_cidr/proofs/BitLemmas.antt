@@ -80,8 +80,8 @@ codes-alike [] (y ∷ p) (c ∷ []) (d ∷ []) f g i j e = absurd (omega (arith,
 codes-alike (x ∷ o) [] (c ∷ []) (d ∷ []) f g i j e = absurd (omega (arith, ap length e, code-short d j.1))
 codes-alike (x ∷ o) (y ∷ p) (c ∷ []) (d ∷ []) f g i j e =
     let first = byte-alike x y (bits_of o ++ code_bits c) (bits_of p ++ code_bits d) (f 0) (g 0) e in
-    let behind = codes-alike o p (c ∷ []) (d ∷ []) (λ n. f (suc n)) (λ n. g (suc n)) i j first.1 in
-    let heads : x ≡ y = first.0 in let tails : o ≡ p = behind.0 in ((cc), behind.1)
+    let after = codes-alike o p (c ∷ []) (d ∷ []) (λ n. f (suc n)) (λ n. g (suc n)) i j first.1 in
+    let heads : x ≡ y = first.0 in let tails : o ≡ p = after.0 in ((cc), after.1)
 
 code-is : (x r : ℕ) → x < 256 → holds_below (λ y. bytes_eq (take r (byte_bits y)) (code_bits (code y r))) 256 ≡ true
     → take r (byte_bits x) ≡ code_bits (code x r)

@@ -47,10 +47,10 @@ all-cleared : (o : List ℕ) → AreBytes o → cleared o 0 ≡ replicate (lengt
 all-cleared [] f = refl
 all-cleared (x ∷ o) f = let heads : kept x 0 ≡ 0 = kept-none x (f 0) in let tails = all-cleared o (λ i. f (suc i)) in cc
 
-zeros-behind : (l o : List ℕ) (d t : ℕ) → AreBytes o → l ≡ replicate d 0 → t ≡ d + 8 * length o
+zeros-after : (l o : List ℕ) (d t : ℕ) → AreBytes o → l ≡ replicate d 0 → t ≡ d + 8 * length o
     → l ++ bits_of (cleared o 0) ≡ replicate t 0
 unfolding zeros
-zeros-behind l o d t f e h = ap (λ z. z ++ bits_of (cleared o 0)) e
+zeros-after l o d t f e h = ap (λ z. z ++ bits_of (cleared o 0)) e
     ∙ ap (λ z. replicate d 0 ++ bits_of z) (all-cleared o f)
     ∙ ap (λ z. replicate d 0 ++ z) (bits-zeros (length o)) ∙ zeros-more d (8 * length o)
     ∙ sym (ap (λ z. replicate z 0) h)
@@ -68,10 +68,10 @@ cleared-first (x ∷ o) (suc (suc (suc (suc (suc zero))))) f = kept-first x 5 (f
 cleared-first (x ∷ o) (suc (suc (suc (suc (suc (suc zero)))))) f = kept-first x 6 (f 0) refl
 cleared-first (x ∷ o) (suc (suc (suc (suc (suc (suc (suc zero))))))) f = kept-first x 7 (f 0) refl
 cleared-first (x ∷ o) (suc (suc (suc (suc (suc (suc (suc (suc n)))))))) f =
-    let behind : suc (suc (suc (suc (suc (suc (suc (suc n))))))) - 8 ≡ n = omega arith in
+    let after : suc (suc (suc (suc (suc (suc (suc (suc n))))))) - 8 ≡ n = omega arith in
     ap (λ z. byte_bits z ++ take n (bits_of (cleared o (suc (suc (suc (suc (suc (suc (suc (suc n))))))) - 8))))
     (kept-all x (suc (suc (suc (suc (suc (suc (suc (suc n)))))))) (omega arith))
-    ∙ ap (λ z. byte_bits x ++ take n (bits_of (cleared o z))) behind
+    ∙ ap (λ z. byte_bits x ++ take n (bits_of (cleared o z))) after
     ∙ ap (λ z. byte_bits x ++ z) (cleared-first o n (λ i. f (suc i)))
 
 -- and the others are zeros
@@ -79,23 +79,23 @@ cleared-rest : (o : List ℕ) (n : ℕ) → AreBytes o → drop n (bits_of (clea
 unfolding holds_below
 cleared-rest [] zero f = refl
 cleared-rest [] (suc n) f = let none : 8 * 0 - suc n ≡ 0 = omega arith in sym (ap (λ z. replicate z 0) none)
-cleared-rest (x ∷ o) zero f = zeros-behind _ o 8 _ (λ i. f (suc i)) (kept-rest x 0 (f 0) refl) (omega arith)
-cleared-rest (x ∷ o) (suc zero) f = zeros-behind _ o 7 _ (λ i. f (suc i)) (kept-rest x 1 (f 0) refl) (omega arith)
-cleared-rest (x ∷ o) (suc (suc zero)) f = zeros-behind _ o 6 _ (λ i. f (suc i)) (kept-rest x 2 (f 0) refl) (omega arith)
+cleared-rest (x ∷ o) zero f = zeros-after _ o 8 _ (λ i. f (suc i)) (kept-rest x 0 (f 0) refl) (omega arith)
+cleared-rest (x ∷ o) (suc zero) f = zeros-after _ o 7 _ (λ i. f (suc i)) (kept-rest x 1 (f 0) refl) (omega arith)
+cleared-rest (x ∷ o) (suc (suc zero)) f = zeros-after _ o 6 _ (λ i. f (suc i)) (kept-rest x 2 (f 0) refl) (omega arith)
 cleared-rest (x ∷ o) (suc (suc (suc zero))) f
-    = zeros-behind _ o 5 _ (λ i. f (suc i)) (kept-rest x 3 (f 0) refl) (omega arith)
+    = zeros-after _ o 5 _ (λ i. f (suc i)) (kept-rest x 3 (f 0) refl) (omega arith)
 cleared-rest (x ∷ o) (suc (suc (suc (suc zero)))) f
-    = zeros-behind _ o 4 _ (λ i. f (suc i)) (kept-rest x 4 (f 0) refl) (omega arith)
+    = zeros-after _ o 4 _ (λ i. f (suc i)) (kept-rest x 4 (f 0) refl) (omega arith)
 cleared-rest (x ∷ o) (suc (suc (suc (suc (suc zero))))) f
-    = zeros-behind _ o 3 _ (λ i. f (suc i)) (kept-rest x 5 (f 0) refl) (omega arith)
+    = zeros-after _ o 3 _ (λ i. f (suc i)) (kept-rest x 5 (f 0) refl) (omega arith)
 cleared-rest (x ∷ o) (suc (suc (suc (suc (suc (suc zero)))))) f
-    = zeros-behind _ o 2 _ (λ i. f (suc i)) (kept-rest x 6 (f 0) refl) (omega arith)
+    = zeros-after _ o 2 _ (λ i. f (suc i)) (kept-rest x 6 (f 0) refl) (omega arith)
 cleared-rest (x ∷ o) (suc (suc (suc (suc (suc (suc (suc zero))))))) f
-    = zeros-behind _ o 1 _ (λ i. f (suc i)) (kept-rest x 7 (f 0) refl) (omega arith)
+    = zeros-after _ o 1 _ (λ i. f (suc i)) (kept-rest x 7 (f 0) refl) (omega arith)
 cleared-rest (x ∷ o) (suc (suc (suc (suc (suc (suc (suc (suc n)))))))) f =
-    let behind : suc (suc (suc (suc (suc (suc (suc (suc n))))))) - 8 ≡ n = omega arith in
+    let after : suc (suc (suc (suc (suc (suc (suc (suc n))))))) - 8 ≡ n = omega arith in
     let fewer : 8 * suc (length o) - suc (suc (suc (suc (suc (suc (suc (suc n))))))) ≡ 8 * length o - n = omega arith in
-    ap (λ z. drop n (bits_of (cleared o z))) behind ∙ cleared-rest o n (λ i. f (suc i))
+    ap (λ z. drop n (bits_of (cleared o z))) after ∙ cleared-rest o n (λ i. f (suc i))
     ∙ sym (ap (λ z. replicate z 0) fewer)
 
 pub cleared-length : (o : List ℕ) (n : ℕ) → length (cleared o n) ≡ length o
@@ -181,8 +181,8 @@ network-length o n h = omega (arith, length-take n (bits_of o), length-bits o)
 pub network-padded : (o : List ℕ) (n w : ℕ) → length (bits_of o) ≡ w → n ≤ w → AreClearAfter (bits_of o) n
     → bits_of o ≡ network o n ++ replicate (w - length (network o n)) 0
 network-padded o n w l h c =
-    let behind : length (bits_of o) - n ≡ w - length (network o n) = omega (arith, l, h, length-take n (bits_of o)) in
-    sym (take-append-drop n (bits_of o)) ∙ ap (λ z. network o n ++ z) (c ∙ ap (λ z. replicate z 0) behind)
+    let after : length (bits_of o) - n ≡ w - length (network o n) = omega (arith, l, h, length-take n (bits_of o)) in
+    sym (take-append-drop n (bits_of o)) ∙ ap (λ z. network o n ++ z) (c ∙ ap (λ z. replicate z 0) after)
 
 -- the address a begins with the first n bits of o
 pub begins-network : (o a m : List ℕ) (n : ℕ) → AreBytes o → AreBytes m → length o ≡ length m

@@ -7,7 +7,7 @@ use Rattle.std.specs.Cmp.Lexicographic.{slice_cmp}
 use Rattle.std.proofs.lemmas.Grind.{reverse_onto}
 use Rattle.rart_keys.specs.ByteStrings.{bytes_eq, IsLess}
 use Rattle.rart_keys.specs.SortedMap.{AreAbove, IsAscending, keys_of, lookup}
-use Rattle.rart_keys.specs.BulkLists.{IsFaultAt, first_fault_behind, first_fault, last_wins_from, last_wins}
+use Rattle.rart_keys.specs.BulkLists.{IsFaultAt, first_fault_after, first_fault, last_wins_from, last_wins}
 use Rattle.rart_keys.proofs.ByteOrder.{below-trans, below-not_eq, bytes_eq-itself, bytes_eq-equal, compare}
 use Rattle.rart_keys.proofs.ByteOrder.{below-greater, cmp-itself}
 use Rattle.rart_keys.proofs.SortedMaps.{lookup-above}
@@ -27,15 +27,15 @@ or_none (Some a) = refl
 
 module _ {V : Type 0} where
   -- with no fault, the key after k isn't below it
-  pub faultless-behind : (n : ℕ) (k : List ℕ) (e : List ℕ × V) (es : List (List ℕ × V))
-      → first_fault_behind n k (e ∷ es) ≡ None → (IsLess e.0 k → ⊥) × (first_fault_behind (suc n) e.0 es ≡ None)
-  faultless-behind n k e es h = ⊎_elim
+  pub faultless-after : (n : ℕ) (k : List ℕ) (e : List ℕ × V) (es : List (List ℕ × V))
+      → first_fault_after n k (e ∷ es) ≡ None → (IsLess e.0 k → ⊥) × (first_fault_after (suc n) e.0 es ≡ None)
+  faultless-after n k e es h = ⊎_elim
       (λ s. (λ b. below-not_below k e.0 s b, rw (below-greater k e.0 s) at h))
       (⊎_elim (λ q. (λ b. let g = cmp-equal k e.0 q in cc, rw (cmp-equal k e.0 q) at h))
       (λ s. let g = rw s at h in absurd (cc))) (compare k e.0)
 
   above-last : (n : ℕ) (k : List ℕ) (e : List ℕ × V) (es : List (List ℕ × V)) → IsLess k e.0
-      → first_fault_behind n e.0 es ≡ None → AreAbove k (last_wins_from e es)
+      → first_fault_after n e.0 es ≡ None → AreAbove k (last_wins_from e es)
   above-last n k e [] b h = (b, tt)
   above-last n k e (f ∷ es) b h = ⊎_elim
       (λ s. rw (below-not_eq e.0 f.0 s) (
@@ -47,7 +47,7 @@ module _ {V : Type 0} where
       rw (bytes_eq-of e.0 f.0 q) (above-last (suc n) k f es (rw q at b) g))
       (λ s. let g = rw s at h in cc)) (compare e.0 f.0)
 
-  last-ascends : (n : ℕ) (e : List ℕ × V) (es : List (List ℕ × V)) → first_fault_behind n e.0 es ≡ None
+  last-ascends : (n : ℕ) (e : List ℕ × V) (es : List (List ℕ × V)) → first_fault_after n e.0 es ≡ None
       → IsAscending (last_wins_from e es)
   last-ascends n e [] h = (tt, tt)
   last-ascends n e (f ∷ es) h = ⊎_elim
@@ -78,7 +78,7 @@ module _ {V : Type 0} where
   hidden None v o = refl
   hidden (Some w) v o = refl
 
-  lookup-last : (n : ℕ) (k : List ℕ) (e : List ℕ × V) (es : List (List ℕ × V)) → first_fault_behind n e.0 es ≡ None
+  lookup-last : (n : ℕ) (k : List ℕ) (e : List ℕ × V) (es : List (List ℕ × V)) → first_fault_after n e.0 es ≡ None
       → lookup k (last_wins_from e es) ≡ lookup k (reverse (e ∷ es))
   lookup-last n k e [] h = refl
   lookup-last n k e (f ∷ es) h = ⊎_elim
@@ -107,35 +107,35 @@ module _ {V : Type 0} where
   lookup-last_wins k (e ∷ es) h = lookup-last 1 k e es h
 
   -- strictly ascending pairs
-  strict-behind : (n : ℕ) (e : List ℕ × V) (es : List (List ℕ × V)) → IsAscending (e ∷ es)
-      → (first_fault_behind n e.0 es ≡ None) × (last_wins_from e es ≡ e ∷ es)
-  strict-behind n e [] h = (refl, refl)
-  strict-behind n e (f ∷ es) h = let r = strict-behind (suc n) f es h.1 in
+  strict-after : (n : ℕ) (e : List ℕ × V) (es : List (List ℕ × V)) → IsAscending (e ∷ es)
+      → (first_fault_after n e.0 es ≡ None) × (last_wins_from e es ≡ e ∷ es)
+  strict-after n e [] h = (refl, refl)
+  strict-after n e (f ∷ es) h = let r = strict-after (suc n) f es h.1 in
       (rw (below-greater e.0 f.0 h.0.0) r.0, rw (below-not_eq e.0 f.0 h.0.0) (ap (λ z. e ∷ z) r.1))
 
   pub strict-faultless : (es : List (List ℕ × V)) → IsAscending es → first_fault es ≡ None
   strict-faultless [] h = refl
-  strict-faultless (e ∷ es) h = (strict-behind 1 e es h).0
+  strict-faultless (e ∷ es) h = (strict-after 1 e es h).0
 
   pub strict-stays : (es : List (List ℕ × V)) → IsAscending es → last_wins es ≡ es
   strict-stays [] h = refl
-  strict-stays (e ∷ es) h = (strict-behind 1 e es h).1
+  strict-stays (e ∷ es) h = (strict-after 1 e es h).1
 
   -- the place after k, of which the list continues with es
-  abbrev FaultBehind : List ℕ → List (List ℕ × V) → ℕ → Type 0
-  FaultBehind k es i = (i < length es) × IsLess (get_or (keys_of es) i []) (get_or (k ∷ keys_of es) i [])
+  abbrev FaultAfter : List ℕ → List (List ℕ × V) → ℕ → Type 0
+  FaultAfter k es i = (i < length es) × IsLess (get_or (keys_of es) i []) (get_or (k ∷ keys_of es) i [])
 
   -- the first fault after k, of a list whose places begin at n
-  abbrev FirstBehind : ℕ → ℕ → List ℕ → List (List ℕ × V) → Type 0
-  FirstBehind n i k es = (j : ℕ) × (i ≡ n + j) × FaultBehind k es j × ((m : ℕ) → m < j → FaultBehind k es m → ⊥)
+  abbrev FirstAfter : ℕ → ℕ → List ℕ → List (List ℕ × V) → Type 0
+  FirstAfter n i k es = (j : ℕ) × (i ≡ n + j) × FaultAfter k es j × ((m : ℕ) → m < j → FaultAfter k es m → ⊥)
 
   none-before : (k : List ℕ) (e : List ℕ × V) (es : List (List ℕ × V)) (j : ℕ) → (IsLess e.0 k → ⊥)
-      → ((m : ℕ) → m < j → FaultBehind e.0 es m → ⊥) → (m : ℕ) → m < suc j → FaultBehind k (e ∷ es) m → ⊥
+      → ((m : ℕ) → m < j → FaultAfter e.0 es m → ⊥) → (m : ℕ) → m < suc j → FaultAfter k (e ∷ es) m → ⊥
   none-before k e es j differs r zero l f = differs f.1
   none-before k e es j differs r (suc m) l f = r m (omega arith) (omega (arith, f.0), f.1)
 
   first-later : (n i : ℕ) (k : List ℕ) (e : List ℕ × V) (es : List (List ℕ × V)) → (IsLess e.0 k → ⊥)
-      → FirstBehind (suc n) i e.0 es → FirstBehind n i k (e ∷ es)
+      → FirstAfter (suc n) i e.0 es → FirstAfter n i k (e ∷ es)
   first-later n i k e es differs r = (
     suc r.0,
     omega (arith, r.1),
@@ -144,42 +144,42 @@ module _ {V : Type 0} where
         differs r.3,
   )
 
-  found-behind : (n i : ℕ) (k : List ℕ) (es : List (List ℕ × V)) → first_fault_behind n k es ≡ Some i
-      → FirstBehind n i k es
-  found-behind n i k [] h = absurd (cc)
-  found-behind n i k (e ∷ es) h = ⊎_elim
+  found-after : (n i : ℕ) (k : List ℕ) (es : List (List ℕ × V)) → first_fault_after n k es ≡ Some i
+      → FirstAfter n i k es
+  found-after n i k [] h = absurd (cc)
+  found-after n i k (e ∷ es) h = ⊎_elim
       (λ s. let g = rw (below-greater k e.0 s) at h in
-      first-later n i k e es (λ b. below-not_below k e.0 s b) (found-behind (suc n) i e.0 es g))
+      first-later n i k e es (λ b. below-not_below k e.0 s b) (found-after (suc n) i e.0 es g))
       (⊎_elim (λ q. let g = rw (cmp-equal k e.0 q) at h in
-      first-later n i k e es (λ b. let f = cmp-equal k e.0 q in cc) (found-behind (suc n) i e.0 es g))
+      first-later n i k e es (λ b. let f = cmp-equal k e.0 q in cc) (found-after (suc n) i e.0 es g))
       (λ s. let g = rw s at h in let f : n ≡ i = cc in
       (0, omega (arith, f), (omega arith, s), λ m l. absurd (omega arith)))) (compare k e.0)
 
-  none-behind : (n : ℕ) (k : List ℕ) (es : List (List ℕ × V)) → first_fault_behind n k es ≡ None → (m : ℕ)
-      → FaultBehind k es m → ⊥
-  none-behind n k [] h m f = absurd (omega (arith, f.0))
-  none-behind n k (e ∷ es) h zero f = (faultless-behind n k e es h).0 f.1
-  none-behind n k (e ∷ es) h (suc m) f = none-behind (suc n) e.0 es (faultless-behind n k e es h).1 m
+  none-after : (n : ℕ) (k : List ℕ) (es : List (List ℕ × V)) → first_fault_after n k es ≡ None → (m : ℕ)
+      → FaultAfter k es m → ⊥
+  none-after n k [] h m f = absurd (omega (arith, f.0))
+  none-after n k (e ∷ es) h zero f = (faultless-after n k e es h).0 f.1
+  none-after n k (e ∷ es) h (suc m) f = none-after (suc n) e.0 es (faultless-after n k e es h).1 m
       (omega (arith, f.0), f.1)
 
-  to-behind : (e : List ℕ × V) (es : List (List ℕ × V)) (i : ℕ) → IsFaultAt (e ∷ es) (suc i) → FaultBehind e.0 es i
-  to-behind e es i h = let s : suc i - 1 ≡ i = omega arith in (omega (arith, h.1), rw s at h.2)
+  to-after : (e : List ℕ × V) (es : List (List ℕ × V)) (i : ℕ) → IsFaultAt (e ∷ es) (suc i) → FaultAfter e.0 es i
+  to-after e es i h = let s : suc i - 1 ≡ i = omega arith in (omega (arith, h.1), rw s at h.2)
 
-  from-behind : (e : List ℕ × V) (es : List (List ℕ × V)) (i : ℕ) → FaultBehind e.0 es i → IsFaultAt (e ∷ es) (suc i)
-  from-behind e es i h = let s : suc i - 1 ≡ i = omega arith in (omega arith, omega (arith, h.0), rw s h.1)
+  from-after : (e : List ℕ × V) (es : List (List ℕ × V)) (i : ℕ) → FaultAfter e.0 es i → IsFaultAt (e ∷ es) (suc i)
+  from-after e es i h = let s : suc i - 1 ≡ i = omega arith in (omega arith, omega (arith, h.0), rw s h.1)
 
   pub fault-there : (es : List (List ℕ × V)) (i : ℕ) → first_fault es ≡ Some i → IsFaultAt es i
   fault-there [] i h = absurd (cc)
-  fault-there (e ∷ es) i h = let r = found-behind 1 i e.0 es h in let s : i ≡ suc r.0 = omega (arith, r.1) in
-      rw s (from-behind e es r.0 r.2)
+  fault-there (e ∷ es) i h = let r = found-after 1 i e.0 es h in let s : i ≡ suc r.0 = omega (arith, r.1) in
+      rw s (from-after e es r.0 r.2)
 
   pub fault-first : (es : List (List ℕ × V)) (i j : ℕ) → first_fault es ≡ Some i → j < i → IsFaultAt es j → ⊥
   fault-first [] i j h l f = absurd (cc)
   fault-first (e ∷ es) i zero h l f = absurd (omega (arith, f.0))
-  fault-first (e ∷ es) i (suc j) h l f = let r = found-behind 1 i e.0 es h in
-      r.3 j (omega (arith, r.1, l)) (to-behind e es j f)
+  fault-first (e ∷ es) i (suc j) h l f = let r = found-after 1 i e.0 es h in
+      r.3 j (omega (arith, r.1, l)) (to-after e es j f)
 
   pub fault-none : (es : List (List ℕ × V)) (j : ℕ) → first_fault es ≡ None → IsFaultAt es j → ⊥
   fault-none [] j h f = absurd (omega (arith, f.1))
   fault-none (e ∷ es) zero h f = absurd (omega (arith, f.0))
-  fault-none (e ∷ es) (suc j) h f = none-behind 1 e.0 es h j (to-behind e es j f)
+  fault-none (e ∷ es) (suc j) h f = none-after 1 e.0 es h j (to-after e es j f)

@@ -5,16 +5,16 @@ use Rattle.std.specs.Ordering.{nat_cmp}
 use Rattle.std.specs.Cmp.Lexicographic.{slice_cmp}
 use Rattle.rart_keys.specs.ByteStrings.{bytes_eq, IsLess}
 use Rattle.rart_keys.specs.SortedMap.{keys_of, values_of}
-use Rattle.rart_keys.specs.BulkLists.{first_fault_behind, first_fault, last_wins_from, order_behind, WasRead}
+use Rattle.rart_keys.specs.BulkLists.{first_fault_after, first_fault, last_wins_from, order_of_last, WasRead}
 use Rattle.rart_keys.proofs.ByteOrder.{bytes_eq-differ, compare, below-greater}
-use Rattle.rart_keys.proofs.BulkListLemmas.{below-not_below, bytes_eq-of, cmp-equal, faultless-behind}
+use Rattle.rart_keys.proofs.BulkListLemmas.{below-not_below, bytes_eq-of, cmp-equal, faultless-after}
 
 -- the key of the last item, k where there is none
 abbrev last_key : {V : Type 0} → List ℕ → List (List ℕ × V) → List ℕ
 last_key k [] = k
 last_key k (e ∷ es) = last_key e.0 es
 
-order-tail : (l k : List ℕ) (ks : List (List ℕ)) → 0 < length ks → order_behind (l ∷ ks) k ≡ order_behind ks k
+order-tail : (l k : List ℕ) (ks : List (List ℕ)) → 0 < length ks → order_of_last (l ∷ ks) k ≡ order_of_last ks k
 order-tail l k [] h = absurd (omega arith)
 order-tail l k (m ∷ ks) h = refl
 
@@ -52,11 +52,11 @@ module _ {V : Type 0} where
   values-length [] = refl
   values-length (e ∷ es) = ap suc (values-length es)
 
-  order-last : (k : List ℕ) (e : List ℕ × V) (es : List (List ℕ × V)) → order_behind (keys_of (last_wins_from e es)) k
+  order-last : (k : List ℕ) (e : List ℕ × V) (es : List (List ℕ × V)) → order_of_last (keys_of (last_wins_from e es)) k
       ≡ slice_cmp nat_cmp (last_key e.0 es) k
   order-last k e [] = refl
   order-last k e (f ∷ es) = elim (bytes_eq e.0 f.0)
-      as (λ b. order_behind (keys_of (if b then last_wins_from f es else e ∷ last_wins_from f es)) k
+      as (λ b. order_of_last (keys_of (if b then last_wins_from f es else e ∷ last_wins_from f es)) k
       ≡ slice_cmp nat_cmp (last_key f.0 es) k) [
         | true ↦ order-last k f es
         | false ↦ order-tail e.0 k (keys_of (last_wins_from f es))
@@ -64,30 +64,30 @@ module _ {V : Type 0} where
       ]
 
   pass-on : (n : ℕ) (k : List ℕ) (e : List ℕ × V) (es : List (List ℕ × V)) → (IsLess e.0 k → ⊥)
-      → first_fault_behind n k (e ∷ es) ≡ first_fault_behind (suc n) e.0 es
+      → first_fault_after n k (e ∷ es) ≡ first_fault_after (suc n) e.0 es
   pass-on n k e es h = ⊎_elim (λ s. rw (below-greater k e.0 s) refl)
       (⊎_elim (λ q. rw (cmp-equal k e.0 q) refl) (λ s. absurd (h s))) (compare k e.0)
 
-  still-faultless : (n : ℕ) (k : List ℕ) (es : List (List ℕ × V)) (f : List ℕ × V) → first_fault_behind n k es ≡ None
-      → (IsLess f.0 (last_key k es) → ⊥) → first_fault_behind n k (es ++ f ∷ []) ≡ None
+  still-faultless : (n : ℕ) (k : List ℕ) (es : List (List ℕ × V)) (f : List ℕ × V) → first_fault_after n k es ≡ None
+      → (IsLess f.0 (last_key k es) → ⊥) → first_fault_after n k (es ++ f ∷ []) ≡ None
   still-faultless n k [] f h b = pass-on n k f [] b
-  still-faultless n k (e ∷ es) f h b = let r = faultless-behind n k e es h in pass-on n k e (es ++ f ∷ []) r.0
+  still-faultless n k (e ∷ es) f h b = let r = faultless-after n k e es h in pass-on n k e (es ++ f ∷ []) r.0
       ∙ still-faultless (suc n) e.0 es f r.1 b
 
-  fault-at-end : (n : ℕ) (k : List ℕ) (es : List (List ℕ × V)) (f : List ℕ × V) → first_fault_behind n k es ≡ None
-      → IsLess f.0 (last_key k es) → first_fault_behind n k (es ++ f ∷ []) ≡ Some (n + length es)
+  fault-at-end : (n : ℕ) (k : List ℕ) (es : List (List ℕ × V)) (f : List ℕ × V) → first_fault_after n k es ≡ None
+      → IsLess f.0 (last_key k es) → first_fault_after n k (es ++ f ∷ []) ≡ Some (n + length es)
   fault-at-end n k [] f h b = rw b (ap Some (omega arith))
-  fault-at-end n k (e ∷ es) f h b = let r = faultless-behind n k e es h in pass-on n k e (es ++ f ∷ []) r.0
+  fault-at-end n k (e ∷ es) f h b = let r = faultless-after n k e es h in pass-on n k e (es ++ f ∷ []) r.0
       ∙ fault-at-end (suc n) e.0 es f r.1 b ∙ ap Some (omega arith)
 
-  stays-behind : (e : List ℕ × V) (es : List (List ℕ × V)) (f : List ℕ × V) → (last_key e.0 es ≡ f.0 → ⊥)
+  stays-after : (e : List ℕ × V) (es : List (List ℕ × V)) (f : List ℕ × V) → (last_key e.0 es ≡ f.0 → ⊥)
       → last_wins_from e (es ++ f ∷ []) ≡ last_wins_from e es ++ f ∷ []
-  stays-behind e [] f h = rw (bytes_eq-differ e.0 f.0 h) refl
-  stays-behind e (g ∷ es) f h = elim (bytes_eq e.0 g.0)
+  stays-after e [] f h = rw (bytes_eq-differ e.0 f.0 h) refl
+  stays-after e (g ∷ es) f h = elim (bytes_eq e.0 g.0)
       as (λ b. (if b then last_wins_from g (es ++ f ∷ []) else e ∷ last_wins_from g (es ++ f ∷ []))
       ≡ (if b then last_wins_from g es else e ∷ last_wins_from g es) ++ f ∷ []) [
-        | true ↦ stays-behind g es f h
-        | false ↦ ap (λ z. e ∷ z) (stays-behind g es f h)
+        | true ↦ stays-after g es f h
+        | false ↦ ap (λ z. e ∷ z) (stays-after g es f h)
       ]
 
   same-keys : (e : List ℕ × V) (es : List (List ℕ × V)) (f : List ℕ × V) → last_key e.0 es ≡ f.0
@@ -101,10 +101,10 @@ module _ {V : Type 0} where
       ]
 
   -- after a first value there are more
-  behind-first : (v w : V) (vs ws us : List V) → 0 < length vs → v ∷ vs ≡ ws ++ w ∷ [] → (u : V)
+  after-first : (v w : V) (vs ws us : List V) → 0 < length vs → v ∷ vs ≡ ws ++ w ∷ [] → (u : V)
       → ((xs : List V) → vs ≡ xs ++ w ∷ [] → us ≡ xs ++ u ∷ []) → v ∷ us ≡ ws ++ u ∷ []
-  behind-first v w vs [] us some e u r = absurd (omega (arith, some, ap length e))
-  behind-first v w vs (x ∷ ws) us some e u r = let head : v ≡ x = cc in let tail : vs ≡ ws ++ w ∷ [] = cc in
+  after-first v w vs [] us some e u r = absurd (omega (arith, some, ap length e))
+  after-first v w vs (x ∷ ws) us some e u r = let head : v ≡ x = cc in let tail : vs ≡ ws ++ w ∷ [] = cc in
       rw head (ap (λ z. x ∷ z) (r ws tail))
 
   last-replaced : (e : List ℕ × V) (es : List (List ℕ × V)) (f : List ℕ × V) (ws : List V) (w : V)
@@ -117,7 +117,7 @@ module _ {V : Type 0} where
       → values_of (if b then last_wins_from g (es ++ f ∷ []) else e ∷ last_wins_from g (es ++ f ∷ []))
       ≡ ws ++ f.1 ∷ []) [
         | true ↦ λ s. last-replaced g es f ws w h s
-        | false ↦ λ s. behind-first e.1 w (values_of (last_wins_from g es)) ws
+        | false ↦ λ s. after-first e.1 w (values_of (last_wins_from g es)) ws
             (values_of (last_wins_from g (es ++ f ∷ [])))
             (omega (arith, values-length (last_wins_from g es), some-stay g es)) s f.1
             (λ xs t. last-replaced g es f xs w h t)
@@ -132,7 +132,7 @@ module _ {V : Type 0} where
   append-values (x ∷ xs) f = ap (λ z. x.1 ∷ z) (append-values xs f)
 
   pub read-more : (es : List (List ℕ × V)) (ks : List (List ℕ)) (vs : List V) (k : List ℕ) (v : V) → WasRead es ks vs
-      → order_behind ks k ≡ Less → WasRead (es ++ (k, v) ∷ []) (ks ++ k ∷ []) (vs ++ v ∷ [])
+      → order_of_last ks k ≡ Less → WasRead (es ++ (k, v) ∷ []) (ks ++ k ∷ []) (vs ++ v ∷ [])
   read-more [] ks vs k v r o = record {
     faultless = refl;
     keys = ap (λ z. z ++ k ∷ []) r.keys;
@@ -141,9 +141,9 @@ module _ {V : Type 0} where
   }
   read-more (e ∷ es) ks vs k v r o =
       let o' : slice_cmp nat_cmp (last_key e.0 es) k ≡ Less = sym (order-last k e es)
-      ∙ ap (λ z. order_behind z k) (sym r.keys) ∙ o in
+      ∙ ap (λ z. order_of_last z k) (sym r.keys) ∙ o in
       let more : last_wins_from e (es ++ (k, v) ∷ []) ≡ last_wins_from e es ++ (k, v) ∷ []
-      = stays-behind e es (k, v) (differ k (last_key e.0 es) o') in
+      = stays-after e es (k, v) (differ k (last_key e.0 es) o') in
       record {
         faultless = still-faultless 1 e.0 es (k, v) r.faultless (not-greater k (last_key e.0 es) o');
         keys = ap (λ z. z ++ k ∷ []) r.keys ∙ sym (append-keys (last_wins_from e es) (k, v)) ∙ ap keys_of (sym more);
@@ -152,12 +152,13 @@ module _ {V : Type 0} where
       }
 
   pub read-again : (es : List (List ℕ × V)) (ks : List (List ℕ)) (vs ws : List V) (w : V) (k : List ℕ) (v : V)
-      → WasRead es ks vs → order_behind ks k ≡ Equal → vs ≡ ws ++ w ∷ [] → WasRead (es ++ (k, v) ∷ []) ks (ws ++ v ∷ [])
-  read-again [] ks vs ws w k v r o s = let e : order_behind [] k ≡ Equal = ap (λ z. order_behind z k) (sym r.keys)
+      → WasRead es ks vs → order_of_last ks k ≡ Equal → vs ≡ ws ++ w ∷ [] → WasRead (es ++ (k, v) ∷ []) ks
+      (ws ++ v ∷ [])
+  read-again [] ks vs ws w k v r o s = let e : order_of_last [] k ≡ Equal = ap (λ z. order_of_last z k) (sym r.keys)
       ∙ o in absurd (cc)
   read-again (e ∷ es) ks vs ws w k v r o s =
       let o' : slice_cmp nat_cmp (last_key e.0 es) k ≡ Equal = sym (order-last k e es)
-      ∙ ap (λ z. order_behind z k) (sym r.keys) ∙ o in
+      ∙ ap (λ z. order_of_last z k) (sym r.keys) ∙ o in
       let same = are-equal k (last_key e.0 es) o' in
       record {
         faultless = still-faultless 1 e.0 es (k, v) r.faultless (not-equal k (last_key e.0 es) o');
@@ -166,10 +167,10 @@ module _ {V : Type 0} where
       }
 
   pub read-fault : (es : List (List ℕ × V)) (ks : List (List ℕ)) (vs : List V) (k : List ℕ) (v : V) → WasRead es ks vs
-      → order_behind ks k ≡ Greater → first_fault (es ++ (k, v) ∷ []) ≡ Some (length es)
-  read-fault [] ks vs k v r o = let e : order_behind [] k ≡ Greater = ap (λ z. order_behind z k) (sym r.keys) ∙ o in
+      → order_of_last ks k ≡ Greater → first_fault (es ++ (k, v) ∷ []) ≡ Some (length es)
+  read-fault [] ks vs k v r o = let e : order_of_last [] k ≡ Greater = ap (λ z. order_of_last z k) (sym r.keys) ∙ o in
       absurd (cc)
   read-fault (e ∷ es) ks vs k v r o =
       let o' : slice_cmp nat_cmp (last_key e.0 es) k ≡ Greater = sym (order-last k e es)
-      ∙ ap (λ z. order_behind z k) (sym r.keys) ∙ o in
+      ∙ ap (λ z. order_of_last z k) (sym r.keys) ∙ o in
       fault-at-end 1 e.0 es (k, v) r.faultless (is-below k (last_key e.0 es) o') ∙ ap Some (omega arith)

@@ -29,6 +29,6 @@ zeros-two_parts size s xs ys us vs e f h =
     let front : take (s + length xs) inner ≡ replicate s 0 ++ xs =
     take-put_mid s (s + length xs - s) zs us (s + length xs) (ap (λ l. s + length l) (sym e))
     (omega (arith, length-replicate {A = ℕ} size 0)) ∙ rw (e, take-replicate) refl in
-    let nothing_behind : drop (length inner - (s + length xs)) (drop (s + length xs) inner) ≡ [] =
+    let nothing_after : drop (length inner - (s + length xs)) (drop (s + length xs) inner) ≡ [] =
     drop-drop (length inner - (s + length xs)) (s + length xs) inner ∙ drop_all _ inner (omega arith) in
-    ap₂ (λ a b. a ++ (vs ++ b)) front nothing_behind ∙ ap (λ b. (replicate s 0 ++ xs) ++ b) (append-nil vs ∙ f)
+    ap₂ (λ a b. a ++ (vs ++ b)) front nothing_after ∙ ap (λ b. (replicate s 0 ++ xs) ++ b) (append-nil vs ∙ f)

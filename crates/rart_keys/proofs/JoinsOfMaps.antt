@@ -3,7 +3,7 @@ use Rattle.std.proofs.Common.{◌≡◌, ℕ, ◌+◌, ◌≤◌, true, false, L
 use Rattle.std.proofs.Common.{Some, None, if◌then◌else◌}
 use Rattle.rart_keys.specs.ByteStrings.{bytes_eq}
 use Rattle.rart_keys.specs.SortedMap.{AreAbove, IsAscending, lookup}
-use Rattle.rart_keys.specs.Joins.{both, ahead_if, join, swapped}
+use Rattle.rart_keys.specs.Joins.{both, ahead_if, join, swapped_pairs}
 use Rattle.rart_keys.proofs.ByteOrder.{bytes_eq-equal}
 use Rattle.rart_keys.proofs.SortedMaps.{equal_by_lookups}
 
@@ -49,11 +49,11 @@ module _ {V W : Type 0} where
   join-nil (e ∷ es) = join-nil es
 
   -- the other way round
-  above-swapped : (k : List ℕ) (es : List (List ℕ × (V × W))) → AreAbove k es → AreAbove k (swapped es)
+  above-swapped : (k : List ℕ) (es : List (List ℕ × (V × W))) → AreAbove k es → AreAbove k (swapped_pairs es)
   above-swapped k [] h = tt
   above-swapped k (e ∷ es) h = (h.0, above-swapped k es h.1)
 
-  swapped-ascends : (es : List (List ℕ × (V × W))) → IsAscending es → IsAscending (swapped es)
+  swapped-ascends : (es : List (List ℕ × (V × W))) → IsAscending es → IsAscending (swapped_pairs es)
   swapped-ascends [] h = tt
   swapped-ascends (e ∷ es) h = (above-swapped e.0 es h.0, swapped-ascends es h.1)
 
@@ -61,7 +61,7 @@ module _ {V W : Type 0} where
   other_way None = None
   other_way (Some e) = Some (e.1, e.0)
 
-  lookup-swapped : (k : List ℕ) (es : List (List ℕ × (V × W))) → lookup k (swapped es) ≡ other_way (lookup k es)
+  lookup-swapped : (k : List ℕ) (es : List (List ℕ × (V × W))) → lookup k (swapped_pairs es) ≡ other_way (lookup k es)
   unfolding other_way
   lookup-swapped k [] = refl
   lookup-swapped k (e ∷ es) = rw (lookup-swapped k es)
@@ -77,8 +77,8 @@ module _ {V W : Type 0} where
 
 module _ {V W : Type 0} where
   pub join-swapped : (es : List (List ℕ × V)) (m : List (List ℕ × W)) → IsAscending es → IsAscending m
-      → join m es ≡ swapped (join es m)
-  join-swapped es m h g = equal_by_lookups (join m es) (swapped (join es m)) (join-ascends m es g)
+      → join m es ≡ swapped_pairs (join es m)
+  join-swapped es m h g = equal_by_lookups (join m es) (swapped_pairs (join es m)) (join-ascends m es g)
       (swapped-ascends (join es m) (join-ascends es m h))
       (λ k. lookup-join k m es g ∙ both-other_way (lookup k es) (lookup k m) ∙ ap other_way (sym (lookup-join k es m h))
       ∙ sym (lookup-swapped k (join es m)))

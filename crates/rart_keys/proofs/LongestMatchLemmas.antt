@@ -32,9 +32,9 @@ module _ {V : Type 0} where
   pub first-stored : (e : List ℕ × V) (es : List (List ℕ × V)) → lookup e.0 (e ∷ es) ≢ None
   first-stored e es n = let f = lookup-first e.0 e.1 es in cc
 
-  pub stored-behind : (k : List ℕ) (e : List ℕ × V) (es : List (List ℕ × V)) → lookup k es ≢ None
+  pub stored-after : (k : List ℕ) (e : List ℕ × V) (es : List (List ℕ × V)) → lookup k es ≢ None
       → lookup k (e ∷ es) ≢ None
-  stored-behind k e es h = elim (bytes_eq e.0 k) as (λ b. (if b then Some e.1 else lookup k es) ≢ None) [
+  stored-after k e es h = elim (bytes_eq e.0 k) as (λ b. (if b then Some e.1 else lookup k es) ≢ None) [
     | true ↦ λ n. cc
     | false ↦ h
   ]
@@ -43,9 +43,9 @@ module _ {V : Type 0} where
       → lookup k es ≢ None
   other-stored k e es h n m = h (rw (bytes_eq-differ e.0 k n) m)
 
-  no-longer-behind : (p q : List ℕ) (e : List ℕ × V) (es : List (List ℕ × V)) → HasNoLonger p q (e ∷ es)
+  no-longer-after : (p q : List ℕ) (e : List ℕ × V) (es : List (List ℕ × V)) → HasNoLonger p q (e ∷ es)
       → HasNoLonger p q es
-  no-longer-behind p q e es h = λ k s f. h k (stored-behind k e es s) f
+  no-longer-after p q e es h = λ k s f. h k (stored-after k e es s) f
 
   -- where a stored key begins q, what stood before doesn't matter
   some-match : (k q : List ℕ) (o r : Option (List ℕ × V)) (es : List (List ℕ × V)) → lookup k es ≢ None
@@ -65,7 +65,7 @@ module _ {V : Type 0} where
       → (if b then e ∷ matches q es else matches q es) ≡ []) [
         | true ↦ λ s. absurd (let n = h e.0 (first-stored e es) s in let m = below-shorter p e.0 q a.0 f s in
             omega (arith, n, m))
-        | false ↦ λ s. none-above p q es a.1 f (no-longer-behind p q e es h)
+        | false ↦ λ s. none-above p q es a.1 f (no-longer-after p q e es h)
       ] refl
 
   longest-put-from : (o : Option (List ℕ × V)) (p q : List ℕ) (v : V) (es : List (List ℕ × V)) → IsAscending es
@@ -77,12 +77,12 @@ module _ {V : Type 0} where
       ∙ ap (last_or (Some (p, v))) (none-above p q (e ∷ es) (s, above-trans p e.0 es s a.0) f h))
       (⊎_elim (λ m. let same : put p v (e ∷ es) ≡ (p, v) ∷ es = rw (← m, cmp-itself p) refl in
       ap (λ z. last_or o (matches q z)) same ∙ first-begins o q (p, v) es f
-      ∙ ap (last_or (Some (p, v))) (none-above p q es (rw m a.0) f (no-longer-behind p q e es h)))
+      ∙ ap (last_or (Some (p, v))) (none-above p q es (rw m a.0) f (no-longer-after p q e es h)))
       (λ s. let more : put p v (e ∷ es) ≡ e ∷ put p v es = rw (below-greater e.0 p s) refl in
       ap (λ z. last_or o (matches q z)) more ∙ elim (begins e.0 q)
       as (λ b. last_or o (if b then e ∷ matches q (put p v es) else matches q (put p v es)) ≡ Some (p, v)) [
-        | true ↦ longest-put-from (Some e) p q v es a.1 f (no-longer-behind p q e es h)
-        | false ↦ longest-put-from o p q v es a.1 f (no-longer-behind p q e es h)
+        | true ↦ longest-put-from (Some e) p q v es a.1 f (no-longer-after p q e es h)
+        | false ↦ longest-put-from o p q v es a.1 f (no-longer-after p q e es h)
       ])) (compare p e.0)
 
   pub longest-put : (p q : List ℕ) (v : V) (es : List (List ℕ × V)) → IsAscending es → begins p q ≡ true
@@ -118,17 +118,17 @@ module _ {V : Type 0} where
       ∙ some-match k q (Some (p, v)) o (e ∷ es) h g)
       (⊎_elim (λ m. let same : put p v (e ∷ es) ≡ (p, v) ∷ es = rw (← m, cmp-itself p) refl in
       let begun : begins e.0 q ≡ true = rw (← m) f in
-      let behind = other-stored k e es h (λ n. omega (arith, ap length (m ∙ n), l)) in
+      let after = other-stored k e es h (λ n. omega (arith, ap length (m ∙ n), l)) in
       ap (λ z. last_or o (matches q z)) same ∙ first-begins o q (p, v) es f
-      ∙ some-match k q (Some (p, v)) (Some e) es behind g ∙ sym (first-begins o q e es begun))
+      ∙ some-match k q (Some (p, v)) (Some e) es after g ∙ sym (first-begins o q e es begun))
       (λ s. let more : put p v (e ∷ es) ≡ e ∷ put p v es = rw (below-greater e.0 p s) refl in
-      let behind = other-stored k e es h (λ n. let b : begins e.0 q ≡ true = rw n g in
+      let after = other-stored k e es h (λ n. let b : begins e.0 q ≡ true = rw n g in
       omega (arith, below-shorter e.0 p q s b f, ap length n, l)) in
       ap (λ z. last_or o (matches q z)) more ∙ elim (begins e.0 q)
       as (λ b. last_or o (if b then e ∷ matches q (put p v es) else matches q (put p v es))
       ≡ last_or o (if b then e ∷ matches q es else matches q es)) [
-        | true ↦ shorter-put-from (Some e) p q k v es f behind g l
-        | false ↦ shorter-put-from o p q k v es f behind g l
+        | true ↦ shorter-put-from (Some e) p q k v es f after g l
+        | false ↦ shorter-put-from o p q k v es f after g l
       ])) (compare p e.0)
 
   pub shorter-put : (p q : List ℕ) (v : V) (es : List (List ℕ × V)) → HasLonger p q es

@@ -14,8 +14,8 @@ contains-split : {A : Type 0} (y : A) (ys : List A) (x : A) → Contains (y ∷ 
 contains-split y ys x (zero, l, e) = inl e
 contains-split y ys x (suc k, l, e) = inr (k, omega (arith, l), e)
 
-contains-behind : {A : Type 0} (y : A) (ys : List A) (x : A) → Contains ys x → Contains (y ∷ ys) x
-contains-behind y ys x c = (suc c.0, omega (arith, c.1), c.2)
+contains-after : {A : Type 0} (y : A) (ys : List A) (x : A) → Contains ys x → Contains (y ∷ ys) x
+contains-after y ys x c = (suc c.0, omega (arith, c.1), c.2)
 
 contains-first : {A : Type 0} (y : A) (ys : List A) (x : A) → y ≡ x → Contains (y ∷ ys) x
 contains-first y ys x e = (0, omega arith, e)
@@ -31,7 +31,7 @@ module _ {V : Type 0} where
       → (if b then Some e.1 else lookup q es) ≡ Some v → Contains (e ∷ es) (q, v)) [
         | true ↦ λ m s. let k : e.0 ≡ q = bytes_eq-equal e.0 q m in let w : e.1 ≡ v = cc in
             contains-first e es (q, v) (ap (λ z. (z, e.1)) k ∙ ap (λ z. (q, z)) w)
-        | false ↦ λ m s. contains-behind e es (q, v) (found-stands q v es s)
+        | false ↦ λ m s. contains-after e es (q, v) (found-stands q v es s)
       ] refl h
 
   above-contained : (k q : List ℕ) (v : V) (es : List (List ℕ × V)) → AreAbove k es → Contains es (q, v) → IsLess k q
@@ -53,13 +53,13 @@ module _ {V : Type 0} where
   absent-stays q [] m n = refl
   absent-stays q (e ∷ es) m n =
       let other : e.0 ≡ q → ⊥ = λ s. n e.1 (contains-first e es (q, e.1) (ap (λ z. (z, e.1)) s)) in
-      absent-stays q es (put e.0 e.1 m) (λ w c. n w (contains-behind e es (q, w) c)) ∙ lookup-put q e.0 e.1 m
+      absent-stays q es (put e.0 e.1 m) (λ w c. n w (contains-after e es (q, w) c)) ∙ lookup-put q e.0 e.1 m
       ∙ ap (λ b. if b then Some e.1 else lookup q m) (bytes_eq-differ e.0 q other)
 
   one-stands : (q : List ℕ) (v : V) (es m : List (List ℕ × V)) → ((w : V) → Contains es (q, w) → w ≡ v)
       → Contains es (q, v) ⊎ (lookup q m ≡ Some v) → lookup q (put_all es m) ≡ Some v
   one-stands q v [] m u h = ⊎_elim (λ c. absurd (omega (arith, c.1))) (λ s. s) h
-  one-stands q v (e ∷ es) m u h = one-stands q v es (put e.0 e.1 m) (λ w c. u w (contains-behind e es (q, w) c))
+  one-stands q v (e ∷ es) m u h = one-stands q v es (put e.0 e.1 m) (λ w c. u w (contains-after e es (q, w) c))
       (elim (bytes_eq e.0 q) as (λ b. bytes_eq e.0 q ≡ b → Contains es (q, v) ⊎ (lookup q (put e.0 e.1 m) ≡ Some v)) [
         | true ↦ λ s. let k : e.0 ≡ q = bytes_eq-equal e.0 q s in
             inr (lookup-put q e.0 e.1 m ∙ ap (λ b. if b then Some e.1 else lookup q m) s

@@ -19,9 +19,9 @@ module _ {V : Type 0} where
   lookup-first k v es = rw (bytes_eq-itself k) refl
 
   -- the lists after equal first pairs
-  behind_first : (k l : List ℕ) (v w : V) (xs ys : List (List ℕ × V)) → k ≡ l → AreAbove k xs → AreAbove l ys
+  after_first : (k l : List ℕ) (v w : V) (xs ys : List (List ℕ × V)) → k ≡ l → AreAbove k xs → AreAbove l ys
       → ((q : List ℕ) → lookup q ((k, v) ∷ xs) ≡ lookup q ((l, w) ∷ ys)) → (q : List ℕ) → lookup q xs ≡ lookup q ys
-  behind_first k l v w xs ys e f g h q = elim (bytes_eq k q) as (λ b. bytes_eq k q ≡ b → lookup q xs ≡ lookup q ys) [
+  after_first k l v w xs ys e f g h q = elim (bytes_eq k q) as (λ b. bytes_eq k q ≡ b → lookup q xs ≡ lookup q ys) [
     | true ↦ λ s. let m = bytes_eq-equal k q s in lookup-above q xs (rw (← m) f)
         ∙ sym (lookup-above q ys (rw (← m, e) g))
     | false ↦ λ s. let a = h q in rw (← e, s) at a
@@ -36,7 +36,7 @@ module _ {V : Type 0} where
       (λ s. let g = lookup-first x.0 x.1 xs in let n = lookup-above x.0 (y ∷ ys) (s, above-trans x.0 y.0 ys s b.0) in
       let f = h x.0 in cc)
       (⊎_elim (λ e. let g = lookup-first x.0 x.1 xs in let n = lookup-first y.0 y.1 ys in let f = h y.0 in
-      let t = equal_by_lookups xs ys a.1 b.1 (behind_first x.0 y.0 x.1 y.1 xs ys e a.0 b.0 h) in
+      let t = equal_by_lookups xs ys a.1 b.1 (after_first x.0 y.0 x.1 y.1 xs ys e a.0 b.0 h) in
       let w : x.1 ≡ y.1 = cc in
       let k : x ≡ (y.0, y.1) = ap (λ z. (z, x.1)) e ∙ ap (λ z. (y.0, z)) w in cc)
       (λ s. let g = lookup-first y.0 y.1 ys in let n = lookup-above y.0 (x ∷ xs) (s, above-trans y.0 x.0 xs s a.0) in

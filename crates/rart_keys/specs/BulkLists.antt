@@ -14,15 +14,15 @@ IsFaultAt es i = (0 < i) × (i < length es)
     × IsLess (slice_index_or (keys_of es) i []) (slice_index_or (keys_of es) (i - 1) [])
 
 -- the first place, from `place` on, whose key is below the one before it, where k stands before the first
-abbrev pub first_fault_behind : {V : Type 0} → ℕ → List ℕ → List (List ℕ × V) → Option ℕ
-first_fault_behind place k [] = None
-first_fault_behind place k (e ∷ es) = match_ordering (slice_cmp nat_cmp e.0 k) (Some place)
-    (first_fault_behind (suc place) e.0 es) (first_fault_behind (suc place) e.0 es)
+abbrev pub first_fault_after : {V : Type 0} → ℕ → List ℕ → List (List ℕ × V) → Option ℕ
+first_fault_after place k [] = None
+first_fault_after place k (e ∷ es) = match_ordering (slice_cmp nat_cmp e.0 k) (Some place)
+    (first_fault_after (suc place) e.0 es) (first_fault_after (suc place) e.0 es)
 
 -- the first place whose key is below the one before it
 abbrev pub first_fault : {V : Type 0} → List (List ℕ × V) → Option ℕ
 first_fault [] = None
-first_fault (e ∷ es) = first_fault_behind 1 e.0 es
+first_fault (e ∷ es) = first_fault_after 1 e.0 es
 
 -- the pairs, e in front of them, without those whose key comes again next
 abbrev pub last_wins_from : {V : Type 0} → List ℕ × V → List (List ℕ × V) → List (List ℕ × V)
@@ -35,10 +35,10 @@ last_wins [] = []
 last_wins (e ∷ es) = last_wins_from e es
 
 -- how the last of some keys compares with k; below it, where there is none
-abbrev pub order_behind : List (List ℕ) → List ℕ → Ordering
-order_behind [] k = Less
-order_behind (l ∷ []) k = slice_cmp nat_cmp l k
-order_behind (l ∷ m ∷ ks) k = order_behind (m ∷ ks) k
+abbrev pub order_of_last : List (List ℕ) → List ℕ → Ordering
+order_of_last [] k = Less
+order_of_last (l ∷ []) k = slice_cmp nat_cmp l k
+order_of_last (l ∷ m ∷ ks) k = order_of_last (m ∷ ks) k
 
 -- a list without fault was read, and these keys and values of it stay
 pub record WasRead {V : Type 0} (es : List (List ℕ × V)) (ks : List (List ℕ)) (vs : List V) : Type 0 where

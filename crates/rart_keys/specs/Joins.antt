@@ -19,5 +19,5 @@ join [] m = []
 join (e ∷ es) m = ahead_if e.0 e.1 (lookup e.0 m) (join es m)
 
 -- the same keys with the two values the other way round
-abbrev pub swapped : {V W : Type 0} → List (List ℕ × (V × W)) → List (List ℕ × (W × V))
-swapped es = map (λ e. (e.0, (e.1.1, e.1.0))) es
+abbrev pub swapped_pairs : {V W : Type 0} → List (List ℕ × (V × W)) → List (List ℕ × (W × V))
+swapped_pairs es = map (λ e. (e.0, (e.1.1, e.1.0))) es

@@ -2,7 +2,7 @@
 ghost use Rattle.std.specs.Prelude.{◌≡◌, ◌+◌, ◌-◌, ◌≤◌, ◌++◌, length, replicate};
 
 /// Returns an array of `first`, `second` and zeros, in this order.
-pub(crate) fn joined<const N: usize>(first: &[u8], second: &[u8]) -> [u8; N]
+pub(crate) fn joined_bytes<const N: usize>(first: &[u8], second: &[u8]) -> [u8; N]
     requires { length first.now + length second.now ≤ N }
     ensures { result ≡ first.now ++ second.now
         ++ replicate (N - (length first.now + length second.now)) 0 }

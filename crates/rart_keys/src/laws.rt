@@ -1,6 +1,6 @@
 //! Laws of the sorted map, of keys and their order, and of longest matches, each the contract of a function.
 ghost use Rattle.std.specs.Prelude.{◌≡◌, ◌≢◌, ◌≤◌, ◌+◌, ℕ, List, Some, None, length};
-ghost use Rattle.rart_keys.specs.Joins.{both, join, swapped};
+ghost use Rattle.rart_keys.specs.Joins.{both, join, swapped_pairs};
 ghost use Rattle.rart_keys.specs.SortedMap.{IsAscending, count_of, lookup, put, without};
 
 pub mod bulk_lists;
@@ -40,5 +40,5 @@ pub fn joins<V, W>()
     ensures few { (l : List (List ℕ × V)) (m : List (List ℕ × W)) → length (join l m) ≤ length l }
     ensures other_way { (l : List (List ℕ × V)) (m : List (List ℕ × W)) → IsAscending l
         → IsAscending m
-        → join m l ≡ swapped (join l m) }
+        → join m l ≡ swapped_pairs (join l m) }
 {}

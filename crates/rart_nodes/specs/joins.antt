@@ -1,6 +1,6 @@
 pub mod Alignments
 pub mod Given
-pub mod Lockstep
+pub mod Intersections
 pub mod Visitors
 pub mod PairCalls
 pub mod SeenJoins

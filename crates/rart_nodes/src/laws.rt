@@ -4,7 +4,7 @@ ghost use Rattle.rart_keys.specs.Joins.{join};
 ghost use Rattle.rart_keys.specs.SortedMap.{IsAscending, lookup, put, without, keys_of};
 ghost use Rattle.rart_nodes.specs.shapes.BranchPoints.{IsBranchPoint};
 ghost use Rattle.rart_nodes.specs.edits.EditRuns.{Edit, run_tree, run_map};
-ghost use Rattle.rart_nodes.specs.joins.Lockstep.{intersect_nodes};
+ghost use Rattle.rart_nodes.specs.joins.Intersections.{intersect_nodes};
 ghost use Rattle.rart_nodes.specs.joins.SharedEdges.{as_map, is_shared, joint_visits, intersect_visits, shared_edges};
 ghost use Rattle.rart_nodes.specs.edits.InsertAsks.{insert_asks, trie_asks_put};
 ghost use Rattle.rart_nodes.specs.walks.ProbeCount.{probe_count, entered_nodes};

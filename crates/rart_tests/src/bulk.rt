@@ -121,13 +121,13 @@ fn all_reads_no_further(alloc: Global, form: Form) -> Result<bool, AllocError> {
 }
 
 #[test]
-fn loads_refused_in_turn_read_nothing_behind(rt: HostRuntime) -> Result<(), Fail> {
+fn loads_refused_in_turn_read_nothing_after(rt: HostRuntime) -> Result<(), Fail> {
     assert!(rt; all_reads_no_further(rt.alloc(), Form::Sorted)?);
     Ok(())
 }
 
 #[test]
-fn unique_loads_refused_in_turn_read_nothing_behind(rt: HostRuntime) -> Result<(), Fail> {
+fn unique_loads_refused_in_turn_read_nothing_after(rt: HostRuntime) -> Result<(), Fail> {
     assert!(rt; all_reads_no_further(rt.alloc(), Form::Unique)?);
     Ok(())
 }

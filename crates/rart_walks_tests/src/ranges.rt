@@ -289,11 +289,11 @@ fn starts_well(tree: &Tree, byte: u8, count: usize) -> Result<bool, TreeError> {
         Bound::Included(Key::new_from_slice(&[byte])),
         Bound::Unbounded,
     )?;
-    let behind = tree.range(
+    let after = tree.range(
         Bound::Excluded(Key::new_from_slice(&[byte])),
         Bound::Unbounded,
     )?;
-    Ok(counts_up(at, from, count) && counts_up(behind, from + 1, count))
+    Ok(counts_up(at, from, count) && counts_up(after, from + 1, count))
 }
 
 // The first byte from which a range goes another way, if there is one.

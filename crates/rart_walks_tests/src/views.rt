@@ -254,13 +254,13 @@ fn views_of_equal_bytes_can_differ(rt: HostRuntime) {
 
 // The bytes of a view are copied after others, as a vector and as a key.
 fn copies(alloc: Global, view: LendingKeyView<'_, '_>) -> Result<bool, TreeError> {
-    let mut behind = Vec::new(alloc);
+    let mut after = Vec::new(alloc);
     for byte in [1_u8, 2] {
-        let Ok(()) = behind.push(byte) else {
+        let Ok(()) = after.push(byte) else {
             return Ok(false);
         };
     }
-    view.write_into(&mut behind)?;
+    view.write_into(&mut after)?;
     let bytes = view.to_vec(alloc)?;
     let fits = view.len() <= 16;
     let key = if fits {
@@ -269,7 +269,7 @@ fn copies(alloc: Global, view: LendingKeyView<'_, '_>) -> Result<bool, TreeError
         None
     };
     Ok(
-        behind.as_slice() == [1, 2, 97, 98].as_slice()
+        after.as_slice() == [1, 2, 97, 98].as_slice()
             && bytes.as_slice() == b"ab".as_slice()
             && key.is_some_and(|key| key.as_ref() == b"ab".as_slice()),
     )

@@ -1,6 +1,6 @@
 //! What clients can count on of intersections.
 ghost use Rattle.std.specs.Prelude.{◌≡◌, ◌⊎◌, IfErr, OnErr, OnOk};
-ghost use Rattle.rart_keys.specs.Joins.{both, join, swapped};
+ghost use Rattle.rart_keys.specs.Joins.{both, join, swapped_pairs};
 ghost use Rattle.rart_keys.specs.SortedMap.{IsAscending, lookup};
 ghost use Rattle.rart_nodes.specs.joins.PairCalls.{CallsAtEach, CanCallAt};
 ghost use Rattle.rart_nodes.specs.joins.SeenJoins.{MayLackBoth};
@@ -25,7 +25,8 @@ pub fn intersections_are_symmetric<K: KeyTrait, V, W, F: FnMut(K, &V, &W), G: Fn
     g: &mut G,
 ) -> Result<(), TreeError>
     requires one_way { CanCallAt F.FnMut K.bytes f.old (join one.now.pairs other.now.pairs) }
-    requires back { CanCallAt G.FnMut K.bytes g.old (swapped (join one.now.pairs other.now.pairs)) }
+    requires back { CanCallAt G.FnMut K.bytes g.old
+        (swapped_pairs (join one.now.pairs other.now.pairs)) }
     ensures callable { F.IsAlwaysCallable f.old → F.IsAlwaysCallable f.new }
     ensures callable_back { G.IsAlwaysCallable g.old → G.IsAlwaysCallable g.new }
     ensures ascending { IsAscending (join one.now.pairs other.now.pairs) }
@@ -34,7 +35,7 @@ pub fn intersections_are_symmetric<K: KeyTrait, V, W, F: FnMut(K, &V, &W), G: Fn
     ensures calls { OnOk result
         (CallsAtEach F.FnMut K.bytes f.old (join one.now.pairs other.now.pairs) f.new) }
     ensures other_way { OnOk result (CallsAtEach G.FnMut K.bytes g.old
-        (swapped (join one.now.pairs other.now.pairs)) g.new) }
+        (swapped_pairs (join one.now.pairs other.now.pairs)) g.new) }
     ensures refused { OnErr result (g.new ≡ g.old) }
     ensures once_or_never { OnErr result ((f.new ≡ f.old)
         ⊎ CallsAtEach F.FnMut K.bytes f.old (join one.now.pairs other.now.pairs) f.new) }

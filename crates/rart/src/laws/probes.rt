@@ -6,7 +6,7 @@ ghost use Rattle.std.specs.Ordering.{nat_cmp};
 ghost use Rattle.rart_keys.specs.ByteStrings.{begins};
 ghost use Rattle.rart_keys.specs.Filters.{last_or, matches};
 ghost use Rattle.rart_keys.specs.KeyBytes.{IsWithin};
-ghost use Rattle.rart_nodes.specs.walks.Walk.{joined};
+ghost use Rattle.rart_nodes.specs.walks.Walk.{joined_bytes};
 ghost use Rattle.rart_nodes.specs.walks.PathParts.{lent_segments};
 ghost use Rattle.rart_nodes.specs.walks.Calls.{MayLackRoom};
 
@@ -65,9 +65,10 @@ pub fn longest_is_the_last_match<'a, K: KeyTrait, V>(
 /// The order is that of the view's bytes and the slice.
 pub fn comparisons_agree(view: LendingKeyView<'_, '_>, slice: &[u8]) -> (Ordering, bool)
     ensures order { result.0
-        ≡ slice_cmp nat_cmp (joined (lent_segments view.entry.segments.now)) slice.now }
+        ≡ slice_cmp nat_cmp (joined_bytes (lent_segments view.entry.segments.now)) slice.now }
     ensures agree { IsTrue result.1 ↔ (result.0 ≡ Ordering.Equal) }
-    ensures bytes { IsTrue result.1 ↔ (joined (lent_segments view.entry.segments.now) ≡ slice.now) }
+    ensures bytes { IsTrue result.1
+        ↔ (joined_bytes (lent_segments view.entry.segments.now) ≡ slice.now) }
 {
     (view.cmp_slice(slice), view.eq_slice(slice))
 }
@@ -81,9 +82,9 @@ pub fn key_of_a_view<K: KeyTrait>(
     view: LendingKeyView<'_, '_>,
     alloc: Global,
 ) -> Result<K, TreeError>
-    requires { IsWithin K.MAXIMUM_SIZE (length (joined (lent_segments view.segments.now))) }
+    requires { IsWithin K.MAXIMUM_SIZE (length (joined_bytes (lent_segments view.segments.now))) }
     ensures bytes { IfOk result
-        (λ key. K.bytes key ≡ joined (lent_segments view.entry.segments.now)) }
+        (λ key. K.bytes key ≡ joined_bytes (lent_segments view.entry.segments.now)) }
     ensures memory { IfErr result (λ e. e ≡ TreeError.Memory) }
 {
     view.to_key(alloc)

@@ -3,7 +3,7 @@ ghost use Rattle.std.specs.Prelude.{◌≡◌, IfErr, IfOk, OnErr, OnOk};
 ghost use Rattle.rart_keys.specs.Filters.{longest_value};
 ghost use Rattle.rart_keys.specs.LongestMatches.{HasLonger, KeepsLongest, KeepsOthers, TakesLongest};
 ghost use Rattle.rart_keys.specs.SortedMap.{put, without};
-ghost use Rattle.rart.specs.Refusals.{MayRefuseRemove, TellsWhy};
+ghost use Rattle.rart.specs.Refusals.{MayRefuseRemove, IsNotInserted};
 
 use crate::routes::RouteTable;
 use rart_keys::KeyTrait;
@@ -34,7 +34,7 @@ pub fn add_then_route<K: KeyTrait, T: Copy>(
         → KeepsLongest probe.now table.old.pairs table.new.pairs) }
     ensures others_stay { OnOk result
         (KeepsOthers (K.bytes prefix.now) probe.now table.old.pairs table.new.pairs) }
-    ensures refused { IfErr result (TellsWhy table.old.pairs (K.bytes prefix.now) target) }
+    ensures refused { IfErr result (IsNotInserted table.old.pairs (K.bytes prefix.now) target) }
     ensures unchanged { OnErr result (table.new ≡ table.old) }
 {
     table.canonical();

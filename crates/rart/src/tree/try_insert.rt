@@ -4,7 +4,7 @@ ghost use Rattle.std.specs.Borrow.{sem};
 ghost use Rattle.rart_keys.specs.SortedMap.{put};
 ghost use Rattle.rart.specs.Edits.{InsertsNew, PutOrSame, TriesInsert};
 ghost use Rattle.rart.specs.Loans.{ends_as};
-ghost use Rattle.rart.specs.Refusals.{AddsPresent, StandsAt};
+ghost use Rattle.rart.specs.Refusals.{AddsPresent, IsStoredAt};
 
 use crate::tree::{AdaptiveRadixTree, MAX_PAIRS, plant};
 use rart_keys::KeyTrait;
@@ -96,7 +96,7 @@ impl<K: KeyTrait, V> AdaptiveRadixTree<K, V> {
         key: &K,
         outcome: Result<(), NotInserted<V>>,
     ) -> Result<(), TryInsertError<'a, V>>
-        requires stored { IfErr outcome (StandsAt self.now.pairs (K.bytes key.now)) }
+        requires stored { IfErr outcome (IsStoredAt self.now.pairs (K.bytes key.now)) }
         ensures { AddsPresent self.now.pairs (K.bytes key.now) outcome result }
     {
         match outcome {
@@ -141,7 +141,7 @@ impl<K: KeyTrait, V> AdaptiveRadixTree<K, V> {
     fn tried_with_present<'a>(&'a self, tried: Tried<K, V>) -> Result<(), TryInsertError<'a, V>>
     where
         K: Drop,
-        requires stored { IfErr tried.outcome (StandsAt self.now.pairs (K.bytes tried.key)) }
+        requires stored { IfErr tried.outcome (IsStoredAt self.now.pairs (K.bytes tried.key)) }
         ensures { AddsPresent self.now.pairs (K.bytes tried.key) tried.outcome result }
     {
         let Tried { key, outcome } = tried;

@@ -205,7 +205,7 @@ fn overwrite<K: KeyTrait + Drop>(tree: &mut Tree<K>, key: K, value: u64, form: F
 }
 
 // The key of these bytes, two at most, and one more.
-fn behind<K: KeyTrait>(front: &[u8], byte: u8) -> Option<K> {
+fn after<K: KeyTrait>(front: &[u8], byte: u8) -> Option<K> {
     match front {
         [] => key_of_bytes(&[byte]),
         [first] => key_of_bytes(&[*first, byte]),
@@ -219,7 +219,7 @@ fn fill<K: KeyTrait + Drop>(tree: &mut Tree<K>, front: &[u8], from: usize, to: u
     for i in 0..256_usize {
         let byte = (i * 167 % 256) as u8;
         if from <= usize::from(byte) && usize::from(byte) < to {
-            let Some(key) = behind(front, byte) else {
+            let Some(key) = after(front, byte) else {
                 return false;
             };
             if !matches!(tree.insert(key, u64::from(byte)), Ok(None)) {
@@ -234,7 +234,7 @@ fn empty<K: KeyTrait + Drop>(tree: &mut Tree<K>, front: &[u8], from: usize, to: 
     for i in 0..256_usize {
         let byte = (i * 167 % 256) as u8;
         if from <= usize::from(byte) && usize::from(byte) < to {
-            let Some(key) = behind(front, byte) else {
+            let Some(key) = after(front, byte) else {
                 return false;
             };
             match tree.remove(key) {
@@ -248,7 +248,7 @@ fn empty<K: KeyTrait + Drop>(tree: &mut Tree<K>, front: &[u8], from: usize, to: 
 
 fn holds<K: KeyTrait + Drop>(tree: &Tree<K>, front: &[u8], count: usize) -> bool {
     for byte in 0..=255_u8 {
-        let Some(key) = behind(front, byte) else {
+        let Some(key) = after(front, byte) else {
             return false;
         };
         let value = (usize::from(byte) < count).then_some(u64::from(byte));

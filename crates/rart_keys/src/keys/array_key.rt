@@ -3,7 +3,7 @@ ghost use Rattle.std.specs.Prelude.{◌≡◌, ◌-◌, ◌≤◌, length, drop,
 ghost use Rattle.rart_keys.specs.KeyBytes.{AreBytes};
 
 use crate::common_prefix::compare_bytes;
-use crate::inline_bytes::joined;
+use crate::inline_bytes::joined_bytes;
 use crate::keys::KeyTrait;
 use crate::partials::Partial;
 use crate::partials::array_partial::ArrPartial;
@@ -19,7 +19,7 @@ pub struct ArrayKey<const N: usize> {
     len: usize,
     ghost in_range: { len ≤ N },
     ghost full_width: { length stored ≡ N },
-    ghost zeros_behind: { drop len stored ≡ replicate (N - len) 0 },
+    ghost zeros_after: { drop len stored ≡ replicate (N - len) 0 },
     ghost are_bytes: { AreBytes stored },
 }
 
@@ -49,7 +49,7 @@ impl<const N: usize> ArrayKey<N> {
         ensures { array_key_bytes result ≡ first.now ++ second.now }
     {
         ArrayKey {
-            stored: joined(first, second),
+            stored: joined_bytes(first, second),
             len: first.len() + second.len(),
         }
     }

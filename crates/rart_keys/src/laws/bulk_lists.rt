@@ -3,7 +3,7 @@ ghost use Rattle.std.specs.Prelude.{◌≡◌, ◌<◌, ◌++◌, ◌∷◌, ℕ
 ghost use Rattle.std.specs.List.Sorted.{IsPermutation};
 ghost use Rattle.rart_keys.specs.ByteStrings.{IsLess};
 ghost use Rattle.std.specs.declared.cmp.Ordering.TheVariants.{Less, Equal, Greater};
-ghost use Rattle.rart_keys.specs.BulkLists.{IsFaultAt, WasRead, first_fault, last_wins, order_behind, put_all};
+ghost use Rattle.rart_keys.specs.BulkLists.{IsFaultAt, WasRead, first_fault, last_wins, order_of_last, put_all};
 ghost use Rattle.rart_keys.specs.SortedMap.{IsAscending, keys_of, lookup};
 
 /// Proves that `first_fault` is the first index whose key is below the one before it. If there is none, `last_wins`
@@ -27,15 +27,15 @@ pub fn bulk_lists<V>()
 pub fn one_item_more<V>()
     ensures later { (es : List (List ℕ × V)) (ks : List (List ℕ)) (vs : List V) (k : List ℕ) (v : V)
         → WasRead es ks vs
-        → order_behind ks k ≡ Less
+        → order_of_last ks k ≡ Less
         → WasRead (es ++ (k, v) ∷ []) (ks ++ k ∷ []) (vs ++ v ∷ []) }
     ensures same { (es : List (List ℕ × V)) (ks : List (List ℕ)) (vs ws : List V) (w : V)
         (k : List ℕ) (v : V)
-        → WasRead es ks vs → order_behind ks k ≡ Equal → vs ≡ ws ++ w ∷ []
+        → WasRead es ks vs → order_of_last ks k ≡ Equal → vs ≡ ws ++ w ∷ []
         → WasRead (es ++ (k, v) ∷ []) ks (ws ++ v ∷ []) }
     ensures earlier { (es : List (List ℕ × V)) (ks : List (List ℕ)) (vs : List V)
         (k : List ℕ) (v : V)
-        → WasRead es ks vs → order_behind ks k ≡ Greater
+        → WasRead es ks vs → order_of_last ks k ≡ Greater
         → first_fault (es ++ (k, v) ∷ []) ≡ Some (length es) }
 {}
 

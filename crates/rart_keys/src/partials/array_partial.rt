@@ -3,7 +3,7 @@ ghost use Rattle.std.specs.Prelude.{◌≡◌, ◌-◌, ◌≤◌, length, drop,
 ghost use Rattle.rart_keys.specs.KeyBytes.{AreBytes};
 
 use crate::common_prefix::common_prefix_length;
-use crate::inline_bytes::joined;
+use crate::inline_bytes::joined_bytes;
 use crate::keys::KeyTrait;
 use crate::keys::array_key::ArrayKey;
 use crate::partials::Partial;
@@ -17,7 +17,7 @@ pub struct ArrPartial<const SIZE: usize> {
     len: usize,
     ghost in_range: { len ≤ SIZE },
     ghost full_width: { length stored ≡ SIZE },
-    ghost zeros_behind: { drop len stored ≡ replicate (SIZE - len) 0 },
+    ghost zeros_after: { drop len stored ≡ replicate (SIZE - len) 0 },
     ghost are_bytes: { AreBytes stored },
 }
 
@@ -55,7 +55,7 @@ impl<const SIZE: usize> ArrPartial<SIZE> {
         ensures { arr_partial_bytes result ≡ first.now ++ second.now }
     {
         ArrPartial {
-            stored: joined(first, second),
+            stored: joined_bytes(first, second),
             len: first.len() + second.len(),
         }
     }

@@ -102,12 +102,12 @@ pub count-step : (d count n total most : ℕ) (ks ls : List (Bor (List ℕ))) �
     → count + length (next_bytes (rests d ks) []) ≡ total → GoOn (rests d ls) × IsAscending (lone_keys (rests d ls))
     × (count + 1 + length ls ≤ most) × (count + 1 + length (next_bytes (rests d ls) []) ≡ total)
 count-step d count n total most ks ls is some e one within g up fits counted =
-    let behind : rests d ls ≡ drop n (rests d ks) = ap (rests d) is ∙ rests-drop d n ks in
+    let after : rests d ls ≡ drop n (rests d ks) = ap (rests d) is ∙ rests-drop d n ks in
     let step = branches-step (rests d ks) (omega (arith, rests-length d ks)) g in
     let left : length (next_bytes (rests d ls) []) ≡ length (next_bytes (drop (first_run (rests d ks)) (rests d ks)) [])
-    = ap (λ z. length (next_bytes z [])) (behind ∙ ap (λ m. drop m (rests d ks)) e) in (
-      rw behind (go_on-drop n (rests d ks) g),
-      rw behind (ascending-drop n (rests d ks) up),
+    = ap (λ z. length (next_bytes z [])) (after ∙ ap (λ m. drop m (rests d ks)) e) in (
+      rw after (go_on-drop n (rests d ks) g),
+      rw after (ascending-drop n (rests d ks) up),
       omega
           (arith, ap length is, length-drop n ks),
       omega (arith, step, left),

@@ -95,15 +95,15 @@ cut-back p [] h = refl
 cut-back p (r ∷ rs) h = ap (λ z. z ∷ map (λ r. p ++ r) (cut (length p) rs)) (sym h.0)
     ∙ ap (λ z. r ∷ z) (cut-back p rs h.1)
 
-below-behind : (p k l : List ℕ) → IsLess (p ++ k) (p ++ l) → IsLess k l
-below-behind [] k l b = b
-below-behind (x ∷ p) k l b = below-behind p k l (rw (is_equal x x refl) at b)
+below-after : (p k l : List ℕ) → IsLess (p ++ k) (p ++ l) → IsLess k l
+below-after [] k l b = b
+below-after (x ∷ p) k l b = below-after p k l (rw (is_equal x x refl) at b)
 
 cut-above : (p r : List ℕ) (rs : List (List ℕ)) → r ≡ p ++ drop (length p) r → AllHave p rs → AreAbove r (lone_keys rs)
     → AreAbove (drop (length p) r) (lone_keys (cut (length p) rs))
 cut-above p r [] e h a = tt
 cut-above p r (s ∷ rs) e h a = (
-  below-behind p (drop (length p) r) (drop (length p) s) (rw (← e, ← h.0) a.0),
+  below-after p (drop (length p) r) (drop (length p) s) (rw (← e, ← h.0) a.0),
   cut-above
       p r rs e h.1 a.1,
 )

@@ -4,7 +4,8 @@ use Rattle.rart_keys.specs.SortedMap.{keys_of}
 use Rattle.rart_nodes.specs.shapes.Shape.{HasShape}
 use Rattle.rart_keys.specs.ByteStrings.{strip_prefix}
 use Rattle.rart_nodes.specs.tries.Trie.{Trie, node, Children, no_children, child, trie_lookup, child_lookup}
-use Rattle.rart_nodes.specs.tries.Trie.{answer_behind, collapsed, removed_behind, child_if, trie_remove, remove_child}
+use Rattle.rart_nodes.specs.tries.Trie.{answer_after, collapsed_node, removed_after, child_if, trie_remove}
+use Rattle.rart_nodes.specs.tries.Trie.{remove_child}
 use Rattle.rart_nodes.specs.tries.Trie.{IsCanonical, AreCanonical}
 use Rattle.rart_nodes.specs.tries.Tree.{tree_pairs, tree_nodes, IsCanonicalTree}
 use Rattle.rart_nodes.specs.edits.EditRuns.{Edit, puts, removes, edit_map, edit_tree, run_map, run_tree}
@@ -47,7 +48,7 @@ module _ {V : Type 0} where
 
   -- a key that isn't there is removed by doing nothing
   collapsed-bytes_eq : (p : List ℕ) (v : Option V) (n : ℕ) (cs : Children V) → IsCanonical (node p v n cs)
-      → collapsed p v cs ≡ Some (node p v n cs)
+      → collapsed_node p v cs ≡ Some (node p v n cs)
   collapsed-bytes_eq p None n no_children w = absurd (⊎_elim (λ h. cc) (λ h. h) w.0)
   collapsed-bytes_eq p None n (child b (node q u m ds) no_children) w = absurd (⊎_elim (λ h. cc) (λ h. h) w.0)
   collapsed-bytes_eq p None n (child b t (child c u cs)) w
@@ -57,13 +58,13 @@ module _ {V : Type 0} where
   mutual
     pub remove-absent : (k : List ℕ) (t : Trie V) → IsCanonical t → trie_lookup k t ≡ None → trie_remove k t ≡ Some t
     remove-absent k (node p v n cs) w h = elim (strip_prefix p k)
-        as (λ o. answer_behind o v (λ b r. child_lookup b r cs) ≡ None
-        → removed_behind o p v cs (λ b r. remove_child b r cs) ≡ Some (node p v n cs)) [
+        as (λ o. answer_after o v (λ b r. child_lookup b r cs) ≡ None
+        → removed_after o p v cs (λ b r. remove_child b r cs) ≡ Some (node p v n cs)) [
           | None ↦ λ z. collapsed-bytes_eq p v n cs w
-          | Some r ↦ elim r as (λ r. answer_behind (Some r) v (λ b r. child_lookup b r cs) ≡ None
-              → removed_behind (Some r) p v cs (λ b r. remove_child b r cs) ≡ Some (node p v n cs)) [
-                | [] ↦ λ z. ap (λ o. collapsed p o cs) (sym z) ∙ collapsed-bytes_eq p v n cs w
-                | b ∷ r ↦ λ z. ap (collapsed p v) (remove-absent_child b (b ∷ r) 0 cs w.2 z)
+          | Some r ↦ elim r as (λ r. answer_after (Some r) v (λ b r. child_lookup b r cs) ≡ None
+              → removed_after (Some r) p v cs (λ b r. remove_child b r cs) ≡ Some (node p v n cs)) [
+                | [] ↦ λ z. ap (λ o. collapsed_node p o cs) (sym z) ∙ collapsed-bytes_eq p v n cs w
+                | b ∷ r ↦ λ z. ap (collapsed_node p v) (remove-absent_child b (b ∷ r) 0 cs w.2 z)
                     ∙ collapsed-bytes_eq p v n cs w
               ]
         ] h

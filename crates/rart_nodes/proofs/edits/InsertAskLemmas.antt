@@ -14,7 +14,7 @@ use Rattle.rart_nodes.specs.edits.InsertAsks.{has_room, takes_child, any_along, 
 use Rattle.rart_nodes.specs.edits.InsertAsks.{is_full, trie_asks_put}
 use Rattle.rart_nodes.proofs.tries.Descents.{Keeps, descends, descend-child_of}
 use Rattle.rart_nodes.proofs.tries.NodeCounts.{few_nodes}
-use Rattle.rart_nodes.proofs.shapes.RecordsAlong.{AreReadings, edge-is_some, none-first, reads-apart, reads-behind}
+use Rattle.rart_nodes.proofs.shapes.RecordsAlong.{AreReadings, edge-is_some, none-first, reads-apart, reads-after}
 use Rattle.rart_nodes.proofs.shapes.RecordsAlong.{records_in}
 use Rattle.rart_nodes.proofs.shapes.ShapeLemmas.{records, records-at}
 
@@ -111,10 +111,10 @@ module _ {V : Type 0} where
     absent = λ q. refl;
     left = λ q p v n cs w s. ap Some (sym (reads-apart (λ f q a. needs_by f q ≡ a) needs_read p q v n cs true s
         (λ f e. ap (λ o. not (is_some o || false)) e) (λ q. ap not (none_last q))));
-    ended = λ q p v n cs w s. ap Some (sym (reads-behind (λ f q a. needs_by f q ≡ a) needs_read p q [] v n cs false s
+    ended = λ q p v n cs w s. ap Some (sym (reads-after (λ f q a. needs_by f q ≡ a) needs_read p q [] v n cs false s
         refl));
     on = λ q p v n cs b r a w s h. ap Some (sym
-        (reads-behind (λ f q a. needs_by f q ≡ a) needs_read p q (b ∷ r) v n cs (unwrap_or a (is_full (node p v n cs)))
+        (reads-after (λ f q a. needs_by f q ≡ a) needs_read p q (b ∷ r) v n cs (unwrap_or a (is_full (node p v n cs)))
         s
         (asks-below (length (edges_of cs)) n b r cs w.1 w.2
         ∙ ap (λ o. unwrap_or o (is_full (node p v n cs))) (sym h))));

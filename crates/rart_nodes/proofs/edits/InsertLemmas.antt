@@ -9,7 +9,7 @@ use Rattle.rart_keys.specs.ByteStrings.{strip_prefix}
 use Rattle.rart_keys.specs.KeyBytes.{IsWithin}
 use Rattle.rart_keys.proofs.ByteOrder.{order, eq-yes, eq-no}
 use Rattle.rart_parts.specs.Entries.{child_at, with_entry, replaced}
-use Rattle.rart_nodes.specs.storages.Widths.{widened}
+use Rattle.rart_nodes.specs.storages.Widths.{widened_width}
 use Rattle.rart_nodes.specs.shapes.Shape.{capacity_of}
 use Rattle.rart_nodes.specs.tries.Trie.{Trie, node, Children, edges_of, IsCanonical, trie_lookup, trie_put, put_child}
 use Rattle.rart_nodes.specs.tries.Trie.{fitting_node, leaf, aligned, pairs_of, with_records}
@@ -22,7 +22,7 @@ use Rattle.rart_nodes.proofs.tries.Descents.{descend-absent, descend-at, descend
 use Rattle.rart_nodes.proofs.shapes.ShapeLemmas.{lookup-records, records}
 
 -- one more child keeps the width that the number of children fixes
-pub widened-capacity : (n : ℕ) → widened n (capacity_of n) ≡ capacity_of (suc n)
+pub widened-capacity : (n : ℕ) → widened_width n (capacity_of n) ≡ capacity_of (suc n)
 widened-capacity n = grind (arith, nat_tests)
 
 module _ {V : Type 0} where
@@ -76,13 +76,13 @@ module _ {V : Type 0} where
   -- a new leaf beside the children
   pub put-beside : (p k rest : List ℕ) (v : V) (old : Option V) (w w' b : ℕ) (es es' : List (ℕ × Trie V))
       → IsCanonical (node p old w (as_children es)) → Some rest ≡ strip_prefix p k → Some b ≡ slice_get rest 0
-      → None ≡ child_at b es → w' ≡ widened (length es) w → es' ≡ with_entry b (leaf rest v) es
+      → None ≡ child_at b es → w' ≡ widened_width (length es) w → es' ≡ with_entry b (leaf rest v) es
       → node p old w' (as_children es') ≡ trie_put k v (node p old w (as_children es))
   put-beside p k rest v old w w' b es es' c e h at ew ee =
       let many : length (edges_of (as_children es')) ≡ suc (length es) = edges_of-length es' ∙ ap length ee
       ∙ with_entry-length b (leaf rest v) es at in
       let width : w' ≡ capacity_of (length (edges_of (as_children es')))
-      = ew ∙ ap (widened (length es)) (c.1 ∙ ap capacity_of (edges_of-length es)) ∙ widened-capacity (length es)
+      = ew ∙ ap (widened_width (length es)) (c.1 ∙ ap capacity_of (edges_of-length es)) ∙ widened-capacity (length es)
       ∙ sym (ap capacity_of many) in
       let below : as_children es' ≡ put_child b rest v (as_children es)
       = ap as_children ee ∙ sym (put_child-none b rest v es at) in

@@ -8,7 +8,7 @@ use Rattle.rart_nodes.specs.tries.PrefixLaws.{length-with_prefix}
 use Rattle.rart_nodes.specs.tries.Trie.{Trie, node, Children, no_children, child, prefix_of, IsCanonical, AreCanonical}
 use Rattle.rart_nodes.specs.tries.Trie.{pairs_of, children_pairs, own_pair}
 use Rattle.rart_nodes.specs.tries.TrieCode.{as_children}
-use Rattle.rart_nodes.proofs.tries.CanonicalTests.{longest_key-append, longest_key-behind}
+use Rattle.rart_nodes.proofs.tries.CanonicalTests.{longest_key-append, longest_key-after}
 use Rattle.rart_nodes.proofs.edits.InsertLemmas.{fewer-within}
 use Rattle.rart_nodes.proofs.tries.NodeCounts.{some-pairs}
 use Rattle.rart_nodes.proofs.tries.Descents.{child_of-entries}
@@ -18,7 +18,7 @@ module _ {V : Type 0} where
   -- a node's keys have its prefix
   prefix-before : (p : List ℕ) (v : Option V) (w : ℕ) (cs : Children V) → IsCanonical (node p v w cs)
       → longest_key (pairs_of (node p v w cs)) ≡ length p + longest_key (own_pair v ++ children_pairs cs)
-  prefix-before p v w cs c = longest_key-behind p (own_pair v ++ children_pairs cs)
+  prefix-before p v w cs c = longest_key-after p (own_pair v ++ children_pairs cs)
       (omega (arith, some-pairs (node p v w cs) c, length-with_prefix p (own_pair v ++ children_pairs cs)))
 
   prefix-short : (t : Trie V) → IsCanonical t → length (prefix_of t) ≤ longest_key (pairs_of t)

@@ -5,7 +5,7 @@ use Rattle.rart_keys.specs.ByteStrings.{strip_prefix}
 use Rattle.rart_keys.proofs.ByteOrder.{eq-no}
 use Rattle.rart_nodes.specs.edits.Deletion.{is_end, is_leaf_at}
 use Rattle.rart_nodes.specs.tries.Trie.{Trie, node, Children, no_children, child, edges_of, value_of, children_in}
-use Rattle.rart_nodes.specs.tries.Trie.{IsCanonical, answer_behind, trie_lookup, child_lookup, removed_behind}
+use Rattle.rart_nodes.specs.tries.Trie.{IsCanonical, answer_after, trie_lookup, child_lookup, removed_after}
 use Rattle.rart_nodes.specs.tries.Trie.{trie_remove, remove_child}
 use Rattle.rart_nodes.specs.tries.TrieCode.{as_children}
 
@@ -32,7 +32,7 @@ module _ {V : Type 0} where
 
   -- it goes, and its value is the answer
   gone : (o : Option (List ℕ)) (p : List ℕ) (v : Option V) (f : ℕ → List ℕ → Children V) → is_end o ≡ true
-      → None ≡ removed_behind o p v no_children f
+      → None ≡ removed_after o p v no_children f
   gone None p v f h = absurd (cc)
   gone (Some []) p v f h = refl
   gone (Some (b ∷ k)) p v f h = absurd (cc)
@@ -45,14 +45,14 @@ module _ {V : Type 0} where
   leaf-edges k (node p v w no_children) h = refl
   leaf-edges k (node p v w (child b t cs)) h = absurd (cc)
 
-  value-behind : (o : Option (List ℕ)) (v : Option V) (f : ℕ → List ℕ → Option V) → is_end o ≡ true
-      → answer_behind o v f ≡ v
-  value-behind None v f h = absurd (cc)
-  value-behind (Some []) v f h = refl
-  value-behind (Some (b ∷ k)) v f h = absurd (cc)
+  value-after : (o : Option (List ℕ)) (v : Option V) (f : ℕ → List ℕ → Option V) → is_end o ≡ true
+      → answer_after o v f ≡ v
+  value-after None v f h = absurd (cc)
+  value-after (Some []) v f h = refl
+  value-after (Some (b ∷ k)) v f h = absurd (cc)
 
   pub leaf-value : (k : List ℕ) (t : Trie V) → is_leaf_at k t ≡ true → trie_lookup k t ≡ value_of t
-  leaf-value k (node p v w no_children) h = value-behind (strip_prefix p k) v (λ b r. child_lookup b r no_children) h
+  leaf-value k (node p v w no_children) h = value-after (strip_prefix p k) v (λ b r. child_lookup b r no_children) h
   leaf-value k (node p v w (child b t cs)) h = absurd (cc)
 
   pub leaf-some : (k : List ℕ) (t : Trie V) → IsCanonical t → is_leaf_at k t ≡ true → value_of t ≢ None

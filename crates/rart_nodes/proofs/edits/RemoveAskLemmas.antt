@@ -11,7 +11,7 @@ use Rattle.rart_nodes.specs.tries.Trie.{record_of, descend, descend_child}
 use Rattle.rart_nodes.specs.edits.RemoveAsks.{asks_remove, shrinks, moves_down, is_leaf_record, last_before}
 use Rattle.rart_nodes.specs.edits.RemoveAsks.{remove_asks, trie_asks_remove}
 use Rattle.rart_nodes.proofs.tries.Descents.{Keeps, descends, descend-child_of}
-use Rattle.rart_nodes.proofs.shapes.RecordsAlong.{AreReadings, none-first, reads-apart, reads-behind, records_in}
+use Rattle.rart_nodes.proofs.shapes.RecordsAlong.{AreReadings, none-first, reads-apart, reads-after, records_in}
 use Rattle.rart_nodes.proofs.shapes.ShapeLemmas.{records, records-at}
 
 same_before : (f g : List ℕ → Option NodeRecord) (l : Option NodeRecord) (q : List ℕ) → ((p : List ℕ) → f p ≡ g p)
@@ -54,10 +54,10 @@ module _ {V : Type 0} where
     absent = λ q l e. refl;
     left = λ q p v n cs w s l e. sym (reads-apart (λ f q a. removes_by f l q ≡ a) (removes_read l) p q v n cs false s
         (λ f d. ap (λ o. is_leaf_record o && shrinks l) d) (λ q. refl));
-    ended = λ q p v n cs w s l e. sym (reads-behind (λ f q a. removes_by f l q ≡ a) (removes_read l) p q [] v n cs _ s
+    ended = λ q p v n cs w s l e. sym (reads-after (λ f q a. removes_by f l q ≡ a) (removes_read l) p q [] v n cs _ s
         (elim (length (edges_of cs) == 0) as (λ z. (z && shrinks l)
         ≡ unwrap_or (if z then None else Some false) (moves_down l)) [ true ↦ sym e | false ↦ refl ]));
-    on = λ q p v n cs b r a w s h l e. sym (reads-behind (λ f q a. removes_by f l q ≡ a) (removes_read l) p q (b ∷ r) v
+    on = λ q p v n cs b r a w s h l e. sym (reads-after (λ f q a. removes_by f l q ≡ a) (removes_read l) p q (b ∷ r) v
         n cs _ s
         (removes-below b r (Some (record_of (node p v n cs))) cs a (moves_is (length (edges_of cs)) n w.1) w.2 h));
   }

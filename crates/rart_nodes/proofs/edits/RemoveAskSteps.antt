@@ -9,7 +9,7 @@ use Rattle.rart_parts.specs.Entries.{child_at}
 use Rattle.rart_nodes.specs.edits.Deletion.{is_end, is_leaf_at}
 use Rattle.rart_nodes.specs.edits.RemoveAsks.{asks_remove, moves_down, trie_asks_remove}
 use Rattle.rart_nodes.specs.shapes.Shape.{capacity_of}
-use Rattle.rart_nodes.specs.tries.Trie.{Trie, node, no_children, child, behind, descend, edges_of, IsCanonical}
+use Rattle.rart_nodes.specs.tries.Trie.{Trie, node, no_children, child, by_rest, descend, edges_of, IsCanonical}
 use Rattle.rart_nodes.specs.tries.Trie.{record_of}
 use Rattle.rart_nodes.specs.tries.TrieCode.{as_children}
 use Rattle.rart_nodes.specs.storages.Widths.{previous_width}
@@ -43,11 +43,11 @@ module _ {V : Type 0} where
   -- at a child that goes
   leaf-asks : (k : List ℕ) (t : Trie V) → is_leaf_at k t ≡ true → descend asks_remove k t ≡ None
   leaf-asks k (node p v w no_children) h = elim (strip_prefix p k) as (λ o. is_end o ≡ true
-      → behind (Some false) None (λ a. Some (unwrap_or a (moves_down (Some (record_of (node p v w no_children)))))) o
+      → by_rest (Some false) None (λ a. Some (unwrap_or a (moves_down (Some (record_of (node p v w no_children)))))) o
       (λ b r. Some false) ≡ None) [
         | None ↦ λ h. absurd (cc)
         | Some r ↦ elim r as (λ r. is_end (Some r) ≡ true
-            → behind (Some false) None (λ a. Some (unwrap_or a
+            → by_rest (Some false) None (λ a. Some (unwrap_or a
             (moves_down (Some (record_of (node p v w no_children))))))
             (Some r) (λ b r. Some false) ≡ None) [ [] ↦ λ h. refl | b ∷ r ↦ λ h. absurd (cc) ]
       ] h

@@ -4,9 +4,9 @@ use Rattle.std.proofs.Common.{sym, ap, ◌∙◌, arith, Option, Some, None, nat
 use Rattle.std.specs.Ordering.{match_ordering}
 use Rattle.rart_keys.specs.ByteStrings.{bytes_eq, strip_prefix}
 use Rattle.rart_keys.specs.SortedMap.{without, lookup}
-use Rattle.rart_nodes.specs.tries.Trie.{Trie, node, Children, no_children, child, answer_behind, trie_lookup}
+use Rattle.rart_nodes.specs.tries.Trie.{Trie, node, Children, no_children, child, answer_after, trie_lookup}
 use Rattle.rart_nodes.specs.tries.Trie.{child_lookup, pairs_of, prefix_of, StartsWith, IsCanonical, AreCanonical}
-use Rattle.rart_nodes.specs.tries.Trie.{collapsed, removed_behind, child_if, trie_remove, remove_child}
+use Rattle.rart_nodes.specs.tries.Trie.{collapsed_node, removed_after, child_if, trie_remove, remove_child}
 use Rattle.rart_nodes.specs.tries.Tree.{tree_pairs, tree_lookup, IsCanonicalTree}
 use Rattle.rart_keys.proofs.ByteOrder.{order, is_less, is_equal, is_greater, eq-no, bytes_eq-equal}
 use Rattle.rart_keys.proofs.SortedMaps.{equal_by_lookups, ascending-without, lookup-without}
@@ -34,19 +34,19 @@ module _ {V : Type 0} where
       ∙ sym (trie_lookup-longer x y q (node p None n (child b (node r u m ds) no_children)))
 
   trie_lookup-collapsed : (p q : List ℕ) (v : Option V) (n low : ℕ) (cs : Children V) → AreCanonical low cs
-      → tree_lookup q (collapsed p v cs) ≡ trie_lookup q (node p v n cs)
+      → tree_lookup q (collapsed_node p v cs) ≡ trie_lookup q (node p v n cs)
   trie_lookup-collapsed p q None n low no_children w
-      = elim (strip_prefix p q) as (λ o. None ≡ answer_behind o None (λ b r. child_lookup {V = V} b r no_children)) [
+      = elim (strip_prefix p q) as (λ o. None ≡ answer_after o None (λ b r. child_lookup {V = V} b r no_children)) [
         | None ↦ refl
         | Some r ↦ elim r as (λ r. None
-            ≡ answer_behind (Some r) None (λ b r. child_lookup {V = V} b r no_children)) [ [] ↦ refl | c ∷ r ↦ refl ]
+            ≡ answer_after (Some r) None (λ b r. child_lookup {V = V} b r no_children)) [ [] ↦ refl | c ∷ r ↦ refl ]
       ]
   trie_lookup-collapsed p q None n low (child b (node r u m ds) no_children) w = trie_lookup-merged p q b n r u m ds w.1
   trie_lookup-collapsed p q None n low (child b t (child c u cs)) w = refl
   trie_lookup-collapsed p q (Some v) n low cs w = refl
 
   canonical-collapsed : (p : List ℕ) (v : Option V) (cs : Children V) → AreCanonical 0 cs
-      → IsCanonicalTree (collapsed p v cs)
+      → IsCanonicalTree (collapsed_node p v cs)
   canonical-collapsed p None no_children w = tt
   canonical-collapsed p None (child b (node r u m ds) no_children) w = w.2
   canonical-collapsed p None (child b t (child c u cs)) w = (inr tt, refl, w)
@@ -57,7 +57,7 @@ module _ {V : Type 0} where
   IsFirstIn c (Some t) = StartsWith c (prefix_of t)
 
   first-collapsed : (c : ℕ) (p : List ℕ) (v : Option V) (cs : Children V) → StartsWith c p
-      → IsFirstIn c (collapsed p v cs)
+      → IsFirstIn c (collapsed_node p v cs)
   first-collapsed c p None no_children f = tt
   first-collapsed c p None (child b (node r u m ds) no_children) f = first-append c p r f
   first-collapsed c p None (child b t (child d u cs)) f = f
@@ -65,9 +65,9 @@ module _ {V : Type 0} where
 
   first-removed : (c : ℕ) (k : List ℕ) (t : Trie V) → StartsWith c (prefix_of t) → IsFirstIn c (trie_remove k t)
   first-removed c k (node p v n cs) f = elim (strip_prefix p k)
-      as (λ o. IsFirstIn c (removed_behind o p v cs (λ b r. remove_child b r cs))) [
+      as (λ o. IsFirstIn c (removed_after o p v cs (λ b r. remove_child b r cs))) [
         | None ↦ first-collapsed c p v cs f
-        | Some r ↦ elim r as (λ r. IsFirstIn c (removed_behind (Some r) p v cs (λ b r. remove_child b r cs)))
+        | Some r ↦ elim r as (λ r. IsFirstIn c (removed_after (Some r) p v cs (λ b r. remove_child b r cs)))
             [ [] ↦ first-collapsed c p None cs f | b ∷ r ↦ first-collapsed c p v (remove_child b (b ∷ r) cs) f ]
       ]
 
@@ -79,9 +79,9 @@ module _ {V : Type 0} where
   mutual
     pub canonical-removed : (k : List ℕ) (t : Trie V) → IsCanonical t → IsCanonicalTree (trie_remove k t)
     canonical-removed k (node p v n cs) w = elim (strip_prefix p k)
-        as (λ o. IsCanonicalTree (removed_behind o p v cs (λ b r. remove_child b r cs))) [
+        as (λ o. IsCanonicalTree (removed_after o p v cs (λ b r. remove_child b r cs))) [
           | None ↦ canonical-collapsed p v cs w.2
-          | Some r ↦ elim r as (λ r. IsCanonicalTree (removed_behind (Some r) p v cs (λ b r. remove_child b r cs))) [
+          | Some r ↦ elim r as (λ r. IsCanonicalTree (removed_after (Some r) p v cs (λ b r. remove_child b r cs))) [
             | [] ↦ canonical-collapsed p None cs w.2
             | b ∷ r ↦ canonical-collapsed p v (remove_child b (b ∷ r) cs) (canonical-removed_child 0 b r cs w.2)
           ]
@@ -109,34 +109,34 @@ module _ {V : Type 0} where
         → tree_lookup q (trie_remove k t) ≡ (if bytes_eq k q then None else trie_lookup q t)
     trie_lookup-removed k q (node p v n cs) w
         = elim (strip_prefix p k) as (λ o. strip_prefix p k ≡ o
-        → tree_lookup q (removed_behind o p v cs (λ b r. remove_child b r cs))
+        → tree_lookup q (removed_after o p v cs (λ b r. remove_child b r cs))
         ≡ (if bytes_eq k q then None else trie_lookup q (node p v n cs))) [
           | None ↦ λ s. trie_lookup-collapsed p q v n 0 cs w.2
               ∙ elim (bytes_eq k q) as (λ b. bytes_eq k q ≡ b
               → trie_lookup q (node p v n cs) ≡ (if b then None else trie_lookup q (node p v n cs)))
               [ true ↦ λ m. rw (← bytes_eq-equal k q m, s) refl | false ↦ λ m. refl ] refl
           | Some r ↦ λ s. rw (← strip_prefix-is p k r s, bytes_eq-with_prefix p q r)
-              (elim r as (λ r. tree_lookup q (removed_behind (Some r) p v cs (λ b r. remove_child b r cs))
+              (elim r as (λ r. tree_lookup q (removed_after (Some r) p v cs (λ b r. remove_child b r cs))
               ≡ (if bytes_eq_within r (strip_prefix p q) then None else trie_lookup q (node p v n cs))) [
                 | [] ↦ trie_lookup-collapsed p q None n 0 cs w.2
-                    ∙ elim (strip_prefix p q) as (λ o. answer_behind o None (λ b r. child_lookup b r cs)
-                    ≡ (if bytes_eq_within [] o then None else answer_behind o v (λ b r. child_lookup b r cs))) [
+                    ∙ elim (strip_prefix p q) as (λ o. answer_after o None (λ b r. child_lookup b r cs)
+                    ≡ (if bytes_eq_within [] o then None else answer_after o v (λ b r. child_lookup b r cs))) [
                       | None ↦ refl
-                      | Some s ↦ elim s as (λ s. answer_behind (Some s) None (λ b r. child_lookup b r cs)
-                          ≡ (if bytes_eq [] s then None else answer_behind (Some s) v (λ b r. child_lookup b r cs))) [
+                      | Some s ↦ elim s as (λ s. answer_after (Some s) None (λ b r. child_lookup b r cs)
+                          ≡ (if bytes_eq [] s then None else answer_after (Some s) v (λ b r. child_lookup b r cs))) [
                             | [] ↦ refl
                             | c ∷ s ↦ refl
                           ]
                     ]
                 | b ∷ r ↦ trie_lookup-collapsed p q v n 0 (remove_child b (b ∷ r) cs)
                     (canonical-removed_child 0 b r cs w.2)
-                    ∙ elim (strip_prefix p q) as (λ o. answer_behind o v
+                    ∙ elim (strip_prefix p q) as (λ o. answer_after o v
                     (λ c s. child_lookup c s (remove_child b (b ∷ r) cs))
-                    ≡ (if bytes_eq_within (b ∷ r) o then None else answer_behind o v (λ b r. child_lookup b r cs))) [
+                    ≡ (if bytes_eq_within (b ∷ r) o then None else answer_after o v (λ b r. child_lookup b r cs))) [
                       | None ↦ refl
-                      | Some s ↦ elim s as (λ s. answer_behind (Some s) v
+                      | Some s ↦ elim s as (λ s. answer_after (Some s) v
                           (λ c s. child_lookup c s (remove_child b (b ∷ r) cs))
-                          ≡ (if bytes_eq (b ∷ r) s then None else answer_behind (Some s) v
+                          ≡ (if bytes_eq (b ∷ r) s then None else answer_after (Some s) v
                           (λ b r. child_lookup b r cs)))
                           [ [] ↦ refl | c ∷ s ↦ trie_lookup-removed_child b c r s 0 cs w.2 ]
                     ]

@@ -7,42 +7,44 @@ use Rattle.rart_keys.specs.ByteStrings.{strip_prefix}
 use Rattle.rart_keys.proofs.ByteOrder.{is_equal, is_greater, eq-yes, eq-no}
 use Rattle.rart_parts.specs.Entries.{child_at, replaced}
 use Rattle.rart_parts.specs.Entries as entries
-use Rattle.rart_nodes.specs.edits.Deletion.{is_lone, joined_child, joined_if_lone, left_behind, without_child, is_end}
+use Rattle.rart_nodes.specs.edits.Deletion.{is_lone, joined_child, joined_if_lone, remaining_node, without_child}
+use Rattle.rart_nodes.specs.edits.Deletion.{is_end}
 use Rattle.rart_nodes.specs.edits.Deletion.{is_leaf_at}
 use Rattle.rart_nodes.specs.shapes.Shape.{capacity_of}
-use Rattle.rart_nodes.specs.tries.Trie.{Trie, node, Children, child, edges_of, IsCanonical, AreCanonical, collapsed}
-use Rattle.rart_nodes.specs.tries.Trie.{removed_behind, child_if, trie_remove, remove_child}
+use Rattle.rart_nodes.specs.tries.Trie.{Trie, node, Children, child, edges_of, IsCanonical, AreCanonical}
+use Rattle.rart_nodes.specs.tries.Trie.{collapsed_node}
+use Rattle.rart_nodes.specs.tries.Trie.{removed_after, child_if, trie_remove, remove_child}
 use Rattle.rart_nodes.specs.tries.TrieCode.{as_children}
-use Rattle.rart_nodes.specs.storages.Widths.{narrowed}
-use Rattle.rart_nodes.proofs.storages.ChildLemmas.{edges_of-length, replaced-length, found, at_first, behind_first}
+use Rattle.rart_nodes.specs.storages.Widths.{narrowed_width}
+use Rattle.rart_nodes.proofs.storages.ChildLemmas.{edges_of-length, replaced-length, found, at_first, after_first}
 use Rattle.rart_nodes.proofs.storages.DeletionLemmas.{length-without_byte}
 use Rattle.rart_nodes.proofs.edits.JoinLemmas.{without-some}
 
 -- one child fewer keeps the width that the number of children fixes
-narrowed-capacity : (n : ℕ) → narrowed n (capacity_of (n + 1)) ≡ capacity_of n
+narrowed-capacity : (n : ℕ) → narrowed_width n (capacity_of (n + 1)) ≡ capacity_of n
 narrowed-capacity n = grind (arith, nat_tests)
 
 module _ {V : Type 0} where
   -- what a removal does at a node, where the key ends or goes on
   removed-ended : (r p : List ℕ) (v : Option V) (cs : Children V) (f : ℕ → List ℕ → Children V) → None ≡ slice_get r 0
-      → removed_behind (Some r) p v cs f ≡ collapsed p None cs
+      → removed_after (Some r) p v cs f ≡ collapsed_node p None cs
   removed-ended [] p v cs f h = refl
   removed-ended (b ∷ r) p v cs f h = absurd (cc)
 
   removed-followed : (r p : List ℕ) (b : ℕ) (v : Option V) (cs : Children V) (f : ℕ → List ℕ → Children V)
-      → Some b ≡ slice_get r 0 → removed_behind (Some r) p v cs f ≡ collapsed p v (f b r)
+      → Some b ≡ slice_get r 0 → removed_after (Some r) p v cs f ≡ collapsed_node p v (f b r)
   removed-followed [] p b v cs f h = absurd (cc)
   removed-followed (c ∷ r) p b v cs f h = let same : b ≡ c = cc in rw same refl
 
   trie_remove-followed : (p k r : List ℕ) (b : ℕ) (v : Option V) (w : ℕ) (cs : Children V) → Some r ≡ strip_prefix p k
-      → Some b ≡ slice_get r 0 → trie_remove k (node p v w cs) ≡ collapsed p v (remove_child b r cs)
-  trie_remove-followed p k r b v w cs e h = ap (λ o. removed_behind o p v cs (λ b r. remove_child b r cs)) (sym e)
+      → Some b ≡ slice_get r 0 → trie_remove k (node p v w cs) ≡ collapsed_node p v (remove_child b r cs)
+  trie_remove-followed p k r b v w cs e h = ap (λ o. removed_after o p v cs (λ b r. remove_child b r cs)) (sym e)
       ∙ removed-followed r p b v cs (λ b r. remove_child b r cs) h
 
   -- the key ends at an inner node
   collapsed-joined : (p : List ℕ) (v : Option V) (w : ℕ) (es : List (ℕ × Trie V))
       → IsCanonical (node p v w (as_children es)) → 0 < length es
-      → Some (joined_if_lone (node p None w (as_children es))) ≡ collapsed p None (as_children es)
+      → Some (joined_if_lone (node p None w (as_children es))) ≡ collapsed_node p None (as_children es)
   collapsed-joined p v w [] c l = absurd (omega arith)
   collapsed-joined p v w ((b, node q u m ds) ∷ []) c l = refl
   collapsed-joined p v w (e ∷ f ∷ es) c l = ap (λ z. Some (node p None z (as_children (e ∷ f ∷ es)))) c.1
@@ -58,7 +60,7 @@ module _ {V : Type 0} where
       → is_leaf_at k (node p v w (as_children es)) ≡ false
       → Some (joined_if_lone (node p None w (as_children es))) ≡ trie_remove k (node p v w (as_children es))
   value-removed p k r v w es c e h s = collapsed-joined p v w es c (inner-children p k r v w es e h s)
-      ∙ sym (ap (λ o. removed_behind o p v (as_children es) (λ b r. remove_child b r (as_children es))) (sym e)
+      ∙ sym (ap (λ o. removed_after o p v (as_children es) (λ b r. remove_child b r (as_children es))) (sym e)
       ∙ removed-ended r p v (as_children es) (λ b r. remove_child b r (as_children es)) h)
 
   -- removal below a child
@@ -69,7 +71,7 @@ module _ {V : Type 0} where
   remove_child-kept b low k t t' (e ∷ es) w s r = elim (found b low t e es w s) [
     | at_first h q ↦ rw (is_equal b e.0 h, eq-yes e.0 b (sym h), h)
         (ap (λ o. child_if e.0 o (as_children es)) (ap (trie_remove k) (sym q) ∙ sym r))
-    | behind_first h q ↦ rw (is_greater b e.0 h, eq-no e.0 b (λ z. omega arith))
+    | after_first h q ↦ rw (is_greater b e.0 h, eq-no e.0 b (λ z. omega arith))
         (ap (child e.0 e.1) (remove_child-kept b (suc e.0) k t t' es w.3 q r))
   ]
 
@@ -80,13 +82,13 @@ module _ {V : Type 0} where
   remove_child-gone b low k t (e ∷ es) w s r = elim (found b low t e es w s) [
     | at_first h q ↦ rw (is_equal b e.0 h, eq-yes e.0 b (sym h))
         (ap (λ o. child_if e.0 o (as_children es)) (ap (trie_remove k) (sym q) ∙ sym r))
-    | behind_first h q ↦ rw (is_greater b e.0 h, eq-no e.0 b (λ z. omega arith))
+    | after_first h q ↦ rw (is_greater b e.0 h, eq-no e.0 b (λ z. omega arith))
         (ap (child e.0 e.1) (remove_child-gone b (suc e.0) k t es w.3 q r))
   ]
 
   collapsed-same : (p : List ℕ) (v : Option V) (w : ℕ) (es fs : List (ℕ × Trie V))
       → IsCanonical (node p v w (as_children es)) → length fs ≡ length es → Some (node p v w (as_children fs))
-      ≡ collapsed p v (as_children fs)
+      ≡ collapsed_node p v (as_children fs)
   collapsed-same p (Some v) w es fs c l = ap (λ z. Some (node p (Some v) z (as_children fs))) (c.1
       ∙ ap capacity_of (edges_of-length es ∙ sym l ∙ sym (edges_of-length fs)))
   collapsed-same p None w [] fs c l = absurd (⊎_elim (λ h. cc) (λ h. h) c.0)
@@ -104,14 +106,14 @@ module _ {V : Type 0} where
   removed-below p k rest v w w' b t t' es es' c e h at r ew ee =
       ap (λ z. Some (node p v z (as_children es'))) ew
       ∙ collapsed-same p v w es es' c (ap length ee ∙ replaced-length b t' es)
-      ∙ ap (collapsed p v) (ap as_children ee ∙ sym (remove_child-kept b 0 rest t t' es c.2 at r))
+      ∙ ap (collapsed_node p v) (ap as_children ee ∙ sym (remove_child-kept b 0 rest t t' es c.2 at r))
       ∙ sym (trie_remove-followed p k rest b v w (as_children es) e h)
 
   -- removal of a leaf
   width-less : (p : List ℕ) (v : Option V) (w : ℕ) (es fs : List (ℕ × Trie V))
       → IsCanonical (node p v w (as_children es)) → length fs + 1 ≡ length es
-      → narrowed (length (edges_of (as_children fs))) w ≡ capacity_of (length (edges_of (as_children fs)))
-  width-less p v w es fs c l = ap (narrowed (length (edges_of (as_children fs)))) (c.1
+      → narrowed_width (length (edges_of (as_children fs))) w ≡ capacity_of (length (edges_of (as_children fs)))
+  width-less p v w es fs c l = ap (narrowed_width (length (edges_of (as_children fs)))) (c.1
       ∙ ap capacity_of (edges_of-length es ∙ sym l ∙ ap (λ n. n + 1) (sym (edges_of-length fs))))
       ∙ narrowed-capacity (length (edges_of (as_children fs)))
 
@@ -129,9 +131,9 @@ module _ {V : Type 0} where
 
   collapsed-less : (p : List ℕ) (v : Option V) (w : ℕ) (es fs : List (ℕ × Trie V))
       → IsCanonical (node p v w (as_children es)) → length fs + 1 ≡ length es
-      → Some (left_behind p v w (as_children fs)) ≡ collapsed p v (as_children fs)
+      → Some (remaining_node p v w (as_children fs)) ≡ collapsed_node p v (as_children fs)
   collapsed-less p (Some v) w es fs c l = ap Some
-      (no_join (w == 4) p v fs (narrowed (length (edges_of (as_children fs))) w))
+      (no_join (w == 4) p v fs (narrowed_width (length (edges_of (as_children fs))) w))
       ∙ ap (λ z. Some (node p (Some v) z (as_children fs))) (width-less p (Some v) w es fs c l)
   collapsed-less p None w [] fs c l = absurd (omega (arith, l))
   collapsed-less p None w (e ∷ []) fs c l = absurd (⊎_elim (λ h. cc) (λ h. h) c.0)
@@ -140,7 +142,7 @@ module _ {V : Type 0} where
       let four : w ≡ 4 = c.1 ∙ ap capacity_of (edges_of-length (e ∷ f ∷ es) ∙ sym l) in
       rw four refl
   collapsed-less p None w (e ∷ f ∷ es) (g ∷ h ∷ fs) c l
-      = ap Some (many_stay (w == 4) p g h fs (narrowed (length (edges_of (as_children (g ∷ h ∷ fs)))) w))
+      = ap Some (many_stay (w == 4) p g h fs (narrowed_width (length (edges_of (as_children (g ∷ h ∷ fs)))) w))
       ∙ ap (λ z. Some (node p None z (as_children (g ∷ h ∷ fs)))) (width-less p None w (e ∷ f ∷ es) (g ∷ h ∷ fs) c l)
 
   pub removed-leaf : (p k rest : List ℕ) (v : Option V) (w b : ℕ) (t : Trie V) (es : List (ℕ × Trie V))
@@ -151,7 +153,7 @@ module _ {V : Type 0} where
       let there : child_at b es ≢ None = λ z. let h : Some t ≡ None = at ∙ z in absurd (cc) in
       ap Some (without-some p v w b es there)
       ∙ collapsed-less p v w es (entries.without_byte b es) c (length-without_byte b es there)
-      ∙ ap (collapsed p v) (sym (remove_child-gone b 0 rest t es c.2 at r))
+      ∙ ap (collapsed_node p v) (sym (remove_child-gone b 0 rest t es c.2 at r))
       ∙ sym (trie_remove-followed p k rest b v w (as_children es) e h)
 
   -- a node with other storage of the same content

@@ -3,7 +3,7 @@ use Rattle.std.proofs.Common.{◌≡◌, ℕ, ◌+◌, ◌<◌, ◌≤◌, ◌==
 use Rattle.std.proofs.Common.{length-append, drop, Some, None, refl, arith, sym, ap, subst, ◌∙◌}
 use Rattle.rart_keys.specs.SortedMap.{longest_key}
 use Rattle.rart_keys.proofs.ByteOrder.{eq-yes, eq-no}
-use Rattle.rart_nodes.specs.joins.Lockstep.{intersect_nodes, with_rest}
+use Rattle.rart_nodes.specs.joins.Intersections.{intersect_nodes, with_rest}
 use Rattle.rart_nodes.specs.tries.PrefixLaws.{length-with_prefix, prefix-none, prefix-twice}
 use Rattle.rart_nodes.specs.joins.SharedEdges.{more_visits}
 use Rattle.rart_nodes.specs.joins.SharedChildren.{shared_right, visits_all, IsAligned}
@@ -13,7 +13,7 @@ use Rattle.rart_nodes.specs.tries.Trie.{pairs_of, with_prefix, own_pair, StartsW
 use Rattle.rart_nodes.specs.tries.TrieCode.{child_count, node_count}
 use Rattle.rart_nodes.proofs.joins.IntersectSteps.{Turn, met, met_visits, turn-common, turn-apart, turn-left}
 use Rattle.rart_nodes.proofs.joins.IntersectSteps.{turn-right, turn-both, with_rest-whole}
-use Rattle.rart_nodes.proofs.tries.CanonicalTests.{IsCanonical-test, longest_key-append, longest_key-behind}
+use Rattle.rart_nodes.proofs.tries.CanonicalTests.{IsCanonical-test, longest_key-append, longest_key-after}
 use Rattle.rart_nodes.proofs.tries.NodeCounts.{some-pairs}
 use Rattle.rart_nodes.proofs.walks.SeenLemmas.{child-falls, longest-of}
 use Rattle.rart_nodes.proofs.tries.Descents.{child-first}
@@ -49,7 +49,7 @@ module _ {V : Type 0} where
 
   longest-rest : (l : List ℕ) (t : Trie V) → is_canonical t ≡ true → longest_key (pairs_of (with_rest l t))
       ≡ length l + longest_below t
-  longest-rest l (node p v n cs) c = longest_key-behind l (own_pair v ++ children_pairs cs)
+  longest-rest l (node p v n cs) c = longest_key-after l (own_pair v ++ children_pairs cs)
       (omega (
         arith,
         some-pairs (node p v n cs) (IsCanonical-test (node p v n cs) c),

@@ -12,7 +12,7 @@ use Rattle.rart_nodes.specs.tries.PrefixLaws.{values-append}
 use Rattle.rart_nodes.specs.joins.PairCalls.{CallsAtEach, CallsWithEach, CanCallAt, CanCallWith}
 use Rattle.rart_nodes.specs.joins.ViewCalls.{CanViewAt, ViewsAtEach}
 use Rattle.rart_nodes.specs.walks.Calls.{CallableAtEach}
-use Rattle.rart_nodes.specs.walks.Walk.{joined}
+use Rattle.rart_nodes.specs.walks.Walk.{joined_bytes}
 use Rattle.rart_nodes.specs.walks.PathParts.{lent_segments}
 use Rattle.rart_nodes.proofs.joins.VisitorLemmas.{given-whole}
 use Rattle.rart_nodes.proofs.walks.CallLemmas.{always-now, always-on, can-kept, folds-keep}
@@ -33,11 +33,11 @@ module _ {F X : Type 0} (r : F → List ℕ × X → F → Type 0) (q : F → Li
           (h.at before x after g e (given-whole r k.items f g before n i));
     }
 
-    pub can-views : (k : Vec (Bor (List ℕ))) → joined (lent_segments k.items) ≡ [] → CallableAtEach r q f es
+    pub can-views : (k : Vec (Bor (List ℕ))) → joined_bytes (lent_segments k.items) ≡ [] → CallableAtEach r q f es
         → CanGive (CanGiveViews q) (GivenViews r) (Segments k) f es
     can-views k n h = record {
       at = λ before x after g e i. subst (λ (z : List ℕ). q g (z ++ x.0, x.1)) (sym n)
-          (h.at before x after g e (given-whole r (joined (lent_segments k.items)) f g before n i));
+          (h.at before x after g e (given-whole r (joined_bytes (lent_segments k.items)) f g before n i));
     }
 
 -- a callback that may always be called

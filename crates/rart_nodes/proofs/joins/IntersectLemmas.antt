@@ -1,4 +1,4 @@
--- The walk through two tries in lockstep gives the join of their pairs.
+-- The intersection of two tries gives the join of their pairs.
 use Rattle.std.specs.Ordering.{nat_cmp, match_ordering}
 use Rattle.std.proofs.Common.{◌≡◌, ℕ, Less, Equal, Greater, ◌==◌, ⊎_elim, suc, true, false, List, [], ◌∷◌, refl, sym}
 use Rattle.std.proofs.Common.{◌∙◌, arith, Option, Some, None, if◌then◌else◌}
@@ -8,8 +8,8 @@ use Rattle.rart_nodes.specs.tries.Trie.{Trie, node, Children, no_children, child
 use Rattle.rart_nodes.specs.tries.Trie.{with_prefix, prefix_of, StartsWith, IsCanonical, AreCanonical}
 use Rattle.rart_keys.specs.Joins.{both, join}
 use Rattle.rart_keys.proofs.JoinsOfMaps.{both-none, join-ascends, lookup-join}
-use Rattle.rart_nodes.specs.joins.Lockstep.{intersect_each, intersect_in, intersect_down, intersect_nodes}
-use Rattle.rart_nodes.specs.joins.Lockstep.{intersect_child}
+use Rattle.rart_nodes.specs.joins.Intersections.{intersect_each, intersect_in, intersect_down, intersect_nodes}
+use Rattle.rart_nodes.specs.joins.Intersections.{intersect_child}
 use Rattle.rart_keys.proofs.ByteOrder.{order, is_less, is_equal, is_greater, eq-yes, eq-no, equal_or_not}
 use Rattle.rart_keys.proofs.SortedMaps.{equal_by_lookups}
 use Rattle.rart_nodes.proofs.tries.FirstBytes.{AllFirst, AllFrom, ascending-append, ascending-with_prefix}

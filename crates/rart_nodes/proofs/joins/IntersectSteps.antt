@@ -1,13 +1,14 @@
--- A walk through two tries in lockstep, step by step: after the bytes that two prefixes share, at their ends, and at
+-- A intersection of two tries, step by step: after the bytes that two prefixes share, at their ends, and at
 -- the children of two nodes.
 use Rattle.std.proofs.Common.{◌≡◌, ℕ, suc, ◌+◌, ⊎_elim, true, List, [], ◌∷◌, ◌++◌, Option, Some, None, refl, arith, sym}
 use Rattle.std.proofs.Common.{ap}
 use Rattle.rart_keys.specs.Joins.{both}
 use Rattle.rart_keys.proofs.ByteOrder.{order, is_less, is_equal, is_greater, eq-yes, eq-no}
-use Rattle.rart_nodes.specs.joins.Lockstep.{lockstep, intersect_each, intersect_down, intersect_nodes, intersect_child}
-use Rattle.rart_nodes.specs.joins.Lockstep.{with_rest}
+use Rattle.rart_nodes.specs.joins.Intersections.{intersect_prefixes, intersect_each, intersect_down, intersect_nodes}
+use Rattle.rart_nodes.specs.joins.Intersections.{intersect_child}
+use Rattle.rart_nodes.specs.joins.Intersections.{with_rest}
 use Rattle.rart_nodes.specs.tries.PrefixLaws.{prefix-none, prefix-twice}
-use Rattle.rart_nodes.specs.joins.SharedEdges.{count_lockstep, visits_each, visits_down, more_visits, visits_child}
+use Rattle.rart_nodes.specs.joins.SharedEdges.{count_prefixes, visits_each, visits_down, more_visits, visits_child}
 use Rattle.rart_nodes.specs.joins.SharedChildren.{shared_child_if, shared_right, intersect_all, visits_all}
 use Rattle.rart_nodes.specs.tries.CanonicalTest.{is_canonical}
 use Rattle.rart_nodes.specs.tries.Trie.{Trie, node, Children, no_children, child, prefix_of, value_of, children_in}
@@ -19,16 +20,16 @@ pub with_rest-whole : {V : Type 0} (p : List ℕ) (t : Trie V) → p ≡ prefix_
 with_rest-whole p (node q v n cs) e = ap (λ z. node z v n cs) e
 
 module _ {X : Type 0} where
-  lockstep-behind : (w p q : List ℕ) (a : List (List ℕ × X)) (f g : ℕ → List ℕ → List (List ℕ × X))
-      → lockstep (w ++ p) (w ++ q) a f g ≡ with_prefix w (lockstep p q a f g)
-  lockstep-behind [] p q a f g = rw (prefix-none (lockstep p q a f g)) refl
-  lockstep-behind (c ∷ w) p q a f g = rw (eq-yes c c refl, lockstep-behind w p q a f g)
-      (prefix-twice (c ∷ []) w (lockstep p q a f g))
+  prefixes-after : (w p q : List ℕ) (a : List (List ℕ × X)) (f g : ℕ → List ℕ → List (List ℕ × X))
+      → intersect_prefixes (w ++ p) (w ++ q) a f g ≡ with_prefix w (intersect_prefixes p q a f g)
+  prefixes-after [] p q a f g = rw (prefix-none (intersect_prefixes p q a f g)) refl
+  prefixes-after (c ∷ w) p q a f g = rw (eq-yes c c refl, prefixes-after w p q a f g)
+      (prefix-twice (c ∷ []) w (intersect_prefixes p q a f g))
 
-count-behind : (w p q : List ℕ) (a : ℕ) (f g : ℕ → List ℕ → ℕ) → count_lockstep (w ++ p) (w ++ q) a f g
-    ≡ count_lockstep p q a f g
-count-behind [] p q a f g = refl
-count-behind (c ∷ w) p q a f g = rw (eq-yes c c refl) (count-behind w p q a f g)
+count-after : (w p q : List ℕ) (a : ℕ) (f g : ℕ → List ℕ → ℕ) → count_prefixes (w ++ p) (w ++ q) a f g
+    ≡ count_prefixes p q a f g
+count-after [] p q a f g = refl
+count-after (c ∷ w) p q a f g = rw (eq-yes c c refl) (count-after w p q a f g)
 
 module _ {V W : Type 0} where
   -- the meeting of two trees, of which either may be empty
@@ -71,7 +72,7 @@ module _ {V W : Type 0} where
       → Turn (with_rest (w ++ l) t) (with_rest (w ++ r) u)
       (with_prefix w (intersect_nodes (with_rest l t) (with_rest r u))) (more_visits (with_rest l t) (with_rest r u))
   turn-common w l r (node p v n cs) (node q x m ds)
-      = record { given = lockstep-behind w l r _ _ _; visited = count-behind w l r _ _ _ }
+      = record { given = prefixes-after w l r _ _ _; visited = count-after w l r _ _ _ }
 
   pub turn-apart : (x y : ℕ) (l r : List ℕ) (t : Trie V) (u : Trie W) → (x ≡ y → ⊥)
       → Turn (with_rest (x ∷ l) t) (with_rest (y ∷ r) u) [] 0

@@ -1,4 +1,4 @@
--- The visits of a walk in lockstep: one more than its edges, and fewer than the nodes of both trees.
+-- The visits of an intersection: one more than its edges, and fewer than the nodes of both trees.
 use Rattle.std.specs.Ordering.{nat_cmp, match_ordering}
 use Rattle.std.proofs.Common.{◌≡◌, ℕ, ◌+◌, ◌≤◌, ◌==◌, ⊎_elim, suc, true, false, List, [], ◌∷◌, length, length-append}
 use Rattle.std.proofs.Common.{refl, sym, ap, ◌∙◌, arith, Option, if◌then◌else◌, Less, Equal, Greater}
@@ -6,7 +6,7 @@ use Rattle.std.proofs.lemmas.List.{length-map}
 use Rattle.rart_keys.specs.SortedMap.{keys_of}
 use Rattle.rart_nodes.specs.tries.Trie.{Trie, node, Children, no_children, child, pairs_of, children_pairs, with_prefix}
 use Rattle.rart_nodes.specs.tries.Trie.{nodes_of, children_with_records, IsCanonical, AreCanonical}
-use Rattle.rart_nodes.specs.joins.Lockstep.{intersect_each}
+use Rattle.rart_nodes.specs.joins.Intersections.{intersect_each}
 use Rattle.rart_nodes.specs.joins.SharedEdges.{shared_edges, visits_each, visits_in, visits_down, more_visits}
 use Rattle.rart_nodes.specs.joins.SharedEdges.{visits_child, intersect_visits}
 use Rattle.rart_keys.proofs.ByteOrder.{order, is_less, is_equal, is_greater}

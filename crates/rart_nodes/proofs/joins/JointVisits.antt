@@ -4,7 +4,7 @@ use Rattle.std.proofs.Common.{◌∙◌}
 use Rattle.rart_keys.specs.SortedMap.{keys_of}
 use Rattle.rart_keys.specs.Joins.{join}
 use Rattle.rart_keys.proofs.JoinsOfMaps.{join-nil}
-use Rattle.rart_nodes.specs.joins.Lockstep.{intersect_nodes}
+use Rattle.rart_nodes.specs.joins.Intersections.{intersect_nodes}
 use Rattle.rart_nodes.specs.joins.SharedEdges.{shared_edges, joint_visits, more_visits}
 use Rattle.rart_nodes.specs.tries.Tree.{tree_nodes, tree_pairs, IsCanonicalTree}
 use Rattle.rart_nodes.specs.tries.Trie.{Trie, pairs_of}

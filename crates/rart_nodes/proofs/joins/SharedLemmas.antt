@@ -1,4 +1,4 @@
--- The edges of a walk in lockstep are the shared edges of the keys.
+-- The edges of an intersection are the shared edges of the keys.
 use Rattle.std.proofs.Common.{◌≡◌, ℕ, ◌==◌, ◌||◌, ◌&&◌, Bool, ⊎_elim, suc, true, false, List, [], ◌∷◌, refl, sym, ap}
 use Rattle.std.proofs.Common.{◌∙◌, Option, Some, None, is_some, if◌then◌else◌}
 use Rattle.std.specs.List.{filter}
@@ -9,7 +9,7 @@ use Rattle.rart_keys.specs.SortedMap.{AreAbove, IsAscending, lookup, keys_of}
 use Rattle.rart_nodes.specs.shapes.Shape.{contains_key}
 use Rattle.rart_nodes.specs.tries.Trie.{Trie, node, Children, no_children, child, pairs_of, with_prefix, prefix_of}
 use Rattle.rart_nodes.specs.tries.Trie.{StartsWith, IsCanonical, AreCanonical}
-use Rattle.rart_nodes.specs.joins.Lockstep.{intersect_each}
+use Rattle.rart_nodes.specs.joins.Intersections.{intersect_each}
 use Rattle.rart_nodes.specs.joins.SharedEdges.{above, is_branch, is_shared, all_starts, set_map, as_map, shared_edges}
 use Rattle.rart_keys.proofs.ByteOrder.{order, is_less, is_equal, is_greater, equal_or_not, bytes_eq-equal}
 use Rattle.rart_keys.proofs.SortedMaps.{equal_by_lookups, lookup-first}

@@ -16,7 +16,7 @@ use Rattle.rart_keys.proofs.ByteOrder.{eq-yes, eq-no, equal_or_not, bytes_eq-equ
 use Rattle.rart_keys.proofs.SortedMaps.{ascending-put, lookup-put}
 use Rattle.rart_nodes.proofs.tries.Descents.{Keeps, by_byte, children-by, descends}
 use Rattle.rart_nodes.proofs.tries.NodeCounts.{few_nodes}
-use Rattle.rart_nodes.proofs.tries.PrefixedStrings.{begins-behind, begins-apart}
+use Rattle.rart_nodes.proofs.tries.PrefixedStrings.{begins-after, begins-apart}
 use Rattle.rart_nodes.proofs.joins.Reach.{reaching, reaches}
 
 -- sets
@@ -80,7 +80,7 @@ module _ {V : Type 0} where
   any-some : (q p r : List ℕ) (es : List (List ℕ × V)) → strip_prefix q p ≡ Some r
       → begins_any p (keys_of (with_prefix q es)) ≡ begins_any r (keys_of es)
   any-some q p r [] s = refl
-  any-some q p r (e ∷ es) s = ap (λ z. z || begins_any p (keys_of (with_prefix q es))) (begins-behind q p r e.0 s)
+  any-some q p r (e ∷ es) s = ap (λ z. z || begins_any p (keys_of (with_prefix q es))) (begins-after q p r e.0 s)
       ∙ ap (λ z. begins r e.0 || z) (any-some q p r es s)
 
   any-apart : (q p : List ℕ) (es : List (List ℕ × V)) → strip_prefix q p ≡ None → 0 < length es

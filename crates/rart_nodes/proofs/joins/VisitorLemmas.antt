@@ -1,12 +1,12 @@
--- What a walk in lockstep has given, where two nodes fork and at each pair of their children.
+-- What an intersection has given, where two nodes fork and at each pair of their children.
 use Rattle.std.proofs.Common.{◌≡◌, ℕ, ◌+◌, ◌<◌, ◌≤◌, min, List, [], ◌∷◌, ◌++◌, length, Option, Some, None, refl, arith}
 use Rattle.std.proofs.Common.{ap, subst, sym, ◌∙◌}
 use Rattle.std.proofs.lemmas.List.{append_assoc, length-map}
 use Rattle.std.specs.List.{FoldsTo}
 use Rattle.rart_keys.specs.Joins.{both}
 use Rattle.rart_keys.specs.SortedMap.{longest_key, values_of}
-use Rattle.rart_nodes.specs.joins.Lockstep.{intersect_nodes}
-use Rattle.rart_nodes.specs.joins.Visitors.{AreVisitors, CanBehind, CanGive, CountedOn, most_count}
+use Rattle.rart_nodes.specs.joins.Intersections.{intersect_nodes}
+use Rattle.rart_nodes.specs.joins.Visitors.{AreVisitors, CanDeeper, CanGive, CountedOn, most_count}
 use Rattle.rart_nodes.specs.tries.PrefixLaws.{prefix-append, prefix-none}
 use Rattle.rart_nodes.specs.joins.JoinPaths.{Kept, WayGrown, WayCut, way_mark}
 use Rattle.rart_nodes.specs.joins.SharedEdges.{more_visits}
@@ -80,7 +80,7 @@ module _ {V W : Type 0} where
     given-here : (s t : Kept) (f g : F) (es : List (List ℕ × (V × W))) → WayGrown s [] t → given t f es g
         → given s f es g
     given-here s t f g es h k = subst (λ (z : List (List ℕ × (V × W))). given s f z g) (prefix-none es)
-        (laws.gives_behind s t [] f g es h k)
+        (laws.gives_after s t [] f g es h k)
 
     pub given-next : (s t : Kept) (f g h : F) (ps : List (Trie V × Trie W)) (a : Trie V) (b : Trie W)
         (qs : List (Trie V × Trie W)) → ps ≡ (a, b) ∷ qs → WayGrown s [] t → given t f (intersect_nodes a b) g
@@ -94,7 +94,7 @@ module _ {V W : Type 0} where
         → given t f (own_pair (both (value_of a) (value_of b))) g
         → given t g (intersect_all (shared_right a (children_in b))) h → given s f (intersect_nodes x y) h
     given-aligned s t f g h x y p a b k w i j
-        = rw k.given (laws.gives_behind s t p f h _ w (laws.gives_more t f g h _ _ i j))
+        = rw k.given (laws.gives_after s t p f h _ w (laws.gives_more t f g h _ _ i j))
 
     pub same-room : (s t : Kept) (m n : ℕ) → WayGrown s [] t → room s m → n ≤ m → room t n
     same-room s t m n h k i = laws.has_room s t [] m n h k (omega arith)
@@ -118,20 +118,20 @@ module _ {V W : Type 0} where
             (ap (λ z. xs ++ z) e ∙ sym (append_assoc xs before (x ∷ after))) (laws.gives_more s f g j xs before r k);
       }
 
-      module _ (behind : CanBehind can) where
-        can-behind : (s t : Kept) (p : List ℕ) (f : F) (es : List (List ℕ × (V × W))) → WayGrown s p t
+      module _ (deeper : CanDeeper can) where
+        can-after : (s t : Kept) (p : List ℕ) (f : F) (es : List (List ℕ × (V × W))) → WayGrown s p t
             → CanGive can given s f (with_prefix p es) → CanGive can given t f es
-        can-behind s t p f es w h = record {
-          at = λ before x after g e k. behind s t p g x w
+        can-after s t p f es w h = record {
+          at = λ before x after g e k. deeper s t p g x w
               (h.at (with_prefix p before) (p ++ x.0, x.1) (with_prefix p after) g (ap (λ z. with_prefix p z) e
-              ∙ prefix-append p before (x ∷ after)) (laws.gives_behind s t p f g before w k));
+              ∙ prefix-append p before (x ∷ after)) (laws.gives_after s t p f g before w k));
         }
 
         pub can-aligned : (s t : Kept) (f : F) (x : Trie V) (y : Trie W) (p : List ℕ) (a : Trie V) (b : Trie W)
             → IsAligned x y p a b → WayGrown s p t → CanGive can given s f (intersect_nodes x y)
             → CanGive can given t f (own_pair (both (value_of a) (value_of b))
             ++ intersect_all (shared_right a (children_in b)))
-        can-aligned s t f x y p a b k w h = can-behind s t p f _ w
+        can-aligned s t f x y p a b k w h = can-after s t p f _ w
             (subst (λ (z : List (List ℕ × (V × W))). CanGive can given s f z) k.given h)
 
         -- the first two, and then the others
@@ -142,7 +142,7 @@ module _ {V W : Type 0} where
             let first : CanGive can given s f (intersect_nodes a b)
             = can-start s f (intersect_nodes a b) (intersect_all qs)
             (subst (λ (z : List (Trie V × Trie W)). CanGive can given s f (intersect_all z)) e h) in
-            can-behind s t [] f (intersect_nodes a b) w
+            can-after s t [] f (intersect_nodes a b) w
             (subst (λ (z : List (List ℕ × (V × W))). CanGive can given s f z)
             (sym (prefix-none (intersect_nodes a b))) first)
 

@@ -10,7 +10,7 @@ use Rattle.rart_keys.proofs.ByteOrder.{eq-yes}
 use Rattle.rart_nodes.specs.joins.JoinPaths.{Kept, WayGrown, WayCut, BytesGrown, BytesCut, SegmentsGrown, SegmentsCut}
 use Rattle.rart_nodes.specs.joins.JoinPaths.{way_mark}
 use Rattle.rart_nodes.specs.walks.SegmentLaws.{joined-append, full-append}
-use Rattle.rart_nodes.specs.walks.Walk.{joined}
+use Rattle.rart_nodes.specs.walks.Walk.{joined_bytes}
 use Rattle.rart_nodes.specs.walks.PathParts.{lent_segments}
 use Rattle.rart_nodes.specs.walks.ViewSegments.{all_have_bytes}
 
@@ -53,7 +53,7 @@ segments-on : (k l m : Vec (Bor (List ℕ))) (p q : List ℕ) → SegmentsGrown 
 segments-on k l m p q a b = record {
   more = a.more ++ b.more;
   segments = b.segments ∙ ap (λ z. z ++ b.more) a.segments ∙ append_assoc (lent_segments k.items) a.more b.more;
-  bytes = joined-append a.more b.more ∙ ap (λ z. z ++ joined b.more) a.bytes ∙ ap (λ z. p ++ z) b.bytes;
+  bytes = joined-append a.more b.more ∙ ap (λ z. z ++ joined_bytes b.more) a.bytes ∙ ap (λ z. p ++ z) b.bytes;
   full = full-append a.more b.more a.full b.full;
   place = omega (arith, a.place, b.place);
 }

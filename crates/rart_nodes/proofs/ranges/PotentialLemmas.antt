@@ -11,7 +11,7 @@ use Rattle.rart_nodes.specs.tries.Tree.{tree_pairs}
 use Rattle.rart_nodes.specs.tries.Trie.{Trie, node, Children, no_children, child, child_in, child_of, children_in}
 use Rattle.rart_nodes.specs.tries.Trie.{value_of, IsCanonical}
 use Rattle.rart_nodes.specs.walks.Walk.{Level}
-use Rattle.rart_nodes.specs.walks.WalkSteps.{DeepestLeft, DeepestStep, GoesOn}
+use Rattle.rart_nodes.specs.walks.WalkSteps.{DeepestLeft, DeepestStep, PushesLevel}
 use Rattle.rart_nodes.proofs.statistics.StatisticsLemmas.{height-keys}
 use Rattle.rart_nodes.proofs.tries.CanonicalTests.{IsCanonical-test}
 use Rattle.rart_nodes.proofs.walks.SeenLemmas.{pick}
@@ -74,7 +74,7 @@ module _ {V : Type 0} where
   low-child h b d n t cs ls w = (omega (arith, w.0, height-node t), (omega (arith, w.0), w.1))
 
   -- what is on the levels once a child was visited
-  went : (d n : ℕ) (t : Trie V) (st st1 st2 : List (Level V)) → (s : DeepestStep st t d st1) → GoesOn st1 t n st2 →
+  went : (d n : ℕ) (t : Trie V) (st st1 st2 : List (Level V)) → (s : DeepestStep st t d st1) → PushesLevel st1 t n st2 →
       (reverse st2 ≡ (children_in t, n) ∷ (s.others, d) ∷ reverse s.rest)
       ⊎ ((reverse st2 ≡ (s.others, d) ∷ reverse s.rest) × (children_in t ≡ no_children))
   went d n t st st1 st2 s o =
@@ -89,7 +89,7 @@ module _ {V : Type 0} where
 
   -- the node that was visited has no value
   pub potential-on : (n m m1 k d p : ℕ) (t : Trie V) (st st1 st2 : List (Level V)) → is_canonical t ≡ true
-      → None ≡ value_of t → DeepestStep st t d st1 → GoesOn st1 t p st2 → m1 ≡ m + 1
+      → None ≡ value_of t → DeepestStep st t d st1 → PushesLevel st1 t p st2 → m1 ≡ m + 1
       → m + k ≤ n + potential (reverse st) → m1 + k ≤ n + potential (reverse st2)
   potential-on n m m1 k d p t st st1 st2 w v s o i h = ⊎_elim
       (λ e. let f : potential (reverse st2) ≡ up_to_two (children_in t)
@@ -97,7 +97,7 @@ module _ {V : Type 0} where
       omega (arith, i, h, f, two-children t w v, potential-step d t st st1 s))
       (λ e. absurd (has-child t w v e.1)) (went d p t st st1 st2 s o)
 
-  pub low-on : (h d p : ℕ) (t : Trie V) (st st1 st2 : List (Level V)) → DeepestStep st t d st1 → GoesOn st1 t p st2
+  pub low-on : (h d p : ℕ) (t : Trie V) (st st1 st2 : List (Level V)) → DeepestStep st t d st1 → PushesLevel st1 t p st2
       → AreLow h (reverse st) → AreLow h (reverse st2)
   low-on h d p t st st1 st2 s o w =
       let q : AreLow h ((child s.edge t s.others, d) ∷ reverse s.rest)
@@ -107,7 +107,7 @@ module _ {V : Type 0} where
 
   -- it has one
   pub paid-given : (n m m1 d p : ℕ) (t : Trie V) (st0 st st1 st2 : List (Level V)) → DeepestStep st t d st1
-      → GoesOn st1 t p st2 → m1 ≡ m + 1 → m + potential (reverse st0) ≤ n + potential (reverse st)
+      → PushesLevel st1 t p st2 → m1 ≡ m + 1 → m + potential (reverse st0) ≤ n + potential (reverse st)
       → ((h : ℕ) → AreLow h (reverse st0) → AreLow h (reverse st)) → IsAmortized n m1 (reverse st0) (reverse st2)
   paid-given n m m1 d p t st0 st st1 st2 s o i h w =
       let u : potential (reverse st) ≡ 1 + amortized_visits ((s.others, d) ∷ reverse s.rest)

@@ -10,7 +10,7 @@ use Rattle.rart_nodes.specs.ranges.Starts.{entries_from, entries_to}
 use Rattle.rart_nodes.specs.tries.Tree.{tree_pairs, IsCanonicalTree}
 use Rattle.rart_nodes.specs.tries.Trie.{Trie}
 use Rattle.rart_nodes.specs.walks.Cut.{cut, cut_pairs}
-use Rattle.rart_nodes.specs.walks.Walk.{SegmentList, joined, tree_entries}
+use Rattle.rart_nodes.specs.walks.Walk.{SegmentList, joined_bytes, tree_entries}
 use Rattle.rart_nodes.specs.walks.PathParts.{one_segment}
 use Rattle.rart_nodes.specs.walks.ViewSegments.{AreViews}
 use Rattle.rart_nodes.proofs.ranges.StartLemmas.{from_bound-between}
@@ -74,13 +74,15 @@ module _ {V : Type 0} where
 
   -- the first stop is within the end, or past it
   pub stop-within : (b : Bound (List ℕ)) (k q : SegmentList) (v : V) (es fs : List (SegmentList × V)) → es ≡ (k, v) ∷ fs
-      → q ≡ k → is_to b (joined q) ≡ true → entries_to b es ≡ (k, v) ∷ entries_to b fs
-  stop-within b k q v es fs e i w = let w1 : is_to b (joined k) ≡ true = ap (λ z. is_to b (joined z)) (sym i) ∙ w in
+      → q ≡ k → is_to b (joined_bytes q) ≡ true → entries_to b es ≡ (k, v) ∷ entries_to b fs
+  stop-within b k q v es fs e i w = let w1 : is_to b (joined_bytes k) ≡ true = ap (λ z. is_to b (joined_bytes z))
+      (sym i) ∙ w in
       rw (e, w1) refl
 
   pub stop-past : (b : Bound (List ℕ)) (k q : SegmentList) (v : V) (es fs : List (SegmentList × V)) → es ≡ (k, v) ∷ fs
-      → q ≡ k → is_to b (joined q) ≡ false → entries_to b es ≡ []
-  stop-past b k q v es fs e i w = let w1 : is_to b (joined k) ≡ false = ap (λ z. is_to b (joined z)) (sym i) ∙ w in
+      → q ≡ k → is_to b (joined_bytes q) ≡ false → entries_to b es ≡ []
+  stop-past b k q v es fs e i w = let w1 : is_to b (joined_bytes k) ≡ false = ap (λ z. is_to b (joined_bytes z)) (sym i)
+      ∙ w in
       rw (e, w1) refl
 
   -- without a pair nothing is visited

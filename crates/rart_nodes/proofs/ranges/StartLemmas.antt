@@ -18,40 +18,41 @@ use Rattle.rart_nodes.specs.tries.Tree.{tree_pairs, IsCanonicalTree}
 use Rattle.rart_nodes.specs.tries.Trie.{Trie, node, Children, no_children, child, children_in, prefix_of, value_of}
 use Rattle.rart_nodes.specs.tries.Trie.{child_of, child_in, pairs_of, StartsWith, AreCanonical}
 use Rattle.rart_nodes.specs.walks.SegmentLaws.{joined-append}
-use Rattle.rart_nodes.specs.walks.Walk.{SegmentList, Grown, Joins, Level, joined, join_all, segments_after, value_at}
+use Rattle.rart_nodes.specs.walks.Walk.{SegmentList, Grown, Joins, Level, joined_bytes, join_all, segments_after}
+use Rattle.rart_nodes.specs.walks.Walk.{value_at}
 use Rattle.rart_nodes.specs.walks.Walk.{entries_of, children_entries, entries_below, tree_entries}
 use Rattle.rart_nodes.proofs.tries.CanonicalTests.{IsCanonical-test}
 use Rattle.rart_nodes.proofs.tries.FirstBytes.{AllFirst, AllFrom, from_first, pairs_of-first, children_pairs-from}
 use Rattle.rart_nodes.proofs.tries.PairLemmas.{tree_pairs-ascend}
 use Rattle.rart_nodes.proofs.tries.Descents.{child_of-low}
 use Rattle.rart_nodes.proofs.walks.EntryLemmas.{joined-entries, joined-children, joined-tree}
-use Rattle.rart_nodes.proofs.walks.WalkLemmas.{behind-append, behind-none, behind-twice, behind-own}
+use Rattle.rart_nodes.proofs.walks.WalkLemmas.{after-append, after-none, after-twice, after-own}
 
 module _ {V : Type 0} where
   -- stops whose keys begin with a lower byte, or with higher ones
   from_bound-before : (h : Bool) (b c : ℕ) (r : List ℕ) (es : List (SegmentList × V)) → AllFirst c (join_all es) → c < b
       → entries_from h (b ∷ r) es ≡ []
   from_bound-before h b c r [] f l = refl
-  from_bound-before h b c r (e ∷ es) f l = elim (joined e.0) as (λ k. AllFirst c ((k, e.1) ∷ join_all es)
+  from_bound-before h b c r (e ∷ es) f l = elim (joined_bytes e.0) as (λ k. AllFirst c ((k, e.1) ∷ join_all es)
       → (if is_from_bound h (b ∷ r) k then e ∷ entries_from h (b ∷ r) es else entries_from h (b ∷ r) es) ≡ []) [
         | [] ↦ λ f. absurd f.0
         | x ∷ k ↦ λ f. rw (is_less x b (omega (arith, f.0))) (from_bound-before h b c r es f.1 l)
       ] f
 
-  from_bound-behind : (h : Bool) (b low : ℕ) (r : List ℕ) (es : List (SegmentList × V)) → AllFrom low (join_all es)
+  from_bound-after : (h : Bool) (b low : ℕ) (r : List ℕ) (es : List (SegmentList × V)) → AllFrom low (join_all es)
       → b < low → entries_from h (b ∷ r) es ≡ es
-  from_bound-behind h b low r [] f l = refl
-  from_bound-behind h b low r (e ∷ es) f l
-      = elim (joined e.0) as (λ k. AllFrom low ((k, e.1) ∷ join_all es)
+  from_bound-after h b low r [] f l = refl
+  from_bound-after h b low r (e ∷ es) f l
+      = elim (joined_bytes e.0) as (λ k. AllFrom low ((k, e.1) ∷ join_all es)
       → (if is_from_bound h (b ∷ r) k then e ∷ entries_from h (b ∷ r) es else entries_from h (b ∷ r) es) ≡ e ∷ es) [
         | [] ↦ λ f. absurd f.0
-        | x ∷ k ↦ λ f. rw (is_greater x b (omega (arith, f.0))) (ap (λ z. e ∷ z) (from_bound-behind h b low r es f.1 l))
+        | x ∷ k ↦ λ f. rw (is_greater x b (omega (arith, f.0))) (ap (λ z. e ∷ z) (from_bound-after h b low r es f.1 l))
       ] f
 
   from_bound-longer : (h : Bool) (low : ℕ) (es : List (SegmentList × V)) → AllFrom low (join_all es)
       → entries_from h [] es ≡ es
   from_bound-longer h low [] f = refl
-  from_bound-longer h low (e ∷ es) f = elim (joined e.0) as (λ k. AllFrom low ((k, e.1) ∷ join_all es)
+  from_bound-longer h low (e ∷ es) f = elim (joined_bytes e.0) as (λ k. AllFrom low ((k, e.1) ∷ join_all es)
       → (if is_from_bound h [] k then e ∷ entries_from h [] es else entries_from h [] es) ≡ e ∷ es) [
         | [] ↦ λ f. absurd f.0
         | x ∷ k ↦ λ f. ap (λ z. e ∷ z) (from_bound-longer h low es f.1)
@@ -76,16 +77,16 @@ module _ {V : Type 0} where
 
   -- after segments that begin the start
   from_bound-past : (h : Bool) (k : SegmentList) (s r : List ℕ) (es : List (SegmentList × V))
-      → strip_prefix (joined k) s ≡ Some r → entries_from h s (segments_after k es)
+      → strip_prefix (joined_bytes k) s ≡ Some r → entries_from h s (segments_after k es)
       ≡ segments_after k (entries_from h r es)
   from_bound-past h k s r [] e = refl
   from_bound-past h k s r (x ∷ es) e = rw (
     joined-append k x.0,
-    cmp-past (joined k) s r (joined x.0) e,
+    cmp-past (joined_bytes k) s r (joined_bytes x.0) e,
     from_bound-past
         h k s r es e,
   )
-      (elim (is_from_bound h r (joined x.0)) as
+      (elim (is_from_bound h r (joined_bytes x.0)) as
       (λ z. (if z then (k ++ x.0, x.1) ∷ segments_after k (entries_from h r es)
       else segments_after k (entries_from h r es))
       ≡ segments_after k (if z then x ∷ entries_from h r es else entries_from h r es)) [
@@ -95,17 +96,17 @@ module _ {V : Type 0} where
 
   -- after segments that leave it
   from_bound-higher : (h : Bool) (k : SegmentList) (s : List ℕ) (es : List (SegmentList × V))
-      → strip_prefix (joined k) s ≡ None → slice_cmp nat_cmp (joined k) s ≡ Greater
+      → strip_prefix (joined_bytes k) s ≡ None → slice_cmp nat_cmp (joined_bytes k) s ≡ Greater
       → entries_from h s (segments_after k es) ≡ segments_after k es
   from_bound-higher h k s [] e g = refl
-  from_bound-higher h k s (x ∷ es) e g = rw (joined-append k x.0, cmp-apart (joined k) s (joined x.0) e, g)
+  from_bound-higher h k s (x ∷ es) e g = rw (joined-append k x.0, cmp-apart (joined_bytes k) s (joined_bytes x.0) e, g)
       (ap (λ z. (k ++ x.0, x.1) ∷ z) (from_bound-higher h k s es e g))
 
   from_bound-lower : (h : Bool) (k : SegmentList) (s : List ℕ) (es : List (SegmentList × V))
-      → strip_prefix (joined k) s ≡ None → slice_cmp nat_cmp (joined k) s ≡ Less
+      → strip_prefix (joined_bytes k) s ≡ None → slice_cmp nat_cmp (joined_bytes k) s ≡ Less
       → entries_from h s (segments_after k es) ≡ []
   from_bound-lower h k s [] e g = refl
-  from_bound-lower h k s (x ∷ es) e g = rw (joined-append k x.0, cmp-apart (joined k) s (joined x.0) e, g)
+  from_bound-lower h k s (x ∷ es) e g = rw (joined-append k x.0, cmp-apart (joined_bytes k) s (joined_bytes x.0) e, g)
       (from_bound-lower h k s es e g)
 
   -- children
@@ -114,9 +115,9 @@ module _ {V : Type 0} where
   above-all b low (child c t cs) l w = rw (lt-ltb b c (omega (arith, w.0)))
       (ap (λ z. child c t z) (above-all b (suc c) cs (omega (arith, w.0)) w.3))
 
-  all-behind : (g : Grown) (h : Bool) (b low : ℕ) (r : List ℕ) (cs : Children V) → Joins g → b < low
+  all-after : (g : Grown) (h : Bool) (b low : ℕ) (r : List ℕ) (cs : Children V) → Joins g → b < low
       → AreCanonical low cs → entries_from h (b ∷ r) (children_entries g cs) ≡ children_entries g cs
-  all-behind g h b low r cs j l w = from_bound-behind h b low r (children_entries g cs)
+  all-after g h b low r cs j l w = from_bound-after h b low r (children_entries g cs)
       (rw (joined-children g cs j) (children_pairs-from low cs w)) l
 
   first-from : (c : ℕ) (es : List (List ℕ × V)) → AllFirst c es → AllFrom c es
@@ -125,7 +126,7 @@ module _ {V : Type 0} where
 
   all-at : (g : Grown) (h : Bool) (b c : ℕ) (r : List ℕ) (t : Trie V) → Joins g → b < c → StartsWith c (prefix_of t)
       → entries_from h (b ∷ r) (entries_of g t) ≡ entries_of g t
-  all-at g h b c r t j l f = from_bound-behind h b c r (entries_of g t)
+  all-at g h b c r t j l f = from_bound-after h b c r (entries_of g t)
       (rw (joined-entries g t j) (first-from c (pairs_of t) (pairs_of-first c t f))) l
 
   none-at : (g : Grown) (h : Bool) (b c : ℕ) (r : List ℕ) (t : Trie V) → Joins g → c < b → StartsWith c (prefix_of t)
@@ -139,14 +140,15 @@ module _ {V : Type 0} where
       ++ children_entries g (children_above b cs)
   from_bound-children g h b low r no_children j w = refl
   from_bound-children g h b low r (child c t cs) j w
-      = rw (filter-append (λ e. is_from_bound h (b ∷ r) (joined e.0)) (entries_of g t) (children_entries g cs)) (⊎_elim
+      = rw (filter-append (λ e. is_from_bound h (b ∷ r) (joined_bytes e.0)) (entries_of g t) (children_entries g cs))
+      (⊎_elim
       (λ l. rw (
         eq-no c b (λ q. omega arith),
         lt-ltb b c l,
         child_of-low b (suc c) cs (omega arith) w.3,
         above-all b
             (suc c) cs (omega arith) w.3,
-        all-behind g h b (suc c) r cs j (omega arith) w.3,
+        all-after g h b (suc c) r cs j (omega arith) w.3,
       )
       (ap (λ z. z ++ children_entries g cs) (all-at g h b c r t j l w.1)))
       (⊎_elim
@@ -154,7 +156,7 @@ module _ {V : Type 0} where
         eq-yes c b (sym q),
         le-ltb b c (omega arith),
         above-all b (suc c) cs (omega arith) w.3,
-        all-behind g h b
+        all-after g h b
             (suc c) r cs j (omega arith) w.3,
       ) refl)
       (λ l. rw (eq-no c b (λ q. omega arith), le-ltb b c (omega arith), none-at g h b c r t j l w.1)
@@ -169,7 +171,7 @@ module _ {V : Type 0} where
   node-higher g h k s (node q v n cs) j e f =
       ap (segments_after k) (from_bound-higher h (g q) s (value_at [] v ++ children_entries g cs) (rw (j q) (sym e))
       (rw (j q) f))
-      ∙ behind-twice k (g q) (value_at [] v ++ children_entries g cs) ∙ behind-own (k ++ g q) v (children_entries g cs)
+      ∙ after-twice k (g q) (value_at [] v ++ children_entries g cs) ∙ after-own (k ++ g q) v (children_entries g cs)
 
   pub node-lower : (g : Grown) (h : Bool) (k : SegmentList) (s : List ℕ) (t : Trie V) → Joins g
       → None ≡ strip_prefix (prefix_of t) s → slice_cmp nat_cmp (prefix_of t) s ≡ Less
@@ -178,10 +180,10 @@ module _ {V : Type 0} where
       = ap (segments_after k) (from_bound-lower h (g q) s (value_at [] v ++ children_entries g cs) (rw (j q) (sym e))
       (rw (j q) f))
 
-  behind-if : (h : Bool) (k : SegmentList) (v : Option V) (es : List (SegmentList × V))
+  after-if : (h : Bool) (k : SegmentList) (v : Option V) (es : List (SegmentList × V))
       → segments_after k (value_if h [] v ++ es) ≡ value_if h k v ++ segments_after k es
-  behind-if true k v es = behind-own k v es
-  behind-if false k v es = refl
+  after-if true k v es = after-own k v es
+  after-if false k v es = refl
 
   -- a start that ends after its prefix
   pub node-ended : (g : Grown) (h : Bool) (k : SegmentList) (s r : List ℕ) (t : Trie V) → Joins g
@@ -195,8 +197,8 @@ module _ {V : Type 0} where
       ap (segments_after k) (from_bound-past h (g q) s [] (value_at [] v ++ children_entries g cs) (rw (j q) (sym e))
       ∙ ap (segments_after (g q)) (from_bound-own h v (children_entries g cs)
       ∙ ap (λ z. value_if h [] v ++ z) longer))
-      ∙ behind-twice k (g q) (value_if h [] v ++ children_entries g cs)
-      ∙ behind-if h (k ++ g q) v (children_entries g cs)
+      ∙ after-twice k (g q) (value_if h [] v ++ children_entries g cs)
+      ∙ after-if h (k ++ g q) v (children_entries g cs)
 
   -- a start that goes on by b
   pub node-on : (g : Grown) (h : Bool) (k : SegmentList) (s r : List ℕ) (b : ℕ) (t : Trie V) → Joins g
@@ -211,9 +213,9 @@ module _ {V : Type 0} where
       (rw (j q) (sym e))
       ∙ ap (segments_after (g q)) (from_bound-skip h x r v (children_entries g cs)
       ∙ from_bound-children g h x 0 r cs j (IsCanonical-test (node q v n cs) c).2))
-      ∙ behind-twice k (g q) (entries_from h (x ∷ r) (tree_entries g (child_of x cs))
+      ∙ after-twice k (g q) (entries_from h (x ∷ r) (tree_entries g (child_of x cs))
       ++ children_entries g (children_above x cs))
-      ∙ behind-append (k ++ g q) (entries_from h (x ∷ r) (tree_entries g (child_of x cs)))
+      ∙ after-append (k ++ g q) (entries_from h (x ∷ r) (tree_entries g (child_of x cs)))
       (children_entries g (children_above x cs)))
 
   -- what is ahead in all, where X at the node is V and Y, B is below the levels above it, and S below all levels
@@ -278,16 +280,16 @@ module _ {V : Type 0} where
   -- before anything was walked
   pub ahead-start : (g : Grown) (k : SegmentList) (st : List (Level V)) (es : List (SegmentList × V)) → k ≡ [] → st ≡ []
       → segments_after k es ++ entries_below g k (reverse st) ≡ es
-  ahead-start g k st es e f = rw (e, f) (append-nil (segments_after [] es) ∙ behind-none es)
+  ahead-start g k st es e f = rw (e, f) (append-nil (segments_after [] es) ∙ after-none es)
 
   -- whole keys
   pub joined-from_bound : (h : Bool) (s : List ℕ) (es : List (SegmentList × V))
       → join_all (entries_from h s es) ≡ pairs_from h s (join_all es)
   joined-from_bound h s [] = refl
-  joined-from_bound h s (e ∷ es) = elim (is_from_bound h s (joined e.0))
+  joined-from_bound h s (e ∷ es) = elim (is_from_bound h s (joined_bytes e.0))
       as (λ z. join_all (if z then e ∷ entries_from h s es else entries_from h s es)
-      ≡ (if z then (joined e.0, e.1) ∷ pairs_from h s (join_all es) else pairs_from h s (join_all es))) [
-        | true ↦ ap (λ z. (joined e.0, e.1) ∷ z) (joined-from_bound h s es)
+      ≡ (if z then (joined_bytes e.0, e.1) ∷ pairs_from h s (join_all es) else pairs_from h s (join_all es))) [
+        | true ↦ ap (λ z. (joined_bytes e.0, e.1) ∷ z) (joined-from_bound h s es)
         | false ↦ joined-from_bound h s es
       ]
 

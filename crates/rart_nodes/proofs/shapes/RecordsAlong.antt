@@ -6,7 +6,7 @@ use Rattle.rart_keys.specs.ByteStrings.{strip_prefix}
 use Rattle.rart_keys.proofs.ByteOrder.{eq-yes, eq-no, equal_or_not}
 use Rattle.rart_nodes.specs.shapes.Shape.{NodeRecord}
 use Rattle.rart_nodes.specs.tries.Trie.{Trie, node, Children, no_children, child, child_of, edges_of, AreCanonical}
-use Rattle.rart_nodes.specs.tries.Trie.{behind, descend_child, descend_tree, record_of, prefix_of, StartsWith}
+use Rattle.rart_nodes.specs.tries.Trie.{by_rest, descend_child, descend_tree, record_of, prefix_of, StartsWith}
 use Rattle.rart_nodes.proofs.shapes.ShapeLemmas.{records}
 use Rattle.rart_nodes.proofs.tries.Descents.{child-first}
 
@@ -24,7 +24,7 @@ module _ {V : Type 0} where
 
   records-longer : (x y : ℕ) (q p : List ℕ) (v : Option V) (n : ℕ) (cs : Children V)
       → records_in (Some (node (x ∷ p) v n cs)) (y ∷ q) ≡ (if x == y then records_in (Some (node p v n cs)) q else None)
-  records-longer x y q p v n cs = elim (x == y) as (λ z. behind None (Some (record_of (node p v n cs))) (λ r. r)
+  records-longer x y q p v n cs = elim (x == y) as (λ z. by_rest None (Some (record_of (node p v n cs))) (λ r. r)
       (if z then strip_prefix p q else None) (λ b r. descend_child records b r cs)
       ≡ (if z then records_in (Some (node p v n cs)) q else None)) [ true ↦ refl | false ↦ refl ]
 
@@ -51,12 +51,12 @@ module _ {V : Type 0} where
         ∙ ap (λ y. if y then records_in (Some (node p v n cs)) z else None) (eq-yes x b e))) h)
 
     -- the string goes on after the prefix
-    pub reads-behind : (p q r : List ℕ) (v : Option V) (n : ℕ) (cs : Children V) (a : A) → strip_prefix p q ≡ Some r
+    pub reads-after : (p q r : List ℕ) (v : Option V) (n : ℕ) (cs : Children V) (a : A) → strip_prefix p q ≡ Some r
         → Says (records_in (Some (node [] v n cs))) r a → Says (records_in (Some (node p v n cs))) q a
-    reads-behind [] q r v n cs a s h = let e : q ≡ r = cc in rw e h
-    reads-behind (x ∷ p) [] r v n cs a s h = cc
-    reads-behind (x ∷ p) (b ∷ q) r v n cs a s h = ⊎_elim
-        (λ e. let f = rw (eq-yes x b e) at s in longer-reads x b p q v n cs a e (reads-behind p q r v n cs a f h))
+    reads-after [] q r v n cs a s h = let e : q ≡ r = cc in rw e h
+    reads-after (x ∷ p) [] r v n cs a s h = cc
+    reads-after (x ∷ p) (b ∷ q) r v n cs a s h = ⊎_elim
+        (λ e. let f = rw (eq-yes x b e) at s in longer-reads x b p q v n cs a e (reads-after p q r v n cs a f h))
         (λ d. let f = rw (eq-no x b d) at s in cc) (equal_or_not x b)
 
     -- the string leaves the prefix

@@ -13,7 +13,7 @@ use Rattle.rart_nodes.specs.shapes.Shape.{with_first, without_repeats, next_byte
 use Rattle.rart_nodes.specs.shapes.Shape.{NodeRecord, record_from, record_at, HasShape}
 use Rattle.rart_nodes.specs.tries.Trie.{Trie, node, Children, no_children, child, trie_lookup, child_lookup, pairs_of}
 use Rattle.rart_nodes.specs.tries.Trie.{children_pairs, edges_of, own_pair, with_prefix, nodes_of, with_records}
-use Rattle.rart_nodes.specs.tries.Trie.{children_with_records, prefix_of, IsCanonical, AreCanonical, Descent, behind}
+use Rattle.rart_nodes.specs.tries.Trie.{children_with_records, prefix_of, IsCanonical, AreCanonical, Descent, by_rest}
 use Rattle.rart_nodes.specs.tries.Trie.{child_of, descend, descend_child, looks_up, record_of}
 use Rattle.rart_keys.proofs.ByteOrder.{eq-yes, eq-no, equal_or_not}
 use Rattle.rart_keys.proofs.SortedMaps.{equal_by_lookups}
@@ -173,13 +173,13 @@ records = record { left = λ k t. None; ended = λ t. Some (record_of t); absent
 mutual
   pub lookup-records : {V : Type 0} (k : List ℕ) (t : Trie V) → trie_lookup k (with_records t) ≡ descend records k t
   lookup-records k (node p v n cs) = elim (strip_prefix p k)
-      as (λ o. behind None (Some (record_of (node p v n cs))) (λ x. x) o
+      as (λ o. by_rest None (Some (record_of (node p v n cs))) (λ x. x) o
       (λ b r. child_lookup b r (children_with_records cs))
-      ≡ behind None (Some (record_of (node p v n cs))) (λ x. x) o (λ b r. descend_child records b r cs)) [
+      ≡ by_rest None (Some (record_of (node p v n cs))) (λ x. x) o (λ b r. descend_child records b r cs)) [
         | None ↦ refl
-        | Some r ↦ elim r as (λ r. behind None (Some (record_of (node p v n cs))) (λ x. x) (Some r)
+        | Some r ↦ elim r as (λ r. by_rest None (Some (record_of (node p v n cs))) (λ x. x) (Some r)
             (λ b r. child_lookup b r (children_with_records cs))
-            ≡ behind None (Some (record_of (node p v n cs))) (λ x. x) (Some r) (λ b r. descend_child records b r cs))
+            ≡ by_rest None (Some (record_of (node p v n cs))) (λ x. x) (Some r) (λ b r. descend_child records b r cs))
             [ [] ↦ refl | b ∷ r ↦ lookup-child_records b (b ∷ r) cs ]
       ]
 

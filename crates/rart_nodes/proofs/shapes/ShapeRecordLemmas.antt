@@ -46,10 +46,10 @@ pub contains-here : (ks : List (Bor (List ℕ))) (i : ℕ) (d : Bor (List ℕ)) 
     → true ≡ pointwise nat_eq (get_or ks i d).now p → contains_key (keys_in (drop i ks)) p ≡ true
 contains-here ks i d p h e = rw (drop-cons ks i d h, same_test (get_or ks i d).now p, ← e) refl
 
-pub contains-behind : (ks : List (Bor (List ℕ))) (i : ℕ) (d : Bor (List ℕ)) (p : List ℕ) → i < length ks
+pub contains-after : (ks : List (Bor (List ℕ))) (i : ℕ) (d : Bor (List ℕ)) (p : List ℕ) → i < length ks
     → false ≡ pointwise nat_eq (get_or ks i d).now p → contains_key (keys_in (drop (i + 1) ks)) p
     ≡ contains_key (keys_in (drop i ks)) p
-contains-behind ks i d p h e = rw (drop-cons ks i d h, same_test (get_or ks i d).now p, ← e, add-one) refl
+contains-after ks i d p h e = rw (drop-cons ks i d h, same_test (get_or ks i d).now p, ← e, add-one) refl
 
 -- the bytes by which keys go on, one key more
 abbrev with_last : ℕ → List ℕ → List ℕ
@@ -143,23 +143,23 @@ next-other ks i d p bs b o h a l n e = sym (last-other b bs (λ f. is-not_option
     ∙ ap (λ o. with_next o (next_bytes (keys_in (take i ks)) p)) a ∙ sym (next-key ks i d p h)
 
 -- a record put in at its place
-abbrev pub GoesBehind : ℕ → List ℕ → List ShapeRecord → Type 0
-GoesBehind zero p rs = Unit {0}
-GoesBehind (suc n) p [] = ⊥
-GoesBehind (suc n) p (r ∷ rs) = (slice_cmp nat_cmp p r.path.items ≡ Greater) × GoesBehind n p rs
+abbrev pub GoesAfter : ℕ → List ℕ → List ShapeRecord → Type 0
+GoesAfter zero p rs = Unit {0}
+GoesAfter (suc n) p [] = ⊥
+GoesAfter (suc n) p (r ∷ rs) = (slice_cmp nat_cmp p r.path.items ≡ Greater) × GoesAfter n p rs
 
-behind-next : (i : ℕ) (p : List ℕ) (rs : List ShapeRecord) (r : ShapeRecord) → i < length rs → r ≡ get_or rs i r
-    → slice_cmp nat_cmp p r.path.items ≡ Greater → GoesBehind i p rs → GoesBehind (suc i) p rs
-behind-next i p [] r h is c b = absurd (omega arith)
-behind-next zero p (q ∷ rs) r h is c b = (rw (← is) c, tt)
-behind-next (suc i) p (q ∷ rs) r h is c b = (b.0, behind-next i p rs r (omega arith) is c b.1)
+after-next : (i : ℕ) (p : List ℕ) (rs : List ShapeRecord) (r : ShapeRecord) → i < length rs → r ≡ get_or rs i r
+    → slice_cmp nat_cmp p r.path.items ≡ Greater → GoesAfter i p rs → GoesAfter (suc i) p rs
+after-next i p [] r h is c b = absurd (omega arith)
+after-next zero p (q ∷ rs) r h is c b = (rw (← is) c, tt)
+after-next (suc i) p (q ∷ rs) r h is c b = (b.0, after-next i p rs r (omega arith) is c b.1)
 
-pub behind-more : (i : ℕ) (p : List ℕ) (rs : List ShapeRecord) (r : ShapeRecord) → i < length rs → r ≡ get_or rs i r
-    → slice_cmp nat_cmp p r.path.items ≡ Greater → GoesBehind i p rs → GoesBehind (i + 1) p rs
-behind-more i p rs r h is c b = rw add-one (behind-next i p rs r h is c b)
+pub after-more : (i : ℕ) (p : List ℕ) (rs : List ShapeRecord) (r : ShapeRecord) → i < length rs → r ≡ get_or rs i r
+    → slice_cmp nat_cmp p r.path.items ≡ Greater → GoesAfter i p rs → GoesAfter (i + 1) p rs
+after-more i p rs r h is c b = rw add-one (after-next i p rs r h is c b)
 
 pub put-before : (i : ℕ) (a : ShapeRecord) (rs : List ShapeRecord) (r : ShapeRecord) → i < length rs → r ≡ get_or rs i r
-    → slice_cmp nat_cmp a.path.items r.path.items ≡ Less → GoesBehind i a.path.items rs →
+    → slice_cmp nat_cmp a.path.items r.path.items ≡ Less → GoesAfter i a.path.items rs →
     records_of (insert rs i a) ≡ put a.path.items (node_record a) (records_of rs)
 put-before i a [] r h is c b = absurd (omega arith)
 put-before zero a (q ∷ rs) r h is c b = rw (rw (is) at c) refl
@@ -167,18 +167,18 @@ put-before (suc i) a (q ∷ rs) r h is c b
     = rw b.0 (ap (λ z. (q.path.items, node_record q) ∷ z) (put-before i a rs r (omega arith) is c b.1))
 
 pub put-at : (i : ℕ) (a : ShapeRecord) (rs : List ShapeRecord) (r : ShapeRecord) → i < length rs → r ≡ get_or rs i r
-    → slice_cmp nat_cmp a.path.items r.path.items ≡ Equal → GoesBehind i a.path.items rs →
+    → slice_cmp nat_cmp a.path.items r.path.items ≡ Equal → GoesAfter i a.path.items rs →
     records_of (set rs i a) ≡ put a.path.items (node_record a) (records_of rs)
 put-at i a [] r h is c b = absurd (omega arith)
 put-at zero a (q ∷ rs) r h is c b = rw (rw (is) at c) refl
 put-at (suc i) a (q ∷ rs) r h is c b = rw b.0
     (ap (λ z. (q.path.items, node_record q) ∷ z) (put-at i a rs r (omega arith) is c b.1))
 
-put-last : (a : ShapeRecord) (rs : List ShapeRecord) → GoesBehind (length rs) a.path.items rs
+put-last : (a : ShapeRecord) (rs : List ShapeRecord) → GoesAfter (length rs) a.path.items rs
     → records_of (rs ++ a ∷ []) ≡ put a.path.items (node_record a) (records_of rs)
 put-last a [] b = refl
 put-last a (q ∷ rs) b = rw b.0 (ap (λ z. (q.path.items, node_record q) ∷ z) (put-last a rs b.1))
 
-pub put-end : (i : ℕ) (a : ShapeRecord) (rs : List ShapeRecord) → i ≡ length rs → GoesBehind i a.path.items rs
+pub put-end : (i : ℕ) (a : ShapeRecord) (rs : List ShapeRecord) → i ≡ length rs → GoesAfter i a.path.items rs
     → records_of (rs ++ a ∷ []) ≡ put a.path.items (node_record a) (records_of rs)
 put-end i a rs e b = put-last a rs (rw e at b)

@@ -39,7 +39,7 @@ module _ {V : Type 0} where
   -- how a byte stands to the first entry, where a child stands at it
   pub data Found (b : ℕ) (t : Trie V) (e : ℕ × Trie V) (es : List (ℕ × Trie V)) : Type 0 where
     at_first : b ≡ e.0 → t ≡ e.1 → Found b t e es
-    behind_first : e.0 < b → Some t ≡ child_at b es → Found b t e es
+    after_first : e.0 < b → Some t ≡ child_at b es → Found b t e es
 
   pub some-equal : (t u : Trie V) → Some t ≡ Some u → t ≡ u
   some-equal t u e = cc
@@ -49,14 +49,14 @@ module _ {V : Type 0} where
   found b low t e es w s = ⊎_elim
       (λ h. let n = child_at-low b e.0 (e ∷ es) h (omega arith, w.1, w.2, w.3) in absurd (cc (s, n)))
       (⊎_elim (λ h. at_first h (some-equal t e.1 (rw (eq-yes e.0 b (sym h)) at s)))
-      (λ h. behind_first h (rw (eq-no e.0 b (λ q. omega arith)) at s))) (order b e.0)
+      (λ h. after_first h (rw (eq-no e.0 b (λ q. omega arith)) at s))) (order b e.0)
 
   pub canonical-found : (b low : ℕ) (t : Trie V) (es : List (ℕ × Trie V)) → AreCanonical low (as_children es)
       → Some t ≡ child_at b es → IsCanonical t
   canonical-found b low t [] w s = absurd (cc)
   canonical-found b low t (e ∷ es) w s = elim (found b low t e es w s) [
     | at_first h q ↦ rw q w.2
-    | behind_first h q ↦ canonical-found b (suc e.0) t es w.3 q
+    | after_first h q ↦ canonical-found b (suc e.0) t es w.3 q
   ]
 
   pub count-found : (b low : ℕ) (t : Trie V) (es : List (ℕ × Trie V)) → AreCanonical low (as_children es)
@@ -64,7 +64,7 @@ module _ {V : Type 0} where
   count-found b low t [] w s = absurd (cc)
   count-found b low t (e ∷ es) w s = elim (found b low t e es w s) [
     | at_first h q ↦ rw q (omega arith)
-    | behind_first h q ↦ omega (arith, count-found b (suc e.0) t es w.3 q)
+    | after_first h q ↦ omega (arith, count-found b (suc e.0) t es w.3 q)
   ]
 
   pub put_child-found : (b low : ℕ) (k : List ℕ) (v : V) (t : Trie V) (es : List (ℕ × Trie V))
@@ -73,7 +73,7 @@ module _ {V : Type 0} where
   put_child-found b low k v t [] w s = absurd (cc)
   put_child-found b low k v t (e ∷ es) w s = elim (found b low t e es w s) [
     | at_first h q ↦ rw (is_equal b e.0 h, eq-yes e.0 b (sym h), q, h) refl
-    | behind_first h q ↦ rw (is_greater b e.0 h, eq-no e.0 b (λ z. omega arith))
+    | after_first h q ↦ rw (is_greater b e.0 h, eq-no e.0 b (λ z. omega arith))
         (ap (child e.0 e.1) (put_child-found b (suc e.0) k v t es w.3 q))
   ]
 

@@ -117,11 +117,11 @@ module _ {V : Type 0} where
   longest_key-append [] ys = omega arith
   longest_key-append (x ∷ xs) ys = omega (arith, longest_key-append xs ys)
 
-  pub longest_key-behind : (p : List ℕ) (es : List (List ℕ × V)) → 0 < length es
+  pub longest_key-after : (p : List ℕ) (es : List (List ℕ × V)) → 0 < length es
       → longest_key (with_prefix p es) ≡ length p + longest_key es
-  longest_key-behind p [] h = absurd (omega arith)
-  longest_key-behind p (e ∷ []) h = omega (arith, length-append p e.0)
-  longest_key-behind p (e ∷ d ∷ es) h = omega (arith, length-append p e.0, longest_key-behind p (d ∷ es) (omega arith))
+  longest_key-after p [] h = absurd (omega arith)
+  longest_key-after p (e ∷ []) h = omega (arith, length-append p e.0)
+  longest_key-after p (e ∷ d ∷ es) h = omega (arith, length-append p e.0, longest_key-after p (d ∷ es) (omega arith))
 
   pub longest_key-with_prefix : (p : List ℕ) (es : List (List ℕ × V)) → longest_key es ≤ longest_key (with_prefix p es)
   longest_key-with_prefix p [] = omega arith

@@ -11,7 +11,7 @@ use Rattle.rart_parts.specs.Entries.{child_at}
 use Rattle.rart_nodes.specs.tries.CanonicalTest.{is_canonical, starts_with_byte}
 use Rattle.rart_nodes.specs.tries.Tree.{tree_pairs, IsCanonicalTree}
 use Rattle.rart_nodes.specs.tries.Trie.{Trie, node, Children, no_children, child, children_pairs, pairs_of, prefix_of}
-use Rattle.rart_nodes.specs.tries.Trie.{StartsWith, child_of, child_in, Descent, behind, descend, descend_child}
+use Rattle.rart_nodes.specs.tries.Trie.{StartsWith, child_of, child_in, Descent, by_rest, descend, descend_child}
 use Rattle.rart_nodes.specs.tries.Trie.{descend_tree, IsCanonical, AreCanonical}
 use Rattle.rart_nodes.specs.tries.TrieCode.{as_children}
 use Rattle.rart_nodes.proofs.storages.ChildLemmas.{tail-none}
@@ -149,11 +149,12 @@ module _ {V A : Type 0} where
     descends-node : (d : Descent V A) (R : List ℕ → Option (Trie V) → A → Type 0) → Keeps d R
         → (k : List ℕ) (t : Trie V) → IsCanonical t → R k (Some t) (descend d k t)
     descends-node d R h k (node p v n cs) w = elim (strip_prefix p k) as (λ o. strip_prefix p k ≡ o
-        → R k (Some (node p v n cs)) (behind (d.left k (node p v n cs)) (d.ended (node p v n cs)) (d.on (node p v n cs))
+        → R k (Some (node p v n cs)) (by_rest (d.left k (node p v n cs)) (d.ended (node p v n cs))
+        (d.on (node p v n cs))
         o (λ b r. descend_child d b r cs))) [
           | None ↦ λ s. h.left k p v n cs w s
           | Some r ↦ elim r as (λ r. strip_prefix p k ≡ Some r
-              → R k (Some (node p v n cs)) (behind (d.left k (node p v n cs)) (d.ended (node p v n cs))
+              → R k (Some (node p v n cs)) (by_rest (d.left k (node p v n cs)) (d.ended (node p v n cs))
               (d.on (node p v n cs)) (Some r) (λ b r. descend_child d b r cs))) [
                 | [] ↦ λ s. h.ended k p v n cs w s
                 | b ∷ r ↦ λ s. h.on k p v n cs b r (descend_child d b (b ∷ r) cs) w s

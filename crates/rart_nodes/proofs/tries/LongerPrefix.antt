@@ -1,7 +1,7 @@
 -- A tree whose prefix has one more byte in front.
 use Rattle.std.proofs.Common.{◌≡◌, ℕ, ◌==◌, true, false, List, [], ◌∷◌, refl, Option, None, if◌then◌else◌}
 use Rattle.rart_keys.specs.ByteStrings.{strip_prefix}
-use Rattle.rart_nodes.specs.tries.Trie.{Trie, node, Children, answer_behind, trie_lookup, child_lookup, prefix_of}
+use Rattle.rart_nodes.specs.tries.Trie.{Trie, node, Children, answer_after, trie_lookup, child_lookup, prefix_of}
 use Rattle.rart_nodes.specs.tries.Trie.{StartsWith, IsCanonical, overlap, put_split, trie_put, put_child}
 use Rattle.rart_keys.proofs.ByteOrder.{eq-yes}
 
@@ -25,7 +25,7 @@ module _ {V : Type 0} where
   pub trie_lookup-longer : (x y : ℕ) (q : List ℕ) (t : Trie V)
       → trie_lookup (y ∷ q) (longer x t) ≡ (if x == y then trie_lookup q t else None)
   trie_lookup-longer x y q (node p v n cs)
-      = elim (x == y) as (λ b. answer_behind (if b then strip_prefix p q else None) v (λ b r. child_lookup b r cs)
+      = elim (x == y) as (λ b. answer_after (if b then strip_prefix p q else None) v (λ b r. child_lookup b r cs)
       ≡ (if b then trie_lookup q (node p v n cs) else None)) [ true ↦ refl | false ↦ refl ]
 
   pub look_nil-longer : (x : ℕ) (t : Trie V) → trie_lookup [] (longer x t) ≡ None

@@ -43,11 +43,11 @@ overlap-step : (z : Bool) (x y : ℕ) (p k r : List ℕ)
 overlap-step true x y p k r f e = ap (grown_overlap x) (f e)
 overlap-step false x y p k r f e = absurd (cc)
 
-overlap-behind : (p k r : List ℕ) → Some r ≡ strip_prefix p k
+overlap-after : (p k r : List ℕ) → Some r ≡ strip_prefix p k
     → overlap p k ≡ record { shared = p; left = []; right = r }
-overlap-behind [] k r e = let same : r ≡ k = cc in ap (λ l. record { shared = []; left = []; right = l }) (sym same)
-overlap-behind (x ∷ p) [] r e = absurd (cc)
-overlap-behind (x ∷ p) (y ∷ k) r e = overlap-step (x == y) x y p k r (overlap-behind p k r) e
+overlap-after [] k r e = let same : r ≡ k = cc in ap (λ l. record { shared = []; left = []; right = l }) (sym same)
+overlap-after (x ∷ p) [] r e = absurd (cc)
+overlap-after (x ∷ p) (y ∷ k) r e = overlap-step (x == y) x y p k r (overlap-after p k r) e
 
 module _ {V : Type 0} where
   -- a look-up at a node: the key leaves the prefix, ends after it, or goes on
@@ -87,18 +87,18 @@ module _ {V : Type 0} where
   split-followed p [] b v old w cs f h = absurd (cc)
   split-followed p (c ∷ r) b v old w cs f h = let same : b ≡ c = cc in rw same refl
 
-  trie_put-behind : (p k r : List ℕ) (v : V) (old : Option V) (w : ℕ) (cs : Children V) → Some r ≡ strip_prefix p k
+  trie_put-after : (p k r : List ℕ) (v : V) (old : Option V) (w : ℕ) (cs : Children V) → Some r ≡ strip_prefix p k
       → trie_put k v (node p old w cs) ≡ put_split p [] r v old w cs (λ b q. put_child b q v cs)
-  trie_put-behind p k r v old w cs e = ap (λ s. put_overlap s v old w cs (λ b q. put_child b q v cs))
-      (overlap-behind p k r e)
+  trie_put-after p k r v old w cs e = ap (λ s. put_overlap s v old w cs (λ b q. put_child b q v cs))
+      (overlap-after p k r e)
 
   pub trie_put-ended : (p k r : List ℕ) (v : V) (old : Option V) (w : ℕ) (cs : Children V) → Some r ≡ strip_prefix p k
       → None ≡ slice_get r 0 → trie_put k v (node p old w cs) ≡ node p (Some v) w cs
-  trie_put-ended p k r v old w cs e h = trie_put-behind p k r v old w cs e
+  trie_put-ended p k r v old w cs e h = trie_put-after p k r v old w cs e
       ∙ split-ended p r v old w cs (λ b q. put_child b q v cs) h
 
   pub trie_put-followed : (p k r : List ℕ) (b : ℕ) (v : V) (old : Option V) (w : ℕ) (cs : Children V)
       → Some r ≡ strip_prefix p k → Some b ≡ slice_get r 0
       → trie_put k v (node p old w cs) ≡ fitting_node p old (put_child b r v cs)
-  trie_put-followed p k r b v old w cs e h = trie_put-behind p k r v old w cs e
+  trie_put-followed p k r b v old w cs e h = trie_put-after p k r v old w cs e
       ∙ split-followed p r b v old w cs (λ b q. put_child b q v cs) h

@@ -19,7 +19,7 @@ use Rattle.rart_nodes.specs.edits.InsertAsks.{asks_put}
 use Rattle.rart_nodes.specs.tries.Trie.{Trie, node, no_children, child, child_of, children_in, edges_of, prefix_of}
 use Rattle.rart_nodes.specs.tries.Trie.{value_of, IsCanonical, trie_put, trie_remove}
 use Rattle.rart_nodes.specs.tries.TrieCode.{as_children}
-use Rattle.rart_nodes.specs.updates.TreeUpdates.{AsksPut, EndsHere, EndsLeaf, EndsTree, LosesLeaf, RefusesPut}
+use Rattle.rart_nodes.specs.updates.TreeUpdates.{AsksPut, EndsHere, EndsLeaf, EndsTree, RemovesLeaf, RefusesPut}
 use Rattle.rart_nodes.specs.updates.TreeUpdates.{node_holding, tree_left}
 use Rattle.rart_nodes.proofs.storages.ChildLemmas.{edges_of-length, replaced-length, some-equal}
 use Rattle.rart_nodes.proofs.edits.InsertLemmas.{put-below, child-put_back, record-child}
@@ -242,7 +242,7 @@ module _ {V : Type 0} where
 
     pub ends-lost : (full : Bool) (r : SlotUpdate V) (y : Option V) (res : Result (Outcome V) (UpdateError V))
         (u : Trie V) → is_leaf_at rest t ≡ true → r ≡ Remove → y ≢ None → t' ≡ node_holding y t
-        → LosesLeaf b (option_and_then value_of (child_of b (as_children es'))) (node p v m' (as_children es')) res u
+        → RemovesLeaf b (option_and_then value_of (child_of b (as_children es'))) (node p v m' (as_children es')) res u
         → EndsTree full k r y (Some (node p v m (as_children es))) res (Some u)
     ends-lost full Keep y res u l is s h q = absurd (cc)
     ends-lost full (Insert x) y res u l is s h q = absurd (cc)

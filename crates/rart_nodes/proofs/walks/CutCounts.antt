@@ -4,7 +4,7 @@ use Rattle.std.proofs.Common.{if◌then◌else◌, is_some}
 use Rattle.std.proofs.lemmas.List.{length-append}
 use Rattle.rart_nodes.specs.shapes.Shape.{NodeRecord, record_at}
 use Rattle.rart_nodes.specs.walks.Cut.{cut, cut_by, with_segment}
-use Rattle.rart_nodes.specs.walks.Walk.{SegmentList, Tells}
+use Rattle.rart_nodes.specs.walks.Walk.{SegmentList, KeepsEach}
 use Rattle.rart_nodes.specs.walks.PathParts.{one_segment}
 
 segment-few : (p : List ℕ) (ps : SegmentList) → length (with_segment p ps) ≤ length p + length ps
@@ -21,13 +21,13 @@ cut_by-few f p [] = segment-few p []
 cut_by-few f p (b ∷ k) =
     let f' : List ℕ → Option NodeRecord = λ z. f (b ∷ z) in
     let one = segment-few p (cut_by f' (b ∷ []) k) in
-    let behind = cut_by-few f' (b ∷ []) k in
+    let after = cut_by-few f' (b ∷ []) k in
     let more = cut_by-few f' (p ++ b ∷ []) k in
     either-few (is_some (f [])) (length p + suc (length k)) (with_segment p (cut_by f' (b ∷ []) k))
-    (cut_by f' (p ++ b ∷ []) k) (omega (arith, one, behind)) (omega (arith, more, length-append p (b ∷ [])))
+    (cut_by f' (p ++ b ∷ []) k) (omega (arith, one, after)) (omega (arith, more, length-append p (b ∷ [])))
 
 pub cut-few : (s : List (List ℕ)) (k : List ℕ) → length (cut s k) ≤ length k
 cut-few s k = let few = cut_by-few (record_at s) [] k in omega (arith, few)
 
-pub tells-one : Tells one_segment
-tells-one b p = omega arith
+pub keeps_each-one : KeepsEach one_segment
+keeps_each-one b p = omega arith

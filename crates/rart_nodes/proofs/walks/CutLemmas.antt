@@ -10,7 +10,8 @@ use Rattle.rart_nodes.specs.tries.Trie.{Trie, node, Children, no_children, child
 use Rattle.rart_nodes.specs.tries.Trie.{children_pairs, own_pair, with_prefix, with_records, children_with_records}
 use Rattle.rart_nodes.specs.tries.Trie.{StartsWith, prefix_of, IsCanonical, AreCanonical}
 use Rattle.rart_nodes.specs.walks.Cut.{with_segment, cut_by, cut, cut_pairs}
-use Rattle.rart_nodes.specs.walks.Walk.{SegmentList, joined, segments_after, value_at, entries_of, children_entries}
+use Rattle.rart_nodes.specs.walks.Walk.{SegmentList, joined_bytes, segments_after, value_at, entries_of}
+use Rattle.rart_nodes.specs.walks.Walk.{children_entries}
 use Rattle.rart_nodes.specs.walks.Walk.{tree_entries}
 use Rattle.rart_nodes.specs.walks.PathParts.{one_segment}
 use Rattle.rart_nodes.proofs.shapes.ShapeLemmas.{record_is, prefix-with_records}
@@ -28,21 +29,21 @@ same_cut f g p (b ∷ q) h = rw (
 ) refl
 
 -- a cut key joins to the key
-joined-with_segment : (p : List ℕ) (ps : SegmentList) → joined (with_segment p ps) ≡ p ++ joined ps
+joined-with_segment : (p : List ℕ) (ps : SegmentList) → joined_bytes (with_segment p ps) ≡ p ++ joined_bytes ps
 joined-with_segment [] ps = refl
 joined-with_segment (b ∷ p) ps = refl
 
-joined-cut_by : (f : List ℕ → Option NodeRecord) (p k : List ℕ) → joined (cut_by f p k) ≡ p ++ k
+joined-cut_by : (f : List ℕ → Option NodeRecord) (p k : List ℕ) → joined_bytes (cut_by f p k) ≡ p ++ k
 joined-cut_by f p [] = joined-with_segment p []
 joined-cut_by f p (b ∷ k) = elim (is_some (f []))
-    as (λ z. joined (if z then with_segment p (cut_by (λ z. f (b ∷ z)) (b ∷ []) k)
+    as (λ z. joined_bytes (if z then with_segment p (cut_by (λ z. f (b ∷ z)) (b ∷ []) k)
     else cut_by (λ z. f (b ∷ z)) (p ++ b ∷ []) k) ≡ p ++ b ∷ k) [
       | true ↦ joined-with_segment p (cut_by (λ z. f (b ∷ z)) (b ∷ []) k)
           ∙ ap (λ z. p ++ z) (joined-cut_by (λ z. f (b ∷ z)) (b ∷ []) k)
       | false ↦ joined-cut_by (λ z. f (b ∷ z)) (p ++ b ∷ []) k ∙ append_assoc p (b ∷ []) k
     ]
 
-pub joined-cut : (s : List (List ℕ)) (k : List ℕ) → joined (cut s k) ≡ k
+pub joined-cut : (s : List (List ℕ)) (k : List ℕ) → joined_bytes (cut s k) ≡ k
 joined-cut s k = joined-cut_by (record_at s) [] k
 
 with_segment-is : (p : List ℕ) (ps : SegmentList) → with_segment p ps ≡ one_segment p ++ ps
@@ -92,11 +93,11 @@ module _ {V : Type 0} where
       ∙ cut-node (l ++ x ∷ []) p r v n cs ∙ ap (λ z. cut_by (λ z. trie_lookup z (with_records (node [] v n cs))) z r)
       (append_assoc l (x ∷ []) p)
 
-  cut-behind : (p : List ℕ) (v : Option V) (n : ℕ) (cs : Children V) (es : List (List ℕ × V)) →
+  cut-after : (p : List ℕ) (v : Option V) (n : ℕ) (cs : Children V) (es : List (List ℕ × V)) →
       cut_as (cut_by (λ z. trie_lookup z (with_records (node p v n cs))) []) (with_prefix p es)
       ≡ cut_as (cut_by (λ z. trie_lookup z (with_records (node [] v n cs))) p) es
-  cut-behind p v n cs [] = refl
-  cut-behind p v n cs (e ∷ es) = rw (cut-node [] p e.0 v n cs, cut-behind p v n cs es) refl
+  cut-after p v n cs [] = refl
+  cut-after p v n cs (e ∷ es) = rw (cut-node [] p e.0 v n cs, cut-after p v n cs es) refl
 
   -- a key below children, cut by their records
   abbrev child_cut : Children V → List ℕ → SegmentList
@@ -145,7 +146,7 @@ module _ {V : Type 0} where
         ∙ cut-children 0 p v n cs (children_pairs cs) (children_pairs-from 0 cs w.2))
         ∙ sym (cut_as-append (cut_by (λ z. trie_lookup z (with_records (node [] v n cs))) p) (own_pair v)
         (children_pairs cs))
-        ∙ sym (cut-behind p v n cs (own_pair v ++ children_pairs cs))
+        ∙ sym (cut-after p v n cs (own_pair v ++ children_pairs cs))
 
     children-cut : (low : ℕ) (cs : Children V) → AreCanonical low cs
         → children_entries one_segment cs ≡ cut_as (child_cut cs) (children_pairs cs)

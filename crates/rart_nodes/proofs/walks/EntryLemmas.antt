@@ -2,7 +2,7 @@
 use Rattle.std.proofs.Common.{◌≡◌, ℕ, List, [], ◌∷◌, ◌++◌, length, Option, Some, None, refl, sym, ap, ◌∙◌, arith}
 use Rattle.std.proofs.lemmas.List.{append-nil, map-append}
 use Rattle.rart_keys.specs.SortedMap.{values_of}
-use Rattle.rart_nodes.specs.walks.Walk.{SegmentList, Grown, Joins, joined, join_all, entry_values, segments_after}
+use Rattle.rart_nodes.specs.walks.Walk.{SegmentList, Grown, Joins, joined_bytes, join_all, entry_values, segments_after}
 use Rattle.rart_nodes.specs.walks.Walk.{value_at, entries_of, children_entries, tree_entries}
 use Rattle.rart_nodes.specs.walks.PathParts.{byte_segments, one_segment}
 use Rattle.rart_nodes.specs.tries.PrefixLaws.{values-with_prefix}
@@ -25,12 +25,12 @@ length-bytes (b ∷ p) = omega (arith, length-bytes p)
 
 module _ {V : Type 0} where
   join-append : (xs ys : List (SegmentList × V)) → join_all (xs ++ ys) ≡ join_all xs ++ join_all ys
-  join-append xs ys = map-append (λ e. (joined e.0, e.1)) xs ys
+  join-append xs ys = map-append (λ e. (joined_bytes e.0, e.1)) xs ys
 
-  pub join-behind : (ps : SegmentList) (es : List (SegmentList × V))
-      → join_all (segments_after ps es) ≡ with_prefix (joined ps) (join_all es)
-  join-behind ps [] = refl
-  join-behind ps (e ∷ es) = rw (joined-append ps e.0, join-behind ps es) refl
+  pub join-after : (ps : SegmentList) (es : List (SegmentList × V))
+      → join_all (segments_after ps es) ≡ with_prefix (joined_bytes ps) (join_all es)
+  join-after ps [] = refl
+  join-after ps (e ∷ es) = rw (joined-append ps e.0, join-after ps es) refl
 
   join-own : (v : Option V) → join_all (value_at [] v) ≡ own_pair v
   join-own None = refl
@@ -38,7 +38,7 @@ module _ {V : Type 0} where
 
   mutual
     pub joined-entries : (g : Grown) (t : Trie V) → Joins g → join_all (entries_of g t) ≡ pairs_of t
-    joined-entries g (node p v c cs) j = join-behind (g p) (value_at [] v ++ children_entries g cs)
+    joined-entries g (node p v c cs) j = join-after (g p) (value_at [] v ++ children_entries g cs)
         ∙ ap (λ q. with_prefix q (join_all (value_at [] v ++ children_entries g cs))) (j p)
         ∙ ap (with_prefix p) (join-append (value_at [] v) (children_entries g cs)
         ∙ ap (λ z. z ++ join_all (children_entries g cs)) (join-own v)
@@ -57,10 +57,10 @@ module _ {V : Type 0} where
   values-append : (xs ys : List (SegmentList × V)) → entry_values (xs ++ ys) ≡ entry_values xs ++ entry_values ys
   values-append xs ys = map-append (λ e. e.1) xs ys
 
-  pub values-behind : (ps : SegmentList) (es : List (SegmentList × V)) → entry_values (segments_after ps es)
+  pub values-after : (ps : SegmentList) (es : List (SegmentList × V)) → entry_values (segments_after ps es)
       ≡ entry_values es
-  values-behind ps [] = refl
-  values-behind ps (e ∷ es) = ap (λ z. e.1 ∷ z) (values-behind ps es)
+  values-after ps [] = refl
+  values-after ps (e ∷ es) = ap (λ z. e.1 ∷ z) (values-after ps es)
 
   values-own : (v : Option V) → entry_values (value_at [] v) ≡ values_of (own_pair v)
   values-own None = refl
@@ -68,7 +68,7 @@ module _ {V : Type 0} where
 
   mutual
     pub values-entries : (g : Grown) (t : Trie V) → entry_values (entries_of g t) ≡ values_of (pairs_of t)
-    values-entries g (node p v c cs) = values-behind (g p) (value_at [] v ++ children_entries g cs)
+    values-entries g (node p v c cs) = values-after (g p) (value_at [] v ++ children_entries g cs)
         ∙ values-append (value_at [] v) (children_entries g cs)
         ∙ ap (λ z. z ++ entry_values (children_entries g cs)) (values-own v)
         ∙ ap (λ z. values_of (own_pair v) ++ z) (values-children g cs)

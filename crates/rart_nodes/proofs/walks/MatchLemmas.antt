@@ -37,7 +37,7 @@ drop-front (x ∷ a) r = drop-front a r
 record SplitAt (p q r : List ℕ) (d d1 : ℕ) : Type 0 where
   pub within : d1 ≤ length q
   pub front : take d1 q ≡ take d q ++ p
-  pub behind : drop d1 q ≡ r
+  pub after : drop d1 q ≡ r
 
 split-at : (p q k r : List ℕ) (d d1 : ℕ) → d ≤ length q → k ≡ drop d q → Some r ≡ strip_prefix p k
     → d1 ≡ length q - length r → SplitAt p q r d d1
@@ -50,7 +50,7 @@ split-at p q k r d d1 l i e f =
       within = omega arith;
       front = ap (take d1) whole ∙ ap (λ m. take m (a ++ r)) n ∙ take-append-le (length a) a r (omega arith)
           ∙ take_all (length a) a (omega arith);
-      behind = ap (drop d1) whole ∙ ap (λ m. drop m (a ++ r)) n ∙ drop-front a r;
+      after = ap (drop d1) whole ∙ ap (λ m. drop m (a ++ r)) n ∙ drop-front a r;
     }
 
 pub rest-fits : (p q k r : List ℕ) (d : ℕ) → k ≡ drop d q → Some r ≡ strip_prefix p k → length r ≤ length q
@@ -67,11 +67,11 @@ module _ {V : Type 0} where
   matches_within p None es = []
   matches_within p (Some r) es = with_prefix p (matches r es)
 
-  matches-behind : (p q : List ℕ) (es : List (List ℕ × V))
+  matches-after : (p q : List ℕ) (es : List (List ℕ × V))
       → matches q (with_prefix p es) ≡ matches_within p (strip_prefix p q) es
-  matches-behind p q [] = elim (strip_prefix p q) as (λ o. ◌≡◌ {A = List (List ℕ × V)} [] (matches_within p o []))
+  matches-after p q [] = elim (strip_prefix p q) as (λ o. ◌≡◌ {A = List (List ℕ × V)} [] (matches_within p o []))
       [ None ↦ refl | Some r ↦ refl ]
-  matches-behind p q (e ∷ es) = rw (begins-append p e.0 q, matches-behind p q es)
+  matches-after p q (e ∷ es) = rw (begins-append p e.0 q, matches-after p q es)
       (elim (strip_prefix p q) as (λ o. (if begins_within e.0 o then (p ++ e.0, e.1) ∷ matches_within p o es
       else matches_within p o es) ≡ matches_within p o (e ∷ es)) [
         | None ↦ refl
@@ -93,11 +93,11 @@ module _ {V : Type 0} where
   matches-kept : Keeps {V = V} collects (λ q o a. a ≡ matches q (tree_pairs o))
   matches-kept = record {
     absent = λ q. refl;
-    left = λ q p v n cs w s. sym (matches-behind p q (own_pair v ++ children_pairs cs) ∙ rw s refl);
-    ended = λ q p v n cs w s. sym (matches-behind p q (own_pair v ++ children_pairs cs)
+    left = λ q p v n cs w s. sym (matches-after p q (own_pair v ++ children_pairs cs) ∙ rw s refl);
+    ended = λ q p v n cs w s. sym (matches-after p q (own_pair v ++ children_pairs cs)
         ∙ rw s (ap (with_prefix p) (matches-here [] v (children_pairs cs)
         ∙ rw (matches-nil 0 (children_pairs cs) (children_pairs-from 0 cs w.2)) (append-nil (own_pair v)))));
-    on = λ q p v n cs b r a w s h. sym (matches-behind p q (own_pair v ++ children_pairs cs)
+    on = λ q p v n cs b r a w s h. sym (matches-after p q (own_pair v ++ children_pairs cs)
         ∙ rw s (ap (with_prefix p) (matches-here (b ∷ r) v (children_pairs cs)
         ∙ ap (λ z. own_pair v ++ z) (children-filter (λ e. begins e.0 (b ∷ r)) b cs w.2
         (λ x k v n. rw (eq-no x b n) refl) ∙ sym h))));
@@ -139,9 +139,9 @@ module _ {V : Type 0} where
             ∙ ap below (sym j)) ∙ prefix-twice (take d q) p (own_pair v ++ tree_matches r o)
             ∙ ap (λ z. with_prefix z (own_pair v ++ tree_matches r o)) (sym s.front))
             ∙ prefix-own (take d1 q) v (tree_matches r o)
-            ∙ ap (λ z. pair_at (take d1 q) v ++ with_prefix (take d1 q) (tree_matches z o)) (sym s.behind);
+            ∙ ap (λ z. pair_at (take d1 q) v ++ with_prefix (take d1 q) (tree_matches z o)) (sym s.after);
         counted = rw (← i) (descend-on counts (node p v n cs) k r b c e h ∙ ap (λ z. 1 + tree_entered r z) (sym j)
-            ∙ ap (λ z. 1 + tree_entered z o) (sym s.behind));
+            ∙ ap (λ z. 1 + tree_entered z o) (sym s.after));
         falls = child-falls b (node p v n cs) o (sym j);
       }
 

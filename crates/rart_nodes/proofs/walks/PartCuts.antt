@@ -11,14 +11,15 @@ use Rattle.rart_nodes.specs.tries.Trie.{Trie, node, Children, no_children, child
 use Rattle.rart_nodes.specs.walks.Cut.{with_segment, cut_by, cut, cut_pairs}
 use Rattle.rart_nodes.specs.walks.Part.{finds, tree_part, part_entries}
 use Rattle.rart_nodes.proofs.tries.Descents.{Keeps, descends}
-use Rattle.rart_nodes.specs.walks.Walk.{SegmentList, Grown, joined, join_all, segments_after, value_at, entries_of}
+use Rattle.rart_nodes.specs.walks.Walk.{SegmentList, Grown, joined_bytes, join_all, segments_after, value_at}
+use Rattle.rart_nodes.specs.walks.Walk.{entries_of}
 use Rattle.rart_nodes.specs.walks.Walk.{children_entries, tree_entries}
 use Rattle.rart_nodes.specs.walks.PathParts.{one_segment}
 use Rattle.rart_nodes.specs.walks.ViewSegments.{all_have_bytes, AreViews}
 use Rattle.rart_nodes.proofs.walks.CutLemmas.{joined-cut, tree-cut}
 use Rattle.rart_nodes.proofs.walks.PartLemmas.{part-keys}
 use Rattle.rart_nodes.proofs.walks.EntryLemmas.{joins-one}
-use Rattle.rart_nodes.proofs.walks.WalkLemmas.{behind-none, behind-twice}
+use Rattle.rart_nodes.proofs.walks.WalkLemmas.{after-none, after-twice}
 
 -- no segment is empty
 bytes-segment : (p : List ℕ) (ps : SegmentList) → all_have_bytes ps ≡ true → all_have_bytes (with_segment p ps) ≡ true
@@ -38,7 +39,7 @@ module _ {V : Type 0} where
   -- each path is the cut of its key
   abbrev AreCut : List (List ℕ) → List (SegmentList × V) → Type 0
   AreCut s [] = Unit {0}
-  AreCut s (e ∷ es) = (e.0 ≡ cut s (joined e.0)) × AreCut s es
+  AreCut s (e ∷ es) = (e.0 ≡ cut s (joined_bytes e.0)) × AreCut s es
 
   are_cut-front : (s : List (List ℕ)) (xs ys : List (SegmentList × V)) → AreCut s (xs ++ ys) → AreCut s xs
   are_cut-front s [] ys h = tt
@@ -55,7 +56,7 @@ module _ {V : Type 0} where
   from_are_cut : (s : List (List ℕ)) (es : List (SegmentList × V)) → AreCut s es → es ≡ cut_pairs s (join_all es)
   from_are_cut s [] h = refl
   from_are_cut s (e ∷ es) h = ap (λ z. (z, e.1) ∷ es) h.0
-      ∙ ap (λ z. (cut s (joined e.0), e.1) ∷ z) (from_are_cut s es h.1)
+      ∙ ap (λ z. (cut s (joined_bytes e.0), e.1) ∷ z) (from_are_cut s es h.1)
 
   -- after a node's prefix, without its own value
   below-own : (s : List (List ℕ)) (g : Grown) (k : SegmentList) (q : List ℕ) (v : Option V) (cs : Children V)
@@ -63,7 +64,7 @@ module _ {V : Type 0} where
       → AreCut s (segments_after (k ++ g q) (children_entries g cs))
   below-own s g k q v cs h = are_cut-back s (segments_after (k ++ g q) (value_at [] v))
       (segments_after (k ++ g q) (children_entries g cs))
-      (subst (AreCut s) (behind-twice k (g q) (value_at [] v ++ children_entries g cs)
+      (subst (AreCut s) (after-twice k (g q) (value_at [] v ++ children_entries g cs)
       ∙ map-append (λ e. (k ++ g q ++ e.0, e.1)) (value_at [] v) (children_entries g cs)) h)
 
   child-are_cut : (s : List (List ℕ)) (g : Grown) (k : SegmentList) (b : ℕ) (cs : Children V)
@@ -98,7 +99,7 @@ module _ {V : Type 0} where
   part-cut p o w =
       let s = keys_of (tree_pairs o) in
       let whole : AreCut s (segments_after [] (tree_entries one_segment o))
-      = subst (AreCut s) (sym (behind-none (tree_entries one_segment o) ∙ tree-cut o w))
+      = subst (AreCut s) (sym (after-none (tree_entries one_segment o) ∙ tree-cut o w))
       (are_cut-pairs s (tree_pairs o)) in
       from_are_cut s (part_entries one_segment (tree_part one_segment [] p o))
       (descends (finds one_segment) (λ p o a. (k : SegmentList)

@@ -17,13 +17,13 @@ use Rattle.rart_nodes.specs.tries.Trie.{edges_of, prefix_of, child_of, child_in,
 use Rattle.rart_nodes.specs.tries.TrieCode.{node_count, child_count}
 use Rattle.rart_nodes.specs.walks.SegmentLaws.{joined-append}
 use Rattle.rart_nodes.specs.walks.Part.{finds, tree_part, part_entries}
-use Rattle.rart_nodes.specs.walks.Walk.{SegmentList, Grown, Joins, joined, join_all, entry_values, entries_of}
+use Rattle.rart_nodes.specs.walks.Walk.{SegmentList, Grown, Joins, joined_bytes, join_all, entry_values, entries_of}
 use Rattle.rart_nodes.proofs.tries.CanonicalTests.{IsCanonical-test}
 use Rattle.rart_nodes.proofs.tries.NodeCounts.{length-own_pair, two-edges}
-use Rattle.rart_nodes.proofs.tries.PrefixedStrings.{begins-apart, begins-behind}
+use Rattle.rart_nodes.proofs.tries.PrefixedStrings.{begins-apart, begins-after}
 use Rattle.rart_nodes.proofs.tries.Descents.{Keeps, children-filter, descend-left, descend-on, descends}
 use Rattle.rart_nodes.proofs.walks.SeenLemmas.{longest-of}
-use Rattle.rart_nodes.proofs.walks.EntryLemmas.{join-behind, joined-entries, values-behind, values-entries}
+use Rattle.rart_nodes.proofs.walks.EntryLemmas.{join-after, joined-entries, values-after, values-entries}
 use Rattle.rart_nodes.proofs.walks.WalkLemmas.{longest-below}
 
 -- whether a slice begins with another, as code tests it
@@ -34,10 +34,10 @@ starts_with-begins (x ∷ p) (y ∷ q) = elim (nat_eq x y) as (λ b. (b && start
     ≡ is_some (if b then strip_prefix p q else None)) [ true ↦ starts_with-begins p q | false ↦ refl ]
 
 module _ {V : Type 0} where
-  below-behind_some : (q p r : List ℕ) (es : List (List ℕ × V)) → strip_prefix q p ≡ Some r
+  below-after_some : (q p r : List ℕ) (es : List (List ℕ × V)) → strip_prefix q p ≡ Some r
       → below p (with_prefix q es) ≡ with_prefix q (below r es)
-  below-behind_some q p r [] s = refl
-  below-behind_some q p r (e ∷ es) s = rw (begins-behind q p r e.0 s, below-behind_some q p r es s)
+  below-after_some q p r [] s = refl
+  below-after_some q p r (e ∷ es) s = rw (begins-after q p r e.0 s, below-after_some q p r es s)
       (elim (begins r e.0) as (λ z. (if z then (q ++ e.0, e.1) ∷ with_prefix q (below r es)
       else with_prefix q (below r es)) ≡ with_prefix q (if z then e ∷ below r es else below r es)) [
         | true ↦ refl
@@ -70,7 +70,8 @@ module _ {V : Type 0} where
   -- kept
   abbrev Finds : Grown → SegmentList → List (List ℕ × V) → Option (SegmentList × Trie V) → Type 0
   Finds g k es None = es ≡ []
-  Finds g k es (Some e) = (q : List ℕ) × ((es ≡ with_prefix q (pairs_of e.1)) × (Joins g → joined e.0 ≡ joined k ++ q))
+  Finds g k es (Some e) = (q : List ℕ) × ((es ≡ with_prefix q (pairs_of e.1))
+      × (Joins g → joined_bytes e.0 ≡ joined_bytes k ++ q))
 
   finds-up : (g : Grown) (k : SegmentList) (q : List ℕ) (es fs : List (List ℕ × V)) (o : Option (SegmentList × Trie V))
       → fs ≡ with_prefix q es → Finds g (k ++ g q) es o → Finds g k fs o
@@ -79,14 +80,14 @@ module _ {V : Type 0} where
     q ++ h.0,
     (
       s ∙ ap (with_prefix q) h.1.0 ∙ prefix-twice q h.0 (pairs_of e.1),
-      λ j. h.1.1 j ∙ ap (λ z. z ++ h.0) (joined-append k (g q) ∙ ap (λ z. joined k ++ z) (j q))
-          ∙ append_assoc (joined k) q h.0,
+      λ j. h.1.1 j ∙ ap (λ z. z ++ h.0) (joined-append k (g q) ∙ ap (λ z. joined_bytes k ++ z) (j q))
+          ∙ append_assoc (joined_bytes k) q h.0,
     ),
   )
 
   finds-here : (g : Grown) (k : SegmentList) (t : Trie V) (es : List (List ℕ × V)) → es ≡ pairs_of t
       → Finds g k es (Some (k, t))
-  finds-here g k t es e = ([], (e ∙ sym (prefix-none (pairs_of t)), λ j. sym (append-nil (joined k))))
+  finds-here g k t es e = ([], (e ∙ sym (prefix-none (pairs_of t)), λ j. sym (append-nil (joined_bytes k))))
 
   finds-kept : (g : Grown) → Keeps {V = V} (finds g) (λ p o a. (k : SegmentList)
       → Finds g k (below p (tree_pairs o)) (a k))
@@ -99,10 +100,10 @@ module _ {V : Type 0} where
           | false ↦ λ e. e
         ] (below-apart q p (own_pair v ++ children_pairs cs) s);
     ended = λ p q v n cs w s k. finds-here g k (node q v n cs) _
-        (below-behind_some q p [] (own_pair v ++ children_pairs cs) s
+        (below-after_some q p [] (own_pair v ++ children_pairs cs) s
         ∙ ap (with_prefix q) (below-nil (own_pair v ++ children_pairs cs)));
     on = λ p q v n cs b r a w s h k. finds-up g k q (below (b ∷ r) (tree_pairs (child_of b cs))) _ (a (k ++ g q))
-        (below-behind_some q p (b ∷ r) (own_pair v ++ children_pairs cs) s
+        (below-after_some q p (b ∷ r) (own_pair v ++ children_pairs cs) s
         ∙ ap (with_prefix q) (below-here b r v (children_pairs cs)
         ∙ children-filter (λ e. begins (b ∷ r) e.0) b cs w.2 (λ x k v n. rw (eq-no b x (λ e. n (sym e))) refl)))
         (h (k ++ g q));
@@ -116,14 +117,14 @@ module _ {V : Type 0} where
   keys-found : (g : Grown) (es : List (List ℕ × V)) (e : Option (SegmentList × Trie V)) → Joins g → Finds g [] es e
       → join_all (part_entries g e) ≡ es
   keys-found g es None j h = sym h
-  keys-found g es (Some e) j h = join-behind e.0 (entries_of g e.1)
-      ∙ ap (with_prefix (joined e.0)) (joined-entries g e.1 j) ∙ ap (λ z. with_prefix z (pairs_of e.1)) (h.1.1 j)
+  keys-found g es (Some e) j h = join-after e.0 (entries_of g e.1)
+      ∙ ap (with_prefix (joined_bytes e.0)) (joined-entries g e.1 j) ∙ ap (λ z. with_prefix z (pairs_of e.1)) (h.1.1 j)
       ∙ sym h.1.0
 
   values-found : (g : Grown) (es : List (List ℕ × V)) (e : Option (SegmentList × Trie V)) → Finds g [] es e
       → entry_values (part_entries g e) ≡ values_of es
   values-found g es None h = ap values_of (sym h)
-  values-found g es (Some e) h = values-behind e.0 (entries_of g e.1) ∙ values-entries g e.1
+  values-found g es (Some e) h = values-after e.0 (entries_of g e.1) ∙ values-entries g e.1
       ∙ sym (ap values_of h.1.0 ∙ values-with_prefix h.0 (pairs_of e.1))
 
   -- the stops at and below the prefix p, by whole keys and by values

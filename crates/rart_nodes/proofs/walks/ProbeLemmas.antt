@@ -6,10 +6,10 @@ use Rattle.rart_keys.specs.SortedMap.{keys_of}
 use Rattle.rart_nodes.specs.shapes.Shape.{NodeRecord, record_at}
 use Rattle.rart_nodes.specs.tries.Trie.{Trie, Children, child_of, pairs_of, edges_of, IsCanonical, AreCanonical}
 use Rattle.rart_nodes.specs.tries.Trie.{descend, descend_child}
-use Rattle.rart_nodes.specs.walks.ProbeCount.{goes_on, steps_along, probe_count, counts, entered_nodes}
+use Rattle.rart_nodes.specs.walks.ProbeCount.{continues_by, steps_along, probe_count, counts, entered_nodes}
 use Rattle.rart_nodes.proofs.tries.Descents.{Keeps, descends, descend-child_of}
 use Rattle.rart_nodes.proofs.tries.NodeCounts.{few_nodes}
-use Rattle.rart_nodes.proofs.shapes.RecordsAlong.{AreReadings, edge-is_some, none-first, reads-apart, reads-behind}
+use Rattle.rart_nodes.proofs.shapes.RecordsAlong.{AreReadings, edge-is_some, none-first, reads-apart, reads-after}
 use Rattle.rart_nodes.proofs.shapes.RecordsAlong.{records_in}
 use Rattle.rart_nodes.proofs.shapes.ShapeLemmas.{records, records-at}
 
@@ -26,7 +26,7 @@ pub few_steps : (f : List ℕ → Option NodeRecord) (q : List ℕ) → steps_al
 few_steps f [] = omega arith
 few_steps f (b ∷ q) = omega (arith, few_step (f []) b, few_steps (λ p. f (b ∷ p)) q)
   where
-    few_step : (o : Option NodeRecord) (b : ℕ) → goes_on o b ≤ 1
+    few_step : (o : Option NodeRecord) (b : ℕ) → continues_by o b ≤ 1
     few_step None b = omega arith
     few_step (Some r) b = elim (list_any (λ c. c == b) r.edges) as (λ z. (if z then 1 else 0) ≤ 1) [
       | true ↦ omega arith
@@ -36,7 +36,7 @@ few_steps f (b ∷ q) = omega (arith, few_step (f []) b, few_steps (λ p. f (b �
 steps_read : AreReadings (λ f q a. steps_along f q ≡ a)
 steps_read = record {
   same = λ f g q a h e. sym (steps_along-cong f g q h) ∙ e;
-  past = λ f b q a n e. omega (arith, ap (λ o. goes_on o b) n, e);
+  past = λ f b q a n e. omega (arith, ap (λ o. continues_by o b) n, e);
 }
 
 module _ {V : Type 0} where
@@ -56,7 +56,11 @@ module _ {V : Type 0} where
       (elim (child_of b cs) as (λ o. child_of b cs ≡ o
       → (if is_some o then 1 else 0) + steps_along (λ z. records_in o (b ∷ z)) r ≡ nodes_along (b ∷ r) o) [
         | None ↦ λ e. omega (arith, no_steps r)
-        | Some t ↦ λ e. omega (arith, ap (λ o. goes_on o b) (sym (ap (λ o. records_in o []) e) ∙ none-first b cs w))
+        | Some t ↦ λ e. omega (
+          arith,
+          ap (λ o. continues_by o b)
+              (sym (ap (λ o. records_in o []) e) ∙ none-first b cs w),
+        )
       ] refl)
 
   counts-kept : Keeps {V = V} counts (λ q o a. a ≡ nodes_along q o)
@@ -65,9 +69,9 @@ module _ {V : Type 0} where
     left = λ q p v n cs w s. ap (λ m. 1 + m)
         (sym (reads-apart (λ f q a. steps_along f q ≡ a) steps_read p q v n cs 0 s (λ f e. refl) no_steps));
     ended = λ q p v n cs w s. ap (λ m. 1 + m)
-        (sym (reads-behind (λ f q a. steps_along f q ≡ a) steps_read p q [] v n cs 0 s refl));
+        (sym (reads-after (λ f q a. steps_along f q ≡ a) steps_read p q [] v n cs 0 s refl));
     on = λ q p v n cs b r a w s h. ap (λ m. 1 + m)
-        (sym (reads-behind (λ f q a. steps_along f q ≡ a) steps_read p q (b ∷ r) v n cs a s (steps-below b r cs w.2
+        (sym (reads-after (λ f q a. steps_along f q ≡ a) steps_read p q (b ∷ r) v n cs a s (steps-below b r cs w.2
         ∙ sym h)));
   }
 

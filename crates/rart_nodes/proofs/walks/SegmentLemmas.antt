@@ -41,9 +41,9 @@ segment-apart p xs k front o h f e n =
     ] n)
 
 -- where it doesn't, what is after it does
-pub segment-same : (p xs k front behind : List ℕ) (o : Ordering) → length p ≤ length k → front ≡ take (length p) k
-    → behind ≡ drop (length p) k → o ≡ slice_cmp nat_cmp p front → o ≡ Equal
-    → slice_cmp nat_cmp (p ++ xs) k ≡ slice_cmp nat_cmp xs behind
-segment-same p xs k front behind o h f g e n =
+pub segment-same : (p xs k front after : List ℕ) (o : Ordering) → length p ≤ length k → front ≡ take (length p) k
+    → after ≡ drop (length p) k → o ≡ slice_cmp nat_cmp p front → o ≡ Equal
+    → slice_cmp nat_cmp (p ++ xs) k ≡ slice_cmp nat_cmp xs after
+segment-same p xs k front after o h f g e n =
     let m : slice_cmp nat_cmp p (take (length p) k) ≡ Equal = ap (slice_cmp nat_cmp p) (sym f) ∙ sym e ∙ n in
     cmp-front p xs k h ∙ rw (m, g) refl

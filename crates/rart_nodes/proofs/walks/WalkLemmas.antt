@@ -9,8 +9,8 @@ use Rattle.rart_nodes.specs.tries.CanonicalTest.{is_canonical}
 use Rattle.rart_keys.specs.SortedMap.{longest_key}
 use Rattle.rart_nodes.specs.shapes.Shape.{capacity_of}
 use Rattle.rart_nodes.specs.walks.Walk.{SegmentList, Grown, IsShort, Level, HasRoom, segments_after, value_at}
-use Rattle.rart_nodes.specs.walks.Walk.{entries_of, children_entries, entries_below, nodes_below, AreStations, IsWalk}
-use Rattle.rart_nodes.specs.walks.WalkSteps.{DeepestLeft, DeepestStep, GoesOn}
+use Rattle.rart_nodes.specs.walks.Walk.{entries_of, children_entries, entries_below, nodes_below, AreLevels, IsWalk}
+use Rattle.rart_nodes.specs.walks.WalkSteps.{DeepestLeft, DeepestStep, PushesLevel}
 use Rattle.rart_nodes.specs.tries.PrefixLaws.{length-with_prefix}
 use Rattle.rart_nodes.specs.tries.Trie.{Trie, node, Children, no_children, child, children_in, children_pairs, pairs_of}
 use Rattle.rart_nodes.specs.tries.Trie.{prefix_of, value_of, own_pair, StartsWith, IsCanonical, AreCanonical}
@@ -18,7 +18,7 @@ use Rattle.rart_nodes.specs.tries.Trie.{capacity_in, edges_of}
 use Rattle.rart_nodes.specs.tries.Tree.{tree_pairs}
 use Rattle.rart_nodes.specs.tries.TrieCode.{node_count, child_count}
 use Rattle.rart_nodes.proofs.tries.CanonicalTests.{IsCanonical-test, test-IsCanonical, longest_key-append}
-use Rattle.rart_nodes.proofs.tries.CanonicalTests.{longest_key-behind, canonical-lower}
+use Rattle.rart_nodes.proofs.tries.CanonicalTests.{longest_key-after, canonical-lower}
 use Rattle.rart_nodes.proofs.tries.NodeCounts.{some-pairs}
 
 -- what is pushed last stands first
@@ -69,7 +69,7 @@ module _ {V : Type 0} where
       = omega (arith, some-pairs (node p v n cs) w, length-with_prefix p (own_pair v ++ children_pairs cs)) in
       omega (
         arith,
-        longest_key-behind p (own_pair v ++ children_pairs cs) some,
+        longest_key-after p (own_pair v ++ children_pairs cs) some,
         longest_key-append (own_pair v)
             (children_pairs cs),
       )
@@ -77,10 +77,10 @@ module _ {V : Type 0} where
   pub below-canonical : (t : Trie V) → IsCanonical t → AreCanonical 0 (children_in t)
   below-canonical (node p v n cs) w = w.2
 
-  room-behind : (longest places : ℕ) (l : Level V) (ls : List (Level V)) → HasRoom longest places (l ∷ ls)
+  room-after : (longest places : ℕ) (l : Level V) (ls : List (Level V)) → HasRoom longest places (l ∷ ls)
       → HasRoom longest places ls
-  room-behind longest places l [] h = tt
-  room-behind longest places l (m ∷ ls) h = h
+  room-after longest places l [] h = tt
+  room-after longest places l (m ∷ ls) h = h
 
   -- a tree with a node has pairs
   pub has-pairs : (t : Trie V) (o : Option (Trie V)) → is_canonical t ≡ true → Some t ≡ o → tree_pairs o ≢ []
@@ -100,23 +100,23 @@ module _ {V : Type 0} where
       let r = last-set st n l (ds, l.1) h e in
       record { rest = r.0; edge = f.0; others = ds; was = r.1.0 ∙ ap (λ cs. r.0 ++ (cs, l.1) ∷ []) f.1; is = r.1.1 }
 
-  pub behind-append : (q : SegmentList) (xs ys : List (SegmentList × V))
+  pub after-append : (q : SegmentList) (xs ys : List (SegmentList × V))
       → segments_after q (xs ++ ys) ≡ segments_after q xs ++ segments_after q ys
-  behind-append q xs ys = map-append (λ e. (q ++ e.0, e.1)) xs ys
+  after-append q xs ys = map-append (λ e. (q ++ e.0, e.1)) xs ys
 
-  pub behind-twice : (q p : SegmentList) (es : List (SegmentList × V)) → segments_after q (segments_after p es)
+  pub after-twice : (q p : SegmentList) (es : List (SegmentList × V)) → segments_after q (segments_after p es)
       ≡ segments_after (q ++ p) es
-  behind-twice q p [] = refl
-  behind-twice q p (e ∷ es) = rw (append_assoc q p e.0, behind-twice q p es) refl
+  after-twice q p [] = refl
+  after-twice q p (e ∷ es) = rw (append_assoc q p e.0, after-twice q p es) refl
 
-  pub behind-own : (q : SegmentList) (v : Option V) (es : List (SegmentList × V))
+  pub after-own : (q : SegmentList) (v : Option V) (es : List (SegmentList × V))
       → segments_after q (value_at [] v ++ es) ≡ value_at q v ++ segments_after q es
-  behind-own q None es = refl
-  behind-own q (Some v) es = ap (λ k. (k, v) ∷ segments_after q es) (append-nil q)
+  after-own q None es = refl
+  after-own q (Some v) es = ap (λ k. (k, v) ∷ segments_after q es) (append-nil q)
 
   -- what lies below the levels of a path doesn't hang on what it keeps after them
   pub entries_below-same : (g : Grown) (longest deep d : ℕ) (k p : SegmentList) (ls : List (Level V))
-      → AreStations longest deep ls → deep ≤ d → d ≤ length k → entries_below g (take d k ++ p) ls
+      → AreLevels longest deep ls → deep ≤ d → d ≤ length k → entries_below g (take d k ++ p) ls
       ≡ entries_below g k ls
   entries_below-same g longest deep d k p [] w h l = refl
   entries_below-same g longest deep d k p (x ∷ ls) w h l =
@@ -135,7 +135,7 @@ module _ {V : Type 0} where
       pub counted : nodes_below ls ≡ nodes_below ms + 1
 
   turn-still : (g : Grown) (longest d : ℕ) (k : SegmentList) (t : Trie V) (b : ℕ) (cs : Children V)
-      (ls : List (Level V)) → AreStations longest d ls → d ≤ length k
+      (ls : List (Level V)) → AreLevels longest d ls → d ≤ length k
       → entries_below g k ((child b t cs, d) ∷ ls) ≡ value_at (take d k ++ g (prefix_of t)) (value_of t)
       ++ entries_below g (take d k ++ g (prefix_of t))
       ((children_in t, length (take d k ++ g (prefix_of t))) ∷ (cs, d) ∷ ls)
@@ -143,10 +143,10 @@ module _ {V : Type 0} where
       let q : SegmentList = take d k in
       let own : segments_after q (entries_of g (node p v n ds))
       ≡ value_at (q ++ g p) v ++ segments_after (q ++ g p) (children_entries g ds)
-      = behind-twice q (g p) (value_at [] v ++ children_entries g ds)
-      ∙ behind-own (q ++ g p) v (children_entries g ds) in
+      = after-twice q (g p) (value_at [] v ++ children_entries g ds)
+      ∙ after-own (q ++ g p) v (children_entries g ds) in
       rw (
-        behind-append q (entries_of g (node p v n ds)) (children_entries g cs),
+        after-append q (entries_of g (node p v n ds)) (children_entries g cs),
         own,
         take_all (length (q ++ g p))
             (q ++ g p) (omega arith),
@@ -167,7 +167,7 @@ module _ {V : Type 0} where
     pub others : AreCanonical 0 cs
     pub others_fit : d + longest_key (children_pairs cs) ≤ longest
     pub others_deep : length ls + longest_key (children_pairs cs) ≤ longest
-    pub above : AreStations longest d ls
+    pub above : AreLevels longest d ls
     pub room : longest < places
 
   pub first-child : (longest places : ℕ) (k : SegmentList) (d : ℕ) (t : Trie V) (b : ℕ) (cs : Children V)
@@ -205,7 +205,7 @@ module _ {V : Type 0} where
       let n : length (take d k ++ g (prefix_of t)) ≡ d + length (g (prefix_of t))
       = omega (arith, length-append (take d k) (g (prefix_of t)), length-take d k) in
       let m = s (prefix_of t) in
-      let below : AreStations longest (length (take d k ++ g (prefix_of t))) ((cs, d) ∷ ls)
+      let below : AreLevels longest (length (take d k ++ g (prefix_of t))) ((cs, d) ∷ ls)
       = (omega (arith, n), c.others, c.others_fit, c.others_deep, c.above) in
       record {
         path = record {
@@ -224,8 +224,8 @@ module _ {V : Type 0} where
     pub falls : work_left rest < work_left ls
     pub counted : nodes_below ls ≡ nodes_below rest
 
-  pub deeper : (longest deep more : ℕ) (ls : List (Level V)) → deep ≤ more → AreStations longest deep ls
-      → AreStations longest more ls
+  pub deeper : (longest deep more : ℕ) (ls : List (Level V)) → deep ≤ more → AreLevels longest deep ls
+      → AreLevels longest more ls
   deeper longest deep more [] h w = tt
   deeper longest deep more (l ∷ ls) h w = (omega (arith, w.0), w.1, w.2, w.3, w.4)
 
@@ -236,7 +236,7 @@ module _ {V : Type 0} where
         path = record {
           stations = deeper longest d (length k) rest q.stations.0 q.stations.4;
           room
-              = room-behind longest places (no_children, d) rest q.room;
+              = room-after longest places (no_children, d) rest q.room;
           short = q.short;
         };
         still = refl;
@@ -310,7 +310,7 @@ module _ {V : Type 0} where
   -- a walk goes on to a child
   pub turn-either : (g : Grown) (longest places places1 d : ℕ) (k k1 : SegmentList) (t : Trie V)
       (st st1 st2 : List (Level V)) → IsShort g → IsWalk longest places k (reverse st)
-      → DeepestStep st t d st1 → k1 ≡ take d k ++ g (prefix_of t) → GoesOn st1 t (length k1) st2 → places ≤ places1
+      → DeepestStep st t d st1 → k1 ≡ take d k ++ g (prefix_of t) → PushesLevel st1 t (length k1) st2 → places ≤ places1
       → Turn g longest places1 k k1 (reverse st) (reverse st2) t
   turn-either g longest places places1 d k k1 t st st1 st2 h p s i o m = ⊎_elim
       (λ f. turn g longest places places1 d k k1 t (children_in t) st st1 st2 h p s i refl f m)
@@ -375,8 +375,8 @@ module _ {V : Type 0} where
     append-nil
         (segments_after (k0 ++ g p) (children_entries g cs)),
   )
-      (sym (behind-twice k0 (g p) (value_at [] v ++ children_entries g cs)
-      ∙ behind-own (k0 ++ g p) v (children_entries g cs)))
+      (sym (after-twice k0 (g p) (value_at [] v ++ children_entries g cs)
+      ∙ after-own (k0 ++ g p) v (children_entries g cs)))
 
   pub start-entries : (g : Grown) (t : Trie V) (k0 k : SegmentList) (o : Option V) (cs : Children V)
       (st rest : List (Level V)) → k ≡ k0 ++ g (prefix_of t) → o ≡ value_of t → cs ≡ children_in t → rest ≡ []
@@ -395,9 +395,9 @@ module _ {V : Type 0} where
   pub prefix-short : (t : Trie V) → is_canonical t ≡ true → length (prefix_of t) ≤ longest_key (pairs_of t)
   prefix-short t w = omega (arith, longest-below t (IsCanonical-test t w))
 
-  pub behind-none : (es : List (SegmentList × V)) → segments_after [] es ≡ es
-  behind-none [] = refl
-  behind-none (e ∷ es) = ap (λ z. e ∷ z) (behind-none es)
+  pub after-none : (es : List (SegmentList × V)) → segments_after [] es ≡ es
+  after-none [] = refl
+  after-none (e ∷ es) = ap (λ z. e ∷ z) (after-none es)
 
   -- a walk over nothing
   pub no-walk : (longest places : ℕ) (k : SegmentList) (st : List (Level V)) → k ≡ [] → st ≡ []

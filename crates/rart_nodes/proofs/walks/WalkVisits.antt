@@ -3,8 +3,8 @@ use Rattle.std.proofs.Common.{◌≡◌, ℕ, ◌+◌, ◌<◌, ◌≤◌, ◌�
 use Rattle.std.proofs.Common.{length-append, take, reverse, Some, None, refl, ap, arith}
 use Rattle.std.proofs.lemmas.List.{length-take}
 use Rattle.rart_nodes.specs.tries.CanonicalTest.{is_canonical}
-use Rattle.rart_nodes.specs.walks.Walk.{SegmentList, Grown, Tells, Level, IsWalk}
-use Rattle.rart_nodes.specs.walks.WalkSteps.{DeepestLeft, DeepestStep, GoesOn}
+use Rattle.rart_nodes.specs.walks.Walk.{SegmentList, Grown, KeepsEach, Level, IsWalk}
+use Rattle.rart_nodes.specs.walks.WalkSteps.{DeepestLeft, DeepestStep, PushesLevel}
 use Rattle.rart_nodes.specs.tries.Trie.{Trie, node, Children, no_children, child, children_in, prefix_of, value_of}
 use Rattle.rart_nodes.specs.tries.Trie.{IsCanonical}
 use Rattle.rart_nodes.proofs.tries.CanonicalTests.{IsCanonical-test}
@@ -13,7 +13,7 @@ use Rattle.rart_nodes.proofs.walks.WalkLemmas.{first-child, deepest}
 not-bare : (V : Type 0) (p : List ℕ) (n : ℕ) → IsCanonical {V = V} (node p None n no_children) → ⊥
 not-bare V p n w = ⊎_elim (λ h. cc) (λ h. absurd h) w.0
 
-told : (g : Grown) (p : List ℕ) → Tells g → 0 < length p → 0 < length (g p)
+told : (g : Grown) (p : List ℕ) → KeepsEach g → 0 < length p → 0 < length (g p)
 told g [] h l = absurd (omega arith)
 told g (b ∷ p) h l = h b p
 
@@ -42,7 +42,7 @@ module _ {V : Type 0} where
 
   -- a child of the deepest level is visited
   pub visit-one : (g : Grown) (longest places n m m1 d : ℕ) (k k1 : SegmentList) (t : Trie V) (st st1 : List (Level V))
-      → Tells g → IsWalk longest places k (reverse st) → HasVisited n m k (reverse st)
+      → KeepsEach g → IsWalk longest places k (reverse st) → HasVisited n m k (reverse st)
       → DeepestStep st t d st1 → k1 ≡ take d k ++ g (prefix_of t) → m1 ≡ m + 1 → m1 ≤ n + length k1
   visit-one g longest places n m m1 d k k1 t st st1 tells p h s i f =
       let e : reverse st ≡ (child s.edge t s.others, d) ∷ reverse s.rest
@@ -73,7 +73,7 @@ module _ {V : Type 0} where
 
   -- the node that was visited has no value
   pub visit-on : (n m : ℕ) (t : Trie V) (k : SegmentList) (st1 st2 : List (Level V)) → is_canonical t ≡ true
-      → None ≡ value_of t → GoesOn st1 t (length k) st2 → m ≤ n + length k → HasVisited n m k (reverse st2)
+      → None ≡ value_of t → PushesLevel st1 t (length k) st2 → m ≤ n + length k → HasVisited n m k (reverse st2)
   visit-on n m t k st1 st2 w v o h = ⊎_elim
       (λ e. inr (h, rw (deepest st2 st1 (children_in t, length k) e) (fresh-node t k (reverse st1) w v)))
       (λ e. absurd (has-child t w v e.1)) o

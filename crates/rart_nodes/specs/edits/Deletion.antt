@@ -5,7 +5,7 @@ use Rattle.rart_keys.specs.ByteStrings.{strip_prefix}
 use Rattle.rart_keys.specs.KeyBytes.{IsWithin}
 use Rattle.rart_nodes.specs.tries.Trie.{Trie, node, Children, no_children, child, edges_of, prefix_of, value_of}
 use Rattle.rart_nodes.specs.tries.Trie.{capacity_in, child_in, children_in, child_of}
-use Rattle.rart_nodes.specs.storages.Widths.{narrowed, previous_width}
+use Rattle.rart_nodes.specs.storages.Widths.{narrowed_width, previous_width}
 
 -- children without the one at a byte
 abbrev pub children_without : {V : Type 0} → ℕ → Children V → Children V
@@ -34,13 +34,13 @@ abbrev pub joined_if_lone : {V : Type 0} → Trie V → Trie V
 joined_if_lone (node p v w cs) = if is_lone v cs then joined_child p cs else node p v w cs
 
 -- a node of width w that a child was taken from, and that has cs left
-abbrev pub left_behind : {V : Type 0} → List ℕ → Option V → ℕ → Children V → Trie V
-left_behind p v w cs = if w == 4 && is_lone v cs then joined_child p cs
-    else node p v (narrowed (length (edges_of cs)) w) cs
+abbrev pub remaining_node : {V : Type 0} → List ℕ → Option V → ℕ → Children V → Trie V
+remaining_node p v w cs = if w == 4 && is_lone v cs then joined_child p cs
+    else node p v (narrowed_width (length (edges_of cs)) w) cs
 
 -- a node without the child at a byte
 abbrev pub without_child : {V : Type 0} → ℕ → Trie V → Trie V
-without_child b (node p v w cs) = if is_some (child_of b cs) then left_behind p v w (children_without b cs)
+without_child b (node p v w cs) = if is_some (child_of b cs) then remaining_node p v w (children_without b cs)
     else node p v w cs
 
 -- a child stands at b, and without it the node takes a smaller storage that has a width

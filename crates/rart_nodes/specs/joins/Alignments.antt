@@ -1,18 +1,18 @@
--- The step of a walk in lockstep to the next two nodes whose prefixes end together.
+-- The step of an intersection to the next two nodes whose prefixes end together.
 use Rattle.std.specs.Prelude.{ℕ, ◌≡◌, ◌+◌, List, [], ◌∷◌, Option, Some, None, MatchOption}
 use Rattle.std.specs.Borrow.{Bor}
 use Rattle.rart_keys.specs.declared.partials.Partial.{Ghosts}
 use Rattle.rart_nodes.specs.declared.node.seen.Entered.{Entered}
-use Rattle.rart_nodes.specs.joins.Lockstep.{intersect_nodes}
+use Rattle.rart_nodes.specs.joins.Intersections.{intersect_nodes}
 use Rattle.rart_nodes.specs.joins.SharedEdges.{more_visits}
 use Rattle.rart_nodes.specs.joins.SharedChildren.{IsAligned, shared_right, visits_all}
 use Rattle.rart_nodes.specs.joins.JoinPaths.{Kept, WayGrown}
 use Rattle.rart_nodes.specs.tries.Trie.{Trie, children_in, prefix_of}
 
 -- the child o at the byte b was entered, and shown with that byte as a segment of its prefix, and the rest of it
-abbrev pub EntersBehind : {P V C : Type 0} {G : Ghosts P} → ℕ → Option (Trie V)
+abbrev pub EntersAfter : {P V C : Type 0} {G : Ghosts P} → ℕ → Option (Trie V)
     → Option (Entered P V C G × Bor (List ℕ) × Bor (List ℕ)) → Type 0
-EntersBehind b o r = MatchOption r (o ≡ None) (λ e. (o ≡ Some e.0.node.now) × (e.1.now ≡ b ∷ [])
+EntersAfter b o r = MatchOption r (o ≡ None) (λ e. (o ≡ Some e.0.node.now) × (e.1.now ≡ b ∷ [])
     × (prefix_of e.0.node.now ≡ b ∷ e.2.now))
 
 -- from the nodes t and u the walk came to a fork, and its way went along; or the two have nothing in common

@@ -1,4 +1,4 @@
--- What becomes of a caller's state as a walk in lockstep gives it pairs, by what is kept of the way.
+-- What becomes of a caller's state as an intersection gives it pairs, by what is kept of the way.
 use Rattle.std.specs.Prelude.{ℕ, ◌≡◌, ◌+◌, ◌-◌, ◌^◌, ◌≤◌, ◌<◌, true, min, List, [], ◌∷◌, ◌++◌, length, vec_capacity}
 use Rattle.std.specs.Prelude.{Option}
 use Rattle.std.specs.Borrow.{Bor}
@@ -9,7 +9,7 @@ use Rattle.rart_keys.specs.SortedMap.{values_of}
 use Rattle.rart_nodes.specs.declared.node.intersect.way.JoinPath.TheVariants.{Untold, Bytes, Segments}
 use Rattle.rart_nodes.specs.joins.JoinPaths.{Kept, WayRoom, WayGrown}
 use Rattle.rart_nodes.specs.tries.Trie.{with_prefix}
-use Rattle.rart_nodes.specs.walks.Walk.{joined}
+use Rattle.rart_nodes.specs.walks.Walk.{joined_bytes}
 use Rattle.rart_nodes.specs.walks.PathParts.{lent_segments}
 use Rattle.rart_nodes.specs.walks.ViewSegments.{all_have_bytes}
 
@@ -21,12 +21,12 @@ pub record AreVisitors {F X : Type 0} (room : Kept → ℕ → Type 0) (given : 
   pub gives_none : (s : Kept) (f : F) → given s f [] f
   pub gives_more : (s : Kept) (f g h : F) (xs ys : List (List ℕ × X)) → given s f xs g → given s g ys h
       → given s f (xs ++ ys) h
-  pub gives_behind : (s t : Kept) (p : List ℕ) (f g : F) (es : List (List ℕ × X)) → WayGrown s p t → given t f es g
+  pub gives_after : (s t : Kept) (p : List ℕ) (f g : F) (es : List (List ℕ × X)) → WayGrown s p t → given t f es g
       → given s f (with_prefix p es) g
 
 -- `can s f x`: after the way s, f may be given x. It is so after more of the way with less of the key
-abbrev pub CanBehind : {F X : Type 0} → (Kept → F → List ℕ × X → Type 0) → Type 0
-CanBehind {F} {X} can = (s t : Kept) (p : List ℕ) (f : F) (x : List ℕ × X) → WayGrown s p t → can s f (p ++ x.0, x.1)
+abbrev pub CanDeeper : {F X : Type 0} → (Kept → F → List ℕ × X → Type 0) → Type 0
+CanDeeper {F} {X} can = (s t : Kept) (p : List ℕ) (f : F) (x : List ℕ × X) → WayGrown s p t → can s f (p ++ x.0, x.1)
     → can t f x
 
 -- after the way s, f may be given each of the pairs es, as those before it leave f
@@ -73,7 +73,7 @@ CanGiveKeys q (Segments k) f x = Unit {0}
 -- pairs given with views of their keys, from the segments of the way
 pub record ViewRoom (k : Vec (Bor (List ℕ))) (n : ℕ) : Type 0 where
   pub place : length k.items + n ≤ vec_capacity k
-  pub fits : length (joined (lent_segments k.items)) + n < 2 ^ 64
+  pub fits : length (joined_bytes (lent_segments k.items)) + n < 2 ^ 64
   pub full : all_have_bytes (lent_segments k.items) ≡ true
 
 abbrev pub ViewsRoom : Kept → ℕ → Type 0
@@ -84,9 +84,9 @@ ViewsRoom (Segments k) n = ViewRoom k n
 abbrev pub GivenViews : {F X : Type 0} → (F → List ℕ × X → F → Type 0) → Kept → F → List (List ℕ × X) → F → Type 0
 GivenViews r Untold f es g = Unit {0}
 GivenViews r (Bytes k) f es g = Unit {0}
-GivenViews r (Segments k) f es g = FoldsTo r f (with_prefix (joined (lent_segments k.items)) es) g
+GivenViews r (Segments k) f es g = FoldsTo r f (with_prefix (joined_bytes (lent_segments k.items)) es) g
 
 abbrev pub CanGiveViews : {F X : Type 0} → (F → List ℕ × X → Type 0) → Kept → F → List ℕ × X → Type 0
 CanGiveViews q Untold f x = Unit {0}
 CanGiveViews q (Bytes k) f x = Unit {0}
-CanGiveViews q (Segments k) f x = q f (joined (lent_segments k.items) ++ x.0, x.1)
+CanGiveViews q (Segments k) f x = q f (joined_bytes (lent_segments k.items) ++ x.0, x.1)

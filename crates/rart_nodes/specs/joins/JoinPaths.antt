@@ -1,10 +1,10 @@
--- What a walk in lockstep keeps of its way, and how that grows and is cut.
+-- What an intersection keeps of its way, and how that grows and is cut.
 use Rattle.std.specs.Prelude.{ℕ, ◌≡◌, ◌+◌, ◌≤◌, true, List, ◌++◌, length, take, vec_capacity}
 use Rattle.std.specs.Borrow.{Bor}
 use Rattle.std.specs.Global.{Vec}
 use Rattle.rart_nodes.specs.declared.node.intersect.way.JoinPath.{JoinPath}
 use Rattle.rart_nodes.specs.declared.node.intersect.way.JoinPath.TheVariants.{Untold, Bytes, Segments}
-use Rattle.rart_nodes.specs.walks.Walk.{SegmentList, joined}
+use Rattle.rart_nodes.specs.walks.Walk.{SegmentList, joined_bytes}
 use Rattle.rart_nodes.specs.walks.PathParts.{lent_segments}
 use Rattle.rart_nodes.specs.walks.ViewSegments.{all_have_bytes}
 
@@ -31,7 +31,7 @@ pub record BytesGrown (k : Vec ℕ) (p : List ℕ) (l : Vec ℕ) : Type 0 where
 pub record SegmentsGrown (k : Vec (Bor (List ℕ))) (p : List ℕ) (l : Vec (Bor (List ℕ))) : Type 0 where
   pub more : SegmentList
   pub segments : lent_segments l.items ≡ lent_segments k.items ++ more
-  pub bytes : joined more ≡ p
+  pub bytes : joined_bytes more ≡ p
   pub full : all_have_bytes more ≡ true
   pub place : vec_capacity k ≤ vec_capacity l
 

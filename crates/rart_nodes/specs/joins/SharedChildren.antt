@@ -2,7 +2,7 @@
 use Rattle.std.specs.Prelude.{ℕ, ◌≡◌, ◌+◌, ◌≤◌, List, [], ◌∷◌, ◌++◌, length, Option, Some, None}
 use Rattle.rart_keys.specs.Joins.{both}
 use Rattle.rart_keys.specs.SortedMap.{longest_key}
-use Rattle.rart_nodes.specs.joins.Lockstep.{intersect_nodes}
+use Rattle.rart_nodes.specs.joins.Intersections.{intersect_nodes}
 use Rattle.rart_nodes.specs.joins.SharedEdges.{more_visits}
 use Rattle.rart_nodes.specs.tries.Trie.{Trie, Children, no_children, child, children_in, children_pairs, child_in}
 use Rattle.rart_nodes.specs.tries.Trie.{own_pair, pairs_of, value_of, with_prefix}

@@ -1,8 +1,8 @@
--- The strings at which two trees branch and both go on, and the visits of a walk in lockstep.
+-- The strings at which two trees branch and both go on, and the visits of an intersection.
 use Rattle.std.specs.Prelude.{ℕ, ◌+◌, ◌||◌, ◌&&◌, Bool, false, List, [], ◌∷◌, ◌++◌, map, length, is_some}
 use Rattle.std.specs.List.{filter}
-use Rattle.rart_nodes.specs.joins.Lockstep.{Pairing, pair_child, pair_down, pair_each, pair_in, pair_prefixes}
-use Rattle.rart_nodes.specs.joins.Lockstep.{pair_tries}
+use Rattle.rart_nodes.specs.joins.Intersections.{Pairing, pair_child, pair_down, pair_each, pair_in, pair_prefixes}
+use Rattle.rart_nodes.specs.joins.Intersections.{pair_tries}
 use Rattle.rart_nodes.specs.shapes.BranchPoints.{begins_any}
 use Rattle.rart_keys.specs.SortedMap.{keys_of, put}
 use Rattle.rart_nodes.specs.shapes.Shape.{record_at}
@@ -50,8 +50,8 @@ abbrev pub more_visits : {V W : Type 0} → Trie V → Trie W → ℕ
 more_visits t u = pair_tries counts_visits (λ v w n. n) t u
 
 -- the same step by step
-abbrev pub count_lockstep : List ℕ → List ℕ → ℕ → (ℕ → List ℕ → ℕ) → (ℕ → List ℕ → ℕ) → ℕ
-count_lockstep p q ended f g = pair_prefixes 0 (λ x n. n) p q ended f g
+abbrev pub count_prefixes : List ℕ → List ℕ → ℕ → (ℕ → List ℕ → ℕ) → (ℕ → List ℕ → ℕ) → ℕ
+count_prefixes p q ended f g = pair_prefixes 0 (λ x n. n) p q ended f g
 
 abbrev pub visits_each : {W : Type 0} → (ℕ → Trie W → ℕ) → Children W → ℕ
 visits_each f ds = pair_each 0 (λ m n. m + n) f ds

@@ -2,7 +2,7 @@
 -- lemma of proofs/. The words that they speak of are in Given.antt.
 pub use Rattle.rart_nodes.specs.joins.Given.{
   AreVisitors,
-  CanBehind,
+  CanAfter,
   CanGive,
   CanGiveKeys,
   CanGiveValues,
@@ -30,7 +30,7 @@ use Rattle.rart_nodes.specs.joins.JoinPaths.{Kept, WayRoom, WayGrown, BytesGrown
 use Rattle.rart_nodes.specs.tries.PrefixLaws.{prefix-append, prefix-twice, values-append, values-with_prefix}
 use Rattle.rart_nodes.specs.tries.Trie.{with_prefix}
 use Rattle.rart_nodes.specs.walks.SegmentLaws.{full-append, joined-append, many-joined}
-use Rattle.rart_nodes.specs.walks.Walk.{joined}
+use Rattle.rart_nodes.specs.walks.Walk.{joined_bytes}
 use Rattle.rart_nodes.specs.walks.PathParts.{lent_segments}
 
 folds-append : {P A : Type 0} (R : P → A → P → Type 0) (p q r : P) (xs ys : List A) → FoldsTo R p xs q
@@ -75,7 +75,7 @@ way-room (Segments k) Untold p m n a b c = absurd a
 way-room (Segments k) (Bytes l) p m n a b c = absurd a
 way-room (Segments k) (Segments l) p m n a b c = segments_room k l p m n a b c
 
-pub can_values : {F X : Type 0} (q : F → X → Type 0) → CanBehind (CanGiveValues q)
+pub can_values : {F X : Type 0} (q : F → X → Type 0) → CanAfter (CanGiveValues q)
 can_values q s t p f x w h = h
 
 pub give_values : {F X : Type 0} (r : F → X → F → Type 0) → AreVisitors WayRoom (GivenValues r)
@@ -84,7 +84,7 @@ give_values r = record {
   has_room = way-room;
   gives_none = λ s f. refl;
   gives_more = λ s f g h xs ys a b. rw (values-append xs ys) (folds-append r f g h (values_of xs) (values_of ys) a b);
-  gives_behind = λ s t p f g es a b. rw (values-with_prefix p es) b;
+  gives_after = λ s t p f g es a b. rw (values-with_prefix p es) b;
 }
 
 keys-hold : (most : Option ℕ) (s : Kept) (n : ℕ) → KeysRoom most s n → WayRoom s n
@@ -116,15 +116,15 @@ keys-more r (Bytes k) f g h xs ys a b = rw (prefix-append k.items xs ys)
     (folds-append r f g h (with_prefix k.items xs) (with_prefix k.items ys) a b)
 keys-more r (Segments k) f g h xs ys a b = tt
 
-keys-behind : {F X : Type 0} (r : F → List ℕ × X → F → Type 0) (s t : Kept) (p : List ℕ) (f g : F)
+keys-after : {F X : Type 0} (r : F → List ℕ × X → F → Type 0) (s t : Kept) (p : List ℕ) (f g : F)
     (es : List (List ℕ × X)) → WayGrown s p t → GivenKeys r t f es g → GivenKeys r s f (with_prefix p es) g
-keys-behind r Untold t p f g es a b = tt
-keys-behind r (Segments k) t p f g es a b = tt
-keys-behind r (Bytes k) Untold p f g es a b = absurd a
-keys-behind r (Bytes k) (Segments l) p f g es a b = absurd a
-keys-behind r (Bytes k) (Bytes l) p f g es a b = rw (prefix-twice k.items p es, ← a.bytes) b
+keys-after r Untold t p f g es a b = tt
+keys-after r (Segments k) t p f g es a b = tt
+keys-after r (Bytes k) Untold p f g es a b = absurd a
+keys-after r (Bytes k) (Segments l) p f g es a b = absurd a
+keys-after r (Bytes k) (Bytes l) p f g es a b = rw (prefix-twice k.items p es, ← a.bytes) b
 
-pub can_keys : {F X : Type 0} (q : F → List ℕ × X → Type 0) → CanBehind (CanGiveKeys q)
+pub can_keys : {F X : Type 0} (q : F → List ℕ × X → Type 0) → CanAfter (CanGiveKeys q)
 can_keys q Untold Untold p f x w h = tt
 can_keys q Untold (Bytes l) p f x w h = absurd w
 can_keys q Untold (Segments l) p f x w h = tt
@@ -143,7 +143,7 @@ give_keys most r = record {
   gives_none = keys-none r;
   gives_more
       = keys-more r;
-  gives_behind = keys-behind r;
+  gives_after = keys-after r;
 }
 
 views-hold : (s : Kept) (n : ℕ) → ViewsRoom s n → WayRoom s n
@@ -162,10 +162,10 @@ views-room (Segments k) (Segments l) p m n a b c = record {
     arith,
     c,
     b.fits,
-    ap (λ z. length (joined z)) a.segments,
+    ap (λ z. length (joined_bytes z)) a.segments,
     ap length
         (joined-append (lent_segments k.items) a.more),
-    length-append (joined (lent_segments k.items)) (joined a.more),
+    length-append (joined_bytes (lent_segments k.items)) (joined_bytes a.more),
     ap
         length a.bytes,
   );
@@ -181,21 +181,22 @@ views-more : {F X : Type 0} (r : F → List ℕ × X → F → Type 0) (s : Kept
     → GivenViews r s f xs g → GivenViews r s g ys h → GivenViews r s f (xs ++ ys) h
 views-more r Untold f g h xs ys a b = tt
 views-more r (Bytes k) f g h xs ys a b = tt
-views-more r (Segments k) f g h xs ys a b = let p = joined (lent_segments k.items) in
+views-more r (Segments k) f g h xs ys a b = let p = joined_bytes (lent_segments k.items) in
     rw (prefix-append p xs ys) (folds-append r f g h (with_prefix p xs) (with_prefix p ys) a b)
 
-views-behind : {F X : Type 0} (r : F → List ℕ × X → F → Type 0) (s t : Kept) (p : List ℕ) (f g : F)
+views-after : {F X : Type 0} (r : F → List ℕ × X → F → Type 0) (s t : Kept) (p : List ℕ) (f g : F)
     (es : List (List ℕ × X)) → WayGrown s p t → GivenViews r t f es g → GivenViews r s f (with_prefix p es) g
-views-behind r Untold t p f g es a b = tt
-views-behind r (Bytes k) t p f g es a b = tt
-views-behind r (Segments k) Untold p f g es a b = absurd a
-views-behind r (Segments k) (Bytes l) p f g es a b = absurd a
-views-behind r (Segments k) (Segments l) p f g es a b =
-    let whole : joined (lent_segments l.items) ≡ joined (lent_segments k.items) ++ p = ap joined a.segments
-    ∙ joined-append (lent_segments k.items) a.more ∙ ap (λ z. joined (lent_segments k.items) ++ z) a.bytes in
-    rw (prefix-twice (joined (lent_segments k.items)) p es, ← whole) b
+views-after r Untold t p f g es a b = tt
+views-after r (Bytes k) t p f g es a b = tt
+views-after r (Segments k) Untold p f g es a b = absurd a
+views-after r (Segments k) (Bytes l) p f g es a b = absurd a
+views-after r (Segments k) (Segments l) p f g es a b =
+    let whole : joined_bytes (lent_segments l.items) ≡ joined_bytes (lent_segments k.items) ++ p = ap joined_bytes
+    a.segments
+    ∙ joined-append (lent_segments k.items) a.more ∙ ap (λ z. joined_bytes (lent_segments k.items) ++ z) a.bytes in
+    rw (prefix-twice (joined_bytes (lent_segments k.items)) p es, ← whole) b
 
-pub can_views : {F X : Type 0} (q : F → List ℕ × X → Type 0) → CanBehind (CanGiveViews q)
+pub can_views : {F X : Type 0} (q : F → List ℕ × X → Type 0) → CanAfter (CanGiveViews q)
 can_views q Untold Untold p f x w h = tt
 can_views q Untold (Bytes l) p f x w h = tt
 can_views q Untold (Segments l) p f x w h = absurd w
@@ -205,9 +206,10 @@ can_views q (Bytes k) (Segments l) p f x w h = absurd w
 can_views q (Segments k) Untold p f x w h = tt
 can_views q (Segments k) (Bytes l) p f x w h = tt
 can_views q (Segments k) (Segments l) p f x w h =
-    let whole : joined (lent_segments l.items) ≡ joined (lent_segments k.items) ++ p = ap joined w.segments
-    ∙ joined-append (lent_segments k.items) w.more ∙ ap (λ z. joined (lent_segments k.items) ++ z) w.bytes in
-    rw (whole, append_assoc (joined (lent_segments k.items)) p x.0) h
+    let whole : joined_bytes (lent_segments l.items) ≡ joined_bytes (lent_segments k.items) ++ p = ap joined_bytes
+    w.segments
+    ∙ joined-append (lent_segments k.items) w.more ∙ ap (λ z. joined_bytes (lent_segments k.items) ++ z) w.bytes in
+    rw (whole, append_assoc (joined_bytes (lent_segments k.items)) p x.0) h
 
 pub give_views : {F X : Type 0} (r : F → List ℕ × X → F → Type 0) → AreVisitors ViewsRoom (GivenViews r)
 give_views r = record {
@@ -216,5 +218,5 @@ give_views r = record {
   gives_none = views-none r;
   gives_more
       = views-more r;
-  gives_behind = views-behind r;
+  gives_after = views-after r;
 }

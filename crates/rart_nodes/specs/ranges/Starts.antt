@@ -5,7 +5,7 @@ use Rattle.std.specs.List.{filter}
 use Rattle.std.specs.declared.ops.Bound.{Bound}
 use Rattle.rart_keys.specs.Ranges.{is_from_bound, is_to, up_to}
 use Rattle.rart_nodes.specs.tries.Trie.{Children, no_children, child}
-use Rattle.rart_nodes.specs.walks.Walk.{SegmentList, joined}
+use Rattle.rart_nodes.specs.walks.Walk.{SegmentList, joined_bytes}
 
 -- the children whose byte is above b
 abbrev pub children_above : {V : Type 0} → ℕ → Children V → Children V
@@ -14,12 +14,12 @@ children_above b (child c t cs) = if nat_lt b c then child c t (children_above b
 
 -- the entries whose key comes after s, and where h says so the one at s
 abbrev pub entries_from : {V : Type 0} → Bool → List ℕ → List (SegmentList × V) → List (SegmentList × V)
-entries_from h s es = filter (λ e. is_from_bound h s (joined e.0)) es
+entries_from h s es = filter (λ e. is_from_bound h s (joined_bytes e.0)) es
 
 -- the entries before the first one past an end
 abbrev pub entries_to : {V : Type 0} → Bound (List ℕ) → List (SegmentList × V) → List (SegmentList × V)
 entries_to b [] = []
-entries_to b (e ∷ es) = if is_to b (joined e.0) then e ∷ entries_to b es else []
+entries_to b (e ∷ es) = if is_to b (joined_bytes e.0) then e ∷ entries_to b es else []
 
 -- one more than the bytes of the first key, or nothing where no pair is left
 abbrev pub bytes_taken : {V : Type 0} → List (List ℕ × V) → ℕ

@@ -4,7 +4,7 @@ use Rattle.std.specs.Prelude.{OnSome}
 use Rattle.rart_parts.specs.Entries.{ascending, child_at, replaced}
 use Rattle.rart_nodes.specs.declared.node.storage.Storage.{Storage}
 use Rattle.rart_nodes.specs.declared.node.storage.Storage.TheVariants.{Leaf, Node4, Node16, Node48, Node256}
-use Rattle.rart_nodes.specs.storages.Widths.{narrowed, previous_width}
+use Rattle.rart_nodes.specs.storages.Widths.{narrowed_width, previous_width}
 
 -- the children, each with its edge byte, in the order of the bytes
 abbrev pub stored : {N : Type 0} → Storage N → List (ℕ × N)
@@ -29,7 +29,7 @@ NarrowsStored b s = (child_at b (stored s) ≢ None) × (4 < width_of s)
 
 -- the width of a storage that the child at b was taken from, if one stood there, and that has n left
 abbrev pub width_without : {N : Type 0} → ℕ → Storage N → ℕ → ℕ
-width_without b s n = if is_some (child_at b (stored s)) then narrowed n (width_of s) else width_of s
+width_without b s n = if is_some (child_at b (stored s)) then narrowed_width n (width_of s) else width_of s
 
 -- a storage of the same width that holds these children, or the same
 abbrev pub StoresSo : {N : Type 0} → Storage N → List (ℕ × N) → Storage N → Type 0

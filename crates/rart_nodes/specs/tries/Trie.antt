@@ -97,14 +97,14 @@ pub record Descent (V A : Type 0) : Type 0 where
   pub on : Trie V → A → A
 
 -- at a node, by what is left of the key after its prefix
-abbrev pub behind : {A : Type 0} → A → A → (A → A) → Option (List ℕ) → (ℕ → List ℕ → A) → A
-behind left ended on None f = left
-behind left ended on (Some []) f = ended
-behind left ended on (Some (b ∷ k)) f = on (f b (b ∷ k))
+abbrev pub by_rest : {A : Type 0} → A → A → (A → A) → Option (List ℕ) → (ℕ → List ℕ → A) → A
+by_rest left ended on None f = left
+by_rest left ended on (Some []) f = ended
+by_rest left ended on (Some (b ∷ k)) f = on (f b (b ∷ k))
 
 abbrev mutual
   pub descend : {V A : Type 0} → Descent V A → List ℕ → Trie V → A
-  descend d k (node p v n cs) = behind (d.left k (node p v n cs)) (d.ended (node p v n cs)) (d.on (node p v n cs))
+  descend d k (node p v n cs) = by_rest (d.left k (node p v n cs)) (d.ended (node p v n cs)) (d.on (node p v n cs))
       (strip_prefix p k) (λ b r. descend_child d b r cs)
 
   pub descend_child : {V A : Type 0} → Descent V A → ℕ → List ℕ → Children V → A
@@ -126,8 +126,8 @@ trie_lookup k t = descend looks_up k t
 abbrev pub child_lookup : {V : Type 0} → ℕ → List ℕ → Children V → Option V
 child_lookup b k cs = descend_child looks_up b k cs
 
-abbrev pub answer_behind : {V : Type 0} → Option (List ℕ) → Option V → (ℕ → List ℕ → Option V) → Option V
-answer_behind o v f = behind None v (λ x. x) o f
+abbrev pub answer_after : {V : Type 0} → Option (List ℕ) → Option V → (ℕ → List ℕ → Option V) → Option V
+answer_after o v f = by_rest None v (λ x. x) o f
 
 -- a node of the capacity that its children fix
 abbrev pub fitting_node : {V : Type 0} → List ℕ → Option V → Children V → Trie V
@@ -183,18 +183,18 @@ abbrev mutual
 
 -- a node whose value or children were taken: none where nothing is left, and merged with a lone child where it has no
 -- value
-abbrev pub collapsed : {V : Type 0} → List ℕ → Option V → Children V → Option (Trie V)
-collapsed p None no_children = None
-collapsed p None (child b (node q v n cs) no_children) = Some (node (p ++ q) v n cs)
-collapsed p None (child b t (child c u cs)) = Some (fitting_node p None (child b t (child c u cs)))
-collapsed p (Some v) cs = Some (fitting_node p (Some v) cs)
+abbrev pub collapsed_node : {V : Type 0} → List ℕ → Option V → Children V → Option (Trie V)
+collapsed_node p None no_children = None
+collapsed_node p None (child b (node q v n cs) no_children) = Some (node (p ++ q) v n cs)
+collapsed_node p None (child b t (child c u cs)) = Some (fitting_node p None (child b t (child c u cs)))
+collapsed_node p (Some v) cs = Some (fitting_node p (Some v) cs)
 
 -- what is left without a key, by what is left of the key after the prefix
-abbrev pub removed_behind : {V : Type 0} → Option (List ℕ) → List ℕ → Option V → Children V → (ℕ → List ℕ → Children V)
+abbrev pub removed_after : {V : Type 0} → Option (List ℕ) → List ℕ → Option V → Children V → (ℕ → List ℕ → Children V)
     → Option (Trie V)
-removed_behind None p v cs f = collapsed p v cs
-removed_behind (Some []) p v cs f = collapsed p None cs
-removed_behind (Some (b ∷ k)) p v cs f = collapsed p v (f b (b ∷ k))
+removed_after None p v cs f = collapsed_node p v cs
+removed_after (Some []) p v cs f = collapsed_node p None cs
+removed_after (Some (b ∷ k)) p v cs f = collapsed_node p v (f b (b ∷ k))
 
 -- a child in front, if there is one
 abbrev pub child_if : {V : Type 0} → ℕ → Option (Trie V) → Children V → Children V
@@ -204,7 +204,7 @@ child_if b (Some t) cs = child b t cs
 -- a removal, which rebuilds them too
 abbrev mutual
   pub trie_remove : {V : Type 0} → List ℕ → Trie V → Option (Trie V)
-  trie_remove k (node p v n cs) = removed_behind (strip_prefix p k) p v cs (λ b r. remove_child b r cs)
+  trie_remove k (node p v n cs) = removed_after (strip_prefix p k) p v cs (λ b r. remove_child b r cs)
 
   pub remove_child : {V : Type 0} → ℕ → List ℕ → Children V → Children V
   remove_child b k no_children = no_children

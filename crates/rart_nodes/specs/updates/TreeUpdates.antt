@@ -76,13 +76,13 @@ EndsLeaf Remove (Some w) t o u = (o ≡ None) × (u ≡ node_holding (Some w) t)
 EndsLeaf r None t o u = ⊥
 
 -- the leaf at a byte is removed, with this value
-abbrev pub LosesLeaf : {V : Type 0} → ℕ → Option V → Trie V → Result (Outcome V) (UpdateError V) → Trie V → Type 0
-LosesLeaf b w t (Ok (Removed v)) u = (Some v ≡ w) × (u ≡ without_child b t)
-LosesLeaf b w t (Err Not_removed) u = (u ≡ t) × (4 < capacity_in t)
+abbrev pub RemovesLeaf : {V : Type 0} → ℕ → Option V → Trie V → Result (Outcome V) (UpdateError V) → Trie V → Type 0
+RemovesLeaf b w t (Ok (Removed v)) u = (Some v ≡ w) × (u ≡ without_child b t)
+RemovesLeaf b w t (Err Not_removed) u = (u ≡ t) × (4 < capacity_in t)
     × (length (edges_of (children_in t)) ≤ previous_width (capacity_in t) + 1)
-LosesLeaf b w t result u = ⊥
+RemovesLeaf b w t result u = ⊥
 
 -- a root that is a leaf is removed, with its value
-abbrev pub LosesRoot : {V : Type 0} → Option (Trie V) → Result (Outcome V) (UpdateError V) → Option (Trie V) → Type 0
-LosesRoot t (Ok (Removed v)) u = (Some v ≡ option_and_then value_of t) × (u ≡ None)
-LosesRoot t result u = ⊥
+abbrev pub RemovesRoot : {V : Type 0} → Option (Trie V) → Result (Outcome V) (UpdateError V) → Option (Trie V) → Type 0
+RemovesRoot t (Ok (Removed v)) u = (Some v ≡ option_and_then value_of t) × (u ≡ None)
+RemovesRoot t result u = ⊥

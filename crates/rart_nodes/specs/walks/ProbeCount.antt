@@ -5,14 +5,14 @@ use Rattle.rart_nodes.specs.shapes.Shape.{NodeRecord, record_at}
 use Rattle.rart_nodes.specs.tries.Trie.{Trie, Descent, descend, descend_tree}
 
 -- 1 where there is a branch point from which keys go on by b
-abbrev pub goes_on : Option NodeRecord → ℕ → ℕ
-goes_on None b = 0
-goes_on (Some r) b = if list_any (λ c. c == b) r.edges then 1 else 0
+abbrev pub continues_by : Option NodeRecord → ℕ → ℕ
+continues_by None b = 0
+continues_by (Some r) b = if list_any (λ c. c == b) r.edges then 1 else 0
 
 -- over the proper beginnings of a string, whose records f gives
 abbrev pub steps_along : (List ℕ → Option NodeRecord) → List ℕ → ℕ
 steps_along f [] = 0
-steps_along f (b ∷ q) = goes_on (f []) b + steps_along (λ p. f (b ∷ p)) q
+steps_along f (b ∷ q) = continues_by (f []) b + steps_along (λ p. f (b ∷ p)) q
 
 -- 1 for the root, and 1 for each branch point that properly begins q and goes on by q's next byte
 abbrev pub probe_count : List (List ℕ) → List ℕ → ℕ

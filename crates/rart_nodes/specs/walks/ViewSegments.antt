@@ -2,7 +2,7 @@
 use Rattle.std.specs.Prelude.{ℕ, ◌≡◌, ◌<◌, ◌^◌, Bool, true, false, ◌&&◌, List, [], ◌∷◌, length, Option}
 use Rattle.std.specs.Borrow.{Bor}
 use Rattle.std.specs.Option.{option_copied}
-use Rattle.rart_nodes.specs.walks.Walk.{Level, SegmentList, joined, entries_ahead}
+use Rattle.rart_nodes.specs.walks.Walk.{Level, SegmentList, joined_bytes, entries_ahead}
 use Rattle.rart_nodes.specs.walks.PathParts.{lent_segments, one_segment}
 
 -- there is a byte
@@ -18,7 +18,7 @@ all_have_bytes (p ∷ ps) = has_bytes p && all_have_bytes ps
 -- the segments of each path have bytes, and these can be counted
 abbrev pub AreViews : {V : Type 0} → List (SegmentList × V) → Type 0
 AreViews [] = Unit {0}
-AreViews (e ∷ es) = (all_have_bytes e.0 ≡ true) × (length (joined e.0) < 2 ^ 64) × AreViews es
+AreViews (e ∷ es) = (all_have_bytes e.0 ≡ true) × (length (joined_bytes e.0) < 2 ^ 64) × AreViews es
 
 -- what lies ahead of a walk whose path is of segments that are lent
 abbrev pub views_ahead : {V : Type 0} → List (Bor (List ℕ)) → Option (Bor V) → List (Level V) → List (SegmentList × V)

@@ -14,8 +14,8 @@ abbrev pub Grown : Type 0
 Grown = List ℕ → SegmentList
 
 -- something is kept of each prefix that has bytes
-abbrev pub Tells : Grown → Type 0
-Tells g = (b : ℕ) (p : List ℕ) → 0 < length (g (b ∷ p))
+abbrev pub KeepsEach : Grown → Type 0
+KeepsEach g = (b : ℕ) (p : List ℕ) → 0 < length (g (b ∷ p))
 
 -- no more segments are kept of a prefix than it has bytes
 abbrev pub IsShort : Grown → Type 0
@@ -69,15 +69,15 @@ tree_count (Some t) = node_count t
 
 -- levels of canonical nodes, each no deeper than the one before it and than `deep`; no key below them is longer than
 -- `longest`
-abbrev pub AreStations : {V : Type 0} → ℕ → ℕ → List (Level V) → Type 0
-AreStations longest deep [] = Unit {0}
-AreStations longest deep (l ∷ ls) = (l.1 ≤ deep) × AreCanonical 0 l.0
+abbrev pub AreLevels : {V : Type 0} → ℕ → ℕ → List (Level V) → Type 0
+AreLevels longest deep [] = Unit {0}
+AreLevels longest deep (l ∷ ls) = (l.1 ≤ deep) × AreCanonical 0 l.0
     × (l.1 + longest_key (children_pairs l.0) ≤ longest) × (length ls + longest_key (children_pairs l.0) ≤ longest)
-    × AreStations longest l.1 ls
+    × AreLevels longest l.1 ls
 
 -- the levels of a path k, with room for longer ones
 pub record IsWalk {V : Type 0} (longest places : ℕ) (k : SegmentList) (ls : List (Level V)) : Type 0 where
-  pub stations : AreStations longest (length k) ls
+  pub stations : AreLevels longest (length k) ls
   pub room : HasRoom longest places ls
   pub short : length k ≤ longest
 
@@ -87,17 +87,17 @@ abbrev pub entries_ahead : {V : Type 0} → Grown → SegmentList → Option V �
 entries_ahead g k first st = value_at k first ++ entries_below g k (reverse st)
 
 -- the whole string of segments
-abbrev pub joined : SegmentList → List ℕ
-joined [] = []
-joined (p ∷ ps) = p ++ joined ps
+abbrev pub joined_bytes : SegmentList → List ℕ
+joined_bytes [] = []
+joined_bytes (p ∷ ps) = p ++ joined_bytes ps
 
 -- what is kept of a prefix joins to it
 abbrev pub Joins : Grown → Type 0
-Joins g = (p : List ℕ) → joined (g p) ≡ p
+Joins g = (p : List ℕ) → joined_bytes (g p) ≡ p
 
 -- pairs by their whole keys
 abbrev pub join_all : {V : Type 0} → List (SegmentList × V) → List (List ℕ × V)
-join_all es = map (λ e. (joined e.0, e.1)) es
+join_all es = map (λ e. (joined_bytes e.0, e.1)) es
 
 -- the values alone
 abbrev pub entry_values : {V : Type 0} → List (SegmentList × V) → List V

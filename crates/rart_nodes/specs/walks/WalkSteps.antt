@@ -19,8 +19,8 @@ pub record DeepestStep {V : Type 0} (before : List (Level V)) (t : Trie V) (d : 
     pub is : after ≡ rest ++ (others, d) ∷ []
 
 -- a level of t's children comes after the others, n deep, unless t has none
-abbrev pub GoesOn : {V : Type 0} → List (Level V) → Trie V → ℕ → List (Level V) → Type 0
-GoesOn before t n after = (after ≡ before ++ (children_in t, n) ∷ [])
+abbrev pub PushesLevel : {V : Type 0} → List (Level V) → Trie V → ℕ → List (Level V) → Type 0
+PushesLevel before t n after = (after ≡ before ++ (children_in t, n) ∷ [])
     ⊎ ((after ≡ before) × (children_in t ≡ no_children))
 
 -- the value that lay ahead first was given, at the path that is kept now; or nothing lay ahead, and nothing does

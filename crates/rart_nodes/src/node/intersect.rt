@@ -2,7 +2,7 @@
 ghost use Rattle.std.specs.Prelude.{◌≡◌, ◌≤◌, ◌+◌, ◌-◌, [], IfErr, OnErr, OnOk, length, min};
 ghost use Rattle.rart_keys.specs.Joins.{join};
 ghost use Rattle.rart_keys.specs.SortedMap.{longest_key, values_of};
-ghost use Rattle.rart_nodes.specs.joins.Lockstep.{intersect_nodes};
+ghost use Rattle.rart_nodes.specs.joins.Intersections.{intersect_nodes};
 ghost use Rattle.rart_nodes.specs.joins.Visitors.{CanGive};
 ghost use Rattle.rart_nodes.specs.joins.PairCalls.{CalledAtEach, CalledWithEach, CallsAtEach, CallsWithEach, CanCallAt};
 ghost use Rattle.rart_nodes.specs.joins.PairCalls.{CanCallWith};

@@ -13,7 +13,7 @@ ghost use Rattle.rart_nodes.specs.tries.Trie.{IsCanonical, capacity_in, child_in
 ghost use Rattle.rart_nodes.specs.tries.Trie.{prefix_of, trie_lookup, value_of};
 ghost use Rattle.rart_nodes.specs.updates.Callbacks.{StaysReturning, TellsSo};
 ghost use Rattle.rart_nodes.specs.updates.Slots.{CountsPairs, longest_after, slot_of};
-ghost use Rattle.rart_nodes.specs.updates.TreeUpdates.{EndsHere, EndsLeaf, EndsTree, LosesLeaf, LosesRoot};
+ghost use Rattle.rart_nodes.specs.updates.TreeUpdates.{EndsHere, EndsLeaf, EndsTree, RemovesLeaf, RemovesRoot};
 ghost use Rattle.rart_nodes.specs.updates.Updates.{UpdatesMap};
 
 use crate::node::DefaultNode;
@@ -181,8 +181,8 @@ impl<P: Partial, V> DefaultNode<P, V> {
         requires stands { child_in byte self.old ≢ None }
         requires leaf { IfSome (child_in byte self.old)
             (λ t. (edges_of (children_in t) ≡ []) × (value_of t ≢ None)) }
-        ensures { LosesLeaf byte (option_and_then value_of (child_in byte self.old)) self.old result
-            self.new }
+        ensures { RemovesLeaf byte (option_and_then value_of (child_in byte self.old))
+            self.old result self.new }
     {
         match self.take_child(alloc, byte) {
             Ok(Some(child)) => match child.into_value() {
@@ -292,15 +292,15 @@ impl<P: Partial, V> DefaultNode<P, V> {
         };
         match outcome {
             Some(outcome) => (Ok(outcome), told),
-            None => (DefaultNode::lose_root(root), told),
+            None => (DefaultNode::remove_root(root), told),
         }
     }
 
     // Removes the root, which is a leaf.
-    fn lose_root(root: &mut Option<Self>) -> Result<Outcome<V>, UpdateError<V>>
+    fn remove_root(root: &mut Option<Self>) -> Result<Outcome<V>, UpdateError<V>>
         requires leaf { IsSomeAnd root.old
             (λ t. (edges_of (children_in t) ≡ []) × (value_of t ≢ None)) }
-        ensures { LosesRoot root.old result root.new }
+        ensures { RemovesRoot root.old result root.new }
     {
         match root.take() {
             Some(leaf) => match leaf.into_value() {

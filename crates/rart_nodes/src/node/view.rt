@@ -4,7 +4,7 @@ ghost use Rattle.std.specs.Cmp.Lexicographic.{slice_cmp};
 ghost use Rattle.std.specs.Iterator.{YieldsFirstBy, item_count};
 ghost use Rattle.std.specs.Ordering.{nat_cmp};
 ghost use Rattle.rart_keys.specs.KeyBytes.{IsWithin};
-ghost use Rattle.rart_nodes.specs.walks.Walk.{joined};
+ghost use Rattle.rart_nodes.specs.walks.Walk.{joined_bytes};
 ghost use Rattle.rart_nodes.specs.walks.PathParts.{lent_segments};
 ghost use Rattle.rart_nodes.specs.walks.ViewSegments.{all_have_bytes};
 
@@ -23,14 +23,14 @@ use std::slice::Iter;
 #[derive(Clone, Copy, PartialEq, Eq, Debug)]
 pub struct LendingKeyView<'tree, 'view> {
     segments: &'view [&'tree [u8]],
-    ghost fits: { length (joined (lent_segments segments.now)) < 2 ^ 64 },
+    ghost fits: { length (joined_bytes (lent_segments segments.now)) < 2 ^ 64 },
     ghost nonempty: { all_have_bytes (lent_segments segments.now) ≡ true },
 }
 
 impl<'tree, 'view> LendingKeyView<'tree, 'view> {
     /// Returns the view of non-empty segments, whose bytes together must be countable.
     pub(crate) fn of(segments: &'view [&'tree [u8]]) -> Self
-        requires fits { length (joined (lent_segments segments.now)) < 2 ^ 64 }
+        requires fits { length (joined_bytes (lent_segments segments.now)) < 2 ^ 64 }
         requires nonempty { all_have_bytes (lent_segments segments.now) ≡ true }
         ensures { lent_segments result.segments.now ≡ lent_segments segments.now }
     {
@@ -47,7 +47,7 @@ impl<'tree, 'view> LendingKeyView<'tree, 'view> {
 
     /// Returns the number of bytes of the key.
     pub fn len(self) -> usize
-        ensures { result ≡ length (joined (lent_segments self.entry.segments.now)) }
+        ensures { result ≡ length (joined_bytes (lent_segments self.entry.segments.now)) }
     {
         let mut len = 0;
         let mut segments = self.segments.iter();
@@ -59,14 +59,15 @@ impl<'tree, 'view> LendingKeyView<'tree, 'view> {
 
     /// Returns whether the key has no bytes.
     pub fn is_empty(self) -> bool
-        ensures { IsTrue result ↔ (length (joined (lent_segments self.entry.segments.now)) ≡ 0) }
+        ensures { IsTrue result
+            ↔ (length (joined_bytes (lent_segments self.entry.segments.now)) ≡ 0) }
     {
         self.len() == 0
     }
 
     /// Returns an iterator over the bytes.
     pub fn bytes(self) -> LendingKeyBytes<'tree, 'view>
-        ensures { result ≡ joined (lent_segments self.entry.segments.now) }
+        ensures { result ≡ joined_bytes (lent_segments self.entry.segments.now) }
     {
         LendingKeyBytes {
             segment: &[],
@@ -76,7 +77,8 @@ impl<'tree, 'view> LendingKeyView<'tree, 'view> {
 
     /// Returns whether the bytes equal `slice`, exactly if `cmp_slice` returns `Equal`.
     pub fn eq_slice(self, slice: &[u8]) -> bool
-        ensures { IsTrue result ↔ (joined (lent_segments self.entry.segments.now) ≡ slice.now) }
+        ensures { IsTrue result
+            ↔ (joined_bytes (lent_segments self.entry.segments.now) ≡ slice.now) }
     {
         match self.cmp_slice(slice) {
             Ordering::Equal => true,
@@ -86,7 +88,7 @@ impl<'tree, 'view> LendingKeyView<'tree, 'view> {
 
     /// Compares the bytes with `slice` lexicographically.
     pub fn cmp_slice(self, slice: &[u8]) -> Ordering
-        ensures { result ≡ slice_cmp nat_cmp (joined (lent_segments self.entry.segments.now))
+        ensures { result ≡ slice_cmp nat_cmp (joined_bytes (lent_segments self.entry.segments.now))
             slice.now }
     {
         let mut left = slice;
@@ -95,12 +97,12 @@ impl<'tree, 'view> LendingKeyView<'tree, 'view> {
             if left.len() < segment.len() {
                 return (*segment).cmp(left);
             }
-            let (front, behind) = left.split_at(segment.len());
+            let (front, after) = left.split_at(segment.len());
             match (*segment).cmp(front) {
                 Ordering::Equal => {}
                 apart => return apart,
             }
-            left = behind;
+            left = after;
         }
         if left.is_empty() {
             Ordering::Equal
@@ -116,7 +118,7 @@ impl<'tree, 'view> LendingKeyView<'tree, 'view> {
     /// [`TreeError::Memory`] if the allocation fails. The bytes in `destination` are then unchanged.
     pub fn write_into(self, destination: &mut Vec<u8>) -> Result<(), TreeError>
         ensures written { OnOk result (destination.new.items
-            ≡ destination.old.items ++ joined (lent_segments self.entry.segments.now)) }
+            ≡ destination.old.items ++ joined_bytes (lent_segments self.entry.segments.now)) }
         ensures refused { OnErr result (destination.new.items ≡ destination.old.items) }
         ensures memory { IfErr result (λ e. e ≡ TreeError.Memory) }
     {
@@ -137,7 +139,7 @@ impl<'tree, 'view> LendingKeyView<'tree, 'view> {
     /// [`TreeError::Memory`] if the allocation fails.
     pub fn to_vec(self, alloc: Global) -> Result<Vec<u8>, TreeError>
         ensures bytes { IfOk result
-            (λ v. v.items ≡ joined (lent_segments self.entry.segments.now)) }
+            (λ v. v.items ≡ joined_bytes (lent_segments self.entry.segments.now)) }
         ensures memory { IfErr result (λ e. e ≡ TreeError.Memory) }
     {
         let mut bytes = Vec::new(alloc);
@@ -151,9 +153,10 @@ impl<'tree, 'view> LendingKeyView<'tree, 'view> {
     ///
     /// [`TreeError::Memory`] if the allocation fails.
     pub fn to_key<K: KeyTrait>(self, alloc: Global) -> Result<K, TreeError>
-        requires { IsWithin K.MAXIMUM_SIZE (length (joined (lent_segments self.segments.now))) }
+        requires { IsWithin K.MAXIMUM_SIZE
+            (length (joined_bytes (lent_segments self.segments.now))) }
         ensures bytes { IfOk result
-            (λ k. K.bytes k ≡ joined (lent_segments self.entry.segments.now)) }
+            (λ k. K.bytes k ≡ joined_bytes (lent_segments self.entry.segments.now)) }
         ensures memory { IfErr result (λ e. e ≡ TreeError.Memory) }
     {
         let bytes = self.to_vec(alloc)?;
@@ -171,12 +174,12 @@ pub struct LendingKeyBytes<'tree, 'view> {
 impl<'tree, 'view> Model for LendingKeyBytes<'tree, 'view> {
     ghost use Rattle.std.specs.Prelude.{ℕ, List, ◌++◌};
     ghost use Rattle.std.specs.Slice.Iter.{iter_rest};
-    ghost use Rattle.rart_nodes.specs.walks.Walk.{joined};
+    ghost use Rattle.rart_nodes.specs.walks.Walk.{joined_bytes};
     ghost use Rattle.rart_nodes.specs.walks.PathParts.{lent_segments};
 
     ghost Value = { List ℕ };
 
-    ghost view = { λ b. b.segment.now ++ joined (lent_segments (iter_rest b.rest)) };
+    ghost view = { λ b. b.segment.now ++ joined_bytes (lent_segments (iter_rest b.rest)) };
 }
 
 impl<'tree, 'view> Iterator for LendingKeyBytes<'tree, 'view> {
@@ -197,8 +200,8 @@ impl<'tree, 'view> Iterator for LendingKeyBytes<'tree, 'view> {
             let segment = self.rest.next()?;
             self.segment = *segment;
         }
-        let (first, behind) = self.segment.split_first()?;
-        self.segment = behind;
+        let (first, after) = self.segment.split_first()?;
+        self.segment = after;
         Some(*first)
     }
 }

@@ -6,9 +6,10 @@ ghost use Rattle.std.specs.Option.{option_copied};
 ghost use Rattle.rart_keys.specs.SortedMap.{count_of, longest_key};
 ghost use Rattle.rart_nodes.specs.ranges.Potential.{IsAmortized, potential};
 ghost use Rattle.rart_nodes.specs.tries.Tree.{seen_pairs};
-ghost use Rattle.rart_nodes.specs.walks.Walk.{IsWalk, Tells, segments_after, nodes_below, entries_ahead, entries_of};
+ghost use Rattle.rart_nodes.specs.walks.Walk.{IsWalk, KeepsEach, segments_after, nodes_below, entries_ahead};
+ghost use Rattle.rart_nodes.specs.walks.Walk.{entries_of};
 ghost use Rattle.rart_nodes.specs.walks.Walk.{tree_count, tree_entries};
-ghost use Rattle.rart_nodes.specs.walks.WalkSteps.{DeepestLeft, DeepestStep, GoesOn, TakesEntry};
+ghost use Rattle.rart_nodes.specs.walks.WalkSteps.{DeepestLeft, DeepestStep, PushesLevel, TakesEntry};
 ghost use Rattle.rart_nodes.specs.tries.Trie.{pairs_of, prefix_of};
 ghost use Rattle.rart_nodes.specs.tries.TrieCode.{node_count};
 
@@ -57,7 +58,7 @@ fn go_on<'a, P: Partial, V, C, T: Path<'a, P>>(
     requires place { vec_len levels.old < vec_capacity levels.old }
     ensures kept { T.kept path.new
         ≡ take depth (T.kept path.old) ++ T.grown (prefix_of at.entry.node.now) }
-    ensures levels { GoesOn levels.old.items at.entry.node.now (length (T.kept path.new))
+    ensures levels { PushesLevel levels.old.items at.entry.node.now (length (T.kept path.new))
         levels.new.items }
     ensures path_room { T.room path.old ≤ T.room path.new }
     ensures level_room { vec_capacity levels.new ≡ vec_capacity levels.old }
@@ -176,7 +177,7 @@ impl<'a, P: Partial, V, C: Count> Walk<'a, P, V, C> {
         ensures visits { C.number counter.new + nodes_below (reverse self.new.levels.items)
             ≡ C.number counter.old + nodes_below (reverse self.old.levels.items) }
         ensures longest { self.new.longest ≡ self.old.longest }
-        ensures few { Tells T.grown
+        ensures few { KeepsEach T.grown
             → MatchOption result (C.number counter.new ≡ C.number counter.old)
             (λ _. C.number counter.new ≤ C.number counter.old + length (T.kept path.new)) }
         ensures paid { MatchOption result

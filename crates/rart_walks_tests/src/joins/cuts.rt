@@ -3,7 +3,7 @@
 
 use crate::joins::rows::{OTHER_WORDS, WORDS};
 use crate::prefixes::{Key, Pair, Tree, filled};
-use crate::walks::segments::behind;
+use crate::walks::segments::after;
 use rart::{LendingKeyView, Seen, TreeError, TreeStatsTrait, Visits};
 use std::cell::Cell;
 
@@ -57,7 +57,7 @@ fn next_cut(text: &[u8], at: usize, view: LendingKeyView<'_, '_>) -> usize {
         return PAST;
     };
     for segment in view.segments() {
-        match behind(rest, *segment) {
+        match after(rest, *segment) {
             Some(left) => rest = left,
             None => return PAST,
         }

@@ -43,7 +43,7 @@ fn next_multiple(from: usize, one: u8, other: u8) -> usize {
 }
 
 // The number after this one where the key is its byte and both values are it; and else one past all.
-fn behind(number: usize, key: &[u8], left: u64, right: u64) -> usize {
+fn after(number: usize, key: &[u8], left: u64, right: u64) -> usize {
     match key {
         [byte] if usize::from(*byte) == number && left == u64::from(*byte) && right == left => {
             number.wrapping_add(1)
@@ -61,7 +61,7 @@ fn gives_multiples_of_both(
 ) -> Result<bool, TreeError> {
     let next = Cell::new(next_multiple(0, one, other));
     left.intersect_with(right, |key: Key, left: &u64, right: &u64| {
-        let number = behind(next.get(), key.as_ref(), *left, *right);
+        let number = after(next.get(), key.as_ref(), *left, *right);
         next.set(next_multiple(number, one, other));
     })?;
     Ok(next.get() == 256)

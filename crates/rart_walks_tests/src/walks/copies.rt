@@ -9,7 +9,7 @@ use std::cell::Cell;
 /// A copy of a view.
 #[derive(Clone, Copy)]
 enum Copied {
-    Behind,
+    After,
     Vector,
     Key,
 }
@@ -24,7 +24,7 @@ fn two_bytes(alloc: Global) -> Result<Vec<u8>, AllocError> {
 
 // Whether the bytes of the view came after others, with a request refused; and where one was, whether those others
 // stand alone.
-fn is_behind(
+fn is_after(
     alloc: Global,
     view: LendingKeyView<'_, '_>,
     at: usize,
@@ -80,7 +80,7 @@ fn copy(
     at: usize,
 ) -> (Result<bool, TreeError>, bool) {
     match copied {
-        Copied::Behind => is_behind(alloc, view, at),
+        Copied::After => is_after(alloc, view, at),
         Copied::Vector => is_vector(alloc, view, at),
         Copied::Key => is_key(alloc, view, at),
     }
@@ -113,7 +113,7 @@ fn copies_of_a_view_refused_in_turn(rt: HostRuntime) {
     let shown = tree.with_longest_prefix_match_view_k(
         &Key::new_from_slice(b"abcd"),
         |view: LendingKeyView<'_, '_>, _value: &u64| {
-            for copied in [Copied::Behind, Copied::Vector, Copied::Key] {
+            for copied in [Copied::After, Copied::Vector, Copied::Key] {
                 if is_swept(alloc, view, copied) {
                     well.set(well.get().wrapping_add(1));
                 }

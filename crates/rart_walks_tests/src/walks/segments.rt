@@ -29,7 +29,7 @@ const CUT: [(u64, &str); 7] = [
 ];
 
 /// What is left of a text after a segment and a bar.
-pub fn behind<'a>(text: &'a [u8], segment: &[u8]) -> Option<&'a [u8]> {
+pub fn after<'a>(text: &'a [u8], segment: &[u8]) -> Option<&'a [u8]> {
     if !text.starts_with(segment) {
         return None;
     }
@@ -42,7 +42,7 @@ pub fn behind<'a>(text: &'a [u8], segment: &[u8]) -> Option<&'a [u8]> {
 fn is_cut(view: LendingKeyView<'_, '_>, text: &[u8]) -> bool {
     let mut rest = text;
     for segment in view.segments() {
-        match behind(rest, *segment) {
+        match after(rest, *segment) {
             Some(left) => rest = left,
             None => return false,
         }

@@ -3,7 +3,7 @@ ghost use Rattle.std.specs.Prelude.{◌≡◌, ◌≢◌, ◌≤◌, ℕ, List, 
 ghost use Rattle.rart_keys.specs.ArrayKeyBytes.{array_key_bytes};
 ghost use Rattle.rart_keys.specs.SortedMap.{keys_of, values_of};
 ghost use Rattle.rart_nodes.specs.shapes.Shape.{HasShape};
-ghost use Rattle.rart.specs.Migrations.{FailsMigration, terminated, with_zeros};
+ghost use Rattle.rart.specs.Migrations.{FailsMigration, terminated_key, with_zeros};
 
 use crate::migrate::MigrateError;
 use crate::tree::{AdaptiveRadixTree, MAX_PAIRS};
@@ -39,7 +39,7 @@ fn read_texts<const N: usize, V: Copy>(
     old: &AdaptiveRadixTree<ArrayKey<N>, V>,
 ) -> Result<(Vec<ArrayKey<N>>, Vec<V>), MigrateError>
     ensures keys { IfOk result
-        (λ r. keys_of old.now.pairs ≡ map terminated (map array_key_bytes r.0.items)) }
+        (λ r. keys_of old.now.pairs ≡ map terminated_key (map array_key_bytes r.0.items)) }
     ensures values { IfOk result (λ r. values_of old.now.pairs ≡ r.1.items) }
     ensures few { IfOk result (λ r. length r.0.items ≤ MAX_PAIRS) }
     ensures refused { IfErr result (FailsMigration old.now.pairs) }
@@ -70,8 +70,9 @@ fn read_texts<const N: usize, V: Copy>(
 /// Returns the key without its closing zero byte, `None` if it has none.
 fn without_zero<const N: usize>(key: &ArrayKey<N>) -> Option<ArrayKey<N>>
     ensures text { IfSome result
-        (λ text. array_key_bytes key.now ≡ terminated (array_key_bytes text)) }
-    ensures no_text { IfNone result ((text : List ℕ) → array_key_bytes key.now ≢ terminated text) }
+        (λ text. array_key_bytes key.now ≡ terminated_key (array_key_bytes text)) }
+    ensures no_text { IfNone result
+        ((text : List ℕ) → array_key_bytes key.now ≢ terminated_key text) }
 {
     match key.as_slice().split_last() {
         Some((&0, text)) => Some(ArrayKey::new_from_slice(text)),

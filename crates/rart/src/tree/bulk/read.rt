@@ -1,7 +1,7 @@
 //! Items of a bulk load, read one after the other.
 ghost use Rattle.std.specs.Prelude.{◌≡◌, ◌≤◌, length, map, IfErr, IfOk};
 ghost use Rattle.std.specs.Iterator.{IsFinite};
-ghost use Rattle.rart_keys.specs.BulkLists.{WasRead, order_behind};
+ghost use Rattle.rart_keys.specs.BulkLists.{WasRead, order_of_last};
 ghost use Rattle.rart.specs.BulkLoads.{AreSplit, KeepsItem, Reads, ReadsAll, FailsAtItem, FailsSorted, FailsUnique};
 ghost use Rattle.rart.specs.Steps.{pairs_in};
 
@@ -14,7 +14,7 @@ use std::cmp::Ordering;
 
 /// Compares the last of the keys with `key`; `Less` if there is none.
 fn order_after<K: KeyTrait>(keys: &[K], key: &K) -> Ordering
-    ensures { result ≡ order_behind (map K.bytes keys.now) (K.bytes key.now) }
+    ensures { result ≡ order_of_last (map K.bytes keys.now) (K.bytes key.now) }
 {
     match keys.last() {
         Some(last) => last.cmp(key),

@@ -1,5 +1,5 @@
 use Rattle.std.proofs.Common.{sym, ◌∙◌}
-use Rattle.rart_nodes.proofs.shapes.ShapeRecordLemmas.{contains-here, contains-behind}
+use Rattle.rart_nodes.proofs.shapes.ShapeRecordLemmas.{contains-here, contains-after}
 use Rattle.rart_nodes.proofs.shape.contains_key.Goals as goal
 
 pub returns-then-eq : goal.returns-then-eq
@@ -7,5 +7,5 @@ returns-then-eq c = sym (contains-here c.args.keys.now c.loop-key.key-index _ c.
     c.if-eq.ensures) ∙ c.loop-key.invariant
 
 pub loop-key-preserved : goal.loop-key-preserved
-loop-key-preserved c = contains-behind c.args.keys.now c.loop-key.key-index _ c.args.path.now c.loop-key-test.true
+loop-key-preserved c = contains-after c.args.keys.now c.loop-key.key-index _ c.args.path.now c.loop-key-test.true
     c.if-eq.ensures ∙ c.loop-key.invariant

@@ -1,10 +1,10 @@
 use Rattle.std.proofs.Common.{◌≡◌}
-use Rattle.rart_nodes.proofs.shapes.ShapeRecordLemmas.{GoesBehind}
+use Rattle.rart_nodes.proofs.shapes.ShapeRecordLemmas.{GoesAfter}
 use Rattle.rart_nodes.proofs.shape.put_record.Given as goal
 
 abbrev pub invariant-loop-i : goal.invariant-loop-i
 invariant-loop-i l = record {
   same : l.records.items
       ≡ l.initial.records.items;
-  behind : GoesBehind l.i l.added.path.items l.records.items;
+  after : GoesAfter l.i l.added.path.items l.records.items;
 }

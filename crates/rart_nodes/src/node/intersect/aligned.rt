@@ -1,7 +1,7 @@
 //! The step of an intersection from two visited nodes to the next two whose prefixes end together.
 ghost use Rattle.std.specs.Prelude.{◌≡◌, ◌+◌, [], ◌∷◌, MatchOption};
 ghost use Rattle.rart_keys.specs.SortedMap.{count_of, longest_key};
-ghost use Rattle.rart_nodes.specs.joins.Alignments.{EntersBehind, FindsAligned, VisitsAligned};
+ghost use Rattle.rart_nodes.specs.joins.Alignments.{EntersAfter, FindsAligned, VisitsAligned};
 ghost use Rattle.rart_nodes.specs.joins.SharedChildren.{IsParted};
 ghost use Rattle.rart_nodes.specs.joins.JoinPaths.{WayRoom};
 ghost use Rattle.rart_nodes.specs.tries.Trie.{child_in, pairs_of};
@@ -27,17 +27,17 @@ fn next_byte(rest: &[u8]) -> Option<(u8, &[u8], &[u8])>
     if rest.is_empty() {
         return None;
     }
-    let (edge, behind) = rest.split_at(1);
-    Some((rest[0], edge, behind))
+    let (edge, after) = rest.split_at(1);
+    Some((rest[0], edge, after))
 }
 
 /// Visits the child at `byte` of a left node. Returns it with that byte as a segment and the rest of its prefix.
-fn enter_behind<'a, P: Partial, V, C: Count>(
+fn enter_after<'a, P: Partial, V, C: Count>(
     at: Entered<'a, P, V, C>,
     byte: u8,
     counter: &mut C,
 ) -> Option<(Entered<'a, P, V, C>, &'a [u8], &'a [u8])>
-    ensures shown { EntersBehind byte (child_in byte at.entry.node.now) result }
+    ensures shown { EntersAfter byte (child_in byte at.entry.node.now) result }
     ensures counted { C.number counter.new ≡ C.number counter.old + count_of result }
 {
     let child = at.child(byte)?.enter(counter);
@@ -47,13 +47,13 @@ fn enter_behind<'a, P: Partial, V, C: Count>(
     Some((child, edge, rest))
 }
 
-/// Visits the child at `byte` of a right node, as `enter_behind` does.
-fn enter_other_behind<'b, P: Partial, W, C: Count>(
+/// Visits the child at `byte` of a right node, as `enter_after` does.
+fn enter_other_after<'b, P: Partial, W, C: Count>(
     at: Entered<'b, P, W, Paired<C>>,
     byte: u8,
     counter: &mut C,
 ) -> Option<(Entered<'b, P, W, Paired<C>>, &'b [u8], &'b [u8])>
-    ensures shown { EntersBehind byte (child_in byte at.entry.node.now) result }
+    ensures shown { EntersAfter byte (child_in byte at.entry.node.now) result }
     ensures counted { C.number counter.new ≡ C.number counter.old + count_of result }
 {
     let child = at.child(byte)?.enter_other(counter);
@@ -85,28 +85,28 @@ pub(crate) fn next_aligned<'a, 'b, P: Partial, V, W, C: Count>(
         way.grow(shared);
         match next_byte(left_on) {
             None => {
-                let Some((byte, _, behind)) = next_byte(right_on) else {
+                let Some((byte, _, after)) = next_byte(right_on) else {
                     return Some((left, right));
                 };
-                let Some((child, edge, rest)) = enter_behind(left, byte, counter) else {
+                let Some((child, edge, rest)) = enter_after(left, byte, counter) else {
                     return None;
                 };
                 way.grow(edge);
                 left = child;
                 left_rest = rest;
-                right_rest = behind;
+                right_rest = after;
             }
-            Some((byte, edge, behind)) => {
+            Some((byte, edge, after)) => {
                 if !right_on.is_empty() {
                     return None;
                 }
-                let Some((child, _, rest)) = enter_other_behind(right, byte, counter) else {
+                let Some((child, _, rest)) = enter_other_after(right, byte, counter) else {
                     return None;
                 };
                 way.grow(edge);
                 right = child;
                 right_rest = rest;
-                left_rest = behind;
+                left_rest = after;
             }
         }
     }

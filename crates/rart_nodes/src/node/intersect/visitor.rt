@@ -3,7 +3,7 @@
 ghost use Rattle.std.specs.Prelude.{◌≡◌, ℕ, List, [], ◌∷◌};
 ghost use Rattle.std.specs.Option.{option_copied};
 ghost use Rattle.rart_keys.specs.Joins.{both};
-ghost use Rattle.rart_nodes.specs.joins.Visitors.{AreVisitors, CanBehind, CanGive};
+ghost use Rattle.rart_nodes.specs.joins.Visitors.{AreVisitors, CanDeeper, CanGive};
 ghost use Rattle.rart_nodes.specs.joins.JoinPaths.{Kept};
 ghost use Rattle.rart_nodes.specs.tries.Trie.{own_pair};
 
@@ -28,7 +28,7 @@ pub(crate) trait Visitor<V, W, F> {
 
     ghost lawful: { AreVisitors room given };
 
-    ghost behind: { CanBehind can };
+    ghost deeper: { CanDeeper can };
 }
 
 /// Passes on the pair at the end of the path if both nodes hold a value.
@@ -70,7 +70,7 @@ impl<V, W> Visitor<V, W, usize> for Counted {
 
     ghost lawful = { give_values CountedOn };
 
-    ghost behind = { λ s t p f x w h. tt };
+    ghost deeper = { λ s t p f x w h. tt };
 }
 
 /// Calls with the values.
@@ -93,7 +93,7 @@ impl<V, W, F: FnMut(&V, &W)> Visitor<V, W, F> for ByValues {
 
     ghost lawful = { give_values (λ p x q. CalledWith F.FnMut p x q) };
 
-    ghost behind = { can_values (λ p x. TakesWith F.FnMut p x) };
+    ghost deeper = { can_values (λ p x. TakesWith F.FnMut p x) };
 }
 
 /// Calls with the key, made of the bytes of the way, and the values.
@@ -120,7 +120,7 @@ impl<K: KeyTrait, V, W, F: FnMut(K, &V, &W)> Visitor<V, W, F> for ByKeys<K> {
 
     ghost lawful = { give_keys K.MAXIMUM_SIZE (λ p x q. CalledAt F.FnMut K.bytes p x q) };
 
-    ghost behind = { can_keys (λ p x. TakesAtKey F.FnMut K.bytes p x) };
+    ghost deeper = { can_keys (λ p x. TakesAtKey F.FnMut K.bytes p x) };
 }
 
 /// Calls with a view of the segments of the way, and the values.
@@ -145,5 +145,5 @@ impl<V, W, F: FnMut(LendingKeyView<'_, '_>, &V, &W)> Visitor<V, W, F> for ByView
 
     ghost lawful = { give_views (λ p x q. ViewedAt F.FnMut p x q) };
 
-    ghost behind = { can_views (λ p x. TakesViewAt F.FnMut p x) };
+    ghost deeper = { can_views (λ p x. TakesViewAt F.FnMut p x) };
 }

@@ -1,7 +1,7 @@
 //! Growth of a storage: the children of a full one move into the next kind.
 ghost use Rattle.std.specs.Prelude.{◌≡◌, ◌<◌, ◌≤◌, [], length, None, true, false, IfErr, IfOk, OnErr, OnOk};
 ghost use Rattle.rart_parts.specs.Entries.{ascending, child_at};
-ghost use Rattle.rart_nodes.specs.storages.Widths.{widened};
+ghost use Rattle.rart_nodes.specs.storages.Widths.{widened_width};
 ghost use Rattle.rart_nodes.specs.storages.Stored.{stored, width_of};
 
 use crate::node::storage::Storage;
@@ -143,7 +143,7 @@ impl<N> Storage<N> {
         ensures stored { stored self.new ≡ stored self.old }
         ensures room { OnOk result (length (stored self.new) < width_of self.new) }
         ensures width { OnOk result
-            (width_of self.new ≡ widened (length (stored self.old)) (width_of self.old)) }
+            (width_of self.new ≡ widened_width (length (stored self.old)) (width_of self.old)) }
         ensures refused { OnErr result (self.new ≡ self.old) }
         ensures asks { OnErr result (length (stored self.old) ≡ width_of self.old) }
         ensures error { IfErr result (λ e. e ≡ TreeError.Memory) }

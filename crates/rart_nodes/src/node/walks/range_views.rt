@@ -8,7 +8,7 @@ ghost use Rattle.rart_nodes.specs.ranges.Potential.{AreLow};
 ghost use Rattle.rart_nodes.specs.ranges.Spans.{cut_between, span_bound, span_visits};
 ghost use Rattle.rart_nodes.specs.ranges.Starts.{entries_to};
 ghost use Rattle.rart_nodes.specs.tries.Tree.{seen_pairs};
-ghost use Rattle.rart_nodes.specs.walks.Walk.{IsWalk, joined};
+ghost use Rattle.rart_nodes.specs.walks.Walk.{IsWalk, joined_bytes};
 ghost use Rattle.rart_nodes.specs.walks.PathParts.{lent_segments};
 ghost use Rattle.rart_nodes.specs.walks.ViewSegments.{AreViews, views_ahead};
 ghost use Rattle.rart_nodes.specs.walks.Viewed.{CanView, ViewedEach, ViewsEach};
@@ -27,7 +27,7 @@ use std::ops::Bound;
 /// Returns whether a lent key is within an end.
 fn is_within<K: KeyTrait>(view: LendingKeyView<'_, '_>, end: &Bound<K>) -> bool
     ensures { result ≡ is_to (bound_in K.bytes end.now)
-        (joined (lent_segments view.entry.segments.now)) }
+        (joined_bytes (lent_segments view.entry.segments.now)) }
 {
     match end {
         Bound::Included(end) => is_before(view.cmp_slice(end.as_ref()), true),

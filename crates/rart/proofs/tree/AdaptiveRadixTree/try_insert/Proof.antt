@@ -50,7 +50,7 @@ use denote.Triple.Statement.{Contract, Triple}
 use denote.Triple.Table.{entered, framed}
 use Rattle.std.specs.Prelude.{IfErr, OnErr, ⊤}
 use Rattle.rart.specs.Edits.{InsertsNew, TriesInsert}
-use Rattle.rart.specs.Refusals.{AddsPresent, StandsAt}
+use Rattle.rart.specs.Refusals.{AddsPresent, IsStoredAt}
 use Rattle.rart.proofs.PresentLemmas as lemmas
 use Rattle.rart.proofs.WalkSteps.{Lone-is, beside, rests}
 use Rattle.rart.specs.MapAndShape.{MapAndShape}
@@ -309,10 +309,10 @@ module _ {M : Type 1} (𝓤 : Ura M) (𝓛 : Logic 𝓤) (𝓜 : Model 𝓤 𝓛
       -- [the arguments with the tokens; the tree's last value]
       let seen : Bor (MapAndShape V.Denot) = record { ref_ptr = (b, o); now = n } in
       let z' : S.Ghost = ((κs, qs, bounds, (seen, (s, tt)), (shr_vals seen, (v₁ ∷ [], tt))), tt) in
-      let may = subst (λ (h : K.Denot). IfErr s.outcome (StandsAt n.pairs (gk.bytes h))) (sym same)
+      let may = subst (λ (h : K.Denot). IfErr s.outcome (IsStoredAt n.pairs (gk.bytes h))) (sym same)
       (lemmas.stored_stands r.now n (gk.bytes k) x s.outcome inserted) in
       use0 𝓛 (raw (fact 𝓤 (κ₁ ⊑ K.lives)) ⊛ raw (fact 𝓤 (κ₂ ⊑ V.lives)) ⊛ raw (fact 𝓤 (κ₃ ⊑ P.lives)) ⊛ raw
-      (fact 𝓤 (IfErr s.outcome (StandsAt n.pairs (gk.bytes s.key)))))
+      (fact 𝓤 (IfErr s.outcome (IsStoredAt n.pairs (gk.bytes s.key)))))
       (beside 𝓤 (κ₁ ⊑ K.lives) in_key (beside 𝓤 (κ₂ ⊑ V.lives) in_value
       (beside 𝓤 (κ₃ ⊑ P.lives) in_partial (fact_i 𝓤 _ (emp 𝓤) may)))) $
       move ! (1 ∷ 0 ∷ []) $ join ! $ use1 𝓛 (raw (S.pre z')) (id⊢ 𝓤 _) $

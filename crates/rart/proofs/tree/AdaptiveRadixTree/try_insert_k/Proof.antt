@@ -49,7 +49,7 @@ use denote.Triple.Statement.{Contract, Triple}
 use denote.Triple.Table.{entered, framed}
 use Rattle.std.specs.Prelude.{IfErr, OnErr, ⊤}
 use Rattle.rart.specs.Edits.{InsertsNew, TriesInsert}
-use Rattle.rart.specs.Refusals.{AddsPresent, StandsAt}
+use Rattle.rart.specs.Refusals.{AddsPresent, IsStoredAt}
 use Rattle.rart.proofs.PresentLemmas as lemmas
 use Rattle.rart.proofs.WalkSteps.{Lone-is, beside, rests}
 use Rattle.rart.specs.MapAndShape.{MapAndShape}
@@ -309,7 +309,7 @@ module _ {M : Type 1} (𝓤 : Ura M) (𝓛 : Logic 𝓤) (𝓜 : Model 𝓤 𝓛
       let z' : S.Ghost = ((κs, qs, bounds, (seen, (k, (s, tt))), (shr_vals seen, (shr_vals k, (v₁ ∷ [], tt)))), tt) in
       let may = lemmas.stored_stands r.now n (gk.bytes k.now) x s inserted in
       use0 𝓛 (raw (fact 𝓤 (κ₂ ⊑ K.lives)) ⊛ raw (fact 𝓤 (κ₃ ⊑ V.lives)) ⊛ raw (fact 𝓤 (κ₄ ⊑ P.lives)) ⊛ raw
-      (fact 𝓤 (IfErr s (StandsAt n.pairs (gk.bytes k.now)))))
+      (fact 𝓤 (IfErr s (IsStoredAt n.pairs (gk.bytes k.now)))))
       (beside 𝓤 (κ₂ ⊑ K.lives) in_key (beside 𝓤 (κ₃ ⊑ V.lives) in_value
       (beside 𝓤 (κ₄ ⊑ P.lives) in_partial (fact_i 𝓤 _ (emp 𝓤) may)))) $
       move ! (1 ∷ 0 ∷ []) $ join ! $ use1 𝓛 (raw (S.pre z')) (id⊢ 𝓤 _) $

@@ -34,15 +34,15 @@ returns-in-Ok g c = λ key h. rw c.in-Insert.is (
 
 pub returns-in-Err : goal.returns-in-Err
 returns-in-Err g c = λ key h.
-    let behind = rw (← c.self.view_is) at h in
+    let after = rw (← c.self.view_is) at h in
     let none = sym (none-at c.args.byte (stored c.self.inside.storage) (rw (← c.self.view_is) at c.requires.absent)) in
     let asks : AsksPut key (Some (node (g.P.Partial.bytes c.self.inside.prefix) c.self.inside.value
     (width_of c.self.inside.storage) (as_children (stored c.self.inside.storage)))) = (
       asks_put-full (g.P.Partial.bytes c.self.inside.prefix) key _ c.self.inside.value (width_of c.self.inside.storage)
-          (width_of c.self.inside.storage) _ (stored c.self.inside.storage) (stored c.self.inside.storage) behind
+          (width_of c.self.inside.storage) _ (stored c.self.inside.storage) (stored c.self.inside.storage) after
           c.requires.first none refl refl c.in-Err.ensures.asks,
       record-no_child (g.P.Partial.bytes c.self.inside.prefix) key _ c.self.inside.value
-          (width_of c.self.inside.storage) _ (stored c.self.inside.storage) behind c.requires.first none,
+          (width_of c.self.inside.storage) _ (stored c.self.inside.storage) after c.requires.first none,
     ) in (
       ap Some (same-node (g.P.Partial.bytes c.self.inside.prefix) c.self.inside.value (width_of c.self.inside.storage)
           (width_of c.make_room.new.self) (stored c.self.inside.storage) (stored c.make_room.new.self)

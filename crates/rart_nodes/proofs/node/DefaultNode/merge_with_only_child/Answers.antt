@@ -8,7 +8,8 @@ use Rattle.rart_nodes.proofs.edits.JoinLemmas.{lone-valued, lone-many, lone-yes,
 use Rattle.rart_nodes.proofs.node.DefaultNode.merge_with_only_child.Goals as goal
 use Rattle.rart_nodes.proofs.node.DefaultNode.merge_with_only_child.Goals.{then-is_some-via-then-is_some}
 use Rattle.rart_nodes.proofs.node.DefaultNode.merge_with_only_child.Goals.{
-    then-is_some-via-else-is_some+then-num_children-ne1}
+  then-is_some-via-else-is_some+then-num_children-ne1,
+}
 
 pub returns-then-is_some : goal.returns-then-is_some
 returns-then-is_some g c = elim c.then-is_some.branch [

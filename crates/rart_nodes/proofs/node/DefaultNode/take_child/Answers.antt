@@ -1,7 +1,7 @@
 use Rattle.std.proofs.Common.{◌∙◌, sym, ap, length, is_some, if◌then◌else◌}
 use Rattle.rart_parts.specs.Entries.{child_at}
 use Rattle.rart_nodes.specs.storages.Stored.{stored, width_of}
-use Rattle.rart_nodes.specs.storages.Widths.{narrowed}
+use Rattle.rart_nodes.specs.storages.Widths.{narrowed_width}
 use Rattle.rart_nodes.proofs.storages.ChildLemmas.{edges_of-length}
 use Rattle.rart_nodes.proofs.edits.Outcomes.{err-any}
 use Rattle.rart_nodes.proofs.edits.JoinLemmas.{joins-without, some-there, without-none, without-joined, without-wide}
@@ -25,7 +25,7 @@ returns-in_default-clause-rest g c =
     let none = sym c.in_ok-child.ensures.taken ∙ c.in_default.is in
     rw (← c.self.view_is) (without-none _ _ (width_of c.self.inside.storage) _ c.args.b (stored c.self.inside.storage) _
     none c.in_ok-child.ensures.stored
-    (c.in_ok-child.ensures.width ∙ ap (λ o. if is_some o then narrowed (length (stored c.delete_child.new.self))
+    (c.in_ok-child.ensures.width ∙ ap (λ o. if is_some o then narrowed_width (length (stored c.delete_child.new.self))
     (width_of c.self.inside.storage) else width_of c.self.inside.storage) none))
 
 pub merge_with_only_child-requires-clause-within : goal.merge_with_only_child-requires-clause-within
@@ -42,7 +42,7 @@ returns-clause-rest g c =
     let some = sym c.in_ok-child.ensures.taken ∙ c.in-Some.is in
     let there = some-there c.in-Some.child (child_at c.args.b (stored c.self.inside.storage)) some in
     let width = c.in_ok-child.ensures.width ∙ ap
-    (λ o. if is_some o then narrowed (length (stored c.delete_child.new.self)) (width_of c.self.inside.storage)
+    (λ o. if is_some o then narrowed_width (length (stored c.delete_child.new.self)) (width_of c.self.inside.storage)
     else width_of c.self.inside.storage) some in
     rw (← c.self.view_is) (elim c.if-narrow.branch [
       | then-narrow w ↦ w.self-is ∙ w.merge_with_only_child.ensures

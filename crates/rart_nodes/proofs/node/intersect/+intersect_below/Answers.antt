@@ -20,7 +20,7 @@ give_both-requires-clause-callable g t c =
     let laws = g.met.T.Visitor.lawful in
     let way = c.in-Some.ensures.way in
     rw (c.value.ensures, c.value-2.ensures) (can-start _ _ laws _ _ _ _ _
-    (can-aligned _ _ laws _ g.met.T.Visitor.behind _ _ _ _ _ way.0 _ _ way.2 way.1 c.requires.callable))
+    (can-aligned _ _ laws _ g.met.T.Visitor.deeper _ _ _ _ _ way.0 _ _ way.2 way.1 c.requires.callable))
 
 pub returns-then-has_no_children-clause-place : goal.returns-then-has_no_children-clause-place
 returns-then-has_no_children-clause-place g t c =
@@ -45,7 +45,7 @@ loop-child-init g t c =
     let way = c.in-Some.ensures.way in
     record {
       callable = rw c.of-shared_children.ensures
-          (can-rest _ _ laws _ _ _ _ _ _ (can-aligned _ _ laws _ g.met.T.Visitor.behind _ _ _ _ _ way.0 _ _ way.2 way.1
+          (can-rest _ _ laws _ _ _ _ _ _ (can-aligned _ _ laws _ g.met.T.Visitor.deeper _ _ _ _ _ way.0 _ _ way.2 way.1
           c.requires.callable) (rw (c.value.ensures, c.value-2.ensures) at c.give_both.ensures.given));
       place = way-stays _;
       room = laws.has_room _ _ way.0 _ _ way.1 c.requires.room way.2.short;
@@ -76,7 +76,7 @@ intersect_below-requires g t c κs within =
                   within.1.1.1.1.1,
                   (
                     room,
-                    can-next _ _ laws _ g.met.T.Visitor.behind _ _ _ _ _ _ _
+                    can-next _ _ laws _ g.met.T.Visitor.deeper _ _ _ _ _ _ _
                         c.in-Some-enter_next.ensures.shared_children inv.place inv.callable,
                   ),
                 ),
@@ -93,7 +93,7 @@ loop-child-preserved g t c =
     let inv = c.loop-child.invariant in
     let next = next-shared_children _ _ _ _ _ _ c.in-Some-enter_next.ensures.shared_children inv.within in
     record {
-      callable = can-others _ _ laws _ g.met.T.Visitor.behind _ _ _ _ _ _ _ _
+      callable = can-others _ _ laws _ g.met.T.Visitor.deeper _ _ _ _ _ _ _ _
           c.in-Some-enter_next.ensures.shared_children inv.place c.intersect_below.ensures.given inv.callable;
       place = way-on _ _ _ [] [] inv.place c.intersect_below.ensures.place;
       room = laws.has_room _ _ [] _ _ c.intersect_below.ensures.place inv.room (omega arith);

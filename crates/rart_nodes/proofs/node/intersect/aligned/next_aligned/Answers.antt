@@ -57,8 +57,8 @@ returns-in_default-clause-visits g c =
     aligned.visits
 
 -- the left prefix ends first
-pub returns-in_default-enter_behind-clause-way : goal.returns-in_default-enter_behind-clause-way
-returns-in_default-enter_behind-clause-way g c =
+pub returns-in_default-enter_after-clause-way : goal.returns-in_default-enter_after-clause-way
+returns-in_default-enter_after-clause-way g c =
     let inv = c.loop-byte.invariant in
     let at = place-common c.args.left.node.now c.args.right.node.now inv.0 c.part.result.0.now c.part.result.1.now
     c.part.result.2.now c.loop-byte.left_rest.now c.loop-byte.right_rest.now c.loop-byte.left.node.now
@@ -66,25 +66,25 @@ returns-in_default-enter_behind-clause-way g c =
     c.part.ensures.left_is c.part.ensures.right_is inv.2 in
     let way = way-on _ _ _ inv.0 _ inv.1 c.grow.ensures in
     let end = place-left_none c.args.left.node.now c.args.right.node.now (inv.0 ++ c.part.result.0.now)
-    c.part.result.1.now c.part.result.2.now c.in-Some-next_byte.behind.now c.in-Some-next_byte.byte
+    c.part.result.1.now c.part.result.2.now c.in-Some-next_byte.after.now c.in-Some-next_byte.byte
     c.loop-byte.left.node.now c.loop-byte.right.node.now (g.C.Count.number c.loop-byte.counter)
     (g.C.Count.number c.args.counter.now) c.loop-byte.left.canonical c.in-None.ensures c.in-Some-next_byte.ensures.0
-    c.in_default-enter_behind.ensures.shown at in
+    c.in_default-enter_after.ensures.shown at in
     (inv.0 ++ c.part.result.0.now, way, end.given)
 
-pub returns-in_default-enter_behind-clause-visits : goal.returns-in_default-enter_behind-clause-visits
-returns-in_default-enter_behind-clause-visits g c =
+pub returns-in_default-enter_after-clause-visits : goal.returns-in_default-enter_after-clause-visits
+returns-in_default-enter_after-clause-visits g c =
     let inv = c.loop-byte.invariant in
     let at = place-common c.args.left.node.now c.args.right.node.now inv.0 c.part.result.0.now c.part.result.1.now
     c.part.result.2.now c.loop-byte.left_rest.now c.loop-byte.right_rest.now c.loop-byte.left.node.now
     c.loop-byte.right.node.now (g.C.Count.number c.loop-byte.counter) (g.C.Count.number c.args.counter.now)
     c.part.ensures.left_is c.part.ensures.right_is inv.2 in
     let end = place-left_none c.args.left.node.now c.args.right.node.now (inv.0 ++ c.part.result.0.now)
-    c.part.result.1.now c.part.result.2.now c.in-Some-next_byte.behind.now c.in-Some-next_byte.byte
+    c.part.result.1.now c.part.result.2.now c.in-Some-next_byte.after.now c.in-Some-next_byte.byte
     c.loop-byte.left.node.now c.loop-byte.right.node.now (g.C.Count.number c.loop-byte.counter)
     (g.C.Count.number c.args.counter.now) c.loop-byte.left.canonical c.in-None.ensures c.in-Some-next_byte.ensures.0
-    c.in_default-enter_behind.ensures.shown at in
-    omega (arith, end.visits, c.in_default-enter_behind.ensures.counted)
+    c.in_default-enter_after.ensures.shown at in
+    omega (arith, end.visits, c.in_default-enter_after.ensures.counted)
 
 pub grow-requires-in-None : goal.grow-requires-in-None
 grow-requires-in-None g c =
@@ -95,18 +95,18 @@ grow-requires-in-None g c =
     c.part.ensures.left_is c.part.ensures.right_is inv.2 in
     let way = way-on _ _ _ inv.0 _ inv.1 c.grow.ensures in
     let step = place-left c.args.left.node.now c.args.right.node.now (inv.0 ++ c.part.result.0.now) c.part.result.1.now
-    c.part.result.2.now c.in-Some-next_byte.behind.now c.in-Some-enter_behind.rest.now c.in-Some-next_byte.byte
-    c.loop-byte.left.node.now c.in-Some-enter_behind.child.node.now c.loop-byte.right.node.now
+    c.part.result.2.now c.in-Some-next_byte.after.now c.in-Some-enter_after.rest.now c.in-Some-next_byte.byte
+    c.loop-byte.left.node.now c.in-Some-enter_after.child.node.now c.loop-byte.right.node.now
     (g.C.Count.number c.loop-byte.counter) (g.C.Count.number c.args.counter.now) c.loop-byte.left.canonical
-    c.in-Some-enter_behind.child.canonical c.in-None.ensures c.in-Some-next_byte.ensures.0
-    c.in-Some-enter_behind.ensures.shown.0 c.in-Some-enter_behind.ensures.shown.2 at in
+    c.in-Some-enter_after.child.canonical c.in-None.ensures c.in-Some-next_byte.ensures.0
+    c.in-Some-enter_after.ensures.shown.0 c.in-Some-enter_after.ensures.shown.2 at in
     way-room _ _ (inv.0 ++ c.part.result.0.now) (longest_key (pairs_of c.args.left.node.now))
-    (length c.in-Some-enter_behind.edge.now) way c.requires
+    (length c.in-Some-enter_after.edge.now) way c.requires
     (omega (
       arith,
       step.place.short,
       length-append (inv.0 ++ c.part.result.0.now) (c.in-Some-next_byte.byte ∷ []),
-      ap length c.in-Some-enter_behind.ensures.shown.1,
+      ap length c.in-Some-enter_after.ensures.shown.1,
     ))
 
 pub loop-byte-smaller-in-None : goal.loop-byte-smaller-in-None
@@ -117,11 +117,11 @@ loop-byte-smaller-in-None g c =
     c.loop-byte.right.node.now (g.C.Count.number c.loop-byte.counter) (g.C.Count.number c.args.counter.now)
     c.part.ensures.left_is c.part.ensures.right_is inv.2 in
     let step = place-left c.args.left.node.now c.args.right.node.now (inv.0 ++ c.part.result.0.now) c.part.result.1.now
-    c.part.result.2.now c.in-Some-next_byte.behind.now c.in-Some-enter_behind.rest.now c.in-Some-next_byte.byte
-    c.loop-byte.left.node.now c.in-Some-enter_behind.child.node.now c.loop-byte.right.node.now
+    c.part.result.2.now c.in-Some-next_byte.after.now c.in-Some-enter_after.rest.now c.in-Some-next_byte.byte
+    c.loop-byte.left.node.now c.in-Some-enter_after.child.node.now c.loop-byte.right.node.now
     (g.C.Count.number c.loop-byte.counter) (g.C.Count.number c.args.counter.now) c.loop-byte.left.canonical
-    c.in-Some-enter_behind.child.canonical c.in-None.ensures c.in-Some-next_byte.ensures.0
-    c.in-Some-enter_behind.ensures.shown.0 c.in-Some-enter_behind.ensures.shown.2 at in
+    c.in-Some-enter_after.child.canonical c.in-None.ensures c.in-Some-next_byte.ensures.0
+    c.in-Some-enter_after.ensures.shown.0 c.in-Some-enter_after.ensures.shown.2 at in
     step.falls
 
 pub loop-byte-preserved-in-None : goal.loop-byte-preserved-in-None
@@ -133,15 +133,15 @@ loop-byte-preserved-in-None g c =
     c.part.ensures.left_is c.part.ensures.right_is inv.2 in
     let way = way-on _ _ _ inv.0 _ inv.1 c.grow.ensures in
     let step = place-left c.args.left.node.now c.args.right.node.now (inv.0 ++ c.part.result.0.now) c.part.result.1.now
-    c.part.result.2.now c.in-Some-next_byte.behind.now c.in-Some-enter_behind.rest.now c.in-Some-next_byte.byte
-    c.loop-byte.left.node.now c.in-Some-enter_behind.child.node.now c.loop-byte.right.node.now
+    c.part.result.2.now c.in-Some-next_byte.after.now c.in-Some-enter_after.rest.now c.in-Some-next_byte.byte
+    c.loop-byte.left.node.now c.in-Some-enter_after.child.node.now c.loop-byte.right.node.now
     (g.C.Count.number c.loop-byte.counter) (g.C.Count.number c.args.counter.now) c.loop-byte.left.canonical
-    c.in-Some-enter_behind.child.canonical c.in-None.ensures c.in-Some-next_byte.ensures.0
-    c.in-Some-enter_behind.ensures.shown.0 c.in-Some-enter_behind.ensures.shown.2 at in (
-      (inv.0 ++ c.part.result.0.now) ++ c.in-Some-enter_behind.edge.now,
+    c.in-Some-enter_after.child.canonical c.in-None.ensures c.in-Some-next_byte.ensures.0
+    c.in-Some-enter_after.ensures.shown.0 c.in-Some-enter_after.ensures.shown.2 at in (
+      (inv.0 ++ c.part.result.0.now) ++ c.in-Some-enter_after.edge.now,
       way-on _ _ _ (inv.0 ++ c.part.result.0.now) _
           way c.grow-in-None.ensures,
-      rw (c.in-Some-enter_behind.ensures.shown.1, c.in-Some-enter_behind.ensures.counted)
+      rw (c.in-Some-enter_after.ensures.shown.1, c.in-Some-enter_after.ensures.counted)
           step.place,
     )
 
@@ -155,7 +155,7 @@ returns-then-not-is_empty-clause-way g c =
     c.part.ensures.left_is c.part.ensures.right_is inv.2 in
     let way = way-on _ _ _ inv.0 _ inv.1 c.grow.ensures in
     let end = place-parted c.args.left.node.now c.args.right.node.now (inv.0 ++ c.part.result.0.now) c.part.result.1.now
-    c.part.result.2.now c.in-Some.behind.now c.in-Some.byte c.loop-byte.left.node.now c.loop-byte.right.node.now
+    c.part.result.2.now c.in-Some.after.now c.in-Some.byte c.loop-byte.left.node.now c.loop-byte.right.node.now
     (g.C.Count.number c.loop-byte.counter) (g.C.Count.number c.args.counter.now) c.in-Some.ensures.0
     (some-when _ _ c.is_empty.ensures c.if-not-is_empty.true) c.part.ensures.apart at in
     (inv.0 ++ c.part.result.0.now, way, end.given)
@@ -168,14 +168,14 @@ returns-then-not-is_empty-clause-visits g c =
     c.loop-byte.right.node.now (g.C.Count.number c.loop-byte.counter) (g.C.Count.number c.args.counter.now)
     c.part.ensures.left_is c.part.ensures.right_is inv.2 in
     let end = place-parted c.args.left.node.now c.args.right.node.now (inv.0 ++ c.part.result.0.now) c.part.result.1.now
-    c.part.result.2.now c.in-Some.behind.now c.in-Some.byte c.loop-byte.left.node.now c.loop-byte.right.node.now
+    c.part.result.2.now c.in-Some.after.now c.in-Some.byte c.loop-byte.left.node.now c.loop-byte.right.node.now
     (g.C.Count.number c.loop-byte.counter) (g.C.Count.number c.args.counter.now) c.in-Some.ensures.0
     (some-when _ _ c.is_empty.ensures c.if-not-is_empty.true) c.part.ensures.apart at in
     end.visits
 
 -- the right prefix ends first
-pub returns-in_default-enter_other_behind-clause-way : goal.returns-in_default-enter_other_behind-clause-way
-returns-in_default-enter_other_behind-clause-way g c =
+pub returns-in_default-enter_other_after-clause-way : goal.returns-in_default-enter_other_after-clause-way
+returns-in_default-enter_other_after-clause-way g c =
     let inv = c.loop-byte.invariant in
     let at = place-common c.args.left.node.now c.args.right.node.now inv.0 c.part.result.0.now c.part.result.1.now
     c.part.result.2.now c.loop-byte.left_rest.now c.loop-byte.right_rest.now c.loop-byte.left.node.now
@@ -184,13 +184,13 @@ returns-in_default-enter_other_behind-clause-way g c =
     let way = way-on _ _ _ inv.0 _ inv.1 c.grow.ensures in
     let none : c.part.result.2.now ≡ [] = nil-when _ _ c.is_empty.ensures c.if-not-is_empty.false in
     let end = place-right_none c.args.left.node.now c.args.right.node.now (inv.0 ++ c.part.result.0.now)
-    c.part.result.1.now c.part.result.2.now c.in-Some.behind.now c.in-Some.byte c.loop-byte.left.node.now
+    c.part.result.1.now c.part.result.2.now c.in-Some.after.now c.in-Some.byte c.loop-byte.left.node.now
     c.loop-byte.right.node.now (g.C.Count.number c.loop-byte.counter) (g.C.Count.number c.args.counter.now)
-    c.loop-byte.right.canonical c.in-Some.ensures.0 none c.in_default-enter_other_behind.ensures.shown at in
+    c.loop-byte.right.canonical c.in-Some.ensures.0 none c.in_default-enter_other_after.ensures.shown at in
     (inv.0 ++ c.part.result.0.now, way, end.given)
 
-pub returns-in_default-enter_other_behind-clause-visits : goal.returns-in_default-enter_other_behind-clause-visits
-returns-in_default-enter_other_behind-clause-visits g c =
+pub returns-in_default-enter_other_after-clause-visits : goal.returns-in_default-enter_other_after-clause-visits
+returns-in_default-enter_other_after-clause-visits g c =
     let inv = c.loop-byte.invariant in
     let at = place-common c.args.left.node.now c.args.right.node.now inv.0 c.part.result.0.now c.part.result.1.now
     c.part.result.2.now c.loop-byte.left_rest.now c.loop-byte.right_rest.now c.loop-byte.left.node.now
@@ -198,10 +198,10 @@ returns-in_default-enter_other_behind-clause-visits g c =
     c.part.ensures.left_is c.part.ensures.right_is inv.2 in
     let none : c.part.result.2.now ≡ [] = nil-when _ _ c.is_empty.ensures c.if-not-is_empty.false in
     let end = place-right_none c.args.left.node.now c.args.right.node.now (inv.0 ++ c.part.result.0.now)
-    c.part.result.1.now c.part.result.2.now c.in-Some.behind.now c.in-Some.byte c.loop-byte.left.node.now
+    c.part.result.1.now c.part.result.2.now c.in-Some.after.now c.in-Some.byte c.loop-byte.left.node.now
     c.loop-byte.right.node.now (g.C.Count.number c.loop-byte.counter) (g.C.Count.number c.args.counter.now)
-    c.loop-byte.right.canonical c.in-Some.ensures.0 none c.in_default-enter_other_behind.ensures.shown at in
-    omega (arith, end.visits, c.in_default-enter_other_behind.ensures.counted)
+    c.loop-byte.right.canonical c.in-Some.ensures.0 none c.in_default-enter_other_after.ensures.shown at in
+    omega (arith, end.visits, c.in_default-enter_other_after.ensures.counted)
 
 pub grow-requires-in-Some : goal.grow-requires-in-Some
 grow-requires-in-Some g c =
@@ -213,11 +213,11 @@ grow-requires-in-Some g c =
     let way = way-on _ _ _ inv.0 _ inv.1 c.grow.ensures in
     let none : c.part.result.2.now ≡ [] = nil-when _ _ c.is_empty.ensures c.if-not-is_empty.false in
     let step = place-right c.args.left.node.now c.args.right.node.now (inv.0 ++ c.part.result.0.now) c.part.result.1.now
-    c.part.result.2.now c.in-Some.behind.now c.in-Some-enter_other_behind.rest.now c.in-Some.byte
-    c.loop-byte.left.node.now c.loop-byte.right.node.now c.in-Some-enter_other_behind.child.node.now
+    c.part.result.2.now c.in-Some.after.now c.in-Some-enter_other_after.rest.now c.in-Some.byte
+    c.loop-byte.left.node.now c.loop-byte.right.node.now c.in-Some-enter_other_after.child.node.now
     (g.C.Count.number c.loop-byte.counter) (g.C.Count.number c.args.counter.now) c.loop-byte.right.canonical
-    c.in-Some.ensures.0 none c.in-Some-enter_other_behind.ensures.shown.0
-    c.in-Some-enter_other_behind.ensures.shown.2 at in
+    c.in-Some.ensures.0 none c.in-Some-enter_other_after.ensures.shown.0
+    c.in-Some-enter_other_after.ensures.shown.2 at in
     way-room _ _ (inv.0 ++ c.part.result.0.now) (longest_key (pairs_of c.args.left.node.now))
     (length c.in-Some.edge.now) way c.requires
     (omega (
@@ -237,11 +237,11 @@ loop-byte-smaller g c =
     c.part.ensures.left_is c.part.ensures.right_is inv.2 in
     let none : c.part.result.2.now ≡ [] = nil-when _ _ c.is_empty.ensures c.if-not-is_empty.false in
     let step = place-right c.args.left.node.now c.args.right.node.now (inv.0 ++ c.part.result.0.now) c.part.result.1.now
-    c.part.result.2.now c.in-Some.behind.now c.in-Some-enter_other_behind.rest.now c.in-Some.byte
-    c.loop-byte.left.node.now c.loop-byte.right.node.now c.in-Some-enter_other_behind.child.node.now
+    c.part.result.2.now c.in-Some.after.now c.in-Some-enter_other_after.rest.now c.in-Some.byte
+    c.loop-byte.left.node.now c.loop-byte.right.node.now c.in-Some-enter_other_after.child.node.now
     (g.C.Count.number c.loop-byte.counter) (g.C.Count.number c.args.counter.now) c.loop-byte.right.canonical
-    c.in-Some.ensures.0 none c.in-Some-enter_other_behind.ensures.shown.0
-    c.in-Some-enter_other_behind.ensures.shown.2 at in
+    c.in-Some.ensures.0 none c.in-Some-enter_other_after.ensures.shown.0
+    c.in-Some-enter_other_after.ensures.shown.2 at in
     step.falls
 
 pub loop-byte-preserved : goal.loop-byte-preserved
@@ -254,13 +254,13 @@ loop-byte-preserved g c =
     let way = way-on _ _ _ inv.0 _ inv.1 c.grow.ensures in
     let none : c.part.result.2.now ≡ [] = nil-when _ _ c.is_empty.ensures c.if-not-is_empty.false in
     let step = place-right c.args.left.node.now c.args.right.node.now (inv.0 ++ c.part.result.0.now) c.part.result.1.now
-    c.part.result.2.now c.in-Some.behind.now c.in-Some-enter_other_behind.rest.now c.in-Some.byte
-    c.loop-byte.left.node.now c.loop-byte.right.node.now c.in-Some-enter_other_behind.child.node.now
+    c.part.result.2.now c.in-Some.after.now c.in-Some-enter_other_after.rest.now c.in-Some.byte
+    c.loop-byte.left.node.now c.loop-byte.right.node.now c.in-Some-enter_other_after.child.node.now
     (g.C.Count.number c.loop-byte.counter) (g.C.Count.number c.args.counter.now) c.loop-byte.right.canonical
-    c.in-Some.ensures.0 none c.in-Some-enter_other_behind.ensures.shown.0
-    c.in-Some-enter_other_behind.ensures.shown.2 at in (
+    c.in-Some.ensures.0 none c.in-Some-enter_other_after.ensures.shown.0
+    c.in-Some-enter_other_after.ensures.shown.2 at in (
       (inv.0 ++ c.part.result.0.now) ++ c.in-Some.edge.now,
       way-on _ _ _ (inv.0 ++ c.part.result.0.now) _ way
           c.grow-in-Some.ensures,
-      rw (c.in-Some.ensures.1, c.in-Some-enter_other_behind.ensures.counted) step.place,
+      rw (c.in-Some.ensures.1, c.in-Some-enter_other_after.ensures.counted) step.place,
     )

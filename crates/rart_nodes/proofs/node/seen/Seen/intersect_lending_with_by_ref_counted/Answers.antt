@@ -4,7 +4,7 @@ use Rattle.std.specs.Option.{option_copied}
 use Rattle.rart_keys.specs.Joins.{join}
 use Rattle.rart_nodes.specs.joins.ViewCalls.{TakesViewAt, ViewedAt}
 use Rattle.rart_nodes.specs.tries.Tree.{tree_pairs}
-use Rattle.rart_nodes.specs.walks.Walk.{joined}
+use Rattle.rart_nodes.specs.walks.Walk.{joined_bytes}
 use Rattle.rart_nodes.specs.walks.PathParts.{lent_segments}
 use Rattle.rart_parts.specs.declared.error.TreeError.{TreeError}
 use Rattle.rart_nodes.proofs.joins.CallLemmas.{always-after-view-at, can-views}
@@ -30,15 +30,15 @@ returns-in_err-segments-clause-memory g c =
 
 pub returns-clause-calls : goal.returns-clause-calls
 returns-clause-calls g c =
-    given-whole (λ p x q. ViewedAt g.F.FnMut p x q) (joined (lent_segments c.in_ok-segments.segments.items)) _ _
+    given-whole (λ p x q. ViewedAt g.F.FnMut p x q) (joined_bytes (lent_segments c.in_ok-segments.segments.items)) _ _
     (join (tree_pairs (option_copied c.args.self.root)) (tree_pairs (option_copied c.args.other.root)))
-    (ap (λ z. joined (lent_segments z)) c.in_ok-segments.ensures.items) c.intersect_trees.ensures.given
+    (ap (λ z. joined_bytes (lent_segments z)) c.in_ok-segments.ensures.items) c.intersect_trees.ensures.given
 
 pub intersect_trees-requires-clause-callable : goal.intersect_trees-requires-clause-callable
 intersect_trees-requires-clause-callable g c =
     can-views (λ p x q. ViewedAt g.F.FnMut p x q) (λ p x. TakesViewAt g.F.FnMut p x) _
     (join (tree_pairs (option_copied c.args.self.root)) (tree_pairs (option_copied c.args.other.root)))
-    c.in_ok-segments.segments (ap (λ z. joined (lent_segments z)) c.in_ok-segments.ensures.items)
+    c.in_ok-segments.segments (ap (λ z. joined_bytes (lent_segments z)) c.in_ok-segments.ensures.items)
     c.requires.callable
 
 pub returns-clause-callable : goal.returns-clause-callable

@@ -8,7 +8,7 @@ use Rattle.rart_nodes.specs.walks.Cut.{cut}
 use Rattle.rart_nodes.specs.walks.PathParts.{lent_segments}
 use Rattle.rart_nodes.specs.walks.ViewSegments.{AreViews}
 use Rattle.rart_nodes.proofs.tries.CanonicalTests.{IsCanonicalTree-test}
-use Rattle.rart_nodes.proofs.walks.CutCounts.{cut-few, tells-one}
+use Rattle.rart_nodes.proofs.walks.CutCounts.{cut-few, keeps_each-one}
 use Rattle.rart_nodes.proofs.walks.FirstBelow.{first-cut, first-stands}
 use Rattle.rart_nodes.proofs.walks.PartCuts.{part-views}
 use Rattle.rart_nodes.proofs.node.seen.Seen.longest_path.Given.{Over}
@@ -64,7 +64,7 @@ returns-clause-bound g c =
       arith,
       short,
       segments,
-      c.in-Some-advance.ensures.few tells-one,
+      c.in-Some-advance.ensures.few keeps_each-one,
       c.in_ok-walk.ensures.bound,
       c.in-Some.ensures.bound,
     )
@@ -77,7 +77,7 @@ returns-clause-visits g c =
     rw h (omega (
       arith,
       ap length both.0,
-      c.in-Some-advance.ensures.few tells-one,
+      c.in-Some-advance.ensures.few keeps_each-one,
       c.in_ok-walk.ensures.visits,
       c.in-Some.ensures.visits,
     ))

@@ -1,7 +1,7 @@
 use Rattle.std.proofs.Common.{ap, ◌∙◌}
 use Rattle.rart_nodes.specs.walks.Walk.{segments_after, entries_of, tree_entries}
 use Rattle.rart_nodes.proofs.edits.Outcomes.{err-any}
-use Rattle.rart_nodes.proofs.walks.WalkLemmas.{behind-none, has-pairs}
+use Rattle.rart_nodes.proofs.walks.WalkLemmas.{after-none, has-pairs}
 use Rattle.rart_nodes.proofs.node.seen.Seen.walk.Goals as goal
 
 pub returns-in_err-path-clause-memory : goal.returns-in_err-path-clause-memory
@@ -16,6 +16,6 @@ pub returns-clause-entries : goal.returns-clause-entries
 returns-clause-entries g c =
     c.start-walk.ensures.entries ∙ ap (λ k. segments_after k (entries_of g.T.Keeps.grown c.enter-root.result.node.now))
     c.in_ok-path.ensures.nothing
-    ∙ behind-none (entries_of g.T.Keeps.grown c.enter-root.result.node.now)
+    ∙ after-none (entries_of g.T.Keeps.grown c.enter-root.result.node.now)
     ∙ ap (entries_of g.T.Keeps.grown) c.enter-root.ensures.shown
     ∙ ap (tree_entries g.T.Keeps.grown) c.in-Some.ensures

@@ -1,12 +1,12 @@
 use Rattle.std.proofs.Common.{◌≡◌, ◌≤◌, ◌+◌, ◌++◌, length, vec_len, vec_capacity}
 use Rattle.std.specs.Slice.Iter.{iter_rest}
-use Rattle.rart_nodes.specs.walks.Walk.{joined}
+use Rattle.rart_nodes.specs.walks.Walk.{joined_bytes}
 use Rattle.rart_nodes.specs.walks.PathParts.{lent_segments}
 use Rattle.rart_nodes.proofs.node.view.LendingKeyView.write_into.Given as goal
 
 abbrev pub invariant-loop-segment : goal.invariant-loop-segment
 invariant-loop-segment l =
     (goal.iterator-loop-segment).can_next l.segments × (goal.iterator-loop-segment).is_finite l.segments ×
-    (l.destination.items ++ joined (lent_segments (iter_rest l.segments))
-    ≡ l.fn.destination.items ++ joined (lent_segments l.fn.self.segments.now)) ×
-    (vec_len l.destination + length (joined (lent_segments (iter_rest l.segments))) ≤ vec_capacity l.destination)
+    (l.destination.items ++ joined_bytes (lent_segments (iter_rest l.segments))
+    ≡ l.fn.destination.items ++ joined_bytes (lent_segments l.fn.self.segments.now)) ×
+    (vec_len l.destination + length (joined_bytes (lent_segments (iter_rest l.segments))) ≤ vec_capacity l.destination)

@@ -1,7 +1,7 @@
 use Rattle.std.proofs.Common.{◌≡◌, ℕ, ◌≤◌, ◌+◌, None, reverse, vec_capacity}
 use Rattle.std.specs.Option.{option_copied}
 use Rattle.rart_nodes.specs.ranges.Potential.{AreLow, potential}
-use Rattle.rart_nodes.specs.walks.Walk.{IsWalk, Tells, nodes_below, entries_ahead, entries_below}
+use Rattle.rart_nodes.specs.walks.Walk.{IsWalk, KeepsEach, nodes_below, entries_ahead, entries_below}
 use Rattle.rart_nodes.proofs.walks.WalkLemmas.{work_left}
 use Rattle.rart_nodes.proofs.walks.WalkVisits.{HasVisited}
 use Rattle.rart_nodes.proofs.node.walk.Walk.advance.Given as goal
@@ -16,7 +16,7 @@ invariant-loop-self g l = record {
   visits : g.C.Count.number l.counter + nodes_below (reverse l.self.levels.items)
       ≡ g.C.Count.number l.fn.counter + nodes_below (reverse l.fn.self.levels.items);
   longest : l.self.longest ≡ l.fn.self.longest;
-  few : Tells g.T.Keeps.grown → HasVisited (g.C.Count.number l.fn.counter) (g.C.Count.number l.counter)
+  few : KeepsEach g.T.Keeps.grown → HasVisited (g.C.Count.number l.fn.counter) (g.C.Count.number l.counter)
       (g.T.Path.kept l.path) (reverse l.self.levels.items);
   potential : g.C.Count.number l.counter + potential (reverse l.fn.self.levels.items) ≤ g.C.Count.number l.fn.counter
       + potential (reverse l.self.levels.items);

@@ -7,9 +7,11 @@ use Rattle.rart_parts.proofs.utils.bitset.set.BitsetBitsetTrait.as_bitmask.Goals
 use Rattle.rart_parts.proofs.utils.bitset.set.BitsetBitsetTrait.as_bitmask.Goals.{then-position-WIDTH+then-check}
 use Rattle.rart_parts.proofs.utils.bitset.set.BitsetBitsetTrait.as_bitmask.Goals.{else-position-WIDTH}
 use Rattle.rart_parts.proofs.utils.bitset.set.BitsetBitsetTrait.as_bitmask.Goals.{
-    else-position-WIDTH-via-then-position-WIDTH+else-check}
+  else-position-WIDTH-via-then-position-WIDTH+else-check,
+}
 use Rattle.rart_parts.proofs.utils.bitset.set.BitsetBitsetTrait.as_bitmask.Goals.{
-    else-position-WIDTH-via-else-position-WIDTH}
+  else-position-WIDTH-via-else-position-WIDTH,
+}
 
 pub loop-position-preserved : goal.loop-position-preserved
 loop-position-preserved g c =

@@ -1,7 +1,7 @@
 use Rattle.std.proofs.Common.{◌≡◌, rules, Some, sym, ◌∙◌}
 use Rattle.rart_nodes.specs.tries.Trie.{child_in}
 use Rattle.rart_nodes.proofs.joins.AlignmentLemmas.{child-starts}
-use Rattle.rart_nodes.proofs.node.intersect.aligned.enter_behind.Goals as goal
+use Rattle.rart_nodes.proofs.node.intersect.aligned.enter_after.Goals as goal
 
 pub unreachable-requires : goal.unreachable-requires
 unreachable-requires g c =

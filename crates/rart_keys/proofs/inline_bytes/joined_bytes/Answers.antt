@@ -1,5 +1,5 @@
 use Rattle.rart_keys.proofs.InlineBytes.{two_parts-zeros}
-use Rattle.rart_keys.proofs.inline_bytes.joined.Goals as goal
+use Rattle.rart_keys.proofs.inline_bytes.joined_bytes.Goals as goal
 
 pub returns : goal.returns
 returns g c = two_parts-zeros g.row.N c.args.first.now c.args.second.now _ _ c.copy_from_slice.ensures.after

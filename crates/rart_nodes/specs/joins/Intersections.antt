@@ -1,4 +1,4 @@
--- A walk through two tries in lockstep, and the keys of both with both values.
+-- A intersection of two tries, and the keys of both with both values.
 use Rattle.std.specs.Prelude.{ℕ, ◌==◌, List, [], ◌∷◌, ◌++◌, Option, if◌then◌else◌}
 use Rattle.std.specs.Ordering.{nat_cmp, match_ordering}
 use Rattle.rart_keys.specs.Joins.{both}
@@ -48,33 +48,40 @@ abbrev mutual
       (pair_child d own b u cs)
 
 -- the keys of both
-abbrev pub meets : {X : Type 0} → Pairing (List (List ℕ × X))
-meets = record { apart = []; shared = λ x es. with_prefix (x ∷ []) es; also = λ xs ys. xs ++ ys; entered = λ b es. es }
+abbrev pub intersected : {X : Type 0} → Pairing (List (List ℕ × X))
+intersected = record {
+  apart = [];
+  shared = λ x es. with_prefix (x ∷ []) es;
+  also = λ xs ys. xs ++ ys;
+  entered = λ b es.
+      es;
+}
 
-abbrev pub own_meet : {V W : Type 0} → Option V → Option W → List (List ℕ × (V × W)) → List (List ℕ × (V × W))
-own_meet v w es = own_pair (both v w) ++ es
+abbrev pub with_own_pair : {V W : Type 0} → Option V → Option W → List (List ℕ × (V × W)) → List (List ℕ × (V × W))
+with_own_pair v w es = own_pair (both v w) ++ es
 
 abbrev pub intersect_nodes : {V W : Type 0} → Trie V → Trie W → List (List ℕ × (V × W))
-intersect_nodes t u = pair_tries meets own_meet t u
+intersect_nodes t u = pair_tries intersected with_own_pair t u
 
 -- the same step by step
-abbrev pub lockstep : {X : Type 0} → List ℕ → List ℕ → List (List ℕ × X) → (ℕ → List ℕ → List (List ℕ × X))
+abbrev pub intersect_prefixes : {X : Type 0} → List ℕ → List ℕ → List (List ℕ × X) → (ℕ → List ℕ → List (List ℕ × X))
     → (ℕ → List ℕ → List (List ℕ × X)) → List (List ℕ × X)
-lockstep {X} p q ended f g = pair_prefixes (meets {X = X}).apart (meets {X = X}).shared p q ended f g
+intersect_prefixes {X} p q ended f g = pair_prefixes (intersected {X = X}).apart (intersected {X = X}).shared p q ended
+    f g
 
 abbrev pub intersect_each : {W X : Type 0} → (ℕ → Trie W → List (List ℕ × X)) → Children W → List (List ℕ × X)
-intersect_each {W} {X} f ds = pair_each (meets {X = X}).apart (meets {X = X}).also f ds
+intersect_each {W} {X} f ds = pair_each (intersected {X = X}).apart (intersected {X = X}).also f ds
 
 abbrev pub intersect_in : {V W : Type 0} → List ℕ → Option V → (ℕ → Trie W → List (List ℕ × (V × W))) → Trie W
     → List (List ℕ × (V × W))
-intersect_in p v f u = pair_in meets p (own_meet v) f u
+intersect_in p v f u = pair_in intersected p (with_own_pair v) f u
 
 abbrev pub intersect_down : {V W : Type 0} → ℕ → List ℕ → Option V → (ℕ → Trie W → List (List ℕ × (V × W))) → Children W
     → List (List ℕ × (V × W))
-intersect_down b l v f ds = pair_down meets b l (own_meet v) f ds
+intersect_down b l v f ds = pair_down intersected b l (with_own_pair v) f ds
 
 abbrev pub intersect_child : {V W : Type 0} → ℕ → Trie W → Children V → List (List ℕ × (V × W))
-intersect_child b u cs = pair_child meets own_meet b u cs
+intersect_child b u cs = pair_child intersected with_own_pair b u cs
 
 -- a node of which the rest p of its prefix is left
 abbrev pub with_rest : {V : Type 0} → List ℕ → Trie V → Trie V
