@@ -75,7 +75,7 @@ impl<K: KeyTrait, V> AdaptiveRadixTree<K, V> {
         ensures callable { F.IsAlwaysCallable f.old → F.IsAlwaysCallable f.new }
         ensures calls { OnOk result
             (ShowsEach F.FnMut f.old (values_below (K.bytes prefix.now) self.now.pairs) f.new) }
-        ensures refused { OnErr result (f.new ≡ f.old) }
+        ensures unchanged { OnErr result (f.new ≡ f.old) }
         ensures memory { IfErr result (MayLackRoom self.now.pairs) }
     {
         self.seen().prefix_values_for_each_by_ref_k(prefix, f)
@@ -97,7 +97,7 @@ impl<K: KeyTrait, V> AdaptiveRadixTree<K, V> {
         ensures callable { F.IsAlwaysCallable f.old → F.IsAlwaysCallable f.new }
         ensures calls { OnOk result
             (ShowsEach F.FnMut f.old (values_below (K.bytes prefix) self.now.pairs) f.new) }
-        ensures refused { OnErr result (f.new ≡ f.old) }
+        ensures unchanged { OnErr result (f.new ≡ f.old) }
         ensures memory { IfErr result (MayLackRoom self.now.pairs) }
     {
         self.prefix_values_for_each_by_ref_k(&prefix, f)
@@ -158,7 +158,7 @@ impl<K: KeyTrait, V> AdaptiveRadixTree<K, V> {
         ensures callable { F.IsAlwaysCallable f.old → F.IsAlwaysCallable f.new }
         ensures calls { IfOk result (λ state. FoldsEach F.FnMut f.old init
             (values_below (K.bytes prefix.now) self.now.pairs) f.new state) }
-        ensures refused { OnErr result (f.new ≡ f.old) }
+        ensures unchanged { OnErr result (f.new ≡ f.old) }
         ensures memory { IfErr result (MayLackRoom self.now.pairs) }
     {
         self.seen().prefix_values_fold_by_ref_k(prefix, init, f)
@@ -182,7 +182,7 @@ impl<K: KeyTrait, V> AdaptiveRadixTree<K, V> {
         ensures callable { F.IsAlwaysCallable f.old → F.IsAlwaysCallable f.new }
         ensures calls { IfOk result (λ state. FoldsEach F.FnMut f.old init
             (values_below (K.bytes prefix) self.now.pairs) f.new state) }
-        ensures refused { OnErr result (f.new ≡ f.old) }
+        ensures unchanged { OnErr result (f.new ≡ f.old) }
         ensures memory { IfErr result (MayLackRoom self.now.pairs) }
     {
         self.prefix_values_fold_by_ref_k(&prefix, init, f)

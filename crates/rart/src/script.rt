@@ -281,7 +281,7 @@ pub fn run<K: KeyTrait + Drop, V: Copy>(
     ensures one_each { IfOk result (λ replies. length replies.items ≡ length calls.items) }
     ensures shape_before { HasShape (keys_of tree.old.pairs) tree.old.nodes }
     ensures shape_after { HasShape (keys_of tree.new.pairs) tree.new.nodes }
-    ensures refused { OnErr result (tree.new ≡ tree.old) }
+    ensures unchanged { OnErr result (tree.new ≡ tree.old) }
     ensures memory { IfErr result (MayLackRoom calls.items) }
 {
     tree.canonical();

@@ -20,6 +20,6 @@ pub trait TreeStatsTrait {
     fn get_tree_stats(&self) -> Result<TreeStats, TreeError>
         ensures statistics { IfOk result
             (λ s. stats_in s ≡ stats_of (keys self.now) (nodes self.now)) }
-        ensures error { IfErr result (λ e. e ≡ TreeError.Memory) }
+        ensures memory { IfErr result (λ e. e ≡ TreeError.Memory) }
         ensures asks { OnErr result (2 ≤ length (keys self.now)) };
 }

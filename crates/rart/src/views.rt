@@ -35,7 +35,7 @@ impl<K: KeyTrait, V> AdaptiveRadixTree<K, V> {
         ensures callable { F.IsAlwaysCallable f.old → F.IsAlwaysCallable f.new }
         ensures calls { OnOk result (ViewsEach F.FnMut f.old
             (cut_pairs (keys_of self.now.pairs) self.now.pairs) f.new) }
-        ensures refused { OnErr result (f.new ≡ f.old) }
+        ensures unchanged { OnErr result (f.new ≡ f.old) }
         ensures memory { IfErr result (MayLackRoom self.now.pairs) }
     {
         self.seen()
@@ -73,7 +73,7 @@ impl<K: KeyTrait, V> AdaptiveRadixTree<K, V> {
         ensures callable { F.IsAlwaysCallable f.old → F.IsAlwaysCallable f.new }
         ensures calls { OnOk result (ViewsEach F.FnMut f.old
             (cut_below (K.bytes prefix.now) self.now.pairs) f.new) }
-        ensures refused { OnErr result (f.new ≡ f.old) }
+        ensures unchanged { OnErr result (f.new ≡ f.old) }
         ensures memory { IfErr result (MayLackRoom self.now.pairs) }
     {
         self.seen()
@@ -96,7 +96,7 @@ impl<K: KeyTrait, V> AdaptiveRadixTree<K, V> {
         ensures callable { F.IsAlwaysCallable f.old → F.IsAlwaysCallable f.new }
         ensures calls { OnOk result (ViewsEach F.FnMut f.old
             (cut_below (K.bytes prefix) self.now.pairs) f.new) }
-        ensures refused { OnErr result (f.new ≡ f.old) }
+        ensures unchanged { OnErr result (f.new ≡ f.old) }
         ensures memory { IfErr result (MayLackRoom self.now.pairs) }
     {
         self.prefix_for_each_view_by_ref_k(&prefix, f)
@@ -160,7 +160,7 @@ impl<K: KeyTrait, V> AdaptiveRadixTree<K, V> {
         ensures callable { F.IsAlwaysCallable f.old → F.IsAlwaysCallable f.new }
         ensures calls { OnOk result (ViewsEach F.FnMut f.old
             (cut_between (bound_in K.bytes start) (bound_in K.bytes end) self.now.pairs) f.new) }
-        ensures refused { OnErr result (f.new ≡ f.old) }
+        ensures unchanged { OnErr result (f.new ≡ f.old) }
         ensures memory { IfErr result (MayLackRoom self.now.pairs) }
     {
         self.seen()
@@ -206,7 +206,7 @@ impl<K: KeyTrait, V> AdaptiveRadixTree<K, V> {
         ensures callable { F.IsAlwaysCallable f.old → F.IsAlwaysCallable f.new }
         ensures called { IfOk result (ShowsFound F.FnMut f.old (keys_of self.now.pairs)
             (longest_match (K.bytes probe.now) self.now.pairs) f.new) }
-        ensures refused { OnErr result (f.new ≡ f.old) }
+        ensures unchanged { OnErr result (f.new ≡ f.old) }
         ensures memory { IfErr result (MayLackMatch (K.bytes probe.now) self.now.pairs) }
     {
         self.seen()
@@ -230,7 +230,7 @@ impl<K: KeyTrait, V> AdaptiveRadixTree<K, V> {
         ensures callable { F.IsAlwaysCallable f.old → F.IsAlwaysCallable f.new }
         ensures called { IfOk result (ShowsFound F.FnMut f.old (keys_of self.now.pairs)
             (longest_match (K.bytes probe) self.now.pairs) f.new) }
-        ensures refused { OnErr result (f.new ≡ f.old) }
+        ensures unchanged { OnErr result (f.new ≡ f.old) }
         ensures memory { IfErr result (MayLackMatch (K.bytes probe) self.now.pairs) }
     {
         self.with_longest_prefix_match_view_by_ref_k(&probe, f)

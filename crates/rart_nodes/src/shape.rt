@@ -66,7 +66,7 @@ fn contains_key(keys: &[&[u8]], path: &[u8]) -> bool
 /// Returns the bytes of the keys after `path`, each once if the keys ascend.
 fn next_bytes(alloc: Global, keys: &[&[u8]], path: &[u8]) -> Result<Vec<u8>, TreeError>
     ensures bytes { IfOk result (λ v. v.items ≡ next_bytes (keys_in keys.now) path.now) }
-    ensures error { IfErr result (λ e. e ≡ TreeError.Memory) }
+    ensures memory { IfErr result (λ e. e ≡ TreeError.Memory) }
 {
     let mut bytes = Vec::new(alloc);
     for key in keys {
@@ -93,7 +93,7 @@ pub fn record_at(
     path: &[u8],
 ) -> Result<Option<ShapeRecord>, TreeError>
     ensures record { IfOk result (IsRecordAt (keys_in keys.now) path.now) }
-    ensures error { IfErr result (λ e. e ≡ TreeError.Memory) }
+    ensures memory { IfErr result (λ e. e ≡ TreeError.Memory) }
 {
     let holds_value = contains_key(keys, path);
     let edges = next_bytes(alloc, keys, path)?;
@@ -116,7 +116,7 @@ pub fn record_at(
 fn put_record(records: &mut Vec<ShapeRecord>, added: ShapeRecord) -> Result<(), TreeError>
     ensures put { OnOk result (records_of records.new.items
         ≡ put added.path.items (node_record added) (records_of records.old.items)) }
-    ensures error { IfErr result (λ e. e ≡ TreeError.Memory) }
+    ensures memory { IfErr result (λ e. e ≡ TreeError.Memory) }
 {
     for i in 0..records.len() {
         match added.path.as_slice().cmp(records[i].path.as_slice()) {
@@ -149,7 +149,7 @@ fn put_record_at(
     ensures put { OnOk result (records_of records.new.items
         ≡ put_some path.now (record_at (keys_in keys.now) path.now)
         (records_of records.old.items)) }
-    ensures error { IfErr result (λ e. e ≡ TreeError.Memory) }
+    ensures memory { IfErr result (λ e. e ≡ TreeError.Memory) }
 {
     match record_at(alloc, keys, path)? {
         Some(found) => put_record(records, found),
@@ -177,7 +177,7 @@ pub fn are_ascending(keys: &[&[u8]]) -> bool
 pub fn shape_of(alloc: Global, keys: &[&[u8]]) -> Result<Vec<ShapeRecord>, TreeError>
     requires { IsAscending (lone_keys (keys_in keys.now)) }
     ensures shape { IfOk result (λ v. HasShape (keys_in keys.now) (records_of v.items)) }
-    ensures error { IfErr result (λ e. e ≡ TreeError.Memory) }
+    ensures memory { IfErr result (λ e. e ≡ TreeError.Memory) }
 {
     let mut records = Vec::new(alloc);
     'keys: for key in keys {

@@ -36,7 +36,7 @@ pub fn intersections_are_symmetric<K: KeyTrait, V, W, F: FnMut(K, &V, &W), G: Fn
         (CallsAtEach F.FnMut K.bytes f.old (join one.now.pairs other.now.pairs) f.new) }
     ensures other_way { OnOk result (CallsAtEach G.FnMut K.bytes g.old
         (swapped_pairs (join one.now.pairs other.now.pairs)) g.new) }
-    ensures refused { OnErr result (g.new ≡ g.old) }
+    ensures unchanged { OnErr result (g.new ≡ g.old) }
     ensures once_or_never { OnErr result ((f.new ≡ f.old)
         ⊎ CallsAtEach F.FnMut K.bytes f.old (join one.now.pairs other.now.pairs) f.new) }
     ensures memory { IfErr result (MayLackBoth one.now.pairs other.now.pairs) }

@@ -49,7 +49,7 @@ impl<K: KeyTrait, T> RouteTable<K, T> {
         ensures callable { F.IsAlwaysCallable f.old → F.IsAlwaysCallable f.new }
         ensures calls { OnOk result (ViewsEach F.FnMut f.old
             (cut_below (K.bytes prefix.now) self.now.pairs) f.new) }
-        ensures refused { OnErr result (f.new ≡ f.old) }
+        ensures unchanged { OnErr result (f.new ≡ f.old) }
         ensures memory { IfErr result (MayLackRoom self.now.pairs) }
     {
         self.routes.prefix_for_each_view_by_ref_k(prefix, f)

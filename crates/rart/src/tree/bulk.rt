@@ -183,7 +183,7 @@ impl<K: KeyTrait, V: Drop> AdaptiveRadixTree<K, V> {
         ensures keys { IfOk result (λ tree. keys_of tree.pairs ≡ map K.bytes keys.now) }
         ensures values { IfOk result (λ tree. values_of tree.pairs ≡ values.items) }
         ensures shape { IfOk result (λ tree. HasShape (keys_of tree.pairs) tree.nodes) }
-        ensures error { IfErr result (λ e. e ≡ BulkError.Memory) }
+        ensures memory { IfErr result (λ e. e ≡ BulkError.Memory) }
         ensures some { OnErr result (0 < length keys.now) }
     {
         if keys.is_empty() {
@@ -216,7 +216,7 @@ impl<K: KeyTrait, V: Drop> AdaptiveRadixTree<K, V> {
         ensures taken { OnErr result ((vs : List V) × (length vs ≤ length keys.now)
             × Takes F.step 0 take_value.old vs take_value.new) }
         ensures shape { IfOk result (λ tree. HasShape (keys_of tree.pairs) tree.nodes) }
-        ensures error { IfErr result (λ e. e ≡ BulkError.Memory) }
+        ensures memory { IfErr result (λ e. e ≡ BulkError.Memory) }
     {
         let Ok(root) = DefaultNode::build(alloc, keys, take_value) else {
             return Err(BulkError::Memory);

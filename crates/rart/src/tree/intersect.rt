@@ -69,7 +69,7 @@ impl<K: KeyTrait, V> AdaptiveRadixTree<K, V> {
         ensures callable { F.IsAlwaysCallable f.old → F.IsAlwaysCallable f.new }
         ensures calls { OnOk result
             (CallsAtEach F.FnMut K.bytes f.old (join self.now.pairs other.now.pairs) f.new) }
-        ensures refused { OnErr result (f.new ≡ f.old) }
+        ensures unchanged { OnErr result (f.new ≡ f.old) }
         ensures memory { IfErr result (MayLackBoth self.now.pairs other.now.pairs) }
     {
         self.seen()
@@ -110,7 +110,7 @@ impl<K: KeyTrait, V> AdaptiveRadixTree<K, V> {
         ensures callable { F.IsAlwaysCallable f.old → F.IsAlwaysCallable f.new }
         ensures calls { OnOk result
             (ViewsAtEach F.FnMut f.old (join self.now.pairs other.now.pairs) f.new) }
-        ensures refused { OnErr result (f.new ≡ f.old) }
+        ensures unchanged { OnErr result (f.new ≡ f.old) }
         ensures memory { IfErr result (MayLackBoth self.now.pairs other.now.pairs) }
     {
         self.seen()

@@ -64,7 +64,7 @@ impl<K: KeyTrait, V> AdaptiveRadixTree<K, V> {
         requires stays { StaysReturning F.FnOnce f (lookup (K.bytes key.now) self.old.pairs) }
         ensures update { UpdatesReturning F.FnOnce f (K.bytes key.now) self.old.pairs result
             self.new.pairs }
-        ensures refused { OnErr result.0 (self.new.nodes ≡ self.old.nodes) }
+        ensures nodes_unchanged { OnErr result.0 (self.new.nodes ≡ self.old.nodes) }
         ensures nodes { keys_of self.new.pairs ≡ keys_of self.old.pairs
             → self.new.nodes ≡ self.old.nodes }
     {
@@ -116,7 +116,7 @@ impl<K: KeyTrait, V> AdaptiveRadixTree<K, V> {
         requires stays { Stays F.FnOnce f (lookup (K.bytes key.now) self.old.pairs) }
         ensures update { Updates F.FnOnce f (K.bytes key.now) self.old.pairs result self.new.pairs }
         ensures shape { HasShape (keys_of self.new.pairs) self.new.nodes }
-        ensures refused { OnErr result (self.new.nodes ≡ self.old.nodes) }
+        ensures nodes_unchanged { OnErr result (self.new.nodes ≡ self.old.nodes) }
     {
         let outcome = update_plainly(self, key, f);
         self.canonical();
@@ -144,7 +144,7 @@ impl<K: KeyTrait, V> AdaptiveRadixTree<K, V> {
         requires stays { Stays F.FnOnce f (lookup (K.bytes key) self.old.pairs) }
         ensures update { Updates F.FnOnce f (K.bytes key) self.old.pairs result self.new.pairs }
         ensures shape { HasShape (keys_of self.new.pairs) self.new.nodes }
-        ensures refused { OnErr result (self.new.nodes ≡ self.old.nodes) }
+        ensures nodes_unchanged { OnErr result (self.new.nodes ≡ self.old.nodes) }
     {
         self.update_k(&key, f)
     }
@@ -189,7 +189,7 @@ impl<K: KeyTrait, V> AdaptiveRadixTree<K, V> {
             → (v : V) × (lookup (K.bytes key.now) self.old.pairs ≡ Some v)
             × (V.is_infallible v → ⊥) }
         ensures shape { HasShape (keys_of self.new.pairs) self.new.nodes }
-        ensures refused { OnErr result (self.new ≡ self.old) }
+        ensures unchanged { OnErr result (self.new ≡ self.old) }
     {
         self.canonical();
         put_back::<V>();
@@ -236,7 +236,7 @@ impl<K: KeyTrait, V> AdaptiveRadixTree<K, V> {
             → (v : V) × (lookup (K.bytes key) self.old.pairs ≡ Some v)
             × (V.is_infallible v → ⊥) }
         ensures shape { HasShape (keys_of self.new.pairs) self.new.nodes }
-        ensures refused { OnErr result (self.new ≡ self.old) }
+        ensures unchanged { OnErr result (self.new ≡ self.old) }
     {
         self.try_update_k(&key, f)
     }
@@ -253,7 +253,7 @@ fn update_plainly<V, K: KeyTrait, F: FnOnce(&mut Slot<V>) -> SlotUpdate<V>>(
     requires stays { Stays F.FnOnce f (lookup (K.bytes key.now) tree.old.pairs) }
     ensures update { AnswersSo F.FnOnce f (lookup (K.bytes key.now) tree.old.pairs)
         (λ r w. EndsIn (K.bytes key.now) r w tree.old.pairs result tree.new.pairs) }
-    ensures refused { OnErr result (tree.new.nodes ≡ tree.old.nodes) }
+    ensures nodes_unchanged { OnErr result (tree.new.nodes ≡ tree.old.nodes) }
 {
     let (outcome, ()) = tree.update_returning(
         key,
@@ -293,7 +293,7 @@ fn update_tried<
     requires stays { StaysIfOk F.FnOnce f (lookup (K.bytes key.now) tree.old.pairs) }
     ensures update { Attempts V.is_infallible F.FnOnce f (K.bytes key.now) tree.old.pairs result.1
         result.0 tree.new.pairs }
-    ensures refused { OnErr result.0 (tree.new.nodes ≡ tree.old.nodes) }
+    ensures nodes_unchanged { OnErr result.0 (tree.new.nodes ≡ tree.old.nodes) }
     ensures nodes { keys_of tree.new.pairs ≡ keys_of tree.old.pairs
         → tree.new.nodes ≡ tree.old.nodes }
 {

@@ -1,4 +1,4 @@
--- A intersection of two tries, step by step: after the bytes that two prefixes share, at their ends, and at
+-- An intersection of two tries, step by step: after the bytes that two prefixes share, at their ends, and at
 -- the children of two nodes.
 use Rattle.std.proofs.Common.{◌≡◌, ℕ, suc, ◌+◌, ⊎_elim, true, List, [], ◌∷◌, ◌++◌, Option, Some, None, refl, arith, sym}
 use Rattle.std.proofs.Common.{ap}

@@ -1,4 +1,4 @@
--- A intersection of two tries, and the keys of both with both values.
+-- An intersection of two tries, and the keys of both with both values.
 use Rattle.std.specs.Prelude.{ℕ, ◌==◌, List, [], ◌∷◌, ◌++◌, Option, if◌then◌else◌}
 use Rattle.std.specs.Ordering.{nat_cmp, match_ordering}
 use Rattle.rart_keys.specs.Joins.{both}

@@ -91,7 +91,7 @@ impl<N> Storage<N> {
     fn for_children(alloc: Global, count: usize) -> Result<Self, TreeError>
         ensures stored { IfOk result (λ s. stored s ≡ []) }
         ensures width { IfOk result (λ s. width_of s ≡ capacity_of count) }
-        ensures error { IfErr result (λ e. e ≡ TreeError.Memory) }
+        ensures memory { IfErr result (λ e. e ≡ TreeError.Memory) }
     {
         if count == 0 {
             Ok(Storage::empty())
@@ -130,7 +130,7 @@ impl<P: Partial, V: Drop> DefaultNode<P, V> {
             (λ t. Takes F.step 0 take_value.old (values_of (pairs_of t)) take_value.new) }
         ensures taken { OnErr result ((vs : List V) × (length vs ≤ length keys.now)
             × Takes F.step 0 take_value.old vs take_value.new) }
-        ensures error { IfErr result (λ e. e ≡ TreeError.Memory) }
+        ensures memory { IfErr result (λ e. e ≡ TreeError.Memory) }
     {
         DefaultNode::build_below(alloc, keys, 0, 0, take_value)
     }
@@ -152,7 +152,7 @@ impl<P: Partial, V: Drop> DefaultNode<P, V> {
             (λ t. Takes F.step from take_value.old (values_of (pairs_of t)) take_value.new) }
         ensures taken { OnErr result ((vs : List V) × (length vs ≤ length keys.now)
             × Takes F.step from take_value.old vs take_value.new) }
-        ensures error { IfErr result (λ e. e ≡ TreeError.Memory) }
+        ensures memory { IfErr result (λ e. e ≡ TreeError.Memory) }
     {
         // a single key is the whole list: below it leaves are made in their parent's loop
         if keys.len() == 1 {

@@ -35,7 +35,7 @@ impl<P: Partial, V> DefaultNode<P, V> {
         requires leaves { None ≡ strip_prefix (prefix_of self.old) key.now }
         requires fits { IsWithin P.MAXIMUM_SIZE (length key.now) }
         ensures ok { OnOk result (self.new ≡ trie_put key.now value self.old) }
-        ensures refused { OnErr result (self.new ≡ self.old) }
+        ensures unchanged { OnErr result (self.new ≡ self.old) }
         ensures back { IfErr result (λ r. (r.error ≡ TreeError.Memory) × (r.value ≡ value)) }
     {
         let Ok(room) = Storage::new_4(alloc) else {
@@ -87,7 +87,7 @@ impl<P: Partial, V> DefaultNode<P, V> {
         ensures ok { OnOk result (self.new ≡ trie_put key.now value self.old) }
         ensures answer { OnOk result (back.new ≡ trie_lookup key.now self.old) }
         ensures fresh { OnOk result (only_new ≡ true → trie_lookup key.now self.old ≡ None) }
-        ensures refused { OnErr result (self.new ≡ self.old) }
+        ensures unchanged { OnErr result (self.new ≡ self.old) }
         ensures back { OnErr result (back.new ≡ Some value) }
         ensures why { IfErr result (FailsPut only_new key.now self.old) }
     {
@@ -129,7 +129,7 @@ impl<P: Partial, V> DefaultNode<P, V> {
         requires fits { IsWithin P.MAXIMUM_SIZE (length key.now) }
         ensures ok { OnOk result (self.new ≡ trie_put key.now value self.old) }
         ensures answer { IfOk result (λ old. old ≡ trie_lookup key.now self.old) }
-        ensures refused { OnErr result (self.new ≡ self.old) }
+        ensures unchanged { OnErr result (self.new ≡ self.old) }
         ensures back { IfErr result (λ r. (r.error ≡ TreeError.Memory) × (r.value ≡ value)) }
         ensures asks { OnErr result ((trie_asks_put key.now self.old ≡ true)
             × (trie_lookup key.now (with_records self.old) ≡ None)) }
@@ -150,7 +150,7 @@ impl<P: Partial, V> DefaultNode<P, V> {
         requires fits { IsWithin P.MAXIMUM_SIZE (length key.now) }
         ensures ok { OnOk result (self.new ≡ trie_put key.now value self.old) }
         ensures fresh { OnOk result (trie_lookup key.now self.old ≡ None) }
-        ensures refused { OnErr result (self.new ≡ self.old) }
+        ensures unchanged { OnErr result (self.new ≡ self.old) }
         ensures why { IfErr result (TellsFailure key.now value self.old) }
     {
         let mut back: Option<V> = None;
@@ -184,7 +184,7 @@ impl<P: Partial, V> DefaultNode<P, V> {
             ≡ length (pairs_of self.old) + 1) }
         ensures longest { OnOk result (longest_key (pairs_of self.new)
             ≤ max (longest_key (pairs_of self.old)) (length key.now)) }
-        ensures refused { OnErr result (self.new ≡ self.old) }
+        ensures unchanged { OnErr result (self.new ≡ self.old) }
         ensures back { IfErr result (λ r. (r.error ≡ TreeError.Memory) × (r.value ≡ value)) }
         ensures asks { OnErr result (MayAskFor key.now (pairs_of self.old)) }
     {
@@ -206,7 +206,7 @@ impl<P: Partial, V> DefaultNode<P, V> {
         ensures count { OnOk result (length (pairs_of self.new) ≡ length (pairs_of self.old) + 1) }
         ensures longest { OnOk result (longest_key (pairs_of self.new)
             ≤ max (longest_key (pairs_of self.old)) (length key.now)) }
-        ensures refused { OnErr result (self.new ≡ self.old) }
+        ensures unchanged { OnErr result (self.new ≡ self.old) }
         ensures why { IfErr result (TellsNotPut key.now value (pairs_of self.old)) }
     {
         self.put_new(alloc, key, value)

@@ -193,7 +193,7 @@ impl<'a, K: KeyTrait, V, C: Count> Seen<'a, K, V, C> {
             (seen_join self.entry.root other.entry.root) f.new) }
         ensures memory { IfErr result
             (MayLackBoth (seen_pairs self.entry.root) (seen_pairs other.entry.root)) }
-        ensures refused { OnErr result
+        ensures unchanged { OnErr result
             ((f.new ≡ f.old) × (C.number counter.new ≡ C.number counter.old)) }
         ensures visits { OnOk result (C.number counter.new
             ≡ C.number counter.old + seen_visits self.entry.root other.entry.root) }
@@ -265,7 +265,7 @@ impl<'a, K: KeyTrait, V, C: Count> Seen<'a, K, V, C> {
             (seen_join self.entry.root other.entry.root) f.new) }
         ensures memory { IfErr result
             (MayLackBoth (seen_pairs self.entry.root) (seen_pairs other.entry.root)) }
-        ensures refused { OnErr result
+        ensures unchanged { OnErr result
             ((f.new ≡ f.old) × (C.number counter.new ≡ C.number counter.old)) }
         ensures visits { OnOk result (C.number counter.new
             ≡ C.number counter.old + seen_visits self.entry.root other.entry.root) }

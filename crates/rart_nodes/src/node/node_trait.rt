@@ -33,7 +33,7 @@ pub trait Node<P: Partial, V>: Sized {
     /// [`TreeError::Memory`] if the allocation fails.
     fn new_inner(alloc: Global, prefix: P) -> Result<Self, TreeError>
         ensures ok { IfOk result (λ n. trie n ≡ node (P.bytes prefix) None 4 no_children) }
-        ensures error { IfErr result (λ e. e ≡ TreeError.Memory) };
+        ensures memory { IfErr result (λ e. e ≡ TreeError.Memory) };
 
     /// Returns the value of the node.
     fn value(&self) -> Option<&V>
@@ -87,7 +87,7 @@ pub trait Node<P: Partial, V>: Sized {
     fn add_child(&mut self, alloc: Global, key: u8, node: Self) -> Result<(), Refused<Self>>
         requires absent { child_in key (trie self.old) ≡ None }
         ensures ok { OnOk result (trie self.new ≡ with_child key (trie node) (trie self.old)) }
-        ensures refused { OnErr result (trie self.new ≡ trie self.old) }
+        ensures unchanged { OnErr result (trie self.new ≡ trie self.old) }
         ensures back { IfErr result
             (λ r. (r.error ≡ TreeError.Memory) × (trie r.value ≡ trie node)) }
         ensures asks { OnErr result
@@ -107,9 +107,9 @@ pub trait Node<P: Partial, V>: Sized {
         ensures taken { IfOk result
             (λ child. option_map trie child ≡ child_in key (trie self.old)) }
         ensures rest { OnOk result (trie self.new ≡ without_child key (trie self.old)) }
-        ensures refused { OnErr result (trie self.new ≡ trie self.old) }
+        ensures unchanged { OnErr result (trie self.new ≡ trie self.old) }
         ensures asks { OnErr result (NarrowsWithout key (trie self.old)) }
-        ensures error { IfErr result (λ e. e ≡ TreeError.Memory) };
+        ensures memory { IfErr result (λ e. e ≡ TreeError.Memory) };
 
     /// Returns the greatest number of children of this kind of node.
     fn capacity(&self) -> usize
@@ -212,7 +212,7 @@ impl<P: Partial, V> DefaultNode<P, V> {
     /// [`TreeError::Memory`] if the allocation fails.
     pub fn new_4(alloc: Global, prefix: P) -> Result<Self, TreeError>
         ensures ok { IfOk result (λ n. n ≡ node (P.bytes prefix) None 4 no_children) }
-        ensures error { IfErr result (λ e. e ≡ TreeError.Memory) }
+        ensures memory { IfErr result (λ e. e ≡ TreeError.Memory) }
     {
         let storage = Storage::new_4(alloc)?;
         Ok(DefaultNode::over(prefix, storage))
@@ -225,7 +225,7 @@ impl<P: Partial, V> DefaultNode<P, V> {
     /// [`TreeError::Memory`] if the allocation fails.
     pub fn new_16(alloc: Global, prefix: P) -> Result<Self, TreeError>
         ensures ok { IfOk result (λ n. n ≡ node (P.bytes prefix) None 16 no_children) }
-        ensures error { IfErr result (λ e. e ≡ TreeError.Memory) }
+        ensures memory { IfErr result (λ e. e ≡ TreeError.Memory) }
     {
         let storage = Storage::new_16(alloc)?;
         Ok(DefaultNode::over(prefix, storage))
@@ -238,7 +238,7 @@ impl<P: Partial, V> DefaultNode<P, V> {
     /// [`TreeError::Memory`] if the allocation fails.
     pub fn new_48(alloc: Global, prefix: P) -> Result<Self, TreeError>
         ensures ok { IfOk result (λ n. n ≡ node (P.bytes prefix) None 48 no_children) }
-        ensures error { IfErr result (λ e. e ≡ TreeError.Memory) }
+        ensures memory { IfErr result (λ e. e ≡ TreeError.Memory) }
     {
         let storage = Storage::new_48(alloc)?;
         Ok(DefaultNode::over(prefix, storage))
@@ -251,7 +251,7 @@ impl<P: Partial, V> DefaultNode<P, V> {
     /// [`TreeError::Memory`] if the allocation fails.
     pub fn new_256(alloc: Global, prefix: P) -> Result<Self, TreeError>
         ensures ok { IfOk result (λ n. n ≡ node (P.bytes prefix) None 256 no_children) }
-        ensures error { IfErr result (λ e. e ≡ TreeError.Memory) }
+        ensures memory { IfErr result (λ e. e ≡ TreeError.Memory) }
     {
         let storage = Storage::new_256(alloc)?;
         Ok(DefaultNode::over(prefix, storage))

@@ -50,9 +50,9 @@ impl<P: Partial, V> DefaultNode<P, V> {
         requires within { JoinsWithin P.MAXIMUM_SIZE (prefix_of self.old) (children_in self.old) }
         ensures taken { IfOk result (λ child. child ≡ child_in b self.old) }
         ensures rest { OnOk result (self.new ≡ without_child b self.old) }
-        ensures refused { OnErr result (self.new ≡ self.old) }
+        ensures unchanged { OnErr result (self.new ≡ self.old) }
         ensures asks { OnErr result (NarrowsWithout b self.old) }
-        ensures error { IfErr result (λ e. e ≡ TreeError.Memory) }
+        ensures memory { IfErr result (λ e. e ≡ TreeError.Memory) }
     {
         let narrow = self.storage.width() == 4;
         let Some(child) = self.storage.delete_child(alloc, b)? else {
@@ -105,9 +105,9 @@ impl<P: Partial, V> DefaultNode<P, V> {
         requires empty { removed.old ≡ None }
         ensures ok { OnOk result (Some self.new ≡ trie_remove key.now self.old) }
         ensures answer { OnOk result (removed.new ≡ trie_lookup key.now self.old) }
-        ensures refused { OnErr result (self.new ≡ self.old) }
+        ensures unchanged { OnErr result (self.new ≡ self.old) }
         ensures nothing { OnErr result (removed.new ≡ None) }
-        ensures error { IfErr result (λ e. e ≡ TreeError.Memory) }
+        ensures memory { IfErr result (λ e. e ≡ TreeError.Memory) }
         ensures asks { OnErr result ((trie_asks_remove None key.now self.old ≡ true)
             × (trie_lookup key.now self.old ≢ None)) }
     {
@@ -142,8 +142,8 @@ impl<P: Partial, V> DefaultNode<P, V> {
         requires stays { is_leaf_at key.now self.old ≡ false }
         ensures ok { OnOk result (Some self.new ≡ trie_remove key.now self.old) }
         ensures answer { IfOk result (λ old. old ≡ trie_lookup key.now self.old) }
-        ensures refused { OnErr result (self.new ≡ self.old) }
-        ensures error { IfErr result (λ e. e ≡ TreeError.Memory) }
+        ensures unchanged { OnErr result (self.new ≡ self.old) }
+        ensures memory { IfErr result (λ e. e ≡ TreeError.Memory) }
         ensures asks { OnErr result ((trie_asks_remove None key.now self.old ≡ true)
             × (trie_lookup key.now self.old ≢ None)) }
     {
@@ -163,8 +163,8 @@ impl<P: Partial, V> DefaultNode<P, V> {
         requires fits { IsWithin P.MAXIMUM_SIZE (longest_key (tree_pairs root.old)) }
         ensures ok { OnOk result (root.new ≡ tree_remove key.now root.old) }
         ensures answer { IfOk result (λ old. old ≡ tree_lookup key.now root.old) }
-        ensures refused { OnErr result (root.new ≡ root.old) }
-        ensures error { IfErr result (λ e. e ≡ TreeError.Memory) }
+        ensures unchanged { OnErr result (root.new ≡ root.old) }
+        ensures memory { IfErr result (λ e. e ≡ TreeError.Memory) }
         ensures asks { OnErr result ((remove_asks (keys_of (tree_pairs root.old)) key.now ≡ true)
             × (tree_lookup key.now root.old ≢ None)) }
     {
@@ -203,8 +203,8 @@ impl<P: Partial, V> DefaultNode<P, V> {
             ≡ length (tree_pairs root.old)) }
         ensures longest { OnOk result
             (longest_key (tree_pairs root.new) ≤ longest_key (tree_pairs root.old)) }
-        ensures refused { OnErr result (root.new ≡ root.old) }
-        ensures error { IfErr result (λ e. e ≡ TreeError.Memory) }
+        ensures unchanged { OnErr result (root.new ≡ root.old) }
+        ensures memory { IfErr result (λ e. e ≡ TreeError.Memory) }
         ensures asks { OnErr result ((remove_asks (keys_of (tree_pairs root.old)) key.now ≡ true)
             × (lookup key.now (tree_pairs root.old) ≢ None)) }
     {

@@ -40,7 +40,7 @@ impl<P: Partial, V> DefaultNode<P, V> {
         requires fits { 16 * length (seen_pairs root) ≤ usize.MAX }
         ensures statistics { IfOk result
             (λ s. stats_in s ≡ stats_of (seen_keys root.entry) (seen_nodes root.entry)) }
-        ensures error { IfErr result (λ e. e ≡ TreeError.Memory) }
+        ensures memory { IfErr result (λ e. e ≡ TreeError.Memory) }
         ensures asks { OnErr result (2 ≤ length (seen_pairs root.entry)) }
     {
         let Some(node) = root else {

@@ -340,7 +340,7 @@ impl<P: Partial, V> DefaultNode<P, V> {
             (length (tree_pairs root.new)) }
         ensures longest { longest_key (tree_pairs root.new)
             ≤ longest_after result.0 (length key.now) (longest_key (tree_pairs root.old)) }
-        ensures refused { OnErr result.0 (tree_nodes root.new ≡ tree_nodes root.old) }
+        ensures nodes_unchanged { OnErr result.0 (tree_nodes root.new ≡ tree_nodes root.old) }
         ensures nodes { keys_of (tree_pairs root.new) ≡ keys_of (tree_pairs root.old)
             → tree_nodes root.new ≡ tree_nodes root.old }
     {

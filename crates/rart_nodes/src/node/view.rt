@@ -119,7 +119,7 @@ impl<'tree, 'view> LendingKeyView<'tree, 'view> {
     pub fn write_into(self, destination: &mut Vec<u8>) -> Result<(), TreeError>
         ensures written { OnOk result (destination.new.items
             ≡ destination.old.items ++ joined_bytes (lent_segments self.entry.segments.now)) }
-        ensures refused { OnErr result (destination.new.items ≡ destination.old.items) }
+        ensures unchanged { OnErr result (destination.new.items ≡ destination.old.items) }
         ensures memory { IfErr result (λ e. e ≡ TreeError.Memory) }
     {
         destination.reserve(self.len())?;

@@ -61,7 +61,7 @@ impl WidthCount {
     ) -> Result<(), TreeError>
         ensures put { OnOk result
             (node_stats.new.entries ≡ with_width self.now width node_stats.old.entries) }
-        ensures error { IfErr result (λ e. e ≡ TreeError.Memory) }
+        ensures memory { IfErr result (λ e. e ≡ TreeError.Memory) }
         ensures asks { OnErr result (1 ≤ self.now.nodes) }
     {
         if self.nodes == 0 {
@@ -143,7 +143,7 @@ impl Counts {
         requires counts { counts_sum self.now ≤ usize.MAX }
         requires width { width_counted self.now ≤ usize.MAX }
         ensures value { IfOk result (λ s. stats_in s ≡ stats_counted self.now height) }
-        ensures error { IfErr result (λ e. e ≡ TreeError.Memory) }
+        ensures memory { IfErr result (λ e. e ≡ TreeError.Memory) }
         ensures asks { OnErr result (1 ≤ inner_counted self.now) }
     {
         let mut node_stats = BTreeMap::new(alloc);

@@ -85,7 +85,7 @@ impl<N> DirectMapping<N> {
         ensures ok { IfOk result (λ m. m ≡ ascending source.old) }
         ensures emptied { OnOk result (ascending source.new ≡ []) }
         ensures err { IfErr result (λ e. e ≡ TreeError.Memory) }
-        ensures refused { OnErr result (source.new ≡ source.old) }
+        ensures unchanged { OnErr result (source.new ≡ source.old) }
     {
         let mut map = DirectMapping::new(alloc)?;
         map.fill_from_indexed(source);

@@ -76,7 +76,7 @@ impl<N, const W: usize, B: BitsetTrait> IndexedMapping<N, W, B> {
         ensures ok { IfOk result (λ m. ascending m ≡ source.old) }
         ensures emptied { OnOk result (source.new ≡ []) }
         ensures err { IfErr result (λ e. e ≡ TreeError.Memory) }
-        ensures refused { OnErr result (source.new ≡ source.old) }
+        ensures unchanged { OnErr result (source.new ≡ source.old) }
     {
         let mut map = IndexedMapping::new(alloc)?;
         map.fill_from_sorted_keyed(source);
@@ -110,7 +110,7 @@ impl<N, const W: usize, B: BitsetTrait> IndexedMapping<N, W, B> {
         ensures ok { IfOk result (λ m. ascending m ≡ source.old) }
         ensures emptied { OnOk result (source.new ≡ []) }
         ensures err { IfErr result (λ e. e ≡ TreeError.Memory) }
-        ensures refused { OnErr result (source.new ≡ source.old) }
+        ensures unchanged { OnErr result (source.new ≡ source.old) }
     {
         let mut map = IndexedMapping::new(alloc)?;
         map.fill_from_direct(source);
@@ -151,7 +151,7 @@ impl<N, const W: usize, B: BitsetTrait> IndexedMapping<N, W, B> {
         ensures ok { IfOk result (λ m. ascending m ≡ ascending source.old) }
         ensures emptied { OnOk result (ascending source.new ≡ []) }
         ensures err { IfErr result (λ e. e ≡ TreeError.Memory) }
-        ensures refused { OnErr result (source.new ≡ source.old) }
+        ensures unchanged { OnErr result (source.new ≡ source.old) }
     {
         let mut map = IndexedMapping::new(alloc)?;
         map.fill_from_keyed(source);

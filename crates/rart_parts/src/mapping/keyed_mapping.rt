@@ -76,7 +76,7 @@ impl<N, const W: usize, B: BitsetTrait> KeyedMapping<N, W, B> {
         ensures ok { IfOk result (λ m. ascending m ≡ ascending source.old) }
         ensures emptied { OnOk result (ascending source.new ≡ []) }
         ensures err { IfErr result (λ e. e ≡ TreeError.Memory) }
-        ensures refused { OnErr result (source.new ≡ source.old) }
+        ensures unchanged { OnErr result (source.new ≡ source.old) }
     {
         let mut map = KeyedMapping::new(alloc)?;
         // At most U, which is below W.

@@ -71,7 +71,7 @@ impl<N, const W: usize> SortedKeyedMapping<N, W> {
         ensures ok { IfOk result (λ m. m ≡ source.old) }
         ensures emptied { OnOk result (source.new ≡ []) }
         ensures err { IfErr result (λ e. e ≡ TreeError.Memory) }
-        ensures refused { OnErr result (source.new ≡ source.old) }
+        ensures unchanged { OnErr result (source.new ≡ source.old) }
     {
         let mut map = SortedKeyedMapping::new(alloc)?;
         map.fill_from_resized(source);
@@ -106,7 +106,7 @@ impl<N, const W: usize> SortedKeyedMapping<N, W> {
         ensures ok { IfOk result (λ m. m ≡ ascending source.old) }
         ensures emptied { OnOk result (ascending source.new ≡ []) }
         ensures err { IfErr result (λ e. e ≡ TreeError.Memory) }
-        ensures refused { OnErr result (source.new ≡ source.old) }
+        ensures unchanged { OnErr result (source.new ≡ source.old) }
     {
         let mut map = SortedKeyedMapping::new(alloc)?;
         map.fill_from_indexed(source);

@@ -19,7 +19,7 @@ pub fn count_word<K: KeyTrait>(
     ensures again { (n : ℕ) → lookup (K.bytes word.now) counts.old.pairs ≡ Some n
         → OnOk result (counts.new.pairs ≡ put (K.bytes word.now) (n + 1) counts.old.pairs) }
     ensures full { lookup (K.bytes word.now) counts.old.pairs ≡ Some (2 ^ 64 - 1) → IsErr result }
-    ensures refused { OnErr result (counts.new ≡ counts.old) }
+    ensures unchanged { OnErr result (counts.new ≡ counts.old) }
 {
     counts.try_update_k(word, |slot| match slot {
         Slot::Vacant => Ok(SlotUpdate::Insert(1)),

@@ -11,7 +11,7 @@ use std::alloc::Global;
 /// Returns the bytes of each key. Fails with `Memory` if an allocation fails.
 pub(super) fn keys_in_slice<K: KeyTrait>(alloc: Global, keys: &[K]) -> Result<Vec<&[u8]>, BulkError>
     ensures keys { IfOk result (λ v. keys_in v.items ≡ map K.bytes keys.now) }
-    ensures error { IfErr result (λ e. e ≡ BulkError.Memory) }
+    ensures memory { IfErr result (λ e. e ≡ BulkError.Memory) }
 {
     let Ok(mut strings) = Vec::with_capacity(alloc, keys.len()) else {
         return Err(BulkError::Memory);
@@ -37,7 +37,7 @@ pub(super) fn keys_by_index<'a, K: KeyTrait + 'a, F: Fn(usize) -> &'a K>(
     ensures keys { IfOk result
         (λ v. AreKeysAt (λ i key. (k : _) × F.post key_at.now i k × (key ≡ K.bytes k.now))
         (keys_in v.items)) }
-    ensures error { IfErr result (λ e. e ≡ BulkError.Memory) }
+    ensures memory { IfErr result (λ e. e ≡ BulkError.Memory) }
 {
     let Ok(mut strings) = Vec::with_capacity(alloc, len) else {
         return Err(BulkError::Memory);

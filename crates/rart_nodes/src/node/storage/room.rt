@@ -17,7 +17,7 @@ pub(super) fn boxed_sorted<N, const W: usize>(
 ) -> Result<Box<SortedKeyedMapping<N, W>>, TreeError>
     requires { W ≤ 255 }
     ensures ok { IfOk result (λ m. m.value ≡ []) }
-    ensures error { IfErr result (λ e. e ≡ TreeError.Memory) }
+    ensures memory { IfErr result (λ e. e ≡ TreeError.Memory) }
 {
     match Box::new(alloc, SortedKeyedMapping::new(alloc)?) {
         Ok(map) => Ok(map),
@@ -33,7 +33,7 @@ pub(super) fn boxed_indexed<N>(
     alloc: Global,
 ) -> Result<Box<IndexedMapping<N, 48, Bitset64<1>>>, TreeError>
     ensures ok { IfOk result (λ m. ascending m.value ≡ []) }
-    ensures error { IfErr result (λ e. e ≡ TreeError.Memory) }
+    ensures memory { IfErr result (λ e. e ≡ TreeError.Memory) }
 {
     match Box::new(alloc, IndexedMapping::new(alloc)?) {
         Ok(map) => Ok(map),
@@ -47,7 +47,7 @@ pub(super) fn boxed_indexed<N>(
 /// Returns a boxed direct map with no child.
 fn boxed_direct<N>(alloc: Global) -> Result<Box<DirectMapping<N>>, TreeError>
     ensures ok { IfOk result (λ m. m.value ≡ []) }
-    ensures error { IfErr result (λ e. e ≡ TreeError.Memory) }
+    ensures memory { IfErr result (λ e. e ≡ TreeError.Memory) }
 {
     match Box::new(alloc, DirectMapping::new(alloc)?) {
         Ok(map) => Ok(map),
@@ -63,7 +63,7 @@ impl<N> Storage<N> {
     pub(crate) fn new_4(alloc: Global) -> Result<Self, TreeError>
         ensures stored { IfOk result (λ s. stored s ≡ []) }
         ensures width { IfOk result (λ s. width_of s ≡ 4) }
-        ensures error { IfErr result (λ e. e ≡ TreeError.Memory) }
+        ensures memory { IfErr result (λ e. e ≡ TreeError.Memory) }
     {
         Ok(Storage::Node4(boxed_sorted(alloc)?))
     }
@@ -72,7 +72,7 @@ impl<N> Storage<N> {
     pub(crate) fn new_16(alloc: Global) -> Result<Self, TreeError>
         ensures stored { IfOk result (λ s. stored s ≡ []) }
         ensures width { IfOk result (λ s. width_of s ≡ 16) }
-        ensures error { IfErr result (λ e. e ≡ TreeError.Memory) }
+        ensures memory { IfErr result (λ e. e ≡ TreeError.Memory) }
     {
         Ok(Storage::Node16(boxed_sorted(alloc)?))
     }
@@ -81,7 +81,7 @@ impl<N> Storage<N> {
     pub(crate) fn new_48(alloc: Global) -> Result<Self, TreeError>
         ensures stored { IfOk result (λ s. stored s ≡ []) }
         ensures width { IfOk result (λ s. width_of s ≡ 48) }
-        ensures error { IfErr result (λ e. e ≡ TreeError.Memory) }
+        ensures memory { IfErr result (λ e. e ≡ TreeError.Memory) }
     {
         Ok(Storage::Node48(boxed_indexed(alloc)?))
     }
@@ -90,7 +90,7 @@ impl<N> Storage<N> {
     pub(crate) fn new_256(alloc: Global) -> Result<Self, TreeError>
         ensures stored { IfOk result (λ s. stored s ≡ []) }
         ensures width { IfOk result (λ s. width_of s ≡ 256) }
-        ensures error { IfErr result (λ e. e ≡ TreeError.Memory) }
+        ensures memory { IfErr result (λ e. e ≡ TreeError.Memory) }
     {
         Ok(Storage::Node256(boxed_direct(alloc)?))
     }
@@ -144,9 +144,9 @@ impl<N> Storage<N> {
         ensures room { OnOk result (length (stored self.new) < width_of self.new) }
         ensures width { OnOk result
             (width_of self.new ≡ widened_width (length (stored self.old)) (width_of self.old)) }
-        ensures refused { OnErr result (self.new ≡ self.old) }
+        ensures unchanged { OnErr result (self.new ≡ self.old) }
         ensures asks { OnErr result (length (stored self.old) ≡ width_of self.old) }
-        ensures error { IfErr result (λ e. e ≡ TreeError.Memory) }
+        ensures memory { IfErr result (λ e. e ≡ TreeError.Memory) }
     {
         if self.has_room(b) {
             return Ok(());

@@ -45,9 +45,9 @@ impl<N> Storage<N> {
         ensures stored { OnOk result (stored self.new ≡ without_byte b (stored self.old)) }
         ensures width { OnOk result
             (width_of self.new ≡ width_without b self.old (length (stored self.new))) }
-        ensures refused { OnErr result (self.new ≡ self.old) }
+        ensures unchanged { OnErr result (self.new ≡ self.old) }
         ensures asks { OnErr result (NarrowsStored b self.old) }
-        ensures error { IfErr result (λ e. e ≡ TreeError.Memory) }
+        ensures memory { IfErr result (λ e. e ≡ TreeError.Memory) }
     {
         if self.keeps_kind(b) {
             return Ok(self.delete_within(b));

@@ -52,7 +52,7 @@ impl<'a, K: KeyTrait, V, C: Count> Seen<'a, K, V, C> {
         ensures callable { F.IsAlwaysCallable f.old → F.IsAlwaysCallable f.new }
         ensures calls { IfOk result (λ state. FoldsEach F.FnMut f.old init
             (values_below prefix.now (seen_pairs self.entry.root)) f.new state) }
-        ensures refused { OnErr result (f.new ≡ f.old) }
+        ensures unchanged { OnErr result (f.new ≡ f.old) }
         ensures memory { IfErr result (MayLackRoom (seen_pairs self.entry.root)) }
         ensures visits { OnOk result (C.number counter.new
             ≤ C.number counter.old + below_visits prefix.now (seen_pairs self.entry.root)) }
@@ -86,7 +86,7 @@ impl<'a, K: KeyTrait, V, C: Count> Seen<'a, K, V, C> {
         ensures callable { F.IsAlwaysCallable f.old → F.IsAlwaysCallable f.new }
         ensures calls { IfOk result (λ state. FoldsEach F.FnMut f.old init
             (values_below (K.bytes prefix.now) (seen_pairs self.entry.root)) f.new state) }
-        ensures refused { OnErr result (f.new ≡ f.old) }
+        ensures unchanged { OnErr result (f.new ≡ f.old) }
         ensures memory { IfErr result (MayLackRoom (seen_pairs self.entry.root)) }
         ensures visits { OnOk result (C.number counter.new
             ≤ C.number counter.old
@@ -147,7 +147,7 @@ impl<'a, K: KeyTrait, V> Seen<'a, K, V, Visits> {
         ensures callable { F.IsAlwaysCallable f.old → F.IsAlwaysCallable f.new }
         ensures calls { IfOk result (λ state. FoldsEach F.FnMut f.old init
             (values_below (K.bytes prefix.now) (seen_pairs self.entry.root)) f.new state) }
-        ensures refused { OnErr result (f.new ≡ f.old) }
+        ensures unchanged { OnErr result (f.new ≡ f.old) }
         ensures memory { IfErr result (MayLackRoom (seen_pairs self.entry.root)) }
     {
         self.prefix_values_fold_by_ref_k_counted(prefix, init, f, &mut Visits::new())

@@ -75,7 +75,7 @@ impl<'a, K: KeyTrait, V, C: Count> Seen<'a, K, V, C> {
         ensures callable { F.IsAlwaysCallable f.old → F.IsAlwaysCallable f.new }
         ensures called { IfOk result (ShowsFound F.FnMut f.old (seen_keys self.entry.root)
             (longest_match probe.now (seen_pairs self.entry.root)) f.new) }
-        ensures refused { OnErr result (f.new ≡ f.old) }
+        ensures unchanged { OnErr result (f.new ≡ f.old) }
         ensures memory { IfErr result (MayLackMatch probe.now (seen_pairs self.entry.root)) }
         ensures visits { OnOk result (C.number counter.new
             ≤ C.number counter.old + match_visits probe.now (seen_pairs self.entry.root)) }
@@ -110,7 +110,7 @@ impl<'a, K: KeyTrait, V, C: Count> Seen<'a, K, V, C> {
         ensures callable { F.IsAlwaysCallable f.old → F.IsAlwaysCallable f.new }
         ensures called { IfOk result (ShowsFound F.FnMut f.old (seen_keys self.entry.root)
             (longest_match (K.bytes probe.now) (seen_pairs self.entry.root)) f.new) }
-        ensures refused { OnErr result (f.new ≡ f.old) }
+        ensures unchanged { OnErr result (f.new ≡ f.old) }
         ensures memory { IfErr result
             (MayLackMatch (K.bytes probe.now) (seen_pairs self.entry.root)) }
         ensures visits { OnOk result (C.number counter.new

@@ -92,7 +92,7 @@ impl<'a, K: KeyTrait + Drop, V, C: Count> Seen<'a, K, V, C> {
         ensures calls { OnOk result (ViewsEach F.FnMut f.old
             (cut_between (bound_in K.bytes start) (bound_in K.bytes end)
             (seen_pairs self.entry.root)) f.new) }
-        ensures refused { OnErr result (f.new ≡ f.old) }
+        ensures unchanged { OnErr result (f.new ≡ f.old) }
         ensures memory { IfErr result (MayLackRoom (seen_pairs self.entry.root)) }
         ensures visits { OnOk result (C.number counter.new ≤ C.number counter.old
             + span_visits (bound_in K.bytes start) (bound_in K.bytes end)

@@ -49,7 +49,7 @@ impl<'a, K: KeyTrait, V, C: Count> Seen<'a, K, V, C> {
         ensures callable { F.IsAlwaysCallable f.old → F.IsAlwaysCallable f.new }
         ensures calls { OnOk result
             (ShowsEach F.FnMut f.old (values_below prefix.now (seen_pairs self.entry.root)) f.new) }
-        ensures refused { OnErr result (f.new ≡ f.old) }
+        ensures unchanged { OnErr result (f.new ≡ f.old) }
         ensures memory { IfErr result (MayLackRoom (seen_pairs self.entry.root)) }
         ensures visits { OnOk result (C.number counter.new
             ≤ C.number counter.old + below_visits prefix.now (seen_pairs self.entry.root)) }
@@ -82,7 +82,7 @@ impl<'a, K: KeyTrait, V, C: Count> Seen<'a, K, V, C> {
         ensures callable { F.IsAlwaysCallable f.old → F.IsAlwaysCallable f.new }
         ensures calls { OnOk result (ShowsEach F.FnMut f.old
             (values_below (K.bytes prefix.now) (seen_pairs self.entry.root)) f.new) }
-        ensures refused { OnErr result (f.new ≡ f.old) }
+        ensures unchanged { OnErr result (f.new ≡ f.old) }
         ensures memory { IfErr result (MayLackRoom (seen_pairs self.entry.root)) }
         ensures visits { OnOk result (C.number counter.new
             ≤ C.number counter.old
@@ -140,7 +140,7 @@ impl<'a, K: KeyTrait, V> Seen<'a, K, V, Visits> {
         ensures callable { F.IsAlwaysCallable f.old → F.IsAlwaysCallable f.new }
         ensures calls { OnOk result (ShowsEach F.FnMut f.old
             (values_below (K.bytes prefix.now) (seen_pairs self.entry.root)) f.new) }
-        ensures refused { OnErr result (f.new ≡ f.old) }
+        ensures unchanged { OnErr result (f.new ≡ f.old) }
         ensures memory { IfErr result (MayLackRoom (seen_pairs self.entry.root)) }
     {
         self.prefix_values_for_each_by_ref_k_counted(prefix, f, &mut Visits::new())

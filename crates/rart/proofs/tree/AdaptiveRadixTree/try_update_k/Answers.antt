@@ -8,8 +8,8 @@ use Rattle.rart.proofs.tree.AdaptiveRadixTree.try_update_k.Goals.{After-restore}
 use Rattle.rart.proofs.tree.AdaptiveRadixTree.try_update_k.Goals as goal
 
 -- it wasn't called
-pub returns-in-NotCloned-clause-refused : goal.returns-in-NotCloned-clause-refused
-returns-in-NotCloned-clause-refused g c =
+pub returns-in-NotCloned-clause-unchanged : goal.returns-in-NotCloned-clause-unchanged
+returns-in-NotCloned-clause-unchanged g c =
     let pairs = (not-called g.V.Clone.is_infallible g.F.FnOnce c.args.f (g.K.KeyTrait.bytes c.args.key.now)
     c.args.self.now.pairs c.update_tried-outcome.new.tree.pairs c.update_tried-outcome.result.0
     c.put_back.ensures.same c.canonical.ensures.ascending
@@ -31,8 +31,8 @@ returns-in-Failed-clause-called g c =
     c.update_tried-outcome.new.tree.pairs c.update_tried-outcome.result.0 c.put_back.ensures.same
     c.canonical.ensures.ascending c.in-Failed.error (rw c.in-Failed.is at c.update_tried-outcome.ensures.update)).0
 
-pub returns-in-Failed-clause-refused : goal.returns-in-Failed-clause-refused
-returns-in-Failed-clause-refused g c =
+pub returns-in-Failed-clause-unchanged : goal.returns-in-Failed-clause-unchanged
+returns-in-Failed-clause-unchanged g c =
     let pairs = (failed g.V.Clone.is_infallible g.F.FnOnce c.args.f (g.K.KeyTrait.bytes c.args.key.now)
     c.args.self.now.pairs c.update_tried-outcome.new.tree.pairs c.update_tried-outcome.result.0
     c.put_back.ensures.same c.canonical.ensures.ascending c.in-Failed.error
@@ -55,8 +55,8 @@ returns-in-Err-Insert-clause-called g c =
     c.in-Err-Insert.refused (c.in-Err-Insert.is ∙ ap Err c.in-Err-Insert.field-0-is)
     (rw c.in-Answered.is at c.update_tried-outcome.ensures.update)).0
 
-pub returns-in-Err-Insert-clause-refused : goal.returns-in-Err-Insert-clause-refused
-returns-in-Err-Insert-clause-refused g c =
+pub returns-in-Err-Insert-clause-unchanged : goal.returns-in-Err-Insert-clause-unchanged
+returns-in-Err-Insert-clause-unchanged g c =
     let pairs = (not-inserted g.V.Clone.is_infallible g.F.FnOnce c.args.f (g.K.KeyTrait.bytes c.args.key.now)
     c.args.self.now.pairs c.update_tried-outcome.new.tree.pairs c.update_tried-outcome.result.0 _
     c.in-Err-Insert.refused (c.in-Err-Insert.is ∙ ap Err c.in-Err-Insert.field-0-is)
@@ -90,7 +90,7 @@ back g c =
 as-before : (g : Over) (c : After-restore g) → c.restore.new.self ≡ c.args.self.now
 as-before g c =
     let nodes : c.restore.new.self.nodes ≡ c.args.self.now.nodes = c.restore.ensures.nodes
-    ∙ (rw c.in-Err-Remove.is at c.update_tried-outcome.ensures.refused) in
+    ∙ (rw c.in-Err-Remove.is at c.update_tried-outcome.ensures.nodes_unchanged) in
     same-map c.restore.new.self c.args.self.now (back g c).1 nodes
 
 pub returns-in-Some-clause-called : goal.returns-in-Some-clause-called
@@ -100,5 +100,5 @@ pub returns-in-Some-clause-shape : goal.returns-in-Some-clause-shape
 returns-in-Some-clause-shape g c = rw (as-before g (goal.at.returns-in-Some-clause-shape g c).After-restore)
     c.canonical.ensures.shape
 
-pub returns-in-Some-clause-refused : goal.returns-in-Some-clause-refused
-returns-in-Some-clause-refused g c = as-before g (goal.at.returns-in-Some-clause-refused g c).After-restore
+pub returns-in-Some-clause-unchanged : goal.returns-in-Some-clause-unchanged
+returns-in-Some-clause-unchanged g c = as-before g (goal.at.returns-in-Some-clause-unchanged g c).After-restore

@@ -55,12 +55,12 @@ returns-in-Some-seek_child_mut-clause-answer g t c
     (rw (← c.self.view_is) at c.requires.canonical) c.in-Some.ensures c.in-Some-first.ensures.value
     c.in-Some-seek_child_mut.ensures.value))) c.put_below.ensures.answer
 
-pub returns-in-Some-seek_child_mut-clause-refused : goal.returns-in-Some-seek_child_mut-clause-refused
-returns-in-Some-seek_child_mut-clause-refused g t c =
+pub returns-in-Some-seek_child_mut-clause-unchanged : goal.returns-in-Some-seek_child_mut-clause-unchanged
+returns-in-Some-seek_child_mut-clause-unchanged g t c =
     let left = rw c.in-Some-seek_child_mut.is at c.seek_child_mut.follows.holds c.put_below.new.self in
     on_err_weaker c.put_below.result (λ e. rw (← c.self.view_is)
     (child-put_back _ _ _ _ _ c.in-Some-seek_child_mut.child.now c.put_below.new.self (stored c.self.inside.storage)
-    _ c.in-Some-seek_child_mut.ensures.value e left.0 left.1)) c.put_below.ensures.refused
+    _ c.in-Some-seek_child_mut.ensures.value e left.0 left.1)) c.put_below.ensures.unchanged
 
 pub returns-in-Some-seek_child_mut-clause-fresh : goal.returns-in-Some-seek_child_mut-clause-fresh
 returns-in-Some-seek_child_mut-clause-fresh g t c

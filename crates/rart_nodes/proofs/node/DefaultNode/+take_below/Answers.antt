@@ -88,13 +88,13 @@ returns-then-not-is_leaf_at-clause-answer g t c
     (rw (← c.self.view_is) at c.requires.canonical) c.in-Some.ensures c.in-Some-first.ensures.value
     c.in-Some-seek_child_mut.ensures.value))) c.take_below.ensures.answer
 
-pub returns-then-not-is_leaf_at-clause-refused : goal.returns-then-not-is_leaf_at-clause-refused
-returns-then-not-is_leaf_at-clause-refused g t c =
+pub returns-then-not-is_leaf_at-clause-unchanged : goal.returns-then-not-is_leaf_at-clause-unchanged
+returns-then-not-is_leaf_at-clause-unchanged g t c =
     let left = rw c.in-Some-seek_child_mut.is at c.seek_child_mut.follows.holds c.take_below.new.self in
     on_err_weaker c.take_below.result (λ e. rw (← c.self.view_is)
     (child-put_back _ _ _ _ _ c.in-Some-seek_child_mut.child.now c.take_below.new.self
     (stored c.self.inside.storage) _ c.in-Some-seek_child_mut.ensures.value e left.0 left.1))
-    c.take_below.ensures.refused
+    c.take_below.ensures.unchanged
 
 pub returns-then-not-is_leaf_at-clause-asks : goal.returns-then-not-is_leaf_at-clause-asks
 returns-then-not-is_leaf_at-clause-asks g t c =
@@ -134,10 +134,10 @@ take_child-requires g t c =
           (rw (← c.self.view_is) at c.requires.canonical) (rw (← c.self.view_is) at c.requires.fits));
     }
 
-pub returns-in_err-child-clause-refused : goal.returns-in_err-child-clause-refused
-returns-in_err-child-clause-refused g t c =
+pub returns-in_err-child-clause-unchanged : goal.returns-in_err-child-clause-unchanged
+returns-in_err-child-clause-unchanged g t c =
     let left = rw c.in-Some-seek_child_mut.is at c.seek_child_mut.follows.holds c.in-Some-seek_child_mut.child.now in
-    err-any c.from_residual.result (c.in_err-child.ensures.refused
+    err-any c.from_residual.result (c.in_err-child.ensures.unchanged
     ∙ child-put_back _ _ _ _ _ c.in-Some-seek_child_mut.child.now c.in-Some-seek_child_mut.child.now
     (stored c.self.inside.storage) _ c.in-Some-seek_child_mut.ensures.value refl left.0 left.1 ∙ c.self.view_is)
 

@@ -6,7 +6,7 @@ use Rattle.rart_nodes.proofs.node.DefaultNode.apply_split.Goals as goal
 pub returns-in-Err : goal.returns-in-Err
 returns-in-Err g c =
     let asks = left-asks c.args.key.now c.args.self.now c.requires.leaves in (
-      ap Some c.in-Err.ensures.refused,
+      ap Some c.in-Err.ensures.unchanged,
       c.in-Insert.is
           ∙ ap Insert (sym c.in-Err.ensures.back.1),
       refl,

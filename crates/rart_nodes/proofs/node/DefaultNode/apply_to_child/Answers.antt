@@ -46,9 +46,9 @@ returns-in-Err g c = λ key h.
     ) in (
       ap Some (same-node (g.P.Partial.bytes c.self.inside.prefix) c.self.inside.value (width_of c.self.inside.storage)
           (width_of c.make_room.new.self) (stored c.self.inside.storage) (stored c.make_room.new.self)
-          (ap width_of c.in-Err.ensures.refused) (ap stored c.in-Err.ensures.refused) ∙ c.self.view_is),
+          (ap width_of c.in-Err.ensures.unchanged) (ap stored c.in-Err.ensures.unchanged) ∙ c.self.view_is),
       c.in-Insert.is,
       refl,
-      refuses-memory c.args.full key (Some c.args.self.now) c.in-Err.error c.in-Err.ensures.error c.if-full.false
+      refuses-memory c.args.full key (Some c.args.self.now) c.in-Err.error c.in-Err.ensures.memory c.if-full.false
           (rw (← c.self.view_is) asks),
     )
