@@ -42,7 +42,7 @@ pub enum Error {
     /// The stored value could not be cloned for an update.
     #[error("value was not cloned")]
     Clone,
-    /// The removal that the callback of an update asked for failed.
+    /// The removal that the callback of an update requested failed.
     #[error("out of memory for a removal")]
     Remove,
 }

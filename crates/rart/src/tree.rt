@@ -181,9 +181,9 @@ impl<K: KeyTrait, V> AdaptiveRadixTree<K, V> {
     /// # Errors
     ///
     /// [`TreeError::Full`] if the key is new and the tree holds [`MAX_PAIRS`] pairs. [`TreeError::Memory`] if an
-    /// allocation fails. An insertion allocates only if the tree isn't empty, the key is no branch point, and the
-    /// longest branch point that begins it has no room for another child or has one at its next byte. The tree is
-    /// then unchanged, and the error holds `value`.
+    /// allocation fails: only if the tree isn't empty, the key is no branch point, and the longest branch point that
+    /// begins it has no room for another child or has one at its next byte. The tree is then unchanged, and the error
+    /// holds `value`.
     ///
     /// # Examples
     ///

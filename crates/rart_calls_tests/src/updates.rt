@@ -1,4 +1,4 @@
-//! Updates through a slot, as calls that are values: what is written where the slot is occupied, what is asked for
+//! Updates through a slot, as calls that are values: what is written where the slot is occupied, what is requested
 //! then, the reply, and the value that the key has afterwards.
 
 use crate::play::forms::asked;
@@ -12,7 +12,7 @@ type Key = ArrayKey<16>;
 
 type Tree = AdaptiveRadixTree<Key, u64>;
 
-// Whether by `try_update`; the key; what is written; what is asked for; what is replied, nothing where the callback
+// Whether by `try_update`; the key; what is written; what is requested; what is replied, nothing where the callback
 // fails; the value afterwards.
 type Row = (
     bool,

@@ -144,7 +144,7 @@ fn count(calls: &Cell<usize>, i: usize) {
     calls.set(calls.get().wrapping_add(one));
 }
 
-// The load by index of the items' keys, which counts how often each is asked for.
+// The load by index of the items' keys, which counts how often each is requested.
 fn load_counting<K: KeyTrait, W, V: Drop, F: FnMut(usize) -> V + Drop>(
     alloc: Global,
     items: &[(K, W)],
@@ -169,7 +169,7 @@ fn load_counting<K: KeyTrait, W, V: Drop, F: FnMut(usize) -> V + Drop>(
     )
 }
 
-// How often each of the first so many keys was asked for, and how often its value was taken.
+// How often each of the first so many keys was requested, and how often its value was taken.
 fn calls_of(alloc: Global, many: usize) -> Result<Option<(usize, usize)>, AllocError> {
     let items = first_items(alloc, many)?;
     if !ascend(&items) {

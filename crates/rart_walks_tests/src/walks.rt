@@ -1,5 +1,5 @@
 //! Walks in every form: with each request for memory refused in turn, by their counted forms, and where nothing may be
-//! asked for.
+//! requested.
 
 mod asking;
 mod copies;

@@ -2,7 +2,7 @@
 -- lemma of proofs/. The words that they speak of are in Given.antt.
 pub use Rattle.rart_nodes.specs.joins.Given.{
   AreVisitors,
-  CanAfter,
+  CanDeeper,
   CanGive,
   CanGiveKeys,
   CanGiveValues,
@@ -75,7 +75,7 @@ way-room (Segments k) Untold p m n a b c = absurd a
 way-room (Segments k) (Bytes l) p m n a b c = absurd a
 way-room (Segments k) (Segments l) p m n a b c = segments_room k l p m n a b c
 
-pub can_values : {F X : Type 0} (q : F → X → Type 0) → CanAfter (CanGiveValues q)
+pub can_values : {F X : Type 0} (q : F → X → Type 0) → CanDeeper (CanGiveValues q)
 can_values q s t p f x w h = h
 
 pub give_values : {F X : Type 0} (r : F → X → F → Type 0) → AreVisitors WayRoom (GivenValues r)
@@ -124,7 +124,7 @@ keys-after r (Bytes k) Untold p f g es a b = absurd a
 keys-after r (Bytes k) (Segments l) p f g es a b = absurd a
 keys-after r (Bytes k) (Bytes l) p f g es a b = rw (prefix-twice k.items p es, ← a.bytes) b
 
-pub can_keys : {F X : Type 0} (q : F → List ℕ × X → Type 0) → CanAfter (CanGiveKeys q)
+pub can_keys : {F X : Type 0} (q : F → List ℕ × X → Type 0) → CanDeeper (CanGiveKeys q)
 can_keys q Untold Untold p f x w h = tt
 can_keys q Untold (Bytes l) p f x w h = absurd w
 can_keys q Untold (Segments l) p f x w h = tt
@@ -196,7 +196,7 @@ views-after r (Segments k) (Segments l) p f g es a b =
     ∙ joined-append (lent_segments k.items) a.more ∙ ap (λ z. joined_bytes (lent_segments k.items) ++ z) a.bytes in
     rw (prefix-twice (joined_bytes (lent_segments k.items)) p es, ← whole) b
 
-pub can_views : {F X : Type 0} (q : F → List ℕ × X → Type 0) → CanAfter (CanGiveViews q)
+pub can_views : {F X : Type 0} (q : F → List ℕ × X → Type 0) → CanDeeper (CanGiveViews q)
 can_views q Untold Untold p f x w h = tt
 can_views q Untold (Bytes l) p f x w h = tt
 can_views q Untold (Segments l) p f x w h = absurd w

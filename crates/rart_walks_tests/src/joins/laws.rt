@@ -56,7 +56,7 @@ fn is_refused_well(
     well.then_some(refused)
 }
 
-// Nothing is asked for where a tree is empty.
+// Nothing is requested where a tree is empty.
 fn law_is_swept(alloc: Global, left: &Tree, right: &Tree, wanted: &[Triple]) -> bool {
     if left.is_empty() || right.is_empty() {
         is_refused_well(alloc, left, right, wanted, 1) == Some(false)

@@ -1,4 +1,4 @@
-//! Walks and iterators where nothing may be asked for: of an empty tree, once a walk calls, and once an iterator was
+//! Walks and iterators where nothing may be requested: of an empty tree, once a walk calls, and once an iterator was
 //! started.
 
 use super::forms::{Calls, PAIRS, WALKS, Walk, make};
@@ -27,7 +27,7 @@ fn walks_of_an_empty_tree_ask_for_nothing(rt: HostRuntime) {
     }
 }
 
-// From the first call on nothing is asked for.
+// From the first call on nothing is requested.
 fn is_quiet_once_it_calls(alloc: Global, tree: &Tree, key: Key, form: Walk, wanted: usize) -> bool {
     let calls = Calls::none(Some(alloc));
     let ended = make(tree, key, form, &calls);

@@ -16,7 +16,7 @@ use rart_keys::KeyTrait;
 use rart_parts::TreeError;
 
 impl<'a, K: KeyTrait, V, C: Count> Seen<'a, K, V, C> {
-    /// Returns the segments and the value of the longest key that begins `probe`. It allocates only if there is one.
+    /// Returns the segments and the value of the longest key that begins `probe`. It fails only if there is one.
     fn longest_path(
         self,
         probe: &[u8],

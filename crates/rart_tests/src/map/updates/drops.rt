@@ -153,7 +153,7 @@ fn number_at(tree: &Tree<'_>, byte: u8) -> Option<u8> {
     tree.get_k(&key(byte)).map(|value| value.0)
 }
 
-// Whether by `try_update`; the byte; what is asked for; what is answered; the number that is then stored; how many
+// Whether by `try_update`; the byte; what is requested; what is answered; the number that is then stored; how many
 // values are made on the way, and how many are dropped.
 type Row = (bool, u8, Then, Answer, Option<u8>, usize, usize);
 

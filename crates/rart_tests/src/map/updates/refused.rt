@@ -13,14 +13,14 @@ type Key = ArrayKey<16>;
 
 type Tree = AdaptiveRadixTree<Key, u64>;
 
-/// An update of the key of one byte: 7 is written where the slot is occupied, and this is asked for.
+/// An update of the key of one byte: 7 is written where the slot is occupied, and this is requested.
 #[derive(Clone, Copy)]
 enum Ask {
     Remove,
     Insert(u64),
 }
 
-// How many keys of one byte stand there, from 0 on, each with 10; whether by `try_update`; the byte; what is asked for;
+// How many keys of one byte stand there, from 0 on, each with 10; whether by `try_update`; the byte; what is requested;
 // the value at the byte while a request is refused, and afterwards.
 type Row = (u8, bool, u8, Ask, Option<u64>, Option<u64>);
 

@@ -36,7 +36,7 @@ returns g c =
         longest_key-put key c.args.value
             (max (longest_key (pairs_of old)) (length key)) (pairs_of old) (omega arith) (omega arith),
       )) c.put.ensures.ok;
-      refused = c.put.ensures.unchanged;
+      unchanged = c.put.ensures.unchanged;
       back = c.put.ensures.back;
       asks = on_err_weaker c.put.result (λ e. let none = sym (record_is key old canonical) ∙ e.1 in
           (some-pairs old canonical, new-key key (pairs_of old) none, none, sym (asks-insert key old canonical) ∙ e.0))

@@ -36,7 +36,7 @@ returns g c =
             (max (longest_key (pairs_of old)) (length key)) (pairs_of old) (omega arith) (omega arith),
       ))
           c.put_new.ensures.ok;
-      refused = c.put_new.ensures.unchanged;
+      unchanged = c.put_new.ensures.unchanged;
       why = if_err_weaker c.put_new.result (λ why told. tells-not_put key c.args.value old why canonical told)
           c.put_new.ensures.why;
     }
