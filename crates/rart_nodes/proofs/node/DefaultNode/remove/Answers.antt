@@ -33,6 +33,6 @@ returns g c =
           (λ e. omega (arith, ap longest_key (ap tree_pairs e ∙ pairs), longest_key-without key (tree_pairs old)))
           c.take_from.ensures.ok;
       unchanged = c.take_from.ensures.unchanged;
-      error = c.take_from.ensures.memory;
+      memory = c.take_from.ensures.memory;
       asks = on_err_weaker c.take_from.result (λ a. (a.0, λ z. a.1 (answer ∙ z))) c.take_from.ensures.asks;
     }
