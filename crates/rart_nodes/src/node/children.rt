@@ -1,6 +1,7 @@
 //! An iterator over the children of a node. A contract reads it as the list of remaining children.
 ghost use Rattle.std.specs.Prelude.{◌≡◌, ◌↔◌, IsTrue};
 ghost use Rattle.std.specs.Iterator.{YieldsFirstBy, item_count};
+ghost use Rattle.rart_parts.specs.Entries.{BytesAscend};
 ghost use Rattle.rart_nodes.specs.edits.Deletion.{JoinsWithin};
 ghost use Rattle.rart_nodes.specs.ranges.Starts.{children_above};
 ghost use Rattle.rart_nodes.specs.tries.Trie.{children_in, prefix_of};
@@ -46,7 +47,8 @@ impl<'a, P: Partial, V> Iterator for NodeIter<'a, P, V> {
 impl<P: Partial, V> DefaultNode<P, V> {
     /// Returns the children with their bytes, ascending. It does not allocate.
     pub fn iter(&self) -> NodeIter<'_, P, V>
-        ensures { as_children result ≡ children_in self.now }
+        ensures children { as_children result ≡ children_in self.now }
+        ensures ascends { BytesAscend result }
     {
         NodeIter {
             children: self.storage.iter(),

@@ -3,7 +3,7 @@
 ghost use Rattle.std.specs.Prelude.{◌≡◌, ℕ, [], ◌∷◌, IfSome, Some, ◌<◌, ◌≤◌, length, IfErr, IfOk, None, OnOk, OnErr};
 ghost use Rattle.std.specs.Iterator.{UpTo, YieldsFirst, YieldsFirstBy, item_count};
 ghost use Rattle.std.specs.Iterator.SizeHint.{IsWithinCount};
-ghost use Rattle.rart_parts.specs.Entries.{ascending, entries_above};
+ghost use Rattle.rart_parts.specs.Entries.{BytesAscend, ascending, entries_above};
 
 use crate::error::TreeError;
 use crate::mapping::{IndexedMapping, NodeMapping};
@@ -54,7 +54,8 @@ impl<N> DirectMapping<N> {
 
     /// Returns the children with their bytes, ascending.
     pub fn iter(&self) -> DirectMappingIter<'_, N>
-        ensures { result ≡ self.now }
+        ensures entries { result ≡ self.now }
+        ensures ascends { BytesAscend self.now }
     {
         DirectMappingIter {
             places: self.places.as_slice(),

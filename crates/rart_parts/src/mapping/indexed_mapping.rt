@@ -5,7 +5,7 @@ ghost use Rattle.std.specs.Prelude.{◌≡◌, ℕ, [], ◌∷◌, IfSome, IsSom
 ghost use Rattle.std.specs.Prelude.{OnOk, OnErr, MatchOption};
 ghost use Rattle.std.specs.Iterator.{UpTo, YieldsFirst, YieldsFirstBy, item_count};
 ghost use Rattle.std.specs.Iterator.SizeHint.{IsWithinCount};
-ghost use Rattle.rart_parts.specs.Entries.{ascending, child_at, entries_above};
+ghost use Rattle.rart_parts.specs.Entries.{BytesAscend, ascending, child_at, entries_above};
 
 use crate::error::TreeError;
 use crate::mapping::byte_index::{ByteIndex, ByteIndexIter};
@@ -299,7 +299,8 @@ impl<'a, N> FusedIterator for IndexedMappingIter<'a, N> {}
 impl<N, const W: usize, B: BitsetTrait> IndexedMapping<N, W, B> {
     /// Returns the children with their bytes, ascending.
     pub fn iter(&self) -> IndexedMappingIter<'_, N>
-        ensures { result ≡ ascending self.now }
+        ensures entries { result ≡ ascending self.now }
+        ensures ascends { BytesAscend (ascending self.now) }
     {
         IndexedMappingIter {
             slots: self.index.iter(),

@@ -5,7 +5,7 @@ ghost use Rattle.std.specs.Prelude.{◌≡◌, ℕ, [], ◌∷◌, IfSome, Some,
 ghost use Rattle.std.specs.Prelude.{MatchOption};
 ghost use Rattle.std.specs.Iterator.{UpTo, YieldsFirst, YieldsFirstBy, item_count};
 ghost use Rattle.std.specs.Iterator.SizeHint.{IsWithinCount};
-ghost use Rattle.rart_parts.specs.Entries.{ascending, entries_above};
+ghost use Rattle.rart_parts.specs.Entries.{BytesAscend, ascending, entries_above};
 ghost use Rattle.rart_parts.specs.Keys.{IsAscendingBelow, IsFirstAbove, IsPlaceOf};
 ghost use Rattle.rart_parts.specs.SortedKeyed.{IsPadded};
 
@@ -134,7 +134,8 @@ impl<N, const W: usize> SortedKeyedMapping<N, W> {
 
     /// Returns the children with their bytes, ascending.
     pub fn iter(&self) -> SortedKeyedMappingIter<'_, N>
-        ensures { result ≡ self.now }
+        ensures entries { result ≡ self.now }
+        ensures ascends { BytesAscend self.now }
     {
         SortedKeyedMappingIter {
             keys: &self.keys,

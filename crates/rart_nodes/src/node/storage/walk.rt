@@ -1,7 +1,7 @@
 //! An iterator over the children of a storage in byte order. A contract reads it as the list of remaining children.
 ghost use Rattle.std.specs.Prelude.{◌≡◌, []};
 ghost use Rattle.std.specs.Iterator.{YieldsFirstBy};
-ghost use Rattle.rart_parts.specs.Entries.{entries_above};
+ghost use Rattle.rart_parts.specs.Entries.{BytesAscend, entries_above};
 ghost use Rattle.rart_nodes.specs.storages.Stored.{stored};
 ghost use Rattle.rart_nodes.specs.walks.Walks.{to_come};
 
@@ -40,7 +40,8 @@ impl<'a, N> StorageIter<'a, N> {
 impl<N> Storage<N> {
     /// Returns the children with their bytes, ascending. It does not allocate.
     pub(crate) fn iter(&self) -> StorageIter<'_, N>
-        ensures { to_come result ≡ stored self.now }
+        ensures entries { to_come result ≡ stored self.now }
+        ensures ascends { BytesAscend (stored self.now) }
     {
         match self {
             Storage::Leaf => StorageIter::Childless,

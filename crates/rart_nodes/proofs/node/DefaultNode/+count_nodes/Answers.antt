@@ -22,7 +22,7 @@ loop-byte-init g t c = record {
   can = tt;
   finite = tt;
   counting = rw (← c.self.view_is) (count-start _ _ _ _ _ _ _ (stored c.self.inside.storage)
-      (ap as_children c.into_iter-byte-iterator.ensures.into_iter_gives ∙ c.iter-byte-items.ensures
+      (ap as_children c.into_iter-byte-iterator.ensures.into_iter_gives ∙ c.iter-byte-items.ensures.children
       ∙ ap children_in (sym c.self.view_is))
       c.num_children-children.ensures (c.add_node.ensures ∙ rw (c.is_some.ensures, c.width.ensures) refl));
 }

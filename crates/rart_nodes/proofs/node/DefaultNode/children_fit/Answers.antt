@@ -13,9 +13,9 @@ overflow_sub-room g c = rw c.len.ensures
 
 pub loop-byte-init : goal.loop-byte-init
 loop-byte-init g c = record {
-  to_all = λ h. rw c.iter-children.ensures at h;
+  to_all = λ h. rw c.iter-children.ensures.children at h;
   of_all
-      = λ h. rw (sym c.iter-children.ensures) at h;
+      = λ h. rw (sym c.iter-children.ensures.children) at h;
 }
 
 pub loop-byte-init-derived : goal.loop-byte-init-derived
