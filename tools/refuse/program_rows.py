@@ -1,28 +1,34 @@
-"""Rows of the program: large and odd inputs, closed and full outputs, and little memory, each with status and message."""
-import os
-import resource
+"""Rows of the program: large and odd inputs, closed and full outputs, and little memory.
+
+Each has a status and a message. The rows need /bin/sh with `ulimit -v`, /dev/full, and a hard limit on the address
+space of at least 64 MiB.
+"""
+import signal
 import subprocess
 
 CANNOT_READ = b"rart_script: cannot read\n"
 CANNOT_WRITE = b"rart_script: cannot write\n"
 BAD_FIRST = b"line 1: bad command\n"
-MIB = 1 << 20
 
 LINES = 1_000_000
 
 # An input of 2 MiB, so that the smaller address spaces cannot hold it.
 MANY_KEYS = b"".join(b"insert key%06d %d\n" % (i, i) for i in range(90_000))
 
-# The sizes of the address space, in MiB.
+# The sizes of the address space, in MiB. The first can't hold the input, and the last can hold it and the tree.
 SPACES = (3, 4, 6, 8, 12, 16, 24, 32, 48, 64)
 
+# Far more seconds than any row takes, on a busy machine too.
+SECONDS = 300
 
-def run(program, script, limit=None, **how):
-    """The status, what was printed and what was said."""
+
+def run(program, script, space=None, **how):
+    """The status, what was printed and what was said. With `space` the address space has so many KiB."""
     how = {"stdout": subprocess.PIPE, "stderr": subprocess.PIPE, **how}
-    if limit:
-        how["preexec_fn"] = lambda: resource.setrlimit(resource.RLIMIT_AS, (limit, limit))
-    ended = subprocess.run([program], input=script, env={}, timeout=120, **how)
+    words = [program]
+    if space:
+        words = ["/bin/sh", "-c", f'ulimit -v {space} && exec "$0"', program]
+    ended = subprocess.run(words, input=script, env={}, timeout=SECONDS, **how)
     return ended.returncode, ended.stdout, ended.stderr
 
 
@@ -49,7 +55,8 @@ def odd_bytes(program):
 
 def closed_output(program):
     """Standard output is closed."""
-    ended = subprocess.run(["/bin/sh", "-c", 'exec "$0" >&-', program], input=b"len\n", capture_output=True, env={}, timeout=60)
+    words = ["/bin/sh", "-c", 'exec "$0" >&-', program]
+    ended = subprocess.run(words, input=b"len\n", capture_output=True, env={}, timeout=SECONDS)
     return differs((ended.returncode, ended.stdout, ended.stderr), (1, b"", CANNOT_WRITE))
 
 
@@ -69,26 +76,40 @@ def reader_goes(program):
         child.stdin.close()
     except BrokenPipeError:
         pass
+    try:
+        # The process is ended by the signal, or sees that it cannot write.
+        status = child.wait(timeout=SECONDS)
+    finally:
+        child.kill()
     said = child.stderr.read()
     child.stderr.close()
-    # The process is ended by the signal, or sees that it cannot write.
-    status = child.wait(timeout=60)
-    if status == -13:
+    if status == -signal.SIGPIPE:
         return ""
     return differs((status, b"", said), (1, b"", CANNOT_WRITE))
 
 
 def little_memory(program, space):
     """An address space of so many MiB: it isn't begun, cannot read, or answers each line with `none` or `Memory`."""
-    status, printed, said = run(program, MANY_KEYS, space * MIB)
-    if status == 127 and not printed:
-        return ""  # the C library itself isn't loaded
-    if (status, printed, said) == (1, b"", CANNOT_READ):
-        return ""
+    status, printed, said = run(program, MANY_KEYS, space * 1024)
     answers = printed.splitlines()
     if status == 0 and not said and len(answers) == 90_000 and set(answers) <= {b"none", b"Memory"}:
+        refused = answers.count(b"Memory")
+        if space == SPACES[0] and not refused:
+            return "no request was refused"
+        return f"{refused} answers are Memory" if space == SPACES[-1] and refused else ""
+    # At 127 the C library itself isn't loaded.
+    is_refused = (status, printed, said) == (1, b"", CANNOT_READ) or (status == 127 and not printed)
+    if is_refused and space < SPACES[-1]:
         return ""
     return f"status {status}, {len(answers)} lines, {said[:80]!r}"
+
+
+def attempt(check, *given):
+    """Why the check failed, or nothing; a run that doesn't end fails it."""
+    try:
+        return check(*given)
+    except subprocess.TimeoutExpired as late:
+        return f"it had not ended after {late.timeout:.0f} seconds"
 
 
 def checks(program):
@@ -101,6 +122,6 @@ def checks(program):
         ("a full output", full_output),
         ("a reader that goes away", reader_goes),
     ):
-        yield name, check(program)
+        yield name, attempt(check, program)
     for space in SPACES:
-        yield f"{space} MiB of addresses", little_memory(program, space)
+        yield f"{space} MiB of addresses", attempt(little_memory, program, space)

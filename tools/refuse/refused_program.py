@@ -1,9 +1,17 @@
+<<<<<<< HEAD
 """The program, run from outside.
 
 Each request for memory is refused in turn, reads are short or fail, writes fail.
 
 In a run with one request refused the program ends with status 0, and each line is `Memory` or the answer of a run
 without the refused command; or it ends with status 1, says that it cannot read, and has printed nothing.
+=======
+"""The program, run from outside: each request for memory refused in turn, short and failed reads, failed writes.
+
+In a run with one request refused the program ends with status 0, and each line is the answer of a run in which the
+refused command was left out, or `Memory`; or it ends with status 1 and says that it cannot read, and has printed
+nothing.
+>>>>>>> wR
 
 At a malformed line the program ends with status 2, and names the line.
 """
@@ -15,8 +23,7 @@ import tempfile
 import termios
 import time
 
-CANNOT_READ = b"rart_script: cannot read\n"
-CANNOT_WRITE = b"rart_script: cannot write\n"
+from program_rows import CANNOT_READ, CANNOT_WRITE, SECONDS, attempt
 
 TEN_LINES = b"""insert cat 1
 insert catalog 2
@@ -76,7 +83,7 @@ def run(program, script, refuse=0, library=None, **how):
         how = {"stdout": subprocess.PIPE, "stderr": subprocess.PIPE, **how}
         if "stdin" not in how:
             how["input"] = script
-        ended = subprocess.run([program], env=env, cwd=room, timeout=120, **how)
+        ended = subprocess.run([program], env=env, cwd=room, timeout=SECONDS, **how)
         refused = report.exists() and " refused=0" not in report.read_text()
     return ended.returncode, ended.stdout, ended.stderr, refused
 
@@ -104,6 +111,11 @@ def swept(program, script, library):
     return "refused for ever", 0
 
 
+def ten_lines(program):
+    """Ten lines, one of each kind."""
+    return "" if run(program, TEN_LINES)[:3] == (0, TEN_ANSWERS, b"") else "other answers"
+
+
 def is_drained(pipe, child, deadline):
     """Whether nothing is left to be read in the pipe, before the child ends and before the deadline."""
     left = bytearray(4)
@@ -116,15 +128,22 @@ def is_drained(pipe, child, deadline):
 
 
 def short_reads(program):
+<<<<<<< HEAD
     """The script in pieces of three bytes, each written after the one before it was read."""
+=======
+    """The script in pieces of three bytes. Each is written once the one before it was read: no read gets more."""
+>>>>>>> wR
     read, write = os.pipe()
     child = subprocess.Popen([program], stdin=read, stdout=subprocess.PIPE, stderr=subprocess.PIPE, env={})
-    deadline = time.monotonic() + 60
+    deadline = time.monotonic() + SECONDS
     pieces = [TEN_LINES[at:at + 3] for at in range(0, len(TEN_LINES), 3)]
     was_read = all(os.write(write, piece) and is_drained(read, child, deadline) for piece in pieces)
     os.close(read)
     os.close(write)
-    printed, said = child.communicate(timeout=60)
+    try:
+        printed, said = child.communicate(timeout=SECONDS)
+    finally:
+        child.kill()
     if not was_read:
         return "it stops reading"
     return "" if (child.returncode, printed, said) == (0, TEN_ANSWERS, b"") else "short reads change the answers"
@@ -161,14 +180,14 @@ def bad_lines(program):
 def checks(program, library):
     """Each check: its name, why it failed, or nothing, and how many requests were refused."""
     for name, script in (("ten lines", TEN_LINES), ("all widths", all_widths())):
-        why, refused = swept(program, script, library)
+        outcome = attempt(swept, program, script, library)
+        why, refused = (outcome, 0) if isinstance(outcome, str) else outcome
         yield f"{name}, each request refused", why, refused
-    status, printed, said, _ = run(program, TEN_LINES)
-    yield "ten lines", "" if (status, printed, said) == (0, TEN_ANSWERS, b"") else "other answers", 0
     for name, check in (
+        ("ten lines", ten_lines),
         ("bad lines", bad_lines),
         ("short reads", short_reads),
         ("a failed read", failed_read),
         ("failed writes", failed_write),
     ):
-        yield name, check(program), 0
+        yield name, attempt(check, program), 0
