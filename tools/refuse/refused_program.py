@@ -1,17 +1,9 @@
-<<<<<<< HEAD
 """The program, run from outside.
 
 Each request for memory is refused in turn, reads are short or fail, writes fail.
 
 In a run with one request refused the program ends with status 0, and each line is `Memory` or the answer of a run
 without the refused command; or it ends with status 1, says that it cannot read, and has printed nothing.
-=======
-"""The program, run from outside: each request for memory refused in turn, short and failed reads, failed writes.
-
-In a run with one request refused the program ends with status 0, and each line is the answer of a run in which the
-refused command was left out, or `Memory`; or it ends with status 1 and says that it cannot read, and has printed
-nothing.
->>>>>>> wR
 
 At a malformed line the program ends with status 2, and names the line.
 """
@@ -128,11 +120,7 @@ def is_drained(pipe, child, deadline):
 
 
 def short_reads(program):
-<<<<<<< HEAD
     """The script in pieces of three bytes, each written after the one before it was read."""
-=======
-    """The script in pieces of three bytes. Each is written once the one before it was read: no read gets more."""
->>>>>>> wR
     read, write = os.pipe()
     child = subprocess.Popen([program], stdin=read, stdout=subprocess.PIPE, stderr=subprocess.PIPE, env={})
     deadline = time.monotonic() + SECONDS
