@@ -37,7 +37,7 @@ impl Cidr6 {
     ghost use Rattle.std.specs.Prelude.{◌≡◌, ◌-◌, ◌≤◌, ◌++◌, length, replicate, take};
     ghost use Rattle.std.specs.Net.Addr.{ipv6_octets};
     ghost use Rattle.rart_keys.specs.ByteStrings.{begins};
-    ghost use Rattle.rart_cidr.specs.Bits.{bits_of};
+    ghost use Rattle.rart_cidr.specs.Bits.{bits_of, network};
     ghost use Rattle.rart_cidr.specs.Networks.{IsNew, bits6};
 
     /// Returns the network of the first `len` bits of `addr`.
@@ -73,6 +73,14 @@ impl Cidr6 {
         ensures { bits_of (ipv6_octets result) ≡ bits6 self.now ++ replicate (128 - length (bits6 self.now)) 0 }
     {
         Ipv6Addr::from_octets(self.octets)
+    }
+
+    // The octets of the first address, as the table over octets takes them: its bits begin with the network's.
+    pub(crate) fn octets(&self) -> &[u8]
+        ensures value { network result.now (length (bits6 self.now)) ≡ bits6 self.now }
+        ensures width { length result.now ≡ 16 }
+    {
+        &self.octets
     }
 
     /// Returns the number of the network's bits.
