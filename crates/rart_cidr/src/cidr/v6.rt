@@ -62,10 +62,26 @@ impl Cidr6 {
     /// Returns the network of the first `len` bits of `addr`, whose other bits are left out.
     pub fn masked(addr: Ipv6Addr, len: u8) -> Cidr6
         requires { len ≤ 128 }
-        ensures { bits6 result ≡ take len (bits_of (ipv6_octets addr)) }
+        ensures value { bits6 result ≡ take len (bits_of (ipv6_octets addr)) }
+        ensures width { length (bits_of (ipv6_octets addr)) ≡ 128 }
     {
         let octets = cleared_octets(addr, len);
         Cidr6 { octets, len }
+    }
+
+    /// Returns the network of `addr` alone.
+    pub fn host(addr: Ipv6Addr) -> Cidr6
+        ensures { bits6 result ≡ bits_of (ipv6_octets addr) }
+    {
+        Cidr6::masked(addr, 128)
+    }
+
+    /// Returns the network of the network's first `len` bits.
+    pub fn supernet(&self, len: u8) -> Cidr6
+        requires { len ≤ length (bits6 self.now) }
+        ensures { bits6 result ≡ take len (bits6 self.now) }
+    {
+        Cidr6::masked(self.addr(), len)
     }
 
     /// Returns the network's first address.
