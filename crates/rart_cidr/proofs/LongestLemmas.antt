@@ -2,7 +2,9 @@
 use Rattle.std.proofs.Common.{◌≡◌, ℕ, zero, suc, ◌+◌, ◌*◌, ◌/◌, ◌%◌, ◌<◌, ◌≤◌, ◌==◌, ◌⊎◌, ⊎_elim, inl, inr, length}
 use Rattle.std.proofs.Common.{take, arith, List, [], ◌∷◌, true, false, refl, sym, ap, ◌∙◌, Option, Some, None, eq-eqb}
 use Rattle.std.proofs.Common.{eqb-true}
-use Rattle.std.specs.Prelude.{slice_index}
+use Rattle.std.specs.Prelude.{IfSome, option_map, slice_index}
+use Rattle.std.proofs.Math.Seq.{take-length}
+use Rattle.std.proofs.lemmas.List.{length-take-le}
 use Rattle.rart_keys.specs.ByteStrings.{begins}
 use Rattle.rart_keys.specs.Filters.{longest_match}
 use Rattle.rart_keys.specs.KeyBytes.{AreBytes}
@@ -29,10 +31,16 @@ begun (x ∷ p) (y ∷ q) f = elim (x == y) as (λ b. (x == y) ≡ b → (take (
       | false ↦ λ e. absurd (let t = rw e at f in cc)
     ] refl
 
-length-taken : (k : ℕ) (q : List ℕ) → k ≤ length q → length (take k q) ≡ k
-length-taken zero q h = refl
-length-taken (suc k) [] h = absurd (omega arith)
-length-taken (suc k) (x ∷ q) h = let t = length-taken k q (omega arith) in omega (arith, t)
+-- the first bits of a network are a network
+taken-network : (n w : ℕ) (l : List ℕ) → n ≤ w → take n (take w l) ≡ take n l
+taken-network zero w l h = refl
+taken-network (suc n) zero l h = absurd (omega arith)
+taken-network (suc n) (suc w) [] h = refl
+taken-network (suc n) (suc w) (x ∷ l) h = ap (λ z. x ∷ z) (taken-network n w l (omega arith))
+
+-- all bits of some octets
+pub network-all : (o : List ℕ) → network o (8 * length o) ≡ bits_of o
+network-all o = ap (λ n. take n (bits_of o)) (sym (length-bits o)) ∙ take-length (bits_of o)
 
 less_or_not : (m n : ℕ) → (m < n) ⊎ (n ≤ m)
 less_or_not zero zero = inr (omega arith)
@@ -57,65 +65,87 @@ module _ {T : Type 0} where
       ∙ ap (λ z. in_stride (stride_at (take at o) S) z (n % 8)) (sym i) ∙
       ap (λ z. in_stride (stride_or_empty z) x (n % 8)) (sym (h ∙ ap (λ z. lookup z S) m))
 
-  pub no_stride : (S : List (List ℕ × List (List ℕ × T))) (o q : List ℕ) (at : ℕ) → IsAscending S → AreStrides S
-      → AreBytes o → q ≡ take at o → None ≡ lookup q S → HasNoneAfter (routes_of S) o at
-  no_stride S o q at a b f m h = λ n e l. seen-stride S o q at n (slice_index o at) None a b f e l m h refl
+  pub no_stride : (S : List (List ℕ × List (List ℕ × T))) (o q : List ℕ) (w at : ℕ) → IsAscending S → AreStrides S
+      → AreBytes o → w ≤ 8 * length o → q ≡ take at o → None ≡ lookup q S → HasNoneAfter (routes_of S) o w at
+  no_stride S o q w at a b f g m h = λ n e l.
+      seen-stride S o q at n (slice_index o at) None a b f e (omega (arith, l, g)) m h refl
 
-  pub none_in_stride : (S : List (List ℕ × List (List ℕ × T))) (o q : List ℕ) (at x most : ℕ) (s : List (List ℕ × T))
-      → IsAscending S → AreStrides S → AreBytes o → q ≡ take at o → Some s ≡ lookup q S → x ≡ slice_index o at →
-      ((n : ℕ) → n / 8 ≡ at → n ≤ 8 * length o → n % 8 ≤ most) → IsLongestIn s x most None
-      → HasNoneAfter (routes_of S) o at
-  none_in_stride S o q at x most s a b f m h i few none = λ n e l. seen-stride S o q at n x (Some s) a b f e l m h i
-      ∙ none (n % 8) (few n e l)
+  pub none_in_stride : (S : List (List ℕ × List (List ℕ × T))) (o q : List ℕ) (w at x most : ℕ) (s : List (List ℕ × T))
+      → IsAscending S → AreStrides S → AreBytes o → w ≤ 8 * length o → q ≡ take at o → Some s ≡ lookup q S
+      → x ≡ slice_index o at → ((n : ℕ) → n / 8 ≡ at → n ≤ w → n % 8 ≤ most) → IsLongestIn s x most None
+      → HasNoneAfter (routes_of S) o w at
+  none_in_stride S o q w at x most s a b f g m h i few none = λ n e l.
+      seen-stride S o q at n x (Some s) a b f e (omega (arith, l, g)) m h i ∙ none (n % 8) (few n e l)
 
-  pub some_in_stride : (S : List (List ℕ × List (List ℕ × T))) (o q : List ℕ) (at x most r : ℕ) (t : T)
-      (s : List (List ℕ × T)) → IsAscending S → AreStrides S → AreBytes o → q ≡ take at o → Some s ≡ lookup q S
-      → x ≡ slice_index o at →
-      most < 8 → 8 * at + most ≤ 8 * length o → ((n : ℕ) → n / 8 ≡ at → n ≤ 8 * length o → n % 8 ≤ most)
-      → IsLongestIn s x most (Some (r, t)) → IsLongestAfter (routes_of S) o at (Some (8 * at + r, t))
-  some_in_stride S o q at x most r t s a b f m h i small fits few p =
+  pub some_in_stride : (S : List (List ℕ × List (List ℕ × T))) (o q : List ℕ) (w at x most r : ℕ) (t : T)
+      (s : List (List ℕ × T)) → IsAscending S → AreStrides S → AreBytes o → w ≤ 8 * length o → q ≡ take at o
+      → Some s ≡ lookup q S → x ≡ slice_index o at → most < 8 → 8 * at + most ≤ w
+      → ((n : ℕ) → n / 8 ≡ at → n ≤ w → n % 8 ≤ most)
+      → IsLongestIn s x most (Some (r, t)) → IsLongestAfter (routes_of S) o w at (Some (8 * at + r, t))
+  some_in_stride S o q w at x most r t s a b f room m h i small fits few p =
       let short : r ≤ most = p.0 in
       let quotient : (8 * at + r) / 8 ≡ at = omega (arith, short, small) in
       let rest : (8 * at + r) % 8 ≡ r = omega (arith, short, small) in
-      let within : 8 * at + r ≤ 8 * length o = omega (arith, short, fits) in (
+      let within : 8 * at + r ≤ w = omega (arith, short, fits) in (
         quotient,
         within,
-        seen-stride S o q at (8 * at + r) x (Some s) a b f quotient within m h i ∙ ap (in_stride s x) rest ∙ p.1,
-        λ n g e l. seen-stride S o q at n x (Some s) a b f e l m h i ∙ p.2 (n % 8) (omega (arith, g, e)) (few n e l),
+        seen-stride S o q at (8 * at + r) x (Some s) a b f quotient (omega (arith, within, room)) m h i
+            ∙ ap (in_stride s x) rest ∙ p.1,
+        λ n g e l. seen-stride S o q at n x (Some s) a b f e (omega (arith, l, room)) m h i
+            ∙ p.2 (n % 8) (omega (arith, g, e)) (few n e l),
       )
 
   -- one octet more without a network
-  pub none_from : (v : List (List ℕ × T)) (o : List ℕ) (at low : ℕ) → low ≤ 8 * at + 8 → HasNoneAfter v o at
-      → HasNoneFrom v o low → HasNoneFrom v o (8 * at)
-  none_from v o at low b h i = λ n l m. ⊎_elim
+  pub none_from : (v : List (List ℕ × T)) (o : List ℕ) (w at low : ℕ) → low ≤ 8 * at + 8 → HasNoneAfter v o w at
+      → HasNoneFrom v o w low → HasNoneFrom v o w (8 * at)
+  none_from v o w at low b h i = λ n l m. ⊎_elim
       (λ g. h n (omega (arith, l, g)) m)
       (λ g. i n (omega (arith, g, b)) m)
       (less_or_not n (8 * at + 8))
 
-  pub is_longest : (v : List (List ℕ × T)) (o : List ℕ) (at low n : ℕ) (t : T) → low ≤ 8 * at + 8 → IsAscending v
-      → IsLongestAfter v o at (Some (n, t)) → HasNoneFrom v o low
-      → ◌≡◌ {A = Option (List ℕ × T)} (Some (network o n, t)) (longest_match (bits_of o) v)
-  is_longest v o at low n t b a p none =
-      let long : length (network o n) ≡ n = length-taken n (bits_of o) (omega (arith, p.1, length-bits o)) in
-      sym (stored-longest (network o n) (bits_of o) t v a (
-        p.2,
-        begins-take n (bits_of o),
+  -- a stored network that begins the first w bits is the first bits of the octets
+  stored-begins : (v : List (List ℕ × T)) (o k : List ℕ) (w : ℕ) → w ≤ 8 * length o → begins k (network o w) ≡ true
+      → (network o (length k) ≡ k) × (length k ≤ w)
+  stored-begins v o k w g f =
+      let h = begun k (network o w) f in
+      let long : length (network o w) ≡ w = length-take-le w (bits_of o) (omega (arith, g, length-bits o)) in
+      let m : length k ≤ w = omega (arith, h.1, long) in
+      (sym (taken-network (length k) w (bits_of o) m) ∙ h.0, m)
+
+  pub is_longest : (v : List (List ℕ × T)) (o : List ℕ) (w at low n : ℕ) (t : T) → w ≤ 8 * length o → low ≤ 8 * at + 8
+      → IsAscending v → IsLongestAfter v o w at (Some (n, t)) → HasNoneFrom v o w low
+      → ◌≡◌ {A = Option (List ℕ × T)} (Some (take n (network o w), t)) (longest_match (network o w) v)
+  is_longest v o w at low n t room b a p none =
+      let same : take n (network o w) ≡ network o n = taken-network n w (bits_of o) p.1 in
+      let wide : length (network o w) ≡ w = length-take-le w (bits_of o) (omega (arith, room, length-bits o)) in
+      let long : length (take n (network o w)) ≡ n = length-take-le n (network o w) (omega (arith, p.1, wide)) in
+      sym (stored-longest (take n (network o w)) (network o w) t v a (
+        ap (λ z. lookup z v) same ∙ p.2,
+        begins-take n (network o w),
         λ k stored f. ⊎_elim
-            (λ g. let h = begun k (bits_of o) f in
-            let m : length k ≤ 8 * length o = omega (arith, h.1, length-bits o) in
+            (λ g. let h = stored-begins v o k w room f in
             absurd (stored (ap (λ z. lookup z v) (sym h.0) ∙ ⊎_elim
-            (λ i. p.3 (length k) (omega (arith, g, long)) (omega (arith, g, long, p.0, i)) m)
-            (λ i. none (length k) (omega (arith, i, b)) m)
+            (λ i. p.3 (length k) (omega (arith, g, long)) (omega (arith, g, long, p.0, i)) h.1)
+            (λ i. none (length k) (omega (arith, i, b)) h.1)
             (less_or_not (length k) (8 * at + 8)))))
             (λ g. g)
-            (less_or_not (length (network o n)) (length k)),
+            (less_or_not (length (take n (network o w))) (length k)),
       ))
 
-  pub has_none : (v : List (List ℕ × T)) (o : List ℕ) → IsAscending v → HasNoneFrom v o 0
-      → None ≡ longest_match (bits_of o) v
-  has_none v o a none = elim (longest_match (bits_of o) v) as (λ r. longest_match (bits_of o) v ≡ r → None ≡ r) [
-    | None ↦ λ e. refl
-    | Some f ↦ λ e. let p = longest-stored f.0 (bits_of o) f.1 v a e in let h = begun f.0 (bits_of o) p.1 in
-        absurd (let m = sym p.0 ∙ ap (λ z. lookup z v) (sym h.0)
-        ∙ none (length f.0) (omega arith) (omega (arith, h.1, length-bits o)) in cc)
-  ] refl
+  pub has_none : (v : List (List ℕ × T)) (o : List ℕ) (w : ℕ) → w ≤ 8 * length o → IsAscending v
+      → HasNoneFrom v o w 0 → None ≡ longest_match (network o w) v
+  has_none v o w room a none =
+      elim (longest_match (network o w) v) as (λ r. longest_match (network o w) v ≡ r → None ≡ r) [
+        | None ↦ λ e. refl
+        | Some f ↦ λ e. let p = longest-stored f.0 (network o w) f.1 v a e in let h = stored-begins v o f.0 w room p.1 in
+            absurd (let m = sym p.0 ∙ ap (λ z. lookup z v) (sym h.0) ∙ none (length f.0) (omega arith) h.1 in cc)
+      ] refl
+
+  -- the longest match of all bits of the octets
+  pub matched-all : {X : Type 0} (now : X → T) (v : List (List ℕ × T)) (o : List ℕ) (r : Option (ℕ × X))
+      → IfSome r (λ p. p.0 ≤ 8 * length o)
+      → option_map (λ p. (take p.0 (network o (8 * length o)), now p.1)) r ≡ longest_match (network o (8 * length o)) v
+      → option_map (λ p. (network o p.0, now p.1)) r ≡ longest_match (bits_of o) v
+  matched-all now v o None l h = h ∙ ap (λ z. longest_match z v) (network-all o)
+  matched-all now v o (Some p) l h = ap (λ z. Some (z, now p.1)) (sym (taken-network p.0 (8 * length o) (bits_of o) l)) ∙ h
+      ∙ ap (λ z. longest_match z v) (network-all o)

@@ -1,20 +1,20 @@
--- Which network is the longest that begins an address, among those that end within one octet.
-use Rattle.std.specs.Prelude.{◌≡◌, ◌<◌, ◌≤◌, ℕ, ◌*◌, ◌/◌, List, length, Option, Some, None}
+-- Which network is the longest that begins the first bits of some octets, among those that end within one octet.
+use Rattle.std.specs.Prelude.{◌≡◌, ◌<◌, ◌≤◌, ℕ, ◌/◌, List, Option, Some, None}
 use Rattle.rart_keys.specs.SortedMap.{lookup}
 use Rattle.rart_cidr.specs.Bits.{network}
 
 module _ {T : Type 0} where
-  -- no route's network is the first n bits of the octets, where n has `at` whole octets
-  abbrev pub HasNoneAfter : List (List ℕ × T) → List ℕ → ℕ → Type 0
-  HasNoneAfter routes o at = (n : ℕ) → n / 8 ≡ at → n ≤ 8 * length o → lookup (network o n) routes ≡ None
+  -- no route's network is the first n of `bits` bits of the octets, where n has `at` whole octets
+  abbrev pub HasNoneAfter : List (List ℕ × T) → List ℕ → ℕ → ℕ → Type 0
+  HasNoneAfter routes o bits at = (n : ℕ) → n / 8 ≡ at → n ≤ bits → lookup (network o n) routes ≡ None
 
   -- of these the longest is the first n bits; or there is none
-  abbrev pub IsLongestAfter : List (List ℕ × T) → List ℕ → ℕ → Option (ℕ × T) → Type 0
-  IsLongestAfter routes o at None = HasNoneAfter routes o at
-  IsLongestAfter routes o at (Some p) = (p.0 / 8 ≡ at) × (p.0 ≤ 8 * length o)
+  abbrev pub IsLongestAfter : List (List ℕ × T) → List ℕ → ℕ → ℕ → Option (ℕ × T) → Type 0
+  IsLongestAfter routes o bits at None = HasNoneAfter routes o bits at
+  IsLongestAfter routes o bits at (Some p) = (p.0 / 8 ≡ at) × (p.0 ≤ bits)
       × (lookup (network o p.0) routes ≡ Some p.1)
-      × ((n : ℕ) → p.0 < n → n / 8 ≡ at → n ≤ 8 * length o → lookup (network o n) routes ≡ None)
+      × ((n : ℕ) → p.0 < n → n / 8 ≡ at → n ≤ bits → lookup (network o n) routes ≡ None)
 
-  -- no route's network is the first n bits or more of the octets
-  abbrev pub HasNoneFrom : List (List ℕ × T) → List ℕ → ℕ → Type 0
-  HasNoneFrom routes o low = (n : ℕ) → low ≤ n → n ≤ 8 * length o → lookup (network o n) routes ≡ None
+  -- no route's network is the first n of `bits` bits of the octets, where n is `low` or more
+  abbrev pub HasNoneFrom : List (List ℕ × T) → List ℕ → ℕ → ℕ → Type 0
+  HasNoneFrom routes o bits low = (n : ℕ) → low ≤ n → n ≤ bits → lookup (network o n) routes ≡ None

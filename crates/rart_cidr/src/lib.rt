@@ -8,7 +8,9 @@ pub mod cidr;
 mod stride;
 pub mod table;
 pub mod table4;
+pub mod table6;
 
 pub use crate::cidr::{Cidr4, Cidr6, CidrError};
 pub use crate::table::BitTable;
 pub use crate::table4::CidrTable4;
+pub use crate::table6::CidrTable6;

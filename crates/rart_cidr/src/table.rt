@@ -81,6 +81,16 @@ impl<K: KeyTrait, T> BitTable<K, T> {
         self.len == 0
     }
 
+    /// Removes all routes and drops their targets. Never fails.
+    pub fn clear(&mut self)
+    where
+        T: Drop,
+        ensures { self.new ≡ [] }
+    {
+        self.strides.clear();
+        self.len = 0;
+    }
+
     /// Shows that the routes ascend by the bits of their networks. Does nothing at run time.
     pub fn ascends(&self)
         ensures { IsAscending self.now }

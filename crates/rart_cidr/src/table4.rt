@@ -1,8 +1,11 @@
 //! Targets by IPv4 network.
-ghost use Rattle.std.specs.Prelude.{◌≡◌, ◌≤◌, ◌↔◌, [], length, IsTrue};
+ghost use Rattle.std.specs.Prelude.{◌≡◌, ◌≤◌, ◌↔◌, [], length, option_map, IsTrue};
+ghost use Rattle.std.specs.Net.Addr.{ipv4_octets};
 ghost use Rattle.std.specs.Option.{option_copied};
+ghost use Rattle.rart_keys.specs.Filters.{longest_match};
 ghost use Rattle.rart_keys.specs.SortedMap.{IsAscending, lookup};
 ghost use Rattle.rart.specs.declared.tree.TheConstants.{MAX_PAIRS};
+ghost use Rattle.rart_cidr.specs.Bits.{bits_of};
 ghost use Rattle.rart_cidr.specs.Edits.{InsertsRoute, RemovesRoute};
 ghost use Rattle.rart_cidr.specs.Networks.{bits4};
 
@@ -11,6 +14,7 @@ use crate::table::BitTable;
 use rart::{ArrayKey, Refused, TreeError};
 use std::alloc::Global;
 use std::marker::Model;
+use std::net::Ipv4Addr;
 
 /// Targets by IPv4 network.
 ///
@@ -53,6 +57,15 @@ impl<T> CidrTable4<T> {
         self.routes.is_empty()
     }
 
+    /// Removes all routes and drops their targets. Never fails.
+    pub fn clear(&mut self)
+    where
+        T: Drop,
+        ensures { self.new ≡ [] }
+    {
+        self.routes.clear();
+    }
+
     /// Shows that the routes ascend by the bits of their networks. Does nothing at run time.
     pub fn ascends(&self)
         ensures { IsAscending self.now }
@@ -65,6 +78,26 @@ impl<T> CidrTable4<T> {
         ensures { option_copied result ≡ lookup (bits4 net.now) self.now }
     {
         self.routes.get(net.octets(), usize::from(net.len()))
+    }
+
+    /// Returns the route with the longest network that contains `addr`.
+    pub fn longest_match(&self, addr: Ipv4Addr) -> Option<(Cidr4, &T)>
+        ensures { option_map (λ p. (bits4 p.0, p.1.now)) result ≡ longest_match (bits_of (ipv4_octets addr)) self.now }
+    {
+        self.longest_match_net(&Cidr4::host(addr))
+    }
+
+    /// Returns the route with the longest network that contains all addresses of `net`.
+    pub fn longest_match_net(&self, net: &Cidr4) -> Option<(Cidr4, &T)>
+        ensures { option_map (λ p. (bits4 p.0, p.1.now)) result ≡ longest_match (bits4 net.now) self.now }
+    {
+        match self
+            .routes
+            .longest_match_net(net.octets(), usize::from(net.len()))
+        {
+            Some((bits, target)) => Some((net.supernet(bits as u8), target)),
+            None => None,
+        }
     }
 
     /// Inserts a route from `net` to `target`, and returns the old target.

@@ -62,10 +62,26 @@ impl Cidr4 {
     /// Returns the network of the first `len` bits of `addr`, whose other bits are left out.
     pub fn masked(addr: Ipv4Addr, len: u8) -> Cidr4
         requires { len ≤ 32 }
-        ensures { bits4 result ≡ take len (bits_of (ipv4_octets addr)) }
+        ensures value { bits4 result ≡ take len (bits_of (ipv4_octets addr)) }
+        ensures width { length (bits_of (ipv4_octets addr)) ≡ 32 }
     {
         let octets = cleared_octets(addr, len);
         Cidr4 { octets, len }
+    }
+
+    /// Returns the network of `addr` alone.
+    pub fn host(addr: Ipv4Addr) -> Cidr4
+        ensures { bits4 result ≡ bits_of (ipv4_octets addr) }
+    {
+        Cidr4::masked(addr, 32)
+    }
+
+    /// Returns the network of the network's first `len` bits.
+    pub fn supernet(&self, len: u8) -> Cidr4
+        requires { len ≤ length (bits4 self.now) }
+        ensures { bits4 result ≡ take len (bits4 self.now) }
+    {
+        Cidr4::masked(self.addr(), len)
     }
 
     /// Returns the network's first address.

@@ -37,7 +37,7 @@ impl Cidr6 {
     ghost use Rattle.std.specs.Prelude.{◌≡◌, ◌-◌, ◌≤◌, ◌++◌, length, replicate, take};
     ghost use Rattle.std.specs.Net.Addr.{ipv6_octets};
     ghost use Rattle.rart_keys.specs.ByteStrings.{begins};
-    ghost use Rattle.rart_cidr.specs.Bits.{bits_of};
+    ghost use Rattle.rart_cidr.specs.Bits.{bits_of, network};
     ghost use Rattle.rart_cidr.specs.Networks.{IsNew, bits6};
 
     /// Returns the network of the first `len` bits of `addr`.
@@ -62,10 +62,26 @@ impl Cidr6 {
     /// Returns the network of the first `len` bits of `addr`, whose other bits are left out.
     pub fn masked(addr: Ipv6Addr, len: u8) -> Cidr6
         requires { len ≤ 128 }
-        ensures { bits6 result ≡ take len (bits_of (ipv6_octets addr)) }
+        ensures value { bits6 result ≡ take len (bits_of (ipv6_octets addr)) }
+        ensures width { length (bits_of (ipv6_octets addr)) ≡ 128 }
     {
         let octets = cleared_octets(addr, len);
         Cidr6 { octets, len }
+    }
+
+    /// Returns the network of `addr` alone.
+    pub fn host(addr: Ipv6Addr) -> Cidr6
+        ensures { bits6 result ≡ bits_of (ipv6_octets addr) }
+    {
+        Cidr6::masked(addr, 128)
+    }
+
+    /// Returns the network of the network's first `len` bits.
+    pub fn supernet(&self, len: u8) -> Cidr6
+        requires { len ≤ length (bits6 self.now) }
+        ensures { bits6 result ≡ take len (bits6 self.now) }
+    {
+        Cidr6::masked(self.addr(), len)
     }
 
     /// Returns the network's first address.
@@ -74,6 +90,14 @@ impl Cidr6 {
             ≡ bits6 self.now ++ replicate (128 - length (bits6 self.now)) 0 }
     {
         Ipv6Addr::from_octets(self.octets)
+    }
+
+    // The octets of the first address, as the table over octets takes them: its bits begin with the network's.
+    pub(crate) fn octets(&self) -> &[u8]
+        ensures value { network result.now (length (bits6 self.now)) ≡ bits6 self.now }
+        ensures width { length result.now ≡ 16 }
+    {
+        &self.octets
     }
 
     /// Returns the number of the network's bits.

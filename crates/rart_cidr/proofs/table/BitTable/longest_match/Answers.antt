@@ -1,9 +1,6 @@
-use Rattle.std.proofs.Common.{◌-◌, ◌*◌, arith}
-use Rattle.rart_cidr.proofs.LongestLemmas.{is_longest}
+use Rattle.rart_cidr.proofs.LongestLemmas.{matched-all}
 use Rattle.rart_cidr.proofs.table.BitTable.longest_match.Goals as goal
 
-pub returns-in-Some-clause-value : goal.returns-in-Some-clause-value
-returns-in-Some-clause-value g c =
-    is_longest c.args.self.now c.args.address.now (c.loop-at.at - 1) (8 * c.loop-at.at) c.in-Some.bits
-    c.in-Some.target.now
-    (omega arith) c.ascends.ensures c.in-Some.ensures c.loop-at.invariant.1
+pub returns-clause-value : goal.returns-clause-value
+returns-clause-value g c = matched-all (λ t. t.now) c.args.self.now c.args.address.now c.longest_match_net.result
+    c.longest_match_net.ensures.within c.longest_match_net.ensures.value

@@ -1,6 +1,7 @@
-use Rattle.std.proofs.Common.{◌∙◌, ap}
+use Rattle.std.proofs.Common.{◌∙◌, ap, arith}
 use Rattle.std.specs.Net.Addr.{ipv4_octets}
 use Rattle.rart_cidr.specs.Bits.{network}
+use Rattle.rart_cidr.proofs.BitLemmas.{length-bits}
 use Rattle.rart_cidr.proofs.NetworkLemmas.{cleared-bytes, cleared-clear, cleared-first, cleared-length}
 use Rattle.rart_cidr.proofs.cidr.v4.Cidr4.masked.Goals as goal
 
@@ -14,7 +15,10 @@ invariant_of-result c =
       clear = cleared-clear (ipv4_octets c.args.addr) c.args.len e.bytes;
     })
 
-pub returns : goal.returns
-returns c =
+pub returns-clause-value : goal.returns-clause-value
+returns-clause-value c =
     let e = c.cleared_octets-octets.ensures in
     ap (λ z. network z c.args.len) e.value ∙ cleared-first (ipv4_octets c.args.addr) c.args.len e.bytes
+
+pub returns-clause-width : goal.returns-clause-width
+returns-clause-width c = omega (arith, length-bits (ipv4_octets c.args.addr), c.cleared_octets-octets.ensures.width)

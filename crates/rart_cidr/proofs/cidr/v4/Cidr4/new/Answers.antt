@@ -22,7 +22,7 @@ returns-then-eq c =
       width-bits (ipv4_octets c.args.addr) 4 c.args.len e.width (let h : c.args.len ≤ 32
           = omega (arith, c.if-len-gt32.false) in h),
       unchanged-clear (ipv4_octets c.args.addr) c.args.len e.bytes (sym e.value ∙ same ∙ c.octets.ensures),
-      c.masked.ensures,
+      c.masked.ensures.value,
     )
 
 pub returns-else-eq : goal.returns-else-eq

@@ -22,7 +22,7 @@ returns-then-eq c =
       width-bits (ipv6_octets c.args.addr) 16 c.args.len e.width (let h : c.args.len ≤ 128
           = omega (arith, c.if-len-gt128.false) in h),
       unchanged-clear (ipv6_octets c.args.addr) c.args.len e.bytes (sym e.value ∙ same ∙ c.octets.ensures),
-      c.masked.ensures,
+      c.masked.ensures.value,
     )
 
 pub returns-else-eq : goal.returns-else-eq

@@ -1,0 +1,15 @@
+use Rattle.std.proofs.Common.{◌≤◌, ◌*◌, length, take, arith, ap, ◌∙◌}
+use Rattle.std.proofs.lemmas.List.{take-append-le}
+use Rattle.rart_cidr.specs.Networks.{bits4}
+use Rattle.rart_cidr.proofs.NetworkLemmas.{network-length}
+use Rattle.rart_cidr.proofs.cidr.v4.Cidr4.supernet.Goals as goal
+
+pub masked-requires : goal.masked-requires
+masked-requires c =
+    let net = c.args.self.now in
+    let room : net.len ≤ 8 * length net.octets = omega (arith, net.within, net.full_width) in
+    omega (arith, c.requires, network-length net.octets net.len room, net.within)
+
+pub returns : goal.returns
+returns c = c.masked.ensures.value ∙ ap (take c.args.len) c.addr.ensures
+    ∙ take-append-le c.args.len (bits4 c.args.self.now) _ c.requires

@@ -1,0 +1,130 @@
+//! Targets by IPv6 network.
+ghost use Rattle.std.specs.Prelude.{◌≡◌, ◌≤◌, ◌↔◌, [], length, option_map, IsTrue};
+ghost use Rattle.std.specs.Net.Addr.{ipv6_octets};
+ghost use Rattle.std.specs.Option.{option_copied};
+ghost use Rattle.rart_keys.specs.Filters.{longest_match};
+ghost use Rattle.rart_keys.specs.SortedMap.{IsAscending, lookup};
+ghost use Rattle.rart.specs.declared.tree.TheConstants.{MAX_PAIRS};
+ghost use Rattle.rart_cidr.specs.Bits.{bits_of};
+ghost use Rattle.rart_cidr.specs.Edits.{InsertsRoute, RemovesRoute};
+ghost use Rattle.rart_cidr.specs.Networks.{bits6};
+
+use crate::cidr::Cidr6;
+use crate::table::BitTable;
+use rart::{ArrayKey, Refused, TreeError};
+use std::alloc::Global;
+use std::marker::Model;
+use std::net::Ipv6Addr;
+
+/// Targets by IPv6 network.
+///
+/// Contracts see a table as its routes, pairs of the network's bits and a target, ascending by these bits.
+#[derive(Drop)]
+pub struct CidrTable6<T> {
+    routes: BitTable<ArrayKey<16>, T>,
+}
+
+impl<T> Model for CidrTable6<T> {
+    ghost use Rattle.std.specs.Prelude.{ℕ, List};
+
+    ghost Value = { List (List ℕ × T) };
+
+    ghost view = { λ t. t.routes };
+}
+
+impl<T> CidrTable6<T> {
+    /// Creates an empty table, which requests all memory from `alloc`. Allocates nothing.
+    pub fn new(alloc: Global) -> Self
+        ensures { result ≡ [] }
+    {
+        CidrTable6 {
+            routes: BitTable::new(alloc),
+        }
+    }
+
+    /// Returns the number of routes.
+    pub fn len(&self) -> usize
+        ensures value { result ≡ length self.now }
+        ensures most { result ≤ MAX_PAIRS }
+    {
+        self.routes.len()
+    }
+
+    /// Returns whether there is no route.
+    pub fn is_empty(&self) -> bool
+        ensures { IsTrue result ↔ (self.now ≡ []) }
+    {
+        self.routes.is_empty()
+    }
+
+    /// Removes all routes and drops their targets. Never fails.
+    pub fn clear(&mut self)
+    where
+        T: Drop,
+        ensures { self.new ≡ [] }
+    {
+        self.routes.clear();
+    }
+
+    /// Shows that the routes ascend by the bits of their networks. Does nothing at run time.
+    pub fn ascends(&self)
+        ensures { IsAscending self.now }
+    {
+        self.routes.ascends();
+    }
+
+    /// Returns the target of exactly `net`.
+    pub fn get(&self, net: &Cidr6) -> Option<&T>
+        ensures { option_copied result ≡ lookup (bits6 net.now) self.now }
+    {
+        self.routes.get(net.octets(), usize::from(net.len()))
+    }
+
+    /// Returns the route with the longest network that contains `addr`.
+    pub fn longest_match(&self, addr: Ipv6Addr) -> Option<(Cidr6, &T)>
+        ensures { option_map (λ p. (bits6 p.0, p.1.now)) result ≡ longest_match (bits_of (ipv6_octets addr)) self.now }
+    {
+        self.longest_match_net(&Cidr6::host(addr))
+    }
+
+    /// Returns the route with the longest network that contains all addresses of `net`.
+    pub fn longest_match_net(&self, net: &Cidr6) -> Option<(Cidr6, &T)>
+        ensures { option_map (λ p. (bits6 p.0, p.1.now)) result ≡ longest_match (bits6 net.now) self.now }
+    {
+        match self
+            .routes
+            .longest_match_net(net.octets(), usize::from(net.len()))
+        {
+            Some((bits, target)) => Some((net.supernet(bits as u8), target)),
+            None => None,
+        }
+    }
+
+    /// Inserts a route from `net` to `target`, and returns the old target.
+    ///
+    /// # Errors
+    ///
+    /// [`TreeError::Full`] if `net` is new and the table holds as many routes as a table can, [`TreeError::Memory`] if
+    /// it is new and an allocation fails. The table is then unchanged, and the error holds `target`.
+    pub fn insert(&mut self, net: &Cidr6, target: T) -> Result<Option<T>, Refused<T>>
+    where
+        T: Drop,
+        ensures { InsertsRoute (bits6 net.now) target self.old self.new result }
+    {
+        self.routes
+            .insert(net.octets(), usize::from(net.len()), target)
+    }
+
+    /// Removes the route of exactly `net`, and returns its target.
+    ///
+    /// # Errors
+    ///
+    /// [`TreeError::Memory`] if the route is stored and its removal must allocate. The table is then unchanged.
+    pub fn remove(&mut self, net: &Cidr6) -> Result<Option<T>, TreeError>
+    where
+        T: Drop,
+        ensures { RemovesRoute (bits6 net.now) self.old self.new result }
+    {
+        self.routes.remove(net.octets(), usize::from(net.len()))
+    }
+}
