@@ -16,12 +16,12 @@ use Rattle.rart_cidr.specs.Routes.{AreStrides, IsLongestIn, in_stride, routes_of
 use Rattle.rart_cidr.proofs.BitLemmas.{length-bits}
 use Rattle.rart_cidr.proofs.StrideLemmas.{lookup-network}
 
-begins-take : (k : ℕ) (q : List ℕ) → begins (take k q) q ≡ true
+pub begins-take : (k : ℕ) (q : List ℕ) → begins (take k q) q ≡ true
 begins-take zero q = refl
 begins-take (suc k) [] = refl
 begins-take (suc k) (x ∷ q) = rw (eq-eqb x x refl) (begins-take k q)
 
-begun : (p q : List ℕ) → begins p q ≡ true → (take (length p) q ≡ p) × (length p ≤ length q)
+pub begun : (p q : List ℕ) → begins p q ≡ true → (take (length p) q ≡ p) × (length p ≤ length q)
 begun [] q f = (refl, omega arith)
 begun (x ∷ p) [] f = absurd (cc)
 begun (x ∷ p) (y ∷ q) f = elim (x == y) as (λ b. (x == y) ≡ b → (take (suc (length p)) (y ∷ q) ≡ (x ∷ p))
@@ -32,7 +32,7 @@ begun (x ∷ p) (y ∷ q) f = elim (x == y) as (λ b. (x == y) ≡ b → (take (
     ] refl
 
 -- the first bits of a network are a network
-taken-network : (n w : ℕ) (l : List ℕ) → n ≤ w → take n (take w l) ≡ take n l
+pub taken-network : (n w : ℕ) (l : List ℕ) → n ≤ w → take n (take w l) ≡ take n l
 taken-network zero w l h = refl
 taken-network (suc n) zero l h = absurd (omega arith)
 taken-network (suc n) (suc w) [] h = refl
@@ -42,7 +42,7 @@ taken-network (suc n) (suc w) (x ∷ l) h = ap (λ z. x ∷ z) (taken-network n 
 pub network-all : (o : List ℕ) → network o (8 * length o) ≡ bits_of o
 network-all o = ap (λ n. take n (bits_of o)) (sym (length-bits o)) ∙ take-length (bits_of o)
 
-less_or_not : (m n : ℕ) → (m < n) ⊎ (n ≤ m)
+pub less_or_not : (m n : ℕ) → (m < n) ⊎ (n ≤ m)
 less_or_not zero zero = inr (omega arith)
 less_or_not zero (suc n) = inl (omega arith)
 less_or_not (suc m) zero = inr (omega arith)
@@ -57,7 +57,7 @@ module _ {T : Type 0} where
       ∙ ap (λ z. lookup (code (slice_index o z) (n % 8) ∷ []) (stride_at (take z o) S)) e
 
   -- the same, by what was read on the way
-  seen-stride : (S : List (List ℕ × List (List ℕ × T))) (o q : List ℕ) (at n x : ℕ) (s : Option (List (List ℕ × T)))
+  pub seen-stride : (S : List (List ℕ × List (List ℕ × T))) (o q : List ℕ) (at n x : ℕ) (s : Option (List (List ℕ × T)))
       → IsAscending S → AreStrides S → AreBytes o → n / 8 ≡ at → n ≤ 8 * length o →
       q ≡ take at o → s ≡ lookup q S → x ≡ slice_index o at → lookup (network o n) (routes_of S)
       ≡ in_stride (stride_or_empty s) x (n % 8)

@@ -64,3 +64,9 @@ module _ {T : Type 0} where
   IsLongestIn stride x most None = (r : ℕ) → r ≤ most → in_stride stride x r ≡ None
   IsLongestIn stride x most (Some p) = (p.0 ≤ most) × (in_stride stride x p.0 ≡ Some p.1)
       × ((r : ℕ) → p.0 < r → r ≤ most → in_stride stride x r ≡ None)
+
+  -- r bits of x, at least `least` and at most `most`, have a target in the stride, and no fewer have; or none have
+  abbrev pub IsShortestIn : List (List ℕ × T) → ℕ → ℕ → ℕ → Option (ℕ × T) → Type 0
+  IsShortestIn stride x least most None = (r : ℕ) → least ≤ r → r ≤ most → in_stride stride x r ≡ None
+  IsShortestIn stride x least most (Some p) = (least ≤ p.0) × (p.0 ≤ most) × (in_stride stride x p.0 ≡ Some p.1)
+      × ((r : ℕ) → least ≤ r → r < p.0 → in_stride stride x r ≡ None)

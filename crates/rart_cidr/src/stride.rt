@@ -6,7 +6,7 @@ ghost use Rattle.std.specs.Option.{option_copied};
 ghost use Rattle.rart_keys.specs.ArrayKeyBytes.{array_key_bytes};
 ghost use Rattle.rart_keys.specs.SortedMap.{IsAscending, lookup};
 ghost use Rattle.rart.specs.Edits.{Inserts, Removes};
-ghost use Rattle.rart_cidr.specs.Routes.{IsLongestIn};
+ghost use Rattle.rart_cidr.specs.Routes.{IsLongestIn, IsShortestIn};
 
 use crate::bits::code_of;
 use rart::{AdaptiveRadixTree, ArrayKey, KeyTrait, Refused, TreeError};
@@ -120,5 +120,21 @@ impl<T> Stride<T> {
             Some(target) => Some((0, target)),
             None => None,
         }
+    }
+
+    /// Returns the target of the shortest beginning of `byte` that has one, among those of `least` to `most` bits, and
+    /// its number of bits.
+    pub fn shortest(&self, byte: u8, least: usize, most: usize) -> Option<(usize, &T)>
+        requires { most < 8 }
+        ensures { IsShortestIn self.now byte least most (option_map (λ p. (p.0, p.1.now)) result) }
+    {
+        let mut bits = least;
+        while bits <= most {
+            if let Some(target) = self.get(code_of(byte, bits)) {
+                return Some((bits, target));
+            }
+            bits += 1;
+        }
+        None
     }
 }

@@ -9,6 +9,7 @@ ghost use Rattle.rart_cidr.specs.Edits.{InsertsRoute, PutsIn, PutsTarget, Remove
 ghost use Rattle.rart_cidr.specs.Routes.{stride_at};
 
 mod longest;
+mod matches;
 
 use crate::bits::code_of;
 use crate::stride::Stride;

@@ -9,8 +9,11 @@ ghost use Rattle.rart_cidr.specs.Bits.{bits_of};
 ghost use Rattle.rart_cidr.specs.Edits.{InsertsRoute, RemovesRoute};
 ghost use Rattle.rart_cidr.specs.Networks.{bits4};
 
+mod matches;
+
 use crate::cidr::Cidr4;
 use crate::table::BitTable;
+pub use crate::table4::matches::Matches4;
 use rart::{ArrayKey, Refused, TreeError};
 use std::alloc::Global;
 use std::marker::Model;

@@ -9,8 +9,11 @@ ghost use Rattle.rart_cidr.specs.Bits.{bits_of};
 ghost use Rattle.rart_cidr.specs.Edits.{InsertsRoute, RemovesRoute};
 ghost use Rattle.rart_cidr.specs.Networks.{bits6};
 
+mod matches;
+
 use crate::cidr::Cidr6;
 use crate::table::BitTable;
+pub use crate::table6::matches::Matches6;
 use rart::{ArrayKey, Refused, TreeError};
 use std::alloc::Global;
 use std::marker::Model;

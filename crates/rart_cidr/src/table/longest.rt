@@ -60,7 +60,7 @@ impl<K: KeyTrait, T> BitTable<K, T> {
 
 // Returns the largest number of bits of the octet at `at` that a network of at most `bits` bits can have that ends
 // within it.
-fn bits_after(bits: usize, at: usize) -> usize
+pub(crate) fn bits_after(bits: usize, at: usize) -> usize
     requires { at ≤ bits / 8 }
     ensures small { result < 8 }
     ensures within { 8 * at + result ≤ bits }

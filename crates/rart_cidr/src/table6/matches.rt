@@ -1,0 +1,79 @@
+//! The routes whose networks cover a network, the shortest first.
+ghost use Rattle.std.specs.Prelude.{◌≡◌};
+ghost use Rattle.std.specs.Iterator.{YieldsFirstBy, item_count};
+ghost use Rattle.std.specs.Net.Addr.{ipv6_octets};
+ghost use Rattle.rart_keys.specs.Filters.{matches};
+ghost use Rattle.rart_cidr.specs.Bits.{bits_of};
+ghost use Rattle.rart_cidr.specs.Networks.{bits6};
+
+use crate::cidr::Cidr6;
+use crate::table::BitTable;
+use crate::table6::CidrTable6;
+use rart::ArrayKey;
+use std::marker::Model;
+use std::net::Ipv6Addr;
+
+/// Iterates over the routes whose networks contain all addresses of a network, the shortest first.
+///
+/// Contracts see it as the routes to come.
+#[derive(Drop)]
+pub struct Matches6<'a, T> {
+    routes: &'a BitTable<ArrayKey<16>, T>,
+    net: Cidr6,
+    // how many bits the next network has at least
+    low: u8,
+}
+
+impl<'a, T> Model for Matches6<'a, T> {
+    ghost use Rattle.std.specs.Prelude.{ℕ, List};
+    ghost use Rattle.rart_cidr.specs.Matches.{matches_from};
+    ghost use Rattle.rart_cidr.specs.Networks.{bits6};
+
+    ghost Value = { List (List ℕ × T) };
+
+    ghost view = { λ m. matches_from m.low (bits6 m.net) m.routes.now };
+}
+
+impl<'a, T> Iterator for Matches6<'a, T> {
+    type Item = (Cidr6, &'a T);
+
+    ghost next_gives = { YieldsFirstBy (λ p. (bits6 p.0, p.1.now)) (λ rest. rest) };
+
+    ghost remaining = { item_count (λ rest. rest) };
+
+    /// Returns no bound: the routes to come aren't counted.
+    fn size_hint(&self) -> (usize, Option<usize>) {
+        (0, None)
+    }
+
+    /// Returns the next route. It is fused and does not allocate.
+    fn next(&mut self) -> Option<(Cidr6, &'a T)> {
+        let (bits, target) = self.routes.next_match(
+            self.net.octets(),
+            usize::from(self.net.len()),
+            usize::from(self.low),
+        )?;
+        self.low = bits as u8 + 1;
+        Some((self.net.supernet(bits as u8), target))
+    }
+}
+
+impl<T> CidrTable6<T> {
+    /// Returns the routes whose networks contain `addr`, the shortest first.
+    pub fn matches(&self, addr: Ipv6Addr) -> Matches6<'_, T>
+        ensures { result ≡ matches (bits_of (ipv6_octets addr)) self.now }
+    {
+        self.matches_net(&Cidr6::host(addr))
+    }
+
+    /// Returns the routes whose networks contain all addresses of `net`, the shortest first.
+    pub fn matches_net(&self, net: &Cidr6) -> Matches6<'_, T>
+        ensures { result ≡ matches (bits6 net.now) self.now }
+    {
+        Matches6 {
+            routes: &self.routes,
+            net: *net,
+            low: 0,
+        }
+    }
+}
