@@ -1,7 +1,7 @@
 //! Edits of a route table and walks over its routes with each of their requests refused in turn.
 
 use super::{Ask, Reply, Row, Table, answer, key, plays};
-use rart::{LendingKeyView, TreeError};
+use rart::{LendingKeyView, TreeError, TreeStatsTrait};
 use rart_test_tools::refusals::{part_ends, refuse, was_refused};
 use std::alloc::{AllocError, Global};
 use std::cell::Cell;
