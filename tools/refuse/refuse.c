@@ -4,6 +4,8 @@
      0x5ef0 | N   from now on count requests, and refuse the Nth (0: none). Answered by no block.
      0x5ef1       stop. Answered by a block exactly if a request was refused since the last 0x5ef0.
      0x5ef2       a part of a sweep ends. Answered by no block.
+     0x5ef3 | N   from now on add up the bytes requested, against the limit N. Answered by no block.
+     0x5ef4       stop. Answered by a block exactly if more than N bytes were requested since the last 0x5ef3.
    From outside, REFUSE=N refuses the Nth request of the whole process, and REFUSE_REPORT=FILE appends a line with the
    counts when the process ends by exit.
 
@@ -19,17 +21,24 @@ extern int close(int);
 extern int *__errno_location(void);
 
 enum { NO_MEMORY = 12, WRITE_CREATE_APPEND = 01 | 0100 | 02000 };
-enum { REFUSE_NTH = 0x5ef0, WAS_REFUSED = 0x5ef1, PART_ENDS = 0x5ef2 };
+enum { REFUSE_NTH = 0x5ef0, WAS_REFUSED = 0x5ef1, PART_ENDS = 0x5ef2, ADD_BYTES = 0x5ef3, WERE_MORE = 0x5ef4 };
 
 static long until;         /* by message: how many requests until the one to be refused, 0 for none */
 static long process_until; /* the same by REFUSE */
 static long refused;       /* since the last message that set `until` */
 static long requests, refusals, messages;
 static long part_began, empty; /* the refusals before this part, and the parts that had none */
+static int adding;             /* whether bytes are added up */
+static size_t bytes, limit;    /* since the last message that set `limit` */
+static long added;             /* all bytes added up so far */
 
-static int refuses(void) {
+static int refuses(size_t size) {
     int no = 0;
     requests++;
+    if (adding) {
+        bytes += size;
+        added += (long)size;
+    }
     if (until > 0 && --until == 0) no = 1;
     if (process_until > 0 && --process_until == 0) no = 1;
     if (no) {
@@ -53,6 +62,14 @@ static int is_message(size_t size, void **answer) {
     } else if (word == PART_ENDS) {
         if (refusals == part_began) empty++;
         part_began = refusals;
+    } else if (word == ADD_BYTES) {
+        adding = 1;
+        bytes = 0;
+        limit = size & 0xffffffffffffUL;
+    } else if (word == WERE_MORE) {
+        if (bytes > limit) *answer = __libc_malloc(1);
+        adding = 0;
+        bytes = 0;
     } else {
         return 0;
     }
@@ -64,13 +81,13 @@ static int is_message(size_t size, void **answer) {
 void *malloc(size_t size) {
     void *answer;
     if (is_message(size, &answer)) return answer;
-    return refuses() ? 0 : __libc_malloc(size);
+    return refuses(size) ? 0 : __libc_malloc(size);
 }
 
 void *realloc(void *block, size_t size) {
     void *answer;
     if (is_message(size, &answer)) return answer;
-    return refuses() ? 0 : __libc_realloc(block, size); /* a refusal leaves the old block */
+    return refuses(size) ? 0 : __libc_realloc(block, size); /* a refusal leaves the old block */
 }
 
 __attribute__((constructor)) static void begin(void) {
@@ -95,12 +112,13 @@ static char *put(char *to, const char *word, long n) {
 
 __attribute__((destructor)) static void end(void) {
     const char *file = getenv("REFUSE_REPORT");
-    char line[120], *to = line;
+    char line[160], *to = line;
     if (!file) return;
     to = put(to, "requests=", requests);
     to = put(to, " refused=", refusals);
     to = put(to, " messages=", messages);
     to = put(to, " empty=", empty);
+    to = put(to, " added=", added);
     *to++ = '\n';
     int report = open(file, WRITE_CREATE_APPEND, 0666);
     if (report < 0) return;

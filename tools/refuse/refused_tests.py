@@ -3,12 +3,13 @@
 
 usage: refused_tests.py PASSED FAILED
 
-After the gate, each test program crates/*/out/*_tests has the tests of its crate. Two kinds, marked by a word in their
+After the gate, each test program crates/*/out/*_tests has the tests of its crate. Three kinds, marked by a word in their
 names, send messages to the library. Each runs in a process of its own with the library preloaded, and passes if it ends
 with status 0 and
 
   refused_in_turn            which have one request after the other refused, a request was really refused in each part;
-  ask_for_nothing, asks_...  which say so of the calls in them, a message came and no request was refused.
+  ask_for_nothing, asks_...  which say so of the calls in them, a message came and no request was refused;
+  ask_within, asks_...       which add up the bytes requested, a message came and at least one byte was added up.
 
 Such a test of the sources that is in no program fails: its crate wasn't built, or not with its tests.
 
@@ -35,6 +36,8 @@ TOP = pathlib.Path(__file__).resolve().parents[2]
 
 SWEEP = re.compile(r"refused_in_turn")
 QUIET = re.compile(r"asks?_for_nothing")
+ADDED = re.compile(r"asks?_within")
+KINDS = (SWEEP, QUIET, ADDED)
 IN_SOURCE = re.compile(r"^\s*#\[test\]\s+fn (\w+)", re.M)
 
 
@@ -55,23 +58,23 @@ def build(folder):
 
 
 def tests():
-    """The test programs, with the tests of both kinds."""
+    """The test programs, with the tests of the three kinds."""
     for program in sorted(TOP.glob("crates/*/out/*_tests")):
         if not os.access(program, os.X_OK) or not program.is_file():
             continue
         listed = subprocess.run([program, "--list"], capture_output=True, text=True, timeout=60).stdout
         for test in re.findall(r"^(\S+): test$", listed, re.M):
-            if SWEEP.search(test) or QUIET.search(test):
+            if any(kind.search(test) for kind in KINDS):
                 yield program, test
 
 
 def missing(found):
-    """Each test of both kinds that stands in a crate's sources and in no program of that crate."""
+    """Each test of the three kinds that stands in a crate's sources and in no program of that crate."""
     for crate in sorted(TOP.glob("crates/*")):
         ran = {test.split("::")[-1] for program, test in found if program.parents[1] == crate}
         for source in sorted(crate.glob("src/**/*.rt")):
             for test in IN_SOURCE.findall(source.read_text()):
-                if (SWEEP.search(test) or QUIET.search(test)) and test not in ran:
+                if any(kind.search(test) for kind in KINDS) and test not in ran:
                     yield f"{crate.name} {test}"
 
 
@@ -97,6 +100,8 @@ def run(program, test, library):
         return "a part of the sweep met no refusal", refused
     if QUIET.search(test) and refused:
         return "memory was asked for", refused
+    if ADDED.search(test) and int(counts.get("added", 0)) == 0:
+        return "no byte was added up", refused
     return "", refused
 
 
@@ -130,7 +135,7 @@ def main():
     for name in missing(found):
         print(f"refused: {name}: FAILED: it is in no test program")
         failed += 1
-    for kind in (SWEEP, QUIET):
+    for kind in KINDS:
         if not any(kind.search(test) for _, test in found):
             print(f"refused: no test named {kind.pattern}")
             failed += 1

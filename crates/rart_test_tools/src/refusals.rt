@@ -21,6 +21,19 @@ pub fn part_ends(alloc: Global) {
     let _ = Vec::<u8>::with_capacity(alloc, 0x5ef2_0000_0000_0000_usize);
 }
 
+/// A request that asks the library to add up the bytes of the requests after it, against a limit.
+pub fn add_bytes(alloc: Global, limit: usize) {
+    let _ = Vec::<u8>::with_capacity(
+        alloc,
+        0x5ef3_0000_0000_0000_usize.wrapping_add(limit.min(0xffff_ffff)),
+    );
+}
+
+/// Whether those bytes were more than the limit; afterwards none are added up.
+pub fn were_more(alloc: Global) -> bool {
+    Vec::<u8>::with_capacity(alloc, 0x5ef4_0000_0000_0000_usize).is_ok()
+}
+
 /// Whether each request refused in turn goes well, up to the first that isn't made, which ends a part.
 /// `is_refused_well` makes calls with the request of its number refused, and answers whether one was; None where
 /// something went another way.

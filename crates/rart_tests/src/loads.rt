@@ -62,7 +62,7 @@ pub fn load_by_index<K: KeyTrait, W, V: Drop, F: FnMut(usize) -> V + Drop>(
 }
 
 /// The keys of the items by `bulk_load_sorted_unique_by_index_by_ref`, with the values that `take` gives.
-fn load_by_index_lent<K: KeyTrait, W, V: Drop, F: FnMut(usize) -> V>(
+pub fn load_by_index_lent<K: KeyTrait, W, V: Drop, F: FnMut(usize) -> V>(
     alloc: Global,
     items: &[(K, W)],
     take: &mut F,

@@ -6,6 +6,7 @@ mod copies;
 mod counted;
 mod forms;
 mod laws;
+mod room;
 mod seen_forms;
 pub mod segments;
 mod sweeps;

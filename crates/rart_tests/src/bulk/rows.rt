@@ -1,6 +1,8 @@
 //! Bulk loads: what each form answers, how far it reads, and what is dropped where memory is refused.
 
-use crate::loads::{Counts, Key, ascend, law_holds, load_by_index, load_unique, loads_alike};
+use crate::loads::{
+    Counts, Key, ascend, law_holds, load_by_index, load_by_index_lent, load_unique, loads_alike,
+};
 use crate::play::Tree;
 use crate::play::replies::is_counted;
 use rart::{AdaptiveRadixTree, BulkError, KeyTrait, TreeStats};
@@ -261,7 +263,7 @@ fn unique_refused(alloc: Global, at: usize) -> Result<Option<bool>, AllocError> 
     Ok(drops_each(result, refused, 64, &drops).then_some(refused))
 }
 
-fn by_index_refused(alloc: Global, at: usize) -> Result<Option<bool>, AllocError> {
+fn by_index_refused(alloc: Global, at: usize, lent: bool) -> Result<Option<bool>, AllocError> {
     let unused = Cell::new(0_usize);
     let items = counted(alloc, &unused)?;
     if !ascend(&items) {
@@ -270,12 +272,17 @@ fn by_index_refused(alloc: Global, at: usize) -> Result<Option<bool>, AllocError
     let drops = Cell::new(0_usize);
     let taken = Cell::new(0_usize);
     let in_turn = Cell::new(true);
-    refuse(alloc, at);
-    let result = load_by_index(alloc, &items, |i| {
+    let mut take = |i: usize| {
         in_turn.set(in_turn.get() && i == taken.get());
         taken.set(taken.get().wrapping_add(1));
         Counted((i % 256) as u8, &drops)
-    });
+    };
+    refuse(alloc, at);
+    let result = if lent {
+        load_by_index_lent(alloc, &items, &mut take)
+    } else {
+        load_by_index(alloc, &items, take)
+    };
     let refused = was_refused(alloc);
     let well = drops_each(result, refused, taken.get(), &drops) && in_turn.get();
     Ok(well.then_some(refused))
@@ -286,6 +293,7 @@ enum Form {
     Sorted,
     Unique,
     ByIndex,
+    ByIndexLent,
 }
 
 fn is_refused_in_turn(alloc: Global, form: Form) -> Result<bool, AllocError> {
@@ -293,7 +301,8 @@ fn is_refused_in_turn(alloc: Global, form: Form) -> Result<bool, AllocError> {
         let refused = match form {
             Form::Sorted => sorted_refused(alloc, at)?,
             Form::Unique => unique_refused(alloc, at)?,
-            Form::ByIndex => by_index_refused(alloc, at)?,
+            Form::ByIndex => by_index_refused(alloc, at, false)?,
+            Form::ByIndexLent => by_index_refused(alloc, at, true)?,
         };
         match refused {
             Some(true) => {}
@@ -309,7 +318,7 @@ fn is_refused_in_turn(alloc: Global, form: Form) -> Result<bool, AllocError> {
 
 #[test]
 fn loads_refused_in_turn_drop_each_value_once(rt: HostRuntime) -> Result<(), Fail> {
-    for form in [Form::Sorted, Form::Unique, Form::ByIndex] {
+    for form in [Form::Sorted, Form::Unique, Form::ByIndex, Form::ByIndexLent] {
         assert!(rt; is_refused_in_turn(rt.alloc(), form)?);
     }
     Ok(())

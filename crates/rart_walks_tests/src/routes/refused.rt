@@ -1,7 +1,7 @@
 //! Edits of a route table and walks over its routes with each of their requests refused in turn.
 
 use super::{Ask, Reply, Row, Table, answer, key, plays};
-use rart::{LendingKeyView, TreeError};
+use rart::{LendingKeyView, TreeError, TreeStatsTrait};
 use rart_test_tools::refusals::{part_ends, refuse, was_refused};
 use std::alloc::{AllocError, Global};
 use std::cell::Cell;
@@ -70,11 +70,20 @@ fn written(alloc: Global, table: &Table) -> Option<Vec<u8>> {
     whole.then_some(text)
 }
 
-// Whether both tables have the same routes and nodes at the same prefixes.
+fn have_same_statistics(one: &Table, other: &Table) -> bool {
+    match (one.get_tree_stats(), other.get_tree_stats()) {
+        (Ok(left), Ok(right)) => left == right,
+        _ => false,
+    }
+}
+
+// Whether both tables have the same routes, nodes at the same prefixes, and the same statistics.
 fn are_alike(alloc: Global, one: &Table, other: &Table) -> bool {
     match (written(alloc, one), written(alloc, other)) {
         (Some(text), Some(wanted)) => {
-            one.len() == other.len() && text.as_slice() == wanted.as_slice()
+            one.len() == other.len()
+                && text.as_slice() == wanted.as_slice()
+                && have_same_statistics(one, other)
         }
         _ => false,
     }

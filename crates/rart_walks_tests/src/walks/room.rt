@@ -1,0 +1,102 @@
+//! The bytes that walks request: they suffice for the longest stored key, whatever length the type of the keys allows.
+
+use rart::{AdaptiveRadixTree, ArrayKey, KeyTrait, LendingKeyView, TreeError};
+use rart_test_tools::refusals::{add_bytes, were_more};
+use std::alloc::Global;
+use std::cell::Cell;
+use std::ops::Bound;
+
+// Its keys may have many more bytes than those of the tree have.
+type Key = ArrayKey<1024>;
+
+type Tree = AdaptiveRadixTree<Key, u64>;
+
+// The bytes of the longest key, and the levels of the tree.
+const LONGEST: usize = 3;
+
+const LEVELS: usize = 4;
+
+// The sizes of a level of a walk and of a segment of a lent key.
+const LEVEL: usize = 72;
+
+const SEGMENT: usize = 16;
+
+// A tree with a node for each byte of its longest key.
+fn filled(alloc: Global) -> Option<Tree> {
+    let mut tree = Tree::new(alloc);
+    let mut value = 0_u64;
+    for bytes in [b"".as_slice(), b"a", b"ab", b"abc"] {
+        tree.insert_k(&Key::new_from_slice(bytes), value).ok()?;
+        value = value.wrapping_add(1);
+    }
+    Some(tree)
+}
+
+fn count_all(tree: &Tree) -> Result<usize, TreeError> {
+    let mut many = 0_usize;
+    let mut pairs = tree.iter()?;
+    while let Some(_pair) = pairs.next() {
+        many = many.wrapping_add(1);
+    }
+    Ok(many)
+}
+
+fn count_below(tree: &Tree, prefix: &Key) -> Result<usize, TreeError> {
+    let many = Cell::new(0_usize);
+    tree.prefix_for_each_view_k(prefix, |_view: LendingKeyView<'_, '_>, _value: &u64| {
+        many.set(many.get().wrapping_add(1));
+    })?;
+    Ok(many.get())
+}
+
+fn count_within(tree: &Tree, start: Key, end: Key) -> Result<usize, TreeError> {
+    let mut many = 0_usize;
+    let mut pairs = tree.range(Bound::Included(start), Bound::Excluded(end))?;
+    while let Some(_pair) = pairs.next() {
+        many = many.wrapping_add(1);
+    }
+    Ok(many)
+}
+
+fn iteration_is_within(alloc: Global, limit: usize) -> bool {
+    let Some(tree) = filled(alloc) else {
+        return false;
+    };
+    add_bytes(alloc, limit);
+    let counted = count_all(&tree);
+    !were_more(alloc) && counted == Ok(4)
+}
+
+#[test]
+fn iterations_ask_within_the_longest_key(rt: HostRuntime) {
+    assert!(rt; iteration_is_within(rt.alloc(), LEVELS * LEVEL + LONGEST));
+}
+
+fn views_are_within(alloc: Global, limit: usize) -> bool {
+    let Some(tree) = filled(alloc) else {
+        return false;
+    };
+    add_bytes(alloc, limit);
+    let counted = count_below(&tree, &Key::new_from_slice(b"a"));
+    !were_more(alloc) && counted == Ok(3)
+}
+
+#[test]
+fn lent_keys_ask_within_the_longest_key(rt: HostRuntime) {
+    assert!(rt; views_are_within(rt.alloc(), LEVELS * LEVEL + LONGEST * SEGMENT));
+}
+
+fn range_is_within(alloc: Global, limit: usize) -> bool {
+    let Some(tree) = filled(alloc) else {
+        return false;
+    };
+    add_bytes(alloc, limit);
+    let (start, end) = (Key::new_from_slice(b"a"), Key::new_from_slice(b"abc"));
+    let counted = count_within(&tree, start, end);
+    !were_more(alloc) && counted == Ok(2)
+}
+
+#[test]
+fn ranges_ask_within_the_longest_key(rt: HostRuntime) {
+    assert!(rt; range_is_within(rt.alloc(), LEVELS * LEVEL + LONGEST));
+}
