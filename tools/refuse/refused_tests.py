@@ -3,9 +3,9 @@
 
 usage: refused_tests.py PASSED FAILED
 
-After the gate, each test program crates/*/out/*_tests has the tests of its crate. Three kinds, marked by a word in their
-names, send messages to the library. Each runs in a process of its own with the library preloaded, and passes if it ends
-with status 0 and
+After the gate, each test program crates/*/out/*_tests has the tests of its crate. Three kinds, marked by a word in
+their names, send messages to the library. Each runs in a process of its own with the library preloaded, and passes if
+it ends with status 0 and
 
   refused_in_turn            which have one request after the other refused, a request was really refused in each part;
   ask_for_nothing, asks_...  which say so of the calls in them, a message came and no request was refused;

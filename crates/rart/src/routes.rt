@@ -6,7 +6,8 @@ ghost use Rattle.std.specs.Prelude.{◌≡◌, ◌*◌, ◌-◌, ◌≤◌, ◌�
 ghost use Rattle.std.specs.Borrow.{sem};
 ghost use Rattle.std.specs.Option.{option_copied};
 ghost use Rattle.rart_keys.specs.Filters.{longest_match, longest_value};
-ghost use Rattle.rart_keys.specs.SortedMap.{IsAscending, keys_of, lookup};
+ghost use Rattle.rart_keys.specs.KeyBytes.{IsWithin};
+ghost use Rattle.rart_keys.specs.SortedMap.{IsAscending, keys_of, longest_key, lookup};
 ghost use Rattle.rart_nodes.specs.shapes.Shape.{HasShape};
 ghost use Rattle.rart_nodes.specs.tries.Tree.{tree_nodes, tree_pairs};
 ghost use Rattle.rart_nodes.specs.walks.Calls.{MayLackRoom};
@@ -83,6 +84,8 @@ impl<K: KeyTrait, T> RouteTable<K, T> {
     pub fn seen<C>(&self) -> Seen<'_, K, T, C>
         ensures pairs { tree_pairs (option_copied result.root) ≡ self.now.pairs }
         ensures nodes { tree_nodes (option_copied result.root) ≡ self.now.nodes }
+        ensures room { longest_key self.now.pairs ≤ result.longest }
+        ensures within { IsWithin K.MAXIMUM_SIZE result.longest }
     {
         self.routes.seen()
     }

@@ -31,7 +31,7 @@ pub const MAX_PAIRS: usize = usize::MAX / 16;
 pub struct AdaptiveRadixTree<K: KeyTrait, V> {
     root: Option<DefaultNode<K::PartialType, V>>,
     len: usize,
-    // at least the length of the longest key ever stored
+    // at least the length of the longest key stored since the last `clear`
     longest: usize,
     alloc: Global,
     of: PhantomData<K>,

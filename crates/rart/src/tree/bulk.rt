@@ -90,7 +90,7 @@ impl<K: KeyTrait, V: Drop> AdaptiveRadixTree<K, V> {
     /// Builds the tree of `len` keys, each with the value at its index.
     ///
     /// If there are no more keys than a tree holds, `key_at` must return ascending keys, and `take_value_at` must be
-    /// callable at 0, 1, 2 and so on, once each. `key_at` is called once for each index.
+    /// callable at 0, 1, 2 and so on, once each.
     ///
     /// # Errors
     ///
