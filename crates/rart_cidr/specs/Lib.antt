@@ -7,3 +7,4 @@ pub mod NetworkLoans
 pub mod Networks
 pub mod RouteLoans
 pub mod Routes
+pub mod Texts

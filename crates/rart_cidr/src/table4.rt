@@ -97,14 +97,16 @@ impl<T> CidrTable4<T> {
 
     /// Returns the route with the longest network that contains `addr`.
     pub fn longest_match(&self, addr: Ipv4Addr) -> Option<(Cidr4, &T)>
-        ensures { option_map (λ p. (bits4 p.0, p.1.now)) result ≡ longest_match (bits_of (ipv4_octets addr)) self.now }
+        ensures { option_map (λ p. (bits4 p.0, p.1.now)) result
+            ≡ longest_match (bits_of (ipv4_octets addr)) self.now }
     {
         self.longest_match_net(&Cidr4::host(addr))
     }
 
     /// Returns the route with the longest network that contains all addresses of `net`.
     pub fn longest_match_net(&self, net: &Cidr4) -> Option<(Cidr4, &T)>
-        ensures { option_map (λ p. (bits4 p.0, p.1.now)) result ≡ longest_match (bits4 net.now) self.now }
+        ensures { option_map (λ p. (bits4 p.0, p.1.now)) result
+            ≡ longest_match (bits4 net.now) self.now }
     {
         match self
             .routes

@@ -97,14 +97,16 @@ impl<T> CidrTable6<T> {
 
     /// Returns the route with the longest network that contains `addr`.
     pub fn longest_match(&self, addr: Ipv6Addr) -> Option<(Cidr6, &T)>
-        ensures { option_map (λ p. (bits6 p.0, p.1.now)) result ≡ longest_match (bits_of (ipv6_octets addr)) self.now }
+        ensures { option_map (λ p. (bits6 p.0, p.1.now)) result
+            ≡ longest_match (bits_of (ipv6_octets addr)) self.now }
     {
         self.longest_match_net(&Cidr6::host(addr))
     }
 
     /// Returns the route with the longest network that contains all addresses of `net`.
     pub fn longest_match_net(&self, net: &Cidr6) -> Option<(Cidr6, &T)>
-        ensures { option_map (λ p. (bits6 p.0, p.1.now)) result ≡ longest_match (bits6 net.now) self.now }
+        ensures { option_map (λ p. (bits6 p.0, p.1.now)) result
+            ≡ longest_match (bits6 net.now) self.now }
     {
         match self
             .routes

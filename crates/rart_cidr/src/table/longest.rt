@@ -43,7 +43,8 @@ impl<K: KeyTrait, T> BitTable<K, T> {
     fn longest_after(&self, octets: &[u8], bits: usize, at: usize) -> Option<(usize, &T)>
         requires bits { bits ≤ 8 * length octets.now }
         requires at { at ≤ bits / 8 }
-        ensures { IsLongestAfter self.now octets.now bits at (option_map (λ p. (p.0, p.1.now)) result) }
+        ensures { IsLongestAfter self.now octets.now bits at
+            (option_map (λ p. (p.0, p.1.now)) result) }
     {
         self.strides.canonical();
         let most = bits_after(bits, at);

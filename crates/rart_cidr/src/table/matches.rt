@@ -34,7 +34,8 @@ impl<K: KeyTrait, T> BitTable<K, T> {
     fn first_after(&self, octets: &[u8], bits: usize, low: usize) -> Option<(usize, &T)>
         requires bits { bits ≤ 8 * length octets.now }
         requires low { low ≤ bits }
-        ensures { IsFirstAfter self.now octets.now bits low (option_map (λ p. (p.0, p.1.now)) result) }
+        ensures { IsFirstAfter self.now octets.now bits low
+            (option_map (λ p. (p.0, p.1.now)) result) }
     {
         self.strides.canonical();
         let at = low / 8;
