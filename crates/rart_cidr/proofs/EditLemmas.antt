@@ -45,7 +45,7 @@ module _ {T : Type 0} where
       ap (λ z. lookup (code (slice_index o (n / 8)) (n % 8) ∷ []) (stride_or_empty z)) (t ∙ ap (λ z. lookup z S) e)
       ∙ sym (lookup-network S o n a b f h)
 
-  put-same : (S : List (List ℕ × List (List ℕ × T))) (o : List ℕ) (s : List (List ℕ × T)) → IsAscending S
+  pub put-same : (S : List (List ℕ × List (List ℕ × T))) (o : List ℕ) (s : List (List ℕ × T)) → IsAscending S
       → lookup o S ≡ Some s → put o s S ≡ S
   put-same S o s a e = equal_by_lookups (put o s S) S (ascending-put o s S a) a (λ q. ⊎_elim
       (λ m. ap (λ z. lookup z (put o s S)) m ∙ lookup-put_at o s S ∙ sym e ∙ ap (λ z. lookup z S) (sym m))

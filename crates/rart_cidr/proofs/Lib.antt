@@ -1,5 +1,6 @@
 mod BitLemmas
 mod EditLemmas
+mod LoanLemmas
 mod LongestLemmas
 mod MatchLemmas
 mod NetworkLemmas

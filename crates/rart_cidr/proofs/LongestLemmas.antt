@@ -137,8 +137,8 @@ module _ {T : Type 0} where
   has_none v o w room a none =
       elim (longest_match (network o w) v) as (λ r. longest_match (network o w) v ≡ r → None ≡ r) [
         | None ↦ λ e. refl
-        | Some f ↦ λ e. let p = longest-stored f.0 (network o w) f.1 v a e in let h = stored-begins v o f.0 w room p.1
-            in
+        | Some f ↦ λ e. let p = longest-stored f.0 (network o w) f.1 v a e in
+            let h = stored-begins v o f.0 w room p.1 in
             absurd (let m = sym p.0 ∙ ap (λ z. lookup z v) (sym h.0) ∙ none (length f.0) (omega arith) h.1 in cc)
       ] refl
 
@@ -148,6 +148,6 @@ module _ {T : Type 0} where
       → option_map (λ p. (take p.0 (network o (8 * length o)), now p.1)) r ≡ longest_match (network o (8 * length o)) v
       → option_map (λ p. (network o p.0, now p.1)) r ≡ longest_match (bits_of o) v
   matched-all now v o None l h = h ∙ ap (λ z. longest_match z v) (network-all o)
-  matched-all now v o (Some p) l h = ap (λ z. Some (z, now p.1)) (sym (taken-network p.0 (8 * length o) (bits_of o) l))
-      ∙ h
+  matched-all now v o (Some p) l h =
+      ap (λ z. Some (z, now p.1)) (sym (taken-network p.0 (8 * length o) (bits_of o) l)) ∙ h
       ∙ ap (λ z. longest_match z v) (network-all o)

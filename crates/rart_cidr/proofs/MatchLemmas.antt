@@ -161,8 +161,8 @@ module _ {T : Type 0} where
   has_no_next v o w low from room g none =
       let wide : length (network o w) ≡ w = length-take-le w (bits_of o) (omega (arith, room, length-bits o)) in
       no_matches low (network o w) v
-      (λ m i j. first-bits v o w m (omega (arith, j, wide)) ∙ none m i (omega (arith, j, wide, g))
-      (omega (arith, j, wide)))
+      (λ m i j. let l : m ≤ w = omega (arith, j, wide) in
+      first-bits v o w m l ∙ none m i (omega (arith, l, g)) l)
 
   -- one octet more without a network
   pub none_before : (v : List (List ℕ × T)) (o : List ℕ) (w low from : ℕ) → IsFirstAfter v o w from None

@@ -1,6 +1,10 @@
 pub mod Bits
 pub mod Edits
+pub mod Loans
 pub mod Longest
 pub mod Matches
+pub mod NetworkLoans
 pub mod Networks
+pub mod RouteLoans
 pub mod Routes
+pub mod Texts

@@ -1,6 +1,6 @@
 -- The networks that begin the first bits of some octets, the shortest first.
-use Rattle.std.specs.Prelude.{◌≡◌, ◌<◌, ◌≤◌, ◌+◌, ℕ, ◌/◌, ◌∷◌, [], List, Option, Some, None, filter, length, nat_le}
-use Rattle.std.specs.Prelude.{take}
+use Rattle.std.specs.Prelude.{◌≡◌, ◌<◌, ◌≤◌, ◌+◌, ℕ, ◌/◌, ◌∷◌, [], List, Option, Some, None, filter}
+use Rattle.std.specs.Prelude.{length, nat_le, take}
 use Rattle.rart_keys.specs.Filters.{matches}
 use Rattle.rart_keys.specs.SortedMap.{lookup}
 use Rattle.rart_cidr.specs.Bits.{network}

@@ -4,6 +4,7 @@ mod v6;
 
 pub use crate::cidr::v4::Cidr4;
 pub use crate::cidr::v6::Cidr6;
+use std::fmt;
 
 /// Why an address and a length aren't a network.
 #[derive(Clone, Copy, PartialEq, Eq, Debug)]
@@ -12,4 +13,18 @@ pub enum CidrError {
     Length,
     /// A bit after the first ones, which are the network's, is set.
     HostBits,
+}
+
+impl fmt::Display for CidrError {
+    ghost use Rattle.std.specs.Prelude.{Some};
+    ghost use Rattle.rart_cidr.specs.Texts.{error_text};
+
+    ghost output = { λ error. Some (error_text error) };
+
+    fn fmt<W: fmt::Write>(&self, f: &mut fmt::Formatter<W>) -> fmt::Result {
+        match self {
+            CidrError::Length => f.write_str("bad length"),
+            CidrError::HostBits => f.write_str("host bits set"),
+        }
+    }
 }

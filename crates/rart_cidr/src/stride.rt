@@ -2,10 +2,12 @@
 //!
 //! Contracts see a stride as its pairs of a one-byte key, the code, and a target, ascending by code.
 ghost use Rattle.std.specs.Prelude.{◌≡◌, ◌≢◌, ◌<◌, ◌≤◌, [], ◌∷◌, length, Some, option_map, IsTrue};
-ghost use Rattle.std.specs.Option.{option_copied};
+ghost use Rattle.std.specs.Borrow.{sem};
+ghost use Rattle.std.specs.Option.{option_copied, option_copied_mut};
 ghost use Rattle.rart_keys.specs.ArrayKeyBytes.{array_key_bytes};
 ghost use Rattle.rart_keys.specs.SortedMap.{IsAscending, lookup};
 ghost use Rattle.rart.specs.Edits.{Inserts, Removes};
+ghost use Rattle.rart_cidr.specs.Loans.{lends_target};
 ghost use Rattle.rart_cidr.specs.Routes.{IsLongestIn, IsShortestIn};
 
 use crate::bits::code_of;
@@ -62,6 +64,14 @@ impl<T> Stride<T> {
         ensures { option_copied result ≡ lookup (code ∷ []) self.now }
     {
         self.targets.get_bytes(&[code])
+    }
+
+    /// Returns a mutable reference to the target at `code`, which must be stored.
+    pub fn get_stored_mut(&mut self, code: u8) -> Option<&mut T>
+        ensures* writes_back { sem 𝓛 (lends_target T.row self.entry code result) }
+        ensures value { option_copied_mut result ≡ lookup (code ∷ []) self.old }
+    {
+        self.targets.get_mut(key_of(code))
     }
 
     /// Inserts `target` at `code` and returns the old target.

@@ -1,12 +1,14 @@
 //! Targets by IPv6 network.
 ghost use Rattle.std.specs.Prelude.{◌≡◌, ◌≤◌, ◌↔◌, [], length, option_map, IsTrue};
+ghost use Rattle.std.specs.Borrow.{sem};
 ghost use Rattle.std.specs.Net.Addr.{ipv6_octets};
-ghost use Rattle.std.specs.Option.{option_copied};
+ghost use Rattle.std.specs.Option.{option_copied, option_copied_mut};
 ghost use Rattle.rart_keys.specs.Filters.{longest_match};
 ghost use Rattle.rart_keys.specs.SortedMap.{IsAscending, lookup};
 ghost use Rattle.rart.specs.declared.tree.TheConstants.{MAX_PAIRS};
 ghost use Rattle.rart_cidr.specs.Bits.{bits_of};
 ghost use Rattle.rart_cidr.specs.Edits.{InsertsRoute, RemovesRoute};
+ghost use Rattle.rart_cidr.specs.NetworkLoans.{lends_target6};
 ghost use Rattle.rart_cidr.specs.Networks.{bits6};
 
 mod matches;
@@ -81,6 +83,16 @@ impl<T> CidrTable6<T> {
         ensures { option_copied result ≡ lookup (bits6 net.now) self.now }
     {
         self.routes.get(net.octets(), usize::from(net.len()))
+    }
+
+    /// Returns a mutable reference to the target of exactly `net`.
+    ///
+    /// After the borrow ends, only this target can have changed.
+    pub fn get_mut<'a>(&'a mut self, net: &Cidr6) -> Option<&'a mut T>
+        ensures* writes_back { sem 𝓛 (lends_target6 T.row self.entry (bits6 net.now) result) }
+        ensures value { option_copied_mut result ≡ lookup (bits6 net.now) self.old }
+    {
+        self.routes.get_mut(net.octets(), usize::from(net.len()))
     }
 
     /// Returns the route with the longest network that contains `addr`.

@@ -6,6 +6,7 @@ ghost use Rattle.rart_cidr.specs.Bits.{AreClearAfter, bits_of, cleared};
 
 use crate::bits::{are_bytes, clear_after};
 use crate::cidr::CidrError;
+use std::fmt;
 use std::net::Ipv4Addr;
 
 /// An IPv4 network: the first bits of an address. Networks are ordered by address, then by length.
@@ -120,5 +121,17 @@ impl Cidr4 {
         ensures { result ≡ begins (bits4 self.now) (bits4 net.now) }
     {
         self.len <= net.len && self.contains(net.addr())
+    }
+}
+
+impl fmt::Display for Cidr4 {
+    ghost use Rattle.std.specs.Prelude.{Some};
+    ghost use Rattle.rart_cidr.specs.Texts.{text4};
+
+    ghost output = { λ net. Some (text4 net) };
+
+    fn fmt<W: fmt::Write>(&self, f: &mut fmt::Formatter<W>) -> fmt::Result {
+        let (addr, len) = (Ipv4Addr::from_octets(self.octets), self.len);
+        write!(f, "{addr}/{len}")
     }
 }

@@ -6,6 +6,7 @@ ghost use Rattle.rart_cidr.specs.Bits.{AreClearAfter, bits_of, cleared};
 
 use crate::bits::{are_bytes, clear_after};
 use crate::cidr::CidrError;
+use std::fmt;
 use std::net::Ipv6Addr;
 
 /// An IPv6 network: the first bits of an address. Networks are ordered by address, then by length.
@@ -120,5 +121,17 @@ impl Cidr6 {
         ensures { result ≡ begins (bits6 self.now) (bits6 net.now) }
     {
         self.len <= net.len && self.contains(net.addr())
+    }
+}
+
+impl fmt::Display for Cidr6 {
+    ghost use Rattle.std.specs.Prelude.{Some};
+    ghost use Rattle.rart_cidr.specs.Texts.{text6};
+
+    ghost output = { λ net. Some (text6 net) };
+
+    fn fmt<W: fmt::Write>(&self, f: &mut fmt::Formatter<W>) -> fmt::Result {
+        let (addr, len) = (Ipv6Addr::from_octets(self.octets), self.len);
+        write!(f, "{addr}/{len}")
     }
 }

@@ -5,8 +5,8 @@ pub returns-in-Some-longest : goal.returns-in-Some-longest
 returns-in-Some-longest g c = rw (← c.self.view_is)
     (some_in_stride c.self.inside.strides.pairs c.args.octets.now _ c.args.bits c.args.at _ c.bits_after-most.result
     c.in-Some-longest.count c.in-Some-longest.target.now c.in-Some.stride.now c.canonical.ensures.ascending
-    c.self.invariant.0 (λ k. (c.type_inv.octets k).fits) c.requires.bits c.first_octets.ensures c.in-Some.ensures
-    c.octet_at.ensures
+    c.self.invariant.0 (λ k. (c.type_inv.octets k).fits) c.requires.bits c.first_octets.ensures
+    c.in-Some.ensures c.octet_at.ensures
     c.bits_after-most.ensures.small c.bits_after-most.ensures.within c.bits_after-most.ensures.all
     c.in-Some-longest.ensures)
 

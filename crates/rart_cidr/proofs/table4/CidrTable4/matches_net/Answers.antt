@@ -5,5 +5,5 @@ use Rattle.rart_cidr.proofs.MatchLemmas.{all_matches}
 use Rattle.rart_cidr.proofs.table4.CidrTable4.matches_net.Goals as goal
 
 pub returns : goal.returns
-returns g c = all_matches (bits4 c.args.net.now) c.self.inside.routes ∙ ap (matches (bits4 c.args.net.now))
-    c.self.view_is
+returns g c = all_matches (bits4 c.args.net.now) c.self.inside.routes
+    ∙ ap (matches (bits4 c.args.net.now)) c.self.view_is

@@ -1,0 +1,12 @@
+-- What a table or a stride ends as once the loan of a target is over.
+use Rattle.std.specs.Prelude.{◌≡◌, ℕ, List, [], ◌∷◌, Option, OnSome}
+use Rattle.std.specs.Borrow.{Fml, LendsSo, MutBor}
+use denote.RattleType.{RattleType}
+use Rattle.rart_keys.specs.SortedMap.{put}
+use Rattle.rart_cidr.specs.contracts.stride.Stride.{the_row}
+
+-- the target at a code was lent, if there is one: the stride ends with what was left there; where nothing was lent it
+-- ends as it was
+abbrev pub lends_target : (T : RattleType) → MutBor (List (List ℕ × T.Denot)) → ℕ → Option (MutBor T.Denot) → Fml
+lends_target T stride code lent = LendsSo (the_row T) T stride lent
+    (λ s w. OnSome lent (s ≡ put (code ∷ []) w stride.now)) (λ s. s ≡ stride.now)
