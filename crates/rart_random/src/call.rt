@@ -5,7 +5,7 @@ use crate::text::Text;
 /// A call: what is done, on which tree, and with what.
 #[derive(Clone, Copy)]
 pub struct Call {
-    /// Which call it is, below 40.
+    /// Which call it is, below `KINDS`.
     pub kind: u64,
     /// Whether it is made on the second tree.
     pub on_second: bool,
@@ -22,7 +22,7 @@ pub struct Call {
 }
 
 /// How many kinds of calls there are.
-pub const KINDS: u64 = 40;
+pub const KINDS: u64 = 41;
 
 // What is done mostly while a tree grows, shrinks, and in between.
 const GROWING: [u64; 8] = [0, 1, 2, 3, 7, 8, 0, 6];

@@ -9,6 +9,7 @@
 mod call;
 mod cases;
 mod edits;
+mod grown;
 mod loads;
 mod model;
 mod model_edits;

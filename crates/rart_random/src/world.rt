@@ -1,5 +1,6 @@
 //! Two trees and a route table, each beside its model, and one call made on both.
 use crate::call::Call;
+use crate::grown::{grow, wanted_grow};
 use crate::loads::{list_of, load, sum_in, wanted_load};
 use crate::model::{Model, Pair};
 use crate::numbers::low_byte;
@@ -144,7 +145,7 @@ impl<K: KeyTrait + Drop> World<K> {
     }
 
     fn words(&self, call: &Call, most: usize) -> Words {
-        let model = if call.kind >= 34 {
+        let model = if call.kind >= 34 && call.kind < 40 {
             &self.route_model
         } else if call.on_second {
             &self.second.model
@@ -155,7 +156,7 @@ impl<K: KeyTrait + Drop> World<K> {
     }
 
     fn list(&self, call: &Call) -> Vec<Pair> {
-        if call.kind != 32 && call.kind != 33 {
+        if call.kind != 32 && call.kind != 33 && call.kind != 40 {
             return Vec::new(self.alloc);
         }
         list_of(self.alloc, &self.first.model, call).unwrap_or(Vec::new(self.alloc))
@@ -169,6 +170,7 @@ impl<K: KeyTrait + Drop> World<K> {
             0..9 if call.on_second => edits::edit(&mut self.second.tree, &key, call),
             0..9 => edits::edit(&mut self.first.tree, &key, call),
             32 | 33 => load::<K>(self.alloc, list),
+            40 => grow::<K>(self.alloc, list, call),
             34..40 => call_table(&mut self.routes, &key, &words.probe, call),
             _ if call.on_second => read(&self.second, &self.first, &key, &end, words, call),
             _ => read(&self.first, &self.second, &key, &end, words, call),
@@ -181,6 +183,7 @@ impl<K: KeyTrait + Drop> World<K> {
             0..9 if call.on_second => model_edits::edit(&mut self.second.model, &words.key, call),
             0..9 => model_edits::edit(&mut self.first.model, &words.key, call),
             32 | 33 => wanted_load(self.alloc, list),
+            40 => wanted_grow(self.alloc, list, call),
             34..40 => wanted_of_table(&mut self.route_model, &words.key, &words.probe, call),
             _ if call.on_second => wanted_read(&self.second.model, &self.first.model, words, call),
             _ => wanted_read(&self.first.model, &self.second.model, words, call),

@@ -1,0 +1,80 @@
+//! Trees made from nothing by insertions of one kind, so that each of them stores the first and the longest key.
+use crate::call::Call;
+use crate::edits::edit;
+use crate::loads::sum_in;
+use crate::model::{Model, Pair};
+use crate::numbers::mix;
+use crate::shape::{shape_in, shape_of};
+use crate::sides::{Tree, key_of};
+use crate::text::Text;
+use crate::views::view;
+use crate::{model_edits, model_views};
+use rart::KeyTrait;
+use std::alloc::Global;
+
+/// The edits that insert a pair: the kinds of their calls.
+const WAYS: [u64; 5] = [0, 2, 3, 7, 8];
+
+/// The choice by which the callback of an update inserts.
+const INSERTS: u64 = 5;
+
+/// The call that reads all views.
+const VIEWS: u64 = 24;
+
+// The insertion of a pair, by the edit that the call chooses.
+fn insertion(pair: &Pair, call: &Call) -> Call {
+    let mut one = *call;
+    one.kind = WAYS.get((call.choice % 5) as usize).copied().unwrap_or(0);
+    one.value = pair.1;
+    one.choice = INSERTS;
+    one
+}
+
+fn all_views(call: &Call) -> Call {
+    let mut one = *call;
+    one.kind = VIEWS;
+    one
+}
+
+// The pair at a place, from the front or from behind.
+fn pair_at(list: &[Pair], place: usize, call: &Call) -> Option<Pair> {
+    let at = if call.value % 2 == 0 {
+        place
+    } else {
+        list.len().wrapping_sub(place).wrapping_sub(1)
+    };
+    list.get(at).copied()
+}
+
+/// The sum of the answers, pairs, views and statistics; none if memory was refused.
+pub fn grow<K: KeyTrait + Drop>(alloc: Global, list: &[Pair], call: &Call) -> Option<u64> {
+    let mut tree = Tree::<K>::new(alloc);
+    let mut sum = 1_u64;
+    for place in 0..list.len() {
+        let pair = pair_at(list, place, call)?;
+        let key = key_of::<K>(&pair.0)?;
+        sum = mix(sum, edit(&mut tree, &key, &insertion(&pair, call))?);
+    }
+    let end = key_of::<K>(&Text::new())?;
+    let views = view(&tree, &end, &end, &all_views(call))?;
+    Some(mix(mix(sum, mix(sum_in(&tree)?, views)), shape_in(&tree)?))
+}
+
+/// The sum that the model gives.
+pub fn wanted_grow(alloc: Global, list: &[Pair], call: &Call) -> u64 {
+    let mut model = Model::new(alloc);
+    let mut sum = 1_u64;
+    for place in 0..list.len() {
+        if let Some(pair) = pair_at(list, place, call) {
+            let answer = model_edits::edit(&mut model, &pair.0, &insertion(&pair, call));
+            sum = mix(sum, answer);
+        }
+    }
+    let none = Text::new();
+    let views = model_views::view(&model, &none, &none, &all_views(call));
+    let pairs = mix(model.sum(0, model.len(), true), views);
+    match shape_of(alloc, &model) {
+        Ok(shape) => mix(mix(sum, pairs), shape),
+        Err(_refused) => 1,
+    }
+}
