@@ -28,7 +28,7 @@ impl<K: KeyTrait> Side<K> {
     }
 }
 
-/// The key of a text, where it isn't too long.
+/// The key of a text, unless it is too long.
 pub fn key_of<K: KeyTrait>(text: &Text) -> Option<K> {
     let bytes = text.as_slice();
     match K::MAXIMUM_SIZE {

@@ -17,7 +17,7 @@ fn key_of_bytes<K: KeyTrait>(bytes: &[u8]) -> Option<K> {
     }
 }
 
-/// The key that a text becomes, where it isn't too long.
+/// The key that a text becomes, unless it is too long.
 pub fn key<K: KeyTrait>(text: &str, spelling: Spelling) -> Option<K> {
     match spelling {
         Spelling::Bytes => key_of_bytes(text.as_bytes()),

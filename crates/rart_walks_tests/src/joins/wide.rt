@@ -111,7 +111,7 @@ fn names(rt: &impl Abort, alloc: Global, pairs: &[(&'static str, Name)]) -> Name
     tree
 }
 
-// Once, where the name is that of the number: 100 where it isn't.
+// Once, if the name is that of the number, and else 100.
 fn named(number: u64, name: Name) -> usize {
     match (number, name) {
         (2, Name::Two) | (3, Name::Three) => 1,
