@@ -9,7 +9,7 @@ ghost use Rattle.rart_keys.specs.Filters.{longest_match, longest_value};
 ghost use Rattle.rart_keys.specs.KeyBytes.{IsWithin};
 ghost use Rattle.rart_keys.specs.SortedMap.{IsAscending, keys_of, longest_key, lookup};
 ghost use Rattle.rart_nodes.specs.shapes.Shape.{HasShape};
-ghost use Rattle.rart_nodes.specs.tries.Tree.{tree_nodes, tree_pairs};
+ghost use Rattle.rart_nodes.specs.tries.SeenTrees.{length_bound, seen_nodes, seen_pairs};
 ghost use Rattle.rart_nodes.specs.walks.Calls.{MayLackRoom};
 ghost use Rattle.rart.specs.Edits.{Inserts, InsertsNew, PutOrSame, Removes, TriesInsert};
 ghost use Rattle.rart.specs.Refusals.{AddsPresent, IsStoredAt};
@@ -82,10 +82,10 @@ impl<K: KeyTrait, T> RouteTable<K, T> {
 
     /// Returns a view of the table's tree that counts its node reads in a `C`. Its `_counted` calls bound their visits.
     pub fn seen<C>(&self) -> Seen<'_, K, T, C>
-        ensures pairs { tree_pairs (option_copied result.root) ≡ self.now.pairs }
-        ensures nodes { tree_nodes (option_copied result.root) ≡ self.now.nodes }
-        ensures room { longest_key self.now.pairs ≤ result.longest }
-        ensures within { IsWithin K.MAXIMUM_SIZE result.longest }
+        ensures pairs { seen_pairs result ≡ self.now.pairs }
+        ensures nodes { seen_nodes result ≡ self.now.nodes }
+        ensures room { longest_key self.now.pairs ≤ length_bound result }
+        ensures within { IsWithin K.MAXIMUM_SIZE (length_bound result) }
     {
         self.routes.seen()
     }

@@ -5,6 +5,7 @@ ghost use Rattle.std.specs.Option.{option_copied};
 ghost use Rattle.rart_keys.specs.KeyBytes.{IsWithin};
 ghost use Rattle.rart_keys.specs.SortedMap.{IsAscending, keys_of, longest_key, lookup};
 ghost use Rattle.rart_nodes.specs.shapes.Shape.{HasShape};
+ghost use Rattle.rart_nodes.specs.tries.SeenTrees.{length_bound, seen_nodes, seen_pairs};
 ghost use Rattle.rart_nodes.specs.tries.Tree.{IsCanonicalTree, tree_nodes, tree_pairs};
 ghost use Rattle.rart.specs.Edits.{Deletes, Inserts, Removes};
 
@@ -114,10 +115,10 @@ impl<K: KeyTrait, V> AdaptiveRadixTree<K, V> {
     ///
     /// The capacity of its walks is at least the length of the longest stored key.
     pub fn seen<C>(&self) -> Seen<'_, K, V, C>
-        ensures pairs { tree_pairs (option_copied result.root) ≡ self.now.pairs }
-        ensures nodes { tree_nodes (option_copied result.root) ≡ self.now.nodes }
-        ensures room { longest_key self.now.pairs ≤ result.longest }
-        ensures within { IsWithin K.MAXIMUM_SIZE result.longest }
+        ensures pairs { seen_pairs result ≡ self.now.pairs }
+        ensures nodes { seen_nodes result ≡ self.now.nodes }
+        ensures room { longest_key self.now.pairs ≤ length_bound result }
+        ensures within { IsWithin K.MAXIMUM_SIZE (length_bound result) }
     {
         Seen::of(self.root.as_ref(), self.alloc, self.longest)
     }

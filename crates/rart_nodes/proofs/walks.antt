@@ -11,4 +11,5 @@ pub mod SeenLemmas
 pub mod ShownCuts
 pub mod EntryLemmas
 pub mod WalkLemmas
+pub mod WalkStarts
 pub mod WalkVisits

@@ -1,5 +1,6 @@
 pub mod CanonicalTest
 pub mod PrefixLaws
+pub mod SeenTrees
 pub mod Tree
 pub mod Trie
 pub mod TrieCode

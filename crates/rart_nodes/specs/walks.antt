@@ -2,6 +2,7 @@ pub mod BelowPrefix
 pub mod Calls
 pub mod ChildrenCode
 pub mod Cut
+pub mod KeyViews
 pub mod Matched
 pub mod Matches
 pub mod Part
@@ -14,4 +15,5 @@ pub mod PathParts
 pub mod Tried
 pub mod ViewSegments
 pub mod Viewed
+pub mod VisitCounts
 pub mod Walks

@@ -27,15 +27,17 @@ impl Model for Visits {
 }
 
 impl Visits {
+    ghost use Rattle.rart_nodes.specs.walks.VisitCounts.{visit_count};
+
     /// Returns a counter of no visits.
     pub fn new() -> Visits
-        ensures { result.count ≡ 0 }
+        ensures { visit_count result ≡ 0 }
     {
         Visits {}
     }
 
     fn step(&mut self)
-        ensures { self.new.count ≡ self.old.count + 1 }
+        ensures { visit_count self.new ≡ visit_count self.old + 1 }
     {}
 }
 

@@ -6,8 +6,7 @@ ghost use Rattle.std.specs.Ordering.{nat_cmp};
 ghost use Rattle.rart_keys.specs.ByteStrings.{begins};
 ghost use Rattle.rart_keys.specs.Filters.{last_or, matches};
 ghost use Rattle.rart_keys.specs.KeyBytes.{IsWithin};
-ghost use Rattle.rart_nodes.specs.walks.Walk.{joined_bytes};
-ghost use Rattle.rart_nodes.specs.walks.PathParts.{lent_segments};
+ghost use Rattle.rart_nodes.specs.walks.KeyViews.{view_bytes};
 ghost use Rattle.rart_nodes.specs.walks.Calls.{MayLackRoom};
 
 use crate::tree::AdaptiveRadixTree;
@@ -64,11 +63,9 @@ pub fn longest_is_the_last_match<'a, K: KeyTrait, V>(
 ///
 /// The order is that of the view's bytes and the slice.
 pub fn comparisons_agree(view: LendingKeyView<'_, '_>, slice: &[u8]) -> (Ordering, bool)
-    ensures order { result.0
-        ≡ slice_cmp nat_cmp (joined_bytes (lent_segments view.entry.segments.now)) slice.now }
+    ensures order { result.0 ≡ slice_cmp nat_cmp (view_bytes view.entry) slice.now }
     ensures agree { IsTrue result.1 ↔ (result.0 ≡ Ordering.Equal) }
-    ensures bytes { IsTrue result.1
-        ↔ (joined_bytes (lent_segments view.entry.segments.now) ≡ slice.now) }
+    ensures bytes { IsTrue result.1 ↔ (view_bytes view.entry ≡ slice.now) }
 {
     (view.cmp_slice(slice), view.eq_slice(slice))
 }
@@ -82,9 +79,8 @@ pub fn key_of_a_view<K: KeyTrait>(
     view: LendingKeyView<'_, '_>,
     alloc: Global,
 ) -> Result<K, TreeError>
-    requires { IsWithin K.MAXIMUM_SIZE (length (joined_bytes (lent_segments view.segments.now))) }
-    ensures bytes { IfOk result
-        (λ key. K.bytes key ≡ joined_bytes (lent_segments view.entry.segments.now)) }
+    requires { IsWithin K.MAXIMUM_SIZE (length (view_bytes view)) }
+    ensures bytes { IfOk result (λ key. K.bytes key ≡ view_bytes view.entry) }
     ensures memory { IfErr result (λ e. e ≡ TreeError.Memory) }
 {
     view.to_key(alloc)

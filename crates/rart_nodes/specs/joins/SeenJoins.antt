@@ -1,24 +1,30 @@
 -- Intersections of two trees that are shared.
-use Rattle.std.specs.Prelude.{ℕ, ◌≡◌, ◌≢◌, ◌+◌, ◌-◌, [], List, Option, length}
-use Rattle.std.specs.Borrow.{Bor}
+use Rattle.std.specs.Prelude.{ℕ, ◌≡◌, ◌≢◌, ◌+◌, ◌-◌, [], List, length}
+use Rattle.std.specs.declared.cmp.Ord as ord
+use Rattle.std.specs.declared.cmp.PartialEq as equality
+use Rattle.std.specs.declared.cmp.PartialOrd as partial_ord
 use Rattle.rart_parts.specs.declared.error.TreeError.{TreeError}
 use Rattle.rart_parts.specs.declared.error.TreeError.TheVariants.{Memory}
 use Rattle.rart_keys.specs.Joins.{join}
+use Rattle.rart_keys.specs.declared.keys.KeyTrait as keys
+use Rattle.rart_keys.specs.declared.partials.Partial as partials
+use Rattle.rart_nodes.specs.declared.node.seen.Seen.{Seen}
 use Rattle.rart_nodes.specs.joins.SharedEdges.{joint_visits}
-use Rattle.rart_nodes.specs.tries.Tree.{seen_keys, seen_nodes, seen_pairs}
-use Rattle.rart_nodes.specs.tries.Trie.{Trie}
+use Rattle.rart_nodes.specs.tries.SeenTrees.{seen_keys, seen_nodes, seen_pairs}
 
--- the keys of both, each with both values
-abbrev pub seen_join : {V W : Type 0} → Option (Bor (Trie V)) → Option (Bor (Trie W)) → List (List ℕ × (V × W))
-seen_join t u = join (seen_pairs t) (seen_pairs u)
+module _ {K V W C D P : Type 0} {k : keys.Ghosts K P} {e : equality.Ghosts K} {o : ord.Ghosts K}
+    {q : partial_ord.Ghosts K} {p : partials.Ghosts P} where
+  -- the keys of both, each with both values
+  abbrev pub seen_join : Seen K V C P k e o q p → Seen K W D P k e o q p → List (List ℕ × (V × W))
+  seen_join s t = join (seen_pairs s) (seen_pairs t)
 
--- the visits of an intersection of them
-abbrev pub seen_visits : {V W : Type 0} → Option (Bor (Trie V)) → Option (Bor (Trie W)) → ℕ
-seen_visits t u = joint_visits (seen_keys t) (seen_keys u)
+  -- the visits of an intersection of them
+  abbrev pub seen_visits : Seen K V C P k e o q p → Seen K W D P k e o q p → ℕ
+  seen_visits s t = joint_visits (seen_keys s) (seen_keys t)
 
--- at least as many: the nodes of both together less one; 0 where neither has any
-abbrev pub seen_bound : {V W : Type 0} → Option (Bor (Trie V)) → Option (Bor (Trie W)) → ℕ
-seen_bound t u = length (seen_nodes t) + length (seen_nodes u) - 1
+  -- at least as many: the nodes of both together less one; 0 where neither has any
+  abbrev pub seen_bound : Seen K V C P k e o q p → Seen K W D P k e o q p → ℕ
+  seen_bound s t = length (seen_nodes s) + length (seen_nodes t) - 1
 
 -- memory was refused, and both have pairs
 abbrev pub MayLackBoth : {A B : Type 0} → List A → List B → TreeError → Type 0

@@ -5,6 +5,7 @@ use Rattle.std.specs.Fn.{Mut, Once, Called, Takes}
 use Rattle.std.specs.List.{FoldsTo}
 use Rattle.rart_nodes.specs.walks.Calls.{CallableAtEach, CallsEach}
 use Rattle.rart_nodes.specs.walks.Cut.{cut}
+use Rattle.rart_nodes.specs.walks.KeyViews.{view_segments}
 use Rattle.rart_nodes.specs.walks.Walk.{SegmentList}
 use Rattle.rart_nodes.specs.walks.PathParts.{lent_segments}
 use Rattle.rart_nodes.specs.declared.node.path.SegmentPath.{SegmentPath}
@@ -15,14 +16,14 @@ pub record Viewed {F V : Type 0} (g : Mut F (LendingKeyView × (Bor V × Unit {0
     × V) (f' : F) : Type 0 where
   pub key : LendingKeyView
   pub shown : Bor V
-  pub key_is : lent_segments key.segments.now ≡ x.0
+  pub key_is : view_segments key ≡ x.0
   pub shows : shown.now ≡ x.1
   pub called : Called g f (key, (shown, tt)) tt f'
 
 module _ {F V : Type 0} (g : Mut F (LendingKeyView × (Bor V × Unit {0})) (Unit {0})) where
   -- f may be called with a view of the segments of x and with its value
   abbrev pub TakesView : F → SegmentList × V → Type 0
-  TakesView f x = (key : LendingKeyView) (shown : Bor V) → lent_segments key.segments.now ≡ x.0 → shown.now ≡ x.1
+  TakesView f x = (key : LendingKeyView) (shown : Bor V) → view_segments key ≡ x.0 → shown.now ≡ x.1
       → Takes g f (key, (shown, tt))
 
   -- f may be called with a view of each pair in turn
@@ -47,7 +48,7 @@ CanShowFound g f s (Some e) = TakesView g f (cut s e.0, e.1)
 abbrev pub CanSeeFound : {F V : Type 0} → Once F (LendingKeyView × (Bor V × Unit {0})) (Unit {0}) → F → List (List ℕ)
     → Option (List ℕ × V) → Type 0
 CanSeeFound g f s None = Unit {0}
-CanSeeFound {F} {V} g f s (Some e) = (key : LendingKeyView) (shown : Bor V) → lent_segments key.segments.now ≡ cut s e.0
+CanSeeFound {F} {V} g f s (Some e) = (key : LendingKeyView) (shown : Bor V) → view_segments key ≡ cut s e.0
     → shown.now ≡ e.1 → g.pre f (key, (shown, tt))
 
 -- f was called once, with a view of the segments of x and with its value
@@ -55,7 +56,7 @@ pub record ViewedOnce {F V : Type 0} (g : Once F (LendingKeyView × (Bor V × Un
     (x : SegmentList × V) : Type 0 where
   pub key : LendingKeyView
   pub shown : Bor V
-  pub key_is : lent_segments key.segments.now ≡ x.0
+  pub key_is : view_segments key ≡ x.0
   pub shows : shown.now ≡ x.1
   pub called : g.post f (key, (shown, tt)) tt
 

@@ -10,7 +10,7 @@ ghost use Rattle.rart_nodes.specs.joins.SeenJoins.{MayLackBoth, seen_bound, seen
 ghost use Rattle.rart_nodes.specs.joins.SharedEdges.{joint_visits, more_visits};
 ghost use Rattle.rart_nodes.specs.joins.ViewCalls.{CanViewAt, ViewedAtEach, ViewsAtEach};
 ghost use Rattle.rart_nodes.specs.joins.JoinPaths.{WayGrown};
-ghost use Rattle.rart_nodes.specs.tries.Tree.{seen_keys, seen_nodes, seen_pairs};
+ghost use Rattle.rart_nodes.specs.tries.SeenTrees.{seen_keys, seen_nodes, seen_pairs};
 ghost use Rattle.rart_nodes.specs.tries.Trie.{pairs_of};
 
 mod aligned;
@@ -74,15 +74,14 @@ fn intersect_trees<'a, K: KeyTrait, V, W, C: Count, F, T: Visitor<V, W, F>>(
     counter: &mut C,
     f: &mut F,
 )
-    requires room { T.room way.old (longest_key (seen_pairs left.root)) }
-    requires callable { CanGive T.can T.given way.old f.old (seen_join left.root right.root) }
+    requires room { T.room way.old (longest_key (seen_pairs left)) }
+    requires callable { CanGive T.can T.given way.old f.old (seen_join left right) }
     ensures given { T.given way.old f.old
-        (join (seen_pairs left.entry.root) (seen_pairs right.entry.root)) f.new }
+        (join (seen_pairs left.entry) (seen_pairs right.entry)) f.new }
     ensures visits { C.number counter.new
-        ≡ C.number counter.old + joint_visits (seen_keys left.entry.root)
-        (seen_keys right.entry.root) }
+        ≡ C.number counter.old + joint_visits (seen_keys left.entry) (seen_keys right.entry) }
     ensures bound { C.number counter.new ≤ C.number counter.old
-        + (length (seen_nodes left.entry.root) + length (seen_nodes right.entry.root) - 1) }
+        + (length (seen_nodes left.entry) + length (seen_nodes right.entry) - 1) }
 {
     let Some(left_top) = left.top() else {
         return;
@@ -106,12 +105,11 @@ impl<'a, K: KeyTrait, V, C: Count> Seen<'a, K, V, C> {
         other: Seen<'b, K, W, Paired<C>>,
         counter: &mut C,
     ) -> usize
-        ensures count { result
-            ≡ min (length (seen_join self.entry.root other.entry.root)) usize.MAX }
+        ensures count { result ≡ min (length (seen_join self.entry other.entry)) usize.MAX }
         ensures visits { C.number counter.new
-            ≡ C.number counter.old + seen_visits self.entry.root other.entry.root }
+            ≡ C.number counter.old + seen_visits self.entry other.entry }
         ensures bound { C.number counter.new
-            ≤ C.number counter.old + seen_bound self.entry.root other.entry.root }
+            ≤ C.number counter.old + seen_bound self.entry other.entry }
     {
         let mut count = 0;
         intersect_trees::<K, V, W, C, usize, Counted>(
@@ -136,14 +134,14 @@ impl<'a, K: KeyTrait, V, C: Count> Seen<'a, K, V, C> {
         f: &mut F,
         counter: &mut C,
     )
-        requires callable { CanCallWith F.FnMut f.old (values_of (seen_join self.root other.root)) }
+        requires callable { CanCallWith F.FnMut f.old (values_of (seen_join self other)) }
         ensures callable { F.IsAlwaysCallable f.old → F.IsAlwaysCallable f.new }
         ensures calls { CallsWithEach F.FnMut f.old
-            (values_of (seen_join self.entry.root other.entry.root)) f.new }
+            (values_of (seen_join self.entry other.entry)) f.new }
         ensures visits { C.number counter.new
-            ≡ C.number counter.old + seen_visits self.entry.root other.entry.root }
+            ≡ C.number counter.old + seen_visits self.entry other.entry }
         ensures bound { C.number counter.new
-            ≤ C.number counter.old + seen_bound self.entry.root other.entry.root }
+            ≤ C.number counter.old + seen_bound self.entry other.entry }
     {
         intersect_trees::<K, V, W, C, F, ByValues>(self, other, &mut JoinPath::Untold, counter, f);
     }
@@ -159,13 +157,12 @@ impl<'a, K: KeyTrait, V, C: Count> Seen<'a, K, V, C> {
         mut f: F,
         counter: &mut C,
     )
-        requires callable { CanCallWith F.FnMut f (values_of (seen_join self.root other.root)) }
-        ensures calls { CalledWithEach F.FnMut f
-            (values_of (seen_join self.entry.root other.entry.root)) }
+        requires callable { CanCallWith F.FnMut f (values_of (seen_join self other)) }
+        ensures calls { CalledWithEach F.FnMut f (values_of (seen_join self.entry other.entry)) }
         ensures visits { C.number counter.new
-            ≡ C.number counter.old + seen_visits self.entry.root other.entry.root }
+            ≡ C.number counter.old + seen_visits self.entry other.entry }
         ensures bound { C.number counter.new
-            ≤ C.number counter.old + seen_bound self.entry.root other.entry.root }
+            ≤ C.number counter.old + seen_bound self.entry other.entry }
     {
         self.intersect_values_with_by_ref_counted(other, &mut f, counter);
     }
@@ -187,18 +184,18 @@ impl<'a, K: KeyTrait, V, C: Count> Seen<'a, K, V, C> {
         f: &mut F,
         counter: &mut C,
     ) -> Result<(), TreeError>
-        requires callable { CanCallAt F.FnMut K.bytes f.old (seen_join self.root other.root) }
+        requires callable { CanCallAt F.FnMut K.bytes f.old (seen_join self other) }
         ensures callable { F.IsAlwaysCallable f.old → F.IsAlwaysCallable f.new }
         ensures calls { OnOk result (CallsAtEach F.FnMut K.bytes f.old
-            (seen_join self.entry.root other.entry.root) f.new) }
+            (seen_join self.entry other.entry) f.new) }
         ensures memory { IfErr result
-            (MayLackBoth (seen_pairs self.entry.root) (seen_pairs other.entry.root)) }
+            (MayLackBoth (seen_pairs self.entry) (seen_pairs other.entry)) }
         ensures unchanged { OnErr result
             ((f.new ≡ f.old) × (C.number counter.new ≡ C.number counter.old)) }
         ensures visits { OnOk result (C.number counter.new
-            ≡ C.number counter.old + seen_visits self.entry.root other.entry.root) }
+            ≡ C.number counter.old + seen_visits self.entry other.entry) }
         ensures bound { C.number counter.new
-            ≤ C.number counter.old + seen_bound self.entry.root other.entry.root }
+            ≤ C.number counter.old + seen_bound self.entry other.entry }
     {
         let Some(_) = self.top() else {
             return Ok(());
@@ -227,16 +224,16 @@ impl<'a, K: KeyTrait, V, C: Count> Seen<'a, K, V, C> {
         mut f: F,
         counter: &mut C,
     ) -> Result<(), TreeError>
-        requires callable { CanCallAt F.FnMut K.bytes f (seen_join self.root other.root) }
+        requires callable { CanCallAt F.FnMut K.bytes f (seen_join self other) }
         ensures calls { OnOk result (CalledAtEach F.FnMut K.bytes f
-            (seen_join self.entry.root other.entry.root)) }
+            (seen_join self.entry other.entry)) }
         ensures memory { IfErr result
-            (MayLackBoth (seen_pairs self.entry.root) (seen_pairs other.entry.root)) }
+            (MayLackBoth (seen_pairs self.entry) (seen_pairs other.entry)) }
         ensures unvisited { OnErr result (C.number counter.new ≡ C.number counter.old) }
         ensures visits { OnOk result (C.number counter.new
-            ≡ C.number counter.old + seen_visits self.entry.root other.entry.root) }
+            ≡ C.number counter.old + seen_visits self.entry other.entry) }
         ensures bound { C.number counter.new
-            ≤ C.number counter.old + seen_bound self.entry.root other.entry.root }
+            ≤ C.number counter.old + seen_bound self.entry other.entry }
     {
         self.intersect_with_by_ref_counted(other, &mut f, counter)
     }
@@ -259,18 +256,18 @@ impl<'a, K: KeyTrait, V, C: Count> Seen<'a, K, V, C> {
         f: &mut F,
         counter: &mut C,
     ) -> Result<(), TreeError>
-        requires callable { CanViewAt F.FnMut f.old (seen_join self.root other.root) }
+        requires callable { CanViewAt F.FnMut f.old (seen_join self other) }
         ensures callable { F.IsAlwaysCallable f.old → F.IsAlwaysCallable f.new }
         ensures calls { OnOk result (ViewsAtEach F.FnMut f.old
-            (seen_join self.entry.root other.entry.root) f.new) }
+            (seen_join self.entry other.entry) f.new) }
         ensures memory { IfErr result
-            (MayLackBoth (seen_pairs self.entry.root) (seen_pairs other.entry.root)) }
+            (MayLackBoth (seen_pairs self.entry) (seen_pairs other.entry)) }
         ensures unchanged { OnErr result
             ((f.new ≡ f.old) × (C.number counter.new ≡ C.number counter.old)) }
         ensures visits { OnOk result (C.number counter.new
-            ≡ C.number counter.old + seen_visits self.entry.root other.entry.root) }
+            ≡ C.number counter.old + seen_visits self.entry other.entry) }
         ensures bound { C.number counter.new
-            ≤ C.number counter.old + seen_bound self.entry.root other.entry.root }
+            ≤ C.number counter.old + seen_bound self.entry other.entry }
     {
         let Some(_) = self.top() else {
             return Ok(());
@@ -299,16 +296,15 @@ impl<'a, K: KeyTrait, V, C: Count> Seen<'a, K, V, C> {
         mut f: F,
         counter: &mut C,
     ) -> Result<(), TreeError>
-        requires callable { CanViewAt F.FnMut f (seen_join self.root other.root) }
-        ensures calls { OnOk result (ViewedAtEach F.FnMut f
-            (seen_join self.entry.root other.entry.root)) }
+        requires callable { CanViewAt F.FnMut f (seen_join self other) }
+        ensures calls { OnOk result (ViewedAtEach F.FnMut f (seen_join self.entry other.entry)) }
         ensures memory { IfErr result
-            (MayLackBoth (seen_pairs self.entry.root) (seen_pairs other.entry.root)) }
+            (MayLackBoth (seen_pairs self.entry) (seen_pairs other.entry)) }
         ensures unvisited { OnErr result (C.number counter.new ≡ C.number counter.old) }
         ensures visits { OnOk result (C.number counter.new
-            ≡ C.number counter.old + seen_visits self.entry.root other.entry.root) }
+            ≡ C.number counter.old + seen_visits self.entry other.entry) }
         ensures bound { C.number counter.new
-            ≤ C.number counter.old + seen_bound self.entry.root other.entry.root }
+            ≤ C.number counter.old + seen_bound self.entry other.entry }
     {
         self.intersect_lending_with_by_ref_counted(other, &mut f, counter)
     }

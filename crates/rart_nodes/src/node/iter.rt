@@ -6,7 +6,7 @@ ghost use Rattle.std.specs.Option.{option_copied};
 ghost use Rattle.rart_keys.specs.Filters.{below};
 ghost use Rattle.rart_keys.specs.Ranges.{pairs_from};
 ghost use Rattle.rart_keys.specs.SortedMap.{count_of, values_of};
-ghost use Rattle.rart_nodes.specs.tries.Tree.{seen_keys, seen_pairs};
+ghost use Rattle.rart_nodes.specs.tries.SeenTrees.{seen_keys, seen_pairs, seen_tree};
 ghost use Rattle.rart_nodes.specs.walks.ProbeCount.{VisitsAtMost, probe_count};
 ghost use Rattle.rart_nodes.specs.walks.Calls.{MayLackRoom};
 
@@ -169,10 +169,10 @@ impl<'a, K: KeyTrait, V> Iterator for ValuesIter<'a, K, V> {
 
 impl<'a, K: KeyTrait, V, C: Count> Seen<'a, K, V, C> {
     fn key_walk(self, counter: &mut C) -> Result<KeyWalk<'a, K, K::PartialType, V, C>, TreeError>
-        ensures pairs { IfOk result (λ it. it ≡ seen_pairs self.entry.root) }
-        ensures memory { IfErr result (MayLackRoom (seen_pairs self.entry.root)) }
+        ensures pairs { IfOk result (λ it. it ≡ seen_pairs self.entry) }
+        ensures memory { IfErr result (MayLackRoom (seen_pairs self.entry)) }
         ensures visits { C.number counter.new
-            ≡ C.number counter.old + count_of (option_copied self.entry.root) }
+            ≡ C.number counter.old + count_of (seen_tree self.entry) }
     {
         let (walk, path) = self.walk(counter)?;
         Ok(KeyWalk {
@@ -192,10 +192,10 @@ impl<'a, K: KeyTrait, V, C: Count> Seen<'a, K, V, C> {
     ///
     /// The root, or none of an empty tree.
     pub fn iter_counted(self, counter: &mut C) -> Result<SeenIter<'a, K, V, C>, TreeError>
-        ensures pairs { IfOk result (λ it. it ≡ seen_pairs self.entry.root) }
-        ensures memory { IfErr result (MayLackRoom (seen_pairs self.entry.root)) }
+        ensures pairs { IfOk result (λ it. it ≡ seen_pairs self.entry) }
+        ensures memory { IfErr result (MayLackRoom (seen_pairs self.entry)) }
         ensures visits { C.number counter.new
-            ≡ C.number counter.old + count_of (option_copied self.entry.root) }
+            ≡ C.number counter.old + count_of (seen_tree self.entry) }
         ensures bound { C.number counter.new ≤ C.number counter.old + 1 }
     {
         let pairs = self.key_walk(counter)?;
@@ -220,10 +220,10 @@ impl<'a, K: KeyTrait, V, C: Count> Seen<'a, K, V, C> {
         counter: &mut C,
     ) -> Result<KeyWalk<'a, K, K::PartialType, V, C>, TreeError>
         ensures pairs { IfOk result
-            (λ it. it ≡ pairs_from included start.now (seen_pairs self.entry.root)) }
-        ensures memory { IfErr result (MayLackRoom (seen_pairs self.entry.root)) }
+            (λ it. it ≡ pairs_from included start.now (seen_pairs self.entry)) }
+        ensures memory { IfErr result (MayLackRoom (seen_pairs self.entry)) }
         ensures visits { IfOk result (λ _. C.number counter.new
-            ≡ C.number counter.old + probe_count (seen_keys self.entry.root) start.now) }
+            ≡ C.number counter.old + probe_count (seen_keys self.entry) start.now) }
         ensures bound { C.number counter.new ≤ C.number counter.old + length start.now + 1 }
     {
         let (walk, path) = self.walk_from(start, included, counter)?;
@@ -241,10 +241,10 @@ impl<'a, K: KeyTrait, V, C: Count> Seen<'a, K, V, C> {
         prefix: &[u8],
         counter: &mut C,
     ) -> Result<KeyWalk<'a, K, K::PartialType, V, C>, TreeError>
-        ensures pairs { IfOk result (λ it. it ≡ below prefix.now (seen_pairs self.entry.root)) }
-        ensures memory { IfErr result (MayLackRoom (seen_pairs self.entry.root)) }
+        ensures pairs { IfOk result (λ it. it ≡ below prefix.now (seen_pairs self.entry)) }
+        ensures memory { IfErr result (MayLackRoom (seen_pairs self.entry)) }
         ensures visits { IfOk result (λ _. C.number counter.new
-            ≡ C.number counter.old + probe_count (seen_keys self.entry.root) prefix.now) }
+            ≡ C.number counter.old + probe_count (seen_keys self.entry) prefix.now) }
         ensures bound { C.number counter.new ≤ C.number counter.old + length prefix.now + 1 }
     {
         let (walk, path) = self.walk_below(prefix, counter)?;
@@ -270,10 +270,10 @@ impl<'a, K: KeyTrait, V, C: Count> Seen<'a, K, V, C> {
         counter: &mut C,
     ) -> Result<SeenIter<'a, K, V, C>, TreeError>
         ensures pairs { IfOk result
-            (λ it. it ≡ below (K.bytes prefix.now) (seen_pairs self.entry.root)) }
-        ensures memory { IfErr result (MayLackRoom (seen_pairs self.entry.root)) }
+            (λ it. it ≡ below (K.bytes prefix.now) (seen_pairs self.entry)) }
+        ensures memory { IfErr result (MayLackRoom (seen_pairs self.entry)) }
         ensures visits { IfOk result (λ _. C.number counter.new
-            ≡ C.number counter.old + probe_count (seen_keys self.entry.root) (K.bytes prefix.now)) }
+            ≡ C.number counter.old + probe_count (seen_keys self.entry) (K.bytes prefix.now)) }
         ensures bound { C.number counter.new
             ≤ C.number counter.old + length (K.bytes prefix.now) + 1 }
     {
@@ -290,8 +290,8 @@ impl<'a, K: KeyTrait, V> Seen<'a, K, V, Visits> {
     /// [`TreeError::Memory`] if the tree isn't empty and the allocation fails.
     pub fn prefix_iter_k(self, prefix: &K) -> Result<Iter<'a, K, K::PartialType, V>, TreeError>
         ensures pairs { IfOk result
-            (λ it. it ≡ below (K.bytes prefix.now) (seen_pairs self.entry.root)) }
-        ensures memory { IfErr result (MayLackRoom (seen_pairs self.entry.root)) }
+            (λ it. it ≡ below (K.bytes prefix.now) (seen_pairs self.entry)) }
+        ensures memory { IfErr result (MayLackRoom (seen_pairs self.entry)) }
     {
         let pairs = self.prefix_iter_k_counted(prefix, &mut Visits::new())?;
         Ok(Iter {
@@ -306,8 +306,8 @@ impl<'a, K: KeyTrait, V> Seen<'a, K, V, Visits> {
     ///
     /// [`TreeError::Memory`] if the tree isn't empty and the allocation fails.
     pub fn iter(self) -> Result<Iter<'a, K, K::PartialType, V>, TreeError>
-        ensures pairs { IfOk result (λ it. it ≡ seen_pairs self.entry.root) }
-        ensures memory { IfErr result (MayLackRoom (seen_pairs self.entry.root)) }
+        ensures pairs { IfOk result (λ it. it ≡ seen_pairs self.entry) }
+        ensures memory { IfErr result (MayLackRoom (seen_pairs self.entry)) }
     {
         let pairs = self.iter_counted(&mut Visits::new())?;
         Ok(Iter {
@@ -322,8 +322,8 @@ impl<'a, K: KeyTrait, V> Seen<'a, K, V, Visits> {
     ///
     /// [`TreeError::Memory`] if the tree isn't empty and the allocation fails.
     pub fn values_iter(self) -> Result<ValuesIter<'a, K, V>, TreeError>
-        ensures values { IfOk result (λ it. it ≡ values_of (seen_pairs self.entry.root)) }
-        ensures memory { IfErr result (MayLackRoom (seen_pairs self.entry.root)) }
+        ensures values { IfOk result (λ it. it ≡ values_of (seen_pairs self.entry)) }
+        ensures memory { IfErr result (MayLackRoom (seen_pairs self.entry)) }
     {
         let (walk, _path) = self.walk::<NoPath>(&mut Visits::new())?;
         Ok(ValuesIter { walk })

@@ -5,7 +5,7 @@ ghost use Rattle.std.specs.Prelude.{◌≡◌, ◌≤◌, ◌+◌, length, take,
 ghost use Rattle.std.specs.Iterator.{YieldsFirstBy, item_count};
 ghost use Rattle.std.specs.Option.{option_copied};
 ghost use Rattle.rart_keys.specs.Filters.{longest_match, longest_value, matches};
-ghost use Rattle.rart_nodes.specs.tries.Tree.{seen_keys, seen_pairs};
+ghost use Rattle.rart_nodes.specs.tries.SeenTrees.{seen_keys, seen_pairs, seen_tree};
 ghost use Rattle.rart_nodes.specs.walks.Matched.{CanMatch, MatchedEach, MatchesEach};
 ghost use Rattle.rart_nodes.specs.walks.Matches.{PassesTo, entered_left, matches_left};
 ghost use Rattle.rart_nodes.specs.walks.ProbeCount.{probe_count};
@@ -79,7 +79,7 @@ impl<'a, P: Partial, V, C: Count> Matching<'a, P, V, C> {
 
 impl<'a, K: KeyTrait, V, C: Count> Seen<'a, K, V, C> {
     fn matching(self) -> Matching<'a, K::PartialType, V, C>
-        ensures below { option_map (λ s. s.node.now) result.below ≡ option_copied self.entry.root }
+        ensures below { option_map (λ s. s.node.now) result.below ≡ seen_tree self.entry }
         ensures depth { result.depth ≡ 0 }
     {
         Matching {
@@ -91,10 +91,10 @@ impl<'a, K: KeyTrait, V, C: Count> Seen<'a, K, V, C> {
     /// Returns the length and the value of the longest key that begins the probe.
     pub(crate) fn last_match(self, probe: &[u8], counter: &mut C) -> Option<(usize, &'a V)>
         ensures pair { option_map (λ p. (take p.0 probe.now, p.1.now)) result
-            ≡ longest_match probe.now (seen_pairs self.entry.root) }
+            ≡ longest_match probe.now (seen_pairs self.entry) }
         ensures within { IfSome result (λ p. p.0 ≤ length probe.now) }
         ensures visits { C.number counter.new ≡ C.number counter.old
-            + probe_count (seen_keys self.entry.root) probe.now }
+            + probe_count (seen_keys self.entry) probe.now }
         ensures bound { C.number counter.new ≤ C.number counter.old + length probe.now + 1 }
     {
         let mut matching = self.matching();
@@ -112,9 +112,9 @@ impl<'a, K: KeyTrait, V, C: Count> Seen<'a, K, V, C> {
     /// At most `probe.len() + 1` nodes.
     pub fn longest_prefix_match_k_counted(self, probe: &K, counter: &mut C) -> Option<(K, &'a V)>
         ensures pair { option_map (λ p. (K.bytes p.0, p.1.now)) result
-            ≡ longest_match (K.bytes probe.now) (seen_pairs self.entry.root) }
+            ≡ longest_match (K.bytes probe.now) (seen_pairs self.entry) }
         ensures visits { C.number counter.new
-            ≡ C.number counter.old + probe_count (seen_keys self.entry.root) (K.bytes probe.now) }
+            ≡ C.number counter.old + probe_count (seen_keys self.entry) (K.bytes probe.now) }
         ensures bound { C.number counter.new
             ≤ C.number counter.old + length (K.bytes probe.now) + 1 }
     {
@@ -129,10 +129,9 @@ impl<'a, K: KeyTrait, V, C: Count> Seen<'a, K, V, C> {
     ///
     /// At most `probe.len() + 1` nodes.
     pub fn longest_prefix_value_bytes_counted(self, probe: &[u8], counter: &mut C) -> Option<&'a V>
-        ensures value { option_copied result
-            ≡ longest_value probe.now (seen_pairs self.entry.root) }
+        ensures value { option_copied result ≡ longest_value probe.now (seen_pairs self.entry) }
         ensures visits { C.number counter.new ≡ C.number counter.old
-            + probe_count (seen_keys self.entry.root) probe.now }
+            + probe_count (seen_keys self.entry) probe.now }
         ensures bound { C.number counter.new ≤ C.number counter.old + length probe.now + 1 }
     {
         let (_, value) = self.last_match(probe, counter)?;
@@ -146,9 +145,9 @@ impl<'a, K: KeyTrait, V, C: Count> Seen<'a, K, V, C> {
     /// At most `probe.len() + 1` nodes.
     pub fn longest_prefix_value_k_counted(self, probe: &K, counter: &mut C) -> Option<&'a V>
         ensures value { option_copied result
-            ≡ longest_value (K.bytes probe.now) (seen_pairs self.entry.root) }
+            ≡ longest_value (K.bytes probe.now) (seen_pairs self.entry) }
         ensures visits { C.number counter.new
-            ≡ C.number counter.old + probe_count (seen_keys self.entry.root) (K.bytes probe.now) }
+            ≡ C.number counter.old + probe_count (seen_keys self.entry) (K.bytes probe.now) }
         ensures bound { C.number counter.new
             ≤ C.number counter.old + length (K.bytes probe.now) + 1 }
     {
@@ -156,12 +155,12 @@ impl<'a, K: KeyTrait, V, C: Count> Seen<'a, K, V, C> {
     }
 
     fn each_match<F: FnMut(&[u8], &V)>(self, probe: &[u8], f: &mut F, counter: &mut C)
-        requires callable { CanMatch F.FnMut f.old (matches probe.now (seen_pairs self.root)) }
+        requires callable { CanMatch F.FnMut f.old (matches probe.now (seen_pairs self)) }
         ensures callable { F.IsAlwaysCallable f.old → F.IsAlwaysCallable f.new }
         ensures calls { MatchesEach F.FnMut f.old
-            (matches probe.now (seen_pairs self.entry.root)) f.new }
+            (matches probe.now (seen_pairs self.entry)) f.new }
         ensures visits { C.number counter.new ≡ C.number counter.old
-            + probe_count (seen_keys self.entry.root) probe.now }
+            + probe_count (seen_keys self.entry) probe.now }
         ensures bound { C.number counter.new ≤ C.number counter.old + length probe.now + 1 }
     {
         let mut matching = self.matching();
@@ -182,13 +181,12 @@ impl<'a, K: KeyTrait, V, C: Count> Seen<'a, K, V, C> {
         f: &mut F,
         counter: &mut C,
     )
-        requires callable { CanMatch F.FnMut f.old
-            (matches (K.bytes probe.now) (seen_pairs self.root)) }
+        requires callable { CanMatch F.FnMut f.old (matches (K.bytes probe.now) (seen_pairs self)) }
         ensures callable { F.IsAlwaysCallable f.old → F.IsAlwaysCallable f.new }
         ensures calls { MatchesEach F.FnMut f.old
-            (matches (K.bytes probe.now) (seen_pairs self.entry.root)) f.new }
+            (matches (K.bytes probe.now) (seen_pairs self.entry)) f.new }
         ensures visits { C.number counter.new
-            ≡ C.number counter.old + probe_count (seen_keys self.entry.root) (K.bytes probe.now) }
+            ≡ C.number counter.old + probe_count (seen_keys self.entry) (K.bytes probe.now) }
         ensures bound { C.number counter.new
             ≤ C.number counter.old + length (K.bytes probe.now) + 1 }
     {
@@ -206,12 +204,11 @@ impl<'a, K: KeyTrait, V, C: Count> Seen<'a, K, V, C> {
         mut f: F,
         counter: &mut C,
     )
-        requires callable { CanMatch F.FnMut f
-            (matches (K.bytes probe.now) (seen_pairs self.root)) }
+        requires callable { CanMatch F.FnMut f (matches (K.bytes probe.now) (seen_pairs self)) }
         ensures calls { MatchedEach F.FnMut f
-            (matches (K.bytes probe.now) (seen_pairs self.entry.root)) }
+            (matches (K.bytes probe.now) (seen_pairs self.entry)) }
         ensures visits { C.number counter.new
-            ≡ C.number counter.old + probe_count (seen_keys self.entry.root) (K.bytes probe.now) }
+            ≡ C.number counter.old + probe_count (seen_keys self.entry) (K.bytes probe.now) }
         ensures bound { C.number counter.new
             ≤ C.number counter.old + length (K.bytes probe.now) + 1 }
     {
@@ -269,7 +266,7 @@ impl<'a, K: KeyTrait, V> Seen<'a, K, V, Visits> {
     /// Returns an iterator over the pairs whose key begins `probe`, the shortest first. It copies the probe and visits
     /// no node.
     pub fn prefix_match_iter_k(self, probe: &K) -> PrefixMatchIter<'a, K, K::PartialType, V>
-        ensures { result ≡ matches (K.bytes probe.now) (seen_pairs self.entry.root) }
+        ensures { result ≡ matches (K.bytes probe.now) (seen_pairs self.entry) }
     {
         PrefixMatchIter {
             matching: self.matching(),

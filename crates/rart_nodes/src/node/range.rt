@@ -9,7 +9,7 @@ ghost use Rattle.std.specs.declared.ops.Bound.TheVariants.{Unbounded};
 ghost use Rattle.rart_keys.specs.SortedMap.{IsAscending};
 ghost use Rattle.rart_keys.specs.Ranges.{between, bound_bytes, bound_in, is_inclusive, is_to, pairs_from, up_to};
 ghost use Rattle.rart_nodes.specs.ranges.Starts.{TakesUpTo, bytes_taken};
-ghost use Rattle.rart_nodes.specs.tries.Tree.{seen_keys, seen_pairs};
+ghost use Rattle.rart_nodes.specs.tries.SeenTrees.{seen_keys, seen_pairs};
 ghost use Rattle.rart_nodes.specs.walks.ProbeCount.{probe_count};
 ghost use Rattle.rart_nodes.specs.walks.Calls.{MayLackRoom};
 
@@ -205,15 +205,13 @@ impl<'a, K: KeyTrait + Drop, V, C: Count> Seen<'a, K, V, C> {
         counter: &mut C,
     ) -> Result<BoundedWalk<'a, K, K::PartialType, V, C>, TreeError>
         ensures pairs { IfOk result (λ r. up_to r.0 r.1
-            ≡ between (bound_in K.bytes start) (bound_in K.bytes end)
-            (seen_pairs self.entry.root)) }
+            ≡ between (bound_in K.bytes start) (bound_in K.bytes end) (seen_pairs self.entry)) }
         ensures end { IfOk result (λ r. r.0 ≡ bound_in K.bytes end) }
         ensures ahead { IfOk result (λ r. r.1 ≡ pairs_from (is_inclusive (bound_in K.bytes start))
-            (bound_bytes (bound_in K.bytes start)) (seen_pairs self.entry.root)) }
-        ensures memory { IfErr result (MayLackRoom (seen_pairs self.entry.root)) }
-        ensures visits { IfOk result (λ _. C.number counter.new
-            ≡ C.number counter.old
-            + probe_count (seen_keys self.entry.root) (bound_bytes (bound_in K.bytes start))) }
+            (bound_bytes (bound_in K.bytes start)) (seen_pairs self.entry)) }
+        ensures memory { IfErr result (MayLackRoom (seen_pairs self.entry)) }
+        ensures visits { IfOk result (λ _. C.number counter.new ≡ C.number counter.old
+            + probe_count (seen_keys self.entry) (bound_bytes (bound_in K.bytes start))) }
         ensures bound { C.number counter.new
             ≤ C.number counter.old + length (bound_bytes (bound_in K.bytes start))
             + 1 }
@@ -242,15 +240,13 @@ impl<'a, K: KeyTrait + Drop, V, C: Count> Seen<'a, K, V, C> {
         counter: &mut C,
     ) -> Result<SeenRange<'a, K, V, C>, TreeError>
         ensures pairs { IfOk result (λ r. up_to r.0 r.1
-            ≡ between (bound_in K.bytes start) (bound_in K.bytes end)
-            (seen_pairs self.entry.root)) }
+            ≡ between (bound_in K.bytes start) (bound_in K.bytes end) (seen_pairs self.entry)) }
         ensures end { IfOk result (λ r. r.0 ≡ bound_in K.bytes end) }
         ensures ahead { IfOk result (λ r. r.1 ≡ pairs_from (is_inclusive (bound_in K.bytes start))
-            (bound_bytes (bound_in K.bytes start)) (seen_pairs self.entry.root)) }
-        ensures memory { IfErr result (MayLackRoom (seen_pairs self.entry.root)) }
-        ensures visits { IfOk result (λ _. C.number counter.new
-            ≡ C.number counter.old
-            + probe_count (seen_keys self.entry.root) (bound_bytes (bound_in K.bytes start))) }
+            (bound_bytes (bound_in K.bytes start)) (seen_pairs self.entry)) }
+        ensures memory { IfErr result (MayLackRoom (seen_pairs self.entry)) }
+        ensures visits { IfOk result (λ _. C.number counter.new ≡ C.number counter.old
+            + probe_count (seen_keys self.entry) (bound_bytes (bound_in K.bytes start))) }
         ensures bound { C.number counter.new
             ≤ C.number counter.old + length (bound_bytes (bound_in K.bytes start))
             + 1 }
@@ -268,9 +264,8 @@ impl<'a, K: KeyTrait + Drop, V> Seen<'a, K, V, Visits> {
     /// [`TreeError::Memory`] if the tree isn't empty and the allocation fails.
     pub fn range(self, start: Bound<K>, end: Bound<K>) -> Result<Range<'a, K, V>, TreeError>
         ensures pairs { IfOk result (λ r. up_to r.0 r.1
-            ≡ between (bound_in K.bytes start) (bound_in K.bytes end)
-            (seen_pairs self.entry.root)) }
-        ensures memory { IfErr result (MayLackRoom (seen_pairs self.entry.root)) }
+            ≡ between (bound_in K.bytes start) (bound_in K.bytes end) (seen_pairs self.entry)) }
+        ensures memory { IfErr result (MayLackRoom (seen_pairs self.entry)) }
     {
         let pairs = self.range_counted(start, end, &mut Visits::new())?;
         Ok(Range { pairs })

@@ -9,7 +9,7 @@ ghost use Rattle.rart_keys.specs.KeyBytes.{IsWithin, IsWithin-prop};
 ghost use Rattle.rart_keys.specs.SortedMap.{count_of, longest_key};
 ghost use Rattle.rart_nodes.specs.ranges.Starts.{children_above};
 ghost use Rattle.rart_nodes.specs.tries.CanonicalTest.{is_canonical, is_canonical_tree};
-ghost use Rattle.rart_nodes.specs.tries.Tree.{IsCanonicalTree, seen_pairs};
+ghost use Rattle.rart_nodes.specs.tries.Tree.{IsCanonicalTree, tree_pairs};
 ghost use Rattle.rart_nodes.specs.tries.Trie.{child, child_in, children_in, edges_of, no_children, prefix_of, value_of};
 
 use crate::count::{Count, Paired};
@@ -25,7 +25,7 @@ pub struct Seen<'a, K: KeyTrait, V, C> {
     longest: usize,
     of: PhantomData<(K, C)>,
     ghost canonical: { is_canonical_tree (option_copied root) ≡ true },
-    ghost short: { longest_key (seen_pairs root) ≤ longest },
+    ghost short: { longest_key (tree_pairs (option_copied root)) ≤ longest },
     ghost fits: { IsWithin K.MAXIMUM_SIZE longest } by { IsWithin-prop K.MAXIMUM_SIZE longest },
 }
 
@@ -107,6 +107,8 @@ impl<'a, P: Partial, V, C> Model for Branches<'a, P, V, C> {
 }
 
 impl<'a, K: KeyTrait, V, C> Seen<'a, K, V, C> {
+    ghost use Rattle.rart_nodes.specs.tries.SeenTrees.{length_bound, seen_pairs, seen_tree};
+
     /// Returns the allocator of the tree.
     pub(crate) fn alloc(self) -> Global {
         self.alloc
@@ -114,16 +116,16 @@ impl<'a, K: KeyTrait, V, C> Seen<'a, K, V, C> {
 
     /// Returns an upper bound of the lengths of the keys, within the keys' maximum.
     pub(crate) fn longest(self) -> usize
-        ensures short { longest_key (seen_pairs self.entry.root) ≤ result }
+        ensures short { longest_key (seen_pairs self.entry) ≤ result }
         ensures fits { IsWithin K.MAXIMUM_SIZE result }
-        ensures own { result ≡ self.entry.longest }
+        ensures own { result ≡ length_bound self.entry }
     {
         self.longest
     }
 
     /// Returns the topmost node, not yet visited.
     pub(crate) fn top(self) -> Option<Shared<'a, K::PartialType, V, C>>
-        ensures { option_map (λ s. s.node.now) result ≡ option_copied self.entry.root }
+        ensures { option_map (λ s. s.node.now) result ≡ seen_tree self.entry }
     {
         let node = self.root?;
         Some(Shared {
@@ -140,10 +142,10 @@ impl<'a, K: KeyTrait, V, C> Seen<'a, K, V, C> {
         longest: usize,
     ) -> Self
         requires canonical { IsCanonicalTree (option_copied root) }
-        requires short { longest_key (seen_pairs root) ≤ longest }
+        requires short { longest_key (tree_pairs (option_copied root)) ≤ longest }
         requires fits { IsWithin K.MAXIMUM_SIZE longest }
-        ensures root { option_copied result.root ≡ option_copied root.entry }
-        ensures room { result.longest ≡ longest }
+        ensures root { seen_tree result ≡ option_copied root.entry }
+        ensures room { length_bound result ≡ longest }
     {
         Seen {
             root,

@@ -1,9 +1,10 @@
 //! The statistics of the nodes of a tree.
 ghost use Rattle.std.specs.Prelude.{◌≡◌, ◌+◌, ◌*◌, ◌≤◌, length, IfErr, IfOk, OnErr};
 ghost use Rattle.std.specs.Option.{option_copied};
+ghost use Rattle.rart_keys.specs.SortedMap.{keys_of};
 ghost use Rattle.rart_nodes.specs.statistics.CountedNodes.{counts_added, counts_in, counts_sum};
 ghost use Rattle.rart_nodes.specs.statistics.Statistics.{stats_in, stats_of, trie_height};
-ghost use Rattle.rart_nodes.specs.tries.Tree.{IsCanonicalTree, seen_keys, seen_nodes, seen_pairs};
+ghost use Rattle.rart_nodes.specs.tries.Tree.{IsCanonicalTree, tree_nodes, tree_pairs};
 ghost use Rattle.rart_nodes.specs.tries.TrieCode.{node_count};
 
 use crate::node::DefaultNode;
@@ -37,11 +38,11 @@ impl<P: Partial, V> DefaultNode<P, V> {
     /// [`TreeError::Memory`] if the tree holds at least two keys and an allocation fails.
     pub fn tree_stats(root: Option<&Self>, alloc: Global) -> Result<TreeStats, TreeError>
         requires canonical { IsCanonicalTree (option_copied root) }
-        requires fits { 16 * length (seen_pairs root) ≤ usize.MAX }
-        ensures statistics { IfOk result
-            (λ s. stats_in s ≡ stats_of (seen_keys root.entry) (seen_nodes root.entry)) }
+        requires fits { 16 * length (tree_pairs (option_copied root)) ≤ usize.MAX }
+        ensures statistics { let tree = option_copied root.entry in IfOk result
+            (λ s. stats_in s ≡ stats_of (keys_of (tree_pairs tree)) (tree_nodes tree)) }
         ensures memory { IfErr result (λ e. e ≡ TreeError.Memory) }
-        ensures asks { OnErr result (2 ≤ length (seen_pairs root.entry)) }
+        ensures asks { OnErr result (2 ≤ length (tree_pairs (option_copied root.entry))) }
     {
         let Some(node) = root else {
             return Ok(TreeStats::new(alloc));

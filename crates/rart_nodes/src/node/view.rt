@@ -28,18 +28,20 @@ pub struct LendingKeyView<'tree, 'view> {
 }
 
 impl<'tree, 'view> LendingKeyView<'tree, 'view> {
+    ghost use Rattle.rart_nodes.specs.walks.KeyViews.{view_bytes, view_segments};
+
     /// Returns the view of non-empty segments, whose bytes together must be countable.
     pub(crate) fn of(segments: &'view [&'tree [u8]]) -> Self
         requires fits { length (joined_bytes (lent_segments segments.now)) < 2 ^ 64 }
         requires nonempty { all_have_bytes (lent_segments segments.now) ≡ true }
-        ensures { lent_segments result.segments.now ≡ lent_segments segments.now }
+        ensures { view_segments result ≡ lent_segments segments.now }
     {
         LendingKeyView { segments }
     }
 
     /// Returns the segments, none of them empty.
     pub fn segments(self) -> &'view [&'tree [u8]]
-        ensures segments { lent_segments result.now ≡ lent_segments self.entry.segments.now }
+        ensures segments { lent_segments result.now ≡ view_segments self.entry }
         ensures nonempty { all_have_bytes (lent_segments result.now) ≡ true }
     {
         self.segments
@@ -47,7 +49,7 @@ impl<'tree, 'view> LendingKeyView<'tree, 'view> {
 
     /// Returns the number of bytes of the key.
     pub fn len(self) -> usize
-        ensures { result ≡ length (joined_bytes (lent_segments self.entry.segments.now)) }
+        ensures { result ≡ length (view_bytes self.entry) }
     {
         let mut len = 0;
         let mut segments = self.segments.iter();
@@ -59,15 +61,14 @@ impl<'tree, 'view> LendingKeyView<'tree, 'view> {
 
     /// Returns whether the key has no bytes.
     pub fn is_empty(self) -> bool
-        ensures { IsTrue result
-            ↔ (length (joined_bytes (lent_segments self.entry.segments.now)) ≡ 0) }
+        ensures { IsTrue result ↔ (length (view_bytes self.entry) ≡ 0) }
     {
         self.len() == 0
     }
 
     /// Returns an iterator over the bytes.
     pub fn bytes(self) -> LendingKeyBytes<'tree, 'view>
-        ensures { result ≡ joined_bytes (lent_segments self.entry.segments.now) }
+        ensures { result ≡ view_bytes self.entry }
     {
         LendingKeyBytes {
             segment: &[],
@@ -77,8 +78,7 @@ impl<'tree, 'view> LendingKeyView<'tree, 'view> {
 
     /// Returns whether the bytes equal `slice`, exactly if `cmp_slice` returns `Equal`.
     pub fn eq_slice(self, slice: &[u8]) -> bool
-        ensures { IsTrue result
-            ↔ (joined_bytes (lent_segments self.entry.segments.now) ≡ slice.now) }
+        ensures { IsTrue result ↔ (view_bytes self.entry ≡ slice.now) }
     {
         match self.cmp_slice(slice) {
             Ordering::Equal => true,
@@ -88,8 +88,7 @@ impl<'tree, 'view> LendingKeyView<'tree, 'view> {
 
     /// Compares the bytes with `slice` lexicographically.
     pub fn cmp_slice(self, slice: &[u8]) -> Ordering
-        ensures { result ≡ slice_cmp nat_cmp (joined_bytes (lent_segments self.entry.segments.now))
-            slice.now }
+        ensures { result ≡ slice_cmp nat_cmp (view_bytes self.entry) slice.now }
     {
         let mut left = slice;
         let mut segments = self.segments.iter();
@@ -118,7 +117,7 @@ impl<'tree, 'view> LendingKeyView<'tree, 'view> {
     /// [`TreeError::Memory`] if the allocation fails. The bytes in `destination` are then unchanged.
     pub fn write_into(self, destination: &mut Vec<u8>) -> Result<(), TreeError>
         ensures written { OnOk result (destination.new.items
-            ≡ destination.old.items ++ joined_bytes (lent_segments self.entry.segments.now)) }
+            ≡ destination.old.items ++ view_bytes self.entry) }
         ensures unchanged { OnErr result (destination.new.items ≡ destination.old.items) }
         ensures memory { IfErr result (λ e. e ≡ TreeError.Memory) }
     {
@@ -138,8 +137,7 @@ impl<'tree, 'view> LendingKeyView<'tree, 'view> {
     ///
     /// [`TreeError::Memory`] if the allocation fails.
     pub fn to_vec(self, alloc: Global) -> Result<Vec<u8>, TreeError>
-        ensures bytes { IfOk result
-            (λ v. v.items ≡ joined_bytes (lent_segments self.entry.segments.now)) }
+        ensures bytes { IfOk result (λ v. v.items ≡ view_bytes self.entry) }
         ensures memory { IfErr result (λ e. e ≡ TreeError.Memory) }
     {
         let mut bytes = Vec::new(alloc);
@@ -153,10 +151,8 @@ impl<'tree, 'view> LendingKeyView<'tree, 'view> {
     ///
     /// [`TreeError::Memory`] if the allocation fails.
     pub fn to_key<K: KeyTrait>(self, alloc: Global) -> Result<K, TreeError>
-        requires { IsWithin K.MAXIMUM_SIZE
-            (length (joined_bytes (lent_segments self.segments.now))) }
-        ensures bytes { IfOk result
-            (λ k. K.bytes k ≡ joined_bytes (lent_segments self.entry.segments.now)) }
+        requires { IsWithin K.MAXIMUM_SIZE (length (view_bytes self)) }
+        ensures bytes { IfOk result (λ k. K.bytes k ≡ view_bytes self.entry) }
         ensures memory { IfErr result (λ e. e ≡ TreeError.Memory) }
     {
         let bytes = self.to_vec(alloc)?;

@@ -5,7 +5,7 @@ ghost use Rattle.std.specs.Prelude.{MatchOption, IfOk, OnErr};
 ghost use Rattle.std.specs.Option.{option_copied};
 ghost use Rattle.rart_keys.specs.SortedMap.{count_of, longest_key};
 ghost use Rattle.rart_nodes.specs.ranges.Potential.{IsAmortized, potential};
-ghost use Rattle.rart_nodes.specs.tries.Tree.{seen_pairs};
+ghost use Rattle.rart_nodes.specs.tries.SeenTrees.{length_bound, seen_pairs, seen_tree};
 ghost use Rattle.rart_nodes.specs.walks.Walk.{IsWalk, KeepsEach, segments_after, nodes_below, entries_ahead};
 ghost use Rattle.rart_nodes.specs.walks.Walk.{entries_of};
 ghost use Rattle.rart_nodes.specs.walks.Walk.{tree_count, tree_entries};
@@ -134,16 +134,16 @@ impl<'a, K: KeyTrait, V, C: Count> Seen<'a, K, V, C> {
         ensures room { IfOk result (λ w. w.0.longest ≤ T.room w.1) }
         ensures entries { IfOk result
             (λ w. entries_ahead T.grown (T.kept w.1) (option_copied w.0.first) w.0.levels.items
-            ≡ tree_entries T.grown (option_copied self.entry.root)) }
-        ensures memory { OnErr result (seen_pairs self.entry.root ≢ []) }
+            ≡ tree_entries T.grown (seen_tree self.entry)) }
+        ensures memory { OnErr result (seen_pairs self.entry ≢ []) }
         ensures visits { IfOk result
             (λ w. C.number counter.new + nodes_below (reverse w.0.levels.items)
-            ≡ C.number counter.old + tree_count (option_copied self.entry.root)) }
-        ensures longest { IfOk result (λ w. w.0.longest ≤ self.entry.longest) }
+            ≡ C.number counter.old + tree_count (seen_tree self.entry)) }
+        ensures longest { IfOk result (λ w. w.0.longest ≤ length_bound self.entry) }
         ensures root { C.number counter.new
-            ≡ C.number counter.old + count_of (option_copied self.entry.root) }
+            ≡ C.number counter.old + count_of (seen_tree self.entry) }
         ensures places { IfOk result
-            (λ w. w.0.levels.items ≢ [] → vec_capacity w.0.levels ≡ self.entry.longest + 1) }
+            (λ w. w.0.levels.items ≢ [] → vec_capacity w.0.levels ≡ length_bound self.entry + 1) }
     {
         let alloc = self.alloc();
         let longest = self.longest();

@@ -6,7 +6,7 @@ ghost use Rattle.rart_keys.specs.SortedMap.{longest_key};
 ghost use Rattle.rart_nodes.specs.ranges.Potential.{AreLow};
 ghost use Rattle.rart_nodes.specs.ranges.Starts.{entries_from};
 ghost use Rattle.rart_nodes.specs.statistics.Statistics.{height, trie_height};
-ghost use Rattle.rart_nodes.specs.tries.Tree.{seen_keys, seen_pairs};
+ghost use Rattle.rart_nodes.specs.tries.SeenTrees.{length_bound, seen_keys, seen_pairs, seen_tree};
 ghost use Rattle.rart_nodes.specs.tries.Trie.{pairs_of, prefix_of};
 ghost use Rattle.rart_nodes.specs.walks.ProbeCount.{entered_nodes, probe_count};
 ghost use Rattle.rart_nodes.specs.walks.Walk.{IsWalk, Joins, entries_ahead, entries_of, tree_entries};
@@ -107,20 +107,19 @@ impl<'a, K: KeyTrait, V, C: Count> Seen<'a, K, V, C> {
         ensures path { IfOk result (λ w. IsWalk w.0.longest (vec_capacity w.0.levels) (T.kept w.1)
             (reverse w.0.levels.items)) }
         ensures room { IfOk result (λ w. w.0.longest ≤ T.room w.1) }
-        ensures longest { IfOk result (λ w. w.0.longest ≤ self.entry.longest) }
+        ensures longest { IfOk result (λ w. w.0.longest ≤ length_bound self.entry) }
         ensures entries { IfOk result
             (λ w. entries_ahead T.grown (T.kept w.1) (option_copied w.0.first) w.0.levels.items
-            ≡ entries_from included start.now
-            (tree_entries T.grown (option_copied self.entry.root))) }
+            ≡ entries_from included start.now (tree_entries T.grown (seen_tree self.entry))) }
         ensures low { IfOk result
-            (λ w. AreLow (height (seen_keys self.entry.root)) (reverse w.0.levels.items)) }
-        ensures memory { OnErr result (seen_pairs self.entry.root ≢ []) }
+            (λ w. AreLow (height (seen_keys self.entry)) (reverse w.0.levels.items)) }
+        ensures memory { OnErr result (seen_pairs self.entry ≢ []) }
         ensures unread { OnErr result (counter.new ≡ counter.old) }
         ensures visits { IfOk result (λ _. C.number counter.new
-            ≡ C.number counter.old + probe_count (seen_keys self.entry.root) start.now) }
+            ≡ C.number counter.old + probe_count (seen_keys self.entry) start.now) }
         ensures bound { C.number counter.new ≤ C.number counter.old + length start.now + 1 }
         ensures places { IfOk result
-            (λ w. w.0.levels.items ≢ [] → vec_capacity w.0.levels ≡ self.entry.longest + 1) }
+            (λ w. w.0.levels.items ≢ [] → vec_capacity w.0.levels ≡ length_bound self.entry + 1) }
     {
         let alloc = self.alloc();
         let longest = self.longest();

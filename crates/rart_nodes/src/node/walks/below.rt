@@ -4,7 +4,8 @@ ghost use Rattle.std.specs.Prelude.{None, OnErr, Some, option_map};
 ghost use Rattle.std.specs.Option.{option_copied};
 ghost use Rattle.rart_keys.specs.Filters.{below};
 ghost use Rattle.rart_keys.specs.SortedMap.{longest_key};
-ghost use Rattle.rart_nodes.specs.tries.Tree.{seen_keys, seen_pairs, tree_pairs};
+ghost use Rattle.rart_nodes.specs.tries.SeenTrees.{length_bound, seen_keys, seen_pairs, seen_tree};
+ghost use Rattle.rart_nodes.specs.tries.Tree.{tree_pairs};
 ghost use Rattle.rart_nodes.specs.tries.Trie.{pairs_of};
 ghost use Rattle.rart_nodes.specs.walks.Part.{EntersPart, part_entries, tree_part};
 ghost use Rattle.rart_nodes.specs.walks.ProbeCount.{probe_count, tree_entered};
@@ -69,20 +70,19 @@ impl<'a, K: KeyTrait, V, C: Count> Seen<'a, K, V, C> {
         ensures path { IfOk result (λ w. IsWalk w.0.longest (vec_capacity w.0.levels) (T.kept w.1)
             (reverse w.0.levels.items)) }
         ensures room { IfOk result (λ w. w.0.longest ≤ T.room w.1) }
-        ensures longest { IfOk result (λ w. w.0.longest ≤ self.entry.longest) }
+        ensures longest { IfOk result (λ w. w.0.longest ≤ length_bound self.entry) }
         ensures entries { IfOk result
             (λ w. entries_ahead T.grown (T.kept w.1) (option_copied w.0.first) w.0.levels.items
-            ≡ part_entries T.grown
-            (tree_part T.grown [] prefix.now (option_copied self.entry.root))) }
-        ensures memory { OnErr result (seen_pairs self.entry.root ≢ []) }
+            ≡ part_entries T.grown (tree_part T.grown [] prefix.now (seen_tree self.entry))) }
+        ensures memory { OnErr result (seen_pairs self.entry ≢ []) }
         ensures unread { OnErr result (counter.new ≡ counter.old) }
         ensures visits { IfOk result (λ _. C.number counter.new
-            ≡ C.number counter.old + probe_count (seen_keys self.entry.root) prefix.now) }
+            ≡ C.number counter.old + probe_count (seen_keys self.entry) prefix.now) }
         ensures bound { C.number counter.new ≤ C.number counter.old + length prefix.now + 1 }
         ensures few { IfOk result (λ w. nodes_below (reverse w.0.levels.items)
-            ≤ 2 * length (below prefix.now (seen_pairs self.entry.root))) }
+            ≤ 2 * length (below prefix.now (seen_pairs self.entry))) }
         ensures places { IfOk result
-            (λ w. w.0.levels.items ≢ [] → vec_capacity w.0.levels ≡ self.entry.longest + 1) }
+            (λ w. w.0.levels.items ≢ [] → vec_capacity w.0.levels ≡ length_bound self.entry + 1) }
     {
         let alloc = self.alloc();
         let longest = self.longest();

@@ -1,6 +1,6 @@
 //! Folds over the values below a prefix: each call of the callback gets the result of the previous one.
 ghost use Rattle.std.specs.Prelude.{◌≡◌, ◌≤◌, ◌+◌, ◌^◌, [], reverse, vec_capacity, IfErr, IfOk, OnErr, OnOk};
-ghost use Rattle.rart_nodes.specs.tries.Tree.{seen_pairs};
+ghost use Rattle.rart_nodes.specs.tries.SeenTrees.{seen_pairs};
 ghost use Rattle.rart_nodes.specs.walks.BelowPrefix.{below_bound, below_visits, values_below};
 ghost use Rattle.rart_nodes.specs.walks.Shown.{CanFold, FoldedEach, FoldsEach};
 ghost use Rattle.rart_nodes.specs.walks.Walk.{IsWalk, nodes_below};
@@ -47,17 +47,16 @@ impl<'a, K: KeyTrait, V, C: Count> Seen<'a, K, V, C> {
         f: &mut F,
         counter: &mut C,
     ) -> Result<S, TreeError>
-        requires callable { CanFold F.FnMut f.old init
-            (values_below prefix.now (seen_pairs self.root)) }
+        requires callable { CanFold F.FnMut f.old init (values_below prefix.now (seen_pairs self)) }
         ensures callable { F.IsAlwaysCallable f.old → F.IsAlwaysCallable f.new }
         ensures calls { IfOk result (λ state. FoldsEach F.FnMut f.old init
-            (values_below prefix.now (seen_pairs self.entry.root)) f.new state) }
+            (values_below prefix.now (seen_pairs self.entry)) f.new state) }
         ensures unchanged { OnErr result (f.new ≡ f.old) }
-        ensures memory { IfErr result (MayLackRoom (seen_pairs self.entry.root)) }
+        ensures memory { IfErr result (MayLackRoom (seen_pairs self.entry)) }
         ensures visits { OnOk result (C.number counter.new
-            ≤ C.number counter.old + below_visits prefix.now (seen_pairs self.entry.root)) }
+            ≤ C.number counter.old + below_visits prefix.now (seen_pairs self.entry)) }
         ensures bound { C.number counter.new
-            ≤ C.number counter.old + below_bound prefix.now (seen_pairs self.entry.root) }
+            ≤ C.number counter.old + below_bound prefix.now (seen_pairs self.entry) }
     {
         let (mut walk, _path) = self.walk_below::<NoPath>(prefix, counter)?;
         Ok(fold_values(&mut walk, counter, init, f))
@@ -82,17 +81,16 @@ impl<'a, K: KeyTrait, V, C: Count> Seen<'a, K, V, C> {
         counter: &mut C,
     ) -> Result<S, TreeError>
         requires callable { CanFold F.FnMut f.old init
-            (values_below (K.bytes prefix.now) (seen_pairs self.root)) }
+            (values_below (K.bytes prefix.now) (seen_pairs self)) }
         ensures callable { F.IsAlwaysCallable f.old → F.IsAlwaysCallable f.new }
         ensures calls { IfOk result (λ state. FoldsEach F.FnMut f.old init
-            (values_below (K.bytes prefix.now) (seen_pairs self.entry.root)) f.new state) }
+            (values_below (K.bytes prefix.now) (seen_pairs self.entry)) f.new state) }
         ensures unchanged { OnErr result (f.new ≡ f.old) }
-        ensures memory { IfErr result (MayLackRoom (seen_pairs self.entry.root)) }
-        ensures visits { OnOk result (C.number counter.new
-            ≤ C.number counter.old
-            + below_visits (K.bytes prefix.now) (seen_pairs self.entry.root)) }
+        ensures memory { IfErr result (MayLackRoom (seen_pairs self.entry)) }
+        ensures visits { OnOk result (C.number counter.new ≤ C.number counter.old
+            + below_visits (K.bytes prefix.now) (seen_pairs self.entry)) }
         ensures bound { C.number counter.new
-            ≤ C.number counter.old + below_bound (K.bytes prefix.now) (seen_pairs self.entry.root) }
+            ≤ C.number counter.old + below_bound (K.bytes prefix.now) (seen_pairs self.entry) }
     {
         self.fold_below(prefix.as_ref(), init, f, counter)
     }
@@ -114,15 +112,14 @@ impl<'a, K: KeyTrait, V, C: Count> Seen<'a, K, V, C> {
         counter: &mut C,
     ) -> Result<S, TreeError>
         requires callable { CanFold F.FnMut f init
-            (values_below (K.bytes prefix.now) (seen_pairs self.root)) }
+            (values_below (K.bytes prefix.now) (seen_pairs self)) }
         ensures calls { IfOk result (FoldedEach F.FnMut f init
-            (values_below (K.bytes prefix.now) (seen_pairs self.entry.root))) }
-        ensures memory { IfErr result (MayLackRoom (seen_pairs self.entry.root)) }
-        ensures visits { OnOk result (C.number counter.new
-            ≤ C.number counter.old
-            + below_visits (K.bytes prefix.now) (seen_pairs self.entry.root)) }
+            (values_below (K.bytes prefix.now) (seen_pairs self.entry))) }
+        ensures memory { IfErr result (MayLackRoom (seen_pairs self.entry)) }
+        ensures visits { OnOk result (C.number counter.new ≤ C.number counter.old
+            + below_visits (K.bytes prefix.now) (seen_pairs self.entry)) }
         ensures bound { C.number counter.new
-            ≤ C.number counter.old + below_bound (K.bytes prefix.now) (seen_pairs self.entry.root) }
+            ≤ C.number counter.old + below_bound (K.bytes prefix.now) (seen_pairs self.entry) }
     {
         self.prefix_values_fold_by_ref_k_counted(prefix, init, &mut f, counter)
     }
@@ -143,12 +140,12 @@ impl<'a, K: KeyTrait, V> Seen<'a, K, V, Visits> {
         f: &mut F,
     ) -> Result<S, TreeError>
         requires callable { CanFold F.FnMut f.old init
-            (values_below (K.bytes prefix.now) (seen_pairs self.root)) }
+            (values_below (K.bytes prefix.now) (seen_pairs self)) }
         ensures callable { F.IsAlwaysCallable f.old → F.IsAlwaysCallable f.new }
         ensures calls { IfOk result (λ state. FoldsEach F.FnMut f.old init
-            (values_below (K.bytes prefix.now) (seen_pairs self.entry.root)) f.new state) }
+            (values_below (K.bytes prefix.now) (seen_pairs self.entry)) f.new state) }
         ensures unchanged { OnErr result (f.new ≡ f.old) }
-        ensures memory { IfErr result (MayLackRoom (seen_pairs self.entry.root)) }
+        ensures memory { IfErr result (MayLackRoom (seen_pairs self.entry)) }
     {
         self.prefix_values_fold_by_ref_k_counted(prefix, init, f, &mut Visits::new())
     }
@@ -165,10 +162,10 @@ impl<'a, K: KeyTrait, V> Seen<'a, K, V, Visits> {
         f: F,
     ) -> Result<S, TreeError>
         requires callable { CanFold F.FnMut f init
-            (values_below (K.bytes prefix.now) (seen_pairs self.root)) }
+            (values_below (K.bytes prefix.now) (seen_pairs self)) }
         ensures calls { IfOk result (FoldedEach F.FnMut f init
-            (values_below (K.bytes prefix.now) (seen_pairs self.entry.root))) }
-        ensures memory { IfErr result (MayLackRoom (seen_pairs self.entry.root)) }
+            (values_below (K.bytes prefix.now) (seen_pairs self.entry))) }
+        ensures memory { IfErr result (MayLackRoom (seen_pairs self.entry)) }
     {
         self.prefix_values_fold_k_counted(prefix, init, f, &mut Visits::new())
     }

@@ -3,7 +3,7 @@
 //! A walk allocates before its first call; the segments are pushed and popped as it goes. The caller of a `_by_ref`
 //! form keeps its callback, and with it the state that the last call left.
 ghost use Rattle.std.specs.Prelude.{◌≡◌, ◌≤◌, ◌+◌, ◌*◌, [], length, reverse, vec_capacity, IfErr, OnErr, OnOk};
-ghost use Rattle.rart_nodes.specs.tries.Tree.{seen_keys, seen_pairs};
+ghost use Rattle.rart_nodes.specs.tries.SeenTrees.{seen_keys, seen_pairs};
 ghost use Rattle.rart_nodes.specs.walks.BelowPrefix.{below_bound, below_visits, cut_below};
 ghost use Rattle.rart_nodes.specs.walks.Cut.{cut_pairs};
 ghost use Rattle.rart_nodes.specs.walks.ProbeCount.{probe_count};
@@ -52,17 +52,16 @@ impl<'a, K: KeyTrait, V, C: Count> Seen<'a, K, V, C> {
         f: &mut F,
         counter: &mut C,
     ) -> Result<(), TreeError>
-        requires callable { CanView F.FnMut f.old
-            (cut_below prefix.now (seen_pairs self.root)) }
+        requires callable { CanView F.FnMut f.old (cut_below prefix.now (seen_pairs self)) }
         ensures callable { F.IsAlwaysCallable f.old → F.IsAlwaysCallable f.new }
         ensures calls { OnOk result (ViewsEach F.FnMut f.old
-            (cut_below prefix.now (seen_pairs self.entry.root)) f.new) }
+            (cut_below prefix.now (seen_pairs self.entry)) f.new) }
         ensures unchanged { OnErr result (f.new ≡ f.old) }
-        ensures memory { IfErr result (MayLackRoom (seen_pairs self.entry.root)) }
+        ensures memory { IfErr result (MayLackRoom (seen_pairs self.entry)) }
         ensures visits { OnOk result (C.number counter.new
-            ≤ C.number counter.old + below_visits prefix.now (seen_pairs self.entry.root)) }
+            ≤ C.number counter.old + below_visits prefix.now (seen_pairs self.entry)) }
         ensures bound { C.number counter.new
-            ≤ C.number counter.old + below_bound prefix.now (seen_pairs self.entry.root) }
+            ≤ C.number counter.old + below_bound prefix.now (seen_pairs self.entry) }
     {
         let (mut walk, mut path) = self.walk_below::<SegmentPath<'a>>(prefix, counter)?;
         for_each_view_of(&mut walk, &mut path, counter, f);
@@ -86,17 +85,16 @@ impl<'a, K: KeyTrait, V, C: Count> Seen<'a, K, V, C> {
         counter: &mut C,
     ) -> Result<(), TreeError>
         requires callable { CanView F.FnMut f.old
-            (cut_below (K.bytes prefix.now) (seen_pairs self.root)) }
+            (cut_below (K.bytes prefix.now) (seen_pairs self)) }
         ensures callable { F.IsAlwaysCallable f.old → F.IsAlwaysCallable f.new }
         ensures calls { OnOk result (ViewsEach F.FnMut f.old
-            (cut_below (K.bytes prefix.now) (seen_pairs self.entry.root)) f.new) }
+            (cut_below (K.bytes prefix.now) (seen_pairs self.entry)) f.new) }
         ensures unchanged { OnErr result (f.new ≡ f.old) }
-        ensures memory { IfErr result (MayLackRoom (seen_pairs self.entry.root)) }
-        ensures visits { OnOk result (C.number counter.new
-            ≤ C.number counter.old
-            + below_visits (K.bytes prefix.now) (seen_pairs self.entry.root)) }
+        ensures memory { IfErr result (MayLackRoom (seen_pairs self.entry)) }
+        ensures visits { OnOk result (C.number counter.new ≤ C.number counter.old
+            + below_visits (K.bytes prefix.now) (seen_pairs self.entry)) }
         ensures bound { C.number counter.new
-            ≤ C.number counter.old + below_bound (K.bytes prefix.now) (seen_pairs self.entry.root) }
+            ≤ C.number counter.old + below_bound (K.bytes prefix.now) (seen_pairs self.entry) }
     {
         self.each_view_below(prefix.as_ref(), f, counter)
     }
@@ -116,16 +114,14 @@ impl<'a, K: KeyTrait, V, C: Count> Seen<'a, K, V, C> {
         mut f: F,
         counter: &mut C,
     ) -> Result<(), TreeError>
-        requires callable { CanView F.FnMut f
-            (cut_below (K.bytes prefix.now) (seen_pairs self.root)) }
+        requires callable { CanView F.FnMut f (cut_below (K.bytes prefix.now) (seen_pairs self)) }
         ensures calls { OnOk result (ViewedEach F.FnMut f
-            (cut_below (K.bytes prefix.now) (seen_pairs self.entry.root))) }
-        ensures memory { IfErr result (MayLackRoom (seen_pairs self.entry.root)) }
-        ensures visits { OnOk result (C.number counter.new
-            ≤ C.number counter.old
-            + below_visits (K.bytes prefix.now) (seen_pairs self.entry.root)) }
+            (cut_below (K.bytes prefix.now) (seen_pairs self.entry))) }
+        ensures memory { IfErr result (MayLackRoom (seen_pairs self.entry)) }
+        ensures visits { OnOk result (C.number counter.new ≤ C.number counter.old
+            + below_visits (K.bytes prefix.now) (seen_pairs self.entry)) }
         ensures bound { C.number counter.new
-            ≤ C.number counter.old + below_bound (K.bytes prefix.now) (seen_pairs self.entry.root) }
+            ≤ C.number counter.old + below_bound (K.bytes prefix.now) (seen_pairs self.entry) }
     {
         self.prefix_for_each_view_by_ref_k_counted(prefix, &mut f, counter)
     }
@@ -145,18 +141,16 @@ impl<'a, K: KeyTrait, V, C: Count> Seen<'a, K, V, C> {
         f: &mut F,
         counter: &mut C,
     ) -> Result<(), TreeError>
-        requires callable { CanView F.FnMut f.old
-            (cut_pairs (seen_keys self.root) (seen_pairs self.root)) }
+        requires callable { CanView F.FnMut f.old (cut_pairs (seen_keys self) (seen_pairs self)) }
         ensures callable { F.IsAlwaysCallable f.old → F.IsAlwaysCallable f.new }
         ensures calls { OnOk result (ViewsEach F.FnMut f.old
-            (cut_pairs (seen_keys self.entry.root) (seen_pairs self.entry.root)) f.new) }
+            (cut_pairs (seen_keys self.entry) (seen_pairs self.entry)) f.new) }
         ensures unchanged { OnErr result (f.new ≡ f.old) }
-        ensures memory { IfErr result (MayLackRoom (seen_pairs self.entry.root)) }
+        ensures memory { IfErr result (MayLackRoom (seen_pairs self.entry)) }
         ensures visits { OnOk result (C.number counter.new ≤ C.number counter.old
-            + (probe_count (seen_keys self.entry.root) []
-            + 2 * length (seen_pairs self.entry.root))) }
+            + (probe_count (seen_keys self.entry) [] + 2 * length (seen_pairs self.entry))) }
         ensures bound { C.number counter.new
-            ≤ C.number counter.old + 1 + 2 * length (seen_pairs self.entry.root) }
+            ≤ C.number counter.old + 1 + 2 * length (seen_pairs self.entry) }
     {
         self.each_view_below(&[], f, counter)
     }
@@ -175,16 +169,14 @@ impl<'a, K: KeyTrait, V, C: Count> Seen<'a, K, V, C> {
         mut f: F,
         counter: &mut C,
     ) -> Result<(), TreeError>
-        requires callable { CanView F.FnMut f
-            (cut_pairs (seen_keys self.root) (seen_pairs self.root)) }
+        requires callable { CanView F.FnMut f (cut_pairs (seen_keys self) (seen_pairs self)) }
         ensures calls { OnOk result (ViewedEach F.FnMut f
-            (cut_pairs (seen_keys self.entry.root) (seen_pairs self.entry.root))) }
-        ensures memory { IfErr result (MayLackRoom (seen_pairs self.entry.root)) }
+            (cut_pairs (seen_keys self.entry) (seen_pairs self.entry))) }
+        ensures memory { IfErr result (MayLackRoom (seen_pairs self.entry)) }
         ensures visits { OnOk result (C.number counter.new ≤ C.number counter.old
-            + (probe_count (seen_keys self.entry.root) []
-            + 2 * length (seen_pairs self.entry.root))) }
+            + (probe_count (seen_keys self.entry) [] + 2 * length (seen_pairs self.entry))) }
         ensures bound { C.number counter.new
-            ≤ C.number counter.old + 1 + 2 * length (seen_pairs self.entry.root) }
+            ≤ C.number counter.old + 1 + 2 * length (seen_pairs self.entry) }
     {
         self.for_each_view_by_ref_counted(&mut f, counter)
     }

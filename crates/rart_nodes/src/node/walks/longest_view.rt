@@ -1,7 +1,7 @@
 //! The longest key that begins a probe, lent in segments to one call.
 ghost use Rattle.std.specs.Prelude.{◌≡◌, ◌≤◌, ◌+◌, ◌*◌, [], ◌∷◌, IfErr, IfOk, IfSome, OnErr, OnOk, length};
 ghost use Rattle.rart_keys.specs.Filters.{longest_match};
-ghost use Rattle.rart_nodes.specs.tries.Tree.{seen_keys, seen_pairs};
+ghost use Rattle.rart_nodes.specs.tries.SeenTrees.{seen_keys, seen_pairs};
 ghost use Rattle.rart_nodes.specs.walks.BelowPrefix.{MayLackMatch, match_visits};
 ghost use Rattle.rart_nodes.specs.walks.PathParts.{lent_segments};
 ghost use Rattle.rart_nodes.specs.walks.ViewSegments.{AreViews};
@@ -22,13 +22,13 @@ impl<'a, K: KeyTrait, V, C: Count> Seen<'a, K, V, C> {
         probe: &[u8],
         counter: &mut C,
     ) -> Result<Option<(SegmentPath<'a>, &'a V)>, TreeError>
-        ensures found { IfOk result (IsCutOf (seen_keys self.entry.root)
-            (longest_match probe.now (seen_pairs self.entry.root))) }
+        ensures found { IfOk result (IsCutOf (seen_keys self.entry)
+            (longest_match probe.now (seen_pairs self.entry))) }
         ensures views { IfOk result (λ r. IfSome r
             (λ p. AreViews ((lent_segments p.0.segments.items, p.1.now) ∷ []))) }
-        ensures memory { IfErr result (MayLackMatch probe.now (seen_pairs self.entry.root)) }
+        ensures memory { IfErr result (MayLackMatch probe.now (seen_pairs self.entry)) }
         ensures visits { OnOk result (C.number counter.new
-            ≤ C.number counter.old + match_visits probe.now (seen_pairs self.entry.root)) }
+            ≤ C.number counter.old + match_visits probe.now (seen_pairs self.entry)) }
         ensures bound { C.number counter.new ≤ C.number counter.old + 3 * length probe.now + 2 }
     {
         let Some((depth, _)) = self.last_match(probe, counter) else {
@@ -48,13 +48,13 @@ impl<'a, K: KeyTrait, V, C: Count> Seen<'a, K, V, C> {
         f: F,
         counter: &mut C,
     ) -> Result<bool, TreeError>
-        requires callable { CanSeeFound F.FnOnce f (seen_keys self.root)
-            (longest_match probe.now (seen_pairs self.root)) }
-        ensures called { IfOk result (SeesFound F.FnOnce f (seen_keys self.entry.root)
-            (longest_match probe.now (seen_pairs self.entry.root))) }
-        ensures memory { IfErr result (MayLackMatch probe.now (seen_pairs self.entry.root)) }
+        requires callable { CanSeeFound F.FnOnce f (seen_keys self)
+            (longest_match probe.now (seen_pairs self)) }
+        ensures called { IfOk result (SeesFound F.FnOnce f (seen_keys self.entry)
+            (longest_match probe.now (seen_pairs self.entry))) }
+        ensures memory { IfErr result (MayLackMatch probe.now (seen_pairs self.entry)) }
         ensures visits { OnOk result (C.number counter.new
-            ≤ C.number counter.old + match_visits probe.now (seen_pairs self.entry.root)) }
+            ≤ C.number counter.old + match_visits probe.now (seen_pairs self.entry)) }
         ensures bound { C.number counter.new ≤ C.number counter.old + 3 * length probe.now + 2 }
     {
         let Some((path, value)) = self.longest_path(probe, counter)? else {
@@ -70,15 +70,15 @@ impl<'a, K: KeyTrait, V, C: Count> Seen<'a, K, V, C> {
         f: &mut F,
         counter: &mut C,
     ) -> Result<bool, TreeError>
-        requires callable { CanShowFound F.FnMut f.old (seen_keys self.root)
-            (longest_match probe.now (seen_pairs self.root)) }
+        requires callable { CanShowFound F.FnMut f.old (seen_keys self)
+            (longest_match probe.now (seen_pairs self)) }
         ensures callable { F.IsAlwaysCallable f.old → F.IsAlwaysCallable f.new }
-        ensures called { IfOk result (ShowsFound F.FnMut f.old (seen_keys self.entry.root)
-            (longest_match probe.now (seen_pairs self.entry.root)) f.new) }
+        ensures called { IfOk result (ShowsFound F.FnMut f.old (seen_keys self.entry)
+            (longest_match probe.now (seen_pairs self.entry)) f.new) }
         ensures unchanged { OnErr result (f.new ≡ f.old) }
-        ensures memory { IfErr result (MayLackMatch probe.now (seen_pairs self.entry.root)) }
+        ensures memory { IfErr result (MayLackMatch probe.now (seen_pairs self.entry)) }
         ensures visits { OnOk result (C.number counter.new
-            ≤ C.number counter.old + match_visits probe.now (seen_pairs self.entry.root)) }
+            ≤ C.number counter.old + match_visits probe.now (seen_pairs self.entry)) }
         ensures bound { C.number counter.new ≤ C.number counter.old + 3 * length probe.now + 2 }
     {
         let Some((path, value)) = self.longest_path(probe, counter)? else {
@@ -105,17 +105,15 @@ impl<'a, K: KeyTrait, V, C: Count> Seen<'a, K, V, C> {
         f: &mut F,
         counter: &mut C,
     ) -> Result<bool, TreeError>
-        requires callable { CanShowFound F.FnMut f.old (seen_keys self.root)
-            (longest_match (K.bytes probe.now) (seen_pairs self.root)) }
+        requires callable { CanShowFound F.FnMut f.old (seen_keys self)
+            (longest_match (K.bytes probe.now) (seen_pairs self)) }
         ensures callable { F.IsAlwaysCallable f.old → F.IsAlwaysCallable f.new }
-        ensures called { IfOk result (ShowsFound F.FnMut f.old (seen_keys self.entry.root)
-            (longest_match (K.bytes probe.now) (seen_pairs self.entry.root)) f.new) }
+        ensures called { IfOk result (ShowsFound F.FnMut f.old (seen_keys self.entry)
+            (longest_match (K.bytes probe.now) (seen_pairs self.entry)) f.new) }
         ensures unchanged { OnErr result (f.new ≡ f.old) }
-        ensures memory { IfErr result
-            (MayLackMatch (K.bytes probe.now) (seen_pairs self.entry.root)) }
-        ensures visits { OnOk result (C.number counter.new
-            ≤ C.number counter.old
-            + match_visits (K.bytes probe.now) (seen_pairs self.entry.root)) }
+        ensures memory { IfErr result (MayLackMatch (K.bytes probe.now) (seen_pairs self.entry)) }
+        ensures visits { OnOk result (C.number counter.new ≤ C.number counter.old
+            + match_visits (K.bytes probe.now) (seen_pairs self.entry)) }
         ensures bound { C.number counter.new
             ≤ C.number counter.old + 3 * length (K.bytes probe.now) + 2 }
     {
@@ -137,15 +135,13 @@ impl<'a, K: KeyTrait, V, C: Count> Seen<'a, K, V, C> {
         f: F,
         counter: &mut C,
     ) -> Result<bool, TreeError>
-        requires callable { CanSeeFound F.FnOnce f (seen_keys self.root)
-            (longest_match (K.bytes probe.now) (seen_pairs self.root)) }
-        ensures called { IfOk result (SeesFound F.FnOnce f (seen_keys self.entry.root)
-            (longest_match (K.bytes probe.now) (seen_pairs self.entry.root))) }
-        ensures memory { IfErr result
-            (MayLackMatch (K.bytes probe.now) (seen_pairs self.entry.root)) }
-        ensures visits { OnOk result (C.number counter.new
-            ≤ C.number counter.old
-            + match_visits (K.bytes probe.now) (seen_pairs self.entry.root)) }
+        requires callable { CanSeeFound F.FnOnce f (seen_keys self)
+            (longest_match (K.bytes probe.now) (seen_pairs self)) }
+        ensures called { IfOk result (SeesFound F.FnOnce f (seen_keys self.entry)
+            (longest_match (K.bytes probe.now) (seen_pairs self.entry))) }
+        ensures memory { IfErr result (MayLackMatch (K.bytes probe.now) (seen_pairs self.entry)) }
+        ensures visits { OnOk result (C.number counter.new ≤ C.number counter.old
+            + match_visits (K.bytes probe.now) (seen_pairs self.entry)) }
         ensures bound { C.number counter.new
             ≤ C.number counter.old + 3 * length (K.bytes probe.now) + 2 }
     {
@@ -165,12 +161,11 @@ impl<'a, K: KeyTrait, V> Seen<'a, K, V, Visits> {
         probe: &K,
         f: F,
     ) -> Result<bool, TreeError>
-        requires callable { CanSeeFound F.FnOnce f (seen_keys self.root)
-            (longest_match (K.bytes probe.now) (seen_pairs self.root)) }
-        ensures called { IfOk result (SeesFound F.FnOnce f (seen_keys self.entry.root)
-            (longest_match (K.bytes probe.now) (seen_pairs self.entry.root))) }
-        ensures memory { IfErr result
-            (MayLackMatch (K.bytes probe.now) (seen_pairs self.entry.root)) }
+        requires callable { CanSeeFound F.FnOnce f (seen_keys self)
+            (longest_match (K.bytes probe.now) (seen_pairs self)) }
+        ensures called { IfOk result (SeesFound F.FnOnce f (seen_keys self.entry)
+            (longest_match (K.bytes probe.now) (seen_pairs self.entry))) }
+        ensures memory { IfErr result (MayLackMatch (K.bytes probe.now) (seen_pairs self.entry)) }
     {
         self.with_longest_prefix_match_view_k_counted(probe, f, &mut Visits::new())
     }

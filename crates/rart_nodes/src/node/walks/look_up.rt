@@ -3,7 +3,8 @@ ghost use Rattle.std.specs.Prelude.{◌≡◌, ◌≤◌, ◌+◌, length};
 ghost use Rattle.std.specs.Option.{option_copied};
 ghost use Rattle.rart_keys.specs.SortedMap.{lookup};
 ghost use Rattle.rart_nodes.specs.walks.ProbeCount.{probe_count, tree_entered};
-ghost use Rattle.rart_nodes.specs.tries.Tree.{seen_keys, seen_pairs, tree_lookup};
+ghost use Rattle.rart_nodes.specs.tries.SeenTrees.{seen_keys, seen_pairs, seen_tree};
+ghost use Rattle.rart_nodes.specs.tries.Tree.{tree_lookup};
 
 use crate::count::Count;
 use crate::node::rest::strip_prefix;
@@ -12,9 +13,9 @@ use rart_keys::KeyTrait;
 
 impl<'a, K: KeyTrait, V, C: Count> Seen<'a, K, V, C> {
     fn descend(self, key: &[u8], counter: &mut C) -> Option<&'a V>
-        ensures value { option_copied result ≡ tree_lookup key.now (option_copied self.entry.root) }
+        ensures value { option_copied result ≡ tree_lookup key.now (seen_tree self.entry) }
         ensures visits { C.number counter.new ≡ C.number counter.old
-            + tree_entered key.now (option_copied self.entry.root) }
+            + tree_entered key.now (seen_tree self.entry) }
     {
         let mut next = self.top();
         let mut rest = key;
@@ -38,9 +39,9 @@ impl<'a, K: KeyTrait, V, C: Count> Seen<'a, K, V, C> {
     ///
     /// At most `key.len() + 1` nodes.
     pub fn get_bytes_counted(self, key: &[u8], counter: &mut C) -> Option<&'a V>
-        ensures value { option_copied result ≡ lookup key.now (seen_pairs self.entry.root) }
+        ensures value { option_copied result ≡ lookup key.now (seen_pairs self.entry) }
         ensures visits { C.number counter.new
-            ≡ C.number counter.old + probe_count (seen_keys self.entry.root) key.now }
+            ≡ C.number counter.old + probe_count (seen_keys self.entry) key.now }
         ensures bound { C.number counter.new ≤ C.number counter.old + length key.now + 1 }
     {
         self.descend(key, counter)
@@ -52,10 +53,9 @@ impl<'a, K: KeyTrait, V, C: Count> Seen<'a, K, V, C> {
     ///
     /// At most `key.len() + 1` nodes.
     pub fn get_k_counted(self, key: &K, counter: &mut C) -> Option<&'a V>
-        ensures value { option_copied result
-            ≡ lookup (K.bytes key.now) (seen_pairs self.entry.root) }
+        ensures value { option_copied result ≡ lookup (K.bytes key.now) (seen_pairs self.entry) }
         ensures visits { C.number counter.new
-            ≡ C.number counter.old + probe_count (seen_keys self.entry.root) (K.bytes key.now) }
+            ≡ C.number counter.old + probe_count (seen_keys self.entry) (K.bytes key.now) }
         ensures bound { C.number counter.new ≤ C.number counter.old + length (K.bytes key.now) + 1 }
     {
         self.get_bytes_counted(key.as_ref(), counter)

@@ -7,7 +7,7 @@ ghost use Rattle.rart_keys.specs.Ranges.{bound_in, is_to};
 ghost use Rattle.rart_nodes.specs.ranges.Potential.{AreLow};
 ghost use Rattle.rart_nodes.specs.ranges.Spans.{cut_between, span_bound, span_visits};
 ghost use Rattle.rart_nodes.specs.ranges.Starts.{entries_to};
-ghost use Rattle.rart_nodes.specs.tries.Tree.{seen_pairs};
+ghost use Rattle.rart_nodes.specs.tries.SeenTrees.{seen_pairs};
 ghost use Rattle.rart_nodes.specs.walks.Walk.{IsWalk, joined_bytes};
 ghost use Rattle.rart_nodes.specs.walks.PathParts.{lent_segments};
 ghost use Rattle.rart_nodes.specs.walks.ViewSegments.{AreViews, views_ahead};
@@ -87,21 +87,18 @@ impl<'a, K: KeyTrait + Drop, V, C: Count> Seen<'a, K, V, C> {
         counter: &mut C,
     ) -> Result<(), TreeError>
         requires callable { CanView F.FnMut f.old
-            (cut_between (bound_in K.bytes start) (bound_in K.bytes end) (seen_pairs self.root)) }
+            (cut_between (bound_in K.bytes start) (bound_in K.bytes end) (seen_pairs self)) }
         ensures callable { F.IsAlwaysCallable f.old → F.IsAlwaysCallable f.new }
         ensures calls { OnOk result (ViewsEach F.FnMut f.old
             (cut_between (bound_in K.bytes start) (bound_in K.bytes end)
-            (seen_pairs self.entry.root)) f.new) }
+            (seen_pairs self.entry)) f.new) }
         ensures unchanged { OnErr result (f.new ≡ f.old) }
-        ensures memory { IfErr result (MayLackRoom (seen_pairs self.entry.root)) }
+        ensures memory { IfErr result (MayLackRoom (seen_pairs self.entry)) }
         ensures visits { OnOk result (C.number counter.new ≤ C.number counter.old
-            + span_visits (bound_in K.bytes start) (bound_in K.bytes end)
-            (seen_pairs self.entry.root)) }
+            + span_visits (bound_in K.bytes start) (bound_in K.bytes end) (seen_pairs self.entry)) }
         ensures bound { C.number counter.new ≤ C.number counter.old
-            + span_bound (bound_in K.bytes start) (bound_in K.bytes end)
-            (seen_pairs self.entry.root) }
-        ensures none { seen_pairs self.entry.root ≡ []
-            → C.number counter.new ≤ C.number counter.old }
+            + span_bound (bound_in K.bytes start) (bound_in K.bytes end) (seen_pairs self.entry) }
+        ensures none { seen_pairs self.entry ≡ [] → C.number counter.new ≤ C.number counter.old }
     {
         let (bytes, included) = bytes_of(&start);
         let (mut walk, mut path) = self.walk_from::<SegmentPath<'a>>(bytes, included, counter)?;
@@ -126,19 +123,15 @@ impl<'a, K: KeyTrait + Drop, V, C: Count> Seen<'a, K, V, C> {
         counter: &mut C,
     ) -> Result<(), TreeError>
         requires callable { CanView F.FnMut f
-            (cut_between (bound_in K.bytes start) (bound_in K.bytes end) (seen_pairs self.root)) }
+            (cut_between (bound_in K.bytes start) (bound_in K.bytes end) (seen_pairs self)) }
         ensures calls { OnOk result (ViewedEach F.FnMut f
-            (cut_between (bound_in K.bytes start) (bound_in K.bytes end)
-            (seen_pairs self.entry.root))) }
-        ensures memory { IfErr result (MayLackRoom (seen_pairs self.entry.root)) }
+            (cut_between (bound_in K.bytes start) (bound_in K.bytes end) (seen_pairs self.entry))) }
+        ensures memory { IfErr result (MayLackRoom (seen_pairs self.entry)) }
         ensures visits { OnOk result (C.number counter.new ≤ C.number counter.old
-            + span_visits (bound_in K.bytes start) (bound_in K.bytes end)
-            (seen_pairs self.entry.root)) }
+            + span_visits (bound_in K.bytes start) (bound_in K.bytes end) (seen_pairs self.entry)) }
         ensures bound { C.number counter.new ≤ C.number counter.old
-            + span_bound (bound_in K.bytes start) (bound_in K.bytes end)
-            (seen_pairs self.entry.root) }
-        ensures none { seen_pairs self.entry.root ≡ []
-            → C.number counter.new ≤ C.number counter.old }
+            + span_bound (bound_in K.bytes start) (bound_in K.bytes end) (seen_pairs self.entry) }
+        ensures none { seen_pairs self.entry ≡ [] → C.number counter.new ≤ C.number counter.old }
     {
         self.for_each_range_view_by_ref_counted(start, end, &mut f, counter)
     }

@@ -1,6 +1,6 @@
 //! Walks over the values below a prefix that a callback can end.
 ghost use Rattle.std.specs.Prelude.{◌≡◌, ◌≤◌, ◌+◌, ◌^◌, [], reverse, vec_capacity, IfErr};
-ghost use Rattle.rart_nodes.specs.tries.Tree.{seen_pairs};
+ghost use Rattle.rart_nodes.specs.tries.SeenTrees.{seen_pairs};
 ghost use Rattle.rart_nodes.specs.walks.BelowPrefix.{below_bound, below_visits, values_below};
 ghost use Rattle.rart_nodes.specs.walks.Walk.{IsWalk, nodes_below};
 ghost use Rattle.rart_nodes.specs.walks.PathParts.{values_ahead};
@@ -57,16 +57,15 @@ impl<'a, K: KeyTrait, V, C: Count> Seen<'a, K, V, C> {
         counter: &mut C,
     ) -> Result<(), VisitError<E>>
         requires callable { CanTry F.FnMut f.old
-            (values_below (K.bytes prefix.now) (seen_pairs self.root)) }
+            (values_below (K.bytes prefix.now) (seen_pairs self)) }
         ensures callable { F.IsAlwaysCallable f.old → F.IsAlwaysCallable f.new }
         ensures calls { EndsVisit F.FnMut f.old
-            (values_below (K.bytes prefix.now) (seen_pairs self.entry.root)) result f.new }
-        ensures memory { IfErr result (MayStopAtRoom (seen_pairs self.entry.root)) }
-        ensures visits { IfRoom result (C.number counter.new
-            ≤ C.number counter.old
-            + below_visits (K.bytes prefix.now) (seen_pairs self.entry.root)) }
+            (values_below (K.bytes prefix.now) (seen_pairs self.entry)) result f.new }
+        ensures memory { IfErr result (MayStopAtRoom (seen_pairs self.entry)) }
+        ensures visits { IfRoom result (C.number counter.new ≤ C.number counter.old
+            + below_visits (K.bytes prefix.now) (seen_pairs self.entry)) }
         ensures bound { C.number counter.new
-            ≤ C.number counter.old + below_bound (K.bytes prefix.now) (seen_pairs self.entry.root) }
+            ≤ C.number counter.old + below_bound (K.bytes prefix.now) (seen_pairs self.entry) }
     {
         let Ok((mut walk, _path)) = self.walk_below::<NoPath>(prefix.as_ref(), counter) else {
             return Err(VisitError::Memory);
@@ -92,16 +91,14 @@ impl<'a, K: KeyTrait, V, C: Count> Seen<'a, K, V, C> {
         mut f: F,
         counter: &mut C,
     ) -> Result<(), VisitError<E>>
-        requires callable { CanTry F.FnMut f
-            (values_below (K.bytes prefix.now) (seen_pairs self.root)) }
+        requires callable { CanTry F.FnMut f (values_below (K.bytes prefix.now) (seen_pairs self)) }
         ensures calls { EndedVisit F.FnMut f
-            (values_below (K.bytes prefix.now) (seen_pairs self.entry.root)) result }
-        ensures memory { IfErr result (MayStopAtRoom (seen_pairs self.entry.root)) }
-        ensures visits { IfRoom result (C.number counter.new
-            ≤ C.number counter.old
-            + below_visits (K.bytes prefix.now) (seen_pairs self.entry.root)) }
+            (values_below (K.bytes prefix.now) (seen_pairs self.entry)) result }
+        ensures memory { IfErr result (MayStopAtRoom (seen_pairs self.entry)) }
+        ensures visits { IfRoom result (C.number counter.new ≤ C.number counter.old
+            + below_visits (K.bytes prefix.now) (seen_pairs self.entry)) }
         ensures bound { C.number counter.new
-            ≤ C.number counter.old + below_bound (K.bytes prefix.now) (seen_pairs self.entry.root) }
+            ≤ C.number counter.old + below_bound (K.bytes prefix.now) (seen_pairs self.entry) }
     {
         self.try_prefix_values_for_each_by_ref_k_counted(prefix, &mut f, counter)
     }
@@ -121,11 +118,11 @@ impl<'a, K: KeyTrait, V> Seen<'a, K, V, Visits> {
         f: &mut F,
     ) -> Result<(), VisitError<E>>
         requires callable { CanTry F.FnMut f.old
-            (values_below (K.bytes prefix.now) (seen_pairs self.root)) }
+            (values_below (K.bytes prefix.now) (seen_pairs self)) }
         ensures callable { F.IsAlwaysCallable f.old → F.IsAlwaysCallable f.new }
         ensures calls { EndsVisit F.FnMut f.old
-            (values_below (K.bytes prefix.now) (seen_pairs self.entry.root)) result f.new }
-        ensures memory { IfErr result (MayStopAtRoom (seen_pairs self.entry.root)) }
+            (values_below (K.bytes prefix.now) (seen_pairs self.entry)) result f.new }
+        ensures memory { IfErr result (MayStopAtRoom (seen_pairs self.entry)) }
     {
         self.try_prefix_values_for_each_by_ref_k_counted(prefix, f, &mut Visits::new())
     }
@@ -140,11 +137,10 @@ impl<'a, K: KeyTrait, V> Seen<'a, K, V, Visits> {
         prefix: &K,
         f: F,
     ) -> Result<(), VisitError<E>>
-        requires callable { CanTry F.FnMut f
-            (values_below (K.bytes prefix.now) (seen_pairs self.root)) }
+        requires callable { CanTry F.FnMut f (values_below (K.bytes prefix.now) (seen_pairs self)) }
         ensures calls { EndedVisit F.FnMut f
-            (values_below (K.bytes prefix.now) (seen_pairs self.entry.root)) result }
-        ensures memory { IfErr result (MayStopAtRoom (seen_pairs self.entry.root)) }
+            (values_below (K.bytes prefix.now) (seen_pairs self.entry)) result }
+        ensures memory { IfErr result (MayStopAtRoom (seen_pairs self.entry)) }
     {
         self.try_prefix_values_for_each_k_counted(prefix, f, &mut Visits::new())
     }

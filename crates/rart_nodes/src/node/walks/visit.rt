@@ -3,7 +3,7 @@
 //! A walk allocates before its first call. The caller of a `_by_ref` form keeps its callback, and with it the state
 //! that the last call left.
 ghost use Rattle.std.specs.Prelude.{◌≡◌, ◌≤◌, ◌+◌, ◌^◌, [], reverse, vec_capacity, IfErr, OnErr, OnOk};
-ghost use Rattle.rart_nodes.specs.tries.Tree.{seen_pairs};
+ghost use Rattle.rart_nodes.specs.tries.SeenTrees.{seen_pairs};
 ghost use Rattle.rart_nodes.specs.walks.BelowPrefix.{below_bound, below_visits, values_below};
 ghost use Rattle.rart_nodes.specs.walks.Shown.{CanShow, ShowedEach, ShowsEach};
 ghost use Rattle.rart_nodes.specs.walks.Walk.{IsWalk, nodes_below};
@@ -45,16 +45,16 @@ impl<'a, K: KeyTrait, V, C: Count> Seen<'a, K, V, C> {
         f: &mut F,
         counter: &mut C,
     ) -> Result<(), TreeError>
-        requires callable { CanShow F.FnMut f.old (values_below prefix.now (seen_pairs self.root)) }
+        requires callable { CanShow F.FnMut f.old (values_below prefix.now (seen_pairs self)) }
         ensures callable { F.IsAlwaysCallable f.old → F.IsAlwaysCallable f.new }
         ensures calls { OnOk result
-            (ShowsEach F.FnMut f.old (values_below prefix.now (seen_pairs self.entry.root)) f.new) }
+            (ShowsEach F.FnMut f.old (values_below prefix.now (seen_pairs self.entry)) f.new) }
         ensures unchanged { OnErr result (f.new ≡ f.old) }
-        ensures memory { IfErr result (MayLackRoom (seen_pairs self.entry.root)) }
+        ensures memory { IfErr result (MayLackRoom (seen_pairs self.entry)) }
         ensures visits { OnOk result (C.number counter.new
-            ≤ C.number counter.old + below_visits prefix.now (seen_pairs self.entry.root)) }
+            ≤ C.number counter.old + below_visits prefix.now (seen_pairs self.entry)) }
         ensures bound { C.number counter.new
-            ≤ C.number counter.old + below_bound prefix.now (seen_pairs self.entry.root) }
+            ≤ C.number counter.old + below_bound prefix.now (seen_pairs self.entry) }
     {
         let (mut walk, _path) = self.walk_below::<NoPath>(prefix, counter)?;
         for_each_value(&mut walk, counter, f);
@@ -78,17 +78,16 @@ impl<'a, K: KeyTrait, V, C: Count> Seen<'a, K, V, C> {
         counter: &mut C,
     ) -> Result<(), TreeError>
         requires callable { CanShow F.FnMut f.old
-            (values_below (K.bytes prefix.now) (seen_pairs self.root)) }
+            (values_below (K.bytes prefix.now) (seen_pairs self)) }
         ensures callable { F.IsAlwaysCallable f.old → F.IsAlwaysCallable f.new }
         ensures calls { OnOk result (ShowsEach F.FnMut f.old
-            (values_below (K.bytes prefix.now) (seen_pairs self.entry.root)) f.new) }
+            (values_below (K.bytes prefix.now) (seen_pairs self.entry)) f.new) }
         ensures unchanged { OnErr result (f.new ≡ f.old) }
-        ensures memory { IfErr result (MayLackRoom (seen_pairs self.entry.root)) }
-        ensures visits { OnOk result (C.number counter.new
-            ≤ C.number counter.old
-            + below_visits (K.bytes prefix.now) (seen_pairs self.entry.root)) }
+        ensures memory { IfErr result (MayLackRoom (seen_pairs self.entry)) }
+        ensures visits { OnOk result (C.number counter.new ≤ C.number counter.old
+            + below_visits (K.bytes prefix.now) (seen_pairs self.entry)) }
         ensures bound { C.number counter.new
-            ≤ C.number counter.old + below_bound (K.bytes prefix.now) (seen_pairs self.entry.root) }
+            ≤ C.number counter.old + below_bound (K.bytes prefix.now) (seen_pairs self.entry) }
     {
         self.each_value_below(prefix.as_ref(), f, counter)
     }
@@ -109,15 +108,14 @@ impl<'a, K: KeyTrait, V, C: Count> Seen<'a, K, V, C> {
         counter: &mut C,
     ) -> Result<(), TreeError>
         requires callable { CanShow F.FnMut f
-            (values_below (K.bytes prefix.now) (seen_pairs self.root)) }
+            (values_below (K.bytes prefix.now) (seen_pairs self)) }
         ensures calls { OnOk result (ShowedEach F.FnMut f
-            (values_below (K.bytes prefix.now) (seen_pairs self.entry.root))) }
-        ensures memory { IfErr result (MayLackRoom (seen_pairs self.entry.root)) }
-        ensures visits { OnOk result (C.number counter.new
-            ≤ C.number counter.old
-            + below_visits (K.bytes prefix.now) (seen_pairs self.entry.root)) }
+            (values_below (K.bytes prefix.now) (seen_pairs self.entry))) }
+        ensures memory { IfErr result (MayLackRoom (seen_pairs self.entry)) }
+        ensures visits { OnOk result (C.number counter.new ≤ C.number counter.old
+            + below_visits (K.bytes prefix.now) (seen_pairs self.entry)) }
         ensures bound { C.number counter.new
-            ≤ C.number counter.old + below_bound (K.bytes prefix.now) (seen_pairs self.entry.root) }
+            ≤ C.number counter.old + below_bound (K.bytes prefix.now) (seen_pairs self.entry) }
     {
         self.prefix_values_for_each_by_ref_k_counted(prefix, &mut f, counter)
     }
@@ -136,12 +134,12 @@ impl<'a, K: KeyTrait, V> Seen<'a, K, V, Visits> {
         f: &mut F,
     ) -> Result<(), TreeError>
         requires callable { CanShow F.FnMut f.old
-            (values_below (K.bytes prefix.now) (seen_pairs self.root)) }
+            (values_below (K.bytes prefix.now) (seen_pairs self)) }
         ensures callable { F.IsAlwaysCallable f.old → F.IsAlwaysCallable f.new }
         ensures calls { OnOk result (ShowsEach F.FnMut f.old
-            (values_below (K.bytes prefix.now) (seen_pairs self.entry.root)) f.new) }
+            (values_below (K.bytes prefix.now) (seen_pairs self.entry)) f.new) }
         ensures unchanged { OnErr result (f.new ≡ f.old) }
-        ensures memory { IfErr result (MayLackRoom (seen_pairs self.entry.root)) }
+        ensures memory { IfErr result (MayLackRoom (seen_pairs self.entry)) }
     {
         self.prefix_values_for_each_by_ref_k_counted(prefix, f, &mut Visits::new())
     }
@@ -157,10 +155,10 @@ impl<'a, K: KeyTrait, V> Seen<'a, K, V, Visits> {
         f: F,
     ) -> Result<(), TreeError>
         requires callable { CanShow F.FnMut f
-            (values_below (K.bytes prefix.now) (seen_pairs self.root)) }
+            (values_below (K.bytes prefix.now) (seen_pairs self)) }
         ensures calls { OnOk result (ShowedEach F.FnMut f
-            (values_below (K.bytes prefix.now) (seen_pairs self.entry.root))) }
-        ensures memory { IfErr result (MayLackRoom (seen_pairs self.entry.root)) }
+            (values_below (K.bytes prefix.now) (seen_pairs self.entry))) }
+        ensures memory { IfErr result (MayLackRoom (seen_pairs self.entry)) }
     {
         self.prefix_values_for_each_k_counted(prefix, f, &mut Visits::new())
     }

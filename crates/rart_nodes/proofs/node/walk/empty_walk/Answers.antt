@@ -1,4 +1,4 @@
-use Rattle.rart_nodes.proofs.walks.WalkLemmas.{no-walk}
+use Rattle.rart_nodes.proofs.walks.WalkStarts.{no-walk}
 use Rattle.rart_nodes.proofs.node.walk.empty_walk.Goals as goal
 
 pub returns-clause-path : goal.returns-clause-path

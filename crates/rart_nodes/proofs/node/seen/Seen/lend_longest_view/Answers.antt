@@ -1,12 +1,12 @@
 use Rattle.std.proofs.Common.{rules, of_calls, ap, ◌∙◌}
-use Rattle.rart_nodes.specs.tries.Tree.{seen_keys}
+use Rattle.rart_nodes.specs.tries.SeenTrees.{seen_keys}
 use Rattle.rart_nodes.specs.walks.PathParts.{lent_segments}
 use Rattle.rart_nodes.proofs.walks.CallLemmas.{always-on, can-show}
 use Rattle.rart_nodes.proofs.walks.ShownCuts.{shows-cut}
 use Rattle.rart_nodes.proofs.node.seen.Seen.lend_longest_view.Goals as goal
 
 pub f-requires : goal.f-requires
-f-requires g c = can-show g.F.FnMut c.args.f.now (seen_keys c.args.self.root) _ c.in-Some.path c.in-Some.value
+f-requires g c = can-show g.F.FnMut c.args.f.now (seen_keys c.args.self) _ c.in-Some.path c.in-Some.value
     c.of.result c.requires.callable (rw c.in-Some.is at c.in_ok-path.ensures.found) (c.of.ensures
     ∙ ap lent_segments c.segments.ensures)
 
@@ -15,6 +15,6 @@ returns-clause-callable g c = always-on g.F.FnMut c.args.f.now (c.of.result, (c.
     (search (rules, of_calls))
 
 pub returns-clause-called : goal.returns-clause-called
-returns-clause-called g c = shows-cut (seen_keys c.args.self.root) c.in-Some.path c.in-Some.value c.of.result g.F.FnMut
+returns-clause-called g c = shows-cut (seen_keys c.args.self) c.in-Some.path c.in-Some.value c.of.result g.F.FnMut
     c.args.f.now c.f.new.self _ (rw c.in-Some.is at c.in_ok-path.ensures.found) (c.of.ensures
     ∙ ap lent_segments c.segments.ensures) (search (rules, of_calls))

@@ -14,7 +14,8 @@ use Rattle.rart_nodes.proofs.ranges.StartLemmas.{value_if}
 use Rattle.rart_nodes.proofs.ranges.StartPaths.{all-deepened, some-deepened, way-on}
 use Rattle.rart_nodes.proofs.tries.CanonicalTests.{IsCanonical-test}
 use Rattle.rart_nodes.proofs.walks.SeenLemmas.{child-falls, step-left, step-on}
-use Rattle.rart_nodes.proofs.walks.WalkLemmas.{longest-below, no-walk, prefix-short}
+use Rattle.rart_nodes.proofs.walks.WalkLemmas.{longest-below, prefix-short}
+use Rattle.rart_nodes.proofs.walks.WalkStarts.{no-walk}
 use Rattle.rart_nodes.proofs.node.walk.Walk.descend.Goals as goal
 
 pub loop-next-init : goal.loop-next-init
