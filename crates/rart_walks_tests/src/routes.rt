@@ -1,6 +1,7 @@
 //! A route table: rows of calls and what they answer, and walks over its routes.
 
 mod asking;
+mod drops;
 mod refused;
 
 use rart::laws::routes::{add_then_route, withdraw_then_route};
@@ -19,6 +20,9 @@ enum Ask {
     AddNew(&'static str, u64),
     Replace(&'static str, u64),
     Withdraw(&'static str),
+    // the target of the prefix itself
+    Get(&'static str),
+    Clear,
     Route(&'static str),
     // the target of a route of the counted tree
     RouteSeen(&'static str),
@@ -37,6 +41,7 @@ enum Reply {
     Value(Option<u64>),
     Is(bool),
     Len(usize),
+    Cleared,
     // refused with `Memory`, and the target comes back
     Returned(u64),
     // refused with `Memory`
@@ -107,6 +112,11 @@ fn answer(table: &mut Table, ask: Ask) -> Reply {
             Err(TreeError::Memory) => Reply::Refused,
             Err(TreeError::Full) => Reply::Other,
         },
+        Ask::Get(prefix) => Reply::Value(table.get(&key(prefix)).copied()),
+        Ask::Clear => {
+            table.clear();
+            Reply::Cleared
+        }
         Ask::Route(probe) => Reply::Value(table.route(probe.as_bytes()).copied()),
         Ask::RouteSeen(probe) => Reply::Value(route_seen(table, probe)),
         Ask::IsRoute(probe, prefix, target) => Reply::Is(is_route(table, probe, prefix, target)),
@@ -139,7 +149,13 @@ const VERSIONS: [Row; 9] = [
     (Ask::Len, Reply::Len(3)),
 ];
 
-const EDITED: [Row; 19] = [
+const EDITED: [Row; 26] = [
+    (Ask::Get("/api"), Reply::Value(Some(2))),
+    (Ask::Get("/api/v1"), Reply::Value(Some(3))),
+    // no route of its own: below a node, between two and after the last
+    (Ask::Get(""), Reply::Value(None)),
+    (Ask::Get("/ap"), Reply::Value(None)),
+    (Ask::Get("/api/v1/users"), Reply::Value(None)),
     (Ask::IsRoute("/api/v1/users", "/api/v1", 3), Reply::Is(true)),
     (Ask::IsRoute("/apis", "/api", 2), Reply::Is(true)),
     (Ask::IsRoute("/ap", "/", 1), Reply::Is(true)),
@@ -149,6 +165,7 @@ const EDITED: [Row; 19] = [
         Reply::Value(Some(3)),
     ),
     (Ask::Withdraw("/api"), Reply::Value(Some(2))),
+    (Ask::Get("/api"), Reply::Value(None)),
     (Ask::Route("/api/v2"), Reply::Value(Some(1))),
     (Ask::Route("/api/v1"), Reply::Value(Some(3))),
     (Ask::Withdraw("/api"), Reply::Value(None)),
@@ -162,6 +179,21 @@ const EDITED: [Row; 19] = [
     (Ask::AddNew("/b", 6), Reply::Added),
     (Ask::AddNew("/b", 8), Reply::Stored(8)),
     (Ask::Route("/b"), Reply::Value(Some(6))),
+    (Ask::Get("/apple"), Reply::Value(Some(5))),
+];
+
+const CLEARED: [Row; 11] = [
+    (Ask::Clear, Reply::Cleared),
+    (Ask::Len, Reply::Len(0)),
+    (Ask::IsEmpty, Reply::Is(true)),
+    (Ask::Get("/api"), Reply::Value(None)),
+    (Ask::Route("/api/v2"), Reply::Value(None)),
+    (Ask::Clear, Reply::Cleared),
+    (Ask::Add("/api", 4), Reply::Added),
+    (Ask::Get("/api"), Reply::Value(Some(4))),
+    (Ask::Get("/"), Reply::Value(None)),
+    (Ask::Route("/api/v2"), Reply::Value(Some(4))),
+    (Ask::Len, Reply::Len(1)),
 ];
 
 // The routes that come in turn are counted; past all of them where another comes.
@@ -187,6 +219,22 @@ fn next_view(
         }
         _ => 1000,
     }
+}
+
+// The iterator gives these routes, and after the last always none.
+fn lists(table: &Table, wanted: &[(&str, u64)]) -> Result<bool, TreeError> {
+    let mut routes = table.iter()?;
+    for (text, value) in wanted {
+        match routes.next() {
+            Some((prefix, target)) => {
+                if prefix.as_slice() != text.as_bytes() || *target != *value {
+                    return Ok(false);
+                }
+            }
+            None => return Ok(false),
+        }
+    }
+    Ok(routes.next().is_none() && routes.next().is_none())
 }
 
 // Both forms of the walk over the routes that cover the probe give these.
@@ -237,6 +285,21 @@ fn probes_are_routed_by_their_longest_prefix(rt: HostRuntime) {
     assert_eq!(rt; filled, None);
     assert!(rt; walked == Ok(true));
     assert_eq!(rt; edited, None);
+}
+
+#[test]
+fn routes_are_listed_by_their_prefixes_until_the_table_is_cleared(rt: HostRuntime) {
+    let mut table = Table::new(rt.alloc());
+    let (filled, listed, cleared, at_last) = (
+        plays(&mut table, &VERSIONS),
+        lists(&table, &[("/", 1), ("/api", 2), ("/api/v1", 3)]),
+        plays(&mut table, &CLEARED),
+        lists(&table, &[("/api", 4)]),
+    );
+    assert_eq!(rt; filled, None);
+    assert!(rt; listed == Ok(true));
+    assert_eq!(rt; cleared, None);
+    assert!(rt; at_last == Ok(true));
 }
 
 // The targets of a probe before and after an edit.

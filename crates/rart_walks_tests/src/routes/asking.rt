@@ -1,13 +1,15 @@
 //! Calls of a route table that may ask for no memory.
 
-use super::{Ask, Reply, Row, Table, VERSIONS, covers, plays};
+use super::{Ask, Reply, Row, Table, VERSIONS, covers, lists, plays};
 use rart_test_tools::refusals::{refuse, was_refused};
 use std::alloc::Global;
 
-// Look-ups, and edits that change no node.
-const QUIET: [Row; 12] = [
+// Look-ups, edits that change no node, and one that frees all.
+const QUIET: [Row; 16] = [
     (Ask::Len, Reply::Len(3)),
     (Ask::IsEmpty, Reply::Is(false)),
+    (Ask::Get("/api"), Reply::Value(Some(2))),
+    (Ask::Get("/ap"), Reply::Value(None)),
     (Ask::Route("/api/v2"), Reply::Value(Some(2))),
     (Ask::Route("home"), Reply::Value(None)),
     (Ask::RouteSeen("/api/v2"), Reply::Value(Some(2))),
@@ -18,6 +20,8 @@ const QUIET: [Row; 12] = [
     (Ask::AddNew("/api", 8), Reply::Stored(8)),
     (Ask::Withdraw("/ap"), Reply::Value(None)),
     (Ask::Route("/api/v2"), Reply::Value(Some(9))),
+    (Ask::Clear, Reply::Cleared),
+    (Ask::Len, Reply::Len(0)),
 ];
 
 // Whether all goes well while the next request is refused, and none is made.
@@ -44,7 +48,7 @@ fn is_quiet_when_new(alloc: Global) -> bool {
     refuse(alloc, 1);
     let table = Table::new(alloc);
     table.canonical();
-    let empty = table.is_empty();
+    let empty = table.is_empty() && lists(&table, &[]) == Ok(true);
     !was_refused(alloc) && empty
 }
 

@@ -1,8 +1,8 @@
 //! Edits of a route table and walks over its routes with each of their requests refused in turn.
 
-use super::{Ask, Reply, Row, Table, answer, key, plays};
+use super::{Ask, Reply, Row, Table, answer, key, lists, plays};
 use rart::{LendingKeyView, TreeError, TreeStatsTrait};
-use rart_test_tools::refusals::{part_ends, refuse, was_refused};
+use rart_test_tools::refusals::{is_swept, part_ends, refuse, was_refused};
 use std::alloc::{AllocError, Global};
 use std::cell::Cell;
 
@@ -184,4 +184,35 @@ fn views_of_routes_refused_in_turn(rt: HostRuntime) {
     for lent in [false, true] {
         assert!(rt; walk_is_swept(rt.alloc(), &table, lent), "lent {lent}");
     }
+}
+
+// A refused iterator says `Memory`, and one with memory gives all routes. Whether a request was refused.
+fn list_is_refused_well(alloc: Global, table: &Table, at: usize) -> Option<bool> {
+    refuse(alloc, at);
+    let listed = lists(
+        table,
+        &[
+            ("/", 7),
+            ("/a/b", 1),
+            ("/a/c", 2),
+            ("/a/d", 3),
+            ("/a/e", 4),
+            ("/a/f", 5),
+        ],
+    );
+    let refused = was_refused(alloc);
+    let well = match listed {
+        Ok(all) => all && !refused,
+        Err(error) => refused && error == TreeError::Memory,
+    };
+    well.then_some(refused)
+}
+
+#[test]
+fn lists_of_routes_refused_in_turn(rt: HostRuntime) {
+    let alloc = rt.alloc();
+    let mut table = Table::new(alloc);
+    let filled = plays(&mut table, &BRANCHES);
+    assert_eq!(rt; filled, None);
+    assert!(rt; is_swept(alloc, |at| list_is_refused_well(alloc, &table, at)));
 }
