@@ -17,6 +17,7 @@ use std::alloc::Global;
 use std::marker::{Model, PhantomData};
 
 mod bulk;
+mod ends;
 mod get_mut;
 mod intersect;
 mod statistics;

@@ -1,2 +1,3 @@
 pub mod ChildLemmas
 pub mod DeletionLemmas
+pub mod EndEntries

@@ -1,5 +1,6 @@
 pub mod CanonicalTests
 pub mod Descents
+pub mod EndLemmas
 pub mod FirstBytes
 pub mod LongerPrefix
 pub mod NodeCounts

@@ -1,4 +1,5 @@
 pub mod CanonicalTest
+pub mod Ends
 pub mod PrefixLaws
 pub mod SeenTrees
 pub mod Tree

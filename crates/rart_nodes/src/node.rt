@@ -13,6 +13,7 @@ use std::marker::Model;
 mod build;
 mod children;
 mod control;
+mod ends;
 mod get_mut;
 mod insert;
 mod intersect;

@@ -6,6 +6,8 @@
 #![tactic(auto)]
 
 #[cfg(test)]
+mod ends;
+#[cfg(test)]
 mod iterators;
 #[cfg(test)]
 mod joins;

@@ -9,10 +9,12 @@ ghost use Rattle.rart_keys.specs.KeyBytes.{IsWithin, IsWithin-prop};
 ghost use Rattle.rart_keys.specs.SortedMap.{count_of, longest_key};
 ghost use Rattle.rart_nodes.specs.ranges.Starts.{children_above};
 ghost use Rattle.rart_nodes.specs.tries.CanonicalTest.{is_canonical, is_canonical_tree};
+ghost use Rattle.rart_nodes.specs.tries.Ends.{end_child};
 ghost use Rattle.rart_nodes.specs.tries.Tree.{IsCanonicalTree, tree_pairs};
 ghost use Rattle.rart_nodes.specs.tries.Trie.{child, child_in, children_in, edges_of, no_children, prefix_of, value_of};
 
 use crate::count::{Count, Paired};
+use crate::node::ends::End;
 use crate::node::{DefaultNode, Node, NodeIter};
 use rart_keys::{KeyTrait, Partial};
 use std::alloc::{AllocError, Global};
@@ -235,6 +237,18 @@ impl<'a, P: Partial, V, C> Entered<'a, P, V, C> {
         ensures { option_map (λ s. s.node.now) result ≡ child_in b self.entry.node.now }
     {
         let node = self.node.seek_child(b)?;
+        Some(Shared {
+            node,
+            of: PhantomData,
+        })
+    }
+
+    /// Returns the child below which the pair at `end` is, not yet visited, or `None` if the node holds that pair.
+    pub(crate) fn end_child(self, end: End) -> Option<Shared<'a, P, V, C>>
+        ensures { option_map (λ s. s.node.now) result
+            ≡ option_map (λ e. e.1) (end_child end self.entry.node.now) }
+    {
+        let (_, node) = self.node.end_child(end)?;
         Some(Shared {
             node,
             of: PhantomData,

@@ -8,6 +8,7 @@ ghost use Rattle.rart_nodes.specs.storages.Stored.{stored, width_of};
 use rart_parts::mapping::{DirectMapping, IndexedMapping, NodeMapping, SortedKeyedMapping};
 use rart_parts::utils::bitset::Bitset64;
 
+mod ends;
 mod room;
 mod shrink;
 pub(crate) mod walk;

@@ -1,0 +1,59 @@
+//! The first and the last child of a storage.
+ghost use Rattle.std.specs.Prelude.{◌≡◌, None, option_map, slice_get};
+ghost use Rattle.rart_keys.specs.Filters.{last_or};
+ghost use Rattle.rart_nodes.specs.storages.Stored.{stored};
+
+use crate::node::storage::Storage;
+use rart_parts::mapping::{NodeMapping, SortedKeyedMappingIter};
+
+/// Returns the last of the remaining children.
+fn last_of<N>(rest: SortedKeyedMappingIter<'_, N>) -> Option<(u8, &N)>
+    ensures { option_map (λ e. (e.0, e.1.now)) result ≡ last_or None rest.entry }
+{
+    let mut rest = rest;
+    let mut last = None;
+    while let Some(child) = rest.next() {
+        last = Some(child);
+    }
+    last
+}
+
+/// Returns the child at the greatest byte. It reads the bytes downward from 255.
+fn greatest<N, M: NodeMapping<N, W>, const W: usize>(map: &M) -> Option<(u8, &N)>
+    ensures { option_map (λ e. (e.0, e.1.now)) result ≡ last_or None (M.map map.now) }
+{
+    if map.num_children() == 0 {
+        return None;
+    }
+    let mut above = 256_usize;
+    while above > 0 {
+        above -= 1;
+        let byte = above as u8;
+        if let Some(child) = map.seek_child(byte) {
+            return Some((byte, child));
+        }
+    }
+    None
+}
+
+impl<N> Storage<N> {
+    /// Returns the child at the least byte, with that byte.
+    pub(crate) fn first_child(&self) -> Option<(u8, &N)>
+        ensures { option_map (λ e. (e.0, e.1.now)) result ≡ slice_get (stored self.now) 0 }
+    {
+        self.iter().take_next()
+    }
+
+    /// Returns the child at the greatest byte, with that byte.
+    pub(crate) fn last_child(&self) -> Option<(u8, &N)>
+        ensures { option_map (λ e. (e.0, e.1.now)) result ≡ last_or None (stored self.now) }
+    {
+        match self {
+            Storage::Leaf => None,
+            Storage::Node4(map) => last_of(map.iter()),
+            Storage::Node16(map) => last_of(map.iter()),
+            Storage::Node48(map) => greatest(&**map),
+            Storage::Node256(map) => greatest(&**map),
+        }
+    }
+}

@@ -1,0 +1,72 @@
+//! The pairs with the least and with the greatest key.
+
+use crate::prefixes::{Key, Pair, Tree, filled, is_pair};
+use rart::{AdaptiveRadixTree, ArrayKey, KeyTrait, RouteTable};
+use std::alloc::Global;
+use std::process::Abort;
+
+// Pairs in the order of their insertion; the first and the last by key.
+type Row = (&'static [Pair], Option<Pair>, Option<Pair>);
+
+const ROWS: [Row; 6] = [
+    (&[], None, None),
+    (&[("b", 1)], Some(("b", 1)), Some(("b", 1))),
+    (&[("", 0), ("a", 1)], Some(("", 0)), Some(("a", 1))),
+    (&[("ab", 2), ("a", 1), ("abc", 3)], Some(("a", 1)), Some(("abc", 3))),
+    (&[("alpine", 4), ("alpha1", 1), ("alpha2", 2)], Some(("alpha1", 1)), Some(("alpine", 4))),
+    (&[("m", 3), ("z", 5), ("c", 2), ("zz", 6), ("b", 1), ("r", 4)], Some(("b", 1)), Some(("zz", 6))),
+];
+
+fn is_end(found: &Option<(Key, &u64)>, wanted: &Option<Pair>) -> bool {
+    match (found, wanted) {
+        (Some(pair), Some(wanted)) => is_pair(pair, wanted),
+        (None, None) => true,
+        _ => false,
+    }
+}
+
+fn has_ends(tree: &Tree, row: &Row) -> bool {
+    is_end(&tree.first_key_value(), &row.1) && is_end(&tree.last_key_value(), &row.2)
+}
+
+#[test]
+fn the_first_and_the_last_pair(rt: HostRuntime) {
+    for row in ROWS {
+        assert!(rt; has_ends(&filled(&rt, rt.alloc(), row.0), &row));
+    }
+}
+
+// A tree of one byte a key, `count` of them from `from` on.
+fn fan(rt: &impl Abort, alloc: Global, from: u8, count: u8) -> AdaptiveRadixTree<ArrayKey<1>, u64> {
+    let mut tree = AdaptiveRadixTree::new(alloc);
+    for at in 0..count {
+        let byte = from.wrapping_add(at);
+        assert!(rt; tree.insert(ArrayKey::<1>::new_from_slice(&[byte]), u64::from(byte)).is_ok());
+    }
+    tree
+}
+
+fn end_values(tree: &AdaptiveRadixTree<ArrayKey<1>, u64>) -> (Option<u64>, Option<u64>) {
+    (
+        tree.first_key_value().map(|pair| *pair.1),
+        tree.last_key_value().map(|pair| *pair.1),
+    )
+}
+
+#[test]
+fn the_ends_in_each_kind_of_node(rt: HostRuntime) {
+    for (from, count, last) in [(7, 4, 10), (7, 16, 22), (7, 48, 54), (7, 49, 55), (7, 249, 255)] {
+        let tree = fan(&rt, rt.alloc(), from, count);
+        assert_eq!(rt; end_values(&tree), (Some(7), Some(last)));
+    }
+}
+
+#[test]
+fn the_ends_of_a_route_table(rt: HostRuntime) {
+    let mut table = RouteTable::<ArrayKey<4>, u64>::new(rt.alloc());
+    assert!(rt; table.first_key_value().is_none() && table.last_key_value().is_none());
+    assert!(rt; table.replace(&ArrayKey::<4>::new_from_slice(b"b"), 2).is_ok());
+    assert!(rt; table.replace(&ArrayKey::<4>::new_from_slice(b"a"), 1).is_ok());
+    assert!(rt; table.first_key_value().map(|pair| *pair.1) == Some(1));
+    assert!(rt; table.last_key_value().map(|pair| *pair.1) == Some(2));
+}
