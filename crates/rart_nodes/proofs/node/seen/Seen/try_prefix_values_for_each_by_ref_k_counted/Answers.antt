@@ -2,8 +2,9 @@ use Rattle.std.proofs.Common.{◌≡◌, [], List, Ok, Err, ap, ◌∙◌, sym, 
 use Rattle.std.specs.Option.{option_copied}
 use Rattle.rart_keys.specs.Filters.{below}
 use Rattle.rart_keys.specs.SortedMap.{values_of}
-use Rattle.rart_nodes.specs.tries.SeenTrees.{seen_pairs}
+use Rattle.rart_nodes.specs.tries.SeenTrees.{seen_keys, seen_pairs}
 use Rattle.rart_nodes.specs.tries.Tree.{tree_pairs}
+use Rattle.rart_nodes.specs.walks.ProbeCount.{probe_count}
 use Rattle.rart_nodes.specs.walks.Walk.{entry_values, entries_ahead}
 use Rattle.rart_nodes.specs.walks.PathParts.{no_segment}
 use Rattle.rart_nodes.specs.walks.Tried.{CanTry, EndsAs}
@@ -48,5 +49,15 @@ returns-clause-bound g c = omega (
   c.in-Ok.ensures.few,
   c.try_for_each.ensures.visits,
   ap length c.as_ref.ensures,
+  ap (λ q. length (below q (seen_pairs c.args.self))) c.as_ref.ensures,
+)
+
+pub returns-clause-visits : goal.returns-clause-visits
+returns-clause-visits g c = omega (
+  arith,
+  c.in-Ok.ensures.visits,
+  c.in-Ok.ensures.few,
+  c.try_for_each.ensures.visits,
+  ap (λ q. probe_count (seen_keys c.args.self) q) c.as_ref.ensures,
   ap (λ q. length (below q (seen_pairs c.args.self))) c.as_ref.ensures,
 )
