@@ -23,6 +23,12 @@ WayRoom Untold n = Unit {0}
 WayRoom (Bytes k) n = length k.items + n ≤ vec_capacity k
 WayRoom (Segments k) n = length k.items + n ≤ vec_capacity k
 
+-- the room is that for n bytes, and no more
+abbrev pub HasRoomOf : ℕ → Kept → Type 0
+HasRoomOf n Untold = Unit {0}
+HasRoomOf n (Bytes k) = vec_capacity k ≡ n
+HasRoomOf n (Segments k) = vec_capacity k ≡ n
+
 -- l stands after k by the bytes p
 pub record BytesGrown (k : Vec ℕ) (p : List ℕ) (l : Vec ℕ) : Type 0 where
   pub bytes : l.items ≡ k.items ++ p

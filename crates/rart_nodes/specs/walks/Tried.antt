@@ -44,6 +44,12 @@ IfRoom (Ok u) P = P
 IfRoom (Err (Callback e)) P = P
 IfRoom (Err Memory) P = Unit {0}
 
+-- P holds, if there was no room
+abbrev pub OnNoRoom : {E : Type 0} → Result (Unit {0}) (VisitError E) → Type 0 → Type 0
+OnNoRoom (Ok u) P = Unit {0}
+OnNoRoom (Err (Callback e)) P = Unit {0}
+OnNoRoom (Err Memory) P = P
+
 -- there was no room, and there is something to go through
 abbrev pub MayStopAtRoom : {A E : Type 0} → List A → VisitError E → Type 0
 MayStopAtRoom xs e = e ≡ Memory → xs ≢ []

@@ -9,7 +9,7 @@ ghost use Rattle.rart_nodes.specs.joins.PairCalls.{CanCallWith};
 ghost use Rattle.rart_nodes.specs.joins.SeenJoins.{MayLackBoth, seen_bound, seen_join, seen_visits};
 ghost use Rattle.rart_nodes.specs.joins.SharedEdges.{joint_visits, more_visits};
 ghost use Rattle.rart_nodes.specs.joins.ViewCalls.{CanViewAt, ViewedAtEach, ViewsAtEach};
-ghost use Rattle.rart_nodes.specs.joins.JoinPaths.{WayGrown};
+ghost use Rattle.rart_nodes.specs.joins.JoinPaths.{HasRoomOf, WayGrown};
 ghost use Rattle.rart_nodes.specs.tries.SeenTrees.{seen_keys, seen_nodes, seen_pairs};
 ghost use Rattle.rart_nodes.specs.tries.Trie.{pairs_of};
 
@@ -66,7 +66,7 @@ fn intersect_below<'a, P: Partial, V, W, C: Count, F, T: Visitor<V, W, F>>(
     way.cut(mark);
 }
 
-/// Visits the pairs of both trees.
+/// Visits the pairs of both trees. The way has room for the longest key of the left one, and for no more.
 fn intersect_trees<'a, K: KeyTrait, V, W, C: Count, F, T: Visitor<V, W, F>>(
     left: Seen<'a, K, V, C>,
     right: Seen<'_, K, W, Paired<C>>,
@@ -75,6 +75,7 @@ fn intersect_trees<'a, K: KeyTrait, V, W, C: Count, F, T: Visitor<V, W, F>>(
     f: &mut F,
 )
     requires room { T.room way.old (longest_key (seen_pairs left)) }
+    requires no_more_room { HasRoomOf (length_bound left) way.old }
     requires callable { CanGive T.can T.given way.old f.old (seen_join left right) }
     ensures given { T.given way.old f.old
         (join (seen_pairs left.entry) (seen_pairs right.entry)) f.new }

@@ -18,14 +18,17 @@ pub(crate) trait Path<'a, P: Partial>: Keeps + Drop {
 
     ghost room: { Self → ℕ };
 
+    ghost requested: { Self → ℕ };
+
     /// Returns an empty path without room.
     fn empty(alloc: Global) -> Self
         ensures { kept result ≡ [] };
 
-    /// Returns an empty path with room for keys of `longest` bytes.
+    /// Returns an empty path with room for keys of `longest` bytes, and for no more.
     fn with_room(alloc: Global, longest: usize) -> Result<Self, AllocError>
         ensures nothing { IfOk result (λ t. kept t ≡ []) }
-        ensures room { IfOk result (λ t. longest ≤ room t) };
+        ensures room { IfOk result (λ t. longest ≤ room t) }
+        ensures requested { IfOk result (λ t. requested t ≤ longest) };
 
     /// Returns the length of what is kept.
     fn mark(&self) -> usize
@@ -73,6 +76,8 @@ impl<'a, P: Partial> Path<'a, P> for BytePath {
     ghost kept = { λ t. byte_segments t.key.items };
 
     ghost room = { λ t. vec_capacity t.key };
+
+    ghost requested = { λ t. vec_capacity t.key };
 
     fn empty(alloc: Global) -> Self {
         BytePath {
@@ -130,6 +135,8 @@ impl<'a, P: Partial> Path<'a, P> for SegmentPath<'a> {
 
     ghost room = { λ t. vec_capacity t.segments };
 
+    ghost requested = { λ t. vec_capacity t.segments };
+
     fn empty(alloc: Global) -> Self {
         SegmentPath {
             segments: Vec::new(alloc),
@@ -173,6 +180,8 @@ impl<'a, P: Partial> Path<'a, P> for NoPath {
     ghost kept = { λ t. [] };
 
     ghost room = { λ t. 2 ^ 64 };
+
+    ghost requested = { λ t. 0 };
 
     fn empty(_alloc: Global) -> Self {
         NoPath

@@ -123,6 +123,17 @@ pub(crate) fn empty_walk<'a, P: Partial, V, C, T: Path<'a, P>>(
     (walk, T::empty(alloc))
 }
 
+impl<'a, K: KeyTrait, V, C> Seen<'a, K, V, C> {
+    /// Returns an empty path with room for the number of bytes that the tree keeps, and for no more.
+    pub(crate) fn new_path<T: Path<'a, K::PartialType>>(self) -> Result<T, AllocError>
+        ensures nothing { IfOk result (λ t. T.kept t ≡ []) }
+        ensures room { IfOk result (λ t. self.entry.longest ≤ T.room t) }
+        ensures requested { IfOk result (λ t. T.requested t ≤ self.entry.longest) }
+    {
+        T::with_room(self.alloc(), self.longest())
+    }
+}
+
 impl<'a, K: KeyTrait, V, C: Count> Seen<'a, K, V, C> {
     /// Returns a walk over all pairs with its path. It visits the root, and allocates nothing for an empty tree.
     pub(crate) fn walk<T: Path<'a, K::PartialType>>(
@@ -151,7 +162,7 @@ impl<'a, K: KeyTrait, V, C: Count> Seen<'a, K, V, C> {
             return Ok(empty_walk(alloc));
         };
         let root = root.enter(counter);
-        let mut path = T::with_room(alloc, longest)?;
+        let mut path = self.new_path::<T>()?;
         // no vector has room for `usize::MAX` levels, so that at such a length the request is refused
         let levels = Vec::with_capacity(alloc, longest.saturating_add(1))?;
         let walk = start(levels, longest, &mut path, root);

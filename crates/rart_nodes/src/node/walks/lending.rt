@@ -58,6 +58,7 @@ impl<'a, K: KeyTrait, V, C: Count> Seen<'a, K, V, C> {
             (cut_below prefix.now (seen_pairs self.entry)) f.new) }
         ensures unchanged { OnErr result (f.new ≡ f.old) }
         ensures memory { IfErr result (MayLackRoom (seen_pairs self.entry)) }
+        ensures unread { OnErr result (counter.new ≡ counter.old) }
         ensures visits { OnOk result (C.number counter.new
             ≤ C.number counter.old + below_visits prefix.now (seen_pairs self.entry)) }
         ensures bound { C.number counter.new
@@ -91,6 +92,7 @@ impl<'a, K: KeyTrait, V, C: Count> Seen<'a, K, V, C> {
             (cut_below (K.bytes prefix.now) (seen_pairs self.entry)) f.new) }
         ensures unchanged { OnErr result (f.new ≡ f.old) }
         ensures memory { IfErr result (MayLackRoom (seen_pairs self.entry)) }
+        ensures unread { OnErr result (counter.new ≡ counter.old) }
         ensures visits { OnOk result (C.number counter.new ≤ C.number counter.old
             + below_visits (K.bytes prefix.now) (seen_pairs self.entry)) }
         ensures bound { C.number counter.new
@@ -118,6 +120,7 @@ impl<'a, K: KeyTrait, V, C: Count> Seen<'a, K, V, C> {
         ensures calls { OnOk result (ViewedEach F.FnMut f
             (cut_below (K.bytes prefix.now) (seen_pairs self.entry))) }
         ensures memory { IfErr result (MayLackRoom (seen_pairs self.entry)) }
+        ensures unread { OnErr result (counter.new ≡ counter.old) }
         ensures visits { OnOk result (C.number counter.new ≤ C.number counter.old
             + below_visits (K.bytes prefix.now) (seen_pairs self.entry)) }
         ensures bound { C.number counter.new
@@ -147,6 +150,7 @@ impl<'a, K: KeyTrait, V, C: Count> Seen<'a, K, V, C> {
             (cut_pairs (seen_keys self.entry) (seen_pairs self.entry)) f.new) }
         ensures unchanged { OnErr result (f.new ≡ f.old) }
         ensures memory { IfErr result (MayLackRoom (seen_pairs self.entry)) }
+        ensures unread { OnErr result (counter.new ≡ counter.old) }
         ensures visits { OnOk result (C.number counter.new ≤ C.number counter.old
             + (probe_count (seen_keys self.entry) [] + 2 * length (seen_pairs self.entry))) }
         ensures bound { C.number counter.new
@@ -173,6 +177,7 @@ impl<'a, K: KeyTrait, V, C: Count> Seen<'a, K, V, C> {
         ensures calls { OnOk result (ViewedEach F.FnMut f
             (cut_pairs (seen_keys self.entry) (seen_pairs self.entry))) }
         ensures memory { IfErr result (MayLackRoom (seen_pairs self.entry)) }
+        ensures unread { OnErr result (counter.new ≡ counter.old) }
         ensures visits { OnOk result (C.number counter.new ≤ C.number counter.old
             + (probe_count (seen_keys self.entry) [] + 2 * length (seen_pairs self.entry))) }
         ensures bound { C.number counter.new

@@ -4,6 +4,7 @@ ghost use Rattle.rart_keys.specs.Filters.{longest_match};
 ghost use Rattle.rart_nodes.specs.tries.SeenTrees.{seen_keys, seen_pairs};
 ghost use Rattle.rart_nodes.specs.walks.BelowPrefix.{MayLackMatch, match_visits};
 ghost use Rattle.rart_nodes.specs.walks.PathParts.{lent_segments};
+ghost use Rattle.rart_nodes.specs.walks.ProbeCount.{probe_count};
 ghost use Rattle.rart_nodes.specs.walks.ViewSegments.{AreViews};
 ghost use Rattle.rart_nodes.specs.walks.Viewed.{CanSeeFound, CanShowFound, IsCutOf, SeesFound, ShowsFound};
 
@@ -27,6 +28,8 @@ impl<'a, K: KeyTrait, V, C: Count> Seen<'a, K, V, C> {
         ensures views { IfOk result (λ r. IfSome r
             (λ p. AreViews ((lent_segments p.0.segments.items, p.1.now) ∷ []))) }
         ensures memory { IfErr result (MayLackMatch probe.now (seen_pairs self.entry)) }
+        ensures looked_up { OnErr result (C.number counter.new
+            ≡ C.number counter.old + probe_count (seen_keys self.entry) probe.now) }
         ensures visits { OnOk result (C.number counter.new
             ≤ C.number counter.old + match_visits probe.now (seen_pairs self.entry)) }
         ensures bound { C.number counter.new ≤ C.number counter.old + 3 * length probe.now + 2 }
@@ -53,6 +56,8 @@ impl<'a, K: KeyTrait, V, C: Count> Seen<'a, K, V, C> {
         ensures called { IfOk result (SeesFound F.FnOnce f (seen_keys self.entry)
             (longest_match probe.now (seen_pairs self.entry))) }
         ensures memory { IfErr result (MayLackMatch probe.now (seen_pairs self.entry)) }
+        ensures looked_up { OnErr result (C.number counter.new
+            ≡ C.number counter.old + probe_count (seen_keys self.entry) probe.now) }
         ensures visits { OnOk result (C.number counter.new
             ≤ C.number counter.old + match_visits probe.now (seen_pairs self.entry)) }
         ensures bound { C.number counter.new ≤ C.number counter.old + 3 * length probe.now + 2 }
@@ -77,6 +82,8 @@ impl<'a, K: KeyTrait, V, C: Count> Seen<'a, K, V, C> {
             (longest_match probe.now (seen_pairs self.entry)) f.new) }
         ensures unchanged { OnErr result (f.new ≡ f.old) }
         ensures memory { IfErr result (MayLackMatch probe.now (seen_pairs self.entry)) }
+        ensures looked_up { OnErr result (C.number counter.new
+            ≡ C.number counter.old + probe_count (seen_keys self.entry) probe.now) }
         ensures visits { OnOk result (C.number counter.new
             ≤ C.number counter.old + match_visits probe.now (seen_pairs self.entry)) }
         ensures bound { C.number counter.new ≤ C.number counter.old + 3 * length probe.now + 2 }
@@ -112,6 +119,8 @@ impl<'a, K: KeyTrait, V, C: Count> Seen<'a, K, V, C> {
             (longest_match (K.bytes probe.now) (seen_pairs self.entry)) f.new) }
         ensures unchanged { OnErr result (f.new ≡ f.old) }
         ensures memory { IfErr result (MayLackMatch (K.bytes probe.now) (seen_pairs self.entry)) }
+        ensures looked_up { OnErr result (C.number counter.new
+            ≡ C.number counter.old + probe_count (seen_keys self.entry) (K.bytes probe.now)) }
         ensures visits { OnOk result (C.number counter.new ≤ C.number counter.old
             + match_visits (K.bytes probe.now) (seen_pairs self.entry)) }
         ensures bound { C.number counter.new
@@ -140,6 +149,8 @@ impl<'a, K: KeyTrait, V, C: Count> Seen<'a, K, V, C> {
         ensures called { IfOk result (SeesFound F.FnOnce f (seen_keys self.entry)
             (longest_match (K.bytes probe.now) (seen_pairs self.entry))) }
         ensures memory { IfErr result (MayLackMatch (K.bytes probe.now) (seen_pairs self.entry)) }
+        ensures looked_up { OnErr result (C.number counter.new
+            ≡ C.number counter.old + probe_count (seen_keys self.entry) (K.bytes probe.now)) }
         ensures visits { OnOk result (C.number counter.new ≤ C.number counter.old
             + match_visits (K.bytes probe.now) (seen_pairs self.entry)) }
         ensures bound { C.number counter.new

@@ -94,6 +94,7 @@ impl<'a, K: KeyTrait + Drop, V, C: Count> Seen<'a, K, V, C> {
             (seen_pairs self.entry)) f.new) }
         ensures unchanged { OnErr result (f.new ≡ f.old) }
         ensures memory { IfErr result (MayLackRoom (seen_pairs self.entry)) }
+        ensures unread { OnErr result (counter.new ≡ counter.old) }
         ensures visits { OnOk result (C.number counter.new ≤ C.number counter.old
             + span_visits (bound_in K.bytes start) (bound_in K.bytes end) (seen_pairs self.entry)) }
         ensures bound { C.number counter.new ≤ C.number counter.old
@@ -127,6 +128,7 @@ impl<'a, K: KeyTrait + Drop, V, C: Count> Seen<'a, K, V, C> {
         ensures calls { OnOk result (ViewedEach F.FnMut f
             (cut_between (bound_in K.bytes start) (bound_in K.bytes end) (seen_pairs self.entry))) }
         ensures memory { IfErr result (MayLackRoom (seen_pairs self.entry)) }
+        ensures unread { OnErr result (counter.new ≡ counter.old) }
         ensures visits { OnOk result (C.number counter.new ≤ C.number counter.old
             + span_visits (bound_in K.bytes start) (bound_in K.bytes end) (seen_pairs self.entry)) }
         ensures bound { C.number counter.new ≤ C.number counter.old

@@ -4,7 +4,7 @@ ghost use Rattle.rart_nodes.specs.tries.SeenTrees.{seen_pairs};
 ghost use Rattle.rart_nodes.specs.walks.BelowPrefix.{below_bound, below_visits, values_below};
 ghost use Rattle.rart_nodes.specs.walks.Walk.{IsWalk, nodes_below};
 ghost use Rattle.rart_nodes.specs.walks.PathParts.{values_ahead};
-ghost use Rattle.rart_nodes.specs.walks.Tried.{CanTry, EndedVisit, EndsAs, EndsVisit, IfRoom, MayStopAtRoom};
+ghost use Rattle.rart_nodes.specs.walks.Tried.{CanTry, EndedVisit, EndsAs, EndsVisit, IfRoom, MayStopAtRoom, OnNoRoom};
 
 use crate::count::{Count, Visits};
 use crate::node::control::{VisitControl, VisitError};
@@ -62,6 +62,7 @@ impl<'a, K: KeyTrait, V, C: Count> Seen<'a, K, V, C> {
         ensures calls { EndsVisit F.FnMut f.old
             (values_below (K.bytes prefix.now) (seen_pairs self.entry)) result f.new }
         ensures memory { IfErr result (MayStopAtRoom (seen_pairs self.entry)) }
+        ensures unread { OnNoRoom result (counter.new ≡ counter.old) }
         ensures visits { IfRoom result (C.number counter.new ≤ C.number counter.old
             + below_visits (K.bytes prefix.now) (seen_pairs self.entry)) }
         ensures bound { C.number counter.new
@@ -95,6 +96,7 @@ impl<'a, K: KeyTrait, V, C: Count> Seen<'a, K, V, C> {
         ensures calls { EndedVisit F.FnMut f
             (values_below (K.bytes prefix.now) (seen_pairs self.entry)) result }
         ensures memory { IfErr result (MayStopAtRoom (seen_pairs self.entry)) }
+        ensures unread { OnNoRoom result (counter.new ≡ counter.old) }
         ensures visits { IfRoom result (C.number counter.new ≤ C.number counter.old
             + below_visits (K.bytes prefix.now) (seen_pairs self.entry)) }
         ensures bound { C.number counter.new
