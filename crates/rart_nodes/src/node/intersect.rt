@@ -10,7 +10,7 @@ ghost use Rattle.rart_nodes.specs.joins.SeenJoins.{MayLackBoth, seen_bound, seen
 ghost use Rattle.rart_nodes.specs.joins.SharedEdges.{joint_visits, more_visits};
 ghost use Rattle.rart_nodes.specs.joins.ViewCalls.{CanViewAt, ViewedAtEach, ViewsAtEach};
 ghost use Rattle.rart_nodes.specs.joins.JoinPaths.{HasRoomOf, WayGrown};
-ghost use Rattle.rart_nodes.specs.tries.SeenTrees.{seen_keys, seen_nodes, seen_pairs};
+ghost use Rattle.rart_nodes.specs.tries.SeenTrees.{length_bound, seen_keys, seen_nodes, seen_pairs};
 ghost use Rattle.rart_nodes.specs.tries.Trie.{pairs_of};
 
 mod aligned;
