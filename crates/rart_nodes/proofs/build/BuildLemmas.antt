@@ -1,6 +1,6 @@
 -- What the building of a node from a stretch of keys keeps, child by child.
 use Rattle.std.proofs.Common.{◌≡◌, ℕ, ◌+◌, ◌<◌, ◌≤◌, ◌⊎◌, inl, inr, ⊎_elim, suc, List, [], ◌∷◌, ◌++◌, length}
-use Rattle.std.proofs.Common.{length-append, take, drop, map, refl, arith, sym, ap, ◌∙◌, Option, Some, None, IsSome}
+use Rattle.std.proofs.Common.{length-append, take, drop, get_or, map, refl, arith, sym, ap, ◌∙◌, Option, Some, None, IsSome}
 use Rattle.std.specs.Prelude.{slice_index}
 use Rattle.std.specs.Borrow.{Bor}
 use Rattle.std.proofs.lemmas.Bool.Decides.{nat_tests}
@@ -14,7 +14,7 @@ use Rattle.rart_nodes.specs.shapes.ShapeRecords.{lone_keys}
 use Rattle.rart_nodes.specs.build.Stretches.{rests, first_byte, run_of, first_run, GoOn, Reach, IsStretch}
 use Rattle.rart_nodes.specs.build.ValueCalls.{CanTake, Takes}
 use Rattle.rart_nodes.specs.tries.PrefixLaws.{values-with_prefix}
-use Rattle.rart_nodes.specs.tries.Trie.{Trie, node, no_children, child, edges_of, pairs_of, children_pairs, own_pair}
+use Rattle.rart_nodes.specs.tries.Trie.{Trie, leaf, node, no_children, child, edges_of, pairs_of, children_pairs, own_pair}
 use Rattle.rart_nodes.specs.tries.Trie.{with_prefix, prefix_of, StartsWith, HasTwoChildren, IsCanonical, AreCanonical}
 use Rattle.rart_nodes.specs.tries.TrieCode.{as_children}
 use Rattle.rart_nodes.proofs.storages.ChildLemmas.{edges_of-length, lt-no}
@@ -23,7 +23,8 @@ use Rattle.rart_nodes.proofs.tries.NodeCounts.{some-pairs}
 use Rattle.rart_nodes.proofs.build.RunLemmas.{ascending-drop, rests-drop, rests-take, rests-length, branches-step}
 use Rattle.rart_nodes.proofs.build.RunLemmas.{go_on-drop}
 use Rattle.rart_nodes.proofs.build.StretchLemmas.{AllHave, cut, cut-back, StartsBeyond, next-beyond, ascending-take}
-use Rattle.rart_nodes.proofs.build.StretchLemmas.{reach-drop, reach-take, reach-deeper}
+use Rattle.rart_nodes.proofs.build.StretchLemmas.{lone-rests, reach-drop, reach-take, reach-deeper}
+use Rattle.rart_nodes.proofs.edits.InsertLemmas.{leaf-canonical, leaf-pairs}
 use Rattle.rart_nodes.proofs.build.OpeningLemmas.{full-or-less, no-branches, empty-list, branches, Opening}
 use Rattle.rart_nodes.proofs.build.TakeLemmas.{takes-append, can_take-fewer, can_take-rest}
 
@@ -289,6 +290,16 @@ module _ {F V : Type 0} (pre : F → ℕ → Type 0) (step : F → ℕ → V →
     takes-append pre step from place f g g' (values_of (made v es)) ws (h.placed
         ∙ ap (λ z. from + z) (sym (length-map (made v es) (λ e. e.1)))) h.values_made r.2,
   )
+
+  -- a leaf more
+  pub building-leaf : (n b w' place' : ℕ) (x : Bor (List ℕ)) (k : List ℕ) (u : V) (es' : List (ℕ × Trie V))
+      (rest' : List (Bor (List ℕ))) (g' : F) → 0 < length rest → n ≡ first_run (rests d rest) → n ≡ 1 → n ≤ length rest
+      → b ≡ first_byte (rests d rest) → rest' ≡ drop n rest → k ≡ drop d (get_or rest 0 x).now → step g place u g'
+      → es' ≡ with_entry b (leaf k u) es → w' ≡ w → place' ≡ place + n
+      → Building pre step m d keys rest' w' es' v from place' f g'
+  building-leaf n b w' place' x k u es' rest' g' some e one within eb er ek s = building-step n b w' place' (leaf k u) es'
+      (take n rest) rest' g' some e (omega (arith, one)) within eb refl er (leaf-canonical (leaf k u) k u refl)
+      (ap keys_of (leaf-pairs (leaf k u) k u refl) ∙ lone-rests d n rest x k one some ek) (g', s, refl)
 
   -- at the end
   pub building-end : (p : List ℕ) (rs : List (List ℕ)) → length rest ≡ 0 → AllHave p rs

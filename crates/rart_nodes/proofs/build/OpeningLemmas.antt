@@ -11,7 +11,7 @@ use Rattle.rart_keys.specs.SortedMap.{IsAscending}
 use Rattle.rart_keys.proofs.ByteOrder.{eq-yes, eq-no, equal_or_not}
 use Rattle.rart_nodes.specs.shapes.Shape.{next_bytes}
 use Rattle.rart_nodes.specs.shapes.ShapeRecords.{lone_keys}
-use Rattle.rart_nodes.specs.build.Stretches.{rests, run_of, first_run, GoOn, Reach, IsStretch}
+use Rattle.rart_nodes.specs.build.Stretches.{rests, run_of, first_bytes, first_run, GoOn, Reach, IsStretch}
 use Rattle.rart_nodes.proofs.edits.Descent.{first, first-differ, common-within}
 use Rattle.rart_nodes.proofs.build.RunLemmas.{ascending-drop, rests-drop, branches-step, run-within, go_on-drop}
 use Rattle.rart_nodes.proofs.build.StretchLemmas.{AllHave, all-share, cut, cut-ascending, rests-deeper, above-go_on}
@@ -125,20 +125,22 @@ opening-at m d n p f l (k ∷ ks) x h ef el en ep =
           );
     }
 
--- by the part that the first and the last key share
-pub opening : (m : Option ℕ) (d n : ℕ) (p : List ℕ) (keys : List (Bor (List ℕ))) (x : Bor (List ℕ)) → IsStretch m d keys
-    → p ≡ take (common_prefix_len nat_eq (drop d (get_or keys 0 x).now) (drop d (get_or keys (length keys - 1) x).now))
-    (drop d (get_or keys 0 x).now) → n ≡ length p
-    → Opening m d n p keys (length (get_or keys 0 x).now - (d + n))
-opening m d n p keys x h ep en =
+first_bytes-at : (d n : ℕ) (keys : List (Bor (List ℕ))) (x : Bor (List ℕ)) → 0 < length keys
+    → first_bytes d (d + n) keys ≡ take n (drop d (get_or keys 0 x).now)
+first_bytes-at d n [] x h = absurd (omega (arith, h))
+first_bytes-at d n (k ∷ ks) x h = ap (λ z. take z (drop d k.now)) (omega arith)
+
+-- by the length that the first and the last key share
+pub opening : (m : Option ℕ) (d n : ℕ) (keys : List (Bor (List ℕ))) (x : Bor (List ℕ)) → IsStretch m d keys
+    → n ≡ common_prefix_len nat_eq (drop d (get_or keys 0 x).now) (drop d (get_or keys (length keys - 1) x).now)
+    → Opening m d n (first_bytes d (d + n) keys) keys (length (get_or keys 0 x).now - (d + n))
+opening m d n keys x h en =
     let f = drop d (get_or keys 0 x).now in
     let l = drop d (get_or keys (length keys - 1) x).now in
-    let count : n ≡ common_prefix_len nat_eq f l = en ∙ ap length ep
-    ∙ length-take-le (common_prefix_len nat_eq f l) f (common-within f l).0 in
     let left : length f - n ≡ length (get_or keys 0 x).now - (d + n)
     = omega (arith, length-drop d (get_or keys 0 x).now) in
-    subst (λ (q : ℕ). Opening m d n p keys q) left
-    (opening-at m d n p f l keys x h refl refl count (ep ∙ ap (λ z. take z f) (sym count)))
+    subst (λ (q : ℕ). Opening m d n (first_bytes d (d + n) keys) keys q) left
+    (opening-at m d n (first_bytes d (d + n) keys) f l keys x h refl refl en (first_bytes-at d n keys x h.some))
 
 -- the key that the test finds
 pub byte-is : (z : Bool) → bool_byte z ≡ cond z 1 0

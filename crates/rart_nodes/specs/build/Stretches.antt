@@ -1,5 +1,5 @@
 -- Stretches of ascending keys, from which a tree is built.
-use Rattle.std.specs.Prelude.{ℕ, ◌==◌, ◌<◌, ◌≤◌, suc, Option, List, [], ◌∷◌, map, drop, length, slice_index}
+use Rattle.std.specs.Prelude.{ℕ, ◌==◌, ◌-◌, ◌<◌, ◌≤◌, suc, Option, List, [], ◌∷◌, map, drop, take, length, slice_index}
 use Rattle.std.specs.Prelude.{if◌then◌else◌}
 use Rattle.std.specs.Borrow.{Bor}
 use Rattle.rart_keys.specs.KeyBytes.{IsWithin}
@@ -44,3 +44,13 @@ pub record IsStretch (m : Option ℕ) (d : ℕ) (ks : List (Bor (List ℕ))) : T
   pub some : 0 < length ks
   pub reach : Reach m d ks
   pub ascending : IsAscending (lone_keys (rests d ks))
+
+-- the length of the first key
+abbrev pub first_length : List (Bor (List ℕ)) → ℕ
+first_length [] = 0
+first_length (k ∷ ks) = length k.now
+
+-- the bytes of the first key between two depths
+abbrev pub first_bytes : ℕ → ℕ → List (Bor (List ℕ)) → List ℕ
+first_bytes d e [] = []
+first_bytes d e (k ∷ ks) = take (e - d) (drop d k.now)

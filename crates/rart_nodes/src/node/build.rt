@@ -1,9 +1,13 @@
 //! Bottom-up builds from ascending keys: each node is made once, with the storage that its children need.
-ghost use Rattle.std.specs.Prelude.{◌≡◌, ◌+◌, ◌<◌, ◌≤◌, ◌^◌, List, [], drop, length, nat_eq, take, IfErr, IfOk, OnErr};
+ghost use Rattle.std.specs.Prelude.{◌≡◌, ◌+◌, ◌<◌, ◌≤◌, ◌^◌, List, [], drop, length, nat_eq, take, IfErr, IfOk, None};
+ghost use Rattle.std.specs.Prelude.{OnErr};
 ghost use Rattle.std.specs.List.{common_prefix_len};
 ghost use Rattle.rart_keys.specs.KeyBytes.{IsWithin};
 ghost use Rattle.rart_keys.specs.SortedMap.{IsAscending, keys_of, values_of};
-ghost use Rattle.rart_nodes.specs.build.Stretches.{AreWithin, GoOn, IsStretch, first_byte, first_run, rests};
+ghost use Rattle.rart_parts.specs.Entries.{child_at, with_entry};
+ghost use Rattle.rart_nodes.specs.build.Built.{built};
+ghost use Rattle.rart_nodes.specs.build.Stretches.{AreWithin, GoOn, IsStretch, first_byte, first_bytes, first_length};
+ghost use Rattle.rart_nodes.specs.build.Stretches.{first_run, rests};
 ghost use Rattle.rart_nodes.specs.build.ValueCalls.{CanTake, Takes};
 ghost use Rattle.rart_nodes.specs.shapes.Shape.{capacity_of, next_bytes};
 ghost use Rattle.rart_nodes.specs.shapes.ShapeRecords.{keys_in, lone_keys};
@@ -11,6 +15,7 @@ ghost use Rattle.rart_nodes.specs.storages.Stored.{stored, width_of};
 ghost use Rattle.rart_nodes.specs.tries.Trie.{IsCanonical, pairs_of};
 
 use crate::node::DefaultNode;
+use crate::node::insert::add_leaf;
 use crate::node::storage::Storage;
 use rart_keys::{Partial, common_prefix_length};
 use rart_parts::TreeError;
@@ -62,28 +67,50 @@ fn count_branches(keys: &[&[u8]], depth: usize) -> usize
     count
 }
 
-/// Returns the common prefix of two keys from `depth` on.
-fn shared_part<P: Partial>(first: &[u8], last: &[u8], depth: usize) -> P
+/// Returns the length of the common prefix of two keys from `depth` on.
+fn shared_length(first: &[u8], last: &[u8], depth: usize) -> usize
     requires first { depth ≤ length first.now }
     requires last { depth ≤ length last.now }
-    requires within { IsWithin P.MAXIMUM_SIZE (length first.now) }
-    ensures part { P.bytes result
-        ≡ take (common_prefix_len nat_eq (drop depth first.now) (drop depth last.now))
-        (drop depth first.now) }
-    ensures reach { depth + length (P.bytes result) ≤ length first.now }
-    ensures fits { depth + length (P.bytes result) < 2 ^ 64 }
+    ensures length { result ≡ common_prefix_len nat_eq (drop depth first.now) (drop depth last.now) }
+    ensures reach { depth + result ≤ length first.now }
+    ensures fits { depth + result < 2 ^ 64 }
 {
-    let shared = common_prefix_length(&first[depth..], &last[depth..]);
-    P::from_slice(&first[depth..depth + shared])
+    common_prefix_length(&first[depth..], &last[depth..])
 }
 
-/// Returns the bytes of a key from `depth` on.
-fn rest_of<P: Partial>(key: &[u8], depth: usize) -> P
-    requires reach { depth ≤ length key.now }
-    requires within { IsWithin P.MAXIMUM_SIZE (length key.now) }
-    ensures { P.bytes result ≡ drop depth key.now }
+/// Returns the bytes of the first key between two depths.
+fn first_part<'a>(keys: &[&'a [u8]], depth: usize, end: usize) -> &'a [u8]
+    requires some { 0 < length keys.now }
+    requires ends { depth ≤ end }
+    requires reach { end ≤ first_length keys.now }
+    ensures { result.now ≡ first_bytes depth end keys.now }
 {
-    P::from_slice(&key[depth..])
+    &keys[0][depth..end]
+}
+
+/// Adds a node with these parts at byte `b`, which has no child. It does not allocate.
+// Not inline: the recursion that calls it holds no node on the stack.
+#[inline(never)]
+fn add_node<P: Partial, V>(
+    storage: &mut Storage<DefaultNode<P, V>>,
+    b: u8,
+    prefix: &[u8],
+    value: Option<V>,
+    children: Storage<DefaultNode<P, V>>,
+)
+    requires fits { IsWithin P.MAXIMUM_SIZE (length prefix.now) }
+    requires absent { child_at b (stored storage.old) ≡ None }
+    requires room { length (stored storage.old) < width_of storage.old }
+    ensures stored { stored storage.new
+        ≡ with_entry b (built prefix.now value children) (stored storage.old) }
+    ensures width { width_of storage.new ≡ width_of storage.old }
+{
+    let node = DefaultNode {
+        prefix: P::from_slice(prefix),
+        value,
+        storage: children,
+    };
+    storage.add_within(b, node);
 }
 
 impl<N> Storage<N> {
@@ -132,35 +159,42 @@ impl<P: Partial, V: Drop> DefaultNode<P, V> {
             × Takes F.step 0 take_value.old vs take_value.new) }
         ensures memory { IfErr result (λ e. e ≡ TreeError.Memory) }
     {
-        DefaultNode::build_below(alloc, keys, 0, 0, take_value)
+        let (value, storage, end) = DefaultNode::build_below(alloc, keys, 0, 0, take_value)?;
+        Ok(DefaultNode {
+            prefix: P::from_slice(first_part(keys, 0, end)),
+            value,
+            storage,
+        })
     }
 
-    /// Returns the node of keys that agree up to `depth`, the first of which has index `from` in the whole list.
+    /// Returns the value and the children of the node of keys that agree up to `depth`, the first of which has index
+    /// `from` in the whole list, and the depth at which its prefix ends.
+    // A node made here would stand in the frame of each level.
     fn build_below<F: FnMut(usize) -> V>(
         alloc: Global,
         keys: &[&[u8]],
         depth: usize,
         from: usize,
         take_value: &mut F,
-    ) -> Result<Self, TreeError>
+    ) -> Result<(Option<V>, Storage<Self>, usize), TreeError>
         requires stretch { IsStretch P.MAXIMUM_SIZE depth keys.now }
         requires fits { from + length keys.now < 2 ^ 64 }
         requires callable { CanTake F.pre F.step from (length keys.now) take_value.old }
-        ensures canonical { IfOk result IsCanonical }
-        ensures keys { IfOk result (λ t. keys_of (pairs_of t) ≡ rests depth keys.now) }
-        ensures values { IfOk result
-            (λ t. Takes F.step from take_value.old (values_of (pairs_of t)) take_value.new) }
+        ensures canonical { IfOk result
+            (λ r. IsCanonical (built (first_bytes depth r.2 keys.now) r.0 r.1)) }
+        ensures keys { IfOk result (λ r. keys_of (pairs_of (built
+            (first_bytes depth r.2 keys.now) r.0 r.1)) ≡ rests depth keys.now) }
+        ensures values { IfOk result (λ r. Takes F.step from take_value.old (values_of (pairs_of
+            (built (first_bytes depth r.2 keys.now) r.0 r.1))) take_value.new) }
+        ensures ends { IfOk result (λ r. (depth ≤ r.2) × (r.2 ≤ first_length keys.now)) }
+        ensures fits { IfOk result
+            (λ r. IsWithin P.MAXIMUM_SIZE (length (first_bytes depth r.2 keys.now))) }
         ensures taken { OnErr result ((vs : List V) × (length vs ≤ length keys.now)
             × Takes F.step from take_value.old vs take_value.new) }
         ensures memory { IfErr result (λ e. e ≡ TreeError.Memory) }
     {
-        // a single key is the whole list: below it leaves are made in their parent's loop
-        if keys.len() == 1 {
-            let prefix = rest_of(keys[0], depth);
-            return Ok(DefaultNode::new_leaf(prefix, take_value(from)));
-        }
-        let prefix: P = shared_part(keys[0], keys[keys.len() - 1], depth);
-        let below = depth + prefix.len();
+        let shared = shared_length(keys[0], keys[keys.len() - 1], depth);
+        let below = depth + shared;
         let own = usize::from(keys[0].len() == below);
         let mut rest = &keys[own..];
         let mut storage = Storage::for_children(alloc, count_branches(rest, below))?;
@@ -172,19 +206,19 @@ impl<P: Partial, V: Drop> DefaultNode<P, V> {
         let mut at = from + own;
         while !rest.is_empty() {
             let (byte, end) = first_group(rest, below);
-            let child = if end == 1 {
-                DefaultNode::new_leaf(rest_of(rest[0], below), take_value(at))
+            let group = &rest[..end];
+            if end == 1 {
+                add_leaf(&mut storage, byte, &rest[0][below..], take_value(at));
             } else {
-                DefaultNode::build_below(alloc, &rest[..end], below, at, take_value)?
-            };
-            storage.add_within(byte, child);
+                let (value, children, end_below) = DefaultNode::build_below(
+                    alloc, group, below, at, take_value,
+                )?;
+                let prefix = first_part(group, below, end_below);
+                add_node(&mut storage, byte, prefix, value, children);
+            }
             rest = &rest[end..];
             at += end;
         }
-        Ok(DefaultNode {
-            prefix,
-            value,
-            storage,
-        })
+        Ok((value, storage, below))
     }
 }

@@ -1,11 +1,13 @@
 //! Insertion into the subtree of a node. It allocates before the first write.
-ghost use Rattle.std.specs.Prelude.{◌≡◌, ◌+◌, ◌≤◌, length, max, true, IfErr, IfOk, None, Some, OnErr, OnOk};
+ghost use Rattle.std.specs.Prelude.{◌≡◌, ◌+◌, ◌<◌, ◌≤◌, length, max, true, IfErr, IfOk, None, Some, OnErr, OnOk};
 ghost use Rattle.rart_keys.specs.ByteStrings.{strip_prefix};
 ghost use Rattle.rart_keys.specs.KeyBytes.{IsWithin};
 ghost use Rattle.rart_keys.specs.SortedMap.{count_of, lookup, put, longest_key};
+ghost use Rattle.rart_parts.specs.Entries.{child_at, with_entry};
 ghost use Rattle.rart_nodes.specs.edits.InsertAsks.{MayAskFor, trie_asks_put};
 ghost use Rattle.rart_nodes.specs.edits.InsertStops.{FailsPut, TellsNotPut, TellsFailure};
-ghost use Rattle.rart_nodes.specs.tries.Trie.{IsCanonical, trie_lookup, pairs_of, prefix_of, trie_put, with_records};
+ghost use Rattle.rart_nodes.specs.storages.Stored.{stored, width_of};
+ghost use Rattle.rart_nodes.specs.tries.Trie.{IsCanonical, leaf, trie_lookup, pairs_of, prefix_of, trie_put, with_records};
 
 use crate::node::DefaultNode;
 use crate::node::rest::strip_prefix;
@@ -31,6 +33,7 @@ impl<P: Partial, V> DefaultNode<P, V> {
     /// # Errors
     ///
     /// [`TreeError::Memory`] if an allocation fails. The node is then unchanged, and the error holds `value`.
+    #[inline(never)]
     pub(super) fn split(&mut self, alloc: Global, key: &[u8], value: V) -> Result<(), Refused<V>>
         requires leaves { None ≡ strip_prefix (prefix_of self.old) key.now }
         requires fits { IsWithin P.MAXIMUM_SIZE (length key.now) }
@@ -113,8 +116,7 @@ impl<P: Partial, V> DefaultNode<P, V> {
         }
         match self.storage.make_room(alloc, byte) {
             Ok(()) => {
-                let leaf = DefaultNode::new_leaf(P::from_slice(rest), value);
-                self.storage.add_within(byte, leaf);
+                add_leaf(&mut self.storage, byte, rest, value);
                 Ok(())
             }
             Err(_) => {
@@ -211,6 +213,24 @@ impl<P: Partial, V> DefaultNode<P, V> {
     {
         self.put_new(alloc, key, value)
     }
+}
+
+/// Adds a leaf at byte `b`, which has no child. It does not allocate.
+// Not inline: a descent that calls it holds no node on the stack.
+#[inline(never)]
+pub(super) fn add_leaf<P: Partial, V>(
+    storage: &mut Storage<DefaultNode<P, V>>,
+    b: u8,
+    rest: &[u8],
+    value: V,
+)
+    requires fits { IsWithin P.MAXIMUM_SIZE (length rest.now) }
+    requires absent { child_at b (stored storage.old) ≡ None }
+    requires room { length (stored storage.old) < width_of storage.old }
+    ensures stored { stored storage.new ≡ with_entry b (leaf rest.now value) (stored storage.old) }
+    ensures width { width_of storage.new ≡ width_of storage.old }
+{
+    storage.add_within(b, DefaultNode::new_leaf(P::from_slice(rest), value));
 }
 
 /// Stores `value` in an empty out-parameter.

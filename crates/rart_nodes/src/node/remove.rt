@@ -1,5 +1,6 @@
 //! Removal from the subtree of a node. It allocates smaller storage before the first write.
-ghost use Rattle.std.specs.Prelude.{◌≡◌, ◌≢◌, ◌+◌, ◌≤◌, length, true, false, [], IfErr, IfOk, None, Some, OnErr, OnOk};
+ghost use Rattle.std.specs.Prelude.{◌≡◌, ◌≢◌, ◌+◌, ◌≤◌, length, true, false, [], IfErr, IfOk, IfSome, None, Some};
+ghost use Rattle.std.specs.Prelude.{OnErr, OnOk, option_and_then};
 ghost use Rattle.rart_keys.specs.KeyBytes.{IsWithin};
 ghost use Rattle.rart_keys.specs.SortedMap.{count_of, keys_of, lookup, without, longest_key};
 ghost use Rattle.rart_nodes.specs.edits.Deletion.{JoinsWithin, NarrowsWithout, is_leaf_at, is_lone, joined_if_lone};
@@ -20,6 +21,8 @@ use std::mem;
 impl<P: Partial, V> DefaultNode<P, V> {
     /// Joins the node with its child where it has no value and no other child. The child keeps its
     /// kind. Takes no memory.
+    // Not inline: a descent that calls it holds no node on the stack.
+    #[inline(never)]
     pub(super) fn merge_with_only_child(&mut self)
         requires width { is_lone (value_of self.old) (children_in self.old) ≡ true
             → capacity_in self.old ≡ 4 }
@@ -91,6 +94,36 @@ impl<P: Partial, V> DefaultNode<P, V> {
         value
     }
 
+    // Removes the leaf at `byte` and stores its value in `removed`, which is empty.
+    // Not inline: a descent that calls it holds no node on the stack.
+    #[inline(never)]
+    fn take_leaf(
+        &mut self,
+        alloc: Global,
+        byte: u8,
+        removed: &mut Option<V>,
+    ) -> Result<(), TreeError>
+        requires within { JoinsWithin P.MAXIMUM_SIZE (prefix_of self.old) (children_in self.old) }
+        requires stands { child_in byte self.old ≢ None }
+        requires leaf { IfSome (child_in byte self.old) (λ t. edges_of (children_in t) ≡ []) }
+        requires empty { removed.old ≡ None }
+        ensures taken { OnOk result
+            (removed.new ≡ option_and_then value_of (child_in byte self.old)) }
+        ensures rest { OnOk result (self.new ≡ without_child byte self.old) }
+        ensures unchanged { OnErr result (self.new ≡ self.old) }
+        ensures nothing { OnErr result (removed.new ≡ None) }
+        ensures asks { OnErr result (NarrowsWithout byte self.old) }
+        ensures memory { IfErr result (λ e. e ≡ TreeError.Memory) }
+    {
+        match self.take_child(alloc, byte)? {
+            Some(child) => {
+                give_back(removed, child.into_value());
+                Ok(())
+            }
+            None => unreachable!(),
+        }
+    }
+
     // The value comes back in a place of the caller's, which is empty: a result that holds it would be copied once more
     // at each level.
     fn take_below(
@@ -127,13 +160,7 @@ impl<P: Partial, V> DefaultNode<P, V> {
             }
             None => return Ok(()),
         }
-        match self.take_child(alloc, byte)? {
-            Some(child) => {
-                give_back(removed, child.into_value());
-                Ok(())
-            }
-            None => unreachable!(),
-        }
+        self.take_leaf(alloc, byte, removed)
     }
 
     fn remove_below(&mut self, alloc: Global, key: &[u8]) -> Result<Option<V>, TreeError>

@@ -17,6 +17,7 @@ ghost use Rattle.rart_nodes.specs.updates.TreeUpdates.{EndsHere, EndsLeaf, EndsT
 ghost use Rattle.rart_nodes.specs.updates.Updates.{UpdatesMap};
 
 use crate::node::DefaultNode;
+use crate::node::insert::add_leaf;
 use crate::node::rest::strip_prefix;
 use crate::refused::Refused;
 use crate::slot::{Outcome, Slot, SlotUpdate, UpdateError, Visit, show, show_vacant};
@@ -37,6 +38,7 @@ fn fill<V>(place: &mut Option<V>, value: V)
 
 impl<P: Partial, V> DefaultNode<P, V> {
     // Applies the result for a key that the prefix does not begin.
+    #[inline(never)]
     fn apply_split(
         &mut self,
         alloc: Global,
@@ -66,6 +68,7 @@ impl<P: Partial, V> DefaultNode<P, V> {
     }
 
     // Applies the result for a key that needs a new child at the first byte of `rest`.
+    #[inline(never)]
     fn apply_to_child(
         &mut self,
         alloc: Global,
@@ -92,8 +95,7 @@ impl<P: Partial, V> DefaultNode<P, V> {
                 }
                 match self.storage.make_room(alloc, byte) {
                     Ok(()) => {
-                        let leaf = DefaultNode::new_leaf(P::from_slice(rest), value);
-                        self.storage.add_within(byte, leaf);
+                        add_leaf(&mut self.storage, byte, rest, value);
                         Ok(Outcome::New)
                     }
                     Err(error) => Err(UpdateError::Insert(Refused { error, value })),
@@ -103,6 +105,7 @@ impl<P: Partial, V> DefaultNode<P, V> {
     }
 
     // Applies the result at a node with children whose value was `left`.
+    #[inline(never)]
     fn apply_here(
         &mut self,
         full: bool,
@@ -176,6 +179,7 @@ impl<P: Partial, V> DefaultNode<P, V> {
     }
 
     // Removes the leaf at `byte`; on an error the node is unchanged.
+    #[inline(never)]
     fn remove_leaf(&mut self, alloc: Global, byte: u8) -> Result<Outcome<V>, UpdateError<V>>
         requires within { JoinsWithin P.MAXIMUM_SIZE (prefix_of self.old) (children_in self.old) }
         requires stands { child_in byte self.old ≢ None }

@@ -111,6 +111,8 @@ impl<K: KeyTrait, V, W, F: FnMut(K, &V, &W)> Visitor<V, W, F> for ByKeys<K> {
 
     ghost given = { GivenKeys (λ p x q. CalledAt F.FnMut K.bytes p x q) };
 
+    // Not inline: the recursion that calls it holds no key on the stack.
+    #[inline(never)]
     fn give(way: &JoinPath<'_>, f: &mut F, left: &V, right: &W) {
         match way {
             JoinPath::Bytes(bytes) => f(K::new_from_slice(bytes.as_slice()), left, right),

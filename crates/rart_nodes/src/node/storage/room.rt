@@ -138,6 +138,7 @@ impl<N> Storage<N> {
     /// # Errors
     ///
     /// [`TreeError::Memory`] if the storage is full and an allocation fails. The storage is then unchanged.
+    #[inline(never)]
     pub(crate) fn make_room(&mut self, alloc: Global, b: u8) -> Result<(), TreeError>
         requires absent { child_at b (stored self.old) ≡ None }
         ensures stored { stored self.new ≡ stored self.old }

@@ -77,8 +77,8 @@ returns-in-Some-seek_child_mut-clause-why g t c = if_err_weaker c.put_below.resu
     )) c.put_below.ensures.why
 
 -- there is no child
-pub from_slice-requires : goal.from_slice-requires
-from_slice-requires g t c = rest-within _ _ c.args.key.now _ c.in-Some.ensures c.requires.fits
+pub add_leaf-requires-clause-fits : goal.add_leaf-requires-clause-fits
+add_leaf-requires-clause-fits g t c = rest-within _ _ c.args.key.now _ c.in-Some.ensures c.requires.fits
 
 pub returns-in-Ok-make_room-clause-ok : goal.returns-in-Ok-make_room-clause-ok
 returns-in-Ok-make_room-clause-ok g t c =
@@ -86,14 +86,8 @@ returns-in-Ok-make_room-clause-ok g t c =
     rw (← c.self.view_is) (put-beside _ c.args.key.now _ c.args.value _ _ _ _ (stored c.self.inside.storage) _
     (rw (← c.self.view_is) at c.requires.canonical) c.in-Some.ensures c.in-Some-first.ensures.value
     c.in_default-seek_child_mut.ensures.value
-    (c.add_within.ensures.width ∙ rw (left.0, left.1) at c.in-Ok-make_room.ensures.width)
-    (rw (
-      c.add_within.ensures.stored,
-      c.in-Ok-make_room.ensures.stored,
-      left.1,
-      c.new_leaf-leaf.ensures.leaf,
-      c.from_slice.ensures,
-    ) refl))
+    (c.add_leaf.ensures.width ∙ rw (left.0, left.1) at c.in-Ok-make_room.ensures.width)
+    (rw (c.add_leaf.ensures.stored, c.in-Ok-make_room.ensures.stored, left.1) refl))
 
 pub returns-in-Ok-make_room-clause-answer : goal.returns-in-Ok-make_room-clause-answer
 returns-in-Ok-make_room-clause-answer g t c

@@ -1,18 +1,18 @@
-use Rattle.std.proofs.Common.{arith, ap, ◌∙◌, sym, refl, Some}
+use Rattle.std.proofs.Common.{arith, ap, ◌∙◌, sym, refl, Some, option_and_then}
 use Rattle.rart_parts.specs.Entries.{child_at}
 use Rattle.rart_keys.specs.SortedMap.{longest_key}
 use Rattle.rart_nodes.specs.edits.Deletion.{joined_if_lone, without_child}
 use Rattle.rart_nodes.specs.storages.Stored.{stored, width_of}
-use Rattle.rart_nodes.specs.tries.Trie.{node, pairs_of, edges_of, children_in, value_of}
+use Rattle.rart_nodes.specs.tries.Trie.{node, pairs_of, value_of}
 use Rattle.rart_nodes.specs.tries.TrieCode.{as_children, node_count}
-use Rattle.rart_nodes.proofs.storages.ChildLemmas.{canonical-found, count-found, some-equal}
+use Rattle.rart_nodes.proofs.storages.ChildLemmas.{canonical-found, count-found}
 use Rattle.rart_nodes.proofs.edits.EditRunLemmas.{remove-absent}
 use Rattle.rart_nodes.proofs.edits.InsertLemmas.{fewer-within, child-put_back, replaced-same}
 use Rattle.rart_nodes.proofs.edits.JoinLemmas.{some-there}
 use Rattle.rart_nodes.proofs.edits.JoinedLengths.{joins-canonical, entry-short}
 use Rattle.rart_nodes.proofs.edits.LeafLemmas.{leaf-gone, leaf-edges, leaf-value, leaf-some}
 use Rattle.std.proofs.lemmas.Result.{on_ok_weaker, on_err_weaker}
-use Rattle.rart_nodes.proofs.edits.Outcomes.{err-any, if_ok_weaker}
+use Rattle.rart_nodes.proofs.edits.Outcomes.{if_ok_weaker}
 use Rattle.rart_nodes.proofs.edits.RemoveAskSteps.{asks_remove-below, asks_remove-leaf}
 use Rattle.rart_nodes.proofs.edits.RemoveSteps.{value-removed, removed-below, removed-leaf, same-node}
 use Rattle.rart_nodes.proofs.tries.RestLemmas.{trie_lookup-left, trie_lookup-child, trie_lookup-no_child}
@@ -124,35 +124,70 @@ returns-in-None-clause-answer g t c = rw (← c.self.view_is) (c.requires.empty
     c.in-Some.ensures c.in-Some-first.ensures.value c.in-None.ensures.value))
 
 -- it goes on in a leaf that goes
-pub take_child-requires : goal.take_child-requires
-take_child-requires g t c =
+pub take_leaf-requires : goal.take_leaf-requires
+take_leaf-requires g t c =
     let left = rw c.in-Some-seek_child_mut.is at c.seek_child_mut.follows.holds c.in-Some-seek_child_mut.child.now in
     let same = left.1 ∙ replaced-same _ c.in-Some-seek_child_mut.child.now (stored c.self.inside.storage)
     c.in-Some-seek_child_mut.ensures.value in
+    let found = child_of-entries _ (stored (c.seek_child_mut.follows.lender c.in-Some-seek_child_mut.child.now))
+    ∙ ap (child_at _) same ∙ sym c.in-Some-seek_child_mut.ensures.value in
+    let goes = sym c.is_leaf_at.ensures ∙ c.if-not-is_leaf_at.false in
     record {
       within = rw same (joins-canonical _ _ _ (width_of c.self.inside.storage) _
           (rw (← c.self.view_is) at c.requires.canonical) (rw (← c.self.view_is) at c.requires.fits));
+      stands = λ none. some-there c.in-Some-seek_child_mut.child.now _ found none;
+      leaf = rw found (leaf-edges _ c.in-Some-seek_child_mut.child.now goes);
+      empty = c.requires.empty;
     }
 
-pub returns-in_err-child-clause-unchanged : goal.returns-in_err-child-clause-unchanged
-returns-in_err-child-clause-unchanged g t c =
+pub returns-clause-ok : goal.returns-clause-ok
+returns-clause-ok g t c =
     let left = rw c.in-Some-seek_child_mut.is at c.seek_child_mut.follows.holds c.in-Some-seek_child_mut.child.now in
-    err-any c.from_residual.result (c.in_err-child.ensures.unchanged
+    let goes = sym c.is_leaf_at.ensures ∙ c.if-not-is_leaf_at.false in
+    on_ok_weaker c.take_leaf.result (λ e. ap Some (e ∙ ap (without_child _)
+    (child-put_back _ _ _ _ _ c.in-Some-seek_child_mut.child.now c.in-Some-seek_child_mut.child.now
+    (stored c.self.inside.storage) _ c.in-Some-seek_child_mut.ensures.value refl left.0 left.1))
+    ∙ rw (← c.self.view_is) (removed-leaf _ c.args.key.now _ _ _ _ c.in-Some-seek_child_mut.child.now
+    (stored c.self.inside.storage)
+    (rw (← c.self.view_is) at c.requires.canonical) c.in-Some.ensures c.in-Some-first.ensures.value
+    c.in-Some-seek_child_mut.ensures.value (leaf-gone _ c.in-Some-seek_child_mut.child.now goes)))
+    c.take_leaf.ensures.rest
+
+pub returns-clause-answer : goal.returns-clause-answer
+returns-clause-answer g t c =
+    let left = rw c.in-Some-seek_child_mut.is at c.seek_child_mut.follows.holds c.in-Some-seek_child_mut.child.now in
+    let same = left.1 ∙ replaced-same _ c.in-Some-seek_child_mut.child.now (stored c.self.inside.storage)
+    c.in-Some-seek_child_mut.ensures.value in
+    let found = child_of-entries _ (stored (c.seek_child_mut.follows.lender c.in-Some-seek_child_mut.child.now))
+    ∙ ap (child_at _) same ∙ sym c.in-Some-seek_child_mut.ensures.value in
+    let goes = sym c.is_leaf_at.ensures ∙ c.if-not-is_leaf_at.false in
+    on_ok_weaker c.take_leaf.result (λ e. e ∙ ap (option_and_then value_of) found
+    ∙ rw (← c.self.view_is) (sym (leaf-value _ c.in-Some-seek_child_mut.child.now goes)
+    ∙ sym (trie_lookup-child _ c.args.key.now _ _ _ (width_of c.self.inside.storage)
+    c.in-Some-seek_child_mut.child.now (stored c.self.inside.storage)
+    (rw (← c.self.view_is) at c.requires.canonical) c.in-Some.ensures c.in-Some-first.ensures.value
+    c.in-Some-seek_child_mut.ensures.value))) c.take_leaf.ensures.taken
+
+pub returns-clause-unchanged : goal.returns-clause-unchanged
+returns-clause-unchanged g t c =
+    let left = rw c.in-Some-seek_child_mut.is at c.seek_child_mut.follows.holds c.in-Some-seek_child_mut.child.now in
+    on_err_weaker c.take_leaf.result (λ e. e
     ∙ child-put_back _ _ _ _ _ c.in-Some-seek_child_mut.child.now c.in-Some-seek_child_mut.child.now
     (stored c.self.inside.storage) _ c.in-Some-seek_child_mut.ensures.value refl left.0 left.1 ∙ c.self.view_is)
+    c.take_leaf.ensures.unchanged
 
-pub returns-in_err-child-clause-asks : goal.returns-in_err-child-clause-asks
-returns-in_err-child-clause-asks g t c =
+pub returns-clause-asks : goal.returns-clause-asks
+returns-clause-asks g t c =
     let left = rw c.in-Some-seek_child_mut.is at c.seek_child_mut.follows.holds c.in-Some-seek_child_mut.child.now in
     let same = left.1 ∙ replaced-same _ c.in-Some-seek_child_mut.child.now (stored c.self.inside.storage)
     c.in-Some-seek_child_mut.ensures.value in
     let canonical = rw (← c.self.view_is) at c.requires.canonical in
     let goes = sym c.is_leaf_at.ensures ∙ c.if-not-is_leaf_at.false in
-    err-any c.from_residual.result (rw (← c.self.view_is) (
+    on_err_weaker c.take_leaf.result (λ a. rw (← c.self.view_is) (
       asks_remove-leaf _ c.args.key.now _ _ (width_of c.self.inside.storage) _ _ c.in-Some-seek_child_mut.child.now
           (stored c.self.inside.storage) _ canonical c.in-Some.ensures c.in-Some-first.ensures.value
           c.in-Some-seek_child_mut.ensures.value
-          goes left.0 same c.in_err-child.ensures.asks.1 c.in_err-child.ensures.asks.2,
+          goes left.0 same a.1 a.2,
       λ z. leaf-some _ c.in-Some-seek_child_mut.child.now
           (canonical-found _ 0 c.in-Some-seek_child_mut.child.now (stored c.self.inside.storage) canonical.2
           c.in-Some-seek_child_mut.ensures.value) goes
@@ -160,55 +195,4 @@ returns-in_err-child-clause-asks g t c =
           ∙ sym (trie_lookup-child _ c.args.key.now _ _ _ (width_of c.self.inside.storage)
           c.in-Some-seek_child_mut.child.now (stored c.self.inside.storage)
           canonical c.in-Some.ensures c.in-Some-first.ensures.value c.in-Some-seek_child_mut.ensures.value) ∙ z),
-    ))
-
-pub into_value-requires : goal.into_value-requires
-into_value-requires g t c =
-    let left = rw c.in-Some-seek_child_mut.is at c.seek_child_mut.follows.holds c.in-Some-seek_child_mut.child.now in
-    let same = left.1 ∙ replaced-same _ c.in-Some-seek_child_mut.child.now (stored c.self.inside.storage)
-    c.in-Some-seek_child_mut.ensures.value in
-    let goes = sym c.is_leaf_at.ensures ∙ c.if-not-is_leaf_at.false in
-    ap (λ t. edges_of (children_in t)) (some-equal c.in-Some-2.child c.in-Some-seek_child_mut.child.now
-    (sym c.in-Some-2.is ∙ c.in_ok-child.ensures.taken
-    ∙ child_of-entries _ (stored (c.seek_child_mut.follows.lender c.in-Some-seek_child_mut.child.now))
-    ∙ ap (child_at _) same ∙ sym c.in-Some-seek_child_mut.ensures.value))
-    ∙ leaf-edges _ c.in-Some-seek_child_mut.child.now goes
-
-pub unreachable-requires : goal.unreachable-requires
-unreachable-requires g t c =
-    let left = rw c.in-Some-seek_child_mut.is at c.seek_child_mut.follows.holds c.in-Some-seek_child_mut.child.now in
-    let same = left.1 ∙ replaced-same _ c.in-Some-seek_child_mut.child.now (stored c.self.inside.storage)
-    c.in-Some-seek_child_mut.ensures.value in
-    some-there c.in-Some-seek_child_mut.child.now _ (sym c.in-Some-seek_child_mut.ensures.value)
-    (ap (child_at _) (sym same) ∙ sym (child_of-entries _
-    (stored (c.seek_child_mut.follows.lender c.in-Some-seek_child_mut.child.now))) ∙ sym c.in_ok-child.ensures.taken
-    ∙ c.in-None-2.is)
-
-pub returns-clause-ok : goal.returns-clause-ok
-returns-clause-ok g t c =
-    let left = rw c.in-Some-seek_child_mut.is at c.seek_child_mut.follows.holds c.in-Some-seek_child_mut.child.now in
-    let goes = sym c.is_leaf_at.ensures ∙ c.if-not-is_leaf_at.false in
-    ap Some (c.in_ok-child.ensures.rest ∙ ap (without_child _)
-    (child-put_back _ _ _ _ _ c.in-Some-seek_child_mut.child.now c.in-Some-seek_child_mut.child.now
-    (stored c.self.inside.storage) _ c.in-Some-seek_child_mut.ensures.value refl left.0 left.1))
-    ∙ rw (← c.self.view_is) (removed-leaf _ c.args.key.now _ _ _ _ c.in-Some-seek_child_mut.child.now
-    (stored c.self.inside.storage)
-    (rw (← c.self.view_is) at c.requires.canonical) c.in-Some.ensures c.in-Some-first.ensures.value
-    c.in-Some-seek_child_mut.ensures.value (leaf-gone _ c.in-Some-seek_child_mut.child.now goes))
-
-pub returns-clause-answer : goal.returns-clause-answer
-returns-clause-answer g t c =
-    let left = rw c.in-Some-seek_child_mut.is at c.seek_child_mut.follows.holds c.in-Some-seek_child_mut.child.now in
-    let same = left.1 ∙ replaced-same _ c.in-Some-seek_child_mut.child.now (stored c.self.inside.storage)
-    c.in-Some-seek_child_mut.ensures.value in
-    let goes = sym c.is_leaf_at.ensures ∙ c.if-not-is_leaf_at.false in
-    let child = some-equal c.in-Some-2.child c.in-Some-seek_child_mut.child.now (sym c.in-Some-2.is
-    ∙ c.in_ok-child.ensures.taken ∙ child_of-entries _
-    (stored (c.seek_child_mut.follows.lender c.in-Some-seek_child_mut.child.now)) ∙ ap (child_at _) same
-    ∙ sym c.in-Some-seek_child_mut.ensures.value) in
-    c.give_back-in-Some-2.ensures ∙ c.into_value.ensures ∙ ap value_of child
-    ∙ rw (← c.self.view_is) (sym (leaf-value _ c.in-Some-seek_child_mut.child.now goes)
-    ∙ sym (trie_lookup-child _ c.args.key.now _ _ _ (width_of c.self.inside.storage)
-    c.in-Some-seek_child_mut.child.now (stored c.self.inside.storage)
-    (rw (← c.self.view_is) at c.requires.canonical) c.in-Some.ensures c.in-Some-first.ensures.value
-    c.in-Some-seek_child_mut.ensures.value))
+    )) c.take_leaf.ensures.asks

@@ -16,8 +16,8 @@ make_room-requires g c = record {
       = none-at c.args.byte (stored c.self.inside.storage) (rw (← c.self.view_is) at c.requires.absent);
 }
 
-pub add_within-requires-clause-absent : goal.add_within-requires-clause-absent
-add_within-requires-clause-absent g c = ap (child_at _) c.in-Ok.ensures.stored
+pub add_leaf-requires-clause-absent : goal.add_leaf-requires-clause-absent
+add_leaf-requires-clause-absent g c = ap (child_at _) c.in-Ok.ensures.stored
     ∙ none-at c.args.byte (stored c.self.inside.storage) (rw (← c.self.view_is) at c.requires.absent)
 
 pub returns-in-Ok : goal.returns-in-Ok
@@ -25,9 +25,8 @@ returns-in-Ok g c = λ key h. rw c.in-Insert.is (
   ap Some (rw (← c.self.view_is) (put-beside _ key _ c.in-Insert.value _ _ _ _ (stored c.self.inside.storage) _
       (rw (← c.self.view_is) at c.requires.canonical) (rw (← c.self.view_is) at h) c.requires.first
       (sym (none-at c.args.byte (stored c.self.inside.storage) (rw (← c.self.view_is) at c.requires.absent)))
-      (c.add_within.ensures.width ∙ c.in-Ok.ensures.width)
-      (rw (c.add_within.ensures.stored, c.in-Ok.ensures.stored, c.new_leaf-leaf.ensures.leaf, c.from_slice.ensures)
-      refl))),
+      (c.add_leaf.ensures.width ∙ c.in-Ok.ensures.width)
+      (rw (c.add_leaf.ensures.stored, c.in-Ok.ensures.stored) refl))),
   refl,
   c.if-full.false,
 )

@@ -6,4 +6,8 @@ build_below-requires-clause-stretch g c = whole-stretch _ c.args.keys.now c.requ
     c.requires.ascending
 
 pub returns-clause-keys : goal.returns-clause-keys
-returns-clause-keys g c = rw (← rests-whole c.args.keys.now) c.build_below.ensures.keys
+returns-clause-keys g c = rw (c.from_slice.ensures, c.first_part.ensures, ← rests-whole c.args.keys.now)
+    c.in_ok-value.ensures.keys
+
+pub returns-clause-values : goal.returns-clause-values
+returns-clause-values g c = rw (c.from_slice.ensures, c.first_part.ensures) c.in_ok-value.ensures.values

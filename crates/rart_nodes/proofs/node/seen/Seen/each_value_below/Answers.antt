@@ -5,7 +5,7 @@ use Rattle.rart_keys.specs.SortedMap.{values_of}
 use Rattle.rart_nodes.specs.tries.Tree.{tree_pairs}
 use Rattle.rart_nodes.specs.walks.Shown.{CanShow, ShowsEach}
 use Rattle.rart_nodes.specs.walks.Walk.{entry_values, entries_ahead}
-use Rattle.rart_nodes.specs.walks.PathParts.{no_segment, byte_segments}
+use Rattle.rart_nodes.specs.walks.PathParts.{no_segment}
 use Rattle.rart_nodes.proofs.tries.CanonicalTests.{IsCanonicalTree-test}
 use Rattle.rart_nodes.proofs.walks.PartLemmas.{part-values}
 use Rattle.rart_nodes.proofs.node.seen.Seen.each_value_below.Goals as goal
