@@ -8,7 +8,6 @@ pub mod EditLemmas
 pub mod LawLemmas
 pub mod MigrateLemmas
 pub mod PresentLemmas
-pub mod RoomLemmas
 pub mod StepLemmas
 pub mod UpdateLemmas
 pub mod WalkSteps
