@@ -12,9 +12,21 @@ const ROWS: [Row; 6] = [
     (&[], None, None),
     (&[("b", 1)], Some(("b", 1)), Some(("b", 1))),
     (&[("", 0), ("a", 1)], Some(("", 0)), Some(("a", 1))),
-    (&[("ab", 2), ("a", 1), ("abc", 3)], Some(("a", 1)), Some(("abc", 3))),
-    (&[("alpine", 4), ("alpha1", 1), ("alpha2", 2)], Some(("alpha1", 1)), Some(("alpine", 4))),
-    (&[("m", 3), ("z", 5), ("c", 2), ("zz", 6), ("b", 1), ("r", 4)], Some(("b", 1)), Some(("zz", 6))),
+    (
+        &[("ab", 2), ("a", 1), ("abc", 3)],
+        Some(("a", 1)),
+        Some(("abc", 3)),
+    ),
+    (
+        &[("alpine", 4), ("alpha1", 1), ("alpha2", 2)],
+        Some(("alpha1", 1)),
+        Some(("alpine", 4)),
+    ),
+    (
+        &[("m", 3), ("z", 5), ("c", 2), ("zz", 6), ("b", 1), ("r", 4)],
+        Some(("b", 1)),
+        Some(("zz", 6)),
+    ),
 ];
 
 fn is_end(found: &Option<(Key, &u64)>, wanted: &Option<Pair>) -> bool {
@@ -41,7 +53,10 @@ fn fan(rt: &impl Abort, alloc: Global, from: u8, count: u8) -> AdaptiveRadixTree
     let mut tree = AdaptiveRadixTree::new(alloc);
     for at in 0..count {
         let byte = from.wrapping_add(at);
-        assert!(rt; tree.insert(ArrayKey::<1>::new_from_slice(&[byte]), u64::from(byte)).is_ok());
+        assert!(rt;
+            tree.insert(ArrayKey::<1>::new_from_slice(&[byte]), u64::from(byte))
+                .is_ok()
+        );
     }
     tree
 }
@@ -55,7 +70,13 @@ fn end_values(tree: &AdaptiveRadixTree<ArrayKey<1>, u64>) -> (Option<u64>, Optio
 
 #[test]
 fn the_ends_in_each_kind_of_node(rt: HostRuntime) {
-    for (from, count, last) in [(7, 4, 10), (7, 16, 22), (7, 48, 54), (7, 49, 55), (7, 249, 255)] {
+    for (from, count, last) in [
+        (7, 4, 10),
+        (7, 16, 22),
+        (7, 48, 54),
+        (7, 49, 55),
+        (7, 249, 255),
+    ] {
         let tree = fan(&rt, rt.alloc(), from, count);
         assert_eq!(rt; end_values(&tree), (Some(7), Some(last)));
     }
@@ -65,8 +86,16 @@ fn the_ends_in_each_kind_of_node(rt: HostRuntime) {
 fn the_ends_of_a_route_table(rt: HostRuntime) {
     let mut table = RouteTable::<ArrayKey<4>, u64>::new(rt.alloc());
     assert!(rt; table.first_key_value().is_none() && table.last_key_value().is_none());
-    assert!(rt; table.replace(&ArrayKey::<4>::new_from_slice(b"b"), 2).is_ok());
-    assert!(rt; table.replace(&ArrayKey::<4>::new_from_slice(b"a"), 1).is_ok());
+    assert!(rt;
+        table
+            .replace(&ArrayKey::<4>::new_from_slice(b"b"), 2)
+            .is_ok()
+    );
+    assert!(rt;
+        table
+            .replace(&ArrayKey::<4>::new_from_slice(b"a"), 1)
+            .is_ok()
+    );
     assert!(rt; table.first_key_value().map(|pair| *pair.1) == Some(1));
     assert!(rt; table.last_key_value().map(|pair| *pair.1) == Some(2));
 }
