@@ -6,3 +6,4 @@ mod MatchLemmas
 mod NetworkLemmas
 mod RouteLemmas
 mod StrideLemmas
+mod TextLemmas

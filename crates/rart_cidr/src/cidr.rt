@@ -1,7 +1,9 @@
 //! Networks: the first bits of an address.
+mod parse;
 mod v4;
 mod v6;
 
+pub use crate::cidr::parse::ParseCidrError;
 pub use crate::cidr::v4::Cidr4;
 pub use crate::cidr::v6::Cidr6;
 use std::fmt;

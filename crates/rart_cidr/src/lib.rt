@@ -10,7 +10,7 @@ pub mod table;
 pub mod table4;
 pub mod table6;
 
-pub use crate::cidr::{Cidr4, Cidr6, CidrError};
+pub use crate::cidr::{Cidr4, Cidr6, CidrError, ParseCidrError};
 pub use crate::table::BitTable;
 pub use crate::table4::{CidrTable4, Matches4};
 pub use crate::table6::{CidrTable6, Matches6};
