@@ -4,5 +4,6 @@ mod LoanLemmas
 mod LongestLemmas
 mod MatchLemmas
 mod NetworkLemmas
+mod OrderLemmas
 mod RouteLemmas
 mod StrideLemmas
