@@ -31,11 +31,11 @@ holds_at p (suc n) x h l = elim (p n) as (λ b. p n ≡ b → (if b then holds_b
 ] refl h
 
 -- the number that bits stand for after the bits of a
-number_after : ℕ → List ℕ → ℕ
+unfoldable pub number_after : ℕ → List ℕ → ℕ
 number_after a [] = a
 number_after a (b ∷ l) = number_after (2 * a + b) l
 
-byte-number : (x : ℕ) → x < 256 → number_after 0 (byte_bits x) ≡ x
+pub byte-number : (x : ℕ) → x < 256 → number_after 0 (byte_bits x) ≡ x
 unfolding holds_below number_after
 byte-number x h = eqb-true _ _ (holds_at (λ y. number_after 0 (byte_bits y) == y) 256 x refl h)
 

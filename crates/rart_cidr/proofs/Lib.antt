@@ -4,6 +4,7 @@ mod LoanLemmas
 mod LongestLemmas
 mod MatchLemmas
 mod NetworkLemmas
+mod OrderLemmas
 mod RouteLemmas
 mod StrideLemmas
 mod TextLemmas

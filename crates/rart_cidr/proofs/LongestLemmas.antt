@@ -151,3 +151,18 @@ module _ {T : Type 0} where
   matched-all now v o (Some p) l h =
       ap (λ z. Some (z, now p.1)) (sym (taken-network p.0 (8 * length o) (bits_of o) l)) ∙ h
       ∙ ap (λ z. longest_match z v) (network-all o)
+
+  -- a network found at n bits, after none was found with more
+  pub found-at : (v : List (List ℕ × T)) (o : List ℕ) (w n : ℕ) (t : T) → w ≤ 8 * length o → n ≤ w → IsAscending v
+      → Some t ≡ lookup (network o n) v → HasNoneFrom v o w (n + 1)
+      → ◌≡◌ {A = Option (List ℕ × T)} (Some (take n (network o w), t)) (longest_match (network o w) v)
+  found-at v o w n t room h a e none = is_longest v o w (n / 8) (n + 1) n t room (omega arith) a
+      (refl, h, sym e, λ m g i l. none m (omega (arith, g)) l) none
+
+  -- nor with one bit fewer
+  pub none-at : (v : List (List ℕ × T)) (o : List ℕ) (w n : ℕ) → None ≡ lookup (network o n) v
+      → HasNoneFrom v o w (n + 1) → HasNoneFrom v o w n
+  none-at v o w n e none = λ m h l. ⊎_elim
+      (λ g. none m (omega (arith, g)) l)
+      (λ g. let q : m ≡ n = omega (arith, g, h) in ap (λ z. lookup (network o z) v) q ∙ sym e)
+      (less_or_not n m)

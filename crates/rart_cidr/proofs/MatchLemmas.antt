@@ -1,16 +1,15 @@
 -- The matches of an address in order, by what the strides on its way hold.
-use Rattle.std.proofs.Common.{◌≡◌, ℕ, zero, suc, ◌+◌, ◌*◌, ◌/◌, ◌%◌, ◌<◌, ◌≤◌, ◌⊎◌, ⊎_elim, inl, inr, length}
-use Rattle.std.proofs.Common.{take, arith, List, [], ◌∷◌, true, false, refl, sym, ap, subst, ◌∙◌, Option, Some, None}
+use Rattle.std.proofs.Common.{◌≡◌, ℕ, ◌+◌, ◌*◌, ◌/◌, ◌%◌, ◌<◌, ◌≤◌, ⊎_elim, length}
+use Rattle.std.proofs.Common.{take, arith, List, [], ◌∷◌, true, false, refl, sym, ap, subst, ◌∙◌, Some, None}
 use Rattle.std.proofs.Common.{if◌then◌else◌}
 use Rattle.std.specs.Prelude.{filter, nat_le, slice_index}
 use Rattle.std.proofs.lemmas.Bool.Decides.{nat_tests}
 use Rattle.std.proofs.lemmas.List.{length-take-le}
-use Rattle.rart_keys.specs.ByteStrings.{IsLess, begins, bytes_eq}
+use Rattle.rart_keys.specs.ByteStrings.{IsLess, begins}
 use Rattle.rart_keys.specs.Filters.{matches}
 use Rattle.rart_keys.specs.KeyBytes.{AreBytes}
-use Rattle.rart_keys.specs.LongestMatches.{AreLonger}
 use Rattle.rart_keys.specs.SortedMap.{AreAbove, IsAscending, lookup}
-use Rattle.rart_keys.proofs.ByteOrder.{bytes_eq-differ, bytes_eq-equal, bytes_eq-itself}
+use Rattle.rart_keys.proofs.ByteOrder.{bytes_eq-differ, bytes_eq-itself}
 use Rattle.rart_keys.proofs.LongestMatchLemmas.{below-shorter}
 use Rattle.rart_cidr.specs.Bits.{bits_of, network}
 use Rattle.rart_cidr.specs.Matches.{HasNoneBetween, IsFirstAfter, IsNextMatch, matches_from}

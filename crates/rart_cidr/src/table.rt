@@ -8,6 +8,7 @@ ghost use Rattle.rart_cidr.specs.Bits.{network};
 ghost use Rattle.rart_cidr.specs.Edits.{InsertsRoute, PutsIn, PutsTarget, RemovesRoute, TakesFrom, TakesTarget};
 ghost use Rattle.rart_cidr.specs.Routes.{stride_at};
 
+mod by_lengths;
 mod get_mut;
 mod longest;
 mod matches;

@@ -117,6 +117,21 @@ impl<T> CidrTable6<T> {
         }
     }
 
+    /// Returns what [`longest_match_net`](Self::longest_match_net) returns, found by looking up each length, the
+    /// longest first: a law, and as slow as it reads.
+    pub fn longest_by_lengths(&self, net: &Cidr6) -> Option<(Cidr6, &T)>
+        ensures { option_map (λ p. (bits6 p.0, p.1.now)) result
+            ≡ longest_match (bits6 net.now) self.now }
+    {
+        match self
+            .routes
+            .longest_by_lengths(net.octets(), usize::from(net.len()))
+        {
+            Some((bits, target)) => Some((net.supernet(bits as u8), target)),
+            None => None,
+        }
+    }
+
     /// Inserts a route from `net` to `target`, and returns the old target.
     ///
     /// # Errors

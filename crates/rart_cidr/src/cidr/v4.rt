@@ -6,6 +6,7 @@ ghost use Rattle.rart_cidr.specs.Bits.{AreClearAfter, bits_of, cleared};
 
 use crate::bits::{are_bytes, clear_after};
 use crate::cidr::CidrError;
+use std::cmp::Ordering;
 use std::fmt;
 use std::net::Ipv4Addr;
 
@@ -36,7 +37,9 @@ fn cleared_octets(addr: Ipv4Addr, len: u8) -> [u8; 4]
 
 impl Cidr4 {
     ghost use Rattle.std.specs.Prelude.{◌≡◌, ◌-◌, ◌≤◌, ◌++◌, length, replicate, take};
+    ghost use Rattle.std.specs.Cmp.Lexicographic.{slice_cmp};
     ghost use Rattle.std.specs.Net.Addr.{ipv4_octets};
+    ghost use Rattle.std.specs.Ordering.{nat_cmp};
     ghost use Rattle.rart_keys.specs.ByteStrings.{begins};
     ghost use Rattle.rart_cidr.specs.Bits.{bits_of, network};
     ghost use Rattle.rart_cidr.specs.Networks.{IsNew, bits4};
@@ -121,6 +124,14 @@ impl Cidr4 {
         ensures { result ≡ begins (bits4 self.now) (bits4 net.now) }
     {
         self.len <= net.len && self.contains(net.addr())
+    }
+
+    /// Compares by address, then by length, as `cmp` does. This is the order of the bits: a network comes before those
+    /// inside it.
+    pub fn cmp_bits(&self, other: &Cidr4) -> Ordering
+        ensures { result ≡ slice_cmp nat_cmp (bits4 self.now) (bits4 other.now) }
+    {
+        self.cmp(other)
     }
 }
 
