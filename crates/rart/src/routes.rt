@@ -87,6 +87,7 @@ impl<K: KeyTrait, T> RouteTable<K, T> {
         ensures nodes { seen_nodes result ≡ self.now.nodes }
         ensures room { longest_key self.now.pairs ≤ length_bound result }
         ensures within { IsWithin K.MAXIMUM_SIZE (length_bound result) }
+        ensures no_room { self.now.pairs ≡ [] → length_bound result ≡ 0 }
     {
         self.routes.seen()
     }

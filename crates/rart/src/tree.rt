@@ -33,7 +33,7 @@ pub const MAX_PAIRS: usize = usize::MAX / 16;
 pub struct AdaptiveRadixTree<K: KeyTrait, V> {
     root: Option<DefaultNode<K::PartialType, V>>,
     len: usize,
-    // at least the length of the longest key stored since the last `clear`
+    // at least the length of the longest key stored since the tree was last empty
     longest: usize,
     alloc: Global,
     of: PhantomData<K>,
@@ -52,7 +52,8 @@ impl<K: KeyTrait, V> Model for AdaptiveRadixTree<K, V> {
     ghost view = { λ t. record { pairs = tree_pairs t.root; nodes = tree_nodes t.root } };
 
     ghost invariant = { λ t. IsCanonicalTree t.root × (t.len ≡ length (tree_pairs t.root)) × (t.len ≤ MAX_PAIRS)
-        × (longest_key (tree_pairs t.root) ≤ t.longest) × IsWithin K.MAXIMUM_SIZE t.longest };
+        × (longest_key (tree_pairs t.root) ≤ t.longest) × IsWithin K.MAXIMUM_SIZE t.longest
+        × (t.len ≡ 0 → t.longest ≡ 0) };
 }
 
 impl<K: KeyTrait, V> AdaptiveRadixTree<K, V> {
@@ -114,12 +115,13 @@ impl<K: KeyTrait, V> AdaptiveRadixTree<K, V> {
 
     /// Returns a view of the tree that counts its node reads in a `C`.
     ///
-    /// The capacity of its walks is at least the length of the longest stored key.
+    /// The capacity of its walks is at least the length of the longest stored key, and 0 in an empty tree.
     pub fn seen<C>(&self) -> Seen<'_, K, V, C>
         ensures pairs { seen_pairs result ≡ self.now.pairs }
         ensures nodes { seen_nodes result ≡ self.now.nodes }
         ensures room { longest_key self.now.pairs ≤ length_bound result }
         ensures within { IsWithin K.MAXIMUM_SIZE (length_bound result) }
+        ensures no_room { self.now.pairs ≡ [] → length_bound result ≡ 0 }
     {
         Seen::of(self.root.as_ref(), self.alloc, self.longest)
     }
@@ -258,6 +260,7 @@ impl<K: KeyTrait, V> AdaptiveRadixTree<K, V> {
         if removed.is_some() {
             self.len -= 1;
         }
+        self.longest = length_kept(self.len, self.longest);
         Ok(removed)
     }
 
@@ -303,6 +306,14 @@ impl<K: KeyTrait, V> AdaptiveRadixTree<K, V> {
     {
         self.delete_k(&key)
     }
+}
+
+// Returns the length to keep for later walks after a removal that leaves `len` pairs: `longest`, and 0 without pairs.
+fn length_kept(len: usize, longest: usize) -> usize
+    ensures none { len ≡ 0 → result ≡ 0 }
+    ensures some { 0 < len → result ≡ longest }
+{
+    if len == 0 { 0 } else { longest }
 }
 
 // Inserts the first leaf of a tree without a root.

@@ -12,7 +12,7 @@ ghost use Rattle.rart.specs.Updates.{Attempts, EndsIn, IsAttempt, StaysIfOk, Tri
 ghost use Rattle.rart.specs.Updates.{touched_in};
 ghost use Rattle.rart.specs.declared.tree.update.TryUpdateError.TheVariants.{Clone as Not_cloned};
 
-use crate::tree::{AdaptiveRadixTree, MAX_PAIRS};
+use crate::tree::{AdaptiveRadixTree, MAX_PAIRS, length_kept};
 use rart_keys::KeyTrait;
 use rart_keys::laws::sorted_map;
 use rart_nodes::laws::put_back;
@@ -76,7 +76,10 @@ impl<K: KeyTrait, V> AdaptiveRadixTree<K, V> {
                 self.len += 1;
                 self.longest = self.longest.max(bytes.len());
             }
-            Ok(Outcome::Removed(_)) => self.len -= 1,
+            Ok(Outcome::Removed(_)) => {
+                self.len -= 1;
+                self.longest = length_kept(self.len, self.longest);
+            }
             _ => {}
         }
         (outcome, told)
