@@ -1,22 +1,25 @@
 //! Rows of calls on a table of IPv6 networks, and what they answer: octets' borders, the default route, host routes,
 //! routes under others of the same octets, and removals.
 
+mod nested;
+
+use crate::rows6::nested::NESTED;
 use rart_cidr::{Cidr6, CidrError, CidrTable6};
 use std::alloc::Global;
 use std::net::Ipv6Addr;
 use std::process::Abort;
 
-type Octets = [u8; 16];
+type Bits = u128;
 
 #[derive(Clone, Copy)]
 enum Ask {
-    Insert(Octets, u8, u64),
-    Remove(Octets, u8),
-    Get(Octets, u8),
+    Insert(Bits, u8, u64),
+    Remove(Bits, u8),
+    Get(Bits, u8),
     // the length and the target of the route with the longest network that contains the address
-    Route(Octets),
+    Route(Bits),
     // how many routes' networks contain the address
-    Covering(Octets),
+    Covering(Bits),
     Len,
 }
 
@@ -37,16 +40,16 @@ type Row = (Ask, Reply);
 
 type Table = CidrTable6<u64>;
 
-fn network(octets: Octets, len: u8) -> Result<Cidr6, Reply> {
-    match Cidr6::new(Ipv6Addr::from_octets(octets), len) {
+fn network(bits: Bits, len: u8) -> Result<Cidr6, Reply> {
+    match Cidr6::new(Ipv6Addr::from_octets(bits.to_be_bytes()), len) {
         Ok(net) => Ok(net),
         Err(CidrError::Length) => Err(Reply::BadLength),
         Err(CidrError::HostBits) => Err(Reply::HostBits),
     }
 }
 
-fn insert(table: &mut Table, octets: Octets, len: u8, target: u64) -> Reply {
-    match network(octets, len) {
+fn insert(table: &mut Table, bits: Bits, len: u8, target: u64) -> Reply {
+    match network(bits, len) {
         Ok(net) => match table.insert(&net, target) {
             Ok(old) => Reply::Value(old),
             Err(_) => Reply::Refused,
@@ -55,8 +58,8 @@ fn insert(table: &mut Table, octets: Octets, len: u8, target: u64) -> Reply {
     }
 }
 
-fn remove(table: &mut Table, octets: Octets, len: u8) -> Reply {
-    match network(octets, len) {
+fn remove(table: &mut Table, bits: Bits, len: u8) -> Reply {
+    match network(bits, len) {
         Ok(net) => match table.remove(&net) {
             Ok(old) => Reply::Value(old),
             Err(_) => Reply::Refused,
@@ -65,15 +68,15 @@ fn remove(table: &mut Table, octets: Octets, len: u8) -> Reply {
     }
 }
 
-fn get(table: &Table, octets: Octets, len: u8) -> Reply {
-    match network(octets, len) {
+fn get(table: &Table, bits: Bits, len: u8) -> Reply {
+    match network(bits, len) {
         Ok(net) => Reply::Value(table.get(&net).copied()),
         Err(reply) => reply,
     }
 }
 
-fn route(table: &Table, octets: Octets) -> Reply {
-    let addr = Ipv6Addr::from_octets(octets);
+fn route(table: &Table, bits: Bits) -> Reply {
+    let addr = Ipv6Addr::from_octets(bits.to_be_bytes());
     let found = match table.longest_match(addr) {
         Some((net, target)) => Reply::Found(net.len(), *target),
         None => Reply::Missed,
@@ -89,9 +92,9 @@ fn route(table: &Table, octets: Octets) -> Reply {
     }
 }
 
-fn covering(table: &Table, octets: Octets) -> Reply {
+fn covering(table: &Table, bits: Bits) -> Reply {
     let mut count = 0_usize;
-    for _ in table.matches(Ipv6Addr::from_octets(octets)) {
+    for _ in table.matches(Ipv6Addr::from_octets(bits.to_be_bytes())) {
         count = count.wrapping_add(1);
     }
     Reply::Count(count)
@@ -99,11 +102,11 @@ fn covering(table: &Table, octets: Octets) -> Reply {
 
 fn answer(table: &mut Table, ask: Ask) -> Reply {
     match ask {
-        Ask::Insert(octets, len, target) => insert(table, octets, len, target),
-        Ask::Remove(octets, len) => remove(table, octets, len),
-        Ask::Get(octets, len) => get(table, octets, len),
-        Ask::Route(octets) => route(table, octets),
-        Ask::Covering(octets) => covering(table, octets),
+        Ask::Insert(bits, len, target) => insert(table, bits, len, target),
+        Ask::Remove(bits, len) => remove(table, bits, len),
+        Ask::Get(bits, len) => get(table, bits, len),
+        Ask::Route(bits) => route(table, bits),
+        Ask::Covering(bits) => covering(table, bits),
         Ask::Len => Reply::Count(table.len()),
     }
 }
@@ -129,563 +132,106 @@ fn went_well(rt: &impl Abort, differs: Option<usize>) {
 
 const NEW: Reply = Reply::Value(None);
 
-// Networks at the borders of the octets, each inside the one before.
-const NESTED: [Row; 74] = [
-    (
-        Ask::Insert([32, 0, 0, 0, 0, 0, 0, 0, 0, 0, 0, 0, 0, 0, 0, 0], 7, 7),
-        NEW,
-    ),
-    (
-        Ask::Insert([32, 0, 0, 0, 0, 0, 0, 0, 0, 0, 0, 0, 0, 0, 0, 0], 9, 9),
-        NEW,
-    ),
-    (
-        Ask::Insert([32, 1, 13, 184, 0, 0, 0, 0, 0, 0, 0, 0, 0, 0, 0, 0], 32, 32),
-        NEW,
-    ),
-    (
-        Ask::Insert(
-            [32, 1, 13, 184, 85, 170, 51, 204, 0, 0, 0, 0, 0, 0, 0, 0],
-            63,
-            63,
-        ),
-        NEW,
-    ),
-    (
-        Ask::Insert(
-            [32, 1, 13, 184, 85, 170, 51, 204, 0, 0, 0, 0, 0, 0, 0, 0],
-            65,
-            65,
-        ),
-        NEW,
-    ),
-    (
-        Ask::Insert(
-            [
-                32, 1, 13, 184, 85, 170, 51, 204, 15, 240, 129, 126, 1, 2, 3, 129,
-            ],
-            128,
-            128,
-        ),
-        NEW,
-    ),
-    (
-        Ask::Insert([0, 0, 0, 0, 0, 0, 0, 0, 0, 0, 0, 0, 0, 0, 0, 0], 0, 0),
-        NEW,
-    ),
-    (
-        Ask::Insert([32, 0, 0, 0, 0, 0, 0, 0, 0, 0, 0, 0, 0, 0, 0, 0], 8, 8),
-        NEW,
-    ),
-    (
-        Ask::Insert([32, 1, 13, 184, 0, 0, 0, 0, 0, 0, 0, 0, 0, 0, 0, 0], 31, 31),
-        NEW,
-    ),
-    (
-        Ask::Insert([32, 1, 13, 184, 0, 0, 0, 0, 0, 0, 0, 0, 0, 0, 0, 0], 33, 33),
-        NEW,
-    ),
-    (
-        Ask::Insert(
-            [32, 1, 13, 184, 85, 170, 51, 204, 0, 0, 0, 0, 0, 0, 0, 0],
-            64,
-            64,
-        ),
-        NEW,
-    ),
-    (
-        Ask::Insert(
-            [
-                32, 1, 13, 184, 85, 170, 51, 204, 15, 240, 129, 126, 1, 2, 3, 128,
-            ],
-            127,
-            127,
-        ),
-        NEW,
-    ),
-    (Ask::Len, Reply::Count(12)),
-    (
-        Ask::Route([
-            32, 1, 13, 184, 85, 170, 51, 204, 15, 240, 129, 126, 1, 2, 3, 129,
-        ]),
-        Reply::Found(128, 128),
-    ),
-    (
-        Ask::Covering([
-            32, 1, 13, 184, 85, 170, 51, 204, 15, 240, 129, 126, 1, 2, 3, 129,
-        ]),
-        Reply::Count(12),
-    ),
-    (
-        Ask::Route([
-            160, 1, 13, 184, 85, 170, 51, 204, 15, 240, 129, 126, 1, 2, 3, 129,
-        ]),
-        Reply::Found(0, 0),
-    ),
-    (
-        Ask::Covering([
-            160, 1, 13, 184, 85, 170, 51, 204, 15, 240, 129, 126, 1, 2, 3, 129,
-        ]),
-        Reply::Count(1),
-    ),
-    (
-        Ask::Route([
-            33, 1, 13, 184, 85, 170, 51, 204, 15, 240, 129, 126, 1, 2, 3, 129,
-        ]),
-        Reply::Found(7, 7),
-    ),
-    (
-        Ask::Covering([
-            33, 1, 13, 184, 85, 170, 51, 204, 15, 240, 129, 126, 1, 2, 3, 129,
-        ]),
-        Reply::Count(2),
-    ),
-    (
-        Ask::Route([
-            32, 129, 13, 184, 85, 170, 51, 204, 15, 240, 129, 126, 1, 2, 3, 129,
-        ]),
-        Reply::Found(8, 8),
-    ),
-    (
-        Ask::Covering([
-            32, 129, 13, 184, 85, 170, 51, 204, 15, 240, 129, 126, 1, 2, 3, 129,
-        ]),
-        Reply::Count(3),
-    ),
-    (
-        Ask::Route([
-            32, 65, 13, 184, 85, 170, 51, 204, 15, 240, 129, 126, 1, 2, 3, 129,
-        ]),
-        Reply::Found(9, 9),
-    ),
-    (
-        Ask::Covering([
-            32, 65, 13, 184, 85, 170, 51, 204, 15, 240, 129, 126, 1, 2, 3, 129,
-        ]),
-        Reply::Count(4),
-    ),
-    (
-        Ask::Route([
-            32, 1, 13, 185, 85, 170, 51, 204, 15, 240, 129, 126, 1, 2, 3, 129,
-        ]),
-        Reply::Found(31, 31),
-    ),
-    (
-        Ask::Covering([
-            32, 1, 13, 185, 85, 170, 51, 204, 15, 240, 129, 126, 1, 2, 3, 129,
-        ]),
-        Reply::Count(5),
-    ),
-    (
-        Ask::Route([
-            32, 1, 13, 184, 213, 170, 51, 204, 15, 240, 129, 126, 1, 2, 3, 129,
-        ]),
-        Reply::Found(32, 32),
-    ),
-    (
-        Ask::Covering([
-            32, 1, 13, 184, 213, 170, 51, 204, 15, 240, 129, 126, 1, 2, 3, 129,
-        ]),
-        Reply::Count(6),
-    ),
-    (
-        Ask::Route([
-            32, 1, 13, 184, 21, 170, 51, 204, 15, 240, 129, 126, 1, 2, 3, 129,
-        ]),
-        Reply::Found(33, 33),
-    ),
-    (
-        Ask::Covering([
-            32, 1, 13, 184, 21, 170, 51, 204, 15, 240, 129, 126, 1, 2, 3, 129,
-        ]),
-        Reply::Count(7),
-    ),
-    (
-        Ask::Route([
-            32, 1, 13, 184, 85, 170, 51, 205, 15, 240, 129, 126, 1, 2, 3, 129,
-        ]),
-        Reply::Found(63, 63),
-    ),
-    (
-        Ask::Covering([
-            32, 1, 13, 184, 85, 170, 51, 205, 15, 240, 129, 126, 1, 2, 3, 129,
-        ]),
-        Reply::Count(8),
-    ),
-    (
-        Ask::Route([
-            32, 1, 13, 184, 85, 170, 51, 204, 143, 240, 129, 126, 1, 2, 3, 129,
-        ]),
-        Reply::Found(64, 64),
-    ),
-    (
-        Ask::Covering([
-            32, 1, 13, 184, 85, 170, 51, 204, 143, 240, 129, 126, 1, 2, 3, 129,
-        ]),
-        Reply::Count(9),
-    ),
-    (
-        Ask::Route([
-            32, 1, 13, 184, 85, 170, 51, 204, 79, 240, 129, 126, 1, 2, 3, 129,
-        ]),
-        Reply::Found(65, 65),
-    ),
-    (
-        Ask::Covering([
-            32, 1, 13, 184, 85, 170, 51, 204, 79, 240, 129, 126, 1, 2, 3, 129,
-        ]),
-        Reply::Count(10),
-    ),
-    (
-        Ask::Route([
-            32, 1, 13, 184, 85, 170, 51, 204, 15, 240, 129, 126, 1, 2, 3, 128,
-        ]),
-        Reply::Found(127, 127),
-    ),
-    (
-        Ask::Covering([
-            32, 1, 13, 184, 85, 170, 51, 204, 15, 240, 129, 126, 1, 2, 3, 128,
-        ]),
-        Reply::Count(11),
-    ),
-    (
-        Ask::Remove(
-            [
-                32, 1, 13, 184, 85, 170, 51, 204, 15, 240, 129, 126, 1, 2, 3, 129,
-            ],
-            128,
-        ),
-        Reply::Value(Some(128)),
-    ),
-    (
-        Ask::Get(
-            [
-                32, 1, 13, 184, 85, 170, 51, 204, 15, 240, 129, 126, 1, 2, 3, 129,
-            ],
-            128,
-        ),
-        NEW,
-    ),
-    (
-        Ask::Route([
-            32, 1, 13, 184, 85, 170, 51, 204, 15, 240, 129, 126, 1, 2, 3, 129,
-        ]),
-        Reply::Found(127, 127),
-    ),
-    (
-        Ask::Remove(
-            [
-                32, 1, 13, 184, 85, 170, 51, 204, 15, 240, 129, 126, 1, 2, 3, 128,
-            ],
-            127,
-        ),
-        Reply::Value(Some(127)),
-    ),
-    (
-        Ask::Get(
-            [
-                32, 1, 13, 184, 85, 170, 51, 204, 15, 240, 129, 126, 1, 2, 3, 128,
-            ],
-            127,
-        ),
-        NEW,
-    ),
-    (
-        Ask::Route([
-            32, 1, 13, 184, 85, 170, 51, 204, 15, 240, 129, 126, 1, 2, 3, 129,
-        ]),
-        Reply::Found(65, 65),
-    ),
-    (
-        Ask::Remove(
-            [32, 1, 13, 184, 85, 170, 51, 204, 0, 0, 0, 0, 0, 0, 0, 0],
-            65,
-        ),
-        Reply::Value(Some(65)),
-    ),
-    (
-        Ask::Get(
-            [32, 1, 13, 184, 85, 170, 51, 204, 0, 0, 0, 0, 0, 0, 0, 0],
-            65,
-        ),
-        NEW,
-    ),
-    (
-        Ask::Route([
-            32, 1, 13, 184, 85, 170, 51, 204, 15, 240, 129, 126, 1, 2, 3, 129,
-        ]),
-        Reply::Found(64, 64),
-    ),
-    (
-        Ask::Remove(
-            [32, 1, 13, 184, 85, 170, 51, 204, 0, 0, 0, 0, 0, 0, 0, 0],
-            64,
-        ),
-        Reply::Value(Some(64)),
-    ),
-    (
-        Ask::Get(
-            [32, 1, 13, 184, 85, 170, 51, 204, 0, 0, 0, 0, 0, 0, 0, 0],
-            64,
-        ),
-        NEW,
-    ),
-    (
-        Ask::Route([
-            32, 1, 13, 184, 85, 170, 51, 204, 15, 240, 129, 126, 1, 2, 3, 129,
-        ]),
-        Reply::Found(63, 63),
-    ),
-    (
-        Ask::Remove(
-            [32, 1, 13, 184, 85, 170, 51, 204, 0, 0, 0, 0, 0, 0, 0, 0],
-            63,
-        ),
-        Reply::Value(Some(63)),
-    ),
-    (
-        Ask::Get(
-            [32, 1, 13, 184, 85, 170, 51, 204, 0, 0, 0, 0, 0, 0, 0, 0],
-            63,
-        ),
-        NEW,
-    ),
-    (
-        Ask::Route([
-            32, 1, 13, 184, 85, 170, 51, 204, 15, 240, 129, 126, 1, 2, 3, 129,
-        ]),
-        Reply::Found(33, 33),
-    ),
-    (
-        Ask::Remove([32, 1, 13, 184, 0, 0, 0, 0, 0, 0, 0, 0, 0, 0, 0, 0], 33),
-        Reply::Value(Some(33)),
-    ),
-    (
-        Ask::Get([32, 1, 13, 184, 0, 0, 0, 0, 0, 0, 0, 0, 0, 0, 0, 0], 33),
-        NEW,
-    ),
-    (
-        Ask::Route([
-            32, 1, 13, 184, 85, 170, 51, 204, 15, 240, 129, 126, 1, 2, 3, 129,
-        ]),
-        Reply::Found(32, 32),
-    ),
-    (
-        Ask::Remove([32, 1, 13, 184, 0, 0, 0, 0, 0, 0, 0, 0, 0, 0, 0, 0], 32),
-        Reply::Value(Some(32)),
-    ),
-    (
-        Ask::Get([32, 1, 13, 184, 0, 0, 0, 0, 0, 0, 0, 0, 0, 0, 0, 0], 32),
-        NEW,
-    ),
-    (
-        Ask::Route([
-            32, 1, 13, 184, 85, 170, 51, 204, 15, 240, 129, 126, 1, 2, 3, 129,
-        ]),
-        Reply::Found(31, 31),
-    ),
-    (
-        Ask::Remove([32, 1, 13, 184, 0, 0, 0, 0, 0, 0, 0, 0, 0, 0, 0, 0], 31),
-        Reply::Value(Some(31)),
-    ),
-    (
-        Ask::Get([32, 1, 13, 184, 0, 0, 0, 0, 0, 0, 0, 0, 0, 0, 0, 0], 31),
-        NEW,
-    ),
-    (
-        Ask::Route([
-            32, 1, 13, 184, 85, 170, 51, 204, 15, 240, 129, 126, 1, 2, 3, 129,
-        ]),
-        Reply::Found(9, 9),
-    ),
-    (
-        Ask::Remove([32, 0, 0, 0, 0, 0, 0, 0, 0, 0, 0, 0, 0, 0, 0, 0], 9),
-        Reply::Value(Some(9)),
-    ),
-    (
-        Ask::Get([32, 0, 0, 0, 0, 0, 0, 0, 0, 0, 0, 0, 0, 0, 0, 0], 9),
-        NEW,
-    ),
-    (
-        Ask::Route([
-            32, 1, 13, 184, 85, 170, 51, 204, 15, 240, 129, 126, 1, 2, 3, 129,
-        ]),
-        Reply::Found(8, 8),
-    ),
-    (
-        Ask::Remove([32, 0, 0, 0, 0, 0, 0, 0, 0, 0, 0, 0, 0, 0, 0, 0], 8),
-        Reply::Value(Some(8)),
-    ),
-    (
-        Ask::Get([32, 0, 0, 0, 0, 0, 0, 0, 0, 0, 0, 0, 0, 0, 0, 0], 8),
-        NEW,
-    ),
-    (
-        Ask::Route([
-            32, 1, 13, 184, 85, 170, 51, 204, 15, 240, 129, 126, 1, 2, 3, 129,
-        ]),
-        Reply::Found(7, 7),
-    ),
-    (
-        Ask::Remove([32, 0, 0, 0, 0, 0, 0, 0, 0, 0, 0, 0, 0, 0, 0, 0], 7),
-        Reply::Value(Some(7)),
-    ),
-    (
-        Ask::Get([32, 0, 0, 0, 0, 0, 0, 0, 0, 0, 0, 0, 0, 0, 0, 0], 7),
-        NEW,
-    ),
-    (
-        Ask::Route([
-            32, 1, 13, 184, 85, 170, 51, 204, 15, 240, 129, 126, 1, 2, 3, 129,
-        ]),
-        Reply::Found(0, 0),
-    ),
-    (
-        Ask::Remove([0, 0, 0, 0, 0, 0, 0, 0, 0, 0, 0, 0, 0, 0, 0, 0], 0),
-        Reply::Value(Some(0)),
-    ),
-    (
-        Ask::Get([0, 0, 0, 0, 0, 0, 0, 0, 0, 0, 0, 0, 0, 0, 0, 0], 0),
-        NEW,
-    ),
-    (
-        Ask::Route([
-            32, 1, 13, 184, 85, 170, 51, 204, 15, 240, 129, 126, 1, 2, 3, 129,
-        ]),
-        Reply::Missed,
-    ),
-    (Ask::Len, Reply::Count(0)),
-];
-
 // The default route, host routes, and a network of whole octets of zeros.
 const DEFAULT_AND_HOSTS: [Row; 21] = [
     (
-        Ask::Route([0, 0, 0, 0, 0, 0, 0, 0, 0, 0, 0, 0, 0, 0, 0, 0]),
+        Ask::Route(0x0000_0000_0000_0000_0000_0000_0000_0000),
         Reply::Missed,
     ),
     (
-        Ask::Remove([0, 0, 0, 0, 0, 0, 0, 0, 0, 0, 0, 0, 0, 0, 0, 0], 0),
+        Ask::Remove(0x0000_0000_0000_0000_0000_0000_0000_0000, 0),
         NEW,
     ),
     (
-        Ask::Insert([0, 0, 0, 0, 0, 0, 0, 0, 0, 0, 0, 0, 0, 0, 0, 0], 0, 1),
+        Ask::Insert(0x0000_0000_0000_0000_0000_0000_0000_0000, 0, 1),
         NEW,
     ),
     (
-        Ask::Insert([0, 0, 0, 0, 0, 0, 0, 0, 0, 0, 0, 0, 0, 0, 0, 0], 0, 2),
+        Ask::Insert(0x0000_0000_0000_0000_0000_0000_0000_0000, 0, 2),
         Reply::Value(Some(1)),
     ),
     (
-        Ask::Route([
-            255, 255, 255, 255, 255, 255, 255, 255, 255, 255, 255, 255, 255, 255, 255, 255,
-        ]),
+        Ask::Route(0xffff_ffff_ffff_ffff_ffff_ffff_ffff_ffff),
         Reply::Found(0, 2),
     ),
     (
-        Ask::Insert(
-            [
-                255, 255, 255, 255, 255, 255, 255, 255, 255, 255, 255, 255, 255, 255, 255, 255,
-            ],
-            128,
-            3,
-        ),
+        Ask::Insert(0xffff_ffff_ffff_ffff_ffff_ffff_ffff_ffff, 128, 3),
         NEW,
     ),
     (
-        Ask::Insert([0, 0, 0, 0, 0, 0, 0, 0, 0, 0, 0, 0, 0, 0, 0, 0], 128, 4),
+        Ask::Insert(0x0000_0000_0000_0000_0000_0000_0000_0000, 128, 4),
         NEW,
     ),
     (
-        Ask::Insert([0, 0, 0, 0, 0, 0, 0, 0, 0, 0, 0, 0, 0, 0, 0, 0], 8, 5),
+        Ask::Insert(0x0000_0000_0000_0000_0000_0000_0000_0000, 8, 5),
         NEW,
     ),
     (Ask::Len, Reply::Count(4)),
     (
-        Ask::Route([
-            255, 255, 255, 255, 255, 255, 255, 255, 255, 255, 255, 255, 255, 255, 255, 255,
-        ]),
+        Ask::Route(0xffff_ffff_ffff_ffff_ffff_ffff_ffff_ffff),
         Reply::Found(128, 3),
     ),
     (
-        Ask::Route([
-            255, 255, 255, 255, 255, 255, 255, 255, 255, 255, 255, 255, 255, 255, 255, 254,
-        ]),
+        Ask::Route(0xffff_ffff_ffff_ffff_ffff_ffff_ffff_fffe),
         Reply::Found(0, 2),
     ),
     (
-        Ask::Route([0, 0, 0, 0, 0, 0, 0, 0, 0, 0, 0, 0, 0, 0, 0, 0]),
+        Ask::Route(0x0000_0000_0000_0000_0000_0000_0000_0000),
         Reply::Found(128, 4),
     ),
     (
-        Ask::Covering([0, 0, 0, 0, 0, 0, 0, 0, 0, 0, 0, 0, 0, 0, 0, 0]),
+        Ask::Covering(0x0000_0000_0000_0000_0000_0000_0000_0000),
         Reply::Count(3),
     ),
     (
-        Ask::Route([0, 0, 0, 0, 0, 0, 0, 0, 0, 0, 0, 0, 0, 0, 0, 1]),
+        Ask::Route(0x0000_0000_0000_0000_0000_0000_0000_0001),
         Reply::Found(8, 5),
     ),
     (
-        Ask::Remove([0, 0, 0, 0, 0, 0, 0, 0, 0, 0, 0, 0, 0, 0, 0, 0], 0),
+        Ask::Remove(0x0000_0000_0000_0000_0000_0000_0000_0000, 0),
         Reply::Value(Some(2)),
     ),
     (
-        Ask::Route([
-            255, 255, 255, 255, 255, 255, 255, 255, 255, 255, 255, 255, 255, 255, 255, 254,
-        ]),
+        Ask::Route(0xffff_ffff_ffff_ffff_ffff_ffff_ffff_fffe),
         Reply::Missed,
     ),
     (
-        Ask::Route([0, 0, 0, 0, 0, 0, 0, 0, 0, 0, 0, 0, 0, 0, 0, 0]),
+        Ask::Route(0x0000_0000_0000_0000_0000_0000_0000_0000),
         Reply::Found(128, 4),
     ),
     (
-        Ask::Get([0, 0, 0, 0, 0, 0, 0, 0, 0, 0, 0, 0, 0, 0, 0, 0], 8),
+        Ask::Get(0x0000_0000_0000_0000_0000_0000_0000_0000, 8),
         Reply::Value(Some(5)),
     ),
-    (
-        Ask::Get([0, 0, 0, 0, 0, 0, 0, 0, 0, 0, 0, 0, 0, 0, 0, 0], 7),
-        NEW,
-    ),
-    (
-        Ask::Get([0, 0, 0, 0, 0, 0, 0, 0, 0, 0, 0, 0, 0, 0, 0, 0], 9),
-        NEW,
-    ),
-    (
-        Ask::Get([0, 0, 0, 0, 0, 0, 0, 0, 0, 0, 0, 0, 0, 0, 0, 0], 16),
-        NEW,
-    ),
+    (Ask::Get(0x0000_0000_0000_0000_0000_0000_0000_0000, 7), NEW),
+    (Ask::Get(0x0000_0000_0000_0000_0000_0000_0000_0000, 9), NEW),
+    (Ask::Get(0x0000_0000_0000_0000_0000_0000_0000_0000, 16), NEW),
 ];
 
 // Addresses and lengths that make no network.
 const NO_NETWORKS: [Row; 7] = [
     (
-        Ask::Insert([0, 0, 0, 0, 0, 0, 0, 0, 0, 0, 0, 0, 0, 0, 0, 0], 129, 1),
+        Ask::Insert(0x0000_0000_0000_0000_0000_0000_0000_0000, 129, 1),
         Reply::BadLength,
     ),
     (
-        Ask::Insert([0, 0, 0, 0, 0, 0, 0, 0, 0, 0, 0, 0, 0, 0, 0, 0], 255, 1),
+        Ask::Insert(0x0000_0000_0000_0000_0000_0000_0000_0000, 255, 1),
         Reply::BadLength,
     ),
     (
-        Ask::Insert(
-            [
-                255, 255, 255, 255, 255, 255, 255, 255, 255, 255, 255, 255, 255, 255, 255, 255,
-            ],
-            127,
-            1,
-        ),
+        Ask::Insert(0xffff_ffff_ffff_ffff_ffff_ffff_ffff_ffff, 127, 1),
         Reply::HostBits,
     ),
     (
-        Ask::Insert([0, 0, 0, 0, 0, 0, 0, 0, 0, 0, 0, 0, 0, 0, 0, 1], 0, 1),
+        Ask::Insert(0x0000_0000_0000_0000_0000_0000_0000_0001, 0, 1),
         Reply::HostBits,
     ),
     (
-        Ask::Get([1, 0, 0, 0, 0, 0, 0, 0, 0, 0, 0, 0, 0, 0, 0, 0], 7),
+        Ask::Get(0x0100_0000_0000_0000_0000_0000_0000_0000, 7),
         Reply::HostBits,
     ),
     (
-        Ask::Remove([0, 128, 0, 0, 0, 0, 0, 0, 0, 0, 0, 0, 0, 0, 0, 0], 8),
+        Ask::Remove(0x0080_0000_0000_0000_0000_0000_0000_0000, 8),
         Reply::HostBits,
     ),
     (Ask::Len, Reply::Count(0)),
@@ -694,64 +240,64 @@ const NO_NETWORKS: [Row; 7] = [
 // Networks of the same whole octets: a removal keeps those beside it and those that cover it.
 const ONE_STRIDE: [Row; 16] = [
     (
-        Ask::Insert([10, 16, 0, 0, 0, 0, 0, 0, 0, 0, 0, 0, 0, 0, 0, 0], 12, 1),
+        Ask::Insert(0x0a10_0000_0000_0000_0000_0000_0000_0000, 12, 1),
         NEW,
     ),
     (
-        Ask::Insert([10, 24, 0, 0, 0, 0, 0, 0, 0, 0, 0, 0, 0, 0, 0, 0], 13, 2),
+        Ask::Insert(0x0a18_0000_0000_0000_0000_0000_0000_0000, 13, 2),
         NEW,
     ),
     (
-        Ask::Insert([10, 16, 0, 0, 0, 0, 0, 0, 0, 0, 0, 0, 0, 0, 0, 0], 13, 3),
+        Ask::Insert(0x0a10_0000_0000_0000_0000_0000_0000_0000, 13, 3),
         NEW,
     ),
     (
-        Ask::Route([10, 31, 9, 9, 9, 9, 9, 9, 9, 9, 9, 9, 9, 9, 9, 9]),
+        Ask::Route(0x0a1f_0909_0909_0909_0909_0909_0909_0909),
         Reply::Found(13, 2),
     ),
     (
-        Ask::Route([10, 23, 9, 9, 9, 9, 9, 9, 9, 9, 9, 9, 9, 9, 9, 9]),
+        Ask::Route(0x0a17_0909_0909_0909_0909_0909_0909_0909),
         Reply::Found(13, 3),
     ),
     (
-        Ask::Remove([10, 16, 0, 0, 0, 0, 0, 0, 0, 0, 0, 0, 0, 0, 0, 0], 13),
+        Ask::Remove(0x0a10_0000_0000_0000_0000_0000_0000_0000, 13),
         Reply::Value(Some(3)),
     ),
     (
-        Ask::Route([10, 23, 9, 9, 9, 9, 9, 9, 9, 9, 9, 9, 9, 9, 9, 9]),
+        Ask::Route(0x0a17_0909_0909_0909_0909_0909_0909_0909),
         Reply::Found(12, 1),
     ),
     (
-        Ask::Route([10, 31, 9, 9, 9, 9, 9, 9, 9, 9, 9, 9, 9, 9, 9, 9]),
+        Ask::Route(0x0a1f_0909_0909_0909_0909_0909_0909_0909),
         Reply::Found(13, 2),
     ),
     (
-        Ask::Remove([10, 16, 0, 0, 0, 0, 0, 0, 0, 0, 0, 0, 0, 0, 0, 0], 12),
+        Ask::Remove(0x0a10_0000_0000_0000_0000_0000_0000_0000, 12),
         Reply::Value(Some(1)),
     ),
     (
-        Ask::Route([10, 23, 9, 9, 9, 9, 9, 9, 9, 9, 9, 9, 9, 9, 9, 9]),
+        Ask::Route(0x0a17_0909_0909_0909_0909_0909_0909_0909),
         Reply::Missed,
     ),
     (
-        Ask::Route([10, 31, 9, 9, 9, 9, 9, 9, 9, 9, 9, 9, 9, 9, 9, 9]),
+        Ask::Route(0x0a1f_0909_0909_0909_0909_0909_0909_0909),
         Reply::Found(13, 2),
     ),
     (
-        Ask::Remove([10, 24, 0, 0, 0, 0, 0, 0, 0, 0, 0, 0, 0, 0, 0, 0], 13),
+        Ask::Remove(0x0a18_0000_0000_0000_0000_0000_0000_0000, 13),
         Reply::Value(Some(2)),
     ),
     (
-        Ask::Remove([10, 24, 0, 0, 0, 0, 0, 0, 0, 0, 0, 0, 0, 0, 0, 0], 13),
+        Ask::Remove(0x0a18_0000_0000_0000_0000_0000_0000_0000, 13),
         NEW,
     ),
     (Ask::Len, Reply::Count(0)),
     (
-        Ask::Insert([10, 24, 0, 0, 0, 0, 0, 0, 0, 0, 0, 0, 0, 0, 0, 0], 13, 4),
+        Ask::Insert(0x0a18_0000_0000_0000_0000_0000_0000_0000, 13, 4),
         NEW,
     ),
     (
-        Ask::Route([10, 31, 9, 9, 9, 9, 9, 9, 9, 9, 9, 9, 9, 9, 9, 9]),
+        Ask::Route(0x0a1f_0909_0909_0909_0909_0909_0909_0909),
         Reply::Found(13, 4),
     ),
 ];
