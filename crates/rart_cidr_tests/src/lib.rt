@@ -1,0 +1,15 @@
+//! Tests of networks and of the tables of networks over their public calls, beside slow models.
+//!
+//! Nothing depends on this crate, and it is no part of the product.
+#![tactic(auto)]
+
+#[cfg(test)]
+mod model;
+#[cfg(test)]
+mod random;
+#[cfg(test)]
+mod rows4;
+#[cfg(test)]
+mod rows6;
+#[cfg(test)]
+mod short;
