@@ -60,8 +60,28 @@ number-greater m (x ∷ p) (y ∷ q) a b f g e h = ⊎_elim
 
 are-bits : (x : ℕ) → AreBits (byte_bits x)
 unfolding AreBits
-are-bits x = (omega arith, (omega arith, (omega arith, (omega arith, (omega arith, (omega arith, (omega arith,
-    (omega arith, tt))))))))
+are-bits x = (
+  omega arith,
+  (
+    omega arith,
+    (
+      omega arith,
+      (
+        omega arith,
+        (
+          omega arith,
+          (
+            omega arith,
+            (
+              omega arith,
+              (omega arith, tt),
+            ),
+          ),
+        ),
+      ),
+    ),
+  ),
+)
 
 same-before : (p a b : List ℕ) → slice_cmp nat_cmp (p ++ a) (p ++ b) ≡ slice_cmp nat_cmp a b
 same-before [] a b = refl

@@ -15,9 +15,10 @@ pub loop-count-preserved : goal.loop-count-preserved
 loop-count-preserved g c =
     let none = none-at c.args.self.now c.args.octets.now c.args.bits c.loop-count.count c.in_default.ensures
     c.loop-count.invariant.1 in
-    let same : c.loop-count.count ≡ c.loop-count.count - 1 + 1 = omega (arith, c.loop-count-test.true) in
-    (omega (arith, c.loop-count.invariant.0),
-      subst (λ z. HasNoneFrom c.args.self.now c.args.octets.now c.args.bits z) same none)
+    let same : c.loop-count.count ≡ c.loop-count.count - 1 + 1 = omega (arith, c.loop-count-test.true) in (
+      omega (arith, c.loop-count.invariant.0),
+      subst (λ z. HasNoneFrom c.args.self.now c.args.octets.now c.args.bits z) same none,
+    )
 
 pub returns-in-Some-get-clause-value : goal.returns-in-Some-get-clause-value
 returns-in-Some-get-clause-value g c =
