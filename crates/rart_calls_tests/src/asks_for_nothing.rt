@@ -7,9 +7,8 @@ use rart_test_tools::refusals::{refuse, was_refused};
 use std::alloc::Global;
 use std::process::Abort;
 
-const FIRST_KEY: [Row<'static>; 10] = [
+const FIRST_KEY: [Row<'static>; 9] = [
     (Ask::Get("a"), Want::None),
-    (Ask::Contains("a"), Want::Is(false)),
     (Ask::Stats, Want::Counts([0, 0, 0, 0], &[])),
     (Ask::Iter, Want::Pairs(&[])),
     (Ask::Values, Want::Values(&[])),
@@ -33,7 +32,7 @@ const TWO_LEAVES: [Row<'static>; 2] = [
     (Ask::Insert("abxy", 2), Want::None),
 ];
 
-const AT_STANDING_NODES: [Row<'static>; 17] = [
+const AT_STANDING_NODES: [Row<'static>; 14] = [
     (Ask::Insert("ab", 3), Want::None),
     (Ask::Insert("abxy", 4), Want::Some(2)),
     (Ask::TryInsert("abxy", 5), Want::Occupied(5, 4)),
@@ -42,9 +41,6 @@ const AT_STANDING_NODES: [Row<'static>; 17] = [
     (Ask::Overwrite("abc", 6), Want::Is(false)),
     (Ask::Get("ab"), Want::Some(3)),
     (Ask::GetBytes("abcd"), Want::Some(6)),
-    (Ask::Contains("ab"), Want::Is(true)),
-    (Ask::Contains("abc"), Want::Is(false)),
-    (Ask::ContainsBytes("abcd"), Want::Is(true)),
     (Ask::Remove("ab"), Want::Some(3)),
     (Ask::InsertNew("ab", 7), Want::Inserted),
     (Ask::Remove("ab"), Want::Some(7)),

@@ -15,10 +15,6 @@ pub enum Ask<'a> {
     Get(&'a str),
     /// A look-up by bytes, which may be longer than any key.
     GetBytes(&'a str),
-    /// Whether the key is stored.
-    Contains(&'a str),
-    /// Whether the key of these bytes is stored, which may be longer than any key.
-    ContainsBytes(&'a str),
     Insert(&'a str, u64),
     TryInsert(&'a str, u64),
     InsertNew(&'a str, u64),

@@ -5,11 +5,9 @@ use rart::ArrayKey;
 use rart::keys::tail_key::TailKey;
 use std::test::Fail;
 
-const EMPTY: [Row<'static>; 14] = [
+const EMPTY: [Row<'static>; 12] = [
     (Ask::Get("x"), Want::None),
     (Ask::GetBytes(""), Want::None),
-    (Ask::Contains("x"), Want::Is(false)),
-    (Ask::ContainsBytes(""), Want::Is(false)),
     (Ask::Len, Want::Len(0)),
     (Ask::IsEmpty, Want::Is(true)),
     (Ask::Iter, Want::Pairs(&[])),
@@ -27,7 +25,7 @@ fn an_empty_tree_answers_nothing(rt: HostRuntime) {
     went_well(&rt, plays::<ArrayKey<16>>(rt.alloc(), &EMPTY));
 }
 
-const KEYS_THAT_BEGIN_ONE_ANOTHER: [Row<'static>; 20] = [
+const KEYS_THAT_BEGIN_ONE_ANOTHER: [Row<'static>; 13] = [
     (Ask::Insert("cat", 1), Want::None),
     (Ask::Insert("catalog", 2), Want::None),
     (Ask::Insert("cab", 3), Want::None),
@@ -39,13 +37,6 @@ const KEYS_THAT_BEGIN_ONE_ANOTHER: [Row<'static>; 20] = [
     (Ask::Get("catalog"), Want::Some(2)),
     (Ask::GetBytes("cab"), Want::Some(3)),
     (Ask::GetBytes("cabs"), Want::None),
-    (Ask::Contains("ca"), Want::Is(true)),
-    (Ask::Contains("catalog"), Want::Is(true)),
-    (Ask::Contains("c"), Want::Is(false)),
-    (Ask::Contains("cata"), Want::Is(false)),
-    (Ask::Contains("cats"), Want::Is(false)),
-    (Ask::ContainsBytes("cab"), Want::Is(true)),
-    (Ask::ContainsBytes("cabs"), Want::Is(false)),
     (Ask::Len, Want::Len(4)),
     (Ask::IsEmpty, Want::Is(false)),
 ];
@@ -108,13 +99,10 @@ fn the_empty_key_and_keys_of_full_width(rt: HostRuntime) {
     went_well(&rt, plays::<ArrayKey<16>>(rt.alloc(), &FULL_WIDTH));
 }
 
-const LONG_PROBE: [Row<'static>; 6] = [
+const LONG_PROBE: [Row<'static>; 3] = [
     (Ask::Insert("abcd", 1), Want::None),
     (Ask::GetBytes("abcde"), Want::None),
     (Ask::GetBytes("abcd"), Want::Some(1)),
-    (Ask::ContainsBytes("abcde"), Want::Is(false)),
-    (Ask::ContainsBytes("abcd"), Want::Is(true)),
-    (Ask::ContainsBytes("abc"), Want::Is(false)),
 ];
 
 #[test]
@@ -122,16 +110,13 @@ fn a_probe_longer_than_any_key(rt: HostRuntime) {
     went_well(&rt, plays::<ArrayKey<4>>(rt.alloc(), &LONG_PROBE));
 }
 
-const NO_BYTES: [Row<'static>; 11] = [
+const NO_BYTES: [Row<'static>; 8] = [
     (Ask::Insert("", 1), Want::None),
     (Ask::GetBytes(""), Want::Some(1)),
     (Ask::GetBytes("a"), Want::None),
-    (Ask::Contains(""), Want::Is(true)),
-    (Ask::ContainsBytes("a"), Want::Is(false)),
     (Ask::Len, Want::Len(1)),
     (Ask::Stats, Want::Counts([1, 1, 0, 1], &[])),
     (Ask::Remove(""), Want::Some(1)),
-    (Ask::Contains(""), Want::Is(false)),
     (Ask::IsEmpty, Want::Is(true)),
     (Ask::Stats, Want::Counts([0, 0, 0, 0], &[])),
 ];
@@ -172,14 +157,12 @@ fn every_byte_as_a_child(rt: HostRuntime) {
     went_well(&rt, plays::<ArrayKey<16>>(rt.alloc(), &EVERY_BYTE));
 }
 
-const REMOVED: [Row<'static>; 10] = [
+const REMOVED: [Row<'static>; 8] = [
     (Ask::Insert("a", 1), Want::None),
     (Ask::Insert("ab", 2), Want::None),
     (Ask::Remove("a"), Want::Some(1)),
     (Ask::Get("a"), Want::None),
     (Ask::Get("ab"), Want::Some(2)),
-    (Ask::Contains("a"), Want::Is(false)),
-    (Ask::Contains("ab"), Want::Is(true)),
     (Ask::Stats, Want::Counts([1, 1, 0, 1], &[])),
     (Ask::Remove("a"), Want::None),
     (Ask::Len, Want::Len(1)),

@@ -37,8 +37,6 @@ pub fn answer<K: KeyTrait + Drop>(
 ) -> Option<Reply<K, u64>> {
     Some(match ask {
         Ask::GetBytes(text) => Reply::Value(tree.get_bytes(text.as_bytes()).copied()),
-        Ask::Contains(text) => Reply::Done(contains(tree, key(text, how.spelling)?, how.form)),
-        Ask::ContainsBytes(text) => Reply::Done(tree.contains_key_bytes(text.as_bytes())),
         Ask::Overwrite(text, value) => {
             Reply::Done(overwrite(tree, key(text, how.spelling)?, value, how.form))
         }
@@ -152,13 +150,6 @@ fn by_reference<K: KeyTrait + Drop>(
         },
         _ => step(alloc, tree, call(ask, spelling)?),
     })
-}
-
-fn contains<K: KeyTrait + Drop>(tree: &Tree<K>, key: K, form: Form) -> bool {
-    match form {
-        Form::ByValue => tree.contains_key(key),
-        Form::Step | Form::ByReference => tree.contains_key_k(&key),
-    }
 }
 
 // The present value is read by the bytes that the key had.
