@@ -6,5 +6,4 @@ pub mod shapes
 pub mod statistics
 pub mod storages
 pub mod tries
-pub mod updates
 pub mod walks

@@ -3,12 +3,15 @@ pub mod Descent
 pub mod EditRunLemmas
 pub mod InsertAskLemmas
 pub mod InsertLemmas
+pub mod InsertStopLemmas
 pub mod JoinLemmas
 pub mod JoinedLengths
 pub mod LeafLemmas
 pub mod LoanLemmas
+pub mod MapUpdates
 pub mod NodeEditLemmas
 pub mod Outcomes
+pub mod PopLemmas
 pub mod PutAskLemmas
 pub mod PutLemmas
 pub mod RemoveAskLemmas
@@ -16,4 +19,4 @@ pub mod RemoveAskSteps
 pub mod RemoveLemmas
 pub mod RemoveSteps
 pub mod RemovedPairs
-pub mod InsertStopLemmas
+pub mod UpdateSteps

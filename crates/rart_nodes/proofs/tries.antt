@@ -1,6 +1,7 @@
 pub mod CanonicalTests
 pub mod Descents
 pub mod EndLemmas
+pub mod EqualLemmas
 pub mod FirstBytes
 pub mod LongerPrefix
 pub mod NodeCounts

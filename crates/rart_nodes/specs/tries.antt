@@ -1,5 +1,6 @@
 pub mod CanonicalTest
 pub mod Ends
+pub mod Equal
 pub mod PrefixLaws
 pub mod SeenTrees
 pub mod Tree

@@ -10,32 +10,25 @@ use crate::node::storage::Storage;
 use rart_keys::Partial;
 use std::marker::Model;
 
-mod build;
 mod children;
-mod control;
+mod edits;
 mod ends;
-mod get_mut;
-mod insert;
+mod equal;
 mod intersect;
 pub mod iter;
-mod matching;
 mod node_trait;
-mod path;
 pub mod range;
-mod remove;
 mod rest;
 pub mod seen;
-mod statistics;
 mod storage;
-mod update;
 mod view;
 mod walk;
 mod walks;
 
 pub use children::NodeIter;
-pub use control::{VisitControl, VisitError};
 pub use node_trait::Node;
 pub use view::{LendingKeyBytes, LendingKeyView};
+pub use walks::control::{VisitControl, VisitError};
 
 /// Holds a prefix, an optional value and children. The prefix of a child begins with its edge byte; only a root has an
 /// empty prefix.

@@ -1,7 +1,7 @@
 //! The slot of a key, which a callback can change, and the results of such callbacks.
 ghost use Rattle.std.specs.Prelude.{◌≡◌, None, Option};
 ghost use Rattle.std.specs.Fn.{FnOnceReturnsAtMut, FnOnceTakesAtMut};
-ghost use Rattle.rart_nodes.specs.updates.Slots.{slot_of};
+ghost use Rattle.rart_nodes.specs.edits.Slots.{slot_of};
 ghost use Rattle.rart_nodes.specs.declared.slot.SlotUpdate.{SlotUpdate};
 
 use crate::refused::Refused;

@@ -160,6 +160,16 @@ module _ {X : Type 0} where
   pub not_above : (k : ℕ) (e : ℕ × X) (es : List (ℕ × X)) → e.0 ≤ k → entries_above k (e ∷ es) ≡ entries_above k es
   not_above k e es h = ap (λ b. cond b (e ∷ entries_above k es) (entries_above k es)) (le-ltb k e.0 h)
 
+  pub above-ascends : (k : ℕ) (es : List (ℕ × X)) → BytesAscend es → BytesAscend (entries_above k es)
+  above-ascends k [] a = tt
+  above-ascends k (e ∷ es) a =
+      let passed : e.0 ≤ k → BytesAscend (entries_above k (e ∷ es))
+      = λ h. subst BytesAscend (sym (not_above k e es h)) (above-ascends k es a.1) in
+      three (BytesAscend (entries_above k (e ∷ es))) k e.0
+      (λ q. subst BytesAscend (sym (all_above k (e ∷ es) q a)) a)
+      (λ q. passed (omega (arith, q)))
+      (λ q. passed (omega (arith, q)))
+
   starts_with : (b k : ℕ) (x : X) (es : List (ℕ × X)) → b < k → StartsAbove b es → StartsAbove b (with_entry k x es)
   starts_with b k x [] h s = h
   starts_with b k x (e ∷ es) h s = three (StartsAbove b (with_entry k x (e ∷ es))) k e.0

@@ -1,6 +1,7 @@
 -- What the building of a node from a stretch of keys keeps, child by child.
 use Rattle.std.proofs.Common.{◌≡◌, ℕ, ◌+◌, ◌<◌, ◌≤◌, ◌⊎◌, inl, inr, ⊎_elim, suc, List, [], ◌∷◌, ◌++◌, length}
-use Rattle.std.proofs.Common.{length-append, take, drop, get_or, map, refl, arith, sym, ap, ◌∙◌, Option, Some, None, IsSome}
+use Rattle.std.proofs.Common.{length-append, take, drop, get_or, map, refl, arith, sym, ap, ◌∙◌, Option, Some, None}
+use Rattle.std.proofs.Common.{IsSome}
 use Rattle.std.specs.Prelude.{slice_index}
 use Rattle.std.specs.Borrow.{Bor}
 use Rattle.std.proofs.lemmas.Bool.Decides.{nat_tests}
@@ -14,7 +15,8 @@ use Rattle.rart_nodes.specs.shapes.ShapeRecords.{lone_keys}
 use Rattle.rart_nodes.specs.build.Stretches.{rests, first_byte, run_of, first_run, GoOn, Reach, IsStretch}
 use Rattle.rart_nodes.specs.build.ValueCalls.{CanTake, Takes}
 use Rattle.rart_nodes.specs.tries.PrefixLaws.{values-with_prefix}
-use Rattle.rart_nodes.specs.tries.Trie.{Trie, leaf, node, no_children, child, edges_of, pairs_of, children_pairs, own_pair}
+use Rattle.rart_nodes.specs.tries.Trie.{Trie, leaf, node, no_children, child, edges_of, pairs_of, children_pairs}
+use Rattle.rart_nodes.specs.tries.Trie.{own_pair}
 use Rattle.rart_nodes.specs.tries.Trie.{with_prefix, prefix_of, StartsWith, HasTwoChildren, IsCanonical, AreCanonical}
 use Rattle.rart_nodes.specs.tries.TrieCode.{as_children}
 use Rattle.rart_nodes.proofs.storages.ChildLemmas.{edges_of-length, lt-no}
@@ -297,7 +299,8 @@ module _ {F V : Type 0} (pre : F → ℕ → Type 0) (step : F → ℕ → V →
       → b ≡ first_byte (rests d rest) → rest' ≡ drop n rest → k ≡ drop d (get_or rest 0 x).now → step g place u g'
       → es' ≡ with_entry b (leaf k u) es → w' ≡ w → place' ≡ place + n
       → Building pre step m d keys rest' w' es' v from place' f g'
-  building-leaf n b w' place' x k u es' rest' g' some e one within eb er ek s = building-step n b w' place' (leaf k u) es'
+  building-leaf n b w' place' x k u es' rest' g' some e one within eb er ek s
+      = building-step n b w' place' (leaf k u) es'
       (take n rest) rest' g' some e (omega (arith, one)) within eb refl er (leaf-canonical (leaf k u) k u refl)
       (ap keys_of (leaf-pairs (leaf k u) k u refl) ∙ lone-rests d n rest x k one some ek) (g', s, refl)
 

@@ -6,8 +6,8 @@ use Rattle.rart_parts.specs.Entries.{child_at}
 use Rattle.rart_nodes.specs.edits.InsertStops.{FailsPut, TellsNotPut, TellsFailure}
 use Rattle.rart_nodes.specs.tries.Trie.{Trie, node, IsCanonical, pairs_of}
 use Rattle.rart_nodes.specs.tries.TrieCode.{as_children}
-use Rattle.rart_nodes.specs.declared.node.insert.InsertStop.{InsertStop}
-use Rattle.rart_nodes.specs.declared.node.insert.InsertStop.TheVariants as stop
+use Rattle.rart_nodes.specs.declared.node.edits.insert.InsertStop.{InsertStop}
+use Rattle.rart_nodes.specs.declared.node.edits.insert.InsertStop.TheVariants as stop
 use Rattle.rart_nodes.specs.declared.refused.NotInserted.{NotInserted}
 use Rattle.rart_nodes.specs.declared.refused.NotInserted.TheVariants as not_inserted
 use Rattle.rart_nodes.proofs.edits.InsertAskLemmas.{asks-insert}

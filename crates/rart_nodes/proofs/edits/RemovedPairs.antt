@@ -9,7 +9,7 @@ use Rattle.rart_nodes.specs.tries.Trie.{Trie}
 use Rattle.rart_nodes.proofs.edits.RemoveLemmas.{canonical-removed, pairs_of-removed}
 
 module _ {V : Type 0} where
-  without-above : (k : List ℕ) (es : List (List ℕ × V)) → AreAbove k es → without k es ≡ es
+  pub without-above : (k : List ℕ) (es : List (List ℕ × V)) → AreAbove k es → without k es ≡ es
   without-above k [] a = refl
   without-above k (e ∷ es) a = rw (bytes_eq-back e.0 k, below-not_eq k e.0 a.0)
       (ap (λ l. e ∷ l) (without-above k es a.1))

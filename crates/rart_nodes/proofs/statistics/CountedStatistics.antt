@@ -71,7 +71,7 @@ module _ {V : Type 0} where
       ∙ rw (sums.0, sums.1, sums.2) refl ∙ statistics-keys t w
 
   mutual
-    node_count-nodes_of : (t : Trie V) → length (nodes_of t) ≡ node_count t
+    pub node_count-nodes_of : (t : Trie V) → length (nodes_of t) ≡ node_count t
     node_count-nodes_of (node p v n cs) = simp (length-map) (omega (arith, child_count-nodes cs))
 
     child_count-nodes : (cs : Children V) → length (children_pairs (children_with_records cs)) ≡ child_count cs

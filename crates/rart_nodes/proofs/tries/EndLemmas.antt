@@ -1,8 +1,8 @@
 -- The pair at either end of a canonical tree: where it stands, and what a look-up of its key enters.
-use Rattle.std.proofs.Common.{◌≡◌, ℕ, ◌+◌, ◌<◌, ◌≤◌, ◌==◌, ◌⊎◌, ⊎_elim, max, true, List, [], ◌∷◌, ◌++◌, length, map}
+use Rattle.std.proofs.Common.{◌≡◌, ℕ, ◌+◌, ◌<◌, ◌≤◌, ◌⊎◌, ⊎_elim, max, true, List, [], ◌∷◌, ◌++◌, length, map}
 use Rattle.std.proofs.Common.{Option, Some, None, option_map, refl, sym, ap, ◌∙◌, arith, length-append, suc}
 use Rattle.std.specs.Prelude.{MatchOption, slice_get}
-use Rattle.std.proofs.lemmas.List.{append-nil, append_assoc, length-map}
+use Rattle.std.proofs.lemmas.List.{append-nil, append_assoc}
 use Rattle.std.proofs.lemmas.Option.{slice_get-map}
 use Rattle.rart_keys.specs.ByteStrings.{strip_prefix}
 use Rattle.rart_keys.specs.Filters.{last_or}
@@ -11,10 +11,10 @@ use Rattle.rart_keys.proofs.ByteOrder.{eq-yes, eq-no}
 use Rattle.rart_nodes.specs.declared.node.ends.End.{End}
 use Rattle.rart_nodes.specs.declared.node.ends.End.TheVariants.{First, Last}
 use Rattle.rart_nodes.specs.tries.CanonicalTest.{is_canonical}
-use Rattle.rart_nodes.specs.tries.Ends.{end_of, first_child, last_child, end_child}
+use Rattle.rart_nodes.specs.tries.Ends.{end_of, last_child, end_child}
 use Rattle.rart_nodes.specs.tries.Trie.{Trie, node, Children, no_children, child, child_of, child_in, children_pairs}
-use Rattle.rart_nodes.specs.tries.Trie.{edges_of, own_pair, pairs_of, prefix_of, value_of, with_prefix, StartsWith}
-use Rattle.rart_nodes.specs.tries.Trie.{IsCanonical, AreCanonical, HasTwoChildren, descend, descend_tree}
+use Rattle.rart_nodes.specs.tries.Trie.{own_pair, pairs_of, prefix_of, value_of, StartsWith}
+use Rattle.rart_nodes.specs.tries.Trie.{IsCanonical, AreCanonical, descend_tree}
 use Rattle.rart_nodes.specs.tries.Tree.{tree_pairs, IsCanonicalTree}
 use Rattle.rart_nodes.specs.tries.TrieCode.{node_count}
 use Rattle.rart_nodes.specs.walks.ProbeCount.{VisitsAtMost, counts, entered_nodes, probe_count, tree_entered}
@@ -80,7 +80,7 @@ module _ {V : Type 0} where
   first-some c o x [] f h = let s : o ≡ x = cc in rw (← s) f.0
   first-some c o x (e ∷ es) f h = first-some c e x es f.1 h
 
-  end-first : (e : End) (c : ℕ) (x : List ℕ × V) (es : List (List ℕ × V)) → AllFirst c es → end_of e es ≡ Some x
+  pub end-first : (e : End) (c : ℕ) (x : List ℕ × V) (es : List (List ℕ × V)) → AllFirst c es → end_of e es ≡ Some x
       → StartsWith c x.0
   end-first First c x [] f h = absurd (cc)
   end-first Last c x [] f h = absurd (cc)
@@ -148,7 +148,8 @@ module _ {V : Type 0} where
         canonical = w.2.2;
         first = w.2.1;
         pair = end_of-map First (λ x. (p ++ x.0, x.1)) (pairs_of t ++ children_pairs cs)
-            ∙ ap (option_map (λ x. (p ++ x.0, x.1))) (first-append (pairs_of t) (children_pairs cs) (some-pairs t w.2.2));
+            ∙ ap (option_map (λ x. (p ++ x.0, x.1)))
+            (first-append (pairs_of t) (children_pairs cs) (some-pairs t w.2.2));
       })
   ends-below First b (node p (Some v) n cs) u w h = absurd (cc)
   ends-below Last b (node p v n cs) u w h = let r = last-child 0 b u cs w.2 h in record {

@@ -5,9 +5,9 @@ use Rattle.std.specs.Fn.{Mut, Once, Called, always_mut}
 use Rattle.std.specs.List.{All, FoldsTo}
 use Rattle.std.proofs.lemmas.List.Elements.{All-head, All-rest}
 use Rattle.rart_nodes.specs.walks.Calls.{CallableAtEach}
-use Rattle.rart_nodes.specs.declared.node.control.VisitControl.{VisitControl}
-use Rattle.rart_nodes.specs.declared.node.control.VisitControl.TheVariants.{Continue, Stop}
-use Rattle.rart_nodes.specs.declared.node.path.SegmentPath.{SegmentPath}
+use Rattle.rart_nodes.specs.declared.node.walks.control.VisitControl.{VisitControl}
+use Rattle.rart_nodes.specs.declared.node.walks.control.VisitControl.TheVariants.{Continue, Stop}
+use Rattle.rart_nodes.specs.declared.node.walk.path.SegmentPath.{SegmentPath}
 use Rattle.rart_nodes.specs.declared.node.view.LendingKeyView.{LendingKeyView}
 use Rattle.rart_nodes.specs.walks.Matched.{CanMatch, MatchesEach}
 use Rattle.rart_nodes.specs.walks.Walk.{SegmentList}

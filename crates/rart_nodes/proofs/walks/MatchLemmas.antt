@@ -1,12 +1,12 @@
 -- A descent that collects what it passes gives the pairs whose key begins the string.
 use Rattle.std.proofs.Common.{◌≡◌, ℕ, ◌+◌, ◌-◌, ◌≤◌, ◌==◌, Bool, true, false, List, [], ◌∷◌, ◌++◌, length}
-use Rattle.std.proofs.Common.{length-append, take, drop, refl, sym, ap, ◌∙◌, arith, Option, Some, None, is_some}
+use Rattle.std.proofs.Common.{length-append, take, drop, refl, sym, ap, subst, ◌∙◌, arith, Option, Some, None, is_some}
 use Rattle.std.proofs.Common.{if◌then◌else◌}
-use Rattle.std.specs.Prelude.{slice_get}
+use Rattle.std.specs.Prelude.{slice_get, IfSome}
 use Rattle.std.proofs.lemmas.List.{append-nil, append_assoc, length-drop, take-append-drop, take-append-le, take_all}
 use Rattle.rart_keys.specs.ByteStrings.{strip_prefix, begins}
-use Rattle.rart_keys.specs.Filters.{matches}
-use Rattle.rart_keys.specs.SortedMap.{keys_of}
+use Rattle.rart_keys.specs.Filters.{last_or, longest_match, matches}
+use Rattle.rart_keys.specs.SortedMap.{keys_of, longest_key}
 use Rattle.rart_keys.proofs.ByteOrder.{eq-no}
 use Rattle.rart_nodes.specs.tries.PrefixLaws.{prefix-none, prefix-twice}
 use Rattle.rart_nodes.specs.tries.CanonicalTest.{is_canonical}
@@ -164,3 +164,18 @@ module _ {V : Type 0} where
   pub entered-ahead : (q : List ℕ) (d : ℕ) (o root : Option (Trie V)) → d ≡ 0 → o ≡ root
       → entered_ahead q d o ≡ tree_entered q root
   entered-ahead q d o root e f = rw (e, f) refl
+
+last-short : {V : Type 0} (n : ℕ) (q : List ℕ) (o : Option (List ℕ × V)) (es : List (List ℕ × V))
+    → IfSome o (λ p. length p.0 ≤ n) → longest_key es ≤ n → IfSome (last_or o (matches q es)) (λ p. length p.0 ≤ n)
+last-short n q o [] h s = h
+last-short n q o (e ∷ es) h s = elim (begins e.0 q)
+    as (λ b. IfSome (last_or o (if b then e ∷ matches q es else matches q es)) (λ p. length p.0 ≤ n)) [
+      | true ↦ last-short n q (Some e) es (omega (arith, s)) (omega (arith, s))
+      | false ↦ last-short n q o es h (omega (arith, s))
+    ]
+
+-- the longest match is not longer than the longest key
+pub match-short : {V : Type 0} (q : List ℕ) (es : List (List ℕ × V)) (k : List ℕ) (v : V)
+    → Some (k, v) ≡ longest_match q es → length k ≤ longest_key es
+match-short q es k v e = subst (λ o. IfSome o (λ p. length p.0 ≤ longest_key es)) (sym e)
+    (last-short (longest_key es) q None es tt (omega arith))

@@ -3,8 +3,8 @@ use Rattle.std.specs.Prelude.{◌≡◌, ◌≢◌, ℕ, Bool, true, List, None}
 use Rattle.rart_keys.specs.SortedMap.{lookup}
 use Rattle.rart_nodes.specs.edits.InsertAsks.{MayAskFor, trie_asks_put}
 use Rattle.rart_nodes.specs.tries.Trie.{Trie, trie_lookup, with_records}
-use Rattle.rart_nodes.specs.declared.node.insert.InsertStop.{InsertStop}
-use Rattle.rart_nodes.specs.declared.node.insert.InsertStop.TheVariants as stop
+use Rattle.rart_nodes.specs.declared.node.edits.insert.InsertStop.{InsertStop}
+use Rattle.rart_nodes.specs.declared.node.edits.insert.InsertStop.TheVariants as stop
 use Rattle.rart_nodes.specs.declared.refused.NotInserted.{NotInserted}
 use Rattle.rart_nodes.specs.declared.refused.NotInserted.TheVariants as not_inserted
 use Rattle.rart_parts.specs.declared.error.TreeError.TheVariants.{Memory}

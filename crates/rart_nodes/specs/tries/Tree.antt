@@ -1,8 +1,5 @@
 -- A tree: a root or none.
 use Rattle.std.specs.Prelude.{ℕ, List, [], Option, Some, None}
-use Rattle.std.specs.Borrow.{Bor}
-use Rattle.std.specs.Option.{option_copied}
-use Rattle.rart_keys.specs.SortedMap.{keys_of}
 use Rattle.rart_nodes.specs.shapes.Shape.{NodeRecord}
 use Rattle.rart_nodes.specs.tries.Trie.{Trie, pairs_of, nodes_of, descend_tree, looks_up, leaf, trie_put, trie_remove}
 use Rattle.rart_nodes.specs.tries.Trie.{IsCanonical}
@@ -35,13 +32,3 @@ tree_remove k (Some t) = trie_remove k t
 abbrev pub IsCanonicalTree : {V : Type 0} → Option (Trie V) → Type 0
 IsCanonicalTree None = Unit {0}
 IsCanonicalTree (Some t) = IsCanonical t
-
--- the same of a tree that is shared
-abbrev pub seen_pairs : {V : Type 0} → Option (Bor (Trie V)) → List (List ℕ × V)
-seen_pairs t = tree_pairs (option_copied t)
-
-abbrev pub seen_keys : {V : Type 0} → Option (Bor (Trie V)) → List (List ℕ)
-seen_keys t = keys_of (tree_pairs (option_copied t))
-
-abbrev pub seen_nodes : {V : Type 0} → Option (Bor (Trie V)) → List (List ℕ × NodeRecord)
-seen_nodes t = tree_nodes (option_copied t)

@@ -2,7 +2,7 @@
 use Rattle.std.specs.Prelude.{ℕ, ◌≡◌, ◌+◌, ◌<◌, ◌≤◌, List, [], ◌∷◌, ◌++◌, length, take, drop, Option, Some, None}
 use Rattle.std.specs.Prelude.{MatchOption, option_map}
 use Rattle.rart_keys.specs.declared.partials.Partial.{Ghosts}
-use Rattle.rart_nodes.specs.declared.node.matching.Matching.{Matching}
+use Rattle.rart_nodes.specs.declared.node.walks.matching.Matching.{Matching}
 use Rattle.rart_nodes.specs.declared.node.seen.Shared.{Shared}
 use Rattle.rart_nodes.specs.tries.Trie.{Trie, Descent, descend_tree, own_pair, prefix_of, value_of, with_prefix}
 use Rattle.rart_nodes.specs.tries.TrieCode.{node_count}

@@ -1,6 +1,7 @@
 -- A walk over a tree that keeps something of each prefix on its path.
 use Rattle.std.specs.Prelude.{ℕ, ◌≡◌, ◌+◌, ◌<◌, ◌≤◌, List, [], ◌∷◌, ◌++◌, length, map, take, reverse, Option, Some}
 use Rattle.std.specs.Prelude.{None}
+use Rattle.rart_keys.specs.KeyBytes.{IsWithin}
 use Rattle.rart_keys.specs.SortedMap.{longest_key}
 use Rattle.rart_nodes.specs.tries.Trie.{Trie, node, Children, no_children, child, children_pairs, AreCanonical}
 use Rattle.rart_nodes.specs.tries.TrieCode.{child_count, node_count}
@@ -80,6 +81,13 @@ pub record IsWalk {V : Type 0} (longest places : ℕ) (k : SegmentList) (ls : Li
   pub stations : AreLevels longest (length k) ls
   pub room : HasRoom longest places ls
   pub short : length k ≤ longest
+
+-- a walk with the bytes of its path, which have room for the longest key, which is within the keys' maximum
+pub record IsKeyWalk {V : Type 0} (maximum : Option ℕ) (longest places room : ℕ) (k : SegmentList)
+    (ls : List (Level V)) : Type 0 where
+  pub walk : IsWalk longest places k ls
+  pub path : longest ≤ room
+  pub within : IsWithin maximum longest
 
 -- what lies ahead of a walk: the root's value until it is given, and what is below the levels, of which the deepest
 -- stands last

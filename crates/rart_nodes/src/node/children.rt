@@ -57,7 +57,8 @@ impl<P: Partial, V> DefaultNode<P, V> {
 
     /// Returns the children at the bytes above `byte`, ascending. It reads no other child and does not allocate.
     pub fn iter_above(&self, byte: u8) -> NodeIter<'_, P, V>
-        ensures { as_children result ≡ children_above byte (children_in self.now) }
+        ensures children { as_children result ≡ children_above byte (children_in self.now) }
+        ensures ascends { BytesAscend result }
     {
         NodeIter {
             children: self.storage.iter_above(byte),

@@ -37,7 +37,7 @@ impl<P: Partial, V> DefaultNode<P, V> {
 }
 
 /// Returns a copy of a part.
-fn copy_of<P: Partial>(part: &P) -> P
+pub(crate) fn copy_of<P: Partial>(part: &P) -> P
     ensures { P.bytes result ≡ P.bytes part.now }
 {
     part.partial_before(part.len())

@@ -11,11 +11,11 @@ ghost use Rattle.rart_nodes.specs.walks.ProbeCount.{VisitsAtMost, probe_count};
 ghost use Rattle.rart_nodes.specs.walks.Calls.{MayLackRoom};
 
 use crate::count::{Count, Visits};
-pub use crate::node::matching::PrefixMatchIter;
-use crate::node::path::{BytePath, NoPath};
 use crate::node::seen::Seen;
 pub use crate::node::view::{LendingKeyBytes, LendingKeyView};
 use crate::node::walk::Walk;
+use crate::node::walk::path::{BytePath, NoPath};
+pub use crate::node::walks::matching::PrefixMatchIter;
 use rart_keys::{KeyTrait, Partial};
 use rart_parts::TreeError;
 use std::marker::{Model, PhantomData};
@@ -29,10 +29,9 @@ pub(crate) struct KeyWalk<'a, K: KeyTrait, P: Partial, V, C> {
 }
 
 impl<'a, K: KeyTrait, P: Partial, V, C> Model for KeyWalk<'a, K, P, V, C> {
-    ghost use Rattle.std.specs.Prelude.{ℕ, List, ◌≤◌, reverse, vec_capacity};
+    ghost use Rattle.std.specs.Prelude.{ℕ, List, reverse, vec_capacity};
     ghost use Rattle.std.specs.Option.{option_copied};
-    ghost use Rattle.rart_keys.specs.KeyBytes.{IsWithin};
-    ghost use Rattle.rart_nodes.specs.walks.Walk.{IsWalk, join_all, entries_ahead};
+    ghost use Rattle.rart_nodes.specs.walks.Walk.{IsKeyWalk, join_all, entries_ahead};
     ghost use Rattle.rart_nodes.specs.walks.PathParts.{byte_segments};
 
     ghost Value = { List (List ℕ × V) };
@@ -40,9 +39,8 @@ impl<'a, K: KeyTrait, P: Partial, V, C> Model for KeyWalk<'a, K, P, V, C> {
     ghost view = { λ w. join_all (entries_ahead byte_segments (byte_segments w.path.key.items)
         (option_copied w.walk.first) w.walk.levels.items) };
 
-    ghost invariant = { λ w. IsWalk w.walk.longest (vec_capacity w.walk.levels) (byte_segments w.path.key.items)
-        (reverse w.walk.levels.items)
-        × (w.walk.longest ≤ vec_capacity w.path.key) × IsWithin K.MAXIMUM_SIZE w.walk.longest };
+    ghost invariant = { λ w. IsKeyWalk K.MAXIMUM_SIZE w.walk.longest (vec_capacity w.walk.levels)
+        (vec_capacity w.path.key) (byte_segments w.path.key.items) (reverse w.walk.levels.items) };
 }
 
 impl<'a, K: KeyTrait, P: Partial, V, C: Count> KeyWalk<'a, K, P, V, C> {
@@ -261,7 +259,7 @@ impl<'a, K: KeyTrait, V, C: Count> Seen<'a, K, V, C> {
     ///
     /// # Errors
     ///
-    /// [`TreeError::Memory`] if the tree isn't empty and the allocation fails.
+    /// [`TreeError::Memory`] if the tree isn't empty and the allocation fails. Nothing is then visited.
     ///
     /// # Visits
     ///

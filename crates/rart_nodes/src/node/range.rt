@@ -229,7 +229,7 @@ impl<'a, K: KeyTrait + Drop, V, C: Count> Seen<'a, K, V, C> {
     ///
     /// # Errors
     ///
-    /// [`TreeError::Memory`] if the tree isn't empty and the allocation fails.
+    /// [`TreeError::Memory`] if the tree isn't empty and the allocation fails. Nothing is then visited.
     ///
     /// # Visits
     ///

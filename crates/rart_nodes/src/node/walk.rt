@@ -14,11 +14,12 @@ ghost use Rattle.rart_nodes.specs.tries.Trie.{pairs_of, prefix_of};
 ghost use Rattle.rart_nodes.specs.tries.TrieCode.{node_count};
 
 use crate::count::Count;
-use crate::node::path::Path;
 use crate::node::seen::{Branches, Entered, Seen};
+use crate::node::walk::path::Path;
 use rart_keys::{KeyTrait, Partial};
 use std::alloc::{AllocError, Global};
 
+pub(crate) mod path;
 mod seek_lower_bound;
 
 /// A walk over the pairs of a tree, in order. Its path stands beside it.
@@ -61,6 +62,7 @@ fn go_on<'a, P: Partial, V, C, T: Path<'a, P>>(
     ensures levels { PushesLevel levels.old.items at.entry.node.now (length (T.kept path.new))
         levels.new.items }
     ensures path_room { T.room path.old ≤ T.room path.new }
+    ensures requested { T.requested path.new ≡ T.requested path.old }
     ensures level_room { vec_capacity levels.new ≡ vec_capacity levels.old }
 {
     path.cut(depth);
@@ -85,6 +87,7 @@ pub(crate) fn start<'a, P: Partial, V, C, T: Path<'a, P>>(
     ensures path { IsWalk result.longest (vec_capacity result.levels) (T.kept path.new)
         (reverse result.levels.items) }
     ensures room { result.longest ≤ T.room path.new }
+    ensures requested { T.requested path.new ≡ T.requested path.old }
     ensures entries { entries_ahead T.grown (T.kept path.new) (option_copied result.first)
         result.levels.items
         ≡ segments_after (T.kept path.old) (entries_of T.grown at.entry.node.now) }
@@ -108,6 +111,7 @@ pub(crate) fn empty_walk<'a, P: Partial, V, C, T: Path<'a, P>>(
     ensures path { IsWalk result.0.longest (vec_capacity result.0.levels) (T.kept result.1)
         (reverse result.0.levels.items) }
     ensures room { result.0.longest ≤ T.room result.1 }
+    ensures requested { T.requested result.1 ≡ 0 }
     ensures entries { entries_ahead T.grown (T.kept result.1) (option_copied result.0.first)
         result.0.levels.items
         ≡ [] }
@@ -143,6 +147,7 @@ impl<'a, K: KeyTrait, V, C: Count> Seen<'a, K, V, C> {
         ensures path { IfOk result (λ w. IsWalk w.0.longest (vec_capacity w.0.levels) (T.kept w.1)
             (reverse w.0.levels.items)) }
         ensures room { IfOk result (λ w. w.0.longest ≤ T.room w.1) }
+        ensures requested { IfOk result (λ w. T.requested w.1 ≤ length_bound self.entry) }
         ensures entries { IfOk result
             (λ w. entries_ahead T.grown (T.kept w.1) (option_copied w.0.first) w.0.levels.items
             ≡ tree_entries T.grown (seen_tree self.entry)) }
@@ -180,6 +185,7 @@ impl<'a, P: Partial, V, C: Count> Walk<'a, P, V, C> {
         ensures path { IsWalk self.new.longest (vec_capacity self.new.levels) (T.kept path.new)
             (reverse self.new.levels.items) }
         ensures room { self.new.longest ≤ T.room path.new }
+        ensures requested { T.requested path.new ≡ T.requested path.old }
         ensures entries { TakesEntry
             (entries_ahead T.grown (T.kept path.old) (option_copied self.old.first)
             self.old.levels.items) (T.kept path.new) result

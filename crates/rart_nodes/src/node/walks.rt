@@ -2,10 +2,13 @@
 //! visits.
 
 mod below;
+pub(crate) mod control;
 mod fold;
 mod lending;
 mod longest_view;
 mod look_up;
+pub(crate) mod matching;
 mod range_views;
+mod statistics;
 mod try_for_each;
 mod visit;

@@ -43,7 +43,7 @@ impl<N> DirectMapping<N> {
     /// [`TreeError::Memory`] if the allocation fails.
     pub fn new(alloc: Global) -> Result<Self, TreeError>
         ensures ok { IfOk result (λ m. m ≡ []) }
-        ensures err { IfErr result (λ e. e ≡ TreeError.Memory) }
+        ensures memory { IfErr result (λ e. e ≡ TreeError.Memory) }
     {
         let places = new_places(alloc, 256)?;
         Ok(DirectMapping {
@@ -65,7 +65,8 @@ impl<N> DirectMapping<N> {
 
     /// Returns the children at the bytes above `byte`, ascending. It starts at the slot after that byte.
     pub fn iter_above(&self, byte: u8) -> DirectMappingIter<'_, N>
-        ensures { result ≡ entries_above byte self.now }
+        ensures entries { result ≡ entries_above byte self.now }
+        ensures ascends { BytesAscend (entries_above byte self.now) }
     {
         let from = byte as usize + 1;
         DirectMappingIter {
@@ -85,7 +86,7 @@ impl<N> DirectMapping<N> {
     ) -> Result<Self, TreeError>
         ensures ok { IfOk result (λ m. m ≡ ascending source.old) }
         ensures emptied { OnOk result (ascending source.new ≡ []) }
-        ensures err { IfErr result (λ e. e ≡ TreeError.Memory) }
+        ensures memory { IfErr result (λ e. e ≡ TreeError.Memory) }
         ensures unchanged { OnErr result (source.new ≡ source.old) }
     {
         let mut map = DirectMapping::new(alloc)?;

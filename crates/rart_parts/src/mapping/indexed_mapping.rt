@@ -50,7 +50,7 @@ impl<N, const W: usize, B: BitsetTrait> IndexedMapping<N, W, B> {
         requires covers { W ≤ B.CAPACITY }
         requires fits { B.CAPACITY < 2 ^ 64 }
         ensures ok { IfOk result (λ m. ascending m ≡ []) }
-        ensures err { IfErr result (λ e. e ≡ TreeError.Memory) }
+        ensures memory { IfErr result (λ e. e ≡ TreeError.Memory) }
     {
         let children = BitArray::new(alloc)?;
         Ok(IndexedMapping {
@@ -75,7 +75,7 @@ impl<N, const W: usize, B: BitsetTrait> IndexedMapping<N, W, B> {
         requires room { length source.old ≤ W }
         ensures ok { IfOk result (λ m. ascending m ≡ source.old) }
         ensures emptied { OnOk result (source.new ≡ []) }
-        ensures err { IfErr result (λ e. e ≡ TreeError.Memory) }
+        ensures memory { IfErr result (λ e. e ≡ TreeError.Memory) }
         ensures unchanged { OnErr result (source.new ≡ source.old) }
     {
         let mut map = IndexedMapping::new(alloc)?;
@@ -109,7 +109,7 @@ impl<N, const W: usize, B: BitsetTrait> IndexedMapping<N, W, B> {
         requires room { length source.old ≤ W }
         ensures ok { IfOk result (λ m. ascending m ≡ source.old) }
         ensures emptied { OnOk result (source.new ≡ []) }
-        ensures err { IfErr result (λ e. e ≡ TreeError.Memory) }
+        ensures memory { IfErr result (λ e. e ≡ TreeError.Memory) }
         ensures unchanged { OnErr result (source.new ≡ source.old) }
     {
         let mut map = IndexedMapping::new(alloc)?;
@@ -150,7 +150,7 @@ impl<N, const W: usize, B: BitsetTrait> IndexedMapping<N, W, B> {
         requires room { length (ascending source.old) ≤ W }
         ensures ok { IfOk result (λ m. ascending m ≡ ascending source.old) }
         ensures emptied { OnOk result (ascending source.new ≡ []) }
-        ensures err { IfErr result (λ e. e ≡ TreeError.Memory) }
+        ensures memory { IfErr result (λ e. e ≡ TreeError.Memory) }
         ensures unchanged { OnErr result (source.new ≡ source.old) }
     {
         let mut map = IndexedMapping::new(alloc)?;
@@ -310,7 +310,8 @@ impl<N, const W: usize, B: BitsetTrait> IndexedMapping<N, W, B> {
 
     /// Returns the children at the bytes above `byte`, ascending. The index skips the other bytes.
     pub fn iter_above(&self, byte: u8) -> IndexedMappingIter<'_, N>
-        ensures { result ≡ entries_above byte (ascending self.now) }
+        ensures entries { result ≡ entries_above byte (ascending self.now) }
+        ensures ascends { BytesAscend (entries_above byte (ascending self.now)) }
     {
         IndexedMappingIter {
             slots: self.index.iter_above(byte),

@@ -50,7 +50,7 @@ impl<N, const W: usize, B: BitsetTrait> KeyedMapping<N, W, B> {
         requires covers { W ≤ B.CAPACITY }
         requires fits { B.CAPACITY < 2 ^ 64 }
         ensures ok { IfOk result (λ m. ascending m ≡ []) }
-        ensures err { IfErr result (λ e. e ≡ TreeError.Memory) }
+        ensures memory { IfErr result (λ e. e ≡ TreeError.Memory) }
     {
         let children = BitArray::new(alloc)?;
         Ok(KeyedMapping {
@@ -75,7 +75,7 @@ impl<N, const W: usize, B: BitsetTrait> KeyedMapping<N, W, B> {
         requires fits { B.CAPACITY < 2 ^ 64 }
         ensures ok { IfOk result (λ m. ascending m ≡ ascending source.old) }
         ensures emptied { OnOk result (ascending source.new ≡ []) }
-        ensures err { IfErr result (λ e. e ≡ TreeError.Memory) }
+        ensures memory { IfErr result (λ e. e ≡ TreeError.Memory) }
         ensures unchanged { OnErr result (source.new ≡ source.old) }
     {
         let mut map = KeyedMapping::new(alloc)?;

@@ -49,7 +49,7 @@ impl<N, const W: usize> SortedKeyedMapping<N, W> {
     pub fn new(alloc: Global) -> Result<Self, TreeError>
         requires { W ≤ 255 }
         ensures ok { IfOk result (λ m. m ≡ []) }
-        ensures err { IfErr result (λ e. e ≡ TreeError.Memory) }
+        ensures memory { IfErr result (λ e. e ≡ TreeError.Memory) }
     {
         Ok(SortedKeyedMapping {
             keys: [255; W],
@@ -70,7 +70,7 @@ impl<N, const W: usize> SortedKeyedMapping<N, W> {
         requires room { length source.old ≤ W }
         ensures ok { IfOk result (λ m. m ≡ source.old) }
         ensures emptied { OnOk result (source.new ≡ []) }
-        ensures err { IfErr result (λ e. e ≡ TreeError.Memory) }
+        ensures memory { IfErr result (λ e. e ≡ TreeError.Memory) }
         ensures unchanged { OnErr result (source.new ≡ source.old) }
     {
         let mut map = SortedKeyedMapping::new(alloc)?;
@@ -105,7 +105,7 @@ impl<N, const W: usize> SortedKeyedMapping<N, W> {
         requires room { length (ascending source.old) ≤ W }
         ensures ok { IfOk result (λ m. m ≡ ascending source.old) }
         ensures emptied { OnOk result (ascending source.new ≡ []) }
-        ensures err { IfErr result (λ e. e ≡ TreeError.Memory) }
+        ensures memory { IfErr result (λ e. e ≡ TreeError.Memory) }
         ensures unchanged { OnErr result (source.new ≡ source.old) }
     {
         let mut map = SortedKeyedMapping::new(alloc)?;
@@ -145,7 +145,8 @@ impl<N, const W: usize> SortedKeyedMapping<N, W> {
 
     /// Returns the children at the bytes above `byte`, ascending. It starts at the first of them.
     pub fn iter_above(&self, byte: u8) -> SortedKeyedMappingIter<'_, N>
-        ensures { result ≡ entries_above byte self.now }
+        ensures entries { result ≡ entries_above byte self.now }
+        ensures ascends { BytesAscend (entries_above byte self.now) }
     {
         let keys: &[u8] = &self.keys;
         let at = first_above(byte, &self.keys, self.children.len());
@@ -323,7 +324,7 @@ pub struct SortedKeyedMappingIntoIter<N, const W: usize> {
 }
 
 impl<N, const W: usize> Model for SortedKeyedMappingIntoIter<N, W> {
-    ghost use Rattle.std.specs.Prelude.{◌≡◌, ℕ, List, length, drop, ◌+◌, ◌≤◌};
+    ghost use Rattle.std.specs.Prelude.{ℕ, List, length, drop, ◌+◌, ◌≤◌};
     ghost use Rattle.std.specs.Coded.{coded_list, coded×, coded_ℕ};
     ghost use Rattle.std.specs.Vec.Iter.{into_iter_items};
     ghost use Rattle.std.specs.List.{zip};
@@ -334,7 +335,8 @@ impl<N, const W: usize> Model for SortedKeyedMappingIntoIter<N, W> {
 
     ghost view = { λ it. zip (drop it.at it.keys) (into_iter_items it.children) };
 
-    ghost invariant = { λ it. (length it.keys ≡ W) × (it.at + length (into_iter_items it.children) ≤ W) × (W ≤ 255) };
+    ghost invariant = { λ it. (it.at + length (into_iter_items it.children) ≤ length it.keys)
+        × (length it.keys ≤ 255) };
 }
 
 impl<N: Drop, const W: usize> IntoIterator for SortedKeyedMapping<N, W> {

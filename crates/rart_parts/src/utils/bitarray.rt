@@ -55,7 +55,7 @@ impl<X, const RANGE_WIDTH: usize, B: BitsetTrait> BitArray<X, RANGE_WIDTH, B> {
         requires covers { RANGE_WIDTH ≤ B.CAPACITY }
         requires fits { B.CAPACITY < 2 ^ 64 }
         ensures ok { IfOk result (λ a. a ≡ replicate RANGE_WIDTH None) }
-        ensures err { IfErr result (λ e. e ≡ TreeError.Memory) }
+        ensures memory { IfErr result (λ e. e ≡ TreeError.Memory) }
     {
         let places = new_places(alloc, RANGE_WIDTH)?;
         Ok(BitArray {

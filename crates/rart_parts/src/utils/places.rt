@@ -10,7 +10,7 @@ use std::alloc::Global;
 /// Returns `count` slots without values, allocated at once.
 pub(crate) fn new_places<X>(alloc: Global, count: usize) -> Result<Vec<Option<X>>, TreeError>
     ensures ok { IfOk result (λ places. places.items ≡ replicate count None) }
-    ensures err { IfErr result (λ e. e ≡ TreeError.Memory) }
+    ensures memory { IfErr result (λ e. e ≡ TreeError.Memory) }
 {
     let mut places = Vec::with_capacity(alloc, count)?;
     for i in 0..count {

@@ -1,4 +1,4 @@
-use Rattle.rart_nodes.proofs.updates.MapUpdates.{put-back, put-same}
+use Rattle.rart_nodes.proofs.edits.MapUpdates.{put-back, put-same}
 use Rattle.rart_nodes.proofs.laws.put_back.Goals as goal
 
 pub returns : goal.returns

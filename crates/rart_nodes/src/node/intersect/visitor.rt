@@ -1,8 +1,10 @@
 //! What an intersection does with each common pair: it counts, or calls a callback with the values, the key or a view
 //! of it.
-ghost use Rattle.std.specs.Prelude.{◌≡◌, ℕ, List, [], ◌∷◌};
+ghost use Rattle.std.specs.Prelude.{◌≡◌, ℕ, List, [], ◌∷◌, length};
 ghost use Rattle.std.specs.Option.{option_copied};
 ghost use Rattle.rart_keys.specs.Joins.{both};
+ghost use Rattle.rart_keys.specs.KeyBytes.{IsWithin};
+ghost use Rattle.rart_nodes.specs.joins.PairCalls.{CalledAt, TakesAtKey};
 ghost use Rattle.rart_nodes.specs.joins.Visitors.{AreVisitors, CanDeeper, CanGive};
 ghost use Rattle.rart_nodes.specs.joins.JoinPaths.{Kept};
 ghost use Rattle.rart_nodes.specs.tries.Trie.{own_pair};
@@ -96,6 +98,22 @@ impl<V, W, F: FnMut(&V, &W)> Visitor<V, W, F> for ByValues {
     ghost deeper = { can_values (λ p x. TakesWith F.FnMut p x) };
 }
 
+/// Calls `f` with the key of these bytes and both values.
+// Not inline: the recursion that calls it holds no key on the stack.
+#[inline(never)]
+fn call_with_key<K: KeyTrait, V, W, F: FnMut(K, &V, &W)>(
+    bytes: &[u8],
+    f: &mut F,
+    left: &V,
+    right: &W,
+)
+    requires fits { IsWithin K.MAXIMUM_SIZE (length bytes.now) }
+    requires callable { TakesAtKey F.FnMut K.bytes f.old (bytes.now, (left.now, right.now)) }
+    ensures { CalledAt F.FnMut K.bytes f.old (bytes.now, (left.now, right.now)) f.new }
+{
+    f(K::new_from_slice(bytes), left, right);
+}
+
 /// Calls with the key, made of the bytes of the way, and the values.
 pub(crate) struct ByKeys<K> {
     of: PhantomData<K>,
@@ -111,11 +129,9 @@ impl<K: KeyTrait, V, W, F: FnMut(K, &V, &W)> Visitor<V, W, F> for ByKeys<K> {
 
     ghost given = { GivenKeys (λ p x q. CalledAt F.FnMut K.bytes p x q) };
 
-    // Not inline: the recursion that calls it holds no key on the stack.
-    #[inline(never)]
     fn give(way: &JoinPath<'_>, f: &mut F, left: &V, right: &W) {
         match way {
-            JoinPath::Bytes(bytes) => f(K::new_from_slice(bytes.as_slice()), left, right),
+            JoinPath::Bytes(bytes) => call_with_key(bytes.as_slice(), f, left, right),
             _ => unreachable!(),
         }
     }

@@ -54,7 +54,8 @@ impl<N> Storage<N> {
 
     /// Returns the children at the bytes above `byte`, ascending. It does not allocate.
     pub(crate) fn iter_above(&self, byte: u8) -> StorageIter<'_, N>
-        ensures { to_come result ≡ entries_above byte (stored self.now) }
+        ensures entries { to_come result ≡ entries_above byte (stored self.now) }
+        ensures ascends { BytesAscend (entries_above byte (stored self.now)) }
     {
         match self {
             Storage::Leaf => StorageIter::Childless,

@@ -12,9 +12,9 @@ ghost use Rattle.rart_nodes.specs.walks.ProbeCount.{entered_nodes, probe_count};
 ghost use Rattle.rart_nodes.specs.walks.Walk.{IsWalk, Joins, entries_ahead, entries_of, tree_entries};
 
 use crate::count::Count;
-use crate::node::path::Path;
 use crate::node::rest::strip_prefix;
 use crate::node::seen::{Branches, Entered, Seen, Shared};
+use crate::node::walk::path::Path;
 use crate::node::walk::{Walk, empty_walk};
 use rart_keys::{KeyTrait, Partial};
 use std::alloc::AllocError;
@@ -33,6 +33,7 @@ fn deepen<'a, P: Partial, V, C, T: Path<'a, P>>(
     ensures levels { levels.new.items
         ≡ levels.old.items ++ (rest.entry, length (T.kept path.new)) ∷ [] }
     ensures path_room { T.room path.old ≤ T.room path.new }
+    ensures requested { T.requested path.new ≡ T.requested path.old }
     ensures level_room { vec_capacity levels.new ≡ vec_capacity levels.old }
 {
     path.grow(at.prefix());
@@ -59,6 +60,7 @@ impl<'a, P: Partial, V, C: Count> Walk<'a, P, V, C> {
         ensures path { IsWalk self.new.longest (vec_capacity self.new.levels) (T.kept path.new)
             (reverse self.new.levels.items) }
         ensures room { self.new.longest ≤ T.room path.new }
+        ensures requested { T.requested path.new ≡ T.requested path.old }
         ensures entries { entries_ahead T.grown (T.kept path.new) (option_copied self.new.first)
             self.new.levels.items
             ≡ entries_from included start.now (entries_of T.grown top.entry.node.now) }
@@ -107,6 +109,7 @@ impl<'a, K: KeyTrait, V, C: Count> Seen<'a, K, V, C> {
         ensures path { IfOk result (λ w. IsWalk w.0.longest (vec_capacity w.0.levels) (T.kept w.1)
             (reverse w.0.levels.items)) }
         ensures room { IfOk result (λ w. w.0.longest ≤ T.room w.1) }
+        ensures requested { IfOk result (λ w. T.requested w.1 ≤ length_bound self.entry) }
         ensures longest { IfOk result (λ w. w.0.longest ≤ length_bound self.entry) }
         ensures entries { IfOk result
             (λ w. entries_ahead T.grown (T.kept w.1) (option_copied w.0.first) w.0.levels.items

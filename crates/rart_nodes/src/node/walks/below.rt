@@ -12,9 +12,9 @@ ghost use Rattle.rart_nodes.specs.walks.ProbeCount.{probe_count, tree_entered};
 ghost use Rattle.rart_nodes.specs.walks.Walk.{IsWalk, nodes_below, entries_ahead};
 
 use crate::count::Count;
-use crate::node::path::Path;
 use crate::node::rest::strip_prefix;
 use crate::node::seen::{Entered, Seen, Shared};
+use crate::node::walk::path::Path;
 use crate::node::walk::{Walk, empty_walk, start};
 use rart_keys::{KeyTrait, Partial};
 use std::alloc::AllocError;
@@ -36,6 +36,7 @@ fn seek_prefix<'a, P: Partial, V, C: Count, T: Path<'a, P>>(
         ≤ length (T.kept path.old)
         + longest_key (tree_pairs (option_map (λ s. s.node.now) top.entry))) }
     ensures room { T.room path.old ≤ T.room path.new }
+    ensures requested { T.requested path.new ≡ T.requested path.old }
     ensures visits { C.number counter.new ≡ C.number counter.old
         + tree_entered prefix.now (option_map (λ s. s.node.now) top.entry) }
 {
@@ -70,6 +71,7 @@ impl<'a, K: KeyTrait, V, C: Count> Seen<'a, K, V, C> {
         ensures path { IfOk result (λ w. IsWalk w.0.longest (vec_capacity w.0.levels) (T.kept w.1)
             (reverse w.0.levels.items)) }
         ensures room { IfOk result (λ w. w.0.longest ≤ T.room w.1) }
+        ensures requested { IfOk result (λ w. T.requested w.1 ≤ length_bound self.entry) }
         ensures longest { IfOk result (λ w. w.0.longest ≤ length_bound self.entry) }
         ensures entries { IfOk result
             (λ w. entries_ahead T.grown (T.kept w.1) (option_copied w.0.first) w.0.levels.items

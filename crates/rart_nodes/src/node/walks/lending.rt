@@ -14,10 +14,10 @@ ghost use Rattle.rart_nodes.specs.walks.Viewed.{CanView, ViewedEach, ViewsEach};
 ghost use Rattle.rart_nodes.specs.walks.Calls.{MayLackRoom};
 
 use crate::count::Count;
-use crate::node::path::SegmentPath;
 use crate::node::seen::Seen;
 use crate::node::view::LendingKeyView;
 use crate::node::walk::Walk;
+use crate::node::walk::path::SegmentPath;
 use rart_keys::{KeyTrait, Partial};
 use rart_parts::TreeError;
 
@@ -74,7 +74,8 @@ impl<'a, K: KeyTrait, V, C: Count> Seen<'a, K, V, C> {
     ///
     /// # Errors
     ///
-    /// [`TreeError::Memory`] if the tree isn't empty and the allocation for the walk fails. `f` is then not called.
+    /// [`TreeError::Memory`] if the tree isn't empty and the allocation for the walk fails. Nothing is then
+    /// visited, and `f` is not called.
     ///
     /// # Visits
     ///
@@ -134,7 +135,8 @@ impl<'a, K: KeyTrait, V, C: Count> Seen<'a, K, V, C> {
     ///
     /// # Errors
     ///
-    /// [`TreeError::Memory`] if the tree isn't empty and the allocation for the walk fails. `f` is then not called.
+    /// [`TreeError::Memory`] if the tree isn't empty and the allocation for the walk fails. Nothing is then
+    /// visited, and `f` is not called.
     ///
     /// # Visits
     ///

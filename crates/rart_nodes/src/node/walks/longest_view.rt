@@ -1,7 +1,8 @@
 //! The longest key that begins a probe, lent in segments to one call.
 ghost use Rattle.std.specs.Prelude.{◌≡◌, ◌≤◌, ◌+◌, ◌*◌, [], ◌∷◌, IfErr, IfOk, IfSome, OnErr, OnOk, length};
+ghost use Rattle.std.specs.Prelude.{vec_capacity};
 ghost use Rattle.rart_keys.specs.Filters.{longest_match};
-ghost use Rattle.rart_nodes.specs.tries.SeenTrees.{seen_keys, seen_pairs};
+ghost use Rattle.rart_nodes.specs.tries.SeenTrees.{length_bound, seen_keys, seen_pairs};
 ghost use Rattle.rart_nodes.specs.walks.BelowPrefix.{MayLackMatch, match_visits};
 ghost use Rattle.rart_nodes.specs.walks.PathParts.{lent_segments};
 ghost use Rattle.rart_nodes.specs.walks.ProbeCount.{probe_count};
@@ -9,10 +10,10 @@ ghost use Rattle.rart_nodes.specs.walks.ViewSegments.{AreViews};
 ghost use Rattle.rart_nodes.specs.walks.Viewed.{CanSeeFound, CanShowFound, IsCutOf, SeesFound, ShowsFound};
 
 use crate::count::{Count, Visits};
-use crate::node::matching::beginning;
-use crate::node::path::SegmentPath;
 use crate::node::seen::Seen;
 use crate::node::view::LendingKeyView;
+use crate::node::walk::path::SegmentPath;
+use crate::node::walks::matching::beginning;
 use rart_keys::KeyTrait;
 use rart_parts::TreeError;
 
@@ -27,6 +28,8 @@ impl<'a, K: KeyTrait, V, C: Count> Seen<'a, K, V, C> {
             (longest_match probe.now (seen_pairs self.entry))) }
         ensures views { IfOk result (λ r. IfSome r
             (λ p. AreViews ((lent_segments p.0.segments.items, p.1.now) ∷ []))) }
+        ensures requested { IfOk result (λ r. IfSome r
+            (λ p. vec_capacity p.0.segments ≤ length_bound self.entry)) }
         ensures memory { IfErr result (MayLackMatch probe.now (seen_pairs self.entry)) }
         ensures looked_up { OnErr result (C.number counter.new
             ≡ C.number counter.old + probe_count (seen_keys self.entry) probe.now) }
@@ -34,7 +37,7 @@ impl<'a, K: KeyTrait, V, C: Count> Seen<'a, K, V, C> {
             ≤ C.number counter.old + match_visits probe.now (seen_pairs self.entry)) }
         ensures bound { C.number counter.new ≤ C.number counter.old + 3 * length probe.now + 2 }
     {
-        let Some((depth, _)) = self.last_match(probe, counter) else {
+        let Some((depth, _)) = self.longest_prefix_len_bytes_counted(probe, counter) else {
             return Ok(None);
         };
         let key = beginning(probe, depth);
@@ -101,7 +104,8 @@ impl<'a, K: KeyTrait, V, C: Count> Seen<'a, K, V, C> {
     ///
     /// # Errors
     ///
-    /// [`TreeError::Memory`] if there is such a key and the allocation for its segments fails. `f` is then not called.
+    /// [`TreeError::Memory`] if there is such a key and the allocation for its segments fails. Only the look-up has
+    /// then visited nodes, and `f` is not called.
     ///
     /// # Visits
     ///

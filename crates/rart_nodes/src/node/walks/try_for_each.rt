@@ -7,10 +7,10 @@ ghost use Rattle.rart_nodes.specs.walks.PathParts.{values_ahead};
 ghost use Rattle.rart_nodes.specs.walks.Tried.{CanTry, EndedVisit, EndsAs, EndsVisit, IfRoom, MayStopAtRoom, OnNoRoom};
 
 use crate::count::{Count, Visits};
-use crate::node::control::{VisitControl, VisitError};
-use crate::node::path::NoPath;
 use crate::node::seen::Seen;
 use crate::node::walk::Walk;
+use crate::node::walk::path::NoPath;
+use crate::node::walks::control::{VisitControl, VisitError};
 use rart_keys::{KeyTrait, Partial};
 
 fn try_for_each<'a, P: Partial, V, C: Count, E, F: FnMut(&V) -> Result<VisitControl, E>>(
@@ -45,7 +45,8 @@ impl<'a, K: KeyTrait, V, C: Count> Seen<'a, K, V, C> {
     ///
     /// # Errors
     ///
-    /// [`VisitError::Memory`] if the tree isn't empty and the allocation for the walk fails. `f` is then not called.
+    /// [`VisitError::Memory`] if the tree isn't empty and the allocation for the walk fails. Nothing is then
+    /// visited, and `f` is not called.
     ///
     /// # Visits
     ///

@@ -11,9 +11,9 @@ ghost use Rattle.rart_nodes.specs.walks.PathParts.{values_ahead};
 ghost use Rattle.rart_nodes.specs.walks.Calls.{MayLackRoom};
 
 use crate::count::{Count, Visits};
-use crate::node::path::NoPath;
 use crate::node::seen::Seen;
 use crate::node::walk::Walk;
+use crate::node::walk::path::NoPath;
 use rart_keys::{KeyTrait, Partial};
 use rart_parts::TreeError;
 
@@ -67,7 +67,8 @@ impl<'a, K: KeyTrait, V, C: Count> Seen<'a, K, V, C> {
     ///
     /// # Errors
     ///
-    /// [`TreeError::Memory`] if the tree isn't empty and the allocation for the walk fails. `f` is then not called.
+    /// [`TreeError::Memory`] if the tree isn't empty and the allocation for the walk fails. Nothing is then
+    /// visited, and `f` is not called.
     ///
     /// # Visits
     ///

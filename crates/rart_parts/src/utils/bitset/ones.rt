@@ -1,7 +1,8 @@
 //! An iterator over the positions of a set.
 ghost use Rattle.std.specs.Prelude.{◌≡◌, ℕ, ◌<◌, ◌*◌, ◌^◌};
 ghost use Rattle.std.specs.Iterator.{YieldsFirst, item_count};
-ghost use Rattle.rart_parts.specs.Bits.{members, positions_above, words_have};
+ghost use Rattle.rart_parts.specs.BitSets.{bitset_has};
+ghost use Rattle.rart_parts.specs.Bits.{members, positions_above};
 
 use crate::utils::bitset::{Bitset, BitsetTrait, BitsetWord};
 use std::iter::FusedIterator;
@@ -31,7 +32,7 @@ impl<W: BitsetWord, const S: usize> Bitset<W, S> {
     /// Returns the positions of the set, ascending. It iterates over a copy of the words and does not allocate.
     pub fn iter(&self) -> BitsetOnesIter<W, S>
         requires { S * W.WIDTH < 2 ^ 64 }
-        ensures { result ≡ members (words_have W.WIDTH W.number self.now.words) (S * W.WIDTH) }
+        ensures { result ≡ members (bitset_has W.WIDTH W.number self.now) (S * W.WIDTH) }
     {
         BitsetOnesIter {
             rest: Bitset { words: self.words },

@@ -1,5 +1,6 @@
 //! A set of positions in an array of words: position `i` is bit `i % WIDTH` of word `i / WIDTH`.
 ghost use Rattle.std.specs.Prelude.{◌≡◌, ℕ, ◌<◌, ◌*◌, ◌^◌, false, refl};
+ghost use Rattle.rart_parts.specs.BitSets.{bitset_has};
 ghost use Rattle.rart_parts.specs.Bits.{words_have};
 
 use crate::utils::bitset::{BitsetOnesIter, BitsetTrait, BitsetWord};
@@ -14,7 +15,7 @@ pub struct Bitset<W: BitsetWord, const S: usize> {
 impl<W: BitsetWord, const S: usize> Bitset<W, S> {
     /// Returns the empty set.
     pub fn new() -> Self
-        ensures { (k : ℕ) → k < S * W.WIDTH → words_have W.WIDTH W.number result.words k ≡ false }
+        ensures { (k : ℕ) → k < S * W.WIDTH → bitset_has W.WIDTH W.number result k ≡ false }
     {
         Bitset {
             words: [W::from_u64(0); S],

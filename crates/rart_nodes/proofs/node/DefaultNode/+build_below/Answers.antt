@@ -4,7 +4,8 @@ use Rattle.rart_nodes.proofs.tries.PrefixedStrings.{slice_from-is}
 use Rattle.rart_nodes.proofs.build.StretchLemmas.{reach-at}
 use Rattle.rart_nodes.proofs.build.OpeningLemmas.{byte-is, opening, own-one, own-none, rest-goes_on, rest-ascends}
 use Rattle.rart_nodes.proofs.build.BuildLemmas.{start-here, start-on, started, next-room, next-fewer, next-stretch}
-use Rattle.rart_nodes.proofs.build.BuildLemmas.{next-callable, building-refused, building-leaf, building-step, building-end}
+use Rattle.rart_nodes.proofs.build.BuildLemmas.{next-callable, building-refused, building-leaf, building-step}
+use Rattle.rart_nodes.proofs.build.BuildLemmas.{building-end}
 use Rattle.rart_nodes.proofs.build.TakeLemmas.{on_err}
 use Rattle.std.proofs.lemmas.List.{length-take-le}
 use Rattle.rart_nodes.proofs.node.DefaultNode.+build_below.Goals as goal
@@ -109,7 +110,8 @@ loop-rest-preserved g t c =
       | then-end-eq1 w ↦ started _ _ _ _ _ _ _ _ _ _ _ _ _
           (rw (w.storage-is, w.take_value-is) (building-leaf _ _ _ _ _ _ _ _ _ _ _ _ _ c.loop-rest.invariant.building
           _ _ _ _ _ _ _ _ _ _ some now.run w.if-end-eq1.true now.within now.byte (slice_from-is c.loop-rest.rest.now _)
-          (slice_from-is (get_or c.loop-rest.rest.now 0 (record { ref_ptr = (0, 0); now = [] })).now _) w.take_value-then-end-eq1.ensures w.add_leaf.ensures.stored w.add_leaf.ensures.width refl))
+          (slice_from-is (get_or c.loop-rest.rest.now 0 (record { ref_ptr = (0, 0); now = [] })).now _)
+          w.take_value-then-end-eq1.ensures w.add_leaf.ensures.stored w.add_leaf.ensures.width refl))
       | else-end-eq1+in_ok-value w ↦
           let child = w.in_ok-value.ensures in
           started _ _ _ _ _ _ _ _ _ _ _ _ _

@@ -5,8 +5,8 @@ use Rattle.rart_nodes.specs.edits.Deletion.{is_leaf_at}
 use Rattle.rart_nodes.specs.storages.Stored.{stored, width_of}
 use Rattle.rart_nodes.specs.tries.Trie.{pairs_of, value_of, trie_lookup}
 use Rattle.rart_nodes.specs.tries.TrieCode.{as_children, node_count}
-use Rattle.rart_nodes.specs.updates.Slots.{slot_of}
-use Rattle.rart_nodes.specs.updates.TreeUpdates.{node_holding}
+use Rattle.rart_nodes.specs.edits.Slots.{slot_of}
+use Rattle.rart_nodes.specs.edits.TreeUpdates.{node_holding}
 use Rattle.rart_nodes.proofs.storages.ChildLemmas.{canonical-found, count-found}
 use Rattle.rart_nodes.proofs.edits.InsertLemmas.{fewer-within, rest-within}
 use Rattle.rart_nodes.proofs.edits.JoinLemmas.{some-there}
@@ -15,9 +15,9 @@ use Rattle.rart_nodes.proofs.edits.LeafLemmas.{leaf-value, leaf-some}
 use Rattle.rart_nodes.proofs.edits.RemoveSteps.{same-node}
 use Rattle.rart_nodes.proofs.tries.RestLemmas.{trie_lookup-left, trie_lookup-ended, trie_lookup-child}
 use Rattle.rart_nodes.proofs.tries.RestLemmas.{trie_lookup-no_child}
-use Rattle.rart_nodes.proofs.updates.UpdateSteps.{none-there, some-stays, ends-same, ends-here, leaf-done, leaf-lost}
-use Rattle.rart_nodes.proofs.updates.UpdateSteps.{joins-holding, child-there, holding-edges, holding-some, child-absent}
-use Rattle.rart_nodes.proofs.updates.UpdateSteps.{ends-child, ends-child_ok, ends-lost}
+use Rattle.rart_nodes.proofs.edits.UpdateSteps.{none-there, some-stays, ends-same, ends-here, leaf-done, leaf-lost}
+use Rattle.rart_nodes.proofs.edits.UpdateSteps.{joins-holding, child-there, holding-edges, holding-some, child-absent}
+use Rattle.rart_nodes.proofs.edits.UpdateSteps.{ends-child, ends-child_ok, ends-lost}
 use Rattle.rart_nodes.proofs.node.DefaultNode.+update_below.Given.{Over}
 use Rattle.rart_nodes.proofs.node.DefaultNode.+update_below.Goals.{Else-not-is_leaf_at, In_default, In_default-first}
 use Rattle.rart_nodes.proofs.node.DefaultNode.+update_below.Goals.{In-None, In-None-outcome, In-Some-seek_child_mut}

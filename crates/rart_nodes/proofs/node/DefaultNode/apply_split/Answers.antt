@@ -1,6 +1,6 @@
 use Rattle.std.proofs.Common.{ap, ◌∙◌, sym, refl, Some}
 use Rattle.rart_nodes.specs.declared.slot.SlotUpdate.TheVariants.{Insert}
-use Rattle.rart_nodes.proofs.updates.UpdateSteps.{refuses-memory, left-asks}
+use Rattle.rart_nodes.proofs.edits.UpdateSteps.{refuses-memory, left-asks}
 use Rattle.rart_nodes.proofs.node.DefaultNode.apply_split.Goals as goal
 
 pub returns-in-Err : goal.returns-in-Err

@@ -3,11 +3,11 @@ use Rattle.rart_parts.specs.Entries.{child_at}
 use Rattle.rart_nodes.specs.storages.Stored.{stored, width_of}
 use Rattle.rart_nodes.specs.tries.Trie.{node}
 use Rattle.rart_nodes.specs.tries.TrieCode.{as_children}
-use Rattle.rart_nodes.specs.updates.TreeUpdates.{AsksPut}
+use Rattle.rart_nodes.specs.edits.TreeUpdates.{AsksPut}
 use Rattle.rart_nodes.proofs.edits.InsertLemmas.{put-beside, record-no_child}
 use Rattle.rart_nodes.proofs.edits.PutAskLemmas.{asks_put-full}
 use Rattle.rart_nodes.proofs.edits.RemoveSteps.{same-node}
-use Rattle.rart_nodes.proofs.updates.UpdateSteps.{refuses-memory, none-at}
+use Rattle.rart_nodes.proofs.edits.UpdateSteps.{refuses-memory, none-at}
 use Rattle.rart_nodes.proofs.node.DefaultNode.apply_to_child.Goals as goal
 
 pub make_room-requires : goal.make_room-requires

@@ -1,6 +1,5 @@
-use Rattle.std.proofs.Common.{sym, ◌∙◌, ap}
+use Rattle.std.proofs.Common.{sym, ◌∙◌}
 use Rattle.rart_nodes.specs.storages.Stored.{stored, width_of}
-use Rattle.rart_nodes.specs.tries.Ends.{end_child}
 use Rattle.rart_nodes.proofs.storages.EndEntries.{first-below, last_child-entries}
 use Rattle.rart_nodes.proofs.node.DefaultNode.end_child.Goals as goal
 

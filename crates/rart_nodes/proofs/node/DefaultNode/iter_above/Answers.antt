@@ -1,4 +1,5 @@
-use Rattle.std.proofs.Common.{ap, ◌∙◌}
+use Rattle.std.proofs.Common.{ap, subst, sym, ◌∙◌}
+use Rattle.rart_parts.specs.Entries.{BytesAscend}
 use Rattle.rart_nodes.specs.ranges.Starts.{children_above}
 use Rattle.rart_nodes.specs.storages.Stored.{stored}
 use Rattle.rart_nodes.specs.tries.Trie.{children_in}
@@ -6,6 +7,10 @@ use Rattle.rart_nodes.specs.tries.TrieCode.{as_children}
 use Rattle.rart_nodes.proofs.ranges.StartPaths.{as_children-above}
 use Rattle.rart_nodes.proofs.node.DefaultNode.iter_above.Goals as goal
 
-pub returns : goal.returns
-returns g c = ap as_children c.iter_above.ensures ∙ as_children-above c.args.byte (stored c.self.inside.storage)
+pub returns-clause-children : goal.returns-clause-children
+returns-clause-children g c =
+    ap as_children c.iter_above.ensures.entries ∙ as_children-above c.args.byte (stored c.self.inside.storage)
     ∙ ap (λ t. children_above c.args.byte (children_in t)) c.self.view_is
+
+pub returns-clause-ascends : goal.returns-clause-ascends
+returns-clause-ascends g c = subst BytesAscend (sym c.iter_above.ensures.entries) c.iter_above.ensures.ascends

@@ -1,9 +1,9 @@
 use Rattle.std.proofs.Common.{◌≡◌, ◌∙◌, ap, sym, is_some}
 use Rattle.rart_keys.specs.SortedMap.{lookup}
 use Rattle.rart_nodes.specs.tries.Tree.{tree_pairs}
-use Rattle.rart_nodes.specs.updates.Slots.{slot_of}
-use Rattle.rart_nodes.proofs.updates.MapUpdates.{ends-canonical, ends-counted, ends-longest, ends-map, ends-nodes}
-use Rattle.rart_nodes.proofs.updates.MapUpdates.{nodes-alike}
+use Rattle.rart_nodes.specs.edits.Slots.{slot_of}
+use Rattle.rart_nodes.proofs.edits.MapUpdates.{ends-canonical, ends-counted, ends-longest, ends-map, ends-nodes}
+use Rattle.rart_nodes.proofs.edits.MapUpdates.{nodes-alike}
 use Rattle.rart_nodes.proofs.walks.SeenLemmas.{tree_lookup-lookup}
 use Rattle.rart_nodes.proofs.node.DefaultNode.update.Goals as goal
 use Rattle.rart_nodes.proofs.tries.PairLemmas.{tree_pairs-ascend}

@@ -1,7 +1,7 @@
 use Rattle.std.proofs.Common.{◌≡◌, ◌∙◌, ap, sym, refl, None, is_some}
 use Rattle.rart_nodes.specs.tries.Trie.{trie_lookup, value_of}
 use Rattle.rart_nodes.proofs.edits.LeafLemmas.{leaf-value, leaf-some}
-use Rattle.rart_nodes.proofs.updates.UpdateSteps.{leaf-done, none-there, some-stays}
+use Rattle.rart_nodes.proofs.edits.UpdateSteps.{leaf-done, none-there, some-stays}
 use Rattle.rart_nodes.proofs.node.DefaultNode.update_tree.Goals as goal
 
 pub update_below-requires-clause-stays : goal.update_below-requires-clause-stays

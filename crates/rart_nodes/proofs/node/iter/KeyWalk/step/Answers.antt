@@ -7,12 +7,11 @@ use Rattle.rart_nodes.proofs.walks.EntryLemmas.{joins-bytes, length-bytes}
 use Rattle.rart_nodes.proofs.node.iter.KeyWalk.step.Goals as goal
 
 pub invariant_of-self : goal.invariant_of-self
-invariant_of-self g c = (
-  c.advance.ensures.path,
-  c.advance.ensures.room,
-  fewer-within _ _ _
-      (omega (arith, c.advance.ensures.longest)) c.self.invariant.2,
-)
+invariant_of-self g c = record {
+  walk = c.advance.ensures.path;
+  path = c.advance.ensures.room;
+  within = fewer-within _ _ _ (omega (arith, c.advance.ensures.longest)) c.self.invariant.within;
+}
 
 pub new_from_slice-requires : goal.new_from_slice-requires
 new_from_slice-requires g c =
@@ -23,15 +22,14 @@ new_from_slice-requires g c =
       ap length
           c.key.ensures,
       c.advance.ensures.longest,
-    )) c.self.invariant.2
+    )) c.self.invariant.within
 
 pub invariant_of-self-2 : goal.invariant_of-self-2
-invariant_of-self-2 g c = (
-  c.advance.ensures.path,
-  c.advance.ensures.room,
-  fewer-within _ _ _
-      (omega (arith, c.advance.ensures.longest)) c.self.invariant.2,
-)
+invariant_of-self-2 g c = record {
+  walk = c.advance.ensures.path;
+  path = c.advance.ensures.room;
+  within = fewer-within _ _ _ (omega (arith, c.advance.ensures.longest)) c.self.invariant.within;
+}
 
 pub returns-clause-pairs : goal.returns-clause-pairs
 returns-clause-pairs g c =

@@ -1,4 +1,4 @@
-use Rattle.std.proofs.Common.{◌≡◌, ◌≤◌, ◌+◌, ◌++◌, ◌∙◌, sym, ap, arith, refl, Some, None, length, length-append}
+use Rattle.std.proofs.Common.{◌≡◌, ◌++◌, ◌∙◌, sym, ap, arith, refl, Some, length, length-append}
 use Rattle.rart_nodes.specs.tries.Trie.{prefix_of}
 use Rattle.rart_nodes.proofs.edits.InsertLemmas.{fewer-within}
 use Rattle.rart_nodes.proofs.tries.CanonicalTests.{IsCanonicalTree-test}

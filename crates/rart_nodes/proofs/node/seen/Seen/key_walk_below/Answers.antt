@@ -9,12 +9,11 @@ use Rattle.rart_nodes.proofs.walks.EntryLemmas.{joins-bytes}
 use Rattle.rart_nodes.proofs.node.seen.Seen.key_walk_below.Goals as goal
 
 pub invariant_of-result : goal.invariant_of-result
-invariant_of-result g c = (
-  c.in_ok-walk.ensures.path,
-  c.in_ok-walk.ensures.room,
-  fewer-within _ _ _
-      c.in_ok-walk.ensures.longest c.args.self.fits,
-)
+invariant_of-result g c = record {
+  walk = c.in_ok-walk.ensures.path;
+  path = c.in_ok-walk.ensures.room;
+  within = fewer-within _ _ _ c.in_ok-walk.ensures.longest c.args.self.fits;
+}
 
 pub returns-clause-pairs : goal.returns-clause-pairs
 returns-clause-pairs g c = ap join_all c.in_ok-walk.ensures.entries

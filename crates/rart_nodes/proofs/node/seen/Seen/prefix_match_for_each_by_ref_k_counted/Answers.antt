@@ -5,8 +5,8 @@ use Rattle.rart_nodes.specs.tries.Tree.{tree_pairs}
 use Rattle.rart_nodes.specs.walks.Matched.{CanMatch, MatchesEach}
 use Rattle.rart_nodes.proofs.node.seen.Seen.prefix_match_for_each_by_ref_k_counted.Goals as goal
 
-pub each_match-requires : goal.each_match-requires
-each_match-requires g c = record {
+pub prefix_match_for_each_by_ref_bytes_counted-requires : goal.prefix_match_for_each_by_ref_bytes_counted-requires
+prefix_match_for_each_by_ref_bytes_counted-requires g c = record {
   callable = subst (λ (q : List ℕ). CanMatch g.F.FnMut c.args.f.now
       (matches q (tree_pairs (option_copied c.args.self.root)))) (sym c.as_ref.ensures) c.requires.callable;
 }
@@ -14,4 +14,5 @@ each_match-requires g c = record {
 pub returns-clause-calls : goal.returns-clause-calls
 returns-clause-calls g c =
     subst (λ (q : List ℕ). MatchesEach g.F.FnMut c.args.f.now (matches q (tree_pairs (option_copied c.args.self.root)))
-    c.each_match.new.f) c.as_ref.ensures c.each_match.ensures.calls
+    c.prefix_match_for_each_by_ref_bytes_counted.new.f) c.as_ref.ensures
+    c.prefix_match_for_each_by_ref_bytes_counted.ensures.calls

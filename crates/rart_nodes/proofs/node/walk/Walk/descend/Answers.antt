@@ -33,6 +33,7 @@ loop-next-init g c = record {
     ),
   );
   room = c.requires.room;
+  requested = refl;
   places = c.requires.places;
   still = ahead-start g.T.Keeps.grown _ _ _ c.requires.nothing c.requires.empty_walk;
   visits = refl;
@@ -97,6 +98,7 @@ returns-in_default-cmp g c =
     record {
       path = c.loop-next.invariant.path;
       room = c.loop-next.invariant.room;
+      requested = c.loop-next.invariant.requested;
       entries = rw c.loop-next.invariant.first (ahead-lower g.T.Keeps.grown c.args.included
           (g.T.Path.kept c.loop-next.path) c.loop-next.rest.now t
           (entries_below g.T.Keeps.grown (g.T.Path.kept c.loop-next.path) (reverse c.loop-next.self.levels.items)) _
@@ -231,6 +233,7 @@ loop-next-preserved g c =
       way = way-on g.T.Keeps.grown _ c.in-Some-first.byte.now k _ t _ _ _ _ g.T.Keeps.short c.enter-at.result.canonical
           w c.deepen-in-Some.ensures.kept c.deepen-in-Some.ensures.levels c.child-next.ensures;
       room = omega (arith, c.loop-next.invariant.room, c.deepen-in-Some.ensures.path_room);
+      requested = c.deepen-in-Some.ensures.requested ∙ c.loop-next.invariant.requested;
       places = omega (arith, c.loop-next.invariant.places, c.deepen-in-Some.ensures.level_room);
       still = ahead-on g.T.Keeps.grown c.args.included k (g.T.Path.kept c.deepen-in-Some.new.path) c.loop-next.rest.now
           c.in-Some-strip_prefix.after.now c.in-Some-first.byte.now t _ _ _ _ _ c.requires.joins

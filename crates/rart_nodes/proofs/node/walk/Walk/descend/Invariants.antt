@@ -14,6 +14,7 @@ invariant-loop-next g l = record {
   path : IsWalk l.self.longest (vec_capacity l.self.levels) (g.T.Path.kept l.path) (reverse l.self.levels.items);
   way : HasWay l.self.longest (g.T.Path.kept l.path) (length l.self.levels.items) (option_map (λ s. s.node.now) l.next);
   room : l.self.longest ≤ g.T.Path.room l.path;
+  requested : g.T.Path.requested l.path ≡ g.T.Path.requested l.fn.path;
   places : l.self.longest < vec_capacity l.self.levels;
   still : segments_after (g.T.Path.kept l.path)
       (entries_from l.included l.rest (tree_entries g.T.Keeps.grown (option_map (λ s. s.node.now) l.next)))

@@ -76,6 +76,7 @@ loop-next-preserved g c =
         ap length c.prefix-in-Some.ensures,
       );
       room = omega (arith, c.loop-next.invariant.room, c.grow.ensures.room);
+      requested = c.grow.ensures.requested ∙ c.loop-next.invariant.requested;
       still = ap (λ z. tree_part g.T.Keeps.grown z c.in-Some-strip_prefix.after.now
           (option_map (λ s. s.node.now) c.child-next.result)) (c.grow.ensures.kept
           ∙ ap (λ p. k ++ g.T.Keeps.grown p) c.prefix-in-Some.ensures)

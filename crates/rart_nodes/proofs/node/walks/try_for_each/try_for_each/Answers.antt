@@ -1,6 +1,6 @@
 use Rattle.std.proofs.Common.{arith, rules, of_calls, ◌≡◌, [], ◌∷◌, List, sym, ap, subst, refl, Ok, Err}
 use Rattle.std.specs.Fn.{CalledAt}
-use Rattle.rart_nodes.specs.declared.node.control.VisitControl.TheVariants.{Continue}
+use Rattle.rart_nodes.specs.declared.node.walks.control.VisitControl.TheVariants.{Continue}
 use Rattle.std.specs.Option.{option_copied}
 use Rattle.rart_nodes.specs.walks.Walk.{SegmentList, entry_values, entries_ahead}
 use Rattle.rart_nodes.specs.walks.PathParts.{no_segment}

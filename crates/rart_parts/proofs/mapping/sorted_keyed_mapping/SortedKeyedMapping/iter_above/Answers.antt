@@ -1,6 +1,6 @@
-use Rattle.std.proofs.Common.{◌∙◌, ap, arith}
-use Rattle.rart_parts.specs.Entries.{entries_above}
-use Rattle.rart_parts.proofs.EntryLemmas.{from_place}
+use Rattle.std.proofs.Common.{◌∙◌, ap, subst, arith}
+use Rattle.rart_parts.specs.Entries.{BytesAscend, entries_above}
+use Rattle.rart_parts.proofs.EntryLemmas.{above-ascends, from_place}
 use Rattle.rart_parts.proofs.SortedLemmas.{fits, ordered, zip_above}
 use Rattle.rart_parts.proofs.mapping.sorted_keyed_mapping.SortedKeyedMapping.iter_above.Goals as goal
 
@@ -14,8 +14,8 @@ first_above-at-requires g c =
       ),
     )
 
-pub returns : goal.returns
-returns g c =
+pub returns-clause-entries : goal.returns-clause-entries
+returns-clause-entries g c =
     let count = c.len.ensures ∙ c.self.inside.children.ok.0 in
     let place = c.first_above-at.ensures in
     let items = c.as_slice.ensures.value in
@@ -27,3 +27,6 @@ returns g c =
     ) (zip_above c.args.byte c.first_above-at.result c.self.inside.keys
     c.self.inside.children.items (fits c.self.invariant) c.self.invariant.ascends (omega (arith, place.0, count))
     place.1 (λ l. place.2 (omega (arith, l, count))) ∙ ap (entries_above c.args.byte) c.self.view_is)
+
+pub returns-clause-ascends : goal.returns-clause-ascends
+returns-clause-ascends g c = above-ascends c.args.byte _ (subst BytesAscend c.self.view_is c.self.invariant.ascends)

@@ -1,26 +1,16 @@
-use Rattle.std.proofs.Common.{rules, of_calls, refl, sym, ◌∙◌, ◌++◌, []}
+use Rattle.std.proofs.Common.{refl, subst, sym, ◌∙◌}
 use Rattle.std.proofs.lemmas.List.{append-nil}
-use Rattle.rart_nodes.specs.joins.PairCalls.{CalledAt}
+use Rattle.rart_nodes.specs.joins.PairCalls.{CalledAt, TakesAtKey}
 use Rattle.rart_nodes.proofs.node.intersect.visitor.ByKeysVisitor.give.Goals as goal
 
-pub f-requires : goal.f-requires
-f-requires g c = (rw c.in-Bytes.is at c.requires.callable) _ _ _ (c.new_from_slice.ensures ∙ c.as_slice.ensures.value
-    ∙ sym (append-nil c.in-Bytes.bytes.items)) refl refl
+pub call_with_key-requires-clause-callable : goal.call_with_key-requires-clause-callable
+call_with_key-requires-clause-callable g c
+    = subst (λ k. TakesAtKey g.F.FnMut g.K.KeyTrait.bytes c.args.f.now (k, (c.args.left.now, c.args.right.now)))
+    (append-nil c.in-Bytes.bytes.items ∙ sym c.as_slice.ensures.value) (rw c.in-Bytes.is at c.requires.callable)
 
 pub returns : goal.returns
 returns g c =
-    let key = c.in-Bytes.bytes.items in
-    let called : CalledAt g.F.FnMut g.K.KeyTrait.bytes c.args.f.now (key ++ [], (c.args.left.now, c.args.right.now))
-    c.f.new.self
-    = record {
-      key = c.new_from_slice.result;
-      left = c.args.left;
-      right = c.args.right;
-      key_is
-          = c.new_from_slice.ensures ∙ c.as_slice.ensures.value ∙ sym (append-nil key);
-      left_is = refl;
-      right_is
-          = refl;
-      called = search (rules, of_calls);
-    } in
-    record { given = rw c.in-Bytes.is (c.f.new.self, called, refl) }
+    let called = subst (λ k. CalledAt g.F.FnMut g.K.KeyTrait.bytes c.args.f.now
+    (k, (c.args.left.now, c.args.right.now)) c.call_with_key.new.f)
+    (c.as_slice.ensures.value ∙ sym (append-nil c.in-Bytes.bytes.items)) c.call_with_key.ensures in
+    record { given = rw c.in-Bytes.is (c.call_with_key.new.f, called, refl) }

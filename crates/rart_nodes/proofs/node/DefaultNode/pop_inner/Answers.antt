@@ -1,0 +1,14 @@
+use Rattle.rart_nodes.proofs.edits.PopLemmas.{pops-asks, pops-canonical, pops-map}
+use Rattle.rart_nodes.proofs.node.DefaultNode.pop_inner.Goals as goal
+
+pub returns-in-Some-clause-ok : goal.returns-in-Some-clause-ok
+returns-in-Some-clause-ok g c = pops-canonical c.args.end c.args.self.now _ _ _ _ c.requires.canonical
+    c.in-Ok.ensures.ok
+
+pub returns-in-Some-clause-pairs : goal.returns-in-Some-clause-pairs
+returns-in-Some-clause-pairs g c = pops-map c.args.end c.args.self.now _ _ _ c.in-Some.value c.requires.canonical
+    (rw c.in-Some.is at c.in-Ok.ensures.ok) c.from_slice-path.ensures
+
+pub returns-in-None-removed-clause-asks : goal.returns-in-None-removed-clause-asks
+returns-in-None-removed-clause-asks g c = pops-asks c.args.end c.args.self.now c.requires.canonical
+    c.in-Err.ensures.asks

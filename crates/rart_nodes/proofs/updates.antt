@@ -1,2 +1,0 @@
-pub mod MapUpdates
-pub mod UpdateSteps

@@ -1,4 +1,0 @@
-pub mod Callbacks
-pub mod Slots
-pub mod TreeUpdates
-pub mod Updates

@@ -1,0 +1,220 @@
+//! What a walk keeps of its path: the bytes, the segments, or nothing.
+ghost use Rattle.std.specs.Prelude.{◌≡◌, ◌≤◌, ◌+◌, ◌^◌, ◌++◌, ℕ, [], length, take, IfOk};
+ghost use Rattle.rart_nodes.specs.walks.Walk.{Grown, IsShort, SegmentList};
+
+use rart_keys::Partial;
+use std::alloc::{AllocError, Global};
+
+/// What is kept of one prefix.
+pub(crate) trait Keeps {
+    ghost grown: { Grown };
+
+    ghost short: { IsShort grown };
+}
+
+/// What is kept of a path.
+pub(crate) trait Path<'a, P: Partial>: Keeps + Drop {
+    ghost kept: { Self → SegmentList };
+
+    ghost room: { Self → ℕ };
+
+    ghost requested: { Self → ℕ };
+
+    ghost allocated: { Self → ℕ };
+
+    /// Returns an empty path without room.
+    fn empty(alloc: Global) -> Self
+        ensures nothing { kept result ≡ [] }
+        ensures requested { requested result ≡ 0 }
+        ensures allocated { allocated result ≡ 0 };
+
+    /// Returns an empty path with room for keys of `longest` bytes, and for no more.
+    fn with_room(alloc: Global, longest: usize) -> Result<Self, AllocError>
+        ensures nothing { IfOk result (λ t. kept t ≡ []) }
+        ensures room { IfOk result (λ t. longest ≤ room t) }
+        ensures requested { IfOk result (λ t. requested t ≤ longest) }
+        ensures allocated { IfOk result (λ t. allocated t ≤ requested t) };
+
+    /// Returns the length of what is kept.
+    fn mark(&self) -> usize
+        ensures { result ≡ length (kept self.now) };
+
+    /// Truncates the path to the length `mark`.
+    fn cut(&mut self, mark: usize)
+        ensures kept { kept self.new ≡ take mark (kept self.old) }
+        ensures room { room self.old ≤ room self.new }
+        ensures requested { requested self.new ≡ requested self.old };
+
+    /// Appends a prefix.
+    fn grow(&mut self, prefix: &'a P)
+        requires { length (kept self.old) + length (P.bytes prefix.now) ≤ room self.old }
+        ensures kept { kept self.new ≡ kept self.old ++ Self.grown (P.bytes prefix.now) }
+        ensures room { room self.old ≤ room self.new }
+        ensures requested { requested self.new ≡ requested self.old };
+}
+
+/// The bytes of the key.
+#[derive(Drop)]
+pub(crate) struct BytePath {
+    key: Vec<u8>,
+    // the capacity that was requested; `extend_from_slice` says only that the vector's own doesn't shrink
+    requested: usize,
+}
+
+impl BytePath {
+    /// Returns the bytes of the path.
+    pub(crate) fn key(&self) -> &[u8]
+        ensures { result.now ≡ self.now.key.items }
+    {
+        self.key.as_slice()
+    }
+}
+
+impl Keeps for BytePath {
+    ghost use Rattle.rart_nodes.specs.walks.PathParts.{byte_segments, short-bytes};
+
+    ghost grown = { byte_segments };
+
+    ghost short = { short-bytes };
+}
+
+impl<'a, P: Partial> Path<'a, P> for BytePath {
+    ghost use Rattle.std.specs.Prelude.{vec_capacity};
+    ghost use Rattle.rart_nodes.specs.walks.PathParts.{byte_segments};
+
+    ghost kept = { λ t. byte_segments t.key.items };
+
+    ghost room = { λ t. vec_capacity t.key };
+
+    ghost requested = { λ t. t.requested };
+
+    ghost allocated = { λ t. vec_capacity t.key };
+
+    fn empty(alloc: Global) -> Self {
+        BytePath {
+            key: Vec::new(alloc),
+            requested: 0,
+        }
+    }
+
+    fn with_room(alloc: Global, longest: usize) -> Result<Self, AllocError> {
+        let key = Vec::with_capacity(alloc, longest)?;
+        Ok(BytePath {
+            key,
+            requested: longest,
+        })
+    }
+
+    fn mark(&self) -> usize {
+        self.key.len()
+    }
+
+    fn cut(&mut self, mark: usize) {
+        self.key.truncate(mark);
+    }
+
+    fn grow(&mut self, prefix: &'a P) {
+        let Ok(()) = self.key.extend_from_slice(prefix.to_slice()) else {
+            unreachable!()
+        };
+    }
+}
+
+/// The nodes' own prefixes, those with bytes.
+#[derive(Drop)]
+pub(crate) struct SegmentPath<'a> {
+    segments: Vec<&'a [u8]>,
+}
+
+impl<'a> SegmentPath<'a> {
+    pub(crate) fn segments(&self) -> &[&'a [u8]]
+        ensures { result.now ≡ self.now.segments.items }
+    {
+        self.segments.as_slice()
+    }
+}
+
+impl<'a> Keeps for SegmentPath<'a> {
+    ghost use Rattle.rart_nodes.specs.walks.PathParts.{one_segment, short-one};
+
+    ghost grown = { one_segment };
+
+    ghost short = { short-one };
+}
+
+impl<'a, P: Partial> Path<'a, P> for SegmentPath<'a> {
+    ghost use Rattle.std.specs.Prelude.{vec_capacity};
+    ghost use Rattle.rart_nodes.specs.walks.PathParts.{lent_segments};
+
+    ghost kept = { λ t. lent_segments t.segments.items };
+
+    ghost room = { λ t. vec_capacity t.segments };
+
+    ghost requested = { λ t. vec_capacity t.segments };
+
+    ghost allocated = { λ t. vec_capacity t.segments };
+
+    fn empty(alloc: Global) -> Self {
+        SegmentPath {
+            segments: Vec::new(alloc),
+        }
+    }
+
+    fn with_room(alloc: Global, longest: usize) -> Result<Self, AllocError> {
+        let segments = Vec::with_capacity(alloc, longest)?;
+        Ok(SegmentPath { segments })
+    }
+
+    fn mark(&self) -> usize {
+        self.segments.len()
+    }
+
+    fn cut(&mut self, mark: usize) {
+        self.segments.truncate(mark);
+    }
+
+    fn grow(&mut self, prefix: &'a P) {
+        let segment = prefix.to_slice();
+        if !segment.is_empty() {
+            self.segments.push_reserved(segment);
+        }
+    }
+}
+
+/// Nothing.
+#[derive(Drop)]
+pub(crate) struct NoPath;
+
+impl Keeps for NoPath {
+    ghost use Rattle.rart_nodes.specs.walks.PathParts.{no_segment, short-no};
+
+    ghost grown = { no_segment };
+
+    ghost short = { short-no };
+}
+
+impl<'a, P: Partial> Path<'a, P> for NoPath {
+    ghost kept = { λ t. [] };
+
+    ghost room = { λ t. 2 ^ 64 };
+
+    ghost requested = { λ t. 0 };
+
+    ghost allocated = { λ t. 0 };
+
+    fn empty(_alloc: Global) -> Self {
+        NoPath
+    }
+
+    fn with_room(_alloc: Global, _longest: usize) -> Result<Self, AllocError> {
+        Ok(NoPath)
+    }
+
+    fn mark(&self) -> usize {
+        0
+    }
+
+    fn cut(&mut self, _mark: usize) {}
+
+    fn grow(&mut self, _prefix: &'a P) {}
+}
