@@ -6,7 +6,7 @@ use Rattle.std.proofs.iter.Yields.{gives_Drains, gives_left}
 use Rattle.std.proofs.lemmas.Iterator.Adapters.{YieldsList-from_vec}
 use Rattle.std.proofs.lemmas.List.{append_assoc, map-append, map-id}
 use Rattle.rart_keys.specs.BulkLists.{first_fault, last_wins, put_all}
-use Rattle.rart_keys.specs.SortedMap.{IsAscending, put}
+use Rattle.rart_keys.specs.SortedMap.{IsAscending}
 use Rattle.rart.specs.BulkLaw.{MayRefuseLoad, MayRefuseOneOf}
 use Rattle.rart.specs.BulkLoads.{FailsSorted}
 use Rattle.rart.specs.Refusals.{MayRefuseInsert}
@@ -59,19 +59,8 @@ module _ {V : Type 0} where
           ∙ map-append (λ p. (bytes p.0, p.1)) xs more in
           rw parts (refused-begun (pairs_in bytes xs) (pairs_in bytes more) e (rw parts at up) s)
 
--- pairs that are put in, one after the other
+-- pairs that are put in, one after the other, until one is refused
 module _ {K V : Type 0} (bytes : K → List ℕ) where
-  put_all-append : (es : List (List ℕ × V)) (e : List ℕ × V) (m : List (List ℕ × V))
-      → put_all (es ++ e ∷ []) m ≡ put e.0 e.1 (put_all es m)
-  put_all-append [] e m = refl
-  put_all-append (f ∷ es) e m = put_all-append es e (put f.0 f.1 m)
-
-  pub put-more : (xs : List (K × V)) (x : K × V) (old new : List (List ℕ × V)) → old ≡ put_all (pairs_in bytes xs) []
-      → new ≡ put (bytes x.0) x.1 old → new ≡ put_all (pairs_in bytes (xs ++ x ∷ [])) []
-  put-more xs x old new o n =
-      n ∙ ap (put (bytes x.0) x.1) o ∙ sym (put_all-append (pairs_in bytes xs) (bytes x.0, x.1) [])
-      ∙ ap (λ z. put_all z []) (sym (map-append (λ p. (bytes p.0, p.1)) xs (x ∷ [])))
-
   pub one-refused : (all xs : List (K × V)) (x : K × V) (more : List (K × V)) (old : List (List ℕ × V)) (error : _)
       → all ≡ (xs ++ x ∷ []) ++ more → old ≡ put_all (pairs_in bytes xs) [] → MayRefuseInsert old (bytes x.0) error
       → MayRefuseOneOf (pairs_in bytes all) error

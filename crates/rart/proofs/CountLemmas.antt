@@ -1,5 +1,5 @@
 -- Counting by a fold.
-use Rattle.std.proofs.Common.{◌≡◌, ℕ, ◌+◌, ◌^◌, ◌<◌, List, [], ◌∷◌, ◌++◌, length, length-append, ap, arith}
+use Rattle.std.proofs.Common.{◌≡◌, ℕ, ◌+◌, ◌^◌, ◌<◌, List, [], ◌∷◌, length, length-append, ap, arith}
 use Rattle.std.specs.List.{FoldsTo}
 use Rattle.rart_nodes.specs.walks.Calls.{CallableAtEach}
 

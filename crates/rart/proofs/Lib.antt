@@ -5,6 +5,7 @@ pub mod BulkTreeLemmas
 pub mod BulkValueLemmas
 pub mod CountLemmas
 pub mod EditLemmas
+pub mod ExtensionLemmas
 pub mod LawLemmas
 pub mod MigrateLemmas
 pub mod PresentLemmas

@@ -12,8 +12,8 @@ use Rattle.rart_nodes.specs.declared.slot.SlotUpdate.{SlotUpdate}
 use Rattle.rart_nodes.specs.declared.slot.SlotUpdate.TheVariants.{Keep, Remove, Insert}
 use Rattle.rart_nodes.specs.declared.slot.UpdateError.{UpdateError}
 use Rattle.rart_nodes.specs.declared.slot.UpdateError.TheVariants.{Insert as Not_inserted, Remove as Not_removed}
-use Rattle.rart_nodes.specs.updates.Slots.{HasRoom, outcome_of, slot_of}
-use Rattle.rart_nodes.specs.updates.Updates.{EndsMap, RefusesNew, map_left}
+use Rattle.rart_nodes.specs.edits.Slots.{HasRoom, outcome_of, slot_of}
+use Rattle.rart_nodes.specs.edits.Updates.{EndsMap, RefusesNew, map_left}
 use Rattle.rart_parts.specs.declared.error.TreeError.{TreeError}
 use Rattle.rart_parts.specs.declared.error.TreeError.TheVariants.{Memory, Full}
 use Rattle.rart.specs.MapAndShape.{MapAndShape}

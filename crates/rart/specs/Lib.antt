@@ -2,6 +2,7 @@ pub mod BulkLaw
 pub mod BulkLoads
 pub mod Edits
 pub mod Errors
+pub mod Extensions
 pub mod LawAnswers
 pub mod Loans
 pub mod MapAndShape
@@ -9,4 +10,5 @@ pub mod Migrations
 pub mod Refusals
 pub mod RouteLoans
 pub mod Steps
+pub mod TreeFields
 pub mod Updates

@@ -12,9 +12,9 @@ use Rattle.rart_nodes.specs.declared.slot.SlotUpdate.{SlotUpdate}
 use Rattle.rart_nodes.specs.declared.slot.SlotUpdate.TheVariants.{Keep, Remove, Insert}
 use Rattle.rart_nodes.specs.declared.slot.UpdateError.{UpdateError}
 use Rattle.rart_nodes.specs.declared.slot.UpdateError.TheVariants.{Insert as Not_inserted, Remove as Not_removed}
-use Rattle.rart_nodes.specs.updates.Callbacks.{AnswersSo, TellsSo}
-use Rattle.rart_nodes.specs.updates.Slots.{outcome_of, slot_of}
-use Rattle.rart_nodes.specs.updates.Updates.{map_left, map_updated}
+use Rattle.rart_nodes.specs.edits.Callbacks.{AnswersSo, TellsSo}
+use Rattle.rart_nodes.specs.edits.Slots.{outcome_of, slot_of}
+use Rattle.rart_nodes.specs.edits.Updates.{map_left, map_updated}
 use Rattle.rart_parts.specs.declared.error.TreeError.TheVariants.{Memory}
 use Rattle.rart.specs.Refusals.{MayRefuseRemove, MayRefuseInsert}
 use Rattle.rart.specs.declared.tree.TheConstants.{MAX_PAIRS}

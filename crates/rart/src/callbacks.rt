@@ -18,6 +18,26 @@ use rart_nodes::{VisitControl, VisitError, Visits};
 use rart_parts::TreeError;
 
 impl<K: KeyTrait, V> AdaptiveRadixTree<K, V> {
+    /// Calls `f` with each pair whose key begins the bytes `probe`, which may be longer than any key, the shortest
+    /// first. The key is borrowed from the probe: its first bytes, nothing is copied. Allocates nothing.
+    pub fn prefix_match_for_each_by_ref_bytes<F: FnMut(&[u8], &V)>(&self, probe: &[u8], f: &mut F)
+        requires callable { CanMatch F.FnMut f.old (matches probe.now self.now.pairs) }
+        ensures callable { F.IsAlwaysCallable f.old → F.IsAlwaysCallable f.new }
+        ensures calls { MatchesEach F.FnMut f.old (matches probe.now self.now.pairs) f.new }
+    {
+        self.seen()
+            .prefix_match_for_each_by_ref_bytes_counted(probe, f, &mut Visits::new())
+    }
+
+    /// Calls `f` as `prefix_match_for_each_by_ref_bytes` does, and drops it.
+    pub fn prefix_match_for_each_bytes<F: FnMut(&[u8], &V) + Drop>(&self, probe: &[u8], f: F)
+        requires callable { CanMatch F.FnMut f (matches probe.now self.now.pairs) }
+        ensures { MatchedEach F.FnMut f (matches probe.now self.now.pairs) }
+    {
+        self.seen()
+            .prefix_match_for_each_bytes_counted(probe, f, &mut Visits::new())
+    }
+
     /// Calls `f` with each pair whose key begins `probe`, the shortest first. The key is borrowed from the probe: its
     /// first bytes, nothing is copied. Allocates nothing.
     pub fn prefix_match_for_each_by_ref_k<F: FnMut(&[u8], &V)>(&self, probe: &K, f: &mut F)

@@ -1,5 +1,5 @@
 //! Look-ups and walks of the keys that begin a probe, which allocate nothing, and of the keys that begin with a prefix.
-ghost use Rattle.std.specs.Prelude.{◌≡◌, option_map, IfErr, IfOk};
+ghost use Rattle.std.specs.Prelude.{◌≡◌, ◌≤◌, length, option_map, take, IfErr, IfOk, IfSome};
 ghost use Rattle.std.specs.Option.{option_copied};
 ghost use Rattle.rart_keys.specs.Filters.{below, longest_match, longest_value, matches};
 ghost use Rattle.rart_nodes.specs.walks.Calls.{MayLackRoom};
@@ -28,6 +28,26 @@ impl<K: KeyTrait, V> AdaptiveRadixTree<K, V> {
             ≡ longest_match (K.bytes probe) self.now.pairs }
     {
         self.longest_prefix_match_k(&probe)
+    }
+
+    /// Returns the pair whose key is the longest that begins the bytes `probe`, which may be longer than any key.
+    pub fn longest_prefix_match_bytes(&self, probe: &[u8]) -> Option<(K, &V)>
+        ensures { option_map (λ p. (K.bytes p.0, p.1.now)) result
+            ≡ longest_match probe.now self.now.pairs }
+    {
+        self.seen()
+            .longest_prefix_match_bytes_counted(probe, &mut Visits::new())
+    }
+
+    /// Returns the length of the longest key that begins the bytes `probe`, and a reference to its value. It makes no
+    /// key.
+    pub fn longest_prefix_len_bytes(&self, probe: &[u8]) -> Option<(usize, &V)>
+        ensures pair { option_map (λ p. (take p.0 probe.now, p.1.now)) result
+            ≡ longest_match probe.now self.now.pairs }
+        ensures within { IfSome result (λ p. p.0 ≤ length probe.now) }
+    {
+        self.seen()
+            .longest_prefix_len_bytes_counted(probe, &mut Visits::new())
     }
 
     /// Returns a reference to the value at the longest key that begins `probe`.

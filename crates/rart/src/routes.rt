@@ -17,6 +17,8 @@ ghost use Rattle.rart.specs.RouteLoans.{table_ends_as};
 ghost use Rattle.rart.specs.declared.tree.TheConstants.{MAX_PAIRS};
 
 mod ends;
+mod equal;
+mod extend;
 mod walks;
 
 use crate::stats::{TreeStats, TreeStatsTrait};
@@ -210,6 +212,15 @@ impl<K: KeyTrait, T> RouteTable<K, T> {
         ensures { option_copied result ≡ longest_value probe.now self.now.pairs }
     {
         self.routes.longest_prefix_value_bytes(probe)
+    }
+
+    /// Returns the longest prefix that begins the bytes `probe`, which may be longer than any key, with its target.
+    /// Allocates nothing.
+    pub fn route_with_prefix_bytes(&self, probe: &[u8]) -> Option<(K, &T)>
+        ensures { option_map (λ p. (K.bytes p.0, p.1.now)) result
+            ≡ longest_match probe.now self.now.pairs }
+    {
+        self.routes.longest_prefix_match_bytes(probe)
     }
 
     /// Returns the longest prefix that begins `probe`, with its target. Allocates nothing.

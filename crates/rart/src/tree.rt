@@ -18,6 +18,8 @@ use std::marker::{Model, PhantomData};
 
 mod bulk;
 mod ends;
+mod equal;
+mod extend;
 mod get_mut;
 mod intersect;
 mod statistics;
@@ -40,20 +42,15 @@ pub struct AdaptiveRadixTree<K: KeyTrait, V> {
 }
 
 impl<K: KeyTrait, V> Model for AdaptiveRadixTree<K, V> {
-    ghost use Rattle.std.specs.Prelude.{◌≡◌, ◌≤◌, length};
-    ghost use Rattle.rart_keys.specs.KeyBytes.{IsWithin};
-    ghost use Rattle.rart_keys.specs.SortedMap.{longest_key};
-    ghost use Rattle.rart_nodes.specs.tries.Tree.{IsCanonicalTree, tree_nodes, tree_pairs};
+    ghost use Rattle.rart_nodes.specs.tries.Tree.{tree_nodes, tree_pairs};
     ghost use Rattle.rart.specs.MapAndShape.{MapAndShape};
-    ghost use Rattle.rart.specs.declared.tree.TheConstants.{MAX_PAIRS};
+    ghost use Rattle.rart.specs.TreeFields.{AreTreeFields};
 
     ghost Value = { MapAndShape V };
 
     ghost view = { λ t. record { pairs = tree_pairs t.root; nodes = tree_nodes t.root } };
 
-    ghost invariant = { λ t. IsCanonicalTree t.root × (t.len ≡ length (tree_pairs t.root)) × (t.len ≤ MAX_PAIRS)
-        × (longest_key (tree_pairs t.root) ≤ t.longest) × IsWithin K.MAXIMUM_SIZE t.longest
-        × (t.len ≡ 0 → t.longest ≡ 0) };
+    ghost invariant = { λ t. AreTreeFields K.MAXIMUM_SIZE t.root t.len t.longest };
 }
 
 impl<K: KeyTrait, V> AdaptiveRadixTree<K, V> {

@@ -15,6 +15,24 @@ use rart_nodes::LendingKeyView;
 use rart_parts::TreeError;
 
 impl<K: KeyTrait, T> RouteTable<K, T> {
+    /// Calls `f` with each route whose prefix begins the bytes `probe`, which may be longer than any key, the shortest
+    /// first. The prefix is borrowed from the probe: its first bytes, nothing is copied. Allocates nothing.
+    pub fn covering_for_each_by_ref_bytes<F: FnMut(&[u8], &T)>(&self, probe: &[u8], f: &mut F)
+        requires callable { CanMatch F.FnMut f.old (matches probe.now self.now.pairs) }
+        ensures callable { F.IsAlwaysCallable f.old → F.IsAlwaysCallable f.new }
+        ensures calls { MatchesEach F.FnMut f.old (matches probe.now self.now.pairs) f.new }
+    {
+        self.routes.prefix_match_for_each_by_ref_bytes(probe, f)
+    }
+
+    /// Calls `f` as [`covering_for_each_by_ref_bytes`](Self::covering_for_each_by_ref_bytes) does, and drops it.
+    pub fn covering_for_each_bytes<F: FnMut(&[u8], &T) + Drop>(&self, probe: &[u8], f: F)
+        requires callable { CanMatch F.FnMut f (matches probe.now self.now.pairs) }
+        ensures { MatchedEach F.FnMut f (matches probe.now self.now.pairs) }
+    {
+        self.routes.prefix_match_for_each_bytes(probe, f)
+    }
+
     /// Calls `f` with each route whose prefix begins `probe`, the shortest first. The prefix is borrowed from the
     /// probe: its first bytes, nothing is copied. Allocates nothing.
     pub fn covering_for_each_by_ref<F: FnMut(&[u8], &T)>(&self, probe: &K, f: &mut F)

@@ -1,15 +1,16 @@
 use Rattle.std.proofs.Common.{◌∙◌, ◌++◌, ◌∷◌, []}
 use Rattle.std.specs.Vec.Iter.{into_iter_steps}
 use Rattle.std.proofs.iter.Next.{Yields-more}
-use Rattle.rart.proofs.BulkLawLemmas.{one-refused, put-more, vec-begun}
+use Rattle.rart.proofs.BulkLawLemmas.{one-refused, vec-begun}
+use Rattle.rart.proofs.ExtensionLemmas.{put-more}
 use Rattle.rart.proofs.laws.bulk_loads.inserted.Goals as goal
 
 pub loop-key-preserved-in-Ok : goal.loop-key-preserved-in-Ok
-loop-key-preserved-in-Ok g c = put-more g.K.KeyTrait.bytes c.loop-key.yielded (c.in-Some.key, c.in-Some.value) _ _
+loop-key-preserved-in-Ok g c = put-more g.K.KeyTrait.bytes c.loop-key.yielded (c.in-Some.key, c.in-Some.value) [] _ _
     c.loop-key.invariant c.in-Ok.ensures.inserts.2
 
 pub loop-key-preserved : goal.loop-key-preserved
-loop-key-preserved g c = put-more g.K.KeyTrait.bytes c.loop-key.yielded (c.in-Some.key, c.in-Some.value) _ _
+loop-key-preserved g c = put-more g.K.KeyTrait.bytes c.loop-key.yielded (c.in-Some.key, c.in-Some.value) [] _ _
     c.loop-key.invariant c.in-Ok.ensures.inserts.2
 
 pub returns-in-Err-clause-refused : goal.returns-in-Err-clause-refused

@@ -2,7 +2,7 @@ use Rattle.std.proofs.Common.{◌≡◌, ◌∙◌, ap, sym, refl, arith, is_som
 use Rattle.std.specs.Fn.{FnOnceReturnsAtMut}
 use Rattle.rart_keys.specs.SortedMap.{lookup}
 use Rattle.rart_nodes.specs.tries.Tree.{tree_pairs}
-use Rattle.rart_nodes.specs.updates.Slots.{slot_of}
+use Rattle.rart_nodes.specs.edits.Slots.{slot_of}
 use Rattle.rart.specs.MapAndShape.{MapAndShape}
 use Rattle.rart.specs.declared.tree.TheConstants.{MAX_PAIRS}
 use Rattle.rart.proofs.UpdateLemmas.{ends-in}
@@ -53,6 +53,7 @@ returns-clause-update g c =
     ] in
     let ends = ends-in (nat_eq c.self.inside.len MAX_PAIRS) c.as_ref-bytes.result.now e.0 e.1
     (tree_pairs c.self.inside.root) c.update-outcome.result.0 (tree_pairs c.update-outcome.new.root)
-    (ap (λ n. nat_eq n MAX_PAIRS) c.self.invariant.1) (omega (arith, c.self.invariant.1, c.self.invariant.2)) stays
+    (ap (λ n. nat_eq n MAX_PAIRS) c.self.invariant.counted)
+    (omega (arith, c.self.invariant.counted, c.self.invariant.few)) stays
     e.3 in
     (e.0, e.1, shown, rw (pairs, ← c.self.view_is, ← c.as_ref-bytes.ensures) ends)
