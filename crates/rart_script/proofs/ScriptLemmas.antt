@@ -1,18 +1,18 @@
 -- The number of a text's first malformed line.
 use Rattle.std.proofs.Common.{◌≡◌, ℕ, ◌+◌, ◌<◌, true, false, cond, List, [], length, get_or, Option, Some, None, ap}
-use Rattle.std.proofs.Common.{arith, sym, ◌∙◌, zero-add, not, below_more}
+use Rattle.std.proofs.Common.{arith, sym, ◌∙◌, not, below_more}
 use Rattle.std.specs.Prelude.{nat_lt}
 use Rattle.std.specs.Option.{option_map, is_some}
-use Rattle.std.proofs.lemmas.List.FromFn.{get_or-enumerate_from, length-enumerate_from}
+use Rattle.std.proofs.lemmas.List.FromFn.{length-enumerate_from}
 use Rattle.rart.specs.declared.script.call.Call.{Call}
 use Rattle.rart_script.specs.Command.{command_of}
-use Rattle.rart_script.specs.Words.{words_of}
+use Rattle.rart_lines.specs.Words.{words_of}
 use Rattle.std.specs.List.{position_or_len, enumerate_from}
 use Rattle.std.proofs.lemmas.List.Sums.{position_or_len_is}
-use Rattle.std.proofs.lemmas.List.{get_or_default}
 use Rattle.std.proofs.lemmas.Bool.Decides.{nat_tests}
+use Rattle.rart_lines.proofs.RunLemmas.{IsNext, is_line}
 use Rattle.rart_script.specs.Script.{is_malformed, bad_line}
-use Rattle.rart_script.specs.Lines.{lines_of}
+use Rattle.rart_lines.specs.Lines.{lines_of}
 
 -- each of the first n lines is a command
 abbrev pub AreCommands : List ℕ → ℕ → Type 0
@@ -35,27 +35,6 @@ bad_line_some text n l before here =
     = grind (arith, nat_tests) in
     ap (λ b. option_map (λ index. index + 1) (cond b (Some (position_or_len is_malformed (lines_of text))) None)) t
     ∙ ap (λ m. Some (m + 1)) p
-
--- the line of this number is the next, and there is one
-abbrev pub IsNext : List ℕ → ℕ → ℕ → List ℕ → Type 0
-IsNext text n index line = let all = enumerate_from 0 (lines_of text) in (n < length all)
-    × ((index, line) ≡ get_or all n (index, line))
-
-pub record IsLine (text : List ℕ) (n index : ℕ) (line : List ℕ) : Type 0 where
-  pub below : n < length (lines_of text)
-  pub number : index ≡ n
-  pub here : line ≡ get_or (lines_of text) n []
-
-pub is_line : (text : List ℕ) (n index : ℕ) (line : List ℕ) → IsNext text n index line → IsLine text n index line
-is_line text n index line h =
-    let below : n < length (lines_of text) = omega (arith, length-enumerate_from 0 (lines_of text), h.0) in
-    let e : (index, line) ≡ (0 + n, get_or (lines_of text) n line)
-    = h.1 ∙ get_or-enumerate_from 0 (lines_of text) n (index, line) below in
-    record {
-      below = below;
-      number = ap (λ (p : ℕ × List ℕ). p.0) e ∙ zero-add n;
-      here = ap (λ (p : ℕ × List ℕ). p.1) e ∙ get_or_default (lines_of text) n line [] below;
-    }
 
 pub bad_line-at_next : (text : List ℕ) (n index : ℕ) (line : List ℕ) → IsNext text n index line → AreCommands text n
     → command_of (words_of line) ≡ None → bad_line text ≡ Some (index + 1)

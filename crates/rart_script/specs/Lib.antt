@@ -1,9 +1,7 @@
 pub mod Answers
 pub mod Command
 pub mod Key
-pub mod Lines
 pub mod Script
 pub mod Statistics
 pub mod Stop
 pub mod Value
-pub mod Words

@@ -4,12 +4,12 @@ ghost use Rattle.std.specs.Option.{option_map};
 ghost use Rattle.rart_keys.specs.ArrayKeyBytes.{array_key_bytes};
 ghost use Rattle.rart_script.specs.Command.{asked_by, call_in, call_of, command_of, complete_of, insert_of};
 ghost use Rattle.rart_script.specs.Command.{only_key_of, range_of};
-ghost use Rattle.rart_script.specs.Words.{words_of};
+ghost use Rattle.rart_lines.specs.Words.{words_of};
 
 use crate::key::{Key, parse_key};
 use crate::value::parse_value;
-use crate::words::next_word;
 use rart::script::Call;
+use rart_lines::next_word;
 use std::ops::Bound;
 
 /// The command of a line.

@@ -4,12 +4,10 @@
 mod answers;
 mod command;
 mod key;
-mod lines;
 mod script;
 mod statistics;
 mod stop;
 mod value;
-mod words;
 
 use std::io::BufWriter;
 use std::process::ExitCode;

@@ -1,5 +1,5 @@
 //! Scripts: texts with one command on each line.
-ghost use Rattle.std.specs.Prelude.{◌≡◌, ◌≢◌, ◌≤◌, ◌+◌, ℕ, List, None, Some, IfSome, IsSomeAnd, IfOk, IfErr, OnOk};
+ghost use Rattle.std.specs.Prelude.{◌≡◌, ◌≢◌, ◌≤◌, ◌+◌, ℕ, List, None, Some, IfSome, IsSomeAnd, IfErr, OnOk};
 ghost use Rattle.std.specs.Prelude.{MatchResult};
 ghost use Rattle.std.specs.Io.KnownBytes.{Appends};
 ghost use Rattle.rart_script.specs.Answers.{PrintsReply};
@@ -9,10 +9,10 @@ ghost use Rattle.rart_script.specs.Stop.{IsSaid};
 use crate::answers::write_reply;
 use crate::command::{Command, parse_command};
 use crate::key::Key;
-use crate::lines::Lines;
 use crate::stop::Stop;
 use rart::AdaptiveRadixTree;
 use rart::script::step;
+use rart_lines::{Lines, read_all};
 use std::alloc::Global;
 use std::io;
 use std::io::{Read, Write};
@@ -61,24 +61,14 @@ fn run<R: Read, W: Write>(alloc: Global, input: &mut R, output: &mut W) -> Resul
     ensures answers { IfSome (R.remaining input.old)
         (λ text. Prints text result (W.contents output.old) (W.contents output.new)) }
 {
-    let text = read_all(alloc, input)?;
+    let Ok(text) = read_all(alloc, input) else {
+        return Err(Stop::CannotRead);
+    };
     let ended = run_text(alloc, text.as_slice(), output);
     // The answers are written out first, whatever is said after them.
     match output.flush() {
         Ok(()) => ended,
         Err(_) => Err(Stop::CannotWrite),
-    }
-}
-
-fn read_all<R: Read>(alloc: Global, input: &mut R) -> Result<Vec<u8>, Stop>
-    ensures all { IfOk result
-        (λ text. IfSome (R.remaining input.old) (λ bytes. text.items ≡ bytes)) }
-    ensures err { IfErr result (λ stop. stop ≡ Stop.CannotRead) }
-{
-    let mut text = Vec::new(alloc);
-    match input.read_to_end(&mut text) {
-        Ok(_) => Ok(text),
-        Err(_) => Err(Stop::CannotRead),
     }
 }
 

@@ -3,7 +3,7 @@ use Rattle.std.specs.Prelude.{codes}
 use Rattle.std.specs.Io.KnownBytes.{Appends}
 use Rattle.std.proofs.lemmas.Result.{on_ok_weaker}
 use Rattle.rart_script.specs.Answers.{pair_word}
-use Rattle.rart_script.proofs.RunLemmas.{Appends-both}
+use Rattle.rart_lines.proofs.RunLemmas.{Appends-both}
 use Rattle.rart_script.proofs.answers.write_found.Goals as goal
 
 pub returns : goal.returns

@@ -2,7 +2,8 @@ use Rattle.std.specs.Vec.Iter.{into_iter_items}
 use Rattle.rart.specs.Steps.{pairs_in}
 use Rattle.rart_keys.specs.ArrayKeyBytes.{array_key_bytes}
 use Rattle.rart_script.specs.Answers.{pairs_line}
-use Rattle.rart_script.proofs.PrintLemmas.{HasPrinted, further_pairs}
+use Rattle.rart_lines.proofs.PrintLemmas.{HasPrinted}
+use Rattle.rart_script.proofs.PrintLemmas.{further_pairs}
 use Rattle.rart_script.proofs.answers.write_pairs.Given as goal
 
 abbrev pub invariant-loop-key : goal.invariant-loop-key

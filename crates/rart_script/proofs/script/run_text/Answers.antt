@@ -1,11 +1,12 @@
-use Rattle.std.proofs.Common.{◌≡◌, ap, sym, ◌∙◌, subst}
+use Rattle.std.proofs.Common.{◌≡◌, [], ap, sym, ◌∙◌, subst}
 use Rattle.std.specs.Option.{option_map}
 use Rattle.std.proofs.lemmas.List.{length_push}
 use Rattle.std.proofs.lemmas.Iterator.Consumers.{YieldsList-from_first, YieldsList-from_enumerate, YieldsList-turn}
 use Rattle.std.proofs.lemmas.Iterator.Consumers.{YieldsList-end}
 use Rattle.rart_script.specs.Command.{asked_by}
-use Rattle.rart_script.specs.Lines.{lines_of, lines_left}
-use Rattle.rart_script.proofs.RunLemmas.{HasPrintedLines, lines-go_on}
+use Rattle.rart_lines.specs.Lines.{lines_of, lines_left}
+use Rattle.rart_lines.proofs.RunLemmas.{HasRun, lines-go_on}
+use Rattle.rart_script.specs.Script.{IsAnswered}
 use Rattle.rart_script.proofs.ScriptLemmas.{AreCommands, bad_line-at_next, AreCommands-next, bad_line-at_end}
 use Rattle.rart_script.proofs.script.run_text.Goals as goal
 
@@ -30,11 +31,12 @@ loop-index-preserved g c =
     record {
       commands = subst (AreCommands c.args.text.now) (sym (length_push c.loop-index.yielded _))
           (AreCommands-next c.args.text.now _ _ _ _ turn c.loop-index.invariant.commands is);
-      ran = subst (λ n. HasPrintedLines c.args.text.now n c.execute.new.tree.pairs
+      ran = subst (λ n. HasRun IsAnswered [] c.args.text.now n c.execute.new.tree.pairs
           (g.W.Write.contents c.args.output.now) (g.W.Write.contents c.execute.new.output))
           (sym (length_push c.loop-index.yielded _))
-          (lines-go_on c.args.text.now _ _ _ c.in-Some-parse_command.command _ _ c.in-Ok.ensures.0 _ _ _ turn is
-          c.loop-index.invariant.ran c.in-Ok.ensures.1 c.in-Ok.ensures.2);
+          (lines-go_on IsAnswered [] c.args.text.now _ _ _ _ _ c.in-Ok.ensures.0 _ _ _ turn c.loop-index.invariant.ran
+          (record { command = c.in-Some-parse_command.command; is_command = is; step = c.in-Ok.ensures.1 })
+          c.in-Ok.ensures.2);
     }
 
 pub returns-clause-lines : goal.returns-clause-lines

@@ -1,6 +1,7 @@
 use Rattle.rart_nodes.specs.statistics.Statistics.{stats_in}
 use Rattle.rart_script.specs.Statistics.{stats_line}
-use Rattle.rart_script.proofs.PrintLemmas.{HasPrinted, further_widths}
+use Rattle.rart_lines.proofs.PrintLemmas.{HasPrinted}
+use Rattle.rart_script.proofs.PrintLemmas.{further_widths}
 use Rattle.rart_script.proofs.statistics.write_statistics.Given as goal
 
 abbrev pub invariant-loop-width : goal.invariant-loop-width

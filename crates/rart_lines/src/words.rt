@@ -1,6 +1,6 @@
 //! The words of a line.
 ghost use Rattle.std.specs.Prelude.{◌≡◌, ◌≤◌, [], ◌∷◌, length, MatchOption};
-ghost use Rattle.rart_script.specs.Words.{is_separator, words_of, gap_len, word_len};
+ghost use Rattle.rart_lines.specs.Words.{is_separator, words_of, gap_len, word_len};
 
 /// Returns whether a byte separates words: a space, a tab or a carriage return.
 fn is_separator(byte: u8) -> bool

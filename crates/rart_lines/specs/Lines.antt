@@ -1,7 +1,7 @@
 -- The lines of a text.
 use Rattle.std.specs.Prelude.{ℕ, ◌==◌, List, [], None, Some}
 use Rattle.std.specs.List.{slice_split}
-use Rattle.rart_script.specs.declared.lines.Lines.{Lines}
+use Rattle.rart_lines.specs.declared.lines.Lines.{Lines}
 
 -- the parts of a text between its newlines
 abbrev pub lines_of : List ℕ → List (List ℕ)

@@ -8,7 +8,7 @@ use Rattle.std.proofs.lemmas.List.Elements.{All-from_get_or}
 use Rattle.std.proofs.lemmas.List.Splits.{slice_split_first, slice_split_none, length-slice_split}
 use Rattle.std.proofs.lemmas.List.Sums.{fails_before_first, count_by-le-length}
 use Rattle.std.proofs.lemmas.Bool.Decides.{nat_tests}
-use Rattle.rart_script.specs.Lines.{lines_of}
+use Rattle.rart_lines.specs.Lines.{lines_of}
 
 abbrev is_newline : ℕ → Bool
 is_newline b = b == 10

@@ -4,7 +4,7 @@ use Rattle.std.proofs.Common.{◌∙◌, subst}
 use Rattle.std.specs.Prelude.{filter}
 use Rattle.std.specs.List.{slice_split}
 use Rattle.std.proofs.Math.Numerals.{one-add}
-use Rattle.rart_script.specs.Words.{is_separator, is_nonempty, words_of, word_len, gap_len}
+use Rattle.rart_lines.specs.Words.{is_separator, is_nonempty, words_of, word_len, gap_len}
 
 -- the parts that are not empty
 abbrev pub nonempty : List (List ℕ) → List (List ℕ)

@@ -1,6 +1,6 @@
 use Rattle.std.proofs.Common.{rules, ◌≡◌, Some, sym}
-use Rattle.rart_script.proofs.LineLemmas.{first_line, only_line}
-use Rattle.rart_script.proofs.lines.LinesIterator.next.Goals as goal
+use Rattle.rart_lines.proofs.LineLemmas.{first_line, only_line}
+use Rattle.rart_lines.proofs.lines.LinesIterator.next.Goals as goal
 
 pub returns-in-Some-clause-steps : goal.returns-in-Some-clause-steps
 returns-in-Some-clause-steps c =

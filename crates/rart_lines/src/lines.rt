@@ -9,7 +9,7 @@ pub struct Lines<'a> {
 }
 
 impl<'a> Lines<'a> {
-    ghost use Rattle.rart_script.specs.Lines.{lines_of, lines_left};
+    ghost use Rattle.rart_lines.specs.Lines.{lines_of, lines_left};
 
     /// Returns the lines of `text`. A text that ends in a newline has an empty last line.
     pub fn new(text: &'a [u8]) -> Self
@@ -23,7 +23,7 @@ impl<'a> Lines<'a> {
 
 impl<'a> Iterator for Lines<'a> {
     ghost use Rattle.std.specs.Iterator.{YieldsFirstBy, item_count};
-    ghost use Rattle.rart_script.specs.Lines.{lines_left};
+    ghost use Rattle.rart_lines.specs.Lines.{lines_left};
 
     type Item = &'a [u8];
 

@@ -1,9 +1,9 @@
 use Rattle.std.proofs.Common.{arith, ◌≡◌, length, drop, subst, sym, ◌∙◌, ap}
 use Rattle.std.proofs.lemmas.Bool.{eqb-true, eqb-false}
 use Rattle.std.proofs.lemmas.List.{take_rest}
-use Rattle.rart_script.specs.Words.{gap_len}
-use Rattle.rart_script.proofs.WordLemmas.{Begins, begins}
-use Rattle.rart_script.proofs.words.next_word.Goals as goal
+use Rattle.rart_lines.specs.Words.{gap_len}
+use Rattle.rart_lines.proofs.WordLemmas.{Begins, begins}
+use Rattle.rart_lines.proofs.words.next_word.Goals as goal
 
 pub returns-then-is_empty : goal.returns-then-is_empty
 returns-then-is_empty c =
