@@ -39,7 +39,7 @@ pub byte-number : (x : ℕ) → x < 256 → number_after 0 (byte_bits x) ≡ x
 unfolding holds_below number_after
 byte-number x h = eqb-true _ _ (holds_at (λ y. number_after 0 (byte_bits y) == y) 256 x refl h)
 
-code-number : (c : ℕ) → 1 ≤ c → c < 256 → number_after 1 (code_bits c) ≡ c
+pub code-number : (c : ℕ) → 1 ≤ c → c < 256 → number_after 1 (code_bits c) ≡ c
 unfolding holds_below number_after
 code-number zero l h = absurd (omega arith)
 code-number (suc c) l h = eqb-true _ _ (holds_at (λ y. number_after 1 (code_bits (suc y)) == suc y) 255 c refl
@@ -63,7 +63,7 @@ byte-alike x y l m f g e = (
   ap (drop 8) e,
 )
 
-code-short : (c : ℕ) → c < 256 → length (code_bits c) < 8
+pub code-short : (c : ℕ) → c < 256 → length (code_bits c) < 8
 unfolding holds_below
 code-short c h = ltb-true _ _ (holds_at (λ y. ltb (length (code_bits y)) 8) 256 c refl h)
 
@@ -83,7 +83,7 @@ codes-alike (x ∷ o) (y ∷ p) (c ∷ []) (d ∷ []) f g i j e =
     let after = codes-alike o p (c ∷ []) (d ∷ []) (λ n. f (suc n)) (λ n. g (suc n)) i j first.1 in
     let heads : x ≡ y = first.0 in let tails : o ≡ p = after.0 in ((cc), after.1)
 
-code-is : (x r : ℕ) → x < 256 → holds_below (λ y. bytes_eq (take r (byte_bits y)) (code_bits (code y r))) 256 ≡ true
+pub code-is : (x r : ℕ) → x < 256 → holds_below (λ y. bytes_eq (take r (byte_bits y)) (code_bits (code y r))) 256 ≡ true
     → take r (byte_bits x) ≡ code_bits (code x r)
 code-is x r h t = same_bytes _ _ (holds_at (λ y. bytes_eq (take r (byte_bits y)) (code_bits (code y r))) 256 x t h)
 

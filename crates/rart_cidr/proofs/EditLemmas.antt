@@ -15,6 +15,7 @@ use Rattle.rart.specs.Refusals.{MayRefuseInsert}
 use Rattle.rart.specs.declared.tree.TheConstants.{MAX_PAIRS}
 use Rattle.rart_cidr.specs.Bits.{code, network}
 use Rattle.rart_cidr.specs.Edits.{MayRefuseRoute, MayRefuseTarget, PutsIn, PutsTarget, TakesFrom, TakesTarget}
+use Rattle.rart_cidr.specs.Fields.{AreTableFields}
 use Rattle.rart_cidr.specs.Routes.{AreStrides, routes_of, set_stride, stride_at, stride_or_empty}
 use Rattle.rart_cidr.proofs.BitLemmas.{code-in_range, network-coded}
 use Rattle.rart_cidr.proofs.RouteLemmas.{routes-ascend, same_or_not}
@@ -234,25 +235,24 @@ module _ {T : Type 0} where
       → q ≡ take (n / 8) o → x ≡ slice_index o (n / 8) → c ≡ code x (n % 8) → PutsTarget q (c ∷ []) t S R (Ok was)
       → was ≡ None →
       routes_of S ≡ v → len ≡ length (routes_of S) → len ≤ MAX_PAIRS
-      → ((length v ≡ MAX_PAIRS) × (lookup (network o n) v ≡ None) → ⊥) → AreStrides R
-      × (len + 1 ≡ length (routes_of R)) × (len + 1 ≤ MAX_PAIRS)
+      → ((length v ≡ MAX_PAIRS) × (lookup (network o n) v ≡ None) → ⊥) → AreTableFields R (len + 1)
   new-route S R o n q x c t was v len a b f h e ex ec p w vs l m room = let i
-      = inserted S R o n q x c t was a b f h e ex ec p in (
-        i.0,
-        omega (arith, l, i.3, ap count_of w),
-        ⊎_elim
+      = inserted S R o n q x c t was a b f h e ex ec p in record {
+        formed = i.0;
+        counted = omega (arith, l, i.3, ap count_of w);
+        few = ⊎_elim
             (λ g. omega (arith, g))
             (λ g. absurd (room (ap length (sym vs) ∙ sym l ∙ g, ap (lookup (network o n)) (sym vs) ∙ sym i.1 ∙ w)))
-            (less_or_equal len MAX_PAIRS m),
-      )
+            (less_or_equal len MAX_PAIRS m);
+      }
 
   pub old-route : (S R : List (List ℕ × List (List ℕ × T))) (o : List ℕ) (n : ℕ) (q : List ℕ) (x c : ℕ) (t u : T)
       (was : Option T) (len : ℕ) → IsAscending S → AreStrides S → AreBytes o → n ≤ 8 * length o → q ≡ take (n / 8) o
       → x ≡ slice_index o (n / 8) → c ≡ code x (n % 8) → PutsTarget q (c ∷ []) t S R (Ok was) → was ≡ Some u →
-      len ≡ length (routes_of S) → len ≤ MAX_PAIRS → AreStrides R × (len ≡ length (routes_of R)) × (len ≤ MAX_PAIRS)
+      len ≡ length (routes_of S) → len ≤ MAX_PAIRS → AreTableFields R len
   old-route S R o n q x c t u was len a b f h e ex ec p w l m = let i
       = inserted S R o n q x c t was a b f h e ex ec p in
-      (i.0, omega (arith, l, i.3, ap count_of w), m)
+      record { formed = i.0; counted = omega (arith, l, i.3, ap count_of w); few = m }
 
   pub inserted-answer : (S R : List (List ℕ × List (List ℕ × T))) (o : List ℕ) (n : ℕ) (q : List ℕ) (x c : ℕ) (t : T)
       (was : Option T) (v : List (List ℕ × T)) → IsAscending S → AreStrides S → AreBytes o → n ≤ 8 * length o

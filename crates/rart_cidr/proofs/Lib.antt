@@ -1,10 +1,17 @@
+mod AheadLemmas
 mod BitLemmas
+mod CodeLemmas
 mod EditLemmas
+mod FilterLemmas
 mod LoanLemmas
 mod LongestLemmas
 mod MatchLemmas
 mod NetworkLemmas
+mod NextLemmas
 mod OrderLemmas
+mod PlaceLemmas
 mod RouteLemmas
+mod StartLemmas
 mod StrideLemmas
 mod TextLemmas
+mod WidthLemmas

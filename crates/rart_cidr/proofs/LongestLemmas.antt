@@ -1,17 +1,18 @@
 -- The longest match of an address, by what the strides on its way hold.
-use Rattle.std.proofs.Common.{◌≡◌, ℕ, zero, suc, ◌+◌, ◌*◌, ◌/◌, ◌%◌, ◌<◌, ◌≤◌, ◌==◌, ◌⊎◌, ⊎_elim, inl, inr, length}
-use Rattle.std.proofs.Common.{take, arith, List, [], ◌∷◌, true, false, refl, sym, ap, ◌∙◌, Option, Some, None, eq-eqb}
-use Rattle.std.proofs.Common.{eqb-true}
+use Rattle.std.proofs.Common.{◌≡◌, ℕ, zero, suc, ◌+◌, ◌-◌, ◌*◌, ◌/◌, ◌%◌, ◌<◌, ◌≤◌, ◌==◌, ◌⊎◌, ⊎_elim, inl, inr, length}
+use Rattle.std.proofs.Common.{take, arith, List, [], ◌∷◌, true, false, refl, sym, ap, subst, ◌∙◌, Option, Some, None}
+use Rattle.std.proofs.Common.{eq-eqb, eqb-true}
 use Rattle.std.specs.Prelude.{IfSome, option_map, slice_index}
 use Rattle.std.proofs.Math.Seq.{take-length}
 use Rattle.std.proofs.lemmas.List.{length-take-le}
 use Rattle.rart_keys.specs.ByteStrings.{begins}
 use Rattle.rart_keys.specs.Filters.{longest_match}
 use Rattle.rart_keys.specs.KeyBytes.{AreBytes}
+use Rattle.rart_keys.specs.LongestMatches.{HasNoLonger, IsLongest}
 use Rattle.rart_keys.specs.SortedMap.{IsAscending, lookup}
-use Rattle.rart_keys.proofs.LongestStored.{longest-stored, stored-longest}
+use Rattle.rart_keys.proofs.LongestStored.{longest-stored, no-match, stored-longest}
 use Rattle.rart_cidr.specs.Bits.{bits_of, code, network}
-use Rattle.rart_cidr.specs.Longest.{HasNoneAfter, HasNoneFrom, IsLongestAfter}
+use Rattle.rart_cidr.specs.Longest.{HasNoneAfter, HasNoneFrom, IsLastStride, IsLongestAfter, nodes_to}
 use Rattle.rart_cidr.specs.Routes.{AreStrides, IsLongestIn, in_stride, routes_of, stride_at, stride_or_empty}
 use Rattle.rart_cidr.proofs.BitLemmas.{length-bits}
 use Rattle.rart_cidr.proofs.StrideLemmas.{lookup-network}
@@ -38,6 +39,9 @@ taken-network (suc n) zero l h = absurd (omega arith)
 taken-network (suc n) (suc w) [] h = refl
 taken-network (suc n) (suc w) (x ∷ l) h = ap (λ z. x ∷ z) (taken-network n w l (omega arith))
 
+way-begins : (o : List ℕ) (k at : ℕ) → k ≤ at → begins (take k o) (take at o) ≡ true
+way-begins o k at h = subst (λ z. begins z (take at o) ≡ true) (taken-network k at o h) (begins-take k (take at o))
+
 -- all bits of some octets
 pub network-all : (o : List ℕ) → network o (8 * length o) ≡ bits_of o
 network-all o = ap (λ n. take n (bits_of o)) (sym (length-bits o)) ∙ take-length (bits_of o)
@@ -47,6 +51,16 @@ less_or_not zero zero = inr (omega arith)
 less_or_not zero (suc n) = inl (omega arith)
 less_or_not (suc m) zero = inr (omega arith)
 less_or_not (suc m) (suc n) = ⊎_elim (λ h. inl (omega arith)) (λ h. inr (omega arith)) (less_or_not m n)
+
+-- look-ups of one number of octets less
+pub nodes_to-fewer : (n : ℕ) → 0 < n → nodes_to n ≡ nodes_to (n - 1) + n
+nodes_to-fewer zero h = absurd (omega arith)
+nodes_to-fewer (suc n) h = let last : suc n - 1 ≡ n = omega arith in omega (arith, ap nodes_to last)
+
+pub nodes_to-more : (m n : ℕ) → m ≤ n → nodes_to m ≤ nodes_to n
+nodes_to-more zero n h = omega arith
+nodes_to-more (suc m) zero h = absurd (omega arith)
+nodes_to-more (suc m) (suc n) h = omega (arith, nodes_to-more m n (omega arith))
 
 module _ {T : Type 0} where
   -- a network that ends within the octet at `at` is looked up in the stride there
@@ -95,13 +109,55 @@ module _ {T : Type 0} where
             ∙ p.2 (n % 8) (omega (arith, g, e)) (few n e l),
       )
 
-  -- one octet more without a network
-  pub none_from : (v : List (List ℕ × T)) (o : List ℕ) (w at low : ℕ) → low ≤ 8 * at + 8 → HasNoneAfter v o w at
-      → HasNoneFrom v o w low → HasNoneFrom v o w (8 * at)
-  none_from v o w at low b h i = λ n l m. ⊎_elim
-      (λ g. h n (omega (arith, l, g)) m)
-      (λ g. i n (omega (arith, g, b)) m)
-      (less_or_not n (8 * at + 8))
+  -- a longer beginning of the way has no stride
+  no-longer : (S : List (List ℕ × List (List ℕ × T))) (o : List ℕ) (w at count k : ℕ) → IsAscending S → AreStrides S
+      → AreBytes o → w ≤ 8 * length o → at ≤ length o → count ≤ at → HasNoLonger (take count o) (take at o) S
+      → count < k → k ≤ at → HasNoneAfter (routes_of S) o w k
+  no-longer S o w at count k a b f g room fits none more within = no_stride S o (take k o) w k a b f g refl
+      (elim (lookup (take k o) S) as (λ s. lookup (take k o) S ≡ s → None ≡ s) [
+        | None ↦ λ e. refl
+        | Some s ↦ λ e. absurd (let stored = none (take k o) (λ m. let c = sym e ∙ m in cc)
+            (way-begins o k at within) in
+            omega (
+              arith,
+              stored,
+              more,
+              length-take-le k o (omega (arith, within, room)),
+              length-take-le count o (omega (arith, fits, room)),
+            ))
+      ] refl)
+
+  -- the last stride on the way, or none
+  pub last-none : (S : List (List ℕ × List (List ℕ × T))) (o q : List ℕ) (w at : ℕ) → IsAscending S → AreStrides S
+      → AreBytes o → w ≤ 8 * length o → q ≡ take at o → None ≡ longest_match q S
+      → IsLastStride (routes_of S) o w at None
+  last-none S o q w at a b f g is none = λ k within. no_stride S o (take k o) w k a b f g refl
+      (sym (no-match (take at o) S (ap (λ z. longest_match z S) (sym is) ∙ sym none) (take k o)
+      (way-begins o k at within)))
+
+  pub last-some : (S : List (List ℕ × List (List ℕ × T))) (o q : List ℕ) (w at count : ℕ) (s : List (List ℕ × T))
+      (r : Option (ℕ × T)) → IsAscending S → AreStrides S → AreBytes o → w ≤ 8 * length o → at ≤ length o
+      → q ≡ take at o → count ≤ length q → Some (take count q, s) ≡ longest_match q S
+      → (Some s ≡ lookup (take count o) S → IsLongestAfter (routes_of S) o w count r)
+      → IsLastStride (routes_of S) o w at (Some (count, r))
+  last-some S o q w at count s r a b f g room is within found after =
+      let fits : count ≤ at = omega (arith, within, ap length is, length-take-le at o room) in
+      let way : take count q ≡ take count o = ap (take count) is ∙ taken-network count at o fits in
+      let longest : IsLongest (take count o) s (take at o) S = longest-stored (take count o) (take at o) s S a
+      (ap (λ z. longest_match z S) (sym is) ∙ sym found ∙ ap (λ z. Some (z, s)) way) in (
+        fits,
+        after (sym longest.0),
+        λ k more l. no-longer S o w at count k a b f g room fits longest.2 more l,
+      )
+
+  -- octets without a network before those that have none
+  pub none-before : (v : List (List ℕ × T)) (o : List ℕ) (w low up : ℕ)
+      → ((k : ℕ) → low ≤ k → k < up → HasNoneAfter v o w k) → HasNoneFrom v o w (8 * up)
+      → HasNoneFrom v o w (8 * low)
+  none-before v o w low up h i = λ n l m. ⊎_elim
+      (λ g. h (n / 8) (omega (arith, l)) g n refl m)
+      (λ g. i n (omega (arith, g)) m)
+      (less_or_not (n / 8) up)
 
   -- a stored network that begins the first w bits is the first bits of the octets
   stored-begins : (v : List (List ℕ × T)) (o k : List ℕ) (w : ℕ) → w ≤ 8 * length o → begins k (network o w) ≡ true

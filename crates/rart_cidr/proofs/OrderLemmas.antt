@@ -9,7 +9,7 @@ use Rattle.rart_keys.proofs.ByteOrder.{cmp-itself, is_equal, is_greater, is_less
 use Rattle.rart_cidr.specs.Bits.{AreClearAfter, bits_of, byte_bits, network}
 use Rattle.rart_cidr.proofs.BitLemmas.{byte-number, length-bits, number_after}
 
-AreBits : List ℕ → Type 0
+unfoldable pub AreBits : List ℕ → Type 0
 AreBits [] = Unit {0}
 AreBits (b ∷ l) = (b < 2) × AreBits l
 
@@ -19,7 +19,8 @@ then-then Equal b c = refl
 then-then Greater b c = refl
 
 -- bits after a smaller number are a smaller number
-smaller-before : (m n : ℕ) (p q : List ℕ) → AreBits p → length p ≡ length q → m < n → number_after m p < number_after n q
+smaller-before : (m n : ℕ) (p q : List ℕ) → AreBits p → length p ≡ length q → m < n
+    → number_after m p < number_after n q
 unfolding AreBits number_after
 smaller-before m n [] [] f e h = h
 smaller-before m n [] (y ∷ q) f e h = absurd (omega (arith, e))
@@ -58,7 +59,7 @@ number-greater m (x ∷ p) (y ∷ q) a b f g e h = ⊎_elim
     (λ l. rw (is_greater x y l) refl))
     (order x y)
 
-are-bits : (x : ℕ) → AreBits (byte_bits x)
+pub are-bits : (x : ℕ) → AreBits (byte_bits x)
 unfolding AreBits
 are-bits x = (
   omega arith,
@@ -83,7 +84,7 @@ are-bits x = (
   ),
 )
 
-same-before : (p a b : List ℕ) → slice_cmp nat_cmp (p ++ a) (p ++ b) ≡ slice_cmp nat_cmp a b
+pub same-before : (p a b : List ℕ) → slice_cmp nat_cmp (p ++ a) (p ++ b) ≡ slice_cmp nat_cmp a b
 same-before [] a b = refl
 same-before (x ∷ p) a b = rw (is_equal x x refl) (same-before p a b)
 

@@ -20,7 +20,7 @@ same_or_not k l = elim (bytes_eq k l) as (λ b. bytes_eq k l ≡ b → (k ≡ l)
 ] refl
 
 -- a network that bytes and a code make
-IsFormed : List ℕ → Type 0
+unfoldable pub IsFormed : List ℕ → Type 0
 IsFormed q = (o : List ℕ) × (k : List ℕ) × (q ≡ coded_network o k) × AreBytes o × IsCode k
 
 module _ {T : Type 0} where
@@ -80,7 +80,7 @@ module _ {T : Type 0} where
       (lookup-put_elsewhere q (coded_network o e.0) e.1 (with_stride o s r) (λ z. m (sym z))) ∙ h))
       (same_or_not (coded_network o e.0) q)
 
-  routes-formed : (S : List (List ℕ × List (List ℕ × T))) (q : List ℕ) (v : T) → AreStrides S
+  pub routes-formed : (S : List (List ℕ × List (List ℕ × T))) (q : List ℕ) (v : T) → AreStrides S
       → lookup q (routes_of S) ≡ Some v → IsFormed q
   routes-formed [] q v b h = absurd (cc)
   routes-formed (e ∷ S) q v b h = with-formed e.0 q v e.1 (routes_of S) b.0 b.2 (routes-formed S q v b.4) h

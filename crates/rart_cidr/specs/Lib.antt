@@ -1,5 +1,8 @@
+pub mod Advances
 pub mod Bits
+pub mod Codes
 pub mod Edits
+pub mod Fields
 pub mod Loans
 pub mod Longest
 pub mod Matches
@@ -8,3 +11,4 @@ pub mod Networks
 pub mod RouteLoans
 pub mod Routes
 pub mod Texts
+pub mod Walks

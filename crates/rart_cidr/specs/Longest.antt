@@ -1,7 +1,12 @@
 -- Which network is the longest that begins the first bits of some octets, among those that end within one octet.
-use Rattle.std.specs.Prelude.{◌≡◌, ◌<◌, ◌≤◌, ℕ, ◌/◌, List, Option, Some, None}
+use Rattle.std.specs.Prelude.{◌≡◌, ◌<◌, ◌≤◌, ℕ, zero, suc, ◌+◌, ◌/◌, List, Option, Some, None}
 use Rattle.rart_keys.specs.SortedMap.{lookup}
 use Rattle.rart_cidr.specs.Bits.{network}
+
+-- the most nodes that look-ups of less than n octets visit, one look-up of each number of octets
+abbrev pub nodes_to : ℕ → ℕ
+nodes_to zero = 0
+nodes_to (suc n) = nodes_to n + (n + 1)
 
 module _ {T : Type 0} where
   -- no route's network is the first n of `bits` bits of the octets, where n has `at` whole octets
@@ -14,6 +19,12 @@ module _ {T : Type 0} where
   IsLongestAfter routes o bits at (Some p) = (p.0 / 8 ≡ at) × (p.0 ≤ bits)
       × (lookup (network o p.0) routes ≡ Some p.1)
       × ((n : ℕ) → p.0 < n → n / 8 ≡ at → n ≤ bits → lookup (network o n) routes ≡ None)
+
+  -- the last stride on the way of `at` octets has p.0 octets, and p.1 is the longest network in it; or there is none
+  abbrev pub IsLastStride : List (List ℕ × T) → List ℕ → ℕ → ℕ → Option (ℕ × Option (ℕ × T)) → Type 0
+  IsLastStride routes o bits at None = (k : ℕ) → k ≤ at → HasNoneAfter routes o bits k
+  IsLastStride routes o bits at (Some p) = (p.0 ≤ at) × IsLongestAfter routes o bits p.0 p.1
+      × ((k : ℕ) → p.0 < k → k ≤ at → HasNoneAfter routes o bits k)
 
   -- no route's network is the first n of `bits` bits of the octets, where n is `low` or more
   abbrev pub HasNoneFrom : List (List ℕ × T) → List ℕ → ℕ → ℕ → Type 0

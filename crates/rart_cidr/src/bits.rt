@@ -2,6 +2,7 @@
 ghost use Rattle.std.specs.Prelude.{◌≡◌, ◌<◌, ◌≤◌, length};
 ghost use Rattle.rart_keys.specs.KeyBytes.{AreBytes};
 ghost use Rattle.rart_cidr.specs.Bits.{cleared, code, kept};
+ghost use Rattle.rart_cidr.specs.Codes.{byte_of_code, length_of_code, next_code};
 
 /// Returns the code of the first `bits` bits of `byte`: a one, followed by these bits.
 pub fn code_of(byte: u8, bits: usize) -> u8
@@ -18,6 +19,77 @@ pub fn code_of(byte: u8, bits: usize) -> u8
         5 => 32 + byte / 8,
         6 => 64 + byte / 4,
         _ => 128 + byte / 2,
+    }
+}
+
+/// Returns the next code in the order of their bits, or 0 after the last.
+pub fn code_after(code: u8) -> u8
+    ensures { result ≡ next_code code }
+{
+    if code < 128 {
+        2 * code
+    } else if code % 2 == 0 {
+        code + 1
+    } else if code % 4 == 1 {
+        code / 2 + 1
+    } else if code % 8 == 3 {
+        code / 4 + 1
+    } else if code % 16 == 7 {
+        code / 8 + 1
+    } else if code % 32 == 15 {
+        code / 16 + 1
+    } else if code % 64 == 31 {
+        code / 32 + 1
+    } else if code % 128 == 63 {
+        code / 64 + 1
+    } else {
+        0
+    }
+}
+
+/// Returns the number of the bits that `code` stands for.
+pub fn code_len(code: u8) -> u8
+    ensures { result ≡ length_of_code code }
+{
+    if code < 2 {
+        0
+    } else if code < 4 {
+        1
+    } else if code < 8 {
+        2
+    } else if code < 16 {
+        3
+    } else if code < 32 {
+        4
+    } else if code < 64 {
+        5
+    } else if code < 128 {
+        6
+    } else {
+        7
+    }
+}
+
+/// Returns the byte that begins with the bits that `code` stands for, followed by zeros.
+pub fn code_byte(code: u8) -> u8
+    ensures { result ≡ byte_of_code code }
+{
+    if code < 2 {
+        0
+    } else if code < 4 {
+        code % 2 * 128
+    } else if code < 8 {
+        code % 4 * 64
+    } else if code < 16 {
+        code % 8 * 32
+    } else if code < 32 {
+        code % 16 * 16
+    } else if code < 64 {
+        code % 32 * 8
+    } else if code < 128 {
+        code % 64 * 4
+    } else {
+        code % 128 * 2
     }
 }
 

@@ -8,9 +8,10 @@ ghost use Rattle.rart_keys.specs.ArrayKeyBytes.{array_key_bytes};
 ghost use Rattle.rart_keys.specs.SortedMap.{IsAscending, lookup};
 ghost use Rattle.rart.specs.Edits.{Inserts, Removes};
 ghost use Rattle.rart_cidr.specs.Loans.{lends_target};
-ghost use Rattle.rart_cidr.specs.Routes.{IsLongestIn, IsShortestIn};
+ghost use Rattle.rart_cidr.specs.Routes.{IsCode, IsLongestIn, IsShortestIn};
+ghost use Rattle.rart_cidr.specs.Walks.{IsCodeLess, IsNextIn};
 
-use crate::bits::code_of;
+use crate::bits::{code_after, code_of};
 use rart::{AdaptiveRadixTree, ArrayKey, KeyTrait, Refused, TreeError};
 use std::alloc::Global;
 use std::marker::Model;
@@ -144,6 +145,23 @@ impl<T> Stride<T> {
                 return Some((bits, target));
             }
             bits += 1;
+        }
+        None
+    }
+
+    /// Returns the first target after `code`, by the order of the bits, at `last` or before it, and its code.
+    pub fn next(&self, code: u8, last: u8) -> Option<(u8, &T)>
+        requires code { IsCode (code ∷ []) }
+        requires last { IsCode (last ∷ []) }
+        requires order { ¬ (IsCodeLess last code) }
+        ensures { IsNextIn self.now code last (option_map (λ p. (p.0, p.1.now)) result) }
+    {
+        let mut at = code;
+        while at != last {
+            at = code_after(at);
+            if let Some(target) = self.get(at) {
+                return Some((at, target));
+            }
         }
         None
     }

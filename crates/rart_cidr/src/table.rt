@@ -12,6 +12,8 @@ mod by_lengths;
 mod get_mut;
 mod longest;
 mod matches;
+mod next;
+pub(crate) mod walk;
 
 use crate::bits::code_of;
 use crate::stride::Stride;
@@ -31,16 +33,15 @@ pub struct BitTable<K: KeyTrait, T> {
 }
 
 impl<K: KeyTrait, T> Model for BitTable<K, T> {
-    ghost use Rattle.std.specs.Prelude.{◌≡◌, ◌≤◌, ℕ, List, length};
-    ghost use Rattle.rart.specs.declared.tree.TheConstants.{MAX_PAIRS};
-    ghost use Rattle.rart_cidr.specs.Routes.{AreStrides, routes_of};
+    ghost use Rattle.std.specs.Prelude.{ℕ, List};
+    ghost use Rattle.rart_cidr.specs.Fields.{AreTableFields};
+    ghost use Rattle.rart_cidr.specs.Routes.{routes_of};
 
     ghost Value = { List (List ℕ × T) };
 
     ghost view = { λ t. routes_of t.strides.pairs };
 
-    ghost invariant = { λ t. AreStrides t.strides.pairs × (t.len ≡ length (routes_of t.strides.pairs))
-        × (t.len ≤ MAX_PAIRS) };
+    ghost invariant = { λ t. AreTableFields t.strides.pairs t.len };
 }
 
 // The octet at `at`, or 0 after the last.

@@ -1,5 +1,5 @@
 //! Targets by IPv6 network.
-ghost use Rattle.std.specs.Prelude.{◌≡◌, ◌≤◌, ◌↔◌, [], length, option_map, IsTrue};
+ghost use Rattle.std.specs.Prelude.{◌≡◌, ◌≢◌, ◌≤◌, ◌+◌, ◌↔◌, [], length, option_map, IsTrue, None};
 ghost use Rattle.std.specs.Borrow.{sem};
 ghost use Rattle.std.specs.Net.Addr.{ipv6_octets};
 ghost use Rattle.std.specs.Option.{option_copied, option_copied_mut};
@@ -12,11 +12,13 @@ ghost use Rattle.rart_cidr.specs.NetworkLoans.{lends_target6};
 ghost use Rattle.rart_cidr.specs.Networks.{bits6};
 
 mod matches;
+mod routes;
 
 use crate::cidr::Cidr6;
 use crate::table::BitTable;
 pub use crate::table6::matches::Matches6;
-use rart::{ArrayKey, Refused, TreeError};
+pub use crate::table6::routes::Routes6;
+use rart::{ArrayKey, Count, Refused, TreeError, Visits};
 use std::alloc::Global;
 use std::marker::Model;
 use std::net::Ipv6Addr;
@@ -31,10 +33,13 @@ pub struct CidrTable6<T> {
 
 impl<T> Model for CidrTable6<T> {
     ghost use Rattle.std.specs.Prelude.{ℕ, List};
+    ghost use Rattle.rart_cidr.specs.Walks.{AreWithin};
 
     ghost Value = { List (List ℕ × T) };
 
     ghost view = { λ t. t.routes };
+
+    ghost invariant = { λ t. AreWithin 128 t.routes };
 }
 
 impl<T> CidrTable6<T> {
@@ -92,6 +97,19 @@ impl<T> CidrTable6<T> {
         ensures* writes_back { sem 𝓛 (lends_target6 T.row self.entry (bits6 net.now) result) }
         ensures value { option_copied_mut result ≡ lookup (bits6 net.now) self.old }
     {
+        if self.get(net).is_none() {
+            None
+        } else {
+            self.get_stored_mut(net)
+        }
+    }
+
+    // Returns a mutable reference to the target of a stored network.
+    fn get_stored_mut<'a>(&'a mut self, net: &Cidr6) -> Option<&'a mut T>
+        requires stored { lookup (bits6 net.now) self.old ≢ None }
+        ensures* writes_back { sem 𝓛 (lends_target6 T.row self.entry (bits6 net.now) result) }
+        ensures value { option_copied_mut result ≡ lookup (bits6 net.now) self.old }
+    {
         self.routes.get_mut(net.octets(), usize::from(net.len()))
     }
 
@@ -108,9 +126,29 @@ impl<T> CidrTable6<T> {
         ensures { option_map (λ p. (bits6 p.0, p.1.now)) result
             ≡ longest_match (bits6 net.now) self.now }
     {
+        self.longest_match_net_counted(net, &mut Visits::new(), &mut Visits::new())
+    }
+
+    /// Returns what [`longest_match_net`](Self::longest_match_net) returns, with counted visits.
+    ///
+    /// # Visits
+    ///
+    /// At most 17 strides, and at most 153 nodes of the map that holds them.
+    pub fn longest_match_net_counted<C: Count>(
+        &self,
+        net: &Cidr6,
+        nodes: &mut C,
+        strides: &mut C,
+    ) -> Option<(Cidr6, &T)>
+        ensures value { option_map (λ p. (bits6 p.0, p.1.now)) result
+            ≡ longest_match (bits6 net.now) self.now }
+        ensures nodes { C.number nodes.new ≤ C.number nodes.old + 153 }
+        ensures strides { C.number strides.new ≤ C.number strides.old + 17 }
+    {
+        let bits = usize::from(net.len());
         match self
             .routes
-            .longest_match_net(net.octets(), usize::from(net.len()))
+            .longest_match_net_counted(net.octets(), bits, nodes, strides)
         {
             Some((bits, target)) => Some((net.supernet(bits as u8), target)),
             None => None,

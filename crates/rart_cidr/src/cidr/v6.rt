@@ -41,7 +41,7 @@ impl Cidr6 {
     ghost use Rattle.std.specs.Net.Addr.{ipv6_octets};
     ghost use Rattle.std.specs.Ordering.{nat_cmp};
     ghost use Rattle.rart_keys.specs.ByteStrings.{begins};
-    ghost use Rattle.rart_cidr.specs.Bits.{bits_of, network};
+    ghost use Rattle.rart_cidr.specs.Bits.{AreClearAfter, bits_of, network};
     ghost use Rattle.rart_cidr.specs.Networks.{IsNew, bits6};
 
     /// Returns the network of the first `len` bits of `addr`.
@@ -100,6 +100,7 @@ impl Cidr6 {
     pub(crate) fn octets(&self) -> &[u8]
         ensures value { network result.now (length (bits6 self.now)) ≡ bits6 self.now }
         ensures width { length result.now ≡ 16 }
+        ensures clear { AreClearAfter (bits_of result.now) (length (bits6 self.now)) }
     {
         &self.octets
     }

@@ -2,10 +2,10 @@
 ghost use Rattle.std.specs.Prelude.{◌≡◌, ◌<◌, ◌≤◌, ◌+◌, ◌*◌, ◌/◌, ◌%◌, ℕ, length, take, option_map, IfSome};
 ghost use Rattle.rart_keys.specs.Filters.{longest_match};
 ghost use Rattle.rart_cidr.specs.Bits.{bits_of, network};
-ghost use Rattle.rart_cidr.specs.Longest.{IsLongestAfter};
+ghost use Rattle.rart_cidr.specs.Longest.{IsLastStride, nodes_to};
 
 use crate::table::{BitTable, first_octets, octet_at};
-use rart::KeyTrait;
+use rart::{Count, KeyTrait, Visits};
 
 impl<K: KeyTrait, T> BitTable<K, T> {
     /// Returns the longest stored network that `address` begins with, as its number of bits, and its target.
@@ -20,40 +20,72 @@ impl<K: KeyTrait, T> BitTable<K, T> {
 
     /// Returns the longest stored network that the network of the first `bits` bits of `octets` begins with, as its
     /// number of bits, and its target.
-    #[tactic(auto, using(crate::proofs::LongestLemmas::none_from, crate::proofs::LongestLemmas::has_none))]
     pub fn longest_match_net(&self, octets: &[u8], bits: usize) -> Option<(usize, &T)>
         requires { bits ≤ 8 * length octets.now }
         ensures within { IfSome result (λ p. p.0 ≤ bits) }
         ensures value { option_map (λ p. (take p.0 (network octets.now bits), p.1.now)) result
             ≡ longest_match (network octets.now bits) self.now }
     {
+        self.longest_match_net_counted(octets, bits, &mut Visits::new(), &mut Visits::new())
+    }
+
+    /// Returns what [`longest_match_net`](Self::longest_match_net) returns, with counted visits.
+    ///
+    /// # Visits
+    ///
+    /// At most `bits / 8 + 1` strides. `nodes` counts the nodes of the map of strides, at most one more for each stride
+    /// than it has whole octets.
+    #[tactic(auto, using(crate::proofs::LongestLemmas::has_none))]
+    pub fn longest_match_net_counted<C: Count>(
+        &self,
+        octets: &[u8],
+        bits: usize,
+        nodes: &mut C,
+        strides: &mut C,
+    ) -> Option<(usize, &T)>
+        requires { bits ≤ 8 * length octets.now }
+        ensures within { IfSome result (λ p. p.0 ≤ bits) }
+        ensures value { option_map (λ p. (take p.0 (network octets.now bits), p.1.now)) result
+            ≡ longest_match (network octets.now bits) self.now }
+        ensures nodes { C.number nodes.new ≤ C.number nodes.old + nodes_to (bits / 8 + 1) }
+        ensures strides { C.number strides.new ≤ C.number strides.old + (bits / 8 + 1) }
+    {
         self.ascends();
         let mut at = bits / 8 + 1;
         while at > 0 {
-            at -= 1;
-            if let Some((count, target)) = self.longest_after(octets, bits, at) {
-                return Some((count, target));
+            strides.add_one();
+            let (count, found) = self.last_stride(octets, bits, at - 1, nodes)?;
+            if let Some(route) = found {
+                return Some(route);
             }
+            at = count;
         }
         None
     }
 
-    // Returns the longest network that the first `bits` bits of the octets begin with, of those of `at` whole octets
-    // and at most seven more bits.
-    fn longest_after(&self, octets: &[u8], bits: usize, at: usize) -> Option<(usize, &T)>
+    // Returns the number of octets of the longest stride that the first `at` octets begin with, and the longest network
+    // in it that the first `bits` bits begin with. One descent skips the numbers of octets without a stride.
+    fn last_stride<C: Count>(
+        &self,
+        octets: &[u8],
+        bits: usize,
+        at: usize,
+        nodes: &mut C,
+    ) -> Option<(usize, Option<(usize, &T)>)>
         requires bits { bits ≤ 8 * length octets.now }
         requires at { at ≤ bits / 8 }
-        ensures { IsLongestAfter self.now octets.now bits at
-            (option_map (λ p. (p.0, p.1.now)) result) }
+        ensures value { IsLastStride self.now octets.now bits at
+            (option_map (λ p. (p.0, option_map (λ q. (q.0, q.1.now)) p.1)) result) }
+        ensures nodes { C.number nodes.new ≤ C.number nodes.old + (at + 1) }
     {
         self.strides.canonical();
-        let most = bits_after(bits, at);
-        match self.strides.get_bytes(first_octets(octets, at)) {
-            Some(stride) => match stride.longest(octet_at(octets, at), most) {
-                Some((count, target)) => Some((8 * at + count, target)),
-                None => None,
-            },
-            None => None,
+        let (count, stride) = self
+            .strides
+            .seen::<C>()
+            .longest_prefix_len_bytes_counted(first_octets(octets, at), nodes)?;
+        match stride.longest(octet_at(octets, count), bits_after(bits, count)) {
+            Some((more, target)) => Some((count, Some((8 * count + more, target)))),
+            None => Some((count, None)),
         }
     }
 }

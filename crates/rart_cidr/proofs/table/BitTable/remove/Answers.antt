@@ -8,23 +8,27 @@ use Rattle.rart_cidr.proofs.table.BitTable.remove.Goals as goal
 pub overflow_sub-self : goal.overflow_sub-self
 overflow_sub-self g c =
     let i = removed _ _ c.args.octets.now c.args.bits _ _ _ c.in-Ok-Some.target c.canonical.ensures.ascending
-    c.self.invariant.0 (λ k. (c.type_inv.octets k).fits) c.requires.bits (c.new_from_slice-key.ensures
+    c.self.invariant.formed (λ k. (c.type_inv.octets k).fits) c.requires.bits (c.new_from_slice-key.ensures
     ∙ c.first_octets.ensures) c.octet_at.ensures c.code_of-code.ensures.value
     (rw c.in-Ok-Some.field-0-is at c.in-Ok-Some.ensures) in
-    omega (arith, i.3, c.self.invariant.1)
+    omega (arith, i.3, c.self.invariant.counted)
 
 pub invariant_of-self : goal.invariant_of-self
 invariant_of-self g c =
     let i = removed _ _ c.args.octets.now c.args.bits _ _ _ c.in-Ok-Some.target c.canonical.ensures.ascending
-    c.self.invariant.0 (λ k. (c.type_inv.octets k).fits) c.requires.bits (c.new_from_slice-key.ensures
+    c.self.invariant.formed (λ k. (c.type_inv.octets k).fits) c.requires.bits (c.new_from_slice-key.ensures
     ∙ c.first_octets.ensures) c.octet_at.ensures c.code_of-code.ensures.value
     (rw c.in-Ok-Some.field-0-is at c.in-Ok-Some.ensures) in
-    (i.0, omega (arith, i.3, c.self.invariant.1), omega (arith, c.self.invariant.2))
+    record {
+      formed = i.0;
+      counted = omega (arith, i.3, c.self.invariant.counted);
+      few = omega (arith, c.self.invariant.few);
+    }
 
 pub returns-in-Ok-Some : goal.returns-in-Ok-Some
 returns-in-Ok-Some g c =
     let i = removed _ _ c.args.octets.now c.args.bits _ _ _ c.in-Ok-Some.target c.canonical.ensures.ascending
-    c.self.invariant.0 (λ k. (c.type_inv.octets k).fits) c.requires.bits (c.new_from_slice-key.ensures
+    c.self.invariant.formed (λ k. (c.type_inv.octets k).fits) c.requires.bits (c.new_from_slice-key.ensures
     ∙ c.first_octets.ensures) c.octet_at.ensures c.code_of-code.ensures.value
     (rw c.in-Ok-Some.field-0-is at c.in-Ok-Some.ensures) in (
       i.1 ∙ ap (lookup (network c.args.octets.now c.args.bits)) c.self.view_is,
@@ -35,7 +39,7 @@ returns-in-Ok-Some g c =
 pub returns-in-Ok-None : goal.returns-in-Ok-None
 returns-in-Ok-None g c =
     let p = rw c.in-Ok-None.field-0-is at c.in-Ok-None.ensures in
-    let i = absent-without _ c.args.octets.now c.args.bits _ _ _ c.canonical.ensures.ascending c.self.invariant.0
+    let i = absent-without _ c.args.octets.now c.args.bits _ _ _ c.canonical.ensures.ascending c.self.invariant.formed
     (λ k. (c.type_inv.octets k).fits) c.requires.bits (c.new_from_slice-key.ensures ∙ c.first_octets.ensures)
     c.octet_at.ensures c.code_of-code.ensures.value p.0 in (
       i.0 ∙ ap (lookup (network c.args.octets.now c.args.bits)) c.self.view_is,
@@ -47,7 +51,7 @@ pub returns : goal.returns
 returns g c = (
   c.in-Err.ensures.0,
   λ m. c.in-Err.ensures.1
-      (sym (at-key _ c.args.octets.now c.args.bits _ _ _ c.canonical.ensures.ascending c.self.invariant.0
+      (sym (at-key _ c.args.octets.now c.args.bits _ _ _ c.canonical.ensures.ascending c.self.invariant.formed
       (λ k. (c.type_inv.octets k).fits) c.requires.bits (c.new_from_slice-key.ensures ∙ c.first_octets.ensures)
       c.octet_at.ensures c.code_of-code.ensures.value)
       ∙ ap (lookup (network c.args.octets.now c.args.bits)) c.self.view_is ∙ m),

@@ -13,6 +13,7 @@ pub returns-in-Err-Length : goal.returns-in-Err-Length
 returns-in-Err-Length c = (
   c.in-Ok.addr,
   subst (λ l. IsIpv4Text l c.in-Ok.addr) c.split_text.ensures.address c.in-Ok.ensures,
-  length-too_large _ _ _ (length (bits_of (ipv4_octets c.in-Ok.addr))) (sym c.split_text.ensures.length ∙ ap option_copied c.in-Some.is)
-      c.in-Some-parse_len.ensures (omega arith) (rw c.in-Err-Length.field-0-is at c.in-Err-Length.ensures),
+  length-too_large _ _ _ (length (bits_of (ipv4_octets c.in-Ok.addr)))
+      (sym c.split_text.ensures.length ∙ ap option_copied c.in-Some.is) c.in-Some-parse_len.ensures (omega arith)
+      (rw c.in-Err-Length.field-0-is at c.in-Err-Length.ensures),
 )

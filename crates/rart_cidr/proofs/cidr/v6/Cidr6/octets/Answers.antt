@@ -1,5 +1,5 @@
-use Rattle.std.proofs.Common.{◌≤◌, ◌*◌, length, arith, ap}
-use Rattle.rart_cidr.specs.Bits.{network}
+use Rattle.std.proofs.Common.{◌≤◌, ◌*◌, length, arith, ap, subst, sym}
+use Rattle.rart_cidr.specs.Bits.{AreClearAfter, bits_of, network}
 use Rattle.rart_cidr.proofs.NetworkLemmas.{network-length}
 use Rattle.rart_cidr.proofs.cidr.v6.Cidr6.octets.Goals as goal
 
@@ -8,3 +8,10 @@ returns-clause-value c =
     let net = c.args.self.now in
     ap (network net.octets) (network-length net.octets net.len (let room : net.len ≤ 8 * length net.octets
     = omega (arith, net.within, net.full_width) in room))
+
+pub returns-clause-clear : goal.returns-clause-clear
+returns-clause-clear c =
+    let net = c.args.self.now in
+    subst (λ z. AreClearAfter (bits_of net.octets) z)
+    (sym (network-length net.octets net.len (let room : net.len ≤ 8 * length net.octets
+    = omega (arith, net.within, net.full_width) in room))) net.clear

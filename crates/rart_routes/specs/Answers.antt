@@ -1,0 +1,93 @@
+-- What a command prints.
+use Rattle.std.specs.Prelude.{◌≡◌, ◌+◌, ◌⊎◌, ℕ, [], ◌∷◌, ◌++◌, List, length, map, flat_map, option_map, codes, decimal}
+use Rattle.std.specs.Prelude.{Option, Some, None, Result, Ok, Err}
+use Rattle.std.specs.Io.KnownBytes.{Appends}
+use Rattle.rart_keys.specs.ArrayKeyBytes.{array_key_bytes}
+use Rattle.rart_keys.specs.declared.keys.array_key.ArrayKey.{ArrayKey}
+use Rattle.rart_nodes.specs.declared.refused.Refused.{Refused}
+use Rattle.rart_nodes.specs.walks.Calls.{MayLackRoom}
+use Rattle.rart_parts.specs.declared.error.TreeError.{TreeError}
+use Rattle.rart_parts.specs.declared.error.TreeError.TheVariants.{Memory, Full}
+use Rattle.rart_routes.specs.Net.{net_bits, net_text}
+use Rattle.rart_routes.specs.Tables.{Inserts, MayLackRoomAt, Removes, all_matches, all_routes}
+use Rattle.rart_routes.specs.Tables.{all_within, longest_route, target_at}
+use Rattle.rart_routes.specs.declared.command.Command.{Command}
+use Rattle.rart_routes.specs.declared.command.Command.TheVariants as command
+use Rattle.rart_routes.specs.declared.net.Net.{Net}
+use Rattle.rart_routes.specs.declared.tables.Tables.{Tables}
+use Rattle.rart_routes.specs.declared.target.TheConstants.{TARGET_SIZE}
+
+-- the line for nothing
+abbrev pub none_line : List ℕ
+none_line = codes "none" ++ 10 ∷ []
+
+-- the line for a target, and where there may be none
+abbrev pub target_line : List ℕ → List ℕ
+target_line target = codes "some " ++ target ++ 10 ∷ []
+
+abbrev pub old_line : Option (ArrayKey TARGET_SIZE) → List ℕ
+old_line None = none_line
+old_line (Some target) = target_line (array_key_bytes target)
+
+-- the line for a refusal
+abbrev pub refusal_line : TreeError → List ℕ
+refusal_line Memory = codes "Memory" ++ 10 ∷ []
+refusal_line Full = codes "Full" ++ 10 ∷ []
+
+-- the line for an insertion, and for a removal
+abbrev pub inserted_line : Result (Option (ArrayKey TARGET_SIZE)) (Refused (ArrayKey TARGET_SIZE)) → List ℕ
+inserted_line (Ok old) = old_line old
+inserted_line (Err refused) = refusal_line refused.error
+
+abbrev pub removed_line : Result (Option (ArrayKey TARGET_SIZE)) TreeError → List ℕ
+removed_line (Ok old) = old_line old
+removed_line (Err error) = refusal_line error
+
+-- a route as a word
+abbrev pub route_word : Net × ArrayKey TARGET_SIZE → List ℕ
+route_word (net, target) = net_text net ++ codes "=" ++ array_key_bytes target
+
+-- the line for a route, where there is one
+abbrev pub found_line : Option (Net × ArrayKey TARGET_SIZE) → List ℕ
+found_line None = none_line
+found_line (Some route) = codes "some " ++ route_word route ++ 10 ∷ []
+
+-- the line for routes, with one space before each but the first
+abbrev pub routes_line : List (Net × ArrayKey TARGET_SIZE) → List ℕ
+routes_line [] = codes "empty" ++ 10 ∷ []
+routes_line (route ∷ others) = route_word route ++ flat_map (λ r. codes " " ++ route_word r) others ++ 10 ∷ []
+
+-- routes with their networks' versions and bits
+abbrev pub routes_in : List (Net × ArrayKey TARGET_SIZE) → List ((ℕ × List ℕ) × ArrayKey TARGET_SIZE)
+routes_in routes = map (λ r. (net_bits r.0, r.1)) routes
+
+-- the line for these routes
+abbrev pub IsLineOf : List ((ℕ × List ℕ) × ArrayKey TARGET_SIZE) → List ℕ → Type 0
+IsLineOf all line = (routes : List (Net × ArrayKey TARGET_SIZE)) × (routes_in routes ≡ all)
+    × (line ≡ routes_line routes)
+
+-- the line for these routes, or for a refusal
+abbrev pub IsLineOfWalk : List ((ℕ × List ℕ) × ArrayKey TARGET_SIZE) → (TreeError → Type 0) → List ℕ → Type 0
+IsLineOfWalk all MayRefuse line = IsLineOf all line
+    ⊎ ((error : TreeError) × MayRefuse error × (line ≡ refusal_line error))
+
+-- the command prints this line on the tables old, and leaves the tables new
+abbrev pub PrintsAnswer : Command → Tables → List ℕ → Tables → Type 0
+PrintsAnswer command.Nothing old line new = (line ≡ []) × (new ≡ old)
+PrintsAnswer (command.Add net target) old line new = (r : Result (Option (ArrayKey TARGET_SIZE))
+    (Refused (ArrayKey TARGET_SIZE))) × Inserts net target old new r × (line ≡ inserted_line r)
+PrintsAnswer (command.Del net) old line new = (r : Result (Option (ArrayKey TARGET_SIZE)) TreeError)
+    × Removes net old new r × (line ≡ removed_line r)
+PrintsAnswer (command.Get net) old line new = (line ≡ old_line (target_at net old)) × (new ≡ old)
+PrintsAnswer (command.Route addr) old line new = (route : Option (Net × ArrayKey TARGET_SIZE))
+    × (option_map (λ r. (net_bits r.0, r.1)) route ≡ longest_route addr old) × (line ≡ found_line route) × (new ≡ old)
+PrintsAnswer (command.Covering addr) old line new = IsLineOf (all_matches addr old) line × (new ≡ old)
+PrintsAnswer (command.Within net) old line new = IsLineOfWalk (all_within net old) (MayLackRoomAt net old) line
+    × (new ≡ old)
+PrintsAnswer command.List old line new = IsLineOfWalk (all_routes old) (MayLackRoom (all_routes old)) line
+    × (new ≡ old)
+PrintsAnswer command.Len old line new = (line ≡ decimal (length old.v4 + length old.v6) ++ 10 ∷ []) × (new ≡ old)
+
+-- an output grew by the line for these routes
+abbrev pub PrintsRoutes : List ((ℕ × List ℕ) × ArrayKey TARGET_SIZE) → Option (List ℕ) → Option (List ℕ) → Type 0
+PrintsRoutes all old new = (line : List ℕ) × (IsLineOf all line × Appends old new line)

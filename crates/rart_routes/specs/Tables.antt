@@ -1,0 +1,63 @@
+-- What calls of a table of IPv4 and one of IPv6 networks answer, and what they leave.
+use Rattle.std.specs.Prelude.{◌≡◌, ◌++◌, ℕ, List, [], Option, Result, option_map}
+use Rattle.std.specs.Net.Addr.{ipv4_octets, ipv6_octets}
+use Rattle.std.specs.declared.net.ip_addr.IpAddr.{IpAddr}
+use Rattle.std.specs.declared.net.ip_addr.IpAddr.TheVariants as addr
+use Rattle.rart_keys.specs.Filters.{below, longest_match, matches}
+use Rattle.rart_keys.specs.SortedMap.{lookup}
+use Rattle.rart_keys.specs.declared.keys.array_key.ArrayKey.{ArrayKey}
+use Rattle.rart_nodes.specs.declared.refused.Refused.{Refused}
+use Rattle.rart_nodes.specs.walks.Calls.{MayLackRoom}
+use Rattle.rart_parts.specs.declared.error.TreeError.{TreeError}
+use Rattle.rart_cidr.specs.Bits.{bits_of}
+use Rattle.rart_cidr.specs.Edits.{InsertsRoute, RemovesRoute}
+use Rattle.rart_cidr.specs.Networks.{bits4, bits6}
+use Rattle.rart_routes.specs.Found.{of_version}
+use Rattle.rart_routes.specs.declared.net.Net.{Net}
+use Rattle.rart_routes.specs.declared.net.Net.TheVariants.{V4, V6}
+use Rattle.rart_routes.specs.declared.tables.Tables.{Tables}
+use Rattle.rart_routes.specs.declared.target.TheConstants.{TARGET_SIZE}
+
+-- no routes
+abbrev pub no_routes : Tables
+no_routes = record { v4 = []; v6 = [] }
+
+-- the target of exactly this network
+abbrev pub target_at : Net → Tables → Option (ArrayKey TARGET_SIZE)
+target_at (V4 net) tables = lookup (bits4 net) tables.v4
+target_at (V6 net) tables = lookup (bits6 net) tables.v6
+
+-- the network's own table gets the route
+abbrev pub Inserts : Net → ArrayKey TARGET_SIZE → Tables → Tables
+    → Result (Option (ArrayKey TARGET_SIZE)) (Refused (ArrayKey TARGET_SIZE)) → Type 0
+Inserts (V4 net) target old new result = InsertsRoute (bits4 net) target old.v4 new.v4 result × (new.v6 ≡ old.v6)
+Inserts (V6 net) target old new result = InsertsRoute (bits6 net) target old.v6 new.v6 result × (new.v4 ≡ old.v4)
+
+-- the network's own table loses the route
+abbrev pub Removes : Net → Tables → Tables → Result (Option (ArrayKey TARGET_SIZE)) TreeError → Type 0
+Removes (V4 net) old new result = RemovesRoute (bits4 net) old.v4 new.v4 result × (new.v6 ≡ old.v6)
+Removes (V6 net) old new result = RemovesRoute (bits6 net) old.v6 new.v6 result × (new.v4 ≡ old.v4)
+
+-- the route with the longest network that contains an address
+abbrev pub longest_route : IpAddr → Tables → Option ((ℕ × List ℕ) × ArrayKey TARGET_SIZE)
+longest_route (addr.V4 a) tables = option_map (λ e. ((4, e.0), e.1)) (longest_match (bits_of (ipv4_octets a)) tables.v4)
+longest_route (addr.V6 a) tables = option_map (λ e. ((6, e.0), e.1)) (longest_match (bits_of (ipv6_octets a)) tables.v6)
+
+-- all routes whose networks contain an address, the shortest first
+abbrev pub all_matches : IpAddr → Tables → List ((ℕ × List ℕ) × ArrayKey TARGET_SIZE)
+all_matches (addr.V4 a) tables = of_version 4 (matches (bits_of (ipv4_octets a)) tables.v4)
+all_matches (addr.V6 a) tables = of_version 6 (matches (bits_of (ipv6_octets a)) tables.v6)
+
+-- all routes inside a network, ascending by address, then by length
+abbrev pub all_within : Net → Tables → List ((ℕ × List ℕ) × ArrayKey TARGET_SIZE)
+all_within (V4 net) tables = of_version 4 (below (bits4 net) tables.v4)
+all_within (V6 net) tables = of_version 6 (below (bits6 net) tables.v6)
+
+-- all routes, those of IPv4 first
+abbrev pub all_routes : Tables → List ((ℕ × List ℕ) × ArrayKey TARGET_SIZE)
+all_routes tables = of_version 4 tables.v4 ++ of_version 6 tables.v6
+
+-- a walk of the network's own table may lack memory
+abbrev pub MayLackRoomAt : Net → Tables → TreeError → Type 0
+MayLackRoomAt (V4 net) tables error = MayLackRoom tables.v4 error
+MayLackRoomAt (V6 net) tables error = MayLackRoom tables.v6 error

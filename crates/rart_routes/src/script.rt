@@ -1,0 +1,124 @@
+//! Scripts: texts with one command on each line.
+ghost use Rattle.std.specs.Prelude.{◌≡◌, ◌≢◌, ◌≤◌, ℕ, List, IfSome, IfErr, OnOk};
+ghost use Rattle.std.specs.Io.KnownBytes.{Appends};
+ghost use Rattle.rart_routes.specs.Answers.{PrintsAnswer};
+ghost use Rattle.rart_routes.specs.Script.{EndsAtBad, Prints, PrintsAll};
+ghost use Rattle.rart_routes.specs.Stop.{IsSaid};
+
+use crate::answers::{write_found, write_none, write_refusal, write_routes, write_target};
+use crate::command::{Command, parse_command};
+use crate::stop::Stop;
+use crate::tables::Tables;
+use rart_lines::{Lines, read_all};
+use std::alloc::Global;
+use std::io;
+use std::io::{Read, Write};
+
+/// Reads all of `input`, runs it line by line, and returns the status for the process.
+pub fn run_lines<R: Read, W: Write, E: Write>(
+    alloc: Global,
+    input: &mut R,
+    output: &mut W,
+    errors: &mut E,
+) -> u8
+    ensures status { result ≤ 2 }
+    // With status 0 all lines were run, and their answers were printed.
+    ensures answers { result ≡ 0 → IfSome (R.remaining input.old)
+        (λ text. PrintsAll text (W.contents output.old) (W.contents output.new)) }
+    // With status 2 those before the malformed line were, and the message says what is wrong.
+    ensures bad { result ≡ 2 → IfSome (R.remaining input.old)
+        (λ text. EndsAtBad text (W.contents output.old) (W.contents output.new)
+        (E.contents errors.old) (E.contents errors.new)) }
+{
+    match run(alloc, input, output) {
+        Ok(()) => 0,
+        Err(stop) => match say(stop, errors) {
+            Ok(()) => stop.status(),
+            // A message that is not written is a failed write too.
+            Err(_) => Stop::CannotWrite.status(),
+        },
+    }
+}
+
+/// Writes why a script ended.
+fn say<E: Write>(stop: Stop, errors: &mut E) -> io::Result<()>
+    ensures { OnOk result (IsSaid (E.contents errors.old) (E.contents errors.new) stop) }
+{
+    writeln!(errors, "{stop}")
+}
+
+fn run<R: Read, W: Write>(alloc: Global, input: &mut R, output: &mut W) -> Result<(), Stop>
+    ensures { IfSome (R.remaining input.old)
+        (λ text. Prints text result (W.contents output.old) (W.contents output.new)) }
+{
+    let Ok(text) = read_all(alloc, input) else {
+        return Err(Stop::CannotRead);
+    };
+    let ended = run_text(alloc, text.as_slice(), output);
+    // The answers are written out first, whatever is said after them.
+    match output.flush() {
+        Ok(()) => ended,
+        Err(_) => Err(Stop::CannotWrite),
+    }
+}
+
+/// Runs the lines of a text on empty tables, up to the first that is no command.
+fn run_text<W: Write>(alloc: Global, text: &[u8], output: &mut W) -> Result<(), Stop>
+    ensures answers { Prints text.now result (W.contents output.old) (W.contents output.new) }
+    ensures has_read { IfErr result (λ stop. stop ≢ Stop.CannotRead) }
+{
+    let mut tables = Tables::new(alloc);
+    for (index, line) in Lines::new(text).enumerate() {
+        let command = match parse_command(line) {
+            Ok(command) => command,
+            Err(error) => {
+                return Err(Stop::BadLine {
+                    line: index + 1,
+                    error,
+                });
+            }
+        };
+        let Ok(()) = execute(&mut tables, command, output) else {
+            return Err(Stop::CannotWrite);
+        };
+    }
+    Ok(())
+}
+
+/// Runs one command, and writes the answer.
+fn execute<W: Write>(tables: &mut Tables, command: Command, output: &mut W) -> io::Result<()>
+    ensures { OnOk result ((line : List ℕ) × PrintsAnswer command tables.old line tables.new
+        × Appends (W.contents output.old) (W.contents output.new) line) }
+{
+    match command {
+        Command::Nothing => Ok(()),
+        Command::Add(net, target) => match tables.insert(&net, target) {
+            Ok(Some(old)) => write_target(output, &old),
+            Ok(None) => write_none(output),
+            Err(refused) => write_refusal(output, refused.error),
+        },
+        Command::Del(net) => match tables.remove(&net) {
+            Ok(Some(old)) => write_target(output, &old),
+            Ok(None) => write_none(output),
+            Err(error) => write_refusal(output, error),
+        },
+        Command::Get(net) => match tables.get(&net) {
+            Some(target) => write_target(output, target),
+            None => write_none(output),
+        },
+        Command::Route(addr) => write_found(output, tables.longest_match(addr)),
+        Command::Covering(addr) => write_routes(output, tables.matches(addr)),
+        Command::Within(net) => match tables.within(&net) {
+            Ok(routes) => write_routes(output, routes),
+            Err(error) => write_refusal(output, error),
+        },
+        Command::List => match tables.iter() {
+            Ok(routes) => write_routes(output, routes),
+            Err(error) => write_refusal(output, error),
+        },
+        Command::Len => writeln!(output, "{}", tables.len()),
+    }
+}
+
+#[cfg(test)]
+mod tests;
