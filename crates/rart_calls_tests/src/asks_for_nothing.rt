@@ -1,14 +1,15 @@
 //! Calls that may not ask for memory. Under the library that refuses it each would be seen to, were it to ask.
 
-use crate::play::{Ask, Row, Then, Want, plays_asking_for_nothing, went_well};
+use crate::play::{Ask, Request, Row, Want, assert_none_wrong, first_wrong_unasked};
 use rart::script::run;
 use rart::{AdaptiveRadixTree, ArrPartial, ArrayKey, Iter, KeyTrait, ValuesIter};
 use rart_test_tools::refusals::{refuse, was_refused};
 use std::alloc::Global;
 use std::process::Abort;
 
-const FIRST_KEY: [Row<'static>; 9] = [
+const FIRST_KEY: [Row<'static>; 10] = [
     (Ask::Get("a"), Want::None),
+    (Ask::Contains("a"), Want::Is(false)),
     (Ask::Stats, Want::Counts([0, 0, 0, 0], &[])),
     (Ask::Iter, Want::Pairs(&[])),
     (Ask::Values, Want::Values(&[])),
@@ -21,9 +22,9 @@ const FIRST_KEY: [Row<'static>; 9] = [
 
 #[test]
 fn an_empty_tree_and_its_first_key_ask_for_nothing(rt: HostRuntime) {
-    went_well(
+    assert_none_wrong(
         &rt,
-        plays_asking_for_nothing::<ArrayKey<16>>(rt.alloc(), &[], &FIRST_KEY),
+        first_wrong_unasked::<ArrayKey<16>>(rt.alloc(), &[], &FIRST_KEY),
     );
 }
 
@@ -32,7 +33,7 @@ const TWO_LEAVES: [Row<'static>; 2] = [
     (Ask::Insert("abxy", 2), Want::None),
 ];
 
-const AT_STANDING_NODES: [Row<'static>; 14] = [
+const AT_STANDING_NODES: [Row<'static>; 17] = [
     (Ask::Insert("ab", 3), Want::None),
     (Ask::Insert("abxy", 4), Want::Some(2)),
     (Ask::TryInsert("abxy", 5), Want::Occupied(5, 4)),
@@ -41,6 +42,9 @@ const AT_STANDING_NODES: [Row<'static>; 14] = [
     (Ask::Overwrite("abc", 6), Want::Is(false)),
     (Ask::Get("ab"), Want::Some(3)),
     (Ask::GetBytes("abcd"), Want::Some(6)),
+    (Ask::Contains("ab"), Want::Is(true)),
+    (Ask::Contains("abc"), Want::Is(false)),
+    (Ask::ContainsBytes("abcd"), Want::Is(true)),
     (Ask::Remove("ab"), Want::Some(3)),
     (Ask::InsertNew("ab", 7), Want::Inserted),
     (Ask::Remove("ab"), Want::Some(7)),
@@ -51,9 +55,9 @@ const AT_STANDING_NODES: [Row<'static>; 14] = [
 
 #[test]
 fn standing_nodes_ask_for_nothing(rt: HostRuntime) {
-    went_well(
+    assert_none_wrong(
         &rt,
-        plays_asking_for_nothing::<ArrayKey<16>>(rt.alloc(), &TWO_LEAVES, &AT_STANDING_NODES),
+        first_wrong_unasked::<ArrayKey<16>>(rt.alloc(), &TWO_LEAVES, &AT_STANDING_NODES),
     );
 }
 
@@ -65,9 +69,9 @@ const JOINING: [Row<'static>; 3] = [
 
 #[test]
 fn joined_nodes_ask_for_nothing(rt: HostRuntime) {
-    went_well(
+    assert_none_wrong(
         &rt,
-        plays_asking_for_nothing::<ArrayKey<16>>(rt.alloc(), &TWO_LEAVES, &JOINING),
+        first_wrong_unasked::<ArrayKey<16>>(rt.alloc(), &TWO_LEAVES, &JOINING),
     );
 }
 
@@ -93,9 +97,9 @@ const INTO_ROOM: [Row<'static>; 8] = [
 
 #[test]
 fn nodes_with_room_ask_for_nothing(rt: HostRuntime) {
-    went_well(
+    assert_none_wrong(
         &rt,
-        plays_asking_for_nothing::<ArrayKey<16>>(rt.alloc(), &ROOM_IN_EACH_KIND, &INTO_ROOM),
+        first_wrong_unasked::<ArrayKey<16>>(rt.alloc(), &ROOM_IN_EACH_KIND, &INTO_ROOM),
     );
 }
 
@@ -111,27 +115,39 @@ const ABSENT: [Row<'static>; 5] = [
 
 #[test]
 fn absent_keys_ask_for_nothing(rt: HostRuntime) {
-    went_well(
+    assert_none_wrong(
         &rt,
-        plays_asking_for_nothing::<ArrayKey<16>>(rt.alloc(), &FIVE_KEYS, &ABSENT),
+        first_wrong_unasked::<ArrayKey<16>>(rt.alloc(), &FIVE_KEYS, &ABSENT),
     );
 }
 
 const UPDATED: [Row<'static>; 11] = [
-    (Ask::Update("a\x01", Some(9), Then::Keep), Want::Is(true)),
+    (Ask::Update("a\x01", Some(9), Request::Keep), Want::Is(true)),
     (
-        Ask::Update("a\x02", Some(9), Then::Insert(8)),
+        Ask::Update("a\x02", Some(9), Request::Insert(8)),
         Want::Is(true),
     ),
-    (Ask::Update("a\x03", None, Then::Insert(7)), Want::Is(true)),
-    (Ask::Update("b\x01", None, Then::Remove), Want::Is(true)),
-    (Ask::Update("zz", None, Then::Remove), Want::Is(false)),
-    (Ask::Update("zz", Some(6), Then::Keep), Want::Is(false)),
-    (Ask::TryUpdate("c\x01", Some(5), Then::Keep), Want::Is(true)),
-    (Ask::TryUpdate("c\x01", Some(6), Then::Fail), Want::Failed),
-    (Ask::TryUpdate("d\x01", None, Then::Keep), Want::Is(false)),
     (
-        Ask::TryUpdate("d\x01", None, Then::Insert(4)),
+        Ask::Update("a\x03", None, Request::Insert(7)),
+        Want::Is(true),
+    ),
+    (Ask::Update("b\x01", None, Request::Remove), Want::Is(true)),
+    (Ask::Update("zz", None, Request::Remove), Want::Is(false)),
+    (Ask::Update("zz", Some(6), Request::Keep), Want::Is(false)),
+    (
+        Ask::TryUpdate("c\x01", Some(5), Request::Keep),
+        Want::Is(true),
+    ),
+    (
+        Ask::TryUpdate("c\x01", Some(6), Request::Fail),
+        Want::Failed,
+    ),
+    (
+        Ask::TryUpdate("d\x01", None, Request::Keep),
+        Want::Is(false),
+    ),
+    (
+        Ask::TryUpdate("d\x01", None, Request::Insert(4)),
         Want::Is(true),
     ),
     (Ask::Longest("a\x01x"), Want::Pair("a\x01", 9)),
@@ -139,9 +155,9 @@ const UPDATED: [Row<'static>; 11] = [
 
 #[test]
 fn updates_of_standing_nodes_and_of_absent_keys_ask_for_nothing(rt: HostRuntime) {
-    went_well(
+    assert_none_wrong(
         &rt,
-        plays_asking_for_nothing::<ArrayKey<16>>(rt.alloc(), &ROOM_IN_EACH_KIND, &UPDATED),
+        first_wrong_unasked::<ArrayKey<16>>(rt.alloc(), &ROOM_IN_EACH_KIND, &UPDATED),
     );
 }
 

@@ -5,16 +5,20 @@ pub mod players;
 pub mod replies;
 
 pub use self::players::{
-    plays, plays_as_run, plays_asking_for_nothing, plays_refused_in_turn, plays_texts,
-    run_is_refused_in_turn, went_well,
+    assert_none_wrong, first_wrong, first_wrong_in_run, first_wrong_refused, first_wrong_text,
+    first_wrong_unasked, run_is_refused_in_turn,
 };
 
-/// A call. Keys are texts, so that a row is short; `How` says what key a text becomes.
+/// A call. Keys are texts, so that a row is short; `Style` says what key a text becomes.
 #[derive(Clone, Copy)]
 pub enum Ask<'a> {
     Get(&'a str),
     /// A look-up by bytes, which may be longer than any key.
     GetBytes(&'a str),
+    /// Whether the key is stored.
+    Contains(&'a str),
+    /// Whether the key of these bytes is stored, which may be longer than any key.
+    ContainsBytes(&'a str),
     Insert(&'a str, u64),
     TryInsert(&'a str, u64),
     InsertNew(&'a str, u64),
@@ -23,9 +27,9 @@ pub enum Ask<'a> {
     Remove(&'a str),
     Delete(&'a str),
     /// Updates the value at the key: a stored value is first replaced with this one, and then this is requested.
-    Update(&'a str, Option<u64>, Then),
+    Update(&'a str, Option<u64>, Request),
     /// The same by a callback that may fail.
-    TryUpdate(&'a str, Option<u64>, Then),
+    TryUpdate(&'a str, Option<u64>, Request),
     /// The longest key that begins the probe.
     Longest(&'a str),
     /// The keys that begin the probe.
@@ -50,7 +54,7 @@ pub enum Ask<'a> {
 
 /// What the callback of an update requests.
 #[derive(Clone, Copy)]
-pub enum Then {
+pub enum Request {
     Keep,
     Remove,
     Insert(u64),
@@ -99,7 +103,7 @@ pub enum Spelling {
 }
 
 #[derive(Clone, Copy)]
-pub struct How {
+pub struct Style {
     pub form: Form,
     pub spelling: Spelling,
 }

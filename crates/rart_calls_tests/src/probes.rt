@@ -1,7 +1,8 @@
 //! Calls about a probe, a prefix and two bounds as values: the replies, also with requests for memory refused in turn.
 
 use crate::play::{
-    Ask, Row, Want, plays, plays_as_run, plays_refused_in_turn, run_is_refused_in_turn, went_well,
+    Ask, Row, Want, assert_none_wrong, first_wrong, first_wrong_in_run, first_wrong_refused,
+    run_is_refused_in_turn,
 };
 use rart::ArrayKey;
 use std::test::Fail;
@@ -41,17 +42,14 @@ const CALLS: [Row<'static>; 24] = [
 
 #[test]
 fn calls_about_a_probe(rt: HostRuntime) -> Result<(), Fail> {
-    went_well(&rt, plays::<ArrayKey<16>>(rt.alloc(), &CALLS));
-    went_well(&rt, plays_as_run::<ArrayKey<16>>(rt.alloc(), &CALLS)?);
+    assert_none_wrong(&rt, first_wrong::<ArrayKey<16>>(rt.alloc(), &CALLS));
+    assert_none_wrong(&rt, first_wrong_in_run::<ArrayKey<16>>(rt.alloc(), &CALLS)?);
     Ok(())
 }
 
 #[test]
 fn calls_about_a_probe_refused_in_turn(rt: HostRuntime) -> Result<(), Fail> {
-    went_well(
-        &rt,
-        plays_refused_in_turn::<ArrayKey<16>>(rt.alloc(), &CALLS),
-    );
+    assert_none_wrong(&rt, first_wrong_refused::<ArrayKey<16>>(rt.alloc(), &CALLS));
     assert!(rt; run_is_refused_in_turn::<ArrayKey<16>>(rt.alloc(), &CALLS)?);
     Ok(())
 }

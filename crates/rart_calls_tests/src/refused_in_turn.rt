@@ -2,8 +2,8 @@
 //! it answers as if none had been refused.
 
 use crate::play::{
-    Ask, Row, Then, Want, plays, plays_as_run, plays_refused_in_turn, run_is_refused_in_turn,
-    went_well,
+    Ask, Request, Row, Want, assert_none_wrong, first_wrong, first_wrong_in_run,
+    first_wrong_refused, run_is_refused_in_turn,
 };
 use rart::{AdaptiveRadixTree, ArrayKey, KeyTrait, Refused, TreeError, TreeStatsTrait};
 use rart_test_tools::refusals::{refuse, was_refused};
@@ -26,9 +26,9 @@ pub const SPLITS: [Row<'static>; 8] = [
 
 #[test]
 fn splits_refused_in_turn(rt: HostRuntime) {
-    went_well(
+    assert_none_wrong(
         &rt,
-        plays_refused_in_turn::<ArrayKey<16>>(rt.alloc(), &SPLITS),
+        first_wrong_refused::<ArrayKey<16>>(rt.alloc(), &SPLITS),
     );
 }
 
@@ -41,9 +41,9 @@ const SPLIT_ABOVE: [Row<'static>; 4] = [
 
 #[test]
 fn a_split_above_a_leaf_refused_in_turn(rt: HostRuntime) {
-    went_well(
+    assert_none_wrong(
         &rt,
-        plays_refused_in_turn::<ArrayKey<16>>(rt.alloc(), &SPLIT_ABOVE),
+        first_wrong_refused::<ArrayKey<16>>(rt.alloc(), &SPLIT_ABOVE),
     );
 }
 
@@ -62,9 +62,9 @@ pub const GROWTH: [Row<'static>; 10] = [
 
 #[test]
 fn growing_insertions_refused_in_turn(rt: HostRuntime) {
-    went_well(
+    assert_none_wrong(
         &rt,
-        plays_refused_in_turn::<ArrayKey<16>>(rt.alloc(), &GROWTH),
+        first_wrong_refused::<ArrayKey<16>>(rt.alloc(), &GROWTH),
     );
 }
 
@@ -80,9 +80,9 @@ pub const GROWTH_BY_NEW_KEYS: [Row<'static>; 7] = [
 
 #[test]
 fn growing_insertions_of_new_keys_refused_in_turn(rt: HostRuntime) {
-    went_well(
+    assert_none_wrong(
         &rt,
-        plays_refused_in_turn::<ArrayKey<16>>(rt.alloc(), &GROWTH_BY_NEW_KEYS),
+        first_wrong_refused::<ArrayKey<16>>(rt.alloc(), &GROWTH_BY_NEW_KEYS),
     );
 }
 
@@ -101,9 +101,9 @@ pub const SHRINKING: [Row<'static>; 10] = [
 
 #[test]
 fn shrinking_removals_refused_in_turn(rt: HostRuntime) {
-    went_well(
+    assert_none_wrong(
         &rt,
-        plays_refused_in_turn::<ArrayKey<16>>(rt.alloc(), &SHRINKING),
+        first_wrong_refused::<ArrayKey<16>>(rt.alloc(), &SHRINKING),
     );
 }
 
@@ -119,9 +119,9 @@ pub const SHRINKING_BY_DELETION: [Row<'static>; 7] = [
 
 #[test]
 fn shrinking_deletions_refused_in_turn(rt: HostRuntime) {
-    went_well(
+    assert_none_wrong(
         &rt,
-        plays_refused_in_turn::<ArrayKey<16>>(rt.alloc(), &SHRINKING_BY_DELETION),
+        first_wrong_refused::<ArrayKey<16>>(rt.alloc(), &SHRINKING_BY_DELETION),
     );
 }
 
@@ -142,9 +142,9 @@ pub const FOUR_WIDTHS: [Row<'static>; 6] = [
 
 #[test]
 fn statistics_refused_in_turn(rt: HostRuntime) {
-    went_well(
+    assert_none_wrong(
         &rt,
-        plays_refused_in_turn::<ArrayKey<16>>(rt.alloc(), &FOUR_WIDTHS),
+        first_wrong_refused::<ArrayKey<16>>(rt.alloc(), &FOUR_WIDTHS),
     );
 }
 
@@ -190,7 +190,10 @@ pub const EVERY_CALL: [Row<'static>; 25] = [
 
 #[test]
 fn runs_refused_in_turn_go_on_without_the_refused_call(rt: HostRuntime) -> Result<(), Fail> {
-    went_well(&rt, plays_as_run::<ArrayKey<16>>(rt.alloc(), &EVERY_CALL)?);
+    assert_none_wrong(
+        &rt,
+        first_wrong_in_run::<ArrayKey<16>>(rt.alloc(), &EVERY_CALL)?,
+    );
     assert!(rt; run_is_refused_in_turn::<ArrayKey<16>>(rt.alloc(), &EVERY_CALL)?);
     Ok(())
 }
@@ -199,11 +202,11 @@ const ALL_CASES: [Row<'static>; 20] = [
     (Ask::Insert("ab", 1), Want::None),
     (Ask::TryInsert("ac", 2), Want::Inserted),
     (Ask::Insert("a", 3), Want::None),
-    (Ask::Update("ab", Some(7), Then::Keep), Want::Is(true)),
-    (Ask::Update("ad", None, Then::Insert(4)), Want::Is(true)),
-    (Ask::Update("ad", None, Then::Remove), Want::Is(true)),
-    (Ask::TryUpdate("ac", Some(8), Then::Fail), Want::Failed),
-    (Ask::TryUpdate("ac", Some(9), Then::Keep), Want::Is(true)),
+    (Ask::Update("ab", Some(7), Request::Keep), Want::Is(true)),
+    (Ask::Update("ad", None, Request::Insert(4)), Want::Is(true)),
+    (Ask::Update("ad", None, Request::Remove), Want::Is(true)),
+    (Ask::TryUpdate("ac", Some(8), Request::Fail), Want::Failed),
+    (Ask::TryUpdate("ac", Some(9), Request::Keep), Want::Is(true)),
     (Ask::Get("ac"), Want::Some(9)),
     (Ask::Longest("abz"), Want::Pair("ab", 7)),
     (Ask::Matches("abz"), Want::Pairs(&[("a", 3), ("ab", 7)])),
@@ -223,8 +226,11 @@ const ALL_CASES: [Row<'static>; 20] = [
 
 #[test]
 fn a_run_of_all_cases_refused_in_turn(rt: HostRuntime) -> Result<(), Fail> {
-    went_well(&rt, plays::<ArrayKey<16>>(rt.alloc(), &ALL_CASES));
-    went_well(&rt, plays_as_run::<ArrayKey<16>>(rt.alloc(), &ALL_CASES)?);
+    assert_none_wrong(&rt, first_wrong::<ArrayKey<16>>(rt.alloc(), &ALL_CASES));
+    assert_none_wrong(
+        &rt,
+        first_wrong_in_run::<ArrayKey<16>>(rt.alloc(), &ALL_CASES)?,
+    );
     assert!(rt; run_is_refused_in_turn::<ArrayKey<16>>(rt.alloc(), &ALL_CASES)?);
     Ok(())
 }
@@ -238,10 +244,7 @@ pub const LISTS: [Row<'static>; 4] = [
 
 #[test]
 fn lists_of_pairs_and_values_refused_in_turn(rt: HostRuntime) {
-    went_well(
-        &rt,
-        plays_refused_in_turn::<ArrayKey<4>>(rt.alloc(), &LISTS),
-    );
+    assert_none_wrong(&rt, first_wrong_refused::<ArrayKey<4>>(rt.alloc(), &LISTS));
 }
 
 type Tree = AdaptiveRadixTree<ArrayKey<4>, u64>;

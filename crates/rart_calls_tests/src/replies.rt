@@ -1,13 +1,15 @@
 //! What the calls of the map reply, each in its three forms: as a value, with a key, and with a reference to one.
 
-use crate::play::{Ask, Row, Want, plays, plays_as_run, went_well};
+use crate::play::{Ask, Row, Want, assert_none_wrong, first_wrong, first_wrong_in_run};
 use rart::ArrayKey;
 use rart::keys::tail_key::TailKey;
 use std::test::Fail;
 
-const EMPTY: [Row<'static>; 12] = [
+const EMPTY: [Row<'static>; 14] = [
     (Ask::Get("x"), Want::None),
     (Ask::GetBytes(""), Want::None),
+    (Ask::Contains("x"), Want::Is(false)),
+    (Ask::ContainsBytes(""), Want::Is(false)),
     (Ask::Len, Want::Len(0)),
     (Ask::IsEmpty, Want::Is(true)),
     (Ask::Iter, Want::Pairs(&[])),
@@ -22,10 +24,10 @@ const EMPTY: [Row<'static>; 12] = [
 
 #[test]
 fn an_empty_tree_answers_nothing(rt: HostRuntime) {
-    went_well(&rt, plays::<ArrayKey<16>>(rt.alloc(), &EMPTY));
+    assert_none_wrong(&rt, first_wrong::<ArrayKey<16>>(rt.alloc(), &EMPTY));
 }
 
-const KEYS_THAT_BEGIN_ONE_ANOTHER: [Row<'static>; 13] = [
+const KEYS_THAT_BEGIN_ONE_ANOTHER: [Row<'static>; 20] = [
     (Ask::Insert("cat", 1), Want::None),
     (Ask::Insert("catalog", 2), Want::None),
     (Ask::Insert("cab", 3), Want::None),
@@ -37,15 +39,22 @@ const KEYS_THAT_BEGIN_ONE_ANOTHER: [Row<'static>; 13] = [
     (Ask::Get("catalog"), Want::Some(2)),
     (Ask::GetBytes("cab"), Want::Some(3)),
     (Ask::GetBytes("cabs"), Want::None),
+    (Ask::Contains("ca"), Want::Is(true)),
+    (Ask::Contains("catalog"), Want::Is(true)),
+    (Ask::Contains("c"), Want::Is(false)),
+    (Ask::Contains("cata"), Want::Is(false)),
+    (Ask::Contains("cats"), Want::Is(false)),
+    (Ask::ContainsBytes("cab"), Want::Is(true)),
+    (Ask::ContainsBytes("cabs"), Want::Is(false)),
     (Ask::Len, Want::Len(4)),
     (Ask::IsEmpty, Want::Is(false)),
 ];
 
 #[test]
 fn keys_that_begin_one_another(rt: HostRuntime) {
-    went_well(
+    assert_none_wrong(
         &rt,
-        plays::<ArrayKey<16>>(rt.alloc(), &KEYS_THAT_BEGIN_ONE_ANOTHER),
+        first_wrong::<ArrayKey<16>>(rt.alloc(), &KEYS_THAT_BEGIN_ONE_ANOTHER),
     );
 }
 
@@ -62,7 +71,7 @@ const CHAIN: [Row<'static>; 8] = [
 
 #[test]
 fn a_chain_of_keys(rt: HostRuntime) {
-    went_well(&rt, plays::<ArrayKey<16>>(rt.alloc(), &CHAIN));
+    assert_none_wrong(&rt, first_wrong::<ArrayKey<16>>(rt.alloc(), &CHAIN));
 }
 
 const REPLACED: [Row<'static>; 6] = [
@@ -76,7 +85,7 @@ const REPLACED: [Row<'static>; 6] = [
 
 #[test]
 fn a_stored_key_gives_its_old_value(rt: HostRuntime) {
-    went_well(&rt, plays::<ArrayKey<16>>(rt.alloc(), &REPLACED));
+    assert_none_wrong(&rt, first_wrong::<ArrayKey<16>>(rt.alloc(), &REPLACED));
 }
 
 const FULL_WIDTH: [Row<'static>; 9] = [
@@ -96,34 +105,40 @@ const FULL_WIDTH: [Row<'static>; 9] = [
 
 #[test]
 fn the_empty_key_and_keys_of_full_width(rt: HostRuntime) {
-    went_well(&rt, plays::<ArrayKey<16>>(rt.alloc(), &FULL_WIDTH));
+    assert_none_wrong(&rt, first_wrong::<ArrayKey<16>>(rt.alloc(), &FULL_WIDTH));
 }
 
-const LONG_PROBE: [Row<'static>; 3] = [
+const LONG_PROBE: [Row<'static>; 6] = [
     (Ask::Insert("abcd", 1), Want::None),
     (Ask::GetBytes("abcde"), Want::None),
     (Ask::GetBytes("abcd"), Want::Some(1)),
+    (Ask::ContainsBytes("abcde"), Want::Is(false)),
+    (Ask::ContainsBytes("abcd"), Want::Is(true)),
+    (Ask::ContainsBytes("abc"), Want::Is(false)),
 ];
 
 #[test]
 fn a_probe_longer_than_any_key(rt: HostRuntime) {
-    went_well(&rt, plays::<ArrayKey<4>>(rt.alloc(), &LONG_PROBE));
+    assert_none_wrong(&rt, first_wrong::<ArrayKey<4>>(rt.alloc(), &LONG_PROBE));
 }
 
-const NO_BYTES: [Row<'static>; 8] = [
+const NO_BYTES: [Row<'static>; 11] = [
     (Ask::Insert("", 1), Want::None),
     (Ask::GetBytes(""), Want::Some(1)),
     (Ask::GetBytes("a"), Want::None),
+    (Ask::Contains(""), Want::Is(true)),
+    (Ask::ContainsBytes("a"), Want::Is(false)),
     (Ask::Len, Want::Len(1)),
     (Ask::Stats, Want::Counts([1, 1, 0, 1], &[])),
     (Ask::Remove(""), Want::Some(1)),
+    (Ask::Contains(""), Want::Is(false)),
     (Ask::IsEmpty, Want::Is(true)),
     (Ask::Stats, Want::Counts([0, 0, 0, 0], &[])),
 ];
 
 #[test]
 fn keys_without_bytes(rt: HostRuntime) {
-    went_well(&rt, plays::<ArrayKey<0>>(rt.alloc(), &NO_BYTES));
+    assert_none_wrong(&rt, first_wrong::<ArrayKey<0>>(rt.alloc(), &NO_BYTES));
 }
 
 #[test]
@@ -136,10 +151,10 @@ fn keys_kept_at_the_end_reply_alike(rt: HostRuntime) {
         &NEVER_REPLACED,
         &IN_ORDER,
     ] {
-        went_well(&rt, plays::<TailKey<16>>(rt.alloc(), rows));
+        assert_none_wrong(&rt, first_wrong::<TailKey<16>>(rt.alloc(), rows));
     }
-    went_well(&rt, plays::<TailKey<4>>(rt.alloc(), &LONG_PROBE));
-    went_well(&rt, plays::<TailKey<0>>(rt.alloc(), &NO_BYTES));
+    assert_none_wrong(&rt, first_wrong::<TailKey<4>>(rt.alloc(), &LONG_PROBE));
+    assert_none_wrong(&rt, first_wrong::<TailKey<0>>(rt.alloc(), &NO_BYTES));
 }
 
 const EVERY_BYTE: [Row<'static>; 7] = [
@@ -154,15 +169,17 @@ const EVERY_BYTE: [Row<'static>; 7] = [
 
 #[test]
 fn every_byte_as_a_child(rt: HostRuntime) {
-    went_well(&rt, plays::<ArrayKey<16>>(rt.alloc(), &EVERY_BYTE));
+    assert_none_wrong(&rt, first_wrong::<ArrayKey<16>>(rt.alloc(), &EVERY_BYTE));
 }
 
-const REMOVED: [Row<'static>; 8] = [
+const REMOVED: [Row<'static>; 10] = [
     (Ask::Insert("a", 1), Want::None),
     (Ask::Insert("ab", 2), Want::None),
     (Ask::Remove("a"), Want::Some(1)),
     (Ask::Get("a"), Want::None),
     (Ask::Get("ab"), Want::Some(2)),
+    (Ask::Contains("a"), Want::Is(false)),
+    (Ask::Contains("ab"), Want::Is(true)),
     (Ask::Stats, Want::Counts([1, 1, 0, 1], &[])),
     (Ask::Remove("a"), Want::None),
     (Ask::Len, Want::Len(1)),
@@ -170,7 +187,7 @@ const REMOVED: [Row<'static>; 8] = [
 
 #[test]
 fn a_removed_inner_key_is_gone(rt: HostRuntime) {
-    went_well(&rt, plays::<ArrayKey<16>>(rt.alloc(), &REMOVED));
+    assert_none_wrong(&rt, first_wrong::<ArrayKey<16>>(rt.alloc(), &REMOVED));
 }
 
 const DELETED_INNER: [Row<'static>; 5] = [
@@ -183,7 +200,7 @@ const DELETED_INNER: [Row<'static>; 5] = [
 
 #[test]
 fn a_deleted_inner_key_is_gone(rt: HostRuntime) {
-    went_well(&rt, plays::<ArrayKey<16>>(rt.alloc(), &DELETED_INNER));
+    assert_none_wrong(&rt, first_wrong::<ArrayKey<16>>(rt.alloc(), &DELETED_INNER));
 }
 
 const DELETED_TWICE: [Row<'static>; 5] = [
@@ -196,7 +213,7 @@ const DELETED_TWICE: [Row<'static>; 5] = [
 
 #[test]
 fn a_deletion_tells_whether_there_was_a_value(rt: HostRuntime) {
-    went_well(&rt, plays::<ArrayKey<16>>(rt.alloc(), &DELETED_TWICE));
+    assert_none_wrong(&rt, first_wrong::<ArrayKey<16>>(rt.alloc(), &DELETED_TWICE));
 }
 
 const DELETED_AMONG_OTHERS: [Row<'static>; 7] = [
@@ -211,9 +228,9 @@ const DELETED_AMONG_OTHERS: [Row<'static>; 7] = [
 
 #[test]
 fn deletions_leave_the_other_keys(rt: HostRuntime) {
-    went_well(
+    assert_none_wrong(
         &rt,
-        plays::<ArrayKey<16>>(rt.alloc(), &DELETED_AMONG_OTHERS),
+        first_wrong::<ArrayKey<16>>(rt.alloc(), &DELETED_AMONG_OTHERS),
     );
 }
 
@@ -231,7 +248,10 @@ const NEVER_REPLACED: [Row<'static>; 9] = [
 
 #[test]
 fn a_stored_value_is_kept_by_insertions_of_new_keys(rt: HostRuntime) {
-    went_well(&rt, plays::<ArrayKey<16>>(rt.alloc(), &NEVER_REPLACED));
+    assert_none_wrong(
+        &rt,
+        first_wrong::<ArrayKey<16>>(rt.alloc(), &NEVER_REPLACED),
+    );
 }
 
 const OVERWRITTEN: [Row<'static>; 10] = [
@@ -249,7 +269,7 @@ const OVERWRITTEN: [Row<'static>; 10] = [
 
 #[test]
 fn a_lent_value_is_changed_where_it_stands(rt: HostRuntime) {
-    went_well(&rt, plays::<ArrayKey<4>>(rt.alloc(), &OVERWRITTEN));
+    assert_none_wrong(&rt, first_wrong::<ArrayKey<4>>(rt.alloc(), &OVERWRITTEN));
 }
 
 const IN_ORDER: [Row<'static>; 5] = [
@@ -262,7 +282,7 @@ const IN_ORDER: [Row<'static>; 5] = [
 
 #[test]
 fn pairs_come_in_the_order_of_their_bytes(rt: HostRuntime) {
-    went_well(&rt, plays::<ArrayKey<4>>(rt.alloc(), &IN_ORDER));
+    assert_none_wrong(&rt, first_wrong::<ArrayKey<4>>(rt.alloc(), &IN_ORDER));
 }
 
 const RUN: [Row<'static>; 11] = [
@@ -281,7 +301,7 @@ const RUN: [Row<'static>; 11] = [
 
 #[test]
 fn a_run_replies_to_its_calls_in_turn(rt: HostRuntime) -> Result<(), Fail> {
-    went_well(&rt, plays_as_run::<ArrayKey<4>>(rt.alloc(), &RUN)?);
-    went_well(&rt, plays::<ArrayKey<4>>(rt.alloc(), &RUN));
+    assert_none_wrong(&rt, first_wrong_in_run::<ArrayKey<4>>(rt.alloc(), &RUN)?);
+    assert_none_wrong(&rt, first_wrong::<ArrayKey<4>>(rt.alloc(), &RUN));
     Ok(())
 }

@@ -1,6 +1,6 @@
 //! Statistics: what the nodes of a tree are, read after each call.
 
-use crate::play::{Ask, Row, Want, plays, went_well};
+use crate::play::{Ask, Row, Want, assert_none_wrong, first_wrong};
 use rart::keys::tail_key::TailKey;
 use rart::{AdaptiveRadixTree, ArrayKey, NodeStats, TreeStats, TreeStatsTrait};
 use rart_test_trees::is_counted;
@@ -29,7 +29,10 @@ const LEAF_AND_PARENT: [Row<'static>; 6] = [
 
 #[test]
 fn statistics_of_a_leaf_and_its_parent(rt: HostRuntime) {
-    went_well(&rt, plays::<ArrayKey<16>>(rt.alloc(), &LEAF_AND_PARENT));
+    assert_none_wrong(
+        &rt,
+        first_wrong::<ArrayKey<16>>(rt.alloc(), &LEAF_AND_PARENT),
+    );
 }
 
 const TWO_LEAVES: [Row<'static>; 5] = [
@@ -42,7 +45,7 @@ const TWO_LEAVES: [Row<'static>; 5] = [
 
 #[test]
 fn statistics_of_two_leaves(rt: HostRuntime) {
-    went_well(&rt, plays::<ArrayKey<16>>(rt.alloc(), &TWO_LEAVES));
+    assert_none_wrong(&rt, first_wrong::<ArrayKey<16>>(rt.alloc(), &TWO_LEAVES));
 }
 
 const LONE_CHILD: [Row<'static>; 8] = [
@@ -58,7 +61,7 @@ const LONE_CHILD: [Row<'static>; 8] = [
 
 #[test]
 fn a_lone_child_is_the_root_in_place_of_its_parent(rt: HostRuntime) {
-    went_well(&rt, plays::<ArrayKey<16>>(rt.alloc(), &LONE_CHILD));
+    assert_none_wrong(&rt, first_wrong::<ArrayKey<16>>(rt.alloc(), &LONE_CHILD));
 }
 
 const THREE_LEVELS: [Row<'static>; 6] = [
@@ -72,7 +75,7 @@ const THREE_LEVELS: [Row<'static>; 6] = [
 
 #[test]
 fn statistics_of_three_levels(rt: HostRuntime) {
-    went_well(&rt, plays::<ArrayKey<16>>(rt.alloc(), &THREE_LEVELS));
+    assert_none_wrong(&rt, first_wrong::<ArrayKey<16>>(rt.alloc(), &THREE_LEVELS));
 }
 
 const JOINED_WITH_A_WIDER_CHILD: [Row<'static>; 6] = [
@@ -89,15 +92,15 @@ const JOINED_WITH_A_WIDER_CHILD: [Row<'static>; 6] = [
 
 #[test]
 fn a_joined_child_keeps_its_kind(rt: HostRuntime) {
-    went_well(
+    assert_none_wrong(
         &rt,
-        plays::<ArrayKey<16>>(rt.alloc(), &JOINED_WITH_A_WIDER_CHILD),
+        first_wrong::<ArrayKey<16>>(rt.alloc(), &JOINED_WITH_A_WIDER_CHILD),
     );
 }
 
 #[test]
 fn a_lone_child_takes_the_place_of_its_parent(rt: HostRuntime) {
-    went_well(&rt, plays::<ArrayKey<4>>(rt.alloc(), &LONE_CHILD));
+    assert_none_wrong(&rt, first_wrong::<ArrayKey<4>>(rt.alloc(), &LONE_CHILD));
 }
 
 const FIVE_NODES: [Row<'static>; 4] = [
@@ -116,8 +119,8 @@ const FOUR_NODES: [Row<'static>; 4] = [
 
 #[test]
 fn five_and_four_nodes_stand(rt: HostRuntime) {
-    went_well(&rt, plays::<ArrayKey<16>>(rt.alloc(), &FIVE_NODES));
-    went_well(&rt, plays::<ArrayKey<16>>(rt.alloc(), &FOUR_NODES));
+    assert_none_wrong(&rt, first_wrong::<ArrayKey<16>>(rt.alloc(), &FIVE_NODES));
+    assert_none_wrong(&rt, first_wrong::<ArrayKey<16>>(rt.alloc(), &FOUR_NODES));
 }
 
 const WIDENING: [Row<'static>; 14] = [
@@ -139,7 +142,7 @@ const WIDENING: [Row<'static>; 14] = [
 
 #[test]
 fn a_root_widens_with_its_children(rt: HostRuntime) {
-    went_well(&rt, plays::<ArrayKey<16>>(rt.alloc(), &WIDENING));
+    assert_none_wrong(&rt, first_wrong::<ArrayKey<16>>(rt.alloc(), &WIDENING));
 }
 
 const NARROWING: [Row<'static>; 15] = [
@@ -162,7 +165,7 @@ const NARROWING: [Row<'static>; 15] = [
 
 #[test]
 fn a_root_narrows_with_its_children_at_once(rt: HostRuntime) {
-    went_well(&rt, plays::<ArrayKey<16>>(rt.alloc(), &NARROWING));
+    assert_none_wrong(&rt, first_wrong::<ArrayKey<16>>(rt.alloc(), &NARROWING));
 }
 
 #[test]
@@ -176,7 +179,7 @@ fn keys_kept_at_the_end_have_the_same_statistics(rt: HostRuntime) {
         &WIDENING,
         &NARROWING,
     ] {
-        went_well(&rt, plays::<TailKey<8>>(rt.alloc(), rows));
+        assert_none_wrong(&rt, first_wrong::<TailKey<8>>(rt.alloc(), rows));
     }
 }
 

@@ -1,6 +1,6 @@
 //! Keys made of texts and numbers.
 
-use crate::play::{Ask, Row, Want, plays_texts, went_well};
+use crate::play::{Ask, Row, Want, assert_none_wrong, first_wrong_text};
 use rart::script::{Call, Reply, step};
 use rart::{AdaptiveRadixTree, ArrayKey};
 use std::alloc::Global;
@@ -14,7 +14,7 @@ const LATEST: [Row<'static>; 3] = [
 
 #[test]
 fn a_text_gives_its_latest_value(rt: HostRuntime) {
-    went_well(&rt, plays_texts::<ArrayKey<16>>(rt.alloc(), &LATEST));
+    assert_none_wrong(&rt, first_wrong_text::<ArrayKey<16>>(rt.alloc(), &LATEST));
 }
 
 const BEGINNINGS: [Row<'static>; 4] = [
@@ -26,7 +26,10 @@ const BEGINNINGS: [Row<'static>; 4] = [
 
 #[test]
 fn values_of_texts_that_begin_one_another(rt: HostRuntime) {
-    went_well(&rt, plays_texts::<ArrayKey<16>>(rt.alloc(), &BEGINNINGS));
+    assert_none_wrong(
+        &rt,
+        first_wrong_text::<ArrayKey<16>>(rt.alloc(), &BEGINNINGS),
+    );
 }
 
 const AMONG_OTHERS: [Row<'static>; 14] = [
@@ -51,7 +54,10 @@ const AMONG_OTHERS: [Row<'static>; 14] = [
 
 #[test]
 fn texts_removed_among_others(rt: HostRuntime) {
-    went_well(&rt, plays_texts::<ArrayKey<16>>(rt.alloc(), &AMONG_OTHERS));
+    assert_none_wrong(
+        &rt,
+        first_wrong_text::<ArrayKey<16>>(rt.alloc(), &AMONG_OTHERS),
+    );
 }
 
 const WORDS: [Row<'static>; 6] = [
@@ -69,7 +75,7 @@ const WORDS: [Row<'static>; 6] = [
 
 #[test]
 fn a_text_begins_the_texts_that_go_on(rt: HostRuntime) {
-    went_well(&rt, plays_texts::<ArrayKey<16>>(rt.alloc(), &WORDS));
+    assert_none_wrong(&rt, first_wrong_text::<ArrayKey<16>>(rt.alloc(), &WORDS));
 }
 
 type Key = ArrayKey<16>;

@@ -2,7 +2,7 @@
 //! then, the reply, and the value that the key has afterwards.
 
 use crate::play::forms::asked;
-use crate::play::{Then, went_well};
+use crate::play::{Request, assert_none_wrong};
 use rart::script::{Call, Reply, step};
 use rart::{AdaptiveRadixTree, ArrayKey, KeyTrait, Slot, SlotUpdate, TryUpdateError};
 use std::alloc::Global;
@@ -18,13 +18,13 @@ type Row = (
     bool,
     &'static str,
     Option<u64>,
-    Then,
+    Request,
     Option<bool>,
     Option<u64>,
 );
 
-fn call(tries: bool, key: Key, written: Option<u64>, then: Then) -> Call<Key, u64> {
-    match asked(then) {
+fn call(tries: bool, key: Key, written: Option<u64>, request: Request) -> Call<Key, u64> {
+    match asked(request) {
         Ok(update) => {
             if tries {
                 Call::TryUpdate(key, written, Ok(update))
@@ -45,13 +45,13 @@ fn is(reply: &Reply<Key, u64>, want: Option<bool>) -> bool {
 }
 
 // The first row that goes another way, if one does.
-fn plays(rt: &impl Abort, alloc: Global, tree: &mut Tree, rows: &[Row]) -> Option<usize> {
+fn first_wrong(rt: &impl Abort, alloc: Global, tree: &mut Tree, rows: &[Row]) -> Option<usize> {
     let mut row = 0_usize;
-    for (tries, text, written, then, want, after) in rows {
+    for (tries, text, written, request, want, after) in rows {
         let bytes = text.as_bytes();
         assert!(rt; bytes.len() <= 16);
         let key = Key::new_from_slice(bytes);
-        let reply = step(alloc, tree, call(*tries, key, *written, *then));
+        let reply = step(alloc, tree, call(*tries, key, *written, *request));
         if !is(&reply, *want) || tree.get_bytes(bytes).copied() != *after {
             return Some(row);
         }
@@ -61,41 +61,41 @@ fn plays(rt: &impl Abort, alloc: Global, tree: &mut Tree, rows: &[Row]) -> Optio
 }
 
 const OF_A_STORED_AND_A_NEW_KEY: [Row; 9] = [
-    (false, "a", None, Then::Insert(1), Some(true), Some(1)),
-    (false, "a", Some(7), Then::Keep, Some(true), Some(7)),
-    (false, "a", Some(8), Then::Insert(9), Some(true), Some(9)),
-    (false, "z", Some(5), Then::Insert(6), Some(true), Some(6)),
-    (false, "z", None, Then::Remove, Some(true), None),
-    (false, "z", None, Then::Remove, Some(false), None),
-    (true, "a", Some(3), Then::Fail, None, Some(9)),
-    (true, "q", Some(3), Then::Fail, None, None),
-    (true, "a", Some(3), Then::Keep, Some(true), Some(3)),
+    (false, "a", None, Request::Insert(1), Some(true), Some(1)),
+    (false, "a", Some(7), Request::Keep, Some(true), Some(7)),
+    (false, "a", Some(8), Request::Insert(9), Some(true), Some(9)),
+    (false, "z", Some(5), Request::Insert(6), Some(true), Some(6)),
+    (false, "z", None, Request::Remove, Some(true), None),
+    (false, "z", None, Request::Remove, Some(false), None),
+    (true, "a", Some(3), Request::Fail, None, Some(9)),
+    (true, "q", Some(3), Request::Fail, None, None),
+    (true, "a", Some(3), Request::Keep, Some(true), Some(3)),
 ];
 
 const INTO_A_BUCKET: [Row; 2] = [
-    (false, "bucket", None, Then::Keep, Some(false), None),
+    (false, "bucket", None, Request::Keep, Some(false), None),
     (
         false,
         "bucket",
         None,
-        Then::Insert(10),
+        Request::Insert(10),
         Some(true),
         Some(10),
     ),
 ];
 
 const OUT_OF_A_BUCKET: [Row; 2] = [
-    (false, "bucket", None, Then::Remove, Some(true), None),
-    (true, "bucket", None, Then::Remove, Some(false), None),
+    (false, "bucket", None, Request::Remove, Some(true), None),
+    (true, "bucket", None, Request::Remove, Some(false), None),
 ];
 
 #[test]
 fn updates_of_a_stored_and_a_new_key(rt: HostRuntime) {
     let alloc = rt.alloc();
     let mut tree = Tree::new(alloc);
-    went_well(
+    assert_none_wrong(
         &rt,
-        plays(&rt, alloc, &mut tree, &OF_A_STORED_AND_A_NEW_KEY),
+        first_wrong(&rt, alloc, &mut tree, &OF_A_STORED_AND_A_NEW_KEY),
     );
 }
 
@@ -121,9 +121,9 @@ fn add_five(tree: &mut Tree) -> Option<u64> {
 fn updates_fill_a_bucket_add_to_it_and_empty_it(rt: HostRuntime) {
     let alloc = rt.alloc();
     let mut tree = Tree::new(alloc);
-    went_well(&rt, plays(&rt, alloc, &mut tree, &INTO_A_BUCKET));
+    assert_none_wrong(&rt, first_wrong(&rt, alloc, &mut tree, &INTO_A_BUCKET));
     assert_eq!(rt; add_five(&mut tree), Some(15));
-    went_well(&rt, plays(&rt, alloc, &mut tree, &OUT_OF_A_BUCKET));
+    assert_none_wrong(&rt, first_wrong(&rt, alloc, &mut tree, &OUT_OF_A_BUCKET));
 }
 
 /// Why a callback fails.

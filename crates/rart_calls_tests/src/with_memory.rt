@@ -4,7 +4,7 @@ use super::refused_in_turn::{
     EVERY_CALL, FOUR_WIDTHS, GROWTH, GROWTH_BY_NEW_KEYS, LISTS, SHRINKING, SHRINKING_BY_DELETION,
     SPLITS,
 };
-use crate::play::{plays, plays_as_run, went_well};
+use crate::play::{assert_none_wrong, first_wrong, first_wrong_in_run};
 use rart::ArrayKey;
 use std::test::Fail;
 
@@ -19,7 +19,7 @@ fn edits_succeed_with_memory(rt: HostRuntime) {
         &SHRINKING,
         &SHRINKING_BY_DELETION,
     ] {
-        went_well(&rt, plays::<ArrayKey<16>>(alloc, rows));
+        assert_none_wrong(&rt, first_wrong::<ArrayKey<16>>(alloc, rows));
     }
 }
 
@@ -27,8 +27,8 @@ fn edits_succeed_with_memory(rt: HostRuntime) {
 fn walks_succeed_with_memory(rt: HostRuntime) -> Result<(), Fail> {
     let alloc = rt.alloc();
     for rows in [&FOUR_WIDTHS[..], &LISTS, &EVERY_CALL] {
-        went_well(&rt, plays::<ArrayKey<16>>(alloc, rows));
+        assert_none_wrong(&rt, first_wrong::<ArrayKey<16>>(alloc, rows));
     }
-    went_well(&rt, plays_as_run::<ArrayKey<16>>(alloc, &LISTS)?);
+    assert_none_wrong(&rt, first_wrong_in_run::<ArrayKey<16>>(alloc, &LISTS)?);
     Ok(())
 }

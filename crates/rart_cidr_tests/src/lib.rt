@@ -8,8 +8,14 @@ mod model;
 #[cfg(test)]
 mod random;
 #[cfg(test)]
+mod refused;
+#[cfg(test)]
 mod rows4;
 #[cfg(test)]
 mod rows6;
 #[cfg(test)]
 mod short;
+#[cfg(test)]
+mod walks4;
+#[cfg(test)]
+mod walks6;

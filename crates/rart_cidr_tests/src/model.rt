@@ -1,6 +1,6 @@
 //! A slow model of a table of IPv4 networks: its routes in any order, and answers by going through all of them.
 
-use rart_cidr::{Cidr4, CidrTable4};
+use rart_cidr::{Cidr4, CidrTable4, Routes4};
 use std::net::Ipv4Addr;
 
 /// A route of the model.
@@ -71,6 +71,52 @@ pub fn table_matches(table: &CidrTable4<u64>, routes: &[Route], addr: Ipv4Addr) 
         count = count.wrapping_add(1);
     }
     Some(count)
+}
+
+/// Returns how many routes are inside `net`.
+pub fn count_within(routes: &[Route], net: &Cidr4) -> usize {
+    let mut count = 0_usize;
+    for route in routes {
+        if net.contains_net(&route.0) {
+            count = count.wrapping_add(1);
+        }
+    }
+    count
+}
+
+// How many routes a walk gives, or `None` if one doesn't come after the one before it, isn't inside `net`, or isn't a
+// route.
+fn walked(walk: Routes4<'_, u64>, routes: &[Route], net: &Cidr4) -> Option<usize> {
+    let mut count = 0_usize;
+    let mut last: Option<Cidr4> = None;
+    for (inside, target) in walk {
+        if last >= Some(inside)
+            || !net.contains_net(&inside)
+            || target_of(routes, &inside) != Some(*target)
+        {
+            return None;
+        }
+        last = Some(inside);
+        count = count.wrapping_add(1);
+    }
+    Some(count)
+}
+
+/// Returns whether the walk of the routes inside `net` gives those of the model in order.
+pub fn is_within(table: &CidrTable4<u64>, routes: &[Route], net: &Cidr4) -> bool {
+    match table.within(*net) {
+        Ok(walk) => walked(walk, routes, net) == Some(count_within(routes, net)),
+        Err(_) => false,
+    }
+}
+
+/// Returns whether the walk of all routes gives those of the model in order.
+pub fn is_walked(table: &CidrTable4<u64>, routes: &[Route]) -> bool {
+    let all = Cidr4::masked(Ipv4Addr::UNSPECIFIED, 0);
+    match table.iter() {
+        Ok(walk) => walked(walk, routes, &all) == Some(routes.len()),
+        Err(_) => false,
+    }
 }
 
 /// Returns whether table and model answer alike about `addr`.

@@ -1,6 +1,8 @@
 //! A run of calls that look random, beside a slow model.
 
-use crate::model::{Route, longest, table_by_lengths, table_longest, target_of};
+use crate::model::{
+    Route, is_walked, is_within, longest, table_by_lengths, table_longest, target_of,
+};
 use rart_cidr::{Cidr4, CidrTable4};
 use std::alloc::Global;
 use std::net::Ipv4Addr;
@@ -106,6 +108,10 @@ fn play(rt: &impl Abort, alloc: Global, seed: u64) -> usize {
             0 | 1 => insert(rt, &mut table, &mut routes, net, number >> 40),
             2 | 3 => remove(rt, &mut table, &mut routes, net),
             _ => look_up(rt, &table, routes.as_slice(), number),
+        }
+        if number % 4096 == 4095 {
+            assert!(rt; is_walked(&table, routes.as_slice()));
+            assert!(rt; is_within(&table, routes.as_slice(), &net));
         }
         assert!(rt; table.len() == routes.len());
         most = most.max(routes.len());

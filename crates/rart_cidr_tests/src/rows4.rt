@@ -109,7 +109,7 @@ fn answer(table: &mut Table, ask: Ask) -> Reply {
 }
 
 // The number of the first row that is answered otherwise.
-fn plays(alloc: Global, rows: &[Row]) -> Option<usize> {
+fn first_wrong(alloc: Global, rows: &[Row]) -> Option<usize> {
     let mut table = Table::new(alloc);
     let mut at = 0_usize;
     for (ask, wanted) in rows {
@@ -121,7 +121,7 @@ fn plays(alloc: Global, rows: &[Row]) -> Option<usize> {
     None
 }
 
-fn went_well(rt: &impl Abort, differs: Option<usize>) {
+fn assert_none_wrong(rt: &impl Abort, differs: Option<usize>) {
     if let Some(at) = differs {
         assert!(rt; false, "row {at} differs");
     }
@@ -271,20 +271,20 @@ const ONE_STRIDE: [Row; 16] = [
 
 #[test]
 fn networks_inside_one_another(rt: HostRuntime) {
-    went_well(&rt, plays(rt.alloc(), &NESTED));
+    assert_none_wrong(&rt, first_wrong(rt.alloc(), &NESTED));
 }
 
 #[test]
 fn default_route_and_host_routes(rt: HostRuntime) {
-    went_well(&rt, plays(rt.alloc(), &DEFAULT_AND_HOSTS));
+    assert_none_wrong(&rt, first_wrong(rt.alloc(), &DEFAULT_AND_HOSTS));
 }
 
 #[test]
 fn no_networks(rt: HostRuntime) {
-    went_well(&rt, plays(rt.alloc(), &NO_NETWORKS));
+    assert_none_wrong(&rt, first_wrong(rt.alloc(), &NO_NETWORKS));
 }
 
 #[test]
 fn networks_of_the_same_octets(rt: HostRuntime) {
-    went_well(&rt, plays(rt.alloc(), &ONE_STRIDE));
+    assert_none_wrong(&rt, first_wrong(rt.alloc(), &ONE_STRIDE));
 }

@@ -1,6 +1,6 @@
 //! All networks of at most eight bits, each alone and all together.
 
-use crate::model::{Route, is_alike};
+use crate::model::{Route, is_alike, is_walked, is_within};
 use rart_cidr::{Cidr4, CidrTable4};
 use std::alloc::Global;
 use std::net::Ipv4Addr;
@@ -26,12 +26,12 @@ fn is_alone(rt: &impl Abort, alloc: Global, net: Cidr4) -> bool {
     let mut table = CidrTable4::new(alloc);
     assert!(rt; matches!(table.insert(&net, 7_u64), Ok(None)));
     let routes: [Route; 1] = [(net, 7)];
-    let mut went_well = table.len() == 1;
+    let mut assert_none_wrong = table.len() == 1;
     for byte in 0..256_usize {
-        went_well = went_well && is_alike(&table, &routes, first_octet(byte));
+        assert_none_wrong = assert_none_wrong && is_alike(&table, &routes, first_octet(byte));
     }
     assert!(rt; matches!(table.remove(&net), Ok(Some(7))));
-    went_well && table.is_empty() && table.longest_match(first_octet(0)).is_none()
+    assert_none_wrong && table.is_empty() && table.longest_match(first_octet(0)).is_none()
 }
 
 #[test]
@@ -63,6 +63,19 @@ fn all_short(rt: &impl Abort, alloc: Global, table: &mut CidrTable4<u64>) -> Vec
     routes
 }
 
+// Whether the walk of the routes inside each short network gives them in order.
+fn are_within(table: &CidrTable4<u64>, routes: &[Route]) -> bool {
+    let mut went_well = is_walked(table, routes);
+    for len in 0..9_usize {
+        for byte in 0..256_usize {
+            if let Some(net) = short(byte, len) {
+                went_well = went_well && is_within(table, routes, &net);
+            }
+        }
+    }
+    went_well
+}
+
 // Removes a route, after which table and model answer alike.
 fn take_out(
     rt: &impl Abort,
@@ -91,6 +104,7 @@ fn take_out_all(rt: &impl Abort, table: &mut CidrTable4<u64>, routes: &mut Vec<R
 fn all_short_networks_together(rt: HostRuntime) {
     let mut table = CidrTable4::new(rt.alloc());
     let mut routes = all_short(&rt, rt.alloc(), &mut table);
+    assert!(rt; are_within(&table, routes.as_slice()));
     take_out_all(&rt, &mut table, &mut routes);
     assert!(rt; table.is_empty());
 }

@@ -44,7 +44,7 @@ fn leaf(byte: u8, value: u64) -> TestNode {
 }
 
 fn add(rt: &impl Abort, alloc: Global, node: &mut TestNode, byte: u8, value: u64) {
-    assert!(rt; node.seek_child(byte).is_none(), "a child stands there");
+    assert!(rt; node.seek_child(byte).is_none(), "a child is stored");
     match node.add_child(alloc, byte, leaf(byte, value)) {
         Ok(()) => {}
         Err(_refused) => assert!(rt; false, "refused with ample memory"),
@@ -84,7 +84,7 @@ fn write_at(node: &mut TestNode, byte: u8, value: u64) -> Option<u64> {
     Some(mem::replace(node.child_value_mut(byte)?, value))
 }
 
-// None where no child stands and the leaf comes back.
+// None where no child is stored and the leaf is returned.
 fn replace(node: &mut TestNode, byte: u8, value: u64) -> Option<u64> {
     match node.replace_child(byte, leaf(byte, value)) {
         Ok(child) => child.value().copied(),
@@ -142,7 +142,7 @@ fn new_of_width(alloc: Global, width: usize, prefix: Part) -> Result<TestNode, T
 }
 
 // A helper owns the node, and another asserts: an assert beside an owned node gets no proof.
-fn plays(rt: &impl Abort, alloc: Global, width: usize, rows: &[Row]) {
+fn check_rows(rt: &impl Abort, alloc: Global, width: usize, rows: &[Row]) {
     let Ok(mut node) = new_of_width(alloc, width, Part::from_slice(b"abc\0")) else {
         panic!(rt; "refused with ample memory")
     };
@@ -175,7 +175,7 @@ const FOUR_CHILDREN: [Row; 11] = [
 
 #[test]
 fn of_four_children_two_are_deleted(rt: HostRuntime) {
-    plays(&rt, rt.alloc(), 4, &FOUR_CHILDREN);
+    check_rows(&rt, rt.alloc(), 4, &FOUR_CHILDREN);
 }
 
 const FULL: [Row; 10] = [
@@ -193,7 +193,7 @@ const FULL: [Row; 10] = [
 
 #[test]
 fn of_all_children_two_are_deleted_and_the_others_keep_their_values(rt: HostRuntime) {
-    plays(&rt, rt.alloc(), 256, &FULL);
+    check_rows(&rt, rt.alloc(), 256, &FULL);
 }
 
 const FEW_IN_A_WIDE_NODE: [Row; 9] = [
@@ -210,7 +210,7 @@ const FEW_IN_A_WIDE_NODE: [Row; 9] = [
 
 #[test]
 fn a_wide_node_with_few_children_moves_one_kind_down_at_a_deletion(rt: HostRuntime) {
-    plays(&rt, rt.alloc(), 256, &FEW_IN_A_WIDE_NODE);
+    check_rows(&rt, rt.alloc(), 256, &FEW_IN_A_WIDE_NODE);
 }
 
 const EVERY_KIND: [Row; 12] = [
@@ -230,7 +230,7 @@ const EVERY_KIND: [Row; 12] = [
 
 #[test]
 fn children_are_walked_in_order_in_every_kind(rt: HostRuntime) {
-    plays(&rt, rt.alloc(), 0, &EVERY_KIND);
+    check_rows(&rt, rt.alloc(), 0, &EVERY_KIND);
 }
 
 const WRITTEN: [Row; 10] = [
@@ -248,7 +248,7 @@ const WRITTEN: [Row; 10] = [
 
 #[test]
 fn a_value_and_a_child_are_changed_in_place_and_a_child_is_replaced(rt: HostRuntime) {
-    plays(&rt, rt.alloc(), 0, &WRITTEN);
+    check_rows(&rt, rt.alloc(), 0, &WRITTEN);
 }
 
 fn new_inner(alloc: Global, width: usize) -> Result<TestNode, TreeError> {

@@ -4,7 +4,7 @@ ghost use Rattle.rart.specs.Updates.{written_slot};
 
 use crate::call::Call;
 use crate::numbers::{mix, sum_if, sum_of};
-use crate::sides::Tree;
+use crate::sides::{Tree, mix_key};
 use rart::{
     KeyTrait, NotInserted, Refused, Slot, SlotUpdate, TreeError, TryInsertError, TryUpdateError,
     UpdateError,
@@ -61,6 +61,16 @@ fn delete<K: KeyTrait>(tree: &mut Tree<K>, key: &K) -> Option<u64> {
     }
 }
 
+// The sum of a pair that a pop returns.
+fn popped<K: KeyTrait + Drop>(answer: Result<Option<(K, u64)>, TreeError>) -> Option<u64> {
+    match answer {
+        Ok(Some((key, value))) => Some(mix(mix_key(1, &key), value)),
+        Ok(None) => Some(sum_of(None)),
+        Err(TreeError::Memory) => None,
+        Err(TreeError::Full) => Some(WRONG),
+    }
+}
+
 fn overwrite<K: KeyTrait>(tree: &mut Tree<K>, key: &K, value: u64) -> Option<u64> {
     match tree.get_mut_k(key) {
         Some(place) => {
@@ -79,6 +89,11 @@ fn update_of(call: &Call) -> SlotUpdate<u64> {
         1 => SlotUpdate::Insert(call.value),
         _ => SlotUpdate::Remove,
     }
+}
+
+/// Whether a removal is that of a pair at an end.
+pub fn pops(call: &Call) -> bool {
+    call.choice % 8 == 7
 }
 
 /// Whether the callback writes `value + 1` at an occupied slot before it answers.
@@ -141,7 +156,9 @@ pub fn edit<K: KeyTrait + Drop>(tree: &mut Tree<K>, key: &K, call: &Call) -> Opt
         0 | 1 => insert(tree, key, call.value),
         2 => try_insert(tree, key, call.value),
         3 => insert_new(tree, key, call.value),
+        4 if pops(call) => popped(tree.pop_first()),
         4 => remove(tree, key),
+        5 if pops(call) => popped(tree.pop_last()),
         5 => delete(tree, key),
         6 => overwrite(tree, key, call.value),
         7 => update(tree, key, call),

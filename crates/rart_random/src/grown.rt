@@ -36,7 +36,7 @@ fn all_views(call: &Call) -> Call {
     one
 }
 
-// The pair at a place, from the front or from behind.
+// The pair at a place, from the front or from the back.
 fn pair_at(list: &[Pair], place: usize, call: &Call) -> Option<Pair> {
     let at = if call.value % 2 == 0 {
         place

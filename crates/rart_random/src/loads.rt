@@ -2,7 +2,7 @@
 use crate::call::Call;
 use crate::edits::WRONG;
 use crate::model::{Model, Pair};
-use crate::numbers::mix;
+use crate::numbers::{mix, sum_if};
 use crate::shape::{shape_in, shape_of};
 use crate::sides::{Tree, key_of, mix_key};
 use rart::{BulkError, KeyTrait};
@@ -56,11 +56,23 @@ pub fn sum_in<K: KeyTrait + Drop>(tree: &Tree<K>) -> Option<u64> {
     Some(sum)
 }
 
+// Whether the tree is the one that the list gives by insertions in turn; none if memory was refused.
+fn is_inserted<K: KeyTrait + Drop>(alloc: Global, tree: &Tree<K>, list: &[Pair]) -> Option<bool> {
+    let items = items::<K>(alloc, list).ok()?;
+    match Tree::<K>::from_pairs(alloc, items) {
+        Ok(other) => Some(other == *tree),
+        Err(_refused) => None,
+    }
+}
+
 /// The sum of the tree of the list, or of its fault.
 pub fn load<K: KeyTrait + Drop>(alloc: Global, list: &[Pair]) -> Option<u64> {
     let items = items::<K>(alloc, list).ok()?;
     match Tree::<K>::bulk_load_sorted(alloc, items) {
-        Ok(tree) => Some(mix(sum_in(&tree)?, shape_in(&tree)?)),
+        Ok(tree) => {
+            let is_inserted = sum_if(is_inserted(alloc, &tree, list)?);
+            Some(mix(mix(sum_in(&tree)?, shape_in(&tree)?), is_inserted))
+        }
         Err(BulkError::Unsorted { at }) => Some(mix(13, at as u64)),
         Err(BulkError::Memory) => None,
         Err(BulkError::Full) => Some(WRONG),
@@ -92,7 +104,7 @@ pub fn wanted_load(alloc: Global, list: &[Pair]) -> u64 {
         model.put(&pair.0, pair.1);
     }
     match shape_of(alloc, &model) {
-        Ok(shape) => mix(model.sum(0, model.len(), true), shape),
+        Ok(shape) => mix(mix(model.sum(0, model.len(), true), shape), sum_if(true)),
         Err(_refused) => 1,
     }
 }

@@ -1,8 +1,8 @@
 //! What an edit must answer, by the model, and what the model is after it.
 use crate::call::Call;
-use crate::edits::writes;
+use crate::edits::{pops, writes};
 use crate::model::Model;
-use crate::numbers::{mix, sum_if, sum_of};
+use crate::numbers::{mix, mix_pair, sum_if, sum_of};
 use crate::text::Text;
 
 fn insert_new(model: &mut Model, key: &Text, value: u64) -> Option<u64> {
@@ -50,13 +50,26 @@ fn try_update(model: &mut Model, key: &Text, call: &Call) -> u64 {
     sum_if(settle(model, key, call, true))
 }
 
+// Removes the pair at a place, and returns the sum of it.
+fn pop(model: &mut Model, place: usize) -> u64 {
+    match model.at(place) {
+        Some((key, value)) => {
+            model.remove(&key);
+            mix_pair(1, key.as_slice(), value)
+        }
+        None => sum_of(None),
+    }
+}
+
 /// Makes the edit that the call names.
 pub fn edit(model: &mut Model, key: &Text, call: &Call) -> u64 {
     match call.kind {
         0 | 1 => sum_of(model.put(key, call.value)),
         2 => sum_of(insert_new(model, key, call.value)),
         3 => sum_if(insert_new(model, key, call.value).is_none()),
+        4 if pops(call) => pop(model, 0),
         4 => sum_of(model.remove(key)),
+        5 if pops(call) => pop(model, model.len().wrapping_sub(1)),
         5 => sum_if(model.remove(key).is_some()),
         6 => overwrite(model, key, call.value),
         7 => update(model, key, call),

@@ -51,6 +51,13 @@ pub fn matches(model: &Model, probe: &Text, most: u64) -> u64 {
     sum
 }
 
+fn pair_at(model: &Model, place: usize) -> u64 {
+    match model.at(place) {
+        Some((key, value)) => mix_pair(1, key.as_slice(), value),
+        None => 5,
+    }
+}
+
 /// The call about one key or probe.
 pub fn look(model: &Model, key: &Text, probe: &Text, call: &Call) -> u64 {
     match call.kind {
@@ -59,11 +66,21 @@ pub fn look(model: &Model, key: &Text, probe: &Text, call: &Call) -> u64 {
             mix(found, found)
         }
         10 => sum_of(model.get(probe)),
-        11 => longest_pair(model, key),
+        11 => {
+            let len = longest(model, probe).map(|pair| mix(pair.0.len() as u64, pair.1));
+            mix(
+                mix(longest_pair(model, key), longest_pair(model, probe)),
+                sum_of(len),
+            )
+        }
         12 => longest_value(model, probe),
         13 => matches(model, key, call.choice % 8),
-        14 => matches(model, key, 100),
-        _ => mix(model.len() as u64, sum_if(model.len() == 0)),
+        14 => mix(matches(model, key, 100), matches(model, probe, 100)),
+        _ => {
+            let last = pair_at(model, model.len().wrapping_sub(1));
+            let size = mix(model.len() as u64, sum_if(model.len() == 0));
+            mix(size, mix(pair_at(model, 0), last))
+        }
     }
 }
 

@@ -2,7 +2,7 @@
 use crate::call::Call;
 use crate::model::{Model, Pair};
 use crate::model_reads::{end_of, longest_key, start_of};
-use crate::numbers::{mix, mix_bytes};
+use crate::numbers::{mix, mix_bytes, sum_if};
 use crate::text::Text;
 use crate::views::READ;
 
@@ -110,6 +110,10 @@ fn mix_shared(sum: u64, key: &Text, left: u64, right: u64, kind: u64) -> u64 {
     }
 }
 
+fn are_equal(one: &Model, other: &Model) -> bool {
+    one.len() == other.len() && one.sum(0, one.len(), true) == other.sum(0, other.len(), true)
+}
+
 /// The call about both trees.
 pub fn join(one: &Model, other: &Model, kind: u64) -> u64 {
     let mut sum = if kind == 28 { 0_u64 } else { 1_u64 };
@@ -120,5 +124,9 @@ pub fn join(one: &Model, other: &Model, kind: u64) -> u64 {
             }
         }
     }
-    sum
+    if kind == 28 {
+        mix(sum, sum_if(are_equal(one, other)))
+    } else {
+        sum
+    }
 }

@@ -10,11 +10,28 @@ fn get<K: KeyTrait + Drop>(tree: &Tree<K>, key: &K) -> u64 {
     mix(found, sum_of(tree.get(same_key(key)).copied()))
 }
 
-fn longest<K: KeyTrait + Drop>(tree: &Tree<K>, probe: &K) -> u64 {
-    match tree.longest_prefix_match_k(probe) {
+fn sum_of_pair<K: KeyTrait + Drop>(found: Option<(K, &u64)>) -> u64 {
+    match found {
         Some((key, value)) => mix(mix_key(1, &key), *value),
         None => 5,
     }
+}
+
+// By a key and by bytes, which may be more than a key has.
+fn longest<K: KeyTrait + Drop>(tree: &Tree<K>, key: &K, probe: &Text) -> u64 {
+    let by_key = sum_of_pair(tree.longest_prefix_match_k(key));
+    let by_bytes = sum_of_pair(tree.longest_prefix_match_bytes(probe.as_slice()));
+    let len = tree
+        .longest_prefix_len_bytes(probe.as_slice())
+        .map(|found| mix(found.0 as u64, *found.1));
+    mix(mix(by_key, by_bytes), sum_of(len))
+}
+
+fn ends<K: KeyTrait + Drop>(tree: &Tree<K>) -> u64 {
+    mix(
+        sum_of_pair(tree.first_key_value()),
+        sum_of_pair(tree.last_key_value()),
+    )
 }
 
 fn matches<K: KeyTrait + Drop>(tree: &Tree<K>, probe: &K, most: u64) -> u64 {
@@ -29,10 +46,16 @@ fn matches<K: KeyTrait + Drop>(tree: &Tree<K>, probe: &K, most: u64) -> u64 {
     sum
 }
 
-fn match_for_each<K: KeyTrait>(tree: &Tree<K>, probe: &K) -> u64 {
-    let mut sum = 1_u64;
-    tree.prefix_match_for_each_k(probe, |key, value| sum = mix_pair(sum, key, *value));
-    sum
+// By a key and by bytes.
+fn match_for_each<K: KeyTrait>(tree: &Tree<K>, key: &K, probe: &Text) -> u64 {
+    let mut by_key = 1_u64;
+    tree.prefix_match_for_each_k(key, |found, value| by_key = mix_pair(by_key, found, *value));
+    let mut by_bytes = 1_u64;
+    tree.prefix_match_for_each_bytes(
+        probe.as_slice(),
+        |found, value| by_bytes = mix_pair(by_bytes, found, *value),
+    );
+    mix(by_key, by_bytes)
 }
 
 /// The call about one key or probe.
@@ -40,11 +63,11 @@ pub fn look<K: KeyTrait + Drop>(tree: &Tree<K>, key: &K, probe: &Text, call: &Ca
     match call.kind {
         9 => get(tree, key),
         10 => sum_of(tree.get_bytes(probe.as_slice()).copied()),
-        11 => longest(tree, key),
+        11 => longest(tree, key, probe),
         12 => sum_of(tree.longest_prefix_value_bytes(probe.as_slice()).copied()),
         13 => matches(tree, key, call.choice % 8),
-        14 => match_for_each(tree, key),
-        _ => mix(tree.len() as u64, sum_if(tree.is_empty())),
+        14 => match_for_each(tree, key, probe),
+        _ => mix(mix(tree.len() as u64, sum_if(tree.is_empty())), ends(tree)),
     }
 }
 

@@ -47,6 +47,17 @@ fn covering<K: KeyTrait>(table: &RouteTable<K, u64>, key: &K) -> u64 {
     sum
 }
 
+// The same by bytes, which may be more than a prefix has.
+fn by_bytes<K: KeyTrait + Drop>(table: &RouteTable<K, u64>, probe: &[u8]) -> u64 {
+    let route = match table.route_with_prefix_bytes(probe) {
+        Some((prefix, target)) => mix(mix_key(1, &prefix), *target),
+        None => 5,
+    };
+    let mut sum = 1_u64;
+    table.covering_for_each_bytes(probe, |prefix, target| sum = mix_pair(sum, prefix, *target));
+    mix(route, sum)
+}
+
 /// The sum of the routes below a prefix.
 pub fn below<K: KeyTrait>(table: &RouteTable<K, u64>, key: &K) -> Option<u64> {
     let mut sum = 1_u64;
@@ -74,7 +85,10 @@ pub fn call_table<K: KeyTrait + Drop>(
         35 => replace(table, key, call.value),
         36 => withdraw(table, key),
         37 => Some(sum_of(table.route(probe.as_slice()).copied())),
-        38 => Some(mix(with_prefix(table, key), covering(table, key))),
+        38 => {
+            let by_key = mix(with_prefix(table, key), covering(table, key));
+            Some(mix(by_key, by_bytes(table, probe.as_slice())))
+        }
         _ => below(table, key),
     }
 }
@@ -106,7 +120,13 @@ pub fn wanted_of_table(model: &mut Model, key: &Text, probe: &Text, call: &Call)
         35 => sum_of(model.put(key, call.value)),
         36 => sum_of(model.remove(key)),
         37 => longest_value(model, probe),
-        38 => mix(longest_pair(model, key), matches(model, key, 100)),
+        38 => {
+            let by_key = mix(longest_pair(model, key), matches(model, key, 100));
+            mix(
+                by_key,
+                mix(longest_pair(model, probe), matches(model, probe, 100)),
+            )
+        }
         _ => wanted_below(model, key),
     }
 }

@@ -1,6 +1,6 @@
 //! Walks that lend keys in segments, and walks of two trees.
 use crate::call::Call;
-use crate::numbers::{mix, mix_bytes};
+use crate::numbers::{mix, mix_bytes, sum_if};
 use crate::sides::{Tree, bound_of, mix_key};
 use rart::{KeyTrait, LendingKeyView};
 
@@ -101,7 +101,7 @@ fn views_with<K: KeyTrait>(one: &Tree<K>, other: &Tree<K>) -> Option<u64> {
 /// The call about both trees.
 pub fn join<K: KeyTrait + Drop>(one: &Tree<K>, other: &Tree<K>, kind: u64) -> Option<u64> {
     match kind {
-        28 => Some(one.intersect_count(other) as u64),
+        28 => Some(mix(one.intersect_count(other) as u64, sum_if(*one == *other))),
         29 => Some(values_with(one, other)),
         30 => keys_with(one, other),
         _ => views_with(one, other),

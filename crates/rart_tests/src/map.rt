@@ -3,6 +3,7 @@
 mod asks_for_nothing;
 mod calls;
 mod drops;
+mod ends;
 mod errors;
 mod laws;
 mod migrations;

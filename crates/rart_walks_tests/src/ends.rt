@@ -99,3 +99,69 @@ fn the_ends_of_a_route_table(rt: HostRuntime) {
     assert!(rt; table.first_key_value().map(|pair| *pair.1) == Some(1));
     assert!(rt; table.last_key_value().map(|pair| *pair.1) == Some(2));
 }
+
+// The values in the order in which they are taken, as digits after a first 1, and whether the tree is then empty.
+fn taken(tree: &mut Tree, last: bool) -> Option<u64> {
+    let mut seen = 1_u64;
+    for _ in 0..20 {
+        let popped = if last {
+            tree.pop_last()
+        } else {
+            tree.pop_first()
+        };
+        match popped {
+            Ok(Some((_key, value))) => seen = seen.wrapping_mul(10).wrapping_add(value),
+            Ok(None) => return tree.is_empty().then_some(seen),
+            Err(_) => return None,
+        }
+    }
+    None
+}
+
+// Pairs; the values in the order of their keys.
+const ORDERS: [(&[Pair], u64, u64); 4] = [
+    (&[], 1, 1),
+    (&[("", 0), ("a", 1), ("ab", 2)], 1012, 1210),
+    (&[("ab", 2), ("a", 1), ("abc", 3), ("b", 4)], 11234, 14321),
+    (
+        &[("m", 3), ("z", 5), ("c", 2), ("zz", 6), ("b", 1), ("r", 4)],
+        1123456,
+        1654321,
+    ),
+];
+
+#[test]
+fn pairs_are_taken_from_both_ends(rt: HostRuntime) {
+    for (pairs, up, down) in ORDERS {
+        let mut tree = filled(&rt, rt.alloc(), pairs);
+        assert_eq!(rt; taken(&mut tree, false), Some(up));
+        let mut tree = filled(&rt, rt.alloc(), pairs);
+        assert_eq!(rt; taken(&mut tree, true), Some(down));
+    }
+}
+
+// Takes all pairs of a fan from its last, through each kind of node.
+fn drains(tree: &mut AdaptiveRadixTree<ArrayKey<1>, u64>) -> bool {
+    for wanted in 0..=255_u64 {
+        let wanted = 255_u64.wrapping_sub(wanted);
+        match tree.pop_last() {
+            Ok(Some((key, value))) => {
+                if value != wanted || key.as_ref().first().copied().map(u64::from) != Some(wanted) {
+                    return false;
+                }
+            }
+            _ => return false,
+        }
+    }
+    matches!(tree.pop_last(), Ok(None))
+}
+
+#[test]
+fn a_fan_is_taken_from_its_last(rt: HostRuntime) {
+    let mut tree = AdaptiveRadixTree::new(rt.alloc());
+    for byte in 0..=255_u8 {
+        let key = ArrayKey::<1>::new_from_slice(&[byte]);
+        assert!(rt; tree.insert(key, u64::from(byte)).is_ok());
+    }
+    assert!(rt; drains(&mut tree));
+}

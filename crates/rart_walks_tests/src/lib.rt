@@ -8,6 +8,8 @@
 #[cfg(test)]
 mod ends;
 #[cfg(test)]
+mod equal;
+#[cfg(test)]
 mod iterators;
 #[cfg(test)]
 mod joins;

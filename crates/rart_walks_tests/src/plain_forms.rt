@@ -39,6 +39,13 @@ fn keys_by_value_are_answered_as_those_by_reference(rt: HostRuntime) -> Result<(
     Ok(())
 }
 
+fn is_match(tree: &AdaptiveRadixTree<ArrayKey<4>, u64>, probe: &[u8], wanted: &[u8]) -> bool {
+    match tree.longest_prefix_match_bytes(probe) {
+        Some((key, _)) => key.as_ref() == wanted,
+        None => false,
+    }
+}
+
 #[test]
 fn a_probe_may_be_longer_than_any_key_of_its_type(rt: HostRuntime) {
     let mut tree = AdaptiveRadixTree::<ArrayKey<4>, u64>::new(rt.alloc());
@@ -47,7 +54,10 @@ fn a_probe_may_be_longer_than_any_key_of_its_type(rt: HostRuntime) {
         .is_ok();
     assert!(rt; stored);
     assert_eq!(rt; tree.longest_prefix_value_bytes(b"abcde"), Some(&1));
+    assert!(rt; tree.longest_prefix_len_bytes(b"abcde") == Some((4, &1)));
     assert_eq!(rt; tree.longest_prefix_value_bytes(b"abc"), None);
+    assert!(rt; is_match(&tree, b"abcde", b"abcd"));
+    assert!(rt; tree.longest_prefix_match_bytes(b"abc").is_none());
 }
 
 #[test]

@@ -78,6 +78,7 @@ fn is_longest(tree: &Tree, key: Key, probe: &[u8], matches: &[Pair]) -> bool {
     let value = matches.last().map(|pair| pair.1);
     is_found(tree.longest_prefix_match_k(&key), matches.last())
         && is_found(tree.longest_prefix_match(key), matches.last())
+        && is_found(tree.longest_prefix_match_bytes(probe), matches.last())
         && tree.longest_prefix_value_k(&key).copied() == value
         && tree.longest_prefix_value(key).copied() == value
         && tree.longest_prefix_value_bytes(probe).copied() == value
@@ -98,7 +99,7 @@ fn is_row(tree: &Tree, probe: &[u8], row: &Row) -> Result<bool, TreeError>
 }
 
 // The first row that goes another way, if one does.
-fn plays(rt: &impl Abort, tree: &Tree, rows: &[Row]) -> Option<usize> {
+fn first_wrong(rt: &impl Abort, tree: &Tree, rows: &[Row]) -> Option<usize> {
     let mut row = 0_usize;
     for one in rows {
         let probe = one.0.as_bytes();
@@ -221,22 +222,25 @@ const GROUPS: [(&[Pair], &[Row]); 5] = [
 #[test]
 fn groups_of_keys_that_share_beginnings(rt: HostRuntime) {
     for (pairs, rows) in &GROUPS {
-        assert_eq!(rt; plays(&rt, &filled(&rt, rt.alloc(), pairs), rows), None);
+        assert_eq!(rt;
+            first_wrong(&rt, &filled(&rt, rt.alloc(), pairs), rows),
+            None
+        );
     }
 }
 
 #[test]
 fn keys_that_begin_a_probe_and_keys_that_it_begins(rt: HostRuntime) {
     assert_eq!(rt;
-        plays(&rt, &filled(&rt, rt.alloc(), &THREE), &OF_THREE),
+        first_wrong(&rt, &filled(&rt, rt.alloc(), &THREE), &OF_THREE),
         None
     );
     assert_eq!(rt;
-        plays(&rt, &filled(&rt, rt.alloc(), &ANIMALS), &OF_ANIMALS),
+        first_wrong(&rt, &filled(&rt, rt.alloc(), &ANIMALS), &OF_ANIMALS),
         None
     );
     assert_eq!(rt;
-        plays(&rt, &filled(&rt, rt.alloc(), &WORDS), &OF_WORDS),
+        first_wrong(&rt, &filled(&rt, rt.alloc(), &WORDS), &OF_WORDS),
         None
     );
 }

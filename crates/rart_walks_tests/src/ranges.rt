@@ -131,7 +131,7 @@ fn is_row_in_each_form(tree: &Tree, row: &Row) -> bool {
 }
 
 // The first row that goes another way, if one does.
-fn plays(tree: &Tree, rows: &[Row]) -> Option<usize> {
+fn first_wrong(tree: &Tree, rows: &[Row]) -> Option<usize> {
     let mut row = 0_usize;
     for one in rows {
         if !is_row_in_each_form(tree, one) {
@@ -199,11 +199,20 @@ const OF_FRUIT: [Row; 2] = [
 
 #[test]
 fn a_range_gives_the_pairs_within_its_ends(rt: HostRuntime) {
-    assert_eq!(rt; plays(&filled(&rt, rt.alloc(), &FOUR), &OF_FOUR), None);
-    assert_eq!(rt; plays(&filled(&rt, rt.alloc(), &PARTED), &OF_PARTED), None);
-    assert_eq!(rt; plays(&filled(&rt, rt.alloc(), &FRUIT), &OF_FRUIT), None);
     assert_eq!(rt;
-        plays(&filled(&rt, rt.alloc(), &[]), &[(Open, Open, &[])]),
+        first_wrong(&filled(&rt, rt.alloc(), &FOUR), &OF_FOUR),
+        None
+    );
+    assert_eq!(rt;
+        first_wrong(&filled(&rt, rt.alloc(), &PARTED), &OF_PARTED),
+        None
+    );
+    assert_eq!(rt;
+        first_wrong(&filled(&rt, rt.alloc(), &FRUIT), &OF_FRUIT),
+        None
+    );
+    assert_eq!(rt;
+        first_wrong(&filled(&rt, rt.alloc(), &[]), &[(Open, Open, &[])]),
         None
     );
 }
@@ -333,7 +342,7 @@ fn is_swept(alloc: Global, tree: &Tree, row: &Row, form: Form) -> bool {
 }
 
 // The first row that goes another way, if one does, with each of its requests refused.
-fn plays_refused(alloc: Global, tree: &Tree, rows: &[Row], form: Form) -> Option<usize> {
+fn first_wrong_refused(alloc: Global, tree: &Tree, rows: &[Row], form: Form) -> Option<usize> {
     let mut row = 0_usize;
     for one in rows {
         if !is_swept(alloc, tree, one, form) {
@@ -348,7 +357,10 @@ fn plays_refused(alloc: Global, tree: &Tree, rows: &[Row], form: Form) -> Option
 fn ranges_refused_in_turn_give_nothing(rt: HostRuntime) {
     for form in FORMS {
         let tree = filled(&rt, rt.alloc(), &PARTED);
-        assert_eq!(rt; plays_refused(rt.alloc(), &tree, &OF_PARTED, form), None);
+        assert_eq!(rt;
+            first_wrong_refused(rt.alloc(), &tree, &OF_PARTED, form),
+            None
+        );
     }
 }
 

@@ -36,13 +36,13 @@ enum Ask {
 enum Reply {
     Added,
     Occupied(u64, u64),
-    // the prefix is stored, and the target comes back
+    // the prefix is stored, and the target is returned
     Stored(u64),
     Value(Option<u64>),
     Is(bool),
     Len(usize),
     Cleared,
-    // refused with `Memory`, and the target comes back
+    // refused with `Memory`, and the target is returned
     Returned(u64),
     // refused with `Memory`
     Refused,
@@ -92,11 +92,20 @@ fn returned(error: TreeError, back: u64) -> Reply {
     }
 }
 
-fn is_route(table: &Table, probe: &str, prefix: &str, target: u64) -> bool {
-    match table.route_with_prefix(&key(probe)) {
+fn is_found(found: Option<(Key, &u64)>, prefix: &str, target: u64) -> bool {
+    match found {
         Some((found, value)) => found.as_slice() == prefix.as_bytes() && *value == target,
         None => false,
     }
+}
+
+fn is_route(table: &Table, probe: &str, prefix: &str, target: u64) -> bool {
+    is_found(table.route_with_prefix(&key(probe)), prefix, target)
+        && is_found(
+            table.route_with_prefix_bytes(probe.as_bytes()),
+            prefix,
+            target,
+        )
 }
 
 fn answer(table: &mut Table, ask: Ask) -> Reply {
@@ -126,7 +135,7 @@ fn answer(table: &mut Table, ask: Ask) -> Reply {
 }
 
 // Plays the rows, and answers the first that went another way.
-fn plays(table: &mut Table, rows: &[Row]) -> Option<usize> {
+fn first_wrong(table: &mut Table, rows: &[Row]) -> Option<usize> {
     let mut at = 0_usize;
     for (ask, want) in rows {
         if answer(table, *ask) != *want {
@@ -248,6 +257,22 @@ fn covers(table: &Table, probe: &str, wanted: &[(&str, u64)]) -> bool {
         lent = next_route(lent, wanted, prefix, *target);
     };
     table.covering_for_each_by_ref(&key(probe), &mut callback);
+    seen.get() == wanted.len()
+        && lent == wanted.len()
+        && covers_bytes(table, probe.as_bytes(), wanted)
+}
+
+// Both forms by bytes give these too.
+fn covers_bytes(table: &Table, probe: &[u8], wanted: &[(&str, u64)]) -> bool {
+    let seen = Cell::new(0_usize);
+    table.covering_for_each_bytes(probe, |prefix: &[u8], target: &u64| {
+        seen.set(next_route(seen.get(), wanted, prefix, *target));
+    });
+    let mut lent = 0_usize;
+    let mut callback = |prefix: &[u8], target: &u64| {
+        lent = next_route(lent, wanted, prefix, *target);
+    };
+    table.covering_for_each_by_ref_bytes(probe, &mut callback);
     seen.get() == wanted.len() && lent == wanted.len()
 }
 
@@ -278,9 +303,9 @@ fn walks_go_well(table: &Table) -> Result<bool, TreeError> {
 fn probes_are_routed_by_their_longest_prefix(rt: HostRuntime) {
     let mut table = Table::new(rt.alloc());
     let (filled, walked, edited) = (
-        plays(&mut table, &VERSIONS),
+        first_wrong(&mut table, &VERSIONS),
         walks_go_well(&table),
-        plays(&mut table, &EDITED),
+        first_wrong(&mut table, &EDITED),
     );
     assert_eq!(rt; filled, None);
     assert!(rt; walked == Ok(true));
@@ -291,9 +316,9 @@ fn probes_are_routed_by_their_longest_prefix(rt: HostRuntime) {
 fn routes_are_listed_by_their_prefixes_until_the_table_is_cleared(rt: HostRuntime) {
     let mut table = Table::new(rt.alloc());
     let (filled, listed, cleared, at_last) = (
-        plays(&mut table, &VERSIONS),
+        first_wrong(&mut table, &VERSIONS),
         lists(&table, &[("/", 1), ("/api", 2), ("/api/v1", 3)]),
-        plays(&mut table, &CLEARED),
+        first_wrong(&mut table, &CLEARED),
         lists(&table, &[("/api", 4)]),
     );
     assert_eq!(rt; filled, None);
@@ -336,6 +361,6 @@ fn laws_give(table: &mut Table) -> bool {
 #[test]
 fn edits_reach_the_probes_that_their_prefix_begins(rt: HostRuntime) {
     let mut table = Table::new(rt.alloc());
-    let (filled, given) = (plays(&mut table, &VERSIONS), laws_give(&mut table));
+    let (filled, given) = (first_wrong(&mut table, &VERSIONS), laws_give(&mut table));
     assert!(rt; filled.is_none() && given);
 }

@@ -134,7 +134,7 @@ fn is_row(tree: &Tree, probe: &[u8], row: &Row) -> bool
 }
 
 // The first row that goes another way, if one does.
-fn plays(rt: &impl Abort, tree: &Tree, rows: &[Row]) -> Option<usize> {
+fn first_wrong(rt: &impl Abort, tree: &Tree, rows: &[Row]) -> Option<usize> {
     let mut at = 0_usize;
     for row in rows {
         let probe = row.0.as_bytes();
@@ -149,7 +149,10 @@ fn plays(rt: &impl Abort, tree: &Tree, rows: &[Row]) -> Option<usize> {
 
 #[test]
 fn values_below_a_prefix(rt: HostRuntime) {
-    assert_eq!(rt; plays(&rt, &filled(&rt, rt.alloc(), &ALP), &OF_ALP), None);
+    assert_eq!(rt;
+        first_wrong(&rt, &filled(&rt, rt.alloc(), &ALP), &OF_ALP),
+        None
+    );
 }
 
 // A probe, and of each match the length of its key and its value.
@@ -166,6 +169,17 @@ pub fn with_match(seen: u64, probe: &[u8], key: &[u8], value: u64) -> u64 {
     } else {
         0
     }
+}
+
+fn matches_by_bytes_are(tree: &Tree, probe: &[u8], wanted: u64) -> bool {
+    let seen = Cell::new(1_u64);
+    tree.prefix_match_for_each_bytes(probe, |found: &[u8], value: &u64| {
+        seen.set(with_match(seen.get(), probe, found, *value));
+    });
+    let mut lent = 1_u64;
+    let mut callback = |found: &[u8], value: &u64| lent = with_match(lent, probe, found, *value);
+    tree.prefix_match_for_each_by_ref_bytes(probe, &mut callback);
+    seen.get() == wanted && lent == wanted
 }
 
 fn matches_are(tree: &Tree, probe: &[u8], wanted: u64) -> bool
@@ -194,5 +208,6 @@ fn matches_of_a_probe(rt: HostRuntime) {
         let probe = text.as_bytes();
         assert!(rt; probe.len() <= 16);
         assert!(rt; matches_are(&tree, probe, wanted), "probe {text}");
+        assert!(rt; matches_by_bytes_are(&tree, probe, wanted), "bytes {text}");
     }
 }

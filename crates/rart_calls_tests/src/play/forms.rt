@@ -2,7 +2,7 @@
 ghost use Rattle.std.specs.Prelude.{◌≡◌, ◌≢◌, None};
 ghost use Rattle.rart_keys.specs.SortedMap.{lookup, put};
 
-use super::{Ask, Form, How, Spelling, Then};
+use super::{Ask, Form, Request, Spelling, Style};
 use rart::script::{Call, Reply, step};
 use rart::{ArrayKey, KeyTrait, NotInserted, SlotUpdate, TryInsertError};
 use rart_test_trees::Tree;
@@ -33,34 +33,36 @@ pub fn answer<K: KeyTrait + Drop>(
     alloc: Global,
     tree: &mut Tree<K>,
     ask: Ask<'_>,
-    how: How,
+    style: Style,
 ) -> Option<Reply<K, u64>> {
     Some(match ask {
         Ask::GetBytes(text) => Reply::Value(tree.get_bytes(text.as_bytes()).copied()),
+        Ask::Contains(text) => Reply::Done(contains(tree, key(text, style.spelling)?, style.form)),
+        Ask::ContainsBytes(text) => Reply::Done(tree.contains_key_bytes(text.as_bytes())),
         Ask::Overwrite(text, value) => {
-            Reply::Done(overwrite(tree, key(text, how.spelling)?, value, how.form))
+            Reply::Done(overwrite(tree, key(text, style.spelling)?, value, style.form))
         }
         Ask::InsertNew(text, value) => {
-            insert_new(tree, key(text, how.spelling)?, value, how.form)
+            insert_new(tree, key(text, style.spelling)?, value, style.form)
         }
         Ask::Fill(front, from, to) => Reply::Done(fill(tree, front, from, to)),
         Ask::Empty(front, from, to) => Reply::Done(empty(tree, front, from, to)),
         Ask::Holds(front, count) => Reply::Done(holds(tree, front, count)),
-        _ => match how.form {
-            Form::Step => step(alloc, tree, call(ask, how.spelling)?),
-            Form::ByValue => by_value(alloc, tree, ask, how.spelling)?,
-            Form::ByReference => by_reference(alloc, tree, ask, how.spelling)?,
+        _ => match style.form {
+            Form::Step => step(alloc, tree, call(ask, style.spelling)?),
+            Form::ByValue => by_value(alloc, tree, ask, style.spelling)?,
+            Form::ByReference => by_reference(alloc, tree, ask, style.spelling)?,
         },
     })
 }
 
 /// What a callback answers that requests this.
-pub fn asked(then: Then) -> Result<SlotUpdate<u64>, ()> {
-    match then {
-        Then::Keep => Ok(SlotUpdate::Keep),
-        Then::Remove => Ok(SlotUpdate::Remove),
-        Then::Insert(value) => Ok(SlotUpdate::Insert(value)),
-        Then::Fail => Err(()),
+pub fn asked(request: Request) -> Result<SlotUpdate<u64>, ()> {
+    match request {
+        Request::Keep => Ok(SlotUpdate::Keep),
+        Request::Remove => Ok(SlotUpdate::Remove),
+        Request::Insert(value) => Ok(SlotUpdate::Insert(value)),
+        Request::Fail => Err(()),
     }
 }
 
@@ -72,11 +74,11 @@ pub fn call<K: KeyTrait + Drop>(ask: Ask<'_>, spelling: Spelling) -> Option<Call
         Ask::TryInsert(text, value) => Call::TryInsert(key(text, spelling)?, value),
         Ask::Remove(text) => Call::Remove(key(text, spelling)?),
         Ask::Delete(text) => Call::Delete(key(text, spelling)?),
-        Ask::Update(text, written, then) => {
-            Call::Update(key(text, spelling)?, written, asked(then).ok()?)
+        Ask::Update(text, written, request) => {
+            Call::Update(key(text, spelling)?, written, asked(request).ok()?)
         }
-        Ask::TryUpdate(text, written, then) => {
-            Call::TryUpdate(key(text, spelling)?, written, asked(then))
+        Ask::TryUpdate(text, written, request) => {
+            Call::TryUpdate(key(text, spelling)?, written, asked(request))
         }
         Ask::Longest(text) => Call::Longest(key(text, spelling)?),
         Ask::Matches(text) => Call::Matches(key(text, spelling)?),
@@ -150,6 +152,13 @@ fn by_reference<K: KeyTrait + Drop>(
         },
         _ => step(alloc, tree, call(ask, spelling)?),
     })
+}
+
+fn contains<K: KeyTrait + Drop>(tree: &Tree<K>, key: K, form: Form) -> bool {
+    match form {
+        Form::ByValue => tree.contains_key(key),
+        Form::Step | Form::ByReference => tree.contains_key_k(&key),
+    }
 }
 
 // The present value is read by the bytes that the key had.

@@ -3,7 +3,7 @@
 
 use super::forms::{answer, call};
 use super::replies::{are_same, is, is_refusal};
-use super::{Ask, Form, How, Row, Spelling};
+use super::{Ask, Form, Row, Spelling, Style};
 use rart::script::{Call, Reply, run};
 use rart::{KeyTrait, TreeError};
 use rart_test_tools::refusals::{part_ends, refuse, was_refused};
@@ -13,20 +13,20 @@ use std::process::Abort;
 
 const FORMS: [Form; 3] = [Form::Step, Form::ByValue, Form::ByReference];
 
-const BY_BYTES: How = How {
+const BY_BYTES: Style = Style {
     form: Form::Step,
     spelling: Spelling::Bytes,
 };
 
 // Makes the call, and returns whether the reply is the wanted one.
-fn goes_well<K: KeyTrait + Drop>(
+fn row_holds<K: KeyTrait + Drop>(
     alloc: Global,
     tree: &mut Tree<K>,
     row: &Row<'_>,
-    how: How,
+    style: Style,
 ) -> bool {
-    match answer(alloc, tree, row.0, how) {
-        Some(reply) => is(&reply, &row.1, how.spelling),
+    match answer(alloc, tree, row.0, style) {
+        Some(reply) => is(&reply, &row.1, style.spelling),
         None => false,
     }
 }
@@ -35,11 +35,11 @@ fn play<K: KeyTrait + Drop>(
     alloc: Global,
     tree: &mut Tree<K>,
     rows: &[Row<'_>],
-    how: How,
+    style: Style,
 ) -> Option<usize> {
     let mut at = 0_usize;
     for row in rows {
-        if !goes_well(alloc, tree, row, how) {
+        if !row_holds(alloc, tree, row, style) {
             return Some(at);
         }
         at = at.wrapping_add(1);
@@ -47,14 +47,14 @@ fn play<K: KeyTrait + Drop>(
     None
 }
 
-fn plays_spelled<K: KeyTrait + Drop>(
+fn first_wrong_spelled<K: KeyTrait + Drop>(
     alloc: Global,
     rows: &[Row<'_>],
     spelling: Spelling,
 ) -> Option<usize> {
     for form in FORMS {
         let mut tree = Tree::<K>::new(alloc);
-        let failed = play(alloc, &mut tree, rows, How { form, spelling });
+        let failed = play(alloc, &mut tree, rows, Style { form, spelling });
         if failed.is_some() {
             return failed;
         }
@@ -63,13 +63,13 @@ fn plays_spelled<K: KeyTrait + Drop>(
 }
 
 /// Plays the rows in each form of their calls.
-pub fn plays<K: KeyTrait + Drop>(alloc: Global, rows: &[Row<'_>]) -> Option<usize> {
-    plays_spelled::<K>(alloc, rows, Spelling::Bytes)
+pub fn first_wrong<K: KeyTrait + Drop>(alloc: Global, rows: &[Row<'_>]) -> Option<usize> {
+    first_wrong_spelled::<K>(alloc, rows, Spelling::Bytes)
 }
 
 /// Plays the rows with the keys of the texts.
-pub fn plays_texts<K: KeyTrait + Drop>(alloc: Global, rows: &[Row<'_>]) -> Option<usize> {
-    plays_spelled::<K>(alloc, rows, Spelling::Text)
+pub fn first_wrong_text<K: KeyTrait + Drop>(alloc: Global, rows: &[Row<'_>]) -> Option<usize> {
+    first_wrong_spelled::<K>(alloc, rows, Spelling::Text)
 }
 
 // Makes the call with its first request refused, then with its second and so on, each of which leaves `tree` as
@@ -79,7 +79,7 @@ fn sweep<K: KeyTrait + Drop>(
     tree: &mut Tree<K>,
     unrefused: &Tree<K>,
     row: &Row<'_>,
-    how: How,
+    style: Style,
 ) -> bool {
     let many = matches!(
         row.0,
@@ -87,13 +87,13 @@ fn sweep<K: KeyTrait + Drop>(
     );
     for at in 1..100_usize {
         refuse(alloc, if many { 0 } else { at });
-        let reply = answer(alloc, tree, row.0, how);
+        let reply = answer(alloc, tree, row.0, style);
         let refused = was_refused(alloc);
         let Some(reply) = reply else {
             return false;
         };
         if !refused {
-            return is(&reply, &row.1, how.spelling);
+            return is(&reply, &row.1, style.spelling);
         }
         if !is_refusal(&reply, &row.0) || !are_alike(tree, unrefused) {
             return false;
@@ -102,13 +102,16 @@ fn sweep<K: KeyTrait + Drop>(
     false
 }
 
-fn sweep_all<K: KeyTrait + Drop>(alloc: Global, rows: &[Row<'_>], how: How) -> Option<usize> {
+fn sweep_all<K: KeyTrait + Drop>(alloc: Global, rows: &[Row<'_>], style: Style) -> Option<usize> {
     let mut tree = Tree::<K>::new(alloc);
     let mut unrefused = Tree::<K>::new(alloc);
     let mut at = 0_usize;
     for row in rows {
-        let swept = sweep(alloc, &mut tree, &unrefused, row, how);
-        if !swept || !goes_well(alloc, &mut unrefused, row, how) || !are_alike(&tree, &unrefused) {
+        let swept = sweep(alloc, &mut tree, &unrefused, row, style);
+        if !swept
+            || !row_holds(alloc, &mut unrefused, row, style)
+            || !are_alike(&tree, &unrefused)
+        {
             return Some(at);
         }
         at = at.wrapping_add(1);
@@ -118,12 +121,12 @@ fn sweep_all<K: KeyTrait + Drop>(alloc: Global, rows: &[Row<'_>], how: How) -> O
 
 /// Plays the rows in each form, each call with its requests refused in turn: a refused call changes nothing, and after
 /// each row the tree is as one that met no refusal.
-pub fn plays_refused_in_turn<K: KeyTrait + Drop>(alloc: Global, rows: &[Row<'_>]) -> Option<usize> {
+pub fn first_wrong_refused<K: KeyTrait + Drop>(alloc: Global, rows: &[Row<'_>]) -> Option<usize> {
     for form in FORMS {
         let failed = sweep_all::<K>(
             alloc,
             rows,
-            How {
+            Style {
                 form,
                 spelling: Spelling::Bytes,
             },
@@ -137,22 +140,22 @@ pub fn plays_refused_in_turn<K: KeyTrait + Drop>(alloc: Global, rows: &[Row<'_>]
 }
 
 /// Plays the first rows, and then the others, none of which may ask for memory; a row that did is one past the last.
-pub fn plays_asking_for_nothing<K: KeyTrait + Drop>(
+pub fn first_wrong_unasked<K: KeyTrait + Drop>(
     alloc: Global,
     before: &[Row<'_>],
     rows: &[Row<'_>],
 ) -> Option<usize> {
     for form in FORMS {
-        let how = How {
+        let style = Style {
             form,
             spelling: Spelling::Bytes,
         };
         let mut tree = Tree::<K>::new(alloc);
-        if play(alloc, &mut tree, before, how).is_some() {
+        if play(alloc, &mut tree, before, style).is_some() {
             return Some(rows.len());
         }
         refuse(alloc, 1);
-        let failed = play(alloc, &mut tree, rows, how);
+        let failed = play(alloc, &mut tree, rows, style);
         if was_refused(alloc) {
             return Some(rows.len());
         }
@@ -178,7 +181,7 @@ where
 }
 
 /// Plays the rows, whose calls are values, as one run.
-pub fn plays_as_run<K: KeyTrait + Drop>(
+pub fn first_wrong_in_run<K: KeyTrait + Drop>(
     alloc: Global,
     rows: &[Row<'_>],
 ) -> Result<Option<usize>, TreeError> {
@@ -261,7 +264,7 @@ pub fn run_is_refused_in_turn<K: KeyTrait + Drop>(
 }
 
 /// Fails a test in which a row went another way.
-pub fn went_well(rt: &impl Abort, failed: Option<usize>) {
+pub fn assert_none_wrong(rt: &impl Abort, failed: Option<usize>) {
     if let Some(row) = failed {
         panic!(rt; "row {row} went another way");
     }

@@ -1,7 +1,7 @@
 //! Whether a reply is the wanted one.
 
 use super::forms::key;
-use super::{Ask, Spelling, Then, Want};
+use super::{Ask, Request, Spelling, Want};
 use rart::script::Reply;
 use rart::{KeyTrait, TreeError};
 use rart_test_trees::is_counted;
@@ -69,8 +69,8 @@ pub fn is_refusal<K>(reply: &Reply<K, u64>, ask: &Ask<'_>) -> bool {
             Ask::Insert(_, value)
             | Ask::TryInsert(_, value)
             | Ask::InsertNew(_, value)
-            | Ask::Update(_, _, Then::Insert(value))
-            | Ask::TryUpdate(_, _, Then::Insert(value)),
+            | Ask::Update(_, _, Request::Insert(value))
+            | Ask::TryUpdate(_, _, Request::Insert(value)),
         ) => *error == TreeError::Memory && back == value,
         (
             Reply::Refused(error),
@@ -83,8 +83,10 @@ pub fn is_refusal<K>(reply: &Reply<K, u64>, ask: &Ask<'_>) -> bool {
             | Ask::Values
             | Ask::Stats,
         ) => *error == TreeError::Memory,
-        (Reply::NoRemove, Ask::Update(_, _, Then::Remove) | Ask::TryUpdate(_, _, Then::Remove)) =>
-            true,
+        (
+            Reply::NoRemove,
+            Ask::Update(_, _, Request::Remove) | Ask::TryUpdate(_, _, Request::Remove),
+        ) => true,
         _ => false,
     }
 }

@@ -116,7 +116,7 @@ fn look<const W: usize, B: BitsetTrait>(
     }
 }
 
-fn plays<const W: usize, B: BitsetTrait>(
+fn rows_hold<const W: usize, B: BitsetTrait>(
     rt: &impl Abort,
     array: &mut BitArray<u8, W, B>,
     rows: &[Row],
@@ -164,7 +164,7 @@ fn an_array_fills_its_first_free_place_and_asks_for_nothing(rt: HostRuntime) -> 
     let alloc = rt.alloc();
     let mut array: BitArray<u8, 48, Bitset16<3>> = BitArray::new(alloc)?;
     refuse(alloc, 1);
-    plays(&rt, &mut array, &FIRST_FREE_PLACE);
+    rows_hold(&rt, &mut array, &FIRST_FREE_PLACE);
     assert!(rt; !was_refused(alloc));
     Ok(())
 }
@@ -183,7 +183,7 @@ fn a_full_array_refuses_a_push(rt: HostRuntime) -> Result<(), Fail> {
     for position in 0..48_usize {
         array.set(position, 9);
     }
-    plays(&rt, &mut array, &FULL);
+    rows_hold(&rt, &mut array, &FULL);
     Ok(())
 }
 
@@ -221,7 +221,7 @@ const WRITTEN_BY_WALKS: [Row; 28] = [
 #[test]
 fn an_array_is_known_and_changed_after_each_walk_that_writes(rt: HostRuntime) -> Result<(), Fail> {
     let mut array: BitArray<u8, 16, Bitset8<2>> = BitArray::new(rt.alloc())?;
-    plays(&rt, &mut array, &WRITTEN_BY_WALKS);
+    rows_hold(&rt, &mut array, &WRITTEN_BY_WALKS);
     Ok(())
 }
 
@@ -339,7 +339,7 @@ fn a_new_array_refused_in_turn(rt: HostRuntime) {
         match answer {
             Ok(mut array) => {
                 assert!(rt; !refused && array.is_empty(), "request {at}");
-                plays(&rt, &mut array, &FIRST_FREE_PLACE);
+                rows_hold(&rt, &mut array, &FIRST_FREE_PLACE);
                 return;
             }
             Err(error) => assert!(rt; refused && error == TreeError::Memory, "request {at}"),

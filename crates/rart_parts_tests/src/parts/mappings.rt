@@ -48,7 +48,7 @@ fn answer<const W: usize>(map: &mut impl NodeMapping<u8, W>, ask: Ask) -> Option
     }
 }
 
-fn plays<const W: usize>(map: &mut impl NodeMapping<u8, W>, rows: &[Row]) -> bool {
+fn rows_hold<const W: usize>(map: &mut impl NodeMapping<u8, W>, rows: &[Row]) -> bool {
     for (ask, want, count) in rows {
         if answer(map, *ask) != *want || map.num_children() != *count {
             return false;
@@ -100,8 +100,8 @@ type Keyed4 = KeyedMapping<u8, 4, Bitset8<4>>;
 
 type Indexed48 = IndexedMapping<u8, 48, Bitset16<3>>;
 
-fn plays_both<const W: usize>(map: &mut impl NodeMapping<u8, W>) -> bool {
-    plays(map, &FOUR) && plays(map, &IN_ORDER) && plays(map, &KEY_255)
+fn rows_hold_in_both<const W: usize>(map: &mut impl NodeMapping<u8, W>) -> bool {
+    rows_hold(map, &FOUR) && rows_hold(map, &IN_ORDER) && rows_hold(map, &KEY_255)
 }
 
 #[test]
@@ -112,10 +112,10 @@ fn each_map_gives_its_children_back_and_asks_for_nothing(rt: HostRuntime) -> Res
     let mut indexed = Indexed48::new(alloc)?;
     let mut direct: DirectMapping<u8> = DirectMapping::new(alloc)?;
     refuse(alloc, 1);
-    assert!(rt; plays_both(&mut sorted));
-    assert!(rt; plays_both(&mut keyed));
-    assert!(rt; plays_both(&mut indexed));
-    assert!(rt; plays_both(&mut direct));
+    assert!(rt; rows_hold_in_both(&mut sorted));
+    assert!(rt; rows_hold_in_both(&mut keyed));
+    assert!(rt; rows_hold_in_both(&mut indexed));
+    assert!(rt; rows_hold_in_both(&mut direct));
     assert!(rt; !was_refused(alloc));
     Ok(())
 }

@@ -53,7 +53,7 @@ fn holds(tree: &Tree<'_>, wanted: &[(&str, u8)]) -> bool {
 }
 
 // What doesn't stay is dropped by the load, and each value once the tree is.
-fn goes_well(alloc: Global, row: &Row) -> Result<bool, AllocError> {
+fn row_holds(alloc: Global, row: &Row) -> Result<bool, AllocError> {
     let (texts, wanted) = *row;
     let drops = Cell::new(0_usize);
     let loaded = Tree::bulk_load_sorted(alloc, items(alloc, texts, &drops)?);
@@ -77,7 +77,7 @@ fn a_replaced_value_and_those_of_an_unsorted_load_are_dropped_once(
 ) -> Result<(), Fail> {
     let mut number = 0_usize;
     for row in &LISTS {
-        assert!(rt; goes_well(rt.alloc(), row)?, "row {number}");
+        assert!(rt; row_holds(rt.alloc(), row)?, "row {number}");
         number = number.wrapping_add(1);
     }
     Ok(())

@@ -44,7 +44,7 @@ impl<'a> Iterator for Read<'a> {
     }
 }
 
-fn has_pairs(tree: &Tree<Key>, wanted: Pairs<'_>) -> bool {
+pub fn has_pairs(tree: &Tree<Key>, wanted: Pairs<'_>) -> bool {
     let Ok(mut pairs) = tree.iter() else {
         return false;
     };
@@ -68,7 +68,7 @@ const LISTS: [Row<'static>; 4] = [
 ];
 
 // Nothing is read after a fault.
-fn goes_well(alloc: Global, row: &Row<'_>) -> bool {
+fn row_holds(alloc: Global, row: &Row<'_>) -> bool {
     let count = Cell::new(0_usize);
     let items = Read {
         items: row.0,
@@ -87,7 +87,7 @@ fn goes_well(alloc: Global, row: &Row<'_>) -> bool {
 #[test]
 fn sorted_items_are_loaded_or_refused_at_the_first_fault(rt: HostRuntime) {
     for row in &LISTS {
-        assert!(rt; goes_well(rt.alloc(), row), "of {} items", row.0.len());
+        assert!(rt; row_holds(rt.alloc(), row), "of {} items", row.0.len());
     }
 }
 

@@ -1,8 +1,8 @@
-//! Calls that make a tree of nothing, and may not ask for memory. Under the library that refuses it each would be seen
-//! to, were it to ask.
+//! Calls that make a tree of nothing or compare two, and may not request memory. Under the library that refuses it
+//! each would be seen to, were it to ask.
 
 use crate::loads::{Key, ascend, load_by_index, load_unique};
-use rart::AdaptiveRadixTree;
+use rart::{AdaptiveRadixTree, KeyTrait};
 use rart_test_tools::refusals::{refuse, was_refused};
 use std::alloc::{AllocError, Global};
 use std::test::Fail;
@@ -50,4 +50,25 @@ fn is_new_quietly(alloc: Global) -> bool {
 #[test]
 fn a_new_tree_and_its_migration_ask_for_nothing(rt: HostRuntime) {
     assert!(rt; is_new_quietly(rt.alloc()));
+}
+
+// Whether two trees of the same forty keys are equal while the next request is refused; `None` without memory for the
+// trees.
+fn are_equal_quietly(alloc: Global) -> Option<bool> {
+    let (mut one, mut other) = (Tree::new(alloc), Tree::new(alloc));
+    for byte in 0..40u8 {
+        one.insert_k(&Key::new_from_slice(&[byte % 20, byte]), 1)
+            .ok()?;
+        other
+            .insert_k(&Key::new_from_slice(&[byte % 20, byte]), 1)
+            .ok()?;
+    }
+    refuse(alloc, 1);
+    let same = one == other;
+    Some(same && !was_refused(alloc))
+}
+
+#[test]
+fn comparisons_of_equal_trees_ask_for_nothing(rt: HostRuntime) {
+    assert!(rt; are_equal_quietly(rt.alloc()) == Some(true));
 }

@@ -79,6 +79,8 @@ enum Ask {
     InsertNew(u8, u8),
     Remove(u8),
     Delete(u8),
+    PopFirst,
+    PopLast,
 }
 
 // The number of the value that is handed out or back, and how many are dropped once that one is.
@@ -109,10 +111,18 @@ fn handed<'a>(tree: &mut Tree<'a>, ask: Ask, drops: &'a Cell<usize>) -> Option<C
             let _answer = tree.delete(key(byte));
             None
         }
+        Ask::PopFirst => match tree.pop_first() {
+            Ok(Some((_key, value))) => Some(value),
+            _ => None,
+        },
+        Ask::PopLast => match tree.pop_last() {
+            Ok(Some((_key, value))) => Some(value),
+            _ => None,
+        },
     }
 }
 
-fn goes_well<'a>(tree: &mut Tree<'a>, row: &Row, drops: &'a Cell<usize>) -> bool {
+fn row_holds<'a>(tree: &mut Tree<'a>, row: &Row, drops: &'a Cell<usize>) -> bool {
     let before = drops.get();
     let value = handed(tree, row.0, drops);
     let number = value.as_ref().map(|value| value.0);
@@ -125,7 +135,7 @@ fn goes_well<'a>(tree: &mut Tree<'a>, row: &Row, drops: &'a Cell<usize>) -> bool
         && early.wrapping_add(held) == row.2
 }
 
-const HANDED_AND_DROPPED: [Row; 12] = [
+const HANDED_AND_DROPPED: [Row; 14] = [
     (Ask::Insert(3, 99), Some(3), 1),
     (Ask::Insert(9, 9), None, 1),
     (Ask::TryInsert(3, 98), Some(98), 2),
@@ -138,22 +148,24 @@ const HANDED_AND_DROPPED: [Row; 12] = [
     (Ask::Delete(4), None, 5),
     (Ask::Delete(11), None, 6),
     (Ask::Remove(0), Some(0), 7),
+    (Ask::PopFirst, Some(1), 8),
+    (Ask::PopLast, Some(10), 9),
 ];
 
-// Five values before the rows, and four at their end.
+// Five values before the rows, and two at their end.
 #[test]
 fn each_value_is_handed_out_or_back_or_dropped_once(rt: HostRuntime) {
     let drops = Cell::new(0_usize);
     let mut tree = filled(&rt, rt.alloc(), &drops, 5);
     for row in &HANDED_AND_DROPPED {
-        assert!(rt; goes_well(&mut tree, row, &drops), "at {}", row.2);
+        assert!(rt; row_holds(&mut tree, row, &drops), "at {}", row.2);
     }
-    assert_eq!(rt; tree.len(), 4);
+    assert_eq!(rt; tree.len(), 2);
     drop(tree);
     assert_eq!(rt; drops.get(), 11);
 }
 
-// A key that makes the node grow, with its request refused: the value comes back. Whether a request was refused.
+// A key that makes the node grow, with its request refused: the value is returned. Whether a request was refused.
 fn insert_refused(rt: &impl Abort, alloc: Global, at: usize, drops: &Cell<usize>) -> bool {
     let mut tree = filled(rt, alloc, drops, 4);
     refuse(alloc, at);

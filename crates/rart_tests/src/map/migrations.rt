@@ -66,7 +66,7 @@ fn holds(tree: &Tree, texts: &[&str]) -> bool {
 }
 
 // What comes of the tree is the wanted, and the tree stays.
-fn goes_well(old: &Tree, row: &Row) -> bool {
+fn row_holds(old: &Tree, row: &Row) -> bool {
     let well = match (Tree::drop_closing_zeros(old), row.1) {
         (Ok(tree), Ok(texts)) => holds(&tree, texts),
         (Err(error), Err(wanted)) => error == wanted,
@@ -79,7 +79,7 @@ fn goes_well(old: &Tree, row: &Row) -> bool {
 fn keys_lose_their_closing_zeros_or_the_first_without_is_told(rt: HostRuntime) {
     for row in &ROWS {
         let old = filled(&rt, rt.alloc(), row.0);
-        assert!(rt; goes_well(&old, row), "{} keys", row.0.len());
+        assert!(rt; row_holds(&old, row), "{} keys", row.0.len());
     }
 }
 

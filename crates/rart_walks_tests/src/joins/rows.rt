@@ -148,7 +148,7 @@ pub fn is_met(left: &Tree, right: &Tree, wanted: &[Triple]) -> bool {
 }
 
 // The first row that goes another way, if one does.
-fn plays(rt: &impl Abort, alloc: Global, rows: &[Row]) -> Option<usize> {
+fn first_wrong(rt: &impl Abort, alloc: Global, rows: &[Row]) -> Option<usize> {
     let mut at = 0_usize;
     for row in rows {
         let left = filled(rt, alloc, row.0);
@@ -203,7 +203,7 @@ pub const ROWS: [Row; 9] = [
 
 #[test]
 fn keys_of_both_trees(rt: HostRuntime) {
-    assert_eq!(rt; plays(&rt, rt.alloc(), &ROWS), None);
+    assert_eq!(rt; first_wrong(&rt, rt.alloc(), &ROWS), None);
 }
 
 // Whether counts and values are given while the next request for memory is refused.

@@ -1,6 +1,6 @@
 //! Calls of a route table that may ask for no memory.
 
-use super::{Ask, Reply, Row, Table, VERSIONS, covers, lists, plays};
+use super::{Ask, Reply, Row, Table, VERSIONS, covers, first_wrong, lists};
 use rart_test_tools::refusals::{refuse, was_refused};
 use std::alloc::Global;
 
@@ -30,7 +30,7 @@ fn is_quiet(alloc: Global, table: &mut Table) -> bool {
     table.canonical();
     let covered = covers(table, "/api/v1", &[("/", 1), ("/api", 2), ("/api/v1", 3)])
         && covers(table, "api", &[]);
-    let played = plays(table, &QUIET);
+    let played = first_wrong(table, &QUIET);
     !was_refused(alloc) && covered && played.is_none()
 }
 
@@ -38,7 +38,7 @@ fn is_quiet(alloc: Global, table: &mut Table) -> bool {
 fn look_ups_of_routes_ask_for_nothing(rt: HostRuntime) {
     let mut table = Table::new(rt.alloc());
     let (filled, quiet) = (
-        plays(&mut table, &VERSIONS),
+        first_wrong(&mut table, &VERSIONS),
         is_quiet(rt.alloc(), &mut table),
     );
     assert!(rt; filled.is_none() && quiet);

@@ -1,6 +1,6 @@
 //! Edits of a route table and walks over its routes with each of their requests refused in turn.
 
-use super::{Ask, Reply, Row, Table, answer, key, lists, plays};
+use super::{Ask, Reply, Row, Table, answer, first_wrong, key, lists};
 use rart::{LendingKeyView, TreeError, TreeStatsTrait};
 use rart_test_tools::refusals::{is_swept, part_ends, refuse, was_refused};
 use std::alloc::{AllocError, Global};
@@ -123,7 +123,8 @@ fn edit_is_refused_well(
 // Each request of the edit refused in turn, and at last none.
 fn edit_is_swept(alloc: Global, stands: &[Row], edit: &Row) -> bool {
     let (mut table, mut unrefused) = (Table::new(alloc), Table::new(alloc));
-    let filled = plays(&mut table, stands).is_none() && plays(&mut unrefused, stands).is_none();
+    let filled = first_wrong(&mut table, stands).is_none()
+        && first_wrong(&mut unrefused, stands).is_none();
     for at in 1..100_usize {
         match edit_is_refused_well(alloc, &mut table, &mut unrefused, edit, at) {
             Some(true) => {}
@@ -179,7 +180,7 @@ fn walk_is_swept(alloc: Global, table: &Table, lent: bool) -> bool {
 #[test]
 fn views_of_routes_refused_in_turn(rt: HostRuntime) {
     let mut table = Table::new(rt.alloc());
-    let filled = plays(&mut table, &BRANCHES);
+    let filled = first_wrong(&mut table, &BRANCHES);
     assert_eq!(rt; filled, None);
     for lent in [false, true] {
         assert!(rt; walk_is_swept(rt.alloc(), &table, lent), "lent {lent}");
@@ -212,7 +213,7 @@ fn list_is_refused_well(alloc: Global, table: &Table, at: usize) -> Option<bool>
 fn lists_of_routes_refused_in_turn(rt: HostRuntime) {
     let alloc = rt.alloc();
     let mut table = Table::new(alloc);
-    let filled = plays(&mut table, &BRANCHES);
+    let filled = first_wrong(&mut table, &BRANCHES);
     assert_eq!(rt; filled, None);
     assert!(rt; is_swept(alloc, |at| list_is_refused_well(alloc, &table, at)));
 }

@@ -51,6 +51,9 @@ fn matches_by_callback(tree: &Tree, key: Key) -> usize {
     tree.prefix_match_for_each_k(&key, |_found: &[u8], _value: &u64| calls.call());
     let mut callback = |_found: &[u8], _value: &u64| calls.call();
     tree.prefix_match_for_each_by_ref_k(&key, &mut callback);
+    tree.prefix_match_for_each_bytes(key.as_ref(), |_found: &[u8], _value: &u64| calls.call());
+    let mut callback = |_found: &[u8], _value: &u64| calls.call();
+    tree.prefix_match_for_each_by_ref_bytes(key.as_ref(), &mut callback);
     tree.prefix_match_for_each(key, |_found: &[u8], _value: &u64| calls.call());
     let mut callback = |_found: &[u8], _value: &u64| calls.call();
     tree.prefix_match_for_each_by_ref(key, &mut callback);
@@ -63,7 +66,7 @@ fn calls_about_a_probe_ask_for_nothing(rt: HostRuntime) {
     refuse(rt.alloc(), 1);
     let called = matches_by_callback(&tree, Key::new_from_slice(b"alpha12"));
     assert!(rt; !was_refused(rt.alloc()));
-    assert_eq!(rt; called, 8);
+    assert_eq!(rt; called, 12);
 }
 
 // How many of ten calls give a pair, below "alp", between "alp" and "b", and of all, by the plain and the counted

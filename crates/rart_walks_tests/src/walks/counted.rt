@@ -21,9 +21,20 @@ fn longest_is(tree: &Tree, probe: &[u8], wanted: &Pair) -> bool
         Some(found) => is_pair(&found, wanted),
         None => false,
     };
+    let pair_by_bytes = match seen(tree).longest_prefix_match_bytes_counted(
+        probe,
+        &mut Visits::new(),
+    ) {
+        Some(found) => is_pair(&found, wanted),
+        None => false,
+    };
     let by_key = seen(tree).longest_prefix_value_k_counted(&key, &mut Visits::new());
     let by_bytes = seen(tree).longest_prefix_value_bytes_counted(probe, &mut Visits::new());
-    pair && by_key == Some(&wanted.1) && by_bytes == Some(&wanted.1)
+    let len = seen(tree).longest_prefix_len_bytes_counted(probe, &mut Visits::new());
+    pair && pair_by_bytes
+        && len == Some((wanted.0.len(), &wanted.1))
+        && by_key == Some(&wanted.1)
+        && by_bytes == Some(&wanted.1)
 }
 
 #[test]
@@ -32,6 +43,19 @@ fn the_longest_match_is_answered_as_by_the_plain_call(rt: HostRuntime) {
     assert!(rt; longest_is(&tree, b"abz", &("ab", 2)));
     assert!(rt; longest_is(&tree, b"az", &("a", 1)));
     assert!(rt; longest_is(&tree, b"z", &("", 0)));
+}
+
+fn matches_by_bytes_are(tree: &Tree, probe: &[u8], wanted: u64) -> bool {
+    let shown = Cell::new(1_u64);
+    seen(tree).prefix_match_for_each_bytes_counted(
+        probe,
+        |found: &[u8], value: &u64| shown.set(with_match(shown.get(), probe, found, *value)),
+        &mut Visits::new(),
+    );
+    let mut lent = 1_u64;
+    let mut callback = |found: &[u8], value: &u64| lent = with_match(lent, probe, found, *value);
+    seen(tree).prefix_match_for_each_by_ref_bytes_counted(probe, &mut callback, &mut Visits::new());
+    shown.get() == wanted && lent == wanted
 }
 
 fn matches_are(tree: &Tree, probe: &[u8], wanted: u64) -> bool
@@ -47,7 +71,7 @@ fn matches_are(tree: &Tree, probe: &[u8], wanted: u64) -> bool
     let mut lent = 1_u64;
     let mut callback = |found: &[u8], value: &u64| lent = with_match(lent, probe, found, *value);
     seen(tree).prefix_match_for_each_by_ref_k_counted(&key, &mut callback, &mut Visits::new());
-    shown.get() == wanted && lent == wanted
+    shown.get() == wanted && lent == wanted && matches_by_bytes_are(tree, probe, wanted)
 }
 
 #[test]

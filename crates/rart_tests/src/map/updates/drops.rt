@@ -16,7 +16,7 @@ type Tree<'a> = AdaptiveRadixTree<Key, Counted<'a>>;
 
 /// What the callback of an update requests.
 #[derive(Clone, Copy)]
-enum Then {
+enum Request {
     Keep,
     Remove,
     /// The value of this number.
@@ -28,7 +28,7 @@ enum Then {
 enum Answer {
     Done(bool),
     Failed,
-    /// The insertion is refused, and the value of this number comes back.
+    /// The insertion fails, and the value of this number is returned.
     Back(u8),
     /// The removal is refused.
     NotRemoved,
@@ -52,12 +52,12 @@ fn filled<'a>(alloc: Global, drops: &'a Cell<usize>, count: u8) -> Tree<'a> {
 }
 
 // What a callback requests: nothing where it fails.
-fn asked<'a>(then: Then, drops: &'a Cell<usize>) -> Result<SlotUpdate<Counted<'a>>, ()> {
-    match then {
-        Then::Insert(number) => Ok(SlotUpdate::Insert(Counted(number, drops))),
-        Then::Remove => Ok(SlotUpdate::Remove),
-        Then::Keep => Ok(SlotUpdate::Keep),
-        Then::Fail => Err(()),
+fn asked<'a>(request: Request, drops: &'a Cell<usize>) -> Result<SlotUpdate<Counted<'a>>, ()> {
+    match request {
+        Request::Insert(number) => Ok(SlotUpdate::Insert(Counted(number, drops))),
+        Request::Remove => Ok(SlotUpdate::Remove),
+        Request::Keep => Ok(SlotUpdate::Keep),
+        Request::Fail => Err(()),
     }
 }
 
@@ -109,9 +109,9 @@ fn over<'a>(tree: &Tree<'a>, key: &Key, drops: &'a Cell<usize>) -> Option<Counte
     }
 }
 
-fn update<'a>(tree: &mut Tree<'a>, byte: u8, then: Then, drops: &'a Cell<usize>) -> Answer {
+fn update<'a>(tree: &mut Tree<'a>, byte: u8, request: Request, drops: &'a Cell<usize>) -> Answer {
     let key = key(byte);
-    let Ok(update) = asked(then, drops) else {
+    let Ok(update) = asked(request, drops) else {
         return Answer::Failed;
     };
     let written = over(tree, &key, drops);
@@ -122,10 +122,15 @@ fn update<'a>(tree: &mut Tree<'a>, byte: u8, then: Then, drops: &'a Cell<usize>)
     }
 }
 
-fn try_update<'a>(tree: &mut Tree<'a>, byte: u8, then: Then, drops: &'a Cell<usize>) -> Answer {
+fn try_update<'a>(
+    tree: &mut Tree<'a>,
+    byte: u8,
+    request: Request,
+    drops: &'a Cell<usize>,
+) -> Answer {
     let key = key(byte);
     let written = over(tree, &key, drops);
-    match try_update_by(tree, &key, written, asked(then, drops)) {
+    match try_update_by(tree, &key, written, asked(request, drops)) {
         Ok(touched) => Answer::Done(touched),
         Err(TryUpdateError::Callback(())) => Answer::Failed,
         Err(TryUpdateError::Insert(refused)) => Answer::Back(refused.value.0),
@@ -138,13 +143,13 @@ fn updated<'a>(
     tree: &mut Tree<'a>,
     tries: bool,
     byte: u8,
-    then: Then,
+    request: Request,
     drops: &'a Cell<usize>,
 ) -> Answer {
     if tries {
-        try_update(tree, byte, then, drops)
+        try_update(tree, byte, request, drops)
     } else {
-        update(tree, byte, then, drops)
+        update(tree, byte, request, drops)
     }
 }
 
@@ -155,64 +160,96 @@ fn number_at(tree: &Tree<'_>, byte: u8) -> Option<u8> {
 
 // Whether by `try_update`; the byte; what is requested; what is answered; the number that is then stored; how many
 // values are made on the way, and how many are dropped.
-type Row = (bool, u8, Then, Answer, Option<u8>, usize, usize);
+type Row = (bool, u8, Request, Answer, Option<u8>, usize, usize);
 
 const UPDATES: [Row; 16] = [
     // the value that is stored there is written over, and `try_update` drops its clone
     (
         false,
         0,
-        Then::Keep,
+        Request::Keep,
         Answer::Done(true),
         Some(WRITTEN),
         1,
         1,
     ),
-    (true, 1, Then::Keep, Answer::Done(true), Some(WRITTEN), 2, 2),
-    (false, 9, Then::Keep, Answer::Done(false), None, 0, 0),
-    (true, 9, Then::Keep, Answer::Done(false), None, 0, 0),
+    (
+        true,
+        1,
+        Request::Keep,
+        Answer::Done(true),
+        Some(WRITTEN),
+        2,
+        2,
+    ),
+    (false, 9, Request::Keep, Answer::Done(false), None, 0, 0),
+    (true, 9, Request::Keep, Answer::Done(false), None, 0, 0),
     // what was written is replaced
-    (false, 0, Then::Insert(7), Answer::Done(true), Some(7), 2, 2),
-    (true, 1, Then::Insert(8), Answer::Done(true), Some(8), 3, 3),
-    (false, 9, Then::Insert(9), Answer::Done(true), Some(9), 1, 0),
+    (
+        false,
+        0,
+        Request::Insert(7),
+        Answer::Done(true),
+        Some(7),
+        2,
+        2,
+    ),
+    (
+        true,
+        1,
+        Request::Insert(8),
+        Answer::Done(true),
+        Some(8),
+        3,
+        3,
+    ),
+    (
+        false,
+        9,
+        Request::Insert(9),
+        Answer::Done(true),
+        Some(9),
+        1,
+        0,
+    ),
     (
         true,
         10,
-        Then::Insert(10),
+        Request::Insert(10),
         Answer::Done(true),
         Some(10),
         1,
         0,
     ),
     // what was written is dropped, and the clone is stored
-    (true, 2, Then::Fail, Answer::Failed, Some(2), 2, 2),
-    (true, 11, Then::Fail, Answer::Failed, None, 0, 0),
+    (true, 2, Request::Fail, Answer::Failed, Some(2), 2, 2),
+    (true, 11, Request::Fail, Answer::Failed, None, 0, 0),
     // what was written is removed
-    (false, 0, Then::Remove, Answer::Done(true), None, 1, 2),
-    (true, 1, Then::Remove, Answer::Done(true), None, 2, 3),
-    (false, 9, Then::Remove, Answer::Done(true), None, 1, 2),
-    (true, 10, Then::Remove, Answer::Done(true), None, 2, 3),
-    (false, 0, Then::Remove, Answer::Done(false), None, 0, 0),
-    (true, 1, Then::Remove, Answer::Done(false), None, 0, 0),
+    (false, 0, Request::Remove, Answer::Done(true), None, 1, 2),
+    (true, 1, Request::Remove, Answer::Done(true), None, 2, 3),
+    (false, 9, Request::Remove, Answer::Done(true), None, 1, 2),
+    (true, 10, Request::Remove, Answer::Done(true), None, 2, 3),
+    (false, 0, Request::Remove, Answer::Done(false), None, 0, 0),
+    (true, 1, Request::Remove, Answer::Done(false), None, 0, 0),
 ];
 
-fn goes_well<'a>(tree: &mut Tree<'a>, row: &Row, drops: &'a Cell<usize>) -> bool {
-    let (tries, byte, then, wanted, number, _made, dropped) = *row;
+fn row_holds<'a>(tree: &mut Tree<'a>, row: &Row, drops: &'a Cell<usize>) -> bool {
+    let (tries, byte, request, wanted, number, _made, dropped) = *row;
     let before = drops.get();
-    let answered = updated(tree, tries, byte, then, drops);
+    let answered = updated(tree, tries, byte, request, drops);
     answered == wanted
         && number_at(tree, byte) == number
         && drops.get() == before.wrapping_add(dropped)
 }
 
 // The first row that goes another way, if one does; one past the last where not all values are dropped with the tree.
-fn plays(alloc: Global, count: u8, rows: &[Row]) -> Option<usize> {
+fn first_wrong(alloc: Global, count: u8, rows: &[Row]) -> Option<usize> {
     let drops = Cell::new(0_usize);
     let mut tree = filled(alloc, &drops, count);
     let mut made = usize::from(count);
     let mut at = 0_usize;
     for row in rows {
-        if !goes_well(&mut tree, row, &drops) {
+        if !row_holds(&mut tree, row, &drops) {
             return Some(at);
         }
         made = made.wrapping_add(row.5);
@@ -224,7 +261,7 @@ fn plays(alloc: Global, count: u8, rows: &[Row]) -> Option<usize> {
 
 #[test]
 fn an_update_drops_each_value_once(rt: HostRuntime) {
-    assert_eq!(rt; plays(rt.alloc(), 3, &UPDATES), None);
+    assert_eq!(rt; first_wrong(rt.alloc(), 3, &UPDATES), None);
 }
 
 // How many keys stand, the row where nothing is refused, and what is answered where a request is: the answer, the
@@ -234,22 +271,38 @@ type Sweep = (u8, Row, (Answer, Option<u8>, usize));
 const REFUSED: [Sweep; 4] = [
     (
         4,
-        (false, 4, Then::Insert(7), Answer::Done(true), Some(7), 1, 0),
+        (
+            false,
+            4,
+            Request::Insert(7),
+            Answer::Done(true),
+            Some(7),
+            1,
+            0,
+        ),
         (Answer::Back(7), None, 1),
     ),
     (
         4,
-        (true, 4, Then::Insert(7), Answer::Done(true), Some(7), 1, 0),
+        (
+            true,
+            4,
+            Request::Insert(7),
+            Answer::Done(true),
+            Some(7),
+            1,
+            0,
+        ),
         (Answer::Back(7), None, 1),
     ),
     (
         5,
-        (false, 2, Then::Remove, Answer::Done(true), None, 1, 2),
+        (false, 2, Request::Remove, Answer::Done(true), None, 1, 2),
         (Answer::NotRemoved, Some(WRITTEN), 1),
     ),
     (
         5,
-        (true, 2, Then::Remove, Answer::Done(true), None, 2, 3),
+        (true, 2, Request::Remove, Answer::Done(true), None, 2, 3),
         (Answer::NotRemoved, Some(2), 2),
     ),
 ];
@@ -257,11 +310,11 @@ const REFUSED: [Sweep; 4] = [
 // The update with a request refused, and whether one was; None where something else went wrong.
 fn refused_once(alloc: Global, sweep: &Sweep, at: usize) -> Option<bool> {
     let (count, row, (refusal, kept, early)) = *sweep;
-    let (tries, byte, then, wanted, number, made, dropped) = row;
+    let (tries, byte, request, wanted, number, made, dropped) = row;
     let drops = Cell::new(0_usize);
     let mut tree = filled(alloc, &drops, count);
     refuse(alloc, at);
-    let answered = updated(&mut tree, tries, byte, then, &drops);
+    let answered = updated(&mut tree, tries, byte, request, &drops);
     let refused = was_refused(alloc);
     let found = (answered, number_at(&tree, byte), drops.get());
     drop(tree);

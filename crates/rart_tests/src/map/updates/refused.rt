@@ -115,7 +115,7 @@ fn filled(alloc: Global, count: u8) -> Tree {
 
 // Makes the update with its first request refused, then with its second and so on, and at last with memory; whether
 // each went well.
-fn goes_well(alloc: Global, row: &Row, by_value: bool) -> bool {
+fn row_holds(alloc: Global, row: &Row, by_value: bool) -> bool {
     let (count, _tries, byte, ask, kept, after) = *row;
     let mut tree = filled(alloc, count);
     let mut before = filled(alloc, count);
@@ -164,8 +164,8 @@ const GROWING_AND_SHRINKING: [Row; 12] = [
 fn updates_refused_in_turn_keep_the_nodes(rt: HostRuntime) {
     let mut row = 0_usize;
     for update in &GROWING_AND_SHRINKING {
-        assert!(rt; goes_well(rt.alloc(), update, false), "row {row}");
-        assert!(rt; goes_well(rt.alloc(), update, true), "row {row} by value");
+        assert!(rt; row_holds(rt.alloc(), update, false), "row {row}");
+        assert!(rt; row_holds(rt.alloc(), update, true), "row {row} by value");
         row = row.wrapping_add(1);
     }
 }
@@ -324,7 +324,7 @@ fn write_and_remove(
 }
 
 // Each request refused in turn: that of the clone calls nothing back, that of the removal restores the value.
-fn removal_goes_well(alloc: Global, count: u8, by_value: bool) -> bool {
+fn removal_holds(alloc: Global, count: u8, by_value: bool) -> bool {
     let mut values = with_clones(alloc, count);
     for at in 1..100_usize {
         refuse(alloc, at);
@@ -348,9 +348,9 @@ fn removal_goes_well(alloc: Global, count: u8, by_value: bool) -> bool {
 #[test]
 fn removals_of_values_with_clones_refused_in_turn(rt: HostRuntime) {
     for count in [5_u8, 17, 49] {
-        assert!(rt; removal_goes_well(rt.alloc(), count, false), "{count} keys");
+        assert!(rt; removal_holds(rt.alloc(), count, false), "{count} keys");
         assert!(rt;
-            removal_goes_well(rt.alloc(), count, true),
+            removal_holds(rt.alloc(), count, true),
             "{count} keys by value"
         );
     }

@@ -1,0 +1,166 @@
+//! Edits and walks of a table of networks with each request for memory refused in turn, and calls that request none.
+
+use rart::TreeError;
+use rart_cidr::{Cidr4, CidrTable4};
+use rart_test_tools::refusals::{is_swept, refuse, was_refused};
+use std::alloc::Global;
+use std::net::Ipv4Addr;
+
+type Table = CidrTable4<u64>;
+
+// Networks that need several strides, and several nodes in one.
+const NETWORKS: [([u8; 4], u8); 12] = [
+    ([10, 0, 0, 0], 8),
+    ([10, 1, 0, 0], 16),
+    ([10, 1, 2, 0], 24),
+    ([0, 0, 0, 0], 0),
+    ([10, 1, 128, 0], 17),
+    ([10, 1, 128, 0], 18),
+    ([10, 1, 192, 0], 18),
+    ([10, 1, 128, 0], 19),
+    ([10, 1, 160, 0], 19),
+    ([10, 1, 192, 0], 19),
+    ([10, 1, 2, 3], 32),
+    ([192, 0, 2, 0], 24),
+];
+
+fn net(octets: [u8; 4], len: u8) -> Cidr4 {
+    Cidr4::masked(Ipv4Addr::from_octets(octets), len.min(32))
+}
+
+// Inserts the networks in turn, each with its place as its target, until one is refused, and returns how many were not;
+// or None where the refusal was not for want of memory, or didn't return the target.
+fn insert_all(table: &mut Table) -> Option<usize> {
+    let mut done = 0_usize;
+    for (octets, len) in NETWORKS {
+        match table.insert(&net(octets, len), done as u64) {
+            Ok(None) => {}
+            Ok(Some(_)) => return None,
+            Err(refused) => {
+                let is_own = refused.error == TreeError::Memory && refused.value == done as u64;
+                return is_own.then_some(done);
+            }
+        }
+        done = done.wrapping_add(1);
+    }
+    Some(done)
+}
+
+// Removes the networks in turn until a removal is refused, and returns how many were not.
+fn remove_all(table: &mut Table) -> Option<usize> {
+    let mut done = 0_usize;
+    for (octets, len) in NETWORKS {
+        match table.remove(&net(octets, len)) {
+            Ok(Some(target)) => {
+                if target != done as u64 {
+                    return None;
+                }
+            }
+            Ok(None) => return None,
+            Err(error) => return (error == TreeError::Memory).then_some(done),
+        }
+        done = done.wrapping_add(1);
+    }
+    Some(done)
+}
+
+// Whether the table has the networks from one place to before another, and no others.
+fn has_networks(table: &Table, from: usize, to: usize) -> bool {
+    let mut at = 0_usize;
+    let mut count = 0_usize;
+    for (octets, len) in NETWORKS {
+        let is_wanted = from <= at && at < to;
+        let wanted = is_wanted.then_some(at as u64);
+        if table.get(&net(octets, len)).copied() != wanted {
+            return false;
+        }
+        if is_wanted {
+            count = count.wrapping_add(1);
+        }
+        at = at.wrapping_add(1);
+    }
+    table.len() == count
+}
+
+// With the request of this number refused: whether one was. None where something else went wrong.
+fn insertions_refused(alloc: Global, at: usize) -> Option<bool> {
+    let mut table = Table::new(alloc);
+    refuse(alloc, at);
+    let done = insert_all(&mut table);
+    let was = was_refused(alloc);
+    let done = done?;
+    (was == (done < NETWORKS.len()) && has_networks(&table, 0, done)).then_some(was)
+}
+
+fn removals_refused(alloc: Global, at: usize) -> Option<bool> {
+    let mut table = Table::new(alloc);
+    if insert_all(&mut table) != Some(NETWORKS.len()) {
+        return None;
+    }
+    refuse(alloc, at);
+    let done = remove_all(&mut table);
+    let was = was_refused(alloc);
+    let done = done?;
+    (was == (done < NETWORKS.len()) && has_networks(&table, done, NETWORKS.len())).then_some(was)
+}
+
+// The walk's number of routes, where it isn't refused.
+fn count_within(table: &Table) -> Result<usize, TreeError> {
+    let mut count = 0_usize;
+    for _ in table.within(net([10, 0, 0, 0], 8))? {
+        count = count.wrapping_add(1);
+    }
+    Ok(count)
+}
+
+fn walk_refused(alloc: Global, at: usize) -> Option<bool> {
+    let mut table = Table::new(alloc);
+    if insert_all(&mut table) != Some(NETWORKS.len()) {
+        return None;
+    }
+    refuse(alloc, at);
+    let counted = count_within(&table);
+    let was = was_refused(alloc);
+    let wanted = if was { Err(TreeError::Memory) } else { Ok(10) };
+    (counted == wanted).then_some(was)
+}
+
+#[test]
+fn edits_of_networks_refused_in_turn_change_nothing(rt: HostRuntime) {
+    let alloc = rt.alloc();
+    assert!(rt; is_swept(alloc, |at| insertions_refused(alloc, at)));
+    assert!(rt; is_swept(alloc, |at| removals_refused(alloc, at)));
+}
+
+#[test]
+fn a_walk_of_networks_refused_in_turn_gives_none(rt: HostRuntime) {
+    let alloc = rt.alloc();
+    assert!(rt; is_swept(alloc, |at| walk_refused(alloc, at)));
+}
+
+fn is_quiet(alloc: Global, table: &Table) -> bool {
+    refuse(alloc, 1);
+    let addr = Ipv4Addr::new(10, 1, 200, 1);
+    let longest = table.longest_match(addr).map(|route| *route.1);
+    let by_lengths = table
+        .longest_by_lengths(&Cidr4::host(addr))
+        .map(|route| *route.1);
+    let mut covering = 0_usize;
+    for _ in table.matches(addr) {
+        covering = covering.wrapping_add(1);
+    }
+    let stored = table.get(&net([10, 1, 2, 3], 32)).copied();
+    !was_refused(alloc)
+        && longest == Some(9)
+        && by_lengths == Some(9)
+        && covering == 6
+        && stored == Some(10)
+        && !table.is_empty()
+}
+
+#[test]
+fn look_ups_of_networks_ask_for_nothing(rt: HostRuntime) {
+    let mut table = Table::new(rt.alloc());
+    let (inserted, quiet) = (insert_all(&mut table), is_quiet(rt.alloc(), &table));
+    assert!(rt; inserted == Some(NETWORKS.len()) && quiet);
+}

@@ -1,0 +1,180 @@
+//! Edits of the tree.
+use crate::trees::{Key, Tree, key, nested};
+use rart::{RouteTable, SlotUpdate, TryUpdateError};
+use std::alloc::Global;
+
+/// Stores each key again, and returns how many had a value.
+pub fn insert(alloc: Global) -> Option<usize> {
+    let mut tree = nested(alloc)?;
+    let mut stored: usize = 0;
+    for length in 1..1025 {
+        if tree.insert_k(&key(length), 2).ok()?.is_some() {
+            stored = stored.saturating_add(1);
+        }
+    }
+    Some(stored)
+}
+
+/// Inserts each key as a new one, and returns how many the tree then has.
+pub fn insert_new(alloc: Global) -> Option<usize> {
+    let mut tree = Tree::new(alloc);
+    for length in 1..1025 {
+        tree.insert_new_k(&key(length), 1).ok()?;
+    }
+    Some(tree.len())
+}
+
+/// Tries to insert each key twice, and returns how often that went well.
+pub fn try_insert(alloc: Global) -> Option<usize> {
+    let mut tree = Tree::new(alloc);
+    let mut new: usize = 0;
+    for length in 1..1025 {
+        for _time in 0..2 {
+            if tree.try_insert_k(&key(length), 1).is_ok() {
+                new = new.saturating_add(1);
+            }
+        }
+    }
+    Some(new)
+}
+
+/// Removes all keys, the longest first, and returns how many were stored.
+pub fn remove(alloc: Global) -> Option<usize> {
+    let mut tree = nested(alloc)?;
+    let mut removed: usize = 0;
+    for shorter in 0..1024 {
+        if tree.remove_k(&key(1024 - shorter)).ok()?.is_some() {
+            removed = removed.saturating_add(1);
+        }
+    }
+    Some(removed)
+}
+
+/// Deletes all keys but the longest, so that nodes are merged, and returns how many were stored.
+pub fn delete(alloc: Global) -> Option<usize> {
+    let mut tree = nested(alloc)?;
+    let mut removed: usize = 0;
+    for shorter in 1..1024 {
+        if tree.delete_k(&key(1024 - shorter)).ok()? {
+            removed = removed.saturating_add(1);
+        }
+    }
+    Some(removed)
+}
+
+/// Takes all pairs from the front, and returns how many there were.
+pub fn pop_first(alloc: Global) -> Option<usize> {
+    let mut tree = nested(alloc)?;
+    let mut taken: usize = 0;
+    for _time in 0..1024 {
+        if tree.pop_first().ok()?.is_some() {
+            taken = taken.saturating_add(1);
+        }
+    }
+    Some(taken)
+}
+
+/// Takes all pairs from the back, and returns how many there were.
+pub fn pop_last(alloc: Global) -> Option<usize> {
+    let mut tree = nested(alloc)?;
+    let mut taken: usize = 0;
+    for _time in 0..1024 {
+        if tree.pop_last().ok()?.is_some() {
+            taken = taken.saturating_add(1);
+        }
+    }
+    Some(taken)
+}
+
+/// What a callback requests.
+#[derive(Clone, Copy)]
+enum Request {
+    Keep,
+    Insert,
+    Remove,
+}
+
+fn edit_of(request: Request) -> SlotUpdate<u64> {
+    match request {
+        Request::Keep => SlotUpdate::Keep,
+        Request::Insert => SlotUpdate::Insert(3),
+        Request::Remove => SlotUpdate::Remove,
+    }
+}
+
+// Updates each key, the longest first, and returns how many keys the tree then has.
+fn update_all(tree: &mut Tree, request: Request) -> Option<usize> {
+    for shorter in 0..1024 {
+        tree.update_k(&key(1024 - shorter), move |_slot| edit_of(request))
+            .ok()?;
+    }
+    Some(tree.len())
+}
+
+// The same by callbacks that may fail.
+fn try_update_all(tree: &mut Tree, request: Request) -> Option<usize> {
+    for shorter in 0..1024 {
+        let updated: Result<bool, TryUpdateError<u64, u64>> = tree.try_update_k(
+            &key(1024 - shorter),
+            move |_slot| Ok(edit_of(request)),
+        );
+        updated.ok()?;
+    }
+    Some(tree.len())
+}
+
+/// Keeps, replaces, removes and inserts all keys by updates, and returns the number of keys after each of these.
+pub fn update(alloc: Global) -> Option<usize> {
+    let mut tree = nested(alloc)?;
+    let kept = update_all(&mut tree, Request::Keep)?;
+    let replaced = update_all(&mut tree, Request::Insert)?;
+    let removed = update_all(&mut tree, Request::Remove)?;
+    let inserted = update_all(&mut tree, Request::Insert)?;
+    Some((kept % 2048) + (replaced % 2048) + (removed % 2048) + (inserted % 2048))
+}
+
+/// The same by callbacks that may fail.
+pub fn try_update(alloc: Global) -> Option<usize> {
+    let mut tree = nested(alloc)?;
+    let kept = try_update_all(&mut tree, Request::Keep)?;
+    let replaced = try_update_all(&mut tree, Request::Insert)?;
+    let removed = try_update_all(&mut tree, Request::Remove)?;
+    let inserted = try_update_all(&mut tree, Request::Insert)?;
+    Some((kept % 2048) + (replaced % 2048) + (removed % 2048) + (inserted % 2048))
+}
+
+/// Writes to each value, and returns how many there are.
+pub fn get_mut(alloc: Global) -> Option<usize> {
+    let mut tree = nested(alloc)?;
+    let mut stored: usize = 0;
+    for length in 1..1025 {
+        if let Some(value) = tree.get_mut_k(&key(length)) {
+            *value = 5;
+            stored = stored.saturating_add(1);
+        }
+    }
+    Some(stored)
+}
+
+/// Adds, replaces and withdraws routes, and returns how many there were.
+pub fn routes(alloc: Global) -> Option<usize> {
+    let mut routes: RouteTable<Key, u64> = RouteTable::new(alloc);
+    for length in 1..1025 {
+        routes.add_new(&key(length), 1).ok()?;
+        routes.replace(&key(length), 2).ok()?;
+    }
+    let mut withdrawn: usize = 0;
+    for shorter in 0..1024 {
+        if routes.withdraw(&key(1024 - shorter)).ok()?.is_some() {
+            withdrawn = withdrawn.saturating_add(1);
+        }
+    }
+    Some(withdrawn)
+}
+
+/// Drops all pairs, and returns how many are left.
+pub fn clear(alloc: Global) -> Option<usize> {
+    let mut tree = nested(alloc)?;
+    tree.clear();
+    Some(tree.len())
+}

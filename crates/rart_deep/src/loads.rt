@@ -1,0 +1,38 @@
+//! Bulk loads of the tree, and a migration to it.
+ghost use Rattle.std.specs.Prelude.{◌<◌};
+
+use crate::trees::{Key, Tree, first, key};
+use std::alloc::Global;
+
+fn items(alloc: Global) -> Option<Vec<(Key, u64)>> {
+    let mut items = Vec::new(alloc);
+    for length in 1..1025 {
+        items.push((key(length), 1)).ok()?;
+    }
+    Some(items)
+}
+
+/// Loads items in order, and returns how many keys the tree then has.
+pub fn sorted(alloc: Global) -> Option<usize> {
+    let tree = Tree::bulk_load_sorted(alloc, items(alloc)?).ok()?;
+    Some(tree.len())
+}
+
+// The key of this many bytes and a closing zero.
+fn text(length: usize) -> Key
+    requires { length < 1024 }
+{
+    let mut bytes = [b'a'; 1024];
+    bytes[length] = 0;
+    first(&bytes, length + 1)
+}
+
+/// Migrates texts with a closing zero to keys without it, and returns how many keys the tree then has.
+pub fn texts(alloc: Global) -> Option<usize> {
+    let mut old = Tree::new(alloc);
+    for length in 0..1024 {
+        old.insert_k(&text(length), 1).ok()?;
+    }
+    let tree = Tree::drop_closing_zeros(&old).ok()?;
+    Some(tree.len())
+}
