@@ -80,7 +80,7 @@ def run(program, script, refuse=0, library=None, **how):
     return ended.returncode, ended.stdout, ended.stderr, refused
 
 
-def swept(program, script, library):
+def swept(program, script, library, cannot_read=CANNOT_READ):
     """Why the sweep failed, or nothing, and how many requests were refused. Each line of the script prints one."""
     lines = script.splitlines(keepends=True)
     status, whole, said, _ = run(program, script)
@@ -91,7 +91,7 @@ def swept(program, script, library):
         if not refused:
             well = at > 1 and (status, printed, said) == (0, whole, b"")
             return "" if well else "no request was refused, or it then went wrong", at - 1
-        if status == 1 and not printed and said == CANNOT_READ:
+        if status == 1 and not printed and said == cannot_read:
             continue
         answers = printed.splitlines()
         if status != 0 or said or len(answers) != len(lines):

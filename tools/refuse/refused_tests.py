@@ -13,8 +13,8 @@ it ends with status 0 and
 
 Such a test of the sources that is in no program fails: its crate wasn't built, or not with its tests.
 
-Then the program crates/rart_script/out/rart_script runs from outside, by refused_program and program_rows, and
-crates/rart_random/out/rart_random by refused_random.
+Then the program crates/rart_script/out/rart_script runs from outside, by refused_program and program_rows,
+crates/rart_routes/out/rart_routes by refused_routes, and crates/rart_random/out/rart_random by refused_random.
 
 PASSED and FAILED are the gate's counts: the last line adds to them and closes the run.
 """
@@ -31,6 +31,7 @@ sys.dont_write_bytecode = True
 import program_rows  # noqa: E402
 import refused_program  # noqa: E402
 import refused_random  # noqa: E402
+import refused_routes  # noqa: E402
 
 TOP = pathlib.Path(__file__).resolve().parents[2]
 
@@ -112,6 +113,9 @@ def outcomes(found, library):
     random = TOP / "crates" / "rart_random" / "out" / "rart_random"
     for name, why, refused in refused_random.checks(random, library):
         yield f"rart_random {name}", why, refused
+    routes = TOP / "crates" / "rart_routes" / "out" / "rart_routes"
+    for name, why, refused in refused_routes.checks(routes, library):
+        yield f"rart_routes {name}", why, refused
     program = TOP / "crates" / "rart_script" / "out" / "rart_script"
     if not os.access(program, os.X_OK):
         yield "rart_script", "the program isn't built", 0
