@@ -49,7 +49,7 @@ const ROWS: [Row; 6] = [
 ];
 
 // The items, which are counted as they are read.
-fn read<'a>(items: Pairs<'a>, count: &'a Cell<usize>) -> Read<'a> {
+fn read<'a>(items: Pairs<'static>, count: &'a Cell<usize>) -> Read<'a> {
     Read {
         items,
         at: 0,
@@ -57,53 +57,50 @@ fn read<'a>(items: Pairs<'a>, count: &'a Cell<usize>) -> Read<'a> {
     }
 }
 
-fn is_extended(alloc: Global, first: Pairs<'_>, more: Pairs<'_>, wanted: Pairs<'_>) -> bool {
+fn is_extended(alloc: Global, row: &Row) -> bool {
     let (first_read, more_read) = (Cell::new(0_usize), Cell::new(0_usize));
-    let Ok(mut tree) = Tree::<Key>::from_pairs(alloc, read(first, &first_read)) else {
+    let Ok(mut tree) = Tree::<Key>::from_pairs(alloc, read(row.first, &first_read)) else {
         return false;
     };
-    tree.extend(read(more, &more_read)).is_ok()
-        && first_read.get() == first.len()
-        && more_read.get() == more.len()
-        && has_pairs(&tree, wanted)
+    tree.extend(read(row.more, &more_read)).is_ok()
+        && first_read.get() == row.first.len()
+        && more_read.get() == row.more.len()
+        && has_pairs(&tree, row.wanted)
 }
 
 #[test]
 fn items_in_any_order_are_inserted_in_turn(rt: HostRuntime) {
     for row in &ROWS {
         let (first, more) = (row.first.len(), row.more.len());
-        assert!(rt;
-            is_extended(rt.alloc(), row.first, row.more, row.wanted),
-            "{first} and {more} items"
-        );
+        assert!(rt; is_extended(rt.alloc(), row), "{first} and {more} items");
     }
 }
 
 // The same of a route table, whose pairs are looked up.
-fn are_routes(alloc: Global, first: Pairs<'_>, more: Pairs<'_>, wanted: Pairs<'_>) -> bool {
+fn are_routes(alloc: Global, row: &Row) -> bool {
     let (first_read, more_read) = (Cell::new(0_usize), Cell::new(0_usize));
-    let Ok(mut table) = RouteTable::<Key, u64>::from_pairs(alloc, read(first, &first_read)) else {
+    let Ok(mut table) = RouteTable::<Key, u64>::from_pairs(alloc, read(row.first, &first_read))
+    else {
         return false;
     };
-    if table.extend(read(more, &more_read)).is_err() {
+    if table.extend(read(row.more, &more_read)).is_err() {
         return false;
     }
-    for (prefix, target) in wanted {
+    for (prefix, target) in row.wanted {
         if table.get(&key_of(prefix)) != Some(target) {
             return false;
         }
     }
-    table.len() == wanted.len() && first_read.get() == first.len() && more_read.get() == more.len()
+    table.len() == row.wanted.len()
+        && first_read.get() == row.first.len()
+        && more_read.get() == row.more.len()
 }
 
 #[test]
 fn routes_in_any_order_are_added_or_replaced_in_turn(rt: HostRuntime) {
     for row in &ROWS {
         let (first, more) = (row.first.len(), row.more.len());
-        assert!(rt;
-            are_routes(rt.alloc(), row.first, row.more, row.wanted),
-            "{first} and {more} routes"
-        );
+        assert!(rt; are_routes(rt.alloc(), row), "{first} and {more} routes");
     }
 }
 

@@ -23,7 +23,7 @@ pub fn key_of(text: &str) -> Key {
 /// Items that tell how many of them were read.
 #[derive(Drop)]
 pub struct Read<'a> {
-    pub items: Pairs<'a>,
+    pub items: Pairs<'static>,
     pub at: usize,
     pub count: &'a Cell<usize>,
 }
@@ -58,9 +58,9 @@ pub fn has_pairs(tree: &Tree<Key>, wanted: Pairs<'_>) -> bool {
 }
 
 // A list, and what a sorted load makes of it: pairs, or the place at which it finds it unsorted.
-type Row<'a> = (Pairs<'a>, Result<Pairs<'a>, usize>);
+type Row = (Pairs<'static>, Result<Pairs<'static>, usize>);
 
-const LISTS: [Row<'static>; 4] = [
+const LISTS: [Row; 4] = [
     (&[], Ok(&[])),
     (&[("a", 1), ("c", 2), ("c", 3), ("b", 4), ("z", 5)], Err(3)),
     (&[("b", 1), ("a", 2)], Err(1)),
@@ -68,7 +68,7 @@ const LISTS: [Row<'static>; 4] = [
 ];
 
 // Nothing is read after a fault.
-fn row_holds(alloc: Global, row: &Row<'_>) -> bool {
+fn row_holds(alloc: Global, row: &Row) -> bool {
     let count = Cell::new(0_usize);
     let items = Read {
         items: row.0,
