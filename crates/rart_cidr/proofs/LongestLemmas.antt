@@ -12,7 +12,8 @@ use Rattle.rart_keys.specs.LongestMatches.{HasNoLonger, IsLongest}
 use Rattle.rart_keys.specs.SortedMap.{IsAscending, lookup}
 use Rattle.rart_keys.proofs.LongestStored.{longest-stored, no-match, stored-longest}
 use Rattle.rart_cidr.specs.Bits.{bits_of, code, network}
-use Rattle.rart_cidr.specs.Longest.{HasNoneAfter, HasNoneFrom, IsLastStride, IsLongestAfter, nodes_to}
+use Rattle.rart_cidr.specs.Longest.{HasNoneAfter, HasNoneFrom, IsLastStride, IsLongestAfter, IsLongestRoute, first_by_lengths, nodes_to}
+use Rattle.rart_cidr.specs.Longest.{route_or}
 use Rattle.rart_cidr.specs.Routes.{AreStrides, IsLongestIn, in_stride, routes_of, stride_at, stride_or_empty}
 use Rattle.rart_cidr.proofs.BitLemmas.{length-bits}
 use Rattle.rart_cidr.proofs.StrideLemmas.{lookup-network}
@@ -222,3 +223,38 @@ module _ {T : Type 0} where
       (λ g. none m (omega (arith, g)) l)
       (λ g. let q : m ≡ n = omega (arith, g, h) in ap (λ z. lookup (network o z) v) q ∙ sym e)
       (less_or_not n m)
+
+  -- look-ups that find nothing are passed over
+  pub tried-down : (v : List (List ℕ × T)) (o : List ℕ) (w n m : ℕ) → n ≤ m → m ≤ w → HasNoneFrom v o w (n + 1)
+      → first_by_lengths (network o w) m v ≡ first_by_lengths (network o w) n v
+  tried-down v o w n zero h i none = let e : n ≡ 0 = omega arith in rw e refl
+  tried-down v o w n (suc m) h i none = ⊎_elim
+      (λ g. let free : lookup (take (suc m) (network o w)) v ≡ None
+      = ap (λ z. lookup z v) (taken-network (suc m) w (bits_of o) i) ∙ none (suc m) (omega (arith, g)) i in
+      ap (route_or (first_by_lengths (network o w) m v) (take (suc m) (network o w))) free
+      ∙ tried-down v o w n m (omega (arith, g)) (omega arith) none)
+      (λ g. let e : n ≡ suc m = omega (arith, h, g) in rw e refl)
+      (less_or_not n (suc m))
+
+  -- and the first that finds a target is the answer
+  found-first : (net : List ℕ) (n : ℕ) (t : T) (v : List (List ℕ × T)) → lookup (take n net) v ≡ Some t
+      → first_by_lengths net n v ≡ Some (take n net, t)
+  found-first net zero t v e = ap (route_or None (take 0 net)) e
+  found-first net (suc n) t v e = ap (route_or (first_by_lengths net n v) (take (suc n) net)) e
+
+  pub tried-found : (v : List (List ℕ × T)) (o : List ℕ) (w n : ℕ) (t : T) → n ≤ w → Some t ≡ lookup (network o n) v
+      → HasNoneFrom v o w (n + 1)
+      → ◌≡◌ {A = Option (List ℕ × T)} (Some (take n (network o w), t)) (first_by_lengths (network o w) w v)
+  tried-found v o w n t h e none = sym (tried-down v o w n w h (omega arith) none
+      ∙ found-first (network o w) n t v (ap (λ z. lookup z v) (taken-network n w (bits_of o) h) ∙ sym e))
+
+  pub tried-none : (v : List (List ℕ × T)) (o : List ℕ) (w : ℕ) → None ≡ lookup (network o 0) v
+      → HasNoneFrom v o w 1 → None ≡ first_by_lengths (network o w) w v
+  tried-none v o w e none = sym (tried-down v o w 0 w (omega arith) (omega arith) none
+      ∙ ap (route_or None (take 0 (network o w))) (sym e))
+
+  -- a longest match is longest
+  pub longest-route : (q : List ℕ) (v : List (List ℕ × T)) (r : Option (List ℕ × T)) → IsAscending v
+      → r ≡ longest_match q v → IsLongestRoute q v r
+  longest-route q v None a e = no-match q v (sym e)
+  longest-route q v (Some p) a e = longest-stored p.0 q p.1 v a (sym e)

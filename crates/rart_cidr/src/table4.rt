@@ -9,6 +9,7 @@ ghost use Rattle.rart.specs.declared.tree.TheConstants.{MAX_PAIRS};
 ghost use Rattle.rart_cidr.specs.Bits.{bits_of};
 ghost use Rattle.rart_cidr.specs.Edits.{InsertsRoute, RemovesRoute};
 ghost use Rattle.rart_cidr.specs.NetworkLoans.{lends_target4};
+ghost use Rattle.rart_cidr.specs.Longest.{IsLongestRoute, first_by_lengths};
 ghost use Rattle.rart_cidr.specs.Networks.{bits4};
 
 mod matches;
@@ -115,17 +116,22 @@ impl<T> CidrTable4<T> {
 
     /// Returns the route with the longest network that contains `addr`.
     pub fn longest_match(&self, addr: Ipv4Addr) -> Option<(Cidr4, &T)>
-        ensures { option_map (λ p. (bits4 p.0, p.1.now)) result
+        ensures value { option_map (λ p. (bits4 p.0, p.1.now)) result
             ≡ longest_match (bits_of (ipv4_octets addr)) self.now }
+        ensures longest { IsLongestRoute (bits_of (ipv4_octets addr)) self.now
+            (option_map (λ p. (bits4 p.0, p.1.now)) result) }
     {
         self.longest_match_net(&Cidr4::host(addr))
     }
 
     /// Returns the route with the longest network that contains all addresses of `net`.
     pub fn longest_match_net(&self, net: &Cidr4) -> Option<(Cidr4, &T)>
-        ensures { option_map (λ p. (bits4 p.0, p.1.now)) result
+        ensures value { option_map (λ p. (bits4 p.0, p.1.now)) result
             ≡ longest_match (bits4 net.now) self.now }
+        ensures longest { IsLongestRoute (bits4 net.now) self.now
+            (option_map (λ p. (bits4 p.0, p.1.now)) result) }
     {
+        self.ascends();
         self.longest_match_net_counted(net, &mut Visits::new(), &mut Visits::new())
     }
 
@@ -158,8 +164,10 @@ impl<T> CidrTable4<T> {
     /// Returns what [`longest_match_net`](Self::longest_match_net) returns, found by looking up each length, the
     /// longest first: a law, and as slow as it reads.
     pub fn longest_by_lengths(&self, net: &Cidr4) -> Option<(Cidr4, &T)>
-        ensures { option_map (λ p. (bits4 p.0, p.1.now)) result
+        ensures value { option_map (λ p. (bits4 p.0, p.1.now)) result
             ≡ longest_match (bits4 net.now) self.now }
+        ensures tried { option_map (λ p. (bits4 p.0, p.1.now)) result
+            ≡ first_by_lengths (bits4 net.now) (length (bits4 net.now)) self.now }
     {
         match self
             .routes

@@ -4,6 +4,10 @@
 #![tactic(auto)]
 
 #[cfg(test)]
+mod calls4;
+#[cfg(test)]
+mod calls6;
+#[cfg(test)]
 mod model;
 #[cfg(test)]
 mod random;

@@ -1,6 +1,6 @@
 use Rattle.std.proofs.Common.{◌≡◌, ◌+◌, ◌-◌, arith, subst}
 use Rattle.rart_cidr.specs.Longest.{HasNoneFrom}
-use Rattle.rart_cidr.proofs.LongestLemmas.{found-at, has_none, none-at}
+use Rattle.rart_cidr.proofs.LongestLemmas.{found-at, has_none, none-at, tried-found, tried-none}
 use Rattle.rart_cidr.proofs.table.BitTable.longest_by_lengths.Goals as goal
 
 pub loop-count-init : goal.loop-count-init
@@ -33,3 +33,20 @@ returns-in-None-clause-value g c =
     has_none c.args.self.now c.args.octets.now c.args.bits c.requires c.ascends.ensures
     (none-at c.args.self.now c.args.octets.now c.args.bits 0 c.in-None.ensures
     (subst (λ z. HasNoneFrom c.args.self.now c.args.octets.now c.args.bits (z + 1)) last c.loop-count.invariant.1))
+
+pub returns-in-Some-clause-tried : goal.returns-in-Some-clause-tried
+returns-in-Some-clause-tried g c = tried-found c.args.self.now c.args.octets.now c.args.bits c.loop-count.count
+    c.in-Some.target.now c.loop-count.invariant.0 c.in-Some.ensures c.loop-count.invariant.1
+
+pub returns-in-Some-get-clause-tried : goal.returns-in-Some-get-clause-tried
+returns-in-Some-get-clause-tried g c =
+    let last : c.loop-count.count ≡ 0 = omega (arith, c.loop-count-test.false) in
+    tried-found c.args.self.now c.args.octets.now c.args.bits 0 c.in-Some-get.target.now (omega arith)
+    c.in-Some-get.ensures
+    (subst (λ z. HasNoneFrom c.args.self.now c.args.octets.now c.args.bits (z + 1)) last c.loop-count.invariant.1)
+
+pub returns-in-None-clause-tried : goal.returns-in-None-clause-tried
+returns-in-None-clause-tried g c =
+    let last : c.loop-count.count ≡ 0 = omega (arith, c.loop-count-test.false) in
+    tried-none c.args.self.now c.args.octets.now c.args.bits c.in-None.ensures
+    (subst (λ z. HasNoneFrom c.args.self.now c.args.octets.now c.args.bits (z + 1)) last c.loop-count.invariant.1)

@@ -1,0 +1,7 @@
+use Rattle.rart_cidr.specs.Networks.{bits6}
+use Rattle.rart_cidr.proofs.LongestLemmas.{longest-route}
+use Rattle.rart_cidr.proofs.table6.CidrTable6.longest_match_net.Goals as goal
+
+pub returns-clause-longest : goal.returns-clause-longest
+returns-clause-longest g c = longest-route (bits6 c.args.net.now) c.args.self.now _ c.ascends.ensures
+    c.longest_match_net_counted.ensures.value

@@ -1,0 +1,227 @@
+//! Rows of the calls of a table of IPv4 networks that the other rows do not make, with networks given as texts.
+
+use rart::Visits;
+use rart_cidr::{Cidr4, CidrTable4, ParseCidrError};
+use std::alloc::Global;
+use std::cmp::Ordering;
+use std::process::Abort;
+use std::str::FromStr;
+
+type Table = CidrTable4<u64>;
+
+#[derive(Clone, Copy)]
+enum Ask {
+    /// Inserts a route.
+    Insert(&'static str, u64),
+    /// Writes a target through `get_mut`.
+    Write(&'static str, u64),
+    /// The target of exactly this network.
+    Get(&'static str),
+    /// The longest network that covers this one, plain and counted.
+    Covers(&'static str),
+    /// The networks that cover this one: how many, and the last.
+    CoversAll(&'static str),
+    /// The network of this length that contains the first.
+    Supernet(&'static str, u8),
+    /// The order of the bits of two networks.
+    Order(&'static str, &'static str),
+    /// What a text that is no network is refused for.
+    Parse(&'static str),
+    /// Removes all routes.
+    Clear,
+    /// How many routes there are, and whether there is none.
+    Len,
+}
+
+#[derive(Clone, Copy)]
+enum Reply {
+    Value(Option<u64>),
+    Net(&'static str),
+    None,
+    Last(usize, &'static str),
+    Order(Ordering),
+    BadAddress,
+    BadLength,
+    HostBits,
+    Count(usize, bool),
+}
+
+type Row = (Ask, Reply);
+
+fn is(net: &Cidr4, text: &str) -> bool {
+    match Cidr4::from_str(text) {
+        Ok(wanted) => *net == wanted,
+        Err(_) => false,
+    }
+}
+
+fn writes(table: &mut Table, net: &Cidr4, target: u64, wanted: Option<u64>) -> bool {
+    match table.get_mut(net) {
+        Some(stored) => {
+            let old = *stored;
+            *stored = target;
+            wanted == Some(old)
+        }
+        None => wanted.is_none(),
+    }
+}
+
+// The plain and the counted call both find it.
+fn covers(table: &Table, net: &Cidr4, wanted: Option<&str>) -> bool {
+    let counted = table.longest_match_net_counted(net, &mut Visits::new(), &mut Visits::new());
+    match (table.longest_match_net(net), counted, wanted) {
+        (Some((plain, target)), Some((also, same)), Some(text)) => {
+            is(&plain, text) && is(&also, text) && *target == *same
+        }
+        (None, None, None) => true,
+        _ => false,
+    }
+}
+
+fn covers_all(table: &Table, net: &Cidr4, wanted: usize, last: &str) -> bool {
+    let mut count = 0_usize;
+    let mut is_last = false;
+    for (found, _) in table.matches_net(net) {
+        count = count.wrapping_add(1);
+        is_last = is(&found, last);
+    }
+    count == wanted && is_last
+}
+
+fn refused(text: &str) -> Option<Reply> {
+    match Cidr4::from_str(text) {
+        Ok(_) => None,
+        Err(ParseCidrError::Address) => Some(Reply::BadAddress),
+        Err(ParseCidrError::Length) => Some(Reply::BadLength),
+        Err(ParseCidrError::HostBits) => Some(Reply::HostBits),
+    }
+}
+
+fn orders(left: &str, right: &str, wanted: Ordering) -> bool {
+    match (Cidr4::from_str(left), Cidr4::from_str(right)) {
+        (Ok(left), Ok(right)) => left.cmp_bits(&right) == wanted && left.cmp(&right) == wanted,
+        _ => false,
+    }
+}
+
+fn replies_of(table: &mut Table, net: &Cidr4, row: Row) -> bool {
+    match row {
+        (Ask::Insert(_, target), Reply::Value(wanted)) => match table.insert(net, target) {
+            Ok(old) => old == wanted,
+            Err(_) => false,
+        },
+        (Ask::Write(_, target), Reply::Value(wanted)) => writes(table, net, target, wanted),
+        (Ask::Get(_), Reply::Value(wanted)) => table.get(net).copied() == wanted,
+        (Ask::Covers(_), Reply::Net(text)) => covers(table, net, Some(text)),
+        (Ask::Covers(_), Reply::None) => covers(table, net, None),
+        (Ask::CoversAll(_), Reply::Last(count, text)) => covers_all(table, net, count, text),
+        (Ask::Supernet(_, len), Reply::Net(text)) => {
+            len <= net.len() && is(&net.supernet(len), text)
+        }
+        _ => false,
+    }
+}
+
+fn replies_so(table: &mut Table, row: Row) -> bool {
+    match row {
+        (Ask::Insert(text, _), _)
+        | (Ask::Write(text, _), _)
+        | (Ask::Get(text), _)
+        | (Ask::Covers(text), _)
+        | (Ask::CoversAll(text), _)
+        | (Ask::Supernet(text, _), _) => match Cidr4::from_str(text) {
+            Ok(net) => replies_of(table, &net, row),
+            Err(_) => false,
+        },
+        (Ask::Order(left, right), Reply::Order(wanted)) => orders(left, right, wanted),
+        (Ask::Parse(text), Reply::BadAddress) => matches!(refused(text), Some(Reply::BadAddress)),
+        (Ask::Parse(text), Reply::BadLength) => matches!(refused(text), Some(Reply::BadLength)),
+        (Ask::Parse(text), Reply::HostBits) => matches!(refused(text), Some(Reply::HostBits)),
+        (Ask::Clear, Reply::Count(count, is_empty)) => {
+            table.clear();
+            table.len() == count && table.is_empty() == is_empty
+        }
+        (Ask::Len, Reply::Count(count, is_empty)) => {
+            table.len() == count && table.is_empty() == is_empty
+        }
+        _ => false,
+    }
+}
+
+// The number of the first row that is answered otherwise.
+fn first_wrong(alloc: Global, rows: &[Row]) -> Option<usize> {
+    let mut table = Table::new(alloc);
+    let mut at = 0_usize;
+    for row in rows {
+        if !replies_so(&mut table, *row) {
+            return Some(at);
+        }
+        at = at.wrapping_add(1);
+    }
+    None
+}
+
+fn assert_none_wrong(rt: &impl Abort, differs: Option<usize>) {
+    if let Some(at) = differs {
+        assert!(rt; false, "row {at} differs");
+    }
+}
+
+const ROWS: [Row; 33] = [
+    (Ask::Len, Reply::Count(0, true)),
+    (Ask::Insert("0.0.0.0/0", 1), Reply::Value(None)),
+    (Ask::Insert("10.0.0.0/8", 2), Reply::Value(None)),
+    (Ask::Insert("10.16.0.0/12", 3), Reply::Value(None)),
+    (Ask::Insert("10.16.0.0/16", 4), Reply::Value(None)),
+    (Ask::Insert("10.16.0.1/32", 5), Reply::Value(None)),
+    (Ask::Len, Reply::Count(5, false)),
+    (Ask::Write("10.16.0.0/12", 30), Reply::Value(Some(3))),
+    (Ask::Write("10.16.0.0/13", 31), Reply::Value(None)),
+    (Ask::Get("10.16.0.0/12"), Reply::Value(Some(30))),
+    (Ask::Get("10.16.0.0/16"), Reply::Value(Some(4))),
+    (Ask::Get("10.16.0.0/13"), Reply::Value(None)),
+    (Ask::Len, Reply::Count(5, false)),
+    (Ask::Covers("10.16.0.0/12"), Reply::Net("10.16.0.0/12")),
+    (Ask::Covers("10.16.0.0/13"), Reply::Net("10.16.0.0/12")),
+    (Ask::Covers("10.0.0.0/11"), Reply::Net("10.0.0.0/8")),
+    (Ask::Covers("10.16.0.0/24"), Reply::Net("10.16.0.0/16")),
+    (Ask::Covers("10.16.0.1/32"), Reply::Net("10.16.0.1/32")),
+    (Ask::Covers("0.0.0.0/0"), Reply::Net("0.0.0.0/0")),
+    (
+        Ask::CoversAll("10.16.0.1/32"),
+        Reply::Last(5, "10.16.0.1/32"),
+    ),
+    (
+        Ask::CoversAll("10.16.0.0/15"),
+        Reply::Last(3, "10.16.0.0/12"),
+    ),
+    (
+        Ask::Supernet("10.16.0.1/32", 31),
+        Reply::Net("10.16.0.0/31"),
+    ),
+    (Ask::Supernet("10.16.0.1/32", 9), Reply::Net("10.0.0.0/9")),
+    (Ask::Supernet("10.16.0.1/32", 0), Reply::Net("0.0.0.0/0")),
+    (
+        Ask::Order("10.0.0.0/8", "10.0.0.0/9"),
+        Reply::Order(Ordering::Less),
+    ),
+    (
+        Ask::Order("10.128.0.0/9", "10.0.0.0/8"),
+        Reply::Order(Ordering::Greater),
+    ),
+    (
+        Ask::Order("10.0.0.0/8", "10.0.0.0/8"),
+        Reply::Order(Ordering::Equal),
+    ),
+    (Ask::Parse("10.0.0/8"), Reply::BadAddress),
+    (Ask::Parse("10.0.0.0/33"), Reply::BadLength),
+    (Ask::Parse("10.0.0.1/8"), Reply::HostBits),
+    (Ask::Clear, Reply::Count(0, true)),
+    (Ask::Covers("10.16.0.1/32"), Reply::None),
+    (Ask::Get("0.0.0.0/0"), Reply::Value(None)),
+];
+
+#[test]
+fn each_call_on_networks_given_as_texts(rt: HostRuntime) {
+    assert_none_wrong(&rt, first_wrong(rt.alloc(), &ROWS));
+}
