@@ -104,7 +104,7 @@ fn removals_refused(alloc: Global, at: usize) -> Option<bool> {
     (was == (done < NETWORKS.len()) && has_networks(&table, done, NETWORKS.len())).then_some(was)
 }
 
-// The walk's number of routes, where it isn't refused.
+// How many routes the walk gives, or its refusal.
 fn count_within(table: &Table) -> Result<usize, TreeError> {
     let mut count = 0_usize;
     for _ in table.within(net([10, 0, 0, 0], 8))? {

@@ -1,8 +1,7 @@
-//! Makes calls on trees of 1024 keys nested in each other, whose nodes are a path: each that recurs once a level of
-//! nodes, and others.
+//! Makes calls on trees of 1024 keys nested in each other, whose nodes are a path.
 //!
 //! Each line of standard input names a call; its answer is printed after the name. Run under a limit of the stack, it
-//! shows how little a level takes. It is no part of the product.
+//! shows what a level takes. It is no part of the product.
 #![tactic(auto)]
 
 mod edits;
