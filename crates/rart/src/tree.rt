@@ -25,6 +25,7 @@ mod intersect;
 mod statistics;
 pub mod try_insert;
 pub mod update;
+mod values_mut;
 
 /// The largest number of pairs that a tree holds.
 pub const MAX_PAIRS: usize = usize::MAX / 16;

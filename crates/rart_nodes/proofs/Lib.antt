@@ -2,6 +2,7 @@ pub mod build
 pub mod edits
 pub mod joins
 pub mod ranges
+pub mod removals
 pub mod shapes
 pub mod statistics
 pub mod storages

@@ -11,12 +11,8 @@ pub mod LoanLemmas
 pub mod MapUpdates
 pub mod NodeEditLemmas
 pub mod Outcomes
-pub mod PopLemmas
 pub mod PutAskLemmas
 pub mod PutLemmas
-pub mod RemoveAskLemmas
-pub mod RemoveAskSteps
-pub mod RemoveLemmas
-pub mod RemoveSteps
-pub mod RemovedPairs
 pub mod UpdateSteps
+pub mod ValueChangeLemmas
+pub mod ValueWalkLemmas

@@ -1,3 +1,4 @@
 pub mod ChildLemmas
 pub mod DeletionLemmas
 pub mod EndEntries
+pub mod EntryPlaces

@@ -12,3 +12,4 @@ pub mod RemoveAsks
 pub mod Slots
 pub mod TreeUpdates
 pub mod Updates
+pub mod ValueChanges

@@ -12,7 +12,7 @@ use Rattle.rart_nodes.specs.edits.EditRuns.{Edit, puts, removes, edit_map, edit_
 use Rattle.rart_keys.proofs.ByteOrder.{order, is_less, is_equal, is_greater}
 use Rattle.rart_nodes.proofs.shapes.ShapeLemmas.{nodes_of-shape}
 use Rattle.rart_nodes.proofs.edits.PutLemmas.{canonical-put, pairs_of-put}
-use Rattle.rart_nodes.proofs.edits.RemoveLemmas.{canonical-removed, pairs_of-removed}
+use Rattle.rart_nodes.proofs.removals.RemoveLemmas.{canonical-removed, pairs_of-removed}
 use Rattle.std.proofs.lemmas.List.{append-nil}
 
 module _ {V : Type 0} where

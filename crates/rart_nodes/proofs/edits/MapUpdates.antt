@@ -23,8 +23,8 @@ use Rattle.rart_nodes.specs.edits.RemoveAsks.{remove_asks}
 use Rattle.rart_nodes.proofs.edits.EditRunLemmas.{run-canonical, run-pairs_of, tree-shape}
 use Rattle.rart_nodes.proofs.edits.InsertAskLemmas.{asks-insert}
 use Rattle.rart_nodes.proofs.edits.LoanLemmas.{keys-put, longest-alike, lengths-alike}
-use Rattle.rart_nodes.proofs.edits.RemoveAskLemmas.{asks-remove}
-use Rattle.rart_nodes.proofs.edits.RemovedPairs.{length-without_key, longest_key-without}
+use Rattle.rart_nodes.proofs.removals.RemoveAskLemmas.{asks-remove}
+use Rattle.rart_nodes.proofs.removals.RemovedPairs.{length-without_key, longest_key-without}
 use Rattle.rart_nodes.proofs.shapes.ShapeLemmas.{one_shape}
 use Rattle.rart_nodes.proofs.tries.CanonicalTests.{longest_key-put}
 use Rattle.rart_nodes.proofs.tries.PairLemmas.{tree_pairs-ascend}

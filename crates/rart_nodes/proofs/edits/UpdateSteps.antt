@@ -25,8 +25,8 @@ use Rattle.rart_nodes.proofs.storages.ChildLemmas.{edges_of-length, replaced-len
 use Rattle.rart_nodes.proofs.edits.InsertLemmas.{put-below, child-put_back, record-child}
 use Rattle.rart_nodes.proofs.edits.LeafLemmas.{leaf-edges, leaf-gone}
 use Rattle.rart_nodes.proofs.edits.PutAskLemmas.{asks_put-below}
-use Rattle.rart_nodes.proofs.edits.RemoveAskSteps.{asks_remove-below, asks_remove-leaf}
-use Rattle.rart_nodes.proofs.edits.RemoveSteps.{removed-below, removed-leaf, value-removed}
+use Rattle.rart_nodes.proofs.removals.RemoveAskSteps.{asks_remove-below, asks_remove-leaf}
+use Rattle.rart_nodes.proofs.removals.RemoveSteps.{removed-below, removed-leaf, value-removed}
 use Rattle.rart_nodes.proofs.tries.RestLemmas.{trie_lookup-left, trie_put-ended}
 use Rattle.rart_nodes.proofs.tries.Descents.{child_of-entries, descend-left}
 

@@ -9,7 +9,7 @@ use Rattle.rart_nodes.specs.tries.Trie.{Trie, child, edges_of, IsCanonical, AreC
 use Rattle.rart_nodes.specs.tries.Trie.{aligned}
 use Rattle.rart_nodes.specs.tries.TrieCode.{as_children, node_count, child_count}
 
-lt-yes : (b c : ℕ) → b < c → ltb b c ≡ true
+pub lt-yes : (b c : ℕ) → b < c → ltb b c ≡ true
 lt-yes b c h = grind (arith, nat_tests)
 
 pub lt-no : (b c : ℕ) → c ≤ b → ltb b c ≡ false

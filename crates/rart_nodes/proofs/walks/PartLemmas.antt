@@ -44,7 +44,7 @@ module _ {V : Type 0} where
         | false ↦ refl
       ])
 
-  below-apart : (q p : List ℕ) (es : List (List ℕ × V)) → strip_prefix q p ≡ None
+  pub below-apart : (q p : List ℕ) (es : List (List ℕ × V)) → strip_prefix q p ≡ None
       → below p (with_prefix q es) ≡ (if begins p q then with_prefix q es else [])
   below-apart q p [] s = elim (begins p q) as (λ z. ◌≡◌ {A = List (List ℕ × V)} [] (if z then [] else [])) [
     | true ↦ refl
@@ -65,6 +65,14 @@ module _ {V : Type 0} where
       → below (b ∷ r) (own_pair v ++ es) ≡ below (b ∷ r) es
   below-here b r None es = refl
   below-here b r (Some v) es = refl
+
+  -- the pairs below a prefix that goes on by b are those of the child at b
+  pub below-child : (q p r : List ℕ) (b : ℕ) (v : Option V) (n : ℕ) (cs : Children V) → AreCanonical 0 cs
+      → strip_prefix q p ≡ Some (b ∷ r)
+      → below p (pairs_of (node q v n cs)) ≡ with_prefix q (below (b ∷ r) (tree_pairs (child_of b cs)))
+  below-child q p r b v n cs w s = below-after_some q p (b ∷ r) (own_pair v ++ children_pairs cs) s
+      ∙ ap (with_prefix q) (below-here b r v (children_pairs cs)
+      ∙ children-filter (λ e. begins (b ∷ r) e.0) b cs w (λ x k v n. rw (eq-no b x (λ e. n (sym e))) refl))
 
   -- what was found is what is below: its keys are those of the node, after one string, which is that of the segments
   -- kept
@@ -103,9 +111,7 @@ module _ {V : Type 0} where
         (below-after_some q p [] (own_pair v ++ children_pairs cs) s
         ∙ ap (with_prefix q) (below-nil (own_pair v ++ children_pairs cs)));
     on = λ p q v n cs b r a w s h k. finds-up g k q (below (b ∷ r) (tree_pairs (child_of b cs))) _ (a (k ++ g q))
-        (below-after_some q p (b ∷ r) (own_pair v ++ children_pairs cs) s
-        ∙ ap (with_prefix q) (below-here b r v (children_pairs cs)
-        ∙ children-filter (λ e. begins (b ∷ r) e.0) b cs w.2 (λ x k v n. rw (eq-no b x (λ e. n (sym e))) refl)))
+        (below-child q p r b v n cs w.2 s)
         (h (k ++ g q));
   }
 

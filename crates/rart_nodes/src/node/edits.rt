@@ -6,3 +6,4 @@ mod insert;
 mod pop;
 mod remove;
 mod update;
+mod values_mut;

@@ -117,12 +117,12 @@ impl<'a, K: KeyTrait, P: Partial, V> Iterator for Iter<'a, K, P, V> {
 
     ghost remaining = { item_count (λ rest. rest) };
 
-    /// No bound: the walk doesn't count what lies ahead.
+    /// Returns no bound, as the walk does not count what lies ahead.
     fn size_hint(&self) -> (usize, Option<usize>) {
         (0, None)
     }
 
-    /// The next pair. After `None` always `None`. Takes no memory.
+    /// Returns the next pair. It is fused and does not allocate.
     fn next(&mut self) -> Option<(K, &'a V)> {
         self.pairs.next_counted(&mut Visits::new())
     }
@@ -154,12 +154,12 @@ impl<'a, K: KeyTrait, V> Iterator for ValuesIter<'a, K, V> {
 
     ghost remaining = { item_count (λ rest. rest) };
 
-    /// No bound: the walk doesn't count what lies ahead.
+    /// Returns no bound, as the walk does not count what lies ahead.
     fn size_hint(&self) -> (usize, Option<usize>) {
         (0, None)
     }
 
-    /// The next value. After `None` always `None`. Makes no key, and takes no memory.
+    /// Returns the next value. It is fused, builds no key and does not allocate.
     fn next(&mut self) -> Option<&'a V> {
         self.walk.advance(&mut NoPath, &mut Visits::new())
     }

@@ -155,12 +155,12 @@ impl<'a, K: KeyTrait + Drop, V> Iterator for Range<'a, K, V> {
 
     ghost remaining = { item_count (λ r. up_to r.0 r.1) };
 
-    /// No bound: the walk doesn't count what lies ahead.
+    /// Returns no bound, as the walk does not count what lies ahead.
     fn size_hint(&self) -> (usize, Option<usize>) {
         (0, None)
     }
 
-    /// The next pair. After `None` always `None`, and nothing is walked then. Takes no memory.
+    /// Returns the next pair. It is fused, visits no node after the last pair and does not allocate.
     fn next(&mut self) -> Option<(K, &'a V)> {
         self.pairs.next_counted(&mut Visits::new())
     }

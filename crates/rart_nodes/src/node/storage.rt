@@ -134,6 +134,3 @@ impl<N> Storage<N> {
         }
     }
 }
-
-#[cfg(test)]
-mod tests;

@@ -185,12 +185,12 @@ impl<'tree, 'view> Iterator for LendingKeyBytes<'tree, 'view> {
 
     ghost remaining = { item_count (λ rest. rest) };
 
-    /// No bound: the bytes aren't counted.
+    /// Returns no bound, as the bytes are not counted.
     fn size_hint(&self) -> (usize, Option<usize>) {
         (0, None)
     }
 
-    /// The next byte. After `None` always `None`.
+    /// Returns the next byte. It is fused.
     fn next(&mut self) -> Option<u8> {
         while self.segment.is_empty() {
             let segment = self.rest.next()?;

@@ -1,8 +1,8 @@
 use Rattle.rart_nodes.proofs.edits.EditRunLemmas.{remove-absent}
 use Rattle.rart_nodes.proofs.edits.InsertAskLemmas.{asks-insert}
 use Rattle.rart_nodes.proofs.edits.PutLemmas.{canonical-put, pairs_of-put}
-use Rattle.rart_nodes.proofs.edits.RemoveAskLemmas.{asks-remove}
-use Rattle.rart_nodes.proofs.edits.RemoveLemmas.{canonical-removed, pairs_of-removed}
+use Rattle.rart_nodes.proofs.removals.RemoveAskLemmas.{asks-remove}
+use Rattle.rart_nodes.proofs.removals.RemoveLemmas.{canonical-removed, pairs_of-removed}
 use Rattle.rart_nodes.proofs.laws.edits.Goals as goal
 
 pub returns : goal.returns

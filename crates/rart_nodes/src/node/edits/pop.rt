@@ -1,6 +1,6 @@
 //! Removal of the first or the last pair, on one descent. It allocates smaller storage before the first write.
-ghost use Rattle.std.specs.Prelude.{◌≡◌, ◌≢◌, ◌+◌, ◌≤◌, length, true, None, Some, IfErr, IfOk, OnErr, OnOk, option_map};
-ghost use Rattle.std.specs.Prelude.{slice_get};
+ghost use Rattle.std.specs.Prelude.{◌≡◌, ◌≢◌, ◌+◌, ◌++◌, ◌≤◌, length, true, None, Some, IfErr, IfOk, OnErr};
+ghost use Rattle.std.specs.Prelude.{OnOk, option_map, slice_get};
 ghost use Rattle.std.specs.Option.{IsSomeAnd};
 ghost use Rattle.rart_keys.specs.Filters.{last_or};
 ghost use Rattle.rart_keys.specs.KeyBytes.{IsWithin};
@@ -39,7 +39,7 @@ impl<P: Partial, V> DefaultNode<P, V> {
         ensures memory { IfErr result (λ e. e ≡ TreeError.Memory) }
         ensures asks { OnErr result (PopAsks end self.old) }
     {
-        *path = path.partial_extended_with(&self.prefix);
+        extend(path, &self.prefix);
         let Some((byte, _)) = self.end_child(end) else {
             give_back(removed, self.value.take());
             self.merge_with_only_child();
@@ -50,7 +50,7 @@ impl<P: Partial, V> DefaultNode<P, V> {
                 if child.storage.num_children() > 0 {
                     return child.pop_below(alloc, end, path, removed);
                 }
-                *path = path.partial_extended_with(&child.prefix);
+                extend(path, &child.prefix);
             }
             None => unreachable!(),
         }
@@ -172,4 +172,14 @@ impl<P: Partial, V> DefaultNode<P, V> {
     {
         DefaultNode::pop_end(root, alloc, End::Last)
     }
+}
+
+// Extends a path by a prefix.
+// Not inline: a descent that calls it holds no path on the stack.
+#[inline(never)]
+fn extend<P: Partial>(path: &mut P, prefix: &P)
+    requires { IsWithin P.MAXIMUM_SIZE (length (P.bytes path.old) + length (P.bytes prefix.now)) }
+    ensures { P.bytes path.new ≡ P.bytes path.old ++ P.bytes prefix.now }
+{
+    *path = path.partial_extended_with(prefix);
 }

@@ -1,5 +1,5 @@
 //! An iterator over the children of a storage in byte order. A contract reads it as the list of remaining children.
-ghost use Rattle.std.specs.Prelude.{◌≡◌, []};
+ghost use Rattle.std.specs.Prelude.{◌≡◌, [], option_map, slice_get};
 ghost use Rattle.std.specs.Iterator.{YieldsFirstBy};
 ghost use Rattle.rart_parts.specs.Entries.{BytesAscend, entries_above};
 ghost use Rattle.rart_nodes.specs.storages.Stored.{stored};
@@ -63,6 +63,27 @@ impl<N> Storage<N> {
             Storage::Node16(map) => StorageIter::Sorted(map.iter_above(byte)),
             Storage::Node48(map) => StorageIter::Indexed(map.iter_above(byte)),
             Storage::Node256(map) => StorageIter::Direct(map.iter_above(byte)),
+        }
+    }
+
+    /// Returns the least byte at which a child stands.
+    pub(crate) fn first_byte(&self) -> Option<u8>
+        ensures { result ≡ option_map (λ e. e.0) (slice_get (stored self.now) 0) }
+    {
+        match self.iter().take_next() {
+            Some((byte, _)) => Some(byte),
+            None => None,
+        }
+    }
+
+    /// Returns the least byte above `byte` at which a child stands.
+    pub(crate) fn byte_above(&self, byte: u8) -> Option<u8>
+        ensures { result
+            ≡ option_map (λ e. e.0) (slice_get (entries_above byte (stored self.now)) 0) }
+    {
+        match self.iter_above(byte).take_next() {
+            Some((above, _)) => Some(above),
+            None => None,
         }
     }
 }

@@ -16,7 +16,7 @@ use crate::node::seen::{Entered, Seen, Shared};
 use rart_keys::{KeyTrait, Partial};
 use std::marker::{Model, PhantomData};
 
-/// A way down along a probe.
+/// A descent along a probe.
 #[derive(Drop)]
 pub(crate) struct Matching<'a, P: Partial, V, C> {
     // where it goes on, unless it has ended
@@ -303,12 +303,12 @@ impl<'a, K: KeyTrait, P: Partial, V> Iterator for PrefixMatchIter<'a, K, P, V> {
 
     ghost remaining = { item_count (λ rest. rest) };
 
-    /// No bound: the way down doesn't count what lies ahead.
+    /// Returns no bound, as the descent does not count what lies ahead.
     fn size_hint(&self) -> (usize, Option<usize>) {
         (0, None)
     }
 
-    /// The next pair, to which it goes on down. After `None` always `None`. Takes no memory.
+    /// Descends to the next pair and returns it. It is fused and does not allocate.
     fn next(&mut self) -> Option<(K, &'a V)> {
         let bytes = self.probe.to_slice();
         let value = self.matching.advance(bytes, &mut Visits::new())?;

@@ -11,14 +11,14 @@ use Rattle.rart_nodes.proofs.edits.InsertLemmas.{fewer-within, child-put_back, r
 use Rattle.rart_nodes.proofs.edits.JoinLemmas.{some-there}
 use Rattle.rart_nodes.proofs.edits.JoinedLengths.{joins-canonical}
 use Rattle.rart_nodes.proofs.edits.Outcomes.{on_ok_both}
-use Rattle.rart_nodes.proofs.edits.PopLemmas.{below-within, end-there, entries-none, entries-some, pop-below, pop-here}
-use Rattle.rart_nodes.proofs.edits.PopLemmas.{pop-leaf, pop_asks-below, pop_asks-leaf, pops-as, prefix-within, same-end}
+use Rattle.rart_nodes.proofs.removals.PopLemmas.{below-within, end-there, entries-none, entries-some, pop-below, pop-here}
+use Rattle.rart_nodes.proofs.removals.PopLemmas.{pop-leaf, pop_asks-below, pop_asks-leaf, pops-as, prefix-within, same-end}
 use Rattle.rart_nodes.proofs.storages.ChildLemmas.{canonical-found, count-found}
 use Rattle.rart_nodes.proofs.tries.Descents.{child_of-entries}
 use Rattle.rart_nodes.proofs.node.DefaultNode.+pop_below.Goals as goal
 
-pub partial_extended_with-requires : goal.partial_extended_with-requires
-partial_extended_with-requires g t c =
+pub extend-requires : goal.extend-requires
+extend-requires g t c =
     let canonical = rw (← c.self.view_is) at c.requires.canonical in
     let fits = rw (← c.self.view_is) at c.requires.fits in
     prefix-within _ (length (g.P.Partial.bytes c.args.path.now)) (g.P.Partial.bytes c.self.inside.prefix)
@@ -41,21 +41,21 @@ returns-in_default-clause-ok g t c =
     (c.merge_with_only_child.ensures ∙ ap (λ v. joined_if_lone (node (g.P.Partial.bytes c.self.inside.prefix) v
     (width_of c.self.inside.storage)
     (as_children (stored c.self.inside.storage)))) c.take.ensures.after)
-    (pop-here c.args.end (g.P.Partial.bytes c.args.path.now) (g.P.Partial.bytes c.partial_extended_with.result)
+    (pop-here c.args.end (g.P.Partial.bytes c.args.path.now) (g.P.Partial.bytes c.extend.new.path)
     (g.P.Partial.bytes c.self.inside.prefix) c.self.inside.value (width_of c.self.inside.storage) (stored
     c.self.inside.storage) canonical inner
-    (rw (← c.self.view_is) at (sym c.in_default.ensures)) c.partial_extended_with.ensures)
+    (rw (← c.self.view_is) at (sym c.in_default.ensures)) c.extend.ensures)
 
 -- it goes on in a child that stays
 pub pop_below-requires : goal.pop_below-requires
 pop_below-requires g t c κs within =
     let canonical = rw (← c.self.view_is) at c.requires.canonical in
     let fits = rw (← c.self.view_is) at c.requires.fits in
-    let grown : (g.P.Partial.bytes c.partial_extended_with.result) ≡ (g.P.Partial.bytes c.args.path.now) ++
+    let grown : (g.P.Partial.bytes c.extend.new.path) ≡ (g.P.Partial.bytes c.args.path.now) ++
     (g.P.Partial.bytes c.self.inside.prefix)
-    = c.partial_extended_with.ensures in
+    = c.extend.ensures in
     let low = below-within _ (length (g.P.Partial.bytes c.args.path.now))
-    (length (g.P.Partial.bytes c.partial_extended_with.result)) c.in-Some.byte (g.P.Partial.bytes
+    (length (g.P.Partial.bytes c.extend.new.path)) c.in-Some.byte (g.P.Partial.bytes
     c.self.inside.prefix) c.self.inside.value (width_of c.self.inside.storage)
     c.in-Some-seek_child_mut.child.now (stored c.self.inside.storage) canonical c.in-Some-seek_child_mut.ensures.value
     (ap length grown ∙ length-append (g.P.Partial.bytes c.args.path.now) (g.P.Partial.bytes c.self.inside.prefix))
@@ -95,12 +95,12 @@ returns-then-num_children-gt0-clause-ok g t c =
     (stored c.self.inside.storage) canonical (rw (← c.self.view_is) at c.in-Some.ensures)
     c.in-Some-seek_child_mut.ensures.value in
     on_ok_weaker c.pop_below.result (λ m. rw (← c.self.view_is) (pop-below c.args.end
-    (g.P.Partial.bytes c.args.path.now) (g.P.Partial.bytes c.partial_extended_with.result) _ (g.P.Partial.bytes
+    (g.P.Partial.bytes c.args.path.now) (g.P.Partial.bytes c.extend.new.path) _ (g.P.Partial.bytes
     c.self.inside.prefix)
     c.self.inside.value _ (width_of c.self.inside.storage) _ c.in-Some.byte c.in-Some-seek_child_mut.child.now
     c.pop_below.new.self
     (stored c.self.inside.storage) _ canonical end c.in-Some-seek_child_mut.ensures.value
-    c.partial_extended_with.ensures m left.0
+    c.extend.ensures m left.0
     left.1)) c.pop_below.ensures.ok
 
 pub returns-then-num_children-gt0-clause-unchanged : goal.returns-then-num_children-gt0-clause-unchanged
@@ -131,22 +131,22 @@ returns-then-num_children-gt0-clause-asks g t c =
     canonical end c.in-Some-seek_child_mut.ensures.value some a)) c.pop_below.ensures.asks
 
 -- the child is a leaf
-pub partial_extended_with-requires-in-Some-seek_child_mut : goal.partial_extended_with-requires-in-Some-seek_child_mut
-partial_extended_with-requires-in-Some-seek_child_mut g t c =
+pub extend-requires-in-Some-seek_child_mut : goal.extend-requires-in-Some-seek_child_mut
+extend-requires-in-Some-seek_child_mut g t c =
     let canonical = rw (← c.self.view_is) at c.requires.canonical in
     let fits = rw (← c.self.view_is) at c.requires.fits in
-    let grown : (g.P.Partial.bytes c.partial_extended_with.result) ≡ (g.P.Partial.bytes c.args.path.now) ++
+    let grown : (g.P.Partial.bytes c.extend.new.path) ≡ (g.P.Partial.bytes c.args.path.now) ++
     (g.P.Partial.bytes c.self.inside.prefix)
-    = c.partial_extended_with.ensures in
+    = c.extend.ensures in
     let low = below-within _ (length (g.P.Partial.bytes c.args.path.now))
-    (length (g.P.Partial.bytes c.partial_extended_with.result)) c.in-Some.byte (g.P.Partial.bytes
+    (length (g.P.Partial.bytes c.extend.new.path)) c.in-Some.byte (g.P.Partial.bytes
     c.self.inside.prefix) c.self.inside.value (width_of c.self.inside.storage)
     c.in-Some-seek_child_mut.child.now (stored c.self.inside.storage) canonical c.in-Some-seek_child_mut.ensures.value
     (ap length grown ∙ length-append (g.P.Partial.bytes c.args.path.now) (g.P.Partial.bytes c.self.inside.prefix))
     fits in
     let child = canonical-found _ 0 c.in-Some-seek_child_mut.child.now (stored c.self.inside.storage) canonical.2
     c.in-Some-seek_child_mut.ensures.value in
-    prefix-within _ (length (g.P.Partial.bytes c.partial_extended_with.result)) (g.P.Partial.bytes
+    prefix-within _ (length (g.P.Partial.bytes c.extend.new.path)) (g.P.Partial.bytes
     c.child.inside.prefix)
     c.child.inside.value (width_of c.child.inside.storage) (as_children (stored c.child.inside.storage))
     (rw (← c.child.view_is) at child) (rw (← c.child.view_is) at low)
@@ -229,9 +229,9 @@ returns-clause-ok g t c =
       c.num_children.ensures,
       c.if-num_children-gt0.false,
     ))) in
-    let grown : (g.P.Partial.bytes c.partial_extended_with.result) ≡ (g.P.Partial.bytes c.args.path.now) ++
+    let grown : (g.P.Partial.bytes c.extend.new.path) ≡ (g.P.Partial.bytes c.args.path.now) ++
     (g.P.Partial.bytes c.self.inside.prefix)
-    = c.partial_extended_with.ensures in
+    = c.extend.ensures in
     let found = child_of-entries _ (stored (c.seek_child_mut.follows.lender c.in-Some-seek_child_mut.child.now))
     ∙ ap (child_at _) same ∙ sym c.in-Some-seek_child_mut.ensures.value in
     on_ok_both c.take_leaf.result (λ taken rest. pops-as c.args.end _ _ _ _ _ _ _ _ c.self.view_is
@@ -243,7 +243,7 @@ returns-clause-ok g t c =
     c.self.inside.value
     (width_of c.self.inside.storage) c.in-Some.byte c.in-Some-seek_child_mut.child.now (stored
     c.self.inside.storage) canonical end c.in-Some-seek_child_mut.ensures.value none
-    (c.partial_extended_with-in-Some-seek_child_mut.ensures
+    (c.extend-in-Some-seek_child_mut.ensures
     ∙ ap (λ z. z ++ g.P.Partial.bytes c.child.inside.prefix) grown
     ∙ ap (λ t. ((g.P.Partial.bytes c.args.path.now) ++ (g.P.Partial.bytes c.self.inside.prefix)) ++ prefix_of t)
     c.child.view_is))) c.take_leaf.ensures.taken c.take_leaf.ensures.rest

@@ -13,8 +13,8 @@ use Rattle.rart_nodes.proofs.edits.JoinedLengths.{joins-canonical, entry-short}
 use Rattle.rart_nodes.proofs.edits.LeafLemmas.{leaf-gone, leaf-edges, leaf-value, leaf-some}
 use Rattle.std.proofs.lemmas.Result.{on_ok_weaker, on_err_weaker}
 use Rattle.rart_nodes.proofs.edits.Outcomes.{if_ok_weaker}
-use Rattle.rart_nodes.proofs.edits.RemoveAskSteps.{asks_remove-below, asks_remove-leaf}
-use Rattle.rart_nodes.proofs.edits.RemoveSteps.{value-removed, removed-below, removed-leaf, same-node}
+use Rattle.rart_nodes.proofs.removals.RemoveAskSteps.{asks_remove-below, asks_remove-leaf}
+use Rattle.rart_nodes.proofs.removals.RemoveSteps.{value-removed, removed-below, removed-leaf, same-node}
 use Rattle.rart_nodes.proofs.tries.RestLemmas.{trie_lookup-left, trie_lookup-child, trie_lookup-no_child}
 use Rattle.rart_nodes.proofs.tries.Descents.{child_of-entries}
 use Rattle.rart_nodes.proofs.node.DefaultNode.+take_below.Goals as goal

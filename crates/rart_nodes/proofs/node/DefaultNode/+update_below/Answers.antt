@@ -12,7 +12,7 @@ use Rattle.rart_nodes.proofs.edits.InsertLemmas.{fewer-within, rest-within}
 use Rattle.rart_nodes.proofs.edits.JoinLemmas.{some-there}
 use Rattle.rart_nodes.proofs.edits.JoinedLengths.{joins-canonical, entry-short}
 use Rattle.rart_nodes.proofs.edits.LeafLemmas.{leaf-value, leaf-some}
-use Rattle.rart_nodes.proofs.edits.RemoveSteps.{same-node}
+use Rattle.rart_nodes.proofs.removals.RemoveSteps.{same-node}
 use Rattle.rart_nodes.proofs.tries.RestLemmas.{trie_lookup-left, trie_lookup-ended, trie_lookup-child}
 use Rattle.rart_nodes.proofs.tries.RestLemmas.{trie_lookup-no_child}
 use Rattle.rart_nodes.proofs.edits.UpdateSteps.{none-there, some-stays, ends-same, ends-here, leaf-done, leaf-lost}

@@ -6,7 +6,7 @@ use Rattle.rart_nodes.specs.tries.TrieCode.{as_children}
 use Rattle.rart_nodes.specs.edits.TreeUpdates.{AsksPut}
 use Rattle.rart_nodes.proofs.edits.InsertLemmas.{put-beside, record-no_child}
 use Rattle.rart_nodes.proofs.edits.PutAskLemmas.{asks_put-full}
-use Rattle.rart_nodes.proofs.edits.RemoveSteps.{same-node}
+use Rattle.rart_nodes.proofs.removals.RemoveSteps.{same-node}
 use Rattle.rart_nodes.proofs.edits.UpdateSteps.{refuses-memory, none-at}
 use Rattle.rart_nodes.proofs.node.DefaultNode.apply_to_child.Goals as goal
 

@@ -1,6 +1,6 @@
 use Rattle.rart_nodes.specs.declared.node.ends.End.TheVariants.{First}
 use Rattle.rart_nodes.proofs.edits.Outcomes.{if_ok_weaker}
-use Rattle.rart_nodes.proofs.edits.PopLemmas.{pops-count, pops-longest, pops-on}
+use Rattle.rart_nodes.proofs.removals.PopLemmas.{pops-count, pops-longest, pops-on}
 use Rattle.rart_nodes.proofs.node.DefaultNode.pop_first.Goals as goal
 
 pub returns-clause-count : goal.returns-clause-count

@@ -1,4 +1,4 @@
-use Rattle.rart_nodes.proofs.edits.PopLemmas.{pops-asks, pops-canonical, pops-map}
+use Rattle.rart_nodes.proofs.removals.PopLemmas.{pops-asks, pops-canonical, pops-map}
 use Rattle.rart_nodes.proofs.node.DefaultNode.pop_inner.Goals as goal
 
 pub returns-in-Some-clause-ok : goal.returns-in-Some-clause-ok

@@ -3,8 +3,8 @@ use Rattle.rart_keys.specs.SortedMap.{count_of, longest_key}
 use Rattle.rart_nodes.specs.tries.Tree.{tree_pairs}
 use Rattle.std.proofs.lemmas.Result.{on_ok_weaker, on_err_weaker}
 use Rattle.rart_nodes.proofs.edits.Outcomes.{if_ok_weaker, if_ok_weaker_on}
-use Rattle.rart_nodes.proofs.edits.RemovedPairs.{length-without_key, longest_key-without, tree_canonical-removed}
-use Rattle.rart_nodes.proofs.edits.RemovedPairs.{tree_pairs-removed}
+use Rattle.rart_nodes.proofs.removals.RemovedPairs.{length-without_key, longest_key-without, tree_canonical-removed}
+use Rattle.rart_nodes.proofs.removals.RemovedPairs.{tree_pairs-removed}
 use Rattle.rart_nodes.proofs.walks.SeenLemmas.{tree_lookup-lookup}
 use Rattle.rart_nodes.proofs.node.DefaultNode.remove.Goals as goal
 use Rattle.rart_nodes.proofs.tries.PairLemmas.{tree_pairs-ascend}

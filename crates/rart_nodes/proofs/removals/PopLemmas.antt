@@ -24,11 +24,11 @@ use Rattle.rart_nodes.specs.tries.Trie.{IsCanonical}
 use Rattle.rart_nodes.specs.tries.TrieCode.{as_children}
 use Rattle.rart_nodes.proofs.edits.InsertLemmas.{fewer-within}
 use Rattle.rart_nodes.proofs.edits.LeafLemmas.{leaf-gone}
-use Rattle.rart_nodes.proofs.edits.RemoveAskLemmas.{asks-remove}
-use Rattle.rart_nodes.proofs.edits.RemoveAskSteps.{asks_remove-below, asks_remove-leaf}
-use Rattle.rart_nodes.proofs.edits.RemoveLemmas.{canonical-removed, pairs_of-removed}
-use Rattle.rart_nodes.proofs.edits.RemoveSteps.{value-removed, removed-below, removed-leaf}
-use Rattle.rart_nodes.proofs.edits.RemovedPairs.{without-above}
+use Rattle.rart_nodes.proofs.removals.RemoveAskLemmas.{asks-remove}
+use Rattle.rart_nodes.proofs.removals.RemoveAskSteps.{asks_remove-below, asks_remove-leaf}
+use Rattle.rart_nodes.proofs.removals.RemoveLemmas.{canonical-removed, pairs_of-removed}
+use Rattle.rart_nodes.proofs.removals.RemoveSteps.{value-removed, removed-below, removed-leaf}
+use Rattle.rart_nodes.proofs.removals.RemovedPairs.{without-above}
 use Rattle.rart_nodes.proofs.tries.CanonicalTests.{longest_key-after, longest_key-append}
 use Rattle.rart_nodes.proofs.tries.Descents.{child_of-entries}
 use Rattle.rart_nodes.proofs.tries.EndLemmas.{end-first, ends-below, ends-here}

@@ -6,7 +6,7 @@ use Rattle.rart_keys.specs.SortedMap.{AreAbove, IsAscending, count_of, lookup, w
 use Rattle.rart_keys.proofs.ByteOrder.{below-not_eq, bytes_eq-back, bytes_eq-equal}
 use Rattle.rart_nodes.specs.tries.Tree.{IsCanonicalTree, tree_pairs, tree_remove}
 use Rattle.rart_nodes.specs.tries.Trie.{Trie}
-use Rattle.rart_nodes.proofs.edits.RemoveLemmas.{canonical-removed, pairs_of-removed}
+use Rattle.rart_nodes.proofs.removals.RemoveLemmas.{canonical-removed, pairs_of-removed}
 
 module _ {V : Type 0} where
   pub without-above : (k : List ℕ) (es : List (List ℕ × V)) → AreAbove k es → without k es ≡ es

@@ -1,0 +1,66 @@
+//! Walks that change values in place.
+ghost use Rattle.std.specs.Prelude.{◌≡◌, []};
+ghost use Rattle.rart_keys.specs.SortedMap.{values_of};
+ghost use Rattle.rart_nodes.specs.edits.ValueChanges.{CanLend, ChangedBelow, ChangesBelow};
+ghost use Rattle.rart_nodes.specs.walks.BelowPrefix.{values_below};
+
+use crate::tree::AdaptiveRadixTree;
+use rart_keys::KeyTrait;
+use rart_nodes::node::DefaultNode;
+
+impl<K: KeyTrait, V> AdaptiveRadixTree<K, V> {
+    /// Calls `f` with a mutable reference to each value, in the order of the keys. `f` must be callable with each
+    /// value in turn; the caller keeps it. Keys and nodes stay as they were; it makes no key and does not allocate.
+    pub fn for_each_value_mut_by_ref<F: FnMut(&mut V)>(&mut self, f: &mut F)
+        requires callable { CanLend F.FnMut f.old (values_of self.old.pairs) }
+        ensures callable { F.IsAlwaysCallable f.old → F.IsAlwaysCallable f.new }
+        ensures changes { ChangesBelow F.FnMut [] f.old self.old.pairs self.new.pairs f.new }
+        ensures nodes { self.new.nodes ≡ self.old.nodes }
+    {
+        DefaultNode::change_values(&mut self.root, &[], f);
+    }
+
+    /// Calls `f` as [`for_each_value_mut_by_ref`](Self::for_each_value_mut_by_ref), and drops it.
+    pub fn for_each_value_mut<F: FnMut(&mut V) + Drop>(&mut self, mut f: F)
+        requires callable { CanLend F.FnMut f (values_of self.old.pairs) }
+        ensures changes { ChangedBelow F.FnMut [] f self.old.pairs self.new.pairs }
+        ensures nodes { self.new.nodes ≡ self.old.nodes }
+    {
+        self.for_each_value_mut_by_ref(&mut f);
+    }
+
+    /// Calls `f` with a mutable reference to each value whose key begins with `prefix`, in the order of the keys. `f`
+    /// must be callable with each of these values in turn; the caller keeps it. Keys, nodes and the other values stay
+    /// as they were; it makes no key and does not allocate.
+    pub fn prefix_for_each_value_mut_by_ref_k<F: FnMut(&mut V)>(&mut self, prefix: &K, f: &mut F)
+        requires callable { CanLend F.FnMut f.old
+            (values_below (K.bytes prefix.now) self.old.pairs) }
+        ensures callable { F.IsAlwaysCallable f.old → F.IsAlwaysCallable f.new }
+        ensures changes { ChangesBelow F.FnMut (K.bytes prefix.now) f.old self.old.pairs
+            self.new.pairs f.new }
+        ensures nodes { self.new.nodes ≡ self.old.nodes }
+    {
+        DefaultNode::change_values(&mut self.root, prefix.as_ref(), f);
+    }
+
+    /// Calls `f` as [`prefix_for_each_value_mut_by_ref_k`](Self::prefix_for_each_value_mut_by_ref_k), and drops it.
+    pub fn prefix_for_each_value_mut_k<F: FnMut(&mut V) + Drop>(&mut self, prefix: &K, mut f: F)
+        requires callable { CanLend F.FnMut f (values_below (K.bytes prefix.now) self.old.pairs) }
+        ensures changes { ChangedBelow F.FnMut (K.bytes prefix.now) f self.old.pairs
+            self.new.pairs }
+        ensures nodes { self.new.nodes ≡ self.old.nodes }
+    {
+        self.prefix_for_each_value_mut_by_ref_k(prefix, &mut f);
+    }
+
+    /// Calls `f` as [`prefix_for_each_value_mut_k`](Self::prefix_for_each_value_mut_k), with the prefix by value.
+    pub fn prefix_for_each_value_mut<F: FnMut(&mut V) + Drop>(&mut self, prefix: K, f: F)
+    where
+        K: Drop,
+        requires callable { CanLend F.FnMut f (values_below (K.bytes prefix) self.old.pairs) }
+        ensures changes { ChangedBelow F.FnMut (K.bytes prefix) f self.old.pairs self.new.pairs }
+        ensures nodes { self.new.nodes ≡ self.old.nodes }
+    {
+        self.prefix_for_each_value_mut_k(&prefix, f);
+    }
+}
