@@ -11,13 +11,14 @@ use Rattle.rart_keys.proofs.SortedMaps.{lookup-put_elsewhere}
 use Rattle.rart_nodes.specs.declared.refused.Refused.{Refused}
 use Rattle.rart_parts.specs.declared.error.TreeError.{TreeError}
 use Rattle.rart_parts.specs.declared.error.TreeError.TheVariants.{Memory, Full}
-use Rattle.rart.specs.Refusals.{MayRefuseInsert}
+use Rattle.rart.specs.Refusals.{MayRefuseInsert, MayRefuseRemove}
 use Rattle.rart.specs.declared.tree.TheConstants.{MAX_PAIRS}
 use Rattle.rart_cidr.specs.Bits.{code, network}
 use Rattle.rart_cidr.specs.Edits.{MayRefuseRoute, MayRefuseTarget, PutsIn, PutsTarget, TakesFrom, TakesTarget}
 use Rattle.rart_cidr.specs.Fields.{AreTableFields}
 use Rattle.rart_cidr.specs.Routes.{AreStrides, routes_of, set_stride, stride_at, stride_or_empty}
 use Rattle.rart_cidr.proofs.BitLemmas.{code-in_range, network-coded}
+use Rattle.rart_cidr.proofs.RefusalLemmas.{insert_asks-some, remove_asks-five}
 use Rattle.rart_cidr.proofs.RouteLemmas.{routes-ascend, same_or_not}
 use Rattle.rart_cidr.proofs.StrideLemmas.{few-strides, few-targets, lookup-network, put-target, set-put, take-target}
 use Rattle.rart_cidr.proofs.StrideLemmas.{without-absent}
@@ -54,9 +55,25 @@ module _ {T : Type 0} where
       (same_or_not q o))
 
   may-refuse : (S : List (List ℕ × List (List ℕ × T))) (o k : List ℕ) (s : List (List ℕ × T)) (error : TreeError)
-      → stride_at o S ≡ s → MayRefuseInsert s k error → MayRefuseTarget S o k error
-  may-refuse S o k s Memory e m = ap (lookup k) e ∙ m.0
-  may-refuse S o k s Full e m = (ap (lookup k) e ∙ m.0, λ l. absurd (omega (arith, l, ap length e, m.1)))
+      → lookup o S ≡ Some s → MayRefuseInsert s k error → MayRefuseTarget S o k error
+  may-refuse S o k s Memory e m = (
+    ap (λ z. lookup k (stride_or_empty z)) e ∙ m.0,
+    λ n. let none
+        = ap (lookup o) n in cc,
+  )
+  may-refuse S o k s Full e m = let at : stride_at o S ≡ s = ap stride_or_empty e in
+      (ap (lookup k) at ∙ m.0, λ l. absurd (omega (arith, l, ap length at, m.1)))
+
+  -- a stride that isn't inserted
+  pub may-refuse-stride : (S : List (List ℕ × List (List ℕ × T))) (o k : List ℕ) (error : TreeError)
+      → lookup o S ≡ None → MayRefuseInsert S o error → MayRefuseTarget S o k error
+  may-refuse-stride S o k Memory e m = (ap (λ z. lookup k (stride_or_empty z)) e, insert_asks-some S o m.2)
+  may-refuse-stride S o k Full e m = (ap (λ z. lookup k (stride_or_empty z)) e, λ l. m.1)
+
+  -- a stride that isn't removed
+  pub keeps-stride : (S R : List (List ℕ × List (List ℕ × T))) (o k : List ℕ) (error : TreeError)
+      → lookup k (stride_at o S) ≢ None → MayRefuseRemove S o error → R ≡ S → TakesTarget o k S R (Err error)
+  keeps-stride S R o k error n m e = (m.0, n, inl (remove_asks-five S o m.2), e)
 
   -- an edit in its place is the edit of the strides
   pub puts-in : (S R : List (List ℕ × List (List ℕ × T))) (o k : List ℕ) (t : T) (s : List (List ℕ × T))
@@ -70,7 +87,7 @@ module _ {T : Type 0} where
       )
   puts-in S R o k t s (Err refused) a e p = let w = p s (sym e) in let at : stride_at o S ≡ s
       = ap stride_or_empty (sym e) in
-      (w.2.0, may-refuse S o k s refused.error at w.2.1, w.1 ∙ ap (λ z. put o z S) w.2.2 ∙ put-same S o s a (sym e))
+      (w.2.0, may-refuse S o k s refused.error (sym e) w.2.1, w.1 ∙ ap (λ z. put o z S) w.2.2 ∙ put-same S o s a (sym e))
 
   only-empty : (k : List ℕ) (s : List (List ℕ × T)) → lookup k s ≢ None → length s ≡ 1 → without k s ≡ []
   only-empty k [] n l = refl
@@ -125,6 +142,7 @@ module _ {T : Type 0} where
   takes-from S R o k s t (Err error) a b e f n p = let w = p s (sym e) in (
     w.2.0.0,
     λ m. w.2.0.1 (ap (λ z. lookup k (stride_or_empty z)) e ∙ m),
+    inr (omega (arith, remove_asks-five s k w.2.0.2, ap length (ap stride_or_empty e))),
     w.1 ∙ ap (λ z. put o z S) w.2.1
         ∙ put-same S o s a (sym e),
   )
@@ -180,14 +198,26 @@ module _ {T : Type 0} where
             (arith, ap length routes, ap count_of old, length-put (network o n) t (routes_of S) (routes-ascend S)),
       )
 
+  no-strides : (S : List (List ℕ × List (List ℕ × T))) → IsAscending S → AreStrides S → routes_of S ≡ [] → S ≡ []
+  no-strides [] a b g = refl
+  no-strides (e ∷ S) a b g = absurd (omega (arith, few-strides (e ∷ S) a b, ap length g))
+
+  pub five-routes : (S : List (List ℕ × List (List ℕ × T))) (o : List ℕ) → IsAscending S → AreStrides S
+      → (5 ≤ length S) ⊎ (5 ≤ length (stride_at o S)) → 5 ≤ length (routes_of S)
+  five-routes S o a b m = ⊎_elim (λ l. omega (arith, l, few-strides S a b)) (λ l. omega (arith, l, few-targets S o a b))
+      m
+
   -- and of a refusal: there was room, so neither the strides nor a stride were full
   pub refused-route : (S : List (List ℕ × List (List ℕ × T))) (o : List ℕ) (n : ℕ) (q : List ℕ) (x c : ℕ)
       (error : TreeError) → IsAscending S → AreStrides S → AreBytes o → n ≤ 8 * length o →
       q ≡ take (n / 8) o → x ≡ slice_index o (n / 8) → c ≡ code x (n % 8) → length (routes_of S) ≤ MAX_PAIRS
       → ((length (routes_of S) ≡ MAX_PAIRS) × (lookup (network o n) (routes_of S) ≡ None) → ⊥)
       → MayRefuseTarget S q (c ∷ []) error → MayRefuseRoute (routes_of S) (network o n) error
-  refused-route S o n q x c Memory a b f h e ex ec l room m = let none = absent S o n q x c a b f h e ex ec m in
-      (none, ⊎_elim (λ g. g) (λ g. absurd (room (g, none))) (less_or_equal (length (routes_of S)) MAX_PAIRS l))
+  refused-route S o n q x c Memory a b f h e ex ec l room m = let none = absent S o n q x c a b f h e ex ec m.0 in (
+    none,
+    ⊎_elim (λ g. g) (λ g. absurd (room (g, none))) (less_or_equal (length (routes_of S)) MAX_PAIRS l),
+    λ g. m.1 (no-strides S a b g),
+  )
   refused-route S o n q x c Full a b f h e ex ec l room m = let none = absent S o n q x c a b f h e ex ec m.0 in
       absurd (⊎_elim
       (λ g. let full = m.1 (omega (arith, few-targets S q a b)) in omega (arith, full, few-strides S a b))

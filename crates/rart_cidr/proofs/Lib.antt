@@ -10,6 +10,7 @@ mod NetworkLemmas
 mod NextLemmas
 mod OrderLemmas
 mod PlaceLemmas
+mod RefusalLemmas
 mod RouteLemmas
 mod StartLemmas
 mod StrideLemmas

@@ -38,4 +38,4 @@ module _ {T : Type 0} where
   pub remove_within : (w : ℕ) (k : List ℕ) (old new : List (List ℕ × T)) (r : Result (Option T) TreeError)
       → RemovesRoute k old new r → AreWithin w old → AreWithin w new
   remove_within w k old new (Ok was) i a = subst (AreWithin w) (sym i.1) (without_within w k old a)
-  remove_within w k old new (Err error) i a = subst (AreWithin w) (sym i.2) a
+  remove_within w k old new (Err error) i a = subst (AreWithin w) (sym i.3) a

@@ -1,5 +1,5 @@
 -- What edits of a table answer, and what they leave: of its routes, and of its strides.
-use Rattle.std.specs.Prelude.{◌≡◌, ◌≢◌, ◌<◌, ℕ, List, length, Option, Some, None, Result, Ok, Err}
+use Rattle.std.specs.Prelude.{◌≡◌, ◌≢◌, ◌<◌, ◌≤◌, ◌⊎◌, ℕ, List, [], length, Option, Some, None, Result, Ok, Err}
 use Rattle.rart_keys.specs.SortedMap.{lookup, put, without}
 use Rattle.rart_nodes.specs.declared.refused.Refused.{Refused}
 use Rattle.rart_parts.specs.declared.error.TreeError.{TreeError}
@@ -9,10 +9,10 @@ use Rattle.rart.specs.Edits.{Inserts, Removes}
 use Rattle.rart_cidr.specs.Routes.{set_stride, stride_at}
 
 module _ {T : Type 0} where
-  -- a new route may be refused for this reason
+  -- a new route may be refused for this reason: Full in a full table, Memory in one that is neither full nor empty
   abbrev pub MayRefuseRoute : List (List ℕ × T) → List ℕ → TreeError → Type 0
   MayRefuseRoute routes net Full = (lookup net routes ≡ None) × (length routes ≡ MAX_PAIRS)
-  MayRefuseRoute routes net Memory = (lookup net routes ≡ None) × (length routes < MAX_PAIRS)
+  MayRefuseRoute routes net Memory = (lookup net routes ≡ None) × (length routes < MAX_PAIRS) × (routes ≢ [])
 
   -- the network has the target, and the old one is returned; a full table takes no new network. On Err the target comes
   -- back, and no route changes
@@ -22,14 +22,15 @@ module _ {T : Type 0} where
   InsertsRoute net target old new (Err refused) = (refused.value ≡ target) × MayRefuseRoute old net refused.error
       × (new ≡ old)
 
-  -- the network has no target, and the old one is returned. On Err, which only a stored network meets, no route changes
+  -- the network has no target, and the old one is returned. On Err, which only a stored network of a
+  -- table of five routes or more meets, no route changes
   abbrev pub RemovesRoute : List ℕ → List (List ℕ × T) → List (List ℕ × T) → Result (Option T) TreeError → Type 0
   RemovesRoute net old new (Ok was) = (was ≡ lookup net old) × (new ≡ without net old)
-  RemovesRoute net old new (Err error) = (error ≡ Memory) × (lookup net old ≢ None) × (new ≡ old)
+  RemovesRoute net old new (Err error) = (error ≡ Memory) × (lookup net old ≢ None) × (5 ≤ length old) × (new ≡ old)
 
-  -- a new target may be refused for this reason: the strides are full, or the stride is
+  -- a new target may be refused for this reason: the strides are full or the stride is, or there are strides
   abbrev pub MayRefuseTarget : List (List ℕ × List (List ℕ × T)) → List ℕ → List ℕ → TreeError → Type 0
-  MayRefuseTarget old o k Memory = lookup k (stride_at o old) ≡ None
+  MayRefuseTarget old o k Memory = (lookup k (stride_at o old) ≡ None) × (old ≢ [])
   MayRefuseTarget old o k Full = (lookup k (stride_at o old) ≡ None)
       × (length (stride_at o old) < MAX_PAIRS → length old ≡ MAX_PAIRS)
 
@@ -51,10 +52,11 @@ module _ {T : Type 0} where
   TakesFrom o k old new result = (s : List (List ℕ × T)) → lookup o old ≡ Some s → (n : List (List ℕ × T))
       × (new ≡ put o n old) × Removes k s n result
 
-  -- the stride at o loses the target at k
+  -- the stride at o loses the target at k; a refusal needs five strides, or a stride of five targets
   abbrev pub TakesTarget : List ℕ → List ℕ → List (List ℕ × List (List ℕ × T)) → List (List ℕ × List (List ℕ × T))
       → Result (Option T) TreeError → Type 0
   TakesTarget o k old new (Ok None) = (lookup k (stride_at o old) ≡ None) × (new ≡ old)
   TakesTarget o k old new (Ok (Some t)) = (lookup k (stride_at o old) ≡ Some t)
       × (new ≡ set_stride o (without k (stride_at o old)) old)
-  TakesTarget o k old new (Err error) = (error ≡ Memory) × (lookup k (stride_at o old) ≢ None) × (new ≡ old)
+  TakesTarget o k old new (Err error) = (error ≡ Memory) × (lookup k (stride_at o old) ≢ None)
+      × ((5 ≤ length old) ⊎ (5 ≤ length (stride_at o old))) × (new ≡ old)

@@ -12,5 +12,6 @@ pub mod table6;
 
 pub use crate::cidr::{Cidr4, Cidr6, CidrError, ParseCidrError};
 pub use crate::table::BitTable;
-pub use crate::table4::{CidrTable4, Matches4, Routes4};
-pub use crate::table6::{CidrTable6, Matches6, Routes6};
+pub use crate::table::seen::SeenTable;
+pub use crate::table4::{CidrTable4, Matches4, Routes4, SeenTable4};
+pub use crate::table6::{CidrTable6, Matches6, Routes6, SeenTable6};

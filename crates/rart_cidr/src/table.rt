@@ -13,6 +13,7 @@ mod get_mut;
 mod longest;
 mod matches;
 mod next;
+pub mod seen;
 pub(crate) mod walk;
 
 use crate::bits::code_of;
@@ -119,8 +120,8 @@ impl<K: KeyTrait, T> BitTable<K, T> {
     /// # Errors
     ///
     /// [`TreeError::Full`] if the network is new and the table holds as many routes as a table can,
-    /// [`TreeError::Memory`] if it is new and an allocation fails. The table is then unchanged, and the error holds
-    /// `target`.
+    /// [`TreeError::Memory`] if it is new, the table isn't empty and an allocation fails. The table is then unchanged,
+    /// and the error holds `target`.
     pub fn insert(&mut self, octets: &[u8], bits: usize, target: T) -> Result<Option<T>, Refused<T>>
     where
         K: Drop,
@@ -161,8 +162,8 @@ impl<K: KeyTrait, T> BitTable<K, T> {
     ///
     /// # Errors
     ///
-    /// [`TreeError::Memory`] if the route is stored, its removal must allocate, and the allocation fails. The table
-    /// is then unchanged.
+    /// [`TreeError::Memory`] if the route is stored, the table has at least five, its removal must allocate and the
+    /// allocation fails. The table is then unchanged.
     pub fn remove(&mut self, octets: &[u8], bits: usize) -> Result<Option<T>, TreeError>
     where
         K: Drop,

@@ -14,12 +14,14 @@ ghost use Rattle.rart_cidr.specs.Networks.{bits6};
 
 mod matches;
 mod routes;
+mod seen;
 
 use crate::cidr::Cidr6;
 use crate::table::BitTable;
 pub use crate::table6::matches::Matches6;
 pub use crate::table6::routes::Routes6;
-use rart::{ArrayKey, Count, Refused, TreeError, Visits};
+pub use crate::table6::seen::SeenTable6;
+use rart::{ArrayKey, Refused, TreeError, Visits};
 use std::alloc::Global;
 use std::marker::Model;
 use std::net::Ipv6Addr;
@@ -132,33 +134,8 @@ impl<T> CidrTable6<T> {
             (option_map (λ p. (bits6 p.0, p.1.now)) result) }
     {
         self.ascends();
-        self.longest_match_net_counted(net, &mut Visits::new(), &mut Visits::new())
-    }
-
-    /// Returns what [`longest_match_net`](Self::longest_match_net) returns, with counted visits.
-    ///
-    /// # Visits
-    ///
-    /// At most 17 strides, and at most 153 nodes of the map that holds them.
-    pub fn longest_match_net_counted<C: Count>(
-        &self,
-        net: &Cidr6,
-        nodes: &mut C,
-        strides: &mut C,
-    ) -> Option<(Cidr6, &T)>
-        ensures value { option_map (λ p. (bits6 p.0, p.1.now)) result
-            ≡ longest_match (bits6 net.now) self.now }
-        ensures nodes { C.number nodes.new ≤ C.number nodes.old + 153 }
-        ensures strides { C.number strides.new ≤ C.number strides.old + 17 }
-    {
-        let bits = usize::from(net.len());
-        match self
-            .routes
-            .longest_match_net_counted(net.octets(), bits, nodes, strides)
-        {
-            Some((bits, target)) => Some((net.supernet(bits as u8), target)),
-            None => None,
-        }
+        self.seen::<Visits>()
+            .longest_match_net_counted(net, &mut Visits::new(), &mut Visits::new())
     }
 
     /// Returns what [`longest_match_net`](Self::longest_match_net) returns, found by looking up each length, the
@@ -183,7 +160,8 @@ impl<T> CidrTable6<T> {
     /// # Errors
     ///
     /// [`TreeError::Full`] if `net` is new and the table holds as many routes as a table can, [`TreeError::Memory`] if
-    /// it is new and an allocation fails. The table is then unchanged, and the error holds `target`.
+    /// it is new, the table isn't empty and an allocation fails. The table is then unchanged, and the error holds
+    /// `target`.
     pub fn insert(&mut self, net: &Cidr6, target: T) -> Result<Option<T>, Refused<T>>
     where
         T: Drop,
@@ -197,7 +175,8 @@ impl<T> CidrTable6<T> {
     ///
     /// # Errors
     ///
-    /// [`TreeError::Memory`] if the route is stored and its removal must allocate. The table is then unchanged.
+    /// [`TreeError::Memory`] if the route is stored, the table has at least five, its removal must allocate and the
+    /// allocation fails. The table is then unchanged.
     pub fn remove(&mut self, net: &Cidr6) -> Result<Option<T>, TreeError>
     where
         T: Drop,

@@ -19,7 +19,7 @@ enum Ask {
     Get(&'static str),
     /// The longest network that covers this one, plain and counted.
     Covers(&'static str),
-    /// The networks that cover this one: how many, and the last.
+    /// The networks that cover this one, the shortest first.
     CoversAll(&'static str),
     /// The network of this length that contains the first.
     Supernet(&'static str, u8),
@@ -38,7 +38,7 @@ enum Reply {
     Value(Option<u64>),
     Net(&'static str),
     None,
-    Last(usize, &'static str),
+    Nets(&'static [&'static str]),
     Order(Ordering),
     BadAddress,
     BadLength,
@@ -68,7 +68,9 @@ fn writes(table: &mut Table, net: &Cidr4, target: u64, wanted: Option<u64>) -> b
 
 // The plain and the counted call both find it.
 fn covers(table: &Table, net: &Cidr4, wanted: Option<&str>) -> bool {
-    let counted = table.longest_match_net_counted(net, &mut Visits::new(), &mut Visits::new());
+    let counted = table
+        .seen::<Visits>()
+        .longest_match_net_counted(net, &mut Visits::new(), &mut Visits::new());
     match (table.longest_match_net(net), counted, wanted) {
         (Some((plain, target)), Some((also, same)), Some(text)) => {
             is(&plain, text) && is(&also, text) && *target == *same
@@ -78,14 +80,15 @@ fn covers(table: &Table, net: &Cidr4, wanted: Option<&str>) -> bool {
     }
 }
 
-fn covers_all(table: &Table, net: &Cidr4, wanted: usize, last: &str) -> bool {
-    let mut count = 0_usize;
-    let mut is_last = false;
-    for (found, _) in table.matches_net(net) {
-        count = count.wrapping_add(1);
-        is_last = is(&found, last);
+fn covers_all(table: &Table, net: &Cidr4, wanted: &[&str]) -> bool {
+    let mut found = table.matches_net(net);
+    for text in wanted {
+        match found.next() {
+            Some((covering, _)) if is(&covering, *text) => {}
+            _ => return false,
+        }
     }
-    count == wanted && is_last
+    found.next().is_none()
 }
 
 fn refused(text: &str) -> Option<Reply> {
@@ -114,7 +117,7 @@ fn replies_of(table: &mut Table, net: &Cidr4, row: Row) -> bool {
         (Ask::Get(_), Reply::Value(wanted)) => table.get(net).copied() == wanted,
         (Ask::Covers(_), Reply::Net(text)) => covers(table, net, Some(text)),
         (Ask::Covers(_), Reply::None) => covers(table, net, None),
-        (Ask::CoversAll(_), Reply::Last(count, text)) => covers_all(table, net, count, text),
+        (Ask::CoversAll(_), Reply::Nets(texts)) => covers_all(table, net, texts),
         (Ask::Supernet(_, len), Reply::Net(text)) => {
             len <= net.len() && is(&net.supernet(len), text)
         }
@@ -189,11 +192,17 @@ const ROWS: [Row; 33] = [
     (Ask::Covers("0.0.0.0/0"), Reply::Net("0.0.0.0/0")),
     (
         Ask::CoversAll("10.16.0.1/32"),
-        Reply::Last(5, "10.16.0.1/32"),
+        Reply::Nets(&[
+            "0.0.0.0/0",
+            "10.0.0.0/8",
+            "10.16.0.0/12",
+            "10.16.0.0/16",
+            "10.16.0.1/32",
+        ]),
     ),
     (
         Ask::CoversAll("10.16.0.0/15"),
-        Reply::Last(3, "10.16.0.0/12"),
+        Reply::Nets(&["0.0.0.0/0", "10.0.0.0/8", "10.16.0.0/12"]),
     ),
     (
         Ask::Supernet("10.16.0.1/32", 31),

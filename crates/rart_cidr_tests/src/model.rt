@@ -6,6 +6,20 @@ use std::net::Ipv4Addr;
 /// A route of the model.
 pub type Route = (Cidr4, u64);
 
+// Whether `addr` has the first bits of `net`, by arithmetic on both as numbers.
+fn contains(net: &Cidr4, addr: Ipv4Addr) -> bool {
+    let differ = net.addr().to_bits() ^ addr.to_bits();
+    differ
+        .checked_shr(32_u32.wrapping_sub(u32::from(net.len())))
+        .unwrap_or(0)
+        == 0
+}
+
+// Whether all addresses of `inner` are in `net`.
+fn contains_net(net: &Cidr4, inner: &Cidr4) -> bool {
+    net.len() <= inner.len() && contains(net, inner.addr())
+}
+
 /// Returns the target of exactly `net`.
 pub fn target_of(routes: &[Route], net: &Cidr4) -> Option<u64> {
     let mut found = None;
@@ -21,7 +35,7 @@ pub fn target_of(routes: &[Route], net: &Cidr4) -> Option<u64> {
 pub fn longest(routes: &[Route], addr: Ipv4Addr) -> Option<(u8, u64)> {
     let mut found: Option<(u8, u64)> = None;
     for route in routes {
-        if route.0.contains(addr) {
+        if contains(&route.0, addr) {
             let len = route.0.len();
             match found {
                 Some((most, _)) if len <= most => {}
@@ -36,7 +50,7 @@ pub fn longest(routes: &[Route], addr: Ipv4Addr) -> Option<(u8, u64)> {
 pub fn count_of_matches(routes: &[Route], addr: Ipv4Addr) -> usize {
     let mut count = 0_usize;
     for route in routes {
-        if route.0.contains(addr) {
+        if contains(&route.0, addr) {
             count = count.wrapping_add(1);
         }
     }
@@ -77,7 +91,7 @@ pub fn table_matches(table: &CidrTable4<u64>, routes: &[Route], addr: Ipv4Addr) 
 pub fn count_within(routes: &[Route], net: &Cidr4) -> usize {
     let mut count = 0_usize;
     for route in routes {
-        if net.contains_net(&route.0) {
+        if contains_net(net, &route.0) {
             count = count.wrapping_add(1);
         }
     }
@@ -91,7 +105,7 @@ fn walked(walk: Routes4<'_, u64>, routes: &[Route], net: &Cidr4) -> Option<usize
     let mut last: Option<Cidr4> = None;
     for (inside, target) in walk {
         if last >= Some(inside)
-            || !net.contains_net(&inside)
+            || !contains_net(net, &inside)
             || target_of(routes, &inside) != Some(*target)
         {
             return None;

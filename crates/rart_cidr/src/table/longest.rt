@@ -4,6 +4,7 @@ ghost use Rattle.rart_keys.specs.Filters.{longest_match};
 ghost use Rattle.rart_cidr.specs.Bits.{bits_of, network};
 ghost use Rattle.rart_cidr.specs.Longest.{IsLastStride, nodes_to};
 
+use crate::table::seen::SeenTable;
 use crate::table::{BitTable, first_octets, octet_at};
 use rart::{Count, KeyTrait, Visits};
 
@@ -26,46 +27,13 @@ impl<K: KeyTrait, T> BitTable<K, T> {
         ensures value { option_map (λ p. (take p.0 (network octets.now bits), p.1.now)) result
             ≡ longest_match (network octets.now bits) self.now }
     {
-        self.longest_match_net_counted(octets, bits, &mut Visits::new(), &mut Visits::new())
-    }
-
-    /// Returns what [`longest_match_net`](Self::longest_match_net) returns, with counted visits.
-    ///
-    /// # Visits
-    ///
-    /// At most `bits / 8 + 1` strides. `nodes` counts the nodes of the map of strides, at most one more for each stride
-    /// than it has whole octets.
-    #[tactic(auto, using(crate::proofs::LongestLemmas::has_none))]
-    pub fn longest_match_net_counted<C: Count>(
-        &self,
-        octets: &[u8],
-        bits: usize,
-        nodes: &mut C,
-        strides: &mut C,
-    ) -> Option<(usize, &T)>
-        requires { bits ≤ 8 * length octets.now }
-        ensures within { IfSome result (λ p. p.0 ≤ bits) }
-        ensures value { option_map (λ p. (take p.0 (network octets.now bits), p.1.now)) result
-            ≡ longest_match (network octets.now bits) self.now }
-        ensures nodes { C.number nodes.new ≤ C.number nodes.old + nodes_to (bits / 8 + 1) }
-        ensures strides { C.number strides.new ≤ C.number strides.old + (bits / 8 + 1) }
-    {
-        self.ascends();
-        let mut at = bits / 8 + 1;
-        while at > 0 {
-            strides.add_one();
-            let (count, found) = self.last_stride(octets, bits, at - 1, nodes)?;
-            if let Some(route) = found {
-                return Some(route);
-            }
-            at = count;
-        }
-        None
+        self.seen::<Visits>()
+            .longest_match_net_counted(octets, bits, &mut Visits::new(), &mut Visits::new())
     }
 
     // Returns the number of octets of the longest stride that the first `at` octets begin with, and the longest network
     // in it that the first `bits` bits begin with. One descent skips the numbers of octets without a stride.
-    fn last_stride<C: Count>(
+    pub(super) fn last_stride<C: Count>(
         &self,
         octets: &[u8],
         bits: usize,
@@ -87,6 +55,41 @@ impl<K: KeyTrait, T> BitTable<K, T> {
             Some((more, target)) => Some((count, Some((8 * count + more, target)))),
             None => Some((count, None)),
         }
+    }
+}
+
+impl<'a, K: KeyTrait, T, C: Count> SeenTable<'a, K, T, C> {
+    /// Returns what [`BitTable::longest_match_net`] returns.
+    ///
+    /// # Visits
+    ///
+    /// At most `bits / 8 + 1` strides. `nodes` counts the nodes of the map of strides, at most one more for each stride
+    /// than it has whole octets.
+    #[tactic(auto, using(crate::proofs::LongestLemmas::has_none))]
+    pub fn longest_match_net_counted(
+        &self,
+        octets: &[u8],
+        bits: usize,
+        nodes: &mut C,
+        strides: &mut C,
+    ) -> Option<(usize, &'a T)>
+        requires { bits ≤ 8 * length octets.now }
+        ensures within { IfSome result (λ p. p.0 ≤ bits) }
+        ensures value { option_map (λ p. (take p.0 (network octets.now bits), p.1.now)) result
+            ≡ longest_match (network octets.now bits) self.now }
+        ensures nodes { C.number nodes.new ≤ C.number nodes.old + nodes_to (bits / 8 + 1) }
+        ensures strides { C.number strides.new ≤ C.number strides.old + (bits / 8 + 1) }
+    {
+        self.ascends();
+        let mut at = bits / 8 + 1;
+        while at > 0 {
+            let (count, found) = self.last_stride(octets, bits, at - 1, nodes, strides)?;
+            if let Some(route) = found {
+                return Some(route);
+            }
+            at = count;
+        }
+        None
     }
 }
 

@@ -2,7 +2,7 @@ use Rattle.std.proofs.Common.{arith, sym, ap, ◌∙◌}
 use Rattle.rart_keys.specs.SortedMap.{lookup, without}
 use Rattle.rart_cidr.specs.Bits.{network}
 use Rattle.rart_cidr.specs.Routes.{routes_of}
-use Rattle.rart_cidr.proofs.EditLemmas.{absent-without, at-key, removed}
+use Rattle.rart_cidr.proofs.EditLemmas.{absent-without, at-key, five-routes, removed}
 use Rattle.rart_cidr.proofs.table.BitTable.remove.Goals as goal
 
 pub overflow_sub-self : goal.overflow_sub-self
@@ -55,6 +55,7 @@ returns g c = (
       (λ k. (c.type_inv.octets k).fits) c.requires.bits (c.new_from_slice-key.ensures ∙ c.first_octets.ensures)
       c.octet_at.ensures c.code_of-code.ensures.value)
       ∙ ap (lookup (network c.args.octets.now c.args.bits)) c.self.view_is ∙ m),
-  ap routes_of c.in-Err.ensures.2
+  rw (← c.self.view_is) (five-routes _ _ c.canonical.ensures.ascending c.self.invariant.formed c.in-Err.ensures.2),
+  ap routes_of c.in-Err.ensures.3
       ∙ c.self.view_is,
 )

@@ -4,4 +4,4 @@ use Rattle.rart_cidr.proofs.table6.CidrTable6.longest_match_net.Goals as goal
 
 pub returns-clause-longest : goal.returns-clause-longest
 returns-clause-longest g c = longest-route (bits6 c.args.net.now) c.args.self.now _ c.ascends.ensures
-    c.longest_match_net_counted.ensures.value
+    (rw c.seen.ensures at c.longest_match_net_counted.ensures.value)

@@ -1,6 +1,6 @@
 use Rattle.std.proofs.Common.{◌≤◌, ◌+◌, ◌*◌, ◌/◌}
 use Rattle.rart_cidr.specs.Longest.{HasNoneFrom, nodes_to}
-use Rattle.rart_cidr.proofs.table.BitTable.longest_match_net_counted.Given as goal
+use Rattle.rart_cidr.proofs.table.seen.SeenTable.longest_match_net_counted.Given as goal
 
 abbrev pub invariant-loop-at : goal.invariant-loop-at
 invariant-loop-at g l = record {

@@ -1,7 +1,7 @@
 use Rattle.std.proofs.Common.{◌≡◌, ◌+◌, ◌-◌, ◌*◌, arith, ⊎_elim, subst}
 use Rattle.rart_cidr.specs.Longest.{HasNoneAfter}
 use Rattle.rart_cidr.proofs.LongestLemmas.{is_longest, less_or_not, nodes_to-fewer, nodes_to-more, none-before}
-use Rattle.rart_cidr.proofs.table.BitTable.longest_match_net_counted.Goals as goal
+use Rattle.rart_cidr.proofs.table.seen.SeenTable.longest_match_net_counted.Goals as goal
 
 pub returns-in-Some-clause-value : goal.returns-in-Some-clause-value
 returns-in-Some-clause-value g c =
@@ -30,5 +30,5 @@ loop-at-preserved g c =
         c.loop-at.invariant.nodes,
         c.loop-at-test.true,
       );
-      strides = omega (arith, c.add_one.ensures, c.loop-at.invariant.strides, last.0, c.loop-at-test.true);
+      strides = omega (arith, c.last_stride.ensures.strides, c.loop-at.invariant.strides, last.0, c.loop-at-test.true);
     }

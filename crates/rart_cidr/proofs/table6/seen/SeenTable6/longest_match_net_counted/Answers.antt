@@ -1,7 +1,7 @@
 use Rattle.std.proofs.Common.{◌+◌, ◌/◌, ◌≤◌, arith}
 use Rattle.rart_cidr.specs.Longest.{nodes_to}
 use Rattle.rart_cidr.proofs.LongestLemmas.{nodes_to-more}
-use Rattle.rart_cidr.proofs.table6.CidrTable6.longest_match_net_counted.Goals as goal
+use Rattle.rart_cidr.proofs.table6.seen.SeenTable6.longest_match_net_counted.Goals as goal
 
 pub returns-in-Some-clause-nodes : goal.returns-in-Some-clause-nodes
 returns-in-Some-clause-nodes g c =
