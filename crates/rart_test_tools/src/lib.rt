@@ -1,7 +1,6 @@
 //! What the tests of several crates share: requests for memory that are refused, and values that count their drops.
 //!
-//! It stands on the standard library alone, so that tests of the lower crates wait for nothing else. It is no part of
-//! the product.
+//! It stands on the standard library alone, and is no part of the product.
 #![tactic(auto)]
 
 pub mod counted;

@@ -3,6 +3,8 @@
 //! It is no part of the product.
 #![tactic(auto)]
 
+pub mod texts;
+
 use rart::{AdaptiveRadixTree, KeyTrait, NodeStats, TreeStats, TreeStatsTrait};
 
 /// The trees that tests compare.

@@ -1,7 +1,8 @@
 //! Answers about a probe by the forms that take their key by value, and rows that other key types have.
 
-use crate::prefixes::{Pair, THREE, Tree, filled, is_pair, key};
 use rart::{AdaptiveRadixTree, ArrayKey, KeyTrait, TreeError};
+use rart_test_trees::texts::{Pair, THREE, Tree, filled, is_pair, key};
+use std::panic::Expect;
 use std::test::Fail;
 
 fn longest_is(tree: &Tree, probe: &[u8], wanted: &Pair) -> bool {
@@ -30,7 +31,7 @@ fn first_below(tree: &Tree, prefix: &[u8]) -> Result<(Option<u64>, Option<u64>),
 
 #[test]
 fn keys_by_value_are_answered_as_those_by_reference(rt: HostRuntime) -> Result<(), Fail> {
-    let tree = filled(&rt, rt.alloc(), &THREE);
+    let tree = filled(rt.alloc(), &THREE).expect(&rt, "a tree");
     assert!(rt; longest_is(&tree, b"abz", &("ab", 2)));
     assert!(rt; longest_is(&tree, b"b", &("", 0)));
     assert!(rt; tree.longest_prefix_value(key(b"az")) == Some(&1));

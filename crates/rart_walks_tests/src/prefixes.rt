@@ -3,38 +3,15 @@
 
 ghost use Rattle.std.specs.Prelude.{◌≤◌, length};
 
-use rart::{AdaptiveRadixTree, ArrPartial, ArrayKey, Iter, KeyTrait, PrefixMatchIter, TreeError};
+use rart::{ArrPartial, Iter, KeyTrait, PrefixMatchIter, TreeError};
 use rart_test_tools::refusals::{refuse, was_refused};
+use rart_test_trees::texts::{Key, Pair, THREE, Tree, filled, is_pair, key};
 use std::alloc::Global;
+use std::panic::Expect;
 use std::process::Abort;
-
-pub type Key = ArrayKey<16>;
-
-pub type Tree = AdaptiveRadixTree<Key, u64>;
-
-pub type Pair = (&'static str, u64);
 
 // A probe; the pairs whose key begins it, the shortest first; the pairs whose key it begins, ascending.
 type Row = (&'static str, &'static [Pair], &'static [Pair]);
-
-pub fn filled(rt: &impl Abort, alloc: Global, pairs: &[Pair]) -> Tree {
-    let mut tree = Tree::new(alloc);
-    for (text, value) in pairs {
-        let bytes = text.as_bytes();
-        assert!(rt; bytes.len() <= 16);
-        assert!(rt; matches!(tree.insert(Key::new_from_slice(bytes), *value), Ok(None)));
-    }
-    tree
-}
-
-/// The key of these bytes, cut to sixteen.
-pub fn key(bytes: &[u8]) -> Key {
-    Key::new_from_slice(&bytes[..bytes.len().min(16)])
-}
-
-pub fn is_pair(found: &(Key, &u64), wanted: &Pair) -> bool {
-    found.0.as_ref() == wanted.0.as_bytes() && *found.1 == wanted.1
-}
 
 // The matches are these and no others, and after the last always none.
 fn are_matches(mut found: PrefixMatchIter<'_, Key, ArrPartial<16>, u64>, wanted: &[Pair]) -> bool {
@@ -111,8 +88,6 @@ fn first_wrong(rt: &impl Abort, tree: &Tree, rows: &[Row]) -> Option<usize> {
     }
     None
 }
-
-pub const THREE: [Pair; 3] = [("", 0), ("a", 1), ("ab", 2)];
 
 const OF_THREE: [Row; 4] = [
     ("", &[("", 0)], &THREE),
@@ -223,7 +198,7 @@ const GROUPS: [(&[Pair], &[Row]); 5] = [
 fn groups_of_keys_that_share_beginnings(rt: HostRuntime) {
     for (pairs, rows) in &GROUPS {
         assert_eq!(rt;
-            first_wrong(&rt, &filled(&rt, rt.alloc(), pairs), rows),
+            first_wrong(&rt, &filled(rt.alloc(), pairs).expect(&rt, "a tree"), rows),
             None
         );
     }
@@ -232,15 +207,27 @@ fn groups_of_keys_that_share_beginnings(rt: HostRuntime) {
 #[test]
 fn keys_that_begin_a_probe_and_keys_that_it_begins(rt: HostRuntime) {
     assert_eq!(rt;
-        first_wrong(&rt, &filled(&rt, rt.alloc(), &THREE), &OF_THREE),
+        first_wrong(
+            &rt,
+            &filled(rt.alloc(), &THREE).expect(&rt, "a tree"),
+            &OF_THREE
+        ),
         None
     );
     assert_eq!(rt;
-        first_wrong(&rt, &filled(&rt, rt.alloc(), &ANIMALS), &OF_ANIMALS),
+        first_wrong(
+            &rt,
+            &filled(rt.alloc(), &ANIMALS).expect(&rt, "a tree"),
+            &OF_ANIMALS
+        ),
         None
     );
     assert_eq!(rt;
-        first_wrong(&rt, &filled(&rt, rt.alloc(), &WORDS), &OF_WORDS),
+        first_wrong(
+            &rt,
+            &filled(rt.alloc(), &WORDS).expect(&rt, "a tree"),
+            &OF_WORDS
+        ),
         None
     );
 }
@@ -257,7 +244,7 @@ fn is_asked_for_nothing(rt: &impl Abort, alloc: Global, tree: &Tree, row: &Row) 
 
 #[test]
 fn answers_about_a_probe_ask_for_nothing(rt: HostRuntime) {
-    let tree = filled(&rt, rt.alloc(), &WORDS);
+    let tree = filled(rt.alloc(), &WORDS).expect(&rt, "a tree");
     for row in &OF_WORDS {
         let well = is_asked_for_nothing(&rt, rt.alloc(), &tree, row);
         assert!(rt; well);

@@ -2,12 +2,13 @@
 
 ghost use Rattle.std.specs.Prelude.{◌≤◌, length};
 
-use crate::prefixes::{Key, Pair, Tree, filled};
 use rart::{KeyTrait, LendingKeyView, TreeError};
+use rart_test_trees::texts::{Key, Pair, Tree, filled};
 use std::alloc::Global;
 use std::cell::Cell;
 use std::cmp::Ordering;
 use std::ops::Bound;
+use std::panic::Expect;
 
 pub const AB_AND_ABCD: [Pair; 2] = [("ab", 1), ("abcd", 2)];
 
@@ -111,7 +112,7 @@ fn walk_sees_all(tree: &Tree, rows: &[Row]) -> Result<bool, TreeError> {
 
 #[test]
 fn views_below_a_prefix(rt: HostRuntime) {
-    let tree = filled(&rt, rt.alloc(), &AB_AND_ABCD);
+    let tree = filled(rt.alloc(), &AB_AND_ABCD).expect(&rt, "a tree");
     let abcd: Row = ("abcd", 2, "ab", "cd");
     let ab: Row = ("ab", 1, "ab", "");
     assert!(rt; walks_see(&tree, b"abc", &[abcd]) == Ok(true));
@@ -123,17 +124,17 @@ fn views_below_a_prefix(rt: HostRuntime) {
 #[test]
 fn views_of_the_empty_key_and_of_no_tree(rt: HostRuntime) {
     let rows: [Row; 3] = [("", 7, "", ""), ("b", 8, "b", ""), ("bcd", 9, "b", "cd")];
-    let tree = filled(&rt, rt.alloc(), &WITH_EMPTY);
+    let tree = filled(rt.alloc(), &WITH_EMPTY).expect(&rt, "a tree");
     assert!(rt; walks_see(&tree, b"", &rows) == Ok(true));
     assert!(rt; walk_sees_all(&tree, &rows) == Ok(true));
-    let empty = filled(&rt, rt.alloc(), &[]);
+    let empty = filled(rt.alloc(), &[]).expect(&rt, "a tree");
     assert!(rt; walk_sees_all(&empty, &[]) == Ok(true));
     assert!(rt; walks_see(&empty, b"a", &[]) == Ok(true));
 }
 
 #[test]
 fn views_between_two_bounds_are_cut_at_the_branch_points(rt: HostRuntime) {
-    let tree = filled(&rt, rt.alloc(), &WITH_EMPTY);
+    let tree = filled(rt.alloc(), &WITH_EMPTY).expect(&rt, "a tree");
     let empty: Row = ("", 7, "", "");
     let b: Row = ("b", 8, "b", "");
     let bcd: Row = ("bcd", 9, "b", "cd");
@@ -191,7 +192,7 @@ fn shows_longest_by_ref(
 
 #[test]
 fn the_longest_match_is_shown_once_by_ref(rt: HostRuntime) {
-    let tree = filled(&rt, rt.alloc(), &AB_AND_ABCD);
+    let tree = filled(rt.alloc(), &AB_AND_ABCD).expect(&rt, "a tree");
     let shown = shows_longest_by_ref(&tree, b"abcx", &("ab", 1, "ab", ""));
     assert!(rt; shown == (Ok(true), Ok(true), 1, 1));
     let shown = shows_longest_by_ref(&tree, b"abcde", &("abcd", 2, "ab", "cd"));
@@ -202,11 +203,11 @@ fn the_longest_match_is_shown_once_by_ref(rt: HostRuntime) {
 
 #[test]
 fn the_longest_match_is_shown_once(rt: HostRuntime) {
-    let tree = filled(&rt, rt.alloc(), &AB_AND_ABCD);
+    let tree = filled(rt.alloc(), &AB_AND_ABCD).expect(&rt, "a tree");
     assert!(rt; shows_longest(&tree, b"abcx", &("ab", 1, "ab", "")) == (Ok(true), 1));
     assert!(rt; shows_longest(&tree, b"abcde", &("abcd", 2, "ab", "cd")) == (Ok(true), 1));
     assert!(rt; shows_longest(&tree, b"x", &("", 0, "", "")) == (Ok(false), 0));
-    let with_empty = filled(&rt, rt.alloc(), &WITH_EMPTY);
+    let with_empty = filled(rt.alloc(), &WITH_EMPTY).expect(&rt, "a tree");
     assert!(rt; shows_longest(&with_empty, b"x", &("", 7, "", "")) == (Ok(true), 1));
 }
 
@@ -228,8 +229,8 @@ fn compare(one: LendingKeyView<'_, '_>, other: LendingKeyView<'_, '_>) -> bool {
 #[test]
 fn views_of_equal_bytes_can_differ(rt: HostRuntime) {
     let (left, right) = (
-        filled(&rt, rt.alloc(), &AB_AND_ABCD),
-        filled(&rt, rt.alloc(), &ABCD_ALONE),
+        filled(rt.alloc(), &AB_AND_ABCD).expect(&rt, "a tree"),
+        filled(rt.alloc(), &ABCD_ALONE).expect(&rt, "a tree"),
     );
     let key = Key::new_from_slice(b"abcd");
     let well = Cell::new(0_usize);
@@ -278,7 +279,7 @@ fn copies(alloc: Global, view: LendingKeyView<'_, '_>) -> Result<bool, TreeError
 #[test]
 fn bytes_of_a_view_are_copied(rt: HostRuntime) {
     let alloc = rt.alloc();
-    let tree = filled(&rt, alloc, &AB_AND_ABCD);
+    let tree = filled(alloc, &AB_AND_ABCD).expect(&rt, "a tree");
     let well = Cell::new(false);
     let shown = tree.with_longest_prefix_match_view_k(
         &Key::new_from_slice(b"ab"),

@@ -4,9 +4,10 @@
 
 ghost use Rattle.std.specs.Prelude.{◌≤◌, length};
 
-use crate::prefixes::{Key, Pair, THREE, Tree, filled};
 use rart::{KeyTrait, VisitControl, VisitError};
+use rart_test_trees::texts::{Key, Pair, THREE, Tree, filled};
 use std::cell::Cell;
+use std::panic::Expect;
 use std::process::Abort;
 
 pub fn with_digit(seen: u64, digit: u64) -> u64 {
@@ -150,7 +151,11 @@ fn first_wrong(rt: &impl Abort, tree: &Tree, rows: &[Row]) -> Option<usize> {
 #[test]
 fn values_below_a_prefix(rt: HostRuntime) {
     assert_eq!(rt;
-        first_wrong(&rt, &filled(&rt, rt.alloc(), &ALP), &OF_ALP),
+        first_wrong(
+            &rt,
+            &filled(rt.alloc(), &ALP).expect(&rt, "a tree"),
+            &OF_ALP
+        ),
         None
     );
 }
@@ -203,7 +208,7 @@ fn matches_are(tree: &Tree, probe: &[u8], wanted: u64) -> bool
 
 #[test]
 fn matches_of_a_probe(rt: HostRuntime) {
-    let tree = filled(&rt, rt.alloc(), &THREE);
+    let tree = filled(rt.alloc(), &THREE).expect(&rt, "a tree");
     for (text, wanted) in OF_THREE {
         let probe = text.as_bytes();
         assert!(rt; probe.len() <= 16);

@@ -10,3 +10,4 @@ mod room;
 mod seen_forms;
 pub mod segments;
 mod sweeps;
+mod values_mut;

@@ -2,11 +2,12 @@
 //! started.
 
 use super::forms::{Calls, PAIRS, WALKS, Walk, make};
-use crate::prefixes::{Key, Tree, filled};
 use rart::{KeyTrait, TreeError, Visits};
 use rart_test_tools::refusals::{refuse, was_refused};
+use rart_test_trees::texts::{Key, Tree, filled};
 use std::alloc::Global;
 use std::ops::Bound;
+use std::panic::Expect;
 
 fn is_quiet_of_nothing(alloc: Global, empty: &Tree, key: Key, form: Walk) -> bool {
     let calls = Calls::none(None);
@@ -17,7 +18,7 @@ fn is_quiet_of_nothing(alloc: Global, empty: &Tree, key: Key, form: Walk) -> boo
 
 #[test]
 fn walks_of_an_empty_tree_ask_for_nothing(rt: HostRuntime) {
-    let empty = filled(&rt, rt.alloc(), &[]);
+    let empty = filled(rt.alloc(), &[]).expect(&rt, "a tree");
     let key = Key::new_from_slice(b"alp");
     let mut row = 0_usize;
     for (form, _wanted) in WALKS {
@@ -36,7 +37,7 @@ fn is_quiet_once_it_calls(alloc: Global, tree: &Tree, key: Key, form: Walk, want
 
 #[test]
 fn walks_that_call_ask_for_nothing(rt: HostRuntime) {
-    let tree = filled(&rt, rt.alloc(), &PAIRS);
+    let tree = filled(rt.alloc(), &PAIRS).expect(&rt, "a tree");
     let key = Key::new_from_slice(b"alp");
     let mut row = 0_usize;
     for (form, wanted) in WALKS {
@@ -62,7 +63,7 @@ fn matches_by_callback(tree: &Tree, key: Key) -> usize {
 
 #[test]
 fn calls_about_a_probe_ask_for_nothing(rt: HostRuntime) {
-    let tree = filled(&rt, rt.alloc(), &PAIRS);
+    let tree = filled(rt.alloc(), &PAIRS).expect(&rt, "a tree");
     refuse(rt.alloc(), 1);
     let called = matches_by_callback(&tree, Key::new_from_slice(b"alpha12"));
     assert!(rt; !was_refused(rt.alloc()));
@@ -101,7 +102,7 @@ fn started(alloc: Global, tree: &Tree, key: Key) -> Result<[usize; 5], TreeError
 
 #[test]
 fn started_walks_ask_for_nothing(rt: HostRuntime) {
-    let tree = filled(&rt, rt.alloc(), &PAIRS);
+    let tree = filled(rt.alloc(), &PAIRS).expect(&rt, "a tree");
     let many = started(rt.alloc(), &tree, Key::new_from_slice(b"alp"));
     let asked = was_refused(rt.alloc());
     assert!(rt; !asked && many == Ok([4, 3, 5, 4, 3]));

@@ -1,10 +1,11 @@
 //! Copies of a view with each request refused: what is copied to is then as it was.
 
-use crate::prefixes::{Key, Pair, filled};
 use rart::{KeyTrait, LendingKeyView, TreeError};
 use rart_test_tools::refusals::{part_ends, refuse, was_refused};
+use rart_test_trees::texts::{Key, Pair, filled};
 use std::alloc::{AllocError, Global};
 use std::cell::Cell;
+use std::panic::Expect;
 
 /// A copy of a view.
 #[derive(Clone, Copy)]
@@ -108,7 +109,7 @@ const PAIRS: [Pair; 2] = [("ab", 1), ("abcd", 2)];
 #[test]
 fn copies_of_a_view_refused_in_turn(rt: HostRuntime) {
     let alloc = rt.alloc();
-    let tree = filled(&rt, alloc, &PAIRS);
+    let tree = filled(alloc, &PAIRS).expect(&rt, "a tree");
     let well = Cell::new(0_usize);
     let shown = tree.with_longest_prefix_match_view_k(
         &Key::new_from_slice(b"abcd"),

@@ -2,12 +2,13 @@
 
 ghost use Rattle.std.specs.Prelude.{◌≤◌, length};
 
-use crate::prefixes::{Key, Pair, THREE, Tree, filled, is_pair};
 use crate::views::{AB_AND_ABCD, Row, next_row};
 use crate::visits::{OF_THREE, with_match};
 use rart::{KeyTrait, LendingKeyView, Seen, TreeError, Visits};
+use rart_test_trees::texts::{Key, Pair, THREE, Tree, filled, is_pair};
 use std::cell::Cell;
 use std::ops::Bound;
+use std::panic::Expect;
 
 fn seen(tree: &Tree) -> Seen<'_, Key, u64, Visits> {
     tree.seen()
@@ -39,7 +40,7 @@ fn longest_is(tree: &Tree, probe: &[u8], wanted: &Pair) -> bool
 
 #[test]
 fn the_longest_match_is_answered_as_by_the_plain_call(rt: HostRuntime) {
-    let tree = filled(&rt, rt.alloc(), &THREE);
+    let tree = filled(rt.alloc(), &THREE).expect(&rt, "a tree");
     assert!(rt; longest_is(&tree, b"abz", &("ab", 2)));
     assert!(rt; longest_is(&tree, b"az", &("a", 1)));
     assert!(rt; longest_is(&tree, b"z", &("", 0)));
@@ -76,7 +77,7 @@ fn matches_are(tree: &Tree, probe: &[u8], wanted: u64) -> bool
 
 #[test]
 fn matches_of_a_probe_are_those_of_the_plain_call(rt: HostRuntime) {
-    let tree = filled(&rt, rt.alloc(), &THREE);
+    let tree = filled(rt.alloc(), &THREE).expect(&rt, "a tree");
     for (text, wanted) in OF_THREE {
         let probe = text.as_bytes();
         assert!(rt; probe.len() <= 16);
@@ -122,7 +123,7 @@ fn within_are(tree: &Tree, start: &[u8], wanted: &[Pair]) -> Result<bool, TreeEr
 
 #[test]
 fn pairs_below_a_prefix_and_within_bounds_are_those_of_the_plain_walks(rt: HostRuntime) {
-    let tree = filled(&rt, rt.alloc(), &THREE);
+    let tree = filled(rt.alloc(), &THREE).expect(&rt, "a tree");
     assert!(rt; below_are(&tree, b"a", &[("a", 1), ("ab", 2)]) == Ok(true));
     assert!(rt; below_are(&tree, b"", &THREE) == Ok(true));
     assert!(rt; below_are(&tree, b"b", &[]) == Ok(true));
@@ -194,7 +195,7 @@ fn views_within_are(tree: &Tree, start: &[u8], rows: &[Row]) -> Result<bool, Tre
 
 #[test]
 fn views_are_those_of_the_plain_walks(rt: HostRuntime) {
-    let tree = filled(&rt, rt.alloc(), &AB_AND_ABCD);
+    let tree = filled(rt.alloc(), &AB_AND_ABCD).expect(&rt, "a tree");
     let abcd: Row = ("abcd", 2, "ab", "cd");
     let ab: Row = ("ab", 1, "ab", "");
     assert!(rt; views_are(&tree, &[ab, abcd]) == Ok(true));
@@ -224,7 +225,7 @@ fn shows_longest(tree: &Tree, probe: &[u8], rows: &[Row]) -> (Result<bool, TreeE
 
 #[test]
 fn the_longest_match_is_shown_once_or_never(rt: HostRuntime) {
-    let tree = filled(&rt, rt.alloc(), &AB_AND_ABCD);
+    let tree = filled(rt.alloc(), &AB_AND_ABCD).expect(&rt, "a tree");
     assert!(rt; shows_longest(&tree, b"abcx", &[("ab", 1, "ab", "")]) == (Ok(true), 1));
     assert!(rt; shows_longest(&tree, b"abcde", &[("abcd", 2, "ab", "cd")]) == (Ok(true), 1));
     assert!(rt; shows_longest(&tree, b"x", &[]) == (Ok(false), 0));

@@ -1,9 +1,9 @@
 //! A walk with a callback in each of its forms: how often it called, and how it ended.
 
 use super::seen_forms;
-use crate::prefixes::{Key, Pair, Tree};
 use rart::{KeyTrait, LendingKeyView, TreeError, VisitControl, VisitError};
 use rart_test_tools::refusals::refuse;
+use rart_test_trees::texts::{Key, Pair, Tree};
 use std::alloc::Global;
 use std::cell::Cell;
 use std::ops::Bound;

@@ -1,13 +1,14 @@
 //! The laws of answers about a probe, of walks below a prefix, and of views, called on trees that aren't empty.
 
-use crate::prefixes::{Key, Pair, Tree, filled, is_pair, key};
 use rart::laws::probes::{
     comparisons_agree, key_of_a_view, longest_is_the_last_match, prefix_iter_filters_iter,
 };
 use rart::{KeyTrait, LendingKeyView};
+use rart_test_trees::texts::{Key, Pair, Tree, filled, is_pair, key};
 use std::alloc::Global;
 use std::cell::Cell;
 use std::cmp::Ordering;
+use std::panic::Expect;
 
 const PAIRS: [Pair; 4] = [("", 0), ("ab", 1), ("abcd", 2), ("b", 3)];
 
@@ -28,7 +29,7 @@ fn walked(tree: &Tree, prefix: &[u8]) -> Option<(u64, u64)> {
 
 #[test]
 fn a_walk_below_a_prefix_is_a_part_of_the_whole_one(rt: HostRuntime) {
-    let tree = filled(&rt, rt.alloc(), &PAIRS);
+    let tree = filled(rt.alloc(), &PAIRS).expect(&rt, "a tree");
     assert!(rt; walked(&tree, b"a") == Some((1_0123, 1_12)));
     assert!(rt; walked(&tree, b"") == Some((1_0123, 1_0123)));
     assert!(rt; walked(&tree, b"c") == Some((1_0123, 1)));
@@ -49,7 +50,7 @@ fn matched(tree: &Tree, probe: &[u8], wanted: &Pair) -> (bool, u64) {
 
 #[test]
 fn the_longest_match_comes_last(rt: HostRuntime) {
-    let tree = filled(&rt, rt.alloc(), &PAIRS);
+    let tree = filled(rt.alloc(), &PAIRS).expect(&rt, "a tree");
     assert!(rt; matched(&tree, b"abcde", &("abcd", 2)) == (true, 1_012));
     assert!(rt; matched(&tree, b"x", &("", 0)) == (true, 1_0));
 }
@@ -72,7 +73,7 @@ fn is_abcd(alloc: Global, view: LendingKeyView<'_, '_>) -> bool {
 #[test]
 fn a_view_compares_as_its_bytes_and_is_the_key_of_them(rt: HostRuntime) {
     let alloc = rt.alloc();
-    let tree = filled(&rt, alloc, &PAIRS);
+    let tree = filled(alloc, &PAIRS).expect(&rt, "a tree");
     let well = Cell::new(false);
     let shown = tree.with_longest_prefix_match_view_k(
         &Key::new_from_slice(b"abcd"),

@@ -1,8 +1,8 @@
 //! Walks over values by the calls of a tree that is seen: how each ended.
 
 use super::forms::{Calls, Ended, ended, is_told};
-use crate::prefixes::{Key, Tree};
 use rart::{LendingKeyView, TreeError, VisitControl, Visits};
+use rart_test_trees::texts::{Key, Tree};
 
 pub fn values(tree: &Tree, key: Key, lent: bool, calls: &Calls) -> Ended {
     let mut callback = |_value: &u64| calls.call();

@@ -1,9 +1,10 @@
 //! Views of three and more segments: a key is cut at each node above its own.
 
-use crate::prefixes::{Pair, Tree, filled, key};
 use rart::{AdaptiveRadixTree, ArrayKey, KeyTrait, LendingKeyView, TreeError, TreeStatsTrait};
+use rart_test_trees::texts::{Pair, Tree, after, filled, key};
 use std::alloc::Global;
 use std::cell::Cell;
+use std::panic::Expect;
 use std::process::Abort;
 
 // "abcd" and "abce" part below "abc", "abcd" stands above "abcdef", and "abcdeg" parts from that below "abcde".
@@ -27,17 +28,6 @@ const CUT: [(u64, &str); 7] = [
     (6, "a|bc|e|"),
     (7, "b|"),
 ];
-
-/// What is left of a text after a segment and a bar.
-pub fn after<'a>(text: &'a [u8], segment: &[u8]) -> Option<&'a [u8]> {
-    if !text.starts_with(segment) {
-        return None;
-    }
-    match text.get(segment.len()..)? {
-        [b'|', rest @ ..] => Some(rest),
-        _ => None,
-    }
-}
 
 fn is_cut(view: LendingKeyView<'_, '_>, text: &[u8]) -> bool {
     let mut rest = text;
@@ -95,7 +85,7 @@ fn longest_is_cut(tree: &Tree, probe: &[u8], row: usize) -> bool {
 
 #[test]
 fn a_key_is_cut_at_each_node_above_its_own(rt: HostRuntime) {
-    let tree = filled(&rt, rt.alloc(), &PAIRS);
+    let tree = filled(rt.alloc(), &PAIRS).expect(&rt, "a tree");
     assert!(rt; are_cut(&tree));
     assert_eq!(rt; cut_below(&tree), 3);
     assert!(rt; longest_is_cut(&tree, b"abcdeghijk", 4));

@@ -1,11 +1,12 @@
 //! Walks and iterators with each of their requests refused: a refused walk has called nothing.
 
 use super::forms::{Calls, PAIRS, WALKS, Walk, make};
-use crate::prefixes::{Key, Tree, filled};
 use rart::{KeyTrait, TreeError};
 use rart_test_tools::refusals::{part_ends, refuse, was_refused};
+use rart_test_trees::texts::{Key, Tree, filled};
 use std::alloc::Global;
 use std::ops::Bound;
+use std::panic::Expect;
 
 // A refused walk says `Memory` and has called nothing; another has called as often as wanted.
 fn is_swept(alloc: Global, tree: &Tree, key: Key, form: Walk, wanted: usize) -> bool {
@@ -26,7 +27,7 @@ fn is_swept(alloc: Global, tree: &Tree, key: Key, form: Walk, wanted: usize) -> 
 
 #[test]
 fn walks_refused_in_turn_call_nothing(rt: HostRuntime) {
-    let tree = filled(&rt, rt.alloc(), &PAIRS);
+    let tree = filled(rt.alloc(), &PAIRS).expect(&rt, "a tree");
     let key = Key::new_from_slice(b"alp");
     let mut row = 0_usize;
     for (form, wanted) in WALKS {
@@ -109,7 +110,7 @@ fn start_is_swept(alloc: Global, tree: &Tree, key: Key, start: Start, wanted: us
 
 #[test]
 fn started_iterators_refused_in_turn(rt: HostRuntime) {
-    let tree = filled(&rt, rt.alloc(), &PAIRS);
+    let tree = filled(rt.alloc(), &PAIRS).expect(&rt, "a tree");
     let key = Key::new_from_slice(b"alp");
     let mut row = 0_usize;
     for (start, wanted) in STARTS {

@@ -1,9 +1,9 @@
 //! Ranges: for each two ends the pairs that are given, by the iterator and by the walks over views; ranges over what an
 //! iterator has left; starts at every byte of each of the four storages; memory refused.
 
-use crate::prefixes::{Key, Pair, Tree, filled, is_pair};
 use rart::{ArrPartial, Iter, KeyTrait, LendingKeyView, Range, TreeError};
 use rart_test_tools::refusals::{part_ends, refuse, was_refused};
+use rart_test_trees::texts::{Key, Pair, Tree, filled, is_pair};
 use std::alloc::Global;
 use std::cell::Cell;
 use std::ops::Bound;
@@ -18,6 +18,7 @@ enum End {
 }
 
 use End::{In, Open, Out};
+use std::panic::Expect;
 
 // Two ends, and the pairs within them, ascending.
 type Row = (End, End, &'static [Pair]);
@@ -200,19 +201,25 @@ const OF_FRUIT: [Row; 2] = [
 #[test]
 fn a_range_gives_the_pairs_within_its_ends(rt: HostRuntime) {
     assert_eq!(rt;
-        first_wrong(&filled(&rt, rt.alloc(), &FOUR), &OF_FOUR),
+        first_wrong(&filled(rt.alloc(), &FOUR).expect(&rt, "a tree"), &OF_FOUR),
         None
     );
     assert_eq!(rt;
-        first_wrong(&filled(&rt, rt.alloc(), &PARTED), &OF_PARTED),
+        first_wrong(
+            &filled(rt.alloc(), &PARTED).expect(&rt, "a tree"),
+            &OF_PARTED
+        ),
         None
     );
     assert_eq!(rt;
-        first_wrong(&filled(&rt, rt.alloc(), &FRUIT), &OF_FRUIT),
+        first_wrong(&filled(rt.alloc(), &FRUIT).expect(&rt, "a tree"), &OF_FRUIT),
         None
     );
     assert_eq!(rt;
-        first_wrong(&filled(&rt, rt.alloc(), &[]), &[(Open, Open, &[])]),
+        first_wrong(
+            &filled(rt.alloc(), &[]).expect(&rt, "a tree"),
+            &[(Open, Open, &[])]
+        ),
         None
     );
 }
@@ -261,7 +268,7 @@ fn goes_on_from_an_iterator(tree: &Tree) -> Result<bool, TreeError> {
 
 #[test]
 fn a_range_over_an_iterator_ends_for_good(rt: HostRuntime) {
-    let tree = filled(&rt, rt.alloc(), &FOUR);
+    let tree = filled(rt.alloc(), &FOUR).expect(&rt, "a tree");
     let well = goes_on_from_an_iterator(&tree) == Ok(true);
     assert!(rt; well);
 }
@@ -356,7 +363,7 @@ fn first_wrong_refused(alloc: Global, tree: &Tree, rows: &[Row], form: Form) -> 
 #[test]
 fn ranges_refused_in_turn_give_nothing(rt: HostRuntime) {
     for form in FORMS {
-        let tree = filled(&rt, rt.alloc(), &PARTED);
+        let tree = filled(rt.alloc(), &PARTED).expect(&rt, "a tree");
         assert_eq!(rt;
             first_wrong_refused(rt.alloc(), &tree, &OF_PARTED, form),
             None
@@ -379,8 +386,8 @@ fn asks_for_nothing(alloc: Global, empty: &Tree, tree: &Tree) -> Result<bool, Tr
 
 #[test]
 fn ranges_ask_for_nothing_where_nothing_is_walked(rt: HostRuntime) {
-    let empty = filled(&rt, rt.alloc(), &[]);
-    let tree = filled(&rt, rt.alloc(), &FOUR);
+    let empty = filled(rt.alloc(), &[]).expect(&rt, "a tree");
+    let tree = filled(rt.alloc(), &FOUR).expect(&rt, "a tree");
     let well = asks_for_nothing(rt.alloc(), &empty, &tree) == Ok(true);
     assert!(rt; well);
 }

@@ -1,8 +1,9 @@
 //! The counted calls of intersections: each answers as the plain one does.
 
 use crate::joins::rows::{Given, ROWS, Triple};
-use crate::prefixes::{Key, Tree, filled};
 use rart::{KeyTrait, LendingKeyView, Seen, Visits};
+use rart_test_trees::texts::{Key, Tree, filled};
+use std::panic::Expect;
 
 fn seen(tree: &Tree) -> Seen<'_, Key, u64, Visits> {
     tree.seen()
@@ -62,8 +63,8 @@ fn views(left: &Tree, right: &Tree, wanted: &[Triple]) -> bool {
 fn keys_of_both_trees_are_those_of_the_plain_calls(rt: HostRuntime) {
     let mut at = 0_usize;
     for row in &ROWS {
-        let left = filled(&rt, rt.alloc(), row.0);
-        let right = filled(&rt, rt.alloc(), row.1);
+        let left = filled(rt.alloc(), row.0).expect(&rt, "a tree");
+        let right = filled(rt.alloc(), row.1).expect(&rt, "a tree");
         let well = counts_and_values(&left, &right, row.2)
             && keys(&left, &right, row.2)
             && views(&left, &right, row.2);

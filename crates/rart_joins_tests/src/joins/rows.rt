@@ -1,9 +1,10 @@
 //! Intersections: the keys of two trees, with the values of both.
 
-use crate::prefixes::{Key, Pair, Tree, filled};
 use rart::{KeyTrait, LendingKeyView, TreeError};
 use rart_test_tools::refusals::{part_ends, refuse, was_refused};
+use rart_test_trees::texts::{Key, Pair, Tree, filled};
 use std::alloc::Global;
+use std::panic::Expect;
 use std::process::Abort;
 
 // A key of both trees, with the value of the one and of the other.
@@ -151,8 +152,8 @@ pub fn is_met(left: &Tree, right: &Tree, wanted: &[Triple]) -> bool {
 fn first_wrong(rt: &impl Abort, alloc: Global, rows: &[Row]) -> Option<usize> {
     let mut at = 0_usize;
     for row in rows {
-        let left = filled(rt, alloc, row.0);
-        let right = filled(rt, alloc, row.1);
+        let left = filled(alloc, row.0).expect(rt, "a tree");
+        let right = filled(alloc, row.1).expect(rt, "a tree");
         if !is_met(&left, &right, row.2) {
             return Some(at);
         }
@@ -218,8 +219,8 @@ fn is_asked_for_nothing(alloc: Global, left: &Tree, right: &Tree, wanted: &[Trip
 #[test]
 fn counts_and_values_ask_for_nothing(rt: HostRuntime) {
     for row in &ROWS {
-        let left = filled(&rt, rt.alloc(), row.0);
-        let right = filled(&rt, rt.alloc(), row.1);
+        let left = filled(rt.alloc(), row.0).expect(&rt, "a tree");
+        let right = filled(rt.alloc(), row.1).expect(&rt, "a tree");
         let well = is_asked_for_nothing(rt.alloc(), &left, &right, row.2);
         assert!(rt; well);
     }
@@ -280,8 +281,8 @@ fn is_swept(alloc: Global, left: &Tree, right: &Tree, wanted: &[Triple], form: F
 #[test]
 fn keys_and_views_are_refused_in_turn(rt: HostRuntime) {
     for row in &ROWS {
-        let left = filled(&rt, rt.alloc(), row.0);
-        let right = filled(&rt, rt.alloc(), row.1);
+        let left = filled(rt.alloc(), row.0).expect(&rt, "a tree");
+        let right = filled(rt.alloc(), row.1).expect(&rt, "a tree");
         for form in [Form::Keys, Form::KeysByRef, Form::Views, Form::ViewsByRef] {
             let swept = is_swept(rt.alloc(), &left, &right, row.2, form);
             assert!(rt; swept);

@@ -2,10 +2,10 @@
 //! which a longer prefix continues.
 
 use crate::joins::rows::{OTHER_WORDS, WORDS};
-use crate::prefixes::{Key, Pair, Tree, filled};
-use crate::walks::segments::after;
 use rart::{LendingKeyView, Seen, TreeError, TreeStatsTrait, Visits};
+use rart_test_trees::texts::{Key, Pair, Tree, after, filled};
 use std::cell::Cell;
+use std::panic::Expect;
 
 // The pairs of two trees; and the keys that both have, each with a bar after each of its segments and a semicolon at
 // its end.
@@ -129,8 +129,8 @@ fn is_cut(left: &Tree, right: &Tree, text: &[u8]) -> bool {
 fn a_view_is_cut_after_each_shared_stretch_and_each_edge_byte(rt: HostRuntime) {
     let mut at = 0_usize;
     for row in &ROWS {
-        let left = filled(&rt, rt.alloc(), row.0);
-        let right = filled(&rt, rt.alloc(), row.1);
+        let left = filled(rt.alloc(), row.0).expect(&rt, "a tree");
+        let right = filled(rt.alloc(), row.1).expect(&rt, "a tree");
         let text = row.2.as_bytes();
         let well = is_cut(&left, &right, text) && is_cut(&right, &left, text);
         assert!(rt; well, "row {at}");
@@ -147,7 +147,7 @@ fn count_nodes(tree: &Tree) -> Option<usize> {
 
 #[test]
 fn both_trees_of_words_have_four_nodes(rt: HostRuntime) {
-    let words = filled(&rt, rt.alloc(), &WORDS);
-    let others = filled(&rt, rt.alloc(), &OTHER_WORDS);
+    let words = filled(rt.alloc(), &WORDS).expect(&rt, "a tree");
+    let others = filled(rt.alloc(), &OTHER_WORDS).expect(&rt, "a tree");
     assert!(rt; count_nodes(&words) == Some(4) && count_nodes(&others) == Some(4));
 }

@@ -1,12 +1,13 @@
 //! The law of intersections, called on each row; and intersections with an empty tree.
 
 use crate::joins::rows::{Given, ROWS, Triple};
-use crate::prefixes::{Key, Pair, Tree, filled};
 use rart::laws::intersections::intersections_are_symmetric;
 use rart::{KeyTrait, LendingKeyView, TreeError};
 use rart_test_tools::refusals::{is_swept, refuse, was_refused};
+use rart_test_trees::texts::{Key, Pair, Tree, filled};
 use std::alloc::Global;
 use std::cell::Cell;
+use std::panic::Expect;
 
 // Whether the law's call gives what both trees have, and with swapped values once more.
 fn gives_both_ways(left: &Tree, right: &Tree, wanted: &[Triple]) -> bool {
@@ -22,8 +23,8 @@ fn gives_both_ways(left: &Tree, right: &Tree, wanted: &[Triple]) -> bool {
 fn swapped_trees_give_swapped_values(rt: HostRuntime) {
     let mut at = 0_usize;
     for row in &ROWS {
-        let left = filled(&rt, rt.alloc(), row.0);
-        let right = filled(&rt, rt.alloc(), row.1);
+        let left = filled(rt.alloc(), row.0).expect(&rt, "a tree");
+        let right = filled(rt.alloc(), row.1).expect(&rt, "a tree");
         let well = gives_both_ways(&left, &right, row.2);
         assert!(rt; well, "row {at}");
         at = at.wrapping_add(1);
@@ -69,8 +70,8 @@ fn law_is_swept(alloc: Global, left: &Tree, right: &Tree, wanted: &[Triple]) -> 
 fn swapped_trees_refused_in_turn(rt: HostRuntime) {
     let mut at = 0_usize;
     for row in &ROWS {
-        let left = filled(&rt, rt.alloc(), row.0);
-        let right = filled(&rt, rt.alloc(), row.1);
+        let left = filled(rt.alloc(), row.0).expect(&rt, "a tree");
+        let right = filled(rt.alloc(), row.1).expect(&rt, "a tree");
         let well = law_is_swept(rt.alloc(), &left, &right, row.2);
         assert!(rt; well, "row {at}");
         at = at.wrapping_add(1);
@@ -97,8 +98,8 @@ fn is_quiet(alloc: Global, one: &Tree, other: &Tree) -> bool {
 
 #[test]
 fn intersections_with_an_empty_tree_ask_for_nothing(rt: HostRuntime) {
-    let empty = filled(&rt, rt.alloc(), &[]);
-    let words = filled(&rt, rt.alloc(), &ENDED);
+    let empty = filled(rt.alloc(), &[]).expect(&rt, "a tree");
+    let words = filled(rt.alloc(), &ENDED).expect(&rt, "a tree");
     assert!(rt; is_quiet(rt.alloc(), &empty, &words));
     assert!(rt; is_quiet(rt.alloc(), &words, &empty));
     assert!(rt; is_quiet(rt.alloc(), &empty, &empty));

@@ -1,8 +1,9 @@
 //! The pairs with the least and with the greatest key.
 
-use crate::prefixes::{Key, Pair, Tree, filled, is_pair};
 use rart::{AdaptiveRadixTree, ArrayKey, KeyTrait, RouteTable};
+use rart_test_trees::texts::{Key, Pair, Tree, filled, is_pair};
 use std::alloc::Global;
+use std::panic::Expect;
 use std::process::Abort;
 
 // Pairs in the order of their insertion; the first and the last by key.
@@ -44,7 +45,7 @@ fn has_ends(tree: &Tree, row: &Row) -> bool {
 #[test]
 fn the_first_and_the_last_pair(rt: HostRuntime) {
     for row in ROWS {
-        assert!(rt; has_ends(&filled(&rt, rt.alloc(), row.0), &row));
+        assert!(rt; has_ends(&filled(rt.alloc(), row.0).expect(&rt, "a tree"), &row));
     }
 }
 
@@ -133,9 +134,9 @@ const ORDERS: [(&[Pair], u64, u64); 4] = [
 #[test]
 fn pairs_are_taken_from_both_ends(rt: HostRuntime) {
     for (pairs, up, down) in ORDERS {
-        let mut tree = filled(&rt, rt.alloc(), pairs);
+        let mut tree = filled(rt.alloc(), pairs).expect(&rt, "a tree");
         assert_eq!(rt; taken(&mut tree, false), Some(up));
-        let mut tree = filled(&rt, rt.alloc(), pairs);
+        let mut tree = filled(rt.alloc(), pairs).expect(&rt, "a tree");
         assert_eq!(rt; taken(&mut tree, true), Some(down));
     }
 }

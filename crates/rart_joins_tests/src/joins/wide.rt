@@ -1,10 +1,11 @@
 //! Intersections of nodes of every two widths, key by key, and of trees whose values have two types.
 
 use crate::joins::rows::{Triple, is_met};
-use crate::prefixes::{Key, Pair, Tree, filled};
 use rart::{AdaptiveRadixTree, KeyTrait, TreeError};
+use rart_test_trees::texts::{Key, Pair, Tree, filled};
 use std::alloc::Global;
 use std::cell::Cell;
+use std::panic::Expect;
 use std::process::Abort;
 
 // A node with a child at each byte that the number divides, with itself as the value.
@@ -26,7 +27,7 @@ const OF_FIVE: [Triple; 4] = [("\0", 0, 1), ("2", 50, 2), ("d", 100, 4), ("}", 1
 #[test]
 fn a_full_node_beside_five_keys(rt: HostRuntime) {
     let all = multiples(&rt, rt.alloc(), 1);
-    let five = filled(&rt, rt.alloc(), &FIVE);
+    let five = filled(rt.alloc(), &FIVE).expect(&rt, "a tree");
     assert!(rt; is_met(&all, &five, &OF_FIVE));
 }
 
@@ -150,7 +151,7 @@ fn meets_names(numbers: &Tree, names: &Names) -> bool {
 
 #[test]
 fn trees_of_two_value_types(rt: HostRuntime) {
-    let numbers = filled(&rt, rt.alloc(), &[("a", 1), ("b", 2), ("bc", 3)]);
+    let numbers = filled(rt.alloc(), &[("a", 1), ("b", 2), ("bc", 3)]).expect(&rt, "a tree");
     let named = names(
         &rt,
         rt.alloc(),

@@ -1,8 +1,9 @@
 //! Equality of two trees: that of their pairs, however the trees were made.
 
-use crate::prefixes::{Key, Pair, Tree, filled, key};
 use rart::{AdaptiveRadixTree, ArrayKey, KeyTrait, RouteTable};
+use rart_test_trees::texts::{Key, Pair, Tree, filled, key};
 use std::alloc::Global;
+use std::panic::Expect;
 use std::process::Abort;
 
 // Pairs in the order of their insertion, and the keys that are removed afterwards.
@@ -71,7 +72,7 @@ const ROWS: [Row; 18] = [
 ];
 
 fn made(rt: &impl Abort, alloc: Global, side: &Side) -> Tree {
-    let mut tree = filled(rt, alloc, side.0);
+    let mut tree = filled(alloc, side.0).expect(rt, "a tree");
     for text in side.1 {
         assert!(rt; matches!(tree.remove(key(text.as_bytes())), Ok(Some(_))));
     }

@@ -1,0 +1,13 @@
+//! Tests of what hands out pairs one by one: iterators, ranges, the first and last pair, and the route table.
+//!
+//! Nothing depends on this crate, and it is no part of the product.
+#![tactic(auto)]
+
+#[cfg(test)]
+mod ends;
+#[cfg(test)]
+mod iterators;
+#[cfg(test)]
+mod ranges;
+#[cfg(test)]
+mod routes;

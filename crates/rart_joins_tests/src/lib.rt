@@ -1,0 +1,9 @@
+//! Tests of what reads two trees: intersections, and `==`.
+//!
+//! Nothing depends on this crate, and it is no part of the product.
+#![tactic(auto)]
+
+#[cfg(test)]
+mod equal;
+#[cfg(test)]
+mod joins;

@@ -1,0 +1,92 @@
+//! Walks that change values in place: which values, and in which order.
+
+use rart_test_tools::refusals::{refuse, was_refused};
+use rart_test_trees::texts::{Key, Pair, Tree, filled, key};
+use std::cell::Cell;
+use std::panic::Expect;
+
+const PAIRS: [Pair; 5] = [("", 0), ("a", 1), ("ab", 2), ("abcd", 3), ("b", 4)];
+
+// A form of the walk below a prefix.
+#[derive(Clone, Copy)]
+enum Form {
+    Lent,
+    Reference,
+    Value,
+}
+
+// A prefix, and the values afterwards in the order of their keys: each below the prefix is 100 times the number of its
+// call more than it was.
+type Row = (&'static str, [u64; 5]);
+
+const ROWS: [Row; 8] = [
+    ("", [100, 201, 302, 403, 504]),
+    ("a", [0, 101, 202, 303, 4]),
+    ("ab", [0, 1, 102, 203, 4]),
+    ("abc", [0, 1, 2, 103, 4]),
+    ("abcd", [0, 1, 2, 103, 4]),
+    ("abce", [0, 1, 2, 3, 4]),
+    ("abcde", [0, 1, 2, 3, 4]),
+    ("b", [0, 1, 2, 3, 104]),
+];
+
+fn number_below(tree: &mut Tree, form: Form, prefix: Key) {
+    let calls = Cell::new(0_u64);
+    let mut number = |value: &mut u64| {
+        calls.set(calls.get().wrapping_add(100));
+        *value = value.wrapping_add(calls.get());
+    };
+    match form {
+        Form::Lent => tree.prefix_for_each_value_mut_by_ref_k(&prefix, &mut number),
+        Form::Reference => tree.prefix_for_each_value_mut_k(&prefix, number),
+        Form::Value => tree.prefix_for_each_value_mut(prefix, number),
+    }
+}
+
+fn has_values(tree: &Tree, wanted: &[u64]) -> bool {
+    let Ok(mut found) = tree.values_iter() else {
+        return false;
+    };
+    for value in wanted {
+        if found.next() != Some(value) {
+            return false;
+        }
+    }
+    found.next().is_none()
+}
+
+#[test]
+fn values_below_a_prefix_are_changed_in_order(rt: HostRuntime) {
+    for (text, wanted) in ROWS {
+        for form in [Form::Lent, Form::Reference, Form::Value] {
+            let mut tree = filled(rt.alloc(), &PAIRS).expect(&rt, "a tree");
+            number_below(&mut tree, form, key(text.as_bytes()));
+            assert!(rt; has_values(&tree, &wanted));
+        }
+    }
+}
+
+#[test]
+fn all_values_are_changed_in_order(rt: HostRuntime) {
+    let mut tree = filled(rt.alloc(), &PAIRS).expect(&rt, "a tree");
+    let calls = Cell::new(0_u64);
+    let mut number = |value: &mut u64| {
+        calls.set(calls.get().wrapping_add(100));
+        *value = value.wrapping_add(calls.get());
+    };
+    tree.for_each_value_mut_by_ref(&mut number);
+    assert!(rt; has_values(&tree, &[100, 201, 302, 403, 504]));
+    tree.for_each_value_mut(number);
+    assert!(rt; has_values(&tree, &[700, 901, 1102, 1303, 1504]));
+}
+
+#[test]
+fn changes_of_values_ask_for_nothing(rt: HostRuntime) {
+    let mut tree = filled(rt.alloc(), &PAIRS).expect(&rt, "a tree");
+    let mut empty = Tree::new(rt.alloc());
+    refuse(rt.alloc(), 1);
+    number_below(&mut tree, Form::Lent, key(b"ab"));
+    number_below(&mut empty, Form::Lent, key(b"ab"));
+    assert!(rt; !was_refused(rt.alloc()));
+    assert!(rt; has_values(&tree, &[0, 1, 102, 203, 4]) && empty.is_empty());
+}
