@@ -31,6 +31,7 @@ CALLS = [
     ("update", 3072),
     ("try_update", 3072),
     ("get_mut", 1024),
+    ("values_mut", 1024),
     ("routes", 1024),
     ("clear", 0),
     ("bulk_load_sorted", 1024),

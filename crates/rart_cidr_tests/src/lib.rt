@@ -10,6 +10,8 @@ mod calls6;
 #[cfg(test)]
 mod model;
 #[cfg(test)]
+mod quiet;
+#[cfg(test)]
 mod random;
 #[cfg(test)]
 mod refused;

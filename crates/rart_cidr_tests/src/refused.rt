@@ -1,4 +1,4 @@
-//! Edits and walks of a table of networks with each request for memory refused in turn, and calls that request none.
+//! Edits and walks of a table of networks with each request for memory refused in turn.
 
 use rart::TreeError;
 use rart_cidr::{Cidr4, CidrTable4};
@@ -136,31 +136,4 @@ fn edits_of_networks_refused_in_turn_change_nothing(rt: HostRuntime) {
 fn a_walk_of_networks_refused_in_turn_gives_none(rt: HostRuntime) {
     let alloc = rt.alloc();
     assert!(rt; is_swept(alloc, |at| walk_refused(alloc, at)));
-}
-
-fn is_quiet(alloc: Global, table: &Table) -> bool {
-    refuse(alloc, 1);
-    let addr = Ipv4Addr::new(10, 1, 200, 1);
-    let longest = table.longest_match(addr).map(|route| *route.1);
-    let by_lengths = table
-        .longest_by_lengths(&Cidr4::host(addr))
-        .map(|route| *route.1);
-    let mut covering = 0_usize;
-    for _ in table.matches(addr) {
-        covering = covering.wrapping_add(1);
-    }
-    let stored = table.get(&net([10, 1, 2, 3], 32)).copied();
-    !was_refused(alloc)
-        && longest == Some(9)
-        && by_lengths == Some(9)
-        && covering == 6
-        && stored == Some(10)
-        && !table.is_empty()
-}
-
-#[test]
-fn look_ups_of_networks_ask_for_nothing(rt: HostRuntime) {
-    let mut table = Table::new(rt.alloc());
-    let (inserted, quiet) = (insert_all(&mut table), is_quiet(rt.alloc(), &table));
-    assert!(rt; inserted == Some(NETWORKS.len()) && quiet);
 }

@@ -156,6 +156,17 @@ pub fn get_mut(alloc: Global) -> Option<usize> {
     Some(stored)
 }
 
+/// Writes to each value by one walk, and returns how many there are.
+pub fn values_mut(alloc: Global) -> Option<usize> {
+    let mut tree = nested(alloc)?;
+    let mut walked: usize = 0;
+    tree.for_each_value_mut(|value| {
+        *value = 5;
+        walked = walked.saturating_add(1);
+    });
+    Some(walked)
+}
+
 /// Adds, replaces and withdraws routes, and returns how many there were.
 pub fn routes(alloc: Global) -> Option<usize> {
     let mut routes: RouteTable<Key, u64> = RouteTable::new(alloc);
