@@ -119,12 +119,12 @@ def is_drained(pipe, child, deadline):
     return False
 
 
-def short_reads(program):
-    """The script in pieces of three bytes, each written after the one before it was read."""
+def in_pieces(program, script, size):
+    """The status, what was printed and what was said, on the script in pieces, each written after the last was read."""
     read, write = os.pipe()
     child = subprocess.Popen([program], stdin=read, stdout=subprocess.PIPE, stderr=subprocess.PIPE, env={})
     deadline = time.monotonic() + SECONDS
-    pieces = [TEN_LINES[at:at + 3] for at in range(0, len(TEN_LINES), 3)]
+    pieces = [script[at:at + size] for at in range(0, len(script), size)]
     was_read = all(os.write(write, piece) and is_drained(read, child, deadline) for piece in pieces)
     os.close(read)
     os.close(write)
@@ -132,9 +132,13 @@ def short_reads(program):
         printed, said = child.communicate(timeout=SECONDS)
     finally:
         child.kill()
-    if not was_read:
-        return "it stops reading"
-    return "" if (child.returncode, printed, said) == (0, TEN_ANSWERS, b"") else "short reads change the answers"
+    return (child.returncode, printed, said) if was_read else (None, b"", b"it stops reading")
+
+
+def short_reads(program):
+    """The script in pieces of three bytes."""
+    found = in_pieces(program, TEN_LINES, 3)
+    return "" if found == (0, TEN_ANSWERS, b"") else f"short reads change the answers: {found}"
 
 
 def failed_read(program):

@@ -119,6 +119,3 @@ fn execute<W: Write>(tables: &mut Tables, command: Command, output: &mut W) -> i
         Command::Len => writeln!(output, "{}", tables.len()),
     }
 }
-
-#[cfg(test)]
-mod tests;

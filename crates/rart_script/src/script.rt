@@ -105,6 +105,3 @@ fn execute<W: Write>(
         Command::Call(call) => write_reply(output, step(alloc, tree, call)),
     }
 }
-
-#[cfg(test)]
-mod tests;

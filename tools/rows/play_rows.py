@@ -1,0 +1,178 @@
+#!/usr/bin/env python3
+"""Plays whole scripts on the two programs, as each compiler builds them.
+
+usage: play_rows.py [PASSED FAILED]
+
+After the gate, crates/NAME/out/NAME is the program NAME as LLVM builds it, and NAME.by-rattle as Rattle's own compiler
+does. Each plays every row of the tables in script_rows or routes_rows: the status, standard output and standard error
+must be exactly those of the row. Then come runs whose input is slow or fails, whose output or errors take so many bytes
+and then fail, or whose output and errors are one pipe. Linux is needed: the failures are its own.
+
+PASSED and FAILED are the counts of the step before. The last line adds to them one for each table and each run of a
+build; a row that fails is named.
+"""
+import os
+import pathlib
+import resource
+import socket
+import subprocess
+import sys
+import tempfile
+from functools import partial
+
+sys.dont_write_bytecode = True
+
+TOP = pathlib.Path(__file__).resolve().parents[2]
+sys.path.append(str(TOP / "tools" / "refuse"))
+
+import routes_rows  # noqa: E402
+import script_rows  # noqa: E402
+from refused_program import in_pieces  # noqa: E402
+from refused_tests import build  # noqa: E402
+
+PROGRAMS = (("rart_script", script_rows), ("rart_routes", routes_rows))
+
+# What each compiler adds to the name of what it builds.
+BUILDS = (("LLVM", ""), ("Rattle", ".by-rattle"))
+
+# Far more seconds than any run takes, on a busy machine too.
+SECONDS = 60
+
+
+def run(program, script, **how):
+    """The status, what was printed and what was said."""
+    how = {"stdout": subprocess.PIPE, "stderr": subprocess.PIPE, "env": {}, **how}
+    if "stdin" not in how:
+        how["input"] = script
+    ended = subprocess.run([program], timeout=SECONDS, **how)
+    return ended.returncode, ended.stdout, ended.stderr
+
+
+def run_broken(program, script):
+    """A run whose reads give the script, and then fail."""
+    ours, theirs = socket.socketpair()
+    with ours, theirs:
+        # A socket closed with bytes that nobody read resets the other one, once that one has read its own.
+        theirs.sendall(b"unread")
+        ours.sendall(script)
+        ours.close()
+        return run(program, script, stdin=theirs)
+
+
+def run_limited(program, script, stream, room, **how):
+    """A run whose `stream` takes `room` bytes, and then fails."""
+
+    def limit():
+        resource.setrlimit(resource.RLIMIT_FSIZE, (room, room))
+
+    with tempfile.TemporaryFile() as file:
+        # The signal SIGXFSZ stays ignored, as it is in Python, so a write past the limit fails.
+        how |= {stream: file, "preexec_fn": limit, "restore_signals": False}
+        status, printed, said = run(program, script, **how)
+        file.seek(0)
+        taken = file.read()
+    return (status, taken, said) if stream == "stdout" else (status, printed, taken)
+
+
+def run_unbuffered(program, script, stream, room, library):
+    """The same, with the first request for memory refused: it is that for the buffer of standard output."""
+    env = {"LD_PRELOAD": str(library), "REFUSE": "1", "REFUSE_REPORT": "/dev/stderr"}
+    status, taken, said = run_limited(program, script, stream, room, env=env)
+    said, _, report = said.partition(b"requests=")
+    return status, taken, said if b" refused=1 " in report else b"no request was refused"
+
+
+def run_in_one(program, script):
+    """A run whose output and errors are one pipe."""
+    return run(program, script, stderr=subprocess.STDOUT)
+
+
+def row_of(status, printed, said):
+    """The three, as a failure shows them."""
+    return f"status {status}, {printed!r}, {said!r}"
+
+
+def why_not(play, program, script, wanted):
+    """Why the run of the script by `play` failed, or nothing."""
+    try:
+        found = play(program, script)
+    except subprocess.TimeoutExpired as late:
+        return f"it had not ended after {late.timeout:.0f} seconds"
+    return "" if found == wanted else f"{row_of(*found)}, and not {row_of(*wanted)}"
+
+
+def in_order(row):
+    """The script of a row, and then its status, output and message, as runs return them."""
+    script, printed, said, status = row
+    return script, (status, printed, said)
+
+
+def runs(name, rows, library):
+    """Each run whose streams are not plain: its name, how it is made, its script and what it must give."""
+    cannot_read, cannot_write = f"{name}: cannot read\n".encode(), f"{name}: cannot write\n".encode()
+    narrow = {"stream": "stdout", "room": 2}
+    shared, (status, printed, said) = in_order(rows.SHARED)
+    return (
+        ("answers stand before the message", run_in_one, shared, (status, printed + said, None)),
+        ("short reads change nothing", partial(in_pieces, size=1), *in_order(rows.SLOW)),
+        ("a failed read runs nothing", run_broken, b"len\nfoo\n", (1, b"", cannot_read)),
+        # The second answer finds no room; the line after it is malformed and never read.
+        (
+            "a failed write ends the run",
+            partial(run_unbuffered, library=library, **narrow),
+            b"len\nlen\nfoo\n",
+            (1, b"0\n", cannot_write),
+        ),
+        # Answers that are still buffered before a malformed line.
+        (
+            "a failed write of the buffer ends the run",
+            partial(run_limited, **narrow),
+            b"len\nlen\nfoo\n",
+            (1, b"0\n", cannot_write),
+        ),
+        (
+            "a message that is not written is a failed write",
+            partial(run_limited, stream="stderr", room=3),
+            b"len\nfoo\n",
+            (1, b"0\n", b"lin"),
+        ),
+    )
+
+
+def outcomes(name, rows, program, library):
+    """Each table and each run: its name, how many rows it has, and why rows failed."""
+    for table, of_table in rows.TABLES.items():
+        failed = []
+        for at, row in enumerate(of_table):
+            script, wanted = in_order(row)
+            why = why_not(run, program, script, wanted)
+            if why:
+                failed.append(f"row {at}, {script!r}: {why}")
+        yield f"{table}, {len(of_table)} rows", failed
+    for run_name, play, script, wanted in runs(name, rows, library):
+        why = why_not(play, program, script, wanted)
+        yield run_name, [why] if why else []
+
+
+def main():
+    passed, failed = (int(sys.argv[1]), int(sys.argv[2])) if len(sys.argv) == 3 else (0, 0)
+    with tempfile.TemporaryDirectory() as folder:
+        library = build(folder)
+        for name, rows in PROGRAMS:
+            for compiler, end in BUILDS:
+                program = TOP / "crates" / name / "out" / f"{name}{end}"
+                if not os.access(program, os.X_OK):
+                    print(f"rows: {name} by {compiler}: FAILED: it isn't built")
+                    failed += 1
+                    continue
+                for what, why in outcomes(name, rows, program, library):
+                    print(f"rows: {name} by {compiler}: {what}: {'FAILED' if why else 'ok'}")
+                    print(*(f"  {it}" for it in why), sep="\n", end="\n" if why else "")
+                    passed += not why
+                    failed += bool(why)
+    print(f"{passed} passed, {failed} failed")
+    return 1 if failed else 0
+
+
+if __name__ == "__main__":
+    sys.exit(main())
