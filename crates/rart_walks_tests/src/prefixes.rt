@@ -1,14 +1,11 @@
 //! Answers about a probe and walks below a prefix: for each probe the longest key that begins it, all keys that do, and
 //! the keys that it begins.
 
-ghost use Rattle.std.specs.Prelude.{◌≤◌, length};
-
-use rart::{ArrPartial, Iter, KeyTrait, PrefixMatchIter, TreeError};
+use rart::{ArrPartial, Iter, KeyTrait, PrefixMatchIter};
 use rart_test_tools::refusals::{refuse, was_refused};
-use rart_test_trees::texts::{Key, Pair, THREE, Tree, filled, is_pair, key};
+use rart_test_trees::texts::{Key, Pair, THREE, Tree, filled, is_pair};
 use std::alloc::Global;
 use std::panic::Expect;
-use std::process::Abort;
 
 // A probe; the pairs whose key begins it, the shortest first; the pairs whose key it begins, ascending.
 type Row = (&'static str, &'static [Pair], &'static [Pair]);
@@ -66,22 +63,32 @@ fn are_all_matches(tree: &Tree, key: Key, wanted: &[Pair]) -> bool {
         && are_matches(tree.prefix_match_iter(key), wanted)
 }
 
-// Whether the row's answers are the tree's; the walk below is refused where memory is.
-fn is_row(tree: &Tree, probe: &[u8], row: &Row) -> Result<bool, TreeError>
-    requires { length probe.now ≤ 16 }
-{
+fn are_all_below(tree: &Tree, key: Key, wanted: &[Pair]) -> bool {
+    match (tree.prefix_iter_k(&key), tree.prefix_iter(key)) {
+        (Ok(by_reference), Ok(by_value)) => {
+            are_below(by_reference, wanted) && are_below(by_value, wanted)
+        }
+        _ => false,
+    }
+}
+
+// Whether the row's answers are the tree's.
+fn is_row(tree: &Tree, row: &Row) -> bool {
+    let probe = row.0.as_bytes();
+    if probe.len() > 16 {
+        return false;
+    }
     let key = Key::new_from_slice(probe);
-    let below = are_below(tree.prefix_iter_k(&key)?, row.2);
-    Ok(below && is_longest(tree, key, probe, row.1) && are_all_matches(tree, key, row.1))
+    are_all_below(tree, key, row.2)
+        && is_longest(tree, key, probe, row.1)
+        && are_all_matches(tree, key, row.1)
 }
 
 // The first row that goes another way, if one does.
-fn first_wrong(rt: &impl Abort, tree: &Tree, rows: &[Row]) -> Option<usize> {
+fn first_wrong(tree: &Tree, rows: &[Row]) -> Option<usize> {
     let mut row = 0_usize;
     for one in rows {
-        let probe = one.0.as_bytes();
-        assert!(rt; probe.len() <= 16);
-        if is_row(tree, probe, one) != Ok(true) {
+        if !is_row(tree, one) {
             return Some(row);
         }
         row = row.wrapping_add(1);
@@ -89,8 +96,9 @@ fn first_wrong(rt: &impl Abort, tree: &Tree, rows: &[Row]) -> Option<usize> {
     None
 }
 
-const OF_THREE: [Row; 4] = [
+const OF_THREE: [Row; 5] = [
     ("", &[("", 0)], &THREE),
+    ("az", &[("", 0), ("a", 1)], &[]),
     ("b", &[("", 0)], &[]),
     ("abz", &THREE, &[]),
     ("a", &[("", 0), ("a", 1)], &[("a", 1), ("ab", 2)]),
@@ -186,7 +194,10 @@ const OF_BYTES: [Pair; 3] = [("\x01\x02a", 1), ("\x01\x02b", 2), ("\x01\x03c", 3
 
 const OF_FIRST_BYTES: [Row; 1] = [("\x01\x02", &[], &[("\x01\x02a", 1), ("\x01\x02b", 2)])];
 
-const GROUPS: [(&[Pair], &[Row]); 5] = [
+const GROUPS: [(&[Pair], &[Row]); 8] = [
+    (&THREE, &OF_THREE),
+    (&ANIMALS, &OF_ANIMALS),
+    (&WORDS, &OF_WORDS),
     (&ALPS, &OF_ALPS),
     (&TWO, &OF_TWO),
     (&PETS, &OF_PETS),
@@ -195,47 +206,19 @@ const GROUPS: [(&[Pair], &[Row]); 5] = [
 ];
 
 #[test]
-fn groups_of_keys_that_share_beginnings(rt: HostRuntime) {
+fn keys_that_begin_a_probe_and_keys_that_it_begins(rt: HostRuntime) {
     for (pairs, rows) in &GROUPS {
-        assert_eq!(rt;
-            first_wrong(&rt, &filled(rt.alloc(), pairs).expect(&rt, "a tree"), rows),
-            None
-        );
+        let tree = filled(rt.alloc(), pairs).expect(&rt, "a tree");
+        assert_eq!(rt; first_wrong(&tree, rows), None);
     }
 }
 
-#[test]
-fn keys_that_begin_a_probe_and_keys_that_it_begins(rt: HostRuntime) {
-    assert_eq!(rt;
-        first_wrong(
-            &rt,
-            &filled(rt.alloc(), &THREE).expect(&rt, "a tree"),
-            &OF_THREE
-        ),
-        None
-    );
-    assert_eq!(rt;
-        first_wrong(
-            &rt,
-            &filled(rt.alloc(), &ANIMALS).expect(&rt, "a tree"),
-            &OF_ANIMALS
-        ),
-        None
-    );
-    assert_eq!(rt;
-        first_wrong(
-            &rt,
-            &filled(rt.alloc(), &WORDS).expect(&rt, "a tree"),
-            &OF_WORDS
-        ),
-        None
-    );
-}
-
 // Whether the row's answers about a probe are the tree's, while the next request for memory is refused.
-fn is_asked_for_nothing(rt: &impl Abort, alloc: Global, tree: &Tree, row: &Row) -> bool {
+fn is_asked_for_nothing(alloc: Global, tree: &Tree, row: &Row) -> bool {
     let probe = row.0.as_bytes();
-    assert!(rt; probe.len() <= 16);
+    if probe.len() > 16 {
+        return false;
+    }
     let key = Key::new_from_slice(probe);
     refuse(alloc, 1);
     let as_wanted = is_longest(tree, key, probe, row.1) && are_all_matches(tree, key, row.1);
@@ -246,7 +229,7 @@ fn is_asked_for_nothing(rt: &impl Abort, alloc: Global, tree: &Tree, row: &Row) 
 fn answers_about_a_probe_ask_for_nothing(rt: HostRuntime) {
     let tree = filled(rt.alloc(), &WORDS).expect(&rt, "a tree");
     for row in &OF_WORDS {
-        let well = is_asked_for_nothing(&rt, rt.alloc(), &tree, row);
+        let well = is_asked_for_nothing(rt.alloc(), &tree, row);
         assert!(rt; well);
     }
 }

@@ -201,12 +201,16 @@ fn the_longest_match_is_shown_once_by_ref(rt: HostRuntime) {
     assert!(rt; shown == (Ok(false), Ok(false), 0, 0));
 }
 
+fn shows_ab_and_abcd(tree: &Tree) -> bool {
+    shows_longest(tree, b"abcx", &("ab", 1, "ab", "")) == (Ok(true), 1)
+        && shows_longest(tree, b"abcde", &("abcd", 2, "ab", "cd")) == (Ok(true), 1)
+        && shows_longest(tree, b"x", &("", 0, "", "")) == (Ok(false), 0)
+}
+
 #[test]
 fn the_longest_match_is_shown_once(rt: HostRuntime) {
     let tree = filled(rt.alloc(), &AB_AND_ABCD).expect(&rt, "a tree");
-    assert!(rt; shows_longest(&tree, b"abcx", &("ab", 1, "ab", "")) == (Ok(true), 1));
-    assert!(rt; shows_longest(&tree, b"abcde", &("abcd", 2, "ab", "cd")) == (Ok(true), 1));
-    assert!(rt; shows_longest(&tree, b"x", &("", 0, "", "")) == (Ok(false), 0));
+    assert!(rt; shows_ab_and_abcd(&tree));
     let with_empty = filled(rt.alloc(), &WITH_EMPTY).expect(&rt, "a tree");
     assert!(rt; shows_longest(&with_empty, b"x", &("", 7, "", "")) == (Ok(true), 1));
 }
