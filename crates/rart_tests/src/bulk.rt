@@ -1,5 +1,4 @@
 //! How far a bulk load reads where memory is refused, and which index it requests.
-ghost use Rattle.std.specs.Prelude.{◌≡◌, ◌<◌, length, slice_index_or};
 ghost use Rattle.std.specs.Iterator.{YieldsFirst, item_count};
 ghost use Rattle.rart_keys.specs.ArrayKeyBytes.{array_key_bytes};
 ghost use Rattle.rart_keys.specs.SortedMap.{IsAscending};
@@ -10,9 +9,9 @@ mod extensions;
 pub mod rows;
 
 use crate::bulk::rows::{Pairs, key_of};
-use crate::loads::{Key, ascend};
+use crate::loads::{Key, ascend, count, load_counting};
 use crate::play::Tree;
-use rart::{AdaptiveRadixTree, BulkError, KeyTrait};
+use rart::{BulkError, KeyTrait};
 use rart_keys::laws::bulk_lists::ascending_pairs;
 use rart_test_tools::refusals::{part_ends, refuse, was_refused};
 use std::alloc::{AllocError, Global};
@@ -131,43 +130,6 @@ fn loads_refused_in_turn_read_nothing_after(rt: HostRuntime) -> Result<(), Fail>
 fn unique_loads_refused_in_turn_read_nothing_after(rt: HostRuntime) -> Result<(), Fail> {
     assert!(rt; all_reads_no_further(rt.alloc(), Form::Unique)?);
     Ok(())
-}
-
-// Counts a call at the hexadecimal digit of its index.
-fn count(calls: &Cell<usize>, i: usize) {
-    let one = match i {
-        0 => 0x1,
-        1 => 0x10,
-        2 => 0x100,
-        3 => 0x1000,
-        _ => 0x1_0000,
-    };
-    calls.set(calls.get().wrapping_add(one));
-}
-
-// The load by index of the items' keys, which counts how often each is requested.
-fn load_counting<K: KeyTrait, W, V: Drop, F: FnMut(usize) -> V + Drop>(
-    alloc: Global,
-    items: &[(K, W)],
-    asked: &Cell<usize>,
-    take: F,
-) -> Result<AdaptiveRadixTree<K, V>, BulkError>
-    requires ascending { IsAscending (pairs_in K.bytes items.now) }
-    requires callable { (f : _) (i : _) → F.pre f i }
-{
-    ascending_pairs::<W>();
-    AdaptiveRadixTree::bulk_load_sorted_unique_by_index(
-        alloc,
-        items.len(),
-        |i|
-            requires { i < length items.now }
-            ensures { (d : K × W) → result.now ≡ (slice_index_or items.entry.now i d).0 }
-        {
-            count(asked, i);
-            &items[i].0
-        },
-        take,
-    )
 }
 
 // How often each of the first so many keys was requested, and how often its value was taken.

@@ -11,6 +11,7 @@ use rart::laws::bulk_loads::bulk_load_equals_insertion;
 use rart::{AdaptiveRadixTree, ArrayKey, BulkError, KeyTrait, TreeStats, TreeStatsTrait};
 use rart_keys::laws::bulk_lists::ascending_pairs;
 use std::alloc::{AllocError, Global};
+use std::cell::Cell;
 use std::cmp::Ordering;
 
 pub type Key = ArrayKey<8>;
@@ -40,10 +41,23 @@ pub fn load_unique<K: KeyTrait + Drop, V: Drop>(
     AdaptiveRadixTree::bulk_load_sorted_unique(alloc, items)
 }
 
-/// The keys of the items by `bulk_load_sorted_unique_by_index`, with the values that `take` gives.
-pub fn load_by_index<K: KeyTrait, W, V: Drop, F: FnMut(usize) -> V + Drop>(
+/// Counts a call at the hexadecimal digit of its index.
+pub fn count(calls: &Cell<usize>, i: usize) {
+    let one = match i {
+        0 => 0x1,
+        1 => 0x10,
+        2 => 0x100,
+        3 => 0x1000,
+        _ => 0x1_0000,
+    };
+    calls.set(calls.get().wrapping_add(one));
+}
+
+/// The load by index of the items' keys, which counts how often each is requested.
+pub fn load_counting<K: KeyTrait, W, V: Drop, F: FnMut(usize) -> V + Drop>(
     alloc: Global,
     items: &[(K, W)],
+    asked: &Cell<usize>,
     take: F,
 ) -> Result<AdaptiveRadixTree<K, V>, BulkError>
     requires ascending { IsAscending (pairs_in K.bytes items.now) }
@@ -56,9 +70,24 @@ pub fn load_by_index<K: KeyTrait, W, V: Drop, F: FnMut(usize) -> V + Drop>(
         |i|
             requires { i < length items.now }
             ensures { (d : K × W) → result.now ≡ (slice_index_or items.entry.now i d).0 }
-        { &items[i].0 },
+        {
+            count(asked, i);
+            &items[i].0
+        },
         take,
     )
+}
+
+/// The keys of the items by `bulk_load_sorted_unique_by_index`, with the values that `take` gives.
+pub fn load_by_index<K: KeyTrait, W, V: Drop, F: FnMut(usize) -> V + Drop>(
+    alloc: Global,
+    items: &[(K, W)],
+    take: F,
+) -> Result<AdaptiveRadixTree<K, V>, BulkError>
+    requires ascending { IsAscending (pairs_in K.bytes items.now) }
+    requires callable { (f : _) (i : _) → F.pre f i }
+{
+    load_counting(alloc, items, &Cell::new(0_usize), take)
 }
 
 /// The keys of the items by `bulk_load_sorted_unique_by_index_by_ref`, with the values that `take` gives.

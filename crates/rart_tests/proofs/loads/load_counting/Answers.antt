@@ -1,6 +1,6 @@
 use Rattle.std.proofs.Common.{refl}
 use Rattle.rart_tests.proofs.LoadLemmas.{below-each, can-always}
-use Rattle.rart_tests.proofs.loads.load_by_index.Goals as goal
+use Rattle.rart_tests.proofs.loads.load_counting.Goals as goal
 
 pub bulk_load_sorted_unique_by_index-requires : goal.bulk_load_sorted_unique_by_index-requires
 bulk_load_sorted_unique_by_index-requires g c κs = (
