@@ -5,9 +5,8 @@ use rart::script::run;
 use rart::{AdaptiveRadixTree, ArrPartial, ArrayKey, Iter, KeyTrait, ValuesIter};
 use rart_test_tools::refusals::{refuse, was_refused};
 use std::alloc::Global;
-use std::process::Abort;
 
-const FIRST_KEY: [Row<'static>; 10] = [
+static FIRST_KEY: [Row<'static>; 10] = [
     (Ask::Get("a"), Want::None),
     (Ask::Contains("a"), Want::Is(false)),
     (Ask::Stats, Want::Counts([0, 0, 0, 0], &[])),
@@ -28,12 +27,12 @@ fn an_empty_tree_and_its_first_key_ask_for_nothing(rt: HostRuntime) {
     );
 }
 
-const TWO_LEAVES: [Row<'static>; 2] = [
+static TWO_LEAVES: [Row<'static>; 2] = [
     (Ask::Insert("abcd", 1), Want::None),
     (Ask::Insert("abxy", 2), Want::None),
 ];
 
-const AT_STANDING_NODES: [Row<'static>; 17] = [
+static AT_STANDING_NODES: [Row<'static>; 17] = [
     (Ask::Insert("ab", 3), Want::None),
     (Ask::Insert("abxy", 4), Want::Some(2)),
     (Ask::TryInsert("abxy", 5), Want::Occupied(5, 4)),
@@ -61,7 +60,7 @@ fn standing_nodes_ask_for_nothing(rt: HostRuntime) {
     );
 }
 
-const JOINING: [Row<'static>; 3] = [
+static JOINING: [Row<'static>; 3] = [
     (Ask::Delete("abcd"), Want::Is(true)),
     (Ask::Get("abxy"), Want::Some(2)),
     (Ask::Delete("abxy"), Want::Is(true)),
@@ -75,7 +74,7 @@ fn joined_nodes_ask_for_nothing(rt: HostRuntime) {
     );
 }
 
-const ROOM_IN_EACH_KIND: [Row<'static>; 6] = [
+static ROOM_IN_EACH_KIND: [Row<'static>; 6] = [
     (Ask::Fill(b"a", 0, 3), Want::Is(true)),
     (Ask::Fill(b"b", 0, 15), Want::Is(true)),
     (Ask::Fill(b"c", 0, 47), Want::Is(true)),
@@ -84,7 +83,7 @@ const ROOM_IN_EACH_KIND: [Row<'static>; 6] = [
     (Ask::Len, Want::Len(319)),
 ];
 
-const INTO_ROOM: [Row<'static>; 8] = [
+static INTO_ROOM: [Row<'static>; 8] = [
     (Ask::Insert("a\x03", 1), Want::None),
     (Ask::Insert("b\x0f", 2), Want::None),
     (Ask::TryInsert("c/", 3), Want::Inserted),
@@ -103,9 +102,9 @@ fn nodes_with_room_ask_for_nothing(rt: HostRuntime) {
     );
 }
 
-const FIVE_KEYS: [Row<'static>; 1] = [(Ask::Fill(b"", 0, 5), Want::Is(true))];
+static FIVE_KEYS: [Row<'static>; 1] = [(Ask::Fill(b"", 0, 5), Want::Is(true))];
 
-const ABSENT: [Row<'static>; 5] = [
+static ABSENT: [Row<'static>; 5] = [
     (Ask::Remove("\x09"), Want::None),
     (Ask::Remove("\0\0"), Want::None),
     (Ask::Remove(""), Want::None),
@@ -121,7 +120,7 @@ fn absent_keys_ask_for_nothing(rt: HostRuntime) {
     );
 }
 
-const UPDATED: [Row<'static>; 11] = [
+static UPDATED: [Row<'static>; 11] = [
     (Ask::Update("a\x01", Some(9), Request::Keep), Want::Is(true)),
     (
         Ask::Update("a\x02", Some(9), Request::Insert(8)),
@@ -163,16 +162,15 @@ fn updates_of_standing_nodes_and_of_absent_keys_ask_for_nothing(rt: HostRuntime)
 
 type Tree = AdaptiveRadixTree<ArrayKey<4>, u64>;
 
-// `ab` 1, `abcd` 2 and `b` 3.
-fn three_keys(rt: &impl Abort, mut tree: Tree) -> Tree {
-    assert!(rt; tree.insert(ArrayKey::new_from_slice(b"b"), 3).is_ok());
-    assert!(rt; tree.insert(ArrayKey::new_from_slice(b"abcd"), 2).is_ok());
-    assert!(rt; tree.insert(ArrayKey::new_from_slice(b"ab"), 1).is_ok());
-    tree
+// Inserts `ab` 1, `abcd` 2 and `b` 3, and returns whether there was memory for each.
+fn put_three(tree: &mut Tree) -> bool {
+    tree.insert(ArrayKey::new_from_slice(b"b"), 3).is_ok()
+        && tree.insert(ArrayKey::new_from_slice(b"abcd"), 2).is_ok()
+        && tree.insert(ArrayKey::new_from_slice(b"ab"), 1).is_ok()
 }
 
 // Whether the pairs to come are those of the three keys, and no other.
-fn are_three(mut pairs: Iter<'_, ArrayKey<4>, ArrPartial<4>, u64>) -> bool {
+fn are_three(pairs: &mut Iter<'_, ArrayKey<4>, ArrPartial<4>, u64>) -> bool {
     for (bytes, value) in [(b"ab".as_slice(), 1), (b"abcd", 2), (b"b", 3)] {
         match pairs.next() {
             Some((key, stored)) => {
@@ -186,7 +184,7 @@ fn are_three(mut pairs: Iter<'_, ArrayKey<4>, ArrPartial<4>, u64>) -> bool {
     pairs.next().is_none() && pairs.next().is_none()
 }
 
-fn are_three_values(mut values: ValuesIter<'_, ArrayKey<4>, u64>) -> bool {
+fn are_three_values(values: &mut ValuesIter<'_, ArrayKey<4>, u64>) -> bool {
     for value in 1..4_u64 {
         if values.next() != Some(&value) {
             return false;
@@ -195,41 +193,83 @@ fn are_three_values(mut values: ValuesIter<'_, ArrayKey<4>, u64>) -> bool {
     values.next().is_none() && values.next().is_none()
 }
 
+// Whether an iterator that is started gives the three pairs while the next request is refused.
+fn pairs_are_quiet(alloc: Global, tree: &Tree) -> bool {
+    match tree.iter() {
+        Ok(mut pairs) => {
+            refuse(alloc, 1);
+            let three = are_three(&mut pairs);
+            !was_refused(alloc) && three
+        }
+        Err(_refused) => false,
+    }
+}
+
+fn values_are_quiet(alloc: Global, tree: &Tree) -> bool {
+    match tree.values_iter() {
+        Ok(mut values) => {
+            refuse(alloc, 1);
+            let three = are_three_values(&mut values);
+            !was_refused(alloc) && three
+        }
+        Err(_refused) => false,
+    }
+}
+
+fn three_are_quiet(alloc: Global) -> bool {
+    let mut tree = Tree::new(alloc);
+    put_three(&mut tree) && pairs_are_quiet(alloc, &tree) && values_are_quiet(alloc, &tree)
+}
+
 #[test]
 fn started_iterators_ask_for_nothing(rt: HostRuntime) {
-    let alloc = rt.alloc();
-    let tree = three_keys(&rt, Tree::new(alloc));
-    let (Ok(pairs), Ok(values)) = (tree.iter(), tree.values_iter()) else {
-        panic!(rt; "refused with ample memory")
-    };
+    assert!(rt; three_are_quiet(rt.alloc()));
+}
+
+fn gives_no_pair(tree: &Tree) -> bool {
+    match tree.iter() {
+        Ok(mut pairs) => pairs.next().is_none(),
+        Err(_refused) => false,
+    }
+}
+
+fn gives_no_value(tree: &Tree) -> bool {
+    match tree.values_iter() {
+        Ok(mut values) => values.next().is_none(),
+        Err(_refused) => false,
+    }
+}
+
+// Whether the iterators of an empty tree start and end while the next request is refused.
+fn none_is_quiet(alloc: Global) -> bool {
+    let tree = Tree::new(alloc);
     refuse(alloc, 1);
-    assert!(rt; are_three(pairs));
-    assert!(rt; are_three_values(values));
-    assert!(rt; !was_refused(alloc));
+    let none = gives_no_pair(&tree) && gives_no_value(&tree);
+    !was_refused(alloc) && none
 }
 
 #[test]
 fn iterators_of_an_empty_tree_ask_for_nothing(rt: HostRuntime) {
-    let alloc = rt.alloc();
-    let tree = Tree::new(alloc);
+    assert!(rt; none_is_quiet(rt.alloc()));
+}
+
+fn replies_nothing(alloc: Global, tree: &mut Tree) -> bool {
+    match run(alloc, tree, Vec::new(alloc)) {
+        Ok(replies) => replies.is_empty(),
+        Err(_refused) => false,
+    }
+}
+
+fn no_calls_are_quiet(alloc: Global) -> bool {
+    let mut tree = Tree::new(alloc);
     refuse(alloc, 1);
-    let (Ok(mut pairs), Ok(mut values)) = (tree.iter(), tree.values_iter()) else {
-        panic!(rt; "refused with ample memory")
-    };
-    assert!(rt; pairs.next().is_none() && values.next().is_none());
-    assert!(rt; !was_refused(alloc));
+    let nothing = replies_nothing(alloc, &mut tree);
+    !was_refused(alloc) && nothing
 }
 
 #[test]
 fn a_run_of_no_calls_asks_for_nothing(rt: HostRuntime) {
-    let alloc = rt.alloc();
-    let mut tree = Tree::new(alloc);
-    refuse(alloc, 1);
-    match run(alloc, &mut tree, Vec::new(alloc)) {
-        Ok(replies) => assert!(rt; replies.is_empty()),
-        Err(_refused) => assert!(rt; false, "refused without a call"),
-    }
-    assert!(rt; !was_refused(alloc));
+    assert!(rt; no_calls_are_quiet(rt.alloc()));
 }
 
 fn is_canonical_quietly(alloc: Global, tree: &Tree) -> bool {
@@ -238,8 +278,12 @@ fn is_canonical_quietly(alloc: Global, tree: &Tree) -> bool {
     !was_refused(alloc)
 }
 
+fn three_are_canonical(alloc: Global) -> bool {
+    let mut tree = Tree::new(alloc);
+    put_three(&mut tree) && is_canonical_quietly(alloc, &tree)
+}
+
 #[test]
 fn what_holds_of_every_tree_asks_for_nothing(rt: HostRuntime) {
-    let tree = three_keys(&rt, Tree::new(rt.alloc()));
-    assert!(rt; is_canonical_quietly(rt.alloc(), &tree));
+    assert!(rt; three_are_canonical(rt.alloc()));
 }

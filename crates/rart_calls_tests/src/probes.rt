@@ -7,7 +7,7 @@ use crate::play::{
 use rart::ArrayKey;
 use std::test::Fail;
 
-const CALLS: [Row<'static>; 24] = [
+static CALLS: [Row<'static>; 24] = [
     (Ask::Matches("ab"), Want::Pairs(&[])),
     (Ask::Prefix(""), Want::Pairs(&[])),
     (Ask::Longest("ab"), Want::None),

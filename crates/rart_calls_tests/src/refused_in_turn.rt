@@ -8,9 +8,10 @@ use crate::play::{
 use rart::{AdaptiveRadixTree, ArrayKey, KeyTrait, Refused, TreeError, TreeStatsTrait};
 use rart_test_tools::refusals::{refuse, was_refused};
 use rart_test_trees::is_counted;
+use std::alloc::Global;
 use std::test::Fail;
 
-pub const SPLITS: [Row<'static>; 8] = [
+pub static SPLITS: [Row<'static>; 8] = [
     (Ask::Insert("abcd", 1), Want::None),
     (Ask::Insert("abxy", 2), Want::None),
     (Ask::Stats, Want::Counts([2, 2, 1, 2], &[(4, 1, 2)])),
@@ -32,7 +33,7 @@ fn splits_refused_in_turn(rt: HostRuntime) {
     );
 }
 
-const SPLIT_ABOVE: [Row<'static>; 4] = [
+static SPLIT_ABOVE: [Row<'static>; 4] = [
     (Ask::Insert("abcd", 1), Want::None),
     (Ask::Insert("ab", 3), Want::None),
     (Ask::Stats, Want::Counts([1, 2, 1, 2], &[(4, 1, 1)])),
@@ -47,7 +48,7 @@ fn a_split_above_a_leaf_refused_in_turn(rt: HostRuntime) {
     );
 }
 
-pub const GROWTH: [Row<'static>; 10] = [
+pub static GROWTH: [Row<'static>; 10] = [
     (Ask::Fill(b"", 0, 4), Want::Is(true)),
     (Ask::Insert("\x04", 4), Want::None),
     (Ask::Stats, Want::Counts([5, 5, 1, 2], &[(16, 1, 5)])),
@@ -68,7 +69,7 @@ fn growing_insertions_refused_in_turn(rt: HostRuntime) {
     );
 }
 
-pub const GROWTH_BY_NEW_KEYS: [Row<'static>; 7] = [
+pub static GROWTH_BY_NEW_KEYS: [Row<'static>; 7] = [
     (Ask::Fill(b"", 0, 4), Want::Is(true)),
     (Ask::TryInsert("\x04", 4), Want::Inserted),
     (Ask::Fill(b"", 5, 16), Want::Is(true)),
@@ -86,7 +87,7 @@ fn growing_insertions_of_new_keys_refused_in_turn(rt: HostRuntime) {
     );
 }
 
-pub const SHRINKING: [Row<'static>; 10] = [
+pub static SHRINKING: [Row<'static>; 10] = [
     (Ask::Fill(b"", 0, 49), Want::Is(true)),
     (Ask::Remove("0"), Want::Some(48)),
     (Ask::Stats, Want::Counts([48, 48, 1, 2], &[(48, 1, 48)])),
@@ -107,7 +108,7 @@ fn shrinking_removals_refused_in_turn(rt: HostRuntime) {
     );
 }
 
-pub const SHRINKING_BY_DELETION: [Row<'static>; 7] = [
+pub static SHRINKING_BY_DELETION: [Row<'static>; 7] = [
     (Ask::Fill(b"", 0, 49), Want::Is(true)),
     (Ask::Delete("0"), Want::Is(true)),
     (Ask::Empty(b"", 17, 48), Want::Is(true)),
@@ -125,7 +126,7 @@ fn shrinking_deletions_refused_in_turn(rt: HostRuntime) {
     );
 }
 
-pub const FOUR_WIDTHS: [Row<'static>; 6] = [
+pub static FOUR_WIDTHS: [Row<'static>; 6] = [
     (Ask::Fill(b"a", 0, 2), Want::Is(true)),
     (Ask::Fill(b"b", 0, 5), Want::Is(true)),
     (Ask::Fill(b"c", 0, 17), Want::Is(true)),
@@ -148,7 +149,7 @@ fn statistics_refused_in_turn(rt: HostRuntime) {
     );
 }
 
-pub const EVERY_CALL: [Row<'static>; 25] = [
+pub static EVERY_CALL: [Row<'static>; 25] = [
     (Ask::Insert("\0", 0), Want::None),
     (Ask::Insert("\x01", 1), Want::None),
     (Ask::Insert("\x02", 2), Want::None),
@@ -198,7 +199,7 @@ fn runs_refused_in_turn_go_on_without_the_refused_call(rt: HostRuntime) -> Resul
     Ok(())
 }
 
-const ALL_CASES: [Row<'static>; 20] = [
+static ALL_CASES: [Row<'static>; 20] = [
     (Ask::Insert("ab", 1), Want::None),
     (Ask::TryInsert("ac", 2), Want::Inserted),
     (Ask::Insert("a", 3), Want::None),
@@ -235,7 +236,7 @@ fn a_run_of_all_cases_refused_in_turn(rt: HostRuntime) -> Result<(), Fail> {
     Ok(())
 }
 
-pub const LISTS: [Row<'static>; 4] = [
+pub static LISTS: [Row<'static>; 4] = [
     (Ask::Insert("ab", 1), Want::None),
     (Ask::Insert("a", 2), Want::None),
     (Ask::Iter, Want::Pairs(&[("a", 2), ("ab", 1)])),
@@ -260,26 +261,49 @@ fn has_counts(tree: &Tree, counts: &[usize; 4], widths: &[(usize, usize, usize)]
     }
 }
 
+fn put_three(tree: &mut Tree) -> bool {
+    for byte in 0..3_u8 {
+        if put(tree, byte).is_err() {
+            return false;
+        }
+    }
+    true
+}
+
+// Whether the fifth key is put in where nothing was refused, and else put in once there is memory.
+fn fifth_is_put(tree: &mut Tree, fifth: Result<Option<u64>, Refused<u64>>, refused: bool) -> bool {
+    match fifth {
+        Ok(old) => !refused && old.is_none(),
+        Err(back) => {
+            refused
+                && back.error == TreeError::Memory
+                && back.value == 4
+                && has_counts(tree, &[4, 4, 1, 2], &[(4, 1, 4)])
+                && matches!(put(tree, 4), Ok(None))
+        }
+    }
+}
+
+fn five_are_put(alloc: Global, tree: &mut Tree) -> bool {
+    if !put_three(tree) {
+        return false;
+    }
+    refuse(alloc, 1);
+    let fourth = put(tree, 3);
+    let fifth = put(tree, 4);
+    let refused = was_refused(alloc);
+    matches!(fourth, Ok(None))
+        && fifth_is_put(tree, fifth, refused)
+        && has_counts(tree, &[5, 5, 1, 2], &[(16, 1, 5)])
+}
+
+fn five_are_put_in_new(alloc: Global) -> bool {
+    let mut tree = Tree::new(alloc);
+    five_are_put(alloc, &mut tree)
+}
+
 // With the next request refused a fourth key is put in and a fifth isn't, and the statistics say so.
 #[test]
 fn a_fifth_key_refused_in_turn_leaves_four(rt: HostRuntime) {
-    let alloc = rt.alloc();
-    let mut tree = Tree::new(alloc);
-    for byte in 0..3_u8 {
-        assert!(rt; put(&mut tree, byte).is_ok());
-    }
-    refuse(alloc, 1);
-    let fourth = put(&mut tree, 3);
-    let fifth = put(&mut tree, 4);
-    let refused = was_refused(alloc);
-    assert!(rt; matches!(fourth, Ok(None)));
-    match fifth {
-        Ok(old) => assert!(rt; !refused && old.is_none()),
-        Err(back) => {
-            assert!(rt; refused && back.error == TreeError::Memory && back.value == 4);
-            assert!(rt; has_counts(&tree, &[4, 4, 1, 2], &[(4, 1, 4)]));
-            assert!(rt; matches!(put(&mut tree, 4), Ok(None)));
-        }
-    }
-    assert!(rt; has_counts(&tree, &[5, 5, 1, 2], &[(16, 1, 5)]));
+    assert!(rt; five_are_put_in_new(rt.alloc()));
 }

@@ -5,7 +5,7 @@ use rart::ArrayKey;
 use rart::keys::tail_key::TailKey;
 use std::test::Fail;
 
-const EMPTY: [Row<'static>; 14] = [
+static EMPTY: [Row<'static>; 14] = [
     (Ask::Get("x"), Want::None),
     (Ask::GetBytes(""), Want::None),
     (Ask::Contains("x"), Want::Is(false)),
@@ -27,7 +27,7 @@ fn an_empty_tree_answers_nothing(rt: HostRuntime) {
     assert_none_wrong(&rt, first_wrong::<ArrayKey<16>>(rt.alloc(), &EMPTY));
 }
 
-const KEYS_THAT_BEGIN_ONE_ANOTHER: [Row<'static>; 20] = [
+static KEYS_THAT_BEGIN_ONE_ANOTHER: [Row<'static>; 20] = [
     (Ask::Insert("cat", 1), Want::None),
     (Ask::Insert("catalog", 2), Want::None),
     (Ask::Insert("cab", 3), Want::None),
@@ -58,7 +58,7 @@ fn keys_that_begin_one_another(rt: HostRuntime) {
     );
 }
 
-const CHAIN: [Row<'static>; 8] = [
+static CHAIN: [Row<'static>; 8] = [
     (Ask::Insert("", 0), Want::None),
     (Ask::Insert("a", 1), Want::None),
     (Ask::Insert("ab", 2), Want::None),
@@ -74,7 +74,7 @@ fn a_chain_of_keys(rt: HostRuntime) {
     assert_none_wrong(&rt, first_wrong::<ArrayKey<16>>(rt.alloc(), &CHAIN));
 }
 
-const REPLACED: [Row<'static>; 6] = [
+static REPLACED: [Row<'static>; 6] = [
     (Ask::Insert("key1", 100), Want::None),
     (Ask::Insert("key1", 200), Want::Some(100)),
     (Ask::Get("key1"), Want::Some(200)),
@@ -88,7 +88,7 @@ fn a_stored_key_gives_its_old_value(rt: HostRuntime) {
     assert_none_wrong(&rt, first_wrong::<ArrayKey<16>>(rt.alloc(), &REPLACED));
 }
 
-const FULL_WIDTH: [Row<'static>; 9] = [
+static FULL_WIDTH: [Row<'static>; 9] = [
     (Ask::Insert("", 1), Want::None),
     (Ask::Insert("0123456789abcdef", 2), Want::None),
     (Ask::Insert("0123456789abcdee", 3), Want::None),
@@ -108,7 +108,7 @@ fn the_empty_key_and_keys_of_full_width(rt: HostRuntime) {
     assert_none_wrong(&rt, first_wrong::<ArrayKey<16>>(rt.alloc(), &FULL_WIDTH));
 }
 
-const LONG_PROBE: [Row<'static>; 6] = [
+static LONG_PROBE: [Row<'static>; 6] = [
     (Ask::Insert("abcd", 1), Want::None),
     (Ask::GetBytes("abcde"), Want::None),
     (Ask::GetBytes("abcd"), Want::Some(1)),
@@ -122,7 +122,7 @@ fn a_probe_longer_than_any_key(rt: HostRuntime) {
     assert_none_wrong(&rt, first_wrong::<ArrayKey<4>>(rt.alloc(), &LONG_PROBE));
 }
 
-const NO_BYTES: [Row<'static>; 11] = [
+static NO_BYTES: [Row<'static>; 11] = [
     (Ask::Insert("", 1), Want::None),
     (Ask::GetBytes(""), Want::Some(1)),
     (Ask::GetBytes("a"), Want::None),
@@ -157,7 +157,7 @@ fn keys_kept_at_the_end_reply_alike(rt: HostRuntime) {
     assert_none_wrong(&rt, first_wrong::<TailKey<0>>(rt.alloc(), &NO_BYTES));
 }
 
-const EVERY_BYTE: [Row<'static>; 7] = [
+static EVERY_BYTE: [Row<'static>; 7] = [
     (Ask::Fill(b"n", 0, 256), Want::Is(true)),
     (Ask::Len, Want::Len(256)),
     (Ask::Holds(b"n", 256), Want::Is(true)),
@@ -172,7 +172,7 @@ fn every_byte_as_a_child(rt: HostRuntime) {
     assert_none_wrong(&rt, first_wrong::<ArrayKey<16>>(rt.alloc(), &EVERY_BYTE));
 }
 
-const REMOVED: [Row<'static>; 10] = [
+static REMOVED: [Row<'static>; 10] = [
     (Ask::Insert("a", 1), Want::None),
     (Ask::Insert("ab", 2), Want::None),
     (Ask::Remove("a"), Want::Some(1)),
@@ -190,7 +190,7 @@ fn a_removed_inner_key_is_gone(rt: HostRuntime) {
     assert_none_wrong(&rt, first_wrong::<ArrayKey<16>>(rt.alloc(), &REMOVED));
 }
 
-const DELETED_INNER: [Row<'static>; 5] = [
+static DELETED_INNER: [Row<'static>; 5] = [
     (Ask::Insert("a", 1), Want::None),
     (Ask::Insert("ab", 2), Want::None),
     (Ask::Delete("a"), Want::Is(true)),
@@ -203,7 +203,7 @@ fn a_deleted_inner_key_is_gone(rt: HostRuntime) {
     assert_none_wrong(&rt, first_wrong::<ArrayKey<16>>(rt.alloc(), &DELETED_INNER));
 }
 
-const DELETED_TWICE: [Row<'static>; 5] = [
+static DELETED_TWICE: [Row<'static>; 5] = [
     (Ask::Delete("missing"), Want::Is(false)),
     (Ask::Insert("leaf", 7), Want::None),
     (Ask::Delete("leaf"), Want::Is(true)),
@@ -216,7 +216,7 @@ fn a_deletion_tells_whether_there_was_a_value(rt: HostRuntime) {
     assert_none_wrong(&rt, first_wrong::<ArrayKey<16>>(rt.alloc(), &DELETED_TWICE));
 }
 
-const DELETED_AMONG_OTHERS: [Row<'static>; 7] = [
+static DELETED_AMONG_OTHERS: [Row<'static>; 7] = [
     (Ask::Insert("abc", 1), Want::None),
     (Ask::Insert("abd", 2), Want::None),
     (Ask::Insert("xyz", 3), Want::None),
@@ -234,7 +234,7 @@ fn deletions_leave_the_other_keys(rt: HostRuntime) {
     );
 }
 
-const NEVER_REPLACED: [Row<'static>; 9] = [
+static NEVER_REPLACED: [Row<'static>; 9] = [
     (Ask::TryInsert("a", 1), Want::Inserted),
     (Ask::TryInsert("a", 9), Want::Occupied(9, 1)),
     (Ask::Get("a"), Want::Some(1)),
@@ -254,7 +254,7 @@ fn a_stored_value_is_kept_by_insertions_of_new_keys(rt: HostRuntime) {
     );
 }
 
-const OVERWRITTEN: [Row<'static>; 10] = [
+static OVERWRITTEN: [Row<'static>; 10] = [
     (Ask::Fill(b"", 0, 255), Want::Is(true)),
     (Ask::Insert("", 1000), Want::None),
     (Ask::Insert("\x07\x08", 1001), Want::None),
@@ -272,7 +272,7 @@ fn a_lent_value_is_changed_where_it_stands(rt: HostRuntime) {
     assert_none_wrong(&rt, first_wrong::<ArrayKey<4>>(rt.alloc(), &OVERWRITTEN));
 }
 
-const IN_ORDER: [Row<'static>; 5] = [
+static IN_ORDER: [Row<'static>; 5] = [
     (Ask::Insert("b", 1), Want::None),
     (Ask::Insert("a", 2), Want::None),
     (Ask::Insert("", 3), Want::None),
@@ -285,7 +285,7 @@ fn pairs_come_in_the_order_of_their_bytes(rt: HostRuntime) {
     assert_none_wrong(&rt, first_wrong::<ArrayKey<4>>(rt.alloc(), &IN_ORDER));
 }
 
-const RUN: [Row<'static>; 11] = [
+static RUN: [Row<'static>; 11] = [
     (Ask::Insert("b", 1), Want::None),
     (Ask::Insert("a", 2), Want::None),
     (Ask::TryInsert("a", 3), Want::Occupied(3, 2)),

@@ -5,20 +5,28 @@ use rart::keys::tail_key::TailKey;
 use rart::{AdaptiveRadixTree, ArrayKey, NodeStats, TreeStats, TreeStatsTrait};
 use rart_test_trees::is_counted;
 use std::alloc::Global;
-use std::process::Abort;
-use std::test::Fail;
 
-#[test]
-fn new_statistics_count_nothing(rt: HostRuntime) -> Result<(), Fail> {
-    let new = TreeStats::new(rt.alloc());
-    assert!(rt; is_counted(&new, &[0, 0, 0, 0], &[]));
-    assert!(rt; AdaptiveRadixTree::<ArrayKey<16>, u64>::new(rt.alloc()).get_tree_stats()? == new);
-    let none = NodeStats::default();
-    assert!(rt; none.width == 0 && none.total_nodes == 0 && none.total_children == 0);
-    Ok(())
+fn is_of_new_tree(alloc: Global, new: &TreeStats) -> bool {
+    let tree = AdaptiveRadixTree::<ArrayKey<16>, u64>::new(alloc);
+    match tree.get_tree_stats() {
+        Ok(stats) => stats == *new,
+        Err(_refused) => false,
+    }
 }
 
-const LEAF_AND_PARENT: [Row<'static>; 6] = [
+fn new_count_nothing(alloc: Global) -> bool {
+    let new = TreeStats::new(alloc);
+    is_counted(&new, &[0, 0, 0, 0], &[]) && is_of_new_tree(alloc, &new)
+}
+
+#[test]
+fn new_statistics_count_nothing(rt: HostRuntime) {
+    assert!(rt; new_count_nothing(rt.alloc()));
+    let none = NodeStats::default();
+    assert!(rt; none.width == 0 && none.total_nodes == 0 && none.total_children == 0);
+}
+
+static LEAF_AND_PARENT: [Row<'static>; 6] = [
     (Ask::Insert("", 0), Want::None),
     (Ask::Stats, Want::Counts([1, 1, 0, 1], &[])),
     (Ask::Insert("a", 1), Want::None),
@@ -35,7 +43,7 @@ fn statistics_of_a_leaf_and_its_parent(rt: HostRuntime) {
     );
 }
 
-const TWO_LEAVES: [Row<'static>; 5] = [
+static TWO_LEAVES: [Row<'static>; 5] = [
     (Ask::Insert("a", 1), Want::None),
     (Ask::Insert("b", 2), Want::None),
     (Ask::Stats, Want::Counts([2, 2, 1, 2], &[(4, 1, 2)])),
@@ -48,7 +56,7 @@ fn statistics_of_two_leaves(rt: HostRuntime) {
     assert_none_wrong(&rt, first_wrong::<ArrayKey<16>>(rt.alloc(), &TWO_LEAVES));
 }
 
-const LONE_CHILD: [Row<'static>; 8] = [
+static LONE_CHILD: [Row<'static>; 8] = [
     (Ask::Insert("abcd", 1), Want::None),
     (Ask::Insert("abce", 2), Want::None),
     (Ask::Stats, Want::Counts([2, 2, 1, 2], &[(4, 1, 2)])),
@@ -64,7 +72,7 @@ fn a_lone_child_is_the_root_in_place_of_its_parent(rt: HostRuntime) {
     assert_none_wrong(&rt, first_wrong::<ArrayKey<16>>(rt.alloc(), &LONE_CHILD));
 }
 
-const THREE_LEVELS: [Row<'static>; 6] = [
+static THREE_LEVELS: [Row<'static>; 6] = [
     (Ask::Insert("ab", 1), Want::None),
     (Ask::Insert("abcd", 2), Want::None),
     (Ask::Insert("abce", 3), Want::None),
@@ -78,7 +86,7 @@ fn statistics_of_three_levels(rt: HostRuntime) {
     assert_none_wrong(&rt, first_wrong::<ArrayKey<16>>(rt.alloc(), &THREE_LEVELS));
 }
 
-const JOINED_WITH_A_WIDER_CHILD: [Row<'static>; 6] = [
+static JOINED_WITH_A_WIDER_CHILD: [Row<'static>; 6] = [
     (Ask::Insert("x", 9), Want::None),
     (Ask::Fill(b"xy", 0, 5), Want::Is(true)),
     (
@@ -103,14 +111,14 @@ fn a_lone_child_takes_the_place_of_its_parent(rt: HostRuntime) {
     assert_none_wrong(&rt, first_wrong::<ArrayKey<4>>(rt.alloc(), &LONE_CHILD));
 }
 
-const FIVE_NODES: [Row<'static>; 4] = [
+static FIVE_NODES: [Row<'static>; 4] = [
     (Ask::Insert("ab\0", 1), Want::None),
     (Ask::Insert("abc\0", 2), Want::None),
     (Ask::Insert("dog\0", 3), Want::None),
     (Ask::Stats, Want::Counts([3, 3, 2, 3], &[(4, 2, 4)])),
 ];
 
-const FOUR_NODES: [Row<'static>; 4] = [
+static FOUR_NODES: [Row<'static>; 4] = [
     (Ask::Insert("abc\0", 20), Want::None),
     (Ask::Insert("dog\0", 30), Want::None),
     (Ask::Insert("zzz\0", 40), Want::None),
@@ -123,7 +131,7 @@ fn five_and_four_nodes_stand(rt: HostRuntime) {
     assert_none_wrong(&rt, first_wrong::<ArrayKey<16>>(rt.alloc(), &FOUR_NODES));
 }
 
-const WIDENING: [Row<'static>; 14] = [
+static WIDENING: [Row<'static>; 14] = [
     (Ask::Fill(b"", 0, 4), Want::Is(true)),
     (Ask::Stats, Want::Counts([4, 4, 1, 2], &[(4, 1, 4)])),
     (Ask::Fill(b"", 4, 5), Want::Is(true)),
@@ -145,7 +153,7 @@ fn a_root_widens_with_its_children(rt: HostRuntime) {
     assert_none_wrong(&rt, first_wrong::<ArrayKey<16>>(rt.alloc(), &WIDENING));
 }
 
-const NARROWING: [Row<'static>; 15] = [
+static NARROWING: [Row<'static>; 15] = [
     (Ask::Fill(b"", 0, 256), Want::Is(true)),
     (Ask::Empty(b"", 49, 256), Want::Is(true)),
     (Ask::Stats, Want::Counts([49, 49, 1, 2], &[(256, 1, 49)])),
@@ -185,22 +193,45 @@ fn keys_kept_at_the_end_have_the_same_statistics(rt: HostRuntime) {
 
 type Numbers = AdaptiveRadixTree<ArrayKey<8>, u64>;
 
-// The numbers below 4096, descending or ascending.
-fn numbers(rt: &impl Abort, alloc: Global, descending: bool) -> Numbers {
-    let mut tree = Numbers::new(alloc);
+// Inserts the numbers below 4096, descending or ascending, and returns whether each was new and had memory.
+fn put_numbers(tree: &mut Numbers, descending: bool) -> bool {
     for i in 0..4096_u64 {
         let number = if descending { 4095 - i } else { i };
-        let key = ArrayKey::<8>::from_u64(number);
-        assert!(rt; matches!(tree.insert(key, number), Ok(None)), "at {number}");
+        if !matches!(
+            tree.insert(ArrayKey::<8>::from_u64(number), number),
+            Ok(None)
+        ) {
+            return false;
+        }
     }
-    tree
+    true
+}
+
+fn stats_of_numbers(alloc: Global, descending: bool) -> Option<TreeStats> {
+    let mut tree = Numbers::new(alloc);
+    if put_numbers(&mut tree, descending) {
+        tree.get_tree_stats().ok()
+    } else {
+        None
+    }
+}
+
+fn are_counted(one: &Option<TreeStats>, other: &Option<TreeStats>) -> bool {
+    match (one, other) {
+        (Some(left), Some(right)) => {
+            is_counted(left, &[4096, 4096, 17, 3], &[(16, 1, 16), (256, 16, 4096)]) && left == right
+        }
+        _ => false,
+    }
+}
+
+fn both_orders_are_counted(alloc: Global) -> bool {
+    let one = stats_of_numbers(alloc, true);
+    let other = stats_of_numbers(alloc, false);
+    are_counted(&one, &other)
 }
 
 #[test]
-fn statistics_do_not_tell_the_order_of_insertion(rt: HostRuntime) -> Result<(), Fail> {
-    let stats = numbers(&rt, rt.alloc(), true).get_tree_stats()?;
-    let widths = [(16, 1, 16), (256, 16, 4096)];
-    assert!(rt; is_counted(&stats, &[4096, 4096, 17, 3], &widths));
-    assert!(rt; stats == numbers(&rt, rt.alloc(), false).get_tree_stats()?);
-    Ok(())
+fn statistics_do_not_tell_the_order_of_insertion(rt: HostRuntime) {
+    assert!(rt; both_orders_are_counted(rt.alloc()));
 }

@@ -4,9 +4,8 @@ use crate::play::{Ask, Row, Want, assert_none_wrong, first_wrong_text};
 use rart::script::{Call, Reply, step};
 use rart::{AdaptiveRadixTree, ArrayKey};
 use std::alloc::Global;
-use std::process::Abort;
 
-const LATEST: [Row<'static>; 3] = [
+static LATEST: [Row<'static>; 3] = [
     (Ask::Insert("key1", 100), Want::None),
     (Ask::Insert("key1", 200), Want::Some(100)),
     (Ask::Get("key1"), Want::Some(200)),
@@ -17,7 +16,7 @@ fn a_text_gives_its_latest_value(rt: HostRuntime) {
     assert_none_wrong(&rt, first_wrong_text::<ArrayKey<16>>(rt.alloc(), &LATEST));
 }
 
-const BEGINNINGS: [Row<'static>; 4] = [
+static BEGINNINGS: [Row<'static>; 4] = [
     (Ask::Insert("a", 1), Want::None),
     (Ask::Insert("ab", 2), Want::None),
     (Ask::Insert("abc", 3), Want::None),
@@ -32,7 +31,7 @@ fn values_of_texts_that_begin_one_another(rt: HostRuntime) {
     );
 }
 
-const AMONG_OTHERS: [Row<'static>; 14] = [
+static AMONG_OTHERS: [Row<'static>; 14] = [
     (Ask::Insert("abcd", 1), Want::None),
     (Ask::Insert("abc", 2), Want::None),
     (Ask::Insert("abcde", 3), Want::None),
@@ -60,7 +59,7 @@ fn texts_removed_among_others(rt: HostRuntime) {
     );
 }
 
-const WORDS: [Row<'static>; 6] = [
+static WORDS: [Row<'static>; 6] = [
     (Ask::Insert("cat", 1), Want::None),
     (Ask::Insert("catalog", 2), Want::None),
     (
@@ -80,38 +79,63 @@ fn a_text_begins_the_texts_that_go_on(rt: HostRuntime) {
 
 type Key = ArrayKey<16>;
 
+type Tree = AdaptiveRadixTree<Key, u64>;
+
 // How many keys a walk below the prefix gives.
-fn count_below(tree: &AdaptiveRadixTree<Key, u64>, prefix: &Key) -> Option<usize> {
+fn count_below(tree: &Tree, prefix: &Key) -> Option<usize> {
     tree.prefix_values_fold_k(prefix, 0_usize, |count, _value| count.wrapping_add(1))
         .ok()
 }
 
-#[test]
-fn a_terminated_text_begins_no_other(rt: HostRuntime) {
-    let mut tree = AdaptiveRadixTree::<Key, u64>::new(rt.alloc());
+fn cat_begins_no_other(tree: &mut Tree) -> bool {
     let cat = Key::new_from_str_terminated("cat");
-    let stored = tree.insert_k(&cat, 1).is_ok()
+    tree.insert_k(&cat, 1).is_ok()
         && tree
             .insert_k(&Key::new_from_str_terminated("catalog"), 2)
-            .is_ok();
-    assert!(rt; stored);
-    assert!(rt; count_below(&tree, &cat) == Some(1));
-    assert!(rt; count_below(&tree, &Key::new_from_str("cat")) == Some(2));
+            .is_ok()
+        && count_below(tree, &cat) == Some(1)
+        && count_below(tree, &Key::new_from_str("cat")) == Some(2)
 }
 
-// The keys are put in with their values, each is found, and a walk gives them in this order.
-fn are_walked(rt: &impl Abort, alloc: Global, put: &[(Key, u64)], walked: &[(Key, u64)]) {
-    let mut tree = AdaptiveRadixTree::<Key, u64>::new(alloc);
-    for (key, value) in put {
-        assert!(rt; matches!(tree.insert(*key, *value), Ok(None)));
+fn is_terminated(alloc: Global) -> bool {
+    let mut tree = Tree::new(alloc);
+    cat_begins_no_other(&mut tree)
+}
+
+#[test]
+fn a_terminated_text_begins_no_other(rt: HostRuntime) {
+    assert!(rt; is_terminated(rt.alloc()));
+}
+
+fn are_put(tree: &mut Tree, pairs: &[(Key, u64)]) -> bool {
+    for (key, value) in pairs {
+        if !matches!(tree.insert(*key, *value), Ok(None)) {
+            return false;
+        }
     }
-    for (key, value) in put {
-        assert_eq!(rt; tree.get_k(key), Some(value));
+    true
+}
+
+fn are_found(tree: &Tree, pairs: &[(Key, u64)]) -> bool {
+    for (key, value) in pairs {
+        if tree.get_k(key) != Some(value) {
+            return false;
+        }
     }
-    match step(alloc, &mut tree, Call::Iter) {
-        Reply::Pairs(found) => assert!(rt; found.as_slice() == walked),
-        _ => assert!(rt; false, "no pairs"),
+    true
+}
+
+fn gives(alloc: Global, tree: &mut Tree, walked: &[(Key, u64)]) -> bool {
+    match step(alloc, tree, Call::Iter) {
+        Reply::Pairs(found) => found.as_slice() == walked,
+        _ => false,
     }
+}
+
+// Whether the keys are put in with their values, each is found, and a walk gives them in this order.
+fn are_walked(alloc: Global, put: &[(Key, u64)], walked: &[(Key, u64)]) -> bool {
+    let mut tree = Tree::new(alloc);
+    are_put(&mut tree, put) && are_found(&tree, put) && gives(alloc, &mut tree, walked)
 }
 
 #[test]
@@ -119,7 +143,7 @@ fn signed_bytes_come_in_their_order(rt: HostRuntime) {
     let pair = |number: i8, value: u64| (Key::from_i8(number), value);
     let put = [pair(0, 0), pair(127, 1), pair(-128, 2), pair(-1, 3)];
     let walked = [pair(-128, 2), pair(-1, 3), pair(0, 0), pair(127, 1)];
-    are_walked(&rt, rt.alloc(), &put, &walked);
+    assert!(rt; are_walked(rt.alloc(), &put, &walked));
 }
 
 #[test]
@@ -127,5 +151,5 @@ fn numbers_keep_their_values(rt: HostRuntime) {
     let pair = |number: i32, value: u64| (Key::from_i32(number), value);
     let put = [pair(500, 3), pair(666, 2), pair(1, 1)];
     let walked = [pair(1, 1), pair(500, 3), pair(666, 2)];
-    are_walked(&rt, rt.alloc(), &put, &walked);
+    assert!(rt; are_walked(rt.alloc(), &put, &walked));
 }

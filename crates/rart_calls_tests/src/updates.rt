@@ -6,7 +6,6 @@ use crate::play::{Request, assert_none_wrong};
 use rart::script::{Call, Reply, step};
 use rart::{AdaptiveRadixTree, ArrayKey, KeyTrait, Slot, SlotUpdate, TryUpdateError};
 use std::alloc::Global;
-use std::process::Abort;
 
 type Key = ArrayKey<16>;
 
@@ -44,23 +43,31 @@ fn is(reply: &Reply<Key, u64>, want: Option<bool>) -> bool {
     }
 }
 
+// Whether the key fits, and the reply and the value afterwards are the wanted ones.
+fn row_holds(alloc: Global, tree: &mut Tree, row: &Row) -> bool {
+    let (tries, text, written, request, want, after) = *row;
+    let bytes = text.as_bytes();
+    if bytes.len() > 16 {
+        return false;
+    }
+    let call = call(tries, Key::new_from_slice(bytes), written, request);
+    let reply = step(alloc, tree, call);
+    is(&reply, want) && tree.get_bytes(bytes).copied() == after
+}
+
 // The first row that goes another way, if one does.
-fn first_wrong(rt: &impl Abort, alloc: Global, tree: &mut Tree, rows: &[Row]) -> Option<usize> {
-    let mut row = 0_usize;
-    for (tries, text, written, request, want, after) in rows {
-        let bytes = text.as_bytes();
-        assert!(rt; bytes.len() <= 16);
-        let key = Key::new_from_slice(bytes);
-        let reply = step(alloc, tree, call(*tries, key, *written, *request));
-        if !is(&reply, *want) || tree.get_bytes(bytes).copied() != *after {
-            return Some(row);
+fn first_wrong(alloc: Global, tree: &mut Tree, rows: &[Row]) -> Option<usize> {
+    let mut at = 0_usize;
+    for row in rows {
+        if !row_holds(alloc, tree, row) {
+            return Some(at);
         }
-        row = row.wrapping_add(1);
+        at = at.wrapping_add(1);
     }
     None
 }
 
-const OF_A_STORED_AND_A_NEW_KEY: [Row; 9] = [
+static OF_A_STORED_AND_A_NEW_KEY: [Row; 9] = [
     (false, "a", None, Request::Insert(1), Some(true), Some(1)),
     (false, "a", Some(7), Request::Keep, Some(true), Some(7)),
     (false, "a", Some(8), Request::Insert(9), Some(true), Some(9)),
@@ -72,7 +79,7 @@ const OF_A_STORED_AND_A_NEW_KEY: [Row; 9] = [
     (true, "a", Some(3), Request::Keep, Some(true), Some(3)),
 ];
 
-const INTO_A_BUCKET: [Row; 2] = [
+static INTO_A_BUCKET: [Row; 2] = [
     (false, "bucket", None, Request::Keep, Some(false), None),
     (
         false,
@@ -84,18 +91,21 @@ const INTO_A_BUCKET: [Row; 2] = [
     ),
 ];
 
-const OUT_OF_A_BUCKET: [Row; 2] = [
+static OUT_OF_A_BUCKET: [Row; 2] = [
     (false, "bucket", None, Request::Remove, Some(true), None),
     (true, "bucket", None, Request::Remove, Some(false), None),
 ];
 
+fn first_wrong_of_new(alloc: Global, rows: &[Row]) -> Option<usize> {
+    let mut tree = Tree::new(alloc);
+    first_wrong(alloc, &mut tree, rows)
+}
+
 #[test]
 fn updates_of_a_stored_and_a_new_key(rt: HostRuntime) {
-    let alloc = rt.alloc();
-    let mut tree = Tree::new(alloc);
     assert_none_wrong(
         &rt,
-        first_wrong(&rt, alloc, &mut tree, &OF_A_STORED_AND_A_NEW_KEY),
+        first_wrong_of_new(rt.alloc(), &OF_A_STORED_AND_A_NEW_KEY),
     );
 }
 
@@ -117,13 +127,20 @@ fn add_five(tree: &mut Tree) -> Option<u64> {
     }
 }
 
+fn bucket_is_updated(alloc: Global, tree: &mut Tree) -> bool {
+    first_wrong(alloc, tree, &INTO_A_BUCKET).is_none()
+        && add_five(tree) == Some(15)
+        && first_wrong(alloc, tree, &OUT_OF_A_BUCKET).is_none()
+}
+
+fn new_bucket_is_updated(alloc: Global) -> bool {
+    let mut tree = Tree::new(alloc);
+    bucket_is_updated(alloc, &mut tree)
+}
+
 #[test]
 fn updates_fill_a_bucket_add_to_it_and_empty_it(rt: HostRuntime) {
-    let alloc = rt.alloc();
-    let mut tree = Tree::new(alloc);
-    assert_none_wrong(&rt, first_wrong(&rt, alloc, &mut tree, &INTO_A_BUCKET));
-    assert_eq!(rt; add_five(&mut tree), Some(15));
-    assert_none_wrong(&rt, first_wrong(&rt, alloc, &mut tree, &OUT_OF_A_BUCKET));
+    assert!(rt; new_bucket_is_updated(rt.alloc()));
 }
 
 /// Why a callback fails.
@@ -183,21 +200,28 @@ fn keep_absent(tree: &mut Tree) -> bool {
     matches!(by_reference, Ok(false)) && matches!(by_value, Ok(false))
 }
 
+fn holds(tree: &Tree, value: u64) -> bool {
+    tree.get_bytes(b"err") == Some(&value)
+}
+
+fn restores_and_writes(tree: &mut Tree) -> bool {
+    tree.insert(key(b"err"), 1).is_ok()
+        && write_and_fail(tree)
+        && holds(tree, 1)
+        && write_five(tree)
+        && holds(tree, 5)
+        && add_two(tree)
+        && holds(tree, 7)
+        && keep_absent(tree)
+        && tree.len() == 1
+}
+
+fn new_tree_restores_and_writes(alloc: Global) -> bool {
+    let mut tree = Tree::new(alloc);
+    restores_and_writes(&mut tree)
+}
+
 #[test]
 fn a_failed_update_restores_and_a_kept_one_writes(rt: HostRuntime) {
-    let mut tree = Tree::new(rt.alloc());
-    let stored = tree.insert(key(b"err"), 1).is_ok();
-    assert!(rt; stored);
-    let failed = write_and_fail(&mut tree);
-    assert!(rt; failed);
-    assert_eq!(rt; tree.get_bytes(b"err"), Some(&1));
-    let written = write_five(&mut tree);
-    assert!(rt; written);
-    assert_eq!(rt; tree.get_bytes(b"err"), Some(&5));
-    let added = add_two(&mut tree);
-    assert!(rt; added);
-    assert_eq!(rt; tree.get_bytes(b"err"), Some(&7));
-    let kept = keep_absent(&mut tree);
-    assert!(rt; kept);
-    assert_eq!(rt; tree.len(), 1);
+    assert!(rt; new_tree_restores_and_writes(rt.alloc()));
 }

@@ -4,7 +4,7 @@ ghost use Rattle.rart_keys.specs.SortedMap.{lookup, put};
 
 use super::{Ask, Form, Request, Spelling, Style};
 use rart::script::{Call, Reply, step};
-use rart::{ArrayKey, KeyTrait, NotInserted, SlotUpdate, TryInsertError};
+use rart::{ArrayKey, KeyTrait, NotInserted, Refused, SlotUpdate, TreeError, TryInsertError};
 use rart_test_trees::Tree;
 use std::alloc::Global;
 use std::ops::Bound;
@@ -35,25 +35,45 @@ pub fn answer<K: KeyTrait + Drop>(
     ask: Ask<'_>,
     style: Style,
 ) -> Option<Reply<K, u64>> {
-    Some(match ask {
-        Ask::GetBytes(text) => Reply::Value(tree.get_bytes(text.as_bytes()).copied()),
-        Ask::Contains(text) => Reply::Done(contains(tree, key(text, style.spelling)?, style.form)),
-        Ask::ContainsBytes(text) => Reply::Done(tree.contains_key_bytes(text.as_bytes())),
-        Ask::Overwrite(text, value) => {
-            Reply::Done(overwrite(tree, key(text, style.spelling)?, value, style.form))
+    match ask {
+        Ask::GetBytes(text) => Some(Reply::Value(tree.get_bytes(text.as_bytes()).copied())),
+        Ask::ContainsBytes(text) => Some(Reply::Done(tree.contains_key_bytes(text.as_bytes()))),
+        Ask::Fill(front, from, to) => Some(Reply::Done(fill(tree, front, from, to))),
+        Ask::Empty(front, from, to) => Some(Reply::Done(empty(tree, front, from, to))),
+        Ask::Holds(front, count) => Some(Reply::Done(holds(tree, front, count))),
+        Ask::Contains(text) | Ask::Overwrite(text, _) | Ask::InsertNew(text, _) => {
+            answer_at(tree, ask, key(text, style.spelling)?, style.form)
         }
-        Ask::InsertNew(text, value) => {
-            insert_new(tree, key(text, style.spelling)?, value, style.form)
-        }
-        Ask::Fill(front, from, to) => Reply::Done(fill(tree, front, from, to)),
-        Ask::Empty(front, from, to) => Reply::Done(empty(tree, front, from, to)),
-        Ask::Holds(front, count) => Reply::Done(holds(tree, front, count)),
         _ => match style.form {
-            Form::Step => step(alloc, tree, call(ask, style.spelling)?),
-            Form::ByValue => by_value(alloc, tree, ask, style.spelling)?,
-            Form::ByReference => by_reference(alloc, tree, ask, style.spelling)?,
+            Form::Step => by_step(alloc, tree, ask, style.spelling),
+            Form::ByValue => by_value(alloc, tree, ask, style.spelling),
+            Form::ByReference => by_reference(alloc, tree, ask, style.spelling),
         },
-    })
+    }
+}
+
+// A call that `step` doesn't make.
+fn answer_at<K: KeyTrait + Drop>(
+    tree: &mut Tree<K>,
+    ask: Ask<'_>,
+    key: K,
+    form: Form,
+) -> Option<Reply<K, u64>> {
+    match ask {
+        Ask::Contains(_) => Some(Reply::Done(contains(tree, key, form))),
+        Ask::Overwrite(_, value) => Some(Reply::Done(overwrite(tree, key, value, form))),
+        Ask::InsertNew(_, value) => Some(insert_new(tree, key, value, form)),
+        _ => None,
+    }
+}
+
+fn by_step<K: KeyTrait + Drop>(
+    alloc: Global,
+    tree: &mut Tree<K>,
+    ask: Ask<'_>,
+    spelling: Spelling,
+) -> Option<Reply<K, u64>> {
+    Some(step(alloc, tree, call(ask, spelling)?))
 }
 
 /// What a callback answers that requests this.
@@ -68,32 +88,80 @@ pub fn asked(request: Request) -> Result<SlotUpdate<u64>, ()> {
 
 /// The call as a value, where it is one.
 pub fn call<K: KeyTrait + Drop>(ask: Ask<'_>, spelling: Spelling) -> Option<Call<K, u64>> {
-    Some(match ask {
-        Ask::Get(text) => Call::Get(key(text, spelling)?),
-        Ask::Insert(text, value) => Call::Insert(key(text, spelling)?, value),
-        Ask::TryInsert(text, value) => Call::TryInsert(key(text, spelling)?, value),
-        Ask::Remove(text) => Call::Remove(key(text, spelling)?),
-        Ask::Delete(text) => Call::Delete(key(text, spelling)?),
-        Ask::Update(text, written, request) => {
-            Call::Update(key(text, spelling)?, written, asked(request).ok()?)
-        }
-        Ask::TryUpdate(text, written, request) => {
-            Call::TryUpdate(key(text, spelling)?, written, asked(request))
-        }
-        Ask::Longest(text) => Call::Longest(key(text, spelling)?),
-        Ask::Matches(text) => Call::Matches(key(text, spelling)?),
-        Ask::Prefix(text) => Call::Prefix(key(text, spelling)?),
-        Ask::Range(start, end) => Call::Range(
-            Bound::Included(key(start, spelling)?),
-            Bound::Excluded(key(end, spelling)?),
-        ),
-        Ask::Iter => Call::Iter,
-        Ask::Values => Call::Values,
-        Ask::Len => Call::Len,
-        Ask::IsEmpty => Call::IsEmpty,
-        Ask::Stats => Call::Stats,
-        _ => return None,
-    })
+    match ask {
+        Ask::Get(text)
+        | Ask::Insert(text, _)
+        | Ask::TryInsert(text, _)
+        | Ask::Remove(text)
+        | Ask::Delete(text)
+        | Ask::Update(text, _, _)
+        | Ask::TryUpdate(text, _, _)
+        | Ask::Longest(text)
+        | Ask::Matches(text)
+        | Ask::Prefix(text) => call_at(ask, key(text, spelling)?),
+        Ask::Range(start, end) => call_between(key(start, spelling)?, key(end, spelling)),
+        Ask::Iter => Some(Call::Iter),
+        Ask::Values => Some(Call::Values),
+        Ask::Len => Some(Call::Len),
+        Ask::IsEmpty => Some(Call::IsEmpty),
+        Ask::Stats => Some(Call::Stats),
+        _ => None,
+    }
+}
+
+fn call_at<K: Drop>(ask: Ask<'_>, key: K) -> Option<Call<K, u64>> {
+    match ask {
+        Ask::Get(_) => Some(Call::Get(key)),
+        Ask::Insert(_, value) => Some(Call::Insert(key, value)),
+        Ask::TryInsert(_, value) => Some(Call::TryInsert(key, value)),
+        Ask::Remove(_) => Some(Call::Remove(key)),
+        Ask::Delete(_) => Some(Call::Delete(key)),
+        Ask::Update(_, written, request) => match asked(request) {
+            Ok(update) => Some(Call::Update(key, written, update)),
+            Err(()) => None,
+        },
+        Ask::TryUpdate(_, written, request) => Some(Call::TryUpdate(key, written, asked(request))),
+        Ask::Longest(_) => Some(Call::Longest(key)),
+        Ask::Matches(_) => Some(Call::Matches(key)),
+        Ask::Prefix(_) => Some(Call::Prefix(key)),
+        _ => None,
+    }
+}
+
+fn call_between<K: Drop>(start: K, end: Option<K>) -> Option<Call<K, u64>> {
+    match end {
+        Some(end) => Some(Call::Range(Bound::Included(start), Bound::Excluded(end))),
+        None => None,
+    }
+}
+
+fn of_insertion<K>(answer: Result<Option<u64>, Refused<u64>>) -> Reply<K, u64> {
+    match answer {
+        Ok(old) => Reply::Value(old),
+        Err(refused) => Reply::Returned(refused.error, refused.value),
+    }
+}
+
+fn of_new_key<K>(answer: Result<(), TryInsertError<'_, u64>>) -> Reply<K, u64> {
+    match answer {
+        Ok(()) => Reply::Inserted,
+        Err(TryInsertError::Occupied(back, stored)) => Reply::Occupied(back, *stored),
+        Err(TryInsertError::Refused(refused)) => Reply::Returned(refused.error, refused.value),
+    }
+}
+
+fn of_removal<K>(answer: Result<Option<u64>, TreeError>) -> Reply<K, u64> {
+    match answer {
+        Ok(old) => Reply::Value(old),
+        Err(error) => Reply::Refused(error),
+    }
+}
+
+fn of_deletion<K>(answer: Result<bool, TreeError>) -> Reply<K, u64> {
+    match answer {
+        Ok(found) => Reply::Done(found),
+        Err(error) => Reply::Refused(error),
+    }
 }
 
 fn by_value<K: KeyTrait + Drop>(
@@ -102,27 +170,25 @@ fn by_value<K: KeyTrait + Drop>(
     ask: Ask<'_>,
     spelling: Spelling,
 ) -> Option<Reply<K, u64>> {
-    Some(match ask {
-        Ask::Get(text) => Reply::Value(tree.get(key(text, spelling)?).copied()),
-        Ask::Insert(text, value) => match tree.insert(key(text, spelling)?, value) {
-            Ok(old) => Reply::Value(old),
-            Err(refused) => Reply::Returned(refused.error, refused.value),
-        },
-        Ask::TryInsert(text, value) => match tree.try_insert(key(text, spelling)?, value) {
-            Ok(()) => Reply::Inserted,
-            Err(TryInsertError::Occupied(back, stored)) => Reply::Occupied(back, *stored),
-            Err(TryInsertError::Refused(refused)) => Reply::Returned(refused.error, refused.value),
-        },
-        Ask::Remove(text) => match tree.remove(key(text, spelling)?) {
-            Ok(old) => Reply::Value(old),
-            Err(error) => Reply::Refused(error),
-        },
-        Ask::Delete(text) => match tree.delete(key(text, spelling)?) {
-            Ok(found) => Reply::Done(found),
-            Err(error) => Reply::Refused(error),
-        },
-        _ => step(alloc, tree, call(ask, spelling)?),
-    })
+    match ask {
+        Ask::Get(text)
+        | Ask::Insert(text, _)
+        | Ask::TryInsert(text, _)
+        | Ask::Remove(text)
+        | Ask::Delete(text) => with_key(tree, ask, key(text, spelling)?),
+        _ => by_step(alloc, tree, ask, spelling),
+    }
+}
+
+fn with_key<K: KeyTrait + Drop>(tree: &mut Tree<K>, ask: Ask<'_>, key: K) -> Option<Reply<K, u64>> {
+    match ask {
+        Ask::Get(_) => Some(Reply::Value(tree.get(key).copied())),
+        Ask::Insert(_, value) => Some(of_insertion(tree.insert(key, value))),
+        Ask::TryInsert(_, value) => Some(of_new_key(tree.try_insert(key, value))),
+        Ask::Remove(_) => Some(of_removal(tree.remove(key))),
+        Ask::Delete(_) => Some(of_deletion(tree.delete(key))),
+        _ => None,
+    }
 }
 
 fn by_reference<K: KeyTrait + Drop>(
@@ -131,27 +197,28 @@ fn by_reference<K: KeyTrait + Drop>(
     ask: Ask<'_>,
     spelling: Spelling,
 ) -> Option<Reply<K, u64>> {
-    Some(match ask {
-        Ask::Get(text) => Reply::Value(tree.get_k(&key(text, spelling)?).copied()),
-        Ask::Insert(text, value) => match tree.insert_k(&key(text, spelling)?, value) {
-            Ok(old) => Reply::Value(old),
-            Err(refused) => Reply::Returned(refused.error, refused.value),
-        },
-        Ask::TryInsert(text, value) => match tree.try_insert_k(&key(text, spelling)?, value) {
-            Ok(()) => Reply::Inserted,
-            Err(TryInsertError::Occupied(back, stored)) => Reply::Occupied(back, *stored),
-            Err(TryInsertError::Refused(refused)) => Reply::Returned(refused.error, refused.value),
-        },
-        Ask::Remove(text) => match tree.remove_k(&key(text, spelling)?) {
-            Ok(old) => Reply::Value(old),
-            Err(error) => Reply::Refused(error),
-        },
-        Ask::Delete(text) => match tree.delete_k(&key(text, spelling)?) {
-            Ok(found) => Reply::Done(found),
-            Err(error) => Reply::Refused(error),
-        },
-        _ => step(alloc, tree, call(ask, spelling)?),
-    })
+    match ask {
+        Ask::Get(text)
+        | Ask::Insert(text, _)
+        | Ask::TryInsert(text, _)
+        | Ask::Remove(text)
+        | Ask::Delete(text) => {
+            let key = key(text, spelling)?;
+            with_reference(tree, ask, &key)
+        }
+        _ => by_step(alloc, tree, ask, spelling),
+    }
+}
+
+fn with_reference<K: KeyTrait>(tree: &mut Tree<K>, ask: Ask<'_>, key: &K) -> Option<Reply<K, u64>> {
+    match ask {
+        Ask::Get(_) => Some(Reply::Value(tree.get_k(key).copied())),
+        Ask::Insert(_, value) => Some(of_insertion(tree.insert_k(key, value))),
+        Ask::TryInsert(_, value) => Some(of_new_key(tree.try_insert_k(key, value))),
+        Ask::Remove(_) => Some(of_removal(tree.remove_k(key))),
+        Ask::Delete(_) => Some(of_deletion(tree.delete_k(key))),
+        _ => None,
+    }
 }
 
 fn contains<K: KeyTrait + Drop>(tree: &Tree<K>, key: K, form: Form) -> bool {

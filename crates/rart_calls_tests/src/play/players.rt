@@ -47,14 +47,18 @@ fn play<K: KeyTrait + Drop>(
     None
 }
 
+fn play_new<K: KeyTrait + Drop>(alloc: Global, rows: &[Row<'_>], style: Style) -> Option<usize> {
+    let mut tree = Tree::<K>::new(alloc);
+    play(alloc, &mut tree, rows, style)
+}
+
 fn first_wrong_spelled<K: KeyTrait + Drop>(
     alloc: Global,
     rows: &[Row<'_>],
     spelling: Spelling,
 ) -> Option<usize> {
     for form in FORMS {
-        let mut tree = Tree::<K>::new(alloc);
-        let failed = play(alloc, &mut tree, rows, Style { form, spelling });
+        let failed = play_new::<K>(alloc, rows, Style { form, spelling });
         if failed.is_some() {
             return failed;
         }
@@ -102,21 +106,28 @@ fn sweep<K: KeyTrait + Drop>(
     false
 }
 
-fn sweep_all<K: KeyTrait + Drop>(alloc: Global, rows: &[Row<'_>], style: Style) -> Option<usize> {
-    let mut tree = Tree::<K>::new(alloc);
-    let mut unrefused = Tree::<K>::new(alloc);
+fn sweep_rows<K: KeyTrait + Drop>(
+    alloc: Global,
+    tree: &mut Tree<K>,
+    unrefused: &mut Tree<K>,
+    rows: &[Row<'_>],
+    style: Style,
+) -> Option<usize> {
     let mut at = 0_usize;
     for row in rows {
-        let swept = sweep(alloc, &mut tree, &unrefused, row, style);
-        if !swept
-            || !row_holds(alloc, &mut unrefused, row, style)
-            || !are_alike(&tree, &unrefused)
-        {
+        let swept = sweep(alloc, tree, unrefused, row, style);
+        if !swept || !row_holds(alloc, unrefused, row, style) || !are_alike(tree, unrefused) {
             return Some(at);
         }
         at = at.wrapping_add(1);
     }
     None
+}
+
+fn sweep_all<K: KeyTrait + Drop>(alloc: Global, rows: &[Row<'_>], style: Style) -> Option<usize> {
+    let mut tree = Tree::<K>::new(alloc);
+    let mut unrefused = Tree::<K>::new(alloc);
+    sweep_rows(alloc, &mut tree, &mut unrefused, rows, style)
 }
 
 /// Plays the rows in each form, each call with its requests refused in turn: a refused call changes nothing, and after
@@ -139,6 +150,34 @@ pub fn first_wrong_refused<K: KeyTrait + Drop>(alloc: Global, rows: &[Row<'_>]) 
     None
 }
 
+fn play_unasked<K: KeyTrait + Drop>(
+    alloc: Global,
+    tree: &mut Tree<K>,
+    before: &[Row<'_>],
+    rows: &[Row<'_>],
+    style: Style,
+) -> Option<usize> {
+    if play(alloc, tree, before, style).is_some() {
+        return Some(rows.len());
+    }
+    refuse(alloc, 1);
+    let failed = play(alloc, tree, rows, style);
+    if was_refused(alloc) {
+        return Some(rows.len());
+    }
+    failed
+}
+
+fn play_new_unasked<K: KeyTrait + Drop>(
+    alloc: Global,
+    before: &[Row<'_>],
+    rows: &[Row<'_>],
+    style: Style,
+) -> Option<usize> {
+    let mut tree = Tree::<K>::new(alloc);
+    play_unasked(alloc, &mut tree, before, rows, style)
+}
+
 /// Plays the first rows, and then the others, none of which may ask for memory; a row that did is one past the last.
 pub fn first_wrong_unasked<K: KeyTrait + Drop>(
     alloc: Global,
@@ -150,15 +189,7 @@ pub fn first_wrong_unasked<K: KeyTrait + Drop>(
             form,
             spelling: Spelling::Bytes,
         };
-        let mut tree = Tree::<K>::new(alloc);
-        if play(alloc, &mut tree, before, style).is_some() {
-            return Some(rows.len());
-        }
-        refuse(alloc, 1);
-        let failed = play(alloc, &mut tree, rows, style);
-        if was_refused(alloc) {
-            return Some(rows.len());
-        }
+        let failed = play_new_unasked::<K>(alloc, before, rows, style);
         if failed.is_some() {
             return failed;
         }
@@ -180,24 +211,39 @@ where
     Ok(calls)
 }
 
+fn first_wrong_reply<K: KeyTrait + Drop>(
+    replies: &[Reply<K, u64>],
+    rows: &[Row<'_>],
+) -> Option<usize> {
+    if replies.len() != rows.len() {
+        return Some(rows.len());
+    }
+    let mut at = 0_usize;
+    for (reply, row) in replies.iter().zip(rows) {
+        if !is(reply, &row.1, Spelling::Bytes) {
+            return Some(at);
+        }
+        at = at.wrapping_add(1);
+    }
+    None
+}
+
+fn run_rows<K: KeyTrait + Drop>(
+    alloc: Global,
+    tree: &mut Tree<K>,
+    rows: &[Row<'_>],
+) -> Result<Option<usize>, TreeError> {
+    let replies = run(alloc, tree, calls(alloc, rows)?)?;
+    Ok(first_wrong_reply(replies.as_slice(), rows))
+}
+
 /// Plays the rows, whose calls are values, as one run.
 pub fn first_wrong_in_run<K: KeyTrait + Drop>(
     alloc: Global,
     rows: &[Row<'_>],
 ) -> Result<Option<usize>, TreeError> {
     let mut tree = Tree::<K>::new(alloc);
-    let replies = run(alloc, &mut tree, calls(alloc, rows)?)?;
-    if replies.len() != rows.len() {
-        return Ok(Some(rows.len()));
-    }
-    let mut at = 0_usize;
-    for (reply, row) in replies.iter().zip(rows) {
-        if !is(reply, &row.1, Spelling::Bytes) {
-            return Ok(Some(at));
-        }
-        at = at.wrapping_add(1);
-    }
-    Ok(None)
+    run_rows(alloc, &mut tree, rows)
 }
 
 // How many calls of a run were refused. The replies to the others are those of a run without the refused calls, which
@@ -222,7 +268,36 @@ fn refused_calls<K: KeyTrait + Drop>(
     Some(count)
 }
 
+// The same of a run's answer, which says where the run itself was refused.
+fn refused_in_answer<K: KeyTrait + Drop>(
+    alloc: Global,
+    unrefused: &mut Tree<K>,
+    rows: &[Row<'_>],
+    answer: &Result<Vec<Reply<K, u64>>, TreeError>,
+) -> Option<usize> {
+    match answer {
+        Ok(replies) => refused_calls(alloc, unrefused, rows, replies.as_slice()),
+        Err(_refused) => Some(1),
+    }
+}
+
 // Runs the calls with a request of the run refused, and returns whether one was; None where something else went wrong.
+fn run_is_refused_well<K: KeyTrait + Drop>(
+    alloc: Global,
+    tree: &mut Tree<K>,
+    unrefused: &mut Tree<K>,
+    rows: &[Row<'_>],
+    at: usize,
+) -> Result<Option<bool>, TreeError> {
+    let calls = calls(alloc, rows)?;
+    refuse(alloc, at);
+    let answer = run(alloc, tree, calls);
+    let refused = was_refused(alloc);
+    let count = refused_in_answer(alloc, unrefused, rows, &answer);
+    let well = count == Some(usize::from(refused)) && are_alike(tree, unrefused);
+    Ok(well.then_some(refused))
+}
+
 fn run_refused<K: KeyTrait + Drop>(
     alloc: Global,
     rows: &[Row<'_>],
@@ -230,18 +305,7 @@ fn run_refused<K: KeyTrait + Drop>(
 ) -> Result<Option<bool>, TreeError> {
     let mut tree = Tree::<K>::new(alloc);
     let mut unrefused = Tree::<K>::new(alloc);
-    let calls = calls(alloc, rows)?;
-    refuse(alloc, at);
-    let answer = run(alloc, &mut tree, calls);
-    let refused = was_refused(alloc);
-    let count = match answer {
-        Ok(replies) => refused_calls(alloc, &mut unrefused, rows, replies.as_slice()),
-        Err(_refused) => Some(1),
-    };
-    if count != Some(usize::from(refused)) || !are_alike(&tree, &unrefused) {
-        return Ok(None);
-    }
-    Ok(Some(refused))
+    run_is_refused_well(alloc, &mut tree, &mut unrefused, rows, at)
 }
 
 /// Runs the rows, whose calls are values, with each request of the run refused in turn. A refused run changes nothing;
