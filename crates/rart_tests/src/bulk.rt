@@ -115,9 +115,13 @@ fn first_items(alloc: Global, many: usize) -> Result<Vec<(Key, u64)>, AllocError
     Ok(items)
 }
 
+fn are_read_no_further(alloc: Global, items: &[(Key, u64)], form: Form) -> bool {
+    items.len() == ITEMS.len() && ascend(items) && reads_no_further(alloc, items, form)
+}
+
 fn all_reads_no_further(alloc: Global, form: Form) -> Result<bool, AllocError> {
     let items = first_items(alloc, ITEMS.len())?;
-    Ok(items.len() == ITEMS.len() && ascend(&items) && reads_no_further(alloc, &items, form))
+    Ok(are_read_no_further(alloc, &items, form))
 }
 
 #[test]
@@ -132,21 +136,30 @@ fn unique_loads_refused_in_turn_read_nothing_after(rt: HostRuntime) -> Result<()
     Ok(())
 }
 
-// How often each of the first so many keys was requested, and how often its value was taken.
-fn calls_of(alloc: Global, many: usize) -> Result<Option<(usize, usize)>, AllocError> {
-    let items = first_items(alloc, many)?;
-    if !ascend(&items) {
-        return Ok(None);
+fn has_length(loaded: Result<Tree<Key>, BulkError>, many: usize) -> bool {
+    match loaded {
+        Ok(tree) => tree.len() == many,
+        Err(_refused) => false,
+    }
+}
+
+// How often each key was requested, and how often its value was taken, by a load that gives so many keys.
+fn calls_of_items(alloc: Global, items: &[(Key, u64)], many: usize) -> Option<(usize, usize)> {
+    if !ascend(items) {
+        return None;
     }
     let (asked, taken) = (Cell::new(0_usize), Cell::new(0_usize));
-    let loaded = load_counting(alloc, &items, &asked, |i| {
+    let loaded = load_counting(alloc, items, &asked, |i| {
         count(&taken, i);
         7_u64
     });
-    match loaded {
-        Ok(tree) if tree.len() == many => Ok(Some((asked.get(), taken.get()))),
-        _ => Ok(None),
-    }
+    has_length(loaded, many).then_some((asked.get(), taken.get()))
+}
+
+// The same of the first so many items.
+fn calls_of(alloc: Global, many: usize) -> Result<Option<(usize, usize)>, AllocError> {
+    let items = first_items(alloc, many)?;
+    Ok(calls_of_items(alloc, &items, many))
 }
 
 #[test]

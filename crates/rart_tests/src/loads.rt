@@ -8,7 +8,7 @@ ghost use Rattle.rart.specs.Steps.{pairs_in};
 use crate::play::Tree;
 use crate::play::replies::{are_alike, is_counted};
 use rart::laws::bulk_loads::bulk_load_equals_insertion;
-use rart::{AdaptiveRadixTree, ArrayKey, BulkError, KeyTrait, TreeStats, TreeStatsTrait};
+use rart::{AdaptiveRadixTree, ArrayKey, BulkError, TreeStats, TreeStatsTrait};
 use rart_keys::laws::bulk_lists::ascending_pairs;
 use std::alloc::{AllocError, Global};
 use std::cell::Cell;
@@ -17,8 +17,8 @@ use std::cmp::Ordering;
 pub type Key = ArrayKey<8>;
 
 /// Whether the keys of the items ascend strictly.
-pub fn ascend<K: KeyTrait, V>(items: &[(K, V)]) -> bool
-    ensures { IsTrue result → IsAscending (pairs_in K.bytes items.now) }
+pub fn ascend<V>(items: &[(Key, V)]) -> bool
+    ensures { IsTrue result → IsAscending (pairs_in array_key_bytes items.now) }
 {
     ascending_pairs::<V>();
     let Some((first, rest)) = items.split_first() else {
@@ -31,11 +31,11 @@ pub fn ascend<K: KeyTrait, V>(items: &[(K, V)]) -> bool
 }
 
 /// The items by `bulk_load_sorted_unique`.
-pub fn load_unique<K: KeyTrait + Drop, V: Drop>(
+pub fn load_unique<V: Drop>(
     alloc: Global,
-    items: Vec<(K, V)>,
-) -> Result<AdaptiveRadixTree<K, V>, BulkError>
-    requires { IsAscending (pairs_in K.bytes items.items) }
+    items: Vec<(Key, V)>,
+) -> Result<AdaptiveRadixTree<Key, V>, BulkError>
+    requires { IsAscending (pairs_in array_key_bytes items.items) }
 {
     ascending_pairs::<V>();
     AdaptiveRadixTree::bulk_load_sorted_unique(alloc, items)
@@ -54,13 +54,13 @@ pub fn count(calls: &Cell<usize>, i: usize) {
 }
 
 /// The load by index of the items' keys, which counts how often each is requested.
-pub fn load_counting<K: KeyTrait, W, V: Drop, F: FnMut(usize) -> V + Drop>(
+pub fn load_counting<W, V: Drop, F: FnMut(usize) -> V + Drop>(
     alloc: Global,
-    items: &[(K, W)],
+    items: &[(Key, W)],
     asked: &Cell<usize>,
     take: F,
-) -> Result<AdaptiveRadixTree<K, V>, BulkError>
-    requires ascending { IsAscending (pairs_in K.bytes items.now) }
+) -> Result<AdaptiveRadixTree<Key, V>, BulkError>
+    requires ascending { IsAscending (pairs_in array_key_bytes items.now) }
     requires callable { (f : _) (i : _) → F.pre f i }
 {
     ascending_pairs::<W>();
@@ -69,7 +69,7 @@ pub fn load_counting<K: KeyTrait, W, V: Drop, F: FnMut(usize) -> V + Drop>(
         items.len(),
         |i|
             requires { i < length items.now }
-            ensures { (d : K × W) → result.now ≡ (slice_index_or items.entry.now i d).0 }
+            ensures { (d : _) → result.now ≡ (slice_index_or items.entry.now i d).0 }
         {
             count(asked, i);
             &items[i].0
@@ -79,24 +79,24 @@ pub fn load_counting<K: KeyTrait, W, V: Drop, F: FnMut(usize) -> V + Drop>(
 }
 
 /// The keys of the items by `bulk_load_sorted_unique_by_index`, with the values that `take` gives.
-pub fn load_by_index<K: KeyTrait, W, V: Drop, F: FnMut(usize) -> V + Drop>(
+pub fn load_by_index<W, V: Drop, F: FnMut(usize) -> V + Drop>(
     alloc: Global,
-    items: &[(K, W)],
+    items: &[(Key, W)],
     take: F,
-) -> Result<AdaptiveRadixTree<K, V>, BulkError>
-    requires ascending { IsAscending (pairs_in K.bytes items.now) }
+) -> Result<AdaptiveRadixTree<Key, V>, BulkError>
+    requires ascending { IsAscending (pairs_in array_key_bytes items.now) }
     requires callable { (f : _) (i : _) → F.pre f i }
 {
     load_counting(alloc, items, &Cell::new(0_usize), take)
 }
 
 /// The keys of the items by `bulk_load_sorted_unique_by_index_by_ref`, with the values that `take` gives.
-pub fn load_by_index_lent<K: KeyTrait, W, V: Drop, F: FnMut(usize) -> V>(
+pub fn load_by_index_lent<W, V: Drop, F: FnMut(usize) -> V>(
     alloc: Global,
-    items: &[(K, W)],
+    items: &[(Key, W)],
     take: &mut F,
-) -> Result<AdaptiveRadixTree<K, V>, BulkError>
-    requires ascending { IsAscending (pairs_in K.bytes items.now) }
+) -> Result<AdaptiveRadixTree<Key, V>, BulkError>
+    requires ascending { IsAscending (pairs_in array_key_bytes items.now) }
     requires callable { (f : _) (i : _) → F.pre f i }
 {
     ascending_pairs::<W>();
@@ -105,7 +105,7 @@ pub fn load_by_index_lent<K: KeyTrait, W, V: Drop, F: FnMut(usize) -> V>(
         items.len(),
         |i|
             requires { i < length items.now }
-            ensures { (d : K × W) → result.now ≡ (slice_index_or items.entry.now i d).0 }
+            ensures { (d : _) → result.now ≡ (slice_index_or items.entry.now i d).0 }
         { &items[i].0 },
         take,
     )

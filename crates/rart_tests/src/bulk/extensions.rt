@@ -57,15 +57,18 @@ fn read<'a>(items: Pairs<'static>, count: &'a Cell<usize>) -> Read<'a> {
     }
 }
 
+fn extends(tree: &mut Tree<Key>, row: &Row) -> bool {
+    let more_read = Cell::new(0_usize);
+    let extended = tree.extend(read(row.more, &more_read)).is_ok();
+    extended && more_read.get() == row.more.len() && has_pairs(tree, row.wanted)
+}
+
 fn is_extended(alloc: Global, row: &Row) -> bool {
-    let (first_read, more_read) = (Cell::new(0_usize), Cell::new(0_usize));
-    let Ok(mut tree) = Tree::<Key>::from_pairs(alloc, read(row.first, &first_read)) else {
-        return false;
-    };
-    tree.extend(read(row.more, &more_read)).is_ok()
-        && first_read.get() == row.first.len()
-        && more_read.get() == row.more.len()
-        && has_pairs(&tree, row.wanted)
+    let first_read = Cell::new(0_usize);
+    match Tree::<Key>::from_pairs(alloc, read(row.first, &first_read)) {
+        Ok(mut tree) => extends(&mut tree, row) && first_read.get() == row.first.len(),
+        Err(_refused) => false,
+    }
 }
 
 #[test]
@@ -76,24 +79,28 @@ fn items_in_any_order_are_inserted_in_turn(rt: HostRuntime) {
     }
 }
 
-// The same of a route table, whose pairs are looked up.
-fn are_routes(alloc: Global, row: &Row) -> bool {
-    let (first_read, more_read) = (Cell::new(0_usize), Cell::new(0_usize));
-    let Ok(mut table) = RouteTable::<Key, u64>::from_pairs(alloc, read(row.first, &first_read))
-    else {
-        return false;
-    };
-    if table.extend(read(row.more, &more_read)).is_err() {
-        return false;
-    }
-    for (prefix, target) in row.wanted {
+fn has_routes(table: &RouteTable<Key, u64>, wanted: Pairs<'_>) -> bool {
+    for (prefix, target) in wanted {
         if table.get(&key_of(prefix)) != Some(target) {
             return false;
         }
     }
-    table.len() == row.wanted.len()
-        && first_read.get() == row.first.len()
-        && more_read.get() == row.more.len()
+    table.len() == wanted.len()
+}
+
+fn extends_routes(table: &mut RouteTable<Key, u64>, row: &Row) -> bool {
+    let more_read = Cell::new(0_usize);
+    let extended = table.extend(read(row.more, &more_read)).is_ok();
+    extended && more_read.get() == row.more.len() && has_routes(table, row.wanted)
+}
+
+// The same of a route table, whose pairs are looked up.
+fn are_routes(alloc: Global, row: &Row) -> bool {
+    let first_read = Cell::new(0_usize);
+    match RouteTable::<Key, u64>::from_pairs(alloc, read(row.first, &first_read)) {
+        Ok(mut table) => extends_routes(&mut table, row) && first_read.get() == row.first.len(),
+        Err(_refused) => false,
+    }
 }
 
 #[test]
@@ -139,34 +146,43 @@ fn has_items(tree: &Tree<Key>, many: usize) -> bool {
     tree.len() == many
 }
 
+// How many items an extension stored, where it read so many: all, or those before the one that it was refused.
+fn stored(extended: &Result<(), Refused<(Key, u64)>>, was: bool, read: usize) -> Option<usize> {
+    match extended {
+        Ok(()) => (!was).then_some(ITEMS.len()),
+        Err(refused) => { (was && is_refused_at(refused, read)).then_some(read.wrapping_sub(1)) }
+    }
+}
+
 // An extension with the request of this number refused, and whether one was; None where something else went wrong.
-fn extend_refused(alloc: Global, at: usize) -> Option<bool> {
+fn extension_is_refused_well(alloc: Global, tree: &mut Tree<Key>, at: usize) -> Option<bool> {
     let count = Cell::new(0_usize);
-    let mut tree = Tree::<Key>::new(alloc);
     refuse(alloc, at);
     let result = tree.extend(read(ITEMS, &count));
     let was = was_refused(alloc);
-    let well = match &result {
-        Ok(()) => !was && has_items(&tree, ITEMS.len()),
-        Err(refused) => {
-            was && is_refused_at(refused, count.get())
-                && has_items(&tree, count.get().wrapping_sub(1))
-        }
-    };
-    well.then_some(was)
+    let many = stored(&result, was, count.get())?;
+    has_items(tree, many).then_some(was)
+}
+
+fn extend_refused(alloc: Global, at: usize) -> Option<bool> {
+    let mut tree = Tree::<Key>::new(alloc);
+    extension_is_refused_well(alloc, &mut tree, at)
+}
+
+fn is_made_well(made: &Result<Tree<Key>, Refused<(Key, u64)>>, was: bool, read: usize) -> bool {
+    match made {
+        Ok(tree) => !was && has_items(tree, ITEMS.len()),
+        Err(refused) => was && is_refused_at(refused, read),
+    }
 }
 
 // The same of a new tree.
 fn from_pairs_refused(alloc: Global, at: usize) -> Option<bool> {
     let count = Cell::new(0_usize);
     refuse(alloc, at);
-    let result = Tree::<Key>::from_pairs(alloc, read(ITEMS, &count));
+    let made = Tree::<Key>::from_pairs(alloc, read(ITEMS, &count));
     let was = was_refused(alloc);
-    let well = match &result {
-        Ok(tree) => !was && has_items(tree, ITEMS.len()),
-        Err(refused) => was && is_refused_at(refused, count.get()),
-    };
-    well.then_some(was)
+    is_made_well(&made, was, count.get()).then_some(was)
 }
 
 #[test]

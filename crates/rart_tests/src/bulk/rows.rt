@@ -5,7 +5,7 @@ use crate::loads::{
 };
 use crate::play::Tree;
 use crate::play::replies::is_counted;
-use rart::{AdaptiveRadixTree, BulkError, KeyTrait, TreeStats};
+use rart::{AdaptiveRadixTree, ArrPartial, BulkError, Iter, KeyTrait, TreeStats};
 use rart_test_tools::counted::Counted;
 use rart_test_tools::refusals::{part_ends, refuse, was_refused};
 use std::alloc::{AllocError, Global};
@@ -44,17 +44,22 @@ impl<'a> Iterator for Read<'a> {
     }
 }
 
-pub fn has_pairs(tree: &Tree<Key>, wanted: Pairs<'_>) -> bool {
-    let Ok(mut pairs) = tree.iter() else {
-        return false;
-    };
+// Whether these pairs come next, and no others.
+fn are_next(pairs: &mut Iter<'_, Key, ArrPartial<8>, u64>, wanted: Pairs<'_>) -> bool {
     for (text, value) in wanted {
         match pairs.next() {
             Some((key, stored)) if key_of(text) == key && stored == value => {}
             _ => return false,
         }
     }
-    pairs.next().is_none() && tree.len() == wanted.len()
+    pairs.next().is_none()
+}
+
+pub fn has_pairs(tree: &Tree<Key>, wanted: Pairs<'_>) -> bool {
+    match tree.iter() {
+        Ok(mut pairs) => are_next(&mut pairs, wanted) && tree.len() == wanted.len(),
+        Err(_refused) => false,
+    }
 }
 
 // A list, and what a sorted load makes of it: pairs, or the place at which it finds it unsorted.
@@ -68,6 +73,16 @@ const LISTS: [Row; 4] = [
 ];
 
 // Nothing is read after a fault.
+fn is_wanted(loaded: &Result<Tree<Key>, BulkError>, read: usize, row: &Row) -> bool {
+    match (loaded, row.1) {
+        (Ok(tree), Ok(pairs)) => has_pairs(tree, pairs) && read == row.0.len(),
+        (Err(error), Err(place)) => {
+            *error == BulkError::Unsorted { at: place } && read == place.wrapping_add(1)
+        }
+        _ => false,
+    }
+}
+
 fn row_holds(alloc: Global, row: &Row) -> bool {
     let count = Cell::new(0_usize);
     let items = Read {
@@ -75,13 +90,8 @@ fn row_holds(alloc: Global, row: &Row) -> bool {
         at: 0,
         count: &count,
     };
-    match (Tree::bulk_load_sorted(alloc, items), row.1) {
-        (Ok(tree), Ok(pairs)) => has_pairs(&tree, pairs) && count.get() == row.0.len(),
-        (Err(error), Err(place)) => {
-            error == BulkError::Unsorted { at: place } && count.get() == place.wrapping_add(1)
-        }
-        _ => false,
-    }
+    let loaded = Tree::bulk_load_sorted(alloc, items);
+    is_wanted(&loaded, count.get(), row)
 }
 
 #[test]
@@ -263,11 +273,15 @@ fn unique_refused(alloc: Global, at: usize) -> Result<Option<bool>, AllocError> 
     Ok(drops_each(result, refused, 64, &drops).then_some(refused))
 }
 
-fn by_index_refused(alloc: Global, at: usize, lent: bool) -> Result<Option<bool>, AllocError> {
-    let unused = Cell::new(0_usize);
-    let items = counted(alloc, &unused)?;
-    if !ascend(&items) {
-        return Ok(None);
+// The same of the keys by index.
+fn keys_refused(
+    alloc: Global,
+    items: &[(Key, Counted<'_>)],
+    at: usize,
+    lent: bool,
+) -> Option<bool> {
+    if !ascend(items) {
+        return None;
     }
     let drops = Cell::new(0_usize);
     let taken = Cell::new(0_usize);
@@ -279,13 +293,19 @@ fn by_index_refused(alloc: Global, at: usize, lent: bool) -> Result<Option<bool>
     };
     refuse(alloc, at);
     let result = if lent {
-        load_by_index_lent(alloc, &items, &mut take)
+        load_by_index_lent(alloc, items, &mut take)
     } else {
-        load_by_index(alloc, &items, take)
+        load_by_index(alloc, items, take)
     };
     let refused = was_refused(alloc);
     let well = drops_each(result, refused, taken.get(), &drops) && in_turn.get();
-    Ok(well.then_some(refused))
+    well.then_some(refused)
+}
+
+fn by_index_refused(alloc: Global, at: usize, lent: bool) -> Result<Option<bool>, AllocError> {
+    let unused = Cell::new(0_usize);
+    let items = counted(alloc, &unused)?;
+    Ok(keys_refused(alloc, &items, at, lent))
 }
 
 #[derive(Clone, Copy)]

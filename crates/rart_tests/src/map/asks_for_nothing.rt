@@ -34,17 +34,21 @@ fn loads_of_no_items_ask_for_nothing(rt: HostRuntime) -> Result<(), Fail> {
 
 type Tree = AdaptiveRadixTree<Key, u64>;
 
+fn is_migrated_to_nothing(tree: &Tree) -> bool {
+    match Tree::drop_closing_zeros(tree) {
+        Ok(other) => other.is_empty(),
+        Err(_error) => false,
+    }
+}
+
 // Whether a new tree and what comes of it without closing zeros are empty, while the next request is refused.
 fn is_new_quietly(alloc: Global) -> bool {
     refuse(alloc, 1);
     let tree = Tree::new(alloc);
     tree.canonical();
-    let migrated = Tree::drop_closing_zeros(&tree);
+    let migrated = is_migrated_to_nothing(&tree);
     let refused = was_refused(alloc);
-    match migrated {
-        Ok(other) => !refused && tree.is_empty() && other.is_empty(),
-        Err(_error) => false,
-    }
+    migrated && !refused && tree.is_empty()
 }
 
 #[test]
@@ -52,20 +56,33 @@ fn a_new_tree_and_its_migration_ask_for_nothing(rt: HostRuntime) {
     assert!(rt; is_new_quietly(rt.alloc()));
 }
 
+// Inserts forty keys, and returns whether there was memory for each.
+fn fill(tree: &mut Tree) -> bool {
+    for byte in 0..40u8 {
+        if tree
+            .insert_k(&Key::new_from_slice(&[byte % 20, byte]), 1)
+            .is_err()
+        {
+            return false;
+        }
+    }
+    true
+}
+
+fn are_filled_equal(alloc: Global, one: &mut Tree, other: &mut Tree) -> Option<bool> {
+    if !fill(one) || !fill(other) {
+        return None;
+    }
+    refuse(alloc, 1);
+    let same = *one == *other;
+    Some(same && !was_refused(alloc))
+}
+
 // Whether two trees of the same forty keys are equal while the next request is refused; `None` without memory for the
 // trees.
 fn are_equal_quietly(alloc: Global) -> Option<bool> {
     let (mut one, mut other) = (Tree::new(alloc), Tree::new(alloc));
-    for byte in 0..40u8 {
-        one.insert_k(&Key::new_from_slice(&[byte % 20, byte]), 1)
-            .ok()?;
-        other
-            .insert_k(&Key::new_from_slice(&[byte % 20, byte]), 1)
-            .ok()?;
-    }
-    refuse(alloc, 1);
-    let same = one == other;
-    Some(same && !was_refused(alloc))
+    are_filled_equal(alloc, &mut one, &mut other)
 }
 
 #[test]

@@ -65,12 +65,10 @@ fn pop_is_refused_well(
     (well && are_alike(tree, unrefused)).then_some(refused)
 }
 
-fn pop_is_swept(alloc: Global, count: u8, last: bool) -> bool {
-    let mut tree = filled(alloc, count);
-    let mut unrefused = filled(alloc, count);
+fn sweep_pop(alloc: Global, tree: &mut Tree, unrefused: &mut Tree, count: u8, last: bool) -> bool {
     let byte = end_byte(count, last);
     for at in 1..100_usize {
-        match pop_is_refused_well(alloc, &mut tree, &mut unrefused, byte, last, at) {
+        match pop_is_refused_well(alloc, tree, unrefused, byte, last, at) {
             Some(true) => {}
             Some(false) => {
                 part_ends(alloc);
@@ -80,6 +78,12 @@ fn pop_is_swept(alloc: Global, count: u8, last: bool) -> bool {
         }
     }
     false
+}
+
+fn pop_is_swept(alloc: Global, count: u8, last: bool) -> bool {
+    let mut tree = filled(alloc, count);
+    let mut unrefused = filled(alloc, count);
+    sweep_pop(alloc, &mut tree, &mut unrefused, count, last)
 }
 
 #[test]
@@ -133,20 +137,28 @@ fn has_ends_quietly(alloc: Global, tree: &Tree, count: u8) -> bool {
     !asked && first == wanted_first && last == wanted_last
 }
 
+fn both_ends_are_quiet(alloc: Global, count: u8) -> bool {
+    let tree = filled(alloc, count);
+    has_ends_quietly(alloc, &tree, count)
+}
+
 #[test]
 fn both_ends_ask_for_nothing(rt: HostRuntime) {
     for count in [0_u8, 1, 4, 5, 16, 17, 48, 49, 255] {
-        let tree = filled(rt.alloc(), count);
-        assert!(rt; has_ends_quietly(rt.alloc(), &tree, count), "of {count}");
+        assert!(rt; both_ends_are_quiet(rt.alloc(), count), "of {count}");
     }
+}
+
+fn gives_no_pair(alloc: Global, tree: &mut Tree) -> bool {
+    refuse(alloc, 1);
+    let (first, last) = (tree.pop_first(), tree.pop_last());
+    !was_refused(alloc) && first == Ok(None) && last == Ok(None) && tree.is_empty()
 }
 
 // Whether an empty tree gives no pair, and is as new afterwards, while the next request is refused.
 fn nothing_is_popped(alloc: Global) -> bool {
     let mut tree = Tree::new(alloc);
-    refuse(alloc, 1);
-    let (first, last) = (tree.pop_first(), tree.pop_last());
-    !was_refused(alloc) && first == Ok(None) && last == Ok(None) && tree.is_empty()
+    gives_no_pair(alloc, &mut tree)
 }
 
 #[test]
@@ -154,14 +166,16 @@ fn pops_of_an_empty_tree_ask_for_nothing(rt: HostRuntime) {
     assert!(rt; nothing_is_popped(rt.alloc()));
 }
 
-// Three routes, taken by their ends.
-fn routes_are_taken(alloc: Global) -> bool {
-    let mut table = Table::new(alloc);
+fn add_three(table: &mut Table) -> bool {
     for byte in 0..3_u8 {
         if table.add_new(&key(byte), u64::from(byte)).is_err() {
             return false;
         }
     }
+    true
+}
+
+fn three_are_taken(table: &mut Table) -> bool {
     let (first, last) = (table.pop_first(), table.pop_last());
     let left = table.len();
     let (middle, none) = (table.pop_last(), table.pop_first());
@@ -171,6 +185,12 @@ fn routes_are_taken(alloc: Global) -> bool {
         && is_pair(middle, 1)
         && none == Ok(None)
         && table.is_empty()
+}
+
+// Three routes, taken by their ends.
+fn routes_are_taken(alloc: Global) -> bool {
+    let mut table = Table::new(alloc);
+    add_three(&mut table) && three_are_taken(&mut table)
 }
 
 #[test]

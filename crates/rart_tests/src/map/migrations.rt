@@ -90,13 +90,15 @@ fn has_counts(tree: &Tree, counts: &[usize; 4], widths: &[(usize, usize, usize)]
     }
 }
 
+fn has_both(tree: &Tree) -> bool {
+    has_counts(tree, &[1, 2, 1, 2], &[(4, 1, 1)])
+        && tree.get_k(&Key::new_from_str("cat")) == Some(&1)
+        && tree.get_k(&Key::new_from_str("catalog")) == Some(&2)
+}
+
 fn is_brought_over(old: &Tree) -> bool {
     match Tree::drop_closing_zeros(old) {
-        Ok(tree) => {
-            has_counts(&tree, &[1, 2, 1, 2], &[(4, 1, 1)])
-                && tree.get_k(&Key::new_from_str("cat")) == Some(&1)
-                && tree.get_k(&Key::new_from_str("catalog")) == Some(&2)
-        }
+        Ok(tree) => has_both(&tree),
         Err(_error) => false,
     }
 }

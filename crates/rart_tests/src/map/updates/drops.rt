@@ -242,21 +242,38 @@ fn row_holds<'a>(tree: &mut Tree<'a>, row: &Row, drops: &'a Cell<usize>) -> bool
         && drops.get() == before.wrapping_add(dropped)
 }
 
+// The first row that goes another way, if one does.
+fn first_wrong_of<'a>(tree: &mut Tree<'a>, rows: &[Row], drops: &'a Cell<usize>) -> Option<usize> {
+    let mut at = 0_usize;
+    for row in rows {
+        if !row_holds(tree, row, drops) {
+            return Some(at);
+        }
+        at = at.wrapping_add(1);
+    }
+    None
+}
+
+// How many values the callbacks make.
+fn count_made(rows: &[Row]) -> usize {
+    let mut made = 0_usize;
+    for row in rows {
+        made = made.wrapping_add(row.5);
+    }
+    made
+}
+
 // The first row that goes another way, if one does; one past the last where not all values are dropped with the tree.
 fn first_wrong(alloc: Global, count: u8, rows: &[Row]) -> Option<usize> {
     let drops = Cell::new(0_usize);
     let mut tree = filled(alloc, &drops, count);
-    let mut made = usize::from(count);
-    let mut at = 0_usize;
-    for row in rows {
-        if !row_holds(&mut tree, row, &drops) {
-            return Some(at);
-        }
-        made = made.wrapping_add(row.5);
-        at = at.wrapping_add(1);
-    }
+    let wrong = first_wrong_of(&mut tree, rows, &drops);
     drop(tree);
-    (drops.get() != made).then_some(rows.len())
+    let made = usize::from(count).wrapping_add(count_made(rows));
+    if wrong.is_none() && drops.get() != made {
+        return Some(rows.len());
+    }
+    wrong
 }
 
 #[test]

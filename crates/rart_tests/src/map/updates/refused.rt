@@ -113,36 +113,52 @@ fn filled(alloc: Global, count: u8) -> Tree {
     tree
 }
 
-// Makes the update with its first request refused, then with its second and so on, and at last with memory; whether
-// each went well.
-fn row_holds(alloc: Global, row: &Row, by_value: bool) -> bool {
-    let (count, _tries, byte, ask, kept, after) = *row;
-    let mut tree = filled(alloc, count);
-    let mut before = filled(alloc, count);
-    if before.len() != usize::from(count) {
-        return false;
+fn is_as_before(tree: &Tree, before: &Tree) -> bool {
+    tree.len() == before.len() && have_same_statistics(tree, before)
+}
+
+// The update with a request refused, and whether one was; None where something else went wrong. One with memory is
+// made on both trees.
+fn row_is_answered(
+    alloc: Global,
+    tree: &mut Tree,
+    before: &mut Tree,
+    row: &Row,
+    by_value: bool,
+    at: usize,
+) -> Option<bool> {
+    let (_count, _tries, byte, ask, kept, after) = *row;
+    refuse(alloc, at);
+    let reply = answer(alloc, tree, row, by_value);
+    let refused = was_refused(alloc);
+    let found = tree.get_bytes(&[byte]).copied();
+    if refused {
+        let well = is_refusal(&reply, ask) && found == kept && is_as_before(tree, before);
+        return well.then_some(true);
     }
+    part_ends(alloc);
+    let _unrefused = answer(alloc, before, row, by_value);
+    let well = matches!(reply, Reply::Done(true)) && found == after && are_alike(tree, before);
+    well.then_some(false)
+}
+
+fn sweep_row(alloc: Global, tree: &mut Tree, before: &mut Tree, row: &Row, by_value: bool) -> bool {
     for at in 1..100_usize {
-        refuse(alloc, at);
-        let reply = answer(alloc, &mut tree, row, by_value);
-        let refused = was_refused(alloc);
-        let found = tree.get_bytes(&[byte]).copied();
-        if !refused {
-            part_ends(alloc);
-            let _unrefused = answer(alloc, &mut before, row, by_value);
-            return matches!(reply, Reply::Done(true))
-                && found == after
-                && are_alike(&tree, &before);
-        }
-        if !is_refusal(&reply, ask)
-            || found != kept
-            || tree.len() != before.len()
-            || !have_same_statistics(&tree, &before)
-        {
-            return false;
+        match row_is_answered(alloc, tree, before, row, by_value, at) {
+            Some(true) => {}
+            Some(false) => return true,
+            None => return false,
         }
     }
     false
+}
+
+// Makes the update with its first request refused, then with its second and so on, and at last with memory; whether
+// each went well.
+fn row_holds(alloc: Global, row: &Row, by_value: bool) -> bool {
+    let mut tree = filled(alloc, row.0);
+    let mut before = filled(alloc, row.0);
+    before.len() == usize::from(row.0) && sweep_row(alloc, &mut tree, &mut before, row, by_value)
 }
 
 const GROWING_AND_SHRINKING: [Row; 12] = [
@@ -184,10 +200,9 @@ fn removal_is_refused_well(alloc: Global, tree: &mut Tree, at: usize) -> Option<
     well.then_some(refused)
 }
 
-fn removal_is_swept(alloc: Global) -> bool {
-    let mut tree = filled(alloc, 5);
+fn sweep_removal(alloc: Global, tree: &mut Tree) -> bool {
     for at in 1..100_usize {
-        match removal_is_refused_well(alloc, &mut tree, at) {
+        match removal_is_refused_well(alloc, tree, at) {
             Some(true) => {}
             Some(false) => {
                 part_ends(alloc);
@@ -197,6 +212,11 @@ fn removal_is_swept(alloc: Global) -> bool {
         }
     }
     false
+}
+
+fn removal_is_swept(alloc: Global) -> bool {
+    let mut tree = filled(alloc, 5);
+    sweep_removal(alloc, &mut tree)
 }
 
 #[test]
@@ -260,20 +280,24 @@ fn keep_is_refused_well(
 }
 
 // The request of the clone is refused, and then none.
-fn keep_is_swept(alloc: Global, by_value: bool) -> bool {
-    let mut values = Values::new(alloc);
-    let stored = values.insert_k(&key(0), Roomy { alloc, value: 5 }).is_ok();
+fn sweep_keep(alloc: Global, values: &mut Values, by_value: bool) -> bool {
     for at in 1..100_usize {
-        match keep_is_refused_well(alloc, &mut values, by_value, at) {
+        match keep_is_refused_well(alloc, values, by_value, at) {
             Some(true) => {}
             Some(false) => {
                 part_ends(alloc);
-                return stored;
+                return true;
             }
             None => return false,
         }
     }
     false
+}
+
+fn keep_is_swept(alloc: Global, by_value: bool) -> bool {
+    let mut values = Values::new(alloc);
+    let stored = values.insert_k(&key(0), Roomy { alloc, value: 5 }).is_ok();
+    sweep_keep(alloc, &mut values, by_value) && stored
 }
 
 #[test]
@@ -323,26 +347,54 @@ fn write_and_remove(
     (answer, calls.get())
 }
 
+// Whether the answer and the calls are those of an update with this request refused, or of one with memory.
+fn is_answer(
+    answer: &Result<bool, TryUpdateError<(), Roomy>>,
+    calls: usize,
+    refused: bool,
+    at: usize,
+) -> bool {
+    match answer {
+        Ok(removed) => !refused && *removed && calls == 1,
+        Err(TryUpdateError::Clone) => refused && at == 1 && calls == 0,
+        Err(TryUpdateError::Remove) => refused && 1 < at && calls == 1,
+        Err(_) => false,
+    }
+}
+
+// The update with a request refused, and whether one was; None where something else went wrong.
+fn removal_is_answered(
+    alloc: Global,
+    values: &mut Values,
+    count: u8,
+    by_value: bool,
+    at: usize,
+) -> Option<bool> {
+    refuse(alloc, at);
+    let (answer, calls) = write_and_remove(values, by_value);
+    let refused = was_refused(alloc);
+    let well = is_answer(&answer, calls, refused, at);
+    (well && holds(values, count, refused)).then_some(refused)
+}
+
 // Each request refused in turn: that of the clone calls nothing back, that of the removal restores the value.
-fn removal_holds(alloc: Global, count: u8, by_value: bool) -> bool {
-    let mut values = with_clones(alloc, count);
+fn sweep_values(alloc: Global, values: &mut Values, count: u8, by_value: bool) -> bool {
     for at in 1..100_usize {
-        refuse(alloc, at);
-        let (answer, calls) = write_and_remove(&mut values, by_value);
-        if !was_refused(alloc) {
-            part_ends(alloc);
-            return matches!(answer, Ok(true)) && calls == 1 && holds(&values, count, false);
-        }
-        let well = match answer {
-            Err(TryUpdateError::Clone) => at == 1 && calls == 0,
-            Err(TryUpdateError::Remove) => 1 < at && calls == 1,
-            _ => false,
-        };
-        if !well || !holds(&values, count, true) {
-            return false;
+        match removal_is_answered(alloc, values, count, by_value, at) {
+            Some(true) => {}
+            Some(false) => {
+                part_ends(alloc);
+                return true;
+            }
+            None => return false,
         }
     }
     false
+}
+
+fn removal_holds(alloc: Global, count: u8, by_value: bool) -> bool {
+    let mut values = with_clones(alloc, count);
+    sweep_values(alloc, &mut values, count, by_value)
 }
 
 #[test]
