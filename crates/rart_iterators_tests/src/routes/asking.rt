@@ -37,11 +37,8 @@ fn is_quiet(alloc: Global, table: &mut Table) -> bool {
 #[test]
 fn look_ups_of_routes_ask_for_nothing(rt: HostRuntime) {
     let mut table = Table::new(rt.alloc());
-    let (filled, quiet) = (
-        first_wrong(&mut table, &VERSIONS),
-        is_quiet(rt.alloc(), &mut table),
-    );
-    assert!(rt; filled.is_none() && quiet);
+    let well = first_wrong(&mut table, &VERSIONS).is_none() && is_quiet(rt.alloc(), &mut table);
+    assert!(rt; well);
 }
 
 fn is_quiet_when_new(alloc: Global) -> bool {
