@@ -47,6 +47,13 @@ fn is_found(found: Option<(Key, &u64)>, wanted: Option<&Pair>) -> bool {
     }
 }
 
+fn value_of(found: Option<(usize, &u64)>) -> Option<u64> {
+    match found {
+        Some((_len, value)) => Some(*value),
+        None => None,
+    }
+}
+
 // In the forms that take a key, a reference to one, and bytes.
 fn is_longest(tree: &Tree, key: Key, probe: &[u8], matches: &[Pair]) -> bool {
     let value = matches.last().map(|pair| pair.1);
@@ -56,6 +63,7 @@ fn is_longest(tree: &Tree, key: Key, probe: &[u8], matches: &[Pair]) -> bool {
         && tree.longest_prefix_value_k(&key).copied() == value
         && tree.longest_prefix_value(key).copied() == value
         && tree.longest_prefix_value_bytes(probe).copied() == value
+        && value_of(tree.longest_prefix_len_bytes(probe)) == value
 }
 
 fn are_all_matches(tree: &Tree, key: Key, wanted: &[Pair]) -> bool {

@@ -80,13 +80,55 @@ fn all_values_are_changed_in_order(rt: HostRuntime) {
     assert!(rt; has_values(&tree, &[700, 901, 1102, 1303, 1504]));
 }
 
+fn add_thousands(tree: &mut Tree) {
+    let mut add = |value: &mut u64| *value = value.wrapping_add(1000);
+    tree.for_each_value_mut_by_ref(&mut add);
+    tree.for_each_value_mut(add);
+}
+
+fn change_all(tree: &mut Tree) {
+    for form in [Form::Lent, Form::Reference, Form::Value] {
+        number_below(tree, form, key(b"ab"));
+    }
+    add_thousands(tree);
+}
+
 #[test]
 fn changes_of_values_ask_for_nothing(rt: HostRuntime) {
     let mut tree = filled(rt.alloc(), &PAIRS).expect(&rt, "a tree");
     let mut empty = Tree::new(rt.alloc());
     refuse(rt.alloc(), 1);
-    number_below(&mut tree, Form::Lent, key(b"ab"));
-    number_below(&mut empty, Form::Lent, key(b"ab"));
+    change_all(&mut tree);
+    change_all(&mut empty);
     assert!(rt; !was_refused(rt.alloc()));
-    assert!(rt; has_values(&tree, &[0, 1, 102, 203, 4]) && empty.is_empty());
+    assert!(rt; has_values(&tree, &[2000, 2001, 2302, 2603, 2004]) && empty.is_empty());
+}
+
+// Inserts keys of one byte below a common one, so that their node is of the third kind, and numbers the values.
+fn number_wide(tree: &mut Tree) -> bool {
+    for byte in 0..40_u8 {
+        if tree.insert_k(&key(&[b'a', byte]), 7).is_err() {
+            return false;
+        }
+    }
+    number_below(tree, Form::Lent, key(b"a"));
+    true
+}
+
+fn is_numbered(tree: &Tree) -> bool {
+    let mut wanted: u64 = 7;
+    for byte in 0..40_u8 {
+        wanted = wanted.wrapping_add(100);
+        if tree.get_bytes(&[b'a', byte]) != Some(&wanted) {
+            return false;
+        }
+    }
+    true
+}
+
+#[test]
+fn values_below_a_wide_node_are_changed_in_order(rt: HostRuntime) {
+    let mut tree = Tree::new(rt.alloc());
+    let numbered = number_wide(&mut tree) && is_numbered(&tree);
+    assert!(rt; numbered);
 }
