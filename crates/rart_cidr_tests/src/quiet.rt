@@ -5,7 +5,7 @@ use rart_test_tools::refusals::{refuse, was_refused};
 use std::alloc::Global;
 use std::net::{Ipv4Addr, Ipv6Addr};
 
-// The targets of the longest match of an address, by walk and by lengths, of that of a network, and of a stored network;
+// The targets of the longest match of an address, by walk and by lengths, of that of a network, and of a stored one;
 // and how many networks contain the address and the network.
 type Found = ([Option<u64>; 4], [usize; 2]);
 

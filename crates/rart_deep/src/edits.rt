@@ -1,32 +1,33 @@
 //! Edits of the tree.
-use crate::trees::{Key, Tree, key, nested};
+//!
+//! What owns a tree hands it to one function that borrows it: each exit of a body that owns one drops it, which the
+//! checker takes long for.
+use crate::trees::{Key, Tree, insert_all, key, nested};
 use rart::{RouteTable, SlotUpdate, TryUpdateError};
 use std::alloc::Global;
+
+type Routes = RouteTable<Key, u64>;
 
 /// Stores each key again, and returns how many had a value.
 pub fn insert(alloc: Global) -> Option<usize> {
     let mut tree = nested(alloc)?;
-    let mut stored: usize = 0;
-    for length in 1..1025 {
-        if tree.insert_k(&key(length), 2).ok()?.is_some() {
-            stored = stored.saturating_add(1);
-        }
-    }
-    Some(stored)
+    insert_all(&mut tree, 2)
 }
 
-/// Inserts each key as a new one, and returns how many the tree then has.
-pub fn insert_new(alloc: Global) -> Option<usize> {
-    let mut tree = Tree::new(alloc);
+fn insert_new_all(tree: &mut Tree) -> Option<usize> {
     for length in 1..1025 {
         tree.insert_new_k(&key(length), 1).ok()?;
     }
     Some(tree.len())
 }
 
-/// Tries to insert each key twice, and returns how often that went well.
-pub fn try_insert(alloc: Global) -> Option<usize> {
+/// Inserts each key as a new one, and returns how many the tree then has.
+pub fn insert_new(alloc: Global) -> Option<usize> {
     let mut tree = Tree::new(alloc);
+    insert_new_all(&mut tree)
+}
+
+fn try_insert_all(tree: &mut Tree) -> usize {
     let mut new: usize = 0;
     for length in 1..1025 {
         for _time in 0..2 {
@@ -35,12 +36,16 @@ pub fn try_insert(alloc: Global) -> Option<usize> {
             }
         }
     }
-    Some(new)
+    new
 }
 
-/// Removes all keys, the longest first, and returns how many were stored.
-pub fn remove(alloc: Global) -> Option<usize> {
-    let mut tree = nested(alloc)?;
+/// Tries to insert each key twice, and returns how often that went well.
+pub fn try_insert(alloc: Global) -> Option<usize> {
+    let mut tree = Tree::new(alloc);
+    Some(try_insert_all(&mut tree))
+}
+
+fn remove_all(tree: &mut Tree) -> Option<usize> {
     let mut removed: usize = 0;
     for shorter in 0..1024 {
         if tree.remove_k(&key(1024 - shorter)).ok()?.is_some() {
@@ -50,9 +55,13 @@ pub fn remove(alloc: Global) -> Option<usize> {
     Some(removed)
 }
 
-/// Deletes all keys but the longest, so that nodes are merged, and returns how many were stored.
-pub fn delete(alloc: Global) -> Option<usize> {
+/// Removes all keys, the longest first, and returns how many were stored.
+pub fn remove(alloc: Global) -> Option<usize> {
     let mut tree = nested(alloc)?;
+    remove_all(&mut tree)
+}
+
+fn delete_shorter(tree: &mut Tree) -> Option<usize> {
     let mut removed: usize = 0;
     for shorter in 1..1024 {
         if tree.delete_k(&key(1024 - shorter)).ok()? {
@@ -62,28 +71,37 @@ pub fn delete(alloc: Global) -> Option<usize> {
     Some(removed)
 }
 
-/// Takes all pairs from the front, and returns how many there were.
-pub fn pop_first(alloc: Global) -> Option<usize> {
+/// Deletes all keys but the longest, so that nodes are merged, and returns how many were stored.
+pub fn delete(alloc: Global) -> Option<usize> {
     let mut tree = nested(alloc)?;
+    delete_shorter(&mut tree)
+}
+
+fn pop_all(tree: &mut Tree, is_first: bool) -> Option<usize> {
     let mut taken: usize = 0;
     for _time in 0..1024 {
-        if tree.pop_first().ok()?.is_some() {
+        let popped = if is_first {
+            tree.pop_first()
+        } else {
+            tree.pop_last()
+        };
+        if popped.ok()?.is_some() {
             taken = taken.saturating_add(1);
         }
     }
     Some(taken)
 }
 
+/// Takes all pairs from the front, and returns how many there were.
+pub fn pop_first(alloc: Global) -> Option<usize> {
+    let mut tree = nested(alloc)?;
+    pop_all(&mut tree, true)
+}
+
 /// Takes all pairs from the back, and returns how many there were.
 pub fn pop_last(alloc: Global) -> Option<usize> {
     let mut tree = nested(alloc)?;
-    let mut taken: usize = 0;
-    for _time in 0..1024 {
-        if tree.pop_last().ok()?.is_some() {
-            taken = taken.saturating_add(1);
-        }
-    }
-    Some(taken)
+    pop_all(&mut tree, false)
 }
 
 /// What a callback requests.
@@ -123,29 +141,35 @@ fn try_update_all(tree: &mut Tree, request: Request) -> Option<usize> {
     Some(tree.len())
 }
 
+fn update_in_turn(tree: &mut Tree) -> Option<usize> {
+    let kept = update_all(tree, Request::Keep)?;
+    let replaced = update_all(tree, Request::Insert)?;
+    let removed = update_all(tree, Request::Remove)?;
+    let inserted = update_all(tree, Request::Insert)?;
+    Some((kept % 2048) + (replaced % 2048) + (removed % 2048) + (inserted % 2048))
+}
+
 /// Keeps, replaces, removes and inserts all keys by updates, and returns the number of keys after each of these.
 pub fn update(alloc: Global) -> Option<usize> {
     let mut tree = nested(alloc)?;
-    let kept = update_all(&mut tree, Request::Keep)?;
-    let replaced = update_all(&mut tree, Request::Insert)?;
-    let removed = update_all(&mut tree, Request::Remove)?;
-    let inserted = update_all(&mut tree, Request::Insert)?;
+    update_in_turn(&mut tree)
+}
+
+fn try_update_in_turn(tree: &mut Tree) -> Option<usize> {
+    let kept = try_update_all(tree, Request::Keep)?;
+    let replaced = try_update_all(tree, Request::Insert)?;
+    let removed = try_update_all(tree, Request::Remove)?;
+    let inserted = try_update_all(tree, Request::Insert)?;
     Some((kept % 2048) + (replaced % 2048) + (removed % 2048) + (inserted % 2048))
 }
 
 /// The same by callbacks that may fail.
 pub fn try_update(alloc: Global) -> Option<usize> {
     let mut tree = nested(alloc)?;
-    let kept = try_update_all(&mut tree, Request::Keep)?;
-    let replaced = try_update_all(&mut tree, Request::Insert)?;
-    let removed = try_update_all(&mut tree, Request::Remove)?;
-    let inserted = try_update_all(&mut tree, Request::Insert)?;
-    Some((kept % 2048) + (replaced % 2048) + (removed % 2048) + (inserted % 2048))
+    try_update_in_turn(&mut tree)
 }
 
-/// Writes to each value, and returns how many there are.
-pub fn get_mut(alloc: Global) -> Option<usize> {
-    let mut tree = nested(alloc)?;
+fn write_all(tree: &mut Tree) -> usize {
     let mut stored: usize = 0;
     for length in 1..1025 {
         if let Some(value) = tree.get_mut_k(&key(length)) {
@@ -153,7 +177,13 @@ pub fn get_mut(alloc: Global) -> Option<usize> {
             stored = stored.saturating_add(1);
         }
     }
-    Some(stored)
+    stored
+}
+
+/// Writes to each value, and returns how many there are.
+pub fn get_mut(alloc: Global) -> Option<usize> {
+    let mut tree = nested(alloc)?;
+    Some(write_all(&mut tree))
 }
 
 /// Writes to each value by one walk, and returns how many there are.
@@ -167,13 +197,15 @@ pub fn values_mut(alloc: Global) -> Option<usize> {
     Some(walked)
 }
 
-/// Adds, replaces and withdraws routes, and returns how many there were.
-pub fn routes(alloc: Global) -> Option<usize> {
-    let mut routes: RouteTable<Key, u64> = RouteTable::new(alloc);
+fn add_all(routes: &mut Routes) -> Option<()> {
     for length in 1..1025 {
         routes.add_new(&key(length), 1).ok()?;
         routes.replace(&key(length), 2).ok()?;
     }
+    Some(())
+}
+
+fn withdraw_all(routes: &mut Routes) -> Option<usize> {
     let mut withdrawn: usize = 0;
     for shorter in 0..1024 {
         if routes.withdraw(&key(1024 - shorter)).ok()?.is_some() {
@@ -181,6 +213,13 @@ pub fn routes(alloc: Global) -> Option<usize> {
         }
     }
     Some(withdrawn)
+}
+
+/// Adds, replaces and withdraws routes, and returns how many there were.
+pub fn routes(alloc: Global) -> Option<usize> {
+    let mut routes = Routes::new(alloc);
+    add_all(&mut routes)?;
+    withdraw_all(&mut routes)
 }
 
 /// Drops all pairs, and returns how many are left.

@@ -1,5 +1,5 @@
 //! Reads of the tree, and of two like it.
-use crate::trees::{Key, key, nested};
+use crate::trees::{Key, Tree, key, nested};
 use rart::{KeyTrait, TreeStatsTrait};
 use std::alloc::Global;
 use std::ops::Bound;
@@ -54,16 +54,20 @@ pub fn intersect_views(alloc: Global) -> Option<usize> {
     Some(calls)
 }
 
-/// Returns the number of keys that are found.
-pub fn look_up(alloc: Global) -> Option<usize> {
-    let tree = nested(alloc)?;
+fn found_in(tree: &Tree) -> usize {
     let mut found: usize = 0;
     for length in 1..1025 {
         if tree.contains_key_k(&key(length)) {
             found = found.saturating_add(1);
         }
     }
-    Some(found)
+    found
+}
+
+/// Returns the number of keys that are found.
+pub fn look_up(alloc: Global) -> Option<usize> {
+    let tree = nested(alloc)?;
+    Some(found_in(&tree))
 }
 
 /// Returns the length of the longest key that begins the longest of all.
@@ -82,12 +86,23 @@ pub fn matches(alloc: Global) -> Option<usize> {
     Some(count)
 }
 
+fn count_iter(tree: &Tree) -> Option<usize> {
+    let mut count: usize = 0;
+    for _pair in tree.iter().ok()? {
+        count = count.saturating_add(1);
+    }
+    Some(count)
+}
+
 /// Returns the number of pairs.
 pub fn iter(alloc: Global) -> Option<usize> {
     let tree = nested(alloc)?;
+    count_iter(&tree)
+}
+
+fn count_prefix(tree: &Tree) -> Option<usize> {
     let mut count: usize = 0;
-    let mut pairs = tree.iter().ok()?;
-    while let Some(_pair) = pairs.next() {
+    for _pair in tree.prefix_iter_k(&key(2)).ok()? {
         count = count.saturating_add(1);
     }
     Some(count)
@@ -96,9 +111,13 @@ pub fn iter(alloc: Global) -> Option<usize> {
 /// Returns the number of pairs with a prefix of two bytes.
 pub fn prefix(alloc: Global) -> Option<usize> {
     let tree = nested(alloc)?;
+    count_prefix(&tree)
+}
+
+fn count_range(tree: &Tree) -> Option<usize> {
     let mut count: usize = 0;
-    let mut pairs = tree.prefix_iter_k(&key(2)).ok()?;
-    while let Some(_pair) = pairs.next() {
+    let (start, end) = (Bound::Included(key(3)), Bound::Excluded(key(1024)));
+    for _pair in tree.range(start, end).ok()? {
         count = count.saturating_add(1);
     }
     Some(count)
@@ -107,13 +126,7 @@ pub fn prefix(alloc: Global) -> Option<usize> {
 /// Returns the number of pairs from the third to the last but one.
 pub fn range(alloc: Global) -> Option<usize> {
     let tree = nested(alloc)?;
-    let mut count: usize = 0;
-    let (start, end) = (Bound::Included(key(3)), Bound::Excluded(key(1024)));
-    let mut pairs = tree.range(start, end).ok()?;
-    while let Some(_pair) = pairs.next() {
-        count = count.saturating_add(1);
-    }
-    Some(count)
+    count_range(&tree)
 }
 
 /// Returns the number of views.

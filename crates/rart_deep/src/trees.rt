@@ -27,11 +27,20 @@ pub fn key(length: usize) -> Key
     first(&BYTES, length)
 }
 
+/// Inserts the keys of 1 to 1024 bytes with this value, and returns how many had one. `None` without memory.
+pub fn insert_all(tree: &mut Tree, value: u64) -> Option<usize> {
+    let mut stored: usize = 0;
+    for length in 1..1025 {
+        if tree.insert_k(&key(length), value).ok()?.is_some() {
+            stored = stored.saturating_add(1);
+        }
+    }
+    Some(stored)
+}
+
 /// Returns the tree of the keys of 1 to 1024 bytes, which is a path of as many nodes. `None` without memory.
 pub fn nested(alloc: Global) -> Option<Tree> {
     let mut tree = Tree::new(alloc);
-    for length in 1..1025 {
-        tree.insert_k(&key(length), 1).ok()?;
-    }
+    insert_all(&mut tree, 1)?;
     Some(tree)
 }

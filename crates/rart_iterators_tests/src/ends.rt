@@ -3,8 +3,6 @@
 use rart::{AdaptiveRadixTree, ArrayKey, KeyTrait, RouteTable};
 use rart_test_trees::texts::{Key, Pair, Tree, filled, is_pair};
 use std::alloc::Global;
-use std::panic::Expect;
-use std::process::Abort;
 
 // Pairs in the order of their insertion; the first and the last by key.
 type Row = (&'static [Pair], Option<Pair>, Option<Pair>);
@@ -42,31 +40,49 @@ fn has_ends(tree: &Tree, row: &Row) -> bool {
     is_end(&tree.first_key_value(), &row.1) && is_end(&tree.last_key_value(), &row.2)
 }
 
+// Whether the tree of the row's pairs has its ends.
+fn is_row(alloc: Global, row: &Row) -> bool {
+    match filled(alloc, row.0) {
+        Some(tree) => has_ends(&tree, row),
+        None => false,
+    }
+}
+
 #[test]
 fn the_first_and_the_last_pair(rt: HostRuntime) {
-    for row in ROWS {
-        assert!(rt; has_ends(&filled(rt.alloc(), row.0).expect(&rt, "a tree"), &row));
+    for row in &ROWS {
+        assert!(rt; is_row(rt.alloc(), row));
     }
 }
 
-// A tree of one byte a key, `count` of them from `from` on.
-fn fan(rt: &impl Abort, alloc: Global, from: u8, count: u8) -> AdaptiveRadixTree<ArrayKey<1>, u64> {
-    let mut tree = AdaptiveRadixTree::new(alloc);
-    for at in 0..count {
-        let byte = from.wrapping_add(at);
-        assert!(rt;
-            tree.insert(ArrayKey::<1>::new_from_slice(&[byte]), u64::from(byte))
-                .is_ok()
-        );
+type Fan = AdaptiveRadixTree<ArrayKey<1>, u64>;
+
+// Inserts `count` keys of one byte, from `from` on.
+fn insert_fan(tree: &mut Fan, from: usize, count: usize) -> bool {
+    for byte in 0..=255_u8 {
+        let at = usize::from(byte);
+        if from <= at
+            && at < from.wrapping_add(count)
+            && tree
+                .insert(ArrayKey::<1>::new_from_slice(&[byte]), u64::from(byte))
+                .is_err()
+        {
+            return false;
+        }
     }
-    tree
+    true
 }
 
-fn end_values(tree: &AdaptiveRadixTree<ArrayKey<1>, u64>) -> (Option<u64>, Option<u64>) {
+fn end_values(tree: &Fan) -> (Option<u64>, Option<u64>) {
     (
         tree.first_key_value().map(|pair| *pair.1),
         tree.last_key_value().map(|pair| *pair.1),
     )
+}
+
+fn fan_has_ends(alloc: Global, from: usize, count: usize, last: u64) -> bool {
+    let mut tree = Fan::new(alloc);
+    insert_fan(&mut tree, from, count) && end_values(&tree) == (Some(from as u64), Some(last))
 }
 
 #[test]
@@ -78,27 +94,33 @@ fn the_ends_in_each_kind_of_node(rt: HostRuntime) {
         (7, 49, 55),
         (7, 249, 255),
     ] {
-        let tree = fan(&rt, rt.alloc(), from, count);
-        assert_eq!(rt; end_values(&tree), (Some(7), Some(last)));
+        assert!(rt; fan_has_ends(rt.alloc(), from, count, last), "{count} keys");
     }
+}
+
+type Table = RouteTable<ArrayKey<4>, u64>;
+
+fn has_no_ends(table: &Table) -> bool {
+    table.first_key_value().is_none() && table.last_key_value().is_none()
+}
+
+fn has_ends_1_and_2(table: &Table) -> bool {
+    table.first_key_value().map(|pair| *pair.1) == Some(1)
+        && table.last_key_value().map(|pair| *pair.1) == Some(2)
+}
+
+fn stores(table: &mut Table, prefix: &ArrayKey<4>, target: u64) -> bool {
+    table.replace(prefix, target).is_ok()
 }
 
 #[test]
 fn the_ends_of_a_route_table(rt: HostRuntime) {
-    let mut table = RouteTable::<ArrayKey<4>, u64>::new(rt.alloc());
-    assert!(rt; table.first_key_value().is_none() && table.last_key_value().is_none());
-    assert!(rt;
-        table
-            .replace(&ArrayKey::<4>::new_from_slice(b"b"), 2)
-            .is_ok()
-    );
-    assert!(rt;
-        table
-            .replace(&ArrayKey::<4>::new_from_slice(b"a"), 1)
-            .is_ok()
-    );
-    assert!(rt; table.first_key_value().map(|pair| *pair.1) == Some(1));
-    assert!(rt; table.last_key_value().map(|pair| *pair.1) == Some(2));
+    let mut table = Table::new(rt.alloc());
+    let well = has_no_ends(&table)
+        && stores(&mut table, &ArrayKey::<4>::new_from_slice(b"b"), 2)
+        && stores(&mut table, &ArrayKey::<4>::new_from_slice(b"a"), 1)
+        && has_ends_1_and_2(&table);
+    assert!(rt; well);
 }
 
 // The values in the order in which they are taken, as digits after a first 1, and whether the tree is then empty.
@@ -131,23 +153,28 @@ const ORDERS: [(&[Pair], u64, u64); 4] = [
     ),
 ];
 
+fn taken_of(alloc: Global, pairs: &[Pair], last: bool) -> Option<u64> {
+    match filled(alloc, pairs) {
+        Some(mut tree) => taken(&mut tree, last),
+        None => None,
+    }
+}
+
 #[test]
 fn pairs_are_taken_from_both_ends(rt: HostRuntime) {
     for (pairs, up, down) in ORDERS {
-        let mut tree = filled(rt.alloc(), pairs).expect(&rt, "a tree");
-        assert_eq!(rt; taken(&mut tree, false), Some(up));
-        let mut tree = filled(rt.alloc(), pairs).expect(&rt, "a tree");
-        assert_eq!(rt; taken(&mut tree, true), Some(down));
+        assert_eq!(rt; taken_of(rt.alloc(), pairs, false), Some(up));
+        assert_eq!(rt; taken_of(rt.alloc(), pairs, true), Some(down));
     }
 }
 
 // Takes all pairs of a fan from its last, through each kind of node.
-fn drains(tree: &mut AdaptiveRadixTree<ArrayKey<1>, u64>) -> bool {
-    for wanted in 0..=255_u64 {
-        let wanted = 255_u64.wrapping_sub(wanted);
+fn drains(tree: &mut Fan) -> bool {
+    for at in 0..=255_u8 {
+        let byte = 255_u8.wrapping_sub(at);
         match tree.pop_last() {
             Ok(Some((key, value))) => {
-                if value != wanted || key.as_ref().first().copied().map(u64::from) != Some(wanted) {
+                if value != u64::from(byte) || key.as_ref() != [byte].as_slice() {
                     return false;
                 }
             }
@@ -159,10 +186,7 @@ fn drains(tree: &mut AdaptiveRadixTree<ArrayKey<1>, u64>) -> bool {
 
 #[test]
 fn a_fan_is_taken_from_its_last(rt: HostRuntime) {
-    let mut tree = AdaptiveRadixTree::new(rt.alloc());
-    for byte in 0..=255_u8 {
-        let key = ArrayKey::<1>::new_from_slice(&[byte]);
-        assert!(rt; tree.insert(key, u64::from(byte)).is_ok());
-    }
-    assert!(rt; drains(&mut tree));
+    let mut tree = Fan::new(rt.alloc());
+    let well = insert_fan(&mut tree, 0, 256) && drains(&mut tree);
+    assert!(rt; well);
 }

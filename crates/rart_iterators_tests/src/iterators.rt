@@ -1,17 +1,22 @@
 //! Iterators of the map, and look-ups and walks of a tree that is seen.
 
 use rart::{
-    AdaptiveRadixTree, ArrPartial, ArrayKey, Iter, KeyTrait, Seen, TreeError, ValuesIter, Visits,
+    AdaptiveRadixTree, ArrPartial, ArrayKey, Iter, KeyTrait, Seen, SeenIter, TreeError, ValuesIter,
+    Visits,
 };
 use rart_test_tools::refusals::{refuse, was_refused};
 use std::alloc::Global;
-use std::process::Abort;
+use std::panic::Expect;
 
 type Key = ArrayKey<4>;
 
 type Tree = AdaptiveRadixTree<Key, u64>;
 
-const FIVE: [(&[u8], u64); 5] = [
+type Pairs<'a> = Iter<'a, Key, ArrPartial<4>, u64>;
+
+type Pair = (&'static [u8], u64);
+
+const FIVE: [Pair; 5] = [
     (b"ab", 1),
     (b"abcd", 2),
     (b"abce", 3),
@@ -19,159 +24,211 @@ const FIVE: [(&[u8], u64); 5] = [
     (b"ba", 5),
 ];
 
-// The keys of those bytes, put in from the last to the first.
-fn filled(rt: &impl Abort, alloc: Global, pairs: &[(&[u8], u64)]) -> Tree {
-    let mut tree = Tree::new(alloc);
-    for (bytes, value) in pairs.iter().rev() {
-        assert!(rt; bytes.len() <= 4);
-        assert!(rt; matches!(tree.insert(Key::new_from_slice(bytes), *value), Ok(None)));
+// Inserts FIVE from the last to the first.
+fn insert_five(tree: &mut Tree) -> bool {
+    for (bytes, value) in FIVE.iter().rev() {
+        if bytes.len() > 4 || !matches!(tree.insert(Key::new_from_slice(bytes), *value), Ok(None)) {
+            return false;
+        }
     }
-    tree
+    true
+}
+
+fn filled(alloc: Global) -> Option<Tree> {
+    let mut tree = Tree::new(alloc);
+    if insert_five(&mut tree) {
+        Some(tree)
+    } else {
+        None
+    }
 }
 
 // The pairs that come next are these.
-fn come_next(
-    rt: &impl Abort,
-    pairs: &mut Iter<'_, Key, ArrPartial<4>, u64>,
-    wanted: &[(&[u8], u64)],
-) {
+fn come_next(pairs: &mut Pairs<'_>, wanted: &[Pair]) -> bool {
     for (bytes, value) in wanted {
         match pairs.next() {
-            Some((key, stored)) => assert!(rt; key.as_ref() == *bytes && *stored == *value),
-            None => assert!(rt; false, "ended early"),
+            Some((key, stored)) => {
+                if key.as_ref() != *bytes || *stored != *value {
+                    return false;
+                }
+            }
+            None => return false,
         }
+    }
+    true
+}
+
+// The pairs are FIVE, and after the last always none.
+fn are_five(pairs: &mut Pairs<'_>) -> bool {
+    come_next(pairs, &FIVE) && pairs.next().is_none() && pairs.next().is_none()
+}
+
+fn gives_five(tree: &Tree) -> bool {
+    match tree.iter() {
+        Ok(mut pairs) => are_five(&mut pairs),
+        Err(_) => false,
     }
 }
 
-fn pairs<'a>(rt: &impl Abort, tree: &'a Tree) -> Iter<'a, Key, ArrPartial<4>, u64> {
-    let Ok(pairs) = tree.iter() else {
-        panic!(rt; "refused with ample memory")
-    };
-    pairs
+// Whether an iterator gives its first two pairs and is dropped.
+fn gives_two(tree: &Tree) -> bool {
+    match tree.iter() {
+        Ok(mut dropped) => {
+            let well = come_next(&mut dropped, &FIVE[..2]);
+            drop(dropped);
+            well
+        }
+        Err(_) => false,
+    }
 }
 
-fn gives_all(rt: &impl Abort, tree: &Tree, wanted: &[(&[u8], u64)]) {
-    let mut all = pairs(rt, tree);
-    come_next(rt, &mut all, wanted);
-    assert!(rt; all.next().is_none() && all.next().is_none());
+fn is_unchanged_by_a_dropped_iterator(tree: &Tree) -> bool {
+    gives_two(tree) && gives_five(tree) && tree.len() == 5
 }
 
 #[test]
 fn a_dropped_iterator_changes_nothing(rt: HostRuntime) {
-    let tree = filled(&rt, rt.alloc(), &FIVE);
-    let mut dropped = pairs(&rt, &tree);
-    come_next(&rt, &mut dropped, &FIVE[..2]);
-    drop(dropped);
-    gives_all(&rt, &tree, &FIVE);
-    assert_eq!(rt; tree.len(), 5);
+    let tree = filled(rt.alloc()).expect(&rt, "a tree");
+    assert!(rt; is_unchanged_by_a_dropped_iterator(&tree));
 }
 
-// The values of a tree of the one-byte keys put in so far, each with its byte as the value, ascend and are so many.
-fn ascend(rt: &impl Abort, values: ValuesIter<'_, Key, u64>, count: usize) {
+// The values ascend, and are so many.
+fn ascend(values: &mut ValuesIter<'_, Key, u64>, count: usize) -> bool {
     let mut last = None;
     let mut many = 0_usize;
-    for value in values {
-        assert!(rt; last < Some(*value), "at {value} of {count}");
+    while let Some(value) = values.next() {
+        if last >= Some(*value) {
+            return false;
+        }
         last = Some(*value);
         many = many.wrapping_add(1);
     }
-    assert_eq!(rt; many, count);
+    many == count
+}
+
+fn values_ascend(tree: &Tree, count: usize) -> bool {
+    match tree.values_iter() {
+        Ok(mut values) => ascend(&mut values, count),
+        Err(_) => false,
+    }
+}
+
+// Inserts the keys of one byte, each with its byte as the value; answers how many were stored when the values didn't
+// ascend, if that was so.
+fn first_wrong_count(tree: &mut Tree) -> Option<usize> {
+    for count in 0..256_usize {
+        let byte = (count * 167 % 256) as u8;
+        let inserted = tree.insert(Key::new_from_slice(&[byte]), u64::from(byte));
+        if !matches!(inserted, Ok(None)) || !values_ascend(tree, count + 1) {
+            return Some(count);
+        }
+    }
+    None
 }
 
 #[test]
 fn every_kind_of_node_is_walked_in_order(rt: HostRuntime) {
     let mut tree = Tree::new(rt.alloc());
-    for count in 0..256_usize {
-        let byte = (count * 167 % 256) as u8;
-        assert!(rt;
-            matches!(
-                tree.insert(Key::new_from_slice(&[byte]), u64::from(byte)),
-                Ok(None)
-            )
-        );
-        match tree.values_iter() {
-            Ok(values) => ascend(&rt, values, count + 1),
-            Err(_refused) => assert!(rt; false, "refused with ample memory"),
-        }
-    }
+    assert_eq!(rt; first_wrong_count(&mut tree), None);
 }
 
 fn seen<'a>(tree: &'a Tree) -> Seen<'a, Key, u64, Visits> {
     tree.seen()
 }
 
+fn answers_look_ups(tree: &Tree) -> bool {
+    let key = Key::new_from_slice(b"abce");
+    seen(tree).get_k_counted(&key, &mut Visits::new()) == Some(&3)
+        && seen(tree)
+            .get_bytes_counted(b"abcde", &mut Visits::new())
+            .is_none()
+        && seen(tree).get_bytes_counted(b"ba", &mut Visits::new()) == Some(&5)
+}
+
 #[test]
 fn counted_look_ups_answer_as_plain_ones(rt: HostRuntime) {
-    let tree = filled(&rt, rt.alloc(), &FIVE);
-    let key = Key::new_from_slice(b"abce");
-    assert_eq!(rt;
-        seen(&tree).get_k_counted(&key, &mut Visits::new()),
-        Some(&3)
-    );
-    assert_eq!(rt;
-        seen(&tree).get_bytes_counted(b"abcde", &mut Visits::new()),
-        None
-    );
-    assert_eq!(rt;
-        seen(&tree).get_bytes_counted(b"ba", &mut Visits::new()),
-        Some(&5)
-    );
+    let tree = filled(rt.alloc()).expect(&rt, "a tree");
+    assert!(rt; answers_look_ups(&tree));
+}
+
+// The pairs of a counted iteration are FIVE, and then none.
+fn are_five_counted(pairs: &mut SeenIter<'_, Key, u64, Visits>) -> bool {
+    for (bytes, value) in FIVE {
+        match pairs.next_counted(&mut Visits::new()) {
+            Some((key, stored)) => {
+                if key.as_ref() != bytes || *stored != value {
+                    return false;
+                }
+            }
+            None => return false,
+        }
+    }
+    pairs.next_counted(&mut Visits::new()).is_none()
+}
+
+fn gives_five_counted(tree: &Tree) -> bool {
+    match seen(tree).iter_counted(&mut Visits::new()) {
+        Ok(mut pairs) => are_five_counted(&mut pairs),
+        Err(_) => false,
+    }
 }
 
 #[test]
 fn a_counted_iteration_answers_as_the_plain_one(rt: HostRuntime) {
-    let tree = filled(&rt, rt.alloc(), &FIVE);
-    let Ok(mut all) = seen(&tree).iter_counted(&mut Visits::new()) else {
-        panic!(rt; "refused with ample memory")
+    let tree = filled(rt.alloc()).expect(&rt, "a tree");
+    assert!(rt; gives_five_counted(&tree));
+}
+
+// Whether an iterator with this request refused says `Memory`, or gives all pairs as none was refused. It answers
+// whether one was.
+fn pairs_are_refused_well(alloc: Global, tree: &Tree, at: usize) -> Option<bool> {
+    refuse(alloc, at);
+    let answer = tree.iter();
+    let refused = was_refused(alloc);
+    let well = match answer {
+        Ok(mut pairs) => !refused && are_five(&mut pairs),
+        Err(error) => refused && error == TreeError::Memory,
     };
-    for (bytes, value) in FIVE {
-        match all.next_counted(&mut Visits::new()) {
-            Some((key, stored)) => assert!(rt; key.as_ref() == bytes && *stored == value),
-            None => assert!(rt; false, "ended early"),
+    well.then_some(refused)
+}
+
+// The same of an iterator over values.
+fn values_are_refused_well(alloc: Global, tree: &Tree, at: usize) -> Option<bool> {
+    refuse(alloc, at);
+    let answer = tree.values_iter();
+    let refused = was_refused(alloc);
+    let well = match answer {
+        Ok(mut values) => !refused && ascend(&mut values, 5),
+        Err(error) => refused && error == TreeError::Memory,
+    };
+    well.then_some(refused)
+}
+
+// Each request of an iterator refused in turn, and at last none. After a refusal another iterator gives all pairs.
+fn are_swept(alloc: Global, tree: &Tree, over_values: bool) -> bool {
+    for at in 1..10_usize {
+        let refused = if over_values {
+            values_are_refused_well(alloc, tree, at)
+        } else {
+            pairs_are_refused_well(alloc, tree, at)
+        };
+        match refused {
+            Some(true) if gives_five(tree) => {}
+            Some(refused) => return !refused,
+            None => return false,
         }
     }
-    assert!(rt; all.next_counted(&mut Visits::new()).is_none());
+    false
 }
 
 #[test]
 fn iterators_refused_in_turn(rt: HostRuntime) {
-    let alloc = rt.alloc();
-    let tree = filled(&rt, alloc, &FIVE);
-    for at in 1..10_usize {
-        refuse(alloc, at);
-        let answer = tree.iter();
-        let refused = was_refused(alloc);
-        match answer {
-            Ok(mut all) => {
-                assert!(rt; !refused, "request {at}");
-                come_next(&rt, &mut all, &FIVE);
-                assert!(rt; all.next().is_none());
-                return;
-            }
-            Err(error) => assert!(rt; refused && error == TreeError::Memory, "request {at}"),
-        }
-        gives_all(&rt, &tree, &FIVE);
-    }
-    assert!(rt; false, "refused for ever");
+    let tree = filled(rt.alloc()).expect(&rt, "a tree");
+    assert!(rt; are_swept(rt.alloc(), &tree, false));
 }
 
 #[test]
 fn iterators_over_values_refused_in_turn(rt: HostRuntime) {
-    let alloc = rt.alloc();
-    let tree = filled(&rt, alloc, &FIVE);
-    for at in 1..10_usize {
-        refuse(alloc, at);
-        let answer = tree.values_iter();
-        let refused = was_refused(alloc);
-        match answer {
-            Ok(values) => {
-                assert!(rt; !refused, "request {at}");
-                ascend(&rt, values, 5);
-                return;
-            }
-            Err(error) => assert!(rt; refused && error == TreeError::Memory, "request {at}"),
-        }
-        gives_all(&rt, &tree, &FIVE);
-    }
-    assert!(rt; false, "refused for ever");
+    let tree = filled(rt.alloc()).expect(&rt, "a tree");
+    assert!(rt; are_swept(rt.alloc(), &tree, true));
 }

@@ -1,5 +1,7 @@
 //! Ranges: for each two ends the pairs that are given, by the iterator and by the walks over views; ranges over what an
-//! iterator has left; starts at every byte of each of the four storages; memory refused.
+//! iterator has left; memory refused.
+
+mod starts;
 
 use rart::{ArrPartial, Iter, KeyTrait, LendingKeyView, Range, TreeError};
 use rart_test_tools::refusals::{part_ends, refuse, was_refused};
@@ -7,7 +9,6 @@ use rart_test_trees::texts::{Key, Pair, Tree, filled, is_pair};
 use std::alloc::Global;
 use std::cell::Cell;
 use std::ops::Bound;
-use std::process::Abort;
 
 /// An end of a range.
 #[derive(Clone, Copy)]
@@ -37,19 +38,27 @@ fn bound(end: End) -> Option<Bound<Key>> {
     })
 }
 
-// The pairs are these and no others, and after the last always none.
-fn gives(mut range: Range<'_, Key, u64>, wanted: &[Pair]) -> bool {
-    for pair in wanted {
+fn come_next(range: &mut Range<'_, Key, u64>, wanted: &[Pair]) -> bool {
+    for (text, wanted) in wanted {
         match range.next() {
-            Some(one) => {
-                if !is_pair(&one, pair) {
+            Some((key, value)) => {
+                if key.as_ref() != text.as_bytes() || *value != *wanted {
                     return false;
                 }
             }
             None => return false,
         }
     }
+    true
+}
+
+fn is_over(range: &mut Range<'_, Key, u64>) -> bool {
     range.next().is_none() && range.next().is_none() && range.next().is_none()
+}
+
+// The pairs are these and no others, and after the last always none.
+fn gives(mut range: Range<'_, Key, u64>, wanted: &[Pair]) -> bool {
+    come_next(&mut range, wanted) && is_over(&mut range)
 }
 
 // Counts the pairs that come in turn, and is past all of them where another comes.
@@ -66,6 +75,18 @@ fn ended(walked: Result<(), TreeError>, seen: usize, wanted: usize) -> Result<bo
         Ok(()) => Ok(seen == wanted),
         Err(error) if seen == 0 => Err(error),
         Err(_) => Ok(false),
+    }
+}
+
+fn is_given(
+    tree: &Tree,
+    start: Bound<Key>,
+    end: Bound<Key>,
+    wanted: &[Pair],
+) -> Result<bool, TreeError> {
+    match tree.range(start, end) {
+        Ok(range) => Ok(gives(range, wanted)),
+        Err(error) => Err(error),
     }
 }
 
@@ -116,7 +137,7 @@ fn is_row(tree: &Tree, row: &Row, form: Form) -> Result<bool, TreeError> {
         return Ok(false);
     };
     match form {
-        Form::Iterator => Ok(gives(tree.range(start, end)?, row.2)),
+        Form::Iterator => is_given(tree, start, end, row.2),
         Form::Views => is_viewed(tree, start, end, row.2),
         Form::LentViews => is_lent(tree, start, end, row.2),
     }
@@ -198,58 +219,56 @@ const OF_FRUIT: [Row; 2] = [
     (In("b"), Out("d"), &[("banana", 2), ("cherry", 3)]),
 ];
 
+const GROUPS: [(&[Pair], &[Row]); 4] = [
+    (&FOUR, &OF_FOUR),
+    (&PARTED, &OF_PARTED),
+    (&FRUIT, &OF_FRUIT),
+    (&[], &[(Open, Open, &[])]),
+];
+
+// The first row of the group that goes another way, if one does; 1000 where there is no tree of its pairs.
+fn first_wrong_of(alloc: Global, pairs: &[Pair], rows: &[Row]) -> Option<usize> {
+    match filled(alloc, pairs) {
+        Some(tree) => first_wrong(&tree, rows),
+        None => Some(1000),
+    }
+}
+
 #[test]
 fn a_range_gives_the_pairs_within_its_ends(rt: HostRuntime) {
-    assert_eq!(rt;
-        first_wrong(&filled(rt.alloc(), &FOUR).expect(&rt, "a tree"), &OF_FOUR),
-        None
-    );
-    assert_eq!(rt;
-        first_wrong(
-            &filled(rt.alloc(), &PARTED).expect(&rt, "a tree"),
-            &OF_PARTED
-        ),
-        None
-    );
-    assert_eq!(rt;
-        first_wrong(&filled(rt.alloc(), &FRUIT).expect(&rt, "a tree"), &OF_FRUIT),
-        None
-    );
-    assert_eq!(rt;
-        first_wrong(
-            &filled(rt.alloc(), &[]).expect(&rt, "a tree"),
-            &[(Open, Open, &[])]
-        ),
-        None
-    );
+    for (pairs, rows) in &GROUPS {
+        assert_eq!(rt; first_wrong_of(rt.alloc(), pairs, rows), None);
+    }
 }
 
-fn three_texts(rt: &impl Abort, alloc: Global) -> Tree {
-    let mut tree = Tree::new(alloc);
-    let stored = tree.insert(Key::new_from_str("cherry"), 3).is_ok()
+fn insert_three_texts(tree: &mut Tree) -> bool {
+    tree.insert(Key::new_from_str("cherry"), 3).is_ok()
         && tree.insert(Key::new_from_str("banana"), 2).is_ok()
-        && tree.insert(Key::new_from_str("apple"), 1).is_ok();
-    assert!(rt; stored);
-    tree
+        && tree.insert(Key::new_from_str("apple"), 1).is_ok()
 }
 
-// How many texts come before "b", from "a" on.
-fn count_before_b(tree: &Tree) -> Result<usize, TreeError> {
-    let mut texts = tree.range(
-        Bound::Included(Key::new_from_str("a")),
-        Bound::Excluded(Key::new_from_str("b")),
-    )?;
+fn count(texts: &mut Range<'_, Key, u64>) -> usize {
     let mut count = 0_usize;
     while let Some(_text) = texts.next() {
         count = count.wrapping_add(1);
     }
-    Ok(count)
+    count
+}
+
+// How many texts come before "b", from "a" on.
+fn count_before_b(tree: &Tree) -> Result<usize, TreeError> {
+    let (start, end) = (Key::new_from_str("a"), Key::new_from_str("b"));
+    match tree.range(Bound::Included(start), Bound::Excluded(end)) {
+        Ok(mut texts) => Ok(count(&mut texts)),
+        Err(error) => Err(error),
+    }
 }
 
 #[test]
 fn one_of_three_texts_is_within_two_texts(rt: HostRuntime) {
-    let tree = three_texts(&rt, rt.alloc());
-    assert!(rt; count_before_b(&tree) == Ok(1));
+    let mut tree = Tree::new(rt.alloc());
+    let well = insert_three_texts(&mut tree) && count_before_b(&tree) == Ok(1);
+    assert!(rt; well);
 }
 
 // What an iterator over FOUR whose first pair was taken has left before "az".
@@ -262,74 +281,17 @@ fn is_left_within(mut pairs: Iter<'_, Key, ArrPartial<16>, u64>) -> bool {
     }
 }
 
-fn goes_on_from_an_iterator(tree: &Tree) -> Result<bool, TreeError> {
-    Ok(is_left_within(tree.iter()?) && gives(Range::empty(), &[]))
+fn goes_on_from_an_iterator(tree: &Tree) -> bool {
+    match tree.iter() {
+        Ok(pairs) => is_left_within(pairs) && gives(Range::empty(), &[]),
+        Err(_) => false,
+    }
 }
 
 #[test]
 fn a_range_over_an_iterator_ends_for_good(rt: HostRuntime) {
     let tree = filled(rt.alloc(), &FOUR).expect(&rt, "a tree");
-    let well = goes_on_from_an_iterator(&tree) == Ok(true);
-    assert!(rt; well);
-}
-
-// A tree of so many one-byte keys, every second byte from 2 on, each its own value.
-fn spaced(rt: &impl Abort, alloc: Global, count: usize) -> Tree {
-    let mut tree = Tree::new(alloc);
-    for byte in 0..=255_u8 {
-        let number = usize::from(byte);
-        if number >= 2 && number % 2 == 0 && number / 2 <= count {
-            let new = tree.insert(Key::new_from_slice(&[byte]), u64::from(byte));
-            assert!(rt; matches!(new, Ok(None)));
-        }
-    }
-    tree
-}
-
-// Whether the values from this byte on come, up to the last of so many.
-fn counts_up(mut range: Range<'_, Key, u64>, from: usize, count: usize) -> bool {
-    for number in from..257_usize {
-        if number >= 2 && number % 2 == 0 && number / 2 <= count {
-            match range.next() {
-                Some((_, value)) if *value == number as u64 => {}
-                _ => return false,
-            }
-        }
-    }
-    range.next().is_none()
-}
-
-fn starts_well(tree: &Tree, byte: u8, count: usize) -> Result<bool, TreeError> {
-    let from = usize::from(byte);
-    let at = tree.range(
-        Bound::Included(Key::new_from_slice(&[byte])),
-        Bound::Unbounded,
-    )?;
-    let after = tree.range(
-        Bound::Excluded(Key::new_from_slice(&[byte])),
-        Bound::Unbounded,
-    )?;
-    Ok(counts_up(at, from, count) && counts_up(after, from + 1, count))
-}
-
-// The first byte from which a range goes another way, if there is one.
-fn starts_at_every_byte(tree: &Tree, count: usize) -> Option<usize> {
-    for byte in 0..=255_u8 {
-        if starts_well(tree, byte, count) != Ok(true) {
-            return Some(usize::from(byte));
-        }
-    }
-    None
-}
-
-#[test]
-fn every_kind_of_node_is_entered_at_any_byte(rt: HostRuntime) {
-    for count in [1, 3, 4, 5, 16, 17, 48, 49, 127] {
-        assert_eq!(rt;
-            starts_at_every_byte(&spaced(&rt, rt.alloc(), count), count),
-            None
-        );
-    }
+    assert!(rt; goes_on_from_an_iterator(&tree));
 }
 
 // Whether the row's range is refused while a request is, and then gives its pairs. A refused walk calls nothing.
@@ -360,34 +322,47 @@ fn first_wrong_refused(alloc: Global, tree: &Tree, rows: &[Row], form: Form) -> 
     None
 }
 
-#[test]
-fn ranges_refused_in_turn_give_nothing(rt: HostRuntime) {
+// The first row that goes another way in one of the forms, if one does.
+fn first_wrong_form(alloc: Global, tree: &Tree) -> Option<usize> {
     for form in FORMS {
-        let tree = filled(rt.alloc(), &PARTED).expect(&rt, "a tree");
-        assert_eq!(rt;
-            first_wrong_refused(rt.alloc(), &tree, &OF_PARTED, form),
-            None
-        );
+        let row = first_wrong_refused(alloc, tree, &OF_PARTED, form);
+        if row.is_some() {
+            return row;
+        }
     }
+    None
 }
 
-// A range of an empty tree, an empty one, one over an iterator and a walk over an empty tree take no memory.
-fn asks_for_nothing(alloc: Global, empty: &Tree, tree: &Tree) -> Result<bool, TreeError> {
-    let pairs = tree.iter()?;
-    refuse(alloc, 1);
-    let nothing = empty.range(Bound::Unbounded, Bound::Unbounded)?;
-    let well = gives(nothing, &[])
+#[test]
+fn ranges_refused_in_turn_give_nothing(rt: HostRuntime) {
+    let tree = filled(rt.alloc(), &PARTED).expect(&rt, "a tree");
+    assert_eq!(rt; first_wrong_form(rt.alloc(), &tree), None);
+}
+
+// A range and a walk of an empty tree, and an empty range.
+fn gives_nothing(empty: &Tree) -> bool {
+    is_given(empty, Bound::Unbounded, Bound::Unbounded, &[]) == Ok(true)
         && gives(Range::empty(), &[])
-        && gives(Range::for_iter(pairs, Bound::Unbounded), &FOUR)
-        && is_viewed(empty, Bound::Unbounded, Bound::Unbounded, &[])?
-        && is_lent(empty, Bound::Unbounded, Bound::Unbounded, &[])?;
-    Ok(well && !was_refused(alloc))
+        && is_viewed(empty, Bound::Unbounded, Bound::Unbounded, &[]) == Ok(true)
+        && is_lent(empty, Bound::Unbounded, Bound::Unbounded, &[]) == Ok(true)
+}
+
+// These and a range over an iterator take no memory.
+fn asks_for_nothing(alloc: Global, empty: &Tree, tree: &Tree) -> bool {
+    match tree.iter() {
+        Ok(pairs) => {
+            refuse(alloc, 1);
+            gives(Range::for_iter(pairs, Bound::Unbounded), &FOUR)
+                && gives_nothing(empty)
+                && !was_refused(alloc)
+        }
+        Err(_) => false,
+    }
 }
 
 #[test]
 fn ranges_ask_for_nothing_where_nothing_is_walked(rt: HostRuntime) {
-    let empty = filled(rt.alloc(), &[]).expect(&rt, "a tree");
+    let empty = Tree::new(rt.alloc());
     let tree = filled(rt.alloc(), &FOUR).expect(&rt, "a tree");
-    let well = asks_for_nothing(rt.alloc(), &empty, &tree) == Ok(true);
-    assert!(rt; well);
+    assert!(rt; asks_for_nothing(rt.alloc(), &empty, &tree));
 }

@@ -6,7 +6,8 @@ mod refused;
 
 use rart::laws::routes::{add_then_route, withdraw_then_route};
 use rart::{
-    ArrayKey, KeyTrait, LendingKeyView, NotInserted, RouteTable, TreeError, TryInsertError, Visits,
+    ArrPartial, ArrayKey, Iter, KeyTrait, LendingKeyView, NotInserted, RouteTable, TreeError,
+    TryInsertError, Visits,
 };
 use std::cell::Cell;
 
@@ -230,20 +231,26 @@ fn next_view(
     }
 }
 
-// The iterator gives these routes, and after the last always none.
-fn lists(table: &Table, wanted: &[(&str, u64)]) -> Result<bool, TreeError> {
-    let mut routes = table.iter()?;
+fn are_routes(routes: &mut Iter<'_, Key, ArrPartial<16>, u64>, wanted: &[(&str, u64)]) -> bool {
     for (text, value) in wanted {
         match routes.next() {
             Some((prefix, target)) => {
                 if prefix.as_slice() != text.as_bytes() || *target != *value {
-                    return Ok(false);
+                    return false;
                 }
             }
-            None => return Ok(false),
+            None => return false,
         }
     }
-    Ok(routes.next().is_none() && routes.next().is_none())
+    routes.next().is_none() && routes.next().is_none()
+}
+
+// The iterator gives these routes, and after the last always none.
+fn lists(table: &Table, wanted: &[(&str, u64)]) -> Result<bool, TreeError> {
+    match table.iter() {
+        Ok(mut routes) => Ok(are_routes(&mut routes, wanted)),
+        Err(error) => Err(error),
+    }
 }
 
 // Both forms of the walk over the routes that cover the probe give these.
@@ -299,32 +306,32 @@ fn walks_go_well(table: &Table) -> Result<bool, TreeError> {
     )
 }
 
+// The first wrong rows of both tables, and whether the walks between them went well.
+fn is_edited(table: &mut Table) -> (Option<usize>, bool, Option<usize>) {
+    let filled = first_wrong(table, &VERSIONS);
+    let walked = walks_go_well(table) == Ok(true);
+    (filled, walked, first_wrong(table, &EDITED))
+}
+
 #[test]
 fn probes_are_routed_by_their_longest_prefix(rt: HostRuntime) {
     let mut table = Table::new(rt.alloc());
-    let (filled, walked, edited) = (
-        first_wrong(&mut table, &VERSIONS),
-        walks_go_well(&table),
-        first_wrong(&mut table, &EDITED),
-    );
-    assert_eq!(rt; filled, None);
-    assert!(rt; walked == Ok(true));
-    assert_eq!(rt; edited, None);
+    assert_eq!(rt; is_edited(&mut table), (None, true, None));
+}
+
+// The first wrong rows before the table is cleared and after it, and whether both lists are right.
+fn is_cleared(table: &mut Table) -> (Option<usize>, Option<usize>, bool) {
+    let filled = first_wrong(table, &VERSIONS);
+    let listed = lists(table, &[("/", 1), ("/api", 2), ("/api/v1", 3)]) == Ok(true);
+    let cleared = first_wrong(table, &CLEARED);
+    let at_last = lists(table, &[("/api", 4)]) == Ok(true);
+    (filled, cleared, listed && at_last)
 }
 
 #[test]
 fn routes_are_listed_by_their_prefixes_until_the_table_is_cleared(rt: HostRuntime) {
     let mut table = Table::new(rt.alloc());
-    let (filled, listed, cleared, at_last) = (
-        first_wrong(&mut table, &VERSIONS),
-        lists(&table, &[("/", 1), ("/api", 2), ("/api/v1", 3)]),
-        first_wrong(&mut table, &CLEARED),
-        lists(&table, &[("/api", 4)]),
-    );
-    assert_eq!(rt; filled, None);
-    assert!(rt; listed == Ok(true));
-    assert_eq!(rt; cleared, None);
-    assert!(rt; at_last == Ok(true));
+    assert_eq!(rt; is_cleared(&mut table), (None, None, true));
 }
 
 // The targets of a probe before and after an edit.
@@ -361,6 +368,6 @@ fn laws_give(table: &mut Table) -> bool {
 #[test]
 fn edits_reach_the_probes_that_their_prefix_begins(rt: HostRuntime) {
     let mut table = Table::new(rt.alloc());
-    let (filled, given) = (first_wrong(&mut table, &VERSIONS), laws_give(&mut table));
-    assert!(rt; filled.is_none() && given);
+    let well = first_wrong(&mut table, &VERSIONS).is_none() && laws_give(&mut table);
+    assert!(rt; well);
 }

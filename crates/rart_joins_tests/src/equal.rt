@@ -3,8 +3,6 @@
 use rart::{AdaptiveRadixTree, ArrayKey, KeyTrait, RouteTable};
 use rart_test_trees::texts::{Key, Pair, Tree, filled, key};
 use std::alloc::Global;
-use std::panic::Expect;
-use std::process::Abort;
 
 // Pairs in the order of their insertion, and the keys that are removed afterwards.
 type Side = (&'static [Pair], &'static [&'static str]);
@@ -71,87 +69,186 @@ const ROWS: [Row; 18] = [
     ),
 ];
 
-fn made(rt: &impl Abort, alloc: Global, side: &Side) -> Tree {
-    let mut tree = filled(alloc, side.0).expect(rt, "a tree");
-    for text in side.1 {
-        assert!(rt; matches!(tree.remove(key(text.as_bytes())), Ok(Some(_))));
+fn removes(tree: &mut Tree, texts: &[&'static str]) -> bool {
+    for text in texts {
+        if !matches!(tree.remove(key(text.as_bytes())), Ok(Some(_))) {
+            return false;
+        }
     }
-    tree
+    true
 }
 
-// Whether `==` answers so from both sides, and each is equal to itself.
+fn made(alloc: Global, side: &Side) -> Option<Tree> {
+    match filled(alloc, side.0) {
+        Some(mut tree) => {
+            if removes(&mut tree, side.1) {
+                Some(tree)
+            } else {
+                None
+            }
+        }
+        None => None,
+    }
+}
+
+// Whether `==` and `!=` answer so, and the one tree is equal to itself.
+fn answers_of(one: &Tree, other: &Tree, equal: bool) -> bool {
+    (one == other) == equal && (one != other) != equal && one == one
+}
+
+// The same from both sides.
 fn answers(one: &Tree, other: &Tree, equal: bool) -> bool {
-    (one == other) == equal
-        && (other == one) == equal
-        && (one != other) != equal
-        && one == one
-        && other == other
+    answers_of(one, other, equal) && answers_of(other, one, equal)
+}
+
+fn answers_beside(alloc: Global, one: &Tree, other: &Side, equal: bool) -> bool {
+    match made(alloc, other) {
+        Some(other) => answers(one, &other, equal),
+        None => false,
+    }
+}
+
+fn is_row(alloc: Global, row: &Row) -> bool {
+    match made(alloc, &row.0) {
+        Some(one) => answers_beside(alloc, &one, &row.1, row.2),
+        None => false,
+    }
+}
+
+// The first row that goes another way, if one does.
+fn first_wrong(alloc: Global, rows: &[Row]) -> Option<usize> {
+    let mut at = 0_usize;
+    for row in rows {
+        if !is_row(alloc, row) {
+            return Some(at);
+        }
+        at = at.wrapping_add(1);
+    }
+    None
 }
 
 #[test]
 fn trees_are_equal_where_their_pairs_are(rt: HostRuntime) {
-    for (one, other, equal) in ROWS {
-        let left = made(&rt, rt.alloc(), &one);
-        let right = made(&rt, rt.alloc(), &other);
-        assert!(rt; answers(&left, &right, equal));
+    assert_eq!(rt; first_wrong(rt.alloc(), &ROWS), None);
+}
+
+// Inserts the keys of one byte below `most`.
+fn inserts_below(tree: &mut Tree, most: usize) -> bool {
+    for byte in 0..=255_u8 {
+        if usize::from(byte) < most
+            && !matches!(
+                tree.insert(Key::new_from_slice(&[byte]), u64::from(byte)),
+                Ok(None)
+            )
+        {
+            return false;
+        }
     }
+    true
+}
+
+// Removes the keys of one byte from `count` on and below `most`.
+fn removes_from(tree: &mut Tree, count: usize, most: usize) -> bool {
+    for byte in 0..=255_u8 {
+        if count <= usize::from(byte)
+            && usize::from(byte) < most
+            && !matches!(tree.remove(Key::new_from_slice(&[byte])), Ok(Some(_)))
+        {
+            return false;
+        }
+    }
+    true
 }
 
 // The keys of one byte below `count`, after those below `most` were stored.
-fn fan(rt: &impl Abort, alloc: Global, count: usize, most: usize) -> Tree {
+fn fan(alloc: Global, count: usize, most: usize) -> Option<Tree> {
     let mut tree = Tree::new(alloc);
-    for byte in 0..=255_u8 {
-        if usize::from(byte) < most {
-            let inserted = tree.insert(Key::new_from_slice(&[byte]), u64::from(byte));
-            assert!(rt; matches!(inserted, Ok(None)));
-        }
+    if inserts_below(&mut tree, most) && removes_from(&mut tree, count, most) {
+        Some(tree)
+    } else {
+        None
     }
-    for byte in 0..=255_u8 {
-        if count <= usize::from(byte) && usize::from(byte) < most {
-            assert!(rt; matches!(tree.remove(Key::new_from_slice(&[byte])), Ok(Some(_))));
-        }
-    }
-    tree
 }
 
 const COUNTS: [usize; 8] = [1, 4, 5, 16, 17, 48, 49, 256];
 
-#[test]
-fn nodes_of_every_two_kinds(rt: HostRuntime) {
-    for count in COUNTS {
-        let shrunk = fan(&rt, rt.alloc(), count, 256);
-        for other in COUNTS {
-            let grown = fan(&rt, rt.alloc(), other, other);
-            assert!(rt;
-                answers(&shrunk, &grown, count == other),
-                "{count} and {other}"
-            );
-        }
+fn is_fan_beside(alloc: Global, shrunk: &Tree, count: usize, other: usize) -> bool {
+    match fan(alloc, other, other) {
+        Some(grown) => answers(shrunk, &grown, count == other),
+        None => false,
     }
 }
 
-fn with_value(rt: &impl Abort, alloc: Global, value: f64) -> AdaptiveRadixTree<Key, f64> {
-    let mut tree = AdaptiveRadixTree::new(alloc);
-    assert!(rt; tree.insert(Key::new_from_slice(b"a"), value).is_ok());
-    tree
+// The first count whose tree is compared another way with a tree that shrank to `count` keys, if there is one.
+fn first_wrong_beside(alloc: Global, shrunk: &Tree, count: usize) -> Option<usize> {
+    for other in COUNTS {
+        if !is_fan_beside(alloc, shrunk, count, other) {
+            return Some(other);
+        }
+    }
+    None
+}
+
+// The same of a new tree; 1000 where it can't be made.
+fn first_wrong_count(alloc: Global, count: usize) -> Option<usize> {
+    match fan(alloc, count, 256) {
+        Some(shrunk) => first_wrong_beside(alloc, &shrunk, count),
+        None => Some(1000),
+    }
+}
+
+#[test]
+fn nodes_of_every_two_kinds(rt: HostRuntime) {
+    for count in COUNTS {
+        assert_eq!(rt; first_wrong_count(rt.alloc(), count), None, "{count} keys");
+    }
+}
+
+type Floats = AdaptiveRadixTree<Key, f64>;
+
+fn stores(tree: &mut Floats, value: f64) -> bool {
+    tree.insert(Key::new_from_slice(b"a"), value).is_ok()
+}
+
+fn is_compared_by_value(none: &Floats, zero: &Floats, below: &Floats) -> bool {
+    none != none && zero == below && zero != none
 }
 
 // The values are compared by their own `==`, at which one may be unequal to itself.
 #[test]
 fn values_are_compared_as_they_are(rt: HostRuntime) {
-    let none = with_value(&rt, rt.alloc(), f64::NAN);
-    let zero = with_value(&rt, rt.alloc(), 0.0);
-    let below = with_value(&rt, rt.alloc(), -0.0);
-    assert!(rt; none != none && zero == below && zero != none);
+    let mut none = Floats::new(rt.alloc());
+    let mut zero = Floats::new(rt.alloc());
+    let mut below = Floats::new(rt.alloc());
+    let well = stores(&mut none, f64::NAN)
+        && stores(&mut zero, 0.0)
+        && stores(&mut below, -0.0)
+        && is_compared_by_value(&none, &zero, &below);
+    assert!(rt; well);
+}
+
+type Table = RouteTable<ArrayKey<4>, u64>;
+
+fn replaces(table: &mut Table, target: u64) -> bool {
+    table
+        .replace(&ArrayKey::<4>::new_from_slice(b"b"), target)
+        .is_ok()
+}
+
+// Whether two empty tables are equal until one has a route.
+fn differ_by_a_route(one: &mut Table, other: &Table) -> bool {
+    *one == *other && replaces(one, 2) && *one != *other
+}
+
+// Whether that route and one with another target differ until the targets are equal.
+fn differ_by_a_target(one: &Table, other: &mut Table) -> bool {
+    replaces(other, 3) && *one != *other && replaces(other, 2) && *one == *other
 }
 
 #[test]
 fn route_tables_are_compared_by_their_routes(rt: HostRuntime) {
-    let mut one = RouteTable::<ArrayKey<4>, u64>::new(rt.alloc());
-    let mut other = RouteTable::<ArrayKey<4>, u64>::new(rt.alloc());
-    assert!(rt; one == other);
-    let prefix = ArrayKey::<4>::new_from_slice(b"b");
-    assert!(rt; one.replace(&prefix, 2).is_ok() && one != other);
-    assert!(rt; other.replace(&prefix, 3).is_ok() && one != other);
-    assert!(rt; other.replace(&prefix, 2).is_ok() && one == other);
+    let mut one = Table::new(rt.alloc());
+    let mut other = Table::new(rt.alloc());
+    let well = differ_by_a_route(&mut one, &other) && differ_by_a_target(&one, &mut other);
+    assert!(rt; well);
 }

@@ -59,6 +59,15 @@ pub fn write_routes<W: Write>(output: &mut W, routes: Found<'_>) -> io::Result<(
         (PrintsRoutes (found_left routes.entry) (W.contents output.old) (W.contents output.new)) }
 {
     let mut routes = routes;
+    write_remaining(output, &mut routes)
+}
+
+// Writes the routes to come, as `write_routes` does. It borrows them: each exit of a loop that owns them drops them,
+// which the checker takes minutes for.
+fn write_remaining<W: Write>(output: &mut W, routes: &mut Found<'_>) -> io::Result<()>
+    ensures { OnOk result
+        (PrintsRoutes (found_left routes.old) (W.contents output.old) (W.contents output.new)) }
+{
     let Some((net, target)) = routes.next() else {
         return writeln!(output, "empty");
     };

@@ -4,6 +4,7 @@ ghost use Rattle.std.specs.Io.KnownBytes.{Appends};
 ghost use Rattle.rart_routes.specs.Answers.{PrintsAnswer};
 ghost use Rattle.rart_routes.specs.Script.{EndsAtBad, Prints, PrintsAll};
 ghost use Rattle.rart_routes.specs.Stop.{IsSaid};
+ghost use Rattle.rart_routes.specs.Tables.{no_routes};
 
 use crate::answers::{write_found, write_none, write_refusal, write_routes, write_target};
 use crate::command::{Command, parse_command};
@@ -68,6 +69,15 @@ fn run_text<W: Write>(alloc: Global, text: &[u8], output: &mut W) -> Result<(), 
     ensures has_read { IfErr result (λ stop. stop ≢ Stop.CannotRead) }
 {
     let mut tables = Tables::new(alloc);
+    run_on(&mut tables, text, output)
+}
+
+// Runs the lines on the empty `tables`, as `run_text` does.
+fn run_on<W: Write>(tables: &mut Tables, text: &[u8], output: &mut W) -> Result<(), Stop>
+    requires empty { tables.old ≡ no_routes }
+    ensures answers { Prints text.now result (W.contents output.old) (W.contents output.new) }
+    ensures has_read { IfErr result (λ stop. stop ≢ Stop.CannotRead) }
+{
     for (index, line) in Lines::new(text).enumerate() {
         let command = match parse_command(line) {
             Ok(command) => command,
@@ -78,7 +88,7 @@ fn run_text<W: Write>(alloc: Global, text: &[u8], output: &mut W) -> Result<(), 
                 });
             }
         };
-        let Ok(()) = execute(&mut tables, command, output) else {
+        let Ok(()) = execute(tables, command, output) else {
             return Err(Stop::CannotWrite);
         };
     }

@@ -10,45 +10,38 @@ mod readings;
 mod rows;
 mod shared;
 
-use crate::completions::{completions, count_completions};
-use crate::hops::next_hop;
-use crate::pairs::orders_of;
-use crate::readings::readings_between;
+use crate::completions::{Words, completions, count_completions};
+use crate::hops::{Routes, next_hop};
+use crate::pairs::{Orders, orders_of};
+use crate::readings::{Readings, readings_between};
 use crate::shared::count_shared;
 use std::alloc::Global;
 use std::io;
 
 // The longest network that begins an address gives its next hop.
-fn print_hops(rt: &impl Print, alloc: Global) -> io::Result<()> {
-    let Ok(routes) = rows::routes(alloc) else {
-        return println!(rt; "out of memory");
-    };
-    println!(rt; "hop of 10.1.2.3: {:?}", next_hop(&routes, &[10, 1, 2, 3]))?;
-    println!(rt; "hop of 10.2: {:?}", next_hop(&routes, &[10, 2]))?;
-    println!(rt; "hop of 11: {:?}", next_hop(&routes, &[11]))
+fn print_hops(rt: &impl Print, routes: &Routes) -> io::Result<()> {
+    println!(rt; "hop of 10.1.2.3: {:?}", next_hop(routes, &[10, 1, 2, 3]))?;
+    println!(rt; "hop of 10.2: {:?}", next_hop(routes, &[10, 2]))?;
+    println!(rt; "hop of 11: {:?}", next_hop(routes, &[11]))
 }
 
 // Words are completed, ascending.
-fn print_completions(rt: &impl Print, alloc: Global) -> io::Result<()> {
-    let Ok(words) = rows::words(alloc) else {
-        return println!(rt; "out of memory");
-    };
-    let (Ok(found), Ok(count)) = (completions(&words, b"ca"), count_completions(&words, b"d"))
-    else {
+fn print_completions(rt: &impl Print, words: &Words) -> io::Result<()> {
+    let Ok(found) = completions(words, b"ca") else {
         return println!(rt; "out of memory");
     };
     for (_word, chosen) in found {
         println!(rt; "completion of ca: chosen {chosen}")?;
     }
-    println!(rt; "completions of d: {count}")
+    match count_completions(words, b"d") {
+        Ok(count) => println!(rt; "completions of d: {count}"),
+        Err(_) => println!(rt; "out of memory"),
+    }
 }
 
 // The orders of a customer ascend.
-fn print_orders(rt: &impl Print, alloc: Global) -> io::Result<()> {
-    let Ok(orders) = rows::orders(alloc) else {
-        return println!(rt; "out of memory");
-    };
-    let Ok(found) = orders_of(&orders, 7) else {
+fn print_orders(rt: &impl Print, orders: &Orders) -> io::Result<()> {
+    let Ok(found) = orders_of(orders, 7) else {
         return println!(rt; "out of memory");
     };
     for (_key, order) in found {
@@ -57,26 +50,48 @@ fn print_orders(rt: &impl Print, alloc: Global) -> io::Result<()> {
     Ok(())
 }
 
-// The readings between two times leave out the end. All keys of an index are shared with itself.
-fn print_readings(rt: &impl Print, alloc: Global) -> io::Result<()> {
-    let Ok(readings) = rows::readings(alloc) else {
+// The readings between two times leave out the end.
+fn print_readings(rt: &impl Print, readings: &Readings, end: u64) -> io::Result<()> {
+    let Ok(found) = readings_between(readings, 15, end) else {
         return println!(rt; "out of memory");
     };
-    for end in [30_u64, 31] {
-        let Ok(found) = readings_between(&readings, 15, end) else {
-            return println!(rt; "out of memory");
-        };
-        for (_time, value) in found {
-            println!(rt; "reading from 15 before {end}: {value}")?;
-        }
+    for (_time, value) in found {
+        println!(rt; "reading from 15 before {end}: {value}")?;
     }
-    println!(rt; "keys of both: {}", count_shared(&readings, &readings))
+    Ok(())
+}
+
+fn print_words_and_routes(rt: &impl Print, alloc: Global) -> io::Result<()> {
+    match rows::routes(alloc) {
+        Ok(routes) => print_hops(rt, &routes)?,
+        Err(_) => println!(rt; "out of memory")?,
+    }
+    match rows::words(alloc) {
+        Ok(words) => print_completions(rt, &words),
+        Err(_) => println!(rt; "out of memory"),
+    }
+}
+
+// All keys of an index are shared with itself.
+fn print_numbers(rt: &impl Print, alloc: Global) -> io::Result<()> {
+    match rows::orders(alloc) {
+        Ok(orders) => print_orders(rt, &orders)?,
+        Err(_) => println!(rt; "out of memory")?,
+    }
+    match rows::readings(alloc) {
+        Ok(readings) => print_all_readings(rt, &readings),
+        Err(_) => println!(rt; "out of memory"),
+    }
+}
+
+fn print_all_readings(rt: &impl Print, readings: &Readings) -> io::Result<()> {
+    print_readings(rt, readings, 30)?;
+    print_readings(rt, readings, 31)?;
+    println!(rt; "keys of both: {}", count_shared(readings, readings))
 }
 
 fn main(rt: HostRuntime) -> io::Result<()> {
     let alloc = rt.alloc();
-    print_hops(&rt, alloc)?;
-    print_completions(&rt, alloc)?;
-    print_orders(&rt, alloc)?;
-    print_readings(&rt, alloc)
+    print_words_and_routes(&rt, alloc)?;
+    print_numbers(&rt, alloc)
 }

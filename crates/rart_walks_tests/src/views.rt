@@ -58,26 +58,39 @@ pub fn next_row(seen: usize, rows: &[Row], view: LendingKeyView<'_, '_>, value: 
     }
 }
 
-// What a walk over the views below a prefix saw, in each form.
-fn walks_see(tree: &Tree, prefix: &[u8], rows: &[Row]) -> Result<bool, TreeError>
+fn below_sees(tree: &Tree, key: &Key, rows: &[Row]) -> bool {
+    let seen = Cell::new(0_usize);
+    let ended = tree.prefix_for_each_view_k(key, |view: LendingKeyView<'_, '_>, value: &u64| {
+        seen.set(next_row(seen.get(), rows, view, *value));
+    });
+    ended == Ok(()) && seen.get() == rows.len()
+}
+
+fn below_lent_sees(tree: &Tree, key: &Key, rows: &[Row]) -> bool {
+    let mut seen = 0_usize;
+    let mut callback = |view: LendingKeyView<'_, '_>, value: &u64| {
+        seen = next_row(seen, rows, view, *value);
+    };
+    let ended = tree.prefix_for_each_view_by_ref_k(key, &mut callback);
+    ended == Ok(()) && seen == rows.len()
+}
+
+fn below_by_value_sees(tree: &Tree, key: Key, rows: &[Row]) -> bool {
+    let seen = Cell::new(0_usize);
+    let ended = tree.prefix_for_each_view(key, |view: LendingKeyView<'_, '_>, value: &u64| {
+        seen.set(next_row(seen.get(), rows, view, *value));
+    });
+    ended == Ok(()) && seen.get() == rows.len()
+}
+
+// Whether a walk over the views below a prefix sees these, in each form.
+fn walks_see(tree: &Tree, prefix: &[u8], rows: &[Row]) -> bool
     requires { length prefix.now ≤ 16 }
 {
     let key = Key::new_from_slice(prefix);
-    let seen = Cell::new(0_usize);
-    tree.prefix_for_each_view_k(&key, |view: LendingKeyView<'_, '_>, value: &u64| {
-        seen.set(next_row(seen.get(), rows, view, *value));
-    })?;
-    let first = seen.get();
-    let mut lent = 0_usize;
-    let mut callback = |view: LendingKeyView<'_, '_>, value: &u64| {
-        lent = next_row(lent, rows, view, *value);
-    };
-    tree.prefix_for_each_view_by_ref_k(&key, &mut callback)?;
-    seen.set(0);
-    tree.prefix_for_each_view(key, |view: LendingKeyView<'_, '_>, value: &u64| {
-        seen.set(next_row(seen.get(), rows, view, *value));
-    })?;
-    Ok(first == rows.len() && lent == rows.len() && seen.get() == rows.len())
+    below_sees(tree, &key, rows)
+        && below_lent_sees(tree, &key, rows)
+        && below_by_value_sees(tree, key, rows)
 }
 
 // What a walk over the views between two bounds saw, its start within.
@@ -97,52 +110,77 @@ fn walk_sees_between(
     Ok(seen.get() == rows.len())
 }
 
-fn walk_sees_all(tree: &Tree, rows: &[Row]) -> Result<bool, TreeError> {
+fn all_see(tree: &Tree, rows: &[Row]) -> bool {
     let seen = Cell::new(0_usize);
-    tree.for_each_view(|view: LendingKeyView<'_, '_>, value: &u64| {
+    let ended = tree.for_each_view(|view: LendingKeyView<'_, '_>, value: &u64| {
         seen.set(next_row(seen.get(), rows, view, *value));
-    })?;
-    let mut lent = 0_usize;
+    });
+    ended == Ok(()) && seen.get() == rows.len()
+}
+
+fn all_lent_see(tree: &Tree, rows: &[Row]) -> bool {
+    let mut seen = 0_usize;
     let mut callback = |view: LendingKeyView<'_, '_>, value: &u64| {
-        lent = next_row(lent, rows, view, *value);
+        seen = next_row(seen, rows, view, *value);
     };
-    tree.for_each_view_by_ref(&mut callback)?;
-    Ok(seen.get() == rows.len() && lent == rows.len())
+    let ended = tree.for_each_view_by_ref(&mut callback);
+    ended == Ok(()) && seen == rows.len()
+}
+
+fn walk_sees_all(tree: &Tree, rows: &[Row]) -> bool {
+    all_see(tree, rows) && all_lent_see(tree, rows)
+}
+
+const AB: Row = ("ab", 1, "ab", "");
+
+const ABCD: Row = ("abcd", 2, "ab", "cd");
+
+fn sees_ab_and_abcd(tree: &Tree) -> bool {
+    walks_see(tree, b"abc", &[ABCD])
+        && walks_see(tree, b"a", &[AB, ABCD])
+        && walks_see(tree, b"x", &[])
+        && walk_sees_all(tree, &[AB, ABCD])
 }
 
 #[test]
 fn views_below_a_prefix(rt: HostRuntime) {
     let tree = filled(rt.alloc(), &AB_AND_ABCD).expect(&rt, "a tree");
-    let abcd: Row = ("abcd", 2, "ab", "cd");
-    let ab: Row = ("ab", 1, "ab", "");
-    assert!(rt; walks_see(&tree, b"abc", &[abcd]) == Ok(true));
-    assert!(rt; walks_see(&tree, b"a", &[ab, abcd]) == Ok(true));
-    assert!(rt; walks_see(&tree, b"x", &[]) == Ok(true));
-    assert!(rt; walk_sees_all(&tree, &[ab, abcd]) == Ok(true));
+    assert!(rt; sees_ab_and_abcd(&tree));
+}
+
+const EMPTY: Row = ("", 7, "", "");
+
+const B: Row = ("b", 8, "b", "");
+
+const BCD: Row = ("bcd", 9, "b", "cd");
+
+fn sees_the_empty_key(tree: &Tree) -> bool {
+    walks_see(tree, b"", &[EMPTY, B, BCD]) && walk_sees_all(tree, &[EMPTY, B, BCD])
+}
+
+fn sees_nothing(empty: &Tree) -> bool {
+    walk_sees_all(empty, &[]) && walks_see(empty, b"a", &[])
 }
 
 #[test]
 fn views_of_the_empty_key_and_of_no_tree(rt: HostRuntime) {
-    let rows: [Row; 3] = [("", 7, "", ""), ("b", 8, "b", ""), ("bcd", 9, "b", "cd")];
+    let empty = Tree::new(rt.alloc());
     let tree = filled(rt.alloc(), &WITH_EMPTY).expect(&rt, "a tree");
-    assert!(rt; walks_see(&tree, b"", &rows) == Ok(true));
-    assert!(rt; walk_sees_all(&tree, &rows) == Ok(true));
-    let empty = filled(rt.alloc(), &[]).expect(&rt, "a tree");
-    assert!(rt; walk_sees_all(&empty, &[]) == Ok(true));
-    assert!(rt; walks_see(&empty, b"a", &[]) == Ok(true));
+    assert!(rt; sees_the_empty_key(&tree) && sees_nothing(&empty));
+}
+
+fn sees_between(tree: &Tree) -> bool {
+    let end = Bound::Excluded(Key::new_from_slice(b"bcd"));
+    walk_sees_between(tree, b"", Bound::Unbounded, &[EMPTY, B, BCD]) == Ok(true)
+        && walk_sees_between(tree, b"a", Bound::Unbounded, &[B, BCD]) == Ok(true)
+        && walk_sees_between(tree, b"bc", Bound::Unbounded, &[BCD]) == Ok(true)
+        && walk_sees_between(tree, b"a", end, &[B]) == Ok(true)
 }
 
 #[test]
 fn views_between_two_bounds_are_cut_at_the_branch_points(rt: HostRuntime) {
     let tree = filled(rt.alloc(), &WITH_EMPTY).expect(&rt, "a tree");
-    let empty: Row = ("", 7, "", "");
-    let b: Row = ("b", 8, "b", "");
-    let bcd: Row = ("bcd", 9, "b", "cd");
-    let end = Bound::Excluded(Key::new_from_slice(b"bcd"));
-    assert!(rt; walk_sees_between(&tree, b"", Bound::Unbounded, &[empty, b, bcd]) == Ok(true));
-    assert!(rt; walk_sees_between(&tree, b"a", Bound::Unbounded, &[b, bcd]) == Ok(true));
-    assert!(rt; walk_sees_between(&tree, b"bc", Bound::Unbounded, &[bcd]) == Ok(true));
-    assert!(rt; walk_sees_between(&tree, b"a", end, &[b]) == Ok(true));
+    assert!(rt; sees_between(&tree));
 }
 
 // What is told of the longest match of the probe, and how often it was shown as wanted: 100 where it wasn't.
@@ -190,29 +228,30 @@ fn shows_longest_by_ref(
     (by_reference, by_value, first, second)
 }
 
+fn shows_ab_and_abcd_by_ref(tree: &Tree) -> bool {
+    shows_longest_by_ref(tree, b"abcx", &AB) == (Ok(true), Ok(true), 1, 1)
+        && shows_longest_by_ref(tree, b"abcde", &ABCD) == (Ok(true), Ok(true), 1, 1)
+        && shows_longest_by_ref(tree, b"x", &("", 0, "", "")) == (Ok(false), Ok(false), 0, 0)
+}
+
 #[test]
 fn the_longest_match_is_shown_once_by_ref(rt: HostRuntime) {
     let tree = filled(rt.alloc(), &AB_AND_ABCD).expect(&rt, "a tree");
-    let shown = shows_longest_by_ref(&tree, b"abcx", &("ab", 1, "ab", ""));
-    assert!(rt; shown == (Ok(true), Ok(true), 1, 1));
-    let shown = shows_longest_by_ref(&tree, b"abcde", &("abcd", 2, "ab", "cd"));
-    assert!(rt; shown == (Ok(true), Ok(true), 1, 1));
-    let shown = shows_longest_by_ref(&tree, b"x", &("", 0, "", ""));
-    assert!(rt; shown == (Ok(false), Ok(false), 0, 0));
+    assert!(rt; shows_ab_and_abcd_by_ref(&tree));
 }
 
 fn shows_ab_and_abcd(tree: &Tree) -> bool {
-    shows_longest(tree, b"abcx", &("ab", 1, "ab", "")) == (Ok(true), 1)
-        && shows_longest(tree, b"abcde", &("abcd", 2, "ab", "cd")) == (Ok(true), 1)
+    shows_longest(tree, b"abcx", &AB) == (Ok(true), 1)
+        && shows_longest(tree, b"abcde", &ABCD) == (Ok(true), 1)
         && shows_longest(tree, b"x", &("", 0, "", "")) == (Ok(false), 0)
 }
 
 #[test]
 fn the_longest_match_is_shown_once(rt: HostRuntime) {
     let tree = filled(rt.alloc(), &AB_AND_ABCD).expect(&rt, "a tree");
-    assert!(rt; shows_ab_and_abcd(&tree));
     let with_empty = filled(rt.alloc(), &WITH_EMPTY).expect(&rt, "a tree");
-    assert!(rt; shows_longest(&with_empty, b"x", &("", 7, "", "")) == (Ok(true), 1));
+    let empty_key = shows_longest(&with_empty, b"x", &EMPTY) == (Ok(true), 1);
+    assert!(rt; empty_key && shows_ab_and_abcd(&tree));
 }
 
 // The views of "abcd" in both trees have equal bytes and differ, and compare alike with other slices.
@@ -230,12 +269,8 @@ fn compare(one: LendingKeyView<'_, '_>, other: LendingKeyView<'_, '_>) -> bool {
         && !one.eq_slice(b"abcde")
 }
 
-#[test]
-fn views_of_equal_bytes_can_differ(rt: HostRuntime) {
-    let (left, right) = (
-        filled(rt.alloc(), &AB_AND_ABCD).expect(&rt, "a tree"),
-        filled(rt.alloc(), &ABCD_ALONE).expect(&rt, "a tree"),
-    );
+// Whether the views of "abcd" in both trees compare so.
+fn have_unequal_views(left: &Tree, right: &Tree) -> bool {
     let key = Key::new_from_slice(b"abcd");
     let well = Cell::new(0_usize);
     let shown = left.with_longest_prefix_match_view_k(
@@ -254,40 +289,56 @@ fn views_of_equal_bytes_can_differ(rt: HostRuntime) {
             }
         },
     );
-    assert!(rt; shown == Ok(true) && well.get() == 1);
+    shown == Ok(true) && well.get() == 1
+}
+
+#[test]
+fn views_of_equal_bytes_can_differ(rt: HostRuntime) {
+    let left = filled(rt.alloc(), &AB_AND_ABCD).expect(&rt, "a tree");
+    let right = filled(rt.alloc(), &ABCD_ALONE).expect(&rt, "a tree");
+    assert!(rt; have_unequal_views(&left, &right));
+}
+
+fn writes(after: &mut Vec<u8>, view: LendingKeyView<'_, '_>) -> bool {
+    after.push(1).is_ok() && after.push(2).is_ok() && view.write_into(after).is_ok()
 }
 
 // The bytes of a view are copied after others, as a vector and as a key.
-fn copies(alloc: Global, view: LendingKeyView<'_, '_>) -> Result<bool, TreeError> {
+fn is_written(alloc: Global, view: LendingKeyView<'_, '_>) -> bool {
     let mut after = Vec::new(alloc);
-    for byte in [1_u8, 2] {
-        let Ok(()) = after.push(byte) else {
-            return Ok(false);
-        };
+    writes(&mut after, view) && after.as_slice() == [1, 2, 97, 98].as_slice()
+}
+
+fn is_vector(alloc: Global, view: LendingKeyView<'_, '_>) -> bool {
+    match view.to_vec(alloc) {
+        Ok(bytes) => bytes.as_slice() == b"ab".as_slice(),
+        Err(_) => false,
     }
-    view.write_into(&mut after)?;
-    let bytes = view.to_vec(alloc)?;
-    let fits = view.len() <= 16;
-    let key = if fits {
-        Some(view.to_key::<Key>(alloc)?)
-    } else {
-        None
-    };
-    Ok(
-        after.as_slice() == [1, 2, 97, 98].as_slice()
-            && bytes.as_slice() == b"ab".as_slice()
-            && key.is_some_and(|key| key.as_ref() == b"ab".as_slice()),
-    )
+}
+
+fn is_key(alloc: Global, view: LendingKeyView<'_, '_>) -> bool {
+    if view.len() > 16 {
+        return false;
+    }
+    match view.to_key::<Key>(alloc) {
+        Ok(key) => key.as_ref() == b"ab".as_slice(),
+        Err(_) => false,
+    }
+}
+
+fn copies_ab(alloc: Global, tree: &Tree) -> bool {
+    let well = Cell::new(false);
+    let shown = tree.with_longest_prefix_match_view_k(
+        &Key::new_from_slice(b"ab"),
+        |view: LendingKeyView<'_, '_>, _value: &u64| {
+            well.set(is_written(alloc, view) && is_vector(alloc, view) && is_key(alloc, view));
+        },
+    );
+    shown == Ok(true) && well.get()
 }
 
 #[test]
 fn bytes_of_a_view_are_copied(rt: HostRuntime) {
-    let alloc = rt.alloc();
-    let tree = filled(alloc, &AB_AND_ABCD).expect(&rt, "a tree");
-    let well = Cell::new(false);
-    let shown = tree.with_longest_prefix_match_view_k(
-        &Key::new_from_slice(b"ab"),
-        |view: LendingKeyView<'_, '_>, _value: &u64| well.set(copies(alloc, view) == Ok(true)),
-    );
-    assert!(rt; shown == Ok(true) && well.get());
+    let tree = filled(rt.alloc(), &AB_AND_ABCD).expect(&rt, "a tree");
+    assert!(rt; copies_ab(rt.alloc(), &tree));
 }

@@ -8,7 +8,6 @@ use rart::{KeyTrait, VisitControl, VisitError};
 use rart_test_trees::texts::{Key, Pair, THREE, Tree, filled};
 use std::cell::Cell;
 use std::panic::Expect;
-use std::process::Abort;
 
 pub fn with_digit(seen: u64, digit: u64) -> u64 {
     seen.wrapping_mul(10).wrapping_add(digit)
@@ -135,11 +134,13 @@ fn is_row(tree: &Tree, probe: &[u8], row: &Row) -> bool
 }
 
 // The first row that goes another way, if one does.
-fn first_wrong(rt: &impl Abort, tree: &Tree, rows: &[Row]) -> Option<usize> {
+fn first_wrong(tree: &Tree, rows: &[Row]) -> Option<usize> {
     let mut at = 0_usize;
     for row in rows {
         let probe = row.0.as_bytes();
-        assert!(rt; probe.len() <= 16);
+        if probe.len() > 16 {
+            return Some(at);
+        }
         if !is_row(tree, probe, row) {
             return Some(at);
         }
@@ -148,16 +149,14 @@ fn first_wrong(rt: &impl Abort, tree: &Tree, rows: &[Row]) -> Option<usize> {
     None
 }
 
+fn first_wrong_of_alp(tree: &Tree) -> Option<usize> {
+    first_wrong(tree, &OF_ALP)
+}
+
 #[test]
 fn values_below_a_prefix(rt: HostRuntime) {
-    assert_eq!(rt;
-        first_wrong(
-            &rt,
-            &filled(rt.alloc(), &ALP).expect(&rt, "a tree"),
-            &OF_ALP
-        ),
-        None
-    );
+    let tree = filled(rt.alloc(), &ALP).expect(&rt, "a tree");
+    assert_eq!(rt; first_wrong_of_alp(&tree), None);
 }
 
 // A probe, and of each match the length of its key and its value.
@@ -187,32 +186,46 @@ fn matches_by_bytes_are(tree: &Tree, probe: &[u8], wanted: u64) -> bool {
     seen.get() == wanted && lent == wanted
 }
 
+fn matches_by_ref_are(tree: &Tree, key: &Key, probe: &[u8], wanted: u64) -> bool {
+    let seen = Cell::new(1_u64);
+    tree.prefix_match_for_each_k(key, |found: &[u8], value: &u64| {
+        seen.set(with_match(seen.get(), probe, found, *value));
+    });
+    let mut lent = 1_u64;
+    let mut callback = |found: &[u8], value: &u64| lent = with_match(lent, probe, found, *value);
+    tree.prefix_match_for_each_by_ref_k(key, &mut callback);
+    seen.get() == wanted && lent == wanted
+}
+
 fn matches_are(tree: &Tree, probe: &[u8], wanted: u64) -> bool
     requires { length probe.now ≤ 16 }
 {
     let key = Key::new_from_slice(probe);
     let seen = Cell::new(1_u64);
-    tree.prefix_match_for_each_k(&key, |found: &[u8], value: &u64| {
-        seen.set(with_match(seen.get(), probe, found, *value));
-    });
-    let first = seen.get();
-    let mut lent = 1_u64;
-    let mut callback = |found: &[u8], value: &u64| lent = with_match(lent, probe, found, *value);
-    tree.prefix_match_for_each_by_ref_k(&key, &mut callback);
-    seen.set(1);
     tree.prefix_match_for_each(key, |found: &[u8], value: &u64| {
         seen.set(with_match(seen.get(), probe, found, *value));
     });
-    first == wanted && lent == wanted && seen.get() == wanted
+    seen.get() == wanted && matches_by_ref_are(tree, &key, probe, wanted)
+}
+
+// The first probe whose matches are others, if there is one.
+fn first_wrong_probe(tree: &Tree) -> Option<usize> {
+    let mut at = 0_usize;
+    for (text, wanted) in OF_THREE {
+        let probe = text.as_bytes();
+        if probe.len() > 16 {
+            return Some(at);
+        }
+        if !matches_are(tree, probe, wanted) || !matches_by_bytes_are(tree, probe, wanted) {
+            return Some(at);
+        }
+        at = at.wrapping_add(1);
+    }
+    None
 }
 
 #[test]
 fn matches_of_a_probe(rt: HostRuntime) {
     let tree = filled(rt.alloc(), &THREE).expect(&rt, "a tree");
-    for (text, wanted) in OF_THREE {
-        let probe = text.as_bytes();
-        assert!(rt; probe.len() <= 16);
-        assert!(rt; matches_are(&tree, probe, wanted), "probe {text}");
-        assert!(rt; matches_by_bytes_are(&tree, probe, wanted), "bytes {text}");
-    }
+    assert_eq!(rt; first_wrong_probe(&tree), None);
 }

@@ -59,15 +59,22 @@ fn write_route(
     Ok(())
 }
 
-// All routes of the table: their prefixes, cut at the nodes above them, and their targets.
-fn written(alloc: Global, table: &Table) -> Option<Vec<u8>> {
-    let mut text = Vec::new(alloc);
+// Writes all routes of the table: their prefixes, cut at the nodes above them, and their targets.
+fn write_routes(text: &mut Vec<u8>, table: &Table) -> bool {
     let mut whole = true;
     let mut write = |view: LendingKeyView<'_, '_>, target: &u64| {
-        whole = write_route(&mut text, view, *target).is_ok() && whole;
+        whole = write_route(text, view, *target).is_ok() && whole;
     };
-    table.below_for_each_by_ref(&key(""), &mut write).ok()?;
-    whole.then_some(text)
+    let walked = table.below_for_each_by_ref(&key(""), &mut write);
+    walked.is_ok() && whole
+}
+
+fn have_same_routes(alloc: Global, one: &Table, other: &Table) -> bool {
+    let mut text = Vec::new(alloc);
+    let mut wanted = Vec::new(alloc);
+    write_routes(&mut text, one)
+        && write_routes(&mut wanted, other)
+        && text.as_slice() == wanted.as_slice()
 }
 
 fn have_same_statistics(one: &Table, other: &Table) -> bool {
@@ -79,14 +86,9 @@ fn have_same_statistics(one: &Table, other: &Table) -> bool {
 
 // Whether both tables have the same routes, nodes at the same prefixes, and the same statistics.
 fn are_alike(alloc: Global, one: &Table, other: &Table) -> bool {
-    match (written(alloc, one), written(alloc, other)) {
-        (Some(text), Some(wanted)) => {
-            one.len() == other.len()
-                && text.as_slice() == wanted.as_slice()
-                && have_same_statistics(one, other)
-        }
-        _ => false,
-    }
+    one.len() == other.len()
+        && have_same_routes(alloc, one, other)
+        && have_same_statistics(one, other)
 }
 
 // A refused edit hands its target back.
@@ -120,13 +122,17 @@ fn edit_is_refused_well(
     (well && are_alike(alloc, table, unrefused)).then_some(refused)
 }
 
-// Each request of the edit refused in turn, and at last none.
-fn edit_is_swept(alloc: Global, stands: &[Row], edit: &Row) -> bool {
-    let (mut table, mut unrefused) = (Table::new(alloc), Table::new(alloc));
-    let filled = first_wrong(&mut table, stands).is_none()
-        && first_wrong(&mut unrefused, stands).is_none();
+// Each request of the edit refused in turn, and at last none, after the rows before it were played on both tables.
+fn is_swept_in(
+    alloc: Global,
+    table: &mut Table,
+    unrefused: &mut Table,
+    before: &[Row],
+    edit: &Row,
+) -> bool {
+    let filled = first_wrong(table, before).is_none() && first_wrong(unrefused, before).is_none();
     for at in 1..100_usize {
-        match edit_is_refused_well(alloc, &mut table, &mut unrefused, edit, at) {
+        match edit_is_refused_well(alloc, table, unrefused, edit, at) {
             Some(true) => {}
             Some(false) => {
                 part_ends(alloc);
@@ -138,11 +144,17 @@ fn edit_is_swept(alloc: Global, stands: &[Row], edit: &Row) -> bool {
     false
 }
 
+fn edit_is_swept(alloc: Global, before: &[Row], edit: &Row) -> bool {
+    let mut table = Table::new(alloc);
+    let mut unrefused = Table::new(alloc);
+    is_swept_in(alloc, &mut table, &mut unrefused, before, edit)
+}
+
 #[test]
 fn edits_of_routes_refused_in_turn(rt: HostRuntime) {
     let mut number = 0_usize;
-    for (stands, edit) in &EDITS {
-        assert!(rt; edit_is_swept(rt.alloc(), stands, edit), "row {number}");
+    for (before, edit) in &EDITS {
+        assert!(rt; edit_is_swept(rt.alloc(), before, edit), "row {number}");
         number = number.wrapping_add(1);
     }
 }
@@ -180,11 +192,10 @@ fn walk_is_swept(alloc: Global, table: &Table, lent: bool) -> bool {
 #[test]
 fn views_of_routes_refused_in_turn(rt: HostRuntime) {
     let mut table = Table::new(rt.alloc());
-    let filled = first_wrong(&mut table, &BRANCHES);
-    assert_eq!(rt; filled, None);
-    for lent in [false, true] {
-        assert!(rt; walk_is_swept(rt.alloc(), &table, lent), "lent {lent}");
-    }
+    let well = first_wrong(&mut table, &BRANCHES).is_none()
+        && walk_is_swept(rt.alloc(), &table, false)
+        && walk_is_swept(rt.alloc(), &table, true);
+    assert!(rt; well);
 }
 
 // A refused iterator says `Memory`, and one with memory gives all routes. Whether a request was refused.
@@ -209,11 +220,13 @@ fn list_is_refused_well(alloc: Global, table: &Table, at: usize) -> Option<bool>
     well.then_some(refused)
 }
 
+fn lists_are_swept(alloc: Global, table: &Table) -> bool {
+    is_swept(alloc, |at| list_is_refused_well(alloc, table, at))
+}
+
 #[test]
 fn lists_of_routes_refused_in_turn(rt: HostRuntime) {
-    let alloc = rt.alloc();
-    let mut table = Table::new(alloc);
-    let filled = first_wrong(&mut table, &BRANCHES);
-    assert_eq!(rt; filled, None);
-    assert!(rt; is_swept(alloc, |at| list_is_refused_well(alloc, &table, at)));
+    let mut table = Table::new(rt.alloc());
+    let well = first_wrong(&mut table, &BRANCHES).is_none() && lists_are_swept(rt.alloc(), &table);
+    assert!(rt; well);
 }

@@ -1,9 +1,9 @@
 //! The counted calls of intersections: each answers as the plain one does.
 
-use crate::joins::rows::{Given, ROWS, Triple};
+use crate::joins::rows::{Given, Triple};
+use crate::joins::{Asked, first_wrong};
 use rart::{KeyTrait, LendingKeyView, Seen, Visits};
-use rart_test_trees::texts::{Key, Tree, filled};
-use std::panic::Expect;
+use rart_test_trees::texts::{Key, Tree};
 
 fn seen(tree: &Tree) -> Seen<'_, Key, u64, Visits> {
     tree.seen()
@@ -59,16 +59,13 @@ fn views(left: &Tree, right: &Tree, wanted: &[Triple]) -> bool {
     answer.is_ok() && by_ref.is_ok() && given.all() && lent.all()
 }
 
+pub fn are_those_of_plain_calls(left: &Tree, right: &Tree, wanted: &[Triple]) -> bool {
+    counts_and_values(left, right, wanted)
+        && keys(left, right, wanted)
+        && views(left, right, wanted)
+}
+
 #[test]
 fn keys_of_both_trees_are_those_of_the_plain_calls(rt: HostRuntime) {
-    let mut at = 0_usize;
-    for row in &ROWS {
-        let left = filled(rt.alloc(), row.0).expect(&rt, "a tree");
-        let right = filled(rt.alloc(), row.1).expect(&rt, "a tree");
-        let well = counts_and_values(&left, &right, row.2)
-            && keys(&left, &right, row.2)
-            && views(&left, &right, row.2);
-        assert!(rt; well, "row {at}");
-        at = at.wrapping_add(1);
-    }
+    assert_eq!(rt; first_wrong(rt.alloc(), Asked::Counted), None);
 }

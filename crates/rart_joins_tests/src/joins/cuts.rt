@@ -4,6 +4,7 @@
 use crate::joins::rows::{OTHER_WORDS, WORDS};
 use rart::{LendingKeyView, Seen, TreeError, TreeStatsTrait, Visits};
 use rart_test_trees::texts::{Key, Pair, Tree, after, filled};
+use std::alloc::Global;
 use std::cell::Cell;
 use std::panic::Expect;
 
@@ -125,17 +126,36 @@ fn is_cut(left: &Tree, right: &Tree, text: &[u8]) -> bool {
         && counted_by_ref(left, right, text) == whole
 }
 
-#[test]
-fn a_view_is_cut_after_each_shared_stretch_and_each_edge_byte(rt: HostRuntime) {
+fn is_cut_beside(alloc: Global, left: &Tree, row: &Row) -> bool {
+    let text = row.2.as_bytes();
+    match filled(alloc, row.1) {
+        Some(right) => is_cut(left, &right, text) && is_cut(&right, left, text),
+        None => false,
+    }
+}
+
+fn is_row(alloc: Global, row: &Row) -> bool {
+    match filled(alloc, row.0) {
+        Some(left) => is_cut_beside(alloc, &left, row),
+        None => false,
+    }
+}
+
+// The first row that goes another way, if one does.
+fn first_wrong(alloc: Global, rows: &[Row]) -> Option<usize> {
     let mut at = 0_usize;
-    for row in &ROWS {
-        let left = filled(rt.alloc(), row.0).expect(&rt, "a tree");
-        let right = filled(rt.alloc(), row.1).expect(&rt, "a tree");
-        let text = row.2.as_bytes();
-        let well = is_cut(&left, &right, text) && is_cut(&right, &left, text);
-        assert!(rt; well, "row {at}");
+    for row in rows {
+        if !is_row(alloc, row) {
+            return Some(at);
+        }
         at = at.wrapping_add(1);
     }
+    None
+}
+
+#[test]
+fn a_view_is_cut_after_each_shared_stretch_and_each_edge_byte(rt: HostRuntime) {
+    assert_eq!(rt; first_wrong(rt.alloc(), &ROWS), None);
 }
 
 fn count_nodes(tree: &Tree) -> Option<usize> {
@@ -147,7 +167,8 @@ fn count_nodes(tree: &Tree) -> Option<usize> {
 
 #[test]
 fn both_trees_of_words_have_four_nodes(rt: HostRuntime) {
-    let words = filled(rt.alloc(), &WORDS).expect(&rt, "a tree");
-    let others = filled(rt.alloc(), &OTHER_WORDS).expect(&rt, "a tree");
-    assert!(rt; count_nodes(&words) == Some(4) && count_nodes(&others) == Some(4));
+    for pairs in [WORDS, OTHER_WORDS] {
+        let tree = filled(rt.alloc(), &pairs).expect(&rt, "a tree");
+        assert_eq!(rt; count_nodes(&tree), Some(4));
+    }
 }

@@ -1,6 +1,7 @@
 //! The law of intersections, called on each row; and intersections with an empty tree.
 
-use crate::joins::rows::{Given, ROWS, Triple};
+use crate::joins::rows::{Given, Triple};
+use crate::joins::{Asked, first_wrong};
 use rart::laws::intersections::intersections_are_symmetric;
 use rart::{KeyTrait, LendingKeyView, TreeError};
 use rart_test_tools::refusals::{is_swept, refuse, was_refused};
@@ -10,7 +11,7 @@ use std::cell::Cell;
 use std::panic::Expect;
 
 // Whether the law's call gives what both trees have, and with swapped values once more.
-fn gives_both_ways(left: &Tree, right: &Tree, wanted: &[Triple]) -> bool {
+pub fn gives_both_ways(left: &Tree, right: &Tree, wanted: &[Triple]) -> bool {
     let mut there = Given::nothing(wanted, false);
     let mut back = Given::nothing(wanted, true);
     let mut one_way = |key: Key, one: &u64, other: &u64| there.pair(key.as_ref(), *one, *other);
@@ -21,14 +22,7 @@ fn gives_both_ways(left: &Tree, right: &Tree, wanted: &[Triple]) -> bool {
 
 #[test]
 fn swapped_trees_give_swapped_values(rt: HostRuntime) {
-    let mut at = 0_usize;
-    for row in &ROWS {
-        let left = filled(rt.alloc(), row.0).expect(&rt, "a tree");
-        let right = filled(rt.alloc(), row.1).expect(&rt, "a tree");
-        let well = gives_both_ways(&left, &right, row.2);
-        assert!(rt; well, "row {at}");
-        at = at.wrapping_add(1);
-    }
+    assert_eq!(rt; first_wrong(rt.alloc(), Asked::Law), None);
 }
 
 // A refused law says `Memory`: the second callback wasn't called, and the first was called at all pairs or at none.
@@ -58,7 +52,7 @@ fn is_refused_well(
 }
 
 // Nothing is requested where a tree is empty.
-fn law_is_swept(alloc: Global, left: &Tree, right: &Tree, wanted: &[Triple]) -> bool {
+pub fn law_is_swept(alloc: Global, left: &Tree, right: &Tree, wanted: &[Triple]) -> bool {
     if left.is_empty() || right.is_empty() {
         is_refused_well(alloc, left, right, wanted, 1) == Some(false)
     } else {
@@ -68,14 +62,7 @@ fn law_is_swept(alloc: Global, left: &Tree, right: &Tree, wanted: &[Triple]) -> 
 
 #[test]
 fn swapped_trees_refused_in_turn(rt: HostRuntime) {
-    let mut at = 0_usize;
-    for row in &ROWS {
-        let left = filled(rt.alloc(), row.0).expect(&rt, "a tree");
-        let right = filled(rt.alloc(), row.1).expect(&rt, "a tree");
-        let well = law_is_swept(rt.alloc(), &left, &right, row.2);
-        assert!(rt; well, "row {at}");
-        at = at.wrapping_add(1);
-    }
+    assert_eq!(rt; first_wrong(rt.alloc(), Asked::LawRefused), None);
 }
 
 const ENDED: [Pair; 3] = [("ab\0", 1), ("abc\0", 2), ("dog\0", 3)];
@@ -96,11 +83,13 @@ fn is_quiet(alloc: Global, one: &Tree, other: &Tree) -> bool {
     !was_refused(alloc) && keys == Ok(()) && views == Ok(()) && many.get() == 0
 }
 
+fn are_quiet(alloc: Global, empty: &Tree, words: &Tree) -> bool {
+    is_quiet(alloc, empty, words) && is_quiet(alloc, words, empty) && is_quiet(alloc, empty, empty)
+}
+
 #[test]
 fn intersections_with_an_empty_tree_ask_for_nothing(rt: HostRuntime) {
-    let empty = filled(rt.alloc(), &[]).expect(&rt, "a tree");
+    let empty = Tree::new(rt.alloc());
     let words = filled(rt.alloc(), &ENDED).expect(&rt, "a tree");
-    assert!(rt; is_quiet(rt.alloc(), &empty, &words));
-    assert!(rt; is_quiet(rt.alloc(), &words, &empty));
-    assert!(rt; is_quiet(rt.alloc(), &empty, &empty));
+    assert!(rt; are_quiet(rt.alloc(), &empty, &words));
 }

@@ -1,11 +1,10 @@
 //! Intersections: the keys of two trees, with the values of both.
 
+use crate::joins::{Asked, first_wrong};
 use rart::{KeyTrait, LendingKeyView, TreeError};
 use rart_test_tools::refusals::{part_ends, refuse, was_refused};
-use rart_test_trees::texts::{Key, Pair, Tree, filled};
+use rart_test_trees::texts::{Key, Pair, Tree};
 use std::alloc::Global;
-use std::panic::Expect;
-use std::process::Abort;
 
 // A key of both trees, with the value of the one and of the other.
 pub type Triple = (&'static str, u64, u64);
@@ -148,20 +147,6 @@ pub fn is_met(left: &Tree, right: &Tree, wanted: &[Triple]) -> bool {
     is_way(left, right, wanted, false) && is_way(right, left, wanted, true)
 }
 
-// The first row that goes another way, if one does.
-fn first_wrong(rt: &impl Abort, alloc: Global, rows: &[Row]) -> Option<usize> {
-    let mut at = 0_usize;
-    for row in rows {
-        let left = filled(alloc, row.0).expect(rt, "a tree");
-        let right = filled(alloc, row.1).expect(rt, "a tree");
-        if !is_met(&left, &right, row.2) {
-            return Some(at);
-        }
-        at = at.wrapping_add(1);
-    }
-    None
-}
-
 const BEGINNINGS: [Pair; 2] = [("", 1), ("b", 2)];
 
 pub const WORDS: [Pair; 3] = [("ab", 1), ("abc", 2), ("dog", 3)];
@@ -204,11 +189,11 @@ pub const ROWS: [Row; 9] = [
 
 #[test]
 fn keys_of_both_trees(rt: HostRuntime) {
-    assert_eq!(rt; first_wrong(&rt, rt.alloc(), &ROWS), None);
+    assert_eq!(rt; first_wrong(rt.alloc(), Asked::All), None);
 }
 
 // Whether counts and values are given while the next request for memory is refused.
-fn is_asked_for_nothing(alloc: Global, left: &Tree, right: &Tree, wanted: &[Triple]) -> bool {
+pub fn is_asked_for_nothing(alloc: Global, left: &Tree, right: &Tree, wanted: &[Triple]) -> bool {
     refuse(alloc, 1);
     let count = left.intersect_count(right);
     let well = gives_values(left, right, wanted, false)
@@ -218,12 +203,7 @@ fn is_asked_for_nothing(alloc: Global, left: &Tree, right: &Tree, wanted: &[Trip
 
 #[test]
 fn counts_and_values_ask_for_nothing(rt: HostRuntime) {
-    for row in &ROWS {
-        let left = filled(rt.alloc(), row.0).expect(&rt, "a tree");
-        let right = filled(rt.alloc(), row.1).expect(&rt, "a tree");
-        let well = is_asked_for_nothing(rt.alloc(), &left, &right, row.2);
-        assert!(rt; well);
-    }
+    assert_eq!(rt; first_wrong(rt.alloc(), Asked::Quiet), None);
 }
 
 /// An intersection that requests memory, by a form of its call.
@@ -278,14 +258,16 @@ fn is_swept(alloc: Global, left: &Tree, right: &Tree, wanted: &[Triple], form: F
     swept
 }
 
-#[test]
-fn keys_and_views_are_refused_in_turn(rt: HostRuntime) {
-    for row in &ROWS {
-        let left = filled(rt.alloc(), row.0).expect(&rt, "a tree");
-        let right = filled(rt.alloc(), row.1).expect(&rt, "a tree");
-        for form in [Form::Keys, Form::KeysByRef, Form::Views, Form::ViewsByRef] {
-            let swept = is_swept(rt.alloc(), &left, &right, row.2, form);
-            assert!(rt; swept);
+pub fn are_swept(alloc: Global, left: &Tree, right: &Tree, wanted: &[Triple]) -> bool {
+    for form in [Form::Keys, Form::KeysByRef, Form::Views, Form::ViewsByRef] {
+        if !is_swept(alloc, left, right, wanted, form) {
+            return false;
         }
     }
+    true
+}
+
+#[test]
+fn keys_and_views_are_refused_in_turn(rt: HostRuntime) {
+    assert_eq!(rt; first_wrong(rt.alloc(), Asked::Refused), None);
 }

@@ -1,34 +1,52 @@
 //! Intersections of nodes of every two widths, key by key, and of trees whose values have two types.
 
 use crate::joins::rows::{Triple, is_met};
-use rart::{AdaptiveRadixTree, KeyTrait, TreeError};
+use rart::{AdaptiveRadixTree, KeyTrait};
 use rart_test_trees::texts::{Key, Pair, Tree, filled};
 use std::alloc::Global;
 use std::cell::Cell;
 use std::panic::Expect;
-use std::process::Abort;
 
-// A node with a child at each byte that the number divides, with itself as the value.
-fn multiples(rt: &impl Abort, alloc: Global, of: u8) -> Tree {
-    let mut tree = Tree::new(alloc);
+// Inserts the byte of each multiple, with itself as the value.
+fn insert_multiples(tree: &mut Tree, of: u8) -> bool {
     for byte in 0..=255_u8 {
-        if byte.checked_rem(of) == Some(0) {
-            let inserted = tree.insert(Key::new_from_slice(&[byte]), u64::from(byte));
-            assert!(rt; matches!(inserted, Ok(None)));
+        if byte.checked_rem(of) == Some(0)
+            && !matches!(
+                tree.insert(Key::new_from_slice(&[byte]), u64::from(byte)),
+                Ok(None)
+            )
+        {
+            return false;
         }
     }
-    tree
+    true
+}
+
+// A node with a child at each byte that the number divides.
+fn multiples(alloc: Global, of: u8) -> Option<Tree> {
+    let mut tree = Tree::new(alloc);
+    if insert_multiples(&mut tree, of) {
+        Some(tree)
+    } else {
+        None
+    }
 }
 
 const FIVE: [Pair; 5] = [("\0", 1), ("2", 2), ("33", 3), ("d", 4), ("}", 5)];
 
 const OF_FIVE: [Triple; 4] = [("\0", 0, 1), ("2", 50, 2), ("d", 100, 4), ("}", 125, 5)];
 
+fn meets_five(alloc: Global, all: &Tree) -> bool {
+    match filled(alloc, &FIVE) {
+        Some(five) => is_met(all, &five, &OF_FIVE),
+        None => false,
+    }
+}
+
 #[test]
 fn a_full_node_beside_five_keys(rt: HostRuntime) {
-    let all = multiples(&rt, rt.alloc(), 1);
-    let five = filled(rt.alloc(), &FIVE).expect(&rt, "a tree");
-    assert!(rt; is_met(&all, &five, &OF_FIVE));
+    let all = multiples(rt.alloc(), 1).expect(&rt, "a tree");
+    assert!(rt; meets_five(rt.alloc(), &all));
 }
 
 // The next number that both divide, from this one on; 256 after the last one, and a number above that stays.
@@ -54,42 +72,59 @@ fn after(number: usize, key: &[u8], left: u64, right: u64) -> usize {
 }
 
 // Whether exactly the multiples of both are given, in order.
-fn gives_multiples_of_both(
-    left: &Tree,
-    right: &Tree,
-    one: u8,
-    other: u8,
-) -> Result<bool, TreeError> {
+fn gives_multiples_of_both(left: &Tree, right: &Tree, one: u8, other: u8) -> bool {
     let next = Cell::new(next_multiple(0, one, other));
-    left.intersect_with(right, |key: Key, left: &u64, right: &u64| {
+    let answer = left.intersect_with(right, |key: Key, left: &u64, right: &u64| {
         let number = after(next.get(), key.as_ref(), *left, *right);
         next.set(next_multiple(number, one, other));
-    })?;
-    Ok(next.get() == 256)
+    });
+    answer == Ok(()) && next.get() == 256
 }
 
 // Of 1 there are 256 children, of 6 there are 43, of 17 sixteen, and of 64 four.
 const WIDTHS: [u8; 4] = [1, 6, 17, 64];
 
+fn gives_beside(alloc: Global, left: &Tree, one: u8, other: u8) -> bool {
+    match multiples(alloc, other) {
+        Some(right) => gives_multiples_of_both(left, &right, one, other),
+        None => false,
+    }
+}
+
+// The first width beside which a node goes another way, if there is one.
+fn first_wrong_beside(alloc: Global, left: &Tree, one: u8) -> Option<u8> {
+    for other in WIDTHS {
+        if !gives_beside(alloc, left, one, other) {
+            return Some(other);
+        }
+    }
+    None
+}
+
 #[test]
 fn nodes_of_every_two_widths(rt: HostRuntime) {
     for one in WIDTHS {
-        let left = multiples(&rt, rt.alloc(), one);
-        for other in WIDTHS {
-            let right = multiples(&rt, rt.alloc(), other);
-            let well = gives_multiples_of_both(&left, &right, one, other) == Ok(true);
-            assert!(rt; well, "{one} and {other}");
+        let left = multiples(rt.alloc(), one).expect(&rt, "a tree");
+        assert_eq!(rt; first_wrong_beside(rt.alloc(), &left, one), None, "{one}");
+    }
+}
+
+// Whether 18 children of both are given from both sides.
+fn gives_both_ways(alloc: Global, thirds: &Tree) -> bool {
+    match multiples(alloc, 5) {
+        Some(fifths) => {
+            gives_multiples_of_both(thirds, &fifths, 3, 5)
+                && gives_multiples_of_both(&fifths, thirds, 5, 3)
+                && thirds.intersect_count(&fifths) == 18
         }
+        None => false,
     }
 }
 
 #[test]
 fn a_node_that_has_more_and_fewer_children_than_another(rt: HostRuntime) {
-    let thirds = multiples(&rt, rt.alloc(), 3);
-    let fifths = multiples(&rt, rt.alloc(), 5);
-    assert!(rt; gives_multiples_of_both(&thirds, &fifths, 3, 5) == Ok(true));
-    assert!(rt; gives_multiples_of_both(&fifths, &thirds, 5, 3) == Ok(true));
-    assert_eq!(rt; thirds.intersect_count(&fifths), 18);
+    let thirds = multiples(rt.alloc(), 3).expect(&rt, "a tree");
+    assert!(rt; gives_both_ways(rt.alloc(), &thirds));
 }
 
 /// A value of another type than a number.
@@ -102,14 +137,14 @@ enum Name {
 
 type Names = AdaptiveRadixTree<Key, Name>;
 
-fn names(rt: &impl Abort, alloc: Global, pairs: &[(&'static str, Name)]) -> Names {
-    let mut tree = Names::new(alloc);
+fn insert_names(tree: &mut Names, pairs: &[(&'static str, Name)]) -> bool {
     for (text, name) in pairs {
         let bytes = text.as_bytes();
-        assert!(rt; bytes.len() <= 16);
-        assert!(rt; matches!(tree.insert(Key::new_from_slice(bytes), *name), Ok(None)));
+        if bytes.len() > 16 || !matches!(tree.insert(Key::new_from_slice(bytes), *name), Ok(None)) {
+            return false;
+        }
     }
-    tree
+    true
 }
 
 // Once, if the name is that of the number, and else 100.
@@ -149,13 +184,12 @@ fn meets_names(numbers: &Tree, names: &Names) -> bool {
         && numbers.intersect_count(names) == 2
 }
 
+const NAMES: [(&str, Name); 3] = [("b", Name::Two), ("bc", Name::Three), ("c", Name::Four)];
+
 #[test]
 fn trees_of_two_value_types(rt: HostRuntime) {
     let numbers = filled(rt.alloc(), &[("a", 1), ("b", 2), ("bc", 3)]).expect(&rt, "a tree");
-    let named = names(
-        &rt,
-        rt.alloc(),
-        &[("b", Name::Two), ("bc", Name::Three), ("c", Name::Four)],
-    );
-    assert!(rt; meets_names(&numbers, &named));
+    let mut named = Names::new(rt.alloc());
+    let well = insert_names(&mut named, &NAMES) && meets_names(&numbers, &named);
+    assert!(rt; well);
 }

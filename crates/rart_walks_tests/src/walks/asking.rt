@@ -2,7 +2,7 @@
 //! started.
 
 use super::forms::{Calls, PAIRS, WALKS, Walk, make};
-use rart::{KeyTrait, TreeError, Visits};
+use rart::{ArrPartial, Iter, KeyTrait, Range, SeenIter, SeenRange, TreeError, Visits};
 use rart_test_tools::refusals::{refuse, was_refused};
 use rart_test_trees::texts::{Key, Tree, filled};
 use std::alloc::Global;
@@ -16,16 +16,22 @@ fn is_quiet_of_nothing(alloc: Global, empty: &Tree, key: Key, form: Walk) -> boo
     !was_refused(alloc) && ended == Ok(()) && calls.many() == 0
 }
 
-#[test]
-fn walks_of_an_empty_tree_ask_for_nothing(rt: HostRuntime) {
-    let empty = filled(rt.alloc(), &[]).expect(&rt, "a tree");
+fn first_asking_of_nothing(alloc: Global, empty: &Tree) -> Option<usize> {
     let key = Key::new_from_slice(b"alp");
     let mut row = 0_usize;
     for (form, _wanted) in WALKS {
-        let quiet = is_quiet_of_nothing(rt.alloc(), &empty, key, form);
-        assert!(rt; quiet, "row {row}");
+        if !is_quiet_of_nothing(alloc, empty, key, form) {
+            return Some(row);
+        }
         row = row.wrapping_add(1);
     }
+    None
+}
+
+#[test]
+fn walks_of_an_empty_tree_ask_for_nothing(rt: HostRuntime) {
+    let empty = Tree::new(rt.alloc());
+    assert_eq!(rt; first_asking_of_nothing(rt.alloc(), &empty), None);
 }
 
 // From the first call on nothing is requested.
@@ -35,100 +41,152 @@ fn is_quiet_once_it_calls(alloc: Global, tree: &Tree, key: Key, form: Walk, want
     !was_refused(alloc) && ended == Ok(()) && calls.many() == wanted
 }
 
-#[test]
-fn walks_that_call_ask_for_nothing(rt: HostRuntime) {
-    let tree = filled(rt.alloc(), &PAIRS).expect(&rt, "a tree");
+fn first_asking(alloc: Global, tree: &Tree) -> Option<usize> {
     let key = Key::new_from_slice(b"alp");
     let mut row = 0_usize;
     for (form, wanted) in WALKS {
-        let quiet = is_quiet_once_it_calls(rt.alloc(), &tree, key, form, wanted);
-        assert!(rt; quiet, "row {row}");
+        if !is_quiet_once_it_calls(alloc, tree, key, form, wanted) {
+            return Some(row);
+        }
         row = row.wrapping_add(1);
     }
+    None
 }
 
-fn matches_by_callback(tree: &Tree, key: Key) -> usize {
-    let calls = Calls::none(None);
-    tree.prefix_match_for_each_k(&key, |_found: &[u8], _value: &u64| calls.call());
+#[test]
+fn walks_that_call_ask_for_nothing(rt: HostRuntime) {
+    let tree = filled(rt.alloc(), &PAIRS).expect(&rt, "a tree");
+    assert_eq!(rt; first_asking(rt.alloc(), &tree), None);
+}
+
+fn call_for_matches_by_ref(tree: &Tree, key: &Key, calls: &Calls) {
+    tree.prefix_match_for_each_k(key, |_found: &[u8], _value: &u64| calls.call());
     let mut callback = |_found: &[u8], _value: &u64| calls.call();
-    tree.prefix_match_for_each_by_ref_k(&key, &mut callback);
-    tree.prefix_match_for_each_bytes(key.as_ref(), |_found: &[u8], _value: &u64| calls.call());
+    tree.prefix_match_for_each_by_ref_k(key, &mut callback);
+}
+
+fn call_for_matches_of_bytes(tree: &Tree, probe: &[u8], calls: &Calls) {
+    tree.prefix_match_for_each_bytes(probe, |_found: &[u8], _value: &u64| calls.call());
     let mut callback = |_found: &[u8], _value: &u64| calls.call();
-    tree.prefix_match_for_each_by_ref_bytes(key.as_ref(), &mut callback);
+    tree.prefix_match_for_each_by_ref_bytes(probe, &mut callback);
+}
+
+fn call_for_matches(tree: &Tree, key: Key, calls: &Calls) {
     tree.prefix_match_for_each(key, |_found: &[u8], _value: &u64| calls.call());
     let mut callback = |_found: &[u8], _value: &u64| calls.call();
     tree.prefix_match_for_each_by_ref(key, &mut callback);
-    calls.many()
+}
+
+fn is_quiet_about(alloc: Global, tree: &Tree, key: Key) -> bool {
+    let calls = Calls::none(None);
+    refuse(alloc, 1);
+    call_for_matches_by_ref(tree, &key, &calls);
+    call_for_matches_of_bytes(tree, key.as_ref(), &calls);
+    call_for_matches(tree, key, &calls);
+    !was_refused(alloc) && calls.many() == 12
 }
 
 #[test]
 fn calls_about_a_probe_ask_for_nothing(rt: HostRuntime) {
     let tree = filled(rt.alloc(), &PAIRS).expect(&rt, "a tree");
-    refuse(rt.alloc(), 1);
-    let called = matches_by_callback(&tree, Key::new_from_slice(b"alpha12"));
-    assert!(rt; !was_refused(rt.alloc()));
-    assert_eq!(rt; called, 12);
+    assert!(rt; is_quiet_about(rt.alloc(), &tree, Key::new_from_slice(b"alpha12")));
 }
 
-// Each answers how many of ten calls give a pair, with the request after the start refused.
-fn below(alloc: Global, tree: &Tree, key: Key) -> Result<usize, TreeError> {
-    let mut pairs = tree.prefix_iter_k(&key)?;
+// Each counts how many of ten calls give a pair.
+fn ten_of(pairs: &mut Iter<'_, Key, ArrPartial<16>, u64>) -> usize {
     let mut many = 0_usize;
-    refuse(alloc, 1);
     for _ in 0..10_usize {
         many = many.wrapping_add(usize::from(pairs.next().is_some()));
     }
-    Ok(many)
+    many
+}
+
+fn ten_within(pairs: &mut Range<'_, Key, u64>) -> usize {
+    let mut many = 0_usize;
+    for _ in 0..10_usize {
+        many = many.wrapping_add(usize::from(pairs.next().is_some()));
+    }
+    many
+}
+
+fn ten_counted(pairs: &mut SeenIter<'_, Key, u64, Visits>) -> usize {
+    let mut many = 0_usize;
+    for _ in 0..10_usize {
+        many = many.wrapping_add(usize::from(pairs.next_counted(&mut Visits::new()).is_some()));
+    }
+    many
+}
+
+fn ten_within_counted(pairs: &mut SeenRange<'_, Key, u64, Visits>) -> usize {
+    let mut many = 0_usize;
+    for _ in 0..10_usize {
+        many = many.wrapping_add(usize::from(pairs.next_counted(&mut Visits::new()).is_some()));
+    }
+    many
+}
+
+// Each answers that count of a walk whose requests after its start are refused.
+fn below(alloc: Global, tree: &Tree, key: Key) -> Result<usize, TreeError> {
+    match tree.prefix_iter_k(&key) {
+        Ok(mut pairs) => {
+            refuse(alloc, 1);
+            Ok(ten_of(&mut pairs))
+        }
+        Err(error) => Err(error),
+    }
 }
 
 // From after the key to "b".
 fn within(alloc: Global, tree: &Tree, key: Key) -> Result<usize, TreeError> {
-    let mut pairs = tree.range(
-        Bound::Excluded(key),
-        Bound::Included(Key::new_from_slice(b"b")),
-    )?;
-    let mut many = 0_usize;
-    refuse(alloc, 1);
-    for _ in 0..10_usize {
-        many = many.wrapping_add(usize::from(pairs.next().is_some()));
+    let end = Key::new_from_slice(b"b");
+    match tree.range(Bound::Excluded(key), Bound::Included(end)) {
+        Ok(mut pairs) => {
+            refuse(alloc, 1);
+            Ok(ten_within(&mut pairs))
+        }
+        Err(error) => Err(error),
     }
-    Ok(many)
+}
+
+fn of_seen(
+    alloc: Global,
+    pairs: Result<SeenIter<'_, Key, u64, Visits>, TreeError>,
+) -> Result<usize, TreeError> {
+    match pairs {
+        Ok(mut pairs) => {
+            refuse(alloc, 1);
+            Ok(ten_counted(&mut pairs))
+        }
+        Err(error) => Err(error),
+    }
 }
 
 fn all_counted(alloc: Global, tree: &Tree) -> Result<usize, TreeError> {
-    let mut pairs = tree.seen::<Visits>().iter_counted(&mut Visits::new())?;
-    let mut many = 0_usize;
-    refuse(alloc, 1);
-    for _ in 0..10_usize {
-        many = many.wrapping_add(usize::from(pairs.next_counted(&mut Visits::new()).is_some()));
-    }
-    Ok(many)
+    of_seen(
+        alloc,
+        tree.seen::<Visits>().iter_counted(&mut Visits::new()),
+    )
 }
 
 fn below_counted(alloc: Global, tree: &Tree, key: Key) -> Result<usize, TreeError> {
-    let mut pairs = tree
-        .seen::<Visits>()
-        .prefix_iter_k_counted(&key, &mut Visits::new())?;
-    let mut many = 0_usize;
-    refuse(alloc, 1);
-    for _ in 0..10_usize {
-        many = many.wrapping_add(usize::from(pairs.next_counted(&mut Visits::new()).is_some()));
-    }
-    Ok(many)
+    let seen = tree.seen::<Visits>();
+    of_seen(alloc, seen.prefix_iter_k_counted(&key, &mut Visits::new()))
 }
 
 fn within_counted(alloc: Global, tree: &Tree, key: Key) -> Result<usize, TreeError> {
-    let mut pairs = tree.seen::<Visits>().range_counted(
+    let end = Key::new_from_slice(b"b");
+    let seen = tree.seen::<Visits>();
+    match seen.range_counted(
         Bound::Excluded(key),
-        Bound::Included(Key::new_from_slice(b"b")),
+        Bound::Included(end),
         &mut Visits::new(),
-    )?;
-    let mut many = 0_usize;
-    refuse(alloc, 1);
-    for _ in 0..10_usize {
-        many = many.wrapping_add(usize::from(pairs.next_counted(&mut Visits::new()).is_some()));
+    ) {
+        Ok(mut pairs) => {
+            refuse(alloc, 1);
+            Ok(ten_within_counted(&mut pairs))
+        }
+        Err(error) => Err(error),
     }
-    Ok(many)
 }
 
 fn are_quiet(alloc: Global, tree: &Tree, key: Key) -> bool {

@@ -2,8 +2,8 @@
 
 use rart::{KeyTrait, LendingKeyView, TreeError};
 use rart_test_tools::refusals::{part_ends, refuse, was_refused};
-use rart_test_trees::texts::{Key, Pair, filled};
-use std::alloc::{AllocError, Global};
+use rart_test_trees::texts::{Key, Pair, Tree, filled};
+use std::alloc::Global;
 use std::cell::Cell;
 use std::panic::Expect;
 
@@ -16,30 +16,49 @@ enum Copied {
 }
 
 // A vector of two bytes and no room for more.
-fn two_bytes(alloc: Global) -> Result<Vec<u8>, AllocError> {
-    let mut bytes = Vec::with_capacity(alloc, 2)?;
-    bytes.push(1)?;
-    bytes.push(2)?;
-    Ok(bytes)
+fn two_bytes(alloc: Global) -> Option<Vec<u8>> {
+    match Vec::with_capacity(alloc, 2) {
+        Ok(mut bytes) => {
+            if push_two(&mut bytes) {
+                Some(bytes)
+            } else {
+                None
+            }
+        }
+        Err(_) => None,
+    }
+}
+
+fn push_two(bytes: &mut Vec<u8>) -> bool {
+    bytes.push(1).is_ok() && bytes.push(2).is_ok()
 }
 
 // Whether the bytes of the view came after others, with a request refused; and where one was, whether those others
 // stand alone.
-fn is_after(
+fn is_written_after(
     alloc: Global,
     view: LendingKeyView<'_, '_>,
     at: usize,
+    bytes: &mut Vec<u8>,
 ) -> (Result<bool, TreeError>, bool) {
-    let Ok(mut bytes) = two_bytes(alloc) else {
-        return (Ok(false), false);
-    };
     refuse(alloc, at);
-    let copied = view.write_into(&mut bytes);
+    let copied = view.write_into(bytes);
     let refused = was_refused(alloc);
     match copied {
         Ok(()) => (Ok(bytes.as_slice() == b"\x01\x02abcd".as_slice()), refused),
         Err(error) if bytes.as_slice() == b"\x01\x02".as_slice() => (Err(error), refused),
         Err(_error) => (Ok(false), refused),
+    }
+}
+
+fn is_after(
+    alloc: Global,
+    view: LendingKeyView<'_, '_>,
+    at: usize,
+) -> (Result<bool, TreeError>, bool) {
+    match two_bytes(alloc) {
+        Some(mut bytes) => is_written_after(alloc, view, at, &mut bytes),
+        None => (Ok(false), false),
     }
 }
 
@@ -106,20 +125,29 @@ fn is_swept(alloc: Global, view: LendingKeyView<'_, '_>, copied: Copied) -> bool
 
 const PAIRS: [Pair; 2] = [("ab", 1), ("abcd", 2)];
 
-#[test]
-fn copies_of_a_view_refused_in_turn(rt: HostRuntime) {
-    let alloc = rt.alloc();
-    let tree = filled(alloc, &PAIRS).expect(&rt, "a tree");
+fn each_is_swept(alloc: Global, view: LendingKeyView<'_, '_>) -> usize {
+    let mut well = 0_usize;
+    for copied in [Copied::After, Copied::Vector, Copied::Key] {
+        if is_swept(alloc, view, copied) {
+            well = well.wrapping_add(1);
+        }
+    }
+    well
+}
+
+fn copies_are_swept(alloc: Global, tree: &Tree) -> bool {
     let well = Cell::new(0_usize);
     let shown = tree.with_longest_prefix_match_view_k(
         &Key::new_from_slice(b"abcd"),
         |view: LendingKeyView<'_, '_>, _value: &u64| {
-            for copied in [Copied::After, Copied::Vector, Copied::Key] {
-                if is_swept(alloc, view, copied) {
-                    well.set(well.get().wrapping_add(1));
-                }
-            }
+            well.set(well.get().wrapping_add(each_is_swept(alloc, view)));
         },
     );
-    assert!(rt; shown == Ok(true) && well.get() == 3);
+    shown == Ok(true) && well.get() == 3
+}
+
+#[test]
+fn copies_of_a_view_refused_in_turn(rt: HostRuntime) {
+    let tree = filled(rt.alloc(), &PAIRS).expect(&rt, "a tree");
+    assert!(rt; copies_are_swept(rt.alloc(), &tree));
 }

@@ -4,7 +4,7 @@ ghost use Rattle.std.specs.Prelude.{◌≤◌, length};
 
 use crate::views::{AB_AND_ABCD, Row, next_row};
 use crate::visits::{OF_THREE, with_match};
-use rart::{KeyTrait, LendingKeyView, Seen, TreeError, Visits};
+use rart::{KeyTrait, LendingKeyView, Seen, SeenIter, SeenRange, TreeError, Visits};
 use rart_test_trees::texts::{Key, Pair, THREE, Tree, filled, is_pair};
 use std::cell::Cell;
 use std::ops::Bound;
@@ -14,36 +14,43 @@ fn seen(tree: &Tree) -> Seen<'_, Key, u64, Visits> {
     tree.seen()
 }
 
+fn longest_value_is(tree: &Tree, key: &Key, probe: &[u8], wanted: &Pair) -> bool {
+    let by_key = seen(tree).longest_prefix_value_k_counted(key, &mut Visits::new());
+    let by_bytes = seen(tree).longest_prefix_value_bytes_counted(probe, &mut Visits::new());
+    let len = seen(tree).longest_prefix_len_bytes_counted(probe, &mut Visits::new());
+    by_key == Some(&wanted.1)
+        && by_bytes == Some(&wanted.1)
+        && len == Some((wanted.0.len(), &wanted.1))
+}
+
+fn is_found(found: Option<(Key, &u64)>, wanted: &Pair) -> bool {
+    match found {
+        Some(found) => is_pair(&found, wanted),
+        None => false,
+    }
+}
+
 fn longest_is(tree: &Tree, probe: &[u8], wanted: &Pair) -> bool
     requires { length probe.now ≤ 16 }
 {
     let key = Key::new_from_slice(probe);
-    let pair = match seen(tree).longest_prefix_match_k_counted(&key, &mut Visits::new()) {
-        Some(found) => is_pair(&found, wanted),
-        None => false,
-    };
-    let pair_by_bytes = match seen(tree).longest_prefix_match_bytes_counted(
-        probe,
-        &mut Visits::new(),
-    ) {
-        Some(found) => is_pair(&found, wanted),
-        None => false,
-    };
-    let by_key = seen(tree).longest_prefix_value_k_counted(&key, &mut Visits::new());
-    let by_bytes = seen(tree).longest_prefix_value_bytes_counted(probe, &mut Visits::new());
-    let len = seen(tree).longest_prefix_len_bytes_counted(probe, &mut Visits::new());
-    pair && pair_by_bytes
-        && len == Some((wanted.0.len(), &wanted.1))
-        && by_key == Some(&wanted.1)
-        && by_bytes == Some(&wanted.1)
+    let by_key = seen(tree).longest_prefix_match_k_counted(&key, &mut Visits::new());
+    let by_bytes = seen(tree).longest_prefix_match_bytes_counted(probe, &mut Visits::new());
+    is_found(by_key, wanted)
+        && is_found(by_bytes, wanted)
+        && longest_value_is(tree, &key, probe, wanted)
+}
+
+fn longest_are(tree: &Tree) -> bool {
+    longest_is(tree, b"abz", &("ab", 2))
+        && longest_is(tree, b"az", &("a", 1))
+        && longest_is(tree, b"z", &("", 0))
 }
 
 #[test]
 fn the_longest_match_is_answered_as_by_the_plain_call(rt: HostRuntime) {
     let tree = filled(rt.alloc(), &THREE).expect(&rt, "a tree");
-    assert!(rt; longest_is(&tree, b"abz", &("ab", 2)));
-    assert!(rt; longest_is(&tree, b"az", &("a", 1)));
-    assert!(rt; longest_is(&tree, b"z", &("", 0)));
+    assert!(rt; longest_are(&tree));
 }
 
 fn matches_by_bytes_are(tree: &Tree, probe: &[u8], wanted: u64) -> bool {
@@ -75,60 +82,88 @@ fn matches_are(tree: &Tree, probe: &[u8], wanted: u64) -> bool
     shown.get() == wanted && lent == wanted && matches_by_bytes_are(tree, probe, wanted)
 }
 
+// The first probe whose matches are others, if there is one.
+fn first_wrong_probe(tree: &Tree) -> Option<usize> {
+    let mut at = 0_usize;
+    for (text, wanted) in OF_THREE {
+        let probe = text.as_bytes();
+        if probe.len() > 16 {
+            return Some(at);
+        }
+        if !matches_are(tree, probe, wanted) {
+            return Some(at);
+        }
+        at = at.wrapping_add(1);
+    }
+    None
+}
+
 #[test]
 fn matches_of_a_probe_are_those_of_the_plain_call(rt: HostRuntime) {
     let tree = filled(rt.alloc(), &THREE).expect(&rt, "a tree");
-    for (text, wanted) in OF_THREE {
-        let probe = text.as_bytes();
-        assert!(rt; probe.len() <= 16);
-        assert!(rt; matches_are(&tree, probe, wanted), "probe {text}");
-    }
+    assert_eq!(rt; first_wrong_probe(&tree), None);
 }
 
-fn below_are(tree: &Tree, prefix: &[u8], wanted: &[Pair]) -> Result<bool, TreeError>
+fn are_pairs(pairs: &mut SeenIter<'_, Key, u64, Visits>, wanted: &[Pair]) -> bool {
+    for (text, wanted) in wanted {
+        match pairs.next_counted(&mut Visits::new()) {
+            Some((key, value)) => {
+                if key.as_ref() != text.as_bytes() || *value != *wanted {
+                    return false;
+                }
+            }
+            None => return false,
+        }
+    }
+    pairs.next_counted(&mut Visits::new()).is_none()
+}
+
+fn below_are(tree: &Tree, prefix: &[u8], wanted: &[Pair]) -> bool
     requires { length prefix.now ≤ 16 }
 {
     let key = Key::new_from_slice(prefix);
-    let mut below = seen(tree).prefix_iter_k_counted(&key, &mut Visits::new())?;
-    for pair in wanted {
-        match below.next_counted(&mut Visits::new()) {
-            Some(found) => {
-                if !is_pair(&found, pair) {
-                    return Ok(false);
-                }
-            }
-            None => return Ok(false),
-        }
+    match seen(tree).prefix_iter_k_counted(&key, &mut Visits::new()) {
+        Ok(mut below) => are_pairs(&mut below, wanted),
+        Err(_) => false,
     }
-    Ok(below.next_counted(&mut Visits::new()).is_none())
 }
 
-fn within_are(tree: &Tree, start: &[u8], wanted: &[Pair]) -> Result<bool, TreeError>
+fn are_pairs_within(pairs: &mut SeenRange<'_, Key, u64, Visits>, wanted: &[Pair]) -> bool {
+    for (text, wanted) in wanted {
+        match pairs.next_counted(&mut Visits::new()) {
+            Some((key, value)) => {
+                if key.as_ref() != text.as_bytes() || *value != *wanted {
+                    return false;
+                }
+            }
+            None => return false,
+        }
+    }
+    pairs.next_counted(&mut Visits::new()).is_none()
+}
+
+fn within_are(tree: &Tree, start: &[u8], wanted: &[Pair]) -> bool
     requires { length start.now ≤ 16 }
 {
     let start = Bound::Included(Key::new_from_slice(start));
-    let mut within = seen(tree).range_counted(start, Bound::Unbounded, &mut Visits::new())?;
-    for pair in wanted {
-        match within.next_counted(&mut Visits::new()) {
-            Some(found) => {
-                if !is_pair(&found, pair) {
-                    return Ok(false);
-                }
-            }
-            None => return Ok(false),
-        }
+    match seen(tree).range_counted(start, Bound::Unbounded, &mut Visits::new()) {
+        Ok(mut within) => are_pairs_within(&mut within, wanted),
+        Err(_) => false,
     }
-    Ok(within.next_counted(&mut Visits::new()).is_none())
+}
+
+fn below_and_within_are(tree: &Tree) -> bool {
+    below_are(tree, b"a", &[("a", 1), ("ab", 2)])
+        && below_are(tree, b"", &THREE)
+        && below_are(tree, b"b", &[])
+        && within_are(tree, b"aa", &[("ab", 2)])
+        && within_are(tree, b"", &THREE)
 }
 
 #[test]
 fn pairs_below_a_prefix_and_within_bounds_are_those_of_the_plain_walks(rt: HostRuntime) {
     let tree = filled(rt.alloc(), &THREE).expect(&rt, "a tree");
-    assert!(rt; below_are(&tree, b"a", &[("a", 1), ("ab", 2)]) == Ok(true));
-    assert!(rt; below_are(&tree, b"", &THREE) == Ok(true));
-    assert!(rt; below_are(&tree, b"b", &[]) == Ok(true));
-    assert!(rt; within_are(&tree, b"aa", &[("ab", 2)]) == Ok(true));
-    assert!(rt; within_are(&tree, b"", &THREE) == Ok(true));
+    assert!(rt; below_and_within_are(&tree));
 }
 
 fn views_below_are(tree: &Tree, prefix: &[u8], rows: &[Row]) -> Result<bool, TreeError>
@@ -193,16 +228,22 @@ fn views_within_are(tree: &Tree, start: &[u8], rows: &[Row]) -> Result<bool, Tre
     Ok(many.get() == rows.len() && lent == rows.len())
 }
 
+const AB: Row = ("ab", 1, "ab", "");
+
+const ABCD: Row = ("abcd", 2, "ab", "cd");
+
+fn views_of_each_walk_are(tree: &Tree) -> bool {
+    views_are(tree, &[AB, ABCD]) == Ok(true)
+        && views_below_are(tree, b"abc", &[ABCD]) == Ok(true)
+        && views_within_are(tree, b"ab", &[AB, ABCD]) == Ok(true)
+        && views_within_are(tree, b"abc", &[ABCD]) == Ok(true)
+        && views_within_are(tree, b"b", &[]) == Ok(true)
+}
+
 #[test]
 fn views_are_those_of_the_plain_walks(rt: HostRuntime) {
     let tree = filled(rt.alloc(), &AB_AND_ABCD).expect(&rt, "a tree");
-    let abcd: Row = ("abcd", 2, "ab", "cd");
-    let ab: Row = ("ab", 1, "ab", "");
-    assert!(rt; views_are(&tree, &[ab, abcd]) == Ok(true));
-    assert!(rt; views_below_are(&tree, b"abc", &[abcd]) == Ok(true));
-    assert!(rt; views_within_are(&tree, b"ab", &[ab, abcd]) == Ok(true));
-    assert!(rt; views_within_are(&tree, b"abc", &[abcd]) == Ok(true));
-    assert!(rt; views_within_are(&tree, b"b", &[]) == Ok(true));
+    assert!(rt; views_of_each_walk_are(&tree));
 }
 
 // What is told of the longest match of the probe, and how often it was shown as wanted: past all of them where it
@@ -223,10 +264,14 @@ fn shows_longest(tree: &Tree, probe: &[u8], rows: &[Row]) -> (Result<bool, TreeE
     (told, many)
 }
 
+fn shows_two_of_three(tree: &Tree) -> bool {
+    shows_longest(tree, b"abcx", &[AB]) == (Ok(true), 1)
+        && shows_longest(tree, b"abcde", &[ABCD]) == (Ok(true), 1)
+        && shows_longest(tree, b"x", &[]) == (Ok(false), 0)
+}
+
 #[test]
 fn the_longest_match_is_shown_once_or_never(rt: HostRuntime) {
     let tree = filled(rt.alloc(), &AB_AND_ABCD).expect(&rt, "a tree");
-    assert!(rt; shows_longest(&tree, b"abcx", &[("ab", 1, "ab", "")]) == (Ok(true), 1));
-    assert!(rt; shows_longest(&tree, b"abcde", &[("abcd", 2, "ab", "cd")]) == (Ok(true), 1));
-    assert!(rt; shows_longest(&tree, b"x", &[]) == (Ok(false), 0));
+    assert!(rt; shows_two_of_three(&tree));
 }

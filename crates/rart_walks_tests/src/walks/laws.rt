@@ -3,7 +3,7 @@
 use rart::laws::probes::{
     comparisons_agree, key_of_a_view, longest_is_the_last_match, prefix_iter_filters_iter,
 };
-use rart::{KeyTrait, LendingKeyView};
+use rart::{ArrPartial, Iter, KeyTrait, LendingKeyView, PrefixMatchIter};
 use rart_test_trees::texts::{Key, Pair, Tree, filled, is_pair, key};
 use std::alloc::Global;
 use std::cell::Cell;
@@ -12,47 +12,62 @@ use std::panic::Expect;
 
 const PAIRS: [Pair; 4] = [("", 0), ("ab", 1), ("abcd", 2), ("b", 3)];
 
-// The values of all pairs and of those below the prefix, as digits after a first 1.
+// The values of the pairs, as digits after a first 1.
+fn digits(pairs: &mut Iter<'_, Key, ArrPartial<16>, u64>) -> u64 {
+    let mut seen = 1_u64;
+    while let Some((_key, value)) = pairs.next() {
+        seen = seen.wrapping_mul(10).wrapping_add(*value);
+    }
+    seen
+}
+
+// Those of all pairs and of those below the prefix.
 fn walked(tree: &Tree, prefix: &[u8]) -> Option<(u64, u64)> {
-    let Ok((mut all, mut below)) = prefix_iter_filters_iter(tree, &key(prefix)) else {
-        return None;
-    };
-    let mut seen = (1_u64, 1_u64);
-    while let Some((_key, value)) = all.next() {
-        seen.0 = seen.0.wrapping_mul(10).wrapping_add(*value);
+    match prefix_iter_filters_iter(tree, &key(prefix)) {
+        Ok((mut all, mut below)) => Some((digits(&mut all), digits(&mut below))),
+        Err(_) => None,
     }
-    while let Some((_key, value)) = below.next() {
-        seen.1 = seen.1.wrapping_mul(10).wrapping_add(*value);
-    }
-    Some(seen)
+}
+
+fn is_walked(tree: &Tree) -> bool {
+    walked(tree, b"a") == Some((1_0123, 1_12))
+        && walked(tree, b"") == Some((1_0123, 1_0123))
+        && walked(tree, b"c") == Some((1_0123, 1))
 }
 
 #[test]
 fn a_walk_below_a_prefix_is_a_part_of_the_whole_one(rt: HostRuntime) {
     let tree = filled(rt.alloc(), &PAIRS).expect(&rt, "a tree");
-    assert!(rt; walked(&tree, b"a") == Some((1_0123, 1_12)));
-    assert!(rt; walked(&tree, b"") == Some((1_0123, 1_0123)));
-    assert!(rt; walked(&tree, b"c") == Some((1_0123, 1)));
+    assert!(rt; is_walked(&tree));
+}
+
+fn digits_of_matches(matches: &mut PrefixMatchIter<'_, Key, ArrPartial<16>, u64>) -> u64 {
+    let mut seen = 1_u64;
+    while let Some((_key, value)) = matches.next() {
+        seen = seen.wrapping_mul(10).wrapping_add(*value);
+    }
+    seen
 }
 
 // Whether the longest match is this pair, and the values of all matches, as digits after a first 1.
 fn matched(tree: &Tree, probe: &[u8], wanted: &Pair) -> (bool, u64) {
     let (longest, mut matches) = longest_is_the_last_match(tree, &key(probe));
-    let mut seen = 1_u64;
-    while let Some((_key, value)) = matches.next() {
-        seen = seen.wrapping_mul(10).wrapping_add(*value);
-    }
-    match longest {
-        Some(found) => (is_pair(&found, wanted), seen),
-        None => (false, seen),
-    }
+    let is_longest = match longest {
+        Some(found) => is_pair(&found, wanted),
+        None => false,
+    };
+    (is_longest, digits_of_matches(&mut matches))
+}
+
+fn is_matched(tree: &Tree) -> bool {
+    matched(tree, b"abcde", &("abcd", 2)) == (true, 1_012)
+        && matched(tree, b"x", &("", 0)) == (true, 1_0)
 }
 
 #[test]
 fn the_longest_match_comes_last(rt: HostRuntime) {
     let tree = filled(rt.alloc(), &PAIRS).expect(&rt, "a tree");
-    assert!(rt; matched(&tree, b"abcde", &("abcd", 2)) == (true, 1_012));
-    assert!(rt; matched(&tree, b"x", &("", 0)) == (true, 1_0));
+    assert!(rt; is_matched(&tree));
 }
 
 // Whether the view of "abcd" compares with slices as its bytes do, and its key is made of them.
@@ -70,14 +85,17 @@ fn is_abcd(alloc: Global, view: LendingKeyView<'_, '_>) -> bool {
         && comparisons_agree(view, b"abce") == (Ordering::Less, false)
 }
 
-#[test]
-fn a_view_compares_as_its_bytes_and_is_the_key_of_them(rt: HostRuntime) {
-    let alloc = rt.alloc();
-    let tree = filled(alloc, &PAIRS).expect(&rt, "a tree");
+fn shows_abcd(alloc: Global, tree: &Tree) -> bool {
     let well = Cell::new(false);
     let shown = tree.with_longest_prefix_match_view_k(
         &Key::new_from_slice(b"abcd"),
         |view: LendingKeyView<'_, '_>, _value: &u64| well.set(is_abcd(alloc, view)),
     );
-    assert!(rt; shown == Ok(true) && well.get());
+    shown == Ok(true) && well.get()
+}
+
+#[test]
+fn a_view_compares_as_its_bytes_and_is_the_key_of_them(rt: HostRuntime) {
+    let tree = filled(rt.alloc(), &PAIRS).expect(&rt, "a tree");
+    assert!(rt; shows_abcd(rt.alloc(), &tree));
 }

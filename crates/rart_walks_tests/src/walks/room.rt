@@ -1,10 +1,13 @@
 //! The bytes that walks request: they suffice for the longest stored key, whatever length the type of the keys allows.
 
-use rart::{AdaptiveRadixTree, ArrayKey, KeyTrait, LendingKeyView, TreeError};
+use rart::{
+    AdaptiveRadixTree, ArrPartial, ArrayKey, Iter, KeyTrait, LendingKeyView, Range, TreeError,
+};
 use rart_test_tools::refusals::{add_bytes, were_more};
 use std::alloc::Global;
 use std::cell::Cell;
 use std::ops::Bound;
+use std::panic::Expect;
 
 // Its keys may have many more bytes than those of the tree have.
 type Key = ArrayKey<1024>;
@@ -21,24 +24,40 @@ const LEVEL: usize = 72;
 
 const SEGMENT: usize = 16;
 
+fn insert_four(tree: &mut Tree) -> bool {
+    let mut value = 0_u64;
+    for bytes in [b"".as_slice(), b"a", b"ab", b"abc"] {
+        if tree.insert_k(&Key::new_from_slice(bytes), value).is_err() {
+            return false;
+        }
+        value = value.wrapping_add(1);
+    }
+    true
+}
+
 // A tree with a node for each byte of its longest key.
 fn filled(alloc: Global) -> Option<Tree> {
     let mut tree = Tree::new(alloc);
-    let mut value = 0_u64;
-    for bytes in [b"".as_slice(), b"a", b"ab", b"abc"] {
-        tree.insert_k(&Key::new_from_slice(bytes), value).ok()?;
-        value = value.wrapping_add(1);
+    if insert_four(&mut tree) {
+        Some(tree)
+    } else {
+        None
     }
-    Some(tree)
 }
 
-fn count_all(tree: &Tree) -> Result<usize, TreeError> {
+fn count(pairs: &mut Iter<'_, Key, ArrPartial<1024>, u64>) -> usize {
     let mut many = 0_usize;
-    let mut pairs = tree.iter()?;
     while let Some(_pair) = pairs.next() {
         many = many.wrapping_add(1);
     }
-    Ok(many)
+    many
+}
+
+fn count_all(tree: &Tree) -> Result<usize, TreeError> {
+    match tree.iter() {
+        Ok(mut pairs) => Ok(count(&mut pairs)),
+        Err(error) => Err(error),
+    }
 }
 
 fn count_below(tree: &Tree, prefix: &Key) -> Result<usize, TreeError> {
@@ -49,54 +68,54 @@ fn count_below(tree: &Tree, prefix: &Key) -> Result<usize, TreeError> {
     Ok(many.get())
 }
 
-fn count_within(tree: &Tree, start: Key, end: Key) -> Result<usize, TreeError> {
+fn count_next(pairs: &mut Range<'_, Key, u64>) -> usize {
     let mut many = 0_usize;
-    let mut pairs = tree.range(Bound::Included(start), Bound::Excluded(end))?;
     while let Some(_pair) = pairs.next() {
         many = many.wrapping_add(1);
     }
-    Ok(many)
+    many
 }
 
-fn iteration_is_within(alloc: Global, limit: usize) -> bool {
-    let Some(tree) = filled(alloc) else {
-        return false;
-    };
+fn count_within(tree: &Tree, start: Key, end: Key) -> Result<usize, TreeError> {
+    match tree.range(Bound::Included(start), Bound::Excluded(end)) {
+        Ok(mut pairs) => Ok(count_next(&mut pairs)),
+        Err(error) => Err(error),
+    }
+}
+
+fn iteration_is_within(alloc: Global, tree: &Tree, limit: usize) -> bool {
     add_bytes(alloc, limit);
-    let counted = count_all(&tree);
+    let counted = count_all(tree);
     !were_more(alloc) && counted == Ok(4)
 }
 
 #[test]
 fn iterations_ask_within_the_longest_key(rt: HostRuntime) {
-    assert!(rt; iteration_is_within(rt.alloc(), LEVELS * LEVEL + LONGEST));
+    let tree = filled(rt.alloc()).expect(&rt, "a tree");
+    assert!(rt; iteration_is_within(rt.alloc(), &tree, LEVELS * LEVEL + LONGEST));
 }
 
-fn views_are_within(alloc: Global, limit: usize) -> bool {
-    let Some(tree) = filled(alloc) else {
-        return false;
-    };
+fn views_are_within(alloc: Global, tree: &Tree, limit: usize) -> bool {
     add_bytes(alloc, limit);
-    let counted = count_below(&tree, &Key::new_from_slice(b"a"));
+    let counted = count_below(tree, &Key::new_from_slice(b"a"));
     !were_more(alloc) && counted == Ok(3)
 }
 
 #[test]
 fn lent_keys_ask_within_the_longest_key(rt: HostRuntime) {
-    assert!(rt; views_are_within(rt.alloc(), LEVELS * LEVEL + LONGEST * SEGMENT));
+    let tree = filled(rt.alloc()).expect(&rt, "a tree");
+    assert!(rt; views_are_within(rt.alloc(), &tree, LEVELS * LEVEL + LONGEST * SEGMENT));
 }
 
-fn range_is_within(alloc: Global, limit: usize) -> bool {
-    let Some(tree) = filled(alloc) else {
-        return false;
-    };
+fn range_is_within(alloc: Global, tree: &Tree, limit: usize) -> bool {
     add_bytes(alloc, limit);
     let (start, end) = (Key::new_from_slice(b"a"), Key::new_from_slice(b"abc"));
-    let counted = count_within(&tree, start, end);
+    let counted = count_within(tree, start, end);
     !were_more(alloc) && counted == Ok(2)
 }
 
 #[test]
 fn ranges_ask_within_the_longest_key(rt: HostRuntime) {
-    assert!(rt; range_is_within(rt.alloc(), LEVELS * LEVEL + LONGEST));
+    let tree = filled(rt.alloc()).expect(&rt, "a tree");
+    assert!(rt; range_is_within(rt.alloc(), &tree, LEVELS * LEVEL + LONGEST));
 }

@@ -2,10 +2,8 @@
 
 use rart::{AdaptiveRadixTree, ArrayKey, KeyTrait, LendingKeyView, TreeError, TreeStatsTrait};
 use rart_test_trees::texts::{Pair, Tree, after, filled, key};
-use std::alloc::Global;
 use std::cell::Cell;
 use std::panic::Expect;
-use std::process::Abort;
 
 // "abcd" and "abce" part below "abc", "abcd" stands above "abcdef", and "abcdeg" parts from that below "abcde".
 const PAIRS: [Pair; 7] = [
@@ -83,31 +81,30 @@ fn longest_is_cut(tree: &Tree, probe: &[u8], row: usize) -> bool {
     shown == Ok(true) && well.get()
 }
 
+fn is_cut_everywhere(tree: &Tree) -> bool {
+    are_cut(tree)
+        && cut_below(tree) == 3
+        && longest_is_cut(tree, b"abcdeghijk", 4)
+        && longest_is_cut(tree, b"abcde", 1)
+}
+
 #[test]
 fn a_key_is_cut_at_each_node_above_its_own(rt: HostRuntime) {
     let tree = filled(rt.alloc(), &PAIRS).expect(&rt, "a tree");
-    assert!(rt; are_cut(&tree));
-    assert_eq!(rt; cut_below(&tree), 3);
-    assert!(rt; longest_is_cut(&tree, b"abcdeghijk", 4));
-    assert!(rt; longest_is_cut(&tree, b"abcde", 1));
+    assert!(rt; is_cut_everywhere(&tree));
 }
 
 type ShortKey = ArrayKey<4>;
 
 type ShortTree = AdaptiveRadixTree<ShortKey, u64>;
 
-fn abcd_and_abce(rt: &impl Abort, alloc: Global) -> ShortTree {
-    let mut tree = ShortTree::new(alloc);
-    let stored = tree.insert(ShortKey::new_from_slice(b"abcd"), 1).is_ok()
-        && tree.insert(ShortKey::new_from_slice(b"abce"), 2).is_ok();
-    assert!(rt; stored);
-    tree
+fn inserts_abcd_and_abce(tree: &mut ShortTree) -> bool {
+    tree.insert(ShortKey::new_from_slice(b"abcd"), 1).is_ok()
+        && tree.insert(ShortKey::new_from_slice(b"abce"), 2).is_ok()
 }
 
-fn without_abce(rt: &impl Abort, mut tree: ShortTree) -> ShortTree {
-    let removed = tree.remove_k(&ShortKey::new_from_slice(b"abce"));
-    assert!(rt; removed == Ok(Some(2)));
-    tree
+fn removes_abce(tree: &mut ShortTree) -> bool {
+    tree.remove_k(&ShortKey::new_from_slice(b"abce")) == Ok(Some(2))
 }
 
 // How many leaves and inner nodes stand, and how many keys are seen, the first of them cut as wanted.
@@ -122,11 +119,17 @@ fn shape(tree: &ShortTree, first: &[u8]) -> Result<(usize, usize, usize), TreeEr
     Ok((stats.num_leaves, stats.num_inner_nodes, seen.get()))
 }
 
+fn has_abcd_as_its_root(tree: &mut ShortTree) -> bool {
+    inserts_abcd_and_abce(tree)
+        && shape(tree, b"abc|d|") == Ok((2, 1, 2))
+        && removes_abce(tree)
+        && shape(tree, b"abcd|") == Ok((1, 0, 1))
+}
+
 // A key of one segment that is the only node's: the root is its leaf.
 #[test]
 fn a_removal_leaves_the_last_key_as_a_leaf_at_the_root(rt: HostRuntime) {
-    let tree = abcd_and_abce(&rt, rt.alloc());
-    assert!(rt; shape(&tree, b"abc|d|") == Ok((2, 1, 2)));
-    let tree = without_abce(&rt, tree);
-    assert!(rt; shape(&tree, b"abcd|") == Ok((1, 0, 1)));
+    let mut tree = ShortTree::new(rt.alloc());
+    let well = has_abcd_as_its_root(&mut tree);
+    assert!(rt; well);
 }

@@ -1,7 +1,7 @@
 //! Walks and iterators with each of their requests refused: a refused walk has called nothing.
 
 use super::forms::{Calls, PAIRS, WALKS, Walk, make};
-use rart::{KeyTrait, TreeError};
+use rart::{ArrPartial, Iter, KeyTrait, Range, TreeError, ValuesIter};
 use rart_test_tools::refusals::{part_ends, refuse, was_refused};
 use rart_test_trees::texts::{Key, Tree, filled};
 use std::alloc::Global;
@@ -25,16 +25,23 @@ fn is_swept(alloc: Global, tree: &Tree, key: Key, form: Walk, wanted: usize) -> 
     false
 }
 
-#[test]
-fn walks_refused_in_turn_call_nothing(rt: HostRuntime) {
-    let tree = filled(rt.alloc(), &PAIRS).expect(&rt, "a tree");
+// The first walk that goes another way, if there is one.
+fn first_wrong_walk(alloc: Global, tree: &Tree) -> Option<usize> {
     let key = Key::new_from_slice(b"alp");
     let mut row = 0_usize;
     for (form, wanted) in WALKS {
-        let swept = is_swept(rt.alloc(), &tree, key, form, wanted);
-        assert!(rt; swept, "row {row}");
+        if !is_swept(alloc, tree, key, form, wanted) {
+            return Some(row);
+        }
         row = row.wrapping_add(1);
     }
+    None
+}
+
+#[test]
+fn walks_refused_in_turn_call_nothing(rt: HostRuntime) {
+    let tree = filled(rt.alloc(), &PAIRS).expect(&rt, "a tree");
+    assert_eq!(rt; first_wrong_walk(rt.alloc(), &tree), None);
 }
 
 /// An iterator, by the call that starts it.
@@ -55,42 +62,62 @@ const STARTS: [(Start, usize); 5] = [
     (Start::Range, 3),
 ];
 
+fn count_pairs(pairs: &mut Iter<'_, Key, ArrPartial<16>, u64>) -> usize {
+    let mut many = 0_usize;
+    while let Some(_pair) = pairs.next() {
+        many = many.wrapping_add(1);
+    }
+    many
+}
+
+fn count_values(values: &mut ValuesIter<'_, Key, u64>) -> usize {
+    let mut many = 0_usize;
+    while let Some(_value) = values.next() {
+        many = many.wrapping_add(1);
+    }
+    many
+}
+
+fn count_within(pairs: &mut Range<'_, Key, u64>) -> usize {
+    let mut many = 0_usize;
+    while let Some(_pair) = pairs.next() {
+        many = many.wrapping_add(1);
+    }
+    many
+}
+
+fn pairs_of(
+    pairs: Result<Iter<'_, Key, ArrPartial<16>, u64>, TreeError>,
+) -> Result<usize, TreeError> {
+    match pairs {
+        Ok(mut pairs) => Ok(count_pairs(&mut pairs)),
+        Err(error) => Err(error),
+    }
+}
+
+fn values_of(tree: &Tree) -> Result<usize, TreeError> {
+    match tree.values_iter() {
+        Ok(mut values) => Ok(count_values(&mut values)),
+        Err(error) => Err(error),
+    }
+}
+
+fn pairs_within(tree: &Tree, start: Key, end: Key) -> Result<usize, TreeError> {
+    match tree.range(Bound::Excluded(start), Bound::Excluded(end)) {
+        Ok(mut pairs) => Ok(count_within(&mut pairs)),
+        Err(error) => Err(error),
+    }
+}
+
 // How many items it gives.
 fn count(tree: &Tree, key: Key, start: Start) -> Result<usize, TreeError> {
-    let mut many = 0_usize;
     match start {
-        Start::Iter => {
-            let mut pairs = tree.iter()?;
-            while let Some(_pair) = pairs.next() {
-                many = many.wrapping_add(1);
-            }
-        }
-        Start::Values => {
-            let mut values = tree.values_iter()?;
-            while let Some(_value) = values.next() {
-                many = many.wrapping_add(1);
-            }
-        }
-        Start::Prefix | Start::PrefixByValue => {
-            let mut pairs = match start {
-                Start::Prefix => tree.prefix_iter_k(&key)?,
-                _ => tree.prefix_iter(key)?,
-            };
-            while let Some(_pair) = pairs.next() {
-                many = many.wrapping_add(1);
-            }
-        }
-        Start::Range => {
-            let mut pairs = tree.range(
-                Bound::Excluded(key),
-                Bound::Excluded(Key::new_from_slice(b"beta")),
-            )?;
-            while let Some(_pair) = pairs.next() {
-                many = many.wrapping_add(1);
-            }
-        }
+        Start::Iter => pairs_of(tree.iter()),
+        Start::Values => values_of(tree),
+        Start::Prefix => pairs_of(tree.prefix_iter_k(&key)),
+        Start::PrefixByValue => pairs_of(tree.prefix_iter(key)),
+        Start::Range => pairs_within(tree, key, Key::new_from_slice(b"beta")),
     }
-    Ok(many)
 }
 
 fn start_is_swept(alloc: Global, tree: &Tree, key: Key, start: Start, wanted: usize) -> bool {
@@ -108,14 +135,21 @@ fn start_is_swept(alloc: Global, tree: &Tree, key: Key, start: Start, wanted: us
     false
 }
 
-#[test]
-fn started_iterators_refused_in_turn(rt: HostRuntime) {
-    let tree = filled(rt.alloc(), &PAIRS).expect(&rt, "a tree");
+// The first start that goes another way, if there is one.
+fn first_wrong_start(alloc: Global, tree: &Tree) -> Option<usize> {
     let key = Key::new_from_slice(b"alp");
     let mut row = 0_usize;
     for (start, wanted) in STARTS {
-        let swept = start_is_swept(rt.alloc(), &tree, key, start, wanted);
-        assert!(rt; swept, "row {row}");
+        if !start_is_swept(alloc, tree, key, start, wanted) {
+            return Some(row);
+        }
         row = row.wrapping_add(1);
     }
+    None
+}
+
+#[test]
+fn started_iterators_refused_in_turn(rt: HostRuntime) {
+    let tree = filled(rt.alloc(), &PAIRS).expect(&rt, "a tree");
+    assert_eq!(rt; first_wrong_start(rt.alloc(), &tree), None);
 }

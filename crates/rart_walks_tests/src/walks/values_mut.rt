@@ -1,7 +1,9 @@
 //! Walks that change values in place: which values, and in which order.
 
+use rart::ValuesIter;
 use rart_test_tools::refusals::{refuse, was_refused};
 use rart_test_trees::texts::{Key, Pair, Tree, filled, key};
+use std::alloc::Global;
 use std::cell::Cell;
 use std::panic::Expect;
 
@@ -43,10 +45,7 @@ fn number_below(tree: &mut Tree, form: Form, prefix: Key) {
     }
 }
 
-fn has_values(tree: &Tree, wanted: &[u64]) -> bool {
-    let Ok(mut found) = tree.values_iter() else {
-        return false;
-    };
+fn are_values(found: &mut ValuesIter<'_, Key, u64>, wanted: &[u64]) -> bool {
     for value in wanted {
         if found.next() != Some(value) {
             return false;
@@ -55,38 +54,115 @@ fn has_values(tree: &Tree, wanted: &[u64]) -> bool {
     found.next().is_none()
 }
 
-#[test]
-fn values_below_a_prefix_are_changed_in_order(rt: HostRuntime) {
-    for (text, wanted) in ROWS {
-        for form in [Form::Lent, Form::Reference, Form::Value] {
-            let mut tree = filled(rt.alloc(), &PAIRS).expect(&rt, "a tree");
-            number_below(&mut tree, form, key(text.as_bytes()));
-            assert!(rt; has_values(&tree, &wanted));
-        }
+fn has_values(tree: &Tree, wanted: &[u64]) -> bool {
+    match tree.values_iter() {
+        Ok(mut found) => are_values(&mut found, wanted),
+        Err(_) => false,
     }
 }
 
+fn is_row(alloc: Global, row: &Row, form: Form) -> bool {
+    match filled(alloc, &PAIRS) {
+        Some(mut tree) => {
+            number_below(&mut tree, form, key(row.0.as_bytes()));
+            has_values(&tree, &row.1)
+        }
+        None => false,
+    }
+}
+
+// The first row that goes another way in one of the forms, if one does.
+fn first_wrong(alloc: Global, rows: &[Row]) -> Option<usize> {
+    let mut at = 0_usize;
+    for row in rows {
+        let well = is_row(alloc, row, Form::Lent)
+            && is_row(alloc, row, Form::Reference)
+            && is_row(alloc, row, Form::Value);
+        if !well {
+            return Some(at);
+        }
+        at = at.wrapping_add(1);
+    }
+    None
+}
+
 #[test]
-fn all_values_are_changed_in_order(rt: HostRuntime) {
-    let mut tree = filled(rt.alloc(), &PAIRS).expect(&rt, "a tree");
+fn values_below_a_prefix_are_changed_in_order(rt: HostRuntime) {
+    assert_eq!(rt; first_wrong(rt.alloc(), &ROWS), None);
+}
+
+fn numbers_all(tree: &mut Tree) -> bool {
     let calls = Cell::new(0_u64);
     let mut number = |value: &mut u64| {
         calls.set(calls.get().wrapping_add(100));
         *value = value.wrapping_add(calls.get());
     };
     tree.for_each_value_mut_by_ref(&mut number);
-    assert!(rt; has_values(&tree, &[100, 201, 302, 403, 504]));
+    let once = has_values(tree, &[100, 201, 302, 403, 504]);
     tree.for_each_value_mut(number);
-    assert!(rt; has_values(&tree, &[700, 901, 1102, 1303, 1504]));
+    once && has_values(tree, &[700, 901, 1102, 1303, 1504])
+}
+
+#[test]
+fn all_values_are_changed_in_order(rt: HostRuntime) {
+    let mut tree = filled(rt.alloc(), &PAIRS).expect(&rt, "a tree");
+    let well = numbers_all(&mut tree);
+    assert!(rt; well);
+}
+
+fn add_thousands(tree: &mut Tree) {
+    let mut add = |value: &mut u64| *value = value.wrapping_add(1000);
+    tree.for_each_value_mut_by_ref(&mut add);
+    tree.for_each_value_mut(add);
+}
+
+fn change_all(tree: &mut Tree) {
+    for form in [Form::Lent, Form::Reference, Form::Value] {
+        number_below(tree, form, key(b"ab"));
+    }
+    add_thousands(tree);
+}
+
+fn is_quiet(alloc: Global, tree: &mut Tree, empty: &mut Tree) -> bool {
+    refuse(alloc, 1);
+    change_all(tree);
+    change_all(empty);
+    !was_refused(alloc) && has_values(tree, &[2000, 2001, 2302, 2603, 2004]) && empty.is_empty()
 }
 
 #[test]
 fn changes_of_values_ask_for_nothing(rt: HostRuntime) {
     let mut tree = filled(rt.alloc(), &PAIRS).expect(&rt, "a tree");
     let mut empty = Tree::new(rt.alloc());
-    refuse(rt.alloc(), 1);
-    number_below(&mut tree, Form::Lent, key(b"ab"));
-    number_below(&mut empty, Form::Lent, key(b"ab"));
-    assert!(rt; !was_refused(rt.alloc()));
-    assert!(rt; has_values(&tree, &[0, 1, 102, 203, 4]) && empty.is_empty());
+    let well = is_quiet(rt.alloc(), &mut tree, &mut empty);
+    assert!(rt; well);
+}
+
+// Inserts keys of two bytes with the first in common, so that their node is of the third kind, and numbers the values.
+fn number_wide(tree: &mut Tree) -> bool {
+    for byte in 0..40_u8 {
+        if tree.insert_k(&key(&[b'a', byte]), 7).is_err() {
+            return false;
+        }
+    }
+    number_below(tree, Form::Lent, key(b"a"));
+    true
+}
+
+fn is_numbered(tree: &Tree) -> bool {
+    let mut wanted: u64 = 7;
+    for byte in 0..40_u8 {
+        wanted = wanted.wrapping_add(100);
+        if tree.get_bytes(&[b'a', byte]) != Some(&wanted) {
+            return false;
+        }
+    }
+    true
+}
+
+#[test]
+fn values_below_a_wide_node_are_changed_in_order(rt: HostRuntime) {
+    let mut tree = Tree::new(rt.alloc());
+    let numbered = number_wide(&mut tree) && is_numbered(&tree);
+    assert!(rt; numbered);
 }

@@ -117,8 +117,7 @@ fn is_as_before(tree: &Tree, before: &Tree) -> bool {
     tree.len() == before.len() && have_same_statistics(tree, before)
 }
 
-// The update with a request refused, and whether one was; None where something else went wrong. One with memory is
-// made on both trees.
+// Whether a request of the update was refused; None where it went wrong. One with memory is made on both trees.
 fn row_is_answered(
     alloc: Global,
     tree: &mut Tree,
@@ -200,9 +199,10 @@ fn removal_is_refused_well(alloc: Global, tree: &mut Tree, at: usize) -> Option<
     well.then_some(refused)
 }
 
-fn sweep_removal(alloc: Global, tree: &mut Tree) -> bool {
+fn removal_is_swept(alloc: Global) -> bool {
+    let mut tree = filled(alloc, 5);
     for at in 1..100_usize {
-        match removal_is_refused_well(alloc, tree, at) {
+        match removal_is_refused_well(alloc, &mut tree, at) {
             Some(true) => {}
             Some(false) => {
                 part_ends(alloc);
@@ -212,11 +212,6 @@ fn sweep_removal(alloc: Global, tree: &mut Tree) -> bool {
         }
     }
     false
-}
-
-fn removal_is_swept(alloc: Global) -> bool {
-    let mut tree = filled(alloc, 5);
-    sweep_removal(alloc, &mut tree)
 }
 
 #[test]
@@ -280,24 +275,20 @@ fn keep_is_refused_well(
 }
 
 // The request of the clone is refused, and then none.
-fn sweep_keep(alloc: Global, values: &mut Values, by_value: bool) -> bool {
+fn keep_is_swept(alloc: Global, by_value: bool) -> bool {
+    let mut values = Values::new(alloc);
+    let stored = values.insert_k(&key(0), Roomy { alloc, value: 5 }).is_ok();
     for at in 1..100_usize {
-        match keep_is_refused_well(alloc, values, by_value, at) {
+        match keep_is_refused_well(alloc, &mut values, by_value, at) {
             Some(true) => {}
             Some(false) => {
                 part_ends(alloc);
-                return true;
+                return stored;
             }
             None => return false,
         }
     }
     false
-}
-
-fn keep_is_swept(alloc: Global, by_value: bool) -> bool {
-    let mut values = Values::new(alloc);
-    let stored = values.insert_k(&key(0), Roomy { alloc, value: 5 }).is_ok();
-    sweep_keep(alloc, &mut values, by_value) && stored
 }
 
 #[test]

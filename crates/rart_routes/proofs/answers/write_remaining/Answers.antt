@@ -2,14 +2,14 @@ use Rattle.std.proofs.Common.{◌≡◌, ◌∷◌, subst, sym}
 use Rattle.std.proofs.lemmas.Result.{on_ok_weaker}
 use Rattle.rart_routes.specs.Found.{found_left}
 use Rattle.rart_routes.proofs.PrintLemmas.{HasPrintedRoutes, in_bits, routes-begin, routes-go_on, routes-end}
-use Rattle.rart_routes.proofs.answers.write_routes.Goals as goal
+use Rattle.rart_routes.proofs.answers.write_remaining.Goals as goal
 
 pub loop-net-init : goal.loop-net-init
 loop-net-init g c =
-    let whole : found_left c.args.routes ≡ in_bits (c.in-Some.net, c.in-Some.target.now) ∷ found_left c.next.new.self
+    let whole : found_left c.args.routes.now ≡ in_bits (c.in-Some.net, c.in-Some.target.now) ∷ found_left c.next.new.self
     = c.in-Some.ensures.steps in
-    subst (λ f. HasPrintedRoutes (g.W.Write.contents c.args.output.now) (g.W.Write.contents c.write_route.new.output)
-    (found_left f) (found_left c.args.routes)) (sym c.into_iter-net-iterator.ensures.into_iter_gives)
+    subst (λ b. HasPrintedRoutes (g.W.Write.contents c.args.output.now) (g.W.Write.contents c.write_route.new.output)
+    (found_left b.now) (found_left c.args.routes.now)) (sym c.into_iter-net-iterator.ensures.into_iter_gives)
     (routes-begin _ _ (c.in-Some.net, c.in-Some.target.now) _ _ whole c.in_ok-write_route.ensures)
 
 pub loop-net-preserved : goal.loop-net-preserved

@@ -10,7 +10,7 @@ use Rattle.rart_routes.specs.Command.{IsCommand}
 use Rattle.rart_routes.specs.Script.{IsAnswered}
 use Rattle.rart_routes.specs.Tables.{no_routes}
 use Rattle.rart_routes.proofs.EndLemmas.{ends-at_bad, ends-well}
-use Rattle.rart_routes.proofs.script.run_text.Goals as goal
+use Rattle.rart_routes.proofs.script.run_on.Goals as goal
 
 pub returns-in-Err-clause-answers : goal.returns-in-Err-clause-answers
 returns-in-Err-clause-answers g c =

@@ -1,6 +1,6 @@
 use Rattle.rart_routes.specs.Found.{found_left}
 use Rattle.rart_routes.proofs.PrintLemmas.{HasPrintedRoutes}
-use Rattle.rart_routes.proofs.answers.write_routes.Given as goal
+use Rattle.rart_routes.proofs.answers.write_remaining.Given as goal
 
 abbrev pub invariant-loop-net : goal.invariant-loop-net
 invariant-loop-net g l = HasPrintedRoutes (g.W.Write.contents l.fn.output) (g.W.Write.contents l.output)
