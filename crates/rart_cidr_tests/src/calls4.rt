@@ -170,7 +170,7 @@ fn assert_none_wrong(rt: &impl Abort, differs: Option<usize>) {
     }
 }
 
-const ROWS: [Row; 33] = [
+static ROWS: [Row; 33] = [
     (Ask::Len, Reply::Count(0, true)),
     (Ask::Insert("0.0.0.0/0", 1), Reply::Value(None)),
     (Ask::Insert("10.0.0.0/8", 2), Reply::Value(None)),

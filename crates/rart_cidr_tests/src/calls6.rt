@@ -170,7 +170,7 @@ fn assert_none_wrong(rt: &impl Abort, differs: Option<usize>) {
     }
 }
 
-const ROWS: [Row; 33] = [
+static ROWS: [Row; 33] = [
     (Ask::Len, Reply::Count(0, true)),
     (Ask::Insert("::/0", 1), Reply::Value(None)),
     (Ask::Insert("2001:db8::/32", 2), Reply::Value(None)),

@@ -9,7 +9,7 @@ use std::net::Ipv4Addr;
 type Table = CidrTable4<u64>;
 
 // Networks that need several strides, and several nodes in one.
-const NETWORKS: [([u8; 4], u8); 12] = [
+static NETWORKS: [([u8; 4], u8); 12] = [
     ([10, 0, 0, 0], 8),
     ([10, 1, 0, 0], 16),
     ([10, 1, 2, 0], 24),

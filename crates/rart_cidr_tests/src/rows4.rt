@@ -130,7 +130,7 @@ fn assert_none_wrong(rt: &impl Abort, differs: Option<usize>) {
 const NEW: Reply = Reply::Value(None);
 
 // Networks at the borders of the octets, each inside the one before.
-const NESTED: [Row; 80] = [
+static NESTED: [Row; 80] = [
     (Ask::Insert([0, 0, 0, 0], 1, 1), NEW),
     (Ask::Insert([10, 0, 0, 0], 8, 8), NEW),
     (Ask::Insert([10, 84, 0, 0], 15, 15), NEW),
@@ -214,7 +214,7 @@ const NESTED: [Row; 80] = [
 ];
 
 // The default route, host routes, and a network of whole octets of zeros.
-const DEFAULT_AND_HOSTS: [Row; 21] = [
+static DEFAULT_AND_HOSTS: [Row; 21] = [
     (Ask::Route([0, 0, 0, 0]), Reply::Missed),
     (Ask::Remove([0, 0, 0, 0], 0), NEW),
     (Ask::Insert([0, 0, 0, 0], 0, 1), NEW),
@@ -239,7 +239,7 @@ const DEFAULT_AND_HOSTS: [Row; 21] = [
 ];
 
 // Addresses and lengths that make no network.
-const NO_NETWORKS: [Row; 7] = [
+static NO_NETWORKS: [Row; 7] = [
     (Ask::Insert([0, 0, 0, 0], 33, 1), Reply::BadLength),
     (Ask::Insert([0, 0, 0, 0], 255, 1), Reply::BadLength),
     (Ask::Insert([255, 255, 255, 255], 31, 1), Reply::HostBits),
@@ -250,7 +250,7 @@ const NO_NETWORKS: [Row; 7] = [
 ];
 
 // Networks of the same whole octets: a removal keeps those beside it and those that cover it.
-const ONE_STRIDE: [Row; 16] = [
+static ONE_STRIDE: [Row; 16] = [
     (Ask::Insert([10, 16, 0, 0], 12, 1), NEW),
     (Ask::Insert([10, 24, 0, 0], 13, 2), NEW),
     (Ask::Insert([10, 16, 0, 0], 13, 3), NEW),

@@ -133,7 +133,7 @@ fn assert_none_wrong(rt: &impl Abort, differs: Option<usize>) {
 const NEW: Reply = Reply::Value(None);
 
 // The default route, host routes, and a network of whole octets of zeros.
-const DEFAULT_AND_HOSTS: [Row; 21] = [
+static DEFAULT_AND_HOSTS: [Row; 21] = [
     (
         Ask::Route(0x0000_0000_0000_0000_0000_0000_0000_0000),
         Reply::Missed,
@@ -209,7 +209,7 @@ const DEFAULT_AND_HOSTS: [Row; 21] = [
 ];
 
 // Addresses and lengths that make no network.
-const NO_NETWORKS: [Row; 7] = [
+static NO_NETWORKS: [Row; 7] = [
     (
         Ask::Insert(0x0000_0000_0000_0000_0000_0000_0000_0000, 129, 1),
         Reply::BadLength,
@@ -238,7 +238,7 @@ const NO_NETWORKS: [Row; 7] = [
 ];
 
 // Networks of the same whole octets: a removal keeps those beside it and those that cover it.
-const ONE_STRIDE: [Row; 16] = [
+static ONE_STRIDE: [Row; 16] = [
     (
         Ask::Insert(0x0a10_0000_0000_0000_0000_0000_0000_0000, 12, 1),
         NEW,

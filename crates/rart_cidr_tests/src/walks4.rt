@@ -8,7 +8,7 @@ use std::process::Abort;
 type Network = ([u8; 4], u8);
 
 // in order: a network before those inside it, at the borders of octets too
-const ALL: &[Network] = &[
+static ALL: &[Network] = &[
     ([0, 0, 0, 0], 0),
     ([0, 0, 0, 0], 1),
     ([10, 0, 0, 0], 7),
@@ -32,7 +32,7 @@ const ALL: &[Network] = &[
     ([255, 255, 255, 255], 32),
 ];
 
-const IN_TEN: &[Network] = &[
+static IN_TEN: &[Network] = &[
     ([10, 0, 0, 0], 8),
     ([10, 0, 0, 0], 9),
     ([10, 0, 0, 0], 15),
@@ -46,9 +46,9 @@ const IN_TEN: &[Network] = &[
     ([10, 128, 0, 0], 16),
 ];
 
-const IN_TEN_HIGH: &[Network] = &[([10, 128, 0, 0], 9), ([10, 128, 0, 0], 16)];
+static IN_TEN_HIGH: &[Network] = &[([10, 128, 0, 0], 9), ([10, 128, 0, 0], 16)];
 
-const IN_ELEVEN_BITS: &[Network] = &[
+static IN_ELEVEN_BITS: &[Network] = &[
     ([10, 0, 0, 0], 7),
     ([10, 0, 0, 0], 8),
     ([10, 0, 0, 0], 9),
@@ -64,7 +64,7 @@ const IN_ELEVEN_BITS: &[Network] = &[
     ([11, 0, 0, 0], 8),
 ];
 
-const IN_LAST: &[Network] = &[([255, 255, 255, 254], 31), ([255, 255, 255, 255], 32)];
+static IN_LAST: &[Network] = &[([255, 255, 255, 254], 31), ([255, 255, 255, 255], 32)];
 
 fn network(row: &Network) -> Cidr4 {
     Cidr4::masked(Ipv4Addr::from_octets(row.0), row.1.min(32))

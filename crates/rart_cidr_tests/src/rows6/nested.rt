@@ -2,7 +2,7 @@
 
 use crate::rows6::{Ask, NEW, Reply, Row};
 
-pub const NESTED: [Row; 74] = [
+pub static NESTED: [Row; 74] = [
     (
         Ask::Insert(0x2000_0000_0000_0000_0000_0000_0000_0000, 7, 7),
         NEW,
