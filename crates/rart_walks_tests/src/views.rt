@@ -10,11 +10,11 @@ use std::cmp::Ordering;
 use std::ops::Bound;
 use std::panic::Expect;
 
-pub const AB_AND_ABCD: [Pair; 2] = [("ab", 1), ("abcd", 2)];
+pub static AB_AND_ABCD: [Pair; 2] = [("ab", 1), ("abcd", 2)];
 
-const ABCD_ALONE: [Pair; 1] = [("abcd", 3)];
+static ABCD_ALONE: [Pair; 1] = [("abcd", 3)];
 
-const WITH_EMPTY: [Pair; 3] = [("", 7), ("b", 8), ("bcd", 9)];
+static WITH_EMPTY: [Pair; 3] = [("", 7), ("b", 8), ("bcd", 9)];
 
 // The segments are these two, but for empty ones.
 fn has_segments(view: LendingKeyView<'_, '_>, first: &str, second: &str) -> bool {

@@ -16,9 +16,9 @@ pub fn with_digit(seen: u64, digit: u64) -> u64 {
 // A prefix; the value to stop at and the one to fail at, 0 for none; what is seen; whether the walk fails.
 type Row = (&'static str, u64, u64, u64, bool);
 
-const ALP: [Pair; 4] = [("alpha1", 1), ("alpha2", 2), ("alphabet", 3), ("alpine", 4)];
+static ALP: [Pair; 4] = [("alpha1", 1), ("alpha2", 2), ("alphabet", 3), ("alpine", 4)];
 
-const OF_ALP: [Row; 9] = [
+static OF_ALP: [Row; 9] = [
     ("alp", 0, 0, 11234, false),
     ("alp", 2, 0, 112, false),
     ("alp", 0, 3, 1123, true),
@@ -160,7 +160,7 @@ fn values_below_a_prefix(rt: HostRuntime) {
 }
 
 // A probe, and of each match the length of its key and its value.
-pub const OF_THREE: [(&str, u64); 4] = [
+pub static OF_THREE: [(&str, u64); 4] = [
     ("abz", 1_00_11_22),
     ("b", 1_00),
     ("", 1_00),

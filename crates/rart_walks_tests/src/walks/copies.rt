@@ -123,7 +123,7 @@ fn is_swept(alloc: Global, view: LendingKeyView<'_, '_>, copied: Copied) -> bool
     false
 }
 
-const PAIRS: [Pair; 2] = [("ab", 1), ("abcd", 2)];
+static PAIRS: [Pair; 2] = [("ab", 1), ("abcd", 2)];
 
 fn each_is_swept(alloc: Global, view: LendingKeyView<'_, '_>) -> usize {
     let mut well = 0_usize;

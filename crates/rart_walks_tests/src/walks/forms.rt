@@ -45,7 +45,7 @@ pub enum Walk {
     LongestCounted,
 }
 
-pub const PAIRS: [Pair; 5] = [
+pub static PAIRS: [Pair; 5] = [
     ("alp", 1),
     ("alpha1", 2),
     ("alpha2", 3),
@@ -54,7 +54,7 @@ pub const PAIRS: [Pair; 5] = [
 ];
 
 /// Each walk of PAIRS about "alp", and how often it calls.
-pub const WALKS: [(Walk, usize); 32] = [
+pub static WALKS: [(Walk, usize); 32] = [
     (Walk::Views, 5),
     (Walk::ViewsLent, 5),
     (Walk::ViewsBelow, 4),

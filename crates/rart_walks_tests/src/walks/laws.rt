@@ -10,7 +10,7 @@ use std::cell::Cell;
 use std::cmp::Ordering;
 use std::panic::Expect;
 
-const PAIRS: [Pair; 4] = [("", 0), ("ab", 1), ("abcd", 2), ("b", 3)];
+static PAIRS: [Pair; 4] = [("", 0), ("ab", 1), ("abcd", 2), ("b", 3)];
 
 // The values of the pairs, as digits after a first 1.
 fn digits(pairs: &mut Iter<'_, Key, ArrPartial<16>, u64>) -> u64 {

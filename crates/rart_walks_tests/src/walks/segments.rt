@@ -6,7 +6,7 @@ use std::cell::Cell;
 use std::panic::Expect;
 
 // "abcd" and "abce" part below "abc", "abcd" stands above "abcdef", and "abcdeg" parts from that below "abcde".
-const PAIRS: [Pair; 7] = [
+static PAIRS: [Pair; 7] = [
     ("a", 1),
     ("abcd", 2),
     ("abcdef", 3),
@@ -17,7 +17,7 @@ const PAIRS: [Pair; 7] = [
 ];
 
 // The value of a key, and its segments, each with a bar after it.
-const CUT: [(u64, &str); 7] = [
+static CUT: [(u64, &str); 7] = [
     (1, "a|"),
     (2, "a|bc|d|"),
     (3, "a|bc|d|e|f|"),

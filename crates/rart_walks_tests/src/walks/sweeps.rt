@@ -54,7 +54,7 @@ enum Start {
     Range,
 }
 
-const STARTS: [(Start, usize); 5] = [
+static STARTS: [(Start, usize); 5] = [
     (Start::Iter, 5),
     (Start::Values, 5),
     (Start::Prefix, 4),

@@ -7,7 +7,7 @@ use std::alloc::Global;
 use std::cell::Cell;
 use std::panic::Expect;
 
-const PAIRS: [Pair; 5] = [("", 0), ("a", 1), ("ab", 2), ("abcd", 3), ("b", 4)];
+static PAIRS: [Pair; 5] = [("", 0), ("a", 1), ("ab", 2), ("abcd", 3), ("b", 4)];
 
 // A form of the walk below a prefix.
 #[derive(Clone, Copy)]
@@ -21,7 +21,7 @@ enum Form {
 // call more than it was.
 type Row = (&'static str, [u64; 5]);
 
-const ROWS: [Row; 8] = [
+static ROWS: [Row; 8] = [
     ("", [100, 201, 302, 403, 504]),
     ("a", [0, 101, 202, 303, 4]),
     ("ab", [0, 1, 102, 203, 4]),
