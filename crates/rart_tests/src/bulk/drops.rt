@@ -18,7 +18,7 @@ type Row = (
     Result<&'static [(&'static str, u8)], usize>,
 );
 
-const LISTS: [Row; 7] = [
+static LISTS: [Row; 7] = [
     (&["a", "b"], Ok(&[("a", 0), ("b", 1)])),
     (&["a", "a", "b"], Ok(&[("a", 1), ("b", 2)])),
     (&["a", "b", "b", "b"], Ok(&[("a", 0), ("b", 3)])),

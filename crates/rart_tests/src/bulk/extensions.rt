@@ -15,7 +15,7 @@ struct Row {
     wanted: Pairs<'static>,
 }
 
-const ROWS: [Row; 6] = [
+static ROWS: [Row; 6] = [
     Row {
         first: &[],
         more: &[],

@@ -65,7 +65,7 @@ pub fn has_pairs(tree: &Tree<Key>, wanted: Pairs<'_>) -> bool {
 // A list, and what a sorted load makes of it: pairs, or the place at which it finds it unsorted.
 type Row = (Pairs<'static>, Result<Pairs<'static>, usize>);
 
-const LISTS: [Row; 4] = [
+static LISTS: [Row; 4] = [
     (&[], Ok(&[])),
     (&[("a", 1), ("c", 2), ("c", 3), ("b", 4), ("z", 5)], Err(3)),
     (&[("b", 1), ("a", 2)], Err(1)),
@@ -134,7 +134,7 @@ fn are(loaded: Option<TreeStats>, counts: &Counts<'_>) -> bool {
     }
 }
 
-const TEXTS: [(&[&str], Counts<'static>); 3] = [
+static TEXTS: [(&[&str], Counts<'static>); 3] = [
     (&[], ([0, 0, 0, 0], &[])),
     (&["", "a", "ab", "abc", "b"], ([2, 5, 3, 4], &[(4, 3, 4)])),
     (&["", "a", "ab", "b", "ba"], ([2, 5, 3, 3], &[(4, 3, 4)])),
@@ -158,7 +158,7 @@ fn the_law_holds_of_texts(rt: HostRuntime) -> Result<(), Fail> {
     Ok(())
 }
 
-const FANS: [(usize, Counts<'static>); 8] = [
+static FANS: [(usize, Counts<'static>); 8] = [
     (1, ([1, 1, 0, 1], &[])),
     (4, ([4, 4, 1, 2], &[(4, 1, 4)])),
     (5, ([5, 5, 1, 2], &[(16, 1, 5)])),

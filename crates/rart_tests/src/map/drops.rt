@@ -135,7 +135,7 @@ fn row_holds<'a>(tree: &mut Tree<'a>, row: &Row, drops: &'a Cell<usize>) -> bool
         && early.wrapping_add(held) == row.2
 }
 
-const HANDED_AND_DROPPED: [Row; 14] = [
+static HANDED_AND_DROPPED: [Row; 14] = [
     (Ask::Insert(3, 99), Some(3), 1),
     (Ask::Insert(9, 9), None, 1),
     (Ask::TryInsert(3, 98), Some(98), 2),

@@ -161,7 +161,7 @@ struct Text {
     text: &'static str,
 }
 
-const TEXTS: [Text; 8] = [
+static TEXTS: [Text; 8] = [
     Text {
         error: Error::Memory,
         text: "out of memory",

@@ -19,7 +19,7 @@ type Row = (
     Result<&'static [&'static str], MigrateError>,
 );
 
-const ROWS: [Row; 8] = [
+static ROWS: [Row; 8] = [
     (&[], Ok(&[])),
     (&["cat\0", "catalog\0"], Ok(&["cat", "catalog"])),
     (&["\0", "\0\0", "a\0", "a\0\0"], Ok(&["", "\0", "a", "a\0"])),
@@ -115,9 +115,9 @@ fn terminated_texts_become_texts_that_begin_one_another(rt: HostRuntime) {
     assert!(rt; is_brought_over(&old));
 }
 
-const LETTERS: [&str; 7] = ["a\0", "b\0", "c\0", "d\0", "e\0", "ea\0", "eb\0"];
+static LETTERS: [&str; 7] = ["a\0", "b\0", "c\0", "d\0", "e\0", "ea\0", "eb\0"];
 
-const OPEN: [&str; 3] = ["a\0", "b", "c\0"];
+static OPEN: [&str; 3] = ["a\0", "b", "c\0"];
 
 // A refused migration says `Memory`, and one that meets no refusal gives the whole tree; whether a request was refused.
 fn is_refused_well(alloc: Global, old: &Tree, at: usize) -> Option<bool> {

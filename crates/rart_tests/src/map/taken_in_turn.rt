@@ -6,7 +6,7 @@ use std::alloc::{AllocError, Global};
 use std::cell::Cell;
 use std::test::Fail;
 
-const FIVE: [&[u8]; 5] = [b"", b"a", b"ab", b"b", b"ba"];
+static FIVE: [&[u8]; 5] = [b"", b"a", b"ab", b"b", b"ba"];
 
 fn items(alloc: Global) -> Result<Vec<(Key, u64)>, AllocError> {
     let mut items = Vec::new(alloc);

@@ -35,7 +35,7 @@ pub fn count_word<K: KeyTrait>(
 
 type Counts = AdaptiveRadixTree<ArrayKey<16>, u64>;
 
-const WORDS: [&str; 6] = ["to", "be", "or", "not", "to", "be"];
+static WORDS: [&str; 6] = ["to", "be", "or", "not", "to", "be"];
 
 #[test]
 fn words_are_counted(rt: HostRuntime) {

@@ -162,7 +162,7 @@ fn number_at(tree: &Tree<'_>, byte: u8) -> Option<u8> {
 // values are made on the way, and how many are dropped.
 type Row = (bool, u8, Request, Answer, Option<u8>, usize, usize);
 
-const UPDATES: [Row; 16] = [
+static UPDATES: [Row; 16] = [
     // the value that is stored there is written over, and `try_update` drops its clone
     (
         false,
@@ -285,7 +285,7 @@ fn an_update_drops_each_value_once(rt: HostRuntime) {
 // number that is then stored, and how many values are dropped.
 type Sweep = (u8, Row, (Answer, Option<u8>, usize));
 
-const REFUSED: [Sweep; 4] = [
+static REFUSED: [Sweep; 4] = [
     (
         4,
         (

@@ -160,7 +160,7 @@ fn row_holds(alloc: Global, row: &Row, by_value: bool) -> bool {
     before.len() == usize::from(row.0) && sweep_row(alloc, &mut tree, &mut before, row, by_value)
 }
 
-const GROWING_AND_SHRINKING: [Row; 12] = [
+static GROWING_AND_SHRINKING: [Row; 12] = [
     (4, false, 4, Ask::Insert(1), None, Some(1)),
     (16, false, 16, Ask::Insert(2), None, Some(2)),
     (48, false, 48, Ask::Insert(3), None, Some(3)),
