@@ -1,7 +1,6 @@
 //! Edits of the tree.
 //!
-//! What owns a tree hands it to one function that borrows it: each exit of a body that owns one drops it, which the
-//! checker takes long for.
+//! What owns a tree hands it to one function that borrows it.
 use crate::trees::{Key, Tree, insert_all, key, nested};
 use rart::{RouteTable, SlotUpdate, TryUpdateError};
 use std::alloc::Global;
