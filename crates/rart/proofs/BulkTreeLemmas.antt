@@ -121,7 +121,7 @@ module _ (At : ℕ → List ℕ → Type 0) where
     pub places-within : (ks : List (List ℕ)) → AreKeysAt At ks → AreWithin m ks
     places-within ks h = within-from 0 ks (stand-all ks h)
 
--- pairs are told by their keys and their values
+-- keys and values determine pairs
 pub same-pairs : {V : Type 0} (xs ys : List (List ℕ × V)) → keys_of xs ≡ keys_of ys → values_of xs ≡ values_of ys
     → xs ≡ ys
 same-pairs [] [] k v = refl

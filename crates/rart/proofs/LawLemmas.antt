@@ -1,4 +1,4 @@
--- What one tree's statistics are, told by its keys alone, and after an insertion and a removal.
+-- What one tree's statistics are, by its keys alone, and after an insertion and a removal.
 use Rattle.std.proofs.Common.{◌≡◌, ℕ, List, ap, sym, ◌∙◌}
 use Rattle.rart_keys.specs.SortedMap.{keys_of, put, without}
 use Rattle.rart_nodes.specs.shapes.Shape.{HasShape, NodeRecord}

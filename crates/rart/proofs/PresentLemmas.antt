@@ -11,7 +11,7 @@ use Rattle.rart.specs.declared.tree.try_insert.TryInsertError.{TryInsertError}
 use Rattle.rart.specs.declared.tree.try_insert.TryInsertError.TheVariants as try_insert
 
 module _ {V : Type 0} (old new : MapAndShape V) (key : List ℕ) (value : V) where
-  -- a key that is told to be stored still is
+  -- a key that the error says is stored still is
   pub stored_stands : (outcome : Result (Unit {0}) (NotInserted V)) → InsertsNew key value old.pairs new.pairs outcome
       → IfErr outcome (IsStoredAt new.pairs key)
   stored_stands (Ok _) inserted = tt
@@ -23,20 +23,20 @@ module _ {V : Type 0} (old new : MapAndShape V) (key : List ℕ) (value : V) whe
   EndsAs answer tree = PutOrSame key value answer old tree
 
   -- the tree ends as the answer says
-  pub ends_as_told : (outcome : Result (Unit {0}) (NotInserted V)) (answer : Result (Unit {0}) (TryInsertError V))
+  pub ends_as_said : (outcome : Result (Unit {0}) (NotInserted V)) (answer : Result (Unit {0}) (TryInsertError V))
       → AddsPresent new.pairs key outcome answer
       → InsertsNew key value old.pairs new.pairs outcome → OnErr outcome (new ≡ old) → EndsAs answer new
-  ends_as_told (Ok _) (Ok _) adds inserted unchanged = inserted.2
-  ends_as_told (Ok _) (Err answer) adds inserted unchanged = absurd adds
-  ends_as_told (Err (not_inserted.Stored proposed)) (Ok _) adds inserted unchanged = absurd adds
-  ends_as_told (Err (not_inserted.Stored proposed)) (Err (try_insert.Occupied back present)) adds inserted unchanged
+  ends_as_said (Ok _) (Ok _) adds inserted unchanged = inserted.2
+  ends_as_said (Ok _) (Err answer) adds inserted unchanged = absurd adds
+  ends_as_said (Err (not_inserted.Stored proposed)) (Ok _) adds inserted unchanged = absurd adds
+  ends_as_said (Err (not_inserted.Stored proposed)) (Err (try_insert.Occupied back present)) adds inserted unchanged
       = unchanged
-  ends_as_told (Err (not_inserted.Stored proposed)) (Err (try_insert.Refused back)) adds inserted unchanged
+  ends_as_said (Err (not_inserted.Stored proposed)) (Err (try_insert.Refused back)) adds inserted unchanged
       = absurd adds
-  ends_as_told (Err (not_inserted.Refused refused)) (Ok _) adds inserted unchanged = absurd adds
-  ends_as_told (Err (not_inserted.Refused refused)) (Err (try_insert.Occupied back present)) adds inserted unchanged
+  ends_as_said (Err (not_inserted.Refused refused)) (Ok _) adds inserted unchanged = absurd adds
+  ends_as_said (Err (not_inserted.Refused refused)) (Err (try_insert.Occupied back present)) adds inserted unchanged
       = absurd adds
-  ends_as_told (Err (not_inserted.Refused refused)) (Err (try_insert.Refused back)) adds inserted unchanged = unchanged
+  ends_as_said (Err (not_inserted.Refused refused)) (Err (try_insert.Refused back)) adds inserted unchanged = unchanged
 
   -- the answer is one of `try_insert`
   pub tries_insert : (outcome : Result (Unit {0}) (NotInserted V)) (answer : Result (Unit {0}) (TryInsertError V))

@@ -29,7 +29,7 @@ pub record AreStatistics (keys : List (List ℕ)) (stats : TreeStats) : Type 0 w
   pub shape : HasShape keys nodes
   pub numbers : stats_in stats ≡ stats_of keys nodes
 
--- a call on a tree whose pairs are m may reply so, and leave the pairs n; keys are told apart by their bytes
+-- a call on a tree whose pairs are m may reply so, and leave the pairs n; keys are distinguished by their bytes
 abbrev pub IsStep : {K V : Type 0} → (K → List ℕ) → List (List ℕ × V) → Call K V → Reply K V → List (List ℕ × V)
     → Type 0
 IsStep bytes m (call.Get key) (reply.Value found) n = (found ≡ lookup (bytes key) m) × (n ≡ m)

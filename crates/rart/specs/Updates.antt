@@ -12,7 +12,7 @@ use Rattle.rart_nodes.specs.declared.slot.SlotUpdate.{SlotUpdate}
 use Rattle.rart_nodes.specs.declared.slot.SlotUpdate.TheVariants.{Keep, Remove, Insert}
 use Rattle.rart_nodes.specs.declared.slot.UpdateError.{UpdateError}
 use Rattle.rart_nodes.specs.declared.slot.UpdateError.TheVariants.{Insert as Not_inserted, Remove as Not_removed}
-use Rattle.rart_nodes.specs.edits.Callbacks.{AnswersSo, TellsSo}
+use Rattle.rart_nodes.specs.edits.Callbacks.{AnswersSo, AnswersReturning}
 use Rattle.rart_nodes.specs.edits.Slots.{outcome_of, slot_of}
 use Rattle.rart_nodes.specs.edits.Updates.{map_left, map_updated}
 use Rattle.rart_parts.specs.declared.error.TreeError.TheVariants.{Memory}
@@ -73,11 +73,11 @@ abbrev pub Updates : {F V : Type 0} → Once F (MutBor (Slot V) × Unit {0}) (Sl
     → F → List ℕ → List (List ℕ × V) → Result Bool (UpdateError V) → List (List ℕ × V) → Type 0
 Updates g f key old result new = AnswersSo g f (lookup key old) (λ r w. IsUpdate key r w old result new)
 
--- the same before it is told whether the key was stored, of a callback that returns something more
+-- the same with the outcome in place of whether the key was stored, of a callback that returns something more
 abbrev pub UpdatesReturning : {F X V : Type 0}
     → Once F (MutBor (Slot V) × Unit {0}) ((SlotUpdate V × X) × (MutBor (Slot V) × Unit {0})) → F → List ℕ
     → List (List ℕ × V) → Result (Outcome V) (UpdateError V) × X → List (List ℕ × V) → Type 0
-UpdatesReturning g f key old result new = TellsSo g f (lookup key old) result.1 (λ r w. EndsIn key r w old result.0 new)
+UpdatesReturning g f key old result new = AnswersReturning g f (lookup key old) result.1 (λ r w. EndsIn key r w old result.0 new)
 
 -- `try_update` with the callback f, where it was called
 abbrev pub TriesUpdate : {F E V : Type 0}
@@ -96,7 +96,7 @@ abbrev pub touched_in : {V : Type 0} → Outcome V → Bool
 touched_in Absent = false
 touched_in o = true
 
--- f, shown the slot s, was tried: r is asked for, this is told, and s' is left; where f failed or wasn't called the
+-- f, shown the slot s, was tried: it requested r, with this outcome, and left s'; where f failed or wasn't called the
 -- slot is as before. It wasn't called only at a value whose clone may fail
 abbrev pub IsAttempt : {F E V : Type 0} → (V → Type 0)
     → Once F (MutBor (Slot V) × Unit {0}) (Result (SlotUpdate V) E × (MutBor (Slot V) × Unit {0})) → F → Slot V
@@ -110,8 +110,8 @@ IsAttempt {F} {E} {V} sure g f s r (Answered o) s' = FnOnceReturnsAtMut g f s (O
 abbrev pub Attempts : {F E V : Type 0} → (V → Type 0)
     → Once F (MutBor (Slot V) × Unit {0}) (Result (SlotUpdate V) E × (MutBor (Slot V) × Unit {0})) → F → List ℕ
     → List (List ℕ × V) → CallbackOutcome V E → Result (Outcome V) (UpdateError V) → List (List ℕ × V) → Type 0
-Attempts {F} {E} {V} sure g f key old told result new = (r : SlotUpdate V) × (w : Option V)
-    × IsAttempt sure g f (slot_of (lookup key old)) r told (slot_of w) × EndsIn key r w old result new
+Attempts {F} {E} {V} sure g f key old outcome result new = (r : SlotUpdate V) × (w : Option V)
+    × IsAttempt sure g f (slot_of (lookup key old)) r outcome (slot_of w) × EndsIn key r w old result new
 
 -- what a callback leaves that writes this value where the slot is occupied
 abbrev pub written_slot : {V : Type 0} → Option V → Slot V → Slot V

@@ -32,7 +32,6 @@ pub const MAX_PAIRS: usize = usize::MAX / 16;
 
 /// An ordered map from keys, read as bytes, to values. Shared prefixes are stored once, and inner
 /// nodes hold up to 4, 16, 48 or 256 children.
-#[derive(Drop)]
 pub struct AdaptiveRadixTree<K: KeyTrait, V> {
     root: Option<DefaultNode<K::PartialType, V>>,
     len: usize,
@@ -40,6 +39,19 @@ pub struct AdaptiveRadixTree<K: KeyTrait, V> {
     longest: usize,
     alloc: Global,
     of: PhantomData<K>,
+}
+
+// Written out: a crate that drops a tree then proves one call, and not the drop of each type within it.
+impl<K: KeyTrait, V: Drop> Drop for AdaptiveRadixTree<K, V> {
+    fn drop(self) {
+        let AdaptiveRadixTree {
+            root: _,
+            len: _,
+            longest: _,
+            alloc: _,
+            of: _,
+        } = self;
+    }
 }
 
 impl<K: KeyTrait, V> Model for AdaptiveRadixTree<K, V> {

@@ -11,4 +11,4 @@ pub mod Reach
 pub mod SharedLemmas
 pub mod StringSets
 pub mod SharedChildLemmas
-pub mod WayLemmas
+pub mod JoinPathLemmas

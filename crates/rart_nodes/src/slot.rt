@@ -79,7 +79,7 @@ pub(crate) struct Visit<V, X> {
     /// Is the requested update.
     pub answer: SlotUpdate<V>,
     /// Is the second result of the callback.
-    pub told: X,
+    pub extra: X,
 }
 
 /// Calls `f` once with the slot of this content.
@@ -88,15 +88,15 @@ pub(crate) fn show<V, X, F: FnOnce(&mut Slot<V>) -> (SlotUpdate<V>, X)>(
     f: F,
 ) -> Visit<V, X>
     requires callable { FnOnceTakesAtMut F.FnOnce f (slot_of content) }
-    ensures { FnOnceReturnsAtMut F.FnOnce f (slot_of content) (result.answer, result.told)
+    ensures { FnOnceReturnsAtMut F.FnOnce f (slot_of content) (result.answer, result.extra)
         (slot_of result.left) }
 {
     let mut slot = Slot::new(content);
-    let (answer, told) = f(&mut slot);
+    let (answer, extra) = f(&mut slot);
     Visit {
         left: slot.into_option(),
         answer,
-        told,
+        extra,
     }
 }
 
@@ -109,9 +109,13 @@ pub(crate) fn show_vacant<V, X, F: FnOnce(&mut Slot<V>) -> (SlotUpdate<V>, X)>(
         → FnOnceReturnsAtMut F.FnOnce f (slot_of None) (r, x) (slot_of w) → w ≡ None }
     ensures { FnOnceReturnsAtMut F.FnOnce f (slot_of None) (result.0, result.1) (slot_of None) }
 {
-    let Visit { left, answer, told } = show(None, f);
+    let Visit {
+        left,
+        answer,
+        extra,
+    } = show(None, f);
     match left {
-        None => (answer, told),
+        None => (answer, extra),
         Some(_) => unreachable!(),
     }
 }

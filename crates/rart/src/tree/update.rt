@@ -70,7 +70,7 @@ impl<K: KeyTrait, V> AdaptiveRadixTree<K, V> {
     {
         let full = self.len == MAX_PAIRS;
         let bytes = key.as_ref();
-        let (outcome, told) = DefaultNode::update(&mut self.root, self.alloc, full, bytes, f);
+        let (outcome, extra) = DefaultNode::update(&mut self.root, self.alloc, full, bytes, f);
         match &outcome {
             Ok(Outcome::New) => {
                 self.len += 1;
@@ -82,7 +82,7 @@ impl<K: KeyTrait, V> AdaptiveRadixTree<K, V> {
             }
             _ => {}
         }
-        (outcome, told)
+        (outcome, extra)
     }
 
     /// Calls `f` once with the slot of `key`, and makes the edit that it returns.
@@ -197,9 +197,9 @@ impl<K: KeyTrait, V> AdaptiveRadixTree<K, V> {
         self.canonical();
         put_back::<V>();
         sorted_map::<V>();
-        let (outcome, told) = update_tried(self, key, f);
+        let (outcome, callback) = update_tried(self, key, f);
         self.canonical();
-        match told {
+        match callback {
             CallbackOutcome::NotCloned => Err(TryUpdateError::Clone),
             CallbackOutcome::Failed(error) => Err(TryUpdateError::Callback(error)),
             CallbackOutcome::Answered(old) => match outcome {
@@ -263,13 +263,13 @@ fn update_plainly<V, K: KeyTrait, F: FnOnce(&mut Slot<V>) -> SlotUpdate<V>>(
         move |slot: &mut Slot<V>|
             requires { FnOnceTakesAtMut F.FnOnce f slot.old }
             ensures { FnOnceReturnsAtMut F.FnOnce f slot.old result.0 slot.new }
-        { asked(slot, f) },
+        { call(slot, f) },
     );
     outcome
 }
 
-// Calls `f`, which returns nothing beside.
-fn asked<V, F: FnOnce(&mut Slot<V>) -> SlotUpdate<V>>(
+// Calls `f`, and adds an empty second result.
+fn call<V, F: FnOnce(&mut Slot<V>) -> SlotUpdate<V>>(
     slot: &mut Slot<V>,
     f: F,
 ) -> (SlotUpdate<V>, ())

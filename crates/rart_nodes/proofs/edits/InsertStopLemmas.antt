@@ -3,7 +3,7 @@ use Rattle.std.proofs.Common.{◌≡◌, ℕ, Bool, List, Option, Some, sym, ◌
 use Rattle.std.specs.Prelude.{slice_get}
 use Rattle.rart_keys.specs.ByteStrings.{strip_prefix}
 use Rattle.rart_parts.specs.Entries.{child_at}
-use Rattle.rart_nodes.specs.edits.InsertStops.{FailsPut, TellsNotPut, TellsFailure}
+use Rattle.rart_nodes.specs.edits.InsertStops.{FailsPut, FailsInsertInto, FailsInsert}
 use Rattle.rart_nodes.specs.tries.Trie.{Trie, node, IsCanonical, pairs_of}
 use Rattle.rart_nodes.specs.tries.TrieCode.{as_children}
 use Rattle.rart_nodes.specs.declared.node.edits.insert.InsertStop.{InsertStop}
@@ -30,9 +30,9 @@ module _ {V : Type 0} where
       = (asks_put-below p k rest old w b t es c e h at s.0, record-child p k rest old w b t es c e h at s.1)
 
   -- what a trie says, its pairs say
-  pub tells-not_put : (k : List ℕ) (value : V) (t : Trie V) (why : NotInserted V) → IsCanonical t
-      → TellsFailure k value t why → TellsNotPut k value (pairs_of t) why
-  tells-not_put k value t (not_inserted.Stored back) c s = (s.0, λ none. s.1 (sym (lookup-pairs_of k t c) ∙ none))
-  tells-not_put k value t (not_inserted.Refused r) c s =
+  pub fails-insert : (k : List ℕ) (value : V) (t : Trie V) (why : NotInserted V) → IsCanonical t
+      → FailsInsert k value t why → FailsInsertInto k value (pairs_of t) why
+  fails-insert k value t (not_inserted.Stored back) c s = (s.0, λ none. s.1 (sym (lookup-pairs_of k t c) ∙ none))
+  fails-insert k value t (not_inserted.Refused r) c s =
       let none = sym (record_is k t c) ∙ s.3 in
       (s.0, s.1, (some-pairs t c, new-key k (pairs_of t) none, none, sym (asks-insert k t c) ∙ s.2))

@@ -1,4 +1,4 @@
--- The way of two places through two tries to the next two nodes whose prefixes end together.
+-- The path of two places through two tries to the next two nodes whose prefixes end together.
 use Rattle.std.proofs.Common.{◌≡◌, ℕ, ◌+◌, ◌<◌, ◌≤◌, ◌==◌, Bool, true, false, List, [], ◌∷◌, ◌++◌, length}
 use Rattle.std.proofs.Common.{length-append, drop, Some, None, refl, arith, sym, ap, subst, ◌∙◌}
 use Rattle.rart_keys.specs.SortedMap.{longest_key}
@@ -75,7 +75,7 @@ module _ {V : Type 0} where
       starts-cons (x ∷ q) s = ap (λ y. y ∷ q) s
 
 module _ {V W : Type 0} where
-  -- p is the way from the beginnings of t and u to a and b, of whose prefixes the rests l and r are left; from j visits
+  -- p is the path from the beginnings of t and u to a and b, of whose prefixes the rests l and r are left; from j visits
   -- there were i
   pub record Place (t : Trie V) (u : Trie W) (p : List ℕ) (a : Trie V) (l : List ℕ) (b : Trie W) (r : List ℕ)
       (i j : ℕ) : Type 0 where

@@ -8,14 +8,14 @@ use Rattle.rart_keys.specs.SortedMap.{longest_key, values_of}
 use Rattle.rart_nodes.specs.joins.Intersections.{intersect_nodes}
 use Rattle.rart_nodes.specs.joins.Visitors.{AreVisitors, CanDeeper, CanGive, CountedOn, most_count}
 use Rattle.rart_nodes.specs.tries.PrefixLaws.{prefix-append, prefix-none}
-use Rattle.rart_nodes.specs.joins.JoinPaths.{Kept, WayGrown, WayCut, way_mark}
+use Rattle.rart_nodes.specs.joins.JoinPaths.{Kept, PathGrown, PathCut, path_mark}
 use Rattle.rart_nodes.specs.joins.SharedEdges.{more_visits}
 use Rattle.rart_nodes.specs.joins.SharedChildren.{IsAligned, intersect_all, shared_child_if, shared_right, visits_all}
 use Rattle.rart_nodes.specs.tries.Trie.{Trie, node, Children, no_children, child, children_in, children_pairs, child_in}
 use Rattle.rart_nodes.specs.tries.Trie.{own_pair, pairs_of, value_of, with_prefix}
 use Rattle.rart_nodes.specs.tries.TrieCode.{child_count, node_count}
 use Rattle.rart_nodes.proofs.joins.AlignmentLemmas.{longest-child, some-count}
-use Rattle.rart_nodes.proofs.joins.WayLemmas.{way-on, way-back}
+use Rattle.rart_nodes.proofs.joins.JoinPathLemmas.{path-on, path-back}
 use Rattle.rart_nodes.proofs.walks.SeenLemmas.{child-falls}
 
 -- a count of pairs, up to the most
@@ -29,7 +29,7 @@ pub count-is : {X : Type 0} (m : ℕ) (es : List (List ℕ × X)) → FoldsTo (�
     → m ≡ min (length es) most_count
 count-is m es f = omega (arith, counted-is 0 m (values_of es) (omega arith) f, length-map es (λ e. e.1))
 
--- given with whole keys, where nothing of the way was kept before
+-- given with whole keys, where nothing of the path was kept before
 pub given-whole : {F X : Type 0} (r : F → List ℕ × X → F → Type 0) (k : List ℕ) (f g : F) (es : List (List ℕ × X))
     → k ≡ [] → FoldsTo r f (with_prefix k es) g → FoldsTo r f es g
 given-whole {F} {X} r k f g es e h = subst (λ (z : List (List ℕ × X)). FoldsTo r f z g) (ap (λ z. with_prefix z es) e
@@ -77,26 +77,26 @@ module _ {V W : Type 0} where
   module _ {F : Type 0} (room : Kept → ℕ → Type 0) (given : Kept → F → List (List ℕ × (V × W)) → F
       → Type 0) (laws : AreVisitors room given) where
     -- what was given at the same place
-    given-here : (s t : Kept) (f g : F) (es : List (List ℕ × (V × W))) → WayGrown s [] t → given t f es g
+    given-here : (s t : Kept) (f g : F) (es : List (List ℕ × (V × W))) → PathGrown s [] t → given t f es g
         → given s f es g
     given-here s t f g es h k = subst (λ (z : List (List ℕ × (V × W))). given s f z g) (prefix-none es)
         (laws.gives_after s t [] f g es h k)
 
     pub given-next : (s t : Kept) (f g h : F) (ps : List (Trie V × Trie W)) (a : Trie V) (b : Trie W)
-        (qs : List (Trie V × Trie W)) → ps ≡ (a, b) ∷ qs → WayGrown s [] t → given t f (intersect_nodes a b) g
+        (qs : List (Trie V × Trie W)) → ps ≡ (a, b) ∷ qs → PathGrown s [] t → given t f (intersect_nodes a b) g
         → given s g (intersect_all qs) h → given s f (intersect_all ps) h
     given-next s t f g h ps a b qs e w i j = rw e
         (laws.gives_more s f g h (intersect_nodes a b) (intersect_all qs) (given-here s t f g (intersect_nodes a b) w i)
         j)
 
     pub given-aligned : (s t : Kept) (f g h : F) (x : Trie V) (y : Trie W) (p : List ℕ) (a : Trie V) (b : Trie W)
-        → IsAligned x y p a b → WayGrown s p t
+        → IsAligned x y p a b → PathGrown s p t
         → given t f (own_pair (both (value_of a) (value_of b))) g
         → given t g (intersect_all (shared_right a (children_in b))) h → given s f (intersect_nodes x y) h
     given-aligned s t f g h x y p a b k w i j
         = rw k.given (laws.gives_after s t p f h _ w (laws.gives_more t f g h _ _ i j))
 
-    pub same-room : (s t : Kept) (m n : ℕ) → WayGrown s [] t → room s m → n ≤ m → room t n
+    pub same-room : (s t : Kept) (m n : ℕ) → PathGrown s [] t → room s m → n ≤ m → room t n
     same-room s t m n h k i = laws.has_room s t [] m n h k (omega arith)
 
     -- whom pairs may be given
@@ -119,7 +119,7 @@ module _ {V W : Type 0} where
       }
 
       module _ (deeper : CanDeeper can) where
-        can-after : (s t : Kept) (p : List ℕ) (f : F) (es : List (List ℕ × (V × W))) → WayGrown s p t
+        can-after : (s t : Kept) (p : List ℕ) (f : F) (es : List (List ℕ × (V × W))) → PathGrown s p t
             → CanGive can given s f (with_prefix p es) → CanGive can given t f es
         can-after s t p f es w h = record {
           at = λ before x after g e k. deeper s t p g x w
@@ -128,7 +128,7 @@ module _ {V W : Type 0} where
         }
 
         pub can-aligned : (s t : Kept) (f : F) (x : Trie V) (y : Trie W) (p : List ℕ) (a : Trie V) (b : Trie W)
-            → IsAligned x y p a b → WayGrown s p t → CanGive can given s f (intersect_nodes x y)
+            → IsAligned x y p a b → PathGrown s p t → CanGive can given s f (intersect_nodes x y)
             → CanGive can given t f (own_pair (both (value_of a) (value_of b))
             ++ intersect_all (shared_right a (children_in b)))
         can-aligned s t f x y p a b k w h = can-after s t p f _ w
@@ -136,7 +136,7 @@ module _ {V W : Type 0} where
 
         -- the first two, and then the others
         pub can-next : (s t : Kept) (f : F) (ps : List (Trie V × Trie W)) (a : Trie V) (b : Trie W)
-            (qs : List (Trie V × Trie W)) → ps ≡ (a, b) ∷ qs → WayGrown s [] t
+            (qs : List (Trie V × Trie W)) → ps ≡ (a, b) ∷ qs → PathGrown s [] t
             → CanGive can given s f (intersect_all ps) → CanGive can given t f (intersect_nodes a b)
         can-next s t f ps a b qs e w h =
             let first : CanGive can given s f (intersect_nodes a b)
@@ -147,13 +147,13 @@ module _ {V W : Type 0} where
             (sym (prefix-none (intersect_nodes a b))) first)
 
         pub can-others : (s t : Kept) (f g : F) (ps : List (Trie V × Trie W)) (a : Trie V) (b : Trie W)
-            (qs : List (Trie V × Trie W)) → ps ≡ (a, b) ∷ qs → WayGrown s [] t → given t f (intersect_nodes a b) g
+            (qs : List (Trie V × Trie W)) → ps ≡ (a, b) ∷ qs → PathGrown s [] t → given t f (intersect_nodes a b) g
             → CanGive can given s f (intersect_all ps) → CanGive can given s g (intersect_all qs)
         can-others s t f g ps a b qs e w i h = can-rest s f g (intersect_nodes a b) (intersect_all qs)
             (subst (λ (z : List (Trie V × Trie W)). CanGive can given s f (intersect_all z)) e h)
             (given-here s t f g (intersect_nodes a b) w i)
 
 -- gone on and back again
-pub back-again : (s t u v : Kept) (p : List ℕ) (m : ℕ) → m ≡ way_mark s → WayGrown s p t → WayGrown t [] u
-    → WayCut m u v → WayGrown s [] v
-back-again s t u v p m e h i j = way-back s u v (p ++ []) (way-on s t u p [] h i) (rw (← e) j)
+pub back-again : (s t u v : Kept) (p : List ℕ) (m : ℕ) → m ≡ path_mark s → PathGrown s p t → PathGrown t [] u
+    → PathCut m u v → PathGrown s [] v
+back-again s t u v p m e h i j = path-back s u v (p ++ []) (path-on s t u p [] h i) (rw (← e) j)

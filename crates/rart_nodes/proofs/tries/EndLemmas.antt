@@ -287,14 +287,14 @@ module _ {V : Type 0} where
   pub record TreePath (e : End) (o : Option (Trie V)) (m : ℕ) (q : List ℕ) (t : Trie V) (n : ℕ) : Type 0 where
     pub top : Trie V
     pub root : o ≡ Some top
-    pub way : EndPath e top m q t n
+    pub path : EndPath e top m q t n
 
   pub tree-start : (e : End) (o : Option (Trie V)) (t : Trie V) (m n : ℕ) (q : List ℕ) → is_canonical t ≡ true
       → o ≡ Some t → q ≡ prefix_of t → n ≡ m + 1 → TreePath e o m q t n
   tree-start e o t m n q w h p s = record {
     top = t;
     root = h;
-    way = rw (p, s) (path-start e t m (IsCanonical-test t w));
+    path = rw (p, s) (path-start e t m (IsCanonical-test t w));
   }
 
   pub tree-step : (e : End) (o : Option (Trie V)) (t u : Trie V) (m n k : ℕ) (q r : List ℕ) → is_canonical t ≡ true
@@ -305,14 +305,14 @@ module _ {V : Type 0} where
       record {
         top = l.top;
         root = l.root;
-        way = rw (p, s) (path-step e l.top t u m n b.0 q (IsCanonical-test t w) l.way b.1);
+        path = rw (p, s) (path-step e l.top t u m n b.0 q (IsCanonical-test t w) l.path b.1);
       }
 
   pub tree-fits : (e : End) (o : Option (Trie V)) (t : Trie V) (m n : ℕ) (q : List ℕ) → TreePath e o m q t n
       → length q ≤ longest_key (tree_pairs o)
   tree-fits e o t m n q l = omega (
     arith,
-    path-fits e l.top t m n q l.way,
+    path-fits e l.top t m n q l.path,
     ap (λ o. longest_key (tree_pairs o)) l.root,
   )
 
@@ -326,7 +326,7 @@ module _ {V : Type 0} where
       → is_canonical t ≡ true → TreePath e o m q t n → ◌≡◌ {A = Option (Trie V)}
       (option_map (λ e. e.1) (end_child e t)) None → TreeEnd e o m q t n
   tree-end e o t m n q c w l h =
-      let d = path-end e l.top t m n q (IsCanonical-test t w) l.way (child-none (end_child e t) h) in
+      let d = path-end e l.top t m n q (IsCanonical-test t w) l.path (child-none (end_child e t) h) in
       record {
         value = d.value;
         own = d.own;

@@ -25,8 +25,8 @@ cmp-short (x ∷ p) xs [] h = refl
 cmp-short (x ∷ p) xs (y ∷ k) h = ap (ordering_then (nat_cmp x y)) (cmp-short p xs k (omega arith))
 
 -- the order determines which strings are equal
-pub cmp-tells : (k l : List ℕ) → (slice_cmp nat_cmp k l ≡ Equal → k ≡ l) × (k ≡ l → slice_cmp nat_cmp k l ≡ Equal)
-cmp-tells k l = (exact_bytes k l, λ e. rw e (cmp-itself l))
+pub cmp-equal : (k l : List ℕ) → (slice_cmp nat_cmp k l ≡ Equal → k ≡ l) × (k ≡ l → slice_cmp nat_cmp k l ≡ Equal)
+cmp-equal k l = (exact_bytes k l, λ e. rw e (cmp-itself l))
 
 -- where a first segment differs, it decides
 pub segment-apart : (p xs k front : List ℕ) (o : Ordering) → length p ≤ length k → front ≡ take (length p) k

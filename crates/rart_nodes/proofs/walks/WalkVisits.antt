@@ -13,9 +13,9 @@ use Rattle.rart_nodes.proofs.walks.WalkLemmas.{first-child, deepest}
 not-bare : (V : Type 0) (p : List ℕ) (n : ℕ) → IsCanonical {V = V} (node p None n no_children) → ⊥
 not-bare V p n w = ⊎_elim (λ h. cc) (λ h. absurd h) w.0
 
-told : (g : Grown) (p : List ℕ) → KeepsEach g → 0 < length p → 0 < length (g p)
-told g [] h l = absurd (omega arith)
-told g (b ∷ p) h l = h b p
+grown_long : (g : Grown) (p : List ℕ) → KeepsEach g → 0 < length p → 0 < length (g p)
+grown_long g [] h l = absurd (omega arith)
+grown_long g (b ∷ p) h l = h b p
 
 module _ {V : Type 0} where
   -- the deepest level is at the end of the path, and none of its children was visited
@@ -44,7 +44,7 @@ module _ {V : Type 0} where
   pub visit-one : (g : Grown) (longest places n m m1 d : ℕ) (k k1 : SegmentList) (t : Trie V) (st st1 : List (Level V))
       → KeepsEach g → IsWalk longest places k (reverse st) → HasVisited n m k (reverse st)
       → DeepestStep st t d st1 → k1 ≡ take d k ++ g (prefix_of t) → m1 ≡ m + 1 → m1 ≤ n + length k1
-  visit-one g longest places n m m1 d k k1 t st st1 tells p h s i f =
+  visit-one g longest places n m m1 d k k1 t st st1 bytes p h s i f =
       let e : reverse st ≡ (child s.edge t s.others, d) ∷ reverse s.rest
       = deepest st s.rest (child s.edge t s.others, d) s.was in
       let q : IsWalk longest places k ((child s.edge t s.others, d) ∷ reverse s.rest) = rw e at p in
@@ -55,7 +55,7 @@ module _ {V : Type 0} where
         length-append (take d k) (g (prefix_of t)),
         length-take d k,
         c.inside,
-        told g (prefix_of t) tells c.long,
+        grown_long g (prefix_of t) bytes c.long,
       ) in
       omega (arith, f, one-more n m d k k1 (child s.edge t s.others) (reverse s.rest) (rw e at h) more)
 

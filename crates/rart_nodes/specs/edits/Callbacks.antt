@@ -23,8 +23,8 @@ abbrev pub AnswersSo : {F A V : Type 0} → Once F (MutBor (Slot V) × Unit {0})
     → Option V → (A → Option V → Type 0) → Type 0
 AnswersSo {F} {A} {V} g f o E = (a : A) × (w : Option V) × FnOnceReturnsAtMut g f (slot_of o) a (slot_of w) × E a w
 
--- the same of one that told x beside
-abbrev pub TellsSo : {F X V : Type 0} → Once F (MutBor (Slot V) × Unit {0}) ((SlotUpdate V × X)
+-- the same of one that returned x too
+abbrev pub AnswersReturning : {F X V : Type 0} → Once F (MutBor (Slot V) × Unit {0}) ((SlotUpdate V × X)
     × (MutBor (Slot V) × Unit {0})) → F → Option V → X → (SlotUpdate V → Option V → Type 0) → Type 0
-TellsSo {F} {X} {V} g f o x E = (r : SlotUpdate V) × (w : Option V)
+AnswersReturning {F} {X} {V} g f o x E = (r : SlotUpdate V) × (w : Option V)
     × FnOnceReturnsAtMut g f (slot_of o) (r, x) (slot_of w) × E r w

@@ -17,12 +17,12 @@ module _ {V : Type 0} where
       × (trie_lookup key (with_records trie) ≡ None)
 
   -- the same, with the value that comes back
-  abbrev pub TellsFailure : List ℕ → V → Trie V → NotInserted V → Type 0
-  TellsFailure key value trie (not_inserted.Stored back) = (back ≡ value) × (trie_lookup key trie ≢ None)
-  TellsFailure key value trie (not_inserted.Refused r) = (r.value ≡ value) × (r.error ≡ Memory)
+  abbrev pub FailsInsert : List ℕ → V → Trie V → NotInserted V → Type 0
+  FailsInsert key value trie (not_inserted.Stored back) = (back ≡ value) × (trie_lookup key trie ≢ None)
+  FailsInsert key value trie (not_inserted.Refused r) = (r.value ≡ value) × (r.error ≡ Memory)
       × (trie_asks_put key trie ≡ true) × (trie_lookup key (with_records trie) ≡ None)
 
   -- by the map alone
-  abbrev pub TellsNotPut : List ℕ → V → List (List ℕ × V) → NotInserted V → Type 0
-  TellsNotPut key value map (not_inserted.Stored back) = (back ≡ value) × (lookup key map ≢ None)
-  TellsNotPut key value map (not_inserted.Refused r) = (r.value ≡ value) × (r.error ≡ Memory) × MayAskFor key map
+  abbrev pub FailsInsertInto : List ℕ → V → List (List ℕ × V) → NotInserted V → Type 0
+  FailsInsertInto key value map (not_inserted.Stored back) = (back ≡ value) × (lookup key map ≢ None)
+  FailsInsertInto key value map (not_inserted.Refused r) = (r.value ≡ value) × (r.error ≡ Memory) × MayAskFor key map

@@ -11,7 +11,7 @@ use Rattle.rart_nodes.specs.declared.slot.UpdateError.{UpdateError}
 use Rattle.rart_nodes.specs.declared.slot.UpdateError.TheVariants.{Insert as Not_inserted, Remove as Not_removed}
 use Rattle.rart_nodes.specs.edits.InsertAsks.{insert_asks}
 use Rattle.rart_nodes.specs.edits.RemoveAsks.{remove_asks}
-use Rattle.rart_nodes.specs.edits.Callbacks.{TellsSo}
+use Rattle.rart_nodes.specs.edits.Callbacks.{AnswersReturning}
 use Rattle.rart_nodes.specs.edits.Slots.{HasRoom, outcome_of}
 use Rattle.rart_parts.specs.declared.error.TreeError.{TreeError}
 use Rattle.rart_parts.specs.declared.error.TreeError.TheVariants.{Memory, Full}
@@ -46,4 +46,4 @@ EndsMap full k r w m (Err Not_removed) n = (n ≡ map_left k w m) × (r ≡ Remo
 abbrev pub UpdatesMap : {F X V : Type 0}
     → Once F (MutBor (Slot V) × Unit {0}) ((SlotUpdate V × X) × (MutBor (Slot V) × Unit {0})) → F → Bool → List ℕ
     → List (List ℕ × V) → Result (Outcome V) (UpdateError V) × X → List (List ℕ × V) → Type 0
-UpdatesMap g f full k m res n = TellsSo g f (lookup k m) res.1 (λ r w. EndsMap full k r w m res.0 n)
+UpdatesMap g f full k m res n = AnswersReturning g f (lookup k m) res.1 (λ r w. EndsMap full k r w m res.0 n)

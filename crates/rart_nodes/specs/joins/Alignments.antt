@@ -6,7 +6,7 @@ use Rattle.rart_nodes.specs.declared.node.seen.Entered.{Entered}
 use Rattle.rart_nodes.specs.joins.Intersections.{intersect_nodes}
 use Rattle.rart_nodes.specs.joins.SharedEdges.{more_visits}
 use Rattle.rart_nodes.specs.joins.SharedChildren.{IsAligned, shared_right, visits_all}
-use Rattle.rart_nodes.specs.joins.JoinPaths.{Kept, WayGrown}
+use Rattle.rart_nodes.specs.joins.JoinPaths.{Kept, PathGrown}
 use Rattle.rart_nodes.specs.tries.Trie.{Trie, children_in, prefix_of}
 
 -- the child o at the byte b was entered, and shown with that byte as a segment of its prefix, and the rest of it
@@ -15,10 +15,10 @@ abbrev pub EntersAfter : {P V C : Type 0} {G : Ghosts P} → ℕ → Option (Tri
 EntersAfter b o r = MatchOption r (o ≡ None) (λ e. (o ≡ Some e.0.node.now) × (e.1.now ≡ b ∷ [])
     × (prefix_of e.0.node.now ≡ b ∷ e.2.now))
 
--- from the nodes t and u the walk came to a fork, and its way went along; or the two have nothing in common
+-- from the nodes t and u the walk came to a fork, and its path went along; or the two have nothing in common
 abbrev pub FindsAligned : {P V W C D : Type 0} {G : Ghosts P} → Trie V → Trie W → Kept
     → Option (Entered P V C G × Entered P W D G) → Kept → Type 0
-FindsAligned t u k r k' = (p : List ℕ) × WayGrown k p k'
+FindsAligned t u k r k' = (p : List ℕ) × PathGrown k p k'
     × MatchOption r (intersect_nodes t u ≡ []) (λ e. IsAligned t u p e.0.node.now e.1.node.now)
 
 -- the visits from t and u on: those that it took to come there, and those that are then ahead

@@ -1,4 +1,4 @@
--- What becomes of a caller's state as an intersection gives it pairs, by what is kept of the way.
+-- What becomes of a caller's state as an intersection gives it pairs, by what is kept of the path.
 use Rattle.std.specs.Prelude.{ℕ, ◌≡◌, ◌+◌, ◌-◌, ◌^◌, ◌≤◌, ◌<◌, true, min, List, [], ◌∷◌, ◌++◌, length, vec_capacity}
 use Rattle.std.specs.Prelude.{Option}
 use Rattle.std.specs.Borrow.{Bor}
@@ -6,30 +6,30 @@ use Rattle.std.specs.Global.{Vec}
 use Rattle.std.specs.List.{FoldsTo}
 use Rattle.rart_keys.specs.KeyBytes.{IsWithin}
 use Rattle.rart_keys.specs.SortedMap.{values_of}
-use Rattle.rart_nodes.specs.declared.node.intersect.way.JoinPath.TheVariants.{Untold, Bytes, Segments}
-use Rattle.rart_nodes.specs.joins.JoinPaths.{Kept, WayRoom, WayGrown}
+use Rattle.rart_nodes.specs.declared.node.intersect.join_path.JoinPath.TheVariants.{Untold, Bytes, Segments}
+use Rattle.rart_nodes.specs.joins.JoinPaths.{Kept, PathRoom, PathGrown}
 use Rattle.rart_nodes.specs.tries.Trie.{with_prefix}
 use Rattle.rart_nodes.specs.walks.Walk.{joined_bytes}
 use Rattle.rart_nodes.specs.walks.PathParts.{lent_segments}
 use Rattle.rart_nodes.specs.walks.ViewSegments.{all_have_bytes}
 
--- `given s f es g`: given the pairs es after the way s, f became g; `room s n`: it can go on by n bytes
+-- `given s f es g`: given the pairs es after the path s, f became g; `room s n`: it can go on by n bytes
 pub record AreVisitors {F X : Type 0} (room : Kept → ℕ → Type 0) (given : Kept → F → List (List ℕ × X) → F
     → Type 0) : Type 0 where
-  pub holds : (s : Kept) (n : ℕ) → room s n → WayRoom s n
-  pub has_room : (s t : Kept) (p : List ℕ) (m n : ℕ) → WayGrown s p t → room s m → length p + n ≤ m → room t n
+  pub holds : (s : Kept) (n : ℕ) → room s n → PathRoom s n
+  pub has_room : (s t : Kept) (p : List ℕ) (m n : ℕ) → PathGrown s p t → room s m → length p + n ≤ m → room t n
   pub gives_none : (s : Kept) (f : F) → given s f [] f
   pub gives_more : (s : Kept) (f g h : F) (xs ys : List (List ℕ × X)) → given s f xs g → given s g ys h
       → given s f (xs ++ ys) h
-  pub gives_after : (s t : Kept) (p : List ℕ) (f g : F) (es : List (List ℕ × X)) → WayGrown s p t → given t f es g
+  pub gives_after : (s t : Kept) (p : List ℕ) (f g : F) (es : List (List ℕ × X)) → PathGrown s p t → given t f es g
       → given s f (with_prefix p es) g
 
--- `can s f x`: after the way s, f may be given x. It is so after more of the way with less of the key
+-- `can s f x`: after the path s, f may be given x. It is so after more of the path with less of the key
 abbrev pub CanDeeper : {F X : Type 0} → (Kept → F → List ℕ × X → Type 0) → Type 0
-CanDeeper {F} {X} can = (s t : Kept) (p : List ℕ) (f : F) (x : List ℕ × X) → WayGrown s p t → can s f (p ++ x.0, x.1)
+CanDeeper {F} {X} can = (s t : Kept) (p : List ℕ) (f : F) (x : List ℕ × X) → PathGrown s p t → can s f (p ++ x.0, x.1)
     → can t f x
 
--- after the way s, f may be given each of the pairs es, as those before it leave f
+-- after the path s, f may be given each of the pairs es, as those before it leave f
 pub record CanGive {F X : Type 0} (can : Kept → F → List ℕ × X → Type 0) (given : Kept → F → List (List ℕ × X) → F
     → Type 0) (s : Kept) (f : F) (es : List (List ℕ × X)) : Type 0 where
   pub at : (before : List (List ℕ × X)) (x : List ℕ × X) (after : List (List ℕ × X)) (g : F) → es ≡ before ++ x ∷ after
@@ -50,7 +50,7 @@ GivenValues r s f es g = FoldsTo r f (values_of es) g
 abbrev pub CanGiveValues : {F X : Type 0} → (F → X → Type 0) → Kept → F → List ℕ × X → Type 0
 CanGiveValues q s f x = q f x.1
 
--- pairs given with their keys, from the bytes of the way
+-- pairs given with their keys, from the bytes of the path
 pub record KeyRoom (most : Option ℕ) (k : Vec ℕ) (n : ℕ) : Type 0 where
   pub place : length k.items + n ≤ vec_capacity k
   pub within : IsWithin most (length k.items + n)
@@ -70,7 +70,7 @@ CanGiveKeys q Untold f x = Unit {0}
 CanGiveKeys q (Bytes k) f x = q f (k.items ++ x.0, x.1)
 CanGiveKeys q (Segments k) f x = Unit {0}
 
--- pairs given with views of their keys, from the segments of the way
+-- pairs given with views of their keys, from the segments of the path
 pub record ViewRoom (k : Vec (Bor (List ℕ))) (n : ℕ) : Type 0 where
   pub place : length k.items + n ≤ vec_capacity k
   pub fits : length (joined_bytes (lent_segments k.items)) + n < 2 ^ 64

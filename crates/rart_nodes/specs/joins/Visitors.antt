@@ -25,8 +25,8 @@ use Rattle.std.proofs.lemmas.List.{length-map}
 use Rattle.std.specs.List.{FoldsTo}
 use Rattle.rart_keys.specs.KeyBytes.{IsWithin}
 use Rattle.rart_keys.specs.SortedMap.{values_of}
-use Rattle.rart_nodes.specs.declared.node.intersect.way.JoinPath.TheVariants.{Untold, Bytes, Segments}
-use Rattle.rart_nodes.specs.joins.JoinPaths.{Kept, WayRoom, WayGrown, BytesGrown, SegmentsGrown}
+use Rattle.rart_nodes.specs.declared.node.intersect.join_path.JoinPath.TheVariants.{Untold, Bytes, Segments}
+use Rattle.rart_nodes.specs.joins.JoinPaths.{Kept, PathRoom, PathGrown, BytesGrown, SegmentsGrown}
 use Rattle.rart_nodes.specs.tries.PrefixLaws.{prefix-append, prefix-twice, values-append, values-with_prefix}
 use Rattle.rart_nodes.specs.tries.Trie.{with_prefix}
 use Rattle.rart_nodes.specs.walks.SegmentLaws.{full-append, joined-append, many-joined}
@@ -64,35 +64,35 @@ segments_room k l p m n a b c =
       ap length a.bytes,
     )
 
-pub way-room : (s t : Kept) (p : List ℕ) (m n : ℕ) → WayGrown s p t → WayRoom s m → length p + n ≤ m → WayRoom t n
-way-room Untold Untold p m n a b c = tt
-way-room Untold (Bytes l) p m n a b c = absurd a
-way-room Untold (Segments l) p m n a b c = absurd a
-way-room (Bytes k) Untold p m n a b c = absurd a
-way-room (Bytes k) (Bytes l) p m n a b c = bytes_room k l p m n a b c
-way-room (Bytes k) (Segments l) p m n a b c = absurd a
-way-room (Segments k) Untold p m n a b c = absurd a
-way-room (Segments k) (Bytes l) p m n a b c = absurd a
-way-room (Segments k) (Segments l) p m n a b c = segments_room k l p m n a b c
+pub path-room : (s t : Kept) (p : List ℕ) (m n : ℕ) → PathGrown s p t → PathRoom s m → length p + n ≤ m → PathRoom t n
+path-room Untold Untold p m n a b c = tt
+path-room Untold (Bytes l) p m n a b c = absurd a
+path-room Untold (Segments l) p m n a b c = absurd a
+path-room (Bytes k) Untold p m n a b c = absurd a
+path-room (Bytes k) (Bytes l) p m n a b c = bytes_room k l p m n a b c
+path-room (Bytes k) (Segments l) p m n a b c = absurd a
+path-room (Segments k) Untold p m n a b c = absurd a
+path-room (Segments k) (Bytes l) p m n a b c = absurd a
+path-room (Segments k) (Segments l) p m n a b c = segments_room k l p m n a b c
 
 pub can_values : {F X : Type 0} (q : F → X → Type 0) → CanDeeper (CanGiveValues q)
 can_values q s t p f x w h = h
 
-pub give_values : {F X : Type 0} (r : F → X → F → Type 0) → AreVisitors WayRoom (GivenValues r)
+pub give_values : {F X : Type 0} (r : F → X → F → Type 0) → AreVisitors PathRoom (GivenValues r)
 give_values r = record {
   holds = λ s n h. h;
-  has_room = way-room;
+  has_room = path-room;
   gives_none = λ s f. refl;
   gives_more = λ s f g h xs ys a b. rw (values-append xs ys) (folds-append r f g h (values_of xs) (values_of ys) a b);
   gives_after = λ s t p f g es a b. rw (values-with_prefix p es) b;
 }
 
-keys-hold : (most : Option ℕ) (s : Kept) (n : ℕ) → KeysRoom most s n → WayRoom s n
+keys-hold : (most : Option ℕ) (s : Kept) (n : ℕ) → KeysRoom most s n → PathRoom s n
 keys-hold most Untold n h = absurd h
 keys-hold most (Bytes k) n h = h.place
 keys-hold most (Segments k) n h = absurd h
 
-keys-room : (most : Option ℕ) (s t : Kept) (p : List ℕ) (m n : ℕ) → WayGrown s p t → KeysRoom most s m
+keys-room : (most : Option ℕ) (s t : Kept) (p : List ℕ) (m n : ℕ) → PathGrown s p t → KeysRoom most s m
     → length p + n ≤ m → KeysRoom most t n
 keys-room most Untold t p m n a b c = absurd b
 keys-room most (Segments k) t p m n a b c = absurd b
@@ -117,7 +117,7 @@ keys-more r (Bytes k) f g h xs ys a b = rw (prefix-append k.items xs ys)
 keys-more r (Segments k) f g h xs ys a b = tt
 
 keys-after : {F X : Type 0} (r : F → List ℕ × X → F → Type 0) (s t : Kept) (p : List ℕ) (f g : F)
-    (es : List (List ℕ × X)) → WayGrown s p t → GivenKeys r t f es g → GivenKeys r s f (with_prefix p es) g
+    (es : List (List ℕ × X)) → PathGrown s p t → GivenKeys r t f es g → GivenKeys r s f (with_prefix p es) g
 keys-after r Untold t p f g es a b = tt
 keys-after r (Segments k) t p f g es a b = tt
 keys-after r (Bytes k) Untold p f g es a b = absurd a
@@ -146,12 +146,12 @@ give_keys most r = record {
   gives_after = keys-after r;
 }
 
-views-hold : (s : Kept) (n : ℕ) → ViewsRoom s n → WayRoom s n
+views-hold : (s : Kept) (n : ℕ) → ViewsRoom s n → PathRoom s n
 views-hold Untold n h = absurd h
 views-hold (Bytes k) n h = absurd h
 views-hold (Segments k) n h = h.place
 
-views-room : (s t : Kept) (p : List ℕ) (m n : ℕ) → WayGrown s p t → ViewsRoom s m → length p + n ≤ m → ViewsRoom t n
+views-room : (s t : Kept) (p : List ℕ) (m n : ℕ) → PathGrown s p t → ViewsRoom s m → length p + n ≤ m → ViewsRoom t n
 views-room Untold t p m n a b c = absurd b
 views-room (Bytes k) t p m n a b c = absurd b
 views-room (Segments k) Untold p m n a b c = absurd a
@@ -185,7 +185,7 @@ views-more r (Segments k) f g h xs ys a b = let p = joined_bytes (lent_segments 
     rw (prefix-append p xs ys) (folds-append r f g h (with_prefix p xs) (with_prefix p ys) a b)
 
 views-after : {F X : Type 0} (r : F → List ℕ × X → F → Type 0) (s t : Kept) (p : List ℕ) (f g : F)
-    (es : List (List ℕ × X)) → WayGrown s p t → GivenViews r t f es g → GivenViews r s f (with_prefix p es) g
+    (es : List (List ℕ × X)) → PathGrown s p t → GivenViews r t f es g → GivenViews r s f (with_prefix p es) g
 views-after r Untold t p f g es a b = tt
 views-after r (Bytes k) t p f g es a b = tt
 views-after r (Segments k) Untold p f g es a b = absurd a

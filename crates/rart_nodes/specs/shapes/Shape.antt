@@ -28,7 +28,7 @@ abbrev pub capacity_of : ℕ → ℕ
 capacity_of n = if nat_le n 0 then 0 else if nat_le n 4 then 4 else if nat_le n 16 then 16 else if nat_le n 48 then 48
     else 256
 
--- what is told of a node: whether it holds a value, its edge bytes, and how many children it has room for
+-- what is recorded of a node: whether it holds a value, its edge bytes, and how many children it has room for
 pub record NodeRecord : Type 0 where
   pub holds_value : Bool
   pub edges : List ℕ

@@ -65,15 +65,15 @@ abbrev pub IsCutOf : {V : Type 0} → List (List ℕ) → Option (List ℕ × V)
 IsCutOf s None r = r ≡ None
 IsCutOf s (Some e) r = IsSomeAnd r (λ p. (lent_segments p.0.segments.items ≡ cut s e.0) × (p.1.now ≡ e.1))
 
--- f was called once with the pair that was found, its key cut as s says; and whether there is one was told
+-- f was called once with the pair that was found, its key cut as s says; and whether there is one was returned
 abbrev pub SeesFound : {F V : Type 0} → Once F (LendingKeyView × (Bor V × Unit {0})) (Unit {0}) → F → List (List ℕ)
     → Option (List ℕ × V) → Bool → Type 0
-SeesFound g f s None told = told ≡ false
-SeesFound g f s (Some e) told = (told ≡ true) × ViewedOnce g f (cut s e.0, e.1)
+SeesFound g f s None found = found ≡ false
+SeesFound g f s (Some e) found = (found ≡ true) × ViewedOnce g f (cut s e.0, e.1)
 
 -- f was called once with the pair that was found, its key cut as s says, and is then f'; where there is none it wasn't
--- called; and whether there is one was told
+-- called; and whether there is one was returned
 abbrev pub ShowsFound : {F V : Type 0} → Mut F (LendingKeyView × (Bor V × Unit {0})) (Unit {0}) → F → List (List ℕ)
     → Option (List ℕ × V) → F → Bool → Type 0
-ShowsFound g f s None f' told = (told ≡ false) × (f' ≡ f)
-ShowsFound g f s (Some e) f' told = (told ≡ true) × Viewed g f (cut s e.0, e.1) f'
+ShowsFound g f s None f' found = (found ≡ false) × (f' ≡ f)
+ShowsFound g f s (Some e) f' found = (found ≡ true) × Viewed g f (cut s e.0, e.1) f'

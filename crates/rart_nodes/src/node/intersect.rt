@@ -9,20 +9,20 @@ ghost use Rattle.rart_nodes.specs.joins.PairCalls.{CanCallWith};
 ghost use Rattle.rart_nodes.specs.joins.SeenJoins.{MayLackBoth, seen_bound, seen_join, seen_visits};
 ghost use Rattle.rart_nodes.specs.joins.SharedEdges.{joint_visits, more_visits};
 ghost use Rattle.rart_nodes.specs.joins.ViewCalls.{CanViewAt, ViewedAtEach, ViewsAtEach};
-ghost use Rattle.rart_nodes.specs.joins.JoinPaths.{HasRoomOf, WayGrown};
+ghost use Rattle.rart_nodes.specs.joins.JoinPaths.{HasRoomOf, PathGrown};
 ghost use Rattle.rart_nodes.specs.tries.SeenTrees.{length_bound, seen_keys, seen_nodes, seen_pairs};
 ghost use Rattle.rart_nodes.specs.tries.Trie.{pairs_of};
 
 mod aligned;
+mod join_path;
 mod shared_children;
 mod visitor;
-mod way;
 
 use crate::count::{Count, Paired};
 use crate::node::intersect::aligned::next_aligned;
+use crate::node::intersect::join_path::JoinPath;
 use crate::node::intersect::shared_children::SharedChildren;
 use crate::node::intersect::visitor::{ByKeys, ByValues, ByViews, Counted, Visitor, give_both};
-use crate::node::intersect::way::JoinPath;
 use crate::node::seen::{Entered, Seen};
 use crate::node::view::LendingKeyView;
 use rart_keys::{KeyTrait, Partial};
@@ -32,27 +32,27 @@ use rart_parts::TreeError;
 fn intersect_below<'a, P: Partial, V, W, C: Count, F, T: Visitor<V, W, F>>(
     left: Entered<'a, P, V, C>,
     right: Entered<'_, P, W, Paired<C>>,
-    way: &mut JoinPath<'a>,
+    path: &mut JoinPath<'a>,
     counter: &mut C,
     f: &mut F,
 )
-    requires room { T.room way.old (longest_key (pairs_of left.node.now)) }
-    requires callable { CanGive T.can T.given way.old f.old
+    requires room { T.room path.old (longest_key (pairs_of left.node.now)) }
+    requires callable { CanGive T.can T.given path.old f.old
         (intersect_nodes left.node.now right.node.now) }
-    ensures place { WayGrown way.old [] way.new }
-    ensures given { T.given way.old f.old
+    ensures place { PathGrown path.old [] path.new }
+    ensures given { T.given path.old f.old
         (intersect_nodes left.entry.node.now right.entry.node.now) f.new }
     ensures visits { C.number counter.new ≡ C.number counter.old
         + more_visits left.entry.node.now right.entry.node.now }
 {
-    let mark = way.mark();
-    let Some((left_aligned, right_aligned)) = next_aligned(left, right, way, counter) else {
-        way.cut(mark);
+    let mark = path.mark();
+    let Some((left_aligned, right_aligned)) = next_aligned(left, right, path, counter) else {
+        path.cut(mark);
         return;
     };
-    give_both::<V, W, F, T>(left_aligned.value(), right_aligned.value(), way, f);
+    give_both::<V, W, F, T>(left_aligned.value(), right_aligned.value(), path, f);
     if right_aligned.has_no_children() {
-        way.cut(mark);
+        path.cut(mark);
         return;
     }
     let mut shared_children = SharedChildren::of(left_aligned, right_aligned);
@@ -61,23 +61,23 @@ fn intersect_below<'a, P: Partial, V, W, C: Count, F, T: Visitor<V, W, F>>(
         right_aligned,
         counter,
     ) {
-        intersect_below::<P, V, W, C, F, T>(child, other, way, counter, f);
+        intersect_below::<P, V, W, C, F, T>(child, other, path, counter, f);
     }
-    way.cut(mark);
+    path.cut(mark);
 }
 
-/// Visits the pairs of both trees. The way has room for the longest key of the left one, and for no more.
+/// Visits the pairs of both trees. The path has room for the longest key of the left one, and for no more.
 fn intersect_trees<'a, K: KeyTrait, V, W, C: Count, F, T: Visitor<V, W, F>>(
     left: Seen<'a, K, V, C>,
     right: Seen<'_, K, W, Paired<C>>,
-    way: &mut JoinPath<'a>,
+    path: &mut JoinPath<'a>,
     counter: &mut C,
     f: &mut F,
 )
-    requires room { T.room way.old (longest_key (seen_pairs left)) }
-    requires no_more_room { HasRoomOf (length_bound left) way.old }
-    requires callable { CanGive T.can T.given way.old f.old (seen_join left right) }
-    ensures given { T.given way.old f.old
+    requires room { T.room path.old (longest_key (seen_pairs left)) }
+    requires no_more_room { HasRoomOf (length_bound left) path.old }
+    requires callable { CanGive T.can T.given path.old f.old (seen_join left right) }
+    ensures given { T.given path.old f.old
         (join (seen_pairs left.entry) (seen_pairs right.entry)) f.new }
     ensures visits { C.number counter.new
         ≡ C.number counter.old + joint_visits (seen_keys left.entry) (seen_keys right.entry) }
@@ -91,7 +91,7 @@ fn intersect_trees<'a, K: KeyTrait, V, W, C: Count, F, T: Visitor<V, W, F>>(
         return;
     };
     let (left_root, right_root) = left_top.enter_pair(right_top, counter);
-    intersect_below::<K::PartialType, V, W, C, F, T>(left_root, right_root, way, counter, f);
+    intersect_below::<K::PartialType, V, W, C, F, T>(left_root, right_root, path, counter, f);
 }
 
 impl<'a, K: KeyTrait, V, C: Count> Seen<'a, K, V, C> {
@@ -205,8 +205,8 @@ impl<'a, K: KeyTrait, V, C: Count> Seen<'a, K, V, C> {
             return Ok(());
         };
         let bytes = Vec::with_capacity(self.alloc(), self.longest())?;
-        let mut way = JoinPath::Bytes(bytes);
-        intersect_trees::<K, V, W, C, F, ByKeys<K>>(self, other, &mut way, counter, f);
+        let mut path = JoinPath::Bytes(bytes);
+        intersect_trees::<K, V, W, C, F, ByKeys<K>>(self, other, &mut path, counter, f);
         Ok(())
     }
 
@@ -277,8 +277,8 @@ impl<'a, K: KeyTrait, V, C: Count> Seen<'a, K, V, C> {
             return Ok(());
         };
         let segments = Vec::with_capacity(self.alloc(), self.longest())?;
-        let mut way = JoinPath::Segments(segments);
-        intersect_trees::<K, V, W, C, F, ByViews>(self, other, &mut way, counter, f);
+        let mut path = JoinPath::Segments(segments);
+        intersect_trees::<K, V, W, C, F, ByViews>(self, other, &mut path, counter, f);
         Ok(())
     }
 

@@ -74,7 +74,7 @@ fn go_on<'a, P: Partial, V, C, T: Path<'a, P>>(
 }
 
 /// Returns a walk over the subtree of a visited node; the path is that of the path to it.
-pub(crate) fn start<'a, P: Partial, V, C, T: Path<'a, P>>(
+pub(crate) fn walk_at<'a, P: Partial, V, C, T: Path<'a, P>>(
     mut levels: Vec<(Branches<'a, P, V, C>, usize)>,
     longest: usize,
     path: &mut T,
@@ -170,7 +170,7 @@ impl<'a, K: KeyTrait, V, C: Count> Seen<'a, K, V, C> {
         let mut path = self.new_path::<T>()?;
         // no vector has room for `usize::MAX` levels, so that at such a length the request is refused
         let levels = Vec::with_capacity(alloc, longest.saturating_add(1))?;
-        let walk = start(levels, longest, &mut path, root);
+        let walk = walk_at(levels, longest, &mut path, root);
         Ok((walk, path))
     }
 }

@@ -5,7 +5,7 @@ ghost use Rattle.rart_keys.specs.KeyBytes.{IsWithin};
 ghost use Rattle.rart_keys.specs.SortedMap.{count_of, lookup, put, longest_key};
 ghost use Rattle.rart_parts.specs.Entries.{child_at, with_entry};
 ghost use Rattle.rart_nodes.specs.edits.InsertAsks.{MayAskFor, trie_asks_put};
-ghost use Rattle.rart_nodes.specs.edits.InsertStops.{FailsPut, TellsNotPut, TellsFailure};
+ghost use Rattle.rart_nodes.specs.edits.InsertStops.{FailsPut, FailsInsertInto, FailsInsert};
 ghost use Rattle.rart_nodes.specs.storages.Stored.{stored, width_of};
 ghost use Rattle.rart_nodes.specs.tries.Trie.{IsCanonical, leaf, pairs_of, prefix_of, with_records};
 ghost use Rattle.rart_nodes.specs.tries.Trie.{trie_lookup, trie_put};
@@ -154,7 +154,7 @@ impl<P: Partial, V> DefaultNode<P, V> {
         ensures ok { OnOk result (self.new ≡ trie_put key.now value self.old) }
         ensures fresh { OnOk result (trie_lookup key.now self.old ≡ None) }
         ensures unchanged { OnErr result (self.new ≡ self.old) }
-        ensures why { IfErr result (TellsFailure key.now value self.old) }
+        ensures why { IfErr result (FailsInsert key.now value self.old) }
     {
         let mut back: Option<V> = None;
         match self.put_below(alloc, true, key, value, &mut back) {
@@ -210,7 +210,7 @@ impl<P: Partial, V> DefaultNode<P, V> {
         ensures longest { OnOk result (longest_key (pairs_of self.new)
             ≤ max (longest_key (pairs_of self.old)) (length key.now)) }
         ensures unchanged { OnErr result (self.new ≡ self.old) }
-        ensures why { IfErr result (TellsNotPut key.now value (pairs_of self.old)) }
+        ensures why { IfErr result (FailsInsertInto key.now value (pairs_of self.old)) }
     {
         self.put_new(alloc, key, value)
     }

@@ -11,7 +11,7 @@ ghost use Rattle.rart_nodes.specs.edits.Deletion.{JoinsWithin, is_leaf_at, is_lo
 ghost use Rattle.rart_nodes.specs.tries.Tree.{IsCanonicalTree, tree_lookup, tree_nodes, tree_pairs};
 ghost use Rattle.rart_nodes.specs.tries.Trie.{IsCanonical, capacity_in, child_in, children_in, edges_of, pairs_of};
 ghost use Rattle.rart_nodes.specs.tries.Trie.{prefix_of, trie_lookup, value_of};
-ghost use Rattle.rart_nodes.specs.edits.Callbacks.{StaysReturning, TellsSo};
+ghost use Rattle.rart_nodes.specs.edits.Callbacks.{StaysReturning, AnswersReturning};
 ghost use Rattle.rart_nodes.specs.edits.Slots.{CountsPairs, longest_after, slot_of};
 ghost use Rattle.rart_nodes.specs.edits.TreeUpdates.{EndsHere, EndsLeaf, EndsTree, RemovesLeaf, RemovesRoot};
 ghost use Rattle.rart_nodes.specs.edits.Updates.{UpdatesMap};
@@ -157,23 +157,27 @@ impl<P: Partial, V> DefaultNode<P, V> {
         requires stays { (r : SlotUpdate V) (x : X) (w : Option V)
             → FnOnceReturnsAtMut F.FnOnce f (slot_of (value_of self.old)) (r, x) (slot_of w)
             → w ≢ None }
-        ensures { TellsSo F.FnOnce f (value_of self.old) result.1
+        ensures { AnswersReturning F.FnOnce f (value_of self.old) result.1
             (λ r w. EndsLeaf r w self.old result.0 self.new) }
     {
-        let Visit { left, answer, told } = show(self.value.take(), f);
+        let Visit {
+            left,
+            answer,
+            extra,
+        } = show(self.value.take(), f);
         let Some(left) = left else { unreachable!() };
         match answer {
             SlotUpdate::Keep => {
                 fill(&mut self.value, left);
-                (Some(Outcome::Kept), told)
+                (Some(Outcome::Kept), extra)
             }
             SlotUpdate::Insert(value) => {
                 fill(&mut self.value, value);
-                (Some(Outcome::Replaced(left)), told)
+                (Some(Outcome::Replaced(left)), extra)
             }
             SlotUpdate::Remove => {
                 fill(&mut self.value, left);
-                (None, told)
+                (None, extra)
             }
         }
     }
@@ -211,18 +215,22 @@ impl<P: Partial, V> DefaultNode<P, V> {
         requires inner { is_leaf_at key.now self.old ≡ false }
         requires callable { FnOnceTakesAtMut F.FnOnce f (slot_of (trie_lookup key.now self.old)) }
         requires stays { StaysReturning F.FnOnce f (trie_lookup key.now self.old) }
-        ensures { TellsSo F.FnOnce f (trie_lookup key.now self.old) result.1
+        ensures { AnswersReturning F.FnOnce f (trie_lookup key.now self.old) result.1
             (λ r w. EndsTree full key.now r w (Some self.old) result.0 (Some self.new)) }
     {
         let Some(rest) = strip_prefix(&self.prefix, key) else {
-            let (answer, told) = show_vacant(f);
-            return (self.apply_split(alloc, full, key, answer), told);
+            let (answer, extra) = show_vacant(f);
+            return (self.apply_split(alloc, full, key, answer), extra);
         };
         let Some(&byte) = rest.first() else {
-            let Visit { left, answer, told } = show(self.value.take(), f);
-            return (self.apply_here(full, left, answer), told);
+            let Visit {
+                left,
+                answer,
+                extra,
+            } = show(self.value.take(), f);
+            return (self.apply_here(full, left, answer), extra);
         };
-        let (outcome, told) = match self.storage.seek_child_mut(byte) {
+        let (outcome, extra) = match self.storage.seek_child_mut(byte) {
             Some(child) => {
                 if !child.is_leaf_at(rest) {
                     return child.update_below(alloc, full, rest, f);
@@ -230,13 +238,13 @@ impl<P: Partial, V> DefaultNode<P, V> {
                 child.update_leaf(f)
             }
             None => {
-                let (answer, told) = show_vacant(f);
-                return (self.apply_to_child(alloc, full, rest, byte, answer), told);
+                let (answer, extra) = show_vacant(f);
+                return (self.apply_to_child(alloc, full, rest, byte, answer), extra);
             }
         };
         match outcome {
-            Some(outcome) => (Ok(outcome), told),
-            None => (self.remove_leaf(alloc, byte), told),
+            Some(outcome) => (Ok(outcome), extra),
+            None => (self.remove_leaf(alloc, byte), extra),
         }
     }
 
@@ -279,10 +287,10 @@ impl<P: Partial, V> DefaultNode<P, V> {
         requires fits { IsWithin P.MAXIMUM_SIZE (longest_key (tree_pairs root.old)) }
         requires callable { FnOnceTakesAtMut F.FnOnce f (slot_of (tree_lookup key.now root.old)) }
         requires stays { StaysReturning F.FnOnce f (tree_lookup key.now root.old) }
-        ensures { TellsSo F.FnOnce f (tree_lookup key.now root.old) result.1
+        ensures { AnswersReturning F.FnOnce f (tree_lookup key.now root.old) result.1
             (λ r w. EndsTree full key.now r w root.old result.0 root.new) }
     {
-        let (outcome, told) = match root {
+        let (outcome, extra) = match root {
             Some(node) => {
                 if !node.is_leaf_at(key) {
                     return node.update_below(alloc, full, key, f);
@@ -290,13 +298,13 @@ impl<P: Partial, V> DefaultNode<P, V> {
                 node.update_leaf(f)
             }
             None => {
-                let (answer, told) = show_vacant(f);
-                return (DefaultNode::apply_to_root(root, full, key, answer), told);
+                let (answer, extra) = show_vacant(f);
+                return (DefaultNode::apply_to_root(root, full, key, answer), extra);
             }
         };
         match outcome {
-            Some(outcome) => (Ok(outcome), told),
-            None => (DefaultNode::remove_root(root), told),
+            Some(outcome) => (Ok(outcome), extra),
+            None => (DefaultNode::remove_root(root), extra),
         }
     }
 

@@ -3,11 +3,11 @@ ghost use Rattle.std.specs.Prelude.{◌≡◌, ◌+◌, [], ◌∷◌, MatchOpti
 ghost use Rattle.rart_keys.specs.SortedMap.{count_of, longest_key};
 ghost use Rattle.rart_nodes.specs.joins.Alignments.{EntersAfter, FindsAligned, VisitsAligned};
 ghost use Rattle.rart_nodes.specs.joins.SharedChildren.{IsParted};
-ghost use Rattle.rart_nodes.specs.joins.JoinPaths.{WayRoom};
+ghost use Rattle.rart_nodes.specs.joins.JoinPaths.{PathRoom};
 ghost use Rattle.rart_nodes.specs.tries.Trie.{child_in, pairs_of};
 
 use crate::count::{Count, Paired};
-use crate::node::intersect::way::JoinPath;
+use crate::node::intersect::join_path::JoinPath;
 use crate::node::seen::Entered;
 use rart_keys::{Partial, common_prefix_length};
 
@@ -68,11 +68,11 @@ fn enter_other_after<'b, P: Partial, W, C: Count>(
 pub(crate) fn next_aligned<'a, 'b, P: Partial, V, W, C: Count>(
     left: Entered<'a, P, V, C>,
     right: Entered<'b, P, W, Paired<C>>,
-    way: &mut JoinPath<'a>,
+    path: &mut JoinPath<'a>,
     counter: &mut C,
 ) -> Option<(Entered<'a, P, V, C>, Entered<'b, P, W, Paired<C>>)>
-    requires { WayRoom way.old (longest_key (pairs_of left.node.now)) }
-    ensures way { FindsAligned left.entry.node.now right.entry.node.now way.old result way.new }
+    requires { PathRoom path.old (longest_key (pairs_of left.node.now)) }
+    ensures aligned { FindsAligned left.entry.node.now right.entry.node.now path.old result path.new }
     ensures visits { VisitsAligned left.entry.node.now right.entry.node.now
         (C.number counter.old) result (C.number counter.new) }
 {
@@ -82,7 +82,7 @@ pub(crate) fn next_aligned<'a, 'b, P: Partial, V, W, C: Count>(
     let mut right_rest = right.prefix().to_slice();
     loop {
         let (shared, left_on, right_on) = part(left_rest, right_rest);
-        way.grow(shared);
+        path.grow(shared);
         match next_byte(left_on) {
             None => {
                 let Some((byte, _, after)) = next_byte(right_on) else {
@@ -91,7 +91,7 @@ pub(crate) fn next_aligned<'a, 'b, P: Partial, V, W, C: Count>(
                 let Some((child, edge, rest)) = enter_after(left, byte, counter) else {
                     return None;
                 };
-                way.grow(edge);
+                path.grow(edge);
                 left = child;
                 left_rest = rest;
                 right_rest = after;
@@ -103,7 +103,7 @@ pub(crate) fn next_aligned<'a, 'b, P: Partial, V, W, C: Count>(
                 let Some((child, _, rest)) = enter_other_after(right, byte, counter) else {
                     return None;
                 };
-                way.grow(edge);
+                path.grow(edge);
                 right = child;
                 right_rest = rest;
                 left_rest = after;

@@ -9,7 +9,7 @@ ghost use Rattle.rart_nodes.specs.joins.Visitors.{AreVisitors, CanDeeper, CanGiv
 ghost use Rattle.rart_nodes.specs.joins.JoinPaths.{Kept};
 ghost use Rattle.rart_nodes.specs.tries.Trie.{own_pair};
 
-use crate::node::intersect::way::JoinPath;
+use crate::node::intersect::join_path::JoinPath;
 use crate::node::view::LendingKeyView;
 use rart_keys::KeyTrait;
 use std::marker::PhantomData;
@@ -22,11 +22,11 @@ pub(crate) trait Visitor<V, W, F> {
 
     ghost given: { Kept → F → List (List ℕ × (V × W)) → F → Type 0 };
 
-    /// Gives the pair at the end of the way.
-    fn give(way: &JoinPath<'_>, f: &mut F, left: &V, right: &W)
-        requires room { room way.now 0 }
-        requires callable { can way.now f.old ([], (left.now, right.now)) }
-        ensures given { given way.now f.old (([], (left.now, right.now)) ∷ []) f.new };
+    /// Gives the pair at the end of the path.
+    fn give(path: &JoinPath<'_>, f: &mut F, left: &V, right: &W)
+        requires room { room path.now 0 }
+        requires callable { can path.now f.old ([], (left.now, right.now)) }
+        ensures given { given path.now f.old (([], (left.now, right.now)) ∷ []) f.new };
 
     ghost lawful: { AreVisitors room given };
 
@@ -37,18 +37,18 @@ pub(crate) trait Visitor<V, W, F> {
 pub(crate) fn give_both<V, W, F, T: Visitor<V, W, F>>(
     left: Option<&V>,
     right: Option<&W>,
-    way: &JoinPath<'_>,
+    path: &JoinPath<'_>,
     f: &mut F,
 )
-    requires room { T.room way.now 0 }
-    requires callable { CanGive T.can T.given way.now f.old
+    requires room { T.room path.now 0 }
+    requires callable { CanGive T.can T.given path.now f.old
         (own_pair (both (option_copied left) (option_copied right))) }
-    ensures given { T.given way.now f.old (own_pair
+    ensures given { T.given path.now f.old (own_pair
         (both (option_copied left.entry) (option_copied right.entry))) f.new }
 {
     if let Some(value) = left {
         if let Some(other) = right {
-            T::give(way, f, value, other);
+            T::give(path, f, value, other);
         }
     }
 }
@@ -58,9 +58,9 @@ pub(crate) struct Counted;
 
 impl<V, W> Visitor<V, W, usize> for Counted {
     ghost use Rattle.rart_nodes.specs.joins.Visitors.{CountedOn, GivenValues, give_values};
-    ghost use Rattle.rart_nodes.specs.joins.JoinPaths.{WayRoom};
+    ghost use Rattle.rart_nodes.specs.joins.JoinPaths.{PathRoom};
 
-    ghost room = { WayRoom };
+    ghost room = { PathRoom };
 
     ghost can = { λ s n x. Unit {0} };
 
@@ -81,9 +81,9 @@ pub(crate) struct ByValues;
 impl<V, W, F: FnMut(&V, &W)> Visitor<V, W, F> for ByValues {
     ghost use Rattle.rart_nodes.specs.joins.Visitors.{CanGiveValues, GivenValues, can_values, give_values};
     ghost use Rattle.rart_nodes.specs.joins.PairCalls.{CalledWith, TakesWith};
-    ghost use Rattle.rart_nodes.specs.joins.JoinPaths.{WayRoom};
+    ghost use Rattle.rart_nodes.specs.joins.JoinPaths.{PathRoom};
 
-    ghost room = { WayRoom };
+    ghost room = { PathRoom };
 
     ghost can = { CanGiveValues (λ p x. TakesWith F.FnMut p x) };
 
@@ -114,7 +114,7 @@ fn call_with_key<K: KeyTrait, V, W, F: FnMut(K, &V, &W)>(
     f(K::new_from_slice(bytes), left, right);
 }
 
-/// Calls with the key, made of the bytes of the way, and the values.
+/// Calls with the key, made of the bytes of the path, and the values.
 pub(crate) struct ByKeys<K> {
     of: PhantomData<K>,
 }
@@ -129,8 +129,8 @@ impl<K: KeyTrait, V, W, F: FnMut(K, &V, &W)> Visitor<V, W, F> for ByKeys<K> {
 
     ghost given = { GivenKeys (λ p x q. CalledAt F.FnMut K.bytes p x q) };
 
-    fn give(way: &JoinPath<'_>, f: &mut F, left: &V, right: &W) {
-        match way {
+    fn give(path: &JoinPath<'_>, f: &mut F, left: &V, right: &W) {
+        match path {
             JoinPath::Bytes(bytes) => call_with_key(bytes.as_slice(), f, left, right),
             _ => unreachable!(),
         }
@@ -141,7 +141,7 @@ impl<K: KeyTrait, V, W, F: FnMut(K, &V, &W)> Visitor<V, W, F> for ByKeys<K> {
     ghost deeper = { can_keys (λ p x. TakesAtKey F.FnMut K.bytes p x) };
 }
 
-/// Calls with a view of the segments of the way, and the values.
+/// Calls with a view of the segments of the path, and the values.
 pub(crate) struct ByViews;
 
 impl<V, W, F: FnMut(LendingKeyView<'_, '_>, &V, &W)> Visitor<V, W, F> for ByViews {
@@ -154,8 +154,8 @@ impl<V, W, F: FnMut(LendingKeyView<'_, '_>, &V, &W)> Visitor<V, W, F> for ByView
 
     ghost given = { GivenViews (λ p x q. ViewedAt F.FnMut p x q) };
 
-    fn give(way: &JoinPath<'_>, f: &mut F, left: &V, right: &W) {
-        match way {
+    fn give(path: &JoinPath<'_>, f: &mut F, left: &V, right: &W) {
+        match path {
             JoinPath::Segments(segments) => f(LendingKeyView::of(segments.as_slice()), left, right),
             _ => unreachable!(),
         }

@@ -15,7 +15,7 @@ use crate::count::Count;
 use crate::node::rest::strip_prefix;
 use crate::node::seen::{Entered, Seen, Shared};
 use crate::node::walk::path::Path;
-use crate::node::walk::{Walk, empty_walk, start};
+use crate::node::walk::{Walk, empty_walk, walk_at};
 use rart_keys::{KeyTrait, Partial};
 use std::alloc::AllocError;
 
@@ -97,7 +97,7 @@ impl<'a, K: KeyTrait, V, C: Count> Seen<'a, K, V, C> {
         let Some(at) = seek_prefix(Some(top), prefix, &mut path, counter) else {
             return Ok(empty_walk(alloc));
         };
-        let walk = start(levels, longest, &mut path, at);
+        let walk = walk_at(levels, longest, &mut path, at);
         Ok((walk, path))
     }
 }

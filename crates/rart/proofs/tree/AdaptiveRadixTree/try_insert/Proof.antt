@@ -333,7 +333,7 @@ module _ {M : Type 1} (𝓤 : Ura M) (𝓛 : Logic 𝓤) (𝓜 : Model 𝓤 𝓛
       move ! (1 ∷ 0 ∷ []) $ join ! $ move ! (1 ∷ []) $
       use1 𝓛 (‵ (follows_so Tree Tree γ none (λ _ _. ⊤) (lemmas.EndsAs r.now n (gk.bytes k) x t)))
       (rests 𝓛 Tree γ (lemmas.EndsAs r.now n (gk.bytes k) x t) n
-      (lemmas.ends_as_told r.now n (gk.bytes k) x s.outcome t is inserted unchanged)) $
+      (lemmas.ends_as_said r.now n (gk.bytes k) x s.outcome t is inserted unchanged)) $
       use0 𝓛 (raw (CallbackOutcome y t)) (fact_i 𝓤 _ (emp 𝓤)
       (lemmas.tries_insert r.now n (gk.bytes k) x s.outcome t is inserted)) $
       move ! (1 ∷ 0 ∷ []) $ join ! $ nothing ! $ nothing ! $ fjoin ! $ nothing ! $ fjoin ! $ nothing ! $ fjoin ! $ join

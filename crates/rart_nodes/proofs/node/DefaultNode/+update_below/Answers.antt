@@ -72,7 +72,7 @@ returns-in_default-first g t c =
     let here = key-ends g t (goal.at.returns-in_default-first g t c).In_default-first in
     let shown = rw c.take.ensures.value at c.show-left.ensures in
     let stays : is_some c.show-left.result.left ≡ is_some c.self.inside.value
-    = c.requires.stays c.show-left.result.answer c.show-left.result.told c.show-left.result.left (rw here shown)
+    = c.requires.stays c.show-left.result.answer c.show-left.result.extra c.show-left.result.left (rw here shown)
     ∙ ap is_some here in (
       c.show-left.result.answer,
       c.show-left.result.left,

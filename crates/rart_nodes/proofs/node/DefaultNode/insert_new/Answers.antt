@@ -5,7 +5,7 @@ use Rattle.rart_nodes.specs.tries.Trie.{pairs_of}
 use Rattle.rart_nodes.proofs.tries.CanonicalTests.{longest_key-put}
 use Rattle.std.proofs.lemmas.Result.{on_ok_weaker}
 use Rattle.rart_nodes.proofs.edits.Outcomes.{if_err_weaker, on_ok_both}
-use Rattle.rart_nodes.proofs.edits.InsertStopLemmas.{tells-not_put}
+use Rattle.rart_nodes.proofs.edits.InsertStopLemmas.{fails-insert}
 use Rattle.rart_nodes.proofs.tries.PairLemmas.{pairs_of-ascend, lookup-pairs_of}
 use Rattle.rart_nodes.proofs.edits.PutLemmas.{canonical-put, pairs_of-put}
 use Rattle.rart_nodes.proofs.node.DefaultNode.insert_new.Goals as goal
@@ -37,6 +37,6 @@ returns g c =
       ))
           c.put_new.ensures.ok;
       unchanged = c.put_new.ensures.unchanged;
-      why = if_err_weaker c.put_new.result (λ why told. tells-not_put key c.args.value old why canonical told)
+      why = if_err_weaker c.put_new.result (λ why s. fails-insert key c.args.value old why canonical s)
           c.put_new.ensures.why;
     }

@@ -2,37 +2,37 @@ use Rattle.std.proofs.Common.{[], arith}
 use Rattle.rart_nodes.proofs.joins.VisitorLemmas.{back-again, can-aligned, can-next, can-others, can-rest, can-start}
 use Rattle.rart_nodes.proofs.joins.VisitorLemmas.{given-aligned, given-next, next-shared_children, same-room}
 use Rattle.rart_nodes.proofs.joins.VisitorLemmas.{shared_children-within}
-use Rattle.rart_nodes.proofs.joins.WayLemmas.{way-stays, way-on}
+use Rattle.rart_nodes.proofs.joins.JoinPathLemmas.{path-stays, path-on}
 use Rattle.rart_nodes.proofs.node.intersect.+intersect_below.Goals as goal
 
 pub returns-in_default-clause-place : goal.returns-in_default-clause-place
 returns-in_default-clause-place g t c =
-    let way = c.in_default.ensures.way in
-    back-again _ _ _ _ way.0 _ c.mark-mark.ensures way.1 (way-stays _) c.cut.ensures
+    let found = c.in_default.ensures.aligned in
+    back-again _ _ _ _ found.0 _ c.mark-mark.ensures found.1 (path-stays _) c.cut.ensures
 
 pub give_both-requires-clause-room : goal.give_both-requires-clause-room
 give_both-requires-clause-room g t c =
-    let way = c.in-Some.ensures.way in
-    g.met.T.Visitor.lawful.has_room _ _ way.0 _ 0 way.1 c.requires.room (omega (arith, way.2.short))
+    let found = c.in-Some.ensures.aligned in
+    g.met.T.Visitor.lawful.has_room _ _ found.0 _ 0 found.1 c.requires.room (omega (arith, found.2.short))
 
 pub give_both-requires-clause-callable : goal.give_both-requires-clause-callable
 give_both-requires-clause-callable g t c =
     let laws = g.met.T.Visitor.lawful in
-    let way = c.in-Some.ensures.way in
+    let found = c.in-Some.ensures.aligned in
     rw (c.value.ensures, c.value-2.ensures) (can-start _ _ laws _ _ _ _ _
-    (can-aligned _ _ laws _ g.met.T.Visitor.deeper _ _ _ _ _ way.0 _ _ way.2 way.1 c.requires.callable))
+    (can-aligned _ _ laws _ g.met.T.Visitor.deeper _ _ _ _ _ found.0 _ _ found.2 found.1 c.requires.callable))
 
 pub returns-then-has_no_children-clause-place : goal.returns-then-has_no_children-clause-place
 returns-then-has_no_children-clause-place g t c =
-    let way = c.in-Some.ensures.way in
-    back-again _ _ _ _ way.0 _ c.mark-mark.ensures way.1 (way-stays _) c.cut-then-has_no_children.ensures
+    let found = c.in-Some.ensures.aligned in
+    back-again _ _ _ _ found.0 _ c.mark-mark.ensures found.1 (path-stays _) c.cut-then-has_no_children.ensures
 
 pub returns-then-has_no_children-clause-given : goal.returns-then-has_no_children-clause-given
 returns-then-has_no_children-clause-given g t c =
     let laws = g.met.T.Visitor.lawful in
-    let way = c.in-Some.ensures.way in
+    let found = c.in-Some.ensures.aligned in
     let here = rw (c.value.ensures, c.value-2.ensures) at c.give_both.ensures.given in
-    given-aligned _ _ laws _ _ _ _ _ _ _ way.0 _ _ way.2 way.1 here
+    given-aligned _ _ laws _ _ _ _ _ _ _ found.0 _ _ found.2 found.1 here
     (rw (c.has_no_children.ensures.0 c.if-has_no_children.true) (laws.gives_none _ _))
 
 pub returns-then-has_no_children-clause-visits : goal.returns-then-has_no_children-clause-visits
@@ -42,17 +42,17 @@ returns-then-has_no_children-clause-visits g t c
 pub loop-child-init : goal.loop-child-init
 loop-child-init g t c =
     let laws = g.met.T.Visitor.lawful in
-    let way = c.in-Some.ensures.way in
+    let found = c.in-Some.ensures.aligned in
     record {
       callable = rw c.of-shared_children.ensures
-          (can-rest _ _ laws _ _ _ _ _ _ (can-aligned _ _ laws _ g.met.T.Visitor.deeper _ _ _ _ _ way.0 _ _ way.2 way.1
+          (can-rest _ _ laws _ _ _ _ _ _ (can-aligned _ _ laws _ g.met.T.Visitor.deeper _ _ _ _ _ found.0 _ _ found.2 found.1
           c.requires.callable) (rw (c.value.ensures, c.value-2.ensures) at c.give_both.ensures.given));
-      place = way-stays _;
-      room = laws.has_room _ _ way.0 _ _ way.1 c.requires.room way.2.short;
+      place = path-stays _;
+      room = laws.has_room _ _ found.0 _ _ found.1 c.requires.room found.2.short;
       given = λ last h. h;
       visits = rw c.of-shared_children.ensures c.in-Some.ensures.visits;
       within = rw c.of-shared_children.ensures
-          (shared_children-within _ c.in-Some.left_aligned.node.now c.in-Some.right_aligned.node.now way.2.few);
+          (shared_children-within _ c.in-Some.left_aligned.node.now c.in-Some.right_aligned.node.now found.2.few);
     }
 
 pub intersect_below-requires : goal.intersect_below-requires
@@ -60,7 +60,7 @@ intersect_below-requires g t c κs within =
     let laws = g.met.T.Visitor.lawful in
     let inv = c.loop-child.invariant in
     let next = next-shared_children _ _ _ _ _ _ c.in-Some-enter_next.ensures.shared_children inv.within in
-    let room = same-room _ _ laws _ _ _ _ (way-stays _) inv.room next.short in (
+    let room = same-room _ _ laws _ _ _ _ (path-stays _) inv.room next.short in (
       omega (arith, c.decreases, next.falls),
       (
         within.0,
@@ -95,7 +95,7 @@ loop-child-preserved g t c =
     record {
       callable = can-others _ _ laws _ g.met.T.Visitor.deeper _ _ _ _ _ _ _ _
           c.in-Some-enter_next.ensures.shared_children inv.place c.intersect_below.ensures.given inv.callable;
-      place = way-on _ _ _ [] [] inv.place c.intersect_below.ensures.place;
+      place = path-on _ _ _ [] [] inv.place c.intersect_below.ensures.place;
       room = laws.has_room _ _ [] _ _ c.intersect_below.ensures.place inv.room (omega arith);
       given = λ last h. inv.given last (given-next _ _ laws _ _ _ _ _ _ _ _ _
           c.in-Some-enter_next.ensures.shared_children inv.place c.intersect_below.ensures.given h);
@@ -111,15 +111,15 @@ loop-child-preserved g t c =
 
 pub returns-clause-place : goal.returns-clause-place
 returns-clause-place g t c =
-    let way = c.in-Some.ensures.way in
-    back-again _ _ _ _ way.0 _ c.mark-mark.ensures way.1 c.loop-child.invariant.place c.cut-2.ensures
+    let found = c.in-Some.ensures.aligned in
+    back-again _ _ _ _ found.0 _ c.mark-mark.ensures found.1 c.loop-child.invariant.place c.cut-2.ensures
 
 pub returns-clause-given : goal.returns-clause-given
 returns-clause-given g t c =
     let laws = g.met.T.Visitor.lawful in
-    let way = c.in-Some.ensures.way in
+    let found = c.in-Some.ensures.aligned in
     let here = rw (c.value.ensures, c.value-2.ensures) at c.give_both.ensures.given in
     let below = rw c.of-shared_children.ensures at
     (c.loop-child.invariant.given c.loop-child.f
     (rw c.in_default-enter_next.ensures.shared_children (laws.gives_none _ _))) in
-    given-aligned _ _ laws _ _ _ _ _ _ _ way.0 _ _ way.2 way.1 here below
+    given-aligned _ _ laws _ _ _ _ _ _ _ found.0 _ _ found.2 found.1 here below

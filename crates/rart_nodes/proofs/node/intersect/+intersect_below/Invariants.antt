@@ -4,7 +4,7 @@ use Rattle.rart_nodes.specs.joins.Visitors.{CanGive}
 use Rattle.rart_nodes.specs.joins.SharedEdges.{more_visits}
 use Rattle.rart_nodes.specs.joins.SharedChildren.{intersect_all, visits_all}
 use Rattle.rart_nodes.specs.joins.SharedChildrenAhead.{shared_ahead}
-use Rattle.rart_nodes.specs.joins.JoinPaths.{WayGrown}
+use Rattle.rart_nodes.specs.joins.JoinPaths.{PathGrown}
 use Rattle.rart_nodes.specs.tries.Trie.{children_in, children_pairs}
 use Rattle.rart_nodes.specs.tries.TrieCode.{node_count}
 use Rattle.rart_nodes.proofs.joins.VisitorLemmas.{AreWithin}
@@ -15,13 +15,13 @@ decreases-intersect_below g l = node_count l.left.node.now + node_count l.right.
 
 abbrev pub invariant-loop-child : goal.invariant-loop-child
 invariant-loop-child g l = record {
-  callable : CanGive g.T.Visitor.can g.T.Visitor.given l.initial.way l.f
+  callable : CanGive g.T.Visitor.can g.T.Visitor.given l.initial.path l.f
       (intersect_all (shared_ahead l.shared_children l.left_aligned.node.now l.right_aligned.node.now));
-  place : WayGrown l.initial.way [] l.way;
-  room : g.T.Visitor.room l.way (longest_key (children_pairs (children_in l.left_aligned.node.now)));
-  given : (last : _) → g.T.Visitor.given l.initial.way l.f
+  place : PathGrown l.initial.path [] l.path;
+  room : g.T.Visitor.room l.path (longest_key (children_pairs (children_in l.left_aligned.node.now)));
+  given : (last : _) → g.T.Visitor.given l.initial.path l.f
       (intersect_all (shared_ahead l.shared_children l.left_aligned.node.now l.right_aligned.node.now)) last
-      → g.T.Visitor.given l.initial.way l.initial.f
+      → g.T.Visitor.given l.initial.path l.initial.f
       (intersect_all (shared_ahead l.initial.shared_children l.left_aligned.node.now l.right_aligned.node.now)) last;
   visits : g.C.Count.number l.counter + visits_all
       (shared_ahead l.shared_children l.left_aligned.node.now l.right_aligned.node.now)

@@ -1,11 +1,11 @@
 use Rattle.std.proofs.Common.{◌+◌, ℕ, List}
-use Rattle.rart_nodes.specs.joins.JoinPaths.{WayGrown}
+use Rattle.rart_nodes.specs.joins.JoinPaths.{PathGrown}
 use Rattle.rart_nodes.specs.tries.TrieCode.{node_count}
 use Rattle.rart_nodes.proofs.joins.AlignmentLemmas.{Place}
 use Rattle.rart_nodes.proofs.node.intersect.aligned.next_aligned.Given as goal
 
 abbrev pub invariant-loop-byte : goal.invariant-loop-byte
-invariant-loop-byte g l = (p : List ℕ) × WayGrown l.fn.way p l.way
+invariant-loop-byte g l = (p : List ℕ) × PathGrown l.fn.path p l.path
     × Place l.fn.left.node.now l.fn.right.node.now p l.left.node.now l.left_rest l.right.node.now l.right_rest
     (g.C.Count.number l.counter) (g.C.Count.number l.fn.counter)
 

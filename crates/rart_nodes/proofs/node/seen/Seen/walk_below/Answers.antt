@@ -66,7 +66,7 @@ returns-clause-few g c =
     ∙ c.in-Some-seek_prefix.ensures.found in
     omega (
       arith,
-      c.start-walk.ensures.visits,
+      c.walk_at-walk.ensures.visits,
       few-count u (IsCanonical-test u c.in-Some-seek_prefix.at.canonical),
       part-length g.T.Keeps.grown (g.T.Path.kept c.in_ok-path.path) (g.T.Path.kept c.seek_prefix.new.path)
           c.args.prefix.now (option_copied c.args.self.root) u (IsCanonicalTree-test _ c.args.self.canonical) found,

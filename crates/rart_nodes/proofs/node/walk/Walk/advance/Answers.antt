@@ -46,9 +46,9 @@ returns-in-Some-value-clause-visits g c =
     omega (arith, t.counted, c.loop-self.invariant.visits, c.in-Some-enter_deepest.ensures.counted)
 
 pub returns-in-Some-value-clause-few : goal.returns-in-Some-value-clause-few
-returns-in-Some-value-clause-few g c = λ tells.
-    visit-one g.T.Keeps.grown _ _ _ _ _ _ _ _ c.in-Some-enter_deepest.at.node.now _ _ tells c.loop-self.invariant.path
-    (c.loop-self.invariant.few tells) c.in-Some-enter_deepest.ensures.shown c.go_on.ensures.kept
+returns-in-Some-value-clause-few g c = λ bytes.
+    visit-one g.T.Keeps.grown _ _ _ _ _ _ _ _ c.in-Some-enter_deepest.at.node.now _ _ bytes c.loop-self.invariant.path
+    (c.loop-self.invariant.few bytes) c.in-Some-enter_deepest.ensures.shown c.go_on.ensures.kept
     c.in-Some-enter_deepest.ensures.counted
 
 pub returns-in-Some-value-clause-paid : goal.returns-in-Some-value-clause-paid
@@ -72,10 +72,10 @@ loop-self-preserved g c =
       still = sym (t.still ∙ rw (← c.in_default-value.ensures) refl) ∙ c.loop-self.invariant.still;
       visits = omega (arith, t.counted, c.loop-self.invariant.visits, c.in-Some-enter_deepest.ensures.counted);
       longest = c.loop-self.invariant.longest;
-      few = λ tells. visit-on _ _ c.in-Some-enter_deepest.at.node.now _ _ _ c.in-Some-enter_deepest.at.canonical
+      few = λ bytes. visit-on _ _ c.in-Some-enter_deepest.at.node.now _ _ _ c.in-Some-enter_deepest.at.canonical
           c.in_default-value.ensures c.go_on.ensures.levels
-          (visit-one g.T.Keeps.grown _ _ _ _ _ _ _ _ c.in-Some-enter_deepest.at.node.now _ _ tells
-          c.loop-self.invariant.path (c.loop-self.invariant.few tells) c.in-Some-enter_deepest.ensures.shown
+          (visit-one g.T.Keeps.grown _ _ _ _ _ _ _ _ c.in-Some-enter_deepest.at.node.now _ _ bytes
+          c.loop-self.invariant.path (c.loop-self.invariant.few bytes) c.in-Some-enter_deepest.ensures.shown
           c.go_on.ensures.kept c.in-Some-enter_deepest.ensures.counted);
       potential = potential-on _ _ _ _ _ _ c.in-Some-enter_deepest.at.node.now _ _ _
           c.in-Some-enter_deepest.at.canonical c.in_default-value.ensures c.in-Some-enter_deepest.ensures.shown
@@ -104,7 +104,7 @@ loop-self-preserved-in-None g c =
       still = sym t.still ∙ c.loop-self.invariant.still;
       visits = omega (arith, t.counted, c.loop-self.invariant.visits, c.in-None.ensures.counted);
       longest = c.loop-self.invariant.longest;
-      few = λ tells. visit-none _ _ _ _ _ _ c.take_last.new.self.items (c.loop-self.invariant.few tells)
+      few = λ bytes. visit-none _ _ _ _ _ _ c.take_last.new.self.items (c.loop-self.invariant.few bytes)
           c.in-None.ensures.shown c.in-None.ensures.counted;
       potential = potential-leave _ _ _ _ _ _ _ c.take_last.result c.in-None.ensures.shown c.take_last.ensures.items
           c.in-None.ensures.counted c.loop-self.invariant.potential;

@@ -11,7 +11,7 @@ use Rattle.rart_nodes.specs.walks.Walk.{entries_below, tree_count}
 use Rattle.rart_nodes.proofs.ranges.PotentialLemmas.{height-on, low-above, low-all, low-start}
 use Rattle.rart_nodes.proofs.ranges.StartLemmas.{ahead-ended, ahead-higher, ahead-lower, ahead-on, ahead-start}
 use Rattle.rart_nodes.proofs.ranges.StartLemmas.{value_if}
-use Rattle.rart_nodes.proofs.ranges.StartPaths.{all-deepened, some-deepened, way-on}
+use Rattle.rart_nodes.proofs.ranges.StartPaths.{all-deepened, some-deepened, path-on}
 use Rattle.rart_nodes.proofs.tries.CanonicalTests.{IsCanonical-test}
 use Rattle.rart_nodes.proofs.walks.SeenLemmas.{child-falls, step-left, step-on}
 use Rattle.rart_nodes.proofs.walks.WalkLemmas.{longest-below, prefix-short}
@@ -22,7 +22,7 @@ pub loop-next-init : goal.loop-next-init
 loop-next-init g c = record {
   first = c.requires.first;
   path = no-walk _ _ _ _ c.requires.nothing c.requires.empty_walk;
-  way = (
+  fits = (
     omega (arith, ap length c.requires.nothing, c.requires.short),
     omega (
       arith,
@@ -46,7 +46,7 @@ loop-next-init g c = record {
 pub deepen-requires : goal.deepen-requires
 deepen-requires g c κs =
     let t = c.enter-at.result.node.now in
-    let w = rw (c.in-Some.is, ← c.enter-at.ensures.shown) at c.loop-next.invariant.way in (
+    let w = rw (c.in-Some.is, ← c.enter-at.ensures.shown) at c.loop-next.invariant.fits in (
       (refl, tt),
       (
         omega (arith, w.0, prefix-short t c.enter-at.result.canonical, c.loop-next.invariant.room),
@@ -57,7 +57,7 @@ deepen-requires g c κs =
 
 pub returns-in-Greater-clause-path : goal.returns-in-Greater-clause-path
 returns-in-Greater-clause-path g c =
-    let w = rw (c.in-Some.is, ← c.enter-at.ensures.shown) at c.loop-next.invariant.way in
+    let w = rw (c.in-Some.is, ← c.enter-at.ensures.shown) at c.loop-next.invariant.fits in
     (all-deepened g.T.Keeps.grown _ _ _ _ _ c.enter-at.result.node.now _ _ _ g.T.Keeps.short c.enter-at.result.canonical
     c.loop-next.invariant.path c.loop-next.invariant.places w c.deepen.ensures.kept c.branches.ensures
     c.deepen.ensures.levels c.deepen.ensures.level_room).path
@@ -65,7 +65,7 @@ returns-in-Greater-clause-path g c =
 pub returns-in-Greater-clause-entries : goal.returns-in-Greater-clause-entries
 returns-in-Greater-clause-entries g c =
     let t = c.enter-at.result.node.now in
-    let w = rw (c.in-Some.is, ← c.enter-at.ensures.shown) at c.loop-next.invariant.way in
+    let w = rw (c.in-Some.is, ← c.enter-at.ensures.shown) at c.loop-next.invariant.fits in
     let d = all-deepened g.T.Keeps.grown _ _ _ _ _ t _ _ _ g.T.Keeps.short c.enter-at.result.canonical
     c.loop-next.invariant.path c.loop-next.invariant.places w c.deepen.ensures.kept c.branches.ensures
     c.deepen.ensures.levels c.deepen.ensures.level_room in
@@ -117,7 +117,7 @@ returns-in_default-cmp g c =
 pub deepen-requires-in_default-first : goal.deepen-requires-in_default-first
 deepen-requires-in_default-first g c κs =
     let t = c.enter-at.result.node.now in
-    let w = rw (c.in-Some.is, ← c.enter-at.ensures.shown) at c.loop-next.invariant.way in (
+    let w = rw (c.in-Some.is, ← c.enter-at.ensures.shown) at c.loop-next.invariant.fits in (
       (refl, tt),
       (
         omega (arith, w.0, prefix-short t c.enter-at.result.canonical, c.loop-next.invariant.room),
@@ -128,7 +128,7 @@ deepen-requires-in_default-first g c κs =
 
 pub returns-then-included-clause-path : goal.returns-then-included-clause-path
 returns-then-included-clause-path g c =
-    let w = rw (c.in-Some.is, ← c.enter-at.ensures.shown) at c.loop-next.invariant.way in
+    let w = rw (c.in-Some.is, ← c.enter-at.ensures.shown) at c.loop-next.invariant.fits in
     (all-deepened g.T.Keeps.grown _ _ _ _ _ c.enter-at.result.node.now _ _ _ g.T.Keeps.short c.enter-at.result.canonical
     c.loop-next.invariant.path c.loop-next.invariant.places w c.deepen-in_default-first.ensures.kept
     c.branches-in_default-first.ensures c.deepen-in_default-first.ensures.levels
@@ -138,7 +138,7 @@ pub returns-then-included-clause-entries : goal.returns-then-included-clause-ent
 returns-then-included-clause-entries g c =
     let t = c.enter-at.result.node.now in
     let k1 = g.T.Path.kept c.deepen-in_default-first.new.path in
-    let w = rw (c.in-Some.is, ← c.enter-at.ensures.shown) at c.loop-next.invariant.way in
+    let w = rw (c.in-Some.is, ← c.enter-at.ensures.shown) at c.loop-next.invariant.fits in
     let d = all-deepened g.T.Keeps.grown _ _ _ _ _ t _ _ _ g.T.Keeps.short c.enter-at.result.canonical
     c.loop-next.invariant.path c.loop-next.invariant.places w c.deepen-in_default-first.ensures.kept
     c.branches-in_default-first.ensures c.deepen-in_default-first.ensures.levels
@@ -162,7 +162,7 @@ returns-then-included-clause-low g c =
 
 pub returns-else-included-clause-path : goal.returns-else-included-clause-path
 returns-else-included-clause-path g c =
-    let w = rw (c.in-Some.is, ← c.enter-at.ensures.shown) at c.loop-next.invariant.way in
+    let w = rw (c.in-Some.is, ← c.enter-at.ensures.shown) at c.loop-next.invariant.fits in
     (all-deepened g.T.Keeps.grown _ _ _ _ _ c.enter-at.result.node.now _ _ _ g.T.Keeps.short c.enter-at.result.canonical
     c.loop-next.invariant.path c.loop-next.invariant.places w c.deepen-in_default-first.ensures.kept
     c.branches-in_default-first.ensures c.deepen-in_default-first.ensures.levels
@@ -172,7 +172,7 @@ pub returns-else-included-clause-entries : goal.returns-else-included-clause-ent
 returns-else-included-clause-entries g c =
     let t = c.enter-at.result.node.now in
     let k1 = g.T.Path.kept c.deepen-in_default-first.new.path in
-    let w = rw (c.in-Some.is, ← c.enter-at.ensures.shown) at c.loop-next.invariant.way in
+    let w = rw (c.in-Some.is, ← c.enter-at.ensures.shown) at c.loop-next.invariant.fits in
     let d = all-deepened g.T.Keeps.grown _ _ _ _ _ t _ _ _ g.T.Keeps.short c.enter-at.result.canonical
     c.loop-next.invariant.path c.loop-next.invariant.places w c.deepen-in_default-first.ensures.kept
     c.branches-in_default-first.ensures c.deepen-in_default-first.ensures.levels
@@ -197,7 +197,7 @@ returns-else-included-clause-low g c =
 pub deepen-requires-in-Some : goal.deepen-requires-in-Some
 deepen-requires-in-Some g c κs =
     let t = c.enter-at.result.node.now in
-    let w = rw (c.in-Some.is, ← c.enter-at.ensures.shown) at c.loop-next.invariant.way in (
+    let w = rw (c.in-Some.is, ← c.enter-at.ensures.shown) at c.loop-next.invariant.fits in (
       (refl, tt),
       (
         omega (arith, w.0, prefix-short t c.enter-at.result.canonical, c.loop-next.invariant.room),
@@ -218,7 +218,7 @@ pub loop-next-preserved : goal.loop-next-preserved
 loop-next-preserved g c =
     let t = c.enter-at.result.node.now in
     let k = g.T.Path.kept c.loop-next.path in
-    let w = rw (c.in-Some.is, ← c.enter-at.ensures.shown) at c.loop-next.invariant.way in
+    let w = rw (c.in-Some.is, ← c.enter-at.ensures.shown) at c.loop-next.invariant.fits in
     let e : Some c.in-Some-strip_prefix.after.now ≡ strip_prefix (prefix_of t) c.loop-next.rest.now
     = rw c.prefix.ensures at c.in-Some-strip_prefix.ensures in
     let d = some-deepened g.T.Keeps.grown _ _ _ c.in-Some-first.byte.now _ _ t _ _ _ g.T.Keeps.short
@@ -230,7 +230,7 @@ loop-next-preserved g c =
     record {
       first = c.loop-next.invariant.first;
       path = d.path;
-      way = way-on g.T.Keeps.grown _ c.in-Some-first.byte.now k _ t _ _ _ _ g.T.Keeps.short c.enter-at.result.canonical
+      fits = path-on g.T.Keeps.grown _ c.in-Some-first.byte.now k _ t _ _ _ _ g.T.Keeps.short c.enter-at.result.canonical
           w c.deepen-in-Some.ensures.kept c.deepen-in-Some.ensures.levels c.child-next.ensures;
       room = omega (arith, c.loop-next.invariant.room, c.deepen-in-Some.ensures.path_room);
       requested = c.deepen-in-Some.ensures.requested ∙ c.loop-next.invariant.requested;

@@ -1,8 +1,8 @@
 //! The path of an intersection.
 ghost use Rattle.std.specs.Prelude.{◌≡◌, length};
-ghost use Rattle.rart_nodes.specs.joins.JoinPaths.{WayCut, WayGrown, WayRoom, way_mark};
+ghost use Rattle.rart_nodes.specs.joins.JoinPaths.{PathCut, PathGrown, PathRoom, path_mark};
 
-/// What is kept of a way.
+/// What an intersection keeps of its path.
 #[derive(Drop)]
 pub(crate) enum JoinPath<'a> {
     /// Nothing.
@@ -16,7 +16,7 @@ pub(crate) enum JoinPath<'a> {
 impl<'a> JoinPath<'a> {
     /// Returns the length of what is kept.
     pub(crate) fn mark(&self) -> usize
-        ensures { result ≡ way_mark self.now }
+        ensures { result ≡ path_mark self.now }
     {
         match self {
             JoinPath::Untold => 0,
@@ -27,8 +27,8 @@ impl<'a> JoinPath<'a> {
 
     /// Appends a segment of a prefix. It does not allocate.
     pub(crate) fn grow(&mut self, segment: &'a [u8])
-        requires { WayRoom self.old (length segment.now) }
-        ensures { WayGrown self.old segment.now self.new }
+        requires { PathRoom self.old (length segment.now) }
+        ensures { PathGrown self.old segment.now self.new }
     {
         match self {
             JoinPath::Untold => {}
@@ -47,7 +47,7 @@ impl<'a> JoinPath<'a> {
 
     /// Truncates the path to the length `mark`.
     pub(crate) fn cut(&mut self, mark: usize)
-        ensures { WayCut mark self.old self.new }
+        ensures { PathCut mark self.old self.new }
     {
         match self {
             JoinPath::Untold => {}

@@ -1,23 +1,23 @@
--- How what is kept of a way stays, goes on and goes back.
+-- How what is kept of a path stays, goes on and goes back.
 use Rattle.std.proofs.Common.{◌≡◌, ℕ, ◌≤◌, ◌==◌, true, false, List, [], ◌∷◌, ◌++◌, length, take, vec_capacity, refl}
 use Rattle.std.proofs.Common.{arith, sym, ap, ◌∙◌}
 use Rattle.std.proofs.lemmas.List.{append_assoc, append-nil, length-map, map-append, take-map}
 use Rattle.std.proofs.Math.Seq.{take-append_seam}
 use Rattle.std.specs.Borrow.{Bor}
 use Rattle.std.specs.Global.{Vec}
-use Rattle.rart_nodes.specs.declared.node.intersect.way.JoinPath.TheVariants.{Untold, Bytes, Segments}
+use Rattle.rart_nodes.specs.declared.node.intersect.join_path.JoinPath.TheVariants.{Untold, Bytes, Segments}
 use Rattle.rart_keys.proofs.ByteOrder.{eq-yes}
-use Rattle.rart_nodes.specs.joins.JoinPaths.{Kept, WayGrown, WayCut, BytesGrown, BytesCut, SegmentsGrown, SegmentsCut}
-use Rattle.rart_nodes.specs.joins.JoinPaths.{way_mark}
+use Rattle.rart_nodes.specs.joins.JoinPaths.{Kept, PathGrown, PathCut, BytesGrown, BytesCut, SegmentsGrown, SegmentsCut}
+use Rattle.rart_nodes.specs.joins.JoinPaths.{path_mark}
 use Rattle.rart_nodes.specs.walks.SegmentLaws.{joined-append, full-append}
 use Rattle.rart_nodes.specs.walks.Walk.{joined_bytes}
 use Rattle.rart_nodes.specs.walks.PathParts.{lent_segments}
 use Rattle.rart_nodes.specs.walks.ViewSegments.{all_have_bytes}
 
-pub way-stays : (s : Kept) → WayGrown s [] s
-way-stays Untold = tt
-way-stays (Bytes k) = record { bytes = sym (append-nil k.items); place = omega arith }
-way-stays (Segments k) = record {
+pub path-stays : (s : Kept) → PathGrown s [] s
+path-stays Untold = tt
+path-stays (Bytes k) = record { bytes = sym (append-nil k.items); place = omega arith }
+path-stays (Segments k) = record {
   more = [];
   segments = sym (append-nil (lent_segments k.items));
   bytes = refl;
@@ -58,22 +58,22 @@ segments-on k l m p q a b = record {
   place = omega (arith, a.place, b.place);
 }
 
-pub way-on : (s t u : Kept) (p q : List ℕ) → WayGrown s p t → WayGrown t q u → WayGrown s (p ++ q) u
-way-on Untold Untold Untold p q a b = tt
-way-on Untold Untold (Bytes m) p q a b = absurd b
-way-on Untold Untold (Segments m) p q a b = absurd b
-way-on Untold (Bytes l) u p q a b = absurd a
-way-on Untold (Segments l) u p q a b = absurd a
-way-on (Bytes k) Untold u p q a b = absurd a
-way-on (Bytes k) (Bytes l) Untold p q a b = absurd b
-way-on (Bytes k) (Bytes l) (Bytes m) p q a b = bytes-on k l m p q a b
-way-on (Bytes k) (Bytes l) (Segments m) p q a b = absurd b
-way-on (Bytes k) (Segments l) u p q a b = absurd a
-way-on (Segments k) Untold u p q a b = absurd a
-way-on (Segments k) (Bytes l) u p q a b = absurd a
-way-on (Segments k) (Segments l) Untold p q a b = absurd b
-way-on (Segments k) (Segments l) (Bytes m) p q a b = absurd b
-way-on (Segments k) (Segments l) (Segments m) p q a b = segments-on k l m p q a b
+pub path-on : (s t u : Kept) (p q : List ℕ) → PathGrown s p t → PathGrown t q u → PathGrown s (p ++ q) u
+path-on Untold Untold Untold p q a b = tt
+path-on Untold Untold (Bytes m) p q a b = absurd b
+path-on Untold Untold (Segments m) p q a b = absurd b
+path-on Untold (Bytes l) u p q a b = absurd a
+path-on Untold (Segments l) u p q a b = absurd a
+path-on (Bytes k) Untold u p q a b = absurd a
+path-on (Bytes k) (Bytes l) Untold p q a b = absurd b
+path-on (Bytes k) (Bytes l) (Bytes m) p q a b = bytes-on k l m p q a b
+path-on (Bytes k) (Bytes l) (Segments m) p q a b = absurd b
+path-on (Bytes k) (Segments l) u p q a b = absurd a
+path-on (Segments k) Untold u p q a b = absurd a
+path-on (Segments k) (Bytes l) u p q a b = absurd a
+path-on (Segments k) (Segments l) Untold p q a b = absurd b
+path-on (Segments k) (Segments l) (Bytes m) p q a b = absurd b
+path-on (Segments k) (Segments l) (Segments m) p q a b = segments-on k l m p q a b
 
 bytes-back : (k l m : Vec ℕ) (p : List ℕ) → BytesGrown k p l → BytesCut (length k.items) l m → BytesGrown k [] m
 bytes-back k l m p a b = record {
@@ -99,19 +99,19 @@ segments-back k l m p a b =
           = omega (arith, a.place, b.place);
     }
 
-pub way-back : (s t u : Kept) (p : List ℕ) → WayGrown s p t → WayCut (way_mark s) t u → WayGrown s [] u
-way-back Untold Untold Untold p a b = tt
-way-back Untold Untold (Bytes m) p a b = absurd b
-way-back Untold Untold (Segments m) p a b = absurd b
-way-back Untold (Bytes l) u p a b = absurd a
-way-back Untold (Segments l) u p a b = absurd a
-way-back (Bytes k) Untold u p a b = absurd a
-way-back (Bytes k) (Bytes l) Untold p a b = absurd b
-way-back (Bytes k) (Bytes l) (Bytes m) p a b = bytes-back k l m p a b
-way-back (Bytes k) (Bytes l) (Segments m) p a b = absurd b
-way-back (Bytes k) (Segments l) u p a b = absurd a
-way-back (Segments k) Untold u p a b = absurd a
-way-back (Segments k) (Bytes l) u p a b = absurd a
-way-back (Segments k) (Segments l) Untold p a b = absurd b
-way-back (Segments k) (Segments l) (Bytes m) p a b = absurd b
-way-back (Segments k) (Segments l) (Segments m) p a b = segments-back k l m p a b
+pub path-back : (s t u : Kept) (p : List ℕ) → PathGrown s p t → PathCut (path_mark s) t u → PathGrown s [] u
+path-back Untold Untold Untold p a b = tt
+path-back Untold Untold (Bytes m) p a b = absurd b
+path-back Untold Untold (Segments m) p a b = absurd b
+path-back Untold (Bytes l) u p a b = absurd a
+path-back Untold (Segments l) u p a b = absurd a
+path-back (Bytes k) Untold u p a b = absurd a
+path-back (Bytes k) (Bytes l) Untold p a b = absurd b
+path-back (Bytes k) (Bytes l) (Bytes m) p a b = bytes-back k l m p a b
+path-back (Bytes k) (Bytes l) (Segments m) p a b = absurd b
+path-back (Bytes k) (Segments l) u p a b = absurd a
+path-back (Segments k) Untold u p a b = absurd a
+path-back (Segments k) (Bytes l) u p a b = absurd a
+path-back (Segments k) (Segments l) Untold p a b = absurd b
+path-back (Segments k) (Segments l) (Bytes m) p a b = absurd b
+path-back (Segments k) (Segments l) (Segments m) p a b = segments-back k l m p a b

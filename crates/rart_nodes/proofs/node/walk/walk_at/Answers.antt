@@ -1,7 +1,7 @@
 use Rattle.std.proofs.Common.{rules, [], ◌∷◌, ◌<◌, ◌++◌, length, vec_capacity, arith, ap, ◌∙◌, refl}
 use Rattle.rart_nodes.proofs.walks.WalkLemmas.{prefix-short}
 use Rattle.rart_nodes.proofs.walks.WalkStarts.{start, start-entries, start-nodes}
-use Rattle.rart_nodes.proofs.node.walk.start.Goals as goal
+use Rattle.rart_nodes.proofs.node.walk.walk_at.Goals as goal
 
 pub grow-requires : goal.grow-requires
 grow-requires g c κs = (

@@ -1,6 +1,6 @@
 use Rattle.std.proofs.Common.{arith, sym, ◌∙◌}
-use Rattle.rart_nodes.proofs.joins.WayLemmas.{segments-one}
-use Rattle.rart_nodes.proofs.node.intersect.way.JoinPath.grow.Goals as goal
+use Rattle.rart_nodes.proofs.joins.JoinPathLemmas.{segments-one}
+use Rattle.rart_nodes.proofs.node.intersect.join_path.JoinPath.grow.Goals as goal
 
 pub returns-then-not-is_empty : goal.returns-then-not-is_empty
 returns-then-not-is_empty c = rw c.in-Segments.is
