@@ -4,7 +4,7 @@ use Rattle.std.specs.Borrow.{Bor}
 use Rattle.std.specs.Fn.{Mut, always_mut}
 use Rattle.std.specs.Global.{Vec}
 use Rattle.rart_keys.specs.SortedMap.{values_of}
-use Rattle.rart_nodes.specs.declared.node.intersect.join_path.JoinPath.TheVariants.{Untold, Bytes, Segments}
+use Rattle.rart_nodes.specs.declared.node.intersect.join_path.JoinPath.TheVariants.{Nothing, Bytes, Segments}
 use Rattle.rart_nodes.specs.declared.node.view.LendingKeyView.{LendingKeyView}
 use Rattle.rart_nodes.specs.joins.Visitors.{CanGive, CanGiveKeys, CanGiveValues, CanGiveViews, GivenKeys, GivenValues}
 use Rattle.rart_nodes.specs.joins.Visitors.{GivenViews}
@@ -18,7 +18,7 @@ use Rattle.rart_nodes.proofs.joins.VisitorLemmas.{given-whole}
 use Rattle.rart_nodes.proofs.walks.CallLemmas.{always-now, always-on, can-kept, folds-keep}
 
 pub can-values : {F X : Type 0} (r : F → X → F → Type 0) (q : F → X → Type 0) (f : F) (es : List (List ℕ × X))
-    → CallableAtEach r q f (values_of es) → CanGive (CanGiveValues q) (GivenValues r) Untold f es
+    → CallableAtEach r q f (values_of es) → CanGive (CanGiveValues q) (GivenValues r) Nothing f es
 can-values r q f es h = record {
   at = λ before x after g e k. h.at (values_of before) x.1 (values_of after) g
       (ap (λ z. values_of z) e ∙ values-append before (x ∷ after)) k;

@@ -5,7 +5,7 @@ use Rattle.std.proofs.lemmas.List.{append_assoc, append-nil, length-map, map-app
 use Rattle.std.proofs.Math.Seq.{take-append_seam}
 use Rattle.std.specs.Borrow.{Bor}
 use Rattle.std.specs.Global.{Vec}
-use Rattle.rart_nodes.specs.declared.node.intersect.join_path.JoinPath.TheVariants.{Untold, Bytes, Segments}
+use Rattle.rart_nodes.specs.declared.node.intersect.join_path.JoinPath.TheVariants.{Nothing, Bytes, Segments}
 use Rattle.rart_keys.proofs.ByteOrder.{eq-yes}
 use Rattle.rart_nodes.specs.joins.JoinPaths.{Kept, PathGrown, PathCut, BytesGrown, BytesCut, SegmentsGrown, SegmentsCut}
 use Rattle.rart_nodes.specs.joins.JoinPaths.{path_mark}
@@ -15,7 +15,7 @@ use Rattle.rart_nodes.specs.walks.PathParts.{lent_segments}
 use Rattle.rart_nodes.specs.walks.ViewSegments.{all_have_bytes}
 
 pub path-stays : (s : Kept) → PathGrown s [] s
-path-stays Untold = tt
+path-stays Nothing = tt
 path-stays (Bytes k) = record { bytes = sym (append-nil k.items); place = omega arith }
 path-stays (Segments k) = record {
   more = [];
@@ -59,19 +59,19 @@ segments-on k l m p q a b = record {
 }
 
 pub path-on : (s t u : Kept) (p q : List ℕ) → PathGrown s p t → PathGrown t q u → PathGrown s (p ++ q) u
-path-on Untold Untold Untold p q a b = tt
-path-on Untold Untold (Bytes m) p q a b = absurd b
-path-on Untold Untold (Segments m) p q a b = absurd b
-path-on Untold (Bytes l) u p q a b = absurd a
-path-on Untold (Segments l) u p q a b = absurd a
-path-on (Bytes k) Untold u p q a b = absurd a
-path-on (Bytes k) (Bytes l) Untold p q a b = absurd b
+path-on Nothing Nothing Nothing p q a b = tt
+path-on Nothing Nothing (Bytes m) p q a b = absurd b
+path-on Nothing Nothing (Segments m) p q a b = absurd b
+path-on Nothing (Bytes l) u p q a b = absurd a
+path-on Nothing (Segments l) u p q a b = absurd a
+path-on (Bytes k) Nothing u p q a b = absurd a
+path-on (Bytes k) (Bytes l) Nothing p q a b = absurd b
 path-on (Bytes k) (Bytes l) (Bytes m) p q a b = bytes-on k l m p q a b
 path-on (Bytes k) (Bytes l) (Segments m) p q a b = absurd b
 path-on (Bytes k) (Segments l) u p q a b = absurd a
-path-on (Segments k) Untold u p q a b = absurd a
+path-on (Segments k) Nothing u p q a b = absurd a
 path-on (Segments k) (Bytes l) u p q a b = absurd a
-path-on (Segments k) (Segments l) Untold p q a b = absurd b
+path-on (Segments k) (Segments l) Nothing p q a b = absurd b
 path-on (Segments k) (Segments l) (Bytes m) p q a b = absurd b
 path-on (Segments k) (Segments l) (Segments m) p q a b = segments-on k l m p q a b
 
@@ -100,18 +100,18 @@ segments-back k l m p a b =
     }
 
 pub path-back : (s t u : Kept) (p : List ℕ) → PathGrown s p t → PathCut (path_mark s) t u → PathGrown s [] u
-path-back Untold Untold Untold p a b = tt
-path-back Untold Untold (Bytes m) p a b = absurd b
-path-back Untold Untold (Segments m) p a b = absurd b
-path-back Untold (Bytes l) u p a b = absurd a
-path-back Untold (Segments l) u p a b = absurd a
-path-back (Bytes k) Untold u p a b = absurd a
-path-back (Bytes k) (Bytes l) Untold p a b = absurd b
+path-back Nothing Nothing Nothing p a b = tt
+path-back Nothing Nothing (Bytes m) p a b = absurd b
+path-back Nothing Nothing (Segments m) p a b = absurd b
+path-back Nothing (Bytes l) u p a b = absurd a
+path-back Nothing (Segments l) u p a b = absurd a
+path-back (Bytes k) Nothing u p a b = absurd a
+path-back (Bytes k) (Bytes l) Nothing p a b = absurd b
 path-back (Bytes k) (Bytes l) (Bytes m) p a b = bytes-back k l m p a b
 path-back (Bytes k) (Bytes l) (Segments m) p a b = absurd b
 path-back (Bytes k) (Segments l) u p a b = absurd a
-path-back (Segments k) Untold u p a b = absurd a
+path-back (Segments k) Nothing u p a b = absurd a
 path-back (Segments k) (Bytes l) u p a b = absurd a
-path-back (Segments k) (Segments l) Untold p a b = absurd b
+path-back (Segments k) (Segments l) Nothing p a b = absurd b
 path-back (Segments k) (Segments l) (Bytes m) p a b = absurd b
 path-back (Segments k) (Segments l) (Segments m) p a b = segments-back k l m p a b

@@ -6,7 +6,7 @@ use Rattle.std.specs.Global.{Vec}
 use Rattle.std.specs.List.{FoldsTo}
 use Rattle.rart_keys.specs.KeyBytes.{IsWithin}
 use Rattle.rart_keys.specs.SortedMap.{values_of}
-use Rattle.rart_nodes.specs.declared.node.intersect.join_path.JoinPath.TheVariants.{Untold, Bytes, Segments}
+use Rattle.rart_nodes.specs.declared.node.intersect.join_path.JoinPath.TheVariants.{Nothing, Bytes, Segments}
 use Rattle.rart_nodes.specs.joins.JoinPaths.{Kept, PathRoom, PathGrown}
 use Rattle.rart_nodes.specs.tries.Trie.{with_prefix}
 use Rattle.rart_nodes.specs.walks.Walk.{joined_bytes}
@@ -56,17 +56,17 @@ pub record KeyRoom (most : Option ℕ) (k : Vec ℕ) (n : ℕ) : Type 0 where
   pub within : IsWithin most (length k.items + n)
 
 abbrev pub KeysRoom : Option ℕ → Kept → ℕ → Type 0
-KeysRoom most Untold n = ⊥
+KeysRoom most Nothing n = ⊥
 KeysRoom most (Bytes k) n = KeyRoom most k n
 KeysRoom most (Segments k) n = ⊥
 
 abbrev pub GivenKeys : {F X : Type 0} → (F → List ℕ × X → F → Type 0) → Kept → F → List (List ℕ × X) → F → Type 0
-GivenKeys r Untold f es g = Unit {0}
+GivenKeys r Nothing f es g = Unit {0}
 GivenKeys r (Bytes k) f es g = FoldsTo r f (with_prefix k.items es) g
 GivenKeys r (Segments k) f es g = Unit {0}
 
 abbrev pub CanGiveKeys : {F X : Type 0} → (F → List ℕ × X → Type 0) → Kept → F → List ℕ × X → Type 0
-CanGiveKeys q Untold f x = Unit {0}
+CanGiveKeys q Nothing f x = Unit {0}
 CanGiveKeys q (Bytes k) f x = q f (k.items ++ x.0, x.1)
 CanGiveKeys q (Segments k) f x = Unit {0}
 
@@ -77,16 +77,16 @@ pub record ViewRoom (k : Vec (Bor (List ℕ))) (n : ℕ) : Type 0 where
   pub full : all_have_bytes (lent_segments k.items) ≡ true
 
 abbrev pub ViewsRoom : Kept → ℕ → Type 0
-ViewsRoom Untold n = ⊥
+ViewsRoom Nothing n = ⊥
 ViewsRoom (Bytes k) n = ⊥
 ViewsRoom (Segments k) n = ViewRoom k n
 
 abbrev pub GivenViews : {F X : Type 0} → (F → List ℕ × X → F → Type 0) → Kept → F → List (List ℕ × X) → F → Type 0
-GivenViews r Untold f es g = Unit {0}
+GivenViews r Nothing f es g = Unit {0}
 GivenViews r (Bytes k) f es g = Unit {0}
 GivenViews r (Segments k) f es g = FoldsTo r f (with_prefix (joined_bytes (lent_segments k.items)) es) g
 
 abbrev pub CanGiveViews : {F X : Type 0} → (F → List ℕ × X → Type 0) → Kept → F → List ℕ × X → Type 0
-CanGiveViews q Untold f x = Unit {0}
+CanGiveViews q Nothing f x = Unit {0}
 CanGiveViews q (Bytes k) f x = Unit {0}
 CanGiveViews q (Segments k) f x = q f (joined_bytes (lent_segments k.items) ++ x.0, x.1)

@@ -3,7 +3,7 @@ use Rattle.std.specs.Prelude.{ℕ, ◌≡◌, ◌+◌, ◌≤◌, true, List, �
 use Rattle.std.specs.Borrow.{Bor}
 use Rattle.std.specs.Global.{Vec}
 use Rattle.rart_nodes.specs.declared.node.intersect.join_path.JoinPath.{JoinPath}
-use Rattle.rart_nodes.specs.declared.node.intersect.join_path.JoinPath.TheVariants.{Untold, Bytes, Segments}
+use Rattle.rart_nodes.specs.declared.node.intersect.join_path.JoinPath.TheVariants.{Nothing, Bytes, Segments}
 use Rattle.rart_nodes.specs.walks.Walk.{SegmentList, joined_bytes}
 use Rattle.rart_nodes.specs.walks.PathParts.{lent_segments}
 use Rattle.rart_nodes.specs.walks.ViewSegments.{all_have_bytes}
@@ -13,19 +13,19 @@ Kept = JoinPath
 
 -- how much is kept
 abbrev pub path_mark : Kept → ℕ
-path_mark Untold = 0
+path_mark Nothing = 0
 path_mark (Bytes k) = length k.items
 path_mark (Segments k) = length k.items
 
 -- there is room for n bytes more
 abbrev pub PathRoom : Kept → ℕ → Type 0
-PathRoom Untold n = Unit {0}
+PathRoom Nothing n = Unit {0}
 PathRoom (Bytes k) n = length k.items + n ≤ vec_capacity k
 PathRoom (Segments k) n = length k.items + n ≤ vec_capacity k
 
 -- the room is that for n bytes, and no more
 abbrev pub HasRoomOf : ℕ → Kept → Type 0
-HasRoomOf n Untold = Unit {0}
+HasRoomOf n Nothing = Unit {0}
 HasRoomOf n (Bytes k) = vec_capacity k ≡ n
 HasRoomOf n (Segments k) = vec_capacity k ≡ n
 
@@ -42,13 +42,13 @@ pub record SegmentsGrown (k : Vec (Bor (List ℕ))) (p : List ℕ) (l : Vec (Bor
   pub place : vec_capacity k ≤ vec_capacity l
 
 abbrev pub PathGrown : Kept → List ℕ → Kept → Type 0
-PathGrown Untold p Untold = Unit {0}
-PathGrown Untold p (Bytes l) = ⊥
-PathGrown Untold p (Segments l) = ⊥
-PathGrown (Bytes k) p Untold = ⊥
+PathGrown Nothing p Nothing = Unit {0}
+PathGrown Nothing p (Bytes l) = ⊥
+PathGrown Nothing p (Segments l) = ⊥
+PathGrown (Bytes k) p Nothing = ⊥
 PathGrown (Bytes k) p (Bytes l) = BytesGrown k p l
 PathGrown (Bytes k) p (Segments l) = ⊥
-PathGrown (Segments k) p Untold = ⊥
+PathGrown (Segments k) p Nothing = ⊥
 PathGrown (Segments k) p (Bytes l) = ⊥
 PathGrown (Segments k) p (Segments l) = SegmentsGrown k p l
 
@@ -62,12 +62,12 @@ pub record SegmentsCut (n : ℕ) (k l : Vec (Bor (List ℕ))) : Type 0 where
   pub place : vec_capacity k ≤ vec_capacity l
 
 abbrev pub PathCut : ℕ → Kept → Kept → Type 0
-PathCut n Untold Untold = Unit {0}
-PathCut n Untold (Bytes l) = ⊥
-PathCut n Untold (Segments l) = ⊥
-PathCut n (Bytes k) Untold = ⊥
+PathCut n Nothing Nothing = Unit {0}
+PathCut n Nothing (Bytes l) = ⊥
+PathCut n Nothing (Segments l) = ⊥
+PathCut n (Bytes k) Nothing = ⊥
 PathCut n (Bytes k) (Bytes l) = BytesCut n k l
 PathCut n (Bytes k) (Segments l) = ⊥
-PathCut n (Segments k) Untold = ⊥
+PathCut n (Segments k) Nothing = ⊥
 PathCut n (Segments k) (Bytes l) = ⊥
 PathCut n (Segments k) (Segments l) = SegmentsCut n k l

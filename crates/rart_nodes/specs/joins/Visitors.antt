@@ -25,7 +25,7 @@ use Rattle.std.proofs.lemmas.List.{length-map}
 use Rattle.std.specs.List.{FoldsTo}
 use Rattle.rart_keys.specs.KeyBytes.{IsWithin}
 use Rattle.rart_keys.specs.SortedMap.{values_of}
-use Rattle.rart_nodes.specs.declared.node.intersect.join_path.JoinPath.TheVariants.{Untold, Bytes, Segments}
+use Rattle.rart_nodes.specs.declared.node.intersect.join_path.JoinPath.TheVariants.{Nothing, Bytes, Segments}
 use Rattle.rart_nodes.specs.joins.JoinPaths.{Kept, PathRoom, PathGrown, BytesGrown, SegmentsGrown}
 use Rattle.rart_nodes.specs.tries.PrefixLaws.{prefix-append, prefix-twice, values-append, values-with_prefix}
 use Rattle.rart_nodes.specs.tries.Trie.{with_prefix}
@@ -65,13 +65,13 @@ segments_room k l p m n a b c =
     )
 
 pub path-room : (s t : Kept) (p : List ℕ) (m n : ℕ) → PathGrown s p t → PathRoom s m → length p + n ≤ m → PathRoom t n
-path-room Untold Untold p m n a b c = tt
-path-room Untold (Bytes l) p m n a b c = absurd a
-path-room Untold (Segments l) p m n a b c = absurd a
-path-room (Bytes k) Untold p m n a b c = absurd a
+path-room Nothing Nothing p m n a b c = tt
+path-room Nothing (Bytes l) p m n a b c = absurd a
+path-room Nothing (Segments l) p m n a b c = absurd a
+path-room (Bytes k) Nothing p m n a b c = absurd a
 path-room (Bytes k) (Bytes l) p m n a b c = bytes_room k l p m n a b c
 path-room (Bytes k) (Segments l) p m n a b c = absurd a
-path-room (Segments k) Untold p m n a b c = absurd a
+path-room (Segments k) Nothing p m n a b c = absurd a
 path-room (Segments k) (Bytes l) p m n a b c = absurd a
 path-room (Segments k) (Segments l) p m n a b c = segments_room k l p m n a b c
 
@@ -88,15 +88,15 @@ give_values r = record {
 }
 
 keys-hold : (most : Option ℕ) (s : Kept) (n : ℕ) → KeysRoom most s n → PathRoom s n
-keys-hold most Untold n h = absurd h
+keys-hold most Nothing n h = absurd h
 keys-hold most (Bytes k) n h = h.place
 keys-hold most (Segments k) n h = absurd h
 
 keys-room : (most : Option ℕ) (s t : Kept) (p : List ℕ) (m n : ℕ) → PathGrown s p t → KeysRoom most s m
     → length p + n ≤ m → KeysRoom most t n
-keys-room most Untold t p m n a b c = absurd b
+keys-room most Nothing t p m n a b c = absurd b
 keys-room most (Segments k) t p m n a b c = absurd b
-keys-room most (Bytes k) Untold p m n a b c = absurd a
+keys-room most (Bytes k) Nothing p m n a b c = absurd a
 keys-room most (Bytes k) (Segments l) p m n a b c = absurd a
 keys-room most (Bytes k) (Bytes l) p m n a b c = record {
   place = bytes_room k l p m n a b.place c;
@@ -105,33 +105,33 @@ keys-room most (Bytes k) (Bytes l) p m n a b c = record {
 }
 
 keys-none : {F X : Type 0} (r : F → List ℕ × X → F → Type 0) (s : Kept) (f : F) → GivenKeys r s f [] f
-keys-none r Untold f = tt
+keys-none r Nothing f = tt
 keys-none r (Bytes k) f = refl
 keys-none r (Segments k) f = tt
 
 keys-more : {F X : Type 0} (r : F → List ℕ × X → F → Type 0) (s : Kept) (f g h : F) (xs ys : List (List ℕ × X))
     → GivenKeys r s f xs g → GivenKeys r s g ys h → GivenKeys r s f (xs ++ ys) h
-keys-more r Untold f g h xs ys a b = tt
+keys-more r Nothing f g h xs ys a b = tt
 keys-more r (Bytes k) f g h xs ys a b = rw (prefix-append k.items xs ys)
     (folds-append r f g h (with_prefix k.items xs) (with_prefix k.items ys) a b)
 keys-more r (Segments k) f g h xs ys a b = tt
 
 keys-after : {F X : Type 0} (r : F → List ℕ × X → F → Type 0) (s t : Kept) (p : List ℕ) (f g : F)
     (es : List (List ℕ × X)) → PathGrown s p t → GivenKeys r t f es g → GivenKeys r s f (with_prefix p es) g
-keys-after r Untold t p f g es a b = tt
+keys-after r Nothing t p f g es a b = tt
 keys-after r (Segments k) t p f g es a b = tt
-keys-after r (Bytes k) Untold p f g es a b = absurd a
+keys-after r (Bytes k) Nothing p f g es a b = absurd a
 keys-after r (Bytes k) (Segments l) p f g es a b = absurd a
 keys-after r (Bytes k) (Bytes l) p f g es a b = rw (prefix-twice k.items p es, ← a.bytes) b
 
 pub can_keys : {F X : Type 0} (q : F → List ℕ × X → Type 0) → CanDeeper (CanGiveKeys q)
-can_keys q Untold Untold p f x w h = tt
-can_keys q Untold (Bytes l) p f x w h = absurd w
-can_keys q Untold (Segments l) p f x w h = tt
-can_keys q (Bytes k) Untold p f x w h = tt
+can_keys q Nothing Nothing p f x w h = tt
+can_keys q Nothing (Bytes l) p f x w h = absurd w
+can_keys q Nothing (Segments l) p f x w h = tt
+can_keys q (Bytes k) Nothing p f x w h = tt
 can_keys q (Bytes k) (Bytes l) p f x w h = rw (w.bytes, append_assoc k.items p x.0) h
 can_keys q (Bytes k) (Segments l) p f x w h = tt
-can_keys q (Segments k) Untold p f x w h = tt
+can_keys q (Segments k) Nothing p f x w h = tt
 can_keys q (Segments k) (Bytes l) p f x w h = absurd w
 can_keys q (Segments k) (Segments l) p f x w h = tt
 
@@ -147,14 +147,14 @@ give_keys most r = record {
 }
 
 views-hold : (s : Kept) (n : ℕ) → ViewsRoom s n → PathRoom s n
-views-hold Untold n h = absurd h
+views-hold Nothing n h = absurd h
 views-hold (Bytes k) n h = absurd h
 views-hold (Segments k) n h = h.place
 
 views-room : (s t : Kept) (p : List ℕ) (m n : ℕ) → PathGrown s p t → ViewsRoom s m → length p + n ≤ m → ViewsRoom t n
-views-room Untold t p m n a b c = absurd b
+views-room Nothing t p m n a b c = absurd b
 views-room (Bytes k) t p m n a b c = absurd b
-views-room (Segments k) Untold p m n a b c = absurd a
+views-room (Segments k) Nothing p m n a b c = absurd a
 views-room (Segments k) (Bytes l) p m n a b c = absurd a
 views-room (Segments k) (Segments l) p m n a b c = record {
   place = segments_room k l p m n a b.place c;
@@ -173,22 +173,22 @@ views-room (Segments k) (Segments l) p m n a b c = record {
 }
 
 views-none : {F X : Type 0} (r : F → List ℕ × X → F → Type 0) (s : Kept) (f : F) → GivenViews r s f [] f
-views-none r Untold f = tt
+views-none r Nothing f = tt
 views-none r (Bytes k) f = tt
 views-none r (Segments k) f = refl
 
 views-more : {F X : Type 0} (r : F → List ℕ × X → F → Type 0) (s : Kept) (f g h : F) (xs ys : List (List ℕ × X))
     → GivenViews r s f xs g → GivenViews r s g ys h → GivenViews r s f (xs ++ ys) h
-views-more r Untold f g h xs ys a b = tt
+views-more r Nothing f g h xs ys a b = tt
 views-more r (Bytes k) f g h xs ys a b = tt
 views-more r (Segments k) f g h xs ys a b = let p = joined_bytes (lent_segments k.items) in
     rw (prefix-append p xs ys) (folds-append r f g h (with_prefix p xs) (with_prefix p ys) a b)
 
 views-after : {F X : Type 0} (r : F → List ℕ × X → F → Type 0) (s t : Kept) (p : List ℕ) (f g : F)
     (es : List (List ℕ × X)) → PathGrown s p t → GivenViews r t f es g → GivenViews r s f (with_prefix p es) g
-views-after r Untold t p f g es a b = tt
+views-after r Nothing t p f g es a b = tt
 views-after r (Bytes k) t p f g es a b = tt
-views-after r (Segments k) Untold p f g es a b = absurd a
+views-after r (Segments k) Nothing p f g es a b = absurd a
 views-after r (Segments k) (Bytes l) p f g es a b = absurd a
 views-after r (Segments k) (Segments l) p f g es a b =
     let whole : joined_bytes (lent_segments l.items) ≡ joined_bytes (lent_segments k.items) ++ p = ap joined_bytes
@@ -197,13 +197,13 @@ views-after r (Segments k) (Segments l) p f g es a b =
     rw (prefix-twice (joined_bytes (lent_segments k.items)) p es, ← whole) b
 
 pub can_views : {F X : Type 0} (q : F → List ℕ × X → Type 0) → CanDeeper (CanGiveViews q)
-can_views q Untold Untold p f x w h = tt
-can_views q Untold (Bytes l) p f x w h = tt
-can_views q Untold (Segments l) p f x w h = absurd w
-can_views q (Bytes k) Untold p f x w h = tt
+can_views q Nothing Nothing p f x w h = tt
+can_views q Nothing (Bytes l) p f x w h = tt
+can_views q Nothing (Segments l) p f x w h = absurd w
+can_views q (Bytes k) Nothing p f x w h = tt
 can_views q (Bytes k) (Bytes l) p f x w h = tt
 can_views q (Bytes k) (Segments l) p f x w h = absurd w
-can_views q (Segments k) Untold p f x w h = tt
+can_views q (Segments k) Nothing p f x w h = tt
 can_views q (Segments k) (Bytes l) p f x w h = tt
 can_views q (Segments k) (Segments l) p f x w h =
     let whole : joined_bytes (lent_segments l.items) ≡ joined_bytes (lent_segments k.items) ++ p = ap joined_bytes

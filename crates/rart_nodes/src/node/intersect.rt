@@ -116,7 +116,7 @@ impl<'a, K: KeyTrait, V, C: Count> Seen<'a, K, V, C> {
         intersect_trees::<K, V, W, C, usize, Counted>(
             self,
             other,
-            &mut JoinPath::Untold,
+            &mut JoinPath::Nothing,
             counter,
             &mut count,
         );
@@ -144,7 +144,7 @@ impl<'a, K: KeyTrait, V, C: Count> Seen<'a, K, V, C> {
         ensures bound { C.number counter.new
             ≤ C.number counter.old + seen_bound self.entry other.entry }
     {
-        intersect_trees::<K, V, W, C, F, ByValues>(self, other, &mut JoinPath::Untold, counter, f);
+        intersect_trees::<K, V, W, C, F, ByValues>(self, other, &mut JoinPath::Nothing, counter, f);
     }
 
     /// Calls `f` as `intersect_values_with_by_ref_counted` does, and drops it.

@@ -5,11 +5,11 @@ ghost use Rattle.rart_nodes.specs.joins.JoinPaths.{PathCut, PathGrown, PathRoom,
 /// What an intersection keeps of its path.
 #[derive(Drop)]
 pub(crate) enum JoinPath<'a> {
-    /// Nothing.
-    Untold,
-    /// Its bytes.
+    /// Keeps nothing.
+    Nothing,
+    /// Keeps its bytes.
     Bytes(Vec<u8>),
-    /// The segments of prefixes that it went along, none of them empty.
+    /// Keeps the segments of the prefixes along it, none of them empty.
     Segments(Vec<&'a [u8]>),
 }
 
@@ -19,7 +19,7 @@ impl<'a> JoinPath<'a> {
         ensures { result ≡ path_mark self.now }
     {
         match self {
-            JoinPath::Untold => 0,
+            JoinPath::Nothing => 0,
             JoinPath::Bytes(bytes) => bytes.len(),
             JoinPath::Segments(segments) => segments.len(),
         }
@@ -31,7 +31,7 @@ impl<'a> JoinPath<'a> {
         ensures { PathGrown self.old segment.now self.new }
     {
         match self {
-            JoinPath::Untold => {}
+            JoinPath::Nothing => {}
             JoinPath::Bytes(bytes) => {
                 let Ok(()) = bytes.extend_from_slice(segment) else {
                     unreachable!()
@@ -50,7 +50,7 @@ impl<'a> JoinPath<'a> {
         ensures { PathCut mark self.old self.new }
     {
         match self {
-            JoinPath::Untold => {}
+            JoinPath::Nothing => {}
             JoinPath::Bytes(bytes) => bytes.truncate(mark),
             JoinPath::Segments(segments) => segments.truncate(mark),
         }
