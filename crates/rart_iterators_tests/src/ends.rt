@@ -7,7 +7,7 @@ use std::alloc::Global;
 // Pairs in the order of their insertion; the first and the last by key.
 type Row = (&'static [Pair], Option<Pair>, Option<Pair>);
 
-const ROWS: [Row; 6] = [
+static ROWS: [Row; 6] = [
     (&[], None, None),
     (&[("b", 1)], Some(("b", 1)), Some(("b", 1))),
     (&[("", 0), ("a", 1)], Some(("", 0)), Some(("a", 1))),

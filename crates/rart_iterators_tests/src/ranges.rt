@@ -219,7 +219,7 @@ const OF_FRUIT: [Row; 2] = [
     (In("b"), Out("d"), &[("banana", 2), ("cherry", 3)]),
 ];
 
-const GROUPS: [(&[Pair], &[Row]); 4] = [
+static GROUPS: [(&[Pair], &[Row]); 4] = [
     (&FOUR, &OF_FOUR),
     (&PARTED, &OF_PARTED),
     (&FRUIT, &OF_FRUIT),

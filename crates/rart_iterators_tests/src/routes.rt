@@ -147,7 +147,7 @@ fn first_wrong(table: &mut Table, rows: &[Row]) -> Option<usize> {
     None
 }
 
-const VERSIONS: [Row; 9] = [
+static VERSIONS: [Row; 9] = [
     (Ask::IsEmpty, Reply::Is(true)),
     (Ask::Add("/", 1), Reply::Added),
     (Ask::Add("/api", 2), Reply::Added),
@@ -159,7 +159,7 @@ const VERSIONS: [Row; 9] = [
     (Ask::Len, Reply::Len(3)),
 ];
 
-const EDITED: [Row; 26] = [
+static EDITED: [Row; 26] = [
     (Ask::Get("/api"), Reply::Value(Some(2))),
     (Ask::Get("/api/v1"), Reply::Value(Some(3))),
     // no route of its own: below a node, between two and after the last
@@ -192,7 +192,7 @@ const EDITED: [Row; 26] = [
     (Ask::Get("/apple"), Reply::Value(Some(5))),
 ];
 
-const CLEARED: [Row; 11] = [
+static CLEARED: [Row; 11] = [
     (Ask::Clear, Reply::Cleared),
     (Ask::Len, Reply::Len(0)),
     (Ask::IsEmpty, Reply::Is(true)),
@@ -337,13 +337,13 @@ fn routes_are_listed_by_their_prefixes_until_the_table_is_cleared(rt: HostRuntim
 // The targets of a probe before and after an edit.
 type Targets = (Option<u64>, Option<u64>);
 
-const ADDED: [(&str, u64, &str, Targets); 3] = [
+static ADDED: [(&str, u64, &str, Targets); 3] = [
     ("/api/v", 7, "/api/v2", (Some(2), Some(7))),
     ("/api/w", 8, "/api/v1/users", (Some(3), Some(3))),
     ("/a", 9, "/api/v1", (Some(3), Some(3))),
 ];
 
-const WITHDRAWN: [(&str, &str, Targets); 3] = [
+static WITHDRAWN: [(&str, &str, Targets); 3] = [
     ("/api/v", "/api/v2", (Some(7), Some(2))),
     ("/a", "/home", (Some(1), Some(1))),
     ("/", "/home", (Some(1), None)),

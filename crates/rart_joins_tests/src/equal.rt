@@ -12,7 +12,7 @@ type Row = (Side, Side, bool);
 
 const NESTED: [Pair; 4] = [("", 0), ("a", 1), ("ab", 2), ("abcdef", 6)];
 
-const ROWS: [Row; 18] = [
+static ROWS: [Row; 18] = [
     ((&[], &[]), (&[], &[]), true),
     ((&[("a", 1)], &["a"]), (&[], &[]), true),
     ((&[], &[]), (&[("a", 1)], &[]), false),

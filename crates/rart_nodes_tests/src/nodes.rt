@@ -159,7 +159,7 @@ fn play_rows(rt: &impl Abort, alloc: Global, node: &mut TestNode, rows: &[Row]) 
     }
 }
 
-const FOUR_CHILDREN: [Row; 11] = [
+static FOUR_CHILDREN: [Row; 11] = [
     (Ask::Add(5, 1), None, (1, 4)),
     (Ask::Add(4, 2), None, (2, 4)),
     (Ask::Add(3, 3), None, (3, 4)),
@@ -178,7 +178,7 @@ fn of_four_children_two_are_deleted(rt: HostRuntime) {
     check_rows(&rt, rt.alloc(), 4, &FOUR_CHILDREN);
 }
 
-const FULL: [Row; 10] = [
+static FULL: [Row; 10] = [
     (Ask::Fill(0, 256), None, (256, 256)),
     (Ask::Walk, Some(256), (256, 256)),
     (Ask::Delete(47), Some(47), (255, 256)),
@@ -196,7 +196,7 @@ fn of_all_children_two_are_deleted_and_the_others_keep_their_values(rt: HostRunt
     check_rows(&rt, rt.alloc(), 256, &FULL);
 }
 
-const FEW_IN_A_WIDE_NODE: [Row; 9] = [
+static FEW_IN_A_WIDE_NODE: [Row; 9] = [
     (Ask::Add(7, 7), None, (1, 256)),
     (Ask::Add(8, 8), None, (2, 256)),
     (Ask::Add(9, 9), None, (3, 256)),
@@ -213,7 +213,7 @@ fn a_wide_node_with_few_children_moves_one_kind_down_at_a_deletion(rt: HostRunti
     check_rows(&rt, rt.alloc(), 256, &FEW_IN_A_WIDE_NODE);
 }
 
-const EVERY_KIND: [Row; 12] = [
+static EVERY_KIND: [Row; 12] = [
     (Ask::Walk, Some(0), (0, 0)),
     (Ask::Fill(0, 3), None, (3, 4)),
     (Ask::Walk, Some(3), (3, 4)),
@@ -233,7 +233,7 @@ fn children_are_walked_in_order_in_every_kind(rt: HostRuntime) {
     check_rows(&rt, rt.alloc(), 0, &EVERY_KIND);
 }
 
-const WRITTEN: [Row; 10] = [
+static WRITTEN: [Row; 10] = [
     (Ask::Write(10), Some(1), (0, 0)),
     (Ask::WriteAt(9, 20), None, (0, 0)),
     (Ask::Add(9, 2), None, (1, 4)),

@@ -82,6 +82,33 @@ fn overwrite<K: KeyTrait>(tree: &mut Tree<K>, key: &K, value: u64) -> Option<u64
     }
 }
 
+// Writes over each value below the first half of the key, and sums up the old ones.
+fn overwrite_below<K: KeyTrait + Drop>(tree: &mut Tree<K>, key: &K, value: u64) -> u64 {
+    let prefix = key.truncate(key.as_ref().len() / 2);
+    let mut sum = 1_u64;
+    tree.prefix_for_each_value_mut_k(&prefix, |place: &mut u64| {
+        sum = mix(sum, *place);
+        *place = mix(*place, value);
+    });
+    sum
+}
+
+/// Whether a write is one over all values below the first half of the key.
+pub fn writes_below(call: &Call) -> bool {
+    call.choice % 4 == 3
+}
+
+/// Whether a removal is one of all pairs.
+pub fn clears(call: &Call) -> bool {
+    call.choice % 2048 == 1030
+}
+
+fn clear<K: KeyTrait>(tree: &mut Tree<K>) -> u64 {
+    let count = tree.len();
+    tree.clear();
+    count as u64
+}
+
 // The answer of a callback, and whether it writes first. A removal writes nothing, since a refused one keeps it.
 fn update_of(call: &Call) -> SlotUpdate<u64> {
     match call.choice % 4 {
@@ -159,7 +186,9 @@ pub fn edit<K: KeyTrait + Drop>(tree: &mut Tree<K>, key: &K, call: &Call) -> Opt
         4 if pops(call) => popped(tree.pop_first()),
         4 => remove(tree, key),
         5 if pops(call) => popped(tree.pop_last()),
+        5 if clears(call) => Some(clear(tree)),
         5 => delete(tree, key),
+        6 if writes_below(call) => Some(overwrite_below(tree, key, call.value)),
         6 => overwrite(tree, key, call.value),
         7 => update(tree, key, call),
         _ => try_update(tree, key, call),

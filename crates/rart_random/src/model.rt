@@ -116,6 +116,13 @@ impl Model {
         None
     }
 
+    /// Removes all pairs, and returns how many there were.
+    pub fn clear(&mut self) -> u64 {
+        let count = self.pairs.len();
+        self.pairs.clear();
+        count as u64
+    }
+
     /// The sum of the pairs from a place to another, or of their values alone.
     pub fn sum(&self, from: usize, to: usize, with_keys: bool) -> u64 {
         let mut sum = 1_u64;

@@ -1,6 +1,6 @@
 //! What an edit must answer, by the model, and what the model is after it.
 use crate::call::Call;
-use crate::edits::{pops, writes};
+use crate::edits::{clears, pops, writes, writes_below};
 use crate::model::Model;
 use crate::numbers::{mix, mix_pair, sum_if, sum_of};
 use crate::text::Text;
@@ -19,6 +19,17 @@ fn overwrite(model: &mut Model, key: &Text, value: u64) -> u64 {
         model.put(key, value);
     }
     sum_of(old)
+}
+
+fn overwrite_below(model: &mut Model, key: &Text, value: u64) -> u64 {
+    let (from, to) = model.below(&key.cut(key.len() / 2));
+    let sum = model.sum(from, to, false);
+    for place in from..to {
+        if let Some((key, old)) = model.at(place) {
+            model.put(&key, mix(old, value));
+        }
+    }
+    sum
 }
 
 // The rest of an update whose callback answered: whether the key was or is stored.
@@ -70,7 +81,9 @@ pub fn edit(model: &mut Model, key: &Text, call: &Call) -> u64 {
         4 if pops(call) => pop(model, 0),
         4 => sum_of(model.remove(key)),
         5 if pops(call) => pop(model, model.len().wrapping_sub(1)),
+        5 if clears(call) => model.clear(),
         5 => sum_if(model.remove(key).is_some()),
+        6 if writes_below(call) => overwrite_below(model, key, call.value),
         6 => overwrite(model, key, call.value),
         7 => update(model, key, call),
         _ => try_update(model, key, call),

@@ -63,7 +63,7 @@ pub fn look(model: &Model, key: &Text, probe: &Text, call: &Call) -> u64 {
     match call.kind {
         9 => {
             let found = sum_of(model.get(key));
-            mix(found, found)
+            mix(mix(found, found), sum_if(model.get(key).is_some()))
         }
         10 => sum_of(model.get(probe)),
         11 => {

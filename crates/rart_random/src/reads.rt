@@ -7,7 +7,11 @@ use rart::{KeyTrait, VisitControl, VisitError};
 
 fn get<K: KeyTrait + Drop>(tree: &Tree<K>, key: &K) -> u64 {
     let found = sum_of(tree.get_k(key).copied());
-    mix(found, sum_of(tree.get(same_key(key)).copied()))
+    let is_stored = sum_if(tree.contains_key_k(key));
+    mix(
+        mix(found, sum_of(tree.get(same_key(key)).copied())),
+        is_stored,
+    )
 }
 
 fn sum_of_pair<K: KeyTrait + Drop>(found: Option<(K, &u64)>) -> u64 {

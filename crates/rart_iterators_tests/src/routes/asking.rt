@@ -5,7 +5,7 @@ use rart_test_tools::refusals::{refuse, was_refused};
 use std::alloc::Global;
 
 // Look-ups, edits that change no node, and one that frees all.
-const QUIET: [Row; 16] = [
+static QUIET: [Row; 16] = [
     (Ask::Len, Reply::Len(3)),
     (Ask::IsEmpty, Reply::Is(false)),
     (Ask::Get("/api"), Reply::Value(Some(2))),

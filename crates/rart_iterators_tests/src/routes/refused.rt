@@ -17,7 +17,7 @@ const BRANCHES: [Row; 7] = [
 ];
 
 // What stands before an edit that makes a node anew, and the edit.
-const EDITS: [(&[Row], Row); 7] = [
+static EDITS: [(&[Row], Row); 7] = [
     // a node for two routes, and its growth beyond four
     (
         &[(Ask::Add("/a/b", 1), Reply::Added)],

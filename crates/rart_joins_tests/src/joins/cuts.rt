@@ -14,7 +14,7 @@ type Row = (&'static [Pair], &'static [Pair], &'static str);
 
 const NESTED: [Pair; 4] = [("", 0), ("alpha", 1), ("alphabet", 2), ("alpine", 3)];
 
-const ROWS: [Row; 9] = [
+static ROWS: [Row; 9] = [
     (&WORDS, &OTHER_WORDS, "ab|c|;dog|;"),
     // one leaf each, with a stretch of eight bytes
     (&[("alphabet", 1)], &[("alphabet", 2)], "alphabet|;"),

@@ -153,7 +153,7 @@ pub const WORDS: [Pair; 3] = [("ab", 1), ("abc", 2), ("dog", 3)];
 
 pub const OTHER_WORDS: [Pair; 3] = [("abc", 20), ("dog", 30), ("zzz", 40)];
 
-pub const ROWS: [Row; 9] = [
+pub static ROWS: [Row; 9] = [
     (&[], &[], &[]),
     (&[], &WORDS, &[]),
     (

@@ -34,7 +34,7 @@ fn multiples(alloc: Global, of: u8) -> Option<Tree> {
 
 const FIVE: [Pair; 5] = [("\0", 1), ("2", 2), ("33", 3), ("d", 4), ("}", 5)];
 
-const OF_FIVE: [Triple; 4] = [("\0", 0, 1), ("2", 50, 2), ("d", 100, 4), ("}", 125, 5)];
+static OF_FIVE: [Triple; 4] = [("\0", 0, 1), ("2", 50, 2), ("d", 100, 4), ("}", 125, 5)];
 
 fn meets_five(alloc: Global, all: &Tree) -> bool {
     match filled(alloc, &FIVE) {
@@ -184,7 +184,7 @@ fn meets_names(numbers: &Tree, names: &Names) -> bool {
         && numbers.intersect_count(names) == 2
 }
 
-const NAMES: [(&str, Name); 3] = [("b", Name::Two), ("bc", Name::Three), ("c", Name::Four)];
+static NAMES: [(&str, Name); 3] = [("b", Name::Two), ("bc", Name::Three), ("c", Name::Four)];
 
 #[test]
 fn trees_of_two_value_types(rt: HostRuntime) {

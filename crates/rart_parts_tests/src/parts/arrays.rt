@@ -129,7 +129,7 @@ fn rows_hold<const W: usize, B: BitsetTrait>(
     }
 }
 
-const FIRST_FREE_PLACE: [Row; 27] = [
+static FIRST_FREE_PLACE: [Row; 27] = [
     (Ask::IsEmpty, Some(1)),
     (Ask::Pop, None),
     (Ask::Last, None),
@@ -169,7 +169,7 @@ fn an_array_fills_its_first_free_place_and_asks_for_nothing(rt: HostRuntime) -> 
     Ok(())
 }
 
-const FULL: [Row; 5] = [
+static FULL: [Row; 5] = [
     (Ask::FirstEmpty, None),
     (Ask::Push(1), None),
     (Ask::Size, Some(48)),
@@ -187,7 +187,7 @@ fn a_full_array_refuses_a_push(rt: HostRuntime) -> Result<(), Fail> {
     Ok(())
 }
 
-const WRITTEN_BY_WALKS: [Row; 28] = [
+static WRITTEN_BY_WALKS: [Row; 28] = [
     (Ask::WriteAll(1), Some(0)),
     (Ask::IsEmpty, Some(1)),
     (Ask::Set(0, 10), None),

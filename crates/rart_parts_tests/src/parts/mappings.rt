@@ -57,7 +57,7 @@ fn rows_hold<const W: usize>(map: &mut impl NodeMapping<u8, W>, rows: &[Row]) ->
     map.width() == W
 }
 
-const FOUR: [Row; 12] = [
+static FOUR: [Row; 12] = [
     (Ask::Add(1, 1), Some(1), 1),
     (Ask::Add(4, 4), Some(4), 2),
     (Ask::Add(3, 3), Some(3), 3),
@@ -72,7 +72,7 @@ const FOUR: [Row; 12] = [
     (Ask::Delete(5), None, 0),
 ];
 
-const IN_ORDER: [Row; 10] = [
+static IN_ORDER: [Row; 10] = [
     (Ask::Add(1, 1), Some(1), 1),
     (Ask::Add(2, 2), Some(2), 2),
     (Ask::Add(3, 3), Some(3), 3),
@@ -85,7 +85,7 @@ const IN_ORDER: [Row; 10] = [
     (Ask::Delete(5), None, 0),
 ];
 
-const KEY_255: [Row; 8] = [
+static KEY_255: [Row; 8] = [
     (Ask::Add(1, 5), Some(5), 1),
     (Ask::Seek(255), None, 1),
     (Ask::Add(255, 9), Some(9), 2),
