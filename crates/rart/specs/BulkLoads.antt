@@ -66,7 +66,7 @@ FailsByIndex len Memory = (0 < len) × (len ≤ MAX_PAIRS)
 FailsByIndex len Full = MAX_PAIRS < len
 FailsByIndex len (Unsorted at) = ⊥
 
--- at each place stands a key that fits there
+-- the key at each place is one that fits there
 abbrev pub AreKeysAt : (ℕ → List ℕ → Type 0) → List (List ℕ) → Type 0
 AreKeysAt At ks = (i : ℕ) → i < length ks → At i (slice_index_or ks i [])
 

@@ -19,7 +19,7 @@ module _ {V : Type 0} where
   abbrev pub HoldsPair : List ℕ → V → MapAndShape V → MapAndShape V → Type 0
   HoldsPair key value old new = (new.pairs ≡ put key value old.pairs) × HasShape (keys_of new.pairs) new.nodes
 
-  -- the call that was refused, for a reason that the keys allow, and what stands then
+  -- the call that was refused, for a reason that the keys allow, and the state after it
   abbrev pub RefusesCall : List ℕ → V → MapAndShape V → MapAndShape V → RefusedCall V → Type 0
   RefusesCall key value old new (StatisticsBefore error) = MayLackStatistics (keys_of old.pairs) error × (new ≡ old)
   RefusesCall key value old new (Insertion refused) = Inserts key value old.pairs new.pairs (Err refused) × (new ≡ old)

@@ -27,23 +27,23 @@ MayRefuseRemove map key error = (error ≡ Memory) × (lookup key map ≢ None) 
 abbrev pub MayLackStatistics : List (List ℕ) → TreeError → Type 0
 MayLackStatistics keys error = (error ≡ Memory) × (2 ≤ length keys)
 
--- the value that was offered comes back: the key is stored, or the insertion was refused
+-- the offered value is returned: the key is stored, or the insertion failed
 abbrev pub IsNotInserted : {V : Type 0} → List (List ℕ × V) → List ℕ → V → NotInserted V → Type 0
 IsNotInserted map key value (not_inserted.Stored proposed) = (proposed ≡ value) × (lookup key map ≢ None)
 IsNotInserted map key value (not_inserted.Refused refused) = (refused.value ≡ value) × MayRefuseInsert map key
     refused.error
 
--- the same, beside the value that stands at the key
+-- the same, with a reference to the stored value
 abbrev pub ShowsWhy : {V : Type 0} → List (List ℕ × V) → List ℕ → V → TryInsertError V → Type 0
 ShowsWhy map key value (try_insert.Occupied proposed present) = (proposed ≡ value) × (lookup key map ≡ Some present.now)
 ShowsWhy map key value (try_insert.Refused refused) = (refused.value ≡ value) × MayRefuseInsert map key refused.error
 
--- a key that is said to be stored is
+-- if the error says that the key is stored, it is
 abbrev pub IsStoredAt : {V : Type 0} → List (List ℕ × V) → List ℕ → NotInserted V → Type 0
 IsStoredAt map key (not_inserted.Stored proposed) = lookup key map ≢ None
 IsStoredAt map key (not_inserted.Refused refused) = Unit {0}
 
--- the same outcome, with the value that stands at the key where it is stored
+-- the same outcome, with a reference to the stored value if the key is stored
 abbrev pub AddsPresent : {V : Type 0} → List (List ℕ × V) → List ℕ → Result Unit (NotInserted V)
     → Result Unit (TryInsertError V) → Type 0
 AddsPresent map key (Ok _) (Ok _) = Unit {0}

@@ -1,4 +1,4 @@
--- What an update of a tree answers, and what it leaves of the map.
+-- What an update of a tree returns, and the map after it.
 use Rattle.std.specs.Prelude.{◌≡◌, ◌≢◌, ℕ, Bool, true, false, List, length, Option, Some, None, is_some, Result, Ok}
 use Rattle.std.specs.Prelude.{Err}
 use Rattle.std.specs.Borrow.{MutBor}
@@ -31,13 +31,13 @@ is_touched Keep None = false
 is_touched Remove None = false
 is_touched (Insert x) None = true
 
--- a full map takes no new key
+-- a full map gets no new key
 abbrev pub TakesNew : {V : Type 0} → SlotUpdate V → Option V → List (List ℕ × V) → Type 0
 TakesNew (Insert x) None m = length m ≢ MAX_PAIRS
 TakesNew r w m = Unit {0}
 
--- an update where w was left and r asked for is refused: an insertion of a new key, and the map stays; or a removal,
--- and w stands at the key
+-- an update fails after the callback left w and requested r: the insertion of a new key, and the map is unchanged; or
+-- a removal, and the key has the value in w
 abbrev pub IsRefusal : {V : Type 0} → List ℕ → SlotUpdate V → Option V → List (List ℕ × V) → UpdateError V
     → List (List ℕ × V) → Type 0
 IsRefusal key r w old (Not_inserted e) new = (r ≡ Insert e.value) × (w ≡ None) × MayRefuseInsert old key e.error
@@ -45,20 +45,19 @@ IsRefusal key r w old (Not_inserted e) new = (r ≡ Insert e.value) × (w ≡ No
 IsRefusal key r w old Not_removed new = (r ≡ Remove) × (w ≢ None) × MayRefuseRemove old key Memory
     × (new ≡ map_left key w old)
 
--- what it comes to, and the map that it leaves
+-- the outcome of an update, and the map after it
 abbrev pub EndsIn : {V : Type 0} → List ℕ → SlotUpdate V → Option V → List (List ℕ × V)
     → Result (Outcome V) (UpdateError V) → List (List ℕ × V) → Type 0
 EndsIn key r w old (Ok o) new = (o ≡ outcome_of r w) × TakesNew r w old × (new ≡ map_updated key r w old)
 EndsIn key r w old (Err e) new = IsRefusal key r w old e new
 
--- `update`, where the callback left w and asked for r: whether the key was stored, or now is; and the map that it
--- leaves
+-- `update` after the callback left w and requested r: whether the key was or is stored, and the map after it
 abbrev pub IsUpdate : {V : Type 0} → List ℕ → SlotUpdate V → Option V → List (List ℕ × V) → Result Bool (UpdateError V)
     → List (List ℕ × V) → Type 0
 IsUpdate key r w old (Ok touched) new = (touched ≡ is_touched r w) × TakesNew r w old × (new ≡ map_updated key r w old)
 IsUpdate key r w old (Err e) new = IsRefusal key r w old e new
 
--- `try_update`, where the callback left w and answered a: as `update`, but with Err the map stays
+-- `try_update` after the callback left w and returned a: as `update`, but with Err the map is unchanged
 abbrev pub IsTryUpdate : {E V : Type 0} → List ℕ → Result (SlotUpdate V) E → Option V → List (List ℕ × V)
     → Result Bool (TryUpdateError E V) → List (List ℕ × V) → Type 0
 IsTryUpdate key (Ok r) w old (Ok touched) new = IsUpdate key r w old (Ok touched) new
@@ -77,7 +76,8 @@ Updates g f key old result new = AnswersSo g f (lookup key old) (λ r w. IsUpdat
 abbrev pub UpdatesReturning : {F X V : Type 0}
     → Once F (MutBor (Slot V) × Unit {0}) ((SlotUpdate V × X) × (MutBor (Slot V) × Unit {0})) → F → List ℕ
     → List (List ℕ × V) → Result (Outcome V) (UpdateError V) × X → List (List ℕ × V) → Type 0
-UpdatesReturning g f key old result new = AnswersReturning g f (lookup key old) result.1 (λ r w. EndsIn key r w old result.0 new)
+UpdatesReturning g f key old result new = AnswersReturning g f (lookup key old) result.1
+    (λ r w. EndsIn key r w old result.0 new)
 
 -- `try_update` with the callback f, where it was called
 abbrev pub TriesUpdate : {F E V : Type 0}

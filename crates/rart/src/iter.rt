@@ -22,9 +22,7 @@ impl<K: KeyTrait, V> AdaptiveRadixTree<K, V> {
     /// # Examples
     ///
     /// ```ignore
-    /// let Ok(mut pairs) = tree.iter() else {
-    ///     return false;
-    /// };
+    /// let mut pairs = tree.iter().ok()?;
     /// ```
     pub fn iter(&self) -> Result<Iter<'_, K, K::PartialType, V>, TreeError>
         ensures pairs { IfOk result (λ it. it ≡ self.now.pairs) }

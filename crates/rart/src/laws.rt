@@ -153,8 +153,8 @@ pub fn removal_restores<K: KeyTrait, V, L: KeyTrait>(
     ensures removed { IfOk result (λ was. was ≡ lookup (K.bytes key.now) tree.old.pairs) }
     ensures pairs { OnOk result (tree.new.pairs ≡ without_it.now.pairs) }
     ensures nodes { OnOk result (tree.new.nodes ≡ without_it.now.nodes) }
-    ensures refused { IfErr result (λ error. MayRefuseRemove tree.old.pairs (K.bytes key.now) error
-        × (tree.new ≡ tree.old)) }
+    ensures memory { IfErr result (MayRefuseRemove tree.old.pairs (K.bytes key.now)) }
+    ensures unchanged { OnErr result (tree.new ≡ tree.old) }
 {
     let removed = tree.remove_k(key);
     tree.canonical();

@@ -1,4 +1,4 @@
-//! Calls of a tree as values: a list of calls runs on a tree and gives the list of replies.
+//! Calls of a tree as values: a list of calls runs on a tree and returns the list of replies.
 ghost use Rattle.std.specs.Prelude.{◌≡◌, ◌≢◌, Err, None, IfErr, IfOk, OnErr, length};
 ghost use Rattle.rart_keys.specs.SortedMap.{keys_of, lookup, values_of};
 ghost use Rattle.rart_nodes.specs.shapes.Shape.{HasShape};

@@ -202,9 +202,7 @@ impl<K: KeyTrait, V> AdaptiveRadixTree<K, V> {
     /// # Examples
     ///
     /// ```ignore
-    /// words
-    ///     .insert_k(&ArrayKey::new_from_slice(b"cat"), 1)
-    ///     .map_err(|refused| refused.error)?;
+    /// words.insert_k(&ArrayKey::new_from_slice(b"cat"), 1)?;
     /// ```
     pub fn insert_k(&mut self, key: &K, value: V) -> Result<Option<V>, Refused<V>>
         ensures inserts { Inserts (K.bytes key.now) value self.old.pairs self.new.pairs result }

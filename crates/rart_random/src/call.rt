@@ -24,6 +24,11 @@ pub struct Call {
 /// How many kinds of calls there are.
 pub const KINDS: u64 = 41;
 
+/// Whether the call makes a tree of its own.
+pub fn makes_a_tree(call: &Call) -> bool {
+    call.kind == 32 || call.kind == 33 || call.kind == 40
+}
+
 // What is done mostly while a tree grows, shrinks, and in between.
 const GROWING: [u64; 8] = [0, 1, 2, 3, 7, 8, 0, 6];
 
@@ -35,6 +40,7 @@ fn period(seed: u64) -> u64 {
         0 => 200,
         1 => 1_500,
         2 => 600,
+        _ if seed % 8 == 7 => 90_000,
         _ => 12_000,
     }
 }

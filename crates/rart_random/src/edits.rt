@@ -13,8 +13,8 @@ use rart::{
 /// The sum of an answer that is never right.
 pub const WRONG: u64 = 0;
 
-// What a refusal is worth: none if it is documented, and the value came back.
-fn refused(refusal: Refused<u64>, value: u64) -> Option<u64> {
+/// What a refusal is worth: none if it is documented, and the value came back.
+pub fn refused(refusal: Refused<u64>, value: u64) -> Option<u64> {
     if refusal.error == TreeError::Memory && refusal.value == value {
         None
     } else {
@@ -50,19 +50,21 @@ fn insert_new<K: KeyTrait>(tree: &mut Tree<K>, key: &K, value: u64) -> Option<u6
 fn remove<K: KeyTrait>(tree: &mut Tree<K>, key: &K) -> Option<u64> {
     match tree.remove_k(key) {
         Ok(old) => Some(sum_of(old)),
-        Err(_refused) => None,
+        Err(TreeError::Memory) => None,
+        Err(TreeError::Full) => Some(WRONG),
     }
 }
 
 fn delete<K: KeyTrait>(tree: &mut Tree<K>, key: &K) -> Option<u64> {
     match tree.delete_k(key) {
         Ok(found) => Some(sum_if(found)),
-        Err(_refused) => None,
+        Err(TreeError::Memory) => None,
+        Err(TreeError::Full) => Some(WRONG),
     }
 }
 
-// The sum of a pair that a pop returns.
-fn popped<K: KeyTrait + Drop>(answer: Result<Option<(K, u64)>, TreeError>) -> Option<u64> {
+/// The sum of a pair that a pop returns.
+pub fn popped<K: KeyTrait + Drop>(answer: Result<Option<(K, u64)>, TreeError>) -> Option<u64> {
     match answer {
         Ok(Some((key, value))) => Some(mix(mix_key(1, &key), value)),
         Ok(None) => Some(sum_of(None)),
@@ -125,7 +127,7 @@ pub fn pops(call: &Call) -> bool {
 
 /// Whether the callback writes `value + 1` at an occupied slot before it answers.
 pub fn writes(call: &Call) -> bool {
-    call.choice % 4 == 0 && call.choice % 8 < 4
+    call.choice % 4 < 2 && call.choice % 8 < 4
 }
 
 fn write(slot: &mut Slot<u64>, written: Option<u64>)

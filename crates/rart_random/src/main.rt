@@ -48,7 +48,8 @@ fn say_list<K: KeyTrait + Drop>(
     for number in list {
         let call = call_at(case.seed, number, most);
         let (kind, tree) = (call.kind, call.on_second);
-        println!(rt; "  call {number}: kind {kind}, second {tree}")?;
+        let (value, choice) = (call.value, call.choice);
+        println!(rt; "  call {number}: kind {kind}, second {tree}, {value}, {choice}")?;
     }
     Ok(())
 }
@@ -83,23 +84,31 @@ fn run_case(rt: &(impl Print + Eprint), alloc: Global, case: &Case) -> io::Resul
     match case.keys {
         32 => run::<ArrayKey<32>>(rt, alloc, case),
         8 => run::<ArrayKey<8>>(rt, alloc, case),
-        _ => run::<TailKey<16>>(rt, alloc, case),
+        16 => run::<TailKey<16>>(rt, alloc, case),
+        other => {
+            println!(rt; "no keys of type {other}: 32, 8 or 16")?;
+            Ok(false)
+        }
     }
 }
 
-fn run_lines(rt: &(impl Print + Eprint), alloc: Global, text: &[u8]) -> io::Result<bool> {
-    let mut are_right = true;
+// Plays the case of each line, and returns how many went well. None if one went wrong, or if a line has no end.
+fn run_lines(rt: &(impl Print + Eprint), alloc: Global, text: &[u8]) -> io::Result<Option<u64>> {
+    let (mut well, mut are_right) = (0_u64, true);
     let mut line = Line::new();
+    let mut is_over = true;
     for byte in text {
-        if *byte == b'\n' {
+        is_over = *byte == b'\n';
+        if is_over {
             let is_right = run_case(rt, alloc, &line.case())?;
             are_right = are_right && is_right;
+            well = well.wrapping_add(1);
             line = Line::new();
         } else {
             line.read(*byte);
         }
     }
-    Ok(are_right)
+    Ok((are_right && is_over && well > 0).then_some(well))
 }
 
 // The status once the last line was written.
@@ -117,8 +126,8 @@ fn main(rt: HostRuntime) -> ExitCode {
         return ExitCode::from(2);
     }
     match run_lines(&rt, alloc, text.as_slice()) {
-        Ok(true) => said(println!(rt; "every case went well")),
-        Ok(false) => ExitCode::from(1),
+        Ok(Some(well)) => said(println!(rt; "{well} cases went well")),
+        Ok(None) => ExitCode::from(1),
         Err(_) => ExitCode::from(3),
     }
 }

@@ -61,8 +61,8 @@ fn try_update(model: &mut Model, key: &Text, call: &Call) -> u64 {
     sum_if(settle(model, key, call, true))
 }
 
-// Removes the pair at a place, and returns the sum of it.
-fn pop(model: &mut Model, place: usize) -> u64 {
+/// Removes the pair at a place, and returns the sum of it.
+pub fn pop(model: &mut Model, place: usize) -> u64 {
     match model.at(place) {
         Some((key, value)) => {
             model.remove(&key);

@@ -2,6 +2,7 @@
 use crate::call::Call;
 use crate::model::{Mark, Model};
 use crate::numbers::{mix, mix_pair, sum_if, sum_of};
+use crate::reads::most_of;
 use crate::text::Text;
 
 // The pair with the longest key that begins the probe.
@@ -119,7 +120,7 @@ fn try_values(model: &Model, span: (usize, usize), most: u64, fails: bool) -> u6
 
 /// The call about many pairs.
 pub fn walk(model: &Model, key: &Text, end: &Text, call: &Call) -> u64 {
-    let most = (call.choice >> 8) % 40;
+    let most = most_of(call);
     let ways = call.choice % 9;
     let below = model.below(key);
     let (span, with_keys) = match call.kind {

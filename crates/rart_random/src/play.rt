@@ -1,5 +1,5 @@
 //! Lists of calls: played to the first that goes wrong, and shortened.
-use crate::call::call_at;
+use crate::call::{Call, call_at, makes_a_tree};
 use crate::numbers::mix;
 use crate::world::World;
 use rart::KeyTrait;
@@ -27,11 +27,12 @@ pub struct Played {
     pub largest: usize,
 }
 
-// Which request is refused in a call, 0 for none.
-fn refused_at(case: &Case, number: u64) -> usize {
+// Which request is refused in a call, 0 for none: one of the first four, or of more if the call makes a tree.
+fn refused_at(case: &Case, call: &Call, number: u64) -> usize {
     let chance = mix(case.seed, number);
+    let most = if makes_a_tree(call) { 64 } else { 4 };
     if case.refused > 0 && chance.checked_rem(case.refused) == Some(0) {
-        ((chance >> 32) % 4).wrapping_add(1) as usize
+        ((chance >> 32) % most).wrapping_add(1) as usize
     } else {
         0
     }
@@ -39,7 +40,7 @@ fn refused_at(case: &Case, number: u64) -> usize {
 
 // Whether everything is compared after the call at this place.
 fn is_compared(place: usize, count: usize, size: usize) -> bool {
-    let step = if size < 1000 { 100 } else { 1000 };
+    let step = if size < 10_000 { 100 } else { 1000 };
     count < 300 || place.wrapping_add(1) == count || place % step == 0
 }
 
@@ -51,7 +52,7 @@ pub fn play<K: KeyTrait + Drop>(alloc: Global, case: &Case, list: &[u64]) -> Pla
     let mut place = 0_usize;
     for number in list {
         let call = call_at(case.seed, *number, most as u64);
-        let is_well = world.is_played(&call, most, refused_at(case, *number));
+        let is_well = world.is_played(&call, most, refused_at(case, &call, *number));
         largest = largest.max(world.size());
         if !is_well || (is_compared(place, list.len(), world.size()) && !world.is_right()) {
             return Played {

@@ -1,5 +1,6 @@
 //! Reads of a tree: each returns the sum of its answer, or none if memory was refused.
 use crate::call::Call;
+use crate::edits::WRONG;
 use crate::numbers::{mix, mix_pair, sum_if, sum_of};
 use crate::sides::{Tree, bound_of, mix_key, same_key};
 use crate::text::Text;
@@ -75,13 +76,27 @@ pub fn look<K: KeyTrait + Drop>(tree: &Tree<K>, key: &K, probe: &Text, call: &Ca
     }
 }
 
+/// How many pairs of a walk are read: all of them in one call of five.
+pub fn most_of(call: &Call) -> u64 {
+    if call.choice % 5 == 0 {
+        u64::MAX
+    } else {
+        (call.choice >> 8) % 40
+    }
+}
+
+// What a walk that ended is worth, whose next answer is this.
+fn ended(is_over: bool, sum: u64) -> u64 {
+    if is_over { sum } else { WRONG }
+}
+
 fn iter<K: KeyTrait + Drop>(tree: &Tree<K>, most: u64) -> Option<u64> {
     let mut sum = 1_u64;
     let mut pairs = tree.iter().ok()?;
     for _ in 0..most {
         match pairs.next() {
             Some((key, value)) => sum = mix(mix_key(sum, &key), *value),
-            None => return Some(sum),
+            None => return Some(ended(pairs.next().is_none(), sum)),
         }
     }
     Some(sum)
@@ -93,7 +108,7 @@ fn values<K: KeyTrait>(tree: &Tree<K>, most: u64) -> Option<u64> {
     for _ in 0..most {
         match values.next() {
             Some(value) => sum = mix(sum, *value),
-            None => return Some(sum),
+            None => return Some(ended(values.next().is_none(), sum)),
         }
     }
     Some(sum)
@@ -105,7 +120,7 @@ fn prefix_iter<K: KeyTrait + Drop>(tree: &Tree<K>, prefix: &K, most: u64) -> Opt
     for _ in 0..most {
         match pairs.next() {
             Some((key, value)) => sum = mix(mix_key(sum, &key), *value),
-            None => return Some(sum),
+            None => return Some(ended(pairs.next().is_none(), sum)),
         }
     }
     Some(sum)
@@ -152,10 +167,10 @@ fn range<K: KeyTrait + Drop>(tree: &Tree<K>, start: &K, end: &K, call: &Call) ->
     let mut pairs = tree
         .range(bound_of(start, ways / 3), bound_of(end, ways % 3))
         .ok()?;
-    for _ in 0..(call.choice >> 8) % 40 {
+    for _ in 0..most_of(call) {
         match pairs.next() {
             Some((key, value)) => sum = mix(mix_key(sum, &key), *value),
-            None => return Some(sum),
+            None => return Some(ended(pairs.next().is_none(), sum)),
         }
     }
     Some(sum)
@@ -163,7 +178,7 @@ fn range<K: KeyTrait + Drop>(tree: &Tree<K>, start: &K, end: &K, call: &Call) ->
 
 /// The call about many pairs.
 pub fn walk<K: KeyTrait + Drop>(tree: &Tree<K>, key: &K, end: &K, call: &Call) -> Option<u64> {
-    let most = (call.choice >> 8) % 40;
+    let most = most_of(call);
     match call.kind {
         16 => iter(tree, most),
         17 => values(tree, most),

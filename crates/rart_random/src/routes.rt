@@ -1,13 +1,15 @@
 //! Calls of a route table, and what they must answer.
 use crate::call::Call;
-use crate::edits::WRONG;
+use crate::edits::{WRONG, clears, popped, pops, refused};
 use crate::model::Model;
+use crate::model_edits::pop;
 use crate::model_reads::{longest_pair, longest_value, matches};
 use crate::numbers::{mix, mix_bytes, mix_pair, sum_of};
+use crate::shape::sum_of_stats;
 use crate::sides::mix_key;
 use crate::text::Text;
 use rart::routes::RouteTable;
-use rart::{KeyTrait, TryInsertError};
+use rart::{KeyTrait, NotInserted, TreeError, TreeStatsTrait, TryInsertError};
 
 fn add<K: KeyTrait>(table: &mut RouteTable<K, u64>, key: &K, target: u64) -> Option<u64> {
     match table.add(key, target) {
@@ -16,22 +18,40 @@ fn add<K: KeyTrait>(table: &mut RouteTable<K, u64>, key: &K, target: u64) -> Opt
             *stored,
         ))),
         Err(TryInsertError::Occupied(_, _)) => Some(WRONG),
-        Err(TryInsertError::Refused(_)) => None,
+        Err(TryInsertError::Refused(refusal)) => refused(refusal, target),
+    }
+}
+
+fn add_new<K: KeyTrait>(table: &mut RouteTable<K, u64>, key: &K, target: u64) -> Option<u64> {
+    match table.add_new(key, target) {
+        Ok(()) => Some(sum_of(None)),
+        Err(NotInserted::Stored(back)) if back == target => {
+            Some(sum_of(table.get(key).copied()))
+        }
+        Err(NotInserted::Stored(_)) => Some(WRONG),
+        Err(NotInserted::Refused(refusal)) => refused(refusal, target),
     }
 }
 
 fn replace<K: KeyTrait>(table: &mut RouteTable<K, u64>, key: &K, target: u64) -> Option<u64> {
     match table.replace(key, target) {
         Ok(old) => Some(sum_of(old)),
-        Err(_refused) => None,
+        Err(refusal) => refused(refusal, target),
     }
 }
 
 fn withdraw<K: KeyTrait>(table: &mut RouteTable<K, u64>, key: &K) -> Option<u64> {
     match table.withdraw(key) {
         Ok(old) => Some(sum_of(old)),
-        Err(_refused) => None,
+        Err(TreeError::Memory) => None,
+        Err(TreeError::Full) => Some(WRONG),
     }
+}
+
+/// The sum of the statistics of the table.
+pub fn shape_of_routes<K: KeyTrait>(table: &RouteTable<K, u64>) -> Option<u64> {
+    let stats = table.get_tree_stats().ok()?;
+    Some(sum_of_stats(&stats))
 }
 
 fn with_prefix<K: KeyTrait + Drop>(table: &RouteTable<K, u64>, key: &K) -> u64 {
@@ -81,10 +101,16 @@ pub fn call_table<K: KeyTrait + Drop>(
     call: &Call,
 ) -> Option<u64> {
     match call.kind {
-        34 => add(table, key, call.value),
+        34 if call.choice % 2 == 0 => add(table, key, call.value),
+        34 => add_new(table, key, call.value),
         35 => replace(table, key, call.value),
+        36 if pops(call) => popped(table.pop_first()),
+        36 if clears(call) => popped(table.pop_last()),
         36 => withdraw(table, key),
-        37 => Some(sum_of(table.route(probe.as_slice()).copied())),
+        37 => {
+            let route = sum_of(table.route(probe.as_slice()).copied());
+            Some(mix(route, sum_of(table.get(key).copied())))
+        }
         38 => {
             let by_key = mix(with_prefix(table, key), covering(table, key));
             Some(mix(by_key, by_bytes(table, probe.as_slice())))
@@ -118,8 +144,10 @@ pub fn wanted_of_table(model: &mut Model, key: &Text, probe: &Text, call: &Call)
     match call.kind {
         34 => wanted_add(model, key, call.value),
         35 => sum_of(model.put(key, call.value)),
+        36 if pops(call) => pop(model, 0),
+        36 if clears(call) => pop(model, model.len().wrapping_sub(1)),
         36 => sum_of(model.remove(key)),
-        37 => longest_value(model, probe),
+        37 => mix(longest_value(model, probe), sum_of(model.get(key))),
         38 => {
             let by_key = mix(longest_pair(model, key), matches(model, key, 100));
             mix(

@@ -2,10 +2,11 @@
 use crate::model::Model;
 use crate::numbers::mix;
 use crate::sides::Tree;
-use rart::{KeyTrait, TreeStatsTrait};
+use rart::{KeyTrait, TreeStats, TreeStatsTrait};
 use std::alloc::{AllocError, Global};
 
-/// Counts of nodes: leaves, values, inner nodes, height, children, and of each width its nodes and their children.
+/// Counts of nodes: leaves, values, inner nodes, height, children, widths, and of each width its nodes and their
+/// children.
 #[derive(Clone, Copy)]
 pub struct Counts {
     leaves: u64,
@@ -13,6 +14,8 @@ pub struct Counts {
     inner: u64,
     height: u64,
     children: u64,
+    // The sum of the widths of inner nodes.
+    width: u64,
     nodes_of: [u64; 4],
     children_of: [u64; 4],
 }
@@ -37,6 +40,11 @@ fn class_of(children: u64) -> usize {
     }
 }
 
+fn width_for(children: u64) -> u64 {
+    let width = WIDTHS.get(class_of(children)).copied().unwrap_or(0);
+    width as u64
+}
+
 fn add_at(counts: &mut [u64; 4], place: usize, count: u64) {
     if let Some(found) = counts.get_mut(place) {
         *found = found.wrapping_add(count);
@@ -51,6 +59,7 @@ impl Counts {
             inner: 0,
             height: 0,
             children: 0,
+            width: 0,
             nodes_of: [0; 4],
             children_of: [0; 4],
         }
@@ -65,6 +74,7 @@ impl Counts {
         } else {
             self.inner = self.inner.wrapping_add(1);
             self.children = self.children.wrapping_add(node.children);
+            self.width = self.width.wrapping_add(width_for(node.children));
             add_at(&mut self.nodes_of, class_of(node.children), 1);
             add_at(
                 &mut self.children_of,
@@ -78,6 +88,7 @@ impl Counts {
     fn sum(&self) -> u64 {
         let mut sum = mix(mix(1, self.leaves), self.values);
         sum = mix(mix(mix(sum, self.inner), self.height), self.children);
+        sum = mix(sum, self.width);
         for count in self.nodes_of.iter().chain(self.children_of.iter()) {
             sum = mix(sum, *count);
         }
@@ -156,19 +167,34 @@ pub fn shape_of(alloc: Global, model: &Model) -> Result<u64, AllocError> {
 /// The sum of the statistics of a tree.
 pub fn shape_in<K: KeyTrait>(tree: &Tree<K>) -> Option<u64> {
     let stats = tree.get_tree_stats().ok()?;
+    Some(sum_of_stats(&stats))
+}
+
+/// The sum of statistics. An entry of no node is one too many, and makes it another one.
+pub fn sum_of_stats(stats: &TreeStats) -> u64 {
     let mut counts = Counts::new();
     counts.leaves = stats.num_leaves as u64;
     counts.values = stats.num_values as u64;
     counts.inner = stats.num_inner_nodes as u64;
     counts.height = stats.max_height as u64;
     counts.children = stats.total_children as u64;
+    counts.width = stats.total_width as u64;
+    let mut entries = 0_usize;
     let mut place = 0_usize;
     for width in WIDTHS {
         if let Some(found) = stats.node_stats.get(&width) {
+            entries = entries.wrapping_add(1);
+            if found.total_nodes == 0 {
+                return 0;
+            }
             add_at(&mut counts.nodes_of, place, found.total_nodes as u64);
             add_at(&mut counts.children_of, place, found.total_children as u64);
         }
         place = place.wrapping_add(1);
     }
-    Some(counts.sum())
+    if entries == stats.node_stats.len() {
+        counts.sum()
+    } else {
+        0
+    }
 }

@@ -5,7 +5,7 @@ use crate::sides::{Tree, bound_of, mix_key};
 use rart::{KeyTrait, LendingKeyView};
 
 /// How many views of a walk are read; the others are counted.
-pub const READ: u64 = 20;
+pub const READ: u64 = 200;
 
 fn mix_view(sum: u64, view: LendingKeyView<'_, '_>) -> u64 {
     let mut sum = sum;

@@ -1,10 +1,10 @@
 //! Two trees and a route table, each beside its model, and one call made on both.
-use crate::call::Call;
+use crate::call::{Call, makes_a_tree};
 use crate::grown::{grow, wanted_grow};
 use crate::loads::{list_of, load, sum_in, wanted_load};
 use crate::model::{Model, Pair};
 use crate::numbers::low_byte;
-use crate::routes::{below, call_table, wanted_below, wanted_of_table};
+use crate::routes::{below, call_table, shape_of_routes, wanted_below, wanted_of_table};
 use crate::shape::{shape_in, shape_of};
 use crate::sides::{Side, key_of};
 use crate::text::Text;
@@ -74,10 +74,7 @@ fn words_of(model: &Model, call: &Call, most: usize) -> Words {
 
 fn is_right_side<K: KeyTrait + Drop>(alloc: Global, side: &Side<K>) -> bool {
     side.tree.canonical();
-    let shape = match shape_of(alloc, &side.model) {
-        Ok(sum) => Some(sum),
-        Err(_refused) => None,
-    };
+    let shape = shape_of(alloc, &side.model).ok();
     side.tree.len() == side.model.len()
         && sum_in(&side.tree) == Some(side.model.sum(0, side.model.len(), true))
         && shape.is_some()
@@ -127,9 +124,13 @@ impl<K: KeyTrait + Drop> World<K> {
     }
 
     fn are_routes_right(&self) -> bool {
+        self.routes.canonical();
+        let shape = shape_of(self.alloc, &self.route_model).ok();
         match key_of::<K>(&Text::new()) {
             Some(key) => {
                 self.routes.len() == self.route_model.len()
+                    && shape.is_some()
+                    && shape_of_routes(&self.routes) == shape
                     && below(&self.routes, &key)
                         == Some(wanted_below(&self.route_model, &Text::new()))
             }
@@ -156,7 +157,7 @@ impl<K: KeyTrait + Drop> World<K> {
     }
 
     fn list(&self, call: &Call) -> Vec<Pair> {
-        if call.kind != 32 && call.kind != 33 && call.kind != 40 {
+        if !makes_a_tree(call) {
             return Vec::new(self.alloc);
         }
         list_of(self.alloc, &self.first.model, call).unwrap_or(Vec::new(self.alloc))

@@ -61,7 +61,7 @@ pub fn withdraw_then_route<K: KeyTrait, T: Copy>(
     ensures after { IfOk result (λ r. r.1 ≡ longest_value probe.now table.new.pairs) }
     ensures others_stay { OnOk result
         (KeepsOthers (K.bytes prefix.now) probe.now table.old.pairs table.new.pairs) }
-    ensures refused { IfErr result (MayRefuseRemove table.old.pairs (K.bytes prefix.now)) }
+    ensures memory { IfErr result (MayRefuseRemove table.old.pairs (K.bytes prefix.now)) }
     ensures unchanged { OnErr result (table.new ≡ table.old) }
 {
     rart_keys::laws::longest::longest_matches::<T>();
