@@ -18,3 +18,18 @@ one-each bytes Clones old keys clones k v = omega (
   length-map old (λ e. e.1),
   length_all_zip Clones (values_of old) clones v,
 )
+
+pub of_keys_and_values-requires-clause-ascending : goal.of_keys_and_values-requires-clause-ascending
+of_keys_and_values-requires-clause-ascending g c =
+    rw (c.deref.ensures.value, c.in_ok-keys.ensures.keys) (ascending-by-keys _ c.canonical.ensures.ascending)
+
+pub returns : goal.returns
+returns g c =
+    let keys = c.in-Ok.ensures.keys ∙ ap (map g.K.KeyTrait.bytes) c.deref.ensures.value ∙ c.in_ok-keys.ensures.keys in
+    record {
+      cases = record {
+        keys = keys;
+        values = rw c.in-Ok.ensures.values c.in_ok-keys.ensures.values;
+        nodes = c.one_shape.ensures _ _ _ (rw keys at c.in-Ok.ensures.shape) c.canonical.ensures.shape;
+      };
+    }
