@@ -1,5 +1,6 @@
 pub mod BulkLaw
 pub mod BulkLoads
+pub mod Clones
 pub mod Edits
 pub mod Errors
 pub mod Extensions

@@ -17,6 +17,7 @@ use std::alloc::Global;
 use std::marker::{Model, PhantomData};
 
 mod bulk;
+mod clones;
 mod ends;
 mod equal;
 mod extend;

@@ -176,7 +176,11 @@ impl<K: KeyTrait, V: Drop> AdaptiveRadixTree<K, V> {
 
     /// Builds the tree of these keys, which ascend strictly, with the values in their order. Fails with `Memory` alone,
     /// and never without keys.
-    fn of_keys_and_values(alloc: Global, keys: &[K], values: Vec<V>) -> Result<Self, BulkError>
+    pub(super) fn of_keys_and_values(
+        alloc: Global,
+        keys: &[K],
+        values: Vec<V>,
+    ) -> Result<Self, BulkError>
         requires each { length keys.now ≡ length values.items }
         requires ascending { IsAscending (lone_keys (map K.bytes keys.now)) }
         requires few { length keys.now ≤ MAX_PAIRS }
