@@ -19,7 +19,9 @@ impl OrderKey {
     /// Returns the key of an order.
     pub fn new(customer: u32, order: u32) -> Self {
         let both = (u64::from(customer) << 32) | u64::from(order);
-        OrderKey { key: ArrayKey::from_u64(both) }
+        OrderKey {
+            key: ArrayKey::from_u64(both),
+        }
     }
 }
 
@@ -40,34 +42,54 @@ impl KeyTrait for OrderKey {
     fn as_ref(&self) -> &[u8] {
         self.key.as_slice()
     }
+
     fn new_from_slice(slice: &[u8]) -> Self {
-        OrderKey { key: ArrayKey::new_from_slice(slice) }
+        OrderKey {
+            key: ArrayKey::new_from_slice(slice),
+        }
     }
+
     fn new_from_partial(partial: &ArrPartial<8>) -> Self {
-        OrderKey { key: ArrayKey::new_from_partial(partial) }
+        OrderKey {
+            key: ArrayKey::new_from_partial(partial),
+        }
     }
+
     fn extend_from_partial(&self, partial: &ArrPartial<8>) -> Self {
-        OrderKey { key: self.key.extend_from_partial(partial) }
+        OrderKey {
+            key: self.key.extend_from_partial(partial),
+        }
     }
+
     fn truncate(&self, at_depth: usize) -> Self {
-        OrderKey { key: self.key.truncate(at_depth) }
+        OrderKey {
+            key: self.key.truncate(at_depth),
+        }
     }
+
     fn at(&self, pos: usize) -> u8 {
         self.key.at(pos)
     }
+
     fn length_at(&self, at_depth: usize) -> usize {
         self.key.length_at(at_depth)
     }
+
     fn to_partial(&self, at_depth: usize) -> ArrPartial<8> {
         self.key.to_partial(at_depth)
     }
+
     fn matches_slice(&self, slice: &[u8]) -> bool {
         self.key.matches_slice(slice)
     }
 
     ghost same_maximum = { refl };
+
     ghost eq_is_of_bytes = { λ a b. bytes_eq-Decides (array_key_bytes a.key) (array_key_bytes b.key) };
+
     ghost cmp_is_of_bytes = { λ a b. refl };
+
     ghost within = { λ k. length-take-within k.key.len 8 k.key.stored k.key.in_range };
+
     ghost are_bytes = { λ k. AreBytes-take k.key.len k.key.stored k.key.are_bytes };
 }
