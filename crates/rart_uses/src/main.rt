@@ -5,6 +5,7 @@
 
 mod completions;
 mod hops;
+mod order_key;
 mod pairs;
 mod readings;
 mod rows;
@@ -12,6 +13,7 @@ mod shared;
 
 use crate::completions::{Words, completions, count_completions};
 use crate::hops::{Routes, next_hop};
+use crate::order_key::{ByOrder, OrderKey};
 use crate::pairs::{Orders, orders_of};
 use crate::readings::{Readings, readings_between};
 use crate::shared::count_shared;
@@ -50,6 +52,14 @@ fn print_orders(rt: &impl Print, orders: &Orders) -> io::Result<()> {
     Ok(())
 }
 
+// A key type of one's own is looked up as any other.
+fn print_order(rt: &impl Print, orders: &ByOrder) -> io::Result<()> {
+    match orders.get_k(&OrderKey::new(7, 2)) {
+        Some(order) => println!(rt; "order 2 of 7: {order}"),
+        None => println!(rt; "no order 2 of 7"),
+    }
+}
+
 // The readings between two times leave out the end.
 fn print_readings(rt: &impl Print, readings: &Readings, end: u64) -> io::Result<()> {
     let Ok(found) = readings_between(readings, 15, end) else {
@@ -76,6 +86,10 @@ fn print_words_and_routes(rt: &impl Print, alloc: Global) -> io::Result<()> {
 fn print_numbers(rt: &impl Print, alloc: Global) -> io::Result<()> {
     match rows::orders(alloc) {
         Ok(orders) => print_orders(rt, &orders)?,
+        Err(_) => println!(rt; "out of memory")?,
+    }
+    match rows::by_order(alloc) {
+        Ok(orders) => print_order(rt, &orders)?,
         Err(_) => println!(rt; "out of memory")?,
     }
     match rows::readings(alloc) {

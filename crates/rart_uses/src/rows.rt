@@ -1,6 +1,7 @@
 //! The rows that the program calls the uses on.
 use crate::completions::Words;
 use crate::hops::{Routes, add_route};
+use crate::order_key::{ByOrder, OrderKey};
 use crate::pairs::{Orders, key_of};
 use crate::readings::Readings;
 use rart::{ArrayKey, Error, KeyTrait};
@@ -29,6 +30,14 @@ pub fn orders(alloc: Global) -> Result<Orders, Error> {
     for (customer, order) in [(7_u32, 300_u32), (7, 2), (8, 1)] {
         orders.insert_k(&key_of(customer, order), u64::from(order))?;
     }
+    Ok(orders)
+}
+
+/// Returns two orders of a customer; the value of each is its number.
+pub fn by_order(alloc: Global) -> Result<ByOrder, Error> {
+    let mut orders = ByOrder::new(alloc);
+    orders.insert_k(&OrderKey::new(7, 300), 300)?;
+    orders.insert_k(&OrderKey::new(7, 2), 2)?;
     Ok(orders)
 }
 
