@@ -22,6 +22,8 @@ mod rows6;
 #[cfg(test)]
 mod short;
 #[cfg(test)]
+mod tables;
+#[cfg(test)]
 mod walks4;
 #[cfg(test)]
 mod walks6;

@@ -1,27 +1,85 @@
-//! A slow model of a table of IPv4 networks: its routes in any order, and answers by going through all of them.
+//! A slow model of a table of networks: its routes in any order, and answers by going through all of them.
 
-use rart_cidr::{Cidr4, CidrTable4, Routes4};
-use std::net::Ipv4Addr;
+use crate::tables::Table;
 
-/// A route of the model.
-pub type Route = (Cidr4, u64);
-
-// Whether `addr` has the first bits of `net`, by arithmetic on both as numbers.
-fn contains(net: &Cidr4, addr: Ipv4Addr) -> bool {
-    let differ = net.addr().to_bits() ^ addr.to_bits();
-    differ
-        .checked_shr(32_u32.wrapping_sub(u32::from(net.len())))
-        .unwrap_or(0)
-        == 0
+/// A network: its first address as a number of 128 bits, which begins with the address's, and its length. Networks are
+/// ordered by address, then by length.
+#[derive(Clone, Copy, PartialEq, Eq, PartialOrd, Ord)]
+pub struct Network {
+    pub addr: u128,
+    pub len: u8,
 }
 
-// Whether all addresses of `inner` are in `net`.
-fn contains_net(net: &Cidr4, inner: &Cidr4) -> bool {
-    net.len() <= inner.len() && contains(net, inner.addr())
+/// A network and its target.
+pub type Route = (Network, u64);
+
+/// The networks that contain an address, or those inside a network.
+#[derive(Clone, Copy)]
+pub enum Group {
+    Around(u128),
+    Inside(Network),
+}
+
+/// What a walk gave so far.
+#[derive(Clone, Copy)]
+pub struct Seen {
+    count: usize,
+    last: Option<Network>,
+    is_right: bool,
+}
+
+impl Network {
+    /// Returns the network of the first `len` bits of `addr`, at most 128.
+    pub fn masked(addr: u128, len: u8) -> Network {
+        let hosts = u128::MAX.checked_shr(u32::from(len)).unwrap_or(0);
+        Network {
+            addr: addr & !hosts,
+            len,
+        }
+    }
+
+    // Whether `addr` begins with the network's bits.
+    fn contains(&self, addr: u128) -> bool {
+        let differ = self.addr ^ addr;
+        differ
+            .checked_shr(128_u32.wrapping_sub(u32::from(self.len)))
+            .unwrap_or(0)
+            == 0
+    }
+}
+
+impl Group {
+    fn has(self, net: &Network) -> bool {
+        match self {
+            Group::Around(addr) => net.contains(addr),
+            Group::Inside(outer) => outer.len <= net.len && outer.contains(net.addr),
+        }
+    }
+}
+
+impl Seen {
+    pub fn new() -> Seen {
+        Seen {
+            count: 0,
+            last: None,
+            is_right: true,
+        }
+    }
+
+    /// Adds a route, which is wrong if it isn't of the group, doesn't come after the last one, or isn't in `routes`.
+    pub fn add(&mut self, routes: &[Route], group: Group, route: Route) {
+        let (net, target) = route;
+        self.is_right = self.is_right
+            && self.last < Some(net)
+            && group.has(&net)
+            && target_of(routes, &net) == Some(target);
+        self.last = Some(net);
+        self.count = self.count.wrapping_add(1);
+    }
 }
 
 /// Returns the target of exactly `net`.
-pub fn target_of(routes: &[Route], net: &Cidr4) -> Option<u64> {
+pub fn target_of(routes: &[Route], net: &Network) -> Option<u64> {
     let mut found = None;
     for route in routes {
         if route.0 == *net {
@@ -31,112 +89,81 @@ pub fn target_of(routes: &[Route], net: &Cidr4) -> Option<u64> {
     found
 }
 
-/// Returns the length and the target of the longest network that contains `addr`.
-pub fn longest(routes: &[Route], addr: Ipv4Addr) -> Option<(u8, u64)> {
-    let mut found: Option<(u8, u64)> = None;
+// The route with the longest network that contains `addr`.
+fn longest(routes: &[Route], addr: u128) -> Option<Route> {
+    let mut found: Option<Route> = None;
     for route in routes {
-        if contains(&route.0, addr) {
-            let len = route.0.len();
+        if route.0.contains(addr) {
             match found {
-                Some((most, _)) if len <= most => {}
-                _ => found = Some((len, route.1)),
+                Some((net, _)) if route.0.len <= net.len => {}
+                _ => found = Some(*route),
             }
         }
     }
     found
 }
 
-/// Returns how many networks contain `addr`.
-pub fn count_of_matches(routes: &[Route], addr: Ipv4Addr) -> usize {
+// How many networks are of the group.
+fn count_of(routes: &[Route], group: Group) -> usize {
     let mut count = 0_usize;
     for route in routes {
-        if contains(&route.0, addr) {
+        if group.has(&route.0) {
             count = count.wrapping_add(1);
         }
     }
     count
 }
 
-/// Returns the length and the target of the table's longest match.
-pub fn table_longest(table: &CidrTable4<u64>, addr: Ipv4Addr) -> Option<(u8, u64)> {
-    match table.longest_match(addr) {
-        Some((net, target)) => Some((net.len(), *target)),
-        None => None,
-    }
+/// Returns whether the table's walk of a group gives the routes of the model in order.
+pub fn is_walked<T: Table>(table: &T, routes: &[Route], group: Group) -> bool {
+    let seen = table.walk(routes, group);
+    seen.is_right && seen.count == count_of(routes, group)
 }
 
-/// Returns the same, found by trying each length.
-pub fn table_by_lengths(table: &CidrTable4<u64>, addr: Ipv4Addr) -> Option<(u8, u64)> {
-    match table.longest_by_lengths(&Cidr4::host(addr)) {
-        Some((net, target)) => Some((net.len(), *target)),
-        None => None,
-    }
-}
-
-/// Returns how many matches the table gives, or `None` if one isn't longer than the one before it or isn't a route.
-pub fn table_matches(table: &CidrTable4<u64>, routes: &[Route], addr: Ipv4Addr) -> Option<usize> {
-    let mut count = 0_usize;
-    let mut last: Option<u8> = None;
-    for (net, target) in table.matches(addr) {
-        if last >= Some(net.len()) || target_of(routes, &net) != Some(*target) {
-            return None;
-        }
-        last = Some(net.len());
-        count = count.wrapping_add(1);
-    }
-    Some(count)
-}
-
-/// Returns how many routes are inside `net`.
-pub fn count_within(routes: &[Route], net: &Cidr4) -> usize {
-    let mut count = 0_usize;
-    for route in routes {
-        if contains_net(net, &route.0) {
-            count = count.wrapping_add(1);
-        }
-    }
-    count
-}
-
-// How many routes a walk gives, or `None` if one doesn't come after the one before it, isn't inside `net`, or isn't a
-// route.
-fn walked(walk: Routes4<'_, u64>, routes: &[Route], net: &Cidr4) -> Option<usize> {
-    let mut count = 0_usize;
-    let mut last: Option<Cidr4> = None;
-    for (inside, target) in walk {
-        if last >= Some(inside)
-            || !contains_net(net, &inside)
-            || target_of(routes, &inside) != Some(*target)
-        {
-            return None;
-        }
-        last = Some(inside);
-        count = count.wrapping_add(1);
-    }
-    Some(count)
-}
-
-/// Returns whether the walk of the routes inside `net` gives those of the model in order.
-pub fn is_within(table: &CidrTable4<u64>, routes: &[Route], net: &Cidr4) -> bool {
-    match table.within(*net) {
-        Ok(walk) => walked(walk, routes, net) == Some(count_within(routes, net)),
-        Err(_) => false,
-    }
-}
-
-/// Returns whether the walk of all routes gives those of the model in order.
-pub fn is_walked(table: &CidrTable4<u64>, routes: &[Route]) -> bool {
-    let all = Cidr4::masked(Ipv4Addr::UNSPECIFIED, 0);
-    match table.iter() {
-        Ok(walk) => walked(walk, routes, &all) == Some(routes.len()),
-        Err(_) => false,
-    }
+/// Returns whether table and model have the same longest match of `addr`.
+pub fn is_longest<T: Table>(table: &T, routes: &[Route], addr: u128) -> bool {
+    let wanted = longest(routes, addr);
+    table.longest(addr) == wanted && table.longest_by_tries(addr) == wanted
 }
 
 /// Returns whether table and model answer alike about `addr`.
-pub fn is_alike(table: &CidrTable4<u64>, routes: &[Route], addr: Ipv4Addr) -> bool {
-    let wanted = longest(routes, addr);
-    table_longest(table, addr) == wanted
-        && table_by_lengths(table, addr) == wanted
-        && table_matches(table, routes, addr) == Some(count_of_matches(routes, addr))
+pub fn is_alike<T: Table>(table: &T, routes: &[Route], addr: u128) -> bool {
+    is_longest(table, routes, addr) && is_walked(table, routes, Group::Around(addr))
+}
+
+/// Inserts into the routes, and returns the old target; or `None` where there is no memory.
+pub fn put(routes: &mut Vec<Route>, net: Network, target: u64) -> Option<Option<u64>> {
+    let was = target_of(routes.as_slice(), &net);
+    for route in routes.as_mut_slice() {
+        if route.0 == net {
+            route.1 = target;
+        }
+    }
+    if was.is_none() {
+        routes.push((net, target)).ok()?;
+    }
+    Some(was)
+}
+
+// The place of a network among the routes.
+fn place_of(routes: &[Route], net: &Network) -> Option<usize> {
+    let mut found = None;
+    let mut at = 0_usize;
+    for route in routes {
+        if route.0 == *net {
+            found = Some(at);
+        }
+        at = at.wrapping_add(1);
+    }
+    found
+}
+
+/// Removes from the routes, and returns the old target.
+pub fn take(routes: &mut Vec<Route>, net: Network) -> Option<u64> {
+    let at = place_of(routes.as_slice(), &net)?;
+    if at < routes.len() {
+        Some(routes.swap_remove(at).1)
+    } else {
+        None
+    }
 }

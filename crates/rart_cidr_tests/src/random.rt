@@ -1,15 +1,13 @@
-//! A run of calls that look random, beside a slow model.
+//! Runs of calls that look random, beside a slow model.
 
-use crate::model::{
-    Route, is_walked, is_within, longest, table_by_lengths, table_longest, target_of,
-};
-use rart_cidr::{Cidr4, CidrTable4};
+use crate::model::{Group, Network, Route, is_alike, is_longest, is_walked, put, take, target_of};
+use crate::tables::Table;
+use rart_cidr::{CidrTable4, CidrTable6};
 use std::alloc::Global;
-use std::net::Ipv4Addr;
 use std::process::Abort;
 
 /// Is the number of calls.
-const CALLS: u64 = 100_000;
+const CALLS: u32 = 100_000;
 
 // A number that looks random, from the one before it.
 fn next_number(number: u64) -> u64 {
@@ -28,99 +26,121 @@ fn octet(number: u64) -> u8 {
     }
 }
 
-fn address(number: u64) -> Ipv4Addr {
-    Ipv4Addr::from_octets([
-        octet(number),
-        octet(number >> 2),
-        octet(number >> 4),
-        octet(number >> 6),
-    ])
-}
-
-fn network(number: u64) -> Cidr4 {
-    Cidr4::masked(address(number), ((number >> 8) % 33) as u8)
-}
-
-fn set_target(routes: &mut [Route], net: &Cidr4, target: u64) {
-    for route in routes {
-        if route.0 == *net {
-            route.1 = target;
-        }
+// An address of four octets, or of two octets that are each repeated: each pair of octets can meet at each border.
+fn address(number: u64, octets: u8) -> u128 {
+    if octets == 4 {
+        let addr = [
+            octet(number),
+            octet(number >> 2),
+            octet(number >> 4),
+            octet(number >> 6),
+        ];
+        return u128::from(u32::from_be_bytes(addr)) << 96;
     }
+    let first = u128::from_be_bytes([octet(number); 16]);
+    let last = u128::from_be_bytes([octet(number >> 2); 16]);
+    let hosts = u128::MAX >> (8 * ((number >> 4) % 16) as u32);
+    first & !hosts | last & hosts
 }
 
-fn insert(
-    rt: &impl Abort,
-    table: &mut CidrTable4<u64>,
-    routes: &mut Vec<Route>,
-    net: Cidr4,
-    target: u64,
-) {
-    let was = target_of(routes.as_slice(), &net);
-    assert!(rt; matches!(table.insert(&net, target), Ok(old) if old == was));
-    match was {
-        Some(_) => set_target(routes.as_mut_slice(), &net, target),
-        None => assert!(rt; routes.push((net, target)).is_ok()),
-    }
+// An address, in each other call with one bit changed, so that a shorter network is the longest match.
+fn probe(number: u64, octets: u8) -> u128 {
+    let at = (number >> 40) % (16 * u64::from(octets) + 1);
+    let bit = (1_u128 << 127).checked_shr(at as u32).unwrap_or(0);
+    address(number >> 8, octets) ^ bit
 }
 
-// The place of a network among the routes.
-fn place_of(routes: &[Route], net: &Cidr4) -> Option<usize> {
-    let mut found = None;
-    let mut at = 0_usize;
-    for route in routes {
-        if route.0 == *net {
-            found = Some(at);
-        }
-        at = at.wrapping_add(1);
-    }
-    found
+// A length: each other one at the border of an octet, or one bit more or less.
+fn length(number: u64, octets: u8) -> u8 {
+    let octets = u64::from(octets.min(16));
+    let most = 8 * octets;
+    let len = if number % 2 == 0 {
+        (number >> 1) % (most + 1)
+    } else {
+        let border = 8 * ((number >> 1) % (octets + 1));
+        (border + (number >> 16) % 3).saturating_sub(1)
+    };
+    len.min(most) as u8
 }
 
-fn remove(rt: &impl Abort, table: &mut CidrTable4<u64>, routes: &mut Vec<Route>, net: Cidr4) {
-    let was = target_of(routes.as_slice(), &net);
-    assert!(rt; matches!(table.remove(&net), Ok(old) if old == was));
-    if let Some(at) = place_of(routes.as_slice(), &net) {
-        if at < routes.len() {
-            routes.swap_remove(at);
-        }
-    }
+fn network(number: u64, octets: u8) -> Network {
+    Network::masked(address(number, octets), length(number >> 8, octets))
 }
 
-fn look_up(rt: &impl Abort, table: &CidrTable4<u64>, routes: &[Route], number: u64) {
-    let addr = address(number >> 8);
-    let wanted = longest(routes, addr);
-    assert!(rt; table_longest(table, addr) == wanted);
-    assert!(rt; table_by_lengths(table, addr) == wanted);
-    let net = network(number >> 20);
-    assert!(rt; table.get(&net).copied() == target_of(routes, &net));
+// Whether table and model answer alike about an address, and about a network.
+fn is_found<T: Table>(table: &T, routes: &[Route], addr: u128, net: Network) -> bool {
+    is_longest(table, routes, addr) && table.target(net) == target_of(routes, &net)
 }
 
-fn play(rt: &impl Abort, alloc: Global, seed: u64) -> usize {
-    let mut table = CidrTable4::new(alloc);
-    let mut routes: Vec<Route> = Vec::new(alloc);
-    let mut number = seed;
+// Whether both give the same walk of the routes inside a network, and of those that cover an address; at times of all.
+fn are_walked<T: Table>(table: &T, routes: &[Route], number: u64) -> bool {
+    let all = Group::Inside(Network { addr: 0, len: 0 });
+    let inside = Group::Inside(network(number >> 20, T::OCTETS));
+    is_walked(table, routes, inside)
+        && is_alike(table, routes, probe(number, T::OCTETS))
+        && (number % 4096 != 4095 || is_walked(table, routes, all))
+}
+
+// Whether a call is answered as by the model.
+fn is_answered<T: Table>(table: &mut T, routes: &mut Vec<Route>, number: u64) -> bool {
+    let net = network(number >> 20, T::OCTETS);
+    let is_right = match number % 8 {
+        0 | 1 => match put(routes, net, number >> 40) {
+            Some(was) => table.put(net, number >> 40) == Some(was),
+            None => false,
+        },
+        2 | 3 => match table.take(net) {
+            Ok(old) => old == take(routes, net),
+            Err(_) => false,
+        },
+        _ => is_found(table, routes.as_slice(), probe(number, T::OCTETS), net),
+    };
+    is_right
+        && table.count() == routes.len()
+        && (number % 64 != 63 || are_walked(table, routes.as_slice(), number))
+}
+
+// The number of the first call that is answered otherwise, and the most routes that there were.
+fn play<T: Table>(table: &mut T, routes: &mut Vec<Route>) -> (Option<u32>, usize) {
+    let mut number = 0x2545_f491_4f6c_dd1d_u64;
+    let mut wrong = None;
     let mut most = 0_usize;
-    for _ in 0..CALLS {
+    for at in 0..CALLS {
         number = next_number(number);
-        let net = network(number >> 20);
-        match number % 8 {
-            0 | 1 => insert(rt, &mut table, &mut routes, net, number >> 40),
-            2 | 3 => remove(rt, &mut table, &mut routes, net),
-            _ => look_up(rt, &table, routes.as_slice(), number),
+        if wrong.is_none() && !is_answered(table, routes, number) {
+            wrong = Some(at);
         }
-        if number % 4096 == 4095 {
-            assert!(rt; is_walked(&table, routes.as_slice()));
-            assert!(rt; is_within(&table, routes.as_slice(), &net));
-        }
-        assert!(rt; table.len() == routes.len());
         most = most.max(routes.len());
     }
-    most
+    (wrong, most)
+}
+
+fn played4(alloc: Global) -> (Option<u32>, usize) {
+    let mut table: CidrTable4<u64> = CidrTable4::new(alloc);
+    let mut routes: Vec<Route> = Vec::new(alloc);
+    play(&mut table, &mut routes)
+}
+
+fn played6(alloc: Global) -> (Option<u32>, usize) {
+    let mut table: CidrTable6<u64> = CidrTable6::new(alloc);
+    let mut routes: Vec<Route> = Vec::new(alloc);
+    play(&mut table, &mut routes)
+}
+
+fn assert_none_wrong(rt: &impl Abort, played: (Option<u32>, usize), least: usize) {
+    let (wrong, most) = played;
+    if let Some(at) = wrong {
+        assert!(rt; false, "call {at} differs");
+    }
+    assert!(rt; most > least, "{most}");
 }
 
 #[test]
-fn a_table_and_its_model_answer_alike(rt: HostRuntime) {
-    let most = play(&rt, rt.alloc(), 0x2545_f491_4f6c_dd1d);
-    assert!(rt; most > 100, "{most}");
+fn a_table_of_ipv4_networks_and_its_model_answer_alike(rt: HostRuntime) {
+    assert_none_wrong(&rt, played4(rt.alloc()), 900);
+}
+
+#[test]
+fn a_table_of_ipv6_networks_and_its_model_answer_alike(rt: HostRuntime) {
+    assert_none_wrong(&rt, played6(rt.alloc()), 3500);
 }

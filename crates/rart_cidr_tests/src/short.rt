@@ -1,110 +1,134 @@
 //! All networks of at most eight bits, each alone and all together.
 
-use crate::model::{Route, is_alike, is_walked, is_within};
-use rart_cidr::{Cidr4, CidrTable4};
+use crate::model::{Group, Network, Route, is_alike, is_walked, put};
+use crate::tables::Table;
+use rart_cidr::{CidrTable4, CidrTable6};
 use std::alloc::Global;
-use std::net::Ipv4Addr;
 use std::process::Abort;
 
 // The network of the first `len` bits of a first octet, where it has no others.
-fn short(byte: usize, len: usize) -> Option<Cidr4> {
-    match Cidr4::new(
-        Ipv4Addr::from_octets([(byte % 256) as u8, 0, 0, 0]),
-        (len % 256) as u8,
-    ) {
-        Ok(net) => Some(net),
-        Err(_) => None,
-    }
+fn short(byte: u8, len: u8) -> Option<Network> {
+    let addr = u128::from(byte) << 120;
+    let net = Network::masked(addr, len);
+    (net.addr == addr).then_some(net)
 }
 
-fn first_octet(byte: usize) -> Ipv4Addr {
-    Ipv4Addr::from_octets([(byte % 256) as u8, 1, 2, 3])
+fn first_octet(byte: u8) -> u128 {
+    u128::from_be_bytes([byte, 1, 2, 3, 4, 5, 6, 7, 8, 9, 10, 11, 12, 13, 14, 15])
 }
 
-// Whether a table of this route alone answers as its model about all first octets.
-fn is_alone(rt: &impl Abort, alloc: Global, net: Cidr4) -> bool {
-    let mut table = CidrTable4::new(alloc);
-    assert!(rt; matches!(table.insert(&net, 7_u64), Ok(None)));
+// Whether an empty table, with this route alone, answers as its model about all first octets.
+fn is_alone<T: Table>(table: &mut T, net: Network) -> bool {
     let routes: [Route; 1] = [(net, 7)];
-    let mut assert_none_wrong = table.len() == 1;
-    for byte in 0..256_usize {
-        assert_none_wrong = assert_none_wrong && is_alike(&table, &routes, first_octet(byte));
+    let mut is_right = table.put(net, 7) == Some(None) && table.count() == 1;
+    for byte in 0..=255_u8 {
+        is_right = is_right && is_alike(table, &routes, first_octet(byte));
     }
-    assert!(rt; matches!(table.remove(&net), Ok(Some(7))));
-    assert_none_wrong && table.is_empty() && table.longest_match(first_octet(0)).is_none()
+    is_right && matches!(table.take(net), Ok(Some(7))) && table.count() == 0
+}
+
+// How many networks were tried, until one was answered wrong.
+fn count_alone<T: Table>(table: &mut T) -> usize {
+    let mut count = 0_usize;
+    let mut is_right = true;
+    for len in 0..9_u8 {
+        for byte in 0..=255_u8 {
+            if let Some(net) = short(byte, len) {
+                is_right = is_right && is_alone(table, net);
+                if is_right {
+                    count = count.wrapping_add(1);
+                }
+            }
+        }
+    }
+    count
+}
+
+// Whether all of them are inserted, the longest first.
+fn are_put<T: Table>(table: &mut T, routes: &mut Vec<Route>) -> bool {
+    let mut is_right = true;
+    for less in 0..9_u8 {
+        for byte in 0..=255_u8 {
+            if let Some(net) = short(byte, 8 - less) {
+                let target = routes.len() as u64;
+                is_right = is_right
+                    && put(routes, net, target) == Some(None)
+                    && table.put(net, target) == Some(None);
+            }
+        }
+    }
+    is_right
+}
+
+// Whether the walk of the routes inside each short network gives them in order.
+fn are_walked<T: Table>(table: &T, routes: &[Route]) -> bool {
+    let mut is_right = true;
+    for len in 0..9_u8 {
+        for byte in 0..=255_u8 {
+            if let Some(net) = short(byte, len) {
+                is_right = is_right && is_walked(table, routes, Group::Inside(net));
+            }
+        }
+    }
+    is_right
+}
+
+// Whether a route is removed, after which table and model answer alike.
+fn is_taken<T: Table>(table: &mut T, routes: &[Route], route: Route) -> bool {
+    let (net, target) = route;
+    matches!(table.take(net), Ok(Some(was)) if was == target)
+        && table.target(net).is_none()
+        && table.count() == routes.len()
+        && is_alike(table, routes, first_octet((target % 256) as u8))
+}
+
+fn are_taken<T: Table>(table: &mut T, routes: &mut Vec<Route>) -> bool {
+    let mut is_right = true;
+    for _ in 0..511_usize {
+        match routes.pop() {
+            Some(route) => is_right = is_right && is_taken(table, routes.as_slice(), route),
+            None => is_right = false,
+        }
+    }
+    is_right
+}
+
+fn are_together<T: Table>(table: &mut T, alloc: Global) -> bool {
+    let mut routes: Vec<Route> = Vec::new(alloc);
+    are_put(table, &mut routes)
+        && are_walked(table, routes.as_slice())
+        && are_taken(table, &mut routes)
+        && table.count() == 0
+}
+
+fn count_alone4(alloc: Global) -> usize {
+    let mut table: CidrTable4<u64> = CidrTable4::new(alloc);
+    count_alone(&mut table)
+}
+
+fn count_alone6(alloc: Global) -> usize {
+    let mut table: CidrTable6<u64> = CidrTable6::new(alloc);
+    count_alone(&mut table)
+}
+
+fn are_together4(alloc: Global) -> bool {
+    let mut table: CidrTable4<u64> = CidrTable4::new(alloc);
+    are_together(&mut table, alloc)
+}
+
+fn are_together6(alloc: Global) -> bool {
+    let mut table: CidrTable6<u64> = CidrTable6::new(alloc);
+    are_together(&mut table, alloc)
 }
 
 #[test]
 fn each_short_network_alone(rt: HostRuntime) {
-    let mut count = 0_usize;
-    for len in 0..9_usize {
-        for byte in 0..256_usize {
-            if let Some(net) = short(byte, len) {
-                assert!(rt; is_alone(&rt, rt.alloc(), net), "{byte}/{len}");
-                count = count.wrapping_add(1);
-            }
-        }
-    }
-    assert_eq!(rt; count, 511);
-}
-
-// Inserts all of them, the longest first, and returns the routes.
-fn all_short(rt: &impl Abort, alloc: Global, table: &mut CidrTable4<u64>) -> Vec<Route> {
-    let mut routes: Vec<Route> = Vec::new(alloc);
-    for less in 0..9_usize {
-        for byte in 0..256_usize {
-            if let Some(net) = short(byte, 8 - less) {
-                let target = routes.len() as u64;
-                assert!(rt; matches!(table.insert(&net, target), Ok(None)));
-                assert!(rt; routes.push((net, target)).is_ok());
-            }
-        }
-    }
-    routes
-}
-
-// Whether the walk of the routes inside each short network gives them in order.
-fn are_within(table: &CidrTable4<u64>, routes: &[Route]) -> bool {
-    let mut went_well = is_walked(table, routes);
-    for len in 0..9_usize {
-        for byte in 0..256_usize {
-            if let Some(net) = short(byte, len) {
-                went_well = went_well && is_within(table, routes, &net);
-            }
-        }
-    }
-    went_well
-}
-
-// Removes a route, after which table and model answer alike.
-fn take_out(
-    rt: &impl Abort,
-    table: &mut CidrTable4<u64>,
-    routes: &[Route],
-    net: Cidr4,
-    target: u64,
-) {
-    assert!(rt; matches!(table.remove(&net), Ok(Some(was)) if was == target));
-    assert!(rt; table.get(&net).is_none());
-    assert_eq!(rt; table.len(), routes.len());
-    let octet = first_octet((target % 256) as usize);
-    assert!(rt; is_alike(table, routes, octet), "after {target}");
-}
-
-fn take_out_all(rt: &impl Abort, table: &mut CidrTable4<u64>, routes: &mut Vec<Route>) {
-    for _ in 0..511_usize {
-        match routes.pop() {
-            Some((net, target)) => take_out(rt, table, routes.as_slice(), net, target),
-            None => assert!(rt; false, "too few"),
-        }
-    }
+    assert_eq!(rt; count_alone4(rt.alloc()), 511);
+    assert_eq!(rt; count_alone6(rt.alloc()), 511);
 }
 
 #[test]
 fn all_short_networks_together(rt: HostRuntime) {
-    let mut table = CidrTable4::new(rt.alloc());
-    let mut routes = all_short(&rt, rt.alloc(), &mut table);
-    assert!(rt; are_within(&table, routes.as_slice()));
-    take_out_all(&rt, &mut table, &mut routes);
-    assert!(rt; table.is_empty());
+    assert!(rt; are_together4(rt.alloc()));
+    assert!(rt; are_together6(rt.alloc()));
 }
