@@ -2,6 +2,7 @@
 
 mod asks_for_nothing;
 mod calls;
+mod clones;
 mod drops;
 mod ends;
 mod errors;

@@ -1,0 +1,108 @@
+//! Clones of a tree: equal to it, apart from it, each value dropped once, and refused in turn.
+
+use rart::{AdaptiveRadixTree, ArrayKey, KeyTrait};
+use rart_test_tools::counted::Counted;
+use rart_test_tools::refusals::{is_swept, refuse, was_refused};
+use std::alloc::{AllocError, Global};
+use std::cell::Cell;
+
+type Key = ArrayKey<4>;
+
+type Tree<'a> = AdaptiveRadixTree<Key, Counted<'a>>;
+
+// The numbers of pairs, around the borders of the kinds of nodes.
+const COUNTS: [u8; 9] = [0, 1, 2, 4, 5, 16, 17, 49, 255];
+
+// A key for each byte below `count`, with its byte.
+fn filled<'a>(alloc: Global, drops: &'a Cell<usize>, count: u8) -> Tree<'a> {
+    let mut tree = Tree::new(alloc);
+    for byte in 0..count {
+        let key = Key::new_from_slice(&[b'n', byte]);
+        let _old = tree.insert(key, Counted(byte, drops));
+    }
+    tree
+}
+
+// Whether the tree has these numbers at these keys, and no more pairs.
+fn has_numbers(tree: &Tree<'_>, count: u8) -> bool {
+    for byte in 0..count {
+        match tree.get_bytes(&[b'n', byte]) {
+            Some(value) if value.0 == byte => {}
+            _ => return false,
+        }
+    }
+    tree.len() == usize::from(count)
+}
+
+// Whether the clone has the pairs, and the tree loses none to a removal from the clone.
+fn stands_apart(tree: &Tree<'_>, clone: &mut Tree<'_>, count: u8) -> bool {
+    let is_equal = has_numbers(clone, count);
+    let last = Key::new_from_slice(&[b'n', count.wrapping_sub(1)]);
+    let is_removed = clone.delete_k(&last).is_ok();
+    is_equal && is_removed && has_numbers(tree, count)
+}
+
+// How many values a clone drops, its removed one among them; None where the clone goes wrong.
+fn dropped_by_clone(drops: &Cell<usize>, tree: &Tree<'_>, count: u8) -> Option<usize> {
+    let before = drops.get();
+    let is_right = match tree.clone() {
+        Ok(mut clone) => stands_apart(tree, &mut clone, count),
+        Err(_refused) => false,
+    };
+    is_right.then_some(drops.get().wrapping_sub(before))
+}
+
+fn is_cloned(alloc: Global, count: u8) -> bool {
+    let drops = Cell::new(0_usize);
+    let tree = filled(alloc, &drops, count);
+    dropped_by_clone(&drops, &tree, count) == Some(usize::from(count))
+}
+
+// The first count whose clone goes wrong, if there is one.
+fn first_wrong(alloc: Global) -> Option<u8> {
+    for count in COUNTS {
+        if !is_cloned(alloc, count) {
+            return Some(count);
+        }
+    }
+    None
+}
+
+#[test]
+fn a_clone_has_the_pairs_and_drops_each_value_once(rt: HostRuntime) {
+    assert_eq!(rt; first_wrong(rt.alloc()), None);
+}
+
+// Whether a request was refused while the tree was cloned; None where the clone or the tree goes wrong.
+fn is_clone_refused(alloc: Global, at: usize, tree: &Tree<'_>, count: u8) -> Option<bool> {
+    refuse(alloc, at);
+    let clone: Result<Tree<'_>, AllocError> = tree.clone();
+    let refused = was_refused(alloc);
+    let is_right = match clone {
+        Ok(clone) => !refused && has_numbers(&clone, count),
+        Err(_refused) => refused,
+    };
+    (is_right && has_numbers(tree, count)).then_some(refused)
+}
+
+fn is_swept_at(alloc: Global, count: u8) -> bool {
+    let drops = Cell::new(0_usize);
+    let tree = filled(alloc, &drops, count);
+    is_swept(alloc, |at: usize| is_clone_refused(alloc, at, &tree, count))
+}
+
+#[test]
+fn a_clone_refused_in_turn(rt: HostRuntime) {
+    assert!(rt; is_swept_at(rt.alloc(), 2) && is_swept_at(rt.alloc(), 17));
+}
+
+fn asks_for_nothing(alloc: Global) -> bool {
+    let drops = Cell::new(0_usize);
+    let tree = filled(alloc, &drops, 0);
+    is_clone_refused(alloc, 1, &tree, 0) == Some(false)
+}
+
+#[test]
+fn the_clone_of_an_empty_tree_asks_for_nothing(rt: HostRuntime) {
+    assert!(rt; asks_for_nothing(rt.alloc()));
+}
