@@ -1,8 +1,10 @@
-//! Tests of what reads two trees: intersections, and `==`.
+//! Tests of what reads two trees: intersections, `==` and clones.
 //!
 //! Nothing depends on this crate, and it is no part of the product.
 #![tactic(auto)]
 
+#[cfg(test)]
+mod clones;
 #[cfg(test)]
 mod equal;
 #[cfg(test)]

@@ -75,7 +75,7 @@ pub fn look(model: &Model, key: &Text, probe: &Text, call: &Call) -> u64 {
             )
         }
         12 => longest_value(model, probe),
-        13 => matches(model, key, call.choice % 8),
+        13 => matches(model, key, most_of(call)),
         14 => mix(matches(model, key, 100), matches(model, probe, 100)),
         _ => {
             let last = pair_at(model, model.len().wrapping_sub(1));

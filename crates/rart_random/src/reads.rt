@@ -45,7 +45,7 @@ fn matches<K: KeyTrait + Drop>(tree: &Tree<K>, probe: &K, most: u64) -> u64 {
     for _ in 0..most {
         match found.next() {
             Some((key, value)) => sum = mix(mix_key(sum, &key), *value),
-            None => return sum,
+            None => return ended(found.next().is_none(), sum),
         }
     }
     sum
@@ -70,7 +70,7 @@ pub fn look<K: KeyTrait + Drop>(tree: &Tree<K>, key: &K, probe: &Text, call: &Ca
         10 => sum_of(tree.get_bytes(probe.as_slice()).copied()),
         11 => longest(tree, key, probe),
         12 => sum_of(tree.longest_prefix_value_bytes(probe.as_slice()).copied()),
-        13 => matches(tree, key, call.choice % 8),
+        13 => matches(tree, key, most_of(call)),
         14 => match_for_each(tree, key, probe),
         _ => mix(mix(tree.len() as u64, sum_if(tree.is_empty())), ends(tree)),
     }

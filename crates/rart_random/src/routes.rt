@@ -1,6 +1,6 @@
 //! Calls of a route table, and what they must answer.
 use crate::call::Call;
-use crate::edits::{WRONG, clears, popped, pops, refused};
+use crate::edits::{WRONG, popped, pops, refused};
 use crate::model::Model;
 use crate::model_edits::pop;
 use crate::model_reads::{longest_pair, longest_value, matches};
@@ -54,6 +54,22 @@ pub fn shape_of_routes<K: KeyTrait>(table: &RouteTable<K, u64>) -> Option<u64> {
     Some(sum_of_stats(&stats))
 }
 
+// Whether a removal is that of the last route.
+fn pops_last(call: &Call) -> bool {
+    call.choice % 16 == 15
+}
+
+// Whether a removal is one of all routes.
+fn clears_table(call: &Call) -> bool {
+    call.choice % 64 == 6
+}
+
+fn clear<K: KeyTrait>(table: &mut RouteTable<K, u64>) -> u64 {
+    let count = table.len();
+    table.clear();
+    count as u64
+}
+
 fn with_prefix<K: KeyTrait + Drop>(table: &RouteTable<K, u64>, key: &K) -> u64 {
     match table.route_with_prefix(key) {
         Some((prefix, target)) => mix(mix_key(1, &prefix), *target),
@@ -104,8 +120,9 @@ pub fn call_table<K: KeyTrait + Drop>(
         34 if call.choice % 2 == 0 => add(table, key, call.value),
         34 => add_new(table, key, call.value),
         35 => replace(table, key, call.value),
+        36 if pops_last(call) => popped(table.pop_last()),
         36 if pops(call) => popped(table.pop_first()),
-        36 if clears(call) => popped(table.pop_last()),
+        36 if clears_table(call) => Some(clear(table)),
         36 => withdraw(table, key),
         37 => {
             let route = sum_of(table.route(probe.as_slice()).copied());
@@ -144,8 +161,9 @@ pub fn wanted_of_table(model: &mut Model, key: &Text, probe: &Text, call: &Call)
     match call.kind {
         34 => wanted_add(model, key, call.value),
         35 => sum_of(model.put(key, call.value)),
+        36 if pops_last(call) => pop(model, model.len().wrapping_sub(1)),
         36 if pops(call) => pop(model, 0),
-        36 if clears(call) => pop(model, model.len().wrapping_sub(1)),
+        36 if clears_table(call) => model.clear(),
         36 => sum_of(model.remove(key)),
         37 => mix(longest_value(model, probe), sum_of(model.get(key))),
         38 => {

@@ -184,7 +184,7 @@ pub fn sum_of_stats(stats: &TreeStats) -> u64 {
     for width in WIDTHS {
         if let Some(found) = stats.node_stats.get(&width) {
             entries = entries.wrapping_add(1);
-            if found.total_nodes == 0 {
+            if found.total_nodes == 0 || found.width != width {
                 return 0;
             }
             add_at(&mut counts.nodes_of, place, found.total_nodes as u64);
