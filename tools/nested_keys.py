@@ -5,7 +5,7 @@ usage: nested_keys.py PASSED FAILED
 
 Each row of CALLS names a call on trees of 1024 keys nested in each other, whose nodes are a path, and the number that
 it answers. A call is a process of its own, whose stack has at most KIB KiB, and passes if it ends with status 0 and
-prints its row. A drop takes 1.5 KiB a level, with keys of 1 KiB. /bin/sh must have `ulimit -s`.
+prints its row. /bin/sh must have `ulimit -s`.
 
 PASSED and FAILED are the counts of the step before. The last line adds the calls to them.
 """
@@ -17,8 +17,9 @@ sys.dont_write_bytecode = True
 
 CRATE = pathlib.Path(__file__).resolve().parents[1] / "crates" / "rart_deep"
 
-# What a process may take: a quarter of what systems give.
-KIB = 2048
+# What a process may take: an eighth of what systems give. A bulk load takes 0.6 KiB a level, any other call and the
+# drop of the tree a third of a KiB at most, with keys of 1 KiB.
+KIB = 1024
 
 CALLS = [
     ("insert", 1024),

@@ -15,7 +15,7 @@ module _ {F V : Type 0} (R : F × ℕ → V → F × ℕ → Type 0) (step : (p 
   -- and each number before it has another after it
   pub can-count : (Q : F × ℕ → V → Type 0) → ((p : F × ℕ) (x : V) → p.1 + 1 < 2 ^ 64 → Q p x) → (f : F) (xs : List V)
       → length xs < 2 ^ 64 → CallableAtEach {F = F × ℕ} R Q (f, 0) xs
-  can-count Q asks f xs l = record {
-    at = λ before x after g same h. asks g x
+  can-count Q allocates f xs l = record {
+    at = λ before x after g same h. allocates g x
         (omega (arith, l, ap length same, length-append before (x ∷ after), count-from (f, 0) g before h));
   }

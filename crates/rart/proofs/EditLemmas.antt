@@ -3,7 +3,7 @@ use Rattle.std.proofs.Common.{◌≡◌, ◌≢◌, ℕ, List, Some, None, true}
 use Rattle.std.specs.Prelude.{Option, Result, Ok, Err, OnOk}
 use Rattle.std.specs.Option.{IsSomeAnd}
 use Rattle.rart_keys.specs.SortedMap.{keys_of, lookup, without}
-use Rattle.rart_nodes.specs.edits.RemoveAsks.{remove_asks}
+use Rattle.rart_nodes.specs.edits.RemoveAllocations.{remove_allocates}
 use Rattle.rart_parts.specs.declared.error.TreeError.{TreeError}
 use Rattle.rart_parts.specs.declared.error.TreeError.TheVariants.{Memory}
 use Rattle.rart.specs.Edits.{Removes}
@@ -17,7 +17,7 @@ pairs-removes key old new (Err error) removed = tt
 
 -- where the removal of the pair at an end requests memory, it may be refused
 pub may-refuse : {V : Type 0} (map : List (List ℕ × V)) (o : Option (List ℕ × V)) (error : TreeError) → error ≡ Memory
-    → IsSomeAnd o (λ p. (remove_asks (keys_of map) p.0 ≡ true) × (lookup p.0 map ≢ None))
+    → IsSomeAnd o (λ p. (remove_allocates (keys_of map) p.0 ≡ true) × (lookup p.0 map ≢ None))
     → IsSomeAnd o (λ p. MayRefuseRemove map p.0 error)
 may-refuse map None error m a = a
 may-refuse map (Some p) error m a = (m, a.1, a.0)

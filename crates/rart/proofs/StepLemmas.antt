@@ -8,37 +8,38 @@ use Rattle.rart.specs.declared.script.reply.Reply.{Reply}
 use Rattle.rart.specs.Steps.{IsRun, IsStep}
 
 -- the calls that are still ahead end the run that began with `map`, and there was a reply for each of the others
-pub record HasRun {K V : Type 0} (bytes : K → List ℕ) (map : List (List ℕ × V)) (calls : List (Call K V))
-    (replies : List (Reply K V)) (now : List (List ℕ × V)) (ahead : List (Call K V)) : Type 0 where
-  pub continues_by : (later : List (Reply K V)) (last : List (List ℕ × V)) → IsRun bytes now ahead later last
-      → IsRun bytes map calls (replies ++ later) last
+pub record HasRun {K V : Type 0} (sure : V → Type 0) (bytes : K → List ℕ) (map : List (List ℕ × V))
+    (calls : List (Call K V)) (replies : List (Reply K V)) (now : List (List ℕ × V)) (ahead : List (Call K V))
+    : Type 0 where
+  pub continues_by : (later : List (Reply K V)) (last : List (List ℕ × V)) → IsRun sure bytes now ahead later last
+      → IsRun sure bytes map calls (replies ++ later) last
   pub many : length replies + length ahead ≡ length calls
 
-pub run-begins : {K V : Type 0} (bytes : K → List ℕ) (map : List (List ℕ × V)) (calls : List (Call K V))
-    (replies : List (Reply K V)) (ahead : List (Call K V))
-    → replies ≡ [] → ahead ≡ calls → HasRun bytes map calls replies map ahead
-run-begins bytes map calls replies ahead e f = rw (e, f)
+pub run-begins : {K V : Type 0} (sure : V → Type 0) (bytes : K → List ℕ) (map : List (List ℕ × V))
+    (calls : List (Call K V)) (replies : List (Reply K V)) (ahead : List (Call K V))
+    → replies ≡ [] → ahead ≡ calls → HasRun sure bytes map calls replies map ahead
+run-begins sure bytes map calls replies ahead e f = rw (e, f)
     (record { continues_by = λ later last h. h; many = omega arith })
 
-pub run-goes_on : {K V : Type 0} (bytes : K → List ℕ) (map : List (List ℕ × V)) (calls : List (Call K V))
-    (replies more : List (Reply K V)) (now next : List (List ℕ × V)) (call : Call K V) (reply : Reply K V)
-    (ahead rest : List (Call K V))
-    → ahead ≡ call ∷ rest → more ≡ replies ++ reply ∷ [] → HasRun bytes map calls replies now ahead
-    → IsStep bytes now call reply next → HasRun bytes map calls more next rest
-run-goes_on {K} {V} bytes map calls replies more now next call reply ahead rest e f run step =
-    let had : HasRun bytes map calls replies now (call ∷ rest) = rw e at run in
+pub run-goes_on : {K V : Type 0} (sure : V → Type 0) (bytes : K → List ℕ) (map : List (List ℕ × V))
+    (calls : List (Call K V)) (replies more : List (Reply K V)) (now next : List (List ℕ × V)) (call : Call K V)
+    (reply : Reply K V) (ahead rest : List (Call K V))
+    → ahead ≡ call ∷ rest → more ≡ replies ++ reply ∷ [] → HasRun sure bytes map calls replies now ahead
+    → IsStep sure bytes now call reply next → HasRun sure bytes map calls more next rest
+run-goes_on {K} {V} sure bytes map calls replies more now next call reply ahead rest e f run step =
+    let had : HasRun sure bytes map calls replies now (call ∷ rest) = rw e at run in
     rw f (record {
-      continues_by = λ later last h. subst (λ rs. IsRun bytes map calls rs last)
+      continues_by = λ later last h. subst (λ rs. IsRun sure bytes map calls rs last)
           (sym (append_assoc replies (reply ∷ []) later)) (had.continues_by (reply ∷ later) last (next, (step, h)));
       many = omega (arith, had.many, length-append replies (reply ∷ []));
     })
 
-pub run-ends : {K V : Type 0} (bytes : K → List ℕ) (map : List (List ℕ × V)) (calls : List (Call K V))
-    (replies : List (Reply K V)) (now : List (List ℕ × V)) (ahead : List (Call K V))
-    → length ahead ≡ 0 → HasRun bytes map calls replies now ahead → IsRun bytes map calls replies now
-run-ends bytes map calls replies now [] e run
-    = subst (λ rs. IsRun bytes map calls rs now) (append-nil replies) (run.continues_by [] now refl)
-run-ends bytes map calls replies now (c ∷ cs) e run = absurd (omega arith)
+pub run-ends : {K V : Type 0} (sure : V → Type 0) (bytes : K → List ℕ) (map : List (List ℕ × V))
+    (calls : List (Call K V)) (replies : List (Reply K V)) (now : List (List ℕ × V)) (ahead : List (Call K V))
+    → length ahead ≡ 0 → HasRun sure bytes map calls replies now ahead → IsRun sure bytes map calls replies now
+run-ends sure bytes map calls replies now [] e run
+    = subst (λ rs. IsRun sure bytes map calls rs now) (append-nil replies) (run.continues_by [] now refl)
+run-ends sure bytes map calls replies now (c ∷ cs) e run = absurd (omega arith)
 
 -- why a call was refused, beside a fact that holds then
 pub refused-some : {A E P : Type 0} (r : Result A E) (m : E) → IsErrAnd r (λ e. e ≡ m) → P → IfErr r (λ e. (e ≡ m) × P)

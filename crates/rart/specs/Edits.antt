@@ -1,10 +1,12 @@
 -- What each edit of a tree returns, and the map after it, with Ok and with Err.
 use Rattle.std.specs.Prelude.{◌≡◌, ◌≢◌, ℕ, Bool, List, length, is_some, Option, None, Result, Ok, Err, MatchResult}
+use Rattle.rart_keys.specs.Filters.{below}
 use Rattle.rart_keys.specs.SortedMap.{lookup, put, without}
 use Rattle.rart_nodes.specs.declared.refused.Refused.{Refused}
+use Rattle.rart_nodes.specs.edits.PrefixRemovals.{without_prefix}
 use Rattle.rart_parts.specs.declared.error.TreeError.{TreeError}
 use Rattle.rart.specs.MapAndShape.{MapAndShape}
-use Rattle.rart.specs.Refusals.{MayRefuseRemove, MayRefuseInsert, ShowsWhy, IsNotInserted}
+use Rattle.rart.specs.Refusals.{MayRefuseRemove, MayRefuseInsert, MayRefuseTakePrefix, ShowsWhy, IsNotInserted}
 use Rattle.rart.specs.declared.tree.TheConstants.{MAX_PAIRS}
 use Rattle.rart_nodes.specs.declared.refused.NotInserted.{NotInserted}
 use Rattle.rart.specs.declared.tree.try_insert.TryInsertError.{TryInsertError}
@@ -41,3 +43,13 @@ module _ {V : Type 0} where
   abbrev pub Deletes : List ℕ → List (List ℕ × V) → List (List ℕ × V) → Result Bool TreeError → Type 0
   Deletes key old new (Ok found) = (found ≡ is_some (lookup key old)) × (new ≡ without key old)
   Deletes key old new (Err error) = MayRefuseRemove old key error × (new ≡ old)
+
+  -- `take_prefix`. Ok: the pairs below the prefix are removed and returned as a tree. Err: the map is unchanged
+  abbrev pub TakesPrefix : List ℕ → List (List ℕ × V) → List (List ℕ × V) → Result (MapAndShape V) TreeError → Type 0
+  TakesPrefix prefix old new (Ok taken) = (taken.pairs ≡ below prefix old) × (new ≡ without_prefix prefix old)
+  TakesPrefix prefix old new (Err error) = MayRefuseTakePrefix old prefix error × (new ≡ old)
+
+  -- `remove_prefix`. Ok: the pairs below the prefix are removed, their number is returned. Err: the map is unchanged
+  abbrev pub RemovesPrefix : List ℕ → List (List ℕ × V) → List (List ℕ × V) → Result ℕ TreeError → Type 0
+  RemovesPrefix prefix old new (Ok count) = (count ≡ length (below prefix old)) × (new ≡ without_prefix prefix old)
+  RemovesPrefix prefix old new (Err error) = MayRefuseTakePrefix old prefix error × (new ≡ old)

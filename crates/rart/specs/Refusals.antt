@@ -1,8 +1,9 @@
 -- When an edit may be refused, and what a refused insertion hands back.
 use Rattle.std.specs.Prelude.{◌≡◌, ◌≢◌, ◌<◌, ◌≤◌, ℕ, List, length, true, Some, None, Result, Ok, Err}
 use Rattle.rart_keys.specs.SortedMap.{keys_of, lookup}
-use Rattle.rart_nodes.specs.edits.InsertAsks.{insert_asks}
-use Rattle.rart_nodes.specs.edits.RemoveAsks.{remove_asks}
+use Rattle.rart_nodes.specs.edits.InsertAllocations.{insert_allocates}
+use Rattle.rart_nodes.specs.edits.PrefixRemovals.{TakeAllocates}
+use Rattle.rart_nodes.specs.edits.RemoveAllocations.{remove_allocates}
 use Rattle.rart_parts.specs.declared.error.TreeError.{TreeError}
 use Rattle.rart_parts.specs.declared.error.TreeError.TheVariants.{Memory, Full}
 use Rattle.rart.specs.declared.tree.TheConstants.{MAX_PAIRS}
@@ -16,12 +17,17 @@ use Rattle.rart.specs.declared.tree.try_insert.TryInsertError.TheVariants as try
 abbrev pub MayRefuseInsert : {V : Type 0} → List (List ℕ × V) → List ℕ → TreeError → Type 0
 MayRefuseInsert map key Full = (lookup key map ≡ None) × (length map ≡ MAX_PAIRS)
 MayRefuseInsert map key Memory = (lookup key map ≡ None) × (length map < MAX_PAIRS)
-    × (insert_asks (keys_of map) key ≡ true)
+    × (insert_allocates (keys_of map) key ≡ true)
 
 -- the removal of this key may be refused for this reason: the key is stored, and the keys say that its removal requests
 -- memory
 abbrev pub MayRefuseRemove : {V : Type 0} → List (List ℕ × V) → List ℕ → TreeError → Type 0
-MayRefuseRemove map key error = (error ≡ Memory) × (lookup key map ≢ None) × (remove_asks (keys_of map) key ≡ true)
+MayRefuseRemove map key error = (error ≡ Memory) × (lookup key map ≢ None) × (remove_allocates (keys_of map) key ≡ true)
+
+-- the removal of all keys below a prefix may be refused for this reason: there is such a key, and the keys say that the
+-- removal requests memory
+abbrev pub MayRefuseTakePrefix : {V : Type 0} → List (List ℕ × V) → List ℕ → TreeError → Type 0
+MayRefuseTakePrefix map prefix error = (error ≡ Memory) × TakeAllocates prefix map
 
 -- the statistics of these keys may be refused for this reason: there are at least two keys
 abbrev pub MayLackStatistics : List (List ℕ) → TreeError → Type 0

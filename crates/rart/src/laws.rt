@@ -53,7 +53,7 @@ pub fn equal_keys_equal_statistics<K: KeyTrait, V, L: KeyTrait, W>(
         (λ r. stats_in r.1 ≡ stats_of (keys_of other.now.pairs) other.now.nodes) }
     ensures equal { IfOk result (λ r. stats_in r.1 ≡ stats_in r.0) }
     ensures memory { IfErr result (λ e. e ≡ TreeError.Memory) }
-    ensures asks { OnErr result (2 ≤ length (keys_of one.now.pairs)) }
+    ensures allocates { OnErr result (2 ≤ length (keys_of one.now.pairs)) }
 {
     equal_keys_equal_nodes(one, other);
     Ok((one.get_tree_stats()?, other.get_tree_stats()?))

@@ -10,6 +10,7 @@
 
 mod bulk;
 mod callbacks;
+mod descending;
 mod error;
 pub mod iter;
 pub mod laws;
@@ -23,6 +24,7 @@ pub mod tree;
 mod views;
 
 pub use crate::bulk::BulkError;
+pub use crate::descending::{Descending, RangeDescending, SeenDescending, SeenRangeDescending};
 pub use crate::error::Error;
 pub use crate::iter::{Iter, PrefixMatchIter, SeenIter, ValuesIter};
 pub use crate::migrate::MigrateError;

@@ -1,5 +1,5 @@
 //! Calls of a tree as values: a list of calls runs on a tree and returns the list of replies.
-ghost use Rattle.std.specs.Prelude.{◌≡◌, ◌≢◌, Err, None, IfErr, IfOk, OnErr, length};
+ghost use Rattle.std.specs.Prelude.{◌≡◌, ◌≢◌, Err, Some, IfErr, IfOk, OnErr, length};
 ghost use Rattle.rart_keys.specs.SortedMap.{keys_of, lookup, values_of};
 ghost use Rattle.rart_nodes.specs.shapes.Shape.{HasShape};
 ghost use Rattle.rart_nodes.specs.walks.Calls.{MayLackRoom};
@@ -36,7 +36,7 @@ pub fn step<K: KeyTrait + Drop, V: Copy>(
     call: Call<K, V>,
 ) -> Reply<K, V>
     requires clones { (x y : V) → V.is_clone x y → y ≡ x }
-    ensures { IsStep K.bytes tree.old.pairs call result tree.new.pairs }
+    ensures { IsStep V.is_infallible K.bytes tree.old.pairs call result tree.new.pairs }
 {
     match call {
         Call::Get(key) => Reply::Value(tree.get(key).copied()),
@@ -63,7 +63,8 @@ fn reply_to_insert<K: KeyTrait + Drop, V: Copy>(
     key: K,
     value: V,
 ) -> Reply<K, V>
-    ensures { IsStep K.bytes tree.old.pairs (Call.Insert key value) result tree.new.pairs }
+    ensures { IsStep V.is_infallible K.bytes tree.old.pairs (Call.Insert key value)
+        result tree.new.pairs }
 {
     match tree.insert(key, value) {
         Ok(old) => Reply::Value(old),
@@ -76,7 +77,8 @@ fn reply_to_try_insert<K: KeyTrait + Drop, V: Copy>(
     key: K,
     value: V,
 ) -> Reply<K, V>
-    ensures { IsStep K.bytes tree.old.pairs (Call.TryInsert key value) result tree.new.pairs }
+    ensures { IsStep V.is_infallible K.bytes tree.old.pairs (Call.TryInsert key value)
+        result tree.new.pairs }
 {
     match tree.insert_new_k(&key, value) {
         Ok(()) => Reply::Inserted,
@@ -92,7 +94,8 @@ fn reply_to_remove<K: KeyTrait + Drop, V: Copy>(
     tree: &mut AdaptiveRadixTree<K, V>,
     key: K,
 ) -> Reply<K, V>
-    ensures { IsStep K.bytes tree.old.pairs (Call.Remove key) result tree.new.pairs }
+    ensures { IsStep V.is_infallible K.bytes tree.old.pairs (Call.Remove key)
+        result tree.new.pairs }
 {
     match tree.remove(key) {
         Ok(old) => Reply::Value(old),
@@ -104,7 +107,8 @@ fn reply_to_delete<K: KeyTrait + Drop, V: Copy>(
     tree: &mut AdaptiveRadixTree<K, V>,
     key: K,
 ) -> Reply<K, V>
-    ensures { IsStep K.bytes tree.old.pairs (Call.Delete key) result tree.new.pairs }
+    ensures { IsStep V.is_infallible K.bytes tree.old.pairs (Call.Delete key)
+        result tree.new.pairs }
 {
     match tree.delete(key) {
         Ok(found) => Reply::Done(found),
@@ -118,7 +122,8 @@ fn reply_to_update<K: KeyTrait + Drop, V: Copy>(
     written: Option<V>,
     answer: SlotUpdate<V>,
 ) -> Reply<K, V>
-    ensures { IsStep K.bytes tree.old.pairs (Call.Update key written answer) result tree.new.pairs }
+    ensures { IsStep V.is_infallible K.bytes tree.old.pairs (Call.Update key written answer)
+        result tree.new.pairs }
 {
     match update_by(tree, &key, written, answer) {
         Ok(touched) => Reply::Done(touched),
@@ -151,8 +156,8 @@ fn reply_to_try_update<K: KeyTrait + Drop, V: Copy>(
     answer: Result<SlotUpdate<V>, ()>,
 ) -> Reply<K, V>
     requires clones { (x y : V) → V.is_clone x y → y ≡ x }
-    ensures { IsStep K.bytes tree.old.pairs (Call.TryUpdate key written answer) result
-        tree.new.pairs }
+    ensures { IsStep V.is_infallible K.bytes tree.old.pairs (Call.TryUpdate key written answer)
+        result tree.new.pairs }
 {
     match try_update_by(tree, &key, written, answer) {
         Ok(touched) => Reply::Done(touched),
@@ -175,7 +180,8 @@ fn try_update_by<V: Copy, K: KeyTrait>(
         → IsTryUpdate (K.bytes key.now) answer
         (left_by written (lookup (K.bytes key.now) tree.old.pairs))
         tree.old.pairs result tree.new.pairs }
-    ensures not_cloned { result ≡ Err Not_cloned → (lookup (K.bytes key.now) tree.old.pairs ≢ None)
+    ensures not_cloned { result ≡ Err Not_cloned → ((v : V)
+        × (lookup (K.bytes key.now) tree.old.pairs ≡ Some v) × (V.is_infallible v → ⊥))
         × (tree.new.pairs ≡ tree.old.pairs) }
 {
     tree.try_update_k(key, move |slot| {
@@ -198,7 +204,7 @@ fn reply_to_iter<K: KeyTrait + Drop, V: Copy>(
     alloc: Global,
     tree: &AdaptiveRadixTree<K, V>,
 ) -> Reply<K, V>
-    ensures { IsStep K.bytes tree.now.pairs Call.Iter result tree.now.pairs }
+    ensures { IsStep V.is_infallible K.bytes tree.now.pairs Call.Iter result tree.now.pairs }
 {
     match copied_pairs(alloc, tree) {
         Ok(pairs) => Reply::Pairs(pairs),
@@ -210,7 +216,7 @@ fn reply_to_values<K: KeyTrait + Drop, V: Copy>(
     alloc: Global,
     tree: &AdaptiveRadixTree<K, V>,
 ) -> Reply<K, V>
-    ensures { IsStep K.bytes tree.now.pairs Call.Values result tree.now.pairs }
+    ensures { IsStep V.is_infallible K.bytes tree.now.pairs Call.Values result tree.now.pairs }
 {
     match copied_values(alloc, tree) {
         Ok(values) => Reply::Values(values),
@@ -219,7 +225,7 @@ fn reply_to_values<K: KeyTrait + Drop, V: Copy>(
 }
 
 fn reply_to_stats<K: KeyTrait + Drop, V: Copy>(tree: &AdaptiveRadixTree<K, V>) -> Reply<K, V>
-    ensures { IsStep K.bytes tree.now.pairs Call.Stats result tree.now.pairs }
+    ensures { IsStep V.is_infallible K.bytes tree.now.pairs Call.Stats result tree.now.pairs }
 {
     tree.canonical();
     match tree.get_tree_stats() {
@@ -277,7 +283,8 @@ pub fn run<K: KeyTrait + Drop, V: Copy>(
 ) -> Result<Vec<Reply<K, V>>, TreeError>
     requires clones { (x y : V) → V.is_clone x y → y ≡ x }
     ensures run { IfOk result
-        (λ replies. IsRun K.bytes tree.old.pairs calls.items replies.items tree.new.pairs) }
+        (λ replies. IsRun V.is_infallible K.bytes tree.old.pairs calls.items replies.items
+        tree.new.pairs) }
     ensures one_each { IfOk result (λ replies. length replies.items ≡ length calls.items) }
     ensures shape_before { HasShape (keys_of tree.old.pairs) tree.old.nodes }
     ensures shape_after { HasShape (keys_of tree.new.pairs) tree.new.nodes }

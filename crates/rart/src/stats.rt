@@ -21,5 +21,5 @@ pub trait TreeStatsTrait {
         ensures statistics { IfOk result
             (λ s. stats_in s ≡ stats_of (keys self.now) (nodes self.now)) }
         ensures memory { IfErr result (λ e. e ≡ TreeError.Memory) }
-        ensures asks { OnErr result (2 ≤ length (keys self.now)) };
+        ensures allocates { OnErr result (2 ≤ length (keys self.now)) };
 }

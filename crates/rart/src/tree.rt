@@ -24,12 +24,17 @@ mod extend;
 mod get_mut;
 mod intersect;
 mod statistics;
+mod take_prefix;
 pub mod try_insert;
 pub mod update;
 mod values_mut;
 
 /// The largest number of pairs that a tree holds.
 pub const MAX_PAIRS: usize = usize::MAX / 16;
+
+/// The longest key of a tree whose root is dropped as it is. That takes a frame a level, and a level a byte; to descend
+/// by references takes less of the stack and more time.
+const SHALLOW: usize = 128;
 
 /// An ordered map from keys, read as bytes, to values. Shared prefixes are stored once, and inner
 /// nodes hold up to 4, 16, 48 or 256 children.
@@ -42,16 +47,19 @@ pub struct AdaptiveRadixTree<K: KeyTrait, V> {
     of: PhantomData<K>,
 }
 
-// Written out: a crate that drops a tree then proves one call, and not the drop of each type within it.
+// Written out: the drop of a root holds a node at each level. And a crate that drops a tree then proves one call.
 impl<K: KeyTrait, V: Drop> Drop for AdaptiveRadixTree<K, V> {
     fn drop(self) {
         let AdaptiveRadixTree {
-            root: _,
+            mut root,
             len: _,
-            longest: _,
+            longest,
             alloc: _,
             of: _,
         } = self;
+        if longest > SHALLOW {
+            DefaultNode::drop_tree(&mut root);
+        }
     }
 }
 
@@ -104,6 +112,9 @@ impl<K: KeyTrait, V> AdaptiveRadixTree<K, V> {
         ensures pairs { self.new.pairs ≡ [] }
         ensures nodes { self.new.nodes ≡ [] }
     {
+        if self.longest > SHALLOW {
+            DefaultNode::drop_tree(&mut self.root);
+        }
         self.root = None;
         self.len = 0;
         self.longest = 0;

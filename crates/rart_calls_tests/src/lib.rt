@@ -6,7 +6,7 @@
 #![tactic(auto)]
 
 #[cfg(test)]
-mod asks_for_nothing;
+mod no_requests;
 #[cfg(test)]
 mod play;
 #[cfg(test)]

@@ -6,7 +6,7 @@ pub mod replies;
 
 pub use self::players::{
     assert_none_wrong, first_wrong, first_wrong_in_run, first_wrong_refused, first_wrong_text,
-    first_wrong_unasked, run_is_refused_in_turn,
+    first_wrong_without_requests, run_is_refused_in_turn,
 };
 
 /// A call. Keys are texts, so that a row is short; `Style` says what key a text becomes.
@@ -69,7 +69,7 @@ pub enum Want<'a> {
     None,
     /// This value.
     Some(u64),
-    /// What was asked is so, or isn't.
+    /// This truth value.
     Is(bool),
     /// The key was new.
     Inserted,

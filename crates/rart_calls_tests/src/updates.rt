@@ -1,7 +1,7 @@
 //! Updates through a slot, as calls that are values: what is written where the slot is occupied, what is requested
 //! then, the reply, and the value that the key has afterwards.
 
-use crate::play::forms::asked;
+use crate::play::forms::callback_result;
 use crate::play::{Request, assert_none_wrong};
 use rart::script::{Call, Reply, step};
 use rart::{AdaptiveRadixTree, ArrayKey, KeyTrait, Slot, SlotUpdate, TryUpdateError};
@@ -22,10 +22,10 @@ type Row = (
     Option<u64>,
 );
 
-fn call(tries: bool, key: Key, written: Option<u64>, request: Request) -> Call<Key, u64> {
-    match asked(request) {
+fn call(by_try_update: bool, key: Key, written: Option<u64>, request: Request) -> Call<Key, u64> {
+    match callback_result(request) {
         Ok(update) => {
-            if tries {
+            if by_try_update {
                 Call::TryUpdate(key, written, Ok(update))
             } else {
                 Call::Update(key, written, update)
@@ -45,17 +45,17 @@ fn is(reply: &Reply<Key, u64>, want: Option<bool>) -> bool {
 
 // Whether the key fits, and the reply and the value afterwards are the wanted ones.
 fn row_holds(alloc: Global, tree: &mut Tree, row: &Row) -> bool {
-    let (tries, text, written, request, want, after) = *row;
+    let (by_try_update, text, written, request, want, after) = *row;
     let bytes = text.as_bytes();
     if bytes.len() > 16 {
         return false;
     }
-    let call = call(tries, Key::new_from_slice(bytes), written, request);
+    let call = call(by_try_update, Key::new_from_slice(bytes), written, request);
     let reply = step(alloc, tree, call);
     is(&reply, want) && tree.get_bytes(bytes).copied() == after
 }
 
-// The first row that goes another way, if one does.
+// The first row that fails, if one does.
 fn first_wrong(alloc: Global, tree: &mut Tree, rows: &[Row]) -> Option<usize> {
     let mut at = 0_usize;
     for row in rows {

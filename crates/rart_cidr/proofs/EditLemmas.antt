@@ -18,7 +18,7 @@ use Rattle.rart_cidr.specs.Edits.{MayRefuseRoute, MayRefuseTarget, PutsIn, PutsT
 use Rattle.rart_cidr.specs.Fields.{AreTableFields}
 use Rattle.rart_cidr.specs.Routes.{AreStrides, routes_of, set_stride, stride_at, stride_or_empty}
 use Rattle.rart_cidr.proofs.BitLemmas.{code-in_range, network-coded}
-use Rattle.rart_cidr.proofs.RefusalLemmas.{insert_asks-some, remove_asks-five}
+use Rattle.rart_cidr.proofs.RefusalLemmas.{insert_allocates-some, remove_allocates-five}
 use Rattle.rart_cidr.proofs.RouteLemmas.{routes-ascend, same_or_not}
 use Rattle.rart_cidr.proofs.StrideLemmas.{few-strides, few-targets, lookup-network, put-target, set-put, take-target}
 use Rattle.rart_cidr.proofs.StrideLemmas.{without-absent}
@@ -67,13 +67,13 @@ module _ {T : Type 0} where
   -- a stride that isn't inserted
   pub may-refuse-stride : (S : List (List ℕ × List (List ℕ × T))) (o k : List ℕ) (error : TreeError)
       → lookup o S ≡ None → MayRefuseInsert S o error → MayRefuseTarget S o k error
-  may-refuse-stride S o k Memory e m = (ap (λ z. lookup k (stride_or_empty z)) e, insert_asks-some S o m.2)
+  may-refuse-stride S o k Memory e m = (ap (λ z. lookup k (stride_or_empty z)) e, insert_allocates-some S o m.2)
   may-refuse-stride S o k Full e m = (ap (λ z. lookup k (stride_or_empty z)) e, λ l. m.1)
 
   -- a stride that isn't removed
   pub keeps-stride : (S R : List (List ℕ × List (List ℕ × T))) (o k : List ℕ) (error : TreeError)
       → lookup k (stride_at o S) ≢ None → MayRefuseRemove S o error → R ≡ S → TakesTarget o k S R (Err error)
-  keeps-stride S R o k error n m e = (m.0, n, inl (remove_asks-five S o m.2), e)
+  keeps-stride S R o k error n m e = (m.0, n, inl (remove_allocates-five S o m.2), e)
 
   -- an edit in its place is the edit of the strides
   pub puts-in : (S R : List (List ℕ × List (List ℕ × T))) (o k : List ℕ) (t : T) (s : List (List ℕ × T))
@@ -86,8 +86,11 @@ module _ {T : Type 0} where
             ∙ sym (set-put S o k t (stride_at o S)),
       )
   puts-in S R o k t s (Err refused) a e p = let w = p s (sym e) in let at : stride_at o S ≡ s
-      = ap stride_or_empty (sym e) in
-      (w.2.0, may-refuse S o k s refused.error (sym e) w.2.1, w.1 ∙ ap (λ z. put o z S) w.2.2 ∙ put-same S o s a (sym e))
+      = ap stride_or_empty (sym e) in (
+        w.2.0,
+        may-refuse S o k s refused.error (sym e) w.2.1,
+        w.1 ∙ ap (λ z. put o z S) w.2.2 ∙ put-same S o s a (sym e),
+      )
 
   only-empty : (k : List ℕ) (s : List (List ℕ × T)) → lookup k s ≢ None → length s ≡ 1 → without k s ≡ []
   only-empty k [] n l = refl
@@ -142,7 +145,7 @@ module _ {T : Type 0} where
   takes-from S R o k s t (Err error) a b e f n p = let w = p s (sym e) in (
     w.2.0.0,
     λ m. w.2.0.1 (ap (λ z. lookup k (stride_or_empty z)) e ∙ m),
-    inr (omega (arith, remove_asks-five s k w.2.0.2, ap length (ap stride_or_empty e))),
+    inr (omega (arith, remove_allocates-five s k w.2.0.2, ap length (ap stride_or_empty e))),
     w.1 ∙ ap (λ z. put o z S) w.2.1
         ∙ put-same S o s a (sym e),
   )

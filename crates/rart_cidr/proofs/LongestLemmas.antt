@@ -12,8 +12,8 @@ use Rattle.rart_keys.specs.LongestMatches.{HasNoLonger, IsLongest}
 use Rattle.rart_keys.specs.SortedMap.{IsAscending, lookup}
 use Rattle.rart_keys.proofs.LongestStored.{longest-stored, no-match, stored-longest}
 use Rattle.rart_cidr.specs.Bits.{bits_of, code, network}
-use Rattle.rart_cidr.specs.Longest.{HasNoneAfter, HasNoneFrom, IsLastStride, IsLongestAfter, IsLongestRoute, first_by_lengths, nodes_to}
-use Rattle.rart_cidr.specs.Longest.{route_or}
+use Rattle.rart_cidr.specs.Longest.{HasNoneAfter, HasNoneFrom, IsLastStride, IsLongestAfter, IsLongestRoute}
+use Rattle.rart_cidr.specs.Longest.{first_by_lengths, nodes_to, route_or}
 use Rattle.rart_cidr.specs.Routes.{AreStrides, IsLongestIn, in_stride, routes_of, stride_at, stride_or_empty}
 use Rattle.rart_cidr.proofs.BitLemmas.{length-bits}
 use Rattle.rart_cidr.proofs.StrideLemmas.{lookup-network}

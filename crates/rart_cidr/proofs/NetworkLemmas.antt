@@ -7,19 +7,21 @@ use Rattle.std.specs.Prelude.{◌%◌, ◌/◌, ◌^◌, None, replicate, is_som
 use Rattle.std.proofs.lemmas.List.{length-take, take-append-drop}
 use Rattle.rart_keys.specs.ByteStrings.{begins, bytes_eq, strip_prefix}
 use Rattle.rart_keys.specs.KeyBytes.{AreBytes}
-use Rattle.rart_cidr.specs.Bits.{AreClearAfter, bits_of, byte_bits, cleared, kept, network}
+use Rattle.rart_cidr.specs.Bits.{AreClearAfter, bits_of, byte_bits, masked_octets, masked_byte, network}
 use Rattle.std.specs.Net.Addr.{octets_of, segments_of}
 use Rattle.rart_cidr.proofs.BitLemmas.{byte-alike, holds_at, holds_below, length-bits, same_bytes}
 
-kept-first : (x r : ℕ) → x < 256 → holds_below (λ y. bytes_eq (take r (byte_bits (kept y r))) (take r (byte_bits y)))
-    256 ≡ true → take r (byte_bits (kept x r)) ≡ take r (byte_bits x)
-kept-first x r h t = same_bytes _ _ (holds_at (λ y. bytes_eq (take r (byte_bits (kept y r))) (take r (byte_bits y))) 256
-    x t h)
+masked_byte-first : (x r : ℕ) → x < 256
+    → holds_below (λ y. bytes_eq (take r (byte_bits (masked_byte y r))) (take r (byte_bits y))) 256 ≡ true
+    → take r (byte_bits (masked_byte x r)) ≡ take r (byte_bits x)
+masked_byte-first x r h t = same_bytes _ _
+    (holds_at (λ y. bytes_eq (take r (byte_bits (masked_byte y r))) (take r (byte_bits y))) 256 x t h)
 
-kept-rest : (x r : ℕ) → x < 256 → holds_below (λ y. bytes_eq (drop r (byte_bits (kept y r))) (replicate (8 - r) 0)) 256
-    ≡ true → drop r (byte_bits (kept x r)) ≡ replicate (8 - r) 0
-kept-rest x r h t = same_bytes _ _ (holds_at (λ y. bytes_eq (drop r (byte_bits (kept y r))) (replicate (8 - r) 0)) 256 x
-    t h)
+masked_byte-rest : (x r : ℕ) → x < 256
+    → holds_below (λ y. bytes_eq (drop r (byte_bits (masked_byte y r))) (replicate (8 - r) 0)) 256 ≡ true
+    → drop r (byte_bits (masked_byte x r)) ≡ replicate (8 - r) 0
+masked_byte-rest x r h t = same_bytes _ _
+    (holds_at (λ y. bytes_eq (drop r (byte_bits (masked_byte y r))) (replicate (8 - r) 0)) 256 x t h)
 
 zeros : ℕ → List ℕ
 zeros n = replicate n 0
@@ -36,77 +38,82 @@ zeros-more zero m = let none : 0 + m ≡ m = omega arith in sym (ap zeros none)
 zeros-more (suc d) m = let one : suc d + m ≡ suc (d + m) = omega arith in ap (λ z. 0 ∷ z) (zeros-more d m)
     ∙ sym (ap zeros one)
 
-kept-none : (x : ℕ) → x < 256 → kept x 0 ≡ 0
-kept-none x h = omega arith
+masked_byte-none : (x : ℕ) → x < 256 → masked_byte x 0 ≡ 0
+masked_byte-none x h = omega arith
 
-kept-all : (x n : ℕ) → 8 ≤ n → kept x n ≡ x
-kept-all x n h = let none : 8 - n ≡ 0 = omega arith in let one : x / 1 * 1 ≡ x = omega arith in
+masked_byte-all : (x n : ℕ) → 8 ≤ n → masked_byte x n ≡ x
+masked_byte-all x n h = let none : 8 - n ≡ 0 = omega arith in let one : x / 1 * 1 ≡ x = omega arith in
     ap (λ z. x / 2 ^ z * 2 ^ z) none ∙ one
 
-all-cleared : (o : List ℕ) → AreBytes o → cleared o 0 ≡ replicate (length o) 0
-all-cleared [] f = refl
-all-cleared (x ∷ o) f = let heads : kept x 0 ≡ 0 = kept-none x (f 0) in let tails = all-cleared o (λ i. f (suc i)) in cc
+all-masked_octets : (o : List ℕ) → AreBytes o → masked_octets o 0 ≡ replicate (length o) 0
+all-masked_octets [] f = refl
+all-masked_octets (x ∷ o) f =
+    let heads : masked_byte x 0 ≡ 0 = masked_byte-none x (f 0) in
+    let tails = all-masked_octets o (λ i. f (suc i)) in cc
 
 zeros-after : (l o : List ℕ) (d t : ℕ) → AreBytes o → l ≡ replicate d 0 → t ≡ d + 8 * length o
-    → l ++ bits_of (cleared o 0) ≡ replicate t 0
+    → l ++ bits_of (masked_octets o 0) ≡ replicate t 0
 unfolding zeros
-zeros-after l o d t f e h = ap (λ z. z ++ bits_of (cleared o 0)) e
-    ∙ ap (λ z. replicate d 0 ++ bits_of z) (all-cleared o f)
+zeros-after l o d t f e h = ap (λ z. z ++ bits_of (masked_octets o 0)) e
+    ∙ ap (λ z. replicate d 0 ++ bits_of z) (all-masked_octets o f)
     ∙ ap (λ z. replicate d 0 ++ z) (bits-zeros (length o)) ∙ zeros-more d (8 * length o)
     ∙ sym (ap (λ z. replicate z 0) h)
 
 -- the first n bits stay
-pub cleared-first : (o : List ℕ) (n : ℕ) → AreBytes o → take n (bits_of (cleared o n)) ≡ take n (bits_of o)
+pub masked_octets-first : (o : List ℕ) (n : ℕ) → AreBytes o → take n (bits_of (masked_octets o n)) ≡ take n (bits_of o)
 unfolding holds_below
-cleared-first [] n f = refl
-cleared-first (x ∷ o) zero f = refl
-cleared-first (x ∷ o) (suc zero) f = kept-first x 1 (f 0) refl
-cleared-first (x ∷ o) (suc (suc zero)) f = kept-first x 2 (f 0) refl
-cleared-first (x ∷ o) (suc (suc (suc zero))) f = kept-first x 3 (f 0) refl
-cleared-first (x ∷ o) (suc (suc (suc (suc zero)))) f = kept-first x 4 (f 0) refl
-cleared-first (x ∷ o) (suc (suc (suc (suc (suc zero))))) f = kept-first x 5 (f 0) refl
-cleared-first (x ∷ o) (suc (suc (suc (suc (suc (suc zero)))))) f = kept-first x 6 (f 0) refl
-cleared-first (x ∷ o) (suc (suc (suc (suc (suc (suc (suc zero))))))) f = kept-first x 7 (f 0) refl
-cleared-first (x ∷ o) (suc (suc (suc (suc (suc (suc (suc (suc n)))))))) f =
+masked_octets-first [] n f = refl
+masked_octets-first (x ∷ o) zero f = refl
+masked_octets-first (x ∷ o) (suc zero) f = masked_byte-first x 1 (f 0) refl
+masked_octets-first (x ∷ o) (suc (suc zero)) f = masked_byte-first x 2 (f 0) refl
+masked_octets-first (x ∷ o) (suc (suc (suc zero))) f = masked_byte-first x 3 (f 0) refl
+masked_octets-first (x ∷ o) (suc (suc (suc (suc zero)))) f = masked_byte-first x 4 (f 0) refl
+masked_octets-first (x ∷ o) (suc (suc (suc (suc (suc zero))))) f = masked_byte-first x 5 (f 0) refl
+masked_octets-first (x ∷ o) (suc (suc (suc (suc (suc (suc zero)))))) f = masked_byte-first x 6 (f 0) refl
+masked_octets-first (x ∷ o) (suc (suc (suc (suc (suc (suc (suc zero))))))) f = masked_byte-first x 7 (f 0) refl
+masked_octets-first (x ∷ o) (suc (suc (suc (suc (suc (suc (suc (suc n)))))))) f =
     let after : suc (suc (suc (suc (suc (suc (suc (suc n))))))) - 8 ≡ n = omega arith in
-    ap (λ z. byte_bits z ++ take n (bits_of (cleared o (suc (suc (suc (suc (suc (suc (suc (suc n))))))) - 8))))
-    (kept-all x (suc (suc (suc (suc (suc (suc (suc (suc n)))))))) (omega arith))
-    ∙ ap (λ z. byte_bits x ++ take n (bits_of (cleared o z))) after
-    ∙ ap (λ z. byte_bits x ++ z) (cleared-first o n (λ i. f (suc i)))
+    ap (λ z. byte_bits z ++ take n (bits_of (masked_octets o (suc (suc (suc (suc (suc (suc (suc (suc n))))))) - 8))))
+    (masked_byte-all x (suc (suc (suc (suc (suc (suc (suc (suc n)))))))) (omega arith))
+    ∙ ap (λ z. byte_bits x ++ take n (bits_of (masked_octets o z))) after
+    ∙ ap (λ z. byte_bits x ++ z) (masked_octets-first o n (λ i. f (suc i)))
 
 -- and the others are zeros
-cleared-rest : (o : List ℕ) (n : ℕ) → AreBytes o → drop n (bits_of (cleared o n)) ≡ replicate (8 * length o - n) 0
+masked_octets-rest : (o : List ℕ) (n : ℕ) → AreBytes o
+    → drop n (bits_of (masked_octets o n)) ≡ replicate (8 * length o - n) 0
 unfolding holds_below
-cleared-rest [] zero f = refl
-cleared-rest [] (suc n) f = let none : 8 * 0 - suc n ≡ 0 = omega arith in sym (ap (λ z. replicate z 0) none)
-cleared-rest (x ∷ o) zero f = zeros-after _ o 8 _ (λ i. f (suc i)) (kept-rest x 0 (f 0) refl) (omega arith)
-cleared-rest (x ∷ o) (suc zero) f = zeros-after _ o 7 _ (λ i. f (suc i)) (kept-rest x 1 (f 0) refl) (omega arith)
-cleared-rest (x ∷ o) (suc (suc zero)) f = zeros-after _ o 6 _ (λ i. f (suc i)) (kept-rest x 2 (f 0) refl) (omega arith)
-cleared-rest (x ∷ o) (suc (suc (suc zero))) f
-    = zeros-after _ o 5 _ (λ i. f (suc i)) (kept-rest x 3 (f 0) refl) (omega arith)
-cleared-rest (x ∷ o) (suc (suc (suc (suc zero)))) f
-    = zeros-after _ o 4 _ (λ i. f (suc i)) (kept-rest x 4 (f 0) refl) (omega arith)
-cleared-rest (x ∷ o) (suc (suc (suc (suc (suc zero))))) f
-    = zeros-after _ o 3 _ (λ i. f (suc i)) (kept-rest x 5 (f 0) refl) (omega arith)
-cleared-rest (x ∷ o) (suc (suc (suc (suc (suc (suc zero)))))) f
-    = zeros-after _ o 2 _ (λ i. f (suc i)) (kept-rest x 6 (f 0) refl) (omega arith)
-cleared-rest (x ∷ o) (suc (suc (suc (suc (suc (suc (suc zero))))))) f
-    = zeros-after _ o 1 _ (λ i. f (suc i)) (kept-rest x 7 (f 0) refl) (omega arith)
-cleared-rest (x ∷ o) (suc (suc (suc (suc (suc (suc (suc (suc n)))))))) f =
+masked_octets-rest [] zero f = refl
+masked_octets-rest [] (suc n) f = let none : 8 * 0 - suc n ≡ 0 = omega arith in sym (ap (λ z. replicate z 0) none)
+masked_octets-rest (x ∷ o) zero f = zeros-after _ o 8 _ (λ i. f (suc i)) (masked_byte-rest x 0 (f 0) refl) (omega arith)
+masked_octets-rest (x ∷ o) (suc zero) f
+    = zeros-after _ o 7 _ (λ i. f (suc i)) (masked_byte-rest x 1 (f 0) refl) (omega arith)
+masked_octets-rest (x ∷ o) (suc (suc zero)) f
+    = zeros-after _ o 6 _ (λ i. f (suc i)) (masked_byte-rest x 2 (f 0) refl) (omega arith)
+masked_octets-rest (x ∷ o) (suc (suc (suc zero))) f
+    = zeros-after _ o 5 _ (λ i. f (suc i)) (masked_byte-rest x 3 (f 0) refl) (omega arith)
+masked_octets-rest (x ∷ o) (suc (suc (suc (suc zero)))) f
+    = zeros-after _ o 4 _ (λ i. f (suc i)) (masked_byte-rest x 4 (f 0) refl) (omega arith)
+masked_octets-rest (x ∷ o) (suc (suc (suc (suc (suc zero))))) f
+    = zeros-after _ o 3 _ (λ i. f (suc i)) (masked_byte-rest x 5 (f 0) refl) (omega arith)
+masked_octets-rest (x ∷ o) (suc (suc (suc (suc (suc (suc zero)))))) f
+    = zeros-after _ o 2 _ (λ i. f (suc i)) (masked_byte-rest x 6 (f 0) refl) (omega arith)
+masked_octets-rest (x ∷ o) (suc (suc (suc (suc (suc (suc (suc zero))))))) f
+    = zeros-after _ o 1 _ (λ i. f (suc i)) (masked_byte-rest x 7 (f 0) refl) (omega arith)
+masked_octets-rest (x ∷ o) (suc (suc (suc (suc (suc (suc (suc (suc n)))))))) f =
     let after : suc (suc (suc (suc (suc (suc (suc (suc n))))))) - 8 ≡ n = omega arith in
     let fewer : 8 * suc (length o) - suc (suc (suc (suc (suc (suc (suc (suc n))))))) ≡ 8 * length o - n = omega arith in
-    ap (λ z. drop n (bits_of (cleared o z))) after ∙ cleared-rest o n (λ i. f (suc i))
+    ap (λ z. drop n (bits_of (masked_octets o z))) after ∙ masked_octets-rest o n (λ i. f (suc i))
     ∙ sym (ap (λ z. replicate z 0) fewer)
 
-pub cleared-length : (o : List ℕ) (n : ℕ) → length (cleared o n) ≡ length o
-cleared-length [] n = refl
-cleared-length (x ∷ o) n = ap suc (cleared-length o (n - 8))
+pub masked_octets-length : (o : List ℕ) (n : ℕ) → length (masked_octets o n) ≡ length o
+masked_octets-length [] n = refl
+masked_octets-length (x ∷ o) n = ap suc (masked_octets-length o (n - 8))
 
-pub cleared-clear : (o : List ℕ) (n : ℕ) → AreBytes o → AreClearAfter (bits_of (cleared o n)) n
-cleared-clear o n f =
-    let same : 8 * length o - n ≡ length (bits_of (cleared o n)) - n
-    = omega (arith, length-bits (cleared o n), cleared-length o n) in
-    cleared-rest o n f ∙ ap (λ z. replicate z 0) same
+pub masked_octets-clear : (o : List ℕ) (n : ℕ) → AreBytes o → AreClearAfter (bits_of (masked_octets o n)) n
+masked_octets-clear o n f =
+    let same : 8 * length o - n ≡ length (bits_of (masked_octets o n)) - n
+    = omega (arith, length-bits (masked_octets o n), masked_octets-length o n) in
+    masked_octets-rest o n f ∙ ap (λ z. replicate z 0) same
 
 octets-alike : (o p : List ℕ) → AreBytes o → AreBytes p → bits_of o ≡ bits_of p → o ≡ p
 octets-alike [] [] f g e = refl
@@ -126,10 +133,10 @@ networks-alike o p n f g l c d e =
     ∙ ap (λ z. take n (bits_of p) ++ z) (c ∙ ap (λ z. replicate z 0) same ∙ sym d) ∙ take-append-drop n (bits_of p))
 
 -- clearing changes nothing where all is clear
-pub cleared-alone : (o : List ℕ) (n : ℕ) → AreBytes o → AreBytes (cleared o n) → AreClearAfter (bits_of o) n
-    → cleared o n ≡ o
-cleared-alone o n f g c = networks-alike (cleared o n) o n g f (cleared-length o n) (cleared-clear o n f) c
-    (cleared-first o n f)
+pub masked_octets-alone : (o : List ℕ) (n : ℕ) → AreBytes o → AreBytes (masked_octets o n) → AreClearAfter (bits_of o) n
+    → masked_octets o n ≡ o
+masked_octets-alone o n f g c = networks-alike (masked_octets o n) o n g f (masked_octets-length o n)
+    (masked_octets-clear o n f) c (masked_octets-first o n f)
 
 same : (x : ℕ) → x == x ≡ true
 same x = grind (arith, nat_tests)
@@ -152,22 +159,22 @@ begins-is (x ∷ p) (y ∷ l) h = elim (x == y) as (λ b. (x == y) ≡ b → is_
 abbrev pub cleared_before : List ℕ → ℕ → ℕ → List ℕ
 cleared_before o n zero = o
 cleared_before [] n (suc at) = []
-cleared_before (x ∷ o) n (suc at) = kept x n ∷ cleared_before o (n - 8) at
+cleared_before (x ∷ o) n (suc at) = masked_byte x n ∷ cleared_before o (n - 8) at
 
 pub before-next : (o : List ℕ) (n at y : ℕ) → at < length o
-    → y ≡ kept (slice_index (cleared_before o n at) at) (n - 8 * at) → slice_set (cleared_before o n at) at y
+    → y ≡ masked_byte (slice_index (cleared_before o n at) at) (n - 8 * at) → slice_set (cleared_before o n at) at y
     ≡ cleared_before o n (suc at)
 before-next [] n at y h e = absurd (omega arith)
-before-next (x ∷ o) n zero y h e = let all : n - 8 * 0 ≡ n = omega arith in ap (λ z. z ∷ o) (e ∙ ap (kept x) all)
+before-next (x ∷ o) n zero y h e = let all : n - 8 * 0 ≡ n = omega arith in ap (λ z. z ∷ o) (e ∙ ap (masked_byte x) all)
 before-next (x ∷ o) n (suc at) y h e = let fewer : n - 8 * suc at ≡ n - 8 - 8 * at = omega arith in
-    ap (λ z. kept x n ∷ z) (before-next o (n - 8) at y (omega arith) (e
-    ∙ ap (kept (slice_index (cleared_before o (n - 8) at) at)) fewer))
+    ap (λ z. masked_byte x n ∷ z) (before-next o (n - 8) at y (omega arith) (e
+    ∙ ap (masked_byte (slice_index (cleared_before o (n - 8) at) at)) fewer))
 
-pub before-all : (o : List ℕ) (n at : ℕ) → length o ≤ at → cleared_before o n at ≡ cleared o n
+pub before-all : (o : List ℕ) (n at : ℕ) → length o ≤ at → cleared_before o n at ≡ masked_octets o n
 before-all [] n zero h = refl
 before-all [] n (suc at) h = refl
 before-all (x ∷ o) n zero h = absurd (omega arith)
-before-all (x ∷ o) n (suc at) h = ap (λ z. kept x n ∷ z) (before-all o (n - 8) at (omega arith))
+before-all (x ∷ o) n (suc at) h = ap (λ z. masked_byte x n ∷ z) (before-all o (n - 8) at (omega arith))
 
 pub before-length : (o : List ℕ) (n at : ℕ) → length (cleared_before o n at) ≡ length o
 before-length o n zero = refl
@@ -216,39 +223,39 @@ begins-longer (x ∷ p) (y ∷ q) h = elim (x == y) as (λ b. is_some (if b then
   | false ↦ refl
 ]
 
-kept-most : (x n : ℕ) → kept x n ≤ x
-kept-most x zero = omega arith
-kept-most x (suc zero) = omega arith
-kept-most x (suc (suc zero)) = omega arith
-kept-most x (suc (suc (suc zero))) = omega arith
-kept-most x (suc (suc (suc (suc zero)))) = omega arith
-kept-most x (suc (suc (suc (suc (suc zero))))) = omega arith
-kept-most x (suc (suc (suc (suc (suc (suc zero)))))) = omega arith
-kept-most x (suc (suc (suc (suc (suc (suc (suc zero))))))) = omega arith
-kept-most x (suc (suc (suc (suc (suc (suc (suc (suc n))))))))
-    = omega (arith, kept-all x (suc (suc (suc (suc (suc (suc (suc (suc n)))))))) (omega arith))
+masked_byte-most : (x n : ℕ) → masked_byte x n ≤ x
+masked_byte-most x zero = omega arith
+masked_byte-most x (suc zero) = omega arith
+masked_byte-most x (suc (suc zero)) = omega arith
+masked_byte-most x (suc (suc (suc zero))) = omega arith
+masked_byte-most x (suc (suc (suc (suc zero)))) = omega arith
+masked_byte-most x (suc (suc (suc (suc (suc zero))))) = omega arith
+masked_byte-most x (suc (suc (suc (suc (suc (suc zero)))))) = omega arith
+masked_byte-most x (suc (suc (suc (suc (suc (suc (suc zero))))))) = omega arith
+masked_byte-most x (suc (suc (suc (suc (suc (suc (suc (suc n))))))))
+    = omega (arith, masked_byte-all x (suc (suc (suc (suc (suc (suc (suc (suc n)))))))) (omega arith))
 
-pub cleared-bytes : (o : List ℕ) (n : ℕ) → AreBytes o → AreBytes (cleared o n)
-cleared-bytes [] n f i = f i
-cleared-bytes (x ∷ o) n f zero = omega (arith, kept-most x n, f 0)
-cleared-bytes (x ∷ o) n f (suc i) = cleared-bytes o (n - 8) (λ j. f (suc j)) i
+pub masked_octets-bytes : (o : List ℕ) (n : ℕ) → AreBytes o → AreBytes (masked_octets o n)
+masked_octets-bytes [] n f i = f i
+masked_octets-bytes (x ∷ o) n f zero = omega (arith, masked_byte-most x n, f 0)
+masked_octets-bytes (x ∷ o) n f (suc i) = masked_octets-bytes o (n - 8) (λ j. f (suc j)) i
 
 pub width-bits : (o : List ℕ) (w n : ℕ) → length o ≡ w → n ≤ 8 * w → n ≤ length (bits_of o)
 width-bits o w n e h = omega (arith, e, h, length-bits o)
 
 -- octets that clearing leaves as they are have no bits after the first n
-pub unchanged-clear : (o : List ℕ) (n : ℕ) → AreBytes o → cleared o n ≡ o → AreClearAfter (bits_of o) n
-unchanged-clear o n f e = rw (e) at (cleared-clear o n f)
+pub unchanged-clear : (o : List ℕ) (n : ℕ) → AreBytes o → masked_octets o n ≡ o → AreClearAfter (bits_of o) n
+unchanged-clear o n f e = rw (e) at (masked_octets-clear o n f)
 
 -- clearing the address's bits after the first n gives o where the address begins with o's network
 pub contains-is : (b : Bool) (o a : List ℕ) (n : ℕ) → AreBytes o → AreBytes a → length o ≡ length a
-    → AreClearAfter (bits_of o) n → n ≤ length (bits_of o) → Decides b (cleared a n ≡ o)
+    → AreClearAfter (bits_of o) n → n ≤ length (bits_of o) → Decides b (masked_octets a n ≡ o)
     → b ≡ begins (network o n) (bits_of a)
 contains-is b o a n f g l c h d = elim b as (λ z. b ≡ z → z ≡ begins (network o n) (bits_of a)) [
-  | true ↦ λ s. sym (network-begins o a (cleared a n) n (cleared-first a n g) (d.0 s))
+  | true ↦ λ s. sym (network-begins o a (masked_octets a n) n (masked_octets-first a n g) (d.0 s))
   | false ↦ λ s. elim (begins (network o n) (bits_of a)) as (λ z. begins (network o n) (bits_of a) ≡ z → false ≡ z) [
-    | true ↦ λ t. let same = begins-network o a (cleared a n) n f (cleared-bytes a n g) (l ∙ sym (cleared-length a n)) c
-        (cleared-clear a n g) h (cleared-first a n g) t in
+    | true ↦ λ t. let same = begins-network o a (masked_octets a n) n f (masked_octets-bytes a n g)
+        (l ∙ sym (masked_octets-length a n)) c (masked_octets-clear a n g) h (masked_octets-first a n g) t in
         let yes : b ≡ true = d.1 same in sym s ∙ yes
     | false ↦ λ t. refl
   ] refl

@@ -6,8 +6,8 @@ use Rattle.std.specs.Prelude.{◌≢◌, ◌==◌, is_some, if◌then◌else◌,
 use Rattle.std.specs.List.{cons_option, filter_map}
 use Rattle.rart_keys.specs.ByteStrings.{byte_after}
 use Rattle.rart_keys.specs.SortedMap.{keys_of}
-use Rattle.rart_nodes.specs.edits.InsertAsks.{insert_asks}
-use Rattle.rart_nodes.specs.edits.RemoveAsks.{is_leaf_record, last_before, remove_asks, shrinks}
+use Rattle.rart_nodes.specs.edits.InsertAllocations.{insert_allocates}
+use Rattle.rart_nodes.specs.edits.RemoveAllocations.{is_leaf_record, last_before, remove_allocates, shrinks}
 use Rattle.rart_nodes.specs.shapes.Shape.{NodeRecord, capacity_of, contains_key, next_bytes, record_at}
 use Rattle.rart_nodes.specs.shapes.Shape.{record_from, with_first, without_repeats}
 
@@ -74,9 +74,9 @@ and-second true b e = e
 and-second false b e = cc
 
 -- a removal that requests memory is of one of five keys or more
-pub remove_asks-five : {V : Type 0} (es : List (List ℕ × V)) (k : List ℕ) → remove_asks (keys_of es) k ≡ true
+pub remove_allocates-five : {V : Type 0} (es : List (List ℕ × V)) (k : List ℕ) → remove_allocates (keys_of es) k ≡ true
     → 5 ≤ length es
-remove_asks-five es k e = omega (
+remove_allocates-five es k e = omega (
   arith,
   length-keys_of es,
   last_before-five (record_at (keys_of es)) None k (length (keys_of es)) (shrinks-keys (keys_of es)) (λ m. cc)
@@ -84,5 +84,6 @@ remove_asks-five es k e = omega (
 )
 
 -- an insertion that requests memory is into a map that isn't empty
-pub insert_asks-some : {V : Type 0} (es : List (List ℕ × V)) (k : List ℕ) → insert_asks (keys_of es) k ≡ true → es ≢ []
-insert_asks-some es k e n = let none = ap (λ z. insert_asks (keys_of z) k) n in cc
+pub insert_allocates-some : {V : Type 0} (es : List (List ℕ × V)) (k : List ℕ) → insert_allocates (keys_of es) k ≡ true
+    → es ≢ []
+insert_allocates-some es k e n = let none = ap (λ z. insert_allocates (keys_of z) k) n in cc

@@ -12,7 +12,7 @@ use Rattle.rart_keys.proofs.ByteOrder.{bytes_eq-differ}
 use Rattle.rart_keys.proofs.SortedMaps.{ascending-put, ascending-without, equal_by_lookups, length-put, lookup-above}
 use Rattle.rart_keys.proofs.SortedMaps.{lookup-put_at, lookup-put_elsewhere, lookup-without_at}
 use Rattle.rart_keys.proofs.SortedMaps.{lookup-without_elsewhere}
-use Rattle.rart_nodes.specs.edits.RemoveAsks.{remove_asks}
+use Rattle.rart_nodes.specs.edits.RemoveAllocations.{remove_allocates}
 use Rattle.rart_cidr.specs.Bits.{code, network}
 use Rattle.rart_cidr.specs.Routes.{AreCodes, AreStrides, IsCode, coded_network, routes_of, set_stride, stride_at}
 use Rattle.rart_cidr.specs.Routes.{stride_or_empty, target_at, with_stride}
@@ -30,13 +30,14 @@ not-empty (e ∷ s) n = omega arith
 
 module _ {T : Type 0} where
   -- the removal of a stride's only target requests no memory
-  pub only-asks : (c : ℕ) (s : List (List ℕ × T)) → lookup (c ∷ []) s ≢ None → length s ≡ 1
-      → remove_asks (keys_of s) (c ∷ []) ≡ true → ⊥
-  only-asks c [] n l h = omega (arith, l)
-  only-asks c (e ∷ f ∷ s) n l h = omega (arith, l)
-  only-asks c (e ∷ []) n l h = ⊎_elim
-      (λ m. let t : remove_asks ((c ∷ []) ∷ []) (c ∷ []) ≡ true = ap (λ z. remove_asks (z ∷ []) (c ∷ [])) (sym m) ∙ h in
-      let u : remove_asks ((c ∷ []) ∷ []) (c ∷ []) ≡ false = no-and _ in cc)
+  pub only-length : (c : ℕ) (s : List (List ℕ × T)) → lookup (c ∷ []) s ≢ None → length s ≡ 1
+      → remove_allocates (keys_of s) (c ∷ []) ≡ true → ⊥
+  only-length c [] n l h = omega (arith, l)
+  only-length c (e ∷ f ∷ s) n l h = omega (arith, l)
+  only-length c (e ∷ []) n l h = ⊎_elim
+      (λ m. let t : remove_allocates ((c ∷ []) ∷ []) (c ∷ []) ≡ true = ap (λ z. remove_allocates (z ∷ []) (c ∷ []))
+          (sym m) ∙ h in
+      let u : remove_allocates ((c ∷ []) ∷ []) (c ∷ []) ≡ false = no-and _ in cc)
       (λ m. n (rw (bytes_eq-differ e.0 (c ∷ []) m) refl))
       (same_or_not e.0 (c ∷ []))
 

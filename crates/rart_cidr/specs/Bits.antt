@@ -31,13 +31,13 @@ abbrev pub code_bits : ℕ → List ℕ
 code_bits c = after_one (byte_bits c)
 
 -- the byte x with all but its first r bits cleared
-abbrev pub kept : ℕ → ℕ → ℕ
-kept x r = x / 2 ^ (8 - r) * 2 ^ (8 - r)
+abbrev pub masked_byte : ℕ → ℕ → ℕ
+masked_byte x r = x / 2 ^ (8 - r) * 2 ^ (8 - r)
 
 -- the octets with all but their first n bits cleared
-abbrev pub cleared : List ℕ → ℕ → List ℕ
-cleared [] n = []
-cleared (x ∷ o) n = kept x n ∷ cleared o (n - 8)
+abbrev pub masked_octets : List ℕ → ℕ → List ℕ
+masked_octets [] n = []
+masked_octets (x ∷ o) n = masked_byte x n ∷ masked_octets o (n - 8)
 
 -- all but the first n bits are zeros
 abbrev pub AreClearAfter : List ℕ → ℕ → Type 0

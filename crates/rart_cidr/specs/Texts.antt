@@ -31,7 +31,7 @@ parse_error_text parse.HostBits = codes "host bits set"
 abbrev pub is_slash : ℕ → Bool
 is_slash b = b == 47
 
--- what stands before a position, and after it; all and nothing without one
+-- the text before a position and after it; all and nothing without one
 abbrev pub part_before : List ℕ → Option ℕ → List ℕ
 part_before text None = text
 part_before text (Some at) = take at text
@@ -40,7 +40,7 @@ abbrev pub part_after : List ℕ → Option ℕ → Option (List ℕ)
 part_after text None = None
 part_after text (Some at) = Some (drop (at + 1) text)
 
--- what stands before the first slash of a text, and after it; all and nothing without a slash
+-- the text before its first slash and after it; all and nothing without a slash
 abbrev pub address_part : List ℕ → List ℕ
 address_part text = part_before text (position is_slash text)
 

@@ -1,7 +1,7 @@
 //! The first bits of a byte, and of some octets.
 ghost use Rattle.std.specs.Prelude.{◌≡◌, ◌<◌, ◌≤◌, length};
 ghost use Rattle.rart_keys.specs.KeyBytes.{AreBytes};
-ghost use Rattle.rart_cidr.specs.Bits.{cleared, code, kept};
+ghost use Rattle.rart_cidr.specs.Bits.{masked_octets, code, masked_byte};
 ghost use Rattle.rart_cidr.specs.Codes.{byte_of_code, length_of_code, next_code};
 
 /// Returns the code of the first `bits` bits of `byte`: a one, followed by these bits.
@@ -95,7 +95,7 @@ pub fn code_byte(code: u8) -> u8
 
 /// Returns `byte` with all but its first `bits` bits cleared.
 pub fn keep_bits(byte: u8, bits: usize) -> u8
-    ensures { result ≡ kept byte bits }
+    ensures { result ≡ masked_byte byte bits }
 {
     match bits {
         0 => 0,
@@ -113,7 +113,7 @@ pub fn keep_bits(byte: u8, bits: usize) -> u8
 /// Clears all but the first `bits` bits of `octets`.
 pub fn clear_after(octets: &mut [u8], bits: usize)
     requires { length octets.old ≤ 16 }
-    ensures { octets.new ≡ cleared octets.old bits }
+    ensures { octets.new ≡ masked_octets octets.old bits }
 {
     for at in 0..octets.len() {
         octets[at] = keep_bits(octets[at], bits.saturating_sub(8 * at));

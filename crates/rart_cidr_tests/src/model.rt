@@ -123,7 +123,7 @@ pub fn is_walked<T: Table>(table: &T, routes: &[Route], group: Group) -> bool {
 /// Returns whether table and model have the same longest match of `addr`.
 pub fn is_longest<T: Table>(table: &T, routes: &[Route], addr: u128) -> bool {
     let wanted = longest(routes, addr);
-    table.longest(addr) == wanted && table.longest_by_tries(addr) == wanted
+    table.longest(addr) == wanted && table.longest_by_each_length(addr) == wanted
 }
 
 /// Returns whether table and model answer alike about `addr`.

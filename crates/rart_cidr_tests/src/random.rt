@@ -6,7 +6,7 @@ use rart_cidr::{CidrTable4, CidrTable6};
 use std::alloc::Global;
 use std::process::Abort;
 
-/// Is the number of calls.
+/// The number of calls.
 const CALLS: u32 = 100_000;
 
 // A number that looks random, from the one before it.

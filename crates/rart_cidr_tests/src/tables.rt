@@ -7,7 +7,7 @@ use std::net::{Ipv4Addr, Ipv6Addr};
 
 /// A table of networks of one width.
 pub trait Table {
-    /// Is the number of octets of an address.
+    /// The number of octets of an address.
     const OCTETS: u8;
 
     /// Inserts a route and returns the old target, or `None` if the insertion is refused.
@@ -23,7 +23,7 @@ pub trait Table {
     fn longest(&self, addr: u128) -> Option<Route>;
 
     /// Returns the same, found by trying each length.
-    fn longest_by_tries(&self, addr: u128) -> Option<Route>;
+    fn longest_by_each_length(&self, addr: u128) -> Option<Route>;
 
     /// Walks the routes of a group, and compares each with `routes`.
     fn walk(&self, routes: &[Route], group: Group) -> Seen;
@@ -96,7 +96,7 @@ impl Table for CidrTable4<u64> {
         }
     }
 
-    fn longest_by_tries(&self, addr: u128) -> Option<Route> {
+    fn longest_by_each_length(&self, addr: u128) -> Option<Route> {
         match self.longest_by_lengths(&Cidr4::host(addr4(addr))) {
             Some((net, target)) => Some((number4(&net), *target)),
             None => None,
@@ -156,7 +156,7 @@ impl Table for CidrTable6<u64> {
         }
     }
 
-    fn longest_by_tries(&self, addr: u128) -> Option<Route> {
+    fn longest_by_each_length(&self, addr: u128) -> Option<Route> {
         match self.longest_by_lengths(&Cidr6::host(Ipv6Addr::from_bits(addr))) {
             Some((net, target)) => Some((number6(&net), *target)),
             None => None,

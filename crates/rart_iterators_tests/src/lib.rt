@@ -4,6 +4,8 @@
 #![tactic(auto)]
 
 #[cfg(test)]
+mod descending;
+#[cfg(test)]
 mod ends;
 #[cfg(test)]
 mod iterators;

@@ -1,6 +1,7 @@
 //! Ranges: for each two ends the pairs that are given, by the iterator and by the walks over views; ranges over what an
 //! iterator has left; memory refused.
 
+mod ends;
 mod starts;
 
 use rart::{ArrPartial, Iter, KeyTrait, LendingKeyView, Range, TreeError};
@@ -19,6 +20,7 @@ enum End {
 }
 
 use End::{In, Open, Out};
+use ends::is_given_back;
 use std::panic::Expect;
 
 // Two ends, and the pairs within them, ascending.
@@ -125,11 +127,17 @@ fn is_lent(
 #[derive(Clone, Copy)]
 enum Form {
     Iterator,
+    Descending,
     Views,
     LentViews,
 }
 
-const FORMS: [Form; 3] = [Form::Iterator, Form::Views, Form::LentViews];
+const FORMS: [Form; 4] = [
+    Form::Iterator,
+    Form::Descending,
+    Form::Views,
+    Form::LentViews,
+];
 
 // Whether the row's range gives its pairs; it is refused where memory is.
 fn is_row(tree: &Tree, row: &Row, form: Form) -> Result<bool, TreeError> {
@@ -138,6 +146,7 @@ fn is_row(tree: &Tree, row: &Row, form: Form) -> Result<bool, TreeError> {
     };
     match form {
         Form::Iterator => is_given(tree, start, end, row.2),
+        Form::Descending => is_given_back(tree, start, end, row.2),
         Form::Views => is_viewed(tree, start, end, row.2),
         Form::LentViews => is_lent(tree, start, end, row.2),
     }
@@ -152,7 +161,7 @@ fn is_row_in_each_form(tree: &Tree, row: &Row) -> bool {
     true
 }
 
-// The first row that goes another way, if one does.
+// The first row that fails, if one does.
 fn first_wrong(tree: &Tree, rows: &[Row]) -> Option<usize> {
     let mut row = 0_usize;
     for one in rows {
@@ -226,7 +235,7 @@ static GROUPS: [(&[Pair], &[Row]); 4] = [
     (&[], &[(Open, Open, &[])]),
 ];
 
-// The first row of the group that goes another way, if one does; 1000 where there is no tree of its pairs.
+// The first row of the group that fails, if one does; 1000 where there is no tree of its pairs.
 fn first_wrong_of(alloc: Global, pairs: &[Pair], rows: &[Row]) -> Option<usize> {
     match filled(alloc, pairs) {
         Some(tree) => first_wrong(&tree, rows),
@@ -310,7 +319,7 @@ fn is_swept(alloc: Global, tree: &Tree, row: &Row, form: Form) -> bool {
     false
 }
 
-// The first row that goes another way, if one does, with each of its requests refused.
+// The first row that fails, if one does, with each of its requests refused.
 fn first_wrong_refused(alloc: Global, tree: &Tree, rows: &[Row], form: Form) -> Option<usize> {
     let mut row = 0_usize;
     for one in rows {
@@ -322,7 +331,7 @@ fn first_wrong_refused(alloc: Global, tree: &Tree, rows: &[Row], form: Form) -> 
     None
 }
 
-// The first row that goes another way in one of the forms, if one does.
+// The first row that fails in one of the forms, if one does.
 fn first_wrong_form(alloc: Global, tree: &Tree) -> Option<usize> {
     for form in FORMS {
         let row = first_wrong_refused(alloc, tree, &OF_PARTED, form);
@@ -342,13 +351,14 @@ fn ranges_refused_in_turn_give_nothing(rt: HostRuntime) {
 // A range and a walk of an empty tree, and an empty range.
 fn gives_nothing(empty: &Tree) -> bool {
     is_given(empty, Bound::Unbounded, Bound::Unbounded, &[]) == Ok(true)
+        && is_given_back(empty, Bound::Unbounded, Bound::Unbounded, &[]) == Ok(true)
         && gives(Range::empty(), &[])
         && is_viewed(empty, Bound::Unbounded, Bound::Unbounded, &[]) == Ok(true)
         && is_lent(empty, Bound::Unbounded, Bound::Unbounded, &[]) == Ok(true)
 }
 
 // These and a range over an iterator take no memory.
-fn asks_for_nothing(alloc: Global, empty: &Tree, tree: &Tree) -> bool {
+fn makes_no_request(alloc: Global, empty: &Tree, tree: &Tree) -> bool {
     match tree.iter() {
         Ok(pairs) => {
             refuse(alloc, 1);
@@ -364,5 +374,5 @@ fn asks_for_nothing(alloc: Global, empty: &Tree, tree: &Tree) -> bool {
 fn ranges_ask_for_nothing_where_nothing_is_walked(rt: HostRuntime) {
     let empty = Tree::new(rt.alloc());
     let tree = filled(rt.alloc(), &FOUR).expect(&rt, "a tree");
-    assert!(rt; asks_for_nothing(rt.alloc(), &empty, &tree));
+    assert!(rt; makes_no_request(rt.alloc(), &empty, &tree));
 }

@@ -1,8 +1,8 @@
 //! A route table: rows of calls and what they answer, and walks over its routes.
 
-mod asking;
 mod drops;
 mod refused;
+mod requests;
 
 use rart::laws::routes::{add_then_route, withdraw_then_route};
 use rart::{
@@ -135,7 +135,7 @@ fn answer(table: &mut Table, ask: Ask) -> Reply {
     }
 }
 
-// Plays the rows, and answers the first that went another way.
+// Plays the rows, and returns the first that fails.
 fn first_wrong(table: &mut Table, rows: &[Row]) -> Option<usize> {
     let mut at = 0_usize;
     for (ask, want) in rows {

@@ -115,7 +115,7 @@ fn is_row(alloc: Global, row: &Row) -> bool {
     }
 }
 
-// The first row that goes another way, if one does.
+// The first row that fails, if one does.
 fn first_wrong(alloc: Global, rows: &[Row]) -> Option<usize> {
     let mut at = 0_usize;
     for row in rows {
@@ -179,7 +179,7 @@ fn is_fan_beside(alloc: Global, shrunk: &Tree, count: usize, other: usize) -> bo
     }
 }
 
-// The first count whose tree is compared another way with a tree that shrank to `count` keys, if there is one.
+// The first count whose tree is compared wrongly with a tree that shrank to `count` keys, if there is one.
 fn first_wrong_beside(alloc: Global, shrunk: &Tree, count: usize) -> Option<usize> {
     for other in COUNTS {
         if !is_fan_beside(alloc, shrunk, count, other) {

@@ -11,9 +11,9 @@ use rart_test_trees::texts::{Tree, filled};
 use rows::{ROWS, Row, Triple};
 use std::alloc::Global;
 
-/// What is asked of two trees.
+/// What is checked of two trees.
 #[derive(Clone, Copy)]
-pub enum Asked {
+pub enum Check {
     // all plain calls, from both sides
     All,
     // the calls that allocate nothing, with the next request refused
@@ -28,35 +28,35 @@ pub enum Asked {
     LawRefused,
 }
 
-fn is_right(alloc: Global, left: &Tree, right: &Tree, wanted: &[Triple], asked: Asked) -> bool {
-    match asked {
-        Asked::All => rows::is_met(left, right, wanted),
-        Asked::Quiet => rows::is_asked_for_nothing(alloc, left, right, wanted),
-        Asked::Refused => rows::are_swept(alloc, left, right, wanted),
-        Asked::Counted => counted::are_those_of_plain_calls(left, right, wanted),
-        Asked::Law => laws::gives_both_ways(left, right, wanted),
-        Asked::LawRefused => laws::law_is_swept(alloc, left, right, wanted),
+fn is_right(alloc: Global, left: &Tree, right: &Tree, wanted: &[Triple], check: Check) -> bool {
+    match check {
+        Check::All => rows::is_met(left, right, wanted),
+        Check::Quiet => rows::makes_no_request(alloc, left, right, wanted),
+        Check::Refused => rows::are_swept(alloc, left, right, wanted),
+        Check::Counted => counted::are_those_of_plain_calls(left, right, wanted),
+        Check::Law => laws::gives_both_ways(left, right, wanted),
+        Check::LawRefused => laws::law_is_swept(alloc, left, right, wanted),
     }
 }
 
-fn is_right_beside(alloc: Global, left: &Tree, row: &Row, asked: Asked) -> bool {
+fn is_right_beside(alloc: Global, left: &Tree, row: &Row, check: Check) -> bool {
     match filled(alloc, row.1) {
-        Some(right) => is_right(alloc, left, &right, row.2, asked),
+        Some(right) => is_right(alloc, left, &right, row.2, check),
         None => false,
     }
 }
 
-fn is_row(alloc: Global, row: &Row, asked: Asked) -> bool {
+fn is_row(alloc: Global, row: &Row, check: Check) -> bool {
     match filled(alloc, row.0) {
-        Some(left) => is_right_beside(alloc, &left, row, asked),
+        Some(left) => is_right_beside(alloc, &left, row, check),
         None => false,
     }
 }
 
-fn first_wrong_of(alloc: Global, rows: &[Row], asked: Asked) -> Option<usize> {
+fn first_wrong_of(alloc: Global, rows: &[Row], check: Check) -> Option<usize> {
     let mut at = 0_usize;
     for row in rows {
-        if !is_row(alloc, row, asked) {
+        if !is_row(alloc, row, check) {
             return Some(at);
         }
         at = at.wrapping_add(1);
@@ -64,7 +64,7 @@ fn first_wrong_of(alloc: Global, rows: &[Row], asked: Asked) -> Option<usize> {
     None
 }
 
-/// Returns the number of the first row that goes another way, if one does.
-pub fn first_wrong(alloc: Global, asked: Asked) -> Option<usize> {
-    first_wrong_of(alloc, &ROWS, asked)
+/// Returns the number of the first row that fails, if one does.
+pub fn first_wrong(alloc: Global, check: Check) -> Option<usize> {
+    first_wrong_of(alloc, &ROWS, check)
 }

@@ -8,7 +8,7 @@ ghost use Rattle.rart_keys.specs.LittleEndianWord.{little_endian_number};
 
 use std::cmp::Ordering;
 
-/// Is the number of bytes that are read at once.
+/// The number of bytes that are read at once.
 pub(crate) const WORD_BYTES: usize = 8;
 
 /// Returns the length of the longest common prefix. It does not allocate.

@@ -13,10 +13,10 @@ pub mod tail_key;
 
 /// Reads a key as a byte string. Keys are compared byte by byte, and a proper prefix of a key is less than the key.
 pub trait KeyTrait: Eq + Ord {
-    /// Is the type of the prefixes that nodes keep. It has the same maximum length.
+    /// The type of the prefixes that nodes keep. It has the same maximum length.
     type PartialType: Partial;
 
-    /// Is the greatest length in bytes, or `None` if there is no limit.
+    /// The greatest length in bytes, or `None` if there is no limit.
     const MAXIMUM_SIZE: Option<usize>;
 
     ghost MAXIMUM_SIZE: { Option ℕ };

@@ -13,7 +13,7 @@ pub mod array_partial;
 
 /// Holds a part of a key by value.
 pub trait Partial: Drop {
-    /// Is the greatest length in bytes, or `None` if there is no limit.
+    /// The greatest length in bytes, or `None` if there is no limit.
     const MAXIMUM_SIZE: Option<usize>;
 
     ghost MAXIMUM_SIZE: { Option ℕ };

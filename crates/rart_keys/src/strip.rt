@@ -6,7 +6,7 @@ ghost use Rattle.rart_keys.specs.LittleEndianWord.{little_endian_number};
 
 use crate::common_prefix::{WORD_BYTES, prefix_length_bytes, word_at};
 
-/// Is the number of bytes in half a word.
+/// The number of bytes in half a word.
 const HALF_BYTES: usize = 4;
 
 /// Returns the bytes of `key` after `prefix`, or `None` if `prefix` does not begin `key`. It does not allocate.

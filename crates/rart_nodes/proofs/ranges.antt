@@ -1,4 +1,10 @@
+pub mod BackVisits
+pub mod DownLemmas
+pub mod LevelLemmas
 pub mod PotentialLemmas
 pub mod RangeCuts
 pub mod StartLemmas
 pub mod StartPaths
+pub mod UnderLemmas
+pub mod UntilLemmas
+pub mod UntilPaths

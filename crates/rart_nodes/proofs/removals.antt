@@ -1,4 +1,8 @@
 pub mod PopLemmas
+pub mod PrefixAllocations
+pub mod PrefixFilters
+pub mod PrefixPairs
+pub mod PrefixSteps
 pub mod RemoveAskLemmas
 pub mod RemoveAskSteps
 pub mod RemoveLemmas

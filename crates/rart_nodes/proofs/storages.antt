@@ -1,4 +1,5 @@
 pub mod ChildLemmas
 pub mod DeletionLemmas
+pub mod DropLemmas
 pub mod EndEntries
 pub mod EntryPlaces

@@ -2,13 +2,14 @@ pub mod Callbacks
 pub mod ChildChanges
 pub mod Deletion
 pub mod EditRuns
-pub mod InsertAsks
+pub mod InsertAllocations
 pub mod InsertStops
 pub mod Lends
 pub mod Loan
 pub mod NodeEdits
 pub mod Pops
-pub mod RemoveAsks
+pub mod PrefixRemovals
+pub mod RemoveAllocations
 pub mod Slots
 pub mod TreeUpdates
 pub mod Updates

@@ -1,3 +1,6 @@
+pub mod BackWalk
 pub mod Potential
 pub mod Spans
 pub mod Starts
+pub mod Under
+pub mod UpperBounds

@@ -1,4 +1,4 @@
 pub mod Lends
 pub mod Stored
 pub mod StoredFalls
-pub mod Widths
+pub mod Capacities

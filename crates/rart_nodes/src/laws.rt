@@ -6,9 +6,9 @@ ghost use Rattle.rart_nodes.specs.shapes.BranchPoints.{IsBranchPoint};
 ghost use Rattle.rart_nodes.specs.edits.EditRuns.{Edit, run_tree, run_map};
 ghost use Rattle.rart_nodes.specs.joins.Intersections.{intersect_nodes};
 ghost use Rattle.rart_nodes.specs.joins.SharedEdges.{as_map, is_shared, joint_visits, intersect_visits, shared_edges};
-ghost use Rattle.rart_nodes.specs.edits.InsertAsks.{insert_asks, trie_asks_put};
+ghost use Rattle.rart_nodes.specs.edits.InsertAllocations.{insert_allocates, trie_put_allocates};
 ghost use Rattle.rart_nodes.specs.walks.ProbeCount.{probe_count, entered_nodes};
-ghost use Rattle.rart_nodes.specs.edits.RemoveAsks.{remove_asks, trie_asks_remove};
+ghost use Rattle.rart_nodes.specs.edits.RemoveAllocations.{remove_allocates, trie_remove_allocates};
 ghost use Rattle.rart_nodes.specs.shapes.SampleKeys.{nested_keys, left_keys, right_keys};
 ghost use Rattle.rart_nodes.specs.shapes.Shape.{HasShape, NodeRecord, contains_key, record_at};
 ghost use Rattle.rart_nodes.specs.tries.Tree.{tree_pairs, tree_nodes, IsCanonicalTree};
@@ -50,16 +50,16 @@ pub fn edits<V>()
         → IsCanonical (trie_put k v t) }
     ensures put_pairs { (k : List ℕ) (v : V) (t : Trie V) → IsCanonical t
         → pairs_of (trie_put k v t) ≡ put k v (pairs_of t) }
-    ensures put_asks { (k : List ℕ) (t : Trie V) → IsCanonical t
-        → trie_asks_put k t ≡ insert_asks (keys_of (pairs_of t)) k }
+    ensures put_allocates { (k : List ℕ) (t : Trie V) → IsCanonical t
+        → trie_put_allocates k t ≡ insert_allocates (keys_of (pairs_of t)) k }
     ensures remove_canonical { (k : List ℕ) (t : Trie V) → IsCanonical t
         → IsCanonicalTree (trie_remove k t) }
     ensures remove_pairs { (k : List ℕ) (t : Trie V) → IsCanonical t
         → tree_pairs (trie_remove k t) ≡ without k (pairs_of t) }
     ensures remove_absent { (k : List ℕ) (t : Trie V) → IsCanonical t → trie_lookup k t ≡ None
         → trie_remove k t ≡ Some t }
-    ensures remove_asks { (k : List ℕ) (t : Trie V) → IsCanonical t
-        → trie_asks_remove None k t ≡ remove_asks (keys_of (pairs_of t)) k }
+    ensures remove_allocates { (k : List ℕ) (t : Trie V) → IsCanonical t
+        → trie_remove_allocates None k t ≡ remove_allocates (keys_of (pairs_of t)) k }
 {}
 
 /// Proves that after any list of edits of an empty tree the pairs are those of the sorted map and the nodes have the

@@ -47,9 +47,10 @@ impl<P: Partial, V> Model for DefaultNode<P, V> {
 
     ghost coded = { trie_code V.code };
 
-    ghost use Rattle.rart_nodes.specs.storages.Stored.{stored, width_of};
+    ghost use Rattle.rart_nodes.specs.storages.Stored.{child_entries, storage_capacity};
 
-    ghost view = { λ a. node (P.bytes a.prefix) a.value (width_of a.storage) (as_children (stored a.storage)) };
+    ghost view = { λ a. node (P.bytes a.prefix) a.value (storage_capacity a.storage)
+        (as_children (child_entries a.storage)) };
 
     ghost size = { node_count };
 

@@ -7,7 +7,7 @@ use rart_parts::TreeError;
 pub struct Refused<T> {
     /// Says why the call failed.
     pub error: TreeError,
-    /// Is the offered value, unchanged.
+    /// The offered value, unchanged.
     pub value: T,
 }
 

@@ -16,13 +16,13 @@ use std::cmp::Ordering;
 /// Describes one string of a shape.
 #[derive(Debug, Drop, Eq, PartialEq)]
 pub struct ShapeRecord {
-    /// Is the string.
+    /// The string.
     pub path: Vec<u8>,
     /// Says whether the string is a key.
     pub holds_value: bool,
     /// Lists the next bytes of the keys after the string, ascending.
     pub edges: Vec<u8>,
-    /// Is the capacity of its node: 0, 4, 16, 48 or 256.
+    /// The capacity of its node: 0, 4, 16, 48 or 256.
     pub capacity: usize,
 }
 

@@ -74,11 +74,11 @@ impl<V> Slot<V> {
 
 /// What a callback made of a slot.
 pub(crate) struct Visit<V, X> {
-    /// Is the content that the callback left.
+    /// The content that the callback left.
     pub left: Option<V>,
-    /// Is the requested update.
+    /// The requested update.
     pub answer: SlotUpdate<V>,
-    /// Is the second result of the callback.
+    /// The second result of the callback.
     pub extra: X,
 }
 

@@ -10,11 +10,11 @@ pub(crate) mod counts;
 /// Counts the inner nodes of one capacity.
 #[derive(Clone, Debug, Default, Drop, Eq, PartialEq)]
 pub struct NodeStats {
-    /// Is the capacity of each node: 4, 16, 48 or 256.
+    /// The capacity of each node: 4, 16, 48 or 256.
     pub width: usize,
-    /// Is the number of such nodes.
+    /// The number of such nodes.
     pub total_nodes: usize,
-    /// Is the number of their children.
+    /// The number of their children.
     pub total_children: usize,
 }
 
@@ -23,17 +23,17 @@ pub struct NodeStats {
 pub struct TreeStats {
     /// Maps each capacity to its inner nodes, with an entry only if there is such a node.
     pub node_stats: BTreeMap<usize, NodeStats>,
-    /// Is the number of nodes without children.
+    /// The number of nodes without children.
     pub num_leaves: usize,
-    /// Is the number of nodes with a value.
+    /// The number of nodes with a value.
     pub num_values: usize,
-    /// Is the number of nodes with children.
+    /// The number of nodes with children.
     pub num_inner_nodes: usize,
-    /// Is the number of children of the inner nodes.
+    /// The number of children of the inner nodes.
     pub total_children: usize,
-    /// Is the sum of the capacities of the inner nodes.
+    /// The sum of the capacities of the inner nodes.
     pub total_width: usize,
-    /// Is the greatest number of nodes on a path from the root to a leaf.
+    /// The greatest number of nodes on a path from the root to a leaf.
     pub max_height: usize,
 }
 

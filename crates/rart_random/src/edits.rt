@@ -111,7 +111,7 @@ fn clear<K: KeyTrait>(tree: &mut Tree<K>) -> u64 {
     count as u64
 }
 
-// The answer of a callback, and whether it writes first. A removal writes nothing, since a refused one keeps it.
+// The answer of a callback.
 fn update_of(call: &Call) -> SlotUpdate<u64> {
     match call.choice % 4 {
         0 => SlotUpdate::Keep,
@@ -127,7 +127,12 @@ pub fn pops(call: &Call) -> bool {
 
 /// Whether the callback writes `value + 1` at an occupied slot before it answers.
 pub fn writes(call: &Call) -> bool {
-    call.choice % 4 < 2 && call.choice % 8 < 4
+    call.choice % 8 < 4
+}
+
+/// Whether the callback wants the key removed.
+pub fn removes(call: &Call) -> bool {
+    call.choice % 4 > 1
 }
 
 fn write(slot: &mut Slot<u64>, written: Option<u64>)

@@ -13,7 +13,7 @@ use rart::KeyTrait;
 use std::alloc::Global;
 
 /// The edits that insert a pair: the kinds of their calls.
-const WAYS: [u64; 5] = [0, 2, 3, 7, 8];
+const INSERTIONS: [u64; 5] = [0, 2, 3, 7, 8];
 
 /// The choice by which the callback of an update inserts.
 const INSERTS: u64 = 5;
@@ -24,7 +24,10 @@ const VIEWS: u64 = 24;
 // The insertion of a pair, by the edit that the call chooses.
 fn insertion(pair: &Pair, call: &Call) -> Call {
     let mut one = *call;
-    one.kind = WAYS.get((call.choice % 5) as usize).copied().unwrap_or(0);
+    one.kind = INSERTIONS
+        .get((call.choice % 5) as usize)
+        .copied()
+        .unwrap_or(0);
     one.value = pair.1;
     one.choice = INSERTS;
     one

@@ -1,8 +1,9 @@
 //! Bulk loads of lists that a model gives, in order or out of it.
 use crate::call::Call;
+use crate::copies::copies_are_right;
 use crate::edits::WRONG;
 use crate::model::{Model, Pair};
-use crate::numbers::{mix, sum_if};
+use crate::numbers::{mix, mix_bytes, sum_if};
 use crate::shape::{shape_in, shape_of};
 use crate::sides::{Tree, key_of, mix_key};
 use rart::{BulkError, KeyTrait};
@@ -56,6 +57,16 @@ pub fn sum_in<K: KeyTrait + Drop>(tree: &Tree<K>) -> Option<u64> {
     Some(sum)
 }
 
+// The sum of all pairs, the last first.
+fn sum_back<K: KeyTrait + Drop>(tree: &Tree<K>) -> Option<u64> {
+    let mut sum = 1_u64;
+    let mut pairs = tree.iter_descending().ok()?;
+    while let Some((key, value)) = pairs.next() {
+        sum = mix(mix_key(sum, &key), *value);
+    }
+    Some(sum)
+}
+
 // Whether the tree is the one that the list gives by insertions in turn; none if memory was refused.
 fn is_inserted<K: KeyTrait + Drop>(alloc: Global, tree: &Tree<K>, list: &[Pair]) -> Option<bool> {
     let items = items::<K>(alloc, list).ok()?;
@@ -65,14 +76,18 @@ fn is_inserted<K: KeyTrait + Drop>(alloc: Global, tree: &Tree<K>, list: &[Pair])
     }
 }
 
+// The sum of the tree of a list.
+fn sum_of<K: KeyTrait + Drop>(alloc: Global, tree: &Tree<K>, list: &[Pair]) -> Option<u64> {
+    let is_right = is_inserted(alloc, tree, list)? && copies_are_right(tree, list)?;
+    let both = mix(sum_in(tree)?, sum_back(tree)?);
+    Some(mix(mix(both, shape_in(tree)?), sum_if(is_right)))
+}
+
 /// The sum of the tree of the list, or of its fault.
 pub fn load<K: KeyTrait + Drop>(alloc: Global, list: &[Pair]) -> Option<u64> {
     let items = items::<K>(alloc, list).ok()?;
     match Tree::<K>::bulk_load_sorted(alloc, items) {
-        Ok(tree) => {
-            let is_inserted = sum_if(is_inserted(alloc, &tree, list)?);
-            Some(mix(mix(sum_in(&tree)?, shape_in(&tree)?), is_inserted))
-        }
+        Ok(tree) => sum_of(alloc, &tree, list),
         Err(BulkError::Unsorted { at }) => Some(mix(13, at as u64)),
         Err(BulkError::Memory) => None,
         Err(BulkError::Full) => Some(WRONG),
@@ -94,6 +109,17 @@ fn fault(list: &[Pair]) -> Option<u64> {
     None
 }
 
+// The sum of all pairs of a model, the last first.
+fn wanted_back(model: &Model) -> u64 {
+    let mut sum = 1_u64;
+    for place in 0..model.len() {
+        if let Some((key, value)) = model.at(model.len().wrapping_sub(place).wrapping_sub(1)) {
+            sum = mix(mix_bytes(sum, key.as_slice()), value);
+        }
+    }
+    sum
+}
+
 /// What the load must answer.
 pub fn wanted_load(alloc: Global, list: &[Pair]) -> u64 {
     if let Some(at) = fault(list) {
@@ -104,7 +130,10 @@ pub fn wanted_load(alloc: Global, list: &[Pair]) -> u64 {
         model.put(&pair.0, pair.1);
     }
     match shape_of(alloc, &model) {
-        Ok(shape) => mix(mix(model.sum(0, model.len(), true), shape), sum_if(true)),
+        Ok(shape) => {
+            let both = mix(model.sum(0, model.len(), true), wanted_back(&model));
+            mix(mix(both, shape), sum_if(true))
+        }
         Err(_refused) => 1,
     }
 }

@@ -8,6 +8,7 @@
 
 mod call;
 mod cases;
+mod copies;
 mod edits;
 mod grown;
 mod loads;

@@ -1,6 +1,6 @@
 //! What an edit must answer, by the model, and what the model is after it.
 use crate::call::Call;
-use crate::edits::{clears, pops, writes, writes_below};
+use crate::edits::{clears, pops, removes, writes, writes_below};
 use crate::model::Model;
 use crate::numbers::{mix, mix_pair, sum_if, sum_of};
 use crate::text::Text;
@@ -32,8 +32,8 @@ fn overwrite_below(model: &mut Model, key: &Text, value: u64) -> u64 {
     sum
 }
 
-// The rest of an update whose callback answered: whether the key was or is stored.
-fn settle(model: &mut Model, key: &Text, call: &Call, is_written: bool) -> bool {
+// Applies an update whose callback returned, and returns whether the key was or is stored.
+fn apply_update(model: &mut Model, key: &Text, call: &Call, is_written: bool) -> bool {
     let old = model.get(key);
     match call.choice % 4 {
         0 => {
@@ -51,14 +51,22 @@ fn settle(model: &mut Model, key: &Text, call: &Call, is_written: bool) -> bool 
 }
 
 fn update(model: &mut Model, key: &Text, call: &Call) -> u64 {
-    sum_if(settle(model, key, call, writes(call)))
+    sum_if(apply_update(model, key, call, writes(call)))
 }
 
 fn try_update(model: &mut Model, key: &Text, call: &Call) -> u64 {
     if call.choice % 16 < 4 {
         return mix(11, call.value);
     }
-    sum_if(settle(model, key, call, true))
+    sum_if(apply_update(model, key, call, true))
+}
+
+/// What a refused call leaves: the value that an update wrote before its removal was refused.
+pub fn note_refusal(model: &mut Model, key: &Text, call: &Call) {
+    let is_written = call.kind == 7 && removes(call) && writes(call);
+    if is_written && model.get(key).is_some() {
+        model.put(key, call.value.wrapping_add(1));
+    }
 }
 
 /// Removes the pair at a place, and returns the sum of it.

@@ -30,7 +30,7 @@ pub struct Played {
 // Which request is refused in a call, 0 for none: one of the first four, or of more if the call makes a tree.
 fn refused_at(case: &Case, call: &Call, number: u64) -> usize {
     let chance = mix(case.seed, number);
-    let most = if makes_a_tree(call) { 64 } else { 4 };
+    let most = if makes_a_tree(call) { 256 } else { 4 };
     if case.refused > 0 && chance.checked_rem(case.refused) == Some(0) {
         ((chance >> 32) % most).wrapping_add(1) as usize
     } else {

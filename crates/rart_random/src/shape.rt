@@ -170,7 +170,7 @@ pub fn shape_in<K: KeyTrait>(tree: &Tree<K>) -> Option<u64> {
     Some(sum_of_stats(&stats))
 }
 
-/// The sum of statistics. An entry of no node is one too many, and makes it another one.
+/// The sum of statistics. Returns 0 if an entry has no node or another width.
 pub fn sum_of_stats(stats: &TreeStats) -> u64 {
     let mut counts = Counts::new();
     counts.leaves = stats.num_leaves as u64;

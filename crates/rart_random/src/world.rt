@@ -191,8 +191,17 @@ impl<K: KeyTrait + Drop> World<K> {
         }
     }
 
+    // What a refused call leaves in the model: a refused removal by an update keeps the value that was written.
+    fn note_refusal(&mut self, words: &Words, call: &Call) {
+        if call.on_second {
+            model_edits::note_refusal(&mut self.second.model, &words.key, call);
+        } else {
+            model_edits::note_refusal(&mut self.first.model, &words.key, call);
+        }
+    }
+
     /// Makes the call, and says whether the answer is the model's. With `refused` above 0 that request of the call for
-    /// memory is refused first: then nothing may have changed, and the call is made again.
+    /// memory is refused first: then nothing else may have changed, and the call is made again.
     pub fn is_played(&mut self, call: &Call, most: usize, refused: usize) -> bool {
         let words = self.words(call, most);
         let list = self.list(call);
@@ -206,6 +215,7 @@ impl<K: KeyTrait + Drop> World<K> {
                 return false;
             }
             if was {
+                self.note_refusal(&words, call);
                 if !self.is_right() {
                     return false;
                 }

@@ -38,11 +38,11 @@ routes-begin a b route all left is h = record {
 }
 
 -- a space and the next route are printed
-pub routes-go_on : (a b c d : Option (List ℕ)) (route : Net × ArrayKey TARGET_SIZE)
+pub routes-continue : (a b c d : Option (List ℕ)) (route : Net × ArrayKey TARGET_SIZE)
     (left rest all : List ((ℕ × List ℕ) × ArrayKey TARGET_SIZE)) → left ≡ in_bits route ∷ rest
     → HasPrintedRoutes a b left all → Appends b c (codes " ") → Appends c d (route_word route)
     → HasPrintedRoutes a d rest all
-routes-go_on a b c d route left rest all is h space more =
+routes-continue a b c d route left rest all is h space more =
     let before = route_word h.first ++ further_routes h.others in
     let printed = Appends-both a b d before (codes " " ++ route_word route) h.appends
     (Appends-both b c d (codes " ") (route_word route) space more) in

@@ -1,4 +1,4 @@
--- What the words of a line ask for.
+-- The command that the words of a line name.
 use Rattle.std.specs.Prelude.{◌≡◌, ◌≢◌, ◌<◌, ◌≤◌, ℕ, List, [], ◌∷◌, length, Option, Some, None, Result, Ok, Err, codes}
 use Rattle.std.specs.Prelude.{if◌then◌else◌}
 use Rattle.std.specs.Net.Grammar.{IsIpText}
@@ -56,7 +56,7 @@ IsNetAndTarget words (Err (error.Network e)) = (w v : List ℕ) × (words ≡ w 
     × IsNet w (Err e)
 IsNetAndTarget words (Err error.Command) = (w v : List ℕ) → words ≡ w ∷ v ∷ [] → TARGET_SIZE < length v
 
--- what a name asks for with these operands
+-- the command that a name has with these operands
 abbrev pub IsCommandOf : Verb → List (List ℕ) → Result Command LineError → Type 0
 IsCommandOf verb.Add operands (Ok (command.Add net target)) = IsNetAndTarget operands (Ok (net, target))
 IsCommandOf verb.Add operands (Err e) = IsNetAndTarget operands (Err e)
@@ -82,7 +82,7 @@ abbrev pub IsNamed : Option Verb → List (List ℕ) → Result Command LineErro
 IsNamed None operands result = result ≡ Err error.Command
 IsNamed (Some verb) operands result = IsCommandOf verb operands result
 
--- what the words of a line ask for, or what is wrong with them
+-- the command that the words of a line name, or what is wrong with them
 abbrev pub IsCommand : List (List ℕ) → Result Command LineError → Type 0
 IsCommand [] result = result ≡ Ok command.Nothing
 IsCommand (name ∷ operands) result = IsNamed (verb_of name) operands result

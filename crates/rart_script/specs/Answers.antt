@@ -1,5 +1,5 @@
 -- What a command prints.
-use Rattle.std.specs.Prelude.{◌≡◌, ℕ, [], ◌∷◌, ◌++◌, List, map, codes, decimal, Option, Some, None}
+use Rattle.std.specs.Prelude.{◌≡◌, ℕ, [], ◌∷◌, ◌++◌, List, map, codes, decimal, Option, Some, None, ⊤}
 use Rattle.std.specs.List.{join_with_byte}
 use Rattle.std.specs.Option.{option_map}
 use Rattle.rart_keys.specs.ArrayKeyBytes.{array_key_bytes}
@@ -65,8 +65,9 @@ reply_line reply.Failed = []
 reply_line reply.NoClone = []
 reply_line reply.NoRemove = []
 
--- the command prints this line on the map old, and leaves the map new: the line of a reply that the call may get
+-- the command prints this line on the map old, and leaves the map new: the line of a reply that the call may get, where
+-- no clone of a value fails
 abbrev pub PrintsReply : Command → List (List ℕ × ℕ) → List ℕ → List (List ℕ × ℕ) → Type 0
 PrintsReply command.Nothing old line new = (line ≡ []) × (new ≡ old)
 PrintsReply (command.Call call) old line new = (r : Reply (ArrayKey KEY_SIZE) ℕ)
-    × (IsStep array_key_bytes old call r new × (line ≡ reply_line r))
+    × (IsStep (λ value. ⊤) array_key_bytes old call r new × (line ≡ reply_line r))

@@ -35,8 +35,8 @@ pub fn were_more(alloc: Global) -> bool {
 }
 
 /// Whether each request refused in turn goes well, up to the first that isn't made, which ends a part.
-/// `is_refused_well` makes calls with the request of its number refused, and answers whether one was; None where
-/// something went another way.
+/// `is_refused_well` makes calls with the request of its number refused, and returns whether one was; None where
+/// something failed.
 pub fn is_swept<F: Fn(usize) -> Option<bool> + Drop>(alloc: Global, is_refused_well: F) -> bool
     requires { (at : _) → F.pre is_refused_well at }
 {

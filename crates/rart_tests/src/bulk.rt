@@ -148,12 +148,12 @@ fn calls_of_items(alloc: Global, items: &[(Key, u64)], many: usize) -> Option<(u
     if !ascend(items) {
         return None;
     }
-    let (asked, taken) = (Cell::new(0_usize), Cell::new(0_usize));
-    let loaded = load_counting(alloc, items, &asked, |i| {
+    let (key_calls, taken) = (Cell::new(0_usize), Cell::new(0_usize));
+    let loaded = load_counting(alloc, items, &key_calls, |i| {
         count(&taken, i);
         7_u64
     });
-    has_length(loaded, many).then_some((asked.get(), taken.get()))
+    has_length(loaded, many).then_some((key_calls.get(), taken.get()))
 }
 
 // The same of the first so many items.
@@ -163,7 +163,7 @@ fn calls_of(alloc: Global, many: usize) -> Result<Option<(usize, usize)>, AllocE
 }
 
 #[test]
-fn each_key_is_asked_for_once_and_each_value_taken_once(rt: HostRuntime) -> Result<(), Fail> {
+fn each_key_is_read_once_and_each_value_taken_once(rt: HostRuntime) -> Result<(), Fail> {
     for (many, wanted) in [(1, 0x1), (2, 0x11), (3, 0x111), (4, 0x1111)] {
         assert!(rt;
             calls_of(rt.alloc(), many)? == Some((wanted, wanted)),

@@ -57,7 +57,7 @@ pub fn count(calls: &Cell<usize>, i: usize) {
 pub fn load_counting<W, V: Drop, F: FnMut(usize) -> V + Drop>(
     alloc: Global,
     items: &[(Key, W)],
-    asked: &Cell<usize>,
+    key_calls: &Cell<usize>,
     take: F,
 ) -> Result<AdaptiveRadixTree<Key, V>, BulkError>
     requires ascending { IsAscending (pairs_in array_key_bytes items.now) }
@@ -71,7 +71,7 @@ pub fn load_counting<W, V: Drop, F: FnMut(usize) -> V + Drop>(
             requires { i < length items.now }
             ensures { (d : _) → result.now ≡ (slice_index_or items.entry.now i d).0 }
         {
-            count(asked, i);
+            count(key_calls, i);
             &items[i].0
         },
         take,

@@ -1,6 +1,5 @@
 //! Tests of the map.
 
-mod asks_for_nothing;
 mod calls;
 mod clones;
 mod drops;
@@ -9,6 +8,8 @@ mod errors;
 mod laws;
 mod migrations;
 mod names;
+mod no_requests;
 mod taken_in_turn;
+mod taken_prefixes;
 mod updates;
 mod words;

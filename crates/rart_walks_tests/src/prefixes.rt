@@ -110,7 +110,7 @@ fn is_row(tree: &Tree, row: &Row) -> bool {
         && are_all_matches(tree, key, row.1)
 }
 
-// The first row that goes another way, if one does.
+// The first row that fails, if one does.
 fn first_wrong(tree: &Tree, rows: &[Row]) -> Option<usize> {
     let mut row = 0_usize;
     for one in rows {
@@ -241,7 +241,7 @@ fn first_wrong_of(alloc: Global, pairs: &[Pair], rows: &[Row]) -> Option<usize> 
     }
 }
 
-// The first group of which a row goes another way, and that row.
+// The first group of which a row fails, and that row.
 fn first_wrong_group(alloc: Global, groups: &[Group]) -> Option<(usize, usize)> {
     let mut group = 0_usize;
     for (pairs, rows) in groups {
@@ -259,7 +259,7 @@ fn keys_that_begin_a_probe_and_keys_that_it_begins(rt: HostRuntime) {
 }
 
 // Whether the row's answers about a probe are the tree's, while the next request for memory is refused.
-fn is_asked_for_nothing(alloc: Global, tree: &Tree, row: &Row) -> bool {
+fn makes_no_request(alloc: Global, tree: &Tree, row: &Row) -> bool {
     let probe = row.0.as_bytes();
     if probe.len() > 16 {
         return false;
@@ -270,10 +270,10 @@ fn is_asked_for_nothing(alloc: Global, tree: &Tree, row: &Row) -> bool {
     as_wanted && !was_refused(alloc)
 }
 
-fn first_asking(alloc: Global, tree: &Tree, rows: &[Row]) -> Option<usize> {
+fn first_requesting(alloc: Global, tree: &Tree, rows: &[Row]) -> Option<usize> {
     let mut at = 0_usize;
     for row in rows {
-        if !is_asked_for_nothing(alloc, tree, row) {
+        if !makes_no_request(alloc, tree, row) {
             return Some(at);
         }
         at = at.wrapping_add(1);
@@ -281,12 +281,12 @@ fn first_asking(alloc: Global, tree: &Tree, rows: &[Row]) -> Option<usize> {
     None
 }
 
-fn first_asking_of_words(alloc: Global, tree: &Tree) -> Option<usize> {
-    first_asking(alloc, tree, &OF_WORDS)
+fn first_requesting_of_words(alloc: Global, tree: &Tree) -> Option<usize> {
+    first_requesting(alloc, tree, &OF_WORDS)
 }
 
 #[test]
 fn answers_about_a_probe_ask_for_nothing(rt: HostRuntime) {
     let tree = filled(rt.alloc(), &WORDS).expect(&rt, "a tree");
-    assert_eq!(rt; first_asking_of_words(rt.alloc(), &tree), None);
+    assert_eq!(rt; first_requesting_of_words(rt.alloc(), &tree), None);
 }

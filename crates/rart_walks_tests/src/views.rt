@@ -60,10 +60,10 @@ pub fn next_row(seen: usize, rows: &[Row], view: LendingKeyView<'_, '_>, value: 
 
 fn below_sees(tree: &Tree, key: &Key, rows: &[Row]) -> bool {
     let seen = Cell::new(0_usize);
-    let ended = tree.prefix_for_each_view_k(key, |view: LendingKeyView<'_, '_>, value: &u64| {
+    let outcome = tree.prefix_for_each_view_k(key, |view: LendingKeyView<'_, '_>, value: &u64| {
         seen.set(next_row(seen.get(), rows, view, *value));
     });
-    ended == Ok(()) && seen.get() == rows.len()
+    outcome == Ok(()) && seen.get() == rows.len()
 }
 
 fn below_lent_sees(tree: &Tree, key: &Key, rows: &[Row]) -> bool {
@@ -71,16 +71,16 @@ fn below_lent_sees(tree: &Tree, key: &Key, rows: &[Row]) -> bool {
     let mut callback = |view: LendingKeyView<'_, '_>, value: &u64| {
         seen = next_row(seen, rows, view, *value);
     };
-    let ended = tree.prefix_for_each_view_by_ref_k(key, &mut callback);
-    ended == Ok(()) && seen == rows.len()
+    let outcome = tree.prefix_for_each_view_by_ref_k(key, &mut callback);
+    outcome == Ok(()) && seen == rows.len()
 }
 
 fn below_by_value_sees(tree: &Tree, key: Key, rows: &[Row]) -> bool {
     let seen = Cell::new(0_usize);
-    let ended = tree.prefix_for_each_view(key, |view: LendingKeyView<'_, '_>, value: &u64| {
+    let outcome = tree.prefix_for_each_view(key, |view: LendingKeyView<'_, '_>, value: &u64| {
         seen.set(next_row(seen.get(), rows, view, *value));
     });
-    ended == Ok(()) && seen.get() == rows.len()
+    outcome == Ok(()) && seen.get() == rows.len()
 }
 
 // Whether a walk over the views below a prefix sees these, in each form.
@@ -112,10 +112,10 @@ fn walk_sees_between(
 
 fn all_see(tree: &Tree, rows: &[Row]) -> bool {
     let seen = Cell::new(0_usize);
-    let ended = tree.for_each_view(|view: LendingKeyView<'_, '_>, value: &u64| {
+    let outcome = tree.for_each_view(|view: LendingKeyView<'_, '_>, value: &u64| {
         seen.set(next_row(seen.get(), rows, view, *value));
     });
-    ended == Ok(()) && seen.get() == rows.len()
+    outcome == Ok(()) && seen.get() == rows.len()
 }
 
 fn all_lent_see(tree: &Tree, rows: &[Row]) -> bool {
@@ -123,8 +123,8 @@ fn all_lent_see(tree: &Tree, rows: &[Row]) -> bool {
     let mut callback = |view: LendingKeyView<'_, '_>, value: &u64| {
         seen = next_row(seen, rows, view, *value);
     };
-    let ended = tree.for_each_view_by_ref(&mut callback);
-    ended == Ok(()) && seen == rows.len()
+    let outcome = tree.for_each_view_by_ref(&mut callback);
+    outcome == Ok(()) && seen == rows.len()
 }
 
 fn walk_sees_all(tree: &Tree, rows: &[Row]) -> bool {
@@ -183,20 +183,21 @@ fn views_between_two_bounds_are_cut_at_the_branch_points(rt: HostRuntime) {
     assert!(rt; sees_between(&tree));
 }
 
-// What is told of the longest match of the probe, and how often it was shown as wanted: 100 where it wasn't.
+// What the call returns for the longest match of the probe, and how often the callback got the wanted pair: 100 for
+// another one.
 fn shows_longest(tree: &Tree, probe: &[u8], row: &Row) -> (Result<bool, TreeError>, usize)
     requires { length probe.now ≤ 16 }
 {
     let seen = Cell::new(0_usize);
     let key = Key::new_from_slice(probe);
-    let told = tree.with_longest_prefix_match_view(
+    let called = tree.with_longest_prefix_match_view(
         key,
         |view: LendingKeyView<'_, '_>, value: &u64| {
             let wanted = *value == row.1 && is_view(view, row);
             seen.set(seen.get().wrapping_add(if wanted { 1 } else { 100 }));
         },
     );
-    (told, seen.get())
+    (called, seen.get())
 }
 
 // The same of the forms that lend the callback, with the probe by reference and by value.

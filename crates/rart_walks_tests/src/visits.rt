@@ -40,8 +40,8 @@ fn control(value: u64, row: &Row) -> Result<VisitControl, &'static str> {
     }
 }
 
-fn ends_as(ended: Result<(), VisitError<&'static str>>, row: &Row) -> bool {
-    match ended {
+fn ends_as(outcome: Result<(), VisitError<&'static str>>, row: &Row) -> bool {
+    match outcome {
         Ok(()) => !row.4,
         Err(VisitError::Callback(text)) => row.4 && text == "boom",
         Err(VisitError::Memory) => false,
@@ -49,7 +49,7 @@ fn ends_as(ended: Result<(), VisitError<&'static str>>, row: &Row) -> bool {
 }
 
 // The forms that take the callback.
-fn tries_by_value(tree: &Tree, key: Key, row: &Row) -> bool {
+fn try_values_by_value(tree: &Tree, key: Key, row: &Row) -> bool {
     let seen = Cell::new(1_u64);
     let by_reference = tree.try_prefix_values_for_each_k(&key, |value: &u64| {
         seen.set(with_digit(seen.get(), *value));
@@ -65,13 +65,13 @@ fn tries_by_value(tree: &Tree, key: Key, row: &Row) -> bool {
 }
 
 // Those to which it is lent.
-fn tries_lent(tree: &Tree, key: Key, row: &Row) -> bool {
+fn try_values_lent(tree: &Tree, key: Key, row: &Row) -> bool {
     let mut seen = 1_u64;
     let mut callback = |value: &u64| {
         seen = with_digit(seen, *value);
         control(*value, row)
     };
-    let ended = tree.try_prefix_values_for_each_by_ref_k(&key, &mut callback);
+    let outcome = tree.try_prefix_values_for_each_by_ref_k(&key, &mut callback);
     let first = seen;
     seen = 1;
     let mut callback = |value: &u64| {
@@ -79,7 +79,7 @@ fn tries_lent(tree: &Tree, key: Key, row: &Row) -> bool {
         control(*value, row)
     };
     let again = tree.try_prefix_values_for_each_by_ref(key, &mut callback);
-    ends_as(ended, row) && ends_as(again, row) && first == row.3 && seen == row.3
+    ends_as(outcome, row) && ends_as(again, row) && first == row.3 && seen == row.3
 }
 
 // A walk that can't end early, lent its callback.
@@ -126,14 +126,14 @@ fn is_row(tree: &Tree, probe: &[u8], row: &Row) -> bool
     requires { length probe.now ≤ 16 }
 {
     let ends_early = row.1 != 0 || row.2 != 0;
-    tries_by_value(tree, Key::new_from_slice(probe), row)
-        && tries_lent(tree, Key::new_from_slice(probe), row)
+    try_values_by_value(tree, Key::new_from_slice(probe), row)
+        && try_values_lent(tree, Key::new_from_slice(probe), row)
         && (ends_early || visits_all(tree, Key::new_from_slice(probe), row))
         && (ends_early || visits_all_lent(tree, Key::new_from_slice(probe), row))
         && (ends_early || folds_all(tree, Key::new_from_slice(probe), row))
 }
 
-// The first row that goes another way, if one does.
+// The first row that fails, if one does.
 fn first_wrong(tree: &Tree, rows: &[Row]) -> Option<usize> {
     let mut at = 0_usize;
     for row in rows {

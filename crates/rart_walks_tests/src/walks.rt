@@ -1,11 +1,11 @@
 //! Walks in every form: with each request for memory refused in turn, by their counted forms, and where nothing may be
 //! requested.
 
-mod asking;
 mod copies;
 mod counted;
 mod forms;
 mod laws;
+mod requests;
 mod room;
 mod seen_forms;
 pub mod segments;

@@ -14,7 +14,8 @@ pub(super) fn reply_to_longest<K: KeyTrait + Drop, V: Copy>(
     tree: &AdaptiveRadixTree<K, V>,
     key: K,
 ) -> Reply<K, V>
-    ensures { IsStep K.bytes tree.now.pairs (Call.Longest key) result tree.now.pairs }
+    ensures { IsStep V.is_infallible K.bytes tree.now.pairs (Call.Longest key)
+        result tree.now.pairs }
 {
     match tree.longest_prefix_match_k(&key) {
         Some((found, value)) => Reply::Pair(Some((found, *value))),
@@ -27,7 +28,8 @@ pub(super) fn reply_to_matches<K: KeyTrait + Drop, V: Copy>(
     tree: &AdaptiveRadixTree<K, V>,
     key: K,
 ) -> Reply<K, V>
-    ensures { IsStep K.bytes tree.now.pairs (Call.Matches key) result tree.now.pairs }
+    ensures { IsStep V.is_infallible K.bytes tree.now.pairs (Call.Matches key)
+        result tree.now.pairs }
 {
     match copied_matches(alloc, tree, &key) {
         Ok(pairs) => Reply::Pairs(pairs),
@@ -40,7 +42,8 @@ pub(super) fn reply_to_prefix<K: KeyTrait + Drop, V: Copy>(
     tree: &AdaptiveRadixTree<K, V>,
     key: K,
 ) -> Reply<K, V>
-    ensures { IsStep K.bytes tree.now.pairs (Call.Prefix key) result tree.now.pairs }
+    ensures { IsStep V.is_infallible K.bytes tree.now.pairs (Call.Prefix key)
+        result tree.now.pairs }
 {
     match copied_below(alloc, tree, &key) {
         Ok(pairs) => Reply::Pairs(pairs),

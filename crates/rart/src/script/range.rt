@@ -17,7 +17,8 @@ pub(super) fn reply_to_range<K: KeyTrait + Drop, V: Copy>(
     start: Bound<K>,
     end: Bound<K>,
 ) -> Reply<K, V>
-    ensures { IsStep K.bytes tree.now.pairs (Call.Range start end) result tree.now.pairs }
+    ensures { IsStep V.is_infallible K.bytes tree.now.pairs (Call.Range start end)
+        result tree.now.pairs }
 {
     match copied_between(alloc, tree, start, end) {
         Ok(pairs) => Reply::Pairs(pairs),

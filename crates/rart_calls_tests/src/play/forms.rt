@@ -76,8 +76,8 @@ fn by_step<K: KeyTrait + Drop>(
     Some(step(alloc, tree, call(ask, spelling)?))
 }
 
-/// What a callback answers that requests this.
-pub fn asked(request: Request) -> Result<SlotUpdate<u64>, ()> {
+/// What a callback returns that requests this.
+pub fn callback_result(request: Request) -> Result<SlotUpdate<u64>, ()> {
     match request {
         Request::Keep => Ok(SlotUpdate::Keep),
         Request::Remove => Ok(SlotUpdate::Remove),
@@ -116,11 +116,15 @@ fn call_at<K: Drop>(ask: Ask<'_>, key: K) -> Option<Call<K, u64>> {
         Ask::TryInsert(_, value) => Some(Call::TryInsert(key, value)),
         Ask::Remove(_) => Some(Call::Remove(key)),
         Ask::Delete(_) => Some(Call::Delete(key)),
-        Ask::Update(_, written, request) => match asked(request) {
+        Ask::Update(_, written, request) => match callback_result(request) {
             Ok(update) => Some(Call::Update(key, written, update)),
             Err(()) => None,
         },
-        Ask::TryUpdate(_, written, request) => Some(Call::TryUpdate(key, written, asked(request))),
+        Ask::TryUpdate(_, written, request) => Some(Call::TryUpdate(
+            key,
+            written,
+            callback_result(request),
+        )),
         Ask::Longest(_) => Some(Call::Longest(key)),
         Ask::Matches(_) => Some(Call::Matches(key)),
         Ask::Prefix(_) => Some(Call::Prefix(key)),

@@ -1,5 +1,5 @@
-//! Rows played on an empty tree, as they are and with requests for memory refused. Each play answers the first row that
-//! went another way than wanted: None where all went well.
+//! Rows played on an empty tree, as they are and with requests for memory refused. Each play returns the first row
+//! that fails, or None.
 
 use super::forms::{answer, call};
 use super::replies::{are_same, is, is_refusal};
@@ -150,7 +150,7 @@ pub fn first_wrong_refused<K: KeyTrait + Drop>(alloc: Global, rows: &[Row<'_>]) 
     None
 }
 
-fn play_unasked<K: KeyTrait + Drop>(
+fn play_without_requests<K: KeyTrait + Drop>(
     alloc: Global,
     tree: &mut Tree<K>,
     before: &[Row<'_>],
@@ -168,18 +168,18 @@ fn play_unasked<K: KeyTrait + Drop>(
     failed
 }
 
-fn play_new_unasked<K: KeyTrait + Drop>(
+fn play_new_without_requests<K: KeyTrait + Drop>(
     alloc: Global,
     before: &[Row<'_>],
     rows: &[Row<'_>],
     style: Style,
 ) -> Option<usize> {
     let mut tree = Tree::<K>::new(alloc);
-    play_unasked(alloc, &mut tree, before, rows, style)
+    play_without_requests(alloc, &mut tree, before, rows, style)
 }
 
 /// Plays the first rows, and then the others, none of which may ask for memory; a row that did is one past the last.
-pub fn first_wrong_unasked<K: KeyTrait + Drop>(
+pub fn first_wrong_without_requests<K: KeyTrait + Drop>(
     alloc: Global,
     before: &[Row<'_>],
     rows: &[Row<'_>],
@@ -189,7 +189,7 @@ pub fn first_wrong_unasked<K: KeyTrait + Drop>(
             form,
             spelling: Spelling::Bytes,
         };
-        let failed = play_new_unasked::<K>(alloc, before, rows, style);
+        let failed = play_new_without_requests::<K>(alloc, before, rows, style);
         if failed.is_some() {
             return failed;
         }
@@ -327,9 +327,9 @@ pub fn run_is_refused_in_turn<K: KeyTrait + Drop>(
     Ok(false)
 }
 
-/// Fails a test in which a row went another way.
+/// Fails a test in which a row failed.
 pub fn assert_none_wrong(rt: &impl Abort, failed: Option<usize>) {
     if let Some(row) = failed {
-        panic!(rt; "row {row} went another way");
+        panic!(rt; "row {row} failed");
     }
 }

@@ -11,7 +11,7 @@ use std::{fmt, str};
 /// Why a text isn't a network.
 #[derive(Clone, Copy, PartialEq, Eq, Debug)]
 pub enum ParseCidrError {
-    /// What stands before the slash isn't an address.
+    /// The text before the slash isn't an address.
     Address,
     /// No slash with a decimal length follows, or the address has fewer bits. The length has no leading zero.
     Length,
@@ -34,7 +34,7 @@ impl fmt::Display for ParseCidrError {
     }
 }
 
-// Returns what stands before the first slash, and after it; the whole text and `None` without a slash.
+// Returns the text before the first slash and after it; the whole text and `None` without a slash.
 fn split_text(text: &[u8]) -> (&[u8], Option<&[u8]>)
     ensures address { result.0.now ≡ address_part text.now }
     ensures length { option_copied result.1 ≡ length_part text.now }

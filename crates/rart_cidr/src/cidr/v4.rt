@@ -2,7 +2,7 @@
 ghost use Rattle.std.specs.Prelude.{◌≡◌, ◌≤◌, length};
 ghost use Rattle.rart_keys.specs.KeyBytes.{AreBytes};
 ghost use Rattle.std.specs.Net.Addr.{ipv4_octets};
-ghost use Rattle.rart_cidr.specs.Bits.{AreClearAfter, bits_of, cleared};
+ghost use Rattle.rart_cidr.specs.Bits.{AreClearAfter, bits_of, masked_octets};
 
 use crate::bits::{are_bytes, clear_after};
 use crate::cidr::CidrError;
@@ -25,7 +25,7 @@ pub struct Cidr4 {
 
 // The octets of `addr` with all but their first `len` bits cleared.
 fn cleared_octets(addr: Ipv4Addr, len: u8) -> [u8; 4]
-    ensures value { result ≡ cleared (ipv4_octets addr) len }
+    ensures value { result ≡ masked_octets (ipv4_octets addr) len }
     ensures width { length (ipv4_octets addr) ≡ 4 }
     ensures bytes { AreBytes (ipv4_octets addr) }
 {

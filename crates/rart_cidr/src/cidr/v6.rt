@@ -2,7 +2,7 @@
 ghost use Rattle.std.specs.Prelude.{◌≡◌, ◌≤◌, length};
 ghost use Rattle.rart_keys.specs.KeyBytes.{AreBytes};
 ghost use Rattle.std.specs.Net.Addr.{ipv6_octets};
-ghost use Rattle.rart_cidr.specs.Bits.{AreClearAfter, bits_of, cleared};
+ghost use Rattle.rart_cidr.specs.Bits.{AreClearAfter, bits_of, masked_octets};
 
 use crate::bits::{are_bytes, clear_after};
 use crate::cidr::CidrError;
@@ -25,7 +25,7 @@ pub struct Cidr6 {
 
 // The octets of `addr` with all but their first `len` bits cleared.
 fn cleared_octets(addr: Ipv6Addr, len: u8) -> [u8; 16]
-    ensures value { result ≡ cleared (ipv6_octets addr) len }
+    ensures value { result ≡ masked_octets (ipv6_octets addr) len }
     ensures width { length (ipv6_octets addr) ≡ 16 }
     ensures bytes { AreBytes (ipv6_octets addr) }
 {

@@ -6,7 +6,7 @@ use std::alloc::Global;
 use std::ops::Bound;
 
 // Inserts so many one-byte keys, every second byte from 2 on, each its own value.
-fn insert_spaced(tree: &mut Tree, count: usize) -> bool {
+pub(super) fn insert_spaced(tree: &mut Tree, count: usize) -> bool {
     for byte in 0..=255_u8 {
         let number = usize::from(byte);
         if number >= 2 && number % 2 == 0 && number / 2 <= count {
@@ -46,7 +46,7 @@ fn starts_well(tree: &Tree, byte: u8, count: usize) -> bool {
         && counts_up_from(tree, Bound::Excluded(key), from + 1, count)
 }
 
-// The first byte from which a range goes another way, if there is one.
+// The first byte from which a range fails, if there is one.
 fn starts_at_every_byte(tree: &Tree, count: usize) -> Option<usize> {
     for byte in 0..=255_u8 {
         if !starts_well(tree, byte, count) {

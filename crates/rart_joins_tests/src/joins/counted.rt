@@ -1,7 +1,7 @@
 //! The counted calls of intersections: each answers as the plain one does.
 
 use crate::joins::rows::{Given, Triple};
-use crate::joins::{Asked, first_wrong};
+use crate::joins::{Check, first_wrong};
 use rart::{KeyTrait, LendingKeyView, Seen, Visits};
 use rart_test_trees::texts::{Key, Tree};
 
@@ -67,5 +67,5 @@ pub fn are_those_of_plain_calls(left: &Tree, right: &Tree, wanted: &[Triple]) ->
 
 #[test]
 fn keys_of_both_trees_are_those_of_the_plain_calls(rt: HostRuntime) {
-    assert_eq!(rt; first_wrong(rt.alloc(), Asked::Counted), None);
+    assert_eq!(rt; first_wrong(rt.alloc(), Check::Counted), None);
 }

@@ -52,7 +52,7 @@ static ROWS: [Row; 9] = [
 // More than any place in a text.
 const PAST: usize = 1000;
 
-// The place in the text after the key of this view; `PAST` where the view is cut another way than the text.
+// The place in the text after the key of this view; `PAST` where the view isn't cut as the text is.
 fn next_cut(text: &[u8], at: usize, view: LendingKeyView<'_, '_>) -> usize {
     let Some(mut rest) = text.get(at..) else {
         return PAST;
@@ -141,7 +141,7 @@ fn is_row(alloc: Global, row: &Row) -> bool {
     }
 }
 
-// The first row that goes another way, if one does.
+// The first row that fails, if one does.
 fn first_wrong(alloc: Global, rows: &[Row]) -> Option<usize> {
     let mut at = 0_usize;
     for row in rows {

@@ -1,7 +1,7 @@
 //! The law of intersections, called on each row; and intersections with an empty tree.
 
 use crate::joins::rows::{Given, Triple};
-use crate::joins::{Asked, first_wrong};
+use crate::joins::{Check, first_wrong};
 use rart::laws::intersections::intersections_are_symmetric;
 use rart::{KeyTrait, LendingKeyView, TreeError};
 use rart_test_tools::refusals::{is_swept, refuse, was_refused};
@@ -22,7 +22,7 @@ pub fn gives_both_ways(left: &Tree, right: &Tree, wanted: &[Triple]) -> bool {
 
 #[test]
 fn swapped_trees_give_swapped_values(rt: HostRuntime) {
-    assert_eq!(rt; first_wrong(rt.alloc(), Asked::Law), None);
+    assert_eq!(rt; first_wrong(rt.alloc(), Check::Law), None);
 }
 
 // A refused law says `Memory`: the second callback wasn't called, and the first was called at all pairs or at none.
@@ -62,7 +62,7 @@ pub fn law_is_swept(alloc: Global, left: &Tree, right: &Tree, wanted: &[Triple])
 
 #[test]
 fn swapped_trees_refused_in_turn(rt: HostRuntime) {
-    assert_eq!(rt; first_wrong(rt.alloc(), Asked::LawRefused), None);
+    assert_eq!(rt; first_wrong(rt.alloc(), Check::LawRefused), None);
 }
 
 const ENDED: [Pair; 3] = [("ab\0", 1), ("abc\0", 2), ("dog\0", 3)];

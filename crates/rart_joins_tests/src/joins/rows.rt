@@ -1,6 +1,6 @@
 //! Intersections: the keys of two trees, with the values of both.
 
-use crate::joins::{Asked, first_wrong};
+use crate::joins::{Check, first_wrong};
 use rart::{KeyTrait, LendingKeyView, TreeError};
 use rart_test_tools::refusals::{part_ends, refuse, was_refused};
 use rart_test_trees::texts::{Key, Pair, Tree};
@@ -189,11 +189,11 @@ pub static ROWS: [Row; 9] = [
 
 #[test]
 fn keys_of_both_trees(rt: HostRuntime) {
-    assert_eq!(rt; first_wrong(rt.alloc(), Asked::All), None);
+    assert_eq!(rt; first_wrong(rt.alloc(), Check::All), None);
 }
 
 // Whether counts and values are given while the next request for memory is refused.
-pub fn is_asked_for_nothing(alloc: Global, left: &Tree, right: &Tree, wanted: &[Triple]) -> bool {
+pub fn makes_no_request(alloc: Global, left: &Tree, right: &Tree, wanted: &[Triple]) -> bool {
     refuse(alloc, 1);
     let count = left.intersect_count(right);
     let well = gives_values(left, right, wanted, false)
@@ -203,7 +203,7 @@ pub fn is_asked_for_nothing(alloc: Global, left: &Tree, right: &Tree, wanted: &[
 
 #[test]
 fn counts_and_values_ask_for_nothing(rt: HostRuntime) {
-    assert_eq!(rt; first_wrong(rt.alloc(), Asked::Quiet), None);
+    assert_eq!(rt; first_wrong(rt.alloc(), Check::Quiet), None);
 }
 
 /// An intersection that requests memory, by a form of its call.
@@ -215,7 +215,7 @@ enum Form {
     ViewsByRef,
 }
 
-// How many requests were refused before all was given, each of which gave nothing; None where one went another way.
+// How many requests were refused before all was given, each of which gave nothing; None where one failed.
 fn refusals(
     alloc: Global,
     left: &Tree,
@@ -247,12 +247,12 @@ fn refusals(
 
 // Whether the walk is refused at most once where both trees have pairs, and else never.
 fn is_swept(alloc: Global, left: &Tree, right: &Tree, wanted: &[Triple], form: Form) -> bool {
-    let asks = !left.is_empty() && !right.is_empty();
+    let allocates = !left.is_empty() && !right.is_empty();
     let swept = match refusals(alloc, left, right, wanted, form) {
-        Some(many) => many <= usize::from(asks),
+        Some(many) => many <= usize::from(allocates),
         None => false,
     };
-    if asks {
+    if allocates {
         part_ends(alloc);
     }
     swept
@@ -269,5 +269,5 @@ pub fn are_swept(alloc: Global, left: &Tree, right: &Tree, wanted: &[Triple]) ->
 
 #[test]
 fn keys_and_views_are_refused_in_turn(rt: HostRuntime) {
-    assert_eq!(rt; first_wrong(rt.alloc(), Asked::Refused), None);
+    assert_eq!(rt; first_wrong(rt.alloc(), Check::Refused), None);
 }

@@ -91,7 +91,7 @@ fn gives_beside(alloc: Global, left: &Tree, one: u8, other: u8) -> bool {
     }
 }
 
-// The first width beside which a node goes another way, if there is one.
+// The first width beside which a node fails, if there is one.
 fn first_wrong_beside(alloc: Global, left: &Tree, one: u8) -> Option<u8> {
     for other in WIDTHS {
         if !gives_beside(alloc, left, one, other) {

@@ -123,6 +123,7 @@ impl<const N: usize> KeyTrait for TailKey<N> {
     }
 
     fn new_from_slice(slice: &[u8]) -> Self {
+        prove!(slice.len() <= N);
         Self::from_two(slice, &[])
     }
 

@@ -186,7 +186,8 @@ impl<'a, const SIZE: usize> IntoIterator for &'a ArrPartial<SIZE> {
     ghost use Rattle.std.specs.Iterator.Adapters.{IterYieldsInOrder};
     ghost use Rattle.rart_keys.specs.ArrPartialBytes.{arr_partial_bytes};
 
-    ghost into_iter_gives = { λ part it. (iter_rest it ≡ arr_partial_bytes part.now) × IterYieldsInOrder ℕ };
+    ghost into_iter_gives = { λ part it. (iter_rest it ≡ arr_partial_bytes part.now)
+        × IterYieldsInOrder ℕ };
 
     fn into_iter(self) -> Iter<'a, u8> {
         self.to_slice().iter()

@@ -1,12 +1,12 @@
 -- What the building of a node from a stretch of keys keeps, child by child.
 use Rattle.std.proofs.Common.{◌≡◌, ℕ, ◌+◌, ◌<◌, ◌≤◌, ◌⊎◌, inl, inr, ⊎_elim, suc, List, [], ◌∷◌, ◌++◌, length}
 use Rattle.std.proofs.Common.{length-append, take, drop, get_or, map, refl, arith, sym, ap, ◌∙◌, Option, Some, None}
-use Rattle.std.proofs.Common.{IsSome}
+use Rattle.std.proofs.Common.{IsSome, subst}
 use Rattle.std.specs.Prelude.{slice_index}
 use Rattle.std.specs.Borrow.{Bor}
 use Rattle.std.proofs.lemmas.Bool.Decides.{nat_tests}
 use Rattle.std.proofs.lemmas.List.{append_assoc, append-nil, map-append, length-map, length-drop, length-take}
-use Rattle.std.proofs.lemmas.List.{length-take-le, take-append-drop}
+use Rattle.std.proofs.lemmas.List.{length-take-le, nil_from_length, take-append-drop}
 use Rattle.rart_keys.specs.SortedMap.{IsAscending, keys_of, values_of}
 use Rattle.rart_keys.proofs.ByteOrder.{eq-yes, eq-no, equal_or_not}
 use Rattle.rart_parts.specs.Entries.{child_at, with_entry}
@@ -14,7 +14,7 @@ use Rattle.rart_nodes.specs.shapes.Shape.{next_bytes, capacity_of}
 use Rattle.rart_nodes.specs.shapes.ShapeRecords.{lone_keys}
 use Rattle.rart_nodes.specs.build.Stretches.{rests, first_byte, run_of, first_run, GoOn, Reach, IsStretch}
 use Rattle.rart_nodes.specs.build.ValueCalls.{CanTake, Takes}
-use Rattle.rart_nodes.specs.tries.PrefixLaws.{values-with_prefix}
+use Rattle.rart_nodes.specs.tries.PrefixLaws.{prefix-none, values-with_prefix}
 use Rattle.rart_nodes.specs.tries.Trie.{Trie, leaf, node, no_children, child, edges_of, pairs_of, children_pairs}
 use Rattle.rart_nodes.specs.tries.Trie.{own_pair}
 use Rattle.rart_nodes.specs.tries.Trie.{with_prefix, prefix_of, StartsWith, HasTwoChildren, IsCanonical, AreCanonical}
@@ -27,7 +27,7 @@ use Rattle.rart_nodes.proofs.build.RunLemmas.{go_on-drop}
 use Rattle.rart_nodes.proofs.build.StretchLemmas.{AllHave, cut, cut-back, StartsBeyond, next-beyond, ascending-take}
 use Rattle.rart_nodes.proofs.build.StretchLemmas.{lone-rests, reach-drop, reach-take, reach-deeper}
 use Rattle.rart_nodes.proofs.edits.InsertLemmas.{leaf-canonical, leaf-pairs}
-use Rattle.rart_nodes.proofs.build.OpeningLemmas.{full-or-less, no-branches, empty-list, branches, Opening}
+use Rattle.rart_nodes.proofs.build.OpeningLemmas.{full-or-less, no-branches, branches, Opening}
 use Rattle.rart_nodes.proofs.build.TakeLemmas.{takes-append, can_take-fewer, can_take-rest}
 
 -- the strings of a run begin with its byte
@@ -54,10 +54,6 @@ module _ {V : Type 0} where
   all_first-keys b [] h = tt
   all_first-keys b (e ∷ es) h = (h.0, all_first-keys b es h.1)
 
-  all_first-bare : (b : ℕ) (es : List (List ℕ × V)) → AllFirst b (with_prefix [] es) → AllFirst b es
-  all_first-bare b [] h = tt
-  all_first-bare b (e ∷ es) h = (h.0, all_first-bare b es h.1)
-
   all_first-parts : (b : ℕ) (xs ys : List (List ℕ × V)) → AllFirst b (xs ++ ys) → AllFirst b xs × AllFirst b ys
   all_first-parts b [] ys h = (tt, h)
   all_first-parts b (x ∷ xs) ys h = let r = all_first-parts b xs ys h.1 in ((h.0, r.0), r.1)
@@ -79,7 +75,7 @@ module _ {V : Type 0} where
   starts-prefix b (node [] None n no_children) w h = ⊎_elim (λ k. absurd (cc)) (λ k. absurd k) w.0
   starts-prefix b (node [] None n (child c t no_children)) w h = ⊎_elim (λ k. absurd (cc)) (λ k. absurd k) w.0
   starts-prefix b (node [] None n (child c t (child d u cs))) w h =
-      let bare = all_first-bare b (pairs_of t ++ (pairs_of u ++ children_pairs cs)) h in
+      let bare = subst (AllFirst b) (prefix-none (pairs_of t ++ (pairs_of u ++ children_pairs cs))) h in
       let one = all_first-parts b (pairs_of t) (pairs_of u ++ children_pairs cs) bare in
       let two = all_first-parts b (pairs_of u) (children_pairs cs) one.1 in
       let e = same-first b c (pairs_of t) (some-pairs t w.2.2) one.0 (pairs_of-first c t w.2.1) in
@@ -310,7 +306,7 @@ module _ {F V : Type 0} (pre : F → ℕ → Type 0) (step : F → ℕ → V →
       → IsCanonical (node p v w (as_children es)) × (keys_of (pairs_of (node p v w (as_children es))) ≡ rs)
       × Takes step from f (values_of (pairs_of (node p v w (as_children es)))) g
   building-end p rs none have is =
-      let over : rests d rest ≡ [] = empty-list (rests d rest) (omega (arith, none, rests-length d rest)) in
+      let over : rests d rest ≡ [] = nil_from_length (rests d rest) (omega (arith, none, rests-length d rest)) in
       let few : branches d rest ≡ 0 = no-branches (rests d rest) (ap length over) in
       let same : length es + branches d rest ≡ length (edges_of (as_children es))
       = omega (arith, few, edges_of-length es) in

@@ -6,7 +6,7 @@ use Rattle.std.specs.Prelude.{slice_index}
 use Rattle.std.specs.Borrow.{Bor}
 use Rattle.std.specs.List.{common_prefix_len}
 use Rattle.std.proofs.lemmas.Bool.Decides.{nat_tests}
-use Rattle.std.proofs.lemmas.List.{drop-drop, length-drop, length-take-le}
+use Rattle.std.proofs.lemmas.List.{drop-drop, length-drop, length-take-le, nil_from_length}
 use Rattle.rart_keys.specs.SortedMap.{IsAscending}
 use Rattle.rart_keys.proofs.ByteOrder.{eq-yes, eq-no, equal_or_not}
 use Rattle.rart_nodes.specs.shapes.Shape.{next_bytes}
@@ -24,10 +24,6 @@ pub no-branches : (rs : List (List ℕ)) → length rs ≡ 0 → length (next_by
 no-branches [] h = refl
 no-branches (r ∷ rs) h = absurd (omega (arith, h))
 
-pub empty-list : {A : Type 0} (xs : List A) → length xs ≡ 0 → xs ≡ []
-empty-list [] h = refl
-empty-list (x ∷ xs) h = absurd (omega (arith, h))
-
 -- by how many bytes keys go on after a depth
 abbrev pub branches : ℕ → List (Bor (List ℕ)) → ℕ
 branches d ks = length (next_bytes (rests d ks) [])
@@ -44,7 +40,7 @@ pub record Opening (m : Option ℕ) (d n : ℕ) (p : List ℕ) (keys : List (Bor
 
 -- strings that ascend begin with an empty one, or all go on
 first-empty : (r : List ℕ) (rs : List (List ℕ)) → IsAscending (lone_keys (r ∷ rs)) → length r ≡ 0 → (r ≡ []) × GoOn rs
-first-empty r rs a e = (empty-list r e, above-go_on r rs a.0)
+first-empty r rs a e = (nil_from_length r e, above-go_on r rs a.0)
 
 run-last : (b : ℕ) (f : List ℕ) (rs : List (List ℕ)) → run_of b (f ∷ rs) ≡ length (f ∷ rs)
     → slice_index (last_of f rs) 0 ≡ b

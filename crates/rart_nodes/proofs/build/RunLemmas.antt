@@ -22,7 +22,7 @@ pub rests-length : (d : ℕ) (ks : List (Bor (List ℕ))) → length (rests d ks
 rests-length d [] = refl
 rests-length d (k ∷ ks) = ap suc (rests-length d ks)
 
--- the key at a place goes on
+-- the key at a place continues
 pub go_on-at : (d i : ℕ) (ks : List (Bor (List ℕ))) (x : Bor (List ℕ)) → GoOn (rests d ks) → i < length ks
     → d < length (get_or ks i x).now
 go_on-at d i [] x g h = absurd (omega arith)
@@ -84,11 +84,6 @@ pub go_on-drop : (n : ℕ) (rs : List (List ℕ)) → GoOn rs → GoOn (drop n r
 go_on-drop zero rs g = g
 go_on-drop (suc n) [] g = tt
 go_on-drop (suc n) (r ∷ rs) g = go_on-drop n rs g.1
-
-pub go_on-take : (n : ℕ) (rs : List (List ℕ)) → GoOn rs → GoOn (take n rs)
-go_on-take zero rs g = tt
-go_on-take (suc n) [] g = tt
-go_on-take (suc n) (r ∷ rs) g = (g.0, go_on-take n rs g.1)
 
 pub ascending-drop : (n : ℕ) (rs : List (List ℕ)) → IsAscending (lone_keys rs) → IsAscending (lone_keys (drop n rs))
 ascending-drop zero rs a = a

@@ -8,7 +8,7 @@ use Rattle.std.specs.List.{common_prefix_len}
 use Rattle.std.proofs.lemmas.Bool.{false≢true}
 use Rattle.rart_keys.proofs.ByteOrder.{eq-yes}
 use Rattle.rart_nodes.specs.tries.Trie.{node, Children, no_children, child, Overlap, overlap, grown_overlap, trie_put}
-use Rattle.rart_nodes.specs.tries.Trie.{put_child, put_overlap, put_split, fitting_node, aligned, leaf}
+use Rattle.rart_nodes.specs.tries.Trie.{put_child, put_overlap, put_split, fitting_node, two_children, leaf}
 
 -- the first byte of a string
 abbrev pub first : List ℕ → ℕ
@@ -70,7 +70,8 @@ module _ {V : Type 0} where
 
   put_split-aligned : (q l r : List ℕ) (v : V) (old : Option V) (w : ℕ) (cs : Children V) (f : ℕ → List ℕ → Children V)
       → 0 < length l → 0 < length r
-      → put_split q l r v old w cs f ≡ fitting_node q None (aligned (first l) (node l old w cs) (first r) (leaf r v))
+      → put_split q l r v old w cs f
+      ≡ fitting_node q None (two_children (first l) (node l old w cs) (first r) (leaf r v))
   put_split-aligned q [] r v old w cs f h g = absurd (omega arith)
   put_split-aligned q (c ∷ l) [] v old w cs f h g = absurd (omega arith)
   put_split-aligned q (c ∷ l) (b ∷ r) v old w cs f h g = refl
@@ -93,7 +94,7 @@ module _ {V : Type 0} where
   pub put-aligned : (p k : List ℕ) (v : V) (old : Option V) (w : ℕ) (cs : Children V) (n : ℕ)
       → n ≡ common_prefix_len nat_eq p k → n < length p → (length k ≡ n → ⊥)
       → trie_put k v (node p old w cs) ≡ fitting_node (take n p) None
-      (aligned (first (drop n p)) (node (drop n p) old w cs) (first (drop n k)) (leaf (drop n k) v))
+      (two_children (first (drop n p)) (node (drop n p) old w cs) (first (drop n k)) (leaf (drop n k) v))
   put-aligned p k v old w cs n e h more = trie_put-is p k v old w cs n e
       ∙ put_split-aligned (take n p) (drop n p) (drop n k) v old w cs (λ b r. put_child b r v cs)
       (omega (arith, length-drop n p)) (omega (arith, length-drop n k, (common-within p k).1, more))

@@ -5,8 +5,7 @@ use Rattle.rart_nodes.specs.shapes.Shape.{HasShape}
 use Rattle.rart_keys.specs.ByteStrings.{strip_prefix}
 use Rattle.rart_nodes.specs.tries.Trie.{Trie, node, Children, no_children, child, trie_lookup, child_lookup}
 use Rattle.rart_nodes.specs.tries.Trie.{answer_after, collapsed_node, removed_after, child_if, trie_remove}
-use Rattle.rart_nodes.specs.tries.Trie.{remove_child}
-use Rattle.rart_nodes.specs.tries.Trie.{IsCanonical, AreCanonical}
+use Rattle.rart_nodes.specs.tries.Trie.{remove_child, IsCanonical, AreCanonical}
 use Rattle.rart_nodes.specs.tries.Tree.{tree_pairs, tree_nodes, IsCanonicalTree}
 use Rattle.rart_nodes.specs.edits.EditRuns.{Edit, puts, removes, edit_map, edit_tree, run_map, run_tree}
 use Rattle.rart_keys.proofs.ByteOrder.{order, is_less, is_equal, is_greater}

@@ -10,8 +10,9 @@ use Rattle.rart_keys.specs.SortedMap.{keys_of}
 use Rattle.rart_nodes.specs.shapes.Shape.{NodeRecord, record_at, capacity_of}
 use Rattle.rart_nodes.specs.tries.Trie.{Trie, node, Children, child_of, pairs_of, edges_of, IsCanonical, AreCanonical}
 use Rattle.rart_nodes.specs.tries.Trie.{descend, descend_child}
-use Rattle.rart_nodes.specs.edits.InsertAsks.{has_room, takes_child, any_along, last_takes, insert_asks, asks_put}
-use Rattle.rart_nodes.specs.edits.InsertAsks.{is_full, trie_asks_put}
+use Rattle.rart_nodes.specs.edits.InsertAllocations.{has_room, takes_child, any_along, last_takes, insert_allocates}
+use Rattle.rart_nodes.specs.edits.InsertAllocations.{put_allocation}
+use Rattle.rart_nodes.specs.edits.InsertAllocations.{is_full, trie_put_allocates}
 use Rattle.rart_nodes.proofs.tries.Descents.{Keeps, descends, descend-child_of}
 use Rattle.rart_nodes.proofs.tries.NodeCounts.{few_nodes}
 use Rattle.rart_nodes.proofs.shapes.RecordsAlong.{AreReadings, edge-is_some, none-first, reads-apart, reads-after}
@@ -80,12 +81,12 @@ module _ {V : Type 0} where
   abbrev asked_along : List ℕ → Option (Trie V) → Option Bool
   asked_along q o = option_map (λ t. needs_by (records_in (Some t)) q) o
 
-  asks-below : (m n b : ℕ) (r : List ℕ) (cs : Children V) → n ≡ capacity_of m → AreCanonical 0 cs →
+  allocates-below : (m n b : ℕ) (r : List ℕ) (cs : Children V) → n ≡ capacity_of m → AreCanonical 0 cs →
       not (is_some (descend_child records b (b ∷ r) cs) || (if any_along (λ z. descend_child records b (b ∷ z) cs) r
       then last_takes (λ z. descend_child records b (b ∷ z) cs) r
       else has_room m && not (list_any (λ c. c == b) (edges_of cs))))
       ≡ unwrap_or (asked_along (b ∷ r) (child_of b cs)) (nat_le n m)
-  asks-below m n b r cs c w =
+  allocates-below m n b r cs c w =
       let same : (z : List ℕ) → descend_child records b (b ∷ z) cs ≡ records_in (child_of b cs) (b ∷ z)
       = λ z. descend-child_of records b 0 (b ∷ z) cs w in
       rw (
@@ -106,8 +107,8 @@ module _ {V : Type 0} where
             ∙ sym (last-none (records_in (Some t)) b r (sym (ap (λ o. records_in o []) e) ∙ none-first b cs w)))
       ] refl)
 
-  asks-kept : Keeps {V = V} asks_put (λ q o a. a ≡ asked_along q o)
-  asks-kept = record {
+  allocates-kept : Keeps {V = V} put_allocation (λ q o a. a ≡ asked_along q o)
+  allocates-kept = record {
     absent = λ q. refl;
     left = λ q p v n cs w s. ap Some (sym (reads-apart (λ f q a. needs_by f q ≡ a) needs_read p q v n cs true s
         (λ f e. ap (λ o. not (is_some o || false)) e) (λ q. ap not (none_last q))));
@@ -116,18 +117,19 @@ module _ {V : Type 0} where
     on = λ q p v n cs b r a w s h. ap Some (sym
         (reads-after (λ f q a. needs_by f q ≡ a) needs_read p q (b ∷ r) v n cs (unwrap_or a (is_full (node p v n cs)))
         s
-        (asks-below (length (edges_of cs)) n b r cs w.1 w.2
+        (allocates-below (length (edges_of cs)) n b r cs w.1 w.2
         ∙ ap (λ o. unwrap_or o (is_full (node p v n cs))) (sym h))));
   }
 
   needs_is : (es : List (List ℕ × V)) (q : List ℕ) → 0 < length es
-      → insert_asks (keys_of es) q ≡ needs_by (record_at (keys_of es)) q
+      → insert_allocates (keys_of es) q ≡ needs_by (record_at (keys_of es)) q
   needs_is [] q h = absurd (omega arith)
   needs_is (e ∷ es) q h = refl
 
-  pub asks-insert : (q : List ℕ) (t : Trie V) → IsCanonical t → trie_asks_put q t ≡ insert_asks (keys_of (pairs_of t)) q
-  asks-insert q t w = ap (λ o. unwrap_or o false)
-      (descends asks_put (λ q o a. a ≡ asked_along q o) asks-kept q (Some t) w)
+  pub allocates-insert : (q : List ℕ) (t : Trie V) → IsCanonical t → trie_put_allocates q t ≡ insert_allocates
+      (keys_of (pairs_of t)) q
+  allocates-insert q t w = ap (λ o. unwrap_or o false)
+      (descends put_allocation (λ q o a. a ≡ asked_along q o) allocates-kept q (Some t) w)
       ∙ ap (λ o. not (is_some o || last_takes (λ z. descend records z t) q)) (records-at q t w)
       ∙ ap (λ z. not (is_some (record_at (keys_of (pairs_of t)) q) || z))
       (same_last (λ p. descend records p t) (record_at (keys_of (pairs_of t))) q (λ p. records-at p t w))

@@ -9,7 +9,7 @@ use Rattle.rart_nodes.specs.edits.Deletion.{JoinsWithin, children_without, is_lo
 use Rattle.rart_nodes.specs.edits.Deletion.{remaining_node, without_child}
 use Rattle.rart_nodes.specs.tries.Trie.{Trie, node, Children, no_children, child, edges_of, prefix_of}
 use Rattle.rart_nodes.specs.tries.TrieCode.{as_children}
-use Rattle.rart_nodes.specs.storages.Widths.{narrowed_width}
+use Rattle.rart_nodes.specs.storages.Capacities.{narrowed_capacity}
 use Rattle.rart_nodes.proofs.storages.ChildLemmas.{edges_of-length}
 use Rattle.rart_nodes.proofs.tries.Descents.{child_of-entries}
 
@@ -99,14 +99,15 @@ module _ {V : Type 0} where
         | Some t ↦ λ q. rw (child_of-entries b es, q, as-without b es) refl
       ] refl
 
-  same-narrowed : (p : List ℕ) (v : Option V) (w w' : ℕ) (es : List (ℕ × Trie V)) → w' ≡ narrowed_width (length es) w
-      → node p v w' (as_children es) ≡ node p v (narrowed_width (length (edges_of (as_children es))) w) (as_children es)
+  same-narrowed : (p : List ℕ) (v : Option V) (w w' : ℕ) (es : List (ℕ × Trie V)) → w' ≡ narrowed_capacity (length es) w
+      → node p v w' (as_children es) ≡ node p v (narrowed_capacity (length (edges_of (as_children es))) w)
+      (as_children es)
   same-narrowed p v w w' es e = ap (λ z. node p v z (as_children es)) (e
-      ∙ ap (λ n. narrowed_width n w) (sym (edges_of-length es)))
+      ∙ ap (λ n. narrowed_capacity n w) (sym (edges_of-length es)))
 
-  -- a node of width 4 gave a child up
+  -- a node of capacity 4 gave a child up
   pub without-joined : (p : List ℕ) (v : Option V) (w w' b : ℕ) (es es' : List (ℕ × Trie V)) → w ≡ 4
-      → child_at b es ≢ None → es' ≡ entries.without_byte b es → w' ≡ narrowed_width (length es') w
+      → child_at b es ≢ None → es' ≡ entries.without_byte b es → w' ≡ narrowed_capacity (length es') w
       → joined_if_lone (node p v w' (as_children es')) ≡ without_child b (node p v w (as_children es))
   without-joined p v w w' b es es' e4 s ee ew =
       ap (λ t. if is_lone v (as_children es') then joined_child p (as_children es') else t)
@@ -116,9 +117,9 @@ module _ {V : Type 0} where
 
   -- a wider one did
   pub without-wide : (p : List ℕ) (v : Option V) (w w' b : ℕ) (es es' : List (ℕ × Trie V)) → w ≢ 4
-      → child_at b es ≢ None → es' ≡ entries.without_byte b es → w' ≡ narrowed_width (length es') w
+      → child_at b es ≢ None → es' ≡ entries.without_byte b es → w' ≡ narrowed_capacity (length es') w
       → node p v w' (as_children es') ≡ without_child b (node p v w (as_children es))
   without-wide p v w w' b es es' n4 s ee ew = same-narrowed p v w w' es' ew
       ∙ sym (ap (λ z. if z && is_lone v (as_children es') then joined_child p (as_children es')
-      else node p v (narrowed_width (length (edges_of (as_children es'))) w) (as_children es')) (eq-no w 4 n4))
+      else node p v (narrowed_capacity (length (edges_of (as_children es'))) w) (as_children es')) (eq-no w 4 n4))
       ∙ ap (λ l. remaining_node p v w (as_children l)) ee ∙ sym (without-some p v w b es s)

@@ -4,25 +4,21 @@ use Rattle.rart_keys.specs.KeyBytes.{IsWithin}
 use Rattle.rart_parts.specs.Entries.{child_at}
 use Rattle.rart_nodes.specs.edits.Deletion.{JoinsWithin}
 use Rattle.rart_keys.specs.SortedMap.{longest_key}
-use Rattle.rart_nodes.specs.tries.PrefixLaws.{length-with_prefix}
 use Rattle.rart_nodes.specs.tries.Trie.{Trie, node, Children, no_children, child, prefix_of, IsCanonical, AreCanonical}
 use Rattle.rart_nodes.specs.tries.Trie.{pairs_of, children_pairs, own_pair}
 use Rattle.rart_nodes.specs.tries.TrieCode.{as_children}
 use Rattle.rart_nodes.proofs.tries.CanonicalTests.{longest_key-append, longest_key-after}
 use Rattle.rart_nodes.proofs.edits.InsertLemmas.{fewer-within}
-use Rattle.rart_nodes.proofs.tries.NodeCounts.{some-pairs}
+use Rattle.rart_nodes.proofs.tries.NodeCounts.{some-after}
 use Rattle.rart_nodes.proofs.tries.Descents.{child_of-entries}
 use Rattle.rart_nodes.proofs.walks.SeenLemmas.{child-short}
+use Rattle.rart_nodes.proofs.walks.WalkLemmas.{longest-below}
 
 module _ {V : Type 0} where
   -- a node's keys have its prefix
-  prefix-before : (p : List ℕ) (v : Option V) (w : ℕ) (cs : Children V) → IsCanonical (node p v w cs)
+  pub prefix-before : (p : List ℕ) (v : Option V) (w : ℕ) (cs : Children V) → IsCanonical (node p v w cs)
       → longest_key (pairs_of (node p v w cs)) ≡ length p + longest_key (own_pair v ++ children_pairs cs)
-  prefix-before p v w cs c = longest_key-after p (own_pair v ++ children_pairs cs)
-      (omega (arith, some-pairs (node p v w cs) c, length-with_prefix p (own_pair v ++ children_pairs cs)))
-
-  prefix-short : (t : Trie V) → IsCanonical t → length (prefix_of t) ≤ longest_key (pairs_of t)
-  prefix-short (node p v w cs) c = omega (arith, prefix-before p v w cs c)
+  prefix-before p v w cs c = longest_key-after p (own_pair v ++ children_pairs cs) (some-after p v w cs c)
 
   -- the paths to the children are parts of keys
   joins-children : (m : Option ℕ) (p : List ℕ) (n low : ℕ) (cs : Children V) → AreCanonical low cs
@@ -30,7 +26,7 @@ module _ {V : Type 0} where
   joins-children m p n low no_children c l h = tt
   joins-children m p n low (child b t cs) c l h =
       let a = longest_key-append (pairs_of t) (children_pairs cs) in (
-        fewer-within m (length p + n) (length p + length (prefix_of t)) (omega (arith, a, prefix-short t c.2)) h,
+        fewer-within m (length p + n) (length p + length (prefix_of t)) (omega (arith, a, longest-below t c.2)) h,
         joins-children m p n (suc b) cs c.3 (omega (arith, a)) h,
       )
 

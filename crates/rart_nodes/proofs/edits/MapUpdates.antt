@@ -17,13 +17,13 @@ use Rattle.rart_nodes.specs.edits.EditRuns.{puts, removes}
 use Rattle.rart_nodes.specs.tries.Tree.{IsCanonicalTree, tree_nodes, tree_pairs}
 use Rattle.rart_nodes.specs.tries.Trie.{Trie}
 use Rattle.rart_nodes.specs.edits.Slots.{CountsPairs, longest_after, outcome_of}
-use Rattle.rart_nodes.specs.edits.TreeUpdates.{AsksRemove, EndsTree, RefusesPut, tree_left, tree_updated}
+use Rattle.rart_nodes.specs.edits.TreeUpdates.{RemoveAllocates, EndsTree, RefusesPut, tree_updated}
 use Rattle.rart_nodes.specs.edits.Updates.{EndsMap, RefusesNew, map_left, map_updated}
-use Rattle.rart_nodes.specs.edits.RemoveAsks.{remove_asks}
+use Rattle.rart_nodes.specs.edits.RemoveAllocations.{remove_allocates}
 use Rattle.rart_nodes.proofs.edits.EditRunLemmas.{run-canonical, run-pairs_of, tree-shape}
-use Rattle.rart_nodes.proofs.edits.InsertAskLemmas.{asks-insert}
+use Rattle.rart_nodes.proofs.edits.InsertAskLemmas.{allocates-insert}
 use Rattle.rart_nodes.proofs.edits.LoanLemmas.{keys-put, longest-alike, lengths-alike}
-use Rattle.rart_nodes.proofs.removals.RemoveAskLemmas.{asks-remove}
+use Rattle.rart_nodes.proofs.removals.RemoveAskLemmas.{allocates-remove}
 use Rattle.rart_nodes.proofs.removals.RemovedPairs.{length-without_key, longest_key-without}
 use Rattle.rart_nodes.proofs.shapes.ShapeLemmas.{one_shape}
 use Rattle.rart_nodes.proofs.tries.CanonicalTests.{longest_key-put}
@@ -31,28 +31,24 @@ use Rattle.rart_nodes.proofs.tries.PairLemmas.{tree_pairs-ascend}
 
 module _ {V : Type 0} where
   -- the pairs
-  left-pairs : (k : List ℕ) (w : Option V) (t : Option (Trie V)) → IsCanonicalTree t
-      → tree_pairs (tree_left k w t) ≡ map_left k w (tree_pairs t)
-  left-pairs k None t c = refl
-  left-pairs k (Some w) t c = run-pairs_of (puts k w ∷ []) t c
-
   updated-pairs : (k : List ℕ) (r : SlotUpdate V) (w : Option V) (t : Option (Trie V)) → IsCanonicalTree t
       → tree_pairs (tree_updated k r w t) ≡ map_updated k r w (tree_pairs t)
-  updated-pairs k Keep w t c = left-pairs k w t c
+  updated-pairs k Keep None t c = refl
+  updated-pairs k Keep (Some w) t c = run-pairs_of (puts k w ∷ []) t c
   updated-pairs k Remove None t c = refl
   updated-pairs k Remove (Some w) t c = run-pairs_of (removes k ∷ []) t c
   updated-pairs k (Insert x) w t c = run-pairs_of (puts k x ∷ []) t c
 
-  asks-removal : (k : List ℕ) (t : Option (Trie V)) → IsCanonicalTree t → AsksRemove k t
-      → remove_asks (keys_of (tree_pairs t)) k ≡ true
-  asks-removal k None c h = absurd h
-  asks-removal k (Some t) c h = sym (asks-remove k t c) ∙ h
+  allocates-removal : (k : List ℕ) (t : Option (Trie V)) → IsCanonicalTree t → RemoveAllocates k t
+      → remove_allocates (keys_of (tree_pairs t)) k ≡ true
+  allocates-removal k None c h = absurd h
+  allocates-removal k (Some t) c h = sym (allocates-remove k t c) ∙ h
 
   refuses-new : (full : Bool) (k : List ℕ) (t : Option (Trie V)) (e : TreeError) → IsCanonicalTree t
       → RefusesPut full k t e → RefusesNew full k (tree_pairs t) e
   refuses-new full k t Full c h = h
   refuses-new full k None Memory c h = absurd h.1
-  refuses-new full k (Some t) Memory c h = (h.0, sym (asks-insert k t c) ∙ h.1.0)
+  refuses-new full k (Some t) Memory c h = (h.0, sym (allocates-insert k t c) ∙ h.1.0)
 
   pub ends-map : (full : Bool) (k : List ℕ) (r : SlotUpdate V) (w : Option V) (t : Option (Trie V))
       (res : Result (Outcome V) (UpdateError V)) (u : Option (Trie V)) → IsCanonicalTree t
@@ -60,17 +56,13 @@ module _ {V : Type 0} where
   ends-map full k r w t (Ok o) u c h = (ap tree_pairs h.0 ∙ updated-pairs k r w t c, h.1, h.2)
   ends-map full k r w t (Err (Not_inserted d)) u c h = (ap tree_pairs h.0, h.1, h.2, refuses-new full k t d.error c h.3)
   ends-map full k r w t (Err Not_removed) u c h
-      = (ap tree_pairs h.0 ∙ left-pairs k w t c, h.1, h.2, asks-removal k t c h.3)
+      = (ap tree_pairs h.0 ∙ updated-pairs k Keep w t c, h.1, h.2, allocates-removal k t c h.3)
 
   -- the form
-  left-canonical : (k : List ℕ) (w : Option V) (t : Option (Trie V)) → IsCanonicalTree t
-      → IsCanonicalTree (tree_left k w t)
-  left-canonical k None t c = c
-  left-canonical k (Some w) t c = run-canonical (puts k w ∷ []) t c
-
   updated-canonical : (k : List ℕ) (r : SlotUpdate V) (w : Option V) (t : Option (Trie V)) → IsCanonicalTree t
       → IsCanonicalTree (tree_updated k r w t)
-  updated-canonical k Keep w t c = left-canonical k w t c
+  updated-canonical k Keep None t c = c
+  updated-canonical k Keep (Some w) t c = run-canonical (puts k w ∷ []) t c
   updated-canonical k Remove None t c = c
   updated-canonical k Remove (Some w) t c = run-canonical (removes k ∷ []) t c
   updated-canonical k (Insert x) w t c = run-canonical (puts k x ∷ []) t c
@@ -83,7 +75,7 @@ module _ {V : Type 0} where
   ends-canonical full k r w t (Err (Not_inserted d)) u c h
       = subst (λ (z : Option (Trie V)). IsCanonicalTree z) (sym h.0) c
   ends-canonical full k r w t (Err Not_removed) u c h
-      = subst (λ (z : Option (Trie V)). IsCanonicalTree z) (sym h.0) (left-canonical k w t c)
+      = subst (λ (z : Option (Trie V)). IsCanonicalTree z) (sym h.0) (updated-canonical k Keep w t c)
 
   -- how many pairs there are, and how long their keys
   none-stored : (o : Option V) → false ≡ is_some o → count_of o ≡ 0
@@ -172,7 +164,8 @@ module _ {V : Type 0} where
   ends-nodes full k r w t (Err (Not_inserted d)) u c s h = ap tree_nodes h.0
   ends-nodes full k r w t (Err Not_removed) u c s h
       = nodes-alike t u c (ends-canonical full k r w t (Err Not_removed) u c h)
-      (ap keys_of (ap tree_pairs h.0 ∙ left-pairs k w t c) ∙ keys-left k w (tree_pairs t) (tree_pairs-ascend t c) s)
+      (ap keys_of (ap tree_pairs h.0 ∙ updated-pairs k Keep w t c)
+      ∙ keys-left k w (tree_pairs t) (tree_pairs-ascend t c) s)
 
   -- a value that is put back
   back-look : (k q : List ℕ) (v w : V) (m : List (List ℕ × V)) (b : Bool) → bytes_eq k q ≡ b → lookup k m ≡ Some v

@@ -6,7 +6,7 @@ use Rattle.rart_parts.specs.Entries as entries
 use Rattle.rart_nodes.specs.edits.NodeEdits.{children_with, with_child}
 use Rattle.rart_nodes.specs.tries.Trie.{Trie, node, child, edges_of}
 use Rattle.rart_nodes.specs.tries.TrieCode.{as_children}
-use Rattle.rart_nodes.specs.storages.Widths.{widened_width}
+use Rattle.rart_nodes.specs.storages.Capacities.{widened_capacity}
 use Rattle.rart_nodes.proofs.storages.ChildLemmas.{edges_of-length}
 
 pub same-option : {A : Type 0} (o : Option A) → option_map (λ n. n) o ≡ o
@@ -30,8 +30,8 @@ module _ {V : Type 0} where
       ]
 
   pub with_child-is : (p : List ℕ) (v : Option V) (w w' b : ℕ) (t : Trie V) (es es' : List (ℕ × Trie V))
-      → w' ≡ widened_width (length es) w → es' ≡ entries.with_entry b t es
+      → w' ≡ widened_capacity (length es) w → es' ≡ entries.with_entry b t es
       → node p v w' (as_children es') ≡ with_child b t (node p v w (as_children es))
   with_child-is p v w w' b t es es' ew ee = ap (λ z. node p v z (as_children es')) (ew
-      ∙ ap (λ n. widened_width n w) (sym (edges_of-length es)))
-      ∙ ap (node p v (widened_width (length (edges_of (as_children es))) w)) (ap as_children ee ∙ as-with b t es)
+      ∙ ap (λ n. widened_capacity n w) (sym (edges_of-length es)))
+      ∙ ap (node p v (widened_capacity (length (edges_of (as_children es))) w)) (ap as_children ee ∙ as-with b t es)

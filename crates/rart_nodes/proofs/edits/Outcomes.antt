@@ -7,6 +7,10 @@ module _ {A E : Type 0} where
   err-any (Ok x) p = tt
   err-any (Err x) p = p
 
+  pub on_err_from : {P Q : Type 0} (r : Result A E) → OnErr r P → (P → Q) → OnErr r Q
+  on_err_from (Ok x) p f = tt
+  on_err_from (Err e) p f = f p
+
   pub if_ok_weaker : {P Q : A → Type 0} (r : Result A E) → ((x : A) → P x → Q x) → IfOk r P → IfOk r Q
   if_ok_weaker (Ok x) f p = f x p
   if_ok_weaker (Err x) f p = tt

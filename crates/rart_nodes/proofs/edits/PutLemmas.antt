@@ -6,7 +6,7 @@ use Rattle.rart_keys.specs.ByteStrings.{bytes_eq}
 use Rattle.rart_keys.specs.SortedMap.{put}
 use Rattle.rart_nodes.specs.tries.Trie.{Trie, node, Children, no_children, child, trie_lookup, child_lookup, pairs_of}
 use Rattle.rart_nodes.specs.tries.Trie.{prefix_of, StartsWith, HasTwoChildren, IsCanonical, AreCanonical, trie_put}
-use Rattle.rart_nodes.specs.tries.Trie.{put_child, aligned, leaf}
+use Rattle.rart_nodes.specs.tries.Trie.{put_child, two_children, leaf}
 use Rattle.rart_keys.proofs.ByteOrder.{order, is_less, is_equal, is_greater, eq-no, equal_or_not}
 use Rattle.rart_keys.proofs.SortedMaps.{equal_by_lookups, ascending-put, lookup-put}
 use Rattle.rart_nodes.proofs.tries.PairLemmas.{trie_lookup-other, or_else, or_none, pairs_of-ascend, lookup-pairs_of}
@@ -49,7 +49,7 @@ module _ {V : Type 0} where
 
   -- a fork of two trees: one of them doesn't have the key
   trie_lookup-fork_left : (c b d : ℕ) (q : List ℕ) (t u : Trie V) → (b ≡ d → ⊥) → StartsWith b (prefix_of t)
-      → StartsWith d (prefix_of u) → (d ≡ c → ⊥) → child_lookup c (c ∷ q) (aligned b t d u) ≡ trie_lookup (c ∷ q) t
+      → StartsWith d (prefix_of u) → (d ≡ c → ⊥) → child_lookup c (c ∷ q) (two_children b t d u) ≡ trie_lookup (c ∷ q) t
   trie_lookup-fork_left c b d q t u n f g z = ⊎_elim
       (λ h. rw (is_less b d h, trie_lookup-pair c b d q t u h f g, trie_lookup-other c d q u g z)
       (or_none (trie_lookup (c ∷ q) t)))
@@ -61,7 +61,7 @@ module _ {V : Type 0} where
       ) refl)) (order b d)
 
   trie_lookup-fork_right : (c b d : ℕ) (q : List ℕ) (t u : Trie V) → (b ≡ d → ⊥) → StartsWith b (prefix_of t)
-      → StartsWith d (prefix_of u) → (b ≡ c → ⊥) → child_lookup c (c ∷ q) (aligned b t d u) ≡ trie_lookup (c ∷ q) u
+      → StartsWith d (prefix_of u) → (b ≡ c → ⊥) → child_lookup c (c ∷ q) (two_children b t d u) ≡ trie_lookup (c ∷ q) u
   trie_lookup-fork_right c b d q t u n f g z = ⊎_elim
       (λ h. rw (is_less b d h, trie_lookup-pair c b d q t u h f g, trie_lookup-other c b q t f z) refl)
       (⊎_elim (λ h. absurd (n h)) (λ h. rw (
@@ -143,13 +143,13 @@ module _ {V : Type 0} where
             (child d u (put_child b k v cs))))) [ Less ↦ tt | Equal ↦ tt | Greater ↦ tt ]
       ]
 
-  two-aligned : (b c : ℕ) (t u : Trie V) → HasTwoChildren (aligned b t c u)
-  two-aligned b c t u = elim (nat_cmp b c)
+  HasTwoChildren-two_children : (b c : ℕ) (t u : Trie V) → HasTwoChildren (two_children b t c u)
+  HasTwoChildren-two_children b c t u = elim (nat_cmp b c)
       as (λ o. HasTwoChildren (match_ordering o (child b t (child c u no_children)) (child b t (child c u no_children))
       (child c u (child b t no_children)))) [ Less ↦ tt | Equal ↦ tt | Greater ↦ tt ]
 
   canonical-aligned : (b c : ℕ) (t u : Trie V) → (b ≡ c → ⊥) → StartsWith b (prefix_of t) → StartsWith c (prefix_of u)
-      → IsCanonical t → IsCanonical u → AreCanonical 0 (aligned b t c u)
+      → IsCanonical t → IsCanonical u → AreCanonical 0 (two_children b t c u)
   canonical-aligned b c t u n f g w z = ⊎_elim
       (λ h. rw (is_less b c h) (omega arith, f, w, (omega arith, g, z, tt)))
       (⊎_elim (λ h. absurd (n h)) (λ h. rw (is_greater b c h) (omega arith, g, z, (omega arith, f, w, tt)))) (order b c)
@@ -171,7 +171,7 @@ module _ {V : Type 0} where
       (λ e. rw (put-longer x y k v (node p old n cs) e)
       (canonical-longer x (trie_put k v (node p old n cs)) (canonical-put_node k v p old n cs ih w)))
       (λ d. rw (eq-no x y d) (
-        inr (two-aligned x y (node (x ∷ p) old n cs) (leaf (y ∷ k) v)),
+        inr (HasTwoChildren-two_children x y (node (x ∷ p) old n cs) (leaf (y ∷ k) v)),
         refl,
         canonical-aligned x
             y (node (x ∷ p) old n cs) (leaf (y ∷ k) v) d refl refl w (inl refl, refl, tt),

@@ -15,19 +15,19 @@ use Rattle.rart_nodes.specs.declared.slot.SlotUpdate.TheVariants.{Keep, Remove, 
 use Rattle.rart_nodes.specs.declared.slot.UpdateError.{UpdateError}
 use Rattle.rart_nodes.specs.declared.slot.UpdateError.TheVariants.{Insert as Not_inserted, Remove as Not_removed}
 use Rattle.rart_nodes.specs.edits.Deletion.{JoinsWithin, children_without, is_end, is_leaf_at, without_child}
-use Rattle.rart_nodes.specs.edits.InsertAsks.{asks_put}
+use Rattle.rart_nodes.specs.edits.InsertAllocations.{put_allocation}
 use Rattle.rart_nodes.specs.tries.Trie.{Trie, node, no_children, child, child_of, children_in, edges_of, prefix_of}
 use Rattle.rart_nodes.specs.tries.Trie.{value_of, IsCanonical, trie_put, trie_remove}
 use Rattle.rart_nodes.specs.tries.TrieCode.{as_children}
-use Rattle.rart_nodes.specs.edits.TreeUpdates.{AsksPut, EndsHere, EndsLeaf, EndsTree, RemovesLeaf, RefusesPut}
+use Rattle.rart_nodes.specs.edits.TreeUpdates.{PutAllocates, EndsHere, EndsLeaf, EndsTree, RemovesLeaf, RefusesPut}
 use Rattle.rart_nodes.specs.edits.TreeUpdates.{node_holding, tree_left}
 use Rattle.rart_nodes.proofs.storages.ChildLemmas.{edges_of-length, replaced-length, some-equal}
 use Rattle.rart_nodes.proofs.edits.InsertLemmas.{put-below, child-put_back, record-child}
 use Rattle.rart_nodes.proofs.edits.LeafLemmas.{leaf-edges, leaf-gone}
-use Rattle.rart_nodes.proofs.edits.PutAskLemmas.{asks_put-below}
-use Rattle.rart_nodes.proofs.removals.RemoveAskSteps.{asks_remove-below, asks_remove-leaf}
+use Rattle.rart_nodes.proofs.edits.PutAskLemmas.{put_allocation-below}
+use Rattle.rart_nodes.proofs.removals.RemoveAskSteps.{remove_allocation-below, remove_allocation-leaf}
 use Rattle.rart_nodes.proofs.removals.RemoveSteps.{removed-below, removed-leaf, value-removed}
-use Rattle.rart_nodes.proofs.tries.RestLemmas.{trie_lookup-left, trie_put-ended}
+use Rattle.rart_nodes.proofs.tries.RestLemmas.{Follows, trie_lookup-left, trie_put-ended}
 use Rattle.rart_nodes.proofs.tries.Descents.{child_of-entries, descend-left}
 
 -- nothing is left of a key that ends
@@ -48,14 +48,14 @@ module _ {V : Type 0} where
 
   -- an insertion that found no memory
   pub refuses-memory : (full : Bool) (k : List ℕ) (t : Option (Trie V)) (e : TreeError) → e ≡ Memory → full ≡ false
-      → AsksPut k t → RefusesPut full k t e
+      → PutAllocates k t → RefusesPut full k t e
   refuses-memory full k t Memory h f a = (f, a)
   refuses-memory full k t Full h f a = absurd (cc)
 
   -- a split requests memory
-  pub left-asks : (k : List ℕ) (t : Trie V) → None ≡ strip_prefix (prefix_of t) k → AsksPut k (Some t)
-  left-asks k (node p v w cs) e = (
-    ap (λ o. unwrap_or o false) (descend-left asks_put (node p v w cs) k e),
+  pub left-allocates : (k : List ℕ) (t : Trie V) → None ≡ strip_prefix (prefix_of t) k → PutAllocates k (Some t)
+  left-allocates k (node p v w cs) e = (
+    ap (λ o. unwrap_or o false) (descend-left put_allocation (node p v w cs) k e),
     trie_lookup-left p k _ w _ e,
   )
 
@@ -83,14 +83,10 @@ module _ {V : Type 0} where
       = (ap Some h.0 ∙ value-removed p k rest v m es c er end inner, h.1, rw h.1 tt)
   ends-here full p k rest v v' m es c er end inner (Insert x) w (Ok o) u s h
       = (ap Some (h.0 ∙ sym (trie_put-ended p k rest x v m (as_children es) er end)), h.1, h.2)
-  ends-here full p k rest None v' m es c er end inner Keep w (Err (Not_inserted d)) u s h = absurd (let z = h.1 in cc)
-  ends-here full p k rest None v' m es c er end inner Remove w (Err (Not_inserted d)) u s h = absurd (let z = h.1 in cc)
+  ends-here full p k rest v v' m es c er end inner Keep w (Err (Not_inserted d)) u s h = absurd (let z = h.1 in cc)
+  ends-here full p k rest v v' m es c er end inner Remove w (Err (Not_inserted d)) u s h = absurd (let z = h.1 in cc)
   ends-here full p k rest None v' m es c er end inner (Insert x) w (Err (Not_inserted d)) u s h
       = (ap Some h.0, h.1, h.2, rw h.3 h.4)
-  ends-here full p k rest (Some v) v' m es c er end inner Keep w (Err (Not_inserted d)) u s h
-      = absurd (let z = h.1 in cc)
-  ends-here full p k rest (Some v) v' m es c er end inner Remove w (Err (Not_inserted d)) u s h
-      = absurd (let z = h.1 in cc)
   ends-here full p k rest (Some v) v' m es c er end inner (Insert x) w (Err (Not_inserted d)) u s h = let z
       = rw h.2 at s in absurd (cc)
   ends-here full p k rest v v' m es c er end inner Keep w (Err Not_removed) u s h = absurd h
@@ -185,83 +181,81 @@ module _ {V : Type 0} where
   pub none-at : (b : ℕ) (es : List (ℕ × Trie V)) → child_of b (as_children es) ≡ None → child_at b es ≡ None
   none-at b es h = sym (child_of-entries b es) ∙ h
 
-  module _ (p k rest : List ℕ) (v : Option V) (m m' b : ℕ) (t t' : Trie V) (es es' : List (ℕ × Trie V))
-      (c : IsCanonical (node p v m (as_children es))) (er : Some rest ≡ strip_prefix p k)
-      (eb : Some b ≡ slice_get rest 0)
-      (at : Some t ≡ child_at b es) (em : m' ≡ m) (ee : es' ≡ replaced b t' es) where
-    left-child : (y : Option V) → Some t' ≡ tree_left rest y (Some t) → Some (node p v m' (as_children es'))
-        ≡ tree_left k y (Some (node p v m (as_children es)))
-    left-child None h = ap Some (child-put_back p v m m' b t t' es es' at (some-equal t' t h) em ee)
-    left-child (Some y) h = ap Some (put-below p k rest y v m m' b t t' es es' c er eb at
-        (some-equal t' (trie_put rest y t) h) em ee)
+module _ {V : Type 0} {p k r : List ℕ} {v : Option V} {w b : ℕ} {t : Trie V} {es : List (ℕ × Trie V)}
+    (f : Follows p k r v w b t es) (w' : ℕ) (t' : Trie V)
+    (es' : List (ℕ × Trie V)) (em : w' ≡ w) (ee : es' ≡ replaced b t' es) where
+  left-child : (y : Option V) → Some t' ≡ tree_left r y (Some t) → Some (node p v w' (as_children es'))
+      ≡ tree_left k y (Some (node p v w (as_children es)))
+  left-child None h = ap Some (child-put_back p v w w' b t t' es es' f.there (some-equal t' t h) em ee)
+  left-child (Some y) h = ap Some (put-below f y w' t' es'
+      (some-equal t' (trie_put r y t) h) em ee)
 
-    pub ends-child_ok : (full : Bool) (r : SlotUpdate V) (y : Option V) (o : Outcome V)
-        → EndsTree full rest r y (Some t) (Ok o) (Some t')
-        → EndsTree full k r y (Some (node p v m (as_children es))) (Ok o) (Some (node p v m' (as_children es')))
-    ends-child_ok full Keep y o h = (left-child y h.0, h.1, h.2)
-    ends-child_ok full Remove None o h = (left-child None h.0, h.1, h.2)
-    ends-child_ok full Remove (Some y) o h = (
-      removed-below p k rest v m m' b t t' es es' c er eb at h.0 em ee,
-      h.1,
-      h.2,
-    )
-    ends-child_ok full (Insert x) y o h = (left-child (Some x) h.0, h.1, h.2)
+  pub ends-child_ok : (full : Bool) (z : SlotUpdate V) (y : Option V) (o : Outcome V)
+      → EndsTree full r z y (Some t) (Ok o) (Some t')
+      → EndsTree full k z y (Some (node p v w (as_children es))) (Ok o) (Some (node p v w' (as_children es')))
+  ends-child_ok full Keep y o h = (left-child y h.0, h.1, h.2)
+  ends-child_ok full Remove None o h = (left-child None h.0, h.1, h.2)
+  ends-child_ok full Remove (Some y) o h = (
+    removed-below f w' t' es' h.0 em ee,
+    h.1,
+    h.2,
+  )
+  ends-child_ok full (Insert x) y o h = (left-child (Some x) h.0, h.1, h.2)
 
-    refuses-child : (full : Bool) (d : TreeError) → RefusesPut full rest (Some t) d
-        → RefusesPut full k (Some (node p v m (as_children es))) d
-    refuses-child full Full h = h
-    refuses-child full Memory h = (
-      h.0,
-      (
-        asks_put-below p k rest v m b t es c er eb at h.1.0,
-        record-child p k rest v m
-            b t es c er eb at h.1.1,
-      ),
-    )
+  refuses-child : (full : Bool) (d : TreeError) → RefusesPut full r (Some t) d
+      → RefusesPut full k (Some (node p v w (as_children es))) d
+  refuses-child full Full h = h
+  refuses-child full Memory h = (
+    h.0,
+    (
+      put_allocation-below f h.1.0,
+      record-child f h.1.1,
+    ),
+  )
 
-    pub ends-child : (full : Bool) (r : SlotUpdate V) (y : Option V) (res : Result (Outcome V) (UpdateError V))
-        → is_leaf_at rest t ≡ false
-        → EndsTree full rest r y (Some t) res (Some t')
-        → EndsTree full k r y (Some (node p v m (as_children es))) res (Some (node p v m' (as_children es')))
-    ends-child full r y (Ok o) inner h = ends-child_ok full r y o h
-    ends-child full r y (Err (Not_inserted d)) inner h = (left-child None h.0, h.1, h.2, refuses-child full d.error h.3)
-    ends-child full r y (Err Not_removed) inner h
-        = (left-child y h.0, h.1, h.2, asks_remove-below p k rest v m b t es c er eb at inner h.3)
+  pub ends-child : (full : Bool) (z : SlotUpdate V) (y : Option V) (res : Result (Outcome V) (UpdateError V))
+      → is_leaf_at r t ≡ false
+      → EndsTree full r z y (Some t) res (Some t')
+      → EndsTree full k z y (Some (node p v w (as_children es))) res (Some (node p v w' (as_children es')))
+  ends-child full z y (Ok o) inner h = ends-child_ok full z y o h
+  ends-child full z y (Err (Not_inserted d)) inner h = (left-child None h.0, h.1, h.2, refuses-child full d.error h.3)
+  ends-child full z y (Err Not_removed) inner h
+      = (left-child y h.0, h.1, h.2, remove_allocation-below f inner h.3)
 
-    -- a leaf that goes, or stays where there is no memory
-    without-gone : is_leaf_at rest t ≡ true → Some (without_child b (node p v m' (as_children es')))
-        ≡ trie_remove k (node p v m (as_children es))
-    without-gone l = ap Some (rw (
-      em,
-      ee,
-      child_of-entries b (replaced b t' es),
-      found-replaced b t t' es at,
-      without-replaced b t' es,
-    ) (sym (rw (child_of-entries b es, ← at) refl)))
-        ∙ removed-leaf p k rest v m b t es c er eb at (leaf-gone rest t l)
+  -- a leaf that goes, or stays where there is no memory
+  without-gone : is_leaf_at r t ≡ true → Some (without_child b (node p v w' (as_children es')))
+      ≡ trie_remove k (node p v w (as_children es))
+  without-gone l = ap Some (rw (
+    em,
+    ee,
+    child_of-entries b (replaced b t' es),
+    found-replaced b t t' es f.there,
+    without-replaced b t' es,
+  ) (sym (rw (child_of-entries b es, ← f.there) refl)))
+      ∙ removed-leaf f (leaf-gone r t l)
 
-    pub ends-lost : (full : Bool) (r : SlotUpdate V) (y : Option V) (res : Result (Outcome V) (UpdateError V))
-        (u : Trie V) → is_leaf_at rest t ≡ true → r ≡ Remove → y ≢ None → t' ≡ node_holding y t
-        → RemovesLeaf b (option_and_then value_of (child_of b (as_children es'))) (node p v m' (as_children es')) res u
-        → EndsTree full k r y (Some (node p v m (as_children es))) res (Some u)
-    ends-lost full Keep y res u l is s h q = absurd (cc)
-    ends-lost full (Insert x) y res u l is s h q = absurd (cc)
-    ends-lost full Remove None res u l is s h q = absurd (s refl)
-    ends-lost full Remove (Some y) (Ok (Removed z)) u l is s h q =
-        let held : Some z ≡ Some y = q.0 ∙ ap (option_and_then value_of) (child-there b t t' es es' at ee)
-        ∙ ap value_of h ∙ holding-value (Some y) t in
-        let same : z ≡ y = cc in
-        (ap Some q.1 ∙ without-gone l, ap Removed same, tt)
-    ends-lost full Remove (Some y) (Ok Absent) u l is s h q = absurd q
-    ends-lost full Remove (Some y) (Ok New) u l is s h q = absurd q
-    ends-lost full Remove (Some y) (Ok Kept) u l is s h q = absurd q
-    ends-lost full Remove (Some y) (Ok (Replaced z)) u l is s h q = absurd q
-    ends-lost full Remove (Some y) (Err (Not_inserted d)) u l is s h q = absurd q
-    ends-lost full Remove (Some y) (Err Not_removed) u l is s h q =
-        let many : length (edges_of (as_children es')) ≡ length (edges_of (as_children es)) = edges_of-length es'
-        ∙ ap length ee ∙ replaced-length b t' es ∙ sym (edges_of-length es) in (
-          ap Some q.0 ∙ left-child (Some y) (ap Some (h ∙ leaf-put rest y t l)),
-          refl,
-          s,
-          asks_remove-leaf p k rest v m m b t es es c er eb at l refl refl (rw (← em) q.1) (rw (← em, ← many) q.2),
-        )
+  pub ends-lost : (full : Bool) (z : SlotUpdate V) (y : Option V) (res : Result (Outcome V) (UpdateError V))
+      (u : Trie V) → is_leaf_at r t ≡ true → z ≡ Remove → y ≢ None → t' ≡ node_holding y t
+      → RemovesLeaf b (option_and_then value_of (child_of b (as_children es'))) (node p v w' (as_children es')) res u
+      → EndsTree full k z y (Some (node p v w (as_children es))) res (Some u)
+  ends-lost full Keep y res u l is s h q = absurd (cc)
+  ends-lost full (Insert x) y res u l is s h q = absurd (cc)
+  ends-lost full Remove None res u l is s h q = absurd (s refl)
+  ends-lost full Remove (Some y) (Ok (Removed x)) u l is s h q =
+      let held : Some x ≡ Some y = q.0 ∙ ap (option_and_then value_of) (child-there b t t' es es' f.there ee)
+      ∙ ap value_of h ∙ holding-value (Some y) t in
+      let same : x ≡ y = cc in
+      (ap Some q.1 ∙ without-gone l, ap Removed same, tt)
+  ends-lost full Remove (Some y) (Ok Absent) u l is s h q = absurd q
+  ends-lost full Remove (Some y) (Ok New) u l is s h q = absurd q
+  ends-lost full Remove (Some y) (Ok Kept) u l is s h q = absurd q
+  ends-lost full Remove (Some y) (Ok (Replaced z)) u l is s h q = absurd q
+  ends-lost full Remove (Some y) (Err (Not_inserted d)) u l is s h q = absurd q
+  ends-lost full Remove (Some y) (Err Not_removed) u l is s h q =
+      let many : length (edges_of (as_children es')) ≡ length (edges_of (as_children es)) = edges_of-length es'
+      ∙ ap length ee ∙ replaced-length b t' es ∙ sym (edges_of-length es) in (
+        ap Some q.0 ∙ left-child (Some y) (ap Some (h ∙ leaf-put r y t l)),
+        refl,
+        s,
+        remove_allocation-leaf f w es l refl refl (rw (← em) q.1) (rw (← em, ← many) q.2),
+      )

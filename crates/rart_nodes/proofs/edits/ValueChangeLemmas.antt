@@ -7,10 +7,10 @@ use Rattle.std.proofs.lemmas.List.{append_assoc}
 use Rattle.rart_keys.specs.ByteStrings.{begins}
 use Rattle.rart_keys.specs.Filters.{below}
 use Rattle.rart_keys.specs.SortedMap.{keys_of, values_of}
-use Rattle.rart_nodes.specs.edits.ValueChanges.{CanLend, ChangesBelow, ChangesValue, LentValue}
+use Rattle.rart_nodes.specs.edits.ValueChanges.{ChangesBelow, ChangesValue, LentValue}
 use Rattle.rart_nodes.specs.tries.Trie.{with_prefix}
 use Rattle.rart_nodes.specs.walks.Calls.{CallableAtEach}
-use Rattle.rart_nodes.proofs.walks.CallLemmas.{always-now, always-on, can-kept, folds-keep}
+use Rattle.rart_nodes.proofs.walks.CallLemmas.{always-on, folds-keep}
 
 -- a callback along two lists, one after the other
 module _ {F A : Type 0} (R : F → A → F → Type 0) where
@@ -53,12 +53,6 @@ module _ {F V : Type 0} (call : Mut F (MutBor V × Unit {0}) (Unit {0} × (MutBo
         | false ↦ λ c. subst (λ q. FoldsTo (λ p v q. LentValue call p v q) q (values_of (below p es)) g) (sym c.1)
             (changes-folds p es ds h.1.0 g h.1.1.1)
       ] h.1.1.0
-
-  -- a callback that may always be called
-  pub always-lends : (f : F) (vs : List V) → always_mut call f → CanLend call f vs
-  always-lends f vs h = can-kept _ _ (always_mut call)
-      (λ p v q s i. always-on call p (s.1.shown, tt) (tt, (s.1.left, tt)) q s.1.called i)
-      (λ p v i y e. always-now call p (y, tt) i) f vs h
 
   pub always-after-changes : (p : List ℕ) (es ds : List (List ℕ × V)) (f g : F) → ChangesBelow call p f es ds g
       → always_mut call f → always_mut call g

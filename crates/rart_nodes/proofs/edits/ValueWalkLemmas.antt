@@ -1,7 +1,6 @@
--- A walk that lends the values of a tree goes on child by child, and leaves keys and nodes as they are.
-use Rattle.std.proofs.Common.{◌≡◌, ℕ, suc, ◌<◌, true, false, List, [], ◌∷◌, ◌++◌, length}
-use Rattle.std.proofs.Common.{refl, sym, ap, ◌∙◌, arith, subst, Option, Some, None, MutBor, is_some}
-use Rattle.std.proofs.Common.{nat_eq, option_map}
+-- A walk that lends the values of a tree continues child by child, and leaves keys and nodes as they are.
+use Rattle.std.proofs.Common.{◌≡◌, ℕ, suc, ◌<◌, true, false, List, [], ◌∷◌, ◌++◌, length, refl, sym, ap, ◌∙◌, arith}
+use Rattle.std.proofs.Common.{subst, Option, Some, None, MutBor, is_some, nat_eq, option_map}
 use Rattle.std.specs.Prelude.{slice_get}
 use Rattle.std.specs.Fn.{CalledAtMut, Mut}
 use Rattle.std.specs.List.{FoldsTo, starts_with}
@@ -13,10 +12,9 @@ use Rattle.rart_keys.proofs.ByteOrder.{eq-yes, eq-no}
 use Rattle.rart_parts.specs.Entries.{child_at, entries_above, replaced}
 use Rattle.rart_nodes.specs.edits.ValueChanges.{CanLend, ChangesBelow, LentValue, TakesLoan}
 use Rattle.rart_nodes.specs.tries.PrefixLaws.{values-append, values-with_prefix}
-use Rattle.rart_nodes.specs.tries.Trie.{Trie, node, Children, pairs_of, children_pairs, own_pair}
-use Rattle.rart_nodes.specs.tries.Trie.{AreCanonical, IsCanonical, prefix_of}
+use Rattle.rart_nodes.specs.tries.Trie.{Trie, node, Children, pairs_of, children_pairs, own_pair, AreCanonical}
+use Rattle.rart_nodes.specs.tries.Trie.{IsCanonical, prefix_of, child_of, with_prefix}
 use Rattle.rart_nodes.specs.tries.Tree.{tree_pairs}
-use Rattle.rart_nodes.specs.tries.Trie.{child_of, with_prefix}
 use Rattle.rart_nodes.specs.tries.TrieCode.{as_children, node_count}
 use Rattle.rart_nodes.proofs.storages.ChildLemmas.{at_first, after_first, found}
 use Rattle.rart_nodes.proofs.tries.FirstBytes.{children_pairs-from, pairs_of-first}
@@ -255,14 +253,15 @@ module _ {F V : Type 0} (call : Mut F (MutBor V × Unit {0}) (Unit {0} × (MutBo
 
   -- the walk is over
   pub changing-end : (f0 : F) (t0 : Trie V) (f : F) (p : List ℕ) (w : Option V) (n : ℕ) (es : List (ℕ × Trie V))
-      → Changing f0 t0 f p w n es None → ChangesBelow call [] f0 (pairs_of t0) (pairs_of (node p w n (as_children es))) f
+      → Changing f0 t0 f p w n es None
+      → ChangesBelow call [] f0 (pairs_of t0) (pairs_of (node p w n (as_children es))) f
   changing-end f0 t0 f p w n es i = rw i.before (over i.rest refl)
     where
       over : (rest : List (ℕ × Trie V)) → i.rest ≡ rest → ChangesBelow call [] f0
           (pairs_of (node p i.own n (as_children (i.done ++ i.rest)))) (pairs_of (node p w n (as_children es))) f
       over [] e = rw (i.now, e, append-nil i.done, append-nil i.left) (changes-after call [] p []
-          (own_pair i.own ++ children_pairs (as_children i.done)) (own_pair w ++ children_pairs (as_children i.left)) f0 f
-          (λ k. refl) i.calls)
+          (own_pair i.own ++ children_pairs (as_children i.done)) (own_pair w ++ children_pairs (as_children i.left)) f0
+          f (λ k. refl) i.calls)
       over (x ∷ rest) e = let h : ◌≡◌ {A = Option ℕ} None (Some x.0) = i.ahead
           ∙ ap (λ r. option_map (λ e. e.0) (slice_get r 0)) e in absurd (cc)
 
@@ -320,8 +319,8 @@ module _ {F V : Type 0} (call : Mut F (MutBor V × Unit {0}) (Unit {0} × (MutBo
   changes-absent p [] b q v n es f c s h a = absurd (cc)
   changes-absent p (x ∷ r) b q v n es f c s h a =
       let byte : b ≡ x = cc in
-      changes-none call p (pairs_of (node q v n (as_children es))) f (below-child q p r x v n (as_children es) c.2 (sym s)
-      ∙ ap (λ o. with_prefix q (below (x ∷ r) (tree_pairs o)))
+      changes-none call p (pairs_of (node q v n (as_children es))) f (below-child q p r x v n (as_children es) c.2
+      (sym s) ∙ ap (λ o. with_prefix q (below (x ∷ r) (tree_pairs o)))
       (child_of-entries x es ∙ sym (a ∙ ap (λ z. child_at z es) byte)))
 
   -- at a node with a child u on its way, which becomes x

@@ -4,7 +4,7 @@ use Rattle.std.proofs.Common.{length-append, drop, Some, None, refl, arith, sym,
 use Rattle.rart_keys.specs.SortedMap.{longest_key}
 use Rattle.rart_keys.proofs.ByteOrder.{eq-yes, eq-no}
 use Rattle.rart_nodes.specs.joins.Intersections.{intersect_nodes, with_rest}
-use Rattle.rart_nodes.specs.tries.PrefixLaws.{length-with_prefix, prefix-none, prefix-twice}
+use Rattle.rart_nodes.specs.tries.PrefixLaws.{prefix-none, prefix-twice}
 use Rattle.rart_nodes.specs.joins.SharedEdges.{more_visits}
 use Rattle.rart_nodes.specs.joins.SharedChildren.{shared_right, visits_all, IsAligned}
 use Rattle.rart_nodes.specs.tries.CanonicalTest.{is_canonical}
@@ -14,7 +14,7 @@ use Rattle.rart_nodes.specs.tries.TrieCode.{child_count, node_count}
 use Rattle.rart_nodes.proofs.joins.IntersectSteps.{Turn, met, met_visits, turn-common, turn-apart, turn-left}
 use Rattle.rart_nodes.proofs.joins.IntersectSteps.{turn-right, turn-both, with_rest-whole}
 use Rattle.rart_nodes.proofs.tries.CanonicalTests.{IsCanonical-test, longest_key-append, longest_key-after}
-use Rattle.rart_nodes.proofs.tries.NodeCounts.{some-pairs}
+use Rattle.rart_nodes.proofs.tries.NodeCounts.{some-after}
 use Rattle.rart_nodes.proofs.walks.SeenLemmas.{child-falls, longest-of}
 use Rattle.rart_nodes.proofs.tries.Descents.{child-first}
 
@@ -50,12 +50,7 @@ module _ {V : Type 0} where
   longest-rest : (l : List ℕ) (t : Trie V) → is_canonical t ≡ true → longest_key (pairs_of (with_rest l t))
       ≡ length l + longest_below t
   longest-rest l (node p v n cs) c = longest_key-after l (own_pair v ++ children_pairs cs)
-      (omega (
-        arith,
-        some-pairs (node p v n cs) (IsCanonical-test (node p v n cs) c),
-        length-with_prefix p
-            (own_pair v ++ children_pairs cs),
-      ))
+      (some-after p v n cs (IsCanonical-test (node p v n cs) c))
 
   pub longest-child : (b : ℕ) (t z : Trie V) → child_in b t ≡ Some z
       → longest_key (pairs_of z) ≤ longest_key (children_pairs (children_in t))
@@ -75,8 +70,8 @@ module _ {V : Type 0} where
       starts-cons (x ∷ q) s = ap (λ y. y ∷ q) s
 
 module _ {V W : Type 0} where
-  -- p is the path from the beginnings of t and u to a and b, of whose prefixes the rests l and r are left; from j visits
-  -- there were i
+  -- p is the path from the beginnings of t and u to a and b, of whose prefixes the rests l and r are left; there were j
+  -- visits before it, and i after it
   pub record Place (t : Trie V) (u : Trie W) (p : List ℕ) (a : Trie V) (l : List ℕ) (b : Trie W) (r : List ℕ)
       (i j : ℕ) : Type 0 where
     pub given : intersect_nodes t u ≡ with_prefix p (intersect_nodes (with_rest l a) (with_rest r b))

@@ -9,13 +9,13 @@ use Rattle.rart_nodes.specs.declared.node.view.LendingKeyView.{LendingKeyView}
 use Rattle.rart_nodes.specs.joins.Visitors.{CanGive, CanGiveKeys, CanGiveValues, CanGiveViews, GivenKeys, GivenValues}
 use Rattle.rart_nodes.specs.joins.Visitors.{GivenViews}
 use Rattle.rart_nodes.specs.tries.PrefixLaws.{values-append}
-use Rattle.rart_nodes.specs.joins.PairCalls.{CallsAtEach, CallsWithEach, CanCallAt, CanCallWith}
-use Rattle.rart_nodes.specs.joins.ViewCalls.{CanViewAt, ViewsAtEach}
+use Rattle.rart_nodes.specs.joins.PairCalls.{CallsAtEach, CallsWithEach}
+use Rattle.rart_nodes.specs.joins.ViewCalls.{ViewsAtEach}
 use Rattle.rart_nodes.specs.walks.Calls.{CallableAtEach}
 use Rattle.rart_nodes.specs.walks.Walk.{joined_bytes}
 use Rattle.rart_nodes.specs.walks.PathParts.{lent_segments}
 use Rattle.rart_nodes.proofs.joins.VisitorLemmas.{given-whole}
-use Rattle.rart_nodes.proofs.walks.CallLemmas.{always-now, always-on, can-kept, folds-keep}
+use Rattle.rart_nodes.proofs.walks.CallLemmas.{always-on, folds-keep}
 
 pub can-values : {F X : Type 0} (r : F → X → F → Type 0) (q : F → X → Type 0) (f : F) (es : List (List ℕ × X))
     → CallableAtEach r q f (values_of es) → CanGive (CanGiveValues q) (GivenValues r) Nothing f es
@@ -42,32 +42,18 @@ module _ {F X : Type 0} (r : F → List ℕ × X → F → Type 0) (q : F → Li
 
 -- a callback that may always be called
 module _ {F V W : Type 0} (g : Mut F (Bor V × (Bor W × Unit {0})) (Unit {0})) where
-  pub always-with : (f : F) (xs : List (V × W)) → always_mut g f → CanCallWith g f xs
-  always-with f xs h = can-kept _ _ (always_mut g) (λ p x q s i. always-on g p (s.left, (s.right, tt)) tt q s.called i)
-      (λ p x i l m d e. always-now g p (l, (m, tt)) i) f xs h
-
   pub always-after-with : (f : F) (xs : List (V × W)) (f' : F) → CallsWithEach g f xs f' → always_mut g f
       → always_mut g f'
   always-after-with f xs f' k h = folds-keep _ (always_mut g)
       (λ p x q s i. always-on g p (s.left, (s.right, tt)) tt q s.called i) xs f f' k h
 
 module _ {F K V W : Type 0} (g : Mut F (K × (Bor V × (Bor W × Unit {0}))) (Unit {0})) (bytes : K → List ℕ) where
-  pub always-at : (f : F) (xs : List (List ℕ × (V × W))) → always_mut g f → CanCallAt g bytes f xs
-  always-at f xs h = can-kept _ _ (always_mut g)
-      (λ p x q s i. always-on g p (s.key, (s.left, (s.right, tt))) tt q s.called i)
-      (λ p x i k l m d e j. always-now g p (k, (l, (m, tt))) i) f xs h
-
   pub always-after-at : (f : F) (xs : List (List ℕ × (V × W))) (f' : F) → CallsAtEach g bytes f xs f' → always_mut g f
       → always_mut g f'
   always-after-at f xs f' k h = folds-keep _ (always_mut g)
       (λ p x q s i. always-on g p (s.key, (s.left, (s.right, tt))) tt q s.called i) xs f f' k h
 
 module _ {F V W : Type 0} (g : Mut F (LendingKeyView × (Bor V × (Bor W × Unit {0}))) (Unit {0})) where
-  pub always-view-at : (f : F) (xs : List (List ℕ × (V × W))) → always_mut g f → CanViewAt g f xs
-  always-view-at f xs h = can-kept _ _ (always_mut g)
-      (λ p x q s i. always-on g p (s.key, (s.left, (s.right, tt))) tt q s.called i)
-      (λ p x i k l m d e j. always-now g p (k, (l, (m, tt))) i) f xs h
-
   pub always-after-view-at : (f : F) (xs : List (List ℕ × (V × W))) (f' : F) → ViewsAtEach g f xs f' → always_mut g f
       → always_mut g f'
   always-after-view-at f xs f' k h = folds-keep _ (always_mut g)

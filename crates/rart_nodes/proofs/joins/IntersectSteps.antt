@@ -5,8 +5,7 @@ use Rattle.std.proofs.Common.{ap}
 use Rattle.rart_keys.specs.Joins.{both}
 use Rattle.rart_keys.proofs.ByteOrder.{order, is_less, is_equal, is_greater, eq-yes, eq-no}
 use Rattle.rart_nodes.specs.joins.Intersections.{intersect_prefixes, intersect_each, intersect_down, intersect_nodes}
-use Rattle.rart_nodes.specs.joins.Intersections.{intersect_child}
-use Rattle.rart_nodes.specs.joins.Intersections.{with_rest}
+use Rattle.rart_nodes.specs.joins.Intersections.{intersect_child, with_rest}
 use Rattle.rart_nodes.specs.tries.PrefixLaws.{prefix-none, prefix-twice}
 use Rattle.rart_nodes.specs.joins.SharedEdges.{count_prefixes, visits_each, visits_down, more_visits, visits_child}
 use Rattle.rart_nodes.specs.joins.SharedChildren.{shared_child_if, shared_right, intersect_all, visits_all}

@@ -1,4 +1,4 @@
--- How what is kept of a path stays, goes on and goes back.
+-- How what is kept of a path stays, continues and returns.
 use Rattle.std.proofs.Common.{◌≡◌, ℕ, ◌≤◌, ◌==◌, true, false, List, [], ◌∷◌, ◌++◌, length, take, vec_capacity, refl}
 use Rattle.std.proofs.Common.{arith, sym, ap, ◌∙◌}
 use Rattle.std.proofs.lemmas.List.{append_assoc, append-nil, length-map, map-append, take-map}

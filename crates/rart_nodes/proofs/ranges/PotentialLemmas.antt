@@ -1,5 +1,5 @@
 -- What a walk has visited beyond two nodes for each pair, level by level.
-use Rattle.std.proofs.Common.{◌≡◌, ℕ, ◌+◌, ◌≤◌, ◌⊎◌, inl, inr, ⊎_elim, true, false, cond, eqb, ltb, List, [], ◌∷◌, ◌++◌}
+use Rattle.std.proofs.Common.{◌≡◌, ℕ, ◌+◌, ◌≤◌, ⊎_elim, true, false, cond, eqb, ltb, List, [], ◌∷◌, ◌++◌}
 use Rattle.std.proofs.Common.{length, length-append, reverse, Option, Some, None, refl, sym, ap, ◌∙◌, arith, subst}
 use Rattle.std.proofs.lemmas.List.{length-reverse}
 use Rattle.rart_keys.specs.SortedMap.{keys_of}
@@ -15,7 +15,7 @@ use Rattle.rart_nodes.specs.walks.WalkSteps.{DeepestLeft, DeepestStep, PushesLev
 use Rattle.rart_nodes.proofs.statistics.StatisticsLemmas.{height-keys}
 use Rattle.rart_nodes.proofs.tries.CanonicalTests.{IsCanonical-test}
 use Rattle.rart_nodes.proofs.walks.SeenLemmas.{pick}
-use Rattle.rart_nodes.proofs.walks.WalkLemmas.{deepest, same-rest}
+use Rattle.rart_nodes.proofs.walks.WalkLemmas.{deepest, left-level, level-before, went}
 use Rattle.rart_nodes.proofs.walks.WalkVisits.{has-child}
 
 alone : (V : Type 0) (p : List ℕ) (n b : ℕ) (t : Trie V) → IsCanonical {V = V} (node p None n (child b t no_children))
@@ -73,18 +73,9 @@ module _ {V : Type 0} where
       → AreLow h ((children_in t, n) ∷ (cs, d) ∷ ls)
   low-child h b d n t cs ls w = (omega (arith, w.0, height-node t), (omega (arith, w.0), w.1))
 
-  -- what is on the levels once a child was visited
-  went : (d n : ℕ) (t : Trie V) (st st1 st2 : List (Level V)) → (s : DeepestStep st t d st1) → PushesLevel st1 t n st2 →
-      (reverse st2 ≡ (children_in t, n) ∷ (s.others, d) ∷ reverse s.rest)
-      ⊎ ((reverse st2 ≡ (s.others, d) ∷ reverse s.rest) × (children_in t ≡ no_children))
-  went d n t st st1 st2 s o =
-      let e : reverse st1 ≡ (s.others, d) ∷ reverse s.rest = deepest st1 s.rest (s.others, d) s.is in
-      ⊎_elim (λ f. inl (deepest st2 st1 (children_in t, n) f ∙ ap (λ x. (children_in t, n) ∷ x) e))
-      (λ f. inr (ap reverse f.0 ∙ e, f.1)) o
-
   potential-step : (d : ℕ) (t : Trie V) (st st1 : List (Level V)) → (s : DeepestStep st t d st1)
       → potential (reverse st) ≡ 1 + amortized_visits ((s.others, d) ∷ reverse s.rest)
-  potential-step d t st st1 s = ap potential (deepest st s.rest (child s.edge t s.others, d) s.was)
+  potential-step d t st st1 s = ap potential (level-before d t st st1 s)
       ∙ potential-child s.edge d t s.others (reverse s.rest)
 
   -- the node that was visited has no value
@@ -101,7 +92,7 @@ module _ {V : Type 0} where
       → AreLow h (reverse st) → AreLow h (reverse st2)
   low-on h d p t st st1 st2 s o w =
       let q : AreLow h ((child s.edge t s.others, d) ∷ reverse s.rest)
-      = rw (deepest st s.rest (child s.edge t s.others, d) s.was) at w in
+      = rw (level-before d t st st1 s) at w in
       let r = low-child h s.edge d p t s.others (reverse s.rest) q in
       ⊎_elim (λ e. rw e r) (λ e. rw e.0 r.1) (went d p t st st1 st2 s o)
 
@@ -120,7 +111,7 @@ module _ {V : Type 0} where
             (went d p t st st1 st2 s o);
         last = λ l q.
             let r : AreLow l ((child s.edge t s.others, d) ∷ reverse s.rest)
-            = rw (deepest st s.rest (child s.edge t s.others, d) s.was) at (w l q) in
+            = rw (level-before d t st st1 s) at (w l q) in
             omega (arith, i, h, u, amortized_visits-few (s.others, d) (reverse s.rest), r.0, height-node t);
         low = λ l q. low-on l d p t st st1 st2 s o (w l q);
       }
@@ -130,17 +121,6 @@ module _ {V : Type 0} where
   paid-first n ls = record { next = omega arith; last = λ h w. omega (arith, potential-low h ls w); low = λ h w. w }
 
   -- the deepest level is left
-  left-level : (st st1 rest : List (Level V)) (l : Level V) → DeepestLeft st st1 → st1 ≡ rest ++ l ∷ []
-      → (d : ℕ) × (reverse st ≡ (no_children, d) ∷ reverse rest)
-  left-level st st1 rest l s e = ⊎_elim
-      (λ z. absurd (omega (arith, ap length z, ap length s.same, ap length e, length-append rest (l ∷ []))))
-      (λ z. (
-        z.1.0,
-        deepest st z.0 (no_children, z.1.0) z.1.1
-            ∙ ap (λ x. (no_children, z.1.0) ∷ x) (same-rest _ _ _ _ (sym (deepest st z.0 (no_children, z.1.0) z.1.1)
-            ∙ ap reverse (sym s.same) ∙ deepest st1 rest l e)),
-      )) s.left
-
   pub potential-leave : (n m m1 k : ℕ) (st st1 rest : List (Level V)) (l : Level V) → DeepestLeft st st1
       → st1 ≡ rest ++ l ∷ [] → m1 ≡ m + 0 → m + k ≤ n + potential (reverse st) → m1 + k ≤ n + potential (reverse rest)
   potential-leave n m m1 k st st1 rest l s e i h = let z = left-level st st1 rest l s e in

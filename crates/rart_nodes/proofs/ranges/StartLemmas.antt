@@ -19,8 +19,7 @@ use Rattle.rart_nodes.specs.tries.Trie.{Trie, node, Children, no_children, child
 use Rattle.rart_nodes.specs.tries.Trie.{child_of, child_in, pairs_of, StartsWith, AreCanonical}
 use Rattle.rart_nodes.specs.walks.SegmentLaws.{joined-append}
 use Rattle.rart_nodes.specs.walks.Walk.{SegmentList, Grown, Joins, Level, joined_bytes, join_all, segments_after}
-use Rattle.rart_nodes.specs.walks.Walk.{value_at}
-use Rattle.rart_nodes.specs.walks.Walk.{entries_of, children_entries, entries_below, tree_entries}
+use Rattle.rart_nodes.specs.walks.Walk.{value_at, entries_of, children_entries, entries_below, tree_entries}
 use Rattle.rart_nodes.proofs.tries.CanonicalTests.{IsCanonical-test}
 use Rattle.rart_nodes.proofs.tries.FirstBytes.{AllFirst, AllFrom, from_first, pairs_of-first, children_pairs-from}
 use Rattle.rart_nodes.proofs.tries.PairLemmas.{tree_pairs-ascend}
@@ -58,7 +57,7 @@ module _ {V : Type 0} where
         | x ∷ k ↦ λ f. ap (λ z. e ∷ z) (from_bound-longer h low es f.1)
       ] f
 
-  -- the value of a node that the start ends at, and of one that it goes on from
+  -- the value of a node that the start ends at, and of one that it continues from
   abbrev pub value_if : Bool → SegmentList → Option V → List (SegmentList × V)
   value_if true k v = value_at k v
   value_if false k v = []
@@ -200,7 +199,7 @@ module _ {V : Type 0} where
       ∙ after-twice k (g q) (value_if h [] v ++ children_entries g cs)
       ∙ after-if h (k ++ g q) v (children_entries g cs)
 
-  -- a start that goes on by b
+  -- a start that continues by b
   pub node-on : (g : Grown) (h : Bool) (k : SegmentList) (s r : List ℕ) (b : ℕ) (t : Trie V) → Joins g
       → is_canonical t ≡ true → Some r ≡ strip_prefix (prefix_of t) s → Some b ≡ slice_get r 0
       → segments_after k (entries_from h s (entries_of g t))
@@ -228,14 +227,8 @@ module _ {V : Type 0} where
       → k1 ≡ k ++ g (prefix_of t) → o ≡ value_of t → cs ≡ children_in t
       → S ≡ segments_after k1 (children_entries g cs) ++ B
       → segments_after k (entries_from h s (entries_of g t)) ++ B ≡ total → value_at k1 o ++ S ≡ total
-  ahead-higher g h k k1 s t o cs B S total j e f i v a d r =
-      let q : SegmentList = k ++ g (prefix_of t) in
-      let below : S ≡ segments_after q (children_entries g (children_in t)) ++ B
-      = d ∙ ap (λ z. segments_after z (children_entries g cs) ++ B) i
-      ∙ ap (λ z. segments_after q (children_entries g z) ++ B) a in
-      ap (λ z. value_at z o ++ S) i ∙ ap (λ z. value_at q z ++ S) v
-      ∙ close (segments_after k (entries_from h s (entries_of g t))) (value_at q (value_of t))
-      (segments_after q (children_entries g (children_in t))) B S total r (node-higher g h k s t j e f) below
+  ahead-higher g h k k1 s t o cs B S total j e f i v a d r
+      = rw (i, v) (close _ _ _ B S total r (node-higher g h k s t j e f) (rw (i, a) at d))
 
   pub ahead-lower : (g : Grown) (h : Bool) (k : SegmentList) (s : List ℕ) (t : Trie V)
       (B total : List (SegmentList × V)) → Joins g → None ≡ strip_prefix (prefix_of t) s
@@ -249,14 +242,8 @@ module _ {V : Type 0} where
       → k1 ≡ k ++ g (prefix_of t) → value_if h k1 o ≡ value_if h k1 (value_of t) → cs ≡ children_in t
       → S ≡ segments_after k1 (children_entries g cs) ++ B
       → segments_after k (entries_from h s (entries_of g t)) ++ B ≡ total → value_if h k1 o ++ S ≡ total
-  ahead-ended g h k k1 s r t o cs B S total j c e f i v a d q =
-      let p : SegmentList = k ++ g (prefix_of t) in
-      let below : S ≡ segments_after p (children_entries g (children_in t)) ++ B
-      = d ∙ ap (λ z. segments_after z (children_entries g cs) ++ B) i
-      ∙ ap (λ z. segments_after p (children_entries g z) ++ B) a in
-      ap (λ z. z ++ S) v ∙ ap (λ z. value_if h z (value_of t) ++ S) i
-      ∙ close (segments_after k (entries_from h s (entries_of g t))) (value_if h p (value_of t))
-      (segments_after p (children_entries g (children_in t))) B S total q (node-ended g h k s r t j c e f) below
+  ahead-ended g h k k1 s r t o cs B S total j c e f i v a d q
+      = rw (v, i) (close _ _ _ B S total q (node-ended g h k s r t j c e f) (rw (i, a) at d))
 
   pub ahead-on : (g : Grown) (h : Bool) (k k1 : SegmentList) (s r : List ℕ) (b : ℕ) (t : Trie V) (o : Option (Trie V))
       (cs : Children V) (B S total : List (SegmentList × V)) → Joins g → is_canonical t ≡ true
@@ -265,17 +252,8 @@ module _ {V : Type 0} where
       → S ≡ segments_after k1 (children_entries g cs) ++ B
       → segments_after k (entries_from h s (entries_of g t)) ++ B ≡ total
       → segments_after k1 (entries_from h r (tree_entries g o)) ++ S ≡ total
-  ahead-on g h k k1 s r b t o cs B S total j c e f i v a d q =
-      let p : SegmentList = k ++ g (prefix_of t) in
-      let below : S ≡ segments_after p (children_entries g (children_above b (children_in t))) ++ B
-      = d ∙ ap (λ z. segments_after z (children_entries g cs) ++ B) i
-      ∙ ap (λ z. segments_after p (children_entries g z) ++ B) a in
-      ap (λ z. segments_after z (entries_from h r (tree_entries g o)) ++ S) i
-      ∙ ap (λ z. segments_after p (entries_from h r (tree_entries g z)) ++ S) v
-      ∙ close (segments_after k (entries_from h s (entries_of g t)))
-      (segments_after p (entries_from h r (tree_entries g (child_in b t))))
-      (segments_after p (children_entries g (children_above b (children_in t)))) B S total q
-      (node-on g h k s r b t j c e f) below
+  ahead-on g h k k1 s r b t o cs B S total j c e f i v a d q
+      = rw (i, v) (close _ _ _ B S total q (node-on g h k s r b t j c e f) (rw (i, a) at d))
 
   -- before anything was walked
   pub ahead-start : (g : Grown) (k : SegmentList) (st : List (Level V)) (es : List (SegmentList × V)) → k ≡ [] → st ≡ []

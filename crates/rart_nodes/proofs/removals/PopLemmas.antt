@@ -1,43 +1,41 @@
 -- What taking the pair at an end does at one node, as the code does it.
-use Rattle.std.proofs.Common.{◌≡◌, ◌≢◌, ℕ, ◌+◌, ◌<◌, ◌≤◌, true, false, List, [], ◌∷◌, ◌++◌, length, Option, Some}
-use Rattle.std.proofs.Common.{None, refl, arith, sym, ap, ◌∙◌, option_map, length-append, subst}
+use Rattle.std.proofs.Common.{◌≡◌, ◌≢◌, ℕ, ◌+◌, ◌<◌, ◌≤◌, true, false, List, [], ◌∷◌, ◌++◌, length, Option, Some, None}
+use Rattle.std.proofs.Common.{refl, arith, sym, ap, ◌∙◌, option_map, length-append, subst}
 use Rattle.std.specs.Prelude.{slice_get, Result, Ok, Err, IfOk, OnOk}
 use Rattle.std.specs.Option.{IsSomeAnd}
 use Rattle.std.proofs.lemmas.List.{append_assoc, append-nil}
-use Rattle.rart_keys.specs.ByteStrings.{bytes_eq, strip_prefix, IsLess}
+use Rattle.rart_keys.specs.ByteStrings.{strip_prefix, IsLess}
 use Rattle.rart_keys.specs.Filters.{last_or}
 use Rattle.rart_keys.specs.KeyBytes.{IsWithin}
 use Rattle.rart_keys.specs.SortedMap.{AreAbove, IsAscending, count_of, keys_of, longest_key, lookup, without}
-use Rattle.rart_keys.proofs.ByteOrder.{below-not_eq, eq-yes}
+use Rattle.rart_keys.proofs.ByteOrder.{below-not_eq, bytes_eq-itself}
 use Rattle.rart_parts.specs.Entries.{child_at, replaced}
 use Rattle.rart_nodes.specs.declared.node.ends.End.{End}
 use Rattle.rart_nodes.specs.declared.node.ends.End.TheVariants.{First, Last}
 use Rattle.rart_nodes.specs.edits.Deletion.{is_leaf_at, is_end, joined_if_lone, without_child}
-use Rattle.rart_nodes.specs.edits.Pops.{PopAsks, Pops, PopsEnd}
-use Rattle.rart_nodes.specs.edits.RemoveAsks.{remove_asks}
-use Rattle.rart_nodes.specs.storages.Widths.{previous_width}
+use Rattle.rart_nodes.specs.edits.Pops.{PopAllocates, Pops, PopsEnd}
+use Rattle.rart_nodes.specs.edits.RemoveAllocations.{remove_allocates}
+use Rattle.rart_nodes.specs.storages.Capacities.{previous_capacity}
 use Rattle.rart_nodes.specs.tries.Ends.{end_of, end_child}
 use Rattle.rart_nodes.specs.tries.Tree.{tree_pairs}
-use Rattle.rart_nodes.specs.tries.Trie.{Trie, node, Children, no_children, child, children_in, edges_of}
-use Rattle.rart_nodes.specs.tries.Trie.{own_pair, pairs_of, children_pairs, prefix_of, value_of, StartsWith}
-use Rattle.rart_nodes.specs.tries.Trie.{IsCanonical}
+use Rattle.rart_nodes.specs.tries.Trie.{Trie, node, Children, no_children, child, children_in, edges_of, own_pair}
+use Rattle.rart_nodes.specs.tries.Trie.{pairs_of, children_pairs, prefix_of, value_of, StartsWith, IsCanonical}
 use Rattle.rart_nodes.specs.tries.TrieCode.{as_children}
 use Rattle.rart_nodes.proofs.edits.InsertLemmas.{fewer-within}
+use Rattle.rart_nodes.proofs.edits.JoinedLengths.{prefix-before}
 use Rattle.rart_nodes.proofs.edits.LeafLemmas.{leaf-gone}
-use Rattle.rart_nodes.proofs.removals.RemoveAskLemmas.{asks-remove}
-use Rattle.rart_nodes.proofs.removals.RemoveAskSteps.{asks_remove-below, asks_remove-leaf}
+use Rattle.rart_nodes.proofs.removals.RemoveAskLemmas.{allocates-remove}
+use Rattle.rart_nodes.proofs.removals.RemoveAskSteps.{remove_allocation-below, remove_allocation-leaf}
 use Rattle.rart_nodes.proofs.removals.RemoveLemmas.{canonical-removed, pairs_of-removed}
 use Rattle.rart_nodes.proofs.removals.RemoveSteps.{value-removed, removed-below, removed-leaf}
 use Rattle.rart_nodes.proofs.removals.RemovedPairs.{without-above}
-use Rattle.rart_nodes.proofs.tries.CanonicalTests.{longest_key-after, longest_key-append}
+use Rattle.rart_nodes.proofs.tries.CanonicalTests.{longest_key-append}
 use Rattle.rart_nodes.proofs.tries.Descents.{child_of-entries}
-use Rattle.rart_nodes.proofs.tries.EndLemmas.{end-first, ends-below, ends-here}
-use Rattle.rart_nodes.proofs.tries.EndLemmas.{strip_prefix-append}
+use Rattle.rart_nodes.proofs.tries.EndLemmas.{EndsBelow, end-first, ends-below, ends-here, strip_prefix-append}
 use Rattle.rart_nodes.proofs.tries.FirstBytes.{pairs_of-first}
-use Rattle.rart_nodes.proofs.tries.NodeCounts.{some-pairs}
 use Rattle.rart_nodes.proofs.tries.PairLemmas.{pairs_of-ascend}
+use Rattle.rart_nodes.proofs.tries.RestLemmas.{Follows}
 use Rattle.rart_nodes.proofs.walks.SeenLemmas.{longest-of}
-use Rattle.rart_nodes.specs.tries.PrefixLaws.{length-with_prefix}
 
 first-is : (b : ℕ) (k : List ℕ) → StartsWith b k → Some b ≡ slice_get k 0
 first-is b [] f = absurd f
@@ -45,10 +43,6 @@ first-is b (x ∷ k) f = ap Some (sym f)
 
 strip-same : (p : List ℕ) → Some [] ≡ strip_prefix p p
 strip-same p = sym (ap (strip_prefix p) (sym (append-nil p)) ∙ strip_prefix-append p [])
-
-bytes_eq-own : (k : List ℕ) → bytes_eq k k ≡ true
-bytes_eq-own [] = refl
-bytes_eq-own (x ∷ k) = rw (eq-yes x x refl) (bytes_eq-own k)
 
 module _ {V : Type 0} where
   inner-stays : (k : List ℕ) (t : Trie V) → children_in t ≢ no_children → is_leaf_at k t ≡ false
@@ -66,13 +60,13 @@ module _ {V : Type 0} where
   leaf-end e (node p v w (child b t cs)) h = absurd (cc)
 
   -- where the children are given as entries
-  pub entries-some : (es : List (ℕ × Trie V)) → 0 < length es → as_children es ≢ no_children
-  entries-some [] l h = absurd (omega arith)
-  entries-some (e ∷ es) l h = cc
+  pub entries-some : (es : List (ℕ × Trie V)) (n : ℕ) → n ≡ length es → 0 < n → as_children es ≢ no_children
+  entries-some [] n l h q = absurd (omega arith)
+  entries-some (e ∷ es) n l h q = cc
 
-  pub entries-none : (es : List (ℕ × Trie V)) → length es ≤ 0 → as_children es ≡ no_children
-  entries-none [] l = refl
-  entries-none (e ∷ es) l = absurd (omega arith)
+  pub entries-none : (es : List (ℕ × Trie V)) (n : ℕ) → n ≡ length es → n ≤ 0 → as_children es ≡ no_children
+  entries-none [] n l h = refl
+  entries-none (e ∷ es) n l h = absurd (omega arith)
 
   -- the node holds the pair
   pub pop-here : (e : End) (q r p : List ℕ) (v : Option V) (w : ℕ) (es : List (ℕ × Trie V))
@@ -87,73 +81,82 @@ module _ {V : Type 0} where
     rest = value-removed p p [] v w es c (strip-same p) refl (inner-stays p (node p v w (as_children es)) i);
   }
 
+  -- the child t at b holds the pair at the end of a canonical node
+  pub record EndsIn (e : End) (p : List ℕ) (v : Option V) (w b : ℕ) (t : Trie V) (es : List (ℕ × Trie V)) : Type 0
+    where
+      pub canonical : IsCanonical (node p v w (as_children es))
+      pub end : end_child e (node p v w (as_children es)) ≡ Some (b, t)
+      pub there : Some t ≡ child_at b es
+
+  -- the child that the end shows is the one that is stored at its byte
+  pub same-end : (e : End) (p : List ℕ) (v : Option V) (w b : ℕ) (t u : Trie V) (es : List (ℕ × Trie V))
+      → IsCanonical (node p v w (as_children es)) → Some (b, u) ≡ end_child e (node p v w (as_children es))
+      → Some t ≡ child_at b es → EndsIn e p v w b t es
+  same-end e p v w b t u es c h at =
+      let below = ends-below e b (node p v w (as_children es)) u c (sym h) in
+      let found : Some u ≡ Some t = sym below.found ∙ child_of-entries b es ∙ sym at in
+      let same : u ≡ t = cc in
+      record { canonical = c; end = sym h ∙ ap (λ z. Some (b, z)) same; there = at }
+
+module _ {V : Type 0} {e : End} {p : List ℕ} {v : Option V} {w b : ℕ} {t : Trie V} {es : List (ℕ × Trie V)}
+    (h : EndsIn e p v w b t es) where
+  ends-in : EndsBelow e (node p v w (as_children es)) b t
+  ends-in = ends-below e b (node p v w (as_children es)) t h.canonical h.end
+
+  pair-below : (x : List ℕ × V) → end_of e (pairs_of t) ≡ Some x
+      → end_of e (pairs_of (node p v w (as_children es))) ≡ Some (p ++ x.0, x.1)
+  pair-below x s = ends-in.pair ∙ ap (option_map (λ x. (p ++ x.0, x.1))) s
+
+  pair-follows : (x : List ℕ × V) → end_of e (pairs_of t) ≡ Some x → Follows p (p ++ x.0) x.0 v w b t es
+  pair-follows x s = record {
+    canonical = h.canonical;
+    left = sym (strip_prefix-append p x.0);
+    first = first-is b x.0 (end-first e b x (pairs_of t) (pairs_of-first b t ends-in.first) s);
+    there = h.there;
+  }
+
   -- a child keeps some of its pairs
-  pub pop-below : (e : End) (q q' r p : List ℕ) (v taken : Option V) (w w' b : ℕ) (t t' : Trie V)
-      (es es' : List (ℕ × Trie V)) → IsCanonical (node p v w (as_children es))
-      → end_child e (node p v w (as_children es)) ≡ Some (b, t) → Some t ≡ child_at b es → q' ≡ q ++ p
+  pub pop-below : (q q' r : List ℕ) (taken : Option V) (w' : ℕ) (t' : Trie V) (es' : List (ℕ × Trie V)) → q' ≡ q ++ p
       → Pops e t q' r taken t' → w' ≡ w → es' ≡ replaced b t' es
       → Pops e (node p v w (as_children es)) q r taken (node p v w' (as_children es'))
-  pop-below e q q' r p v taken w w' b t t' es es' c h at s m ew ee =
-      let below = ends-below e b (node p v w (as_children es)) t c h in
-      let first = end-first e b m.pair (pairs_of t) (pairs_of-first b t below.first) m.here in
-      record {
-        pair = (p ++ m.pair.0, m.pair.1);
-        here = below.pair ∙ ap (option_map (λ x. (p ++ x.0, x.1))) m.here;
-        path = m.path ∙ ap (λ z. z ++ m.pair.0) s ∙ append_assoc q p m.pair.0;
-        value = m.value;
-        rest = removed-below p (p ++ m.pair.0) m.pair.0 v w w' b t t' es es' c
-            (sym (strip_prefix-append p m.pair.0)) (first-is b m.pair.0 first) at m.rest ew ee;
-      }
+  pop-below q q' r taken w' t' es' s m ew ee = record {
+    pair = (p ++ m.pair.0, m.pair.1);
+    here = pair-below m.pair m.here;
+    path = m.path ∙ ap (λ z. z ++ m.pair.0) s ∙ append_assoc q p m.pair.0;
+    value = m.value;
+    rest = removed-below (pair-follows m.pair m.here) w' t' es' m.rest ew ee;
+  }
 
   -- the child is a leaf
-  pub pop-leaf : (e : End) (q r p : List ℕ) (v : Option V) (w b : ℕ) (t : Trie V) (es : List (ℕ × Trie V))
-      → IsCanonical (node p v w (as_children es))
-      → end_child e (node p v w (as_children es)) ≡ Some (b, t) → Some t ≡ child_at b es
-      → children_in t ≡ no_children → r ≡ (q ++ p) ++ prefix_of t
+  pub pop-leaf : (q r : List ℕ) → children_in t ≡ no_children → r ≡ (q ++ p) ++ prefix_of t
       → Pops e (node p v w (as_children es)) q r (value_of t) (without_child b (node p v w (as_children es)))
-  pop-leaf e q r p v w b t es c h at l s =
-      let below = ends-below e b (node p v w (as_children es)) t c h in
-      let here = ends-here e t below.canonical (leaf-end e t l) in
-      record {
-        pair = (p ++ prefix_of t, here.value);
-        here = below.pair ∙ ap (option_map (λ x. (p ++ x.0, x.1))) here.pair;
-        path = s ∙ append_assoc q p (prefix_of t);
-        value = here.own;
-        rest = removed-leaf p (p ++ prefix_of t) (prefix_of t) v w b t es c (sym (strip_prefix-append p (prefix_of t)))
-            (first-is b (prefix_of t) below.first) at (leaf-gone (prefix_of t) t (leaf-here t l));
-      }
+  pop-leaf q r l s = let here = ends-here e t ends-in.canonical (leaf-end e t l) in record {
+    pair = (p ++ prefix_of t, here.value);
+    here = pair-below (prefix_of t, here.value) here.pair;
+    path = s ∙ append_assoc q p (prefix_of t);
+    value = here.own;
+    rest = removed-leaf (pair-follows (prefix_of t, here.value) here.pair) (leaf-gone (prefix_of t) t (leaf-here t l));
+  }
 
   -- where it requests memory
-  pub pop_asks-below : (e : End) (p : List ℕ) (v : Option V) (w b : ℕ) (t : Trie V) (es : List (ℕ × Trie V))
-      → IsCanonical (node p v w (as_children es))
-      → end_child e (node p v w (as_children es)) ≡ Some (b, t) → Some t ≡ child_at b es
-      → children_in t ≢ no_children → PopAsks e t → PopAsks e (node p v w (as_children es))
-  pop_asks-below e p v w b t es c h at i m =
-      let below = ends-below e b (node p v w (as_children es)) t c h in
-      let first = end-first e b m.pair (pairs_of t) (pairs_of-first b t below.first) m.here in
-      record {
-        pair = (p ++ m.pair.0, m.pair.1);
-        here = below.pair ∙ ap (option_map (λ x. (p ++ x.0, x.1))) m.here;
-        asks = asks_remove-below p (p ++ m.pair.0) m.pair.0 v w b t es c (sym (strip_prefix-append p m.pair.0))
-            (first-is b m.pair.0 first) at (inner-stays m.pair.0 t i) m.asks;
-      }
+  pub pop_allocates-below : children_in t ≢ no_children → PopAllocates e t → PopAllocates e (node p v w
+      (as_children es))
+  pop_allocates-below i m = record {
+    pair = (p ++ m.pair.0, m.pair.1);
+    here = pair-below m.pair m.here;
+    allocates = remove_allocation-below (pair-follows m.pair m.here) (inner-stays m.pair.0 t i) m.allocates;
+  }
 
-  pub pop_asks-leaf : (e : End) (p : List ℕ) (v : Option V) (w w' b : ℕ) (t : Trie V) (es es' : List (ℕ × Trie V))
-      → IsCanonical (node p v w (as_children es))
-      → end_child e (node p v w (as_children es)) ≡ Some (b, t) → Some t ≡ child_at b es
-      → children_in t ≡ no_children → w' ≡ w → es' ≡ es → 4 < w'
-      → length (edges_of (as_children es')) ≤ previous_width w' + 1 → PopAsks e (node p v w (as_children es))
-  pop_asks-leaf e p v w w' b t es es' c h at l ew ee wide few =
-      let below = ends-below e b (node p v w (as_children es)) t c h in
-      let here = ends-here e t below.canonical (leaf-end e t l) in
-      record {
-        pair = (p ++ prefix_of t, here.value);
-        here = below.pair ∙ ap (option_map (λ x. (p ++ x.0, x.1))) here.pair;
-        asks = asks_remove-leaf p (p ++ prefix_of t) (prefix_of t) v w w' b t es es' c
-            (sym (strip_prefix-append p (prefix_of t))) (first-is b (prefix_of t) below.first) at
-            (leaf-here t l) ew ee wide few;
-      }
+  pub pop_allocates-leaf : (w' : ℕ) (es' : List (ℕ × Trie V)) → children_in t ≡ no_children → w' ≡ w → es' ≡ es → 4 < w'
+      → length (edges_of (as_children es')) ≤ previous_capacity w' + 1 → PopAllocates e (node p v w (as_children es))
+  pop_allocates-leaf w' es' l ew ee wide few = let here = ends-here e t ends-in.canonical (leaf-end e t l) in record {
+    pair = (p ++ prefix_of t, here.value);
+    here = pair-below (prefix_of t, here.value) here.pair;
+    allocates = remove_allocation-leaf (pair-follows (prefix_of t, here.value) here.pair) w' es'
+        (leaf-here t l) ew ee wide few;
+  }
 
+module _ {V : Type 0} where
   -- The pairs: what is left of a list without its first or last pair.
   last-above : (k : List ℕ) (o x : List ℕ × V) (es : List (List ℕ × V)) → AreAbove k (o ∷ es)
       → last_or (Some o) es ≡ Some x → IsLess k x.0
@@ -165,12 +168,12 @@ module _ {V : Type 0} where
   without-first x [] a h = absurd (cc)
   without-first x (e ∷ es) a h = let s : e ≡ x = cc in
       let here : e ∷ es ≡ e ∷ without e.0 (e ∷ es)
-      = rw (bytes_eq-own e.0) (ap (λ l. e ∷ l) (sym (without-above e.0 es a.0))) in
+      = rw (bytes_eq-itself e.0) (ap (λ l. e ∷ l) (sym (without-above e.0 es a.0))) in
       subst (λ z. e ∷ es ≡ z ∷ without z.0 (e ∷ es)) s here
 
   without-last : (x o : List ℕ × V) (es : List (List ℕ × V)) → IsAscending (o ∷ es) → last_or (Some o) es ≡ Some x
       → o ∷ es ≡ without x.0 (o ∷ es) ++ x ∷ []
-  without-last x o [] a h = let s : o ≡ x = cc in rw (← s) (rw (bytes_eq-own o.0) refl)
+  without-last x o [] a h = let s : o ≡ x = cc in rw (← s) (rw (bytes_eq-itself o.0) refl)
   without-last x o (e ∷ es) a h = rw (below-not_eq o.0 x.0 (last-above o.0 e x es a.0 h))
       (ap (λ l. o ∷ l) (without-last x e es a.1 h))
 
@@ -194,41 +197,28 @@ module _ {V : Type 0} where
       → IsCanonical t'
   pops-canonical e t t' q r o c m = rw (← m.rest) at (canonical-removed m.pair.0 t c)
 
-  pub pops-some : (e : End) (t t' : Trie V) (q r : List ℕ) → Pops e t q r None t' → ⊥
-  pops-some e t t' q r m = let s = m.value in cc
-
   -- the pair at an end is stored
   stored-last : (x o : List ℕ × V) (es : List (List ℕ × V)) → IsAscending (o ∷ es) → last_or (Some o) es ≡ Some x
       → lookup x.0 (o ∷ es) ≡ Some x.1
   stored-last x o [] a h = let s : o ≡ x = cc in
-      subst (λ z. lookup z.0 (o ∷ []) ≡ Some z.1) s (rw (bytes_eq-own o.0) refl)
+      subst (λ z. lookup z.0 (o ∷ []) ≡ Some z.1) s (rw (bytes_eq-itself o.0) refl)
   stored-last x o (e ∷ es) a h = rw (below-not_eq o.0 x.0 (last-above o.0 e x es a.0 h)) (stored-last x e es a.1 h)
 
   end-stored : (e : End) (x : List ℕ × V) (es : List (List ℕ × V)) → IsAscending es → end_of e es ≡ Some x
       → lookup x.0 es ≡ Some x.1
   end-stored First x [] a h = absurd (cc)
   end-stored First x (o ∷ es) a h = let s : o ≡ x = cc in
-      subst (λ z. lookup z.0 (o ∷ es) ≡ Some z.1) s (rw (bytes_eq-own o.0) refl)
+      subst (λ z. lookup z.0 (o ∷ es) ≡ Some z.1) s (rw (bytes_eq-itself o.0) refl)
   end-stored Last x [] a h = absurd (cc)
   end-stored Last x (o ∷ es) a h = stored-last x o es a h
 
-  pub pops-asks : (e : End) (t : Trie V) → IsCanonical t → PopAsks e t
-      → IsSomeAnd (end_of e (pairs_of t)) (λ p. (remove_asks (keys_of (pairs_of t)) p.0 ≡ true)
+  pub pops-allocates : (e : End) (t : Trie V) → IsCanonical t → PopAllocates e t
+      → IsSomeAnd (end_of e (pairs_of t)) (λ p. (remove_allocates (keys_of (pairs_of t)) p.0 ≡ true)
       × (lookup p.0 (pairs_of t) ≢ None))
-  pops-asks e t c m = rw m.here (
-    sym (asks-remove m.pair.0 t c) ∙ m.asks,
+  pops-allocates e t c m = rw m.here (
+    sym (allocates-remove m.pair.0 t c) ∙ m.allocates,
     λ z. let s : Some m.pair.1 ≡ None = sym (end-stored e m.pair (pairs_of t) (pairs_of-ascend t c) m.here) ∙ z in cc,
   )
-
-  -- a leaf alone
-  pub pop-lone : (e : End) (t : Trie V) (v : V) → IsCanonical t → children_in t ≡ no_children → value_of t ≡ Some v
-      → PopsEnd e (pairs_of t) (Some (prefix_of t, v)) []
-  pop-lone First (node p (Some u) w no_children) v c l h = let s : u ≡ v = cc in
-      rw (append-nil p, s) refl
-  pop-lone Last (node p (Some u) w no_children) v c l h = let s : u ≡ v = cc in
-      rw (append-nil p, s) refl
-  pop-lone e (node p None w no_children) v c l h = absurd (cc)
-  pop-lone e (node p u w (child b t cs)) v c l h = absurd (cc)
 
   -- how much is left
   pub pops-count : {A : Type 0} (e : End) (f : A → List ℕ × V) (o : Option A) (old new : List (List ℕ × V))
@@ -246,39 +236,26 @@ module _ {V : Type 0} where
   pops-longest Last (Some x) old new h = omega (arith, ap longest_key h, longest_key-append new (x ∷ []))
 
   -- the keys below a child are keys of the node, after its prefix
-  prefix-first : (p : List ℕ) (v : Option V) (w : ℕ) (cs : Children V) → IsCanonical (node p v w cs)
-      → longest_key (pairs_of (node p v w cs)) ≡ length p + longest_key (own_pair v ++ children_pairs cs)
-  prefix-first p v w cs c = longest_key-after p (own_pair v ++ children_pairs cs)
-      (omega (arith, some-pairs (node p v w cs) c, length-with_prefix p (own_pair v ++ children_pairs cs)))
-
   pub prefix-within : (m : Option ℕ) (n : ℕ) (p : List ℕ) (v : Option V) (w : ℕ) (cs : Children V)
       → IsCanonical (node p v w cs)
       → IsWithin m (n + longest_key (pairs_of (node p v w cs))) → IsWithin m (n + length p)
   prefix-within m n p v w cs c h = fewer-within m (n + longest_key (pairs_of (node p v w cs))) (n + length p)
-      (omega (arith, prefix-first p v w cs c)) h
+      (omega (arith, prefix-before p v w cs c)) h
 
-  pub below-within : (m : Option ℕ) (n k b : ℕ) (p : List ℕ) (v : Option V) (w : ℕ) (t : Trie V)
+  pub below-within : (m : Option ℕ) (q r : List ℕ) (b : ℕ) (p : List ℕ) (v : Option V) (w : ℕ) (t : Trie V)
       (es : List (ℕ × Trie V)) → IsCanonical (node p v w (as_children es)) → Some t ≡ child_at b es
-      → k ≡ n + length p → IsWithin m (n + longest_key (pairs_of (node p v w (as_children es))))
-      → IsWithin m (k + longest_key (pairs_of t))
-  below-within m n k b p v w t es c at s h = fewer-within m (n + longest_key (pairs_of (node p v w (as_children es))))
-      (k + longest_key (pairs_of t)) (omega (
+      → r ≡ q ++ p → IsWithin m (length q + longest_key (pairs_of (node p v w (as_children es))))
+      → IsWithin m (length r + longest_key (pairs_of t))
+  below-within m q r b p v w t es c at s h
+      = fewer-within m (length q + longest_key (pairs_of (node p v w (as_children es))))
+      (length r + longest_key (pairs_of t)) (omega (
         arith,
-        prefix-first p v w (as_children es) c,
+        prefix-before p v w (as_children es) c,
         longest_key-append (own_pair v) (children_pairs (as_children es)),
         longest-of b t (as_children es) (child_of-entries b es ∙ sym at),
-        s,
+        ap length s,
+        length-append q p,
       )) h
-
-  -- the child that the end shows is the one that is stored at its byte
-  pub same-end : (e : End) (p : List ℕ) (v : Option V) (w b : ℕ) (t u : Trie V) (es : List (ℕ × Trie V))
-      → IsCanonical (node p v w (as_children es)) → Some (b, u) ≡ end_child e (node p v w (as_children es))
-      → Some t ≡ child_at b es → end_child e (node p v w (as_children es)) ≡ Some (b, t)
-  same-end e p v w b t u es c h at =
-      let below = ends-below e b (node p v w (as_children es)) u c (sym h) in
-      let found : Some u ≡ Some t = sym below.found ∙ child_of-entries b es ∙ sym at in
-      let same : u ≡ t = cc in
-      sym h ∙ ap (λ z. Some (b, z)) same
 
   pub end-there : (e : End) (p : List ℕ) (v : Option V) (w b : ℕ) (u : Trie V) (es : List (ℕ × Trie V))
       → IsCanonical (node p v w (as_children es)) → Some (b, u) ≡ end_child e (node p v w (as_children es))

@@ -8,19 +8,20 @@ use Rattle.rart_keys.specs.SortedMap.{keys_of}
 use Rattle.rart_nodes.specs.shapes.Shape.{NodeRecord, record_at, capacity_of}
 use Rattle.rart_nodes.specs.tries.Trie.{Trie, node, Children, child_of, pairs_of, edges_of, IsCanonical, AreCanonical}
 use Rattle.rart_nodes.specs.tries.Trie.{record_of, descend, descend_child}
-use Rattle.rart_nodes.specs.edits.RemoveAsks.{asks_remove, shrinks, moves_down, is_leaf_record, last_before}
-use Rattle.rart_nodes.specs.edits.RemoveAsks.{remove_asks, trie_asks_remove}
+use Rattle.rart_nodes.specs.edits.RemoveAllocations.{remove_allocation, shrinks, moves_down, is_leaf_record}
+use Rattle.rart_nodes.specs.edits.RemoveAllocations.{last_before}
+use Rattle.rart_nodes.specs.edits.RemoveAllocations.{remove_allocates, trie_remove_allocates}
 use Rattle.rart_nodes.proofs.tries.Descents.{Keeps, descends, descend-child_of}
 use Rattle.rart_nodes.proofs.shapes.RecordsAlong.{AreReadings, none-first, reads-apart, reads-after, records_in}
 use Rattle.rart_nodes.proofs.shapes.ShapeLemmas.{records, records-at}
 
-same_before : (f g : List ℕ → Option NodeRecord) (l : Option NodeRecord) (q : List ℕ) → ((p : List ℕ) → f p ≡ g p)
+pub same_before : (f g : List ℕ → Option NodeRecord) (l : Option NodeRecord) (q : List ℕ) → ((p : List ℕ) → f p ≡ g p)
     → last_before f l q ≡ last_before g l q
 same_before f g l [] h = refl
 same_before f g l (b ∷ q) h = rw (h []) (same_before (λ p. f (b ∷ p)) (λ p. g (b ∷ p)) (if is_some (g []) then g []
     else l) q (λ p. h (b ∷ p)))
 
-moves_is : (m n : ℕ) → n ≡ capacity_of m → (nat_le 2 m && not (capacity_of (m - 1) == n))
+pub moves_is : (m n : ℕ) → n ≡ capacity_of m → (nat_le 2 m && not (capacity_of (m - 1) == n))
     ≡ (m == 5 || m == 17 || m == 49)
 moves_is m n e = grind (arith, nat_tests)
 
@@ -49,7 +50,7 @@ module _ {V : Type 0} where
       (sym (h l e ∙ ap (λ o. is_leaf_record (f (b ∷ r)) && shrinks
       (last_before (λ z. f (b ∷ z)) (if is_some o then o else l) r)) (none-first b cs w)))
 
-  removes-kept : Keeps {V = V} asks_remove RemovesBy
+  removes-kept : Keeps {V = V} remove_allocation RemovesBy
   removes-kept = record {
     absent = λ q l e. refl;
     left = λ q p v n cs w s l e. sym (reads-apart (λ f q a. removes_by f l q ≡ a) (removes_read l) p q v n cs false s
@@ -62,9 +63,9 @@ module _ {V : Type 0} where
         (removes-below b r (Some (record_of (node p v n cs))) cs a (moves_is (length (edges_of cs)) n w.1) w.2 h));
   }
 
-  pub asks-remove : (q : List ℕ) (t : Trie V) → IsCanonical t
-      → trie_asks_remove None q t ≡ remove_asks (keys_of (pairs_of t)) q
-  asks-remove q t w = descends asks_remove RemovesBy removes-kept q (Some t) w None refl
+  pub allocates-remove : (q : List ℕ) (t : Trie V) → IsCanonical t
+      → trie_remove_allocates None q t ≡ remove_allocates (keys_of (pairs_of t)) q
+  allocates-remove q t w = descends remove_allocation RemovesBy removes-kept q (Some t) w None refl
       ∙ ap (λ o. is_leaf_record o && shrinks (last_before (λ z. descend records z t) None q)) (records-at q t w)
       ∙ ap (λ z. is_leaf_record (record_at (keys_of (pairs_of t)) q) && shrinks z)
       (same_before (λ p. descend records p t) (record_at (keys_of (pairs_of t))) None q (λ p. records-at p t w))

@@ -45,18 +45,18 @@ module _ {V : Type 0} where
   trie_lookup-collapsed p q None n low (child b t (child c u cs)) w = refl
   trie_lookup-collapsed p q (Some v) n low cs w = refl
 
-  canonical-collapsed : (p : List ℕ) (v : Option V) (cs : Children V) → AreCanonical 0 cs
+  pub canonical-collapsed : (p : List ℕ) (v : Option V) (cs : Children V) → AreCanonical 0 cs
       → IsCanonicalTree (collapsed_node p v cs)
   canonical-collapsed p None no_children w = tt
   canonical-collapsed p None (child b (node r u m ds) no_children) w = w.2
   canonical-collapsed p None (child b t (child c u cs)) w = (inr tt, refl, w)
   canonical-collapsed p (Some v) cs w = (inl refl, refl, w)
 
-  abbrev IsFirstIn : ℕ → Option (Trie V) → Type 0
+  abbrev pub IsFirstIn : ℕ → Option (Trie V) → Type 0
   IsFirstIn c None = Unit {0}
   IsFirstIn c (Some t) = StartsWith c (prefix_of t)
 
-  first-collapsed : (c : ℕ) (p : List ℕ) (v : Option V) (cs : Children V) → StartsWith c p
+  pub first-collapsed : (c : ℕ) (p : List ℕ) (v : Option V) (cs : Children V) → StartsWith c p
       → IsFirstIn c (collapsed_node p v cs)
   first-collapsed c p None no_children f = tt
   first-collapsed c p None (child b (node r u m ds) no_children) f = first-append c p r f
@@ -71,8 +71,8 @@ module _ {V : Type 0} where
             [ [] ↦ first-collapsed c p None cs f | b ∷ r ↦ first-collapsed c p v (remove_child b (b ∷ r) cs) f ]
       ]
 
-  canonical-child_if : (low c : ℕ) (o : Option (Trie V)) (cs : Children V) → low ≤ c → IsFirstIn c o → IsCanonicalTree o
-      → AreCanonical (suc c) cs → AreCanonical low (child_if c o cs)
+  pub canonical-child_if : (low c : ℕ) (o : Option (Trie V)) (cs : Children V) → low ≤ c → IsFirstIn c o
+      → IsCanonicalTree o → AreCanonical (suc c) cs → AreCanonical low (child_if c o cs)
   canonical-child_if low c None cs l f z w = canonical-lower low (suc c) cs (omega arith) w
   canonical-child_if low c (Some t) cs l f z w = (l, f, z, w)
 

@@ -8,24 +8,23 @@ use Rattle.rart_keys.proofs.ByteOrder.{is_equal, is_greater, eq-yes, eq-no}
 use Rattle.rart_parts.specs.Entries.{child_at, replaced}
 use Rattle.rart_parts.specs.Entries as entries
 use Rattle.rart_nodes.specs.edits.Deletion.{is_lone, joined_child, joined_if_lone, remaining_node, without_child}
-use Rattle.rart_nodes.specs.edits.Deletion.{is_end}
-use Rattle.rart_nodes.specs.edits.Deletion.{is_leaf_at}
+use Rattle.rart_nodes.specs.edits.Deletion.{is_end, is_leaf_at}
 use Rattle.rart_nodes.specs.shapes.Shape.{capacity_of}
 use Rattle.rart_nodes.specs.tries.Trie.{Trie, node, Children, child, edges_of, IsCanonical, AreCanonical}
-use Rattle.rart_nodes.specs.tries.Trie.{collapsed_node}
-use Rattle.rart_nodes.specs.tries.Trie.{removed_after, child_if, trie_remove, remove_child}
+use Rattle.rart_nodes.specs.tries.Trie.{collapsed_node, removed_after, child_if, trie_remove, remove_child}
 use Rattle.rart_nodes.specs.tries.TrieCode.{as_children}
-use Rattle.rart_nodes.specs.storages.Widths.{narrowed_width}
+use Rattle.rart_nodes.specs.storages.Capacities.{narrowed_capacity}
 use Rattle.rart_nodes.proofs.storages.ChildLemmas.{edges_of-length, replaced-length, found, at_first, after_first}
 use Rattle.rart_nodes.proofs.storages.DeletionLemmas.{length-without_byte}
 use Rattle.rart_nodes.proofs.edits.JoinLemmas.{without-some}
+use Rattle.rart_nodes.proofs.tries.RestLemmas.{Follows}
 
--- one child fewer keeps the width that the number of children fixes
-narrowed-capacity : (n : ℕ) → narrowed_width n (capacity_of (n + 1)) ≡ capacity_of n
+-- one child fewer keeps the capacity that the number of children fixes
+narrowed-capacity : (n : ℕ) → narrowed_capacity n (capacity_of (n + 1)) ≡ capacity_of n
 narrowed-capacity n = grind (arith, nat_tests)
 
 module _ {V : Type 0} where
-  -- what a removal does at a node, where the key ends or goes on
+  -- what a removal does at a node, where the key ends or continues
   removed-ended : (r p : List ℕ) (v : Option V) (cs : Children V) (f : ℕ → List ℕ → Children V) → None ≡ slice_get r 0
       → removed_after (Some r) p v cs f ≡ collapsed_node p None cs
   removed-ended [] p v cs f h = refl
@@ -86,7 +85,7 @@ module _ {V : Type 0} where
         (ap (child e.0 e.1) (remove_child-gone b (suc e.0) k t es w.3 q r))
   ]
 
-  collapsed-same : (p : List ℕ) (v : Option V) (w : ℕ) (es fs : List (ℕ × Trie V))
+  pub collapsed-same : (p : List ℕ) (v : Option V) (w : ℕ) (es fs : List (ℕ × Trie V))
       → IsCanonical (node p v w (as_children es)) → length fs ≡ length es → Some (node p v w (as_children fs))
       ≡ collapsed_node p v (as_children fs)
   collapsed-same p (Some v) w es fs c l = ap (λ z. Some (node p (Some v) z (as_children fs))) (c.1
@@ -99,21 +98,11 @@ module _ {V : Type 0} where
       = ap (λ z. Some (node p None z (as_children (g ∷ h ∷ fs)))) (c.1
       ∙ ap capacity_of (edges_of-length (e ∷ f ∷ es) ∙ sym l ∙ sym (edges_of-length (g ∷ h ∷ fs))))
 
-  pub removed-below : (p k rest : List ℕ) (v : Option V) (w w' b : ℕ) (t t' : Trie V) (es es' : List (ℕ × Trie V))
-      → IsCanonical (node p v w (as_children es)) → Some rest ≡ strip_prefix p k → Some b ≡ slice_get rest 0
-      → Some t ≡ child_at b es → Some t' ≡ trie_remove rest t → w' ≡ w → es' ≡ replaced b t' es
-      → Some (node p v w' (as_children es')) ≡ trie_remove k (node p v w (as_children es))
-  removed-below p k rest v w w' b t t' es es' c e h at r ew ee =
-      ap (λ z. Some (node p v z (as_children es'))) ew
-      ∙ collapsed-same p v w es es' c (ap length ee ∙ replaced-length b t' es)
-      ∙ ap (collapsed_node p v) (ap as_children ee ∙ sym (remove_child-kept b 0 rest t t' es c.2 at r))
-      ∙ sym (trie_remove-followed p k rest b v w (as_children es) e h)
-
   -- removal of a leaf
-  width-less : (p : List ℕ) (v : Option V) (w : ℕ) (es fs : List (ℕ × Trie V))
+  capacity-less : (p : List ℕ) (v : Option V) (w : ℕ) (es fs : List (ℕ × Trie V))
       → IsCanonical (node p v w (as_children es)) → length fs + 1 ≡ length es
-      → narrowed_width (length (edges_of (as_children fs))) w ≡ capacity_of (length (edges_of (as_children fs)))
-  width-less p v w es fs c l = ap (narrowed_width (length (edges_of (as_children fs)))) (c.1
+      → narrowed_capacity (length (edges_of (as_children fs))) w ≡ capacity_of (length (edges_of (as_children fs)))
+  capacity-less p v w es fs c l = ap (narrowed_capacity (length (edges_of (as_children fs)))) (c.1
       ∙ ap capacity_of (edges_of-length es ∙ sym l ∙ ap (λ n. n + 1) (sym (edges_of-length fs))))
       ∙ narrowed-capacity (length (edges_of (as_children fs)))
 
@@ -129,12 +118,12 @@ module _ {V : Type 0} where
   many_stay true p g h fs m = refl
   many_stay false p g h fs m = refl
 
-  collapsed-less : (p : List ℕ) (v : Option V) (w : ℕ) (es fs : List (ℕ × Trie V))
+  pub collapsed-less : (p : List ℕ) (v : Option V) (w : ℕ) (es fs : List (ℕ × Trie V))
       → IsCanonical (node p v w (as_children es)) → length fs + 1 ≡ length es
       → Some (remaining_node p v w (as_children fs)) ≡ collapsed_node p v (as_children fs)
   collapsed-less p (Some v) w es fs c l = ap Some
-      (no_join (w == 4) p v fs (narrowed_width (length (edges_of (as_children fs))) w))
-      ∙ ap (λ z. Some (node p (Some v) z (as_children fs))) (width-less p (Some v) w es fs c l)
+      (no_join (w == 4) p v fs (narrowed_capacity (length (edges_of (as_children fs))) w))
+      ∙ ap (λ z. Some (node p (Some v) z (as_children fs))) (capacity-less p (Some v) w es fs c l)
   collapsed-less p None w [] fs c l = absurd (omega (arith, l))
   collapsed-less p None w (e ∷ []) fs c l = absurd (⊎_elim (λ h. cc) (λ h. h) c.0)
   collapsed-less p None w (e ∷ f ∷ es) [] c l = absurd (omega (arith, l))
@@ -142,21 +131,29 @@ module _ {V : Type 0} where
       let four : w ≡ 4 = c.1 ∙ ap capacity_of (edges_of-length (e ∷ f ∷ es) ∙ sym l) in
       rw four refl
   collapsed-less p None w (e ∷ f ∷ es) (g ∷ h ∷ fs) c l
-      = ap Some (many_stay (w == 4) p g h fs (narrowed_width (length (edges_of (as_children (g ∷ h ∷ fs)))) w))
-      ∙ ap (λ z. Some (node p None z (as_children (g ∷ h ∷ fs)))) (width-less p None w (e ∷ f ∷ es) (g ∷ h ∷ fs) c l)
-
-  pub removed-leaf : (p k rest : List ℕ) (v : Option V) (w b : ℕ) (t : Trie V) (es : List (ℕ × Trie V))
-      → IsCanonical (node p v w (as_children es)) → Some rest ≡ strip_prefix p k → Some b ≡ slice_get rest 0
-      → Some t ≡ child_at b es → None ≡ trie_remove rest t
-      → Some (without_child b (node p v w (as_children es))) ≡ trie_remove k (node p v w (as_children es))
-  removed-leaf p k rest v w b t es c e h at r =
-      let there : child_at b es ≢ None = λ z. let h : Some t ≡ None = at ∙ z in absurd (cc) in
-      ap Some (without-some p v w b es there)
-      ∙ collapsed-less p v w es (entries.without_byte b es) c (length-without_byte b es there)
-      ∙ ap (collapsed_node p v) (sym (remove_child-gone b 0 rest t es c.2 at r))
-      ∙ sym (trie_remove-followed p k rest b v w (as_children es) e h)
+      = ap Some (many_stay (w == 4) p g h fs (narrowed_capacity (length (edges_of (as_children (g ∷ h ∷ fs)))) w))
+      ∙ ap (λ z. Some (node p None z (as_children (g ∷ h ∷ fs)))) (capacity-less p None w (e ∷ f ∷ es) (g ∷ h ∷ fs) c l)
 
   -- a node with other storage of the same content
   pub same-node : (p : List ℕ) (v : Option V) (w w' : ℕ) (es es' : List (ℕ × Trie V)) → w' ≡ w → es' ≡ es
       → node p v w' (as_children es') ≡ node p v w (as_children es)
   same-node p v w w' es es' ew ee = ap (λ z. node p v z (as_children es')) ew ∙ ap (λ l. node p v w (as_children l)) ee
+
+module _ {V : Type 0} {p k r : List ℕ} {v : Option V} {w b : ℕ} {t : Trie V} {es : List (ℕ × Trie V)}
+    (f : Follows p k r v w b t es) where
+  pub removed-below : (w' : ℕ) (t' : Trie V) (es' : List (ℕ × Trie V)) → Some t' ≡ trie_remove r t → w' ≡ w
+      → es' ≡ replaced b t' es → Some (node p v w' (as_children es')) ≡ trie_remove k (node p v w (as_children es))
+  removed-below w' t' es' h ew ee =
+      ap (λ z. Some (node p v z (as_children es'))) ew
+      ∙ collapsed-same p v w es es' f.canonical (ap length ee ∙ replaced-length b t' es)
+      ∙ ap (collapsed_node p v) (ap as_children ee ∙ sym (remove_child-kept b 0 r t t' es f.canonical.2 f.there h))
+      ∙ sym (trie_remove-followed p k r b v w (as_children es) f.left f.first)
+
+  pub removed-leaf : None ≡ trie_remove r t
+      → Some (without_child b (node p v w (as_children es))) ≡ trie_remove k (node p v w (as_children es))
+  removed-leaf h =
+      let there : child_at b es ≢ None = λ z. let h : Some t ≡ None = f.there ∙ z in absurd (cc) in
+      ap Some (without-some p v w b es there)
+      ∙ collapsed-less p v w es (entries.without_byte b es) f.canonical (length-without_byte b es there)
+      ∙ ap (collapsed_node p v) (sym (remove_child-gone b 0 r t es f.canonical.2 f.there h))
+      ∙ sym (trie_remove-followed p k r b v w (as_children es) f.left f.first)

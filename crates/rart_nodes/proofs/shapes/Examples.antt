@@ -1,10 +1,10 @@
 -- Rows of the definitions, by computation.
 use Rattle.std.proofs.Common.{◌≡◌, ℕ, zero, suc, List, [], ◌∷◌, ◌++◌, refl, Option, Some, None, Bool, true, false}
 use Rattle.rart_nodes.specs.edits.EditRuns.{Edit, puts, removes, run_tree}
-use Rattle.rart_nodes.specs.edits.InsertAsks.{insert_asks}
+use Rattle.rart_nodes.specs.edits.InsertAllocations.{insert_allocates}
 use Rattle.rart_nodes.specs.walks.Cut.{cut}
 use Rattle.rart_nodes.specs.walks.ProbeCount.{probe_count}
-use Rattle.rart_nodes.specs.edits.RemoveAsks.{remove_asks}
+use Rattle.rart_nodes.specs.edits.RemoveAllocations.{remove_allocates}
 use Rattle.rart_nodes.specs.joins.SharedEdges.{joint_visits, shared_edges}
 use Rattle.rart_nodes.specs.shapes.SampleKeys.{nested_keys, left_keys, right_keys}
 use Rattle.rart_nodes.specs.shapes.Shape.{NodeRecord, capacity_of, record_at}
@@ -71,27 +71,29 @@ roots = refl
 one_key : record_at ((1 ∷ 2 ∷ []) ∷ []) (1 ∷ []) ≡ None
 one_key = refl
 
--- an insertion asks at 4, 16 and 48 children, and not between; at a node that stands, and in an empty tree, never
-asks : (insert_asks (one_byte_keys 3) (9 ∷ []) ∷ insert_asks (one_byte_keys 4) (9 ∷ []) ∷ insert_asks (one_byte_keys 5)
-    (9 ∷ []) ∷ insert_asks (one_byte_keys 16) (99 ∷ [])
-    ∷ insert_asks (one_byte_keys 17) (99 ∷ []) ∷ insert_asks (one_byte_keys 48) (99 ∷ [])
-    ∷ insert_asks (one_byte_keys 49) (99 ∷ []) ∷ []) ≡ false ∷ true ∷ false ∷ true ∷ false ∷ true ∷ false ∷ []
-asks = refl
+-- an insertion allocates at 4, 16 and 48 children, and not between; at a node that stands, and in an empty tree, never
+allocates : (insert_allocates (one_byte_keys 3) (9 ∷ []) ∷ insert_allocates (one_byte_keys 4)
+    (9 ∷ []) ∷ insert_allocates (one_byte_keys 5)
+    (9 ∷ []) ∷ insert_allocates (one_byte_keys 16) (99 ∷ [])
+    ∷ insert_allocates (one_byte_keys 17) (99 ∷ []) ∷ insert_allocates (one_byte_keys 48) (99 ∷ [])
+    ∷ insert_allocates (one_byte_keys 49) (99 ∷ []) ∷ []) ≡ false ∷ true ∷ false ∷ true ∷ false ∷ true ∷ false ∷ []
+allocates = refl
 
-asks_not : (insert_asks [] (1 ∷ []) ∷ insert_asks (one_byte_keys 4) [] ∷ insert_asks (one_byte_keys 4) (3 ∷ []) ∷ [])
+allocates_not : (insert_allocates [] (1 ∷ []) ∷ insert_allocates (one_byte_keys 4) [] ∷ insert_allocates
+    (one_byte_keys 4) (3 ∷ []) ∷ [])
     ≡ false ∷ false ∷ false ∷ []
-asks_not = refl
+allocates_not = refl
 
-asks_split : (insert_asks ((1 ∷ 2 ∷ []) ∷ []) (1 ∷ 3 ∷ []) ∷ insert_asks ((1 ∷ 2 ∷ []) ∷ []) (1 ∷ [])
-    ∷ insert_asks ((1 ∷ []) ∷ []) (1 ∷ 2 ∷ []) ∷ []) ≡ true ∷ true ∷ true ∷ []
-asks_split = refl
+split_allocates : (insert_allocates ((1 ∷ 2 ∷ []) ∷ []) (1 ∷ 3 ∷ []) ∷ insert_allocates ((1 ∷ 2 ∷ []) ∷ []) (1 ∷ [])
+    ∷ insert_allocates ((1 ∷ []) ∷ []) (1 ∷ 2 ∷ []) ∷ []) ≡ true ∷ true ∷ true ∷ []
+split_allocates = refl
 
--- a removal asks from 5, 17 and 49 children
-removal_asks : (remove_asks (one_byte_keys 4) (3 ∷ []) ∷ remove_asks (one_byte_keys 5) (3 ∷ [])
-    ∷ remove_asks (one_byte_keys 6) (3 ∷ []) ∷ remove_asks (one_byte_keys 17) (3 ∷ [])
-    ∷ remove_asks (one_byte_keys 49) (3 ∷ []) ∷ remove_asks (one_byte_keys 5) (9 ∷ []) ∷ [])
+-- a removal allocates from 5, 17 and 49 children
+removal_allocates : (remove_allocates (one_byte_keys 4) (3 ∷ []) ∷ remove_allocates (one_byte_keys 5) (3 ∷ [])
+    ∷ remove_allocates (one_byte_keys 6) (3 ∷ []) ∷ remove_allocates (one_byte_keys 17) (3 ∷ [])
+    ∷ remove_allocates (one_byte_keys 49) (3 ∷ []) ∷ remove_allocates (one_byte_keys 5) (9 ∷ []) ∷ [])
     ≡ false ∷ true ∷ false ∷ true ∷ true ∷ false ∷ []
-removal_asks = refl
+removal_allocates = refl
 
 -- the visits of a look-up
 pub visits-deepest : probe_count nested_keys (97 ∷ 98 ∷ 99 ∷ []) ≡ 4

@@ -50,7 +50,7 @@ module _ {V : Type 0} where
         (laws.same _ _ q a (λ z. sym (records-longer x b z p v n cs
         ∙ ap (λ y. if y then records_in (Some (node p v n cs)) z else None) (eq-yes x b e))) h)
 
-    -- the string goes on after the prefix
+    -- the string continues after the prefix
     pub reads-after : (p q r : List ℕ) (v : Option V) (n : ℕ) (cs : Children V) (a : A) → strip_prefix p q ≡ Some r
         → Says (records_in (Some (node [] v n cs))) r a → Says (records_in (Some (node p v n cs))) q a
     reads-after [] q r v n cs a s h = let e : q ≡ r = cc in rw e h

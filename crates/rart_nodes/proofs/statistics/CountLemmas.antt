@@ -4,6 +4,7 @@ use Rattle.std.proofs.Common.{sym, ap, ◌∙◌, arith, Option, is_some}
 use Rattle.std.specs.Ordering.{nat_cmp, ord_max}
 use Rattle.std.specs.Prelude.{max}
 use Rattle.std.proofs.lemmas.Bool.Decides.{nat_tests}
+use Rattle.std.proofs.Math.Nat.{add_assoc}
 use Rattle.rart_nodes.specs.declared.stats.counts.Counts.{Counts}
 use Rattle.rart_nodes.specs.statistics.CountedNodes.{width_count_of, counts_of_node, counts_by, counts_added, counts_in}
 use Rattle.rart_nodes.specs.statistics.CountedNodes.{counts_in_children, counts_sum}
@@ -17,11 +18,8 @@ pub max-numbers : (a b : ℕ) → ord_max nat_cmp a b ≡ max a b
 max-numbers a b = ⊎_elim (λ h. rw (is_less b a h) (omega arith))
     (⊎_elim (λ h. rw (is_equal b a h) (omega arith)) (λ h. rw (is_greater b a h) (omega arith))) (order b a)
 
-add-assoc : (a b c : ℕ) → (a + b) + c ≡ a + (b + c)
-add-assoc a b c = omega arith
-
 added-assoc : (a b c : Counts) → counts_added (counts_added a b) c ≡ counts_added a (counts_added b c)
-added-assoc a b c = simp add-assoc refl
+added-assoc a b c = simp add_assoc refl
 
 add-none : (a : ℕ) → a ≡ a + 0
 add-none a = omega arith
@@ -69,22 +67,24 @@ module _ {V : Type 0} where
     pub fewer : child_count (as_children es) < node_count t
     pub tall : 1 + max below (children_height (as_children es)) ≡ trie_height t
 
-  pub count-start : (before counts : Counts) (p : List ℕ) (v : Option V) (n k : ℕ) (es stored : List (ℕ × Trie V))
-      → as_children es ≡ as_children stored → k ≡ length stored →
+  pub count-start : (before counts : Counts) (p : List ℕ) (v : Option V) (n k : ℕ) (es child_entries : List (ℕ
+      × Trie V))
+      → as_children es ≡ as_children child_entries → k ≡ length child_entries →
       counts ≡ counts_added before (counts_of_node (is_some v) n k) →
-      Counting before counts 0 (node p v n (as_children stored)) es
-  count-start before counts p v n k es stored s l e =
-      let own : counts_of_node (is_some v) n k ≡ counts_of_node (is_some v) n (length (edges_of (as_children stored)))
-      = ap (counts_of_node (is_some v) n) (l ∙ sym (edges_of-length stored)) in
+      Counting before counts 0 (node p v n (as_children child_entries)) es
+  count-start before counts p v n k es child_entries s l e =
+      let own : counts_of_node (is_some v) n k ≡ counts_of_node (is_some v) n (length (edges_of
+      (as_children child_entries)))
+      = ap (counts_of_node (is_some v) n) (l ∙ sym (edges_of-length child_entries)) in
       record {
         counted = rw (e, s) (added-assoc before (counts_of_node (is_some v) n k)
-            (counts_in_children (as_children stored))
-            ∙ ap (λ o. counts_added before (counts_added o (counts_in_children (as_children stored)))) own);
+            (counts_in_children (as_children child_entries))
+            ∙ ap (λ o. counts_added before (counts_added o (counts_in_children (as_children child_entries)))) own);
         fits = rw s (omega (
           arith,
           l,
           sym (edges_of-length es) ∙ ap (λ cs. length (edges_of cs)) s
-              ∙ edges_of-length stored,
+              ∙ edges_of-length child_entries,
           ap counts_sum e,
           sum-added before (counts_of_node (is_some v) n k),
           few-own

@@ -1,8 +1,7 @@
 -- Statistics of a canonical trie are those of its keys by their shape.
 use Rattle.std.proofs.Common.{◌≡◌, ℕ, ◌+◌, ◌<◌, ◌≤◌, ⊎_elim, suc, List, [], ◌∷◌, ◌++◌, length, refl, sym, ap, ◌∙◌}
-use Rattle.std.proofs.Common.{arith, Option, Some, None, is_some}
+use Rattle.std.proofs.Common.{arith, Option, Some, None, is_some, length-append}
 use Rattle.std.specs.Prelude.{max}
-use Rattle.std.proofs.Common.{length-append}
 use Rattle.rart_keys.specs.SortedMap.{keys_of}
 use Rattle.rart_nodes.specs.shapes.Shape.{NodeRecord, record_at}
 use Rattle.rart_nodes.specs.tries.PrefixLaws.{prefix-none}

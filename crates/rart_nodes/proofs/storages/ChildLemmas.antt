@@ -6,7 +6,7 @@ use Rattle.rart_keys.proofs.ByteOrder.{order, is_less, is_equal, is_greater, eq-
 use Rattle.rart_parts.specs.Entries.{child_at, with_entry, replaced}
 use Rattle.rart_parts.proofs.EntryLemmas.{length-with_entry}
 use Rattle.rart_nodes.specs.tries.Trie.{Trie, child, edges_of, IsCanonical, AreCanonical, trie_put, put_child, leaf}
-use Rattle.rart_nodes.specs.tries.Trie.{aligned}
+use Rattle.rart_nodes.specs.tries.Trie.{two_children}
 use Rattle.rart_nodes.specs.tries.TrieCode.{as_children, node_count, child_count}
 
 pub lt-yes : (b c : ℕ) → b < c → ltb b c ≡ true
@@ -101,8 +101,9 @@ module _ {V : Type 0} where
       ) (ap (child e.0 e.1) (put_child-none b k v es t.1)))) (order b e.0)
 
   -- a fork is two insertions
-  pub aligned-is : (b c : ℕ) (s t : Trie V) → (b ≡ c → ⊥) → as_children (with_entry c t ((b, s) ∷ [])) ≡ aligned b s c t
-  aligned-is b c s t n = ⊎_elim
+  pub two_children-is : (b c : ℕ) (s t : Trie V) → (b ≡ c → ⊥)
+      → as_children (with_entry c t ((b, s) ∷ [])) ≡ two_children b s c t
+  two_children-is b c s t n = ⊎_elim
       (λ h. rw (is_less b c h, lt-no c b (omega arith), eq-no b c n) refl)
       (⊎_elim (λ h. absurd (n h)) (λ h. rw (is_greater b c h, lt-yes c b h) refl)) (order b c)
 

@@ -1,9 +1,9 @@
--- What is left of a storage's entries, and of its width, without the child at a byte.
+-- What is left of a storage's entries, and of its capacity, without the child at a byte.
 use Rattle.std.proofs.Common.{◌≡◌, ◌≢◌, ◌⊎◌, ℕ, ◌+◌, ◌<◌, ◌≤◌, true, false, cond, eqb, List, [], ◌∷◌, length, Some}
 use Rattle.std.proofs.Common.{None, is_some, refl, arith, ⊎_elim, if◌then◌else◌}
 use Rattle.std.proofs.lemmas.Bool.Decides.{nat_tests}
 use Rattle.rart_parts.specs.Entries.{child_at, without_byte}
-use Rattle.rart_nodes.specs.storages.Widths.{narrowed_width, previous_width}
+use Rattle.rart_nodes.specs.storages.Capacities.{narrowed_capacity, previous_capacity}
 
 module _ {N : Type 0} where
   pub length-without_byte : (b : ℕ) (es : List (ℕ × N)) → child_at b es ≢ None
@@ -26,21 +26,21 @@ module _ {N : Type 0} where
   pub none-left : (b : ℕ) (es : List (ℕ × N)) → child_at b es ≢ None → length es ≤ 1 → without_byte b es ≡ []
   none-left b es h l = no-entry (without_byte b es) (few-left b 0 es h l)
 
-  -- the width where the kind is kept
-  pub width-kept : (b w : ℕ) (es : List (ℕ × N)) → (child_at b es ≡ None) ⊎ (previous_width w + 1 < length es)
-      → w ≡ (if is_some (child_at b es) then narrowed_width (length (without_byte b es)) w else w)
-  width-kept b w es k = elim (child_at b es) as (λ o. child_at b es ≡ o
-      → w ≡ (if is_some o then narrowed_width (length (without_byte b es)) w else w)) [
+  -- the capacity where the kind is kept
+  pub capacity-kept : (b w : ℕ) (es : List (ℕ × N)) → (child_at b es ≡ None) ⊎ (previous_capacity w + 1 < length es)
+      → w ≡ (if is_some (child_at b es) then narrowed_capacity (length (without_byte b es)) w else w)
+  capacity-kept b w es k = elim (child_at b es) as (λ o. child_at b es ≡ o
+      → w ≡ (if is_some o then narrowed_capacity (length (without_byte b es)) w else w)) [
         | None ↦ λ e. refl
         | Some n ↦ λ e. ⊎_elim (λ z. absurd (cc (z, e))) (λ z. let l = length-without_byte b es (λ q. cc (q, e)) in
             grind (arith, nat_tests)) k
       ] refl
 
-  -- the width where it is given up
-  pub width-given : (b w : ℕ) (es : List (ℕ × N)) → child_at b es ≢ None → length es ≤ previous_width w + 1
-      → previous_width w ≡ (if is_some (child_at b es) then narrowed_width (length (without_byte b es)) w else w)
-  width-given b w es h l = elim (child_at b es) as (λ o. o ≢ None
-      → previous_width w ≡ (if is_some o then narrowed_width (length (without_byte b es)) w else w)) [
+  -- the capacity where it is given up
+  pub capacity-given : (b w : ℕ) (es : List (ℕ × N)) → child_at b es ≢ None → length es ≤ previous_capacity w + 1
+      → previous_capacity w ≡ (if is_some (child_at b es) then narrowed_capacity (length (without_byte b es)) w else w)
+  capacity-given b w es h l = elim (child_at b es) as (λ o. o ≢ None
+      → previous_capacity w ≡ (if is_some o then narrowed_capacity (length (without_byte b es)) w else w)) [
         | None ↦ λ n. absurd (n refl)
-        | Some n ↦ λ _. let f = few-left b (previous_width w) es h l in grind (arith, nat_tests)
+        | Some n ↦ λ _. let f = few-left b (previous_capacity w) es h l in grind (arith, nat_tests)
       ] h

@@ -1,14 +1,14 @@
 -- The first and the last of entries that ascend by byte.
-use Rattle.std.proofs.Common.{◌≡◌, ℕ, ◌<◌, ◌≤◌, ⊎_elim, List, [], ◌∷◌, Option, Some, None, refl, sym, ap, ◌∙◌, arith}
-use Rattle.std.proofs.Common.{true, false, is_some}
+use Rattle.std.proofs.Common.{◌≡◌, ℕ, ◌<◌, ⊎_elim, List, [], ◌∷◌, Option, Some, None, refl, sym, ap, ◌∙◌, arith}
+use Rattle.std.proofs.Common.{false, is_some}
 use Rattle.std.specs.Prelude.{slice_get}
 use Rattle.rart_keys.specs.Filters.{last_or}
-use Rattle.rart_keys.proofs.ByteOrder.{eq-yes, equal_or_not}
+use Rattle.rart_keys.proofs.ByteOrder.{equal_or_not}
 use Rattle.rart_parts.specs.Entries.{BytesAscend, child_at}
 use Rattle.rart_parts.proofs.EntryLemmas.{at_same, at_other, first_absent}
 use Rattle.rart_nodes.specs.declared.node.ends.End.TheVariants.{First}
 use Rattle.rart_nodes.specs.tries.Ends.{end_child, first_child, last_child}
-use Rattle.rart_nodes.specs.tries.Trie.{Trie, node, Children}
+use Rattle.rart_nodes.specs.tries.Trie.{Trie, node}
 use Rattle.rart_nodes.specs.tries.TrieCode.{as_children}
 
 module _ {X : Type 0} where
@@ -42,12 +42,6 @@ module _ {V : Type 0} where
   last_child-entries [] = refl
   last_child-entries (e ∷ []) = refl
   last_child-entries (e ∷ d ∷ es) = last_child-entries (d ∷ es)
-
-  -- a node over them
-  pub first-own : (p : List ℕ) (v : Option V) (n : ℕ) (cs : Children V) → is_some v ≡ true
-      → end_child First (node p v n cs) ≡ None
-  first-own p None n cs h = absurd (cc)
-  first-own p (Some v) n cs h = refl
 
   pub first-below : (p : List ℕ) (v : Option V) (n : ℕ) (es : List (ℕ × Trie V)) → is_some v ≡ false
       → end_child First (node p v n (as_children es)) ≡ slice_get es 0

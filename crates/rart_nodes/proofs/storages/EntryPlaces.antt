@@ -1,7 +1,6 @@
 -- One entry among ascending ones: what stands before and after it, and what another child in its place leaves.
-use Rattle.std.proofs.Common.{◌≡◌, ℕ, suc, ◌<◌, ◌≤◌, ⊎_elim, inl, inr, false, List, [], ◌∷◌, ◌++◌, length}
-use Rattle.std.proofs.Common.{refl, sym, ap, ◌∙◌, arith, subst, Option, Some, None, is_some}
-use Rattle.std.proofs.Common.{option_map}
+use Rattle.std.proofs.Common.{◌≡◌, ℕ, suc, ◌<◌, ◌≤◌, ⊎_elim, inl, inr, false, List, [], ◌∷◌, ◌++◌, length, refl, sym}
+use Rattle.std.proofs.Common.{ap, ◌∙◌, arith, subst, Option, Some, None, is_some, option_map}
 use Rattle.std.specs.Prelude.{IsSome, slice_get}
 use Rattle.std.proofs.lemmas.List.{append_assoc}
 use Rattle.rart_keys.specs.ByteStrings.{begins}
@@ -25,7 +24,8 @@ begins-from b r (x ∷ k) h = rw (eq-no b x (λ q. omega (arith, h, q))) refl
 
 module _ {V : Type 0} where
   -- no key that goes another way is below the prefix
-  pub below-first : (b c : ℕ) (r : List ℕ) (es : List (List ℕ × V)) → (c ≡ b → ⊥) → AllFirst c es → below (b ∷ r) es ≡ []
+  pub below-first : (b c : ℕ) (r : List ℕ) (es : List (List ℕ × V)) → (c ≡ b → ⊥) → AllFirst c es
+      → below (b ∷ r) es ≡ []
   below-first b c r [] n h = refl
   below-first b c r (e ∷ es) n h = rw (begins-first b c r e.0 n h.0) (below-first b c r es n h.1)
 
@@ -81,16 +81,17 @@ module _ {V : Type 0} where
       → IsCanonical (node q v n (as_children es)) → Some u ≡ child_at b es → IsCanonical x → prefix_of x ≡ prefix_of u
       → m ≡ n → ds ≡ replaced b x es → IsCanonical (node q v m (as_children ds))
   child-canonical q v n m b u x es ds c a w p e d = rw (e, d) (alike-canonical q v v n (as_children es)
-      (as_children (replaced b x es)) refl (replaced-edges b 0 u x es c.2 a) (replaced-canonical b 0 u x es c.2 a w p) c)
+      (as_children (replaced b x es)) refl (replaced-edges b 0 u x es c.2 a)
+      (replaced-canonical b 0 u x es c.2 a w p) c)
 
   -- entries in their order, with one of them at b
-  middle-low : (b low : ℕ) (u : Trie V) (xs ys : List (ℕ × Trie V)) → AreCanonical low (as_children (xs ++ (b, u) ∷ ys))
-      → low ≤ b
+  middle-low : (b low : ℕ) (u : Trie V) (xs ys : List (ℕ × Trie V))
+      → AreCanonical low (as_children (xs ++ (b, u) ∷ ys)) → low ≤ b
   middle-low b low u [] ys w = w.0
   middle-low b low u (x ∷ xs) ys w = omega (arith, w.0, middle-low b (suc x.0) u xs ys w.3)
 
-  pub middle-at : (b low : ℕ) (u : Trie V) (xs ys : List (ℕ × Trie V)) → AreCanonical low (as_children (xs ++ (b, u) ∷ ys))
-      → child_at b (xs ++ (b, u) ∷ ys) ≡ Some u
+  pub middle-at : (b low : ℕ) (u : Trie V) (xs ys : List (ℕ × Trie V))
+      → AreCanonical low (as_children (xs ++ (b, u) ∷ ys)) → child_at b (xs ++ (b, u) ∷ ys) ≡ Some u
   middle-at b low u [] ys w = rw (eq-yes b b refl) refl
   middle-at b low u (x ∷ xs) ys w = rw (eq-no x.0 b (λ q. omega (arith, q, middle-low b (suc x.0) u xs ys w.3)))
       (middle-at b (suc x.0) u xs ys w.3)
@@ -102,7 +103,8 @@ module _ {V : Type 0} where
   middle-replaced b low u w (x ∷ xs) ys c = rw (eq-no x.0 b (λ q. omega (arith, q, middle-low b (suc x.0) u xs ys c.3)))
       (ap (λ z. x ∷ z) (middle-replaced b (suc x.0) u w xs ys c.3))
 
-  above-all : (b low : ℕ) (ys : List (ℕ × Trie V)) → b < low → AreCanonical low (as_children ys) → entries_above b ys ≡ ys
+  above-all : (b low : ℕ) (ys : List (ℕ × Trie V)) → b < low → AreCanonical low (as_children ys)
+      → entries_above b ys ≡ ys
   above-all b low [] h w = refl
   above-all b low (y ∷ ys) h w = rw (lt-yes b y.0 (omega (arith, h, w.0)))
       (ap (λ z. y ∷ z) (above-all b (suc y.0) ys (omega (arith, h, w.0)) w.3))

@@ -6,6 +6,7 @@ use Rattle.std.specs.Cmp.Lexicographic.{slice_cmp}
 use Rattle.std.specs.Ordering.{nat_cmp, match_ordering}
 use Rattle.std.proofs.lemmas.Bool.Decides.{nat_tests}
 use Rattle.rart_keys.specs.SortedMap.{put, longest_key}
+use Rattle.rart_keys.proofs.ByteOrder.{eq-yes}
 use Rattle.rart_nodes.specs.tries.CanonicalTest.{has_two_children, starts_with_byte, is_canonical, are_canonical}
 use Rattle.rart_nodes.specs.tries.CanonicalTest.{is_canonical_tree}
 use Rattle.rart_nodes.specs.shapes.Shape.{capacity_of}
@@ -24,9 +25,6 @@ and-join false b h k = absurd (cc)
 eq-true : (b c : ℕ) → b == c ≡ true → b ≡ c
 eq-true b c h = grind (arith, nat_tests)
 
-true-eq : (b c : ℕ) → b ≡ c → b == c ≡ true
-true-eq b c h = grind (arith, nat_tests)
-
 le-true : (b c : ℕ) → nat_le b c ≡ true → b ≤ c
 le-true b c h = grind (arith, nat_tests)
 
@@ -39,7 +37,7 @@ StartsWith-test b (x ∷ xs) h = eq-true x b h
 
 test-StartsWith : (b : ℕ) (xs : List ℕ) → StartsWith b xs → starts_with_byte b xs ≡ true
 test-StartsWith b [] h = absurd h
-test-StartsWith b (x ∷ xs) h = true-eq x b h
+test-StartsWith b (x ∷ xs) h = eq-yes x b h
 
 module _ {V : Type 0} where
   needed-test : (v : Option V) (cs : Children V) → (is_some v || has_two_children cs) ≡ true
@@ -88,7 +86,7 @@ module _ {V : Type 0} where
         and-join (is_some v || has_two_children cs) ((c == capacity_of (length (edges_of cs))) && are_canonical 0 cs)
         (test-needed v cs w.0)
         (and-join (c == capacity_of (length (edges_of cs))) (are_canonical 0 cs)
-        (true-eq c (capacity_of (length (edges_of cs))) w.1) (test-AreCanonical 0 cs w.2))
+        (eq-yes c (capacity_of (length (edges_of cs))) w.1) (test-AreCanonical 0 cs w.2))
 
     test-AreCanonical : (low : ℕ) (cs : Children V) → AreCanonical low cs → are_canonical low cs ≡ true
     test-AreCanonical low no_children w = refl

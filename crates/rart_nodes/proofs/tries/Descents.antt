@@ -97,7 +97,7 @@ module _ {V A : Type 0} where
       (λ h. rw (is_greater b c h, eq-no c b (λ q. omega arith)) (descend-child_of d b (suc c) k cs w.3)))
       (order b c)
 
-  -- a descent to k at a node: k leaves the prefix, ends after it, or goes on by b
+  -- a descent to k at a node: k leaves the prefix, ends after it, or continues by b
   pub descend-left : (d : Descent V A) (t : Trie V) (k : List ℕ) → None ≡ strip_prefix (prefix_of t) k
       → descend d k t ≡ d.left k t
   descend-left d (node p v n cs) k e = rw (← e) refl

@@ -1,5 +1,5 @@
 -- The pair at either end of a canonical tree: where it stands, and what a look-up of its key enters.
-use Rattle.std.proofs.Common.{◌≡◌, ℕ, ◌+◌, ◌<◌, ◌≤◌, ◌⊎◌, ⊎_elim, max, true, List, [], ◌∷◌, ◌++◌, length, map}
+use Rattle.std.proofs.Common.{◌≡◌, ℕ, ◌+◌, ◌<◌, ◌≤◌, ⊎_elim, max, true, List, [], ◌∷◌, ◌++◌, length, map}
 use Rattle.std.proofs.Common.{Option, Some, None, option_map, refl, sym, ap, ◌∙◌, arith, length-append, suc}
 use Rattle.std.specs.Prelude.{MatchOption, slice_get}
 use Rattle.std.proofs.lemmas.List.{append-nil, append_assoc}
@@ -173,45 +173,15 @@ module _ {V : Type 0} where
       (sym (strip_prefix-append (prefix_of t) (c ∷ k))) (ap Some (sym f))
       ∙ ap (λ o. 1 + descend_tree counts (c ∷ k) o) h
 
-  -- A descent from top to t along bytes q, which raised a count from m to n.
-  pub record EndPath (e : End) (top : Trie V) (m : ℕ) (q : List ℕ) (t : Trie V) (n : ℕ) : Type 0 where
-    pub front : List ℕ
-    pub rest : List ℕ × V
-    pub path : q ≡ front ++ prefix_of t
-    pub here : end_of e (pairs_of t) ≡ Some rest
-    pub whole : end_of e (pairs_of top) ≡ Some (front ++ rest.0, rest.1)
-    pub visits : n + entered_nodes rest.0 t ≡ m + entered_nodes (front ++ rest.0) top + 1
+  -- a child that is shown without its byte
+  pub child-some : (o : Option (ℕ × Trie V)) (u : Trie V) → option_map (λ e. e.1) o ≡ Some u
+      → (b : ℕ) × (o ≡ Some (b, u))
+  child-some None u h = absurd (cc)
+  child-some (Some e) u h = let s : e.1 ≡ u = cc in (e.0, ap (λ t. Some (e.0, t)) s)
 
-  pub path-start : (e : End) (t : Trie V) (m : ℕ) → IsCanonical t → EndPath e t m (prefix_of t) t (m + 1)
-  path-start e t m w = let s = end-some e (pairs_of t) (some-pairs t w) in
-      record { front = []; rest = s.0; path = refl; here = s.1; whole = s.1; visits = omega arith }
-
-  pub path-step : (e : End) (top t u : Trie V) (m n b : ℕ) (q : List ℕ) → IsCanonical t → EndPath e top m q t n
-      → end_child e t ≡ Some (b, u) → EndPath e top m (q ++ prefix_of u) u (n + 1)
-  path-step e top t u m n b q w l h =
-      let below = ends-below e b t u w h in
-      let s = end-some e (pairs_of u) (some-pairs u below.canonical) in
-      let joined : Some l.rest ≡ Some (prefix_of t ++ s.0.0, s.0.1)
-      = sym l.here ∙ below.pair ∙ ap (option_map (λ x. (prefix_of t ++ x.0, x.1))) s.1 in
-      let same : l.rest ≡ (prefix_of t ++ s.0.0, s.0.1) = cc in
-      let key : l.front ++ l.rest.0 ≡ (l.front ++ prefix_of t) ++ s.0.0
-      = ap (λ z. l.front ++ z.0) same ∙ sym (append_assoc l.front (prefix_of t) s.0.0) in
-      let first = end-first e b s.0 (pairs_of u) (pairs_of-first b u below.first) s.1 in
-      record {
-        front = l.front ++ prefix_of t;
-        rest = s.0;
-        path = ap (λ z. z ++ prefix_of u) l.path;
-        here = s.1;
-        whole = l.whole ∙ ap Some (ap (λ z. (l.front ++ z.0, z.1)) same
-            ∙ ap (λ k. (k, s.0.1)) (sym (append_assoc l.front (prefix_of t) s.0.0)));
-        visits = omega (
-          arith,
-          l.visits,
-          ap (λ z. entered_nodes z.0 t) same,
-          ap (λ k. entered_nodes k top) key,
-          entered-on b s.0.0 t u w below.found first,
-        );
-      }
+  pub child-none : (o : Option (ℕ × Trie V)) → ◌≡◌ {A = Option (Trie V)} (option_map (λ e. e.1) o) None → o ≡ None
+  child-none None h = refl
+  child-none (Some e) h = absurd (cc)
 
   end-after : (e : End) (t : Trie V) (x : List ℕ × V) → end_of e (pairs_of t) ≡ Some x
       → length (prefix_of t) ≤ length x.0
@@ -223,29 +193,76 @@ module _ {V : Type 0} where
       after-some (Some y) s = let q : ◌≡◌ {A = List ℕ × V} (p ++ y.0, y.1) x = cc in
           omega (arith, ap (λ z. length z.0) q, length-append p y.0)
 
+  -- A descent from the root of a tree to t along bytes q, which raised a count from m to n.
+  pub record TreePath (e : End) (o : Option (Trie V)) (m : ℕ) (q : List ℕ) (t : Trie V) (n : ℕ) : Type 0 where
+    pub front : List ℕ
+    pub rest : List ℕ × V
+    pub path : q ≡ front ++ prefix_of t
+    pub here : end_of e (pairs_of t) ≡ Some rest
+    pub whole : end_of e (tree_pairs o) ≡ Some (front ++ rest.0, rest.1)
+    pub visits : n + entered_nodes rest.0 t ≡ m + tree_entered (front ++ rest.0) o + 1
+
+  pub tree-start : (e : End) (o : Option (Trie V)) (t : Trie V) (m n : ℕ) (q : List ℕ) → is_canonical t ≡ true
+      → o ≡ Some t → q ≡ prefix_of t → n ≡ m + 1 → TreePath e o m q t n
+  tree-start e o t m n q w h p i =
+      let s = end-some e (pairs_of t) (some-pairs t (IsCanonical-test t w)) in
+      rw (h, p, i) (record { front = []; rest = s.0; path = refl; here = s.1; whole = s.1; visits = omega arith })
+
+  pub tree-step : (e : End) (o : Option (Trie V)) (t u : Trie V) (m n k : ℕ) (q r : List ℕ) → is_canonical t ≡ true
+      → TreePath e o m q t n → option_map (λ e. e.1) (end_child e t) ≡ Some u → r ≡ q ++ prefix_of u → k ≡ n + 1
+      → TreePath e o m r u k
+  tree-step e o t u m n k q r c l h p i =
+      let b = child-some (end_child e t) u h in
+      let w = IsCanonical-test t c in
+      let below = ends-below e b.0 t u w b.1 in
+      let s = end-some e (pairs_of u) (some-pairs u below.canonical) in
+      let joined : Some l.rest ≡ Some (prefix_of t ++ s.0.0, s.0.1)
+      = sym l.here ∙ below.pair ∙ ap (option_map (λ x. (prefix_of t ++ x.0, x.1))) s.1 in
+      let same : l.rest ≡ (prefix_of t ++ s.0.0, s.0.1) = cc in
+      let key : l.front ++ l.rest.0 ≡ (l.front ++ prefix_of t) ++ s.0.0
+      = ap (λ z. l.front ++ z.0) same ∙ sym (append_assoc l.front (prefix_of t) s.0.0) in
+      let first = end-first e b.0 s.0 (pairs_of u) (pairs_of-first b.0 u below.first) s.1 in
+      record {
+        front = l.front ++ prefix_of t;
+        rest = s.0;
+        path = p ∙ ap (λ z. z ++ prefix_of u) l.path;
+        here = s.1;
+        whole = l.whole ∙ ap Some (ap (λ z. (l.front ++ z.0, z.1)) same
+            ∙ ap (λ k. (k, s.0.1)) (sym (append_assoc l.front (prefix_of t) s.0.0)));
+        visits = omega (
+          arith,
+          i,
+          l.visits,
+          ap (λ z. entered_nodes z.0 t) same,
+          ap (λ k. tree_entered k o) key,
+          entered-on b.0 s.0.0 t u w below.found first,
+        );
+      }
+
   -- the bytes are within those of the longest key
-  pub path-fits : (e : End) (top t : Trie V) (m n : ℕ) (q : List ℕ) → EndPath e top m q t n
-      → length q ≤ longest_key (pairs_of top)
-  path-fits e top t m n q l = omega (
+  pub tree-fits : (e : End) (o : Option (Trie V)) (t : Trie V) (m n : ℕ) (q : List ℕ) → TreePath e o m q t n
+      → length q ≤ longest_key (tree_pairs o)
+  tree-fits e o t m n q l = omega (
     arith,
     ap length l.path,
     length-append l.front (prefix_of t),
     length-append l.front l.rest.0,
     end-after e t l.rest l.here,
-    end-short e (l.front ++ l.rest.0, l.rest.1) (pairs_of top) l.whole,
+    end-short e (l.front ++ l.rest.0, l.rest.1) (tree_pairs o) l.whole,
   )
 
   -- where it ends, the bytes are the key
-  pub record PathEnd (e : End) (top : Trie V) (m : ℕ) (q : List ℕ) (t : Trie V) (n : ℕ) : Type 0 where
+  pub record TreeEnd (e : End) (o : Option (Trie V)) (m : ℕ) (q : List ℕ) (t : Trie V) (n : ℕ) : Type 0 where
     pub value : V
     pub own : value_of t ≡ Some value
-    pub pair : end_of e (pairs_of top) ≡ Some (q, value)
-    pub visits : n ≡ m + entered_nodes q top
+    pub pair : end_of e (tree_pairs o) ≡ Some (q, value)
+    pub visits : n ≡ m + probe_count (keys_of (tree_pairs o)) q
 
-  pub path-end : (e : End) (top t : Trie V) (m n : ℕ) (q : List ℕ) → IsCanonical t → EndPath e top m q t n
-      → end_child e t ≡ None → PathEnd e top m q t n
-  path-end e top t m n q w l h =
-      let here = ends-here e t w h in
+  pub tree-end : (e : End) (o : Option (Trie V)) (t : Trie V) (m n : ℕ) (q : List ℕ) → IsCanonicalTree o
+      → is_canonical t ≡ true → TreePath e o m q t n → ◌≡◌ {A = Option (Trie V)}
+      (option_map (λ e. e.1) (end_child e t)) None → TreeEnd e o m q t n
+  tree-end e o t m n q c w l h =
+      let here = ends-here e t (IsCanonical-test t w) (child-none (end_child e t) h) in
       let joined : Some l.rest ≡ Some (prefix_of t, here.value) = sym l.here ∙ here.pair in
       let same : l.rest ≡ (prefix_of t, here.value) = cc in
       let key : l.front ++ l.rest.0 ≡ q = ap (λ z. l.front ++ z.0) same ∙ sym l.path in
@@ -257,20 +274,11 @@ module _ {V : Type 0} where
           arith,
           l.visits,
           ap (λ z. entered_nodes z.0 t) same,
-          ap (λ k. entered_nodes k top) key,
+          ap (λ k. tree_entered k o) key,
           entered-here t,
+          tree_entered-probe_count q o c,
         );
       }
-
-  -- a child that is shown without its byte
-  pub child-some : (o : Option (ℕ × Trie V)) (u : Trie V) → option_map (λ e. e.1) o ≡ Some u
-      → (b : ℕ) × (o ≡ Some (b, u))
-  child-some None u h = absurd (cc)
-  child-some (Some e) u h = let s : e.1 ≡ u = cc in (e.0, ap (λ t. Some (e.0, t)) s)
-
-  pub child-none : (o : Option (ℕ × Trie V)) → ◌≡◌ {A = Option (Trie V)} (option_map (λ e. e.1) o) None → o ≡ None
-  child-none None h = refl
-  child-none (Some e) h = absurd (cc)
 
   -- the child that a visited node shows
   pub end-canonical : (e : End) (b : ℕ) (t u : Trie V) → is_canonical t ≡ true → end_child e t ≡ Some (b, u)
@@ -282,62 +290,6 @@ module _ {V : Type 0} where
   end-falls e t u w h =
       let b = child-some (end_child e t) u h in
       child-falls b.0 t (Some u) (ends-below e b.0 t u (IsCanonical-test t w) b.1).found
-
-  -- the same descent in a tree that may be empty
-  pub record TreePath (e : End) (o : Option (Trie V)) (m : ℕ) (q : List ℕ) (t : Trie V) (n : ℕ) : Type 0 where
-    pub top : Trie V
-    pub root : o ≡ Some top
-    pub path : EndPath e top m q t n
-
-  pub tree-start : (e : End) (o : Option (Trie V)) (t : Trie V) (m n : ℕ) (q : List ℕ) → is_canonical t ≡ true
-      → o ≡ Some t → q ≡ prefix_of t → n ≡ m + 1 → TreePath e o m q t n
-  tree-start e o t m n q w h p s = record {
-    top = t;
-    root = h;
-    path = rw (p, s) (path-start e t m (IsCanonical-test t w));
-  }
-
-  pub tree-step : (e : End) (o : Option (Trie V)) (t u : Trie V) (m n k : ℕ) (q r : List ℕ) → is_canonical t ≡ true
-      → TreePath e o m q t n → option_map (λ e. e.1) (end_child e t) ≡ Some u → r ≡ q ++ prefix_of u → k ≡ n + 1
-      → TreePath e o m r u k
-  tree-step e o t u m n k q r w l h p s =
-      let b = child-some (end_child e t) u h in
-      record {
-        top = l.top;
-        root = l.root;
-        path = rw (p, s) (path-step e l.top t u m n b.0 q (IsCanonical-test t w) l.path b.1);
-      }
-
-  pub tree-fits : (e : End) (o : Option (Trie V)) (t : Trie V) (m n : ℕ) (q : List ℕ) → TreePath e o m q t n
-      → length q ≤ longest_key (tree_pairs o)
-  tree-fits e o t m n q l = omega (
-    arith,
-    path-fits e l.top t m n q l.path,
-    ap (λ o. longest_key (tree_pairs o)) l.root,
-  )
-
-  pub record TreeEnd (e : End) (o : Option (Trie V)) (m : ℕ) (q : List ℕ) (t : Trie V) (n : ℕ) : Type 0 where
-    pub value : V
-    pub own : value_of t ≡ Some value
-    pub pair : end_of e (tree_pairs o) ≡ Some (q, value)
-    pub visits : n ≡ m + probe_count (keys_of (tree_pairs o)) q
-
-  pub tree-end : (e : End) (o : Option (Trie V)) (t : Trie V) (m n : ℕ) (q : List ℕ) → IsCanonicalTree o
-      → is_canonical t ≡ true → TreePath e o m q t n → ◌≡◌ {A = Option (Trie V)}
-      (option_map (λ e. e.1) (end_child e t)) None → TreeEnd e o m q t n
-  tree-end e o t m n q c w l h =
-      let d = path-end e l.top t m n q (IsCanonical-test t w) l.path (child-none (end_child e t) h) in
-      record {
-        value = d.value;
-        own = d.own;
-        pair = ap (λ o. end_of e (tree_pairs o)) l.root ∙ d.pair;
-        visits = omega (
-          arith,
-          d.visits,
-          ap (tree_entered q) l.root,
-          tree_entered-probe_count q o c,
-        );
-      }
 
   -- a look-up of its key enters few nodes
   pub few-probes : (o : Option (Trie V)) (q : List ℕ) → IsCanonicalTree o

@@ -1,9 +1,9 @@
 -- Canonical tries are equal node by node exactly where their pairs are equal.
-use Rattle.std.proofs.Common.{◌≡◌, ℕ, ◌<◌, ◌&&◌, ⊎_elim, suc, not, Bool, true, false, List}
-use Rattle.std.proofs.Common.{[], ◌∷◌, ◌++◌, length, Option, Some, None, MatchOption, refl, sym, ap, ◌∙◌, arith}
-use Rattle.std.proofs.Common.{length-append, is_some}
+use Rattle.std.proofs.Common.{◌≡◌, ℕ, ◌<◌, ◌&&◌, ⊎_elim, suc, not, Bool, true, false, List, [], ◌∷◌, ◌++◌, length}
+use Rattle.std.proofs.Common.{Option, Some, None, MatchOption, refl, sym, ap, ◌∙◌, arith, length-append, is_some}
 use Rattle.std.specs.Prelude.{nat_eq}
 use Rattle.std.specs.Cmp.Lexicographic.{nat_list_eq_equiv, pointwise, same_text}
+use Rattle.std.proofs.Math.Bool.{and_assoc}
 use Rattle.std.proofs.lemmas.Bool.{and_parts, cases_Bool, false_from_ne_true}
 use Rattle.std.proofs.lemmas.List.{append-nil}
 use Rattle.rart_keys.specs.ByteStrings.{begins}
@@ -20,10 +20,6 @@ use Rattle.rart_nodes.proofs.statistics.CountedStatistics.{node_count-nodes_of}
 use Rattle.rart_nodes.proofs.tries.CanonicalTests.{IsCanonical-test}
 use Rattle.rart_nodes.proofs.tries.FirstBytes.{AllFirst, AllFrom, IsFrom, children_pairs-from, pairs_of-first}
 use Rattle.rart_nodes.proofs.tries.NodeCounts.{some-pairs}
-
-and-assoc : (a b c : Bool) → (a && (b && c)) ≡ ((a && b) && c)
-and-assoc true b c = refl
-and-assoc false b c = refl
 
 begins-own : (p k : List ℕ) → begins p (p ++ k) ≡ true
 begins-own [] k = refl
@@ -167,7 +163,7 @@ module _ {V : Type 0} (eq : V → V → Bool) where
   pairs-split b (x ∷ xs) ys [] vs f g h i = above-apart b x (xs ++ ys) vs f.0 i
   pairs-split b (x ∷ xs) ys (u ∷ us) vs f g h i
       = ap (λ z. same_pair x u && z) (pairs-split b xs ys us vs f.1 g h.1 i)
-      ∙ and-assoc (same_pair x u) (same_pairs eq xs us) (same_pairs eq ys vs)
+      ∙ sym (and_assoc (same_pair x u) (same_pairs eq xs us) (same_pairs eq ys vs))
 
   first-apart : (b c : ℕ) (xs ys us vs : List (List ℕ × V)) → (b ≡ c → ⊥) → 0 < length xs → 0 < length us
       → AllFirst b xs → AllFirst c us → same_pairs eq (xs ++ ys) (us ++ vs) ≡ false

@@ -1,7 +1,8 @@
 -- At most 2n - 1 nodes.
 use Rattle.std.proofs.Common.{◌≡◌, ℕ, ◌+◌, ◌*◌, ◌<◌, ◌≤◌, ⊎_elim, length, refl, arith, Option, Some, None}
-use Rattle.std.proofs.Common.{length-append, IsSome}
+use Rattle.std.proofs.Common.{length-append, IsSome, List, ◌++◌}
 use Rattle.std.proofs.lemmas.List.{length-map}
+use Rattle.rart_nodes.specs.tries.PrefixLaws.{length-with_prefix}
 use Rattle.rart_nodes.specs.tries.Trie.{Trie, node, Children, no_children, child, pairs_of, children_pairs, edges_of}
 use Rattle.rart_nodes.specs.tries.Trie.{own_pair, nodes_of, children_with_records, HasTwoChildren, IsCanonical}
 use Rattle.rart_nodes.specs.tries.Trie.{AreCanonical}
@@ -29,3 +30,9 @@ module _ {V : Type 0} where
 
   pub some-pairs : (t : Trie V) → IsCanonical t → 0 < length (pairs_of t)
   some-pairs t w = omega (arith, few_nodes t w)
+
+  -- and as many without its prefix
+  pub some-after : (p : List ℕ) (v : Option V) (n : ℕ) (cs : Children V) → IsCanonical (node p v n cs)
+      → 0 < length (own_pair v ++ children_pairs cs)
+  some-after p v n cs w
+      = omega (arith, some-pairs (node p v n cs) w, length-with_prefix p (own_pair v ++ children_pairs cs))

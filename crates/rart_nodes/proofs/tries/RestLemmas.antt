@@ -6,7 +6,7 @@ use Rattle.std.specs.List.{common_prefix_len}
 use Rattle.rart_keys.specs.ByteStrings.{strip_prefix}
 use Rattle.rart_parts.specs.Entries.{child_at}
 use Rattle.rart_nodes.specs.tries.Trie.{Trie, node, Children, overlap, grown_overlap, IsCanonical, looks_up}
-use Rattle.rart_nodes.specs.tries.Trie.{trie_lookup, child_lookup, trie_put, put_child, put_overlap, put_split}
+use Rattle.rart_nodes.specs.tries.Trie.{trie_lookup, trie_put, put_child, put_overlap, put_split}
 use Rattle.rart_nodes.specs.tries.Trie.{fitting_node}
 use Rattle.rart_nodes.specs.tries.TrieCode.{as_children}
 use Rattle.rart_nodes.proofs.tries.Descents.{descend-left, descend-ended, descend-followed, descend-at, descend-absent}
@@ -50,7 +50,7 @@ overlap-after (x ∷ p) [] r e = absurd (cc)
 overlap-after (x ∷ p) (y ∷ k) r e = overlap-step (x == y) x y p k r (overlap-after p k r) e
 
 module _ {V : Type 0} where
-  -- a look-up at a node: the key leaves the prefix, ends after it, or goes on
+  -- a look-up at a node: the key leaves the prefix, ends after it, or continues
   pub trie_lookup-left : (p k : List ℕ) (v : Option V) (w : ℕ) (cs : Children V) → None ≡ strip_prefix p k
       → trie_lookup k (node p v w cs) ≡ None
   trie_lookup-left p k v w cs e = descend-left looks_up (node p v w cs) k e
@@ -58,17 +58,6 @@ module _ {V : Type 0} where
   pub trie_lookup-ended : (p k r : List ℕ) (v : Option V) (w : ℕ) (cs : Children V) → Some r ≡ strip_prefix p k
       → None ≡ slice_get r 0 → trie_lookup k (node p v w cs) ≡ v
   trie_lookup-ended p k r v w cs e h = descend-ended looks_up (node p v w cs) k r e h
-
-  pub trie_lookup-followed : (p k r : List ℕ) (b : ℕ) (v : Option V) (w : ℕ) (cs : Children V)
-      → Some r ≡ strip_prefix p k → Some b ≡ slice_get r 0 → trie_lookup k (node p v w cs) ≡ child_lookup b r cs
-  trie_lookup-followed p k r b v w cs e h = descend-followed looks_up p k r b v w cs e h
-
-  pub trie_lookup-child : (p k r : List ℕ) (b : ℕ) (v : Option V) (w : ℕ) (t : Trie V) (es : List (ℕ × Trie V))
-      → IsCanonical (node p v w (as_children es)) → Some r ≡ strip_prefix p k → Some b ≡ slice_get r 0
-      → Some t ≡ child_at b es
-      → trie_lookup k (node p v w (as_children es)) ≡ trie_lookup r t
-  trie_lookup-child p k r b v w t es c e h at = descend-followed looks_up p k r b v w (as_children es) e h
-      ∙ descend-at looks_up b 0 r (Some t) es c.2 at
 
   pub trie_lookup-no_child : (p k r : List ℕ) (b : ℕ) (v : Option V) (w : ℕ) (es : List (ℕ × Trie V))
       → Some r ≡ strip_prefix p k → Some b ≡ slice_get r 0 → None ≡ child_at b es
@@ -102,3 +91,16 @@ module _ {V : Type 0} where
       → trie_put k v (node p old w cs) ≡ fitting_node p old (put_child b r v cs)
   trie_put-followed p k r b v old w cs e h = trie_put-after p k r v old w cs e
       ∙ split-followed p r b v old w cs (λ b q. put_child b q v cs) h
+
+  -- the key k leads from a canonical node to its child t at b, with its rest r
+  pub record Follows (p k r : List ℕ) (v : Option V) (w b : ℕ) (t : Trie V) (es : List (ℕ × Trie V)) : Type 0 where
+    pub canonical : IsCanonical (node p v w (as_children es))
+    pub left : Some r ≡ strip_prefix p k
+    pub first : Some b ≡ slice_get r 0
+    pub there : Some t ≡ child_at b es
+
+module _ {V : Type 0} {p k r : List ℕ} {v : Option V} {w b : ℕ} {t : Trie V} {es : List (ℕ × Trie V)}
+    (f : Follows p k r v w b t es) where
+  pub trie_lookup-child : trie_lookup k (node p v w (as_children es)) ≡ trie_lookup r t
+  trie_lookup-child = descend-followed looks_up p k r b v w (as_children es) f.left f.first
+      ∙ descend-at looks_up b 0 r (Some t) es f.canonical.2 f.there

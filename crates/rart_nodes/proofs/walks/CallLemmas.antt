@@ -1,27 +1,19 @@
 -- What holds of a callback along the items of a walk.
-use Rattle.std.proofs.Common.{◌≡◌, ℕ, List, Option, Some, None, Result, Ok, Err, [], ◌∷◌, ◌++◌, ap, refl, subst, ◌∙◌}
+use Rattle.std.proofs.Common.{◌≡◌, ℕ, List, Option, Some, None, Result, Ok, Err, [], ◌∷◌, ap, refl, subst, ◌∙◌}
 use Rattle.std.specs.Borrow.{Bor}
 use Rattle.std.specs.Fn.{Mut, Once, Called, always_mut}
-use Rattle.std.specs.List.{All, FoldsTo}
-use Rattle.std.proofs.lemmas.List.Elements.{All-head, All-rest}
+use Rattle.std.specs.List.{FoldsTo}
 use Rattle.rart_nodes.specs.walks.Calls.{CallableAtEach}
 use Rattle.rart_nodes.specs.declared.node.walks.control.VisitControl.{VisitControl}
 use Rattle.rart_nodes.specs.declared.node.walks.control.VisitControl.TheVariants.{Continue, Stop}
 use Rattle.rart_nodes.specs.declared.node.walk.path.SegmentPath.{SegmentPath}
 use Rattle.rart_nodes.specs.declared.node.view.LendingKeyView.{LendingKeyView}
-use Rattle.rart_nodes.specs.walks.Matched.{CanMatch, MatchesEach}
+use Rattle.rart_nodes.specs.walks.Matched.{MatchesEach}
 use Rattle.rart_nodes.specs.walks.Walk.{SegmentList}
 use Rattle.rart_nodes.specs.walks.PathParts.{lent_segments}
-use Rattle.rart_nodes.specs.walks.Tried.{CanTry, EndsAs, GoesOnAs}
-use Rattle.rart_nodes.specs.walks.Viewed.{CanView, ViewsEach, CanShowFound, CanSeeFound, IsCutOf}
-use Rattle.rart_nodes.specs.walks.Shown.{CanShow, CanFold, ShowsEach, FoldsEach}
-
--- what holds of each item of a list holds of one
-pub holds-at : {A : Type 0} (P : A → Type 0) (xs before : List A) (x : A) (after : List A) → All P xs
-    → xs ≡ before ++ x ∷ after → P x
-holds-at P xs [] x after h e = All-head P x after (subst (All P) e h)
-holds-at P xs (y ∷ before) x after h e = holds-at P (before ++ x ∷ after) before x after
-    (All-rest P y (before ++ x ∷ after) xs e h) refl
+use Rattle.rart_nodes.specs.walks.Tried.{EndsAs, GoesOnAs}
+use Rattle.rart_nodes.specs.walks.Viewed.{ViewsEach, CanShowFound, CanSeeFound, IsCutOf}
+use Rattle.rart_nodes.specs.walks.Shown.{ShowsEach, FoldsEach}
 
 module _ {F A : Type 0} (R : F → A → F → Type 0) where
   -- what each call keeps holds after all
@@ -43,64 +35,29 @@ module _ {F A : Type 0} (R : F → A → F → Type 0) where
           = λ before y after j same k. h.at (x ∷ before) y after j (e ∙ ap (λ z. x ∷ z) same) (g, r, k);
     }
 
-    -- where each call keeps I, and I is enough for a call
-    pub can-kept : (I : F → Type 0) → ((p : F) (x : A) (q : F) → R p x q → I p → I q) → ((p : F) (x : A) → I p → Q p x)
-        → (f : F) (xs : List A) → I f → CallableAtEach R Q f xs
-    can-kept I keeps asks f xs i = record {
-      at
-          = λ before x after g same k. asks g x (folds-keep I keeps before f g k i);
-    }
-
-    -- where a condition of the item alone is enough for a call
-    pub can-where : (P : A → Type 0) → ((g : F) (x : A) → P x → Q g x) → (f : F) (xs : List A) → All P xs
-        → CallableAtEach R Q f xs
-    can-where P asks f xs h = record { at = λ before x after g same k. asks g x (holds-at P xs before x after h same) }
-
 module _ {F A R : Type 0} (g : Mut F A R) where
   -- it may always be called after one call more
   pub always-on : (f : F) (a : A) (r : R) (f' : F) → Called g f a r f' → always_mut g f → always_mut g f'
   always-on f a r f' c h = record { at = λ xs. (h.at (a ∷ xs)).1 r f' c }
 
-  -- and be called now
-  pub always-now : (f : F) (a : A) → always_mut g f → g.pre f a
-  always-now f a h = (h.at (a ∷ [])).0
-
 module _ {F V : Type 0} (g : Mut F (Bor V × Unit {0}) (Unit {0})) where
-  pub always-shows : (f : F) (xs : List V) → always_mut g f → CanShow g f xs
-  always-shows f xs h = can-kept _ _ (always_mut g) (λ p x q s i. always-on g p (s.shown, tt) tt q s.called i)
-      (λ p x i y e. always-now g p (y, tt) i) f xs h
-
   pub always-after-shows : (f : F) (xs : List V) (f' : F) → ShowsEach g f xs f' → always_mut g f → always_mut g f'
   always-after-shows f xs f' k h = folds-keep _ (always_mut g)
       (λ p x q s i. always-on g p (s.shown, tt) tt q s.called i) xs f f' k h
 
 module _ {F S V : Type 0} (g : Mut F (S × (Bor V × Unit {0})) S) where
-  pub always-folds : (f : F) (s : S) (xs : List V) → always_mut g f → CanFold g f s xs
-  always-folds f s xs h = can-kept _ _ (λ p. always_mut g p.0)
-      (λ p x q c i. always-on g p.0 (p.1, (c.shown, tt)) q.1 q.0 c.called i)
-      (λ p x i y e. always-now g p.0 (p.1, (y, tt)) i) (f, s) xs h
-
   pub always-after-folds : (f : F) (s : S) (xs : List V) (f' : F) (r : S) → FoldsEach g f s xs f' r → always_mut g f
       → always_mut g f'
   always-after-folds f s xs f' r k h = folds-keep _ (λ p. always_mut g p.0)
       (λ p x q c i. always-on g p.0 (p.1, (c.shown, tt)) q.1 q.0 c.called i) xs (f, s) (f', r) k h
 
 module _ {F V : Type 0} (g : Mut F (Bor (List ℕ) × (Bor V × Unit {0})) (Unit {0})) where
-  pub always-matches : (f : F) (xs : List (List ℕ × V)) → always_mut g f → CanMatch g f xs
-  always-matches f xs h = can-kept _ _ (always_mut g)
-      (λ p x q s i. always-on g p (s.key, (s.shown, tt)) tt q s.called i)
-      (λ p x i k y d e. always-now g p (k, (y, tt)) i) f xs h
-
   pub always-after-matches : (f : F) (xs : List (List ℕ × V)) (f' : F) → MatchesEach g f xs f' → always_mut g f
       → always_mut g f'
   always-after-matches f xs f' k h = folds-keep _ (always_mut g)
       (λ p x q s i. always-on g p (s.key, (s.shown, tt)) tt q s.called i) xs f f' k h
 
 module _ {F V : Type 0} (g : Mut F (LendingKeyView × (Bor V × Unit {0})) (Unit {0})) where
-  pub always-views : (f : F) (xs : List (SegmentList × V)) → always_mut g f → CanView g f xs
-  always-views f xs h = can-kept _ _ (always_mut g) (λ p x q s i. always-on g p (s.key, (s.shown, tt)) tt q s.called i)
-      (λ p x i k y d e. always-now g p (k, (y, tt)) i) f xs h
-
   pub always-after-views : (f : F) (xs : List (SegmentList × V)) (f' : F) → ViewsEach g f xs f' → always_mut g f
       → always_mut g f'
   always-after-views f xs f' k h = folds-keep _ (always_mut g)
@@ -121,10 +78,6 @@ module _ {F V : Type 0} (g : Once F (LendingKeyView × (Bor V × Unit {0})) (Uni
   can-see f s (Some o) t x key h e k = h key x (k ∙ e.0) e.1
 
 module _ {F V E : Type 0} (g : Mut F (Bor V × Unit {0}) (Result VisitControl E)) where
-  pub always-tries : (f : F) (xs : List V) → always_mut g f → CanTry g f xs
-  always-tries f xs h = can-kept _ _ (always_mut g) (λ p x q s i. always-on g p (s.shown, tt) _ q s.called i)
-      (λ p x i y e. always-now g p (y, tt) i) f xs h
-
   always-went-on : (f : F) (answer : Result VisitControl E) (M : F → Type 0) (r : Result (Unit {0}) E) (f' : F)
       → (M f → always_mut g f → always_mut g f') → GoesOnAs answer f M r f' → always_mut g f → always_mut g f'
   always-went-on f (Ok Continue) M r f' more k h = more k h

@@ -11,8 +11,7 @@ use Rattle.rart_nodes.specs.tries.Trie.{children_pairs, own_pair, with_prefix, w
 use Rattle.rart_nodes.specs.tries.Trie.{StartsWith, prefix_of, IsCanonical, AreCanonical}
 use Rattle.rart_nodes.specs.walks.Cut.{with_segment, cut_by, cut, cut_pairs}
 use Rattle.rart_nodes.specs.walks.Walk.{SegmentList, joined_bytes, segments_after, value_at, entries_of}
-use Rattle.rart_nodes.specs.walks.Walk.{children_entries}
-use Rattle.rart_nodes.specs.walks.Walk.{tree_entries}
+use Rattle.rart_nodes.specs.walks.Walk.{children_entries, tree_entries}
 use Rattle.rart_nodes.specs.walks.PathParts.{one_segment}
 use Rattle.rart_nodes.proofs.shapes.ShapeLemmas.{record_is, prefix-with_records}
 use Rattle.rart_nodes.proofs.tries.FirstBytes.{AllFirst, AllFrom, pairs_of-first, children_pairs-from}

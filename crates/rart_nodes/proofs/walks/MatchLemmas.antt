@@ -4,6 +4,7 @@ use Rattle.std.proofs.Common.{length-append, take, drop, refl, sym, ap, subst, �
 use Rattle.std.proofs.Common.{if◌then◌else◌}
 use Rattle.std.specs.Prelude.{slice_get, IfSome}
 use Rattle.std.proofs.lemmas.List.{append-nil, append_assoc, length-drop, take-append-drop, take-append-le, take_all}
+use Rattle.std.proofs.Math.Seq.{drop-append_seam}
 use Rattle.rart_keys.specs.ByteStrings.{strip_prefix, begins}
 use Rattle.rart_keys.specs.Filters.{last_or, longest_match, matches}
 use Rattle.rart_keys.specs.SortedMap.{keys_of, longest_key}
@@ -29,10 +30,6 @@ begins-append (x ∷ p) l [] = refl
 begins-append (x ∷ p) l (y ∷ q) = elim (x == y) as (λ b. is_some (if b then strip_prefix (p ++ l) q else None)
     ≡ begins_within l (if b then strip_prefix p q else None)) [ true ↦ begins-append p l q | false ↦ refl ]
 
-drop-front : (a r : List ℕ) → drop (length a) (a ++ r) ≡ r
-drop-front [] r = refl
-drop-front (x ∷ a) r = drop-front a r
-
 -- where a string is read on after d bytes and the prefix p, and r is left
 record SplitAt (p q r : List ℕ) (d d1 : ℕ) : Type 0 where
   pub within : d1 ≤ length q
@@ -50,7 +47,7 @@ split-at p q k r d d1 l i e f =
       within = omega arith;
       front = ap (take d1) whole ∙ ap (λ m. take m (a ++ r)) n ∙ take-append-le (length a) a r (omega arith)
           ∙ take_all (length a) a (omega arith);
-      after = ap (drop d1) whole ∙ ap (λ m. drop m (a ++ r)) n ∙ drop-front a r;
+      after = ap (drop d1) whole ∙ ap (λ m. drop m (a ++ r)) n ∙ drop-append_seam a r;
     }
 
 pub rest-fits : (p q k r : List ℕ) (d : ℕ) → k ≡ drop d q → Some r ≡ strip_prefix p k → length r ≤ length q
@@ -108,10 +105,6 @@ module _ {V : Type 0} where
   prefix-own q None es = refl
   prefix-own q (Some v) es = ap (λ k. (k, v) ∷ with_prefix q es) (append-nil q)
 
-  prefix-own_alone : (q : List ℕ) (v : Option V) → with_prefix q (own_pair v) ≡ pair_at q v ++ []
-  prefix-own_alone q None = refl
-  prefix-own_alone q (Some v) = ap (λ k. (k, v) ∷ []) (append-nil q)
-
   -- a descent along q at the node t after d bytes: q ends after its prefix
   pub pass-ended : (t : Trie V) (q k r : List ℕ) (d d1 : ℕ) → d ≤ length q → k ≡ drop d q
       → Some r ≡ strip_prefix (prefix_of t) k → d1 ≡ length q - length r → None ≡ slice_get r 0 → Passes q d t d1 None
@@ -121,12 +114,12 @@ module _ {V : Type 0} where
         within = s.within;
         still = rw (← i) (ap (with_prefix (take d q)) (descend-ended collects (node p v n cs) k r e h)
             ∙ prefix-twice (take d q) p (own_pair v) ∙ ap (λ z. with_prefix z (own_pair v)) (sym s.front))
-            ∙ prefix-own_alone (take d1 q) v;
+            ∙ ap (with_prefix (take d1 q)) (sym (append-nil (own_pair v))) ∙ prefix-own (take d1 q) v [];
         counted = rw (← i) (descend-ended counts (node p v n cs) k r e h);
         falls = omega arith;
       }
 
-  -- or goes on by b
+  -- or continues by b
   pub pass-on : (t : Trie V) (q k r : List ℕ) (b d d1 : ℕ) (o : Option (Trie V)) → is_canonical t ≡ true → d ≤ length q
       → k ≡ drop d q → Some r ≡ strip_prefix (prefix_of t) k → d1 ≡ length q - length r → Some b ≡ slice_get r 0
       → o ≡ child_in b t → Passes q d t d1 o

@@ -12,8 +12,7 @@ use Rattle.rart_nodes.specs.walks.Cut.{with_segment, cut_by, cut, cut_pairs}
 use Rattle.rart_nodes.specs.walks.Part.{finds, tree_part, part_entries}
 use Rattle.rart_nodes.proofs.tries.Descents.{Keeps, descends}
 use Rattle.rart_nodes.specs.walks.Walk.{SegmentList, Grown, joined_bytes, join_all, segments_after, value_at}
-use Rattle.rart_nodes.specs.walks.Walk.{entries_of}
-use Rattle.rart_nodes.specs.walks.Walk.{children_entries, tree_entries}
+use Rattle.rart_nodes.specs.walks.Walk.{entries_of, children_entries, tree_entries}
 use Rattle.rart_nodes.specs.walks.PathParts.{one_segment}
 use Rattle.rart_nodes.specs.walks.ViewSegments.{all_have_bytes, AreViews}
 use Rattle.rart_nodes.proofs.walks.CutLemmas.{joined-cut, tree-cut}

@@ -34,7 +34,7 @@ starts_with-begins (x ∷ p) (y ∷ q) = elim (nat_eq x y) as (λ b. (b && start
     ≡ is_some (if b then strip_prefix p q else None)) [ true ↦ starts_with-begins p q | false ↦ refl ]
 
 module _ {V : Type 0} where
-  below-after_some : (q p r : List ℕ) (es : List (List ℕ × V)) → strip_prefix q p ≡ Some r
+  pub below-after_some : (q p r : List ℕ) (es : List (List ℕ × V)) → strip_prefix q p ≡ Some r
       → below p (with_prefix q es) ≡ with_prefix q (below r es)
   below-after_some q p r [] s = refl
   below-after_some q p r (e ∷ es) s = rw (begins-after q p r e.0 s, below-after_some q p r es s)
@@ -66,7 +66,7 @@ module _ {V : Type 0} where
   below-here b r None es = refl
   below-here b r (Some v) es = refl
 
-  -- the pairs below a prefix that goes on by b are those of the child at b
+  -- the pairs below a prefix that continues by b are those of the child at b
   pub below-child : (q p r : List ℕ) (b : ℕ) (v : Option V) (n : ℕ) (cs : Children V) → AreCanonical 0 cs
       → strip_prefix q p ≡ Some (b ∷ r)
       → below p (pairs_of (node q v n cs)) ≡ with_prefix q (below (b ∷ r) (tree_pairs (child_of b cs)))
@@ -149,7 +149,7 @@ module _ {V : Type 0} where
       = subst (Finds g k (below p (tree_pairs o))) e (part-finds g k p o w) in ap length h.1.0
       ∙ length-with_prefix h.0 (pairs_of u)
 
-  -- one step of the way: the prefix leaves the node's own, ends within it or after it, or goes on
+  -- one step of the way: the prefix leaves the node's own, ends within it or after it, or continues
   pub part-out : (g : Grown) (k : SegmentList) (t : Trie V) (p : List ℕ) → None ≡ strip_prefix (prefix_of t) p
       → begins p (prefix_of t) ≡ false → None ≡ tree_part g k p (Some t)
   part-out g k t p e h = sym (ap (λ f. f k) (descend-left (finds g) t p e) ∙ rw h refl)

@@ -1,6 +1,6 @@
 -- What a descent of a shared trie meets: its children are canonical and smaller, and answer for what lies below them.
 use Rattle.std.proofs.Common.{◌≡◌, ℕ, suc, ◌+◌, ◌<◌, ◌≤◌, ◌⊎◌, inl, inr, ⊎_elim, Bool, true, false, cond, eqb, List}
-use Rattle.std.proofs.Common.{◌++◌, length, Option, Some, None, refl, arith, sym}
+use Rattle.std.proofs.Common.{◌++◌, length, Option, Some, None, option_map, refl, arith, sym}
 use Rattle.std.specs.Prelude.{slice_get}
 use Rattle.rart_keys.specs.ByteStrings.{strip_prefix}
 use Rattle.rart_keys.specs.SortedMap.{keys_of, lookup, longest_key}
@@ -62,7 +62,12 @@ module _ {V : Type 0} where
   child-falls b (node p v n cs) None e = omega arith
   child-falls b (node p v n cs) (Some u) e = omega (arith, count-of b u cs e)
 
-  -- a descent to k at a node t: k leaves the prefix, ends after it, or goes on by b
+  -- a descent continues to a child
+  pub next-falls : {S : Type 0} (f : S → Trie V) (b : ℕ) (t : Trie V) (s : S) (next after : Option S) → next ≡ Some s
+      → t ≡ f s → option_map f after ≡ child_in b t → tree_count (option_map f after) < tree_count (option_map f next)
+  next-falls f b t s next after e i c = rw (e, ← i) (child-falls b t (option_map f after) (sym c))
+
+  -- a descent to k at a node t: k leaves the prefix, ends after it, or continues by b
   pub step-left : (t : Trie V) (k : List ℕ) → None ≡ strip_prefix (prefix_of t) k → (trie_lookup k t ≡ None)
       × (entered_nodes k t ≡ 1)
   step-left t k e = (descend-left looks_up t k e, descend-left counts t k e)
@@ -90,3 +95,8 @@ module _ {V : Type 0} where
   pub few-tree_entered : (k : List ℕ) (o : Option (Trie V)) → IsCanonicalTree o → tree_entered k o ≤ length k + 1
   few-tree_entered k None w = omega arith
   few-tree_entered k (Some t) w = few-entered_nodes k t w
+
+  pub root-entered : (k : List ℕ) (t : Trie V) (o : Option (Trie V)) → is_canonical t ≡ true → Some t ≡ o
+      → (entered_nodes k t ≡ probe_count (keys_of (tree_pairs o)) k) × (entered_nodes k t ≤ length k + 1)
+  root-entered k t o c e = let w = IsCanonical-test t c in
+      rw (← e) (entered_nodes-probe_count k t w, few-entered_nodes k t w)

@@ -1,17 +1,16 @@
--- What a walk over a tree keeps as it goes on to a node, or leaves a level.
+-- What a walk over a tree keeps as it continues to a node, or leaves a level.
 use Rattle.std.proofs.Common.{◌≡◌, ◌≢◌, ℕ, zero, suc, ◌+◌, ◌*◌, ◌<◌, ◌≤◌, ⊎_elim, true, List, [], ◌∷◌, ◌++◌, length}
-use Rattle.std.proofs.Common.{take, reverse, Option, Some, None, refl, sym, ap, ◌∙◌, arith, length-append}
-use Rattle.std.proofs.Common.{slice_index_or, slice_set}
+use Rattle.std.proofs.Common.{take, reverse, ◌⊎◌, inl, inr, Option, Some, None, refl, sym, ap, ◌∙◌, arith}
+use Rattle.std.proofs.Common.{length-append, slice_index_or, slice_set}
 use Rattle.std.proofs.lemmas.Bool.Decides.{nat_tests}
 use Rattle.std.proofs.lemmas.List.{append-nil, append_assoc, length-reverse, length-take, map-append, reverse-append}
-use Rattle.std.proofs.lemmas.List.{take-append-le, take_all}
+use Rattle.std.proofs.lemmas.List.{take-append-le, take-take, take_all}
 use Rattle.rart_nodes.specs.tries.CanonicalTest.{is_canonical}
 use Rattle.rart_keys.specs.SortedMap.{longest_key}
 use Rattle.rart_nodes.specs.shapes.Shape.{capacity_of}
 use Rattle.rart_nodes.specs.walks.Walk.{SegmentList, Grown, IsShort, Level, HasRoom, segments_after, value_at}
 use Rattle.rart_nodes.specs.walks.Walk.{entries_of, children_entries, entries_below, nodes_below, AreLevels, IsWalk}
 use Rattle.rart_nodes.specs.walks.WalkSteps.{DeepestLeft, DeepestStep, PushesLevel}
-use Rattle.rart_nodes.specs.tries.PrefixLaws.{length-with_prefix}
 use Rattle.rart_nodes.specs.tries.Trie.{Trie, node, Children, no_children, child, children_in, children_pairs, pairs_of}
 use Rattle.rart_nodes.specs.tries.Trie.{prefix_of, value_of, own_pair, StartsWith, IsCanonical, AreCanonical}
 use Rattle.rart_nodes.specs.tries.Trie.{capacity_in, edges_of}
@@ -19,7 +18,7 @@ use Rattle.rart_nodes.specs.tries.Tree.{tree_pairs}
 use Rattle.rart_nodes.specs.tries.TrieCode.{node_count, child_count}
 use Rattle.rart_nodes.proofs.tries.CanonicalTests.{IsCanonical-test, test-IsCanonical, longest_key-append}
 use Rattle.rart_nodes.proofs.tries.CanonicalTests.{longest_key-after, canonical-lower}
-use Rattle.rart_nodes.proofs.tries.NodeCounts.{some-pairs}
+use Rattle.rart_nodes.proofs.tries.NodeCounts.{some-after, some-pairs}
 
 -- what is pushed last stands first
 pub deepest : {A : Type 0} (xs ys : List A) (x : A) → xs ≡ ys ++ x ∷ [] → reverse xs ≡ x ∷ reverse ys
@@ -32,7 +31,7 @@ starts-long b (x ∷ p) h = omega arith
 falls-by : (n m w : ℕ) → 2 * n + 1 + (2 * m + 1 + w) < 2 * (n + 1 + m) + 1 + w
 falls-by n m w = omega arith
 
-pub same-rest : {A : Type 0} (x y : A) (xs ys : List A) → x ∷ xs ≡ y ∷ ys → xs ≡ ys
+same-rest : {A : Type 0} (x y : A) (xs ys : List A) → x ∷ xs ≡ y ∷ ys → xs ≡ ys
 same-rest x y xs ys e = cc
 
 some-capacity : (n : ℕ) → capacity_of (suc n) ≡ 0 → ⊥
@@ -46,15 +45,9 @@ last-set (a ∷ b ∷ xs) zero x y h e = absurd (omega arith)
 last-set (a ∷ xs) (suc n) x y h e = let r = last-set xs n x y (omega arith) e in
     (a ∷ r.0, (ap (λ z. a ∷ z) r.1.0, ap (λ z. a ∷ z) r.1.1))
 
-take_take : {A : Type 0} (i d : ℕ) (k : List A) → i ≤ d → take i (take d k) ≡ take i k
-take_take zero d k h = refl
-take_take (suc i) zero k h = absurd (omega arith)
-take_take (suc i) (suc d) [] h = refl
-take_take (suc i) (suc d) (x ∷ k) h = ap (λ y. x ∷ y) (take_take i d k (omega arith))
-
--- the first segments of a path that was cut after them and goes on
+-- the first segments of a path that was cut after them and continues
 take-path : (i d : ℕ) (k p : SegmentList) → i ≤ d → d ≤ length k → take i (take d k ++ p) ≡ take i k
-take-path i d k p h l = take-append-le i (take d k) p (omega (arith, length-take d k)) ∙ take_take i d k h
+take-path i d k p h l = take-append-le i (take d k) p (omega (arith, length-take d k)) ∙ take-take i d k h
 
 module _ {V : Type 0} where
   -- how much there is to do at most
@@ -64,15 +57,11 @@ module _ {V : Type 0} where
 
   pub longest-below : (t : Trie V) → IsCanonical t → length (prefix_of t) + longest_key (children_pairs (children_in t))
       ≤ longest_key (pairs_of t)
-  longest-below (node p v n cs) w =
-      let some : 0 < length (own_pair v ++ children_pairs cs)
-      = omega (arith, some-pairs (node p v n cs) w, length-with_prefix p (own_pair v ++ children_pairs cs)) in
-      omega (
-        arith,
-        longest_key-after p (own_pair v ++ children_pairs cs) some,
-        longest_key-append (own_pair v)
-            (children_pairs cs),
-      )
+  longest-below (node p v n cs) w = omega (
+    arith,
+    longest_key-after p (own_pair v ++ children_pairs cs) (some-after p v n cs w),
+    longest_key-append (own_pair v) (children_pairs cs),
+  )
 
   pub below-canonical : (t : Trie V) → IsCanonical t → AreCanonical 0 (children_in t)
   below-canonical (node p v n cs) w = w.2
@@ -126,7 +115,7 @@ module _ {V : Type 0} where
             l,
       ) refl
 
-  -- a walk goes on from the deepest level to its first child t, after whose prefix the path is k1
+  -- a walk continues from the deepest level to its first child t, after whose prefix the path is k1
   pub record Turn (g : Grown) (longest places : ℕ) (k k1 : SegmentList) (ls ms : List (Level V)) (t : Trie V) : Type 0
     where
       pub path : IsWalk longest places k1 ms
@@ -244,6 +233,11 @@ module _ {V : Type 0} where
         counted = omega arith;
       }
 
+  -- the levels before a child is visited
+  pub level-before : (d : ℕ) (t : Trie V) (st st1 : List (Level V)) (s : DeepestStep st t d st1)
+      → reverse st ≡ (child s.edge t s.others, d) ∷ reverse s.rest
+  level-before d t st st1 s = deepest st s.rest (child s.edge t s.others, d) s.was
+
   -- the room that a turn finds
   pub record Space (longest places : ℕ) (k : SegmentList) (d : ℕ) (t : Trie V) (after : List (Level V)) : Type 0 where
     pub inside : d ≤ length k
@@ -253,9 +247,8 @@ module _ {V : Type 0} where
   pub space : (longest places d : ℕ) (k : SegmentList) (t : Trie V) (st st1 : List (Level V))
       → IsWalk longest places k (reverse st) → DeepestStep st t d st1 → Space longest places k d t st1
   space longest places d k t st st1 p s =
-      let e : reverse st ≡ (child s.edge t s.others, d) ∷ reverse s.rest
-      = deepest st s.rest (child s.edge t s.others, d) s.was in
-      let q : IsWalk longest places k ((child s.edge t s.others, d) ∷ reverse s.rest) = rw e at p in
+      let q : IsWalk longest places k ((child s.edge t s.others, d) ∷ reverse s.rest)
+      = rw (level-before d t st st1 s) at p in
       let c = first-child longest places k d t s.edge s.others (reverse s.rest) q in
       record {
         inside = c.inside;
@@ -272,69 +265,60 @@ module _ {V : Type 0} where
             );
       }
 
-  -- a walk goes on to a child that has children
-  pub turn : (g : Grown) (longest places places1 d : ℕ) (k k1 : SegmentList) (t : Trie V) (cs : Children V)
-      (st st1 st2 : List (Level V)) → IsShort g → IsWalk longest places k (reverse st)
-      → DeepestStep st t d st1 → k1 ≡ take d k ++ g (prefix_of t) → cs ≡ children_in t
-      → st2 ≡ st1 ++ (cs, length k1) ∷ [] → places ≤ places1
-      → Turn g longest places1 k k1 (reverse st) (reverse st2) t
-  turn g longest places places1 d k k1 t cs st st1 st2 h p s i j f m =
-      let e : reverse st ≡ (child s.edge t s.others, d) ∷ reverse s.rest
-      = deepest st s.rest (child s.edge t s.others, d) s.was in
-      let q : IsWalk longest places k ((child s.edge t s.others, d) ∷ reverse s.rest) = rw e at p in
-      let e2 : reverse st2 ≡ (children_in t, length k1) ∷ (s.others, d) ∷ reverse s.rest
-      = deepest st2 st1 (cs, length k1) f ∙ ap (λ x. (x, length k1) ∷ reverse st1) j
-      ∙ ap (λ x. (children_in t, length k1) ∷ x) (deepest st1 s.rest (s.others, d) s.is) in
-      rw (e2, e, i) (turn-at g longest places places1 d k t s.edge s.others (reverse s.rest) h q m)
+  -- a leaf gets no level
+  turn-leaf : (g : Grown) (longest places : ℕ) (k k1 : SegmentList) (ls ms : List (Level V)) (cs : Children V)
+      (t : Trie V) → cs ≡ no_children → Turn g longest places k k1 ls ((cs, length k1) ∷ ms) t
+      → Turn g longest places k k1 ls ms t
+  turn-leaf g longest places k k1 ls ms cs t e r =
+      let u : Turn g longest places k k1 ls ((no_children, length k1) ∷ ms) t = rw e at r in
+      let l = leave-at g longest places (length k1) k1 ms u.path in
+      let less : work_left ms < work_left ls = omega (arith, l.falls, u.falls) in
+      record { path = l.path; still = u.still; falls = less; counted = omega (arith, u.counted) }
 
-  -- a walk goes on to a leaf
-  pub turn-leaf : (g : Grown) (longest places places1 d : ℕ) (k k1 : SegmentList) (t : Trie V) (st st1 : List (Level V))
-      → IsShort g → IsWalk longest places k (reverse st)
-      → DeepestStep st t d st1 → k1 ≡ take d k ++ g (prefix_of t) → children_in t ≡ no_children → places ≤ places1
-      → Turn g longest places1 k k1 (reverse st) (reverse st1) t
-  turn-leaf g longest places places1 d k k1 t st st1 h p s i j m =
-      let r = turn g longest places places1 d k k1 t no_children st st1 (st1 ++ (no_children, length k1) ∷ []) h p s i
-      (sym j) refl m in
-      let e : reverse (st1 ++ (no_children, length k1) ∷ []) ≡ (no_children, length k1) ∷ reverse st1
-      = deepest (st1 ++ (no_children, length k1) ∷ []) st1 (no_children, length k1) refl in
-      let u : Turn g longest places1 k k1 (reverse st) ((no_children, length k1) ∷ reverse st1) t = rw e at r in
-      let l = leave-at g longest places1 (length k1) k1 (reverse st1) u.path in
-      record {
-        path = l.path;
-        still = u.still;
-        falls = omega (arith, l.falls, u.falls);
-        counted
-            = omega (arith, u.counted);
-      }
+  -- what is on the levels once a child was visited
+  pub went : (d n : ℕ) (t : Trie V) (st st1 st2 : List (Level V)) → (s : DeepestStep st t d st1)
+      → PushesLevel st1 t n st2 → (reverse st2 ≡ (children_in t, n) ∷ (s.others, d) ∷ reverse s.rest)
+      ⊎ ((reverse st2 ≡ (s.others, d) ∷ reverse s.rest) × (children_in t ≡ no_children))
+  went d n t st st1 st2 s o =
+      let e : reverse st1 ≡ (s.others, d) ∷ reverse s.rest = deepest st1 s.rest (s.others, d) s.is in
+      ⊎_elim (λ f. inl (deepest st2 st1 (children_in t, n) f ∙ ap (λ x. (children_in t, n) ∷ x) e))
+      (λ f. inr (ap reverse f.0 ∙ e, f.1)) o
 
-  -- a walk goes on to a child
+  -- a walk continues to a child
   pub turn-either : (g : Grown) (longest places places1 d : ℕ) (k k1 : SegmentList) (t : Trie V)
       (st st1 st2 : List (Level V)) → IsShort g → IsWalk longest places k (reverse st)
       → DeepestStep st t d st1 → k1 ≡ take d k ++ g (prefix_of t) → PushesLevel st1 t (length k1) st2 → places ≤ places1
       → Turn g longest places1 k k1 (reverse st) (reverse st2) t
-  turn-either g longest places places1 d k k1 t st st1 st2 h p s i o m = ⊎_elim
-      (λ f. turn g longest places places1 d k k1 t (children_in t) st st1 st2 h p s i refl f m)
-      (λ f. rw f.0 (turn-leaf g longest places places1 d k k1 t st st1 h p s i f.1 m)) o
+  turn-either g longest places places1 d k k1 t st st1 st2 h p s i o m =
+      let q : IsWalk longest places k ((child s.edge t s.others, d) ∷ reverse s.rest)
+      = rw (level-before d t st st1 s) at p in
+      let r : Turn g longest places1 k k1 ((child s.edge t s.others, d) ∷ reverse s.rest)
+      ((children_in t, length k1) ∷ (s.others, d) ∷ reverse s.rest) t
+      = rw i (turn-at g longest places places1 d k t s.edge s.others (reverse s.rest) h q m) in
+      rw (level-before d t st st1 s) (⊎_elim (λ f. rw f r) (λ f. rw f.0 (turn-leaf g longest places1 k k1
+      ((child s.edge t s.others, d) ∷ reverse s.rest) ((s.others, d) ∷ reverse s.rest) (children_in t) t f.1 r))
+      (went d (length k1) t st st1 st2 s o))
 
-  leave-level : (g : Grown) (longest places places1 : ℕ) (k : SegmentList) (st st1 front rest : List (Level V)) (d : ℕ)
-      (l : Level V) → IsWalk longest places k (reverse st) → st1 ≡ st → st ≡ front ++ (no_children, d) ∷ []
-      → st1 ≡ rest ++ l ∷ [] → places1 ≡ places
-      → Left g longest places1 k (reverse st) (reverse rest)
-  leave-level g longest places places1 k st st1 front rest d l p same was e f =
-      let e1 : (no_children, d) ∷ reverse front ≡ l ∷ reverse rest = sym (deepest st front (no_children, d) was)
-      ∙ ap reverse (sym same) ∙ deepest st1 rest l e in
-      let e2 : reverse st ≡ (no_children, d) ∷ reverse rest = deepest st front (no_children, d) was
-      ∙ ap (λ x. (no_children, d) ∷ x) (same-rest _ _ _ _ e1) in
-      let q : IsWalk longest places k ((no_children, d) ∷ reverse rest) = rw e2 at p in
-      rw (f, e2) (leave-at g longest places d k (reverse rest) q)
+  -- the deepest level is left
+  pub left-level : (st st1 rest : List (Level V)) (l : Level V) → DeepestLeft st st1 → st1 ≡ rest ++ l ∷ []
+      → (d : ℕ) × (reverse st ≡ (no_children, d) ∷ reverse rest)
+  left-level st st1 rest l s e = ⊎_elim
+      (λ z. absurd (omega (arith, ap length z, ap length s.same, ap length e, length-append rest (l ∷ []))))
+      (λ z. (
+        z.1.0,
+        deepest st z.0 (no_children, z.1.0) z.1.1
+            ∙ ap (λ x. (no_children, z.1.0) ∷ x) (same-rest _ _ _ _ (sym (deepest st z.0 (no_children, z.1.0) z.1.1)
+            ∙ ap reverse (sym s.same) ∙ deepest st1 rest l e)),
+      )) s.left
 
   -- a walk leaves a level of which nothing is left, if there is one
   pub leave : (g : Grown) (longest places places1 : ℕ) (k : SegmentList) (st st1 rest : List (Level V)) (l : Level V)
       → IsWalk longest places k (reverse st) → DeepestLeft st st1 → st1 ≡ rest ++ l ∷ [] → places1 ≡ places
       → Left g longest places1 k (reverse st) (reverse rest)
-  leave g longest places places1 k st st1 rest l p s e f = ⊎_elim
-      (λ z. absurd (omega (arith, ap length z, ap length s.same, ap length e, length-append rest (l ∷ []))))
-      (λ z. leave-level g longest places places1 k st st1 z.0 rest z.1.0 l p s.same z.1.1 e f) s.left
+  leave g longest places places1 k st st1 rest l p s e f =
+      let z = left-level st st1 rest l s e in
+      let q : IsWalk longest places k ((no_children, z.0) ∷ reverse rest) = rw z.1 at p in
+      rw (f, z.1) (leave-at g longest places z.0 k (reverse rest) q)
 
   -- a node of capacity 0 has no children
   pub bare : (t : Trie V) → is_canonical t ≡ true → capacity_in t ≡ 0 → children_in t ≡ no_children

@@ -8,7 +8,7 @@ use Rattle.rart_nodes.specs.walks.WalkSteps.{DeepestLeft, DeepestStep, PushesLev
 use Rattle.rart_nodes.specs.tries.Trie.{Trie, node, Children, no_children, child, children_in, prefix_of, value_of}
 use Rattle.rart_nodes.specs.tries.Trie.{IsCanonical}
 use Rattle.rart_nodes.proofs.tries.CanonicalTests.{IsCanonical-test}
-use Rattle.rart_nodes.proofs.walks.WalkLemmas.{first-child, deepest}
+use Rattle.rart_nodes.proofs.walks.WalkLemmas.{first-child, deepest, level-before}
 
 not-bare : (V : Type 0) (p : List ℕ) (n : ℕ) → IsCanonical {V = V} (node p None n no_children) → ⊥
 not-bare V p n w = ⊎_elim (λ h. cc) (λ h. absurd h) w.0
@@ -45,8 +45,7 @@ module _ {V : Type 0} where
       → KeepsEach g → IsWalk longest places k (reverse st) → HasVisited n m k (reverse st)
       → DeepestStep st t d st1 → k1 ≡ take d k ++ g (prefix_of t) → m1 ≡ m + 1 → m1 ≤ n + length k1
   visit-one g longest places n m m1 d k k1 t st st1 bytes p h s i f =
-      let e : reverse st ≡ (child s.edge t s.others, d) ∷ reverse s.rest
-      = deepest st s.rest (child s.edge t s.others, d) s.was in
+      let e = level-before d t st st1 s in
       let q : IsWalk longest places k ((child s.edge t s.others, d) ∷ reverse s.rest) = rw e at p in
       let c = first-child longest places k d t s.edge s.others (reverse s.rest) q in
       let more : d < length k1 = omega (

@@ -1,4 +1,4 @@
--- What a callback of an update is asked, and what it was called for. It is shown the slot of what is stored at a key.
+-- What the callback of an update requires, and what it was called with: the slot of what is stored at a key.
 use Rattle.std.specs.Prelude.{◌≡◌, Option, is_some}
 use Rattle.std.specs.Borrow.{MutBor}
 use Rattle.std.specs.Fn.{Once, FnOnceReturnsAtMut}
@@ -6,19 +6,19 @@ use Rattle.rart_nodes.specs.declared.slot.Slot.{Slot}
 use Rattle.rart_nodes.specs.declared.slot.SlotUpdate.{SlotUpdate}
 use Rattle.rart_nodes.specs.edits.Slots.{slot_of}
 
--- shown o, f keeps an occupied slot occupied and a vacant one vacant
+-- called with o, f keeps an occupied slot occupied and a vacant one vacant
 abbrev pub Stays : {F V : Type 0} → Once F (MutBor (Slot V) × Unit {0}) (SlotUpdate V × (MutBor (Slot V) × Unit {0}))
     → F → Option V → Type 0
 Stays {F} {V} g f o = (r : SlotUpdate V) (w : Option V) → FnOnceReturnsAtMut g f (slot_of o) r (slot_of w)
     → is_some w ≡ is_some o
 
--- the same of one that returns something more what is to be done
+-- the same of one that returns the requested update and a second result
 abbrev pub StaysReturning : {F X V : Type 0}
     → Once F (MutBor (Slot V) × Unit {0}) ((SlotUpdate V × X) × (MutBor (Slot V) × Unit {0})) → F → Option V → Type 0
 StaysReturning {F} {X} {V} g f o = (r : SlotUpdate V) (x : X) (w : Option V)
     → FnOnceReturnsAtMut g f (slot_of o) (r, x) (slot_of w) → is_some w ≡ is_some o
 
--- f was called once: shown o it answered some a and left some w, of which E holds
+-- f was called once with o: it returned some a and left some w, of which E holds
 abbrev pub AnswersSo : {F A V : Type 0} → Once F (MutBor (Slot V) × Unit {0}) (A × (MutBor (Slot V) × Unit {0})) → F
     → Option V → (A → Option V → Type 0) → Type 0
 AnswersSo {F} {A} {V} g f o E = (a : A) × (w : Option V) × FnOnceReturnsAtMut g f (slot_of o) a (slot_of w) × E a w

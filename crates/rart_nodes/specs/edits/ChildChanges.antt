@@ -1,4 +1,4 @@
--- What a node is with a change of one child where it stands.
+-- A node with one child changed in its place.
 use Rattle.std.specs.Prelude.{ℕ, ◌==◌, if◌then◌else◌, Option, Some, None}
 use Rattle.rart_nodes.specs.edits.NodeEdits.{with_value}
 use Rattle.rart_nodes.specs.tries.Trie.{Trie, node, Children, no_children, child, value_of, child_in}

@@ -5,7 +5,7 @@ use Rattle.rart_keys.specs.ByteStrings.{strip_prefix}
 use Rattle.rart_keys.specs.KeyBytes.{IsWithin}
 use Rattle.rart_nodes.specs.tries.Trie.{Trie, node, Children, no_children, child, edges_of, prefix_of, value_of}
 use Rattle.rart_nodes.specs.tries.Trie.{capacity_in, child_in, children_in, child_of}
-use Rattle.rart_nodes.specs.storages.Widths.{narrowed_width, previous_width}
+use Rattle.rart_nodes.specs.storages.Capacities.{narrowed_capacity, previous_capacity}
 
 -- children without the one at a byte
 abbrev pub children_without : {V : Type 0} → ℕ → Children V → Children V
@@ -33,20 +33,20 @@ joined_child p (child b t cs) = node (p ++ prefix_of t) (value_of t) (capacity_i
 abbrev pub joined_if_lone : {V : Type 0} → Trie V → Trie V
 joined_if_lone (node p v w cs) = if is_lone v cs then joined_child p cs else node p v w cs
 
--- a node of width w that a child was taken from, and that has cs left
+-- a node of capacity w that a child was taken from, and that has cs left
 abbrev pub remaining_node : {V : Type 0} → List ℕ → Option V → ℕ → Children V → Trie V
 remaining_node p v w cs = if w == 4 && is_lone v cs then joined_child p cs
-    else node p v (narrowed_width (length (edges_of cs)) w) cs
+    else node p v (narrowed_capacity (length (edges_of cs)) w) cs
 
 -- a node without the child at a byte
 abbrev pub without_child : {V : Type 0} → ℕ → Trie V → Trie V
 without_child b (node p v w cs) = if is_some (child_of b cs) then remaining_node p v w (children_without b cs)
     else node p v w cs
 
--- a child stands at b, and without it the node takes a smaller storage that has a width
+-- there is a child at b, and without it the node takes a smaller storage that has a capacity
 abbrev pub NarrowsWithout : {V : Type 0} → ℕ → Trie V → Type 0
 NarrowsWithout b t = (child_in b t ≢ None) × (4 < capacity_in t)
-    × (length (edges_of (children_in t)) ≤ previous_width (capacity_in t) + 1)
+    × (length (edges_of (children_in t)) ≤ previous_capacity (capacity_in t) + 1)
 
 -- nothing is left of a key
 abbrev pub is_end : Option (List ℕ) → Bool

@@ -2,7 +2,7 @@
 use Rattle.std.specs.Prelude.{ℕ, ◌≡◌, List, [], ◌∷◌, ◌++◌, true, Option, Some, None, MatchOption}
 use Rattle.rart_nodes.specs.declared.node.ends.End.{End}
 use Rattle.rart_nodes.specs.declared.node.ends.End.TheVariants.{First, Last}
-use Rattle.rart_nodes.specs.edits.RemoveAsks.{trie_asks_remove}
+use Rattle.rart_nodes.specs.edits.RemoveAllocations.{trie_remove_allocates}
 use Rattle.rart_nodes.specs.tries.Ends.{end_of}
 use Rattle.rart_nodes.specs.tries.Trie.{Trie, pairs_of, trie_remove}
 
@@ -27,7 +27,7 @@ pub record Pops {V : Type 0} (e : End) (old : Trie V) (q r : List ℕ) (taken : 
   pub rest : Some new ≡ trie_remove pair.0 old
 
 -- the removal of that pair requests memory
-pub record PopAsks {V : Type 0} (e : End) (old : Trie V) : Type 0 where
+pub record PopAllocates {V : Type 0} (e : End) (old : Trie V) : Type 0 where
   pub pair : List ℕ × V
   pub here : end_of e (pairs_of old) ≡ Some pair
-  pub asks : trie_asks_remove None pair.0 old ≡ true
+  pub allocates : trie_remove_allocates None pair.0 old ≡ true

@@ -1,4 +1,4 @@
--- What an update shows of a key, and what it comes to.
+-- The slot that an update shows of a key, and the result of the update.
 use Rattle.std.specs.Prelude.{◌≡◌, ◌+◌, ℕ, Bool, false, max, Option, Some, None, Result, Ok}
 use Rattle.rart_nodes.specs.declared.slot.Outcome.{Outcome}
 use Rattle.rart_nodes.specs.declared.slot.Outcome.TheVariants.{Absent, New, Kept, Replaced, Removed}
@@ -13,7 +13,7 @@ abbrev pub slot_of : {V : Type 0} → Option V → Slot V
 slot_of None = Vacant
 slot_of (Some v) = Occupied v
 
--- what an update comes to where w was left and r is asked for
+-- the result of an update where w was left and r is requested
 abbrev pub outcome_of : {V : Type 0} → SlotUpdate V → Option V → Outcome V
 outcome_of Keep None = Absent
 outcome_of Remove None = Absent

@@ -8,9 +8,9 @@ use Rattle.rart_nodes.specs.declared.slot.SlotUpdate.TheVariants.{Keep, Remove, 
 use Rattle.rart_nodes.specs.declared.slot.UpdateError.{UpdateError}
 use Rattle.rart_nodes.specs.declared.slot.UpdateError.TheVariants.{Insert as Not_inserted, Remove as Not_removed}
 use Rattle.rart_nodes.specs.edits.Deletion.{joined_if_lone, without_child}
-use Rattle.rart_nodes.specs.edits.InsertAsks.{trie_asks_put}
-use Rattle.rart_nodes.specs.edits.RemoveAsks.{trie_asks_remove}
-use Rattle.rart_nodes.specs.storages.Widths.{previous_width}
+use Rattle.rart_nodes.specs.edits.InsertAllocations.{trie_put_allocates}
+use Rattle.rart_nodes.specs.edits.RemoveAllocations.{trie_remove_allocates}
+use Rattle.rart_nodes.specs.storages.Capacities.{previous_capacity}
 use Rattle.rart_nodes.specs.tries.Tree.{tree_put, tree_remove}
 use Rattle.rart_nodes.specs.tries.Trie.{Trie, node, capacity_in, children_in, edges_of, trie_lookup, value_of}
 use Rattle.rart_nodes.specs.tries.Trie.{with_records}
@@ -23,35 +23,35 @@ abbrev pub tree_left : {V : Type 0} → List ℕ → Option V → Option (Trie V
 tree_left k None t = t
 tree_left k (Some w) t = Some (tree_put k w t)
 
--- the tree where it asked for r
+-- the tree where it requested r
 abbrev pub tree_updated : {V : Type 0} → List ℕ → SlotUpdate V → Option V → Option (Trie V) → Option (Trie V)
 tree_updated k Keep w t = tree_left k w t
 tree_updated k Remove None t = t
 tree_updated k Remove (Some w) t = tree_remove k t
 tree_updated k (Insert x) w t = Some (tree_put k x t)
 
--- an insertion at k may ask for memory, and there is no node there
-abbrev pub AsksPut : {V : Type 0} → List ℕ → Option (Trie V) → Type 0
-AsksPut k None = ⊥
-AsksPut k (Some t) = (trie_asks_put k t ≡ true) × (trie_lookup k (with_records t) ≡ None)
+-- an insertion at k may allocate, and there is no node there
+abbrev pub PutAllocates : {V : Type 0} → List ℕ → Option (Trie V) → Type 0
+PutAllocates k None = ⊥
+PutAllocates k (Some t) = (trie_put_allocates k t ≡ true) × (trie_lookup k (with_records t) ≡ None)
 
--- a removal of k may ask for memory
-abbrev pub AsksRemove : {V : Type 0} → List ℕ → Option (Trie V) → Type 0
-AsksRemove k None = ⊥
-AsksRemove k (Some t) = trie_asks_remove None k t ≡ true
+-- a removal of k may allocate
+abbrev pub RemoveAllocates : {V : Type 0} → List ℕ → Option (Trie V) → Type 0
+RemoveAllocates k None = ⊥
+RemoveAllocates k (Some t) = trie_remove_allocates None k t ≡ true
 
 -- an insertion of a new key is refused for this reason
 abbrev pub RefusesPut : {V : Type 0} → Bool → List ℕ → Option (Trie V) → TreeError → Type 0
 RefusesPut full k t Full = full ≡ true
-RefusesPut full k t Memory = (full ≡ false) × AsksPut k t
+RefusesPut full k t Memory = (full ≡ false) × PutAllocates k t
 
--- an update of t at k, where w was left and r asked for, gives this result and the tree u
+-- an update of t at k, where w was left and r requested, gives this result and the tree u
 abbrev pub EndsTree : {V : Type 0} → Bool → List ℕ → SlotUpdate V → Option V → Option (Trie V)
     → Result (Outcome V) (UpdateError V) → Option (Trie V) → Type 0
 EndsTree full k r w t (Ok o) u = (u ≡ tree_updated k r w t) × (o ≡ outcome_of r w) × HasRoom full o
 EndsTree full k r w t (Err (Not_inserted e)) u = (u ≡ t) × (r ≡ Insert e.value) × (w ≡ None)
     × RefusesPut full k t e.error
-EndsTree full k r w t (Err Not_removed) u = (u ≡ tree_left k w t) × (r ≡ Remove) × (w ≢ None) × AsksRemove k t
+EndsTree full k r w t (Err Not_removed) u = (u ≡ tree_left k w t) × (r ≡ Remove) × (w ≢ None) × RemoveAllocates k t
 
 -- a node with this in the place of its value
 abbrev pub node_holding : {V : Type 0} → Option V → Trie V → Trie V
@@ -79,7 +79,7 @@ EndsLeaf r None t o u = ⊥
 abbrev pub RemovesLeaf : {V : Type 0} → ℕ → Option V → Trie V → Result (Outcome V) (UpdateError V) → Trie V → Type 0
 RemovesLeaf b w t (Ok (Removed v)) u = (Some v ≡ w) × (u ≡ without_child b t)
 RemovesLeaf b w t (Err Not_removed) u = (u ≡ t) × (4 < capacity_in t)
-    × (length (edges_of (children_in t)) ≤ previous_width (capacity_in t) + 1)
+    × (length (edges_of (children_in t)) ≤ previous_capacity (capacity_in t) + 1)
 RemovesLeaf b w t result u = ⊥
 
 -- a root that is a leaf is removed, with its value

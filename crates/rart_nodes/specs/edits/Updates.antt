@@ -9,8 +9,8 @@ use Rattle.rart_nodes.specs.declared.slot.SlotUpdate.{SlotUpdate}
 use Rattle.rart_nodes.specs.declared.slot.SlotUpdate.TheVariants.{Keep, Remove, Insert}
 use Rattle.rart_nodes.specs.declared.slot.UpdateError.{UpdateError}
 use Rattle.rart_nodes.specs.declared.slot.UpdateError.TheVariants.{Insert as Not_inserted, Remove as Not_removed}
-use Rattle.rart_nodes.specs.edits.InsertAsks.{insert_asks}
-use Rattle.rart_nodes.specs.edits.RemoveAsks.{remove_asks}
+use Rattle.rart_nodes.specs.edits.InsertAllocations.{insert_allocates}
+use Rattle.rart_nodes.specs.edits.RemoveAllocations.{remove_allocates}
 use Rattle.rart_nodes.specs.edits.Callbacks.{AnswersReturning}
 use Rattle.rart_nodes.specs.edits.Slots.{HasRoom, outcome_of}
 use Rattle.rart_parts.specs.declared.error.TreeError.{TreeError}
@@ -21,7 +21,7 @@ abbrev pub map_left : {V : Type 0} → List ℕ → Option V → List (List ℕ 
 map_left k None m = m
 map_left k (Some w) m = put k w m
 
--- the pairs where it asked for r
+-- the pairs where it requested r
 abbrev pub map_updated : {V : Type 0} → List ℕ → SlotUpdate V → Option V → List (List ℕ × V) → List (List ℕ × V)
 map_updated k Keep w m = map_left k w m
 map_updated k Remove None m = m
@@ -31,16 +31,16 @@ map_updated k (Insert x) w m = put k x m
 -- an insertion of a new key is refused for this reason
 abbrev pub RefusesNew : {V : Type 0} → Bool → List ℕ → List (List ℕ × V) → TreeError → Type 0
 RefusesNew full k m Full = full ≡ true
-RefusesNew full k m Memory = (full ≡ false) × (insert_asks (keys_of m) k ≡ true)
+RefusesNew full k m Memory = (full ≡ false) × (insert_allocates (keys_of m) k ≡ true)
 
--- an update of m at k, where w was left and r asked for, gives this result and the pairs n
+-- an update of m at k, where w was left and r requested, gives this result and the pairs n
 abbrev pub EndsMap : {V : Type 0} → Bool → List ℕ → SlotUpdate V → Option V → List (List ℕ × V)
     → Result (Outcome V) (UpdateError V) → List (List ℕ × V) → Type 0
 EndsMap full k r w m (Ok o) n = (n ≡ map_updated k r w m) × (o ≡ outcome_of r w) × HasRoom full o
 EndsMap full k r w m (Err (Not_inserted e)) n = (n ≡ m) × (r ≡ Insert e.value) × (w ≡ None)
     × RefusesNew full k m e.error
 EndsMap full k r w m (Err Not_removed) n = (n ≡ map_left k w m) × (r ≡ Remove) × (w ≢ None)
-    × (remove_asks (keys_of m) k ≡ true)
+    × (remove_allocates (keys_of m) k ≡ true)
 
 -- the same of an update with the callback f, which returns something more
 abbrev pub UpdatesMap : {F X V : Type 0}

@@ -13,7 +13,7 @@ use Rattle.rart_nodes.specs.walks.Walk.{joined_bytes}
 use Rattle.rart_nodes.specs.walks.PathParts.{lent_segments}
 use Rattle.rart_nodes.specs.walks.ViewSegments.{all_have_bytes}
 
--- `given s f es g`: given the pairs es after the path s, f became g; `room s n`: it can go on by n bytes
+-- `given s f es g`: given the pairs es after the path s, f became g; `room s n`: it can grow by n bytes
 pub record AreVisitors {F X : Type 0} (room : Kept → ℕ → Type 0) (given : Kept → F → List (List ℕ × X) → F
     → Type 0) : Type 0 where
   pub holds : (s : Kept) (n : ℕ) → room s n → PathRoom s n

@@ -12,7 +12,7 @@ pub record Pairing (A : Type 0) : Type 0 where
   pub also : A → A → A
   pub entered : ℕ → A → A
 
--- two prefixes byte by byte: they end together, the second goes on, the first goes on, or they differ
+-- two prefixes byte by byte: they end together, the second continues, the first continues, or they differ
 abbrev pub pair_prefixes : {A : Type 0} → A → (ℕ → A → A) → List ℕ → List ℕ → A → (ℕ → List ℕ → A) → (ℕ → List ℕ → A)
     → A
 pair_prefixes apart shared [] [] ended f g = ended

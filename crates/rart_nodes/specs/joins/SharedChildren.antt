@@ -40,7 +40,7 @@ pub record IsAligned {V W : Type 0} (t : Trie V) (u : Trie W) (p : List ℕ) (a 
   pub few : node_count a + node_count b ≤ node_count t + node_count u
   pub short : length p + longest_key (children_pairs (children_in a)) ≤ longest_key (pairs_of t)
 
--- two strings after the bytes w with which both begin, k and q, which don't go on by the same byte
+-- two strings after the bytes w with which both begin, k and q, which don't continue by the same byte
 pub record IsParted (l r w k q : List ℕ) : Type 0 where
   pub left_is : l ≡ w ++ k
   pub right_is : r ≡ w ++ q

@@ -1,4 +1,4 @@
--- The strings at which two trees branch and both go on, and the visits of an intersection.
+-- The strings at which two trees branch and both continue, and the visits of an intersection.
 use Rattle.std.specs.Prelude.{ℕ, ◌+◌, ◌||◌, ◌&&◌, Bool, false, List, [], ◌∷◌, ◌++◌, map, length, is_some}
 use Rattle.std.specs.List.{filter}
 use Rattle.rart_nodes.specs.joins.Intersections.{Pairing, pair_child, pair_down, pair_each, pair_in, pair_prefixes}

@@ -1,4 +1,4 @@
--- The laws that the ghost fields of meetings name. They are proof terms, and stand here since a ghost field can name no
+-- The laws that the ghost fields of visitors name. They are proof terms, and stand here since a ghost field can name no
 -- lemma of proofs/. The words that they speak of are in Given.antt.
 pub use Rattle.rart_nodes.specs.joins.Given.{
   AreVisitors,
@@ -42,7 +42,7 @@ within-less : (m : Option ℕ) (i j : ℕ) → IsWithin m i → j ≤ i → IsWi
 within-less None i j h k = tt
 within-less (Some m) i j h k = omega arith
 
--- room on ways
+-- room on paths
 bytes_room : (k l : Vec ℕ) (p : List ℕ) (m n : ℕ) → BytesGrown k p l → length k.items + m ≤ vec_capacity k
     → length p + n ≤ m → length l.items + n ≤ vec_capacity l
 bytes_room k l p m n a b c = omega (arith, a.place, b, c, ap length a.bytes, length-append k.items p)

@@ -15,7 +15,7 @@ up_to_two no_children = 0
 up_to_two (child b t cs) = 1 + up_to_one cs
 
 -- the nodes without a pair so far that levels may stand for, of which a child is being walked; the topmost, which
--- stands last, was visited on the way to the start
+-- stands last, was visited on the path to the start
 abbrev pub amortized_visits : {V : Type 0} → List (Level V) → ℕ
 amortized_visits [] = 0
 amortized_visits (l ∷ []) = 0
@@ -33,7 +33,7 @@ abbrev pub AreLow : {V : Type 0} → ℕ → List (Level V) → Type 0
 AreLow h [] = Unit {0}
 AreLow h (l ∷ ls) = (length ls + 1 + children_height l.0 ≤ h) × AreLow h ls
 
--- a walk went on to its next pair, from n visits to m, and from the levels ls to ms
+-- a walk advanced to its next pair, from n visits to m, and from the levels ls to ms
 pub record IsAmortized {V : Type 0} (n m : ℕ) (ls ms : List (Level V)) : Type 0 where
   pub next : m + potential ls ≤ n + 2 + potential ms
   pub last : (h : ℕ) → AreLow h ls → m + potential ls ≤ n + h

@@ -12,10 +12,10 @@ use Rattle.rart_nodes.specs.walks.Walk.{SegmentList}
 abbrev pub cut_between : {V : Type 0} → Bound (List ℕ) → Bound (List ℕ) → List (List ℕ × V) → List (SegmentList × V)
 cut_between a b es = cut_pairs (keys_of es) (between a b es)
 
--- the way to the start, two nodes for each pair, and the tree's height
+-- the path to the start, two nodes for each pair, and the tree's height
 abbrev pub span_visits : {V : Type 0} → Bound (List ℕ) → Bound (List ℕ) → List (List ℕ × V) → ℕ
 span_visits a b es = probe_count (keys_of es) (bound_bytes a) + 2 * length (between a b es) + height (keys_of es)
 
--- at least as many: with the start's bytes in place of the branch points on its way
+-- at least as many: with the start's bytes in place of the branch points on its path
 abbrev pub span_bound : {V : Type 0} → Bound (List ℕ) → Bound (List ℕ) → List (List ℕ × V) → ℕ
 span_bound a b es = length (bound_bytes a) + 1 + 2 * length (between a b es) + height (keys_of es)

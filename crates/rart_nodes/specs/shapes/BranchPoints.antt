@@ -8,7 +8,7 @@ use Rattle.rart_nodes.specs.shapes.Shape.{contains_key}
 abbrev pub begins_any : List ℕ → List (List ℕ) → Bool
 begins_any p s = list_any (λ k. begins p k) s
 
--- keys go on from p by two different bytes
+-- keys continue after p by two different bytes
 pub record GoTwoWays (s : List (List ℕ)) (p : List ℕ) : Type 0 where
   pub one : ℕ
   pub other : ℕ
@@ -16,6 +16,6 @@ pub record GoTwoWays (s : List (List ℕ)) (p : List ℕ) : Type 0 where
   pub one_on : begins_any (p ++ one ∷ []) s ≡ true
   pub other_on : begins_any (p ++ other ∷ []) s ≡ true
 
--- p is a key, or keys go on from it two ways
+-- p is a key, or keys continue after it by two different bytes
 abbrev pub IsBranchPoint : List (List ℕ) → List ℕ → Type 0
 IsBranchPoint s p = (contains_key s p ≡ true) ⊎ GoTwoWays s p

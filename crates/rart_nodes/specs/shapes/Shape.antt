@@ -28,18 +28,18 @@ abbrev pub capacity_of : ℕ → ℕ
 capacity_of n = if nat_le n 0 then 0 else if nat_le n 4 then 4 else if nat_le n 16 then 16 else if nat_le n 48 then 48
     else 256
 
--- what is recorded of a node: whether it holds a value, its edge bytes, and how many children it has room for
+-- what is recorded of a node: whether it holds a value, its edge bytes, and its capacity
 pub record NodeRecord : Type 0 where
   pub holds_value : Bool
   pub edges : List ℕ
   pub capacity : ℕ
 
--- the record of a string that is a key or not, and from which the keys go on by these bytes
+-- the record of a string that is a key or not, and after which the keys continue by these bytes
 abbrev pub record_from : Bool → List ℕ → Option NodeRecord
 record_from h bs = if h || nat_le 2 (length bs)
     then Some (record { holds_value = h; edges = bs; capacity = capacity_of (length bs) }) else None
 
--- a branch point is a key, or keys go on from it by two bytes or more
+-- a branch point is a key, or keys continue after it by two bytes or more
 abbrev pub record_at : List (List ℕ) → List ℕ → Option NodeRecord
 record_at s p = record_from (contains_key s p) (next_bytes s p)
 

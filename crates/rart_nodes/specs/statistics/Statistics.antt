@@ -19,7 +19,7 @@ inner_at r = one_if (nat_le 1 (length r.edges))
 abbrev pub values_at : NodeRecord → ℕ
 values_at r = one_if r.holds_value
 
--- its children, and how many it has room for
+-- its children, and its capacity
 abbrev pub children_at : NodeRecord → ℕ
 children_at r = length r.edges
 

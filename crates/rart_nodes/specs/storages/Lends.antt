@@ -6,7 +6,7 @@ use Rattle.rart_nodes.specs.contracts.node.storage.Storage.{the_row}
 use Rattle.rart_nodes.specs.declared.node.storage.Storage.{Storage}
 use Rattle.rart_nodes.specs.storages.Stored.{StoresLent, StoresSame}
 
--- the child at b was lent, if there is one: the storage ends with what was left there at b, in the same width; where
+-- the child at b was lent, if there is one: the storage ends with what was left there at b, in the same capacity; where
 -- nothing was lent it holds what it held
 abbrev pub lends_child : (N : RattleType) → MutBor (Storage N.Denot) → ℕ → Option (MutBor N.Denot) → Fml
 lends_child N storage b lent = LendsSo (the_row N) N storage lent (λ s w. StoresLent b w lent storage.now s)

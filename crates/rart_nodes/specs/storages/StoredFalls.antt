@@ -7,7 +7,7 @@ use Rattle.rart_parts.specs.Entries.{with_another, ascending}
 use Rattle.rart_nodes.specs.declared.node.DefaultNode.TheDeep.{deep-DefaultNode}
 use Rattle.rart_nodes.specs.declared.node.storage.Storage.{Storage}
 use Rattle.rart_nodes.specs.declared.node.storage.Storage.TheVariants.{Leaf, Node4, Node16, Node48, Node256}
-use Rattle.rart_nodes.specs.storages.Stored.{stored}
+use Rattle.rart_nodes.specs.storages.Stored.{child_entries}
 use Rattle.rart_nodes.specs.tries.Trie.{Trie}
 use Rattle.rart_nodes.specs.tries.TrieCode.{as_children, node_count, child_count}
 
@@ -32,7 +32,8 @@ count-ascending [] = refl
 count-ascending (e ∷ es) = omega (arith, count-with_another e.0 e.1 (ascending es), count-ascending es)
 
 pub deep_le-stored : {P V : Type 0} (G : Ghosts P) (p : P) (v : Option V) (s : Storage (Trie V))
-    → deep-DefaultNode P V G (record { prefix = p; value = v; storage = s }) ≤ child_count (as_children (stored s)) + 1
+    → deep-DefaultNode P V G (record { prefix = p; value = v; storage = s }) ≤ child_count (as_children
+    (child_entries s)) + 1
 deep_le-stored G p v Leaf = omega arith
 deep_le-stored G p v (Node4 m) = omega (arith, most-children m.value)
 deep_le-stored G p v (Node16 m) = omega (arith, most-children m.value)

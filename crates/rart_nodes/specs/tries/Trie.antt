@@ -155,9 +155,9 @@ overlap (x ∷ p) (y ∷ k) = if x == y then grown_overlap x (overlap p k)
     else record { shared = []; left = x ∷ p; right = y ∷ k }
 
 -- two children in order
-abbrev pub aligned : {V : Type 0} → ℕ → Trie V → ℕ → Trie V → Children V
-aligned b s c t = match_ordering (nat_cmp b c) (child b s (child c t no_children)) (child b s (child c t no_children))
-    (child c t (child b s no_children))
+abbrev pub two_children : {V : Type 0} → ℕ → Trie V → ℕ → Trie V → Children V
+two_children b s c t = match_ordering (nat_cmp b c) (child b s (child c t no_children))
+    (child b s (child c t no_children)) (child c t (child b s no_children))
 
 -- a node with v put in, by how its prefix p and the key part: q is shared, l is left of p and r of the key
 abbrev pub put_split : {V : Type 0} → List ℕ → List ℕ → List ℕ → V → Option V → ℕ → Children V
@@ -165,7 +165,8 @@ abbrev pub put_split : {V : Type 0} → List ℕ → List ℕ → List ℕ → V
 put_split q [] [] v old n cs f = node q (Some v) n cs
 put_split q [] (b ∷ r) v old n cs f = fitting_node q old (f b (b ∷ r))
 put_split q (c ∷ l) [] v old n cs f = fitting_node q (Some v) (child c (node (c ∷ l) old n cs) no_children)
-put_split q (c ∷ l) (b ∷ r) v old n cs f = fitting_node q None (aligned c (node (c ∷ l) old n cs) b (leaf (b ∷ r) v))
+put_split q (c ∷ l) (b ∷ r) v old n cs f
+    = fitting_node q None (two_children c (node (c ∷ l) old n cs) b (leaf (b ∷ r) v))
 
 -- the same of an overlap
 abbrev pub put_overlap : {V : Type 0} → Overlap → V → Option V → ℕ → Children V → (ℕ → List ℕ → Children V) → Trie V

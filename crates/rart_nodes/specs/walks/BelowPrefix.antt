@@ -16,20 +16,20 @@ values_below p es = values_of (below p es)
 abbrev pub cut_below : {V : Type 0} → List ℕ → List (List ℕ × V) → List (SegmentList × V)
 cut_below p es = cut_pairs (keys_of es) (below p es)
 
--- the way to the prefix, and two nodes for each pair
+-- the path to the prefix, and two nodes for each pair
 abbrev pub below_visits : {V : Type 0} → List ℕ → List (List ℕ × V) → ℕ
 below_visits p es = probe_count (keys_of es) p + 2 * length (below p es)
 
--- at least as many: with the bytes of the prefix in place of the branch points on its way
+-- at least as many: with the bytes of the prefix in place of the branch points on its path
 abbrev pub below_bound : {V : Type 0} → List ℕ → List (List ℕ × V) → ℕ
 below_bound p es = length p + 1 + 2 * length (below p es)
 
--- the way to a key that is found, once more, and its segments
+-- the path to a key that is found, once more, and its segments
 abbrev pub found_visits : {V : Type 0} → List (List ℕ) → Option (List ℕ × V) → ℕ
 found_visits s None = 0
 found_visits s (Some e) = probe_count s e.0 + length (cut s e.0)
 
--- the way down along a probe, and that to the longest key that begins it
+-- the path along a probe, and that to the longest key that begins it
 abbrev pub match_visits : {V : Type 0} → List ℕ → List (List ℕ × V) → ℕ
 match_visits p es = probe_count (keys_of es) p + found_visits (keys_of es) (longest_match p es)
 

@@ -29,7 +29,7 @@ matches_ahead q d o = with_prefix (take d q) (tree_matches (drop d q) o)
 abbrev pub entered_ahead : {V : Type 0} → List ℕ → ℕ → Option (Trie V) → ℕ
 entered_ahead q d o = tree_entered (drop d q) o
 
--- the same of a way down
+-- the same of a descent
 abbrev pub matches_left : {P V C : Type 0} {G : Ghosts P} → List ℕ → Matching P V C G → List (List ℕ × V)
 matches_left q m = matches_ahead q m.depth (option_map (λ s. s.node.now) m.below)
 
@@ -46,14 +46,14 @@ pub record PassesNone {V : Type 0} (q : List ℕ) (d : ℕ) (t : Trie V) : Type 
   pub still : matches_ahead q d (Some t) ≡ []
   pub counted : entered_ahead q d (Some t) ≡ 1
 
--- there it passes the node, and goes on before the tree o after the first d1 bytes
+-- there it passes the node, and continues before the tree o after the first d1 bytes
 pub record Passes {V : Type 0} (q : List ℕ) (d : ℕ) (t : Trie V) (d1 : ℕ) (o : Option (Trie V)) : Type 0 where
   pub within : d1 ≤ length q
   pub still : matches_ahead q d (Some t) ≡ pair_at (take d1 q) (value_of t) ++ matches_ahead q d1 o
   pub counted : entered_ahead q d (Some t) ≡ 1 + entered_ahead q d1 o
   pub falls : tree_count o < node_count t
 
--- at the node t the descent goes on before what r shows, or ends
+-- at the node t the descent continues before what r shows, or ends
 abbrev pub PassesTo : {P V C : Type 0} {G : Ghosts P} → List ℕ → ℕ → Trie V → Option (Option (Shared P V C G) × ℕ)
     → Type 0
 PassesTo q d t r = MatchOption r (PassesNone q d t) (λ e. Passes q d t e.1 (option_map (λ s. s.node.now) e.0))

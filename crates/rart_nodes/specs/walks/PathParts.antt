@@ -3,6 +3,7 @@ use Rattle.std.specs.Prelude.{ℕ, List, [], ◌∷◌, map, Option}
 use Rattle.std.specs.Borrow.{Bor}
 use Rattle.std.specs.Option.{option_copied}
 use Rattle.std.proofs.Common.{arith}
+use Rattle.rart_nodes.specs.declared.node.walk.Walk.{Walk}
 use Rattle.rart_nodes.specs.walks.Walk.{Grown, IsShort, Level, SegmentList, entry_values, entries_ahead}
 
 abbrev pub byte_segments : Grown
@@ -33,3 +34,6 @@ lent_segments ps = map (λ p. p.now) ps
 -- the values that lie ahead of a walk whose path keeps nothing
 abbrev pub values_ahead : {V : Type 0} → Option (Bor V) → List (Level V) → List V
 values_ahead first levels = entry_values (entries_ahead no_segment [] (option_copied first) levels)
+
+abbrev pub walk_values : {P V C : Type 0} → Walk P V C → List V
+walk_values w = values_ahead w.first w.levels.items

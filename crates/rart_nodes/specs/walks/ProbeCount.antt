@@ -4,7 +4,7 @@ use Rattle.std.specs.List.{list_any}
 use Rattle.rart_nodes.specs.shapes.Shape.{NodeRecord, record_at}
 use Rattle.rart_nodes.specs.tries.Trie.{Trie, Descent, descend, descend_tree}
 
--- 1 where there is a branch point from which keys go on by b
+-- 1 where there is a branch point after which keys continue by b
 abbrev pub continues_by : Option NodeRecord → ℕ → ℕ
 continues_by None b = 0
 continues_by (Some r) b = if list_any (λ c. c == b) r.edges then 1 else 0
@@ -14,7 +14,7 @@ abbrev pub steps_along : (List ℕ → Option NodeRecord) → List ℕ → ℕ
 steps_along f [] = 0
 steps_along f (b ∷ q) = continues_by (f []) b + steps_along (λ p. f (b ∷ p)) q
 
--- 1 for the root, and 1 for each branch point that properly begins q and goes on by q's next byte
+-- 1 for the root, and 1 for each branch point that properly begins q and continues by q's next byte
 abbrev pub probe_count : List (List ℕ) → List ℕ → ℕ
 probe_count [] q = 0
 probe_count (k ∷ s) q = 1 + steps_along (record_at (k ∷ s)) q
@@ -33,3 +33,7 @@ tree_entered k o = descend_tree counts k o
 -- where a step gave x the count rose by `most x` at most, and else it stayed
 abbrev pub VisitsAtMost : {A : Type 0} → (A → ℕ) → ℕ → Option A → ℕ → Type 0
 VisitsAtMost most n r n' = MatchOption r (n' ≡ n) (λ x. n' ≤ n + most x)
+
+-- where a step gave x the count rose by `visits x`, and else it stayed
+abbrev pub VisitsExactly : {A : Type 0} → (A → ℕ) → ℕ → Option A → ℕ → Type 0
+VisitsExactly visits n r n' = MatchOption r (n' ≡ n) (λ x. n' ≡ n + visits x)

@@ -8,11 +8,11 @@ use Rattle.rart_nodes.specs.declared.node.walks.control.VisitControl.TheVariants
 use Rattle.rart_nodes.specs.declared.node.walks.control.VisitError.{VisitError}
 use Rattle.rart_nodes.specs.declared.node.walks.control.VisitError.TheVariants.{Callback, Memory}
 
--- f may be called with each value in turn, for as long as each call has said that the walk goes on
+-- f may be called with each value in turn, for as long as each call has said that the walk continues
 abbrev pub CanTry : {F V E : Type 0} → Mut F (Bor V × Unit {0}) (Result VisitControl E) → F → List V → Type 0
 CanTry g f xs = CallableAtEach (λ p x q. CalledAt g p x (Ok Continue) q) (λ p x. TakesAt g p x) f xs
 
--- how a walk goes on or ends after an answer, as `more` goes on
+-- how a walk continues or ends after an answer, as `more` continues it
 abbrev pub GoesOnAs : {F E : Type 0} → Result VisitControl E → F → (F → Type 0) → Result (Unit {0}) E → F → Type 0
 GoesOnAs (Ok Continue) f more r f' = more f
 GoesOnAs (Ok Stop) f more r f' = (r ≡ Ok tt) × (f ≡ f')
@@ -26,7 +26,7 @@ EndsAs {F} {V} {E} g f (v ∷ vs) r f' = (shown : Bor V)
     × ((answer : Result VisitControl E) × ((next : F)
     × ((shown.now ≡ v) × (Called g f (shown, tt) answer next × GoesOnAs answer next (λ h. EndsAs g h vs r f') r f'))))
 
--- the same of a walk that can also find no room, and then calls nothing
+-- the same of a walk whose allocation can also be refused, and that then calls nothing
 abbrev pub EndsVisit : {F V E : Type 0} → Mut F (Bor V × Unit {0}) (Result VisitControl E) → F → List V
     → Result (Unit {0}) (VisitError E) → F → Type 0
 EndsVisit g f vs (Ok u) f' = EndsAs g f vs (Ok tt) f'
@@ -38,18 +38,18 @@ abbrev pub EndedVisit : {F V E : Type 0} → Mut F (Bor V × Unit {0}) (Result V
     → Result (Unit {0}) (VisitError E) → Type 0
 EndedVisit {F} g f vs r = (last : F) × EndsVisit g f vs r last
 
--- P holds, unless there was no room
+-- P holds, unless the allocation was refused
 abbrev pub IfRoom : {E : Type 0} → Result (Unit {0}) (VisitError E) → Type 0 → Type 0
 IfRoom (Ok u) P = P
 IfRoom (Err (Callback e)) P = P
 IfRoom (Err Memory) P = Unit {0}
 
--- P holds, if there was no room
+-- P holds, if the allocation was refused
 abbrev pub OnNoRoom : {E : Type 0} → Result (Unit {0}) (VisitError E) → Type 0 → Type 0
 OnNoRoom (Ok u) P = Unit {0}
 OnNoRoom (Err (Callback e)) P = Unit {0}
 OnNoRoom (Err Memory) P = P
 
--- there was no room, and there is something to go through
+-- the allocation was refused, and there is something to go through
 abbrev pub MayStopAtRoom : {A E : Type 0} → List A → VisitError E → Type 0
 MayStopAtRoom xs e = e ≡ Memory → xs ≢ []

@@ -2,6 +2,7 @@
 use Rattle.std.specs.Prelude.{ℕ, ◌≡◌, ◌<◌, ◌^◌, Bool, true, false, ◌&&◌, List, [], ◌∷◌, length, Option}
 use Rattle.std.specs.Borrow.{Bor}
 use Rattle.std.specs.Option.{option_copied}
+use Rattle.rart_nodes.specs.declared.node.walk.Walk.{Walk}
 use Rattle.rart_nodes.specs.walks.Walk.{Level, SegmentList, joined_bytes, entries_ahead}
 use Rattle.rart_nodes.specs.walks.PathParts.{lent_segments, one_segment}
 
@@ -23,3 +24,6 @@ AreViews (e ∷ es) = (all_have_bytes e.0 ≡ true) × (length (joined_bytes e.0
 -- what lies ahead of a walk whose path is of segments that are lent
 abbrev pub views_ahead : {V : Type 0} → List (Bor (List ℕ)) → Option (Bor V) → List (Level V) → List (SegmentList × V)
 views_ahead segments first levels = entries_ahead one_segment (lent_segments segments) (option_copied first) levels
+
+abbrev pub walk_views : {P V C : Type 0} → List (Bor (List ℕ)) → Walk P V C → List (SegmentList × V)
+walk_views segments w = views_ahead segments w.first w.levels.items

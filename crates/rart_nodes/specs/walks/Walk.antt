@@ -40,7 +40,7 @@ abbrev pub value_at : {V : Type 0} → SegmentList → Option V → List (Segmen
 value_at k None = []
 value_at k (Some v) = (k, v) ∷ []
 
--- the values with what is kept of the way to each
+-- the values with what is kept of the path to each
 abbrev mutual
   pub entries_of : {V : Type 0} → Grown → Trie V → List (SegmentList × V)
   entries_of g (node p v c cs) = segments_after (g p) (value_at [] v ++ children_entries g cs)
@@ -82,11 +82,11 @@ pub record IsWalk {V : Type 0} (longest places : ℕ) (k : SegmentList) (ls : Li
   pub room : HasRoom longest places ls
   pub short : length k ≤ longest
 
--- a walk with the bytes of its path, which have room for the longest key, which is within the keys' maximum
-pub record IsKeyWalk {V : Type 0} (maximum : Option ℕ) (longest places room : ℕ) (k : SegmentList)
+-- a walk with the bytes of its path: their capacity is at least the longest key's length, which is within the maximum
+pub record IsKeyWalk {V : Type 0} (maximum : Option ℕ) (longest places capacity : ℕ) (k : SegmentList)
     (ls : List (Level V)) : Type 0 where
   pub walk : IsWalk longest places k ls
-  pub path : longest ≤ room
+  pub path : longest ≤ capacity
   pub within : IsWithin maximum longest
 
 -- what lies ahead of a walk: the root's value until it is given, and what is below the levels, of which the deepest

@@ -1,8 +1,27 @@
--- Steps of a walk from its deepest level, which stands last.
-use Rattle.std.specs.Prelude.{ℕ, ◌≡◌, ◌⊎◌, List, [], ◌∷◌, ◌++◌, Option, MatchOption}
+-- A walk beside its path, and its steps from its deepest level, which stands last.
+use Rattle.std.specs.Prelude.{ℕ, ◌≡◌, ◌≢◌, ◌+◌, ◌⊎◌, List, [], ◌∷◌, ◌++◌, Option, MatchOption, reverse, vec_capacity}
 use Rattle.std.specs.Borrow.{Bor}
+use Rattle.std.specs.Option.{option_copied}
+use Rattle.rart_nodes.specs.declared.node.walk.Walk.{Walk}
 use Rattle.rart_nodes.specs.tries.Trie.{Trie, Children, no_children, child, children_in}
-use Rattle.rart_nodes.specs.walks.Walk.{Level, SegmentList}
+use Rattle.rart_nodes.specs.walks.Walk.{Grown, IsWalk, Level, SegmentList, entries_ahead, nodes_below}
+
+module _ {P V C : Type 0} where
+  -- the walk is at the path k
+  abbrev pub IsWalkAt : Walk P V C → SegmentList → Type 0
+  IsWalkAt w k = IsWalk w.longest (vec_capacity w.levels) k (reverse w.levels.items)
+
+  -- a walk with a level has a place for each byte of the longest key and one more
+  abbrev pub HasPlaces : Walk P V C → ℕ → Type 0
+  HasPlaces w longest = w.levels.items ≢ [] → vec_capacity w.levels ≡ longest + 1
+
+  -- what the walk at the path k has still to give
+  abbrev pub walk_entries : Grown → SegmentList → Walk P V C → List (SegmentList × V)
+  walk_entries g k w = entries_ahead g k (option_copied w.first) w.levels.items
+
+  -- how many nodes it has still to visit
+  abbrev pub walk_nodes : Walk P V C → ℕ
+  walk_nodes w = nodes_below (reverse w.levels.items)
 
 -- there is no level, or the deepest has no more children
 pub record DeepestLeft {V : Type 0} (before after : List (Level V)) : Type 0 where

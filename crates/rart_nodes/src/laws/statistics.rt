@@ -5,7 +5,7 @@ ghost use Rattle.rart_nodes.specs.statistics.Statistics.{height, stats_of, sum_i
 ghost use Rattle.rart_nodes.specs.tries.Trie.{Trie, IsCanonical, nodes_of, pairs_of};
 
 /// Proves that the statistics of a canonical trie are those of its keys. The height is the greatest number of branch
-/// points that begin one key. The nodes have room for fewer children than 16 times the number of keys.
+/// points that begin one key. The capacities of the nodes sum to at most 16 for each key but one.
 pub fn of_keys<V>()
     ensures value { (t : Trie V) → IsCanonical t
         → trie_stats t ≡ stats_of (keys_of (pairs_of t)) (nodes_of t) }

@@ -1,9 +1,11 @@
 //! The first and the last pair of a tree, each on one descent.
-ghost use Rattle.std.specs.Prelude.{◌≡◌, ◌+◌, length, MatchOption, None, option_map, slice_get};
+ghost use Rattle.std.specs.Prelude.{◌≡◌, ◌+◌, length, None, option_map, slice_get};
 ghost use Rattle.rart_keys.specs.Filters.{last_or};
-ghost use Rattle.rart_nodes.specs.tries.Ends.{end_child, end_of};
+ghost use Rattle.rart_nodes.specs.ranges.Under.{children_before};
+ghost use Rattle.rart_nodes.specs.tries.Ends.{end_child, end_of, last_child};
 ghost use Rattle.rart_nodes.specs.tries.SeenTrees.{seen_keys, seen_pairs};
-ghost use Rattle.rart_nodes.specs.walks.ProbeCount.{VisitsAtMost, probe_count};
+ghost use Rattle.rart_nodes.specs.tries.Trie.{children_in};
+ghost use Rattle.rart_nodes.specs.walks.ProbeCount.{VisitsAtMost, VisitsExactly, probe_count};
 
 use crate::count::Count;
 use crate::node::DefaultNode;
@@ -34,6 +36,17 @@ impl<P: Partial, V> DefaultNode<P, V> {
             End::Last => self.storage.last_child(),
         }
     }
+
+    /// Returns the last child before `end`, with its byte.
+    pub(crate) fn last_child_before(&self, end: Option<u8>) -> Option<(u8, &Self)>
+        ensures { option_map (λ e. (e.0, e.1.now)) result
+            ≡ last_child (children_before end (children_in self.now)) }
+    {
+        match end {
+            None => self.storage.last_child(),
+            Some(byte) => self.storage.last_child_under(byte),
+        }
+    }
 }
 
 /// Returns a copy of a part.
@@ -47,9 +60,8 @@ impl<'a, K: KeyTrait, V, C: Count> Seen<'a, K, V, C> {
     fn end_pair(self, end: End, counter: &mut C) -> Option<(K, &'a V)>
         ensures pair { option_map (λ p. (K.bytes p.0, p.1.now)) result
             ≡ end_of end (seen_pairs self.entry) }
-        ensures visits { MatchOption result (C.number counter.new ≡ C.number counter.old)
-            (λ p. C.number counter.new
-            ≡ C.number counter.old + probe_count (seen_keys self.entry) (K.bytes p.0)) }
+        ensures visits { VisitsExactly (λ p. probe_count (seen_keys self.entry) (K.bytes p.0))
+            (C.number counter.old) result (C.number counter.new) }
     {
         let mut at = self.top()?.enter(counter);
         let mut path = copy_of(at.prefix());
@@ -71,9 +83,8 @@ impl<'a, K: KeyTrait, V, C: Count> Seen<'a, K, V, C> {
     pub fn first_key_value_counted(self, counter: &mut C) -> Option<(K, &'a V)>
         ensures pair { option_map (λ p. (K.bytes p.0, p.1.now)) result
             ≡ slice_get (seen_pairs self.entry) 0 }
-        ensures visits { MatchOption result (C.number counter.new ≡ C.number counter.old)
-            (λ p. C.number counter.new
-            ≡ C.number counter.old + probe_count (seen_keys self.entry) (K.bytes p.0)) }
+        ensures visits { VisitsExactly (λ p. probe_count (seen_keys self.entry) (K.bytes p.0))
+            (C.number counter.old) result (C.number counter.new) }
         ensures bound { VisitsAtMost (λ p. length (K.bytes p.0) + 1) (C.number counter.old) result
             (C.number counter.new) }
     {
@@ -88,9 +99,8 @@ impl<'a, K: KeyTrait, V, C: Count> Seen<'a, K, V, C> {
     pub fn last_key_value_counted(self, counter: &mut C) -> Option<(K, &'a V)>
         ensures pair { option_map (λ p. (K.bytes p.0, p.1.now)) result
             ≡ last_or None (seen_pairs self.entry) }
-        ensures visits { MatchOption result (C.number counter.new ≡ C.number counter.old)
-            (λ p. C.number counter.new
-            ≡ C.number counter.old + probe_count (seen_keys self.entry) (K.bytes p.0)) }
+        ensures visits { VisitsExactly (λ p. probe_count (seen_keys self.entry) (K.bytes p.0))
+            (C.number counter.old) result (C.number counter.new) }
         ensures bound { VisitsAtMost (λ p. length (K.bytes p.0) + 1) (C.number counter.old) result
             (C.number counter.new) }
     {

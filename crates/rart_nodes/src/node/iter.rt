@@ -15,6 +15,7 @@ use crate::node::seen::Seen;
 pub use crate::node::view::{LendingKeyBytes, LendingKeyView};
 use crate::node::walk::Walk;
 use crate::node::walk::path::{BytePath, NoPath};
+pub use crate::node::walks::descending::{Descending, SeenDescending};
 pub use crate::node::walks::matching::PrefixMatchIter;
 use rart_keys::{KeyTrait, Partial};
 use rart_parts::TreeError;
@@ -143,7 +144,8 @@ impl<'a, K: KeyTrait, V> Model for ValuesIter<'a, K, V> {
 
     ghost view = { λ it. values_ahead it.walk.first it.walk.levels.items };
 
-    ghost invariant = { λ it. IsWalk it.walk.longest (vec_capacity it.walk.levels) [] (reverse it.walk.levels.items)
+    ghost invariant = { λ it. IsWalk it.walk.longest (vec_capacity it.walk.levels) []
+        (reverse it.walk.levels.items)
         × (it.walk.longest ≤ 2 ^ 64) };
 }
 

@@ -6,7 +6,7 @@ ghost use Rattle.std.specs.Option.{option_copied, option_copied_mut};
 ghost use Rattle.rart_nodes.specs.edits.ChildChanges.{child_value, with_child_replaced, with_child_value};
 ghost use Rattle.rart_nodes.specs.edits.Deletion.{JoinsWithin, NarrowsWithout, without_child};
 ghost use Rattle.rart_nodes.specs.edits.NodeEdits.{with_child, with_value};
-ghost use Rattle.rart_nodes.specs.storages.Stored.{stored, width_of};
+ghost use Rattle.rart_nodes.specs.storages.Stored.{child_entries, storage_capacity};
 ghost use Rattle.rart_nodes.specs.tries.Trie.{Trie, node, no_children, leaf, capacity_in, children_in, edges_of};
 ghost use Rattle.rart_nodes.specs.tries.Trie.{prefix_of, value_of, child_in};
 
@@ -26,7 +26,7 @@ pub trait Node<P: Partial, V>: Sized {
     fn new_leaf(prefix: P, value: V) -> Self
         ensures { trie result ≡ leaf (P.bytes prefix) value };
 
-    /// Returns a node without value or children, with room for four children.
+    /// Returns a node of capacity 4 without value or children.
     ///
     /// # Errors
     ///
@@ -90,7 +90,7 @@ pub trait Node<P: Partial, V>: Sized {
         ensures unchanged { OnErr result (trie self.new ≡ trie self.old) }
         ensures back { IfErr result
             (λ r. (r.error ≡ TreeError.Memory) × (trie r.value ≡ trie node)) }
-        ensures asks { OnErr result
+        ensures allocates { OnErr result
             (length (edges_of (children_in (trie self.old))) ≡ capacity_in (trie self.old)) };
 
     /// Removes the child at a byte and returns it. The node shrinks if its children fit the next smaller kind. A node
@@ -108,7 +108,7 @@ pub trait Node<P: Partial, V>: Sized {
             (λ child. option_map trie child ≡ child_in key (trie self.old)) }
         ensures rest { OnOk result (trie self.new ≡ without_child key (trie self.old)) }
         ensures unchanged { OnErr result (trie self.new ≡ trie self.old) }
-        ensures asks { OnErr result (NarrowsWithout key (trie self.old)) }
+        ensures allocates { OnErr result (NarrowsWithout key (trie self.old)) }
         ensures memory { IfErr result (λ e. e ≡ TreeError.Memory) };
 
     /// Returns the greatest number of children of this kind of node.
@@ -144,11 +144,11 @@ impl<P: Partial, V> Node<P, V> for DefaultNode<P, V> {
     }
 
     fn is_leaf(&self) -> bool {
-        self.storage.width() == 0
+        self.storage.capacity() == 0
     }
 
     fn is_inner(&self) -> bool {
-        self.storage.width() != 0
+        self.storage.capacity() != 0
     }
 
     fn seek_child(&self, key: u8) -> Option<&Self> {
@@ -184,7 +184,7 @@ impl<P: Partial, V> Node<P, V> for DefaultNode<P, V> {
     }
 
     fn capacity(&self) -> usize {
-        self.storage.width()
+        self.storage.capacity()
     }
 
     fn num_children(&self) -> usize {
@@ -195,8 +195,8 @@ impl<P: Partial, V> Node<P, V> for DefaultNode<P, V> {
 impl<P: Partial, V> DefaultNode<P, V> {
     // A node without value or children over this storage.
     fn over(prefix: P, storage: Storage<Self>) -> Self
-        requires { stored storage ≡ [] }
-        ensures { result ≡ node (P.bytes prefix) None (width_of storage) no_children }
+        requires { child_entries storage ≡ [] }
+        ensures { result ≡ node (P.bytes prefix) None (storage_capacity storage) no_children }
     {
         DefaultNode {
             prefix,

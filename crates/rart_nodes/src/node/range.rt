@@ -16,6 +16,7 @@ ghost use Rattle.rart_nodes.specs.walks.Calls.{MayLackRoom};
 use crate::count::{Count, Visits};
 use crate::node::iter::{Iter, KeyWalk};
 use crate::node::seen::Seen;
+pub use crate::node::walks::descending::range::{RangeDescending, SeenRangeDescending};
 use rart_keys::{KeyTrait, Partial};
 use rart_parts::TreeError;
 use std::cmp::Ordering;

@@ -7,9 +7,10 @@ ghost use Rattle.std.specs.Prelude.{◌≡◌, ◌↔◌, ◌≤◌, ◌+◌, �
 ghost use Rattle.std.specs.Option.{option_copied};
 ghost use Rattle.rart_keys.specs.KeyBytes.{IsWithin, IsWithin-prop};
 ghost use Rattle.rart_keys.specs.SortedMap.{count_of, longest_key};
+ghost use Rattle.rart_nodes.specs.ranges.Under.{children_before};
 ghost use Rattle.rart_nodes.specs.ranges.Starts.{children_above};
 ghost use Rattle.rart_nodes.specs.tries.CanonicalTest.{is_canonical, is_canonical_tree};
-ghost use Rattle.rart_nodes.specs.tries.Ends.{end_child};
+ghost use Rattle.rart_nodes.specs.tries.Ends.{end_child, last_child};
 ghost use Rattle.rart_nodes.specs.tries.Tree.{IsCanonicalTree, tree_pairs};
 ghost use Rattle.rart_nodes.specs.tries.Trie.{child, child_in, children_in, edges_of, no_children, prefix_of, value_of};
 
@@ -253,6 +254,19 @@ impl<'a, P: Partial, V, C> Entered<'a, P, V, C> {
             node,
             of: PhantomData,
         })
+    }
+
+    /// Returns the last child before `end`, not yet visited, with its byte.
+    pub(crate) fn last_child_before(self, end: Option<u8>) -> Option<(u8, Shared<'a, P, V, C>)>
+        ensures { option_map (λ e. (e.0, e.1.node.now)) result
+            ≡ last_child (children_before end (children_in self.entry.node.now)) }
+    {
+        let (byte, node) = self.node.last_child_before(end)?;
+        let child = Shared {
+            node,
+            of: PhantomData,
+        };
+        Some((byte, child))
     }
 
     /// Returns the children, none of them visited.

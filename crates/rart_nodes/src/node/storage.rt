@@ -3,18 +3,19 @@
 ghost use Rattle.std.specs.Prelude.{◌≡◌, ◌<◌, [], length, None};
 ghost use Rattle.std.specs.Option.{option_copied};
 ghost use Rattle.rart_parts.specs.Entries.{child_at, with_entry, without_byte};
-ghost use Rattle.rart_nodes.specs.storages.Stored.{stored, width_of};
+ghost use Rattle.rart_nodes.specs.storages.Stored.{child_entries, storage_capacity};
 
 use rart_parts::mapping::{DirectMapping, IndexedMapping, NodeMapping, SortedKeyedMapping};
 use rart_parts::utils::bitset::Bitset64;
 
 mod ends;
+mod last_under;
 mod room;
 mod shrink;
 pub(crate) mod walk;
 
 /// The children of a node. Each kind but the first is a map that holds at most as many children as its
-/// width, on the heap: 4, 16, 48 or 256.
+/// capacity, on the heap: 4, 16, 48 or 256.
 #[derive(Drop)]
 pub(crate) enum Storage<N> {
     /// No child, and no memory.
@@ -32,15 +33,15 @@ pub(crate) enum Storage<N> {
 impl<N> Storage<N> {
     /// Returns storage of capacity 0. It does not allocate.
     pub(crate) fn empty() -> Self
-        ensures stored { stored result ≡ [] }
-        ensures width { width_of result ≡ 0 }
+        ensures stored { child_entries result ≡ [] }
+        ensures capacity { storage_capacity result ≡ 0 }
     {
         Storage::Leaf
     }
 
     /// Returns the number of children.
     pub(crate) fn num_children(&self) -> usize
-        ensures { result ≡ length (stored self.now) }
+        ensures { result ≡ length (child_entries self.now) }
     {
         match self {
             Storage::Leaf => 0,
@@ -52,8 +53,8 @@ impl<N> Storage<N> {
     }
 
     /// Returns the capacity of this kind: 0, 4, 16, 48 or 256.
-    pub(crate) fn width(&self) -> usize
-        ensures { result ≡ width_of self.now }
+    pub(crate) fn capacity(&self) -> usize
+        ensures { result ≡ storage_capacity self.now }
     {
         match self {
             Storage::Leaf => 0,
@@ -66,7 +67,7 @@ impl<N> Storage<N> {
 
     /// Returns the child at byte `b`.
     pub(crate) fn seek_child(&self, b: u8) -> Option<&N>
-        ensures { option_copied result ≡ child_at b (stored self.now) }
+        ensures { option_copied result ≡ child_at b (child_entries self.now) }
     {
         match self {
             Storage::Leaf => None,
@@ -80,10 +81,10 @@ impl<N> Storage<N> {
     /// Inserts a child at byte `b`, which has none. It does not allocate. Inline, so a new child is not copied again.
     #[inline(always)]
     pub(crate) fn add_within(&mut self, b: u8, node: N)
-        requires absent { child_at b (stored self.old) ≡ None }
-        requires room { length (stored self.old) < width_of self.old }
-        ensures stored { stored self.new ≡ with_entry b node (stored self.old) }
-        ensures width { width_of self.new ≡ width_of self.old }
+        requires absent { child_at b (child_entries self.old) ≡ None }
+        requires room { length (child_entries self.old) < storage_capacity self.old }
+        ensures stored { child_entries self.new ≡ with_entry b node (child_entries self.old) }
+        ensures capacity { storage_capacity self.new ≡ storage_capacity self.old }
     {
         match self {
             Storage::Leaf => unreachable!(),
@@ -96,9 +97,9 @@ impl<N> Storage<N> {
 
     /// Removes the child at byte `b` and keeps the kind. It does not allocate.
     pub(crate) fn delete_within(&mut self, b: u8) -> Option<N>
-        ensures taken { result ≡ child_at b (stored self.old) }
-        ensures stored { stored self.new ≡ without_byte b (stored self.old) }
-        ensures width { width_of self.new ≡ width_of self.old }
+        ensures taken { result ≡ child_at b (child_entries self.old) }
+        ensures stored { child_entries self.new ≡ without_byte b (child_entries self.old) }
+        ensures capacity { storage_capacity self.new ≡ storage_capacity self.old }
     {
         match self {
             Storage::Leaf => None,
@@ -116,14 +117,14 @@ impl<N> Storage<N> {
     ghost use Rattle.std.specs.Borrow.{sem};
     ghost use Rattle.rart_parts.specs.Entries.{child_at};
     ghost use Rattle.rart_nodes.specs.storages.Lends.{lends_child};
-    ghost use Rattle.rart_nodes.specs.storages.Stored.{stored};
+    ghost use Rattle.rart_nodes.specs.storages.Stored.{child_entries};
 
     /// Returns a mutable borrow of the child at byte `b`. Inline, so that the caller's branch on it needs no child's
     /// address made from a test of the child: two reads of memory then go side by side.
     #[inline(always)]
     pub(crate) fn seek_child_mut(&mut self, b: u8) -> Option<&mut N>
         ensures* writes_back { sem 𝓛 (lends_child N.row self.entry b result) }
-        ensures value { option_copied_mut result ≡ child_at b (stored self.old) }
+        ensures value { option_copied_mut result ≡ child_at b (child_entries self.old) }
     {
         match self {
             Storage::Leaf => None,

@@ -2,14 +2,12 @@
 //! each inner node on its path.
 ghost use Rattle.std.specs.Prelude.{◌≡◌, ◌≢◌, ◌≤◌, ◌<◌, ◌+◌, ◌++◌, [], length, reverse, take, vec_len, vec_capacity};
 ghost use Rattle.std.specs.Prelude.{MatchOption, IfOk, OnErr};
-ghost use Rattle.std.specs.Option.{option_copied};
 ghost use Rattle.rart_keys.specs.SortedMap.{count_of, longest_key};
 ghost use Rattle.rart_nodes.specs.ranges.Potential.{IsAmortized, potential};
 ghost use Rattle.rart_nodes.specs.tries.SeenTrees.{length_bound, seen_pairs, seen_tree};
-ghost use Rattle.rart_nodes.specs.walks.Walk.{IsWalk, KeepsEach, segments_after, nodes_below, entries_ahead};
-ghost use Rattle.rart_nodes.specs.walks.Walk.{entries_of};
-ghost use Rattle.rart_nodes.specs.walks.Walk.{tree_count, tree_entries};
-ghost use Rattle.rart_nodes.specs.walks.WalkSteps.{DeepestLeft, DeepestStep, PushesLevel, TakesEntry};
+ghost use Rattle.rart_nodes.specs.walks.Walk.{KeepsEach, entries_of, segments_after, tree_count, tree_entries};
+ghost use Rattle.rart_nodes.specs.walks.WalkSteps.{DeepestLeft, DeepestStep, HasPlaces, IsWalkAt, PushesLevel};
+ghost use Rattle.rart_nodes.specs.walks.WalkSteps.{TakesEntry, walk_entries, walk_nodes};
 ghost use Rattle.rart_nodes.specs.tries.Trie.{pairs_of, prefix_of};
 ghost use Rattle.rart_nodes.specs.tries.TrieCode.{node_count};
 
@@ -19,6 +17,7 @@ use crate::node::walk::path::Path;
 use rart_keys::{KeyTrait, Partial};
 use std::alloc::{AllocError, Global};
 
+pub(crate) mod back;
 pub(crate) mod path;
 mod seek_lower_bound;
 
@@ -49,21 +48,21 @@ fn enter_deepest<'a, P: Partial, V, C: Count>(
 }
 
 /// Extends the path by a visited node. A leaf gets no level.
-fn go_on<'a, P: Partial, V, C, T: Path<'a, P>>(
+fn extend_path<'a, P: Partial, V, C, T: Path<'a, P>>(
     levels: &mut Vec<(Branches<'a, P, V, C>, usize)>,
     path: &mut T,
     at: Entered<'a, P, V, C>,
     depth: usize,
 )
-    requires bytes { depth + length (prefix_of at.node.now) ≤ T.room path.old }
+    requires bytes { depth + length (prefix_of at.node.now) ≤ T.capacity path.old }
     requires place { vec_len levels.old < vec_capacity levels.old }
     ensures kept { T.kept path.new
         ≡ take depth (T.kept path.old) ++ T.grown (prefix_of at.entry.node.now) }
     ensures levels { PushesLevel levels.old.items at.entry.node.now (length (T.kept path.new))
         levels.new.items }
-    ensures path_room { T.room path.old ≤ T.room path.new }
+    ensures path_capacity { T.capacity path.old ≤ T.capacity path.new }
     ensures requested { T.requested path.new ≡ T.requested path.old }
-    ensures level_room { vec_capacity levels.new ≡ vec_capacity levels.old }
+    ensures level_capacity { vec_capacity levels.new ≡ vec_capacity levels.old }
 {
     path.cut(depth);
     path.grow(at.prefix());
@@ -81,17 +80,15 @@ pub(crate) fn walk_at<'a, P: Partial, V, C, T: Path<'a, P>>(
     at: Entered<'a, P, V, C>,
 ) -> Walk<'a, P, V, C>
     requires short { length (T.kept path.old) + longest_key (pairs_of at.node.now) ≤ longest }
-    requires room { longest ≤ T.room path.old }
+    requires room { longest ≤ T.capacity path.old }
     requires places { longest < vec_capacity levels }
     requires empty_walk { levels.items ≡ [] }
-    ensures path { IsWalk result.longest (vec_capacity result.levels) (T.kept path.new)
-        (reverse result.levels.items) }
-    ensures room { result.longest ≤ T.room path.new }
+    ensures path { IsWalkAt result (T.kept path.new) }
+    ensures room { result.longest ≤ T.capacity path.new }
     ensures requested { T.requested path.new ≡ T.requested path.old }
-    ensures entries { entries_ahead T.grown (T.kept path.new) (option_copied result.first)
-        result.levels.items
+    ensures entries { walk_entries T.grown (T.kept path.new) result
         ≡ segments_after (T.kept path.old) (entries_of T.grown at.entry.node.now) }
-    ensures visits { nodes_below (reverse result.levels.items) + 1 ≡ node_count at.entry.node.now }
+    ensures visits { walk_nodes result + 1 ≡ node_count at.entry.node.now }
     ensures longest { result.longest ≡ longest }
     ensures places { vec_capacity result.levels ≡ vec_capacity levels.entry }
 {
@@ -108,14 +105,11 @@ pub(crate) fn walk_at<'a, P: Partial, V, C, T: Path<'a, P>>(
 pub(crate) fn empty_walk<'a, P: Partial, V, C, T: Path<'a, P>>(
     alloc: Global,
 ) -> (Walk<'a, P, V, C>, T)
-    ensures path { IsWalk result.0.longest (vec_capacity result.0.levels) (T.kept result.1)
-        (reverse result.0.levels.items) }
-    ensures room { result.0.longest ≤ T.room result.1 }
+    ensures path { IsWalkAt result.0 (T.kept result.1) }
+    ensures room { result.0.longest ≤ T.capacity result.1 }
     ensures requested { T.requested result.1 ≡ 0 }
-    ensures entries { entries_ahead T.grown (T.kept result.1) (option_copied result.0.first)
-        result.0.levels.items
-        ≡ [] }
-    ensures visits { nodes_below (reverse result.0.levels.items) ≡ 0 }
+    ensures entries { walk_entries T.grown (T.kept result.1) result.0 ≡ [] }
+    ensures visits { walk_nodes result.0 ≡ 0 }
     ensures levels { result.0.levels.items ≡ [] }
     ensures longest { result.0.longest ≡ 0 }
 {
@@ -128,13 +122,13 @@ pub(crate) fn empty_walk<'a, P: Partial, V, C, T: Path<'a, P>>(
 }
 
 impl<'a, K: KeyTrait, V, C> Seen<'a, K, V, C> {
-    /// Returns an empty path with room for the number of bytes that the tree keeps, and for no more.
+    /// Returns an empty path with capacity for the number of bytes that the tree keeps, and for no more.
     pub(crate) fn new_path<T: Path<'a, K::PartialType>>(self) -> Result<T, AllocError>
         ensures nothing { IfOk result (λ t. T.kept t ≡ []) }
-        ensures room { IfOk result (λ t. self.entry.longest ≤ T.room t) }
+        ensures room { IfOk result (λ t. self.entry.longest ≤ T.capacity t) }
         ensures requested { IfOk result (λ t. T.requested t ≤ self.entry.longest) }
     {
-        T::with_room(self.alloc(), self.longest())
+        T::with_capacity(self.alloc(), self.longest())
     }
 }
 
@@ -144,22 +138,18 @@ impl<'a, K: KeyTrait, V, C: Count> Seen<'a, K, V, C> {
         self,
         counter: &mut C,
     ) -> Result<(Walk<'a, K::PartialType, V, C>, T), AllocError>
-        ensures path { IfOk result (λ w. IsWalk w.0.longest (vec_capacity w.0.levels) (T.kept w.1)
-            (reverse w.0.levels.items)) }
-        ensures room { IfOk result (λ w. w.0.longest ≤ T.room w.1) }
+        ensures path { IfOk result (λ w. IsWalkAt w.0 (T.kept w.1)) }
+        ensures room { IfOk result (λ w. w.0.longest ≤ T.capacity w.1) }
         ensures requested { IfOk result (λ w. T.requested w.1 ≤ length_bound self.entry) }
-        ensures entries { IfOk result
-            (λ w. entries_ahead T.grown (T.kept w.1) (option_copied w.0.first) w.0.levels.items
+        ensures entries { IfOk result (λ w. walk_entries T.grown (T.kept w.1) w.0
             ≡ tree_entries T.grown (seen_tree self.entry)) }
         ensures memory { OnErr result (seen_pairs self.entry ≢ []) }
-        ensures visits { IfOk result
-            (λ w. C.number counter.new + nodes_below (reverse w.0.levels.items)
+        ensures visits { IfOk result (λ w. C.number counter.new + walk_nodes w.0
             ≡ C.number counter.old + tree_count (seen_tree self.entry)) }
         ensures longest { IfOk result (λ w. w.0.longest ≤ length_bound self.entry) }
         ensures root { C.number counter.new
             ≡ C.number counter.old + count_of (seen_tree self.entry) }
-        ensures places { IfOk result
-            (λ w. w.0.levels.items ≢ [] → vec_capacity w.0.levels ≡ length_bound self.entry + 1) }
+        ensures places { IfOk result (λ w. HasPlaces w.0 (length_bound self.entry)) }
     {
         let alloc = self.alloc();
         let longest = self.longest();
@@ -179,20 +169,15 @@ impl<'a, P: Partial, V, C: Count> Walk<'a, P, V, C> {
     /// Returns the value of the next pair; the path then is that of its key. It does not allocate, and visits each
     /// node once.
     pub(crate) fn advance<T: Path<'a, P>>(&mut self, path: &mut T, counter: &mut C) -> Option<&'a V>
-        requires path { IsWalk self.old.longest (vec_capacity self.old.levels) (T.kept path.old)
-            (reverse self.old.levels.items) }
-        requires room { self.old.longest ≤ T.room path.old }
-        ensures path { IsWalk self.new.longest (vec_capacity self.new.levels) (T.kept path.new)
-            (reverse self.new.levels.items) }
-        ensures room { self.new.longest ≤ T.room path.new }
+        requires path { IsWalkAt self.old (T.kept path.old) }
+        requires room { self.old.longest ≤ T.capacity path.old }
+        ensures path { IsWalkAt self.new (T.kept path.new) }
+        ensures room { self.new.longest ≤ T.capacity path.new }
         ensures requested { T.requested path.new ≡ T.requested path.old }
-        ensures entries { TakesEntry
-            (entries_ahead T.grown (T.kept path.old) (option_copied self.old.first)
-            self.old.levels.items) (T.kept path.new) result
-            (entries_ahead T.grown (T.kept path.new) (option_copied self.new.first)
-            self.new.levels.items) }
-        ensures visits { C.number counter.new + nodes_below (reverse self.new.levels.items)
-            ≡ C.number counter.old + nodes_below (reverse self.old.levels.items) }
+        ensures entries { TakesEntry (walk_entries T.grown (T.kept path.old) self.old)
+            (T.kept path.new) result (walk_entries T.grown (T.kept path.new) self.new) }
+        ensures visits { C.number counter.new + walk_nodes self.new
+            ≡ C.number counter.old + walk_nodes self.old }
         ensures longest { self.new.longest ≡ self.old.longest }
         ensures few { KeepsEach T.grown
             → MatchOption result (C.number counter.new ≡ C.number counter.old)
@@ -212,7 +197,7 @@ impl<'a, P: Partial, V, C: Count> Walk<'a, P, V, C> {
                     self.levels.take_last();
                 }
                 Some((at, depth)) => {
-                    go_on(&mut self.levels, path, at, depth);
+                    extend_path(&mut self.levels, path, at, depth);
                     if let Some(value) = at.value() {
                         return Some(value);
                     }

@@ -3,6 +3,8 @@
 
 mod below;
 pub(crate) mod control;
+mod count_pairs;
+pub(crate) mod descending;
 mod fold;
 mod lending;
 mod longest_view;

@@ -62,7 +62,7 @@ impl WidthCount {
         ensures put { OnOk result
             (node_stats.new.entries ≡ with_width self.now width node_stats.old.entries) }
         ensures memory { IfErr result (λ e. e ≡ TreeError.Memory) }
-        ensures asks { OnErr result (1 ≤ self.now.nodes) }
+        ensures allocates { OnErr result (1 ≤ self.now.nodes) }
     {
         if self.nodes == 0 {
             return Ok(());
@@ -144,7 +144,7 @@ impl Counts {
         requires width { width_counted self.now ≤ usize.MAX }
         ensures value { IfOk result (λ s. stats_in s ≡ stats_counted self.now height) }
         ensures memory { IfErr result (λ e. e ≡ TreeError.Memory) }
-        ensures asks { OnErr result (1 ≤ inner_counted self.now) }
+        ensures allocates { OnErr result (1 ≤ inner_counted self.now) }
     {
         let mut node_stats = BTreeMap::new(alloc);
         self.four.put_entry(&mut node_stats, 4)?;

@@ -24,13 +24,13 @@ pub trait BitsetTrait: Default + Drop {
 
     ghost has: { Self → ℕ → Bool };
 
-    /// Is the base-two logarithm of the number of bits of a word.
+    /// The base-two logarithm of the number of bits of a word.
     const BIT_SHIFT: usize;
 
-    /// Is the number of bits of a word.
+    /// The number of bits of a word.
     const STORAGE_BIT_WIDTH: usize;
 
-    /// Is the number of words.
+    /// The number of words.
     const STORAGE_WORDS: usize;
 
     /// Returns the least position below the capacity that is not in the set.
@@ -111,14 +111,14 @@ pub trait BitsetTrait: Default + Drop {
     ghost greatest_shift: { BIT_SHIFT ≤ 6 };
 }
 
-/// Is a set in words of 8 bits.
+/// A set in words of 8 bits.
 pub type Bitset8<const WORDS: usize> = Bitset<u8, WORDS>;
 
-/// Is a set in words of 16 bits.
+/// A set in words of 16 bits.
 pub type Bitset16<const WORDS: usize> = Bitset<u16, WORDS>;
 
-/// Is a set in words of 32 bits.
+/// A set in words of 32 bits.
 pub type Bitset32<const WORDS: usize> = Bitset<u32, WORDS>;
 
-/// Is a set in words of 64 bits.
+/// A set in words of 64 bits.
 pub type Bitset64<const WORDS: usize> = Bitset<u64, WORDS>;

@@ -160,7 +160,7 @@ static FIRST_FREE_PLACE: [Row; 27] = [
 ];
 
 #[test]
-fn an_array_fills_its_first_free_place_and_asks_for_nothing(rt: HostRuntime) -> Result<(), Fail> {
+fn an_array_fills_its_first_free_place_and_makes_no_request(rt: HostRuntime) -> Result<(), Fail> {
     let alloc = rt.alloc();
     let mut array: BitArray<u8, 48, Bitset16<3>> = BitArray::new(alloc)?;
     refuse(alloc, 1);

@@ -105,7 +105,7 @@ fn rows_hold_in_both<const W: usize>(map: &mut impl NodeMapping<u8, W>) -> bool 
 }
 
 #[test]
-fn each_map_gives_its_children_back_and_asks_for_nothing(rt: HostRuntime) -> Result<(), Fail> {
+fn each_map_gives_its_children_back_and_makes_no_request(rt: HostRuntime) -> Result<(), Fail> {
     let alloc = rt.alloc();
     let mut sorted: SortedKeyedMapping<u8, 4> = SortedKeyedMapping::new(alloc)?;
     let mut keyed = Keyed4::new(alloc)?;

@@ -96,13 +96,13 @@ fn a_clone_refused_in_turn(rt: HostRuntime) {
     assert!(rt; is_swept_at(rt.alloc(), 2) && is_swept_at(rt.alloc(), 17));
 }
 
-fn asks_for_nothing(alloc: Global) -> bool {
+fn makes_no_request(alloc: Global) -> bool {
     let drops = Cell::new(0_usize);
     let tree = filled(alloc, &drops, 0);
     is_clone_refused(alloc, 1, &tree, 0) == Some(false)
 }
 
 #[test]
-fn the_clone_of_an_empty_tree_asks_for_nothing(rt: HostRuntime) {
-    assert!(rt; asks_for_nothing(rt.alloc()));
+fn the_clone_of_an_empty_tree_makes_no_request(rt: HostRuntime) {
+    assert!(rt; makes_no_request(rt.alloc()));
 }

@@ -127,14 +127,14 @@ fn has_ends_quietly(alloc: Global, tree: &Tree, count: u8) -> bool {
     refuse(alloc, 1);
     let first = tree.first_key_value().map(|pair| (pair.0, *pair.1));
     let last = tree.last_key_value().map(|pair| (pair.0, *pair.1));
-    let asked = was_refused(alloc);
+    let refused = was_refused(alloc);
     let (wanted_first, wanted_last) = if count == 0 {
         (None, None)
     } else {
         let byte = count.wrapping_sub(1);
         (Some((key(0), 0)), Some((key(byte), u64::from(byte))))
     };
-    !asked && first == wanted_first && last == wanted_last
+    !refused && first == wanted_first && last == wanted_last
 }
 
 fn both_ends_are_quiet(alloc: Global, count: u8) -> bool {

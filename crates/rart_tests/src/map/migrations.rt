@@ -76,7 +76,7 @@ fn row_holds(old: &Tree, row: &Row) -> bool {
 }
 
 #[test]
-fn keys_lose_their_closing_zeros_or_the_first_without_is_told(rt: HostRuntime) {
+fn closing_zeros_are_dropped_or_the_first_key_without_one_is_reported(rt: HostRuntime) {
     for row in &ROWS {
         let old = filled(&rt, rt.alloc(), row.0);
         assert!(rt; row_holds(&old, row), "{} keys", row.0.len());
@@ -135,7 +135,7 @@ fn is_refused_well(alloc: Global, old: &Tree, at: usize) -> Option<bool> {
     }
 }
 
-// The same where a key doesn't end in zero: it is told wherever the walk had its room.
+// The same where a key doesn't end in zero: it is reported wherever the walk could allocate.
 fn open_is_refused_well(alloc: Global, old: &Tree, at: usize) -> Option<bool> {
     refuse(alloc, at);
     let made = Tree::drop_closing_zeros(old);
@@ -160,7 +160,7 @@ fn migrations_refused_in_turn(rt: HostRuntime) {
     assert!(rt; is_swept(alloc, |at| open_is_refused_well(alloc, &open, at)));
 }
 
-// How many requests were refused before none was; None where one went another way.
+// How many requests were refused before none was; None where one failed.
 fn count_refused_of_open(alloc: Global, old: &Tree) -> Option<usize> {
     for at in 1..100_usize {
         match open_is_refused_well(alloc, old, at) {
@@ -193,8 +193,8 @@ fn count_refused_of_walk(alloc: Global, old: &Tree) -> Option<usize> {
 }
 
 // Whether exactly the room of the walk and of a list of keys and one of values is requested, where a key has no closing
-// zero. Where nothing can be refused, nothing is told.
-fn asks_for_no_node(alloc: Global, old: &Tree) -> bool {
+// zero. Where nothing can be refused, nothing is reported.
+fn requests_no_node(alloc: Global, old: &Tree) -> bool {
     match (
         count_refused_of_open(alloc, old),
         count_refused_of_walk(alloc, old),
@@ -208,7 +208,7 @@ fn asks_for_no_node(alloc: Global, old: &Tree) -> bool {
 #[test]
 fn all_keys_are_tested_before_a_node_is_made_refused_in_turn(rt: HostRuntime) {
     let open = filled(&rt, rt.alloc(), &OPEN);
-    assert!(rt; asks_for_no_node(rt.alloc(), &open));
+    assert!(rt; requests_no_node(rt.alloc(), &open));
 }
 
 #[test]

@@ -246,8 +246,8 @@ fn views_are_those_of_the_plain_walks(rt: HostRuntime) {
     assert!(rt; views_of_each_walk_are(&tree));
 }
 
-// What is told of the longest match of the probe, and how often it was shown as wanted: past all of them where it
-// wasn't.
+// What the call returns for the longest match of the probe, and how often the callback got the wanted pair: past all of
+// them for another one.
 fn shows_longest(tree: &Tree, probe: &[u8], rows: &[Row]) -> (Result<bool, TreeError>, usize)
     requires { length probe.now ≤ 16 }
 {
@@ -256,12 +256,12 @@ fn shows_longest(tree: &Tree, probe: &[u8], rows: &[Row]) -> (Result<bool, TreeE
     let mut callback = |view: LendingKeyView<'_, '_>, value: &u64| {
         many = next_row(many, rows, view, *value);
     };
-    let told = seen(tree).with_longest_prefix_match_view_by_ref_k_counted(
+    let called = seen(tree).with_longest_prefix_match_view_by_ref_k_counted(
         &key,
         &mut callback,
         &mut Visits::new(),
     );
-    (told, many)
+    (called, many)
 }
 
 fn shows_two_of_three(tree: &Tree) -> bool {

@@ -1,4 +1,4 @@
-//! A walk with a callback in each of its forms: how often it called, and how it ended.
+//! A walk with a callback in each of its forms: how often it called, and its outcome.
 
 use super::seen_forms;
 use rart::{KeyTrait, LendingKeyView, TreeError, VisitControl, VisitError};
@@ -31,17 +31,17 @@ pub enum Walk {
     FoldByValue,
     FoldLent,
     FoldLentByValue,
-    Tries,
-    TriesByValue,
-    TriesLent,
-    TriesLentByValue,
-    TriesSeen,
+    TryValues,
+    TryValuesByValue,
+    TryValuesLent,
+    TryValuesLentByValue,
+    TryValuesSeen,
     ValuesCounted,
     ValuesLentCounted,
     FoldCounted,
     FoldLentCounted,
-    TriesCounted,
-    TriesLentCounted,
+    TryValuesCounted,
+    TryValuesLentCounted,
     LongestCounted,
 }
 
@@ -75,22 +75,22 @@ pub static WALKS: [(Walk, usize); 32] = [
     (Walk::FoldByValue, 4),
     (Walk::FoldLent, 4),
     (Walk::FoldLentByValue, 4),
-    (Walk::Tries, 4),
-    (Walk::TriesByValue, 4),
-    (Walk::TriesLent, 4),
-    (Walk::TriesLentByValue, 4),
-    (Walk::TriesSeen, 4),
+    (Walk::TryValues, 4),
+    (Walk::TryValuesByValue, 4),
+    (Walk::TryValuesLent, 4),
+    (Walk::TryValuesLentByValue, 4),
+    (Walk::TryValuesSeen, 4),
     (Walk::ValuesCounted, 4),
     (Walk::ValuesLentCounted, 4),
     (Walk::FoldCounted, 4),
     (Walk::FoldLentCounted, 4),
-    (Walk::TriesCounted, 4),
-    (Walk::TriesLentCounted, 4),
+    (Walk::TryValuesCounted, 4),
+    (Walk::TryValuesLentCounted, 4),
     (Walk::LongestCounted, 1),
 ];
 
 /// The calls of a callback. Where `watched` the first one has the next request for memory refused, so that a walk which
-/// asks between calls is seen.
+/// makes one between calls is seen.
 #[derive(Drop)]
 pub struct Calls {
     many: Cell<usize>,
@@ -117,9 +117,9 @@ impl Calls {
     }
 }
 
-pub type Ended = Result<(), TreeError>;
+pub type Outcome = Result<(), TreeError>;
 
-fn views(tree: &Tree, lent: bool, calls: &Calls) -> Ended {
+fn views(tree: &Tree, lent: bool, calls: &Calls) -> Outcome {
     let mut callback = |_view: LendingKeyView<'_, '_>, _value: &u64| calls.call();
     if lent {
         tree.for_each_view_by_ref(&mut callback)
@@ -128,7 +128,7 @@ fn views(tree: &Tree, lent: bool, calls: &Calls) -> Ended {
     }
 }
 
-fn views_below(tree: &Tree, key: Key, by_value: bool, calls: &Calls) -> Ended {
+fn views_below(tree: &Tree, key: Key, by_value: bool, calls: &Calls) -> Outcome {
     let callback = |_view: LendingKeyView<'_, '_>, _value: &u64| calls.call();
     if by_value {
         tree.prefix_for_each_view(key, callback)
@@ -137,7 +137,7 @@ fn views_below(tree: &Tree, key: Key, by_value: bool, calls: &Calls) -> Ended {
     }
 }
 
-fn views_below_lent(tree: &Tree, key: Key, by_value: bool, calls: &Calls) -> Ended {
+fn views_below_lent(tree: &Tree, key: Key, by_value: bool, calls: &Calls) -> Outcome {
     let mut callback = |_view: LendingKeyView<'_, '_>, _value: &u64| calls.call();
     if by_value {
         tree.prefix_for_each_view_by_ref(key, &mut callback)
@@ -147,7 +147,7 @@ fn views_below_lent(tree: &Tree, key: Key, by_value: bool, calls: &Calls) -> End
 }
 
 // From after the key to before "beta".
-fn views_within(tree: &Tree, key: Key, lent: bool, calls: &Calls) -> Ended {
+fn views_within(tree: &Tree, key: Key, lent: bool, calls: &Calls) -> Outcome {
     let start = Bound::Excluded(key);
     let end = Bound::Excluded(Key::new_from_slice(b"beta"));
     let mut callback = |_view: LendingKeyView<'_, '_>, _value: &u64| calls.call();
@@ -158,36 +158,36 @@ fn views_within(tree: &Tree, key: Key, lent: bool, calls: &Calls) -> Ended {
     }
 }
 
-// It says whether it called.
-pub fn is_told(told: Result<bool, TreeError>, calls: &Calls) -> Ended {
-    match told {
+// Its result says whether it called.
+pub fn match_outcome(called: Result<bool, TreeError>, calls: &Calls) -> Outcome {
+    match called {
         Ok(called) if called == (calls.many() == 1) => Ok(()),
         Ok(_) => Err(TreeError::Full),
         Err(error) => Err(error),
     }
 }
 
-fn longest(tree: &Tree, key: Key, by_value: bool, calls: &Calls) -> Ended {
+fn longest(tree: &Tree, key: Key, by_value: bool, calls: &Calls) -> Outcome {
     let callback = |_view: LendingKeyView<'_, '_>, _value: &u64| calls.call();
-    let told = if by_value {
+    let called = if by_value {
         tree.with_longest_prefix_match_view(key, callback)
     } else {
         tree.with_longest_prefix_match_view_k(&key, callback)
     };
-    is_told(told, calls)
+    match_outcome(called, calls)
 }
 
-fn longest_lent(tree: &Tree, key: Key, by_value: bool, calls: &Calls) -> Ended {
+fn longest_lent(tree: &Tree, key: Key, by_value: bool, calls: &Calls) -> Outcome {
     let mut callback = |_view: LendingKeyView<'_, '_>, _value: &u64| calls.call();
-    let told = if by_value {
+    let called = if by_value {
         tree.with_longest_prefix_match_view_by_ref(key, &mut callback)
     } else {
         tree.with_longest_prefix_match_view_by_ref_k(&key, &mut callback)
     };
-    is_told(told, calls)
+    match_outcome(called, calls)
 }
 
-fn values(tree: &Tree, key: Key, by_value: bool, calls: &Calls) -> Ended {
+fn values(tree: &Tree, key: Key, by_value: bool, calls: &Calls) -> Outcome {
     let callback = |_value: &u64| calls.call();
     if by_value {
         tree.prefix_values_for_each(key, callback)
@@ -196,7 +196,7 @@ fn values(tree: &Tree, key: Key, by_value: bool, calls: &Calls) -> Ended {
     }
 }
 
-fn values_lent(tree: &Tree, key: Key, by_value: bool, calls: &Calls) -> Ended {
+fn values_lent(tree: &Tree, key: Key, by_value: bool, calls: &Calls) -> Outcome {
     let mut callback = |_value: &u64| calls.call();
     if by_value {
         tree.prefix_values_for_each_by_ref(key, &mut callback)
@@ -205,7 +205,7 @@ fn values_lent(tree: &Tree, key: Key, by_value: bool, calls: &Calls) -> Ended {
     }
 }
 
-fn fold(tree: &Tree, key: Key, by_value: bool, calls: &Calls) -> Ended {
+fn fold(tree: &Tree, key: Key, by_value: bool, calls: &Calls) -> Outcome {
     let callback = |many: usize, _value: &u64| {
         calls.call();
         many.wrapping_add(1)
@@ -222,7 +222,7 @@ fn fold(tree: &Tree, key: Key, by_value: bool, calls: &Calls) -> Ended {
     }
 }
 
-fn fold_lent(tree: &Tree, key: Key, by_value: bool, calls: &Calls) -> Ended {
+fn fold_lent(tree: &Tree, key: Key, by_value: bool, calls: &Calls) -> Outcome {
     let mut callback = |many: usize, _value: &u64| {
         calls.call();
         many.wrapping_add(1)
@@ -239,7 +239,7 @@ fn fold_lent(tree: &Tree, key: Key, by_value: bool, calls: &Calls) -> Ended {
     }
 }
 
-pub fn ended(tried: Result<(), VisitError<()>>) -> Ended {
+pub fn outcome_of(tried: Result<(), VisitError<()>>) -> Outcome {
     match tried {
         Ok(()) => Ok(()),
         Err(VisitError::Memory) => Err(TreeError::Memory),
@@ -247,32 +247,32 @@ pub fn ended(tried: Result<(), VisitError<()>>) -> Ended {
     }
 }
 
-fn tries(tree: &Tree, key: Key, by_value: bool, calls: &Calls) -> Ended {
+fn try_values(tree: &Tree, key: Key, by_value: bool, calls: &Calls) -> Outcome {
     let callback = |_value: &u64| {
         calls.call();
         Ok(VisitControl::Continue)
     };
     if by_value {
-        ended(tree.try_prefix_values_for_each(key, callback))
+        outcome_of(tree.try_prefix_values_for_each(key, callback))
     } else {
-        ended(tree.try_prefix_values_for_each_k(&key, callback))
+        outcome_of(tree.try_prefix_values_for_each_k(&key, callback))
     }
 }
 
-fn tries_lent(tree: &Tree, key: Key, by_value: bool, calls: &Calls) -> Ended {
+fn try_values_lent(tree: &Tree, key: Key, by_value: bool, calls: &Calls) -> Outcome {
     let mut callback = |_value: &u64| {
         calls.call();
         Ok(VisitControl::Continue)
     };
     if by_value {
-        ended(tree.try_prefix_values_for_each_by_ref(key, &mut callback))
+        outcome_of(tree.try_prefix_values_for_each_by_ref(key, &mut callback))
     } else {
-        ended(tree.try_prefix_values_for_each_by_ref_k(&key, &mut callback))
+        outcome_of(tree.try_prefix_values_for_each_by_ref_k(&key, &mut callback))
     }
 }
 
-/// Makes the walk. What went another way than memory refused is told as `Full`.
-pub fn make(tree: &Tree, key: Key, walk: Walk, calls: &Calls) -> Ended {
+/// Makes the walk. A failure other than refused memory is returned as `Full`.
+pub fn make(tree: &Tree, key: Key, walk: Walk, calls: &Calls) -> Outcome {
     match walk {
         Walk::Views => views(tree, false, calls),
         Walk::ViewsLent => views(tree, true, calls),
@@ -294,17 +294,17 @@ pub fn make(tree: &Tree, key: Key, walk: Walk, calls: &Calls) -> Ended {
         Walk::FoldByValue => fold(tree, key, true, calls),
         Walk::FoldLent => fold_lent(tree, key, false, calls),
         Walk::FoldLentByValue => fold_lent(tree, key, true, calls),
-        Walk::Tries => tries(tree, key, false, calls),
-        Walk::TriesByValue => tries(tree, key, true, calls),
-        Walk::TriesLent => tries_lent(tree, key, false, calls),
-        Walk::TriesLentByValue => tries_lent(tree, key, true, calls),
-        Walk::TriesSeen => seen_forms::tries_plainly(tree, key, calls),
+        Walk::TryValues => try_values(tree, key, false, calls),
+        Walk::TryValuesByValue => try_values(tree, key, true, calls),
+        Walk::TryValuesLent => try_values_lent(tree, key, false, calls),
+        Walk::TryValuesLentByValue => try_values_lent(tree, key, true, calls),
+        Walk::TryValuesSeen => seen_forms::try_values_seen(tree, key, calls),
         Walk::ValuesCounted => seen_forms::values(tree, key, false, calls),
         Walk::ValuesLentCounted => seen_forms::values(tree, key, true, calls),
         Walk::FoldCounted => seen_forms::fold(tree, key, false, calls),
         Walk::FoldLentCounted => seen_forms::fold(tree, key, true, calls),
-        Walk::TriesCounted => seen_forms::tries(tree, key, false, calls),
-        Walk::TriesLentCounted => seen_forms::tries(tree, key, true, calls),
+        Walk::TryValuesCounted => seen_forms::try_values(tree, key, false, calls),
+        Walk::TryValuesLentCounted => seen_forms::try_values(tree, key, true, calls),
         Walk::LongestCounted => seen_forms::longest(tree, key, calls),
     }
 }

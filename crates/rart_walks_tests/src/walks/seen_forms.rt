@@ -1,10 +1,10 @@
-//! Walks over values by the calls of a tree that is seen: how each ended.
+//! Walks over values by the calls of a tree that is seen: the outcome of each.
 
-use super::forms::{Calls, Ended, ended, is_told};
+use super::forms::{Calls, Outcome, match_outcome, outcome_of};
 use rart::{LendingKeyView, TreeError, VisitControl, Visits};
 use rart_test_trees::texts::{Key, Tree};
 
-pub fn values(tree: &Tree, key: Key, lent: bool, calls: &Calls) -> Ended {
+pub fn values(tree: &Tree, key: Key, lent: bool, calls: &Calls) -> Outcome {
     let mut callback = |_value: &u64| calls.call();
     let seen = tree.seen::<Visits>();
     if lent {
@@ -14,7 +14,7 @@ pub fn values(tree: &Tree, key: Key, lent: bool, calls: &Calls) -> Ended {
     }
 }
 
-pub fn fold(tree: &Tree, key: Key, lent: bool, calls: &Calls) -> Ended {
+pub fn fold(tree: &Tree, key: Key, lent: bool, calls: &Calls) -> Outcome {
     let mut callback = |many: usize, _value: &u64| {
         calls.call();
         many.wrapping_add(1)
@@ -32,35 +32,35 @@ pub fn fold(tree: &Tree, key: Key, lent: bool, calls: &Calls) -> Ended {
     }
 }
 
-pub fn tries(tree: &Tree, key: Key, lent: bool, calls: &Calls) -> Ended {
+pub fn try_values(tree: &Tree, key: Key, lent: bool, calls: &Calls) -> Outcome {
     let mut callback = |_value: &u64| {
         calls.call();
         Ok(VisitControl::Continue)
     };
     let seen = tree.seen::<Visits>();
     if lent {
-        ended(seen.try_prefix_values_for_each_by_ref_k_counted(
+        outcome_of(seen.try_prefix_values_for_each_by_ref_k_counted(
             &key,
             &mut callback,
             &mut Visits::new(),
         ))
     } else {
-        ended(seen.try_prefix_values_for_each_k_counted(&key, callback, &mut Visits::new()))
+        outcome_of(seen.try_prefix_values_for_each_k_counted(&key, callback, &mut Visits::new()))
     }
 }
 
-pub fn tries_plainly(tree: &Tree, key: Key, calls: &Calls) -> Ended {
+pub fn try_values_seen(tree: &Tree, key: Key, calls: &Calls) -> Outcome {
     let callback = |_value: &u64| {
         calls.call();
         Ok(VisitControl::Continue)
     };
     let seen = tree.seen::<Visits>();
-    ended(seen.try_prefix_values_for_each_k(&key, callback))
+    outcome_of(seen.try_prefix_values_for_each_k(&key, callback))
 }
 
-pub fn longest(tree: &Tree, key: Key, calls: &Calls) -> Ended {
+pub fn longest(tree: &Tree, key: Key, calls: &Calls) -> Outcome {
     let callback = |_view: LendingKeyView<'_, '_>, _value: &u64| calls.call();
     let seen = tree.seen::<Visits>();
-    let told = seen.with_longest_prefix_match_view_k_counted(&key, callback, &mut Visits::new());
-    is_told(told, calls)
+    let called = seen.with_longest_prefix_match_view_k_counted(&key, callback, &mut Visits::new());
+    match_outcome(called, calls)
 }

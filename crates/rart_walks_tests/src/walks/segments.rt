@@ -48,22 +48,22 @@ fn next_row(seen: usize, view: LendingKeyView<'_, '_>, value: u64) -> usize {
 
 fn are_cut(tree: &Tree) -> bool {
     let seen = Cell::new(0_usize);
-    let ended = tree.for_each_view(|view: LendingKeyView<'_, '_>, value: &u64| {
+    let outcome = tree.for_each_view(|view: LendingKeyView<'_, '_>, value: &u64| {
         seen.set(next_row(seen.get(), view, *value));
     });
-    ended == Ok(()) && seen.get() == CUT.len()
+    outcome == Ok(()) && seen.get() == CUT.len()
 }
 
 // How many views below "abcde" are cut as wanted, of the three that are.
 fn cut_below(tree: &Tree) -> usize {
     let seen = Cell::new(2_usize);
-    let ended = tree.prefix_for_each_view_k(
+    let outcome = tree.prefix_for_each_view_k(
         &key(b"abcde"),
         |view: LendingKeyView<'_, '_>, value: &u64| {
             seen.set(next_row(seen.get(), view, *value));
         },
     );
-    if ended == Ok(()) {
+    if outcome == Ok(()) {
         seen.get().wrapping_sub(2)
     } else {
         0

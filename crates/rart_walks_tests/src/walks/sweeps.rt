@@ -13,19 +13,19 @@ fn is_swept(alloc: Global, tree: &Tree, key: Key, form: Walk, wanted: usize) -> 
     for at in 1..100_usize {
         let calls = Calls::none(None);
         refuse(alloc, at);
-        let ended = make(tree, key, form, &calls);
+        let outcome = make(tree, key, form, &calls);
         if !was_refused(alloc) {
             part_ends(alloc);
-            return ended == Ok(()) && calls.many() == wanted;
+            return outcome == Ok(()) && calls.many() == wanted;
         }
-        if ended != Err(TreeError::Memory) || calls.many() != 0 {
+        if outcome != Err(TreeError::Memory) || calls.many() != 0 {
             return false;
         }
     }
     false
 }
 
-// The first walk that goes another way, if there is one.
+// The first walk that fails, if there is one.
 fn first_wrong_walk(alloc: Global, tree: &Tree) -> Option<usize> {
     let key = Key::new_from_slice(b"alp");
     let mut row = 0_usize;
@@ -135,7 +135,7 @@ fn start_is_swept(alloc: Global, tree: &Tree, key: Key, start: Start, wanted: us
     false
 }
 
-// The first start that goes another way, if there is one.
+// The first start that fails, if there is one.
 fn first_wrong_start(alloc: Global, tree: &Tree) -> Option<usize> {
     let key = Key::new_from_slice(b"alp");
     let mut row = 0_usize;

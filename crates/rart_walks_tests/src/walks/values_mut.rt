@@ -71,7 +71,7 @@ fn is_row(alloc: Global, row: &Row, form: Form) -> bool {
     }
 }
 
-// The first row that goes another way in one of the forms, if one does.
+// The first row that fails in one of the forms, if one does.
 fn first_wrong(alloc: Global, rows: &[Row]) -> Option<usize> {
     let mut at = 0_usize;
     for row in rows {

@@ -26,7 +26,7 @@ pub returns-in-Err-get_tree_stats-2-clause-refused : goal.returns-in-Err-get_tre
 returns-in-Err-get_tree_stats-2-clause-refused g c =
     let pairs = pairs-restored _ _ _ _ _ c.in-Ok-insert_k.ensures.inserts.2 c.in-Ok-remove_k.ensures.removes.1
     (c.sorted_map.ensures.put_then_without _ _ _ c.canonical.ensures.ascending c.requires.new_key) in (
-      (c.in-Err-get_tree_stats-2.ensures.memory, rw pairs at c.in-Err-get_tree_stats-2.ensures.asks),
+      (c.in-Err-get_tree_stats-2.ensures.memory, rw pairs at c.in-Err-get_tree_stats-2.ensures.allocates),
       pairs,
       same-nodes
           c.args.tree.now c.remove_k.new.self c.one_shape.ensures pairs c.canonical-in-Ok-remove_k.ensures.shape

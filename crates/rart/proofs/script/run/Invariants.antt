@@ -6,7 +6,7 @@ use Rattle.rart.proofs.script.run.Given as goal
 
 abbrev pub invariant-loop-call : goal.invariant-loop-call
 invariant-loop-call g l = record {
-  run : HasRun g.K.KeyTrait.bytes l.fn.tree.pairs l.fn.calls.items l.replies.items l.tree.pairs
+  run : HasRun g.V.Clone.is_infallible g.K.KeyTrait.bytes l.fn.tree.pairs l.fn.calls.items l.replies.items l.tree.pairs
       (into_iter_items l.call-iterator);
   room : length l.fn.calls.items ≤ vec_capacity l.replies;
 }

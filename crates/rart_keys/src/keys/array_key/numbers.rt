@@ -7,7 +7,7 @@ ghost use Rattle.rart_keys.specs.NumberBytes.{sign_flipped, big_endian_number};
 
 use crate::keys::array_key::ArrayKey;
 
-/// Is the number of bytes of a `u64`.
+/// The number of bytes of a `u64`.
 const U64_BYTES: usize = 8;
 
 impl<const N: usize> ArrayKey<N> {
@@ -16,6 +16,7 @@ impl<const N: usize> ArrayKey<N> {
         requires { 1 ≤ N }
         ensures { array_key_bytes result ≡ to_be_bytes w8 x }
     {
+        prove!(1 <= N);
         Self::from_two(&u8::to_be_bytes(x), &[])
     }
 
@@ -24,6 +25,7 @@ impl<const N: usize> ArrayKey<N> {
         requires { 2 ≤ N }
         ensures { array_key_bytes result ≡ to_be_bytes w16 x }
     {
+        prove!(2 <= N);
         Self::from_two(&u16::to_be_bytes(x), &[])
     }
 
@@ -32,6 +34,7 @@ impl<const N: usize> ArrayKey<N> {
         requires { 4 ≤ N }
         ensures { array_key_bytes result ≡ to_be_bytes w32 x }
     {
+        prove!(4 <= N);
         Self::from_two(&u32::to_be_bytes(x), &[])
     }
 
@@ -40,6 +43,7 @@ impl<const N: usize> ArrayKey<N> {
         requires { 8 ≤ N }
         ensures { array_key_bytes result ≡ to_be_bytes w64 x }
     {
+        prove!(8 <= N);
         Self::from_two(&u64::to_be_bytes(x), &[])
     }
 
@@ -48,6 +52,7 @@ impl<const N: usize> ArrayKey<N> {
         requires { 16 ≤ N }
         ensures { array_key_bytes result ≡ to_be_bytes w128 x }
     {
+        prove!(16 <= N);
         Self::from_two(&u128::to_be_bytes(x), &[])
     }
 
@@ -56,6 +61,7 @@ impl<const N: usize> ArrayKey<N> {
         requires { 8 ≤ N }
         ensures { array_key_bytes result ≡ to_be_bytes w64 x }
     {
+        prove!(8 <= N);
         Self::from_two(&usize::to_be_bytes(x), &[])
     }
 

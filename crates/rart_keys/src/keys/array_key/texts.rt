@@ -4,7 +4,7 @@ ghost use Rattle.rart_keys.specs.ArrayKeyBytes.{array_key_bytes};
 
 use crate::keys::array_key::ArrayKey;
 
-/// Is the last byte of a terminated key.
+/// The last byte of a terminated key.
 const CLOSING_ZERO: [u8; 1] = [0];
 
 impl<const N: usize> ArrayKey<N> {
@@ -13,6 +13,7 @@ impl<const N: usize> ArrayKey<N> {
         requires { length s.now ≤ N }
         ensures { array_key_bytes result ≡ s.now }
     {
+        prove!(s.len() <= N);
         Self::from_two(s.as_bytes(), &[])
     }
 
@@ -30,6 +31,7 @@ impl<const N: usize> ArrayKey<N> {
         requires { length s.now + 1 ≤ N }
         ensures { array_key_bytes result ≡ s.now ++ 0 ∷ [] }
     {
+        prove!(s.len() < N);
         Self::from_two(s.as_bytes(), &CLOSING_ZERO)
     }
 
@@ -38,6 +40,7 @@ impl<const N: usize> ArrayKey<N> {
         requires { S ≤ N }
         ensures { array_key_bytes result ≡ arr.entry }
     {
+        prove!(S <= N);
         Self::from_two(&arr, &[])
     }
 }

@@ -1,7 +1,7 @@
 use Rattle.rart_nodes.proofs.edits.EditRunLemmas.{remove-absent}
-use Rattle.rart_nodes.proofs.edits.InsertAskLemmas.{asks-insert}
+use Rattle.rart_nodes.proofs.edits.InsertAskLemmas.{allocates-insert}
 use Rattle.rart_nodes.proofs.edits.PutLemmas.{canonical-put, pairs_of-put}
-use Rattle.rart_nodes.proofs.removals.RemoveAskLemmas.{asks-remove}
+use Rattle.rart_nodes.proofs.removals.RemoveAskLemmas.{allocates-remove}
 use Rattle.rart_nodes.proofs.removals.RemoveLemmas.{canonical-removed, pairs_of-removed}
 use Rattle.rart_nodes.proofs.laws.edits.Goals as goal
 
@@ -9,9 +9,9 @@ pub returns : goal.returns
 returns g c = record {
   put_canonical = canonical-put;
   put_pairs = pairs_of-put;
-  put_asks = asks-insert;
+  put_allocates = allocates-insert;
   remove_canonical = canonical-removed;
   remove_pairs = pairs_of-removed;
   remove_absent = remove-absent;
-  remove_asks = asks-remove;
+  remove_allocates = allocates-remove;
 }

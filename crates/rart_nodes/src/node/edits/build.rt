@@ -11,10 +11,11 @@ ghost use Rattle.rart_nodes.specs.build.Stretches.{first_run, rests};
 ghost use Rattle.rart_nodes.specs.build.ValueCalls.{CanTake, Takes};
 ghost use Rattle.rart_nodes.specs.shapes.Shape.{capacity_of, next_bytes};
 ghost use Rattle.rart_nodes.specs.shapes.ShapeRecords.{keys_in, lone_keys};
-ghost use Rattle.rart_nodes.specs.storages.Stored.{stored, width_of};
+ghost use Rattle.rart_nodes.specs.storages.Stored.{child_entries, storage_capacity};
 ghost use Rattle.rart_nodes.specs.tries.Trie.{IsCanonical, pairs_of};
 
 use crate::node::DefaultNode;
+use crate::node::edits::drop_tree::drop_children;
 use crate::node::edits::insert::add_leaf;
 use crate::node::storage::Storage;
 use rart_keys::{Partial, common_prefix_length};
@@ -100,11 +101,11 @@ fn add_node<P: Partial, V>(
     children: Storage<DefaultNode<P, V>>,
 )
     requires fits { IsWithin P.MAXIMUM_SIZE (length prefix.now) }
-    requires absent { child_at b (stored storage.old) ≡ None }
-    requires room { length (stored storage.old) < width_of storage.old }
-    ensures stored { stored storage.new
-        ≡ with_entry b (built prefix.now value children) (stored storage.old) }
-    ensures width { width_of storage.new ≡ width_of storage.old }
+    requires absent { child_at b (child_entries storage.old) ≡ None }
+    requires room { length (child_entries storage.old) < storage_capacity storage.old }
+    ensures stored { child_entries storage.new
+        ≡ with_entry b (built prefix.now value children) (child_entries storage.old) }
+    ensures capacity { storage_capacity storage.new ≡ storage_capacity storage.old }
 {
     let node = DefaultNode {
         prefix: P::from_slice(prefix),
@@ -117,8 +118,8 @@ fn add_node<P: Partial, V>(
 impl<N> Storage<N> {
     /// Returns empty storage of the kind for `count` children.
     fn for_children(alloc: Global, count: usize) -> Result<Self, TreeError>
-        ensures stored { IfOk result (λ s. stored s ≡ []) }
-        ensures width { IfOk result (λ s. width_of s ≡ capacity_of count) }
+        ensures stored { IfOk result (λ s. child_entries s ≡ []) }
+        ensures capacity { IfOk result (λ s. storage_capacity s ≡ capacity_of count) }
         ensures memory { IfErr result (λ e. e ≡ TreeError.Memory) }
     {
         if count == 0 {
@@ -211,9 +212,12 @@ impl<P: Partial, V: Drop> DefaultNode<P, V> {
             if end == 1 {
                 add_leaf(&mut storage, byte, &rest[0][below..], take_value(at));
             } else {
-                let (value, children, end_below) = DefaultNode::build_below(
+                let Ok((value, children, end_below)) = DefaultNode::build_below(
                     alloc, group, below, at, take_value,
-                )?;
+                ) else {
+                    drop_children(&mut storage);
+                    return Err(TreeError::Memory);
+                };
                 let prefix = first_part(group, below, end_below);
                 add_node(&mut storage, byte, prefix, value, children);
             }

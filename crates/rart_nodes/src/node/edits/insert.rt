@@ -4,9 +4,9 @@ ghost use Rattle.rart_keys.specs.ByteStrings.{strip_prefix};
 ghost use Rattle.rart_keys.specs.KeyBytes.{IsWithin};
 ghost use Rattle.rart_keys.specs.SortedMap.{count_of, lookup, put, longest_key};
 ghost use Rattle.rart_parts.specs.Entries.{child_at, with_entry};
-ghost use Rattle.rart_nodes.specs.edits.InsertAsks.{MayAskFor, trie_asks_put};
+ghost use Rattle.rart_nodes.specs.edits.InsertAllocations.{MayAskFor, trie_put_allocates};
 ghost use Rattle.rart_nodes.specs.edits.InsertStops.{FailsPut, FailsInsertInto, FailsInsert};
-ghost use Rattle.rart_nodes.specs.storages.Stored.{stored, width_of};
+ghost use Rattle.rart_nodes.specs.storages.Stored.{child_entries, storage_capacity};
 ghost use Rattle.rart_nodes.specs.tries.Trie.{IsCanonical, leaf, pairs_of, prefix_of, with_records};
 ghost use Rattle.rart_nodes.specs.tries.Trie.{trie_lookup, trie_put};
 
@@ -134,7 +134,7 @@ impl<P: Partial, V> DefaultNode<P, V> {
         ensures answer { IfOk result (λ old. old ≡ trie_lookup key.now self.old) }
         ensures unchanged { OnErr result (self.new ≡ self.old) }
         ensures back { IfErr result (λ r. (r.error ≡ TreeError.Memory) × (r.value ≡ value)) }
-        ensures asks { OnErr result ((trie_asks_put key.now self.old ≡ true)
+        ensures allocates { OnErr result ((trie_put_allocates key.now self.old ≡ true)
             × (trie_lookup key.now (with_records self.old) ≡ None)) }
     {
         let mut back: Option<V> = None;
@@ -189,7 +189,7 @@ impl<P: Partial, V> DefaultNode<P, V> {
             ≤ max (longest_key (pairs_of self.old)) (length key.now)) }
         ensures unchanged { OnErr result (self.new ≡ self.old) }
         ensures back { IfErr result (λ r. (r.error ≡ TreeError.Memory) × (r.value ≡ value)) }
-        ensures asks { OnErr result (MayAskFor key.now (pairs_of self.old)) }
+        ensures allocates { OnErr result (MayAskFor key.now (pairs_of self.old)) }
     {
         self.put(alloc, key, value)
     }
@@ -226,10 +226,11 @@ pub(super) fn add_leaf<P: Partial, V>(
     value: V,
 )
     requires fits { IsWithin P.MAXIMUM_SIZE (length rest.now) }
-    requires absent { child_at b (stored storage.old) ≡ None }
-    requires room { length (stored storage.old) < width_of storage.old }
-    ensures stored { stored storage.new ≡ with_entry b (leaf rest.now value) (stored storage.old) }
-    ensures width { width_of storage.new ≡ width_of storage.old }
+    requires absent { child_at b (child_entries storage.old) ≡ None }
+    requires room { length (child_entries storage.old) < storage_capacity storage.old }
+    ensures stored { child_entries storage.new
+        ≡ with_entry b (leaf rest.now value) (child_entries storage.old) }
+    ensures capacity { storage_capacity storage.new ≡ storage_capacity storage.old }
 {
     storage.add_within(b, DefaultNode::new_leaf(P::from_slice(rest), value));
 }

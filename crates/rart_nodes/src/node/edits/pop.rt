@@ -5,8 +5,8 @@ ghost use Rattle.std.specs.Option.{IsSomeAnd};
 ghost use Rattle.rart_keys.specs.Filters.{last_or};
 ghost use Rattle.rart_keys.specs.KeyBytes.{IsWithin};
 ghost use Rattle.rart_keys.specs.SortedMap.{count_of, keys_of, longest_key, lookup};
-ghost use Rattle.rart_nodes.specs.edits.Pops.{PopAsks, Pops, PopsEnd, PopsFirst, PopsLast};
-ghost use Rattle.rart_nodes.specs.edits.RemoveAsks.{remove_asks};
+ghost use Rattle.rart_nodes.specs.edits.Pops.{PopAllocates, Pops, PopsEnd, PopsFirst, PopsLast};
+ghost use Rattle.rart_nodes.specs.edits.RemoveAllocations.{remove_allocates};
 ghost use Rattle.rart_nodes.specs.tries.Ends.{end_of};
 ghost use Rattle.rart_nodes.specs.tries.Tree.{IsCanonicalTree, tree_pairs};
 ghost use Rattle.rart_nodes.specs.tries.Trie.{IsCanonical, children_in, no_children, pairs_of};
@@ -37,7 +37,7 @@ impl<P: Partial, V> DefaultNode<P, V> {
         ensures unchanged { OnErr result (self.new ≡ self.old) }
         ensures nothing { OnErr result (removed.new ≡ None) }
         ensures memory { IfErr result (λ e. e ≡ TreeError.Memory) }
-        ensures asks { OnErr result (PopAsks end self.old) }
+        ensures allocates { OnErr result (PopAllocates end self.old) }
     {
         extend(path, &self.prefix);
         let Some((byte, _)) = self.end_child(end) else {
@@ -66,8 +66,8 @@ impl<P: Partial, V> DefaultNode<P, V> {
             (pairs_of self.new)) }
         ensures unchanged { OnErr result (self.new ≡ self.old) }
         ensures memory { IfErr result (λ e. e ≡ TreeError.Memory) }
-        ensures asks { OnErr result (IsSomeAnd (end_of end (pairs_of self.old))
-            (λ p. (remove_asks (keys_of (pairs_of self.old)) p.0 ≡ true)
+        ensures allocates { OnErr result (IsSomeAnd (end_of end (pairs_of self.old))
+            (λ p. (remove_allocates (keys_of (pairs_of self.old)) p.0 ≡ true)
             × (lookup p.0 (pairs_of self.old) ≢ None))) }
     {
         let mut path = P::from_slice(&[]);
@@ -96,8 +96,8 @@ impl<P: Partial, V> DefaultNode<P, V> {
             (option_map (λ p. (P.bytes p.0, p.1)) p) (tree_pairs root.new)) }
         ensures unchanged { OnErr result (root.new ≡ root.old) }
         ensures memory { IfErr result (λ e. e ≡ TreeError.Memory) }
-        ensures asks { OnErr result (IsSomeAnd (end_of end (tree_pairs root.old))
-            (λ p. (remove_asks (keys_of (tree_pairs root.old)) p.0 ≡ true)
+        ensures allocates { OnErr result (IsSomeAnd (end_of end (tree_pairs root.old))
+            (λ p. (remove_allocates (keys_of (tree_pairs root.old)) p.0 ≡ true)
             × (lookup p.0 (tree_pairs root.old) ≢ None))) }
     {
         match root {
@@ -142,8 +142,8 @@ impl<P: Partial, V> DefaultNode<P, V> {
             (longest_key (tree_pairs root.new) ≤ longest_key (tree_pairs root.old)) }
         ensures unchanged { OnErr result (root.new ≡ root.old) }
         ensures memory { IfErr result (λ e. e ≡ TreeError.Memory) }
-        ensures asks { OnErr result (IsSomeAnd (slice_get (tree_pairs root.old) 0)
-            (λ p. (remove_asks (keys_of (tree_pairs root.old)) p.0 ≡ true)
+        ensures allocates { OnErr result (IsSomeAnd (slice_get (tree_pairs root.old) 0)
+            (λ p. (remove_allocates (keys_of (tree_pairs root.old)) p.0 ≡ true)
             × (lookup p.0 (tree_pairs root.old) ≢ None))) }
     {
         DefaultNode::pop_end(root, alloc, End::First)
@@ -166,8 +166,8 @@ impl<P: Partial, V> DefaultNode<P, V> {
             (longest_key (tree_pairs root.new) ≤ longest_key (tree_pairs root.old)) }
         ensures unchanged { OnErr result (root.new ≡ root.old) }
         ensures memory { IfErr result (λ e. e ≡ TreeError.Memory) }
-        ensures asks { OnErr result (IsSomeAnd (last_or None (tree_pairs root.old))
-            (λ p. (remove_asks (keys_of (tree_pairs root.old)) p.0 ≡ true)
+        ensures allocates { OnErr result (IsSomeAnd (last_or None (tree_pairs root.old))
+            (λ p. (remove_allocates (keys_of (tree_pairs root.old)) p.0 ≡ true)
             × (lookup p.0 (tree_pairs root.old) ≢ None))) }
     {
         DefaultNode::pop_end(root, alloc, End::Last)
@@ -177,7 +177,7 @@ impl<P: Partial, V> DefaultNode<P, V> {
 // Extends a path by a prefix.
 // Not inline: a descent that calls it holds no path on the stack.
 #[inline(never)]
-fn extend<P: Partial>(path: &mut P, prefix: &P)
+pub(super) fn extend<P: Partial>(path: &mut P, prefix: &P)
     requires { IsWithin P.MAXIMUM_SIZE (length (P.bytes path.old) + length (P.bytes prefix.now)) }
     ensures { P.bytes path.new ≡ P.bytes path.old ++ P.bytes prefix.now }
 {

@@ -5,7 +5,7 @@ ghost use Rattle.rart_keys.specs.KeyBytes.{IsWithin};
 ghost use Rattle.rart_keys.specs.SortedMap.{count_of, keys_of, lookup, without, longest_key};
 ghost use Rattle.rart_nodes.specs.edits.Deletion.{JoinsWithin, NarrowsWithout, is_leaf_at, is_lone, joined_if_lone};
 ghost use Rattle.rart_nodes.specs.edits.Deletion.{without_child};
-ghost use Rattle.rart_nodes.specs.edits.RemoveAsks.{remove_asks, trie_asks_remove};
+ghost use Rattle.rart_nodes.specs.edits.RemoveAllocations.{remove_allocates, trie_remove_allocates};
 ghost use Rattle.rart_nodes.specs.tries.Tree.{IsCanonicalTree, tree_lookup, tree_pairs, tree_remove};
 ghost use Rattle.rart_nodes.specs.tries.Trie.{IsCanonical, capacity_in, children_in, edges_of, trie_lookup, pairs_of};
 ghost use Rattle.rart_nodes.specs.tries.Trie.{prefix_of, trie_remove, value_of, child_in};
@@ -24,7 +24,7 @@ impl<P: Partial, V> DefaultNode<P, V> {
     // Not inline: a descent that calls it holds no node on the stack.
     #[inline(never)]
     pub(super) fn merge_with_only_child(&mut self)
-        requires width { is_lone (value_of self.old) (children_in self.old) ≡ true
+        requires capacity { is_lone (value_of self.old) (children_in self.old) ≡ true
             → capacity_in self.old ≡ 4 }
         requires within { JoinsWithin P.MAXIMUM_SIZE (prefix_of self.old) (children_in self.old) }
         ensures { self.new ≡ joined_if_lone self.old }
@@ -54,10 +54,10 @@ impl<P: Partial, V> DefaultNode<P, V> {
         ensures taken { IfOk result (λ child. child ≡ child_in b self.old) }
         ensures rest { OnOk result (self.new ≡ without_child b self.old) }
         ensures unchanged { OnErr result (self.new ≡ self.old) }
-        ensures asks { OnErr result (NarrowsWithout b self.old) }
+        ensures allocates { OnErr result (NarrowsWithout b self.old) }
         ensures memory { IfErr result (λ e. e ≡ TreeError.Memory) }
     {
-        let narrow = self.storage.width() == 4;
+        let narrow = self.storage.capacity() == 4;
         let Some(child) = self.storage.delete_child(alloc, b)? else {
             return Ok(None);
         };
@@ -112,7 +112,7 @@ impl<P: Partial, V> DefaultNode<P, V> {
         ensures rest { OnOk result (self.new ≡ without_child byte self.old) }
         ensures unchanged { OnErr result (self.new ≡ self.old) }
         ensures nothing { OnErr result (removed.new ≡ None) }
-        ensures asks { OnErr result (NarrowsWithout byte self.old) }
+        ensures allocates { OnErr result (NarrowsWithout byte self.old) }
         ensures memory { IfErr result (λ e. e ≡ TreeError.Memory) }
     {
         match self.take_child(alloc, byte)? {
@@ -140,7 +140,7 @@ impl<P: Partial, V> DefaultNode<P, V> {
         ensures unchanged { OnErr result (self.new ≡ self.old) }
         ensures nothing { OnErr result (removed.new ≡ None) }
         ensures memory { IfErr result (λ e. e ≡ TreeError.Memory) }
-        ensures asks { OnErr result ((trie_asks_remove None key.now self.old ≡ true)
+        ensures allocates { OnErr result ((trie_remove_allocates None key.now self.old ≡ true)
             × (trie_lookup key.now self.old ≢ None)) }
     {
         let Some(rest) = strip_prefix(&self.prefix, key) else {
@@ -170,7 +170,7 @@ impl<P: Partial, V> DefaultNode<P, V> {
         ensures answer { IfOk result (λ old. old ≡ trie_lookup key.now self.old) }
         ensures unchanged { OnErr result (self.new ≡ self.old) }
         ensures memory { IfErr result (λ e. e ≡ TreeError.Memory) }
-        ensures asks { OnErr result ((trie_asks_remove None key.now self.old ≡ true)
+        ensures allocates { OnErr result ((trie_remove_allocates None key.now self.old ≡ true)
             × (trie_lookup key.now self.old ≢ None)) }
     {
         let mut removed: Option<V> = None;
@@ -191,7 +191,8 @@ impl<P: Partial, V> DefaultNode<P, V> {
         ensures answer { IfOk result (λ old. old ≡ tree_lookup key.now root.old) }
         ensures unchanged { OnErr result (root.new ≡ root.old) }
         ensures memory { IfErr result (λ e. e ≡ TreeError.Memory) }
-        ensures asks { OnErr result ((remove_asks (keys_of (tree_pairs root.old)) key.now ≡ true)
+        ensures allocates { OnErr result
+            ((remove_allocates (keys_of (tree_pairs root.old)) key.now ≡ true)
             × (tree_lookup key.now root.old ≢ None)) }
     {
         match root {
@@ -231,7 +232,8 @@ impl<P: Partial, V> DefaultNode<P, V> {
             (longest_key (tree_pairs root.new) ≤ longest_key (tree_pairs root.old)) }
         ensures unchanged { OnErr result (root.new ≡ root.old) }
         ensures memory { IfErr result (λ e. e ≡ TreeError.Memory) }
-        ensures asks { OnErr result ((remove_asks (keys_of (tree_pairs root.old)) key.now ≡ true)
+        ensures allocates { OnErr result
+            ((remove_allocates (keys_of (tree_pairs root.old)) key.now ≡ true)
             × (lookup key.now (tree_pairs root.old) ≢ None)) }
     {
         DefaultNode::take_from(root, alloc, key)

@@ -72,7 +72,8 @@ pub(crate) fn next_aligned<'a, 'b, P: Partial, V, W, C: Count>(
     counter: &mut C,
 ) -> Option<(Entered<'a, P, V, C>, Entered<'b, P, W, Paired<C>>)>
     requires { PathRoom path.old (longest_key (pairs_of left.node.now)) }
-    ensures aligned { FindsAligned left.entry.node.now right.entry.node.now path.old result path.new }
+    ensures aligned { FindsAligned left.entry.node.now right.entry.node.now path.old
+        result path.new }
     ensures visits { VisitsAligned left.entry.node.now right.entry.node.now
         (C.number counter.old) result (C.number counter.new) }
 {

@@ -1,7 +1,7 @@
 //! The first and the last child of a storage.
 ghost use Rattle.std.specs.Prelude.{◌≡◌, None, option_map, slice_get};
 ghost use Rattle.rart_keys.specs.Filters.{last_or};
-ghost use Rattle.rart_nodes.specs.storages.Stored.{stored};
+ghost use Rattle.rart_nodes.specs.storages.Stored.{child_entries};
 
 use crate::node::storage::Storage;
 use rart_parts::mapping::{NodeMapping, SortedKeyedMappingIter};
@@ -39,14 +39,14 @@ fn greatest<N, M: NodeMapping<N, W>, const W: usize>(map: &M) -> Option<(u8, &N)
 impl<N> Storage<N> {
     /// Returns the child at the least byte, with that byte.
     pub(crate) fn first_child(&self) -> Option<(u8, &N)>
-        ensures { option_map (λ e. (e.0, e.1.now)) result ≡ slice_get (stored self.now) 0 }
+        ensures { option_map (λ e. (e.0, e.1.now)) result ≡ slice_get (child_entries self.now) 0 }
     {
         self.iter().take_next()
     }
 
     /// Returns the child at the greatest byte, with that byte.
     pub(crate) fn last_child(&self) -> Option<(u8, &N)>
-        ensures { option_map (λ e. (e.0, e.1.now)) result ≡ last_or None (stored self.now) }
+        ensures { option_map (λ e. (e.0, e.1.now)) result ≡ last_or None (child_entries self.now) }
     {
         match self {
             Storage::Leaf => None,

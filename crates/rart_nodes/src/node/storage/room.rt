@@ -1,8 +1,8 @@
 //! Growth of a storage: the children of a full one move into the next kind.
 ghost use Rattle.std.specs.Prelude.{◌≡◌, ◌<◌, ◌≤◌, [], length, None, true, false, IfErr, IfOk, OnErr, OnOk};
 ghost use Rattle.rart_parts.specs.Entries.{ascending, child_at};
-ghost use Rattle.rart_nodes.specs.storages.Widths.{widened_width};
-ghost use Rattle.rart_nodes.specs.storages.Stored.{stored, width_of};
+ghost use Rattle.rart_nodes.specs.storages.Capacities.{widened_capacity};
+ghost use Rattle.rart_nodes.specs.storages.Stored.{child_entries, storage_capacity};
 
 use crate::node::storage::Storage;
 use rart_parts::mapping::{DirectMapping, IndexedMapping, NodeMapping, SortedKeyedMapping};
@@ -61,8 +61,8 @@ fn boxed_direct<N>(alloc: Global) -> Result<Box<DirectMapping<N>>, TreeError>
 impl<N> Storage<N> {
     /// Returns empty storage of capacity 4.
     pub(crate) fn new_4(alloc: Global) -> Result<Self, TreeError>
-        ensures stored { IfOk result (λ s. stored s ≡ []) }
-        ensures width { IfOk result (λ s. width_of s ≡ 4) }
+        ensures stored { IfOk result (λ s. child_entries s ≡ []) }
+        ensures capacity { IfOk result (λ s. storage_capacity s ≡ 4) }
         ensures memory { IfErr result (λ e. e ≡ TreeError.Memory) }
     {
         Ok(Storage::Node4(boxed_sorted(alloc)?))
@@ -70,8 +70,8 @@ impl<N> Storage<N> {
 
     /// Returns empty storage of capacity 16.
     pub(crate) fn new_16(alloc: Global) -> Result<Self, TreeError>
-        ensures stored { IfOk result (λ s. stored s ≡ []) }
-        ensures width { IfOk result (λ s. width_of s ≡ 16) }
+        ensures stored { IfOk result (λ s. child_entries s ≡ []) }
+        ensures capacity { IfOk result (λ s. storage_capacity s ≡ 16) }
         ensures memory { IfErr result (λ e. e ≡ TreeError.Memory) }
     {
         Ok(Storage::Node16(boxed_sorted(alloc)?))
@@ -79,8 +79,8 @@ impl<N> Storage<N> {
 
     /// Returns empty storage of capacity 48.
     pub(crate) fn new_48(alloc: Global) -> Result<Self, TreeError>
-        ensures stored { IfOk result (λ s. stored s ≡ []) }
-        ensures width { IfOk result (λ s. width_of s ≡ 48) }
+        ensures stored { IfOk result (λ s. child_entries s ≡ []) }
+        ensures capacity { IfOk result (λ s. storage_capacity s ≡ 48) }
         ensures memory { IfErr result (λ e. e ≡ TreeError.Memory) }
     {
         Ok(Storage::Node48(boxed_indexed(alloc)?))
@@ -88,8 +88,8 @@ impl<N> Storage<N> {
 
     /// Returns empty storage of capacity 256.
     pub(crate) fn new_256(alloc: Global) -> Result<Self, TreeError>
-        ensures stored { IfOk result (λ s. stored s ≡ []) }
-        ensures width { IfOk result (λ s. width_of s ≡ 256) }
+        ensures stored { IfOk result (λ s. child_entries s ≡ []) }
+        ensures capacity { IfOk result (λ s. storage_capacity s ≡ 256) }
         ensures memory { IfErr result (λ e. e ≡ TreeError.Memory) }
     {
         Ok(Storage::Node256(boxed_direct(alloc)?))
@@ -97,10 +97,11 @@ impl<N> Storage<N> {
 
     /// Returns whether another child fits at byte `b`.
     fn has_room(&self, b: u8) -> bool
-        requires { child_at b (stored self.now) ≡ None }
-        ensures room { result ≡ true → length (stored self.now) < width_of self.now }
-        ensures full { result ≡ false → length (stored self.now) ≡ width_of self.now }
-        ensures not_widest { result ≡ false → width_of self.now < 256 }
+        requires { child_at b (child_entries self.now) ≡ None }
+        ensures room { result ≡ true → length (child_entries self.now) < storage_capacity self.now }
+        ensures full { result ≡ false
+            → length (child_entries self.now) ≡ storage_capacity self.now }
+        ensures not_widest { result ≡ false → storage_capacity self.now < 256 }
     {
         laws::free_byte::<N>();
         match self {
@@ -114,7 +115,7 @@ impl<N> Storage<N> {
 
     /// Frees storage without a child.
     pub(crate) fn destroy_empty(self)
-        requires { stored self ≡ [] }
+        requires { child_entries self ≡ [] }
     {
         match self {
             Storage::Leaf => {}
@@ -127,7 +128,7 @@ impl<N> Storage<N> {
 
     /// Replaces this storage, which has no child, and frees it.
     pub(crate) fn replace_empty(&mut self, next: Self)
-        requires { stored self.old ≡ [] }
+        requires { child_entries self.old ≡ [] }
         ensures { self.new ≡ next }
     {
         mem::replace(self, next).destroy_empty();
@@ -140,13 +141,15 @@ impl<N> Storage<N> {
     /// [`TreeError::Memory`] if the storage is full and an allocation fails. The storage is then unchanged.
     #[inline(never)]
     pub(crate) fn make_room(&mut self, alloc: Global, b: u8) -> Result<(), TreeError>
-        requires absent { child_at b (stored self.old) ≡ None }
-        ensures stored { stored self.new ≡ stored self.old }
-        ensures room { OnOk result (length (stored self.new) < width_of self.new) }
-        ensures width { OnOk result
-            (width_of self.new ≡ widened_width (length (stored self.old)) (width_of self.old)) }
+        requires absent { child_at b (child_entries self.old) ≡ None }
+        ensures stored { child_entries self.new ≡ child_entries self.old }
+        ensures room { OnOk result (length (child_entries self.new) < storage_capacity self.new) }
+        ensures capacity { OnOk result
+            (storage_capacity self.new
+            ≡ widened_capacity (length (child_entries self.old)) (storage_capacity self.old)) }
         ensures unchanged { OnErr result (self.new ≡ self.old) }
-        ensures asks { OnErr result (length (stored self.old) ≡ width_of self.old) }
+        ensures allocates { OnErr result
+            (length (child_entries self.old) ≡ storage_capacity self.old) }
         ensures memory { IfErr result (λ e. e ≡ TreeError.Memory) }
     {
         if self.has_room(b) {

@@ -2,8 +2,8 @@
 ghost use Rattle.std.specs.Prelude.{◌≡◌, ◌≢◌, ◌⊎◌, ◌<◌, ◌≤◌, ◌+◌, ◌∷◌, [], length, None, true, false, IfErr, IfOk};
 ghost use Rattle.std.specs.Prelude.{OnErr, OnOk};
 ghost use Rattle.rart_parts.specs.Entries.{child_at, without_byte};
-ghost use Rattle.rart_nodes.specs.storages.Widths.{previous_width};
-ghost use Rattle.rart_nodes.specs.storages.Stored.{NarrowsStored, stored, width_of, width_without};
+ghost use Rattle.rart_nodes.specs.storages.Capacities.{previous_capacity};
+ghost use Rattle.rart_nodes.specs.storages.Stored.{NarrowsStored, child_entries, storage_capacity, capacity_without};
 
 use crate::node::storage::Storage;
 use crate::node::storage::room::{boxed_indexed, boxed_sorted};
@@ -15,7 +15,7 @@ impl<N> Storage<N> {
     /// Returns the capacity of the next smaller kind plus one, the number of children at which a removal changes the
     /// kind.
     fn last_count(&self) -> usize
-        ensures { result ≡ previous_width (width_of self.now) + 1 }
+        ensures { result ≡ previous_capacity (storage_capacity self.now) + 1 }
     {
         match self {
             Storage::Leaf => 1,
@@ -28,10 +28,11 @@ impl<N> Storage<N> {
 
     /// Returns whether the storage keeps its kind when the child at byte `b` is removed.
     fn keeps_kind(&self, b: u8) -> bool
-        ensures keeps { result ≡ true → (child_at b (stored self.now) ≡ None)
-            ⊎ (previous_width (width_of self.now) + 1 < length (stored self.now)) }
-        ensures gives_up { result ≡ false → (child_at b (stored self.now) ≢ None)
-            × (length (stored self.now) ≤ previous_width (width_of self.now) + 1) }
+        ensures keeps { result ≡ true → (child_at b (child_entries self.now) ≡ None)
+            ⊎ (previous_capacity (storage_capacity self.now) + 1 < length (child_entries self.now)) }
+        ensures gives_up { result ≡ false → (child_at b (child_entries self.now) ≢ None)
+            × (length (child_entries self.now)
+            ≤ previous_capacity (storage_capacity self.now) + 1) }
     {
         self.num_children() > self.last_count() || self.seek_child(b).is_none()
     }
@@ -41,12 +42,14 @@ impl<N> Storage<N> {
     // Inline, as the call that it stands in is: a child that is handed on as a result is copied each time.
     #[inline(always)]
     pub(crate) fn delete_child(&mut self, alloc: Global, b: u8) -> Result<Option<N>, TreeError>
-        ensures taken { IfOk result (λ c. c ≡ child_at b (stored self.old)) }
-        ensures stored { OnOk result (stored self.new ≡ without_byte b (stored self.old)) }
-        ensures width { OnOk result
-            (width_of self.new ≡ width_without b self.old (length (stored self.new))) }
+        ensures taken { IfOk result (λ c. c ≡ child_at b (child_entries self.old)) }
+        ensures stored { OnOk result
+            (child_entries self.new ≡ without_byte b (child_entries self.old)) }
+        ensures capacity { OnOk result
+            (storage_capacity self.new
+            ≡ capacity_without b self.old (length (child_entries self.new))) }
         ensures unchanged { OnErr result (self.new ≡ self.old) }
-        ensures asks { OnErr result (NarrowsStored b self.old) }
+        ensures allocates { OnErr result (NarrowsStored b self.old) }
         ensures memory { IfErr result (λ e. e ≡ TreeError.Memory) }
     {
         if self.keeps_kind(b) {
@@ -85,11 +88,11 @@ impl<N> Storage<N> {
 
     /// Removes the only child of storage of capacity 4 and returns it with its byte.
     pub(crate) fn take_only_child(&mut self) -> (u8, N)
-        requires width { width_of self.old ≡ 4 }
-        requires lone { length (stored self.old) ≡ 1 }
-        ensures taken { stored self.old ≡ result ∷ [] }
-        ensures stored { stored self.new ≡ [] }
-        ensures width { width_of self.new ≡ 4 }
+        requires capacity { storage_capacity self.old ≡ 4 }
+        requires lone { length (child_entries self.old) ≡ 1 }
+        ensures taken { child_entries self.old ≡ result ∷ [] }
+        ensures stored { child_entries self.new ≡ [] }
+        ensures capacity { storage_capacity self.new ≡ 4 }
     {
         match self {
             Storage::Node4(map) => map.take_value_for_leaf(),

@@ -2,7 +2,7 @@
 ghost use Rattle.std.specs.Prelude.{◌≡◌, [], option_map, slice_get};
 ghost use Rattle.std.specs.Iterator.{YieldsFirstBy};
 ghost use Rattle.rart_parts.specs.Entries.{BytesAscend, entries_above};
-ghost use Rattle.rart_nodes.specs.storages.Stored.{stored};
+ghost use Rattle.rart_nodes.specs.storages.Stored.{child_entries};
 ghost use Rattle.rart_nodes.specs.walks.Walks.{to_come};
 
 use crate::node::storage::Storage;
@@ -15,11 +15,11 @@ use rart_parts::mapping::sorted_keyed_mapping::SortedKeyedMappingIter;
 pub(crate) enum StorageIter<'a, N> {
     /// None, of a node without children.
     Childless,
-    /// Those of width 4 or 16.
+    /// Those of capacity 4 or 16.
     Sorted(SortedKeyedMappingIter<'a, N>),
-    /// Those of width 48.
+    /// Those of capacity 48.
     Indexed(IndexedMappingIter<'a, N>),
-    /// Those of width 256.
+    /// Those of capacity 256.
     Direct(DirectMappingIter<'a, N>),
 }
 
@@ -40,8 +40,8 @@ impl<'a, N> StorageIter<'a, N> {
 impl<N> Storage<N> {
     /// Returns the children with their bytes, ascending. It does not allocate.
     pub(crate) fn iter(&self) -> StorageIter<'_, N>
-        ensures entries { to_come result ≡ stored self.now }
-        ensures ascends { BytesAscend (stored self.now) }
+        ensures entries { to_come result ≡ child_entries self.now }
+        ensures ascends { BytesAscend (child_entries self.now) }
     {
         match self {
             Storage::Leaf => StorageIter::Childless,
@@ -54,8 +54,8 @@ impl<N> Storage<N> {
 
     /// Returns the children at the bytes above `byte`, ascending. It does not allocate.
     pub(crate) fn iter_above(&self, byte: u8) -> StorageIter<'_, N>
-        ensures entries { to_come result ≡ entries_above byte (stored self.now) }
-        ensures ascends { BytesAscend (entries_above byte (stored self.now)) }
+        ensures entries { to_come result ≡ entries_above byte (child_entries self.now) }
+        ensures ascends { BytesAscend (entries_above byte (child_entries self.now)) }
     {
         match self {
             Storage::Leaf => StorageIter::Childless,
@@ -68,7 +68,7 @@ impl<N> Storage<N> {
 
     /// Returns the least byte at which a child stands.
     pub(crate) fn first_byte(&self) -> Option<u8>
-        ensures { result ≡ option_map (λ e. e.0) (slice_get (stored self.now) 0) }
+        ensures { result ≡ option_map (λ e. e.0) (slice_get (child_entries self.now) 0) }
     {
         match self.iter().take_next() {
             Some((byte, _)) => Some(byte),
@@ -79,7 +79,7 @@ impl<N> Storage<N> {
     /// Returns the least byte above `byte` at which a child stands.
     pub(crate) fn byte_above(&self, byte: u8) -> Option<u8>
         ensures { result
-            ≡ option_map (λ e. e.0) (slice_get (entries_above byte (stored self.now)) 0) }
+            ≡ option_map (λ e. e.0) (slice_get (entries_above byte (child_entries self.now)) 0) }
     {
         match self.iter_above(byte).take_next() {
             Some((above, _)) => Some(above),

@@ -16,22 +16,22 @@ pub(crate) trait Keeps {
 pub(crate) trait Path<'a, P: Partial>: Keeps + Drop {
     ghost kept: { Self → SegmentList };
 
-    ghost room: { Self → ℕ };
+    ghost capacity: { Self → ℕ };
 
     ghost requested: { Self → ℕ };
 
     ghost allocated: { Self → ℕ };
 
-    /// Returns an empty path without room.
+    /// Returns an empty path without capacity.
     fn empty(alloc: Global) -> Self
         ensures nothing { kept result ≡ [] }
         ensures requested { requested result ≡ 0 }
         ensures allocated { allocated result ≡ 0 };
 
-    /// Returns an empty path with room for keys of `longest` bytes, and for no more.
-    fn with_room(alloc: Global, longest: usize) -> Result<Self, AllocError>
+    /// Returns an empty path with capacity for keys of `longest` bytes, and for no more.
+    fn with_capacity(alloc: Global, longest: usize) -> Result<Self, AllocError>
         ensures nothing { IfOk result (λ t. kept t ≡ []) }
-        ensures room { IfOk result (λ t. longest ≤ room t) }
+        ensures capacity { IfOk result (λ t. longest ≤ capacity t) }
         ensures requested { IfOk result (λ t. requested t ≤ longest) }
         ensures allocated { IfOk result (λ t. allocated t ≤ requested t) };
 
@@ -42,14 +42,14 @@ pub(crate) trait Path<'a, P: Partial>: Keeps + Drop {
     /// Truncates the path to the length `mark`.
     fn cut(&mut self, mark: usize)
         ensures kept { kept self.new ≡ take mark (kept self.old) }
-        ensures room { room self.old ≤ room self.new }
+        ensures capacity { capacity self.old ≤ capacity self.new }
         ensures requested { requested self.new ≡ requested self.old };
 
     /// Appends a prefix.
     fn grow(&mut self, prefix: &'a P)
-        requires { length (kept self.old) + length (P.bytes prefix.now) ≤ room self.old }
+        requires { length (kept self.old) + length (P.bytes prefix.now) ≤ capacity self.old }
         ensures kept { kept self.new ≡ kept self.old ++ Self.grown (P.bytes prefix.now) }
-        ensures room { room self.old ≤ room self.new }
+        ensures capacity { capacity self.old ≤ capacity self.new }
         ensures requested { requested self.new ≡ requested self.old };
 }
 
@@ -84,7 +84,7 @@ impl<'a, P: Partial> Path<'a, P> for BytePath {
 
     ghost kept = { λ t. byte_segments t.key.items };
 
-    ghost room = { λ t. vec_capacity t.key };
+    ghost capacity = { λ t. vec_capacity t.key };
 
     ghost requested = { λ t. t.requested };
 
@@ -97,7 +97,7 @@ impl<'a, P: Partial> Path<'a, P> for BytePath {
         }
     }
 
-    fn with_room(alloc: Global, longest: usize) -> Result<Self, AllocError> {
+    fn with_capacity(alloc: Global, longest: usize) -> Result<Self, AllocError> {
         let key = Vec::with_capacity(alloc, longest)?;
         Ok(BytePath {
             key,
@@ -148,7 +148,7 @@ impl<'a, P: Partial> Path<'a, P> for SegmentPath<'a> {
 
     ghost kept = { λ t. lent_segments t.segments.items };
 
-    ghost room = { λ t. vec_capacity t.segments };
+    ghost capacity = { λ t. vec_capacity t.segments };
 
     ghost requested = { λ t. vec_capacity t.segments };
 
@@ -160,7 +160,7 @@ impl<'a, P: Partial> Path<'a, P> for SegmentPath<'a> {
         }
     }
 
-    fn with_room(alloc: Global, longest: usize) -> Result<Self, AllocError> {
+    fn with_capacity(alloc: Global, longest: usize) -> Result<Self, AllocError> {
         let segments = Vec::with_capacity(alloc, longest)?;
         Ok(SegmentPath { segments })
     }
@@ -196,7 +196,7 @@ impl Keeps for NoPath {
 impl<'a, P: Partial> Path<'a, P> for NoPath {
     ghost kept = { λ t. [] };
 
-    ghost room = { λ t. 2 ^ 64 };
+    ghost capacity = { λ t. 2 ^ 64 };
 
     ghost requested = { λ t. 0 };
 
@@ -206,7 +206,7 @@ impl<'a, P: Partial> Path<'a, P> for NoPath {
         NoPath
     }
 
-    fn with_room(_alloc: Global, _longest: usize) -> Result<Self, AllocError> {
+    fn with_capacity(_alloc: Global, _longest: usize) -> Result<Self, AllocError> {
         Ok(NoPath)
     }
 

@@ -1,7 +1,6 @@
 //! The descent to a start, and walks from there.
 ghost use Rattle.std.specs.Prelude.{◌≡◌, ◌≢◌, ◌≤◌, ◌<◌, ◌+◌, ◌++◌, [], ◌∷◌, length, reverse, vec_capacity, vec_len};
 ghost use Rattle.std.specs.Prelude.{IfOk, None, OnErr};
-ghost use Rattle.std.specs.Option.{option_copied};
 ghost use Rattle.rart_keys.specs.SortedMap.{longest_key};
 ghost use Rattle.rart_nodes.specs.ranges.Potential.{AreLow};
 ghost use Rattle.rart_nodes.specs.ranges.Starts.{entries_from};
@@ -9,7 +8,8 @@ ghost use Rattle.rart_nodes.specs.statistics.Statistics.{height, trie_height};
 ghost use Rattle.rart_nodes.specs.tries.SeenTrees.{length_bound, seen_keys, seen_pairs, seen_tree};
 ghost use Rattle.rart_nodes.specs.tries.Trie.{pairs_of, prefix_of};
 ghost use Rattle.rart_nodes.specs.walks.ProbeCount.{entered_nodes, probe_count};
-ghost use Rattle.rart_nodes.specs.walks.Walk.{IsWalk, Joins, entries_ahead, entries_of, tree_entries};
+ghost use Rattle.rart_nodes.specs.walks.Walk.{Joins, entries_of, tree_entries};
+ghost use Rattle.rart_nodes.specs.walks.WalkSteps.{HasPlaces, IsWalkAt, walk_entries};
 
 use crate::count::Count;
 use crate::node::rest::strip_prefix;
@@ -27,14 +27,15 @@ fn deepen<'a, P: Partial, V, C, T: Path<'a, P>>(
     at: Entered<'a, P, V, C>,
     rest: Branches<'a, P, V, C>,
 )
-    requires bytes { length (T.kept path.old) + length (prefix_of at.node.now) ≤ T.room path.old }
+    requires bytes { length (T.kept path.old) + length (prefix_of at.node.now)
+        ≤ T.capacity path.old }
     requires place { vec_len levels.old < vec_capacity levels.old }
     ensures kept { T.kept path.new ≡ T.kept path.old ++ T.grown (prefix_of at.entry.node.now) }
     ensures levels { levels.new.items
         ≡ levels.old.items ++ (rest.entry, length (T.kept path.new)) ∷ [] }
-    ensures path_room { T.room path.old ≤ T.room path.new }
+    ensures path_capacity { T.capacity path.old ≤ T.capacity path.new }
     ensures requested { T.requested path.new ≡ T.requested path.old }
-    ensures level_room { vec_capacity levels.new ≡ vec_capacity levels.old }
+    ensures level_capacity { vec_capacity levels.new ≡ vec_capacity levels.old }
 {
     path.grow(at.prefix());
     levels.push_reserved((rest, path.mark()));
@@ -55,14 +56,12 @@ impl<'a, P: Partial, V, C: Count> Walk<'a, P, V, C> {
         requires empty_walk { self.old.levels.items ≡ [] }
         requires first { self.old.first ≡ None }
         requires short { longest_key (pairs_of top.node.now) ≤ self.old.longest }
-        requires room { self.old.longest ≤ T.room path.old }
+        requires room { self.old.longest ≤ T.capacity path.old }
         requires places { self.old.longest < vec_capacity self.old.levels }
-        ensures path { IsWalk self.new.longest (vec_capacity self.new.levels) (T.kept path.new)
-            (reverse self.new.levels.items) }
-        ensures room { self.new.longest ≤ T.room path.new }
+        ensures path { IsWalkAt self.new (T.kept path.new) }
+        ensures room { self.new.longest ≤ T.capacity path.new }
         ensures requested { T.requested path.new ≡ T.requested path.old }
-        ensures entries { entries_ahead T.grown (T.kept path.new) (option_copied self.new.first)
-            self.new.levels.items
+        ensures entries { walk_entries T.grown (T.kept path.new) self.new
             ≡ entries_from included start.now (entries_of T.grown top.entry.node.now) }
         ensures visits { C.number counter.new
             ≡ C.number counter.old + entered_nodes start.now top.entry.node.now }
@@ -106,13 +105,11 @@ impl<'a, K: KeyTrait, V, C: Count> Seen<'a, K, V, C> {
         counter: &mut C,
     ) -> Result<(Walk<'a, K::PartialType, V, C>, T), AllocError>
         requires joins { Joins T.grown }
-        ensures path { IfOk result (λ w. IsWalk w.0.longest (vec_capacity w.0.levels) (T.kept w.1)
-            (reverse w.0.levels.items)) }
-        ensures room { IfOk result (λ w. w.0.longest ≤ T.room w.1) }
+        ensures path { IfOk result (λ w. IsWalkAt w.0 (T.kept w.1)) }
+        ensures room { IfOk result (λ w. w.0.longest ≤ T.capacity w.1) }
         ensures requested { IfOk result (λ w. T.requested w.1 ≤ length_bound self.entry) }
         ensures longest { IfOk result (λ w. w.0.longest ≤ length_bound self.entry) }
-        ensures entries { IfOk result
-            (λ w. entries_ahead T.grown (T.kept w.1) (option_copied w.0.first) w.0.levels.items
+        ensures entries { IfOk result (λ w. walk_entries T.grown (T.kept w.1) w.0
             ≡ entries_from included start.now (tree_entries T.grown (seen_tree self.entry))) }
         ensures low { IfOk result
             (λ w. AreLow (height (seen_keys self.entry)) (reverse w.0.levels.items)) }
@@ -121,8 +118,7 @@ impl<'a, K: KeyTrait, V, C: Count> Seen<'a, K, V, C> {
         ensures visits { IfOk result (λ _. C.number counter.new
             ≡ C.number counter.old + probe_count (seen_keys self.entry) start.now) }
         ensures bound { C.number counter.new ≤ C.number counter.old + length start.now + 1 }
-        ensures places { IfOk result
-            (λ w. w.0.levels.items ≢ [] → vec_capacity w.0.levels ≡ length_bound self.entry + 1) }
+        ensures places { IfOk result (λ w. HasPlaces w.0 (length_bound self.entry)) }
     {
         let alloc = self.alloc();
         let longest = self.longest();

@@ -1,7 +1,6 @@
 //! The descent to the node at or below a prefix, and walks from there.
-ghost use Rattle.std.specs.Prelude.{◌≡◌, ◌≢◌, ◌≤◌, ◌+◌, ◌*◌, [], length, reverse, vec_capacity, MatchOption, IfOk};
+ghost use Rattle.std.specs.Prelude.{◌≡◌, ◌≢◌, ◌≤◌, ◌+◌, ◌*◌, [], length, MatchOption, IfOk};
 ghost use Rattle.std.specs.Prelude.{None, OnErr, Some, option_map};
-ghost use Rattle.std.specs.Option.{option_copied};
 ghost use Rattle.rart_keys.specs.Filters.{below};
 ghost use Rattle.rart_keys.specs.SortedMap.{longest_key};
 ghost use Rattle.rart_nodes.specs.tries.SeenTrees.{length_bound, seen_keys, seen_pairs, seen_tree};
@@ -9,7 +8,7 @@ ghost use Rattle.rart_nodes.specs.tries.Tree.{tree_pairs};
 ghost use Rattle.rart_nodes.specs.tries.Trie.{pairs_of};
 ghost use Rattle.rart_nodes.specs.walks.Part.{EntersPart, part_entries, tree_part};
 ghost use Rattle.rart_nodes.specs.walks.ProbeCount.{probe_count, tree_entered};
-ghost use Rattle.rart_nodes.specs.walks.Walk.{IsWalk, nodes_below, entries_ahead};
+ghost use Rattle.rart_nodes.specs.walks.WalkSteps.{HasPlaces, IsWalkAt, walk_entries, walk_nodes};
 
 use crate::count::Count;
 use crate::node::rest::strip_prefix;
@@ -19,7 +18,9 @@ use crate::node::walk::{Walk, empty_walk, walk_at};
 use rart_keys::{KeyTrait, Partial};
 use std::alloc::AllocError;
 
-/// Visits the node at or below `prefix`; the path is that of the path to it, without its own prefix.
+mod from_back;
+
+/// Visits the node at or below `prefix`; the path is the one to it, without its own prefix.
 fn seek_prefix<'a, P: Partial, V, C: Count, T: Path<'a, P>>(
     top: Option<Shared<'a, P, V, C>>,
     prefix: &[u8],
@@ -28,14 +29,14 @@ fn seek_prefix<'a, P: Partial, V, C: Count, T: Path<'a, P>>(
 ) -> Option<Entered<'a, P, V, C>>
     requires room { length (T.kept path.old)
         + longest_key (tree_pairs (option_map (λ s. s.node.now) top))
-        ≤ T.room path.old }
+        ≤ T.capacity path.old }
     ensures found { EntersPart T.grown (T.kept path.old) prefix.now
         (option_map (λ s. s.node.now) top.entry) result (T.kept path.new) }
     ensures deep { MatchOption result (Unit {0})
         (λ e. length (T.kept path.new) + longest_key (pairs_of e.node.now)
         ≤ length (T.kept path.old)
         + longest_key (tree_pairs (option_map (λ s. s.node.now) top.entry))) }
-    ensures room { T.room path.old ≤ T.room path.new }
+    ensures room { T.capacity path.old ≤ T.capacity path.new }
     ensures requested { T.requested path.new ≡ T.requested path.old }
     ensures visits { C.number counter.new ≡ C.number counter.old
         + tree_entered prefix.now (option_map (λ s. s.node.now) top.entry) }
@@ -68,23 +69,20 @@ impl<'a, K: KeyTrait, V, C: Count> Seen<'a, K, V, C> {
         prefix: &[u8],
         counter: &mut C,
     ) -> Result<(Walk<'a, K::PartialType, V, C>, T), AllocError>
-        ensures path { IfOk result (λ w. IsWalk w.0.longest (vec_capacity w.0.levels) (T.kept w.1)
-            (reverse w.0.levels.items)) }
-        ensures room { IfOk result (λ w. w.0.longest ≤ T.room w.1) }
+        ensures path { IfOk result (λ w. IsWalkAt w.0 (T.kept w.1)) }
+        ensures room { IfOk result (λ w. w.0.longest ≤ T.capacity w.1) }
         ensures requested { IfOk result (λ w. T.requested w.1 ≤ length_bound self.entry) }
         ensures longest { IfOk result (λ w. w.0.longest ≤ length_bound self.entry) }
-        ensures entries { IfOk result
-            (λ w. entries_ahead T.grown (T.kept w.1) (option_copied w.0.first) w.0.levels.items
+        ensures entries { IfOk result (λ w. walk_entries T.grown (T.kept w.1) w.0
             ≡ part_entries T.grown (tree_part T.grown [] prefix.now (seen_tree self.entry))) }
         ensures memory { OnErr result (seen_pairs self.entry ≢ []) }
         ensures unread { OnErr result (counter.new ≡ counter.old) }
         ensures visits { IfOk result (λ _. C.number counter.new
             ≡ C.number counter.old + probe_count (seen_keys self.entry) prefix.now) }
         ensures bound { C.number counter.new ≤ C.number counter.old + length prefix.now + 1 }
-        ensures few { IfOk result (λ w. nodes_below (reverse w.0.levels.items)
-            ≤ 2 * length (below prefix.now (seen_pairs self.entry))) }
-        ensures places { IfOk result
-            (λ w. w.0.levels.items ≢ [] → vec_capacity w.0.levels ≡ length_bound self.entry + 1) }
+        ensures few { IfOk result
+            (λ w. walk_nodes w.0 ≤ 2 * length (below prefix.now (seen_pairs self.entry))) }
+        ensures places { IfOk result (λ w. HasPlaces w.0 (length_bound self.entry)) }
     {
         let alloc = self.alloc();
         let longest = self.longest();

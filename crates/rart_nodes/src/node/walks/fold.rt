@@ -1,10 +1,10 @@
 //! Folds over the values below a prefix: each call of the callback gets the result of the previous one.
-ghost use Rattle.std.specs.Prelude.{◌≡◌, ◌≤◌, ◌+◌, ◌^◌, [], reverse, vec_capacity, IfErr, IfOk, OnErr, OnOk};
+ghost use Rattle.std.specs.Prelude.{◌≡◌, ◌≤◌, ◌+◌, ◌^◌, [], IfErr, IfOk, OnErr, OnOk};
 ghost use Rattle.rart_nodes.specs.tries.SeenTrees.{seen_pairs};
 ghost use Rattle.rart_nodes.specs.walks.BelowPrefix.{below_bound, below_visits, values_below};
 ghost use Rattle.rart_nodes.specs.walks.Shown.{CanFold, FoldedEach, FoldsEach};
-ghost use Rattle.rart_nodes.specs.walks.Walk.{IsWalk, nodes_below};
-ghost use Rattle.rart_nodes.specs.walks.PathParts.{values_ahead};
+ghost use Rattle.rart_nodes.specs.walks.PathParts.{walk_values};
+ghost use Rattle.rart_nodes.specs.walks.WalkSteps.{IsWalkAt, walk_nodes};
 ghost use Rattle.rart_nodes.specs.walks.Calls.{MayLackRoom};
 
 use crate::count::{Count, Visits};
@@ -20,16 +20,12 @@ fn fold_values<'a, P: Partial, V, C: Count, S, F: FnMut(S, &V) -> S>(
     init: S,
     f: &mut F,
 ) -> S
-    requires callable { CanFold F.FnMut f.old init
-        (values_ahead walk.old.first walk.old.levels.items) }
-    requires path { IsWalk walk.old.longest (vec_capacity walk.old.levels) []
-        (reverse walk.old.levels.items) }
+    requires callable { CanFold F.FnMut f.old init (walk_values walk.old) }
+    requires path { IsWalkAt walk.old [] }
     requires room { walk.old.longest ≤ 2 ^ 64 }
     ensures callable { F.IsAlwaysCallable f.old → F.IsAlwaysCallable f.new }
-    ensures folds { FoldsEach F.FnMut f.old init
-        (values_ahead walk.old.first walk.old.levels.items) f.new result }
-    ensures visits { C.number counter.new
-        ≤ C.number counter.old + nodes_below (reverse walk.old.levels.items) }
+    ensures folds { FoldsEach F.FnMut f.old init (walk_values walk.old) f.new result }
+    ensures visits { C.number counter.new ≤ C.number counter.old + walk_nodes walk.old }
 {
     let mut state = init;
     while let Some(value) = walk.advance(&mut NoPath, counter) {

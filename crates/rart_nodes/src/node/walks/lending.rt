@@ -2,14 +2,14 @@
 //!
 //! A walk allocates before its first call; the segments are pushed and popped as it goes. The caller of a `_by_ref`
 //! form keeps its callback, and with it the state that the last call left.
-ghost use Rattle.std.specs.Prelude.{◌≡◌, ◌≤◌, ◌+◌, ◌*◌, [], length, reverse, vec_capacity, IfErr, OnErr, OnOk};
+ghost use Rattle.std.specs.Prelude.{◌≡◌, ◌≤◌, ◌+◌, ◌*◌, [], length, vec_capacity, IfErr, OnErr, OnOk};
 ghost use Rattle.rart_nodes.specs.tries.SeenTrees.{seen_keys, seen_pairs};
 ghost use Rattle.rart_nodes.specs.walks.BelowPrefix.{below_bound, below_visits, cut_below};
 ghost use Rattle.rart_nodes.specs.walks.Cut.{cut_pairs};
 ghost use Rattle.rart_nodes.specs.walks.ProbeCount.{probe_count};
-ghost use Rattle.rart_nodes.specs.walks.Walk.{IsWalk, nodes_below};
 ghost use Rattle.rart_nodes.specs.walks.PathParts.{lent_segments};
-ghost use Rattle.rart_nodes.specs.walks.ViewSegments.{AreViews, views_ahead};
+ghost use Rattle.rart_nodes.specs.walks.ViewSegments.{AreViews, walk_views};
+ghost use Rattle.rart_nodes.specs.walks.WalkSteps.{IsWalkAt, walk_nodes};
 ghost use Rattle.rart_nodes.specs.walks.Viewed.{CanView, ViewedEach, ViewsEach};
 ghost use Rattle.rart_nodes.specs.walks.Calls.{MayLackRoom};
 
@@ -27,18 +27,14 @@ fn for_each_view_of<'a, P: Partial, V, C: Count, F: FnMut(LendingKeyView<'_, '_>
     counter: &mut C,
     f: &mut F,
 )
-    requires callable { CanView F.FnMut f.old
-        (views_ahead path.old.segments.items walk.old.first walk.old.levels.items) }
-    requires path { IsWalk walk.old.longest (vec_capacity walk.old.levels)
-        (lent_segments path.old.segments.items) (reverse walk.old.levels.items) }
+    requires callable { CanView F.FnMut f.old (walk_views path.old.segments.items walk.old) }
+    requires path { IsWalkAt walk.old (lent_segments path.old.segments.items) }
     requires room { walk.old.longest ≤ vec_capacity path.old.segments }
-    requires views { AreViews
-        (views_ahead path.old.segments.items walk.old.first walk.old.levels.items) }
+    requires views { AreViews (walk_views path.old.segments.items walk.old) }
     ensures callable { F.IsAlwaysCallable f.old → F.IsAlwaysCallable f.new }
-    ensures folds { ViewsEach F.FnMut f.old
-        (views_ahead path.old.segments.items walk.old.first walk.old.levels.items) f.new }
-    ensures visits { C.number counter.new
-        ≤ C.number counter.old + nodes_below (reverse walk.old.levels.items) }
+    ensures folds { ViewsEach F.FnMut f.old (walk_views path.old.segments.items walk.old)
+        f.new }
+    ensures visits { C.number counter.new ≤ C.number counter.old + walk_nodes walk.old }
 {
     while let Some(value) = walk.advance(path, counter) {
         f(LendingKeyView::of(path.segments()), value);

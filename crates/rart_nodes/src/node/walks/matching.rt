@@ -19,7 +19,7 @@ use std::marker::{Model, PhantomData};
 /// A descent along a probe.
 #[derive(Drop)]
 pub(crate) struct Matching<'a, P: Partial, V, C> {
-    // where it goes on, unless it has ended
+    // where it continues, unless it has ended
     below: Option<Shared<'a, P, V, C>>,
     // how much of the probe lies before that
     depth: usize,

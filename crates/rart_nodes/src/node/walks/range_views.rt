@@ -8,9 +8,10 @@ ghost use Rattle.rart_nodes.specs.ranges.Potential.{AreLow};
 ghost use Rattle.rart_nodes.specs.ranges.Spans.{cut_between, span_bound, span_visits};
 ghost use Rattle.rart_nodes.specs.ranges.Starts.{entries_to};
 ghost use Rattle.rart_nodes.specs.tries.SeenTrees.{seen_pairs};
-ghost use Rattle.rart_nodes.specs.walks.Walk.{IsWalk, joined_bytes};
+ghost use Rattle.rart_nodes.specs.walks.Walk.{joined_bytes};
 ghost use Rattle.rart_nodes.specs.walks.PathParts.{lent_segments};
-ghost use Rattle.rart_nodes.specs.walks.ViewSegments.{AreViews, views_ahead};
+ghost use Rattle.rart_nodes.specs.walks.ViewSegments.{AreViews, walk_views};
+ghost use Rattle.rart_nodes.specs.walks.WalkSteps.{IsWalkAt};
 ghost use Rattle.rart_nodes.specs.walks.Viewed.{CanView, ViewedEach, ViewsEach};
 ghost use Rattle.rart_nodes.specs.walks.Calls.{MayLackRoom};
 
@@ -44,19 +45,17 @@ fn for_each_view_to<'a, K: KeyTrait, V, C: Count, F: FnMut(LendingKeyView<'_, '_
     f: &mut F,
 )
     requires callable { CanView F.FnMut f.old (entries_to (bound_in K.bytes end.now)
-        (views_ahead path.old.segments.items walk.old.first walk.old.levels.items)) }
-    requires path { IsWalk walk.old.longest (vec_capacity walk.old.levels)
-        (lent_segments path.old.segments.items) (reverse walk.old.levels.items) }
+        (walk_views path.old.segments.items walk.old)) }
+    requires path { IsWalkAt walk.old (lent_segments path.old.segments.items) }
     requires room { walk.old.longest ≤ vec_capacity path.old.segments }
-    requires views { AreViews
-        (views_ahead path.old.segments.items walk.old.first walk.old.levels.items) }
+    requires views { AreViews (walk_views path.old.segments.items walk.old) }
     ensures callable { F.IsAlwaysCallable f.old → F.IsAlwaysCallable f.new }
     ensures folds { ViewsEach F.FnMut f.old (entries_to (bound_in K.bytes end.now)
-        (views_ahead path.old.segments.items walk.old.first walk.old.levels.items)) f.new }
+        (walk_views path.old.segments.items walk.old)) f.new }
     ensures visits { (h : ℕ) → AreLow h (reverse walk.old.levels.items) →
         C.number counter.new
         ≤ C.number counter.old + 2 * length (entries_to (bound_in K.bytes end.now)
-        (views_ahead path.old.segments.items walk.old.first walk.old.levels.items)) + h }
+        (walk_views path.old.segments.items walk.old)) + h }
 {
     while let Some(value) = walk.advance(path, counter) {
         let view = LendingKeyView::of(path.segments());

@@ -22,7 +22,7 @@ impl<P: Partial, V> DefaultNode<P, V> {
         ensures height { result ≡ trie_height self.now }
     {
         let children = self.storage.num_children();
-        counts.add_node(self.value.is_some(), self.storage.width(), children);
+        counts.add_node(self.value.is_some(), self.storage.capacity(), children);
         let mut below = 0;
         for (_byte, child) in self.iter() {
             below = below.max(child.count_nodes(counts));
@@ -42,7 +42,7 @@ impl<P: Partial, V> DefaultNode<P, V> {
         ensures statistics { let tree = option_copied root.entry in IfOk result
             (λ s. stats_in s ≡ stats_of (keys_of (tree_pairs tree)) (tree_nodes tree)) }
         ensures memory { IfErr result (λ e. e ≡ TreeError.Memory) }
-        ensures asks { OnErr result (2 ≤ length (tree_pairs (option_copied root.entry))) }
+        ensures allocates { OnErr result (2 ≤ length (tree_pairs (option_copied root.entry))) }
     {
         let Some(node) = root else {
             return Ok(TreeStats::new(alloc));

@@ -1,9 +1,9 @@
 //! Walks over the values below a prefix that a callback can end.
-ghost use Rattle.std.specs.Prelude.{◌≡◌, ◌≤◌, ◌+◌, ◌^◌, [], reverse, vec_capacity, IfErr};
+ghost use Rattle.std.specs.Prelude.{◌≡◌, ◌≤◌, ◌+◌, ◌^◌, [], IfErr};
 ghost use Rattle.rart_nodes.specs.tries.SeenTrees.{seen_pairs};
 ghost use Rattle.rart_nodes.specs.walks.BelowPrefix.{below_bound, below_visits, values_below};
-ghost use Rattle.rart_nodes.specs.walks.Walk.{IsWalk, nodes_below};
-ghost use Rattle.rart_nodes.specs.walks.PathParts.{values_ahead};
+ghost use Rattle.rart_nodes.specs.walks.PathParts.{walk_values};
+ghost use Rattle.rart_nodes.specs.walks.WalkSteps.{IsWalkAt, walk_nodes};
 ghost use Rattle.rart_nodes.specs.walks.Tried.{CanTry, EndedVisit, EndsAs, EndsVisit, IfRoom, MayStopAtRoom, OnNoRoom};
 
 use crate::count::{Count, Visits};
@@ -18,15 +18,12 @@ fn try_for_each<'a, P: Partial, V, C: Count, E, F: FnMut(&V) -> Result<VisitCont
     counter: &mut C,
     f: &mut F,
 ) -> Result<(), E>
-    requires callable { CanTry F.FnMut f.old (values_ahead walk.old.first walk.old.levels.items) }
-    requires path { IsWalk walk.old.longest (vec_capacity walk.old.levels) []
-        (reverse walk.old.levels.items) }
+    requires callable { CanTry F.FnMut f.old (walk_values walk.old) }
+    requires path { IsWalkAt walk.old [] }
     requires room { walk.old.longest ≤ 2 ^ 64 }
     ensures callable { F.IsAlwaysCallable f.old → F.IsAlwaysCallable f.new }
-    ensures calls { EndsAs F.FnMut f.old (values_ahead walk.old.first walk.old.levels.items)
-        result f.new }
-    ensures visits { C.number counter.new
-        ≤ C.number counter.old + nodes_below (reverse walk.old.levels.items) }
+    ensures calls { EndsAs F.FnMut f.old (walk_values walk.old) result f.new }
+    ensures visits { C.number counter.new ≤ C.number counter.old + walk_nodes walk.old }
 {
     while let Some(value) = walk.advance(&mut NoPath, counter) {
         match f(value) {

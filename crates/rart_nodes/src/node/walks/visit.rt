@@ -2,12 +2,12 @@
 //!
 //! A walk allocates before its first call. The caller of a `_by_ref` form keeps its callback, and with it the state
 //! that the last call left.
-ghost use Rattle.std.specs.Prelude.{◌≡◌, ◌≤◌, ◌+◌, ◌^◌, [], reverse, vec_capacity, IfErr, OnErr, OnOk};
+ghost use Rattle.std.specs.Prelude.{◌≡◌, ◌≤◌, ◌+◌, ◌^◌, [], IfErr, OnErr, OnOk};
 ghost use Rattle.rart_nodes.specs.tries.SeenTrees.{seen_pairs};
 ghost use Rattle.rart_nodes.specs.walks.BelowPrefix.{below_bound, below_visits, values_below};
 ghost use Rattle.rart_nodes.specs.walks.Shown.{CanShow, ShowedEach, ShowsEach};
-ghost use Rattle.rart_nodes.specs.walks.Walk.{IsWalk, nodes_below};
-ghost use Rattle.rart_nodes.specs.walks.PathParts.{values_ahead};
+ghost use Rattle.rart_nodes.specs.walks.PathParts.{walk_values};
+ghost use Rattle.rart_nodes.specs.walks.WalkSteps.{IsWalkAt, walk_nodes};
 ghost use Rattle.rart_nodes.specs.walks.Calls.{MayLackRoom};
 
 use crate::count::{Count, Visits};
@@ -22,15 +22,12 @@ fn for_each_value<'a, P: Partial, V, C: Count, F: FnMut(&V)>(
     counter: &mut C,
     f: &mut F,
 )
-    requires callable { CanShow F.FnMut f.old (values_ahead walk.old.first walk.old.levels.items) }
-    requires path { IsWalk walk.old.longest (vec_capacity walk.old.levels) []
-        (reverse walk.old.levels.items) }
+    requires callable { CanShow F.FnMut f.old (walk_values walk.old) }
+    requires path { IsWalkAt walk.old [] }
     requires room { walk.old.longest ≤ 2 ^ 64 }
     ensures callable { F.IsAlwaysCallable f.old → F.IsAlwaysCallable f.new }
-    ensures folds { ShowsEach F.FnMut f.old
-        (values_ahead walk.old.first walk.old.levels.items) f.new }
-    ensures visits { C.number counter.new
-        ≤ C.number counter.old + nodes_below (reverse walk.old.levels.items) }
+    ensures folds { ShowsEach F.FnMut f.old (walk_values walk.old) f.new }
+    ensures visits { C.number counter.new ≤ C.number counter.old + walk_nodes walk.old }
 {
     while let Some(value) = walk.advance(&mut NoPath, counter) {
         f(value);

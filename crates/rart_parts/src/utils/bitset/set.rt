@@ -36,7 +36,8 @@ impl<W: BitsetWord, const S: usize> Clone for Bitset<W, S> {
 }
 
 impl<W: BitsetWord, const S: usize> Default for Bitset<W, S> {
-    ghost is_default = { λ b. (k : ℕ) → k < S * W.WIDTH → words_have W.WIDTH W.number b.words k ≡ false };
+    ghost is_default = { λ b. (k : ℕ) → k < S * W.WIDTH
+        → words_have W.WIDTH W.number b.words k ≡ false };
 
     fn default() -> Self {
         Bitset::new()

@@ -11,10 +11,10 @@ pub trait BitsetWord: Copy {
 
     ghost number: { Self → ℕ };
 
-    /// Is the base-two logarithm of the number of bits.
+    /// The base-two logarithm of the number of bits.
     const SHIFT: usize;
 
-    /// Is the number of bits.
+    /// The number of bits.
     const WIDTH: usize;
 
     /// Returns the word as a number.

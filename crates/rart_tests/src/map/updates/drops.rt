@@ -52,7 +52,10 @@ fn filled<'a>(alloc: Global, drops: &'a Cell<usize>, count: u8) -> Tree<'a> {
 }
 
 // What a callback requests: nothing where it fails.
-fn asked<'a>(request: Request, drops: &'a Cell<usize>) -> Result<SlotUpdate<Counted<'a>>, ()> {
+fn callback_result<'a>(
+    request: Request,
+    drops: &'a Cell<usize>,
+) -> Result<SlotUpdate<Counted<'a>>, ()> {
     match request {
         Request::Insert(number) => Ok(SlotUpdate::Insert(Counted(number, drops))),
         Request::Remove => Ok(SlotUpdate::Remove),
@@ -78,11 +81,11 @@ fn update_by<V: Drop>(
     tree: &mut AdaptiveRadixTree<Key, V>,
     key: &Key,
     written: Option<V>,
-    asked: SlotUpdate<V>,
+    answer: SlotUpdate<V>,
 ) -> Result<bool, UpdateError<V>> {
     tree.update_k(key, move |slot| {
         write(slot, written);
-        asked
+        answer
     })
 }
 
@@ -91,13 +94,13 @@ fn try_update_by<V: Drop + Clone>(
     tree: &mut AdaptiveRadixTree<Key, V>,
     key: &Key,
     written: Option<V>,
-    asked: Result<SlotUpdate<V>, ()>,
+    answer: Result<SlotUpdate<V>, ()>,
 ) -> Result<bool, TryUpdateError<(), V>>
     requires clones { (x y : V) → V.is_clone x y → y ≡ x }
 {
     tree.try_update_k(key, move |slot| {
         write(slot, written);
-        asked
+        answer
     })
 }
 
@@ -111,7 +114,7 @@ fn over<'a>(tree: &Tree<'a>, key: &Key, drops: &'a Cell<usize>) -> Option<Counte
 
 fn update<'a>(tree: &mut Tree<'a>, byte: u8, request: Request, drops: &'a Cell<usize>) -> Answer {
     let key = key(byte);
-    let Ok(update) = asked(request, drops) else {
+    let Ok(update) = callback_result(request, drops) else {
         return Answer::Failed;
     };
     let written = over(tree, &key, drops);
@@ -130,7 +133,7 @@ fn try_update<'a>(
 ) -> Answer {
     let key = key(byte);
     let written = over(tree, &key, drops);
-    match try_update_by(tree, &key, written, asked(request, drops)) {
+    match try_update_by(tree, &key, written, callback_result(request, drops)) {
         Ok(touched) => Answer::Done(touched),
         Err(TryUpdateError::Callback(())) => Answer::Failed,
         Err(TryUpdateError::Insert(refused)) => Answer::Back(refused.value.0),
@@ -141,12 +144,12 @@ fn try_update<'a>(
 
 fn updated<'a>(
     tree: &mut Tree<'a>,
-    tries: bool,
+    by_try_update: bool,
     byte: u8,
     request: Request,
     drops: &'a Cell<usize>,
 ) -> Answer {
-    if tries {
+    if by_try_update {
         try_update(tree, byte, request, drops)
     } else {
         update(tree, byte, request, drops)
@@ -234,15 +237,15 @@ static UPDATES: [Row; 16] = [
 ];
 
 fn row_holds<'a>(tree: &mut Tree<'a>, row: &Row, drops: &'a Cell<usize>) -> bool {
-    let (tries, byte, request, wanted, number, _made, dropped) = *row;
+    let (by_try_update, byte, request, wanted, number, _made, dropped) = *row;
     let before = drops.get();
-    let answered = updated(tree, tries, byte, request, drops);
+    let answered = updated(tree, by_try_update, byte, request, drops);
     answered == wanted
         && number_at(tree, byte) == number
         && drops.get() == before.wrapping_add(dropped)
 }
 
-// The first row that goes another way, if one does.
+// The first row that fails, if one does.
 fn first_wrong_of<'a>(tree: &mut Tree<'a>, rows: &[Row], drops: &'a Cell<usize>) -> Option<usize> {
     let mut at = 0_usize;
     for row in rows {
@@ -263,7 +266,7 @@ fn count_made(rows: &[Row]) -> usize {
     made
 }
 
-// The first row that goes another way, if one does; one past the last where not all values are dropped with the tree.
+// The first row that fails, if one does; one past the last where not all values are dropped with the tree.
 fn first_wrong(alloc: Global, count: u8, rows: &[Row]) -> Option<usize> {
     let drops = Cell::new(0_usize);
     let mut tree = filled(alloc, &drops, count);
@@ -327,11 +330,11 @@ static REFUSED: [Sweep; 4] = [
 // The update with a request refused, and whether one was; None where something else went wrong.
 fn refused_once(alloc: Global, sweep: &Sweep, at: usize) -> Option<bool> {
     let (count, row, (refusal, kept, early)) = *sweep;
-    let (tries, byte, request, wanted, number, made, dropped) = row;
+    let (by_try_update, byte, request, wanted, number, made, dropped) = row;
     let drops = Cell::new(0_usize);
     let mut tree = filled(alloc, &drops, count);
     refuse(alloc, at);
-    let answered = updated(&mut tree, tries, byte, request, &drops);
+    let answered = updated(&mut tree, by_try_update, byte, request, &drops);
     let refused = was_refused(alloc);
     let found = (answered, number_at(&tree, byte), drops.get());
     drop(tree);

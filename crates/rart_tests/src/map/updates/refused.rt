@@ -28,7 +28,7 @@ fn key(byte: u8) -> Key {
     Key::new_from_slice(&[byte])
 }
 
-fn asked(ask: Ask) -> SlotUpdate<u64> {
+fn slot_of(ask: Ask) -> SlotUpdate<u64> {
     match ask {
         Ask::Remove => SlotUpdate::Remove,
         Ask::Insert(value) => SlotUpdate::Insert(value),
@@ -39,18 +39,18 @@ fn asked(ask: Ask) -> SlotUpdate<u64> {
 fn by_reference(
     alloc: Global,
     tree: &mut Tree,
-    tries: bool,
+    by_try_update: bool,
     byte: u8,
     ask: Ask,
 ) -> Reply<Key, u64> {
-    if tries {
+    if by_try_update {
         step(
             alloc,
             tree,
-            Call::TryUpdate(key(byte), Some(7), Ok(asked(ask))),
+            Call::TryUpdate(key(byte), Some(7), Ok(slot_of(ask))),
         )
     } else {
-        step(alloc, tree, Call::Update(key(byte), Some(7), asked(ask)))
+        step(alloc, tree, Call::Update(key(byte), Some(7), slot_of(ask)))
     }
 }
 
@@ -85,13 +85,13 @@ fn try_update_by_value(tree: &mut Tree, byte: u8, update: SlotUpdate<u64>) -> Re
 }
 
 fn answer(alloc: Global, tree: &mut Tree, row: &Row, by_value: bool) -> Reply<Key, u64> {
-    let (_count, tries, byte, ask, _kept, _after) = *row;
+    let (_count, by_try_update, byte, ask, _kept, _after) = *row;
     if !by_value {
-        by_reference(alloc, tree, tries, byte, ask)
-    } else if tries {
-        try_update_by_value(tree, byte, asked(ask))
+        by_reference(alloc, tree, by_try_update, byte, ask)
+    } else if by_try_update {
+        try_update_by_value(tree, byte, slot_of(ask))
     } else {
-        update_by_value(tree, byte, asked(ask))
+        update_by_value(tree, byte, slot_of(ask))
     }
 }
 
@@ -126,7 +126,7 @@ fn row_is_answered(
     by_value: bool,
     at: usize,
 ) -> Option<bool> {
-    let (_count, _tries, byte, ask, kept, after) = *row;
+    let (_count, _by_try_update, byte, ask, kept, after) = *row;
     refuse(alloc, at);
     let reply = answer(alloc, tree, row, by_value);
     let refused = was_refused(alloc);
@@ -219,7 +219,7 @@ fn a_removal_among_five_keys_refused_in_turn(rt: HostRuntime) {
     assert!(rt; removal_is_swept(rt.alloc()));
 }
 
-/// A value whose clone requests memory. (A clone of a `String` may differ in its room, so it isn't asked to equal it.)
+/// A value whose clone requests memory. (A clone of a `String` may have another capacity, so the two aren't compared.)
 #[derive(Drop)]
 struct Roomy {
     alloc: Global,

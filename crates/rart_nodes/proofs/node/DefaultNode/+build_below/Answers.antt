@@ -6,11 +6,10 @@ use Rattle.rart_nodes.proofs.build.OpeningLemmas.{byte-is, opening, own-one, own
 use Rattle.rart_nodes.proofs.build.BuildLemmas.{start-here, start-on, started, next-room, next-fewer, next-stretch}
 use Rattle.rart_nodes.proofs.build.BuildLemmas.{next-callable, building-refused, building-leaf, building-step}
 use Rattle.rart_nodes.proofs.build.BuildLemmas.{building-end}
-use Rattle.rart_nodes.proofs.build.TakeLemmas.{on_err}
 use Rattle.std.proofs.lemmas.List.{length-take-le}
 use Rattle.rart_nodes.proofs.node.DefaultNode.+build_below.Goals as goal
 use Rattle.rart_nodes.proofs.node.DefaultNode.+build_below.Goals.{then-own-eq1, else-own-eq1, then-end-eq1}
-use Rattle.rart_nodes.proofs.node.DefaultNode.+build_below.Goals.{else-end-eq1+in_ok-value}
+use Rattle.rart_nodes.proofs.node.DefaultNode.+build_below.Goals.{else-end-eq1+in-Ok}
 
 pub shared_length-shared-requires-clause-last : goal.shared_length-shared-requires-clause-last
 shared_length-shared-requires-clause-last g t c
@@ -30,7 +29,7 @@ pub loop-rest-init : goal.loop-rest-init
 loop-rest-init g t c =
     let at_start = opening _ c.args.depth _ c.args.keys.now _ c.requires.stretch
     c.shared_length-shared.ensures.length in
-    let wide = c.in_ok-storage.ensures.width ∙ ap capacity_of c.count_branches.ensures in
+    let wide = c.in_ok-storage.ensures.capacity ∙ ap capacity_of c.count_branches.ensures in
     elim c.if-own-eq1.branch [
       | then-own-eq1 w ↦ started _ _ _ _ _ _ _ _ _ _ _ _ _
           (rw (w.value-is, w.take_value-is) (start-here _ _ _ _ _ _ _ _ _ _ _ _ _ at_start
@@ -51,36 +50,18 @@ pub build_below-requires : goal.build_below-requires
 build_below-requires g t c κs within =
     let h = c.loop-rest.invariant.building in
     let now = c.first_group-byte.ensures in
-    let part = length-take-le _ c.loop-rest.rest.now now.within in (
-      omega (
-        arith,
-        c.decreases,
-        next-fewer _ _ _ _ _ _ _ _ _ _ _ _ _ h _ (omega (arith, c.loop-rest-test.true)) now.run
-            now.within,
-        part,
-      ),
-      (
-        within.0,
-        (
-          within.1.0,
-          (
-            within.1.1,
-            (
-              next-stretch _ _ _ _ _ _ _ _ _ _ _ _ _ h _ _ refl now.some now.within,
-              (
-                omega (arith, c.loop-rest.invariant.placed, c.requires.fits, part, now.within),
-                next-callable _ _ _ _ _ _
-                    _ _ _ _ _ _ _ h _ (omega (arith, part, now.within)),
-              ),
-            ),
-          ),
-        ),
-      ),
+    let placed = c.loop-rest.invariant.placed in
+    let part = length-take-le _ c.loop-rest.rest.now now.within in
+    let fewer = next-fewer _ _ _ _ _ _ _ _ _ _ _ _ _ h _ (omega (arith, c.loop-rest-test.true)) now.run now.within in
+    let stretch = next-stretch _ _ _ _ _ _ _ _ _ _ _ _ _ h _ _ refl now.some now.within in
+    let callable = next-callable _ _ _ _ _ _ _ _ _ _ _ _ _ h _ (omega (arith, part, now.within)) in (
+      omega (arith, c.decreases, fewer, part),
+      (within.0, (within.1.0, (within.1.1, (stretch, (omega (arith, placed, part, now.within), callable))))),
     )
 
-pub returns-in_err-value-clause-taken : goal.returns-in_err-value-clause-taken
-returns-in_err-value-clause-taken g t c = on_err _
-    (building-refused _ _ _ _ _ _ _ _ _ _ _ _ _ c.loop-rest.invariant.building _ _ _ refl c.in_err-value.ensures.taken)
+pub returns-in_default-clause-taken : goal.returns-in_default-clause-taken
+returns-in_default-clause-taken g t c =
+    building-refused _ _ _ _ _ _ _ _ _ _ _ _ _ c.loop-rest.invariant.building _ _ _ refl c.in_default.ensures.taken
 
 pub add_leaf-requires-clause-absent : goal.add_leaf-requires-clause-absent
 add_leaf-requires-clause-absent g t c = (next-room _ _ _ _ _ _ _ _ _ _ _ _ _ c.loop-rest.invariant.building _
@@ -111,14 +92,14 @@ loop-rest-preserved g t c =
           (rw (w.storage-is, w.take_value-is) (building-leaf _ _ _ _ _ _ _ _ _ _ _ _ _ c.loop-rest.invariant.building
           _ _ _ _ _ _ _ _ _ _ some now.run w.if-end-eq1.true now.within now.byte (slice_from-is c.loop-rest.rest.now _)
           (slice_from-is (get_or c.loop-rest.rest.now 0 (record { ref_ptr = (0, 0); now = [] })).now _)
-          w.take_value-then-end-eq1.ensures w.add_leaf.ensures.stored w.add_leaf.ensures.width refl))
-      | else-end-eq1+in_ok-value w ↦
-          let child = w.in_ok-value.ensures in
+          w.take_value-then-end-eq1.ensures w.add_leaf.ensures.stored w.add_leaf.ensures.capacity refl))
+      | else-end-eq1+in-Ok w ↦
+          let child = w.in-Ok.ensures in
           started _ _ _ _ _ _ _ _ _ _ _ _ _
           (rw (w.storage-is, w.take_value-is) (building-step _ _ _ _ _ _ _ _ _ _ _ _ _ c.loop-rest.invariant.building
           _ _ _ _ _ _ _ _ _ some now.run now.some now.within now.byte refl (slice_from-is c.loop-rest.rest.now _)
           child.canonical child.keys child.values (rw w.first_part-prefix.ensures at w.add_node.ensures.stored)
-          w.add_node.ensures.width refl))
+          w.add_node.ensures.capacity refl))
     ]
 
 pub returns-clause-canonical : goal.returns-clause-canonical

@@ -1,10 +1,9 @@
 use Rattle.std.proofs.Common.{ap, sym, arith}
-use Rattle.rart_nodes.specs.storages.Stored.{stored, width_of}
+use Rattle.rart_nodes.specs.storages.Stored.{child_entries, storage_capacity}
 use Rattle.rart_nodes.specs.tries.Trie.{prefix_of}
 use Rattle.rart_nodes.specs.tries.TrieCode.{node_count}
 use Rattle.rart_nodes.proofs.edits.ValueWalkLemmas.{begins-ended, begins-within, changes-absent, changes-apart}
-use Rattle.rart_nodes.proofs.edits.ValueWalkLemmas.{child-callable, child-changes, whole-callable}
-use Rattle.rart_nodes.proofs.edits.ValueWalkLemmas.{whole-changes}
+use Rattle.rart_nodes.proofs.edits.ValueWalkLemmas.{child-callable, child-changes, whole-callable, whole-changes}
 use Rattle.rart_nodes.proofs.storages.EntryPlaces.{child-canonical}
 use Rattle.rart_nodes.proofs.storages.ChildLemmas.{canonical-found, count-found}
 use Rattle.rart_nodes.proofs.node.DefaultNode.+change_below.Goals.{in-Some-seek_child_mut, in_default-seek_child_mut}
@@ -43,23 +42,24 @@ returns-in_default-first-clause-changes g t c = whole-changes _ c.args.prefix.no
     c.in-Some.rest.now (ap prefix_of (sym c.self.view_is)) c.in-Some.ensures c.in_default-first.ensures.value)
     c.change_each-in_default-first.ensures.changes
 
--- or goes on in a child
+-- or continues in a child
 pub change_below-requires : goal.change_below-requires
 change_below-requires g t c κs within =
     let canonical = rw (← c.self.view_is) at c.requires.canonical in
     let child = c.in-Some-seek_child_mut.ensures.value in
     let byte = c.in-Some-first.ensures.value in
     let callable = child-callable _ c.args.prefix.now c.in-Some.rest.now c.in-Some-first.field-0.now
-    (g.P.Partial.bytes c.self.inside.prefix) c.self.inside.value (width_of c.self.inside.storage)
-    c.in-Some-seek_child_mut.child.now (stored c.self.inside.storage) c.args.f.now canonical c.in-Some.ensures byte child
-    (rw (← c.self.view_is) at c.requires.callable) in
-    let canonical_child = canonical-found _ 0 c.in-Some-seek_child_mut.child.now (stored c.self.inside.storage)
+    (g.P.Partial.bytes c.self.inside.prefix) c.self.inside.value (storage_capacity c.self.inside.storage)
+    c.in-Some-seek_child_mut.child.now (child_entries c.self.inside.storage) c.args.f.now canonical c.in-Some.ensures
+    byte
+    child (rw (← c.self.view_is) at c.requires.callable) in
+    let canonical_child = canonical-found _ 0 c.in-Some-seek_child_mut.child.now (child_entries c.self.inside.storage)
     canonical.2 child in (
       omega (
         arith,
         c.decreases,
         ap node_count c.self.view_is,
-        count-found _ 0 c.in-Some-seek_child_mut.child.now (stored c.self.inside.storage) canonical.2 child,
+        count-found _ 0 c.in-Some-seek_child_mut.child.now (child_entries c.self.inside.storage) canonical.2 child,
       ),
       (within.0, (within.1.0, (within.1.1, (canonical_child, callable)))),
     )
@@ -71,8 +71,9 @@ returns-clause-canonical g t c =
       | in-Some-seek_child_mut w ↦
           let left = rw w.in-Some-seek_child_mut.is at c.seek_child_mut.follows.holds w.change_below.new.self in
           rw w.self-inside-is (child-canonical (g.P.Partial.bytes c.self.inside.prefix) c.self.inside.value
-          (width_of c.self.inside.storage) _ c.in-Some-first.field-0.now w.in-Some-seek_child_mut.child.now
-          w.change_below.new.self (stored c.self.inside.storage) _ canonical w.in-Some-seek_child_mut.ensures.value
+          (storage_capacity c.self.inside.storage) _ c.in-Some-first.field-0.now w.in-Some-seek_child_mut.child.now
+          w.change_below.new.self (child_entries c.self.inside.storage) _ canonical
+          w.in-Some-seek_child_mut.ensures.value
           w.change_below.ensures.canonical w.change_below.ensures.prefix left.0 left.1)
       | in_default-seek_child_mut w ↦
           let left = c.seek_child_mut.follows.holds-at-none in
@@ -87,14 +88,16 @@ returns-clause-changes g t c =
           let left = rw w.in-Some-seek_child_mut.is at c.seek_child_mut.follows.holds w.change_below.new.self in
           rw (w.f-is, w.self-inside-is, ← c.self.view_is) (child-changes _ c.args.prefix.now c.in-Some.rest.now
           c.in-Some-first.field-0.now (g.P.Partial.bytes c.self.inside.prefix) c.self.inside.value
-          (width_of c.self.inside.storage) (width_of (c.seek_child_mut.follows.lender w.change_below.new.self))
+          (storage_capacity c.self.inside.storage) (storage_capacity (c.seek_child_mut.follows.lender
+          w.change_below.new.self))
           w.in-Some-seek_child_mut.child.now w.change_below.new.self
-          (stored c.self.inside.storage) _ c.args.f.now w.change_below.new.f canonical c.in-Some.ensures
+          (child_entries c.self.inside.storage) _ c.args.f.now w.change_below.new.f canonical c.in-Some.ensures
           c.in-Some-first.ensures.value w.in-Some-seek_child_mut.ensures.value w.change_below.ensures.changes left.1)
       | in_default-seek_child_mut w ↦
           let left = c.seek_child_mut.follows.holds-at-none in
           rw (w.f-is, w.self-inside-is, ← c.self.view_is, left.1) (changes-absent _ c.args.prefix.now
           c.in-Some.rest.now c.in-Some-first.field-0.now (g.P.Partial.bytes c.self.inside.prefix) c.self.inside.value
-          (width_of c.self.inside.storage) (stored c.self.inside.storage) c.args.f.now canonical c.in-Some.ensures
+          (storage_capacity c.self.inside.storage) (child_entries c.self.inside.storage) c.args.f.now canonical
+          c.in-Some.ensures
           c.in-Some-first.ensures.value w.in_default-seek_child_mut.ensures.value)
     ]

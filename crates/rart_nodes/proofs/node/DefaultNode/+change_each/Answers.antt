@@ -1,25 +1,29 @@
 use Rattle.std.proofs.Common.{refl, arith, rules, of_calls}
-use Rattle.rart_nodes.specs.storages.Stored.{stored, width_of}
+use Rattle.rart_nodes.specs.storages.Stored.{child_entries, storage_capacity}
 use Rattle.rart_nodes.specs.tries.TrieCode.{as_children}
-use Rattle.rart_nodes.proofs.edits.ValueWalkLemmas.{changing-bare, changing-end, changing-lent, changing-step, next-child, next-there}
-use Rattle.rart_nodes.proofs.edits.ValueWalkLemmas.{own-callable}
+use Rattle.rart_nodes.proofs.edits.ValueWalkLemmas.{changing-bare, changing-end, changing-lent, changing-step}
+use Rattle.rart_nodes.proofs.edits.ValueWalkLemmas.{next-child, next-there, own-callable}
 use Rattle.rart_nodes.proofs.node.DefaultNode.+change_each.Goals.{in-Some, in_default}
 use Rattle.rart_nodes.proofs.node.DefaultNode.+change_each.Goals as goal
 
 pub f-requires : goal.f-requires
 f-requires g t c = own-callable _ c.args.f.now (g.P.Partial.bytes c.self.inside.prefix) c.self.inside.value
-    c.in-Some.value (width_of c.self.inside.storage) (as_children (stored c.self.inside.storage)) c.in-Some.is
+    c.in-Some.value (storage_capacity c.self.inside.storage) (as_children
+    (child_entries c.self.inside.storage)) c.in-Some.is
     (rw (← c.self.view_is) at c.requires.callable) _ refl
 
 pub loop-next-init : goal.loop-next-init
 loop-next-init g t c = elim c.match-self.branch [
-  | in-Some w ↦ rw (w.f-is, w.self-inside-is, ← c.self.view_is) (changing-lent _ (g.P.Partial.bytes c.self.inside.prefix)
-      c.self.inside.value w.in-Some.value _ (width_of c.self.inside.storage) (stored c.self.inside.storage) c.args.f.now
-      w.f.new.self _ (rw (← c.self.view_is) at c.requires.canonical) w.in-Some.is (search (rules, of_calls))
+  | in-Some w ↦ rw (w.f-is, w.self-inside-is, ← c.self.view_is) (changing-lent _
+      (g.P.Partial.bytes c.self.inside.prefix) c.self.inside.value w.in-Some.value _
+      (storage_capacity c.self.inside.storage)
+      (child_entries c.self.inside.storage) c.args.f.now w.f.new.self _ (rw (← c.self.view_is) at c.requires.canonical)
+      w.in-Some.is (search (rules, of_calls))
       (rw (← c.self.view_is) at c.requires.callable) (rw w.self-inside-is at c.first_byte-next.ensures))
   | in_default w ↦ rw (w.f-is, w.self-inside-is, ← c.self.view_is) (changing-bare _
-      (g.P.Partial.bytes c.self.inside.prefix) c.self.inside.value (width_of c.self.inside.storage)
-      (stored c.self.inside.storage) c.args.f.now _ (rw (← c.self.view_is) at c.requires.canonical) w.in_default.is
+      (g.P.Partial.bytes c.self.inside.prefix) c.self.inside.value (storage_capacity c.self.inside.storage)
+      (child_entries c.self.inside.storage) c.args.f.now _ (rw (← c.self.view_is) at c.requires.canonical)
+      w.in_default.is
       (rw (← c.self.view_is) at c.requires.callable) (rw w.self-inside-is at c.first_byte-next.ensures))
 ]
 

@@ -1,6 +1,6 @@
 use Rattle.std.proofs.Common.{◌∙◌, sym, ap, arith, refl}
 use Rattle.std.specs.Prelude.{max}
-use Rattle.rart_nodes.specs.storages.Stored.{stored, width_of}
+use Rattle.rart_nodes.specs.storages.Stored.{child_entries, storage_capacity}
 use Rattle.rart_nodes.specs.tries.Trie.{children_in}
 use Rattle.rart_nodes.specs.tries.TrieCode.{as_children, node_count}
 use Rattle.rart_nodes.proofs.statistics.CountLemmas.{own-room, few-high, count-start, count-step, count-room, count-end}
@@ -13,18 +13,18 @@ add_node-requires g t c = omega (
   c.requires,
   ap node_count c.self.view_is,
   c.num_children-children.ensures,
-  own-room (g.P.Partial.bytes c.self.inside.prefix) c.self.inside.value (width_of c.self.inside.storage)
-      (stored c.self.inside.storage),
+  own-room (g.P.Partial.bytes c.self.inside.prefix) c.self.inside.value (storage_capacity c.self.inside.storage)
+      (child_entries c.self.inside.storage),
 )
 
 pub loop-byte-init : goal.loop-byte-init
 loop-byte-init g t c = record {
   can = tt;
   finite = tt;
-  counting = rw (← c.self.view_is) (count-start _ _ _ _ _ _ _ (stored c.self.inside.storage)
+  counting = rw (← c.self.view_is) (count-start _ _ _ _ _ _ _ (child_entries c.self.inside.storage)
       (ap as_children c.into_iter-byte-iterator.ensures.into_iter_gives ∙ c.iter-byte-items.ensures.children
       ∙ ap children_in (sym c.self.view_is))
-      c.num_children-children.ensures (c.add_node.ensures ∙ rw (c.is_some.ensures, c.width.ensures) refl));
+      c.num_children-children.ensures (c.add_node.ensures ∙ rw (c.is_some.ensures, c.capacity.ensures) refl));
 }
 
 pub loop-byte-init-derived : goal.loop-byte-init-derived

@@ -2,8 +2,8 @@ use Rattle.std.proofs.Common.{arith, ap, ◌∙◌, sym, ◌≡◌, ◌≢◌, �
 use Rattle.rart_keys.specs.SortedMap.{longest_key}
 use Rattle.rart_nodes.specs.declared.slot.SlotUpdate.TheVariants.{Remove}
 use Rattle.rart_nodes.specs.edits.Deletion.{is_leaf_at}
-use Rattle.rart_nodes.specs.storages.Stored.{stored, width_of}
-use Rattle.rart_nodes.specs.tries.Trie.{pairs_of, value_of, trie_lookup}
+use Rattle.rart_nodes.specs.storages.Stored.{child_entries, storage_capacity}
+use Rattle.rart_nodes.specs.tries.Trie.{pairs_of, trie_lookup}
 use Rattle.rart_nodes.specs.tries.TrieCode.{as_children, node_count}
 use Rattle.rart_nodes.specs.edits.Slots.{slot_of}
 use Rattle.rart_nodes.specs.edits.TreeUpdates.{node_holding}
@@ -13,7 +13,7 @@ use Rattle.rart_nodes.proofs.edits.JoinLemmas.{some-there}
 use Rattle.rart_nodes.proofs.edits.JoinedLengths.{joins-canonical, entry-short}
 use Rattle.rart_nodes.proofs.edits.LeafLemmas.{leaf-value, leaf-some}
 use Rattle.rart_nodes.proofs.removals.RemoveSteps.{same-node}
-use Rattle.rart_nodes.proofs.tries.RestLemmas.{trie_lookup-left, trie_lookup-ended, trie_lookup-child}
+use Rattle.rart_nodes.proofs.tries.RestLemmas.{Follows, trie_lookup-left, trie_lookup-ended, trie_lookup-child}
 use Rattle.rart_nodes.proofs.tries.RestLemmas.{trie_lookup-no_child}
 use Rattle.rart_nodes.proofs.edits.UpdateSteps.{none-there, some-stays, ends-same, ends-here, leaf-done, leaf-lost}
 use Rattle.rart_nodes.proofs.edits.UpdateSteps.{joins-holding, child-there, holding-edges, holding-some, child-absent}
@@ -26,8 +26,8 @@ use Rattle.rart_nodes.proofs.node.DefaultNode.+update_below.Goals as goal
 -- the key leaves the prefix
 key-leaves : (g : Over) (t : ℕ) (c : In_default g t) → trie_lookup c.args.key.now c.args.self.now ≡ None
 key-leaves g t c = rw (← c.self.view_is)
-    (trie_lookup-left _ c.args.key.now c.self.inside.value (width_of c.self.inside.storage)
-    (as_children (stored c.self.inside.storage)) c.in_default.ensures)
+    (trie_lookup-left _ c.args.key.now c.self.inside.value (storage_capacity c.self.inside.storage)
+    (as_children (child_entries c.self.inside.storage)) c.in_default.ensures)
 
 pub show_vacant-answer-requires-clause-callable : goal.show_vacant-answer-requires-clause-callable
 show_vacant-answer-requires-clause-callable g t c =
@@ -52,7 +52,7 @@ returns-in_default g t c = (
 key-ends : (g : Over) (t : ℕ) (c : In_default-first g t) → trie_lookup c.args.key.now c.args.self.now
     ≡ c.self.inside.value
 key-ends g t c = rw (← c.self.view_is) (trie_lookup-ended _ c.args.key.now _ c.self.inside.value
-    (width_of c.self.inside.storage) (as_children (stored c.self.inside.storage)) c.in-Some.ensures
+    (storage_capacity c.self.inside.storage) (as_children (child_entries c.self.inside.storage)) c.in-Some.ensures
     c.in_default-first.ensures.value)
 
 pub show-left-requires : goal.show-left-requires
@@ -64,7 +64,7 @@ show-left-requires g t c = record {
 
 pub apply_here-requires-clause-within : goal.apply_here-requires-clause-within
 apply_here-requires-clause-within g t c =
-    joins-canonical _ _ _ (width_of c.self.inside.storage) _ (rw (← c.self.view_is) at c.requires.canonical)
+    joins-canonical _ _ _ (storage_capacity c.self.inside.storage) _ (rw (← c.self.view_is) at c.requires.canonical)
     (rw (← c.self.view_is) at c.requires.fits)
 
 pub returns-in_default-first : goal.returns-in_default-first
@@ -78,82 +78,57 @@ returns-in_default-first g t c =
       c.show-left.result.left,
       rw here shown,
       rw (← c.self.view_is)
-          (ends-here c.args.full _ c.args.key.now _ c.self.inside.value _ (width_of c.self.inside.storage)
-          (stored c.self.inside.storage) (rw (← c.self.view_is) at c.requires.canonical) c.in-Some.ensures
+          (ends-here c.args.full _ c.args.key.now _ c.self.inside.value _ (storage_capacity c.self.inside.storage)
+          (child_entries c.self.inside.storage) (rw (← c.self.view_is) at c.requires.canonical) c.in-Some.ensures
           c.in_default-first.ensures.value (rw (← c.self.view_is) at c.requires.inner) c.show-left.result.answer
           c.show-left.result.left c.apply_here.result c.apply_here.new.self stays c.apply_here.ensures),
     )
 
--- it goes on in a child
+-- it continues in a child
+follows : (g : Over) (t : ℕ) (c : In-Some-seek_child_mut g t) → Follows (g.P.Partial.bytes c.self.inside.prefix)
+    c.args.key.now c.in-Some.rest.now c.self.inside.value (storage_capacity c.self.inside.storage)
+    c.in-Some-first.field-0.now
+    c.in-Some-seek_child_mut.child.now (child_entries c.self.inside.storage)
+follows g t c = record {
+  canonical = rw (← c.self.view_is) at c.requires.canonical;
+  left = c.in-Some.ensures;
+  first = c.in-Some-first.ensures.value;
+  there = c.in-Some-seek_child_mut.ensures.value;
+}
+
 key-goes_on : (g : Over) (t : ℕ) (c : In-Some-seek_child_mut g t) → trie_lookup c.args.key.now c.args.self.now
     ≡ trie_lookup c.in-Some.rest.now c.in-Some-seek_child_mut.child.now
-key-goes_on g t c = rw (← c.self.view_is)
-    (trie_lookup-child _ c.args.key.now _ _ c.self.inside.value (width_of c.self.inside.storage)
-    c.in-Some-seek_child_mut.child.now (stored c.self.inside.storage) (rw (← c.self.view_is) at c.requires.canonical)
-    c.in-Some.ensures c.in-Some-first.ensures.value c.in-Some-seek_child_mut.ensures.value)
+key-goes_on g t c = rw (← c.self.view_is) (trie_lookup-child (follows g t c))
 
 -- which stays
 pub update_below-requires : goal.update_below-requires
 update_below-requires g t c κs within =
-    let canonical = rw (← c.self.view_is) at c.requires.canonical in
-    let down = key-goes_on g t (goal.at.update_below-requires g t c).In-Some-seek_child_mut in (
-      omega (
-        arith,
-        c.decreases,
-        ap node_count c.self.view_is,
-        count-found _ 0 c.in-Some-seek_child_mut.child.now
-            (stored c.self.inside.storage) canonical.2 c.in-Some-seek_child_mut.ensures.value,
-      ),
-      (
-        within.0,
-        (
-          within.1.0,
-          (
-            within.1.1.0,
-            (
-              within.1.1.1,
-              (
-                canonical-found _ 0 c.in-Some-seek_child_mut.child.now (stored c.self.inside.storage) canonical.2
-                    c.in-Some-seek_child_mut.ensures.value,
-                (
-                  rest-within _ _ c.args.key.now _ c.in-Some.ensures c.requires.fits_key,
-                  (
-                    fewer-within _ (longest_key (pairs_of c.args.self.now))
-                        (longest_key (pairs_of c.in-Some-seek_child_mut.child.now))
-                        (rw (← c.self.view_is) (entry-short _ _ (width_of c.self.inside.storage) _
-                        c.in-Some-seek_child_mut.child.now
-                        (stored c.self.inside.storage) c.in-Some-seek_child_mut.ensures.value)) c.requires.fits,
-                    (
-                      sym c.is_leaf_at.ensures ∙ c.if-not-is_leaf_at.true,
-                      (
-                        (λ p h. c.requires.callable p (h ∙ ap slot_of (sym down))),
-                        (λ r x w h. c.requires.stays r x w (rw down h)
-                            ∙ ap is_some down),
-                      ),
-                    ),
-                  ),
-                ),
-              ),
-            ),
-          ),
-        ),
-      ),
+    let on = follows g t (goal.at.update_below-requires g t c).In-Some-seek_child_mut in
+    let down = key-goes_on g t (goal.at.update_below-requires g t c).In-Some-seek_child_mut in
+    let child = canonical-found _ 0 _ _ on.canonical.2 on.there in
+    let fits_key = rest-within _ _ c.args.key.now _ on.left c.requires.fits_key in
+    let fits = fewer-within _ (longest_key (pairs_of c.args.self.now))
+    (longest_key (pairs_of c.in-Some-seek_child_mut.child.now)) (rw (← c.self.view_is)
+    (entry-short (g.P.Partial.bytes c.self.inside.prefix) c.self.inside.value (storage_capacity c.self.inside.storage) _
+    c.in-Some-seek_child_mut.child.now (child_entries c.self.inside.storage) on.there)) c.requires.fits in
+    let inner = sym c.is_leaf_at.ensures ∙ c.if-not-is_leaf_at.true in
+    let callable = rw down at c.requires.callable in
+    let stays = rw down at c.requires.stays in
+    let w = within.1.1 in (
+      omega (arith, c.decreases, ap node_count c.self.view_is, count-found _ 0 _ _ on.canonical.2 on.there),
+      (within.0, (within.1.0, (w.0, (w.1, (child, (fits_key, (fits, (inner, (callable, stays))))))))),
     )
 
 pub returns-then-not-is_leaf_at : goal.returns-then-not-is_leaf_at
 returns-then-not-is_leaf_at g t c =
-    let down = key-goes_on g t (goal.at.returns-then-not-is_leaf_at g t c).In-Some-seek_child_mut in
+    let on = follows g t (goal.at.returns-then-not-is_leaf_at g t c).In-Some-seek_child_mut in
     let left = rw c.in-Some-seek_child_mut.is at c.seek_child_mut.follows.holds c.update_below.new.self in
     let e = c.update_below.ensures in (
       e.0,
       e.1,
-      rw down e.2,
-      rw (← c.self.view_is)
-          (ends-child (g.P.Partial.bytes c.self.inside.prefix) c.args.key.now _ c.self.inside.value
-          (width_of c.self.inside.storage) _ _ c.in-Some-seek_child_mut.child.now c.update_below.new.self
-          (stored c.self.inside.storage) _ (rw (← c.self.view_is) at c.requires.canonical) c.in-Some.ensures
-          c.in-Some-first.ensures.value c.in-Some-seek_child_mut.ensures.value left.0 left.1 c.args.full e.0 e.1
-          c.update_below.result.0 (sym c.is_leaf_at.ensures ∙ c.if-not-is_leaf_at.true) e.3),
+      rw (← c.self.view_is, trie_lookup-child on) e.2,
+      rw (← c.self.view_is) (ends-child on _ _ _ left.0 left.1 c.args.full e.0 e.1 c.update_below.result.0
+          (sym c.is_leaf_at.ensures ∙ c.if-not-is_leaf_at.true) e.3),
     )
 
 -- which is a leaf, where it ends
@@ -161,47 +136,37 @@ at-leaf : (g : Over) (t : ℕ) (c : Else-not-is_leaf_at g t)
     → is_leaf_at c.in-Some.rest.now c.in-Some-seek_child_mut.child.now ≡ true
 at-leaf g t c = sym c.is_leaf_at.ensures ∙ c.if-not-is_leaf_at.false
 
-key-at_leaf : (g : Over) (t : ℕ) (c : Else-not-is_leaf_at g t) → trie_lookup c.args.key.now c.args.self.now
-    ≡ value_of c.in-Some-seek_child_mut.child.now
-key-at_leaf g t c =
-    rw (← c.self.view_is) (trie_lookup-child _ c.args.key.now _ _ c.self.inside.value (width_of c.self.inside.storage)
-    c.in-Some-seek_child_mut.child.now (stored c.self.inside.storage)
-    (rw (← c.self.view_is) at c.requires.canonical) c.in-Some.ensures c.in-Some-first.ensures.value
-    c.in-Some-seek_child_mut.ensures.value)
-    ∙ leaf-value _ c.in-Some-seek_child_mut.child.now (at-leaf g t c)
-
 pub update_leaf-requires-clause-callable : goal.update_leaf-requires-clause-callable
 update_leaf-requires-clause-callable g t c =
-    let leaf = key-at_leaf g t (goal.at.update_leaf-requires-clause-callable g t c).Else-not-is_leaf_at in
+    let at = goal.at.update_leaf-requires-clause-callable g t c in
+    let leaf = (key-goes_on g t at.In-Some-seek_child_mut
+    ∙ leaf-value _ c.in-Some-seek_child_mut.child.now (at-leaf g t at.Else-not-is_leaf_at)) in
     λ p h. c.requires.callable p (h ∙ ap slot_of (sym leaf))
 
 pub update_leaf-requires-clause-stays : goal.update_leaf-requires-clause-stays
 update_leaf-requires-clause-stays g t c =
-    let at = (goal.at.update_leaf-requires-clause-stays g t c).Else-not-is_leaf_at in
-    let leaf = key-at_leaf g t at in
+    let at = goal.at.update_leaf-requires-clause-stays g t c in
+    let on = follows g t at.In-Some-seek_child_mut in
+    let leaf = (key-goes_on g t at.In-Some-seek_child_mut
+    ∙ leaf-value _ c.in-Some-seek_child_mut.child.now (at-leaf g t at.Else-not-is_leaf_at)) in
     λ r x w h. some-stays w _ (c.requires.stays r x w (rw leaf h) ∙ ap is_some leaf)
-    (leaf-some _ c.in-Some-seek_child_mut.child.now
-    (canonical-found _ 0 c.in-Some-seek_child_mut.child.now (stored c.self.inside.storage)
-    (rw (← c.self.view_is) at c.requires.canonical).2 c.in-Some-seek_child_mut.ensures.value) (at-leaf g t at))
+    (leaf-some _ c.in-Some-seek_child_mut.child.now (canonical-found _ 0 _ _ on.canonical.2 on.there)
+    (at-leaf g t at.Else-not-is_leaf_at))
 
 pub returns-in-Some-outcome : goal.returns-in-Some-outcome
 returns-in-Some-outcome g t c =
-    let at = (goal.at.returns-in-Some-outcome g t c).Else-not-is_leaf_at in
-    let leaf = key-at_leaf g t at in
+    let at = goal.at.returns-in-Some-outcome g t c in
+    let on = follows g t at.In-Some-seek_child_mut in
+    let leaf = at-leaf g t at.Else-not-is_leaf_at in
     let left = rw c.in-Some-seek_child_mut.is at c.seek_child_mut.follows.holds c.update_leaf.new.self in
     let e = c.update_leaf.ensures in
     let done = rw c.in-Some-outcome.is at e.3 in (
       e.0,
       e.1,
-      rw leaf e.2,
-      rw (← c.self.view_is)
-          (ends-child_ok (g.P.Partial.bytes c.self.inside.prefix) c.args.key.now _ c.self.inside.value
-          (width_of c.self.inside.storage) _ _ c.in-Some-seek_child_mut.child.now c.update_leaf.new.self
-          (stored c.self.inside.storage) _ (rw (← c.self.view_is) at c.requires.canonical) c.in-Some.ensures
-          c.in-Some-first.ensures.value c.in-Some-seek_child_mut.ensures.value left.0 left.1 c.args.full e.0 e.1
-          c.in-Some-outcome.outcome (leaf-done c.args.full _ c.in-Some-seek_child_mut.child.now c.update_leaf.new.self
-          e.0
-          e.1 c.in-Some-outcome.outcome (at-leaf g t at) done)),
+      rw (← c.self.view_is, trie_lookup-child on, leaf-value _ c.in-Some-seek_child_mut.child.now leaf) e.2,
+      rw (← c.self.view_is) (ends-child_ok on _ _ _ left.0 left.1 c.args.full e.0 e.1 c.in-Some-outcome.outcome
+          (leaf-done c.args.full _ c.in-Some-seek_child_mut.child.now c.update_leaf.new.self e.0 e.1
+          c.in-Some-outcome.outcome leaf done)),
     )
 
 -- and goes
@@ -211,59 +176,43 @@ leaf-goes : (g : Over) (t : ℕ) (c : In-None-outcome g t) → (c.update_leaf.en
 leaf-goes g t c = leaf-lost c.in-Some-seek_child_mut.child.now c.update_leaf.new.self c.update_leaf.ensures.0
     c.update_leaf.ensures.1 c.update_leaf.result.0 c.in-None-outcome.is c.update_leaf.ensures.3
 
-pub remove_leaf-requires-clause-within : goal.remove_leaf-requires-clause-within
-remove_leaf-requires-clause-within g t c =
-    let lost = leaf-goes g t (goal.at.remove_leaf-requires-clause-within g t c).In-None-outcome in
-    let left = rw c.in-Some-seek_child_mut.is at c.seek_child_mut.follows.holds c.update_leaf.new.self in
-    let e = c.update_leaf.ensures in
-    joins-holding _ _ _ e.1 c.in-Some-seek_child_mut.child.now c.update_leaf.new.self (stored c.self.inside.storage) _
-    c.in-Some-seek_child_mut.ensures.value lost.2 left.1
-    (joins-canonical _ _ _ (width_of c.self.inside.storage) _ (rw (← c.self.view_is) at c.requires.canonical)
-    (rw (← c.self.view_is) at c.requires.fits))
-
-pub remove_leaf-requires-clause-stands : goal.remove_leaf-requires-clause-stands
-remove_leaf-requires-clause-stands g t c =
-    let left = rw c.in-Some-seek_child_mut.is at c.seek_child_mut.follows.holds c.update_leaf.new.self in
-    some-there c.update_leaf.new.self _ (child-there _ c.in-Some-seek_child_mut.child.now c.update_leaf.new.self
-    (stored c.self.inside.storage) _ c.in-Some-seek_child_mut.ensures.value left.1)
-
-pub remove_leaf-requires-clause-leaf : goal.remove_leaf-requires-clause-leaf
-remove_leaf-requires-clause-leaf g t c =
-    let at = goal.at.remove_leaf-requires-clause-leaf g t c in
+pub remove_leaf-requires : goal.remove_leaf-requires
+remove_leaf-requires g t c =
+    let at = goal.at.remove_leaf-requires g t c in
+    let on = follows g t at.In-Some-seek_child_mut in
     let lost = leaf-goes g t at.In-None-outcome in
     let left = rw c.in-Some-seek_child_mut.is at c.seek_child_mut.follows.holds c.update_leaf.new.self in
-    let e = c.update_leaf.ensures in
-    rw (child-there _ c.in-Some-seek_child_mut.child.now c.update_leaf.new.self (stored c.self.inside.storage)
-    (stored (c.seek_child_mut.follows.lender c.update_leaf.new.self)) c.in-Some-seek_child_mut.ensures.value left.1) (
-      holding-edges _ e.1 c.in-Some-seek_child_mut.child.now c.update_leaf.new.self
-          (at-leaf g t at.Else-not-is_leaf_at) lost.2,
-      holding-some e.1 c.in-Some-seek_child_mut.child.now
-          c.update_leaf.new.self lost.1 lost.2,
-    )
+    let found = child-there _ _ c.update_leaf.new.self _ _ on.there left.1 in
+    record {
+      within = joins-holding _ _ _ _ _ _ _ _ on.there lost.2 left.1 (joins-canonical _ _ _
+          (storage_capacity c.self.inside.storage) _ on.canonical (rw (← c.self.view_is) at c.requires.fits));
+      stands = some-there c.update_leaf.new.self _ found;
+      leaf = rw found (
+        holding-edges _ _ _ c.update_leaf.new.self (at-leaf g t at.Else-not-is_leaf_at) lost.2,
+        holding-some _ _ c.update_leaf.new.self lost.1 lost.2,
+      );
+    }
 
 pub returns-in-None-outcome : goal.returns-in-None-outcome
 returns-in-None-outcome g t c =
     let at = goal.at.returns-in-None-outcome g t c in
+    let on = follows g t at.In-Some-seek_child_mut in
     let lost = leaf-goes g t at.In-None-outcome in
+    let leaf = at-leaf g t at.Else-not-is_leaf_at in
     let left = rw c.in-Some-seek_child_mut.is at c.seek_child_mut.follows.holds c.update_leaf.new.self in
     let e = c.update_leaf.ensures in (
       e.0,
       e.1,
-      rw (key-at_leaf g t at.Else-not-is_leaf_at) e.2,
-      rw (← c.self.view_is)
-          (ends-lost (g.P.Partial.bytes c.self.inside.prefix) c.args.key.now _ c.self.inside.value
-          (width_of c.self.inside.storage) _ _ c.in-Some-seek_child_mut.child.now c.update_leaf.new.self
-          (stored c.self.inside.storage) _ (rw (← c.self.view_is) at c.requires.canonical) c.in-Some.ensures
-          c.in-Some-first.ensures.value c.in-Some-seek_child_mut.ensures.value left.0 left.1 c.args.full e.0 e.1
-          c.remove_leaf.result c.remove_leaf.new.self (at-leaf g t at.Else-not-is_leaf_at) lost.0 lost.1 lost.2
-          c.remove_leaf.ensures),
+      rw (← c.self.view_is, trie_lookup-child on, leaf-value _ c.in-Some-seek_child_mut.child.now leaf) e.2,
+      rw (← c.self.view_is) (ends-lost on _ _ _ left.0 left.1 c.args.full e.0 e.1 c.remove_leaf.result
+          c.remove_leaf.new.self leaf lost.0 lost.1 lost.2 c.remove_leaf.ensures),
     )
 
 -- there is no child
 key-absent : (g : Over) (t : ℕ) (c : In-None g t) → trie_lookup c.args.key.now c.args.self.now ≡ None
 key-absent g t c = rw (← c.self.view_is)
-    (trie_lookup-no_child _ c.args.key.now _ _ c.self.inside.value (width_of c.self.inside.storage)
-    (stored c.self.inside.storage) c.in-Some.ensures c.in-Some-first.ensures.value c.in-None.ensures.value)
+    (trie_lookup-no_child _ c.args.key.now _ _ c.self.inside.value (storage_capacity c.self.inside.storage)
+    (child_entries c.self.inside.storage) c.in-Some.ensures c.in-Some-first.ensures.value c.in-None.ensures.value)
 
 pub show_vacant-answer-requires-in-None-clause-callable : goal.show_vacant-answer-requires-in-None-clause-callable
 show_vacant-answer-requires-in-None-clause-callable g t c =
@@ -277,7 +226,8 @@ show_vacant-answer-requires-in-None-clause-stays g t c =
 
 pub apply_to_child-requires-clause-absent : goal.apply_to_child-requires-clause-absent
 apply_to_child-requires-clause-absent g t c =
-    child-absent _ (stored c.self.inside.storage) _ c.in-None.ensures.value c.seek_child_mut.follows.holds-at-none.1
+    child-absent _ (child_entries c.self.inside.storage) _ c.in-None.ensures.value
+    c.seek_child_mut.follows.holds-at-none.1
 
 pub apply_to_child-requires-clause-fits : goal.apply_to_child-requires-clause-fits
 apply_to_child-requires-clause-fits g t c =
@@ -292,6 +242,6 @@ returns-in-None g t c =
       rw none c.show_vacant-answer-in-None.ensures,
       ends-same c.args.full
           c.args.key.now c.show_vacant-answer-in-None.result.0 None c.args.self.now _ c.apply_to_child.result
-          (Some c.apply_to_child.new.self) (same-node _ _ _ _ (stored c.self.inside.storage) _ left.0 left.1
+          (Some c.apply_to_child.new.self) (same-node _ _ _ _ (child_entries c.self.inside.storage) _ left.0 left.1
           ∙ c.self.view_is) (c.apply_to_child.ensures c.args.key.now c.in-Some.ensures),
     )

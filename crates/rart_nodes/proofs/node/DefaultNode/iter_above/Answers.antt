@@ -1,7 +1,7 @@
 use Rattle.std.proofs.Common.{ap, subst, sym, ◌∙◌}
 use Rattle.rart_parts.specs.Entries.{BytesAscend}
 use Rattle.rart_nodes.specs.ranges.Starts.{children_above}
-use Rattle.rart_nodes.specs.storages.Stored.{stored}
+use Rattle.rart_nodes.specs.storages.Stored.{child_entries}
 use Rattle.rart_nodes.specs.tries.Trie.{children_in}
 use Rattle.rart_nodes.specs.tries.TrieCode.{as_children}
 use Rattle.rart_nodes.proofs.ranges.StartPaths.{as_children-above}
@@ -9,7 +9,7 @@ use Rattle.rart_nodes.proofs.node.DefaultNode.iter_above.Goals as goal
 
 pub returns-clause-children : goal.returns-clause-children
 returns-clause-children g c =
-    ap as_children c.iter_above.ensures.entries ∙ as_children-above c.args.byte (stored c.self.inside.storage)
+    ap as_children c.iter_above.ensures.entries ∙ as_children-above c.args.byte (child_entries c.self.inside.storage)
     ∙ ap (λ t. children_above c.args.byte (children_in t)) c.self.view_is
 
 pub returns-clause-ascends : goal.returns-clause-ascends

@@ -1,4 +1,4 @@
-use Rattle.rart_nodes.proofs.removals.PopLemmas.{pops-asks, pops-canonical, pops-map}
+use Rattle.rart_nodes.proofs.removals.PopLemmas.{pops-allocates, pops-canonical, pops-map}
 use Rattle.rart_nodes.proofs.node.DefaultNode.pop_inner.Goals as goal
 
 pub returns-in-Some-clause-ok : goal.returns-in-Some-clause-ok
@@ -9,6 +9,6 @@ pub returns-in-Some-clause-pairs : goal.returns-in-Some-clause-pairs
 returns-in-Some-clause-pairs g c = pops-map c.args.end c.args.self.now _ _ _ c.in-Some.value c.requires.canonical
     (rw c.in-Some.is at c.in-Ok.ensures.ok) c.from_slice-path.ensures
 
-pub returns-in-None-removed-clause-asks : goal.returns-in-None-removed-clause-asks
-returns-in-None-removed-clause-asks g c = pops-asks c.args.end c.args.self.now c.requires.canonical
-    c.in-Err.ensures.asks
+pub returns-in-None-removed-clause-allocates : goal.returns-in-None-removed-clause-allocates
+returns-in-None-removed-clause-allocates g c = pops-allocates c.args.end c.args.self.now c.requires.canonical
+    c.in-Err.ensures.allocates

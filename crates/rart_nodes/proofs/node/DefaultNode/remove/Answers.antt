@@ -34,5 +34,5 @@ returns g c =
           c.take_from.ensures.ok;
       unchanged = c.take_from.ensures.unchanged;
       memory = c.take_from.ensures.memory;
-      asks = on_err_weaker c.take_from.result (λ a. (a.0, λ z. a.1 (answer ∙ z))) c.take_from.ensures.asks;
+      allocates = on_err_weaker c.take_from.result (λ a. (a.0, λ z. a.1 (answer ∙ z))) c.take_from.ensures.allocates;
     }

@@ -1,6 +1,6 @@
 use Rattle.std.proofs.Common.{ap, ◌∙◌, refl, sym, arith}
 use Rattle.std.proofs.lemmas.List.{length-drop}
-use Rattle.rart_nodes.specs.storages.Stored.{stored, width_of}
+use Rattle.rart_nodes.specs.storages.Stored.{child_entries, storage_capacity}
 use Rattle.rart_nodes.proofs.storages.ChildLemmas.{child_at-beside}
 use Rattle.rart_nodes.proofs.edits.Descent.{first, first-differ}
 use Rattle.rart_nodes.proofs.tries.PrefixedStrings.{slice_from-is}
@@ -26,7 +26,7 @@ returns-then-key-shared-clause-ok g c = rw (← c.self.view_is)
     (parts-within _ c.args.key.now _ c.prefix_length_slice-shared.ensures.value
     (rw (← c.self.view_is) at c.requires.leaves)) c.if-key-shared.true c.partial_before-head.ensures
     c.partial_after-low.ensures c.replace.ensures.after
-    (c.add_within.ensures.width ∙ ap width_of c.replace-storage.ensures.after ∙ c.in-Ok.ensures.width)
+    (c.add_within.ensures.capacity ∙ ap storage_capacity c.replace-storage.ensures.after ∙ c.in-Ok.ensures.capacity)
     (rw (
       c.add_within.ensures.stored,
       c.replace-storage.ensures.after,
@@ -45,8 +45,9 @@ returns-clause-ok g c = rw (← c.self.view_is)
     (rw (← c.self.view_is) at c.requires.leaves)) c.if-key-shared.false c.partial_before-head.ensures
     c.partial_after-low.ensures (slice_from-is c.args.key.now c.prefix_length_slice-shared.result)
     c.take.ensures.after
-    (c.add_within-3.ensures.width ∙ c.add_within-2.ensures.width ∙ ap width_of c.replace-storage.ensures.after
-    ∙ c.in-Ok.ensures.width)
+    (c.add_within-3.ensures.capacity ∙ c.add_within-2.ensures.capacity ∙ ap storage_capacity
+    c.replace-storage.ensures.after
+    ∙ c.in-Ok.ensures.capacity)
     (rw (
       c.add_within-3.ensures.stored,
       c.add_within-2.ensures.stored,
@@ -60,7 +61,8 @@ returns-clause-ok g c = rw (← c.self.view_is)
     ) refl))
 
 pub add_within-requires-3-clause-absent : goal.add_within-requires-3-clause-absent
-add_within-requires-3-clause-absent g c = child_at-beside c.at-low_byte.result _ _ (stored c.add_within-2.new.self)
+add_within-requires-3-clause-absent g c = child_at-beside c.at-low_byte.result _ _
+    (child_entries c.add_within-2.new.self)
     (rw (c.replace-storage.ensures.after, c.in-Ok.ensures.stored) at c.add_within-2.ensures.stored)
     (λ s. first-differ _ c.args.key.now c.prefix_length_slice-shared.result c.prefix_length_slice-shared.ensures.value
     (parts-within _ c.args.key.now _ c.prefix_length_slice-shared.ensures.value

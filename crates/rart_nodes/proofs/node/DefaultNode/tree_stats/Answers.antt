@@ -11,21 +11,14 @@ count_nodes-height-requires g c =
     let fits = rw c.in-Some.is at c.requires.fits in
     omega (arith, ap counts_sum c.none-counts.ensures, few-for-keys c.in-Some.node.now canonical, fits)
 
-pub statistics-requires-clause-counts : goal.statistics-requires-clause-counts
-statistics-requires-clause-counts g c =
+pub statistics-requires : goal.statistics-requires
+statistics-requires g c =
     let canonical = rw c.in-Some.is at c.requires.canonical in
     let fits = rw c.in-Some.is at c.requires.fits in
     let counted = c.count_nodes-height.ensures.counts
     ∙ ap (λ n. counts_added n (counts_in c.in-Some.node.now)) c.none-counts.ensures in
-    omega (arith, (sums-for-keys _ _ canonical counted).0, fits)
-
-pub statistics-requires-clause-width : goal.statistics-requires-clause-width
-statistics-requires-clause-width g c =
-    let canonical = rw c.in-Some.is at c.requires.canonical in
-    let fits = rw c.in-Some.is at c.requires.fits in
-    let counted = c.count_nodes-height.ensures.counts
-    ∙ ap (λ n. counts_added n (counts_in c.in-Some.node.now)) c.none-counts.ensures in
-    omega (arith, (sums-for-keys _ _ canonical counted).1, fits)
+    let sums = sums-for-keys _ _ canonical counted in
+    record { counts = omega (arith, sums.0, fits); width = omega (arith, sums.1, fits) }
 
 pub returns-clause-statistics : goal.returns-clause-statistics
 returns-clause-statistics g c =
@@ -36,10 +29,10 @@ returns-clause-statistics g c =
     (λ s r. counted-statistics _ _ _ _ canonical counted c.count_nodes-height.ensures.height r)
     c.statistics.ensures.value)
 
-pub returns-clause-asks : goal.returns-clause-asks
-returns-clause-asks g c =
+pub returns-clause-allocates : goal.returns-clause-allocates
+returns-clause-allocates g c =
     let canonical = rw c.in-Some.is at c.requires.canonical in
     let counted = c.count_nodes-height.ensures.counts
     ∙ ap (λ n. counts_added n (counts_in c.in-Some.node.now)) c.none-counts.ensures in
     rw c.in-Some.is (on_err_weaker c.statistics.result (λ i. inner-keys _ _ canonical counted i)
-    c.statistics.ensures.asks)
+    c.statistics.ensures.allocates)

@@ -45,8 +45,8 @@ loop-child-init g t c =
     let found = c.in-Some.ensures.aligned in
     record {
       callable = rw c.of-shared_children.ensures
-          (can-rest _ _ laws _ _ _ _ _ _ (can-aligned _ _ laws _ g.met.T.Visitor.deeper _ _ _ _ _ found.0 _ _ found.2 found.1
-          c.requires.callable) (rw (c.value.ensures, c.value-2.ensures) at c.give_both.ensures.given));
+          (can-rest _ _ laws _ _ _ _ _ _ (can-aligned _ _ laws _ g.met.T.Visitor.deeper _ _ _ _ _ found.0 _ _ found.2
+          found.1 c.requires.callable) (rw (c.value.ensures, c.value-2.ensures) at c.give_both.ensures.given));
       place = path-stays _;
       room = laws.has_room _ _ found.0 _ _ found.1 c.requires.room found.2.short;
       given = λ last h. h;
@@ -60,31 +60,12 @@ intersect_below-requires g t c κs within =
     let laws = g.met.T.Visitor.lawful in
     let inv = c.loop-child.invariant in
     let next = next-shared_children _ _ _ _ _ _ c.in-Some-enter_next.ensures.shared_children inv.within in
-    let room = same-room _ _ laws _ _ _ _ (path-stays _) inv.room next.short in (
+    let room = same-room _ _ laws _ _ _ _ (path-stays _) inv.room next.short in
+    let callable = can-next _ _ laws _ g.met.T.Visitor.deeper _ _ _ _ _ _ _ c.in-Some-enter_next.ensures.shared_children
+    inv.place inv.callable in
+    let w = within.1.1.1 in (
       omega (arith, c.decreases, next.falls),
-      (
-        within.0,
-        (
-          within.1.0,
-          (
-            within.1.1.0,
-            (
-              within.1.1.1.0,
-              (
-                within.1.1.1.1.0,
-                (
-                  within.1.1.1.1.1,
-                  (
-                    room,
-                    can-next _ _ laws _ g.met.T.Visitor.deeper _ _ _ _ _ _ _
-                        c.in-Some-enter_next.ensures.shared_children inv.place inv.callable,
-                  ),
-                ),
-              ),
-            ),
-          ),
-        ),
-      ),
+      (within.0, (within.1.0, (within.1.1.0, (w.0, (w.1.0, (w.1.1, (room, callable))))))),
     )
 
 pub loop-child-preserved : goal.loop-child-preserved

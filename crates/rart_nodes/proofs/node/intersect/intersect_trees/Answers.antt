@@ -16,22 +16,14 @@ intersect_below-requires-clause-callable g c =
     (IsCanonicalTree-test _ c.args.right.canonical) c.in-Some.ensures c.in-Some-top.ensures in
     rw (both.pairs, ← c.enter_pair.ensures.left, ← c.enter_pair.ensures.right) at c.requires.callable
 
-pub returns-clause-given : goal.returns-clause-given
-returns-clause-given g c =
-    let both = joined-both _ _ _ _ (IsCanonicalTree-test _ c.args.left.canonical)
-    (IsCanonicalTree-test _ c.args.right.canonical) c.in-Some.ensures c.in-Some-top.ensures in
-    rw (both.pairs, ← c.enter_pair.ensures.left, ← c.enter_pair.ensures.right) c.intersect_below.ensures.given
-
-pub returns-clause-visits : goal.returns-clause-visits
-returns-clause-visits g c =
+pub returns : goal.returns
+returns g c =
     let both = joined-both _ _ _ _ (IsCanonicalTree-test _ c.args.left.canonical)
     (IsCanonicalTree-test _ c.args.right.canonical) c.in-Some.ensures c.in-Some-top.ensures in
     let below = rw (c.enter_pair.ensures.left, c.enter_pair.ensures.right) at c.intersect_below.ensures.visits in
-    omega (arith, both.visits, below, c.enter_pair.ensures.counted)
-
-pub returns-clause-bound : goal.returns-clause-bound
-returns-clause-bound g c =
-    let both = joined-both _ _ _ _ (IsCanonicalTree-test _ c.args.left.canonical)
-    (IsCanonicalTree-test _ c.args.right.canonical) c.in-Some.ensures c.in-Some-top.ensures in
-    let below = rw (c.enter_pair.ensures.left, c.enter_pair.ensures.right) at c.intersect_below.ensures.visits in
-    omega (arith, both.few, below, c.enter_pair.ensures.counted)
+    record {
+      given = rw (both.pairs, ← c.enter_pair.ensures.left, ← c.enter_pair.ensures.right)
+          c.intersect_below.ensures.given;
+      visits = omega (arith, both.visits, below, c.enter_pair.ensures.counted);
+      bound = omega (arith, both.few, below, c.enter_pair.ensures.counted);
+    }

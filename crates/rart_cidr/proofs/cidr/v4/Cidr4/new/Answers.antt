@@ -3,7 +3,7 @@ use Rattle.std.proofs.lemmas.Bool.Decides.{Decides-eqb}
 use Rattle.std.proofs.lemmas.Slice.Eq.{slice_eq-Decides}
 use Rattle.std.specs.Net.Addr.{ipv4_octets}
 use Rattle.rart_cidr.proofs.BitLemmas.{length-bits}
-use Rattle.rart_cidr.proofs.NetworkLemmas.{cleared-alone, cleared-bytes, unchanged-clear, width-bits}
+use Rattle.rart_cidr.proofs.NetworkLemmas.{masked_octets-alone, masked_octets-bytes, unchanged-clear, width-bits}
 use Rattle.rart_cidr.proofs.cidr.v4.Cidr4.new.Goals as goal
 
 pub returns-then-len-gt32 : goal.returns-then-len-gt32
@@ -30,8 +30,8 @@ returns-else-eq c =
     let e = c.cleared_octets-octets.ensures in (
       width-bits (ipv4_octets c.args.addr) 4 c.args.len e.width (let h : c.args.len ≤ 32
           = omega (arith, c.if-len-gt32.false) in h),
-      λ k. let all = cleared-alone (ipv4_octets c.args.addr) c.args.len e.bytes
-          (cleared-bytes (ipv4_octets c.args.addr) c.args.len e.bytes) k in
+      λ k. let all = masked_octets-alone (ipv4_octets c.args.addr) c.args.len e.bytes
+          (masked_octets-bytes (ipv4_octets c.args.addr) c.args.len e.bytes) k in
           let yes : c.eq.result ≡ true = (slice_eq-Decides Decides-eqb c.cleared_octets-octets.result c.octets.result
           c.eq.result c.eq.ensures).1 (e.value ∙ all ∙ sym c.octets.ensures) in
           let no = c.if-eq.false in cc,

@@ -2,7 +2,8 @@ use Rattle.std.proofs.Common.{◌∙◌, ap, arith}
 use Rattle.std.specs.Net.Addr.{ipv6_octets}
 use Rattle.rart_cidr.specs.Bits.{network}
 use Rattle.rart_cidr.proofs.BitLemmas.{length-bits}
-use Rattle.rart_cidr.proofs.NetworkLemmas.{cleared-bytes, cleared-clear, cleared-first, cleared-length}
+use Rattle.rart_cidr.proofs.NetworkLemmas.{masked_octets-bytes, masked_octets-clear, masked_octets-first}
+use Rattle.rart_cidr.proofs.NetworkLemmas.{masked_octets-length}
 use Rattle.rart_cidr.proofs.cidr.v6.Cidr6.masked.Goals as goal
 
 pub invariant_of-result : goal.invariant_of-result
@@ -10,15 +11,15 @@ invariant_of-result c =
     let e = c.cleared_octets-octets.ensures in
     rw (e.value) (record {
       within = c.requires;
-      full_width = cleared-length (ipv6_octets c.args.addr) c.args.len ∙ e.width;
-      are_bytes = cleared-bytes (ipv6_octets c.args.addr) c.args.len e.bytes;
-      clear = cleared-clear (ipv6_octets c.args.addr) c.args.len e.bytes;
+      full_width = masked_octets-length (ipv6_octets c.args.addr) c.args.len ∙ e.width;
+      are_bytes = masked_octets-bytes (ipv6_octets c.args.addr) c.args.len e.bytes;
+      clear = masked_octets-clear (ipv6_octets c.args.addr) c.args.len e.bytes;
     })
 
 pub returns-clause-value : goal.returns-clause-value
 returns-clause-value c =
     let e = c.cleared_octets-octets.ensures in
-    ap (λ z. network z c.args.len) e.value ∙ cleared-first (ipv6_octets c.args.addr) c.args.len e.bytes
+    ap (λ z. network z c.args.len) e.value ∙ masked_octets-first (ipv6_octets c.args.addr) c.args.len e.bytes
 
 pub returns-clause-width : goal.returns-clause-width
 returns-clause-width c = omega (arith, length-bits (ipv6_octets c.args.addr), c.cleared_octets-octets.ensures.width)

@@ -4,7 +4,7 @@ use Rattle.rart_nodes.specs.edits.ChildChanges.{value_if}
 use Rattle.rart_nodes.specs.edits.NodeEdits.{with_value}
 use Rattle.rart_nodes.specs.tries.Trie.{node, value_of}
 use Rattle.rart_nodes.specs.tries.TrieCode.{as_children}
-use Rattle.rart_nodes.specs.storages.Stored.{stored, width_of}
+use Rattle.rart_nodes.specs.storages.Stored.{child_entries, storage_capacity}
 use Rattle.rart_nodes.proofs.edits.ChildChangeLemmas.{with_child_value-is}
 use Rattle.rart_nodes.proofs.edits.InsertLemmas.{child-put_back}
 use Rattle.rart_nodes.proofs.tries.Descents.{child_of-entries}
@@ -19,23 +19,25 @@ returns-in-Some g c =
     let found = c.in-Some.ensures.value in (
       (
         refl,
-        λ w. let child = node (g.P.Partial.bytes c.child.inside.prefix) (Some w) (width_of c.child.inside.storage)
-            (as_children (stored c.child.inside.storage)) in
+        λ w. let child = node (g.P.Partial.bytes c.child.inside.prefix) (Some w)
+            (storage_capacity c.child.inside.storage)
+            (as_children (child_entries c.child.inside.storage)) in
             let left = rw c.in-Some.is at c.seek_child_mut.follows.holds child in
             some-any c.as_mut.result (rw (← c.self.view_is)
-            (with_child_value-is _ _ (width_of c.self.inside.storage) _ c.args.key w c.in-Some.child.now child
-            (stored c.self.inside.storage) _
+            (with_child_value-is _ _ (storage_capacity c.self.inside.storage) _ c.args.key w c.in-Some.child.now child
+            (child_entries c.self.inside.storage) _
             found (ap (with_value w) c.child.view_is) left.0 left.1)),
         let child = node (g.P.Partial.bytes c.child.inside.prefix) c.child.inside.value
-            (width_of c.child.inside.storage) (as_children (stored c.child.inside.storage)) in
+            (storage_capacity c.child.inside.storage) (as_children (child_entries c.child.inside.storage)) in
             let left = rw c.in-Some.is at c.seek_child_mut.follows.holds child in
-            child-put_back _ _ _ _ _ c.in-Some.child.now child (stored c.self.inside.storage) _ found c.child.view_is
+            child-put_back _ _ _ _ _ c.in-Some.child.now child (child_entries c.self.inside.storage) _ found
+            c.child.view_is
             left.0 left.1 ∙ c.self.view_is,
       ),
       record {
         writes_back = tt;
         value = rw (← c.self.view_is) (c.as_mut.ensures.value ∙ ap value_of c.child.view_is
-            ∙ ap value_if (found ∙ sym (child_of-entries c.args.key (stored c.self.inside.storage))));
+            ∙ ap value_if (found ∙ sym (child_of-entries c.args.key (child_entries c.self.inside.storage))));
       },
     )
 
@@ -46,6 +48,6 @@ returns-in-None g c =
       record {
         writes_back = tt;
         value = rw (← c.self.view_is) (ap value_if
-            (sym (child_of-entries c.args.key (stored c.self.inside.storage) ∙ sym c.in-None.ensures.value)));
+            (sym (child_of-entries c.args.key (child_entries c.self.inside.storage) ∙ sym c.in-None.ensures.value)));
       },
     )

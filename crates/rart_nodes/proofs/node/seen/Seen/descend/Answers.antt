@@ -1,19 +1,13 @@
-use Rattle.std.proofs.Common.{◌≡◌, ◌<◌, arith, refl, sym, ◌∙◌, ap, Some, option_map}
+use Rattle.std.proofs.Common.{◌≡◌, arith, sym, ◌∙◌, ap, Some}
 use Rattle.rart_keys.specs.ByteStrings.{strip_prefix}
 use Rattle.rart_nodes.specs.walks.ProbeCount.{tree_entered}
 use Rattle.rart_nodes.specs.tries.Tree.{tree_lookup}
 use Rattle.rart_nodes.specs.tries.Trie.{prefix_of}
-use Rattle.rart_nodes.specs.walks.Walk.{tree_count}
-use Rattle.rart_nodes.proofs.walks.SeenLemmas.{step-on, child-falls}
+use Rattle.rart_nodes.proofs.walks.SeenLemmas.{step-on, next-falls}
 use Rattle.rart_nodes.proofs.node.seen.Seen.descend.Goals as goal
 
 pub loop-next-smaller : goal.loop-next-smaller
-loop-next-smaller g c =
-    let h : tree_count (option_map (λ s. s.node.now) c.child-next.result)
-    < tree_count (option_map (λ s. s.node.now) c.loop-next.next)
-    = rw (c.in-Some.is, c.child-next.ensures, c.enter-at.ensures.shown)
-    (child-falls c.in-Some-first.byte.now c.in-Some.node.node.now _ refl) in
-    h
+loop-next-smaller g c = next-falls _ _ _ _ _ _ c.in-Some.is c.enter-at.ensures.shown c.child-next.ensures
 
 pub loop-next-preserved : goal.loop-next-preserved
 loop-next-preserved g c =

@@ -44,17 +44,14 @@ unreachable-requires g c =
     c.loop-child.invariant (sym c.in_default.ensures) in
     let none = c.in_default-value.ensures ∙ end.own in cc
 
-pub returns-clause-pair : goal.returns-clause-pair
-returns-clause-pair g c =
+pub returns : goal.returns
+returns g c =
     let end = tree-end c.args.end _ _ _ _ _ (IsCanonicalTree-test _ c.args.self.canonical) c.loop-child.at.canonical
     c.loop-child.invariant (sym c.in_default.ensures) in
     let value : Some c.in-Some-value.value.now ≡ Some end.value = c.in-Some-value.ensures ∙ end.own in
     let same : c.in-Some-value.value.now ≡ end.value = cc in
-    ap (λ k. Some (k, c.in-Some-value.value.now)) c.new_from_partial.ensures
-    ∙ ap (λ v. Some (g.K.PartialType.Partial.bytes c.loop-child.path, v)) same ∙ sym end.pair
-
-pub returns-clause-visits : goal.returns-clause-visits
-returns-clause-visits g c =
-    let end = tree-end c.args.end _ _ _ _ _ (IsCanonicalTree-test _ c.args.self.canonical) c.loop-child.at.canonical
-    c.loop-child.invariant (sym c.in_default.ensures) in
-    rw c.new_from_partial.ensures end.visits
+    record {
+      pair = ap (λ k. Some (k, c.in-Some-value.value.now)) c.new_from_partial.ensures
+          ∙ ap (λ v. Some (g.K.PartialType.Partial.bytes c.loop-child.path, v)) same ∙ sym end.pair;
+      visits = rw c.new_from_partial.ensures end.visits;
+    }

@@ -1,8 +1,7 @@
-use Rattle.std.proofs.Common.{arith, rules, of_calls, ◌≡◌, ◌+◌, [], ◌∷◌, List, ℕ, take, option_map, subst, sym, ap}
+use Rattle.std.proofs.Common.{arith, rules, of_calls, ◌+◌, List, ℕ, take, subst, sym, ap}
 use Rattle.std.proofs.Common.{refl}
 use Rattle.std.specs.Option.{option_copied}
 use Rattle.rart_nodes.specs.walks.Matched.{CanMatch, Matched, MatchesEach}
-use Rattle.rart_nodes.specs.walks.Matches.{matches_ahead}
 use Rattle.rart_nodes.proofs.tries.CanonicalTests.{IsCanonicalTree-test}
 use Rattle.rart_nodes.proofs.walks.MatchLemmas.{all-entered, entered-ahead, matches-ahead}
 use Rattle.rart_nodes.proofs.walks.CallLemmas.{always-after-matches, can-first, can-rest}
@@ -24,12 +23,7 @@ loop-value-init g c = record {
 
 pub loop-value-preserved : goal.loop-value-preserved
 loop-value-preserved g c =
-    let more : List (List ℕ × g.row.V.Denot)
-    = matches_ahead c.args.probe.now c.advance.new.self.depth
-    (option_map (λ s. s.node.now) c.advance.new.self.below) in
-    let e : matches_ahead c.args.probe.now c.loop-value.matching.depth
-    (option_map (λ s. s.node.now) c.loop-value.matching.below)
-    ≡ (take c.advance.new.self.depth c.args.probe.now, c.in-Some.value.now) ∷ more = c.in-Some.ensures.pairs in
+    let e = c.in-Some.ensures.pairs in
     let v : Matched g.F.FnMut c.loop-value.f (take c.advance.new.self.depth c.args.probe.now, c.in-Some.value.now)
     c.f.new.self = record {
       key = c.beginning.result;
@@ -54,8 +48,7 @@ f-requires g c = can-first _ _ _ _ _ _ c.in-Some.ensures.pairs c.loop-value.inva
 
 pub returns-clause-callable : goal.returns-clause-callable
 returns-clause-callable g c =
-    let e : matches_ahead c.args.probe.now c.loop-value.matching.depth
-    (option_map (λ s. s.node.now) c.loop-value.matching.below) ≡ [] = c.in_default.ensures.pairs.0 in
+    let e = c.in_default.ensures.pairs.0 in
     always-after-matches g.F.FnMut _ _ _ (c.loop-value.invariant.folds c.loop-value.f
     (subst (λ (x : List (List ℕ × g.row.V.Denot)). MatchesEach g.F.FnMut c.loop-value.f x c.loop-value.f) (sym e)
     refl))

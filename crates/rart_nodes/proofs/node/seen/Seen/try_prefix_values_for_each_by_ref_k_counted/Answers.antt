@@ -1,11 +1,11 @@
-use Rattle.std.proofs.Common.{◌≡◌, [], List, Ok, Err, ap, ◌∙◌, sym, subst, arith, length}
+use Rattle.std.proofs.Common.{List, Ok, Err, ap, ◌∙◌, sym, subst, arith, length}
 use Rattle.std.specs.Option.{option_copied}
 use Rattle.rart_keys.specs.Filters.{below}
 use Rattle.rart_keys.specs.SortedMap.{values_of}
 use Rattle.rart_nodes.specs.tries.SeenTrees.{seen_keys, seen_pairs}
 use Rattle.rart_nodes.specs.tries.Tree.{tree_pairs}
 use Rattle.rart_nodes.specs.walks.ProbeCount.{probe_count}
-use Rattle.rart_nodes.specs.walks.Walk.{entry_values, entries_ahead}
+use Rattle.rart_nodes.specs.walks.Walk.{entry_values}
 use Rattle.rart_nodes.specs.walks.PathParts.{no_segment}
 use Rattle.rart_nodes.specs.walks.Tried.{CanTry, EndsAs}
 use Rattle.rart_nodes.proofs.tries.CanonicalTests.{IsCanonicalTree-test}
@@ -14,18 +14,14 @@ use Rattle.rart_nodes.proofs.node.seen.Seen.try_prefix_values_for_each_by_ref_k_
 
 pub try_for_each-requires-clause-callable : goal.try_for_each-requires-clause-callable
 try_for_each-requires-clause-callable g c =
-    let e : entry_values (entries_ahead no_segment [] (option_copied c.in-Ok.walk.first) c.in-Ok.walk.levels.items)
-    ≡ values_of (below (g.K.KeyTrait.bytes c.args.prefix.now) (tree_pairs (option_copied c.args.self.root)))
-    = ap entry_values c.in-Ok.ensures.entries ∙ part-values no_segment c.as_ref.result.now
+    let e = ap entry_values c.in-Ok.ensures.entries ∙ part-values no_segment c.as_ref.result.now
     (option_copied c.args.self.root) (IsCanonicalTree-test _ c.args.self.canonical)
     ∙ ap (λ q. values_of (below q (tree_pairs (option_copied c.args.self.root)))) c.as_ref.ensures in
     subst (λ (x : List g.row.V.Denot). CanTry g.F.FnMut c.args.f.now x) (sym e) c.requires.callable
 
 pub returns-in-Ok-try_for_each-clause-calls : goal.returns-in-Ok-try_for_each-clause-calls
 returns-in-Ok-try_for_each-clause-calls g c =
-    let e : entry_values (entries_ahead no_segment [] (option_copied c.in-Ok.walk.first) c.in-Ok.walk.levels.items)
-    ≡ values_of (below (g.K.KeyTrait.bytes c.args.prefix.now) (tree_pairs (option_copied c.args.self.root)))
-    = ap entry_values c.in-Ok.ensures.entries ∙ part-values no_segment c.as_ref.result.now
+    let e = ap entry_values c.in-Ok.ensures.entries ∙ part-values no_segment c.as_ref.result.now
     (option_copied c.args.self.root) (IsCanonicalTree-test _ c.args.self.canonical)
     ∙ ap (λ q. values_of (below q (tree_pairs (option_copied c.args.self.root)))) c.as_ref.ensures in
     subst (λ (x : List g.row.V.Denot). EndsAs g.F.FnMut c.args.f.now x (Ok tt) c.try_for_each.new.f) e
@@ -33,9 +29,7 @@ returns-in-Ok-try_for_each-clause-calls g c =
 
 pub returns-clause-calls : goal.returns-clause-calls
 returns-clause-calls g c =
-    let e : entry_values (entries_ahead no_segment [] (option_copied c.in-Ok.walk.first) c.in-Ok.walk.levels.items)
-    ≡ values_of (below (g.K.KeyTrait.bytes c.args.prefix.now) (tree_pairs (option_copied c.args.self.root)))
-    = ap entry_values c.in-Ok.ensures.entries ∙ part-values no_segment c.as_ref.result.now
+    let e = ap entry_values c.in-Ok.ensures.entries ∙ part-values no_segment c.as_ref.result.now
     (option_copied c.args.self.root) (IsCanonicalTree-test _ c.args.self.canonical)
     ∙ ap (λ q. values_of (below q (tree_pairs (option_copied c.args.self.root)))) c.as_ref.ensures in
     subst (λ (x : List g.row.V.Denot). EndsAs g.F.FnMut c.args.f.now x (Err c.in-Err.error) c.try_for_each.new.f) e

@@ -14,7 +14,8 @@ returns-in_err-levels-clause-memory g c = err-any c.from_residual-in_err-levels.
 
 pub returns-clause-entries : goal.returns-clause-entries
 returns-clause-entries g c =
-    c.walk_at-walk.ensures.entries ∙ ap (λ k. segments_after k (entries_of g.T.Keeps.grown c.enter-root.result.node.now))
+    c.walk_at-walk.ensures.entries
+    ∙ ap (λ k. segments_after k (entries_of g.T.Keeps.grown c.enter-root.result.node.now))
     c.in_ok-path.ensures.nothing
     ∙ after-none (entries_of g.T.Keeps.grown c.enter-root.result.node.now)
     ∙ ap (entries_of g.T.Keeps.grown) c.enter-root.ensures.shown

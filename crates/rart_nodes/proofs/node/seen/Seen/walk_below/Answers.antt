@@ -1,11 +1,10 @@
 use Rattle.std.proofs.Common.{◌≡◌, ◌∙◌, arith, ap, sym, Some}
 use Rattle.std.specs.Option.{option_copied}
 use Rattle.rart_nodes.specs.walks.Part.{tree_part}
-use Rattle.rart_nodes.specs.walks.ProbeCount.{tree_entered}
 use Rattle.rart_nodes.proofs.edits.Outcomes.{err-any}
 use Rattle.rart_nodes.proofs.tries.CanonicalTests.{IsCanonical-test, IsCanonicalTree-test}
 use Rattle.rart_nodes.proofs.walks.PartLemmas.{few-count, part-length}
-use Rattle.rart_nodes.proofs.walks.SeenLemmas.{few-tree_entered, tree_entered-probe_count}
+use Rattle.rart_nodes.proofs.walks.SeenLemmas.{root-entered}
 use Rattle.rart_nodes.proofs.walks.WalkLemmas.{has-pairs}
 use Rattle.rart_nodes.proofs.node.seen.Seen.walk_below.Goals as goal
 
@@ -19,43 +18,23 @@ returns-in_err-levels-clause-memory g c = err-any c.from_residual-in_err-levels.
 
 pub returns-in_default-seek_prefix-clause-visits : goal.returns-in_default-seek_prefix-clause-visits
 returns-in_default-seek_prefix-clause-visits g c =
-    omega (
-      arith,
-      c.in_default-seek_prefix.ensures.visits,
-      ap (tree_entered c.args.prefix.now) c.in-Some.ensures,
-      tree_entered-probe_count c.args.prefix.now (option_copied c.args.self.root)
-          (IsCanonicalTree-test _ c.args.self.canonical),
-    )
+    let root = root-entered c.args.prefix.now c.in-Some.top.node.now _ c.in-Some.top.canonical c.in-Some.ensures in
+    omega (arith, c.in_default-seek_prefix.ensures.visits, root.0)
 
 pub returns-in_default-seek_prefix-clause-bound : goal.returns-in_default-seek_prefix-clause-bound
 returns-in_default-seek_prefix-clause-bound g c =
-    omega (
-      arith,
-      c.in_default-seek_prefix.ensures.visits,
-      ap (tree_entered c.args.prefix.now) c.in-Some.ensures,
-      few-tree_entered c.args.prefix.now (option_copied c.args.self.root)
-          (IsCanonicalTree-test _ c.args.self.canonical),
-    )
+    let root = root-entered c.args.prefix.now c.in-Some.top.node.now _ c.in-Some.top.canonical c.in-Some.ensures in
+    omega (arith, c.in_default-seek_prefix.ensures.visits, root.1)
 
 pub returns-clause-visits : goal.returns-clause-visits
 returns-clause-visits g c =
-    omega (
-      arith,
-      c.in-Some-seek_prefix.ensures.visits,
-      ap (tree_entered c.args.prefix.now) c.in-Some.ensures,
-      tree_entered-probe_count c.args.prefix.now (option_copied c.args.self.root)
-          (IsCanonicalTree-test _ c.args.self.canonical),
-    )
+    let root = root-entered c.args.prefix.now c.in-Some.top.node.now _ c.in-Some.top.canonical c.in-Some.ensures in
+    omega (arith, c.in-Some-seek_prefix.ensures.visits, root.0)
 
 pub returns-clause-bound : goal.returns-clause-bound
 returns-clause-bound g c =
-    omega (
-      arith,
-      c.in-Some-seek_prefix.ensures.visits,
-      ap (tree_entered c.args.prefix.now) c.in-Some.ensures,
-      few-tree_entered c.args.prefix.now (option_copied c.args.self.root)
-          (IsCanonicalTree-test _ c.args.self.canonical),
-    )
+    let root = root-entered c.args.prefix.now c.in-Some.top.node.now _ c.in-Some.top.canonical c.in-Some.ensures in
+    omega (arith, c.in-Some-seek_prefix.ensures.visits, root.1)
 
 pub returns-clause-few : goal.returns-clause-few
 returns-clause-few g c =

@@ -1,10 +1,7 @@
-use Rattle.std.proofs.Common.{arith, ap}
-use Rattle.std.specs.Option.{option_copied}
-use Rattle.rart_nodes.specs.walks.ProbeCount.{tree_entered}
+use Rattle.std.proofs.Common.{arith}
 use Rattle.rart_nodes.proofs.edits.Outcomes.{err-any}
 use Rattle.rart_nodes.proofs.ranges.PotentialLemmas.{low-tree}
-use Rattle.rart_nodes.proofs.tries.CanonicalTests.{IsCanonicalTree-test}
-use Rattle.rart_nodes.proofs.walks.SeenLemmas.{few-tree_entered, tree_entered-probe_count}
+use Rattle.rart_nodes.proofs.walks.SeenLemmas.{root-entered}
 use Rattle.rart_nodes.proofs.walks.WalkLemmas.{has-pairs}
 use Rattle.rart_nodes.proofs.node.seen.Seen.walk_from.Goals as goal
 
@@ -18,23 +15,13 @@ returns-in_err-levels-clause-memory g c = err-any c.from_residual-in_err-levels.
 
 pub returns-clause-visits : goal.returns-clause-visits
 returns-clause-visits g c =
-    omega (
-      arith,
-      c.descend.ensures.visits,
-      ap (tree_entered c.args.start.now) c.in-Some.ensures,
-      tree_entered-probe_count c.args.start.now (option_copied c.args.self.root)
-          (IsCanonicalTree-test _ c.args.self.canonical),
-    )
+    let root = root-entered c.args.start.now c.in-Some.top.node.now _ c.in-Some.top.canonical c.in-Some.ensures in
+    omega (arith, c.descend.ensures.visits, root.0)
 
 pub returns-clause-bound : goal.returns-clause-bound
 returns-clause-bound g c =
-    omega (
-      arith,
-      c.descend.ensures.visits,
-      ap (tree_entered c.args.start.now) c.in-Some.ensures,
-      few-tree_entered
-          c.args.start.now (option_copied c.args.self.root) (IsCanonicalTree-test _ c.args.self.canonical),
-    )
+    let root = root-entered c.args.start.now c.in-Some.top.node.now _ c.in-Some.top.canonical c.in-Some.ensures in
+    omega (arith, c.descend.ensures.visits, root.1)
 
 pub returns-clause-low : goal.returns-clause-low
 returns-clause-low g c = low-tree c.in-Some.top.node.now _ _ c.in-Some.top.canonical c.in-Some.ensures

@@ -1,12 +1,13 @@
 use Rattle.std.proofs.Common.{ap, ◌∙◌, sym, arith}
 use Rattle.rart_parts.specs.Entries.{without_byte, ascending}
-use Rattle.rart_nodes.specs.storages.Stored.{stored, width_of}
-use Rattle.rart_nodes.proofs.storages.DeletionLemmas.{few-left, none-left, width-kept, width-given}
+use Rattle.rart_nodes.specs.storages.Stored.{child_entries, storage_capacity}
+use Rattle.rart_nodes.proofs.storages.DeletionLemmas.{few-left, none-left, capacity-kept, capacity-given}
 use Rattle.rart_nodes.proofs.node.storage.Storage.delete_child.Goals as goal
 
-pub returns-then-keeps_kind-clause-width : goal.returns-then-keeps_kind-clause-width
-returns-then-keeps_kind-clause-width g c = c.delete_within.ensures.width
-    ∙ rw (c.delete_within.ensures.stored) (width-kept c.args.b (width_of c.args.self.now) (stored c.args.self.now)
+pub returns-then-keeps_kind-clause-capacity : goal.returns-then-keeps_kind-clause-capacity
+returns-then-keeps_kind-clause-capacity g c = c.delete_within.ensures.capacity
+    ∙ rw (c.delete_within.ensures.stored) (capacity-kept c.args.b (storage_capacity c.args.self.now)
+    (child_entries c.args.self.now)
     (c.keeps_kind.ensures.keeps c.if-keeps_kind.true))
 
 pub replace_empty-requires : goal.replace_empty-requires
@@ -74,8 +75,8 @@ returns-in-Node4-clause-stored g c =
     let few = rw c.in-Node4.is at c.keeps_kind.ensures.gives_up c.if-keeps_kind.false in
     rw (c.replace_empty.ensures, c.in-Node4.is) (sym (none-left c.args.b c.in-Node4.map.value few.0 few.1))
 
-pub returns-in_ok-next-in-Node16-clause-width : goal.returns-in_ok-next-in-Node16-clause-width
-returns-in_ok-next-in-Node16-clause-width g c =
+pub returns-in_ok-next-in-Node16-clause-capacity : goal.returns-in_ok-next-in-Node16-clause-capacity
+returns-in_ok-next-in-Node16-clause-capacity g c =
     let few = rw c.in-Node16.is at c.keeps_kind.ensures.gives_up c.if-keeps_kind.false in
     rw (
       c.replace_empty-in-Node16.ensures,
@@ -84,10 +85,10 @@ returns-in_ok-next-in-Node16-clause-width g c =
       c.deref_mut-in-Node16-3.ensures.value,
       c.delete_child-child-in-Node16.ensures.rest,
       c.deref_mut-in-Node16.ensures.value,
-    ) (width-given c.args.b 16 c.in-Node16.map.value few.0 few.1)
+    ) (capacity-given c.args.b 16 c.in-Node16.map.value few.0 few.1)
 
-pub returns-in_ok-next-in-Node48-clause-width : goal.returns-in_ok-next-in-Node48-clause-width
-returns-in_ok-next-in-Node48-clause-width g c =
+pub returns-in_ok-next-in-Node48-clause-capacity : goal.returns-in_ok-next-in-Node48-clause-capacity
+returns-in_ok-next-in-Node48-clause-capacity g c =
     let few = rw c.in-Node48.is at c.keeps_kind.ensures.gives_up c.if-keeps_kind.false in
     rw (
       c.replace_empty-in-Node48.ensures,
@@ -96,10 +97,10 @@ returns-in_ok-next-in-Node48-clause-width g c =
       c.deref_mut-in-Node48-3.ensures.value,
       c.delete_child-child-in-Node48.ensures.rest,
       c.deref_mut-in-Node48.ensures.value,
-    ) (width-given c.args.b 48 (ascending c.in-Node48.map.value) few.0 few.1)
+    ) (capacity-given c.args.b 48 (ascending c.in-Node48.map.value) few.0 few.1)
 
-pub returns-in_ok-next-in-Node256-clause-width : goal.returns-in_ok-next-in-Node256-clause-width
-returns-in_ok-next-in-Node256-clause-width g c =
+pub returns-in_ok-next-in-Node256-clause-capacity : goal.returns-in_ok-next-in-Node256-clause-capacity
+returns-in_ok-next-in-Node256-clause-capacity g c =
     let few = rw c.in-Node256.is at c.keeps_kind.ensures.gives_up c.if-keeps_kind.false in
     rw (
       c.replace_empty-in-Node256.ensures,
@@ -108,4 +109,4 @@ returns-in_ok-next-in-Node256-clause-width g c =
       c.deref_mut-in-Node256-3.ensures.value,
       c.delete_child-child-in-Node256.ensures.rest,
       c.deref_mut-in-Node256.ensures.value,
-    ) (width-given c.args.b 256 c.in-Node256.map.value few.0 few.1)
+    ) (capacity-given c.args.b 256 c.in-Node256.map.value few.0 few.1)

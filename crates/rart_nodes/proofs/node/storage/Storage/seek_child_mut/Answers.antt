@@ -1,6 +1,6 @@
 use Rattle.std.proofs.Common.{sym, ap, ◌∙◌, ◌≡◌, refl}
 use Rattle.rart_parts.specs.Entries.{child_at, replaced, ascending}
-use Rattle.rart_nodes.specs.storages.Stored.{stored}
+use Rattle.rart_nodes.specs.storages.Stored.{child_entries}
 use Rattle.rart_nodes.proofs.edits.Outcomes.{on_some_weaker}
 use Rattle.rart_nodes.proofs.node.storage.Storage.seek_child_mut.Goals as goal
 
@@ -18,7 +18,7 @@ returns-in-Node4 g c =
       record {
         writes_back = tt;
         value = c.seek_child_mut.ensures.value
-            ∙ ap (child_at c.args.b) (d ∙ sym (ap stored c.in-Node4.is));
+            ∙ ap (child_at c.args.b) (d ∙ sym (ap child_entries c.in-Node4.is));
       },
     )
 
@@ -36,7 +36,7 @@ returns-in-Node16 g c =
       record {
         writes_back = tt;
         value = c.seek_child_mut-in-Node16.ensures.value
-            ∙ ap (child_at c.args.b) (d ∙ sym (ap stored c.in-Node16.is));
+            ∙ ap (child_at c.args.b) (d ∙ sym (ap child_entries c.in-Node16.is));
       },
     )
 
@@ -54,7 +54,7 @@ returns-in-Node48 g c =
       record {
         writes_back = tt;
         value = c.seek_child_mut-in-Node48.ensures.value
-            ∙ ap (child_at c.args.b) (ap ascending d ∙ sym (ap stored c.in-Node48.is));
+            ∙ ap (child_at c.args.b) (ap ascending d ∙ sym (ap child_entries c.in-Node48.is));
       },
     )
 
@@ -72,6 +72,6 @@ returns-in-Node256 g c =
       record {
         writes_back = tt;
         value = c.seek_child_mut-in-Node256.ensures.value
-            ∙ ap (child_at c.args.b) (d ∙ sym (ap stored c.in-Node256.is));
+            ∙ ap (child_at c.args.b) (d ∙ sym (ap child_entries c.in-Node256.is));
       },
     )

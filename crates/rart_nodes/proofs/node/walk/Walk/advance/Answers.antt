@@ -1,15 +1,17 @@
-use Rattle.std.proofs.Common.{arith, sym, refl, ◌∙◌, ◌≤◌, vec_capacity}
+use Rattle.std.proofs.Common.{arith, sym, refl, ◌∙◌, reverse, vec_capacity}
 use Rattle.rart_nodes.proofs.ranges.PotentialLemmas.{potential-leave, potential-on, low-leave, low-on, paid-first}
 use Rattle.rart_nodes.proofs.ranges.PotentialLemmas.{paid-given}
-use Rattle.rart_nodes.proofs.walks.WalkLemmas.{leave, space, turn-either}
+use Rattle.rart_nodes.proofs.walks.WalkLemmas.{Turn, leave, space, turn-either}
 use Rattle.rart_nodes.proofs.walks.WalkVisits.{visit-one, visit-on, visit-none}
+use Rattle.rart_nodes.proofs.node.walk.Walk.advance.Given.{Over}
+use Rattle.rart_nodes.proofs.node.walk.Walk.advance.Goals.{After-extend_path}
 use Rattle.rart_nodes.proofs.node.walk.Walk.advance.Goals as goal
 
 pub returns-in-Some-clause-paid : goal.returns-in-Some-clause-paid
 returns-in-Some-clause-paid g c = paid-first _ _
 
-pub go_on-requires : goal.go_on-requires
-go_on-requires g c κs =
+pub extend_path-requires : goal.extend_path-requires
+extend_path-requires g c κs =
     let s = space _ _ _ _ c.in-Some-enter_deepest.at.node.now _ _ c.loop-self.invariant.path
     c.in-Some-enter_deepest.ensures.shown in (
       (refl, tt),
@@ -20,76 +22,65 @@ go_on-requires g c κs =
       ),
     )
 
+turned : (g : Over) (c : After-extend_path g) → Turn g.T.Keeps.grown c.loop-self.self.longest
+    (vec_capacity c.extend_path.new.levels) (g.T.Path.kept c.loop-self.path) (g.T.Path.kept c.extend_path.new.path)
+    (reverse c.loop-self.self.levels.items) (reverse c.extend_path.new.levels.items) c.in-Some-enter_deepest.at.node.now
+turned g c = turn-either _ _ _ _ _ _ _ c.in-Some-enter_deepest.at.node.now _ _ _ g.T.Keeps.short
+    c.loop-self.invariant.path c.in-Some-enter_deepest.ensures.shown c.extend_path.ensures.kept
+    c.extend_path.ensures.levels
+    (omega (arith, c.enter_deepest.ensures.capacity, c.extend_path.ensures.level_capacity))
+
 pub returns-in-Some-value-clause-path : goal.returns-in-Some-value-clause-path
-returns-in-Some-value-clause-path g c =
-    let cap : vec_capacity c.loop-self.self.levels ≤ vec_capacity c.go_on.new.levels
-    = omega (arith, c.enter_deepest.ensures.capacity, c.go_on.ensures.level_room) in
-    (turn-either _ _ _ _ _ _ _ c.in-Some-enter_deepest.at.node.now _ _ _ g.T.Keeps.short c.loop-self.invariant.path
-    c.in-Some-enter_deepest.ensures.shown c.go_on.ensures.kept c.go_on.ensures.levels cap).path
+returns-in-Some-value-clause-path g c
+    = (turned g (goal.at.returns-in-Some-value-clause-path g c).After-extend_path).path
 
 pub returns-in-Some-value-clause-entries : goal.returns-in-Some-value-clause-entries
 returns-in-Some-value-clause-entries g c =
-    let cap : vec_capacity c.loop-self.self.levels ≤ vec_capacity c.go_on.new.levels
-    = omega (arith, c.enter_deepest.ensures.capacity, c.go_on.ensures.level_room) in
-    let t = turn-either _ _ _ _ _ _ _ c.in-Some-enter_deepest.at.node.now _ _ _ g.T.Keeps.short
-    c.loop-self.invariant.path c.in-Some-enter_deepest.ensures.shown c.go_on.ensures.kept c.go_on.ensures.levels
-    cap in
+    let t = turned g (goal.at.returns-in-Some-value-clause-entries g c).After-extend_path in
     rw (c.loop-self.invariant.first) (sym c.loop-self.invariant.still ∙ t.still ∙ rw (← c.in-Some-value.ensures) refl)
 
 pub returns-in-Some-value-clause-visits : goal.returns-in-Some-value-clause-visits
 returns-in-Some-value-clause-visits g c =
-    let cap : vec_capacity c.loop-self.self.levels ≤ vec_capacity c.go_on.new.levels
-    = omega (arith, c.enter_deepest.ensures.capacity, c.go_on.ensures.level_room) in
-    let t = turn-either _ _ _ _ _ _ _ c.in-Some-enter_deepest.at.node.now _ _ _ g.T.Keeps.short
-    c.loop-self.invariant.path c.in-Some-enter_deepest.ensures.shown c.go_on.ensures.kept c.go_on.ensures.levels
-    cap in
+    let t = turned g (goal.at.returns-in-Some-value-clause-visits g c).After-extend_path in
     omega (arith, t.counted, c.loop-self.invariant.visits, c.in-Some-enter_deepest.ensures.counted)
 
 pub returns-in-Some-value-clause-few : goal.returns-in-Some-value-clause-few
 returns-in-Some-value-clause-few g c = λ bytes.
     visit-one g.T.Keeps.grown _ _ _ _ _ _ _ _ c.in-Some-enter_deepest.at.node.now _ _ bytes c.loop-self.invariant.path
-    (c.loop-self.invariant.few bytes) c.in-Some-enter_deepest.ensures.shown c.go_on.ensures.kept
+    (c.loop-self.invariant.few bytes) c.in-Some-enter_deepest.ensures.shown c.extend_path.ensures.kept
     c.in-Some-enter_deepest.ensures.counted
 
 pub returns-in-Some-value-clause-paid : goal.returns-in-Some-value-clause-paid
 returns-in-Some-value-clause-paid g c =
     paid-given _ _ _ _ _ c.in-Some-enter_deepest.at.node.now c.args.self.now.levels.items _ _ _
-    c.in-Some-enter_deepest.ensures.shown c.go_on.ensures.levels c.in-Some-enter_deepest.ensures.counted
+    c.in-Some-enter_deepest.ensures.shown c.extend_path.ensures.levels c.in-Some-enter_deepest.ensures.counted
     c.loop-self.invariant.potential c.loop-self.invariant.low
 
 pub loop-self-preserved : goal.loop-self-preserved
 loop-self-preserved g c =
-    let cap : vec_capacity c.loop-self.self.levels ≤ vec_capacity c.go_on.new.levels
-    = omega (arith, c.enter_deepest.ensures.capacity, c.go_on.ensures.level_room) in
-    let t = turn-either _ _ _ _ _ _ _ c.in-Some-enter_deepest.at.node.now _ _ _ g.T.Keeps.short
-    c.loop-self.invariant.path c.in-Some-enter_deepest.ensures.shown c.go_on.ensures.kept c.go_on.ensures.levels
-    cap in
+    let t = turned g (goal.at.loop-self-preserved g c).After-extend_path in
     record {
       first = c.loop-self.invariant.first;
       path = t.path;
-      room = omega (arith, c.loop-self.invariant.room, c.go_on.ensures.path_room);
-      requested = c.go_on.ensures.requested ∙ c.loop-self.invariant.requested;
+      room = omega (arith, c.loop-self.invariant.room, c.extend_path.ensures.path_capacity);
+      requested = c.extend_path.ensures.requested ∙ c.loop-self.invariant.requested;
       still = sym (t.still ∙ rw (← c.in_default-value.ensures) refl) ∙ c.loop-self.invariant.still;
       visits = omega (arith, t.counted, c.loop-self.invariant.visits, c.in-Some-enter_deepest.ensures.counted);
       longest = c.loop-self.invariant.longest;
       few = λ bytes. visit-on _ _ c.in-Some-enter_deepest.at.node.now _ _ _ c.in-Some-enter_deepest.at.canonical
-          c.in_default-value.ensures c.go_on.ensures.levels
+          c.in_default-value.ensures c.extend_path.ensures.levels
           (visit-one g.T.Keeps.grown _ _ _ _ _ _ _ _ c.in-Some-enter_deepest.at.node.now _ _ bytes
           c.loop-self.invariant.path (c.loop-self.invariant.few bytes) c.in-Some-enter_deepest.ensures.shown
-          c.go_on.ensures.kept c.in-Some-enter_deepest.ensures.counted);
+          c.extend_path.ensures.kept c.in-Some-enter_deepest.ensures.counted);
       potential = potential-on _ _ _ _ _ _ c.in-Some-enter_deepest.at.node.now _ _ _
           c.in-Some-enter_deepest.at.canonical c.in_default-value.ensures c.in-Some-enter_deepest.ensures.shown
-          c.go_on.ensures.levels c.in-Some-enter_deepest.ensures.counted c.loop-self.invariant.potential;
+          c.extend_path.ensures.levels c.in-Some-enter_deepest.ensures.counted c.loop-self.invariant.potential;
       low = λ h w. low-on h _ _ c.in-Some-enter_deepest.at.node.now _ _ _ c.in-Some-enter_deepest.ensures.shown
-          c.go_on.ensures.levels (c.loop-self.invariant.low h w);
+          c.extend_path.ensures.levels (c.loop-self.invariant.low h w);
     }
 
 pub loop-self-smaller : goal.loop-self-smaller
-loop-self-smaller g c =
-    let cap : vec_capacity c.loop-self.self.levels ≤ vec_capacity c.go_on.new.levels
-    = omega (arith, c.enter_deepest.ensures.capacity, c.go_on.ensures.level_room) in
-    (turn-either _ _ _ _ _ _ _ c.in-Some-enter_deepest.at.node.now _ _ _ g.T.Keeps.short c.loop-self.invariant.path
-    c.in-Some-enter_deepest.ensures.shown c.go_on.ensures.kept c.go_on.ensures.levels cap).falls
+loop-self-smaller g c = (turned g (goal.at.loop-self-smaller g c).After-extend_path).falls
 
 pub loop-self-preserved-in-None : goal.loop-self-preserved-in-None
 loop-self-preserved-in-None g c =

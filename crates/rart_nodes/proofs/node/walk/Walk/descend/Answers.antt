@@ -1,5 +1,5 @@
-use Rattle.std.proofs.Common.{◌≡◌, ◌<◌, ◌++◌, ◌∙◌, Some, None, Greater, arith, length, ap, sym, refl, option_map}
-use Rattle.std.proofs.Common.{reverse}
+use Rattle.std.proofs.Common.{◌≡◌, ◌≤◌, ◌<◌, ◌+◌, ◌++◌, ◌∙◌, Some, None, Greater, arith, length, ap, sym, refl}
+use Rattle.std.proofs.Common.{reverse, vec_capacity, vec_len}
 use Rattle.std.specs.Cmp.Lexicographic.{slice_cmp}
 use Rattle.std.specs.Ordering.{nat_cmp}
 use Rattle.std.specs.Option.{option_copied}
@@ -7,15 +7,17 @@ use Rattle.rart_keys.specs.ByteStrings.{strip_prefix}
 use Rattle.rart_keys.proofs.RangeLemmas.{lower-apart}
 use Rattle.rart_nodes.specs.tries.Trie.{prefix_of, value_of}
 use Rattle.rart_nodes.specs.walks.ProbeCount.{tree_entered}
-use Rattle.rart_nodes.specs.walks.Walk.{entries_below, tree_count}
+use Rattle.rart_nodes.specs.walks.Walk.{entries_below}
 use Rattle.rart_nodes.proofs.ranges.PotentialLemmas.{height-on, low-above, low-all, low-start}
 use Rattle.rart_nodes.proofs.ranges.StartLemmas.{ahead-ended, ahead-higher, ahead-lower, ahead-on, ahead-start}
 use Rattle.rart_nodes.proofs.ranges.StartLemmas.{value_if}
 use Rattle.rart_nodes.proofs.ranges.StartPaths.{all-deepened, some-deepened, path-on}
 use Rattle.rart_nodes.proofs.tries.CanonicalTests.{IsCanonical-test}
-use Rattle.rart_nodes.proofs.walks.SeenLemmas.{child-falls, step-left, step-on}
+use Rattle.rart_nodes.proofs.walks.SeenLemmas.{next-falls, step-left, step-on}
 use Rattle.rart_nodes.proofs.walks.WalkLemmas.{longest-below, prefix-short}
 use Rattle.rart_nodes.proofs.walks.WalkStarts.{no-walk}
+use Rattle.rart_nodes.proofs.node.walk.Walk.descend.Given.{Over}
+use Rattle.rart_nodes.proofs.node.walk.Walk.descend.Goals.{After-enter-at}
 use Rattle.rart_nodes.proofs.node.walk.Walk.descend.Goals as goal
 
 pub loop-next-init : goal.loop-next-init
@@ -38,29 +40,30 @@ loop-next-init g c = record {
   still = ahead-start g.T.Keeps.grown _ _ _ c.requires.nothing c.requires.empty_walk;
   visits = refl;
   longest = refl;
-  level_room = refl;
+  level_capacity = refl;
   low = low-start _ _ c.requires.empty_walk;
   height = omega (arith, ap length c.requires.empty_walk);
 }
 
-pub deepen-requires : goal.deepen-requires
-deepen-requires g c κs =
-    let t = c.enter-at.result.node.now in
-    let w = rw (c.in-Some.is, ← c.enter-at.ensures.shown) at c.loop-next.invariant.fits in (
-      (refl, tt),
-      (
-        omega (arith, w.0, prefix-short t c.enter-at.result.canonical, c.loop-next.invariant.room),
-        omega
-            (arith, w.1, c.loop-next.invariant.places, c.loop-next.self.levels.ok.0),
-      ),
+has-room : (g : Over) (c : After-enter-at g) → (length (g.T.Path.kept c.loop-next.path)
+    + length (prefix_of c.enter-at.result.node.now) ≤ g.T.Path.capacity c.loop-next.path)
+    × (vec_len c.loop-next.self.levels < vec_capacity c.loop-next.self.levels)
+has-room g c =
+    let w = rw (c.in-Some.is, ← c.enter-at.ensures.shown) at c.loop-next.invariant.fits in
+    let short = prefix-short c.enter-at.result.node.now c.enter-at.result.canonical in (
+      omega (arith, w.0, short, c.loop-next.invariant.room),
+      omega (arith, w.1, c.loop-next.invariant.places, c.loop-next.self.levels.ok.0),
     )
+
+pub deepen-requires : goal.deepen-requires
+deepen-requires g c κs = ((refl, tt), has-room g (goal.at.deepen-requires g c).After-enter-at)
 
 pub returns-in-Greater-clause-path : goal.returns-in-Greater-clause-path
 returns-in-Greater-clause-path g c =
     let w = rw (c.in-Some.is, ← c.enter-at.ensures.shown) at c.loop-next.invariant.fits in
     (all-deepened g.T.Keeps.grown _ _ _ _ _ c.enter-at.result.node.now _ _ _ g.T.Keeps.short c.enter-at.result.canonical
     c.loop-next.invariant.path c.loop-next.invariant.places w c.deepen.ensures.kept c.branches.ensures
-    c.deepen.ensures.levels c.deepen.ensures.level_room).path
+    c.deepen.ensures.levels c.deepen.ensures.level_capacity).path
 
 pub returns-in-Greater-clause-entries : goal.returns-in-Greater-clause-entries
 returns-in-Greater-clause-entries g c =
@@ -68,7 +71,7 @@ returns-in-Greater-clause-entries g c =
     let w = rw (c.in-Some.is, ← c.enter-at.ensures.shown) at c.loop-next.invariant.fits in
     let d = all-deepened g.T.Keeps.grown _ _ _ _ _ t _ _ _ g.T.Keeps.short c.enter-at.result.canonical
     c.loop-next.invariant.path c.loop-next.invariant.places w c.deepen.ensures.kept c.branches.ensures
-    c.deepen.ensures.levels c.deepen.ensures.level_room in
+    c.deepen.ensures.levels c.deepen.ensures.level_capacity in
     let e : None ≡ strip_prefix (prefix_of t) c.loop-next.rest.now
     = rw c.prefix.ensures at c.in_default-strip_prefix.ensures in
     let past : slice_cmp nat_cmp (prefix_of t) c.loop-next.rest.now ≡ Greater
@@ -110,21 +113,13 @@ returns-in_default-cmp g c =
         rw (c.in-Some.is, ← c.enter-at.ensures.shown) at c.loop-next.invariant.visits,
       );
       longest = c.loop-next.invariant.longest;
-      places = c.loop-next.invariant.level_room;
+      places = c.loop-next.invariant.level_capacity;
       low = c.loop-next.invariant.low;
     }
 
 pub deepen-requires-in_default-first : goal.deepen-requires-in_default-first
-deepen-requires-in_default-first g c κs =
-    let t = c.enter-at.result.node.now in
-    let w = rw (c.in-Some.is, ← c.enter-at.ensures.shown) at c.loop-next.invariant.fits in (
-      (refl, tt),
-      (
-        omega (arith, w.0, prefix-short t c.enter-at.result.canonical, c.loop-next.invariant.room),
-        omega
-            (arith, w.1, c.loop-next.invariant.places, c.loop-next.self.levels.ok.0),
-      ),
-    )
+deepen-requires-in_default-first g c κs
+    = ((refl, tt), has-room g (goal.at.deepen-requires-in_default-first g c).After-enter-at)
 
 pub returns-then-included-clause-path : goal.returns-then-included-clause-path
 returns-then-included-clause-path g c =
@@ -132,7 +127,7 @@ returns-then-included-clause-path g c =
     (all-deepened g.T.Keeps.grown _ _ _ _ _ c.enter-at.result.node.now _ _ _ g.T.Keeps.short c.enter-at.result.canonical
     c.loop-next.invariant.path c.loop-next.invariant.places w c.deepen-in_default-first.ensures.kept
     c.branches-in_default-first.ensures c.deepen-in_default-first.ensures.levels
-    c.deepen-in_default-first.ensures.level_room).path
+    c.deepen-in_default-first.ensures.level_capacity).path
 
 pub returns-then-included-clause-entries : goal.returns-then-included-clause-entries
 returns-then-included-clause-entries g c =
@@ -142,7 +137,7 @@ returns-then-included-clause-entries g c =
     let d = all-deepened g.T.Keeps.grown _ _ _ _ _ t _ _ _ g.T.Keeps.short c.enter-at.result.canonical
     c.loop-next.invariant.path c.loop-next.invariant.places w c.deepen-in_default-first.ensures.kept
     c.branches-in_default-first.ensures c.deepen-in_default-first.ensures.levels
-    c.deepen-in_default-first.ensures.level_room in
+    c.deepen-in_default-first.ensures.level_capacity in
     let e : Some c.in-Some-strip_prefix.after.now ≡ strip_prefix (prefix_of t) c.loop-next.rest.now
     = rw c.prefix.ensures at c.in-Some-strip_prefix.ensures in
     ap (λ h. value_if h k1 (option_copied c.value-self-then-included.result) ++ entries_below g.T.Keeps.grown k1
@@ -166,7 +161,7 @@ returns-else-included-clause-path g c =
     (all-deepened g.T.Keeps.grown _ _ _ _ _ c.enter-at.result.node.now _ _ _ g.T.Keeps.short c.enter-at.result.canonical
     c.loop-next.invariant.path c.loop-next.invariant.places w c.deepen-in_default-first.ensures.kept
     c.branches-in_default-first.ensures c.deepen-in_default-first.ensures.levels
-    c.deepen-in_default-first.ensures.level_room).path
+    c.deepen-in_default-first.ensures.level_capacity).path
 
 pub returns-else-included-clause-entries : goal.returns-else-included-clause-entries
 returns-else-included-clause-entries g c =
@@ -176,7 +171,7 @@ returns-else-included-clause-entries g c =
     let d = all-deepened g.T.Keeps.grown _ _ _ _ _ t _ _ _ g.T.Keeps.short c.enter-at.result.canonical
     c.loop-next.invariant.path c.loop-next.invariant.places w c.deepen-in_default-first.ensures.kept
     c.branches-in_default-first.ensures c.deepen-in_default-first.ensures.levels
-    c.deepen-in_default-first.ensures.level_room in
+    c.deepen-in_default-first.ensures.level_capacity in
     let e : Some c.in-Some-strip_prefix.after.now ≡ strip_prefix (prefix_of t) c.loop-next.rest.now
     = rw c.prefix.ensures at c.in-Some-strip_prefix.ensures in
     rw c.loop-next.invariant.first (ap (λ h. value_if h k1 (value_of t)
@@ -195,24 +190,10 @@ returns-else-included-clause-low g c =
     c.branches-in_default-first.ensures c.deepen-in_default-first.ensures.levels
 
 pub deepen-requires-in-Some : goal.deepen-requires-in-Some
-deepen-requires-in-Some g c κs =
-    let t = c.enter-at.result.node.now in
-    let w = rw (c.in-Some.is, ← c.enter-at.ensures.shown) at c.loop-next.invariant.fits in (
-      (refl, tt),
-      (
-        omega (arith, w.0, prefix-short t c.enter-at.result.canonical, c.loop-next.invariant.room),
-        omega
-            (arith, w.1, c.loop-next.invariant.places, c.loop-next.self.levels.ok.0),
-      ),
-    )
+deepen-requires-in-Some g c κs = ((refl, tt), has-room g (goal.at.deepen-requires-in-Some g c).After-enter-at)
 
 pub loop-next-smaller : goal.loop-next-smaller
-loop-next-smaller g c =
-    let h : tree_count (option_map (λ s. s.node.now) c.child-next.result)
-    < tree_count (option_map (λ s. s.node.now) c.loop-next.next)
-    = rw (c.in-Some.is, c.child-next.ensures, c.enter-at.ensures.shown)
-    (child-falls c.in-Some-first.byte.now c.in-Some.node.node.now _ refl) in
-    h
+loop-next-smaller g c = next-falls _ _ _ _ _ _ c.in-Some.is c.enter-at.ensures.shown c.child-next.ensures
 
 pub loop-next-preserved : goal.loop-next-preserved
 loop-next-preserved g c =
@@ -224,17 +205,18 @@ loop-next-preserved g c =
     let d = some-deepened g.T.Keeps.grown _ _ _ c.in-Some-first.byte.now _ _ t _ _ _ g.T.Keeps.short
     c.enter-at.result.canonical c.loop-next.invariant.path c.loop-next.invariant.places w
     c.deepen-in-Some.ensures.kept c.branches_above.ensures c.deepen-in-Some.ensures.levels
-    c.deepen-in-Some.ensures.level_room in
+    c.deepen-in-Some.ensures.level_capacity in
     let h = step-on t c.loop-next.rest.now c.in-Some-strip_prefix.after.now c.in-Some-first.byte.now
     c.enter-at.result.canonical e c.in-Some-first.ensures.value in
     record {
       first = c.loop-next.invariant.first;
       path = d.path;
-      fits = path-on g.T.Keeps.grown _ c.in-Some-first.byte.now k _ t _ _ _ _ g.T.Keeps.short c.enter-at.result.canonical
-          w c.deepen-in-Some.ensures.kept c.deepen-in-Some.ensures.levels c.child-next.ensures;
-      room = omega (arith, c.loop-next.invariant.room, c.deepen-in-Some.ensures.path_room);
+      fits = path-on g.T.Keeps.grown _ c.in-Some-first.byte.now k _ t _ _ _ _ g.T.Keeps.short
+          c.enter-at.result.canonical w c.deepen-in-Some.ensures.kept c.deepen-in-Some.ensures.levels
+          c.child-next.ensures;
+      room = omega (arith, c.loop-next.invariant.room, c.deepen-in-Some.ensures.path_capacity);
       requested = c.deepen-in-Some.ensures.requested ∙ c.loop-next.invariant.requested;
-      places = omega (arith, c.loop-next.invariant.places, c.deepen-in-Some.ensures.level_room);
+      places = omega (arith, c.loop-next.invariant.places, c.deepen-in-Some.ensures.level_capacity);
       still = ahead-on g.T.Keeps.grown c.args.included k (g.T.Path.kept c.deepen-in-Some.new.path) c.loop-next.rest.now
           c.in-Some-strip_prefix.after.now c.in-Some-first.byte.now t _ _ _ _ _ c.requires.joins
           c.enter-at.result.canonical e c.in-Some-first.ensures.value
@@ -248,7 +230,7 @@ loop-next-preserved g c =
         rw (c.in-Some.is, ← c.enter-at.ensures.shown) at c.loop-next.invariant.visits,
       );
       longest = c.loop-next.invariant.longest;
-      level_room = c.deepen-in-Some.ensures.level_room ∙ c.loop-next.invariant.level_room;
+      level_capacity = c.deepen-in-Some.ensures.level_capacity ∙ c.loop-next.invariant.level_capacity;
       low = low-above _ _ c.in-Some-first.byte.now t _ _ _ c.loop-next.invariant.low
           (rw (c.in-Some.is, ← c.enter-at.ensures.shown) at c.loop-next.invariant.height) c.branches_above.ensures
           c.deepen-in-Some.ensures.levels;

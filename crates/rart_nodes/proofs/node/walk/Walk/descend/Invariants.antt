@@ -12,8 +12,9 @@ abbrev pub invariant-loop-next : goal.invariant-loop-next
 invariant-loop-next g l = record {
   first : l.self.first ≡ None;
   path : IsWalk l.self.longest (vec_capacity l.self.levels) (g.T.Path.kept l.path) (reverse l.self.levels.items);
-  fits : HasPathRoom l.self.longest (g.T.Path.kept l.path) (length l.self.levels.items) (option_map (λ s. s.node.now) l.next);
-  room : l.self.longest ≤ g.T.Path.room l.path;
+  fits : HasPathRoom l.self.longest (g.T.Path.kept l.path) (length l.self.levels.items)
+      (option_map (λ s. s.node.now) l.next);
+  room : l.self.longest ≤ g.T.Path.capacity l.path;
   requested : g.T.Path.requested l.path ≡ g.T.Path.requested l.fn.path;
   places : l.self.longest < vec_capacity l.self.levels;
   still : segments_after (g.T.Path.kept l.path)
@@ -23,7 +24,7 @@ invariant-loop-next g l = record {
   visits : g.C.Count.number l.counter + tree_entered l.rest (option_map (λ s. s.node.now) l.next)
       ≡ g.C.Count.number l.fn.counter + entered_nodes l.fn.start l.fn.top.node.now;
   longest : l.self.longest ≡ l.fn.self.longest;
-  level_room : vec_capacity l.self.levels ≡ vec_capacity l.fn.self.levels;
+  level_capacity : vec_capacity l.self.levels ≡ vec_capacity l.fn.self.levels;
   low : AreLow (trie_height l.fn.top.node.now) (reverse l.self.levels.items);
   height : HasHeight (trie_height l.fn.top.node.now) (length l.self.levels.items) (option_map (λ s. s.node.now) l.next);
 }

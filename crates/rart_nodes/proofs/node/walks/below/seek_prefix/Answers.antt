@@ -1,13 +1,12 @@
-use Rattle.std.proofs.Common.{◌≡◌, ◌<◌, ◌++◌, arith, length, length-append, nat_eq, refl, sym, ◌∙◌, ap, true, false}
+use Rattle.std.proofs.Common.{◌≡◌, ◌++◌, arith, length, length-append, nat_eq, refl, sym, ◌∙◌, ap, true, false}
 use Rattle.std.proofs.Common.{Some, None, option_map}
 use Rattle.std.specs.List.{starts_with}
 use Rattle.rart_keys.specs.ByteStrings.{strip_prefix, begins}
 use Rattle.rart_nodes.specs.tries.Trie.{prefix_of}
 use Rattle.rart_nodes.specs.walks.Part.{tree_part}
 use Rattle.rart_nodes.specs.walks.ProbeCount.{tree_entered}
-use Rattle.rart_nodes.specs.walks.Walk.{tree_count}
 use Rattle.rart_nodes.proofs.walks.PartLemmas.{child-deep, part-on, part-out, part-within, starts_with-begins}
-use Rattle.rart_nodes.proofs.walks.SeenLemmas.{child-falls, step-on}
+use Rattle.rart_nodes.proofs.walks.SeenLemmas.{next-falls, step-on}
 use Rattle.rart_nodes.proofs.walks.WalkLemmas.{prefix-short}
 use Rattle.rart_nodes.proofs.node.walks.below.seek_prefix.Goals as goal
 
@@ -50,12 +49,7 @@ grow-requires g c κs = (
 )
 
 pub loop-next-smaller : goal.loop-next-smaller
-loop-next-smaller g c =
-    let h : tree_count (option_map (λ s. s.node.now) c.child-next.result)
-    < tree_count (option_map (λ s. s.node.now) c.loop-next.next)
-    = rw (c.in-Some.is, c.child-next.ensures, c.enter-at.ensures.shown)
-    (child-falls c.in-Some-first.byte.now c.in-Some.node.node.now _ refl) in
-    h
+loop-next-smaller g c = next-falls _ _ _ _ _ _ c.in-Some.is c.enter-at.ensures.shown c.child-next.ensures
 
 pub loop-next-preserved : goal.loop-next-preserved
 loop-next-preserved g c =
@@ -75,7 +69,7 @@ loop-next-preserved g c =
         g.T.Keeps.short (g.P.Partial.bytes c.prefix-in-Some.result.now),
         ap length c.prefix-in-Some.ensures,
       );
-      room = omega (arith, c.loop-next.invariant.room, c.grow.ensures.room);
+      room = omega (arith, c.loop-next.invariant.room, c.grow.ensures.capacity);
       requested = c.grow.ensures.requested ∙ c.loop-next.invariant.requested;
       still = ap (λ z. tree_part g.T.Keeps.grown z c.in-Some-strip_prefix.after.now
           (option_map (λ s. s.node.now) c.child-next.result)) (c.grow.ensures.kept

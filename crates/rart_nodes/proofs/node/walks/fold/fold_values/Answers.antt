@@ -1,9 +1,7 @@
-use Rattle.std.proofs.Common.{arith, rules, of_calls, ◌≡◌, [], ◌∷◌, List, sym, ap, subst, refl}
+use Rattle.std.proofs.Common.{arith, rules, of_calls, List, sym, ap, subst, refl}
 use Rattle.std.specs.List.{FoldsTo}
-use Rattle.std.specs.Option.{option_copied}
 use Rattle.rart_nodes.specs.walks.Shown.{Folded}
-use Rattle.rart_nodes.specs.walks.Walk.{entry_values, entries_ahead}
-use Rattle.rart_nodes.specs.walks.PathParts.{no_segment}
+use Rattle.rart_nodes.specs.walks.Walk.{entry_values}
 use Rattle.rart_nodes.proofs.walks.CallLemmas.{always-after-folds, can-first, can-rest}
 use Rattle.rart_nodes.proofs.node.walks.fold.fold_values.Goals as goal
 
@@ -14,10 +12,7 @@ f-state-requires g c = can-first _ _ _ _ _ _ (ap entry_values c.in-Some.ensures.
 
 pub loop-value-preserved : goal.loop-value-preserved
 loop-value-preserved g c =
-    let more = entry_values (entries_ahead no_segment [] (option_copied c.advance.new.self.first)
-    c.advance.new.self.levels.items) in
-    let e : entry_values (entries_ahead no_segment [] (option_copied c.loop-value.walk.first)
-    c.loop-value.walk.levels.items) ≡ c.in-Some.value.now ∷ more = ap entry_values c.in-Some.ensures.entries in
+    let e = ap entry_values c.in-Some.ensures.entries in
     let v : Folded g.F.FnMut (c.loop-value.f, c.loop-value.state) c.in-Some.value.now
     (c.f-state.new.self, c.f-state.result) = record {
       shown = c.in-Some.value;
@@ -37,8 +32,7 @@ loop-value-preserved g c =
 
 pub returns-clause-callable : goal.returns-clause-callable
 returns-clause-callable g c =
-    let e : entry_values (entries_ahead no_segment [] (option_copied c.loop-value.walk.first)
-    c.loop-value.walk.levels.items) ≡ [] = ap entry_values c.in_default.ensures.entries.0 in
+    let e = ap entry_values c.in_default.ensures.entries.0 in
     always-after-folds g.F.FnMut _ _ _ _ _ (c.loop-value.invariant.folds (c.loop-value.f, c.loop-value.state)
     (subst (λ (x : List g.row.V.Denot). FoldsTo (λ p x q. Folded g.F.FnMut p x q)
     (c.loop-value.f, c.loop-value.state) x (c.loop-value.f, c.loop-value.state)) (sym e) refl))

@@ -1,7 +1,6 @@
-use Rattle.std.proofs.Common.{arith, rules, of_calls, ◌≡◌, [], ◌∷◌, List, sym, ap, subst, refl, ◌∙◌}
-use Rattle.std.specs.Option.{option_copied}
-use Rattle.rart_nodes.specs.walks.Walk.{SegmentList, entries_ahead}
-use Rattle.rart_nodes.specs.walks.PathParts.{lent_segments, one_segment}
+use Rattle.std.proofs.Common.{arith, rules, of_calls, List, sym, ap, subst, refl, ◌∙◌}
+use Rattle.rart_nodes.specs.walks.Walk.{SegmentList}
+use Rattle.rart_nodes.specs.walks.PathParts.{lent_segments}
 use Rattle.rart_nodes.specs.walks.ViewSegments.{AreViews}
 use Rattle.rart_nodes.specs.walks.Viewed.{Viewed, ViewsEach}
 use Rattle.rart_nodes.proofs.walks.CallLemmas.{always-after-views, can-first, can-rest}
@@ -13,11 +12,7 @@ f-requires g c = can-first _ _ _ _ _ _ c.in-Some.ensures.entries c.loop-value.in
 
 pub loop-value-preserved : goal.loop-value-preserved
 loop-value-preserved g c =
-    let more = entries_ahead one_segment (lent_segments c.advance.new.path.segments.items)
-    (option_copied c.advance.new.self.first) c.advance.new.self.levels.items in
-    let e : entries_ahead one_segment (lent_segments c.loop-value.path.segments.items)
-    (option_copied c.loop-value.walk.first) c.loop-value.walk.levels.items
-    ≡ (lent_segments c.advance.new.path.segments.items, c.in-Some.value.now) ∷ more = c.in-Some.ensures.entries in
+    let e = c.in-Some.ensures.entries in
     let v : Viewed g.F.FnMut c.loop-value.f (lent_segments c.advance.new.path.segments.items, c.in-Some.value.now)
     c.f.new.self = record {
       key = c.of.result;
@@ -27,13 +22,11 @@ loop-value-preserved g c =
       shows = refl;
       called = search (rules, of_calls);
     } in
-    let w : AreViews ((lent_segments c.advance.new.path.segments.items, c.in-Some.value.now) ∷ more)
-    = subst AreViews e c.loop-value.invariant.views in
     record {
       callable = can-rest _ _ _ _ _ _ _ e v c.loop-value.invariant.callable;
       path = c.in-Some.ensures.path;
       room = c.in-Some.ensures.room;
-      views = w.2;
+      views = (subst AreViews e c.loop-value.invariant.views).2;
       folds = λ last h. c.loop-value.invariant.folds last
           (subst (λ (x : List (SegmentList × g.row.V.Denot)). ViewsEach g.F.FnMut c.loop-value.f x last) (sym e)
           (c.f.new.self, v, h));
@@ -42,8 +35,7 @@ loop-value-preserved g c =
 
 pub returns-clause-callable : goal.returns-clause-callable
 returns-clause-callable g c =
-    let e : entries_ahead one_segment (lent_segments c.loop-value.path.segments.items)
-    (option_copied c.loop-value.walk.first) c.loop-value.walk.levels.items ≡ [] = c.in_default.ensures.entries.0 in
+    let e = c.in_default.ensures.entries.0 in
     always-after-views g.F.FnMut _ _ _ (c.loop-value.invariant.folds c.loop-value.f
     (subst (λ (x : List (SegmentList × g.row.V.Denot)). ViewsEach g.F.FnMut c.loop-value.f x c.loop-value.f) (sym e)
     refl))

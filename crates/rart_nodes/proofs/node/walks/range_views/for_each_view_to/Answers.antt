@@ -8,53 +8,31 @@ use Rattle.rart_nodes.specs.walks.ViewSegments.{AreViews}
 use Rattle.rart_nodes.specs.walks.Viewed.{Viewed, ViewsEach}
 use Rattle.rart_nodes.proofs.ranges.RangeCuts.{stop-past, stop-within}
 use Rattle.rart_nodes.proofs.walks.CallLemmas.{always-after-views, can-first, can-rest}
+use Rattle.rart_nodes.proofs.node.walks.range_views.for_each_view_to.Given.{Over}
+use Rattle.rart_nodes.proofs.node.walks.range_views.for_each_view_to.Goals.{Else-not-is_within, Then-not-is_within}
 use Rattle.rart_nodes.proofs.node.walks.range_views.for_each_view_to.Goals as goal
 
-pub returns-then-not-is_within-clause-visits : goal.returns-then-not-is_within-clause-visits
-returns-then-not-is_within-clause-visits g c =
-    let b = bound_in g.K.KeyTrait.bytes c.args.end.now in
-    let k = lent_segments c.advance.new.path.segments.items in
-    let before = entries_ahead one_segment (lent_segments c.loop-value.path.segments.items)
-    (option_copied c.loop-value.walk.first) c.loop-value.walk.levels.items in
-    let more = entries_ahead one_segment k (option_copied c.advance.new.self.first) c.advance.new.self.levels.items in
-    let past : entries_to b before ≡ [] = stop-past b k (lent_segments c.of-view.result.segments.now)
-    c.in-Some.value.now before more c.in-Some.ensures.entries (c.of-view.ensures
-    ∙ ap lent_segments c.segments.ensures) (sym c.is_within.ensures ∙ c.if-not-is_within.true) in
-    λ h w. omega (
-      arith,
-      c.loop-value.invariant.visits,
-      ap length past,
-      c.in-Some.ensures.paid.last h
-          (c.loop-value.invariant.low h w),
-    )
+-- the first key past the end
+past : (g : Over) (c : Then-not-is_within g) → entries_to (bound_in g.K.KeyTrait.bytes c.args.end.now)
+    (entries_ahead one_segment (lent_segments c.loop-value.path.segments.items)
+    (option_copied c.loop-value.walk.first) c.loop-value.walk.levels.items) ≡ []
+past g c = stop-past _ _ _ _ _ _ c.in-Some.ensures.entries (c.of-view.ensures ∙ ap lent_segments c.segments.ensures)
+    (sym c.is_within.ensures ∙ c.if-not-is_within.true)
 
-pub f-requires : goal.f-requires
-f-requires g c =
-    let b = bound_in g.K.KeyTrait.bytes c.args.end.now in
-    let k = lent_segments c.advance.new.path.segments.items in
-    let before = entries_ahead one_segment (lent_segments c.loop-value.path.segments.items)
-    (option_copied c.loop-value.walk.first) c.loop-value.walk.levels.items in
-    let more = entries_ahead one_segment k (option_copied c.advance.new.self.first) c.advance.new.self.levels.items in
-    let same : lent_segments c.of-view.result.segments.now ≡ k = c.of-view.ensures
-    ∙ ap lent_segments c.segments.ensures in
-    let on : entries_to b before ≡ (k, c.in-Some.value.now) ∷ entries_to b more
-    = stop-within b k (lent_segments c.of-view.result.segments.now) c.in-Some.value.now before more
-    c.in-Some.ensures.entries same (sym c.is_within.ensures ∙ c.if-not-is_within.false) in
-    can-first _ _ _ _ _ _ on c.loop-value.invariant.callable _ _ same refl
+pub returns-then-not-is_within-clause-visits : goal.returns-then-not-is_within-clause-visits
+returns-then-not-is_within-clause-visits g c = λ h w. omega (
+  arith,
+  c.loop-value.invariant.visits,
+  ap length (past g (goal.at.returns-then-not-is_within-clause-visits g c).Then-not-is_within),
+  c.in-Some.ensures.paid.last h (c.loop-value.invariant.low h w),
+)
 
 pub returns-then-not-is_within-clause-callable : goal.returns-then-not-is_within-clause-callable
 returns-then-not-is_within-clause-callable g c =
-    let b = bound_in g.K.KeyTrait.bytes c.args.end.now in
-    let k = lent_segments c.advance.new.path.segments.items in
-    let before = entries_ahead one_segment (lent_segments c.loop-value.path.segments.items)
-    (option_copied c.loop-value.walk.first) c.loop-value.walk.levels.items in
-    let more = entries_ahead one_segment k (option_copied c.advance.new.self.first) c.advance.new.self.levels.items in
-    let past : entries_to b before ≡ [] = stop-past b k (lent_segments c.of-view.result.segments.now)
-    c.in-Some.value.now before more c.in-Some.ensures.entries (c.of-view.ensures
-    ∙ ap lent_segments c.segments.ensures) (sym c.is_within.ensures ∙ c.if-not-is_within.true) in
+    let over = past g (goal.at.returns-then-not-is_within-clause-callable g c).Then-not-is_within in
     always-after-views g.F.FnMut _ _ _ (c.loop-value.invariant.folds c.loop-value.f
     (subst (λ (x : List (SegmentList × g.row.V.Denot)). ViewsEach g.F.FnMut c.loop-value.f x c.loop-value.f)
-    (sym past) refl))
+    (sym over) refl))
 
 pub returns-clause-callable : goal.returns-clause-callable
 returns-clause-callable g c =
@@ -66,34 +44,37 @@ returns-clause-callable g c =
     (subst (λ (x : List (SegmentList × g.row.V.Denot)). ViewsEach g.F.FnMut c.loop-value.f x c.loop-value.f)
     (sym past) refl))
 
+-- a key within it
+within : (g : Over) (c : Else-not-is_within g) → entries_to (bound_in g.K.KeyTrait.bytes c.args.end.now)
+    (entries_ahead one_segment (lent_segments c.loop-value.path.segments.items)
+    (option_copied c.loop-value.walk.first) c.loop-value.walk.levels.items)
+    ≡ (lent_segments c.advance.new.path.segments.items, c.in-Some.value.now)
+    ∷ entries_to (bound_in g.K.KeyTrait.bytes c.args.end.now)
+    (entries_ahead one_segment (lent_segments c.advance.new.path.segments.items)
+    (option_copied c.advance.new.self.first) c.advance.new.self.levels.items)
+within g c = stop-within _ _ _ _ _ _ c.in-Some.ensures.entries (c.of-view.ensures
+    ∙ ap lent_segments c.segments.ensures) (sym c.is_within.ensures ∙ c.if-not-is_within.false)
+
+pub f-requires : goal.f-requires
+f-requires g c = can-first _ _ _ _ _ _ (within g (goal.at.f-requires g c).Else-not-is_within)
+    c.loop-value.invariant.callable _ _ (c.of-view.ensures ∙ ap lent_segments c.segments.ensures) refl
+
 pub loop-value-preserved : goal.loop-value-preserved
 loop-value-preserved g c =
-    let b = bound_in g.K.KeyTrait.bytes c.args.end.now in
-    let k = lent_segments c.advance.new.path.segments.items in
-    let before = entries_ahead one_segment (lent_segments c.loop-value.path.segments.items)
-    (option_copied c.loop-value.walk.first) c.loop-value.walk.levels.items in
-    let more = entries_ahead one_segment k (option_copied c.advance.new.self.first) c.advance.new.self.levels.items in
-    let e : before ≡ (k, c.in-Some.value.now) ∷ more = c.in-Some.ensures.entries in
-    let same : lent_segments c.of-view.result.segments.now ≡ k = c.of-view.ensures
-    ∙ ap lent_segments c.segments.ensures in
-    let on : entries_to b before ≡ (k, c.in-Some.value.now) ∷ entries_to b more
-    = stop-within b k (lent_segments c.of-view.result.segments.now) c.in-Some.value.now before more e same
-    (sym c.is_within.ensures ∙ c.if-not-is_within.false) in
-    let v : Viewed g.F.FnMut c.loop-value.f (k, c.in-Some.value.now) c.f.new.self
-    = record {
+    let on = within g (goal.at.loop-value-preserved g c).Else-not-is_within in
+    let v : Viewed g.F.FnMut c.loop-value.f (lent_segments c.advance.new.path.segments.items, c.in-Some.value.now)
+    c.f.new.self = record {
       key = c.of-view.result;
       shown = c.in-Some.value;
-      key_is = same;
+      key_is = c.of-view.ensures ∙ ap lent_segments c.segments.ensures;
       shows = refl;
-      called
-          = search (rules, of_calls);
+      called = search (rules, of_calls);
     } in
-    let w : AreViews ((k, c.in-Some.value.now) ∷ more) = subst AreViews e c.loop-value.invariant.views in
     record {
       callable = can-rest _ _ _ _ _ _ _ on v c.loop-value.invariant.callable;
       path = c.in-Some.ensures.path;
       room = c.in-Some.ensures.room;
-      views = w.2;
+      views = (subst AreViews c.in-Some.ensures.entries c.loop-value.invariant.views).2;
       folds = λ last h. c.loop-value.invariant.folds last
           (subst (λ (x : List (SegmentList × g.row.V.Denot)). ViewsEach g.F.FnMut c.loop-value.f x last) (sym on)
           (c.f.new.self, v, h));

@@ -1,9 +1,7 @@
-use Rattle.std.proofs.Common.{arith, rules, of_calls, ◌≡◌, [], ◌∷◌, List, sym, ap, subst, refl, Ok, Err}
+use Rattle.std.proofs.Common.{arith, rules, of_calls, ◌≡◌, List, sym, ap, subst, refl, Ok, Err}
 use Rattle.std.specs.Fn.{CalledAt}
 use Rattle.rart_nodes.specs.declared.node.walks.control.VisitControl.TheVariants.{Continue}
-use Rattle.std.specs.Option.{option_copied}
-use Rattle.rart_nodes.specs.walks.Walk.{SegmentList, entry_values, entries_ahead}
-use Rattle.rart_nodes.specs.walks.PathParts.{no_segment}
+use Rattle.rart_nodes.specs.walks.Walk.{SegmentList, entry_values}
 use Rattle.rart_nodes.specs.walks.Tried.{EndsAs}
 use Rattle.rart_nodes.proofs.walks.CallLemmas.{always-after-tries, can-first, can-rest}
 use Rattle.rart_nodes.proofs.node.walks.try_for_each.try_for_each.Goals as goal
@@ -14,9 +12,7 @@ f-requires g c = can-first _ _ _ _ _ _ (ap entry_values c.in-Some.ensures.entrie
 
 pub loop-value-preserved : goal.loop-value-preserved
 loop-value-preserved g c =
-    let e : entries_ahead no_segment [] (option_copied c.loop-value.walk.first) c.loop-value.walk.levels.items
-    ≡ ([], c.in-Some.value.now) ∷ entries_ahead no_segment [] (option_copied c.advance.new.self.first)
-    c.advance.new.self.levels.items = c.in-Some.ensures.entries in
+    let e = c.in-Some.ensures.entries in
     let on : c.f.result ≡ Ok Continue = rw (c.in-Ok-Continue.is, c.in-Ok-Continue.field-0-is) refl in
     let v : CalledAt g.F.FnMut c.loop-value.f c.in-Some.value.now (Ok Continue) c.f.new.self
     = record { shown = c.in-Some.value; shows = refl; called = rw (← on) (search (rules, of_calls)) } in
@@ -41,9 +37,7 @@ loop-value-preserved g c =
 
 pub returns-in-Ok-Stop-clause-calls : goal.returns-in-Ok-Stop-clause-calls
 returns-in-Ok-Stop-clause-calls g c =
-    let e : entries_ahead no_segment [] (option_copied c.loop-value.walk.first) c.loop-value.walk.levels.items
-    ≡ ([], c.in-Some.value.now) ∷ entries_ahead no_segment [] (option_copied c.advance.new.self.first)
-    c.advance.new.self.levels.items = c.in-Some.ensures.entries in
+    let e = c.in-Some.ensures.entries in
     c.loop-value.invariant.ends _ _ (subst (λ (x : List (SegmentList × g.row.V.Denot)). EndsAs g.F.FnMut c.loop-value.f
     (entry_values x) (Ok tt) c.f.new.self) (sym e) (
       c.in-Some.value,
@@ -58,9 +52,7 @@ returns-in-Ok-Stop-clause-calls g c =
 
 pub returns-in-Err-clause-calls : goal.returns-in-Err-clause-calls
 returns-in-Err-clause-calls g c =
-    let e : entries_ahead no_segment [] (option_copied c.loop-value.walk.first) c.loop-value.walk.levels.items
-    ≡ ([], c.in-Some.value.now) ∷ entries_ahead no_segment [] (option_copied c.advance.new.self.first)
-    c.advance.new.self.levels.items = c.in-Some.ensures.entries in
+    let e = c.in-Some.ensures.entries in
     c.loop-value.invariant.ends _ _ (subst (λ (x : List (SegmentList × g.row.V.Denot)). EndsAs g.F.FnMut c.loop-value.f
     (entry_values x) (Err c.in-Err.error) c.f.new.self) (sym e)
     (c.in-Some.value, (c.f.result, (c.f.new.self, (refl, (search (rules, of_calls), rw c.in-Err.is (refl, refl)))))))
@@ -73,8 +65,7 @@ returns-in-Err-clause-callable g c = always-after-tries g.F.FnMut _ _ _ _ (retur
 
 pub returns-clause-calls : goal.returns-clause-calls
 returns-clause-calls g c =
-    let e : entry_values (entries_ahead no_segment [] (option_copied c.loop-value.walk.first)
-    c.loop-value.walk.levels.items) ≡ [] = ap entry_values c.in_default.ensures.entries.0 in
+    let e = ap entry_values c.in_default.ensures.entries.0 in
     c.loop-value.invariant.ends _ _ (subst (λ (x : List g.row.V.Denot). EndsAs g.F.FnMut c.loop-value.f x (Ok tt)
     c.loop-value.f) (sym e) (refl, refl))
 

@@ -1,8 +1,6 @@
-use Rattle.std.proofs.Common.{arith, rules, of_calls, ◌≡◌, [], ◌∷◌, List, sym, ap, subst, refl}
-use Rattle.std.specs.Option.{option_copied}
+use Rattle.std.proofs.Common.{arith, rules, of_calls, List, sym, ap, subst, refl}
 use Rattle.rart_nodes.specs.walks.Shown.{Shown, ShowsEach}
-use Rattle.rart_nodes.specs.walks.Walk.{entry_values, entries_ahead}
-use Rattle.rart_nodes.specs.walks.PathParts.{no_segment}
+use Rattle.rart_nodes.specs.walks.Walk.{entry_values}
 use Rattle.rart_nodes.proofs.walks.CallLemmas.{always-after-shows, can-first, can-rest}
 use Rattle.rart_nodes.proofs.node.walks.visit.for_each_value.Goals as goal
 
@@ -12,10 +10,7 @@ f-requires g c = can-first _ _ _ _ _ _ (ap entry_values c.in-Some.ensures.entrie
 
 pub loop-value-preserved : goal.loop-value-preserved
 loop-value-preserved g c =
-    let more = entry_values (entries_ahead no_segment [] (option_copied c.advance.new.self.first)
-    c.advance.new.self.levels.items) in
-    let e : entry_values (entries_ahead no_segment [] (option_copied c.loop-value.walk.first)
-    c.loop-value.walk.levels.items) ≡ c.in-Some.value.now ∷ more = ap entry_values c.in-Some.ensures.entries in
+    let e = ap entry_values c.in-Some.ensures.entries in
     let v : Shown g.F.FnMut c.loop-value.f c.in-Some.value.now c.f.new.self
     = record { shown = c.in-Some.value; shows = refl; called = search (rules, of_calls) } in
     record {

@@ -166,8 +166,8 @@ module _ {M : Type 1} (𝓤 : Ura M) (𝓛 : Logic 𝓤) (𝓜 : Model 𝓤 𝓛
         recorded_lawful (Enum (shape T)) T.D T.to T.to_one 𝓛
         (Enum-Lawful 𝓛 (shape T) tt (tt, ((mut_Lawful 𝓛 (named 0) κ (param 1 V), tt), tt)))
 
-    asks_by : (y : C.Ghost) → size y ≡ t → ent 𝓤 (C.pre y) ((D t).pre y)
-    asks_by y e =
+    allocates_by : (y : C.Ghost) → size y ≡ t → ent 𝓤 (C.pre y) ((D t).pre y)
+    allocates_by y e =
         let O = on_entry 𝓛 (lend.signature P V g d dd) y.0.0 y.0.1 y.0.3 y.0.4 in
         let F₁ = y.0.0.1.1.0 ⊑ P.lives in let F₂ = y.0.0.1.1.1.0 ⊑ V.lives in let F₃ = IsCanonical y.0.3.0.now in
         let R = sep 𝓤 (fact 𝓤 F₁) (sep 𝓤 (fact 𝓤 F₂) (fact 𝓤 F₃)) in
@@ -198,7 +198,7 @@ module _ {M : Type 1} (𝓤 : Ura M) (𝓛 : Logic 𝓤) (𝓜 : Model 𝓤 𝓛
     written y e are =
         let z : C.Ghost = ((y.0.0, y.0.1, y.0.2, y.0.3, (mut_vals y.0.3.0, (shr_slice_vals y.0.3.1.0, tt))), tt) in
         let Res = option.the_row (MutRef (named 0) y.0.0.0 (param 1 V)) in
-        qed 𝓛 (raw (C.pre z) ∷ []) ∵ use1 𝓛 (raw ((D t).pre z)) (asks_by z e) $
+        qed 𝓛 (raw (C.pre z) ∷ []) ∵ use1 𝓛 (raw ((D t).pre z)) (allocates_by z e) $
         enter ! tables'.C tables'.Λ function (vptr y.0.3.0.ref_ptr.0 y.0.3.0.ref_ptr.1 ∷ shr_slice_vals y.0.3.1.0) _ $
         alloc_all ! (λ l. pass_all ! refl ((tt, tt), ((tt, (tt, (record { fits = are.1.0.0.1.0 }, tt))), tt)) $
         -- [what the call asks; the locals]

@@ -1,6 +1,6 @@
 use Rattle.std.proofs.Common.{arith, ap, refl, length}
 use Rattle.std.proofs.lemmas.List.{length-take}
-use Rattle.rart_nodes.proofs.node.walk.go_on.Goals as goal
+use Rattle.rart_nodes.proofs.node.walk.back.deepen_from_back.Goals as goal
 
 pub grow-requires : goal.grow-requires
 grow-requires g c κs = (
@@ -8,7 +8,7 @@ grow-requires g c κs = (
   omega (
     arith,
     c.requires.bytes,
-    c.cut.ensures.room,
+    c.cut.ensures.capacity,
     ap length c.prefix.ensures,
     ap length c.cut.ensures.kept,
     length-take

@@ -66,6 +66,6 @@ fn is_quiet_when_new(alloc: Global) -> bool {
 }
 
 #[test]
-fn a_new_table_asks_for_nothing(rt: HostRuntime) {
+fn a_new_table_makes_no_request(rt: HostRuntime) {
     assert!(rt; is_quiet_when_new(rt.alloc()));
 }

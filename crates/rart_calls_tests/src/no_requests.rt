@@ -1,6 +1,6 @@
 //! Calls that may not ask for memory. Under the library that refuses it each would be seen to, were it to ask.
 
-use crate::play::{Ask, Request, Row, Want, assert_none_wrong, first_wrong_unasked};
+use crate::play::{Ask, Request, Row, Want, assert_none_wrong, first_wrong_without_requests};
 use rart::script::run;
 use rart::{AdaptiveRadixTree, ArrPartial, ArrayKey, Iter, KeyTrait, ValuesIter};
 use rart_test_tools::refusals::{refuse, was_refused};
@@ -23,7 +23,7 @@ static FIRST_KEY: [Row<'static>; 10] = [
 fn an_empty_tree_and_its_first_key_ask_for_nothing(rt: HostRuntime) {
     assert_none_wrong(
         &rt,
-        first_wrong_unasked::<ArrayKey<16>>(rt.alloc(), &[], &FIRST_KEY),
+        first_wrong_without_requests::<ArrayKey<16>>(rt.alloc(), &[], &FIRST_KEY),
     );
 }
 
@@ -56,7 +56,7 @@ static AT_STANDING_NODES: [Row<'static>; 17] = [
 fn standing_nodes_ask_for_nothing(rt: HostRuntime) {
     assert_none_wrong(
         &rt,
-        first_wrong_unasked::<ArrayKey<16>>(rt.alloc(), &TWO_LEAVES, &AT_STANDING_NODES),
+        first_wrong_without_requests::<ArrayKey<16>>(rt.alloc(), &TWO_LEAVES, &AT_STANDING_NODES),
     );
 }
 
@@ -70,7 +70,7 @@ static JOINING: [Row<'static>; 3] = [
 fn joined_nodes_ask_for_nothing(rt: HostRuntime) {
     assert_none_wrong(
         &rt,
-        first_wrong_unasked::<ArrayKey<16>>(rt.alloc(), &TWO_LEAVES, &JOINING),
+        first_wrong_without_requests::<ArrayKey<16>>(rt.alloc(), &TWO_LEAVES, &JOINING),
     );
 }
 
@@ -98,7 +98,7 @@ static INTO_ROOM: [Row<'static>; 8] = [
 fn nodes_with_room_ask_for_nothing(rt: HostRuntime) {
     assert_none_wrong(
         &rt,
-        first_wrong_unasked::<ArrayKey<16>>(rt.alloc(), &ROOM_IN_EACH_KIND, &INTO_ROOM),
+        first_wrong_without_requests::<ArrayKey<16>>(rt.alloc(), &ROOM_IN_EACH_KIND, &INTO_ROOM),
     );
 }
 
@@ -116,7 +116,7 @@ static ABSENT: [Row<'static>; 5] = [
 fn absent_keys_ask_for_nothing(rt: HostRuntime) {
     assert_none_wrong(
         &rt,
-        first_wrong_unasked::<ArrayKey<16>>(rt.alloc(), &FIVE_KEYS, &ABSENT),
+        first_wrong_without_requests::<ArrayKey<16>>(rt.alloc(), &FIVE_KEYS, &ABSENT),
     );
 }
 
@@ -156,7 +156,7 @@ static UPDATED: [Row<'static>; 11] = [
 fn updates_of_standing_nodes_and_of_absent_keys_ask_for_nothing(rt: HostRuntime) {
     assert_none_wrong(
         &rt,
-        first_wrong_unasked::<ArrayKey<16>>(rt.alloc(), &ROOM_IN_EACH_KIND, &UPDATED),
+        first_wrong_without_requests::<ArrayKey<16>>(rt.alloc(), &ROOM_IN_EACH_KIND, &UPDATED),
     );
 }
 
@@ -268,7 +268,7 @@ fn no_calls_are_quiet(alloc: Global) -> bool {
 }
 
 #[test]
-fn a_run_of_no_calls_asks_for_nothing(rt: HostRuntime) {
+fn a_run_of_no_calls_makes_no_request(rt: HostRuntime) {
     assert!(rt; no_calls_are_quiet(rt.alloc()));
 }
 
@@ -284,6 +284,6 @@ fn three_are_canonical(alloc: Global) -> bool {
 }
 
 #[test]
-fn what_holds_of_every_tree_asks_for_nothing(rt: HostRuntime) {
+fn what_holds_of_every_tree_makes_no_request(rt: HostRuntime) {
     assert!(rt; three_are_canonical(rt.alloc()));
 }

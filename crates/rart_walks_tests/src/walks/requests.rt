@@ -12,11 +12,11 @@ use std::panic::Expect;
 fn is_quiet_of_nothing(alloc: Global, empty: &Tree, key: Key, form: Walk) -> bool {
     let calls = Calls::none(None);
     refuse(alloc, 1);
-    let ended = make(empty, key, form, &calls);
-    !was_refused(alloc) && ended == Ok(()) && calls.many() == 0
+    let outcome = make(empty, key, form, &calls);
+    !was_refused(alloc) && outcome == Ok(()) && calls.many() == 0
 }
 
-fn first_asking_of_nothing(alloc: Global, empty: &Tree) -> Option<usize> {
+fn first_requesting_of_empty(alloc: Global, empty: &Tree) -> Option<usize> {
     let key = Key::new_from_slice(b"alp");
     let mut row = 0_usize;
     for (form, _wanted) in WALKS {
@@ -31,17 +31,17 @@ fn first_asking_of_nothing(alloc: Global, empty: &Tree) -> Option<usize> {
 #[test]
 fn walks_of_an_empty_tree_ask_for_nothing(rt: HostRuntime) {
     let empty = Tree::new(rt.alloc());
-    assert_eq!(rt; first_asking_of_nothing(rt.alloc(), &empty), None);
+    assert_eq!(rt; first_requesting_of_empty(rt.alloc(), &empty), None);
 }
 
 // From the first call on nothing is requested.
 fn is_quiet_once_it_calls(alloc: Global, tree: &Tree, key: Key, form: Walk, wanted: usize) -> bool {
     let calls = Calls::none(Some(alloc));
-    let ended = make(tree, key, form, &calls);
-    !was_refused(alloc) && ended == Ok(()) && calls.many() == wanted
+    let outcome = make(tree, key, form, &calls);
+    !was_refused(alloc) && outcome == Ok(()) && calls.many() == wanted
 }
 
-fn first_asking(alloc: Global, tree: &Tree) -> Option<usize> {
+fn first_requesting(alloc: Global, tree: &Tree) -> Option<usize> {
     let key = Key::new_from_slice(b"alp");
     let mut row = 0_usize;
     for (form, wanted) in WALKS {
@@ -56,7 +56,7 @@ fn first_asking(alloc: Global, tree: &Tree) -> Option<usize> {
 #[test]
 fn walks_that_call_ask_for_nothing(rt: HostRuntime) {
     let tree = filled(rt.alloc(), &PAIRS).expect(&rt, "a tree");
-    assert_eq!(rt; first_asking(rt.alloc(), &tree), None);
+    assert_eq!(rt; first_requesting(rt.alloc(), &tree), None);
 }
 
 fn call_for_matches_by_ref(tree: &Tree, key: &Key, calls: &Calls) {

@@ -1,4 +1,4 @@
--- Where an insertion may ask for memory: by the keys alone, and by the trie.
+-- Where an insertion may allocate: by the keys alone, and by the trie.
 use Rattle.std.specs.Prelude.{ℕ, ◌≡◌, ◌<◌, ◌==◌, ◌||◌, ◌&&◌, not, nat_le, Bool, true, false, List, [], ◌∷◌, length}
 use Rattle.std.specs.Prelude.{Option, Some, None, is_some, if◌then◌else◌}
 use Rattle.std.specs.List.{list_any}
@@ -11,7 +11,7 @@ use Rattle.rart_nodes.specs.tries.Trie.{Trie, node, Descent, descend, edges_of}
 abbrev pub has_room : ℕ → Bool
 has_room n = nat_le 1 n && nat_le n 255 && not (n == 4 || n == 16 || n == 48)
 
--- there is a branch point with room, and without a child by b
+-- there is a branch point with fewer children than its capacity, and without one by b
 abbrev pub takes_child : Option NodeRecord → ℕ → Bool
 takes_child None b = false
 takes_child (Some r) b = has_room (length r.edges) && not (list_any (λ c. c == b) r.edges)
@@ -27,28 +27,28 @@ last_takes f [] = false
 last_takes f (b ∷ q) = if any_along (λ p. f (b ∷ p)) q then last_takes (λ p. f (b ∷ p)) q else takes_child (f []) b
 
 -- the key is no branch point, there are keys, and the longest branch point that begins it doesn't take its next byte
-abbrev pub insert_asks : List (List ℕ) → List ℕ → Bool
-insert_asks [] q = false
-insert_asks (k ∷ s) q = not (is_some (record_at (k ∷ s) q) || last_takes (record_at (k ∷ s)) q)
+abbrev pub insert_allocates : List (List ℕ) → List ℕ → Bool
+insert_allocates [] q = false
+insert_allocates (k ∷ s) q = not (is_some (record_at (k ∷ s) q) || last_takes (record_at (k ∷ s)) q)
 
--- an insertion at k in the map m may ask for memory, as its keys say: the key is new, and no branch point
+-- an insertion at k in the map m may allocate, as its keys say: the key is new, and no branch point
 abbrev pub MayAskFor : {V : Type 0} → List ℕ → List (List ℕ × V) → Type 0
 MayAskFor k m = (0 < length m) × (lookup k m ≡ None) × (record_at (keys_of m) k ≡ None)
-    × (insert_asks (keys_of m) k ≡ true)
+    × (insert_allocates (keys_of m) k ≡ true)
 
--- the node has as many children as it has room for
+-- the node has as many children as its capacity
 abbrev pub is_full : {V : Type 0} → Trie V → Bool
 is_full (node p v n cs) = nat_le n (length (edges_of cs))
 
 -- Whether an insertion by descent requests memory: where it splits a node, and where a full node gets a child.
 -- None where there is no node: then the node above gets one.
-abbrev pub asks_put : {V : Type 0} → Descent V (Option Bool)
-asks_put = record {
+abbrev pub put_allocation : {V : Type 0} → Descent V (Option Bool)
+put_allocation = record {
   left = λ k t. Some true;
   ended = λ t. Some false;
   absent = None;
-  on = λ t asks. Some (unwrap_or asks (is_full t));
+  on = λ t allocates. Some (unwrap_or allocates (is_full t));
 }
 
-abbrev pub trie_asks_put : {V : Type 0} → List ℕ → Trie V → Bool
-trie_asks_put k t = unwrap_or (descend asks_put k t) false
+abbrev pub trie_put_allocates : {V : Type 0} → List ℕ → Trie V → Bool
+trie_put_allocates k t = unwrap_or (descend put_allocation k t) false

@@ -1,0 +1,67 @@
+//! Iterators that begin at the last key: over all pairs, and over those below a prefix.
+
+use rart::{Descending, KeyTrait};
+use rart_test_trees::texts::{Key, Pair, Tree, filled, is_pair};
+use std::panic::Expect;
+
+// Nodes without a value stand at "ab" and at "abc".
+const FIVE: [Pair; 5] = [("", 0), ("abcd", 1), ("abce", 2), ("abx", 3), ("b", 4)];
+
+// Prefixes, and the pairs below each, ascending.
+static BELOW: [(&str, &[Pair]); 6] = [
+    ("", &FIVE),
+    ("a", &[("abcd", 1), ("abce", 2), ("abx", 3)]),
+    ("ab", &[("abcd", 1), ("abce", 2), ("abx", 3)]),
+    ("abc", &[("abcd", 1), ("abce", 2)]),
+    ("abx", &[("abx", 3)]),
+    ("abd", &[]),
+];
+
+// The pairs come from the last on, and after the first always none.
+fn gives_back(mut pairs: Descending<'_, Key, u64>, wanted: &[Pair]) -> bool {
+    for turn in 1..=wanted.len() {
+        match (pairs.next(), wanted.get(wanted.len().wrapping_sub(turn))) {
+            (Some(pair), Some(row)) if is_pair(&pair, row) => {}
+            _ => return false,
+        }
+    }
+    pairs.next().is_none() && pairs.next().is_none()
+}
+
+fn gives_all(tree: &Tree, wanted: &[Pair]) -> bool {
+    match tree.iter_descending() {
+        Ok(pairs) => gives_back(pairs, wanted),
+        Err(_) => false,
+    }
+}
+
+fn gives_below(tree: &Tree, prefix: &str, wanted: &[Pair]) -> bool {
+    let bytes = prefix.as_bytes();
+    if bytes.len() > 16 {
+        return false;
+    }
+    match tree.prefix_iter_descending_k(&Key::new_from_slice(bytes)) {
+        Ok(pairs) => gives_back(pairs, wanted),
+        Err(_) => false,
+    }
+}
+
+// The first prefix with other pairs, if there is one.
+fn first_wrong(tree: &Tree) -> Option<usize> {
+    let mut row = 0_usize;
+    for (prefix, wanted) in &BELOW {
+        if !gives_below(tree, prefix, wanted) {
+            return Some(row);
+        }
+        row = row.wrapping_add(1);
+    }
+    None
+}
+
+#[test]
+fn pairs_come_from_the_last_on(rt: HostRuntime) {
+    let empty = Tree::new(rt.alloc());
+    let tree = filled(rt.alloc(), &FIVE).expect(&rt, "a tree");
+    assert!(rt; gives_all(&tree, &FIVE) && gives_all(&empty, &[]));
+    assert_eq!(rt; first_wrong(&tree), None);
+}

@@ -1,0 +1,22 @@
+use Rattle.std.proofs.Common.{ap, ◌∙◌}
+use Rattle.rart_nodes.specs.walks.Walk.{segments_after, entries_of, tree_entries}
+use Rattle.rart_nodes.proofs.edits.Outcomes.{err-any}
+use Rattle.rart_nodes.proofs.walks.WalkLemmas.{after-none, has-pairs}
+use Rattle.rart_nodes.proofs.node.seen.Seen.back_walk.Goals as goal
+
+pub returns-in_err-path-clause-memory : goal.returns-in_err-path-clause-memory
+returns-in_err-path-clause-memory g c = err-any c.from_residual.result
+    (has-pairs c.in-Some.root.node.now _ c.in-Some.root.canonical c.in-Some.ensures)
+
+pub returns-in_err-levels-clause-memory : goal.returns-in_err-levels-clause-memory
+returns-in_err-levels-clause-memory g c = err-any c.from_residual-in_err-levels.result
+    (has-pairs c.in-Some.root.node.now _ c.in-Some.root.canonical c.in-Some.ensures)
+
+pub returns-clause-entries : goal.returns-clause-entries
+returns-clause-entries g c =
+    c.back_walk_at-walk.ensures.entries
+    ∙ ap (λ k. segments_after k (entries_of g.T.Keeps.grown c.enter-root.result.node.now))
+    c.in_ok-path.ensures.nothing
+    ∙ after-none (entries_of g.T.Keeps.grown c.enter-root.result.node.now)
+    ∙ ap (entries_of g.T.Keeps.grown) c.enter-root.ensures.shown
+    ∙ ap (tree_entries g.T.Keeps.grown) c.in-Some.ensures

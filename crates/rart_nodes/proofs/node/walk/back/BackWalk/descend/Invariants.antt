@@ -1,0 +1,28 @@
+use Rattle.std.proofs.Common.{◌≡◌, ◌≤◌, ◌<◌, ◌+◌, ◌++◌, length, reverse, vec_capacity, option_map}
+use Rattle.rart_nodes.specs.ranges.BackWalk.{IsBackWalk, remaining_entries}
+use Rattle.rart_nodes.specs.ranges.UpperBounds.{entries_until}
+use Rattle.rart_nodes.specs.walks.ProbeCount.{entered_nodes, tree_entered}
+use Rattle.rart_nodes.specs.walks.Walk.{segments_after, entries_of, tree_count, tree_entries}
+use Rattle.rart_nodes.proofs.ranges.StartPaths.{HasPathRoom}
+use Rattle.rart_nodes.proofs.node.walk.back.BackWalk.descend.Given as goal
+
+abbrev pub invariant-loop-next : goal.invariant-loop-next
+invariant-loop-next g l = record {
+  path : IsBackWalk l.self.longest (vec_capacity l.self.levels) (g.T.Path.kept l.path) (reverse l.self.levels.items);
+  fits : HasPathRoom l.self.longest (g.T.Path.kept l.path) (length l.self.levels.items)
+      (option_map (λ s. s.node.now) l.next);
+  room : l.self.longest ≤ g.T.Path.capacity l.path;
+  requested : g.T.Path.requested l.path ≡ g.T.Path.requested l.fn.path;
+  places : l.self.longest < vec_capacity l.self.levels;
+  still : remaining_entries g.T.Keeps.grown (g.T.Path.kept l.path) (reverse l.self.levels.items)
+      ++ segments_after (g.T.Path.kept l.path)
+      (entries_until l.included l.rest (tree_entries g.T.Keeps.grown (option_map (λ s. s.node.now) l.next)))
+      ≡ entries_until l.included l.fn.end (entries_of g.T.Keeps.grown l.fn.top.node.now);
+  visits : g.C.Count.number l.counter + tree_entered l.rest (option_map (λ s. s.node.now) l.next)
+      ≡ g.C.Count.number l.fn.counter + entered_nodes l.fn.end l.fn.top.node.now;
+  longest : l.self.longest ≡ l.fn.self.longest;
+  level_capacity : vec_capacity l.self.levels ≡ vec_capacity l.fn.self.levels;
+}
+
+abbrev pub decreases-loop-next : goal.decreases-loop-next
+decreases-loop-next g l = tree_count (option_map (λ s. s.node.now) l.next)

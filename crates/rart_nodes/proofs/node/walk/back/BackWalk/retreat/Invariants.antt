@@ -1,0 +1,21 @@
+use Rattle.std.proofs.Common.{◌≡◌, ◌≤◌, reverse, vec_capacity}
+use Rattle.rart_nodes.specs.ranges.BackWalk.{IsBackWalk, remaining_entries}
+use Rattle.rart_nodes.specs.walks.Walk.{KeepsEach}
+use Rattle.rart_nodes.proofs.ranges.BackVisits.{HasVisited}
+use Rattle.rart_nodes.proofs.ranges.LevelLemmas.{work_behind}
+use Rattle.rart_nodes.proofs.node.walk.back.BackWalk.retreat.Given as goal
+
+abbrev pub invariant-loop-self : goal.invariant-loop-self
+invariant-loop-self g l = record {
+  path : IsBackWalk l.self.longest (vec_capacity l.self.levels) (g.T.Path.kept l.path) (reverse l.self.levels.items);
+  room : l.self.longest ≤ g.T.Path.capacity l.path;
+  requested : g.T.Path.requested l.path ≡ g.T.Path.requested l.fn.path;
+  still : remaining_entries g.T.Keeps.grown (g.T.Path.kept l.path) (reverse l.self.levels.items)
+      ≡ remaining_entries g.T.Keeps.grown (g.T.Path.kept l.fn.path) (reverse l.fn.self.levels.items);
+  longest : l.self.longest ≡ l.fn.self.longest;
+  few : KeepsEach g.T.Keeps.grown → HasVisited (g.C.Count.number l.fn.counter) (g.C.Count.number l.counter)
+      (g.T.Path.kept l.path) (reverse l.self.levels.items);
+}
+
+abbrev pub decreases-loop-self : goal.decreases-loop-self
+decreases-loop-self g l = work_behind (reverse l.self.levels.items)

@@ -1,0 +1,53 @@
+-- A walk over a tree from its back, which keeps something of each prefix on its path.
+use Rattle.std.specs.Prelude.{ℕ, ◌≡◌, ◌⊎◌, List, [], ◌∷◌, ◌++◌, map, take, Option, MatchOption}
+use Rattle.std.specs.Borrow.{Bor}
+use Rattle.std.specs.Option.{option_copied}
+use Rattle.rart_nodes.specs.ranges.Under.{with_last}
+use Rattle.rart_nodes.specs.tries.Trie.{Trie, Children, no_children, children_in, value_of}
+use Rattle.rart_nodes.specs.walks.Walk.{SegmentList, Grown, IsKeyWalk, IsWalk, Level, children_entries, segments_after}
+use Rattle.rart_nodes.specs.walks.Walk.{value_at}
+
+-- a level of a walk, and the value of its node, which comes after the children from the back
+abbrev pub BackLevel : Type 0 → Type 0
+BackLevel V = Level V × Option (Bor V)
+
+-- the values that a walk still yields, ascending, from its levels along the path k, the deepest first
+abbrev pub remaining_entries : {V : Type 0} → Grown → SegmentList → List (BackLevel V) → List (SegmentList × V)
+remaining_entries g k [] = []
+remaining_entries g k (l ∷ ls) = remaining_entries g k ls
+    ++ segments_after (take l.0.1 k) (value_at [] (option_copied l.1) ++ children_entries g l.0.0)
+
+-- the levels along a path k, with capacity for longer ones
+abbrev pub IsBackWalk : {V : Type 0} → ℕ → ℕ → SegmentList → List (BackLevel V) → Type 0
+IsBackWalk longest places k ls = IsWalk longest places k (map (λ l. l.0) ls)
+
+-- a walk with the bytes of its path, which have capacity for the longest key, which is within the keys' maximum
+abbrev pub IsKeyBackWalk : {V : Type 0} → Option ℕ → ℕ → ℕ → ℕ → SegmentList → List (BackLevel V) → Type 0
+IsKeyBackWalk maximum longest places capacity k ls = IsKeyWalk maximum longest places capacity k (map (λ l. l.0) ls)
+
+-- there is no level, or the deepest, which stands last, has no more children
+pub record BackLeft {V : Type 0} (before after : List (BackLevel V)) : Type 0 where
+  pub same : after ≡ before
+  pub left : (before ≡ []) ⊎ ((rest : List (BackLevel V)) × ((l : BackLevel V) × ((before ≡ rest ++ l ∷ [])
+      × (l.0.0 ≡ no_children))))
+
+-- the deepest level gives its last child t, and has the others left
+pub record BackStep {V : Type 0} (before : List (BackLevel V)) (t : Trie V) (d : ℕ) (after : List (BackLevel V))
+    : Type 0 where
+  pub rest : List (BackLevel V)
+  pub edge : ℕ
+  pub others : Children V
+  pub value : Option (Bor V)
+  pub was : before ≡ rest ++ ((with_last others edge t, d), value) ∷ []
+  pub is : after ≡ rest ++ ((others, d), value) ∷ []
+
+-- a level of t's children comes after the others, n deep, with t's value
+abbrev pub PushesNode : {V : Type 0} → List (BackLevel V) → Trie V → ℕ → List (BackLevel V) → Type 0
+PushesNode {V} before t n after = (v : Option (Bor V)) × ((after ≡ before ++ ((children_in t, n), v) ∷ [])
+    × (option_copied v ≡ value_of t))
+
+-- the last remaining value was given, at the path that is kept now; or no value remained, and none does
+abbrev pub TakesLast : {V : Type 0} → List (SegmentList × V) → SegmentList → Option (Bor V) → List (SegmentList × V)
+    → Type 0
+TakesLast before k given after = MatchOption given ((before ≡ []) × (after ≡ []))
+    (λ v. before ≡ after ++ (k, v.now) ∷ [])

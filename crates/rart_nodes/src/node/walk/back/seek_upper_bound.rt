@@ -1,0 +1,147 @@
+//! The descent to an end, and walks back from there.
+ghost use Rattle.std.specs.Prelude.{◌≡◌, ◌≢◌, ◌≤◌, ◌<◌, ◌+◌, ◌++◌, [], ◌∷◌, length, reverse, vec_capacity, vec_len};
+ghost use Rattle.std.specs.Prelude.{IfOk, OnErr};
+ghost use Rattle.std.specs.Option.{option_copied};
+ghost use Rattle.rart_keys.specs.SortedMap.{longest_key};
+ghost use Rattle.rart_nodes.specs.ranges.BackWalk.{IsBackWalk, remaining_entries};
+ghost use Rattle.rart_nodes.specs.ranges.UpperBounds.{entries_until, if_included};
+ghost use Rattle.rart_nodes.specs.tries.SeenTrees.{length_bound, seen_keys, seen_pairs, seen_tree};
+ghost use Rattle.rart_nodes.specs.tries.Trie.{pairs_of, prefix_of, value_of};
+ghost use Rattle.rart_nodes.specs.walks.ProbeCount.{entered_nodes, probe_count};
+ghost use Rattle.rart_nodes.specs.walks.Walk.{Joins, entries_of, tree_entries};
+
+use crate::count::Count;
+use crate::node::rest::strip_prefix;
+use crate::node::seen::{Entered, Seen, Shared};
+use crate::node::walk::back::branches::BackBranches;
+use crate::node::walk::back::{BackWalk, empty_back_walk};
+use crate::node::walk::path::Path;
+use rart_keys::{KeyTrait, Partial};
+use std::alloc::AllocError;
+use std::cmp::Ordering;
+
+/// Descends past the prefix of a visited node whose children before the path are `rest`.
+fn deepen_before<'a, P: Partial, V, C, T: Path<'a, P>>(
+    levels: &mut Vec<((BackBranches<'a, P, V, C>, usize), Option<&'a V>)>,
+    path: &mut T,
+    at: Entered<'a, P, V, C>,
+    rest: BackBranches<'a, P, V, C>,
+    value: Option<&'a V>,
+)
+    requires bytes { length (T.kept path.old) + length (prefix_of at.node.now)
+        ≤ T.capacity path.old }
+    requires place { vec_len levels.old < vec_capacity levels.old }
+    ensures kept { T.kept path.new ≡ T.kept path.old ++ T.grown (prefix_of at.entry.node.now) }
+    ensures levels { levels.new.items
+        ≡ levels.old.items ++ ((rest.entry, length (T.kept path.new)), value.entry) ∷ [] }
+    ensures path_capacity { T.capacity path.old ≤ T.capacity path.new }
+    ensures requested { T.requested path.new ≡ T.requested path.old }
+    ensures level_capacity { vec_capacity levels.new ≡ vec_capacity levels.old }
+{
+    path.grow(at.prefix());
+    levels.push_reserved(((rest, path.mark()), value));
+}
+
+impl<'a, P: Partial, V, C: Count> BackWalk<'a, P, V, C> {
+    /// Descends from `top` to `end`. The walk then yields the pairs before `end`, and the one at it if `included`.
+    fn descend<T: Path<'a, P>>(
+        &mut self,
+        top: Shared<'a, P, V, C>,
+        end: &[u8],
+        included: bool,
+        path: &mut T,
+        counter: &mut C,
+    )
+        requires joins { Joins T.grown }
+        requires nothing { T.kept path.old ≡ [] }
+        requires empty_walk { self.old.levels.items ≡ [] }
+        requires short { longest_key (pairs_of top.node.now) ≤ self.old.longest }
+        requires room { self.old.longest ≤ T.capacity path.old }
+        requires places { self.old.longest < vec_capacity self.old.levels }
+        ensures path { IsBackWalk self.new.longest (vec_capacity self.new.levels)
+            (T.kept path.new) (reverse self.new.levels.items) }
+        ensures room { self.new.longest ≤ T.capacity path.new }
+        ensures requested { T.requested path.new ≡ T.requested path.old }
+        ensures entries { remaining_entries T.grown (T.kept path.new)
+            (reverse self.new.levels.items)
+            ≡ entries_until included end.now (entries_of T.grown top.entry.node.now) }
+        ensures visits { C.number counter.new
+            ≡ C.number counter.old + entered_nodes end.now top.entry.node.now }
+        ensures longest { self.new.longest ≡ self.old.longest }
+        ensures places { vec_capacity self.new.levels ≡ vec_capacity self.old.levels }
+    {
+        let mut next = Some(top);
+        let mut rest = end;
+        while let Some(node) = next {
+            let at = node.enter(counter);
+            let Some(after) = strip_prefix(at.prefix(), rest) else {
+                // the node's keys all come before the end, or all after it
+                if let Ordering::Less = at.prefix().to_slice().cmp(rest) {
+                    deepen_before(&mut self.levels, path, at, at.back_branches(), at.value());
+                }
+                return;
+            };
+            let Some(byte) = after.first() else {
+                let value = value_if(included, at);
+                deepen_before(&mut self.levels, path, at, at.branches_under(0), value);
+                return;
+            };
+            deepen_before(
+                &mut self.levels,
+                path,
+                at,
+                at.branches_under(*byte),
+                at.value(),
+            );
+            next = at.child(*byte);
+            rest = after;
+        }
+    }
+}
+
+/// Returns the value of a visited node if `included`.
+fn value_if<'a, P: Partial, V, C>(included: bool, at: Entered<'a, P, V, C>) -> Option<&'a V>
+    ensures { option_copied result ≡ if_included included (value_of at.entry.node.now) }
+{
+    if included { at.value() } else { None }
+}
+
+impl<'a, K: KeyTrait, V, C: Count> Seen<'a, K, V, C> {
+    /// Returns a walk back from `end` with its path; the pair at the end is yielded if `included`. It allocates
+    /// before it visits a node, and nothing for an empty tree.
+    pub(crate) fn back_walk_to<T: Path<'a, K::PartialType>>(
+        self,
+        end: &[u8],
+        included: bool,
+        counter: &mut C,
+    ) -> Result<(BackWalk<'a, K::PartialType, V, C>, T), AllocError>
+        requires joins { Joins T.grown }
+        ensures path { IfOk result (λ w. IsBackWalk w.0.longest (vec_capacity w.0.levels)
+            (T.kept w.1) (reverse w.0.levels.items)) }
+        ensures room { IfOk result (λ w. w.0.longest ≤ T.capacity w.1) }
+        ensures requested { IfOk result (λ w. T.requested w.1 ≤ length_bound self.entry) }
+        ensures longest { IfOk result (λ w. w.0.longest ≤ length_bound self.entry) }
+        ensures entries { IfOk result
+            (λ w. remaining_entries T.grown (T.kept w.1) (reverse w.0.levels.items)
+            ≡ entries_until included end.now (tree_entries T.grown (seen_tree self.entry))) }
+        ensures memory { OnErr result (seen_pairs self.entry ≢ []) }
+        ensures unread { OnErr result (counter.new ≡ counter.old) }
+        ensures visits { IfOk result (λ _. C.number counter.new
+            ≡ C.number counter.old + probe_count (seen_keys self.entry) end.now) }
+        ensures bound { C.number counter.new ≤ C.number counter.old + length end.now + 1 }
+        ensures places { IfOk result
+            (λ w. w.0.levels.items ≢ [] → vec_capacity w.0.levels ≡ length_bound self.entry + 1) }
+    {
+        let alloc = self.alloc();
+        let longest = self.longest();
+        let Some(top) = self.top() else {
+            return Ok(empty_back_walk(alloc));
+        };
+        let mut path = self.new_path::<T>()?;
+        // no vector has room for `usize::MAX` levels, so that at such a length the request is refused
+        let levels = Vec::with_capacity(alloc, longest.saturating_add(1))?;
+        let mut walk: BackWalk<'a, K::PartialType, V, C> = BackWalk { levels, longest };
+        walk.descend(top, end, included, &mut path, counter);
+        Ok((walk, path))
+    }
+}

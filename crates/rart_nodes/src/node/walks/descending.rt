@@ -1,0 +1,241 @@
+//! Iterators over a shared tree from its last key to its first. Each allocates when it is created, and a contract reads
+//! it as the list of remaining items in that order.
+ghost use Rattle.std.specs.Prelude.{◌≡◌, ◌≤◌, ◌+◌, ◌++◌, [], ◌∷◌, length, reverse, IfErr, IfOk, MatchOption, OnErr};
+ghost use Rattle.std.specs.Iterator.{YieldsFirstBy, item_count};
+ghost use Rattle.rart_keys.specs.Filters.{below};
+ghost use Rattle.rart_keys.specs.SortedMap.{count_of};
+ghost use Rattle.rart_nodes.specs.tries.SeenTrees.{seen_keys, seen_pairs, seen_tree};
+ghost use Rattle.rart_nodes.specs.walks.ProbeCount.{VisitsAtMost, probe_count};
+ghost use Rattle.rart_nodes.specs.walks.Calls.{MayLackRoom};
+
+use crate::count::{Count, Visits};
+use crate::node::seen::Seen;
+use crate::node::walk::back::BackWalk;
+use crate::node::walk::path::BytePath;
+use rart_keys::{KeyTrait, Partial};
+use rart_parts::TreeError;
+use std::marker::{Model, PhantomData};
+
+pub(crate) mod range;
+
+/// A walk from the last pair that makes a key for each. A contract reads it as the list of remaining pairs, ascending.
+#[derive(Drop)]
+pub(crate) struct KeyBackWalk<'a, K: KeyTrait, P: Partial, V, C> {
+    walk: BackWalk<'a, P, V, C>,
+    path: BytePath,
+    of: PhantomData<K>,
+}
+
+impl<'a, K: KeyTrait, P: Partial, V, C> Model for KeyBackWalk<'a, K, P, V, C> {
+    ghost use Rattle.std.specs.Prelude.{ℕ, List, reverse, vec_capacity};
+    ghost use Rattle.rart_nodes.specs.ranges.BackWalk.{IsKeyBackWalk, remaining_entries};
+    ghost use Rattle.rart_nodes.specs.walks.Walk.{join_all};
+    ghost use Rattle.rart_nodes.specs.walks.PathParts.{byte_segments};
+
+    ghost Value = { List (List ℕ × V) };
+
+    ghost view = { λ w. join_all (remaining_entries byte_segments (byte_segments w.path.key.items)
+        (reverse w.walk.levels.items)) };
+
+    ghost invariant = { λ w. IsKeyBackWalk K.MAXIMUM_SIZE w.walk.longest (vec_capacity w.walk.levels)
+        (vec_capacity w.path.key) (byte_segments w.path.key.items) (reverse w.walk.levels.items) };
+}
+
+impl<'a, K: KeyTrait, P: Partial, V, C: Count> KeyBackWalk<'a, K, P, V, C> {
+    /// Returns the last pair. It does not allocate.
+    pub(crate) fn step_back(&mut self, counter: &mut C) -> Option<(K, &'a V)>
+        ensures pairs { MatchOption result ((self.old ≡ []) × (self.new ≡ []))
+            (λ p. self.old ≡ self.new ++ (K.bytes p.0, p.1.now) ∷ []) }
+        ensures visits { VisitsAtMost (λ p. length (K.bytes p.0)) (C.number counter.old) result
+            (C.number counter.new) }
+    {
+        let value = self.walk.retreat(&mut self.path, counter)?;
+        Some((K::new_from_slice(self.path.key()), value))
+    }
+}
+
+/// Iterates over the pairs of a tree, descending by key, with counted visits.
+#[derive(Drop)]
+pub struct SeenDescending<'a, K: KeyTrait, V, C> {
+    pairs: KeyBackWalk<'a, K, K::PartialType, V, C>,
+}
+
+impl<'a, K: KeyTrait, V, C> Model for SeenDescending<'a, K, V, C> {
+    ghost use Rattle.std.specs.Prelude.{ℕ, List, reverse};
+
+    ghost Value = { List (List ℕ × V) };
+
+    ghost view = { λ it. reverse it.pairs };
+}
+
+impl<'a, K: KeyTrait, V, C: Count> SeenDescending<'a, K, V, C> {
+    /// Returns the next pair. It is fused and does not allocate.
+    ///
+    /// # Visits
+    ///
+    /// At most one node more than the key has bytes, and none at the end.
+    pub fn next_counted(&mut self, counter: &mut C) -> Option<(K, &'a V)>
+        ensures pairs { MatchOption result ((self.old ≡ []) × (self.new ≡ []))
+            (λ p. self.old ≡ (K.bytes p.0, p.1.now) ∷ self.new) }
+        ensures visits { VisitsAtMost (λ p. length (K.bytes p.0) + 1) (C.number counter.old) result
+            (C.number counter.new) }
+    {
+        self.pairs.step_back(counter)
+    }
+}
+
+/// Iterates over the pairs of a tree, descending by key.
+#[derive(Drop)]
+pub struct Descending<'a, K: KeyTrait, V> {
+    pairs: SeenDescending<'a, K, V, Visits>,
+}
+
+impl<'a, K: KeyTrait, V> Model for Descending<'a, K, V> {
+    ghost use Rattle.std.specs.Prelude.{ℕ, List};
+
+    ghost Value = { List (List ℕ × V) };
+
+    ghost view = { λ it. it.pairs };
+}
+
+impl<'a, K: KeyTrait, V> Iterator for Descending<'a, K, V> {
+    type Item = (K, &'a V);
+
+    ghost next_gives = { YieldsFirstBy (λ p. (K.bytes p.0, p.1.now)) (λ rest. rest) };
+
+    ghost remaining = { item_count (λ rest. rest) };
+
+    /// Returns no bound, as the walk does not count what lies ahead.
+    fn size_hint(&self) -> (usize, Option<usize>) {
+        (0, None)
+    }
+
+    /// Returns the next pair. It is fused and does not allocate.
+    fn next(&mut self) -> Option<(K, &'a V)> {
+        self.pairs.next_counted(&mut Visits::new())
+    }
+}
+
+impl<'a, K: KeyTrait, V, C: Count> Seen<'a, K, V, C> {
+    fn key_back_walk(
+        self,
+        counter: &mut C,
+    ) -> Result<KeyBackWalk<'a, K, K::PartialType, V, C>, TreeError>
+        ensures pairs { IfOk result (λ it. it ≡ seen_pairs self.entry) }
+        ensures memory { IfErr result (MayLackRoom (seen_pairs self.entry)) }
+        ensures unread { OnErr result (counter.new ≡ counter.old) }
+        ensures visits { IfOk result (λ _. C.number counter.new
+            ≡ C.number counter.old + count_of (seen_tree self.entry)) }
+        ensures bound { C.number counter.new ≤ C.number counter.old + 1 }
+    {
+        let (walk, path) = self.back_walk(counter)?;
+        Ok(KeyBackWalk {
+            walk,
+            path,
+            of: PhantomData,
+        })
+    }
+
+    fn key_back_walk_below(
+        self,
+        prefix: &[u8],
+        counter: &mut C,
+    ) -> Result<KeyBackWalk<'a, K, K::PartialType, V, C>, TreeError>
+        ensures pairs { IfOk result (λ it. it ≡ below prefix.now (seen_pairs self.entry)) }
+        ensures memory { IfErr result (MayLackRoom (seen_pairs self.entry)) }
+        ensures unread { OnErr result (counter.new ≡ counter.old) }
+        ensures visits { IfOk result (λ _. C.number counter.new
+            ≡ C.number counter.old + probe_count (seen_keys self.entry) prefix.now) }
+        ensures bound { C.number counter.new ≤ C.number counter.old + length prefix.now + 1 }
+    {
+        let (walk, path) = self.back_walk_below(prefix, counter)?;
+        Ok(KeyBackWalk {
+            walk,
+            path,
+            of: PhantomData,
+        })
+    }
+
+    /// Returns an iterator over all pairs, descending by key. It allocates for the longest key here, and nothing for an
+    /// empty tree.
+    ///
+    /// # Errors
+    ///
+    /// [`TreeError::Memory`] if the tree isn't empty and the allocation fails. Nothing is then visited.
+    ///
+    /// # Visits
+    ///
+    /// The root, or none of an empty tree.
+    pub fn iter_descending_counted(
+        self,
+        counter: &mut C,
+    ) -> Result<SeenDescending<'a, K, V, C>, TreeError>
+        ensures pairs { IfOk result (λ it. it ≡ reverse (seen_pairs self.entry)) }
+        ensures memory { IfErr result (MayLackRoom (seen_pairs self.entry)) }
+        ensures unread { OnErr result (counter.new ≡ counter.old) }
+        ensures visits { IfOk result (λ _. C.number counter.new
+            ≡ C.number counter.old + count_of (seen_tree self.entry)) }
+        ensures bound { C.number counter.new ≤ C.number counter.old + 1 }
+    {
+        let pairs = self.key_back_walk(counter)?;
+        Ok(SeenDescending { pairs })
+    }
+
+    /// Returns an iterator over the pairs whose key begins with `prefix`, descending by key. It allocates as
+    /// `iter_descending_counted` does.
+    ///
+    /// # Errors
+    ///
+    /// [`TreeError::Memory`] if the tree isn't empty and the allocation fails. Nothing is then visited.
+    ///
+    /// # Visits
+    ///
+    /// At most `prefix.len() + 1` nodes.
+    pub fn prefix_iter_descending_k_counted(
+        self,
+        prefix: &K,
+        counter: &mut C,
+    ) -> Result<SeenDescending<'a, K, V, C>, TreeError>
+        ensures pairs { IfOk result
+            (λ it. it ≡ reverse (below (K.bytes prefix.now) (seen_pairs self.entry))) }
+        ensures memory { IfErr result (MayLackRoom (seen_pairs self.entry)) }
+        ensures unread { OnErr result (counter.new ≡ counter.old) }
+        ensures visits { IfOk result (λ _. C.number counter.new
+            ≡ C.number counter.old + probe_count (seen_keys self.entry) (K.bytes prefix.now)) }
+        ensures bound { C.number counter.new
+            ≤ C.number counter.old + length (K.bytes prefix.now) + 1 }
+    {
+        let pairs = self.key_back_walk_below(prefix.as_ref(), counter)?;
+        Ok(SeenDescending { pairs })
+    }
+}
+
+impl<'a, K: KeyTrait, V> Seen<'a, K, V, Visits> {
+    /// Returns an iterator over all pairs, descending by key. It allocates as `iter_descending_counted` does.
+    ///
+    /// # Errors
+    ///
+    /// [`TreeError::Memory`] if the tree isn't empty and the allocation fails.
+    pub fn iter_descending(self) -> Result<Descending<'a, K, V>, TreeError>
+        ensures pairs { IfOk result (λ it. it ≡ reverse (seen_pairs self.entry)) }
+        ensures memory { IfErr result (MayLackRoom (seen_pairs self.entry)) }
+    {
+        let pairs = self.iter_descending_counted(&mut Visits::new())?;
+        Ok(Descending { pairs })
+    }
+
+    /// Returns an iterator over the pairs whose key begins with `prefix`, descending by key. It allocates as
+    /// `iter_descending_counted` does.
+    ///
+    /// # Errors
+    ///
+    /// [`TreeError::Memory`] if the tree isn't empty and the allocation fails.
+    pub fn prefix_iter_descending_k(self, prefix: &K) -> Result<Descending<'a, K, V>, TreeError>
+        ensures pairs { IfOk result
+            (λ it. it ≡ reverse (below (K.bytes prefix.now) (seen_pairs self.entry))) }
+        ensures memory { IfErr result (MayLackRoom (seen_pairs self.entry)) }
+    {
+        let pairs = self.prefix_iter_descending_k_counted(prefix, &mut Visits::new())?;
+        Ok(Descending { pairs })
+    }
+}
