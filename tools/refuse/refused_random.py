@@ -27,7 +27,7 @@ def run(program, library, case):
             return "it ran out of time", 0
         counts = dict(word.split("=") for word in report.read_text().split()) if report.exists() else {}
     refused = int(counts.get("refused", 0))
-    if ended.returncode != 0 or ended.stdout != b"1 cases went well\n":
+    if ended.returncode != 0 or ended.stdout != b"all cases went well\n":
         return f"status {ended.returncode}: {ended.stdout[-600:]!r}", refused
     return "" if refused >= LEAST else "too few requests were refused", refused
 

@@ -36,7 +36,7 @@ module _ {T : Type 0} where
   only-length c (e ∷ f ∷ s) n l h = omega (arith, l)
   only-length c (e ∷ []) n l h = ⊎_elim
       (λ m. let t : remove_allocates ((c ∷ []) ∷ []) (c ∷ []) ≡ true = ap (λ z. remove_allocates (z ∷ []) (c ∷ []))
-          (sym m) ∙ h in
+      (sym m) ∙ h in
       let u : remove_allocates ((c ∷ []) ∷ []) (c ∷ []) ≡ false = no-and _ in cc)
       (λ m. n (rw (bytes_eq-differ e.0 (c ∷ []) m) refl))
       (same_or_not e.0 (c ∷ []))

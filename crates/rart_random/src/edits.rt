@@ -4,6 +4,7 @@ ghost use Rattle.rart.specs.Updates.{written_slot};
 
 use crate::call::Call;
 use crate::numbers::{mix, sum_if, sum_of};
+use crate::reads::ends;
 use crate::sides::{Tree, mix_key};
 use rart::{
     KeyTrait, NotInserted, Refused, Slot, SlotUpdate, TreeError, TryInsertError, TryUpdateError,
@@ -93,6 +94,32 @@ fn overwrite_below<K: KeyTrait + Drop>(tree: &mut Tree<K>, key: &K, value: u64) 
         *place = mix(*place, value);
     });
     sum
+}
+
+// The count of the pairs of a part, with its first and its last one.
+fn sum_of_part<K: KeyTrait + Drop>(part: &Tree<K>) -> u64 {
+    mix(part.len() as u64, ends(part))
+}
+
+// Takes or drops all pairs below the first half of the key.
+fn remove_below<K: KeyTrait + Drop>(tree: &mut Tree<K>, key: &K, call: &Call) -> Option<u64> {
+    let prefix = key.truncate(key.as_ref().len() / 2);
+    if takes_below(call) {
+        let part = tree.take_prefix_k(&prefix).ok()?;
+        return Some(sum_of_part(&part));
+    }
+    let count = tree.remove_prefix_k(&prefix).ok()?;
+    Some(count as u64)
+}
+
+/// Whether a removal is one of all pairs below the first half of the key.
+pub fn removes_below(call: &Call) -> bool {
+    call.choice % 128 == 2
+}
+
+/// Whether a removal of all pairs below a prefix returns them.
+pub fn takes_below(call: &Call) -> bool {
+    call.choice % 256 == 2
 }
 
 /// Whether a write is one over all values below the first half of the key.
@@ -191,6 +218,7 @@ pub fn edit<K: KeyTrait + Drop>(tree: &mut Tree<K>, key: &K, call: &Call) -> Opt
         2 => try_insert(tree, key, call.value),
         3 => insert_new(tree, key, call.value),
         4 if pops(call) => popped(tree.pop_first()),
+        4 if removes_below(call) => remove_below(tree, key, call),
         4 => remove(tree, key),
         5 if pops(call) => popped(tree.pop_last()),
         5 if clears(call) => Some(clear(tree)),

@@ -3,7 +3,7 @@ use crate::call::Call;
 use crate::copies::copies_are_right;
 use crate::edits::WRONG;
 use crate::model::{Model, Pair};
-use crate::numbers::{mix, mix_bytes, sum_if};
+use crate::numbers::{mix, sum_if};
 use crate::shape::{shape_in, shape_of};
 use crate::sides::{Tree, key_of, mix_key};
 use rart::{BulkError, KeyTrait};
@@ -109,17 +109,6 @@ fn fault(list: &[Pair]) -> Option<u64> {
     None
 }
 
-// The sum of all pairs of a model, the last first.
-fn wanted_back(model: &Model) -> u64 {
-    let mut sum = 1_u64;
-    for place in 0..model.len() {
-        if let Some((key, value)) = model.at(model.len().wrapping_sub(place).wrapping_sub(1)) {
-            sum = mix(mix_bytes(sum, key.as_slice()), value);
-        }
-    }
-    sum
-}
-
 /// What the load must answer.
 pub fn wanted_load(alloc: Global, list: &[Pair]) -> u64 {
     if let Some(at) = fault(list) {
@@ -131,7 +120,10 @@ pub fn wanted_load(alloc: Global, list: &[Pair]) -> u64 {
     }
     match shape_of(alloc, &model) {
         Ok(shape) => {
-            let both = mix(model.sum(0, model.len(), true), wanted_back(&model));
+            let both = mix(
+                model.sum(0, model.len(), true),
+                model.sum_back(0, model.len()),
+            );
             mix(mix(both, shape), sum_if(true))
         }
         Err(_refused) => 1,

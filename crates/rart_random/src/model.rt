@@ -138,6 +138,19 @@ impl Model {
         sum
     }
 
+    /// The sum of the pairs from a place to another, the last first.
+    pub fn sum_back(&self, from: usize, to: usize) -> u64 {
+        let mut sum = 1_u64;
+        let mut after = to;
+        for _ in from..to {
+            after = after.wrapping_sub(1);
+            if let Some(pair) = self.pairs.get(after) {
+                sum = mix_pair(sum, pair.0.as_slice(), pair.1);
+            }
+        }
+        sum
+    }
+
     /// The stored key at or after `text`, else the first, else `text`.
     pub fn near(&self, text: &Text) -> Text {
         let place = self.search(text, Mark::Before);

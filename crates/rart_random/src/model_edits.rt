@@ -1,7 +1,8 @@
 //! What an edit must answer, by the model, and what the model is after it.
 use crate::call::Call;
-use crate::edits::{clears, pops, removes, writes, writes_below};
+use crate::edits::{clears, pops, removes, removes_below, takes_below, writes, writes_below};
 use crate::model::Model;
+use crate::model_reads::ends;
 use crate::numbers::{mix, mix_pair, sum_if, sum_of};
 use crate::text::Text;
 
@@ -69,6 +70,22 @@ pub fn note_refusal(model: &mut Model, key: &Text, call: &Call) {
     }
 }
 
+fn remove_below(model: &mut Model, key: &Text, call: &Call) -> u64 {
+    let (from, to) = model.below(&key.cut(key.len() / 2));
+    let count = to.wrapping_sub(from) as u64;
+    let ends = ends(model, from, to);
+    for _ in from..to {
+        if let Some((stored, _value)) = model.at(from) {
+            model.remove(&stored);
+        }
+    }
+    if takes_below(call) {
+        mix(count, ends)
+    } else {
+        count
+    }
+}
+
 /// Removes the pair at a place, and returns the sum of it.
 pub fn pop(model: &mut Model, place: usize) -> u64 {
     match model.at(place) {
@@ -87,6 +104,7 @@ pub fn edit(model: &mut Model, key: &Text, call: &Call) -> u64 {
         2 => sum_of(insert_new(model, key, call.value)),
         3 => sum_if(insert_new(model, key, call.value).is_none()),
         4 if pops(call) => pop(model, 0),
+        4 if removes_below(call) => remove_below(model, key, call),
         4 => sum_of(model.remove(key)),
         5 if pops(call) => pop(model, model.len().wrapping_sub(1)),
         5 if clears(call) => model.clear(),

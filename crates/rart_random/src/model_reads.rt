@@ -2,7 +2,7 @@
 use crate::call::Call;
 use crate::model::{Mark, Model};
 use crate::numbers::{mix, mix_pair, sum_if, sum_of};
-use crate::reads::most_of;
+use crate::reads::{descends, most_of};
 use crate::text::Text;
 
 // The pair with the longest key that begins the probe.
@@ -59,6 +59,15 @@ fn pair_at(model: &Model, place: usize) -> u64 {
     }
 }
 
+/// The sum of the first and of the last pair from a place to another.
+pub fn ends(model: &Model, from: usize, to: usize) -> u64 {
+    if from < to {
+        mix(pair_at(model, from), pair_at(model, to.wrapping_sub(1)))
+    } else {
+        mix(5, 5)
+    }
+}
+
 /// The call about one key or probe.
 pub fn look(model: &Model, key: &Text, probe: &Text, call: &Call) -> u64 {
     match call.kind {
@@ -78,9 +87,8 @@ pub fn look(model: &Model, key: &Text, probe: &Text, call: &Call) -> u64 {
         13 => matches(model, key, most_of(call)),
         14 => mix(matches(model, key, 100), matches(model, probe, 100)),
         _ => {
-            let last = pair_at(model, model.len().wrapping_sub(1));
             let size = mix(model.len() as u64, sum_if(model.len() == 0));
-            mix(size, mix(pair_at(model, 0), last))
+            mix(size, ends(model, 0, model.len()))
         }
     }
 }
@@ -108,6 +116,11 @@ fn some_of(span: (usize, usize), most: u64) -> (usize, usize) {
     (span.0, span.1.min(span.0.saturating_add(most as usize)))
 }
 
+// At most so many places of a range, up to its end.
+fn last_of(span: (usize, usize), most: u64) -> (usize, usize) {
+    (span.0.max(span.1.saturating_sub(most as usize)), span.1)
+}
+
 fn try_values(model: &Model, span: (usize, usize), most: u64, fails: bool) -> u64 {
     let some = some_of(span, most);
     let sum = model.sum(some.0, some.1, false);
@@ -118,24 +131,32 @@ fn try_values(model: &Model, span: (usize, usize), most: u64, fails: bool) -> u6
     }
 }
 
+// The places that a walk over all pairs, below a prefix, or within bounds passes.
+fn span_of(model: &Model, key: &Text, end: &Text, call: &Call) -> (usize, usize) {
+    let bounds = call.choice % 9;
+    match call.kind {
+        16 => (0, model.len()),
+        18 => model.below(key),
+        _ => (
+            start_of(model, key, bounds / 3),
+            end_of(model, end, bounds % 3),
+        ),
+    }
+}
+
 /// The call about many pairs.
 pub fn walk(model: &Model, key: &Text, end: &Text, call: &Call) -> u64 {
     let most = most_of(call);
-    let ways = call.choice % 9;
     let below = model.below(key);
     let (span, with_keys) = match call.kind {
-        16 => (some_of((0, model.len()), most), true),
         17 => (some_of((0, model.len()), most), false),
-        18 => (some_of(below, most), true),
-        20 => return try_values(model, below, most, call.choice % 2 == 0),
         19 | 21 => (below, false),
-        _ => (
-            some_of(
-                (start_of(model, key, ways / 3), end_of(model, end, ways % 3)),
-                most,
-            ),
-            true,
-        ),
+        20 => return try_values(model, below, most, call.choice % 2 == 0),
+        _ if descends(call) => {
+            let last = last_of(span_of(model, key, end, call), most);
+            return model.sum_back(last.0, last.1);
+        }
+        _ => (some_of(span_of(model, key, end, call), most), true),
     };
     model.sum(span.0, span.1, with_keys)
 }

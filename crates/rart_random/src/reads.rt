@@ -4,7 +4,7 @@ use crate::edits::WRONG;
 use crate::numbers::{mix, mix_pair, sum_if, sum_of};
 use crate::sides::{Tree, bound_of, mix_key, same_key};
 use crate::text::Text;
-use rart::{KeyTrait, VisitControl, VisitError};
+use rart::{Descending, KeyTrait, VisitControl, VisitError};
 
 fn get<K: KeyTrait + Drop>(tree: &Tree<K>, key: &K) -> u64 {
     let found = sum_of(tree.get_k(key).copied());
@@ -32,7 +32,8 @@ fn longest<K: KeyTrait + Drop>(tree: &Tree<K>, key: &K, probe: &Text) -> u64 {
     mix(mix(by_key, by_bytes), sum_of(len))
 }
 
-fn ends<K: KeyTrait + Drop>(tree: &Tree<K>) -> u64 {
+/// The sum of the first and of the last pair.
+pub fn ends<K: KeyTrait + Drop>(tree: &Tree<K>) -> u64 {
     mix(
         sum_of_pair(tree.first_key_value()),
         sum_of_pair(tree.last_key_value()),
@@ -176,16 +177,62 @@ fn range<K: KeyTrait + Drop>(tree: &Tree<K>, start: &K, end: &K, call: &Call) ->
     Some(sum)
 }
 
+/// Whether a walk begins at the last pair.
+pub fn descends(call: &Call) -> bool {
+    (call.choice >> 16) % 2 == 1
+}
+
+fn sum_descending<K: KeyTrait + Drop>(mut pairs: Descending<'_, K, u64>, most: u64) -> u64 {
+    let mut sum = 1_u64;
+    for _ in 0..most {
+        match pairs.next() {
+            Some((key, value)) => sum = mix(mix_key(sum, &key), *value),
+            None => return ended(pairs.next().is_none(), sum),
+        }
+    }
+    sum
+}
+
+fn range_descending<K: KeyTrait + Drop>(
+    tree: &Tree<K>,
+    start: &K,
+    end: &K,
+    call: &Call,
+) -> Option<u64> {
+    let bounds = call.choice % 9;
+    let mut sum = 1_u64;
+    let mut pairs = tree
+        .range_descending(bound_of(start, bounds / 3), bound_of(end, bounds % 3))
+        .ok()?;
+    for _ in 0..most_of(call) {
+        match pairs.next() {
+            Some((key, value)) => sum = mix(mix_key(sum, &key), *value),
+            None => return Some(ended(pairs.next().is_none(), sum)),
+        }
+    }
+    Some(sum)
+}
+
+fn descend<K: KeyTrait + Drop>(tree: &Tree<K>, key: &K, end: &K, call: &Call) -> Option<u64> {
+    let most = most_of(call);
+    match call.kind {
+        16 => Some(sum_descending(tree.iter_descending().ok()?, most)),
+        18 => Some(sum_descending(tree.prefix_iter_descending_k(key).ok()?, most)),
+        _ => range_descending(tree, key, end, call),
+    }
+}
+
 /// The call about many pairs.
 pub fn walk<K: KeyTrait + Drop>(tree: &Tree<K>, key: &K, end: &K, call: &Call) -> Option<u64> {
     let most = most_of(call);
     match call.kind {
-        16 => iter(tree, most),
         17 => values(tree, most),
-        18 => prefix_iter(tree, key, most),
         19 => values_for_each(tree, key),
         20 => try_values(tree, key, most, call.choice % 2 == 0),
         21 => fold(tree, key),
+        _ if descends(call) => descend(tree, key, end, call),
+        16 => iter(tree, most),
+        18 => prefix_iter(tree, key, most),
         _ => range(tree, key, end, call),
     }
 }
