@@ -17,14 +17,18 @@ import signal
 import subprocess
 import sys
 import tempfile
+import threading
 import typing
 
 sys.dont_write_bytecode = True
 
 TOP = pathlib.Path(__file__).resolve().parents[1]
 
-# The compiler answers within seconds. A body that compiles would go on to its proofs, which take minutes.
-SECONDS = 120
+# The compiler answers within seconds, unless the machine stands still.
+SECONDS = 1800
+
+# The first line of a check that goes on to its proofs: the compiler has no error.
+ACCEPTED = re.compile(r"so far: 0 of \d+ functions")
 
 # The help that follows an error may change with the toolchain.
 ERROR = re.compile(r"^(\S+?):\d+:\d+: (error\[[\w-]+\]: .*?)(?:: help: .*)?$", re.M)
@@ -241,16 +245,30 @@ def copy_sources(folder):
                 shutil.copytree(crate / part, folder / "crates" / crate.name / part)
 
 
+def kill(check):
+    """Ends the check and what it started."""
+    try:
+        os.killpg(check.pid, signal.SIGKILL)
+    except ProcessLookupError:
+        pass
+
+
 def compiler_output(folder):
-    """Returns what the check of the crate in `folder` prints until it ends, or until its time is over."""
+    """Returns what the check of the crate in `folder` prints until it ends, begins a proof, or its time is over."""
     command = ["rt", "check", "--only", "", "--jobs", "1"]
     pipes = {"stdin": subprocess.DEVNULL, "stdout": subprocess.PIPE, "stderr": subprocess.STDOUT}
+    lines = []
     with subprocess.Popen(command, cwd=folder, text=True, errors="replace", start_new_session=True, **pipes) as check:
-        try:
-            return check.communicate(timeout=SECONDS)[0]
-        except subprocess.TimeoutExpired:
-            os.killpg(check.pid, signal.SIGKILL)
-            return check.communicate()[0]
+        limit = threading.Timer(SECONDS, kill, [check])
+        limit.start()
+        for line in check.stdout:
+            lines.append(line)
+            if ACCEPTED.match(line):
+                kill(check)
+                break
+        check.wait()
+        limit.cancel()
+    return "".join(lines)
 
 
 def fault(body):

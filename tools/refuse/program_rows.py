@@ -68,7 +68,7 @@ def full_output(program):
 
 
 def reader_goes(program):
-    """The reader goes away after the first answer."""
+    """The reader goes away before the first answer."""
     child = subprocess.Popen([program], stdin=subprocess.PIPE, stdout=subprocess.PIPE, stderr=subprocess.PIPE, env={})
     child.stdout.close()
     try:
