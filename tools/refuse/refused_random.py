@@ -22,7 +22,7 @@ def run(program, library, case):
         report = pathlib.Path(room) / "report"
         env = {"PATH": "/usr/bin:/bin", "LD_PRELOAD": str(library), "REFUSE_REPORT": str(report)}
         try:
-            ended = subprocess.run([program], input=line.encode(), env=env, cwd=room, capture_output=True, timeout=300)
+            ended = subprocess.run([program], input=line.encode(), env=env, cwd=room, capture_output=True, timeout=1800)
         except subprocess.TimeoutExpired:
             return "it ran out of time", 0
         counts = dict(word.split("=") for word in report.read_text().split()) if report.exists() else {}

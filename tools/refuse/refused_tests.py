@@ -64,7 +64,7 @@ def tests():
     for program in sorted(TOP.glob("crates/*/out/*_tests")):
         if not os.access(program, os.X_OK) or not program.is_file():
             continue
-        listed = subprocess.run([program, "--list"], capture_output=True, text=True, timeout=60).stdout
+        listed = subprocess.run([program, "--list"], capture_output=True, text=True, timeout=600).stdout
         for test in re.findall(r"^(\S+): test$", listed, re.M):
             if any(kind.search(test) for kind in KINDS):
                 yield program, test

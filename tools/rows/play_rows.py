@@ -36,7 +36,7 @@ PROGRAMS = (("rart_script", script_rows), ("rart_routes", routes_rows))
 BUILDS = (("LLVM", ""), ("Rattle", ".by-rattle"))
 
 # Far more seconds than any run takes, on a busy machine too.
-SECONDS = 60
+SECONDS = 600
 
 
 def run(program, script, **how):
