@@ -13,6 +13,10 @@ use std::io;
 use std::io::Write;
 
 /// Writes that there is no route.
+///
+/// # Errors
+///
+/// The error of `output`, which then may hold a part of the line.
 pub fn write_none<W: Write>(output: &mut W) -> io::Result<()>
     ensures { OnOk result (Appends (W.contents output.old) (W.contents output.new) none_line) }
 {
@@ -20,6 +24,10 @@ pub fn write_none<W: Write>(output: &mut W) -> io::Result<()>
 }
 
 /// Writes the target that a network has or had.
+///
+/// # Errors
+///
+/// The error of `output`, which then may hold a part of the line.
 pub fn write_target<W: Write>(output: &mut W, target: &Target) -> io::Result<()>
     ensures { OnOk result (Appends (W.contents output.old) (W.contents output.new)
         (target_line (array_key_bytes target.now))) }
@@ -30,6 +38,10 @@ pub fn write_target<W: Write>(output: &mut W, target: &Target) -> io::Result<()>
 }
 
 /// Writes why a table refused a command.
+///
+/// # Errors
+///
+/// The error of `output`, which then may hold a part of the line.
 pub fn write_refusal<W: Write>(output: &mut W, error: TreeError) -> io::Result<()>
     ensures { OnOk result
         (Appends (W.contents output.old) (W.contents output.new) (refusal_line error)) }
@@ -41,6 +53,10 @@ pub fn write_refusal<W: Write>(output: &mut W, error: TreeError) -> io::Result<(
 }
 
 /// Writes the route that was found, or `none`.
+///
+/// # Errors
+///
+/// The error of `output`, which then may hold a part of the line.
 pub fn write_found<W: Write>(output: &mut W, found: Option<(Net, &Target)>) -> io::Result<()>
     ensures { OnOk result (Appends (W.contents output.old) (W.contents output.new)
         (found_line (option_map (λ p. (p.0, p.1.now)) found.entry))) }
@@ -54,6 +70,10 @@ pub fn write_found<W: Write>(output: &mut W, found: Option<(Net, &Target)>) -> i
 }
 
 /// Writes the routes, one space between each two; `empty` if there is none.
+///
+/// # Errors
+///
+/// The error of `output`, which then may hold a part of the line.
 pub fn write_routes<W: Write>(output: &mut W, routes: Found<'_>) -> io::Result<()>
     ensures { OnOk result
         (PrintsRoutes (found_left routes.entry) (W.contents output.old) (W.contents output.new)) }
