@@ -2,8 +2,8 @@
 //!
 //! Each line of standard input is a case: `KEYS SEED CALLS REFUSED`. The same case makes the same calls. A case that
 //! goes wrong is printed with its call, and with the shortest list of calls that still goes wrong; the status is then
-//! 1. The size of the largest tree of a case that goes well goes to standard error, and no count of cases is printed, so
-//! that kept cases change no output. It is no part of the product.
+//! 1. The size of the largest tree of a case that goes well goes to standard error, and cases are not counted, so that
+//! kept cases change no output. It is no part of the product.
 #![tactic(auto)]
 
 mod call;
