@@ -12,7 +12,7 @@ use Rattle.rart_nodes.specs.declared.slot.SlotUpdate.{SlotUpdate}
 use Rattle.rart_nodes.specs.declared.slot.SlotUpdate.TheVariants.{Keep, Remove, Insert}
 use Rattle.rart_nodes.specs.declared.slot.UpdateError.{UpdateError}
 use Rattle.rart_nodes.specs.declared.slot.UpdateError.TheVariants.{Insert as Not_inserted, Remove as Not_removed}
-use Rattle.rart_nodes.specs.edits.Slots.{HasRoom, outcome_of, slot_of}
+use Rattle.rart_nodes.specs.edits.Slots.{HasCapacity, outcome_of, slot_of}
 use Rattle.rart_nodes.specs.edits.Updates.{EndsMap, RefusesNew, map_left}
 use Rattle.rart_parts.specs.declared.error.TreeError.{TreeError}
 use Rattle.rart_parts.specs.declared.error.TreeError.TheVariants.{Memory, Full}
@@ -28,11 +28,11 @@ use Rattle.rart.specs.declared.tree.TheConstants.{MAX_PAIRS}
 full-is : (l n : ℕ) → nat_eq l n ≡ true → l ≡ n
 full-is l n h = grind (arith, nat_tests)
 
-room-is : (l n : ℕ) → nat_eq l n ≡ false → l ≢ n
-room-is l n h = λ e. grind (arith, nat_tests)
+count-is-less : (l n : ℕ) → nat_eq l n ≡ false → l ≢ n
+count-is-less l n h = λ e. grind (arith, nat_tests)
 
-room-below : (l n : ℕ) → l ≤ n → nat_eq l n ≡ false → l < n
-room-below l n b h = grind (arith, nat_tests)
+count-below : (l n : ℕ) → l ≤ n → nat_eq l n ≡ false → l < n
+count-below l n b h = grind (arith, nat_tests)
 
 pub same-map : {V : Type 0} (a b : MapAndShape V) → a.pairs ≡ b.pairs → a.nodes ≡ b.nodes → a ≡ b
 same-map {V} a b p n =
@@ -58,17 +58,17 @@ module _ {V : Type 0} where
   some-stored (Some y) (Some x) h s = λ z. cc
 
   takes-new : (full : Bool) (r : SlotUpdate V) (w : Option V) (o : Outcome V) (m : List (List ℕ × V))
-      → full ≡ nat_eq (length m) MAX_PAIRS → o ≡ outcome_of r w → HasRoom full o → TakesNew r w m
+      → full ≡ nat_eq (length m) MAX_PAIRS → o ≡ outcome_of r w → HasCapacity full o → TakesNew r w m
   takes-new full Keep w o m f e h = tt
   takes-new full Remove w o m f e h = tt
   takes-new full (Insert x) (Some w) o m f e h = tt
-  takes-new full (Insert x) None o m f e h = let room : full ≡ false = rw e at h in
-      room-is (length m) MAX_PAIRS (sym f ∙ room)
+  takes-new full (Insert x) None o m f e h = let fewer : full ≡ false = rw e at h in
+      count-is-less (length m) MAX_PAIRS (sym f ∙ fewer)
 
   may-refuse : (full : Bool) (k : List ℕ) (m : List (List ℕ × V)) (e : TreeError) → full ≡ nat_eq (length m) MAX_PAIRS
       → length m ≤ MAX_PAIRS → lookup k m ≡ None → RefusesNew full k m e → MayRefuseInsert m k e
   may-refuse full k m Full f most none h = (none, full-is (length m) MAX_PAIRS (sym f ∙ h))
-  may-refuse full k m Memory f most none h = (none, room-below (length m) MAX_PAIRS most (sym f ∙ h.0), h.1)
+  may-refuse full k m Memory f most none h = (none, count-below (length m) MAX_PAIRS most (sym f ∙ h.0), h.1)
 
   -- the update of a root is one of the map
   pub ends-in : (full : Bool) (k : List ℕ) (r : SlotUpdate V) (w : Option V) (m : List (List ℕ × V))

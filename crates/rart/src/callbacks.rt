@@ -7,10 +7,10 @@
 ghost use Rattle.std.specs.Prelude.{◌≡◌, IfErr, IfOk, OnErr, OnOk};
 ghost use Rattle.rart_keys.specs.Filters.{matches};
 ghost use Rattle.rart_nodes.specs.walks.BelowPrefix.{values_below};
-ghost use Rattle.rart_nodes.specs.walks.Calls.{MayLackRoom};
+ghost use Rattle.rart_nodes.specs.walks.Calls.{MayLackMemory};
 ghost use Rattle.rart_nodes.specs.walks.Matched.{CanMatch, MatchedEach, MatchesEach};
 ghost use Rattle.rart_nodes.specs.walks.Shown.{CanFold, CanShow, FoldedEach, FoldsEach, ShowedEach, ShowsEach};
-ghost use Rattle.rart_nodes.specs.walks.Tried.{CanTry, EndedVisit, EndsVisit, MayStopAtRoom};
+ghost use Rattle.rart_nodes.specs.walks.Tried.{CanTry, EndedVisit, EndsVisit, MayStopForMemory};
 
 use crate::tree::AdaptiveRadixTree;
 use rart_keys::KeyTrait;
@@ -96,7 +96,7 @@ impl<K: KeyTrait, V> AdaptiveRadixTree<K, V> {
         ensures calls { OnOk result
             (ShowsEach F.FnMut f.old (values_below (K.bytes prefix.now) self.now.pairs) f.new) }
         ensures unchanged { OnErr result (f.new ≡ f.old) }
-        ensures memory { IfErr result (MayLackRoom self.now.pairs) }
+        ensures memory { IfErr result (MayLackMemory self.now.pairs) }
     {
         self.seen().prefix_values_for_each_by_ref_k(prefix, f)
     }
@@ -118,7 +118,7 @@ impl<K: KeyTrait, V> AdaptiveRadixTree<K, V> {
         ensures calls { OnOk result
             (ShowsEach F.FnMut f.old (values_below (K.bytes prefix) self.now.pairs) f.new) }
         ensures unchanged { OnErr result (f.new ≡ f.old) }
-        ensures memory { IfErr result (MayLackRoom self.now.pairs) }
+        ensures memory { IfErr result (MayLackMemory self.now.pairs) }
     {
         self.prefix_values_for_each_by_ref_k(&prefix, f)
     }
@@ -136,7 +136,7 @@ impl<K: KeyTrait, V> AdaptiveRadixTree<K, V> {
         requires callable { CanShow F.FnMut f (values_below (K.bytes prefix.now) self.now.pairs) }
         ensures calls { OnOk result
             (ShowedEach F.FnMut f (values_below (K.bytes prefix.now) self.now.pairs)) }
-        ensures memory { IfErr result (MayLackRoom self.now.pairs) }
+        ensures memory { IfErr result (MayLackMemory self.now.pairs) }
     {
         self.seen().prefix_values_for_each_k(prefix, f)
     }
@@ -156,7 +156,7 @@ impl<K: KeyTrait, V> AdaptiveRadixTree<K, V> {
         requires callable { CanShow F.FnMut f (values_below (K.bytes prefix) self.now.pairs) }
         ensures calls { OnOk result
             (ShowedEach F.FnMut f (values_below (K.bytes prefix) self.now.pairs)) }
-        ensures memory { IfErr result (MayLackRoom self.now.pairs) }
+        ensures memory { IfErr result (MayLackMemory self.now.pairs) }
     {
         self.prefix_values_for_each_k(&prefix, f)
     }
@@ -179,7 +179,7 @@ impl<K: KeyTrait, V> AdaptiveRadixTree<K, V> {
         ensures calls { IfOk result (λ state. FoldsEach F.FnMut f.old init
             (values_below (K.bytes prefix.now) self.now.pairs) f.new state) }
         ensures unchanged { OnErr result (f.new ≡ f.old) }
-        ensures memory { IfErr result (MayLackRoom self.now.pairs) }
+        ensures memory { IfErr result (MayLackMemory self.now.pairs) }
     {
         self.seen().prefix_values_fold_by_ref_k(prefix, init, f)
     }
@@ -203,7 +203,7 @@ impl<K: KeyTrait, V> AdaptiveRadixTree<K, V> {
         ensures calls { IfOk result (λ state. FoldsEach F.FnMut f.old init
             (values_below (K.bytes prefix) self.now.pairs) f.new state) }
         ensures unchanged { OnErr result (f.new ≡ f.old) }
-        ensures memory { IfErr result (MayLackRoom self.now.pairs) }
+        ensures memory { IfErr result (MayLackMemory self.now.pairs) }
     {
         self.prefix_values_fold_by_ref_k(&prefix, init, f)
     }
@@ -223,7 +223,7 @@ impl<K: KeyTrait, V> AdaptiveRadixTree<K, V> {
             (values_below (K.bytes prefix.now) self.now.pairs) }
         ensures calls { IfOk result
             (FoldedEach F.FnMut f init (values_below (K.bytes prefix.now) self.now.pairs)) }
-        ensures memory { IfErr result (MayLackRoom self.now.pairs) }
+        ensures memory { IfErr result (MayLackMemory self.now.pairs) }
     {
         self.seen().prefix_values_fold_k(prefix, init, f)
     }
@@ -244,7 +244,7 @@ impl<K: KeyTrait, V> AdaptiveRadixTree<K, V> {
         requires callable { CanFold F.FnMut f init (values_below (K.bytes prefix) self.now.pairs) }
         ensures calls { IfOk result
             (FoldedEach F.FnMut f init (values_below (K.bytes prefix) self.now.pairs)) }
-        ensures memory { IfErr result (MayLackRoom self.now.pairs) }
+        ensures memory { IfErr result (MayLackMemory self.now.pairs) }
     {
         self.prefix_values_fold_k(&prefix, init, f)
     }
@@ -266,7 +266,7 @@ impl<K: KeyTrait, V> AdaptiveRadixTree<K, V> {
         ensures callable { F.IsAlwaysCallable f.old → F.IsAlwaysCallable f.new }
         ensures calls { EndsVisit F.FnMut f.old
             (values_below (K.bytes prefix.now) self.now.pairs) result f.new }
-        ensures memory { IfErr result (MayStopAtRoom self.now.pairs) }
+        ensures memory { IfErr result (MayStopForMemory self.now.pairs) }
     {
         self.seen().try_prefix_values_for_each_by_ref_k(prefix, f)
     }
@@ -287,7 +287,7 @@ impl<K: KeyTrait, V> AdaptiveRadixTree<K, V> {
         ensures callable { F.IsAlwaysCallable f.old → F.IsAlwaysCallable f.new }
         ensures calls { EndsVisit F.FnMut f.old
             (values_below (K.bytes prefix) self.now.pairs) result f.new }
-        ensures memory { IfErr result (MayStopAtRoom self.now.pairs) }
+        ensures memory { IfErr result (MayStopForMemory self.now.pairs) }
     {
         self.try_prefix_values_for_each_by_ref_k(&prefix, f)
     }
@@ -305,7 +305,7 @@ impl<K: KeyTrait, V> AdaptiveRadixTree<K, V> {
         requires callable { CanTry F.FnMut f (values_below (K.bytes prefix.now) self.now.pairs) }
         ensures calls { EndedVisit F.FnMut f
             (values_below (K.bytes prefix.now) self.now.pairs) result }
-        ensures memory { IfErr result (MayStopAtRoom self.now.pairs) }
+        ensures memory { IfErr result (MayStopForMemory self.now.pairs) }
     {
         self.seen().try_prefix_values_for_each_k(prefix, f)
     }
@@ -325,7 +325,7 @@ impl<K: KeyTrait, V> AdaptiveRadixTree<K, V> {
         requires callable { CanTry F.FnMut f (values_below (K.bytes prefix) self.now.pairs) }
         ensures calls { EndedVisit F.FnMut f
             (values_below (K.bytes prefix) self.now.pairs) result }
-        ensures memory { IfErr result (MayStopAtRoom self.now.pairs) }
+        ensures memory { IfErr result (MayStopForMemory self.now.pairs) }
     {
         self.try_prefix_values_for_each_k(&prefix, f)
     }

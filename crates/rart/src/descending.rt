@@ -3,7 +3,7 @@ ghost use Rattle.std.specs.Prelude.{◌≡◌, IfErr, IfOk, reverse};
 ghost use Rattle.rart_keys.specs.Filters.{below};
 ghost use Rattle.rart_keys.specs.Ranges.{between, bound_in};
 ghost use Rattle.rart_nodes.specs.ranges.UpperBounds.{down_to};
-ghost use Rattle.rart_nodes.specs.walks.Calls.{MayLackRoom};
+ghost use Rattle.rart_nodes.specs.walks.Calls.{MayLackMemory};
 
 use crate::tree::AdaptiveRadixTree;
 use rart_keys::KeyTrait;
@@ -28,7 +28,7 @@ impl<K: KeyTrait, V> AdaptiveRadixTree<K, V> {
     /// ```
     pub fn iter_descending(&self) -> Result<Descending<'_, K, V>, TreeError>
         ensures pairs { IfOk result (λ it. it ≡ reverse self.now.pairs) }
-        ensures memory { IfErr result (MayLackRoom self.now.pairs) }
+        ensures memory { IfErr result (MayLackMemory self.now.pairs) }
     {
         self.seen().iter_descending()
     }
@@ -41,7 +41,7 @@ impl<K: KeyTrait, V> AdaptiveRadixTree<K, V> {
     pub fn prefix_iter_descending_k(&self, prefix: &K) -> Result<Descending<'_, K, V>, TreeError>
         ensures pairs { IfOk result
             (λ it. it ≡ reverse (below (K.bytes prefix.now) self.now.pairs)) }
-        ensures memory { IfErr result (MayLackRoom self.now.pairs) }
+        ensures memory { IfErr result (MayLackMemory self.now.pairs) }
     {
         self.seen().prefix_iter_descending_k(prefix)
     }
@@ -67,7 +67,7 @@ impl<K: KeyTrait + Drop, V> AdaptiveRadixTree<K, V> {
     ) -> Result<RangeDescending<'_, K, V>, TreeError>
         ensures pairs { IfOk result (λ r. down_to r.0 r.1
             ≡ reverse (between (bound_in K.bytes start) (bound_in K.bytes end) self.now.pairs)) }
-        ensures memory { IfErr result (MayLackRoom self.now.pairs) }
+        ensures memory { IfErr result (MayLackMemory self.now.pairs) }
     {
         self.seen().range_descending(start, end)
     }

@@ -1,7 +1,7 @@
 //! Iterators over a tree, ascending by key.
 ghost use Rattle.std.specs.Prelude.{◌≡◌, IfErr, IfOk};
 ghost use Rattle.rart_keys.specs.SortedMap.{values_of};
-ghost use Rattle.rart_nodes.specs.walks.Calls.{MayLackRoom};
+ghost use Rattle.rart_nodes.specs.walks.Calls.{MayLackMemory};
 
 use crate::tree::AdaptiveRadixTree;
 use rart_keys::KeyTrait;
@@ -26,7 +26,7 @@ impl<K: KeyTrait, V> AdaptiveRadixTree<K, V> {
     /// ```
     pub fn iter(&self) -> Result<Iter<'_, K, K::PartialType, V>, TreeError>
         ensures pairs { IfOk result (λ it. it ≡ self.now.pairs) }
-        ensures memory { IfErr result (MayLackRoom self.now.pairs) }
+        ensures memory { IfErr result (MayLackMemory self.now.pairs) }
     {
         self.seen().iter()
     }
@@ -38,7 +38,7 @@ impl<K: KeyTrait, V> AdaptiveRadixTree<K, V> {
     /// [`TreeError::Memory`] if the tree isn't empty and the allocation fails.
     pub fn values_iter(&self) -> Result<ValuesIter<'_, K, V>, TreeError>
         ensures values { IfOk result (λ it. it ≡ values_of self.now.pairs) }
-        ensures memory { IfErr result (MayLackRoom self.now.pairs) }
+        ensures memory { IfErr result (MayLackMemory self.now.pairs) }
     {
         self.seen().values_iter()
     }

@@ -4,7 +4,7 @@ ghost use Rattle.std.specs.Borrow.{sem};
 ghost use Rattle.std.specs.Option.{option_copied};
 ghost use Rattle.rart_keys.specs.SortedMap.{IsAscending, keys_of, lookup, put, values_of, without};
 ghost use Rattle.rart_nodes.specs.statistics.Statistics.{stats_in, stats_of};
-ghost use Rattle.rart_nodes.specs.walks.Calls.{MayLackRoom};
+ghost use Rattle.rart_nodes.specs.walks.Calls.{MayLackMemory};
 ghost use Rattle.rart.specs.Edits.{PutOrSame};
 ghost use Rattle.rart.specs.LawAnswers.{IsCounted, RefusesCall};
 ghost use Rattle.rart.specs.Loans.{ends_as};
@@ -133,7 +133,7 @@ pub fn pairs_and_values<'a, K: KeyTrait, V>(
     ensures ascending { IfOk result (λ r. IsAscending r.0) }
     ensures many { IfOk result (λ r. length r.0 ≡ length tree.now.pairs) }
     ensures same { IfOk result (λ r. r.1 ≡ values_of r.0) }
-    ensures memory { IfErr result (MayLackRoom tree.now.pairs) }
+    ensures memory { IfErr result (MayLackMemory tree.now.pairs) }
 {
     tree.canonical();
     Ok((tree.iter()?, tree.values_iter()?))

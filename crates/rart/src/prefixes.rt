@@ -2,7 +2,7 @@
 ghost use Rattle.std.specs.Prelude.{◌≡◌, ◌≤◌, length, option_map, take, IfErr, IfOk, IfSome};
 ghost use Rattle.std.specs.Option.{option_copied};
 ghost use Rattle.rart_keys.specs.Filters.{below, longest_match, longest_value, matches};
-ghost use Rattle.rart_nodes.specs.walks.Calls.{MayLackRoom};
+ghost use Rattle.rart_nodes.specs.walks.Calls.{MayLackMemory};
 
 use crate::tree::AdaptiveRadixTree;
 use rart_keys::KeyTrait;
@@ -114,7 +114,7 @@ impl<K: KeyTrait, V> AdaptiveRadixTree<K, V> {
     /// ```
     pub fn prefix_iter_k(&self, prefix: &K) -> Result<Iter<'_, K, K::PartialType, V>, TreeError>
         ensures pairs { IfOk result (λ it. it ≡ below (K.bytes prefix.now) self.now.pairs) }
-        ensures memory { IfErr result (MayLackRoom self.now.pairs) }
+        ensures memory { IfErr result (MayLackMemory self.now.pairs) }
     {
         self.seen().prefix_iter_k(prefix)
     }
@@ -128,7 +128,7 @@ impl<K: KeyTrait, V> AdaptiveRadixTree<K, V> {
     where
         K: Drop,
         ensures pairs { IfOk result (λ it. it ≡ below (K.bytes prefix) self.now.pairs) }
-        ensures memory { IfErr result (MayLackRoom self.now.pairs) }
+        ensures memory { IfErr result (MayLackMemory self.now.pairs) }
     {
         self.prefix_iter_k(&prefix)
     }

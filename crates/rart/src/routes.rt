@@ -10,7 +10,7 @@ ghost use Rattle.rart_keys.specs.KeyBytes.{IsWithin};
 ghost use Rattle.rart_keys.specs.SortedMap.{IsAscending, keys_of, longest_key, lookup};
 ghost use Rattle.rart_nodes.specs.shapes.Shape.{HasShape};
 ghost use Rattle.rart_nodes.specs.tries.SeenTrees.{length_bound, seen_nodes, seen_pairs};
-ghost use Rattle.rart_nodes.specs.walks.Calls.{MayLackRoom};
+ghost use Rattle.rart_nodes.specs.walks.Calls.{MayLackMemory};
 ghost use Rattle.rart.specs.Edits.{Inserts, InsertsNew, PutOrSame, Removes, TriesInsert};
 ghost use Rattle.rart.specs.Refusals.{AddsPresent, IsStoredAt};
 ghost use Rattle.rart.specs.RouteLoans.{table_ends_as};
@@ -88,9 +88,9 @@ impl<K: KeyTrait, T> RouteTable<K, T> {
     pub fn seen<C>(&self) -> Seen<'_, K, T, C>
         ensures pairs { seen_pairs result ≡ self.now.pairs }
         ensures nodes { seen_nodes result ≡ self.now.nodes }
-        ensures room { longest_key self.now.pairs ≤ length_bound result }
+        ensures bounds_keys { longest_key self.now.pairs ≤ length_bound result }
         ensures within { IsWithin K.MAXIMUM_SIZE (length_bound result) }
-        ensures no_room { self.now.pairs ≡ [] → length_bound result ≡ 0 }
+        ensures empty_bound { self.now.pairs ≡ [] → length_bound result ≡ 0 }
     {
         self.routes.seen()
     }
@@ -186,7 +186,7 @@ impl<K: KeyTrait, T> RouteTable<K, T> {
     /// [`TreeError::Memory`] if the table isn't empty and the allocation for the iterator fails.
     pub fn iter(&self) -> Result<Iter<'_, K, K::PartialType, T>, TreeError>
         ensures routes { IfOk result (λ it. it ≡ self.now.pairs) }
-        ensures memory { IfErr result (MayLackRoom self.now.pairs) }
+        ensures memory { IfErr result (MayLackMemory self.now.pairs) }
     {
         self.routes.iter()
     }

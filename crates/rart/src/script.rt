@@ -2,7 +2,7 @@
 ghost use Rattle.std.specs.Prelude.{◌≡◌, ◌≢◌, Err, Some, IfErr, IfOk, OnErr, length};
 ghost use Rattle.rart_keys.specs.SortedMap.{keys_of, lookup, values_of};
 ghost use Rattle.rart_nodes.specs.shapes.Shape.{HasShape};
-ghost use Rattle.rart_nodes.specs.walks.Calls.{MayLackRoom};
+ghost use Rattle.rart_nodes.specs.walks.Calls.{MayLackMemory};
 ghost use Rattle.rart.specs.Steps.{IsRun, IsStep, pairs_in};
 ghost use Rattle.rart.specs.Updates.{IsTryUpdate, IsUpdate, left_by, written_slot};
 ghost use Rattle.rart.specs.declared.tree.update.TryUpdateError.TheVariants.{Clone as Not_cloned};
@@ -240,7 +240,7 @@ fn copied_pairs<K: KeyTrait + Drop, V: Copy>(
     tree: &AdaptiveRadixTree<K, V>,
 ) -> Result<Vec<(K, V)>, TreeError>
     ensures pairs { IfOk result (λ pairs. pairs_in K.bytes pairs.items ≡ tree.now.pairs) }
-    ensures memory { IfErr result (MayLackRoom tree.now.pairs) }
+    ensures memory { IfErr result (MayLackMemory tree.now.pairs) }
 {
     let mut pairs = Vec::with_capacity(alloc, tree.len())?;
     let mut rest = tree.iter()?;
@@ -258,7 +258,7 @@ fn copied_values<K: KeyTrait + Drop, V: Copy>(
     tree: &AdaptiveRadixTree<K, V>,
 ) -> Result<Vec<V>, TreeError>
     ensures values { IfOk result (λ values. values.items ≡ values_of tree.now.pairs) }
-    ensures memory { IfErr result (MayLackRoom tree.now.pairs) }
+    ensures memory { IfErr result (MayLackMemory tree.now.pairs) }
 {
     let mut values = Vec::with_capacity(alloc, tree.len())?;
     let mut rest = tree.values_iter()?;
@@ -289,7 +289,7 @@ pub fn run<K: KeyTrait + Drop, V: Copy>(
     ensures shape_before { HasShape (keys_of tree.old.pairs) tree.old.nodes }
     ensures shape_after { HasShape (keys_of tree.new.pairs) tree.new.nodes }
     ensures unchanged { OnErr result (tree.new ≡ tree.old) }
-    ensures memory { IfErr result (MayLackRoom calls.items) }
+    ensures memory { IfErr result (MayLackMemory calls.items) }
 {
     tree.canonical();
     let mut replies = Vec::with_capacity(alloc, calls.len())?;

@@ -141,9 +141,9 @@ impl<K: KeyTrait, V> AdaptiveRadixTree<K, V> {
     pub fn seen<C>(&self) -> Seen<'_, K, V, C>
         ensures pairs { seen_pairs result ≡ self.now.pairs }
         ensures nodes { seen_nodes result ≡ self.now.nodes }
-        ensures room { longest_key self.now.pairs ≤ length_bound result }
+        ensures bounds_keys { longest_key self.now.pairs ≤ length_bound result }
         ensures within { IsWithin K.MAXIMUM_SIZE (length_bound result) }
-        ensures no_room { self.now.pairs ≡ [] → length_bound result ≡ 0 }
+        ensures empty_bound { self.now.pairs ≡ [] → length_bound result ≡ 0 }
     {
         Seen::of(self.root.as_ref(), self.alloc, self.longest)
     }
@@ -208,7 +208,7 @@ impl<K: KeyTrait, V> AdaptiveRadixTree<K, V> {
     ///
     /// [`TreeError::Full`] if the key is new and the tree holds [`MAX_PAIRS`] pairs. [`TreeError::Memory`] if an
     /// allocation fails: only if the tree isn't empty, the key is no branch point, and the longest branch point that
-    /// begins it has no room for another child or has one at its next byte. The tree is then unchanged, and the error
+    /// begins it has no free slot, or has a child at its next byte. The tree is then unchanged, and the error
     /// holds `value`.
     ///
     /// # Examples

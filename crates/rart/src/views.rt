@@ -12,7 +12,7 @@ ghost use Rattle.rart_nodes.specs.walks.BelowPrefix.{MayLackMatch, cut_below};
 ghost use Rattle.rart_nodes.specs.walks.Cut.{cut_pairs};
 ghost use Rattle.rart_nodes.specs.walks.Viewed.{CanSeeFound, CanShowFound, CanView, SeesFound, ShowsFound, ViewedEach};
 ghost use Rattle.rart_nodes.specs.walks.Viewed.{ViewsEach};
-ghost use Rattle.rart_nodes.specs.walks.Calls.{MayLackRoom};
+ghost use Rattle.rart_nodes.specs.walks.Calls.{MayLackMemory};
 
 use crate::tree::AdaptiveRadixTree;
 use rart_keys::KeyTrait;
@@ -36,7 +36,7 @@ impl<K: KeyTrait, V> AdaptiveRadixTree<K, V> {
         ensures calls { OnOk result (ViewsEach F.FnMut f.old
             (cut_pairs (keys_of self.now.pairs) self.now.pairs) f.new) }
         ensures unchanged { OnErr result (f.new ≡ f.old) }
-        ensures memory { IfErr result (MayLackRoom self.now.pairs) }
+        ensures memory { IfErr result (MayLackMemory self.now.pairs) }
     {
         self.seen()
             .for_each_view_by_ref_counted(f, &mut Visits::new())
@@ -54,7 +54,7 @@ impl<K: KeyTrait, V> AdaptiveRadixTree<K, V> {
         requires callable { CanView F.FnMut f (cut_pairs (keys_of self.now.pairs) self.now.pairs) }
         ensures calls { OnOk result (ViewedEach F.FnMut f
             (cut_pairs (keys_of self.now.pairs) self.now.pairs)) }
-        ensures memory { IfErr result (MayLackRoom self.now.pairs) }
+        ensures memory { IfErr result (MayLackMemory self.now.pairs) }
     {
         self.seen().for_each_view_counted(f, &mut Visits::new())
     }
@@ -74,7 +74,7 @@ impl<K: KeyTrait, V> AdaptiveRadixTree<K, V> {
         ensures calls { OnOk result (ViewsEach F.FnMut f.old
             (cut_below (K.bytes prefix.now) self.now.pairs) f.new) }
         ensures unchanged { OnErr result (f.new ≡ f.old) }
-        ensures memory { IfErr result (MayLackRoom self.now.pairs) }
+        ensures memory { IfErr result (MayLackMemory self.now.pairs) }
     {
         self.seen()
             .prefix_for_each_view_by_ref_k_counted(prefix, f, &mut Visits::new())
@@ -97,7 +97,7 @@ impl<K: KeyTrait, V> AdaptiveRadixTree<K, V> {
         ensures calls { OnOk result (ViewsEach F.FnMut f.old
             (cut_below (K.bytes prefix) self.now.pairs) f.new) }
         ensures unchanged { OnErr result (f.new ≡ f.old) }
-        ensures memory { IfErr result (MayLackRoom self.now.pairs) }
+        ensures memory { IfErr result (MayLackMemory self.now.pairs) }
     {
         self.prefix_for_each_view_by_ref_k(&prefix, f)
     }
@@ -115,7 +115,7 @@ impl<K: KeyTrait, V> AdaptiveRadixTree<K, V> {
         requires callable { CanView F.FnMut f (cut_below (K.bytes prefix.now) self.now.pairs) }
         ensures calls { OnOk result (ViewedEach F.FnMut f
             (cut_below (K.bytes prefix.now) self.now.pairs)) }
-        ensures memory { IfErr result (MayLackRoom self.now.pairs) }
+        ensures memory { IfErr result (MayLackMemory self.now.pairs) }
     {
         self.seen()
             .prefix_for_each_view_k_counted(prefix, f, &mut Visits::new())
@@ -136,7 +136,7 @@ impl<K: KeyTrait, V> AdaptiveRadixTree<K, V> {
         requires callable { CanView F.FnMut f (cut_below (K.bytes prefix) self.now.pairs) }
         ensures calls { OnOk result (ViewedEach F.FnMut f
             (cut_below (K.bytes prefix) self.now.pairs)) }
-        ensures memory { IfErr result (MayLackRoom self.now.pairs) }
+        ensures memory { IfErr result (MayLackMemory self.now.pairs) }
     {
         self.prefix_for_each_view_k(&prefix, f)
     }
@@ -161,7 +161,7 @@ impl<K: KeyTrait, V> AdaptiveRadixTree<K, V> {
         ensures calls { OnOk result (ViewsEach F.FnMut f.old
             (cut_between (bound_in K.bytes start) (bound_in K.bytes end) self.now.pairs) f.new) }
         ensures unchanged { OnErr result (f.new ≡ f.old) }
-        ensures memory { IfErr result (MayLackRoom self.now.pairs) }
+        ensures memory { IfErr result (MayLackMemory self.now.pairs) }
     {
         self.seen()
             .for_each_range_view_by_ref_counted(start, end, f, &mut Visits::new())
@@ -184,7 +184,7 @@ impl<K: KeyTrait, V> AdaptiveRadixTree<K, V> {
             (cut_between (bound_in K.bytes start) (bound_in K.bytes end) self.now.pairs) }
         ensures calls { OnOk result (ViewedEach F.FnMut f
             (cut_between (bound_in K.bytes start) (bound_in K.bytes end) self.now.pairs)) }
-        ensures memory { IfErr result (MayLackRoom self.now.pairs) }
+        ensures memory { IfErr result (MayLackMemory self.now.pairs) }
     {
         self.seen()
             .for_each_range_view_counted(start, end, f, &mut Visits::new())

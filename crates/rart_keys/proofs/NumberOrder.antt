@@ -124,7 +124,7 @@ number_from_digits_after-bytes_high_first (suc k) a n =
     rw (number_from_digits_after-bytes_high_first k (a * 256 + byte_at k n) n, byte_at-pow k n, pow-succ' 256 k, hn)
     (omega (arith, spread, group))
 
--- up to seven digits leave room for one more in eight
+-- up to seven digits leave space for one more in eight
 pub seven_digits : (i n : ℕ) → i < 8 → n < 256 ^ i → n < 256 ^ 7
 seven_digits i n h p = let m : 256 ^ i ≤ 256 ^ 7
     = pow-le-pow_right {n = 256} (omega arith) {i = i} {j = 7} (omega arith) in omega (arith, m)

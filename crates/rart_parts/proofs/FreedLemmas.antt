@@ -1,4 +1,4 @@
--- Maps and places without a value, and those with room.
+-- Maps and places without a value, and those with a free slot.
 use Rattle.std.proofs.Common.{◌≡◌, ℕ, suc, List, [], ◌∷◌, ◌++◌, Option, Some, None, length, sym, ap, ◌∙◌, refl, arith}
 use Rattle.std.proofs.lemmas.List.{length-append}
 use Rattle.rart_parts.specs.Entries.{ascending}

@@ -314,8 +314,8 @@ module _ {X : Type 0} {width : ℕ} {ks : List ℕ} {os : List (Option X)} {coun
       entries = m.entries ∙ sym (ap length (keyed_written m.slots key p x e u f w) ∙ length-replaced key w _);
     }
 
-  pub room_left : count < width → ((q : ℕ) → q < width → not (is_used os q) ≡ false) → ⊥
-  room_left h none = omega (arith, h, m.counted, m.full, all_used 0 os (λ q l. none q (omega (arith, l, m.full))))
+  pub place_left : count < width → ((q : ℕ) → q < width → not (is_used os q) ≡ false) → ⊥
+  place_left h none = omega (arith, h, m.counted, m.full, all_used 0 os (λ q l. none q (omega (arith, l, m.full))))
 
 pub keyed_few : {X : Type 0} {width : ℕ} {ks : List ℕ} {os : List (Option X)} {count : ℕ} → IsKeyed width ks os count
     → length (ascending (with_keys ks os)) ≤ width

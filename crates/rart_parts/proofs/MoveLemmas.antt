@@ -71,8 +71,8 @@ module _ {X : Type 0} (whole moved rest : List (ℕ × X)) (e : ℕ × X) (a : B
   pub moved_next : with_entry e.0 e.1 moved ++ rest ≡ whole
   moved_next = ap (λ l. l ++ rest) (put_last e.0 e.1 rest moved split_ascends) ∙ append_assoc moved (e ∷ []) rest ∙ is
 
-  pub moved_room : (width : ℕ) → length whole ≤ width → length moved < width
-  moved_room width h = omega (arith, ap length is, length-append moved (e ∷ rest), h)
+  pub moved_fits : (width : ℕ) → length whole ≤ width → length moved < width
+  moved_fits width h = omega (arith, ap length is, length-append moved (e ∷ rest), h)
 
 -- from the end of `rest` to the front of `moved`
 module _ {X : Type 0} (whole rest moved : List (ℕ × X)) (e : ℕ × X) (a : BytesAscend whole)
@@ -86,8 +86,8 @@ module _ {X : Type 0} (whole rest moved : List (ℕ × X)) (e : ℕ × X) (a : B
   pub taken_next : rest ++ with_entry e.0 e.1 moved ≡ whole
   taken_next = ap (λ l. rest ++ l) (put_first e.0 e.1 rest moved (subst BytesAscend (sym joined) a)) ∙ joined
 
-  pub taken_room : (width : ℕ) → length whole ≤ width → length moved < width
-  taken_room width h = omega (arith, ap length joined, length-append rest (e ∷ moved), h)
+  pub taken_fits : (width : ℕ) → length whole ≤ width → length moved < width
+  taken_fits width h = omega (arith, ap length joined, length-append rest (e ∷ moved), h)
 
 pub suffix-ascends : {X : Type 0} (t s : List (ℕ × X)) → BytesAscend (t ++ s) → BytesAscend s
 suffix-ascends [] s a = a

@@ -53,7 +53,7 @@ zip_front ks rest [] h = zip_nothing (take 0 ks ++ rest) ∙ sym (zip_nothing ks
 zip_front [] rest (v ∷ vs) h = absurd (omega arith)
 zip_front (k ∷ ks) rest (v ∷ vs) h = ap (λ es. (k, v) ∷ es) (zip_front ks rest vs (omega arith))
 
-module _ {X : Type 0} {width : ℕ} {ks : List ℕ} {vs : List X} {room : ℕ} (s : IsSortedKeyed width ks vs room) where
+module _ {X : Type 0} {width : ℕ} {ks : List ℕ} {vs : List X} {reserved : ℕ} (s : IsSortedKeyed width ks vs reserved) where
   pub fits : length vs ≤ length ks
   fits = omega (arith, s.full, s.few)
 
@@ -64,36 +64,36 @@ module _ {X : Type 0} {width : ℕ} {ks : List ℕ} {vs : List X} {room : ℕ} (
   pub ordered : (n : ℕ) → n ≡ length vs → IsAscendingBelow ks n
   ordered n e = subst (IsAscendingBelow ks) (sym e) (keys_ascend ks vs fits s.ascends)
 
-  pub written : (i : ℕ) (w : X) → IsSortedKeyed width ks (set vs i w) room
+  pub written : (i : ℕ) (w : X) → IsSortedKeyed width ks (set vs i w) reserved
   written i w = record {
     full = s.full;
     few = omega (arith, length-set vs i w, s.few);
-    room = s.room;
+    reserved = s.reserved;
     narrow = s.narrow;
     ascends = subst BytesAscend (sym (set_zip ks vs i w)) (set_child-ascends i w (zip ks vs) s.ascends);
     padded = λ k l m. s.padded k (omega (arith, l, length-set vs i w)) m;
   }
 
-  pub added : (key : ℕ) (x : X) (ks' : List ℕ) (vs' : List X) (room' : ℕ) → length ks' ≡ length ks
-      → length vs' ≡ length vs + 1 → length vs < width → room ≤ room'
+  pub added : (key : ℕ) (x : X) (ks' : List ℕ) (vs' : List X) (reserved' : ℕ) → length ks' ≡ length ks
+      → length vs' ≡ length vs + 1 → length vs < width → reserved ≤ reserved'
       → zip ks' vs' ≡ with_entry key x (zip ks vs) → IsPadded ks' (length vs + 1) width
-      → IsSortedKeyed width ks' vs' room'
-  added key x ks' vs' room' n m l r e p = record {
+      → IsSortedKeyed width ks' vs' reserved'
+  added key x ks' vs' reserved' n m l r e p = record {
     full = n ∙ s.full;
     few = omega (arith, m, l);
-    room = omega (arith, r, s.room);
+    reserved = omega (arith, r, s.reserved);
     narrow = s.narrow;
     ascends = subst BytesAscend (sym e) (with_entry-ascends key x (zip ks vs) s.ascends);
     padded = subst (λ n. IsPadded ks' n width) (sym m) p;
   }
 
-  pub deleted : (key : ℕ) (ks' : List ℕ) (vs' : List X) (room' : ℕ) → length ks' ≡ length ks
-      → length vs ≡ length vs' + 1 → room' ≡ room
-      → zip ks' vs' ≡ without_byte key (zip ks vs) → IsPadded ks' (length vs') width → IsSortedKeyed width ks' vs' room'
-  deleted key ks' vs' room' n m r e p = record {
+  pub deleted : (key : ℕ) (ks' : List ℕ) (vs' : List X) (reserved' : ℕ) → length ks' ≡ length ks
+      → length vs ≡ length vs' + 1 → reserved' ≡ reserved
+      → zip ks' vs' ≡ without_byte key (zip ks vs) → IsPadded ks' (length vs') width → IsSortedKeyed width ks' vs' reserved'
+  deleted key ks' vs' reserved' n m r e p = record {
     full = n ∙ s.full;
     few = omega (arith, m, s.few);
-    room = omega (arith, r, s.room);
+    reserved = omega (arith, r, s.reserved);
     narrow = s.narrow;
     ascends = subst BytesAscend (sym e) (without_byte-ascends key (zip ks vs) s.ascends);
     padded = p;
@@ -112,11 +112,11 @@ module _ {X : Type 0} {width : ℕ} {ks : List ℕ} {vs : List X} {room : ℕ} (
         (omega (arith, last_within, length-set ks (length rest) 255))
         (λ j l. get_or-set_other ks (length rest) j 255 0 (λ q. omega (arith, q, l)))
 
-    pub popped : (room' : ℕ) → room' ≡ room → IsSortedKeyed width (set ks (length rest) 255) rest room'
-    popped room' r = record {
+    pub popped : (reserved' : ℕ) → reserved' ≡ reserved → IsSortedKeyed width (set ks (length rest) 255) rest reserved'
+    popped reserved' r = record {
       full = length-set ks (length rest) 255 ∙ s.full;
       few = omega (arith, s.few, ap length e, length-append rest (x ∷ []));
-      room = omega (arith, r, s.room);
+      reserved = omega (arith, r, s.reserved);
       narrow = s.narrow;
       ascends = subst BytesAscend (sym popped_zip)
           (front-ascends (zip ks rest) _ (subst BytesAscend last_entry s.ascends));
@@ -128,19 +128,19 @@ module _ {X : Type 0} {width : ℕ} {ks : List ℕ} {vs : List X} {room : ℕ} (
           (eqb_tells k (length rest));
     }
 
-  pub emptied : (ks' : List ℕ) (vs' : List X) → length ks' ≡ width → length vs' ≡ 0 → (room' : ℕ) → room' ≡ room
-      → IsPadded ks' 0 width → IsSortedKeyed width ks' vs' room'
-  emptied ks' [] full e room' r p = record {
+  pub emptied : (ks' : List ℕ) (vs' : List X) → length ks' ≡ width → length vs' ≡ 0 → (reserved' : ℕ) → reserved' ≡ reserved
+      → IsPadded ks' 0 width → IsSortedKeyed width ks' vs' reserved'
+  emptied ks' [] full e reserved' r p = record {
     full = full;
     few = omega (arith, s.few);
-    room
-        = omega (arith, r, s.room);
+    reserved
+        = omega (arith, r, s.reserved);
     narrow = s.narrow;
     ascends
         = subst BytesAscend (sym (no_entries ks' [] refl)) tt;
     padded = p;
   }
-  emptied ks' (v ∷ vs') full e room' r p = absurd (omega arith)
+  emptied ks' (v ∷ vs') full e reserved' r p = absurd (omega arith)
 
   -- one more key, at a place, with the keys after it moved up
   pub padded_more : (ks₁ : List ℕ) (n at key : ℕ) → n ≡ length vs → at ≤ n
@@ -179,12 +179,12 @@ module _ {X : Type 0} {width : ℕ} {ks : List ℕ} {vs : List X} {room : ℕ} (
       → ((k d : ℕ) → at + 1 ≤ k → k < at + 1 + (n - at) → get_or ks₁ k d ≡ get_or ks (at + (k - (at + 1))) d)
       → ((k d : ℕ) → k < at + 1 → get_or ks₁ k d ≡ get_or ks k d)
       → zip (set ks₁ at key) (insert vs at x) ≡ with_entry key x (zip ks vs)
-  put_in ks₁ n at key x count room len place absent moved same =
-      inserted key x ks (set ks₁ at key) vs at (omega (arith, s.full, room)) (length-set ks₁ at key ∙ len)
+  put_in ks₁ n at key x count reserved len place absent moved same =
+      inserted key x ks (set ks₁ at key) vs at (omega (arith, s.full, reserved)) (length-set ks₁ at key ∙ len)
       (omega (arith, place.0, count))
       place.1 (λ l. place.2 (omega (arith, l, count))) absent
       (λ j l. get_or-set_other ks₁ at j key 0 (λ e. omega (arith, e, l)) ∙ same j 0 (omega (arith, l)))
-      (get_or-set_same ks₁ at key 0 (omega (arith, place.0, count, len, s.full, room)))
+      (get_or-set_same ks₁ at key 0 (omega (arith, place.0, count, len, s.full, reserved)))
       (λ j l m. get_or-set_other ks₁ at (j + 1) key 0 (λ e. omega (arith, e, l))
       ∙ moved (j + 1) 0 (omega (arith, l)) (omega (arith, l, m, count))
       ∙ (let back : at + (j + 1 - (at + 1)) ≡ j = omega (arith, l) in ap (λ q. get_or ks q 0) back))
@@ -201,9 +201,9 @@ module _ {X : Type 0} {width : ℕ} {ks : List ℕ} {vs : List X} {room : ℕ} (
     pub resized_zip : zip (take n ks ++ drop n ks') vs ≡ zip ks vs
     resized_zip = ap (λ m. zip (take m ks ++ drop n ks') vs) count ∙ zip_front ks (drop n ks') vs fits
 
-    pub resized : (width' room' : ℕ) → length vs ≤ width' → width' ≤ room' → width' ≤ 255 → length ks' ≡ width'
-        → IsPadded ks' 0 width' → IsSortedKeyed width' (take n ks ++ drop n ks') vs room'
-    resized width' room' few r narrow full p = record {
+    pub resized : (width' reserved' : ℕ) → length vs ≤ width' → width' ≤ reserved' → width' ≤ 255 → length ks' ≡ width'
+        → IsPadded ks' 0 width' → IsSortedKeyed width' (take n ks ++ drop n ks') vs reserved'
+    resized width' reserved' few r narrow full p = record {
       full = omega (
         arith,
         length-append (take n ks) (drop n ks'),
@@ -215,7 +215,7 @@ module _ {X : Type 0} {width : ℕ} {ks : List ℕ} {vs : List X} {room : ℕ} (
         fits,
       );
       few = few;
-      room = r;
+      reserved = r;
       narrow = narrow;
       ascends = subst BytesAscend (sym resized_zip) s.ascends;
       padded = λ k l m. get_or-append_right (take n ks) (drop n ks') n k 0

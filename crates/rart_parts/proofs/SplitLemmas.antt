@@ -48,8 +48,8 @@ module _ {X : Type 0} (whole moved rest : List (ℕ × X)) (s : IsSplit whole mo
   pub split_absent : child_at k moved ≡ None
   split_absent = s.apart k x e
 
-  pub split_room : (width : ℕ) → length whole ≤ width → length moved < width
-  split_room width h = omega (arith, h, s.count, length-without_byte k x rest e)
+  pub split_fits : (width : ℕ) → length whole ≤ width → length moved < width
+  split_fits width h = omega (arith, h, s.count, length-without_byte k x rest e)
 
   pub split_next : IsSplit whole (with_entry k x moved) (without_byte k rest)
   split_next = record {

@@ -17,7 +17,7 @@ impl Text {
         }
     }
 
-    /// Appends a byte where there is room.
+    /// Appends a byte where one fits.
     pub fn push(&mut self, byte: u8) {
         if let Some(place) = self.bytes.get_mut(self.len) {
             *place = byte;

@@ -5,11 +5,11 @@ use Rattle.std.specs.Io.KnownBytes.{Appends}
 use Rattle.rart_keys.specs.ArrayKeyBytes.{array_key_bytes}
 use Rattle.rart_keys.specs.declared.keys.array_key.ArrayKey.{ArrayKey}
 use Rattle.rart_nodes.specs.declared.refused.Refused.{Refused}
-use Rattle.rart_nodes.specs.walks.Calls.{MayLackRoom}
+use Rattle.rart_nodes.specs.walks.Calls.{MayLackMemory}
 use Rattle.rart_parts.specs.declared.error.TreeError.{TreeError}
 use Rattle.rart_parts.specs.declared.error.TreeError.TheVariants.{Memory, Full}
 use Rattle.rart_routes.specs.Net.{net_bits, net_text}
-use Rattle.rart_routes.specs.Tables.{Inserts, MayLackRoomAt, Removes, all_matches, all_routes}
+use Rattle.rart_routes.specs.Tables.{Inserts, MayLackMemoryAt, Removes, all_matches, all_routes}
 use Rattle.rart_routes.specs.Tables.{all_within, longest_route, target_at}
 use Rattle.rart_routes.specs.declared.command.Command.{Command}
 use Rattle.rart_routes.specs.declared.command.Command.TheVariants as command
@@ -82,9 +82,9 @@ PrintsAnswer (command.Get net) old line new = (line ≡ old_line (target_at net 
 PrintsAnswer (command.Route addr) old line new = (route : Option (Net × ArrayKey TARGET_SIZE))
     × (option_map (λ r. (net_bits r.0, r.1)) route ≡ longest_route addr old) × (line ≡ found_line route) × (new ≡ old)
 PrintsAnswer (command.Covering addr) old line new = IsLineOf (all_matches addr old) line × (new ≡ old)
-PrintsAnswer (command.Within net) old line new = IsLineOfWalk (all_within net old) (MayLackRoomAt net old) line
+PrintsAnswer (command.Within net) old line new = IsLineOfWalk (all_within net old) (MayLackMemoryAt net old) line
     × (new ≡ old)
-PrintsAnswer command.List old line new = IsLineOfWalk (all_routes old) (MayLackRoom (all_routes old)) line
+PrintsAnswer command.List old line new = IsLineOfWalk (all_routes old) (MayLackMemory (all_routes old)) line
     × (new ≡ old)
 PrintsAnswer command.Len old line new = (line ≡ decimal (length old.v4 + length old.v6) ++ 10 ∷ []) × (new ≡ old)
 

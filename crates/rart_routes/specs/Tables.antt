@@ -7,7 +7,7 @@ use Rattle.rart_keys.specs.Filters.{below, longest_match, matches}
 use Rattle.rart_keys.specs.SortedMap.{lookup}
 use Rattle.rart_keys.specs.declared.keys.array_key.ArrayKey.{ArrayKey}
 use Rattle.rart_nodes.specs.declared.refused.Refused.{Refused}
-use Rattle.rart_nodes.specs.walks.Calls.{MayLackRoom}
+use Rattle.rart_nodes.specs.walks.Calls.{MayLackMemory}
 use Rattle.rart_parts.specs.declared.error.TreeError.{TreeError}
 use Rattle.rart_cidr.specs.Bits.{bits_of}
 use Rattle.rart_cidr.specs.Edits.{InsertsRoute, RemovesRoute}
@@ -58,6 +58,6 @@ abbrev pub all_routes : Tables → List ((ℕ × List ℕ) × ArrayKey TARGET_SI
 all_routes tables = of_version 4 tables.v4 ++ of_version 6 tables.v6
 
 -- a walk of the network's own table may lack memory
-abbrev pub MayLackRoomAt : Net → Tables → TreeError → Type 0
-MayLackRoomAt (V4 net) tables error = MayLackRoom tables.v4 error
-MayLackRoomAt (V6 net) tables error = MayLackRoom tables.v6 error
+abbrev pub MayLackMemoryAt : Net → Tables → TreeError → Type 0
+MayLackMemoryAt (V4 net) tables error = MayLackMemory tables.v4 error
+MayLackMemoryAt (V6 net) tables error = MayLackMemory tables.v6 error

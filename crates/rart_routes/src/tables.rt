@@ -1,10 +1,10 @@
 //! The routes of a script.
 ghost use Rattle.std.specs.Prelude.{◌≡◌, ◌+◌, length, option_map, IfErr, IfOk};
 ghost use Rattle.std.specs.Option.{option_copied};
-ghost use Rattle.rart_nodes.specs.walks.Calls.{MayLackRoom};
+ghost use Rattle.rart_nodes.specs.walks.Calls.{MayLackMemory};
 ghost use Rattle.rart_routes.specs.Found.{found_left};
 ghost use Rattle.rart_routes.specs.Net.{net_bits};
-ghost use Rattle.rart_routes.specs.Tables.{Inserts, MayLackRoomAt, Removes};
+ghost use Rattle.rart_routes.specs.Tables.{Inserts, MayLackMemoryAt, Removes};
 ghost use Rattle.rart_routes.specs.Tables.{all_matches, all_routes, all_within, longest_route, no_routes, target_at};
 
 use crate::found::{Both, Found};
@@ -111,7 +111,7 @@ impl Tables {
     /// [`TreeError::Memory`] if the network's table isn't empty and an allocation fails.
     pub fn within(&self, net: &Net) -> Result<Found<'_>, TreeError>
         ensures routes { IfOk result (λ found. found_left found ≡ all_within net.now self.now) }
-        ensures memory { IfErr result (MayLackRoomAt net.now self.now) }
+        ensures memory { IfErr result (MayLackMemoryAt net.now self.now) }
     {
         match net {
             Net::V4(net) => match self.v4.within(*net) {
@@ -132,7 +132,7 @@ impl Tables {
     /// [`TreeError::Memory`] if a table isn't empty and an allocation fails.
     pub fn iter(&self) -> Result<Found<'_>, TreeError>
         ensures routes { IfOk result (λ found. found_left found ≡ all_routes self.now) }
-        ensures memory { IfErr result (MayLackRoom (all_routes self.now)) }
+        ensures memory { IfErr result (MayLackMemory (all_routes self.now)) }
     {
         match self.v4.iter() {
             Ok(v4) => match self.v6.iter() {

@@ -1,7 +1,7 @@
 //! Autocomplete: the words that begin with what was typed.
 ghost use Rattle.std.specs.Prelude.{◌≡◌, ◌≤◌, length, IfErr, IfOk};
 ghost use Rattle.rart_keys.specs.Filters.{below};
-ghost use Rattle.rart_nodes.specs.walks.Calls.{MayLackRoom};
+ghost use Rattle.rart_nodes.specs.walks.Calls.{MayLackMemory};
 
 use rart::iter::Iter;
 use rart::{AdaptiveRadixTree, ArrPartial, ArrayKey, KeyTrait, TreeError};
@@ -20,7 +20,7 @@ pub fn completions<'a>(
 ) -> Result<Iter<'a, ArrayKey<32>, ArrPartial<32>, u64>, TreeError>
     requires { length typed.now ≤ 32 }
     ensures words { IfOk result (λ found. found ≡ below typed.now words.now.pairs) }
-    ensures memory { IfErr result (MayLackRoom words.now.pairs) }
+    ensures memory { IfErr result (MayLackMemory words.now.pairs) }
 {
     words.prefix_iter_k(&ArrayKey::<32>::new_from_slice(typed))
 }
@@ -33,7 +33,7 @@ pub fn completions<'a>(
 pub fn count_completions(words: &Words, typed: &[u8]) -> Result<usize, TreeError>
     requires { length typed.now ≤ 32 }
     ensures count { IfOk result (λ n. n ≡ length (below typed.now words.now.pairs)) }
-    ensures memory { IfErr result (MayLackRoom words.now.pairs) }
+    ensures memory { IfErr result (MayLackMemory words.now.pairs) }
 {
     rart::laws::counts::count_below(words, &ArrayKey::<32>::new_from_slice(typed))
 }

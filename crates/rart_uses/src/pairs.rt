@@ -3,7 +3,7 @@ ghost use Rattle.std.specs.Prelude.{◌≡◌, ◌++◌, IfErr, IfOk};
 ghost use Rattle.std.specs.Int.{to_be_bytes, w32};
 ghost use Rattle.rart_keys.specs.ArrayKeyBytes.{array_key_bytes};
 ghost use Rattle.rart_keys.specs.Filters.{below};
-ghost use Rattle.rart_nodes.specs.walks.Calls.{MayLackRoom};
+ghost use Rattle.rart_nodes.specs.walks.Calls.{MayLackMemory};
 
 use rart::iter::Iter;
 use rart::{AdaptiveRadixTree, ArrPartial, ArrayKey, KeyTrait, TreeError};
@@ -31,7 +31,7 @@ pub fn orders_of<'a>(
     customer: u32,
 ) -> Result<Iter<'a, ArrayKey<8>, ArrPartial<8>, u64>, TreeError>
     ensures rows { IfOk result (λ rows. rows ≡ below (to_be_bytes w32 customer) orders.now.pairs) }
-    ensures memory { IfErr result (MayLackRoom orders.now.pairs) }
+    ensures memory { IfErr result (MayLackMemory orders.now.pairs) }
 {
     orders.prefix_iter_k(&ArrayKey::<8>::from_u32(customer))
 }

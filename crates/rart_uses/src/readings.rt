@@ -3,7 +3,7 @@ ghost use Rattle.std.specs.Prelude.{◌≡◌, IfErr, IfOk};
 ghost use Rattle.std.specs.Int.{to_be_bytes, w64};
 ghost use Rattle.std.specs.declared.ops.Bound.TheVariants.{Included, Excluded};
 ghost use Rattle.rart_keys.specs.Ranges.{between, up_to};
-ghost use Rattle.rart_nodes.specs.walks.Calls.{MayLackRoom};
+ghost use Rattle.rart_nodes.specs.walks.Calls.{MayLackMemory};
 
 use rart::range::Range;
 use rart::{AdaptiveRadixTree, ArrayKey, TreeError};
@@ -25,7 +25,7 @@ pub fn readings_between<'a>(
     ensures readings { IfOk result (λ r. up_to r.0 r.1
         ≡ between (Included (to_be_bytes w64 start)) (Excluded (to_be_bytes w64 end))
         readings.now.pairs) }
-    ensures memory { IfErr result (MayLackRoom readings.now.pairs) }
+    ensures memory { IfErr result (MayLackMemory readings.now.pairs) }
 {
     readings.range(
         Bound::Included(ArrayKey::<8>::from_u64(start)),

@@ -1,7 +1,7 @@
 //! Counts by walks with a callback: what a client can prove of them.
 ghost use Rattle.std.specs.Prelude.{◌≡◌, length, IfErr, IfOk};
 ghost use Rattle.rart_keys.specs.Filters.{below};
-ghost use Rattle.rart_nodes.specs.walks.Calls.{MayLackRoom};
+ghost use Rattle.rart_nodes.specs.walks.Calls.{MayLackMemory};
 
 use crate::tree::AdaptiveRadixTree;
 use rart_keys::KeyTrait;
@@ -19,7 +19,7 @@ pub fn count_below<K: KeyTrait, V>(
     prefix: &K,
 ) -> Result<usize, TreeError>
     ensures count { IfOk result (λ n. n ≡ length (below (K.bytes prefix.now) tree.now.pairs)) }
-    ensures memory { IfErr result (MayLackRoom tree.now.pairs) }
+    ensures memory { IfErr result (MayLackMemory tree.now.pairs) }
 {
     let _most = tree.len();
     tree.prefix_values_fold_k(prefix, 0_usize, |count, _value| count + 1)

@@ -7,7 +7,7 @@ ghost use Rattle.rart_keys.specs.ByteStrings.{begins};
 ghost use Rattle.rart_keys.specs.Filters.{last_or, matches};
 ghost use Rattle.rart_keys.specs.KeyBytes.{IsWithin};
 ghost use Rattle.rart_nodes.specs.walks.KeyViews.{view_bytes};
-ghost use Rattle.rart_nodes.specs.walks.Calls.{MayLackRoom};
+ghost use Rattle.rart_nodes.specs.walks.Calls.{MayLackMemory};
 
 use crate::tree::AdaptiveRadixTree;
 use rart_keys::KeyTrait;
@@ -35,7 +35,7 @@ pub fn prefix_iter_filters_iter<'a, K: KeyTrait, V>(
     ensures whole { IfOk result (λ walks. walks.0 ≡ tree.now.pairs) }
     ensures filters { IfOk result
         (λ walks. walks.1 ≡ filter (λ e. begins (K.bytes prefix.now) e.0) walks.0) }
-    ensures memory { IfErr result (MayLackRoom tree.now.pairs) }
+    ensures memory { IfErr result (MayLackMemory tree.now.pairs) }
 {
     let all = tree.iter()?;
     let below = tree.prefix_iter_k(prefix)?;

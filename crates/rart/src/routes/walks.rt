@@ -7,7 +7,7 @@ ghost use Rattle.rart_keys.specs.Filters.{matches};
 ghost use Rattle.rart_nodes.specs.walks.BelowPrefix.{cut_below};
 ghost use Rattle.rart_nodes.specs.walks.Matched.{CanMatch, MatchedEach, MatchesEach};
 ghost use Rattle.rart_nodes.specs.walks.Viewed.{CanView, ViewedEach, ViewsEach};
-ghost use Rattle.rart_nodes.specs.walks.Calls.{MayLackRoom};
+ghost use Rattle.rart_nodes.specs.walks.Calls.{MayLackMemory};
 
 use crate::routes::RouteTable;
 use rart_keys::KeyTrait;
@@ -68,7 +68,7 @@ impl<K: KeyTrait, T> RouteTable<K, T> {
         ensures calls { OnOk result (ViewsEach F.FnMut f.old
             (cut_below (K.bytes prefix.now) self.now.pairs) f.new) }
         ensures unchanged { OnErr result (f.new ≡ f.old) }
-        ensures memory { IfErr result (MayLackRoom self.now.pairs) }
+        ensures memory { IfErr result (MayLackMemory self.now.pairs) }
     {
         self.routes.prefix_for_each_view_by_ref_k(prefix, f)
     }
@@ -86,7 +86,7 @@ impl<K: KeyTrait, T> RouteTable<K, T> {
         requires callable { CanView F.FnMut f (cut_below (K.bytes prefix.now) self.now.pairs) }
         ensures calls { OnOk result (ViewedEach F.FnMut f
             (cut_below (K.bytes prefix.now) self.now.pairs)) }
-        ensures memory { IfErr result (MayLackRoom self.now.pairs) }
+        ensures memory { IfErr result (MayLackMemory self.now.pairs) }
     {
         self.routes.prefix_for_each_view_k(prefix, f)
     }

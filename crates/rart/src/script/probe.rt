@@ -2,7 +2,7 @@
 ghost use Rattle.std.specs.Prelude.{◌≡◌, IfErr, IfOk};
 ghost use Rattle.rart_keys.specs.Filters.{below, matches};
 ghost use Rattle.rart.specs.Steps.{IsStep, pairs_in};
-ghost use Rattle.rart_nodes.specs.walks.Calls.{MayLackRoom};
+ghost use Rattle.rart_nodes.specs.walks.Calls.{MayLackMemory};
 
 use super::{Call, Reply};
 use crate::tree::AdaptiveRadixTree;
@@ -59,7 +59,7 @@ fn copied_matches<K: KeyTrait + Drop, V: Copy>(
 ) -> Result<Vec<(K, V)>, TreeError>
     ensures pairs { IfOk result
         (λ pairs. pairs_in K.bytes pairs.items ≡ matches (K.bytes probe.now) tree.now.pairs) }
-    ensures memory { IfErr result (MayLackRoom (matches (K.bytes probe.now) tree.now.pairs)) }
+    ensures memory { IfErr result (MayLackMemory (matches (K.bytes probe.now) tree.now.pairs)) }
 {
     let mut pairs = Vec::new(alloc);
     let mut rest = tree.prefix_match_iter_k(probe);
@@ -79,7 +79,7 @@ fn copied_below<K: KeyTrait + Drop, V: Copy>(
 ) -> Result<Vec<(K, V)>, TreeError>
     ensures pairs { IfOk result
         (λ pairs. pairs_in K.bytes pairs.items ≡ below (K.bytes prefix.now) tree.now.pairs) }
-    ensures memory { IfErr result (MayLackRoom tree.now.pairs) }
+    ensures memory { IfErr result (MayLackMemory tree.now.pairs) }
 {
     let mut pairs = Vec::new(alloc);
     let mut rest = tree.prefix_iter_k(prefix)?;

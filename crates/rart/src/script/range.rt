@@ -2,7 +2,7 @@
 ghost use Rattle.std.specs.Prelude.{◌≡◌, IfErr, IfOk};
 ghost use Rattle.rart_keys.specs.Ranges.{between, bound_in};
 ghost use Rattle.rart.specs.Steps.{IsStep, pairs_in};
-ghost use Rattle.rart_nodes.specs.walks.Calls.{MayLackRoom};
+ghost use Rattle.rart_nodes.specs.walks.Calls.{MayLackMemory};
 
 use super::{Call, Reply};
 use crate::tree::AdaptiveRadixTree;
@@ -35,7 +35,7 @@ fn copied_between<K: KeyTrait + Drop, V: Copy>(
 ) -> Result<Vec<(K, V)>, TreeError>
     ensures pairs { IfOk result (λ pairs. pairs_in K.bytes pairs.items
         ≡ between (bound_in K.bytes start) (bound_in K.bytes end) tree.now.pairs) }
-    ensures memory { IfErr result (MayLackRoom tree.now.pairs) }
+    ensures memory { IfErr result (MayLackMemory tree.now.pairs) }
 {
     let mut pairs = Vec::new(alloc);
     let mut rest = tree.range(start, end)?;

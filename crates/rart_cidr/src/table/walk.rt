@@ -7,7 +7,7 @@ ghost use Rattle.std.specs.Prelude.{◌≡◌, ◌≤◌, ◌*◌, [], ◌∷◌
 ghost use Rattle.rart_keys.specs.KeyBytes.{IsWithin};
 ghost use Rattle.rart_keys.specs.Ranges.{bound_in, pairs_from, up_to};
 ghost use Rattle.rart_keys.specs.SortedMap.{keys_of};
-ghost use Rattle.rart_nodes.specs.walks.Calls.{MayLackRoom};
+ghost use Rattle.rart_nodes.specs.walks.Calls.{MayLackMemory};
 ghost use Rattle.rart_cidr.specs.Advances.{Advances};
 ghost use Rattle.rart_cidr.specs.Bits.{AreClearAfter, bits_of, network};
 ghost use Rattle.rart_cidr.specs.Routes.{IsCode, coded_network};
@@ -157,7 +157,7 @@ impl<K: KeyTrait + Drop, T> BitTable<K, T> {
         requires clear { AreClearAfter (bits_of octets.now) bits }
         ensures routes { IfOk result
             (λ w. w.0 ≡ pairs_from true (network octets.now bits) self.now) }
-        ensures memory { IfErr result (MayLackRoom self.now) }
+        ensures memory { IfErr result (MayLackMemory self.now) }
     {
         self.strides.canonical();
         let mut rest = match self

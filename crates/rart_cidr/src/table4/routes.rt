@@ -4,7 +4,7 @@ ghost use Rattle.std.specs.Iterator.{YieldsFirstBy, item_count};
 ghost use Rattle.rart_keys.specs.ArrayKeyBytes.{array_key_bytes};
 ghost use Rattle.rart_keys.specs.Filters.{below};
 ghost use Rattle.rart_keys.specs.KeyBytes.{AreBytes};
-ghost use Rattle.rart_nodes.specs.walks.Calls.{MayLackRoom};
+ghost use Rattle.rart_nodes.specs.walks.Calls.{MayLackMemory};
 ghost use Rattle.rart_cidr.specs.Bits.{bits_of, code_bits};
 ghost use Rattle.rart_cidr.specs.Networks.{bits4};
 ghost use Rattle.rart_cidr.specs.Routes.{IsCode, coded_network};
@@ -113,7 +113,7 @@ impl<T> CidrTable4<T> {
     /// [`TreeError::Memory`] if the table isn't empty and the allocation fails.
     pub fn iter(&self) -> Result<Routes4<'_, T>, TreeError>
         ensures routes { IfOk result (λ it. it ≡ self.now) }
-        ensures memory { IfErr result (MayLackRoom self.now) }
+        ensures memory { IfErr result (MayLackMemory self.now) }
     {
         self.within(Cidr4::masked(Ipv4Addr::UNSPECIFIED, 0))
     }
@@ -127,7 +127,7 @@ impl<T> CidrTable4<T> {
     /// [`TreeError::Memory`] if the table isn't empty and the allocation fails.
     pub fn within(&self, net: Cidr4) -> Result<Routes4<'_, T>, TreeError>
         ensures routes { IfOk result (λ it. it ≡ below (bits4 net) self.now) }
-        ensures memory { IfErr result (MayLackRoom self.now) }
+        ensures memory { IfErr result (MayLackMemory self.now) }
     {
         self.ascends();
         let walk = self.routes.walk_from(net.octets(), usize::from(net.len()))?;

@@ -45,9 +45,9 @@ one-first : (b c : ℕ) (k : List ℕ) → StartsWith b k → StartsWith c k →
 one-first b c [] h g = absurd h
 one-first b c (x ∷ k) h g = sym h ∙ g
 
--- room for a child less than there will be
-capacity-room : (n k : ℕ) → n < k → n < 256 → n < capacity_of k
-capacity-room n k h l = grind (arith, nat_tests)
+-- a free slot while a child is to come
+capacity-free : (n k : ℕ) → n < k → n < 256 → n < capacity_of k
+capacity-free n k h l = grind (arith, nat_tests)
 
 module _ {V : Type 0} where
   all_first-keys : (b : ℕ) (es : List (List ℕ × V)) → AllStart b (keys_of es) → AllFirst b es
@@ -177,15 +177,15 @@ module _ {F V : Type 0} (pre : F → ℕ → Type 0) (step : F → ℕ → V →
     rests-length d keys,
   )
 
-  -- the next child has room
-  pub next-room : (b : ℕ) → 0 < length rest → b ≡ first_byte (rests d rest) → b < 256 → (child_at b es ≡ None)
+  -- the next child has a slot
+  pub next-free : (b : ℕ) → 0 < length rest → b ≡ first_byte (rests d rest) → b < 256 → (child_at b es ≡ None)
       × (length es < w)
-  next-room b some e small =
+  next-free b some e small =
       let ends : EndsBelow b es = rw e (ends-first es (rests d rest) (omega (arith, some, rests-length d rest)) h.next)
       in
       let more = branches-step (rests d rest) (omega (arith, some, rests-length d rest)) h.go_on in (
         ends-none b es ends,
-        rw h.wide (capacity-room (length es) (length es + branches d rest) (omega (arith, more))
+        rw h.wide (capacity-free (length es) (length es + branches d rest) (omega (arith, more))
             (omega (arith, few-entries 0 b es (omega arith) ends h.canonical, small))),
       )
 

@@ -10,7 +10,7 @@ use Rattle.rart_keys.specs.SortedMap.{keys_of}
 use Rattle.rart_nodes.specs.shapes.Shape.{NodeRecord, record_at, capacity_of}
 use Rattle.rart_nodes.specs.tries.Trie.{Trie, node, Children, child_of, pairs_of, edges_of, IsCanonical, AreCanonical}
 use Rattle.rart_nodes.specs.tries.Trie.{descend, descend_child}
-use Rattle.rart_nodes.specs.edits.InsertAllocations.{has_room, takes_child, any_along, last_takes, insert_allocates}
+use Rattle.rart_nodes.specs.edits.InsertAllocations.{has_free_slot, takes_child, any_along, last_takes, insert_allocates}
 use Rattle.rart_nodes.specs.edits.InsertAllocations.{put_allocation}
 use Rattle.rart_nodes.specs.edits.InsertAllocations.{is_full, trie_put_allocates}
 use Rattle.rart_nodes.proofs.tries.Descents.{Keeps, descends, descend-child_of}
@@ -60,9 +60,9 @@ last-none : (f : List ℕ → Option NodeRecord) (b : ℕ) (q : List ℕ) → f 
     → last_takes f (b ∷ q) ≡ last_takes (λ p. f (b ∷ p)) q
 last-none f b q e = rw e (no_last (λ p. f (b ∷ p)) q)
 
--- where the capacity is the one of the count, "full" is "no room"
-room_is : (m n : ℕ) → n ≡ capacity_of m → nat_le n m ≡ not (has_room m)
-room_is m n e = grind (arith, nat_tests)
+-- where the capacity is the one of the count, "full" is "no free slot"
+slot_is : (m n : ℕ) → n ≡ capacity_of m → nat_le n m ≡ not (has_free_slot m)
+slot_is m n e = grind (arith, nat_tests)
 
 abbrev needs_by : (List ℕ → Option NodeRecord) → List ℕ → Bool
 needs_by f q = not (is_some (f q) || last_takes f q)
@@ -84,7 +84,7 @@ module _ {V : Type 0} where
   allocates-below : (m n b : ℕ) (r : List ℕ) (cs : Children V) → n ≡ capacity_of m → AreCanonical 0 cs →
       not (is_some (descend_child records b (b ∷ r) cs) || (if any_along (λ z. descend_child records b (b ∷ z) cs) r
       then last_takes (λ z. descend_child records b (b ∷ z) cs) r
-      else has_room m && not (list_any (λ c. c == b) (edges_of cs))))
+      else has_free_slot m && not (list_any (λ c. c == b) (edges_of cs))))
       ≡ unwrap_or (asked_along (b ∷ r) (child_of b cs)) (nat_le n m)
   allocates-below m n b r cs c w =
       let same : (z : List ℕ) → descend_child records b (b ∷ z) cs ≡ records_in (child_of b cs) (b ∷ z)
@@ -100,10 +100,10 @@ module _ {V : Type 0} where
       (elim (child_of b cs) as (λ o. child_of b cs ≡ o
       → not (is_some (records_in o (b ∷ r)) ||
       (if any_along (λ z. records_in o (b ∷ z)) r then last_takes (λ z. records_in o (b ∷ z)) r
-      else has_room m && not (is_some o))) ≡ unwrap_or (asked_along (b ∷ r) o) (nat_le n m)) [
-        | None ↦ λ e. rw (none_any r, and-true (has_room m)) (sym (room_is m n c))
+      else has_free_slot m && not (is_some o))) ≡ unwrap_or (asked_along (b ∷ r) o) (nat_le n m)) [
+        | None ↦ λ e. rw (none_any r, and-true (has_free_slot m)) (sym (slot_is m n c))
         | Some t ↦ λ e. ap (λ z. not (is_some (records_in (Some t) (b ∷ r)) || z))
-            (rw (and-false (has_room m)) (no_last (λ z. records_in (Some t) (b ∷ z)) r)
+            (rw (and-false (has_free_slot m)) (no_last (λ z. records_in (Some t) (b ∷ z)) r)
             ∙ sym (last-none (records_in (Some t)) b r (sym (ap (λ o. records_in o []) e) ∙ none-first b cs w)))
       ] refl)
 

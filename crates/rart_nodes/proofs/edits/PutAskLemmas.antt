@@ -18,7 +18,7 @@ asked None parent h = absurd (cc)
 asked (Some z) parent h = h
 
 module _ {V : Type 0} where
-  -- a new leaf beside as many children as there is room for
+  -- a new leaf beside as many children as the capacity
   pub put_allocation-full : (p k rest : List ℕ) (old : Option V) (w w' b : ℕ) (es es' : List (ℕ × Trie V))
       → Some rest ≡ strip_prefix p k → Some b ≡ slice_get rest 0 → None ≡ child_at b es
       → w' ≡ w → es' ≡ es → length es' ≡ w' → trie_put_allocates k (node p old w (as_children es)) ≡ true

@@ -74,8 +74,8 @@ module _ {V W : Type 0} where
       let h' : AreWithin n m ((t, u) ∷ qs) = subst (λ (z : List (Trie V × Trie W)). AreWithin n m z) e h in
       record { falls = h'.0; short = h'.1; others = h'.2; visits = ap visits_all e; fewer = omega (arith, ap length e) }
 
-  module _ {F : Type 0} (room : Kept → ℕ → Type 0) (given : Kept → F → List (List ℕ × (V × W)) → F
-      → Type 0) (laws : AreVisitors room given) where
+  module _ {F : Type 0} (reserved : Kept → ℕ → Type 0) (given : Kept → F → List (List ℕ × (V × W)) → F
+      → Type 0) (laws : AreVisitors reserved given) where
     -- what was given at the same place
     given-here : (s t : Kept) (f g : F) (es : List (List ℕ × (V × W))) → PathGrown s [] t → given t f es g
         → given s f es g
@@ -96,8 +96,8 @@ module _ {V W : Type 0} where
     given-aligned s t f g h x y p a b k w i j
         = rw k.given (laws.gives_after s t p f h _ w (laws.gives_more t f g h _ _ i j))
 
-    pub same-room : (s t : Kept) (m n : ℕ) → PathGrown s [] t → room s m → n ≤ m → room t n
-    same-room s t m n h k i = laws.has_room s t [] m n h k (omega arith)
+    pub same-reserved : (s t : Kept) (m n : ℕ) → PathGrown s [] t → reserved s m → n ≤ m → reserved t n
+    same-reserved s t m n h k i = laws.keeps_reserved s t [] m n h k (omega arith)
 
     -- whom pairs may be given
     module _ (can : Kept → F → List ℕ × (V × W) → Type 0) where

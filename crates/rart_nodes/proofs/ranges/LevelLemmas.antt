@@ -13,7 +13,7 @@ use Rattle.rart_nodes.specs.tries.CanonicalTest.{is_canonical}
 use Rattle.rart_nodes.specs.tries.Trie.{Trie, node, Children, no_children, children_in, children_pairs, pairs_of}
 use Rattle.rart_nodes.specs.tries.Trie.{prefix_of, value_of}
 use Rattle.rart_nodes.specs.tries.TrieCode.{child_count, node_count}
-use Rattle.rart_nodes.specs.walks.Walk.{SegmentList, Grown, HasRoom, IsShort, IsWalk, Level, AreLevels}
+use Rattle.rart_nodes.specs.walks.Walk.{SegmentList, Grown, IsReserved, IsShort, IsWalk, Level, AreLevels}
 use Rattle.rart_nodes.specs.walks.Walk.{children_entries, entries_of, join_all, joined_bytes, segments_after, value_at}
 use Rattle.rart_nodes.proofs.ranges.UnderLemmas.{count-last, entries-last, last-canonical, pairs-last}
 use Rattle.rart_nodes.proofs.tries.CanonicalTests.{IsCanonical-test, longest_key-append}
@@ -67,10 +67,10 @@ module _ {V : Type 0} where
   node-nodes : (t : Trie V) → node_count t ≡ child_count (children_in t) + 1
   node-nodes (node p v n cs) = refl
 
-  room-left : (longest places : ℕ) (l : Level V) (ls : List (Level V)) → HasRoom longest places (l ∷ ls)
-      → HasRoom longest places ls
-  room-left longest places l [] h = tt
-  room-left longest places l (m ∷ ls) h = h
+  reserved-left : (longest places : ℕ) (l : Level V) (ls : List (Level V)) → IsReserved longest places (l ∷ ls)
+      → IsReserved longest places ls
+  reserved-left longest places l [] h = tt
+  reserved-left longest places l (m ∷ ls) h = h
 
   -- the values that remain at the levels of a path depend only on what it keeps above them
   pub remaining-same : (g : Grown) (longest deep d : ℕ) (k p : SegmentList) (ls : List (BackLevel V))
@@ -103,7 +103,7 @@ module _ {V : Type 0} where
         others_fit = omega (arith, w.2, m);
         others_deep = omega (arith, w.3, m);
         above = w.4;
-        room = p.room;
+        reserved = p.reserved;
       }
 
   -- a walk continues from the deepest level to its last child, after whose prefix the path is k1
@@ -157,7 +157,7 @@ module _ {V : Type 0} where
       record {
         path = record {
           stations = (omega arith, c.below, omega (arith, n, m, c.fits), omega (arith, c.deep, c.long), below);
-          room = omega (arith, c.room);
+          reserved = omega (arith, c.reserved);
           short = omega (arith, n, m, c.fits);
         };
         still = turn-still g longest d k t b cs u v ls c.above i e;
@@ -177,7 +177,7 @@ module _ {V : Type 0} where
       ∙ ap (λ x. ((children_in t, length k1), o.0) ∷ x) (deepest st1 s.rest ((s.others, d), s.value) s.is) in
       rw (e2, e, i) (turn-at g longest places places1 d k t s.edge s.others o.0 s.value (reverse s.rest) h q o.1.1 m)
 
-  -- there is room for its prefix and its level
+  -- capacity is reserved for its prefix and its level
   pub record BackSpace (longest places d : ℕ) (t : Trie V) (st : List (BackLevel V)) : Type 0 where
     pub bytes : d + length (prefix_of t) ≤ longest
     pub place : length st < places
@@ -196,7 +196,7 @@ module _ {V : Type 0} where
               arith,
               c.deep,
               c.long,
-              c.room,
+              c.reserved,
               ap length s.is,
               length-append s.rest (((s.others, d), s.value) ∷ []),
               length-map (reverse s.rest) (λ l. l.0),
@@ -235,7 +235,7 @@ module _ {V : Type 0} where
       record {
         path = record {
           stations = deeper longest d (length (take d k)) (levels_of ls) (omega (arith, n)) w.4;
-          room = room-left longest places (no_children, d) (levels_of ls) p.room;
+          reserved = reserved-left longest places (no_children, d) (levels_of ls) p.reserved;
           short = omega (arith, n, w.0, p.short);
         };
         still = ap (λ z. remaining_entries g k ls ++ z) (after-own (take d k) (option_copied v) []
@@ -281,7 +281,7 @@ module _ {V : Type 0} where
               (arith, l, longest-below t c),
           tt,
         );
-        room = r;
+        reserved = r;
         short = omega (arith, n, l, longest-below t c);
       })
 
@@ -302,4 +302,4 @@ module _ {V : Type 0} where
   -- a walk over nothing
   pub no-walk : (longest places : ℕ) (k : SegmentList) (st : List (BackLevel V)) → k ≡ [] → st ≡ []
       → IsBackWalk longest places k (reverse st)
-  no-walk longest places k st e f = rw (e, f) (record { stations = tt; room = tt; short = omega arith })
+  no-walk longest places k st e f = rw (e, f) (record { stations = tt; reserved = tt; short = omega arith })

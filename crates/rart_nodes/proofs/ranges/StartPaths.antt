@@ -54,10 +54,10 @@ module _ {V : Type 0} where
         | false ↦ omega (arith, longest_key-append (pairs_of t) (children_pairs cs), above-short b cs)
       ]
 
-  -- a node to which the way is kept as k, below n levels, has room
-  abbrev pub HasPathRoom : ℕ → SegmentList → ℕ → Option (Trie V) → Type 0
-  HasPathRoom longest k n None = Unit {0}
-  HasPathRoom longest k n (Some t) = (length k + longest_key (pairs_of t) ≤ longest)
+  -- a node whose path is kept as k, below n levels, fits the capacity
+  abbrev pub IsPathReserved : ℕ → SegmentList → ℕ → Option (Trie V) → Type 0
+  IsPathReserved longest k n None = Unit {0}
+  IsPathReserved longest k n (Some t) = (length k + longest_key (pairs_of t) ≤ longest)
       × (n + longest_key (children_pairs (children_in t)) ≤ longest)
 
   child-long : (b low : ℕ) (u : Trie V) (cs : Children V) → AreCanonical low cs → child_of b cs ≡ Some u
@@ -75,8 +75,8 @@ module _ {V : Type 0} where
 
   pub path-on : (g : Grown) (longest b : ℕ) (k k1 : SegmentList) (t : Trie V) (o : Option (Trie V))
       (st st1 : List (Level V)) (l : Level V) → IsShort g → is_canonical t ≡ true
-      → HasPathRoom longest k (length st) (Some t)
-      → k1 ≡ k ++ g (prefix_of t) → st1 ≡ st ++ l ∷ [] → o ≡ child_in b t → HasPathRoom longest k1 (length st1) o
+      → IsPathReserved longest k (length st) (Some t)
+      → k1 ≡ k ++ g (prefix_of t) → st1 ≡ st ++ l ∷ [] → o ≡ child_in b t → IsPathReserved longest k1 (length st1) o
   path-on g longest b k k1 t None st st1 l s c w i f e = tt
   path-on g longest b k k1 (node p v m cs) (Some u) st st1 l s c w i f e = (
     omega (arith, w.0, child-deep (node p v m cs) b (Some u) c (sym e), ap length i, length-append k (g p), s p),
@@ -99,7 +99,7 @@ module _ {V : Type 0} where
 
   deepened-at : (g : Grown) (longest places : ℕ) (k p : SegmentList) (t : Trie V) (cs : Children V)
       (ls : List (Level V)) → IsShort g → is_canonical t ≡ true → IsWalk longest places k ls → longest < places
-      → HasPathRoom longest k (length ls) (Some t) → p ≡ g (prefix_of t) → AreCanonical 0 cs
+      → IsPathReserved longest k (length ls) (Some t) → p ≡ g (prefix_of t) → AreCanonical 0 cs
       → longest_key (children_pairs cs) ≤ longest_key (children_pairs (children_in t))
       → Deepened g longest places k (k ++ p) ls ((cs, length (k ++ p)) ∷ ls) cs
   deepened-at g longest places k p t cs ls s c q r w i a l =
@@ -117,7 +117,7 @@ module _ {V : Type 0} where
             deeper
                 longest (length k) (length (k ++ p)) ls more q.stations,
           );
-          room = r;
+          reserved = r;
           short = omega (arith, n, below, w.0);
         };
         still = rw (take_all (length (k ++ p)) (k ++ p) (omega arith))
@@ -129,12 +129,12 @@ module _ {V : Type 0} where
   pub deepened : (g : Grown) (longest places places1 n : ℕ) (k k1 : SegmentList) (t : Trie V) (cs : Children V)
       (st st1 : List (Level V)) → IsShort g → is_canonical t ≡ true → IsWalk longest places k (reverse st)
       → longest < places
-      → HasPathRoom longest k n (Some t) → n ≡ length st → k1 ≡ k ++ g (prefix_of t) → AreCanonical 0 cs
+      → IsPathReserved longest k n (Some t) → n ≡ length st → k1 ≡ k ++ g (prefix_of t) → AreCanonical 0 cs
       → longest_key (children_pairs cs) ≤ longest_key (children_pairs (children_in t))
       → st1 ≡ st ++ (cs, length k1) ∷ [] → places1 ≡ places
       → Deepened g longest places1 k k1 (reverse st) (reverse st1) cs
   deepened g longest places places1 n k k1 t cs st st1 s c q r w m i a l e f =
-      let h : HasPathRoom longest k (length (reverse st)) (Some t) = (w.0, omega (arith, w.1, m, length-reverse st)) in
+      let h : IsPathReserved longest k (length (reverse st)) (Some t) = (w.0, omega (arith, w.1, m, length-reverse st)) in
       rw (deepest st1 st (cs, length k1) e, f, i)
       (deepened-at g longest places k (g (prefix_of t)) t cs (reverse st) s c q r h refl a l)
 
@@ -142,7 +142,7 @@ module _ {V : Type 0} where
   pub all-deepened : (g : Grown) (longest places places1 : ℕ) (k k1 : SegmentList) (t : Trie V) (cs : Children V)
       (st st1 : List (Level V)) → IsShort g → is_canonical t ≡ true → IsWalk longest places k (reverse st)
       → longest < places
-      → HasPathRoom longest k (length st) (Some t) → k1 ≡ k ++ g (prefix_of t) → cs ≡ children_in t
+      → IsPathReserved longest k (length st) (Some t) → k1 ≡ k ++ g (prefix_of t) → cs ≡ children_in t
       → st1 ≡ st ++ (cs, length k1) ∷ [] → places1 ≡ places
       → Deepened g longest places1 k k1 (reverse st) (reverse st1) cs
   all-deepened g longest places places1 k k1 t cs st st1 s c q r w i a e f =
@@ -152,7 +152,7 @@ module _ {V : Type 0} where
   pub some-deepened : (g : Grown) (longest places places1 b : ℕ) (k k1 : SegmentList) (t : Trie V) (cs : Children V)
       (st st1 : List (Level V)) → IsShort g → is_canonical t ≡ true → IsWalk longest places k (reverse st)
       → longest < places
-      → HasPathRoom longest k (length st) (Some t) → k1 ≡ k ++ g (prefix_of t) → cs ≡ children_above b (children_in t)
+      → IsPathReserved longest k (length st) (Some t) → k1 ≡ k ++ g (prefix_of t) → cs ≡ children_above b (children_in t)
       → st1 ≡ st ++ (cs, length k1) ∷ [] → places1 ≡ places
       → Deepened g longest places1 k k1 (reverse st) (reverse st1) cs
   some-deepened g longest places places1 b k k1 t cs st st1 s c q r w i a e f =

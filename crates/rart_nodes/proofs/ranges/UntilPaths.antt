@@ -13,7 +13,7 @@ use Rattle.rart_nodes.specs.tries.Trie.{prefix_of, child_in, AreCanonical}
 use Rattle.rart_nodes.specs.walks.Walk.{SegmentList, Grown, IsShort, children_entries, segments_after, value_at}
 use Rattle.rart_nodes.proofs.ranges.LevelLemmas.{remaining-same, levels_of}
 use Rattle.rart_nodes.proofs.ranges.UnderLemmas.{under-canonical}
-use Rattle.rart_nodes.proofs.ranges.StartPaths.{HasPathRoom, path-on}
+use Rattle.rart_nodes.proofs.ranges.StartPaths.{IsPathReserved, path-on}
 use Rattle.rart_nodes.proofs.tries.CanonicalTests.{IsCanonical-test, longest_key-append}
 use Rattle.rart_nodes.proofs.walks.WalkLemmas.{below-canonical, deepest, deeper, longest-below}
 
@@ -44,7 +44,7 @@ module _ {V : Type 0} where
   deepened-at : (g : Grown) (longest places : ℕ) (k p : SegmentList) (t : Trie V) (cs : Children V)
       (v : Option (Bor V)) (ls : List (BackLevel V)) → IsShort g → is_canonical t ≡ true
       → IsBackWalk longest places k ls → longest < places
-      → HasPathRoom longest k (length (levels_of ls)) (Some t) → p ≡ g (prefix_of t) → AreCanonical 0 cs
+      → IsPathReserved longest k (length (levels_of ls)) (Some t) → p ≡ g (prefix_of t) → AreCanonical 0 cs
       → longest_key (children_pairs cs) ≤ longest_key (children_pairs (children_in t))
       → BackDeepened g longest places k (k ++ p) ls (((cs, length (k ++ p)), v) ∷ ls) cs v
   deepened-at g longest places k p t cs v ls s c q r w i a l =
@@ -62,7 +62,7 @@ module _ {V : Type 0} where
             deeper
                 longest (length k) (length (k ++ p)) (levels_of ls) more q.stations,
           );
-          room = r;
+          reserved = r;
           short = omega (arith, n, below, w.0);
         };
         still = rw (take_all (length (k ++ p)) (k ++ p) (omega arith))
@@ -74,12 +74,12 @@ module _ {V : Type 0} where
   pub deepened : (g : Grown) (longest places places1 n : ℕ) (k k1 : SegmentList) (t : Trie V) (cs : Children V)
       (v : Option (Bor V)) (st st1 : List (BackLevel V)) → IsShort g → is_canonical t ≡ true
       → IsBackWalk longest places k (reverse st) → longest < places
-      → HasPathRoom longest k n (Some t) → n ≡ length st → k1 ≡ k ++ g (prefix_of t) → AreCanonical 0 cs
+      → IsPathReserved longest k n (Some t) → n ≡ length st → k1 ≡ k ++ g (prefix_of t) → AreCanonical 0 cs
       → longest_key (children_pairs cs) ≤ longest_key (children_pairs (children_in t))
       → st1 ≡ st ++ ((cs, length k1), v) ∷ [] → places1 ≡ places
       → BackDeepened g longest places1 k k1 (reverse st) (reverse st1) cs v
   deepened g longest places places1 n k k1 t cs v st st1 s c q r w m i a l e f =
-      let h : HasPathRoom longest k (length (levels_of (reverse st))) (Some t)
+      let h : IsPathReserved longest k (length (levels_of (reverse st))) (Some t)
       = (w.0, omega (arith, w.1, m, length-reverse st, length-map (reverse st) (λ x. x.0))) in
       rw (deepest st1 st ((cs, length k1), v) e, f, i)
       (deepened-at g longest places k (g (prefix_of t)) t cs v (reverse st) s c q r h refl a l)
@@ -88,7 +88,7 @@ module _ {V : Type 0} where
   pub all-deepened : (g : Grown) (longest places places1 : ℕ) (k k1 : SegmentList) (t : Trie V) (cs : Children V)
       (v : Option (Bor V)) (st st1 : List (BackLevel V)) → IsShort g → is_canonical t ≡ true
       → IsBackWalk longest places k (reverse st) → longest < places
-      → HasPathRoom longest k (length st) (Some t) → k1 ≡ k ++ g (prefix_of t) → cs ≡ children_in t
+      → IsPathReserved longest k (length st) (Some t) → k1 ≡ k ++ g (prefix_of t) → cs ≡ children_in t
       → st1 ≡ st ++ ((cs, length k1), v) ∷ [] → places1 ≡ places
       → BackDeepened g longest places1 k k1 (reverse st) (reverse st1) cs v
   all-deepened g longest places places1 k k1 t cs v st st1 s c q r w i a e f =
@@ -98,7 +98,7 @@ module _ {V : Type 0} where
   pub some-deepened : (g : Grown) (longest places places1 b : ℕ) (k k1 : SegmentList) (t : Trie V) (cs : Children V)
       (v : Option (Bor V)) (st st1 : List (BackLevel V)) → IsShort g → is_canonical t ≡ true
       → IsBackWalk longest places k (reverse st) → longest < places
-      → HasPathRoom longest k (length st) (Some t) → k1 ≡ k ++ g (prefix_of t)
+      → IsPathReserved longest k (length st) (Some t) → k1 ≡ k ++ g (prefix_of t)
       → cs ≡ children_under b (children_in t) → st1 ≡ st ++ ((cs, length k1), v) ∷ [] → places1 ≡ places
       → BackDeepened g longest places1 k k1 (reverse st) (reverse st1) cs v
   some-deepened g longest places places1 b k k1 t cs v st st1 s c q r w i a e f =
@@ -108,12 +108,12 @@ module _ {V : Type 0} where
 
   pub back-path-on : (g : Grown) (longest b : ℕ) (k k1 : SegmentList) (t : Trie V) (o : Option (Trie V))
       (st st1 : List (BackLevel V)) (l : BackLevel V) → IsShort g → is_canonical t ≡ true
-      → HasPathRoom longest k (length st) (Some t)
-      → k1 ≡ k ++ g (prefix_of t) → st1 ≡ st ++ l ∷ [] → o ≡ child_in b t → HasPathRoom longest k1 (length st1) o
+      → IsPathReserved longest k (length st) (Some t)
+      → k1 ≡ k ++ g (prefix_of t) → st1 ≡ st ++ l ∷ [] → o ≡ child_in b t → IsPathReserved longest k1 (length st1) o
   back-path-on g longest b k k1 t o st st1 l s c w i f e =
-      let h : HasPathRoom longest k (length (levels_of st)) (Some t)
+      let h : IsPathReserved longest k (length (levels_of st)) (Some t)
       = (w.0, omega (arith, w.1, length-map st (λ x. x.0))) in
       let same : levels_of st1 ≡ levels_of st ++ l.0 ∷ []
       = ap (map (λ x. x.0)) f ∙ map-append (λ x. x.0) st (l ∷ []) in
-      subst (λ n. HasPathRoom longest k1 n o) (length-map st1 (λ x. x.0))
+      subst (λ n. IsPathReserved longest k1 n o) (length-map st1 (λ x. x.0))
       (path-on g longest b k k1 t o (levels_of st) (levels_of st1) l.0 s c h i same e)

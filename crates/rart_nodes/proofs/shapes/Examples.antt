@@ -15,7 +15,7 @@ abbrev leaf : NodeRecord
 leaf = record { holds_value = true; edges = []; capacity = 0 }
 
 abbrev inner : Bool → List ℕ → ℕ → NodeRecord
-inner holds bytes room = record { holds_value = holds; edges = bytes; capacity = room }
+inner holds bytes reserved = record { holds_value = holds; edges = bytes; capacity = reserved }
 
 abbrev nodes_after : List (Edit ℕ) → List (List ℕ × NodeRecord)
 nodes_after es = tree_nodes (run_tree es None)

@@ -110,12 +110,12 @@ module _ {V : Type 0} where
         tall = omega (arith, m, tall);
       }
 
-  -- a child that comes next leaves room, and is smaller
-  pub count-room : (before counts : Counts) (below : ℕ) (t u : Trie V) (b : ℕ) (es rest : List (ℕ × Trie V))
+  -- a child that comes next leaves capacity, and is smaller
+  pub count-free : (before counts : Counts) (below : ℕ) (t u : Trie V) (b : ℕ) (es rest : List (ℕ × Trie V))
       → es ≡ (b, u) ∷ rest →
       Counting before counts below t es → (counts_sum counts + 4 * node_count u ≤ counts_sum before + 4 * node_count t)
       × (node_count u < node_count t)
-  count-room before counts below t u b es rest s i =
+  count-free before counts below t u b es rest s i =
       let fits = rw s at i.fits in
       let fewer = rw s at i.fewer in
       (omega (arith, fits, few-edges (as_children rest), edges_of-length rest), omega (arith, fewer))
@@ -127,10 +127,10 @@ module _ {V : Type 0} where
       let tall = rw s at i.tall in
       (none-added counts ∙ counted, omega (arith, tall))
 
-  -- a node leaves room for itself, and is as high as it has nodes at most
-  pub own-room : (p : List ℕ) (v : Option V) (n : ℕ) (es : List (ℕ × Trie V))
+  -- a node leaves capacity for itself, and is as high as it has nodes at most
+  pub own-free : (p : List ℕ) (v : Option V) (n : ℕ) (es : List (ℕ × Trie V))
       → 3 + length es ≤ 4 * node_count (node p v n (as_children es))
-  own-room p v n es = omega (arith, few-edges (as_children es), edges_of-length es)
+  own-free p v n es = omega (arith, few-edges (as_children es), edges_of-length es)
 
   mutual
     pub few-high : (t : Trie V) → trie_height t ≤ node_count t

@@ -90,7 +90,7 @@ module _ {V : Type 0} where
             (arith, ap width_counted same, (kinds-summed t w).2, few_widths t w),
       )
 
-  -- an inner node has room for four children, and there are two keys
+  -- an inner node has capacity for four children, and there are two keys
   pub inner-keys : (t : Trie V) (c : Counts) → IsCanonical t → c ≡ counts_added (counts_by (λ m. 0)) (counts_in t)
       → 1 ≤ inner_counted c → 2 ≤ length (pairs_of t)
   inner-keys t c w e i = let same = e ∙ from-none (counts_in t) in

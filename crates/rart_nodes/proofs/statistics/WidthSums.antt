@@ -1,4 +1,4 @@
--- What the nodes of a canonical trie have room for, together: at most 16 (n - 1) for n keys.
+-- The capacities of the nodes of a canonical trie, together: at most 16 (n - 1) for n keys.
 use Rattle.std.proofs.Common.{◌≡◌, ℕ, ◌+◌, ◌*◌, ◌≤◌, ◌⊎◌, inl, inr, ⊎_elim, length, arith, length-append}
 use Rattle.std.proofs.lemmas.Bool.Decides.{nat_tests}
 use Rattle.std.proofs.lemmas.List.{length-map}

@@ -11,7 +11,7 @@ use Rattle.rart_nodes.specs.declared.node.view.LendingKeyView.{LendingKeyView}
 use Rattle.rart_nodes.specs.walks.Matched.{MatchesEach}
 use Rattle.rart_nodes.specs.walks.Walk.{SegmentList}
 use Rattle.rart_nodes.specs.walks.PathParts.{lent_segments}
-use Rattle.rart_nodes.specs.walks.Tried.{EndsAs, GoesOnAs}
+use Rattle.rart_nodes.specs.walks.Tried.{EndsAs, ContinuesAs}
 use Rattle.rart_nodes.specs.walks.Viewed.{ViewsEach, CanShowFound, CanSeeFound, IsCutOf}
 use Rattle.rart_nodes.specs.walks.Shown.{ShowsEach, FoldsEach}
 
@@ -79,7 +79,7 @@ module _ {F V : Type 0} (g : Once F (LendingKeyView × (Bor V × Unit {0})) (Uni
 
 module _ {F V E : Type 0} (g : Mut F (Bor V × Unit {0}) (Result VisitControl E)) where
   always-went-on : (f : F) (answer : Result VisitControl E) (M : F → Type 0) (r : Result (Unit {0}) E) (f' : F)
-      → (M f → always_mut g f → always_mut g f') → GoesOnAs answer f M r f' → always_mut g f → always_mut g f'
+      → (M f → always_mut g f → always_mut g f') → ContinuesAs answer f M r f' → always_mut g f → always_mut g f'
   always-went-on f (Ok Continue) M r f' more k h = more k h
   always-went-on f (Ok Stop) M r f' more k h = subst (always_mut g) k.1 h
   always-went-on f (Err e) M r f' more k h = subst (always_mut g) k.1 h

@@ -8,7 +8,7 @@ use Rattle.std.proofs.lemmas.List.{take-append-le, take-take, take_all}
 use Rattle.rart_nodes.specs.tries.CanonicalTest.{is_canonical}
 use Rattle.rart_keys.specs.SortedMap.{longest_key}
 use Rattle.rart_nodes.specs.shapes.Shape.{capacity_of}
-use Rattle.rart_nodes.specs.walks.Walk.{SegmentList, Grown, IsShort, Level, HasRoom, segments_after, value_at}
+use Rattle.rart_nodes.specs.walks.Walk.{SegmentList, Grown, IsShort, Level, IsReserved, segments_after, value_at}
 use Rattle.rart_nodes.specs.walks.Walk.{entries_of, children_entries, entries_below, nodes_below, AreLevels, IsWalk}
 use Rattle.rart_nodes.specs.walks.WalkSteps.{DeepestLeft, DeepestStep, PushesLevel}
 use Rattle.rart_nodes.specs.tries.Trie.{Trie, node, Children, no_children, child, children_in, children_pairs, pairs_of}
@@ -66,10 +66,10 @@ module _ {V : Type 0} where
   pub below-canonical : (t : Trie V) → IsCanonical t → AreCanonical 0 (children_in t)
   below-canonical (node p v n cs) w = w.2
 
-  room-after : (longest places : ℕ) (l : Level V) (ls : List (Level V)) → HasRoom longest places (l ∷ ls)
-      → HasRoom longest places ls
-  room-after longest places l [] h = tt
-  room-after longest places l (m ∷ ls) h = h
+  reserved-after : (longest places : ℕ) (l : Level V) (ls : List (Level V)) → IsReserved longest places (l ∷ ls)
+      → IsReserved longest places ls
+  reserved-after longest places l [] h = tt
+  reserved-after longest places l (m ∷ ls) h = h
 
   -- a tree with a node has pairs
   pub has-pairs : (t : Trie V) (o : Option (Trie V)) → is_canonical t ≡ true → Some t ≡ o → tree_pairs o ≢ []
@@ -157,7 +157,7 @@ module _ {V : Type 0} where
     pub others_fit : d + longest_key (children_pairs cs) ≤ longest
     pub others_deep : length ls + longest_key (children_pairs cs) ≤ longest
     pub above : AreLevels longest d ls
-    pub room : longest < places
+    pub reserved : longest < places
 
   pub first-child : (longest places : ℕ) (k : SegmentList) (d : ℕ) (t : Trie V) (b : ℕ) (cs : Children V)
       (ls : List (Level V)) → IsWalk longest places k ((child b t cs, d) ∷ ls) → Child longest places k d t cs ls
@@ -174,7 +174,7 @@ module _ {V : Type 0} where
         others_fit = omega (arith, w.2, m);
         others_deep = omega (arith, w.3, m);
         above = w.4;
-        room = p.room;
+        reserved = p.reserved;
       }
 
   work-falls : (t : Trie V) (cs : Children V) (w : ℕ)
@@ -199,7 +199,7 @@ module _ {V : Type 0} where
       record {
         path = record {
           stations = (omega arith, c.below, omega (arith, n, m, c.fits), omega (arith, c.deep, c.long), below);
-          room = omega (arith, c.room);
+          reserved = omega (arith, c.reserved);
           short = omega (arith, n, m, c.fits);
         };
         still = turn-still g longest d k t b cs ls c.above i;
@@ -224,8 +224,8 @@ module _ {V : Type 0} where
       record {
         path = record {
           stations = deeper longest d (length k) rest q.stations.0 q.stations.4;
-          room
-              = room-after longest places (no_children, d) rest q.room;
+          reserved
+              = reserved-after longest places (no_children, d) rest q.reserved;
           short = q.short;
         };
         still = refl;
@@ -238,7 +238,7 @@ module _ {V : Type 0} where
       → reverse st ≡ (child s.edge t s.others, d) ∷ reverse s.rest
   level-before d t st st1 s = deepest st s.rest (child s.edge t s.others, d) s.was
 
-  -- the room that a turn finds
+  -- the capacity that a turn finds
   pub record Space (longest places : ℕ) (k : SegmentList) (d : ℕ) (t : Trie V) (after : List (Level V)) : Type 0 where
     pub inside : d ≤ length k
     pub bytes : d + length (prefix_of t) ≤ longest
@@ -258,7 +258,7 @@ module _ {V : Type 0} where
               arith,
               c.deep,
               c.long,
-              c.room,
+              c.reserved,
               ap length s.is,
               length-append s.rest ((s.others, d) ∷ []),
               length-reverse s.rest,

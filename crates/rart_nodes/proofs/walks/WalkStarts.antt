@@ -32,7 +32,7 @@ module _ {V : Type 0} where
               (arith, l, longest-below t c),
           tt,
         );
-        room = r;
+        reserved = r;
         short = omega (arith, n, l, longest-below t c);
       })
 
@@ -63,4 +63,4 @@ module _ {V : Type 0} where
   -- a walk over nothing
   pub no-walk : (longest places : ℕ) (k : SegmentList) (st : List (Level V)) → k ≡ [] → st ≡ []
       → IsWalk longest places k (reverse st)
-  no-walk longest places k st e f = rw (e, f) (record { stations = tt; room = tt; short = omega arith })
+  no-walk longest places k st e f = rw (e, f) (record { stations = tt; reserved = tt; short = omega arith })

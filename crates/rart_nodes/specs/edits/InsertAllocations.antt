@@ -8,13 +8,13 @@ use Rattle.rart_nodes.specs.shapes.Shape.{NodeRecord, record_at}
 use Rattle.rart_nodes.specs.tries.Trie.{Trie, node, Descent, descend, edges_of}
 
 -- a node with n children takes another without memory
-abbrev pub has_room : ℕ → Bool
-has_room n = nat_le 1 n && nat_le n 255 && not (n == 4 || n == 16 || n == 48)
+abbrev pub has_free_slot : ℕ → Bool
+has_free_slot n = nat_le 1 n && nat_le n 255 && not (n == 4 || n == 16 || n == 48)
 
 -- there is a branch point with fewer children than its capacity, and without one by b
 abbrev pub takes_child : Option NodeRecord → ℕ → Bool
 takes_child None b = false
-takes_child (Some r) b = has_room (length r.edges) && not (list_any (λ c. c == b) r.edges)
+takes_child (Some r) b = has_free_slot (length r.edges) && not (list_any (λ c. c == b) r.edges)
 
 -- a branch point, of those whose records f gives, begins q
 abbrev pub any_along : (List ℕ → Option NodeRecord) → List ℕ → Bool

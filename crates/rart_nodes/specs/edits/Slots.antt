@@ -23,9 +23,9 @@ outcome_of Remove (Some w) = Removed w
 outcome_of (Insert x) (Some w) = Replaced w
 
 -- a map that is as large as a map can be takes no new key
-abbrev pub HasRoom : {V : Type 0} → Bool → Outcome V → Type 0
-HasRoom full New = full ≡ false
-HasRoom full o = Unit {0}
+abbrev pub HasCapacity : {V : Type 0} → Bool → Outcome V → Type 0
+HasCapacity full New = full ≡ false
+HasCapacity full o = Unit {0}
 
 -- how many pairs there are before and after
 abbrev pub CountsPairs : {V : Type 0} → Result (Outcome V) (UpdateError V) → ℕ → ℕ → Type 0

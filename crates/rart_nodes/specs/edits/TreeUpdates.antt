@@ -14,7 +14,7 @@ use Rattle.rart_nodes.specs.storages.Capacities.{previous_capacity}
 use Rattle.rart_nodes.specs.tries.Tree.{tree_put, tree_remove}
 use Rattle.rart_nodes.specs.tries.Trie.{Trie, node, capacity_in, children_in, edges_of, trie_lookup, value_of}
 use Rattle.rart_nodes.specs.tries.Trie.{with_records}
-use Rattle.rart_nodes.specs.edits.Slots.{HasRoom, outcome_of}
+use Rattle.rart_nodes.specs.edits.Slots.{HasCapacity, outcome_of}
 use Rattle.rart_parts.specs.declared.error.TreeError.{TreeError}
 use Rattle.rart_parts.specs.declared.error.TreeError.TheVariants.{Memory, Full}
 
@@ -48,7 +48,7 @@ RefusesPut full k t Memory = (full ≡ false) × PutAllocates k t
 -- an update of t at k, where w was left and r requested, gives this result and the tree u
 abbrev pub EndsTree : {V : Type 0} → Bool → List ℕ → SlotUpdate V → Option V → Option (Trie V)
     → Result (Outcome V) (UpdateError V) → Option (Trie V) → Type 0
-EndsTree full k r w t (Ok o) u = (u ≡ tree_updated k r w t) × (o ≡ outcome_of r w) × HasRoom full o
+EndsTree full k r w t (Ok o) u = (u ≡ tree_updated k r w t) × (o ≡ outcome_of r w) × HasCapacity full o
 EndsTree full k r w t (Err (Not_inserted e)) u = (u ≡ t) × (r ≡ Insert e.value) × (w ≡ None)
     × RefusesPut full k t e.error
 EndsTree full k r w t (Err Not_removed) u = (u ≡ tree_left k w t) × (r ≡ Remove) × (w ≢ None) × RemoveAllocates k t
@@ -63,7 +63,7 @@ abbrev pub EndsHere : {V : Type 0} → Bool → SlotUpdate V → Option V → Tr
 EndsHere full Keep w t (Ok o) u = (u ≡ node_holding w t) × (o ≡ outcome_of Keep w)
 EndsHere full Remove None t (Ok o) u = (u ≡ node_holding None t) × (o ≡ Absent)
 EndsHere full Remove (Some w) t (Ok o) u = (u ≡ joined_if_lone (node_holding None t)) × (o ≡ Removed w)
-EndsHere full (Insert x) w t (Ok o) u = (u ≡ node_holding (Some x) t) × (o ≡ outcome_of (Insert x) w) × HasRoom full o
+EndsHere full (Insert x) w t (Ok o) u = (u ≡ node_holding (Some x) t) × (o ≡ outcome_of (Insert x) w) × HasCapacity full o
 EndsHere full r w t (Err (Not_inserted e)) u = (u ≡ node_holding None t) × (r ≡ Insert e.value) × (w ≡ None)
     × (e.error ≡ Full) × (full ≡ true)
 EndsHere full r w t (Err Not_removed) u = ⊥

@@ -12,7 +12,7 @@ use Rattle.rart_nodes.specs.declared.slot.UpdateError.TheVariants.{Insert as Not
 use Rattle.rart_nodes.specs.edits.InsertAllocations.{insert_allocates}
 use Rattle.rart_nodes.specs.edits.RemoveAllocations.{remove_allocates}
 use Rattle.rart_nodes.specs.edits.Callbacks.{AnswersReturning}
-use Rattle.rart_nodes.specs.edits.Slots.{HasRoom, outcome_of}
+use Rattle.rart_nodes.specs.edits.Slots.{HasCapacity, outcome_of}
 use Rattle.rart_parts.specs.declared.error.TreeError.{TreeError}
 use Rattle.rart_parts.specs.declared.error.TreeError.TheVariants.{Memory, Full}
 
@@ -36,7 +36,7 @@ RefusesNew full k m Memory = (full ≡ false) × (insert_allocates (keys_of m) k
 -- an update of m at k, where w was left and r requested, gives this result and the pairs n
 abbrev pub EndsMap : {V : Type 0} → Bool → List ℕ → SlotUpdate V → Option V → List (List ℕ × V)
     → Result (Outcome V) (UpdateError V) → List (List ℕ × V) → Type 0
-EndsMap full k r w m (Ok o) n = (n ≡ map_updated k r w m) × (o ≡ outcome_of r w) × HasRoom full o
+EndsMap full k r w m (Ok o) n = (n ≡ map_updated k r w m) × (o ≡ outcome_of r w) × HasCapacity full o
 EndsMap full k r w m (Err (Not_inserted e)) n = (n ≡ m) × (r ≡ Insert e.value) × (w ≡ None)
     × RefusesNew full k m e.error
 EndsMap full k r w m (Err Not_removed) n = (n ≡ map_left k w m) × (r ≡ Remove) × (w ≢ None)

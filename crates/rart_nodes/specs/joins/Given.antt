@@ -7,17 +7,17 @@ use Rattle.std.specs.List.{FoldsTo}
 use Rattle.rart_keys.specs.KeyBytes.{IsWithin}
 use Rattle.rart_keys.specs.SortedMap.{values_of}
 use Rattle.rart_nodes.specs.declared.node.intersect.join_path.JoinPath.TheVariants.{Nothing, Bytes, Segments}
-use Rattle.rart_nodes.specs.joins.JoinPaths.{Kept, PathRoom, PathGrown}
+use Rattle.rart_nodes.specs.joins.JoinPaths.{Kept, PathReserved, PathGrown}
 use Rattle.rart_nodes.specs.tries.Trie.{with_prefix}
 use Rattle.rart_nodes.specs.walks.Walk.{joined_bytes}
 use Rattle.rart_nodes.specs.walks.PathParts.{lent_segments}
 use Rattle.rart_nodes.specs.walks.ViewSegments.{all_have_bytes}
 
--- `given s f es g`: given the pairs es after the path s, f became g; `room s n`: it can grow by n bytes
-pub record AreVisitors {F X : Type 0} (room : Kept → ℕ → Type 0) (given : Kept → F → List (List ℕ × X) → F
+-- `given s f es g`: given the pairs es after the path s, f became g; `reserved s n`: s can grow by n bytes
+pub record AreVisitors {F X : Type 0} (reserved : Kept → ℕ → Type 0) (given : Kept → F → List (List ℕ × X) → F
     → Type 0) : Type 0 where
-  pub holds : (s : Kept) (n : ℕ) → room s n → PathRoom s n
-  pub has_room : (s t : Kept) (p : List ℕ) (m n : ℕ) → PathGrown s p t → room s m → length p + n ≤ m → room t n
+  pub holds : (s : Kept) (n : ℕ) → reserved s n → PathReserved s n
+  pub keeps_reserved : (s t : Kept) (p : List ℕ) (m n : ℕ) → PathGrown s p t → reserved s m → length p + n ≤ m → reserved t n
   pub gives_none : (s : Kept) (f : F) → given s f [] f
   pub gives_more : (s : Kept) (f g h : F) (xs ys : List (List ℕ × X)) → given s f xs g → given s g ys h
       → given s f (xs ++ ys) h
@@ -51,14 +51,14 @@ abbrev pub CanGiveValues : {F X : Type 0} → (F → X → Type 0) → Kept → 
 CanGiveValues q s f x = q f x.1
 
 -- pairs given with their keys, from the bytes of the path
-pub record KeyRoom (most : Option ℕ) (k : Vec ℕ) (n : ℕ) : Type 0 where
+pub record KeyReserved (most : Option ℕ) (k : Vec ℕ) (n : ℕ) : Type 0 where
   pub place : length k.items + n ≤ vec_capacity k
   pub within : IsWithin most (length k.items + n)
 
-abbrev pub KeysRoom : Option ℕ → Kept → ℕ → Type 0
-KeysRoom most Nothing n = ⊥
-KeysRoom most (Bytes k) n = KeyRoom most k n
-KeysRoom most (Segments k) n = ⊥
+abbrev pub KeysReserved : Option ℕ → Kept → ℕ → Type 0
+KeysReserved most Nothing n = ⊥
+KeysReserved most (Bytes k) n = KeyReserved most k n
+KeysReserved most (Segments k) n = ⊥
 
 abbrev pub GivenKeys : {F X : Type 0} → (F → List ℕ × X → F → Type 0) → Kept → F → List (List ℕ × X) → F → Type 0
 GivenKeys r Nothing f es g = Unit {0}
@@ -71,15 +71,15 @@ CanGiveKeys q (Bytes k) f x = q f (k.items ++ x.0, x.1)
 CanGiveKeys q (Segments k) f x = Unit {0}
 
 -- pairs given with views of their keys, from the segments of the path
-pub record ViewRoom (k : Vec (Bor (List ℕ))) (n : ℕ) : Type 0 where
+pub record ViewReserved (k : Vec (Bor (List ℕ))) (n : ℕ) : Type 0 where
   pub place : length k.items + n ≤ vec_capacity k
   pub fits : length (joined_bytes (lent_segments k.items)) + n < 2 ^ 64
   pub full : all_have_bytes (lent_segments k.items) ≡ true
 
-abbrev pub ViewsRoom : Kept → ℕ → Type 0
-ViewsRoom Nothing n = ⊥
-ViewsRoom (Bytes k) n = ⊥
-ViewsRoom (Segments k) n = ViewRoom k n
+abbrev pub ViewsReserved : Kept → ℕ → Type 0
+ViewsReserved Nothing n = ⊥
+ViewsReserved (Bytes k) n = ⊥
+ViewsReserved (Segments k) n = ViewReserved k n
 
 abbrev pub GivenViews : {F X : Type 0} → (F → List ℕ × X → F → Type 0) → Kept → F → List (List ℕ × X) → F → Type 0
 GivenViews r Nothing f es g = Unit {0}

@@ -17,17 +17,17 @@ path_mark Nothing = 0
 path_mark (Bytes k) = length k.items
 path_mark (Segments k) = length k.items
 
--- there is room for n bytes more
-abbrev pub PathRoom : Kept → ℕ → Type 0
-PathRoom Nothing n = Unit {0}
-PathRoom (Bytes k) n = length k.items + n ≤ vec_capacity k
-PathRoom (Segments k) n = length k.items + n ≤ vec_capacity k
+-- capacity is reserved for n bytes more
+abbrev pub PathReserved : Kept → ℕ → Type 0
+PathReserved Nothing n = Unit {0}
+PathReserved (Bytes k) n = length k.items + n ≤ vec_capacity k
+PathReserved (Segments k) n = length k.items + n ≤ vec_capacity k
 
--- the room is that for n bytes, and no more
-abbrev pub HasRoomOf : ℕ → Kept → Type 0
-HasRoomOf n Nothing = Unit {0}
-HasRoomOf n (Bytes k) = vec_capacity k ≡ n
-HasRoomOf n (Segments k) = vec_capacity k ≡ n
+-- the capacity is that of n bytes, and no more
+abbrev pub HasCapacityOf : ℕ → Kept → Type 0
+HasCapacityOf n Nothing = Unit {0}
+HasCapacityOf n (Bytes k) = vec_capacity k ≡ n
+HasCapacityOf n (Segments k) = vec_capacity k ≡ n
 
 -- l stands after k by the bytes p
 pub record BytesGrown (k : Vec ℕ) (p : List ℕ) (l : Vec ℕ) : Type 0 where

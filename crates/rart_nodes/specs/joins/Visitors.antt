@@ -11,10 +11,10 @@ pub use Rattle.rart_nodes.specs.joins.Given.{
   GivenKeys,
   GivenValues,
   GivenViews,
-  KeyRoom,
-  KeysRoom,
-  ViewRoom,
-  ViewsRoom,
+  KeyReserved,
+  KeysReserved,
+  ViewReserved,
+  ViewsReserved,
   most_count,
 }
 use Rattle.std.specs.Prelude.{ℕ, ◌≡◌, ◌+◌, ◌≤◌, List, [], ◌∷◌, ◌++◌, length, vec_capacity, Option, Some, None}
@@ -26,7 +26,7 @@ use Rattle.std.specs.List.{FoldsTo}
 use Rattle.rart_keys.specs.KeyBytes.{IsWithin}
 use Rattle.rart_keys.specs.SortedMap.{values_of}
 use Rattle.rart_nodes.specs.declared.node.intersect.join_path.JoinPath.TheVariants.{Nothing, Bytes, Segments}
-use Rattle.rart_nodes.specs.joins.JoinPaths.{Kept, PathRoom, PathGrown, BytesGrown, SegmentsGrown}
+use Rattle.rart_nodes.specs.joins.JoinPaths.{Kept, PathReserved, PathGrown, BytesGrown, SegmentsGrown}
 use Rattle.rart_nodes.specs.tries.PrefixLaws.{prefix-append, prefix-twice, values-append, values-with_prefix}
 use Rattle.rart_nodes.specs.tries.Trie.{with_prefix}
 use Rattle.rart_nodes.specs.walks.SegmentLaws.{full-append, joined-append, many-joined}
@@ -42,14 +42,14 @@ within-less : (m : Option ℕ) (i j : ℕ) → IsWithin m i → j ≤ i → IsWi
 within-less None i j h k = tt
 within-less (Some m) i j h k = omega arith
 
--- room on paths
-bytes_room : (k l : Vec ℕ) (p : List ℕ) (m n : ℕ) → BytesGrown k p l → length k.items + m ≤ vec_capacity k
+-- reserved capacity of paths
+bytes_reserved : (k l : Vec ℕ) (p : List ℕ) (m n : ℕ) → BytesGrown k p l → length k.items + m ≤ vec_capacity k
     → length p + n ≤ m → length l.items + n ≤ vec_capacity l
-bytes_room k l p m n a b c = omega (arith, a.place, b, c, ap length a.bytes, length-append k.items p)
+bytes_reserved k l p m n a b c = omega (arith, a.place, b, c, ap length a.bytes, length-append k.items p)
 
-segments_room : (k l : Vec (Bor (List ℕ))) (p : List ℕ) (m n : ℕ) → SegmentsGrown k p l
+segments_reserved : (k l : Vec (Bor (List ℕ))) (p : List ℕ) (m n : ℕ) → SegmentsGrown k p l
     → length k.items + m ≤ vec_capacity k → length p + n ≤ m → length l.items + n ≤ vec_capacity l
-segments_room k l p m n a b c =
+segments_reserved k l p m n a b c =
     omega (
       arith,
       a.place,
@@ -64,42 +64,42 @@ segments_room k l p m n a b c =
       ap length a.bytes,
     )
 
-pub path-room : (s t : Kept) (p : List ℕ) (m n : ℕ) → PathGrown s p t → PathRoom s m → length p + n ≤ m → PathRoom t n
-path-room Nothing Nothing p m n a b c = tt
-path-room Nothing (Bytes l) p m n a b c = absurd a
-path-room Nothing (Segments l) p m n a b c = absurd a
-path-room (Bytes k) Nothing p m n a b c = absurd a
-path-room (Bytes k) (Bytes l) p m n a b c = bytes_room k l p m n a b c
-path-room (Bytes k) (Segments l) p m n a b c = absurd a
-path-room (Segments k) Nothing p m n a b c = absurd a
-path-room (Segments k) (Bytes l) p m n a b c = absurd a
-path-room (Segments k) (Segments l) p m n a b c = segments_room k l p m n a b c
+pub path-reserved : (s t : Kept) (p : List ℕ) (m n : ℕ) → PathGrown s p t → PathReserved s m → length p + n ≤ m → PathReserved t n
+path-reserved Nothing Nothing p m n a b c = tt
+path-reserved Nothing (Bytes l) p m n a b c = absurd a
+path-reserved Nothing (Segments l) p m n a b c = absurd a
+path-reserved (Bytes k) Nothing p m n a b c = absurd a
+path-reserved (Bytes k) (Bytes l) p m n a b c = bytes_reserved k l p m n a b c
+path-reserved (Bytes k) (Segments l) p m n a b c = absurd a
+path-reserved (Segments k) Nothing p m n a b c = absurd a
+path-reserved (Segments k) (Bytes l) p m n a b c = absurd a
+path-reserved (Segments k) (Segments l) p m n a b c = segments_reserved k l p m n a b c
 
 pub can_values : {F X : Type 0} (q : F → X → Type 0) → CanDeeper (CanGiveValues q)
 can_values q s t p f x w h = h
 
-pub give_values : {F X : Type 0} (r : F → X → F → Type 0) → AreVisitors PathRoom (GivenValues r)
+pub give_values : {F X : Type 0} (r : F → X → F → Type 0) → AreVisitors PathReserved (GivenValues r)
 give_values r = record {
   holds = λ s n h. h;
-  has_room = path-room;
+  keeps_reserved = path-reserved;
   gives_none = λ s f. refl;
   gives_more = λ s f g h xs ys a b. rw (values-append xs ys) (folds-append r f g h (values_of xs) (values_of ys) a b);
   gives_after = λ s t p f g es a b. rw (values-with_prefix p es) b;
 }
 
-keys-hold : (most : Option ℕ) (s : Kept) (n : ℕ) → KeysRoom most s n → PathRoom s n
+keys-hold : (most : Option ℕ) (s : Kept) (n : ℕ) → KeysReserved most s n → PathReserved s n
 keys-hold most Nothing n h = absurd h
 keys-hold most (Bytes k) n h = h.place
 keys-hold most (Segments k) n h = absurd h
 
-keys-room : (most : Option ℕ) (s t : Kept) (p : List ℕ) (m n : ℕ) → PathGrown s p t → KeysRoom most s m
-    → length p + n ≤ m → KeysRoom most t n
-keys-room most Nothing t p m n a b c = absurd b
-keys-room most (Segments k) t p m n a b c = absurd b
-keys-room most (Bytes k) Nothing p m n a b c = absurd a
-keys-room most (Bytes k) (Segments l) p m n a b c = absurd a
-keys-room most (Bytes k) (Bytes l) p m n a b c = record {
-  place = bytes_room k l p m n a b.place c;
+keys-reserved : (most : Option ℕ) (s t : Kept) (p : List ℕ) (m n : ℕ) → PathGrown s p t → KeysReserved most s m
+    → length p + n ≤ m → KeysReserved most t n
+keys-reserved most Nothing t p m n a b c = absurd b
+keys-reserved most (Segments k) t p m n a b c = absurd b
+keys-reserved most (Bytes k) Nothing p m n a b c = absurd a
+keys-reserved most (Bytes k) (Segments l) p m n a b c = absurd a
+keys-reserved most (Bytes k) (Bytes l) p m n a b c = record {
+  place = bytes_reserved k l p m n a b.place c;
   within = within-less most (length k.items + m) (length l.items + n) b.within
       (omega (arith, c, ap length a.bytes, length-append k.items p));
 }
@@ -136,28 +136,28 @@ can_keys q (Segments k) (Bytes l) p f x w h = absurd w
 can_keys q (Segments k) (Segments l) p f x w h = tt
 
 pub give_keys : {F X : Type 0} (most : Option ℕ) (r : F → List ℕ × X → F → Type 0)
-    → AreVisitors (KeysRoom most) (GivenKeys r)
+    → AreVisitors (KeysReserved most) (GivenKeys r)
 give_keys most r = record {
   holds = keys-hold most;
-  has_room = keys-room most;
+  keeps_reserved = keys-reserved most;
   gives_none = keys-none r;
   gives_more
       = keys-more r;
   gives_after = keys-after r;
 }
 
-views-hold : (s : Kept) (n : ℕ) → ViewsRoom s n → PathRoom s n
+views-hold : (s : Kept) (n : ℕ) → ViewsReserved s n → PathReserved s n
 views-hold Nothing n h = absurd h
 views-hold (Bytes k) n h = absurd h
 views-hold (Segments k) n h = h.place
 
-views-room : (s t : Kept) (p : List ℕ) (m n : ℕ) → PathGrown s p t → ViewsRoom s m → length p + n ≤ m → ViewsRoom t n
-views-room Nothing t p m n a b c = absurd b
-views-room (Bytes k) t p m n a b c = absurd b
-views-room (Segments k) Nothing p m n a b c = absurd a
-views-room (Segments k) (Bytes l) p m n a b c = absurd a
-views-room (Segments k) (Segments l) p m n a b c = record {
-  place = segments_room k l p m n a b.place c;
+views-reserved : (s t : Kept) (p : List ℕ) (m n : ℕ) → PathGrown s p t → ViewsReserved s m → length p + n ≤ m → ViewsReserved t n
+views-reserved Nothing t p m n a b c = absurd b
+views-reserved (Bytes k) t p m n a b c = absurd b
+views-reserved (Segments k) Nothing p m n a b c = absurd a
+views-reserved (Segments k) (Bytes l) p m n a b c = absurd a
+views-reserved (Segments k) (Segments l) p m n a b c = record {
+  place = segments_reserved k l p m n a b.place c;
   fits = omega (
     arith,
     c,
@@ -211,10 +211,10 @@ can_views q (Segments k) (Segments l) p f x w h =
     ∙ joined-append (lent_segments k.items) w.more ∙ ap (λ z. joined_bytes (lent_segments k.items) ++ z) w.bytes in
     rw (whole, append_assoc (joined_bytes (lent_segments k.items)) p x.0) h
 
-pub give_views : {F X : Type 0} (r : F → List ℕ × X → F → Type 0) → AreVisitors ViewsRoom (GivenViews r)
+pub give_views : {F X : Type 0} (r : F → List ℕ × X → F → Type 0) → AreVisitors ViewsReserved (GivenViews r)
 give_views r = record {
   holds = views-hold;
-  has_room = views-room;
+  keeps_reserved = views-reserved;
   gives_none = views-none r;
   gives_more
       = views-more r;

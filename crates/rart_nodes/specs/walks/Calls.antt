@@ -9,8 +9,8 @@ abbrev pub CallsEach : {F A : Type 0} → (F → A → F → Type 0) → F → L
 CallsEach {F} R f xs = (last : F) × FoldsTo R f xs last
 
 -- memory was refused, and there is something to go through
-abbrev pub MayLackRoom : {A : Type 0} → List A → TreeError → Type 0
-MayLackRoom xs e = (e ≡ Memory) × (xs ≢ [])
+abbrev pub MayLackMemory : {A : Type 0} → List A → TreeError → Type 0
+MayLackMemory xs e = (e ≡ Memory) × (xs ≢ [])
 
 -- Q holds at each item, of f as calls of which R speaks leave it at the items before
 pub record CallableAtEach {F A : Type 0} (R : F → A → F → Type 0) (Q : F → A → Type 0) (f : F) (xs : List A) : Type 0

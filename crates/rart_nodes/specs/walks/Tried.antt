@@ -13,10 +13,10 @@ abbrev pub CanTry : {F V E : Type 0} → Mut F (Bor V × Unit {0}) (Result Visit
 CanTry g f xs = CallableAtEach (λ p x q. CalledAt g p x (Ok Continue) q) (λ p x. TakesAt g p x) f xs
 
 -- how a walk continues or ends after an answer, as `more` continues it
-abbrev pub GoesOnAs : {F E : Type 0} → Result VisitControl E → F → (F → Type 0) → Result (Unit {0}) E → F → Type 0
-GoesOnAs (Ok Continue) f more r f' = more f
-GoesOnAs (Ok Stop) f more r f' = (r ≡ Ok tt) × (f ≡ f')
-GoesOnAs (Err e) f more r f' = (r ≡ Err e) × (f ≡ f')
+abbrev pub ContinuesAs : {F E : Type 0} → Result VisitControl E → F → (F → Type 0) → Result (Unit {0}) E → F → Type 0
+ContinuesAs (Ok Continue) f more r f' = more f
+ContinuesAs (Ok Stop) f more r f' = (r ≡ Ok tt) × (f ≡ f')
+ContinuesAs (Err e) f more r f' = (r ≡ Err e) × (f ≡ f')
 
 -- f is called at each value in order until it says stop or fails, and the walk ends with r and f'
 abbrev pub EndsAs : {F V E : Type 0} → Mut F (Bor V × Unit {0}) (Result VisitControl E) → F → List V
@@ -24,7 +24,7 @@ abbrev pub EndsAs : {F V E : Type 0} → Mut F (Bor V × Unit {0}) (Result Visit
 EndsAs {F} {V} {E} g f [] r f' = (r ≡ Ok tt) × (f ≡ f')
 EndsAs {F} {V} {E} g f (v ∷ vs) r f' = (shown : Bor V)
     × ((answer : Result VisitControl E) × ((next : F)
-    × ((shown.now ≡ v) × (Called g f (shown, tt) answer next × GoesOnAs answer next (λ h. EndsAs g h vs r f') r f'))))
+    × ((shown.now ≡ v) × (Called g f (shown, tt) answer next × ContinuesAs answer next (λ h. EndsAs g h vs r f') r f'))))
 
 -- the same of a walk whose allocation can also be refused, and that then calls nothing
 abbrev pub EndsVisit : {F V E : Type 0} → Mut F (Bor V × Unit {0}) (Result VisitControl E) → F → List V
@@ -39,17 +39,17 @@ abbrev pub EndedVisit : {F V E : Type 0} → Mut F (Bor V × Unit {0}) (Result V
 EndedVisit {F} g f vs r = (last : F) × EndsVisit g f vs r last
 
 -- P holds, unless the allocation was refused
-abbrev pub IfRoom : {E : Type 0} → Result (Unit {0}) (VisitError E) → Type 0 → Type 0
-IfRoom (Ok u) P = P
-IfRoom (Err (Callback e)) P = P
-IfRoom (Err Memory) P = Unit {0}
+abbrev pub IfAllocated : {E : Type 0} → Result (Unit {0}) (VisitError E) → Type 0 → Type 0
+IfAllocated (Ok u) P = P
+IfAllocated (Err (Callback e)) P = P
+IfAllocated (Err Memory) P = Unit {0}
 
 -- P holds, if the allocation was refused
-abbrev pub OnNoRoom : {E : Type 0} → Result (Unit {0}) (VisitError E) → Type 0 → Type 0
-OnNoRoom (Ok u) P = Unit {0}
-OnNoRoom (Err (Callback e)) P = Unit {0}
-OnNoRoom (Err Memory) P = P
+abbrev pub OnRefused : {E : Type 0} → Result (Unit {0}) (VisitError E) → Type 0 → Type 0
+OnRefused (Ok u) P = Unit {0}
+OnRefused (Err (Callback e)) P = Unit {0}
+OnRefused (Err Memory) P = P
 
 -- the allocation was refused, and there is something to go through
-abbrev pub MayStopAtRoom : {A E : Type 0} → List A → VisitError E → Type 0
-MayStopAtRoom xs e = e ≡ Memory → xs ≢ []
+abbrev pub MayStopForMemory : {A E : Type 0} → List A → VisitError E → Type 0
+MayStopForMemory xs e = e ≡ Memory → xs ≢ []

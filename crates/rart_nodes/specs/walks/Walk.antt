@@ -27,9 +27,9 @@ abbrev pub Level : Type 0 → Type 0
 Level V = Children V × ℕ
 
 -- where there is a level, a path of `longest` bytes has a place for each of its levels
-abbrev pub HasRoom : {A : Type 0} → ℕ → ℕ → List A → Type 0
-HasRoom longest places [] = Unit {0}
-HasRoom longest places (l ∷ ls) = longest < places
+abbrev pub IsReserved : {A : Type 0} → ℕ → ℕ → List A → Type 0
+IsReserved longest places [] = Unit {0}
+IsReserved longest places (l ∷ ls) = longest < places
 
 -- with the segments ps in front of each path
 abbrev pub segments_after : {V : Type 0} → SegmentList → List (SegmentList × V) → List (SegmentList × V)
@@ -76,10 +76,10 @@ AreLevels longest deep (l ∷ ls) = (l.1 ≤ deep) × AreCanonical 0 l.0
     × (l.1 + longest_key (children_pairs l.0) ≤ longest) × (length ls + longest_key (children_pairs l.0) ≤ longest)
     × AreLevels longest l.1 ls
 
--- the levels of a path k, with room for longer ones
+-- the levels of a path k, with capacity for longer ones
 pub record IsWalk {V : Type 0} (longest places : ℕ) (k : SegmentList) (ls : List (Level V)) : Type 0 where
   pub stations : AreLevels longest (length k) ls
-  pub room : HasRoom longest places ls
+  pub reserved : IsReserved longest places ls
   pub short : length k ≤ longest
 
 -- a walk with the bytes of its path: their capacity is at least the longest key's length, which is within the maximum

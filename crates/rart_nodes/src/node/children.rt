@@ -74,10 +74,10 @@ impl<P: Partial, V> DefaultNode<P, V> {
         let Some(most) = P::MAXIMUM_SIZE else {
             return true;
         };
-        let room = most - self.prefix.len();
+        let spare = most - self.prefix.len();
         let mut children = self.iter();
         while let Some((_byte, child)) = children.next() {
-            if child.prefix().len() > room {
+            if child.prefix().len() > spare {
                 return false;
             }
         }

@@ -9,7 +9,7 @@ ghost use Rattle.rart_nodes.specs.joins.PairCalls.{CanCallWith};
 ghost use Rattle.rart_nodes.specs.joins.SeenJoins.{MayLackBoth, seen_bound, seen_join, seen_visits};
 ghost use Rattle.rart_nodes.specs.joins.SharedEdges.{joint_visits, more_visits};
 ghost use Rattle.rart_nodes.specs.joins.ViewCalls.{CanViewAt, ViewedAtEach, ViewsAtEach};
-ghost use Rattle.rart_nodes.specs.joins.JoinPaths.{HasRoomOf, PathGrown};
+ghost use Rattle.rart_nodes.specs.joins.JoinPaths.{HasCapacityOf, PathGrown};
 ghost use Rattle.rart_nodes.specs.tries.SeenTrees.{length_bound, seen_keys, seen_nodes, seen_pairs};
 ghost use Rattle.rart_nodes.specs.tries.Trie.{pairs_of};
 
@@ -36,7 +36,7 @@ fn intersect_below<'a, P: Partial, V, W, C: Count, F, T: Visitor<V, W, F>>(
     counter: &mut C,
     f: &mut F,
 )
-    requires room { T.room path.old (longest_key (pairs_of left.node.now)) }
+    requires reserved { T.reserved path.old (longest_key (pairs_of left.node.now)) }
     requires callable { CanGive T.can T.given path.old f.old
         (intersect_nodes left.node.now right.node.now) }
     ensures place { PathGrown path.old [] path.new }
@@ -66,7 +66,7 @@ fn intersect_below<'a, P: Partial, V, W, C: Count, F, T: Visitor<V, W, F>>(
     path.cut(mark);
 }
 
-/// Visits the pairs of both trees. The path has room for the longest key of the left one, and for no more.
+/// Visits the pairs of both trees. The path has capacity for the longest key of the left one, and no more.
 fn intersect_trees<'a, K: KeyTrait, V, W, C: Count, F, T: Visitor<V, W, F>>(
     left: Seen<'a, K, V, C>,
     right: Seen<'_, K, W, Paired<C>>,
@@ -74,8 +74,8 @@ fn intersect_trees<'a, K: KeyTrait, V, W, C: Count, F, T: Visitor<V, W, F>>(
     counter: &mut C,
     f: &mut F,
 )
-    requires room { T.room path.old (longest_key (seen_pairs left)) }
-    requires no_more_room { HasRoomOf (length_bound left) path.old }
+    requires reserved { T.reserved path.old (longest_key (seen_pairs left)) }
+    requires capacity { HasCapacityOf (length_bound left) path.old }
     requires callable { CanGive T.can T.given path.old f.old (seen_join left right) }
     ensures given { T.given path.old f.old
         (join (seen_pairs left.entry) (seen_pairs right.entry)) f.new }

@@ -8,7 +8,7 @@ ghost use Rattle.rart_keys.specs.Ranges.{pairs_from};
 ghost use Rattle.rart_keys.specs.SortedMap.{count_of, values_of};
 ghost use Rattle.rart_nodes.specs.tries.SeenTrees.{seen_keys, seen_pairs, seen_tree};
 ghost use Rattle.rart_nodes.specs.walks.ProbeCount.{VisitsAtMost, probe_count};
-ghost use Rattle.rart_nodes.specs.walks.Calls.{MayLackRoom};
+ghost use Rattle.rart_nodes.specs.walks.Calls.{MayLackMemory};
 
 use crate::count::{Count, Visits};
 use crate::node::seen::Seen;
@@ -170,7 +170,7 @@ impl<'a, K: KeyTrait, V> Iterator for ValuesIter<'a, K, V> {
 impl<'a, K: KeyTrait, V, C: Count> Seen<'a, K, V, C> {
     fn key_walk(self, counter: &mut C) -> Result<KeyWalk<'a, K, K::PartialType, V, C>, TreeError>
         ensures pairs { IfOk result (λ it. it ≡ seen_pairs self.entry) }
-        ensures memory { IfErr result (MayLackRoom (seen_pairs self.entry)) }
+        ensures memory { IfErr result (MayLackMemory (seen_pairs self.entry)) }
         ensures visits { C.number counter.new
             ≡ C.number counter.old + count_of (seen_tree self.entry) }
     {
@@ -193,7 +193,7 @@ impl<'a, K: KeyTrait, V, C: Count> Seen<'a, K, V, C> {
     /// The root, or none of an empty tree.
     pub fn iter_counted(self, counter: &mut C) -> Result<SeenIter<'a, K, V, C>, TreeError>
         ensures pairs { IfOk result (λ it. it ≡ seen_pairs self.entry) }
-        ensures memory { IfErr result (MayLackRoom (seen_pairs self.entry)) }
+        ensures memory { IfErr result (MayLackMemory (seen_pairs self.entry)) }
         ensures visits { C.number counter.new
             ≡ C.number counter.old + count_of (seen_tree self.entry) }
         ensures bound { C.number counter.new ≤ C.number counter.old + 1 }
@@ -221,7 +221,7 @@ impl<'a, K: KeyTrait, V, C: Count> Seen<'a, K, V, C> {
     ) -> Result<KeyWalk<'a, K, K::PartialType, V, C>, TreeError>
         ensures pairs { IfOk result
             (λ it. it ≡ pairs_from included start.now (seen_pairs self.entry)) }
-        ensures memory { IfErr result (MayLackRoom (seen_pairs self.entry)) }
+        ensures memory { IfErr result (MayLackMemory (seen_pairs self.entry)) }
         ensures unread { OnErr result (counter.new ≡ counter.old) }
         ensures visits { IfOk result (λ _. C.number counter.new
             ≡ C.number counter.old + probe_count (seen_keys self.entry) start.now) }
@@ -243,7 +243,7 @@ impl<'a, K: KeyTrait, V, C: Count> Seen<'a, K, V, C> {
         counter: &mut C,
     ) -> Result<KeyWalk<'a, K, K::PartialType, V, C>, TreeError>
         ensures pairs { IfOk result (λ it. it ≡ below prefix.now (seen_pairs self.entry)) }
-        ensures memory { IfErr result (MayLackRoom (seen_pairs self.entry)) }
+        ensures memory { IfErr result (MayLackMemory (seen_pairs self.entry)) }
         ensures unread { OnErr result (counter.new ≡ counter.old) }
         ensures visits { IfOk result (λ _. C.number counter.new
             ≡ C.number counter.old + probe_count (seen_keys self.entry) prefix.now) }
@@ -273,7 +273,7 @@ impl<'a, K: KeyTrait, V, C: Count> Seen<'a, K, V, C> {
     ) -> Result<SeenIter<'a, K, V, C>, TreeError>
         ensures pairs { IfOk result
             (λ it. it ≡ below (K.bytes prefix.now) (seen_pairs self.entry)) }
-        ensures memory { IfErr result (MayLackRoom (seen_pairs self.entry)) }
+        ensures memory { IfErr result (MayLackMemory (seen_pairs self.entry)) }
         ensures unread { OnErr result (counter.new ≡ counter.old) }
         ensures visits { IfOk result (λ _. C.number counter.new
             ≡ C.number counter.old + probe_count (seen_keys self.entry) (K.bytes prefix.now)) }
@@ -294,7 +294,7 @@ impl<'a, K: KeyTrait, V> Seen<'a, K, V, Visits> {
     pub fn prefix_iter_k(self, prefix: &K) -> Result<Iter<'a, K, K::PartialType, V>, TreeError>
         ensures pairs { IfOk result
             (λ it. it ≡ below (K.bytes prefix.now) (seen_pairs self.entry)) }
-        ensures memory { IfErr result (MayLackRoom (seen_pairs self.entry)) }
+        ensures memory { IfErr result (MayLackMemory (seen_pairs self.entry)) }
     {
         let pairs = self.prefix_iter_k_counted(prefix, &mut Visits::new())?;
         Ok(Iter {
@@ -310,7 +310,7 @@ impl<'a, K: KeyTrait, V> Seen<'a, K, V, Visits> {
     /// [`TreeError::Memory`] if the tree isn't empty and the allocation fails.
     pub fn iter(self) -> Result<Iter<'a, K, K::PartialType, V>, TreeError>
         ensures pairs { IfOk result (λ it. it ≡ seen_pairs self.entry) }
-        ensures memory { IfErr result (MayLackRoom (seen_pairs self.entry)) }
+        ensures memory { IfErr result (MayLackMemory (seen_pairs self.entry)) }
     {
         let pairs = self.iter_counted(&mut Visits::new())?;
         Ok(Iter {
@@ -326,7 +326,7 @@ impl<'a, K: KeyTrait, V> Seen<'a, K, V, Visits> {
     /// [`TreeError::Memory`] if the tree isn't empty and the allocation fails.
     pub fn values_iter(self) -> Result<ValuesIter<'a, K, V>, TreeError>
         ensures values { IfOk result (λ it. it ≡ values_of (seen_pairs self.entry)) }
-        ensures memory { IfErr result (MayLackRoom (seen_pairs self.entry)) }
+        ensures memory { IfErr result (MayLackMemory (seen_pairs self.entry)) }
     {
         let (walk, _path) = self.walk::<NoPath>(&mut Visits::new())?;
         Ok(ValuesIter { walk })

@@ -170,7 +170,7 @@ impl<P: Partial, V> Node<P, V> for DefaultNode<P, V> {
     }
 
     fn add_child(&mut self, alloc: Global, key: u8, node: Self) -> Result<(), Refused<Self>> {
-        match self.storage.make_room(alloc, key) {
+        match self.storage.reserve_slot(alloc, key) {
             Ok(()) => {
                 self.storage.add_within(key, node);
                 Ok(())

@@ -11,7 +11,7 @@ ghost use Rattle.rart_keys.specs.Ranges.{between, bound_bytes, bound_in, is_incl
 ghost use Rattle.rart_nodes.specs.ranges.Starts.{TakesUpTo, bytes_taken};
 ghost use Rattle.rart_nodes.specs.tries.SeenTrees.{seen_keys, seen_pairs};
 ghost use Rattle.rart_nodes.specs.walks.ProbeCount.{probe_count};
-ghost use Rattle.rart_nodes.specs.walks.Calls.{MayLackRoom};
+ghost use Rattle.rart_nodes.specs.walks.Calls.{MayLackMemory};
 
 use crate::count::{Count, Visits};
 use crate::node::iter::{Iter, KeyWalk};
@@ -210,7 +210,7 @@ impl<'a, K: KeyTrait + Drop, V, C: Count> Seen<'a, K, V, C> {
         ensures end { IfOk result (λ r. r.0 ≡ bound_in K.bytes end) }
         ensures ahead { IfOk result (λ r. r.1 ≡ pairs_from (is_inclusive (bound_in K.bytes start))
             (bound_bytes (bound_in K.bytes start)) (seen_pairs self.entry)) }
-        ensures memory { IfErr result (MayLackRoom (seen_pairs self.entry)) }
+        ensures memory { IfErr result (MayLackMemory (seen_pairs self.entry)) }
         ensures unread { OnErr result (counter.new ≡ counter.old) }
         ensures visits { IfOk result (λ _. C.number counter.new ≡ C.number counter.old
             + probe_count (seen_keys self.entry) (bound_bytes (bound_in K.bytes start))) }
@@ -246,7 +246,7 @@ impl<'a, K: KeyTrait + Drop, V, C: Count> Seen<'a, K, V, C> {
         ensures end { IfOk result (λ r. r.0 ≡ bound_in K.bytes end) }
         ensures ahead { IfOk result (λ r. r.1 ≡ pairs_from (is_inclusive (bound_in K.bytes start))
             (bound_bytes (bound_in K.bytes start)) (seen_pairs self.entry)) }
-        ensures memory { IfErr result (MayLackRoom (seen_pairs self.entry)) }
+        ensures memory { IfErr result (MayLackMemory (seen_pairs self.entry)) }
         ensures unread { OnErr result (counter.new ≡ counter.old) }
         ensures visits { IfOk result (λ _. C.number counter.new ≡ C.number counter.old
             + probe_count (seen_keys self.entry) (bound_bytes (bound_in K.bytes start))) }
@@ -268,7 +268,7 @@ impl<'a, K: KeyTrait + Drop, V> Seen<'a, K, V, Visits> {
     pub fn range(self, start: Bound<K>, end: Bound<K>) -> Result<Range<'a, K, V>, TreeError>
         ensures pairs { IfOk result (λ r. up_to r.0 r.1
             ≡ between (bound_in K.bytes start) (bound_in K.bytes end) (seen_pairs self.entry)) }
-        ensures memory { IfErr result (MayLackRoom (seen_pairs self.entry)) }
+        ensures memory { IfErr result (MayLackMemory (seen_pairs self.entry)) }
     {
         let pairs = self.range_counted(start, end, &mut Visits::new())?;
         Ok(Range { pairs })

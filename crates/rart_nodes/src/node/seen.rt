@@ -148,7 +148,7 @@ impl<'a, K: KeyTrait, V, C> Seen<'a, K, V, C> {
         requires short { longest_key (tree_pairs (option_copied root)) ≤ longest }
         requires fits { IsWithin K.MAXIMUM_SIZE longest }
         ensures root { seen_tree result ≡ option_copied root.entry }
-        ensures room { length_bound result ≡ longest }
+        ensures bound { length_bound result ≡ longest }
     {
         Seen {
             root,

@@ -10,7 +10,7 @@ use rart_parts::utils::bitset::Bitset64;
 
 mod ends;
 mod last_under;
-mod room;
+mod grow;
 mod shrink;
 pub(crate) mod walk;
 
@@ -82,7 +82,7 @@ impl<N> Storage<N> {
     #[inline(always)]
     pub(crate) fn add_within(&mut self, b: u8, node: N)
         requires absent { child_at b (child_entries self.old) ≡ None }
-        requires room { length (child_entries self.old) < storage_capacity self.old }
+        requires not_full { length (child_entries self.old) < storage_capacity self.old }
         ensures stored { child_entries self.new ≡ with_entry b node (child_entries self.old) }
         ensures capacity { storage_capacity self.new ≡ storage_capacity self.old }
     {

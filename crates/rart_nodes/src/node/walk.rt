@@ -80,11 +80,11 @@ pub(crate) fn walk_at<'a, P: Partial, V, C, T: Path<'a, P>>(
     at: Entered<'a, P, V, C>,
 ) -> Walk<'a, P, V, C>
     requires short { length (T.kept path.old) + longest_key (pairs_of at.node.now) ≤ longest }
-    requires room { longest ≤ T.capacity path.old }
+    requires reserved { longest ≤ T.capacity path.old }
     requires places { longest < vec_capacity levels }
     requires empty_walk { levels.items ≡ [] }
     ensures path { IsWalkAt result (T.kept path.new) }
-    ensures room { result.longest ≤ T.capacity path.new }
+    ensures reserved { result.longest ≤ T.capacity path.new }
     ensures requested { T.requested path.new ≡ T.requested path.old }
     ensures entries { walk_entries T.grown (T.kept path.new) result
         ≡ segments_after (T.kept path.old) (entries_of T.grown at.entry.node.now) }
@@ -106,7 +106,7 @@ pub(crate) fn empty_walk<'a, P: Partial, V, C, T: Path<'a, P>>(
     alloc: Global,
 ) -> (Walk<'a, P, V, C>, T)
     ensures path { IsWalkAt result.0 (T.kept result.1) }
-    ensures room { result.0.longest ≤ T.capacity result.1 }
+    ensures reserved { result.0.longest ≤ T.capacity result.1 }
     ensures requested { T.requested result.1 ≡ 0 }
     ensures entries { walk_entries T.grown (T.kept result.1) result.0 ≡ [] }
     ensures visits { walk_nodes result.0 ≡ 0 }
@@ -125,7 +125,7 @@ impl<'a, K: KeyTrait, V, C> Seen<'a, K, V, C> {
     /// Returns an empty path with capacity for the number of bytes that the tree keeps, and for no more.
     pub(crate) fn new_path<T: Path<'a, K::PartialType>>(self) -> Result<T, AllocError>
         ensures nothing { IfOk result (λ t. T.kept t ≡ []) }
-        ensures room { IfOk result (λ t. self.entry.longest ≤ T.capacity t) }
+        ensures reserved { IfOk result (λ t. self.entry.longest ≤ T.capacity t) }
         ensures requested { IfOk result (λ t. T.requested t ≤ self.entry.longest) }
     {
         T::with_capacity(self.alloc(), self.longest())
@@ -139,7 +139,7 @@ impl<'a, K: KeyTrait, V, C: Count> Seen<'a, K, V, C> {
         counter: &mut C,
     ) -> Result<(Walk<'a, K::PartialType, V, C>, T), AllocError>
         ensures path { IfOk result (λ w. IsWalkAt w.0 (T.kept w.1)) }
-        ensures room { IfOk result (λ w. w.0.longest ≤ T.capacity w.1) }
+        ensures reserved { IfOk result (λ w. w.0.longest ≤ T.capacity w.1) }
         ensures requested { IfOk result (λ w. T.requested w.1 ≤ length_bound self.entry) }
         ensures entries { IfOk result (λ w. walk_entries T.grown (T.kept w.1) w.0
             ≡ tree_entries T.grown (seen_tree self.entry)) }
@@ -158,7 +158,7 @@ impl<'a, K: KeyTrait, V, C: Count> Seen<'a, K, V, C> {
         };
         let root = root.enter(counter);
         let mut path = self.new_path::<T>()?;
-        // no vector has room for `usize::MAX` levels, so that at such a length the request is refused
+        // no vector can hold `usize::MAX` levels, so that at such a length the request is refused
         let levels = Vec::with_capacity(alloc, longest.saturating_add(1))?;
         let walk = walk_at(levels, longest, &mut path, root);
         Ok((walk, path))
@@ -170,9 +170,9 @@ impl<'a, P: Partial, V, C: Count> Walk<'a, P, V, C> {
     /// node once.
     pub(crate) fn advance<T: Path<'a, P>>(&mut self, path: &mut T, counter: &mut C) -> Option<&'a V>
         requires path { IsWalkAt self.old (T.kept path.old) }
-        requires room { self.old.longest ≤ T.capacity path.old }
+        requires reserved { self.old.longest ≤ T.capacity path.old }
         ensures path { IsWalkAt self.new (T.kept path.new) }
-        ensures room { self.new.longest ≤ T.capacity path.new }
+        ensures reserved { self.new.longest ≤ T.capacity path.new }
         ensures requested { T.requested path.new ≡ T.requested path.old }
         ensures entries { TakesEntry (walk_entries T.grown (T.kept path.old) self.old)
             (T.kept path.new) result (walk_entries T.grown (T.kept path.new) self.new) }

@@ -8,5 +8,5 @@ abbrev pub invariant-loop-call : goal.invariant-loop-call
 invariant-loop-call g l = record {
   run : HasRun g.V.Clone.is_infallible g.K.KeyTrait.bytes l.fn.tree.pairs l.fn.calls.items l.replies.items l.tree.pairs
       (into_iter_items l.call-iterator);
-  room : length l.fn.calls.items ≤ vec_capacity l.replies;
+  reserved : length l.fn.calls.items ≤ vec_capacity l.replies;
 }

@@ -102,7 +102,7 @@ fn add_node<P: Partial, V>(
 )
     requires fits { IsWithin P.MAXIMUM_SIZE (length prefix.now) }
     requires absent { child_at b (child_entries storage.old) ≡ None }
-    requires room { length (child_entries storage.old) < storage_capacity storage.old }
+    requires not_full { length (child_entries storage.old) < storage_capacity storage.old }
     ensures stored { child_entries storage.new
         ≡ with_entry b (built prefix.now value children) (child_entries storage.old) }
     ensures capacity { storage_capacity storage.new ≡ storage_capacity storage.old }

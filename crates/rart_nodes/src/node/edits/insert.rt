@@ -42,7 +42,7 @@ impl<P: Partial, V> DefaultNode<P, V> {
         ensures unchanged { OnErr result (self.new ≡ self.old) }
         ensures back { IfErr result (λ r. (r.error ≡ TreeError.Memory) × (r.value ≡ value)) }
     {
-        let Ok(room) = Storage::new_4(alloc) else {
+        let Ok(inner) = Storage::new_4(alloc) else {
             return Err(Refused {
                 error: TreeError::Memory,
                 value,
@@ -53,7 +53,7 @@ impl<P: Partial, V> DefaultNode<P, V> {
         let low = self.prefix.partial_after(shared);
         let low_byte = low.at(0);
         self.prefix = head;
-        let storage = mem::replace(&mut self.storage, room);
+        let storage = mem::replace(&mut self.storage, inner);
         if key.len() == shared {
             let lower = DefaultNode {
                 prefix: low,
@@ -115,7 +115,7 @@ impl<P: Partial, V> DefaultNode<P, V> {
         if let Some(child) = self.storage.seek_child_mut(byte) {
             return child.put_below(alloc, only_new, rest, value, back);
         }
-        match self.storage.make_room(alloc, byte) {
+        match self.storage.reserve_slot(alloc, byte) {
             Ok(()) => {
                 add_leaf(&mut self.storage, byte, rest, value);
                 Ok(())
@@ -227,7 +227,7 @@ pub(super) fn add_leaf<P: Partial, V>(
 )
     requires fits { IsWithin P.MAXIMUM_SIZE (length rest.now) }
     requires absent { child_at b (child_entries storage.old) ≡ None }
-    requires room { length (child_entries storage.old) < storage_capacity storage.old }
+    requires not_full { length (child_entries storage.old) < storage_capacity storage.old }
     ensures stored { child_entries storage.new
         ≡ with_entry b (leaf rest.now value) (child_entries storage.old) }
     ensures capacity { storage_capacity storage.new ≡ storage_capacity storage.old }

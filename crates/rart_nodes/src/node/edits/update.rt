@@ -93,7 +93,7 @@ impl<P: Partial, V> DefaultNode<P, V> {
                         value,
                     }));
                 }
-                match self.storage.make_room(alloc, byte) {
+                match self.storage.reserve_slot(alloc, byte) {
                     Ok(()) => {
                         add_leaf(&mut self.storage, byte, rest, value);
                         Ok(Outcome::New)

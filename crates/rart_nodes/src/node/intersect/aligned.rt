@@ -3,7 +3,7 @@ ghost use Rattle.std.specs.Prelude.{◌≡◌, ◌+◌, [], ◌∷◌, MatchOpti
 ghost use Rattle.rart_keys.specs.SortedMap.{count_of, longest_key};
 ghost use Rattle.rart_nodes.specs.joins.Alignments.{EntersAfter, FindsAligned, VisitsAligned};
 ghost use Rattle.rart_nodes.specs.joins.SharedChildren.{IsParted};
-ghost use Rattle.rart_nodes.specs.joins.JoinPaths.{PathRoom};
+ghost use Rattle.rart_nodes.specs.joins.JoinPaths.{PathReserved};
 ghost use Rattle.rart_nodes.specs.tries.Trie.{child_in, pairs_of};
 
 use crate::count::{Count, Paired};
@@ -71,7 +71,7 @@ pub(crate) fn next_aligned<'a, 'b, P: Partial, V, W, C: Count>(
     path: &mut JoinPath<'a>,
     counter: &mut C,
 ) -> Option<(Entered<'a, P, V, C>, Entered<'b, P, W, Paired<C>>)>
-    requires { PathRoom path.old (longest_key (pairs_of left.node.now)) }
+    requires { PathReserved path.old (longest_key (pairs_of left.node.now)) }
     ensures aligned { FindsAligned left.entry.node.now right.entry.node.now path.old
         result path.new }
     ensures visits { VisitsAligned left.entry.node.now right.entry.node.now

@@ -1,6 +1,6 @@
 //! The path of an intersection.
 ghost use Rattle.std.specs.Prelude.{◌≡◌, length};
-ghost use Rattle.rart_nodes.specs.joins.JoinPaths.{PathCut, PathGrown, PathRoom, path_mark};
+ghost use Rattle.rart_nodes.specs.joins.JoinPaths.{PathCut, PathGrown, PathReserved, path_mark};
 
 /// What an intersection keeps of its path.
 #[derive(Drop)]
@@ -27,7 +27,7 @@ impl<'a> JoinPath<'a> {
 
     /// Appends a segment of a prefix. It does not allocate.
     pub(crate) fn grow(&mut self, segment: &'a [u8])
-        requires { PathRoom self.old (length segment.now) }
+        requires { PathReserved self.old (length segment.now) }
         ensures { PathGrown self.old segment.now self.new }
     {
         match self {

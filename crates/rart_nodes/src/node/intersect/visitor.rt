@@ -16,7 +16,7 @@ use std::marker::PhantomData;
 
 /// What is done at a pair, and the state `F` that it is done to.
 pub(crate) trait Visitor<V, W, F> {
-    ghost room: { Kept → ℕ → Type 0 };
+    ghost reserved: { Kept → ℕ → Type 0 };
 
     ghost can: { Kept → F → List ℕ × (V × W) → Type 0 };
 
@@ -24,11 +24,11 @@ pub(crate) trait Visitor<V, W, F> {
 
     /// Gives the pair at the end of the path.
     fn give(path: &JoinPath<'_>, f: &mut F, left: &V, right: &W)
-        requires room { room path.now 0 }
+        requires reserved { reserved path.now 0 }
         requires callable { can path.now f.old ([], (left.now, right.now)) }
         ensures given { given path.now f.old (([], (left.now, right.now)) ∷ []) f.new };
 
-    ghost lawful: { AreVisitors room given };
+    ghost lawful: { AreVisitors reserved given };
 
     ghost deeper: { CanDeeper can };
 }
@@ -40,7 +40,7 @@ pub(crate) fn give_both<V, W, F, T: Visitor<V, W, F>>(
     path: &JoinPath<'_>,
     f: &mut F,
 )
-    requires room { T.room path.now 0 }
+    requires reserved { T.reserved path.now 0 }
     requires callable { CanGive T.can T.given path.now f.old
         (own_pair (both (option_copied left) (option_copied right))) }
     ensures given { T.given path.now f.old (own_pair
@@ -58,9 +58,9 @@ pub(crate) struct Counted;
 
 impl<V, W> Visitor<V, W, usize> for Counted {
     ghost use Rattle.rart_nodes.specs.joins.Visitors.{CountedOn, GivenValues, give_values};
-    ghost use Rattle.rart_nodes.specs.joins.JoinPaths.{PathRoom};
+    ghost use Rattle.rart_nodes.specs.joins.JoinPaths.{PathReserved};
 
-    ghost room = { PathRoom };
+    ghost reserved = { PathReserved };
 
     ghost can = { λ s n x. Unit {0} };
 
@@ -81,9 +81,9 @@ pub(crate) struct ByValues;
 impl<V, W, F: FnMut(&V, &W)> Visitor<V, W, F> for ByValues {
     ghost use Rattle.rart_nodes.specs.joins.Visitors.{CanGiveValues, GivenValues, can_values, give_values};
     ghost use Rattle.rart_nodes.specs.joins.PairCalls.{CalledWith, TakesWith};
-    ghost use Rattle.rart_nodes.specs.joins.JoinPaths.{PathRoom};
+    ghost use Rattle.rart_nodes.specs.joins.JoinPaths.{PathReserved};
 
-    ghost room = { PathRoom };
+    ghost reserved = { PathReserved };
 
     ghost can = { CanGiveValues (λ p x. TakesWith F.FnMut p x) };
 
@@ -120,10 +120,10 @@ pub(crate) struct ByKeys<K> {
 }
 
 impl<K: KeyTrait, V, W, F: FnMut(K, &V, &W)> Visitor<V, W, F> for ByKeys<K> {
-    ghost use Rattle.rart_nodes.specs.joins.Visitors.{CanGiveKeys, GivenKeys, KeysRoom, can_keys, give_keys};
+    ghost use Rattle.rart_nodes.specs.joins.Visitors.{CanGiveKeys, GivenKeys, KeysReserved, can_keys, give_keys};
     ghost use Rattle.rart_nodes.specs.joins.PairCalls.{CalledAt, TakesAtKey};
 
-    ghost room = { KeysRoom K.MAXIMUM_SIZE };
+    ghost reserved = { KeysReserved K.MAXIMUM_SIZE };
 
     ghost can = { CanGiveKeys (λ p x. TakesAtKey F.FnMut K.bytes p x) };
 
@@ -145,10 +145,10 @@ impl<K: KeyTrait, V, W, F: FnMut(K, &V, &W)> Visitor<V, W, F> for ByKeys<K> {
 pub(crate) struct ByViews;
 
 impl<V, W, F: FnMut(LendingKeyView<'_, '_>, &V, &W)> Visitor<V, W, F> for ByViews {
-    ghost use Rattle.rart_nodes.specs.joins.Visitors.{CanGiveViews, GivenViews, ViewsRoom, can_views, give_views};
+    ghost use Rattle.rart_nodes.specs.joins.Visitors.{CanGiveViews, GivenViews, ViewsReserved, can_views, give_views};
     ghost use Rattle.rart_nodes.specs.joins.ViewCalls.{TakesViewAt, ViewedAt};
 
-    ghost room = { ViewsRoom };
+    ghost reserved = { ViewsReserved };
 
     ghost can = { CanGiveViews (λ p x. TakesViewAt F.FnMut p x) };
 

@@ -6,7 +6,7 @@ ghost use Rattle.rart_nodes.specs.storages.Capacities.{previous_capacity};
 ghost use Rattle.rart_nodes.specs.storages.Stored.{NarrowsStored, child_entries, storage_capacity, capacity_without};
 
 use crate::node::storage::Storage;
-use crate::node::storage::room::{boxed_indexed, boxed_sorted};
+use crate::node::storage::grow::{boxed_indexed, boxed_sorted};
 use rart_parts::TreeError;
 use rart_parts::mapping::NodeMapping;
 use std::alloc::Global;

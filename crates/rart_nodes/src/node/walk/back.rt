@@ -76,12 +76,12 @@ pub(crate) fn back_walk_at<'a, P: Partial, V, C, T: Path<'a, P>>(
     at: Entered<'a, P, V, C>,
 ) -> BackWalk<'a, P, V, C>
     requires short { length (T.kept path.old) + longest_key (pairs_of at.node.now) ≤ longest }
-    requires room { longest ≤ T.capacity path.old }
+    requires reserved { longest ≤ T.capacity path.old }
     requires places { longest < vec_capacity levels }
     requires empty_walk { levels.items ≡ [] }
     ensures path { IsBackWalk result.longest (vec_capacity result.levels) (T.kept path.new)
         (reverse result.levels.items) }
-    ensures room { result.longest ≤ T.capacity path.new }
+    ensures reserved { result.longest ≤ T.capacity path.new }
     ensures requested { T.requested path.new ≡ T.requested path.old }
     ensures entries { remaining_entries T.grown (T.kept path.new) (reverse result.levels.items)
         ≡ segments_after (T.kept path.old) (entries_of T.grown at.entry.node.now) }
@@ -99,7 +99,7 @@ pub(crate) fn empty_back_walk<'a, P: Partial, V, C, T: Path<'a, P>>(
 ) -> (BackWalk<'a, P, V, C>, T)
     ensures path { IsBackWalk result.0.longest (vec_capacity result.0.levels) (T.kept result.1)
         (reverse result.0.levels.items) }
-    ensures room { result.0.longest ≤ T.capacity result.1 }
+    ensures reserved { result.0.longest ≤ T.capacity result.1 }
     ensures requested { T.requested result.1 ≡ 0 }
     ensures entries { remaining_entries T.grown (T.kept result.1) (reverse result.0.levels.items)
         ≡ [] }
@@ -122,7 +122,7 @@ impl<'a, K: KeyTrait, V, C: Count> Seen<'a, K, V, C> {
     ) -> Result<(BackWalk<'a, K::PartialType, V, C>, T), AllocError>
         ensures path { IfOk result (λ w. IsBackWalk w.0.longest (vec_capacity w.0.levels)
             (T.kept w.1) (reverse w.0.levels.items)) }
-        ensures room { IfOk result (λ w. w.0.longest ≤ T.capacity w.1) }
+        ensures reserved { IfOk result (λ w. w.0.longest ≤ T.capacity w.1) }
         ensures requested { IfOk result (λ w. T.requested w.1 ≤ length_bound self.entry) }
         ensures entries { IfOk result
             (λ w. remaining_entries T.grown (T.kept w.1) (reverse w.0.levels.items)
@@ -142,7 +142,7 @@ impl<'a, K: KeyTrait, V, C: Count> Seen<'a, K, V, C> {
             return Ok(empty_back_walk(alloc));
         };
         let mut path = self.new_path::<T>()?;
-        // no vector has room for `usize::MAX` levels, so that at such a length the request is refused
+        // no vector can hold `usize::MAX` levels, so that at such a length the request is refused
         let levels = Vec::with_capacity(alloc, longest.saturating_add(1))?;
         let root = root.enter(counter);
         let walk = back_walk_at(levels, longest, &mut path, root);
@@ -156,10 +156,10 @@ impl<'a, P: Partial, V, C: Count> BackWalk<'a, P, V, C> {
     pub(crate) fn retreat<T: Path<'a, P>>(&mut self, path: &mut T, counter: &mut C) -> Option<&'a V>
         requires path { IsBackWalk self.old.longest (vec_capacity self.old.levels)
             (T.kept path.old) (reverse self.old.levels.items) }
-        requires room { self.old.longest ≤ T.capacity path.old }
+        requires reserved { self.old.longest ≤ T.capacity path.old }
         ensures path { IsBackWalk self.new.longest (vec_capacity self.new.levels)
             (T.kept path.new) (reverse self.new.levels.items) }
-        ensures room { self.new.longest ≤ T.capacity path.new }
+        ensures reserved { self.new.longest ≤ T.capacity path.new }
         ensures requested { T.requested path.new ≡ T.requested path.old }
         ensures entries { TakesLast
             (remaining_entries T.grown (T.kept path.old) (reverse self.old.levels.items))

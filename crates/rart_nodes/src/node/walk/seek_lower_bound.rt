@@ -56,10 +56,10 @@ impl<'a, P: Partial, V, C: Count> Walk<'a, P, V, C> {
         requires empty_walk { self.old.levels.items ≡ [] }
         requires first { self.old.first ≡ None }
         requires short { longest_key (pairs_of top.node.now) ≤ self.old.longest }
-        requires room { self.old.longest ≤ T.capacity path.old }
+        requires reserved { self.old.longest ≤ T.capacity path.old }
         requires places { self.old.longest < vec_capacity self.old.levels }
         ensures path { IsWalkAt self.new (T.kept path.new) }
-        ensures room { self.new.longest ≤ T.capacity path.new }
+        ensures reserved { self.new.longest ≤ T.capacity path.new }
         ensures requested { T.requested path.new ≡ T.requested path.old }
         ensures entries { walk_entries T.grown (T.kept path.new) self.new
             ≡ entries_from included start.now (entries_of T.grown top.entry.node.now) }
@@ -106,7 +106,7 @@ impl<'a, K: KeyTrait, V, C: Count> Seen<'a, K, V, C> {
     ) -> Result<(Walk<'a, K::PartialType, V, C>, T), AllocError>
         requires joins { Joins T.grown }
         ensures path { IfOk result (λ w. IsWalkAt w.0 (T.kept w.1)) }
-        ensures room { IfOk result (λ w. w.0.longest ≤ T.capacity w.1) }
+        ensures reserved { IfOk result (λ w. w.0.longest ≤ T.capacity w.1) }
         ensures requested { IfOk result (λ w. T.requested w.1 ≤ length_bound self.entry) }
         ensures longest { IfOk result (λ w. w.0.longest ≤ length_bound self.entry) }
         ensures entries { IfOk result (λ w. walk_entries T.grown (T.kept w.1) w.0
@@ -126,7 +126,7 @@ impl<'a, K: KeyTrait, V, C: Count> Seen<'a, K, V, C> {
             return Ok(empty_walk(alloc));
         };
         let mut path = self.new_path::<T>()?;
-        // no vector has room for `usize::MAX` levels, so that at such a length the request is refused
+        // no vector can hold `usize::MAX` levels, so that at such a length the request is refused
         let levels = Vec::with_capacity(alloc, longest.saturating_add(1))?;
         let mut walk: Walk<'a, K::PartialType, V, C> = Walk {
             levels,

@@ -27,7 +27,7 @@ fn seek_prefix<'a, P: Partial, V, C: Count, T: Path<'a, P>>(
     path: &mut T,
     counter: &mut C,
 ) -> Option<Entered<'a, P, V, C>>
-    requires room { length (T.kept path.old)
+    requires reserved { length (T.kept path.old)
         + longest_key (tree_pairs (option_map (λ s. s.node.now) top))
         ≤ T.capacity path.old }
     ensures found { EntersPart T.grown (T.kept path.old) prefix.now
@@ -36,7 +36,7 @@ fn seek_prefix<'a, P: Partial, V, C: Count, T: Path<'a, P>>(
         (λ e. length (T.kept path.new) + longest_key (pairs_of e.node.now)
         ≤ length (T.kept path.old)
         + longest_key (tree_pairs (option_map (λ s. s.node.now) top.entry))) }
-    ensures room { T.capacity path.old ≤ T.capacity path.new }
+    ensures reserved { T.capacity path.old ≤ T.capacity path.new }
     ensures requested { T.requested path.new ≡ T.requested path.old }
     ensures visits { C.number counter.new ≡ C.number counter.old
         + tree_entered prefix.now (option_map (λ s. s.node.now) top.entry) }
@@ -70,7 +70,7 @@ impl<'a, K: KeyTrait, V, C: Count> Seen<'a, K, V, C> {
         counter: &mut C,
     ) -> Result<(Walk<'a, K::PartialType, V, C>, T), AllocError>
         ensures path { IfOk result (λ w. IsWalkAt w.0 (T.kept w.1)) }
-        ensures room { IfOk result (λ w. w.0.longest ≤ T.capacity w.1) }
+        ensures reserved { IfOk result (λ w. w.0.longest ≤ T.capacity w.1) }
         ensures requested { IfOk result (λ w. T.requested w.1 ≤ length_bound self.entry) }
         ensures longest { IfOk result (λ w. w.0.longest ≤ length_bound self.entry) }
         ensures entries { IfOk result (λ w. walk_entries T.grown (T.kept w.1) w.0
@@ -90,7 +90,7 @@ impl<'a, K: KeyTrait, V, C: Count> Seen<'a, K, V, C> {
             return Ok(empty_walk(alloc));
         };
         let mut path = self.new_path::<T>()?;
-        // no vector has room for `usize::MAX` levels, so that at such a length the request is refused
+        // no vector can hold `usize::MAX` levels, so that at such a length the request is refused
         let levels = Vec::with_capacity(alloc, longest.saturating_add(1))?;
         let Some(at) = seek_prefix(Some(top), prefix, &mut path, counter) else {
             return Ok(empty_walk(alloc));

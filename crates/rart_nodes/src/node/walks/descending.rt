@@ -6,7 +6,7 @@ ghost use Rattle.rart_keys.specs.Filters.{below};
 ghost use Rattle.rart_keys.specs.SortedMap.{count_of};
 ghost use Rattle.rart_nodes.specs.tries.SeenTrees.{seen_keys, seen_pairs, seen_tree};
 ghost use Rattle.rart_nodes.specs.walks.ProbeCount.{VisitsAtMost, probe_count};
-ghost use Rattle.rart_nodes.specs.walks.Calls.{MayLackRoom};
+ghost use Rattle.rart_nodes.specs.walks.Calls.{MayLackMemory};
 
 use crate::count::{Count, Visits};
 use crate::node::seen::Seen;
@@ -122,7 +122,7 @@ impl<'a, K: KeyTrait, V, C: Count> Seen<'a, K, V, C> {
         counter: &mut C,
     ) -> Result<KeyBackWalk<'a, K, K::PartialType, V, C>, TreeError>
         ensures pairs { IfOk result (λ it. it ≡ seen_pairs self.entry) }
-        ensures memory { IfErr result (MayLackRoom (seen_pairs self.entry)) }
+        ensures memory { IfErr result (MayLackMemory (seen_pairs self.entry)) }
         ensures unread { OnErr result (counter.new ≡ counter.old) }
         ensures visits { IfOk result (λ _. C.number counter.new
             ≡ C.number counter.old + count_of (seen_tree self.entry)) }
@@ -142,7 +142,7 @@ impl<'a, K: KeyTrait, V, C: Count> Seen<'a, K, V, C> {
         counter: &mut C,
     ) -> Result<KeyBackWalk<'a, K, K::PartialType, V, C>, TreeError>
         ensures pairs { IfOk result (λ it. it ≡ below prefix.now (seen_pairs self.entry)) }
-        ensures memory { IfErr result (MayLackRoom (seen_pairs self.entry)) }
+        ensures memory { IfErr result (MayLackMemory (seen_pairs self.entry)) }
         ensures unread { OnErr result (counter.new ≡ counter.old) }
         ensures visits { IfOk result (λ _. C.number counter.new
             ≡ C.number counter.old + probe_count (seen_keys self.entry) prefix.now) }
@@ -171,7 +171,7 @@ impl<'a, K: KeyTrait, V, C: Count> Seen<'a, K, V, C> {
         counter: &mut C,
     ) -> Result<SeenDescending<'a, K, V, C>, TreeError>
         ensures pairs { IfOk result (λ it. it ≡ reverse (seen_pairs self.entry)) }
-        ensures memory { IfErr result (MayLackRoom (seen_pairs self.entry)) }
+        ensures memory { IfErr result (MayLackMemory (seen_pairs self.entry)) }
         ensures unread { OnErr result (counter.new ≡ counter.old) }
         ensures visits { IfOk result (λ _. C.number counter.new
             ≡ C.number counter.old + count_of (seen_tree self.entry)) }
@@ -198,7 +198,7 @@ impl<'a, K: KeyTrait, V, C: Count> Seen<'a, K, V, C> {
     ) -> Result<SeenDescending<'a, K, V, C>, TreeError>
         ensures pairs { IfOk result
             (λ it. it ≡ reverse (below (K.bytes prefix.now) (seen_pairs self.entry))) }
-        ensures memory { IfErr result (MayLackRoom (seen_pairs self.entry)) }
+        ensures memory { IfErr result (MayLackMemory (seen_pairs self.entry)) }
         ensures unread { OnErr result (counter.new ≡ counter.old) }
         ensures visits { IfOk result (λ _. C.number counter.new
             ≡ C.number counter.old + probe_count (seen_keys self.entry) (K.bytes prefix.now)) }
@@ -218,7 +218,7 @@ impl<'a, K: KeyTrait, V> Seen<'a, K, V, Visits> {
     /// [`TreeError::Memory`] if the tree isn't empty and the allocation fails.
     pub fn iter_descending(self) -> Result<Descending<'a, K, V>, TreeError>
         ensures pairs { IfOk result (λ it. it ≡ reverse (seen_pairs self.entry)) }
-        ensures memory { IfErr result (MayLackRoom (seen_pairs self.entry)) }
+        ensures memory { IfErr result (MayLackMemory (seen_pairs self.entry)) }
     {
         let pairs = self.iter_descending_counted(&mut Visits::new())?;
         Ok(Descending { pairs })
@@ -233,7 +233,7 @@ impl<'a, K: KeyTrait, V> Seen<'a, K, V, Visits> {
     pub fn prefix_iter_descending_k(self, prefix: &K) -> Result<Descending<'a, K, V>, TreeError>
         ensures pairs { IfOk result
             (λ it. it ≡ reverse (below (K.bytes prefix.now) (seen_pairs self.entry))) }
-        ensures memory { IfErr result (MayLackRoom (seen_pairs self.entry)) }
+        ensures memory { IfErr result (MayLackMemory (seen_pairs self.entry)) }
     {
         let pairs = self.prefix_iter_descending_k_counted(prefix, &mut Visits::new())?;
         Ok(Descending { pairs })

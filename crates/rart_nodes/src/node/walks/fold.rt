@@ -5,7 +5,7 @@ ghost use Rattle.rart_nodes.specs.walks.BelowPrefix.{below_bound, below_visits, 
 ghost use Rattle.rart_nodes.specs.walks.Shown.{CanFold, FoldedEach, FoldsEach};
 ghost use Rattle.rart_nodes.specs.walks.PathParts.{walk_values};
 ghost use Rattle.rart_nodes.specs.walks.WalkSteps.{IsWalkAt, walk_nodes};
-ghost use Rattle.rart_nodes.specs.walks.Calls.{MayLackRoom};
+ghost use Rattle.rart_nodes.specs.walks.Calls.{MayLackMemory};
 
 use crate::count::{Count, Visits};
 use crate::node::seen::Seen;
@@ -22,7 +22,7 @@ fn fold_values<'a, P: Partial, V, C: Count, S, F: FnMut(S, &V) -> S>(
 ) -> S
     requires callable { CanFold F.FnMut f.old init (walk_values walk.old) }
     requires path { IsWalkAt walk.old [] }
-    requires room { walk.old.longest ≤ 2 ^ 64 }
+    requires reserved { walk.old.longest ≤ 2 ^ 64 }
     ensures callable { F.IsAlwaysCallable f.old → F.IsAlwaysCallable f.new }
     ensures folds { FoldsEach F.FnMut f.old init (walk_values walk.old) f.new result }
     ensures visits { C.number counter.new ≤ C.number counter.old + walk_nodes walk.old }
@@ -48,7 +48,7 @@ impl<'a, K: KeyTrait, V, C: Count> Seen<'a, K, V, C> {
         ensures calls { IfOk result (λ state. FoldsEach F.FnMut f.old init
             (values_below prefix.now (seen_pairs self.entry)) f.new state) }
         ensures unchanged { OnErr result (f.new ≡ f.old) }
-        ensures memory { IfErr result (MayLackRoom (seen_pairs self.entry)) }
+        ensures memory { IfErr result (MayLackMemory (seen_pairs self.entry)) }
         ensures unread { OnErr result (counter.new ≡ counter.old) }
         ensures visits { OnOk result (C.number counter.new
             ≤ C.number counter.old + below_visits prefix.now (seen_pairs self.entry)) }
@@ -84,7 +84,7 @@ impl<'a, K: KeyTrait, V, C: Count> Seen<'a, K, V, C> {
         ensures calls { IfOk result (λ state. FoldsEach F.FnMut f.old init
             (values_below (K.bytes prefix.now) (seen_pairs self.entry)) f.new state) }
         ensures unchanged { OnErr result (f.new ≡ f.old) }
-        ensures memory { IfErr result (MayLackRoom (seen_pairs self.entry)) }
+        ensures memory { IfErr result (MayLackMemory (seen_pairs self.entry)) }
         ensures unread { OnErr result (counter.new ≡ counter.old) }
         ensures visits { OnOk result (C.number counter.new ≤ C.number counter.old
             + below_visits (K.bytes prefix.now) (seen_pairs self.entry)) }
@@ -114,7 +114,7 @@ impl<'a, K: KeyTrait, V, C: Count> Seen<'a, K, V, C> {
             (values_below (K.bytes prefix.now) (seen_pairs self)) }
         ensures calls { IfOk result (FoldedEach F.FnMut f init
             (values_below (K.bytes prefix.now) (seen_pairs self.entry))) }
-        ensures memory { IfErr result (MayLackRoom (seen_pairs self.entry)) }
+        ensures memory { IfErr result (MayLackMemory (seen_pairs self.entry)) }
         ensures unread { OnErr result (counter.new ≡ counter.old) }
         ensures visits { OnOk result (C.number counter.new ≤ C.number counter.old
             + below_visits (K.bytes prefix.now) (seen_pairs self.entry)) }
@@ -145,7 +145,7 @@ impl<'a, K: KeyTrait, V> Seen<'a, K, V, Visits> {
         ensures calls { IfOk result (λ state. FoldsEach F.FnMut f.old init
             (values_below (K.bytes prefix.now) (seen_pairs self.entry)) f.new state) }
         ensures unchanged { OnErr result (f.new ≡ f.old) }
-        ensures memory { IfErr result (MayLackRoom (seen_pairs self.entry)) }
+        ensures memory { IfErr result (MayLackMemory (seen_pairs self.entry)) }
     {
         self.prefix_values_fold_by_ref_k_counted(prefix, init, f, &mut Visits::new())
     }
@@ -165,7 +165,7 @@ impl<'a, K: KeyTrait, V> Seen<'a, K, V, Visits> {
             (values_below (K.bytes prefix.now) (seen_pairs self)) }
         ensures calls { IfOk result (FoldedEach F.FnMut f init
             (values_below (K.bytes prefix.now) (seen_pairs self.entry))) }
-        ensures memory { IfErr result (MayLackRoom (seen_pairs self.entry)) }
+        ensures memory { IfErr result (MayLackMemory (seen_pairs self.entry)) }
     {
         self.prefix_values_fold_k_counted(prefix, init, f, &mut Visits::new())
     }

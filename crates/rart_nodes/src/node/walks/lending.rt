@@ -11,7 +11,7 @@ ghost use Rattle.rart_nodes.specs.walks.PathParts.{lent_segments};
 ghost use Rattle.rart_nodes.specs.walks.ViewSegments.{AreViews, walk_views};
 ghost use Rattle.rart_nodes.specs.walks.WalkSteps.{IsWalkAt, walk_nodes};
 ghost use Rattle.rart_nodes.specs.walks.Viewed.{CanView, ViewedEach, ViewsEach};
-ghost use Rattle.rart_nodes.specs.walks.Calls.{MayLackRoom};
+ghost use Rattle.rart_nodes.specs.walks.Calls.{MayLackMemory};
 
 use crate::count::Count;
 use crate::node::seen::Seen;
@@ -29,7 +29,7 @@ fn for_each_view_of<'a, P: Partial, V, C: Count, F: FnMut(LendingKeyView<'_, '_>
 )
     requires callable { CanView F.FnMut f.old (walk_views path.old.segments.items walk.old) }
     requires path { IsWalkAt walk.old (lent_segments path.old.segments.items) }
-    requires room { walk.old.longest ≤ vec_capacity path.old.segments }
+    requires reserved { walk.old.longest ≤ vec_capacity path.old.segments }
     requires views { AreViews (walk_views path.old.segments.items walk.old) }
     ensures callable { F.IsAlwaysCallable f.old → F.IsAlwaysCallable f.new }
     ensures folds { ViewsEach F.FnMut f.old (walk_views path.old.segments.items walk.old)
@@ -53,7 +53,7 @@ impl<'a, K: KeyTrait, V, C: Count> Seen<'a, K, V, C> {
         ensures calls { OnOk result (ViewsEach F.FnMut f.old
             (cut_below prefix.now (seen_pairs self.entry)) f.new) }
         ensures unchanged { OnErr result (f.new ≡ f.old) }
-        ensures memory { IfErr result (MayLackRoom (seen_pairs self.entry)) }
+        ensures memory { IfErr result (MayLackMemory (seen_pairs self.entry)) }
         ensures unread { OnErr result (counter.new ≡ counter.old) }
         ensures visits { OnOk result (C.number counter.new
             ≤ C.number counter.old + below_visits prefix.now (seen_pairs self.entry)) }
@@ -88,7 +88,7 @@ impl<'a, K: KeyTrait, V, C: Count> Seen<'a, K, V, C> {
         ensures calls { OnOk result (ViewsEach F.FnMut f.old
             (cut_below (K.bytes prefix.now) (seen_pairs self.entry)) f.new) }
         ensures unchanged { OnErr result (f.new ≡ f.old) }
-        ensures memory { IfErr result (MayLackRoom (seen_pairs self.entry)) }
+        ensures memory { IfErr result (MayLackMemory (seen_pairs self.entry)) }
         ensures unread { OnErr result (counter.new ≡ counter.old) }
         ensures visits { OnOk result (C.number counter.new ≤ C.number counter.old
             + below_visits (K.bytes prefix.now) (seen_pairs self.entry)) }
@@ -116,7 +116,7 @@ impl<'a, K: KeyTrait, V, C: Count> Seen<'a, K, V, C> {
         requires callable { CanView F.FnMut f (cut_below (K.bytes prefix.now) (seen_pairs self)) }
         ensures calls { OnOk result (ViewedEach F.FnMut f
             (cut_below (K.bytes prefix.now) (seen_pairs self.entry))) }
-        ensures memory { IfErr result (MayLackRoom (seen_pairs self.entry)) }
+        ensures memory { IfErr result (MayLackMemory (seen_pairs self.entry)) }
         ensures unread { OnErr result (counter.new ≡ counter.old) }
         ensures visits { OnOk result (C.number counter.new ≤ C.number counter.old
             + below_visits (K.bytes prefix.now) (seen_pairs self.entry)) }
@@ -147,7 +147,7 @@ impl<'a, K: KeyTrait, V, C: Count> Seen<'a, K, V, C> {
         ensures calls { OnOk result (ViewsEach F.FnMut f.old
             (cut_pairs (seen_keys self.entry) (seen_pairs self.entry)) f.new) }
         ensures unchanged { OnErr result (f.new ≡ f.old) }
-        ensures memory { IfErr result (MayLackRoom (seen_pairs self.entry)) }
+        ensures memory { IfErr result (MayLackMemory (seen_pairs self.entry)) }
         ensures unread { OnErr result (counter.new ≡ counter.old) }
         ensures visits { OnOk result (C.number counter.new ≤ C.number counter.old
             + (probe_count (seen_keys self.entry) [] + 2 * length (seen_pairs self.entry))) }
@@ -174,7 +174,7 @@ impl<'a, K: KeyTrait, V, C: Count> Seen<'a, K, V, C> {
         requires callable { CanView F.FnMut f (cut_pairs (seen_keys self) (seen_pairs self)) }
         ensures calls { OnOk result (ViewedEach F.FnMut f
             (cut_pairs (seen_keys self.entry) (seen_pairs self.entry))) }
-        ensures memory { IfErr result (MayLackRoom (seen_pairs self.entry)) }
+        ensures memory { IfErr result (MayLackMemory (seen_pairs self.entry)) }
         ensures unread { OnErr result (counter.new ≡ counter.old) }
         ensures visits { OnOk result (C.number counter.new ≤ C.number counter.old
             + (probe_count (seen_keys self.entry) [] + 2 * length (seen_pairs self.entry))) }

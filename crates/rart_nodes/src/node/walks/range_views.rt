@@ -13,7 +13,7 @@ ghost use Rattle.rart_nodes.specs.walks.PathParts.{lent_segments};
 ghost use Rattle.rart_nodes.specs.walks.ViewSegments.{AreViews, walk_views};
 ghost use Rattle.rart_nodes.specs.walks.WalkSteps.{IsWalkAt};
 ghost use Rattle.rart_nodes.specs.walks.Viewed.{CanView, ViewedEach, ViewsEach};
-ghost use Rattle.rart_nodes.specs.walks.Calls.{MayLackRoom};
+ghost use Rattle.rart_nodes.specs.walks.Calls.{MayLackMemory};
 
 use crate::count::Count;
 use crate::node::range::{bytes_of, is_before};
@@ -47,7 +47,7 @@ fn for_each_view_to<'a, K: KeyTrait, V, C: Count, F: FnMut(LendingKeyView<'_, '_
     requires callable { CanView F.FnMut f.old (entries_to (bound_in K.bytes end.now)
         (walk_views path.old.segments.items walk.old)) }
     requires path { IsWalkAt walk.old (lent_segments path.old.segments.items) }
-    requires room { walk.old.longest ≤ vec_capacity path.old.segments }
+    requires reserved { walk.old.longest ≤ vec_capacity path.old.segments }
     requires views { AreViews (walk_views path.old.segments.items walk.old) }
     ensures callable { F.IsAlwaysCallable f.old → F.IsAlwaysCallable f.new }
     ensures folds { ViewsEach F.FnMut f.old (entries_to (bound_in K.bytes end.now)
@@ -93,7 +93,7 @@ impl<'a, K: KeyTrait + Drop, V, C: Count> Seen<'a, K, V, C> {
             (cut_between (bound_in K.bytes start) (bound_in K.bytes end)
             (seen_pairs self.entry)) f.new) }
         ensures unchanged { OnErr result (f.new ≡ f.old) }
-        ensures memory { IfErr result (MayLackRoom (seen_pairs self.entry)) }
+        ensures memory { IfErr result (MayLackMemory (seen_pairs self.entry)) }
         ensures unread { OnErr result (counter.new ≡ counter.old) }
         ensures visits { OnOk result (C.number counter.new ≤ C.number counter.old
             + span_visits (bound_in K.bytes start) (bound_in K.bytes end) (seen_pairs self.entry)) }
@@ -127,7 +127,7 @@ impl<'a, K: KeyTrait + Drop, V, C: Count> Seen<'a, K, V, C> {
             (cut_between (bound_in K.bytes start) (bound_in K.bytes end) (seen_pairs self)) }
         ensures calls { OnOk result (ViewedEach F.FnMut f
             (cut_between (bound_in K.bytes start) (bound_in K.bytes end) (seen_pairs self.entry))) }
-        ensures memory { IfErr result (MayLackRoom (seen_pairs self.entry)) }
+        ensures memory { IfErr result (MayLackMemory (seen_pairs self.entry)) }
         ensures unread { OnErr result (counter.new ≡ counter.old) }
         ensures visits { OnOk result (C.number counter.new ≤ C.number counter.old
             + span_visits (bound_in K.bytes start) (bound_in K.bytes end) (seen_pairs self.entry)) }

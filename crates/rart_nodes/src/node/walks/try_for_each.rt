@@ -4,7 +4,7 @@ ghost use Rattle.rart_nodes.specs.tries.SeenTrees.{seen_pairs};
 ghost use Rattle.rart_nodes.specs.walks.BelowPrefix.{below_bound, below_visits, values_below};
 ghost use Rattle.rart_nodes.specs.walks.PathParts.{walk_values};
 ghost use Rattle.rart_nodes.specs.walks.WalkSteps.{IsWalkAt, walk_nodes};
-ghost use Rattle.rart_nodes.specs.walks.Tried.{CanTry, EndedVisit, EndsAs, EndsVisit, IfRoom, MayStopAtRoom, OnNoRoom};
+ghost use Rattle.rart_nodes.specs.walks.Tried.{CanTry, EndedVisit, EndsAs, EndsVisit, IfAllocated, MayStopForMemory, OnRefused};
 
 use crate::count::{Count, Visits};
 use crate::node::seen::Seen;
@@ -20,7 +20,7 @@ fn try_for_each<'a, P: Partial, V, C: Count, E, F: FnMut(&V) -> Result<VisitCont
 ) -> Result<(), E>
     requires callable { CanTry F.FnMut f.old (walk_values walk.old) }
     requires path { IsWalkAt walk.old [] }
-    requires room { walk.old.longest ≤ 2 ^ 64 }
+    requires reserved { walk.old.longest ≤ 2 ^ 64 }
     ensures callable { F.IsAlwaysCallable f.old → F.IsAlwaysCallable f.new }
     ensures calls { EndsAs F.FnMut f.old (walk_values walk.old) result f.new }
     ensures visits { C.number counter.new ≤ C.number counter.old + walk_nodes walk.old }
@@ -59,9 +59,9 @@ impl<'a, K: KeyTrait, V, C: Count> Seen<'a, K, V, C> {
         ensures callable { F.IsAlwaysCallable f.old → F.IsAlwaysCallable f.new }
         ensures calls { EndsVisit F.FnMut f.old
             (values_below (K.bytes prefix.now) (seen_pairs self.entry)) result f.new }
-        ensures memory { IfErr result (MayStopAtRoom (seen_pairs self.entry)) }
-        ensures unread { OnNoRoom result (counter.new ≡ counter.old) }
-        ensures visits { IfRoom result (C.number counter.new ≤ C.number counter.old
+        ensures memory { IfErr result (MayStopForMemory (seen_pairs self.entry)) }
+        ensures unread { OnRefused result (counter.new ≡ counter.old) }
+        ensures visits { IfAllocated result (C.number counter.new ≤ C.number counter.old
             + below_visits (K.bytes prefix.now) (seen_pairs self.entry)) }
         ensures bound { C.number counter.new
             ≤ C.number counter.old + below_bound (K.bytes prefix.now) (seen_pairs self.entry) }
@@ -93,9 +93,9 @@ impl<'a, K: KeyTrait, V, C: Count> Seen<'a, K, V, C> {
         requires callable { CanTry F.FnMut f (values_below (K.bytes prefix.now) (seen_pairs self)) }
         ensures calls { EndedVisit F.FnMut f
             (values_below (K.bytes prefix.now) (seen_pairs self.entry)) result }
-        ensures memory { IfErr result (MayStopAtRoom (seen_pairs self.entry)) }
-        ensures unread { OnNoRoom result (counter.new ≡ counter.old) }
-        ensures visits { IfRoom result (C.number counter.new ≤ C.number counter.old
+        ensures memory { IfErr result (MayStopForMemory (seen_pairs self.entry)) }
+        ensures unread { OnRefused result (counter.new ≡ counter.old) }
+        ensures visits { IfAllocated result (C.number counter.new ≤ C.number counter.old
             + below_visits (K.bytes prefix.now) (seen_pairs self.entry)) }
         ensures bound { C.number counter.new
             ≤ C.number counter.old + below_bound (K.bytes prefix.now) (seen_pairs self.entry) }
@@ -122,7 +122,7 @@ impl<'a, K: KeyTrait, V> Seen<'a, K, V, Visits> {
         ensures callable { F.IsAlwaysCallable f.old → F.IsAlwaysCallable f.new }
         ensures calls { EndsVisit F.FnMut f.old
             (values_below (K.bytes prefix.now) (seen_pairs self.entry)) result f.new }
-        ensures memory { IfErr result (MayStopAtRoom (seen_pairs self.entry)) }
+        ensures memory { IfErr result (MayStopForMemory (seen_pairs self.entry)) }
     {
         self.try_prefix_values_for_each_by_ref_k_counted(prefix, f, &mut Visits::new())
     }
@@ -140,7 +140,7 @@ impl<'a, K: KeyTrait, V> Seen<'a, K, V, Visits> {
         requires callable { CanTry F.FnMut f (values_below (K.bytes prefix.now) (seen_pairs self)) }
         ensures calls { EndedVisit F.FnMut f
             (values_below (K.bytes prefix.now) (seen_pairs self.entry)) result }
-        ensures memory { IfErr result (MayStopAtRoom (seen_pairs self.entry)) }
+        ensures memory { IfErr result (MayStopForMemory (seen_pairs self.entry)) }
     {
         self.try_prefix_values_for_each_k_counted(prefix, f, &mut Visits::new())
     }

@@ -8,7 +8,7 @@ ghost use Rattle.rart_nodes.specs.walks.BelowPrefix.{below_bound, below_visits, 
 ghost use Rattle.rart_nodes.specs.walks.Shown.{CanShow, ShowedEach, ShowsEach};
 ghost use Rattle.rart_nodes.specs.walks.PathParts.{walk_values};
 ghost use Rattle.rart_nodes.specs.walks.WalkSteps.{IsWalkAt, walk_nodes};
-ghost use Rattle.rart_nodes.specs.walks.Calls.{MayLackRoom};
+ghost use Rattle.rart_nodes.specs.walks.Calls.{MayLackMemory};
 
 use crate::count::{Count, Visits};
 use crate::node::seen::Seen;
@@ -24,7 +24,7 @@ fn for_each_value<'a, P: Partial, V, C: Count, F: FnMut(&V)>(
 )
     requires callable { CanShow F.FnMut f.old (walk_values walk.old) }
     requires path { IsWalkAt walk.old [] }
-    requires room { walk.old.longest ≤ 2 ^ 64 }
+    requires reserved { walk.old.longest ≤ 2 ^ 64 }
     ensures callable { F.IsAlwaysCallable f.old → F.IsAlwaysCallable f.new }
     ensures folds { ShowsEach F.FnMut f.old (walk_values walk.old) f.new }
     ensures visits { C.number counter.new ≤ C.number counter.old + walk_nodes walk.old }
@@ -47,7 +47,7 @@ impl<'a, K: KeyTrait, V, C: Count> Seen<'a, K, V, C> {
         ensures calls { OnOk result
             (ShowsEach F.FnMut f.old (values_below prefix.now (seen_pairs self.entry)) f.new) }
         ensures unchanged { OnErr result (f.new ≡ f.old) }
-        ensures memory { IfErr result (MayLackRoom (seen_pairs self.entry)) }
+        ensures memory { IfErr result (MayLackMemory (seen_pairs self.entry)) }
         ensures unread { OnErr result (counter.new ≡ counter.old) }
         ensures visits { OnOk result (C.number counter.new
             ≤ C.number counter.old + below_visits prefix.now (seen_pairs self.entry)) }
@@ -82,7 +82,7 @@ impl<'a, K: KeyTrait, V, C: Count> Seen<'a, K, V, C> {
         ensures calls { OnOk result (ShowsEach F.FnMut f.old
             (values_below (K.bytes prefix.now) (seen_pairs self.entry)) f.new) }
         ensures unchanged { OnErr result (f.new ≡ f.old) }
-        ensures memory { IfErr result (MayLackRoom (seen_pairs self.entry)) }
+        ensures memory { IfErr result (MayLackMemory (seen_pairs self.entry)) }
         ensures unread { OnErr result (counter.new ≡ counter.old) }
         ensures visits { OnOk result (C.number counter.new ≤ C.number counter.old
             + below_visits (K.bytes prefix.now) (seen_pairs self.entry)) }
@@ -111,7 +111,7 @@ impl<'a, K: KeyTrait, V, C: Count> Seen<'a, K, V, C> {
             (values_below (K.bytes prefix.now) (seen_pairs self)) }
         ensures calls { OnOk result (ShowedEach F.FnMut f
             (values_below (K.bytes prefix.now) (seen_pairs self.entry))) }
-        ensures memory { IfErr result (MayLackRoom (seen_pairs self.entry)) }
+        ensures memory { IfErr result (MayLackMemory (seen_pairs self.entry)) }
         ensures unread { OnErr result (counter.new ≡ counter.old) }
         ensures visits { OnOk result (C.number counter.new ≤ C.number counter.old
             + below_visits (K.bytes prefix.now) (seen_pairs self.entry)) }
@@ -140,7 +140,7 @@ impl<'a, K: KeyTrait, V> Seen<'a, K, V, Visits> {
         ensures calls { OnOk result (ShowsEach F.FnMut f.old
             (values_below (K.bytes prefix.now) (seen_pairs self.entry)) f.new) }
         ensures unchanged { OnErr result (f.new ≡ f.old) }
-        ensures memory { IfErr result (MayLackRoom (seen_pairs self.entry)) }
+        ensures memory { IfErr result (MayLackMemory (seen_pairs self.entry)) }
     {
         self.prefix_values_for_each_by_ref_k_counted(prefix, f, &mut Visits::new())
     }
@@ -159,7 +159,7 @@ impl<'a, K: KeyTrait, V> Seen<'a, K, V, Visits> {
             (values_below (K.bytes prefix.now) (seen_pairs self)) }
         ensures calls { OnOk result (ShowedEach F.FnMut f
             (values_below (K.bytes prefix.now) (seen_pairs self.entry))) }
-        ensures memory { IfErr result (MayLackRoom (seen_pairs self.entry)) }
+        ensures memory { IfErr result (MayLackMemory (seen_pairs self.entry)) }
     {
         self.prefix_values_for_each_k_counted(prefix, f, &mut Visits::new())
     }

@@ -11,8 +11,8 @@ invariant-loop-key g l = record {
       → AllZip g.V.Clone.is_clone (values_of l.old.pairs) (l.values.items ++ more);
   many : length l.keys.items + length l.rest ≡ length l.old.pairs;
   many_values : length l.values.items + length l.rest ≡ length l.old.pairs;
-  room : length l.old.pairs ≤ vec_capacity l.keys;
-  room_for_values : length l.old.pairs ≤ vec_capacity l.values;
+  reserved : length l.old.pairs ≤ vec_capacity l.keys;
+  values_reserved : length l.old.pairs ≤ vec_capacity l.values;
 }
 
 abbrev pub decreases-loop-key : goal.decreases-loop-key

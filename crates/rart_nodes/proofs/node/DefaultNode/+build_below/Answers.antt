@@ -3,7 +3,7 @@ use Rattle.rart_nodes.specs.shapes.Shape.{capacity_of}
 use Rattle.rart_nodes.proofs.tries.PrefixedStrings.{slice_from-is}
 use Rattle.rart_nodes.proofs.build.StretchLemmas.{reach-at}
 use Rattle.rart_nodes.proofs.build.OpeningLemmas.{byte-is, opening, own-one, own-none, rest-goes_on, rest-ascends}
-use Rattle.rart_nodes.proofs.build.BuildLemmas.{start-here, start-on, started, next-room, next-fewer, next-stretch}
+use Rattle.rart_nodes.proofs.build.BuildLemmas.{start-here, start-on, started, next-free, next-fewer, next-stretch}
 use Rattle.rart_nodes.proofs.build.BuildLemmas.{next-callable, building-refused, building-leaf, building-step}
 use Rattle.rart_nodes.proofs.build.BuildLemmas.{building-end}
 use Rattle.std.proofs.lemmas.List.{length-take-le}
@@ -64,22 +64,22 @@ returns-in_default-clause-taken g t c =
     building-refused _ _ _ _ _ _ _ _ _ _ _ _ _ c.loop-rest.invariant.building _ _ _ refl c.in_default.ensures.taken
 
 pub add_leaf-requires-clause-absent : goal.add_leaf-requires-clause-absent
-add_leaf-requires-clause-absent g t c = (next-room _ _ _ _ _ _ _ _ _ _ _ _ _ c.loop-rest.invariant.building _
+add_leaf-requires-clause-absent g t c = (next-free _ _ _ _ _ _ _ _ _ _ _ _ _ c.loop-rest.invariant.building _
     (omega (arith, c.loop-rest-test.true)) c.first_group-byte.ensures.byte
     (omega (arith, c.first_group-byte.type_inv.0))).0
 
-pub add_leaf-requires-clause-room : goal.add_leaf-requires-clause-room
-add_leaf-requires-clause-room g t c = (next-room _ _ _ _ _ _ _ _ _ _ _ _ _ c.loop-rest.invariant.building _
+pub add_leaf-requires-clause-not_full : goal.add_leaf-requires-clause-not_full
+add_leaf-requires-clause-not_full g t c = (next-free _ _ _ _ _ _ _ _ _ _ _ _ _ c.loop-rest.invariant.building _
     (omega (arith, c.loop-rest-test.true)) c.first_group-byte.ensures.byte
     (omega (arith, c.first_group-byte.type_inv.0))).1
 
 pub add_node-requires-clause-absent : goal.add_node-requires-clause-absent
-add_node-requires-clause-absent g t c = (next-room _ _ _ _ _ _ _ _ _ _ _ _ _ c.loop-rest.invariant.building _
+add_node-requires-clause-absent g t c = (next-free _ _ _ _ _ _ _ _ _ _ _ _ _ c.loop-rest.invariant.building _
     (omega (arith, c.loop-rest-test.true)) c.first_group-byte.ensures.byte
     (omega (arith, c.first_group-byte.type_inv.0))).0
 
-pub add_node-requires-clause-room : goal.add_node-requires-clause-room
-add_node-requires-clause-room g t c = (next-room _ _ _ _ _ _ _ _ _ _ _ _ _ c.loop-rest.invariant.building _
+pub add_node-requires-clause-not_full : goal.add_node-requires-clause-not_full
+add_node-requires-clause-not_full g t c = (next-free _ _ _ _ _ _ _ _ _ _ _ _ _ c.loop-rest.invariant.building _
     (omega (arith, c.loop-rest-test.true)) c.first_group-byte.ensures.byte
     (omega (arith, c.first_group-byte.type_inv.0))).1
 

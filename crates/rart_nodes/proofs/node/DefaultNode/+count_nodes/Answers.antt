@@ -3,7 +3,7 @@ use Rattle.std.specs.Prelude.{max}
 use Rattle.rart_nodes.specs.storages.Stored.{child_entries, storage_capacity}
 use Rattle.rart_nodes.specs.tries.Trie.{children_in}
 use Rattle.rart_nodes.specs.tries.TrieCode.{as_children, node_count}
-use Rattle.rart_nodes.proofs.statistics.CountLemmas.{own-room, few-high, count-start, count-step, count-room, count-end}
+use Rattle.rart_nodes.proofs.statistics.CountLemmas.{own-free, few-high, count-start, count-step, count-free, count-end}
 use Rattle.rart_nodes.proofs.statistics.CountLemmas.{max-numbers}
 use Rattle.rart_nodes.proofs.node.DefaultNode.+count_nodes.Goals as goal
 
@@ -13,7 +13,7 @@ add_node-requires g t c = omega (
   c.requires,
   ap node_count c.self.view_is,
   c.num_children-children.ensures,
-  own-room (g.P.Partial.bytes c.self.inside.prefix) c.self.inside.value (storage_capacity c.self.inside.storage)
+  own-free (g.P.Partial.bytes c.self.inside.prefix) c.self.inside.value (storage_capacity c.self.inside.storage)
       (child_entries c.self.inside.storage),
 )
 
@@ -32,8 +32,8 @@ loop-byte-init-derived g t c = (tt, tt)
 
 pub count_nodes-requires : goal.count_nodes-requires
 count_nodes-requires g t c κs within =
-    let room = count-room _ _ _ _ _ _ _ _ c.in-Some.ensures.steps c.loop-byte.invariant.counting in
-    (omega (arith, c.decreases, room.1), (within.0, (within.1, omega (arith, room.0, c.requires))))
+    let reserved = count-free _ _ _ _ _ _ _ _ c.in-Some.ensures.steps c.loop-byte.invariant.counting in
+    (omega (arith, c.decreases, reserved.1), (within.0, (within.1, omega (arith, reserved.0, c.requires))))
 
 pub loop-byte-preserved : goal.loop-byte-preserved
 loop-byte-preserved g t c = record {

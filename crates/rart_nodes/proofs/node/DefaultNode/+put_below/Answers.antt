@@ -60,36 +60,36 @@ returns-in-Some-seek_child_mut g t c =
 pub add_leaf-requires-clause-fits : goal.add_leaf-requires-clause-fits
 add_leaf-requires-clause-fits g t c = rest-within _ _ c.args.key.now _ c.in-Some.ensures c.requires.fits
 
-pub returns-in-Ok-make_room-clause-ok : goal.returns-in-Ok-make_room-clause-ok
-returns-in-Ok-make_room-clause-ok g t c =
+pub returns-in-Ok-reserve_slot-clause-ok : goal.returns-in-Ok-reserve_slot-clause-ok
+returns-in-Ok-reserve_slot-clause-ok g t c =
     let left = c.seek_child_mut.follows.holds-at-none in
     rw (← c.self.view_is) (put-beside _ c.args.key.now _ c.args.value _ _ _ _ (child_entries c.self.inside.storage) _
     (rw (← c.self.view_is) at c.requires.canonical) c.in-Some.ensures c.in-Some-first.ensures.value
     c.in_default-seek_child_mut.ensures.value
-    (c.add_leaf.ensures.capacity ∙ rw (left.0, left.1) at c.in-Ok-make_room.ensures.capacity)
-    (rw (c.add_leaf.ensures.stored, c.in-Ok-make_room.ensures.stored, left.1) refl))
+    (c.add_leaf.ensures.capacity ∙ rw (left.0, left.1) at c.in-Ok-reserve_slot.ensures.capacity)
+    (rw (c.add_leaf.ensures.stored, c.in-Ok-reserve_slot.ensures.stored, left.1) refl))
 
-pub returns-in-Ok-make_room-clause-answer : goal.returns-in-Ok-make_room-clause-answer
-returns-in-Ok-make_room-clause-answer g t c
+pub returns-in-Ok-reserve_slot-clause-answer : goal.returns-in-Ok-reserve_slot-clause-answer
+returns-in-Ok-reserve_slot-clause-answer g t c
     = rw (← c.self.view_is) (c.requires.empty
     ∙ sym (trie_lookup-no_child _ c.args.key.now _ _ _ (storage_capacity c.self.inside.storage)
     (child_entries c.self.inside.storage)
     c.in-Some.ensures c.in-Some-first.ensures.value c.in_default-seek_child_mut.ensures.value))
 
-pub returns-in-Ok-make_room-clause-fresh : goal.returns-in-Ok-make_room-clause-fresh
-returns-in-Ok-make_room-clause-fresh g t c only
+pub returns-in-Ok-reserve_slot-clause-fresh : goal.returns-in-Ok-reserve_slot-clause-fresh
+returns-in-Ok-reserve_slot-clause-fresh g t c only
     = rw (← c.self.view_is) (trie_lookup-no_child _ c.args.key.now _ _ _ (storage_capacity c.self.inside.storage)
     (child_entries c.self.inside.storage)
     c.in-Some.ensures c.in-Some-first.ensures.value c.in_default-seek_child_mut.ensures.value)
 
-pub returns-in-Err-make_room-clause-why : goal.returns-in-Err-make_room-clause-why
-returns-in-Err-make_room-clause-why g t c =
+pub returns-in-Err-reserve_slot-clause-why : goal.returns-in-Err-reserve_slot-clause-why
+returns-in-Err-reserve_slot-clause-why g t c =
     let left = c.seek_child_mut.follows.holds-at-none in
     rw (← c.self.view_is) (
       put_allocation-full _ c.args.key.now _ c.self.inside.value (storage_capacity c.self.inside.storage) _ _
           (child_entries c.self.inside.storage) _ c.in-Some.ensures c.in-Some-first.ensures.value
           c.in_default-seek_child_mut.ensures.value
-          left.0 left.1 c.in-Err-make_room.ensures.allocates,
+          left.0 left.1 c.in-Err-reserve_slot.ensures.allocates,
       record-no_child _ c.args.key.now _ _ (storage_capacity c.self.inside.storage) _
           (child_entries c.self.inside.storage)
           c.in-Some.ensures c.in-Some-first.ensures.value c.in_default-seek_child_mut.ensures.value,

@@ -10,8 +10,8 @@ use Rattle.rart_nodes.proofs.removals.RemoveSteps.{same-node}
 use Rattle.rart_nodes.proofs.edits.UpdateSteps.{refuses-memory, none-at}
 use Rattle.rart_nodes.proofs.node.DefaultNode.apply_to_child.Goals as goal
 
-pub make_room-requires : goal.make_room-requires
-make_room-requires g c = record {
+pub reserve_slot-requires : goal.reserve_slot-requires
+reserve_slot-requires g c = record {
   absent
       = none-at c.args.byte (child_entries c.self.inside.storage) (rw (← c.self.view_is) at c.requires.absent);
 }
@@ -48,8 +48,8 @@ returns-in-Err g c = λ key h.
     ) in (
       ap Some (same-node (g.P.Partial.bytes c.self.inside.prefix) c.self.inside.value
           (storage_capacity c.self.inside.storage)
-          (storage_capacity c.make_room.new.self) (child_entries c.self.inside.storage)
-          (child_entries c.make_room.new.self)
+          (storage_capacity c.reserve_slot.new.self) (child_entries c.self.inside.storage)
+          (child_entries c.reserve_slot.new.self)
           (ap storage_capacity c.in-Err.ensures.unchanged) (ap child_entries c.in-Err.ensures.unchanged)
           ∙ c.self.view_is),
       c.in-Insert.is,

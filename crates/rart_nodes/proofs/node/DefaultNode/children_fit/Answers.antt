@@ -6,8 +6,8 @@ use Rattle.rart_nodes.proofs.node.DefaultNode.children_fit.Goals as goal
 pub returns-in_default : goal.returns-in_default
 returns-in_default g c = (λ _. joins-unbounded _ _ _ (sym c.MAXIMUM_SIZE.ensures ∙ c.in_default.is), λ _. refl)
 
-pub overflow_sub-room : goal.overflow_sub-room
-overflow_sub-room g c = rw c.len.ensures
+pub overflow_sub-spare : goal.overflow_sub-spare
+overflow_sub-spare g c = rw c.len.ensures
     (within-most _ c.in-Some.most _ (sym c.MAXIMUM_SIZE.ensures ∙ c.in-Some.is)
     (g.met.P.Partial.within c.self.inside.prefix))
 
@@ -32,7 +32,7 @@ loop-byte-preserved g c =
       c.len.ensures,
       c.len-in-Some-next.ensures,
       ap length c.prefix.ensures,
-      c.if-len-room.false,
+      c.if-len-spare.false,
       within-most _ c.in-Some.most _ maximum (g.met.P.Partial.within c.self.inside.prefix),
     ) in
     record {
@@ -41,8 +41,8 @@ loop-byte-preserved g c =
       of_all = λ h. (rw c.in-Some-next.ensures.steps at c.loop-byte.invariant.of_all h).1;
     }
 
-pub returns-then-len-room : goal.returns-then-len-room
-returns-then-len-room g c =
+pub returns-then-len-spare : goal.returns-then-len-spare
+returns-then-len-spare g c =
     let maximum = sym c.MAXIMUM_SIZE.ensures ∙ c.in-Some.is in
     let own : g.P.Partial.bytes c.self.inside.prefix ≡ prefix_of c.args.self.now = ap prefix_of c.self.view_is in (
       λ t. absurd (cc),
@@ -52,7 +52,7 @@ returns-then-len-room g c =
         c.len.ensures,
         c.len-in-Some-next.ensures,
         ap length c.prefix.ensures,
-        c.if-len-room.true,
+        c.if-len-spare.true,
         within-most _ c.in-Some.most _ maximum
             (rw c.in-Some-next.ensures.steps at c.loop-byte.invariant.of_all h).0,
       )),

@@ -1,6 +1,6 @@
 use Rattle.std.proofs.Common.{[], arith}
 use Rattle.rart_nodes.proofs.joins.VisitorLemmas.{back-again, can-aligned, can-next, can-others, can-rest, can-start}
-use Rattle.rart_nodes.proofs.joins.VisitorLemmas.{given-aligned, given-next, next-shared_children, same-room}
+use Rattle.rart_nodes.proofs.joins.VisitorLemmas.{given-aligned, given-next, next-shared_children, same-reserved}
 use Rattle.rart_nodes.proofs.joins.VisitorLemmas.{shared_children-within}
 use Rattle.rart_nodes.proofs.joins.JoinPathLemmas.{path-stays, path-on}
 use Rattle.rart_nodes.proofs.node.intersect.+intersect_below.Goals as goal
@@ -10,10 +10,10 @@ returns-in_default-clause-place g t c =
     let found = c.in_default.ensures.aligned in
     back-again _ _ _ _ found.0 _ c.mark-mark.ensures found.1 (path-stays _) c.cut.ensures
 
-pub give_both-requires-clause-room : goal.give_both-requires-clause-room
-give_both-requires-clause-room g t c =
+pub give_both-requires-clause-reserved : goal.give_both-requires-clause-reserved
+give_both-requires-clause-reserved g t c =
     let found = c.in-Some.ensures.aligned in
-    g.met.T.Visitor.lawful.has_room _ _ found.0 _ 0 found.1 c.requires.room (omega (arith, found.2.short))
+    g.met.T.Visitor.lawful.keeps_reserved _ _ found.0 _ 0 found.1 c.requires.reserved (omega (arith, found.2.short))
 
 pub give_both-requires-clause-callable : goal.give_both-requires-clause-callable
 give_both-requires-clause-callable g t c =
@@ -48,7 +48,7 @@ loop-child-init g t c =
           (can-rest _ _ laws _ _ _ _ _ _ (can-aligned _ _ laws _ g.met.T.Visitor.deeper _ _ _ _ _ found.0 _ _ found.2
           found.1 c.requires.callable) (rw (c.value.ensures, c.value-2.ensures) at c.give_both.ensures.given));
       place = path-stays _;
-      room = laws.has_room _ _ found.0 _ _ found.1 c.requires.room found.2.short;
+      reserved = laws.keeps_reserved _ _ found.0 _ _ found.1 c.requires.reserved found.2.short;
       given = λ last h. h;
       visits = rw c.of-shared_children.ensures c.in-Some.ensures.visits;
       within = rw c.of-shared_children.ensures
@@ -60,12 +60,12 @@ intersect_below-requires g t c κs within =
     let laws = g.met.T.Visitor.lawful in
     let inv = c.loop-child.invariant in
     let next = next-shared_children _ _ _ _ _ _ c.in-Some-enter_next.ensures.shared_children inv.within in
-    let room = same-room _ _ laws _ _ _ _ (path-stays _) inv.room next.short in
+    let reserved = same-reserved _ _ laws _ _ _ _ (path-stays _) inv.reserved next.short in
     let callable = can-next _ _ laws _ g.met.T.Visitor.deeper _ _ _ _ _ _ _ c.in-Some-enter_next.ensures.shared_children
     inv.place inv.callable in
     let w = within.1.1.1 in (
       omega (arith, c.decreases, next.falls),
-      (within.0, (within.1.0, (within.1.1.0, (w.0, (w.1.0, (w.1.1, (room, callable))))))),
+      (within.0, (within.1.0, (within.1.1.0, (w.0, (w.1.0, (w.1.1, (reserved, callable))))))),
     )
 
 pub loop-child-preserved : goal.loop-child-preserved
@@ -77,7 +77,7 @@ loop-child-preserved g t c =
       callable = can-others _ _ laws _ g.met.T.Visitor.deeper _ _ _ _ _ _ _ _
           c.in-Some-enter_next.ensures.shared_children inv.place c.intersect_below.ensures.given inv.callable;
       place = path-on _ _ _ [] [] inv.place c.intersect_below.ensures.place;
-      room = laws.has_room _ _ [] _ _ c.intersect_below.ensures.place inv.room (omega arith);
+      reserved = laws.keeps_reserved _ _ [] _ _ c.intersect_below.ensures.place inv.reserved (omega arith);
       given = λ last h. inv.given last (given-next _ _ laws _ _ _ _ _ _ _ _ _
           c.in-Some-enter_next.ensures.shared_children inv.place c.intersect_below.ensures.given h);
       visits = omega (

@@ -18,7 +18,7 @@ invariant-loop-child g l = record {
   callable : CanGive g.T.Visitor.can g.T.Visitor.given l.initial.path l.f
       (intersect_all (shared_ahead l.shared_children l.left_aligned.node.now l.right_aligned.node.now));
   place : PathGrown l.initial.path [] l.path;
-  room : g.T.Visitor.room l.path (longest_key (children_pairs (children_in l.left_aligned.node.now)));
+  reserved : g.T.Visitor.reserved l.path (longest_key (children_pairs (children_in l.left_aligned.node.now)));
   given : (last : _) → g.T.Visitor.given l.initial.path l.f
       (intersect_all (shared_ahead l.shared_children l.left_aligned.node.now l.right_aligned.node.now)) last
       → g.T.Visitor.given l.initial.path l.initial.f

@@ -56,11 +56,11 @@ impl<'a, P: Partial, V, C: Count> BackWalk<'a, P, V, C> {
         requires nothing { T.kept path.old ≡ [] }
         requires empty_walk { self.old.levels.items ≡ [] }
         requires short { longest_key (pairs_of top.node.now) ≤ self.old.longest }
-        requires room { self.old.longest ≤ T.capacity path.old }
+        requires reserved { self.old.longest ≤ T.capacity path.old }
         requires places { self.old.longest < vec_capacity self.old.levels }
         ensures path { IsBackWalk self.new.longest (vec_capacity self.new.levels)
             (T.kept path.new) (reverse self.new.levels.items) }
-        ensures room { self.new.longest ≤ T.capacity path.new }
+        ensures reserved { self.new.longest ≤ T.capacity path.new }
         ensures requested { T.requested path.new ≡ T.requested path.old }
         ensures entries { remaining_entries T.grown (T.kept path.new)
             (reverse self.new.levels.items)
@@ -118,7 +118,7 @@ impl<'a, K: KeyTrait, V, C: Count> Seen<'a, K, V, C> {
         requires joins { Joins T.grown }
         ensures path { IfOk result (λ w. IsBackWalk w.0.longest (vec_capacity w.0.levels)
             (T.kept w.1) (reverse w.0.levels.items)) }
-        ensures room { IfOk result (λ w. w.0.longest ≤ T.capacity w.1) }
+        ensures reserved { IfOk result (λ w. w.0.longest ≤ T.capacity w.1) }
         ensures requested { IfOk result (λ w. T.requested w.1 ≤ length_bound self.entry) }
         ensures longest { IfOk result (λ w. w.0.longest ≤ length_bound self.entry) }
         ensures entries { IfOk result
@@ -138,7 +138,7 @@ impl<'a, K: KeyTrait, V, C: Count> Seen<'a, K, V, C> {
             return Ok(empty_back_walk(alloc));
         };
         let mut path = self.new_path::<T>()?;
-        // no vector has room for `usize::MAX` levels, so that at such a length the request is refused
+        // no vector can hold `usize::MAX` levels, so that at such a length the request is refused
         let levels = Vec::with_capacity(alloc, longest.saturating_add(1))?;
         let mut walk: BackWalk<'a, K::PartialType, V, C> = BackWalk { levels, longest };
         walk.descend(top, end, included, &mut path, counter);

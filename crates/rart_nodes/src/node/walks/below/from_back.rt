@@ -23,7 +23,7 @@ impl<'a, K: KeyTrait, V, C: Count> Seen<'a, K, V, C> {
     ) -> Result<(BackWalk<'a, K::PartialType, V, C>, T), AllocError>
         ensures path { IfOk result (λ w. IsBackWalk w.0.longest (vec_capacity w.0.levels)
             (T.kept w.1) (reverse w.0.levels.items)) }
-        ensures room { IfOk result (λ w. w.0.longest ≤ T.capacity w.1) }
+        ensures reserved { IfOk result (λ w. w.0.longest ≤ T.capacity w.1) }
         ensures requested { IfOk result (λ w. T.requested w.1 ≤ length_bound self.entry) }
         ensures longest { IfOk result (λ w. w.0.longest ≤ length_bound self.entry) }
         ensures entries { IfOk result
@@ -43,7 +43,7 @@ impl<'a, K: KeyTrait, V, C: Count> Seen<'a, K, V, C> {
             return Ok(empty_back_walk(alloc));
         };
         let mut path = self.new_path::<T>()?;
-        // no vector has room for `usize::MAX` levels, so that at such a length the request is refused
+        // no vector can hold `usize::MAX` levels, so that at such a length the request is refused
         let levels = Vec::with_capacity(alloc, longest.saturating_add(1))?;
         let Some(at) = seek_prefix(Some(top), prefix, &mut path, counter) else {
             return Ok(empty_back_walk(alloc));

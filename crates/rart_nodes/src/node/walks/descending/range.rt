@@ -10,7 +10,7 @@ ghost use Rattle.rart_nodes.specs.ranges.UpperBounds.{TakesDownTo, down_to, pair
 ghost use Rattle.rart_nodes.specs.ranges.Starts.{bytes_taken};
 ghost use Rattle.rart_nodes.specs.tries.SeenTrees.{seen_keys, seen_pairs};
 ghost use Rattle.rart_nodes.specs.walks.ProbeCount.{probe_count};
-ghost use Rattle.rart_nodes.specs.walks.Calls.{MayLackRoom};
+ghost use Rattle.rart_nodes.specs.walks.Calls.{MayLackMemory};
 
 use crate::count::{Count, Visits};
 use crate::node::seen::Seen;
@@ -164,7 +164,7 @@ impl<'a, K: KeyTrait, V, C: Count> Seen<'a, K, V, C> {
     ) -> Result<KeyBackWalk<'a, K, K::PartialType, V, C>, TreeError>
         ensures pairs { IfOk result
             (λ it. it ≡ pairs_until included end.now (seen_pairs self.entry)) }
-        ensures memory { IfErr result (MayLackRoom (seen_pairs self.entry)) }
+        ensures memory { IfErr result (MayLackMemory (seen_pairs self.entry)) }
         ensures unread { OnErr result (counter.new ≡ counter.old) }
         ensures visits { IfOk result (λ _. C.number counter.new
             ≡ C.number counter.old + probe_count (seen_keys self.entry) end.now) }
@@ -185,7 +185,7 @@ impl<'a, K: KeyTrait, V, C: Count> Seen<'a, K, V, C> {
     ) -> Result<KeyBackWalk<'a, K, K::PartialType, V, C>, TreeError>
         ensures pairs { IfOk result
             (λ it. it ≡ to_bound (bound_in K.bytes end.now) (seen_pairs self.entry)) }
-        ensures memory { IfErr result (MayLackRoom (seen_pairs self.entry)) }
+        ensures memory { IfErr result (MayLackMemory (seen_pairs self.entry)) }
         ensures unread { OnErr result (counter.new ≡ counter.old) }
         ensures visits { IfOk result (λ _. C.number counter.new ≡ C.number counter.old
             + probe_count (seen_keys self.entry) (bound_bytes (bound_in K.bytes end.now))) }
@@ -221,7 +221,7 @@ impl<'a, K: KeyTrait + Drop, V, C: Count> Seen<'a, K, V, C> {
         ensures start { IfOk result (λ r. r.0 ≡ bound_in K.bytes start) }
         ensures ahead { IfOk result
             (λ r. r.1 ≡ reverse (to_bound (bound_in K.bytes end) (seen_pairs self.entry))) }
-        ensures memory { IfErr result (MayLackRoom (seen_pairs self.entry)) }
+        ensures memory { IfErr result (MayLackMemory (seen_pairs self.entry)) }
         ensures unread { OnErr result (counter.new ≡ counter.old) }
         ensures visits { IfOk result (λ _. C.number counter.new ≡ C.number counter.old
             + probe_count (seen_keys self.entry) (bound_bytes (bound_in K.bytes end))) }
@@ -250,7 +250,7 @@ impl<'a, K: KeyTrait + Drop, V> Seen<'a, K, V, Visits> {
     ) -> Result<RangeDescending<'a, K, V>, TreeError>
         ensures pairs { IfOk result (λ r. down_to r.0 r.1 ≡ reverse
             (between (bound_in K.bytes start) (bound_in K.bytes end) (seen_pairs self.entry))) }
-        ensures memory { IfErr result (MayLackRoom (seen_pairs self.entry)) }
+        ensures memory { IfErr result (MayLackMemory (seen_pairs self.entry)) }
     {
         let pairs = self.range_descending_counted(start, end, &mut Visits::new())?;
         Ok(RangeDescending { pairs })

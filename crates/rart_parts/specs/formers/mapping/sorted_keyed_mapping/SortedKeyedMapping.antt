@@ -64,7 +64,7 @@ IsSortedKeyed-prop : {X : Type 0} (w : ℕ) (ks : List ℕ) (vs : List X) (r : �
 IsSortedKeyed-prop w ks vs r = λ x y i. record {
   full = ℕ_set _ _ x.full y.full i;
   few = le_prop x.few y.few i;
-  room = le_prop x.room y.room i;
+  reserved = le_prop x.reserved y.reserved i;
   narrow = le_prop x.narrow y.narrow i;
   ascends = ascends-prop (zip ks vs) x.ascends y.ascends i;
   padded = λ k l m. ℕ_set _ _ (x.padded k l m) (y.padded k l m) i;
@@ -75,7 +75,7 @@ along : {X Y : Type 0} (h : X → Y) (w : ℕ) (ks : List ℕ) (vs : List X) (r 
 along h w ks vs r e = record {
   full = e.full;
   few = subst (λ n. n ≤ w) (sym (length-map vs h)) e.few;
-  room = e.room;
+  reserved = e.reserved;
   narrow = e.narrow;
   ascends = coe 0 1 (i. sym (ap BytesAscend (zip-map h ks vs) ∙ ascends-map h (zip ks vs)) i) e.ascends;
   padded = λ k l. e.padded k (subst (λ n. n ≤ k) (length-map vs h) l);
@@ -86,7 +86,7 @@ back : {X Y : Type 0} (h : X → Y) (w : ℕ) (ks : List ℕ) (vs : List X) (r :
 back h w ks vs r e = record {
   full = e.full;
   few = subst (λ n. n ≤ w) (length-map vs h) e.few;
-  room = e.room;
+  reserved = e.reserved;
   narrow = e.narrow;
   ascends = coe 0 1 (i. (ap BytesAscend (zip-map h ks vs) ∙ ascends-map h (zip ks vs)) i) e.ascends;
   padded = λ k l. e.padded k (subst (λ n. n ≤ k) (sym (length-map vs h)) l);

@@ -19,9 +19,9 @@ returns-then-len-eq-MAX_PAIRS-clause-refused g c es r a =
 
 pub returns-in_default-clause-refused : goal.returns-in_default-clause-refused
 returns-in_default-clause-refused g c es r a =
-    let room : length c.args.keys.now.items ≡ MAX_PAIRS → ⊥ = search rules in
+    let fewer : length c.args.keys.now.items ≡ MAX_PAIRS → ⊥ = search rules in
     memory-at-new g.K.KeyTrait.bytes es _ _ _ c.args.key c.args.value r c.deref.ensures.value
-    c.one_item_more.ensures.later c.in-Less.ensures c.requires room
+    c.one_item_more.ensures.later c.in-Less.ensures c.requires fewer
 
 pub returns-in_default-push-clause-refused : goal.returns-in_default-push-clause-refused
 returns-in_default-push-clause-refused g c es r a = elim c.match-order_after.branch [
@@ -30,9 +30,9 @@ returns-in_default-push-clause-refused g c es r a = elim c.match-order_after.bra
       memory-at-equal g.K.KeyTrait.bytes es _ _ _ c.args.key c.args.value r c.deref.ensures.value _ _
       w.pop.ensures.items some c.one_item_more.ensures.same w.in-Equal.ensures c.requires
   | in-Less+else-len-eq-MAX_PAIRS+in-Ok w ↦
-      let room : length c.args.keys.now.items ≡ MAX_PAIRS → ⊥ = search rules in
+      let fewer : length c.args.keys.now.items ≡ MAX_PAIRS → ⊥ = search rules in
       memory-at-new g.K.KeyTrait.bytes es _ _ _ c.args.key c.args.value r c.deref.ensures.value
-      c.one_item_more.ensures.later w.in-Less.ensures c.requires room
+      c.one_item_more.ensures.later w.in-Less.ensures c.requires fewer
 ]
 
 pub returns-clause-kept : goal.returns-clause-kept

@@ -6,7 +6,7 @@ use Rattle.rart_nodes.proofs.joins.AlignmentLemmas.{nil-when, some-when, place-s
 use Rattle.rart_nodes.proofs.joins.AlignmentLemmas.{place-left_none, place-right_none, place-left, place-right}
 use Rattle.rart_nodes.proofs.joins.AlignmentLemmas.{place-aligned, Step}
 use Rattle.rart_nodes.proofs.joins.JoinPathLemmas.{path-stays, path-on}
-use Rattle.rart_nodes.specs.joins.Visitors.{path-room}
+use Rattle.rart_nodes.specs.joins.Visitors.{path-reserved}
 use Rattle.rart_nodes.proofs.node.intersect.aligned.next_aligned.Given.{Over}
 use Rattle.rart_nodes.proofs.node.intersect.aligned.next_aligned.Goals.{In-Some-enter_after, In-Some-enter_other_after}
 use Rattle.rart_nodes.proofs.node.intersect.aligned.next_aligned.Goals as goal
@@ -22,7 +22,7 @@ loop-byte-init g c = (
 pub grow-requires : goal.grow-requires
 grow-requires g c =
     let inv = c.loop-byte.invariant in
-    path-room _ _ inv.0 (longest_key (pairs_of c.args.left.node.now)) (length c.part.result.0.now) inv.1 c.requires
+    path-reserved _ _ inv.0 (longest_key (pairs_of c.args.left.node.now)) (length c.part.result.0.now) inv.1 c.requires
     (omega (
       arith,
       inv.2.short,
@@ -68,7 +68,7 @@ pub grow-requires-in-None : goal.grow-requires-in-None
 grow-requires-in-None g c =
     let inv = c.loop-byte.invariant in
     let step = left-on g (goal.at.grow-requires-in-None g c).In-Some-enter_after in
-    path-room _ _ (inv.0 ++ c.part.result.0.now) (longest_key (pairs_of c.args.left.node.now))
+    path-reserved _ _ (inv.0 ++ c.part.result.0.now) (longest_key (pairs_of c.args.left.node.now))
     (length c.in-Some-enter_after.edge.now) (path-on _ _ _ inv.0 _ inv.1 c.grow.ensures) c.requires
     (omega (
       arith,
@@ -130,7 +130,7 @@ pub grow-requires-in-Some : goal.grow-requires-in-Some
 grow-requires-in-Some g c =
     let inv = c.loop-byte.invariant in
     let step = right-on g (goal.at.grow-requires-in-Some g c).In-Some-enter_other_after in
-    path-room _ _ (inv.0 ++ c.part.result.0.now) (longest_key (pairs_of c.args.left.node.now))
+    path-reserved _ _ (inv.0 ++ c.part.result.0.now) (longest_key (pairs_of c.args.left.node.now))
     (length c.in-Some.edge.now) (path-on _ _ _ inv.0 _ inv.1 c.grow.ensures) c.requires
     (omega (
       arith,

@@ -9,7 +9,7 @@ use Rattle.rart_nodes.proofs.node.iter.KeyWalk.step.Goals as goal
 pub invariant_of-self : goal.invariant_of-self
 invariant_of-self g c = record {
   walk = c.advance.ensures.path;
-  path = c.advance.ensures.room;
+  path = c.advance.ensures.reserved;
   within = fewer-within _ _ _ (omega (arith, c.advance.ensures.longest)) c.self.invariant.within;
 }
 
@@ -27,7 +27,7 @@ new_from_slice-requires g c =
 pub invariant_of-self-2 : goal.invariant_of-self-2
 invariant_of-self-2 g c = record {
   walk = c.advance.ensures.path;
-  path = c.advance.ensures.room;
+  path = c.advance.ensures.reserved;
   within = fewer-within _ _ _ (omega (arith, c.advance.ensures.longest)) c.self.invariant.within;
 }
 

@@ -6,8 +6,8 @@ use Rattle.rart_nodes.proofs.edits.NodeEditLemmas.{with_child-is}
 use Rattle.rart_nodes.proofs.tries.Descents.{child_of-entries}
 use Rattle.rart_nodes.proofs.node.node_trait.DefaultNodeNode.add_child.Goals as goal
 
-pub make_room-requires : goal.make_room-requires
-make_room-requires g c = record {
+pub reserve_slot-requires : goal.reserve_slot-requires
+reserve_slot-requires g c = record {
   absent = sym (child_of-entries c.args.key (child_entries c.self.inside.storage))
       ∙ rw (← c.self.view_is) at c.requires.absent;
 }

@@ -13,7 +13,7 @@ back_walk_to-requires g c κs = ((refl, tt), joins-bytes)
 pub invariant_of-result : goal.invariant_of-result
 invariant_of-result g c = record {
   walk = c.in_ok-walk.ensures.path;
-  path = c.in_ok-walk.ensures.room;
+  path = c.in_ok-walk.ensures.reserved;
   within = fewer-within _ _ _ c.in_ok-walk.ensures.longest c.args.self.fits;
 }
 

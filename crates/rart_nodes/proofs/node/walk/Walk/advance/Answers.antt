@@ -16,7 +16,7 @@ extend_path-requires g c κs =
     c.in-Some-enter_deepest.ensures.shown in (
       (refl, tt),
       (
-        omega (arith, s.bytes, c.loop-self.invariant.room),
+        omega (arith, s.bytes, c.loop-self.invariant.reserved),
         omega
             (arith, s.place, c.enter_deepest.ensures.capacity, c.enter_deepest.new.levels.ok.0),
       ),
@@ -62,7 +62,7 @@ loop-self-preserved g c =
     record {
       first = c.loop-self.invariant.first;
       path = t.path;
-      room = omega (arith, c.loop-self.invariant.room, c.extend_path.ensures.path_capacity);
+      reserved = omega (arith, c.loop-self.invariant.reserved, c.extend_path.ensures.path_capacity);
       requested = c.extend_path.ensures.requested ∙ c.loop-self.invariant.requested;
       still = sym (t.still ∙ rw (← c.in_default-value.ensures) refl) ∙ c.loop-self.invariant.still;
       visits = omega (arith, t.counted, c.loop-self.invariant.visits, c.in-Some-enter_deepest.ensures.counted);
@@ -90,7 +90,7 @@ loop-self-preserved-in-None g c =
     record {
       first = c.loop-self.invariant.first;
       path = t.path;
-      room = c.loop-self.invariant.room;
+      reserved = c.loop-self.invariant.reserved;
       requested = c.loop-self.invariant.requested;
       still = sym t.still ∙ c.loop-self.invariant.still;
       visits = omega (arith, t.counted, c.loop-self.invariant.visits, c.in-None.ensures.counted);

@@ -10,7 +10,7 @@ abbrev pub invariant-loop-self : goal.invariant-loop-self
 invariant-loop-self g l = record {
   first : l.self.first ≡ None;
   path : IsWalk l.self.longest (vec_capacity l.self.levels) (g.T.Path.kept l.path) (reverse l.self.levels.items);
-  room : l.self.longest ≤ g.T.Path.capacity l.path;
+  reserved : l.self.longest ≤ g.T.Path.capacity l.path;
   requested : g.T.Path.requested l.path ≡ g.T.Path.requested l.fn.path;
   still : entries_below g.T.Keeps.grown (g.T.Path.kept l.path) (reverse l.self.levels.items)
       ≡ entries_ahead g.T.Keeps.grown (g.T.Path.kept l.fn.path) (option_copied l.fn.self.first) l.fn.self.levels.items;

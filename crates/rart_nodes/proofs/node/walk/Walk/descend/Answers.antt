@@ -34,7 +34,7 @@ loop-next-init g c = record {
           (IsCanonical-test c.args.top.node.now c.args.top.canonical),
     ),
   );
-  room = c.requires.room;
+  reserved = c.requires.reserved;
   requested = refl;
   places = c.requires.places;
   still = ahead-start g.T.Keeps.grown _ _ _ c.requires.nothing c.requires.empty_walk;
@@ -45,18 +45,18 @@ loop-next-init g c = record {
   height = omega (arith, ap length c.requires.empty_walk);
 }
 
-has-room : (g : Over) (c : After-enter-at g) → (length (g.T.Path.kept c.loop-next.path)
+has-reserved : (g : Over) (c : After-enter-at g) → (length (g.T.Path.kept c.loop-next.path)
     + length (prefix_of c.enter-at.result.node.now) ≤ g.T.Path.capacity c.loop-next.path)
     × (vec_len c.loop-next.self.levels < vec_capacity c.loop-next.self.levels)
-has-room g c =
+has-reserved g c =
     let w = rw (c.in-Some.is, ← c.enter-at.ensures.shown) at c.loop-next.invariant.fits in
     let short = prefix-short c.enter-at.result.node.now c.enter-at.result.canonical in (
-      omega (arith, w.0, short, c.loop-next.invariant.room),
+      omega (arith, w.0, short, c.loop-next.invariant.reserved),
       omega (arith, w.1, c.loop-next.invariant.places, c.loop-next.self.levels.ok.0),
     )
 
 pub deepen-requires : goal.deepen-requires
-deepen-requires g c κs = ((refl, tt), has-room g (goal.at.deepen-requires g c).After-enter-at)
+deepen-requires g c κs = ((refl, tt), has-reserved g (goal.at.deepen-requires g c).After-enter-at)
 
 pub returns-in-Greater-clause-path : goal.returns-in-Greater-clause-path
 returns-in-Greater-clause-path g c =
@@ -100,7 +100,7 @@ returns-in_default-cmp g c =
     in
     record {
       path = c.loop-next.invariant.path;
-      room = c.loop-next.invariant.room;
+      reserved = c.loop-next.invariant.reserved;
       requested = c.loop-next.invariant.requested;
       entries = rw c.loop-next.invariant.first (ahead-lower g.T.Keeps.grown c.args.included
           (g.T.Path.kept c.loop-next.path) c.loop-next.rest.now t
@@ -119,7 +119,7 @@ returns-in_default-cmp g c =
 
 pub deepen-requires-in_default-first : goal.deepen-requires-in_default-first
 deepen-requires-in_default-first g c κs
-    = ((refl, tt), has-room g (goal.at.deepen-requires-in_default-first g c).After-enter-at)
+    = ((refl, tt), has-reserved g (goal.at.deepen-requires-in_default-first g c).After-enter-at)
 
 pub returns-then-included-clause-path : goal.returns-then-included-clause-path
 returns-then-included-clause-path g c =
@@ -190,7 +190,7 @@ returns-else-included-clause-low g c =
     c.branches-in_default-first.ensures c.deepen-in_default-first.ensures.levels
 
 pub deepen-requires-in-Some : goal.deepen-requires-in-Some
-deepen-requires-in-Some g c κs = ((refl, tt), has-room g (goal.at.deepen-requires-in-Some g c).After-enter-at)
+deepen-requires-in-Some g c κs = ((refl, tt), has-reserved g (goal.at.deepen-requires-in-Some g c).After-enter-at)
 
 pub loop-next-smaller : goal.loop-next-smaller
 loop-next-smaller g c = next-falls _ _ _ _ _ _ c.in-Some.is c.enter-at.ensures.shown c.child-next.ensures
@@ -214,7 +214,7 @@ loop-next-preserved g c =
       fits = path-on g.T.Keeps.grown _ c.in-Some-first.byte.now k _ t _ _ _ _ g.T.Keeps.short
           c.enter-at.result.canonical w c.deepen-in-Some.ensures.kept c.deepen-in-Some.ensures.levels
           c.child-next.ensures;
-      room = omega (arith, c.loop-next.invariant.room, c.deepen-in-Some.ensures.path_capacity);
+      reserved = omega (arith, c.loop-next.invariant.reserved, c.deepen-in-Some.ensures.path_capacity);
       requested = c.deepen-in-Some.ensures.requested ∙ c.loop-next.invariant.requested;
       places = omega (arith, c.loop-next.invariant.places, c.deepen-in-Some.ensures.level_capacity);
       still = ahead-on g.T.Keeps.grown c.args.included k (g.T.Path.kept c.deepen-in-Some.new.path) c.loop-next.rest.now

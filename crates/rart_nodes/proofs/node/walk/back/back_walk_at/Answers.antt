@@ -10,7 +10,7 @@ grow-requires g c κs = (
     arith,
     prefix-short c.args.at.node.now c.args.at.canonical,
     c.requires.short,
-    c.requires.room,
+    c.requires.reserved,
     ap length
         c.prefix.ensures,
   ),

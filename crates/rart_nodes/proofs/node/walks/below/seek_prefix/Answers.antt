@@ -40,8 +40,8 @@ grow-requires g c κs = (
   omega (
     arith,
     rw (c.in-Some.is, ← c.enter-at.ensures.shown) at c.loop-next.invariant.deep,
-    c.loop-next.invariant.room,
-    c.requires.room,
+    c.loop-next.invariant.reserved,
+    c.requires.reserved,
     prefix-short c.enter-at.result.node.now
         c.enter-at.result.canonical,
     ap length c.prefix-in-Some.ensures,
@@ -69,7 +69,7 @@ loop-next-preserved g c =
         g.T.Keeps.short (g.P.Partial.bytes c.prefix-in-Some.result.now),
         ap length c.prefix-in-Some.ensures,
       );
-      room = omega (arith, c.loop-next.invariant.room, c.grow.ensures.capacity);
+      reserved = omega (arith, c.loop-next.invariant.reserved, c.grow.ensures.capacity);
       requested = c.grow.ensures.requested ∙ c.loop-next.invariant.requested;
       still = ap (λ z. tree_part g.T.Keeps.grown z c.in-Some-strip_prefix.after.now
           (option_map (λ s. s.node.now) c.child-next.result)) (c.grow.ensures.kept

@@ -10,7 +10,7 @@ abbrev pub invariant-loop-next : goal.invariant-loop-next
 invariant-loop-next g l = record {
   deep : length (g.T.Path.kept l.path) + longest_key (tree_pairs (option_map (λ s. s.node.now) l.next))
       ≤ length (g.T.Path.kept l.fn.path) + longest_key (tree_pairs (option_map (λ s. s.node.now) l.fn.top));
-  room : g.T.Path.capacity l.fn.path ≤ g.T.Path.capacity l.path;
+  reserved : g.T.Path.capacity l.fn.path ≤ g.T.Path.capacity l.path;
   requested : g.T.Path.requested l.path ≡ g.T.Path.requested l.fn.path;
   still : tree_part g.T.Keeps.grown (g.T.Path.kept l.path) l.rest (option_map (λ s. s.node.now) l.next)
       ≡ tree_part g.T.Keeps.grown (g.T.Path.kept l.fn.path) l.fn.prefix (option_map (λ s. s.node.now) l.fn.top);

@@ -23,7 +23,7 @@ loop-value-preserved g c =
     record {
       callable = can-rest _ _ _ _ _ _ _ e v c.loop-value.invariant.callable;
       path = c.in-Some.ensures.path;
-      room = c.in-Some.ensures.room;
+      reserved = c.in-Some.ensures.reserved;
       folds = λ last h. c.loop-value.invariant.folds last
           (subst (λ (x : List g.row.V.Denot). FoldsTo (λ p x q. Folded g.F.FnMut p x q)
           (c.loop-value.f, c.loop-value.state) x last) (sym e) ((c.f-state.new.self, c.f-state.result), v, h));

@@ -11,7 +11,7 @@ invariant-loop-value g l = record {
   callable : CanFold g.F.FnMut l.f l.state
       (entry_values (entries_ahead no_segment [] (option_copied l.walk.first) l.walk.levels.items));
   path : IsWalk l.walk.longest (vec_capacity l.walk.levels) [] (reverse l.walk.levels.items);
-  room : l.walk.longest ≤ 2 ^ 64;
+  reserved : l.walk.longest ≤ 2 ^ 64;
   folds : (last : _) → FoldsTo (λ p x q. Folded g.F.FnMut p x q) (l.f, l.state)
       (entry_values (entries_ahead no_segment [] (option_copied l.walk.first) l.walk.levels.items)) last
       → FoldsTo (λ p x q. Folded g.F.FnMut p x q) (l.fn.f, l.fn.init)

@@ -25,7 +25,7 @@ loop-value-preserved g c =
     record {
       callable = can-rest _ _ _ _ _ _ _ e v c.loop-value.invariant.callable;
       path = c.in-Some.ensures.path;
-      room = c.in-Some.ensures.room;
+      reserved = c.in-Some.ensures.reserved;
       views = (subst AreViews e c.loop-value.invariant.views).2;
       folds = λ last h. c.loop-value.invariant.folds last
           (subst (λ (x : List (SegmentList × g.row.V.Denot)). ViewsEach g.F.FnMut c.loop-value.f x last) (sym e)

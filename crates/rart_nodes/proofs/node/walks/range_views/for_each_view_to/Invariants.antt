@@ -16,7 +16,7 @@ invariant-loop-value g l = record {
       l.walk.levels.items));
   path : IsWalk l.walk.longest (vec_capacity l.walk.levels) (lent_segments l.path.segments.items)
       (reverse l.walk.levels.items);
-  room : l.walk.longest ≤ vec_capacity l.path.segments;
+  reserved : l.walk.longest ≤ vec_capacity l.path.segments;
   views : AreViews (entries_ahead one_segment (lent_segments l.path.segments.items) (option_copied l.walk.first)
       l.walk.levels.items);
   folds : (last : _) → ViewsEach g.F.FnMut l.f

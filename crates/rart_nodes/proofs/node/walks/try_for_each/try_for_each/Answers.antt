@@ -19,7 +19,7 @@ loop-value-preserved g c =
     record {
       callable = can-rest _ _ _ _ _ _ _ (ap entry_values e) v c.loop-value.invariant.callable;
       path = c.in-Some.ensures.path;
-      room = search rules;
+      reserved = search rules;
       ends = λ r last h. c.loop-value.invariant.ends r last
           (subst (λ (x : List (SegmentList × g.row.V.Denot)). EndsAs g.F.FnMut c.loop-value.f (entry_values x) r last)
           (sym e) (

@@ -10,7 +10,7 @@ invariant-loop-value g l = record {
   callable : CanTry g.F.FnMut l.f (entry_values
       (entries_ahead no_segment [] (option_copied l.walk.first) l.walk.levels.items));
   path : IsWalk l.walk.longest (vec_capacity l.walk.levels) [] (reverse l.walk.levels.items);
-  room : l.walk.longest ≤ 2 ^ 64;
+  reserved : l.walk.longest ≤ 2 ^ 64;
   ends : (r : _) (last : _) → EndsAs g.F.FnMut l.f
       (entry_values (entries_ahead no_segment [] (option_copied l.walk.first) l.walk.levels.items)) r last
       → EndsAs g.F.FnMut l.fn.f (entry_values (entries_ahead no_segment [] (option_copied l.fn.walk.first)

@@ -16,7 +16,7 @@ loop-value-preserved g c =
     record {
       callable = can-rest _ _ _ _ _ _ _ e v c.loop-value.invariant.callable;
       path = c.in-Some.ensures.path;
-      room = c.in-Some.ensures.room;
+      reserved = c.in-Some.ensures.reserved;
       folds = λ last h. c.loop-value.invariant.folds last
           (subst (λ (x : List g.row.V.Denot). ShowsEach g.F.FnMut c.loop-value.f x last) (sym e) (c.f.new.self, v, h));
       visits = omega (arith, c.loop-value.invariant.visits, c.in-Some.ensures.visits);

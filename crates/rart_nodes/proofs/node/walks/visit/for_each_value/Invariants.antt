@@ -10,7 +10,7 @@ invariant-loop-value g l = record {
   callable : CanShow g.F.FnMut l.f (entry_values
       (entries_ahead no_segment [] (option_copied l.walk.first) l.walk.levels.items));
   path : IsWalk l.walk.longest (vec_capacity l.walk.levels) [] (reverse l.walk.levels.items);
-  room : l.walk.longest ≤ 2 ^ 64;
+  reserved : l.walk.longest ≤ 2 ^ 64;
   folds : (last : _) → ShowsEach g.F.FnMut l.f
       (entry_values (entries_ahead no_segment [] (option_copied l.walk.first) l.walk.levels.items)) last
       → ShowsEach g.F.FnMut l.fn.f (entry_values

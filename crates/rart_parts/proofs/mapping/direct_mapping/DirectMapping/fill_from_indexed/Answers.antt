@@ -2,7 +2,7 @@ use Rattle.std.proofs.Common.{◌++◌, ◌∙◌, length, sym, ap, subst, arith
 use Rattle.std.specs.Prelude.{IsSome}
 use Rattle.rart_parts.specs.Entries.{ascending, without_byte}
 use Rattle.rart_parts.proofs.EntryLemmas.{length-between, length-without_byte}
-use Rattle.rart_parts.proofs.MoveLemmas.{moved_absent, moved_next, moved_room, next_first}
+use Rattle.rart_parts.proofs.MoveLemmas.{moved_absent, moved_next, moved_fits, next_first}
 use Rattle.rart_parts.proofs.mapping.direct_mapping.DirectMapping.fill_from_indexed.Goals as goal
 
 pub loop-key-init : goal.loop-key-init
@@ -23,13 +23,13 @@ add_child-requires-clause-absent g c =
     moved_absent (ascending c.args.source.now) c.loop-key.self (without_byte c.in-Some.key source)
     (c.in-Some.key, c.unwrap-child.result) c.loop-key.invariant.1 is
 
-pub add_child-requires-clause-room : goal.add_child-requires-clause-room
-add_child-requires-clause-room g c =
+pub add_child-requires-clause-fits : goal.add_child-requires-clause-fits
+add_child-requires-clause-fits g c =
     let source = ascending c.loop-key.source in
     let is = next_first (ascending c.args.source.now) c.loop-key.self source c.in-Some.key c.loop-key.invariant.1
     c.loop-key.invariant.2 c.in-Some.ensures.least c.unwrap-child.result (sym c.delete_child.ensures.taken
     ∙ c.unwrap-child.ensures) in
-    moved_room (ascending c.args.source.now) c.loop-key.self (without_byte c.in-Some.key source)
+    moved_fits (ascending c.args.source.now) c.loop-key.self (without_byte c.in-Some.key source)
     (c.in-Some.key, c.unwrap-child.result) c.loop-key.invariant.1 is 256 (omega (arith, c.loop-key.invariant.0))
 
 pub loop-key-preserved : goal.loop-key-preserved

@@ -1,7 +1,7 @@
 use Rattle.std.proofs.Common.{◌++◌, ◌∙◌, sym, ap, arith}
 use Rattle.rart_parts.specs.Entries.{ascending, child_at, without_byte}
 use Rattle.rart_parts.proofs.EntryLemmas.{without_absent}
-use Rattle.rart_parts.proofs.MoveLemmas.{moved_absent, moved_next, moved_room, next_first, passed_more, none_left}
+use Rattle.rart_parts.proofs.MoveLemmas.{moved_absent, moved_next, moved_fits, next_first, passed_more, none_left}
 use Rattle.rart_parts.proofs.MoveLemmas.{all_moved}
 use Rattle.rart_parts.proofs.mapping.indexed_mapping.IndexedMapping.fill_from_direct.Goals as goal
 use Rattle.rart_parts.proofs.mapping.indexed_mapping.IndexedMapping.fill_from_direct.Goals.{in-Some, in_default}
@@ -16,9 +16,9 @@ add_child-requires g c =
         moved_absent c.args.source.now (ascending c.loop-byte.self)
             (without_byte c.loop-byte.byte c.loop-byte.source) (c.loop-byte.byte, c.in-Some.child)
             c.loop-byte.invariant.in_order is,
-        moved_room c.args.source.now (ascending c.loop-byte.self)
+        moved_fits c.args.source.now (ascending c.loop-byte.self)
             (without_byte c.loop-byte.byte c.loop-byte.source) (c.loop-byte.byte, c.in-Some.child)
-            c.loop-byte.invariant.in_order is g.row.W c.requires.room,
+            c.loop-byte.invariant.in_order is g.row.W c.requires.fits,
       ),
     )
 

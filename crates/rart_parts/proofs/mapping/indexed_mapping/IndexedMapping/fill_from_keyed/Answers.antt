@@ -1,7 +1,7 @@
 use Rattle.std.proofs.Common.{ap, arith, length}
 use Rattle.rart_parts.specs.Entries.{ascending}
 use Rattle.rart_parts.proofs.EntryLemmas.{length-without_byte}
-use Rattle.rart_parts.proofs.SplitLemmas.{split_start, split_absent, split_room, split_next, split_done}
+use Rattle.rart_parts.proofs.SplitLemmas.{split_start, split_absent, split_fits, split_next, split_done}
 use Rattle.rart_parts.proofs.mapping.indexed_mapping.IndexedMapping.fill_from_keyed.Goals as goal
 
 pub loop-key-init : goal.loop-key-init
@@ -16,8 +16,8 @@ add_child-requires g c =
       omega arith,
       (
         split_absent whole moved rest c.loop-key.invariant c.in-Some.key c.in-Some.child c.in-Some.ensures.0,
-        split_room whole moved rest c.loop-key.invariant c.in-Some.key c.in-Some.child c.in-Some.ensures.0 g.row.W
-            c.requires.room,
+        split_fits whole moved rest c.loop-key.invariant c.in-Some.key c.in-Some.child c.in-Some.ensures.0 g.row.W
+            c.requires.fits,
       ),
     )
 

@@ -1,6 +1,6 @@
 use Rattle.std.proofs.Common.{◌≡◌, ◌++◌, ◌∷◌, ◌∙◌, [], sym, ap, arith}
 use Rattle.rart_parts.specs.Entries.{ascending}
-use Rattle.rart_parts.proofs.MoveLemmas.{taken_absent, taken_next, taken_room}
+use Rattle.rart_parts.proofs.MoveLemmas.{taken_absent, taken_next, taken_fits}
 use Rattle.rart_parts.proofs.mapping.indexed_mapping.IndexedMapping.fill_from_sorted_keyed.Goals as goal
 
 pub add_child-requires : goal.add_child-requires
@@ -12,9 +12,9 @@ add_child-requires g c =
       (
         taken_absent c.args.source.now c.take_last.new.self (ascending c.loop-key.self)
             (c.in-Some.key, c.in-Some.child) c.loop-key.invariant.0 is,
-        taken_room c.args.source.now c.take_last.new.self
+        taken_fits c.args.source.now c.take_last.new.self
             (ascending c.loop-key.self) (c.in-Some.key, c.in-Some.child) c.loop-key.invariant.0 is g.row.W
-            c.requires.room,
+            c.requires.fits,
       ),
     )
 

@@ -2,15 +2,15 @@ use Rattle.std.proofs.Common.{◌∙◌, ap, length, set, arith}
 use Rattle.rart_parts.specs.Entries.{child_at, with_entry, ascending}
 use Rattle.rart_parts.specs.Keyed.{with_keys}
 use Rattle.rart_parts.proofs.AnswerReadings.{some_first, not_true}
-use Rattle.rart_parts.proofs.KeyedLemmas.{mapping_put, keyed_put, room_left}
+use Rattle.rart_parts.proofs.KeyedLemmas.{mapping_put, keyed_put, place_left}
 use Rattle.rart_parts.proofs.mapping.keyed_mapping.KeyedMappingNodeMapping.add_child.Goals as goal
 
 pub unwrap-slot-requires : goal.unwrap-slot-requires
 unwrap-slot-requires g c =
     some_first _ _ c.first_empty.result c.first_empty.ensures
-    (room_left c.self.invariant (omega (
+    (place_left c.self.invariant (omega (
       arith,
-      c.requires.room,
+      c.requires.fits,
       c.self.invariant.entries,
       ap
           (λ es. length (ascending es)) c.self.view_is,

@@ -2,7 +2,7 @@ use Rattle.std.proofs.Common.{◌++◌, ◌∙◌, length, sym, ap, subst, arith
 use Rattle.std.specs.Prelude.{IsSome}
 use Rattle.rart_parts.specs.Entries.{ascending, without_byte}
 use Rattle.rart_parts.proofs.EntryLemmas.{length-without_byte}
-use Rattle.rart_parts.proofs.MoveLemmas.{moved_absent, moved_next, moved_room, next_first}
+use Rattle.rart_parts.proofs.MoveLemmas.{moved_absent, moved_next, moved_fits, next_first}
 use Rattle.rart_parts.proofs.mapping.sorted_keyed_mapping.SortedKeyedMapping.fill_from_indexed.Goals as goal
 
 pub unwrap-child-requires : goal.unwrap-child-requires
@@ -18,9 +18,9 @@ add_child-requires g c =
       (
         moved_absent (ascending c.args.source.now) c.loop-key.self (without_byte c.in-Some.key source)
             (c.in-Some.key, c.unwrap-child.result) c.loop-key.invariant.0 is,
-        moved_room (ascending c.args.source.now)
+        moved_fits (ascending c.args.source.now)
             c.loop-key.self (without_byte c.in-Some.key source) (c.in-Some.key, c.unwrap-child.result)
-            c.loop-key.invariant.0 is g.row.W c.requires.room,
+            c.loop-key.invariant.0 is g.row.W c.requires.fits,
       ),
     )
 

@@ -29,7 +29,7 @@ loop-next-init g c = record {
           (IsCanonical-test c.args.top.node.now c.args.top.canonical),
     ),
   );
-  room = c.requires.room;
+  reserved = c.requires.reserved;
   requested = refl;
   places = c.requires.places;
   still = remaining-start g.T.Keeps.grown _ _ _ c.requires.nothing c.requires.empty_walk;
@@ -44,7 +44,7 @@ deepen_before-requires g c κs =
     let w = rw (c.in-Some.is, ← c.enter-at.ensures.shown) at c.loop-next.invariant.fits in (
       (refl, tt),
       (
-        omega (arith, w.0, prefix-short t c.enter-at.result.canonical, c.loop-next.invariant.room),
+        omega (arith, w.0, prefix-short t c.enter-at.result.canonical, c.loop-next.invariant.reserved),
         omega
             (arith, w.1, c.loop-next.invariant.places, c.loop-next.self.levels.ok.0),
       ),
@@ -86,7 +86,7 @@ returns-in_default-cmp g c =
     in
     record {
       path = c.loop-next.invariant.path;
-      room = c.loop-next.invariant.room;
+      reserved = c.loop-next.invariant.reserved;
       requested = c.loop-next.invariant.requested;
       entries = remaining-higher g.T.Keeps.grown c.args.included
           (g.T.Path.kept c.loop-next.path) c.loop-next.rest.now t
@@ -108,7 +108,7 @@ deepen_before-requires-in_default-first g c κs =
     let w = rw (c.in-Some.is, ← c.enter-at.ensures.shown) at c.loop-next.invariant.fits in (
       (refl, tt),
       (
-        omega (arith, w.0, prefix-short t c.enter-at.result.canonical, c.loop-next.invariant.room),
+        omega (arith, w.0, prefix-short t c.enter-at.result.canonical, c.loop-next.invariant.reserved),
         omega
             (arith, w.1, c.loop-next.invariant.places, c.loop-next.self.levels.ok.0),
       ),
@@ -144,7 +144,7 @@ deepen_before-requires-in-Some g c κs =
     let w = rw (c.in-Some.is, ← c.enter-at.ensures.shown) at c.loop-next.invariant.fits in (
       (refl, tt),
       (
-        omega (arith, w.0, prefix-short t c.enter-at.result.canonical, c.loop-next.invariant.room),
+        omega (arith, w.0, prefix-short t c.enter-at.result.canonical, c.loop-next.invariant.reserved),
         omega
             (arith, w.1, c.loop-next.invariant.places, c.loop-next.self.levels.ok.0),
       ),
@@ -176,7 +176,7 @@ loop-next-preserved g c =
       fits = back-path-on g.T.Keeps.grown _ c.in-Some-first.byte.now k _ t _ _ _ _ g.T.Keeps.short
           c.enter-at.result.canonical w c.deepen_before-in-Some.ensures.kept c.deepen_before-in-Some.ensures.levels
           c.child-next.ensures;
-      room = omega (arith, c.loop-next.invariant.room, c.deepen_before-in-Some.ensures.path_capacity);
+      reserved = omega (arith, c.loop-next.invariant.reserved, c.deepen_before-in-Some.ensures.path_capacity);
       requested = c.deepen_before-in-Some.ensures.requested ∙ c.loop-next.invariant.requested;
       places = omega (arith, c.loop-next.invariant.places, c.deepen_before-in-Some.ensures.level_capacity);
       still = remaining-on g.T.Keeps.grown c.args.included k (g.T.Path.kept c.deepen_before-in-Some.new.path)

@@ -3,15 +3,15 @@ use Rattle.rart_nodes.specs.ranges.BackWalk.{IsBackWalk, remaining_entries}
 use Rattle.rart_nodes.specs.ranges.UpperBounds.{entries_until}
 use Rattle.rart_nodes.specs.walks.ProbeCount.{entered_nodes, tree_entered}
 use Rattle.rart_nodes.specs.walks.Walk.{segments_after, entries_of, tree_count, tree_entries}
-use Rattle.rart_nodes.proofs.ranges.StartPaths.{HasPathRoom}
+use Rattle.rart_nodes.proofs.ranges.StartPaths.{IsPathReserved}
 use Rattle.rart_nodes.proofs.node.walk.back.BackWalk.descend.Given as goal
 
 abbrev pub invariant-loop-next : goal.invariant-loop-next
 invariant-loop-next g l = record {
   path : IsBackWalk l.self.longest (vec_capacity l.self.levels) (g.T.Path.kept l.path) (reverse l.self.levels.items);
-  fits : HasPathRoom l.self.longest (g.T.Path.kept l.path) (length l.self.levels.items)
+  fits : IsPathReserved l.self.longest (g.T.Path.kept l.path) (length l.self.levels.items)
       (option_map (λ s. s.node.now) l.next);
-  room : l.self.longest ≤ g.T.Path.capacity l.path;
+  reserved : l.self.longest ≤ g.T.Path.capacity l.path;
   requested : g.T.Path.requested l.path ≡ g.T.Path.requested l.fn.path;
   places : l.self.longest < vec_capacity l.self.levels;
   still : remaining_entries g.T.Keeps.grown (g.T.Path.kept l.path) (reverse l.self.levels.items)

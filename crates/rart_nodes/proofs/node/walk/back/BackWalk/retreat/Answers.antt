@@ -12,7 +12,7 @@ deepen_from_back-requires g c κs =
     let s = space _ _ _ _ c.in-Some.at.node.now _ _ c.loop-self.invariant.path c.in-Some.ensures.shown in (
       (refl, tt),
       (
-        omega (arith, s.bytes, c.loop-self.invariant.room),
+        omega (arith, s.bytes, c.loop-self.invariant.reserved),
         omega
             (arith, s.place, c.enter_last_of_deepest.ensures.capacity, c.enter_last_of_deepest.new.levels.ok.0),
       ),
@@ -33,7 +33,7 @@ loop-self-preserved-in-Some g c =
     c.in-Some.ensures.shown c.deepen_from_back.ensures.kept c.deepen_from_back.ensures.levels cap in
     record {
       path = t.path;
-      room = omega (arith, c.loop-self.invariant.room, c.deepen_from_back.ensures.path_capacity);
+      reserved = omega (arith, c.loop-self.invariant.reserved, c.deepen_from_back.ensures.path_capacity);
       requested = c.deepen_from_back.ensures.requested ∙ c.loop-self.invariant.requested;
       still = t.still ∙ c.loop-self.invariant.still;
       longest = c.loop-self.invariant.longest;
@@ -79,7 +79,7 @@ loop-self-preserved g c =
     let rest = remaining_entries g.T.Keeps.grown k1 (reverse c.take_last-below.new.self.items) in
     record {
       path = t.path;
-      room = omega (arith, c.loop-self.invariant.room, c.cut.ensures.capacity);
+      reserved = omega (arith, c.loop-self.invariant.reserved, c.cut.ensures.capacity);
       requested = c.cut.ensures.requested ∙ c.loop-self.invariant.requested;
       still = sym (append-nil rest) ∙ sym (t.still
           ∙ ap (λ v. rest ++ value_at k1 (option_copied v)) c.in_default.is) ∙ c.loop-self.invariant.still;

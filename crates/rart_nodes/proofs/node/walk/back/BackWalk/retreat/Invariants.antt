@@ -8,7 +8,7 @@ use Rattle.rart_nodes.proofs.node.walk.back.BackWalk.retreat.Given as goal
 abbrev pub invariant-loop-self : goal.invariant-loop-self
 invariant-loop-self g l = record {
   path : IsBackWalk l.self.longest (vec_capacity l.self.levels) (g.T.Path.kept l.path) (reverse l.self.levels.items);
-  room : l.self.longest ≤ g.T.Path.capacity l.path;
+  reserved : l.self.longest ≤ g.T.Path.capacity l.path;
   requested : g.T.Path.requested l.path ≡ g.T.Path.requested l.fn.path;
   still : remaining_entries g.T.Keeps.grown (g.T.Path.kept l.path) (reverse l.self.levels.items)
       ≡ remaining_entries g.T.Keeps.grown (g.T.Path.kept l.fn.path) (reverse l.fn.self.levels.items);

@@ -10,7 +10,7 @@ use Rattle.rart_nodes.proofs.node.walks.descending.KeyBackWalk.step_back.Goals a
 pub invariant_of-self : goal.invariant_of-self
 invariant_of-self g c = record {
   walk = c.retreat.ensures.path;
-  path = c.retreat.ensures.room;
+  path = c.retreat.ensures.reserved;
   within = fewer-within _ _ _ (omega (arith, c.retreat.ensures.longest)) c.self.invariant.within;
 }
 
@@ -28,7 +28,7 @@ new_from_slice-requires g c =
 pub invariant_of-self-2 : goal.invariant_of-self-2
 invariant_of-self-2 g c = record {
   walk = c.retreat.ensures.path;
-  path = c.retreat.ensures.room;
+  path = c.retreat.ensures.reserved;
   within = fewer-within _ _ _ (omega (arith, c.retreat.ensures.longest)) c.self.invariant.within;
 }
 

@@ -2,7 +2,7 @@ use Rattle.std.proofs.Common.{◌≡◌, ◌<◌, None, arith, sym, ap, ◌∙�
 use Rattle.std.proofs.lemmas.Bool.Decides.{nat_tests}
 use Rattle.rart_parts.specs.Entries.{child_at}
 use Rattle.rart_nodes.specs.storages.Stored.{child_entries}
-use Rattle.rart_nodes.proofs.node.storage.Storage.has_room.Goals as goal
+use Rattle.rart_nodes.proofs.node.storage.Storage.has_free_slot.Goals as goal
 
 pub returns-in-Node256-clause-not_widest : goal.returns-in-Node256-clause-not_widest
 returns-in-Node256-clause-not_widest g c =

@@ -96,9 +96,9 @@ impl<N> Storage<N> {
     }
 
     /// Returns whether another child fits at byte `b`.
-    fn has_room(&self, b: u8) -> bool
+    fn has_free_slot(&self, b: u8) -> bool
         requires { child_at b (child_entries self.now) ≡ None }
-        ensures room { result ≡ true → length (child_entries self.now) < storage_capacity self.now }
+        ensures not_full { result ≡ true → length (child_entries self.now) < storage_capacity self.now }
         ensures full { result ≡ false
             → length (child_entries self.now) ≡ storage_capacity self.now }
         ensures not_widest { result ≡ false → storage_capacity self.now < 256 }
@@ -134,16 +134,16 @@ impl<N> Storage<N> {
         mem::replace(self, next).destroy_empty();
     }
 
-    /// Makes room for a child at byte `b`: a full storage is replaced by one of the next kind.
+    /// Reserves a slot for a child at byte `b`: a full storage is replaced by one of the next kind.
     ///
     /// # Errors
     ///
     /// [`TreeError::Memory`] if the storage is full and an allocation fails. The storage is then unchanged.
     #[inline(never)]
-    pub(crate) fn make_room(&mut self, alloc: Global, b: u8) -> Result<(), TreeError>
+    pub(crate) fn reserve_slot(&mut self, alloc: Global, b: u8) -> Result<(), TreeError>
         requires absent { child_at b (child_entries self.old) ≡ None }
         ensures stored { child_entries self.new ≡ child_entries self.old }
-        ensures room { OnOk result (length (child_entries self.new) < storage_capacity self.new) }
+        ensures not_full { OnOk result (length (child_entries self.new) < storage_capacity self.new) }
         ensures capacity { OnOk result
             (storage_capacity self.new
             ≡ widened_capacity (length (child_entries self.old)) (storage_capacity self.old)) }
@@ -152,7 +152,7 @@ impl<N> Storage<N> {
             (length (child_entries self.old) ≡ storage_capacity self.old) }
         ensures memory { IfErr result (λ e. e ≡ TreeError.Memory) }
     {
-        if self.has_room(b) {
+        if self.has_free_slot(b) {
             return Ok(());
         }
         match self {
