@@ -53,7 +53,7 @@ LOOK_UP = ("rart_nodes", "src/node/walks/look_up.rt", "self.descend(key, counter
 LENDING = ("rart_nodes", "src/node/walks/lending.rt", "for_each_view_of(&mut walk, &mut path, counter, f);")
 VISITOR = ("rart_nodes", "src/node/intersect/visitor.rt", "f(left, right);")
 SHRINK = ("rart_nodes", "src/node/storage/shrink.rt")
-ROOM = ("rart_nodes", "src/node/storage/room.rt")
+GROW = ("rart_nodes", "src/node/storage/grow.rt")
 SHARED_CHILDREN = ("rart_nodes", "src/node/intersect/shared_children.rt")
 TREES = ("rart_nodes", "src/node/intersect.rt", "let Some(right_top) = right.top() else {")
 OF_TREE = ("rart", "src/tree.rt", "self.seen().get_bytes_counted(key, &mut Visits::new())")
@@ -224,7 +224,7 @@ BODIES = (
     ),
     Body(
         "a wider storage loses a child",
-        *ROOM,
+        *GROW,
         "next.fill_from_resized(map);",
         "next.fill_from_resized(map);\n                let _lost = next.delete_child(b);",
         (

@@ -100,7 +100,7 @@ module _ {V : Type 0} where
   kept k Keep w m (Err (Not_inserted d)) n law e s h = absurd (let z = h.0 in cc)
   kept k Keep w m (Err Not_removed) n law e s h = absurd (let z = h.0 in cc)
 
-  -- a refused removal: what was left stands at the key, and what stood there is put back
+  -- a refused removal: what was left is at the key, and the old value is put back
   pub stands-left : (k : List ℕ) (w : Option V) (m n : List (List ℕ × V)) → ((v : V) → lookup k (put k v m) ≡ Some v)
       → w ≢ None → n ≡ map_left k w m → lookup k n ≢ None
   stands-left k None m n law s e = absurd (s refl)
@@ -157,7 +157,7 @@ module _ {F E V : Type 0} (sure : V → Type 0)
       → Attempts sure g f k m (Answered x) res n → TriesUpdate g f k m (Err (Try_not_inserted d)) n × (n ≡ m)
   not-inserted x d r h = let e = rw r at h.3 in ((Ok h.0, h.1, h.2.0, e), e.3)
 
-  -- its removal is refused: what it left stands at the key, and what stood there is put back
+  -- its removal is refused: what it left is at the key, and the old value is put back
   module _ (x : Option V) (r : res ≡ Err Not_removed) (h : Attempts sure g f k m (Answered x) res n) where
     pub some-left : ((q : List ℕ) (v : V) (l : List (List ℕ × V)) → lookup q (put q v l) ≡ Some v) → lookup k n ≢ None
     some-left law = let e = rw r at h.3 in stands-left k h.1 m n (λ v. law k v m) e.1 e.3

@@ -47,7 +47,7 @@ pub fn equal_keys_equal_statistics<K: KeyTrait, V, L: KeyTrait, W>(
     other: &AdaptiveRadixTree<L, W>,
 ) -> Result<(TreeStats, TreeStats), TreeError>
     requires { keys_of one.now.pairs ≡ keys_of other.now.pairs }
-    ensures statistics { IfOk result
+    ensures stats { IfOk result
         (λ r. stats_in r.0 ≡ stats_of (keys_of one.now.pairs) one.now.nodes) }
     ensures of_other { IfOk result
         (λ r. stats_in r.1 ≡ stats_of (keys_of other.now.pairs) other.now.nodes) }

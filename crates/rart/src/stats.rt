@@ -18,7 +18,7 @@ pub trait TreeStatsTrait {
     ///
     /// [`TreeError::Memory`] if an allocation fails, which needs at least two keys.
     fn get_tree_stats(&self) -> Result<TreeStats, TreeError>
-        ensures statistics { IfOk result
+        ensures stats { IfOk result
             (λ s. stats_in s ≡ stats_of (keys self.now) (nodes self.now)) }
         ensures memory { IfErr result (λ e. e ≡ TreeError.Memory) }
         ensures allocates { OnErr result (2 ≤ length (keys self.now)) };

@@ -23,7 +23,7 @@ mod equal;
 mod extend;
 mod get_mut;
 mod intersect;
-mod statistics;
+mod stats;
 mod take_prefix;
 pub mod try_insert;
 pub mod update;
@@ -153,8 +153,9 @@ impl<K: KeyTrait, V> AdaptiveRadixTree<K, V> {
     /// # Examples
     ///
     /// ```ignore
-    /// if tree.get_k(&key(text)) != Some(&value) {
-    ///     return false;
+    /// match orders.get_k(&OrderKey::new(7, 2)) {
+    ///     Some(order) => println!(rt; "order 2 of 7: {order}"),
+    ///     None => println!(rt; "no order 2 of 7"),
     /// }
     /// ```
     pub fn get_k(&self, key: &K) -> Option<&V>

@@ -4,7 +4,7 @@ use rart::{Descending, KeyTrait};
 use rart_test_trees::texts::{Key, Pair, Tree, filled, is_pair};
 use std::panic::Expect;
 
-// Nodes without a value stand at "ab" and at "abc".
+// There are nodes without a value at "ab" and at "abc".
 const FIVE: [Pair; 5] = [("", 0), ("abcd", 1), ("abce", 2), ("abx", 3), ("b", 4)];
 
 // Prefixes, and the pairs below each, ascending.

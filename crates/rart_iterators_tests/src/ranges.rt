@@ -188,7 +188,7 @@ const OF_FOUR: [Row; 9] = [
     (In("b"), Out("a"), &[]),
 ];
 
-// A node without a value stands at "ab" and at "abc", and "abcd" and "abce" part after the latter.
+// There is a node without a value at "ab" and at "abc", and "abcd" and "abce" part after the latter.
 const PARTED: [Pair; 5] = [("", 0), ("abcd", 1), ("abce", 2), ("abx", 3), ("b", 4)];
 
 const OF_PARTED: [Row; 15] = [

@@ -60,7 +60,7 @@ module _ {V : Type 0} where
   last_wins-ascends [] h = tt
   last_wins-ascends (e ∷ es) h = last-ascends 1 e es h
 
-  -- the value that stands last at a key
+  -- the last value of a key
   lookup-append : (k : List ℕ) (xs ys : List (List ℕ × V)) → lookup k (xs ++ ys) ≡ option_or (lookup k xs) (lookup k ys)
   lookup-append k [] ys = refl
   lookup-append k (x ∷ xs) ys = elim (bytes_eq x.0 k) as (λ b. (if b then Some x.1 else lookup k (xs ++ ys))

@@ -21,7 +21,7 @@ step-at x y xs ys n m true s e ih h k = rw (e, one-add n, is_equal x y (eqb-true
     (ih (omega (arith, e, h)) (omega (arith, e, k)))
 step-at x y xs ys n m false s e ih h k = rw e (decided x y xs ys s)
 
--- both go on after what they share
+-- both continue after what they share
 pub compared-at : (xs ys : List ℕ) (m : ℕ) → m ≡ common_prefix_len nat_eq xs ys → m < length xs → m < length ys
     → nat_cmp (get_or xs m 0) (get_or ys m 0) ≡ slice_cmp nat_cmp xs ys
 compared-at [] ys m e h k = absurd (omega arith)

@@ -32,7 +32,7 @@ piece_of_number w i xs ys p q l k e =
     (length-take-le w (drop i xs) (omega (arith, length-drop i xs))
     ∙ sym (length-take-le w (drop i ys) (omega (arith, length-drop i ys)))) e
 
--- what begins alike goes on alike by an equal piece
+-- an equal beginning is extended by an equal piece
 pub one_piece_more : (w i : ℕ) (xs ys : List ℕ) → take i xs ≡ take i ys → take w (drop i xs) ≡ take w (drop i ys)
     → take (i + w) xs ≡ take (i + w) ys
 one_piece_more w i xs ys e f = take-add i w xs ∙ ap₂ ◌++◌ e f ∙ sym (take-add i w ys)
@@ -68,7 +68,7 @@ shared-begins p k n e l h =
 
 -- two byte strings, the first not the longer, that are read at a place
 module _ (p k : List ℕ) (bytes_p : AreBytes p) (bytes_k : AreBytes k) (fits : length p ≤ length k) where
-  -- equal numbers at i: what begins alike goes on alike
+  -- equal numbers at i: an equal beginning is extended
   pub goes-on : (w i m n : ℕ) → i + w ≤ length p → m ≡ little_endian_number (take w (drop i p))
       → n ≡ little_endian_number (take w (drop i k)) → m ≡ n
       → take i p ≡ take i k → take (i + w) p ≡ take (i + w) k

@@ -15,7 +15,7 @@ ghost use Rattle.rart_nodes.specs.tries.Tree.{tree_pairs, tree_nodes, IsCanonica
 ghost use Rattle.rart_nodes.specs.tries.Trie.{Trie, IsCanonical, trie_lookup, pairs_of, nodes_of, trie_put};
 ghost use Rattle.rart_nodes.specs.tries.Trie.{trie_remove};
 
-pub mod statistics;
+pub mod stats;
 
 /// Proves that the keys determine a canonical trie. Its pairs ascend, a descent is a look-up in them, and its nodes
 /// are exactly the branch points of its keys.

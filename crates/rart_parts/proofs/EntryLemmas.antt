@@ -85,7 +85,7 @@ module _ {X : Type 0} where
   child_at-ascending (e ∷ es) b = child_at-with_another e.0 e.1 (ascending es) b
       ∙ ap (λ r. cond (eqb e.0 b) (Some e.1) r) (child_at-ascending es b)
 
-  -- nothing stands at or below a byte that the map starts above
+  -- no entry is at or below a byte that the map starts above
   pub below_start : (k b : ℕ) (es : List (ℕ × X)) → StartsAbove k es → BytesAscend es → b ≤ k → child_at b es ≡ None
   below_start k b [] s a h = refl
   below_start k b (e ∷ es) s a h = at_other b e es (λ q. omega (arith, q, s, h))

@@ -26,7 +26,7 @@ pub trait NodeMapping<N, const NUM_CHILDREN: usize> {
     /// Inserts a child at a byte that has none.
     fn add_child(&mut self, key: u8, node: N)
         requires absent { child_at key (map self.old) ≡ None }
-        requires fits { length (map self.old) < NUM_CHILDREN }
+        requires not_full { length (map self.old) < NUM_CHILDREN }
         ensures { map self.new ≡ with_entry key node (map self.old) };
 
     /// Returns the child at a byte.

@@ -42,7 +42,7 @@ fn longer(key: &Text, choice: u64) -> Text {
     text
 }
 
-// The key as the call wants it: a probe that goes on, or a beginning.
+// The key as the call wants it: a longer probe, or a beginning.
 fn shaped(key: &Text, call: &Call, most: usize) -> Text {
     match call.kind {
         11 | 13 | 14 | 27 | 38 => longer(key, call.value).cut(most),

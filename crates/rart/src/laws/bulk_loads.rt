@@ -53,7 +53,7 @@ pub fn bulk_load_equals_insertion<K: KeyTrait + Drop, V: Drop>(
         (λ r. stats_in r.0.1 ≡ stats_of (keys_of r.0.0.pairs) r.0.0.nodes) }
     ensures of_inserted { IfOk result
         (λ r. stats_in r.1.1 ≡ stats_of (keys_of r.1.0.pairs) r.1.0.nodes) }
-    ensures statistics { IfOk result (λ r. stats_in r.1.1 ≡ stats_in r.0.1) }
+    ensures stats { IfOk result (λ r. stats_in r.1.1 ≡ stats_in r.0.1) }
     ensures refused { IfErr result
         (RefusesStep (pairs_in K.bytes sorted.items) (pairs_in K.bytes shuffled.items)) }
 {

@@ -354,7 +354,7 @@ module _ {F V : Type 0} (pre : F → ℕ → Type 0) (step : F → ℕ → V →
         smaller = inr (omega (arith, ap length er, length-drop 1 keys, h.some));
       })
 
-  -- all keys go on
+  -- all keys continue
   pub start-on : (f g : F) → rest ≡ keys → 0 < more → place ≡ from → f ≡ g → CanTake pre step from (length keys) f
       → Building pre step m (d + n) keys rest w es None from place f g
   start-on f g er e ep s can = let on = h.on e in let go : GoOn (rests (d + n) rest) = rw er on.0 in

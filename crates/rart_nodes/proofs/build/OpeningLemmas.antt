@@ -24,7 +24,7 @@ pub no-branches : (rs : List (List ℕ)) → length rs ≡ 0 → length (next_by
 no-branches [] h = refl
 no-branches (r ∷ rs) h = absurd (omega (arith, h))
 
--- by how many bytes keys go on after a depth
+-- how many next bytes the keys have after a depth
 abbrev pub branches : ℕ → List (Bor (List ℕ)) → ℕ
 branches d ks = length (next_bytes (rests d ks) [])
 
@@ -38,7 +38,7 @@ pub record Opening (m : Option ℕ) (d n : ℕ) (p : List ℕ) (keys : List (Bor
   pub here : more ≡ 0 → (rests (d + n) keys ≡ [] ∷ rests (d + n) (drop 1 keys)) × GoOn (rests (d + n) (drop 1 keys))
   pub on : 0 < more → GoOn (rests (d + n) keys) × (2 ≤ branches (d + n) keys)
 
--- strings that ascend begin with an empty one, or all go on
+-- strings that ascend begin with an empty one, or all continue
 first-empty : (r : List ℕ) (rs : List (List ℕ)) → IsAscending (lone_keys (r ∷ rs)) → length r ≡ 0 → (r ≡ []) × GoOn rs
 first-empty r rs a e = (nil_from_length r e, above-go_on r rs a.0)
 
@@ -149,7 +149,7 @@ own-one own a b e o = grind (arith, nat_tests)
 pub own-none : (own a b : ℕ) → own ≡ cond (eqb a b) 1 0 → (own ≡ 1 → ⊥) → b ≤ a → (own ≡ 0) × (0 < a - b)
 own-none own a b e o h = (grind (arith, nat_tests), grind (arith, nat_tests))
 
--- the keys without the one that ends go on
+-- the keys without the one that ends continue
 pub rest-goes_on : (m : Option ℕ) (d n : ℕ) (p : List ℕ) (keys : List (Bor (List ℕ))) (a own : ℕ)
     (rest : List (Bor (List ℕ))) → Opening m d n p keys (a - (d + n)) → d + n ≤ a → own ≡ cond (eqb a (d + n)) 1 0
     → rest ≡ drop own keys → GoOn (rests (d + n) rest)

@@ -37,7 +37,7 @@ below-up_to k l b g = cc
 same-up_to : (k : List ℕ) → UpTo k k
 same-up_to k g = let e = cmp-itself k in cc
 
--- what lies between two strings that begin with p begins with p
+-- a string between two that begin with p begins with p
 between : (p k a b : List ℕ) → UpTo (p ++ a) k → UpTo k (p ++ b) → k ≡ p ++ drop (length p) k
 between [] k a b g h = refl
 between (x ∷ p) [] a b g h = absurd (g refl)

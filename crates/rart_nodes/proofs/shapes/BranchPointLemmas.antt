@@ -1,4 +1,4 @@
--- `record_at` has a record just at the branch points, and `next_bytes` the bytes by which keys go on, ascending.
+-- `record_at` has a record just at the branch points, and `next_bytes` the next bytes of the keys, ascending.
 use Rattle.std.proofs.Common.{◌≡◌, ℕ, ◌≤◌, ◌==◌, ◌||◌, ◌⊎◌, inl, inr, ⊎_elim, suc, Bool, true, false, List, [], ◌∷◌}
 use Rattle.std.proofs.Common.{◌++◌, length, refl, sym, ap, ◌∙◌, arith, Option, Some, None, is_some}
 use Rattle.std.specs.List.{list_any, filter_map, cons_option}

@@ -71,7 +71,7 @@ roots = refl
 one_key : record_at ((1 ∷ 2 ∷ []) ∷ []) (1 ∷ []) ≡ None
 one_key = refl
 
--- an insertion allocates at 4, 16 and 48 children, and not between; at a node that stands, and in an empty tree, never
+-- an insertion allocates at 4, 16 and 48 children, and not between; at an existing node, and in an empty tree, never
 allocates : (insert_allocates (one_byte_keys 3) (9 ∷ []) ∷ insert_allocates (one_byte_keys 4)
     (9 ∷ []) ∷ insert_allocates (one_byte_keys 5)
     (9 ∷ []) ∷ insert_allocates (one_byte_keys 16) (99 ∷ [])

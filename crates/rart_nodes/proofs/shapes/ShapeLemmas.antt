@@ -60,7 +60,7 @@ contains_key-keys_of p [] = refl
 contains_key-keys_of p (e ∷ es) = elim (bytes_eq e.0 p) as (λ b. (b || contains_key (keys_of es) p)
     ≡ is_some (if b then Some e.1 else lookup p es)) [ true ↦ refl | false ↦ contains_key-keys_of p es ]
 
--- the bytes by which keys go on from p, with repetitions
+-- the next bytes of the keys after p, with repetitions
 abbrev steps : {V : Type 0} → List ℕ → List (List ℕ × V) → List ℕ
 steps p es = filter_map (byte_after p) (keys_of es)
 
@@ -83,7 +83,7 @@ steps-with_prefix : {V : Type 0} (q p r : List ℕ) (es : List (List ℕ × V)) 
 steps-with_prefix q p r [] s = refl
 steps-with_prefix q p r (e ∷ es) s = rw (after-with_prefix q p r e.0 s, steps-with_prefix q p r es s) refl
 
--- after a prefix that doesn't: all go on alike
+-- after a prefix that doesn't: all continue alike
 after-apart : (q p k : List ℕ) → strip_prefix q p ≡ None → byte_after p (q ++ k) ≡ byte_after p q
 after-apart [] p k s = cc
 after-apart (x ∷ q) [] k s = refl

@@ -51,7 +51,7 @@ pub contains-after : (ks : List (Bor (List ℕ))) (i : ℕ) (d : Bor (List ℕ))
     ≡ contains_key (keys_in (drop i ks)) p
 contains-after ks i d p h e = rw (drop-cons ks i d h, same_test (get_or ks i d).now p, ← e, add-one) refl
 
--- the bytes by which keys go on, one key more
+-- the next bytes of the keys, with one key more
 abbrev with_last : ℕ → List ℕ → List ℕ
 with_last b [] = b ∷ []
 with_last b (x ∷ []) = if x == b then x ∷ [] else x ∷ b ∷ []

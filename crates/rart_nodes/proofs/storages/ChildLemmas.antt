@@ -36,7 +36,7 @@ module _ {V : Type 0} where
   child_at-low b low (e ∷ es) h w = rw (eq-no e.0 b (λ q. omega (arith, w.0)))
       (child_at-low b (suc e.0) es (omega (arith, w.0)) w.3)
 
-  -- how a byte stands to the first entry, where a child stands at it
+  -- how a byte with a child compares with the first entry's
   pub data Found (b : ℕ) (t : Trie V) (e : ℕ × Trie V) (es : List (ℕ × Trie V)) : Type 0 where
     at_first : b ≡ e.0 → t ≡ e.1 → Found b t e es
     after_first : e.0 < b → Some t ≡ child_at b es → Found b t e es

@@ -1,4 +1,4 @@
--- What a descent of a shared trie meets: its children are canonical and smaller, and answer for what lies below them.
+-- What a descent of a shared trie meets: its children are canonical and smaller, and their subtrees hold what it seeks.
 use Rattle.std.proofs.Common.{◌≡◌, ℕ, suc, ◌+◌, ◌<◌, ◌≤◌, ◌⊎◌, inl, inr, ⊎_elim, Bool, true, false, cond, eqb, List}
 use Rattle.std.proofs.Common.{◌++◌, length, Option, Some, None, option_map, refl, arith, sym}
 use Rattle.std.specs.Prelude.{slice_get}

@@ -103,7 +103,7 @@ module _ {V : Type 0} where
   after-own q None es = refl
   after-own q (Some v) es = ap (λ k. (k, v) ∷ segments_after q es) (append-nil q)
 
-  -- what lies below the levels of a path doesn't hang on what it keeps after them
+  -- the entries below the levels of a path don't depend on what it keeps after them
   pub entries_below-same : (g : Grown) (longest deep d : ℕ) (k p : SegmentList) (ls : List (Level V))
       → AreLevels longest deep ls → deep ≤ d → d ≤ length k → entries_below g (take d k ++ p) ls
       ≡ entries_below g k ls

@@ -24,7 +24,7 @@ module _ {V : Type 0} where
   IsFresh k ((no_children, d) ∷ ls) = ⊥
   IsFresh k ((child b t cs, d) ∷ ls) = d ≡ length k
 
-  -- a walk that began with n visits has m: as many, or no more than its path has segments, and a pair lies ahead below
+  -- a walk that began with n visits has m: as many, or no more than its path has segments, and a pair remains below
   -- it
   abbrev pub HasVisited : ℕ → ℕ → SegmentList → List (Level V) → Type 0
   HasVisited n m k ls = (m ≡ n) ⊎ ((m ≤ n + length k) × IsFresh k ls)

@@ -13,7 +13,7 @@ IsAlike old new = IsCanonicalTree new × (length (tree_pairs new) ≡ length (tr
 abbrev pub EndsLent : {A T : Type 0} → Option A → T → T → T → Type 0
 EndsLent lent a b n = OnSome lent (n ≡ a) × IfNone lent (n ≡ b)
 
--- what was lent, if anything was, is w in the new tree, where it stands at k; the nodes are the same
+-- what was lent, if anything was, is w at k in the new tree; the nodes are the same
 abbrev pub LeavesAt : {A V : Type 0} → List ℕ → V → Option A → Option (Trie V) → Option (Trie V) → Type 0
 LeavesAt k w lent old new = IsAlike old new
     × OnSome lent ((tree_pairs new ≡ put k w (tree_pairs old)) × (tree_nodes new ≡ tree_nodes old))

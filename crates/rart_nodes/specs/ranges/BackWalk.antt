@@ -25,7 +25,7 @@ IsBackWalk longest places k ls = IsWalk longest places k (map (λ l. l.0) ls)
 abbrev pub IsKeyBackWalk : {V : Type 0} → Option ℕ → ℕ → ℕ → ℕ → SegmentList → List (BackLevel V) → Type 0
 IsKeyBackWalk maximum longest places capacity k ls = IsKeyWalk maximum longest places capacity k (map (λ l. l.0) ls)
 
--- there is no level, or the deepest, which stands last, has no more children
+-- there is no level, or the deepest, which is the last, has no more children
 pub record BackLeft {V : Type 0} (before after : List (BackLevel V)) : Type 0 where
   pub same : after ≡ before
   pub left : (before ≡ []) ⊎ ((rest : List (BackLevel V)) × ((l : BackLevel V) × ((before ≡ rest ++ l ∷ [])

@@ -9,7 +9,7 @@ use Rattle.rart_nodes.specs.tries.TrieCode.{node_count}
 use Rattle.rart_nodes.specs.walks.ProbeCount.{tree_entered}
 use Rattle.rart_nodes.specs.walks.Walk.{tree_count}
 
--- of a node its own pair, in front of what lies below it
+-- of a node its own pair, in front of those below it
 abbrev pub collects : {V : Type 0} → Descent V (List (List ℕ × V))
 collects = record {
   left = λ k t. [];

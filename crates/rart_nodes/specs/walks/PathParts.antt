@@ -31,7 +31,7 @@ short-no p = omega arith
 abbrev pub lent_segments : List (Bor (List ℕ)) → SegmentList
 lent_segments ps = map (λ p. p.now) ps
 
--- the values that lie ahead of a walk whose path keeps nothing
+-- the remaining values of a walk whose path keeps nothing
 abbrev pub values_ahead : {V : Type 0} → Option (Bor V) → List (Level V) → List V
 values_ahead first levels = entry_values (entries_ahead no_segment [] (option_copied first) levels)
 

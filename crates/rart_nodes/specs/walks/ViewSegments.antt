@@ -21,7 +21,7 @@ abbrev pub AreViews : {V : Type 0} → List (SegmentList × V) → Type 0
 AreViews [] = Unit {0}
 AreViews (e ∷ es) = (all_have_bytes e.0 ≡ true) × (length (joined_bytes e.0) < 2 ^ 64) × AreViews es
 
--- what lies ahead of a walk whose path is of segments that are lent
+-- the remaining entries of a walk whose path is of lent segments
 abbrev pub views_ahead : {V : Type 0} → List (Bor (List ℕ)) → Option (Bor V) → List (Level V) → List (SegmentList × V)
 views_ahead segments first levels = entries_ahead one_segment (lent_segments segments) (option_copied first) levels
 

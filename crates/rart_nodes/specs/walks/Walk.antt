@@ -89,7 +89,7 @@ pub record IsKeyWalk {V : Type 0} (maximum : Option ℕ) (longest places capacit
   pub path : longest ≤ capacity
   pub within : IsWithin maximum longest
 
--- what lies ahead of a walk: the root's value until it is given, and what is below the levels, of which the deepest
+-- the remaining entries of a walk: the root's value until it is given, and what is below the levels, of which the deepest
 -- stands last
 abbrev pub entries_ahead : {V : Type 0} → Grown → SegmentList → Option V → List (Level V) → List (SegmentList × V)
 entries_ahead g k first st = value_at k first ++ entries_below g k (reverse st)

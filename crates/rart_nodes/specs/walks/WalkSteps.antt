@@ -1,4 +1,4 @@
--- A walk beside its path, and its steps from its deepest level, which stands last.
+-- A walk beside its path, and its steps from its deepest level, which is the last.
 use Rattle.std.specs.Prelude.{ℕ, ◌≡◌, ◌≢◌, ◌+◌, ◌⊎◌, List, [], ◌∷◌, ◌++◌, Option, MatchOption, reverse, vec_capacity}
 use Rattle.std.specs.Borrow.{Bor}
 use Rattle.std.specs.Option.{option_copied}

@@ -1,4 +1,4 @@
-//! What changes a node and what lies below it.
+//! Edits of a node and of its subtree.
 
 mod build;
 mod drop_tree;

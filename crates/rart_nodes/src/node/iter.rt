@@ -118,7 +118,7 @@ impl<'a, K: KeyTrait, P: Partial, V> Iterator for Iter<'a, K, P, V> {
 
     ghost remaining = { item_count (λ rest. rest) };
 
-    /// Returns no bound, as the walk does not count what lies ahead.
+    /// Returns no bound, as the walk does not count the remaining items.
     fn size_hint(&self) -> (usize, Option<usize>) {
         (0, None)
     }
@@ -156,7 +156,7 @@ impl<'a, K: KeyTrait, V> Iterator for ValuesIter<'a, K, V> {
 
     ghost remaining = { item_count (λ rest. rest) };
 
-    /// Returns no bound, as the walk does not count what lies ahead.
+    /// Returns no bound, as the walk does not count the remaining items.
     fn size_hint(&self) -> (usize, Option<usize>) {
         (0, None)
     }

@@ -156,7 +156,7 @@ impl<'a, K: KeyTrait + Drop, V> Iterator for Range<'a, K, V> {
 
     ghost remaining = { item_count (λ r. up_to r.0 r.1) };
 
-    /// Returns no bound, as the walk does not count what lies ahead.
+    /// Returns no bound, as the walk does not count the remaining pairs.
     fn size_hint(&self) -> (usize, Option<usize>) {
         (0, None)
     }

@@ -9,8 +9,8 @@ use rart_parts::mapping::{DirectMapping, IndexedMapping, NodeMapping, SortedKeye
 use rart_parts::utils::bitset::Bitset64;
 
 mod ends;
-mod last_under;
 mod grow;
+mod last_under;
 mod shrink;
 pub(crate) mod walk;
 

@@ -11,6 +11,6 @@ mod longest_view;
 mod look_up;
 pub(crate) mod matching;
 mod range_views;
-mod statistics;
+mod stats;
 mod try_for_each;
 mod visit;

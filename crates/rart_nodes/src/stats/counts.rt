@@ -139,7 +139,7 @@ impl Counts {
     /// # Errors
     ///
     /// [`TreeError::Memory`] if an inner node was counted and an allocation fails.
-    pub(crate) fn statistics(&self, alloc: Global, height: usize) -> Result<TreeStats, TreeError>
+    pub(crate) fn to_stats(&self, alloc: Global, height: usize) -> Result<TreeStats, TreeError>
         requires counts { counts_sum self.now ≤ usize.MAX }
         requires width { width_counted self.now ≤ usize.MAX }
         ensures value { IfOk result (λ s. stats_in s ≡ stats_counted self.now height) }

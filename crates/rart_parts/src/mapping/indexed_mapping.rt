@@ -72,7 +72,7 @@ impl<N, const W: usize, B: BitsetTrait> IndexedMapping<N, W, B> {
         requires narrow { W ≤ 255 }
         requires covers { W ≤ B.CAPACITY }
         requires fits { B.CAPACITY < 2 ^ 64 }
-        requires fits { length source.old ≤ W }
+        requires few { length source.old ≤ W }
         ensures ok { IfOk result (λ m. ascending m ≡ source.old) }
         ensures emptied { OnOk result (source.new ≡ []) }
         ensures memory { IfErr result (λ e. e ≡ TreeError.Memory) }
@@ -86,7 +86,7 @@ impl<N, const W: usize, B: BitsetTrait> IndexedMapping<N, W, B> {
     /// Moves the children of a sorted mapping into this empty map. It does not allocate.
     pub fn fill_from_sorted_keyed<const U: usize>(&mut self, source: &mut SortedKeyedMapping<N, U>)
         requires empty { ascending self.old ≡ [] }
-        requires fits { length source.old ≤ W }
+        requires few { length source.old ≤ W }
         ensures filled { ascending self.new ≡ source.old }
         ensures emptied { source.new ≡ [] }
     {
@@ -106,7 +106,7 @@ impl<N, const W: usize, B: BitsetTrait> IndexedMapping<N, W, B> {
         requires narrow { W ≤ 255 }
         requires covers { W ≤ B.CAPACITY }
         requires fits { B.CAPACITY < 2 ^ 64 }
-        requires fits { length source.old ≤ W }
+        requires few { length source.old ≤ W }
         ensures ok { IfOk result (λ m. ascending m ≡ source.old) }
         ensures emptied { OnOk result (source.new ≡ []) }
         ensures memory { IfErr result (λ e. e ≡ TreeError.Memory) }
@@ -120,7 +120,7 @@ impl<N, const W: usize, B: BitsetTrait> IndexedMapping<N, W, B> {
     /// Moves the children of a direct mapping into this empty map. It does not allocate.
     pub fn fill_from_direct(&mut self, source: &mut DirectMapping<N>)
         requires empty { ascending self.old ≡ [] }
-        requires fits { length source.old ≤ W }
+        requires few { length source.old ≤ W }
         ensures filled { ascending self.new ≡ source.old }
         ensures emptied { source.new ≡ [] }
     {
@@ -147,7 +147,7 @@ impl<N, const W: usize, B: BitsetTrait> IndexedMapping<N, W, B> {
         requires narrow { W ≤ 255 }
         requires covers { W ≤ B.CAPACITY }
         requires fits { B.CAPACITY < 2 ^ 64 }
-        requires fits { length (ascending source.old) ≤ W }
+        requires few { length (ascending source.old) ≤ W }
         ensures ok { IfOk result (λ m. ascending m ≡ ascending source.old) }
         ensures emptied { OnOk result (ascending source.new ≡ []) }
         ensures memory { IfErr result (λ e. e ≡ TreeError.Memory) }
@@ -164,7 +164,7 @@ impl<N, const W: usize, B: BitsetTrait> IndexedMapping<N, W, B> {
         source: &mut KeyedMapping<N, U, C>,
     )
         requires empty { ascending self.old ≡ [] }
-        requires fits { length (ascending source.old) ≤ W }
+        requires few { length (ascending source.old) ≤ W }
         ensures filled { ascending self.new ≡ ascending source.old }
         ensures emptied { ascending source.new ≡ [] }
     {

@@ -91,7 +91,7 @@ impl<N, const W: usize, B: BitsetTrait> KeyedMapping<N, W, B> {
         source: &mut KeyedMapping<N, U, C>,
     )
         requires empty { ascending self.old ≡ [] }
-        requires fits { length (ascending source.old) ≤ W }
+        requires few { length (ascending source.old) ≤ W }
         ensures filled { ascending self.new ≡ ascending source.old }
         ensures emptied { ascending source.new ≡ [] }
     {

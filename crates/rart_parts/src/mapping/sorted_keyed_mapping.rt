@@ -67,7 +67,7 @@ impl<N, const W: usize> SortedKeyedMapping<N, W> {
         source: &mut SortedKeyedMapping<N, U>,
     ) -> Result<Self, TreeError>
         requires narrow { W ≤ 255 }
-        requires fits { length source.old ≤ W }
+        requires few { length source.old ≤ W }
         ensures ok { IfOk result (λ m. m ≡ source.old) }
         ensures emptied { OnOk result (source.new ≡ []) }
         ensures memory { IfErr result (λ e. e ≡ TreeError.Memory) }
@@ -81,7 +81,7 @@ impl<N, const W: usize> SortedKeyedMapping<N, W> {
     /// Moves the children of a sorted mapping into this empty map. It does not allocate.
     pub fn fill_from_resized<const U: usize>(&mut self, source: &mut SortedKeyedMapping<N, U>)
         requires empty { self.old ≡ [] }
-        requires fits { length source.old ≤ W }
+        requires few { length source.old ≤ W }
         ensures filled { self.new ≡ source.old }
         ensures emptied { source.new ≡ [] }
     {
@@ -102,7 +102,7 @@ impl<N, const W: usize> SortedKeyedMapping<N, W> {
         source: &mut IndexedMapping<N, U, B>,
     ) -> Result<Self, TreeError>
         requires narrow { W ≤ 255 }
-        requires fits { length (ascending source.old) ≤ W }
+        requires few { length (ascending source.old) ≤ W }
         ensures ok { IfOk result (λ m. m ≡ ascending source.old) }
         ensures emptied { OnOk result (ascending source.new ≡ []) }
         ensures memory { IfErr result (λ e. e ≡ TreeError.Memory) }
@@ -119,7 +119,7 @@ impl<N, const W: usize> SortedKeyedMapping<N, W> {
         source: &mut IndexedMapping<N, U, B>,
     )
         requires empty { self.old ≡ [] }
-        requires fits { length (ascending source.old) ≤ W }
+        requires few { length (ascending source.old) ≤ W }
         ensures filled { self.new ≡ ascending source.old }
         ensures emptied { ascending source.new ≡ [] }
     {

@@ -4,7 +4,7 @@ use Rattle.rart.proofs.laws.insert_then_remove.Goals as goal
 pub returns-in-Ok-get_tree_stats-2-clause-between : goal.returns-in-Ok-get_tree_stats-2-clause-between
 returns-in-Ok-get_tree_stats-2-clause-between g c
     = counted-by-keys _ c.insert_k.new.self _ c.one_shape.ensures c.in-Ok-insert_k.ensures.inserts.2
-    c.in-Ok-get_tree_stats.ensures.statistics c.canonical-in-Ok-insert_k.ensures.shape
+    c.in-Ok-get_tree_stats.ensures.stats c.canonical-in-Ok-insert_k.ensures.shape
 
 pub returns-in-Ok-get_tree_stats-2-clause-after : goal.returns-in-Ok-get_tree_stats-2-clause-after
 returns-in-Ok-get_tree_stats-2-clause-after g c =
@@ -12,8 +12,8 @@ returns-in-Ok-get_tree_stats-2-clause-after g c =
     (c.sorted_map.ensures.put_then_without _ _ _ c.canonical.ensures.ascending c.requires.new_key) in
     let nodes = same-nodes c.args.tree.now c.remove_k.new.self c.one_shape.ensures pairs
     c.canonical-in-Ok-remove_k.ensures.shape c.canonical.ensures.shape in
-    same-statistics c.args.tree.now c.remove_k.new.self _ _ pairs nodes c.in-Ok.ensures.statistics
-    c.in-Ok-get_tree_stats-2.ensures.statistics
+    same-statistics c.args.tree.now c.remove_k.new.self _ _ pairs nodes c.in-Ok.ensures.stats
+    c.in-Ok-get_tree_stats-2.ensures.stats
 
 pub returns-in-Ok-get_tree_stats-2-clause-nodes : goal.returns-in-Ok-get_tree_stats-2-clause-nodes
 returns-in-Ok-get_tree_stats-2-clause-nodes g c =

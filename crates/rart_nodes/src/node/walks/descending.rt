@@ -105,7 +105,7 @@ impl<'a, K: KeyTrait, V> Iterator for Descending<'a, K, V> {
 
     ghost remaining = { item_count (λ rest. rest) };
 
-    /// Returns no bound, as the walk does not count what lies ahead.
+    /// Returns no bound, as the walk does not count the remaining pairs.
     fn size_hint(&self) -> (usize, Option<usize>) {
         (0, None)
     }

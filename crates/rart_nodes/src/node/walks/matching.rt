@@ -303,7 +303,7 @@ impl<'a, K: KeyTrait, P: Partial, V> Iterator for PrefixMatchIter<'a, K, P, V> {
 
     ghost remaining = { item_count (λ rest. rest) };
 
-    /// Returns no bound, as the descent does not count what lies ahead.
+    /// Returns no bound, as the descent does not count the remaining matches.
     fn size_hint(&self) -> (usize, Option<usize>) {
         (0, None)
     }

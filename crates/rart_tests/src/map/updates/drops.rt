@@ -104,7 +104,7 @@ fn try_update_by<V: Drop + Clone>(
     })
 }
 
-// A value to be written, where one stands at the key.
+// A value to be written, where the key is stored.
 fn over<'a>(tree: &Tree<'a>, key: &Key, drops: &'a Cell<usize>) -> Option<Counted<'a>> {
     match tree.get_k(key) {
         Some(_) => Some(Counted(WRITTEN, drops)),
@@ -156,7 +156,7 @@ fn updated<'a>(
     }
 }
 
-// The number that stands at the byte.
+// The number stored at the byte.
 fn number_at(tree: &Tree<'_>, byte: u8) -> Option<u8> {
     tree.get_k(&key(byte)).map(|value| value.0)
 }

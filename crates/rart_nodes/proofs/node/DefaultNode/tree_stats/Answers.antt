@@ -11,8 +11,8 @@ count_nodes-height-requires g c =
     let fits = rw c.in-Some.is at c.requires.fits in
     omega (arith, ap counts_sum c.none-counts.ensures, few-for-keys c.in-Some.node.now canonical, fits)
 
-pub statistics-requires : goal.statistics-requires
-statistics-requires g c =
+pub to_stats-requires : goal.to_stats-requires
+to_stats-requires g c =
     let canonical = rw c.in-Some.is at c.requires.canonical in
     let fits = rw c.in-Some.is at c.requires.fits in
     let counted = c.count_nodes-height.ensures.counts
@@ -20,19 +20,19 @@ statistics-requires g c =
     let sums = sums-for-keys _ _ canonical counted in
     record { counts = omega (arith, sums.0, fits); width = omega (arith, sums.1, fits) }
 
-pub returns-clause-statistics : goal.returns-clause-statistics
-returns-clause-statistics g c =
+pub returns-clause-stats : goal.returns-clause-stats
+returns-clause-stats g c =
     let canonical = rw c.in-Some.is at c.requires.canonical in
     let counted = c.count_nodes-height.ensures.counts
     ∙ ap (λ n. counts_added n (counts_in c.in-Some.node.now)) c.none-counts.ensures in
-    rw c.in-Some.is (if_ok_weaker c.statistics.result
+    rw c.in-Some.is (if_ok_weaker c.to_stats.result
     (λ s r. counted-statistics _ _ _ _ canonical counted c.count_nodes-height.ensures.height r)
-    c.statistics.ensures.value)
+    c.to_stats.ensures.value)
 
 pub returns-clause-allocates : goal.returns-clause-allocates
 returns-clause-allocates g c =
     let canonical = rw c.in-Some.is at c.requires.canonical in
     let counted = c.count_nodes-height.ensures.counts
     ∙ ap (λ n. counts_added n (counts_in c.in-Some.node.now)) c.none-counts.ensures in
-    rw c.in-Some.is (on_err_weaker c.statistics.result (λ i. inner-keys _ _ canonical counted i)
-    c.statistics.ensures.allocates)
+    rw c.in-Some.is (on_err_weaker c.to_stats.result (λ i. inner-keys _ _ canonical counted i)
+    c.to_stats.ensures.allocates)

@@ -28,7 +28,7 @@ for_each_view_to-requires-clause-views g c =
     (from_bound-views c.args.self.longest c.bytes_of-included.result.1 c.bytes_of-included.result.0.now
     (option_copied c.args.self.root) (IsCanonicalTree-test _ c.args.self.canonical) c.args.self.short n)
 
--- what lies ahead of the walk is what comes after the start
+-- the remaining entries are those after the start
 ahead-is : (g : Over) (c : In_ok-walk g)
     → views_ahead c.in_ok-walk.path.segments.items c.in_ok-walk.walk.first c.in_ok-walk.walk.levels.items
     ≡ entries_from (is_inclusive (bound_in g.K.KeyTrait.bytes c.args.start))

@@ -23,8 +23,8 @@ add_child-requires-clause-absent g c =
     moved_absent (ascending c.args.source.now) c.loop-key.self (without_byte c.in-Some.key source)
     (c.in-Some.key, c.unwrap-child.result) c.loop-key.invariant.1 is
 
-pub add_child-requires-clause-fits : goal.add_child-requires-clause-fits
-add_child-requires-clause-fits g c =
+pub add_child-requires-clause-not_full : goal.add_child-requires-clause-not_full
+add_child-requires-clause-not_full g c =
     let source = ascending c.loop-key.source in
     let is = next_first (ascending c.args.source.now) c.loop-key.self source c.in-Some.key c.loop-key.invariant.1
     c.loop-key.invariant.2 c.in-Some.ensures.least c.unwrap-child.result (sym c.delete_child.ensures.taken

@@ -17,7 +17,7 @@ add_child-requires g c =
       (
         split_absent whole moved rest c.loop-key.invariant c.in-Some.key c.in-Some.child c.in-Some.ensures.0,
         split_fits whole moved rest c.loop-key.invariant c.in-Some.key c.in-Some.child c.in-Some.ensures.0 g.row.W
-            c.requires.fits,
+            c.requires.few,
       ),
     )
 

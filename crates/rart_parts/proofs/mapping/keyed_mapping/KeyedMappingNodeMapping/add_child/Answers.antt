@@ -10,7 +10,7 @@ unwrap-slot-requires g c =
     some_first _ _ c.first_empty.result c.first_empty.ensures
     (place_left c.self.invariant (omega (
       arith,
-      c.requires.fits,
+      c.requires.not_full,
       c.self.invariant.entries,
       ap
           (λ es. length (ascending es)) c.self.view_is,

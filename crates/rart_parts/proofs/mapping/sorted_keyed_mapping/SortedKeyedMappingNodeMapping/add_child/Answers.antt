@@ -25,7 +25,7 @@ copy_within-requires-clause-dest_in_bounds g c =
       c.len-count.ensures,
       c.self.inside.children.ok.0,
       c.self.told,
-      c.requires.fits,
+      c.requires.not_full,
       counted
           c.self.invariant _ c.self.view_is,
     )
@@ -38,7 +38,7 @@ bounds-self-inside-at g c =
       f.0,
       c.len-count.ensures,
       c.self.inside.children.ok.0,
-      c.requires.fits,
+      c.requires.not_full,
       counted c.self.invariant _
           c.self.view_is,
     )
@@ -49,7 +49,7 @@ unwrap-requires g c = c.insert.ensures.succeeds
       arith,
       c.self.inside.children.ok.0,
       c.self.invariant.reserved,
-      c.requires.fits,
+      c.requires.not_full,
       counted c.self.invariant _
           c.self.view_is,
     ))
@@ -62,13 +62,13 @@ invariant_of-self g c =
     let count = c.len-count.ensures ∙ c.self.inside.children.ok.0 in
     let few = counted c.self.invariant _ c.self.view_is in
     let e = put_in c.self.invariant c.copy_within.new.self _ c.first_above-at.result c.args.key c.args.node count
-    (omega (arith, few, c.requires.fits)) c.copy_within.ensures.len place
+    (omega (arith, few, c.requires.not_full)) c.copy_within.ensures.len place
     (ap (child_at c.args.key) c.self.view_is ∙ c.requires.absent) by.0 by.1 in
     added c.self.invariant c.args.key c.args.node _ c.insert.new.self.items _
     (length-set c.copy_within.new.self c.first_above-at.result c.args.key ∙ c.copy_within.ensures.len)
     (ap length items ∙ length-insert c.self.inside.children.items c.first_above-at.result c.args.node
     (omega (arith, place.0, count)))
-    (omega (arith, few, c.requires.fits)) c.insert.ensures.capacity
+    (omega (arith, few, c.requires.not_full)) c.insert.ensures.capacity
     (ap (zip (set c.copy_within.new.self c.first_above-at.result c.args.key)) items ∙ e)
     (padded_more c.self.invariant c.copy_within.new.self c.len-count.result c.first_above-at.result c.args.key count
     place.0 by.2)
@@ -81,7 +81,7 @@ returns g c =
     let count = c.len-count.ensures ∙ c.self.inside.children.ok.0 in
     let few = counted c.self.invariant _ c.self.view_is in
     let e = put_in c.self.invariant c.copy_within.new.self _ c.first_above-at.result c.args.key c.args.node count
-    (omega (arith, few, c.requires.fits)) c.copy_within.ensures.len place
+    (omega (arith, few, c.requires.not_full)) c.copy_within.ensures.len place
     (ap (child_at c.args.key) c.self.view_is ∙ c.requires.absent) by.0 by.1 in
     ap (zip (set c.copy_within.new.self c.first_above-at.result c.args.key)) items ∙ e
     ∙ ap (with_entry c.args.key c.args.node) c.self.view_is

@@ -1,6 +1,6 @@
 use Rattle.rart_nodes.proofs.statistics.StatisticsLemmas.{height-keys, statistics-keys}
 use Rattle.rart_nodes.proofs.statistics.WidthSums.{few_widths}
-use Rattle.rart_nodes.proofs.laws.statistics.of_keys.Goals as goal
+use Rattle.rart_nodes.proofs.laws.stats.of_keys.Goals as goal
 
 pub returns : goal.returns
 returns g c = record { value = statistics-keys; height = height-keys; few_widths = few_widths }

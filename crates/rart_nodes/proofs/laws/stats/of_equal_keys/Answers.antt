@@ -1,5 +1,5 @@
 use Rattle.rart_nodes.proofs.statistics.StatisticsLemmas.{equal-statistics}
-use Rattle.rart_nodes.proofs.laws.statistics.of_equal_keys.Goals as goal
+use Rattle.rart_nodes.proofs.laws.stats.of_equal_keys.Goals as goal
 
 pub returns : goal.returns
 returns g c = equal-statistics

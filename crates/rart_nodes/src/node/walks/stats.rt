@@ -39,7 +39,7 @@ impl<P: Partial, V> DefaultNode<P, V> {
     pub fn tree_stats(root: Option<&Self>, alloc: Global) -> Result<TreeStats, TreeError>
         requires canonical { IsCanonicalTree (option_copied root) }
         requires fits { 16 * length (tree_pairs (option_copied root)) ≤ usize.MAX }
-        ensures statistics { let tree = option_copied root.entry in IfOk result
+        ensures stats { let tree = option_copied root.entry in IfOk result
             (λ s. stats_in s ≡ stats_of (keys_of (tree_pairs tree)) (tree_nodes tree)) }
         ensures memory { IfErr result (λ e. e ≡ TreeError.Memory) }
         ensures allocates { OnErr result (2 ≤ length (tree_pairs (option_copied root.entry))) }
@@ -49,6 +49,6 @@ impl<P: Partial, V> DefaultNode<P, V> {
         };
         let mut counts = Counts::none();
         let height = node.count_nodes(&mut counts);
-        counts.statistics(alloc, height)
+        counts.to_stats(alloc, height)
     }
 }
