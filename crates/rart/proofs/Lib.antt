@@ -1,3 +1,4 @@
+pub mod BothEndLemmas
 pub mod BulkEndLemmas
 pub mod BulkLawLemmas
 pub mod BulkLoadLemmas

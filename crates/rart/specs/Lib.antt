@@ -1,3 +1,4 @@
+pub mod BothEnds
 pub mod BulkLaw
 pub mod BulkLoads
 pub mod Clones

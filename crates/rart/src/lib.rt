@@ -8,6 +8,7 @@
 //! them fails.
 #![tactic(auto)]
 
+mod both_ends;
 mod bulk;
 mod callbacks;
 mod descending;
@@ -23,6 +24,7 @@ pub mod stats;
 pub mod tree;
 mod views;
 
+pub use crate::both_ends::BothEnds;
 pub use crate::bulk::BulkError;
 pub use crate::descending::{Descending, RangeDescending, SeenDescending, SeenRangeDescending};
 pub use crate::error::Error;

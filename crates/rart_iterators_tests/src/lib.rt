@@ -4,6 +4,8 @@
 #![tactic(auto)]
 
 #[cfg(test)]
+mod both_ends;
+#[cfg(test)]
 mod descending;
 #[cfg(test)]
 mod ends;

@@ -1,0 +1,68 @@
+-- Two walks towards each other give each item once.
+use Rattle.std.proofs.Common.{◌≡◌, ℕ, zero, suc, ◌+◌, ◌-◌, ◌<◌, ◌≤◌, List, [], ◌∷◌, ◌++◌, length, take, drop, refl}
+use Rattle.std.proofs.Common.{sym, ap, ◌∙◌, arith, length-append, reverse}
+use Rattle.std.proofs.lemmas.Grind.{reverse_onto}
+use Rattle.std.proofs.lemmas.List.{drop-append-le, length-drop, take-append-le, take-take, take_all}
+use Rattle.rart.specs.BothEnds.{AreLeft}
+
+module _ {A : Type 0} where
+  drop-next : (d : ℕ) (x : A) (xs ys : List A) → drop d xs ≡ x ∷ ys → drop (suc d) xs ≡ ys
+  drop-next zero x [] ys e = absurd (cc)
+  drop-next zero x (z ∷ xs) ys e = cc
+  drop-next (suc d) x [] ys e = absurd (cc)
+  drop-next (suc d) x (z ∷ xs) ys e = drop-next d x xs ys e
+
+  -- the first is taken
+  pub record FrontStep (n m : ℕ) (x : A) (front rest back : List A) : Type 0 where
+    pub given : take n front ≡ x ∷ take m rest
+    pub left : AreLeft m rest back
+
+  pub front-step : (n m : ℕ) (x : A) (front rest back : List A) → AreLeft n front back → front ≡ x ∷ rest → n ≡ suc m
+      → FrontStep n m x front rest back
+  front-step n m x front rest back w e f =
+      let given : take n front ≡ x ∷ take m rest = ap (take n) e ∙ ap (λ i. take i (x ∷ rest)) f in
+      let few : suc m ≤ length back = omega (arith, w.behind, f) in
+      let next : length back - m ≡ suc (length back - n) = omega (arith, few, f) in
+      record {
+        given = given;
+        left = record {
+          ahead = omega (arith, w.ahead, f, ap length e);
+          behind = omega (arith, few);
+          same = sym (ap (λ d. drop d back) next
+              ∙ drop-next (length back - n) x back (take m rest) (sym w.same ∙ given));
+        };
+      }
+
+  -- what a descending list gives first is the last of the ascending one
+  reversed : (x : A) (down rest : List A) → down ≡ x ∷ rest → reverse down ≡ reverse rest ++ x ∷ []
+  reversed x down rest e = ap reverse e ∙ reverse_onto rest x []
+
+  -- the last is taken
+  pub record BackGiven (n m : ℕ) (x : A) (front rest : List A) : Type 0 where
+    pub given : take n front ≡ take m front ++ x ∷ []
+    pub left : AreLeft m front rest
+
+  given-back : (n m : ℕ) (x : A) (front back rest : List A) → AreLeft n front back → back ≡ rest ++ x ∷ [] → n ≡ suc m
+      → BackGiven n m x front rest
+  given-back n m x front back rest w e f =
+      let long : length back ≡ length rest + 1 = omega (arith, ap length e, length-append rest (x ∷ [])) in
+      let few : m ≤ length rest = omega (arith, w.behind, long, f) in
+      let start : length back - n ≡ length rest - m = omega (arith, long, few, f) in
+      let same : take n front ≡ drop (length rest - m) rest ++ x ∷ []
+      = w.same ∙ ap (λ d. drop d back) start ∙ ap (drop (length rest - m)) e
+      ∙ drop-append-le (length rest - m) rest (x ∷ []) (omega arith) in
+      let size : length (drop (length rest - m) rest) ≡ m
+      = omega (arith, length-drop (length rest - m) rest, few) in
+      let first : take m front ≡ drop (length rest - m) rest
+      = sym (take-take m n front (omega (arith, f))) ∙ ap (take m) same
+      ∙ take-append-le m (drop (length rest - m) rest) (x ∷ []) (omega (arith, size))
+      ∙ take_all m (drop (length rest - m) rest) (omega (arith, size)) in
+      record {
+        given = same ∙ ap (λ z. z ++ x ∷ []) (sym first);
+        left = record { ahead = omega (arith, w.ahead, f); behind = few; same = first };
+      }
+
+  pub back-step : (n m : ℕ) (x : A) (front down rest : List A) → AreLeft n front (reverse down) → down ≡ x ∷ rest
+      → n ≡ suc m → BackGiven n m x front (reverse rest)
+  back-step n m x front down rest w e f
+      = given-back n m x front (reverse down) (reverse rest) w (reversed x down rest e) f

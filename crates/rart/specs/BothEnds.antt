@@ -1,0 +1,9 @@
+-- What two walks towards each other have between them.
+use Rattle.std.specs.Prelude.{ℕ, ◌≡◌, ◌-◌, ◌≤◌, List, length, take, drop}
+
+-- n items are left between a walk that has `front` ahead and one that has `back` behind it: the first n of the one are
+-- the last n of the other
+pub record AreLeft {A : Type 0} (n : ℕ) (front back : List A) : Type 0 where
+  pub ahead : n ≤ length front
+  pub behind : n ≤ length back
+  pub same : take n front ≡ drop (length back - n) back
