@@ -115,7 +115,7 @@ impl<T> CidrTable4<T> {
         ensures routes { IfOk result (λ it. it ≡ self.now) }
         ensures memory { IfErr result (MayLackRoom self.now) }
     {
-        self.within(Cidr4::masked(Ipv4Addr::UNSPECIFIED, 0))
+        self.within(&Cidr4::masked(Ipv4Addr::UNSPECIFIED, 0))
     }
 
     /// Returns an iterator over the routes inside `net`, ascending by address, then by length.
@@ -125,15 +125,15 @@ impl<T> CidrTable4<T> {
     /// # Errors
     ///
     /// [`TreeError::Memory`] if the table isn't empty and the allocation fails.
-    pub fn within(&self, net: Cidr4) -> Result<Routes4<'_, T>, TreeError>
-        ensures routes { IfOk result (λ it. it ≡ below (bits4 net) self.now) }
+    pub fn within(&self, net: &Cidr4) -> Result<Routes4<'_, T>, TreeError>
+        ensures routes { IfOk result (λ it. it ≡ below (bits4 net.now) self.now) }
         ensures memory { IfErr result (MayLackRoom self.now) }
     {
         self.ascends();
         let walk = self.routes.walk_from(net.octets(), usize::from(net.len()))?;
         Ok(Routes4 {
             rest: Rest::Active(walk),
-            net,
+            net: *net,
         })
     }
 }

@@ -115,7 +115,7 @@ impl<T> CidrTable6<T> {
         ensures routes { IfOk result (λ it. it ≡ self.now) }
         ensures memory { IfErr result (MayLackRoom self.now) }
     {
-        self.within(Cidr6::masked(Ipv6Addr::UNSPECIFIED, 0))
+        self.within(&Cidr6::masked(Ipv6Addr::UNSPECIFIED, 0))
     }
 
     /// Returns an iterator over the routes inside `net`, ascending by address, then by length.
@@ -125,15 +125,15 @@ impl<T> CidrTable6<T> {
     /// # Errors
     ///
     /// [`TreeError::Memory`] if the table isn't empty and the allocation fails.
-    pub fn within(&self, net: Cidr6) -> Result<Routes6<'_, T>, TreeError>
-        ensures routes { IfOk result (λ it. it ≡ below (bits6 net) self.now) }
+    pub fn within(&self, net: &Cidr6) -> Result<Routes6<'_, T>, TreeError>
+        ensures routes { IfOk result (λ it. it ≡ below (bits6 net.now) self.now) }
         ensures memory { IfErr result (MayLackRoom self.now) }
     {
         self.ascends();
         let walk = self.routes.walk_from(net.octets(), usize::from(net.len()))?;
         Ok(Routes6 {
             rest: Rest::Active(walk),
-            net,
+            net: *net,
         })
     }
 }
