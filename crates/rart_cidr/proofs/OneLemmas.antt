@@ -1,16 +1,11 @@
 -- A stride of one target, as a list of one pair.
-use Rattle.std.proofs.Common.{◌≡◌, ℕ, zero, suc, ◌<◌, ◌≤◌, length, List, [], ◌∷◌, true, false, refl, sym, ap, ◌∙◌, Some, None, arith}
-use Rattle.rart_keys.specs.SortedMap.{lookup, put, without}
-use Rattle.rart_keys.proofs.ByteOrder.{eq-no, eq-yes, is_equal}
-use Rattle.rart_nodes.specs.edits.InsertAllocations.{insert_allocates}
+use Rattle.std.proofs.Common.{◌≡◌, ℕ, zero, suc, ◌<◌, ◌≤◌, length, [], ◌∷◌, refl, sym, ap, ◌∙◌, Some, None, arith}
+use Rattle.rart_keys.specs.SortedMap.{lookup}
+use Rattle.rart_keys.proofs.ByteOrder.{eq-no, eq-yes}
 use Rattle.rart_cidr.specs.Bits.{code}
 use Rattle.rart_cidr.specs.Codes.{length_of_code}
 use Rattle.rart_cidr.specs.Routes.{IsLongestIn}
 use Rattle.rart_cidr.proofs.BitLemmas.{code-is, holds_below}
-
--- a second key of one byte requests memory
-pub second-allocates : (c d : ℕ) → (d ≡ c → ⊥) → insert_allocates ((c ∷ []) ∷ []) (d ∷ []) ≡ true
-second-allocates c d n = rw (eq-no c d (λ m. n (sym m))) refl
 
 -- how many bits the code of r bits stands for
 code-length : (x r : ℕ) → x < 256 → r < 8 → length_of_code (code x r) ≡ r
@@ -26,20 +21,11 @@ code-length x (suc (suc (suc (suc (suc (suc (suc zero))))))) h l = ap length (sy
 code-length x (suc (suc (suc (suc (suc (suc (suc (suc r)))))))) h l = absurd (omega arith)
 
 module _ {T : Type 0} where
-  pub one-found : (c d : ℕ) (t : T) → c ≡ d → lookup (d ∷ []) ((c ∷ [], t) ∷ []) ≡ Some t
+  one-found : (c d : ℕ) (t : T) → c ≡ d → lookup (d ∷ []) ((c ∷ [], t) ∷ []) ≡ Some t
   one-found c d t e = rw (eq-yes c d e) refl
 
-  pub one-absent : (c d : ℕ) (t : T) → (c ≡ d → ⊥) → lookup (d ∷ []) ((c ∷ [], t) ∷ []) ≡ None
+  one-absent : (c d : ℕ) (t : T) → (c ≡ d → ⊥) → lookup (d ∷ []) ((c ∷ [], t) ∷ []) ≡ None
   one-absent c d t n = rw (eq-no c d n) refl
-
-  pub one-replaced : (c d : ℕ) (t u : T) → c ≡ d → put (d ∷ []) u ((c ∷ [], t) ∷ []) ≡ (d ∷ [], u) ∷ []
-  one-replaced c d t u e = rw (is_equal d c (sym e)) refl
-
-  pub one-removed : (c d : ℕ) (t : T) → c ≡ d → without (d ∷ []) ((c ∷ [], t) ∷ []) ≡ []
-  one-removed c d t e = rw (eq-yes c d e) refl
-
-  pub one-kept : (c d : ℕ) (t : T) → (c ≡ d → ⊥) → without (d ∷ []) ((c ∷ [], t) ∷ []) ≡ (c ∷ [], t) ∷ []
-  one-kept c d t n = rw (eq-no c d n) refl
 
   -- the longest beginning of a byte that has a target: a code stands for one number of bits
   pub one-longest : (c x most bits : ℕ) (t : T) → x < 256 → most < 8 → bits ≡ length_of_code c → bits ≤ most
