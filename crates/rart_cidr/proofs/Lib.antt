@@ -8,6 +8,7 @@ mod LongestLemmas
 mod MatchLemmas
 mod NetworkLemmas
 mod NextLemmas
+mod OneLemmas
 mod OrderLemmas
 mod PlaceLemmas
 mod RefusalLemmas

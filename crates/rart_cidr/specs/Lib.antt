@@ -10,5 +10,6 @@ pub mod NetworkLoans
 pub mod Networks
 pub mod RouteLoans
 pub mod Routes
+pub mod Targets
 pub mod Texts
 pub mod Walks

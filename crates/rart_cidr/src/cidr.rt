@@ -30,3 +30,5 @@ impl fmt::Display for CidrError {
         }
     }
 }
+
+impl std::error::Error for CidrError {}

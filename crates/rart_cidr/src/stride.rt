@@ -1,33 +1,69 @@
 //! A stride: the targets of the networks with the same whole bytes, by the code of the bits after these.
 //!
 //! Contracts see a stride as its pairs of a one-byte key, the code, and a target, ascending by code.
-ghost use Rattle.std.specs.Prelude.{◌≡◌, ◌≢◌, ◌<◌, ◌≤◌, [], ◌∷◌, length, Some, option_map, IsTrue};
+ghost use Rattle.std.specs.Prelude.{◌≡◌, ◌≢◌, ◌<◌, ◌≤◌, [], ◌∷◌, length, Some, None, option_map, IfOk, IfErr};
 ghost use Rattle.std.specs.Borrow.{sem};
 ghost use Rattle.std.specs.Option.{option_copied, option_copied_mut};
 ghost use Rattle.rart_keys.specs.ArrayKeyBytes.{array_key_bytes};
-ghost use Rattle.rart_keys.specs.SortedMap.{IsAscending, lookup};
+ghost use Rattle.rart_keys.specs.SortedMap.{IsAscending, lookup, put};
 ghost use Rattle.rart.specs.Edits.{Inserts, Removes};
+ghost use Rattle.rart.specs.Refusals.{MayRefuseInsert};
 ghost use Rattle.rart_cidr.specs.Loans.{lends_target};
 ghost use Rattle.rart_cidr.specs.Routes.{IsCode, IsLongestIn, IsShortestIn};
 ghost use Rattle.rart_cidr.specs.Walks.{IsCodeLess, IsNextIn};
 
-use crate::bits::{code_after, code_of};
+use crate::bits::{code_after, code_len, code_of};
 use rart::{AdaptiveRadixTree, ArrayKey, KeyTrait, Refused, TreeError};
 use std::alloc::Global;
 use std::marker::Model;
+use std::mem;
 
 /// The targets of a stride, by code.
 #[derive(Drop)]
 pub struct Stride<T> {
-    targets: AdaptiveRadixTree<ArrayKey<1>, T>,
+    targets: Targets<T>,
+}
+
+/// The targets of a stride, inline where there is one: most strides of a real table have one target.
+#[derive(Drop)]
+enum Targets<T> {
+    /// No target.
+    Empty,
+    /// One target, at this code.
+    One(u8, T),
+    /// The targets of a stride that has had two or more.
+    Many(Box<AdaptiveRadixTree<ArrayKey<1>, T>>),
 }
 
 impl<T> Model for Stride<T> {
     ghost use Rattle.std.specs.Prelude.{ℕ, List};
+    ghost use Rattle.rart_cidr.specs.Targets.{pairs_of};
 
     ghost Value = { List (List ℕ × T) };
 
-    ghost view = { λ s. s.targets.pairs };
+    ghost view = { λ s. pairs_of s.targets };
+}
+
+impl<T> Targets<T> {
+    ghost use Rattle.rart_cidr.specs.Loans.{lends_at};
+    ghost use Rattle.rart_cidr.specs.Targets.{pairs_of};
+
+    // Returns a mutable reference to the target at `code`.
+    fn get_stored_mut(&mut self, code: u8) -> Option<&mut T>
+        ensures* writes_back { sem 𝓛 (lends_at T.row self.entry code result) }
+        ensures value { option_copied_mut result ≡ lookup (code ∷ []) (pairs_of self.old) }
+    {
+        if let Targets::One(stored, _) = self {
+            if *stored != code {
+                return None;
+            }
+        }
+        match self {
+            Targets::Empty => None,
+            Targets::One(_, target) => Some(target),
+            Targets::Many(tree) => tree.get_mut(key_of(code)),
+        }
+    }
 }
 
 fn key_of(code: u8) -> ArrayKey<1>
@@ -36,13 +72,79 @@ fn key_of(code: u8) -> ArrayKey<1>
     ArrayKey::<1>::new_from_slice(&[code])
 }
 
+// Returns a tree of one target, on the heap. If the allocation fails, returns the target.
+fn boxed_one<T: Drop>(
+    alloc: Global,
+    code: u8,
+    target: T,
+) -> Result<Box<AdaptiveRadixTree<ArrayKey<1>, T>>, T>
+    ensures ok { IfOk result (λ tree. tree.value.pairs ≡ (code ∷ [], target) ∷ []) }
+    ensures returned { IfErr result (λ back. back ≡ target) }
+{
+    match Box::new(alloc, AdaptiveRadixTree::new(alloc)) {
+        Ok(mut tree) => match tree.insert_k(&key_of(code), target) {
+            Ok(_) => Ok(tree),
+            Err(_) => unreachable!(),
+        },
+        Err(_) => Err(target),
+    }
+}
+
+// Returns the only target of a tree, which must be stored at `code`.
+fn unboxed_one<T: Drop>(tree: Box<AdaptiveRadixTree<ArrayKey<1>, T>>, code: u8) -> T
+    requires stored { lookup (code ∷ []) tree.value.pairs ≢ None }
+    requires only { length tree.value.pairs ≡ 1 }
+    ensures { Some result ≡ lookup (code ∷ []) tree.value.pairs }
+{
+    let mut tree = tree;
+    match tree.remove_k(&key_of(code)) {
+        Ok(Some(target)) => target,
+        Ok(None) => unreachable!(),
+        Err(_) => unreachable!(),
+    }
+}
+
+// Returns a tree of two targets, on the heap. If an allocation fails, returns `first`, and `target` in the error.
+fn boxed_two<T: Drop>(
+    alloc: Global,
+    stored: u8,
+    first: T,
+    code: u8,
+    target: T,
+) -> Result<Box<AdaptiveRadixTree<ArrayKey<1>, T>>, (T, Refused<T>)>
+    requires { code ≢ stored }
+    ensures ok { IfOk result (λ tree. tree.value.pairs
+        ≡ put (code ∷ []) target ((stored ∷ [], first) ∷ [])) }
+    ensures first_returned { IfErr result (λ e. e.0 ≡ first) }
+    ensures returned { IfErr result (λ e. e.1.value ≡ target) }
+    ensures why { IfErr result (λ e. MayRefuseInsert ((stored ∷ [], first) ∷ []) (code ∷ [])
+        e.1.error) }
+{
+    let mut tree = match boxed_one(alloc, stored, first) {
+        Ok(tree) => tree,
+        Err(first) => {
+            return Err((
+                first,
+                Refused {
+                    error: TreeError::Memory,
+                    value: target,
+                },
+            ));
+        }
+    };
+    match tree.insert_k(&key_of(code), target) {
+        Ok(_) => Ok(tree),
+        Err(refused) => Err((unboxed_one(tree, stored), refused)),
+    }
+}
+
 impl<T> Stride<T> {
-    /// Creates a stride without targets. Allocates nothing.
-    pub fn new(alloc: Global) -> Self
-        ensures { result ≡ [] }
+    /// Creates a stride of one target. Allocates nothing.
+    pub fn new(code: u8, target: T) -> Self
+        ensures { result ≡ (code ∷ [], target) ∷ [] }
     {
         Stride {
-            targets: AdaptiveRadixTree::new(alloc),
+            targets: Targets::One(code, target),
         }
     }
 
@@ -50,21 +152,32 @@ impl<T> Stride<T> {
     pub fn len(&self) -> usize
         ensures { result ≡ length self.now }
     {
-        self.targets.len()
+        match &self.targets {
+            Targets::Empty => 0,
+            Targets::One(_, _) => 1,
+            Targets::Many(tree) => tree.len(),
+        }
     }
 
     /// Shows that the codes ascend. Does nothing at run time.
     pub fn ascends(&self)
         ensures { IsAscending self.now }
     {
-        self.targets.canonical()
+        match &self.targets {
+            Targets::Empty | Targets::One(_, _) => {}
+            Targets::Many(tree) => tree.canonical(),
+        }
     }
 
     /// Returns the target at `code`.
     pub fn get(&self, code: u8) -> Option<&T>
         ensures { option_copied result ≡ lookup (code ∷ []) self.now }
     {
-        self.targets.get_bytes(&[code])
+        match &self.targets {
+            Targets::Empty => None,
+            Targets::One(stored, target) => { if *stored == code { Some(target) } else { None } }
+            Targets::Many(tree) => tree.get_bytes(&[code]),
+        }
     }
 
     /// Returns a mutable reference to the target at `code`, which must be stored.
@@ -72,19 +185,47 @@ impl<T> Stride<T> {
         ensures* writes_back { sem 𝓛 (lends_target T.row self.entry code result) }
         ensures value { option_copied_mut result ≡ lookup (code ∷ []) self.old }
     {
-        self.targets.get_mut(key_of(code))
+        self.targets.get_stored_mut(code)
     }
 
-    /// Inserts `target` at `code` and returns the old target.
+    /// Inserts `target` at `code` and returns the old target. Allocates nothing for a first target.
     ///
     /// # Errors
     ///
-    /// [`TreeError::Full`] or [`TreeError::Memory`] if the insertion into the tree of targets fails. The stride is then
-    /// unchanged, and the error holds `target`.
-    pub fn insert(&mut self, code: u8, target: T) -> Result<Option<T>, Refused<T>>
+    /// [`TreeError::Full`] or [`TreeError::Memory`] if the code is new and the insertion into the tree of targets, or
+    /// the allocation of this tree, fails. The stride is then unchanged, and the error holds `target`.
+    pub fn insert(&mut self, alloc: Global, code: u8, target: T) -> Result<Option<T>, Refused<T>>
+    where
+        T: Drop,
         ensures { Inserts (code ∷ []) target self.old self.new result }
     {
-        self.targets.insert_k(&key_of(code), target)
+        match mem::replace(&mut self.targets, Targets::Empty) {
+            Targets::Empty => {
+                self.targets = Targets::One(code, target);
+                Ok(None)
+            }
+            Targets::One(stored, first) => {
+                if stored == code {
+                    self.targets = Targets::One(code, target);
+                    return Ok(Some(first));
+                }
+                match boxed_two(alloc, stored, first, code, target) {
+                    Ok(tree) => {
+                        self.targets = Targets::Many(tree);
+                        Ok(None)
+                    }
+                    Err((first, refused)) => {
+                        self.targets = Targets::One(stored, first);
+                        Err(refused)
+                    }
+                }
+            }
+            Targets::Many(mut tree) => {
+                let inserted = tree.insert_k(&key_of(code), target);
+                self.targets = Targets::Many(tree);
+                inserted
+            }
+        }
     }
 
     /// Removes the target at `code` and returns it.
@@ -94,9 +235,25 @@ impl<T> Stride<T> {
     /// [`TreeError::Memory`] if a target is stored at `code`, its removal must allocate, and the allocation fails.
     /// The stride is then unchanged.
     pub fn remove(&mut self, code: u8) -> Result<Option<T>, TreeError>
+    where
+        T: Drop,
         ensures { Removes (code ∷ []) self.old self.new result }
     {
-        self.targets.remove_k(&key_of(code))
+        match mem::replace(&mut self.targets, Targets::Empty) {
+            Targets::Empty => Ok(None),
+            Targets::One(stored, target) => {
+                if stored == code {
+                    return Ok(Some(target));
+                }
+                self.targets = Targets::One(stored, target);
+                Ok(None)
+            }
+            Targets::Many(mut tree) => {
+                let removed = tree.remove_k(&key_of(code));
+                self.targets = Targets::Many(tree);
+                removed
+            }
+        }
     }
 
     /// Returns the only target, which must be stored at `code`.
@@ -120,6 +277,14 @@ impl<T> Stride<T> {
         requires { most < 8 }
         ensures { IsLongestIn self.now byte most (option_map (λ p. (p.0, p.1.now)) result) }
     {
+        if let Targets::One(stored, target) = &self.targets {
+            let bits = usize::from(code_len(*stored));
+            return if bits <= most && code_of(byte, bits) == *stored {
+                Some((bits, target))
+            } else {
+                None
+            };
+        }
         let mut bits = most;
         while bits > 0 {
             if let Some(target) = self.get(code_of(byte, bits)) {

@@ -199,14 +199,15 @@ fn put_target<K: KeyTrait, T: Drop>(
 {
     strides.canonical();
     match strides.get_k(key) {
-        Some(_) => put_in(strides, key, code, target),
-        None => put_new(strides, alloc, key, code, target),
+        Some(_) => put_in(strides, alloc, key, code, target),
+        None => put_new(strides, key, code, target),
     }
 }
 
 // Inserts a target into a stored stride.
-fn put_in<K: KeyTrait, T>(
+fn put_in<K: KeyTrait, T: Drop>(
     strides: &mut AdaptiveRadixTree<K, Stride<T>>,
+    alloc: Global,
     key: &K,
     code: u8,
     target: T,
@@ -216,15 +217,14 @@ fn put_in<K: KeyTrait, T>(
         result }
 {
     match strides.get_mut_k(key) {
-        Some(stride) => stride.insert(code, target),
+        Some(stride) => stride.insert(alloc, code, target),
         None => unreachable!(),
     }
 }
 
-// Inserts a stride with one target. The stride is complete before its insertion, so a failure changes nothing.
+// Inserts a stride of one target.
 fn put_new<K: KeyTrait, T: Drop>(
     strides: &mut AdaptiveRadixTree<K, Stride<T>>,
-    alloc: Global,
     key: &K,
     code: u8,
     target: T,
@@ -233,12 +233,7 @@ fn put_new<K: KeyTrait, T: Drop>(
     ensures { PutsTarget (K.bytes key.now) (code ∷ []) target strides.old.pairs strides.new.pairs
         result }
 {
-    let mut stride = Stride::new(alloc);
-    match stride.insert(code, target) {
-        Ok(_) => {}
-        Err(_) => unreachable!(),
-    }
-    match strides.insert_k(key, stride) {
+    match strides.insert_k(key, Stride::new(code, target)) {
         Ok(_) => Ok(None),
         Err(refused) => match refused.value.into_only(code) {
             Some(target) => Err(Refused {
@@ -291,7 +286,7 @@ fn take_stride<K: KeyTrait, T: Drop>(
 }
 
 // Removes a target from a stride that has others.
-fn take_from<K: KeyTrait, T>(
+fn take_from<K: KeyTrait, T: Drop>(
     strides: &mut AdaptiveRadixTree<K, Stride<T>>,
     key: &K,
     code: u8,

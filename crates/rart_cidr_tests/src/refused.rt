@@ -107,7 +107,7 @@ fn removals_refused(alloc: Global, at: usize) -> Option<bool> {
 // How many routes the walk gives, or its refusal.
 fn count_within(table: &Table) -> Result<usize, TreeError> {
     let mut count = 0_usize;
-    for _ in table.within(net([10, 0, 0, 0], 8))? {
+    for _ in table.within(&net([10, 0, 0, 0], 8))? {
         count = count.wrapping_add(1);
     }
     Ok(count)

@@ -106,7 +106,7 @@ impl Table for CidrTable4<u64> {
     fn walk(&self, routes: &[Route], group: Group) -> Seen {
         match group {
             Group::Around(addr) => seen_around4(self, routes, addr),
-            Group::Inside(net) => match self.within(net4(net)) {
+            Group::Inside(net) => match self.within(&net4(net)) {
                 Ok(walk) => seen_inside4(walk, routes, net),
                 Err(_) => Seen::new(),
             },
@@ -166,7 +166,7 @@ impl Table for CidrTable6<u64> {
     fn walk(&self, routes: &[Route], group: Group) -> Seen {
         match group {
             Group::Around(addr) => seen_around6(self, routes, addr),
-            Group::Inside(net) => match self.within(net6(net)) {
+            Group::Inside(net) => match self.within(&net6(net)) {
                 Ok(walk) => seen_inside6(walk, routes, net),
                 Err(_) => Seen::new(),
             },

@@ -93,7 +93,7 @@ fn is_all(table: &CidrTable6<u8>, rows: &[Network]) -> bool {
 }
 
 fn is_inside(table: &CidrTable6<u8>, net: Network, rows: &[Network]) -> bool {
-    match table.within(network(&net)) {
+    match table.within(&network(&net)) {
         Ok(walk) => gives(walk, rows),
         Err(_) => false,
     }

@@ -114,11 +114,11 @@ impl Tables {
         ensures memory { IfErr result (MayLackMemoryAt net.now self.now) }
     {
         match net {
-            Net::V4(net) => match self.v4.within(*net) {
+            Net::V4(net) => match self.v4.within(net) {
                 Ok(routes) => Ok(Found::Routes4(routes)),
                 Err(error) => Err(error),
             },
-            Net::V6(net) => match self.v6.within(*net) {
+            Net::V6(net) => match self.v6.within(net) {
                 Ok(routes) => Ok(Found::Routes6(routes)),
                 Err(error) => Err(error),
             },

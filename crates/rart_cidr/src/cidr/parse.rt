@@ -34,6 +34,8 @@ impl fmt::Display for ParseCidrError {
     }
 }
 
+impl std::error::Error for ParseCidrError {}
+
 // Returns the text before the first slash and after it; the whole text and `None` without a slash.
 fn split_text(text: &[u8]) -> (&[u8], Option<&[u8]>)
     ensures address { result.0.now ≡ address_part text.now }

@@ -51,7 +51,7 @@ impl<'a, T> Model for Routes4<'a, T> {
 // The octets of a key, the byte of a code, and zeros.
 fn octets_of(key: &ArrayKey<4>, code: u8) -> [u8; 4]
     requires code { IsCode (code ∷ []) }
-    requires width { length (coded_network (array_key_bytes key.now) (code ∷ [])) ≤ 32 }
+    requires fits { length (coded_network (array_key_bytes key.now) (code ∷ [])) ≤ 32 }
     ensures value { take (8 * length (array_key_bytes key.now) + length (code_bits code))
         (bits_of result) ≡ coded_network (array_key_bytes key.now) (code ∷ []) }
     ensures bytes { AreBytes result }
@@ -71,7 +71,7 @@ fn octets_of(key: &ArrayKey<4>, code: u8) -> [u8; 4]
 // The network of the bytes of a key and a code.
 fn network_of(key: &ArrayKey<4>, code: u8) -> Cidr4
     requires code { IsCode (code ∷ []) }
-    requires width { length (coded_network (array_key_bytes key.now) (code ∷ [])) ≤ 32 }
+    requires fits { length (coded_network (array_key_bytes key.now) (code ∷ [])) ≤ 32 }
     ensures { bits4 result ≡ coded_network (array_key_bytes key.now) (code ∷ []) }
 {
     let bits = 8 * (key.as_slice().len() as u8) + code_len(code);
@@ -115,7 +115,7 @@ impl<T> CidrTable4<T> {
         ensures routes { IfOk result (λ it. it ≡ self.now) }
         ensures memory { IfErr result (MayLackMemory self.now) }
     {
-        self.within(Cidr4::masked(Ipv4Addr::UNSPECIFIED, 0))
+        self.within(&Cidr4::masked(Ipv4Addr::UNSPECIFIED, 0))
     }
 
     /// Returns an iterator over the routes inside `net`, ascending by address, then by length.
@@ -125,15 +125,15 @@ impl<T> CidrTable4<T> {
     /// # Errors
     ///
     /// [`TreeError::Memory`] if the table isn't empty and the allocation fails.
-    pub fn within(&self, net: Cidr4) -> Result<Routes4<'_, T>, TreeError>
-        ensures routes { IfOk result (λ it. it ≡ below (bits4 net) self.now) }
+    pub fn within(&self, net: &Cidr4) -> Result<Routes4<'_, T>, TreeError>
+        ensures routes { IfOk result (λ it. it ≡ below (bits4 net.now) self.now) }
         ensures memory { IfErr result (MayLackMemory self.now) }
     {
         self.ascends();
         let walk = self.routes.walk_from(net.octets(), usize::from(net.len()))?;
         Ok(Routes4 {
             rest: Rest::Active(walk),
-            net,
+            net: *net,
         })
     }
 }

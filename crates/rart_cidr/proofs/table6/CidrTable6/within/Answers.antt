@@ -13,9 +13,9 @@ invariant_of-result g c = let q = network c.octets.result.now c.from.result in
 
 pub returns-clause-routes : goal.returns-clause-routes
 returns-clause-routes g c =
-    let n : network c.octets.result.now c.from.result ≡ bits6 c.args.net
+    let n : network c.octets.result.now c.from.result ≡ bits6 c.args.net.now
     = ap (network c.octets.result.now) (c.from.ensures ∙ c.len.ensures.value) ∙ c.octets.ensures.value in
-    ap (up_to_outside (bits6 c.args.net)) (c.in_ok-walk.ensures.routes
+    ap (up_to_outside (bits6 c.args.net.now)) (c.in_ok-walk.ensures.routes
     ∙ ap (pairs_from true (network c.octets.result.now c.from.result)) c.self.view_is
     ∙ ap (λ z. pairs_from true z c.args.self.now) n)
-    ∙ up_to_outside_is (bits6 c.args.net) c.args.self.now c.ascends.ensures
+    ∙ up_to_outside_is (bits6 c.args.net.now) c.args.self.now c.ascends.ensures
