@@ -26,7 +26,7 @@ pub struct Cidr4 {
 // The octets of `addr` with all but their first `len` bits cleared.
 fn cleared_octets(addr: Ipv4Addr, len: u8) -> [u8; 4]
     ensures value { result ≡ masked_octets (ipv4_octets addr) len }
-    ensures length { length (ipv4_octets addr) ≡ 4 }
+    ensures width { length (ipv4_octets addr) ≡ 4 }
     ensures bytes { AreBytes (ipv4_octets addr) }
 {
     let mut octets = addr.octets();
@@ -67,7 +67,7 @@ impl Cidr4 {
     pub fn masked(addr: Ipv4Addr, len: u8) -> Cidr4
         requires { len ≤ 32 }
         ensures value { bits4 result ≡ take len (bits_of (ipv4_octets addr)) }
-        ensures length { length (bits_of (ipv4_octets addr)) ≡ 32 }
+        ensures width { length (bits_of (ipv4_octets addr)) ≡ 32 }
     {
         let octets = cleared_octets(addr, len);
         Cidr4 { octets, len }
@@ -99,7 +99,7 @@ impl Cidr4 {
     // The octets of the first address, as the table over octets takes them: its bits begin with the network's.
     pub(crate) fn octets(&self) -> &[u8]
         ensures value { network result.now (length (bits4 self.now)) ≡ bits4 self.now }
-        ensures length { length result.now ≡ 4 }
+        ensures width { length result.now ≡ 4 }
         ensures clear { AreClearAfter (bits_of result.now) (length (bits4 self.now)) }
     {
         &self.octets

@@ -26,7 +26,7 @@ pub struct Cidr6 {
 // The octets of `addr` with all but their first `len` bits cleared.
 fn cleared_octets(addr: Ipv6Addr, len: u8) -> [u8; 16]
     ensures value { result ≡ masked_octets (ipv6_octets addr) len }
-    ensures length { length (ipv6_octets addr) ≡ 16 }
+    ensures width { length (ipv6_octets addr) ≡ 16 }
     ensures bytes { AreBytes (ipv6_octets addr) }
 {
     let mut octets = addr.octets();
@@ -67,7 +67,7 @@ impl Cidr6 {
     pub fn masked(addr: Ipv6Addr, len: u8) -> Cidr6
         requires { len ≤ 128 }
         ensures value { bits6 result ≡ take len (bits_of (ipv6_octets addr)) }
-        ensures length { length (bits_of (ipv6_octets addr)) ≡ 128 }
+        ensures width { length (bits_of (ipv6_octets addr)) ≡ 128 }
     {
         let octets = cleared_octets(addr, len);
         Cidr6 { octets, len }
@@ -99,7 +99,7 @@ impl Cidr6 {
     // The octets of the first address, as the table over octets takes them: its bits begin with the network's.
     pub(crate) fn octets(&self) -> &[u8]
         ensures value { network result.now (length (bits6 self.now)) ≡ bits6 self.now }
-        ensures length { length result.now ≡ 16 }
+        ensures width { length result.now ≡ 16 }
         ensures clear { AreClearAfter (bits_of result.now) (length (bits6 self.now)) }
     {
         &self.octets

@@ -51,7 +51,7 @@ impl<'a, T> Model for Routes6<'a, T> {
 // The octets of a key, the byte of a code, and zeros.
 fn octets_of(key: &ArrayKey<16>, code: u8) -> [u8; 16]
     requires code { IsCode (code ∷ []) }
-    requires fits { length (coded_network (array_key_bytes key.now) (code ∷ [])) ≤ 128 }
+    requires width { length (coded_network (array_key_bytes key.now) (code ∷ [])) ≤ 128 }
     ensures value { take (8 * length (array_key_bytes key.now) + length (code_bits code))
         (bits_of result) ≡ coded_network (array_key_bytes key.now) (code ∷ []) }
     ensures bytes { AreBytes result }
@@ -71,7 +71,7 @@ fn octets_of(key: &ArrayKey<16>, code: u8) -> [u8; 16]
 // The network of the bytes of a key and a code.
 fn network_of(key: &ArrayKey<16>, code: u8) -> Cidr6
     requires code { IsCode (code ∷ []) }
-    requires fits { length (coded_network (array_key_bytes key.now) (code ∷ [])) ≤ 128 }
+    requires width { length (coded_network (array_key_bytes key.now) (code ∷ [])) ≤ 128 }
     ensures { bits6 result ≡ coded_network (array_key_bytes key.now) (code ∷ []) }
 {
     let bits = 8 * (key.as_slice().len() as u8) + code_len(code);

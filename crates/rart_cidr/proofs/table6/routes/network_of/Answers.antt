@@ -24,4 +24,4 @@ masked-requires c =
     let bits = length-bits o in
     let sum = length-append (bits_of o) (code_bits c.args.code) in
     let same = ap length c.as_slice.ensures.value in
-    omega (arith, c.requires.fits, bits, sum, same, c.code_len.ensures)
+    omega (arith, c.requires.width, bits, sum, same, c.code_len.ensures)

@@ -18,4 +18,4 @@ returns-clause-value c =
     let o = array_key_bytes c.args.key.now in
     let same = ap length c.as_slice-at.ensures.value in
     full_octets o _ c.args.code _ 16
-    (omega (arith, c.if-at-lt16.false, same, c.as_slice-at.ensures.within)) c.as_array.ensures c.requires.fits refl
+    (omega (arith, c.if-at-lt16.false, same, c.as_slice-at.ensures.within)) c.as_array.ensures c.requires.width refl

@@ -9,7 +9,7 @@ use Rattle.rart_cidr.proofs.cidr.v4.Cidr4.new.Goals as goal
 pub returns-then-len-gt32 : goal.returns-then-len-gt32
 returns-then-len-gt32 c = omega (
   arith,
-  c.cleared_octets-octets.ensures.length,
+  c.cleared_octets-octets.ensures.width,
   length-bits (ipv4_octets c.args.addr),
   c.if-len-gt32.true,
 )

@@ -7,4 +7,4 @@ use Rattle.rart_cidr.proofs.cidr.v6.Cidr6.host.Goals as goal
 pub returns : goal.returns
 returns c =
     let all = bits_of (ipv6_octets c.args.addr) in
-    c.masked.ensures.value ∙ ap (λ n. take n all) (sym c.masked.ensures.length) ∙ take-length all
+    c.masked.ensures.value ∙ ap (λ n. take n all) (sym c.masked.ensures.width) ∙ take-length all

@@ -21,5 +21,5 @@ returns-clause-value c =
     let e = c.cleared_octets-octets.ensures in
     ap (λ z. network z c.args.len) e.value ∙ masked_octets-first (ipv6_octets c.args.addr) c.args.len e.bytes
 
-pub returns-clause-length : goal.returns-clause-length
-returns-clause-length c = omega (arith, length-bits (ipv6_octets c.args.addr), c.cleared_octets-octets.ensures.length)
+pub returns-clause-width : goal.returns-clause-width
+returns-clause-width c = omega (arith, length-bits (ipv6_octets c.args.addr), c.cleared_octets-octets.ensures.width)

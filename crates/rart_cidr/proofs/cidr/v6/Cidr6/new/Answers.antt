@@ -9,7 +9,7 @@ use Rattle.rart_cidr.proofs.cidr.v6.Cidr6.new.Goals as goal
 pub returns-then-len-gt128 : goal.returns-then-len-gt128
 returns-then-len-gt128 c = omega (
   arith,
-  c.cleared_octets-octets.ensures.length,
+  c.cleared_octets-octets.ensures.width,
   length-bits (ipv6_octets c.args.addr),
   c.if-len-gt128.true,
 )
