@@ -102,3 +102,42 @@ loop-self-preserved-in-None g c =
       low = λ h w. low-leave h _ _ _ c.take_last.result c.in-None.ensures.shown c.take_last.ensures.items
           (c.loop-self.invariant.low h w);
     }
+
+pub returns-in-Some-value-clause-reserved : goal.returns-in-Some-value-clause-reserved
+returns-in-Some-value-clause-reserved g c = omega (arith, c.loop-self.invariant.reserved, c.extend_path.ensures.path_capacity)
+
+pub returns-in-Some-value-clause-requested : goal.returns-in-Some-value-clause-requested
+returns-in-Some-value-clause-requested g c = c.extend_path.ensures.requested ∙ c.loop-self.invariant.requested
+
+pub returns-in-Some-value-clause-longest : goal.returns-in-Some-value-clause-longest
+returns-in-Some-value-clause-longest g c = c.loop-self.invariant.longest
+
+pub returns-clause-path : goal.returns-clause-path
+returns-clause-path g c = c.loop-self.invariant.path
+
+pub returns-clause-reserved : goal.returns-clause-reserved
+returns-clause-reserved g c = c.loop-self.invariant.reserved
+
+pub returns-clause-requested : goal.returns-clause-requested
+returns-clause-requested g c = c.loop-self.invariant.requested
+
+pub returns-clause-longest : goal.returns-clause-longest
+returns-clause-longest g c = c.loop-self.invariant.longest
+
+pub returns-in-Some-clause-path : goal.returns-in-Some-clause-path
+returns-in-Some-clause-path g c = c.requires.path
+
+pub returns-in-Some-clause-reserved : goal.returns-in-Some-clause-reserved
+returns-in-Some-clause-reserved g c = c.requires.reserved
+
+pub returns-in-Some-clause-requested : goal.returns-in-Some-clause-requested
+returns-in-Some-clause-requested g c = refl
+
+pub returns-in-Some-clause-longest : goal.returns-in-Some-clause-longest
+returns-in-Some-clause-longest g c = refl
+
+pub returns-in-Some-clause-visits : goal.returns-in-Some-clause-visits
+returns-in-Some-clause-visits g c = refl
+
+pub returns-in-Some-clause-few : goal.returns-in-Some-clause-few
+returns-in-Some-clause-few g c = λ bytes. omega arith

@@ -13,7 +13,7 @@ use Rattle.rart_nodes.proofs.ranges.StartLemmas.{ahead-ended, ahead-higher, ahea
 use Rattle.rart_nodes.proofs.ranges.StartLemmas.{value_if}
 use Rattle.rart_nodes.proofs.ranges.StartPaths.{all-deepened, some-deepened, path-on}
 use Rattle.rart_nodes.proofs.tries.CanonicalTests.{IsCanonical-test}
-use Rattle.rart_nodes.proofs.walks.SeenLemmas.{next-falls, step-left, step-on}
+use Rattle.rart_nodes.proofs.walks.SeenLemmas.{next-falls, step-ended, step-left, step-on}
 use Rattle.rart_nodes.proofs.walks.WalkLemmas.{longest-below, prefix-short}
 use Rattle.rart_nodes.proofs.walks.WalkStarts.{no-walk}
 use Rattle.rart_nodes.proofs.node.walk.Walk.descend.Given.{Over}
@@ -238,3 +238,99 @@ loop-next-preserved g c =
           (rw (c.in-Some.is, ← c.enter-at.ensures.shown) at c.loop-next.invariant.height)
           c.deepen-in-Some.ensures.levels c.child-next.ensures;
     }
+
+pub returns-in-Greater-clause-reserved : goal.returns-in-Greater-clause-reserved
+returns-in-Greater-clause-reserved g c = omega (arith, c.loop-next.invariant.reserved, c.deepen.ensures.path_capacity)
+
+pub returns-in-Greater-clause-requested : goal.returns-in-Greater-clause-requested
+returns-in-Greater-clause-requested g c = c.deepen.ensures.requested ∙ c.loop-next.invariant.requested
+
+pub returns-in-Greater-clause-longest : goal.returns-in-Greater-clause-longest
+returns-in-Greater-clause-longest g c = c.loop-next.invariant.longest
+
+pub returns-in-Greater-clause-places : goal.returns-in-Greater-clause-places
+returns-in-Greater-clause-places g c = c.deepen.ensures.level_capacity ∙ c.loop-next.invariant.level_capacity
+
+pub returns-in-Greater-clause-visits : goal.returns-in-Greater-clause-visits
+returns-in-Greater-clause-visits g c =
+    let t = c.enter-at.result.node.now in
+    let e : None ≡ strip_prefix (prefix_of t) c.loop-next.rest.now
+    = rw c.prefix.ensures at c.in_default-strip_prefix.ensures in
+    omega (
+      arith,
+      (step-left t c.loop-next.rest.now e).1,
+      c.enter-at.ensures.counted,
+      rw (c.in-Some.is, ← c.enter-at.ensures.shown) at c.loop-next.invariant.visits,
+    )
+
+pub returns-then-included-clause-reserved : goal.returns-then-included-clause-reserved
+returns-then-included-clause-reserved g c =
+    omega (arith, c.loop-next.invariant.reserved, c.deepen-in_default-first.ensures.path_capacity)
+
+pub returns-then-included-clause-requested : goal.returns-then-included-clause-requested
+returns-then-included-clause-requested g c =
+    c.deepen-in_default-first.ensures.requested ∙ c.loop-next.invariant.requested
+
+pub returns-then-included-clause-longest : goal.returns-then-included-clause-longest
+returns-then-included-clause-longest g c = c.loop-next.invariant.longest
+
+pub returns-then-included-clause-places : goal.returns-then-included-clause-places
+returns-then-included-clause-places g c =
+    c.deepen-in_default-first.ensures.level_capacity ∙ c.loop-next.invariant.level_capacity
+
+pub returns-then-included-clause-visits : goal.returns-then-included-clause-visits
+returns-then-included-clause-visits g c =
+    let t = c.enter-at.result.node.now in
+    let e : Some c.in-Some-strip_prefix.after.now ≡ strip_prefix (prefix_of t) c.loop-next.rest.now
+    = rw c.prefix.ensures at c.in-Some-strip_prefix.ensures in
+    omega (
+      arith,
+      (step-ended t c.loop-next.rest.now c.in-Some-strip_prefix.after.now e c.in_default-first.ensures.value).1,
+      c.enter-at.ensures.counted,
+      rw (c.in-Some.is, ← c.enter-at.ensures.shown) at c.loop-next.invariant.visits,
+    )
+
+pub returns-else-included-clause-reserved : goal.returns-else-included-clause-reserved
+returns-else-included-clause-reserved g c =
+    omega (arith, c.loop-next.invariant.reserved, c.deepen-in_default-first.ensures.path_capacity)
+
+pub returns-else-included-clause-requested : goal.returns-else-included-clause-requested
+returns-else-included-clause-requested g c =
+    c.deepen-in_default-first.ensures.requested ∙ c.loop-next.invariant.requested
+
+pub returns-else-included-clause-longest : goal.returns-else-included-clause-longest
+returns-else-included-clause-longest g c = c.loop-next.invariant.longest
+
+pub returns-else-included-clause-places : goal.returns-else-included-clause-places
+returns-else-included-clause-places g c =
+    c.deepen-in_default-first.ensures.level_capacity ∙ c.loop-next.invariant.level_capacity
+
+pub returns-else-included-clause-visits : goal.returns-else-included-clause-visits
+returns-else-included-clause-visits g c =
+    let t = c.enter-at.result.node.now in
+    let e : Some c.in-Some-strip_prefix.after.now ≡ strip_prefix (prefix_of t) c.loop-next.rest.now
+    = rw c.prefix.ensures at c.in-Some-strip_prefix.ensures in
+    omega (
+      arith,
+      (step-ended t c.loop-next.rest.now c.in-Some-strip_prefix.after.now e c.in_default-first.ensures.value).1,
+      c.enter-at.ensures.counted,
+      rw (c.in-Some.is, ← c.enter-at.ensures.shown) at c.loop-next.invariant.visits,
+    )
+
+pub returns-clause-path : goal.returns-clause-path
+returns-clause-path g c = c.loop-next.invariant.path
+
+pub returns-clause-reserved : goal.returns-clause-reserved
+returns-clause-reserved g c = c.loop-next.invariant.reserved
+
+pub returns-clause-requested : goal.returns-clause-requested
+returns-clause-requested g c = c.loop-next.invariant.requested
+
+pub returns-clause-longest : goal.returns-clause-longest
+returns-clause-longest g c = c.loop-next.invariant.longest
+
+pub returns-clause-low : goal.returns-clause-low
+returns-clause-low g c = c.loop-next.invariant.low
+
+pub returns-clause-places : goal.returns-clause-places
+returns-clause-places g c = c.loop-next.invariant.level_capacity

@@ -12,7 +12,7 @@ use Rattle.rart_nodes.proofs.ranges.UntilLemmas.{remaining-ended, remaining-high
 use Rattle.rart_nodes.proofs.ranges.UntilLemmas.{remaining-start, higher-apart}
 use Rattle.rart_nodes.proofs.ranges.UntilPaths.{all-deepened, some-deepened, back-path-on}
 use Rattle.rart_nodes.proofs.tries.CanonicalTests.{IsCanonical-test}
-use Rattle.rart_nodes.proofs.walks.SeenLemmas.{child-falls, step-left, step-on}
+use Rattle.rart_nodes.proofs.walks.SeenLemmas.{child-falls, step-ended, step-left, step-on}
 use Rattle.rart_nodes.proofs.walks.WalkLemmas.{longest-below, prefix-short}
 use Rattle.rart_nodes.proofs.node.walk.back.BackWalk.descend.Goals as goal
 
@@ -195,3 +195,69 @@ loop-next-preserved g c =
       longest = c.loop-next.invariant.longest;
       level_capacity = c.deepen_before-in-Some.ensures.level_capacity ∙ c.loop-next.invariant.level_capacity;
     }
+
+pub returns-in-Less-clause-reserved : goal.returns-in-Less-clause-reserved
+returns-in-Less-clause-reserved g c = omega (arith, c.loop-next.invariant.reserved, c.deepen_before.ensures.path_capacity)
+
+pub returns-in-Less-clause-requested : goal.returns-in-Less-clause-requested
+returns-in-Less-clause-requested g c = c.deepen_before.ensures.requested ∙ c.loop-next.invariant.requested
+
+pub returns-in-Less-clause-longest : goal.returns-in-Less-clause-longest
+returns-in-Less-clause-longest g c = c.loop-next.invariant.longest
+
+pub returns-in-Less-clause-places : goal.returns-in-Less-clause-places
+returns-in-Less-clause-places g c = c.deepen_before.ensures.level_capacity ∙ c.loop-next.invariant.level_capacity
+
+pub returns-in-Less-clause-visits : goal.returns-in-Less-clause-visits
+returns-in-Less-clause-visits g c =
+    let t = c.enter-at.result.node.now in
+    let e : None ≡ strip_prefix (prefix_of t) c.loop-next.rest.now
+    = rw c.prefix.ensures at c.in_default-strip_prefix.ensures in
+    omega (
+      arith,
+      (step-left t c.loop-next.rest.now e).1,
+      c.enter-at.ensures.counted,
+      rw (c.in-Some.is, ← c.enter-at.ensures.shown) at c.loop-next.invariant.visits,
+    )
+
+pub returns-in_default-first-clause-reserved : goal.returns-in_default-first-clause-reserved
+returns-in_default-first-clause-reserved g c =
+    omega (arith, c.loop-next.invariant.reserved, c.deepen_before-in_default-first.ensures.path_capacity)
+
+pub returns-in_default-first-clause-requested : goal.returns-in_default-first-clause-requested
+returns-in_default-first-clause-requested g c =
+    c.deepen_before-in_default-first.ensures.requested ∙ c.loop-next.invariant.requested
+
+pub returns-in_default-first-clause-longest : goal.returns-in_default-first-clause-longest
+returns-in_default-first-clause-longest g c = c.loop-next.invariant.longest
+
+pub returns-in_default-first-clause-places : goal.returns-in_default-first-clause-places
+returns-in_default-first-clause-places g c =
+    c.deepen_before-in_default-first.ensures.level_capacity ∙ c.loop-next.invariant.level_capacity
+
+pub returns-in_default-first-clause-visits : goal.returns-in_default-first-clause-visits
+returns-in_default-first-clause-visits g c =
+    let t = c.enter-at.result.node.now in
+    let e : Some c.in-Some-strip_prefix.after.now ≡ strip_prefix (prefix_of t) c.loop-next.rest.now
+    = rw c.prefix.ensures at c.in-Some-strip_prefix.ensures in
+    omega (
+      arith,
+      (step-ended t c.loop-next.rest.now c.in-Some-strip_prefix.after.now e c.in_default-first.ensures.value).1,
+      c.enter-at.ensures.counted,
+      rw (c.in-Some.is, ← c.enter-at.ensures.shown) at c.loop-next.invariant.visits,
+    )
+
+pub returns-clause-path : goal.returns-clause-path
+returns-clause-path g c = c.loop-next.invariant.path
+
+pub returns-clause-reserved : goal.returns-clause-reserved
+returns-clause-reserved g c = c.loop-next.invariant.reserved
+
+pub returns-clause-requested : goal.returns-clause-requested
+returns-clause-requested g c = c.loop-next.invariant.requested
+
+pub returns-clause-longest : goal.returns-clause-longest
+returns-clause-longest g c = c.loop-next.invariant.longest
+
+pub returns-clause-places : goal.returns-clause-places
+returns-clause-places g c = c.loop-next.invariant.level_capacity
