@@ -4,8 +4,9 @@ use crate::copies::copies_are_right;
 use crate::edits::WRONG;
 use crate::model::{Model, Pair};
 use crate::numbers::{mix, sum_if};
+use crate::reads::{iter, iter_descending};
 use crate::shape::{shape_in, shape_of};
-use crate::sides::{Tree, key_of, mix_key};
+use crate::sides::{Tree, key_of};
 use rart::{BulkError, KeyTrait};
 use std::alloc::{AllocError, Global};
 use std::cmp::Ordering;
@@ -47,26 +48,6 @@ fn items<K: KeyTrait + Drop>(alloc: Global, list: &[Pair]) -> Result<Vec<(K, u64
     Ok(items)
 }
 
-/// The sum of all pairs of a tree.
-pub fn sum_in<K: KeyTrait + Drop>(tree: &Tree<K>) -> Option<u64> {
-    let mut sum = 1_u64;
-    let mut pairs = tree.iter().ok()?;
-    while let Some((key, value)) = pairs.next() {
-        sum = mix(mix_key(sum, &key), *value);
-    }
-    Some(sum)
-}
-
-// The sum of all pairs, the last first.
-fn sum_back<K: KeyTrait + Drop>(tree: &Tree<K>) -> Option<u64> {
-    let mut sum = 1_u64;
-    let mut pairs = tree.iter_descending().ok()?;
-    while let Some((key, value)) = pairs.next() {
-        sum = mix(mix_key(sum, &key), *value);
-    }
-    Some(sum)
-}
-
 // Whether the tree is the one that the list gives by insertions in turn; none if memory was refused.
 fn is_inserted<K: KeyTrait + Drop>(alloc: Global, tree: &Tree<K>, list: &[Pair]) -> Option<bool> {
     let items = items::<K>(alloc, list).ok()?;
@@ -79,7 +60,7 @@ fn is_inserted<K: KeyTrait + Drop>(alloc: Global, tree: &Tree<K>, list: &[Pair])
 // The sum of the tree of a list.
 fn sum_of<K: KeyTrait + Drop>(alloc: Global, tree: &Tree<K>, list: &[Pair]) -> Option<u64> {
     let is_right = is_inserted(alloc, tree, list)? && copies_are_right(tree, list)?;
-    let both = mix(sum_in(tree)?, sum_back(tree)?);
+    let both = mix(iter(tree, u64::MAX)?, iter_descending(tree, u64::MAX)?);
     Some(mix(mix(both, shape_in(tree)?), sum_if(is_right)))
 }
 
