@@ -106,14 +106,13 @@ fn is_brought_over(old: &Tree) -> bool {
     }
 }
 
-fn is_inserted(tree: &mut Tree, text: &str, value: u64) -> bool {
-    let key = Key::new_from_str_terminated(text);
-    matches!(tree.insert_k(&key, value), Ok(None))
+fn is_inserted(tree: &mut Tree, key: &Key, value: u64) -> bool {
+    matches!(tree.insert_k(key, value), Ok(None))
 }
 
 fn are_brought_over(old: &mut Tree) -> bool {
-    is_inserted(old, "cat", 1)
-        && is_inserted(old, "catalog", 2)
+    is_inserted(old, &Key::new_from_str_terminated("cat"), 1)
+        && is_inserted(old, &Key::new_from_str_terminated("catalog"), 2)
         && has_counts(old, &[2, 2, 1, 2], &[(4, 1, 2)])
         && is_brought_over(old)
 }
