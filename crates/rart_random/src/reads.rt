@@ -18,7 +18,8 @@ fn get<K: KeyTrait + Drop>(tree: &Tree<K>, key: &K) -> u64 {
     )
 }
 
-fn sum_of_pair<K: KeyTrait + Drop>(found: Option<(K, &u64)>) -> u64 {
+/// The sum of a pair that may be none.
+pub fn sum_of_pair<K: KeyTrait + Drop>(found: Option<(K, &u64)>) -> u64 {
     match found {
         Some((key, value)) => mix(mix_key(1, &key), *value),
         None => 5,
@@ -67,16 +68,16 @@ fn matches<K: KeyTrait + Drop>(tree: &Tree<K>, probe: &K, most: u64) -> u64 {
     sum_matches(&mut found, most)
 }
 
-// By a key and by bytes.
-fn match_for_each<K: KeyTrait>(tree: &Tree<K>, key: &K, probe: &Text) -> u64 {
-    let mut by_key = 1_u64;
-    tree.prefix_match_for_each_k(key, |found, value| by_key = mix_pair(by_key, found, *value));
-    let mut by_bytes = 1_u64;
-    tree.prefix_match_for_each_bytes(
-        probe.as_slice(),
-        |found, value| by_bytes = mix_pair(by_bytes, found, *value),
-    );
-    mix(by_key, by_bytes)
+fn match_for_each<K: KeyTrait>(tree: &Tree<K>, key: &K) -> u64 {
+    let mut sum = 1_u64;
+    tree.prefix_match_for_each_k(key, |found, value| sum = mix_pair(sum, found, *value));
+    sum
+}
+
+fn match_for_each_bytes<K: KeyTrait>(tree: &Tree<K>, probe: &[u8]) -> u64 {
+    let mut sum = 1_u64;
+    tree.prefix_match_for_each_bytes(probe, |found, value| sum = mix_pair(sum, found, *value));
+    sum
 }
 
 /// The call about one key or probe.
@@ -87,7 +88,10 @@ pub fn look<K: KeyTrait + Drop>(tree: &Tree<K>, key: &K, probe: &Text, call: &Ca
         11 => longest(tree, key, probe),
         12 => sum_of(tree.longest_prefix_value_bytes(probe.as_slice()).copied()),
         13 => matches(tree, key, most_of(call)),
-        14 => match_for_each(tree, key, probe),
+        14 => mix(
+            match_for_each(tree, key),
+            match_for_each_bytes(tree, probe.as_slice()),
+        ),
         _ => mix(mix(tree.len() as u64, sum_if(tree.is_empty())), ends(tree)),
     }
 }
