@@ -1,34 +1,57 @@
 //! What must hold of any tree: of its clone, and of the part below a prefix that is taken and put back.
 use crate::model::Pair;
 use crate::sides::{Tree, key_of};
-use rart::KeyTrait;
+use crate::text::Text;
+use rart::{Iter, KeyTrait};
+
+// Whether the copy equals the tree until its values change.
+fn is_apart<K: KeyTrait + Drop>(copy: &mut Tree<K>, tree: &Tree<K>) -> bool {
+    let was_equal = *copy == *tree;
+    copy.for_each_value_mut(|value| *value = value.wrapping_add(1));
+    was_equal && (*copy == *tree) == tree.is_empty()
+}
 
 // Whether a clone equals the tree until its values change; none if memory was refused.
 fn is_cloned<K: KeyTrait + Drop>(tree: &Tree<K>) -> Option<bool> {
-    let mut copy = tree.clone().ok()?;
-    let was_equal = copy == *tree;
-    copy.for_each_value_mut(|value| *value = value.wrapping_add(1));
-    Some(was_equal && (copy == *tree) == tree.is_empty())
+    match tree.clone() {
+        Ok(mut copy) => Some(is_apart(&mut copy, tree)),
+        Err(_refused) => None,
+    }
+}
+
+fn count<K: KeyTrait + Drop>(pairs: &mut Iter<'_, K, K::PartialType, u64>) -> usize {
+    let mut count = 0_usize;
+    while let Some(_pair) = pairs.next() {
+        count = count.wrapping_add(1);
+    }
+    count
 }
 
 // How many keys begin with the prefix.
 fn count_below<K: KeyTrait + Drop>(tree: &Tree<K>, prefix: &K) -> Option<usize> {
-    let mut count = 0_usize;
-    let mut pairs = tree.prefix_iter_k(prefix).ok()?;
-    while let Some(_pair) = pairs.next() {
-        count = count.wrapping_add(1);
+    match tree.prefix_iter_k(prefix) {
+        Ok(mut pairs) => Some(count(&mut pairs)),
+        Err(_refused) => None,
     }
-    Some(count)
 }
 
-fn put_back<K: KeyTrait + Drop>(tree: &mut Tree<K>, part: &Tree<K>) -> Option<()> {
-    let mut pairs = part.iter().ok()?;
+fn insert_all<K: KeyTrait + Drop>(
+    tree: &mut Tree<K>,
+    pairs: &mut Iter<'_, K, K::PartialType, u64>,
+) -> Option<()> {
     while let Some((key, value)) = pairs.next() {
         if tree.insert_k(&key, *value).is_err() {
             return None;
         }
     }
     Some(())
+}
+
+fn put_back<K: KeyTrait + Drop>(tree: &mut Tree<K>, part: &Tree<K>) -> Option<()> {
+    match part.iter() {
+        Ok(mut pairs) => insert_all(tree, &mut pairs),
+        Err(_refused) => None,
+    }
 }
 
 // Whether all pairs below the prefix are in the part, which together with the rest is the whole.
@@ -44,11 +67,25 @@ fn are_parts<K: KeyTrait + Drop>(
     Some(is_apart && is_whole && rest.remove_prefix_k(prefix).ok()? == part.len())
 }
 
+fn is_taken<K: KeyTrait + Drop>(rest: &mut Tree<K>, whole: &Tree<K>, prefix: &K) -> Option<bool> {
+    match rest.take_prefix_k(prefix) {
+        Ok(part) => are_parts(rest, &part, whole, prefix),
+        Err(_refused) => None,
+    }
+}
+
 // Whether the pairs below the prefix are taken from a clone; none if memory was refused.
 fn is_parted<K: KeyTrait + Drop>(tree: &Tree<K>, prefix: &K) -> Option<bool> {
-    let mut rest = tree.clone().ok()?;
-    let part = rest.take_prefix_k(prefix).ok()?;
-    are_parts(&mut rest, &part, tree, prefix)
+    match tree.clone() {
+        Ok(mut rest) => is_taken(&mut rest, tree, prefix),
+        Err(_refused) => None,
+    }
+}
+
+// The same of the first half of the key.
+fn is_parted_at<K: KeyTrait + Drop>(tree: &Tree<K>, text: &Text) -> Option<bool> {
+    let key = key_of::<K>(text)?;
+    is_parted(tree, &key.truncate(key.as_ref().len() / 2))
 }
 
 /// Whether clones of the tree and of its parts are right; none if memory was refused. The prefix is a half of the key
@@ -56,11 +93,7 @@ fn is_parted<K: KeyTrait + Drop>(tree: &Tree<K>, prefix: &K) -> Option<bool> {
 pub fn copies_are_right<K: KeyTrait + Drop>(tree: &Tree<K>, list: &[Pair]) -> Option<bool> {
     let is_right = is_cloned(tree)?;
     match list.get(list.len() / 2) {
-        Some(pair) => {
-            let key = key_of::<K>(&pair.0)?;
-            let half = key.as_ref().len() / 2;
-            Some(is_right && is_parted(tree, &key.truncate(half))?)
-        }
+        Some(pair) => Some(is_right && is_parted_at(tree, &pair.0)?),
         None => Some(is_right),
     }
 }

@@ -101,15 +101,28 @@ fn sum_of_part<K: KeyTrait + Drop>(part: &Tree<K>) -> u64 {
     mix(part.len() as u64, ends(part))
 }
 
+fn take_prefix<K: KeyTrait + Drop>(tree: &mut Tree<K>, prefix: &K) -> Option<u64> {
+    match tree.take_prefix_k(prefix) {
+        Ok(part) => Some(sum_of_part(&part)),
+        Err(_refused) => None,
+    }
+}
+
+fn remove_prefix<K: KeyTrait + Drop>(tree: &mut Tree<K>, prefix: &K) -> Option<u64> {
+    match tree.remove_prefix_k(prefix) {
+        Ok(count) => Some(count as u64),
+        Err(_refused) => None,
+    }
+}
+
 // Takes or drops all pairs below the first half of the key.
 fn remove_below<K: KeyTrait + Drop>(tree: &mut Tree<K>, key: &K, call: &Call) -> Option<u64> {
     let prefix = key.truncate(key.as_ref().len() / 2);
     if takes_below(call) {
-        let part = tree.take_prefix_k(&prefix).ok()?;
-        return Some(sum_of_part(&part));
+        take_prefix(tree, &prefix)
+    } else {
+        remove_prefix(tree, &prefix)
     }
-    let count = tree.remove_prefix_k(&prefix).ok()?;
-    Some(count as u64)
 }
 
 /// Whether a removal is one of all pairs below the first half of the key.

@@ -1,9 +1,9 @@
 //! Trees made from nothing by insertions of one kind, so that each of them stores the first and the longest key.
 use crate::call::Call;
 use crate::edits::edit;
-use crate::loads::sum_in;
 use crate::model::{Model, Pair};
 use crate::numbers::mix;
+use crate::reads::iter;
 use crate::shape::{shape_in, shape_of};
 use crate::sides::{Tree, key_of};
 use crate::text::Text;
@@ -49,18 +49,36 @@ fn pair_at(list: &[Pair], place: usize, call: &Call) -> Option<Pair> {
     list.get(at).copied()
 }
 
-/// The sum of the answers, pairs, views and statistics; none if memory was refused.
-pub fn grow<K: KeyTrait + Drop>(alloc: Global, list: &[Pair], call: &Call) -> Option<u64> {
-    let mut tree = Tree::<K>::new(alloc);
+fn insert<K: KeyTrait + Drop>(tree: &mut Tree<K>, pair: &Pair, call: &Call) -> Option<u64> {
+    let key = key_of::<K>(&pair.0)?;
+    edit(tree, &key, &insertion(pair, call))
+}
+
+// The sum of the answers.
+fn insert_all<K: KeyTrait + Drop>(tree: &mut Tree<K>, list: &[Pair], call: &Call) -> Option<u64> {
     let mut sum = 1_u64;
     for place in 0..list.len() {
         let pair = pair_at(list, place, call)?;
-        let key = key_of::<K>(&pair.0)?;
-        sum = mix(sum, edit(&mut tree, &key, &insertion(&pair, call))?);
+        sum = mix(sum, insert(tree, &pair, call)?);
     }
+    Some(sum)
+}
+
+fn views_in<K: KeyTrait + Drop>(tree: &Tree<K>, call: &Call) -> Option<u64> {
     let end = key_of::<K>(&Text::new())?;
-    let views = view(&tree, &end, &end, &all_views(call))?;
-    Some(mix(mix(sum, mix(sum_in(&tree)?, views)), shape_in(&tree)?))
+    view(tree, &end, &end, &all_views(call))
+}
+
+fn grow_in<K: KeyTrait + Drop>(tree: &mut Tree<K>, list: &[Pair], call: &Call) -> Option<u64> {
+    let sum = insert_all(tree, list, call)?;
+    let pairs = mix(iter(tree, u64::MAX)?, views_in(tree, call)?);
+    Some(mix(mix(sum, pairs), shape_in(tree)?))
+}
+
+/// The sum of the answers, pairs, views and statistics; none if memory was refused.
+pub fn grow<K: KeyTrait + Drop>(alloc: Global, list: &[Pair], call: &Call) -> Option<u64> {
+    let mut tree = Tree::<K>::new(alloc);
+    grow_in(&mut tree, list, call)
 }
 
 /// The sum that the model gives.

@@ -4,18 +4,17 @@ use crate::copies::copies_are_right;
 use crate::edits::WRONG;
 use crate::model::{Model, Pair};
 use crate::numbers::{mix, sum_if};
+use crate::reads::{iter, iter_descending};
 use crate::shape::{shape_in, shape_of};
-use crate::sides::{Tree, key_of, mix_key};
-use rart::{BulkError, KeyTrait};
+use crate::sides::{Tree, key_of};
+use rart::{BulkError, KeyTrait, Refused};
 use std::alloc::{AllocError, Global};
 use std::cmp::Ordering;
 
 /// The most pairs of a list.
 const MOST: u64 = 300;
 
-/// The list of the call: pairs of the model from some place on, some of them twice, or two of them exchanged.
-pub fn list_of(alloc: Global, model: &Model, call: &Call) -> Result<Vec<Pair>, AllocError> {
-    let mut list = Vec::new(alloc);
+fn push_pairs(list: &mut Vec<Pair>, model: &Model, call: &Call) -> Result<(), AllocError> {
     let from = (call.choice >> 16)
         .checked_rem(model.len() as u64)
         .unwrap_or(0) as usize;
@@ -34,6 +33,13 @@ pub fn list_of(alloc: Global, model: &Model, call: &Call) -> Result<Vec<Pair>, A
             }
         }
     }
+    Ok(())
+}
+
+/// The list of the call: pairs of the model from some place on, some of them twice, or two of them exchanged.
+pub fn list_of(alloc: Global, model: &Model, call: &Call) -> Result<Vec<Pair>, AllocError> {
+    let mut list = Vec::new(alloc);
+    push_pairs(&mut list, model, call)?;
     Ok(list)
 }
 
@@ -47,31 +53,20 @@ fn items<K: KeyTrait + Drop>(alloc: Global, list: &[Pair]) -> Result<Vec<(K, u64
     Ok(items)
 }
 
-/// The sum of all pairs of a tree.
-pub fn sum_in<K: KeyTrait + Drop>(tree: &Tree<K>) -> Option<u64> {
-    let mut sum = 1_u64;
-    let mut pairs = tree.iter().ok()?;
-    while let Some((key, value)) = pairs.next() {
-        sum = mix(mix_key(sum, &key), *value);
+fn equals<K: KeyTrait + Drop>(
+    tree: &Tree<K>,
+    made: Result<Tree<K>, Refused<(K, u64)>>,
+) -> Option<bool> {
+    match made {
+        Ok(other) => Some(other == *tree),
+        Err(_refused) => None,
     }
-    Some(sum)
-}
-
-// The sum of all pairs, the last first.
-fn sum_back<K: KeyTrait + Drop>(tree: &Tree<K>) -> Option<u64> {
-    let mut sum = 1_u64;
-    let mut pairs = tree.iter_descending().ok()?;
-    while let Some((key, value)) = pairs.next() {
-        sum = mix(mix_key(sum, &key), *value);
-    }
-    Some(sum)
 }
 
 // Whether the tree is the one that the list gives by insertions in turn; none if memory was refused.
 fn is_inserted<K: KeyTrait + Drop>(alloc: Global, tree: &Tree<K>, list: &[Pair]) -> Option<bool> {
-    let items = items::<K>(alloc, list).ok()?;
-    match Tree::<K>::from_pairs(alloc, items) {
-        Ok(other) => Some(other == *tree),
+    match items::<K>(alloc, list) {
+        Ok(items) => equals(tree, Tree::<K>::from_pairs(alloc, items)),
         Err(_refused) => None,
     }
 }
@@ -79,18 +74,28 @@ fn is_inserted<K: KeyTrait + Drop>(alloc: Global, tree: &Tree<K>, list: &[Pair])
 // The sum of the tree of a list.
 fn sum_of<K: KeyTrait + Drop>(alloc: Global, tree: &Tree<K>, list: &[Pair]) -> Option<u64> {
     let is_right = is_inserted(alloc, tree, list)? && copies_are_right(tree, list)?;
-    let both = mix(sum_in(tree)?, sum_back(tree)?);
+    let both = mix(iter(tree, u64::MAX)?, iter_descending(tree, u64::MAX)?);
     Some(mix(mix(both, shape_in(tree)?), sum_if(is_right)))
 }
 
-/// The sum of the tree of the list, or of its fault.
-pub fn load<K: KeyTrait + Drop>(alloc: Global, list: &[Pair]) -> Option<u64> {
-    let items = items::<K>(alloc, list).ok()?;
-    match Tree::<K>::bulk_load_sorted(alloc, items) {
+fn sum_of_load<K: KeyTrait + Drop>(
+    alloc: Global,
+    loaded: Result<Tree<K>, BulkError>,
+    list: &[Pair],
+) -> Option<u64> {
+    match loaded {
         Ok(tree) => sum_of(alloc, &tree, list),
         Err(BulkError::Unsorted { at }) => Some(mix(13, at as u64)),
         Err(BulkError::Memory) => None,
         Err(BulkError::Full) => Some(WRONG),
+    }
+}
+
+/// The sum of the tree of the list, or of its fault.
+pub fn load<K: KeyTrait + Drop>(alloc: Global, list: &[Pair]) -> Option<u64> {
+    match items::<K>(alloc, list) {
+        Ok(items) => sum_of_load(alloc, Tree::<K>::bulk_load_sorted(alloc, items), list),
+        Err(_refused) => None,
     }
 }
 

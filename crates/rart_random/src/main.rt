@@ -36,23 +36,35 @@ use std::io;
 use std::io::Read;
 use std::process::ExitCode;
 
+fn say_calls(rt: &(impl Print + Eprint), seed: u64, numbers: &[u64], most: u64) -> io::Result<()> {
+    for number in numbers {
+        let call = call_at(seed, *number, most);
+        let (kind, tree) = (call.kind, call.on_second);
+        let (value, choice) = (call.value, call.choice);
+        println!(rt; "  call {number}: kind {kind}, second {tree}, {value}, {choice}")?;
+    }
+    Ok(())
+}
+
 fn say_list<K: KeyTrait + Drop>(
     rt: &(impl Print + Eprint),
     alloc: Global,
     case: &Case,
     at: usize,
 ) -> io::Result<()> {
-    let Ok(list) = shortened::<K>(alloc, case, at) else {
-        return println!(rt; "  no memory to shorten the list");
-    };
     let most = K::MAXIMUM_SIZE.unwrap_or(32).min(32) as u64;
-    for number in list {
-        let call = call_at(case.seed, number, most);
-        let (kind, tree) = (call.kind, call.on_second);
-        let (value, choice) = (call.value, call.choice);
-        println!(rt; "  call {number}: kind {kind}, second {tree}, {value}, {choice}")?;
+    match shortened::<K>(alloc, case, at) {
+        Ok(list) => say_calls(rt, case.seed, list.as_slice(), most),
+        Err(_refused) => println!(rt; "  no memory to shorten the list"),
     }
-    Ok(())
+}
+
+// What came of the whole case; nothing where its list has no memory.
+fn played<K: KeyTrait + Drop>(alloc: Global, case: &Case) -> Option<Played> {
+    match numbers_to(alloc, case.calls) {
+        Ok(list) => Some(play::<K>(alloc, case, list.as_slice())),
+        Err(_refused) => None,
+    }
 }
 
 fn run<K: KeyTrait + Drop>(
@@ -61,11 +73,10 @@ fn run<K: KeyTrait + Drop>(
     case: &Case,
 ) -> io::Result<bool> {
     let (keys, seed, calls, refused) = (case.keys, case.seed, case.calls, case.refused);
-    let Ok(list) = numbers_to(alloc, calls) else {
+    let Some(Played { wrong, largest }) = played::<K>(alloc, case) else {
         println!(rt; "{keys} {seed} {calls} {refused}: no memory")?;
         return Ok(false);
     };
-    let Played { wrong, largest } = play::<K>(alloc, case, list.as_slice());
     match wrong {
         None => {
             eprintln!(rt; "{keys} {seed} {calls} {refused}: right, largest tree {largest}")?;

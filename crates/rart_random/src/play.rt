@@ -44,9 +44,7 @@ fn is_compared(place: usize, count: usize, size: usize) -> bool {
     count < 300 || place.wrapping_add(1) == count || place % step == 0
 }
 
-/// Plays the calls of these numbers.
-pub fn play<K: KeyTrait + Drop>(alloc: Global, case: &Case, list: &[u64]) -> Played {
-    let mut world = World::<K>::new(alloc);
+fn play_in<K: KeyTrait + Drop>(world: &mut World<K>, case: &Case, list: &[u64]) -> Played {
     let most = K::MAXIMUM_SIZE.unwrap_or(32).min(32);
     let mut largest = 0_usize;
     let mut place = 0_usize;
@@ -66,6 +64,12 @@ pub fn play<K: KeyTrait + Drop>(alloc: Global, case: &Case, list: &[u64]) -> Pla
         wrong: None,
         largest,
     }
+}
+
+/// Plays the calls of these numbers.
+pub fn play<K: KeyTrait + Drop>(alloc: Global, case: &Case, list: &[u64]) -> Played {
+    let mut world = World::<K>::new(alloc);
+    play_in(&mut world, case, list)
 }
 
 /// The numbers below `calls`.
@@ -99,28 +103,66 @@ fn without(
 // The most calls that are made to shorten a list.
 const BUDGET: usize = 20_000_000;
 
-// Leaves out each stretch of `count` calls without which the list still goes wrong.
-fn thinned<K: KeyTrait + Drop>(
+// The list up to the first call that goes wrong, and nothing where none does.
+fn up_to_wrong<K: KeyTrait + Drop>(
     alloc: Global,
     case: &Case,
-    list: Vec<u64>,
+    list: &[u64],
+) -> Result<Option<Vec<u64>>, AllocError> {
+    match play::<K>(alloc, case, list).wrong {
+        Some(at) => Ok(Some(without(alloc, list, 0, 0, at)?)),
+        None => Ok(None),
+    }
+}
+
+// The same of the list without a stretch.
+fn up_to_wrong_without<K: KeyTrait + Drop>(
+    alloc: Global,
+    case: &Case,
+    list: &[u64],
+    from: usize,
     count: usize,
     spent: &mut usize,
-) -> Result<Vec<u64>, AllocError> {
-    let mut list = list;
+) -> Result<Option<Vec<u64>>, AllocError> {
+    let tried = without(alloc, list, from, count, list.len())?;
+    *spent = spent.saturating_add(tried.len());
+    up_to_wrong::<K>(alloc, case, tried.as_slice())
+}
+
+// Leaves out each stretch of `count` calls without which the list still goes wrong.
+fn thin<K: KeyTrait + Drop>(
+    alloc: Global,
+    case: &Case,
+    list: &mut Vec<u64>,
+    count: usize,
+    spent: &mut usize,
+) -> Result<(), AllocError> {
     let mut from = 0_usize;
     for _ in 0..list.len() {
         if from >= list.len() || *spent > BUDGET {
-            return Ok(list);
+            return Ok(());
         }
-        let tried = without(alloc, list.as_slice(), from, count, list.len())?;
-        *spent = spent.saturating_add(tried.len());
-        match play::<K>(alloc, case, tried.as_slice()).wrong {
-            Some(at) => list = without(alloc, tried.as_slice(), 0, 0, at)?,
+        match up_to_wrong_without::<K>(alloc, case, list.as_slice(), from, count, spent)? {
+            Some(shorter) => *list = shorter,
             None => from = from.saturating_add(count),
         }
     }
-    Ok(list)
+    Ok(())
+}
+
+fn shorten<K: KeyTrait + Drop>(
+    alloc: Global,
+    case: &Case,
+    list: &mut Vec<u64>,
+) -> Result<(), AllocError> {
+    let mut spent = 0_usize;
+    let mut count = list.len() / 2;
+    for _ in 0..40_u8 {
+        count = count.max(1);
+        thin::<K>(alloc, case, list, count, &mut spent)?;
+        count = (count / 2).min(list.len());
+    }
+    Ok(())
 }
 
 /// A list that still goes wrong, with whatever can be left out left out: halves first, single calls last.
@@ -130,12 +172,6 @@ pub fn shortened<K: KeyTrait + Drop>(
     at: usize,
 ) -> Result<Vec<u64>, AllocError> {
     let mut list = numbers_to(alloc, (at as u64).saturating_add(1))?;
-    let mut spent = 0_usize;
-    let mut count = list.len() / 2;
-    for _ in 0..40_u8 {
-        count = count.max(1);
-        list = thinned::<K>(alloc, case, list, count, &mut spent)?;
-        count = (count / 2).min(list.len());
-    }
+    shorten::<K>(alloc, case, &mut list)?;
     Ok(list)
 }

@@ -4,7 +4,10 @@ use crate::edits::WRONG;
 use crate::numbers::{mix, mix_pair, sum_if, sum_of};
 use crate::sides::{Tree, bound_of, mix_key, same_key};
 use crate::text::Text;
-use rart::{Descending, KeyTrait, VisitControl, VisitError};
+use rart::{
+    Descending, Iter, KeyTrait, PrefixMatchIter, Range, RangeDescending, ValuesIter, VisitControl,
+    VisitError,
+};
 
 fn get<K: KeyTrait + Drop>(tree: &Tree<K>, key: &K) -> u64 {
     let found = sum_of(tree.get_k(key).copied());
@@ -15,7 +18,8 @@ fn get<K: KeyTrait + Drop>(tree: &Tree<K>, key: &K) -> u64 {
     )
 }
 
-fn sum_of_pair<K: KeyTrait + Drop>(found: Option<(K, &u64)>) -> u64 {
+/// The sum of a pair that may be none.
+pub fn sum_of_pair<K: KeyTrait + Drop>(found: Option<(K, &u64)>) -> u64 {
     match found {
         Some((key, value)) => mix(mix_key(1, &key), *value),
         None => 5,
@@ -40,28 +44,40 @@ pub fn ends<K: KeyTrait + Drop>(tree: &Tree<K>) -> u64 {
     )
 }
 
-fn matches<K: KeyTrait + Drop>(tree: &Tree<K>, probe: &K, most: u64) -> u64 {
+// The sum with one pair more.
+fn mix_found<K: KeyTrait + Drop>(sum: u64, found: (K, &u64)) -> u64 {
+    mix(mix_key(sum, &found.0), *found.1)
+}
+
+fn sum_matches<K: KeyTrait + Drop>(
+    found: &mut PrefixMatchIter<'_, K, K::PartialType, u64>,
+    most: u64,
+) -> u64 {
     let mut sum = 1_u64;
-    let mut found = tree.prefix_match_iter_k(probe);
     for _ in 0..most {
         match found.next() {
-            Some((key, value)) => sum = mix(mix_key(sum, &key), *value),
+            Some(pair) => sum = mix_found(sum, pair),
             None => return ended(found.next().is_none(), sum),
         }
     }
     sum
 }
 
-// By a key and by bytes.
-fn match_for_each<K: KeyTrait>(tree: &Tree<K>, key: &K, probe: &Text) -> u64 {
-    let mut by_key = 1_u64;
-    tree.prefix_match_for_each_k(key, |found, value| by_key = mix_pair(by_key, found, *value));
-    let mut by_bytes = 1_u64;
-    tree.prefix_match_for_each_bytes(
-        probe.as_slice(),
-        |found, value| by_bytes = mix_pair(by_bytes, found, *value),
-    );
-    mix(by_key, by_bytes)
+fn matches<K: KeyTrait + Drop>(tree: &Tree<K>, probe: &K, most: u64) -> u64 {
+    let mut found = tree.prefix_match_iter_k(probe);
+    sum_matches(&mut found, most)
+}
+
+fn match_for_each<K: KeyTrait>(tree: &Tree<K>, key: &K) -> u64 {
+    let mut sum = 1_u64;
+    tree.prefix_match_for_each_k(key, |found, value| sum = mix_pair(sum, found, *value));
+    sum
+}
+
+fn match_for_each_bytes<K: KeyTrait>(tree: &Tree<K>, probe: &[u8]) -> u64 {
+    let mut sum = 1_u64;
+    tree.prefix_match_for_each_bytes(probe, |found, value| sum = mix_pair(sum, found, *value));
+    sum
 }
 
 /// The call about one key or probe.
@@ -72,7 +88,10 @@ pub fn look<K: KeyTrait + Drop>(tree: &Tree<K>, key: &K, probe: &Text, call: &Ca
         11 => longest(tree, key, probe),
         12 => sum_of(tree.longest_prefix_value_bytes(probe.as_slice()).copied()),
         13 => matches(tree, key, most_of(call)),
-        14 => match_for_each(tree, key, probe),
+        14 => mix(
+            match_for_each(tree, key),
+            match_for_each_bytes(tree, probe.as_slice()),
+        ),
         _ => mix(mix(tree.len() as u64, sum_if(tree.is_empty())), ends(tree)),
     }
 }
@@ -91,40 +110,48 @@ fn ended(is_over: bool, sum: u64) -> u64 {
     if is_over { sum } else { WRONG }
 }
 
-fn iter<K: KeyTrait + Drop>(tree: &Tree<K>, most: u64) -> Option<u64> {
+fn sum_pairs<K: KeyTrait + Drop>(pairs: &mut Iter<'_, K, K::PartialType, u64>, most: u64) -> u64 {
     let mut sum = 1_u64;
-    let mut pairs = tree.iter().ok()?;
     for _ in 0..most {
         match pairs.next() {
-            Some((key, value)) => sum = mix(mix_key(sum, &key), *value),
-            None => return Some(ended(pairs.next().is_none(), sum)),
+            Some(pair) => sum = mix_found(sum, pair),
+            None => return ended(pairs.next().is_none(), sum),
         }
     }
-    Some(sum)
+    sum
 }
 
-fn values<K: KeyTrait>(tree: &Tree<K>, most: u64) -> Option<u64> {
+/// The sum of the first pairs, so many at most.
+pub fn iter<K: KeyTrait + Drop>(tree: &Tree<K>, most: u64) -> Option<u64> {
+    match tree.iter() {
+        Ok(mut pairs) => Some(sum_pairs(&mut pairs, most)),
+        Err(_refused) => None,
+    }
+}
+
+fn sum_values<K: KeyTrait>(values: &mut ValuesIter<'_, K, u64>, most: u64) -> u64 {
     let mut sum = 1_u64;
-    let mut values = tree.values_iter().ok()?;
     for _ in 0..most {
         match values.next() {
             Some(value) => sum = mix(sum, *value),
-            None => return Some(ended(values.next().is_none(), sum)),
+            None => return ended(values.next().is_none(), sum),
         }
     }
-    Some(sum)
+    sum
+}
+
+fn values<K: KeyTrait>(tree: &Tree<K>, most: u64) -> Option<u64> {
+    match tree.values_iter() {
+        Ok(mut values) => Some(sum_values(&mut values, most)),
+        Err(_refused) => None,
+    }
 }
 
 fn prefix_iter<K: KeyTrait + Drop>(tree: &Tree<K>, prefix: &K, most: u64) -> Option<u64> {
-    let mut sum = 1_u64;
-    let mut pairs = tree.prefix_iter_k(prefix).ok()?;
-    for _ in 0..most {
-        match pairs.next() {
-            Some((key, value)) => sum = mix(mix_key(sum, &key), *value),
-            None => return Some(ended(pairs.next().is_none(), sum)),
-        }
+    match tree.prefix_iter_k(prefix) {
+        Ok(mut pairs) => Some(sum_pairs(&mut pairs, most)),
+        Err(_refused) => None,
     }
-    Some(sum)
 }
 
 fn values_for_each<K: KeyTrait>(tree: &Tree<K>, prefix: &K) -> Option<u64> {
@@ -162,19 +189,23 @@ fn fold<K: KeyTrait>(tree: &Tree<K>, prefix: &K) -> Option<u64> {
         .ok()
 }
 
-fn range<K: KeyTrait + Drop>(tree: &Tree<K>, start: &K, end: &K, call: &Call) -> Option<u64> {
-    let ways = call.choice % 9;
+fn sum_within<K: KeyTrait + Drop>(pairs: &mut Range<'_, K, u64>, most: u64) -> u64 {
     let mut sum = 1_u64;
-    let mut pairs = tree
-        .range(bound_of(start, ways / 3), bound_of(end, ways % 3))
-        .ok()?;
-    for _ in 0..most_of(call) {
+    for _ in 0..most {
         match pairs.next() {
-            Some((key, value)) => sum = mix(mix_key(sum, &key), *value),
-            None => return Some(ended(pairs.next().is_none(), sum)),
+            Some(pair) => sum = mix_found(sum, pair),
+            None => return ended(pairs.next().is_none(), sum),
         }
     }
-    Some(sum)
+    sum
+}
+
+fn range<K: KeyTrait + Drop>(tree: &Tree<K>, start: &K, end: &K, call: &Call) -> Option<u64> {
+    let ways = call.choice % 9;
+    match tree.range(bound_of(start, ways / 3), bound_of(end, ways % 3)) {
+        Ok(mut pairs) => Some(sum_within(&mut pairs, most_of(call))),
+        Err(_refused) => None,
+    }
 }
 
 /// Whether a walk begins at the last pair.
@@ -182,11 +213,40 @@ pub fn descends(call: &Call) -> bool {
     (call.choice >> 16) % 2 == 1
 }
 
-fn sum_descending<K: KeyTrait + Drop>(mut pairs: Descending<'_, K, u64>, most: u64) -> u64 {
+fn sum_descending<K: KeyTrait + Drop>(pairs: &mut Descending<'_, K, u64>, most: u64) -> u64 {
     let mut sum = 1_u64;
     for _ in 0..most {
         match pairs.next() {
-            Some((key, value)) => sum = mix(mix_key(sum, &key), *value),
+            Some(pair) => sum = mix_found(sum, pair),
+            None => return ended(pairs.next().is_none(), sum),
+        }
+    }
+    sum
+}
+
+/// The sum of the last pairs, so many at most, the last first.
+pub fn iter_descending<K: KeyTrait + Drop>(tree: &Tree<K>, most: u64) -> Option<u64> {
+    match tree.iter_descending() {
+        Ok(mut pairs) => Some(sum_descending(&mut pairs, most)),
+        Err(_refused) => None,
+    }
+}
+
+fn prefix_descending<K: KeyTrait + Drop>(tree: &Tree<K>, prefix: &K, most: u64) -> Option<u64> {
+    match tree.prefix_iter_descending_k(prefix) {
+        Ok(mut pairs) => Some(sum_descending(&mut pairs, most)),
+        Err(_refused) => None,
+    }
+}
+
+fn sum_within_descending<K: KeyTrait + Drop>(
+    pairs: &mut RangeDescending<'_, K, u64>,
+    most: u64,
+) -> u64 {
+    let mut sum = 1_u64;
+    for _ in 0..most {
+        match pairs.next() {
+            Some(pair) => sum = mix_found(sum, pair),
             None => return ended(pairs.next().is_none(), sum),
         }
     }
@@ -200,24 +260,17 @@ fn range_descending<K: KeyTrait + Drop>(
     call: &Call,
 ) -> Option<u64> {
     let bounds = call.choice % 9;
-    let mut sum = 1_u64;
-    let mut pairs = tree
-        .range_descending(bound_of(start, bounds / 3), bound_of(end, bounds % 3))
-        .ok()?;
-    for _ in 0..most_of(call) {
-        match pairs.next() {
-            Some((key, value)) => sum = mix(mix_key(sum, &key), *value),
-            None => return Some(ended(pairs.next().is_none(), sum)),
-        }
+    match tree.range_descending(bound_of(start, bounds / 3), bound_of(end, bounds % 3)) {
+        Ok(mut pairs) => Some(sum_within_descending(&mut pairs, most_of(call))),
+        Err(_refused) => None,
     }
-    Some(sum)
 }
 
 fn descend<K: KeyTrait + Drop>(tree: &Tree<K>, key: &K, end: &K, call: &Call) -> Option<u64> {
     let most = most_of(call);
     match call.kind {
-        16 => Some(sum_descending(tree.iter_descending().ok()?, most)),
-        18 => Some(sum_descending(tree.prefix_iter_descending_k(key).ok()?, most)),
+        16 => iter_descending(tree, most),
+        18 => prefix_descending(tree, key, most),
         _ => range_descending(tree, key, end, call),
     }
 }

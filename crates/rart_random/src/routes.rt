@@ -5,8 +5,8 @@ use crate::model::Model;
 use crate::model_edits::pop;
 use crate::model_reads::{longest_pair, longest_value, matches};
 use crate::numbers::{mix, mix_bytes, mix_pair, sum_of};
+use crate::reads::sum_of_pair;
 use crate::shape::sum_of_stats;
-use crate::sides::mix_key;
 use crate::text::Text;
 use rart::routes::RouteTable;
 use rart::{KeyTrait, NotInserted, TreeError, TreeStatsTrait, TryInsertError};
@@ -70,13 +70,6 @@ fn clear<K: KeyTrait>(table: &mut RouteTable<K, u64>) -> u64 {
     count as u64
 }
 
-fn with_prefix<K: KeyTrait + Drop>(table: &RouteTable<K, u64>, key: &K) -> u64 {
-    match table.route_with_prefix(key) {
-        Some((prefix, target)) => mix(mix_key(1, &prefix), *target),
-        None => 5,
-    }
-}
-
 fn covering<K: KeyTrait>(table: &RouteTable<K, u64>, key: &K) -> u64 {
     let mut sum = 1_u64;
     table.covering_for_each(key, |prefix, target| sum = mix_pair(sum, prefix, *target));
@@ -84,14 +77,20 @@ fn covering<K: KeyTrait>(table: &RouteTable<K, u64>, key: &K) -> u64 {
 }
 
 // The same by bytes, which may be more than a prefix has.
-fn by_bytes<K: KeyTrait + Drop>(table: &RouteTable<K, u64>, probe: &[u8]) -> u64 {
-    let route = match table.route_with_prefix_bytes(probe) {
-        Some((prefix, target)) => mix(mix_key(1, &prefix), *target),
-        None => 5,
-    };
+fn covering_bytes<K: KeyTrait>(table: &RouteTable<K, u64>, probe: &[u8]) -> u64 {
     let mut sum = 1_u64;
     table.covering_for_each_bytes(probe, |prefix, target| sum = mix_pair(sum, prefix, *target));
-    mix(route, sum)
+    sum
+}
+
+// The route and the routes that cover the key, and those of the bytes.
+fn covers<K: KeyTrait + Drop>(table: &RouteTable<K, u64>, key: &K, probe: &[u8]) -> u64 {
+    let route = sum_of_pair(table.route_with_prefix(key));
+    let by_bytes = sum_of_pair(table.route_with_prefix_bytes(probe));
+    mix(
+        mix(route, covering(table, key)),
+        mix(by_bytes, covering_bytes(table, probe)),
+    )
 }
 
 /// The sum of the routes below a prefix.
@@ -128,10 +127,7 @@ pub fn call_table<K: KeyTrait + Drop>(
             let route = sum_of(table.route(probe.as_slice()).copied());
             Some(mix(route, sum_of(table.get(key).copied())))
         }
-        38 => {
-            let by_key = mix(with_prefix(table, key), covering(table, key));
-            Some(mix(by_key, by_bytes(table, probe.as_slice())))
-        }
+        38 => Some(covers(table, key, probe.as_slice())),
         _ => below(table, key),
     }
 }

@@ -141,15 +141,13 @@ fn close_all(counts: &mut Counts, open: &mut Vec<Open>) {
     }
 }
 
-/// The sum of the statistics that a tree of these keys has.
-pub fn shape_of(alloc: Global, model: &Model) -> Result<u64, AllocError> {
-    let mut counts = Counts::new();
-    let mut open = Vec::new(alloc);
+// Counts the nodes of the keys, of which those on the path to the last key stay open.
+fn count_keys(counts: &mut Counts, open: &mut Vec<Open>, model: &Model) -> Result<(), AllocError> {
     let mut last = None;
     for place in 0..model.len() {
         if let Some((key, _)) = model.at(place) {
             if let Some(before) = last {
-                close_to(&mut counts, &mut open, key.shared(&before))?;
+                close_to(counts, open, key.shared(&before))?;
             }
             open.push(Open {
                 depth: key.len(),
@@ -160,6 +158,14 @@ pub fn shape_of(alloc: Global, model: &Model) -> Result<u64, AllocError> {
             last = Some(key);
         }
     }
+    Ok(())
+}
+
+/// The sum of the statistics that a tree of these keys has.
+pub fn shape_of(alloc: Global, model: &Model) -> Result<u64, AllocError> {
+    let mut counts = Counts::new();
+    let mut open = Vec::new(alloc);
+    count_keys(&mut counts, &mut open, model)?;
     close_all(&mut counts, &mut open);
     Ok(counts.sum())
 }

@@ -45,14 +45,13 @@ impl Text {
 
     /// How many first bytes are those of `other`.
     pub fn shared(&self, other: &Text) -> usize {
-        let mut count = 0_usize;
-        for (one, two) in self.as_slice().iter().zip(other.as_slice()) {
-            if *one != *two {
-                return count;
+        let least = self.len().min(other.len());
+        for at in 0..least {
+            if self.bytes.get(at) != other.bytes.get(at) {
+                return at;
             }
-            count = count.wrapping_add(1);
         }
-        count
+        least
     }
 
     /// Whether these bytes begin `other`.

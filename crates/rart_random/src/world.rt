@@ -1,7 +1,7 @@
 //! Two trees and a route table, each beside its model, and one call made on both.
 use crate::call::{Call, makes_a_tree};
 use crate::grown::{grow, wanted_grow};
-use crate::loads::{list_of, load, sum_in, wanted_load};
+use crate::loads::{list_of, load, wanted_load};
 use crate::model::{Model, Pair};
 use crate::numbers::low_byte;
 use crate::routes::{below, call_table, shape_of_routes, wanted_below, wanted_of_table};
@@ -25,7 +25,7 @@ pub struct World<K: KeyTrait> {
 }
 
 /// What a call is made with.
-#[derive(Drop)]
+#[derive(Clone, Copy)]
 struct Words {
     key: Text,
     end: Text,
@@ -76,7 +76,7 @@ fn is_right_side<K: KeyTrait + Drop>(alloc: Global, side: &Side<K>) -> bool {
     side.tree.canonical();
     let shape = shape_of(alloc, &side.model).ok();
     side.tree.len() == side.model.len()
-        && sum_in(&side.tree) == Some(side.model.sum(0, side.model.len(), true))
+        && reads::iter(&side.tree, u64::MAX) == Some(side.model.sum(0, side.model.len(), true))
         && shape.is_some()
         && shape_in(&side.tree) == shape
 }
@@ -160,22 +160,36 @@ impl<K: KeyTrait + Drop> World<K> {
         if !makes_a_tree(call) {
             return Vec::new(self.alloc);
         }
-        list_of(self.alloc, &self.first.model, call).unwrap_or(Vec::new(self.alloc))
+        match list_of(self.alloc, &self.first.model, call) {
+            Ok(list) => list,
+            Err(_refused) => Vec::new(self.alloc),
+        }
+    }
+
+    fn answer_at(
+        &mut self,
+        key: &K,
+        end: &K,
+        words: &Words,
+        list: &[Pair],
+        call: &Call,
+    ) -> Option<u64> {
+        match call.kind {
+            0..9 if call.on_second => edits::edit(&mut self.second.tree, key, call),
+            0..9 => edits::edit(&mut self.first.tree, key, call),
+            32 | 33 => load::<K>(self.alloc, list),
+            40 => grow::<K>(self.alloc, list, call),
+            34..40 => call_table(&mut self.routes, key, &words.probe, call),
+            _ if call.on_second => read(&self.second, &self.first, key, end, words, call),
+            _ => read(&self.first, &self.second, key, end, words, call),
+        }
     }
 
     // The sum of the call's answer; none if memory was refused.
     fn answer(&mut self, words: &Words, list: &[Pair], call: &Call) -> Option<u64> {
         let key = key_of::<K>(&words.key)?;
         let end = key_of::<K>(&words.end)?;
-        match call.kind {
-            0..9 if call.on_second => edits::edit(&mut self.second.tree, &key, call),
-            0..9 => edits::edit(&mut self.first.tree, &key, call),
-            32 | 33 => load::<K>(self.alloc, list),
-            40 => grow::<K>(self.alloc, list, call),
-            34..40 => call_table(&mut self.routes, &key, &words.probe, call),
-            _ if call.on_second => read(&self.second, &self.first, &key, &end, words, call),
-            _ => read(&self.first, &self.second, &key, &end, words, call),
-        }
+        self.answer_at(&key, &end, words, list, call)
     }
 
     // The sum that the models give.
@@ -200,28 +214,32 @@ impl<K: KeyTrait + Drop> World<K> {
         }
     }
 
-    /// Makes the call, and says whether the answer is the model's. With `refused` above 0 that request of the call for
-    /// memory is refused first: then nothing else may have changed, and the call is made again.
-    pub fn is_played(&mut self, call: &Call, most: usize, refused: usize) -> bool {
-        let words = self.words(call, most);
-        let list = self.list(call);
+    fn is_answered(&mut self, words: &Words, list: &[Pair], call: &Call, refused: usize) -> bool {
         if refused > 0 {
             refuse(self.alloc, refused);
         }
-        let mut answer = self.answer(&words, list.as_slice(), call);
+        let mut answer = self.answer(words, list, call);
         if refused > 0 {
             let was = was_refused(self.alloc);
             if was != answer.is_none() {
                 return false;
             }
             if was {
-                self.note_refusal(&words, call);
+                self.note_refusal(words, call);
                 if !self.is_right() {
                     return false;
                 }
-                answer = self.answer(&words, list.as_slice(), call);
+                answer = self.answer(words, list, call);
             }
         }
-        answer == Some(self.wanted(&words, list.as_slice(), call))
+        answer == Some(self.wanted(words, list, call))
+    }
+
+    /// Makes the call, and says whether the answer is the model's. With `refused` above 0 that request of the call for
+    /// memory is refused first: then nothing else may have changed, and the call is made again.
+    pub fn is_played(&mut self, call: &Call, most: usize, refused: usize) -> bool {
+        let words = self.words(call, most);
+        let list = self.list(call);
+        self.is_answered(&words, list.as_slice(), call, refused)
     }
 }

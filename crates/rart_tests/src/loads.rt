@@ -142,26 +142,45 @@ fn is_alike(loaded: Result<Tree<Key>, BulkError>, wanted: &Tree<Key>) -> bool {
     }
 }
 
-/// Loads the keys, each with its place, by each form, and inserts them. The statistics, where the keys ascend and the
-/// trees are alike.
-pub fn loads_alike(alloc: Global, keys: &[Key]) -> Result<Option<TreeStats>, AllocError> {
-    let Some(wanted) = inserted(alloc, keys) else {
-        return Ok(None);
-    };
-    let items = items_of(alloc, keys)?;
+fn are_loaded_by_index(alloc: Global, items: &[(Key, u64)], wanted: &Tree<Key>) -> bool {
     let mut take = |i: usize| i as u64;
-    if !ascend(&items)
-        || !is_alike(load_by_index(alloc, &items, |i| i as u64), &wanted)
-        || !is_alike(load_by_index_lent(alloc, &items, &mut take), &wanted)
-        || !is_alike(load_unique(alloc, items), &wanted)
-        || !is_alike(
-            Tree::bulk_load_sorted(alloc, items_of(alloc, keys)?),
-            &wanted,
-        )
-    {
-        return Ok(None);
+    ascend(items)
+        && is_alike(load_by_index(alloc, items, |i| i as u64), wanted)
+        && is_alike(load_by_index_lent(alloc, items, &mut take), wanted)
+}
+
+fn are_loaded_unique(alloc: Global, items: Vec<(Key, u64)>, wanted: &Tree<Key>) -> bool {
+    ascend(&items) && is_alike(load_unique(alloc, items), wanted)
+}
+
+// Whether each form loads the keys, each with its place, as the wanted tree.
+fn are_loaded(alloc: Global, keys: &[Key], wanted: &Tree<Key>) -> Result<bool, AllocError> {
+    let sorted = Tree::bulk_load_sorted(alloc, items_of(alloc, keys)?);
+    let items = items_of(alloc, keys)?;
+    Ok(
+        is_alike(sorted, wanted)
+            && are_loaded_by_index(alloc, &items, wanted)
+            && are_loaded_unique(alloc, items, wanted),
+    )
+}
+
+fn has_counts(tree: &Tree<Key>, counts: &Counts<'_>) -> bool {
+    match tree.get_tree_stats() {
+        Ok(stats) => is_counted(&stats, &counts.0, counts.1),
+        Err(_refused) => false,
     }
-    Ok(wanted.get_tree_stats().ok())
+}
+
+/// Whether the keys ascend, each form loads them as they are inserted, each with its place, and the tree has these
+/// statistics.
+pub fn loads_alike(alloc: Global, keys: &[Key], counts: &Counts<'_>) -> Result<bool, AllocError> {
+    match inserted(alloc, keys) {
+        Some(wanted) => {
+            let loaded = are_loaded(alloc, keys, &wanted);
+            Ok(has_counts(&wanted, counts) && loaded?)
+        }
+        None => Ok(false),
+    }
 }
 
 // The keys, each with its place, twice: in their order and from the last on.
@@ -189,39 +208,36 @@ fn halves_exchanged(
     Ok((items, exchanged))
 }
 
-// The statistics of both trees that the law of bulk loads gives, where the first items ascend and the trees are alike.
+/// Leaves, values, inner nodes and height; and for each capacity its nodes and their children.
+pub type Counts<'a> = ([usize; 4], &'a [(usize, usize, usize)]);
+
+// Whether the loaded and the inserted tree are alike, and the statistics of both are these.
+fn are_both(
+    loaded: &(Tree<Key>, TreeStats),
+    inserted: &(Tree<Key>, TreeStats),
+    counts: &Counts<'_>,
+) -> bool {
+    are_alike(&loaded.0, &inserted.0)
+        && is_counted(&loaded.1, &counts.0, counts.1)
+        && is_counted(&inserted.1, &counts.0, counts.1)
+}
+
+// Whether the first items ascend, and the law of bulk loads gives trees that are alike and have these statistics.
 fn law_holds_of(
     alloc: Global,
     sorted: Vec<(Key, u64)>,
     shuffled: Vec<(Key, u64)>,
-) -> Option<(TreeStats, TreeStats)>
+    counts: &Counts<'_>,
+) -> bool
     requires { IsPermutation (pairs_in array_key_bytes sorted.items)
         (pairs_in array_key_bytes shuffled.items) }
 {
     if !ascend(&sorted) {
-        return None;
+        return false;
     }
     match bulk_load_equals_insertion(alloc, sorted, shuffled) {
-        Ok(((loaded, one), (inserted, other))) => {
-            if are_alike(&loaded, &inserted) {
-                Some((one, other))
-            } else {
-                None
-            }
-        }
-        Err(_refused) => None,
-    }
-}
-
-/// Leaves, values, inner nodes and height; and for each capacity its nodes and their children.
-pub type Counts<'a> = ([usize; 4], &'a [(usize, usize, usize)]);
-
-fn are_both(of_both: Option<(TreeStats, TreeStats)>, counts: &Counts<'_>) -> bool {
-    match of_both {
-        Some((one, other)) => {
-            is_counted(&one, &counts.0, counts.1) && is_counted(&other, &counts.0, counts.1)
-        }
-        None => false,
+        Ok((loaded, inserted)) => are_both(&loaded, &inserted, counts),
+        Err(_refused) => false,
     }
 }
 
@@ -229,8 +245,8 @@ fn are_both(of_both: Option<(TreeStats, TreeStats)>, counts: &Counts<'_>) -> boo
 /// have these statistics.
 pub fn law_holds(alloc: Global, keys: &[Key], counts: &Counts<'_>) -> Result<bool, AllocError> {
     let (sorted, shuffled) = both_ways(alloc, keys)?;
-    let backward = law_holds_of(alloc, sorted, shuffled);
+    let backward = law_holds_of(alloc, sorted, shuffled, counts);
     let (sorted, shuffled) = halves_exchanged(alloc, keys)?;
-    let exchanged = law_holds_of(alloc, sorted, shuffled);
-    Ok(are_both(backward, counts) && are_both(exchanged, counts))
+    let exchanged = law_holds_of(alloc, sorted, shuffled, counts);
+    Ok(backward && exchanged)
 }

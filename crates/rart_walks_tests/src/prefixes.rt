@@ -5,7 +5,6 @@ use rart::{ArrPartial, Iter, KeyTrait, PrefixMatchIter, TreeError};
 use rart_test_tools::refusals::{refuse, was_refused};
 use rart_test_trees::texts::{Key, Pair, THREE, Tree, filled, is_pair};
 use std::alloc::Global;
-use std::panic::Expect;
 
 // A probe; the pairs whose key begins it, the shortest first; the pairs whose key it begins, ascending.
 type Row = (&'static str, &'static [Pair], &'static [Pair]);
@@ -222,7 +221,7 @@ const OF_FIRST_BYTES: [Row; 1] = [("\x01\x02", &[], &[("\x01\x02a", 1), ("\x01\x
 
 type Group = (&'static [Pair], &'static [Row]);
 
-const GROUPS: [Group; 8] = [
+static GROUPS: [Group; 8] = [
     (&THREE, &OF_THREE),
     (&ANIMALS, &OF_ANIMALS),
     (&WORDS, &OF_WORDS),
@@ -281,12 +280,16 @@ fn first_requesting(alloc: Global, tree: &Tree, rows: &[Row]) -> Option<usize> {
     None
 }
 
-fn first_requesting_of_words(alloc: Global, tree: &Tree) -> Option<usize> {
-    first_requesting(alloc, tree, &OF_WORDS)
+// The first row of the words that makes a request; 1000 where their tree can't be made.
+fn first_requesting_of_words(alloc: Global) -> Option<usize> {
+    let (pairs, rows) = GROUPS[2];
+    match filled(alloc, pairs) {
+        Some(tree) => first_requesting(alloc, &tree, rows),
+        None => Some(1000),
+    }
 }
 
 #[test]
 fn answers_about_a_probe_ask_for_nothing(rt: HostRuntime) {
-    let tree = filled(rt.alloc(), &WORDS).expect(&rt, "a tree");
-    assert_eq!(rt; first_requesting_of_words(rt.alloc(), &tree), None);
+    assert_eq!(rt; first_requesting_of_words(rt.alloc()), None);
 }

@@ -211,12 +211,12 @@ fn matches_are(tree: &Tree, probe: &[u8], wanted: u64) -> bool
 // The first probe whose matches are others, if there is one.
 fn first_wrong_probe(tree: &Tree) -> Option<usize> {
     let mut at = 0_usize;
-    for (text, wanted) in OF_THREE {
+    for (text, wanted) in &OF_THREE {
         let probe = text.as_bytes();
         if probe.len() > 16 {
             return Some(at);
         }
-        if !matches_are(tree, probe, wanted) || !matches_by_bytes_are(tree, probe, wanted) {
+        if !matches_are(tree, probe, *wanted) || !matches_by_bytes_are(tree, probe, *wanted) {
             return Some(at);
         }
         at = at.wrapping_add(1);

@@ -52,23 +52,29 @@ fn holds(tree: &Tree<'_>, wanted: &[(&str, u8)]) -> bool {
     tree.len() == wanted.len()
 }
 
-// What doesn't stay is dropped by the load, and each value once the tree is.
-fn row_holds(alloc: Global, row: &Row) -> Result<bool, AllocError> {
+// What doesn't stay of so many values is dropped by the load, and each value once the tree is.
+fn is_held(tree: Tree<'_>, pairs: &[(&str, u8)], many: usize, drops: &Cell<usize>) -> bool {
+    let held = holds(&tree, pairs);
+    let early = drops.get();
+    drop(tree);
+    held && early.wrapping_add(pairs.len()) == many && drops.get() == many
+}
+
+fn is_wanted(loaded: Result<Tree<'_>, BulkError>, row: &Row, drops: &Cell<usize>) -> bool {
     let (texts, wanted) = *row;
+    match loaded {
+        Ok(tree) => is_held(tree, wanted.unwrap_or(&[]), texts.len(), drops) && wanted.is_ok(),
+        Err(error) => {
+            wanted.is_err_and(|at| error == BulkError::Unsorted { at })
+                && drops.get() == texts.len()
+        }
+    }
+}
+
+fn row_holds(alloc: Global, row: &Row) -> Result<bool, AllocError> {
     let drops = Cell::new(0_usize);
-    let loaded = Tree::bulk_load_sorted(alloc, items(alloc, texts, &drops)?);
-    Ok(match (loaded, wanted) {
-        (Ok(tree), Ok(pairs)) => {
-            let held = holds(&tree, pairs);
-            let early = drops.get();
-            drop(tree);
-            held && early.wrapping_add(pairs.len()) == texts.len() && drops.get() == texts.len()
-        }
-        (Err(error), Err(at)) => {
-            error == BulkError::Unsorted { at } && drops.get() == texts.len()
-        }
-        _ => false,
-    })
+    let loaded = Tree::bulk_load_sorted(alloc, items(alloc, row.0, &drops)?);
+    Ok(is_wanted(loaded, row, &drops))
 }
 
 #[test]

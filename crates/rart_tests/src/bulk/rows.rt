@@ -4,8 +4,7 @@ use crate::loads::{
     Counts, Key, ascend, law_holds, load_by_index, load_by_index_lent, load_unique, loads_alike,
 };
 use crate::play::Tree;
-use crate::play::replies::is_counted;
-use rart::{AdaptiveRadixTree, ArrPartial, BulkError, Iter, KeyTrait, TreeStats};
+use rart::{AdaptiveRadixTree, ArrPartial, BulkError, Iter, KeyTrait};
 use rart_test_tools::counted::Counted;
 use rart_test_tools::refusals::{part_ends, refuse, was_refused};
 use std::alloc::{AllocError, Global};
@@ -127,33 +126,42 @@ fn number_keys(alloc: Global, count: u64) -> Result<Vec<Key>, AllocError> {
     Ok(keys)
 }
 
-fn are(loaded: Option<TreeStats>, counts: &Counts<'_>) -> bool {
-    match loaded {
-        Some(stats) => is_counted(&stats, &counts.0, counts.1),
-        None => false,
-    }
-}
-
 static TEXTS: [(&[&str], Counts<'static>); 3] = [
     (&[], ([0, 0, 0, 0], &[])),
     (&["", "a", "ab", "abc", "b"], ([2, 5, 3, 4], &[(4, 3, 4)])),
     (&["", "a", "ab", "b", "ba"], ([2, 5, 3, 3], &[(4, 3, 4)])),
 ];
 
+fn are_texts_loaded(
+    alloc: Global,
+    texts: &[&str],
+    counts: &Counts<'_>,
+) -> Result<bool, AllocError> {
+    let keys = keys_of(alloc, texts)?;
+    loads_alike(alloc, &keys, counts)
+}
+
 #[test]
 fn texts_are_loaded_as_they_are_inserted(rt: HostRuntime) -> Result<(), Fail> {
-    let alloc = rt.alloc();
     for (texts, counts) in &TEXTS {
-        assert!(rt; are(loads_alike(alloc, &keys_of(alloc, texts)?)?, counts));
+        assert!(rt; are_texts_loaded(rt.alloc(), texts, counts)?);
     }
     Ok(())
 }
 
+fn law_holds_of_texts(
+    alloc: Global,
+    texts: &[&str],
+    counts: &Counts<'_>,
+) -> Result<bool, AllocError> {
+    let keys = keys_of(alloc, texts)?;
+    law_holds(alloc, &keys, counts)
+}
+
 #[test]
 fn the_law_holds_of_texts(rt: HostRuntime) -> Result<(), Fail> {
-    let alloc = rt.alloc();
     for (texts, counts) in &TEXTS {
-        assert!(rt; law_holds(alloc, &keys_of(alloc, texts)?, counts)?);
+        assert!(rt; law_holds_of_texts(rt.alloc(), texts, counts)?);
     }
     Ok(())
 }
@@ -169,24 +177,32 @@ static FANS: [(usize, Counts<'static>); 8] = [
     (256, ([256, 256, 1, 2], &[(256, 1, 256)])),
 ];
 
+fn are_bytes_loaded(alloc: Global, count: usize, counts: &Counts<'_>) -> Result<bool, AllocError> {
+    let keys = byte_keys(alloc, count)?;
+    loads_alike(alloc, &keys, counts)
+}
+
 #[test]
 fn a_root_has_the_kind_for_its_children(rt: HostRuntime) -> Result<(), Fail> {
-    let alloc = rt.alloc();
     for (count, counts) in &FANS {
         assert!(rt;
-            are(loads_alike(alloc, &byte_keys(alloc, *count)?)?, counts),
+            are_bytes_loaded(rt.alloc(), *count, counts)?,
             "{count} keys"
         );
     }
     Ok(())
 }
 
-const NUMBERS: Counts<'static> = ([4096, 4096, 17, 3], &[(16, 1, 16), (256, 16, 4096)]);
+static NUMBERS: Counts<'static> = ([4096, 4096, 17, 3], &[(16, 1, 16), (256, 16, 4096)]);
+
+fn are_numbers_loaded(alloc: Global) -> Result<bool, AllocError> {
+    let keys = number_keys(alloc, 4096)?;
+    loads_alike(alloc, &keys, &NUMBERS)
+}
 
 #[test]
 fn numbers_are_loaded_as_they_are_inserted(rt: HostRuntime) -> Result<(), Fail> {
-    let alloc = rt.alloc();
-    assert!(rt; are(loads_alike(alloc, &number_keys(alloc, 4096)?)?, &NUMBERS));
+    assert!(rt; are_numbers_loaded(rt.alloc())?);
     Ok(())
 }
 

@@ -1,11 +1,12 @@
 //! Values that count when they are dropped: none is lost, and none is dropped twice.
 
-use rart::{AdaptiveRadixTree, ArrayKey, KeyTrait, NotInserted, TreeError, TryInsertError};
+use rart::{
+    AdaptiveRadixTree, ArrayKey, KeyTrait, NotInserted, Refused, TreeError, TryInsertError,
+};
 use rart_test_tools::counted::Counted;
 use rart_test_tools::refusals::{refuse, was_refused};
 use std::alloc::Global;
 use std::cell::Cell;
-use std::process::Abort;
 
 type Key = ArrayKey<4>;
 
@@ -15,60 +16,81 @@ fn key(byte: u8) -> Key {
     Key::new_from_slice(&[b'n', byte])
 }
 
-// The keys below `count`.
-fn filled<'a>(rt: &impl Abort, alloc: Global, drops: &'a Cell<usize>, count: u8) -> Tree<'a> {
+// The keys below `count`. A value that isn't stored is dropped, which its counter shows.
+fn filled<'a>(alloc: Global, drops: &'a Cell<usize>, count: u8) -> Tree<'a> {
     let mut tree = Tree::new(alloc);
     for byte in 0..count {
-        assert!(rt; matches!(tree.insert(key(byte), Counted(byte, drops)), Ok(None)));
+        let _old = tree.insert(key(byte), Counted(byte, drops));
     }
     tree
+}
+
+// How many values are dropped with a tree, where none was before.
+fn dropped_with(tree: Tree<'_>, drops: &Cell<usize>) -> Option<usize> {
+    let before = drops.get();
+    drop(tree);
+    (before == 0).then_some(drops.get())
+}
+
+fn dropped_of(alloc: Global, count: u8) -> Option<usize> {
+    let drops = Cell::new(0_usize);
+    let tree = filled(alloc, &drops, count);
+    dropped_with(tree, &drops)
 }
 
 #[test]
 fn a_dropped_tree_drops_each_value_once(rt: HostRuntime) {
     for count in [0_u8, 1, 4, 16, 48, 255] {
-        let drops = Cell::new(0_usize);
-        let tree = filled(&rt, rt.alloc(), &drops, count);
-        assert_eq!(rt; drops.get(), 0);
-        drop(tree);
-        assert_eq!(rt; drops.get(), usize::from(count));
+        assert_eq!(rt; dropped_of(rt.alloc(), count), Some(usize::from(count)));
     }
+}
+
+fn is_cleared(tree: &mut Tree<'_>, count: u8) -> bool {
+    let held = tree.contains_key(key(0)) == (count > 0);
+    tree.clear();
+    held && tree.is_empty() && !tree.contains_key(key(0))
+}
+
+// How many values are dropped when a tree is cleared, and once it is dropped.
+fn dropped_by_clear(alloc: Global, count: u8) -> Option<(usize, usize)> {
+    let drops = Cell::new(0_usize);
+    let mut tree = filled(alloc, &drops, count);
+    let before = drops.get();
+    let cleared = is_cleared(&mut tree, count);
+    let early = drops.get();
+    drop(tree);
+    (before == 0 && cleared).then_some((early, drops.get()))
 }
 
 #[test]
 fn a_cleared_tree_drops_each_value_once_and_is_empty(rt: HostRuntime) {
     for count in [0_u8, 1, 4, 16, 48, 255] {
-        let drops = Cell::new(0_usize);
-        let mut tree = filled(&rt, rt.alloc(), &drops, count);
-        assert!(rt; tree.contains_key(key(0)) == (count > 0));
-        tree.clear();
-        assert_eq!(rt; drops.get(), usize::from(count));
-        assert!(rt; tree.is_empty());
-        assert!(rt; !tree.contains_key(key(0)));
-        drop(tree);
-        assert_eq!(rt; drops.get(), usize::from(count));
+        let each = usize::from(count);
+        assert_eq!(rt; dropped_by_clear(rt.alloc(), count), Some((each, each)));
     }
 }
 
 // A thousand keys of two bytes.
-fn thousand<'a>(rt: &impl Abort, alloc: Global, drops: &'a Cell<usize>) -> Tree<'a> {
+fn thousand<'a>(alloc: Global, drops: &'a Cell<usize>) -> Tree<'a> {
     let mut tree = Tree::new(alloc);
     for number in 0..1000_usize {
         let key = Key::new_from_slice(&[(number / 256) as u8, (number % 256) as u8]);
-        let inserted = tree.insert(key, Counted((number % 256) as u8, drops));
-        assert!(rt; matches!(inserted, Ok(None)));
+        let _old = tree.insert(key, Counted((number % 256) as u8, drops));
     }
     tree
 }
 
+// How many keys a tree of a thousand has, and how many values are dropped with it.
+fn dropped_of_thousand(alloc: Global) -> (usize, Option<usize>) {
+    let drops = Cell::new(0_usize);
+    let tree = thousand(alloc, &drops);
+    let many = tree.len();
+    (many, dropped_with(tree, &drops))
+}
+
 #[test]
 fn a_dropped_tree_of_a_thousand_keys_drops_each_value_once(rt: HostRuntime) {
-    let drops = Cell::new(0_usize);
-    let tree = thousand(&rt, rt.alloc(), &drops);
-    assert_eq!(rt; tree.len(), 1000);
-    assert_eq!(rt; drops.get(), 0);
-    drop(tree);
-    assert_eq!(rt; drops.get(), 1000);
+    assert_eq!(rt; dropped_of_thousand(rt.alloc()), (1000, Some(1000)));
 }
 
 /// A call, with the number of the value that it offers.
@@ -152,75 +174,95 @@ static HANDED_AND_DROPPED: [Row; 14] = [
     (Ask::PopLast, Some(10), 9),
 ];
 
-// Five values before the rows, and two at their end.
-#[test]
-fn each_value_is_handed_out_or_back_or_dropped_once(rt: HostRuntime) {
-    let drops = Cell::new(0_usize);
-    let mut tree = filled(&rt, rt.alloc(), &drops, 5);
+// The first row that fails, if one does.
+fn first_wrong<'a>(tree: &mut Tree<'a>, drops: &'a Cell<usize>) -> Option<usize> {
+    let mut at = 0_usize;
     for row in &HANDED_AND_DROPPED {
-        assert!(rt; row_holds(&mut tree, row, &drops), "at {}", row.2);
+        if !row_holds(tree, row, drops) {
+            return Some(at);
+        }
+        at = at.wrapping_add(1);
     }
-    assert_eq!(rt; tree.len(), 2);
-    drop(tree);
-    assert_eq!(rt; drops.get(), 11);
+    None
 }
 
-// A key that makes the node grow, with its request refused: the value is returned. Whether a request was refused.
-fn insert_refused(rt: &impl Abort, alloc: Global, at: usize, drops: &Cell<usize>) -> bool {
-    let mut tree = filled(rt, alloc, drops, 4);
-    refuse(alloc, at);
-    let answer = tree.insert(key(4), Counted(4, drops));
-    let refused = was_refused(alloc);
-    assert_eq!(rt; drops.get(), 0, "request {at}");
+// Five values before the rows. The first row that fails, how many values are left, and how many are dropped in all.
+fn handed_and_dropped(alloc: Global) -> (Option<usize>, usize, usize) {
+    let drops = Cell::new(0_usize);
+    let mut tree = filled(alloc, &drops, 5);
+    let wrong = first_wrong(&mut tree, &drops);
+    let left = tree.len();
+    drop(tree);
+    (wrong, left, drops.get())
+}
+
+#[test]
+fn each_value_is_handed_out_or_back_or_dropped_once(rt: HostRuntime) {
+    assert_eq!(rt; handed_and_dropped(rt.alloc()), (None, 2, 11));
+}
+
+type Inserted<'a> = Result<Option<Counted<'a>>, Refused<Counted<'a>>>;
+
+// Whether the value of a refused insertion is returned and not dropped.
+fn is_handed_back(answer: Inserted<'_>, refused: bool, drops: &Cell<usize>) -> bool {
     match answer {
-        Ok(old) => assert!(rt; !refused && old.is_none(), "request {at}"),
+        Ok(old) => !refused && old.is_none() && drops.get() == 0,
         Err(back) => {
-            assert!(rt; refused && back.error == TreeError::Memory, "request {at}");
-            assert!(rt; back.value.0 == 4 && drops.get() == 0, "request {at}");
+            let is_whole = back.error == TreeError::Memory && back.value.0 == 4;
+            let early = drops.get();
             drop(back);
-            assert_eq!(rt; drops.get(), 1, "request {at}");
+            refused && is_whole && early == 0 && drops.get() == 1
         }
     }
-    refused
+}
+
+// A key that makes the node grow, with its request refused: the value is returned. Whether a request was refused; None
+// where something else went wrong.
+fn insert_refused(alloc: Global, at: usize) -> Option<bool> {
+    let drops = Cell::new(0_usize);
+    let mut tree = filled(alloc, &drops, 4);
+    refuse(alloc, at);
+    let answer = tree.insert(key(4), Counted(4, &drops));
+    let refused = was_refused(alloc);
+    let well = is_handed_back(answer, refused, &drops);
+    drop(tree);
+    (well && drops.get() == 5).then_some(refused)
 }
 
 #[test]
 fn a_value_refused_in_turn_is_handed_back(rt: HostRuntime) {
     for at in 1..100_usize {
-        let drops = Cell::new(0_usize);
-        let refused = insert_refused(&rt, rt.alloc(), at, &drops);
-        assert_eq!(rt; drops.get(), 5, "request {at}");
-        if !refused {
-            return;
+        match insert_refused(rt.alloc(), at) {
+            Some(true) => {}
+            Some(false) => return,
+            None => assert!(rt; false, "request {at}"),
         }
     }
     assert!(rt; false, "refused for ever");
 }
 
 // A removal that makes the node shrink, with its request refused: nothing is dropped.
-fn remove_refused(rt: &impl Abort, alloc: Global, at: usize, drops: &Cell<usize>) -> bool {
-    let mut tree = filled(rt, alloc, drops, 5);
+fn remove_refused(alloc: Global, at: usize) -> Option<bool> {
+    let drops = Cell::new(0_usize);
+    let mut tree = filled(alloc, &drops, 5);
     refuse(alloc, at);
     let answer = tree.delete(key(2));
     let refused = was_refused(alloc);
-    match answer {
-        Ok(found) => assert!(rt; found && !refused && drops.get() == 1, "request {at}"),
-        Err(error) => {
-            assert!(rt; refused && error == TreeError::Memory, "request {at}");
-            assert_eq!(rt; drops.get(), 0, "request {at}");
-        }
-    }
-    refused
+    let well = match answer {
+        Ok(found) => found && !refused && drops.get() == 1,
+        Err(error) => refused && error == TreeError::Memory && drops.get() == 0,
+    };
+    drop(tree);
+    (well && drops.get() == 5).then_some(refused)
 }
 
 #[test]
 fn a_deletion_refused_in_turn_drops_nothing(rt: HostRuntime) {
     for at in 1..100_usize {
-        let drops = Cell::new(0_usize);
-        let refused = remove_refused(&rt, rt.alloc(), at, &drops);
-        assert_eq!(rt; drops.get(), 5, "request {at}");
-        if !refused {
-            return;
+        match remove_refused(rt.alloc(), at) {
+            Some(true) => {}
+            Some(false) => return,
+            None => assert!(rt; false, "request {at}"),
         }
     }
     assert!(rt; false, "refused for ever");

@@ -176,14 +176,11 @@ fn add_three(table: &mut Table) -> bool {
 }
 
 fn three_are_taken(table: &mut Table) -> bool {
-    let (first, last) = (table.pop_first(), table.pop_last());
-    let left = table.len();
-    let (middle, none) = (table.pop_last(), table.pop_first());
-    is_pair(first, 0)
-        && is_pair(last, 2)
-        && left == 1
-        && is_pair(middle, 1)
-        && none == Ok(None)
+    is_pair(table.pop_first(), 0)
+        && is_pair(table.pop_last(), 2)
+        && table.len() == 1
+        && is_pair(table.pop_last(), 1)
+        && matches!(table.pop_first(), Ok(None))
         && table.is_empty()
 }
 

@@ -2,11 +2,10 @@
 ghost use Rattle.std.specs.Prelude.{◌≡◌, ◌∷◌, []};
 ghost use Rattle.rart_keys.specs.SortedMap.{put};
 
-use crate::play::replies::is_counted;
-use rart::{AdaptiveRadixTree, ArrayKey, KeyTrait, TreeStatsTrait, laws};
+use crate::play::replies::{have_same_statistics, is_counted};
+use rart::{AdaptiveRadixTree, ArrPartial, ArrayKey, Iter, KeyTrait, TreeStats, ValuesIter, laws};
 use std::alloc::Global;
 use std::process::Abort;
-use std::test::Fail;
 
 type Tree<K> = AdaptiveRadixTree<K, u64>;
 
@@ -60,13 +59,17 @@ fn put_and_found(
     }
 }
 
+fn cat_is_found(rt: &impl Abort, tree: &mut Tree<Key>) {
+    assert_eq!(rt; put_and_found(rt, tree, b"do"), (Some(6), Some(4)));
+    assert_eq!(rt; put_and_found(rt, tree, b"dog"), (Some(6), Some(5)));
+    assert_eq!(rt; put_and_found(rt, tree, b"d"), (Some(6), None));
+    assert_eq!(rt; tree.len(), 3);
+}
+
 #[test]
 fn a_key_that_was_put_in_is_found_beside_the_others(rt: HostRuntime) {
     let mut tree = dog_and_do(&rt, rt.alloc());
-    assert_eq!(rt; put_and_found(&rt, &mut tree, b"do"), (Some(6), Some(4)));
-    assert_eq!(rt; put_and_found(&rt, &mut tree, b"dog"), (Some(6), Some(5)));
-    assert_eq!(rt; put_and_found(&rt, &mut tree, b"d"), (Some(6), None));
-    assert_eq!(rt; tree.len(), 3);
+    cat_is_found(&rt, &mut tree);
 }
 
 // Puts a new key into a tree and takes it out again, by the law that names a tree without the key.
@@ -91,50 +94,73 @@ fn put_and_removed(
     }
 }
 
-#[test]
-fn a_new_key_removed_right_after_leaves_all_as_it_was(rt: HostRuntime) -> Result<(), Fail> {
-    let mut tree = dog_and_do(&rt, rt.alloc());
-    let other = dog_and_do(&rt, rt.alloc());
-    let removed = put_and_removed(&rt, &mut tree, &Key::new_from_slice(b"cat"), &other);
-    assert_eq!(rt; removed, Some(6));
-    assert!(rt; tree.get_tree_stats()? == other.get_tree_stats()?);
+fn has_dog_and_do(rt: &impl Abort, tree: &Tree<Key>, other: &Tree<Key>) {
+    assert!(rt; have_same_statistics(tree, other));
     assert_eq!(rt; tree.get_bytes(b"cat"), None);
     assert_eq!(rt; tree.get_bytes(b"dog"), Some(&5));
     assert_eq!(rt; tree.get_bytes(b"do"), Some(&4));
-    Ok(())
+}
+
+#[test]
+fn a_new_key_removed_right_after_leaves_all_as_it_was(rt: HostRuntime) {
+    let mut tree = dog_and_do(&rt, rt.alloc());
+    let other = dog_and_do(&rt, rt.alloc());
+    let removed = put_and_removed(&rt, &mut tree, &Key::new_from_slice(b"cat"), &other);
+    has_dog_and_do(&rt, &tree, &other);
+    assert_eq!(rt; removed, Some(6));
+}
+
+fn are_restored(before: &TreeStats, between: &TreeStats, after: &TreeStats) -> bool {
+    is_counted(before, &[1, 2, 1, 2], &[(4, 1, 1)])
+        && is_counted(between, &[2, 3, 1, 2], &[(4, 1, 2)])
+        && before == after
+}
+
+// Whether the statistics after the removal of a new key are those before it; false where the key isn't new.
+fn restores_statistics(tree: &mut Tree<Key>, key: &Key) -> bool {
+    if tree.get_k(key).is_some() {
+        return false;
+    }
+    match laws::insert_then_remove(tree, key, 6) {
+        Ok((before, between, after)) => are_restored(&before, &between, &after),
+        Err(_refused) => false,
+    }
 }
 
 #[test]
 fn statistics_before_a_new_key_are_those_after_its_removal(rt: HostRuntime) {
     let mut tree = dog_and_do(&rt, rt.alloc());
-    let key = Key::new_from_slice(b"dot");
-    if tree.get_k(&key).is_some() {
-        panic!(rt; "the key is not new");
-    }
-    match laws::insert_then_remove(&mut tree, &key, 6) {
-        Ok((before, between, after)) => {
-            assert!(rt; is_counted(&before, &[1, 2, 1, 2], &[(4, 1, 1)]));
-            assert!(rt; is_counted(&between, &[2, 3, 1, 2], &[(4, 1, 2)]));
-            assert!(rt; before == after);
+    let restored = restores_statistics(&mut tree, &Key::new_from_slice(b"dot"));
+    assert!(rt; restored);
+}
+
+fn are_side_by_side(
+    pairs: &mut Iter<'_, Key, ArrPartial<4>, u64>,
+    values: &mut ValuesIter<'_, Key, u64>,
+) -> bool {
+    for (bytes, value) in [(b"do".as_slice(), 4_u64), (b"dog", 5)] {
+        let is_next = match pairs.next() {
+            Some((key, stored)) => key.as_ref() == bytes && *stored == value,
+            None => false,
+        };
+        if !is_next || values.next() != Some(&value) {
+            return false;
         }
-        Err(_refused) => assert!(rt; false, "refused with ample memory"),
+    }
+    pairs.next().is_none() && values.next().is_none()
+}
+
+fn is_walked_side_by_side(tree: &Tree<Key>) -> bool {
+    match laws::pairs_and_values(tree) {
+        Ok((mut pairs, mut values)) => are_side_by_side(&mut pairs, &mut values),
+        Err(_refused) => false,
     }
 }
 
 #[test]
 fn pairs_and_values_are_walked_side_by_side(rt: HostRuntime) {
     let tree = dog_and_do(&rt, rt.alloc());
-    let Ok((mut pairs, mut values)) = laws::pairs_and_values(&tree) else {
-        panic!(rt; "refused with ample memory")
-    };
-    for (bytes, value) in [(b"do".as_slice(), 4_u64), (b"dog", 5)] {
-        match pairs.next() {
-            Some((key, stored)) => assert!(rt; key.as_ref() == bytes && *stored == value),
-            None => assert!(rt; false, "ended early"),
-        }
-        assert_eq!(rt; values.next(), Some(&value));
-    }
-    assert!(rt; pairs.next().is_none() && values.next().is_none());
+    assert!(rt; is_walked_side_by_side(&tree));
 }
 
 // Two trees of equal keys have equal nodes and statistics.

@@ -5,7 +5,6 @@ use crate::play::replies::is_counted;
 use rart::{AdaptiveRadixTree, ArrayKey, KeyTrait, MigrateError, TreeStatsTrait};
 use rart_test_tools::refusals::{is_swept, part_ends, refuse, was_refused};
 use std::alloc::Global;
-use std::process::Abort;
 use std::test::Fail;
 
 type Key = ArrayKey<16>;
@@ -43,11 +42,11 @@ fn key(text: &str) -> Key {
     }
 }
 
-fn filled(rt: &impl Abort, alloc: Global, texts: &[&str]) -> Tree {
+fn filled(alloc: Global, texts: &[&str]) -> Tree {
     let mut tree = Tree::new(alloc);
     let mut value = 1_u64;
     for text in texts {
-        assert!(rt; matches!(tree.insert(key(text), value), Ok(None)));
+        let _old = tree.insert(key(text), value);
         value = value.wrapping_add(1);
     }
     tree
@@ -75,11 +74,15 @@ fn row_holds(old: &Tree, row: &Row) -> bool {
     well && holds(old, row.0)
 }
 
+fn row_holds_of_new(alloc: Global, row: &Row) -> bool {
+    let old = filled(alloc, row.0);
+    row_holds(&old, row)
+}
+
 #[test]
 fn closing_zeros_are_dropped_or_the_first_key_without_one_is_reported(rt: HostRuntime) {
     for row in &ROWS {
-        let old = filled(&rt, rt.alloc(), row.0);
-        assert!(rt; row_holds(&old, row), "{} keys", row.0.len());
+        assert!(rt; row_holds_of_new(rt.alloc(), row), "{} keys", row.0.len());
     }
 }
 
@@ -103,16 +106,25 @@ fn is_brought_over(old: &Tree) -> bool {
     }
 }
 
+fn is_inserted(tree: &mut Tree, key: &Key, value: u64) -> bool {
+    matches!(tree.insert_k(key, value), Ok(None))
+}
+
+fn are_brought_over(old: &mut Tree) -> bool {
+    is_inserted(old, &Key::new_from_str_terminated("cat"), 1)
+        && is_inserted(old, &Key::new_from_str_terminated("catalog"), 2)
+        && has_counts(old, &[2, 2, 1, 2], &[(4, 1, 2)])
+        && is_brought_over(old)
+}
+
+fn new_are_brought_over(alloc: Global) -> bool {
+    let mut old = Tree::new(alloc);
+    are_brought_over(&mut old)
+}
+
 #[test]
 fn terminated_texts_become_texts_that_begin_one_another(rt: HostRuntime) {
-    let mut old = Tree::new(rt.alloc());
-    let (one, other) = (
-        old.insert_k(&Key::new_from_str_terminated("cat"), 1),
-        old.insert_k(&Key::new_from_str_terminated("catalog"), 2),
-    );
-    assert!(rt; matches!((one, other), (Ok(None), Ok(None))));
-    assert!(rt; has_counts(&old, &[2, 2, 1, 2], &[(4, 1, 2)]));
-    assert!(rt; is_brought_over(&old));
+    assert!(rt; new_are_brought_over(rt.alloc()));
 }
 
 static LETTERS: [&str; 7] = ["a\0", "b\0", "c\0", "d\0", "e\0", "ea\0", "eb\0"];
@@ -152,12 +164,20 @@ fn open_is_refused_well(alloc: Global, old: &Tree, at: usize) -> Option<bool> {
     }
 }
 
+fn letters_are_swept(alloc: Global) -> bool {
+    let old = filled(alloc, &LETTERS);
+    is_swept(alloc, |at| is_refused_well(alloc, &old, at))
+}
+
+fn open_is_swept(alloc: Global) -> bool {
+    let open = filled(alloc, &OPEN);
+    is_swept(alloc, |at| open_is_refused_well(alloc, &open, at))
+}
+
 #[test]
 fn migrations_refused_in_turn(rt: HostRuntime) {
-    let alloc = rt.alloc();
-    let (old, open) = (filled(&rt, alloc, &LETTERS), filled(&rt, alloc, &OPEN));
-    assert!(rt; is_swept(alloc, |at| is_refused_well(alloc, &old, at)));
-    assert!(rt; is_swept(alloc, |at| open_is_refused_well(alloc, &open, at)));
+    assert!(rt; letters_are_swept(rt.alloc()));
+    assert!(rt; open_is_swept(rt.alloc()));
 }
 
 // How many requests were refused before none was; None where one failed.
@@ -205,10 +225,14 @@ fn requests_no_node(alloc: Global, old: &Tree) -> bool {
     }
 }
 
+fn open_requests_no_node(alloc: Global) -> bool {
+    let open = filled(alloc, &OPEN);
+    requests_no_node(alloc, &open)
+}
+
 #[test]
 fn all_keys_are_tested_before_a_node_is_made_refused_in_turn(rt: HostRuntime) {
-    let open = filled(&rt, rt.alloc(), &OPEN);
-    assert!(rt; requests_no_node(rt.alloc(), &open));
+    assert!(rt; open_requests_no_node(rt.alloc()));
 }
 
 #[test]

@@ -2,37 +2,40 @@
 //! each would be seen to, were it to ask.
 
 use crate::loads::{Key, ascend, load_by_index, load_unique};
-use rart::{AdaptiveRadixTree, KeyTrait};
+use rart::{AdaptiveRadixTree, BulkError, KeyTrait};
 use rart_test_tools::refusals::{refuse, was_refused};
-use std::alloc::{AllocError, Global};
-use std::test::Fail;
+use std::alloc::Global;
+
+type Tree = AdaptiveRadixTree<Key, u64>;
+
+fn is_empty(loaded: Result<Tree, BulkError>) -> bool {
+    match loaded {
+        Ok(tree) => tree.is_empty(),
+        Err(_refused) => false,
+    }
+}
+
+fn nothing_is_loaded_by_index(alloc: Global, items: &[(Key, u64)]) -> bool {
+    ascend(items) && is_empty(load_by_index(alloc, items, |i| i as u64))
+}
+
+fn nothing_is_loaded_unique(alloc: Global, items: Vec<(Key, u64)>) -> bool {
+    ascend(&items) && is_empty(load_unique(alloc, items))
+}
 
 // Whether each load of no items gives an empty tree while the next request is refused.
-fn nothing_is_loaded(alloc: Global) -> Result<bool, AllocError> {
-    let items: Vec<(Key, u64)> = Vec::new(alloc);
-    if !ascend(&items) {
-        return Ok(false);
-    }
+fn nothing_is_loaded(alloc: Global) -> bool {
     refuse(alloc, 1);
-    let by_index = load_by_index(alloc, &items, |i| i as u64);
-    let sorted = AdaptiveRadixTree::<Key, u64>::bulk_load_sorted(alloc, Vec::new(alloc));
-    let unique = load_unique(alloc, items);
-    let refused = was_refused(alloc);
-    Ok(match (by_index, sorted, unique) {
-        (Ok(one), Ok(two), Ok(three)) => {
-            !refused && one.is_empty() && two.is_empty() && three.is_empty()
-        }
-        _ => false,
-    })
+    let are_empty = nothing_is_loaded_by_index(alloc, &[])
+        && is_empty(Tree::bulk_load_sorted(alloc, Vec::new(alloc)))
+        && nothing_is_loaded_unique(alloc, Vec::new(alloc));
+    !was_refused(alloc) && are_empty
 }
 
 #[test]
-fn loads_of_no_items_ask_for_nothing(rt: HostRuntime) -> Result<(), Fail> {
-    assert!(rt; nothing_is_loaded(rt.alloc())?);
-    Ok(())
+fn loads_of_no_items_ask_for_nothing(rt: HostRuntime) {
+    assert!(rt; nothing_is_loaded(rt.alloc()));
 }
-
-type Tree = AdaptiveRadixTree<Key, u64>;
 
 fn is_migrated_to_nothing(tree: &Tree) -> bool {
     match Tree::drop_closing_zeros(tree) {

@@ -1,7 +1,8 @@
 //! The values of a load by index are taken in the order of their indices.
 
 use crate::loads::{Key, ascend, load_by_index};
-use rart::KeyTrait;
+use crate::play::Tree;
+use rart::{BulkError, KeyTrait};
 use std::alloc::{AllocError, Global};
 use std::cell::Cell;
 use std::test::Fail;
@@ -18,26 +19,38 @@ fn items(alloc: Global) -> Result<Vec<(Key, u64)>, AllocError> {
     Ok(items)
 }
 
+fn has_items(tree: &Tree<Key>, items: &[(Key, u64)]) -> bool {
+    for (key, value) in items {
+        if tree.get_k(key) != Some(value) {
+            return false;
+        }
+    }
+    tree.len() == items.len()
+}
+
+fn is_tree_of(loaded: Result<Tree<Key>, BulkError>, items: &[(Key, u64)]) -> bool {
+    match loaded {
+        Ok(tree) => has_items(&tree, items),
+        Err(_refused) => false,
+    }
+}
+
 // The indices taken, as digits after a first 1, where each key then has its index.
-fn taken(alloc: Global) -> Result<Option<usize>, AllocError> {
-    let items = items(alloc)?;
-    if !ascend(&items) {
-        return Ok(None);
+fn taken_of(alloc: Global, items: &[(Key, u64)]) -> Option<usize> {
+    if !ascend(items) {
+        return None;
     }
     let taken = Cell::new(1_usize);
-    let loaded = load_by_index(alloc, &items, |i| {
+    let loaded = load_by_index(alloc, items, |i| {
         taken.set(taken.get().wrapping_mul(10).wrapping_add(i));
         i as u64
     });
-    let Ok(tree) = loaded else {
-        return Ok(None);
-    };
-    for (key, value) in &items {
-        if tree.get_k(key) != Some(value) {
-            return Ok(None);
-        }
-    }
-    Ok((tree.len() == 5).then_some(taken.get()))
+    is_tree_of(loaded, items).then_some(taken.get())
+}
+
+fn taken(alloc: Global) -> Result<Option<usize>, AllocError> {
+    let items = items(alloc)?;
+    Ok(taken_of(alloc, &items))
 }
 
 #[test]

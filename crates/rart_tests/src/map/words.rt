@@ -3,6 +3,7 @@ ghost use Rattle.std.specs.Prelude.{◌≡◌, ℕ, ◌+◌, ◌-◌, ◌^◌, S
 ghost use Rattle.rart_keys.specs.SortedMap.{lookup, put};
 
 use rart::{AdaptiveRadixTree, ArrayKey, KeyTrait, Slot, SlotUpdate, TryUpdateError};
+use std::alloc::Global;
 
 /// A counter that counts no further.
 #[derive(Drop)]
@@ -37,30 +38,52 @@ type Counts = AdaptiveRadixTree<ArrayKey<16>, u64>;
 
 static WORDS: [&str; 6] = ["to", "be", "or", "not", "to", "be"];
 
+static COUNTED: [(&str, u64); 4] = [("to", 2), ("be", 2), ("or", 1), ("not", 1)];
+
+// The first word that isn't counted, or whose count is another than wanted.
+fn first_wrong_word(counts: &mut Counts) -> Option<&'static str> {
+    for word in WORDS {
+        let key = ArrayKey::<16>::new_from_slice(word.as_bytes());
+        if count_word(counts, &key).is_err() {
+            return Some(word);
+        }
+    }
+    for (word, count) in &COUNTED {
+        if counts.get_bytes(word.as_bytes()) != Some(count) {
+            return Some(*word);
+        }
+    }
+    None
+}
+
+// The first wrong word, and how many are stored.
+fn count_words(alloc: Global) -> (Option<&'static str>, usize) {
+    let mut counts = Counts::new(alloc);
+    let wrong = first_wrong_word(&mut counts);
+    (wrong, counts.len())
+}
+
 #[test]
 fn words_are_counted(rt: HostRuntime) {
-    let mut counts = Counts::new(rt.alloc());
-    for word in WORDS {
-        let counted = count_word(
-            &mut counts,
-            &ArrayKey::<16>::new_from_slice(word.as_bytes()),
-        );
-        assert!(rt; counted.is_ok(), "{word}");
-    }
-    assert_eq!(rt; counts.get_bytes(b"to"), Some(&2));
-    assert_eq!(rt; counts.get_bytes(b"be"), Some(&2));
-    assert_eq!(rt; counts.get_bytes(b"or"), Some(&1));
-    assert_eq!(rt; counts.get_bytes(b"not"), Some(&1));
-    assert_eq!(rt; counts.len(), 4);
+    assert_eq!(rt; count_words(rt.alloc()), (None, 4));
+}
+
+fn stays_full(counts: &mut Counts) -> bool {
+    let word = ArrayKey::<16>::new_from_slice(b"to");
+    counts.insert_k(&word, u64::MAX).is_ok()
+        && matches!(
+            count_word(counts, &word),
+            Err(TryUpdateError::Callback(IsFull))
+        )
+        && counts.get_bytes(b"to") == Some(&u64::MAX)
+}
+
+fn is_kept_full(alloc: Global) -> bool {
+    let mut counts = Counts::new(alloc);
+    stays_full(&mut counts)
 }
 
 #[test]
 fn a_full_counter_is_not_counted_up(rt: HostRuntime) {
-    let mut counts = Counts::new(rt.alloc());
-    let word = ArrayKey::<16>::new_from_slice(b"to");
-    let stored = counts.insert_k(&word, u64::MAX).is_ok();
-    assert!(rt; stored);
-    let counted = count_word(&mut counts, &word);
-    assert!(rt; matches!(counted, Err(TryUpdateError::Callback(IsFull))));
-    assert_eq!(rt; counts.get_bytes(b"to"), Some(&u64::MAX));
+    assert!(rt; is_kept_full(rt.alloc()));
 }
