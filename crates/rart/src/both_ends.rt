@@ -11,8 +11,9 @@ use rart_parts::TreeError;
 use std::iter::FusedIterator;
 use std::marker::Model;
 
-/// Iterates over the pairs of a tree from both ends, ascending by key from the front. A contract reads it as the list of
-/// remaining pairs, ascending.
+/// Iterates over the pairs of a tree from both ends, ascending by key from the front.
+///
+/// A contract reads it as the list of remaining pairs, ascending.
 #[derive(Drop)]
 pub struct BothEnds<'a, K: KeyTrait, V> {
     front: Iter<'a, K, K::PartialType, V>,

@@ -98,7 +98,8 @@ impl<N> Storage<N> {
     /// Returns whether another child fits at byte `b`.
     fn has_free_slot(&self, b: u8) -> bool
         requires { child_at b (child_entries self.now) ≡ None }
-        ensures not_full { result ≡ true → length (child_entries self.now) < storage_capacity self.now }
+        ensures not_full { result ≡ true
+            → length (child_entries self.now) < storage_capacity self.now }
         ensures full { result ≡ false
             → length (child_entries self.now) ≡ storage_capacity self.now }
         ensures not_widest { result ≡ false → storage_capacity self.now < 256 }
@@ -143,7 +144,8 @@ impl<N> Storage<N> {
     pub(crate) fn reserve_slot(&mut self, alloc: Global, b: u8) -> Result<(), TreeError>
         requires absent { child_at b (child_entries self.old) ≡ None }
         ensures stored { child_entries self.new ≡ child_entries self.old }
-        ensures not_full { OnOk result (length (child_entries self.new) < storage_capacity self.new) }
+        ensures not_full { OnOk result
+            (length (child_entries self.new) < storage_capacity self.new) }
         ensures capacity { OnOk result
             (storage_capacity self.new
             ≡ widened_capacity (length (child_entries self.old)) (storage_capacity self.old)) }

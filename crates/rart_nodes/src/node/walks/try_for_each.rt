@@ -4,7 +4,8 @@ ghost use Rattle.rart_nodes.specs.tries.SeenTrees.{seen_pairs};
 ghost use Rattle.rart_nodes.specs.walks.BelowPrefix.{below_bound, below_visits, values_below};
 ghost use Rattle.rart_nodes.specs.walks.PathParts.{walk_values};
 ghost use Rattle.rart_nodes.specs.walks.WalkSteps.{IsWalkAt, walk_nodes};
-ghost use Rattle.rart_nodes.specs.walks.Tried.{CanTry, EndedVisit, EndsAs, EndsVisit, IfAllocated, MayStopForMemory, OnRefused};
+ghost use Rattle.rart_nodes.specs.walks.Tried.{CanTry, EndedVisit, EndsAs, EndsVisit};
+ghost use Rattle.rart_nodes.specs.walks.Tried.{IfAllocated, MayStopForMemory, OnRefused};
 
 use crate::count::{Count, Visits};
 use crate::node::seen::Seen;
