@@ -2,7 +2,7 @@
 
 use rart::{Descending, KeyTrait};
 use rart_test_trees::texts::{Key, Pair, Tree, filled, is_pair};
-use std::panic::Expect;
+use std::alloc::Global;
 
 // There are nodes without a value at "ab" and at "abc".
 const FIVE: [Pair; 5] = [("", 0), ("abcd", 1), ("abce", 2), ("abx", 3), ("b", 4)];
@@ -58,10 +58,22 @@ fn first_wrong(tree: &Tree) -> Option<usize> {
     None
 }
 
+// The first wrong prefix of a tree of the pairs, past the last where all pairs are others; 1000 where there is no tree.
+fn first_wrong_of(alloc: Global, pairs: &[Pair]) -> Option<usize> {
+    match filled(alloc, pairs) {
+        Some(tree) if gives_all(&tree, pairs) => first_wrong(&tree),
+        Some(_tree) => Some(BELOW.len()),
+        None => Some(1000),
+    }
+}
+
+fn gives_nothing(alloc: Global) -> bool {
+    let empty = Tree::new(alloc);
+    gives_all(&empty, &[])
+}
+
 #[test]
 fn pairs_come_from_the_last_on(rt: HostRuntime) {
-    let empty = Tree::new(rt.alloc());
-    let tree = filled(rt.alloc(), &FIVE).expect(&rt, "a tree");
-    assert!(rt; gives_all(&tree, &FIVE) && gives_all(&empty, &[]));
-    assert_eq!(rt; first_wrong(&tree), None);
+    assert_eq!(rt; first_wrong_of(rt.alloc(), BELOW[0].1), None);
+    assert!(rt; gives_nothing(rt.alloc()));
 }

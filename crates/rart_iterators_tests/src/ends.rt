@@ -142,7 +142,7 @@ fn taken(tree: &mut Tree, last: bool) -> Option<u64> {
 }
 
 // Pairs; the values in the order of their keys.
-const ORDERS: [(&[Pair], u64, u64); 4] = [
+static ORDERS: [(&[Pair], u64, u64); 4] = [
     (&[], 1, 1),
     (&[("", 0), ("a", 1), ("ab", 2)], 1012, 1210),
     (&[("ab", 2), ("a", 1), ("abc", 3), ("b", 4)], 11234, 14321),
@@ -162,9 +162,9 @@ fn taken_of(alloc: Global, pairs: &[Pair], last: bool) -> Option<u64> {
 
 #[test]
 fn pairs_are_taken_from_both_ends(rt: HostRuntime) {
-    for (pairs, up, down) in ORDERS {
-        assert_eq!(rt; taken_of(rt.alloc(), pairs, false), Some(up));
-        assert_eq!(rt; taken_of(rt.alloc(), pairs, true), Some(down));
+    for (pairs, up, down) in &ORDERS {
+        assert_eq!(rt; taken_of(rt.alloc(), pairs, false), Some(*up));
+        assert_eq!(rt; taken_of(rt.alloc(), pairs, true), Some(*down));
     }
 }
 

@@ -16,7 +16,7 @@ type Pairs<'a> = Iter<'a, Key, ArrPartial<4>, u64>;
 
 type Pair = (&'static [u8], u64);
 
-const FIVE: [Pair; 5] = [
+static FIVE: [Pair; 5] = [
     (b"ab", 1),
     (b"abcd", 2),
     (b"abce", 3),
@@ -153,10 +153,10 @@ fn counted_look_ups_answer_as_plain_ones(rt: HostRuntime) {
 
 // The pairs of a counted iteration are FIVE, and then none.
 fn are_five_counted(pairs: &mut SeenIter<'_, Key, u64, Visits>) -> bool {
-    for (bytes, value) in FIVE {
+    for (bytes, value) in &FIVE {
         match pairs.next_counted(&mut Visits::new()) {
             Some((key, stored)) => {
-                if key.as_ref() != bytes || *stored != value {
+                if key.as_ref() != *bytes || *stored != *value {
                     return false;
                 }
             }
