@@ -54,7 +54,7 @@ module _ {V : Type 0} where
       → WasRead (es ++ e ∷ []) ks vs → length ks ≤ MAX_PAIRS → FailsSorted (es ++ e ∷ []) Memory
   memory-fails es ks vs e r l = (not-empty es e, r.faultless, omega (arith, read-length (es ++ e ∷ []) ks vs r, l))
 
-  -- an equal key again: the value that was kept last goes
+  -- an equal key again: the value that was kept last is dropped
   popped-again : Same V → (es : List (List ℕ × V)) (ks : List (List ℕ)) (vs ws : List V) (last : Option V) (k : List ℕ)
       (v : V) → WasRead es ks vs → order_of_last ks k ≡ Equal → vs ≡ ws ++ option_to_list last
       → (0 < length vs → IsSome last) → WasRead (es ++ (k, v) ∷ []) ks (ws ++ v ∷ [])

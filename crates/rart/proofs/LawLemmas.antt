@@ -19,7 +19,7 @@ module _ {V : Type 0} where
       said ∙ ap (λ k. stats_of (keys_of k) tree.nodes) same
       ∙ ap (stats_of (keys_of m)) (one _ _ _ (rw same at shape) theirs)
 
-  -- a pair that was put in and taken out again
+  -- a pair that was inserted and removed again
   pub pairs-restored : (key : List ℕ) (value : V) (old between new : List (List ℕ × V)) → between ≡ put key value old
       → new ≡ without key between → without key (put key value old) ≡ old → new ≡ old
   pairs-restored key value old between new added taken law = taken ∙ ap (without key) added ∙ law

@@ -44,7 +44,7 @@ module _ {V : Type 0} where
   brought-over es ds ts vs k v l w = same-pairs es (with_zeros ds) (k ∙ ap (map terminated_key) (sym l)
       ∙ sym (keys-with_zeros ds)) (v ∙ sym w ∙ sym (values-with_zeros ds))
 
-  -- keys that were read tell that there are some
+  -- keys that were read show that there are some
   pub some-read : {K : Type 0} (bytes : K → List ℕ) (es : List (List ℕ × V)) (ks : List K)
       → keys_of es ≡ map terminated_key (map bytes ks) → 0 < length ks → es ≡ [] → ⊥
   some-read bytes es ks k some e = omega (

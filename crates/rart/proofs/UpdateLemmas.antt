@@ -146,7 +146,7 @@ module _ {F E V : Type 0} (sure : V → Type 0)
         let same : n ≡ m = kept k h.0 h.1 m res n (λ x s. law k x m up s) t.0 t.1 h.3 in
         ((Err e, t.2.0, t.2.1, (refl, same)), same)
 
-  -- what it asked for is done
+  -- the requested edit is made
   pub done : (x : Option V) (o : Outcome V) (b : Bool) → b ≡ touched_in o → res ≡ Ok o
       → Attempts sure g f k m (Answered x) res n → TriesUpdate g f k m (Ok b) n
   done x o b is r h = let e = rw r at h.3 in

@@ -1,7 +1,7 @@
 -- What two walks towards each other have between them.
 use Rattle.std.specs.Prelude.{ℕ, ◌≡◌, ◌-◌, ◌≤◌, List, length, take, drop}
 
--- n items are left between a walk that has `front` ahead and one that has `back` behind it: the first n of the one are
+-- n items are left between a walk with `front` ahead and one from the end with `back` ahead: the first n of the one are
 -- the last n of the other
 pub record AreLeft {A : Type 0} (n : ℕ) (front back : List A) : Type 0 where
   pub ahead : n ≤ length front

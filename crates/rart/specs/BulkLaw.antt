@@ -17,7 +17,7 @@ module _ {V : Type 0} where
   MayRefuseLoad pairs Full = MAX_PAIRS < length pairs
   MayRefuseLoad pairs (Unsorted at) = ⊥
 
-  -- the insertion of one of these pairs, where those before it were put in, may be refused so
+  -- the insertion of one of these pairs, after those before it, may be refused so
   abbrev pub MayRefuseOneOf : List (List ℕ × V) → TreeError → Type 0
   MayRefuseOneOf pairs error = (before : List (List ℕ × V)) × (pair : List ℕ × V) × (after : List (List ℕ × V))
       × (pairs ≡ before ++ pair ∷ after) × MayRefuseInsert (put_all before []) pair.0 error

@@ -15,7 +15,7 @@ abbrev pub IsCounted : List (List ℕ) → Statistics → Type 0
 IsCounted keys numbers = (nodes : List (List ℕ × NodeRecord)) → HasShape keys nodes → numbers ≡ stats_of keys nodes
 
 module _ {V : Type 0} where
-  -- the pair that was put in is there, and the nodes have the shape of the keys with it
+  -- the inserted pair is stored, and the nodes have the shape of the keys with it
   abbrev pub HoldsPair : List ℕ → V → MapAndShape V → MapAndShape V → Type 0
   HoldsPair key value old new = (new.pairs ≡ put key value old.pairs) × HasShape (keys_of new.pairs) new.nodes
 

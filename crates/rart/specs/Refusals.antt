@@ -1,4 +1,4 @@
--- When an edit may be refused, and what a refused insertion hands back.
+-- When an edit may fail, and what a failed insertion returns.
 use Rattle.std.specs.Prelude.{◌≡◌, ◌≢◌, ◌<◌, ◌≤◌, ℕ, List, length, true, Some, None, Result, Ok, Err}
 use Rattle.rart_keys.specs.SortedMap.{keys_of, lookup}
 use Rattle.rart_nodes.specs.edits.InsertAllocations.{insert_allocates}

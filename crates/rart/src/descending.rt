@@ -49,7 +49,7 @@ impl<K: KeyTrait, V> AdaptiveRadixTree<K, V> {
 
 impl<K: KeyTrait + Drop, V> AdaptiveRadixTree<K, V> {
     /// Returns an iterator over the pairs within two bounds, descending by key; over none if the end is below the
-    /// start. It goes straight to the end.
+    /// start. It seeks the end.
     ///
     /// # Errors
     ///

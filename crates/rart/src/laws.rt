@@ -1,4 +1,4 @@
-//! What clients can count on, each proved for every key type from the public contracts alone.
+//! Laws of the map, each proved for every key type from the public contracts alone.
 ghost use Rattle.std.specs.Prelude.{◌≡◌, ◌≢◌, ◌≤◌, length, IfErr, IfOk, IsOk, MatchResult, OnErr, OnOk};
 ghost use Rattle.std.specs.Borrow.{sem};
 ghost use Rattle.std.specs.Option.{option_copied};
@@ -24,7 +24,7 @@ pub mod counts;
 pub mod probes;
 pub mod routes;
 
-/// Shows that trees with equal keys have equal nodes, whatever their key types, values and history.
+/// Proves that trees with equal keys have equal nodes, whatever their key types, values and history.
 pub fn equal_keys_equal_nodes<K: KeyTrait, V, L: KeyTrait, W>(
     one: &AdaptiveRadixTree<K, V>,
     other: &AdaptiveRadixTree<L, W>,
@@ -37,7 +37,7 @@ pub fn equal_keys_equal_nodes<K: KeyTrait, V, L: KeyTrait, W>(
     rart_nodes::laws::one_shape();
 }
 
-/// Returns the statistics of two trees with equal keys, and shows that they are equal.
+/// Returns the statistics of two trees with equal keys, which are equal.
 ///
 /// # Errors
 ///

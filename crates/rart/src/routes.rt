@@ -72,7 +72,7 @@ impl<K: KeyTrait, T> RouteTable<K, T> {
         self.routes.is_empty()
     }
 
-    /// Shows what holds of every table; does nothing at run time.
+    /// Proves what holds of every table; does nothing at run time.
     ///
     /// The pairs ascend by prefix. The nodes are exactly the branch points of the prefixes. A table of n routes has
     /// at most 2n - 1 nodes.

@@ -270,7 +270,7 @@ fn copied_values<K: KeyTrait + Drop, V: Copy>(
     Ok(values)
 }
 
-/// Makes calls in order and returns a reply for each. A failed call has its reply, and the calls after it are made.
+/// Makes calls in order and returns a reply for each, also for a failed one, after which it continues.
 ///
 /// # Errors
 ///

@@ -1,4 +1,4 @@
-//! Statistics of a tree: how many nodes it has of each width, how many children they have, and how deep it is.
+//! Statistics of a tree: how many nodes it has of each capacity, how many children they have, and how deep it is.
 ghost use Rattle.std.specs.Prelude.{◌≡◌, ℕ, ◌≤◌, List, length, IfErr, IfOk, OnErr};
 ghost use Rattle.rart_nodes.specs.shapes.Shape.{NodeRecord};
 ghost use Rattle.rart_nodes.specs.statistics.Statistics.{stats_in, stats_of};

@@ -32,8 +32,8 @@ mod values_mut;
 /// The largest number of pairs that a tree holds.
 pub const MAX_PAIRS: usize = usize::MAX / 16;
 
-/// The longest key of a tree whose root is dropped as it is. That takes a frame a level, and a level a byte; to descend
-/// by references takes less of the stack and more time.
+/// The longest key of a tree that the compiler's recursion drops, which takes a frame a level, at most one a byte;
+/// `drop_tree` takes less of the stack and more time.
 const SHALLOW: usize = 128;
 
 /// An ordered map from keys, read as bytes, to values. Shared prefixes are stored once, and inner
@@ -120,7 +120,7 @@ impl<K: KeyTrait, V> AdaptiveRadixTree<K, V> {
         self.longest = 0;
     }
 
-    /// Shows what holds of every tree; does nothing at run time.
+    /// Proves what holds of every tree; does nothing at run time.
     ///
     /// The pairs ascend by key. The nodes are exactly the branch points of the keys, each of the kind that its child
     /// count fixes. A tree of n keys has at most 2n - 1 nodes.
@@ -209,8 +209,8 @@ impl<K: KeyTrait, V> AdaptiveRadixTree<K, V> {
     ///
     /// [`TreeError::Full`] if the key is new and the tree holds [`MAX_PAIRS`] pairs. [`TreeError::Memory`] if an
     /// allocation fails: only if the tree isn't empty, the key is no branch point, and the longest branch point that
-    /// begins it has no free slot, or has a child at its next byte. The tree is then unchanged, and the error
-    /// holds `value`.
+    /// begins it has no free slot, has a child at its next byte, or doesn't exist. The tree is then unchanged, and
+    /// the error holds `value`.
     ///
     /// # Examples
     ///

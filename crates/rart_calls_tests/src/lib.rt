@@ -1,7 +1,7 @@
 //! Tests of the calls of the map: rows of calls with the replies wanted, played in each form, with ample memory, with
 //! each request for memory refused in turn, and where nothing may be requested.
 //!
-//! Nothing depends on this crate, and it is no part of the product. The other tests of the map stand in `rart_tests`,
+//! Nothing depends on this crate, and it is no part of the product. The other tests of the map are in `rart_tests`,
 //! `rart_iterators_tests`, `rart_walks_tests` and `rart_joins_tests`, which are proved beside it.
 #![tactic(auto)]
 

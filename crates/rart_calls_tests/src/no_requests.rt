@@ -1,4 +1,4 @@
-//! Calls that may not ask for memory. Under the library that refuses it each would be seen to, were it to ask.
+//! Calls that may not allocate. The library that refuses memory reports a call that does.
 
 use crate::play::{Ask, Request, Row, Want, assert_none_wrong, first_wrong_without_requests};
 use rart::script::run;

@@ -1,4 +1,4 @@
-//! Each request for memory refused in turn: a refused call changes nothing and hands its value back, and with memory
+//! Each request for memory refused in turn: a refused call changes nothing and returns its value, and with memory
 //! it answers as if none had been refused.
 
 use crate::play::{
@@ -270,7 +270,7 @@ fn put_three(tree: &mut Tree) -> bool {
     true
 }
 
-// Whether the fifth key is put in where nothing was refused, and else put in once there is memory.
+// Whether the fifth key is inserted: at once where nothing was refused, and else once there is memory.
 fn fifth_is_put(tree: &mut Tree, fifth: Result<Option<u64>, Refused<u64>>, refused: bool) -> bool {
     match fifth {
         Ok(old) => !refused && old.is_none(),
@@ -302,7 +302,7 @@ fn five_are_put_in_new(alloc: Global) -> bool {
     five_are_put(alloc, &mut tree)
 }
 
-// With the next request refused a fourth key is put in and a fifth isn't, and the statistics say so.
+// With the next request refused a fourth key is inserted and a fifth isn't, and the statistics say so.
 #[test]
 fn a_fifth_key_refused_in_turn_leaves_four(rt: HostRuntime) {
     assert!(rt; five_are_put_in_new(rt.alloc()));

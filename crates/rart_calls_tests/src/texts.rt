@@ -132,7 +132,7 @@ fn gives(alloc: Global, tree: &mut Tree, walked: &[(Key, u64)]) -> bool {
     }
 }
 
-// Whether the keys are put in with their values, each is found, and a walk gives them in this order.
+// Whether the keys are inserted with their values, each is found, and a walk gives them in this order.
 fn are_walked(alloc: Global, put: &[(Key, u64)], walked: &[(Key, u64)]) -> bool {
     let mut tree = Tree::new(alloc);
     are_put(&mut tree, put) && are_found(&tree, put) && gives(alloc, &mut tree, walked)

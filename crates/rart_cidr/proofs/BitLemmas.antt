@@ -30,7 +30,7 @@ holds_at p (suc n) x h l = elim (p n) as (λ b. p n ≡ b → (if b then holds_b
   | false ↦ λ s t. absurd (cc)
 ] refl h
 
--- the number that bits stand for after the bits of a
+-- the number that bits encode after the bits of a
 unfoldable pub number_after : ℕ → List ℕ → ℕ
 number_after a [] = a
 number_after a (b ∷ l) = number_after (2 * a + b) l

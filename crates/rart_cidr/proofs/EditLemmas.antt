@@ -210,7 +210,7 @@ module _ {T : Type 0} where
   five-routes S o a b m = ⊎_elim (λ l. omega (arith, l, few-strides S a b)) (λ l. omega (arith, l, few-targets S o a b))
       m
 
-  -- and of a refusal: there was room, so neither the strides nor a stride were full
+  -- and of a refusal: the table was not full, so neither the strides nor a stride were
   pub refused-route : (S : List (List ℕ × List (List ℕ × T))) (o : List ℕ) (n : ℕ) (q : List ℕ) (x c : ℕ)
       (error : TreeError) → IsAscending S → AreStrides S → AreBytes o → n ≤ 8 * length o →
       q ≡ take (n / 8) o → x ≡ slice_index o (n / 8) → c ≡ code x (n % 8) → length (routes_of S) ≤ MAX_PAIRS

@@ -1,4 +1,4 @@
--- Octets whose last bits are cleared, and the networks that they stand for.
+-- Octets whose last bits are cleared, and the networks that they encode.
 use Rattle.std.proofs.Common.{◌≡◌, ℕ, zero, suc, ◌+◌, ◌-◌, ◌*◌, ◌<◌, ◌≤◌, ◌==◌, ◌++◌, length, take, drop, arith, Bool}
 use Rattle.std.proofs.Common.{List, [], ◌∷◌, true, false, refl, sym, ap, ◌∙◌, if◌then◌else◌, eqb-true}
 use Rattle.std.specs.Bool.{Decides}

@@ -7,7 +7,7 @@ use Rattle.rart_cidr.specs.Codes.{length_of_code}
 use Rattle.rart_cidr.specs.Routes.{IsLongestIn}
 use Rattle.rart_cidr.proofs.BitLemmas.{code-is, holds_below}
 
--- how many bits the code of r bits stands for
+-- how many bits the code of r bits encodes
 code-length : (x r : ℕ) → x < 256 → r < 8 → length_of_code (code x r) ≡ r
 unfolding holds_below
 code-length x zero h l = ap length (sym (code-is x 0 h refl))
@@ -27,7 +27,7 @@ module _ {T : Type 0} where
   one-absent : (c d : ℕ) (t : T) → (c ≡ d → ⊥) → lookup (d ∷ []) ((c ∷ [], t) ∷ []) ≡ None
   one-absent c d t n = rw (eq-no c d n) refl
 
-  -- the longest beginning of a byte that has a target: a code stands for one number of bits
+  -- the longest beginning of a byte that has a target: a code encodes one number of bits
   pub one-longest : (c x most bits : ℕ) (t : T) → x < 256 → most < 8 → bits ≡ length_of_code c → bits ≤ most
       → code x bits ≡ c → IsLongestIn ((c ∷ [], t) ∷ []) x most (Some (bits, t))
   one-longest c x most bits t h l e m s = (

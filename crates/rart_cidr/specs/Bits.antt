@@ -26,7 +26,7 @@ after_one [] = []
 after_one (zero ∷ l) = after_one l
 after_one (suc b ∷ l) = l
 
--- the bits that a code stands for
+-- the bits that a code encodes
 abbrev pub code_bits : ℕ → List ℕ
 code_bits c = after_one (byte_bits c)
 

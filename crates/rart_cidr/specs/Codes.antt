@@ -1,4 +1,4 @@
--- Codes in the order of the bits that they stand for.
+-- Codes in the order of the bits that they encode.
 use Rattle.std.specs.Prelude.{◌==◌, ℕ, zero, suc, ◌+◌, ◌-◌, ◌*◌, ◌/◌, ◌%◌, ◌^◌, length, if◌then◌else◌, nat_lt}
 use Rattle.rart_cidr.specs.Bits.{code_bits}
 
@@ -12,7 +12,7 @@ code_up (suc n) c = if c % 2 == 0 then c + 1 else code_up n (c / 2)
 abbrev pub next_code : ℕ → ℕ
 next_code c = if nat_lt c 128 then 2 * c else code_up 7 c
 
--- how many bits a code stands for, and the byte that begins with these, followed by zeros
+-- how many bits a code encodes, and the byte that begins with these, followed by zeros
 abbrev pub length_of_code : ℕ → ℕ
 length_of_code c = length (code_bits c)
 

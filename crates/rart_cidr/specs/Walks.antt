@@ -14,7 +14,7 @@ use Rattle.rart_cidr.specs.Routes.{IsCode, coded_network, stride_at}
 abbrev pub net_at : List ℕ → ℕ → List ℕ
 net_at o c = coded_network o (c ∷ [])
 
--- the order of codes is that of the bits that they stand for
+-- the order of codes is that of the bits that they encode
 abbrev pub IsCodeLess : ℕ → ℕ → Type 0
 IsCodeLess c d = IsLess (code_bits c) (code_bits d)
 

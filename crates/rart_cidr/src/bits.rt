@@ -47,7 +47,7 @@ pub fn code_after(code: u8) -> u8
     }
 }
 
-/// Returns the number of the bits that `code` stands for.
+/// Returns the number of bits that `code` encodes.
 pub fn code_len(code: u8) -> u8
     ensures { result ≡ length_of_code code }
 {
@@ -70,7 +70,7 @@ pub fn code_len(code: u8) -> u8
     }
 }
 
-/// Returns the byte that begins with the bits that `code` stands for, followed by zeros.
+/// Returns the byte that begins with the bits that `code` encodes, followed by zeros.
 pub fn code_byte(code: u8) -> u8
     ensures { result ≡ byte_of_code code }
 {
@@ -120,7 +120,7 @@ pub fn clear_after(octets: &mut [u8], bits: usize)
     }
 }
 
-/// Shows that octets are bytes. Does nothing at run time.
+/// Proves that octets are bytes. Does nothing at run time.
 pub fn are_bytes(octets: &[u8])
     ensures { AreBytes octets.now }
 {}

@@ -96,7 +96,7 @@ impl<K: KeyTrait, T> BitTable<K, T> {
         self.len = 0;
     }
 
-    /// Shows that the routes ascend by the bits of their networks. Does nothing at run time.
+    /// Proves that the routes ascend by the bits of their networks. Does nothing at run time.
     pub fn ascends(&self)
         ensures { IsAscending self.now }
     {

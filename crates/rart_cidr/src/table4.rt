@@ -79,7 +79,7 @@ impl<T> CidrTable4<T> {
         self.routes.clear();
     }
 
-    /// Shows that the routes ascend by the bits of their networks. Does nothing at run time.
+    /// Proves that the routes ascend by the bits of their networks. Does nothing at run time.
     pub fn ascends(&self)
         ensures { IsAscending self.now }
     {

@@ -82,7 +82,7 @@ fn has_networks(table: &Table, from: usize, to: usize) -> bool {
     table.len() == count
 }
 
-// With the request of this number refused: whether one was. None where something else went wrong.
+// With the request of this number refused: whether one was. None where something else failed.
 fn insertions_refused(alloc: Global, at: usize) -> Option<bool> {
     let mut table = Table::new(alloc);
     refuse(alloc, at);

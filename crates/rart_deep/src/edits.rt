@@ -1,6 +1,6 @@
 //! Edits of the tree.
 //!
-//! What owns a tree hands it to one function that borrows it.
+//! The owner of a tree lends it to one function.
 use crate::trees::{Key, Tree, insert_all, key, nested};
 use rart::{RouteTable, SlotUpdate, TryUpdateError};
 use std::alloc::Global;
@@ -38,7 +38,7 @@ fn try_insert_all(tree: &mut Tree) -> usize {
     new
 }
 
-/// Tries to insert each key twice, and returns how often that went well.
+/// Tries to insert each key twice, and returns how often that succeeded.
 pub fn try_insert(alloc: Global) -> Option<usize> {
     let mut tree = Tree::new(alloc);
     Some(try_insert_all(&mut tree))

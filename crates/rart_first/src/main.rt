@@ -1,4 +1,4 @@
-//! The first program of the README: it stores three words and looks up the longest that begins a text.
+//! The first program of README: it stores three words, finds the longest that begins a text, and lists a prefix's.
 #![tactic(auto)]
 
 use rart::{AdaptiveRadixTree, ArrayKey, Error, KeyTrait};

@@ -7,7 +7,7 @@ use std::panic::Expect;
 // There are nodes without a value at "ab" and at "abc": the ends meet within a node, and between two.
 static FIVE: [Pair; 5] = [("", 0), ("abcd", 1), ("abce", 2), ("abx", 3), ("b", 4)];
 
-// The ends that are asked in turn, f for the front and b for the back; those after five turns give none.
+// The ends that are called in turn, f for the front and b for the back; those after five turns give none.
 static TURNS: [&str; 8] = [
     "fffffff", "bbbbbbb", "fbfbffb", "bfbfbbf", "ffbbbfb", "bbbffbf", "fbbbbff", "bffffbb",
 ];

@@ -1,4 +1,4 @@
-//! Tests of what hands out pairs one by one: iterators, ranges, the first and last pair, and the route table.
+//! Tests of what returns pairs one by one: iterators, ranges, the first and last pair, and the route table.
 //!
 //! Nothing depends on this crate, and it is no part of the product.
 #![tactic(auto)]

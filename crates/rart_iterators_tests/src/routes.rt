@@ -306,7 +306,7 @@ fn walks_go_well(table: &Table) -> Result<bool, TreeError> {
     )
 }
 
-// The first wrong rows of both tables, and whether the walks between them went well.
+// The first wrong rows of both tables, and whether the walks between them succeeded.
 fn is_edited(table: &mut Table) -> (Option<usize>, bool, Option<usize>) {
     let filled = first_wrong(table, &VERSIONS);
     let walked = walks_go_well(table) == Ok(true);

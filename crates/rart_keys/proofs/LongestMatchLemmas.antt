@@ -1,4 +1,4 @@
--- What a pair that is put in or taken out does to the longest match.
+-- What an inserted or a removed pair does to the longest match.
 use Rattle.std.proofs.Common.{◌≡◌, ℕ, ◌<◌, ⊎_elim, length, arith, List, [], ◌∷◌, true, false, not, refl, sym, ap, ◌∙◌}
 use Rattle.std.proofs.Common.{Option, Some, None, if◌then◌else◌}
 use Rattle.std.specs.Prelude.{◌≢◌}
@@ -47,7 +47,7 @@ module _ {V : Type 0} where
       → HasNoLonger p q es
   no-longer-after p q e es h = λ k s f. h k (stored-after k e es s) f
 
-  -- where a stored key begins q, what stood before doesn't matter
+  -- where a stored key begins q, the value to start from doesn't matter
   some-match : (k q : List ℕ) (o r : Option (List ℕ × V)) (es : List (List ℕ × V)) → lookup k es ≢ None
       → begins k q ≡ true → last_or o (matches q es) ≡ last_or r (matches q es)
   some-match k q o r [] h f = absurd (h refl)

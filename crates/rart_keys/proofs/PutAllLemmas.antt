@@ -1,4 +1,4 @@
--- Pairs that ascend strictly: what is left of putting them in, in any order, and how they are told.
+-- Pairs that ascend strictly: what inserting them in any order leaves, and how they are recognized.
 use Rattle.std.proofs.Common.{◌≡◌, ℕ, ◌<◌, ◌⊎◌, inl, inr, ⊎_elim, zero, suc, true, false, List, [], ◌∷◌, ◌++◌, length}
 use Rattle.std.proofs.Common.{get_or, refl, ap, ◌∙◌, arith, Some, None, if◌then◌else◌}
 use Rattle.std.specs.List.{Contains}

@@ -1,5 +1,5 @@
 -- Two byte strings read as little-endian words of eight bytes: where the words are equal their bytes are, and else the
--- lowest different bit lies in the first different byte.
+-- lowest different bit is in the first different byte.
 use Rattle.std.proofs.Common.{◌≡◌, ◌≢◌, ℕ, suc, ◌+◌, ◌-◌, ◌/◌, ◌^◌, ◌%◌, ◌<◌, ◌≤◌, inl, inr, List, [], ◌∷◌, ◌++◌}
 use Rattle.std.proofs.Common.{length, take, drop, nat_eq, refl, sym, ap, ap₂, ◌∙◌, arith, eq-eqb, take-append-drop}
 use Rattle.std.proofs.Common.{length-take-le, length-drop}

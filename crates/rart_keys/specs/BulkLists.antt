@@ -13,7 +13,7 @@ abbrev pub IsFaultAt : {V : Type 0} → List (List ℕ × V) → ℕ → Type 0
 IsFaultAt es i = (0 < i) × (i < length es)
     × IsLess (slice_index_or (keys_of es) i []) (slice_index_or (keys_of es) (i - 1) [])
 
--- the first place, from `place` on, whose key is below the one before it, where k stands before the first
+-- the first place, from `place` on, whose key is below the one before it, where k comes before the first
 abbrev pub first_fault_after : {V : Type 0} → ℕ → List ℕ → List (List ℕ × V) → Option ℕ
 first_fault_after place k [] = None
 first_fault_after place k (e ∷ es) = match_ordering (slice_cmp nat_cmp e.0 k) (Some place)

@@ -31,7 +31,7 @@ pub fn compare_bytes(left: &[u8], right: &[u8]) -> Ordering
 }
 
 // Whole words as long as they are equal. In the first two that differ, the lowest different bit
-// lies in the first different byte, since the words are little-endian.
+// is in the first different byte, since the words are little-endian.
 fn prefix_length_words(left: &[u8], right: &[u8]) -> usize
     ensures { result ≡ common_prefix_len nat_eq left.now right.now }
 {

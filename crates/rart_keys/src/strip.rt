@@ -19,8 +19,8 @@ pub fn strip_prefix<'a>(prefix: &[u8], key: &'a [u8]) -> Option<&'a [u8]>
     Some(&key[prefix.len()..])
 }
 
-// Two overlapping reads cover every length between a width and twice that width, so no length but
-// those below half a word goes byte by byte.
+// Two overlapping reads cover every length between a width and twice that width, so only lengths
+// below half a word are compared byte by byte.
 fn begins(prefix: &[u8], key: &[u8]) -> bool
     requires { length prefix.now ≤ length key.now }
     ensures { IsTrue result ↔ (take (length prefix.now) key.now ≡ prefix.now) }

@@ -15,10 +15,10 @@ is_nonempty (b ∷ bs) = true
 abbrev pub words_of : List ℕ → List (List ℕ)
 words_of line = filter is_nonempty (slice_split is_separator line)
 
--- how many separators stand before the first other byte
+-- how many separators come before the first other byte
 abbrev pub gap_len : List ℕ → ℕ
 gap_len line = prefix_len is_separator line
 
--- how many bytes stand before the first separator
+-- how many bytes come before the first separator
 abbrev pub word_len : List ℕ → ℕ
 word_len line = prefix_len (λ b. not (is_separator b)) line

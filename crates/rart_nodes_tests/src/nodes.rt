@@ -36,7 +36,7 @@ enum Ask {
     Walk,
 }
 
-// The answer of each, and how many children and how much room the node then has.
+// The answer of each, and the number of children and the capacity of the node then.
 type Row = (Ask, Option<u64>, (usize, usize));
 
 fn leaf(byte: u8, value: u64) -> TestNode {
@@ -258,7 +258,7 @@ fn new_inner(alloc: Global, width: usize) -> Result<TestNode, TreeError> {
     }
 }
 
-// What is seen of a new node: its children, its room, and whether it has a value.
+// What is seen of a new node: its children, its capacity, and whether it has a value.
 fn seen_of(rt: &impl Abort, node: &TestNode) -> (usize, usize, bool) {
     let (children, room) = counts(rt, node);
     (children, room, node.value().is_some())
@@ -310,7 +310,7 @@ fn change_refused(rt: &impl Abort, alloc: Global, from: usize, at: usize, grows:
     try_change(rt, alloc, &mut node, from, at, grows)
 }
 
-// The value that a refused call hands back, or 255 for a refused deletion.
+// The value that a refused call returns, or 255 for a refused deletion.
 fn change(rt: &impl Abort, alloc: Global, node: &mut TestNode, grows: bool) -> Option<u64> {
     assert!(rt; node.seek_child(255).is_none() && node.children_fit());
     if grows {

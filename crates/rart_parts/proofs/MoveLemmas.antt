@@ -13,7 +13,7 @@ module _ {X : Type 0} (k : ℕ) (x : X) (s : List (ℕ × X)) where
   all_below b [] h a = h
   all_below b (e ∷ t) h a = omega (arith, h, all_below e.0 t a.0 a.1)
 
-  -- the next entry goes to the end
+  -- the next entry is moved to the end
   pub put_last : (t : List (ℕ × X)) → BytesAscend (t ++ (k, x) ∷ s) → with_entry k x t ≡ t ++ (k, x) ∷ []
   put_last [] a = refl
   put_last (e ∷ t) a = with_after k x e t (all_below e.0 t a.0 a.1) ∙ ap (λ l. e ∷ l) (put_last t a.1)
@@ -22,7 +22,7 @@ module _ {X : Type 0} (k : ℕ) (x : X) (s : List (ℕ × X)) where
   absent_last [] a = refl
   absent_last (e ∷ t) a = at_other k e t (λ q. omega (arith, q, all_below e.0 t a.0 a.1)) ∙ absent_last t a.1
 
-  -- the previous entry goes to the front
+  -- the previous entry is moved to the front
   back_ascends : (t : List (ℕ × X)) → BytesAscend (s ++ (k, x) ∷ t) → BytesAscend ((k, x) ∷ t)
   back_ascends t a = go s a
     where

@@ -7,7 +7,7 @@ abbrev pub child_at : {X : Type 0} → ℕ → List (ℕ × X) → Option X
 child_at k [] = None
 child_at k (e ∷ es) = if e.0 == k then Some e.1 else child_at k es
 
--- with a child at a byte, before the first greater byte, in place of the one that stood there
+-- with a child at a byte, before the first greater byte, in place of the old one
 abbrev pub with_entry : {X : Type 0} → ℕ → X → List (ℕ × X) → List (ℕ × X)
 with_entry k x [] = (k, x) ∷ []
 with_entry k x (e ∷ es) = if nat_lt k e.0 then (k, x) ∷ e ∷ es
@@ -23,7 +23,7 @@ abbrev pub TakesEntry : {X : Type 0} → List (ℕ × X) → List (ℕ × X) →
 TakesEntry old new taken = MatchOption taken ((old ≡ []) × (new ≡ [])) (λ e. (child_at e.0 old ≡ Some e.1)
     × (new ≡ without_byte e.0 old))
 
--- with another child at a byte where one stands
+-- with another child at a byte that has one
 abbrev pub replaced : {X : Type 0} → ℕ → X → List (ℕ × X) → List (ℕ × X)
 replaced k x [] = []
 replaced k x (e ∷ es) = if e.0 == k then (k, x) ∷ es else e ∷ replaced k x es

@@ -25,7 +25,7 @@ impl From<AllocError> for TreeError {
     }
 }
 
-/// `vec![in alloc; a, b]?` fails with an error that hands the items back; `?` drops them.
+/// `vec![in alloc; a, b]?` fails with an error that holds the items; `?` drops them.
 impl<T: Drop> From<AllocFailed<T>> for TreeError {
     ghost use Rattle.std.specs.Prelude.{◌≡◌};
     ghost use Rattle.rart_parts.specs.declared.error.TreeError.TheVariants.{Memory};

@@ -1,4 +1,4 @@
-//! Tests of the parts that nodes stand on, and of keys, over their public calls.
+//! Tests of the parts of nodes, and of keys, over their public calls.
 //!
 //! Nothing depends on this crate, and it is no part of the product. It needs neither nodes nor the map, so that it is
 //! proved beside them.

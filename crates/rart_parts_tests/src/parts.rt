@@ -1,4 +1,4 @@
-//! Tests of the parts that nodes stand on.
+//! Tests of the parts of nodes.
 
 mod arrays;
 mod conversions;

@@ -9,7 +9,7 @@ pub struct Call {
     pub kind: u64,
     /// Whether it is made on the second tree.
     pub on_second: bool,
-    /// Whether `key` stands for the stored key after it.
+    /// Whether the stored key at or after `key` replaces it.
     pub is_near: bool,
     /// The key, or the start.
     pub key: Text,

@@ -14,7 +14,7 @@ use rart::{
 /// The sum of an answer that is never right.
 pub const WRONG: u64 = 0;
 
-/// What a refusal is worth: none if it is documented, and the value came back.
+/// What a refusal is worth: none if it is documented, and returned the value.
 pub fn refused(refusal: Refused<u64>, value: u64) -> Option<u64> {
     if refusal.error == TreeError::Memory && refusal.value == value {
         None

@@ -1,8 +1,8 @@
 //! Plays calls that look random on two trees and a route table, beside models of them.
 //!
 //! Each line of standard input is a case: `KEYS SEED CALLS REFUSED`. The same case makes the same calls. A case that
-//! goes wrong is printed with its call, and with the shortest list of calls that still goes wrong; the status is then
-//! 1. The size of the largest tree of a case that goes well goes to standard error, and cases are not counted, so that
+//! fails is printed with its call, and with the shortest list of calls that still fails; the status is then
+//! 1. A case that passes prints the size of its largest tree to standard error, and cases are not counted, so that
 //! kept cases change no output. It is no part of the product.
 #![tactic(auto)]
 
@@ -104,7 +104,7 @@ fn run_case(rt: &(impl Print + Eprint), alloc: Global, case: &Case) -> io::Resul
     }
 }
 
-// Plays the case of each line, and returns whether there is one, each went well, and the last line has its end.
+// Plays the case of each line, and returns whether there is one, each passed, and the last line has its end.
 fn run_lines(rt: &(impl Print + Eprint), alloc: Global, text: &[u8]) -> io::Result<bool> {
     let mut are_right = !text.is_empty();
     let mut line = Line::new();

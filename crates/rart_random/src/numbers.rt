@@ -1,4 +1,4 @@
-//! Numbers that look random, and sums that stand for answers.
+//! Numbers that look random, and sums that represent answers.
 
 /// A source of numbers: the same for the same seed and number.
 #[derive(Clone, Copy)]

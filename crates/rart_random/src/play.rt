@@ -1,4 +1,4 @@
-//! Lists of calls: played to the first that goes wrong, and shortened.
+//! Lists of calls: played to the first that fails, and shortened.
 use crate::call::{Call, call_at, makes_a_tree};
 use crate::numbers::mix;
 use crate::world::World;
@@ -18,10 +18,10 @@ pub struct Case {
     pub refused: u64,
 }
 
-/// What came of it: the place in the list of the first call that went wrong, and the size of the largest tree.
+/// What came of it: the place in the list of the first call that failed, and the size of the largest tree.
 #[derive(Clone, Copy)]
 pub struct Played {
-    /// The place, none if all went well.
+    /// The place, none if all passed.
     pub wrong: Option<usize>,
     /// The most pairs of a tree.
     pub largest: usize,
@@ -103,7 +103,7 @@ fn without(
 // The most calls that are made to shorten a list.
 const BUDGET: usize = 20_000_000;
 
-// The list up to the first call that goes wrong, and nothing where none does.
+// The list up to the first call that fails, and nothing where none does.
 fn up_to_wrong<K: KeyTrait + Drop>(
     alloc: Global,
     case: &Case,
@@ -129,7 +129,7 @@ fn up_to_wrong_without<K: KeyTrait + Drop>(
     up_to_wrong::<K>(alloc, case, tried.as_slice())
 }
 
-// Leaves out each stretch of `count` calls without which the list still goes wrong.
+// Leaves out each stretch of `count` calls without which the list still fails.
 fn thin<K: KeyTrait + Drop>(
     alloc: Global,
     case: &Case,
@@ -165,7 +165,7 @@ fn shorten<K: KeyTrait + Drop>(
     Ok(())
 }
 
-/// A list that still goes wrong, with whatever can be left out left out: halves first, single calls last.
+/// A list that still fails, with whatever can be left out left out: halves first, single calls last.
 pub fn shortened<K: KeyTrait + Drop>(
     alloc: Global,
     case: &Case,

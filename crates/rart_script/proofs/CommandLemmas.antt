@@ -1,4 +1,4 @@
--- What the words of a line ask for.
+-- The call that the words of a line name.
 use Rattle.std.proofs.Common.{◌≡◌, ℕ, List, [], ◌∷◌, Option, Some}
 use Rattle.std.specs.declared.ops.Bound.TheVariants.{Included, Excluded}
 use Rattle.rart.specs.declared.script.call.Call.{Call}

@@ -1,4 +1,4 @@
--- What the words of a line ask for. The keys of calls are bytes here.
+-- The call that the words of a line name. The keys of calls are bytes here.
 use Rattle.std.specs.Prelude.{ℕ, List, [], ◌∷◌, Option, Some, None, codes, if◌then◌else◌}
 use Rattle.std.specs.Option.{option_map, option_and_then}
 use Rattle.std.specs.Str.{bytes_eq}
@@ -52,7 +52,7 @@ abbrev pub only_key_of : List (List ℕ) → Option (List ℕ)
 only_key_of (key ∷ []) = key_of key
 only_key_of _ = None
 
--- the call, where no word stands after it
+-- the call, if no word follows it
 abbrev pub complete_of : Call (List ℕ) ℕ → List (List ℕ) → Option (Call (List ℕ) ℕ)
 complete_of c [] = Some c
 complete_of c _ = None
@@ -71,7 +71,7 @@ call_of name operands =
     else if bytes_eq name (codes "stats") then complete_of call.Stats operands
     else None
 
--- what the words of a line ask for: no call where there is no word
+-- the call that the words of a line name: none where there is no word
 abbrev pub command_of : List (List ℕ) → Option (Option (Call (List ℕ) ℕ))
 command_of [] = Some None
 command_of (name ∷ operands) = option_map (λ c. Some c) (call_of name operands)

@@ -13,8 +13,8 @@ use rart::{KeyTrait, TreeError};
 use std::io;
 use std::io::Write;
 
-/// Writes the reply of the tree on a line. No command returns one of the last seven replies, for which it writes
-/// nothing.
+/// Writes the reply of the tree on a line, or nothing for one of the seven replies that no command of a script
+/// returns.
 ///
 /// # Errors
 ///

@@ -8,7 +8,7 @@ use rart::TreeStats;
 use std::io;
 use std::io::Write;
 
-/// Writes the sums, and then the nodes of each width with their children, ascending by width.
+/// Writes the sums, and then the nodes of each capacity with their children, ascending by capacity.
 ///
 /// # Errors
 ///

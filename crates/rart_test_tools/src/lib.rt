@@ -1,6 +1,6 @@
 //! What the tests of several crates share: requests for memory that are refused, and values that count their drops.
 //!
-//! It stands on the standard library alone, and is no part of the product.
+//! It depends on the standard library alone, and is no part of the product.
 #![tactic(auto)]
 
 pub mod counted;

@@ -2,7 +2,7 @@
 
 use std::alloc::Global;
 
-/// A request that asks a preloaded library, where there is one, to refuse the request `at` after it. The C library by
+/// A request that makes a preloaded library, if there is one, refuse the request `at` after it. The C library by
 /// itself refuses it, as no block is so large.
 pub fn refuse(alloc: Global, at: usize) {
     let _ = Vec::<u8>::with_capacity(
@@ -21,7 +21,7 @@ pub fn part_ends(alloc: Global) {
     let _ = Vec::<u8>::with_capacity(alloc, 0x5ef2_0000_0000_0000_usize);
 }
 
-/// A request that asks the library to add up the bytes of the requests after it, against a limit.
+/// A request that makes the library add up the bytes of the requests after it, against a limit.
 pub fn add_bytes(alloc: Global, limit: usize) {
     let _ = Vec::<u8>::with_capacity(
         alloc,
@@ -34,7 +34,7 @@ pub fn were_more(alloc: Global) -> bool {
     Vec::<u8>::with_capacity(alloc, 0x5ef4_0000_0000_0000_usize).is_ok()
 }
 
-/// Whether each request refused in turn goes well, up to the first that isn't made, which ends a part.
+/// Whether each request refused in turn passes, up to the first that isn't made, which ends a part.
 /// `is_refused_well` makes calls with the request of its number refused, and returns whether one was; None where
 /// something failed.
 pub fn is_swept<F: Fn(usize) -> Option<bool> + Drop>(alloc: Global, is_refused_well: F) -> bool

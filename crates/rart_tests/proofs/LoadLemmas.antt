@@ -1,4 +1,4 @@
--- Items that are tested to ascend, as the bulk loads ask them.
+-- Items that are tested to ascend, as the bulk loads require.
 use Rattle.std.proofs.Common.{◌≡◌, ℕ, drop, take, ◌+◌, ◌<◌, zero, suc, List, [], ◌∷◌, ◌++◌, length, get_or, map}
 use Rattle.std.proofs.Common.{reverse, refl, sym, ap, ◌∙◌, arith}
 use Rattle.std.specs.Iterator.{HoldsAlong, YieldsFirst}

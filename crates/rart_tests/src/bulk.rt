@@ -1,4 +1,4 @@
-//! How far a bulk load reads where memory is refused, and which index it requests.
+//! Tests of how far a bulk load reads if an allocation fails, and of which index it requests.
 ghost use Rattle.std.specs.Iterator.{YieldsFirst, item_count};
 ghost use Rattle.rart_keys.specs.ArrayKeyBytes.{array_key_bytes};
 ghost use Rattle.rart_keys.specs.SortedMap.{IsAscending};
@@ -33,7 +33,7 @@ const ITEMS: Pairs<'static> = &[
     ("l", 12),
 ];
 
-/// The items of a slice, which tell how many of them were read.
+/// The items of a slice, counted as they are read.
 #[derive(Drop)]
 struct ReadSlice<'a> {
     items: &'a [(Key, u64)],

@@ -2,8 +2,8 @@
 //! memory refused.
 //!
 //! Nothing depends on this crate, and it is no part of the product. A crate with tests is proved twice, so the tests
-//! stand in crates of their own; what has to look at private parts stands beside them. Rows of calls and replies are
-//! played in `rart_calls_tests`; what goes through a map is tested in `rart_iterators_tests`, `rart_walks_tests` and
+//! are in crates of their own, and use public calls alone. Rows of calls and replies are
+//! played in `rart_calls_tests`; walks of a map are tested in `rart_iterators_tests`, `rart_walks_tests` and
 //! `rart_joins_tests`, nodes in `rart_nodes_tests`, parts and keys in `rart_parts_tests`.
 #![tactic(auto)]
 

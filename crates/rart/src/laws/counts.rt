@@ -1,4 +1,4 @@
-//! Counts by walks with a callback: what a client can prove of them.
+//! The number of keys with a prefix, counted by a fold.
 ghost use Rattle.std.specs.Prelude.{◌≡◌, length, IfErr, IfOk};
 ghost use Rattle.rart_keys.specs.Filters.{below};
 ghost use Rattle.rart_nodes.specs.walks.Calls.{MayLackMemory};

@@ -1,4 +1,4 @@
-//! What clients can count on of intersections.
+//! The law of intersections: swapping the trees swaps the values alone.
 ghost use Rattle.std.specs.Prelude.{◌≡◌, ◌⊎◌, IfErr, OnErr, OnOk};
 ghost use Rattle.rart_keys.specs.Joins.{both, join, swapped_pairs};
 ghost use Rattle.rart_keys.specs.SortedMap.{IsAscending, lookup};

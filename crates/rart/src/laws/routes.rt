@@ -1,4 +1,4 @@
-//! What clients can count on of a route table: the probes whose route an edit changes.
+//! Laws of a route table: the probes whose route an edit changes.
 ghost use Rattle.std.specs.Prelude.{◌≡◌, IfErr, IfOk, OnErr, OnOk};
 ghost use Rattle.rart_keys.specs.Filters.{longest_value};
 ghost use Rattle.rart_keys.specs.LongestMatches.{HasLonger, KeepsLongest, KeepsOthers, TakesLongest};

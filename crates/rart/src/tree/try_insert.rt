@@ -11,7 +11,7 @@ use rart_keys::KeyTrait;
 use rart_nodes::{NotInserted, Refused};
 use rart_parts::TreeError;
 
-/// Why `try_insert` inserted nothing.
+/// Says why `try_insert` inserted nothing.
 #[derive(Drop)]
 pub enum TryInsertError<'a, V> {
     /// The key is stored: the value that was offered, and the stored one.
@@ -21,7 +21,7 @@ pub enum TryInsertError<'a, V> {
 }
 
 impl<K: KeyTrait, V> AdaptiveRadixTree<K, V> {
-    /// Inserts `value` at `key`, which must be new. A stored key allocates nothing.
+    /// Inserts `value` at `key` if the key is new. A stored key allocates nothing.
     ///
     /// # Errors
     ///
@@ -73,7 +73,7 @@ impl<K: KeyTrait, V> AdaptiveRadixTree<K, V> {
         self.insert_new_k(&key, value)
     }
 
-    /// Inserts `value` at `key`, which must be new.
+    /// Inserts `value` at `key` if the key is new.
     ///
     /// # Errors
     ///

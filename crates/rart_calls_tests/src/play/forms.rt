@@ -294,7 +294,7 @@ fn after<K: KeyTrait>(front: &[u8], byte: u8) -> Option<K> {
     }
 }
 
-// Neighbours aren't put in one after the other.
+// Neighbours aren't inserted one after the other.
 fn fill<K: KeyTrait + Drop>(tree: &mut Tree<K>, front: &[u8], from: usize, to: usize) -> bool {
     for i in 0..256_usize {
         let byte = (i * 167 % 256) as u8;

@@ -178,7 +178,7 @@ fn play_new_without_requests<K: KeyTrait + Drop>(
     play_without_requests(alloc, &mut tree, before, rows, style)
 }
 
-/// Plays the first rows, and then the others, none of which may ask for memory; a row that did is one past the last.
+/// Plays the first rows, and then the others, none of which may allocate; a row that did is one past the last.
 pub fn first_wrong_without_requests<K: KeyTrait + Drop>(
     alloc: Global,
     before: &[Row<'_>],
@@ -281,7 +281,7 @@ fn refused_in_answer<K: KeyTrait + Drop>(
     }
 }
 
-// Runs the calls with a request of the run refused, and returns whether one was; None where something else went wrong.
+// Runs the calls with a request of the run refused, and returns whether one was; None where something else failed.
 fn run_is_refused_well<K: KeyTrait + Drop>(
     alloc: Global,
     tree: &mut Tree<K>,

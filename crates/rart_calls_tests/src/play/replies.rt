@@ -61,7 +61,7 @@ fn are_pairs<K: KeyTrait + Drop>(
     true
 }
 
-/// Whether the reply says that there was no memory, and hands the value back that the call offered.
+/// Whether the reply says that there was no memory, and returns the value that the call offered.
 pub fn is_refusal<K>(reply: &Reply<K, u64>, ask: &Ask<'_>) -> bool {
     match (reply, ask) {
         (

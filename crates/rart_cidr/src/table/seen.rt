@@ -40,7 +40,7 @@ impl<K: KeyTrait, T> BitTable<K, T> {
 }
 
 impl<'a, K: KeyTrait, T, C: Count> SeenTable<'a, K, T, C> {
-    /// Shows that the routes ascend by the bits of their networks. Does nothing at run time.
+    /// Proves that the routes ascend by the bits of their networks. Does nothing at run time.
     pub fn ascends(&self)
         ensures { IsAscending self.now }
     {

@@ -33,7 +33,7 @@ pub(crate) enum Advance<'a, K, T> {
 
 /// Walks the routes from a network on.
 ///
-/// Contracts see it as the routes to come, and a number of steps that it can go without one.
+/// Contracts see it as the remaining routes, and a bound on the steps that return none.
 #[derive(Drop)]
 pub(crate) struct Walk<'a, K: KeyTrait, T> {
     strides: &'a AdaptiveRadixTree<K, Stride<T>>,

@@ -27,7 +27,7 @@ enum Rest<'a, T> {
 
 /// Iterates over the routes inside a network, ascending by address, then by length.
 ///
-/// Contracts see it as the routes to come.
+/// Contracts see it as the list of remaining routes.
 #[derive(Drop)]
 pub struct Routes4<'a, T> {
     rest: Rest<'a, T>,

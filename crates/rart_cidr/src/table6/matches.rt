@@ -15,7 +15,7 @@ use std::net::Ipv6Addr;
 
 /// Iterates over the routes whose networks contain all addresses of a network, the shortest first.
 ///
-/// Contracts see it as the routes to come.
+/// Contracts see it as the list of remaining routes.
 #[derive(Drop)]
 pub struct Matches6<'a, T> {
     routes: &'a BitTable<ArrayKey<16>, T>,

@@ -16,7 +16,7 @@ const BRANCHES: [Row; 7] = [
     (Ask::Len, Reply::Len(6)),
 ];
 
-// What stands before an edit that makes a node anew, and the edit.
+// The edits before one that allocates a node, and that edit.
 static EDITS: [(&[Row], Row); 7] = [
     // a node for two routes, and its growth beyond four
     (
@@ -91,7 +91,7 @@ fn are_alike(alloc: Global, one: &Table, other: &Table) -> bool {
         && have_same_statistics(one, other)
 }
 
-// A refused edit hands its target back.
+// A refused edit returns its target.
 fn is_handed_back(ask: Ask, reply: Reply) -> bool {
     match ask {
         Ask::Add(_, target) | Ask::AddNew(_, target) | Ask::Replace(_, target) => {

@@ -1,4 +1,4 @@
-//! Calls of a route table that may ask for no memory.
+//! Calls of a route table that may not allocate.
 
 use super::{Ask, Key, Reply, Row, Table, VERSIONS, covers, first_wrong, lists};
 use rart_test_tools::refusals::{refuse, was_refused};
@@ -39,7 +39,7 @@ fn target_of(route: Option<(Key, &u64)>) -> Option<u64> {
     }
 }
 
-// Whether all goes well while the next request is refused, and none is made.
+// Whether all calls succeed while the next request is refused, and none is made.
 fn is_quiet(alloc: Global, table: &mut Table) -> bool {
     refuse(alloc, 1);
     table.canonical();

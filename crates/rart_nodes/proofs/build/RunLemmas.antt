@@ -37,7 +37,7 @@ pub first_byte-is : (d : ℕ) (ks : List (Bor (List ℕ))) (x : Bor (List ℕ)) 
 first_byte-is d [] x h = absurd (omega arith)
 first_byte-is d (k ∷ ks) x h = sym (byte-of d k.now)
 
--- the run is over where another byte stands
+-- the run ends at another byte
 pub run-outside : (b d i : ℕ) (ks : List (Bor (List ℕ))) (x : Bor (List ℕ)) → i < length ks
     → (slice_index (get_or ks i x).now d ≡ b → ⊥) → run_of b (rests d ks) ≤ i
 run-outside b d i [] x h n = absurd (omega arith)

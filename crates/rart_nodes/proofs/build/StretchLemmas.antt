@@ -153,7 +153,7 @@ at_least-at b d i [] x h l = absurd (omega arith)
 at_least-at b d zero (k ∷ ks) x h l = omega (arith, h.0, byte-of d k.now)
 at_least-at b d (suc i) (k ∷ ks) x h l = at_least-at b d i ks x h.1 (omega arith)
 
--- where the first byte of ascending keys stands again, all between have it
+-- where the first byte of ascending keys comes again, all between have it
 in-run : (b d i : ℕ) (ks : List (Bor (List ℕ))) (x : Bor (List ℕ)) → AtLeast b (rests d ks) → GoOn (rests d ks)
     → IsAscending (lone_keys (rests d ks)) → i < length ks → slice_index (get_or ks i x).now d ≡ b
     → i < run_of b (rests d ks)

@@ -1,4 +1,4 @@
--- A change of one child where it stands, by the entries of its node's storage.
+-- A change of one child in its place, by the entries of its node's storage.
 use Rattle.std.proofs.Common.{◌≡◌, ℕ, cond, eqb, true, false, List, [], ◌∷◌, Option, Some, refl, ap, ◌∙◌}
 use Rattle.rart_parts.specs.Entries.{child_at, replaced}
 use Rattle.rart_nodes.specs.edits.ChildChanges.{children_replaced, with_child_replaced, children_with_value}

@@ -81,7 +81,7 @@ module _ {V : Type 0} where
   pub some-there : (t : Trie V) (o : Option (Trie V)) → o ≡ Some t → o ≢ None
   some-there t o e n = let h : Some t ≡ None = sym e ∙ n in absurd (cc)
 
-  -- no child stood at the byte
+  -- there was no child at the byte
   pub without-none : (p : List ℕ) (v : Option V) (w w' b : ℕ) (es es' : List (ℕ × Trie V)) → child_at b es ≡ None
       → es' ≡ entries.without_byte b es → w' ≡ w
       → node p v w' (as_children es') ≡ without_child b (node p v w (as_children es))

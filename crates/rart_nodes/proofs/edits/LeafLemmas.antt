@@ -30,7 +30,7 @@ module _ {V : Type 0} where
   leaf_at-rest p k r v w [] l e = ap is_end (sym e) ∙ end-empty r
   leaf_at-rest p k r v w (x ∷ es) l e = absurd (omega arith)
 
-  -- it goes, and its value is the answer
+  -- it is removed, and its value is the answer
   gone : (o : Option (List ℕ)) (p : List ℕ) (v : Option V) (f : ℕ → List ℕ → Children V) → is_end o ≡ true
       → None ≡ removed_after o p v no_children f
   gone None p v f h = absurd (cc)

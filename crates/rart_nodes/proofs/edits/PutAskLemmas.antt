@@ -12,7 +12,7 @@ use Rattle.rart_nodes.proofs.tries.Descents.{descend-absent, descend-at, descend
 use Rattle.rart_nodes.proofs.tries.CanonicalTests.{true-le}
 use Rattle.rart_nodes.proofs.tries.RestLemmas.{Follows}
 
--- what is asked below is asked, whatever the parent says of a new child or a lost one
+-- an allocation below is one of the node, whatever the parent says of a new child or a lost one
 pub asked : (o : Option Bool) (parent : Bool) → unwrap_or o false ≡ true → unwrap_or o parent ≡ true
 asked None parent h = absurd (cc)
 asked (Some z) parent h = h

@@ -47,7 +47,7 @@ module _ {V : Type 0} where
       (λ h. rw (is_greater c b h, trie_lookup-other c b q t f (λ e. omega arith)) (trie_lookup-one c d q u g)))
       (order c b)
 
-  -- a fork of two trees: one of them doesn't have the key
+  -- two children: one of them doesn't have the key
   trie_lookup-fork_left : (c b d : ℕ) (q : List ℕ) (t u : Trie V) → (b ≡ d → ⊥) → StartsWith b (prefix_of t)
       → StartsWith d (prefix_of u) → (d ≡ c → ⊥) → child_lookup c (c ∷ q) (two_children b t d u) ≡ trie_lookup (c ∷ q) t
   trie_lookup-fork_left c b d q t u n f g z = ⊎_elim

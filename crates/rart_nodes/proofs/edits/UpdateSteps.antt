@@ -222,7 +222,7 @@ module _ {V : Type 0} {p k r : List ℕ} {v : Option V} {w b : ℕ} {t : Trie V}
   ends-child full z y (Err Not_removed) inner h
       = (left-child y h.0, h.1, h.2, remove_allocation-below f inner h.3)
 
-  -- a leaf that goes, or stays where there is no memory
+  -- a leaf that is removed, or stays where there is no memory
   without-gone : is_leaf_at r t ≡ true → Some (without_child b (node p v w' (as_children es')))
       ≡ trie_remove k (node p v w (as_children es))
   without-gone l = ap Some (rw (

@@ -1,4 +1,4 @@
--- What an intersection has given, where two nodes fork and at each pair of their children.
+-- What an intersection has given at two nodes and at each pair of their children.
 use Rattle.std.proofs.Common.{◌≡◌, ℕ, ◌+◌, ◌<◌, ◌≤◌, min, List, [], ◌∷◌, ◌++◌, length, Option, Some, None, refl, arith}
 use Rattle.std.proofs.Common.{ap, subst, sym, ◌∙◌}
 use Rattle.std.proofs.lemmas.List.{append_assoc, length-map}
@@ -153,7 +153,7 @@ module _ {V W : Type 0} where
             (subst (λ (z : List (Trie V × Trie W)). CanGive can given s f (intersect_all z)) e h)
             (given-here s t f g (intersect_nodes a b) w i)
 
--- gone on and back again
+-- a path that grows and is cut back
 pub back-again : (s t u v : Kept) (p : List ℕ) (m : ℕ) → m ≡ path_mark s → PathGrown s p t → PathGrown t [] u
     → PathCut m u v → PathGrown s [] v
 back-again s t u v p m e h i j = path-back s u v (p ++ []) (path-on s t u p [] h i) (rw (← e) j)

@@ -133,7 +133,7 @@ module _ {V : Type 0} where
       let q : AreLow h ((no_children, z.0) ∷ reverse rest) = rw z.1 at w in
       q.1
 
-  -- the way down to a start: a node below n levels stands no lower than h
+  -- the way down to a start: a node below n levels is at most h deep
   abbrev pub HasHeight : ℕ → ℕ → Option (Trie V) → Type 0
   HasHeight h n None = Unit {0}
   HasHeight h n (Some t) = n + trie_height t ≤ h

@@ -20,7 +20,7 @@ pub moves-yes : (m w : ℕ) → w ≡ capacity_of m → 4 < w → m ≤ previous
 moves-yes m w e wide few = grind (arith, nat_tests)
 
 module _ {V : Type 0} where
-  -- at a child that goes
+  -- at a child that is removed
   leaf-allocates : (k : List ℕ) (t : Trie V) → is_leaf_at k t ≡ true → descend remove_allocation k t ≡ None
   leaf-allocates k (node p v w no_children) h = elim (strip_prefix p k) as (λ o. is_end o ≡ true
       → by_rest (Some false) None (λ a. Some (unwrap_or a (moves_down (Some (record_of (node p v w no_children)))))) o

@@ -23,7 +23,7 @@ none-or true = refl
 none-or false = refl
 
 module _ {V : Type 0} where
-  -- merging a node with its lone child
+  -- merging a node with its only child
   trie_lookup-merged : (p q : List ℕ) (b n : ℕ) (r : List ℕ) (u : Option V) (m : ℕ) (ds : Children V) → StartsWith b r
       → trie_lookup q (node (p ++ r) u m ds) ≡ trie_lookup q (node p None n (child b (node r u m ds) no_children))
   trie_lookup-merged [] [] b n r u m ds f = trie_lookup-nil b (node r u m ds) f

@@ -128,7 +128,7 @@ module _ {V : Type 0} where
             (up-with_first c (next_bytes (keys_of es) p) (next-up_from p e.0 c es g w.0 w.1))
       ] refl
 
-  -- a record stands just at the branch points
+  -- there is a record just at the branch points
   pub branch-record : (p : List ℕ) (es : List (List ℕ × V)) → IsAscending es → IsBranchPoint (keys_of es) p
       → is_some (record_at (keys_of es) p) ≡ true
   branch-record p es w h = record-yes (contains_key (keys_of es) p) (next_bytes (keys_of es) p)

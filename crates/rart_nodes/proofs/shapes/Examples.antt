@@ -39,7 +39,7 @@ split_and_on : nodes_after (puts (1 ∷ 2 ∷ 3 ∷ []) 7 ∷ puts (1 ∷ 2 ∷ 
     ≡ (1 ∷ 2 ∷ [], inner false (1 ∷ 3 ∷ []) 4) ∷ (1 ∷ 2 ∷ 1 ∷ [], leaf) ∷ (1 ∷ 2 ∷ 3 ∷ [], leaf) ∷ []
 split_and_on = refl
 
--- a removal that merges: the node with no value and one child goes
+-- a removal that merges: the node with no value and one child is removed
 merged : nodes_after (puts (1 ∷ 2 ∷ 3 ∷ []) 7 ∷ puts (1 ∷ 2 ∷ 4 ∷ []) 9 ∷ puts (1 ∷ []) 5 ∷ puts (6 ∷ []) 5
     ∷ removes (6 ∷ []) ∷ removes (1 ∷ []) ∷ [])
     ≡ (1 ∷ 2 ∷ [], inner false (3 ∷ 4 ∷ []) 4) ∷ (1 ∷ 2 ∷ 3 ∷ [], leaf) ∷ (1 ∷ 2 ∷ 4 ∷ [], leaf) ∷ []
@@ -108,7 +108,7 @@ visits-root = refl
 pub visits-no_keys : (k : List ℕ) → probe_count [] k ≡ 0
 visits-no_keys k = refl
 
--- keys are cut at each branch point that begins them: "ab", "abcd" and "abce" at "ab" and "abc"; a lone key and the
+-- keys are cut at each branch point that begins them: "ab", "abcd" and "abce" at "ab" and "abc"; an only key and the
 -- empty one aren't
 abbrev branched : List (List ℕ)
 branched = (97 ∷ 98 ∷ []) ∷ (97 ∷ 98 ∷ 99 ∷ 100 ∷ []) ∷ (97 ∷ 98 ∷ 99 ∷ 101 ∷ []) ∷ []

@@ -142,7 +142,7 @@ pub next-other : (ks : List (Bor (List ℕ))) (i : ℕ) (d : Bor (List ℕ)) (p 
 next-other ks i d p bs b o h a l n e = sym (last-other b bs (λ f. is-not_option o b n (l ∙ f))) ∙ ap (with_last b) e
     ∙ ap (λ o. with_next o (next_bytes (keys_in (take i ks)) p)) a ∙ sym (next-key ks i d p h)
 
--- a record put in at its place
+-- a record inserted at its place
 abbrev pub GoesAfter : ℕ → List ℕ → List ShapeRecord → Type 0
 GoesAfter zero p rs = Unit {0}
 GoesAfter (suc n) p [] = ⊥

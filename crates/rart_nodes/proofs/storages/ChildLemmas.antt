@@ -29,7 +29,7 @@ module _ {V : Type 0} where
       → length (with_entry b t es) ≡ suc (length es)
   with_entry-length b t es s = omega (arith, length-with_entry b t es (sym s))
 
-  -- no child stands below the least byte
+  -- there is no child below the least byte
   pub child_at-low : (b low : ℕ) (es : List (ℕ × Trie V)) → b < low → AreCanonical low (as_children es)
       → child_at b es ≡ None
   child_at-low b low [] h w = refl
@@ -77,7 +77,7 @@ module _ {V : Type 0} where
         (ap (child e.0 e.1) (put_child-found b (suc e.0) k v t es w.3 q))
   ]
 
-  -- where no child stands
+  -- where there is no child
   pub tail-none : (b : ℕ) (e : ℕ × Trie V) (es : List (ℕ × Trie V)) → None ≡ child_at b (e ∷ es) → (b ≡ e.0 → ⊥)
       × (None ≡ child_at b es)
   tail-none b e es s = ⊎_elim (λ h. (
@@ -100,14 +100,14 @@ module _ {V : Type 0} where
             (λ q. omega arith),
       ) (ap (child e.0 e.1) (put_child-none b k v es t.1)))) (order b e.0)
 
-  -- a fork is two insertions
+  -- two children are two insertions
   pub two_children-is : (b c : ℕ) (s t : Trie V) → (b ≡ c → ⊥)
       → as_children (with_entry c t ((b, s) ∷ [])) ≡ two_children b s c t
   two_children-is b c s t n = ⊎_elim
       (λ h. rw (is_less b c h, lt-no c b (omega arith), eq-no b c n) refl)
       (⊎_elim (λ h. absurd (n h)) (λ h. rw (is_greater b c h, lt-yes c b h) refl)) (order b c)
 
-  -- no child stands beside a lone one
+  -- there is no child beside an only one
   pub child_at-beside : (b c : ℕ) (s : Trie V) (es : List (ℕ × Trie V)) → es ≡ (b, s) ∷ [] → (b ≡ c → ⊥)
       → child_at c es ≡ None
   child_at-beside b c s es e n = ap (child_at c) e ∙ ap (λ z. cond z (Some s) None) (eq-no b c n)

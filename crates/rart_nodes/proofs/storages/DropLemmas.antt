@@ -1,4 +1,4 @@
--- A walk over the bytes of a storage that changes each child where it stands, whatever the order of its entries.
+-- A walk over the bytes of a storage that changes each child in its place, whatever the order of its entries.
 use Rattle.std.proofs.Common.{◌≡◌, ◌≢◌, ℕ, suc, ◌<◌, ◌≤◌, ⊎_elim, List, [], ◌∷◌, length, Option, Some, None, refl}
 use Rattle.std.proofs.Common.{sym, ap, ◌∙◌, arith, subst, option_map, true, false, cond, ltb, ◌⊎◌, inl, inr}
 use Rattle.std.proofs.lemmas.Bool.{cases_lt}

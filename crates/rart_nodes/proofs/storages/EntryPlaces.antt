@@ -1,4 +1,4 @@
--- One entry among ascending ones: what stands before and after it, and what another child in its place leaves.
+-- One entry among ascending ones: what is before and after it, and what another child in its place leaves.
 use Rattle.std.proofs.Common.{◌≡◌, ℕ, suc, ◌<◌, ◌≤◌, ⊎_elim, inl, inr, false, List, [], ◌∷◌, ◌++◌, length, refl, sym}
 use Rattle.std.proofs.Common.{ap, ◌∙◌, arith, subst, Option, Some, None, is_some, option_map}
 use Rattle.std.specs.Prelude.{IsSome, slice_get}
@@ -23,7 +23,7 @@ begins-from b r [] h = absurd h
 begins-from b r (x ∷ k) h = rw (eq-no b x (λ q. omega (arith, h, q))) refl
 
 module _ {V : Type 0} where
-  -- no key that goes another way is below the prefix
+  -- no key that takes another edge is below the prefix
   pub below-first : (b c : ℕ) (r : List ℕ) (es : List (List ℕ × V)) → (c ≡ b → ⊥) → AllFirst c es
       → below (b ∷ r) es ≡ []
   below-first b c r [] n h = refl

@@ -133,7 +133,7 @@ module _ {V A : Type 0} where
       (λ h. rw (is_less b e.0 h) refl)
       (⊎_elim (λ h. absurd (t.0 h)) (λ h. rw (is_greater b e.0 h) (descend-absent d b k es t.1))) (order b e.0)
 
-  -- a relation that holds where a descent ends and is handed up from a child
+  -- a relation that holds where a descent ends and is passed up from a child
   pub record Keeps (d : Descent V A) (R : List ℕ → Option (Trie V) → A → Type 0) : Type 0 where
     pub absent : (k : List ℕ) → R k None d.absent
     pub left : (k p : List ℕ) (v : Option V) (n : ℕ) (cs : Children V) → IsCanonical (node p v n cs)

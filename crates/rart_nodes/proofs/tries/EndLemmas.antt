@@ -1,4 +1,4 @@
--- The pair at either end of a canonical tree: where it stands, and what a look-up of its key enters.
+-- The pair at either end of a canonical tree: where it is, and what a look-up of its key enters.
 use Rattle.std.proofs.Common.{◌≡◌, ℕ, ◌+◌, ◌<◌, ◌≤◌, ⊎_elim, max, true, List, [], ◌∷◌, ◌++◌, length, map}
 use Rattle.std.proofs.Common.{Option, Some, None, option_map, refl, sym, ap, ◌∙◌, arith, length-append, suc}
 use Rattle.std.specs.Prelude.{MatchOption, slice_get}

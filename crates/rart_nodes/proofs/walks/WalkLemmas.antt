@@ -20,7 +20,7 @@ use Rattle.rart_nodes.proofs.tries.CanonicalTests.{IsCanonical-test, test-IsCano
 use Rattle.rart_nodes.proofs.tries.CanonicalTests.{longest_key-after, canonical-lower}
 use Rattle.rart_nodes.proofs.tries.NodeCounts.{some-after, some-pairs}
 
--- what is pushed last stands first
+-- what is pushed last comes first
 pub deepest : {A : Type 0} (xs ys : List A) (x : A) → xs ≡ ys ++ x ∷ [] → reverse xs ≡ x ∷ reverse ys
 deepest xs ys x e = ap reverse e ∙ reverse-append ys (x ∷ [])
 

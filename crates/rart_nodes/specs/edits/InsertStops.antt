@@ -16,7 +16,7 @@ module _ {V : Type 0} where
   FailsPut only_new key trie stop.Memory = (trie_put_allocates key trie ≡ true)
       × (trie_lookup key (with_records trie) ≡ None)
 
-  -- the same, with the value that comes back
+  -- the same, with the returned value
   abbrev pub FailsInsert : List ℕ → V → Trie V → NotInserted V → Type 0
   FailsInsert key value trie (not_inserted.Stored back) = (back ≡ value) × (trie_lookup key trie ≢ None)
   FailsInsert key value trie (not_inserted.Refused r) = (r.value ≡ value) × (r.error ≡ Memory)

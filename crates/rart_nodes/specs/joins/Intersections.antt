@@ -27,7 +27,7 @@ pair_each apart also f no_children = apart
 pair_each apart also f (child c u ds) = also (f c u) (pair_each apart also f ds)
 
 -- A left node with the rest p of its prefix; `own` adds the values of both nodes. What is followed here is itself a
--- trie and no key, so these recursions stand beside that of a descent.
+-- trie and no key, so these recursions are not that of a descent.
 abbrev mutual
   pub pair_in : {W A : Type 0} → Pairing A → List ℕ → (Option W → A → A) → (ℕ → Trie W → A) → Trie W → A
   pair_in d p own f (node q w m ds) = pair_prefixes d.apart d.shared p q (own w (pair_each d.apart d.also f ds))

@@ -29,7 +29,7 @@ HasCapacityOf n Nothing = Unit {0}
 HasCapacityOf n (Bytes k) = vec_capacity k ≡ n
 HasCapacityOf n (Segments k) = vec_capacity k ≡ n
 
--- l stands after k by the bytes p
+-- l is k followed by the bytes p
 pub record BytesGrown (k : Vec ℕ) (p : List ℕ) (l : Vec ℕ) : Type 0 where
   pub bytes : l.items ≡ k.items ++ p
   pub place : vec_capacity k ≤ vec_capacity l

@@ -1,4 +1,4 @@
--- The laws that the ghost fields of visitors name. They are proof terms, and stand here since a ghost field can name no
+-- The laws that the ghost fields of visitors name. They are proof terms, and are here since a ghost field can name no
 -- lemma of proofs/. The words that they speak of are in Given.antt.
 pub use Rattle.rart_nodes.specs.joins.Given.{
   AreVisitors,

@@ -14,8 +14,8 @@ abbrev pub up_to_two : {V : Type 0} → Children V → ℕ
 up_to_two no_children = 0
 up_to_two (child b t cs) = 1 + up_to_one cs
 
--- the nodes without a pair so far that levels may stand for, of which a child is being walked; the topmost, which
--- stands last, was visited on the path to the start
+-- the most nodes of these levels without a pair so far, of which a child is being walked; the topmost, which
+-- is last, was visited on the path to the start
 abbrev pub amortized_visits : {V : Type 0} → List (Level V) → ℕ
 amortized_visits [] = 0
 amortized_visits (l ∷ []) = 0
@@ -28,7 +28,7 @@ potential [] = 0
 potential (l ∷ []) = up_to_one l.0
 potential (l ∷ m ∷ ls) = up_to_two l.0 + amortized_visits (m ∷ ls)
 
--- no more than h nodes stand one below another, those of the levels with them
+-- each path has at most h nodes, those of the levels included
 abbrev pub AreLow : {V : Type 0} → ℕ → List (Level V) → Type 0
 AreLow h [] = Unit {0}
 AreLow h (l ∷ ls) = (length ls + 1 + children_height l.0 ≤ h) × AreLow h ls

@@ -20,7 +20,7 @@ node_record r = record { holds_value = r.holds_value; edges = r.edges.items; cap
 abbrev pub records_of : List ShapeRecord → List (List ℕ × NodeRecord)
 records_of rs = map (λ r. (r.path.items, node_record r)) rs
 
--- with the record put in, if there is one
+-- with the record inserted, if there is one
 abbrev pub put_some : List ℕ → Option NodeRecord → List (List ℕ × NodeRecord) → List (List ℕ × NodeRecord)
 put_some p None rs = rs
 put_some p (Some r) rs = put p r rs

@@ -113,7 +113,7 @@ abbrev mutual
   sum_in_children m no_children = 0
   sum_in_children m (child b t cs) = sum_in m t + sum_in_children m cs
 
--- how many nodes stand one below another at most
+-- the greatest number of nodes on a path down to a leaf
 abbrev mutual
   pub trie_height : {V : Type 0} → Trie V → ℕ
   trie_height (node p v n cs) = 1 + children_height cs

@@ -27,7 +27,7 @@ abbrev pub NarrowsStored : {N : Type 0} → ℕ → Storage N → Type 0
 NarrowsStored b s = (child_at b (child_entries s) ≢ None) × (4 < storage_capacity s)
     × (length (child_entries s) ≤ previous_capacity (storage_capacity s) + 1)
 
--- the capacity of a storage that the child at b was taken from, if one stood there, and that has n left
+-- the capacity of a storage that the child at b was removed from, if there was one, and that has n left
 abbrev pub capacity_without : {N : Type 0} → ℕ → Storage N → ℕ → ℕ
 capacity_without b s n = if is_some (child_at b (child_entries s)) then narrowed_capacity n
     (storage_capacity s) else storage_capacity s

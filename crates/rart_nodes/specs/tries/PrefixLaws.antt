@@ -1,4 +1,4 @@
--- Laws of pairs after a prefix. They stand here, not in proofs/, since ghost fields name terms that rest on them.
+-- Laws of pairs after a prefix. They are here, not in proofs/, since ghost fields name terms that rest on them.
 use Rattle.std.specs.Prelude.{ℕ, ◌≡◌, List, [], ◌∷◌, ◌++◌, length}
 use Rattle.std.proofs.Common.{refl, ap}
 use Rattle.std.proofs.lemmas.List.{append_assoc, length-map, map-append}

@@ -31,7 +31,7 @@ abbrev mutual
   children_pairs no_children = []
   children_pairs (child b t cs) = pairs_of t ++ children_pairs cs
 
--- the bytes by which children stand
+-- the edge bytes of the children
 abbrev pub edges_of : {V : Type 0} → Children V → List ℕ
 edges_of no_children = []
 edges_of (child b t cs) = b ∷ edges_of cs
@@ -77,7 +77,7 @@ HasTwoChildren no_children = ⊥
 HasTwoChildren (child b t no_children) = ⊥
 HasTwoChildren (child b t (child c u cs)) = Unit {0}
 
--- each node has a value or branches, its capacity is its children's, and they stand in order, each by the byte that its
+-- each node has a value or branches, its capacity is its children's, and they ascend, each by the byte that its
 -- prefix begins with
 abbrev mutual
   pub IsCanonical : {V : Type 0} → Trie V → Type 0
@@ -159,7 +159,7 @@ abbrev pub two_children : {V : Type 0} → ℕ → Trie V → ℕ → Trie V →
 two_children b s c t = match_ordering (nat_cmp b c) (child b s (child c t no_children))
     (child b s (child c t no_children)) (child c t (child b s no_children))
 
--- a node with v put in, by how its prefix p and the key part: q is shared, l is left of p and r of the key
+-- a node with v inserted, by how its prefix p and the key part: q is shared, l is left of p and r of the key
 abbrev pub put_split : {V : Type 0} → List ℕ → List ℕ → List ℕ → V → Option V → ℕ → Children V
     → (ℕ → List ℕ → Children V) → Trie V
 put_split q [] [] v old n cs f = node q (Some v) n cs
@@ -182,7 +182,7 @@ abbrev mutual
   put_child b k v (child c t cs) = match_ordering (nat_cmp b c) (child b (leaf k v) (child c t cs))
       (child c (trie_put k v t) cs) (child c t (put_child b k v cs))
 
--- a node whose value or children were taken: none where nothing is left, and merged with a lone child where it has no
+-- a node whose value or children were taken: none where nothing is left, and merged with an only child where it has no
 -- value
 abbrev pub collapsed_node : {V : Type 0} → List ℕ → Option V → Children V → Option (Trie V)
 collapsed_node p None no_children = None

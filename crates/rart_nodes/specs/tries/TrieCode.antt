@@ -35,7 +35,7 @@ abbrev pub built_node : {V : Type 0} → ℕ × (List ℕ × (Option V × ℕ)) 
 built_node i (cs ∷ (rest ∷ more)) = child i.0 (node i.1.0 i.1.1.0 i.1.1.1 cs) rest ∷ more
 built_node i _ = []
 
--- the rows that marks stand for
+-- the rows that marks encode
 abbrev pub built : {V : Type 0} → List (Mark V) → List (Children V)
 built [] = []
 built (None ∷ ms) = no_children ∷ built ms

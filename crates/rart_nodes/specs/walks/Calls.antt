@@ -1,4 +1,4 @@
--- How a callback is called along a list, and how what goes through a list may be refused.
+-- How a callback is called along a list, and when a walk over a list may lack memory.
 use Rattle.std.specs.Prelude.{◌≡◌, ◌≢◌, List, [], ◌∷◌, ◌++◌}
 use Rattle.std.specs.List.{FoldsTo}
 use Rattle.rart_parts.specs.declared.error.TreeError.{TreeError}
@@ -8,7 +8,7 @@ use Rattle.rart_parts.specs.declared.error.TreeError.TheVariants.{Memory}
 abbrev pub CallsEach : {F A : Type 0} → (F → A → F → Type 0) → F → List A → Type 0
 CallsEach {F} R f xs = (last : F) × FoldsTo R f xs last
 
--- memory was refused, and there is something to go through
+-- the error is Memory, and the list is not empty
 abbrev pub MayLackMemory : {A : Type 0} → List A → TreeError → Type 0
 MayLackMemory xs e = (e ≡ Memory) × (xs ≢ [])
 

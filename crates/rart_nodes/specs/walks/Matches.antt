@@ -21,7 +21,7 @@ collects = record {
 abbrev pub tree_matches : {V : Type 0} → List ℕ → Option (Trie V) → List (List ℕ × V)
 tree_matches k o = descend_tree collects k o
 
--- what a descent along q has still to pass, where it stands before the tree o after the first d bytes
+-- what a descent along q has still to pass, where it is before the tree o after the first d bytes
 abbrev pub matches_ahead : {V : Type 0} → List ℕ → ℕ → Option (Trie V) → List (List ℕ × V)
 matches_ahead q d o = with_prefix (take d q) (tree_matches (drop d q) o)
 

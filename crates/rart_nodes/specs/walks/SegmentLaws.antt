@@ -1,4 +1,4 @@
--- Laws of segments, joined. They stand here, not in proofs/, since ghost fields name terms that rest on them.
+-- Laws of segments, joined. They are here, not in proofs/, since ghost fields name terms that rest on them.
 use Rattle.std.specs.Prelude.{◌≡◌, ◌≤◌, true, [], ◌∷◌, ◌++◌, length}
 use Rattle.std.proofs.Common.{refl, arith, sym, ap, ◌∙◌, length-append}
 use Rattle.std.proofs.lemmas.List.{append_assoc}

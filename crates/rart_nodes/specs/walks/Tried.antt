@@ -50,6 +50,6 @@ OnRefused (Ok u) P = Unit {0}
 OnRefused (Err (Callback e)) P = Unit {0}
 OnRefused (Err Memory) P = P
 
--- the allocation was refused, and there is something to go through
+-- the allocation failed, and the list is not empty
 abbrev pub MayStopForMemory : {A E : Type 0} → List A → VisitError E → Type 0
 MayStopForMemory xs e = e ≡ Memory → xs ≢ []

@@ -53,7 +53,7 @@ abbrev pub tree_entries : {V : Type 0} → Grown → Option (Trie V) → List (S
 tree_entries g None = []
 tree_entries g (Some t) = entries_of g t
 
--- the values below the levels of the path k, of which the deepest stands first
+-- the values below the levels of the path k, the deepest first
 abbrev pub entries_below : {V : Type 0} → Grown → SegmentList → List (Level V) → List (SegmentList × V)
 entries_below g k [] = []
 entries_below g k (l ∷ ls) = segments_after (take l.1 k) (children_entries g l.0) ++ entries_below g k ls
@@ -89,8 +89,8 @@ pub record IsKeyWalk {V : Type 0} (maximum : Option ℕ) (longest places capacit
   pub path : longest ≤ capacity
   pub within : IsWithin maximum longest
 
--- the remaining entries of a walk: the root's value until it is given, and what is below the levels, of which the deepest
--- stands last
+-- the remaining entries of a walk: the root's value until it is returned, and what is below the levels, the deepest
+-- last
 abbrev pub entries_ahead : {V : Type 0} → Grown → SegmentList → Option V → List (Level V) → List (SegmentList × V)
 entries_ahead g k first st = value_at k first ++ entries_below g k (reverse st)
 

@@ -42,7 +42,7 @@ abbrev pub PushesLevel : {V : Type 0} → List (Level V) → Trie V → ℕ → 
 PushesLevel before t n after = (after ≡ before ++ (children_in t, n) ∷ [])
     ⊎ ((after ≡ before) × (children_in t ≡ no_children))
 
--- the value that lay ahead first was given, at the path that is kept now; or nothing lay ahead, and nothing does
+-- the first remaining value was returned, at the path that is kept now; or none remained, and none does
 abbrev pub TakesEntry : {V : Type 0} → List (SegmentList × V) → SegmentList → Option (Bor V) → List (SegmentList × V)
     → Type 0
 TakesEntry before k given after = MatchOption given ((before ≡ []) × (after ≡ [])) (λ v. before ≡ (k, v.now) ∷ after)

@@ -120,7 +120,7 @@ impl<N> Storage<N> {
     ghost use Rattle.rart_nodes.specs.storages.Stored.{child_entries};
 
     /// Returns a mutable borrow of the child at byte `b`. Inline, so that the caller's branch on it needs no child's
-    /// address made from a test of the child: two reads of memory then go side by side.
+    /// address made from a test of the child: two reads of memory then run in parallel.
     #[inline(always)]
     pub(crate) fn seek_child_mut(&mut self, b: u8) -> Option<&mut N>
         ensures* writes_back { sem 𝓛 (lends_child N.row self.entry b result) }

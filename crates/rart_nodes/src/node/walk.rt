@@ -21,7 +21,7 @@ pub(crate) mod back;
 pub(crate) mod path;
 mod seek_lower_bound;
 
-/// A walk over the pairs of a tree, in order. Its path stands beside it.
+/// A walk over the pairs of a tree, in order. Its caller holds the path.
 #[derive(Drop)]
 pub(crate) struct Walk<'a, P: Partial, V, C> {
     // for each inner node on the path, what is left of its children, and how much is kept of its key; the root first

@@ -10,14 +10,14 @@ use rart_parts::TreeError;
 use std::alloc::Global;
 use std::collections::BTreeMap;
 
-/// The inner nodes of one width, and their children.
+/// Counts the inner nodes of one capacity, and their children.
 #[derive(Drop)]
 pub(crate) struct WidthCount {
     nodes: usize,
     children: usize,
 }
 
-/// The nodes counted so far: leaves, those that hold a value, and the inner ones by their width.
+/// Counts nodes: leaves, those that hold a value, and the inner ones by capacity.
 #[derive(Drop)]
 pub(crate) struct Counts {
     leaves: usize,

@@ -105,7 +105,7 @@ impl<N> DirectMapping<N> {
     {
         // Its bytes ascend.
         let _count = source.num_children();
-        // The child is taken out alone: beside its byte it would be moved twice more.
+        // Removes the child alone: in a pair with its byte it would be moved twice more.
         while let Some(key) = source.first_byte() {
             let child = source.delete_child(key).unwrap();
             self.add_child(key, child);

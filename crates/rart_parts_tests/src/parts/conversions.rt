@@ -219,7 +219,7 @@ fn new_mappings_refused_in_turn(rt: HostRuntime) {
     assert!(rt; new_refused::<256, Direct256>(alloc));
 }
 
-// Each request of a conversion of sixteen children refused in turn: they stay in the source, and all go over, in order,
+// Each request of a conversion of sixteen children refused in turn: they stay in the source, and all move, in order,
 // once there is memory.
 fn refused_in_turn<
     const U: usize,

@@ -20,7 +20,7 @@ fn key_255_is_found_in_used_places_alone(rt: HostRuntime) {
     assert_eq!(rt; u8_keys_find_key_position::<4, _>(7, &keys, &set), None);
 }
 
-// Where a key would be put in among 3, 9 and 17, and where it is.
+// Where a key would be inserted among 3, 9 and 17, and where it is.
 fn places_of<const WIDTH: usize>(key: u8) -> (Option<usize>, Option<usize>) {
     let keys = [3_u8, 9, 17];
     (

@@ -23,7 +23,7 @@ enum Ask {
 // The answer of each, and how many children the map then has.
 type Row = (Ask, Option<u8>, usize);
 
-/// Puts a child in where its byte has none and there is room; whether it did.
+/// Inserts a child if its byte has none and a slot is free; returns whether it did.
 pub fn add<N: Drop, const W: usize>(map: &mut impl NodeMapping<N, W>, key: u8, child: N) -> bool {
     if map.seek_child(key).is_some() || map.num_children() >= W {
         return false;
@@ -208,7 +208,7 @@ fn an_only_child_is_taken_out_with_its_byte(rt: HostRuntime) -> Result<(), Fail>
 
 type Child<'a> = Counted<'a>;
 
-// Puts children in; whether all went in. A macro, as those below: a bound says too little of a walk's second item,
+// Inserts children; whether it did. A macro, as those below: a bound says too little of a walk's second item,
 // and a helper with a lifetime and a width gets no proof.
 macro_rules! fill_counted {
     ($map:expr, $keys:expr, $drops:expr) => {{

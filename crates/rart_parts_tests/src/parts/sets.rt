@@ -4,7 +4,7 @@ ghost use Rattle.std.specs.Iterator.{IsFinite};
 
 use rart_parts::utils::bitset::{Bitset8, Bitset16, Bitset32, Bitset64, BitsetTrait};
 
-/// What a set is to answer once these positions, ascending, were put in.
+/// What a set must return once these positions, ascending, are inserted.
 #[derive(Clone, Copy)]
 struct Facts<'a> {
     positions: &'a [usize],

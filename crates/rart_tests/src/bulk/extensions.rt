@@ -154,7 +154,7 @@ fn stored(extended: &Result<(), Refused<(Key, u64)>>, was: bool, read: usize) ->
     }
 }
 
-// An extension with the request of this number refused, and whether one was; None where something else went wrong.
+// An extension with the request of this number refused, and whether one was; None where something else failed.
 fn extension_is_refused_well(alloc: Global, tree: &mut Tree<Key>, at: usize) -> Option<bool> {
     let count = Cell::new(0_usize);
     refuse(alloc, at);

@@ -19,7 +19,7 @@ pub fn key_of(text: &str) -> Key {
     Key::new_from_slice(&bytes[..bytes.len().min(8)])
 }
 
-/// Items that tell how many of them were read.
+/// Items that are counted as they are read.
 #[derive(Drop)]
 pub struct Read<'a> {
     pub items: Pairs<'static>,
@@ -267,7 +267,7 @@ fn drops_each(
     }
 }
 
-// The load with a request refused, and whether one was; None where something else went wrong.
+// The load with a request refused, and whether one was; None where something else failed.
 fn sorted_refused(alloc: Global, at: usize) -> Result<Option<bool>, AllocError> {
     let drops = Cell::new(0_usize);
     let items = counted(alloc, &drops)?;

@@ -42,7 +42,7 @@ fn stands_apart(tree: &Tree<'_>, clone: &mut Tree<'_>, count: u8) -> bool {
     is_equal && is_removed && has_numbers(tree, count)
 }
 
-// How many values a clone drops, its removed one among them; None where the clone goes wrong.
+// How many values a clone drops, its removed one among them; None where the clone fails.
 fn dropped_by_clone(drops: &Cell<usize>, tree: &Tree<'_>, count: u8) -> Option<usize> {
     let before = drops.get();
     let is_right = match tree.clone() {
@@ -58,7 +58,7 @@ fn is_cloned(alloc: Global, count: u8) -> bool {
     dropped_by_clone(&drops, &tree, count) == Some(usize::from(count))
 }
 
-// The first count whose clone goes wrong, if there is one.
+// The first count whose clone fails, if there is one.
 fn first_wrong(alloc: Global) -> Option<u8> {
     for count in COUNTS {
         if !is_cloned(alloc, count) {
@@ -73,7 +73,7 @@ fn a_clone_has_the_pairs_and_drops_each_value_once(rt: HostRuntime) {
     assert_eq!(rt; first_wrong(rt.alloc()), None);
 }
 
-// Whether a request was refused while the tree was cloned; None where the clone or the tree goes wrong.
+// Whether a request was refused while the tree was cloned; None where the clone or the tree is wrong.
 fn is_clone_refused(alloc: Global, at: usize, tree: &Tree<'_>, count: u8) -> Option<bool> {
     refuse(alloc, at);
     let clone: Result<Tree<'_>, AllocError> = tree.clone();

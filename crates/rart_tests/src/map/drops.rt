@@ -105,10 +105,10 @@ enum Ask {
     PopLast,
 }
 
-// The number of the value that is handed out or back, and how many are dropped once that one is.
+// The number of the value that is returned, and how many are dropped once that one is.
 type Row = (Ask, Option<u8>, usize);
 
-// The value that a call hands out or back.
+// The value that a call returns.
 fn handed<'a>(tree: &mut Tree<'a>, ask: Ask, drops: &'a Cell<usize>) -> Option<Counted<'a>> {
     match ask {
         Ask::Insert(byte, number) => match tree.insert(key(byte), Counted(number, drops)) {
@@ -217,7 +217,7 @@ fn is_handed_back(answer: Inserted<'_>, refused: bool, drops: &Cell<usize>) -> b
 }
 
 // A key that makes the node grow, with its request refused: the value is returned. Whether a request was refused; None
-// where something else went wrong.
+// where something else failed.
 fn insert_refused(alloc: Global, at: usize) -> Option<bool> {
     let drops = Cell::new(0_usize);
     let mut tree = filled(alloc, &drops, 4);

@@ -41,7 +41,7 @@ fn dog_and_do(rt: &impl Abort, alloc: Global) -> Tree<Key>
     )
 }
 
-// What is found at `cat`, which is put in, and at another key.
+// What is found at `cat`, which is inserted, and at another key.
 fn put_and_found(
     rt: &impl Abort,
     tree: &mut Tree<Key>,

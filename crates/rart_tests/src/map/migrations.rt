@@ -212,7 +212,7 @@ fn count_refused_of_walk(alloc: Global, old: &Tree) -> Option<usize> {
     None
 }
 
-// Whether exactly the room of the walk and of a list of keys and one of values is requested, where a key has no closing
+// Whether exactly the size of the walk and of a list of keys and one of values is requested, where a key has no closing
 // zero. Where nothing can be refused, nothing is reported.
 fn requests_no_node(alloc: Global, old: &Tree) -> bool {
     match (

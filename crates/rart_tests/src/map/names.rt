@@ -1,4 +1,4 @@
-//! What the map hands on of the crates below is theirs, by its own names.
+//! Tests that the map's re-exports are the items of the crates below.
 
 use rart::TreeError;
 use rart::keys::tail_key::TailKey;

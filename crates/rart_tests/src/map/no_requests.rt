@@ -1,5 +1,5 @@
-//! Calls that make a tree of nothing or compare two, and may not request memory. Under the library that refuses it
-//! each would be seen to, were it to ask.
+//! Calls that make a tree of nothing or compare two, and may not allocate. The library that refuses memory
+//! reports a call that does.
 
 use crate::loads::{Key, ascend, load_by_index, load_unique};
 use rart::{AdaptiveRadixTree, BulkError, KeyTrait};

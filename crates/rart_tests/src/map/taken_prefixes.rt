@@ -182,7 +182,7 @@ fn is_first_taken(alloc: Global, tree: &mut Tree, count: u8, at: usize) -> Optio
     well.then_some(refused)
 }
 
-// Whether a request was refused; `None` where the call goes wrong.
+// Whether a request was refused; `None` where the call fails.
 fn is_first_taken_anew(alloc: Global, count: u8, at: usize) -> Option<bool> {
     let mut tree = fanned(alloc, 0, count);
     is_first_taken(alloc, &mut tree, count, at)
@@ -199,7 +199,7 @@ fn parts_taken_from_nodes_that_shrink_refused_in_turn(rt: HostRuntime) {
     }
 }
 
-// The first number of children with which a request is made, or the call goes wrong.
+// The first number of children with which a request is made, or the call fails.
 fn first_requesting(alloc: Global) -> Option<u8> {
     for count in KEPT {
         if is_first_taken_anew(alloc, count, 1) != Some(false) {

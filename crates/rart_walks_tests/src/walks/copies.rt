@@ -15,7 +15,7 @@ enum Copied {
     Key,
 }
 
-// A vector of two bytes and no room for more.
+// A vector of two bytes without capacity for more.
 fn two_bytes(alloc: Global) -> Option<Vec<u8>> {
     match Vec::with_capacity(alloc, 2) {
         Ok(mut bytes) => {
@@ -34,7 +34,7 @@ fn push_two(bytes: &mut Vec<u8>) -> bool {
 }
 
 // Whether the bytes of the view came after others, with a request refused; and where one was, whether those others
-// stand alone.
+// are alone.
 fn is_written_after(
     alloc: Global,
     view: LendingKeyView<'_, '_>,

@@ -5,7 +5,7 @@ use rart_test_trees::texts::{Pair, Tree, after, filled, key};
 use std::cell::Cell;
 use std::panic::Expect;
 
-// "abcd" and "abce" part below "abc", "abcd" stands above "abcdef", and "abcdeg" parts from that below "abcde".
+// "abcd" and "abce" part below "abc", "abcd" is above "abcdef", and "abcdeg" parts from that below "abcde".
 static PAIRS: [Pair; 7] = [
     ("a", 1),
     ("abcd", 2),
@@ -107,7 +107,7 @@ fn removes_abce(tree: &mut ShortTree) -> bool {
     tree.remove_k(&ShortKey::new_from_slice(b"abce")) == Ok(Some(2))
 }
 
-// How many leaves and inner nodes stand, and how many keys are seen, the first of them cut as wanted.
+// How many leaves and inner nodes there are, and how many keys are seen, the first of them cut as wanted.
 fn shape(tree: &ShortTree, first: &[u8]) -> Result<(usize, usize, usize), TreeError> {
     let stats = tree.get_tree_stats()?;
     let seen = Cell::new(0_usize);

@@ -1,5 +1,5 @@
 -- In a loop's step both words have been read: `at_same_word` says what equal ones add, and
--- `at_different_word` where the first difference lies.
+-- `at_different_word` where the first difference is.
 use Rattle.std.proofs.Common.{arith}
 use Rattle.std.proofs.lemmas.Nat.{xor_lt}
 use Rattle.rart_keys.proofs.WordLemmas.{common_prefix_len-at_same_word, common_prefix_len-at_different_word}

@@ -153,7 +153,7 @@ impl<P: Partial, V> DefaultNode<P, V> {
     ///
     /// # Errors
     ///
-    /// [`TreeError::Memory`] as there. The tree is then unchanged.
+    /// Those of `pop_first`. The tree is then unchanged.
     pub fn pop_last(root: &mut Option<Self>, alloc: Global) -> Result<Option<(P, V)>, TreeError>
         requires canonical { IsCanonicalTree root.old }
         requires fits { IsWithin P.MAXIMUM_SIZE (longest_key (tree_pairs root.old)) }

@@ -19,8 +19,8 @@ use std::alloc::Global;
 use std::mem;
 
 impl<P: Partial, V> DefaultNode<P, V> {
-    /// Joins the node with its child where it has no value and no other child. The child keeps its
-    /// kind. Takes no memory.
+    /// Merges the node with its only child if it has no value. The child keeps its
+    /// kind. It does not allocate.
     // Not inline: a descent that calls it holds no node on the stack.
     #[inline(never)]
     pub(super) fn merge_with_only_child(&mut self)
@@ -47,7 +47,7 @@ impl<P: Partial, V> DefaultNode<P, V> {
     }
 
     /// Removes the child at byte `b` and returns it, as `Node::delete_child` does.
-    // Inline with what it calls: a child that is handed on as a result is copied each time.
+    // Inline with what it calls: each call that returns a child copies it.
     #[inline(always)]
     pub(crate) fn take_child(&mut self, alloc: Global, b: u8) -> Result<Option<Self>, TreeError>
         requires within { JoinsWithin P.MAXIMUM_SIZE (prefix_of self.old) (children_in self.old) }

@@ -22,7 +22,7 @@ pub(crate) trait Visitor<V, W, F> {
 
     ghost given: { Kept → F → List (List ℕ × (V × W)) → F → Type 0 };
 
-    /// Gives the pair at the end of the path.
+    /// Passes on the pair at the end of the path.
     fn give(path: &JoinPath<'_>, f: &mut F, left: &V, right: &W)
         requires reserved { reserved path.now 0 }
         requires callable { can path.now f.old ([], (left.now, right.now)) }
@@ -53,7 +53,7 @@ pub(crate) fn give_both<V, W, F, T: Visitor<V, W, F>>(
     }
 }
 
-/// Counts; where the count is full it stops.
+/// Counts the pairs, up to `usize::MAX`.
 pub(crate) struct Counted;
 
 impl<V, W> Visitor<V, W, usize> for Counted {

@@ -11,7 +11,7 @@ use rart_parts::{TreeError, laws};
 use std::alloc::{AllocFailed, Global};
 use std::mem;
 
-/// A sorted map with no child, on the heap.
+/// Returns a boxed sorted map with no child.
 pub(super) fn boxed_sorted<N, const W: usize>(
     alloc: Global,
 ) -> Result<Box<SortedKeyedMapping<N, W>>, TreeError>
@@ -28,7 +28,7 @@ pub(super) fn boxed_sorted<N, const W: usize>(
     }
 }
 
-/// An indexed map with no child, on the heap.
+/// Returns a boxed indexed map with no child.
 pub(super) fn boxed_indexed<N>(
     alloc: Global,
 ) -> Result<Box<IndexedMapping<N, 48, Bitset64<1>>>, TreeError>

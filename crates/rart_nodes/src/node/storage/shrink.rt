@@ -39,7 +39,7 @@ impl<N> Storage<N> {
 
     /// Removes the child at byte `b` and returns it. It allocates before the first write if the kind shrinks to one
     /// with children; if that fails, the storage is unchanged.
-    // Inline, as the call that it stands in is: a child that is handed on as a result is copied each time.
+    // Inline, as its caller is: each call that returns a child copies it.
     #[inline(always)]
     pub(crate) fn delete_child(&mut self, alloc: Global, b: u8) -> Result<Option<N>, TreeError>
         ensures taken { IfOk result (λ c. c ≡ child_at b (child_entries self.old)) }

@@ -10,7 +10,7 @@ use rart_parts::mapping::direct_mapping::DirectMappingIter;
 use rart_parts::mapping::indexed_mapping::IndexedMappingIter;
 use rart_parts::mapping::sorted_keyed_mapping::SortedKeyedMappingIter;
 
-/// The children still to come, by the map that they stand in.
+/// The remaining children, by the map that holds them.
 #[derive(Drop)]
 pub(crate) enum StorageIter<'a, N> {
     /// None, of a node without children.
@@ -66,7 +66,7 @@ impl<N> Storage<N> {
         }
     }
 
-    /// Returns the least byte at which a child stands.
+    /// Returns the least byte that has a child.
     pub(crate) fn first_byte(&self) -> Option<u8>
         ensures { result ≡ option_map (λ e. e.0) (slice_get (child_entries self.now) 0) }
     {
@@ -76,7 +76,7 @@ impl<N> Storage<N> {
         }
     }
 
-    /// Returns the least byte above `byte` at which a child stands.
+    /// Returns the least byte above `byte` that has a child.
     pub(crate) fn byte_above(&self, byte: u8) -> Option<u8>
         ensures { result
             ≡ option_map (λ e. e.0) (slice_get (entries_above byte (child_entries self.now)) 0) }

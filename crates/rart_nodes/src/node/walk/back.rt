@@ -21,7 +21,7 @@ use std::alloc::{AllocError, Global};
 pub(crate) mod branches;
 mod seek_upper_bound;
 
-/// A walk over the pairs of a tree, the last first. Its path stands beside it.
+/// A walk over the pairs of a tree, the last first. Its caller holds the path.
 #[derive(Drop)]
 pub(crate) struct BackWalk<'a, P: Partial, V, C> {
     // for each node on the path, the root first: what is left of its children, how much is kept of its key, its value

@@ -120,7 +120,7 @@ impl<'a, P: Partial> Path<'a, P> for BytePath {
     }
 }
 
-/// The nodes' own prefixes, those with bytes.
+/// Keeps the non-empty prefixes of the nodes.
 #[derive(Drop)]
 pub(crate) struct SegmentPath<'a> {
     segments: Vec<&'a [u8]>,

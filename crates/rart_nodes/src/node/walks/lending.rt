@@ -1,6 +1,6 @@
 //! Walks that call a callback with each key lent in segments.
 //!
-//! A walk allocates before its first call; the segments are pushed and popped as it goes. The caller of a `_by_ref`
+//! A walk allocates before its first call, and then pushes and pops segments. The caller of a `_by_ref`
 //! form keeps its callback, and with it the state that the last call left.
 ghost use Rattle.std.specs.Prelude.{◌≡◌, ◌≤◌, ◌+◌, ◌*◌, [], length, vec_capacity, IfErr, OnErr, OnOk};
 ghost use Rattle.rart_nodes.specs.tries.SeenTrees.{seen_keys, seen_pairs};

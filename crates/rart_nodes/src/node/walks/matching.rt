@@ -21,7 +21,7 @@ use std::marker::{Model, PhantomData};
 pub(crate) struct Matching<'a, P: Partial, V, C> {
     // where it continues, unless it has ended
     below: Option<Shared<'a, P, V, C>>,
-    // how much of the probe lies before that
+    // how many bytes of the probe come before that
     depth: usize,
 }
 

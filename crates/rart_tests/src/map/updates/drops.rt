@@ -284,7 +284,7 @@ fn an_update_drops_each_value_once(rt: HostRuntime) {
     assert_eq!(rt; first_wrong(rt.alloc(), 3, &UPDATES), None);
 }
 
-// How many keys stand, the row where nothing is refused, and what is answered where a request is: the answer, the
+// How many keys are stored, the row where nothing is refused, and what is answered where a request is: the answer, the
 // number that is then stored, and how many values are dropped.
 type Sweep = (u8, Row, (Answer, Option<u8>, usize));
 
@@ -327,7 +327,7 @@ static REFUSED: [Sweep; 4] = [
     ),
 ];
 
-// The update with a request refused, and whether one was; None where something else went wrong.
+// The update with a request refused, and whether one was; None where something else failed.
 fn refused_once(alloc: Global, sweep: &Sweep, at: usize) -> Option<bool> {
     let (count, row, (refusal, kept, early)) = *sweep;
     let (by_try_update, byte, request, wanted, number, made, dropped) = row;

@@ -20,7 +20,7 @@ enum Ask {
     Insert(u64),
 }
 
-// How many keys of one byte stand there, from 0 on, each with 10; whether by `try_update`; the byte; what is requested;
+// How many keys of one byte are stored, from 0 on, each with 10; whether by `try_update`; the byte; what is requested;
 // the value at the byte while a request is refused, and afterwards.
 type Row = (u8, bool, u8, Ask, Option<u64>, Option<u64>);
 
@@ -117,7 +117,7 @@ fn is_as_before(tree: &Tree, before: &Tree) -> bool {
     tree.len() == before.len() && have_same_statistics(tree, before)
 }
 
-// Whether a request of the update was refused; None where it went wrong. One with memory is made on both trees.
+// Whether a request of the update was refused; None where it failed. One with memory is made on both trees.
 fn row_is_answered(
     alloc: Global,
     tree: &mut Tree,
@@ -153,7 +153,7 @@ fn sweep_row(alloc: Global, tree: &mut Tree, before: &mut Tree, row: &Row, by_va
 }
 
 // Makes the update with its first request refused, then with its second and so on, and at last with memory; whether
-// each went well.
+// each passed.
 fn row_holds(alloc: Global, row: &Row, by_value: bool) -> bool {
     let mut tree = filled(alloc, row.0);
     let mut before = filled(alloc, row.0);
@@ -306,7 +306,7 @@ fn with_clones(alloc: Global, count: u8) -> Values {
     values
 }
 
-// The keys stand as they were put in, or all but the one at byte 2.
+// The keys are stored as inserted, or all but the one at byte 2.
 fn holds(values: &Values, count: u8, all: bool) -> bool {
     for byte in 0..count {
         let value = values.get_k(&key(byte)).map(|roomy| roomy.value);
@@ -353,7 +353,7 @@ fn is_answer(
     }
 }
 
-// The update with a request refused, and whether one was; None where something else went wrong.
+// The update with a request refused, and whether one was; None where something else failed.
 fn removal_is_answered(
     alloc: Global,
     values: &mut Values,

@@ -249,7 +249,7 @@ module _ {M : Type 1} (𝓤 : Ura M) (𝓛 : Logic 𝓤) (𝓜 : Model 𝓤 𝓛
       (beside 𝓤 (κ₂ ⊑ K.lives) in_key (beside 𝓤 (κ₃ ⊑ V.lives) in_value
       (beside 𝓤 (κ₄ ⊑ P.lives) in_partial (id⊢ 𝓤 (emp 𝓤))))) $
       nothing ! $ move ! (2 ∷ 7 ∷ 6 ∷ 0 ∷ []) $ group ! 4 $
-      -- [the arguments; what is asked; what the lender keeps; the token of both; the way back; the key; the other
+      -- [the arguments; what is required; what the lender keeps; the token of both; the way back; the key; the other
       -- tokens]
       move ! (3 ∷ 6 ∷ []) $ join ! $ move ! (0 ∷ 1 ∷ []) $ join ! $ join ! $ use1 𝓛 (raw (I.pre z)) (id⊢ 𝓤 _) $
       calls_at ! (framed 𝓤 𝓛.H 𝓜 (tables 𝓤 𝓛.H 𝓜 𝓡 𝓡.env)) I adds_by z

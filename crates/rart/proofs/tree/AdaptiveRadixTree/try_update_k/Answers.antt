@@ -40,7 +40,7 @@ returns-in-Failed-clause-unchanged g c =
     same-map c.update_tried-outcome.new.tree c.args.self.now pairs
     (c.update_tried-outcome.ensures.nodes (ap keys_of pairs))
 
--- what it asked for is done
+-- the requested edit is made
 pub returns-in-Ok-clause-called : goal.returns-in-Ok-clause-called
 returns-in-Ok-clause-called g c =
     λ _. done g.V.Clone.is_infallible g.F.FnOnce c.args.f (g.K.KeyTrait.bytes c.args.key.now) c.args.self.now.pairs

@@ -1,23 +1,11 @@
-use Rattle.std.proofs.Common.{◌≡◌, ◌<◌, ◌≤◌, ℕ, zero, suc, [], ◌∷◌, None, Some, ap, subst, sym, ◌∙◌, arith}
-use Rattle.rart_keys.specs.SortedMap.{lookup}
+use Rattle.std.proofs.Common.{◌≡◌, ◌≤◌, None, Some, ap, subst, sym, ◌∙◌, arith}
 use Rattle.rart_cidr.specs.Bits.{code}
-use Rattle.rart_cidr.specs.Routes.{IsLongestIn, in_stride}
+use Rattle.rart_cidr.specs.Routes.{IsLongestIn}
 use Rattle.rart_cidr.specs.Targets.{pairs_of}
 use Rattle.rart_cidr.proofs.OneLemmas.{one-longest, one-no_longest}
 use Rattle.rart_cidr.proofs.stride.Stride.longest.Goals as goal
 use Rattle.rart_cidr.proofs.stride.Stride.longest.Goals.{else-bits-most-via-then-bits-most+else-code_of-stored}
 use Rattle.rart_cidr.proofs.stride.Stride.longest.Goals.{else-bits-most-via-else-bits-most}
-
--- what holds at zero and above it holds of all
-from_zero : (P : ℕ → Type 0) (most : ℕ) → P 0 → ((r : ℕ) → 0 < r → r ≤ most → P r) → (r : ℕ) → r ≤ most → P r
-from_zero P most z f zero h = z
-from_zero P most z f (suc r) h = f (suc r) (omega arith) h
-
-pub returns-in-None : goal.returns-in-None
-returns-in-None g c =
-    from_zero (λ r. in_stride c.args.self.now c.args.byte r ≡ None) c.args.most
-    (ap (λ (k : ℕ). lookup (k ∷ []) c.args.self.now) (sym c.code_of-2.ensures.value) ∙ sym c.in-None.ensures)
-    (λ r p h. c.loop-bits.invariant.1 r (let b : c.loop-bits.bits < r = omega arith in b) h)
 
 pub returns-then-code_of-stored : goal.returns-then-code_of-stored
 returns-then-code_of-stored g c =

@@ -101,7 +101,7 @@ returns-then-not-is_leaf_at g t c =
       )) c.take_below.ensures.allocates;
     }
 
--- which is a leaf that goes
+-- which is a leaf that is removed
 pub take_leaf-requires : goal.take_leaf-requires
 take_leaf-requires g t c =
     let on = follows g t (goal.at.take_leaf-requires g t c).In-Some-seek_child_mut in

@@ -169,7 +169,7 @@ returns-in-Some-outcome g t c =
           c.in-Some-outcome.outcome leaf done)),
     )
 
--- and goes
+-- and is removed
 leaf-goes : (g : Over) (t : ℕ) (c : In-None-outcome g t) → (c.update_leaf.ensures.0 ≡ Remove)
     × (c.update_leaf.ensures.1 ≢ None) × (c.update_leaf.new.self
     ≡ node_holding c.update_leaf.ensures.1 c.in-Some-seek_child_mut.child.now)

@@ -49,7 +49,7 @@ loop-inside-init c =
       within = omega (arith, c.min-end.ensures);
     }
 
--- the middle lies between the two places
+-- the middle is between the two places
 middle-between : (a b : ℕ) → a + 1 < b → (a < a + (b - a) / 2) × (a + (b - a) / 2 < b)
 middle-between a b h = let some : 0 < (b - a) / 2 = omega (arith, lt-div-mul-add {a = b - a} {b = 2} (lit< tt)) in
     let less : (b - a) / 2 < b - a = div-lt_self (omega arith) (lit< tt) in (omega arith, omega arith)

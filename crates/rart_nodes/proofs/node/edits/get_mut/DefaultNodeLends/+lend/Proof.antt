@@ -118,7 +118,7 @@ module _ {M : Type 1} (𝓤 : Ura M) (𝓛 : Logic 𝓤) (𝓜 : Model 𝓤 𝓛
         = λ n key w. trie_put key w n;
   }
 
-  -- what the bound asks, and what the call of `lend_by` has, at them
+  -- what the bound requires, and what the call of `lend_by` has, at them
   abbrev B : ℕ → Contract 𝓤
   B t = triple_of 𝓛 (asked.signature Row V) (asked.spec Row V (below t) dict 𝓛 𝓜.mem 𝓡.returns)
 
@@ -201,7 +201,7 @@ module _ {M : Type 1} (𝓤 : Ura M) (𝓛 : Logic 𝓤) (𝓜 : Model 𝓤 𝓛
         qed 𝓛 (raw (C.pre z) ∷ []) ∵ use1 𝓛 (raw ((D t).pre z)) (allocates_by z e) $
         enter ! tables'.C tables'.Λ function (vptr y.0.3.0.ref_ptr.0 y.0.3.0.ref_ptr.1 ∷ shr_slice_vals y.0.3.1.0) _ $
         alloc_all ! (λ l. pass_all ! refl ((tt, tt), ((tt, (tt, (record { fits = are.1.0.0.1.0 }, tt))), tt)) $
-        -- [what the call asks; the locals]
+        -- [what the call requires; the locals]
         sets ! (addr ! (through ! refl (stop !))) refl (tt, tt) $
         calls_at ! (framed 𝓤 𝓛.H 𝓜 (tables 𝓤 𝓛.H 𝓜 𝓡 𝓡.env)) (D t) meets_by z
         (and_then ! (get ! refl) (and_then ! (get ! refl) (no_more !))) (λ v.
