@@ -13,3 +13,4 @@ pub mod PresentLemmas
 pub mod StepLemmas
 pub mod UpdateLemmas
 pub mod WalkSteps
+pub mod PairLists

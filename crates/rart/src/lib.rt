@@ -34,6 +34,7 @@ pub use crate::range::{Range, SeenRange};
 pub use crate::routes::RouteTable;
 pub use crate::stats::{NodeStats, TreeStats, TreeStatsTrait};
 pub use crate::tree::AdaptiveRadixTree;
+pub use crate::tree::into_pairs::IntoPairs;
 pub use crate::tree::try_insert::TryInsertError;
 pub use crate::tree::update::TryUpdateError;
 pub use rart_keys::{ArrPartial, ArrayKey, KeyTrait, Partial, keys, partials};

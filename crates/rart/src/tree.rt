@@ -23,6 +23,7 @@ mod equal;
 mod extend;
 mod get_mut;
 mod intersect;
+pub mod into_pairs;
 mod stats;
 mod take_prefix;
 pub mod try_insert;

@@ -10,6 +10,8 @@ mod descending;
 #[cfg(test)]
 mod ends;
 #[cfg(test)]
+mod into_pairs;
+#[cfg(test)]
 mod iterators;
 #[cfg(test)]
 mod ranges;

@@ -13,6 +13,7 @@ pub mod NodeEditLemmas
 pub mod Outcomes
 pub mod PutAskLemmas
 pub mod PutLemmas
+pub mod TakeValueLemmas
 pub mod UpdateSteps
 pub mod ValueChangeLemmas
 pub mod ValueWalkLemmas

@@ -7,5 +7,6 @@ mod insert;
 mod pop;
 mod remove;
 mod take_prefix;
+mod take_values;
 mod update;
 mod values_mut;
