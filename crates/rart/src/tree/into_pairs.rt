@@ -123,7 +123,8 @@ impl<K: KeyTrait + Drop, V: Drop> AdaptiveRadixTree<K, V> {
 
     // Moves all values to the end of `values`, which has capacity for them, and leaves the tree empty.
     fn take_values(&mut self, values: &mut Vec<V>)
-        requires reserved { length values.old.items + length self.old.pairs ≤ vec_capacity values.old }
+        requires reserved { length values.old.items + length self.old.pairs
+            ≤ vec_capacity values.old }
         ensures values { values.new.items ≡ values.old.items ++ values_of self.old.pairs }
         ensures pairs { self.new.pairs ≡ [] }
         ensures nodes { self.new.nodes ≡ [] }
