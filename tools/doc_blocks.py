@@ -72,8 +72,8 @@ def program(fragments):
 
 def compile_fault(source):
     """What the compiler says of a program of its own over copies of the libraries; nothing if it compiles and runs."""
-    with tempfile.TemporaryDirectory(prefix="doc-blocks-") as room:
-        folder = pathlib.Path(room)
+    with tempfile.TemporaryDirectory(prefix="doc-blocks-") as scratch:
+        folder = pathlib.Path(scratch)
         lines = [line for line in (TOP / "crates.txt").read_text().splitlines() if line.split(":")[0] in BELOW]
         lines.append(f"guide: {' '.join(reversed(BELOW))}")
         (folder / "crates.txt").write_text("\n".join(lines) + "\n")

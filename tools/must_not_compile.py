@@ -273,9 +273,9 @@ def compiler_output(folder):
 
 def fault(body):
     """Returns why the row fails, or an empty text if the compiler refuses the body with the row's errors alone."""
-    with tempfile.TemporaryDirectory(prefix="must-not-compile-") as room:
-        copy_sources(pathlib.Path(room))
-        folder = pathlib.Path(room) / "crates" / body.crate
+    with tempfile.TemporaryDirectory(prefix="must-not-compile-") as scratch:
+        copy_sources(pathlib.Path(scratch))
+        folder = pathlib.Path(scratch) / "crates" / body.crate
         text = (folder / body.file).read_text()
         if text.count(body.old) != 1:
             return f"{body.file} has the text that the row replaces {text.count(body.old)} times"

@@ -61,7 +61,7 @@ def closed_output(program):
 
 
 def full_output(program):
-    """A disk without room, at an answer longer than the buffer."""
+    """A full disk, at an answer longer than the buffer."""
     with open("/dev/full", "wb") as full:
         status, _, said = run(program, MANY_KEYS, stdout=full)
     return differs((status, b"", said), (1, b"", CANNOT_WRITE))

@@ -67,15 +67,15 @@ def all_widths():
 
 def run(program, script, refuse=0, library=None, **how):
     """The status, what was printed and said, and whether a request was refused."""
-    with tempfile.TemporaryDirectory() as room:
-        report = pathlib.Path(room) / "report"
+    with tempfile.TemporaryDirectory() as scratch:
+        report = pathlib.Path(scratch) / "report"
         env = {"PATH": "/usr/bin:/bin", "REFUSE": str(refuse), "REFUSE_REPORT": str(report)}
         if library:
             env["LD_PRELOAD"] = str(library)
         how = {"stdout": subprocess.PIPE, "stderr": subprocess.PIPE, **how}
         if "stdin" not in how:
             how["input"] = script
-        ended = subprocess.run([program], env=env, cwd=room, timeout=SECONDS, **how)
+        ended = subprocess.run([program], env=env, cwd=scratch, timeout=SECONDS, **how)
         refused = report.exists() and " refused=0" not in report.read_text()
     return ended.returncode, ended.stdout, ended.stderr, refused
 

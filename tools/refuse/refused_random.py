@@ -18,11 +18,11 @@ LEAST = 250
 def run(program, library, case):
     """Why the run failed, or nothing, and how many requests were refused."""
     line = "%d %d %d %d\n" % case
-    with tempfile.TemporaryDirectory() as room:
-        report = pathlib.Path(room) / "report"
+    with tempfile.TemporaryDirectory() as scratch:
+        report = pathlib.Path(scratch) / "report"
         env = {"PATH": "/usr/bin:/bin", "LD_PRELOAD": str(library), "REFUSE_REPORT": str(report)}
         try:
-            ended = subprocess.run([program], input=line.encode(), env=env, cwd=room, capture_output=True, timeout=1800)
+            ended = subprocess.run([program], input=line.encode(), env=env, cwd=scratch, capture_output=True, timeout=1800)
         except subprocess.TimeoutExpired:
             return "it ran out of time", 0
         counts = dict(word.split("=") for word in report.read_text().split()) if report.exists() else {}

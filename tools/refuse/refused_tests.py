@@ -82,12 +82,12 @@ def missing(found):
 
 def run(program, test, library):
     """Why the test failed, or nothing, and how many requests were refused."""
-    with tempfile.TemporaryDirectory() as room:
-        report = pathlib.Path(room) / "report"
+    with tempfile.TemporaryDirectory() as scratch:
+        report = pathlib.Path(scratch) / "report"
         env = {"PATH": "/usr/bin:/bin", "LD_PRELOAD": str(library), "REFUSE_REPORT": str(report)}
         try:
             pipes = {"capture_output": True, "text": True, "errors": "replace"}
-            ended = subprocess.run([program, test], env=env, cwd=room, timeout=600, **pipes)
+            ended = subprocess.run([program, test], env=env, cwd=scratch, timeout=600, **pipes)
         except subprocess.TimeoutExpired:
             return "it ran out of time", 0
         counts = dict(word.split("=") for word in report.read_text().split()) if report.exists() else {}

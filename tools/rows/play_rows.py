@@ -59,11 +59,11 @@ def run_broken(program, script):
         return run(program, script, stdin=theirs)
 
 
-def run_limited(program, script, stream, room, **how):
-    """A run whose `stream` takes `room` bytes, and then fails."""
+def run_limited(program, script, stream, limit, **how):
+    """A run whose `stream` takes `limit` bytes, and then fails."""
 
     def limit():
-        resource.setrlimit(resource.RLIMIT_FSIZE, (room, room))
+        resource.setrlimit(resource.RLIMIT_FSIZE, (limit, limit))
 
     with tempfile.TemporaryFile() as file:
         # The signal SIGXFSZ stays ignored, as it is in Python, so a write past the limit fails.
@@ -74,10 +74,10 @@ def run_limited(program, script, stream, room, **how):
     return (status, taken, said) if stream == "stdout" else (status, printed, taken)
 
 
-def run_unbuffered(program, script, stream, room, library):
+def run_unbuffered(program, script, stream, limit, library):
     """The same, with the first request for memory refused: it is that for the buffer of standard output."""
     env = {"LD_PRELOAD": str(library), "REFUSE": "1", "REFUSE_REPORT": "/dev/stderr"}
-    status, taken, said = run_limited(program, script, stream, room, env=env)
+    status, taken, said = run_limited(program, script, stream, limit, env=env)
     said, _, report = said.partition(b"requests=")
     return status, taken, said if b" refused=1 " in report else b"no request was refused"
 
@@ -110,13 +110,13 @@ def in_order(row):
 def runs(name, rows, library):
     """Each run whose streams are not plain: its name, how it is made, its script and what it must give."""
     cannot_read, cannot_write = f"{name}: cannot read\n".encode(), f"{name}: cannot write\n".encode()
-    narrow = {"stream": "stdout", "room": 2}
+    narrow = {"stream": "stdout", "limit": 2}
     shared, (status, printed, said) = in_order(rows.SHARED)
     return (
         ("answers stand before the message", run_in_one, shared, (status, printed + said, None)),
         ("short reads change nothing", partial(in_pieces, size=1), *in_order(rows.SLOW)),
         ("a failed read runs nothing", run_broken, b"len\nfoo\n", (1, b"", cannot_read)),
-        # The second answer finds no room; the line after it is malformed and never read.
+        # The second answer does not fit; the line after it is malformed and never read.
         (
             "a failed write ends the run",
             partial(run_unbuffered, library=library, **narrow),
@@ -132,7 +132,7 @@ def runs(name, rows, library):
         ),
         (
             "a message that is not written is a failed write",
-            partial(run_limited, stream="stderr", room=3),
+            partial(run_limited, stream="stderr", limit=3),
             b"len\nfoo\n",
             (1, b"0\n", b"lin"),
         ),

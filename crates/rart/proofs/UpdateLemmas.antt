@@ -22,7 +22,8 @@ use Rattle.rart.specs.declared.tree.update.CallbackOutcome.{CallbackOutcome}
 use Rattle.rart.specs.declared.tree.update.CallbackOutcome.TheVariants.{NotCloned, Failed, Answered}
 use Rattle.rart.specs.declared.tree.update.TryUpdateError.TheVariants.{Callback, Insert as Try_not_inserted}
 use Rattle.rart.specs.declared.tree.update.TryUpdateError.TheVariants.{Remove as Try_not_removed}
-use Rattle.rart.specs.Updates.{Attempts, EndsIn, IsAttempt, StaysIfOk, TakesNew, TriesUpdate, is_touched, touched_in}
+use Rattle.rart.specs.Updates.{Attempts, EndsIn, IsAttempt, KeepsSlotIfOk, TakesNew, TriesUpdate, is_touched}
+use Rattle.rart.specs.Updates.{touched_in}
 use Rattle.rart.specs.declared.tree.TheConstants.{MAX_PAIRS}
 
 full-is : (l n : ℕ) → nat_eq l n ≡ true → l ≡ n
@@ -122,7 +123,7 @@ module _ {V : Type 0} where
 pub attempt-stays : {F E V : Type 0} (sure : V
     → Type 0) (g : Once F (MutBor (Slot V) × Unit {0}) (Result (SlotUpdate V) E × (MutBor (Slot V) × Unit {0}))) (f : F)
     (o : Option V) (r : SlotUpdate V) (x : CallbackOutcome V E) (w : Option V)
-    → StaysIfOk g f o → IsAttempt sure g f (slot_of o) r x (slot_of w) → is_some w ≡ is_some o
+    → KeepsSlotIfOk g f o → IsAttempt sure g f (slot_of o) r x (slot_of w) → is_some w ≡ is_some o
 attempt-stays sure g f o r NotCloned w law h = slot-some w o h.1
 attempt-stays sure g f o r (Failed e) w law h = slot-some w o h.1
 attempt-stays sure g f o r (Answered c) w law h = law r w h.0

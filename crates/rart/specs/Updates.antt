@@ -86,9 +86,10 @@ abbrev pub TriesUpdate : {F E V : Type 0}
 TriesUpdate g f key old result new = AnswersSo g f (lookup key old) (λ a w. IsTryUpdate key a w old result new)
 
 -- such a callback, shown o, keeps an occupied slot occupied and a vacant one vacant where it doesn't fail
-abbrev pub StaysIfOk : {F E V : Type 0} → Once F (MutBor (Slot V) × Unit {0}) (Result (SlotUpdate V) E
+abbrev pub KeepsSlotIfOk : {F E V : Type 0} → Once F (MutBor (Slot V) × Unit {0}) (Result (SlotUpdate V) E
     × (MutBor (Slot V) × Unit {0})) → F → Option V → Type 0
-StaysIfOk {F} {E} {V} g f o = (r : SlotUpdate V) (w : Option V) → FnOnceReturnsAtMut g f (slot_of o) (Ok r) (slot_of w)
+KeepsSlotIfOk {F} {E} {V} g f o = (r : SlotUpdate V) (w : Option V)
+    → FnOnceReturnsAtMut g f (slot_of o) (Ok r) (slot_of w)
     → is_some w ≡ is_some o
 
 -- what an outcome answers

@@ -9,8 +9,9 @@ ghost use Rattle.rart_keys.specs.Filters.{matches};
 ghost use Rattle.rart_nodes.specs.walks.BelowPrefix.{values_below};
 ghost use Rattle.rart_nodes.specs.walks.Calls.{MayLackMemory};
 ghost use Rattle.rart_nodes.specs.walks.Matched.{CanMatch, MatchedEach, MatchesEach};
-ghost use Rattle.rart_nodes.specs.walks.Shown.{CanFold, CanShow, FoldedEach, FoldsEach, ShowedEach, ShowsEach};
-ghost use Rattle.rart_nodes.specs.walks.Tried.{CanTry, EndedVisit, EndsVisit, MayStopForMemory};
+ghost use Rattle.rart_nodes.specs.walks.Shown.{CanFold, CanShow, FoldsEachByValue, FoldsEach, ShowsEachByValue};
+ghost use Rattle.rart_nodes.specs.walks.Shown.{ShowsEach};
+ghost use Rattle.rart_nodes.specs.walks.Tried.{CanTry, EndsVisitByValue, EndsVisit, MayStopForMemory};
 
 use crate::tree::AdaptiveRadixTree;
 use rart_keys::KeyTrait;
@@ -105,7 +106,7 @@ impl<K: KeyTrait, V> AdaptiveRadixTree<K, V> {
     ///
     /// # Errors
     ///
-    /// [`TreeError::Memory`] as there.
+    /// [`TreeError::Memory`] if the tree isn't empty and the allocation for the walk fails. `f` is then not called.
     pub fn prefix_values_for_each_by_ref<F: FnMut(&V)>(
         &self,
         prefix: K,
@@ -127,7 +128,7 @@ impl<K: KeyTrait, V> AdaptiveRadixTree<K, V> {
     ///
     /// # Errors
     ///
-    /// [`TreeError::Memory`] as there.
+    /// [`TreeError::Memory`] if the tree isn't empty and the allocation for the walk fails. `f` is then not called.
     pub fn prefix_values_for_each_k<F: FnMut(&V) + Drop>(
         &self,
         prefix: &K,
@@ -135,7 +136,7 @@ impl<K: KeyTrait, V> AdaptiveRadixTree<K, V> {
     ) -> Result<(), TreeError>
         requires callable { CanShow F.FnMut f (values_below (K.bytes prefix.now) self.now.pairs) }
         ensures calls { OnOk result
-            (ShowedEach F.FnMut f (values_below (K.bytes prefix.now) self.now.pairs)) }
+            (ShowsEachByValue F.FnMut f (values_below (K.bytes prefix.now) self.now.pairs)) }
         ensures memory { IfErr result (MayLackMemory self.now.pairs) }
     {
         self.seen().prefix_values_for_each_k(prefix, f)
@@ -145,7 +146,7 @@ impl<K: KeyTrait, V> AdaptiveRadixTree<K, V> {
     ///
     /// # Errors
     ///
-    /// [`TreeError::Memory`] as there.
+    /// [`TreeError::Memory`] if the tree isn't empty and the allocation for the walk fails. `f` is then not called.
     pub fn prefix_values_for_each<F: FnMut(&V) + Drop>(
         &self,
         prefix: K,
@@ -155,7 +156,7 @@ impl<K: KeyTrait, V> AdaptiveRadixTree<K, V> {
         K: Drop,
         requires callable { CanShow F.FnMut f (values_below (K.bytes prefix) self.now.pairs) }
         ensures calls { OnOk result
-            (ShowedEach F.FnMut f (values_below (K.bytes prefix) self.now.pairs)) }
+            (ShowsEachByValue F.FnMut f (values_below (K.bytes prefix) self.now.pairs)) }
         ensures memory { IfErr result (MayLackMemory self.now.pairs) }
     {
         self.prefix_values_for_each_k(&prefix, f)
@@ -188,7 +189,7 @@ impl<K: KeyTrait, V> AdaptiveRadixTree<K, V> {
     ///
     /// # Errors
     ///
-    /// [`TreeError::Memory`] as there.
+    /// [`TreeError::Memory`] if the tree isn't empty and the allocation for the walk fails. `f` is then not called.
     pub fn prefix_values_fold_by_ref<S: Drop, F: FnMut(S, &V) -> S>(
         &self,
         prefix: K,
@@ -212,7 +213,7 @@ impl<K: KeyTrait, V> AdaptiveRadixTree<K, V> {
     ///
     /// # Errors
     ///
-    /// [`TreeError::Memory`] as there.
+    /// [`TreeError::Memory`] if the tree isn't empty and the allocation for the walk fails. `f` is then not called.
     pub fn prefix_values_fold_k<S: Drop, F: FnMut(S, &V) -> S + Drop>(
         &self,
         prefix: &K,
@@ -222,7 +223,7 @@ impl<K: KeyTrait, V> AdaptiveRadixTree<K, V> {
         requires callable { CanFold F.FnMut f init
             (values_below (K.bytes prefix.now) self.now.pairs) }
         ensures calls { IfOk result
-            (FoldedEach F.FnMut f init (values_below (K.bytes prefix.now) self.now.pairs)) }
+            (FoldsEachByValue F.FnMut f init (values_below (K.bytes prefix.now) self.now.pairs)) }
         ensures memory { IfErr result (MayLackMemory self.now.pairs) }
     {
         self.seen().prefix_values_fold_k(prefix, init, f)
@@ -232,7 +233,7 @@ impl<K: KeyTrait, V> AdaptiveRadixTree<K, V> {
     ///
     /// # Errors
     ///
-    /// [`TreeError::Memory`] as there.
+    /// [`TreeError::Memory`] if the tree isn't empty and the allocation for the walk fails. `f` is then not called.
     pub fn prefix_values_fold<S: Drop, F: FnMut(S, &V) -> S + Drop>(
         &self,
         prefix: K,
@@ -243,7 +244,7 @@ impl<K: KeyTrait, V> AdaptiveRadixTree<K, V> {
         K: Drop,
         requires callable { CanFold F.FnMut f init (values_below (K.bytes prefix) self.now.pairs) }
         ensures calls { IfOk result
-            (FoldedEach F.FnMut f init (values_below (K.bytes prefix) self.now.pairs)) }
+            (FoldsEachByValue F.FnMut f init (values_below (K.bytes prefix) self.now.pairs)) }
         ensures memory { IfErr result (MayLackMemory self.now.pairs) }
     {
         self.prefix_values_fold_k(&prefix, init, f)
@@ -303,7 +304,7 @@ impl<K: KeyTrait, V> AdaptiveRadixTree<K, V> {
         f: F,
     ) -> Result<(), VisitError<E>>
         requires callable { CanTry F.FnMut f (values_below (K.bytes prefix.now) self.now.pairs) }
-        ensures calls { EndedVisit F.FnMut f
+        ensures calls { EndsVisitByValue F.FnMut f
             (values_below (K.bytes prefix.now) self.now.pairs) result }
         ensures memory { IfErr result (MayStopForMemory self.now.pairs) }
     {
@@ -323,7 +324,7 @@ impl<K: KeyTrait, V> AdaptiveRadixTree<K, V> {
     where
         K: Drop,
         requires callable { CanTry F.FnMut f (values_below (K.bytes prefix) self.now.pairs) }
-        ensures calls { EndedVisit F.FnMut f
+        ensures calls { EndsVisitByValue F.FnMut f
             (values_below (K.bytes prefix) self.now.pairs) result }
         ensures memory { IfErr result (MayStopForMemory self.now.pairs) }
     {

@@ -242,7 +242,7 @@ impl<K: KeyTrait, V> AdaptiveRadixTree<K, V> {
             },
             None => {}
         }
-        plant(&mut self.root, key, value);
+        insert_first(&mut self.root, key, value);
         self.len = 1;
         self.longest = self.longest.max(bytes.len());
         Ok(None)
@@ -339,7 +339,11 @@ fn length_kept(len: usize, longest: usize) -> usize
 }
 
 // Inserts the first leaf of a tree without a root.
-fn plant<K: KeyTrait, V>(root: &mut Option<DefaultNode<K::PartialType, V>>, key: &K, value: V)
+fn insert_first<K: KeyTrait, V>(
+    root: &mut Option<DefaultNode<K::PartialType, V>>,
+    key: &K,
+    value: V,
+)
     requires empty { root.old ≡ None }
     ensures canonical { IsCanonicalTree root.new }
     ensures pairs { tree_pairs root.new ≡ (K.bytes key.now, value) ∷ [] }

@@ -1,7 +1,7 @@
 pub mod ChildChangeLemmas
 pub mod Descent
 pub mod EditRunLemmas
-pub mod InsertAskLemmas
+pub mod InsertAllocationLemmas
 pub mod InsertLemmas
 pub mod InsertStopLemmas
 pub mod JoinLemmas
@@ -11,7 +11,7 @@ pub mod LoanLemmas
 pub mod MapUpdates
 pub mod NodeEditLemmas
 pub mod Outcomes
-pub mod PutAskLemmas
+pub mod PutAllocationLemmas
 pub mod PutLemmas
 pub mod TakeValueLemmas
 pub mod UpdateSteps

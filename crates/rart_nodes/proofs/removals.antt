@@ -3,8 +3,8 @@ pub mod PrefixAllocations
 pub mod PrefixFilters
 pub mod PrefixPairs
 pub mod PrefixSteps
-pub mod RemoveAskLemmas
-pub mod RemoveAskSteps
+pub mod RemoveAllocationLemmas
+pub mod RemoveAllocationSteps
 pub mod RemoveLemmas
 pub mod RemoveSteps
 pub mod RemovedPairs

@@ -105,7 +105,7 @@ pub(crate) fn show_vacant<V, X, F: FnOnce(&mut Slot<V>) -> (SlotUpdate<V>, X)>(
     f: F,
 ) -> (SlotUpdate<V>, X)
     requires callable { FnOnceTakesAtMut F.FnOnce f (slot_of None) }
-    requires stays { (r : SlotUpdate V) (x : X) (w : Option V)
+    requires occupancy { (r : SlotUpdate V) (x : X) (w : Option V)
         → FnOnceReturnsAtMut F.FnOnce f (slot_of None) (r, x) (slot_of w) → w ≡ None }
     ensures { FnOnceReturnsAtMut F.FnOnce f (slot_of None) (result.0, result.1) (slot_of None) }
 {

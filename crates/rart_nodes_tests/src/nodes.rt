@@ -260,8 +260,8 @@ fn new_inner(alloc: Global, width: usize) -> Result<TestNode, TreeError> {
 
 // What is seen of a new node: its children, its capacity, and whether it has a value.
 fn seen_of(rt: &impl Abort, node: &TestNode) -> (usize, usize, bool) {
-    let (children, room) = counts(rt, node);
-    (children, room, node.value().is_some())
+    let (children, capacity) = counts(rt, node);
+    (children, capacity, node.value().is_some())
 }
 
 // What is seen of the node that is made with a request refused, or why none is; and whether one was refused.
@@ -280,11 +280,11 @@ fn made(
     }
 }
 
-fn is_made_in_turn(rt: &impl Abort, alloc: Global, width: usize, room: usize) {
+fn is_made_in_turn(rt: &impl Abort, alloc: Global, width: usize, capacity: usize) {
     for at in 1..100_usize {
         match made(rt, alloc, width, at) {
             (Ok(seen), refused) => {
-                assert!(rt; !refused && seen == (0, room, false), "width {width}");
+                assert!(rt; !refused && seen == (0, capacity, false), "width {width}");
                 part_ends(alloc);
                 return;
             }
@@ -298,8 +298,8 @@ fn is_made_in_turn(rt: &impl Abort, alloc: Global, width: usize, room: usize) {
 
 #[test]
 fn new_nodes_refused_in_turn(rt: HostRuntime) {
-    for (width, room) in [(0_usize, 4_usize), (4, 4), (16, 16), (48, 48), (256, 256)] {
-        is_made_in_turn(&rt, rt.alloc(), width, room);
+    for (width, capacity) in [(0_usize, 4_usize), (4, 4), (16, 16), (48, 48), (256, 256)] {
+        is_made_in_turn(&rt, rt.alloc(), width, capacity);
     }
 }
 

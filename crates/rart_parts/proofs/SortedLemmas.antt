@@ -53,7 +53,8 @@ zip_front ks rest [] h = zip_nothing (take 0 ks ++ rest) ∙ sym (zip_nothing ks
 zip_front [] rest (v ∷ vs) h = absurd (omega arith)
 zip_front (k ∷ ks) rest (v ∷ vs) h = ap (λ es. (k, v) ∷ es) (zip_front ks rest vs (omega arith))
 
-module _ {X : Type 0} {width : ℕ} {ks : List ℕ} {vs : List X} {reserved : ℕ} (s : IsSortedKeyed width ks vs reserved) where
+module _ {X : Type 0} {width : ℕ} {ks : List ℕ} {vs : List X} {reserved : ℕ}
+    (s : IsSortedKeyed width ks vs reserved) where
   pub fits : length vs ≤ length ks
   fits = omega (arith, s.full, s.few)
 
@@ -89,7 +90,8 @@ module _ {X : Type 0} {width : ℕ} {ks : List ℕ} {vs : List X} {reserved : �
 
   pub deleted : (key : ℕ) (ks' : List ℕ) (vs' : List X) (reserved' : ℕ) → length ks' ≡ length ks
       → length vs ≡ length vs' + 1 → reserved' ≡ reserved
-      → zip ks' vs' ≡ without_byte key (zip ks vs) → IsPadded ks' (length vs') width → IsSortedKeyed width ks' vs' reserved'
+      → zip ks' vs' ≡ without_byte key (zip ks vs) → IsPadded ks' (length vs') width
+      → IsSortedKeyed width ks' vs' reserved'
   deleted key ks' vs' reserved' n m r e p = record {
     full = n ∙ s.full;
     few = omega (arith, m, s.few);
@@ -128,7 +130,8 @@ module _ {X : Type 0} {width : ℕ} {ks : List ℕ} {vs : List X} {reserved : �
           (eqb_tells k (length rest));
     }
 
-  pub emptied : (ks' : List ℕ) (vs' : List X) → length ks' ≡ width → length vs' ≡ 0 → (reserved' : ℕ) → reserved' ≡ reserved
+  pub emptied : (ks' : List ℕ) (vs' : List X) → length ks' ≡ width → length vs' ≡ 0 → (reserved' : ℕ)
+      → reserved' ≡ reserved
       → IsPadded ks' 0 width → IsSortedKeyed width ks' vs' reserved'
   emptied ks' [] full e reserved' r p = record {
     full = full;

@@ -27,7 +27,7 @@ pub fn is_counted(
         return false;
     }
     let mut children = 0_usize;
-    let mut room = 0_usize;
+    let mut capacity = 0_usize;
     for (width, total_nodes, total_children) in widths {
         let entry = NodeStats {
             width: *width,
@@ -38,9 +38,9 @@ pub fn is_counted(
             return false;
         }
         children = children.wrapping_add(*total_children);
-        room = room.wrapping_add(width.wrapping_mul(*total_nodes));
+        capacity = capacity.wrapping_add(width.wrapping_mul(*total_nodes));
     }
-    stats.total_children == children && stats.total_width == room
+    stats.total_children == children && stats.total_width == capacity
 }
 
 /// Whether two trees have the same pairs, as many of them, and the same statistics.

@@ -6,7 +6,7 @@ ghost use Rattle.rart.specs.Edits.{InsertsNew, PutOrSame, TriesInsert};
 ghost use Rattle.rart.specs.Loans.{ends_as};
 ghost use Rattle.rart.specs.Refusals.{AddsPresent, IsStoredAt};
 
-use crate::tree::{AdaptiveRadixTree, MAX_PAIRS, plant};
+use crate::tree::{AdaptiveRadixTree, MAX_PAIRS, insert_first};
 use rart_keys::KeyTrait;
 use rart_nodes::{NotInserted, Refused};
 use rart_parts::TreeError;
@@ -53,7 +53,7 @@ impl<K: KeyTrait, V> AdaptiveRadixTree<K, V> {
             },
             None => {}
         }
-        plant(&mut self.root, key, value);
+        insert_first(&mut self.root, key, value);
         self.len = 1;
         self.longest = self.longest.max(bytes.len());
         Ok(())

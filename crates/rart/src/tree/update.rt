@@ -6,9 +6,10 @@ ghost use Rattle.rart_keys.specs.SortedMap.{keys_of, lookup, put};
 ghost use Rattle.rart_nodes.specs.declared.slot.Slot.TheVariants.{Occupied as Occupied_slot};
 ghost use Rattle.rart_nodes.specs.declared.slot.SlotUpdate.{SlotUpdate};
 ghost use Rattle.rart_nodes.specs.shapes.Shape.{HasShape};
-ghost use Rattle.rart_nodes.specs.edits.Callbacks.{AnswersSo, Stays, StaysReturning};
+ghost use Rattle.rart_nodes.specs.edits.Callbacks.{AnswersSo, KeepsSlot, KeepsSlotReturning};
 ghost use Rattle.rart_nodes.specs.edits.Slots.{slot_of};
-ghost use Rattle.rart.specs.Updates.{Attempts, EndsIn, IsAttempt, StaysIfOk, TriesUpdate, Updates, UpdatesReturning};
+ghost use Rattle.rart.specs.Updates.{Attempts, EndsIn, IsAttempt, KeepsSlotIfOk, TriesUpdate, Updates};
+ghost use Rattle.rart.specs.Updates.{UpdatesReturning};
 ghost use Rattle.rart.specs.Updates.{touched_in};
 ghost use Rattle.rart.specs.declared.tree.update.TryUpdateError.TheVariants.{Clone as Not_cloned};
 
@@ -61,7 +62,7 @@ impl<K: KeyTrait, V> AdaptiveRadixTree<K, V> {
     ) -> (Result<Outcome<V>, UpdateError<V>>, X)
         requires callable { FnOnceTakesAtMut F.FnOnce f
             (slot_of (lookup (K.bytes key.now) self.old.pairs)) }
-        requires stays { StaysReturning F.FnOnce f (lookup (K.bytes key.now) self.old.pairs) }
+        requires occupancy { KeepsSlotReturning F.FnOnce f (lookup (K.bytes key.now) self.old.pairs) }
         ensures update { UpdatesReturning F.FnOnce f (K.bytes key.now) self.old.pairs result
             self.new.pairs }
         ensures nodes_unchanged { OnErr result.0 (self.new.nodes ≡ self.old.nodes) }
@@ -116,7 +117,7 @@ impl<K: KeyTrait, V> AdaptiveRadixTree<K, V> {
         V: Drop,
         requires callable { FnOnceTakesAtMut F.FnOnce f
             (slot_of (lookup (K.bytes key.now) self.old.pairs)) }
-        requires stays { Stays F.FnOnce f (lookup (K.bytes key.now) self.old.pairs) }
+        requires occupancy { KeepsSlot F.FnOnce f (lookup (K.bytes key.now) self.old.pairs) }
         ensures update { Updates F.FnOnce f (K.bytes key.now) self.old.pairs result self.new.pairs }
         ensures shape { HasShape (keys_of self.new.pairs) self.new.nodes }
         ensures nodes_unchanged { OnErr result (self.new.nodes ≡ self.old.nodes) }
@@ -144,7 +145,7 @@ impl<K: KeyTrait, V> AdaptiveRadixTree<K, V> {
         V: Drop,
         requires callable { FnOnceTakesAtMut F.FnOnce f
             (slot_of (lookup (K.bytes key) self.old.pairs)) }
-        requires stays { Stays F.FnOnce f (lookup (K.bytes key) self.old.pairs) }
+        requires occupancy { KeepsSlot F.FnOnce f (lookup (K.bytes key) self.old.pairs) }
         ensures update { Updates F.FnOnce f (K.bytes key) self.old.pairs result self.new.pairs }
         ensures shape { HasShape (keys_of self.new.pairs) self.new.nodes }
         ensures nodes_unchanged { OnErr result (self.new.nodes ≡ self.old.nodes) }
@@ -156,7 +157,7 @@ impl<K: KeyTrait, V> AdaptiveRadixTree<K, V> {
     fn restore(&mut self, key: &K, value: V)
     where
         V: Drop,
-        requires stands { lookup (K.bytes key.now) self.old.pairs ≢ None }
+        requires present { lookup (K.bytes key.now) self.old.pairs ≢ None }
         ensures pairs { self.new.pairs ≡ put (K.bytes key.now) value self.old.pairs }
         ensures nodes { self.new.nodes ≡ self.old.nodes }
     {
@@ -185,7 +186,7 @@ impl<K: KeyTrait, V> AdaptiveRadixTree<K, V> {
         requires clones { (x y : V) → V.is_clone x y → y ≡ x }
         requires callable { FnOnceTakesAtMut F.FnOnce f
             (slot_of (lookup (K.bytes key.now) self.old.pairs)) }
-        requires stays { StaysIfOk F.FnOnce f (lookup (K.bytes key.now) self.old.pairs) }
+        requires occupancy { KeepsSlotIfOk F.FnOnce f (lookup (K.bytes key.now) self.old.pairs) }
         ensures called { result ≢ Err Not_cloned
             → TriesUpdate F.FnOnce f (K.bytes key.now) self.old.pairs result self.new.pairs }
         ensures not_cloned { result ≡ Err Not_cloned
@@ -232,7 +233,7 @@ impl<K: KeyTrait, V> AdaptiveRadixTree<K, V> {
         requires clones { (x y : V) → V.is_clone x y → y ≡ x }
         requires callable { FnOnceTakesAtMut F.FnOnce f
             (slot_of (lookup (K.bytes key) self.old.pairs)) }
-        requires stays { StaysIfOk F.FnOnce f (lookup (K.bytes key) self.old.pairs) }
+        requires occupancy { KeepsSlotIfOk F.FnOnce f (lookup (K.bytes key) self.old.pairs) }
         ensures called { result ≢ Err Not_cloned
             → TriesUpdate F.FnOnce f (K.bytes key) self.old.pairs result self.new.pairs }
         ensures not_cloned { result ≡ Err Not_cloned
@@ -253,7 +254,7 @@ fn update_plainly<V, K: KeyTrait, F: FnOnce(&mut Slot<V>) -> SlotUpdate<V>>(
 ) -> Result<Outcome<V>, UpdateError<V>>
     requires callable { FnOnceTakesAtMut F.FnOnce f
         (slot_of (lookup (K.bytes key.now) tree.old.pairs)) }
-    requires stays { Stays F.FnOnce f (lookup (K.bytes key.now) tree.old.pairs) }
+    requires occupancy { KeepsSlot F.FnOnce f (lookup (K.bytes key.now) tree.old.pairs) }
     ensures update { AnswersSo F.FnOnce f (lookup (K.bytes key.now) tree.old.pairs)
         (λ r w. EndsIn (K.bytes key.now) r w tree.old.pairs result tree.new.pairs) }
     ensures nodes_unchanged { OnErr result (tree.new.nodes ≡ tree.old.nodes) }
@@ -293,7 +294,7 @@ fn update_tried<
     requires clones { (x y : V) → V.is_clone x y → y ≡ x }
     requires callable { FnOnceTakesAtMut F.FnOnce f
         (slot_of (lookup (K.bytes key.now) tree.old.pairs)) }
-    requires stays { StaysIfOk F.FnOnce f (lookup (K.bytes key.now) tree.old.pairs) }
+    requires occupancy { KeepsSlotIfOk F.FnOnce f (lookup (K.bytes key.now) tree.old.pairs) }
     ensures update { Attempts V.is_infallible F.FnOnce f (K.bytes key.now) tree.old.pairs result.1
         result.0 tree.new.pairs }
     ensures nodes_unchanged { OnErr result.0 (tree.new.nodes ≡ tree.old.nodes) }

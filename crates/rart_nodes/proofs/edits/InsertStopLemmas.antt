@@ -7,9 +7,9 @@ use Rattle.rart_nodes.specs.declared.node.edits.insert.InsertStop.{InsertStop}
 use Rattle.rart_nodes.specs.declared.node.edits.insert.InsertStop.TheVariants as stop
 use Rattle.rart_nodes.specs.declared.refused.NotInserted.{NotInserted}
 use Rattle.rart_nodes.specs.declared.refused.NotInserted.TheVariants as not_inserted
-use Rattle.rart_nodes.proofs.edits.InsertAskLemmas.{allocates-insert}
+use Rattle.rart_nodes.proofs.edits.InsertAllocationLemmas.{allocates-insert}
 use Rattle.rart_nodes.proofs.edits.InsertLemmas.{record-child}
-use Rattle.rart_nodes.proofs.edits.PutAskLemmas.{put_allocation-below}
+use Rattle.rart_nodes.proofs.edits.PutAllocationLemmas.{put_allocation-below}
 use Rattle.rart_nodes.proofs.shapes.ShapeLemmas.{record_is, new-key}
 use Rattle.rart_nodes.proofs.tries.NodeCounts.{some-pairs}
 use Rattle.rart_nodes.proofs.tries.PairLemmas.{lookup-pairs_of}

@@ -5,11 +5,11 @@ use Rattle.rart_keys.specs.KeyBytes.{IsWithin}
 use Rattle.rart_keys.proofs.ByteOrder.{eq-no}
 use Rattle.rart_parts.specs.Entries.{child_at}
 use Rattle.rart_parts.specs.Entries as entries
-use Rattle.rart_nodes.specs.edits.Deletion.{JoinsWithin, children_without, is_lone, joined_child, joined_if_lone}
+use Rattle.rart_nodes.specs.edits.Deletion.{JoinsWithin, children_without, needs_merge, merged_child, merged_if_needed}
 use Rattle.rart_nodes.specs.edits.Deletion.{remaining_node, without_child}
 use Rattle.rart_nodes.specs.tries.Trie.{Trie, node, Children, no_children, child, edges_of, prefix_of}
 use Rattle.rart_nodes.specs.tries.TrieCode.{as_children}
-use Rattle.rart_nodes.specs.storages.Capacities.{narrowed_capacity}
+use Rattle.rart_nodes.specs.storages.Capacities.{shrunk_capacity}
 use Rattle.rart_nodes.proofs.storages.ChildLemmas.{edges_of-length}
 use Rattle.rart_nodes.proofs.tries.Descents.{child_of-entries}
 
@@ -20,25 +20,25 @@ pub most-within : (m : Option ℕ) (most n : ℕ) → m ≡ Some most → n ≤ 
 most-within m most n e h = rw e h
 
 module _ {V : Type 0} where
-  pub lone-valued : (v : Option V) (cs : Children V) → is_some v ≡ true → is_lone v cs ≡ false
+  pub lone-valued : (v : Option V) (cs : Children V) → is_some v ≡ true → needs_merge v cs ≡ false
   lone-valued None cs h = absurd (cc)
   lone-valued (Some v) cs h = refl
 
-  pub lone-many : (v : Option V) (es : List (ℕ × Trie V)) → length es ≢ 1 → is_lone v (as_children es) ≡ false
+  pub lone-many : (v : Option V) (es : List (ℕ × Trie V)) → length es ≢ 1 → needs_merge v (as_children es) ≡ false
   lone-many (Some v) es h = refl
   lone-many None [] h = refl
   lone-many None (e ∷ []) h = absurd (h refl)
   lone-many None (e ∷ f ∷ es) h = refl
 
   pub lone-yes : (v : Option V) (es : List (ℕ × Trie V)) → is_some v ≡ false → length es ≡ 1
-      → is_lone v (as_children es) ≡ true
+      → needs_merge v (as_children es) ≡ true
   lone-yes (Some v) es h l = absurd (cc)
   lone-yes None [] h l = absurd (omega (arith, l))
   lone-yes None (e ∷ []) h l = refl
   lone-yes None (e ∷ f ∷ es) h l = absurd (omega (arith, l))
 
-  pub joined-not : (p : List ℕ) (v : Option V) (w : ℕ) (cs : Children V) → is_lone v cs ≡ false
-      → node p v w cs ≡ joined_if_lone (node p v w cs)
+  pub joined-not : (p : List ℕ) (v : Option V) (w : ℕ) (cs : Children V) → needs_merge v cs ≡ false
+      → node p v w cs ≡ merged_if_needed (node p v w cs)
   joined-not p v w cs h = rw h refl
 
   -- the children that are left
@@ -99,27 +99,27 @@ module _ {V : Type 0} where
         | Some t ↦ λ q. rw (child_of-entries b es, q, as-without b es) refl
       ] refl
 
-  same-narrowed : (p : List ℕ) (v : Option V) (w w' : ℕ) (es : List (ℕ × Trie V)) → w' ≡ narrowed_capacity (length es) w
-      → node p v w' (as_children es) ≡ node p v (narrowed_capacity (length (edges_of (as_children es))) w)
+  same-narrowed : (p : List ℕ) (v : Option V) (w w' : ℕ) (es : List (ℕ × Trie V)) → w' ≡ shrunk_capacity (length es) w
+      → node p v w' (as_children es) ≡ node p v (shrunk_capacity (length (edges_of (as_children es))) w)
       (as_children es)
   same-narrowed p v w w' es e = ap (λ z. node p v z (as_children es)) (e
-      ∙ ap (λ n. narrowed_capacity n w) (sym (edges_of-length es)))
+      ∙ ap (λ n. shrunk_capacity n w) (sym (edges_of-length es)))
 
   -- a node of capacity 4 gave a child up
   pub without-joined : (p : List ℕ) (v : Option V) (w w' b : ℕ) (es es' : List (ℕ × Trie V)) → w ≡ 4
-      → child_at b es ≢ None → es' ≡ entries.without_byte b es → w' ≡ narrowed_capacity (length es') w
-      → joined_if_lone (node p v w' (as_children es')) ≡ without_child b (node p v w (as_children es))
+      → child_at b es ≢ None → es' ≡ entries.without_byte b es → w' ≡ shrunk_capacity (length es') w
+      → merged_if_needed (node p v w' (as_children es')) ≡ without_child b (node p v w (as_children es))
   without-joined p v w w' b es es' e4 s ee ew =
-      ap (λ t. if is_lone v (as_children es') then joined_child p (as_children es') else t)
+      ap (λ t. if needs_merge v (as_children es') then merged_child p (as_children es') else t)
       (same-narrowed p v w w' es' ew)
       ∙ rw e4 refl
       ∙ ap (λ l. remaining_node p v w (as_children l)) ee ∙ sym (without-some p v w b es s)
 
   -- a wider one did
   pub without-wide : (p : List ℕ) (v : Option V) (w w' b : ℕ) (es es' : List (ℕ × Trie V)) → w ≢ 4
-      → child_at b es ≢ None → es' ≡ entries.without_byte b es → w' ≡ narrowed_capacity (length es') w
+      → child_at b es ≢ None → es' ≡ entries.without_byte b es → w' ≡ shrunk_capacity (length es') w
       → node p v w' (as_children es') ≡ without_child b (node p v w (as_children es))
   without-wide p v w w' b es es' n4 s ee ew = same-narrowed p v w w' es' ew
-      ∙ sym (ap (λ z. if z && is_lone v (as_children es') then joined_child p (as_children es')
-      else node p v (narrowed_capacity (length (edges_of (as_children es'))) w) (as_children es')) (eq-no w 4 n4))
+      ∙ sym (ap (λ z. if z && needs_merge v (as_children es') then merged_child p (as_children es')
+      else node p v (shrunk_capacity (length (edges_of (as_children es'))) w) (as_children es')) (eq-no w 4 n4))
       ∙ ap (λ l. remaining_node p v w (as_children l)) ee ∙ sym (without-some p v w b es s)

@@ -21,9 +21,9 @@ use Rattle.rart_nodes.specs.edits.TreeUpdates.{RemoveAllocates, EndsTree, Refuse
 use Rattle.rart_nodes.specs.edits.Updates.{EndsMap, RefusesNew, map_left, map_updated}
 use Rattle.rart_nodes.specs.edits.RemoveAllocations.{remove_allocates}
 use Rattle.rart_nodes.proofs.edits.EditRunLemmas.{run-canonical, run-pairs_of, tree-shape}
-use Rattle.rart_nodes.proofs.edits.InsertAskLemmas.{allocates-insert}
+use Rattle.rart_nodes.proofs.edits.InsertAllocationLemmas.{allocates-insert}
 use Rattle.rart_nodes.proofs.edits.LoanLemmas.{keys-put, longest-alike, lengths-alike}
-use Rattle.rart_nodes.proofs.removals.RemoveAskLemmas.{allocates-remove}
+use Rattle.rart_nodes.proofs.removals.RemoveAllocationLemmas.{allocates-remove}
 use Rattle.rart_nodes.proofs.removals.RemovedPairs.{length-without_key, longest_key-without}
 use Rattle.rart_nodes.proofs.shapes.ShapeLemmas.{one_shape}
 use Rattle.rart_nodes.proofs.tries.CanonicalTests.{longest_key-put}

@@ -7,7 +7,8 @@ use Rattle.rart_keys.specs.SortedMap.{values_of}
 use Rattle.rart_keys.proofs.ByteOrder.{eq-yes, eq-no}
 use Rattle.rart_parts.specs.Entries.{child_at, entries_above, replaced}
 use Rattle.rart_nodes.specs.tries.PrefixLaws.{values-append, values-with_prefix}
-use Rattle.rart_nodes.specs.tries.Trie.{Children, Trie, node, pairs_of, children_pairs, own_pair, AreCanonical, IsCanonical}
+use Rattle.rart_nodes.specs.tries.Trie.{Children, Trie, node, pairs_of, children_pairs, own_pair, AreCanonical}
+use Rattle.rart_nodes.specs.tries.Trie.{IsCanonical}
 use Rattle.rart_nodes.specs.tries.TrieCode.{as_children, child_count, node_count}
 use Rattle.rart_nodes.proofs.storages.ChildLemmas.{lt-no, lt-yes}
 use Rattle.rart_nodes.proofs.storages.EntryPlaces.{ahead_count}
@@ -35,7 +36,12 @@ module _ {V : Type 0} where
   ordered-replaced : (b low : ℕ) (u w : Trie V) (xs ys : List (ℕ × Trie V)) → AreOrdered low (xs ++ (b, u) ∷ ys)
       → replaced b w (xs ++ (b, u) ∷ ys) ≡ xs ++ (b, w) ∷ ys
   ordered-replaced b low u w [] ys c = rw (eq-yes b b refl) refl
-  ordered-replaced b low u w (x ∷ xs) ys c = rw (eq-no x.0 b (λ q. omega (arith, q, ordered-low b (suc x.0) u xs ys c.1)))
+  ordered-replaced b low u w (x ∷ xs) ys c = rw (eq-no x.0 b (λ q. omega (
+    arith,
+    q,
+    ordered-low b
+        (suc x.0) u xs ys c.1,
+  )))
       (ap (λ z. x ∷ z) (ordered-replaced b (suc x.0) u w xs ys c.1))
 
   ordered-with : (b low : ℕ) (u w : Trie V) (xs ys : List (ℕ × Trie V)) → AreOrdered low (xs ++ (b, u) ∷ ys)
@@ -191,7 +197,8 @@ module _ {V : Type 0} where
       ∙ ordered-above b 0 x k.left k.rest ordered in
       let first-ahead : next ≡ option_map (λ e. e.0) (slice_get k.rest 0) = a
       ∙ ap (λ r. option_map (λ e. e.0) (slice_get r 0)) above in
-      let joined : ds ≡ (k.left ++ (b, x) ∷ []) ++ k.rest = changed ∙ sym (append_assoc k.left ((b, x) ∷ []) k.rest) in (
+      let joined : ds ≡ (k.left ++ (b, x) ∷ []) ++ k.rest = changed
+      ∙ sym (append_assoc k.left ((b, x) ∷ []) k.rest) in (
         record {
           low = suc b;
           left = k.left ++ (b, x) ∷ [];
@@ -217,6 +224,7 @@ module _ {V : Type 0} where
   taking-end t0 first taken es i = over i.rest refl
     where
       over : (rest : List (ℕ × Trie V)) → i.rest ≡ rest → taken ≡ first ++ values_of (pairs_of t0)
-      over [] e = sym (append-nil taken) ∙ ap (λ r. taken ++ values_of (children_pairs (as_children r))) (sym e) ∙ i.same
+      over [] e = sym (append-nil taken) ∙ ap (λ r. taken ++ values_of (children_pairs (as_children r))) (sym e)
+          ∙ i.same
       over (x ∷ rest) e = let h : ◌≡◌ {A = Option ℕ} None (Some x.0) = i.ahead
           ∙ ap (λ r. option_map (λ e. e.0) (slice_get r 0)) e in absurd (cc)

@@ -24,8 +24,8 @@ use Rattle.rart_nodes.specs.edits.TreeUpdates.{node_holding, tree_left}
 use Rattle.rart_nodes.proofs.storages.ChildLemmas.{edges_of-length, replaced-length, some-equal}
 use Rattle.rart_nodes.proofs.edits.InsertLemmas.{put-below, child-put_back, record-child}
 use Rattle.rart_nodes.proofs.edits.LeafLemmas.{leaf-edges, leaf-gone}
-use Rattle.rart_nodes.proofs.edits.PutAskLemmas.{put_allocation-below}
-use Rattle.rart_nodes.proofs.removals.RemoveAskSteps.{remove_allocation-below, remove_allocation-leaf}
+use Rattle.rart_nodes.proofs.edits.PutAllocationLemmas.{put_allocation-below}
+use Rattle.rart_nodes.proofs.removals.RemoveAllocationSteps.{remove_allocation-below, remove_allocation-leaf}
 use Rattle.rart_nodes.proofs.removals.RemoveSteps.{removed-below, removed-leaf, value-removed}
 use Rattle.rart_nodes.proofs.tries.RestLemmas.{Follows, trie_lookup-left, trie_put-ended}
 use Rattle.rart_nodes.proofs.tries.Descents.{child_of-entries, descend-left}

@@ -92,17 +92,17 @@ module _ {V : Type 0} where
   )
 
   -- a level of some of its children comes after the others
-  pub record Deepened (g : Grown) (longest places : ℕ) (k k1 : SegmentList) (ls ms : List (Level V))
+  pub record LevelPushed (g : Grown) (longest places : ℕ) (k k1 : SegmentList) (ls ms : List (Level V))
       (cs : Children V) : Type 0 where
     pub path : IsWalk longest places k1 ms
     pub still : entries_below g k1 ms ≡ segments_after k1 (children_entries g cs) ++ entries_below g k ls
 
-  deepened-at : (g : Grown) (longest places : ℕ) (k p : SegmentList) (t : Trie V) (cs : Children V)
+  pushed-at : (g : Grown) (longest places : ℕ) (k p : SegmentList) (t : Trie V) (cs : Children V)
       (ls : List (Level V)) → IsShort g → is_canonical t ≡ true → IsWalk longest places k ls → longest < places
       → IsPathReserved longest k (length ls) (Some t) → p ≡ g (prefix_of t) → AreCanonical 0 cs
       → longest_key (children_pairs cs) ≤ longest_key (children_pairs (children_in t))
-      → Deepened g longest places k (k ++ p) ls ((cs, length (k ++ p)) ∷ ls) cs
-  deepened-at g longest places k p t cs ls s c q r w i a l =
+      → LevelPushed g longest places k (k ++ p) ls ((cs, length (k ++ p)) ∷ ls) cs
+  pushed-at g longest places k p t cs ls s c q r w i a l =
       let n : length (k ++ p) ≤ length k + length (prefix_of t)
       = omega (arith, length-append k p, ap length i, s (prefix_of t)) in
       let below = longest-below t (IsCanonical-test t c) in
@@ -126,36 +126,41 @@ module _ {V : Type 0} where
             ∙ entries_below-same g longest (length k) (length k) k p ls q.stations (omega arith) (omega arith)));
       }
 
-  pub deepened : (g : Grown) (longest places places1 n : ℕ) (k k1 : SegmentList) (t : Trie V) (cs : Children V)
+  pub pushed : (g : Grown) (longest places places1 n : ℕ) (k k1 : SegmentList) (t : Trie V) (cs : Children V)
       (st st1 : List (Level V)) → IsShort g → is_canonical t ≡ true → IsWalk longest places k (reverse st)
       → longest < places
       → IsPathReserved longest k n (Some t) → n ≡ length st → k1 ≡ k ++ g (prefix_of t) → AreCanonical 0 cs
       → longest_key (children_pairs cs) ≤ longest_key (children_pairs (children_in t))
       → st1 ≡ st ++ (cs, length k1) ∷ [] → places1 ≡ places
-      → Deepened g longest places1 k k1 (reverse st) (reverse st1) cs
-  deepened g longest places places1 n k k1 t cs st st1 s c q r w m i a l e f =
-      let h : IsPathReserved longest k (length (reverse st)) (Some t) = (w.0, omega (arith, w.1, m, length-reverse st)) in
+      → LevelPushed g longest places1 k k1 (reverse st) (reverse st1) cs
+  pushed g longest places places1 n k k1 t cs st st1 s c q r w m i a l e f =
+      let h : IsPathReserved longest k (length (reverse st)) (Some t) = (
+        w.0,
+        omega
+            (arith, w.1, m, length-reverse st),
+      ) in
       rw (deepest st1 st (cs, length k1) e, f, i)
-      (deepened-at g longest places k (g (prefix_of t)) t cs (reverse st) s c q r h refl a l)
+      (pushed-at g longest places k (g (prefix_of t)) t cs (reverse st) s c q r h refl a l)
 
   -- all children of the node, or those above a byte
-  pub all-deepened : (g : Grown) (longest places places1 : ℕ) (k k1 : SegmentList) (t : Trie V) (cs : Children V)
+  pub all-pushed : (g : Grown) (longest places places1 : ℕ) (k k1 : SegmentList) (t : Trie V) (cs : Children V)
       (st st1 : List (Level V)) → IsShort g → is_canonical t ≡ true → IsWalk longest places k (reverse st)
       → longest < places
       → IsPathReserved longest k (length st) (Some t) → k1 ≡ k ++ g (prefix_of t) → cs ≡ children_in t
       → st1 ≡ st ++ (cs, length k1) ∷ [] → places1 ≡ places
-      → Deepened g longest places1 k k1 (reverse st) (reverse st1) cs
-  all-deepened g longest places places1 k k1 t cs st st1 s c q r w i a e f =
-      deepened g longest places places1 (length st) k k1 t cs st st1 s c q r w refl i
+      → LevelPushed g longest places1 k k1 (reverse st) (reverse st1) cs
+  all-pushed g longest places places1 k k1 t cs st st1 s c q r w i a e f =
+      pushed g longest places places1 (length st) k k1 t cs st st1 s c q r w refl i
       (rw a (below-canonical t (IsCanonical-test t c))) (rw a (omega arith)) e f
 
-  pub some-deepened : (g : Grown) (longest places places1 b : ℕ) (k k1 : SegmentList) (t : Trie V) (cs : Children V)
+  pub some-pushed : (g : Grown) (longest places places1 b : ℕ) (k k1 : SegmentList) (t : Trie V) (cs : Children V)
       (st st1 : List (Level V)) → IsShort g → is_canonical t ≡ true → IsWalk longest places k (reverse st)
       → longest < places
-      → IsPathReserved longest k (length st) (Some t) → k1 ≡ k ++ g (prefix_of t) → cs ≡ children_above b (children_in t)
+      → IsPathReserved longest k (length st) (Some t) → k1 ≡ k ++ g (prefix_of t)
+      → cs ≡ children_above b (children_in t)
       → st1 ≡ st ++ (cs, length k1) ∷ [] → places1 ≡ places
-      → Deepened g longest places1 k k1 (reverse st) (reverse st1) cs
-  some-deepened g longest places places1 b k k1 t cs st st1 s c q r w i a e f =
-      deepened g longest places places1 (length st) k k1 t cs st st1 s c q r w refl i
+      → LevelPushed g longest places1 k k1 (reverse st) (reverse st1) cs
+  some-pushed g longest places places1 b k k1 t cs st st1 s c q r w i a e f =
+      pushed g longest places places1 (length st) k k1 t cs st st1 s c q r w refl i
       (rw a (above-canonical b 0 (children_in t) (below-canonical t (IsCanonical-test t c))))
       (rw a (above-short b (children_in t))) e f

@@ -35,19 +35,19 @@ module _ {V : Type 0} where
       ]
 
   -- a level of some of a node's children, with a value, comes after the others
-  pub record BackDeepened (g : Grown) (longest places : ℕ) (k k1 : SegmentList) (ls ms : List (BackLevel V))
+  pub record BackLevelPushed (g : Grown) (longest places : ℕ) (k k1 : SegmentList) (ls ms : List (BackLevel V))
       (cs : Children V) (v : Option (Bor V)) : Type 0 where
     pub path : IsBackWalk longest places k1 ms
     pub still : remaining_entries g k1 ms
         ≡ remaining_entries g k ls ++ segments_after k1 (value_at [] (option_copied v) ++ children_entries g cs)
 
-  deepened-at : (g : Grown) (longest places : ℕ) (k p : SegmentList) (t : Trie V) (cs : Children V)
+  pushed-at : (g : Grown) (longest places : ℕ) (k p : SegmentList) (t : Trie V) (cs : Children V)
       (v : Option (Bor V)) (ls : List (BackLevel V)) → IsShort g → is_canonical t ≡ true
       → IsBackWalk longest places k ls → longest < places
       → IsPathReserved longest k (length (levels_of ls)) (Some t) → p ≡ g (prefix_of t) → AreCanonical 0 cs
       → longest_key (children_pairs cs) ≤ longest_key (children_pairs (children_in t))
-      → BackDeepened g longest places k (k ++ p) ls (((cs, length (k ++ p)), v) ∷ ls) cs v
-  deepened-at g longest places k p t cs v ls s c q r w i a l =
+      → BackLevelPushed g longest places k (k ++ p) ls (((cs, length (k ++ p)), v) ∷ ls) cs v
+  pushed-at g longest places k p t cs v ls s c q r w i a l =
       let n : length (k ++ p) ≤ length k + length (prefix_of t)
       = omega (arith, length-append k p, ap length i, s (prefix_of t)) in
       let below = longest-below t (IsCanonical-test t c) in
@@ -71,38 +71,38 @@ module _ {V : Type 0} where
             ∙ remaining-same g longest (length k) (length k) k p ls q.stations (omega arith) (omega arith)));
       }
 
-  pub deepened : (g : Grown) (longest places places1 n : ℕ) (k k1 : SegmentList) (t : Trie V) (cs : Children V)
+  pub pushed : (g : Grown) (longest places places1 n : ℕ) (k k1 : SegmentList) (t : Trie V) (cs : Children V)
       (v : Option (Bor V)) (st st1 : List (BackLevel V)) → IsShort g → is_canonical t ≡ true
       → IsBackWalk longest places k (reverse st) → longest < places
       → IsPathReserved longest k n (Some t) → n ≡ length st → k1 ≡ k ++ g (prefix_of t) → AreCanonical 0 cs
       → longest_key (children_pairs cs) ≤ longest_key (children_pairs (children_in t))
       → st1 ≡ st ++ ((cs, length k1), v) ∷ [] → places1 ≡ places
-      → BackDeepened g longest places1 k k1 (reverse st) (reverse st1) cs v
-  deepened g longest places places1 n k k1 t cs v st st1 s c q r w m i a l e f =
+      → BackLevelPushed g longest places1 k k1 (reverse st) (reverse st1) cs v
+  pushed g longest places places1 n k k1 t cs v st st1 s c q r w m i a l e f =
       let h : IsPathReserved longest k (length (levels_of (reverse st))) (Some t)
       = (w.0, omega (arith, w.1, m, length-reverse st, length-map (reverse st) (λ x. x.0))) in
       rw (deepest st1 st ((cs, length k1), v) e, f, i)
-      (deepened-at g longest places k (g (prefix_of t)) t cs v (reverse st) s c q r h refl a l)
+      (pushed-at g longest places k (g (prefix_of t)) t cs v (reverse st) s c q r h refl a l)
 
   -- all children of the node, or those under a byte
-  pub all-deepened : (g : Grown) (longest places places1 : ℕ) (k k1 : SegmentList) (t : Trie V) (cs : Children V)
+  pub all-pushed : (g : Grown) (longest places places1 : ℕ) (k k1 : SegmentList) (t : Trie V) (cs : Children V)
       (v : Option (Bor V)) (st st1 : List (BackLevel V)) → IsShort g → is_canonical t ≡ true
       → IsBackWalk longest places k (reverse st) → longest < places
       → IsPathReserved longest k (length st) (Some t) → k1 ≡ k ++ g (prefix_of t) → cs ≡ children_in t
       → st1 ≡ st ++ ((cs, length k1), v) ∷ [] → places1 ≡ places
-      → BackDeepened g longest places1 k k1 (reverse st) (reverse st1) cs v
-  all-deepened g longest places places1 k k1 t cs v st st1 s c q r w i a e f =
-      deepened g longest places places1 (length st) k k1 t cs v st st1 s c q r w refl i
+      → BackLevelPushed g longest places1 k k1 (reverse st) (reverse st1) cs v
+  all-pushed g longest places places1 k k1 t cs v st st1 s c q r w i a e f =
+      pushed g longest places places1 (length st) k k1 t cs v st st1 s c q r w refl i
       (rw a (below-canonical t (IsCanonical-test t c))) (rw a (omega arith)) e f
 
-  pub some-deepened : (g : Grown) (longest places places1 b : ℕ) (k k1 : SegmentList) (t : Trie V) (cs : Children V)
+  pub some-pushed : (g : Grown) (longest places places1 b : ℕ) (k k1 : SegmentList) (t : Trie V) (cs : Children V)
       (v : Option (Bor V)) (st st1 : List (BackLevel V)) → IsShort g → is_canonical t ≡ true
       → IsBackWalk longest places k (reverse st) → longest < places
       → IsPathReserved longest k (length st) (Some t) → k1 ≡ k ++ g (prefix_of t)
       → cs ≡ children_under b (children_in t) → st1 ≡ st ++ ((cs, length k1), v) ∷ [] → places1 ≡ places
-      → BackDeepened g longest places1 k k1 (reverse st) (reverse st1) cs v
-  some-deepened g longest places places1 b k k1 t cs v st st1 s c q r w i a e f =
-      deepened g longest places places1 (length st) k k1 t cs v st st1 s c q r w refl i
+      → BackLevelPushed g longest places1 k k1 (reverse st) (reverse st1) cs v
+  some-pushed g longest places places1 b k k1 t cs v st st1 s c q r w i a e f =
+      pushed g longest places places1 (length st) k k1 t cs v st st1 s c q r w refl i
       (rw a (under-canonical b 0 (children_in t) (below-canonical t (IsCanonical-test t c))))
       (rw a (under-short b (children_in t))) e f
 

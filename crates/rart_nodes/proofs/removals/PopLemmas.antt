@@ -12,7 +12,7 @@ use Rattle.rart_keys.proofs.ByteOrder.{below-not_eq, bytes_eq-itself}
 use Rattle.rart_parts.specs.Entries.{child_at, replaced}
 use Rattle.rart_nodes.specs.declared.node.ends.End.{End}
 use Rattle.rart_nodes.specs.declared.node.ends.End.TheVariants.{First, Last}
-use Rattle.rart_nodes.specs.edits.Deletion.{is_leaf_at, is_end, joined_if_lone, without_child}
+use Rattle.rart_nodes.specs.edits.Deletion.{is_leaf_at, is_end, merged_if_needed, without_child}
 use Rattle.rart_nodes.specs.edits.Pops.{PopAllocates, Pops, PopsEnd}
 use Rattle.rart_nodes.specs.edits.RemoveAllocations.{remove_allocates}
 use Rattle.rart_nodes.specs.storages.Capacities.{previous_capacity}
@@ -24,8 +24,8 @@ use Rattle.rart_nodes.specs.tries.TrieCode.{as_children}
 use Rattle.rart_nodes.proofs.edits.InsertLemmas.{fewer-within}
 use Rattle.rart_nodes.proofs.edits.JoinedLengths.{prefix-before}
 use Rattle.rart_nodes.proofs.edits.LeafLemmas.{leaf-gone}
-use Rattle.rart_nodes.proofs.removals.RemoveAskLemmas.{allocates-remove}
-use Rattle.rart_nodes.proofs.removals.RemoveAskSteps.{remove_allocation-below, remove_allocation-leaf}
+use Rattle.rart_nodes.proofs.removals.RemoveAllocationLemmas.{allocates-remove}
+use Rattle.rart_nodes.proofs.removals.RemoveAllocationSteps.{remove_allocation-below, remove_allocation-leaf}
 use Rattle.rart_nodes.proofs.removals.RemoveLemmas.{canonical-removed, pairs_of-removed}
 use Rattle.rart_nodes.proofs.removals.RemoveSteps.{value-removed, removed-below, removed-leaf}
 use Rattle.rart_nodes.proofs.removals.RemovedPairs.{without-above}
@@ -72,7 +72,7 @@ module _ {V : Type 0} where
   pub pop-here : (e : End) (q r p : List ℕ) (v : Option V) (w : ℕ) (es : List (ℕ × Trie V))
       → IsCanonical (node p v w (as_children es)) → as_children es ≢ no_children
       → end_child e (node p v w (as_children es)) ≡ None → r ≡ q ++ p
-      → Pops e (node p v w (as_children es)) q r v (joined_if_lone (node p None w (as_children es)))
+      → Pops e (node p v w (as_children es)) q r v (merged_if_needed (node p None w (as_children es)))
   pop-here e q r p v w es c i h s = let here = ends-here e (node p v w (as_children es)) c h in record {
     pair = (p, here.value);
     here = here.pair;

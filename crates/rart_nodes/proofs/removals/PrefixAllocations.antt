@@ -16,10 +16,10 @@ use Rattle.rart_nodes.specs.tries.Trie.{children_pairs, pairs_of, prefix_of, rec
 use Rattle.rart_nodes.specs.tries.Trie.{AreCanonical}
 use Rattle.rart_nodes.specs.tries.Tree.{tree_pairs}
 use Rattle.rart_nodes.specs.tries.TrieCode.{as_children}
-use Rattle.rart_nodes.proofs.edits.PutAskLemmas.{asked}
+use Rattle.rart_nodes.proofs.edits.PutAllocationLemmas.{asked}
 use Rattle.rart_nodes.proofs.removals.PrefixFilters.{longer-not_begins}
-use Rattle.rart_nodes.proofs.removals.RemoveAskLemmas.{moves_is, same_before}
-use Rattle.rart_nodes.proofs.removals.RemoveAskSteps.{moves-yes}
+use Rattle.rart_nodes.proofs.removals.RemoveAllocationLemmas.{moves_is, same_before}
+use Rattle.rart_nodes.proofs.removals.RemoveAllocationSteps.{moves-yes}
 use Rattle.rart_nodes.proofs.shapes.RecordsAlong.{AreReadings, none-first, reads-apart, reads-after, records_in}
 use Rattle.rart_nodes.proofs.shapes.ShapeLemmas.{records, records-at}
 use Rattle.rart_nodes.proofs.tries.Descents.{Keeps, descend-at, descend-child_of, descend-followed}

@@ -7,20 +7,20 @@ use Rattle.rart_keys.specs.ByteStrings.{strip_prefix}
 use Rattle.rart_keys.proofs.ByteOrder.{is_equal, is_greater, eq-yes, eq-no}
 use Rattle.rart_parts.specs.Entries.{child_at, replaced}
 use Rattle.rart_parts.specs.Entries as entries
-use Rattle.rart_nodes.specs.edits.Deletion.{is_lone, joined_child, joined_if_lone, remaining_node, without_child}
+use Rattle.rart_nodes.specs.edits.Deletion.{needs_merge, merged_child, merged_if_needed, remaining_node, without_child}
 use Rattle.rart_nodes.specs.edits.Deletion.{is_end, is_leaf_at}
 use Rattle.rart_nodes.specs.shapes.Shape.{capacity_of}
 use Rattle.rart_nodes.specs.tries.Trie.{Trie, node, Children, child, edges_of, IsCanonical, AreCanonical}
 use Rattle.rart_nodes.specs.tries.Trie.{collapsed_node, removed_after, child_if, trie_remove, remove_child}
 use Rattle.rart_nodes.specs.tries.TrieCode.{as_children}
-use Rattle.rart_nodes.specs.storages.Capacities.{narrowed_capacity}
+use Rattle.rart_nodes.specs.storages.Capacities.{shrunk_capacity}
 use Rattle.rart_nodes.proofs.storages.ChildLemmas.{edges_of-length, replaced-length, found, at_first, after_first}
 use Rattle.rart_nodes.proofs.storages.DeletionLemmas.{length-without_byte}
 use Rattle.rart_nodes.proofs.edits.JoinLemmas.{without-some}
 use Rattle.rart_nodes.proofs.tries.RestLemmas.{Follows}
 
 -- one child fewer keeps the capacity that the number of children fixes
-narrowed-capacity : (n : ℕ) → narrowed_capacity n (capacity_of (n + 1)) ≡ capacity_of n
+narrowed-capacity : (n : ℕ) → shrunk_capacity n (capacity_of (n + 1)) ≡ capacity_of n
 narrowed-capacity n = grind (arith, nat_tests)
 
 module _ {V : Type 0} where
@@ -43,7 +43,7 @@ module _ {V : Type 0} where
   -- the key ends at an inner node
   collapsed-joined : (p : List ℕ) (v : Option V) (w : ℕ) (es : List (ℕ × Trie V))
       → IsCanonical (node p v w (as_children es)) → 0 < length es
-      → Some (joined_if_lone (node p None w (as_children es))) ≡ collapsed_node p None (as_children es)
+      → Some (merged_if_needed (node p None w (as_children es))) ≡ collapsed_node p None (as_children es)
   collapsed-joined p v w [] c l = absurd (omega arith)
   collapsed-joined p v w ((b, node q u m ds) ∷ []) c l = refl
   collapsed-joined p v w (e ∷ f ∷ es) c l = ap (λ z. Some (node p None z (as_children (e ∷ f ∷ es)))) c.1
@@ -57,7 +57,7 @@ module _ {V : Type 0} where
   pub value-removed : (p k r : List ℕ) (v : Option V) (w : ℕ) (es : List (ℕ × Trie V))
       → IsCanonical (node p v w (as_children es)) → Some r ≡ strip_prefix p k → None ≡ slice_get r 0
       → is_leaf_at k (node p v w (as_children es)) ≡ false
-      → Some (joined_if_lone (node p None w (as_children es))) ≡ trie_remove k (node p v w (as_children es))
+      → Some (merged_if_needed (node p None w (as_children es))) ≡ trie_remove k (node p v w (as_children es))
   value-removed p k r v w es c e h s = collapsed-joined p v w es c (inner-children p k r v w es e h s)
       ∙ sym (ap (λ o. removed_after o p v (as_children es) (λ b r. remove_child b r (as_children es))) (sym e)
       ∙ removed-ended r p v (as_children es) (λ b r. remove_child b r (as_children es)) h)
@@ -101,19 +101,19 @@ module _ {V : Type 0} where
   -- removal of a leaf
   capacity-less : (p : List ℕ) (v : Option V) (w : ℕ) (es fs : List (ℕ × Trie V))
       → IsCanonical (node p v w (as_children es)) → length fs + 1 ≡ length es
-      → narrowed_capacity (length (edges_of (as_children fs))) w ≡ capacity_of (length (edges_of (as_children fs)))
-  capacity-less p v w es fs c l = ap (narrowed_capacity (length (edges_of (as_children fs)))) (c.1
+      → shrunk_capacity (length (edges_of (as_children fs))) w ≡ capacity_of (length (edges_of (as_children fs)))
+  capacity-less p v w es fs c l = ap (shrunk_capacity (length (edges_of (as_children fs)))) (c.1
       ∙ ap capacity_of (edges_of-length es ∙ sym l ∙ ap (λ n. n + 1) (sym (edges_of-length fs))))
       ∙ narrowed-capacity (length (edges_of (as_children fs)))
 
   no_join : (z : Bool) (p : List ℕ) (v : V) (fs : List (ℕ × Trie V)) (m : ℕ)
-      → (if z && is_lone (Some v) (as_children fs) then joined_child p (as_children fs)
+      → (if z && needs_merge (Some v) (as_children fs) then merged_child p (as_children fs)
       else node p (Some v) m (as_children fs)) ≡ node p (Some v) m (as_children fs)
   no_join true p v fs m = refl
   no_join false p v fs m = refl
 
   many_stay : (z : Bool) (p : List ℕ) (g h : ℕ × Trie V) (fs : List (ℕ × Trie V)) (m : ℕ)
-      → (if z && is_lone None (as_children (g ∷ h ∷ fs)) then joined_child p (as_children (g ∷ h ∷ fs))
+      → (if z && needs_merge None (as_children (g ∷ h ∷ fs)) then merged_child p (as_children (g ∷ h ∷ fs))
       else node p None m (as_children (g ∷ h ∷ fs))) ≡ node p None m (as_children (g ∷ h ∷ fs))
   many_stay true p g h fs m = refl
   many_stay false p g h fs m = refl
@@ -122,7 +122,7 @@ module _ {V : Type 0} where
       → IsCanonical (node p v w (as_children es)) → length fs + 1 ≡ length es
       → Some (remaining_node p v w (as_children fs)) ≡ collapsed_node p v (as_children fs)
   collapsed-less p (Some v) w es fs c l = ap Some
-      (no_join (w == 4) p v fs (narrowed_capacity (length (edges_of (as_children fs))) w))
+      (no_join (w == 4) p v fs (shrunk_capacity (length (edges_of (as_children fs))) w))
       ∙ ap (λ z. Some (node p (Some v) z (as_children fs))) (capacity-less p (Some v) w es fs c l)
   collapsed-less p None w [] fs c l = absurd (omega (arith, l))
   collapsed-less p None w (e ∷ []) fs c l = absurd (⊎_elim (λ h. cc) (λ h. h) c.0)
@@ -131,7 +131,7 @@ module _ {V : Type 0} where
       let four : w ≡ 4 = c.1 ∙ ap capacity_of (edges_of-length (e ∷ f ∷ es) ∙ sym l) in
       rw four refl
   collapsed-less p None w (e ∷ f ∷ es) (g ∷ h ∷ fs) c l
-      = ap Some (many_stay (w == 4) p g h fs (narrowed_capacity (length (edges_of (as_children (g ∷ h ∷ fs)))) w))
+      = ap Some (many_stay (w == 4) p g h fs (shrunk_capacity (length (edges_of (as_children (g ∷ h ∷ fs)))) w))
       ∙ ap (λ z. Some (node p None z (as_children (g ∷ h ∷ fs)))) (capacity-less p None w (e ∷ f ∷ es) (g ∷ h ∷ fs) c l)
 
   -- a node with other storage of the same content

@@ -3,7 +3,7 @@ use Rattle.std.proofs.Common.{◌≡◌, ◌≢◌, ◌⊎◌, ℕ, ◌+◌, ◌
 use Rattle.std.proofs.Common.{None, is_some, refl, arith, ⊎_elim, if◌then◌else◌}
 use Rattle.std.proofs.lemmas.Bool.Decides.{nat_tests}
 use Rattle.rart_parts.specs.Entries.{child_at, without_byte}
-use Rattle.rart_nodes.specs.storages.Capacities.{narrowed_capacity, previous_capacity}
+use Rattle.rart_nodes.specs.storages.Capacities.{shrunk_capacity, previous_capacity}
 
 module _ {N : Type 0} where
   pub length-without_byte : (b : ℕ) (es : List (ℕ × N)) → child_at b es ≢ None
@@ -28,9 +28,9 @@ module _ {N : Type 0} where
 
   -- the capacity where the kind is kept
   pub capacity-kept : (b w : ℕ) (es : List (ℕ × N)) → (child_at b es ≡ None) ⊎ (previous_capacity w + 1 < length es)
-      → w ≡ (if is_some (child_at b es) then narrowed_capacity (length (without_byte b es)) w else w)
+      → w ≡ (if is_some (child_at b es) then shrunk_capacity (length (without_byte b es)) w else w)
   capacity-kept b w es k = elim (child_at b es) as (λ o. child_at b es ≡ o
-      → w ≡ (if is_some o then narrowed_capacity (length (without_byte b es)) w else w)) [
+      → w ≡ (if is_some o then shrunk_capacity (length (without_byte b es)) w else w)) [
         | None ↦ λ e. refl
         | Some n ↦ λ e. ⊎_elim (λ z. absurd (cc (z, e))) (λ z. let l = length-without_byte b es (λ q. cc (q, e)) in
             grind (arith, nat_tests)) k
@@ -38,9 +38,9 @@ module _ {N : Type 0} where
 
   -- the capacity where it is given up
   pub capacity-given : (b w : ℕ) (es : List (ℕ × N)) → child_at b es ≢ None → length es ≤ previous_capacity w + 1
-      → previous_capacity w ≡ (if is_some (child_at b es) then narrowed_capacity (length (without_byte b es)) w else w)
+      → previous_capacity w ≡ (if is_some (child_at b es) then shrunk_capacity (length (without_byte b es)) w else w)
   capacity-given b w es h l = elim (child_at b es) as (λ o. o ≢ None
-      → previous_capacity w ≡ (if is_some o then narrowed_capacity (length (without_byte b es)) w else w)) [
+      → previous_capacity w ≡ (if is_some o then shrunk_capacity (length (without_byte b es)) w else w)) [
         | None ↦ λ n. absurd (n refl)
         | Some n ↦ λ _. let f = few-left b (previous_capacity w) es h l in grind (arith, nat_tests)
       ] h

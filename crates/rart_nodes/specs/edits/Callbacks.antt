@@ -7,15 +7,16 @@ use Rattle.rart_nodes.specs.declared.slot.SlotUpdate.{SlotUpdate}
 use Rattle.rart_nodes.specs.edits.Slots.{slot_of}
 
 -- called with o, f keeps an occupied slot occupied and a vacant one vacant
-abbrev pub Stays : {F V : Type 0} → Once F (MutBor (Slot V) × Unit {0}) (SlotUpdate V × (MutBor (Slot V) × Unit {0}))
+abbrev pub KeepsSlot : {F V : Type 0} → Once F (MutBor (Slot V) × Unit {0}) (SlotUpdate V × (MutBor (Slot V)
+    × Unit {0}))
     → F → Option V → Type 0
-Stays {F} {V} g f o = (r : SlotUpdate V) (w : Option V) → FnOnceReturnsAtMut g f (slot_of o) r (slot_of w)
+KeepsSlot {F} {V} g f o = (r : SlotUpdate V) (w : Option V) → FnOnceReturnsAtMut g f (slot_of o) r (slot_of w)
     → is_some w ≡ is_some o
 
 -- the same of one that returns the requested update and a second result
-abbrev pub StaysReturning : {F X V : Type 0}
+abbrev pub KeepsSlotReturning : {F X V : Type 0}
     → Once F (MutBor (Slot V) × Unit {0}) ((SlotUpdate V × X) × (MutBor (Slot V) × Unit {0})) → F → Option V → Type 0
-StaysReturning {F} {X} {V} g f o = (r : SlotUpdate V) (x : X) (w : Option V)
+KeepsSlotReturning {F} {X} {V} g f o = (r : SlotUpdate V) (x : X) (w : Option V)
     → FnOnceReturnsAtMut g f (slot_of o) (r, x) (slot_of w) → is_some w ≡ is_some o
 
 -- f was called once with o: it returned some a and left some w, of which E holds

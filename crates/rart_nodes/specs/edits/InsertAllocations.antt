@@ -32,8 +32,8 @@ insert_allocates [] q = false
 insert_allocates (k ∷ s) q = not (is_some (record_at (k ∷ s) q) || last_takes (record_at (k ∷ s)) q)
 
 -- an insertion at k in the map m may allocate, as its keys say: the key is new, and no branch point
-abbrev pub MayAskFor : {V : Type 0} → List ℕ → List (List ℕ × V) → Type 0
-MayAskFor k m = (0 < length m) × (lookup k m ≡ None) × (record_at (keys_of m) k ≡ None)
+abbrev pub MayAllocateFor : {V : Type 0} → List ℕ → List (List ℕ × V) → Type 0
+MayAllocateFor k m = (0 < length m) × (lookup k m ≡ None) × (record_at (keys_of m) k ≡ None)
     × (insert_allocates (keys_of m) k ≡ true)
 
 -- the node has as many children as its capacity

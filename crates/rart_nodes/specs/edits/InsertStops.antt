@@ -1,7 +1,7 @@
 -- Why an insertion stopped, with all as it was.
 use Rattle.std.specs.Prelude.{◌≡◌, ◌≢◌, ℕ, Bool, true, List, None}
 use Rattle.rart_keys.specs.SortedMap.{lookup}
-use Rattle.rart_nodes.specs.edits.InsertAllocations.{MayAskFor, trie_put_allocates}
+use Rattle.rart_nodes.specs.edits.InsertAllocations.{MayAllocateFor, trie_put_allocates}
 use Rattle.rart_nodes.specs.tries.Trie.{Trie, trie_lookup, with_records}
 use Rattle.rart_nodes.specs.declared.node.edits.insert.InsertStop.{InsertStop}
 use Rattle.rart_nodes.specs.declared.node.edits.insert.InsertStop.TheVariants as stop
@@ -25,4 +25,5 @@ module _ {V : Type 0} where
   -- by the map alone
   abbrev pub FailsInsertInto : List ℕ → V → List (List ℕ × V) → NotInserted V → Type 0
   FailsInsertInto key value map (not_inserted.Stored back) = (back ≡ value) × (lookup key map ≢ None)
-  FailsInsertInto key value map (not_inserted.Refused r) = (r.value ≡ value) × (r.error ≡ Memory) × MayAskFor key map
+  FailsInsertInto key value map (not_inserted.Refused r) = (r.value ≡ value) × (r.error ≡ Memory)
+      × MayAllocateFor key map

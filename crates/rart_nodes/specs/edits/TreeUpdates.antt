@@ -7,7 +7,7 @@ use Rattle.rart_nodes.specs.declared.slot.SlotUpdate.{SlotUpdate}
 use Rattle.rart_nodes.specs.declared.slot.SlotUpdate.TheVariants.{Keep, Remove, Insert}
 use Rattle.rart_nodes.specs.declared.slot.UpdateError.{UpdateError}
 use Rattle.rart_nodes.specs.declared.slot.UpdateError.TheVariants.{Insert as Not_inserted, Remove as Not_removed}
-use Rattle.rart_nodes.specs.edits.Deletion.{joined_if_lone, without_child}
+use Rattle.rart_nodes.specs.edits.Deletion.{merged_if_needed, without_child}
 use Rattle.rart_nodes.specs.edits.InsertAllocations.{trie_put_allocates}
 use Rattle.rart_nodes.specs.edits.RemoveAllocations.{trie_remove_allocates}
 use Rattle.rart_nodes.specs.storages.Capacities.{previous_capacity}
@@ -62,8 +62,9 @@ abbrev pub EndsHere : {V : Type 0} → Bool → SlotUpdate V → Option V → Tr
     → Trie V → Type 0
 EndsHere full Keep w t (Ok o) u = (u ≡ node_holding w t) × (o ≡ outcome_of Keep w)
 EndsHere full Remove None t (Ok o) u = (u ≡ node_holding None t) × (o ≡ Absent)
-EndsHere full Remove (Some w) t (Ok o) u = (u ≡ joined_if_lone (node_holding None t)) × (o ≡ Removed w)
-EndsHere full (Insert x) w t (Ok o) u = (u ≡ node_holding (Some x) t) × (o ≡ outcome_of (Insert x) w) × HasCapacity full o
+EndsHere full Remove (Some w) t (Ok o) u = (u ≡ merged_if_needed (node_holding None t)) × (o ≡ Removed w)
+EndsHere full (Insert x) w t (Ok o) u = (u ≡ node_holding (Some x) t) × (o ≡ outcome_of (Insert x) w)
+    × HasCapacity full o
 EndsHere full r w t (Err (Not_inserted e)) u = (u ≡ node_holding None t) × (r ≡ Insert e.value) × (w ≡ None)
     × (e.error ≡ Full) × (full ≡ true)
 EndsHere full r w t (Err Not_removed) u = ⊥

@@ -17,7 +17,8 @@ use Rattle.rart_nodes.specs.walks.ViewSegments.{all_have_bytes}
 pub record AreVisitors {F X : Type 0} (reserved : Kept → ℕ → Type 0) (given : Kept → F → List (List ℕ × X) → F
     → Type 0) : Type 0 where
   pub holds : (s : Kept) (n : ℕ) → reserved s n → PathReserved s n
-  pub keeps_reserved : (s t : Kept) (p : List ℕ) (m n : ℕ) → PathGrown s p t → reserved s m → length p + n ≤ m → reserved t n
+  pub keeps_reserved : (s t : Kept) (p : List ℕ) (m n : ℕ) → PathGrown s p t → reserved s m → length p + n ≤ m
+      → reserved t n
   pub gives_none : (s : Kept) (f : F) → given s f [] f
   pub gives_more : (s : Kept) (f g h : F) (xs ys : List (List ℕ × X)) → given s f xs g → given s g ys h
       → given s f (xs ++ ys) h

@@ -64,7 +64,8 @@ segments_reserved k l p m n a b c =
       ap length a.bytes,
     )
 
-pub path-reserved : (s t : Kept) (p : List ℕ) (m n : ℕ) → PathGrown s p t → PathReserved s m → length p + n ≤ m → PathReserved t n
+pub path-reserved : (s t : Kept) (p : List ℕ) (m n : ℕ) → PathGrown s p t → PathReserved s m → length p + n ≤ m
+    → PathReserved t n
 path-reserved Nothing Nothing p m n a b c = tt
 path-reserved Nothing (Bytes l) p m n a b c = absurd a
 path-reserved Nothing (Segments l) p m n a b c = absurd a
@@ -151,7 +152,8 @@ views-hold Nothing n h = absurd h
 views-hold (Bytes k) n h = absurd h
 views-hold (Segments k) n h = h.place
 
-views-reserved : (s t : Kept) (p : List ℕ) (m n : ℕ) → PathGrown s p t → ViewsReserved s m → length p + n ≤ m → ViewsReserved t n
+views-reserved : (s t : Kept) (p : List ℕ) (m n : ℕ) → PathGrown s p t → ViewsReserved s m → length p + n ≤ m
+    → ViewsReserved t n
 views-reserved Nothing t p m n a b c = absurd b
 views-reserved (Bytes k) t p m n a b c = absurd b
 views-reserved (Segments k) Nothing p m n a b c = absurd a

@@ -14,5 +14,5 @@ abbrev pub previous_capacity : ℕ → ℕ
 previous_capacity w = if nat_lt 48 w then 48 else if nat_lt 16 w then 16 else if nat_lt 4 w then 4 else 0
 
 -- the capacity of a storage of capacity w that a child was taken from, and that has n left
-abbrev pub narrowed_capacity : ℕ → ℕ → ℕ
-narrowed_capacity n w = if nat_le n (previous_capacity w) then previous_capacity w else w
+abbrev pub shrunk_capacity : ℕ → ℕ → ℕ
+shrunk_capacity n w = if nat_le n (previous_capacity w) then previous_capacity w else w

@@ -4,7 +4,7 @@ use Rattle.std.specs.Prelude.{OnSome}
 use Rattle.rart_parts.specs.Entries.{ascending, child_at, replaced}
 use Rattle.rart_nodes.specs.declared.node.storage.Storage.{Storage}
 use Rattle.rart_nodes.specs.declared.node.storage.Storage.TheVariants.{Leaf, Node4, Node16, Node48, Node256}
-use Rattle.rart_nodes.specs.storages.Capacities.{narrowed_capacity, previous_capacity}
+use Rattle.rart_nodes.specs.storages.Capacities.{shrunk_capacity, previous_capacity}
 
 -- the children, each with its edge byte, in the order of the bytes
 abbrev pub child_entries : {N : Type 0} → Storage N → List (ℕ × N)
@@ -23,13 +23,13 @@ storage_capacity (Node48 m) = 48
 storage_capacity (Node256 m) = 256
 
 -- there is a child at b, and without it a smaller storage that has a capacity takes the rest
-abbrev pub NarrowsStored : {N : Type 0} → ℕ → Storage N → Type 0
-NarrowsStored b s = (child_at b (child_entries s) ≢ None) × (4 < storage_capacity s)
+abbrev pub ShrinksStored : {N : Type 0} → ℕ → Storage N → Type 0
+ShrinksStored b s = (child_at b (child_entries s) ≢ None) × (4 < storage_capacity s)
     × (length (child_entries s) ≤ previous_capacity (storage_capacity s) + 1)
 
 -- the capacity of a storage that the child at b was removed from, if there was one, and that has n left
 abbrev pub capacity_without : {N : Type 0} → ℕ → Storage N → ℕ → ℕ
-capacity_without b s n = if is_some (child_at b (child_entries s)) then narrowed_capacity n
+capacity_without b s n = if is_some (child_at b (child_entries s)) then shrunk_capacity n
     (storage_capacity s) else storage_capacity s
 
 -- a storage of the same capacity that holds these children, or the same

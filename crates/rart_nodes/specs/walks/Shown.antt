@@ -21,8 +21,8 @@ module _ {F V : Type 0} (g : Mut F (Bor V × Unit {0}) (Unit {0})) where
   ShowsEach f xs f' = FoldsTo (λ p x q. Shown g p x q) f xs f'
 
   -- the same of an f taken by value
-  abbrev pub ShowedEach : F → List V → Type 0
-  ShowedEach f xs = CallsEach (λ p x q. Shown g p x q) f xs
+  abbrev pub ShowsEachByValue : F → List V → Type 0
+  ShowsEachByValue f xs = CallsEach (λ p x q. Shown g p x q) f xs
 
 -- f was called with the state of p and the value x, and q is what it then is and what it answered
 pub record Folded {F S V : Type 0} (g : Mut F (S × (Bor V × Unit {0})) S) (p : F × S) (x : V) (q : F × S) : Type 0 where
@@ -44,5 +44,5 @@ module _ {F S V : Type 0} (g : Mut F (S × (Bor V × Unit {0})) S) where
   FoldsEach f s xs f' r = FoldsTo {P = F × S} (λ p x q. Folded g p x q) (f, s) xs (f', r)
 
   -- the same of an f taken by value
-  abbrev pub FoldedEach : F → S → List V → S → Type 0
-  FoldedEach f s xs r = (f' : F) × FoldsEach f s xs f' r
+  abbrev pub FoldsEachByValue : F → S → List V → S → Type 0
+  FoldsEachByValue f s xs r = (f' : F) × FoldsEach f s xs f' r

@@ -24,7 +24,8 @@ abbrev pub EndsAs : {F V E : Type 0} → Mut F (Bor V × Unit {0}) (Result Visit
 EndsAs {F} {V} {E} g f [] r f' = (r ≡ Ok tt) × (f ≡ f')
 EndsAs {F} {V} {E} g f (v ∷ vs) r f' = (shown : Bor V)
     × ((answer : Result VisitControl E) × ((next : F)
-    × ((shown.now ≡ v) × (Called g f (shown, tt) answer next × ContinuesAs answer next (λ h. EndsAs g h vs r f') r f'))))
+    × ((shown.now ≡ v) × (Called g f (shown, tt) answer next
+    × ContinuesAs answer next (λ h. EndsAs g h vs r f') r f'))))
 
 -- the same of a walk whose allocation can also be refused, and that then calls nothing
 abbrev pub EndsVisit : {F V E : Type 0} → Mut F (Bor V × Unit {0}) (Result VisitControl E) → F → List V
@@ -34,9 +35,9 @@ EndsVisit g f vs (Err (Callback e)) f' = EndsAs g f vs (Err e) f'
 EndsVisit g f vs (Err Memory) f' = f ≡ f'
 
 -- the same of an f taken by value
-abbrev pub EndedVisit : {F V E : Type 0} → Mut F (Bor V × Unit {0}) (Result VisitControl E) → F → List V
+abbrev pub EndsVisitByValue : {F V E : Type 0} → Mut F (Bor V × Unit {0}) (Result VisitControl E) → F → List V
     → Result (Unit {0}) (VisitError E) → Type 0
-EndedVisit {F} g f vs r = (last : F) × EndsVisit g f vs r last
+EndsVisitByValue {F} g f vs r = (last : F) × EndsVisit g f vs r last
 
 -- P holds, unless the allocation was refused
 abbrev pub IfAllocated : {E : Type 0} → Result (Unit {0}) (VisitError E) → Type 0 → Type 0

@@ -214,7 +214,8 @@ impl<'a, K: KeyTrait, V, C: Count> Seen<'a, K, V, C> {
     ///
     /// # Errors
     ///
-    /// [`TreeError::Memory`] as there. Nothing is then visited.
+    /// [`TreeError::Memory`] if neither tree is empty and the allocation for the longest key of this tree fails.
+    /// Nothing is then visited.
     ///
     /// # Visits
     ///
@@ -286,7 +287,8 @@ impl<'a, K: KeyTrait, V, C: Count> Seen<'a, K, V, C> {
     ///
     /// # Errors
     ///
-    /// [`TreeError::Memory`] as there. Nothing is then visited.
+    /// [`TreeError::Memory`] if neither tree is empty and the allocation for the segments fails. Nothing is then
+    /// visited.
     ///
     /// # Visits
     ///

@@ -4,7 +4,7 @@ ghost use Rattle.std.specs.Prelude.{OnOk, OnSome};
 ghost use Rattle.std.specs.Borrow.{sem, LendsSo};
 ghost use Rattle.std.specs.Option.{option_copied, option_copied_mut};
 ghost use Rattle.rart_nodes.specs.edits.ChildChanges.{child_value, with_child_replaced, with_child_value};
-ghost use Rattle.rart_nodes.specs.edits.Deletion.{JoinsWithin, NarrowsWithout, without_child};
+ghost use Rattle.rart_nodes.specs.edits.Deletion.{JoinsWithin, ShrinksWithout, without_child};
 ghost use Rattle.rart_nodes.specs.edits.NodeEdits.{with_child, with_value};
 ghost use Rattle.rart_nodes.specs.storages.Stored.{child_entries, storage_capacity};
 ghost use Rattle.rart_nodes.specs.tries.Trie.{Trie, node, no_children, leaf, capacity_in, children_in, edges_of};
@@ -76,7 +76,7 @@ pub trait Node<P: Partial, V>: Sized {
             (trie self.new ≡ with_child_replaced key (trie node) (trie self.old)) }
         ensures absent { OnErr result
             ((child_in key (trie self.old) ≡ None) × (trie self.new ≡ trie self.old)) }
-        ensures back { IfErr result (λ n. trie n ≡ trie node) };
+        ensures returned { IfErr result (λ n. trie n ≡ trie node) };
 
     /// Inserts a child at a byte that has none.
     ///
@@ -88,7 +88,7 @@ pub trait Node<P: Partial, V>: Sized {
         requires absent { child_in key (trie self.old) ≡ None }
         ensures ok { OnOk result (trie self.new ≡ with_child key (trie node) (trie self.old)) }
         ensures unchanged { OnErr result (trie self.new ≡ trie self.old) }
-        ensures back { IfErr result
+        ensures returned { IfErr result
             (λ r. (r.error ≡ TreeError.Memory) × (trie r.value ≡ trie node)) }
         ensures allocates { OnErr result
             (length (edges_of (children_in (trie self.old))) ≡ capacity_in (trie self.old)) };
@@ -108,7 +108,7 @@ pub trait Node<P: Partial, V>: Sized {
             (λ child. option_map trie child ≡ child_in key (trie self.old)) }
         ensures rest { OnOk result (trie self.new ≡ without_child key (trie self.old)) }
         ensures unchanged { OnErr result (trie self.new ≡ trie self.old) }
-        ensures allocates { OnErr result (NarrowsWithout key (trie self.old)) }
+        ensures allocates { OnErr result (ShrinksWithout key (trie self.old)) }
         ensures memory { IfErr result (λ e. e ≡ TreeError.Memory) };
 
     /// Returns the greatest number of children of this kind of node.

@@ -211,7 +211,7 @@ impl<'a, K: KeyTrait + Drop, V, C: Count> Seen<'a, K, V, C> {
         ensures ahead { IfOk result (λ r. r.1 ≡ pairs_from (is_inclusive (bound_in K.bytes start))
             (bound_bytes (bound_in K.bytes start)) (seen_pairs self.entry)) }
         ensures memory { IfErr result (MayLackMemory (seen_pairs self.entry)) }
-        ensures unread { OnErr result (counter.new ≡ counter.old) }
+        ensures unvisited { OnErr result (counter.new ≡ counter.old) }
         ensures visits { IfOk result (λ _. C.number counter.new ≡ C.number counter.old
             + probe_count (seen_keys self.entry) (bound_bytes (bound_in K.bytes start))) }
         ensures bound { C.number counter.new
@@ -247,7 +247,7 @@ impl<'a, K: KeyTrait + Drop, V, C: Count> Seen<'a, K, V, C> {
         ensures ahead { IfOk result (λ r. r.1 ≡ pairs_from (is_inclusive (bound_in K.bytes start))
             (bound_bytes (bound_in K.bytes start)) (seen_pairs self.entry)) }
         ensures memory { IfErr result (MayLackMemory (seen_pairs self.entry)) }
-        ensures unread { OnErr result (counter.new ≡ counter.old) }
+        ensures unvisited { OnErr result (counter.new ≡ counter.old) }
         ensures visits { IfOk result (λ _. C.number counter.new ≡ C.number counter.old
             + probe_count (seen_keys self.entry) (bound_bytes (bound_in K.bytes start))) }
         ensures bound { C.number counter.new

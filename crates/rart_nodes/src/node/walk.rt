@@ -179,7 +179,7 @@ impl<'a, P: Partial, V, C: Count> Walk<'a, P, V, C> {
         ensures visits { C.number counter.new + walk_nodes self.new
             ≡ C.number counter.old + walk_nodes self.old }
         ensures longest { self.new.longest ≡ self.old.longest }
-        ensures few { KeepsEach T.grown
+        ensures bound { KeepsEach T.grown
             → MatchOption result (C.number counter.new ≡ C.number counter.old)
             (λ _. C.number counter.new ≤ C.number counter.old + length (T.kept path.new)) }
         ensures paid { MatchOption result

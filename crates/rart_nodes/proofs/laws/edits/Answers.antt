@@ -1,7 +1,7 @@
 use Rattle.rart_nodes.proofs.edits.EditRunLemmas.{remove-absent}
-use Rattle.rart_nodes.proofs.edits.InsertAskLemmas.{allocates-insert}
+use Rattle.rart_nodes.proofs.edits.InsertAllocationLemmas.{allocates-insert}
 use Rattle.rart_nodes.proofs.edits.PutLemmas.{canonical-put, pairs_of-put}
-use Rattle.rart_nodes.proofs.removals.RemoveAskLemmas.{allocates-remove}
+use Rattle.rart_nodes.proofs.removals.RemoveAllocationLemmas.{allocates-remove}
 use Rattle.rart_nodes.proofs.removals.RemoveLemmas.{canonical-removed, pairs_of-removed}
 use Rattle.rart_nodes.proofs.laws.edits.Goals as goal
 

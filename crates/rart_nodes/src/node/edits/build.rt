@@ -75,7 +75,7 @@ fn shared_length(first: &[u8], last: &[u8], depth: usize) -> usize
     ensures length { result
         ≡ common_prefix_len nat_eq (drop depth first.now) (drop depth last.now) }
     ensures reach { depth + result ≤ length first.now }
-    ensures fits { depth + result < 2 ^ 64 }
+    ensures small { depth + result < 2 ^ 64 }
 {
     common_prefix_length(&first[depth..], &last[depth..])
 }
@@ -180,7 +180,7 @@ impl<P: Partial, V: Drop> DefaultNode<P, V> {
         take_value: &mut F,
     ) -> Result<(Option<V>, Storage<Self>, usize), TreeError>
         requires stretch { IsStretch P.MAXIMUM_SIZE depth keys.now }
-        requires fits { from + length keys.now < 2 ^ 64 }
+        requires small { from + length keys.now < 2 ^ 64 }
         requires callable { CanTake F.pre F.step from (length keys.now) take_value.old }
         ensures canonical { IfOk result
             (λ r. IsCanonical (built (first_bytes depth r.2 keys.now) r.0 r.1)) }

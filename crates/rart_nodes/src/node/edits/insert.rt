@@ -4,7 +4,7 @@ ghost use Rattle.rart_keys.specs.ByteStrings.{strip_prefix};
 ghost use Rattle.rart_keys.specs.KeyBytes.{IsWithin};
 ghost use Rattle.rart_keys.specs.SortedMap.{count_of, lookup, put, longest_key};
 ghost use Rattle.rart_parts.specs.Entries.{child_at, with_entry};
-ghost use Rattle.rart_nodes.specs.edits.InsertAllocations.{MayAskFor, trie_put_allocates};
+ghost use Rattle.rart_nodes.specs.edits.InsertAllocations.{MayAllocateFor, trie_put_allocates};
 ghost use Rattle.rart_nodes.specs.edits.InsertStops.{FailsPut, FailsInsertInto, FailsInsert};
 ghost use Rattle.rart_nodes.specs.storages.Stored.{child_entries, storage_capacity};
 ghost use Rattle.rart_nodes.specs.tries.Trie.{IsCanonical, leaf, pairs_of, prefix_of, with_records};
@@ -40,7 +40,7 @@ impl<P: Partial, V> DefaultNode<P, V> {
         requires fits { IsWithin P.MAXIMUM_SIZE (length key.now) }
         ensures ok { OnOk result (self.new ≡ trie_put key.now value self.old) }
         ensures unchanged { OnErr result (self.new ≡ self.old) }
-        ensures back { IfErr result (λ r. (r.error ≡ TreeError.Memory) × (r.value ≡ value)) }
+        ensures returned { IfErr result (λ r. (r.error ≡ TreeError.Memory) × (r.value ≡ value)) }
     {
         let Ok(inner) = Storage::new_4(alloc) else {
             return Err(Refused {
@@ -92,7 +92,7 @@ impl<P: Partial, V> DefaultNode<P, V> {
         ensures answer { OnOk result (back.new ≡ trie_lookup key.now self.old) }
         ensures fresh { OnOk result (only_new ≡ true → trie_lookup key.now self.old ≡ None) }
         ensures unchanged { OnErr result (self.new ≡ self.old) }
-        ensures back { OnErr result (back.new ≡ Some value) }
+        ensures returned { OnErr result (back.new ≡ Some value) }
         ensures why { IfErr result (FailsPut only_new key.now self.old) }
     {
         let Some(rest) = strip_prefix(&self.prefix, key) else {
@@ -133,7 +133,7 @@ impl<P: Partial, V> DefaultNode<P, V> {
         ensures ok { OnOk result (self.new ≡ trie_put key.now value self.old) }
         ensures answer { IfOk result (λ old. old ≡ trie_lookup key.now self.old) }
         ensures unchanged { OnErr result (self.new ≡ self.old) }
-        ensures back { IfErr result (λ r. (r.error ≡ TreeError.Memory) × (r.value ≡ value)) }
+        ensures returned { IfErr result (λ r. (r.error ≡ TreeError.Memory) × (r.value ≡ value)) }
         ensures allocates { OnErr result ((trie_put_allocates key.now self.old ≡ true)
             × (trie_lookup key.now (with_records self.old) ≡ None)) }
     {
@@ -188,8 +188,8 @@ impl<P: Partial, V> DefaultNode<P, V> {
         ensures longest { OnOk result (longest_key (pairs_of self.new)
             ≤ max (longest_key (pairs_of self.old)) (length key.now)) }
         ensures unchanged { OnErr result (self.new ≡ self.old) }
-        ensures back { IfErr result (λ r. (r.error ≡ TreeError.Memory) × (r.value ≡ value)) }
-        ensures allocates { OnErr result (MayAskFor key.now (pairs_of self.old)) }
+        ensures returned { IfErr result (λ r. (r.error ≡ TreeError.Memory) × (r.value ≡ value)) }
+        ensures allocates { OnErr result (MayAllocateFor key.now (pairs_of self.old)) }
     {
         self.put(alloc, key, value)
     }

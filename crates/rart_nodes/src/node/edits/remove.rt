@@ -3,7 +3,8 @@ ghost use Rattle.std.specs.Prelude.{◌≡◌, ◌≢◌, ◌+◌, ◌≤◌, le
 ghost use Rattle.std.specs.Prelude.{OnErr, OnOk, option_and_then};
 ghost use Rattle.rart_keys.specs.KeyBytes.{IsWithin};
 ghost use Rattle.rart_keys.specs.SortedMap.{count_of, keys_of, lookup, without, longest_key};
-ghost use Rattle.rart_nodes.specs.edits.Deletion.{JoinsWithin, NarrowsWithout, is_leaf_at, is_lone, joined_if_lone};
+ghost use Rattle.rart_nodes.specs.edits.Deletion.{JoinsWithin, ShrinksWithout, is_leaf_at, needs_merge};
+ghost use Rattle.rart_nodes.specs.edits.Deletion.{merged_if_needed};
 ghost use Rattle.rart_nodes.specs.edits.Deletion.{without_child};
 ghost use Rattle.rart_nodes.specs.edits.RemoveAllocations.{remove_allocates, trie_remove_allocates};
 ghost use Rattle.rart_nodes.specs.tries.Tree.{IsCanonicalTree, tree_lookup, tree_pairs, tree_remove};
@@ -24,10 +25,10 @@ impl<P: Partial, V> DefaultNode<P, V> {
     // Not inline: a descent that calls it holds no node on the stack.
     #[inline(never)]
     pub(super) fn merge_with_only_child(&mut self)
-        requires capacity { is_lone (value_of self.old) (children_in self.old) ≡ true
+        requires capacity { needs_merge (value_of self.old) (children_in self.old) ≡ true
             → capacity_in self.old ≡ 4 }
         requires within { JoinsWithin P.MAXIMUM_SIZE (prefix_of self.old) (children_in self.old) }
-        ensures { self.new ≡ joined_if_lone self.old }
+        ensures { self.new ≡ merged_if_needed self.old }
     {
         if self.value.is_some() || self.storage.num_children() != 1 {
             return;
@@ -54,14 +55,14 @@ impl<P: Partial, V> DefaultNode<P, V> {
         ensures taken { IfOk result (λ child. child ≡ child_in b self.old) }
         ensures rest { OnOk result (self.new ≡ without_child b self.old) }
         ensures unchanged { OnErr result (self.new ≡ self.old) }
-        ensures allocates { OnErr result (NarrowsWithout b self.old) }
+        ensures allocates { OnErr result (ShrinksWithout b self.old) }
         ensures memory { IfErr result (λ e. e ≡ TreeError.Memory) }
     {
-        let narrow = self.storage.capacity() == 4;
+        let smallest = self.storage.capacity() == 4;
         let Some(child) = self.storage.delete_child(alloc, b)? else {
             return Ok(None);
         };
-        if narrow {
+        if smallest {
             self.merge_with_only_child();
         }
         Ok(Some(child))
@@ -104,7 +105,7 @@ impl<P: Partial, V> DefaultNode<P, V> {
         removed: &mut Option<V>,
     ) -> Result<(), TreeError>
         requires within { JoinsWithin P.MAXIMUM_SIZE (prefix_of self.old) (children_in self.old) }
-        requires stands { child_in byte self.old ≢ None }
+        requires present { child_in byte self.old ≢ None }
         requires leaf { IfSome (child_in byte self.old) (λ t. edges_of (children_in t) ≡ []) }
         requires empty { removed.old ≡ None }
         ensures taken { OnOk result
@@ -112,7 +113,7 @@ impl<P: Partial, V> DefaultNode<P, V> {
         ensures rest { OnOk result (self.new ≡ without_child byte self.old) }
         ensures unchanged { OnErr result (self.new ≡ self.old) }
         ensures nothing { OnErr result (removed.new ≡ None) }
-        ensures allocates { OnErr result (NarrowsWithout byte self.old) }
+        ensures allocates { OnErr result (ShrinksWithout byte self.old) }
         ensures memory { IfErr result (λ e. e ≡ TreeError.Memory) }
     {
         match self.take_child(alloc, byte)? {
@@ -133,7 +134,7 @@ impl<P: Partial, V> DefaultNode<P, V> {
     ) -> Result<(), TreeError>
         requires canonical { IsCanonical self.old }
         requires fits { IsWithin P.MAXIMUM_SIZE (longest_key (pairs_of self.old)) }
-        requires stays { is_leaf_at key.now self.old ≡ false }
+        requires not_leaf { is_leaf_at key.now self.old ≡ false }
         requires empty { removed.old ≡ None }
         ensures ok { OnOk result (Some self.new ≡ trie_remove key.now self.old) }
         ensures answer { OnOk result (removed.new ≡ trie_lookup key.now self.old) }
@@ -165,7 +166,7 @@ impl<P: Partial, V> DefaultNode<P, V> {
     fn remove_below(&mut self, alloc: Global, key: &[u8]) -> Result<Option<V>, TreeError>
         requires canonical { IsCanonical self.old }
         requires fits { IsWithin P.MAXIMUM_SIZE (longest_key (pairs_of self.old)) }
-        requires stays { is_leaf_at key.now self.old ≡ false }
+        requires not_leaf { is_leaf_at key.now self.old ≡ false }
         ensures ok { OnOk result (Some self.new ≡ trie_remove key.now self.old) }
         ensures answer { IfOk result (λ old. old ≡ trie_lookup key.now self.old) }
         ensures unchanged { OnErr result (self.new ≡ self.old) }

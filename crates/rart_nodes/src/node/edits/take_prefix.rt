@@ -6,7 +6,7 @@ ghost use Rattle.rart_keys.specs.ByteStrings.{begins};
 ghost use Rattle.rart_keys.specs.Filters.{below};
 ghost use Rattle.rart_keys.specs.KeyBytes.{IsWithin};
 ghost use Rattle.rart_keys.specs.SortedMap.{longest_key};
-ghost use Rattle.rart_nodes.specs.edits.Deletion.{JoinsWithin, NarrowsWithout, without_child};
+ghost use Rattle.rart_nodes.specs.edits.Deletion.{JoinsWithin, ShrinksWithout, without_child};
 ghost use Rattle.rart_nodes.specs.edits.PrefixRemovals.{TakeAllocates, prefixed_trie, tree_below, tree_without_prefix};
 ghost use Rattle.rart_nodes.specs.edits.PrefixRemovals.{trie_take_prefix_allocates, trie_below, trie_without_prefix};
 ghost use Rattle.rart_nodes.specs.edits.PrefixRemovals.{without_prefix};
@@ -45,7 +45,7 @@ impl<P: Partial, V> DefaultNode<P, V> {
         taken: &mut Option<Self>,
     ) -> Result<(), TreeError>
         requires within { JoinsWithin P.MAXIMUM_SIZE (prefix_of self.old) (children_in self.old) }
-        requires stands { child_in byte self.old ≢ None }
+        requires present { child_in byte self.old ≢ None }
         requires fits { IfSome (child_in byte self.old) (λ t. IsWithin P.MAXIMUM_SIZE
             (length (P.bytes path.now) + length (prefix_of t))) }
         requires empty { taken.old ≡ None }
@@ -54,7 +54,7 @@ impl<P: Partial, V> DefaultNode<P, V> {
         ensures rest { OnOk result (self.new ≡ without_child byte self.old) }
         ensures unchanged { OnErr result (self.new ≡ self.old) }
         ensures nothing { OnErr result (taken.new ≡ None) }
-        ensures allocates { OnErr result (NarrowsWithout byte self.old) }
+        ensures allocates { OnErr result (ShrinksWithout byte self.old) }
         ensures memory { IfErr result (λ e. e ≡ TreeError.Memory) }
     {
         match self.take_child(alloc, byte)? {
@@ -79,7 +79,7 @@ impl<P: Partial, V> DefaultNode<P, V> {
         requires canonical { IsCanonical self.old }
         requires fits { IsWithin P.MAXIMUM_SIZE
             (length (P.bytes path.old) + longest_key (pairs_of self.old)) }
-        requires stays { begins prefix.now (prefix_of self.old) ≡ false }
+        requires not_below { begins prefix.now (prefix_of self.old) ≡ false }
         requires empty { taken.old ≡ None }
         ensures ok { OnOk result (Some self.new ≡ trie_without_prefix prefix.now self.old) }
         ensures taken { OnOk result (taken.new
@@ -118,7 +118,7 @@ impl<P: Partial, V> DefaultNode<P, V> {
     ) -> Result<Option<Self>, TreeError>
         requires canonical { IsCanonical self.old }
         requires fits { IsWithin P.MAXIMUM_SIZE (longest_key (pairs_of self.old)) }
-        requires stays { begins prefix.now (prefix_of self.old) ≡ false }
+        requires not_below { begins prefix.now (prefix_of self.old) ≡ false }
         ensures ok { OnOk result (Some self.new ≡ trie_without_prefix prefix.now self.old) }
         ensures taken { IfOk result (λ taken. taken ≡ trie_below prefix.now self.old) }
         ensures unchanged { OnErr result (self.new ≡ self.old) }

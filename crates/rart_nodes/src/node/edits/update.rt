@@ -7,11 +7,11 @@ ghost use Rattle.rart_keys.specs.ByteStrings.{strip_prefix};
 ghost use Rattle.rart_keys.specs.KeyBytes.{IsWithin};
 ghost use Rattle.rart_keys.specs.SortedMap.{keys_of, lookup, longest_key};
 ghost use Rattle.rart_nodes.specs.declared.slot.SlotUpdate.{SlotUpdate};
-ghost use Rattle.rart_nodes.specs.edits.Deletion.{JoinsWithin, is_leaf_at, is_lone};
+ghost use Rattle.rart_nodes.specs.edits.Deletion.{JoinsWithin, is_leaf_at, needs_merge};
 ghost use Rattle.rart_nodes.specs.tries.Tree.{IsCanonicalTree, tree_lookup, tree_nodes, tree_pairs};
 ghost use Rattle.rart_nodes.specs.tries.Trie.{IsCanonical, capacity_in, child_in, children_in, edges_of, pairs_of};
 ghost use Rattle.rart_nodes.specs.tries.Trie.{prefix_of, trie_lookup, value_of};
-ghost use Rattle.rart_nodes.specs.edits.Callbacks.{StaysReturning, AnswersReturning};
+ghost use Rattle.rart_nodes.specs.edits.Callbacks.{KeepsSlotReturning, AnswersReturning};
 ghost use Rattle.rart_nodes.specs.edits.Slots.{CountsPairs, longest_after, slot_of};
 ghost use Rattle.rart_nodes.specs.edits.TreeUpdates.{EndsHere, EndsLeaf, EndsTree, RemovesLeaf, RemovesRoot};
 ghost use Rattle.rart_nodes.specs.edits.Updates.{UpdatesMap};
@@ -113,7 +113,7 @@ impl<P: Partial, V> DefaultNode<P, V> {
         answer: SlotUpdate<V>,
     ) -> Result<Outcome<V>, UpdateError<V>>
         requires taken { value_of self.old ≡ None }
-        requires capacity { is_lone None (children_in self.old) ≡ true → capacity_in self.old ≡ 4 }
+        requires capacity { needs_merge None (children_in self.old) ≡ true → capacity_in self.old ≡ 4 }
         requires within { JoinsWithin P.MAXIMUM_SIZE (prefix_of self.old) (children_in self.old) }
         ensures { EndsHere full answer left self.old result self.new }
     {
@@ -154,7 +154,7 @@ impl<P: Partial, V> DefaultNode<P, V> {
         f: F,
     ) -> (Option<Outcome<V>>, X)
         requires callable { FnOnceTakesAtMut F.FnOnce f (slot_of (value_of self.old)) }
-        requires stays { (r : SlotUpdate V) (x : X) (w : Option V)
+        requires occupancy { (r : SlotUpdate V) (x : X) (w : Option V)
             → FnOnceReturnsAtMut F.FnOnce f (slot_of (value_of self.old)) (r, x) (slot_of w)
             → w ≢ None }
         ensures { AnswersReturning F.FnOnce f (value_of self.old) result.1
@@ -186,7 +186,7 @@ impl<P: Partial, V> DefaultNode<P, V> {
     #[inline(never)]
     fn remove_leaf(&mut self, alloc: Global, byte: u8) -> Result<Outcome<V>, UpdateError<V>>
         requires within { JoinsWithin P.MAXIMUM_SIZE (prefix_of self.old) (children_in self.old) }
-        requires stands { child_in byte self.old ≢ None }
+        requires present { child_in byte self.old ≢ None }
         requires leaf { IfSome (child_in byte self.old)
             (λ t. (edges_of (children_in t) ≡ []) × (value_of t ≢ None)) }
         ensures { RemovesLeaf byte (option_and_then value_of (child_in byte self.old))
@@ -214,7 +214,7 @@ impl<P: Partial, V> DefaultNode<P, V> {
         requires fits { IsWithin P.MAXIMUM_SIZE (longest_key (pairs_of self.old)) }
         requires inner { is_leaf_at key.now self.old ≡ false }
         requires callable { FnOnceTakesAtMut F.FnOnce f (slot_of (trie_lookup key.now self.old)) }
-        requires stays { StaysReturning F.FnOnce f (trie_lookup key.now self.old) }
+        requires occupancy { KeepsSlotReturning F.FnOnce f (trie_lookup key.now self.old) }
         ensures { AnswersReturning F.FnOnce f (trie_lookup key.now self.old) result.1
             (λ r w. EndsTree full key.now r w (Some self.old) result.0 (Some self.new)) }
     {
@@ -286,7 +286,7 @@ impl<P: Partial, V> DefaultNode<P, V> {
         requires fits_key { IsWithin P.MAXIMUM_SIZE (length key.now) }
         requires fits { IsWithin P.MAXIMUM_SIZE (longest_key (tree_pairs root.old)) }
         requires callable { FnOnceTakesAtMut F.FnOnce f (slot_of (tree_lookup key.now root.old)) }
-        requires stays { StaysReturning F.FnOnce f (tree_lookup key.now root.old) }
+        requires occupancy { KeepsSlotReturning F.FnOnce f (tree_lookup key.now root.old) }
         ensures { AnswersReturning F.FnOnce f (tree_lookup key.now root.old) result.1
             (λ r w. EndsTree full key.now r w root.old result.0 root.new) }
     {
@@ -344,7 +344,7 @@ impl<P: Partial, V> DefaultNode<P, V> {
         requires fits { IsWithin P.MAXIMUM_SIZE (longest_key (tree_pairs root.old)) }
         requires callable { FnOnceTakesAtMut F.FnOnce f
             (slot_of (lookup key.now (tree_pairs root.old))) }
-        requires stays { StaysReturning F.FnOnce f (lookup key.now (tree_pairs root.old)) }
+        requires occupancy { KeepsSlotReturning F.FnOnce f (lookup key.now (tree_pairs root.old)) }
         ensures update { UpdatesMap F.FnOnce f full key.now (tree_pairs root.old) result
             (tree_pairs root.new) }
         ensures canonical { IsCanonicalTree root.new }

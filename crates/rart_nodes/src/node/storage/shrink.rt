@@ -3,7 +3,7 @@ ghost use Rattle.std.specs.Prelude.{◌≡◌, ◌≢◌, ◌⊎◌, ◌<◌, �
 ghost use Rattle.std.specs.Prelude.{OnErr, OnOk};
 ghost use Rattle.rart_parts.specs.Entries.{child_at, without_byte};
 ghost use Rattle.rart_nodes.specs.storages.Capacities.{previous_capacity};
-ghost use Rattle.rart_nodes.specs.storages.Stored.{NarrowsStored, child_entries, storage_capacity, capacity_without};
+ghost use Rattle.rart_nodes.specs.storages.Stored.{ShrinksStored, child_entries, storage_capacity, capacity_without};
 
 use crate::node::storage::Storage;
 use crate::node::storage::grow::{boxed_indexed, boxed_sorted};
@@ -49,7 +49,7 @@ impl<N> Storage<N> {
             (storage_capacity self.new
             ≡ capacity_without b self.old (length (child_entries self.new))) }
         ensures unchanged { OnErr result (self.new ≡ self.old) }
-        ensures allocates { OnErr result (NarrowsStored b self.old) }
+        ensures allocates { OnErr result (ShrinksStored b self.old) }
         ensures memory { IfErr result (λ e. e ≡ TreeError.Memory) }
     {
         if self.keeps_kind(b) {

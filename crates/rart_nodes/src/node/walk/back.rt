@@ -47,7 +47,7 @@ fn enter_last_of_deepest<'a, P: Partial, V, C: Count>(
 }
 
 /// Extends the path by a visited node, and adds its level.
-fn deepen_from_back<'a, P: Partial, V, C, T: Path<'a, P>>(
+fn push_level_from_back<'a, P: Partial, V, C, T: Path<'a, P>>(
     levels: &mut Vec<((BackBranches<'a, P, V, C>, usize), Option<&'a V>)>,
     path: &mut T,
     at: Entered<'a, P, V, C>,
@@ -129,7 +129,7 @@ impl<'a, K: KeyTrait, V, C: Count> Seen<'a, K, V, C> {
             ≡ tree_entries T.grown (seen_tree self.entry)) }
         ensures memory { OnErr result (seen_pairs self.entry ≢ []) }
         ensures longest { IfOk result (λ w. w.0.longest ≤ length_bound self.entry) }
-        ensures unread { OnErr result (counter.new ≡ counter.old) }
+        ensures unvisited { OnErr result (counter.new ≡ counter.old) }
         ensures visits { IfOk result (λ _. C.number counter.new
             ≡ C.number counter.old + count_of (seen_tree self.entry)) }
         ensures bound { C.number counter.new ≤ C.number counter.old + 1 }
@@ -166,13 +166,13 @@ impl<'a, P: Partial, V, C: Count> BackWalk<'a, P, V, C> {
             (T.kept path.new) result
             (remaining_entries T.grown (T.kept path.new) (reverse self.new.levels.items)) }
         ensures longest { self.new.longest ≡ self.old.longest }
-        ensures few { KeepsEach T.grown
+        ensures bound { KeepsEach T.grown
             → MatchOption result (C.number counter.new ≡ C.number counter.old)
             (λ _. C.number counter.new ≤ C.number counter.old + length (T.kept path.new)) }
     {
         while !self.levels.is_empty() {
             match enter_last_of_deepest(&mut self.levels, counter) {
-                Some((at, depth)) => deepen_from_back(&mut self.levels, path, at, depth),
+                Some((at, depth)) => push_level_from_back(&mut self.levels, path, at, depth),
                 None => {
                     let (below, value) = self.levels.take_last();
                     path.cut(below.1);

@@ -21,7 +21,7 @@ use std::alloc::AllocError;
 use std::cmp::Ordering;
 
 /// Descends past the prefix of a visited node whose remaining children are `rest`.
-fn deepen<'a, P: Partial, V, C, T: Path<'a, P>>(
+fn push_level<'a, P: Partial, V, C, T: Path<'a, P>>(
     levels: &mut Vec<(Branches<'a, P, V, C>, usize)>,
     path: &mut T,
     at: Entered<'a, P, V, C>,
@@ -76,19 +76,19 @@ impl<'a, P: Partial, V, C: Count> Walk<'a, P, V, C> {
             let Some(after) = strip_prefix(at.prefix(), rest) else {
                 // the node's keys all come before the start, or all after it
                 if let Ordering::Greater = at.prefix().to_slice().cmp(rest) {
-                    deepen(&mut self.levels, path, at, at.branches());
+                    push_level(&mut self.levels, path, at, at.branches());
                     self.first = at.value();
                 }
                 return;
             };
             let Some(byte) = after.first() else {
-                deepen(&mut self.levels, path, at, at.branches());
+                push_level(&mut self.levels, path, at, at.branches());
                 if included {
                     self.first = at.value();
                 }
                 return;
             };
-            deepen(&mut self.levels, path, at, at.branches_above(*byte));
+            push_level(&mut self.levels, path, at, at.branches_above(*byte));
             next = at.child(*byte);
             rest = after;
         }
@@ -114,7 +114,7 @@ impl<'a, K: KeyTrait, V, C: Count> Seen<'a, K, V, C> {
         ensures low { IfOk result
             (λ w. AreLow (height (seen_keys self.entry)) (reverse w.0.levels.items)) }
         ensures memory { OnErr result (seen_pairs self.entry ≢ []) }
-        ensures unread { OnErr result (counter.new ≡ counter.old) }
+        ensures unvisited { OnErr result (counter.new ≡ counter.old) }
         ensures visits { IfOk result (λ _. C.number counter.new
             ≡ C.number counter.old + probe_count (seen_keys self.entry) start.now) }
         ensures bound { C.number counter.new ≤ C.number counter.old + length start.now + 1 }

@@ -76,11 +76,11 @@ impl<'a, K: KeyTrait, V, C: Count> Seen<'a, K, V, C> {
         ensures entries { IfOk result (λ w. walk_entries T.grown (T.kept w.1) w.0
             ≡ part_entries T.grown (tree_part T.grown [] prefix.now (seen_tree self.entry))) }
         ensures memory { OnErr result (seen_pairs self.entry ≢ []) }
-        ensures unread { OnErr result (counter.new ≡ counter.old) }
+        ensures unvisited { OnErr result (counter.new ≡ counter.old) }
         ensures visits { IfOk result (λ _. C.number counter.new
             ≡ C.number counter.old + probe_count (seen_keys self.entry) prefix.now) }
         ensures bound { C.number counter.new ≤ C.number counter.old + length prefix.now + 1 }
-        ensures few { IfOk result
+        ensures nodes { IfOk result
             (λ w. walk_nodes w.0 ≤ 2 * length (below prefix.now (seen_pairs self.entry))) }
         ensures places { IfOk result (λ w. HasPlaces w.0 (length_bound self.entry)) }
     {

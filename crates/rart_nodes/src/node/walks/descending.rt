@@ -123,7 +123,7 @@ impl<'a, K: KeyTrait, V, C: Count> Seen<'a, K, V, C> {
     ) -> Result<KeyBackWalk<'a, K, K::PartialType, V, C>, TreeError>
         ensures pairs { IfOk result (λ it. it ≡ seen_pairs self.entry) }
         ensures memory { IfErr result (MayLackMemory (seen_pairs self.entry)) }
-        ensures unread { OnErr result (counter.new ≡ counter.old) }
+        ensures unvisited { OnErr result (counter.new ≡ counter.old) }
         ensures visits { IfOk result (λ _. C.number counter.new
             ≡ C.number counter.old + count_of (seen_tree self.entry)) }
         ensures bound { C.number counter.new ≤ C.number counter.old + 1 }
@@ -143,7 +143,7 @@ impl<'a, K: KeyTrait, V, C: Count> Seen<'a, K, V, C> {
     ) -> Result<KeyBackWalk<'a, K, K::PartialType, V, C>, TreeError>
         ensures pairs { IfOk result (λ it. it ≡ below prefix.now (seen_pairs self.entry)) }
         ensures memory { IfErr result (MayLackMemory (seen_pairs self.entry)) }
-        ensures unread { OnErr result (counter.new ≡ counter.old) }
+        ensures unvisited { OnErr result (counter.new ≡ counter.old) }
         ensures visits { IfOk result (λ _. C.number counter.new
             ≡ C.number counter.old + probe_count (seen_keys self.entry) prefix.now) }
         ensures bound { C.number counter.new ≤ C.number counter.old + length prefix.now + 1 }
@@ -172,7 +172,7 @@ impl<'a, K: KeyTrait, V, C: Count> Seen<'a, K, V, C> {
     ) -> Result<SeenDescending<'a, K, V, C>, TreeError>
         ensures pairs { IfOk result (λ it. it ≡ reverse (seen_pairs self.entry)) }
         ensures memory { IfErr result (MayLackMemory (seen_pairs self.entry)) }
-        ensures unread { OnErr result (counter.new ≡ counter.old) }
+        ensures unvisited { OnErr result (counter.new ≡ counter.old) }
         ensures visits { IfOk result (λ _. C.number counter.new
             ≡ C.number counter.old + count_of (seen_tree self.entry)) }
         ensures bound { C.number counter.new ≤ C.number counter.old + 1 }
@@ -199,7 +199,7 @@ impl<'a, K: KeyTrait, V, C: Count> Seen<'a, K, V, C> {
         ensures pairs { IfOk result
             (λ it. it ≡ reverse (below (K.bytes prefix.now) (seen_pairs self.entry))) }
         ensures memory { IfErr result (MayLackMemory (seen_pairs self.entry)) }
-        ensures unread { OnErr result (counter.new ≡ counter.old) }
+        ensures unvisited { OnErr result (counter.new ≡ counter.old) }
         ensures visits { IfOk result (λ _. C.number counter.new
             ≡ C.number counter.old + probe_count (seen_keys self.entry) (K.bytes prefix.now)) }
         ensures bound { C.number counter.new

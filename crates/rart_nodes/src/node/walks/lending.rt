@@ -54,7 +54,7 @@ impl<'a, K: KeyTrait, V, C: Count> Seen<'a, K, V, C> {
             (cut_below prefix.now (seen_pairs self.entry)) f.new) }
         ensures unchanged { OnErr result (f.new ≡ f.old) }
         ensures memory { IfErr result (MayLackMemory (seen_pairs self.entry)) }
-        ensures unread { OnErr result (counter.new ≡ counter.old) }
+        ensures unvisited { OnErr result (counter.new ≡ counter.old) }
         ensures visits { OnOk result (C.number counter.new
             ≤ C.number counter.old + below_visits prefix.now (seen_pairs self.entry)) }
         ensures bound { C.number counter.new
@@ -89,7 +89,7 @@ impl<'a, K: KeyTrait, V, C: Count> Seen<'a, K, V, C> {
             (cut_below (K.bytes prefix.now) (seen_pairs self.entry)) f.new) }
         ensures unchanged { OnErr result (f.new ≡ f.old) }
         ensures memory { IfErr result (MayLackMemory (seen_pairs self.entry)) }
-        ensures unread { OnErr result (counter.new ≡ counter.old) }
+        ensures unvisited { OnErr result (counter.new ≡ counter.old) }
         ensures visits { OnOk result (C.number counter.new ≤ C.number counter.old
             + below_visits (K.bytes prefix.now) (seen_pairs self.entry)) }
         ensures bound { C.number counter.new
@@ -102,7 +102,7 @@ impl<'a, K: KeyTrait, V, C: Count> Seen<'a, K, V, C> {
     ///
     /// # Errors
     ///
-    /// [`TreeError::Memory`] as there.
+    /// [`TreeError::Memory`] if the tree isn't empty and the allocation for the walk fails. Nothing is then visited.
     ///
     /// # Visits
     ///
@@ -117,7 +117,7 @@ impl<'a, K: KeyTrait, V, C: Count> Seen<'a, K, V, C> {
         ensures calls { OnOk result (ViewedEach F.FnMut f
             (cut_below (K.bytes prefix.now) (seen_pairs self.entry))) }
         ensures memory { IfErr result (MayLackMemory (seen_pairs self.entry)) }
-        ensures unread { OnErr result (counter.new ≡ counter.old) }
+        ensures unvisited { OnErr result (counter.new ≡ counter.old) }
         ensures visits { OnOk result (C.number counter.new ≤ C.number counter.old
             + below_visits (K.bytes prefix.now) (seen_pairs self.entry)) }
         ensures bound { C.number counter.new
@@ -148,7 +148,7 @@ impl<'a, K: KeyTrait, V, C: Count> Seen<'a, K, V, C> {
             (cut_pairs (seen_keys self.entry) (seen_pairs self.entry)) f.new) }
         ensures unchanged { OnErr result (f.new ≡ f.old) }
         ensures memory { IfErr result (MayLackMemory (seen_pairs self.entry)) }
-        ensures unread { OnErr result (counter.new ≡ counter.old) }
+        ensures unvisited { OnErr result (counter.new ≡ counter.old) }
         ensures visits { OnOk result (C.number counter.new ≤ C.number counter.old
             + (probe_count (seen_keys self.entry) [] + 2 * length (seen_pairs self.entry))) }
         ensures bound { C.number counter.new
@@ -161,7 +161,7 @@ impl<'a, K: KeyTrait, V, C: Count> Seen<'a, K, V, C> {
     ///
     /// # Errors
     ///
-    /// [`TreeError::Memory`] as there.
+    /// [`TreeError::Memory`] if the tree isn't empty and the allocation for the walk fails. Nothing is then visited.
     ///
     /// # Visits
     ///
@@ -175,7 +175,7 @@ impl<'a, K: KeyTrait, V, C: Count> Seen<'a, K, V, C> {
         ensures calls { OnOk result (ViewedEach F.FnMut f
             (cut_pairs (seen_keys self.entry) (seen_pairs self.entry))) }
         ensures memory { IfErr result (MayLackMemory (seen_pairs self.entry)) }
-        ensures unread { OnErr result (counter.new ≡ counter.old) }
+        ensures unvisited { OnErr result (counter.new ≡ counter.old) }
         ensures visits { OnOk result (C.number counter.new ≤ C.number counter.old
             + (probe_count (seen_keys self.entry) [] + 2 * length (seen_pairs self.entry))) }
         ensures bound { C.number counter.new

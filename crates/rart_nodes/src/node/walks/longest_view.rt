@@ -137,7 +137,7 @@ impl<'a, K: KeyTrait, V, C: Count> Seen<'a, K, V, C> {
     ///
     /// # Errors
     ///
-    /// [`TreeError::Memory`] as there.
+    /// [`TreeError::Memory`] if there is such a key and the allocation for its segments fails. `f` is then not called.
     ///
     /// # Visits
     ///

@@ -94,7 +94,7 @@ impl<'a, K: KeyTrait + Drop, V, C: Count> Seen<'a, K, V, C> {
             (seen_pairs self.entry)) f.new) }
         ensures unchanged { OnErr result (f.new ≡ f.old) }
         ensures memory { IfErr result (MayLackMemory (seen_pairs self.entry)) }
-        ensures unread { OnErr result (counter.new ≡ counter.old) }
+        ensures unvisited { OnErr result (counter.new ≡ counter.old) }
         ensures visits { OnOk result (C.number counter.new ≤ C.number counter.old
             + span_visits (bound_in K.bytes start) (bound_in K.bytes end) (seen_pairs self.entry)) }
         ensures bound { C.number counter.new ≤ C.number counter.old
@@ -111,7 +111,7 @@ impl<'a, K: KeyTrait + Drop, V, C: Count> Seen<'a, K, V, C> {
     ///
     /// # Errors
     ///
-    /// [`TreeError::Memory`] as there.
+    /// [`TreeError::Memory`] if the tree isn't empty and the allocation for the walk fails. Nothing is then visited.
     ///
     /// # Visits
     ///
@@ -128,7 +128,7 @@ impl<'a, K: KeyTrait + Drop, V, C: Count> Seen<'a, K, V, C> {
         ensures calls { OnOk result (ViewedEach F.FnMut f
             (cut_between (bound_in K.bytes start) (bound_in K.bytes end) (seen_pairs self.entry))) }
         ensures memory { IfErr result (MayLackMemory (seen_pairs self.entry)) }
-        ensures unread { OnErr result (counter.new ≡ counter.old) }
+        ensures unvisited { OnErr result (counter.new ≡ counter.old) }
         ensures visits { OnOk result (C.number counter.new ≤ C.number counter.old
             + span_visits (bound_in K.bytes start) (bound_in K.bytes end) (seen_pairs self.entry)) }
         ensures bound { C.number counter.new ≤ C.number counter.old

@@ -38,7 +38,7 @@ impl<P: Partial, V> DefaultNode<P, V> {
     /// [`TreeError::Memory`] if the tree holds at least two keys and an allocation fails.
     pub fn tree_stats(root: Option<&Self>, alloc: Global) -> Result<TreeStats, TreeError>
         requires canonical { IsCanonicalTree (option_copied root) }
-        requires fits { 16 * length (tree_pairs (option_copied root)) ≤ usize.MAX }
+        requires few { 16 * length (tree_pairs (option_copied root)) ≤ usize.MAX }
         ensures stats { let tree = option_copied root.entry in IfOk result
             (λ s. stats_in s ≡ stats_of (keys_of (tree_pairs tree)) (tree_nodes tree)) }
         ensures memory { IfErr result (λ e. e ≡ TreeError.Memory) }

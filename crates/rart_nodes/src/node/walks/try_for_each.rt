@@ -4,7 +4,7 @@ ghost use Rattle.rart_nodes.specs.tries.SeenTrees.{seen_pairs};
 ghost use Rattle.rart_nodes.specs.walks.BelowPrefix.{below_bound, below_visits, values_below};
 ghost use Rattle.rart_nodes.specs.walks.PathParts.{walk_values};
 ghost use Rattle.rart_nodes.specs.walks.WalkSteps.{IsWalkAt, walk_nodes};
-ghost use Rattle.rart_nodes.specs.walks.Tried.{CanTry, EndedVisit, EndsAs, EndsVisit};
+ghost use Rattle.rart_nodes.specs.walks.Tried.{CanTry, EndsVisitByValue, EndsAs, EndsVisit};
 ghost use Rattle.rart_nodes.specs.walks.Tried.{IfAllocated, MayStopForMemory, OnRefused};
 
 use crate::count::{Count, Visits};
@@ -61,7 +61,7 @@ impl<'a, K: KeyTrait, V, C: Count> Seen<'a, K, V, C> {
         ensures calls { EndsVisit F.FnMut f.old
             (values_below (K.bytes prefix.now) (seen_pairs self.entry)) result f.new }
         ensures memory { IfErr result (MayStopForMemory (seen_pairs self.entry)) }
-        ensures unread { OnRefused result (counter.new ≡ counter.old) }
+        ensures unvisited { OnRefused result (counter.new ≡ counter.old) }
         ensures visits { IfAllocated result (C.number counter.new ≤ C.number counter.old
             + below_visits (K.bytes prefix.now) (seen_pairs self.entry)) }
         ensures bound { C.number counter.new
@@ -80,7 +80,8 @@ impl<'a, K: KeyTrait, V, C: Count> Seen<'a, K, V, C> {
     ///
     /// # Errors
     ///
-    /// [`VisitError`] as there.
+    /// [`VisitError::Memory`] if the tree isn't empty and the allocation for the walk fails. Nothing is then visited.
+    /// [`VisitError::Callback`] with the error that `f` returned.
     ///
     /// # Visits
     ///
@@ -92,10 +93,10 @@ impl<'a, K: KeyTrait, V, C: Count> Seen<'a, K, V, C> {
         counter: &mut C,
     ) -> Result<(), VisitError<E>>
         requires callable { CanTry F.FnMut f (values_below (K.bytes prefix.now) (seen_pairs self)) }
-        ensures calls { EndedVisit F.FnMut f
+        ensures calls { EndsVisitByValue F.FnMut f
             (values_below (K.bytes prefix.now) (seen_pairs self.entry)) result }
         ensures memory { IfErr result (MayStopForMemory (seen_pairs self.entry)) }
-        ensures unread { OnRefused result (counter.new ≡ counter.old) }
+        ensures unvisited { OnRefused result (counter.new ≡ counter.old) }
         ensures visits { IfAllocated result (C.number counter.new ≤ C.number counter.old
             + below_visits (K.bytes prefix.now) (seen_pairs self.entry)) }
         ensures bound { C.number counter.new
@@ -132,14 +133,15 @@ impl<'a, K: KeyTrait, V> Seen<'a, K, V, Visits> {
     ///
     /// # Errors
     ///
-    /// [`VisitError`] as there.
+    /// [`VisitError::Memory`] if the tree isn't empty and the allocation for the walk fails. `f` is then not called.
+    /// [`VisitError::Callback`] with the error that `f` returned.
     pub fn try_prefix_values_for_each_k<E, F: FnMut(&V) -> Result<VisitControl, E> + Drop>(
         self,
         prefix: &K,
         f: F,
     ) -> Result<(), VisitError<E>>
         requires callable { CanTry F.FnMut f (values_below (K.bytes prefix.now) (seen_pairs self)) }
-        ensures calls { EndedVisit F.FnMut f
+        ensures calls { EndsVisitByValue F.FnMut f
             (values_below (K.bytes prefix.now) (seen_pairs self.entry)) result }
         ensures memory { IfErr result (MayStopForMemory (seen_pairs self.entry)) }
     {

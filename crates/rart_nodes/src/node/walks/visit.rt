@@ -5,7 +5,7 @@
 ghost use Rattle.std.specs.Prelude.{◌≡◌, ◌≤◌, ◌+◌, ◌^◌, [], IfErr, OnErr, OnOk};
 ghost use Rattle.rart_nodes.specs.tries.SeenTrees.{seen_pairs};
 ghost use Rattle.rart_nodes.specs.walks.BelowPrefix.{below_bound, below_visits, values_below};
-ghost use Rattle.rart_nodes.specs.walks.Shown.{CanShow, ShowedEach, ShowsEach};
+ghost use Rattle.rart_nodes.specs.walks.Shown.{CanShow, ShowsEachByValue, ShowsEach};
 ghost use Rattle.rart_nodes.specs.walks.PathParts.{walk_values};
 ghost use Rattle.rart_nodes.specs.walks.WalkSteps.{IsWalkAt, walk_nodes};
 ghost use Rattle.rart_nodes.specs.walks.Calls.{MayLackMemory};
@@ -48,7 +48,7 @@ impl<'a, K: KeyTrait, V, C: Count> Seen<'a, K, V, C> {
             (ShowsEach F.FnMut f.old (values_below prefix.now (seen_pairs self.entry)) f.new) }
         ensures unchanged { OnErr result (f.new ≡ f.old) }
         ensures memory { IfErr result (MayLackMemory (seen_pairs self.entry)) }
-        ensures unread { OnErr result (counter.new ≡ counter.old) }
+        ensures unvisited { OnErr result (counter.new ≡ counter.old) }
         ensures visits { OnOk result (C.number counter.new
             ≤ C.number counter.old + below_visits prefix.now (seen_pairs self.entry)) }
         ensures bound { C.number counter.new
@@ -83,7 +83,7 @@ impl<'a, K: KeyTrait, V, C: Count> Seen<'a, K, V, C> {
             (values_below (K.bytes prefix.now) (seen_pairs self.entry)) f.new) }
         ensures unchanged { OnErr result (f.new ≡ f.old) }
         ensures memory { IfErr result (MayLackMemory (seen_pairs self.entry)) }
-        ensures unread { OnErr result (counter.new ≡ counter.old) }
+        ensures unvisited { OnErr result (counter.new ≡ counter.old) }
         ensures visits { OnOk result (C.number counter.new ≤ C.number counter.old
             + below_visits (K.bytes prefix.now) (seen_pairs self.entry)) }
         ensures bound { C.number counter.new
@@ -96,7 +96,7 @@ impl<'a, K: KeyTrait, V, C: Count> Seen<'a, K, V, C> {
     ///
     /// # Errors
     ///
-    /// [`TreeError::Memory`] as there.
+    /// [`TreeError::Memory`] if the tree isn't empty and the allocation for the walk fails. Nothing is then visited.
     ///
     /// # Visits
     ///
@@ -109,10 +109,10 @@ impl<'a, K: KeyTrait, V, C: Count> Seen<'a, K, V, C> {
     ) -> Result<(), TreeError>
         requires callable { CanShow F.FnMut f
             (values_below (K.bytes prefix.now) (seen_pairs self)) }
-        ensures calls { OnOk result (ShowedEach F.FnMut f
+        ensures calls { OnOk result (ShowsEachByValue F.FnMut f
             (values_below (K.bytes prefix.now) (seen_pairs self.entry))) }
         ensures memory { IfErr result (MayLackMemory (seen_pairs self.entry)) }
-        ensures unread { OnErr result (counter.new ≡ counter.old) }
+        ensures unvisited { OnErr result (counter.new ≡ counter.old) }
         ensures visits { OnOk result (C.number counter.new ≤ C.number counter.old
             + below_visits (K.bytes prefix.now) (seen_pairs self.entry)) }
         ensures bound { C.number counter.new
@@ -149,7 +149,7 @@ impl<'a, K: KeyTrait, V> Seen<'a, K, V, Visits> {
     ///
     /// # Errors
     ///
-    /// [`TreeError::Memory`] as there.
+    /// [`TreeError::Memory`] if the tree isn't empty and the allocation for the walk fails. `f` is then not called.
     pub fn prefix_values_for_each_k<F: FnMut(&V) + Drop>(
         self,
         prefix: &K,
@@ -157,7 +157,7 @@ impl<'a, K: KeyTrait, V> Seen<'a, K, V, Visits> {
     ) -> Result<(), TreeError>
         requires callable { CanShow F.FnMut f
             (values_below (K.bytes prefix.now) (seen_pairs self)) }
-        ensures calls { OnOk result (ShowedEach F.FnMut f
+        ensures calls { OnOk result (ShowsEachByValue F.FnMut f
             (values_below (K.bytes prefix.now) (seen_pairs self.entry))) }
         ensures memory { IfErr result (MayLackMemory (seen_pairs self.entry)) }
     {

@@ -67,7 +67,7 @@ returns-in-Err-Insert-clause-unchanged g c =
 -- a removal is refused
 pub restore-requires : goal.restore-requires
 restore-requires g c = record {
-  stands = some-left g.V.Clone.is_infallible g.F.FnOnce c.args.f (g.K.KeyTrait.bytes c.args.key.now)
+  present = some-left g.V.Clone.is_infallible g.F.FnOnce c.args.f (g.K.KeyTrait.bytes c.args.key.now)
       c.args.self.now.pairs c.update_tried-outcome.new.tree.pairs c.update_tried-outcome.result.0 _ (c.in-Err-Remove.is
       ∙ ap Err c.in-Err-Remove.field-0-is) (rw c.in-Answered.is at c.update_tried-outcome.ensures.update)
       c.sorted_map.ensures.put_at;

@@ -10,8 +10,8 @@ use Rattle.rart.proofs.tree.AdaptiveRadixTree.update_returning.Goals as goal
 use Rattle.rart.proofs.tree.AdaptiveRadixTree.update_returning.Goals.{in-Ok-New, in-Ok-Removed, in-Ok+in-Absent-1}
 use Rattle.rart.proofs.tree.AdaptiveRadixTree.update_returning.Goals.{in-Err-1}
 
-pub update-outcome-requires-clause-stays : goal.update-outcome-requires-clause-stays
-update-outcome-requires-clause-stays g c = λ r x w h.
+pub update-outcome-requires-clause-occupancy : goal.update-outcome-requires-clause-occupancy
+update-outcome-requires-clause-occupancy g c = λ r x w h.
     let at : lookup (g.K.KeyTrait.bytes c.args.key.now) c.args.self.now.pairs
     ≡ lookup c.as_ref-bytes.result.now (tree_pairs c.self.inside.root)
     = rw (← c.self.view_is, c.as_ref-bytes.ensures) refl in
@@ -25,7 +25,7 @@ update-outcome-requires-clause-stays g c = λ r x w h.
       leaves
           = h.leaves;
     } in
-    c.requires.stays r x w shown ∙ ap is_some at
+    c.requires.occupancy r x w shown ∙ ap is_some at
 
 pub returns-clause-update : goal.returns-clause-update
 returns-clause-update g c =
@@ -44,7 +44,7 @@ returns-clause-update g c =
       leaves = e.2.leaves;
     } in
     let stays : is_some e.1 ≡ is_some (lookup c.as_ref-bytes.result.now (tree_pairs c.self.inside.root))
-    = c.requires.stays e.0 c.update-outcome.result.1 e.1 shown ∙ ap is_some at in
+    = c.requires.occupancy e.0 c.update-outcome.result.1 e.1 shown ∙ ap is_some at in
     let pairs : c.match-outcome.self.pairs ≡ tree_pairs c.update-outcome.new.root = elim c.match-outcome.branch [
       | in-Ok-New w ↦ cc (ap (λ (m : MapAndShape g.row.V.Denot). m.pairs) w.self-is)
       | in-Ok-Removed w ↦ cc (ap (λ (m : MapAndShape g.row.V.Denot). m.pairs) w.self-is)

@@ -1,4 +1,5 @@
 use Rattle.rart.proofs.tree.update.update_plainly.Goals as goal
 
-pub update_returning-outcome-requires-clause-stays : goal.update_returning-outcome-requires-clause-stays
-update_returning-outcome-requires-clause-stays g c = λ r x w h. c.requires.stays r w (rw (h.shows, h.leaves) at h.met)
+pub update_returning-outcome-requires-clause-occupancy : goal.update_returning-outcome-requires-clause-occupancy
+update_returning-outcome-requires-clause-occupancy g c = λ r x w h. c.requires.occupancy r w (rw
+    (h.shows, h.leaves) at h.met)

@@ -2,7 +2,7 @@ use Rattle.rart_keys.specs.SortedMap.{lookup}
 use Rattle.rart.proofs.UpdateLemmas.{attempt-stays}
 use Rattle.rart.proofs.tree.update.update_tried.Goals as goal
 
-pub update_returning-requires-clause-stays : goal.update_returning-requires-clause-stays
-update_returning-requires-clause-stays g c
+pub update_returning-requires-clause-occupancy : goal.update_returning-requires-clause-occupancy
+update_returning-requires-clause-occupancy g c
     = λ r x w h. attempt-stays _ g.F.FnOnce c.args.f (lookup (g.K.KeyTrait.bytes c.args.key.now) c.args.tree.now.pairs)
-    r x w c.requires.stays (rw (h.shows, h.leaves) at h.met)
+    r x w c.requires.occupancy (rw (h.shows, h.leaves) at h.met)

@@ -3,7 +3,7 @@ use Rattle.std.specs.Option.{option_and_then}
 use Rattle.std.proofs.lemmas.Result.{on_ok_weaker, on_err_weaker}
 use Rattle.rart_keys.specs.KeyBytes.{IsWithin}
 use Rattle.rart_keys.specs.SortedMap.{longest_key}
-use Rattle.rart_nodes.specs.edits.Deletion.{joined_if_lone, without_child}
+use Rattle.rart_nodes.specs.edits.Deletion.{merged_if_needed, without_child}
 use Rattle.rart_nodes.specs.storages.Stored.{child_entries, storage_capacity}
 use Rattle.rart_nodes.specs.tries.Trie.{node, pairs_of, edges_of, children_in, no_children, prefix_of, value_of}
 use Rattle.rart_nodes.specs.tries.TrieCode.{as_children, node_count}
@@ -34,7 +34,7 @@ merge_with_only_child-requires-clause-within g t c =
 pub returns-in_default-clause-ok : goal.returns-in_default-clause-ok
 returns-in_default-clause-ok g t c =
     pops-as c.args.end _ _ _ _ _ _ _ _ c.self.view_is (c.give_back.ensures ∙ c.take.ensures.value)
-    (c.merge_with_only_child.ensures ∙ ap (λ v. joined_if_lone (node (g.P.Partial.bytes c.self.inside.prefix) v
+    (c.merge_with_only_child.ensures ∙ ap (λ v. merged_if_needed (node (g.P.Partial.bytes c.self.inside.prefix) v
     (storage_capacity c.self.inside.storage) (as_children (child_entries c.self.inside.storage)))) c.take.ensures.after)
     (pop-here c.args.end _ _ (g.P.Partial.bytes c.self.inside.prefix) c.self.inside.value _
     (child_entries c.self.inside.storage) (rw (← c.self.view_is) at c.requires.canonical)
@@ -118,7 +118,7 @@ take_leaf-requires g t c =
           (joins-canonical _ _ _ (storage_capacity c.self.inside.storage) _ (rw
           (← c.self.view_is) at c.requires.canonical)
           (rw (← c.self.view_is) at fits));
-      stands = λ lost. some-there child _ found lost;
+      present = λ lost. some-there child _ found lost;
       leaf = rw found (ap edges_of none);
       empty = c.requires.empty;
     }

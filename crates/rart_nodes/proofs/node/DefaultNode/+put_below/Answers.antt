@@ -6,7 +6,7 @@ use Rattle.rart_nodes.proofs.edits.InsertLemmas.{put-below, put-beside, child-pu
 use Rattle.std.proofs.lemmas.Result.{on_ok_weaker, on_err_weaker}
 use Rattle.rart_nodes.proofs.edits.Outcomes.{if_ok_weaker, if_err_weaker}
 use Rattle.rart_nodes.proofs.edits.InsertStopLemmas.{entries-below}
-use Rattle.rart_nodes.proofs.edits.PutAskLemmas.{put_allocation-full}
+use Rattle.rart_nodes.proofs.edits.PutAllocationLemmas.{put_allocation-full}
 use Rattle.rart_nodes.proofs.tries.RestLemmas.{Follows, trie_lookup-child, trie_lookup-no_child, trie_put-ended}
 use Rattle.rart_nodes.proofs.node.DefaultNode.+put_below.Given.{Over}
 use Rattle.rart_nodes.proofs.node.DefaultNode.+put_below.Goals.{In-Some-seek_child_mut}
@@ -51,7 +51,7 @@ returns-in-Some-seek_child_mut g t c =
           (child-put_back _ _ _ _ _ _ _ _ _ on.there e left.0 left.1)) c.put_below.ensures.unchanged;
       fresh = on_ok_weaker c.put_below.result (λ fresh only. rw (← c.self.view_is) (trie_lookup-child on ∙ fresh only))
           c.put_below.ensures.fresh;
-      back = c.put_below.ensures.back;
+      returned = c.put_below.ensures.returned;
       why = if_err_weaker c.put_below.result (λ stop why. rw (← c.self.view_is)
           (entries-below on c.args.only_new stop why)) c.put_below.ensures.why;
     }

@@ -1,6 +1,6 @@
 use Rattle.std.proofs.Common.{ℕ, arith, ap, ◌∙◌, sym, refl, Some, option_and_then}
 use Rattle.rart_keys.specs.SortedMap.{longest_key}
-use Rattle.rart_nodes.specs.edits.Deletion.{joined_if_lone, without_child}
+use Rattle.rart_nodes.specs.edits.Deletion.{merged_if_needed, without_child}
 use Rattle.rart_nodes.specs.storages.Stored.{child_entries, storage_capacity}
 use Rattle.rart_nodes.specs.tries.Trie.{node, pairs_of, value_of}
 use Rattle.rart_nodes.specs.tries.TrieCode.{as_children, node_count}
@@ -13,7 +13,7 @@ use Rattle.rart_nodes.proofs.edits.LeafLemmas.{leaf-gone, leaf-edges, leaf-value
 use Rattle.std.proofs.lemmas.Result.{on_ok_weaker, on_err_weaker}
 use Rattle.rart_nodes.proofs.edits.Outcomes.{on_err_from}
 use Rattle.rart_nodes.proofs.edits.UpdateSteps.{child-there}
-use Rattle.rart_nodes.proofs.removals.RemoveAskSteps.{remove_allocation-below, remove_allocation-leaf}
+use Rattle.rart_nodes.proofs.removals.RemoveAllocationSteps.{remove_allocation-below, remove_allocation-leaf}
 use Rattle.rart_nodes.proofs.removals.RemoveSteps.{value-removed, removed-below, removed-leaf, same-node}
 use Rattle.rart_nodes.proofs.tries.RestLemmas.{Follows, trie_lookup-left, trie_lookup-child, trie_lookup-no_child}
 use Rattle.rart_nodes.proofs.node.DefaultNode.+take_below.Given.{Over}
@@ -35,11 +35,12 @@ merge_with_only_child-requires-clause-within g t c
 pub returns-in_default-first-clause-ok : goal.returns-in_default-first-clause-ok
 returns-in_default-first-clause-ok g t c
     = ap Some (c.merge_with_only_child.ensures
-    ∙ ap (λ v. joined_if_lone (node (g.P.Partial.bytes c.self.inside.prefix) v (storage_capacity c.self.inside.storage)
+    ∙ ap (λ v. merged_if_needed (node (g.P.Partial.bytes c.self.inside.prefix) v
+    (storage_capacity c.self.inside.storage)
     (as_children (child_entries c.self.inside.storage)))) c.take.ensures.after)
     ∙ rw (← c.self.view_is) (value-removed _ c.args.key.now _ _ _ (child_entries c.self.inside.storage)
     (rw (← c.self.view_is) at c.requires.canonical) c.in-Some.ensures c.in_default-first.ensures.value
-    (rw (← c.self.view_is) at c.requires.stays))
+    (rw (← c.self.view_is) at c.requires.not_leaf))
 
 -- there is no child
 pub returns-in-None-clause-ok : goal.returns-in-None-clause-ok
@@ -111,7 +112,7 @@ take_leaf-requires g t c =
     record {
       within = rw (left.1 ∙ replaced-same _ child (child_entries c.self.inside.storage) on.there) (joins-canonical _ _ _
           (storage_capacity c.self.inside.storage) _ on.canonical (rw (← c.self.view_is) at c.requires.fits));
-      stands = λ none. some-there child _ found none;
+      present = λ none. some-there child _ found none;
       leaf = rw found (leaf-edges _ child (sym c.is_leaf_at.ensures ∙ c.if-not-is_leaf_at.false));
       empty = c.requires.empty;
     }

@@ -21,7 +21,7 @@ use Rattle.rart_nodes.proofs.node.DefaultNode.+take_prefix_below.Goals as goal
 
 pub unreachable-requires : goal.unreachable-requires
 unreachable-requires g t c = goes_on (g.P.Partial.bytes c.self.inside.prefix) c.args.prefix.now c.in-Some.rest.now
-    c.in-Some.ensures (rw (← c.self.view_is) at c.requires.stays) c.in_default-first.ensures.value
+    c.in-Some.ensures (rw (← c.self.view_is) at c.requires.not_below) c.in_default-first.ensures.value
 
 pub extend-requires : goal.extend-requires
 extend-requires g t c = prefix-within _ (length (g.P.Partial.bytes c.args.path.now))
@@ -121,8 +121,8 @@ take_whole-requires-clause-within g t c =
     (longest_key (pairs_of c.args.self.now)) (omega arith) c.requires.fits in
     rw same (joins-canonical _ _ _ (storage_capacity c.self.inside.storage) _ canonical (rw (← c.self.view_is) at fits))
 
-pub take_whole-requires-clause-stands : goal.take_whole-requires-clause-stands
-take_whole-requires-clause-stands g t c =
+pub take_whole-requires-clause-present : goal.take_whole-requires-clause-present
+take_whole-requires-clause-present g t c =
     let left = rw c.in-Some-seek_child_mut.is at c.seek_child_mut.follows.holds c.in-Some-seek_child_mut.child.now in
     let same = left.1 ∙ replaced-same _ c.in-Some-seek_child_mut.child.now (child_entries c.self.inside.storage)
     c.in-Some-seek_child_mut.ensures.value in

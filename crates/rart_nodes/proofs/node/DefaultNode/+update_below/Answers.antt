@@ -34,10 +34,10 @@ show_vacant-answer-requires-clause-callable g t c =
     let none = key-leaves g t (goal.at.show_vacant-answer-requires-clause-callable g t c).In_default in
     λ p h. c.requires.callable p (h ∙ ap slot_of (sym none))
 
-pub show_vacant-answer-requires-clause-stays : goal.show_vacant-answer-requires-clause-stays
-show_vacant-answer-requires-clause-stays g t c =
-    let none = key-leaves g t (goal.at.show_vacant-answer-requires-clause-stays g t c).In_default in
-    λ r x w h. none-there w _ (c.requires.stays r x w (rw none h)) none
+pub show_vacant-answer-requires-clause-occupancy : goal.show_vacant-answer-requires-clause-occupancy
+show_vacant-answer-requires-clause-occupancy g t c =
+    let none = key-leaves g t (goal.at.show_vacant-answer-requires-clause-occupancy g t c).In_default in
+    λ r x w h. none-there w _ (c.requires.occupancy r x w (rw none h)) none
 
 pub returns-in_default : goal.returns-in_default
 returns-in_default g t c = (
@@ -72,7 +72,7 @@ returns-in_default-first g t c =
     let here = key-ends g t (goal.at.returns-in_default-first g t c).In_default-first in
     let shown = rw c.take.ensures.value at c.show-left.ensures in
     let stays : is_some c.show-left.result.left ≡ is_some c.self.inside.value
-    = c.requires.stays c.show-left.result.answer c.show-left.result.extra c.show-left.result.left (rw here shown)
+    = c.requires.occupancy c.show-left.result.answer c.show-left.result.extra c.show-left.result.left (rw here shown)
     ∙ ap is_some here in (
       c.show-left.result.answer,
       c.show-left.result.left,
@@ -113,7 +113,7 @@ update_below-requires g t c κs within =
     c.in-Some-seek_child_mut.child.now (child_entries c.self.inside.storage) on.there)) c.requires.fits in
     let inner = sym c.is_leaf_at.ensures ∙ c.if-not-is_leaf_at.true in
     let callable = rw down at c.requires.callable in
-    let stays = rw down at c.requires.stays in
+    let stays = rw down at c.requires.occupancy in
     let w = within.1.1 in (
       omega (arith, c.decreases, ap node_count c.self.view_is, count-found _ 0 _ _ on.canonical.2 on.there),
       (within.0, (within.1.0, (w.0, (w.1, (child, (fits_key, (fits, (inner, (callable, stays))))))))),
@@ -143,13 +143,13 @@ update_leaf-requires-clause-callable g t c =
     ∙ leaf-value _ c.in-Some-seek_child_mut.child.now (at-leaf g t at.Else-not-is_leaf_at)) in
     λ p h. c.requires.callable p (h ∙ ap slot_of (sym leaf))
 
-pub update_leaf-requires-clause-stays : goal.update_leaf-requires-clause-stays
-update_leaf-requires-clause-stays g t c =
-    let at = goal.at.update_leaf-requires-clause-stays g t c in
+pub update_leaf-requires-clause-occupancy : goal.update_leaf-requires-clause-occupancy
+update_leaf-requires-clause-occupancy g t c =
+    let at = goal.at.update_leaf-requires-clause-occupancy g t c in
     let on = follows g t at.In-Some-seek_child_mut in
     let leaf = (key-goes_on g t at.In-Some-seek_child_mut
     ∙ leaf-value _ c.in-Some-seek_child_mut.child.now (at-leaf g t at.Else-not-is_leaf_at)) in
-    λ r x w h. some-stays w _ (c.requires.stays r x w (rw leaf h) ∙ ap is_some leaf)
+    λ r x w h. some-stays w _ (c.requires.occupancy r x w (rw leaf h) ∙ ap is_some leaf)
     (leaf-some _ c.in-Some-seek_child_mut.child.now (canonical-found _ 0 _ _ on.canonical.2 on.there)
     (at-leaf g t at.Else-not-is_leaf_at))
 
@@ -186,7 +186,7 @@ remove_leaf-requires g t c =
     record {
       within = joins-holding _ _ _ _ _ _ _ _ on.there lost.2 left.1 (joins-canonical _ _ _
           (storage_capacity c.self.inside.storage) _ on.canonical (rw (← c.self.view_is) at c.requires.fits));
-      stands = some-there c.update_leaf.new.self _ found;
+      present = some-there c.update_leaf.new.self _ found;
       leaf = rw found (
         holding-edges _ _ _ c.update_leaf.new.self (at-leaf g t at.Else-not-is_leaf_at) lost.2,
         holding-some _ _ c.update_leaf.new.self lost.1 lost.2,
@@ -219,10 +219,10 @@ show_vacant-answer-requires-in-None-clause-callable g t c =
     let none = key-absent g t (goal.at.show_vacant-answer-requires-in-None-clause-callable g t c).In-None in
     λ p h. c.requires.callable p (h ∙ ap slot_of (sym none))
 
-pub show_vacant-answer-requires-in-None-clause-stays : goal.show_vacant-answer-requires-in-None-clause-stays
-show_vacant-answer-requires-in-None-clause-stays g t c =
-    let none = key-absent g t (goal.at.show_vacant-answer-requires-in-None-clause-stays g t c).In-None in
-    λ r x w h. none-there w _ (c.requires.stays r x w (rw none h)) none
+pub show_vacant-answer-requires-in-None-clause-occupancy : goal.show_vacant-answer-requires-in-None-clause-occupancy
+show_vacant-answer-requires-in-None-clause-occupancy g t c =
+    let none = key-absent g t (goal.at.show_vacant-answer-requires-in-None-clause-occupancy g t c).In-None in
+    λ r x w h. none-there w _ (c.requires.occupancy r x w (rw none h)) none
 
 pub apply_to_child-requires-clause-absent : goal.apply_to_child-requires-clause-absent
 apply_to_child-requires-clause-absent g t c =

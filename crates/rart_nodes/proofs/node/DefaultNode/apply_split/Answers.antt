@@ -8,8 +8,8 @@ returns-in-Err g c =
     let allocates = left-allocates c.args.key.now c.args.self.now c.requires.leaves in (
       ap Some c.in-Err.ensures.unchanged,
       c.in-Insert.is
-          ∙ ap Insert (sym c.in-Err.ensures.back.1),
+          ∙ ap Insert (sym c.in-Err.ensures.returned.1),
       refl,
       refuses-memory c.args.full c.args.key.now
-          (Some c.args.self.now) c.in-Err.refused.error c.in-Err.ensures.back.0 c.if-full.false allocates,
+          (Some c.args.self.now) c.in-Err.refused.error c.in-Err.ensures.returned.0 c.if-full.false allocates,
     )

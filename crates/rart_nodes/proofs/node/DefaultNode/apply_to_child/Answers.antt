@@ -5,7 +5,7 @@ use Rattle.rart_nodes.specs.tries.Trie.{node}
 use Rattle.rart_nodes.specs.tries.TrieCode.{as_children}
 use Rattle.rart_nodes.specs.edits.TreeUpdates.{PutAllocates}
 use Rattle.rart_nodes.proofs.edits.InsertLemmas.{put-beside, record-no_child}
-use Rattle.rart_nodes.proofs.edits.PutAskLemmas.{put_allocation-full}
+use Rattle.rart_nodes.proofs.edits.PutAllocationLemmas.{put_allocation-full}
 use Rattle.rart_nodes.proofs.removals.RemoveSteps.{same-node}
 use Rattle.rart_nodes.proofs.edits.UpdateSteps.{refuses-memory, none-at}
 use Rattle.rart_nodes.proofs.node.DefaultNode.apply_to_child.Goals as goal

@@ -3,7 +3,7 @@ use Rattle.rart_keys.specs.SortedMap.{count_of, longest_key}
 use Rattle.rart_keys.proofs.SortedMaps.{length-put}
 use Rattle.rart_nodes.specs.tries.Trie.{pairs_of}
 use Rattle.rart_nodes.proofs.tries.CanonicalTests.{longest_key-put}
-use Rattle.rart_nodes.proofs.edits.InsertAskLemmas.{allocates-insert}
+use Rattle.rart_nodes.proofs.edits.InsertAllocationLemmas.{allocates-insert}
 use Rattle.std.proofs.lemmas.Result.{on_ok_weaker, on_err_weaker}
 use Rattle.rart_nodes.proofs.edits.Outcomes.{if_ok_weaker, if_ok_weaker_on}
 use Rattle.rart_nodes.proofs.tries.PairLemmas.{pairs_of-ascend, lookup-pairs_of}
@@ -37,7 +37,7 @@ returns g c =
             (max (longest_key (pairs_of old)) (length key)) (pairs_of old) (omega arith) (omega arith),
       )) c.put.ensures.ok;
       unchanged = c.put.ensures.unchanged;
-      back = c.put.ensures.back;
+      returned = c.put.ensures.returned;
       allocates = on_err_weaker c.put.result (λ e. let none = sym (record_is key old canonical) ∙ e.1 in (
         some-pairs old canonical,
         new-key key (pairs_of old) none,

@@ -1,13 +1,13 @@
 use Rattle.std.proofs.Common.{◌∙◌, sym, ap, length, is_some, if◌then◌else◌}
 use Rattle.rart_parts.specs.Entries.{child_at}
 use Rattle.rart_nodes.specs.storages.Stored.{child_entries, storage_capacity}
-use Rattle.rart_nodes.specs.storages.Capacities.{narrowed_capacity}
+use Rattle.rart_nodes.specs.storages.Capacities.{shrunk_capacity}
 use Rattle.rart_nodes.proofs.storages.ChildLemmas.{edges_of-length}
 use Rattle.rart_nodes.proofs.edits.Outcomes.{err-any}
 use Rattle.rart_nodes.proofs.edits.JoinLemmas.{joins-without, some-there, without-none, without-joined, without-wide}
 use Rattle.rart_nodes.proofs.tries.Descents.{child_of-entries}
 use Rattle.rart_nodes.proofs.node.DefaultNode.take_child.Goals as goal
-use Rattle.rart_nodes.proofs.node.DefaultNode.take_child.Goals.{then-narrow, else-narrow}
+use Rattle.rart_nodes.proofs.node.DefaultNode.take_child.Goals.{then-smallest, else-smallest}
 
 pub returns-in_err-child-clause-allocates : goal.returns-in_err-child-clause-allocates
 returns-in_err-child-clause-allocates g c = err-any c.from_residual.result (rw (← c.self.view_is) (
@@ -26,7 +26,7 @@ returns-in_default-clause-rest g c =
     rw (← c.self.view_is) (without-none _ _ (storage_capacity c.self.inside.storage) _ c.args.b
     (child_entries c.self.inside.storage) _
     none c.in_ok-child.ensures.stored
-    (c.in_ok-child.ensures.capacity ∙ ap (λ o. if is_some o then narrowed_capacity (length
+    (c.in_ok-child.ensures.capacity ∙ ap (λ o. if is_some o then shrunk_capacity (length
     (child_entries c.delete_child.new.self))
     (storage_capacity c.self.inside.storage) else storage_capacity c.self.inside.storage) none))
 
@@ -44,15 +44,15 @@ returns-clause-rest g c =
     let some = sym c.in_ok-child.ensures.taken ∙ c.in-Some.is in
     let there = some-there c.in-Some.child (child_at c.args.b (child_entries c.self.inside.storage)) some in
     let capacity = c.in_ok-child.ensures.capacity ∙ ap
-    (λ o. if is_some o then narrowed_capacity (length (child_entries c.delete_child.new.self))
+    (λ o. if is_some o then shrunk_capacity (length (child_entries c.delete_child.new.self))
     (storage_capacity c.self.inside.storage)
     else storage_capacity c.self.inside.storage) some in
-    rw (← c.self.view_is) (elim c.if-narrow.branch [
-      | then-narrow w ↦ w.self-is ∙ w.merge_with_only_child.ensures
+    rw (← c.self.view_is) (elim c.if-smallest.branch [
+      | then-smallest w ↦ w.self-is ∙ w.merge_with_only_child.ensures
           ∙ without-joined _ _ (storage_capacity c.self.inside.storage) _ c.args.b
           (child_entries c.self.inside.storage) _
-          (sym c.capacity-narrow.ensures ∙ w.if-narrow.true) there c.in_ok-child.ensures.stored capacity
-      | else-narrow w ↦ w.self-is ∙ without-wide _ _ (storage_capacity c.self.inside.storage) _ c.args.b
-          (child_entries c.self.inside.storage) _ (λ e. w.if-narrow.false (c.capacity-narrow.ensures ∙ e)) there
+          (sym c.capacity-smallest.ensures ∙ w.if-smallest.true) there c.in_ok-child.ensures.stored capacity
+      | else-smallest w ↦ w.self-is ∙ without-wide _ _ (storage_capacity c.self.inside.storage) _ c.args.b
+          (child_entries c.self.inside.storage) _ (λ e. w.if-smallest.false (c.capacity-smallest.ensures ∙ e)) there
           c.in_ok-child.ensures.stored capacity
     ])

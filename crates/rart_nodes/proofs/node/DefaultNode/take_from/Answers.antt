@@ -1,6 +1,6 @@
 use Rattle.std.proofs.Common.{◌∙◌, sym}
 use Rattle.std.proofs.lemmas.Result.{on_err_weaker}
-use Rattle.rart_nodes.proofs.removals.RemoveAskLemmas.{allocates-remove}
+use Rattle.rart_nodes.proofs.removals.RemoveAllocationLemmas.{allocates-remove}
 use Rattle.rart_nodes.proofs.node.DefaultNode.take_from.Goals as goal
 
 pub returns-then-not-is_leaf_at-clause-allocates : goal.returns-then-not-is_leaf_at-clause-allocates

@@ -8,13 +8,13 @@ use Rattle.rart_nodes.proofs.node.DefaultNode.tree_stats.Goals as goal
 pub count_nodes-height-requires : goal.count_nodes-height-requires
 count_nodes-height-requires g c =
     let canonical = rw c.in-Some.is at c.requires.canonical in
-    let fits = rw c.in-Some.is at c.requires.fits in
+    let fits = rw c.in-Some.is at c.requires.few in
     omega (arith, ap counts_sum c.none-counts.ensures, few-for-keys c.in-Some.node.now canonical, fits)
 
 pub to_stats-requires : goal.to_stats-requires
 to_stats-requires g c =
     let canonical = rw c.in-Some.is at c.requires.canonical in
-    let fits = rw c.in-Some.is at c.requires.fits in
+    let fits = rw c.in-Some.is at c.requires.few in
     let counted = c.count_nodes-height.ensures.counts
     ∙ ap (λ n. counts_added n (counts_in c.in-Some.node.now)) c.none-counts.ensures in
     let sums = sums-for-keys _ _ canonical counted in

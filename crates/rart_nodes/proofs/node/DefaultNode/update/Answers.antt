@@ -13,10 +13,10 @@ update_tree-requires-clause-callable g c =
     let at = tree_lookup-lookup c.args.key.now c.args.root.now c.requires.canonical in
     λ p h. c.requires.callable p (h ∙ ap slot_of at)
 
-pub update_tree-requires-clause-stays : goal.update_tree-requires-clause-stays
-update_tree-requires-clause-stays g c =
+pub update_tree-requires-clause-occupancy : goal.update_tree-requires-clause-occupancy
+update_tree-requires-clause-occupancy g c =
     let at = tree_lookup-lookup c.args.key.now c.args.root.now c.requires.canonical in
-    λ r x w h. c.requires.stays r x w (rw (← at) h) ∙ ap is_some (sym at)
+    λ r x w h. c.requires.occupancy r x w (rw (← at) h) ∙ ap is_some (sym at)
 
 pub returns : goal.returns
 returns g c =
@@ -26,7 +26,7 @@ returns g c =
     let at = tree_lookup-lookup key old canonical in
     let e = c.update_tree.ensures in
     let stays : is_some e.1 ≡ is_some (lookup key (tree_pairs old))
-    = c.requires.stays e.0 c.update_tree.result.1 e.1 (rw (← at) e.2) in
+    = c.requires.occupancy e.0 c.update_tree.result.1 e.1 (rw (← at) e.2) in
     let ends = ends-map c.args.full key e.0 e.1 old c.update_tree.result.0 c.update_tree.new.root canonical e.3 in
     let ascend = tree_pairs-ascend old canonical in
     let done = ends-canonical c.args.full key e.0 e.1 old c.update_tree.result.0 c.update_tree.new.root canonical e.3 in

@@ -21,7 +21,7 @@ use std::alloc::AllocError;
 use std::cmp::Ordering;
 
 /// Descends past the prefix of a visited node whose children before the path are `rest`.
-fn deepen_before<'a, P: Partial, V, C, T: Path<'a, P>>(
+fn push_level_before<'a, P: Partial, V, C, T: Path<'a, P>>(
     levels: &mut Vec<((BackBranches<'a, P, V, C>, usize), Option<&'a V>)>,
     path: &mut T,
     at: Entered<'a, P, V, C>,
@@ -77,16 +77,16 @@ impl<'a, P: Partial, V, C: Count> BackWalk<'a, P, V, C> {
             let Some(after) = strip_prefix(at.prefix(), rest) else {
                 // the node's keys all come before the end, or all after it
                 if let Ordering::Less = at.prefix().to_slice().cmp(rest) {
-                    deepen_before(&mut self.levels, path, at, at.back_branches(), at.value());
+                    push_level_before(&mut self.levels, path, at, at.back_branches(), at.value());
                 }
                 return;
             };
             let Some(byte) = after.first() else {
                 let value = value_if(included, at);
-                deepen_before(&mut self.levels, path, at, at.branches_under(0), value);
+                push_level_before(&mut self.levels, path, at, at.branches_under(0), value);
                 return;
             };
-            deepen_before(
+            push_level_before(
                 &mut self.levels,
                 path,
                 at,
@@ -125,7 +125,7 @@ impl<'a, K: KeyTrait, V, C: Count> Seen<'a, K, V, C> {
             (λ w. remaining_entries T.grown (T.kept w.1) (reverse w.0.levels.items)
             ≡ entries_until included end.now (tree_entries T.grown (seen_tree self.entry))) }
         ensures memory { OnErr result (seen_pairs self.entry ≢ []) }
-        ensures unread { OnErr result (counter.new ≡ counter.old) }
+        ensures unvisited { OnErr result (counter.new ≡ counter.old) }
         ensures visits { IfOk result (λ _. C.number counter.new
             ≡ C.number counter.old + probe_count (seen_keys self.entry) end.now) }
         ensures bound { C.number counter.new ≤ C.number counter.old + length end.now + 1 }

@@ -30,7 +30,7 @@ impl<'a, K: KeyTrait, V, C: Count> Seen<'a, K, V, C> {
             (λ w. remaining_entries T.grown (T.kept w.1) (reverse w.0.levels.items)
             ≡ part_entries T.grown (tree_part T.grown [] prefix.now (seen_tree self.entry))) }
         ensures memory { OnErr result (seen_pairs self.entry ≢ []) }
-        ensures unread { OnErr result (counter.new ≡ counter.old) }
+        ensures unvisited { OnErr result (counter.new ≡ counter.old) }
         ensures visits { IfOk result (λ _. C.number counter.new
             ≡ C.number counter.old + probe_count (seen_keys self.entry) prefix.now) }
         ensures bound { C.number counter.new ≤ C.number counter.old + length prefix.now + 1 }

@@ -165,7 +165,7 @@ impl<'a, K: KeyTrait, V, C: Count> Seen<'a, K, V, C> {
         ensures pairs { IfOk result
             (λ it. it ≡ pairs_until included end.now (seen_pairs self.entry)) }
         ensures memory { IfErr result (MayLackMemory (seen_pairs self.entry)) }
-        ensures unread { OnErr result (counter.new ≡ counter.old) }
+        ensures unvisited { OnErr result (counter.new ≡ counter.old) }
         ensures visits { IfOk result (λ _. C.number counter.new
             ≡ C.number counter.old + probe_count (seen_keys self.entry) end.now) }
         ensures bound { C.number counter.new ≤ C.number counter.old + length end.now + 1 }
@@ -186,7 +186,7 @@ impl<'a, K: KeyTrait, V, C: Count> Seen<'a, K, V, C> {
         ensures pairs { IfOk result
             (λ it. it ≡ to_bound (bound_in K.bytes end.now) (seen_pairs self.entry)) }
         ensures memory { IfErr result (MayLackMemory (seen_pairs self.entry)) }
-        ensures unread { OnErr result (counter.new ≡ counter.old) }
+        ensures unvisited { OnErr result (counter.new ≡ counter.old) }
         ensures visits { IfOk result (λ _. C.number counter.new ≡ C.number counter.old
             + probe_count (seen_keys self.entry) (bound_bytes (bound_in K.bytes end.now))) }
         ensures bound { C.number counter.new
@@ -222,7 +222,7 @@ impl<'a, K: KeyTrait + Drop, V, C: Count> Seen<'a, K, V, C> {
         ensures ahead { IfOk result
             (λ r. r.1 ≡ reverse (to_bound (bound_in K.bytes end) (seen_pairs self.entry))) }
         ensures memory { IfErr result (MayLackMemory (seen_pairs self.entry)) }
-        ensures unread { OnErr result (counter.new ≡ counter.old) }
+        ensures unvisited { OnErr result (counter.new ≡ counter.old) }
         ensures visits { IfOk result (λ _. C.number counter.new ≡ C.number counter.old
             + probe_count (seen_keys self.entry) (bound_bytes (bound_in K.bytes end))) }
         ensures bound { C.number counter.new

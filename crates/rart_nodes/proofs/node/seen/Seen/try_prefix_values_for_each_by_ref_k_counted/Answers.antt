@@ -40,7 +40,7 @@ pub returns-clause-bound : goal.returns-clause-bound
 returns-clause-bound g c = omega (
   arith,
   c.in-Ok.ensures.bound,
-  c.in-Ok.ensures.few,
+  c.in-Ok.ensures.nodes,
   c.try_for_each.ensures.visits,
   ap length c.as_ref.ensures,
   ap (λ q. length (below q (seen_pairs c.args.self))) c.as_ref.ensures,
@@ -50,7 +50,7 @@ pub returns-clause-visits : goal.returns-clause-visits
 returns-clause-visits g c = omega (
   arith,
   c.in-Ok.ensures.visits,
-  c.in-Ok.ensures.few,
+  c.in-Ok.ensures.nodes,
   c.try_for_each.ensures.visits,
   ap (λ q. probe_count (seen_keys c.args.self) q) c.as_ref.ensures,
   ap (λ q. length (below q (seen_pairs c.args.self))) c.as_ref.ensures,

@@ -36,8 +36,8 @@ returns-clause-bound g c =
     let root = root-entered c.args.prefix.now c.in-Some.top.node.now _ c.in-Some.top.canonical c.in-Some.ensures in
     omega (arith, c.in-Some-seek_prefix.ensures.visits, root.1)
 
-pub returns-clause-few : goal.returns-clause-few
-returns-clause-few g c =
+pub returns-clause-nodes : goal.returns-clause-nodes
+returns-clause-nodes g c =
     let u = c.in-Some-seek_prefix.at.node.now in
     let found : tree_part g.T.Keeps.grown (g.T.Path.kept c.in_ok-path.path) c.args.prefix.now
     (option_copied c.args.self.root) ≡ Some (g.T.Path.kept c.seek_prefix.new.path, u)

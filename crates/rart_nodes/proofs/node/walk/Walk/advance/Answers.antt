@@ -44,10 +44,10 @@ returns-in-Some-value-clause-visits g c =
     let t = turned g (goal.at.returns-in-Some-value-clause-visits g c).After-extend_path in
     omega (arith, t.counted, c.loop-self.invariant.visits, c.in-Some-enter_deepest.ensures.counted)
 
-pub returns-in-Some-value-clause-few : goal.returns-in-Some-value-clause-few
-returns-in-Some-value-clause-few g c = λ bytes.
+pub returns-in-Some-value-clause-bound : goal.returns-in-Some-value-clause-bound
+returns-in-Some-value-clause-bound g c = λ bytes.
     visit-one g.T.Keeps.grown _ _ _ _ _ _ _ _ c.in-Some-enter_deepest.at.node.now _ _ bytes c.loop-self.invariant.path
-    (c.loop-self.invariant.few bytes) c.in-Some-enter_deepest.ensures.shown c.extend_path.ensures.kept
+    (c.loop-self.invariant.bound bytes) c.in-Some-enter_deepest.ensures.shown c.extend_path.ensures.kept
     c.in-Some-enter_deepest.ensures.counted
 
 pub returns-in-Some-value-clause-paid : goal.returns-in-Some-value-clause-paid
@@ -67,10 +67,10 @@ loop-self-preserved g c =
       still = sym (t.still ∙ rw (← c.in_default-value.ensures) refl) ∙ c.loop-self.invariant.still;
       visits = omega (arith, t.counted, c.loop-self.invariant.visits, c.in-Some-enter_deepest.ensures.counted);
       longest = c.loop-self.invariant.longest;
-      few = λ bytes. visit-on _ _ c.in-Some-enter_deepest.at.node.now _ _ _ c.in-Some-enter_deepest.at.canonical
+      bound = λ bytes. visit-on _ _ c.in-Some-enter_deepest.at.node.now _ _ _ c.in-Some-enter_deepest.at.canonical
           c.in_default-value.ensures c.extend_path.ensures.levels
           (visit-one g.T.Keeps.grown _ _ _ _ _ _ _ _ c.in-Some-enter_deepest.at.node.now _ _ bytes
-          c.loop-self.invariant.path (c.loop-self.invariant.few bytes) c.in-Some-enter_deepest.ensures.shown
+          c.loop-self.invariant.path (c.loop-self.invariant.bound bytes) c.in-Some-enter_deepest.ensures.shown
           c.extend_path.ensures.kept c.in-Some-enter_deepest.ensures.counted);
       potential = potential-on _ _ _ _ _ _ c.in-Some-enter_deepest.at.node.now _ _ _
           c.in-Some-enter_deepest.at.canonical c.in_default-value.ensures c.in-Some-enter_deepest.ensures.shown
@@ -95,7 +95,7 @@ loop-self-preserved-in-None g c =
       still = sym t.still ∙ c.loop-self.invariant.still;
       visits = omega (arith, t.counted, c.loop-self.invariant.visits, c.in-None.ensures.counted);
       longest = c.loop-self.invariant.longest;
-      few = λ bytes. visit-none _ _ _ _ _ _ c.take_last.new.self.items (c.loop-self.invariant.few bytes)
+      bound = λ bytes. visit-none _ _ _ _ _ _ c.take_last.new.self.items (c.loop-self.invariant.bound bytes)
           c.in-None.ensures.shown c.in-None.ensures.counted;
       potential = potential-leave _ _ _ _ _ _ _ c.take_last.result c.in-None.ensures.shown c.take_last.ensures.items
           c.in-None.ensures.counted c.loop-self.invariant.potential;
@@ -104,7 +104,8 @@ loop-self-preserved-in-None g c =
     }
 
 pub returns-in-Some-value-clause-reserved : goal.returns-in-Some-value-clause-reserved
-returns-in-Some-value-clause-reserved g c = omega (arith, c.loop-self.invariant.reserved, c.extend_path.ensures.path_capacity)
+returns-in-Some-value-clause-reserved g c = omega
+    (arith, c.loop-self.invariant.reserved, c.extend_path.ensures.path_capacity)
 
 pub returns-in-Some-value-clause-requested : goal.returns-in-Some-value-clause-requested
 returns-in-Some-value-clause-requested g c = c.extend_path.ensures.requested ∙ c.loop-self.invariant.requested
@@ -139,5 +140,5 @@ returns-in-Some-clause-longest g c = refl
 pub returns-in-Some-clause-visits : goal.returns-in-Some-clause-visits
 returns-in-Some-clause-visits g c = refl
 
-pub returns-in-Some-clause-few : goal.returns-in-Some-clause-few
-returns-in-Some-clause-few g c = λ bytes. omega arith
+pub returns-in-Some-clause-bound : goal.returns-in-Some-clause-bound
+returns-in-Some-clause-bound g c = λ bytes. omega arith

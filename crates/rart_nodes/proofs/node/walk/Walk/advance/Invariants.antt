@@ -17,7 +17,7 @@ invariant-loop-self g l = record {
   visits : g.C.Count.number l.counter + nodes_below (reverse l.self.levels.items)
       ≡ g.C.Count.number l.fn.counter + nodes_below (reverse l.fn.self.levels.items);
   longest : l.self.longest ≡ l.fn.self.longest;
-  few : KeepsEach g.T.Keeps.grown → HasVisited (g.C.Count.number l.fn.counter) (g.C.Count.number l.counter)
+  bound : KeepsEach g.T.Keeps.grown → HasVisited (g.C.Count.number l.fn.counter) (g.C.Count.number l.counter)
       (g.T.Path.kept l.path) (reverse l.self.levels.items);
   potential : g.C.Count.number l.counter + potential (reverse l.fn.self.levels.items) ≤ g.C.Count.number l.fn.counter
       + potential (reverse l.self.levels.items);

@@ -11,7 +11,7 @@ use Rattle.rart_nodes.specs.walks.Walk.{entries_below}
 use Rattle.rart_nodes.proofs.ranges.PotentialLemmas.{height-on, low-above, low-all, low-start}
 use Rattle.rart_nodes.proofs.ranges.StartLemmas.{ahead-ended, ahead-higher, ahead-lower, ahead-on, ahead-start}
 use Rattle.rart_nodes.proofs.ranges.StartLemmas.{value_if}
-use Rattle.rart_nodes.proofs.ranges.StartPaths.{all-deepened, some-deepened, path-on}
+use Rattle.rart_nodes.proofs.ranges.StartPaths.{all-pushed, some-pushed, path-on}
 use Rattle.rart_nodes.proofs.tries.CanonicalTests.{IsCanonical-test}
 use Rattle.rart_nodes.proofs.walks.SeenLemmas.{next-falls, step-ended, step-left, step-on}
 use Rattle.rart_nodes.proofs.walks.WalkLemmas.{longest-below, prefix-short}
@@ -55,38 +55,38 @@ has-reserved g c =
       omega (arith, w.1, c.loop-next.invariant.places, c.loop-next.self.levels.ok.0),
     )
 
-pub deepen-requires : goal.deepen-requires
-deepen-requires g c κs = ((refl, tt), has-reserved g (goal.at.deepen-requires g c).After-enter-at)
+pub push_level-requires : goal.push_level-requires
+push_level-requires g c κs = ((refl, tt), has-reserved g (goal.at.push_level-requires g c).After-enter-at)
 
 pub returns-in-Greater-clause-path : goal.returns-in-Greater-clause-path
 returns-in-Greater-clause-path g c =
     let w = rw (c.in-Some.is, ← c.enter-at.ensures.shown) at c.loop-next.invariant.fits in
-    (all-deepened g.T.Keeps.grown _ _ _ _ _ c.enter-at.result.node.now _ _ _ g.T.Keeps.short c.enter-at.result.canonical
-    c.loop-next.invariant.path c.loop-next.invariant.places w c.deepen.ensures.kept c.branches.ensures
-    c.deepen.ensures.levels c.deepen.ensures.level_capacity).path
+    (all-pushed g.T.Keeps.grown _ _ _ _ _ c.enter-at.result.node.now _ _ _ g.T.Keeps.short c.enter-at.result.canonical
+    c.loop-next.invariant.path c.loop-next.invariant.places w c.push_level.ensures.kept c.branches.ensures
+    c.push_level.ensures.levels c.push_level.ensures.level_capacity).path
 
 pub returns-in-Greater-clause-entries : goal.returns-in-Greater-clause-entries
 returns-in-Greater-clause-entries g c =
     let t = c.enter-at.result.node.now in
     let w = rw (c.in-Some.is, ← c.enter-at.ensures.shown) at c.loop-next.invariant.fits in
-    let d = all-deepened g.T.Keeps.grown _ _ _ _ _ t _ _ _ g.T.Keeps.short c.enter-at.result.canonical
-    c.loop-next.invariant.path c.loop-next.invariant.places w c.deepen.ensures.kept c.branches.ensures
-    c.deepen.ensures.levels c.deepen.ensures.level_capacity in
+    let d = all-pushed g.T.Keeps.grown _ _ _ _ _ t _ _ _ g.T.Keeps.short c.enter-at.result.canonical
+    c.loop-next.invariant.path c.loop-next.invariant.places w c.push_level.ensures.kept c.branches.ensures
+    c.push_level.ensures.levels c.push_level.ensures.level_capacity in
     let e : None ≡ strip_prefix (prefix_of t) c.loop-next.rest.now
     = rw c.prefix.ensures at c.in_default-strip_prefix.ensures in
     let past : slice_cmp nat_cmp (prefix_of t) c.loop-next.rest.now ≡ Greater
     = ap (λ z. slice_cmp nat_cmp z c.loop-next.rest.now) (sym c.prefix-in_default-strip_prefix.ensures
     ∙ sym c.to_slice.ensures) ∙ sym c.cmp.ensures ∙ c.in-Greater.is in
-    ahead-higher g.T.Keeps.grown c.args.included (g.T.Path.kept c.loop-next.path) (g.T.Path.kept c.deepen.new.path)
+    ahead-higher g.T.Keeps.grown c.args.included (g.T.Path.kept c.loop-next.path) (g.T.Path.kept c.push_level.new.path)
     c.loop-next.rest.now t _ _ _ _ _ c.requires.joins e past
-    c.deepen.ensures.kept c.value-self.ensures c.branches.ensures d.still
+    c.push_level.ensures.kept c.value-self.ensures c.branches.ensures d.still
     (rw (c.in-Some.is, ← c.enter-at.ensures.shown) at c.loop-next.invariant.still)
 
 pub returns-in-Greater-clause-low : goal.returns-in-Greater-clause-low
 returns-in-Greater-clause-low g c =
     low-all _ _ c.enter-at.result.node.now _ _ _ c.loop-next.invariant.low
     (rw (c.in-Some.is, ← c.enter-at.ensures.shown) at c.loop-next.invariant.height) c.branches.ensures
-    c.deepen.ensures.levels
+    c.push_level.ensures.levels
 
 pub returns-in_default-cmp : goal.returns-in_default-cmp
 returns-in_default-cmp g c =
@@ -117,35 +117,35 @@ returns-in_default-cmp g c =
       low = c.loop-next.invariant.low;
     }
 
-pub deepen-requires-in_default-first : goal.deepen-requires-in_default-first
-deepen-requires-in_default-first g c κs
-    = ((refl, tt), has-reserved g (goal.at.deepen-requires-in_default-first g c).After-enter-at)
+pub push_level-requires-in_default-first : goal.push_level-requires-in_default-first
+push_level-requires-in_default-first g c κs
+    = ((refl, tt), has-reserved g (goal.at.push_level-requires-in_default-first g c).After-enter-at)
 
 pub returns-then-included-clause-path : goal.returns-then-included-clause-path
 returns-then-included-clause-path g c =
     let w = rw (c.in-Some.is, ← c.enter-at.ensures.shown) at c.loop-next.invariant.fits in
-    (all-deepened g.T.Keeps.grown _ _ _ _ _ c.enter-at.result.node.now _ _ _ g.T.Keeps.short c.enter-at.result.canonical
-    c.loop-next.invariant.path c.loop-next.invariant.places w c.deepen-in_default-first.ensures.kept
-    c.branches-in_default-first.ensures c.deepen-in_default-first.ensures.levels
-    c.deepen-in_default-first.ensures.level_capacity).path
+    (all-pushed g.T.Keeps.grown _ _ _ _ _ c.enter-at.result.node.now _ _ _ g.T.Keeps.short c.enter-at.result.canonical
+    c.loop-next.invariant.path c.loop-next.invariant.places w c.push_level-in_default-first.ensures.kept
+    c.branches-in_default-first.ensures c.push_level-in_default-first.ensures.levels
+    c.push_level-in_default-first.ensures.level_capacity).path
 
 pub returns-then-included-clause-entries : goal.returns-then-included-clause-entries
 returns-then-included-clause-entries g c =
     let t = c.enter-at.result.node.now in
-    let k1 = g.T.Path.kept c.deepen-in_default-first.new.path in
+    let k1 = g.T.Path.kept c.push_level-in_default-first.new.path in
     let w = rw (c.in-Some.is, ← c.enter-at.ensures.shown) at c.loop-next.invariant.fits in
-    let d = all-deepened g.T.Keeps.grown _ _ _ _ _ t _ _ _ g.T.Keeps.short c.enter-at.result.canonical
-    c.loop-next.invariant.path c.loop-next.invariant.places w c.deepen-in_default-first.ensures.kept
-    c.branches-in_default-first.ensures c.deepen-in_default-first.ensures.levels
-    c.deepen-in_default-first.ensures.level_capacity in
+    let d = all-pushed g.T.Keeps.grown _ _ _ _ _ t _ _ _ g.T.Keeps.short c.enter-at.result.canonical
+    c.loop-next.invariant.path c.loop-next.invariant.places w c.push_level-in_default-first.ensures.kept
+    c.branches-in_default-first.ensures c.push_level-in_default-first.ensures.levels
+    c.push_level-in_default-first.ensures.level_capacity in
     let e : Some c.in-Some-strip_prefix.after.now ≡ strip_prefix (prefix_of t) c.loop-next.rest.now
     = rw c.prefix.ensures at c.in-Some-strip_prefix.ensures in
     ap (λ h. value_if h k1 (option_copied c.value-self-then-included.result) ++ entries_below g.T.Keeps.grown k1
-    (reverse c.deepen-in_default-first.new.levels.items)) (sym c.if-included.true)
+    (reverse c.push_level-in_default-first.new.levels.items)) (sym c.if-included.true)
     ∙ ahead-ended g.T.Keeps.grown c.args.included (g.T.Path.kept c.loop-next.path) k1 c.loop-next.rest.now
     c.in-Some-strip_prefix.after.now t _ _ _ _ _ c.requires.joins c.enter-at.result.canonical e
     c.in_default-first.ensures.value
-    c.deepen-in_default-first.ensures.kept (ap (value_if c.args.included k1) c.value-self-then-included.ensures)
+    c.push_level-in_default-first.ensures.kept (ap (value_if c.args.included k1) c.value-self-then-included.ensures)
     c.branches-in_default-first.ensures d.still
     (rw (c.in-Some.is, ← c.enter-at.ensures.shown) at c.loop-next.invariant.still)
 
@@ -153,44 +153,48 @@ pub returns-then-included-clause-low : goal.returns-then-included-clause-low
 returns-then-included-clause-low g c =
     low-all _ _ c.enter-at.result.node.now _ _ _ c.loop-next.invariant.low
     (rw (c.in-Some.is, ← c.enter-at.ensures.shown) at c.loop-next.invariant.height)
-    c.branches-in_default-first.ensures c.deepen-in_default-first.ensures.levels
+    c.branches-in_default-first.ensures c.push_level-in_default-first.ensures.levels
 
 pub returns-else-included-clause-path : goal.returns-else-included-clause-path
 returns-else-included-clause-path g c =
     let w = rw (c.in-Some.is, ← c.enter-at.ensures.shown) at c.loop-next.invariant.fits in
-    (all-deepened g.T.Keeps.grown _ _ _ _ _ c.enter-at.result.node.now _ _ _ g.T.Keeps.short c.enter-at.result.canonical
-    c.loop-next.invariant.path c.loop-next.invariant.places w c.deepen-in_default-first.ensures.kept
-    c.branches-in_default-first.ensures c.deepen-in_default-first.ensures.levels
-    c.deepen-in_default-first.ensures.level_capacity).path
+    (all-pushed g.T.Keeps.grown _ _ _ _ _ c.enter-at.result.node.now _ _ _ g.T.Keeps.short c.enter-at.result.canonical
+    c.loop-next.invariant.path c.loop-next.invariant.places w c.push_level-in_default-first.ensures.kept
+    c.branches-in_default-first.ensures c.push_level-in_default-first.ensures.levels
+    c.push_level-in_default-first.ensures.level_capacity).path
 
 pub returns-else-included-clause-entries : goal.returns-else-included-clause-entries
 returns-else-included-clause-entries g c =
     let t = c.enter-at.result.node.now in
-    let k1 = g.T.Path.kept c.deepen-in_default-first.new.path in
+    let k1 = g.T.Path.kept c.push_level-in_default-first.new.path in
     let w = rw (c.in-Some.is, ← c.enter-at.ensures.shown) at c.loop-next.invariant.fits in
-    let d = all-deepened g.T.Keeps.grown _ _ _ _ _ t _ _ _ g.T.Keeps.short c.enter-at.result.canonical
-    c.loop-next.invariant.path c.loop-next.invariant.places w c.deepen-in_default-first.ensures.kept
-    c.branches-in_default-first.ensures c.deepen-in_default-first.ensures.levels
-    c.deepen-in_default-first.ensures.level_capacity in
+    let d = all-pushed g.T.Keeps.grown _ _ _ _ _ t _ _ _ g.T.Keeps.short c.enter-at.result.canonical
+    c.loop-next.invariant.path c.loop-next.invariant.places w c.push_level-in_default-first.ensures.kept
+    c.branches-in_default-first.ensures c.push_level-in_default-first.ensures.levels
+    c.push_level-in_default-first.ensures.level_capacity in
     let e : Some c.in-Some-strip_prefix.after.now ≡ strip_prefix (prefix_of t) c.loop-next.rest.now
     = rw c.prefix.ensures at c.in-Some-strip_prefix.ensures in
     rw c.loop-next.invariant.first (ap (λ h. value_if h k1 (value_of t)
-    ++ entries_below g.T.Keeps.grown k1 (reverse c.deepen-in_default-first.new.levels.items))
+    ++ entries_below g.T.Keeps.grown k1 (reverse c.push_level-in_default-first.new.levels.items))
     (sym c.if-included.false)
     ∙ ahead-ended g.T.Keeps.grown c.args.included (g.T.Path.kept c.loop-next.path) k1 c.loop-next.rest.now
     c.in-Some-strip_prefix.after.now t (value_of t) _ _ _ _ c.requires.joins c.enter-at.result.canonical e
     c.in_default-first.ensures.value
-    c.deepen-in_default-first.ensures.kept refl c.branches-in_default-first.ensures d.still
+    c.push_level-in_default-first.ensures.kept refl c.branches-in_default-first.ensures d.still
     (rw (c.in-Some.is, ← c.enter-at.ensures.shown) at c.loop-next.invariant.still))
 
 pub returns-else-included-clause-low : goal.returns-else-included-clause-low
 returns-else-included-clause-low g c =
     low-all _ _ c.enter-at.result.node.now _ _ _ c.loop-next.invariant.low
     (rw (c.in-Some.is, ← c.enter-at.ensures.shown) at c.loop-next.invariant.height)
-    c.branches-in_default-first.ensures c.deepen-in_default-first.ensures.levels
+    c.branches-in_default-first.ensures c.push_level-in_default-first.ensures.levels
 
-pub deepen-requires-in-Some : goal.deepen-requires-in-Some
-deepen-requires-in-Some g c κs = ((refl, tt), has-reserved g (goal.at.deepen-requires-in-Some g c).After-enter-at)
+pub push_level-requires-in-Some : goal.push_level-requires-in-Some
+push_level-requires-in-Some g c κs = (
+  (refl, tt),
+  has-reserved g
+      (goal.at.push_level-requires-in-Some g c).After-enter-at,
+)
 
 pub loop-next-smaller : goal.loop-next-smaller
 loop-next-smaller g c = next-falls _ _ _ _ _ _ c.in-Some.is c.enter-at.ensures.shown c.child-next.ensures
@@ -202,25 +206,26 @@ loop-next-preserved g c =
     let w = rw (c.in-Some.is, ← c.enter-at.ensures.shown) at c.loop-next.invariant.fits in
     let e : Some c.in-Some-strip_prefix.after.now ≡ strip_prefix (prefix_of t) c.loop-next.rest.now
     = rw c.prefix.ensures at c.in-Some-strip_prefix.ensures in
-    let d = some-deepened g.T.Keeps.grown _ _ _ c.in-Some-first.byte.now _ _ t _ _ _ g.T.Keeps.short
+    let d = some-pushed g.T.Keeps.grown _ _ _ c.in-Some-first.byte.now _ _ t _ _ _ g.T.Keeps.short
     c.enter-at.result.canonical c.loop-next.invariant.path c.loop-next.invariant.places w
-    c.deepen-in-Some.ensures.kept c.branches_above.ensures c.deepen-in-Some.ensures.levels
-    c.deepen-in-Some.ensures.level_capacity in
+    c.push_level-in-Some.ensures.kept c.branches_above.ensures c.push_level-in-Some.ensures.levels
+    c.push_level-in-Some.ensures.level_capacity in
     let h = step-on t c.loop-next.rest.now c.in-Some-strip_prefix.after.now c.in-Some-first.byte.now
     c.enter-at.result.canonical e c.in-Some-first.ensures.value in
     record {
       first = c.loop-next.invariant.first;
       path = d.path;
       fits = path-on g.T.Keeps.grown _ c.in-Some-first.byte.now k _ t _ _ _ _ g.T.Keeps.short
-          c.enter-at.result.canonical w c.deepen-in-Some.ensures.kept c.deepen-in-Some.ensures.levels
+          c.enter-at.result.canonical w c.push_level-in-Some.ensures.kept c.push_level-in-Some.ensures.levels
           c.child-next.ensures;
-      reserved = omega (arith, c.loop-next.invariant.reserved, c.deepen-in-Some.ensures.path_capacity);
-      requested = c.deepen-in-Some.ensures.requested ∙ c.loop-next.invariant.requested;
-      places = omega (arith, c.loop-next.invariant.places, c.deepen-in-Some.ensures.level_capacity);
-      still = ahead-on g.T.Keeps.grown c.args.included k (g.T.Path.kept c.deepen-in-Some.new.path) c.loop-next.rest.now
+      reserved = omega (arith, c.loop-next.invariant.reserved, c.push_level-in-Some.ensures.path_capacity);
+      requested = c.push_level-in-Some.ensures.requested ∙ c.loop-next.invariant.requested;
+      places = omega (arith, c.loop-next.invariant.places, c.push_level-in-Some.ensures.level_capacity);
+      still = ahead-on g.T.Keeps.grown c.args.included k
+          (g.T.Path.kept c.push_level-in-Some.new.path) c.loop-next.rest.now
           c.in-Some-strip_prefix.after.now c.in-Some-first.byte.now t _ _ _ _ _ c.requires.joins
           c.enter-at.result.canonical e c.in-Some-first.ensures.value
-          c.deepen-in-Some.ensures.kept c.child-next.ensures c.branches_above.ensures d.still
+          c.push_level-in-Some.ensures.kept c.child-next.ensures c.branches_above.ensures d.still
           (rw (c.in-Some.is, ← c.enter-at.ensures.shown) at c.loop-next.invariant.still);
       visits = omega (
         arith,
@@ -230,26 +235,27 @@ loop-next-preserved g c =
         rw (c.in-Some.is, ← c.enter-at.ensures.shown) at c.loop-next.invariant.visits,
       );
       longest = c.loop-next.invariant.longest;
-      level_capacity = c.deepen-in-Some.ensures.level_capacity ∙ c.loop-next.invariant.level_capacity;
+      level_capacity = c.push_level-in-Some.ensures.level_capacity ∙ c.loop-next.invariant.level_capacity;
       low = low-above _ _ c.in-Some-first.byte.now t _ _ _ c.loop-next.invariant.low
           (rw (c.in-Some.is, ← c.enter-at.ensures.shown) at c.loop-next.invariant.height) c.branches_above.ensures
-          c.deepen-in-Some.ensures.levels;
+          c.push_level-in-Some.ensures.levels;
       height = height-on _ c.in-Some-first.byte.now t _ _ _ _
           (rw (c.in-Some.is, ← c.enter-at.ensures.shown) at c.loop-next.invariant.height)
-          c.deepen-in-Some.ensures.levels c.child-next.ensures;
+          c.push_level-in-Some.ensures.levels c.child-next.ensures;
     }
 
 pub returns-in-Greater-clause-reserved : goal.returns-in-Greater-clause-reserved
-returns-in-Greater-clause-reserved g c = omega (arith, c.loop-next.invariant.reserved, c.deepen.ensures.path_capacity)
+returns-in-Greater-clause-reserved g c = omega
+    (arith, c.loop-next.invariant.reserved, c.push_level.ensures.path_capacity)
 
 pub returns-in-Greater-clause-requested : goal.returns-in-Greater-clause-requested
-returns-in-Greater-clause-requested g c = c.deepen.ensures.requested ∙ c.loop-next.invariant.requested
+returns-in-Greater-clause-requested g c = c.push_level.ensures.requested ∙ c.loop-next.invariant.requested
 
 pub returns-in-Greater-clause-longest : goal.returns-in-Greater-clause-longest
 returns-in-Greater-clause-longest g c = c.loop-next.invariant.longest
 
 pub returns-in-Greater-clause-places : goal.returns-in-Greater-clause-places
-returns-in-Greater-clause-places g c = c.deepen.ensures.level_capacity ∙ c.loop-next.invariant.level_capacity
+returns-in-Greater-clause-places g c = c.push_level.ensures.level_capacity ∙ c.loop-next.invariant.level_capacity
 
 pub returns-in-Greater-clause-visits : goal.returns-in-Greater-clause-visits
 returns-in-Greater-clause-visits g c =
@@ -265,18 +271,18 @@ returns-in-Greater-clause-visits g c =
 
 pub returns-then-included-clause-reserved : goal.returns-then-included-clause-reserved
 returns-then-included-clause-reserved g c =
-    omega (arith, c.loop-next.invariant.reserved, c.deepen-in_default-first.ensures.path_capacity)
+    omega (arith, c.loop-next.invariant.reserved, c.push_level-in_default-first.ensures.path_capacity)
 
 pub returns-then-included-clause-requested : goal.returns-then-included-clause-requested
 returns-then-included-clause-requested g c =
-    c.deepen-in_default-first.ensures.requested ∙ c.loop-next.invariant.requested
+    c.push_level-in_default-first.ensures.requested ∙ c.loop-next.invariant.requested
 
 pub returns-then-included-clause-longest : goal.returns-then-included-clause-longest
 returns-then-included-clause-longest g c = c.loop-next.invariant.longest
 
 pub returns-then-included-clause-places : goal.returns-then-included-clause-places
 returns-then-included-clause-places g c =
-    c.deepen-in_default-first.ensures.level_capacity ∙ c.loop-next.invariant.level_capacity
+    c.push_level-in_default-first.ensures.level_capacity ∙ c.loop-next.invariant.level_capacity
 
 pub returns-then-included-clause-visits : goal.returns-then-included-clause-visits
 returns-then-included-clause-visits g c =
@@ -292,18 +298,18 @@ returns-then-included-clause-visits g c =
 
 pub returns-else-included-clause-reserved : goal.returns-else-included-clause-reserved
 returns-else-included-clause-reserved g c =
-    omega (arith, c.loop-next.invariant.reserved, c.deepen-in_default-first.ensures.path_capacity)
+    omega (arith, c.loop-next.invariant.reserved, c.push_level-in_default-first.ensures.path_capacity)
 
 pub returns-else-included-clause-requested : goal.returns-else-included-clause-requested
 returns-else-included-clause-requested g c =
-    c.deepen-in_default-first.ensures.requested ∙ c.loop-next.invariant.requested
+    c.push_level-in_default-first.ensures.requested ∙ c.loop-next.invariant.requested
 
 pub returns-else-included-clause-longest : goal.returns-else-included-clause-longest
 returns-else-included-clause-longest g c = c.loop-next.invariant.longest
 
 pub returns-else-included-clause-places : goal.returns-else-included-clause-places
 returns-else-included-clause-places g c =
-    c.deepen-in_default-first.ensures.level_capacity ∙ c.loop-next.invariant.level_capacity
+    c.push_level-in_default-first.ensures.level_capacity ∙ c.loop-next.invariant.level_capacity
 
 pub returns-else-included-clause-visits : goal.returns-else-included-clause-visits
 returns-else-included-clause-visits g c =

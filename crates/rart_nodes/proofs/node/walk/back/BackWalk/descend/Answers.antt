@@ -10,7 +10,7 @@ use Rattle.rart_nodes.specs.walks.Walk.{tree_count}
 use Rattle.rart_nodes.proofs.ranges.LevelLemmas.{no-walk}
 use Rattle.rart_nodes.proofs.ranges.UntilLemmas.{remaining-ended, remaining-higher, remaining-lower, remaining-on}
 use Rattle.rart_nodes.proofs.ranges.UntilLemmas.{remaining-start, higher-apart}
-use Rattle.rart_nodes.proofs.ranges.UntilPaths.{all-deepened, some-deepened, back-path-on}
+use Rattle.rart_nodes.proofs.ranges.UntilPaths.{all-pushed, some-pushed, back-path-on}
 use Rattle.rart_nodes.proofs.tries.CanonicalTests.{IsCanonical-test}
 use Rattle.rart_nodes.proofs.walks.SeenLemmas.{child-falls, step-ended, step-left, step-on}
 use Rattle.rart_nodes.proofs.walks.WalkLemmas.{longest-below, prefix-short}
@@ -38,8 +38,8 @@ loop-next-init g c = record {
   level_capacity = refl;
 }
 
-pub deepen_before-requires : goal.deepen_before-requires
-deepen_before-requires g c κs =
+pub push_level_before-requires : goal.push_level_before-requires
+push_level_before-requires g c κs =
     let t = c.enter-at.result.node.now in
     let w = rw (c.in-Some.is, ← c.enter-at.ensures.shown) at c.loop-next.invariant.fits in (
       (refl, tt),
@@ -53,25 +53,26 @@ deepen_before-requires g c κs =
 pub returns-in-Less-clause-path : goal.returns-in-Less-clause-path
 returns-in-Less-clause-path g c =
     let w = rw (c.in-Some.is, ← c.enter-at.ensures.shown) at c.loop-next.invariant.fits in
-    (all-deepened g.T.Keeps.grown _ _ _ _ _ c.enter-at.result.node.now _ _ _ _ g.T.Keeps.short
-    c.enter-at.result.canonical c.loop-next.invariant.path c.loop-next.invariant.places w c.deepen_before.ensures.kept
-    c.back_branches.ensures c.deepen_before.ensures.levels c.deepen_before.ensures.level_capacity).path
+    (all-pushed g.T.Keeps.grown _ _ _ _ _ c.enter-at.result.node.now _ _ _ _ g.T.Keeps.short
+    c.enter-at.result.canonical c.loop-next.invariant.path c.loop-next.invariant.places w
+    c.push_level_before.ensures.kept
+    c.back_branches.ensures c.push_level_before.ensures.levels c.push_level_before.ensures.level_capacity).path
 
 pub returns-in-Less-clause-entries : goal.returns-in-Less-clause-entries
 returns-in-Less-clause-entries g c =
     let t = c.enter-at.result.node.now in
     let w = rw (c.in-Some.is, ← c.enter-at.ensures.shown) at c.loop-next.invariant.fits in
-    let d = all-deepened g.T.Keeps.grown _ _ _ _ _ t _ _ _ _ g.T.Keeps.short c.enter-at.result.canonical
-    c.loop-next.invariant.path c.loop-next.invariant.places w c.deepen_before.ensures.kept c.back_branches.ensures
-    c.deepen_before.ensures.levels c.deepen_before.ensures.level_capacity in
+    let d = all-pushed g.T.Keeps.grown _ _ _ _ _ t _ _ _ _ g.T.Keeps.short c.enter-at.result.canonical
+    c.loop-next.invariant.path c.loop-next.invariant.places w c.push_level_before.ensures.kept c.back_branches.ensures
+    c.push_level_before.ensures.levels c.push_level_before.ensures.level_capacity in
     let e : None ≡ strip_prefix (prefix_of t) c.loop-next.rest.now
     = rw c.prefix.ensures at c.in_default-strip_prefix.ensures in
     let past : slice_cmp nat_cmp (prefix_of t) c.loop-next.rest.now ≡ Less
     = ap (λ z. slice_cmp nat_cmp z c.loop-next.rest.now) (sym c.prefix-in_default-strip_prefix.ensures
     ∙ sym c.to_slice.ensures) ∙ sym c.cmp.ensures ∙ c.in-Less.is in
     remaining-lower g.T.Keeps.grown c.args.included (g.T.Path.kept c.loop-next.path)
-    (g.T.Path.kept c.deepen_before.new.path) c.loop-next.rest.now t _ _ _ _ _ c.requires.joins e past
-    c.deepen_before.ensures.kept c.value.ensures c.back_branches.ensures d.still
+    (g.T.Path.kept c.push_level_before.new.path) c.loop-next.rest.now t _ _ _ _ _ c.requires.joins e past
+    c.push_level_before.ensures.kept c.value.ensures c.back_branches.ensures d.still
     (rw (c.in-Some.is, ← c.enter-at.ensures.shown) at c.loop-next.invariant.still)
 
 pub returns-in_default-cmp : goal.returns-in_default-cmp
@@ -102,8 +103,8 @@ returns-in_default-cmp g c =
       places = c.loop-next.invariant.level_capacity;
     }
 
-pub deepen_before-requires-in_default-first : goal.deepen_before-requires-in_default-first
-deepen_before-requires-in_default-first g c κs =
+pub push_level_before-requires-in_default-first : goal.push_level_before-requires-in_default-first
+push_level_before-requires-in_default-first g c κs =
     let t = c.enter-at.result.node.now in
     let w = rw (c.in-Some.is, ← c.enter-at.ensures.shown) at c.loop-next.invariant.fits in (
       (refl, tt),
@@ -117,29 +118,31 @@ deepen_before-requires-in_default-first g c κs =
 pub returns-in_default-first-clause-path : goal.returns-in_default-first-clause-path
 returns-in_default-first-clause-path g c =
     let w = rw (c.in-Some.is, ← c.enter-at.ensures.shown) at c.loop-next.invariant.fits in
-    (some-deepened g.T.Keeps.grown _ _ _ 0 _ _ c.enter-at.result.node.now _ _ _ _ g.T.Keeps.short
+    (some-pushed g.T.Keeps.grown _ _ _ 0 _ _ c.enter-at.result.node.now _ _ _ _ g.T.Keeps.short
     c.enter-at.result.canonical c.loop-next.invariant.path c.loop-next.invariant.places w
-    c.deepen_before-in_default-first.ensures.kept c.branches_under.ensures
-    c.deepen_before-in_default-first.ensures.levels c.deepen_before-in_default-first.ensures.level_capacity).path
+    c.push_level_before-in_default-first.ensures.kept c.branches_under.ensures
+    c.push_level_before-in_default-first.ensures.levels
+    c.push_level_before-in_default-first.ensures.level_capacity).path
 
 pub returns-in_default-first-clause-entries : goal.returns-in_default-first-clause-entries
 returns-in_default-first-clause-entries g c =
     let t = c.enter-at.result.node.now in
     let w = rw (c.in-Some.is, ← c.enter-at.ensures.shown) at c.loop-next.invariant.fits in
-    let d = some-deepened g.T.Keeps.grown _ _ _ 0 _ _ t _ _ _ _ g.T.Keeps.short c.enter-at.result.canonical
-    c.loop-next.invariant.path c.loop-next.invariant.places w c.deepen_before-in_default-first.ensures.kept
-    c.branches_under.ensures c.deepen_before-in_default-first.ensures.levels
-    c.deepen_before-in_default-first.ensures.level_capacity in
+    let d = some-pushed g.T.Keeps.grown _ _ _ 0 _ _ t _ _ _ _ g.T.Keeps.short c.enter-at.result.canonical
+    c.loop-next.invariant.path c.loop-next.invariant.places w c.push_level_before-in_default-first.ensures.kept
+    c.branches_under.ensures c.push_level_before-in_default-first.ensures.levels
+    c.push_level_before-in_default-first.ensures.level_capacity in
     let e : Some c.in-Some-strip_prefix.after.now ≡ strip_prefix (prefix_of t) c.loop-next.rest.now
     = rw c.prefix.ensures at c.in-Some-strip_prefix.ensures in
     remaining-ended g.T.Keeps.grown c.args.included (g.T.Path.kept c.loop-next.path)
-    (g.T.Path.kept c.deepen_before-in_default-first.new.path) c.loop-next.rest.now c.in-Some-strip_prefix.after.now t
+    (g.T.Path.kept c.push_level_before-in_default-first.new.path) c.loop-next.rest.now
+    c.in-Some-strip_prefix.after.now t
     _ _ _ _ _ c.requires.joins c.enter-at.result.canonical e c.in_default-first.ensures.value
-    c.deepen_before-in_default-first.ensures.kept c.value_if-value.ensures c.branches_under.ensures d.still
+    c.push_level_before-in_default-first.ensures.kept c.value_if-value.ensures c.branches_under.ensures d.still
     (rw (c.in-Some.is, ← c.enter-at.ensures.shown) at c.loop-next.invariant.still)
 
-pub deepen_before-requires-in-Some : goal.deepen_before-requires-in-Some
-deepen_before-requires-in-Some g c κs =
+pub push_level_before-requires-in-Some : goal.push_level_before-requires-in-Some
+push_level_before-requires-in-Some g c κs =
     let t = c.enter-at.result.node.now in
     let w = rw (c.in-Some.is, ← c.enter-at.ensures.shown) at c.loop-next.invariant.fits in (
       (refl, tt),
@@ -165,24 +168,25 @@ loop-next-preserved g c =
     let w = rw (c.in-Some.is, ← c.enter-at.ensures.shown) at c.loop-next.invariant.fits in
     let e : Some c.in-Some-strip_prefix.after.now ≡ strip_prefix (prefix_of t) c.loop-next.rest.now
     = rw c.prefix.ensures at c.in-Some-strip_prefix.ensures in
-    let d = some-deepened g.T.Keeps.grown _ _ _ c.in-Some-first.byte.now _ _ t _ _ _ _ g.T.Keeps.short
+    let d = some-pushed g.T.Keeps.grown _ _ _ c.in-Some-first.byte.now _ _ t _ _ _ _ g.T.Keeps.short
     c.enter-at.result.canonical c.loop-next.invariant.path c.loop-next.invariant.places w
-    c.deepen_before-in-Some.ensures.kept c.branches_under-in-Some.ensures c.deepen_before-in-Some.ensures.levels
-    c.deepen_before-in-Some.ensures.level_capacity in
+    c.push_level_before-in-Some.ensures.kept c.branches_under-in-Some.ensures c.push_level_before-in-Some.ensures.levels
+    c.push_level_before-in-Some.ensures.level_capacity in
     let h = step-on t c.loop-next.rest.now c.in-Some-strip_prefix.after.now c.in-Some-first.byte.now
     c.enter-at.result.canonical e c.in-Some-first.ensures.value in
     record {
       path = d.path;
       fits = back-path-on g.T.Keeps.grown _ c.in-Some-first.byte.now k _ t _ _ _ _ g.T.Keeps.short
-          c.enter-at.result.canonical w c.deepen_before-in-Some.ensures.kept c.deepen_before-in-Some.ensures.levels
+          c.enter-at.result.canonical w c.push_level_before-in-Some.ensures.kept
+          c.push_level_before-in-Some.ensures.levels
           c.child-next.ensures;
-      reserved = omega (arith, c.loop-next.invariant.reserved, c.deepen_before-in-Some.ensures.path_capacity);
-      requested = c.deepen_before-in-Some.ensures.requested ∙ c.loop-next.invariant.requested;
-      places = omega (arith, c.loop-next.invariant.places, c.deepen_before-in-Some.ensures.level_capacity);
-      still = remaining-on g.T.Keeps.grown c.args.included k (g.T.Path.kept c.deepen_before-in-Some.new.path)
+      reserved = omega (arith, c.loop-next.invariant.reserved, c.push_level_before-in-Some.ensures.path_capacity);
+      requested = c.push_level_before-in-Some.ensures.requested ∙ c.loop-next.invariant.requested;
+      places = omega (arith, c.loop-next.invariant.places, c.push_level_before-in-Some.ensures.level_capacity);
+      still = remaining-on g.T.Keeps.grown c.args.included k (g.T.Path.kept c.push_level_before-in-Some.new.path)
           c.loop-next.rest.now c.in-Some-strip_prefix.after.now c.in-Some-first.byte.now t _ _ _ _ _ _
           c.requires.joins c.enter-at.result.canonical e c.in-Some-first.ensures.value
-          c.deepen_before-in-Some.ensures.kept c.value-in-Some.ensures c.child-next.ensures
+          c.push_level_before-in-Some.ensures.kept c.value-in-Some.ensures c.child-next.ensures
           c.branches_under-in-Some.ensures d.still
           (rw (c.in-Some.is, ← c.enter-at.ensures.shown) at c.loop-next.invariant.still);
       visits = omega (
@@ -193,20 +197,21 @@ loop-next-preserved g c =
         rw (c.in-Some.is, ← c.enter-at.ensures.shown) at c.loop-next.invariant.visits,
       );
       longest = c.loop-next.invariant.longest;
-      level_capacity = c.deepen_before-in-Some.ensures.level_capacity ∙ c.loop-next.invariant.level_capacity;
+      level_capacity = c.push_level_before-in-Some.ensures.level_capacity ∙ c.loop-next.invariant.level_capacity;
     }
 
 pub returns-in-Less-clause-reserved : goal.returns-in-Less-clause-reserved
-returns-in-Less-clause-reserved g c = omega (arith, c.loop-next.invariant.reserved, c.deepen_before.ensures.path_capacity)
+returns-in-Less-clause-reserved g c = omega
+    (arith, c.loop-next.invariant.reserved, c.push_level_before.ensures.path_capacity)
 
 pub returns-in-Less-clause-requested : goal.returns-in-Less-clause-requested
-returns-in-Less-clause-requested g c = c.deepen_before.ensures.requested ∙ c.loop-next.invariant.requested
+returns-in-Less-clause-requested g c = c.push_level_before.ensures.requested ∙ c.loop-next.invariant.requested
 
 pub returns-in-Less-clause-longest : goal.returns-in-Less-clause-longest
 returns-in-Less-clause-longest g c = c.loop-next.invariant.longest
 
 pub returns-in-Less-clause-places : goal.returns-in-Less-clause-places
-returns-in-Less-clause-places g c = c.deepen_before.ensures.level_capacity ∙ c.loop-next.invariant.level_capacity
+returns-in-Less-clause-places g c = c.push_level_before.ensures.level_capacity ∙ c.loop-next.invariant.level_capacity
 
 pub returns-in-Less-clause-visits : goal.returns-in-Less-clause-visits
 returns-in-Less-clause-visits g c =
@@ -222,18 +227,18 @@ returns-in-Less-clause-visits g c =
 
 pub returns-in_default-first-clause-reserved : goal.returns-in_default-first-clause-reserved
 returns-in_default-first-clause-reserved g c =
-    omega (arith, c.loop-next.invariant.reserved, c.deepen_before-in_default-first.ensures.path_capacity)
+    omega (arith, c.loop-next.invariant.reserved, c.push_level_before-in_default-first.ensures.path_capacity)
 
 pub returns-in_default-first-clause-requested : goal.returns-in_default-first-clause-requested
 returns-in_default-first-clause-requested g c =
-    c.deepen_before-in_default-first.ensures.requested ∙ c.loop-next.invariant.requested
+    c.push_level_before-in_default-first.ensures.requested ∙ c.loop-next.invariant.requested
 
 pub returns-in_default-first-clause-longest : goal.returns-in_default-first-clause-longest
 returns-in_default-first-clause-longest g c = c.loop-next.invariant.longest
 
 pub returns-in_default-first-clause-places : goal.returns-in_default-first-clause-places
 returns-in_default-first-clause-places g c =
-    c.deepen_before-in_default-first.ensures.level_capacity ∙ c.loop-next.invariant.level_capacity
+    c.push_level_before-in_default-first.ensures.level_capacity ∙ c.loop-next.invariant.level_capacity
 
 pub returns-in_default-first-clause-visits : goal.returns-in_default-first-clause-visits
 returns-in_default-first-clause-visits g c =

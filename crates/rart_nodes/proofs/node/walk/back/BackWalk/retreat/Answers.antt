@@ -7,8 +7,8 @@ use Rattle.rart_nodes.proofs.ranges.BackVisits.{visit-none, visit-on, visit-one,
 use Rattle.rart_nodes.proofs.ranges.LevelLemmas.{leave, space, turn}
 use Rattle.rart_nodes.proofs.node.walk.back.BackWalk.retreat.Goals as goal
 
-pub deepen_from_back-requires : goal.deepen_from_back-requires
-deepen_from_back-requires g c κs =
+pub push_level_from_back-requires : goal.push_level_from_back-requires
+push_level_from_back-requires g c κs =
     let s = space _ _ _ _ c.in-Some.at.node.now _ _ c.loop-self.invariant.path c.in-Some.ensures.shown in (
       (refl, tt),
       (
@@ -20,26 +20,27 @@ deepen_from_back-requires g c κs =
 
 pub loop-self-smaller-in-Some : goal.loop-self-smaller-in-Some
 loop-self-smaller-in-Some g c =
-    let cap : vec_capacity c.loop-self.self.levels ≤ vec_capacity c.deepen_from_back.new.levels
-    = omega (arith, c.enter_last_of_deepest.ensures.capacity, c.deepen_from_back.ensures.level_capacity) in
+    let cap : vec_capacity c.loop-self.self.levels ≤ vec_capacity c.push_level_from_back.new.levels
+    = omega (arith, c.enter_last_of_deepest.ensures.capacity, c.push_level_from_back.ensures.level_capacity) in
     (turn _ _ _ _ _ _ _ c.in-Some.at.node.now _ _ _ g.T.Keeps.short c.loop-self.invariant.path c.in-Some.ensures.shown
-    c.deepen_from_back.ensures.kept c.deepen_from_back.ensures.levels cap).falls
+    c.push_level_from_back.ensures.kept c.push_level_from_back.ensures.levels cap).falls
 
 pub loop-self-preserved-in-Some : goal.loop-self-preserved-in-Some
 loop-self-preserved-in-Some g c =
-    let cap : vec_capacity c.loop-self.self.levels ≤ vec_capacity c.deepen_from_back.new.levels
-    = omega (arith, c.enter_last_of_deepest.ensures.capacity, c.deepen_from_back.ensures.level_capacity) in
+    let cap : vec_capacity c.loop-self.self.levels ≤ vec_capacity c.push_level_from_back.new.levels
+    = omega (arith, c.enter_last_of_deepest.ensures.capacity, c.push_level_from_back.ensures.level_capacity) in
     let t = turn _ _ _ _ _ _ _ c.in-Some.at.node.now _ _ _ g.T.Keeps.short c.loop-self.invariant.path
-    c.in-Some.ensures.shown c.deepen_from_back.ensures.kept c.deepen_from_back.ensures.levels cap in
+    c.in-Some.ensures.shown c.push_level_from_back.ensures.kept c.push_level_from_back.ensures.levels cap in
     record {
       path = t.path;
-      reserved = omega (arith, c.loop-self.invariant.reserved, c.deepen_from_back.ensures.path_capacity);
-      requested = c.deepen_from_back.ensures.requested ∙ c.loop-self.invariant.requested;
+      reserved = omega (arith, c.loop-self.invariant.reserved, c.push_level_from_back.ensures.path_capacity);
+      requested = c.push_level_from_back.ensures.requested ∙ c.loop-self.invariant.requested;
       still = t.still ∙ c.loop-self.invariant.still;
       longest = c.loop-self.invariant.longest;
-      few = λ bytes. visit-on _ _ c.in-Some.at.node.now _ _ _ c.in-Some.at.canonical c.deepen_from_back.ensures.levels
+      bound = λ bytes. visit-on _ _ c.in-Some.at.node.now _ _ _ c.in-Some.at.canonical
+          c.push_level_from_back.ensures.levels
           (visit-one g.T.Keeps.grown _ _ _ _ _ _ _ _ c.in-Some.at.node.now _ _ bytes c.loop-self.invariant.path
-          (c.loop-self.invariant.few bytes) c.in-Some.ensures.shown c.deepen_from_back.ensures.kept
+          (c.loop-self.invariant.bound bytes) c.in-Some.ensures.shown c.push_level_from_back.ensures.kept
           c.in-Some.ensures.counted);
     }
 
@@ -59,9 +60,9 @@ returns-in-Some-value-clause-entries g c =
     ∙ ap (λ v. remaining_entries g.T.Keeps.grown k1 (reverse c.take_last-below.new.self.items)
     ++ value_at k1 (option_copied v)) c.in-Some-value.is
 
-pub returns-in-Some-value-clause-few : goal.returns-in-Some-value-clause-few
-returns-in-Some-value-clause-few g c = λ bytes.
-    visit-value _ _ _ _ _ c.take_last-below.result _ _ _ (c.loop-self.invariant.few bytes) c.in-None.ensures.shown
+pub returns-in-Some-value-clause-bound : goal.returns-in-Some-value-clause-bound
+returns-in-Some-value-clause-bound g c = λ bytes.
+    visit-value _ _ _ _ _ c.take_last-below.result _ _ _ (c.loop-self.invariant.bound bytes) c.in-None.ensures.shown
     c.take_last-below.ensures.items c.cut.ensures.kept c.in-None.ensures.counted
 
 pub loop-self-smaller : goal.loop-self-smaller
@@ -84,7 +85,7 @@ loop-self-preserved g c =
       still = sym (append-nil rest) ∙ sym (t.still
           ∙ ap (λ v. rest ++ value_at k1 (option_copied v)) c.in_default.is) ∙ c.loop-self.invariant.still;
       longest = c.loop-self.invariant.longest;
-      few = λ bytes. visit-none _ _ _ _ _ c.take_last-below.result _ _ _ (c.loop-self.invariant.few bytes)
+      bound = λ bytes. visit-none _ _ _ _ _ c.take_last-below.result _ _ _ (c.loop-self.invariant.bound bytes)
           c.in-None.ensures.shown c.take_last-below.ensures.items (ap option_copied c.in_default.is)
           c.in-None.ensures.counted;
     }

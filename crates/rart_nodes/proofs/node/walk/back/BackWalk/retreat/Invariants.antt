@@ -13,7 +13,7 @@ invariant-loop-self g l = record {
   still : remaining_entries g.T.Keeps.grown (g.T.Path.kept l.path) (reverse l.self.levels.items)
       ≡ remaining_entries g.T.Keeps.grown (g.T.Path.kept l.fn.path) (reverse l.fn.self.levels.items);
   longest : l.self.longest ≡ l.fn.self.longest;
-  few : KeepsEach g.T.Keeps.grown → HasVisited (g.C.Count.number l.fn.counter) (g.C.Count.number l.counter)
+  bound : KeepsEach g.T.Keeps.grown → HasVisited (g.C.Count.number l.fn.counter) (g.C.Count.number l.counter)
       (g.T.Path.kept l.path) (reverse l.self.levels.items);
 }
 

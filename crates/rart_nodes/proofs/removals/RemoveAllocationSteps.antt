@@ -11,7 +11,7 @@ use Rattle.rart_nodes.specs.shapes.Shape.{capacity_of}
 use Rattle.rart_nodes.specs.tries.Trie.{Trie, node, no_children, child, by_rest, descend, edges_of, record_of}
 use Rattle.rart_nodes.specs.tries.TrieCode.{as_children}
 use Rattle.rart_nodes.specs.storages.Capacities.{previous_capacity}
-use Rattle.rart_nodes.proofs.edits.PutAskLemmas.{asked}
+use Rattle.rart_nodes.proofs.edits.PutAllocationLemmas.{asked}
 use Rattle.rart_nodes.proofs.tries.Descents.{descend-at, descend-followed}
 use Rattle.rart_nodes.proofs.tries.RestLemmas.{Follows}
 

@@ -1,6 +1,6 @@
 use Rattle.std.proofs.Common.{arith, ap, refl, length}
 use Rattle.std.proofs.lemmas.List.{length-take}
-use Rattle.rart_nodes.proofs.node.walk.back.deepen_from_back.Goals as goal
+use Rattle.rart_nodes.proofs.node.walk.back.push_level_from_back.Goals as goal
 
 pub grow-requires : goal.grow-requires
 grow-requires g c κs = (

@@ -10,7 +10,8 @@ use Rattle.rart_keys.specs.SortedMap.{keys_of}
 use Rattle.rart_nodes.specs.shapes.Shape.{NodeRecord, record_at, capacity_of}
 use Rattle.rart_nodes.specs.tries.Trie.{Trie, node, Children, child_of, pairs_of, edges_of, IsCanonical, AreCanonical}
 use Rattle.rart_nodes.specs.tries.Trie.{descend, descend_child}
-use Rattle.rart_nodes.specs.edits.InsertAllocations.{has_free_slot, takes_child, any_along, last_takes, insert_allocates}
+use Rattle.rart_nodes.specs.edits.InsertAllocations.{has_free_slot, takes_child, any_along, last_takes}
+use Rattle.rart_nodes.specs.edits.InsertAllocations.{insert_allocates}
 use Rattle.rart_nodes.specs.edits.InsertAllocations.{put_allocation}
 use Rattle.rart_nodes.specs.edits.InsertAllocations.{is_full, trie_put_allocates}
 use Rattle.rart_nodes.proofs.tries.Descents.{Keeps, descends, descend-child_of}
