@@ -62,12 +62,12 @@ def run_broken(program, script):
 def run_limited(program, script, stream, limit, **how):
     """A run whose `stream` takes `limit` bytes, and then fails."""
 
-    def limit():
+    def set_limit():
         resource.setrlimit(resource.RLIMIT_FSIZE, (limit, limit))
 
     with tempfile.TemporaryFile() as file:
         # The signal SIGXFSZ stays ignored, as it is in Python, so a write past the limit fails.
-        how |= {stream: file, "preexec_fn": limit, "restore_signals": False}
+        how |= {stream: file, "preexec_fn": set_limit, "restore_signals": False}
         status, printed, said = run(program, script, **how)
         file.seek(0)
         taken = file.read()
