@@ -13,6 +13,11 @@ pub mod NodeEditLemmas
 pub mod Outcomes
 pub mod PutAskLemmas
 pub mod PutLemmas
+pub mod RetainEndLemmas
+pub mod RetainStepLemmas
+pub mod RetainTreeLemmas
+pub mod RetainWalkLemmas
+pub mod RetentionLemmas
 pub mod TakeValueLemmas
 pub mod UpdateSteps
 pub mod ValueChangeLemmas

@@ -20,7 +20,7 @@ use Rattle.rart_nodes.proofs.edits.JoinLemmas.{without-some}
 use Rattle.rart_nodes.proofs.tries.RestLemmas.{Follows}
 
 -- one child fewer keeps the capacity that the number of children fixes
-narrowed-capacity : (n : ℕ) → narrowed_capacity n (capacity_of (n + 1)) ≡ capacity_of n
+pub narrowed-capacity : (n : ℕ) → narrowed_capacity n (capacity_of (n + 1)) ≡ capacity_of n
 narrowed-capacity n = grind (arith, nat_tests)
 
 module _ {V : Type 0} where
