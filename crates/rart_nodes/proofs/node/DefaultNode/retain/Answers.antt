@@ -1,3 +1,4 @@
+use Rattle.std.proofs.Common.{[]}
 use Rattle.rart_nodes.specs.tries.Tree.{tree_pairs}
 use Rattle.rart_nodes.proofs.edits.RetainTreeLemmas.{remaining-few, remaining-short, tree-done, tree-refused}
 use Rattle.rart_nodes.proofs.edits.RetainTreeLemmas.{tree-rejected}
@@ -8,7 +9,7 @@ pub returns-in-Done-clause-callable : goal.returns-in-Done-clause-callable
 returns-in-Done-clause-callable g c =
     let h = tree-done _ c.args.f.now c.retain_tree.new.f c.args.root.now c.retain_tree.new.root
     (rw c.in-Done.is at c.retain_tree.ensures.retains) in
-    always-after-asks _ _ (tree_pairs c.args.root.now) h.fates c.args.f.now c.retain_tree.new.f h.asks
+    always-after-asks _ [] (tree_pairs c.args.root.now) h.fates c.args.f.now c.retain_tree.new.f h.asks
 
 pub returns-in-Done-clause-count : goal.returns-in-Done-clause-count
 returns-in-Done-clause-count g c =
@@ -26,7 +27,7 @@ pub returns-in-Rejected-clause-callable : goal.returns-in-Rejected-clause-callab
 returns-in-Rejected-clause-callable g c =
     let h = tree-rejected _ c.args.f.now c.retain_tree.new.f c.args.root.now c.retain_tree.new.root
     (rw c.in-Rejected.is at c.retain_tree.ensures.retains) in
-    always-after-asks _ _ (tree_pairs c.args.root.now) h.fates c.args.f.now c.retain_tree.new.f h.asks
+    always-after-asks _ [] (tree_pairs c.args.root.now) h.fates c.args.f.now c.retain_tree.new.f h.asks
 
 pub returns-in-Rejected-clause-retains : goal.returns-in-Rejected-clause-retains
 returns-in-Rejected-clause-retains g c = tree-rejected _ c.args.f.now c.retain_tree.new.f c.args.root.now
@@ -36,7 +37,7 @@ pub returns-in-Refused-clause-callable : goal.returns-in-Refused-clause-callable
 returns-in-Refused-clause-callable g c =
     let h = tree-refused _ c.args.f.now c.retain_tree.new.f c.args.root.now c.retain_tree.new.root
     (rw c.in-Refused.is at c.retain_tree.ensures.retains) in
-    always-after-asks _ _ (tree_pairs c.args.root.now) h.fates c.args.f.now c.retain_tree.new.f h.asks
+    always-after-asks _ [] (tree_pairs c.args.root.now) h.fates c.args.f.now c.retain_tree.new.f h.asks
 
 pub returns-in-Refused-clause-count : goal.returns-in-Refused-clause-count
 returns-in-Refused-clause-count g c =
