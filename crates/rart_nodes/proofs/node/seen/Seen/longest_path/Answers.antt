@@ -64,7 +64,7 @@ returns-clause-bound g c =
       arith,
       short,
       segments,
-      c.in-Some-advance.ensures.visits keeps_each-one,
+      c.in-Some-advance.ensures.bound keeps_each-one,
       c.in_ok-walk.ensures.bound,
       c.in-Some.ensures.bound,
     )
@@ -77,7 +77,7 @@ returns-clause-visits g c =
     rw h (omega (
       arith,
       ap length both.0,
-      c.in-Some-advance.ensures.visits keeps_each-one,
+      c.in-Some-advance.ensures.bound keeps_each-one,
       c.in_ok-walk.ensures.visits,
       c.in-Some.ensures.visits,
     ))
