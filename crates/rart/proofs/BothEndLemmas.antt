@@ -1,8 +1,9 @@
 -- Two walks towards each other give each item once.
-use Rattle.std.proofs.Common.{◌≡◌, ℕ, zero, suc, ◌+◌, ◌-◌, ◌<◌, ◌≤◌, List, [], ◌∷◌, ◌++◌, length, take, drop, refl}
+use Rattle.std.proofs.Common.{◌≡◌, ℕ, zero, suc, ◌+◌, ◌-◌, ◌≤◌, List, [], ◌∷◌, ◌++◌, length, take, drop, refl}
 use Rattle.std.proofs.Common.{sym, ap, ◌∙◌, arith, length-append, reverse}
 use Rattle.std.proofs.lemmas.Grind.{reverse_onto}
-use Rattle.std.proofs.lemmas.List.{drop-append-le, length-drop, take-append-le, take-take, take_all}
+use Rattle.std.proofs.lemmas.List.{drop-append-le, length-drop, length-map, map-append, reverse-append, take-append-le, take-take, take_all}
+use Rattle.rart_keys.specs.SortedMap.{values_of}
 use Rattle.rart.specs.BothEnds.{AreLeft}
 
 module _ {A : Type 0} where
@@ -66,3 +67,27 @@ module _ {A : Type 0} where
       → n ≡ suc m → BackGiven n m x front (reverse rest)
   back-step n m x front down rest w e f
       = given-back n m x front (reverse down) (reverse rest) w (reversed x down rest e) f
+
+-- values that are walked from both ends
+module _ {V : Type 0} where
+  values-back : (es : List (List ℕ × V)) → reverse (values_of (reverse es)) ≡ values_of es
+  values-back [] = refl
+  values-back (e ∷ es) = ap (λ z. reverse (values_of z)) (reverse_onto es e [])
+      ∙ ap reverse (map-append (λ p. p.1) (reverse es) (e ∷ []))
+      ∙ reverse-append (values_of (reverse es)) (e.1 ∷ []) ∙ ap (λ z. e.1 ∷ z) (values-back es)
+
+  pub all-values : (n : ℕ) (front : List V) (es : List (List ℕ × V)) → n ≡ length es → front ≡ values_of es
+      → take n front ≡ values_of es
+  all-values n front es e f = rw f (take_all n (values_of es) (omega (arith, e, length-map es (λ p. p.1))))
+
+  pub values-left : (n : ℕ) (front : List V) (es down : List (List ℕ × V)) → n ≡ length es → front ≡ values_of es
+      → down ≡ reverse es → AreLeft n front (reverse (values_of down))
+  values-left n front es down e f h =
+      let size : n ≡ length (values_of es) = omega (arith, e, length-map es (λ p. p.1)) in
+      let none : length (values_of es) - n ≡ 0 = omega (arith, size) in
+      let left : AreLeft n (values_of es) (values_of es) = record {
+        ahead = omega (arith, size);
+        behind = omega (arith, size);
+        same = take_all n (values_of es) (omega (arith, size)) ∙ ap (λ d. drop d (values_of es)) (sym none);
+      } in
+      rw (f, h, values-back es) left

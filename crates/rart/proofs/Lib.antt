@@ -8,6 +8,7 @@ pub mod CountLemmas
 pub mod EditLemmas
 pub mod ExtensionLemmas
 pub mod LawLemmas
+pub mod MeetingLemmas
 pub mod MigrateLemmas
 pub mod PresentLemmas
 pub mod StepLemmas

@@ -4,6 +4,11 @@ ghost use Rattle.std.specs.Iterator.{UpTo, YieldsFirstBy, YieldsLastBy, item_cou
 ghost use Rattle.std.specs.Iterator.SizeHint.{IsWithinCount};
 ghost use Rattle.rart_nodes.specs.walks.Calls.{MayLackMemory};
 
+mod values;
+mod within;
+
+pub use crate::both_ends::values::ValuesBothEnds;
+pub use crate::both_ends::within::BothEndsWithin;
 use crate::tree::AdaptiveRadixTree;
 use rart_keys::KeyTrait;
 use rart_nodes::iter::{Descending, Iter};

@@ -24,7 +24,7 @@ pub mod stats;
 pub mod tree;
 mod views;
 
-pub use crate::both_ends::BothEnds;
+pub use crate::both_ends::{BothEnds, BothEndsWithin, ValuesBothEnds};
 pub use crate::bulk::BulkError;
 pub use crate::descending::{Descending, RangeDescending, SeenDescending, SeenRangeDescending};
 pub use crate::error::Error;

@@ -22,6 +22,7 @@ mod equal;
 mod extend;
 mod walks;
 
+use crate::both_ends::BothEnds;
 use crate::stats::{TreeStats, TreeStatsTrait};
 use crate::tree::AdaptiveRadixTree;
 use crate::tree::try_insert::TryInsertError;
@@ -189,6 +190,18 @@ impl<K: KeyTrait, T> RouteTable<K, T> {
         ensures memory { IfErr result (MayLackMemory self.now.pairs) }
     {
         self.routes.iter()
+    }
+
+    /// Returns an iterator over the routes from both ends, which counts what is left.
+    ///
+    /// # Errors
+    ///
+    /// [`TreeError::Memory`] if the table isn't empty and an allocation for the iterator fails.
+    pub fn iter_both_ends(&self) -> Result<BothEnds<'_, K, T>, TreeError>
+        ensures routes { IfOk result (λ it. it ≡ self.now.pairs) }
+        ensures memory { IfErr result (MayLackMemory self.now.pairs) }
+    {
+        self.routes.iter_both_ends()
     }
 
     /// Removes all routes and drops their targets. Never fails.
