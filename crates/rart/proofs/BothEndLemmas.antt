@@ -2,7 +2,8 @@
 use Rattle.std.proofs.Common.{◌≡◌, ℕ, zero, suc, ◌+◌, ◌-◌, ◌≤◌, List, [], ◌∷◌, ◌++◌, length, take, drop, refl}
 use Rattle.std.proofs.Common.{sym, ap, ◌∙◌, arith, length-append, reverse}
 use Rattle.std.proofs.lemmas.Grind.{reverse_onto}
-use Rattle.std.proofs.lemmas.List.{drop-append-le, length-drop, length-map, map-append, reverse-append, take-append-le, take-take, take_all}
+use Rattle.std.proofs.lemmas.List.{drop-append-le, length-drop, length-map, map-append, reverse-append}
+use Rattle.std.proofs.lemmas.List.{take-append-le, take-take, take_all}
 use Rattle.rart_keys.specs.SortedMap.{values_of}
 use Rattle.rart.specs.BothEnds.{AreLeft}
 
@@ -86,8 +87,8 @@ module _ {V : Type 0} where
       let size : n ≡ length (values_of es) = omega (arith, e, length-map es (λ p. p.1)) in
       let none : length (values_of es) - n ≡ 0 = omega (arith, size) in
       let left : AreLeft n (values_of es) (values_of es) = record {
-        ahead = omega (arith, size);
-        behind = omega (arith, size);
+        in_front = omega (arith, size);
+        in_back = omega (arith, size);
         same = take_all n (values_of es) (omega (arith, size)) ∙ ap (λ d. drop d (values_of es)) (sym none);
       } in
       rw (f, h, values-back es) left

@@ -8,10 +8,10 @@ pub mod CountLemmas
 pub mod EditLemmas
 pub mod ExtensionLemmas
 pub mod LawLemmas
-pub mod MeetingLemmas
 pub mod MigrateLemmas
+pub mod PairLists
+pub mod PartEndLemmas
 pub mod PresentLemmas
 pub mod StepLemmas
 pub mod UpdateLemmas
 pub mod WalkSteps
-pub mod PairLists

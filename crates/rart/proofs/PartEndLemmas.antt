@@ -1,5 +1,6 @@
 -- Two walks towards each other, each one pair ahead, give each pair once: keys differ.
-use Rattle.std.proofs.Common.{◌≡◌, ℕ, suc, ◌+◌, ◌-◌, ◌≤◌, ◌↔◌, ◌&&◌, Bool, true, false, List, [], ◌∷◌, ◌++◌, length, take, refl, subst, sym, ap}
+use Rattle.std.proofs.Common.{◌≡◌, ℕ, suc, ◌+◌, ◌-◌, ◌≤◌, ◌↔◌, ◌&&◌, Bool, true, false, List, [], ◌∷◌, ◌++◌, length}
+use Rattle.std.proofs.Common.{take, refl, subst, sym, ap}
 use Rattle.std.proofs.Common.{◌∙◌, arith, length-append, reverse, append_assoc, if◌then◌else◌}
 use Rattle.std.specs.List.{filter}
 use Rattle.std.specs.Bool.{IsTrue}
@@ -44,7 +45,8 @@ module _ {V : Type 0} where
       → through p.0 (xs ++ p ∷ zs) ≡ xs ++ p ∷ []
   through-last p [] ys zs h = rw (same_keys p.0 p.0 refl) refl
   through-last p (x ∷ xs) ys zs h
-      = rw (apart x.0 p.0 (bytes_eq x.0 p.0) refl (above-seam x.0 p xs ys h.0)) (ap (λ z. x ∷ z) (through-last p xs ys zs h.1))
+      = rw (apart x.0 p.0 (bytes_eq x.0 p.0) refl (above-seam x.0 p xs ys h.0)) (ap (λ z. x ∷ z)
+      (through-last p xs ys zs h.1))
 
   above-first : (k : List ℕ) (xs ys : List (List ℕ × V)) → AreAbove k (xs ++ ys) → AreAbove k xs
   above-first k [] ys h = tt
@@ -96,7 +98,8 @@ module _ {V : Type 0} where
   through-earlier k p (y ∷ es) [] ys e h = let first : y ≡ p = cc in rw (first, same_keys p.0 p.0 refl) refl
   through-earlier k p (y ∷ es) (x ∷ xs) ys e h = let first : y ≡ x = cc in
       let last : through k (y ∷ es) ≡ y ∷ through k es = elim (bytes_eq y.0 k)
-      as (λ b. (if b then [] else through k es) ≡ xs ++ p ∷ ys → y ∷ (if b then [] else through k es) ≡ y ∷ through k es) [
+      as (λ b. (if b then [] else through k es) ≡ xs ++ p ∷ ys
+      → y ∷ (if b then [] else through k es) ≡ y ∷ through k es) [
         | true ↦ λ s. absurd (not_empty p xs ys s)
         | false ↦ λ s. refl
       ] (cc) in
@@ -112,11 +115,12 @@ module _ {V : Type 0} where
   through-more k f es d = rw (other_keys f.0 k d) refl
 
   -- the equation of two walks, at an equal list
-  as_list : (xs ys behind : List (List ℕ × V)) → xs ≡ ys → take (length xs) behind ≡ reverse xs
-      → take (length ys) behind ≡ reverse ys
-  as_list xs ys behind e h = rw (← e) h
+  as_list : (xs ys backward : List (List ℕ × V)) → xs ≡ ys → take (length xs) backward ≡ reverse xs
+      → take (length ys) backward ≡ reverse ys
+  as_list xs ys backward e h = rw (← e) h
 
-  more_than_one : (f l : List ℕ × V) (es back : List (List ℕ × V)) → take (length (f ∷ es)) (l ∷ back) ≡ reverse (f ∷ es)
+  more_than_one : (f l : List ℕ × V) (es back : List (List ℕ
+      × V)) → take (length (f ∷ es)) (l ∷ back) ≡ reverse (f ∷ es)
       → (f.0 ≡ l.0 → ⊥) → 2 ≤ length (f ∷ es)
   more_than_one f l [] back h d = let alone : l ∷ [] ≡ f ∷ [] = h in let one : l ≡ f = cc in
       absurd (d (sym (ap (λ p. p.0) one)))
@@ -125,30 +129,32 @@ module _ {V : Type 0} where
   two : (f l : List ℕ × V) (front back : List (List ℕ × V)) → AreBetween l.0 (f ∷ front) (l ∷ back) → (f.0 ≡ l.0 → ⊥)
       → 2 ≤ length (through l.0 (f ∷ front))
   two f l front back w d = let more = through-more l.0 f front d in
-      subst (λ z. 2 ≤ length z) (sym more) (more_than_one f l (through l.0 front) back (as_list _ _ (l ∷ back) more w.same) d)
+      subst (λ z. 2 ≤ length z) (sym more) (more_than_one f l (through l.0 front) back (as_list _ _
+      (l ∷ back) more w.same) d)
 
   pub front-goes_on : (f l : List ℕ × V) (front back : List (List ℕ × V)) → AreBetween l.0 (f ∷ front) (l ∷ back)
       → (f.0 ≡ l.0 → ⊥) → front ≡ [] → ⊥
   front-goes_on f l front back w d e = let both = two f l front back w d in
       let more = through-more l.0 f front d in omega (arith, both, ap length more, ap (λ z. length (through l.0 z)) e)
 
-  front-rest : (k : List ℕ) (f : List ℕ × V) (front behind : List (List ℕ × V)) → AreBetween k (f ∷ front) behind
-      → (f.0 ≡ k → ⊥) → AreBetween k front behind
-  front-rest k f front behind w d = let more = through-more k f front d in
+  front-rest : (k : List ℕ) (f : List ℕ × V) (front backward : List (List ℕ × V)) → AreBetween k (f ∷ front) backward
+      → (f.0 ≡ k → ⊥) → AreBetween k front backward
+  front-rest k f front backward w d = let more = through-more k f front d in
       let rest = through k front in
-      let same : take (suc (length rest)) behind ≡ reverse rest ++ f ∷ []
-      = as_list _ _ behind more w.same ∙ reverse_onto rest f [] in
+      let same : take (suc (length rest)) backward ≡ reverse rest ++ f ∷ []
+      = as_list _ _ backward more w.same ∙ reverse_onto rest f [] in
       record {
         ascending = (subst IsAscending more w.ascending).1;
-        same = sym (take-take (length rest) (suc (length rest)) behind (omega arith)) ∙ ap (take (length rest)) same
+        same = sym (take-take (length rest) (suc (length rest)) backward (omega arith)) ∙ ap (take (length rest)) same
             ∙ take-append-le (length rest) (reverse rest) (f ∷ []) (omega (arith, length-reverse rest))
             ∙ take_all (length rest) (reverse rest) (omega (arith, length-reverse rest));
       }
 
   -- the first is taken, and the next one read
-  pub front-step : (k : List ℕ) (f s : List ℕ × V) (front rest behind : List (List ℕ × V))
-      → AreBetween k (f ∷ front) behind → (f.0 ≡ k → ⊥) → front ≡ s ∷ rest → AreBetween k (s ∷ rest) behind
-  front-step k f s front rest behind w d e = subst (λ z. AreBetween k z behind) e (front-rest k f front behind w d)
+  pub front-step : (k : List ℕ) (f s : List ℕ × V) (front rest backward : List (List ℕ × V))
+      → AreBetween k (f ∷ front) backward → (f.0 ≡ k → ⊥) → front ≡ s ∷ rest → AreBetween k (s ∷ rest) backward
+  front-step k f s front rest backward w d e = subst (λ z. AreBetween k z backward) e
+      (front-rest k f front backward w d)
 
   pub back-alone : (f l : List ℕ × V) (front back : List (List ℕ × V)) → AreBetween l.0 (f ∷ front) (l ∷ back)
       → f.0 ≡ l.0 → through l.0 (f ∷ front) ≡ l ∷ []
@@ -174,7 +180,8 @@ module _ {V : Type 0} where
       let down : l ∷ s ∷ take n rest ≡ reverse (through l.0 ahead) = rw e at w.same in
       let up : through l.0 ahead ≡ last ++ s ∷ l ∷ []
       = sym (reverse-reverse (through l.0 ahead)) ∙ ap reverse (sym down) ∙ reverse_onto (take n rest) s (l ∷ []) in
-      let same : through s.0 ahead ≡ last ++ s ∷ [] = through-earlier l.0 s ahead last (l ∷ []) up (rw up at w.ascending) in
+      let same : through s.0 ahead ≡ last ++ s ∷ [] = through-earlier l.0 s ahead last (l ∷ []) up
+      (rw up at w.ascending) in
       let join : last ++ s ∷ l ∷ [] ≡ (last ++ s ∷ []) ++ l ∷ [] = sym (append_assoc last (s ∷ []) (l ∷ [])) in
       let size : length (last ++ s ∷ []) ≡ suc n
       = omega (arith, e, ap length up, length-append last (s ∷ l ∷ []), length-append last (s ∷ [])) in
@@ -183,7 +190,8 @@ module _ {V : Type 0} where
         fewer = omega (arith, e, size, ap length same);
         left = record {
           ascending = rw same (ascending-first (last ++ s ∷ []) (l ∷ []) (rw (up, join) at w.ascending));
-          same = rw (same, size) (sym (ap reverse (sym (reverse_onto (take n rest) s [])) ∙ reverse-reverse (s ∷ take n rest)));
+          same = rw (same, size) (sym (ap reverse (sym (reverse_onto (take n rest) s []))
+              ∙ reverse-reverse (s ∷ take n rest)));
         };
       }
 
@@ -197,14 +205,14 @@ module _ {V : Type 0} where
     pub all : through l.0 (f ∷ front) ≡ ahead
     pub left : AreBetween l.0 (f ∷ front) (l ∷ back)
 
-  pub begin : (f l : List ℕ × V) (ahead behind front back : List (List ℕ × V)) → IsAscending ahead
-      → behind ≡ reverse ahead → ahead ≡ f ∷ front → behind ≡ l ∷ back → Begin f l ahead front back
-  begin f l ahead behind front back h e s t =
+  pub begin : (f l : List ℕ × V) (ahead backward front back : List (List ℕ × V)) → IsAscending ahead
+      → backward ≡ reverse ahead → ahead ≡ f ∷ front → backward ≡ l ∷ back → Begin f l ahead front back
+  begin f l ahead backward front back h e s t =
       let up : ahead ≡ reverse back ++ l ∷ []
       = sym (reverse-reverse ahead) ∙ ap reverse (sym e ∙ t) ∙ reverse_onto back l [] in
       let all : through l.0 ahead ≡ ahead
       = ap (through l.0) up ∙ through-last l (reverse back) [] [] (rw up at h) ∙ sym up in
-      let left : AreBetween l.0 ahead behind = record {
+      let left : AreBetween l.0 ahead backward = record {
         ascending = rw all h;
         same = rw (all, e) (take_all (length ahead) (reverse ahead) (omega (arith, length-reverse ahead)));
       } in
