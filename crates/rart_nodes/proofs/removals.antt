@@ -3,6 +3,7 @@ pub mod PrefixAllocations
 pub mod PrefixFilters
 pub mod PrefixPairs
 pub mod PrefixSteps
+pub mod RefusedRemovals
 pub mod RemoveAllocationLemmas
 pub mod RemoveAllocationSteps
 pub mod RemoveLemmas

@@ -1,4 +1,5 @@
 pub mod RetainEndLemmas
+pub mod RetainJoins
 pub mod RetainStepLemmas
 pub mod RetainTreeLemmas
 pub mod RetainWalkLemmas

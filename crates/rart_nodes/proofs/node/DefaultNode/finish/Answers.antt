@@ -4,7 +4,7 @@ use Rattle.rart_nodes.specs.edits.RetainSteps.{finished_node}
 use Rattle.rart_nodes.specs.storages.Stored.{child_entries, storage_capacity}
 use Rattle.rart_nodes.specs.tries.Trie.{Trie, node}
 use Rattle.rart_nodes.specs.tries.TrieCode.{as_children}
-use Rattle.rart_nodes.proofs.retentions.RetainEndLemmas.{outcome-gone, outcome-kept, finished-gone, finished-kept}
+use Rattle.rart_nodes.proofs.retentions.RetainJoins.{outcome-gone, outcome-kept, finished-gone, finished-kept}
 use Rattle.rart_nodes.proofs.node.DefaultNode.finish.Goals.{else-not-keeps}
 use Rattle.rart_nodes.proofs.node.DefaultNode.finish.Goals.{then-not-keeps+else-num_children-eq0+in-Some-1}
 use Rattle.rart_nodes.proofs.node.DefaultNode.finish.Goals.{then-not-keeps+else-num_children-eq0+in-None-1}
