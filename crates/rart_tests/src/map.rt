@@ -1,5 +1,6 @@
 //! Tests of the map.
 
+mod appended;
 mod calls;
 mod clones;
 mod drops;
@@ -11,5 +12,6 @@ mod names;
 mod no_requests;
 mod taken_in_turn;
 mod taken_prefixes;
+mod uncloned;
 mod updates;
 mod words;
