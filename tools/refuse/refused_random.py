@@ -1,6 +1,6 @@
 """The calls that look random, with requests for memory refused: `rart_random` under the library that refuses.
 
-The program itself asks for the refusals, one call of so many. A refused call must answer so and change nothing, and the
+The program itself requests the refusals, one call of so many. A refused call must answer so and change nothing, and the
 same call, made again, must answer as the model does.
 """
 import os

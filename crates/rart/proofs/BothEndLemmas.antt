@@ -21,13 +21,13 @@ module _ {A : Type 0} where
       → FrontStep n m x front rest back
   front-step n m x front rest back w e f =
       let given : take n front ≡ x ∷ take m rest = ap (take n) e ∙ ap (λ i. take i (x ∷ rest)) f in
-      let few : suc m ≤ length back = omega (arith, w.behind, f) in
+      let few : suc m ≤ length back = omega (arith, w.in_back, f) in
       let next : length back - m ≡ suc (length back - n) = omega (arith, few, f) in
       record {
         given = given;
         left = record {
-          ahead = omega (arith, w.ahead, f, ap length e);
-          behind = omega (arith, few);
+          in_front = omega (arith, w.in_front, f, ap length e);
+          in_back = omega (arith, few);
           same = sym (ap (λ d. drop d back) next
               ∙ drop-next (length back - n) x back (take m rest) (sym w.same ∙ given));
         };
@@ -46,7 +46,7 @@ module _ {A : Type 0} where
       → BackGiven n m x front rest
   given-back n m x front back rest w e f =
       let long : length back ≡ length rest + 1 = omega (arith, ap length e, length-append rest (x ∷ [])) in
-      let few : m ≤ length rest = omega (arith, w.behind, long, f) in
+      let few : m ≤ length rest = omega (arith, w.in_back, long, f) in
       let start : length back - n ≡ length rest - m = omega (arith, long, few, f) in
       let same : take n front ≡ drop (length rest - m) rest ++ x ∷ []
       = w.same ∙ ap (λ d. drop d back) start ∙ ap (drop (length rest - m)) e
@@ -59,7 +59,7 @@ module _ {A : Type 0} where
       ∙ take_all m (drop (length rest - m) rest) (omega (arith, size)) in
       record {
         given = same ∙ ap (λ z. z ++ x ∷ []) (sym first);
-        left = record { ahead = omega (arith, w.ahead, f); behind = few; same = first };
+        left = record { in_front = omega (arith, w.in_front, f); in_back = few; same = first };
       }
 
   pub back-step : (n m : ℕ) (x : A) (front down rest : List A) → AreLeft n front (reverse down) → down ≡ x ∷ rest

@@ -79,47 +79,47 @@ module _ (At : ℕ → List ℕ → Type 0) where
       rw is (subst (λ (z : ℕ). At z (get_or (ks ++ k ∷ []) i [])) s whole)
 
   -- what is stored at the places from j on
-  abbrev StandFrom : ℕ → List (List ℕ) → Type 0
-  StandFrom j ks = (i : ℕ) → i < length ks → At (j + i) (get_or ks i [])
+  abbrev AreKeysFrom : ℕ → List (List ℕ) → Type 0
+  AreKeysFrom j ks = (i : ℕ) → i < length ks → At (j + i) (get_or ks i [])
 
-  stand-tail : (j : ℕ) (k : List ℕ) (ks : List (List ℕ)) → StandFrom j (k ∷ ks) → StandFrom (suc j) ks
-  stand-tail j k ks h i l = let s : j + suc i ≡ suc j + i = omega arith in
+  keys-tail : (j : ℕ) (k : List ℕ) (ks : List (List ℕ)) → AreKeysFrom j (k ∷ ks) → AreKeysFrom (suc j) ks
+  keys-tail j k ks h i l = let s : j + suc i ≡ suc j + i = omega arith in
       subst (λ (z : ℕ). At z (get_or ks i [])) s (h (suc i) (omega (arith, l)))
 
-  stand-head : (j : ℕ) (k : List ℕ) (ks : List (List ℕ)) → StandFrom j (k ∷ ks) → At j k
-  stand-head j k ks h = let s : j + 0 ≡ j = omega arith in subst (λ (z : ℕ). At z k) s (h 0 (omega arith))
+  keys-head : (j : ℕ) (k : List ℕ) (ks : List (List ℕ)) → AreKeysFrom j (k ∷ ks) → At j k
+  keys-head j k ks h = let s : j + 0 ≡ j = omega arith in subst (λ (z : ℕ). At z k) s (h 0 (omega arith))
 
-  stand-all : (ks : List (List ℕ)) → AreKeysAt At ks → StandFrom 0 ks
-  stand-all ks h i l = let s : i ≡ 0 + i = omega arith in subst (λ (z : ℕ). At z (get_or ks i [])) s (h i l)
+  keys-all : (ks : List (List ℕ)) → AreKeysAt At ks → AreKeysFrom 0 ks
+  keys-all ks h i l = let s : i ≡ 0 + i = omega arith in subst (λ (z : ℕ). At z (get_or ks i [])) s (h i l)
 
   module _ (len : ℕ) (below : (i j : ℕ) (k l : List ℕ) → i < j → j < len → At i k → At j l → IsLess k l) where
-    above-from : (i j : ℕ) (k : List ℕ) (ks : List (List ℕ)) → i < j → j + length ks ≡ len → At i k → StandFrom j ks
+    above-from : (i j : ℕ) (k : List ℕ) (ks : List (List ℕ)) → i < j → j + length ks ≡ len → At i k → AreKeysFrom j ks
         → AreAbove k (lone_keys ks)
     above-from i j k [] l e a h = tt
     above-from i j k (q ∷ ks) l e a h = (
-      below i j k q l (omega (arith, e)) a (stand-head j q ks h),
+      below i j k q l (omega (arith, e)) a (keys-head j q ks h),
       above-from i
-          (suc j) k ks (omega (arith, l)) (omega (arith, e)) a (stand-tail j q ks h),
+          (suc j) k ks (omega (arith, l)) (omega (arith, e)) a (keys-tail j q ks h),
     )
 
-    ascend-from : (j : ℕ) (ks : List (List ℕ)) → j + length ks ≡ len → StandFrom j ks → IsAscending (lone_keys ks)
+    ascend-from : (j : ℕ) (ks : List (List ℕ)) → j + length ks ≡ len → AreKeysFrom j ks → IsAscending (lone_keys ks)
     ascend-from j [] e h = tt
     ascend-from j (k ∷ ks) e h = (
-      above-from j (suc j) k ks (omega arith) (omega (arith, e)) (stand-head j k ks h)
-          (stand-tail j k ks h),
-      ascend-from (suc j) ks (omega (arith, e)) (stand-tail j k ks h),
+      above-from j (suc j) k ks (omega arith) (omega (arith, e)) (keys-head j k ks h)
+          (keys-tail j k ks h),
+      ascend-from (suc j) ks (omega (arith, e)) (keys-tail j k ks h),
     )
 
     pub keys-ascend : (ks : List (List ℕ)) → length ks ≡ len → AreKeysAt At ks → IsAscending (lone_keys ks)
-    keys-ascend ks e h = ascend-from 0 ks (omega (arith, e)) (stand-all ks h)
+    keys-ascend ks e h = ascend-from 0 ks (omega (arith, e)) (keys-all ks h)
 
   module _ (m : Option ℕ) (within : (i : ℕ) (k : List ℕ) → At i k → IsWithin m (length k)) where
-    within-from : (j : ℕ) (ks : List (List ℕ)) → StandFrom j ks → AreWithin m ks
+    within-from : (j : ℕ) (ks : List (List ℕ)) → AreKeysFrom j ks → AreWithin m ks
     within-from j [] h = tt
-    within-from j (k ∷ ks) h = (within j k (stand-head j k ks h), within-from (suc j) ks (stand-tail j k ks h))
+    within-from j (k ∷ ks) h = (within j k (keys-head j k ks h), within-from (suc j) ks (keys-tail j k ks h))
 
     pub places-within : (ks : List (List ℕ)) → AreKeysAt At ks → AreWithin m ks
-    places-within ks h = within-from 0 ks (stand-all ks h)
+    places-within ks h = within-from 0 ks (keys-all ks h)
 
 -- keys and values determine pairs
 pub same-pairs : {V : Type 0} (xs ys : List (List ℕ × V)) → keys_of xs ≡ keys_of ys → values_of xs ≡ values_of ys

@@ -12,12 +12,12 @@ use Rattle.rart.specs.declared.tree.try_insert.TryInsertError.TheVariants as try
 
 module _ {V : Type 0} (old new : MapAndShape V) (key : List ℕ) (value : V) where
   -- a key that the error says is stored still is
-  pub stored_stands : (outcome : Result (Unit {0}) (NotInserted V)) → InsertsNew key value old.pairs new.pairs outcome
+  pub stored_present : (outcome : Result (Unit {0}) (NotInserted V)) → InsertsNew key value old.pairs new.pairs outcome
       → IfErr outcome (IsStoredAt new.pairs key)
-  stored_stands (Ok _) inserted = tt
-  stored_stands (Err (not_inserted.Stored proposed)) inserted
+  stored_present (Ok _) inserted = tt
+  stored_present (Err (not_inserted.Stored proposed)) inserted
       = subst (λ (pairs : List (List ℕ × V)). lookup key pairs ≢ None) (sym inserted.1) inserted.0.1
-  stored_stands (Err (not_inserted.Refused refused)) inserted = tt
+  stored_present (Err (not_inserted.Refused refused)) inserted = tt
 
   abbrev pub EndsAs : Result (Unit {0}) (TryInsertError V) → MapAndShape V → Type 0
   EndsAs answer tree = PutOrSame key value answer old tree

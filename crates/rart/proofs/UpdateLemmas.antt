@@ -102,10 +102,10 @@ module _ {V : Type 0} where
   kept k Keep w m (Err Not_removed) n law e s h = absurd (let z = h.0 in cc)
 
   -- a refused removal: what was left is at the key, and the old value is put back
-  pub stands-left : (k : List ℕ) (w : Option V) (m n : List (List ℕ × V)) → ((v : V) → lookup k (put k v m) ≡ Some v)
+  pub value-left : (k : List ℕ) (w : Option V) (m n : List (List ℕ × V)) → ((v : V) → lookup k (put k v m) ≡ Some v)
       → w ≢ None → n ≡ map_left k w m → lookup k n ≢ None
-  stands-left k None m n law s e = absurd (s refl)
-  stands-left k (Some w) m n law s e = λ z. let at = law w in let same = ap (lookup k) e in cc
+  value-left k None m n law s e = absurd (s refl)
+  value-left k (Some w) m n law s e = λ z. let at = law w in let same = ap (lookup k) e in cc
 
   pub back-left : (k : List ℕ) (w : Option V) (v : V) (m n u : List (List ℕ × V))
       → ((x y : V) → lookup k m ≡ Some x → put k x (put k y m) ≡ m) → w ≢ None → lookup k m ≡ Some v
@@ -161,7 +161,7 @@ module _ {F E V : Type 0} (sure : V → Type 0)
   -- its removal is refused: what it left is at the key, and the old value is put back
   module _ (x : Option V) (r : res ≡ Err Not_removed) (h : Attempts sure g f k m (Answered x) res n) where
     pub some-left : ((q : List ℕ) (v : V) (l : List (List ℕ × V)) → lookup q (put q v l) ≡ Some v) → lookup k n ≢ None
-    some-left law = let e = rw r at h.3 in stands-left k h.1 m n (λ v. law k v m) e.1 e.3
+    some-left law = let e = rw r at h.3 in value-left k h.1 m n (λ v. law k v m) e.1 e.3
 
     pub some-stood : x ≢ None
     some-stood = λ z. let e = rw r at h.3 in e.2.1 (sym (slot-is x (lookup k m) h.2.1) ∙ z)

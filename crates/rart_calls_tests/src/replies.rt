@@ -268,7 +268,7 @@ static OVERWRITTEN: [Row<'static>; 10] = [
 ];
 
 #[test]
-fn a_lent_value_is_changed_where_it_stands(rt: HostRuntime) {
+fn a_lent_value_is_changed_in_place(rt: HostRuntime) {
     assert_none_wrong(&rt, first_wrong::<ArrayKey<4>>(rt.alloc(), &OVERWRITTEN));
 }
 

@@ -216,15 +216,15 @@ module _ {T : Type 0} where
       q ≡ take (n / 8) o → x ≡ slice_index o (n / 8) → c ≡ code x (n % 8) → length (routes_of S) ≤ MAX_PAIRS
       → ((length (routes_of S) ≡ MAX_PAIRS) × (lookup (network o n) (routes_of S) ≡ None) → ⊥)
       → MayRefuseTarget S q (c ∷ []) error → MayRefuseRoute (routes_of S) (network o n) error
-  refused-route S o n q x c Memory a b f h e ex ec l room m = let none = absent S o n q x c a b f h e ex ec m.0 in (
+  refused-route S o n q x c Memory a b f h e ex ec l enough m = let none = absent S o n q x c a b f h e ex ec m.0 in (
     none,
-    ⊎_elim (λ g. g) (λ g. absurd (room (g, none))) (less_or_equal (length (routes_of S)) MAX_PAIRS l),
+    ⊎_elim (λ g. g) (λ g. absurd (enough (g, none))) (less_or_equal (length (routes_of S)) MAX_PAIRS l),
     λ g. m.1 (no-strides S a b g),
   )
-  refused-route S o n q x c Full a b f h e ex ec l room m = let none = absent S o n q x c a b f h e ex ec m.0 in
+  refused-route S o n q x c Full a b f h e ex ec l enough m = let none = absent S o n q x c a b f h e ex ec m.0 in
       absurd (⊎_elim
       (λ g. let full = m.1 (omega (arith, few-targets S q a b)) in omega (arith, full, few-strides S a b))
-      (λ g. room (g, none))
+      (λ g. enough (g, none))
       (less_or_equal (length (routes_of S)) MAX_PAIRS l))
 
   pub removed : (S R : List (List ℕ × List (List ℕ × T))) (o : List ℕ) (n : ℕ) (q : List ℕ) (x c : ℕ) (t : T)
@@ -269,13 +269,13 @@ module _ {T : Type 0} where
       → was ≡ None →
       routes_of S ≡ v → len ≡ length (routes_of S) → len ≤ MAX_PAIRS
       → ((length v ≡ MAX_PAIRS) × (lookup (network o n) v ≡ None) → ⊥) → AreTableFields R (len + 1)
-  new-route S R o n q x c t was v len a b f h e ex ec p w vs l m room = let i
+  new-route S R o n q x c t was v len a b f h e ex ec p w vs l m enough = let i
       = inserted S R o n q x c t was a b f h e ex ec p in record {
         formed = i.0;
         counted = omega (arith, l, i.3, ap count_of w);
         few = ⊎_elim
             (λ g. omega (arith, g))
-            (λ g. absurd (room (ap length (sym vs) ∙ sym l ∙ g, ap (lookup (network o n)) (sym vs) ∙ sym i.1 ∙ w)))
+            (λ g. absurd (enough (ap length (sym vs) ∙ sym l ∙ g, ap (lookup (network o n)) (sym vs) ∙ sym i.1 ∙ w)))
             (less_or_equal len MAX_PAIRS m);
       }
 
@@ -292,15 +292,16 @@ module _ {T : Type 0} where
       → q ≡ take (n / 8) o → x ≡ slice_index o (n / 8) → c ≡ code x (n % 8) → PutsTarget q (c ∷ []) t S R (Ok was) →
       routes_of S ≡ v → ((length v ≡ MAX_PAIRS) × (lookup (network o n) v ≡ None) → ⊥) → (was ≡ lookup (network o n) v)
       × (length v ≡ MAX_PAIRS → lookup (network o n) v ≢ None) × (routes_of R ≡ put (network o n) t v)
-  inserted-answer S R o n q x c t was v a b f h e ex ec p vs room = let i
+  inserted-answer S R o n q x c t was v a b f h e ex ec p vs enough = let i
       = inserted S R o n q x c t was a b f h e ex ec p in
-      (i.1 ∙ ap (lookup (network o n)) vs, λ g k. room (g, k), i.2 ∙ ap (put (network o n) t) vs)
+      (i.1 ∙ ap (lookup (network o n)) vs, λ g k. enough (g, k), i.2 ∙ ap (put (network o n) t) vs)
 
   pub refused-answer : (S : List (List ℕ × List (List ℕ × T))) (o : List ℕ) (n : ℕ) (q : List ℕ) (x c : ℕ)
       (error : TreeError) (v : List (List ℕ × T)) → IsAscending S → AreStrides S → AreBytes o → n ≤ 8 * length o
       → q ≡ take (n / 8) o → x ≡ slice_index o (n / 8) → c ≡ code x (n % 8) → length (routes_of S) ≤ MAX_PAIRS →
       routes_of S ≡ v → ((length v ≡ MAX_PAIRS) × (lookup (network o n) v ≡ None) → ⊥)
       → MayRefuseTarget S q (c ∷ []) error → MayRefuseRoute v (network o n) error
-  refused-answer S o n q x c error v a b f h e ex ec l vs room m = subst (λ z. MayRefuseRoute z (network o n) error) vs
+  refused-answer S o n q x c error v a b f h e ex ec l vs enough m = subst (λ z. MayRefuseRoute z
+      (network o n) error) vs
       (refused-route S o n q x c error a b f h e ex ec l
-      (λ g. room (ap length (sym vs) ∙ g.0, ap (lookup (network o n)) (sym vs) ∙ g.1)) m)
+      (λ g. enough (ap length (sym vs) ∙ g.0, ap (lookup (network o n)) (sym vs) ∙ g.1)) m)

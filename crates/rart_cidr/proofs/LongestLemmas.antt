@@ -97,16 +97,16 @@ module _ {T : Type 0} where
       → Some s ≡ lookup q S → x ≡ slice_index o at → most < 8 → 8 * at + most ≤ w
       → ((n : ℕ) → n / 8 ≡ at → n ≤ w → n % 8 ≤ most)
       → IsLongestIn s x most (Some (r, t)) → IsLongestAfter (routes_of S) o w at (Some (8 * at + r, t))
-  some_in_stride S o q w at x most r t s a b f room m h i small fits few p =
+  some_in_stride S o q w at x most r t s a b f enough m h i small fits few p =
       let short : r ≤ most = p.0 in
       let quotient : (8 * at + r) / 8 ≡ at = omega (arith, short, small) in
       let rest : (8 * at + r) % 8 ≡ r = omega (arith, short, small) in
       let within : 8 * at + r ≤ w = omega (arith, short, fits) in (
         quotient,
         within,
-        seen-stride S o q at (8 * at + r) x (Some s) a b f quotient (omega (arith, within, room)) m h i
+        seen-stride S o q at (8 * at + r) x (Some s) a b f quotient (omega (arith, within, enough)) m h i
             ∙ ap (in_stride s x) rest ∙ p.1,
-        λ n g e l. seen-stride S o q at n x (Some s) a b f e (omega (arith, l, room)) m h i
+        λ n g e l. seen-stride S o q at n x (Some s) a b f e (omega (arith, l, enough)) m h i
             ∙ p.2 (n % 8) (omega (arith, g, e)) (few n e l),
       )
 
@@ -114,7 +114,7 @@ module _ {T : Type 0} where
   no-longer : (S : List (List ℕ × List (List ℕ × T))) (o : List ℕ) (w at count k : ℕ) → IsAscending S → AreStrides S
       → AreBytes o → w ≤ 8 * length o → at ≤ length o → count ≤ at → HasNoLonger (take count o) (take at o) S
       → count < k → k ≤ at → HasNoneAfter (routes_of S) o w k
-  no-longer S o w at count k a b f g room fits none more within = no_stride S o (take k o) w k a b f g refl
+  no-longer S o w at count k a b f g enough fits none more within = no_stride S o (take k o) w k a b f g refl
       (elim (lookup (take k o) S) as (λ s. lookup (take k o) S ≡ s → None ≡ s) [
         | None ↦ λ e. refl
         | Some s ↦ λ e. absurd (let stored = none (take k o) (λ m. let c = sym e ∙ m in cc)
@@ -123,8 +123,8 @@ module _ {T : Type 0} where
               arith,
               stored,
               more,
-              length-take-le k o (omega (arith, within, room)),
-              length-take-le count o (omega (arith, fits, room)),
+              length-take-le k o (omega (arith, within, enough)),
+              length-take-le count o (omega (arith, fits, enough)),
             ))
       ] refl)
 
@@ -141,14 +141,14 @@ module _ {T : Type 0} where
       → q ≡ take at o → count ≤ length q → Some (take count q, s) ≡ longest_match q S
       → (Some s ≡ lookup (take count o) S → IsLongestAfter (routes_of S) o w count r)
       → IsLastStride (routes_of S) o w at (Some (count, r))
-  last-some S o q w at count s r a b f g room is within found after =
-      let fits : count ≤ at = omega (arith, within, ap length is, length-take-le at o room) in
+  last-some S o q w at count s r a b f g enough is within found after =
+      let fits : count ≤ at = omega (arith, within, ap length is, length-take-le at o enough) in
       let way : take count q ≡ take count o = ap (take count) is ∙ taken-network count at o fits in
       let longest : IsLongest (take count o) s (take at o) S = longest-stored (take count o) (take at o) s S a
       (ap (λ z. longest_match z S) (sym is) ∙ sym found ∙ ap (λ z. Some (z, s)) way) in (
         fits,
         after (sym longest.0),
-        λ k more l. no-longer S o w at count k a b f g room fits longest.2 more l,
+        λ k more l. no-longer S o w at count k a b f g enough fits longest.2 more l,
       )
 
   -- octets without a network before those that have none
@@ -172,15 +172,15 @@ module _ {T : Type 0} where
   pub is_longest : (v : List (List ℕ × T)) (o : List ℕ) (w at low n : ℕ) (t : T) → w ≤ 8 * length o → low ≤ 8 * at + 8
       → IsAscending v → IsLongestAfter v o w at (Some (n, t)) → HasNoneFrom v o w low
       → ◌≡◌ {A = Option (List ℕ × T)} (Some (take n (network o w), t)) (longest_match (network o w) v)
-  is_longest v o w at low n t room b a p none =
+  is_longest v o w at low n t enough b a p none =
       let same : take n (network o w) ≡ network o n = taken-network n w (bits_of o) p.1 in
-      let wide : length (network o w) ≡ w = length-take-le w (bits_of o) (omega (arith, room, length-bits o)) in
+      let wide : length (network o w) ≡ w = length-take-le w (bits_of o) (omega (arith, enough, length-bits o)) in
       let long : length (take n (network o w)) ≡ n = length-take-le n (network o w) (omega (arith, p.1, wide)) in
       sym (stored-longest (take n (network o w)) (network o w) t v a (
         ap (λ z. lookup z v) same ∙ p.2,
         begins-take n (network o w),
         λ k stored f. ⊎_elim
-            (λ g. let h = stored-begins v o k w room f in
+            (λ g. let h = stored-begins v o k w enough f in
             absurd (stored (ap (λ z. lookup z v) (sym h.0) ∙ ⊎_elim
             (λ i. p.3 (length k) (omega (arith, g, long)) (omega (arith, g, long, p.0, i)) h.1)
             (λ i. none (length k) (omega (arith, i, b)) h.1)
@@ -191,11 +191,11 @@ module _ {T : Type 0} where
 
   pub has_none : (v : List (List ℕ × T)) (o : List ℕ) (w : ℕ) → w ≤ 8 * length o → IsAscending v
       → HasNoneFrom v o w 0 → None ≡ longest_match (network o w) v
-  has_none v o w room a none =
+  has_none v o w enough a none =
       elim (longest_match (network o w) v) as (λ r. longest_match (network o w) v ≡ r → None ≡ r) [
         | None ↦ λ e. refl
         | Some f ↦ λ e. let p = longest-stored f.0 (network o w) f.1 v a e in
-            let h = stored-begins v o f.0 w room p.1 in
+            let h = stored-begins v o f.0 w enough p.1 in
             absurd (let m = sym p.0 ∙ ap (λ z. lookup z v) (sym h.0) ∙ none (length f.0) (omega arith) h.1 in cc)
       ] refl
 
@@ -213,7 +213,7 @@ module _ {T : Type 0} where
   pub found-at : (v : List (List ℕ × T)) (o : List ℕ) (w n : ℕ) (t : T) → w ≤ 8 * length o → n ≤ w → IsAscending v
       → Some t ≡ lookup (network o n) v → HasNoneFrom v o w (n + 1)
       → ◌≡◌ {A = Option (List ℕ × T)} (Some (take n (network o w), t)) (longest_match (network o w) v)
-  found-at v o w n t room h a e none = is_longest v o w (n / 8) (n + 1) n t room (omega arith) a
+  found-at v o w n t enough h a e none = is_longest v o w (n / 8) (n + 1) n t enough (omega arith) a
       (refl, h, sym e, λ m g i l. none m (omega (arith, g)) l) none
 
   -- nor with one bit fewer

@@ -146,8 +146,8 @@ module _ {T : Type 0} where
   pub is_next : (v : List (List ℕ × T)) (o : List ℕ) (w low from n : ℕ) (t : T) → w ≤ 8 * length o → IsAscending v
       → low ≤ from → HasNoneBetween v o w low from → IsFirstAfter v o w from (Some (n, t))
       → IsNextMatch low (network o w) v (Some (n, t))
-  is_next v o w low from n t room a g none p =
-      let wide : length (network o w) ≡ w = length-take-le w (bits_of o) (omega (arith, room, length-bits o)) in
+  is_next v o w low from n t enough a g none p =
+      let wide : length (network o w) ≡ w = length-take-le w (bits_of o) (omega (arith, enough, length-bits o)) in
       next_is low n (network o w) t v a (omega (arith, g, p.0)) (omega (arith, wide, p.2))
       (first-bits v o w n p.2 ∙ p.3)
       (λ m i j. first-bits v o w m (omega (arith, j, p.2)) ∙ ⊎_elim
@@ -157,8 +157,8 @@ module _ {T : Type 0} where
 
   pub has_no_next : (v : List (List ℕ × T)) (o : List ℕ) (w low from : ℕ) → w ≤ 8 * length o → w < from
       → HasNoneBetween v o w low from → IsNextMatch low (network o w) v None
-  has_no_next v o w low from room g none =
-      let wide : length (network o w) ≡ w = length-take-le w (bits_of o) (omega (arith, room, length-bits o)) in
+  has_no_next v o w low from enough g none =
+      let wide : length (network o w) ≡ w = length-take-le w (bits_of o) (omega (arith, enough, length-bits o)) in
       no_matches low (network o w) v
       (λ m i j. let l : m ≤ w = omega (arith, j, wide) in
       first-bits v o w m l ∙ none m i (omega (arith, l, g)) l)

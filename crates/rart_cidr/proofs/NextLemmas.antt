@@ -14,7 +14,7 @@ use Rattle.rart_cidr.specs.Walks.{HasNoneDownTo, IsBefore, IsCodeFrom, IsCodeLes
 use Rattle.rart_cidr.specs.Walks.{IsNextIn, net_at}
 use Rattle.rart_cidr.proofs.BitLemmas.{code-in_range, code-is, code-short, holds_below}
 use Rattle.rart_cidr.proofs.CodeLemmas.{none_after_last}
-use Rattle.rart_cidr.proofs.PlaceLemmas.{before_more, bits_append, bytes_begun, first_bits, fork_bits}
+use Rattle.rart_cidr.proofs.PlaceLemmas.{before_more, bits_append, bytes_begun, first_bits, split_bits}
 use Rattle.rart_cidr.proofs.PlaceLemmas.{not-both_less, not-less_itself, not-less_nil, past, seven}
 use Rattle.rart_cidr.proofs.PlaceLemmas.{strip_some}
 use Rattle.rart_cidr.proofs.PlaceLemmas.{strip_taken, up_to_more, with_end, without_end, without_prefix}
@@ -156,15 +156,15 @@ from_within o c at from last ahead h b f g =
 fewer-after : (o : List ℕ) (c d few at e : ℕ) → few < at → at ≤ length o → IsCode (d ∷ [])
     → IsLess (net_at o c) (net_at (take few o) d) → IsLess (net_at (take few o) d) (net_at (take at o) e) → ⊥
 fewer-after o c d few at e l h f m n =
-    let fork = fork_bits o (code_bits c) (code_bits e) few at l h in
+    let split = split_bits o (code_bits c) (code_bits e) few at l h in
     let x = slice_index o few in
-    let one = without_end (seven x) fork.0 (code_bits d) (few-bits x d f)
-    (without_prefix (bits_of (take few o)) (seven x ++ fork.0) (code_bits d)
-    (subst (λ z. IsLess z (net_at (take few o) d)) fork.2 m)) in
-    not-both_less (code_bits d) (seven x ++ fork.1)
-    (without_prefix (bits_of (take few o)) (code_bits d) (seven x ++ fork.1)
-    (subst (λ z. IsLess (net_at (take few o) d) z) fork.3 n))
-    (with_end (seven x) fork.1 (code_bits d) (few-bits x d f) one)
+    let one = without_end (seven x) split.0 (code_bits d) (few-bits x d f)
+    (without_prefix (bits_of (take few o)) (seven x ++ split.0) (code_bits d)
+    (subst (λ z. IsLess z (net_at (take few o) d)) split.2 m)) in
+    not-both_less (code_bits d) (seven x ++ split.1)
+    (without_prefix (bits_of (take few o)) (code_bits d) (seven x ++ split.1)
+    (subst (λ z. IsLess (net_at (take few o) d) z) split.3 n))
+    (with_end (seven x) split.1 (code_bits d) (few-bits x d f) one)
 
 module _ {T : Type 0} where
   pub next_in_stride : (S : List (List ℕ × List (List ℕ × T))) (o : List ℕ) (c at from last : ℕ)

@@ -140,12 +140,12 @@ first_bits (x ∷ o) w (suc at) h = let rest = first_bits o w at (omega (arith, 
     (rest.0, ap (λ z. byte_bits x ++ z) rest.1)
 
 -- those of octets and of their first ones, by those of fewer
-pub fork_bits : (o w v : List ℕ) (few at : ℕ) → few < at → at ≤ length o → (r : List ℕ) × (s : List ℕ)
+pub split_bits : (o w v : List ℕ) (few at : ℕ) → few < at → at ≤ length o → (r : List ℕ) × (s : List ℕ)
     × (bits_of o ++ w ≡ bits_of (take few o) ++ (seven (slice_index o few) ++ r))
     × (bits_of (take at o) ++ v ≡ bits_of (take few o) ++ (seven (slice_index o few) ++ s))
-fork_bits [] w v few at l h = absurd (omega (arith, l, h))
-fork_bits (x ∷ o) w v few zero l h = absurd (omega (arith, l))
-fork_bits (x ∷ o) w v zero (suc at) l h = (x % 2 ∷ bits_of o ++ w, x % 2 ∷ bits_of (take at o) ++ v, refl, refl)
-fork_bits (x ∷ o) w v (suc few) (suc at) l h =
-    let rest = fork_bits o w v few at (omega (arith, l)) (omega (arith, h)) in
+split_bits [] w v few at l h = absurd (omega (arith, l, h))
+split_bits (x ∷ o) w v few zero l h = absurd (omega (arith, l))
+split_bits (x ∷ o) w v zero (suc at) l h = (x % 2 ∷ bits_of o ++ w, x % 2 ∷ bits_of (take at o) ++ v, refl, refl)
+split_bits (x ∷ o) w v (suc few) (suc at) l h =
+    let rest = split_bits o w v few at (omega (arith, l)) (omega (arith, h)) in
     (rest.0, rest.1, ap (λ z. byte_bits x ++ z) rest.2, ap (λ z. byte_bits x ++ z) rest.3)

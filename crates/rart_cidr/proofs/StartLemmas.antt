@@ -88,8 +88,8 @@ start_within o a n f h e m clear p g =
     let bytes : AreBytes a = subst AreBytes (sym m) (AreBytes-take (n / 8 + 1) o f) in
     let long : length a ≡ n / 8 + 1 = ap length m ∙ length-take-le (n / 8 + 1) o (omega (arith, h, some)) in
     let bits = length-bits a in
-    let room = length-bits o in
-    let wide : length (network o n) ≡ n = length-take-le n (bits_of o) (omega (arith, h, room)) in
+    let enough = length-bits o in
+    let wide : length (network o n) ≡ n = length-take-le n (bits_of o) (omega (arith, h, enough)) in
     let q-begins : begins (network o n) (bits_of o) ≡ true
     = ap (begins (network o n)) (sym (take-append-drop n (bits_of o)))
     ∙ begins-more (network o n) (drop n (bits_of o)) in

@@ -24,7 +24,7 @@ pub zeros-two_parts : (size s : ℕ) (xs ys us vs : List ℕ) → us ≡ xs → 
     put_mid (s + length xs) (length inner - (s + length xs)) inner vs) ≡ replicate s 0 ++ xs ++ ys
 zeros-two_parts size s xs ys us vs e f h =
     let zs : List ℕ = replicate size 0 in
-    let room : s ≤ size = omega arith in
+    let enough : s ≤ size = omega arith in
     let inner = put_mid s (s + length xs - s) zs us in
     let front : take (s + length xs) inner ≡ replicate s 0 ++ xs =
     take-put_mid s (s + length xs - s) zs us (s + length xs) (ap (λ l. s + length l) (sym e))

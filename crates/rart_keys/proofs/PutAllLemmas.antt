@@ -25,13 +25,13 @@ module _ {V : Type 0} where
   all-ascend [] m h = h
   all-ascend (e ∷ es) m h = all-ascend es (put e.0 e.1 m) (ascending-put e.0 e.1 m h)
 
-  found-stands : (q : List ℕ) (v : V) (es : List (List ℕ × V)) → lookup q es ≡ Some v → Contains es (q, v)
-  found-stands q v [] h = absurd (cc)
-  found-stands q v (e ∷ es) h = elim (bytes_eq e.0 q) as (λ b. bytes_eq e.0 q ≡ b
+  found-contained : (q : List ℕ) (v : V) (es : List (List ℕ × V)) → lookup q es ≡ Some v → Contains es (q, v)
+  found-contained q v [] h = absurd (cc)
+  found-contained q v (e ∷ es) h = elim (bytes_eq e.0 q) as (λ b. bytes_eq e.0 q ≡ b
       → (if b then Some e.1 else lookup q es) ≡ Some v → Contains (e ∷ es) (q, v)) [
         | true ↦ λ m s. let k : e.0 ≡ q = bytes_eq-equal e.0 q m in let w : e.1 ≡ v = cc in
             contains-first e es (q, v) (ap (λ z. (z, e.1)) k ∙ ap (λ z. (q, z)) w)
-        | false ↦ λ m s. contains-after e es (q, v) (found-stands q v es s)
+        | false ↦ λ m s. contains-after e es (q, v) (found-contained q v es s)
       ] refl h
 
   above-contained : (k q : List ℕ) (v : V) (es : List (List ℕ × V)) → AreAbove k es → Contains es (q, v) → IsLess k q
@@ -39,13 +39,13 @@ module _ {V : Type 0} where
   above-contained k q v (e ∷ es) a c = ⊎_elim (λ s. let t : e.0 ≡ q = ap (λ z. z.0) s in rw (← t) a.0)
       (λ s. above-contained k q v es a.1 s) (contains-split e es (q, v) c)
 
-  stands-found : (q : List ℕ) (v : V) (es : List (List ℕ × V)) → IsAscending es → Contains es (q, v)
+  contained-found : (q : List ℕ) (v : V) (es : List (List ℕ × V)) → IsAscending es → Contains es (q, v)
       → lookup q es ≡ Some v
-  stands-found q v [] a c = absurd (omega (arith, c.1))
-  stands-found q v (e ∷ es) a c = ⊎_elim
+  contained-found q v [] a c = absurd (omega (arith, c.1))
+  contained-found q v (e ∷ es) a c = ⊎_elim
       (λ s. let k : e.0 ≡ q = ap (λ z. z.0) s in let w : e.1 ≡ v = ap (λ z. z.1) s in let m : bytes_eq e.0 q ≡ true
       = ap (λ z. bytes_eq z q) k ∙ bytes_eq-itself q in rw m (ap Some w))
-      (λ s. rw (below-not_eq e.0 q (above-contained e.0 q v es a.0 s)) (stands-found q v es a.1 s))
+      (λ s. rw (below-not_eq e.0 q (above-contained e.0 q v es a.0 s)) (contained-found q v es a.1 s))
       (contains-split e es (q, v) c)
 
   absent-stays : (q : List ℕ) (es m : List (List ℕ × V)) → ((w : V) → Contains es (q, w) → ⊥)
@@ -56,10 +56,10 @@ module _ {V : Type 0} where
       absent-stays q es (put e.0 e.1 m) (λ w c. n w (contains-after e es (q, w) c)) ∙ lookup-put q e.0 e.1 m
       ∙ ap (λ b. if b then Some e.1 else lookup q m) (bytes_eq-differ e.0 q other)
 
-  one-stands : (q : List ℕ) (v : V) (es m : List (List ℕ × V)) → ((w : V) → Contains es (q, w) → w ≡ v)
+  one-contained : (q : List ℕ) (v : V) (es m : List (List ℕ × V)) → ((w : V) → Contains es (q, w) → w ≡ v)
       → Contains es (q, v) ⊎ (lookup q m ≡ Some v) → lookup q (put_all es m) ≡ Some v
-  one-stands q v [] m u h = ⊎_elim (λ c. absurd (omega (arith, c.1))) (λ s. s) h
-  one-stands q v (e ∷ es) m u h = one-stands q v es (put e.0 e.1 m) (λ w c. u w (contains-after e es (q, w) c))
+  one-contained q v [] m u h = ⊎_elim (λ c. absurd (omega (arith, c.1))) (λ s. s) h
+  one-contained q v (e ∷ es) m u h = one-contained q v es (put e.0 e.1 m) (λ w c. u w (contains-after e es (q, w) c))
       (elim (bytes_eq e.0 q) as (λ b. bytes_eq e.0 q ≡ b → Contains es (q, v) ⊎ (lookup q (put e.0 e.1 m) ≡ Some v)) [
         | true ↦ λ s. let k : e.0 ≡ q = bytes_eq-equal e.0 q s in
             inr (lookup-put q e.0 e.1 m ∙ ap (λ b. if b then Some e.1 else lookup q m) s
@@ -74,13 +74,13 @@ module _ {V : Type 0} where
   any-order xs ys up p = equal_by_lookups (put_all ys []) xs (all-ascend ys [] tt) up (λ q. at q)
     where
       back : (q : List ℕ) (w : V) → Contains ys (q, w) → lookup q xs ≡ Some w
-      back q w c = stands-found q w xs up (Contains-permutation ys xs (q, w) (IsPermutation-sym xs ys p) c)
+      back q w c = contained-found q w xs up (Contains-permutation ys xs (q, w) (IsPermutation-sym xs ys p) c)
 
       at : (q : List ℕ) → lookup q (put_all ys []) ≡ lookup q xs
       at q = elim (lookup q xs) as (λ o. lookup q xs ≡ o → lookup q (put_all ys []) ≡ o) [
         | None ↦ λ n. absent-stays q ys [] (λ w c. let s = back q w c in cc)
-        | Some v ↦ λ s. one-stands q v ys [] (λ w c. let t = back q w c in
-            cc) (inl (Contains-permutation xs ys (q, v) p (found-stands q v xs s)))
+        | Some v ↦ λ s. one-contained q v ys [] (λ w c. let t = back q w c in
+            cc) (inl (Contains-permutation xs ys (q, v) p (found-contained q v xs s)))
       ] refl
 
 module _ {V : Type 0} where

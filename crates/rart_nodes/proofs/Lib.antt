@@ -3,6 +3,7 @@ pub mod edits
 pub mod joins
 pub mod ranges
 pub mod removals
+pub mod retentions
 pub mod shapes
 pub mod statistics
 pub mod storages

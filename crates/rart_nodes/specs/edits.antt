@@ -10,6 +10,8 @@ pub mod NodeEdits
 pub mod Pops
 pub mod PrefixRemovals
 pub mod RemoveAllocations
+pub mod RetainSteps
+pub mod Retentions
 pub mod Slots
 pub mod TreeUpdates
 pub mod Updates

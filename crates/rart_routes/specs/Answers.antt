@@ -68,8 +68,8 @@ IsLineOf all line = (routes : List (Net × ArrayKey TARGET_SIZE)) × (routes_in 
 
 -- the line for these routes, or for a refusal
 abbrev pub IsLineOfWalk : List ((ℕ × List ℕ) × ArrayKey TARGET_SIZE) → (TreeError → Type 0) → List ℕ → Type 0
-IsLineOfWalk all MayRefuse line = IsLineOf all line
-    ⊎ ((error : TreeError) × MayRefuse error × (line ≡ refusal_line error))
+IsLineOfWalk all MayFail line = IsLineOf all line
+    ⊎ ((error : TreeError) × MayFail error × (line ≡ refusal_line error))
 
 -- the command prints this line on the tables old, and leaves the tables new
 abbrev pub PrintsAnswer : Command → Tables → List ℕ → Tables → Type 0

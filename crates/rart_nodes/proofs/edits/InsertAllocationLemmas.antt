@@ -79,14 +79,14 @@ needs_read = record {
 }
 
 module _ {V : Type 0} where
-  abbrev asked_along : List ℕ → Option (Trie V) → Option Bool
-  asked_along q o = option_map (λ t. needs_by (records_in (Some t)) q) o
+  abbrev allocates_along : List ℕ → Option (Trie V) → Option Bool
+  allocates_along q o = option_map (λ t. needs_by (records_in (Some t)) q) o
 
   allocates-below : (m n b : ℕ) (r : List ℕ) (cs : Children V) → n ≡ capacity_of m → AreCanonical 0 cs →
       not (is_some (descend_child records b (b ∷ r) cs) || (if any_along (λ z. descend_child records b (b ∷ z) cs) r
       then last_takes (λ z. descend_child records b (b ∷ z) cs) r
       else has_free_slot m && not (list_any (λ c. c == b) (edges_of cs))))
-      ≡ unwrap_or (asked_along (b ∷ r) (child_of b cs)) (nat_le n m)
+      ≡ unwrap_or (allocates_along (b ∷ r) (child_of b cs)) (nat_le n m)
   allocates-below m n b r cs c w =
       let same : (z : List ℕ) → descend_child records b (b ∷ z) cs ≡ records_in (child_of b cs) (b ∷ z)
       = λ z. descend-child_of records b 0 (b ∷ z) cs w in
@@ -101,14 +101,14 @@ module _ {V : Type 0} where
       (elim (child_of b cs) as (λ o. child_of b cs ≡ o
       → not (is_some (records_in o (b ∷ r)) ||
       (if any_along (λ z. records_in o (b ∷ z)) r then last_takes (λ z. records_in o (b ∷ z)) r
-      else has_free_slot m && not (is_some o))) ≡ unwrap_or (asked_along (b ∷ r) o) (nat_le n m)) [
+      else has_free_slot m && not (is_some o))) ≡ unwrap_or (allocates_along (b ∷ r) o) (nat_le n m)) [
         | None ↦ λ e. rw (none_any r, and-true (has_free_slot m)) (sym (slot_is m n c))
         | Some t ↦ λ e. ap (λ z. not (is_some (records_in (Some t) (b ∷ r)) || z))
             (rw (and-false (has_free_slot m)) (no_last (λ z. records_in (Some t) (b ∷ z)) r)
             ∙ sym (last-none (records_in (Some t)) b r (sym (ap (λ o. records_in o []) e) ∙ none-first b cs w)))
       ] refl)
 
-  allocates-kept : Keeps {V = V} put_allocation (λ q o a. a ≡ asked_along q o)
+  allocates-kept : Keeps {V = V} put_allocation (λ q o a. a ≡ allocates_along q o)
   allocates-kept = record {
     absent = λ q. refl;
     left = λ q p v n cs w s. ap Some (sym (reads-apart (λ f q a. needs_by f q ≡ a) needs_read p q v n cs true s
@@ -130,7 +130,7 @@ module _ {V : Type 0} where
   pub allocates-insert : (q : List ℕ) (t : Trie V) → IsCanonical t → trie_put_allocates q t ≡ insert_allocates
       (keys_of (pairs_of t)) q
   allocates-insert q t w = ap (λ o. unwrap_or o false)
-      (descends put_allocation (λ q o a. a ≡ asked_along q o) allocates-kept q (Some t) w)
+      (descends put_allocation (λ q o a. a ≡ allocates_along q o) allocates-kept q (Some t) w)
       ∙ ap (λ o. not (is_some o || last_takes (λ z. descend records z t) q)) (records-at q t w)
       ∙ ap (λ z. not (is_some (record_at (keys_of (pairs_of t)) q) || z))
       (same_last (λ p. descend records p t) (record_at (keys_of (pairs_of t))) q (λ p. records-at p t w))

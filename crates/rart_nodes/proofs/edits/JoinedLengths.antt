@@ -21,7 +21,7 @@ module _ {V : Type 0} where
   prefix-before p v w cs c = longest_key-after p (own_pair v ++ children_pairs cs) (some-after p v w cs c)
 
   -- the paths to the children are parts of keys
-  joins-children : (m : Option ℕ) (p : List ℕ) (n low : ℕ) (cs : Children V) → AreCanonical low cs
+  pub joins-children : (m : Option ℕ) (p : List ℕ) (n low : ℕ) (cs : Children V) → AreCanonical low cs
       → longest_key (children_pairs cs) ≤ n → IsWithin m (length p + n) → JoinsWithin m p cs
   joins-children m p n low no_children c l h = tt
   joins-children m p n low (child b t cs) c l h =

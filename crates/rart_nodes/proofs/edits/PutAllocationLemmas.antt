@@ -13,9 +13,9 @@ use Rattle.rart_nodes.proofs.tries.CanonicalTests.{true-le}
 use Rattle.rart_nodes.proofs.tries.RestLemmas.{Follows}
 
 -- an allocation below is one of the node, whatever the parent says of a new child or a lost one
-pub asked : (o : Option Bool) (parent : Bool) → unwrap_or o false ≡ true → unwrap_or o parent ≡ true
-asked None parent h = absurd (cc)
-asked (Some z) parent h = h
+pub allocated : (o : Option Bool) (parent : Bool) → unwrap_or o false ≡ true → unwrap_or o parent ≡ true
+allocated None parent h = absurd (cc)
+allocated (Some z) parent h = h
 
 module _ {V : Type 0} where
   -- a new leaf beside as many children as the capacity
@@ -34,4 +34,4 @@ module _ {V : Type 0} {p k r : List ℕ} {v : Option V} {w b : ℕ} {t : Trie V}
   put_allocation-below below = let t' = node p v w (as_children es) in
       ap (λ o. unwrap_or o false) (descend-followed put_allocation p k r b v w (as_children es) f.left f.first)
       ∙ ap (λ o. unwrap_or o (is_full t')) (descend-at put_allocation b 0 r (Some t) es f.canonical.2 f.there)
-      ∙ asked (descend put_allocation r t) (is_full t') below
+      ∙ allocated (descend put_allocation r t) (is_full t') below

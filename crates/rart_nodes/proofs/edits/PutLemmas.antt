@@ -48,9 +48,9 @@ module _ {V : Type 0} where
       (order c b)
 
   -- two children: one of them doesn't have the key
-  trie_lookup-fork_left : (c b d : ℕ) (q : List ℕ) (t u : Trie V) → (b ≡ d → ⊥) → StartsWith b (prefix_of t)
+  trie_lookup-split_left : (c b d : ℕ) (q : List ℕ) (t u : Trie V) → (b ≡ d → ⊥) → StartsWith b (prefix_of t)
       → StartsWith d (prefix_of u) → (d ≡ c → ⊥) → child_lookup c (c ∷ q) (two_children b t d u) ≡ trie_lookup (c ∷ q) t
-  trie_lookup-fork_left c b d q t u n f g z = ⊎_elim
+  trie_lookup-split_left c b d q t u n f g z = ⊎_elim
       (λ h. rw (is_less b d h, trie_lookup-pair c b d q t u h f g, trie_lookup-other c d q u g z)
       (or_none (trie_lookup (c ∷ q) t)))
       (⊎_elim (λ h. absurd (n h)) (λ h. rw (
@@ -60,9 +60,9 @@ module _ {V : Type 0} where
             q u g z,
       ) refl)) (order b d)
 
-  trie_lookup-fork_right : (c b d : ℕ) (q : List ℕ) (t u : Trie V) → (b ≡ d → ⊥) → StartsWith b (prefix_of t)
+  trie_lookup-split_right : (c b d : ℕ) (q : List ℕ) (t u : Trie V) → (b ≡ d → ⊥) → StartsWith b (prefix_of t)
       → StartsWith d (prefix_of u) → (b ≡ c → ⊥) → child_lookup c (c ∷ q) (two_children b t d u) ≡ trie_lookup (c ∷ q) u
-  trie_lookup-fork_right c b d q t u n f g z = ⊎_elim
+  trie_lookup-split_right c b d q t u n f g z = ⊎_elim
       (λ h. rw (is_less b d h, trie_lookup-pair c b d q t u h f g, trie_lookup-other c b q t f z) refl)
       (⊎_elim (λ h. absurd (n h)) (λ h. rw (
         is_greater b d h,
@@ -94,10 +94,10 @@ module _ {V : Type 0} where
       ≡ (if (if z then bytes_eq k q else false) then Some v
       else (if z then trie_lookup q (node p old n cs) else None))) [ true ↦ refl | false ↦ refl ]))
       (λ d. rw (eq-no x y d) (⊎_elim
-      (λ e. trie_lookup-fork_right c x y q (node (x ∷ p) old n cs) (leaf (y ∷ k) v) d refl refl (λ z. d (z ∙ sym e))
+      (λ e. trie_lookup-split_right c x y q (node (x ∷ p) old n cs) (leaf (y ∷ k) v) d refl refl (λ z. d (z ∙ sym e))
       ∙ trie_lookup-leaf (c ∷ q) (y ∷ k) v ∙ rw (trie_lookup-other c x q (node (x ∷ p) old n cs) refl
       (λ z. d (z ∙ sym e))) refl)
-      (λ z. trie_lookup-fork_left c x y q (node (x ∷ p) old n cs) (leaf (y ∷ k) v) d refl refl z
+      (λ z. trie_lookup-split_left c x y q (node (x ∷ p) old n cs) (leaf (y ∷ k) v) d refl refl z
       ∙ rw (eq-no y c z) refl)
       (equal_or_not y c)))
       (equal_or_not x y)

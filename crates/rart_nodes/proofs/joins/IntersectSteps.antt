@@ -31,7 +31,7 @@ count-after [] p q a f g = refl
 count-after (c ∷ w) p q a f g = rw (eq-yes c c refl) (count-after w p q a f g)
 
 module _ {V W : Type 0} where
-  -- the meeting of two trees, of which either may be empty
+  -- the intersection of two trees, of which either may be empty
   abbrev pub met : Option (Trie V) → Option (Trie W) → List (List ℕ × (V × W))
   met None u = []
   met (Some t) None = []

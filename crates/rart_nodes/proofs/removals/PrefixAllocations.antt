@@ -16,7 +16,7 @@ use Rattle.rart_nodes.specs.tries.Trie.{children_pairs, pairs_of, prefix_of, rec
 use Rattle.rart_nodes.specs.tries.Trie.{AreCanonical}
 use Rattle.rart_nodes.specs.tries.Tree.{tree_pairs}
 use Rattle.rart_nodes.specs.tries.TrieCode.{as_children}
-use Rattle.rart_nodes.proofs.edits.PutAllocationLemmas.{asked}
+use Rattle.rart_nodes.proofs.edits.PutAllocationLemmas.{allocated}
 use Rattle.rart_nodes.proofs.removals.PrefixFilters.{longer-not_begins}
 use Rattle.rart_nodes.proofs.removals.RemoveAllocationLemmas.{moves_is, same_before}
 use Rattle.rart_nodes.proofs.removals.RemoveAllocationSteps.{moves-yes}
@@ -117,7 +117,7 @@ module _ {V : Type 0} where
       → Some t ≡ child_at b es → trie_take_prefix_allocates None rest t ≡ true
       → trie_take_prefix_allocates None k (node p v w (as_children es)) ≡ true
   allocates_take-below p k rest v w b t es c e h at allocates = takes-step p k rest v w b t es c e h at
-      ∙ asked (descend take_prefix_allocation rest t) (moves_down (Some (record_of (node p v w
+      ∙ allocated (descend take_prefix_allocation rest t) (moves_down (Some (record_of (node p v w
       (as_children es))))) allocates
 
   whole-allocates : (k : List ℕ) (t : Trie V) → begins k (prefix_of t) ≡ true → descend take_prefix_allocation k t

@@ -11,7 +11,7 @@ use Rattle.rart_nodes.specs.shapes.Shape.{capacity_of}
 use Rattle.rart_nodes.specs.tries.Trie.{Trie, node, no_children, child, by_rest, descend, edges_of, record_of}
 use Rattle.rart_nodes.specs.tries.TrieCode.{as_children}
 use Rattle.rart_nodes.specs.storages.Capacities.{previous_capacity}
-use Rattle.rart_nodes.proofs.edits.PutAllocationLemmas.{asked}
+use Rattle.rart_nodes.proofs.edits.PutAllocationLemmas.{allocated}
 use Rattle.rart_nodes.proofs.tries.Descents.{descend-at, descend-followed}
 use Rattle.rart_nodes.proofs.tries.RestLemmas.{Follows}
 
@@ -46,7 +46,8 @@ module _ {V : Type 0} {p k r : List ℕ} {v : Option V} {w b : ℕ} {t : Trie V}
   pub remove_allocation-below : is_leaf_at r t ≡ false → trie_remove_allocates None r t ≡ true
       → trie_remove_allocates None k (node p v w (as_children es)) ≡ true
   remove_allocation-below stays allocates = removes-step
-      ∙ asked (descend remove_allocation r t) (moves_down (Some (record_of (node p v w (as_children es))))) allocates
+      ∙ allocated (descend remove_allocation r t) (moves_down (Some (record_of (node p v w
+      (as_children es))))) allocates
 
   pub remove_allocation-leaf : (w' : ℕ) (es' : List (ℕ × Trie V)) → is_leaf_at r t ≡ true → w' ≡ w → es' ≡ es → 4 < w'
       → length (edges_of (as_children es')) ≤ previous_capacity w' + 1

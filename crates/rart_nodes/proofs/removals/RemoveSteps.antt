@@ -20,8 +20,8 @@ use Rattle.rart_nodes.proofs.edits.JoinLemmas.{without-some}
 use Rattle.rart_nodes.proofs.tries.RestLemmas.{Follows}
 
 -- one child fewer keeps the capacity that the number of children fixes
-narrowed-capacity : (n : ℕ) → shrunk_capacity n (capacity_of (n + 1)) ≡ capacity_of n
-narrowed-capacity n = grind (arith, nat_tests)
+pub shrunk-capacity : (n : ℕ) → shrunk_capacity n (capacity_of (n + 1)) ≡ capacity_of n
+shrunk-capacity n = grind (arith, nat_tests)
 
 module _ {V : Type 0} where
   -- what a removal does at a node, where the key ends or continues
@@ -104,7 +104,7 @@ module _ {V : Type 0} where
       → shrunk_capacity (length (edges_of (as_children fs))) w ≡ capacity_of (length (edges_of (as_children fs)))
   capacity-less p v w es fs c l = ap (shrunk_capacity (length (edges_of (as_children fs)))) (c.1
       ∙ ap capacity_of (edges_of-length es ∙ sym l ∙ ap (λ n. n + 1) (sym (edges_of-length fs))))
-      ∙ narrowed-capacity (length (edges_of (as_children fs)))
+      ∙ shrunk-capacity (length (edges_of (as_children fs)))
 
   no_join : (z : Bool) (p : List ℕ) (v : V) (fs : List (ℕ × Trie V)) (m : ℕ)
       → (if z && needs_merge (Some v) (as_children fs) then merged_child p (as_children fs)

@@ -85,7 +85,7 @@ module _ {V : Type 0} where
       (replaced-canonical b 0 u x es c.2 a w p) c)
 
   -- entries in their order, with one of them at b
-  middle-low : (b low : ℕ) (u : Trie V) (xs ys : List (ℕ × Trie V))
+  pub middle-low : (b low : ℕ) (u : Trie V) (xs ys : List (ℕ × Trie V))
       → AreCanonical low (as_children (xs ++ (b, u) ∷ ys)) → low ≤ b
   middle-low b low u [] ys w = w.0
   middle-low b low u (x ∷ xs) ys w = omega (arith, w.0, middle-low b (suc x.0) u xs ys w.3)
@@ -103,7 +103,7 @@ module _ {V : Type 0} where
   middle-replaced b low u w (x ∷ xs) ys c = rw (eq-no x.0 b (λ q. omega (arith, q, middle-low b (suc x.0) u xs ys c.3)))
       (ap (λ z. x ∷ z) (middle-replaced b (suc x.0) u w xs ys c.3))
 
-  above-all : (b low : ℕ) (ys : List (ℕ × Trie V)) → b < low → AreCanonical low (as_children ys)
+  pub above-all : (b low : ℕ) (ys : List (ℕ × Trie V)) → b < low → AreCanonical low (as_children ys)
       → entries_above b ys ≡ ys
   above-all b low [] h w = refl
   above-all b low (y ∷ ys) h w = rw (lt-yes b y.0 (omega (arith, h, w.0)))

@@ -100,7 +100,7 @@ module _ {V : Type 0} where
       first-same p (cut (keys_of (tree_pairs o)) k) x v more part.0 (e ∙ part.1)
 
   -- there is one
-  pub first-stands : (q k : List ℕ) (v : V) (o : Option (Trie V)) → IsCanonicalTree o
+  pub first-contained : (q k : List ℕ) (v : V) (o : Option (Trie V)) → IsCanonicalTree o
       → longest_match q (tree_pairs o) ≡ Some (k, v)
       → part_entries one_segment (tree_part one_segment [] k o) ≢ []
-  first-stands q k v o w h e = let part = longest-part q (k, v) o w h in let none = sym part.1 ∙ e in absurd (cc)
+  first-contained q k v o w h e = let part = longest-part q (k, v) o w h in let none = sym part.1 ∙ e in absurd (cc)

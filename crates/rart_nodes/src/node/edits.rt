@@ -6,6 +6,7 @@ mod get_mut;
 mod insert;
 mod pop;
 mod remove;
+mod retain;
 mod take_prefix;
 mod take_values;
 mod update;

@@ -310,7 +310,7 @@ module _ {M : Type 1} (𝓤 : Ura M) (𝓛 : Logic 𝓤) (𝓜 : Model 𝓤 𝓛
       let seen : Bor (MapAndShape V.Denot) = record { ref_ptr = (b, o); now = n } in
       let z' : S.Ghost = ((κs, qs, bounds, (seen, (s, tt)), (shr_vals seen, (v₁ ∷ [], tt))), tt) in
       let may = subst (λ (h : K.Denot). IfErr s.outcome (IsStoredAt n.pairs (gk.bytes h))) (sym same)
-      (lemmas.stored_stands r.now n (gk.bytes k) x s.outcome inserted) in
+      (lemmas.stored_present r.now n (gk.bytes k) x s.outcome inserted) in
       use0 𝓛 (raw (fact 𝓤 (κ₁ ⊑ K.lives)) ⊛ raw (fact 𝓤 (κ₂ ⊑ V.lives)) ⊛ raw (fact 𝓤 (κ₃ ⊑ P.lives)) ⊛ raw
       (fact 𝓤 (IfErr s.outcome (IsStoredAt n.pairs (gk.bytes s.key)))))
       (beside 𝓤 (κ₁ ⊑ K.lives) in_key (beside 𝓤 (κ₂ ⊑ V.lives) in_value

@@ -307,7 +307,7 @@ module _ {M : Type 1} (𝓤 : Ura M) (𝓛 : Logic 𝓤) (𝓜 : Model 𝓤 𝓛
       -- [the arguments with the tokens; the tree's last value]
       let seen : Bor (MapAndShape V.Denot) = record { ref_ptr = (b, o); now = n } in
       let z' : S.Ghost = ((κs, qs, bounds, (seen, (k, (s, tt))), (shr_vals seen, (shr_vals k, (v₁ ∷ [], tt)))), tt) in
-      let may = lemmas.stored_stands r.now n (gk.bytes k.now) x s inserted in
+      let may = lemmas.stored_present r.now n (gk.bytes k.now) x s inserted in
       use0 𝓛 (raw (fact 𝓤 (κ₂ ⊑ K.lives)) ⊛ raw (fact 𝓤 (κ₃ ⊑ V.lives)) ⊛ raw (fact 𝓤 (κ₄ ⊑ P.lives)) ⊛ raw
       (fact 𝓤 (IfErr s (IsStoredAt n.pairs (gk.bytes k.now)))))
       (beside 𝓤 (κ₂ ⊑ K.lives) in_key (beside 𝓤 (κ₃ ⊑ V.lives) in_value

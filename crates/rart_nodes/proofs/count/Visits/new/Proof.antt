@@ -19,14 +19,14 @@ use denote.Shadow.{pure_i}
 use denote.Triple.Entry.{on_entry, alive}
 use denote.Triple.Spec.{Meets, triple_of}
 use denote.Triple.Table.{entered}
-use denote.Triple.Walked.{says, KeepsSlot, walk_of, Walks, ends_at, walked, walk_Meets}
+use denote.Triple.Walked.{says, Stays, walk_of, Walks, ends_at, walked, walk_Meets}
 use Rattle.rart_nodes.specs.contracts.count.Visits.new.Key.{name as key}
 use Rattle.rart_nodes.specs.contracts.count.Visits.new as f
 use Rattle.rart_nodes.proofs.count.Visits.new.Statement as stated
 use Rattle.rart_nodes.proofs.count.Visits.new.Code as code
 use Rattle.rart_nodes.specs.contracts.count.Visits as made
 
-abbrev stayed : KeepsSlot (f.ended).signature.params (f.ended).kept
+abbrev stayed : Stays (f.ended).signature.params (f.ended).kept
 stayed = tt
 
 module _ {M : Type 1} {𝓤 : Ura M} (𝓛 : Logic 𝓤) (mem : Memory → SProp 𝓤) (run : Routine → Fun 𝓤) (C : Calls 𝓤 𝓛.H)

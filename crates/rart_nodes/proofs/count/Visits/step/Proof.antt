@@ -25,7 +25,7 @@ use denote.Steps.{nothing, opens, closes}
 use denote.Triple.Entry.{on_entry}
 use denote.Triple.Spec.{Meets, triple_of}
 use denote.Triple.Table.{entered}
-use denote.Triple.Walked.{says, KeepsSlot, stay_ref, walk_of, AllGo, Goes-ref, Walks, ends_at, walked, walk_Meets}
+use denote.Triple.Walked.{says, Stays, stay_ref, walk_of, AllGo, Goes-ref, Walks, ends_at, walked, walk_Meets}
 use Rattle.rart_nodes.specs.declared.count.Visits.{Visits}
 use Rattle.rart_nodes.specs.contracts.count.Visits as T
 use Rattle.rart_nodes.specs.contracts.count.Visits.step.Key.{name as #it}
@@ -36,7 +36,7 @@ use Rattle.rart_nodes.proofs.count.Visits.step.Code as code
 abbrev Arg : Type 0
 Arg = MutBor Visits × Unit {0}
 
-abbrev stayed : KeepsSlot (it.ended).signature.params (it.ended).kept
+abbrev stayed : Stays (it.ended).signature.params (it.ended).kept
 stayed = (stay_ref (0 ∷ []) tt (plain (λ _. T.the_row)), tt)
 
 module _ {M : Type 1} {𝓤 : Ura M} (𝓛 : Logic 𝓤) (at_mem : Memory → SProp 𝓤) (run : Routine → Fun 𝓤) (κ : Lft)

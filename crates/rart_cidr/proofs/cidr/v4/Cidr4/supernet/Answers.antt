@@ -7,8 +7,8 @@ use Rattle.rart_cidr.proofs.cidr.v4.Cidr4.supernet.Goals as goal
 pub masked-requires : goal.masked-requires
 masked-requires c =
     let net = c.args.self.now in
-    let room : net.len ≤ 8 * length net.octets = omega (arith, net.within, net.full_width) in
-    omega (arith, c.requires, network-length net.octets net.len room, net.within)
+    let enough : net.len ≤ 8 * length net.octets = omega (arith, net.within, net.full_width) in
+    omega (arith, c.requires, network-length net.octets net.len enough, net.within)
 
 pub returns : goal.returns
 returns c = c.masked.ensures.value ∙ ap (take c.args.len) c.addr.ensures

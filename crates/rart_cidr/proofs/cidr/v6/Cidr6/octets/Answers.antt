@@ -6,12 +6,12 @@ use Rattle.rart_cidr.proofs.cidr.v6.Cidr6.octets.Goals as goal
 pub returns-clause-value : goal.returns-clause-value
 returns-clause-value c =
     let net = c.args.self.now in
-    ap (network net.octets) (network-length net.octets net.len (let room : net.len ≤ 8 * length net.octets
-    = omega (arith, net.within, net.full_width) in room))
+    ap (network net.octets) (network-length net.octets net.len (let enough : net.len ≤ 8 * length net.octets
+    = omega (arith, net.within, net.full_width) in enough))
 
 pub returns-clause-clear : goal.returns-clause-clear
 returns-clause-clear c =
     let net = c.args.self.now in
     subst (λ z. AreClearAfter (bits_of net.octets) z)
-    (sym (network-length net.octets net.len (let room : net.len ≤ 8 * length net.octets
-    = omega (arith, net.within, net.full_width) in room))) net.clear
+    (sym (network-length net.octets net.len (let enough : net.len ≤ 8 * length net.octets
+    = omega (arith, net.within, net.full_width) in enough))) net.clear

@@ -9,7 +9,7 @@ use Rattle.rart_nodes.specs.walks.PathParts.{lent_segments}
 use Rattle.rart_nodes.specs.walks.ViewSegments.{AreViews}
 use Rattle.rart_nodes.proofs.tries.CanonicalTests.{IsCanonicalTree-test}
 use Rattle.rart_nodes.proofs.walks.CutCounts.{cut-few, keeps_each-one}
-use Rattle.rart_nodes.proofs.walks.FirstBelow.{first-cut, first-stands}
+use Rattle.rart_nodes.proofs.walks.FirstBelow.{first-cut, first-contained}
 use Rattle.rart_nodes.proofs.walks.PartCuts.{part-views}
 use Rattle.rart_nodes.proofs.node.seen.Seen.longest_path.Given.{Over}
 use Rattle.rart_nodes.proofs.node.seen.Seen.longest_path.Goals.{In_ok-walk, In-Some-advance}
@@ -23,7 +23,7 @@ found g c = sym c.in-Some.ensures.pair ∙ ap (λ k. Some (k, c.in-Some.field-0-
 pub unreachable-requires : goal.unreachable-requires
 unreachable-requires g c =
     let w = IsCanonicalTree-test _ c.args.self.canonical in
-    absurd (first-stands c.args.probe.now c.beginning-key.result.now c.in-Some.field-0-1.now
+    absurd (first-contained c.args.probe.now c.beginning-key.result.now c.in-Some.field-0-1.now
     (option_copied c.args.self.root) w (found g (goal.at.unreachable-requires g c).In_ok-walk)
     (sym c.in_ok-walk.ensures.entries ∙ c.in_default-advance.ensures.entries.0))
 
@@ -64,7 +64,7 @@ returns-clause-bound g c =
       arith,
       short,
       segments,
-      c.in-Some-advance.ensures.visits keeps_each-one,
+      c.in-Some-advance.ensures.bound keeps_each-one,
       c.in_ok-walk.ensures.bound,
       c.in-Some.ensures.bound,
     )
@@ -77,7 +77,7 @@ returns-clause-visits g c =
     rw h (omega (
       arith,
       ap length both.0,
-      c.in-Some-advance.ensures.visits keeps_each-one,
+      c.in-Some-advance.ensures.bound keeps_each-one,
       c.in_ok-walk.ensures.visits,
       c.in-Some.ensures.visits,
     ))

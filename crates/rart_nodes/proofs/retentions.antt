@@ -1,0 +1,5 @@
+pub mod RetainEndLemmas
+pub mod RetainStepLemmas
+pub mod RetainTreeLemmas
+pub mod RetainWalkLemmas
+pub mod RetentionLemmas

@@ -1,0 +1,324 @@
+-- After the walk over the children of a node: what becomes of the node.
+use Rattle.std.proofs.Common.{◌≡◌, ℕ, suc, ◌+◌, ◌<◌, ◌≤◌, ◌⊎◌, ⊎_elim, inl, inr, Bool, true, false, List, [], ◌∷◌}
+use Rattle.std.proofs.Common.{◌++◌, length, refl, sym, ap, ◌∙◌, arith, subst, Option, Some, None, MutBor, is_some}
+use Rattle.std.proofs.Common.{option_map, length-append}
+use Rattle.std.specs.Prelude.{slice_get}
+use Rattle.std.specs.Borrow.{Bor}
+use Rattle.std.specs.Fn.{Mut}
+use Rattle.std.proofs.lemmas.List.{append-nil, append_assoc}
+use Rattle.rart_keys.specs.KeyBytes.{IsWithin}
+use Rattle.rart_keys.specs.SortedMap.{longest_key}
+use Rattle.rart_nodes.specs.declared.node.edits.retain.Retention.{Retention}
+use Rattle.rart_nodes.specs.declared.node.edits.retain.Retention.TheVariants.{Done, Rejected, Refused}
+use Rattle.rart_nodes.specs.edits.Deletion.{JoinsWithin, needs_merge, merged_if_needed}
+use Rattle.rart_nodes.specs.edits.Retentions.{CallsFor, Fate, RetainsAll, RetainsFirst, kept, removed, refused}
+use Rattle.rart_nodes.specs.edits.Retentions.{refusals}
+use Rattle.rart_nodes.specs.edits.Retentions.{remaining}
+use Rattle.rart_nodes.specs.edits.RetainSteps.{CallsForOwn, KeepsFirst, RetainsBelow, finished_as, finished_node}
+use Rattle.rart_nodes.specs.shapes.Shape.{capacity_of}
+use Rattle.rart_nodes.specs.tries.PrefixLaws.{length-with_prefix, prefix-append, prefix-twice}
+use Rattle.rart_nodes.specs.tries.Trie.{Trie, node, Children, no_children, child, AreCanonical, IsCanonical, StartsWith}
+use Rattle.rart_nodes.specs.tries.Trie.{children_in, children_pairs, edges_of, own_pair, pairs_of, prefix_of}
+use Rattle.rart_nodes.specs.tries.Trie.{with_prefix}
+use Rattle.rart_nodes.specs.tries.TrieCode.{as_children}
+use Rattle.rart_nodes.proofs.edits.InsertLemmas.{fewer-within}
+use Rattle.rart_nodes.proofs.edits.JoinedLengths.{joins-children, prefix-before}
+use Rattle.rart_nodes.proofs.retentions.RetainStepLemmas.{none-first}
+use Rattle.rart_nodes.proofs.retentions.RetainWalkLemmas.{IsOneLeaf, Retaining, refusals_of}
+use Rattle.rart_nodes.proofs.retentions.RetentionLemmas.{calls-after, calls-append, calls-front, calls-length}
+use Rattle.rart_nodes.proofs.retentions.RetentionLemmas.{refusals-append}
+use Rattle.rart_nodes.proofs.retentions.RetentionLemmas.{remaining-after, remaining-append, remaining-front}
+use Rattle.rart_nodes.proofs.retentions.RetentionLemmas.{remaining-longest}
+use Rattle.rart_nodes.proofs.storages.ChildLemmas.{edges_of-length}
+use Rattle.rart_nodes.proofs.storages.EntryPlaces.{pairs-append}
+use Rattle.rart_nodes.proofs.tries.CanonicalTests.{longest_key-append}
+
+starts-append : (p q : List ℕ) → KeepsFirst p (p ++ q)
+starts-append [] q b h = absurd h
+starts-append (x ∷ p) q b h = h
+
+module _ {V : Type 0} where
+  -- a node merged with its only child, if it has no value, has its pairs
+  joined-pairs : (p : List ℕ) (v : Option V) (n : ℕ) (es : List (ℕ × Trie V))
+      → pairs_of (merged_if_needed (node p v n (as_children es))) ≡ pairs_of (node p v n (as_children es))
+  joined-pairs p (Some v) n es = refl
+  joined-pairs p None n [] = refl
+  joined-pairs p None n ((b, node q v m cs) ∷ []) = sym (prefix-twice p q (own_pair v ++ children_pairs cs))
+      ∙ ap (with_prefix p) (sym (append-nil (with_prefix q (own_pair v ++ children_pairs cs))))
+  joined-pairs p None n (e ∷ f ∷ es) = refl
+
+  joined-first : (p : List ℕ) (v : Option V) (n : ℕ) (es : List (ℕ × Trie V))
+      → KeepsFirst p (prefix_of (merged_if_needed (node p v n (as_children es))))
+  joined-first p (Some v) n es b h = h
+  joined-first p None n [] b h = h
+  joined-first p None n ((c, t) ∷ []) b h = starts-append p (prefix_of t) b h
+  joined-first p None n (e ∷ f ∷ es) b h = h
+
+  -- it is canonical if it has a value or children
+  joined-canonical : (p : List ℕ) (v : Option V) (n : ℕ) (es : List (ℕ × Trie V)) → n ≡ capacity_of (length es)
+      → (is_some v ≡ false → 0 < length es) → AreCanonical 0 (as_children es)
+      → IsCanonical (merged_if_needed (node p v n (as_children es)))
+  joined-canonical p (Some v) n es w l c = (inl refl, w ∙ ap capacity_of (sym (edges_of-length es)), c)
+  joined-canonical p None n [] w l c = absurd (omega (arith, l refl))
+  joined-canonical p None n ((b, node q v m cs) ∷ []) w l c = c.2
+  joined-canonical p None n (e ∷ f ∷ es) w l c = (inr tt, w ∙ ap capacity_of (sym (edges_of-length (e ∷ f ∷ es))), c)
+
+  -- as the code finishes it
+  pub finished-kept : (keeps : Bool) (t : Trie V) → keeps ≡ true → merged_if_needed t ≡ finished_node keeps t
+  finished-kept keeps t h = rw h refl
+
+  pub finished-gone : (keeps : Bool) (p : List ℕ) (v : Option V) (n : ℕ) (es : List (ℕ × Trie V)) → keeps ≡ false
+      → (length es ≡ 0 → ⊥)
+      → merged_if_needed (node p None n (as_children es)) ≡ finished_node keeps (node p v n (as_children es))
+  finished-gone keeps p v n [] h l = absurd (l refl)
+  finished-gone keeps p v n (e ∷ es) h l = rw h refl
+
+  pub outcome-kept : (keeps : Bool) (walk : Retention) (cs : Children V) → keeps ≡ true
+      → walk ≡ finished_as keeps walk cs
+  outcome-kept keeps walk cs h = rw h refl
+
+  pub outcome-gone : (keeps : Bool) (walk : Retention) (es : List (ℕ × Trie V)) → keeps ≡ false
+      → (length es ≡ 0 → ⊥) → walk ≡ finished_as keeps walk (as_children es)
+  outcome-gone keeps walk [] h l = absurd (l refl)
+  outcome-gone keeps walk (e ∷ es) h l = rw h refl
+
+  pub lone-capacity : (n : ℕ) (es : List (ℕ × Trie V)) → n ≡ capacity_of (length es)
+      → needs_merge {V = V} None (as_children es) ≡ true → n ≡ 4
+  lone-capacity n [] w h = absurd (cc)
+  lone-capacity n (e ∷ []) w h = w
+  lone-capacity n (e ∷ f ∷ es) w h = absurd (cc)
+
+  joined-leaf : (p : List ℕ) (n : ℕ) (es : List (ℕ × Trie V)) → IsOneLeaf es
+      → children_in (merged_if_needed (node p None n (as_children es))) ≡ no_children
+  joined-leaf p n es h = rw h.one h.bare
+
+  -- the children have the pairs that are left
+  left-short : (xs ys es : List (List ℕ × V)) (zs : List (V × Fate)) → xs ≡ remaining es zs
+      → longest_key (xs ++ ys) ≤ longest_key (es ++ ys)
+  left-short xs ys es zs h = omega (
+    arith,
+    ap longest_key h,
+    remaining-longest es zs,
+    longest_key-append xs ys,
+    longest_key-append es ys,
+  )
+
+module _ {F V : Type 0} (call : Mut F (Bor (List ℕ) × (MutBor V × Unit {0})) (Bool × (MutBor V × Unit {0}))) where
+  pub retaining-within : (m : Option ℕ) (q : List ℕ) (f0 : F) (t0 : Trie V) (keeps holds : Bool) (walk : Retention)
+      (f : F) (p : List ℕ) (w : Option V) (n : ℕ) (es : List (ℕ × Trie V)) (next : Option ℕ) → IsCanonical t0
+      → Retaining call q f0 t0 keeps holds walk f p w n es next → IsWithin m (length q + longest_key (pairs_of t0))
+      → JoinsWithin m p (as_children es)
+  retaining-within m q f0 t0 keeps holds walk f p w n es next c i h =
+      let was : IsCanonical (node p i.own i.width (as_children (i.done ++ i.rest))) = rw i.before at c in
+      let all = own_pair i.own ++ children_pairs (as_children (i.done ++ i.rest)) in
+      joins-children m p (longest_key all) 0 (as_children es) i.canonical (omega (
+        arith,
+        longest_key-append (own_pair i.own) (children_pairs (as_children (i.done ++ i.rest))),
+        ap (λ z. longest_key (children_pairs (as_children z))) i.now,
+        ap longest_key (pairs-append i.left i.rest),
+        ap longest_key (pairs-append i.done i.rest),
+        left-short (children_pairs (as_children i.left)) (children_pairs (as_children i.rest))
+            (children_pairs (as_children i.done)) i.fates i.stay,
+      )) (fewer-within m (length q + longest_key (pairs_of t0)) (length p + longest_key all) (omega (
+        arith,
+        ap (λ t. longest_key (pairs_of t)) i.before,
+        prefix-before p i.own i.width (as_children (i.done ++ i.rest)) was,
+      )) h)
+
+  -- the fate of the node's own pair
+  record OwnFate (k : List ℕ) (f0 f : F) (v w : Option V) (n : ℕ) : Type 0 where
+    pub fates : List (V × Fate)
+    pub refused : refusals fates ≡ n
+    pub calls : CallsFor call k f0 (own_pair v) fates f
+    pub all : length fates ≡ length (own_pair v)
+    pub left : own_pair w ≡ remaining (own_pair v) fates
+
+  -- the calls at a node and at its children, and what they leave
+  record Gathered (q : List ℕ) (f0 f : F) (t t' : Trie V) (n : ℕ) (whole : Type 0) : Type 0 where
+    pub fates : List (V × Fate)
+    pub calls : CallsFor call q f0 (pairs_of t) fates f
+    pub left : pairs_of t' ≡ remaining (pairs_of t) fates
+    pub refused : refusals fates ≡ n
+    pub all : whole → length fates ≡ length (pairs_of t)
+
+  gathered : (q : List ℕ) (f0 : F) (t0 : Trie V) (keeps holds : Bool) (walk : Retention) (f : F) (p : List ℕ)
+      (w v : Option V) (n m : ℕ) (es : List (ℕ × Trie V)) (next : Option ℕ)
+      (i : Retaining call q f0 t0 keeps holds walk f p w n es next) (j : ℕ) (o : OwnFate (q ++ p) f0 i.first i.own v j)
+      (k : ℕ) → j + refusals_of walk ≡ k
+      → Gathered q f0 f t0 (node p v m (as_children es)) k
+      ((length i.fates ≡ length (children_pairs (as_children i.done))) × (i.rest ≡ []))
+  gathered q f0 t0 keeps holds walk f p w v n m es next i j o k r =
+      let below : children_pairs (as_children (i.done ++ i.rest))
+      ≡ children_pairs (as_children i.done) ++ children_pairs (as_children i.rest) = pairs-append i.done i.rest in
+      let some = calls-length call (q ++ p) (children_pairs (as_children i.done)) i.fates i.first f i.calls in
+      rw i.before record {
+        fates = o.fates ++ i.fates;
+        calls = calls-after call q p (own_pair i.own ++ children_pairs (as_children (i.done ++ i.rest)))
+            (o.fates ++ i.fates) f0 f (calls-append call (q ++ p) (own_pair i.own)
+            (children_pairs (as_children (i.done ++ i.rest))) o.fates i.fates f0 i.first f o.all o.calls
+            (rw below (calls-front call (q ++ p) (children_pairs (as_children i.done))
+            (children_pairs (as_children i.rest)) i.fates i.first f i.calls)));
+        left = ap (with_prefix p) (ap (λ z. own_pair v ++ children_pairs (as_children z)) i.now
+            ∙ ap (λ z. own_pair v ++ z) (pairs-append i.left i.rest
+            ∙ ap (λ z. z ++ children_pairs (as_children i.rest)) i.stay
+            ∙ sym (remaining-front (children_pairs (as_children i.done)) (children_pairs (as_children i.rest)) i.fates
+            some) ∙ ap (λ z. remaining z i.fates) (sym below))
+            ∙ ap (λ z. z ++ remaining (children_pairs (as_children (i.done ++ i.rest))) i.fates) o.left
+            ∙ sym (remaining-append (own_pair i.own) (children_pairs (as_children (i.done ++ i.rest))) o.fates i.fates
+            o.all))
+            ∙ sym (remaining-after p (own_pair i.own ++ children_pairs (as_children (i.done ++ i.rest)))
+            (o.fates ++ i.fates));
+        refused = refusals-append o.fates i.fates ∙ omega (arith, i.refused, o.refused, r);
+        all = λ h. omega (
+          arith,
+          h.0,
+          o.all,
+          length-append o.fates i.fates,
+          length-with_prefix p (own_pair i.own ++ children_pairs (as_children (i.done ++ i.rest))),
+          length-append (own_pair i.own) (children_pairs (as_children (i.done ++ i.rest))),
+          ap length below,
+          length-append (children_pairs (as_children i.done)) (children_pairs (as_children i.rest)),
+          ap (λ z. length (children_pairs (as_children z))) h.1,
+        );
+      }
+
+  own-kept : (k : List ℕ) (f0 f : F) (v w : Option V) → CallsForOwn call k f0 v true w f → OwnFate k f0 f v w 0
+  own-kept k f0 f None None h = record { fates = []; refused = refl; calls = h.1; all = refl; left = refl }
+  own-kept k f0 f None (Some x) h = absurd h
+  own-kept k f0 f (Some v) None h = absurd h
+  own-kept k f0 f (Some v) (Some x) h = record {
+    fates = (x, kept) ∷ [];
+    refused = refl;
+    calls = (f, (rw (append-nil k) h, refl));
+    all = refl;
+    left = refl;
+  }
+
+  own-rejected : (k : List ℕ) (f0 f : F) (v w : Option V) → CallsForOwn call k f0 v false w f → (x : V) × (w ≡ Some x)
+  own-rejected k f0 f None None h = absurd (cc (h.0))
+  own-rejected k f0 f None (Some x) h = absurd h
+  own-rejected k f0 f (Some v) None h = absurd h
+  own-rejected k f0 f (Some v) (Some x) h = (x, refl)
+
+  own-gone : (k : List ℕ) (f0 f : F) (v w : Option V) → CallsForOwn call k f0 v false w f → OwnFate k f0 f v None 0
+  own-gone k f0 f None None h = absurd (cc (h.0))
+  own-gone k f0 f None (Some x) h = absurd h
+  own-gone k f0 f (Some v) None h = absurd h
+  own-gone k f0 f (Some v) (Some x) h = record {
+    fates = (x, removed) ∷ [];
+    refused = refl;
+    calls = (f, (rw (append-nil k) h, refl));
+    all = refl;
+    left = refl;
+  }
+
+  own-put_off : (k : List ℕ) (f0 f : F) (v w : Option V) → CallsForOwn call k f0 v false w f → OwnFate k f0 f v w 1
+  own-put_off k f0 f None None h = absurd (cc (h.0))
+  own-put_off k f0 f None (Some x) h = absurd h
+  own-put_off k f0 f (Some v) None h = absurd h
+  own-put_off k f0 f (Some v) (Some x) h = record {
+    fates = (x, refused) ∷ [];
+    refused = refl;
+    calls = (f, (rw (append-nil k) h, refl));
+    all = refl;
+    left = refl;
+  }
+
+  retains-all : (q : List ℕ) (f0 f : F) (t t' u : Trie V) (n : ℕ) (W : Type 0) → Gathered q f0 f t t' n W → W
+      → pairs_of u ≡ pairs_of t' → RetainsAll call q f0 (pairs_of t) (pairs_of u) n f
+  retains-all q f0 f t t' u n W g w e = record {
+    fates = g.fates;
+    calls = g.calls;
+    all = g.all w;
+    refused = g.refused;
+    left = e ∙ g.left;
+  }
+
+  retains-first : (q : List ℕ) (f0 f : F) (t t' u : Trie V) (W : Type 0) → Gathered q f0 f t t' 1 W
+      → pairs_of u ≡ pairs_of t' → RetainsFirst call q f0 (pairs_of t) (pairs_of u) f
+  retains-first q f0 f t t' u W g e = record {
+    fates = g.fates;
+    calls = g.calls;
+    refused = g.refused;
+    left = e ∙ g.left;
+  }
+
+  -- what the walk leaves of the node
+  pub record Ended (q : List ℕ) (f0 : F) (t0 : Trie V) (walk : Retention) (f : F) (t : Trie V) : Type 0 where
+    pub canonical : IsCanonical t
+    pub first : KeepsFirst (prefix_of t0) (prefix_of t)
+    pub retains : RetainsBelow call q walk f0 t0 t f
+
+  -- its value is kept, or it has none
+  ended-kept : (q : List ℕ) (f0 : F) (t0 : Trie V) (holds : Bool) (walk : Retention) (f : F) (p : List ℕ)
+      (w : Option V) (n : ℕ) (es : List (ℕ × Trie V)) → Retaining call q f0 t0 true holds walk f p w n es None
+      → RetainsBelow call q walk f0 t0 (merged_if_needed (node p w n (as_children es))) f
+  ended-kept q f0 t0 holds Done f p w n es i = retains-all q f0 f t0 (node p w n (as_children es))
+      (merged_if_needed (node p w n (as_children es))) 0 _ (gathered q f0 t0 true holds Done f p w w n n es None i 0
+      (own-kept (q ++ p) f0 i.first i.own w i.called) 0 (omega arith)) (i.state.0, none-first i.rest i.state.1)
+      (joined-pairs p w n es)
+  ended-kept q f0 t0 holds Rejected f p w n es i =
+      let one : es ≡ (i.state.4.byte, i.state.4.leaf) ∷ [] = i.now ∙ ap (λ z. i.left ++ z) i.state.2
+      ∙ append-nil i.left ∙ i.state.4.one in (
+        rw i.state.3 (joined-leaf p n es
+            (record { byte = i.state.4.byte; leaf = i.state.4.leaf; one = one; bare = i.state.4.bare })),
+        retains-all q f0 f t0 (node p w n (as_children es)) (merged_if_needed (node p w n (as_children es))) 1 _
+            (gathered q f0 t0 true holds Rejected f p w w n n es None i 0
+            (own-kept (q ++ p) f0 i.first i.own w i.called) 1 (omega arith)) (i.state.0, i.state.2)
+            (joined-pairs p w n es),
+      )
+  ended-kept q f0 t0 holds Refused f p w n es i = retains-first q f0 f t0 (node p w n (as_children es))
+      (merged_if_needed (node p w n (as_children es))) _ (gathered q f0 t0 true holds Refused f p w w n n es None i 0
+      (own-kept (q ++ p) f0 i.first i.own w i.called) 1 (omega arith)) (joined-pairs p w n es)
+
+  -- its value is not kept: it has children
+  ended-gone : (q : List ℕ) (f0 : F) (t0 : Trie V) (holds : Bool) (walk : Retention) (f : F) (p : List ℕ)
+      (w : Option V) (n : ℕ) (es : List (ℕ × Trie V)) → Retaining call q f0 t0 false holds walk f p w n es None
+      → RetainsBelow call q walk f0 t0 (merged_if_needed (node p None n (as_children es))) f
+  ended-gone q f0 t0 holds Done f p w n es i = retains-all q f0 f t0 (node p None n (as_children es))
+      (merged_if_needed (node p None n (as_children es))) 0 _
+      (gathered q f0 t0 false holds Done f p w None n n es None i
+      0 (own-gone (q ++ p) f0 i.first i.own w i.called) 0 (omega arith)) (i.state.0, none-first i.rest i.state.1)
+      (joined-pairs p None n es)
+  ended-gone q f0 t0 holds Rejected f p w n es i =
+      let x = own-rejected (q ++ p) f0 i.first i.own w i.called in
+      let no : Some x.0 ≡ None = sym x.1 ∙ i.state.3 in absurd (cc)
+  ended-gone q f0 t0 holds Refused f p w n es i = retains-first q f0 f t0 (node p None n (as_children es))
+      (merged_if_needed (node p None n (as_children es))) _
+      (gathered q f0 t0 false holds Refused f p w None n n es None i
+      0 (own-gone (q ++ p) f0 i.first i.own w i.called) 1 (omega arith)) (joined-pairs p None n es)
+
+  -- or it has none, and is a leaf
+  ended-leaf : (q : List ℕ) (f0 : F) (t0 : Trie V) (holds : Bool) (walk : Retention) (f : F) (p : List ℕ)
+      (w : Option V) (n : ℕ) → Retaining call q f0 t0 false holds walk f p w n [] None
+      → Ended q f0 t0 Rejected f (node p w n no_children)
+  ended-leaf q f0 t0 holds Done f p w n i = let x = own-rejected (q ++ p) f0 i.first i.own w i.called in record {
+    canonical = (inl (ap is_some x.1), i.capacity, tt);
+    first = rw i.before (λ b h. h);
+    retains = (
+      refl,
+      retains-all q f0 f t0 (node p w n no_children) (node p w n no_children) 1 _
+          (gathered q f0 t0 false holds Done f p w w n n [] None i 1
+          (own-put_off (q ++ p) f0 i.first i.own w i.called) 1 (omega arith)) (i.state.0, none-first i.rest i.state.1)
+          refl,
+    );
+  }
+  ended-leaf q f0 t0 holds Rejected f p w n i =
+      let x = own-rejected (q ++ p) f0 i.first i.own w i.called in
+      let no : Some x.0 ≡ None = sym x.1 ∙ i.state.3 in absurd (cc)
+  ended-leaf q f0 t0 holds Refused f p w n i = absurd (omega (arith, ap length i.now, i.state.1))
+
+  pub retaining-end : (q : List ℕ) (f0 : F) (t0 : Trie V) (keeps holds : Bool) (walk : Retention) (f : F) (p : List ℕ)
+      (w : Option V) (n : ℕ) (es : List (ℕ × Trie V)) → Retaining call q f0 t0 keeps holds walk f p w n es None
+      → Ended q f0 t0 (finished_as keeps walk (as_children es)) f (finished_node keeps (node p w n (as_children es)))
+  retaining-end q f0 t0 true holds walk f p w n es i = record {
+    canonical = joined-canonical p w n es i.capacity i.lives i.canonical;
+    first = rw i.before (joined-first p w n es);
+    retains = ended-kept q f0 t0 holds walk f p w n es i;
+  }
+  retaining-end q f0 t0 false holds walk f p w n [] i = ended-leaf q f0 t0 holds walk f p w n i
+  retaining-end q f0 t0 false holds walk f p w n (e ∷ es) i = record {
+    canonical = joined-canonical p None n (e ∷ es) i.capacity (λ z. omega arith) i.canonical;
+    first = rw i.before (joined-first p None n (e ∷ es));
+    retains = ended-gone q f0 t0 holds walk f p w n (e ∷ es) i;
+  }

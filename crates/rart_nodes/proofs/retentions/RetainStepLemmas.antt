@@ -1,0 +1,305 @@
+-- After the walk over a child: what is done with it, and how the walk over its parent continues.
+use Rattle.std.proofs.Common.{◌≡◌, ℕ, suc, ◌+◌, ◌<◌, ◌≤◌, ◌⊎◌, ⊎_elim, Bool, true, false, List, [], ◌∷◌, ◌++◌, length}
+use Rattle.std.proofs.Common.{refl, sym, ap, ◌∙◌, arith, subst, Option, Some, None, MutBor, is_some, option_map}
+use Rattle.std.proofs.Common.{length-append, if◌then◌else◌}
+use Rattle.std.specs.Prelude.{slice_get}
+use Rattle.std.specs.Borrow.{Bor}
+use Rattle.std.specs.Fn.{Mut}
+use Rattle.std.proofs.lemmas.List.{append-nil, append_assoc}
+use Rattle.rart_keys.proofs.ByteOrder.{eq-yes, eq-no}
+use Rattle.rart_parts.specs.Entries.{child_at, entries_above, replaced, without_byte}
+use Rattle.rart_nodes.specs.declared.node.edits.retain.Retention.{Retention}
+use Rattle.rart_nodes.specs.declared.node.edits.retain.Retention.TheVariants.{Done, Rejected, Refused}
+use Rattle.rart_nodes.specs.declared.node.storage.Storage.{Storage}
+use Rattle.rart_nodes.specs.edits.Retentions.{CallsFor, CanRetain, Fate, RetainsAll, RetainsFirst, refusals, remaining}
+use Rattle.rart_nodes.specs.edits.RetainSteps.{AppliesChild, KeepsFirst, RemovesChild, RetainsBelow, next_byte}
+use Rattle.rart_nodes.specs.shapes.Shape.{capacity_of}
+use Rattle.rart_nodes.specs.storages.Capacities.{shrunk_capacity}
+use Rattle.rart_nodes.specs.storages.Stored.{child_entries, storage_capacity}
+use Rattle.rart_nodes.specs.tries.Trie.{Trie, node, no_children, child, AreCanonical, IsCanonical, children_in}
+use Rattle.rart_nodes.specs.tries.Trie.{children_pairs, own_pair, pairs_of, prefix_of, with_prefix}
+use Rattle.rart_nodes.specs.tries.TrieCode.{as_children}
+use Rattle.rart_nodes.proofs.retentions.RetainWalkLemmas.{IsOneLeaf, Retaining, Upcoming, WalksOn, refusals_of}
+use Rattle.rart_nodes.proofs.retentions.RetentionLemmas.{all_fulfilled, calls-append, calls-folds, calls-front}
+use Rattle.rart_nodes.proofs.retentions.RetentionLemmas.{calls-fulfilled}
+use Rattle.rart_nodes.proofs.retentions.RetentionLemmas.{calls-length, length-fulfilled, refusals-append}
+use Rattle.rart_nodes.proofs.retentions.RetentionLemmas.{refusals-fulfilled}
+use Rattle.rart_nodes.proofs.retentions.RetentionLemmas.{remaining-append, remaining-front, remaining-fulfilled}
+use Rattle.rart_nodes.proofs.edits.ValueChangeLemmas.{can-back}
+use Rattle.rart_nodes.proofs.removals.RemoveSteps.{shrunk-capacity}
+use Rattle.rart_nodes.proofs.storages.ChildLemmas.{lt-no}
+use Rattle.rart_nodes.proofs.storages.EntryPlaces.{above-all, ahead-first, ahead_count, middle-above, middle-at}
+use Rattle.rart_nodes.proofs.storages.EntryPlaces.{middle-low, middle-replaced, pairs-append}
+
+module _ {V : Type 0} where
+  -- another child in the place of one, with the same byte
+  middle-other : (b low : ℕ) (u x : Trie V) (xs ys : List (ℕ × Trie V))
+      → AreCanonical low (as_children (xs ++ (b, u) ∷ ys)) → IsCanonical x → KeepsFirst (prefix_of u) (prefix_of x)
+      → AreCanonical low (as_children (xs ++ (b, x) ∷ ys))
+  middle-other b low u x [] ys c d k = (c.0, k b c.1, d, c.3)
+  middle-other b low u x (e ∷ xs) ys c d k = (c.0, c.1, c.2, middle-other b (suc e.0) u x xs ys c.3 d k)
+
+  lower : (low high : ℕ) (ys : List (ℕ × Trie V)) → low ≤ high → AreCanonical high (as_children ys)
+      → AreCanonical low (as_children ys)
+  lower low high [] l c = tt
+  lower low high (y ∷ ys) l c = (omega (arith, l, c.0), c.1, c.2, c.3)
+
+  -- and without it
+  middle-gone : (b low : ℕ) (u : Trie V) (xs ys : List (ℕ × Trie V))
+      → AreCanonical low (as_children (xs ++ (b, u) ∷ ys)) → AreCanonical low (as_children (xs ++ ys))
+  middle-gone b low u [] ys c = lower low (suc b) ys (omega (arith, c.0)) c.3
+  middle-gone b low u (x ∷ xs) ys c = (c.0, c.1, c.2, middle-gone b (suc x.0) u xs ys c.3)
+
+  middle-without : (b low : ℕ) (u : Trie V) (xs ys : List (ℕ × Trie V))
+      → AreCanonical low (as_children (xs ++ (b, u) ∷ ys)) → without_byte b (xs ++ (b, u) ∷ ys) ≡ xs ++ ys
+  middle-without b low u [] ys c = rw (eq-yes b b refl) refl
+  middle-without b low u (x ∷ xs) ys c
+      = rw (eq-no x.0 b (λ q. omega (arith, q, middle-low b (suc x.0) u xs ys c.3)))
+      (ap (λ z. x ∷ z) (middle-without b (suc x.0) u xs ys c.3))
+
+  middle-after : (b low : ℕ) (u : Trie V) (xs ys : List (ℕ × Trie V))
+      → AreCanonical low (as_children (xs ++ (b, u) ∷ ys)) → entries_above b (xs ++ ys) ≡ ys
+  middle-after b low u [] ys c = above-all b (suc b) ys (omega arith) c.3
+  middle-after b low u (x ∷ xs) ys c = rw (lt-no b x.0 (omega (arith, middle-low b (suc x.0) u xs ys c.3)))
+      (middle-after b (suc x.0) u xs ys c.3)
+
+  pub none-first : (rest : List (ℕ × Trie V)) → ◌≡◌ {A = Option ℕ} None (option_map (λ e. e.0) (slice_get rest 0))
+      → rest ≡ []
+  none-first [] h = refl
+  none-first (x ∷ rest) h = absurd (cc)
+
+  no-entries : (es : List (ℕ × Trie V)) → length es ≡ 0 → es ≡ []
+  no-entries [] h = refl
+  no-entries (e ∷ es) h = absurd (omega (arith, h))
+
+  no-pairs : (es : List (List ℕ × V)) → length es ≡ 0 → es ≡ []
+  no-pairs [] h = refl
+  no-pairs (e ∷ es) h = absurd (omega (arith, h))
+
+  -- a leaf has at most one pair
+  leaf-pairs : (t : Trie V) → children_in t ≡ no_children → length (pairs_of t) ≤ 1
+  leaf-pairs (node p None n no_children) h = omega arith
+  leaf-pairs (node p (Some v) n no_children) h = omega arith
+  leaf-pairs (node p v n (child b t cs)) h = absurd (cc)
+
+  -- a leaf whose removal was put off, removed
+  pub leaf-fulfilled : (t : Trie V) (es : List (List ℕ × V)) (xs : List (V × Fate)) → children_in t ≡ no_children
+      → length xs ≡ length es → refusals xs ≡ 1 → pairs_of t ≡ remaining es xs → remaining es (all_fulfilled xs) ≡ []
+  leaf-fulfilled t es xs l a r h = no-pairs (remaining es (all_fulfilled xs)) (omega (
+    arith,
+    leaf-pairs t l,
+    ap length h,
+    remaining-fulfilled es xs a,
+    r,
+  ))
+
+  length-middle : (xs ys : List (ℕ × Trie V)) (e : ℕ × Trie V) → length (xs ++ e ∷ ys) ≡ length (xs ++ ys) + 1
+  length-middle xs ys e = omega (arith, length-append xs (e ∷ ys), length-append xs ys)
+
+module _ {F V : Type 0} (call : Mut F (Bor (List ℕ) × (MutBor V × Unit {0})) (Bool × (MutBor V × Unit {0}))) where
+  -- The walk continues from `next`, with the entries `mid` in the place of the child u.
+  visited : (q : List ℕ) (f0 : F) (t0 : Trie V) (keeps holds : Bool) (f g : F) (p : List ℕ) (w : Option V) (n m b : ℕ)
+      (es ds : List (ℕ × Trie V)) (u : Trie V) (i : Upcoming call q f0 t0 keeps holds f p w n b es u)
+      (walk : Retention) (mid : List (ℕ × Trie V)) (xs : List (V × Fate)) (next : Option ℕ)
+      → ds ≡ i.left ++ (mid ++ i.rest) → AreCanonical 0 (as_children ds) → m ≡ capacity_of (length ds)
+      → (is_some w ≡ false → 0 < length ds) → CallsFor call (q ++ p) f (pairs_of u) xs g
+      → children_pairs (as_children mid) ≡ remaining (pairs_of u) xs → refusals xs ≡ refusals_of walk
+      → WalksOn call walk (q ++ p) g w (i.fates ++ xs) (i.done ++ (b, u) ∷ []) (i.left ++ mid) i.rest next
+      → Retaining call q f0 t0 keeps holds walk g p w m ds next
+  visited q f0 t0 keeps holds f g p w n m b es ds u i walk mid xs next d c v l a h r s =
+      let some = calls-length call (q ++ p) (pairs_of u) xs f g a in
+      let below : children_pairs (as_children (i.done ++ (b, u) ∷ []))
+      ≡ children_pairs (as_children i.done) ++ (pairs_of u ++ []) = pairs-append i.done ((b, u) ∷ []) in record {
+        own = i.own;
+        width = i.width;
+        done = i.done ++ (b, u) ∷ [];
+        left = i.left ++ mid;
+        rest = i.rest;
+        before = i.before ∙ ap (λ z. node p i.own i.width (as_children z))
+            (sym (append_assoc i.done ((b, u) ∷ []) i.rest));
+        now = d ∙ sym (append_assoc i.left mid i.rest);
+        canonical = c;
+        capacity = v;
+        held = i.held;
+        lives = l;
+        first = i.first;
+        called = i.called;
+        fates = i.fates ++ xs;
+        calls = rw below (calls-append call (q ++ p) (children_pairs (as_children i.done)) (pairs_of u ++ []) i.fates xs
+            i.first f g i.whole i.calls (calls-front call (q ++ p) (pairs_of u) [] xs f g a));
+        stay = rw below (pairs-append i.left mid
+            ∙ ap (λ z. z ++ children_pairs (as_children mid)) i.stay
+            ∙ ap (λ z. remaining (children_pairs (as_children i.done)) i.fates ++ z)
+            (h ∙ sym (remaining-front (pairs_of u) [] xs some ∙ append-nil (remaining (pairs_of u) xs)))
+            ∙ sym (remaining-append (children_pairs (as_children i.done)) (pairs_of u ++ []) i.fates xs i.whole));
+        refused = refusals-append i.fates xs ∙ omega (arith, i.refused, r);
+        state = s;
+      }
+
+  -- all pairs of the child were visited
+  all-visited : (q : List ℕ) (f0 : F) (t0 : Trie V) (keeps holds : Bool) (f : F) (p : List ℕ) (w : Option V) (n b : ℕ)
+      (es : List (ℕ × Trie V)) (u : Trie V) (i : Upcoming call q f0 t0 keeps holds f p w n b es u)
+      (xs : List (V × Fate)) → length xs ≡ length (pairs_of u)
+      → length (i.fates ++ xs) ≡ length (children_pairs (as_children (i.done ++ (b, u) ∷ [])))
+  all-visited q f0 t0 keeps holds f p w n b es u i xs h = omega (
+    arith,
+    h,
+    i.whole,
+    length-append i.fates xs,
+    ap length (pairs-append i.done ((b, u) ∷ [])),
+    length-append (children_pairs (as_children i.done)) (pairs_of u ++ []),
+    length-append (pairs_of u) [],
+  )
+
+  -- f may be called with the pairs of the children that follow
+  rest-callable : (q : List ℕ) (f0 : F) (t0 : Trie V) (keeps holds : Bool) (f g : F) (p : List ℕ) (w : Option V)
+      (n b : ℕ) (es : List (ℕ × Trie V)) (u : Trie V) (i : Upcoming call q f0 t0 keeps holds f p w n b es u)
+      (xs : List (V × Fate)) → length xs ≡ length (pairs_of u) → CallsFor call (q ++ p) f (pairs_of u) xs g
+      → CanRetain call g (with_prefix (q ++ p) (children_pairs (as_children i.rest)))
+  rest-callable q f0 t0 keeps holds f g p w n b es u i xs l a = can-back _ _ f g (with_prefix (q ++ p) (pairs_of u))
+      (with_prefix (q ++ p) (children_pairs (as_children i.rest)))
+      (calls-folds call (q ++ p) (pairs_of u) xs f g l a) i.later
+
+  -- what is left to prove of a step, and what it proves
+  abbrev pub Steps : (q : List ℕ) (f0 : F) (t0 : Trie V) (keeps holds : Bool) (walk : Retention) (g : F) (p : List ℕ)
+      (w : Option V) (m b : ℕ) (es ds : List (ℕ × Trie V)) (next : Option ℕ) → Type 0
+  Steps q f0 t0 keeps holds walk g p w m b es ds next = Retaining call q f0 t0 keeps holds walk g p w m ds next
+      × (ahead_count next ds < ahead_count (Some b) es)
+
+  -- the child stays as x
+  stays : (q : List ℕ) (f0 : F) (t0 : Trie V) (keeps holds : Bool) (f g : F) (p : List ℕ) (w : Option V) (n m b : ℕ)
+      (es ds : List (ℕ × Trie V)) (u x : Trie V) (i : Upcoming call q f0 t0 keeps holds f p w n b es u)
+      (walk : Retention) (xs : List (V × Fate)) (next : Option ℕ) → IsCanonical x
+      → KeepsFirst (prefix_of u) (prefix_of x) → m ≡ n → ds ≡ replaced b x es
+      → CallsFor call (q ++ p) f (pairs_of u) xs g → pairs_of x ≡ remaining (pairs_of u) xs
+      → refusals xs ≡ refusals_of walk
+      → WalksOn call walk (q ++ p) g w (i.fates ++ xs) (i.done ++ (b, u) ∷ []) (i.left ++ (b, x) ∷ []) i.rest next
+      → Retaining call q f0 t0 keeps holds walk g p w m ds next
+  stays q f0 t0 keeps holds f g p w n m b es ds u x i walk xs next c k v d a h r s =
+      let changed : ds ≡ i.left ++ (b, x) ∷ i.rest = d ∙ ap (replaced b x) i.now
+      ∙ middle-replaced b 0 u x i.left i.rest i.all in
+      let same : length ds ≡ length es = omega (
+        arith,
+        ap length changed,
+        ap length i.now,
+        length-middle i.left i.rest (b, x),
+        length-middle i.left i.rest (b, u),
+      ) in
+      visited q f0 t0 keeps holds f g p w n m b es ds u i walk ((b, x) ∷ []) xs next changed
+      (rw changed (middle-other b 0 u x i.left i.rest i.all c k)) (v ∙ i.capacity ∙ ap capacity_of (sym same))
+      (λ z. omega (arith, ap length changed, length-middle i.left i.rest (b, x))) a
+      (append-nil (pairs_of x) ∙ h) r s
+
+  no-value : (w : Option V) → false ≡ is_some w → w ≡ None
+  no-value None h = refl
+  no-value (Some v) h = absurd (cc)
+
+  -- the walk is over
+  stopped : (q : List ℕ) (f0 : F) (t0 : Trie V) (keeps holds : Bool) (f g : F) (p : List ℕ) (w : Option V) (n m b : ℕ)
+      (es ds : List (ℕ × Trie V)) (u : Trie V) (i : Upcoming call q f0 t0 keeps holds f p w n b es u)
+      (walk : Retention) (next : Option ℕ) → next ≡ None
+      → Retaining call q f0 t0 keeps holds walk g p w m ds next
+      → Steps q f0 t0 keeps holds walk g p w m b es ds next
+  stopped q f0 t0 keeps holds f g p w n m b es ds u i walk next e r = (r, rw e (omega (arith, i.count)))
+
+  pub retaining-step : (q : List ℕ) (f0 : F) (t0 : Trie V) (keeps holds : Bool) (f g : F) (p : List ℕ) (w : Option V)
+      (n b : ℕ) (es : List (ℕ × Trie V)) (u x : Trie V) (i : Upcoming call q f0 t0 keeps holds f p w n b es u)
+      (below walk : Retention) (s s' : Storage (Trie V)) (next : Option ℕ) → IsCanonical x
+      → KeepsFirst (prefix_of u) (prefix_of x) → RetainsBelow call (q ++ p) below f u x g
+      → storage_capacity s ≡ n → child_entries s ≡ replaced b x es → AppliesChild holds b below walk s s'
+      → next ≡ next_byte walk b (child_entries s')
+      → Steps q f0 t0 keeps holds walk g p w (storage_capacity s') b es (child_entries s') next
+  retaining-step q f0 t0 keeps holds f g p w n b es u x i Done Done s s' next c k h v d a e =
+      let ds : child_entries s' ≡ replaced b x es = ap child_entries a ∙ d in
+      let changed : child_entries s' ≡ i.left ++ (b, x) ∷ i.rest = ds ∙ ap (replaced b x) i.now
+      ∙ middle-replaced b 0 u x i.left i.rest i.all in
+      let low = middle-other b 0 u x i.left i.rest i.all c k in
+      let first : next ≡ option_map (λ e. e.0) (slice_get i.rest 0) = e
+      ∙ ap (λ r. option_map (λ e. e.0) (slice_get r 0)) (ap (entries_above b) changed
+      ∙ middle-above b 0 x i.left i.rest low) in
+      let joined : child_entries s' ≡ (i.left ++ (b, x) ∷ []) ++ i.rest = changed
+      ∙ sym (append_assoc i.left ((b, x) ∷ []) i.rest) in (
+        stays q f0 t0 keeps holds f g p w n (storage_capacity s') b es (child_entries s') u x i Done h.fates next c k
+            (ap storage_capacity a ∙ v) ds h.calls h.left h.refused (
+              all-visited q f0 t0 keeps holds f p w n b es u i h.fates h.all,
+              first,
+              rest-callable q f0 t0 keeps holds f g p w n b es u i h.fates h.all h.calls,
+            ),
+        omega (
+          arith,
+          i.count,
+          ahead-first 0 (i.left ++ (b, x) ∷ []) i.rest (child_entries s') next joined
+              (subst (λ z. AreCanonical 0 (as_children z)) (sym (append_assoc i.left ((b, x) ∷ []) i.rest)) low) first,
+        ),
+      )
+  retaining-step q f0 t0 keeps holds f g p w n b es u x i Done Rejected s s' next c k h v d a e = absurd a
+  retaining-step q f0 t0 keeps holds f g p w n b es u x i Done Refused s s' next c k h v d a e = absurd a
+  retaining-step q f0 t0 keeps holds f g p w n b es u x i Rejected Done s s' next c k h v d a e =
+      let old : child_entries s ≡ i.left ++ (b, x) ∷ i.rest = d ∙ ap (replaced b x) i.now
+      ∙ middle-replaced b 0 u x i.left i.rest i.all in
+      let low = middle-other b 0 u x i.left i.rest i.all c k in
+      let changed : child_entries s' ≡ i.left ++ i.rest = a.0 ∙ ap (without_byte b) old
+      ∙ middle-without b 0 x i.left i.rest low in
+      let gone = middle-gone b 0 x i.left i.rest low in
+      let first : next ≡ option_map (λ e. e.0) (slice_get i.rest 0) = e
+      ∙ ap (λ r. option_map (λ e. e.0) (slice_get r 0)) (ap (entries_above b) changed
+      ∙ middle-after b 0 x i.left i.rest low) in
+      let there : child_at b (child_entries s) ≡ Some x = ap (child_at b) old ∙ middle-at b 0 x i.left i.rest low in
+      let fewer : length es ≡ length (child_entries s') + 1 = omega (
+        arith,
+        ap length changed,
+        ap length i.now,
+        length-middle i.left i.rest (b, u),
+      ) in
+      let room : storage_capacity s' ≡ capacity_of (length (child_entries s')) = a.1
+      ∙ ap (λ o. if is_some o then shrunk_capacity (length (child_entries s')) (storage_capacity s)
+      else storage_capacity s) there
+      ∙ ap (shrunk_capacity (length (child_entries s'))) (v ∙ i.capacity ∙ ap capacity_of fewer)
+      ∙ shrunk-capacity (length (child_entries s')) in (
+        visited q f0 t0 keeps holds f g p w n (storage_capacity s') b es (child_entries s') u i Done []
+            (all_fulfilled h.1.fates) next changed (rw changed gone) room
+            (λ z. ⊎_elim (λ y. let no : true ≡ false = sym y ∙ i.held ∙ z in absurd (cc))
+            (λ y. omega (arith, y, ap length old, ap length changed, length-middle i.left i.rest (b, x))) a.2)
+            (calls-fulfilled call (q ++ p) (pairs_of u) h.1.fates f g h.1.calls)
+            (sym (leaf-fulfilled x (pairs_of u) h.1.fates h.0 h.1.all h.1.refused h.1.left))
+            (refusals-fulfilled h.1.fates) (
+              all-visited q f0 t0 keeps holds f p w n b es u i (all_fulfilled h.1.fates)
+                  (length-fulfilled h.1.fates ∙ h.1.all),
+              first,
+              rest-callable q f0 t0 keeps holds f g p w n b es u i h.1.fates h.1.all h.1.calls,
+            ),
+        omega (arith, i.count, ahead-first 0 i.left i.rest (child_entries s') next changed gone first),
+      )
+  retaining-step q f0 t0 keeps holds f g p w n b es u x i Rejected Rejected s s' next c k h v d a e =
+      let ds : child_entries s' ≡ replaced b x es = ap child_entries a.0 ∙ d in
+      let changed : child_entries s ≡ i.left ++ (b, x) ∷ i.rest = d ∙ ap (replaced b x) i.now
+      ∙ middle-replaced b 0 u x i.left i.rest i.all in
+      let few : length i.left + length i.rest ≡ 0 = omega (
+        arith,
+        a.2,
+        ap length changed,
+        length-middle i.left i.rest (b, x),
+        length-append i.left i.rest,
+      ) in
+      let front : i.left ≡ [] = no-entries i.left (omega (arith, few)) in
+      stopped q f0 t0 keeps holds f g p w n (storage_capacity s') b es (child_entries s') u i Rejected next e
+      (stays q f0 t0 keeps holds f g p w n (storage_capacity s') b es (child_entries s') u x i Rejected h.1.fates next
+      c k (ap storage_capacity a.0 ∙ v) ds h.1.calls h.1.left h.1.refused (
+        all-visited q f0 t0 keeps holds f p w n b es u i h.1.fates h.1.all,
+        e,
+        no-entries i.rest (omega (arith, few)),
+        no-value w (sym a.1 ∙ i.held),
+        record { byte = b; leaf = x; one = ap (λ z. z ++ (b, x) ∷ []) front; bare = h.0 },
+      ))
+  retaining-step q f0 t0 keeps holds f g p w n b es u x i Rejected Refused s s' next c k h v d a e =
+      stopped q f0 t0 keeps holds f g p w n (storage_capacity s') b es (child_entries s') u i Refused next e
+      (stays q f0 t0 keeps holds f g p w n (storage_capacity s') b es (child_entries s') u x i Refused h.1.fates next
+      c k (ap storage_capacity a ∙ v) (ap child_entries a ∙ d) h.1.calls h.1.left h.1.refused
+      (e, omega (arith, length-append (i.left ++ (b, x) ∷ []) i.rest, length-append i.left ((b, x) ∷ []))))
+  retaining-step q f0 t0 keeps holds f g p w n b es u x i Refused Done s s' next c k h v d a e = absurd a
+  retaining-step q f0 t0 keeps holds f g p w n b es u x i Refused Rejected s s' next c k h v d a e = absurd a
+  retaining-step q f0 t0 keeps holds f g p w n b es u x i Refused Refused s s' next c k h v d a e =
+      stopped q f0 t0 keeps holds f g p w n (storage_capacity s') b es (child_entries s') u i Refused next e
+      (stays q f0 t0 keeps holds f g p w n (storage_capacity s') b es (child_entries s') u x i Refused h.fates next
+      c k (ap storage_capacity a ∙ v) (ap child_entries a ∙ d) h.calls h.left h.refused
+      (e, omega (arith, length-append (i.left ++ (b, x) ∷ []) i.rest, length-append i.left ((b, x) ∷ []))))

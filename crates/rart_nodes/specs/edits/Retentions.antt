@@ -1,0 +1,96 @@
+-- Calls of a callback that says which pairs stay, and what they leave of a list of pairs.
+use Rattle.std.specs.Prelude.{ℕ, ◌≡◌, ◌+◌, Bool, true, false, List, [], ◌∷◌, ◌++◌, length, Result, Ok, Err}
+use Rattle.std.specs.Prelude.{if◌then◌else◌}
+use Rattle.std.specs.Borrow.{Bor, MutBor}
+use Rattle.std.specs.Fn.{Called, Mut, Takes}
+use Rattle.rart_nodes.specs.walks.Calls.{CallableAtEach}
+
+-- What became of a pair: it is kept; or removed; or its removal was refused, and it stays.
+pub data Fate : Type 0 where
+  kept : Fate
+  removed : Fate
+  refused : Fate
+
+-- what the callback returned of it
+abbrev pub is_wanted : Fate → Bool
+is_wanted kept = true
+is_wanted removed = false
+is_wanted refused = false
+
+-- whether it stays
+abbrev pub is_left : Fate → Bool
+is_left kept = true
+is_left removed = false
+is_left refused = true
+
+abbrev pub refusal : Fate → ℕ
+refusal kept = 0
+refusal removed = 0
+refusal refused = 1
+
+-- f was called with the key and a loan of the value of e: it returned r and left w, and is then f'
+pub record CalledFor {F V : Type 0} (call : Mut F (Bor (List ℕ) × (MutBor V × Unit {0})) (Bool × (MutBor V × Unit {0})))
+    (f : F) (e : List ℕ × V) (r : Bool) (w : V) (f' : F) : Type 0 where
+  pub key : Bor (List ℕ)
+  pub key_is : key.now ≡ e.0
+  pub shown : MutBor V
+  pub shows : shown.now ≡ e.1
+  pub left : MutBor V
+  pub called : Called call f (key, (shown, tt)) (r, (left, tt)) f'
+  pub leaves : left.now ≡ w
+
+-- what is left of a list, of whose first pairs each has a fate, and a value that its call left
+abbrev pub remaining : {V : Type 0} → List (List ℕ × V) → List (V × Fate) → List (List ℕ × V)
+remaining [] xs = []
+remaining (e ∷ es) [] = e ∷ es
+remaining (e ∷ es) (x ∷ xs) = if is_left x.1 then (e.0, x.0) ∷ remaining es xs else remaining es xs
+
+-- how many removals were refused
+abbrev pub refusals : {V : Type 0} → List (V × Fate) → ℕ
+refusals [] = 0
+refusals (x ∷ xs) = refusal x.1 + refusals xs
+
+module _ {F V : Type 0} (call : Mut F (Bor (List ℕ) × (MutBor V × Unit {0})) (Bool × (MutBor V × Unit {0}))) where
+  -- f may be called with the key and a loan of the value of e
+  abbrev pub TakesPair : F → List ℕ × V → Type 0
+  TakesPair f e = (key : Bor (List ℕ)) (lent : MutBor V) → key.now ≡ e.0 → lent.now ≡ e.1
+      → Takes call f (key, (lent, tt))
+
+  -- f was called with them, and is then f'
+  abbrev pub CalledForPair : F → List ℕ × V → F → Type 0
+  CalledForPair f e f' = (r : Bool) × ((w : V) × CalledFor call f e r w f')
+
+  -- f may be called with each pair in turn
+  abbrev pub CanRetain : F → List (List ℕ × V) → Type 0
+  CanRetain f es = CallableAtEach (λ f e f'. CalledForPair f e f') (λ f e. TakesPair f e) f es
+
+  -- f was called with the first pairs in turn, each key after q, one call for each fate, and is then f'
+  abbrev pub CallsFor : List ℕ → F → List (List ℕ × V) → List (V × Fate) → F → Type 0
+  CallsFor q f es [] f' = f ≡ f'
+  CallsFor q f [] (x ∷ xs) f' = ⊥
+  CallsFor q f (e ∷ es) (x ∷ xs) f' = (g : F) × (CalledFor call f (q ++ e.0, e.1) (is_wanted x.1) x.0 g
+      × CallsFor q g es xs f')
+
+  -- f was called with all pairs, and ds is left of them; n removals were refused
+  pub record RetainsAll (q : List ℕ) (f : F) (es ds : List (List ℕ × V)) (n : ℕ) (f' : F) : Type 0 where
+    pub fates : List (V × Fate)
+    pub calls : CallsFor q f es fates f'
+    pub all : length fates ≡ length es
+    pub refused : refusals fates ≡ n
+    pub left : ds ≡ remaining es fates
+
+  -- f was called with the first pairs, and ds is left of all; one removal was refused
+  pub record RetainsFirst (q : List ℕ) (f : F) (es ds : List (List ℕ × V)) (f' : F) : Type 0 where
+    pub fates : List (V × Fate)
+    pub calls : CallsFor q f es fates f'
+    pub refused : refusals fates ≡ 1
+    pub left : ds ≡ remaining es fates
+
+  -- all pairs were visited, or the walk ended at a refused removal
+  abbrev pub Retains : {E : Type 0} → F → List (List ℕ × V) → Result (Unit {0}) E → List (List ℕ × V) → F → Type 0
+  Retains f es (Ok u) ds f' = RetainsAll [] f es ds 0 f'
+  Retains f es (Err e) ds f' = RetainsFirst [] f es ds f'
+
+  -- the same of an f taken by value
+  abbrev pub Retained : {E : Type 0} → F → List (List ℕ × V) → Result (Unit {0}) E → List (List ℕ × V) → Type 0
+  Retained f es r ds = (last : F) × Retains f es r ds last
