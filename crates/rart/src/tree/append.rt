@@ -53,6 +53,8 @@ impl<K: KeyTrait + Drop, V: Drop> AdaptiveRadixTree<K, V> {
             MovesUntil K.bytes self.old.pairs other.old.pairs refused self.new.pairs other.new.pairs) }
     {
         other.canonical();
+        // without its first pair `other` isn't full
+        let _len = other.len();
         match other.pop_first() {
             Ok(Some((key, value))) => match self.put_pair(other, key, value) {
                 Ok(()) => Ok(true),
