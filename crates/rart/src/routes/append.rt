@@ -19,8 +19,8 @@ impl<K: KeyTrait + Drop, T: Drop> RouteTable<K, T> {
     pub fn append(&mut self, other: &mut Self) -> Result<(), Refused<Option<(K, T)>>>
         ensures pairs { OnOk result (self.new.pairs ≡ put_all other.old.pairs self.old.pairs) }
         ensures emptied { OnOk result (other.new.pairs ≡ []) }
-        ensures refused { IfErr result (λ refused.
-            MovesUntil K.bytes self.old.pairs other.old.pairs refused self.new.pairs other.new.pairs) }
+        ensures refused { IfErr result (λ refused. MovesUntil K.bytes self.old.pairs
+            other.old.pairs refused self.new.pairs other.new.pairs) }
         ensures exchanged { self.old.pairs ≡ []
             → (result ≡ Ok tt) × (self.new ≡ other.old) × (other.new ≡ self.old) }
     {

@@ -27,8 +27,8 @@ impl<K: KeyTrait + Drop, V: Drop> AdaptiveRadixTree<K, V> {
     pub fn append(&mut self, other: &mut Self) -> Result<(), Refused<Option<(K, V)>>>
         ensures pairs { OnOk result (self.new.pairs ≡ put_all other.old.pairs self.old.pairs) }
         ensures emptied { OnOk result (other.new.pairs ≡ []) }
-        ensures refused { IfErr result (λ refused.
-            MovesUntil K.bytes self.old.pairs other.old.pairs refused self.new.pairs other.new.pairs) }
+        ensures refused { IfErr result (λ refused. MovesUntil K.bytes self.old.pairs
+            other.old.pairs refused self.new.pairs other.new.pairs) }
         ensures exchanged { self.old.pairs ≡ []
             → (result ≡ Ok tt) × (self.new ≡ other.old) × (other.new ≡ self.old) }
     {
@@ -49,8 +49,8 @@ impl<K: KeyTrait + Drop, V: Drop> AdaptiveRadixTree<K, V> {
         ensures fewer { IfOk result
             (λ more. IsTrue more → length other.new.pairs < length other.old.pairs) }
         ensures none { IfOk result (λ more. more ≡ false → other.new.pairs ≡ []) }
-        ensures refused { IfErr result (λ refused.
-            MovesUntil K.bytes self.old.pairs other.old.pairs refused self.new.pairs other.new.pairs) }
+        ensures refused { IfErr result (λ refused. MovesUntil K.bytes self.old.pairs
+            other.old.pairs refused self.new.pairs other.new.pairs) }
     {
         other.canonical();
         // without its first pair `other` isn't full
