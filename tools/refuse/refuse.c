@@ -6,6 +6,7 @@
      0x5ef2       a part of a sweep ends. Answered by no block.
      0x5ef3 | N   from now on add up the bytes requested, against the limit N. Answered by no block.
      0x5ef4       stop. Answered by a block exactly if more than N bytes were requested since the last 0x5ef3.
+     0x5ef5 | N   as 0x5ef0, and refuse each request after the Nth too.
    From outside, REFUSE=N refuses the Nth request of the whole process, and REFUSE_REPORT=FILE appends a line with the
    counts when the process ends by exit.
 
@@ -22,8 +23,10 @@ extern int *__errno_location(void);
 
 enum { NO_MEMORY = 12, WRITE_CREATE_APPEND = 01 | 0100 | 02000 };
 enum { REFUSE_NTH = 0x5ef0, WAS_REFUSED = 0x5ef1, PART_ENDS = 0x5ef2, ADD_BYTES = 0x5ef3, WERE_MORE = 0x5ef4 };
+enum { REFUSE_FROM = 0x5ef5 };
 
 static long until;         /* by message: how many requests until the one to be refused, 0 for none */
+static int all_after;      /* whether each request after that one is refused too */
 static long process_until; /* the same by REFUSE */
 static long refused;       /* since the last message that set `until` */
 static long requests, refusals, messages;
@@ -39,7 +42,10 @@ static int refuses(size_t size) {
         bytes += size;
         added += (long)size;
     }
-    if (until > 0 && --until == 0) no = 1;
+    if (until > 0 && --until == 0) {
+        no = 1;
+        until = all_after;
+    }
     if (process_until > 0 && --process_until == 0) no = 1;
     if (no) {
         refused++;
@@ -53,8 +59,9 @@ static int refuses(size_t size) {
 static int is_message(size_t size, void **answer) {
     size_t word = size >> 48;
     *answer = 0;
-    if (word == REFUSE_NTH) {
+    if (word == REFUSE_NTH || word == REFUSE_FROM) {
         until = (long)(size & 0xffffffffffffUL);
+        all_after = word == REFUSE_FROM;
         refused = 0;
     } else if (word == WAS_REFUSED) {
         if (refused > 0) *answer = __libc_malloc(1);

@@ -1,3 +1,4 @@
+pub mod AppendLemmas
 pub mod BothEndLemmas
 pub mod BulkEndLemmas
 pub mod BulkLawLemmas

@@ -1,3 +1,4 @@
+pub mod Appends
 pub mod BothEnds
 pub mod BulkLaw
 pub mod BulkLoads

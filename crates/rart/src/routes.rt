@@ -16,6 +16,7 @@ ghost use Rattle.rart.specs.Refusals.{AddsPresent, IsStoredAt};
 ghost use Rattle.rart.specs.RouteLoans.{table_ends_as};
 ghost use Rattle.rart.specs.declared.tree.TheConstants.{MAX_PAIRS};
 
+mod append;
 mod clones;
 mod ends;
 mod equal;

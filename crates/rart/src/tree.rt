@@ -16,6 +16,7 @@ use rart_parts::TreeError;
 use std::alloc::Global;
 use std::marker::{Model, PhantomData};
 
+mod append;
 mod bulk;
 mod clones;
 mod ends;

@@ -1,6 +1,5 @@
 //! Rows of the calls of a table of IPv6 networks that the other rows do not make, with networks given as texts.
 
-use rart::Visits;
 use rart_cidr::{Cidr6, CidrTable6, ParseCidrError};
 use std::alloc::Global;
 use std::cmp::Ordering;
@@ -17,7 +16,7 @@ enum Ask {
     Write(&'static str, u64),
     /// The target of exactly this network.
     Get(&'static str),
-    /// The longest network that covers this one, plain and counted.
+    /// The longest network that covers this one, by walk and by lengths.
     Covers(&'static str),
     /// The networks that cover this one, the shortest first.
     CoversAll(&'static str),
@@ -66,14 +65,15 @@ fn writes(table: &mut Table, net: &Cidr6, target: u64, wanted: Option<u64>) -> b
     }
 }
 
-// The plain and the counted call both find it.
+// The longest match finds it, by walk and by lengths.
 fn covers(table: &Table, net: &Cidr6, wanted: Option<&str>) -> bool {
-    let counted = table
-        .seen::<Visits>()
-        .longest_match_net_counted(net, &mut Visits::new(), &mut Visits::new());
-    match (table.longest_match_net(net), counted, wanted) {
-        (Some((plain, target)), Some((also, same)), Some(text)) => {
-            is(&plain, text) && is(&also, text) && *target == *same
+    match (
+        table.longest_match_net(net),
+        table.longest_by_lengths(net),
+        wanted,
+    ) {
+        (Some((walked, target)), Some((sought, same)), Some(text)) => {
+            is(&walked, text) && is(&sought, text) && *target == *same
         }
         (None, None, None) => true,
         _ => false,

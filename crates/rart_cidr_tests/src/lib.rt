@@ -14,13 +14,17 @@ mod quiet;
 #[cfg(test)]
 mod random;
 #[cfg(test)]
-mod refused;
+mod refused4;
+#[cfg(test)]
+mod refused6;
 #[cfg(test)]
 mod rows4;
 #[cfg(test)]
 mod rows6;
 #[cfg(test)]
 mod short;
+#[cfg(test)]
+mod strides;
 #[cfg(test)]
 mod tables;
 #[cfg(test)]

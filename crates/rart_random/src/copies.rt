@@ -1,22 +1,28 @@
-//! What must hold of any tree: of its clone, and of the part below a prefix that is taken and put back.
+//! What must hold of any tree: of its clones, and of the part below a prefix that is taken and appended again.
 use crate::model::Pair;
 use crate::sides::{Tree, key_of};
 use crate::text::Text;
 use rart::{Iter, KeyTrait};
 
-// Whether the copy equals the tree until its values change.
-fn is_apart<K: KeyTrait + Drop>(copy: &mut Tree<K>, tree: &Tree<K>) -> bool {
+// Whether the copy equals the tree until its values change, and once the other copy is appended to it.
+fn is_apart<K: KeyTrait + Drop>(
+    copy: &mut Tree<K>,
+    other: &mut Tree<K>,
+    tree: &Tree<K>,
+) -> Option<bool> {
     let was_equal = *copy == *tree;
     copy.for_each_value_mut(|value| *value = value.wrapping_add(1));
-    was_equal && (*copy == *tree) == tree.is_empty()
+    let is_changed = (*copy == *tree) == tree.is_empty();
+    copy.append(other).ok()?;
+    Some(was_equal && is_changed && *copy == *tree && other.is_empty())
 }
 
-// Whether a clone equals the tree until its values change; none if memory was refused.
+// The same of two clones; none if memory was refused.
 fn is_cloned<K: KeyTrait + Drop>(tree: &Tree<K>) -> Option<bool> {
-    match tree.clone() {
-        Ok(mut copy) => Some(is_apart(&mut copy, tree)),
-        Err(_refused) => None,
-    }
+    let (Ok(mut copy), Ok(mut other)) = (tree.clone(), tree.clone()) else {
+        return None;
+    };
+    is_apart(&mut copy, &mut other, tree)
 }
 
 fn count<K: KeyTrait + Drop>(pairs: &mut Iter<'_, K, K::PartialType, u64>) -> usize {
@@ -35,41 +41,23 @@ fn count_below<K: KeyTrait + Drop>(tree: &Tree<K>, prefix: &K) -> Option<usize> 
     }
 }
 
-fn insert_all<K: KeyTrait + Drop>(
-    tree: &mut Tree<K>,
-    pairs: &mut Iter<'_, K, K::PartialType, u64>,
-) -> Option<()> {
-    while let Some((key, value)) = pairs.next() {
-        if tree.insert_k(&key, *value).is_err() {
-            return None;
-        }
-    }
-    Some(())
-}
-
-fn put_back<K: KeyTrait + Drop>(tree: &mut Tree<K>, part: &Tree<K>) -> Option<()> {
-    match part.iter() {
-        Ok(mut pairs) => insert_all(tree, &mut pairs),
-        Err(_refused) => None,
-    }
-}
-
 // Whether all pairs below the prefix are in the part, which together with the rest is the whole.
 fn are_parts<K: KeyTrait + Drop>(
     rest: &mut Tree<K>,
-    part: &Tree<K>,
+    part: &mut Tree<K>,
     whole: &Tree<K>,
     prefix: &K,
 ) -> Option<bool> {
-    let is_apart = count_below(rest, prefix)? == 0 && count_below(part, prefix)? == part.len();
-    put_back(rest, part)?;
-    let is_whole = *rest == *whole;
-    Some(is_apart && is_whole && rest.remove_prefix_k(prefix).ok()? == part.len())
+    let count = part.len();
+    let is_apart = count_below(rest, prefix)? == 0 && count_below(part, prefix)? == count;
+    rest.append(part).ok()?;
+    let is_whole = *rest == *whole && part.is_empty();
+    Some(is_apart && is_whole && rest.remove_prefix_k(prefix).ok()? == count)
 }
 
 fn is_taken<K: KeyTrait + Drop>(rest: &mut Tree<K>, whole: &Tree<K>, prefix: &K) -> Option<bool> {
     match rest.take_prefix_k(prefix) {
-        Ok(part) => are_parts(rest, &part, whole, prefix),
+        Ok(mut part) => are_parts(rest, &mut part, whole, prefix),
         Err(_refused) => None,
     }
 }

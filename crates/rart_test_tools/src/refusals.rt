@@ -11,6 +11,14 @@ pub fn refuse(alloc: Global, at: usize) {
     );
 }
 
+/// A request that makes the library refuse the request `at` after it, and each one after that.
+pub fn refuse_from(alloc: Global, at: usize) {
+    let _ = Vec::<u8>::with_capacity(
+        alloc,
+        0x5ef5_0000_0000_0000_usize.wrapping_add(at.min(0xffff_ffff)),
+    );
+}
+
 /// Whether that request was refused since; afterwards none is to be refused.
 pub fn was_refused(alloc: Global) -> bool {
     Vec::<u8>::with_capacity(alloc, 0x5ef1_0000_0000_0000_usize).is_ok()

@@ -1,5 +1,6 @@
 //! Tests of the map.
 
+mod appended;
 mod calls;
 mod clones;
 mod drops;
@@ -12,5 +13,6 @@ mod no_requests;
 mod retained;
 mod taken_in_turn;
 mod taken_prefixes;
+mod uncloned;
 mod updates;
 mod words;

@@ -65,7 +65,7 @@ impl<K: KeyTrait + Drop, V: Drop> AdaptiveRadixTree<K, V> {
     }
 
     // Inserts an item, which the error holds, and drops the old value.
-    fn put_item(&mut self, key: K, value: V) -> Result<(), Refused<(K, V)>>
+    pub(super) fn put_item(&mut self, key: K, value: V) -> Result<(), Refused<(K, V)>>
         ensures pairs { OnOk result (self.new.pairs ≡ put (K.bytes key) value self.old.pairs) }
         ensures item { IfErr result (λ refused. refused.value ≡ (key, value)) }
         ensures refused { IfErr result

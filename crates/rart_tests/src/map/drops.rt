@@ -4,7 +4,7 @@ use rart::{
     AdaptiveRadixTree, ArrayKey, KeyTrait, NotInserted, Refused, TreeError, TryInsertError,
 };
 use rart_test_tools::counted::Counted;
-use rart_test_tools::refusals::{refuse, was_refused};
+use rart_test_tools::refusals::{is_swept, refuse, refuse_from, was_refused};
 use std::alloc::Global;
 use std::cell::Cell;
 
@@ -266,4 +266,78 @@ fn a_deletion_refused_in_turn_drops_nothing(rt: HostRuntime) {
         }
     }
     assert!(rt; false, "refused for ever");
+}
+
+// How many values an append drops, with the keys below these numbers; `None` where it fails or moves not all.
+fn dropped_by_append(
+    into: &mut Tree<'_>,
+    from: &mut Tree<'_>,
+    most: usize,
+    drops: &Cell<usize>,
+) -> Option<usize> {
+    let done = into.append(from).is_ok();
+    (done && from.is_empty() && into.len() == most).then_some(drops.get())
+}
+
+// The same, and how many are dropped with both trees.
+fn dropped_around_append(alloc: Global, into: u8, from: u8) -> (Option<usize>, usize) {
+    let drops = Cell::new(0_usize);
+    let (mut one, mut other) = (filled(alloc, &drops, into), filled(alloc, &drops, from));
+    let most = usize::from(into.max(from));
+    let early = dropped_by_append(&mut one, &mut other, most, &drops);
+    drop(one);
+    drop(other);
+    (early, drops.get())
+}
+
+#[test]
+fn an_append_drops_the_old_values_of_shared_keys_once(rt: HostRuntime) {
+    for (into, from) in [(0_u8, 5_u8), (5, 0), (5, 5), (4, 17), (49, 5), (255, 50)] {
+        let shared = usize::from(into.min(from));
+        let all = usize::from(into).wrapping_add(usize::from(from));
+        assert_eq!(rt;
+            dropped_around_append(rt.alloc(), into, from),
+            (Some(shared), all)
+        );
+    }
+}
+
+// An append with this request and all after it refused: each of so many values is stored, held or dropped.
+fn are_all_kept<'a>(
+    alloc: Global,
+    at: usize,
+    into: &mut Tree<'a>,
+    from: &mut Tree<'a>,
+    all: usize,
+    drops: &Cell<usize>,
+) -> Option<bool> {
+    refuse_from(alloc, at);
+    let result = into.append(from);
+    let was = was_refused(alloc);
+    let (is_right, held) = match &result {
+        Ok(()) => (!was, 0_usize),
+        Err(refused) => (was, usize::from(refused.value.is_some())),
+    };
+    let early = drops.get();
+    drop(result);
+    let kept = into.len().wrapping_add(from.len()).wrapping_add(held);
+    (is_right
+        && early.wrapping_add(kept) == all
+        && drops.get() == early.wrapping_add(held)).then_some(was)
+}
+
+// Whether a request was refused; `None` where something else failed.
+fn append_refused(alloc: Global, at: usize) -> Option<bool> {
+    let drops = Cell::new(0_usize);
+    let (mut one, mut other) = (filled(alloc, &drops, 3), filled(alloc, &drops, 50));
+    let refused = are_all_kept(alloc, at, &mut one, &mut other, 53, &drops);
+    drop(one);
+    drop(other);
+    if drops.get() == 53 { refused } else { None }
+}
+
+#[test]
+fn an_append_refused_in_turn_drops_each_value_once(rt: HostRuntime) {
+    let alloc = rt.alloc();
+    assert!(rt; is_swept(alloc, |at| append_refused(alloc, at)));
 }

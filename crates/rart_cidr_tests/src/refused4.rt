@@ -1,4 +1,4 @@
-//! Edits and walks of a table of networks with each request for memory refused in turn.
+//! Edits and walks of a table of IPv4 networks with each request for memory refused in turn.
 
 use rart::TreeError;
 use rart_cidr::{Cidr4, CidrTable4};
@@ -8,8 +8,10 @@ use std::net::Ipv4Addr;
 
 type Table = CidrTable4<u64>;
 
+type Network = ([u8; 4], u8);
+
 // Networks that need several strides, and several nodes in one.
-static NETWORKS: [([u8; 4], u8); 12] = [
+static NETWORKS: [Network; 12] = [
     ([10, 0, 0, 0], 8),
     ([10, 1, 0, 0], 16),
     ([10, 1, 2, 0], 24),
@@ -24,16 +26,25 @@ static NETWORKS: [([u8; 4], u8); 12] = [
     ([192, 0, 2, 0], 24),
 ];
 
+// Five strides below one node of the map that holds them: it grows at the fifth, and shrinks without the first.
+static FIVE_STRIDES: [Network; 5] = [
+    ([10, 0, 0, 0], 16),
+    ([10, 1, 0, 0], 16),
+    ([10, 2, 0, 0], 16),
+    ([10, 3, 0, 0], 16),
+    ([10, 4, 0, 0], 16),
+];
+
 fn net(octets: [u8; 4], len: u8) -> Cidr4 {
     Cidr4::masked(Ipv4Addr::from_octets(octets), len.min(32))
 }
 
 // Inserts the networks in turn, each with its place as its target, until one is refused, and returns how many were not;
 // or None where the refusal was not for want of memory, or didn't return the target.
-fn insert_all(table: &mut Table) -> Option<usize> {
+fn insert_all(table: &mut Table, networks: &[Network]) -> Option<usize> {
     let mut done = 0_usize;
-    for (octets, len) in NETWORKS {
-        match table.insert(&net(octets, len), done as u64) {
+    for (octets, len) in networks {
+        match table.insert(&net(*octets, *len), done as u64) {
             Ok(None) => {}
             Ok(Some(_)) => return None,
             Err(refused) => {
@@ -47,10 +58,10 @@ fn insert_all(table: &mut Table) -> Option<usize> {
 }
 
 // Removes the networks in turn until a removal is refused, and returns how many were not.
-fn remove_all(table: &mut Table) -> Option<usize> {
+fn remove_all(table: &mut Table, networks: &[Network]) -> Option<usize> {
     let mut done = 0_usize;
-    for (octets, len) in NETWORKS {
-        match table.remove(&net(octets, len)) {
+    for (octets, len) in networks {
+        match table.remove(&net(*octets, *len)) {
             Ok(Some(target)) => {
                 if target != done as u64 {
                     return None;
@@ -65,13 +76,13 @@ fn remove_all(table: &mut Table) -> Option<usize> {
 }
 
 // Whether the table has the networks from one place to before another, and no others.
-fn has_networks(table: &Table, from: usize, to: usize) -> bool {
+fn has_networks(table: &Table, networks: &[Network], from: usize, to: usize) -> bool {
     let mut at = 0_usize;
     let mut count = 0_usize;
-    for (octets, len) in NETWORKS {
+    for (octets, len) in networks {
         let is_wanted = from <= at && at < to;
         let wanted = is_wanted.then_some(at as u64);
-        if table.get(&net(octets, len)).copied() != wanted {
+        if table.get(&net(*octets, *len)).copied() != wanted {
             return false;
         }
         if is_wanted {
@@ -83,57 +94,78 @@ fn has_networks(table: &Table, from: usize, to: usize) -> bool {
 }
 
 // With the request of this number refused: whether one was. None where something else failed.
-fn insertions_refused(alloc: Global, at: usize) -> Option<bool> {
+fn insertions_refused(alloc: Global, networks: &[Network], at: usize) -> Option<bool> {
     let mut table = Table::new(alloc);
     refuse(alloc, at);
-    let done = insert_all(&mut table);
+    let done = insert_all(&mut table, networks);
     let was = was_refused(alloc);
     let done = done?;
-    (was == (done < NETWORKS.len()) && has_networks(&table, 0, done)).then_some(was)
+    (was == (done < networks.len()) && has_networks(&table, networks, 0, done)).then_some(was)
 }
 
-fn removals_refused(alloc: Global, at: usize) -> Option<bool> {
+fn removals_refused(alloc: Global, networks: &[Network], at: usize) -> Option<bool> {
     let mut table = Table::new(alloc);
-    if insert_all(&mut table) != Some(NETWORKS.len()) {
+    if insert_all(&mut table, networks) != Some(networks.len()) {
         return None;
     }
     refuse(alloc, at);
-    let done = remove_all(&mut table);
+    let done = remove_all(&mut table, networks);
     let was = was_refused(alloc);
     let done = done?;
-    (was == (done < NETWORKS.len()) && has_networks(&table, done, NETWORKS.len())).then_some(was)
+    (was == (done < networks.len())
+        && has_networks(&table, networks, done, networks.len())).then_some(was)
+}
+
+/// Which routes a walk gives.
+#[derive(Clone, Copy)]
+enum Routes {
+    All,
+    InTen,
 }
 
 // How many routes the walk gives, or its refusal.
-fn count_within(table: &Table) -> Result<usize, TreeError> {
+fn count(table: &Table, routes: Routes) -> Result<usize, TreeError> {
+    let walk = match routes {
+        Routes::All => table.iter()?,
+        Routes::InTen => table.within(&net([10, 0, 0, 0], 8))?,
+    };
     let mut count = 0_usize;
-    for _ in table.within(&net([10, 0, 0, 0], 8))? {
+    for _ in walk {
         count = count.wrapping_add(1);
     }
     Ok(count)
 }
 
-fn walk_refused(alloc: Global, at: usize) -> Option<bool> {
+fn walk_refused(alloc: Global, routes: Routes, wanted: usize, at: usize) -> Option<bool> {
     let mut table = Table::new(alloc);
-    if insert_all(&mut table) != Some(NETWORKS.len()) {
+    if insert_all(&mut table, &NETWORKS) != Some(NETWORKS.len()) {
         return None;
     }
     refuse(alloc, at);
-    let counted = count_within(&table);
+    let counted = count(&table, routes);
     let was = was_refused(alloc);
-    let wanted = if was { Err(TreeError::Memory) } else { Ok(10) };
+    let wanted = if was {
+        Err(TreeError::Memory)
+    } else {
+        Ok(wanted)
+    };
     (counted == wanted).then_some(was)
+}
+
+fn edits_are_refused_well(alloc: Global, networks: &[Network]) -> bool {
+    is_swept(alloc, |at| insertions_refused(alloc, networks, at))
+        && is_swept(alloc, |at| removals_refused(alloc, networks, at))
 }
 
 #[test]
 fn edits_of_networks_refused_in_turn_change_nothing(rt: HostRuntime) {
-    let alloc = rt.alloc();
-    assert!(rt; is_swept(alloc, |at| insertions_refused(alloc, at)));
-    assert!(rt; is_swept(alloc, |at| removals_refused(alloc, at)));
+    assert!(rt; edits_are_refused_well(rt.alloc(), &NETWORKS));
+    assert!(rt; edits_are_refused_well(rt.alloc(), &FIVE_STRIDES));
 }
 
 #[test]
 fn a_walk_of_networks_refused_in_turn_gives_none(rt: HostRuntime) {
     let alloc = rt.alloc();
-    assert!(rt; is_swept(alloc, |at| walk_refused(alloc, at)));
+    assert!(rt; is_swept(alloc, |at| walk_refused(alloc, Routes::All, 12, at)));
+    assert!(rt; is_swept(alloc, |at| walk_refused(alloc, Routes::InTen, 10, at)));
 }

@@ -1,0 +1,172 @@
+//! Edits and walks of a table of IPv6 networks with each request for memory refused in turn.
+
+use rart::TreeError;
+use rart_cidr::{Cidr6, CidrTable6};
+use rart_test_tools::refusals::{is_swept, refuse, was_refused};
+use std::alloc::Global;
+use std::net::Ipv6Addr;
+
+type Table = CidrTable6<u64>;
+
+type Network = ([u16; 3], u8);
+
+// Networks that need several strides, and several nodes in one.
+static NETWORKS: [Network; 12] = [
+    ([0x2001, 0xdb8, 0], 32),
+    ([0x2001, 0xdb8, 1], 48),
+    ([0x2001, 0xdb8, 0x200], 40),
+    ([0, 0, 0], 0),
+    ([0x2001, 0xdb8, 0x8000], 33),
+    ([0x2001, 0xdb8, 0x8000], 34),
+    ([0x2001, 0xdb8, 0xc000], 34),
+    ([0x2001, 0xdb8, 0x8000], 35),
+    ([0x2001, 0xdb8, 0xa000], 35),
+    ([0x2001, 0xdb8, 0xc000], 35),
+    ([0x2001, 0xdb8, 3], 128),
+    ([0xfe80, 0, 0], 10),
+];
+
+// Five strides below one node of the map that holds them: it grows at the fifth, and shrinks without the first.
+static FIVE_STRIDES: [Network; 5] = [
+    ([0x2000, 0, 0], 16),
+    ([0x2001, 0, 0], 16),
+    ([0x2002, 0, 0], 16),
+    ([0x2003, 0, 0], 16),
+    ([0x2004, 0, 0], 16),
+];
+
+fn net(words: [u16; 3], len: u8) -> Cidr6 {
+    let addr = Ipv6Addr::new(words[0], words[1], words[2], 0, 0, 0, 0, 1);
+    Cidr6::masked(addr, len.min(128))
+}
+
+// Inserts the networks in turn, each with its place as its target, until one is refused, and returns how many were not;
+// or None where the refusal was not for want of memory, or didn't return the target.
+fn insert_all(table: &mut Table, networks: &[Network]) -> Option<usize> {
+    let mut done = 0_usize;
+    for (words, len) in networks {
+        match table.insert(&net(*words, *len), done as u64) {
+            Ok(None) => {}
+            Ok(Some(_)) => return None,
+            Err(refused) => {
+                let is_own = refused.error == TreeError::Memory && refused.value == done as u64;
+                return is_own.then_some(done);
+            }
+        }
+        done = done.wrapping_add(1);
+    }
+    Some(done)
+}
+
+// Removes the networks in turn until a removal is refused, and returns how many were not.
+fn remove_all(table: &mut Table, networks: &[Network]) -> Option<usize> {
+    let mut done = 0_usize;
+    for (words, len) in networks {
+        match table.remove(&net(*words, *len)) {
+            Ok(Some(target)) => {
+                if target != done as u64 {
+                    return None;
+                }
+            }
+            Ok(None) => return None,
+            Err(error) => return (error == TreeError::Memory).then_some(done),
+        }
+        done = done.wrapping_add(1);
+    }
+    Some(done)
+}
+
+// Whether the table has the networks from one place to before another, and no others.
+fn has_networks(table: &Table, networks: &[Network], from: usize, to: usize) -> bool {
+    let mut at = 0_usize;
+    let mut count = 0_usize;
+    for (words, len) in networks {
+        let is_wanted = from <= at && at < to;
+        let wanted = is_wanted.then_some(at as u64);
+        if table.get(&net(*words, *len)).copied() != wanted {
+            return false;
+        }
+        if is_wanted {
+            count = count.wrapping_add(1);
+        }
+        at = at.wrapping_add(1);
+    }
+    table.len() == count
+}
+
+// With the request of this number refused: whether one was. None where something else failed.
+fn insertions_refused(alloc: Global, networks: &[Network], at: usize) -> Option<bool> {
+    let mut table = Table::new(alloc);
+    refuse(alloc, at);
+    let done = insert_all(&mut table, networks);
+    let was = was_refused(alloc);
+    let done = done?;
+    (was == (done < networks.len()) && has_networks(&table, networks, 0, done)).then_some(was)
+}
+
+fn removals_refused(alloc: Global, networks: &[Network], at: usize) -> Option<bool> {
+    let mut table = Table::new(alloc);
+    if insert_all(&mut table, networks) != Some(networks.len()) {
+        return None;
+    }
+    refuse(alloc, at);
+    let done = remove_all(&mut table, networks);
+    let was = was_refused(alloc);
+    let done = done?;
+    (was == (done < networks.len())
+        && has_networks(&table, networks, done, networks.len())).then_some(was)
+}
+
+/// Which routes a walk gives.
+#[derive(Clone, Copy)]
+enum Routes {
+    All,
+    InOne,
+}
+
+// How many routes the walk gives, or its refusal.
+fn count(table: &Table, routes: Routes) -> Result<usize, TreeError> {
+    let walk = match routes {
+        Routes::All => table.iter()?,
+        Routes::InOne => table.within(&net([0x2001, 0xdb8, 0], 32))?,
+    };
+    let mut count = 0_usize;
+    for _ in walk {
+        count = count.wrapping_add(1);
+    }
+    Ok(count)
+}
+
+fn walk_refused(alloc: Global, routes: Routes, wanted: usize, at: usize) -> Option<bool> {
+    let mut table = Table::new(alloc);
+    if insert_all(&mut table, &NETWORKS) != Some(NETWORKS.len()) {
+        return None;
+    }
+    refuse(alloc, at);
+    let counted = count(&table, routes);
+    let was = was_refused(alloc);
+    let wanted = if was {
+        Err(TreeError::Memory)
+    } else {
+        Ok(wanted)
+    };
+    (counted == wanted).then_some(was)
+}
+
+fn edits_are_refused_well(alloc: Global, networks: &[Network]) -> bool {
+    is_swept(alloc, |at| insertions_refused(alloc, networks, at))
+        && is_swept(alloc, |at| removals_refused(alloc, networks, at))
+}
+
+#[test]
+fn edits_of_networks_refused_in_turn_change_nothing(rt: HostRuntime) {
+    assert!(rt; edits_are_refused_well(rt.alloc(), &NETWORKS));
+    assert!(rt; edits_are_refused_well(rt.alloc(), &FIVE_STRIDES));
+}
+
+#[test]
+fn a_walk_of_networks_refused_in_turn_gives_none(rt: HostRuntime) {
+    let alloc = rt.alloc();
+    assert!(rt; is_swept(alloc, |at| walk_refused(alloc, Routes::All, 12, at)));
+    assert!(rt; is_swept(alloc, |at| walk_refused(alloc, Routes::InOne, 10, at)));
+}
