@@ -95,7 +95,7 @@ static INTO_ROOM: [Row<'static>; 8] = [
 ];
 
 #[test]
-fn nodes_with_free_slots_request_nothing(rt: HostRuntime) {
+fn nodes_with_free_slots_make_no_request(rt: HostRuntime) {
     assert_none_wrong(
         &rt,
         first_wrong_without_requests::<ArrayKey<16>>(rt.alloc(), &ROOM_IN_EACH_KIND, &INTO_ROOM),
