@@ -2,7 +2,8 @@
 use Rattle.std.proofs.Common.{◌≡◌, ℕ, zero, suc, ◌+◌, ◌-◌, ◌≤◌, List, [], ◌∷◌, ◌++◌, length, take, drop, refl}
 use Rattle.std.proofs.Common.{sym, ap, ◌∙◌, arith, length-append, reverse}
 use Rattle.std.proofs.lemmas.Grind.{reverse_onto}
-use Rattle.std.proofs.lemmas.List.{drop-append-le, length-drop, length-map, map-append, reverse-append, take-append-le, take-take, take_all}
+use Rattle.std.proofs.lemmas.List.{drop-append-le, length-drop, length-map, map-append, reverse-append}
+use Rattle.std.proofs.lemmas.List.{take-append-le, take-take, take_all}
 use Rattle.rart_keys.specs.SortedMap.{values_of}
 use Rattle.rart.specs.BothEnds.{AreLeft}
 
