@@ -1,7 +1,7 @@
 -- Two walks towards each other, each one pair ahead, give each pair once: keys differ.
 use Rattle.std.proofs.Common.{◌≡◌, ℕ, suc, ◌+◌, ◌-◌, ◌≤◌, ◌↔◌, ◌&&◌, Bool, true, false, List, [], ◌∷◌, ◌++◌, length}
-use Rattle.std.proofs.Common.{take, refl, subst, sym, ap}
-use Rattle.std.proofs.Common.{◌∙◌, arith, length-append, reverse, append_assoc, if◌then◌else◌}
+use Rattle.std.proofs.Common.{take, refl, subst, sym, ap, ◌∙◌, arith, length-append, reverse, append_assoc}
+use Rattle.std.proofs.Common.{if◌then◌else◌}
 use Rattle.std.specs.List.{filter}
 use Rattle.std.specs.Bool.{IsTrue}
 use Rattle.std.specs.Str.{bytes_eq}
@@ -45,8 +45,8 @@ module _ {V : Type 0} where
       → through p.0 (xs ++ p ∷ zs) ≡ xs ++ p ∷ []
   through-last p [] ys zs h = rw (same_keys p.0 p.0 refl) refl
   through-last p (x ∷ xs) ys zs h
-      = rw (apart x.0 p.0 (bytes_eq x.0 p.0) refl (above-seam x.0 p xs ys h.0)) (ap (λ z. x ∷ z)
-      (through-last p xs ys zs h.1))
+      = rw (apart x.0 p.0 (bytes_eq x.0 p.0) refl (above-seam x.0 p xs ys h.0))
+      (ap (λ z. x ∷ z) (through-last p xs ys zs h.1))
 
   above-first : (k : List ℕ) (xs ys : List (List ℕ × V)) → AreAbove k (xs ++ ys) → AreAbove k xs
   above-first k [] ys h = tt
@@ -119,9 +119,8 @@ module _ {V : Type 0} where
       → take (length ys) backward ≡ reverse ys
   as_list xs ys backward e h = rw (← e) h
 
-  more_than_one : (f l : List ℕ × V) (es back : List (List ℕ
-      × V)) → take (length (f ∷ es)) (l ∷ back) ≡ reverse (f ∷ es)
-      → (f.0 ≡ l.0 → ⊥) → 2 ≤ length (f ∷ es)
+  more_than_one : (f l : List ℕ × V) (es back : List (List ℕ × V))
+      → take (length (f ∷ es)) (l ∷ back) ≡ reverse (f ∷ es) → (f.0 ≡ l.0 → ⊥) → 2 ≤ length (f ∷ es)
   more_than_one f l [] back h d = let alone : l ∷ [] ≡ f ∷ [] = h in let one : l ≡ f = cc in
       absurd (d (sym (ap (λ p. p.0) one)))
   more_than_one f l (e ∷ es) back h d = omega arith
@@ -129,8 +128,8 @@ module _ {V : Type 0} where
   two : (f l : List ℕ × V) (front back : List (List ℕ × V)) → AreBetween l.0 (f ∷ front) (l ∷ back) → (f.0 ≡ l.0 → ⊥)
       → 2 ≤ length (through l.0 (f ∷ front))
   two f l front back w d = let more = through-more l.0 f front d in
-      subst (λ z. 2 ≤ length z) (sym more) (more_than_one f l (through l.0 front) back (as_list _ _
-      (l ∷ back) more w.same) d)
+      subst (λ z. 2 ≤ length z) (sym more) (more_than_one f l (through l.0 front) back
+      (as_list _ _ (l ∷ back) more w.same) d)
 
   pub front-goes_on : (f l : List ℕ × V) (front back : List (List ℕ × V)) → AreBetween l.0 (f ∷ front) (l ∷ back)
       → (f.0 ≡ l.0 → ⊥) → front ≡ [] → ⊥
@@ -180,8 +179,8 @@ module _ {V : Type 0} where
       let down : l ∷ s ∷ take n rest ≡ reverse (through l.0 ahead) = rw e at w.same in
       let up : through l.0 ahead ≡ last ++ s ∷ l ∷ []
       = sym (reverse-reverse (through l.0 ahead)) ∙ ap reverse (sym down) ∙ reverse_onto (take n rest) s (l ∷ []) in
-      let same : through s.0 ahead ≡ last ++ s ∷ [] = through-earlier l.0 s ahead last (l ∷ []) up
-      (rw up at w.ascending) in
+      let same : through s.0 ahead ≡ last ++ s ∷ []
+      = through-earlier l.0 s ahead last (l ∷ []) up (rw up at w.ascending) in
       let join : last ++ s ∷ l ∷ [] ≡ (last ++ s ∷ []) ++ l ∷ [] = sym (append_assoc last (s ∷ []) (l ∷ [])) in
       let size : length (last ++ s ∷ []) ≡ suc n
       = omega (arith, e, ap length up, length-append last (s ∷ l ∷ []), length-append last (s ∷ [])) in

@@ -1,8 +1,13 @@
-//! Iterators over all pairs from both ends, which meet anywhere.
+//! Iterators from both ends, which meet anywhere: over all pairs, over all values, and over a part of the pairs.
 
-use rart::BothEnds;
+mod values;
+mod within;
+
+use rart::{BothEnds, KeyTrait, RouteTable};
 use rart_test_trees::texts::{Key, Pair, Tree, filled, is_pair};
 use std::panic::Expect;
+
+type Table = RouteTable<Key, u64>;
 
 // There are nodes without a value at "ab" and at "abc": the ends meet within a node, and between two.
 static FIVE: [Pair; 5] = [("", 0), ("abcd", 1), ("abce", 2), ("abx", 3), ("b", 4)];
@@ -61,6 +66,28 @@ fn gives_none(tree: &Tree) -> bool {
         Ok(mut pairs) => pairs.len() == 0 && pairs.next().is_none() && pairs.next_back().is_none(),
         Err(_) => false,
     }
+}
+
+// Whether both ends of a route table give its two routes, and then none.
+fn gives_two_routes(table: &Table) -> bool {
+    match table.iter_both_ends() {
+        Ok(mut routes) => {
+            routes.len() == 2
+                && routes.next_back().map(|pair| *pair.1) == Some(2)
+                && routes.next().map(|pair| *pair.1) == Some(1)
+                && routes.next_back().is_none()
+        }
+        Err(_) => false,
+    }
+}
+
+#[test]
+fn two_routes_come_from_both_ends(rt: HostRuntime) {
+    let mut table = Table::new(rt.alloc());
+    let well = table.add_new(&Key::new_from_slice(b"b"), 2).is_ok()
+        && table.add_new(&Key::new_from_slice(b"a"), 1).is_ok()
+        && gives_two_routes(&table);
+    assert!(rt; well);
 }
 
 #[test]

@@ -13,7 +13,7 @@ use std::ops::Bound;
 
 /// An end of a range.
 #[derive(Clone, Copy)]
-enum End {
+pub enum End {
     Open,
     In(&'static str),
     Out(&'static str),
@@ -26,13 +26,14 @@ use std::panic::Expect;
 // Two ends, and the pairs within them, ascending.
 type Row = (End, End, &'static [Pair]);
 
-// The key of the text's bytes, where they aren't too many.
-fn key(text: &str) -> Option<Key> {
+/// The key of the text's bytes, where they aren't too many.
+pub fn key(text: &str) -> Option<Key> {
     let bytes = text.as_bytes();
     (bytes.len() <= 16).then(|| Key::new_from_slice(bytes))
 }
 
-fn bound(end: End) -> Option<Bound<Key>> {
+/// The bound of an end, where its text isn't too long.
+pub fn bound(end: End) -> Option<Bound<Key>> {
     Some(match end {
         Open => Bound::Unbounded,
         In(text) => Bound::Included(key(text)?),
