@@ -74,7 +74,7 @@ impl<K: KeyTrait + Drop, V: Drop> AdaptiveRadixTree<K, V> {
     ) -> Result<(), Refused<Option<(K, V)>>>
         ensures pairs { OnOk result (self.new.pairs ≡ put (K.bytes key) value self.old.pairs) }
         ensures other_unchanged { OnOk result (other.new ≡ other.old) }
-        ensures back { IfErr result (λ refused.
+        ensures put_back { IfErr result (λ refused.
             PutsBack K.bytes key value other.old.pairs refused.value other.new.pairs) }
         ensures refused { IfErr result
             (λ refused. MayRefuseInsert self.old.pairs (K.bytes key) refused.error) }

@@ -16,7 +16,7 @@ returns-in-Err-put_pair-clause-refused g c =
     (rw c.in-Ok-Some.field-0-is at c.in-Ok-Some.ensures.pairs) c.canonical.ensures.ascending
     (rw (← c.len-len.ensures.value) c.len-len.ensures.most)
     (ap (λ t. t.pairs) c.in-Err-put_pair.ensures.unchanged) c.in-Err-put_pair.ensures.refused
-    c.in-Err-put_pair.ensures.back
+    c.in-Err-put_pair.ensures.put_back
 
 pub returns-in-Err-clause-refused : goal.returns-in-Err-clause-refused
 returns-in-Err-clause-refused g c =
