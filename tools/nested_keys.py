@@ -33,6 +33,7 @@ CALLS = [
     ("try_update", 3072),
     ("get_mut", 1024),
     ("values_mut", 1024),
+    ("retain", 512),
     ("routes", 1024),
     ("clear", 0),
     ("bulk_load_sorted", 1024),

@@ -24,6 +24,7 @@ mod extend;
 mod get_mut;
 mod intersect;
 pub mod into_pairs;
+mod retain;
 mod stats;
 mod take_prefix;
 pub mod try_insert;

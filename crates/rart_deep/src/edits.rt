@@ -196,6 +196,14 @@ pub fn values_mut(alloc: Global) -> Option<usize> {
     Some(walked)
 }
 
+/// Keeps the keys of even length, and returns how many there are.
+pub fn retain(alloc: Global) -> Option<usize> {
+    let mut tree = nested(alloc)?;
+    tree.retain(|key: &[u8], _value: &mut u64| key.len() % 2 == 0)
+        .ok()?;
+    Some(tree.len())
+}
+
 fn add_all(routes: &mut Routes) -> Option<()> {
     for length in 1..1025 {
         routes.add_new(&key(length), 1).ok()?;

@@ -28,6 +28,7 @@ fn answer(alloc: Global, name: &str) -> Option<usize> {
         "try_update" => edits::try_update(alloc),
         "get_mut" => edits::get_mut(alloc),
         "values_mut" => edits::values_mut(alloc),
+        "retain" => edits::retain(alloc),
         "routes" => edits::routes(alloc),
         "clear" => edits::clear(alloc),
         "bulk_load_sorted" => loads::sorted(alloc),

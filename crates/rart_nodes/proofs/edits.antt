@@ -13,7 +13,9 @@ pub mod NodeEditLemmas
 pub mod Outcomes
 pub mod PutAskLemmas
 pub mod PutLemmas
+pub mod RefusedRemovals
 pub mod RetainEndLemmas
+pub mod RetainJoins
 pub mod RetainStepLemmas
 pub mod RetainTreeLemmas
 pub mod RetainWalkLemmas

@@ -9,6 +9,7 @@ mod laws;
 mod migrations;
 mod names;
 mod no_requests;
+mod retained;
 mod taken_in_turn;
 mod taken_prefixes;
 mod updates;

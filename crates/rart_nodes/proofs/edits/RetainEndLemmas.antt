@@ -1,93 +1,38 @@
 -- After the walk over the children of a node: what becomes of the node.
-use Rattle.std.proofs.Common.{◌≡◌, ℕ, suc, ◌+◌, ◌<◌, ◌≤◌, ◌⊎◌, ⊎_elim, inl, inr, Bool, true, false, List, [], ◌∷◌}
-use Rattle.std.proofs.Common.{◌++◌, length, refl, sym, ap, ◌∙◌, arith, subst, Option, Some, None, MutBor, is_some}
+use Rattle.std.proofs.Common.{◌≡◌, ℕ, ◌+◌, ◌≤◌, inl, Bool, true, false, List, [], ◌∷◌}
+use Rattle.std.proofs.Common.{◌++◌, length, refl, sym, ap, ◌∙◌, arith, Option, Some, None, MutBor, is_some}
 use Rattle.std.proofs.Common.{option_map, length-append}
-use Rattle.std.specs.Prelude.{slice_get}
 use Rattle.std.specs.Borrow.{Bor}
 use Rattle.std.specs.Fn.{Mut}
-use Rattle.std.proofs.lemmas.List.{append-nil, append_assoc}
+use Rattle.std.proofs.lemmas.List.{append-nil}
 use Rattle.rart_keys.specs.KeyBytes.{IsWithin}
 use Rattle.rart_keys.specs.SortedMap.{longest_key}
+use Rattle.rart_parts.specs.Entries.{child_at}
 use Rattle.rart_nodes.specs.declared.node.edits.retain.Retention.{Retention}
 use Rattle.rart_nodes.specs.declared.node.edits.retain.Retention.TheVariants.{Done, Rejected, Refused}
-use Rattle.rart_nodes.specs.edits.Deletion.{JoinsWithin, is_lone, joined_if_lone}
+use Rattle.rart_nodes.specs.edits.Deletion.{JoinsWithin, joined_if_lone}
 use Rattle.rart_nodes.specs.edits.Retentions.{Asks, Fate, RetainsAll, RetainsFirst, kept, removed, refused, refusals}
-use Rattle.rart_nodes.specs.edits.Retentions.{remaining}
-use Rattle.rart_nodes.specs.edits.RetainSteps.{AsksOwn, KeepsFirst, RetainsBelow, settled_as, settled_node}
-use Rattle.rart_nodes.specs.shapes.Shape.{capacity_of}
-use Rattle.rart_nodes.specs.tries.PrefixLaws.{length-with_prefix, prefix-append, prefix-twice}
-use Rattle.rart_nodes.specs.tries.Trie.{Trie, node, Children, no_children, child, AreCanonical, IsCanonical, StartsWith}
-use Rattle.rart_nodes.specs.tries.Trie.{children_in, children_pairs, edges_of, own_pair, pairs_of, prefix_of, with_prefix}
+use Rattle.rart_nodes.specs.edits.Retentions.{refused_key, remaining}
+use Rattle.rart_nodes.specs.edits.RetainSteps.{AsksOwn, KeepsFirst, RetainsBelow, settled_as}
+use Rattle.rart_nodes.specs.edits.RetainSteps.{settled_node}
+use Rattle.rart_nodes.specs.tries.PrefixLaws.{length-with_prefix}
+use Rattle.rart_nodes.specs.tries.Trie.{Trie, node, no_children, IsCanonical}
+use Rattle.rart_nodes.specs.tries.Trie.{children_pairs, own_pair, pairs_of, prefix_of, with_prefix}
 use Rattle.rart_nodes.specs.tries.TrieCode.{as_children}
 use Rattle.rart_nodes.proofs.edits.InsertLemmas.{fewer-within}
 use Rattle.rart_nodes.proofs.edits.JoinedLengths.{joins-children, prefix-before}
+use Rattle.rart_nodes.proofs.edits.RetainJoins.{joined-canonical, joined-first, joined-leaf, joined-pairs}
 use Rattle.rart_nodes.proofs.edits.RetainStepLemmas.{none-first}
-use Rattle.rart_nodes.proofs.edits.RetainWalkLemmas.{IsOneLeaf, Retaining, refusals_of}
+use Rattle.rart_nodes.proofs.edits.RetainWalkLemmas.{RefusesAmong, Retaining, refusals_of}
 use Rattle.rart_nodes.proofs.edits.RetentionLemmas.{asks-after, asks-append, asks-front, asks-length, refusals-append}
-use Rattle.rart_nodes.proofs.edits.RetentionLemmas.{remaining-after, remaining-append, remaining-front, remaining-longest}
-use Rattle.rart_nodes.proofs.storages.ChildLemmas.{edges_of-length}
+use Rattle.rart_nodes.proofs.edits.RetentionLemmas.{refused_key-after, refused_key-append, refused_key-front}
+use Rattle.rart_nodes.proofs.edits.RetentionLemmas.{remaining-after, remaining-append, remaining-front}
+use Rattle.rart_nodes.proofs.edits.RetentionLemmas.{remaining-longest}
+use Rattle.rart_nodes.proofs.edits.RefusedRemovals.{refuses-inner, refuses-joined}
 use Rattle.rart_nodes.proofs.storages.EntryPlaces.{pairs-append}
 use Rattle.rart_nodes.proofs.tries.CanonicalTests.{longest_key-append}
 
-starts-append : (p q : List ℕ) → KeepsFirst p (p ++ q)
-starts-append [] q b h = absurd h
-starts-append (x ∷ p) q b h = h
-
 module _ {V : Type 0} where
-  -- a node merged with its only child, if it has no value, has its pairs
-  joined-pairs : (p : List ℕ) (v : Option V) (n : ℕ) (es : List (ℕ × Trie V))
-      → pairs_of (joined_if_lone (node p v n (as_children es))) ≡ pairs_of (node p v n (as_children es))
-  joined-pairs p (Some v) n es = refl
-  joined-pairs p None n [] = refl
-  joined-pairs p None n ((b, node q v m cs) ∷ []) = sym (prefix-twice p q (own_pair v ++ children_pairs cs))
-      ∙ ap (with_prefix p) (sym (append-nil (with_prefix q (own_pair v ++ children_pairs cs))))
-  joined-pairs p None n (e ∷ f ∷ es) = refl
-
-  joined-first : (p : List ℕ) (v : Option V) (n : ℕ) (es : List (ℕ × Trie V))
-      → KeepsFirst p (prefix_of (joined_if_lone (node p v n (as_children es))))
-  joined-first p (Some v) n es b h = h
-  joined-first p None n [] b h = h
-  joined-first p None n ((c, t) ∷ []) b h = starts-append p (prefix_of t) b h
-  joined-first p None n (e ∷ f ∷ es) b h = h
-
-  -- it is canonical if it has a value or children
-  joined-canonical : (p : List ℕ) (v : Option V) (n : ℕ) (es : List (ℕ × Trie V)) → n ≡ capacity_of (length es)
-      → (is_some v ≡ false → 0 < length es) → AreCanonical 0 (as_children es)
-      → IsCanonical (joined_if_lone (node p v n (as_children es)))
-  joined-canonical p (Some v) n es w l c = (inl refl, w ∙ ap capacity_of (sym (edges_of-length es)), c)
-  joined-canonical p None n [] w l c = absurd (omega (arith, l refl))
-  joined-canonical p None n ((b, node q v m cs) ∷ []) w l c = c.2
-  joined-canonical p None n (e ∷ f ∷ es) w l c = (inr tt, w ∙ ap capacity_of (sym (edges_of-length (e ∷ f ∷ es))), c)
-
-  -- as the code settles it
-  pub settled-kept : (keeps : Bool) (t : Trie V) → keeps ≡ true → joined_if_lone t ≡ settled_node keeps t
-  settled-kept keeps t h = rw h refl
-
-  pub settled-gone : (keeps : Bool) (p : List ℕ) (v : Option V) (n : ℕ) (es : List (ℕ × Trie V)) → keeps ≡ false
-      → (length es ≡ 0 → ⊥)
-      → joined_if_lone (node p None n (as_children es)) ≡ settled_node keeps (node p v n (as_children es))
-  settled-gone keeps p v n [] h l = absurd (l refl)
-  settled-gone keeps p v n (e ∷ es) h l = rw h refl
-
-  pub outcome-kept : (keeps : Bool) (walk : Retention) (cs : Children V) → keeps ≡ true
-      → walk ≡ settled_as keeps walk cs
-  outcome-kept keeps walk cs h = rw h refl
-
-  pub outcome-gone : (keeps : Bool) (walk : Retention) (es : List (ℕ × Trie V)) → keeps ≡ false
-      → (length es ≡ 0 → ⊥) → walk ≡ settled_as keeps walk (as_children es)
-  outcome-gone keeps walk [] h l = absurd (l refl)
-  outcome-gone keeps walk (e ∷ es) h l = rw h refl
-
-  pub lone-capacity : (n : ℕ) (es : List (ℕ × Trie V)) → n ≡ capacity_of (length es)
-      → is_lone {V = V} None (as_children es) ≡ true → n ≡ 4
-  lone-capacity n [] w h = absurd (cc)
-  lone-capacity n (e ∷ []) w h = w
-  lone-capacity n (e ∷ f ∷ es) w h = absurd (cc)
-
-  joined-leaf : (p : List ℕ) (n : ℕ) (es : List (ℕ × Trie V)) → IsOneLeaf es
-      → children_in (joined_if_lone (node p None n (as_children es))) ≡ no_children
-  joined-leaf p n es h = rw h.one h.bare
-
   -- the children have the pairs that are left
   left-short : (xs ys es : List (List ℕ × V)) (zs : List (V × Fate)) → xs ≡ remaining es zs
       → longest_key (xs ++ ys) ≤ longest_key (es ++ ys)
@@ -130,12 +75,14 @@ module _ {F V : Type 0} (call : Mut F (Bor (List ℕ) × (MutBor V × Unit {0}))
     pub left : own_pair w ≡ remaining (own_pair v) fates
 
   -- the calls at a node and at its children, and what they leave
-  record Gathered (q : List ℕ) (f0 f : F) (t t' : Trie V) (n : ℕ) (whole : Type 0) : Type 0 where
-    pub fates : List (V × Fate)
-    pub asks : Asks call q f0 (pairs_of t) fates f
-    pub left : pairs_of t' ≡ remaining (pairs_of t) fates
-    pub refused : refusals fates ≡ n
-    pub all : whole → length fates ≡ length (pairs_of t)
+  record Gathered (q : List ℕ) (f0 f : F) (t t' : Trie V) (n : ℕ) (whole : Type 0) (later : List ℕ → Type 0) : Type 0
+    where
+      pub fates : List (V × Fate)
+      pub asks : Asks call q f0 (pairs_of t) fates f
+      pub left : pairs_of t' ≡ remaining (pairs_of t) fates
+      pub refused : refusals fates ≡ n
+      pub all : whole → length fates ≡ length (pairs_of t)
+      pub key : (k : List ℕ) → later k → refused_key (pairs_of t) fates ≡ Some k
 
   gathered : (q : List ℕ) (f0 : F) (t0 : Trie V) (keeps holds : Bool) (walk : Retention) (f : F) (p : List ℕ)
       (w v : Option V) (n m : ℕ) (es : List (ℕ × Trie V)) (next : Option ℕ)
@@ -143,6 +90,8 @@ module _ {F V : Type 0} (call : Mut F (Bor (List ℕ) × (MutBor V × Unit {0}))
       (k : ℕ) → j + refusals_of walk ≡ k
       → Gathered q f0 f t0 (node p v m (as_children es)) k
       ((length i.fates ≡ length (children_pairs (as_children i.done))) × (i.rest ≡ []))
+      (λ z. (j ≡ 0) × ((r : List ℕ) × ((z ≡ p ++ r)
+      × (refused_key (children_pairs (as_children i.done)) i.fates ≡ Some r))))
   gathered q f0 t0 keeps holds walk f p w v n m es next i j o k r =
       let below : children_pairs (as_children (i.done ++ i.rest))
       ≡ children_pairs (as_children i.done) ++ children_pairs (as_children i.rest) = pairs-append i.done i.rest in
@@ -176,6 +125,11 @@ module _ {F V : Type 0} (call : Mut F (Bor (List ℕ) × (MutBor V × Unit {0}))
           length-append (children_pairs (as_children i.done)) (children_pairs (as_children i.rest)),
           ap (λ z. length (children_pairs (as_children z))) h.1,
         );
+        key = λ z h. refused_key-after p (own_pair i.own ++ children_pairs (as_children (i.done ++ i.rest)))
+            (o.fates ++ i.fates) ∙ ap (option_map (λ y. p ++ y)) (refused_key-append (own_pair i.own)
+            (children_pairs (as_children (i.done ++ i.rest))) o.fates i.fates o.all (o.refused ∙ h.0)
+            ∙ ap (λ y. refused_key y i.fates) below ∙ refused_key-front (children_pairs (as_children i.done))
+            (children_pairs (as_children i.rest)) i.fates some ∙ h.1.1.1) ∙ ap Some (sym h.1.1.0);
       }
 
   own-kept : (k : List ℕ) (f0 f : F) (v w : Option V) → AsksOwn call k f0 v true w f → OwnFate k f0 f v w 0
@@ -220,9 +174,10 @@ module _ {F V : Type 0} (call : Mut F (Bor (List ℕ) × (MutBor V × Unit {0}))
     left = refl;
   }
 
-  retains-all : (q : List ℕ) (f0 f : F) (t t' u : Trie V) (n : ℕ) (W : Type 0) → Gathered q f0 f t t' n W → W
+  retains-all : (q : List ℕ) (f0 f : F) (t t' u : Trie V) (n : ℕ) (W : Type 0) (L : List ℕ → Type 0)
+      → Gathered q f0 f t t' n W L → W
       → pairs_of u ≡ pairs_of t' → RetainsAll call q f0 (pairs_of t) (pairs_of u) n f
-  retains-all q f0 f t t' u n W g w e = record {
+  retains-all q f0 f t t' u n W L g w e = record {
     fates = g.fates;
     asks = g.asks;
     all = g.all w;
@@ -230,27 +185,29 @@ module _ {F V : Type 0} (call : Mut F (Bor (List ℕ) × (MutBor V × Unit {0}))
     left = e ∙ g.left;
   }
 
-  retains-first : (q : List ℕ) (f0 f : F) (t t' u : Trie V) (W : Type 0) → Gathered q f0 f t t' 1 W
-      → pairs_of u ≡ pairs_of t' → RetainsFirst call q f0 (pairs_of t) (pairs_of u) f
-  retains-first q f0 f t t' u W g e = record {
+  retains-first : (q : List ℕ) (f0 f : F) (t t' u : Trie V) (k : List ℕ) (W : Type 0) (L : List ℕ → Type 0)
+      → Gathered q f0 f t t' 1 W L → L k → pairs_of u ≡ pairs_of t'
+      → RetainsFirst call q f0 (pairs_of t) (pairs_of u) k f
+  retains-first q f0 f t t' u k W L g l e = record {
     fates = g.fates;
     asks = g.asks;
     refused = g.refused;
+    key = g.key k l;
     left = e ∙ g.left;
   }
 
   -- what the walk leaves of the node
   pub record Ended (q : List ℕ) (f0 : F) (t0 : Trie V) (walk : Retention) (f : F) (t : Trie V) : Type 0 where
-      pub canonical : IsCanonical t
-      pub first : KeepsFirst (prefix_of t0) (prefix_of t)
-      pub retains : RetainsBelow call q walk f0 t0 t f
+    pub canonical : IsCanonical t
+    pub first : KeepsFirst (prefix_of t0) (prefix_of t)
+    pub retains : RetainsBelow call q walk f0 t0 t f
 
   -- its value is kept, or it has none
   ended-kept : (q : List ℕ) (f0 : F) (t0 : Trie V) (holds : Bool) (walk : Retention) (f : F) (p : List ℕ)
       (w : Option V) (n : ℕ) (es : List (ℕ × Trie V)) → Retaining call q f0 t0 true holds walk f p w n es None
       → RetainsBelow call q walk f0 t0 (joined_if_lone (node p w n (as_children es))) f
   ended-kept q f0 t0 holds Done f p w n es i = retains-all q f0 f t0 (node p w n (as_children es))
-      (joined_if_lone (node p w n (as_children es))) 0 _ (gathered q f0 t0 true holds Done f p w w n n es None i 0
+      (joined_if_lone (node p w n (as_children es))) 0 _ _ (gathered q f0 t0 true holds Done f p w w n n es None i 0
       (own-kept (q ++ p) f0 i.first i.own w i.asked) 0 (omega arith)) (i.state.0, none-first i.rest i.state.1)
       (joined-pairs p w n es)
   ended-kept q f0 t0 holds Rejected f p w n es i =
@@ -258,29 +215,45 @@ module _ {F V : Type 0} (call : Mut F (Bor (List ℕ) × (MutBor V × Unit {0}))
       ∙ append-nil i.left ∙ i.state.4.one in (
         rw i.state.3 (joined-leaf p n es
             (record { byte = i.state.4.byte; leaf = i.state.4.leaf; one = one; bare = i.state.4.bare })),
-        retains-all q f0 f t0 (node p w n (as_children es)) (joined_if_lone (node p w n (as_children es))) 1 _
+        retains-all q f0 f t0 (node p w n (as_children es)) (joined_if_lone (node p w n (as_children es))) 1 _ _
             (gathered q f0 t0 true holds Rejected f p w w n n es None i 0
             (own-kept (q ++ p) f0 i.first i.own w i.asked) 1 (omega arith)) (i.state.0, i.state.2)
             (joined-pairs p w n es),
       )
-  ended-kept q f0 t0 holds Refused f p w n es i = retains-first q f0 f t0 (node p w n (as_children es))
-      (joined_if_lone (node p w n (as_children es))) _ (gathered q f0 t0 true holds Refused f p w w n n es None i 0
-      (own-kept (q ++ p) f0 i.first i.own w i.asked) 1 (omega arith)) (joined-pairs p w n es)
+  ended-kept q f0 t0 holds Refused f p w n es i =
+      let among : RefusesAmong n (children_pairs (as_children i.done)) i.fates es = rw i.now i.state.1 in record {
+        key = p ++ among.key;
+        retains = retains-first q f0 f t0 (node p w n (as_children es)) (joined_if_lone (node p w n (as_children es)))
+            (p ++ among.key) _ _ (gathered q f0 t0 true holds Refused f p w w n n es None i 0
+            (own-kept (q ++ p) f0 i.first i.own w i.asked) 1 (omega arith)) (refl, (among.key, (refl, among.key_is)))
+            (joined-pairs p w n es);
+        inner = refuses-inner p w n es (children_pairs (as_children i.done)) i.fates i.capacity i.canonical among;
+        allocates = refuses-joined p w n es (children_pairs (as_children i.done)) i.fates i.capacity i.canonical among;
+      }
 
   -- its value is not kept: it has children
   ended-gone : (q : List ℕ) (f0 : F) (t0 : Trie V) (holds : Bool) (walk : Retention) (f : F) (p : List ℕ)
       (w : Option V) (n : ℕ) (es : List (ℕ × Trie V)) → Retaining call q f0 t0 false holds walk f p w n es None
       → RetainsBelow call q walk f0 t0 (joined_if_lone (node p None n (as_children es))) f
   ended-gone q f0 t0 holds Done f p w n es i = retains-all q f0 f t0 (node p None n (as_children es))
-      (joined_if_lone (node p None n (as_children es))) 0 _ (gathered q f0 t0 false holds Done f p w None n n es None i
-      0 (own-gone (q ++ p) f0 i.first i.own w i.asked) 0 (omega arith)) (i.state.0, none-first i.rest i.state.1)
+      (joined_if_lone (node p None n (as_children es))) 0 _ _ (gathered q f0 t0 false holds Done f p w None n n es
+      None i 0 (own-gone (q ++ p) f0 i.first i.own w i.asked) 0 (omega arith)) (i.state.0, none-first i.rest i.state.1)
       (joined-pairs p None n es)
   ended-gone q f0 t0 holds Rejected f p w n es i =
       let x = own-rejected (q ++ p) f0 i.first i.own w i.asked in
       let no : Some x.0 ≡ None = sym x.1 ∙ i.state.3 in absurd (cc)
-  ended-gone q f0 t0 holds Refused f p w n es i = retains-first q f0 f t0 (node p None n (as_children es))
-      (joined_if_lone (node p None n (as_children es))) _ (gathered q f0 t0 false holds Refused f p w None n n es None i
-      0 (own-gone (q ++ p) f0 i.first i.own w i.asked) 1 (omega arith)) (joined-pairs p None n es)
+  ended-gone q f0 t0 holds Refused f p w n es i =
+      let among : RefusesAmong n (children_pairs (as_children i.done)) i.fates es = rw i.now i.state.1 in record {
+        key = p ++ among.key;
+        retains = retains-first q f0 f t0 (node p None n (as_children es))
+            (joined_if_lone (node p None n (as_children es))) (p ++ among.key) _ _
+            (gathered q f0 t0 false holds Refused f p w None n n es None i 0
+            (own-gone (q ++ p) f0 i.first i.own w i.asked) 1 (omega arith)) (refl, (among.key, (refl, among.key_is)))
+            (joined-pairs p None n es);
+        inner = refuses-inner p None n es (children_pairs (as_children i.done)) i.fates i.capacity i.canonical among;
+        allocates = refuses-joined p None n es (children_pairs (as_children i.done)) i.fates i.capacity i.canonical
+            among;
+      }
 
   -- or it has none, and is a leaf
   ended-leaf : (q : List ℕ) (f0 : F) (t0 : Trie V) (holds : Bool) (walk : Retention) (f : F) (p : List ℕ)
@@ -291,7 +264,7 @@ module _ {F V : Type 0} (call : Mut F (Bor (List ℕ) × (MutBor V × Unit {0}))
     first = rw i.before (λ b h. h);
     retains = (
       refl,
-      retains-all q f0 f t0 (node p w n no_children) (node p w n no_children) 1 _
+      retains-all q f0 f t0 (node p w n no_children) (node p w n no_children) 1 _ _
           (gathered q f0 t0 false holds Done f p w w n n [] None i 1
           (own-put_off (q ++ p) f0 i.first i.own w i.asked) 1 (omega arith)) (i.state.0, none-first i.rest i.state.1)
           refl,
@@ -300,7 +273,8 @@ module _ {F V : Type 0} (call : Mut F (Bor (List ℕ) × (MutBor V × Unit {0}))
   ended-leaf q f0 t0 holds Rejected f p w n i =
       let x = own-rejected (q ++ p) f0 i.first i.own w i.asked in
       let no : Some x.0 ≡ None = sym x.1 ∙ i.state.3 in absurd (cc)
-  ended-leaf q f0 t0 holds Refused f p w n i = absurd (omega (arith, ap length i.now, i.state.1))
+  ended-leaf q f0 t0 holds Refused f p w n i =
+      let none : Some i.state.1.held ≡ None = i.state.1.there ∙ ap (child_at i.state.1.byte) (sym i.now) in absurd (cc)
 
   pub retaining-end : (q : List ℕ) (f0 : F) (t0 : Trie V) (keeps holds : Bool) (walk : Retention) (f : F) (p : List ℕ)
       (w : Option V) (n : ℕ) (es : List (ℕ × Trie V)) → Retaining call q f0 t0 keeps holds walk f p w n es None

@@ -1,5 +1,6 @@
 -- After the walk over a child: what is done with it, and how the walk over its parent continues.
-use Rattle.std.proofs.Common.{◌≡◌, ℕ, suc, ◌+◌, ◌<◌, ◌≤◌, ◌⊎◌, ⊎_elim, Bool, true, false, List, [], ◌∷◌, ◌++◌, length}
+use Rattle.std.proofs.Common.{◌≡◌, ℕ, suc, ◌+◌, ◌<◌, ◌≤◌, ⊎_elim, inl, inr, Bool, true, false, List, [], ◌∷◌, ◌++◌}
+use Rattle.std.proofs.Common.{length}
 use Rattle.std.proofs.Common.{refl, sym, ap, ◌∙◌, arith, subst, Option, Some, None, MutBor, is_some, option_map}
 use Rattle.std.proofs.Common.{length-append, if◌then◌else◌}
 use Rattle.std.specs.Prelude.{slice_get}
@@ -11,23 +12,34 @@ use Rattle.rart_parts.specs.Entries.{child_at, entries_above, replaced, without_
 use Rattle.rart_nodes.specs.declared.node.edits.retain.Retention.{Retention}
 use Rattle.rart_nodes.specs.declared.node.edits.retain.Retention.TheVariants.{Done, Rejected, Refused}
 use Rattle.rart_nodes.specs.declared.node.storage.Storage.{Storage}
-use Rattle.rart_nodes.specs.edits.Retentions.{Asks, CanRetain, Fate, RetainsAll, RetainsFirst, refusals, remaining}
-use Rattle.rart_nodes.specs.edits.RetainSteps.{AppliesChild, KeepsFirst, RemovesChild, RetainsBelow, next_byte}
+use Rattle.rart_nodes.specs.edits.Retentions.{Asks, CanRetain, Fate, kept, removed, refused}
+use Rattle.rart_nodes.specs.edits.Retentions.{key_refused, refusals, refused_key, remaining}
+use Rattle.rart_nodes.specs.edits.RetainSteps.{AppliesChild, KeepsFirst, RetainsBelow, next_byte}
 use Rattle.rart_nodes.specs.shapes.Shape.{capacity_of}
 use Rattle.rart_nodes.specs.storages.Capacities.{narrowed_capacity}
 use Rattle.rart_nodes.specs.storages.Stored.{child_entries, storage_capacity}
-use Rattle.rart_nodes.specs.tries.Trie.{Trie, node, no_children, child, AreCanonical, IsCanonical, children_in}
-use Rattle.rart_nodes.specs.tries.Trie.{children_pairs, own_pair, pairs_of, prefix_of, with_prefix}
+use Rattle.rart_nodes.specs.tries.Trie.{Trie, node, no_children, child, AreCanonical, IsCanonical, StartsWith}
+use Rattle.rart_nodes.specs.tries.Trie.{children_in, children_pairs, pairs_of, prefix_of, with_prefix}
 use Rattle.rart_nodes.specs.tries.TrieCode.{as_children}
-use Rattle.rart_nodes.proofs.edits.RetainWalkLemmas.{IsOneLeaf, Retaining, Upcoming, WalksOn, refusals_of}
+use Rattle.rart_nodes.proofs.edits.RetainWalkLemmas.{Retaining, Upcoming, WalksOn, refusals_of}
 use Rattle.rart_nodes.proofs.edits.RetentionLemmas.{all_fulfilled, asks-append, asks-folds, asks-front, asks-fulfilled}
 use Rattle.rart_nodes.proofs.edits.RetentionLemmas.{asks-length, length-fulfilled, refusals-append, refusals-fulfilled}
 use Rattle.rart_nodes.proofs.edits.RetentionLemmas.{remaining-append, remaining-front, remaining-fulfilled}
+use Rattle.rart_nodes.proofs.edits.RetentionLemmas.{refused_key-append, refused_key-front, refused_key-only}
 use Rattle.rart_nodes.proofs.edits.ValueChangeLemmas.{can-back}
+use Rattle.rart_nodes.proofs.removals.PopLemmas.{first-is, leaf-here}
 use Rattle.rart_nodes.proofs.removals.RemoveSteps.{narrowed-capacity}
 use Rattle.rart_nodes.proofs.storages.ChildLemmas.{lt-no}
 use Rattle.rart_nodes.proofs.storages.EntryPlaces.{above-all, ahead-first, ahead_count, middle-above, middle-at}
 use Rattle.rart_nodes.proofs.storages.EntryPlaces.{middle-low, middle-replaced, pairs-append}
+use Rattle.rart_nodes.proofs.tries.FirstBytes.{AllFirst, pairs_of-first}
+
+-- a refused key begins with a byte if they all do
+key-first : (b : ℕ) (k : List ℕ) (x : Fate) (o : Option (List ℕ)) (j : List ℕ) → StartsWith b k
+    → (o ≡ Some j → StartsWith b j) → key_refused k x o ≡ Some j → StartsWith b j
+key-first b k kept o j s f h = f h
+key-first b k removed o j s f h = f h
+key-first b k refused o j s f h = let same : k ≡ j = cc in rw (← same) s
 
 module _ {V : Type 0} where
   -- another child in the place of one, with the same byte
@@ -91,6 +103,29 @@ module _ {V : Type 0} where
     r,
   ))
 
+  -- a rejected leaf is the pair whose removal was put off
+  leaf-key : (t : Trie V) (es : List (List ℕ × V)) (xs : List (V × Fate)) → children_in t ≡ no_children
+      → length xs ≡ length es → refusals xs ≡ 1 → pairs_of t ≡ remaining es xs
+      → refused_key es xs ≡ Some (prefix_of t)
+  leaf-key (node p None n no_children) es xs l a r h
+      = absurd (omega (arith, ap length h, remaining-fulfilled es xs a, r))
+  leaf-key (node p (Some v) n no_children) es xs l a r h = refused_key-only es xs (p ++ []) v a r (sym h)
+      ∙ ap Some (append-nil p)
+  leaf-key (node p v n (child b t cs)) es xs l a r h = absurd (cc)
+
+  -- the keys begin with a byte
+  refused-first : (b : ℕ) (es : List (List ℕ × V)) (xs : List (V × Fate)) (j : List ℕ) → AllFirst b es
+      → refused_key es xs ≡ Some j → StartsWith b j
+  refused-first b [] xs j s h = absurd (cc)
+  refused-first b (e ∷ es) [] j s h = absurd (cc)
+  refused-first b (e ∷ es) (x ∷ xs) j s h = key-first b e.0 x.1 (refused_key es xs) j s.0
+      (λ i. refused-first b es xs j s.1 i) h
+
+  middle-first : (b low : ℕ) (u : Trie V) (xs ys : List (ℕ × Trie V))
+      → AreCanonical low (as_children (xs ++ (b, u) ∷ ys)) → StartsWith b (prefix_of u)
+  middle-first b low u [] ys c = c.1
+  middle-first b low u (x ∷ xs) ys c = middle-first b (suc x.0) u xs ys c.3
+
   length-middle : (xs ys : List (ℕ × Trie V)) (e : ℕ × Trie V) → length (xs ++ e ∷ ys) ≡ length (xs ++ ys) + 1
   length-middle xs ys e = omega (arith, length-append xs (e ∷ ys), length-append xs ys)
 
@@ -102,7 +137,7 @@ module _ {F V : Type 0} (call : Mut F (Bor (List ℕ) × (MutBor V × Unit {0}))
       → ds ≡ i.left ++ (mid ++ i.rest) → AreCanonical 0 (as_children ds) → m ≡ capacity_of (length ds)
       → (is_some w ≡ false → 0 < length ds) → Asks call (q ++ p) f (pairs_of u) xs g
       → children_pairs (as_children mid) ≡ remaining (pairs_of u) xs → refusals xs ≡ refusals_of walk
-      → WalksOn call walk (q ++ p) g w (i.fates ++ xs) (i.done ++ (b, u) ∷ []) (i.left ++ mid) i.rest next
+      → WalksOn call walk (q ++ p) g w m (i.fates ++ xs) (i.done ++ (b, u) ∷ []) (i.left ++ mid) i.rest next
       → Retaining call q f0 t0 keeps holds walk g p w m ds next
   visited q f0 t0 keeps holds f g p w n m b es ds u i walk mid xs next d c v l a h r s =
       let some = asks-length call (q ++ p) (pairs_of u) xs f g a in
@@ -171,7 +206,7 @@ module _ {F V : Type 0} (call : Mut F (Bor (List ℕ) × (MutBor V × Unit {0}))
       → KeepsFirst (prefix_of u) (prefix_of x) → m ≡ n → ds ≡ replaced b x es
       → Asks call (q ++ p) f (pairs_of u) xs g → pairs_of x ≡ remaining (pairs_of u) xs
       → refusals xs ≡ refusals_of walk
-      → WalksOn call walk (q ++ p) g w (i.fates ++ xs) (i.done ++ (b, u) ∷ []) (i.left ++ (b, x) ∷ []) i.rest next
+      → WalksOn call walk (q ++ p) g w m (i.fates ++ xs) (i.done ++ (b, u) ∷ []) (i.left ++ (b, x) ∷ []) i.rest next
       → Retaining call q f0 t0 keeps holds walk g p w m ds next
   stays q f0 t0 keeps holds f g p w n m b es ds u x i walk xs next c k v d a h r s =
       let changed : ds ≡ i.left ++ (b, x) ∷ i.rest = d ∙ ap (replaced b x) i.now
@@ -187,6 +222,17 @@ module _ {F V : Type 0} (call : Mut F (Bor (List ℕ) × (MutBor V × Unit {0}))
       (rw changed (middle-other b 0 u x i.left i.rest i.all c k)) (v ∙ i.capacity ∙ ap capacity_of (sym same))
       (λ z. omega (arith, ap length changed, length-middle i.left i.rest (b, x))) a
       (append-nil (pairs_of x) ∙ h) r s
+
+  -- the key whose removal was refused is one of the child's
+  child-key : (q : List ℕ) (f0 : F) (t0 : Trie V) (keeps holds : Bool) (f g : F) (p : List ℕ) (w : Option V) (n b : ℕ)
+      (es : List (ℕ × Trie V)) (u : Trie V) (i : Upcoming call q f0 t0 keeps holds f p w n b es u)
+      (xs : List (V × Fate)) → Asks call (q ++ p) f (pairs_of u) xs g
+      → refused_key (children_pairs (as_children (i.done ++ (b, u) ∷ []))) (i.fates ++ xs)
+      ≡ refused_key (pairs_of u) xs
+  child-key q f0 t0 keeps holds f g p w n b es u i xs a = ap (λ z. refused_key z (i.fates ++ xs))
+      (pairs-append i.done ((b, u) ∷ []))
+      ∙ refused_key-append (children_pairs (as_children i.done)) (pairs_of u ++ []) i.fates xs i.whole i.refused
+      ∙ refused_key-front (pairs_of u) [] xs (asks-length call (q ++ p) (pairs_of u) xs f g a)
 
   no-value : (w : Option V) → false ≡ is_some w → w ≡ None
   no-value None h = refl
@@ -290,14 +336,50 @@ module _ {F V : Type 0} (call : Mut F (Bor (List ℕ) × (MutBor V × Unit {0}))
         record { byte = b; leaf = x; one = ap (λ z. z ++ (b, x) ∷ []) front; bare = h.0 },
       ))
   retaining-step q f0 t0 keeps holds f g p w n b es u x i Rejected Refused s s' next c k h v d a e =
+      let old : child_entries s ≡ i.left ++ (b, x) ∷ i.rest = d ∙ ap (replaced b x) i.now
+      ∙ middle-replaced b 0 u x i.left i.rest i.all in
+      let all : child_entries s ≡ (i.left ++ (b, x) ∷ []) ++ i.rest = old
+      ∙ sym (append_assoc i.left ((b, x) ∷ []) i.rest) in
+      let low = middle-other b 0 u x i.left i.rest i.all c k in
       stopped q f0 t0 keeps holds f g p w n (storage_capacity s') b es (child_entries s') u i Refused next e
       (stays q f0 t0 keeps holds f g p w n (storage_capacity s') b es (child_entries s') u x i Refused h.1.fates next
-      c k (ap storage_capacity a ∙ v) (ap child_entries a ∙ d) h.1.asks h.1.left h.1.refused
-      (e, omega (arith, length-append (i.left ++ (b, x) ∷ []) i.rest, length-append i.left ((b, x) ∷ []))))
+      c k (ap storage_capacity a.0 ∙ v) (ap child_entries a.0 ∙ d) h.1.asks h.1.left h.1.refused (
+        e,
+        record {
+          key = prefix_of x;
+          key_is = child-key q f0 t0 keeps holds f g p w n b es u i h.1.fates h.1.asks
+              ∙ leaf-key x (pairs_of u) h.1.fates h.0 h.1.all h.1.refused h.1.left;
+          byte = b;
+          held = x;
+          there = sym (ap (child_at b) (sym all ∙ old) ∙ middle-at b 0 x i.left i.rest low);
+          first = first-is b (prefix_of x) (middle-first b 0 x i.left i.rest low);
+          why = inl (
+            leaf-here x h.0,
+            rw (ap storage_capacity a.0) a.1.1,
+            rw (← all, ap storage_capacity a.0) a.1.2,
+          );
+        },
+      ))
   retaining-step q f0 t0 keeps holds f g p w n b es u x i Refused Done s s' next c k h v d a e = absurd a
   retaining-step q f0 t0 keeps holds f g p w n b es u x i Refused Rejected s s' next c k h v d a e = absurd a
   retaining-step q f0 t0 keeps holds f g p w n b es u x i Refused Refused s s' next c k h v d a e =
+      let old : child_entries s ≡ i.left ++ (b, x) ∷ i.rest = d ∙ ap (replaced b x) i.now
+      ∙ middle-replaced b 0 u x i.left i.rest i.all in
+      let all : child_entries s ≡ (i.left ++ (b, x) ∷ []) ++ i.rest = old
+      ∙ sym (append_assoc i.left ((b, x) ∷ []) i.rest) in
+      let low = middle-other b 0 u x i.left i.rest i.all c k in
       stopped q f0 t0 keeps holds f g p w n (storage_capacity s') b es (child_entries s') u i Refused next e
-      (stays q f0 t0 keeps holds f g p w n (storage_capacity s') b es (child_entries s') u x i Refused h.fates next
-      c k (ap storage_capacity a ∙ v) (ap child_entries a ∙ d) h.asks h.left h.refused
-      (e, omega (arith, length-append (i.left ++ (b, x) ∷ []) i.rest, length-append i.left ((b, x) ∷ []))))
+      (stays q f0 t0 keeps holds f g p w n (storage_capacity s') b es (child_entries s') u x i Refused h.retains.fates
+      next c k (ap storage_capacity a ∙ v) (ap child_entries a ∙ d) h.retains.asks h.retains.left h.retains.refused (
+        e,
+        record {
+          key = h.key;
+          key_is = child-key q f0 t0 keeps holds f g p w n b es u i h.retains.fates h.retains.asks ∙ h.retains.key;
+          byte = b;
+          held = x;
+          there = sym (ap (child_at b) (sym all ∙ old) ∙ middle-at b 0 x i.left i.rest low);
+          first = first-is b h.key (refused-first b (pairs_of u) h.retains.fates h.key
+              (pairs_of-first b u (middle-first b 0 u i.left i.rest i.all)) h.retains.key);
+          why = inr (h.inner, h.allocates);
+        },
+      ))

@@ -1,18 +1,19 @@
 -- What a walk that retains pairs leaves of a tree.
-use Rattle.std.proofs.Common.{◌≡◌, ℕ, ◌≤◌, Bool, List, [], length, refl, sym, ap, ◌∙◌, arith, Option, Some, None}
+use Rattle.std.proofs.Common.{◌≡◌, ℕ, ◌≤◌, Bool, true, List, [], length, refl, sym, ap, ◌∙◌, arith, Option, Some, None}
 use Rattle.std.proofs.Common.{MutBor}
 use Rattle.std.specs.Borrow.{Bor}
 use Rattle.std.specs.Fn.{Mut}
-use Rattle.rart_keys.specs.SortedMap.{longest_key}
-use Rattle.rart_nodes.specs.declared.node.edits.retain.Retention.{Retention}
+use Rattle.rart_keys.specs.SortedMap.{keys_of, longest_key}
 use Rattle.rart_nodes.specs.declared.node.edits.retain.Retention.TheVariants.{Done, Rejected, Refused}
+use Rattle.rart_nodes.specs.edits.RemoveAllocations.{remove_allocates}
 use Rattle.rart_nodes.specs.edits.Retentions.{Fate, RetainsAll, RetainsFirst, remaining}
 use Rattle.rart_nodes.specs.edits.RetainSteps.{RetainsTree}
-use Rattle.rart_nodes.specs.tries.Tree.{tree_pairs}
+use Rattle.rart_nodes.specs.tries.Tree.{IsCanonicalTree, tree_pairs}
 use Rattle.rart_nodes.specs.tries.Trie.{Trie, pairs_of}
 use Rattle.rart_nodes.proofs.edits.RetainStepLemmas.{leaf-fulfilled}
 use Rattle.rart_nodes.proofs.edits.RetentionLemmas.{all_fulfilled, asks-fulfilled, length-fulfilled}
 use Rattle.rart_nodes.proofs.edits.RetentionLemmas.{refusals-fulfilled, remaining-length, remaining-longest}
+use Rattle.rart_nodes.proofs.removals.RemoveAskLemmas.{allocates-remove}
 
 module _ {F V : Type 0} (call : Mut F (Bor (List ℕ) × (MutBor V × Unit {0})) (Bool × (MutBor V × Unit {0}))) where
   pub tree-done : (f g : F) (o u : Option (Trie V)) → RetainsTree call Done f o u g
@@ -36,12 +37,14 @@ module _ {F V : Type 0} (call : Mut F (Bor (List ℕ) × (MutBor V × Unit {0}))
     left = sym (leaf-fulfilled u (pairs_of t) h.1.fates h.0 h.1.all h.1.refused h.1.left);
   }
 
-  pub tree-refused : (f g : F) (o u : Option (Trie V)) → RetainsTree call Refused f o u g
-      → RetainsFirst call [] f (tree_pairs o) (tree_pairs u) g
-  tree-refused f g None None h = absurd (cc (h.0))
-  tree-refused f g None (Some u) h = absurd h
-  tree-refused f g (Some t) None h = absurd h
-  tree-refused f g (Some t) (Some u) h = h
+  pub tree-refused : (f g : F) (o u : Option (Trie V)) → IsCanonicalTree u → RetainsTree call Refused f o u g
+      → (k : List ℕ) × (RetainsFirst call [] f (tree_pairs o) (tree_pairs u) k g
+      × (remove_allocates (keys_of (tree_pairs u)) k ≡ true))
+  tree-refused f g None None c h = absurd (cc (h.0))
+  tree-refused f g None (Some u) c h = absurd h
+  tree-refused f g (Some t) None c h = absurd h
+  tree-refused f g (Some t) (Some u) c h
+      = (h.key, (h.retains, sym (allocates-remove h.key u c) ∙ h.allocates))
 
   -- what holds after the walk
   pub remaining-few : (es ds : List (List ℕ × V)) (xs : List (V × Fate)) → ds ≡ remaining es xs → length ds ≤ length es

@@ -1,35 +1,34 @@
 -- A walk that retains pairs continues child by child.
-use Rattle.std.proofs.Common.{◌≡◌, ◌≢◌, ℕ, suc, ◌+◌, ◌<◌, ◌≤◌, ◌⊎◌, ⊎_elim, inl, inr, Bool, true, false, List, [], ◌∷◌}
+use Rattle.std.proofs.Common.{◌≡◌, ◌≢◌, ℕ, suc, ◌+◌, ◌<◌, ◌≤◌, ◌⊎◌, ⊎_elim, Bool, true, false, List, [], ◌∷◌}
 use Rattle.std.proofs.Common.{◌++◌, length, refl, sym, ap, ◌∙◌, arith, subst, Option, Some, None, MutBor, is_some}
-use Rattle.std.proofs.Common.{option_map, length-append}
+use Rattle.std.proofs.Common.{option_map}
 use Rattle.std.specs.Prelude.{slice_get}
 use Rattle.std.specs.Borrow.{Bor}
 use Rattle.std.specs.Fn.{Mut}
 use Rattle.std.specs.List.{FoldsTo}
-use Rattle.std.proofs.lemmas.List.{append-nil, append_assoc}
+use Rattle.std.proofs.lemmas.List.{append-nil}
 use Rattle.rart_keys.specs.KeyBytes.{IsWithin}
 use Rattle.rart_keys.specs.SortedMap.{longest_key}
-use Rattle.rart_keys.proofs.ByteOrder.{eq-yes, eq-no}
-use Rattle.rart_parts.specs.Entries.{child_at, entries_above, replaced, without_byte}
+use Rattle.rart_parts.specs.Entries.{child_at, entries_above}
 use Rattle.rart_nodes.specs.declared.node.edits.retain.Retention.{Retention}
 use Rattle.rart_nodes.specs.declared.node.edits.retain.Retention.TheVariants.{Done, Rejected, Refused}
-use Rattle.rart_nodes.specs.edits.Retentions.{AskedAt, Asks, CanRetain, Fate, TakesPair, refusals, remaining}
+use Rattle.rart_nodes.specs.edits.Deletion.{is_leaf_at}
+use Rattle.rart_nodes.specs.edits.RemoveAllocations.{trie_remove_allocates}
+use Rattle.rart_nodes.specs.edits.Retentions.{AskedAt, Asks, CanRetain, Fate, TakesPair, refusals, refused_key}
+use Rattle.rart_nodes.specs.edits.Retentions.{remaining}
 use Rattle.rart_nodes.specs.edits.RetainSteps.{AsksOwn}
 use Rattle.rart_nodes.specs.shapes.Shape.{capacity_of}
+use Rattle.rart_nodes.specs.storages.Capacities.{previous_capacity}
 use Rattle.rart_nodes.specs.tries.PrefixLaws.{prefix-append, prefix-twice}
-use Rattle.rart_nodes.specs.tries.Trie.{Trie, node, Children, no_children, child, AreCanonical, HasTwoChildren}
-use Rattle.rart_nodes.specs.tries.Trie.{IsCanonical, StartsWith, children_in, children_pairs, edges_of, own_pair}
-use Rattle.rart_nodes.specs.tries.Trie.{pairs_of, prefix_of, with_prefix}
+use Rattle.rart_nodes.specs.tries.Trie.{Trie, node, Children, no_children, AreCanonical, HasTwoChildren}
+use Rattle.rart_nodes.specs.tries.Trie.{IsCanonical, children_in, children_pairs, own_pair}
+use Rattle.rart_nodes.specs.tries.Trie.{pairs_of, with_prefix}
 use Rattle.rart_nodes.specs.tries.TrieCode.{as_children, node_count}
-use Rattle.rart_nodes.proofs.edits.InsertLemmas.{fewer-within}
-use Rattle.rart_nodes.proofs.edits.JoinedLengths.{prefix-before}
-use Rattle.rart_nodes.proofs.edits.RetentionLemmas.{asks-append, asks-folds, asks-front, asks-length, refusals-append}
-use Rattle.rart_nodes.proofs.edits.RetentionLemmas.{remaining-append, remaining-front}
 use Rattle.rart_nodes.proofs.edits.ValueChangeLemmas.{can-back, can-front}
 use Rattle.rart_nodes.proofs.removals.PopLemmas.{below-within}
 use Rattle.rart_nodes.proofs.storages.ChildLemmas.{edges_of-length}
-use Rattle.rart_nodes.proofs.storages.EntryPlaces.{ahead-first, ahead_count, middle-above, middle-at, middle-canonical}
-use Rattle.rart_nodes.proofs.storages.EntryPlaces.{middle-count, pairs-append}
+use Rattle.rart_nodes.proofs.storages.EntryPlaces.{ahead_count, middle-above, middle-at, middle-canonical}
+use Rattle.rart_nodes.proofs.storages.EntryPlaces.{middle-count}
 use Rattle.rart_nodes.proofs.walks.CallLemmas.{can-first}
 
 -- how many removals were refused, or put off
@@ -45,16 +44,33 @@ pub record IsOneLeaf {V : Type 0} (es : List (ℕ × Trie V)) : Type 0 where
   pub one : es ≡ (byte, leaf) ∷ []
   pub bare : children_in leaf ≡ no_children
 
+-- a key that one of the children holds, whose removal from the children, or below, requests memory
+abbrev pub IsWide : {V : Type 0} → List ℕ → ℕ → Trie V → ℕ → Type 0
+IsWide k n t m = ((is_leaf_at k t ≡ true) × (4 < n) × (m ≤ previous_capacity n + 1))
+    ⊎ ((children_in t ≢ no_children) × (trie_remove_allocates None k t ≡ true))
+
+-- the removal that was refused among these children, at a node of capacity n
+pub record RefusesAmong {V : Type 0} (n : ℕ) (before : List (List ℕ × V)) (xs : List (V × Fate))
+    (es : List (ℕ × Trie V)) : Type 0 where
+  pub key : List ℕ
+  pub key_is : refused_key before xs ≡ Some key
+  pub byte : ℕ
+  pub held : Trie V
+  pub there : Some held ≡ child_at byte es
+  pub first : Some byte ≡ slice_get key 0
+  pub why : IsWide key n held (length es)
+
 module _ {F V : Type 0} (call : Mut F (Bor (List ℕ) × (MutBor V × Unit {0})) (Bool × (MutBor V × Unit {0}))) where
   -- where the walk is, at children of which the calls have these fates
-  abbrev pub WalksOn : Retention → List ℕ → F → Option V → List (V × Fate) → List (ℕ × Trie V) → List (ℕ × Trie V)
-      → List (ℕ × Trie V) → Option ℕ → Type 0
-  WalksOn Done k f w xs done left rest next = (length xs ≡ length (children_pairs (as_children done)))
+  abbrev pub WalksOn : Retention → List ℕ → F → Option V → ℕ → List (V × Fate) → List (ℕ × Trie V)
+      → List (ℕ × Trie V) → List (ℕ × Trie V) → Option ℕ → Type 0
+  WalksOn Done k f w n xs done left rest next = (length xs ≡ length (children_pairs (as_children done)))
       × (next ≡ option_map (λ e. e.0) (slice_get rest 0))
       × CanRetain call f (with_prefix k (children_pairs (as_children rest)))
-  WalksOn Rejected k f w xs done left rest next = (length xs ≡ length (children_pairs (as_children done)))
+  WalksOn Rejected k f w n xs done left rest next = (length xs ≡ length (children_pairs (as_children done)))
       × (next ≡ None) × (rest ≡ []) × (w ≡ None) × IsOneLeaf left
-  WalksOn Refused k f w xs done left rest next = (next ≡ None) × (0 < length (left ++ rest))
+  WalksOn Refused k f w n xs done left rest next = (next ≡ None)
+      × RefusesAmong n (children_pairs (as_children done)) xs (left ++ rest)
 
   -- What a walk over the children of a node keeps: from f0 and the node t0 at q, those before `next` were visited, and
   -- es are those that it has now.
@@ -77,7 +93,7 @@ module _ {F V : Type 0} (call : Mut F (Bor (List ℕ) × (MutBor V × Unit {0}))
     pub asks : Asks call (q ++ p) first (children_pairs (as_children done)) fates f
     pub stay : children_pairs (as_children left) ≡ remaining (children_pairs (as_children done)) fates
     pub refused : refusals fates ≡ refusals_of walk
-    pub state : WalksOn walk (q ++ p) f w fates done left rest next
+    pub state : WalksOn walk (q ++ p) f w n fates done left rest next
 
   own-some : (k : List ℕ) (f g : F) (v w : Option V) (r : Bool) → AsksOwn call k f v r w g → is_some w ≡ is_some v
   own-some k f g None None r h = refl

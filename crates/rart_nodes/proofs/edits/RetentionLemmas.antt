@@ -1,15 +1,17 @@
 -- A walk that retains pairs: its calls along lists of pairs, one after another, and what they leave.
-use Rattle.std.proofs.Common.{◌≡◌, ℕ, ◌+◌, ◌≤◌, true, false, List, [], ◌∷◌, ◌++◌, length, map, refl, sym, ap, ◌∙◌, arith}
-use Rattle.std.proofs.Common.{subst, Bool, MutBor, if◌then◌else◌, length-append}
+use Rattle.std.proofs.Common.{◌≡◌, ℕ, ◌+◌, ◌≤◌, true, false, List, [], ◌∷◌, ◌++◌, length, map, refl, sym, ap, ◌∙◌}
+use Rattle.std.proofs.Common.{arith}
+use Rattle.std.proofs.Common.{subst, Bool, MutBor, if◌then◌else◌, Option, Some, None, option_map}
 use Rattle.std.specs.Borrow.{Bor}
 use Rattle.std.specs.Fn.{Mut, always_mut}
 use Rattle.std.specs.List.{FoldsTo}
 use Rattle.std.proofs.lemmas.List.{append_assoc}
 use Rattle.rart_keys.specs.SortedMap.{longest_key}
-use Rattle.rart_nodes.specs.edits.Retentions.{AskedAt, Asks, Fate, kept, removed, refused, is_wanted, does_stay, refusal}
-use Rattle.rart_nodes.specs.edits.Retentions.{refusals, remaining}
+use Rattle.rart_nodes.specs.edits.Retentions.{AskedAt, Asks, Fate, kept, removed, refused, is_wanted, does_stay}
+use Rattle.rart_nodes.specs.edits.Retentions.{refusal}
+use Rattle.rart_nodes.specs.edits.Retentions.{key_refused, refusals, refused_key, remaining}
 use Rattle.rart_nodes.specs.tries.Trie.{with_prefix}
-use Rattle.rart_nodes.proofs.walks.CallLemmas.{always-on, folds-keep}
+use Rattle.rart_nodes.proofs.walks.CallLemmas.{always-on}
 
 -- the removals that were put off are made
 abbrev fulfilled : Fate → Fate
@@ -26,6 +28,25 @@ refusal-fulfilled : (x : Fate) → refusal (fulfilled x) ≡ 0
 refusal-fulfilled kept = refl
 refusal-fulfilled removed = refl
 refusal-fulfilled refused = refl
+
+key-later : (x : Fate) (k : List ℕ) (n : ℕ) (o : Option (List ℕ)) → refusal x + n ≡ 0 → key_refused k x o ≡ o
+key-later kept k n o h = refl
+key-later removed k n o h = refl
+key-later refused k n o h = absurd (omega (arith, h))
+
+no-more : (x : Fate) (n : ℕ) → refusal x + n ≡ 0 → n ≡ 0
+no-more kept n h = omega (arith, h)
+no-more removed n h = omega (arith, h)
+no-more refused n h = absurd (omega (arith, h))
+
+key-front : (x : Fate) (k : List ℕ) (o p : Option (List ℕ)) → o ≡ p → key_refused k x o ≡ key_refused k x p
+key-front x k o p h = ap (key_refused k x) h
+
+key-after : (p : List ℕ) (x : Fate) (k : List ℕ) (o : Option (List ℕ))
+    → key_refused (p ++ k) x (option_map (λ z. p ++ z) o) ≡ option_map (λ z. p ++ z) (key_refused k x o)
+key-after p kept k o = refl
+key-after p removed k o = refl
+key-after p refused k o = refl
 
 module _ {V : Type 0} where
   -- what is left, one list after another
@@ -116,6 +137,52 @@ module _ {V : Type 0} where
   remaining-fulfilled (e ∷ es) [] h = absurd (omega (arith, h))
   remaining-fulfilled (e ∷ es) (x ∷ xs) h = length-stays x.1 e.0 x.0 (remaining es xs)
       (remaining es (all_fulfilled xs)) (refusals xs) (remaining-fulfilled es xs (omega (arith, h)))
+
+  -- the key whose removal was refused
+  pub refused_key-append : (es ds : List (List ℕ × V)) (xs ys : List (V × Fate)) → length xs ≡ length es
+      → refusals xs ≡ 0 → refused_key (es ++ ds) (xs ++ ys) ≡ refused_key ds ys
+  refused_key-append [] ds [] ys h r = refl
+  refused_key-append [] ds (x ∷ xs) ys h r = absurd (omega (arith, h))
+  refused_key-append (e ∷ es) ds [] ys h r = absurd (omega (arith, h))
+  refused_key-append (e ∷ es) ds (x ∷ xs) ys h r
+      = key-later x.1 e.0 (refusals xs) (refused_key (es ++ ds) (xs ++ ys)) r
+      ∙ refused_key-append es ds xs ys (omega (arith, h)) (no-more x.1 (refusals xs) r)
+
+  refused_key-none : (es : List (List ℕ × V)) → refused_key es [] ≡ None
+  refused_key-none [] = refl
+  refused_key-none (e ∷ es) = refl
+
+  pub refused_key-front : (es ds : List (List ℕ × V)) (xs : List (V × Fate)) → length xs ≤ length es
+      → refused_key (es ++ ds) xs ≡ refused_key es xs
+  refused_key-front [] ds [] h = refused_key-none ds
+  refused_key-front [] ds (x ∷ xs) h = absurd (omega (arith, h))
+  refused_key-front (e ∷ es) ds [] h = refl
+  refused_key-front (e ∷ es) ds (x ∷ xs) h = key-front x.1 e.0 (refused_key (es ++ ds) xs) (refused_key es xs)
+      (refused_key-front es ds xs (omega (arith, h)))
+
+  pub refused_key-after : (p : List ℕ) (es : List (List ℕ × V)) (xs : List (V × Fate))
+      → refused_key (with_prefix p es) xs ≡ option_map (λ z. p ++ z) (refused_key es xs)
+  refused_key-after p [] xs = refl
+  refused_key-after p (e ∷ es) [] = refl
+  refused_key-after p (e ∷ es) (x ∷ xs) = ap (key_refused (p ++ e.0) x.1) (refused_key-after p es xs)
+      ∙ key-after p x.1 e.0 (refused_key es xs)
+
+  -- it is that of the pair that is left, if only one is
+  key-only : (x : Fate) (e k : List ℕ) (w v : V) (es : List (List ℕ × V)) (n : ℕ) (o : Option (List ℕ))
+      → (es ≡ (k, v) ∷ [] → n ≡ 1 → o ≡ Some k) → n ≤ length es → refusal x + n ≡ 1
+      → (if does_stay x then (e, w) ∷ es else es) ≡ (k, v) ∷ [] → key_refused e x o ≡ Some k
+  key-only kept e k w v es n o f l r h = absurd (omega (arith, r, l, ap length h))
+  key-only removed e k w v es n o f l r h = f h (omega (arith, r))
+  key-only refused e k w v es n o f l r h = let same : ◌≡◌ {A = List ℕ × V} (e, w) (k, v) = cc in
+      ap Some (ap (λ z. z.0) same)
+
+  pub refused_key-only : (es : List (List ℕ × V)) (xs : List (V × Fate)) (k : List ℕ) (v : V) → length xs ≡ length es
+      → refusals xs ≡ 1 → remaining es xs ≡ (k, v) ∷ [] → refused_key es xs ≡ Some k
+  refused_key-only [] xs k v l r h = absurd (cc)
+  refused_key-only (e ∷ es) [] k v l r h = absurd (omega (arith, l))
+  refused_key-only (e ∷ es) (x ∷ xs) k v l r h = key-only x.1 e.0 k x.0 v (remaining es xs) (refusals xs)
+      (refused_key es xs) (λ a b. refused_key-only es xs k v (omega (arith, l)) b a)
+      (omega (arith, remaining-fulfilled es xs (omega (arith, l)))) r h
 
 module _ {F V : Type 0} (call : Mut F (Bor (List ℕ) × (MutBor V × Unit {0})) (Bool × (MutBor V × Unit {0}))) where
   -- one list after another

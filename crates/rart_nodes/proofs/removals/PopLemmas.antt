@@ -37,7 +37,7 @@ use Rattle.rart_nodes.proofs.tries.PairLemmas.{pairs_of-ascend}
 use Rattle.rart_nodes.proofs.tries.RestLemmas.{Follows}
 use Rattle.rart_nodes.proofs.walks.SeenLemmas.{longest-of}
 
-first-is : (b : ℕ) (k : List ℕ) → StartsWith b k → Some b ≡ slice_get k 0
+pub first-is : (b : ℕ) (k : List ℕ) → StartsWith b k → Some b ≡ slice_get k 0
 first-is b [] f = absurd f
 first-is b (x ∷ k) f = ap Some (sym f)
 
@@ -45,11 +45,11 @@ strip-same : (p : List ℕ) → Some [] ≡ strip_prefix p p
 strip-same p = sym (ap (strip_prefix p) (sym (append-nil p)) ∙ strip_prefix-append p [])
 
 module _ {V : Type 0} where
-  inner-stays : (k : List ℕ) (t : Trie V) → children_in t ≢ no_children → is_leaf_at k t ≡ false
+  pub inner-stays : (k : List ℕ) (t : Trie V) → children_in t ≢ no_children → is_leaf_at k t ≡ false
   inner-stays k (node p v w no_children) h = absurd (h refl)
   inner-stays k (node p v w (child b t cs)) h = refl
 
-  leaf-here : (t : Trie V) → children_in t ≡ no_children → is_leaf_at (prefix_of t) t ≡ true
+  pub leaf-here : (t : Trie V) → children_in t ≡ no_children → is_leaf_at (prefix_of t) t ≡ true
   leaf-here (node p v w no_children) h = ap is_end (sym (strip-same p))
   leaf-here (node p v w (child b t cs)) h = absurd (cc)
 

@@ -1,5 +1,5 @@
 -- What a walk that retains pairs does at one node.
-use Rattle.std.specs.Prelude.{ℕ, ◌≡◌, ◌<◌, ◌≤◌, ◌⊎◌, Bool, true, false, List, [], ◌∷◌, ◌++◌, length, Option, Some, None}
+use Rattle.std.specs.Prelude.{ℕ, ◌≡◌, ◌≢◌, ◌<◌, ◌≤◌, ◌⊎◌, Bool, true, false, List, [], length, Option, Some, None}
 use Rattle.std.specs.Prelude.{option_map, slice_get}
 use Rattle.std.specs.Borrow.{Bor, MutBor}
 use Rattle.std.specs.Fn.{Mut}
@@ -8,10 +8,10 @@ use Rattle.rart_nodes.specs.declared.node.storage.Storage.{Storage}
 use Rattle.rart_nodes.specs.declared.node.edits.retain.Retention.{Retention}
 use Rattle.rart_nodes.specs.declared.node.edits.retain.Retention.TheVariants.{Done, Rejected, Refused}
 use Rattle.rart_nodes.specs.edits.Deletion.{joined_if_lone}
+use Rattle.rart_nodes.specs.edits.RemoveAllocations.{trie_remove_allocates}
 use Rattle.rart_nodes.specs.edits.Retentions.{Asked, RetainsAll, RetainsFirst}
-use Rattle.rart_nodes.specs.storages.Stored.{capacity_without, child_entries, storage_capacity}
+use Rattle.rart_nodes.specs.storages.Stored.{NarrowsStored, capacity_without, child_entries, storage_capacity}
 use Rattle.rart_nodes.specs.tries.Trie.{Trie, node, Children, no_children, child, StartsWith, children_in, pairs_of}
-use Rattle.rart_nodes.specs.tries.Trie.{prefix_of}
 
 -- a byte that begins p begins q
 abbrev pub KeepsFirst : List ℕ → List ℕ → Type 0
@@ -25,12 +25,19 @@ module _ {F V : Type 0} (call : Mut F (Bor (List ℕ) × (MutBor V × Unit {0}))
   AsksOwn k f (Some v) r None f' = ⊥
   AsksOwn k f (Some v) r (Some w) f' = Asked call f (k, v) r w f'
 
+  -- the walk ended below the node t after a refused removal, which requests memory
+  pub record RefusesBelow (q : List ℕ) (f : F) (t u : Trie V) (f' : F) : Type 0 where
+    pub key : List ℕ
+    pub retains : RetainsFirst call q f (pairs_of t) (pairs_of u) key f'
+    pub inner : children_in u ≢ no_children
+    pub allocates : trie_remove_allocates None key u ≡ true
+
   -- What a walk over the node t at q leaves. A rejected leaf is still to be removed by its parent.
   abbrev pub RetainsBelow : List ℕ → Retention → F → Trie V → Trie V → F → Type 0
   RetainsBelow q Done f t u f' = RetainsAll call q f (pairs_of t) (pairs_of u) 0 f'
   RetainsBelow q Rejected f t u f' = (children_in u ≡ no_children)
       × RetainsAll call q f (pairs_of t) (pairs_of u) 1 f'
-  RetainsBelow q Refused f t u f' = RetainsFirst call q f (pairs_of t) (pairs_of u) f'
+  RetainsBelow q Refused f t u f' = RefusesBelow q f t u f'
 
   -- the same of a tree
   abbrev pub RetainsTree : Retention → F → Option (Trie V) → Option (Trie V) → F → Type 0
@@ -53,7 +60,7 @@ AppliesChild h b Done Rejected s s' = ⊥
 AppliesChild h b Done Refused s s' = ⊥
 AppliesChild h b Rejected Done s s' = RemovesChild h b s s'
 AppliesChild h b Rejected Rejected s s' = (s' ≡ s) × (h ≡ false) × (length (child_entries s) ≤ 1)
-AppliesChild h b Rejected Refused s s' = s' ≡ s
+AppliesChild h b Rejected Refused s s' = (s' ≡ s) × NarrowsStored b s
 AppliesChild h b Refused Done s s' = ⊥
 AppliesChild h b Refused Rejected s s' = ⊥
 AppliesChild h b Refused Refused s s' = s' ≡ s

@@ -1,8 +1,10 @@
 -- Calls of a callback that says which pairs stay, and what they leave of a list of pairs.
 use Rattle.std.specs.Prelude.{ℕ, ◌≡◌, ◌+◌, Bool, true, false, List, [], ◌∷◌, ◌++◌, length, Result, Ok, Err}
-use Rattle.std.specs.Prelude.{if◌then◌else◌}
+use Rattle.std.specs.Prelude.{if◌then◌else◌, Option, Some, None}
 use Rattle.std.specs.Borrow.{Bor, MutBor}
 use Rattle.std.specs.Fn.{Called, Mut, Takes}
+use Rattle.rart_keys.specs.SortedMap.{keys_of}
+use Rattle.rart_nodes.specs.edits.RemoveAllocations.{remove_allocates}
 use Rattle.rart_nodes.specs.walks.Calls.{CallableAtEach}
 
 -- What became of a pair: it is kept; or removed; or its removal was refused, and it stays.
@@ -45,6 +47,17 @@ remaining [] xs = []
 remaining (e ∷ es) [] = e ∷ es
 remaining (e ∷ es) (x ∷ xs) = if does_stay x.1 then (e.0, x.0) ∷ remaining es xs else remaining es xs
 
+-- the first key whose removal was refused
+abbrev pub key_refused : List ℕ → Fate → Option (List ℕ) → Option (List ℕ)
+key_refused k kept o = o
+key_refused k removed o = o
+key_refused k refused o = Some k
+
+abbrev pub refused_key : {V : Type 0} → List (List ℕ × V) → List (V × Fate) → Option (List ℕ)
+refused_key [] xs = None
+refused_key (e ∷ es) [] = None
+refused_key (e ∷ es) (x ∷ xs) = key_refused e.0 x.1 (refused_key es xs)
+
 -- how many removals were refused
 abbrev pub refusals : {V : Type 0} → List (V × Fate) → ℕ
 refusals [] = 0
@@ -78,17 +91,18 @@ module _ {F V : Type 0} (call : Mut F (Bor (List ℕ) × (MutBor V × Unit {0}))
     pub refused : refusals fates ≡ n
     pub left : ds ≡ remaining es fates
 
-  -- f was called with the first pairs, and ds is left of all; one removal was refused
-  pub record RetainsFirst (q : List ℕ) (f : F) (es ds : List (List ℕ × V)) (f' : F) : Type 0 where
+  -- f was called with the first pairs, and ds is left of all; one removal was refused, that of k
+  pub record RetainsFirst (q : List ℕ) (f : F) (es ds : List (List ℕ × V)) (k : List ℕ) (f' : F) : Type 0 where
     pub fates : List (V × Fate)
     pub asks : Asks q f es fates f'
     pub refused : refusals fates ≡ 1
+    pub key : refused_key es fates ≡ Some k
     pub left : ds ≡ remaining es fates
 
-  -- all pairs were visited, or the walk ended at a refused removal
+  -- all pairs were visited; or the walk ended after a refused removal, and that removal requests memory
   abbrev pub Retains : {E : Type 0} → F → List (List ℕ × V) → Result (Unit {0}) E → List (List ℕ × V) → F → Type 0
   Retains f es (Ok u) ds f' = RetainsAll [] f es ds 0 f'
-  Retains f es (Err e) ds f' = RetainsFirst [] f es ds f'
+  Retains f es (Err e) ds f' = (k : List ℕ) × (RetainsFirst [] f es ds k f' × (remove_allocates (keys_of ds) k ≡ true))
 
   -- the same of an f taken by value
   abbrev pub Retained : {E : Type 0} → F → List (List ℕ × V) → Result (Unit {0}) E → List (List ℕ × V) → Type 0

@@ -146,7 +146,11 @@ impl<P: Partial, V: Drop> DefaultNode<P, V> {
         self.settle(keeps, walk)
     }
 
-    fn retain_root<F: FnMut(&[u8], &mut V) -> bool>(&mut self, alloc: Global, f: &mut F) -> Retention
+    fn retain_root<F: FnMut(&[u8], &mut V) -> bool>(
+        &mut self,
+        alloc: Global,
+        f: &mut F,
+    ) -> Retention
         requires canonical { IsCanonical self.old }
         requires fits { IsWithin P.MAXIMUM_SIZE (longest_key (pairs_of self.old)) }
         requires callable { CanRetain F.FnMut f.old (pairs_of self.old) }

@@ -1,9 +1,9 @@
-use Rattle.std.proofs.Common.{◌≡◌, ◌++◌, ◌∙◌, ap, sym, arith, take, length, subst, Some}
-use Rattle.rart_keys.specs.KeyBytes.{IsWithin}
+use Rattle.std.proofs.Common.{◌∙◌, arith, length, subst}
 use Rattle.rart_nodes.specs.edits.RetainSteps.{AsksOwn}
 use Rattle.rart_nodes.specs.storages.Stored.{child_entries, storage_capacity}
 use Rattle.rart_nodes.specs.tries.TrieCode.{as_children}
-use Rattle.rart_nodes.proofs.edits.RetainEndLemmas.{lone-capacity, retaining-end, retaining-within}
+use Rattle.rart_nodes.proofs.edits.RetainEndLemmas.{retaining-end, retaining-within}
+use Rattle.rart_nodes.proofs.edits.RetainJoins.{lone-capacity}
 use Rattle.rart_nodes.proofs.edits.RetainStepLemmas.{retaining-step}
 use Rattle.rart_nodes.proofs.edits.RetainWalkLemmas.{own-callable, retaining-start, upcoming, upcoming-there}
 use Rattle.rart_nodes.proofs.edits.RetainWalkLemmas.{upcoming-within}

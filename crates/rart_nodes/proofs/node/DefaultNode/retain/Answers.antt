@@ -36,17 +36,21 @@ returns-in-Rejected-clause-retains g c = tree-rejected _ c.args.f.now c.retain_t
 pub returns-in-Refused-clause-callable : goal.returns-in-Refused-clause-callable
 returns-in-Refused-clause-callable g c =
     let h = tree-refused _ c.args.f.now c.retain_tree.new.f c.args.root.now c.retain_tree.new.root
-    (rw c.in-Refused.is at c.retain_tree.ensures.retains) in
-    always-after-asks _ [] (tree_pairs c.args.root.now) h.fates c.args.f.now c.retain_tree.new.f h.asks
+    c.retain_tree.ensures.canonical (rw c.in-Refused.is at c.retain_tree.ensures.retains) in
+    always-after-asks _ [] (tree_pairs c.args.root.now) h.1.0.fates c.args.f.now c.retain_tree.new.f h.1.0.asks
+
+pub returns-in-Refused-clause-retains : goal.returns-in-Refused-clause-retains
+returns-in-Refused-clause-retains g c = tree-refused _ c.args.f.now c.retain_tree.new.f c.args.root.now
+    c.retain_tree.new.root c.retain_tree.ensures.canonical (rw c.in-Refused.is at c.retain_tree.ensures.retains)
 
 pub returns-in-Refused-clause-count : goal.returns-in-Refused-clause-count
 returns-in-Refused-clause-count g c =
     let h = tree-refused _ c.args.f.now c.retain_tree.new.f c.args.root.now c.retain_tree.new.root
-    (rw c.in-Refused.is at c.retain_tree.ensures.retains) in
-    remaining-few g.F.FnMut (tree_pairs c.args.root.now) (tree_pairs c.retain_tree.new.root) h.fates h.left
+    c.retain_tree.ensures.canonical (rw c.in-Refused.is at c.retain_tree.ensures.retains) in
+    remaining-few g.F.FnMut (tree_pairs c.args.root.now) (tree_pairs c.retain_tree.new.root) h.1.0.fates h.1.0.left
 
 pub returns-in-Refused-clause-longest : goal.returns-in-Refused-clause-longest
 returns-in-Refused-clause-longest g c =
     let h = tree-refused _ c.args.f.now c.retain_tree.new.f c.args.root.now c.retain_tree.new.root
-    (rw c.in-Refused.is at c.retain_tree.ensures.retains) in
-    remaining-short g.F.FnMut (tree_pairs c.args.root.now) (tree_pairs c.retain_tree.new.root) h.fates h.left
+    c.retain_tree.ensures.canonical (rw c.in-Refused.is at c.retain_tree.ensures.retains) in
+    remaining-short g.F.FnMut (tree_pairs c.args.root.now) (tree_pairs c.retain_tree.new.root) h.1.0.fates h.1.0.left

@@ -4,7 +4,7 @@ use Rattle.rart_nodes.specs.edits.RetainSteps.{settled_node}
 use Rattle.rart_nodes.specs.storages.Stored.{child_entries, storage_capacity}
 use Rattle.rart_nodes.specs.tries.Trie.{Trie, node}
 use Rattle.rart_nodes.specs.tries.TrieCode.{as_children}
-use Rattle.rart_nodes.proofs.edits.RetainEndLemmas.{outcome-gone, outcome-kept, settled-gone, settled-kept}
+use Rattle.rart_nodes.proofs.edits.RetainJoins.{outcome-gone, outcome-kept, settled-gone, settled-kept}
 use Rattle.rart_nodes.proofs.node.DefaultNode.settle.Goals.{else-not-keeps}
 use Rattle.rart_nodes.proofs.node.DefaultNode.settle.Goals.{then-not-keeps+else-num_children-eq0+in-Some-1}
 use Rattle.rart_nodes.proofs.node.DefaultNode.settle.Goals.{then-not-keeps+else-num_children-eq0+in-None-1}
