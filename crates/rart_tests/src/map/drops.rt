@@ -269,9 +269,9 @@ fn a_deletion_refused_in_turn_drops_nothing(rt: HostRuntime) {
 }
 
 // How many values an append drops, with the keys below these numbers; `None` where it fails or moves not all.
-fn dropped_by_append(
-    into: &mut Tree<'_>,
-    from: &mut Tree<'_>,
+fn dropped_by_append<'a>(
+    into: &mut Tree<'a>,
+    from: &mut Tree<'a>,
     most: usize,
     drops: &Cell<usize>,
 ) -> Option<usize> {
