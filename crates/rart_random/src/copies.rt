@@ -17,12 +17,20 @@ fn is_apart<K: KeyTrait + Drop>(
     Some(was_equal && is_changed && *copy == *tree && other.is_empty())
 }
 
-// The same of two clones; none if memory was refused.
+// The same with another clone; none if memory was refused.
+fn is_apart_from_two<K: KeyTrait + Drop>(copy: &mut Tree<K>, tree: &Tree<K>) -> Option<bool> {
+    match tree.clone() {
+        Ok(mut other) => is_apart(copy, &mut other, tree),
+        Err(_refused) => None,
+    }
+}
+
+// The same of two clones.
 fn is_cloned<K: KeyTrait + Drop>(tree: &Tree<K>) -> Option<bool> {
-    let (Ok(mut copy), Ok(mut other)) = (tree.clone(), tree.clone()) else {
-        return None;
-    };
-    is_apart(&mut copy, &mut other, tree)
+    match tree.clone() {
+        Ok(mut copy) => is_apart_from_two(&mut copy, tree),
+        Err(_refused) => None,
+    }
 }
 
 fn count<K: KeyTrait + Drop>(pairs: &mut Iter<'_, K, K::PartialType, u64>) -> usize {
