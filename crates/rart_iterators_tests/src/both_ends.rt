@@ -3,8 +3,10 @@
 mod values;
 mod within;
 
-use rart::{BothEnds, KeyTrait, RouteTable};
+use rart::{BothEnds, KeyTrait, RouteTable, TreeError};
+use rart_test_tools::refusals::{is_swept, refuse, was_refused};
 use rart_test_trees::texts::{Key, Pair, Tree, filled, is_pair};
+use std::alloc::Global;
 use std::panic::Expect;
 
 type Table = RouteTable<Key, u64>;
@@ -96,4 +98,27 @@ fn each_pair_comes_once_from_either_end(rt: HostRuntime) {
     let tree = filled(rt.alloc(), &FIVE).expect(&rt, "a tree");
     assert!(rt; gives_none(&empty));
     assert_eq!(rt; first_wrong(&tree), None);
+}
+
+// Calls for the pairs with one request refused; whether a request was. A walk of them may request nothing.
+fn is_refused_well(alloc: Global, tree: &Tree, at: usize) -> Option<bool> {
+    refuse(alloc, at);
+    let answer = match tree.iter_both_ends() {
+        Ok(pairs) => Ok(gives_by_turns(pairs, TURNS[2])),
+        Err(error) => Err(error),
+    };
+    let refused = was_refused(alloc);
+    let well = if refused {
+        answer == Err(TreeError::Memory)
+    } else {
+        answer == Ok(true)
+    };
+    well.then_some(refused)
+}
+
+#[test]
+fn pairs_from_both_ends_refused_in_turn(rt: HostRuntime) {
+    let alloc = rt.alloc();
+    let tree = filled(alloc, &FIVE).expect(&rt, "a tree");
+    assert!(rt; is_swept(alloc, |at: usize| is_refused_well(alloc, &tree, at)));
 }

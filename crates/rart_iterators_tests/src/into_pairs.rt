@@ -91,15 +91,15 @@ fn each_value_of_pairs_by_value_is_dropped_once(rt: HostRuntime) {
 fn is_refused_well(alloc: Global, at: usize) -> Option<bool> {
     let tree = filled(alloc, &FIVE)?;
     refuse(alloc, at);
-    let answer = tree.into_pairs();
-    let refused = was_refused(alloc);
-    let well = match answer {
-        Ok(mut pairs) => !refused && gives(&mut pairs, &FIVE),
+    let (is_right, failed) = match tree.into_pairs() {
+        Ok(mut pairs) => (gives(&mut pairs, &FIVE), false),
         Err(Refused { error, value }) => {
-            refused && error == TreeError::Memory && are_given(value, &FIVE)
+            (error == TreeError::Memory && are_given(value, &FIVE), true)
         }
     };
-    well.then_some(refused)
+    // after the walk, which may request nothing
+    let refused = was_refused(alloc);
+    (is_right && refused == failed).then_some(refused)
 }
 
 #[test]

@@ -244,6 +244,14 @@ fn start(alloc: Global, refusing: Refusing) {
     }
 }
 
+// With one request refused, the pair can be put back.
+fn may_hold(refusing: Refusing) -> bool {
+    match refusing {
+        Refusing::One(_) => false,
+        Refusing::From(_) => true,
+    }
+}
+
 // Whether a request was refused; `None` where something else failed.
 fn is_refused_well(
     alloc: Global,
@@ -259,6 +267,7 @@ fn is_refused_well(
         Ok(()) => !was,
         Err(refused) => {
             was && refused.error == TreeError::Memory
+                && (refused.value.is_none() || may_hold(refusing))
                 && are_parted(alloc, into, from, &refused.value, lists)
                 && completes(into, from, refused.value)
         }
