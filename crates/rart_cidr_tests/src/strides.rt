@@ -23,7 +23,7 @@ impl Count for Tally {
     }
 }
 
-fn tally() -> Tally {
+fn no_reads() -> Tally {
     Tally {
         number: 0,
         visits: Visits::new(),
@@ -119,7 +119,7 @@ fn is_wanted6(found: Option<(Cidr6, &u64)>, wanted: Option<&str>) -> bool {
 }
 
 fn reads4(table: &CidrTable4<u64>, net: &Cidr4, row: &Row) -> bool {
-    let (mut nodes, mut strides) = (tally(), tally());
+    let (mut nodes, mut strides) = (no_reads(), no_reads());
     let found = table
         .seen::<Tally>()
         .longest_match_net_counted(net, &mut nodes, &mut strides);
@@ -127,7 +127,7 @@ fn reads4(table: &CidrTable4<u64>, net: &Cidr4, row: &Row) -> bool {
 }
 
 fn reads6(table: &CidrTable6<u64>, net: &Cidr6, row: &Row) -> bool {
-    let (mut nodes, mut strides) = (tally(), tally());
+    let (mut nodes, mut strides) = (no_reads(), no_reads());
     let found = table
         .seen::<Tally>()
         .longest_match_net_counted(net, &mut nodes, &mut strides);
