@@ -38,6 +38,9 @@ fn same_nodes<P: Partial, V: PartialEq, C: Count>(
     if !same_values(left.value(), right.value()) {
         return false;
     }
+    if left.has_no_children() {
+        return right.has_no_children();
+    }
     let mut rest = left.branches();
     let mut others = right.branches();
     while let Some((byte, child)) = rest.next_child() {

@@ -3,5 +3,5 @@ use Rattle.rart_keys.proofs.InlineBytes.{zeros-two_parts}
 use Rattle.rart_keys.proofs.inline_bytes.joined_at_end.Goals as goal
 
 pub returns : goal.returns
-returns g c = zeros-two_parts g.row.N _ c.args.first.now c.args.second.now _ _ c.copy_from_slice.ensures.after
-    c.copy_from_slice-2.ensures.after (omega arith)
+returns g c = zeros-two_parts g.row.N _ c.args.first.now c.args.second.now _ _ c.copy_bytes.ensures
+    c.copy_bytes-2.ensures (omega arith)

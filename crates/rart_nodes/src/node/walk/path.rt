@@ -114,7 +114,13 @@ impl<'a, P: Partial> Path<'a, P> for BytePath {
     }
 
     fn grow(&mut self, prefix: &'a P) {
-        let Ok(()) = self.key.extend_from_slice(prefix.to_slice()) else {
+        let bytes = prefix.to_slice();
+        // the most frequent length in dense keys, without a call
+        if let [byte] = bytes {
+            self.key.push_reserved(*byte);
+            return;
+        }
+        let Ok(()) = self.key.extend_from_slice(bytes) else {
             unreachable!()
         };
     }
