@@ -1,3 +1,4 @@
+pub mod CallsAfterRefusal
 pub mod RetainEndLemmas
 pub mod RetainJoins
 pub mod RetainStepLemmas

@@ -17,8 +17,8 @@ impl<K: KeyTrait, V: Drop> AdaptiveRadixTree<K, V> {
     /// # Errors
     ///
     /// [`TreeError::Memory`] if a node must shrink from 5, 17 or 49 children to one fewer, and the allocation fails.
-    /// The walk then ends: the pair whose removal failed stays with the value that its call left, and so do the pairs
-    /// that `f` was not called with.
+    /// The walk then ends: the pair whose removal failed stays with the value that its call left. The pairs that `f`
+    /// was not called with stay unchanged.
     pub fn retain_by_ref<F: FnMut(&[u8], &mut V) -> bool>(
         &mut self,
         f: &mut F,

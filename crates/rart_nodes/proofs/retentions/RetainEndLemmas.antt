@@ -11,7 +11,8 @@ use Rattle.rart_parts.specs.Entries.{child_at}
 use Rattle.rart_nodes.specs.declared.node.edits.retain.Retention.{Retention}
 use Rattle.rart_nodes.specs.declared.node.edits.retain.Retention.TheVariants.{Done, Rejected, Refused}
 use Rattle.rart_nodes.specs.edits.Deletion.{JoinsWithin, merged_if_needed}
-use Rattle.rart_nodes.specs.edits.Retentions.{CallsFor, Fate, RetainsAll, RetainsFirst, kept, removed, refused}
+use Rattle.rart_nodes.specs.edits.Retentions.{CallsFor, EndsBelowRefused, Fate, RetainsAll, RetainsFirst}
+use Rattle.rart_nodes.specs.edits.Retentions.{kept, removed, refused}
 use Rattle.rart_nodes.specs.edits.Retentions.{refusals}
 use Rattle.rart_nodes.specs.edits.Retentions.{refused_key, remaining}
 use Rattle.rart_nodes.specs.edits.RetainSteps.{CallsForOwn, KeepsFirst, RetainsBelow, finished_as}
@@ -22,6 +23,7 @@ use Rattle.rart_nodes.specs.tries.Trie.{children_pairs, own_pair, pairs_of, pref
 use Rattle.rart_nodes.specs.tries.TrieCode.{as_children}
 use Rattle.rart_nodes.proofs.edits.InsertLemmas.{fewer-within}
 use Rattle.rart_nodes.proofs.edits.JoinedLengths.{joins-children, prefix-before}
+use Rattle.rart_nodes.proofs.retentions.CallsAfterRefusal.{ends-after, ends-front, ends-own}
 use Rattle.rart_nodes.proofs.retentions.RetainJoins.{joined-canonical, joined-first, joined-leaf, joined-pairs}
 use Rattle.rart_nodes.proofs.retentions.RetainStepLemmas.{none-first}
 use Rattle.rart_nodes.proofs.retentions.RetainWalkLemmas.{RefusesAmong, Retaining, refusals_of}
@@ -83,6 +85,7 @@ module _ {F V : Type 0} (call : Mut F (Bor (List ℕ) × (MutBor V × Unit {0}))
       pub calls : CallsFor call q f0 (pairs_of t) fates f
       pub left : pairs_of t' ≡ remaining (pairs_of t) fates
       pub refused : refusals fates ≡ n
+      pub ends : EndsBelowRefused (pairs_of t) fates
       pub all : whole → length fates ≡ length (pairs_of t)
       pub key : (k : List ℕ) → later k → refused_key (pairs_of t) fates ≡ Some k
 
@@ -116,6 +119,10 @@ module _ {F V : Type 0} (call : Mut F (Bor (List ℕ) × (MutBor V × Unit {0}))
             ∙ sym (remaining-after p (own_pair i.own ++ children_pairs (as_children (i.done ++ i.rest)))
             (o.fates ++ i.fates));
         refused = refusals-append o.fates i.fates ∙ omega (arith, i.refused, o.refused, r);
+        ends = ends-after p (own_pair i.own ++ children_pairs (as_children (i.done ++ i.rest))) (o.fates ++ i.fates)
+            (ends-own i.own (children_pairs (as_children (i.done ++ i.rest))) o.fates i.fates o.all
+            (rw below (ends-front (children_pairs (as_children i.done)) (children_pairs (as_children i.rest)) i.fates
+            some i.ends)));
         all = λ h. omega (
           arith,
           h.0,
@@ -184,6 +191,7 @@ module _ {F V : Type 0} (call : Mut F (Bor (List ℕ) × (MutBor V × Unit {0}))
     calls = g.calls;
     all = g.all w;
     refused = g.refused;
+    ends = g.ends;
     left = e ∙ g.left;
   }
 
@@ -195,6 +203,7 @@ module _ {F V : Type 0} (call : Mut F (Bor (List ℕ) × (MutBor V × Unit {0}))
     calls = g.calls;
     refused = g.refused;
     key = g.key k l;
+    ends = g.ends;
     left = e ∙ g.left;
   }
 

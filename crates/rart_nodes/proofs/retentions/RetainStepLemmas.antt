@@ -12,7 +12,7 @@ use Rattle.rart_parts.specs.Entries.{child_at, entries_above, replaced, without_
 use Rattle.rart_nodes.specs.declared.node.edits.retain.Retention.{Retention}
 use Rattle.rart_nodes.specs.declared.node.edits.retain.Retention.TheVariants.{Done, Rejected, Refused}
 use Rattle.rart_nodes.specs.declared.node.storage.Storage.{Storage}
-use Rattle.rart_nodes.specs.edits.Retentions.{CallsFor, CanRetain, Fate, kept, removed, refused}
+use Rattle.rart_nodes.specs.edits.Retentions.{CallsFor, CanRetain, EndsBelowRefused, Fate, kept, removed, refused}
 use Rattle.rart_nodes.specs.edits.Retentions.{key_refused, refusals, refused_key, remaining}
 use Rattle.rart_nodes.specs.edits.RetainSteps.{AppliesChild, KeepsFirst, RetainsBelow, next_byte}
 use Rattle.rart_nodes.specs.shapes.Shape.{capacity_of}
@@ -21,6 +21,7 @@ use Rattle.rart_nodes.specs.storages.Stored.{child_entries, storage_capacity}
 use Rattle.rart_nodes.specs.tries.Trie.{Trie, node, no_children, child, AreCanonical, IsCanonical, StartsWith}
 use Rattle.rart_nodes.specs.tries.Trie.{children_in, children_pairs, pairs_of, prefix_of, with_prefix}
 use Rattle.rart_nodes.specs.tries.TrieCode.{as_children}
+use Rattle.rart_nodes.proofs.retentions.CallsAfterRefusal.{ends-append, ends-front, ends-none}
 use Rattle.rart_nodes.proofs.retentions.RetainWalkLemmas.{Retaining, Upcoming, WalksOn, refusals_of}
 use Rattle.rart_nodes.proofs.retentions.RetentionLemmas.{all_fulfilled, calls-append, calls-folds, calls-front}
 use Rattle.rart_nodes.proofs.retentions.RetentionLemmas.{calls-fulfilled}
@@ -139,9 +140,10 @@ module _ {F V : Type 0} (call : Mut F (Bor (List ℕ) × (MutBor V × Unit {0}))
       → ds ≡ i.left ++ (mid ++ i.rest) → AreCanonical 0 (as_children ds) → m ≡ capacity_of (length ds)
       → (is_some w ≡ false → 0 < length ds) → CallsFor call (q ++ p) f (pairs_of u) xs g
       → children_pairs (as_children mid) ≡ remaining (pairs_of u) xs → refusals xs ≡ refusals_of walk
+      → EndsBelowRefused (pairs_of u) xs
       → WalksOn call walk (q ++ p) g w m (i.fates ++ xs) (i.done ++ (b, u) ∷ []) (i.left ++ mid) i.rest next
       → Retaining call q f0 t0 keeps holds walk g p w m ds next
-  visited q f0 t0 keeps holds f g p w n m b es ds u i walk mid xs next d c v l a h r s =
+  visited q f0 t0 keeps holds f g p w n m b es ds u i walk mid xs next d c v l a h r j s =
       let some = calls-length call (q ++ p) (pairs_of u) xs f g a in
       let below : children_pairs (as_children (i.done ++ (b, u) ∷ []))
       ≡ children_pairs (as_children i.done) ++ (pairs_of u ++ []) = pairs-append i.done ((b, u) ∷ []) in record {
@@ -168,6 +170,8 @@ module _ {F V : Type 0} (call : Mut F (Bor (List ℕ) × (MutBor V × Unit {0}))
             (h ∙ sym (remaining-front (pairs_of u) [] xs some ∙ append-nil (remaining (pairs_of u) xs)))
             ∙ sym (remaining-append (children_pairs (as_children i.done)) (pairs_of u ++ []) i.fates xs i.whole));
         refused = refusals-append i.fates xs ∙ omega (arith, i.refused, r);
+        ends = rw below (ends-append (children_pairs (as_children i.done)) (pairs_of u ++ []) i.fates xs i.whole
+            i.refused (ends-front (pairs_of u) [] xs some j));
         state = s;
       }
 
@@ -207,10 +211,10 @@ module _ {F V : Type 0} (call : Mut F (Bor (List ℕ) × (MutBor V × Unit {0}))
       (walk : Retention) (xs : List (V × Fate)) (next : Option ℕ) → IsCanonical x
       → KeepsFirst (prefix_of u) (prefix_of x) → m ≡ n → ds ≡ replaced b x es
       → CallsFor call (q ++ p) f (pairs_of u) xs g → pairs_of x ≡ remaining (pairs_of u) xs
-      → refusals xs ≡ refusals_of walk
+      → refusals xs ≡ refusals_of walk → EndsBelowRefused (pairs_of u) xs
       → WalksOn call walk (q ++ p) g w m (i.fates ++ xs) (i.done ++ (b, u) ∷ []) (i.left ++ (b, x) ∷ []) i.rest next
       → Retaining call q f0 t0 keeps holds walk g p w m ds next
-  stays q f0 t0 keeps holds f g p w n m b es ds u x i walk xs next c k v d a h r s =
+  stays q f0 t0 keeps holds f g p w n m b es ds u x i walk xs next c k v d a h r j s =
       let changed : ds ≡ i.left ++ (b, x) ∷ i.rest = d ∙ ap (replaced b x) i.now
       ∙ middle-replaced b 0 u x i.left i.rest i.all in
       let same : length ds ≡ length es = omega (
@@ -223,7 +227,7 @@ module _ {F V : Type 0} (call : Mut F (Bor (List ℕ) × (MutBor V × Unit {0}))
       visited q f0 t0 keeps holds f g p w n m b es ds u i walk ((b, x) ∷ []) xs next changed
       (rw changed (middle-other b 0 u x i.left i.rest i.all c k)) (v ∙ i.capacity ∙ ap capacity_of (sym same))
       (λ z. omega (arith, ap length changed, length-middle i.left i.rest (b, x))) a
-      (append-nil (pairs_of x) ∙ h) r s
+      (append-nil (pairs_of x) ∙ h) r j s
 
   -- the key whose removal was refused is one of the child's
   child-key : (q : List ℕ) (f0 : F) (t0 : Trie V) (keeps holds : Bool) (f g : F) (p : List ℕ) (w : Option V) (n b : ℕ)
@@ -266,7 +270,7 @@ module _ {F V : Type 0} (call : Mut F (Bor (List ℕ) × (MutBor V × Unit {0}))
       let joined : child_entries s' ≡ (i.left ++ (b, x) ∷ []) ++ i.rest = changed
       ∙ sym (append_assoc i.left ((b, x) ∷ []) i.rest) in (
         stays q f0 t0 keeps holds f g p w n (storage_capacity s') b es (child_entries s') u x i Done h.fates next c k
-            (ap storage_capacity a ∙ v) ds h.calls h.left h.refused (
+            (ap storage_capacity a ∙ v) ds h.calls h.left h.refused h.ends (
               all-visited q f0 t0 keeps holds f p w n b es u i h.fates h.all,
               first,
               rest-callable q f0 t0 keeps holds f g p w n b es u i h.fates h.all h.calls,
@@ -308,7 +312,8 @@ module _ {F V : Type 0} (call : Mut F (Bor (List ℕ) × (MutBor V × Unit {0}))
             (λ y. omega (arith, y, ap length old, ap length changed, length-middle i.left i.rest (b, x))) a.2)
             (calls-fulfilled call (q ++ p) (pairs_of u) h.1.fates f g h.1.calls)
             (sym (leaf-fulfilled x (pairs_of u) h.1.fates h.0 h.1.all h.1.refused h.1.left))
-            (refusals-fulfilled h.1.fates) (
+            (refusals-fulfilled h.1.fates)
+            (ends-none (pairs_of u) (all_fulfilled h.1.fates) (refusals-fulfilled h.1.fates)) (
               all-visited q f0 t0 keeps holds f p w n b es u i (all_fulfilled h.1.fates)
                   (length-fulfilled h.1.fates ∙ h.1.all),
               first,
@@ -330,7 +335,7 @@ module _ {F V : Type 0} (call : Mut F (Bor (List ℕ) × (MutBor V × Unit {0}))
       let front : i.left ≡ [] = no-entries i.left (omega (arith, few)) in
       stopped q f0 t0 keeps holds f g p w n (storage_capacity s') b es (child_entries s') u i Rejected next e
       (stays q f0 t0 keeps holds f g p w n (storage_capacity s') b es (child_entries s') u x i Rejected h.1.fates next
-      c k (ap storage_capacity a.0 ∙ v) ds h.1.calls h.1.left h.1.refused (
+      c k (ap storage_capacity a.0 ∙ v) ds h.1.calls h.1.left h.1.refused h.1.ends (
         all-visited q f0 t0 keeps holds f p w n b es u i h.1.fates h.1.all,
         e,
         no-entries i.rest (omega (arith, few)),
@@ -345,7 +350,7 @@ module _ {F V : Type 0} (call : Mut F (Bor (List ℕ) × (MutBor V × Unit {0}))
       let low = middle-other b 0 u x i.left i.rest i.all c k in
       stopped q f0 t0 keeps holds f g p w n (storage_capacity s') b es (child_entries s') u i Refused next e
       (stays q f0 t0 keeps holds f g p w n (storage_capacity s') b es (child_entries s') u x i Refused h.1.fates next
-      c k (ap storage_capacity a.0 ∙ v) (ap child_entries a.0 ∙ d) h.1.calls h.1.left h.1.refused (
+      c k (ap storage_capacity a.0 ∙ v) (ap child_entries a.0 ∙ d) h.1.calls h.1.left h.1.refused h.1.ends (
         e,
         record {
           key = prefix_of x;
@@ -372,7 +377,8 @@ module _ {F V : Type 0} (call : Mut F (Bor (List ℕ) × (MutBor V × Unit {0}))
       let low = middle-other b 0 u x i.left i.rest i.all c k in
       stopped q f0 t0 keeps holds f g p w n (storage_capacity s') b es (child_entries s') u i Refused next e
       (stays q f0 t0 keeps holds f g p w n (storage_capacity s') b es (child_entries s') u x i Refused h.retains.fates
-      next c k (ap storage_capacity a ∙ v) (ap child_entries a ∙ d) h.retains.calls h.retains.left h.retains.refused (
+      next c k (ap storage_capacity a ∙ v) (ap child_entries a ∙ d) h.retains.calls h.retains.left h.retains.refused
+      h.retains.ends (
         e,
         record {
           key = h.key;

@@ -10,6 +10,7 @@ use Rattle.rart_nodes.specs.edits.Retentions.{Fate, RetainsAll, RetainsFirst, re
 use Rattle.rart_nodes.specs.edits.RetainSteps.{RetainsTree}
 use Rattle.rart_nodes.specs.tries.Tree.{IsCanonicalTree, tree_pairs}
 use Rattle.rart_nodes.specs.tries.Trie.{Trie, pairs_of}
+use Rattle.rart_nodes.proofs.retentions.CallsAfterRefusal.{ends-none}
 use Rattle.rart_nodes.proofs.retentions.RetainStepLemmas.{leaf-fulfilled}
 use Rattle.rart_nodes.proofs.retentions.RetentionLemmas.{all_fulfilled, calls-fulfilled, length-fulfilled}
 use Rattle.rart_nodes.proofs.retentions.RetentionLemmas.{refusals-fulfilled, remaining-length, remaining-longest}
@@ -18,7 +19,14 @@ use Rattle.rart_nodes.proofs.removals.RemoveAllocationLemmas.{allocates-remove}
 module _ {F V : Type 0} (call : Mut F (Bor (List ℕ) × (MutBor V × Unit {0})) (Bool × (MutBor V × Unit {0}))) where
   pub tree-done : (f g : F) (o u : Option (Trie V)) → RetainsTree call Done f o u g
       → RetainsAll call [] f (tree_pairs o) (tree_pairs u) 0 g
-  tree-done f g None None h = record { fates = []; calls = h.1; all = refl; refused = refl; left = refl }
+  tree-done f g None None h = record {
+    fates = [];
+    calls = h.1;
+    all = refl;
+    refused = refl;
+    ends = tt;
+    left = refl;
+  }
   tree-done f g None (Some u) h = absurd h
   tree-done f g (Some t) None h = absurd h
   tree-done f g (Some t) (Some u) h = h
@@ -34,6 +42,7 @@ module _ {F V : Type 0} (call : Mut F (Bor (List ℕ) × (MutBor V × Unit {0}))
     calls = calls-fulfilled call [] (pairs_of t) h.1.fates f g h.1.calls;
     all = length-fulfilled h.1.fates ∙ h.1.all;
     refused = refusals-fulfilled h.1.fates;
+    ends = ends-none (pairs_of t) (all_fulfilled h.1.fates) (refusals-fulfilled h.1.fates);
     left = sym (leaf-fulfilled u (pairs_of t) h.1.fates h.0 h.1.all h.1.refused h.1.left);
   }
 

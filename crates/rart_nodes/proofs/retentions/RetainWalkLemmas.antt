@@ -14,9 +14,8 @@ use Rattle.rart_nodes.specs.declared.node.edits.retain.Retention.{Retention}
 use Rattle.rart_nodes.specs.declared.node.edits.retain.Retention.TheVariants.{Done, Rejected, Refused}
 use Rattle.rart_nodes.specs.edits.Deletion.{is_leaf_at}
 use Rattle.rart_nodes.specs.edits.RemoveAllocations.{trie_remove_allocates}
-use Rattle.rart_nodes.specs.edits.Retentions.{CalledForPair, CallsFor, CanRetain, Fate, TakesPair, refusals}
-use Rattle.rart_nodes.specs.edits.Retentions.{refused_key}
-use Rattle.rart_nodes.specs.edits.Retentions.{remaining}
+use Rattle.rart_nodes.specs.edits.Retentions.{CalledForPair, CallsFor, CanRetain, EndsBelowRefused, Fate, TakesPair}
+use Rattle.rart_nodes.specs.edits.Retentions.{refusals, refused_key, remaining}
 use Rattle.rart_nodes.specs.edits.RetainSteps.{CallsForOwn}
 use Rattle.rart_nodes.specs.shapes.Shape.{capacity_of}
 use Rattle.rart_nodes.specs.storages.Capacities.{previous_capacity}
@@ -94,6 +93,7 @@ module _ {F V : Type 0} (call : Mut F (Bor (List ℕ) × (MutBor V × Unit {0}))
     pub calls : CallsFor call (q ++ p) first (children_pairs (as_children done)) fates f
     pub stay : children_pairs (as_children left) ≡ remaining (children_pairs (as_children done)) fates
     pub refused : refusals fates ≡ refusals_of walk
+    pub ends : EndsBelowRefused (children_pairs (as_children done)) fates
     pub state : WalksOn walk (q ++ p) f w n fates done left rest next
 
   own-some : (k : List ℕ) (f g : F) (v w : Option V) (r : Bool) → CallsForOwn call k f v r w g → is_some w ≡ is_some v
@@ -154,6 +154,7 @@ module _ {F V : Type 0} (call : Mut F (Bor (List ℕ) × (MutBor V × Unit {0}))
     calls = refl;
     stay = refl;
     refused = refl;
+    ends = tt;
     state = (
       refl,
       a,

@@ -34,7 +34,7 @@ key-later kept k n o h = refl
 key-later removed k n o h = refl
 key-later refused k n o h = absurd (omega (arith, h))
 
-no-more : (x : Fate) (n : ℕ) → refusal x + n ≡ 0 → n ≡ 0
+pub no-more : (x : Fate) (n : ℕ) → refusal x + n ≡ 0 → n ≡ 0
 no-more kept n h = omega (arith, h)
 no-more removed n h = omega (arith, h)
 no-more refused n h = absurd (omega (arith, h))

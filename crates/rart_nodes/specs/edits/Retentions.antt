@@ -3,6 +3,7 @@ use Rattle.std.specs.Prelude.{ℕ, ◌≡◌, ◌+◌, Bool, true, false, List, 
 use Rattle.std.specs.Prelude.{if◌then◌else◌, Option, Some, None}
 use Rattle.std.specs.Borrow.{Bor, MutBor}
 use Rattle.std.specs.Fn.{Called, Mut, Takes}
+use Rattle.rart_keys.specs.ByteStrings.{begins}
 use Rattle.rart_keys.specs.SortedMap.{keys_of}
 use Rattle.rart_nodes.specs.edits.RemoveAllocations.{remove_allocates}
 use Rattle.rart_nodes.specs.walks.Calls.{CallableAtEach}
@@ -63,6 +64,18 @@ abbrev pub refusals : {V : Type 0} → List (V × Fate) → ℕ
 refusals [] = 0
 refusals (x ∷ xs) = refusal x.1 + refusals xs
 
+-- each key that was called begins with k
+abbrev pub AllBegin : {V : Type 0} → List ℕ → List (List ℕ × V) → List (V × Fate) → Type 0
+AllBegin k es [] = Unit {0}
+AllBegin k [] (x ∷ xs) = Unit {0}
+AllBegin k (e ∷ es) (x ∷ xs) = (begins k e.0 ≡ true) × AllBegin k es xs
+
+-- each key that was called after a refused one begins with it
+abbrev pub EndsBelowRefused : {V : Type 0} → List (List ℕ × V) → List (V × Fate) → Type 0
+EndsBelowRefused es [] = Unit {0}
+EndsBelowRefused [] (x ∷ xs) = Unit {0}
+EndsBelowRefused (e ∷ es) (x ∷ xs) = (x.1 ≡ refused → AllBegin e.0 es xs) × EndsBelowRefused es xs
+
 module _ {F V : Type 0} (call : Mut F (Bor (List ℕ) × (MutBor V × Unit {0})) (Bool × (MutBor V × Unit {0}))) where
   -- f may be called with the key and a loan of the value of e
   abbrev pub TakesPair : F → List ℕ × V → Type 0
@@ -90,6 +103,7 @@ module _ {F V : Type 0} (call : Mut F (Bor (List ℕ) × (MutBor V × Unit {0}))
     pub calls : CallsFor q f es fates f'
     pub all : length fates ≡ length es
     pub refused : refusals fates ≡ n
+    pub ends : EndsBelowRefused es fates
     pub left : ds ≡ remaining es fates
 
   -- f was called with the first pairs, and ds is left of all; one removal was refused, that of k
@@ -98,6 +112,7 @@ module _ {F V : Type 0} (call : Mut F (Bor (List ℕ) × (MutBor V × Unit {0}))
     pub calls : CallsFor q f es fates f'
     pub refused : refusals fates ≡ 1
     pub key : refused_key es fates ≡ Some k
+    pub ends : EndsBelowRefused es fates
     pub left : ds ≡ remaining es fates
 
   -- all pairs were visited; or the walk ended after a refused removal, and that removal requests memory

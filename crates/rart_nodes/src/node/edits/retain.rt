@@ -100,7 +100,8 @@ impl<P: Partial, V: Drop> DefaultNode<P, V> {
     /// Ends the walk over a node: removes its value if it is not to be kept and the node has children, and merges the
     /// node with its only child if it has no value.
     fn finish(&mut self, keeps: bool, walk: Retention) -> Retention
-        requires capacity { needs_merge None (children_in self.old) ≡ true → capacity_in self.old ≡ 4 }
+        requires capacity { needs_merge None (children_in self.old) ≡ true
+            → capacity_in self.old ≡ 4 }
         requires within { JoinsWithin P.MAXIMUM_SIZE (prefix_of self.old) (children_in self.old) }
         ensures outcome { result ≡ finished_as keeps walk (children_in self.old) }
         ensures node { self.new ≡ finished_node keeps self.old }

@@ -113,7 +113,8 @@ impl<P: Partial, V> DefaultNode<P, V> {
         answer: SlotUpdate<V>,
     ) -> Result<Outcome<V>, UpdateError<V>>
         requires taken { value_of self.old ≡ None }
-        requires capacity { needs_merge None (children_in self.old) ≡ true → capacity_in self.old ≡ 4 }
+        requires capacity { needs_merge None (children_in self.old) ≡ true
+            → capacity_in self.old ≡ 4 }
         requires within { JoinsWithin P.MAXIMUM_SIZE (prefix_of self.old) (children_in self.old) }
         ensures { EndsHere full answer left self.old result self.new }
     {

@@ -29,7 +29,8 @@ impl<N> Storage<N> {
     /// Returns whether the storage keeps its kind when the child at byte `b` is removed.
     fn keeps_kind(&self, b: u8) -> bool
         ensures keeps { result ≡ true → (child_at b (child_entries self.now) ≡ None)
-            ⊎ (previous_capacity (storage_capacity self.now) + 1 < length (child_entries self.now)) }
+            ⊎ (previous_capacity (storage_capacity self.now) + 1
+            < length (child_entries self.now)) }
         ensures gives_up { result ≡ false → (child_at b (child_entries self.now) ≢ None)
             × (length (child_entries self.now)
             ≤ previous_capacity (storage_capacity self.now) + 1) }

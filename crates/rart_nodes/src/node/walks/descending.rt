@@ -37,8 +37,9 @@ impl<'a, K: KeyTrait, P: Partial, V, C> Model for KeyBackWalk<'a, K, P, V, C> {
     ghost view = { λ w. join_all (remaining_entries byte_segments (byte_segments w.path.key.items)
         (reverse w.walk.levels.items)) };
 
-    ghost invariant = { λ w. IsKeyBackWalk K.MAXIMUM_SIZE w.walk.longest (vec_capacity w.walk.levels)
-        (vec_capacity w.path.key) (byte_segments w.path.key.items) (reverse w.walk.levels.items) };
+    ghost invariant = { λ w. IsKeyBackWalk K.MAXIMUM_SIZE w.walk.longest
+        (vec_capacity w.walk.levels) (vec_capacity w.path.key) (byte_segments w.path.key.items)
+        (reverse w.walk.levels.items) };
 }
 
 impl<'a, K: KeyTrait, P: Partial, V, C: Count> KeyBackWalk<'a, K, P, V, C> {
