@@ -3,6 +3,7 @@
 #![tactic(auto)]
 
 mod common_prefix;
+mod copies;
 mod inline_bytes;
 pub mod keys;
 pub mod laws;
@@ -10,6 +11,7 @@ pub mod partials;
 mod strip;
 
 pub use crate::common_prefix::common_prefix_length;
+pub use crate::copies::copy_bytes;
 pub use crate::keys::KeyTrait;
 pub use crate::keys::array_key::ArrayKey;
 pub use crate::partials::Partial;

@@ -1,13 +1,18 @@
 -- What paths keep of a prefix: its bytes, one by one, the prefix as one segment, or nothing.
-use Rattle.std.specs.Prelude.{ℕ, List, [], ◌∷◌, map, Option}
+use Rattle.std.specs.Prelude.{ℕ, List, [], ◌∷◌, map, take, Option}
 use Rattle.std.specs.Borrow.{Bor}
 use Rattle.std.specs.Option.{option_copied}
 use Rattle.std.proofs.Common.{arith}
 use Rattle.rart_nodes.specs.declared.node.walk.Walk.{Walk}
+use Rattle.rart_nodes.specs.declared.node.walk.path.BytePath.{BytePath}
 use Rattle.rart_nodes.specs.walks.Walk.{Grown, IsShort, Level, SegmentList, entry_values, entries_ahead}
 
 abbrev pub byte_segments : Grown
 byte_segments p = map (λ b. b ∷ []) p
+
+-- the bytes that a path of bytes keeps
+abbrev pub kept_bytes : BytePath → List ℕ
+kept_bytes t = take t.len t.places.items
 
 abbrev pub one_segment : Grown
 one_segment [] = []

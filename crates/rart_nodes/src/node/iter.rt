@@ -30,18 +30,19 @@ pub(crate) struct KeyWalk<'a, K: KeyTrait, P: Partial, V, C> {
 }
 
 impl<'a, K: KeyTrait, P: Partial, V, C> Model for KeyWalk<'a, K, P, V, C> {
-    ghost use Rattle.std.specs.Prelude.{ℕ, List, reverse, vec_capacity};
+    ghost use Rattle.std.specs.Prelude.{ℕ, List, length, reverse, vec_capacity};
     ghost use Rattle.std.specs.Option.{option_copied};
     ghost use Rattle.rart_nodes.specs.walks.Walk.{IsKeyWalk, join_all, entries_ahead};
-    ghost use Rattle.rart_nodes.specs.walks.PathParts.{byte_segments};
+    ghost use Rattle.rart_nodes.specs.walks.PathParts.{byte_segments, kept_bytes};
 
     ghost Value = { List (List ℕ × V) };
 
-    ghost view = { λ w. join_all (entries_ahead byte_segments (byte_segments w.path.key.items)
+    ghost view = { λ w. join_all (entries_ahead byte_segments (byte_segments (kept_bytes w.path))
         (option_copied w.walk.first) w.walk.levels.items) };
 
     ghost invariant = { λ w. IsKeyWalk K.MAXIMUM_SIZE w.walk.longest (vec_capacity w.walk.levels)
-        (vec_capacity w.path.key) (byte_segments w.path.key.items) (reverse w.walk.levels.items) };
+        (length w.path.places.items) (byte_segments (kept_bytes w.path))
+        (reverse w.walk.levels.items) };
 }
 
 impl<'a, K: KeyTrait, P: Partial, V, C: Count> KeyWalk<'a, K, P, V, C> {

@@ -2,7 +2,7 @@
 ghost use Rattle.std.specs.Prelude.{◌≡◌, ◌≤◌, ◌+◌, ◌^◌, ◌++◌, ℕ, [], length, take, IfOk};
 ghost use Rattle.rart_nodes.specs.walks.Walk.{Grown, IsShort, SegmentList};
 
-use rart_keys::Partial;
+use rart_keys::{Partial, copy_bytes};
 use std::alloc::{AllocError, Global};
 
 /// What is kept of one prefix.
@@ -56,17 +56,22 @@ pub(crate) trait Path<'a, P: Partial>: Keeps + Drop {
 /// The bytes of the key.
 #[derive(Drop)]
 pub(crate) struct BytePath {
-    key: Vec<u8>,
-    // the capacity that was requested; `extend_from_slice` says only that the vector's own doesn't shrink
-    requested: usize,
+    // a place for each byte of the longest key
+    places: Vec<u8>,
+    // how many of them are in use
+    len: usize,
+    ghost in_range: { len ≤ length places.items },
 }
 
 impl BytePath {
+    ghost use Rattle.std.specs.Prelude.{◌≡◌};
+    ghost use Rattle.rart_nodes.specs.walks.PathParts.{kept_bytes};
+
     /// Returns the bytes of the path.
     pub(crate) fn key(&self) -> &[u8]
-        ensures { result.now ≡ self.now.key.items }
+        ensures { result.now ≡ kept_bytes self.now }
     {
-        self.key.as_slice()
+        &self.places.as_slice()[..self.len]
     }
 }
 
@@ -79,50 +84,47 @@ impl Keeps for BytePath {
 }
 
 impl<'a, P: Partial> Path<'a, P> for BytePath {
-    ghost use Rattle.std.specs.Prelude.{vec_capacity};
-    ghost use Rattle.rart_nodes.specs.walks.PathParts.{byte_segments};
+    ghost use Rattle.std.specs.Prelude.{length, vec_capacity};
+    ghost use Rattle.rart_nodes.specs.walks.PathParts.{byte_segments, kept_bytes};
 
-    ghost kept = { λ t. byte_segments t.key.items };
+    ghost kept = { λ t. byte_segments (kept_bytes t) };
 
-    ghost capacity = { λ t. vec_capacity t.key };
+    ghost capacity = { λ t. length t.places.items };
 
-    ghost requested = { λ t. t.requested };
+    ghost requested = { λ t. length t.places.items };
 
-    ghost allocated = { λ t. vec_capacity t.key };
+    ghost allocated = { λ t. vec_capacity t.places };
 
     fn empty(alloc: Global) -> Self {
         BytePath {
-            key: Vec::new(alloc),
-            requested: 0,
+            places: Vec::new(alloc),
+            len: 0,
         }
     }
 
     fn with_capacity(alloc: Global, longest: usize) -> Result<Self, AllocError> {
-        let key = Vec::with_capacity(alloc, longest)?;
-        Ok(BytePath {
-            key,
-            requested: longest,
-        })
+        let mut places = Vec::with_capacity(alloc, longest)?;
+        while places.len() < longest {
+            places.push_reserved(0);
+        }
+        Ok(BytePath { places, len: 0 })
     }
 
     fn mark(&self) -> usize {
-        self.key.len()
+        self.len
     }
 
     fn cut(&mut self, mark: usize) {
-        self.key.truncate(mark);
+        if mark < self.len {
+            self.len = mark;
+        }
     }
 
     fn grow(&mut self, prefix: &'a P) {
         let bytes = prefix.to_slice();
-        // the most frequent length in dense keys, without a call
-        if let [byte] = bytes {
-            self.key.push_reserved(*byte);
-            return;
-        }
-        let Ok(()) = self.key.extend_from_slice(bytes) else {
-            unreachable!()
-        };
+        let end = self.len + bytes.len();
+        copy_bytes(&mut self.places[self.len..end], bytes);
+        self.len = end;
     }
 }
 

@@ -27,18 +27,18 @@ pub(crate) struct KeyBackWalk<'a, K: KeyTrait, P: Partial, V, C> {
 }
 
 impl<'a, K: KeyTrait, P: Partial, V, C> Model for KeyBackWalk<'a, K, P, V, C> {
-    ghost use Rattle.std.specs.Prelude.{ℕ, List, reverse, vec_capacity};
+    ghost use Rattle.std.specs.Prelude.{ℕ, List, length, reverse, vec_capacity};
     ghost use Rattle.rart_nodes.specs.ranges.BackWalk.{IsKeyBackWalk, remaining_entries};
     ghost use Rattle.rart_nodes.specs.walks.Walk.{join_all};
-    ghost use Rattle.rart_nodes.specs.walks.PathParts.{byte_segments};
+    ghost use Rattle.rart_nodes.specs.walks.PathParts.{byte_segments, kept_bytes};
 
     ghost Value = { List (List ℕ × V) };
 
-    ghost view = { λ w. join_all (remaining_entries byte_segments (byte_segments w.path.key.items)
+    ghost view = { λ w. join_all (remaining_entries byte_segments (byte_segments (kept_bytes w.path))
         (reverse w.walk.levels.items)) };
 
     ghost invariant = { λ w. IsKeyBackWalk K.MAXIMUM_SIZE w.walk.longest
-        (vec_capacity w.walk.levels) (vec_capacity w.path.key) (byte_segments w.path.key.items)
+        (vec_capacity w.walk.levels) (length w.path.places.items) (byte_segments (kept_bytes w.path))
         (reverse w.walk.levels.items) };
 }
 

@@ -1,7 +1,7 @@
 use Rattle.std.proofs.Common.{arith, length, ap, sym, ◌∙◌, ◌∷◌, List, ℕ}
 use Rattle.std.specs.Option.{option_copied}
 use Rattle.rart_nodes.specs.walks.Walk.{join_all, entries_ahead}
-use Rattle.rart_nodes.specs.walks.PathParts.{byte_segments}
+use Rattle.rart_nodes.specs.walks.PathParts.{byte_segments, kept_bytes}
 use Rattle.rart_nodes.proofs.edits.InsertLemmas.{fewer-within}
 use Rattle.rart_nodes.proofs.walks.EntryLemmas.{joins-bytes, length-bytes}
 use Rattle.rart_nodes.proofs.node.iter.KeyWalk.step.Goals as goal
@@ -18,7 +18,7 @@ new_from_slice-requires g c =
     fewer-within _ _ _ (omega (
       arith,
       c.advance.ensures.path.short,
-      length-bytes c.advance.new.path.key.items,
+      length-bytes (kept_bytes c.advance.new.path),
       ap length
           c.key.ensures,
       c.advance.ensures.longest,
@@ -33,8 +33,8 @@ invariant_of-self-2 g c = record {
 
 pub returns-clause-pairs : goal.returns-clause-pairs
 returns-clause-pairs g c =
-    let rest = join_all (entries_ahead byte_segments (byte_segments c.advance.new.path.key.items)
+    let rest = join_all (entries_ahead byte_segments (byte_segments (kept_bytes c.advance.new.path))
     (option_copied c.advance.new.self.first) c.advance.new.self.levels.items) in
     sym c.self.view_is ∙ ap join_all c.in_ok-value.ensures.entries
-    ∙ ap (λ (k : List ℕ). (k, c.in_ok-value.value.now) ∷ rest) (joins-bytes c.advance.new.path.key.items
+    ∙ ap (λ (k : List ℕ). (k, c.in_ok-value.value.now) ∷ rest) (joins-bytes (kept_bytes c.advance.new.path)
     ∙ sym c.key.ensures ∙ sym c.new_from_slice.ensures)

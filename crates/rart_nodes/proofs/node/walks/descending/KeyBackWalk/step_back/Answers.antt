@@ -1,7 +1,7 @@
 use Rattle.std.proofs.Common.{arith, length, ap, sym, ◌∙◌, ◌∷◌, ◌++◌, [], List, ℕ, reverse}
 use Rattle.rart_nodes.specs.walks.Walk.{join_all}
 use Rattle.rart_nodes.specs.ranges.BackWalk.{remaining_entries}
-use Rattle.rart_nodes.specs.walks.PathParts.{byte_segments}
+use Rattle.rart_nodes.specs.walks.PathParts.{byte_segments, kept_bytes}
 use Rattle.rart_nodes.proofs.edits.InsertLemmas.{fewer-within}
 use Rattle.rart_nodes.proofs.ranges.LevelLemmas.{join-append}
 use Rattle.rart_nodes.proofs.walks.EntryLemmas.{joins-bytes, length-bytes}
@@ -19,7 +19,7 @@ new_from_slice-requires g c =
     fewer-within _ _ _ (omega (
       arith,
       c.retreat.ensures.path.short,
-      length-bytes c.retreat.new.path.key.items,
+      length-bytes (kept_bytes c.retreat.new.path),
       ap length
           c.key.ensures,
       c.retreat.ensures.longest,
@@ -34,10 +34,10 @@ invariant_of-self-2 g c = record {
 
 pub returns-clause-pairs : goal.returns-clause-pairs
 returns-clause-pairs g c =
-    let rest = remaining_entries byte_segments (byte_segments c.retreat.new.path.key.items)
+    let rest = remaining_entries byte_segments (byte_segments (kept_bytes c.retreat.new.path))
     (reverse c.retreat.new.self.levels.items) in
-    let k = byte_segments c.retreat.new.path.key.items in
+    let k = byte_segments (kept_bytes c.retreat.new.path) in
     sym c.self.view_is ∙ ap join_all c.in_ok-value.ensures.entries
     ∙ join-append rest ((k, c.in_ok-value.value.now) ∷ [])
-    ∙ ap (λ (k : List ℕ). join_all rest ++ (k, c.in_ok-value.value.now) ∷ []) (joins-bytes c.retreat.new.path.key.items
+    ∙ ap (λ (k : List ℕ). join_all rest ++ (k, c.in_ok-value.value.now) ∷ []) (joins-bytes (kept_bytes c.retreat.new.path)
     ∙ sym c.key.ensures ∙ sym c.new_from_slice.ensures)
