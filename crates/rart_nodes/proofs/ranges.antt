@@ -3,8 +3,10 @@ pub mod DownLemmas
 pub mod LevelLemmas
 pub mod PotentialLemmas
 pub mod RangeCuts
+pub mod StartDescents
 pub mod StartLemmas
 pub mod StartPaths
 pub mod UnderLemmas
+pub mod UntilDescents
 pub mod UntilLemmas
 pub mod UntilPaths

@@ -1,17 +1,19 @@
 -- What a walk has visited beyond two nodes for each pair, level by level.
 use Rattle.std.proofs.Common.{◌≡◌, ℕ, ◌+◌, ◌≤◌, ⊎_elim, true, false, cond, eqb, ltb, List, [], ◌∷◌, ◌++◌}
-use Rattle.std.proofs.Common.{length, length-append, reverse, Option, Some, None, refl, sym, ap, ◌∙◌, arith, subst}
+use Rattle.std.proofs.Common.{length, length-append, reverse, Option, Some, None, refl, ap, ◌∙◌, arith, subst}
 use Rattle.std.proofs.lemmas.List.{length-reverse}
 use Rattle.rart_keys.specs.SortedMap.{keys_of}
 use Rattle.rart_nodes.specs.ranges.Potential.{up_to_one, up_to_two, amortized_visits, potential, AreLow, IsAmortized}
 use Rattle.rart_nodes.specs.ranges.Starts.{children_above}
+use Rattle.rart_nodes.specs.ranges.Steps.{children_after}
 use Rattle.rart_nodes.specs.statistics.Statistics.{children_height, height, trie_height}
 use Rattle.rart_nodes.specs.tries.CanonicalTest.{is_canonical}
 use Rattle.rart_nodes.specs.tries.Tree.{tree_pairs}
-use Rattle.rart_nodes.specs.tries.Trie.{Trie, node, Children, no_children, child, child_in, child_of, children_in}
+use Rattle.rart_nodes.specs.tries.Trie.{Trie, node, Children, no_children, child, child_of, children_in}
 use Rattle.rart_nodes.specs.tries.Trie.{value_of, IsCanonical}
 use Rattle.rart_nodes.specs.walks.Walk.{Level}
 use Rattle.rart_nodes.specs.walks.WalkSteps.{DeepestLeft, DeepestStep, PushesLevel}
+use Rattle.rart_nodes.proofs.ranges.StartPaths.{IsChildOf}
 use Rattle.rart_nodes.proofs.statistics.StatisticsLemmas.{height-keys}
 use Rattle.rart_nodes.proofs.tries.CanonicalTests.{IsCanonical-test}
 use Rattle.rart_nodes.proofs.walks.SeenLemmas.{pick}
@@ -144,10 +146,6 @@ module _ {V : Type 0} where
   low-some h n t cs st st1 w i a e = rw (deepest st1 st (cs, n) e)
       (omega (arith, length-reverse st, i, height-node t, a), w)
 
-  pub low-all : (h n : ℕ) (t : Trie V) (cs : Children V) (st st1 : List (Level V)) → AreLow h (reverse st)
-      → HasHeight h (length st) (Some t) → cs ≡ children_in t → st1 ≡ st ++ (cs, n) ∷ [] → AreLow h (reverse st1)
-  low-all h n t cs st st1 w i a e = low-some h n t cs st st1 w i (omega (arith, ap children_height a)) e
-
   above-low : (b : ℕ) (cs : Children V) → children_height (children_above b cs) ≤ children_height cs
   above-low b no_children = omega arith
   above-low b (child c t cs) = elim (ltb b c)
@@ -157,22 +155,26 @@ module _ {V : Type 0} where
         | false ↦ omega (arith, above-low b cs)
       ]
 
-  pub low-above : (h n b : ℕ) (t : Trie V) (cs : Children V) (st st1 : List (Level V)) → AreLow h (reverse st)
-      → HasHeight h (length st) (Some t) → cs ≡ children_above b (children_in t) → st1 ≡ st ++ (cs, n) ∷ []
+  after-low : (e : Option ℕ) (cs : Children V) → children_height (children_after e cs) ≤ children_height cs
+  after-low None cs = omega arith
+  after-low (Some b) cs = above-low b cs
+
+  pub low-after : (h n : ℕ) (t : Trie V) (e : Option ℕ) (st st1 : List (Level V)) → AreLow h (reverse st)
+      → HasHeight h (length st) (Some t) → st1 ≡ st ++ (children_after e (children_in t), n) ∷ []
       → AreLow h (reverse st1)
-  low-above h n b t cs st st1 w i a e = low-some h n t cs st st1 w i
-      (omega (arith, ap children_height a, above-low b (children_in t))) e
+  low-after h n t e st st1 w i f = low-some h n t (children_after e (children_in t)) st st1 w i
+      (after-low e (children_in t)) f
 
   child-lower : (b : ℕ) (u : Trie V) (cs : Children V) → child_of b cs ≡ Some u → trie_height u ≤ children_height cs
   child-lower b u no_children e = absurd (cc)
   child-lower b u (child c t cs) e = ⊎_elim (λ q. omega (arith, ap trie_height q))
       (λ q. omega (arith, child-lower b u cs q)) (pick (eqb c b) t u (child_of b cs) e)
 
-  pub height-on : (h b : ℕ) (t : Trie V) (o : Option (Trie V)) (st st1 : List (Level V)) (l : Level V)
-      → HasHeight h (length st) (Some t) → st1 ≡ st ++ l ∷ [] → o ≡ child_in b t → HasHeight h (length st1) o
-  height-on h b t None st st1 l w f e = tt
-  height-on h b t (Some u) st st1 l w f e = omega
-      (arith, w, height-node t, child-lower b u (children_in t) (sym e), ap length f, length-append st (l ∷ []))
+  pub height-on : (h : ℕ) (t : Trie V) (o : Option (Trie V)) (st st1 : List (Level V)) (l : Level V)
+      → HasHeight h (length st) (Some t) → st1 ≡ st ++ l ∷ [] → IsChildOf t o → HasHeight h (length st1) o
+  height-on h t None st st1 l w f e = tt
+  height-on h t (Some u) st st1 l w f e = omega
+      (arith, w, height-node t, child-lower e.0 u (children_in t) e.1, ap length f, length-append st (l ∷ []))
 
   -- before anything was walked
   pub low-start : (h : ℕ) (st : List (Level V)) → st ≡ [] → AreLow h (reverse st)

@@ -13,6 +13,8 @@ use Rattle.rart_keys.specs.Ranges.{between, bound_bytes, is_from, is_inclusive, 
 use Rattle.rart_keys.proofs.ByteOrder.{order, is_less, is_greater, eq-yes, eq-no}
 use Rattle.rart_keys.proofs.RangeLemmas.{cmp-apart, cmp-past, from_bound-bytes, up_to-from_bound}
 use Rattle.rart_nodes.specs.ranges.Starts.{children_above, entries_from}
+use Rattle.rart_nodes.specs.ranges.Steps.{StepsFrom, all_greater, own_key, in_child, children_after}
+use Rattle.rart_nodes.specs.ranges.UpperBounds.{if_included}
 use Rattle.rart_nodes.specs.tries.CanonicalTest.{is_canonical}
 use Rattle.rart_nodes.specs.tries.Tree.{tree_pairs, IsCanonicalTree}
 use Rattle.rart_nodes.specs.tries.Trie.{Trie, node, Children, no_children, child, children_in, prefix_of, value_of}
@@ -58,12 +60,8 @@ module _ {V : Type 0} where
       ] f
 
   -- the value of a node that the start ends at, and of one that it continues from
-  abbrev pub value_if : Bool → SegmentList → Option V → List (SegmentList × V)
-  value_if true k v = value_at k v
-  value_if false k v = []
-
   from_bound-own : (h : Bool) (v : Option V) (es : List (SegmentList × V)) → entries_from h [] (value_at [] v ++ es)
-      ≡ value_if h [] v ++ entries_from h [] es
+      ≡ value_at [] (if_included h v) ++ entries_from h [] es
   from_bound-own true None es = refl
   from_bound-own false None es = refl
   from_bound-own true (Some v) es = refl
@@ -163,7 +161,7 @@ module _ {V : Type 0} where
 
   -- at a node t to which the way is kept as k, with s left of the start: all of it, or nothing, comes after a start
   -- that leaves its prefix
-  pub node-higher : (g : Grown) (h : Bool) (k : SegmentList) (s : List ℕ) (t : Trie V) → Joins g
+  node-higher : (g : Grown) (h : Bool) (k : SegmentList) (s : List ℕ) (t : Trie V) → Joins g
       → None ≡ strip_prefix (prefix_of t) s → slice_cmp nat_cmp (prefix_of t) s ≡ Greater
       → segments_after k (entries_from h s (entries_of g t)) ≡ value_at (k ++ g (prefix_of t)) (value_of t)
       ++ segments_after (k ++ g (prefix_of t)) (children_entries g (children_in t))
@@ -172,22 +170,18 @@ module _ {V : Type 0} where
       (rw (j q) f))
       ∙ after-twice k (g q) (value_at [] v ++ children_entries g cs) ∙ after-own (k ++ g q) v (children_entries g cs)
 
-  pub node-lower : (g : Grown) (h : Bool) (k : SegmentList) (s : List ℕ) (t : Trie V) → Joins g
+  node-lower : (g : Grown) (h : Bool) (k : SegmentList) (s : List ℕ) (t : Trie V) → Joins g
       → None ≡ strip_prefix (prefix_of t) s → slice_cmp nat_cmp (prefix_of t) s ≡ Less
       → segments_after k (entries_from h s (entries_of g t)) ≡ []
   node-lower g h k s (node q v n cs) j e f
       = ap (segments_after k) (from_bound-lower h (g q) s (value_at [] v ++ children_entries g cs) (rw (j q) (sym e))
       (rw (j q) f))
 
-  after-if : (h : Bool) (k : SegmentList) (v : Option V) (es : List (SegmentList × V))
-      → segments_after k (value_if h [] v ++ es) ≡ value_if h k v ++ segments_after k es
-  after-if true k v es = after-own k v es
-  after-if false k v es = refl
-
   -- a start that ends after its prefix
-  pub node-ended : (g : Grown) (h : Bool) (k : SegmentList) (s r : List ℕ) (t : Trie V) → Joins g
+  node-ended : (g : Grown) (h : Bool) (k : SegmentList) (s r : List ℕ) (t : Trie V) → Joins g
       → is_canonical t ≡ true → Some r ≡ strip_prefix (prefix_of t) s → None ≡ slice_get r 0
-      → segments_after k (entries_from h s (entries_of g t)) ≡ value_if h (k ++ g (prefix_of t)) (value_of t)
+      → segments_after k (entries_from h s (entries_of g t))
+      ≡ value_at (k ++ g (prefix_of t)) (if_included h (value_of t))
       ++ segments_after (k ++ g (prefix_of t)) (children_entries g (children_in t))
   node-ended g h k s (b ∷ r) t j c e f = absurd (cc)
   node-ended g h k s [] (node q v n cs) j c e f =
@@ -195,12 +189,12 @@ module _ {V : Type 0} where
       (rw (joined-children g cs j) (children_pairs-from 0 cs (IsCanonical-test (node q v n cs) c).2)) in
       ap (segments_after k) (from_bound-past h (g q) s [] (value_at [] v ++ children_entries g cs) (rw (j q) (sym e))
       ∙ ap (segments_after (g q)) (from_bound-own h v (children_entries g cs)
-      ∙ ap (λ z. value_if h [] v ++ z) longer))
-      ∙ after-twice k (g q) (value_if h [] v ++ children_entries g cs)
-      ∙ after-if h (k ++ g q) v (children_entries g cs)
+      ∙ ap (λ z. value_at [] (if_included h v) ++ z) longer))
+      ∙ after-twice k (g q) (value_at [] (if_included h v) ++ children_entries g cs)
+      ∙ after-own (k ++ g q) (if_included h v) (children_entries g cs)
 
   -- a start that continues by b
-  pub node-on : (g : Grown) (h : Bool) (k : SegmentList) (s r : List ℕ) (b : ℕ) (t : Trie V) → Joins g
+  node-on : (g : Grown) (h : Bool) (k : SegmentList) (s r : List ℕ) (b : ℕ) (t : Trie V) → Joins g
       → is_canonical t ≡ true → Some r ≡ strip_prefix (prefix_of t) s → Some b ≡ slice_get r 0
       → segments_after k (entries_from h s (entries_of g t))
       ≡ segments_after (k ++ g (prefix_of t)) (entries_from h r (tree_entries g (child_in b t)))
@@ -217,43 +211,38 @@ module _ {V : Type 0} where
       ∙ after-append (k ++ g q) (entries_from h (x ∷ r) (tree_entries g (child_of x cs)))
       (children_entries g (children_above x cs)))
 
-  -- what is ahead in all, where X at the node is V and Y, B is below the levels above it, and S below all levels
-  close : (X V1 Y B S total : List (SegmentList × V)) → X ++ B ≡ total → X ≡ V1 ++ Y → S ≡ Y ++ B → V1 ++ S ≡ total
-  close X V1 Y B S total a b c = ap (λ z. V1 ++ z) c ∙ sym (append_assoc V1 Y B) ∙ ap (λ z. z ++ B) (sym b) ∙ a
+  -- each of these steps
+  node-step : (g : Grown) (h : Bool) (k : SegmentList) (s : List ℕ) (t : Trie V) (v : Option V) (e : Option ℕ)
+      (n : Option (Trie V)) (r : List ℕ) → Joins g → is_canonical t ≡ true → StepsFrom h s t v e n r
+      → segments_after k (entries_from h s (entries_of g t)) ≡ value_at (k ++ g (prefix_of t)) v
+      ++ (segments_after (k ++ g (prefix_of t)) (entries_from h r (tree_entries g n))
+      ++ segments_after (k ++ g (prefix_of t)) (children_entries g (children_after e (children_in t))))
+  node-step g h k s t v e n r j c (all_greater a x y z) = rw (x, y, z) (node-higher g h k s t j (sym a.0) a.1)
+  node-step g h k s t v e n r j c (own_key f o x y z) = rw (x, y, z) (node-ended g h k s r t j c (sym f) (sym o))
+  node-step g h k s t v e n r j c (in_child b f o x y z) = rw (x, y, z) (node-on g h k s r b t j c (sym f) (sym o))
 
-  pub ahead-higher : (g : Grown) (h : Bool) (k k1 : SegmentList) (s : List ℕ) (t : Trie V) (o : Option V)
-      (cs : Children V) (B S total : List (SegmentList × V)) → Joins g → None ≡ strip_prefix (prefix_of t) s
-      → slice_cmp nat_cmp (prefix_of t) s ≡ Greater
-      → k1 ≡ k ++ g (prefix_of t) → o ≡ value_of t → cs ≡ children_in t
-      → S ≡ segments_after k1 (children_entries g cs) ++ B
-      → segments_after k (entries_from h s (entries_of g t)) ++ B ≡ total → value_at k1 o ++ S ≡ total
-  ahead-higher g h k k1 s t o cs B S total j e f i v a d r
-      = rw (i, v) (close _ _ _ B S total r (node-higher g h k s t j e f) (rw (i, a) at d))
+  -- what is ahead in all, where B is below the levels above the node, and S below all levels
+  pub ahead-step : (g : Grown) (h : Bool) (k k1 : SegmentList) (s : List ℕ) (t : Trie V) (v : Option V) (e : Option ℕ)
+      (n : Option (Trie V)) (r : List ℕ) (B S total : List (SegmentList × V)) → Joins g → is_canonical t ≡ true
+      → StepsFrom h s t v e n r → k1 ≡ k ++ g (prefix_of t)
+      → S ≡ segments_after k1 (children_entries g (children_after e (children_in t))) ++ B
+      → segments_after k (entries_from h s (entries_of g t)) ++ B ≡ total
+      → value_at k1 v ++ (segments_after k1 (entries_from h r (tree_entries g n)) ++ S) ≡ total
+  ahead-step g h k k1 s t v e n r B S total j c w i d q =
+      let p : SegmentList = k ++ g (prefix_of t) in
+      let next : List (SegmentList × V) = segments_after p (entries_from h r (tree_entries g n)) in
+      let kept : List (SegmentList × V) = segments_after p (children_entries g (children_after e (children_in t))) in
+      let below : S ≡ kept ++ B = rw i at d in
+      rw i (ap (λ z. value_at p v ++ (next ++ z)) below
+      ∙ ap (λ z. value_at p v ++ z) (sym (append_assoc next kept B))
+      ∙ sym (append_assoc (value_at p v) (next ++ kept) B)
+      ∙ ap (λ z. z ++ B) (sym (node-step g h k s t v e n r j c w)) ∙ q)
 
   pub ahead-lower : (g : Grown) (h : Bool) (k : SegmentList) (s : List ℕ) (t : Trie V)
       (B total : List (SegmentList × V)) → Joins g → None ≡ strip_prefix (prefix_of t) s
       → slice_cmp nat_cmp (prefix_of t) s ≡ Less
       → segments_after k (entries_from h s (entries_of g t)) ++ B ≡ total → B ≡ total
   ahead-lower g h k s t B total j e f r = ap (λ z. z ++ B) (sym (node-lower g h k s t j e f)) ∙ r
-
-  pub ahead-ended : (g : Grown) (h : Bool) (k k1 : SegmentList) (s r : List ℕ) (t : Trie V) (o : Option V)
-      (cs : Children V) (B S total : List (SegmentList × V)) → Joins g → is_canonical t ≡ true
-      → Some r ≡ strip_prefix (prefix_of t) s → None ≡ slice_get r 0
-      → k1 ≡ k ++ g (prefix_of t) → value_if h k1 o ≡ value_if h k1 (value_of t) → cs ≡ children_in t
-      → S ≡ segments_after k1 (children_entries g cs) ++ B
-      → segments_after k (entries_from h s (entries_of g t)) ++ B ≡ total → value_if h k1 o ++ S ≡ total
-  ahead-ended g h k k1 s r t o cs B S total j c e f i v a d q
-      = rw (v, i) (close _ _ _ B S total q (node-ended g h k s r t j c e f) (rw (i, a) at d))
-
-  pub ahead-on : (g : Grown) (h : Bool) (k k1 : SegmentList) (s r : List ℕ) (b : ℕ) (t : Trie V) (o : Option (Trie V))
-      (cs : Children V) (B S total : List (SegmentList × V)) → Joins g → is_canonical t ≡ true
-      → Some r ≡ strip_prefix (prefix_of t) s → Some b ≡ slice_get r 0
-      → k1 ≡ k ++ g (prefix_of t) → o ≡ child_in b t → cs ≡ children_above b (children_in t)
-      → S ≡ segments_after k1 (children_entries g cs) ++ B
-      → segments_after k (entries_from h s (entries_of g t)) ++ B ≡ total
-      → segments_after k1 (entries_from h r (tree_entries g o)) ++ S ≡ total
-  ahead-on g h k k1 s r b t o cs B S total j c e f i v a d q
-      = rw (i, v) (close _ _ _ B S total q (node-on g h k s r b t j c e f) (rw (i, a) at d))
 
   -- before anything was walked
   pub ahead-start : (g : Grown) (k : SegmentList) (st : List (Level V)) (es : List (SegmentList × V)) → k ≡ [] → st ≡ []

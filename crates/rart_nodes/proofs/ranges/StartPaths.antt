@@ -5,15 +5,16 @@ use Rattle.std.proofs.lemmas.List.{length-reverse, take_all}
 use Rattle.rart_keys.specs.SortedMap.{longest_key}
 use Rattle.rart_parts.specs.Entries.{entries_above}
 use Rattle.rart_nodes.specs.ranges.Starts.{children_above}
+use Rattle.rart_nodes.specs.ranges.Steps.{children_after}
 use Rattle.rart_nodes.specs.tries.CanonicalTest.{is_canonical}
 use Rattle.rart_nodes.specs.tries.Trie.{Trie, node, Children, no_children, child, children_in, children_pairs, pairs_of}
 use Rattle.rart_nodes.specs.tries.Trie.{prefix_of, child_of, child_in, AreCanonical}
-use Rattle.rart_nodes.specs.tries.TrieCode.{as_children}
+use Rattle.rart_nodes.specs.tries.TrieCode.{as_children, node_count}
 use Rattle.rart_nodes.specs.walks.Walk.{SegmentList, Grown, IsShort, Level, IsWalk, segments_after, children_entries}
-use Rattle.rart_nodes.specs.walks.Walk.{entries_below}
+use Rattle.rart_nodes.specs.walks.Walk.{entries_below, tree_count}
 use Rattle.rart_nodes.proofs.tries.CanonicalTests.{IsCanonical-test, longest_key-append, canonical-lower}
 use Rattle.rart_nodes.proofs.walks.PartLemmas.{child-deep}
-use Rattle.rart_nodes.proofs.walks.SeenLemmas.{child-canonical, longest-of, pick}
+use Rattle.rart_nodes.proofs.walks.SeenLemmas.{child-canonical, child-falls, longest-of, pick}
 use Rattle.rart_nodes.proofs.walks.WalkLemmas.{below-canonical, deepest, deeper, longest-below, starts-long}
 use Rattle.rart_nodes.proofs.walks.WalkLemmas.{entries_below-same}
 
@@ -73,19 +74,32 @@ module _ {V : Type 0} where
       ))
       (λ q. child-long b (suc c) u cs w.3 q i) (pick (eqb c b) t u (child_of b cs) e)
 
-  pub path-on : (g : Grown) (longest b : ℕ) (k k1 : SegmentList) (t : Trie V) (o : Option (Trie V))
+  -- nothing, or a child of t
+  abbrev pub IsChildOf : Trie V → Option (Trie V) → Type 0
+  IsChildOf t None = Unit {0}
+  IsChildOf t (Some u) = (b : ℕ) × (child_in b t ≡ Some u)
+
+  pub is-child : (b : ℕ) (t : Trie V) (o : Option (Trie V)) → o ≡ child_in b t → IsChildOf t o
+  is-child b t None e = tt
+  is-child b t (Some u) e = (b, sym e)
+
+  pub falls : (t : Trie V) (o : Option (Trie V)) → IsChildOf t o → tree_count o < node_count t
+  falls (node p v n cs) None w = omega arith
+  falls t (Some u) w = child-falls w.0 t (Some u) w.1
+
+  pub path-on : (g : Grown) (longest : ℕ) (k k1 : SegmentList) (t : Trie V) (o : Option (Trie V))
       (st st1 : List (Level V)) (l : Level V) → IsShort g → is_canonical t ≡ true
       → IsPathReserved longest k (length st) (Some t)
-      → k1 ≡ k ++ g (prefix_of t) → st1 ≡ st ++ l ∷ [] → o ≡ child_in b t → IsPathReserved longest k1 (length st1) o
-  path-on g longest b k k1 t None st st1 l s c w i f e = tt
-  path-on g longest b k k1 (node p v m cs) (Some u) st st1 l s c w i f e = (
-    omega (arith, w.0, child-deep (node p v m cs) b (Some u) c (sym e), ap length i, length-append k (g p), s p),
+      → k1 ≡ k ++ g (prefix_of t) → st1 ≡ st ++ l ∷ [] → IsChildOf t o → IsPathReserved longest k1 (length st1) o
+  path-on g longest k k1 t None st st1 l s c w i f e = tt
+  path-on g longest k k1 (node p v m cs) (Some u) st st1 l s c w i f e = (
+    omega (arith, w.0, child-deep (node p v m cs) e.0 (Some u) c e.1, ap length i, length-append k (g p), s p),
     omega (
       arith,
       w.1,
-      longest-of b u cs (sym e),
-      child-long b 0 u cs (IsCanonical-test (node p v m cs) c).2 (sym e)
-          (child-canonical b (node p v m cs) u c (sym e)),
+      longest-of e.0 u cs e.1,
+      child-long e.0 0 u cs (IsCanonical-test (node p v m cs) c).2 e.1
+          (child-canonical e.0 (node p v m cs) u c e.1),
       ap length f,
       length-append st (l ∷ []),
     ),
@@ -142,25 +156,22 @@ module _ {V : Type 0} where
       rw (deepest st1 st (cs, length k1) e, f, i)
       (pushed-at g longest places k (g (prefix_of t)) t cs (reverse st) s c q r h refl a l)
 
-  -- all children of the node, or those above a byte
-  pub all-pushed : (g : Grown) (longest places places1 : ℕ) (k k1 : SegmentList) (t : Trie V) (cs : Children V)
-      (st st1 : List (Level V)) → IsShort g → is_canonical t ≡ true → IsWalk longest places k (reverse st)
-      → longest < places
-      → IsPathReserved longest k (length st) (Some t) → k1 ≡ k ++ g (prefix_of t) → cs ≡ children_in t
-      → st1 ≡ st ++ (cs, length k1) ∷ [] → places1 ≡ places
-      → LevelPushed g longest places1 k k1 (reverse st) (reverse st1) cs
-  all-pushed g longest places places1 k k1 t cs st st1 s c q r w i a e f =
-      pushed g longest places places1 (length st) k k1 t cs st st1 s c q r w refl i
-      (rw a (below-canonical t (IsCanonical-test t c))) (rw a (omega arith)) e f
+  -- the children of the node after a byte
+  after-canonical : (e : Option ℕ) (cs : Children V) → AreCanonical 0 cs → AreCanonical 0 (children_after e cs)
+  after-canonical None cs w = w
+  after-canonical (Some b) cs w = above-canonical b 0 cs w
 
-  pub some-pushed : (g : Grown) (longest places places1 b : ℕ) (k k1 : SegmentList) (t : Trie V) (cs : Children V)
+  after-short : (e : Option ℕ) (cs : Children V) → longest_key (children_pairs (children_after e cs))
+      ≤ longest_key (children_pairs cs)
+  after-short None cs = omega arith
+  after-short (Some b) cs = above-short b cs
+
+  pub after-pushed : (g : Grown) (longest places places1 : ℕ) (k k1 : SegmentList) (t : Trie V) (e : Option ℕ)
       (st st1 : List (Level V)) → IsShort g → is_canonical t ≡ true → IsWalk longest places k (reverse st)
       → longest < places
       → IsPathReserved longest k (length st) (Some t) → k1 ≡ k ++ g (prefix_of t)
-      → cs ≡ children_above b (children_in t)
-      → st1 ≡ st ++ (cs, length k1) ∷ [] → places1 ≡ places
-      → LevelPushed g longest places1 k k1 (reverse st) (reverse st1) cs
-  some-pushed g longest places places1 b k k1 t cs st st1 s c q r w i a e f =
-      pushed g longest places places1 (length st) k k1 t cs st st1 s c q r w refl i
-      (rw a (above-canonical b 0 (children_in t) (below-canonical t (IsCanonical-test t c))))
-      (rw a (above-short b (children_in t))) e f
+      → st1 ≡ st ++ (children_after e (children_in t), length k1) ∷ [] → places1 ≡ places
+      → LevelPushed g longest places1 k k1 (reverse st) (reverse st1) (children_after e (children_in t))
+  after-pushed g longest places places1 k k1 t e st st1 s c q r w i f l =
+      pushed g longest places places1 (length st) k k1 t (children_after e (children_in t)) st st1 s c q r w refl i
+      (after-canonical e (children_in t) (below-canonical t (IsCanonical-test t c))) (after-short e (children_in t)) f l

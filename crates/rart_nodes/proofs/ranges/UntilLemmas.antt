@@ -15,7 +15,8 @@ use Rattle.rart_keys.proofs.ByteOrder.{below-greater, cmp-itself}
 use Rattle.rart_keys.proofs.RangeLemmas.{cmp-apart, cmp-past, not-same}
 use Rattle.rart_nodes.specs.ranges.BackWalk.{BackLevel, remaining_entries}
 use Rattle.rart_nodes.specs.ranges.UpperBounds.{entries_until, if_included, pairs_until}
-use Rattle.rart_nodes.specs.ranges.Under.{children_under}
+use Rattle.rart_nodes.specs.ranges.Steps.{StepsUntil, all_less, own_key, in_child}
+use Rattle.rart_nodes.specs.ranges.Under.{children_before, children_under}
 use Rattle.rart_nodes.specs.tries.CanonicalTest.{is_canonical}
 use Rattle.rart_nodes.specs.tries.Tree.{tree_pairs}
 use Rattle.rart_nodes.specs.tries.Trie.{Trie, node, Children, no_children, child, children_in, prefix_of, value_of}
@@ -27,7 +28,7 @@ use Rattle.rart_nodes.proofs.tries.CanonicalTests.{IsCanonical-test}
 use Rattle.rart_nodes.proofs.tries.FirstBytes.{AllFirst, AllFrom, pairs_of-first, children_pairs-from}
 use Rattle.rart_nodes.proofs.tries.Descents.{child_of-low}
 use Rattle.rart_nodes.proofs.walks.EntryLemmas.{joined-entries, joined-children, joined-tree}
-use Rattle.rart_nodes.proofs.walks.WalkLemmas.{after-append, after-none, after-twice}
+use Rattle.rart_nodes.proofs.walks.WalkLemmas.{after-append, after-none, after-twice, below-canonical}
 
 pub higher-apart : (q r : List ℕ) → strip_prefix q r ≡ None → (slice_cmp nat_cmp q r ≡ Less → ⊥)
     → slice_cmp nat_cmp q r ≡ Greater
@@ -210,18 +211,38 @@ module _ {V : Type 0} where
       ∙ after-twice k (g q) ((value_at [] v ++ under) ++ rest)
       ∙ after-append (k ++ g q) (value_at [] v ++ under) rest)
 
-  -- all that remains, where X is at the node, B at the levels above it, and S at all levels
-  pub remaining-lower : (g : Grown) (h : Bool) (k k1 : SegmentList) (s : List ℕ) (t : Trie V) (o : Option V)
-      (cs : Children V) (B S total : List (SegmentList × V)) → Joins g → None ≡ strip_prefix (prefix_of t) s
-      → slice_cmp nat_cmp (prefix_of t) s ≡ Less
-      → k1 ≡ k ++ g (prefix_of t) → o ≡ value_of t → cs ≡ children_in t
-      → S ≡ B ++ segments_after k1 (value_at [] o ++ children_entries g cs)
-      → B ++ segments_after k (entries_until h s (entries_of g t)) ≡ total → S ≡ total
-  remaining-lower g h k k1 s t o cs B S total j e f i v a d r =
-      d ∙ ap (λ z. B ++ segments_after z (value_at [] o ++ children_entries g cs)) i
-      ∙ ap (λ z. B ++ segments_after (k ++ g (prefix_of t)) (value_at [] z ++ children_entries g cs)) v
-      ∙ ap (λ z. B ++ segments_after (k ++ g (prefix_of t)) (value_at [] (value_of t) ++ children_entries g z)) a
-      ∙ ap (λ z. B ++ z) (sym (node-lower g h k s t j e f)) ∙ r
+  -- each of these steps
+  node-step : (g : Grown) (h : Bool) (k : SegmentList) (s : List ℕ) (t : Trie V) (v : Option V) (e : Option ℕ)
+      (n : Option (Trie V)) (r : List ℕ) → Joins g → is_canonical t ≡ true → StepsUntil h s t v e n r
+      → segments_after k (entries_until h s (entries_of g t))
+      ≡ segments_after (k ++ g (prefix_of t)) (value_at [] v
+      ++ children_entries g (children_before e (children_in t)))
+      ++ segments_after (k ++ g (prefix_of t)) (entries_until h r (tree_entries g n))
+  node-step g h k s t v e n r j c (all_less a x y z)
+      = rw (x, y, z) (node-lower g h k s t j (sym a.0) a.1 ∙ sym (append-nil _))
+  node-step g h k s t v e n r j c (own_key f o x y z) = rw (
+    x,
+    y,
+    z,
+    under-nothing 0 0 (children_in t) (omega arith) (below-canonical t (IsCanonical-test t c)),
+  ) (node-ended g h k s r t j c (sym f) (sym o) ∙ sym (append-nil _))
+  node-step g h k s t v e n r j c (in_child b f o x y z) = rw (x, y, z) (node-on g h k s r b t j c (sym f) (sym o))
+
+  -- all that remains, where B is at the levels above the node, and S at all levels
+  pub remaining-step : (g : Grown) (h : Bool) (k k1 : SegmentList) (s : List ℕ) (t : Trie V) (v : Option V)
+      (e : Option ℕ) (n : Option (Trie V)) (r : List ℕ) (B S total : List (SegmentList × V)) → Joins g
+      → is_canonical t ≡ true → StepsUntil h s t v e n r → k1 ≡ k ++ g (prefix_of t)
+      → S ≡ B ++ segments_after k1 (value_at [] v ++ children_entries g (children_before e (children_in t)))
+      → B ++ segments_after k (entries_until h s (entries_of g t)) ≡ total
+      → S ++ segments_after k1 (entries_until h r (tree_entries g n)) ≡ total
+  remaining-step g h k k1 s t v e n r B S total j c w i d q =
+      let p : SegmentList = k ++ g (prefix_of t) in
+      let next : List (SegmentList × V) = segments_after p (entries_until h r (tree_entries g n)) in
+      let kept : List (SegmentList × V) = segments_after p (value_at [] v
+      ++ children_entries g (children_before e (children_in t))) in
+      let below : S ≡ B ++ kept = rw i at d in
+      rw i (ap (λ z. z ++ next) below ∙ append_assoc B kept next
+      ∙ ap (λ z. B ++ z) (sym (node-step g h k s t v e n r j c w)) ∙ q)
 
   pub remaining-higher : (g : Grown) (h : Bool) (k : SegmentList) (s : List ℕ) (t : Trie V)
       (B total : List (SegmentList × V)) → Joins g → None ≡ strip_prefix (prefix_of t) s
@@ -229,44 +250,6 @@ module _ {V : Type 0} where
       → B ++ segments_after k (entries_until h s (entries_of g t)) ≡ total → B ≡ total
   remaining-higher g h k s t B total j e f r = sym (append-nil B)
       ∙ ap (λ z. B ++ z) (sym (node-higher g h k s t j e f)) ∙ r
-
-  pub remaining-ended : (g : Grown) (h : Bool) (k k1 : SegmentList) (s r : List ℕ) (t : Trie V) (o : Option V)
-      (cs : Children V) (B S total : List (SegmentList × V)) → Joins g → is_canonical t ≡ true
-      → Some r ≡ strip_prefix (prefix_of t) s → None ≡ slice_get r 0
-      → k1 ≡ k ++ g (prefix_of t) → o ≡ if_included h (value_of t) → cs ≡ children_under 0 (children_in t)
-      → S ≡ B ++ segments_after k1 (value_at [] o ++ children_entries g cs)
-      → B ++ segments_after k (entries_until h s (entries_of g t)) ≡ total → S ≡ total
-  remaining-ended g h k k1 s r t o cs B S total j c e f i v a d q =
-      let none : cs ≡ no_children = a ∙ under-nothing 0 0 (children_in t) (omega arith) (below t c) in
-      d ∙ ap (λ z. B ++ segments_after z (value_at [] o ++ children_entries g cs)) i
-      ∙ ap (λ z. B ++ segments_after (k ++ g (prefix_of t)) (value_at [] z ++ children_entries g cs)) v
-      ∙ ap (λ z. B ++ segments_after (k ++ g (prefix_of t)) (value_at [] (if_included h (value_of t))
-      ++ children_entries g z)) none
-      ∙ ap (λ z. B ++ z) (sym (node-ended g h k s r t j c e f)) ∙ q
-    where
-      below : (u : Trie V) → is_canonical u ≡ true → AreCanonical 0 (children_in u)
-      below (node p x n ds) w = (IsCanonical-test (node p x n ds) w).2
-
-  pub remaining-on : (g : Grown) (h : Bool) (k k1 : SegmentList) (s r : List ℕ) (b : ℕ) (t : Trie V) (v : Option V)
-      (o : Option (Trie V)) (cs : Children V) (B S total : List (SegmentList × V)) → Joins g → is_canonical t ≡ true
-      → Some r ≡ strip_prefix (prefix_of t) s → Some b ≡ slice_get r 0
-      → k1 ≡ k ++ g (prefix_of t) → v ≡ value_of t → o ≡ child_in b t → cs ≡ children_under b (children_in t)
-      → S ≡ B ++ segments_after k1 (value_at [] v ++ children_entries g cs)
-      → B ++ segments_after k (entries_until h s (entries_of g t)) ≡ total
-      → S ++ segments_after k1 (entries_until h r (tree_entries g o)) ≡ total
-  remaining-on g h k k1 s r b t v o cs B S total j c e f i u x a d q =
-      let p : SegmentList = k ++ g (prefix_of t) in
-      let here : List (SegmentList × V) = segments_after p (value_at [] (value_of t)
-      ++ children_entries g (children_under b (children_in t))) in
-      let rest : List (SegmentList × V) = segments_after p (entries_until h r (tree_entries g (child_in b t))) in
-      let above : S ≡ B ++ here
-      = d ∙ ap (λ z. B ++ segments_after z (value_at [] v ++ children_entries g cs)) i
-      ∙ ap (λ z. B ++ segments_after p (value_at [] z ++ children_entries g cs)) u
-      ∙ ap (λ z. B ++ segments_after p (value_at [] (value_of t) ++ children_entries g z)) a in
-      ap (λ z. S ++ segments_after z (entries_until h r (tree_entries g o))) i
-      ∙ ap (λ z. S ++ segments_after p (entries_until h r (tree_entries g z))) x
-      ∙ ap (λ z. z ++ rest) above ∙ append_assoc B here rest
-      ∙ ap (λ z. B ++ z) (sym (node-on g h k s r b t j c e f)) ∙ q
 
   -- before anything was walked
   pub remaining-start : (g : Grown) (k : SegmentList) (st : List (BackLevel V)) (es : List (SegmentList × V)) → k ≡ []

@@ -1,19 +1,19 @@
 -- The levels that a walk keeps on its way down to an end.
-use Rattle.std.proofs.Common.{◌≡◌, ℕ, ◌+◌, ◌<◌, ◌≤◌, true, cond, ltb, false, List, [], ◌∷◌, ◌++◌, length, map}
+use Rattle.std.proofs.Common.{◌≡◌, ℕ, ◌+◌, ◌<◌, ◌≤◌, true, cond, ltb, false, List, [], ◌∷◌, ◌++◌, length, map, None}
 use Rattle.std.proofs.Common.{length-append, reverse, subst, Option, Some, refl, sym, ap, ◌∙◌, arith}
 use Rattle.std.specs.Borrow.{Bor}
 use Rattle.std.specs.Option.{option_copied}
 use Rattle.std.proofs.lemmas.List.{length-map, length-reverse, map-append, take_all}
 use Rattle.rart_keys.specs.SortedMap.{longest_key}
 use Rattle.rart_nodes.specs.ranges.BackWalk.{BackLevel, IsBackWalk, remaining_entries}
-use Rattle.rart_nodes.specs.ranges.Under.{children_under}
+use Rattle.rart_nodes.specs.ranges.Under.{children_before, children_under}
 use Rattle.rart_nodes.specs.tries.CanonicalTest.{is_canonical}
 use Rattle.rart_nodes.specs.tries.Trie.{Trie, Children, no_children, child, children_in, children_pairs, pairs_of}
-use Rattle.rart_nodes.specs.tries.Trie.{prefix_of, child_in, AreCanonical}
+use Rattle.rart_nodes.specs.tries.Trie.{prefix_of, AreCanonical}
 use Rattle.rart_nodes.specs.walks.Walk.{SegmentList, Grown, IsShort, children_entries, segments_after, value_at}
 use Rattle.rart_nodes.proofs.ranges.LevelLemmas.{remaining-same, levels_of}
 use Rattle.rart_nodes.proofs.ranges.UnderLemmas.{under-canonical}
-use Rattle.rart_nodes.proofs.ranges.StartPaths.{IsPathReserved, path-on}
+use Rattle.rart_nodes.proofs.ranges.StartPaths.{IsChildOf, IsPathReserved, path-on}
 use Rattle.rart_nodes.proofs.tries.CanonicalTests.{IsCanonical-test, longest_key-append}
 use Rattle.rart_nodes.proofs.walks.WalkLemmas.{below-canonical, deepest, deeper, longest-below}
 
@@ -84,36 +84,35 @@ module _ {V : Type 0} where
       rw (deepest st1 st ((cs, length k1), v) e, f, i)
       (pushed-at g longest places k (g (prefix_of t)) t cs v (reverse st) s c q r h refl a l)
 
-  -- all children of the node, or those under a byte
-  pub all-pushed : (g : Grown) (longest places places1 : ℕ) (k k1 : SegmentList) (t : Trie V) (cs : Children V)
-      (v : Option (Bor V)) (st st1 : List (BackLevel V)) → IsShort g → is_canonical t ≡ true
-      → IsBackWalk longest places k (reverse st) → longest < places
-      → IsPathReserved longest k (length st) (Some t) → k1 ≡ k ++ g (prefix_of t) → cs ≡ children_in t
-      → st1 ≡ st ++ ((cs, length k1), v) ∷ [] → places1 ≡ places
-      → BackLevelPushed g longest places1 k k1 (reverse st) (reverse st1) cs v
-  all-pushed g longest places places1 k k1 t cs v st st1 s c q r w i a e f =
-      pushed g longest places places1 (length st) k k1 t cs v st st1 s c q r w refl i
-      (rw a (below-canonical t (IsCanonical-test t c))) (rw a (omega arith)) e f
+  -- the children of the node before a byte
+  before-canonical : (e : Option ℕ) (cs : Children V) → AreCanonical 0 cs → AreCanonical 0 (children_before e cs)
+  before-canonical None cs w = w
+  before-canonical (Some b) cs w = under-canonical b 0 cs w
 
-  pub some-pushed : (g : Grown) (longest places places1 b : ℕ) (k k1 : SegmentList) (t : Trie V) (cs : Children V)
+  before-short : (e : Option ℕ) (cs : Children V) → longest_key (children_pairs (children_before e cs))
+      ≤ longest_key (children_pairs cs)
+  before-short None cs = omega arith
+  before-short (Some b) cs = under-short b cs
+
+  pub before-pushed : (g : Grown) (longest places places1 : ℕ) (k k1 : SegmentList) (t : Trie V) (e : Option ℕ)
       (v : Option (Bor V)) (st st1 : List (BackLevel V)) → IsShort g → is_canonical t ≡ true
       → IsBackWalk longest places k (reverse st) → longest < places
       → IsPathReserved longest k (length st) (Some t) → k1 ≡ k ++ g (prefix_of t)
-      → cs ≡ children_under b (children_in t) → st1 ≡ st ++ ((cs, length k1), v) ∷ [] → places1 ≡ places
-      → BackLevelPushed g longest places1 k k1 (reverse st) (reverse st1) cs v
-  some-pushed g longest places places1 b k k1 t cs v st st1 s c q r w i a e f =
-      pushed g longest places places1 (length st) k k1 t cs v st st1 s c q r w refl i
-      (rw a (under-canonical b 0 (children_in t) (below-canonical t (IsCanonical-test t c))))
-      (rw a (under-short b (children_in t))) e f
+      → st1 ≡ st ++ ((children_before e (children_in t), length k1), v) ∷ [] → places1 ≡ places
+      → BackLevelPushed g longest places1 k k1 (reverse st) (reverse st1) (children_before e (children_in t)) v
+  before-pushed g longest places places1 k k1 t e v st st1 s c q r w i f l =
+      pushed g longest places places1 (length st) k k1 t (children_before e (children_in t)) v st st1 s c q r w refl i
+      (before-canonical e (children_in t) (below-canonical t (IsCanonical-test t c)))
+      (before-short e (children_in t)) f l
 
-  pub back-path-on : (g : Grown) (longest b : ℕ) (k k1 : SegmentList) (t : Trie V) (o : Option (Trie V))
+  pub back-path-on : (g : Grown) (longest : ℕ) (k k1 : SegmentList) (t : Trie V) (o : Option (Trie V))
       (st st1 : List (BackLevel V)) (l : BackLevel V) → IsShort g → is_canonical t ≡ true
       → IsPathReserved longest k (length st) (Some t)
-      → k1 ≡ k ++ g (prefix_of t) → st1 ≡ st ++ l ∷ [] → o ≡ child_in b t → IsPathReserved longest k1 (length st1) o
-  back-path-on g longest b k k1 t o st st1 l s c w i f e =
+      → k1 ≡ k ++ g (prefix_of t) → st1 ≡ st ++ l ∷ [] → IsChildOf t o → IsPathReserved longest k1 (length st1) o
+  back-path-on g longest k k1 t o st st1 l s c w i f e =
       let h : IsPathReserved longest k (length (levels_of st)) (Some t)
       = (w.0, omega (arith, w.1, length-map st (λ x. x.0))) in
       let same : levels_of st1 ≡ levels_of st ++ l.0 ∷ []
       = ap (map (λ x. x.0)) f ∙ map-append (λ x. x.0) st (l ∷ []) in
       subst (λ n. IsPathReserved longest k1 n o) (length-map st1 (λ x. x.0))
-      (path-on g longest b k k1 t o (levels_of st) (levels_of st1) l.0 s c h i same e)
+      (path-on g longest k k1 t o (levels_of st) (levels_of st1) l.0 s c h i same e)

@@ -2,17 +2,19 @@
 //! each inner node on its path.
 ghost use Rattle.std.specs.Prelude.{◌≡◌, ◌≢◌, ◌≤◌, ◌<◌, ◌+◌, ◌++◌, [], length, reverse, take, vec_len, vec_capacity};
 ghost use Rattle.std.specs.Prelude.{MatchOption, IfOk, OnErr};
+ghost use Rattle.std.specs.Option.{option_copied};
 ghost use Rattle.rart_keys.specs.SortedMap.{count_of, longest_key};
 ghost use Rattle.rart_nodes.specs.ranges.Potential.{IsAmortized, potential};
+ghost use Rattle.rart_nodes.specs.ranges.UpperBounds.{if_included};
 ghost use Rattle.rart_nodes.specs.tries.SeenTrees.{length_bound, seen_pairs, seen_tree};
 ghost use Rattle.rart_nodes.specs.walks.Walk.{KeepsEach, entries_of, segments_after, tree_count, tree_entries};
 ghost use Rattle.rart_nodes.specs.walks.WalkSteps.{DeepestLeft, DeepestStep, HasPlaces, IsWalkAt, PushesLevel};
 ghost use Rattle.rart_nodes.specs.walks.WalkSteps.{TakesEntry, walk_entries, walk_nodes};
-ghost use Rattle.rart_nodes.specs.tries.Trie.{pairs_of, prefix_of};
+ghost use Rattle.rart_nodes.specs.tries.Trie.{pairs_of, prefix_of, value_of};
 ghost use Rattle.rart_nodes.specs.tries.TrieCode.{node_count};
 
 use crate::count::Count;
-use crate::node::seen::{Branches, Entered, Seen};
+use crate::node::seen::{Branches, Entered, Seen, Shared};
 use crate::node::walk::path::Path;
 use rart_keys::{KeyTrait, Partial};
 use std::alloc::{AllocError, Global};
@@ -29,6 +31,24 @@ pub(crate) struct Walk<'a, P: Partial, V, C> {
     // the root's value, until it is given
     first: Option<&'a V>,
     longest: usize,
+}
+
+/// What a descent to a bound keeps of a visited node, and where it continues.
+#[derive(Drop)]
+struct Step<'a, 'k, P: Partial, V, C> {
+    value: Option<&'a V>,
+    // the walk keeps the children after this byte, or before it from the back, and all of them if it is `None`
+    edge: Option<u8>,
+    next: Option<Shared<'a, P, V, C>>,
+    // what remains of the bound at `next`
+    rest: &'k [u8],
+}
+
+/// Returns the value of a visited node if `included`.
+fn value_if<'a, P: Partial, V, C>(at: Entered<'a, P, V, C>, included: bool) -> Option<&'a V>
+    ensures { option_copied result ≡ if_included included (value_of at.entry.node.now) }
+{
+    if included { at.value() } else { None }
 }
 
 /// Visits the next child of the deepest level and returns it with the depth of the level.

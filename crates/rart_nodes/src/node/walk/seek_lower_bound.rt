@@ -1,12 +1,14 @@
 //! The descent to a start, and walks from there.
 ghost use Rattle.std.specs.Prelude.{◌≡◌, ◌≢◌, ◌≤◌, ◌<◌, ◌+◌, ◌++◌, [], ◌∷◌, length, reverse, vec_capacity, vec_len};
-ghost use Rattle.std.specs.Prelude.{IfOk, None, OnErr};
+ghost use Rattle.std.specs.Prelude.{IfOk, MatchOption, None, OnErr, option_map};
+ghost use Rattle.std.specs.Option.{option_copied};
 ghost use Rattle.rart_keys.specs.SortedMap.{longest_key};
 ghost use Rattle.rart_nodes.specs.ranges.Potential.{AreLow};
 ghost use Rattle.rart_nodes.specs.ranges.Starts.{entries_from};
+ghost use Rattle.rart_nodes.specs.ranges.Steps.{AllLess, StepsFrom, children_after};
 ghost use Rattle.rart_nodes.specs.statistics.Statistics.{height, trie_height};
 ghost use Rattle.rart_nodes.specs.tries.SeenTrees.{length_bound, seen_keys, seen_pairs, seen_tree};
-ghost use Rattle.rart_nodes.specs.tries.Trie.{pairs_of, prefix_of};
+ghost use Rattle.rart_nodes.specs.tries.Trie.{children_in, pairs_of, prefix_of};
 ghost use Rattle.rart_nodes.specs.walks.ProbeCount.{entered_nodes, probe_count};
 ghost use Rattle.rart_nodes.specs.walks.Walk.{Joins, entries_of, tree_entries};
 ghost use Rattle.rart_nodes.specs.walks.WalkSteps.{HasPlaces, IsWalkAt, walk_entries};
@@ -15,30 +17,84 @@ use crate::count::Count;
 use crate::node::rest::strip_prefix;
 use crate::node::seen::{Branches, Entered, Seen, Shared};
 use crate::node::walk::path::Path;
-use crate::node::walk::{Walk, empty_walk};
+use crate::node::walk::{Step, Walk, empty_walk, value_if};
 use rart_keys::{KeyTrait, Partial};
 use std::alloc::AllocError;
 use std::cmp::Ordering;
 
-/// Descends past the prefix of a visited node whose remaining children are `rest`.
+/// Returns what a walk from `start` keeps of a visited node, or `None` if each key there is less than `start`.
+// Inline, so that a step isn't stored.
+#[inline(always)]
+fn step_from<'a, 'k, P: Partial, V, C>(
+    at: Entered<'a, P, V, C>,
+    start: &'k [u8],
+    included: bool,
+) -> Option<Step<'a, 'k, P, V, C>>
+    ensures { MatchOption result (AllLess (prefix_of at.entry.node.now) start.now)
+        (λ s. StepsFrom included start.now at.entry.node.now (option_copied s.value) s.edge
+        (option_map (λ n. n.node.now) s.next) s.rest.now) }
+{
+    let prefix = at.prefix();
+    let Some(rest) = strip_prefix(prefix, start) else {
+        // the node's keys all come before the start, or all after it
+        if let Ordering::Greater = prefix.to_slice().cmp(start) {
+            return Some(Step {
+                value: at.value(),
+                edge: None,
+                next: None,
+                rest: start,
+            });
+        }
+        return None;
+    };
+    let Some(byte) = rest.first() else {
+        return Some(Step {
+            value: value_if(at, included),
+            edge: None,
+            next: None,
+            rest,
+        });
+    };
+    Some(Step {
+        value: None,
+        edge: Some(*byte),
+        next: at.child(*byte),
+        rest,
+    })
+}
+
+/// Returns the children of a visited node after the byte `edge`, or all of them if it is `None`.
+fn branches_after<'a, P: Partial, V, C>(
+    at: Entered<'a, P, V, C>,
+    edge: Option<u8>,
+) -> Branches<'a, P, V, C>
+    ensures { result ≡ children_after edge (children_in at.entry.node.now) }
+{
+    match edge {
+        None => at.branches(),
+        Some(byte) => at.branches_above(byte),
+    }
+}
+
+/// Descends past the prefix of a visited node, and adds a level of its children after `edge`.
 fn push_level<'a, P: Partial, V, C, T: Path<'a, P>>(
     levels: &mut Vec<(Branches<'a, P, V, C>, usize)>,
     path: &mut T,
     at: Entered<'a, P, V, C>,
-    rest: Branches<'a, P, V, C>,
+    edge: Option<u8>,
 )
     requires bytes { length (T.kept path.old) + length (prefix_of at.node.now)
         ≤ T.capacity path.old }
     requires place { vec_len levels.old < vec_capacity levels.old }
     ensures kept { T.kept path.new ≡ T.kept path.old ++ T.grown (prefix_of at.entry.node.now) }
-    ensures levels { levels.new.items
-        ≡ levels.old.items ++ (rest.entry, length (T.kept path.new)) ∷ [] }
+    ensures levels { levels.new.items ≡ levels.old.items
+        ++ (children_after edge (children_in at.entry.node.now), length (T.kept path.new)) ∷ [] }
     ensures path_capacity { T.capacity path.old ≤ T.capacity path.new }
     ensures requested { T.requested path.new ≡ T.requested path.old }
     ensures level_capacity { vec_capacity levels.new ≡ vec_capacity levels.old }
 {
     path.grow(at.prefix());
-    levels.push_reserved((rest, path.mark()));
+    levels.push_reserved((branches_after(at, edge), path.mark()));
 }
 
 impl<'a, P: Partial, V, C: Count> Walk<'a, P, V, C> {
@@ -73,24 +129,13 @@ impl<'a, P: Partial, V, C: Count> Walk<'a, P, V, C> {
         let mut rest = start;
         while let Some(node) = next {
             let at = node.enter(counter);
-            let Some(after) = strip_prefix(at.prefix(), rest) else {
-                // the node's keys all come before the start, or all after it
-                if let Ordering::Greater = at.prefix().to_slice().cmp(rest) {
-                    push_level(&mut self.levels, path, at, at.branches());
-                    self.first = at.value();
-                }
+            let Some(step) = step_from(at, rest, included) else {
                 return;
             };
-            let Some(byte) = after.first() else {
-                push_level(&mut self.levels, path, at, at.branches());
-                if included {
-                    self.first = at.value();
-                }
-                return;
-            };
-            push_level(&mut self.levels, path, at, at.branches_above(*byte));
-            next = at.child(*byte);
-            rest = after;
+            push_level(&mut self.levels, path, at, step.edge);
+            self.first = step.value;
+            next = step.next;
+            rest = step.rest;
         }
     }
 }

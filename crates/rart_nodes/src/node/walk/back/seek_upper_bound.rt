@@ -1,12 +1,14 @@
 //! The descent to an end, and walks back from there.
 ghost use Rattle.std.specs.Prelude.{◌≡◌, ◌≢◌, ◌≤◌, ◌<◌, ◌+◌, ◌++◌, [], ◌∷◌, length, reverse, vec_capacity, vec_len};
-ghost use Rattle.std.specs.Prelude.{IfOk, OnErr};
+ghost use Rattle.std.specs.Prelude.{IfOk, MatchOption, OnErr, option_map};
 ghost use Rattle.std.specs.Option.{option_copied};
 ghost use Rattle.rart_keys.specs.SortedMap.{longest_key};
 ghost use Rattle.rart_nodes.specs.ranges.BackWalk.{IsBackWalk, remaining_entries};
-ghost use Rattle.rart_nodes.specs.ranges.UpperBounds.{entries_until, if_included};
+ghost use Rattle.rart_nodes.specs.ranges.Steps.{AllGreater, StepsUntil};
+ghost use Rattle.rart_nodes.specs.ranges.Under.{children_before};
+ghost use Rattle.rart_nodes.specs.ranges.UpperBounds.{entries_until};
 ghost use Rattle.rart_nodes.specs.tries.SeenTrees.{length_bound, seen_keys, seen_pairs, seen_tree};
-ghost use Rattle.rart_nodes.specs.tries.Trie.{pairs_of, prefix_of, value_of};
+ghost use Rattle.rart_nodes.specs.tries.Trie.{children_in, pairs_of, prefix_of};
 ghost use Rattle.rart_nodes.specs.walks.ProbeCount.{entered_nodes, probe_count};
 ghost use Rattle.rart_nodes.specs.walks.Walk.{Joins, entries_of, tree_entries};
 
@@ -16,30 +18,89 @@ use crate::node::seen::{Entered, Seen, Shared};
 use crate::node::walk::back::branches::BackBranches;
 use crate::node::walk::back::{BackWalk, empty_back_walk};
 use crate::node::walk::path::Path;
+use crate::node::walk::{Step, value_if};
 use rart_keys::{KeyTrait, Partial};
 use std::alloc::AllocError;
 use std::cmp::Ordering;
 
-/// Descends past the prefix of a visited node whose children before the path are `rest`.
+/// Returns what a walk back from `end` keeps of a visited node, or `None` if each key there is greater than `end`.
+// Inline, so that a step isn't stored.
+#[inline(always)]
+fn step_until<'a, 'k, P: Partial, V, C>(
+    at: Entered<'a, P, V, C>,
+    end: &'k [u8],
+    included: bool,
+) -> Option<Step<'a, 'k, P, V, C>>
+    ensures { MatchOption result (AllGreater (prefix_of at.entry.node.now) end.now)
+        (λ s. StepsUntil included end.now at.entry.node.now (option_copied s.value) s.edge
+        (option_map (λ n. n.node.now) s.next) s.rest.now) }
+{
+    let prefix = at.prefix();
+    let Some(rest) = strip_prefix(prefix, end) else {
+        // the node's keys all come before the end, or all after it
+        if let Ordering::Less = prefix.to_slice().cmp(end) {
+            return Some(Step {
+                value: at.value(),
+                edge: None,
+                next: None,
+                rest: end,
+            });
+        }
+        return None;
+    };
+    let Some(byte) = rest.first() else {
+        // no child comes before the byte 0
+        return Some(Step {
+            value: value_if(at, included),
+            edge: Some(0),
+            next: None,
+            rest,
+        });
+    };
+    Some(Step {
+        value: at.value(),
+        edge: Some(*byte),
+        next: at.child(*byte),
+        rest,
+    })
+}
+
+/// Returns the children of a visited node before the byte `edge`, or all of them if it is `None`.
+fn branches_before<'a, P: Partial, V, C>(
+    at: Entered<'a, P, V, C>,
+    edge: Option<u8>,
+) -> BackBranches<'a, P, V, C>
+    ensures { result ≡ children_before edge (children_in at.entry.node.now) }
+{
+    match edge {
+        None => at.back_branches(),
+        Some(byte) => at.branches_under(byte),
+    }
+}
+
+/// Descends past the prefix of a visited node, and adds a level of `value` and its children before `edge`.
 fn push_level_before<'a, P: Partial, V, C, T: Path<'a, P>>(
     levels: &mut Vec<((BackBranches<'a, P, V, C>, usize), Option<&'a V>)>,
     path: &mut T,
     at: Entered<'a, P, V, C>,
-    rest: BackBranches<'a, P, V, C>,
+    edge: Option<u8>,
     value: Option<&'a V>,
 )
     requires bytes { length (T.kept path.old) + length (prefix_of at.node.now)
         ≤ T.capacity path.old }
     requires place { vec_len levels.old < vec_capacity levels.old }
     ensures kept { T.kept path.new ≡ T.kept path.old ++ T.grown (prefix_of at.entry.node.now) }
-    ensures levels { levels.new.items
-        ≡ levels.old.items ++ ((rest.entry, length (T.kept path.new)), value.entry) ∷ [] }
+    ensures levels { levels.new.items ≡ levels.old.items
+        ++ (
+          (children_before edge (children_in at.entry.node.now), length (T.kept path.new)),
+          value.entry,
+        ) ∷ [] }
     ensures path_capacity { T.capacity path.old ≤ T.capacity path.new }
     ensures requested { T.requested path.new ≡ T.requested path.old }
     ensures level_capacity { vec_capacity levels.new ≡ vec_capacity levels.old }
 {
     path.grow(at.prefix());
-    levels.push_reserved(((rest, path.mark()), value));
+    levels.push_reserved(((branches_before(at, edge), path.mark()), value));
 }
 
 impl<'a, P: Partial, V, C: Count> BackWalk<'a, P, V, C> {
@@ -74,36 +135,14 @@ impl<'a, P: Partial, V, C: Count> BackWalk<'a, P, V, C> {
         let mut rest = end;
         while let Some(node) = next {
             let at = node.enter(counter);
-            let Some(after) = strip_prefix(at.prefix(), rest) else {
-                // the node's keys all come before the end, or all after it
-                if let Ordering::Less = at.prefix().to_slice().cmp(rest) {
-                    push_level_before(&mut self.levels, path, at, at.back_branches(), at.value());
-                }
+            let Some(step) = step_until(at, rest, included) else {
                 return;
             };
-            let Some(byte) = after.first() else {
-                let value = value_if(included, at);
-                push_level_before(&mut self.levels, path, at, at.branches_under(0), value);
-                return;
-            };
-            push_level_before(
-                &mut self.levels,
-                path,
-                at,
-                at.branches_under(*byte),
-                at.value(),
-            );
-            next = at.child(*byte);
-            rest = after;
+            push_level_before(&mut self.levels, path, at, step.edge, step.value);
+            next = step.next;
+            rest = step.rest;
         }
     }
-}
-
-/// Returns the value of a visited node if `included`.
-fn value_if<'a, P: Partial, V, C>(included: bool, at: Entered<'a, P, V, C>) -> Option<&'a V>
-    ensures { option_copied result ≡ if_included included (value_of at.entry.node.now) }
-{
-    if included { at.value() } else { None }
 }
 
 impl<'a, K: KeyTrait, V, C: Count> Seen<'a, K, V, C> {

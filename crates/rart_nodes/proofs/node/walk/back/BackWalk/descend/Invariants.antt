@@ -1,23 +1,16 @@
-use Rattle.std.proofs.Common.{◌≡◌, ◌≤◌, ◌<◌, ◌+◌, ◌++◌, length, reverse, vec_capacity, option_map}
-use Rattle.rart_nodes.specs.ranges.BackWalk.{IsBackWalk, remaining_entries}
-use Rattle.rart_nodes.specs.ranges.UpperBounds.{entries_until}
+use Rattle.std.proofs.Common.{◌≡◌, ◌≤◌, ◌<◌, ◌+◌, vec_capacity, option_map}
 use Rattle.rart_nodes.specs.walks.ProbeCount.{entered_nodes, tree_entered}
-use Rattle.rart_nodes.specs.walks.Walk.{segments_after, entries_of, tree_count, tree_entries}
-use Rattle.rart_nodes.proofs.ranges.StartPaths.{IsPathReserved}
+use Rattle.rart_nodes.specs.walks.Walk.{tree_count}
+use Rattle.rart_nodes.proofs.ranges.UntilDescents.{DescendsUntil}
 use Rattle.rart_nodes.proofs.node.walk.back.BackWalk.descend.Given as goal
 
 abbrev pub invariant-loop-next : goal.invariant-loop-next
 invariant-loop-next g l = record {
-  path : IsBackWalk l.self.longest (vec_capacity l.self.levels) (g.T.Path.kept l.path) (reverse l.self.levels.items);
-  fits : IsPathReserved l.self.longest (g.T.Path.kept l.path) (length l.self.levels.items)
-      (option_map (λ s. s.node.now) l.next);
+  descends : DescendsUntil g.T.Keeps.grown l.included l.self.longest (vec_capacity l.self.levels) l.fn.end
+      l.fn.top.node.now (g.T.Path.kept l.path) l.self.levels.items (option_map (λ s. s.node.now) l.next) l.rest;
   reserved : l.self.longest ≤ g.T.Path.capacity l.path;
   requested : g.T.Path.requested l.path ≡ g.T.Path.requested l.fn.path;
   places : l.self.longest < vec_capacity l.self.levels;
-  still : remaining_entries g.T.Keeps.grown (g.T.Path.kept l.path) (reverse l.self.levels.items)
-      ++ segments_after (g.T.Path.kept l.path)
-      (entries_until l.included l.rest (tree_entries g.T.Keeps.grown (option_map (λ s. s.node.now) l.next)))
-      ≡ entries_until l.included l.fn.end (entries_of g.T.Keeps.grown l.fn.top.node.now);
   visits : g.C.Count.number l.counter + tree_entered l.rest (option_map (λ s. s.node.now) l.next)
       ≡ g.C.Count.number l.fn.counter + entered_nodes l.fn.end l.fn.top.node.now;
   longest : l.self.longest ≡ l.fn.self.longest;
