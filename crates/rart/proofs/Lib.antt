@@ -7,6 +7,7 @@ pub mod BulkTreeLemmas
 pub mod BulkValueLemmas
 pub mod CountLemmas
 pub mod EditLemmas
+pub mod EqualLemmas
 pub mod ExtensionLemmas
 pub mod LawLemmas
 pub mod MigrateLemmas

@@ -4,8 +4,8 @@ use crate::tree::AdaptiveRadixTree;
 use rart_keys::KeyTrait;
 use rart_nodes::Visits;
 
-/// Trees are equal if their pairs are: equal keys, and values equal by the `==` of `V`. It compares both trees node by
-/// node, makes no key and does not allocate.
+/// Trees are equal if their pairs are: equal keys, and values equal by the `==` of `V`. It compares their numbers of
+/// pairs, then both trees node by node, makes no key and does not allocate.
 impl<K: KeyTrait, V: PartialEq> PartialEq for AdaptiveRadixTree<K, V> {
     ghost use Rattle.std.specs.Prelude.{nat_eq};
     ghost use Rattle.std.specs.Cmp.{and_per, on_per, partial_equiv_from_equiv};
@@ -18,7 +18,11 @@ impl<K: KeyTrait, V: PartialEq> PartialEq for AdaptiveRadixTree<K, V> {
         (on_per (λ p. p.0) (partial_equiv_from_equiv nat_list_eq_equiv))
         (on_per (λ p. p.1) V.laws))) };
 
+    #[tactic(auto, using(crate::proofs::EqualLemmas::lengths_apart))]
     fn eq(&self, other: &Self) -> bool {
+        if self.len != other.len {
+            return false;
+        }
         self.seen()
             .has_same_pairs_counted(other.seen(), &mut Visits::new())
     }

@@ -62,7 +62,8 @@ impl<K: KeyTrait, V> AdaptiveRadixTree<K, V> {
     ) -> (Result<Outcome<V>, UpdateError<V>>, X)
         requires callable { FnOnceTakesAtMut F.FnOnce f
             (slot_of (lookup (K.bytes key.now) self.old.pairs)) }
-        requires occupancy { KeepsSlotReturning F.FnOnce f (lookup (K.bytes key.now) self.old.pairs) }
+        requires occupancy { KeepsSlotReturning F.FnOnce f
+            (lookup (K.bytes key.now) self.old.pairs) }
         ensures update { UpdatesReturning F.FnOnce f (K.bytes key.now) self.old.pairs result
             self.new.pairs }
         ensures nodes_unchanged { OnErr result.0 (self.new.nodes ≡ self.old.nodes) }
