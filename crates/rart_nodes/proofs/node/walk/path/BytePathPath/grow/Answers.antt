@@ -14,7 +14,8 @@ returns-clause-kept g c =
     let bytes = c.copy_bytes.new.to in
     let same = c.deref_mut.ensures.value in
     let short : at ≤ length old = omega (arith, c.args.self.now.in_range, ap length same) in
-    ap (λ z. byte_segments (take end z)) (with_items_is c.args.self.now.places (put_mid at (end - at) old bytes) (omega (
+    let written = put_mid at (end - at) old bytes in
+    ap (λ z. byte_segments (take end z)) (with_items_is c.args.self.now.places written (omega (
       arith,
       length-append (take at old) (bytes ++ drop (end - at) (drop at old)),
       length-append bytes (drop (end - at) (drop at old)),

@@ -36,8 +36,9 @@ pub returns-clause-pairs : goal.returns-clause-pairs
 returns-clause-pairs g c =
     let rest = remaining_entries byte_segments (byte_segments (kept_bytes c.retreat.new.path))
     (reverse c.retreat.new.self.levels.items) in
-    let k = byte_segments (kept_bytes c.retreat.new.path) in
+    let bytes = kept_bytes c.retreat.new.path in
+    let k = byte_segments bytes in
     sym c.self.view_is ∙ ap join_all c.in_ok-value.ensures.entries
     ∙ join-append rest ((k, c.in_ok-value.value.now) ∷ [])
-    ∙ ap (λ (k : List ℕ). join_all rest ++ (k, c.in_ok-value.value.now) ∷ []) (joins-bytes (kept_bytes c.retreat.new.path)
+    ∙ ap (λ (k : List ℕ). join_all rest ++ (k, c.in_ok-value.value.now) ∷ []) (joins-bytes bytes
     ∙ sym c.key.ensures ∙ sym c.new_from_slice.ensures)
