@@ -8,6 +8,10 @@ use rart::{ArrayKey, Error, KeyTrait};
 use std::alloc::Global;
 
 /// Returns the routes of two networks, one inside the other.
+///
+/// # Errors
+///
+/// [`Error`] if an allocation fails.
 pub fn routes(alloc: Global) -> Result<Routes, Error> {
     let mut routes = Routes::new(alloc);
     add_route(&mut routes, &[10], 1)?;
@@ -16,6 +20,10 @@ pub fn routes(alloc: Global) -> Result<Routes, Error> {
 }
 
 /// Returns three words, of which one begins another.
+///
+/// # Errors
+///
+/// [`Error`] if an allocation fails.
 pub fn words(alloc: Global) -> Result<Words, Error> {
     let mut words = Words::new(alloc);
     for (word, count) in [(b"cat".as_slice(), 1_u64), (b"catalog", 2), (b"dog", 3)] {
@@ -25,6 +33,10 @@ pub fn words(alloc: Global) -> Result<Words, Error> {
 }
 
 /// Returns the orders of two customers; the value of each is its number.
+///
+/// # Errors
+///
+/// [`Error`] if an allocation fails.
 pub fn orders(alloc: Global) -> Result<Orders, Error> {
     let mut orders = Orders::new(alloc);
     for (customer, order) in [(7_u32, 300_u32), (7, 2), (8, 1)] {
@@ -34,6 +46,10 @@ pub fn orders(alloc: Global) -> Result<Orders, Error> {
 }
 
 /// Returns two orders of a customer; the value of each is its number.
+///
+/// # Errors
+///
+/// [`Error`] if an allocation fails.
 pub fn by_order(alloc: Global) -> Result<ByOrder, Error> {
     let mut orders = ByOrder::new(alloc);
     orders.insert_k(&OrderKey::new(7, 300), 300)?;
@@ -42,6 +58,10 @@ pub fn by_order(alloc: Global) -> Result<ByOrder, Error> {
 }
 
 /// Returns three readings; the value of each is its time.
+///
+/// # Errors
+///
+/// [`Error`] if an allocation fails.
 pub fn readings(alloc: Global) -> Result<Readings, Error> {
     let mut readings = Readings::new(alloc);
     for time in [10_u64, 20, 30] {
