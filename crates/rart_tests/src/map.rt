@@ -10,6 +10,7 @@ mod laws;
 mod migrations;
 mod names;
 mod no_requests;
+mod sizes;
 mod taken_in_turn;
 mod taken_prefixes;
 mod words;

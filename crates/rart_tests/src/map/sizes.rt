@@ -1,0 +1,15 @@
+//! The sizes of nodes and of the places that hold them, which must not grow unseen.
+
+use rart::ArrPartial;
+use rart_nodes::node::DefaultNode;
+use std::mem::size_of;
+
+type Node<const N: usize> = DefaultNode<ArrPartial<N>, u64>;
+
+#[test]
+fn nodes_and_their_places_keep_their_sizes(rt: HostRuntime) {
+    assert_eq!(rt; size_of::<Node<8>>(), 48);
+    assert_eq!(rt; size_of::<Option<Node<8>>>(), 56);
+    assert_eq!(rt; size_of::<Node<32>>(), 72);
+    assert_eq!(rt; size_of::<Option<Node<32>>>(), 80);
+}
