@@ -22,4 +22,5 @@ mod texts;
 #[cfg(test)]
 mod updates;
 #[cfg(test)]
+mod widths;
 mod with_memory;
