@@ -23,4 +23,5 @@ mod texts;
 mod updates;
 #[cfg(test)]
 mod widths;
+#[cfg(test)]
 mod with_memory;
