@@ -22,7 +22,9 @@ def run(program, library, case):
         report = pathlib.Path(scratch) / "report"
         env = {"PATH": "/usr/bin:/bin", "LD_PRELOAD": str(library), "REFUSE_REPORT": str(report)}
         try:
-            ended = subprocess.run([program], input=line.encode(), env=env, cwd=scratch, capture_output=True, timeout=1800)
+            ended = subprocess.run(
+                [program], input=line.encode(), env=env, cwd=scratch, capture_output=True, timeout=1800
+            )
         except subprocess.TimeoutExpired:
             return "it ran out of time", 0
         counts = dict(word.split("=") for word in report.read_text().split()) if report.exists() else {}

@@ -8,9 +8,8 @@ their names, send messages to the library. Each runs in a process of its own wit
 it ends with status 0 and
 
   refused_in_turn            which have one request after the other refused, a request was really refused in each part;
-  ask_for_nothing, asks_...  which say so of the calls in them, as does make_no_request, makes_...: a message came and
-                             no request was refused;
-  ask_within, asks_...       which add up the bytes requested, a message came and at least one byte was added up.
+  make_no_request            which say so of the calls in them, a message came and no request was refused;
+  request_within             which add up the bytes requested, a message came and at least one byte was added up.
 
 Such a test of the sources that is in no program fails: its crate wasn't built, or not with its tests.
 
@@ -37,8 +36,8 @@ import refused_routes  # noqa: E402
 TOP = pathlib.Path(__file__).resolve().parents[2]
 
 SWEEP = re.compile(r"refused_in_turn")
-QUIET = re.compile(r"asks?_for_nothing|makes?_no_request")
-ADDED = re.compile(r"asks?_within")
+QUIET = re.compile(r"makes?_no_request")
+ADDED = re.compile(r"requests?_within")
 KINDS = (SWEEP, QUIET, ADDED)
 IN_SOURCE = re.compile(r"^\s*#\[test\]\s+fn (\w+)", re.M)
 

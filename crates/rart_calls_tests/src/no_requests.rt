@@ -20,7 +20,7 @@ static FIRST_KEY: [Row<'static>; 10] = [
 ];
 
 #[test]
-fn an_empty_tree_and_its_first_key_ask_for_nothing(rt: HostRuntime) {
+fn an_empty_tree_and_its_first_key_make_no_request(rt: HostRuntime) {
     assert_none_wrong(
         &rt,
         first_wrong_without_requests::<ArrayKey<16>>(rt.alloc(), &[], &FIRST_KEY),
@@ -53,7 +53,7 @@ static AT_STANDING_NODES: [Row<'static>; 17] = [
 ];
 
 #[test]
-fn standing_nodes_ask_for_nothing(rt: HostRuntime) {
+fn stored_nodes_make_no_request(rt: HostRuntime) {
     assert_none_wrong(
         &rt,
         first_wrong_without_requests::<ArrayKey<16>>(rt.alloc(), &TWO_LEAVES, &AT_STANDING_NODES),
@@ -67,14 +67,14 @@ static JOINING: [Row<'static>; 3] = [
 ];
 
 #[test]
-fn joined_nodes_ask_for_nothing(rt: HostRuntime) {
+fn joined_nodes_make_no_request(rt: HostRuntime) {
     assert_none_wrong(
         &rt,
         first_wrong_without_requests::<ArrayKey<16>>(rt.alloc(), &TWO_LEAVES, &JOINING),
     );
 }
 
-static ROOM_IN_EACH_KIND: [Row<'static>; 6] = [
+static FREE_SLOT_IN_EACH_KIND: [Row<'static>; 6] = [
     (Ask::Fill(b"a", 0, 3), Want::Is(true)),
     (Ask::Fill(b"b", 0, 15), Want::Is(true)),
     (Ask::Fill(b"c", 0, 47), Want::Is(true)),
@@ -83,7 +83,7 @@ static ROOM_IN_EACH_KIND: [Row<'static>; 6] = [
     (Ask::Len, Want::Len(319)),
 ];
 
-static INTO_ROOM: [Row<'static>; 8] = [
+static INTO_FREE_SLOTS: [Row<'static>; 8] = [
     (Ask::Insert("a\x03", 1), Want::None),
     (Ask::Insert("b\x0f", 2), Want::None),
     (Ask::TryInsert("c/", 3), Want::Inserted),
@@ -98,7 +98,7 @@ static INTO_ROOM: [Row<'static>; 8] = [
 fn nodes_with_free_slots_make_no_request(rt: HostRuntime) {
     assert_none_wrong(
         &rt,
-        first_wrong_without_requests::<ArrayKey<16>>(rt.alloc(), &ROOM_IN_EACH_KIND, &INTO_ROOM),
+        first_wrong_without_requests::<ArrayKey<16>>(rt.alloc(), &FREE_SLOT_IN_EACH_KIND, &INTO_FREE_SLOTS),
     );
 }
 
@@ -113,7 +113,7 @@ static ABSENT: [Row<'static>; 5] = [
 ];
 
 #[test]
-fn absent_keys_ask_for_nothing(rt: HostRuntime) {
+fn absent_keys_make_no_request(rt: HostRuntime) {
     assert_none_wrong(
         &rt,
         first_wrong_without_requests::<ArrayKey<16>>(rt.alloc(), &FIVE_KEYS, &ABSENT),
@@ -153,10 +153,10 @@ static UPDATED: [Row<'static>; 11] = [
 ];
 
 #[test]
-fn updates_of_standing_nodes_and_of_absent_keys_ask_for_nothing(rt: HostRuntime) {
+fn updates_of_stored_nodes_and_of_absent_keys_make_no_request(rt: HostRuntime) {
     assert_none_wrong(
         &rt,
-        first_wrong_without_requests::<ArrayKey<16>>(rt.alloc(), &ROOM_IN_EACH_KIND, &UPDATED),
+        first_wrong_without_requests::<ArrayKey<16>>(rt.alloc(), &FREE_SLOT_IN_EACH_KIND, &UPDATED),
     );
 }
 
@@ -222,7 +222,7 @@ fn three_are_quiet(alloc: Global) -> bool {
 }
 
 #[test]
-fn started_iterators_ask_for_nothing(rt: HostRuntime) {
+fn started_iterators_make_no_request(rt: HostRuntime) {
     assert!(rt; three_are_quiet(rt.alloc()));
 }
 
@@ -249,7 +249,7 @@ fn none_is_quiet(alloc: Global) -> bool {
 }
 
 #[test]
-fn iterators_of_an_empty_tree_ask_for_nothing(rt: HostRuntime) {
+fn iterators_of_an_empty_tree_make_no_request(rt: HostRuntime) {
     assert!(rt; none_is_quiet(rt.alloc()));
 }
 

@@ -81,7 +81,7 @@ pub enum Want<'a> {
     Pairs(&'a [(&'a str, u64)]),
     Values(&'a [u64]),
     Len(usize),
-    /// Leaves, values, inner nodes and height; and for each width its nodes and their children.
+    /// Leaves, values, inner nodes and height; and for each capacity its nodes and their children.
     Counts([usize; 4], &'a [(usize, usize, usize)]),
 }
 

@@ -126,7 +126,7 @@ fn shrinking_deletions_refused_in_turn(rt: HostRuntime) {
     );
 }
 
-pub static FOUR_WIDTHS: [Row<'static>; 6] = [
+pub static FOUR_CAPACITIES: [Row<'static>; 6] = [
     (Ask::Fill(b"a", 0, 2), Want::Is(true)),
     (Ask::Fill(b"b", 0, 5), Want::Is(true)),
     (Ask::Fill(b"c", 0, 17), Want::Is(true)),
@@ -145,7 +145,7 @@ pub static FOUR_WIDTHS: [Row<'static>; 6] = [
 fn statistics_refused_in_turn(rt: HostRuntime) {
     assert_none_wrong(
         &rt,
-        first_wrong_refused::<ArrayKey<16>>(rt.alloc(), &FOUR_WIDTHS),
+        first_wrong_refused::<ArrayKey<16>>(rt.alloc(), &FOUR_CAPACITIES),
     );
 }
 
@@ -254,9 +254,9 @@ fn put(tree: &mut Tree, byte: u8) -> Result<Option<u64>, Refused<u64>> {
     tree.insert_k(&ArrayKey::<4>::new_from_slice(&[byte]), u64::from(byte))
 }
 
-fn has_counts(tree: &Tree, counts: &[usize; 4], widths: &[(usize, usize, usize)]) -> bool {
+fn has_counts(tree: &Tree, counts: &[usize; 4], capacities: &[(usize, usize, usize)]) -> bool {
     match tree.get_tree_stats() {
-        Ok(stats) => is_counted(&stats, counts, widths),
+        Ok(stats) => is_counted(&stats, counts, capacities),
         Err(_refused) => false,
     }
 }

@@ -186,7 +186,7 @@ static REMOVED: [Row<'static>; 10] = [
 ];
 
 #[test]
-fn a_removed_inner_key_is_gone(rt: HostRuntime) {
+fn a_removed_inner_key_is_absent(rt: HostRuntime) {
     assert_none_wrong(&rt, first_wrong::<ArrayKey<16>>(rt.alloc(), &REMOVED));
 }
 
@@ -199,7 +199,7 @@ static DELETED_INNER: [Row<'static>; 5] = [
 ];
 
 #[test]
-fn a_deleted_inner_key_is_gone(rt: HostRuntime) {
+fn a_deleted_inner_key_is_absent(rt: HostRuntime) {
     assert_none_wrong(&rt, first_wrong::<ArrayKey<16>>(rt.alloc(), &DELETED_INNER));
 }
 
@@ -212,7 +212,7 @@ static DELETED_TWICE: [Row<'static>; 5] = [
 ];
 
 #[test]
-fn a_deletion_tells_whether_there_was_a_value(rt: HostRuntime) {
+fn a_deletion_returns_whether_there_was_a_value(rt: HostRuntime) {
     assert_none_wrong(&rt, first_wrong::<ArrayKey<16>>(rt.alloc(), &DELETED_TWICE));
 }
 

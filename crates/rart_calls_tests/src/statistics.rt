@@ -56,7 +56,7 @@ fn statistics_of_two_leaves(rt: HostRuntime) {
     assert_none_wrong(&rt, first_wrong::<ArrayKey<16>>(rt.alloc(), &TWO_LEAVES));
 }
 
-static LONE_CHILD: [Row<'static>; 8] = [
+static ONLY_CHILD: [Row<'static>; 8] = [
     (Ask::Insert("abcd", 1), Want::None),
     (Ask::Insert("abce", 2), Want::None),
     (Ask::Stats, Want::Counts([2, 2, 1, 2], &[(4, 1, 2)])),
@@ -68,8 +68,8 @@ static LONE_CHILD: [Row<'static>; 8] = [
 ];
 
 #[test]
-fn a_lone_child_is_the_root_in_place_of_its_parent(rt: HostRuntime) {
-    assert_none_wrong(&rt, first_wrong::<ArrayKey<16>>(rt.alloc(), &LONE_CHILD));
+fn an_only_child_is_the_root_in_place_of_its_parent(rt: HostRuntime) {
+    assert_none_wrong(&rt, first_wrong::<ArrayKey<16>>(rt.alloc(), &ONLY_CHILD));
 }
 
 static THREE_LEVELS: [Row<'static>; 6] = [
@@ -107,8 +107,8 @@ fn a_joined_child_keeps_its_kind(rt: HostRuntime) {
 }
 
 #[test]
-fn a_lone_child_takes_the_place_of_its_parent(rt: HostRuntime) {
-    assert_none_wrong(&rt, first_wrong::<ArrayKey<4>>(rt.alloc(), &LONE_CHILD));
+fn an_only_child_takes_the_place_of_its_parent(rt: HostRuntime) {
+    assert_none_wrong(&rt, first_wrong::<ArrayKey<4>>(rt.alloc(), &ONLY_CHILD));
 }
 
 static FIVE_NODES: [Row<'static>; 4] = [
@@ -126,7 +126,7 @@ static FOUR_NODES: [Row<'static>; 4] = [
 ];
 
 #[test]
-fn five_and_four_nodes_stand(rt: HostRuntime) {
+fn nodes_of_five_and_four_children_are_counted(rt: HostRuntime) {
     assert_none_wrong(&rt, first_wrong::<ArrayKey<16>>(rt.alloc(), &FIVE_NODES));
     assert_none_wrong(&rt, first_wrong::<ArrayKey<16>>(rt.alloc(), &FOUR_NODES));
 }
@@ -183,7 +183,7 @@ fn keys_kept_at_the_end_have_the_same_statistics(rt: HostRuntime) {
         &TWO_LEAVES,
         &THREE_LEVELS,
         &JOINED_WITH_A_WIDER_CHILD,
-        &LONE_CHILD,
+        &ONLY_CHILD,
         &WIDENING,
         &NARROWING,
     ] {
@@ -232,6 +232,6 @@ fn both_orders_are_counted(alloc: Global) -> bool {
 }
 
 #[test]
-fn statistics_do_not_tell_the_order_of_insertion(rt: HostRuntime) {
+fn statistics_do_not_depend_on_the_order_of_insertion(rt: HostRuntime) {
     assert!(rt; both_orders_are_counted(rt.alloc()));
 }

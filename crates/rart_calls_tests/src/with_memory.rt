@@ -1,7 +1,7 @@
 //! Edits and walks with ample memory.
 
 use super::refused_in_turn::{
-    EVERY_CALL, FOUR_WIDTHS, GROWTH, GROWTH_BY_NEW_KEYS, LISTS, SHRINKING, SHRINKING_BY_DELETION,
+    EVERY_CALL, FOUR_CAPACITIES, GROWTH, GROWTH_BY_NEW_KEYS, LISTS, SHRINKING, SHRINKING_BY_DELETION,
     SPLITS,
 };
 use crate::play::{assert_none_wrong, first_wrong, first_wrong_in_run};
@@ -26,7 +26,7 @@ fn edits_succeed_with_memory(rt: HostRuntime) {
 #[test]
 fn walks_succeed_with_memory(rt: HostRuntime) -> Result<(), Fail> {
     let alloc = rt.alloc();
-    for rows in [&FOUR_WIDTHS[..], &LISTS, &EVERY_CALL] {
+    for rows in [&FOUR_CAPACITIES[..], &LISTS, &EVERY_CALL] {
         assert_none_wrong(&rt, first_wrong::<ArrayKey<16>>(alloc, rows));
     }
     assert_none_wrong(&rt, first_wrong_in_run::<ArrayKey<16>>(alloc, &LISTS)?);

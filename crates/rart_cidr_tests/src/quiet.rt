@@ -138,7 +138,7 @@ fn is_quiet6(alloc: Global) -> bool {
 }
 
 #[test]
-fn look_ups_and_loans_of_networks_ask_for_nothing(rt: HostRuntime) {
+fn look_ups_and_loans_of_networks_make_no_request(rt: HostRuntime) {
     assert!(rt; is_quiet4(rt.alloc()));
     assert!(rt; is_quiet6(rt.alloc()));
 }

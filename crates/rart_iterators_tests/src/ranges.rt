@@ -291,7 +291,7 @@ fn is_left_within(mut pairs: Iter<'_, Key, ArrPartial<16>, u64>) -> bool {
     }
 }
 
-fn goes_on_from_an_iterator(tree: &Tree) -> bool {
+fn continues_an_iterator(tree: &Tree) -> bool {
     match tree.iter() {
         Ok(pairs) => is_left_within(pairs) && gives(Range::empty(), &[]),
         Err(_) => false,
@@ -301,7 +301,7 @@ fn goes_on_from_an_iterator(tree: &Tree) -> bool {
 #[test]
 fn a_range_over_an_iterator_ends_for_good(rt: HostRuntime) {
     let tree = filled(rt.alloc(), &FOUR).expect(&rt, "a tree");
-    assert!(rt; goes_on_from_an_iterator(&tree));
+    assert!(rt; continues_an_iterator(&tree));
 }
 
 // Whether the row's range is refused while a request is, and then gives its pairs. A refused walk calls nothing.
@@ -372,7 +372,7 @@ fn makes_no_request(alloc: Global, empty: &Tree, tree: &Tree) -> bool {
 }
 
 #[test]
-fn ranges_ask_for_nothing_where_nothing_is_walked(rt: HostRuntime) {
+fn ranges_make_no_request_where_nothing_is_walked(rt: HostRuntime) {
     let empty = Tree::new(rt.alloc());
     let tree = filled(rt.alloc(), &FOUR).expect(&rt, "a tree");
     assert!(rt; makes_no_request(rt.alloc(), &empty, &tree));

@@ -284,7 +284,7 @@ fn covers_bytes(table: &Table, probe: &[u8], wanted: &[(&str, u64)]) -> bool {
 }
 
 // Both forms of the walk over the routes below the prefix give these.
-fn stands_below(table: &Table, prefix: &str, wanted: &[(&str, u64)]) -> Result<bool, TreeError> {
+fn is_below(table: &Table, prefix: &str, wanted: &[(&str, u64)]) -> Result<bool, TreeError> {
     let seen = Cell::new(0_usize);
     table.below_for_each(&key(prefix), |view: LendingKeyView<'_, '_>, target: &u64| {
         seen.set(next_view(seen.get(), wanted, view, *target));
@@ -301,8 +301,8 @@ fn walks_go_well(table: &Table) -> Result<bool, TreeError> {
     Ok(
         covers(table, "/api/v1", &[("/", 1), ("/api", 2), ("/api/v1", 3)])
             && covers(table, "api", &[])
-            && stands_below(table, "/ap", &[("/api", 2), ("/api/v1", 3)])?
-            && stands_below(table, "/b", &[])?,
+            && is_below(table, "/ap", &[("/api", 2), ("/api/v1", 3)])?
+            && is_below(table, "/b", &[])?,
     )
 }
 

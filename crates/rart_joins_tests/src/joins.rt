@@ -30,7 +30,7 @@ pub enum Check {
 
 fn is_right(alloc: Global, left: &Tree, right: &Tree, wanted: &[Triple], check: Check) -> bool {
     match check {
-        Check::All => rows::is_met(left, right, wanted),
+        Check::All => rows::is_intersection(left, right, wanted),
         Check::Quiet => rows::makes_no_request(alloc, left, right, wanted),
         Check::Refused => rows::are_swept(alloc, left, right, wanted),
         Check::Counted => counted::are_those_of_plain_calls(left, right, wanted),

@@ -4,7 +4,9 @@
 #![tactic(auto)]
 
 mod completions;
+mod examples;
 mod hops;
+mod numbers;
 mod order_key;
 mod pairs;
 mod readings;
@@ -12,6 +14,7 @@ mod rows;
 mod shared;
 
 use crate::completions::{Words, completions, count_completions};
+use crate::examples::print_examples;
 use crate::hops::{Routes, next_hop};
 use crate::order_key::{ByOrder, OrderKey};
 use crate::pairs::{Orders, orders_of};
@@ -107,5 +110,6 @@ fn print_all_readings(rt: &impl Print, readings: &Readings) -> io::Result<()> {
 fn main(rt: HostRuntime) -> io::Result<()> {
     let alloc = rt.alloc();
     print_words_and_routes(&rt, alloc)?;
-    print_numbers(&rt, alloc)
+    print_numbers(&rt, alloc)?;
+    print_examples(&rt, alloc)
 }

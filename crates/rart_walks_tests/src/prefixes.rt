@@ -290,6 +290,6 @@ fn first_requesting_of_words(alloc: Global) -> Option<usize> {
 }
 
 #[test]
-fn answers_about_a_probe_ask_for_nothing(rt: HostRuntime) {
+fn answers_about_a_probe_make_no_request(rt: HostRuntime) {
     assert_eq!(rt; first_requesting_of_words(rt.alloc()), None);
 }

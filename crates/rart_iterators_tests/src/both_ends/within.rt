@@ -149,7 +149,7 @@ fn each_pair_of_a_part_comes_once_from_either_end(rt: HostRuntime) {
 }
 
 #[test]
-fn parts_of_no_pairs_ask_for_nothing(rt: HostRuntime) {
+fn parts_of_no_pairs_make_no_request(rt: HostRuntime) {
     let empty = Tree::new(rt.alloc());
     assert!(rt; gives_nothing(rt.alloc(), &empty));
 }

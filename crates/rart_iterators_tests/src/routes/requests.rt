@@ -51,7 +51,7 @@ fn is_quiet(alloc: Global, table: &mut Table) -> bool {
 }
 
 #[test]
-fn look_ups_of_routes_ask_for_nothing(rt: HostRuntime) {
+fn look_ups_of_routes_make_no_request(rt: HostRuntime) {
     let mut table = Table::new(rt.alloc());
     let well = first_wrong(&mut table, &VERSIONS).is_none() && is_quiet(rt.alloc(), &mut table);
     assert!(rt; well);

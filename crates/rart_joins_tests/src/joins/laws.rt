@@ -88,7 +88,7 @@ fn are_quiet(alloc: Global, empty: &Tree, words: &Tree) -> bool {
 }
 
 #[test]
-fn intersections_with_an_empty_tree_ask_for_nothing(rt: HostRuntime) {
+fn intersections_with_an_empty_tree_make_no_request(rt: HostRuntime) {
     let empty = Tree::new(rt.alloc());
     let words = filled(rt.alloc(), &ENDED).expect(&rt, "a tree");
     assert!(rt; are_quiet(rt.alloc(), &empty, &words));

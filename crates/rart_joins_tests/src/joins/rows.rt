@@ -143,7 +143,7 @@ fn is_way(left: &Tree, right: &Tree, wanted: &[Triple], swapped: bool) -> bool {
         && lends_by_ref(left, right, wanted, swapped) == Some(true)
 }
 
-pub fn is_met(left: &Tree, right: &Tree, wanted: &[Triple]) -> bool {
+pub fn is_intersection(left: &Tree, right: &Tree, wanted: &[Triple]) -> bool {
     is_way(left, right, wanted, false) && is_way(right, left, wanted, true)
 }
 
@@ -202,7 +202,7 @@ pub fn makes_no_request(alloc: Global, left: &Tree, right: &Tree, wanted: &[Trip
 }
 
 #[test]
-fn counts_and_values_ask_for_nothing(rt: HostRuntime) {
+fn counts_and_values_make_no_request(rt: HostRuntime) {
     assert_eq!(rt; first_wrong(rt.alloc(), Check::Quiet), None);
 }
 

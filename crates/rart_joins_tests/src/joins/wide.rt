@@ -1,6 +1,6 @@
 //! Intersections of nodes of every two widths, key by key, and of trees whose values have two types.
 
-use crate::joins::rows::{Triple, is_met};
+use crate::joins::rows::{Triple, is_intersection};
 use rart::{AdaptiveRadixTree, KeyTrait};
 use rart_test_trees::texts::{Key, Pair, Tree, filled};
 use std::alloc::Global;
@@ -36,9 +36,9 @@ const FIVE: [Pair; 5] = [("\0", 1), ("2", 2), ("33", 3), ("d", 4), ("}", 5)];
 
 static OF_FIVE: [Triple; 4] = [("\0", 0, 1), ("2", 50, 2), ("d", 100, 4), ("}", 125, 5)];
 
-fn meets_five(alloc: Global, all: &Tree) -> bool {
+fn intersects_five(alloc: Global, all: &Tree) -> bool {
     match filled(alloc, &FIVE) {
-        Some(five) => is_met(all, &five, &OF_FIVE),
+        Some(five) => is_intersection(all, &five, &OF_FIVE),
         None => false,
     }
 }
@@ -46,7 +46,7 @@ fn meets_five(alloc: Global, all: &Tree) -> bool {
 #[test]
 fn a_full_node_beside_five_keys(rt: HostRuntime) {
     let all = multiples(rt.alloc(), 1).expect(&rt, "a tree");
-    assert!(rt; meets_five(rt.alloc(), &all));
+    assert!(rt; intersects_five(rt.alloc(), &all));
 }
 
 // The next number that both divide, from this one on; 256 after the last one, and a number above that stays.
@@ -163,7 +163,7 @@ fn named_at(key: &[u8], number: u64, name: Name) -> usize {
     }
 }
 
-fn meets_names(numbers: &Tree, names: &Names) -> bool {
+fn intersects_names(numbers: &Tree, names: &Names) -> bool {
     let many = Cell::new(0_usize);
     let one_way = numbers.intersect_with(names, |key: Key, number: &u64, name: &Name| {
         let times = named_at(key.as_ref(), *number, *name);
@@ -190,6 +190,6 @@ static NAMES: [(&str, Name); 3] = [("b", Name::Two), ("bc", Name::Three), ("c", 
 fn trees_of_two_value_types(rt: HostRuntime) {
     let numbers = filled(rt.alloc(), &[("a", 1), ("b", 2), ("bc", 3)]).expect(&rt, "a tree");
     let mut named = Names::new(rt.alloc());
-    let well = insert_names(&mut named, &NAMES) && meets_names(&numbers, &named);
+    let well = insert_names(&mut named, &NAMES) && intersects_names(&numbers, &named);
     assert!(rt; well);
 }

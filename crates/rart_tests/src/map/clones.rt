@@ -35,7 +35,7 @@ fn has_numbers(tree: &Tree<'_>, count: u8) -> bool {
 }
 
 // Whether the clone has the pairs, and the tree loses none to a removal from the clone.
-fn stands_apart(tree: &Tree<'_>, clone: &mut Tree<'_>, count: u8) -> bool {
+fn is_independent(tree: &Tree<'_>, clone: &mut Tree<'_>, count: u8) -> bool {
     let is_equal = has_numbers(clone, count);
     let last = Key::new_from_slice(&[b'n', count.wrapping_sub(1)]);
     let is_removed = clone.delete_k(&last).is_ok();
@@ -46,7 +46,7 @@ fn stands_apart(tree: &Tree<'_>, clone: &mut Tree<'_>, count: u8) -> bool {
 fn dropped_by_clone(drops: &Cell<usize>, tree: &Tree<'_>, count: u8) -> Option<usize> {
     let before = drops.get();
     let is_right = match tree.clone() {
-        Ok(mut clone) => stands_apart(tree, &mut clone, count),
+        Ok(mut clone) => is_independent(tree, &mut clone, count),
         Err(_refused) => false,
     };
     is_right.then_some(drops.get().wrapping_sub(before))

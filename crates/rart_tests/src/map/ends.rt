@@ -109,7 +109,7 @@ fn is_popped_quietly(alloc: Global, count: u8, last: bool) -> bool {
 }
 
 #[test]
-fn pops_that_keep_the_kind_ask_for_nothing(rt: HostRuntime) {
+fn pops_that_keep_the_kind_make_no_request(rt: HostRuntime) {
     for count in [1_u8, 2, 3, 4, 6, 16, 18, 48, 50, 255] {
         assert!(rt;
             is_popped_quietly(rt.alloc(), count, false),
@@ -143,7 +143,7 @@ fn both_ends_are_quiet(alloc: Global, count: u8) -> bool {
 }
 
 #[test]
-fn both_ends_ask_for_nothing(rt: HostRuntime) {
+fn both_ends_make_no_request(rt: HostRuntime) {
     for count in [0_u8, 1, 4, 5, 16, 17, 48, 49, 255] {
         assert!(rt; both_ends_are_quiet(rt.alloc(), count), "of {count}");
     }
@@ -162,7 +162,7 @@ fn nothing_is_popped(alloc: Global) -> bool {
 }
 
 #[test]
-fn pops_of_an_empty_tree_ask_for_nothing(rt: HostRuntime) {
+fn pops_of_an_empty_tree_make_no_request(rt: HostRuntime) {
     assert!(rt; nothing_is_popped(rt.alloc()));
 }
 

@@ -86,9 +86,9 @@ fn closing_zeros_are_dropped_or_the_first_key_without_one_is_reported(rt: HostRu
     }
 }
 
-fn has_counts(tree: &Tree, counts: &[usize; 4], widths: &[(usize, usize, usize)]) -> bool {
+fn has_counts(tree: &Tree, counts: &[usize; 4], capacities: &[(usize, usize, usize)]) -> bool {
     match tree.get_tree_stats() {
-        Ok(stats) => is_counted(&stats, counts, widths),
+        Ok(stats) => is_counted(&stats, counts, capacities),
         Err(_refused) => false,
     }
 }

@@ -33,7 +33,7 @@ fn nothing_is_loaded(alloc: Global) -> bool {
 }
 
 #[test]
-fn loads_of_no_items_ask_for_nothing(rt: HostRuntime) {
+fn loads_of_no_items_make_no_request(rt: HostRuntime) {
     assert!(rt; nothing_is_loaded(rt.alloc()));
 }
 
@@ -55,7 +55,7 @@ fn is_new_quietly(alloc: Global) -> bool {
 }
 
 #[test]
-fn a_new_tree_and_its_migration_ask_for_nothing(rt: HostRuntime) {
+fn a_new_tree_and_its_migration_make_no_request(rt: HostRuntime) {
     assert!(rt; is_new_quietly(rt.alloc()));
 }
 
@@ -89,6 +89,6 @@ fn are_equal_quietly(alloc: Global) -> Option<bool> {
 }
 
 #[test]
-fn comparisons_of_equal_trees_ask_for_nothing(rt: HostRuntime) {
+fn comparisons_of_equal_trees_make_no_request(rt: HostRuntime) {
     assert!(rt; are_equal_quietly(rt.alloc()) == Some(true));
 }

@@ -90,7 +90,7 @@ fn iteration_is_within(alloc: Global, tree: &Tree, limit: usize) -> bool {
 }
 
 #[test]
-fn iterations_ask_within_the_longest_key(rt: HostRuntime) {
+fn iterations_request_within_the_longest_key(rt: HostRuntime) {
     let tree = filled(rt.alloc()).expect(&rt, "a tree");
     assert!(rt; iteration_is_within(rt.alloc(), &tree, LEVELS * LEVEL + LONGEST));
 }
@@ -102,7 +102,7 @@ fn views_are_within(alloc: Global, tree: &Tree, limit: usize) -> bool {
 }
 
 #[test]
-fn lent_keys_ask_within_the_longest_key(rt: HostRuntime) {
+fn lent_keys_request_within_the_longest_key(rt: HostRuntime) {
     let tree = filled(rt.alloc()).expect(&rt, "a tree");
     assert!(rt; views_are_within(rt.alloc(), &tree, LEVELS * LEVEL + LONGEST * SEGMENT));
 }
@@ -115,7 +115,7 @@ fn range_is_within(alloc: Global, tree: &Tree, limit: usize) -> bool {
 }
 
 #[test]
-fn ranges_ask_within_the_longest_key(rt: HostRuntime) {
+fn ranges_request_within_the_longest_key(rt: HostRuntime) {
     let tree = filled(rt.alloc()).expect(&rt, "a tree");
     assert!(rt; range_is_within(rt.alloc(), &tree, LEVELS * LEVEL + LONGEST));
 }

@@ -29,7 +29,7 @@ fn first_requesting_of_empty(alloc: Global, empty: &Tree) -> Option<usize> {
 }
 
 #[test]
-fn walks_of_an_empty_tree_ask_for_nothing(rt: HostRuntime) {
+fn walks_of_an_empty_tree_make_no_request(rt: HostRuntime) {
     let empty = Tree::new(rt.alloc());
     assert_eq!(rt; first_requesting_of_empty(rt.alloc(), &empty), None);
 }
@@ -54,7 +54,7 @@ fn first_requesting(alloc: Global, tree: &Tree) -> Option<usize> {
 }
 
 #[test]
-fn walks_that_call_ask_for_nothing(rt: HostRuntime) {
+fn walks_that_call_make_no_request(rt: HostRuntime) {
     let tree = filled(rt.alloc(), &PAIRS).expect(&rt, "a tree");
     assert_eq!(rt; first_requesting(rt.alloc(), &tree), None);
 }
@@ -87,7 +87,7 @@ fn is_quiet_about(alloc: Global, tree: &Tree, key: Key) -> bool {
 }
 
 #[test]
-fn calls_about_a_probe_ask_for_nothing(rt: HostRuntime) {
+fn calls_about_a_probe_make_no_request(rt: HostRuntime) {
     let tree = filled(rt.alloc(), &PAIRS).expect(&rt, "a tree");
     assert!(rt; is_quiet_about(rt.alloc(), &tree, Key::new_from_slice(b"alpha12")));
 }
@@ -203,7 +203,7 @@ fn are_quiet(alloc: Global, tree: &Tree, key: Key) -> bool {
 }
 
 #[test]
-fn started_walks_ask_for_nothing(rt: HostRuntime) {
+fn started_walks_make_no_request(rt: HostRuntime) {
     let tree = filled(rt.alloc(), &PAIRS).expect(&rt, "a tree");
     assert!(rt; are_quiet(rt.alloc(), &tree, Key::new_from_slice(b"alp")));
 }

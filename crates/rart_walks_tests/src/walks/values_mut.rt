@@ -131,7 +131,7 @@ fn is_quiet(alloc: Global, tree: &mut Tree, empty: &mut Tree) -> bool {
 }
 
 #[test]
-fn changes_of_values_ask_for_nothing(rt: HostRuntime) {
+fn changes_of_values_make_no_request(rt: HostRuntime) {
     let mut tree = filled(rt.alloc(), &PAIRS).expect(&rt, "a tree");
     let mut empty = Tree::new(rt.alloc());
     let well = is_quiet(rt.alloc(), &mut tree, &mut empty);
