@@ -1,10 +1,11 @@
 #!/usr/bin/env python3
-"""Tests the examples of README.md and docs/GUIDE.md.
+"""Tests the examples of README.md, docs/GUIDE.md and the map's doc comments.
 
-Each paragraph of a `rust` block stands, line for line, in a source of the worked examples, which the gate proves. So
-does each call in README's table of uses, in the file of its row. The other blocks of GUIDE are lines to be read:
-tools/guide/fragments.txt has a function for the blocks of a section, named in double braces, and what results from both
-must compile in a copy of the repository. Nothing of it is proved.
+Each paragraph of a `rust` block is, line for line, in a source of the worked examples, which the gate proves. So is
+each call in README's table of uses, in the file of its row, and each example of `crates/rart`, however its lines are
+broken. The other blocks of GUIDE are lines to be read: tools/guide/fragments.txt has a function for the blocks of a
+section, named in double braces, and what results from both must compile in a copy of the repository. Nothing of it is
+proved.
 
 Prints a line for each fault, and then ends with status 1.
 """
@@ -27,11 +28,12 @@ SECONDS = 1800
 BLOCK = re.compile(r"^#+ ([^\n]*)$|^```rust\n(.*?)^```$", re.S | re.M)
 USE = re.compile(r"^use [^;]*;\n", re.M)
 PLACE = re.compile(r"^\{\{(.*)\}\}\n", re.M)
+EXAMPLE = re.compile(r"^ */// ```ignore\n(.*?)^ */// ```$", re.S | re.M)
 ROW = re.compile(r"^\|.*\| `(\w+\.rt)` \|$", re.M)
 
 
 def blocks(page):
-    """The rust blocks of a page, each with the heading that it stands under."""
+    """The rust blocks of a page, each with its heading."""
     heading = ""
     for found in BLOCK.finditer((TOP / page).read_text()):
         if found[2] is None:
@@ -40,9 +42,24 @@ def blocks(page):
             yield heading, found[2]
 
 
-def stands(block, sources):
+def is_in_one(block, sources):
     """Whether each paragraph of a block is in one of the sources."""
     return any(all(part.strip("\n") in source for part in block.split("\n\n")) for source in sources)
+
+
+def joined(source):
+    """The source without blanks, and without the comma that the format puts after a last argument on its own line."""
+    return "".join(source.split()).replace(",)", ")")
+
+
+def example_faults(sources):
+    """The examples in the map's doc comments that no source has, however their lines are broken."""
+    texts = [joined(source) for source in sources]
+    for path in sorted((TOP / "crates" / "rart" / "src").rglob("*.rt")):
+        for found in EXAMPLE.finditer(path.read_text()):
+            example = joined("".join(line.strip().removeprefix("///") for line in found[1].splitlines()))
+            if not any(example in text for text in texts):
+                yield f"{path.relative_to(TOP)}: no source has the example {example}"
 
 
 def table_faults():
@@ -95,11 +112,12 @@ def compile_fault(source):
 def main() -> int:
     sources = [path.read_text() for name in EXAMPLES for path in (TOP / "crates" / name / "src").rglob("*.rt")]
     found = [f"README.md: no source has a block of: {name}" for name, block in blocks("README.md")
-             if not stands(block, sources)]
+             if not is_in_one(block, sources)]
+    found += example_faults(sources)
     found += table_faults()
     fragments = {}
     for name, block in blocks("docs/GUIDE.md"):
-        if not stands(block, sources):
+        if not is_in_one(block, sources):
             fragments[name] = fragments.get(name, "") + block
     source, wrong = program(fragments)
     found += wrong

@@ -24,10 +24,10 @@ sys.dont_write_bytecode = True
 
 TOP = pathlib.Path(__file__).resolve().parents[1]
 
-# The compiler answers within seconds, unless the machine stands still.
+# The compiler answers within seconds, unless the machine is very busy.
 SECONDS = 1800
 
-# The first line of a check that goes on to its proofs: the compiler has no error.
+# The first line of a check that continues with its proofs: the compiler has no error.
 ACCEPTED = re.compile(r"so far: 0 of \d+ functions")
 
 # The help that follows an error may change with the toolchain.
@@ -35,7 +35,7 @@ ERROR = re.compile(r"^(\S+?):\d+:\d+: (error\[[\w-]+\]: .*?)(?:: help: .*)?$", r
 
 
 class Body(typing.NamedTuple):
-    """What a wrong body does, where it stands, the text before and after, and the compiler's errors.
+    """What a wrong body does, its place, the text before and after, and the compiler's errors.
 
     `hidden` are the errors instead where the library of the crate below was made without its private items.
     """

@@ -55,7 +55,7 @@ static int refuses(size_t size) {
     return no;
 }
 
-/* Whether the size is a message; its answer is put behind `answer`. */
+/* Whether the size is a message; its answer is stored at `answer`. */
 static int is_message(size_t size, void **answer) {
     size_t word = size >> 48;
     *answer = 0;

@@ -70,7 +70,7 @@ def tests():
 
 
 def missing(found):
-    """Each test of the three kinds that stands in a crate's sources and in no program of that crate."""
+    """Each test of the three kinds that is in a crate's sources and in no program of that crate."""
     for crate in sorted(TOP.glob("crates/*")):
         ran = {test.split("::")[-1] for program, test in found if program.parents[1] == crate}
         for source in sorted(crate.glob("src/**/*.rt")):

@@ -1,4 +1,4 @@
-//! Calls that may not allocate. The library that refuses memory reports a call that does.
+//! Calls that may not allocate: the library that refuses memory reports one that does.
 
 use crate::play::{Ask, Request, Row, Want, assert_none_wrong, first_wrong_without_requests};
 use rart::script::run;
@@ -98,7 +98,11 @@ static INTO_FREE_SLOTS: [Row<'static>; 8] = [
 fn nodes_with_free_slots_make_no_request(rt: HostRuntime) {
     assert_none_wrong(
         &rt,
-        first_wrong_without_requests::<ArrayKey<16>>(rt.alloc(), &FREE_SLOT_IN_EACH_KIND, &INTO_FREE_SLOTS),
+        first_wrong_without_requests::<ArrayKey<16>>(
+            rt.alloc(),
+            &FREE_SLOT_IN_EACH_KIND,
+            &INTO_FREE_SLOTS,
+        ),
     );
 }
 

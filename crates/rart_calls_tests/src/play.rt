@@ -22,7 +22,7 @@ pub enum Ask<'a> {
     Insert(&'a str, u64),
     TryInsert(&'a str, u64),
     InsertNew(&'a str, u64),
-    /// Writes the value through the loan of the stored one.
+    /// Writes the value through a borrow of the stored one.
     Overwrite(&'a str, u64),
     Remove(&'a str),
     Delete(&'a str),

@@ -1,8 +1,8 @@
 //! Edits and walks with ample memory.
 
 use super::refused_in_turn::{
-    EVERY_CALL, FOUR_CAPACITIES, GROWTH, GROWTH_BY_NEW_KEYS, LISTS, SHRINKING, SHRINKING_BY_DELETION,
-    SPLITS,
+    EVERY_CALL, FOUR_CAPACITIES, GROWTH, GROWTH_BY_NEW_KEYS, LISTS, SHRINKING,
+    SHRINKING_BY_DELETION, SPLITS,
 };
 use crate::play::{assert_none_wrong, first_wrong, first_wrong_in_run};
 use rart::ArrayKey;

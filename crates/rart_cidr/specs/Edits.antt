@@ -1,4 +1,4 @@
--- What edits of a table answer, and what they leave: of its routes, and of its strides.
+-- What edits of a table return, and what follows of its routes and of its strides.
 use Rattle.std.specs.Prelude.{◌≡◌, ◌≢◌, ◌<◌, ◌≤◌, ◌⊎◌, ℕ, List, [], length, Option, Some, None, Result, Ok, Err}
 use Rattle.rart_keys.specs.SortedMap.{lookup, put, without}
 use Rattle.rart_nodes.specs.declared.refused.Refused.{Refused}
@@ -14,16 +14,16 @@ module _ {T : Type 0} where
   MayRefuseRoute routes net Full = (lookup net routes ≡ None) × (length routes ≡ MAX_PAIRS)
   MayRefuseRoute routes net Memory = (lookup net routes ≡ None) × (length routes < MAX_PAIRS) × (routes ≢ [])
 
-  -- the network has the target, and the old one is returned; a full table takes no new network. On Err the target comes
-  -- back, and no route changes
+  -- the network has the target, and the old one is returned; a full table takes no new network. On Err the target is
+  -- returned, and no route changes
   abbrev pub InsertsRoute : List ℕ → T → List (List ℕ × T) → List (List ℕ × T) → Result (Option T) (Refused T) → Type 0
   InsertsRoute net target old new (Ok was) = (was ≡ lookup net old) × (length old ≡ MAX_PAIRS → lookup net old ≢ None)
       × (new ≡ put net target old)
   InsertsRoute net target old new (Err refused) = (refused.value ≡ target) × MayRefuseRoute old net refused.error
       × (new ≡ old)
 
-  -- the network has no target, and the old one is returned. On Err, which only a stored network of a
-  -- table of five routes or more meets, no route changes
+  -- the network has no target, and the old one is returned. An Err needs a stored network and a
+  -- table of five routes or more, and no route changes
   abbrev pub RemovesRoute : List ℕ → List (List ℕ × T) → List (List ℕ × T) → Result (Option T) TreeError → Type 0
   RemovesRoute net old new (Ok was) = (was ≡ lookup net old) × (new ≡ without net old)
   RemovesRoute net old new (Err error) = (error ≡ Memory) × (lookup net old ≢ None) × (5 ≤ length old) × (new ≡ old)
@@ -52,7 +52,7 @@ module _ {T : Type 0} where
   TakesFrom o k old new result = (s : List (List ℕ × T)) → lookup o old ≡ Some s → (n : List (List ℕ × T))
       × (new ≡ put o n old) × Removes k s n result
 
-  -- the stride at o loses the target at k; a refusal needs five strides, or a stride of five targets
+  -- the target at k is removed from the stride at o; a refusal needs five strides, or a stride of five targets
   abbrev pub TakesTarget : List ℕ → List ℕ → List (List ℕ × List (List ℕ × T)) → List (List ℕ × List (List ℕ × T))
       → Result (Option T) TreeError → Type 0
   TakesTarget o k old new (Ok None) = (lookup k (stride_at o old) ≡ None) × (new ≡ old)

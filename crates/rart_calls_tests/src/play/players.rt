@@ -131,7 +131,7 @@ fn sweep_all<K: KeyTrait + Drop>(alloc: Global, rows: &[Row<'_>], style: Style) 
 }
 
 /// Plays the rows in each form, each call with its requests refused in turn: a refused call changes nothing, and after
-/// each row the tree is as one that met no refusal.
+/// each row the tree is as one whose requests were all granted.
 pub fn first_wrong_refused<K: KeyTrait + Drop>(alloc: Global, rows: &[Row<'_>]) -> Option<usize> {
     for form in FORMS {
         let failed = sweep_all::<K>(

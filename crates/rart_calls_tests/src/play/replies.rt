@@ -26,7 +26,9 @@ where
         (Reply::Pairs(found), Want::Pairs(pairs)) => are_pairs(found.as_slice(), pairs, spelling),
         (Reply::Values(found), Want::Values(values)) => found.as_slice() == *values,
         (Reply::Len(found), Want::Len(count)) => found == count,
-        (Reply::Stats(found), Want::Counts(counts, capacities)) => is_counted(found, counts, capacities),
+        (Reply::Stats(found), Want::Counts(counts, capacities)) => is_counted(
+            found, counts, capacities,
+        ),
         _ => false,
     }
 }

@@ -317,7 +317,7 @@ fn holds(values: &Values, count: u8, all: bool) -> bool {
     values.len() == usize::from(count).wrapping_sub(usize::from(!all))
 }
 
-// Writes 99 at byte 2 and removes it. What is said, and how often it was called back.
+// Writes 99 at byte 2 and removes it. What is returned, and how often the callback was called.
 fn write_and_remove(
     values: &mut Values,
     by_value: bool,

@@ -1,4 +1,4 @@
-//! Intersections of nodes of every two widths, key by key, and of trees whose values have two types.
+//! Intersections of nodes of every two capacities, key by key, and of trees whose values have two types.
 
 use crate::joins::rows::{Triple, is_intersection};
 use rart::{AdaptiveRadixTree, KeyTrait};
@@ -82,7 +82,7 @@ fn gives_multiples_of_both(left: &Tree, right: &Tree, one: u8, other: u8) -> boo
 }
 
 // Of 1 there are 256 children, of 6 there are 43, of 17 sixteen, and of 64 four.
-const WIDTHS: [u8; 4] = [1, 6, 17, 64];
+const STEPS: [u8; 4] = [1, 6, 17, 64];
 
 fn gives_beside(alloc: Global, left: &Tree, one: u8, other: u8) -> bool {
     match multiples(alloc, other) {
@@ -91,9 +91,9 @@ fn gives_beside(alloc: Global, left: &Tree, one: u8, other: u8) -> bool {
     }
 }
 
-// The first width beside which a node fails, if there is one.
+// The first capacity beside which a node fails, if there is one.
 fn first_wrong_beside(alloc: Global, left: &Tree, one: u8) -> Option<u8> {
-    for other in WIDTHS {
+    for other in STEPS {
         if !gives_beside(alloc, left, one, other) {
             return Some(other);
         }
@@ -102,8 +102,8 @@ fn first_wrong_beside(alloc: Global, left: &Tree, one: u8) -> Option<u8> {
 }
 
 #[test]
-fn nodes_of_every_two_widths(rt: HostRuntime) {
-    for one in WIDTHS {
+fn nodes_of_every_two_capacities(rt: HostRuntime) {
+    for one in STEPS {
         let left = multiples(rt.alloc(), one).expect(&rt, "a tree");
         assert_eq!(rt; first_wrong_beside(rt.alloc(), &left, one), None, "{one}");
     }
