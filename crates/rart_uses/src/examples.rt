@@ -1,5 +1,6 @@
 //! The lines that the documentation of the map's calls shows.
 
+use crate::cursor::double_all;
 use crate::numbers::remove_earliest;
 use crate::readings::Readings;
 use crate::rows;
@@ -100,10 +101,24 @@ fn print_edits(rt: &impl Print, alloc: Global) -> io::Result<()> {
     }
 }
 
+fn print_doubled(rt: &impl Print, readings: &mut Readings) -> io::Result<()> {
+    match double_all(readings) {
+        Ok(()) => println!(rt;
+            "doubled: {:?} to {:?}",
+            first_reading(readings),
+            last_reading(readings)
+        ),
+        Err(_) => println!(rt; "out of memory"),
+    }
+}
+
 /// Prints what the lines return.
 pub fn print_examples(rt: &impl Print, alloc: Global) -> io::Result<()> {
     match rows::readings(alloc) {
-        Ok(readings) => print_ends(rt, &readings)?,
+        Ok(mut readings) => {
+            print_ends(rt, &readings)?;
+            print_doubled(rt, &mut readings)?;
+        }
         Err(_) => println!(rt; "out of memory")?,
     }
     print_edits(rt, alloc)

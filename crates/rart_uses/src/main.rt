@@ -4,6 +4,7 @@
 #![tactic(auto)]
 
 mod completions;
+mod cursor;
 mod examples;
 mod hops;
 mod numbers;
