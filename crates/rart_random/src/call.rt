@@ -22,11 +22,16 @@ pub struct Call {
 }
 
 /// How many kinds of calls there are.
-pub const KINDS: u64 = 41;
+pub const KINDS: u64 = 47;
+
+/// Whether the call makes a tree of a list.
+pub fn takes_a_list(call: &Call) -> bool {
+    call.kind == 32 || call.kind == 33 || call.kind == 40
+}
 
 /// Whether the call makes a tree of its own.
 pub fn makes_a_tree(call: &Call) -> bool {
-    call.kind == 32 || call.kind == 33 || call.kind == 40
+    takes_a_list(call) || call.kind == 46
 }
 
 // What is done mostly while a tree grows, shrinks, and in between.

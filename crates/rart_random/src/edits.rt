@@ -5,6 +5,7 @@ ghost use Rattle.rart.specs.Updates.{written_slot};
 use crate::call::Call;
 use crate::numbers::{mix, sum_if, sum_of};
 use crate::reads::ends;
+use crate::retains::retain;
 use crate::sides::{Tree, mix_key};
 use rart::{
     KeyTrait, NotInserted, Refused, Slot, SlotUpdate, TreeError, TryInsertError, TryUpdateError,
@@ -239,6 +240,7 @@ pub fn edit<K: KeyTrait + Drop>(tree: &mut Tree<K>, key: &K, call: &Call) -> Opt
         6 if writes_below(call) => Some(overwrite_below(tree, key, call.value)),
         6 => overwrite(tree, key, call.value),
         7 => update(tree, key, call),
+        41 => retain(tree, call),
         _ => try_update(tree, key, call),
     }
 }

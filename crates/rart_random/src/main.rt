@@ -15,14 +15,18 @@ mod loads;
 mod model;
 mod model_edits;
 mod model_reads;
+mod model_turns;
 mod model_views;
 mod numbers;
+mod owned;
 mod play;
 mod reads;
+mod retains;
 mod routes;
 mod shape;
 mod sides;
 mod text;
+mod turns;
 mod views;
 mod world;
 

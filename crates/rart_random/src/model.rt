@@ -116,6 +116,18 @@ impl Model {
         None
     }
 
+    /// Puts a pair at a place.
+    pub fn set(&mut self, place: usize, pair: Pair) {
+        if let Some(old) = self.pairs.get_mut(place) {
+            *old = pair;
+        }
+    }
+
+    /// Removes the pairs from a place on.
+    pub fn cut(&mut self, len: usize) {
+        self.pairs.truncate(len);
+    }
+
     /// Removes all pairs, and returns how many there were.
     pub fn clear(&mut self) -> u64 {
         let count = self.pairs.len();

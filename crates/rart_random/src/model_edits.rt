@@ -4,6 +4,7 @@ use crate::edits::{clears, pops, removes, removes_below, takes_below, writes, wr
 use crate::model::Model;
 use crate::model_reads::ends;
 use crate::numbers::{mix, mix_pair, sum_if, sum_of};
+use crate::retains::wanted_retain;
 use crate::text::Text;
 
 fn insert_new(model: &mut Model, key: &Text, value: u64) -> Option<u64> {
@@ -112,6 +113,7 @@ pub fn edit(model: &mut Model, key: &Text, call: &Call) -> u64 {
         6 if writes_below(call) => overwrite_below(model, key, call.value),
         6 => overwrite(model, key, call.value),
         7 => update(model, key, call),
+        41 => wanted_retain(model, call),
         _ => try_update(model, key, call),
     }
 }

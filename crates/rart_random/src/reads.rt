@@ -44,8 +44,8 @@ pub fn ends<K: KeyTrait + Drop>(tree: &Tree<K>) -> u64 {
     )
 }
 
-// The sum with one pair more.
-fn mix_found<K: KeyTrait + Drop>(sum: u64, found: (K, &u64)) -> u64 {
+/// The sum with one pair more.
+pub fn mix_found<K: KeyTrait + Drop>(sum: u64, found: (K, &u64)) -> u64 {
     mix(mix_key(sum, &found.0), *found.1)
 }
 
@@ -105,8 +105,8 @@ pub fn most_of(call: &Call) -> u64 {
     }
 }
 
-// What a walk that ended is worth, whose next answer is this.
-fn ended(is_over: bool, sum: u64) -> u64 {
+/// What a walk that ended is worth, whose next answer is this.
+pub fn ended(is_over: bool, sum: u64) -> u64 {
     if is_over { sum } else { WRONG }
 }
 

@@ -1,14 +1,17 @@
 //! Two trees and a route table, each beside its model, and one call made on both.
-use crate::call::{Call, makes_a_tree};
+use crate::call::{Call, takes_a_list};
 use crate::grown::{grow, wanted_grow};
 use crate::loads::{list_of, load, wanted_load};
 use crate::model::{Model, Pair};
 use crate::numbers::low_byte;
+use crate::owned::{owned, wanted_owned};
 use crate::routes::{below, call_table, shape_of_routes, wanted_below, wanted_of_table};
 use crate::shape::{shape_in, shape_of};
 use crate::sides::{Side, key_of};
 use crate::text::Text;
-use crate::{edits, model_edits, model_reads, model_views, reads, views};
+use crate::{
+    edits, model_edits, model_reads, model_turns, model_views, reads, retains, turns, views,
+};
 use rart::KeyTrait;
 use rart::routes::RouteTable;
 use rart_test_tools::refusals::{refuse, was_refused};
@@ -46,7 +49,7 @@ fn longer(key: &Text, choice: u64) -> Text {
 fn shaped(key: &Text, call: &Call, most: usize) -> Text {
     match call.kind {
         11 | 13 | 14 | 27 | 38 => longer(key, call.value).cut(most),
-        18..22 | 25 | 39 => {
+        18..22 | 25 | 39 | 44 => {
             let len = (key.len() as u64).saturating_add(1);
             key.cut((call.value >> 24).checked_rem(len).unwrap_or(0) as usize)
         }
@@ -93,6 +96,8 @@ fn read<K: KeyTrait + Drop>(
         9..16 => Some(reads::look(&one.tree, key, &words.probe, call)),
         16..24 => reads::walk(&one.tree, key, end, call),
         24..28 => views::view(&one.tree, key, end, call),
+        42..46 => turns::turn(&one.tree, key, end, call),
+        46 => owned(&one.tree, call),
         _ => views::join(&one.tree, &other.tree, call.kind),
     }
 }
@@ -102,8 +107,18 @@ fn wanted_read(one: &Model, other: &Model, words: &Words, call: &Call) -> u64 {
         9..16 => model_reads::look(one, &words.key, &words.probe, call),
         16..24 => model_reads::walk(one, &words.key, &words.end, call),
         24..28 => model_views::view(one, &words.key, &words.end, call),
+        42..46 => model_turns::turn(one, &words.key, &words.end, call),
+        46 => wanted_owned(one, call),
         _ => model_views::join(one, other, call.kind),
     }
+}
+
+fn note_refusal<K: KeyTrait + Drop>(side: &mut Side<K>, key: &Text, call: &Call) -> bool {
+    if call.kind == 41 {
+        return retains::note_refusal(&side.tree, &mut side.model, call);
+    }
+    model_edits::note_refusal(&mut side.model, key, call);
+    true
 }
 
 impl<K: KeyTrait + Drop> World<K> {
@@ -157,7 +172,7 @@ impl<K: KeyTrait + Drop> World<K> {
     }
 
     fn list(&self, call: &Call) -> Vec<Pair> {
-        if !makes_a_tree(call) {
+        if !takes_a_list(call) {
             return Vec::new(self.alloc);
         }
         match list_of(self.alloc, &self.first.model, call) {
@@ -175,8 +190,8 @@ impl<K: KeyTrait + Drop> World<K> {
         call: &Call,
     ) -> Option<u64> {
         match call.kind {
-            0..9 if call.on_second => edits::edit(&mut self.second.tree, key, call),
-            0..9 => edits::edit(&mut self.first.tree, key, call),
+            0..9 | 41 if call.on_second => edits::edit(&mut self.second.tree, key, call),
+            0..9 | 41 => edits::edit(&mut self.first.tree, key, call),
             32 | 33 => load::<K>(self.alloc, list),
             40 => grow::<K>(self.alloc, list, call),
             34..40 => call_table(&mut self.routes, key, &words.probe, call),
@@ -195,8 +210,12 @@ impl<K: KeyTrait + Drop> World<K> {
     // The sum that the models give.
     fn wanted(&mut self, words: &Words, list: &[Pair], call: &Call) -> u64 {
         match call.kind {
-            0..9 if call.on_second => model_edits::edit(&mut self.second.model, &words.key, call),
-            0..9 => model_edits::edit(&mut self.first.model, &words.key, call),
+            0..9 | 41 if call.on_second => model_edits::edit(
+                &mut self.second.model,
+                &words.key,
+                call,
+            ),
+            0..9 | 41 => model_edits::edit(&mut self.first.model, &words.key, call),
             32 | 33 => wanted_load(self.alloc, list),
             40 => wanted_grow(self.alloc, list, call),
             34..40 => wanted_of_table(&mut self.route_model, &words.key, &words.probe, call),
@@ -205,12 +224,13 @@ impl<K: KeyTrait + Drop> World<K> {
         }
     }
 
-    // What a refused call leaves in the model: a refused removal by an update keeps the value that was written.
-    fn note_refusal(&mut self, words: &Words, call: &Call) {
+    // Leaves in the model what a refused call leaves, and returns whether it may: a refused removal by an update keeps
+    // the value that was written, and a refused `retain` what it did before.
+    fn note_refusal(&mut self, words: &Words, call: &Call) -> bool {
         if call.on_second {
-            model_edits::note_refusal(&mut self.second.model, &words.key, call);
+            note_refusal(&mut self.second, &words.key, call)
         } else {
-            model_edits::note_refusal(&mut self.first.model, &words.key, call);
+            note_refusal(&mut self.first, &words.key, call)
         }
     }
 
@@ -225,8 +245,7 @@ impl<K: KeyTrait + Drop> World<K> {
                 return false;
             }
             if was {
-                self.note_refusal(words, call);
-                if !self.is_right() {
+                if !self.note_refusal(words, call) || !self.is_right() {
                     return false;
                 }
                 answer = self.answer(words, list, call);
