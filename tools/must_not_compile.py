@@ -183,7 +183,7 @@ BODIES = (
         ("error[private-field]: field `root` of struct `Seen` is private",),
     ),
     Body(
-        "the map asks a shared tree for its top",
+        "the map reads the top of a shared tree",
         *OF_TREE,
         "self.seen::<Visits>().top().and_then(|top| top.enter(&mut Visits::new()).value())",
         (
