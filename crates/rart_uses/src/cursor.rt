@@ -60,8 +60,8 @@ impl<'a, K: KeyTrait + Drop, V> CursorMut<'a, K, V> {
         Ok(true)
     }
 
-    /// Returns a mutable borrow of the value at the cursor, or `None` before the first pair. It does not allocate. After
-    /// the borrow ends, only that value can have changed.
+    /// Returns a mutable borrow of the value at the cursor, or `None` before the first pair. It does not allocate.
+    /// After the borrow ends, only that value can have changed.
     pub fn value_mut(&mut self) -> Option<&mut V>
         ensures* writes_back { sem 𝓛 (lends_value K.row V.row K.PartialType.row K.KeyTrait
             K.PartialType.Partial self.entry result) }

@@ -131,7 +131,8 @@ static LETTERS: [&str; 7] = ["a\0", "b\0", "c\0", "d\0", "e\0", "ea\0", "eb\0"];
 
 static OPEN: [&str; 3] = ["a\0", "b", "c\0"];
 
-// A refused migration says `Memory`, and one whose requests are all granted gives the whole tree; whether a request was refused.
+// A refused migration says `Memory`, and one whose requests are all granted gives the whole tree; whether a request was
+// refused.
 fn is_refused_well(alloc: Global, old: &Tree, at: usize) -> Option<bool> {
     refuse(alloc, at);
     let made = Tree::drop_closing_zeros(old);
