@@ -253,6 +253,18 @@ def kill(check):
         pass
 
 
+def is_checked(crate, group):
+    """Returns whether a process of the group checks the crate itself, and not a library below it."""
+    for page in pathlib.Path("/proc").glob("[0-9]*"):
+        try:
+            words = (page / "cmdline").read_bytes().split(b"\0")
+            if os.getpgid(int(page.name)) == group and crate.encode() in words:
+                return True
+        except OSError:
+            continue
+    return False
+
+
 def compiler_output(folder):
     """Returns what the check of the crate in `folder` prints until it ends, begins a proof, or its time is over."""
     command = ["rt", "check", "--only", "", "--jobs", "1"]
@@ -263,7 +275,7 @@ def compiler_output(folder):
         limit.start()
         for line in check.stdout:
             lines.append(line)
-            if ACCEPTED.match(line):
+            if ACCEPTED.match(line) and is_checked(folder.name, check.pid):
                 kill(check)
                 break
         check.wait()
