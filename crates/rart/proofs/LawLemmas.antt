@@ -2,7 +2,7 @@
 use Rattle.std.proofs.Common.{◌≡◌, ℕ, List, ap, sym, ◌∙◌}
 use Rattle.rart_keys.specs.SortedMap.{keys_of, put, without}
 use Rattle.rart_nodes.specs.shapes.Shape.{HasShape, NodeRecord}
-use Rattle.rart_nodes.specs.statistics.Statistics.{Statistics, stats_of}
+use Rattle.rart_nodes.specs.stats.Stats.{Statistics, stats_of}
 use Rattle.rart.specs.LawAnswers.{IsCounted}
 use Rattle.rart.specs.MapAndShape.{MapAndShape}
 

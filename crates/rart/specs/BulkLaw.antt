@@ -3,7 +3,7 @@ use Rattle.std.specs.Prelude.{◌≡◌, ◌≢◌, ◌<◌, ◌++◌, ◌∷◌
 use Rattle.rart_keys.specs.BulkLists.{put_all}
 use Rattle.rart_keys.specs.SortedMap.{keys_of}
 use Rattle.rart_parts.specs.declared.error.TreeError.{TreeError}
-use Rattle.rart.specs.Refusals.{MayLackStatistics, MayRefuseInsert}
+use Rattle.rart.specs.Refusals.{MayLackStats, MayRefuseInsert}
 use Rattle.rart.specs.declared.bulk.BulkError.{BulkError}
 use Rattle.rart.specs.declared.bulk.BulkError.TheVariants.{Memory, Full, Unsorted}
 use Rattle.rart.specs.declared.laws.bulk_loads.RefusedStep.{RefusedStep}
@@ -26,4 +26,4 @@ module _ {V : Type 0} where
   abbrev pub RefusesStep : List (List ℕ × V) → List (List ℕ × V) → RefusedStep → Type 0
   RefusesStep sorted shuffled (Load error) = MayRefuseLoad sorted error
   RefusesStep sorted shuffled (Insertion error) = MayRefuseOneOf shuffled error
-  RefusesStep sorted shuffled (Statistics error) = MayLackStatistics (keys_of sorted) error
+  RefusesStep sorted shuffled (Statistics error) = MayLackStats (keys_of sorted) error

@@ -64,8 +64,8 @@ error_of_step (step.Insertion error) = error_of_tree error
 error_of_step (step.Statistics error) = error_of_tree error
 
 abbrev pub error_of_call : {V : Type 0} → RefusedCall V → Error
-error_of_call (call.StatisticsBefore error) = error_of_tree error
+error_of_call (call.StatsBefore error) = error_of_tree error
 error_of_call (call.Insertion refused) = error_of_tree refused.error
-error_of_call (call.StatisticsBetween error) = error_of_tree error
+error_of_call (call.StatsBetween error) = error_of_tree error
 error_of_call (call.Removal error) = error_of_tree error
-error_of_call (call.StatisticsAfter error) = error_of_tree error
+error_of_call (call.StatsAfter error) = error_of_tree error

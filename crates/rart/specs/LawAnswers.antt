@@ -2,13 +2,13 @@
 use Rattle.std.specs.Prelude.{◌≡◌, ℕ, List, Err}
 use Rattle.rart_keys.specs.SortedMap.{keys_of, put}
 use Rattle.rart_nodes.specs.shapes.Shape.{HasShape, NodeRecord}
-use Rattle.rart_nodes.specs.statistics.Statistics.{Statistics, stats_of}
+use Rattle.rart_nodes.specs.stats.Stats.{Statistics, stats_of}
 use Rattle.rart.specs.Edits.{Inserts, Removes}
 use Rattle.rart.specs.MapAndShape.{MapAndShape}
-use Rattle.rart.specs.Refusals.{MayLackStatistics}
+use Rattle.rart.specs.Refusals.{MayLackStats}
 use Rattle.rart.specs.declared.laws.RefusedCall.{RefusedCall}
-use Rattle.rart.specs.declared.laws.RefusedCall.TheVariants.{StatisticsBefore, Insertion, StatisticsBetween, Removal}
-use Rattle.rart.specs.declared.laws.RefusedCall.TheVariants.{StatisticsAfter}
+use Rattle.rart.specs.declared.laws.RefusedCall.TheVariants.{StatsBefore, Insertion, StatsBetween, Removal}
+use Rattle.rart.specs.declared.laws.RefusedCall.TheVariants.{StatsAfter}
 
 -- the statistics of a tree with these keys: their nodes are the ones of the keys' shape
 abbrev pub IsCounted : List (List ℕ) → Statistics → Type 0
@@ -21,11 +21,11 @@ module _ {V : Type 0} where
 
   -- the call that was refused, for a reason that the keys allow, and the state after it
   abbrev pub RefusesCall : List ℕ → V → MapAndShape V → MapAndShape V → RefusedCall V → Type 0
-  RefusesCall key value old new (StatisticsBefore error) = MayLackStatistics (keys_of old.pairs) error × (new ≡ old)
+  RefusesCall key value old new (StatsBefore error) = MayLackStats (keys_of old.pairs) error × (new ≡ old)
   RefusesCall key value old new (Insertion refused) = Inserts key value old.pairs new.pairs (Err refused) × (new ≡ old)
-  RefusesCall key value old new (StatisticsBetween error) = MayLackStatistics (keys_of new.pairs) error
+  RefusesCall key value old new (StatsBetween error) = MayLackStats (keys_of new.pairs) error
       × HoldsPair key value old new
   RefusesCall key value old new (Removal error) = Removes key (put key value old.pairs) new.pairs (Err error)
       × HoldsPair key value old new
-  RefusesCall key value old new (StatisticsAfter error) = MayLackStatistics (keys_of old.pairs) error
+  RefusesCall key value old new (StatsAfter error) = MayLackStats (keys_of old.pairs) error
       × (new.pairs ≡ old.pairs) × (new.nodes ≡ old.nodes)

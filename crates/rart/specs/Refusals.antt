@@ -30,8 +30,8 @@ abbrev pub MayRefuseTakePrefix : {V : Type 0} → List (List ℕ × V) → List 
 MayRefuseTakePrefix map prefix error = (error ≡ Memory) × TakeAllocates prefix map
 
 -- the statistics of these keys may be refused for this reason: there are at least two keys
-abbrev pub MayLackStatistics : List (List ℕ) → TreeError → Type 0
-MayLackStatistics keys error = (error ≡ Memory) × (2 ≤ length keys)
+abbrev pub MayLackStats : List (List ℕ) → TreeError → Type 0
+MayLackStats keys error = (error ≡ Memory) × (2 ≤ length keys)
 
 -- the offered value is returned: the key is stored, or the insertion failed
 abbrev pub IsNotInserted : {V : Type 0} → List (List ℕ × V) → List ℕ → V → NotInserted V → Type 0

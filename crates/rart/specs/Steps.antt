@@ -5,11 +5,11 @@ use Rattle.rart_keys.specs.Filters.{below, longest_match, matches}
 use Rattle.rart_keys.specs.Ranges.{between, bound_in}
 use Rattle.rart_keys.specs.SortedMap.{keys_of, lookup, values_of}
 use Rattle.rart_nodes.specs.shapes.Shape.{HasShape, NodeRecord}
-use Rattle.rart_nodes.specs.statistics.Statistics.{stats_in, stats_of}
+use Rattle.rart_nodes.specs.stats.Stats.{stats_in, stats_of}
 use Rattle.rart_nodes.specs.declared.stats.TreeStats.{TreeStats}
 use Rattle.rart_parts.specs.declared.error.TreeError.TheVariants.{Memory}
 use Rattle.rart.specs.Edits.{Deletes, Inserts, InsertsNew, Removes}
-use Rattle.rart.specs.Refusals.{MayLackStatistics}
+use Rattle.rart.specs.Refusals.{MayLackStats}
 use Rattle.rart.specs.Updates.{IsTryUpdate, IsUpdate, left_by}
 use Rattle.rart.specs.declared.tree.update.TryUpdateError.TheVariants as try_update
 use Rattle.rart_nodes.specs.declared.slot.UpdateError.TheVariants as update_error
@@ -24,7 +24,7 @@ abbrev pub pairs_in : {K V : Type 0} → (K → List ℕ) → List (K × V) → 
 pairs_in bytes pairs = map (λ p. (bytes p.0, p.1)) pairs
 
 -- the statistics of these keys, by the nodes of their shape
-pub record AreStatistics (keys : List (List ℕ)) (stats : TreeStats) : Type 0 where
+pub record AreStats (keys : List (List ℕ)) (stats : TreeStats) : Type 0 where
   pub nodes : List (List ℕ × NodeRecord)
   pub shape : HasShape keys nodes
   pub numbers : stats_in stats ≡ stats_of keys nodes
@@ -82,8 +82,8 @@ IsStep sure bytes m call.Values (reply.Values values) n = (values.items ≡ valu
 IsStep sure bytes m call.Values (reply.Refused error) n = (error ≡ Memory) × (m ≢ []) × (n ≡ m)
 IsStep sure bytes m call.Len (reply.Len count) n = (count ≡ length m) × (n ≡ m)
 IsStep sure bytes m call.IsEmpty (reply.Done empty) n = (empty ≡ (length m == 0)) × (n ≡ m)
-IsStep sure bytes m call.Stats (reply.Stats stats) n = AreStatistics (keys_of m) stats × (n ≡ m)
-IsStep sure bytes m call.Stats (reply.Refused error) n = MayLackStatistics (keys_of m) error × (n ≡ m)
+IsStep sure bytes m call.Stats (reply.Stats stats) n = AreStats (keys_of m) stats × (n ≡ m)
+IsStep sure bytes m call.Stats (reply.Refused error) n = MayLackStats (keys_of m) error × (n ≡ m)
 -- no other reply comes
 IsStep sure bytes m c r n = ⊥
 

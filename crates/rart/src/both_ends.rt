@@ -1,4 +1,4 @@
-//! An iterator over all pairs of a tree from both ends. It counts what is left.
+//! An iterator over all pairs of a tree from both ends, which counts what is left.
 ghost use Rattle.std.specs.Prelude.{◌≡◌, ◌≤◌, ◌++◌, [], ◌∷◌, length, Some, IfErr, IfOk, IfSome};
 ghost use Rattle.std.specs.Iterator.{UpTo, YieldsFirstBy, YieldsLastBy, item_count};
 ghost use Rattle.std.specs.Iterator.SizeHint.{IsWithinCount};

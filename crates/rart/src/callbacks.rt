@@ -1,14 +1,15 @@
 //! Walks that call a callback: with the keys that begin a probe, and with the values of the keys with a prefix.
-//!
-//! Each call requires that its callback is callable with each item in turn, as the earlier calls leave it. A callback
-//! without a condition always is; the caller proves a condition. The caller of a `_by_ref` form keeps its callback, in
-//! the state that the last call left, but a proof knows nothing of what a closure borrows. To count or to collect use
-//! the fold, which returns its state.
+
+// Each call requires that its callback is callable with each item in turn, as the earlier calls leave it. A callback
+// without a condition always is; the caller proves a condition. The caller of a `_by_ref` form keeps its callback, in
+// the state that the last call left, but a proof knows nothing of what a closure borrows. To count or to collect use
+// the fold, which returns its state.
+
 ghost use Rattle.std.specs.Prelude.{◌≡◌, IfErr, IfOk, OnErr, OnOk};
 ghost use Rattle.rart_keys.specs.Filters.{matches};
 ghost use Rattle.rart_nodes.specs.walks.BelowPrefix.{values_below};
 ghost use Rattle.rart_nodes.specs.walks.Calls.{MayLackMemory};
-ghost use Rattle.rart_nodes.specs.walks.Matched.{CanMatch, MatchedEach, MatchesEach};
+ghost use Rattle.rart_nodes.specs.walks.Matched.{CanMatch, MatchesEachByValue, MatchesEach};
 ghost use Rattle.rart_nodes.specs.walks.Shown.{CanFold, CanShow, FoldsEachByValue, FoldsEach, ShowsEachByValue};
 ghost use Rattle.rart_nodes.specs.walks.Shown.{ShowsEach};
 ghost use Rattle.rart_nodes.specs.walks.Tried.{CanTry, EndsVisitByValue, EndsVisit, MayStopForMemory};
@@ -33,7 +34,7 @@ impl<K: KeyTrait, V> AdaptiveRadixTree<K, V> {
     /// Calls `f` as `prefix_match_for_each_by_ref_bytes` does, and drops it.
     pub fn prefix_match_for_each_bytes<F: FnMut(&[u8], &V) + Drop>(&self, probe: &[u8], f: F)
         requires callable { CanMatch F.FnMut f (matches probe.now self.now.pairs) }
-        ensures { MatchedEach F.FnMut f (matches probe.now self.now.pairs) }
+        ensures { MatchesEachByValue F.FnMut f (matches probe.now self.now.pairs) }
     {
         self.seen()
             .prefix_match_for_each_bytes_counted(probe, f, &mut Visits::new())
@@ -65,7 +66,7 @@ impl<K: KeyTrait, V> AdaptiveRadixTree<K, V> {
     /// Calls `f` as `prefix_match_for_each_by_ref_k` does, and drops it.
     pub fn prefix_match_for_each_k<F: FnMut(&[u8], &V) + Drop>(&self, probe: &K, f: F)
         requires callable { CanMatch F.FnMut f (matches (K.bytes probe.now) self.now.pairs) }
-        ensures { MatchedEach F.FnMut f (matches (K.bytes probe.now) self.now.pairs) }
+        ensures { MatchesEachByValue F.FnMut f (matches (K.bytes probe.now) self.now.pairs) }
     {
         self.seen()
             .prefix_match_for_each_k_counted(probe, f, &mut Visits::new())
@@ -76,7 +77,7 @@ impl<K: KeyTrait, V> AdaptiveRadixTree<K, V> {
     where
         K: Drop,
         requires callable { CanMatch F.FnMut f (matches (K.bytes probe) self.now.pairs) }
-        ensures { MatchedEach F.FnMut f (matches (K.bytes probe) self.now.pairs) }
+        ensures { MatchesEachByValue F.FnMut f (matches (K.bytes probe) self.now.pairs) }
     {
         self.prefix_match_for_each_k(&probe, f)
     }

@@ -218,10 +218,10 @@ impl<V: Drop> From<RefusedCall<V>> for Error {
     fn from(error: RefusedCall<V>) -> Error {
         match error {
             RefusedCall::Insertion(refused) => Error::from(refused),
-            RefusedCall::StatisticsBefore(error)
-            | RefusedCall::StatisticsBetween(error)
+            RefusedCall::StatsBefore(error)
+            | RefusedCall::StatsBetween(error)
             | RefusedCall::Removal(error)
-            | RefusedCall::StatisticsAfter(error) => Error::from(error),
+            | RefusedCall::StatsAfter(error) => Error::from(error),
         }
     }
 }

@@ -3,7 +3,7 @@ ghost use Rattle.std.specs.Prelude.{◌≡◌, ◌≢◌, ◌≤◌, length, IfE
 ghost use Rattle.std.specs.Borrow.{sem};
 ghost use Rattle.std.specs.Option.{option_copied};
 ghost use Rattle.rart_keys.specs.SortedMap.{IsAscending, keys_of, lookup, put, values_of, without};
-ghost use Rattle.rart_nodes.specs.statistics.Statistics.{stats_in, stats_of};
+ghost use Rattle.rart_nodes.specs.stats.Stats.{stats_in, stats_of};
 ghost use Rattle.rart_nodes.specs.walks.Calls.{MayLackMemory};
 ghost use Rattle.rart.specs.Edits.{PutOrSame};
 ghost use Rattle.rart.specs.LawAnswers.{IsCounted, RefusesCall};
@@ -42,7 +42,7 @@ pub fn equal_keys_equal_nodes<K: KeyTrait, V, L: KeyTrait, W>(
 /// # Errors
 ///
 /// [`TreeError::Memory`] if an allocation fails, which needs at least two keys.
-pub fn equal_keys_equal_statistics<K: KeyTrait, V, L: KeyTrait, W>(
+pub fn equal_keys_equal_stats<K: KeyTrait, V, L: KeyTrait, W>(
     one: &AdaptiveRadixTree<K, V>,
     other: &AdaptiveRadixTree<L, W>,
 ) -> Result<(TreeStats, TreeStats), TreeError>
@@ -80,9 +80,9 @@ where
     ensures found { IfOk result (λ r. option_copied r.0 ≡ Some value) }
     ensures same_bytes { K.bytes other.now ≡ K.bytes key.now
         → IfOk result (λ r. option_copied r.1 ≡ Some value) }
-    ensures kept { K.bytes other.now ≢ K.bytes key.now
+    ensures elsewhere { K.bytes other.now ≢ K.bytes key.now
         → IfOk result (λ r. option_copied r.1 ≡ lookup (K.bytes other.now) tree.old.pairs) }
-    ensures refused { IfErr result (MayRefuseInsert tree.old.pairs (K.bytes key.now)) }
+    ensures memory { IfErr result (MayRefuseInsert tree.old.pairs (K.bytes key.now)) }
 {
     rart_keys::laws::sorted_map::<V>();
     let inserted = put_in(tree, key, value);
@@ -96,7 +96,7 @@ fn put_in<K: KeyTrait, V: Drop>(
     value: V,
 ) -> Result<(), TreeError>
     ensures pairs { OnOk result (tree.new.pairs ≡ put (K.bytes key.now) value tree.old.pairs) }
-    ensures refused { IfErr result (MayRefuseInsert tree.old.pairs (K.bytes key.now)) }
+    ensures memory { IfErr result (MayRefuseInsert tree.old.pairs (K.bytes key.now)) }
     ensures unchanged { OnErr result (tree.new ≡ tree.old) }
 {
     match tree.insert_k(key, value) {
@@ -167,15 +167,15 @@ pub fn removal_restores<K: KeyTrait, V, L: KeyTrait>(
 #[derive(Drop)]
 pub enum RefusedCall<V> {
     /// The statistics before the insertion. The tree is unchanged.
-    StatisticsBefore(TreeError),
+    StatsBefore(TreeError),
     /// The insertion, with the value that it offered. The tree is unchanged.
     Insertion(Refused<V>),
     /// The statistics between both edits. The pair is stored.
-    StatisticsBetween(TreeError),
+    StatsBetween(TreeError),
     /// The removal. The pair is stored.
     Removal(TreeError),
     /// The statistics after the removal. Pairs and nodes are unchanged.
-    StatisticsAfter(TreeError),
+    StatsAfter(TreeError),
 }
 
 /// Inserts a new key and removes it, which leaves pairs, nodes and statistics unchanged.
@@ -205,7 +205,7 @@ pub fn insert_then_remove<K: KeyTrait, V: Drop>(
     tree.canonical();
     let before = match tree.get_tree_stats() {
         Ok(stats) => stats,
-        Err(error) => return Err(RefusedCall::StatisticsBefore(error)),
+        Err(error) => return Err(RefusedCall::StatsBefore(error)),
     };
     match tree.insert_k(key, value) {
         Ok(_new) => tree.canonical(),
@@ -213,7 +213,7 @@ pub fn insert_then_remove<K: KeyTrait, V: Drop>(
     }
     let between = match tree.get_tree_stats() {
         Ok(stats) => stats,
-        Err(error) => return Err(RefusedCall::StatisticsBetween(error)),
+        Err(error) => return Err(RefusedCall::StatsBetween(error)),
     };
     match tree.remove_k(key) {
         Ok(_value) => tree.canonical(),
@@ -221,6 +221,6 @@ pub fn insert_then_remove<K: KeyTrait, V: Drop>(
     }
     match tree.get_tree_stats() {
         Ok(after) => Ok((before, between, after)),
-        Err(error) => Err(RefusedCall::StatisticsAfter(error)),
+        Err(error) => Err(RefusedCall::StatsAfter(error)),
     }
 }

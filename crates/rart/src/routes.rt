@@ -1,7 +1,8 @@
 //! A route table: a map that is looked up by the longest stored prefix of a probe.
-//!
-//! Contracts see a table as they see a tree: its pairs of prefix and target, ascending by prefix, and the records of
-//! its nodes. It uses the public contracts of the tree alone.
+
+// Contracts see a table as they see a tree: its pairs of prefix and target, ascending by prefix, and the records of its
+// nodes. It uses the public contracts of the tree alone.
+
 ghost use Rattle.std.specs.Prelude.{◌≡◌, ◌*◌, ◌-◌, ◌≤◌, ◌↔◌, [], length, option_map, IfErr, IfOk, IsTrue, OnErr};
 ghost use Rattle.std.specs.Borrow.{sem};
 ghost use Rattle.std.specs.Option.{option_copied};
@@ -168,7 +169,7 @@ impl<K: KeyTrait, T> RouteTable<K, T> {
     /// [`TreeError::Memory`] if the route is stored and the removal fails as one from a tree. The table is then
     /// unchanged.
     pub fn withdraw(&mut self, prefix: &K) -> Result<Option<T>, TreeError>
-        ensures withdraws { Removes (K.bytes prefix.now) self.old.pairs self.new.pairs result }
+        ensures removes { Removes (K.bytes prefix.now) self.old.pairs self.new.pairs result }
         ensures unchanged { OnErr result (self.new ≡ self.old) }
     {
         self.routes.remove_k(prefix)

@@ -176,7 +176,7 @@ fn try_update_by<V: Copy, K: KeyTrait>(
     answer: Result<SlotUpdate<V>, ()>,
 ) -> Result<bool, TryUpdateError<(), V>>
     requires clones { (x y : V) → V.is_clone x y → y ≡ x }
-    ensures called { result ≢ Err Not_cloned
+    ensures calls { result ≢ Err Not_cloned
         → IsTryUpdate (K.bytes key.now) answer
         (left_by written (lookup (K.bytes key.now) tree.old.pairs))
         tree.old.pairs result tree.new.pairs }

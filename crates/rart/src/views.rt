@@ -1,8 +1,9 @@
 //! Walks that lend each key in segments, cut at the branch points: no byte of a key is copied.
-//!
-//! Each call requires that its callback is callable with each item in turn, as the earlier calls leave it. A callback
-//! without a condition always is. The caller of a `_by_ref` form keeps its callback, in the state that the last call
-//! left.
+
+// Each call requires that its callback is callable with each item in turn, as the earlier calls leave it. A callback
+// without a condition always is. The caller of a `_by_ref` form keeps its callback, in the state that the last call
+// left.
+
 ghost use Rattle.std.specs.Prelude.{◌≡◌, IfErr, IfOk, OnErr, OnOk};
 ghost use Rattle.rart_keys.specs.Filters.{longest_match};
 ghost use Rattle.rart_keys.specs.Ranges.{bound_in};
@@ -10,7 +11,8 @@ ghost use Rattle.rart_keys.specs.SortedMap.{keys_of};
 ghost use Rattle.rart_nodes.specs.ranges.Spans.{cut_between};
 ghost use Rattle.rart_nodes.specs.walks.BelowPrefix.{MayLackMatch, cut_below};
 ghost use Rattle.rart_nodes.specs.walks.Cut.{cut_pairs};
-ghost use Rattle.rart_nodes.specs.walks.Viewed.{CanSeeFound, CanShowFound, CanView, SeesFound, ShowsFound, ViewedEach};
+ghost use Rattle.rart_nodes.specs.walks.Viewed.{CanSeeFound, CanShowFound, CanView, SeesFound, ShowsFound};
+ghost use Rattle.rart_nodes.specs.walks.Viewed.{ViewsEachByValue};
 ghost use Rattle.rart_nodes.specs.walks.Viewed.{ViewsEach};
 ghost use Rattle.rart_nodes.specs.walks.Calls.{MayLackMemory};
 
@@ -52,7 +54,7 @@ impl<K: KeyTrait, V> AdaptiveRadixTree<K, V> {
         f: F,
     ) -> Result<(), TreeError>
         requires callable { CanView F.FnMut f (cut_pairs (keys_of self.now.pairs) self.now.pairs) }
-        ensures calls { OnOk result (ViewedEach F.FnMut f
+        ensures calls { OnOk result (ViewsEachByValue F.FnMut f
             (cut_pairs (keys_of self.now.pairs) self.now.pairs)) }
         ensures memory { IfErr result (MayLackMemory self.now.pairs) }
     {
@@ -113,7 +115,7 @@ impl<K: KeyTrait, V> AdaptiveRadixTree<K, V> {
         f: F,
     ) -> Result<(), TreeError>
         requires callable { CanView F.FnMut f (cut_below (K.bytes prefix.now) self.now.pairs) }
-        ensures calls { OnOk result (ViewedEach F.FnMut f
+        ensures calls { OnOk result (ViewsEachByValue F.FnMut f
             (cut_below (K.bytes prefix.now) self.now.pairs)) }
         ensures memory { IfErr result (MayLackMemory self.now.pairs) }
     {
@@ -134,7 +136,7 @@ impl<K: KeyTrait, V> AdaptiveRadixTree<K, V> {
     where
         K: Drop,
         requires callable { CanView F.FnMut f (cut_below (K.bytes prefix) self.now.pairs) }
-        ensures calls { OnOk result (ViewedEach F.FnMut f
+        ensures calls { OnOk result (ViewsEachByValue F.FnMut f
             (cut_below (K.bytes prefix) self.now.pairs)) }
         ensures memory { IfErr result (MayLackMemory self.now.pairs) }
     {
@@ -182,7 +184,7 @@ impl<K: KeyTrait, V> AdaptiveRadixTree<K, V> {
         K: Drop,
         requires callable { CanView F.FnMut f
             (cut_between (bound_in K.bytes start) (bound_in K.bytes end) self.now.pairs) }
-        ensures calls { OnOk result (ViewedEach F.FnMut f
+        ensures calls { OnOk result (ViewsEachByValue F.FnMut f
             (cut_between (bound_in K.bytes start) (bound_in K.bytes end) self.now.pairs)) }
         ensures memory { IfErr result (MayLackMemory self.now.pairs) }
     {
@@ -204,7 +206,7 @@ impl<K: KeyTrait, V> AdaptiveRadixTree<K, V> {
         requires callable { CanShowFound F.FnMut f.old (keys_of self.now.pairs)
             (longest_match (K.bytes probe.now) self.now.pairs) }
         ensures callable { F.IsAlwaysCallable f.old → F.IsAlwaysCallable f.new }
-        ensures called { IfOk result (ShowsFound F.FnMut f.old (keys_of self.now.pairs)
+        ensures calls { IfOk result (ShowsFound F.FnMut f.old (keys_of self.now.pairs)
             (longest_match (K.bytes probe.now) self.now.pairs) f.new) }
         ensures unchanged { OnErr result (f.new ≡ f.old) }
         ensures memory { IfErr result (MayLackMatch (K.bytes probe.now) self.now.pairs) }
@@ -228,7 +230,7 @@ impl<K: KeyTrait, V> AdaptiveRadixTree<K, V> {
         requires callable { CanShowFound F.FnMut f.old (keys_of self.now.pairs)
             (longest_match (K.bytes probe) self.now.pairs) }
         ensures callable { F.IsAlwaysCallable f.old → F.IsAlwaysCallable f.new }
-        ensures called { IfOk result (ShowsFound F.FnMut f.old (keys_of self.now.pairs)
+        ensures calls { IfOk result (ShowsFound F.FnMut f.old (keys_of self.now.pairs)
             (longest_match (K.bytes probe) self.now.pairs) f.new) }
         ensures unchanged { OnErr result (f.new ≡ f.old) }
         ensures memory { IfErr result (MayLackMatch (K.bytes probe) self.now.pairs) }
@@ -249,7 +251,7 @@ impl<K: KeyTrait, V> AdaptiveRadixTree<K, V> {
     ) -> Result<bool, TreeError>
         requires callable { CanSeeFound F.FnOnce f (keys_of self.now.pairs)
             (longest_match (K.bytes probe.now) self.now.pairs) }
-        ensures called { IfOk result (SeesFound F.FnOnce f (keys_of self.now.pairs)
+        ensures calls { IfOk result (SeesFound F.FnOnce f (keys_of self.now.pairs)
             (longest_match (K.bytes probe.now) self.now.pairs)) }
         ensures memory { IfErr result (MayLackMatch (K.bytes probe.now) self.now.pairs) }
     {
@@ -270,7 +272,7 @@ impl<K: KeyTrait, V> AdaptiveRadixTree<K, V> {
         K: Drop,
         requires callable { CanSeeFound F.FnOnce f (keys_of self.now.pairs)
             (longest_match (K.bytes probe) self.now.pairs) }
-        ensures called { IfOk result (SeesFound F.FnOnce f (keys_of self.now.pairs)
+        ensures calls { IfOk result (SeesFound F.FnOnce f (keys_of self.now.pairs)
             (longest_match (K.bytes probe) self.now.pairs)) }
         ensures memory { IfErr result (MayLackMatch (K.bytes probe) self.now.pairs) }
     {

@@ -16,7 +16,7 @@ mod refused_in_turn;
 #[cfg(test)]
 mod replies;
 #[cfg(test)]
-mod statistics;
+mod stats;
 #[cfg(test)]
 mod texts;
 #[cfg(test)]

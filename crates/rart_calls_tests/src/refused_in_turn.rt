@@ -142,7 +142,7 @@ pub static FOUR_CAPACITIES: [Row<'static>; 6] = [
 ];
 
 #[test]
-fn statistics_refused_in_turn(rt: HostRuntime) {
+fn stats_refused_in_turn(rt: HostRuntime) {
     assert_none_wrong(
         &rt,
         first_wrong_refused::<ArrayKey<16>>(rt.alloc(), &FOUR_CAPACITIES),

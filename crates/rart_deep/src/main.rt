@@ -33,7 +33,7 @@ fn answer(alloc: Global, name: &str) -> Option<usize> {
         "clear" => edits::clear(alloc),
         "bulk_load_sorted" => loads::sorted(alloc),
         "drop_closing_zeros" => loads::texts(alloc),
-        "statistics" => reads::statistics(alloc),
+        "statistics" => reads::stats(alloc),
         "equal" => reads::equal(alloc),
         "intersect_count" => reads::intersect_count(alloc),
         "intersect_values" => reads::intersect_values(alloc),

@@ -5,7 +5,7 @@ use std::alloc::Global;
 use std::ops::Bound;
 
 /// Returns the height.
-pub fn statistics(alloc: Global) -> Option<usize> {
+pub fn stats(alloc: Global) -> Option<usize> {
     let tree = nested(alloc)?;
     Some(tree.get_tree_stats().ok()?.max_height)
 }

@@ -16,7 +16,7 @@ static PAIRS: [Pair; 7] = [
     ("ba", 9),
 ];
 
-fn has_statistics_of(one: &Tree, other: &Tree) -> bool {
+fn has_stats_of(one: &Tree, other: &Tree) -> bool {
     match one.get_tree_stats() {
         Ok(stats) => match other.get_tree_stats() {
             Ok(others) => stats == others,
@@ -29,7 +29,7 @@ fn has_statistics_of(one: &Tree, other: &Tree) -> bool {
 fn is_clone_equal(tree: &Tree) -> bool {
     let clone: Result<Tree, AllocError> = tree.clone();
     match clone {
-        Ok(clone) => clone == *tree && has_statistics_of(&clone, tree),
+        Ok(clone) => clone == *tree && has_stats_of(&clone, tree),
         Err(_) => false,
     }
 }

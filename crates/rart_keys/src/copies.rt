@@ -3,6 +3,7 @@ ghost use Rattle.std.specs.Prelude.{◌≡◌, ◌+◌, ◌≤◌, length};
 
 /// Copies `from` to `to`, which must be as long. Up to 16 bytes are copied as two words, which may overlap. It does not
 /// allocate.
+#[inline(always)]
 pub fn copy_bytes(to: &mut [u8], from: &[u8])
     requires { length to.old ≡ length from.now }
     ensures { to.new ≡ from.now }

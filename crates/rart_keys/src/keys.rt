@@ -1,4 +1,4 @@
-//! The keys of a tree. A contract reads a key as its list of bytes, `bytes`, which fixes equality and order.
+//! The keys of a tree, which a contract reads as lists of bytes, `bytes`, that fix equality and order.
 ghost use Rattle.std.specs.Prelude.{◌≡◌, ◌+◌, ◌-◌, ◌<◌, ◌≤◌, ◌↔◌, ◌++◌, ℕ, Option, List, length, take, drop};
 ghost use Rattle.std.specs.Prelude.{slice_index, IsTrue};
 ghost use Rattle.std.specs.Bool.{Decides};

@@ -37,7 +37,8 @@ pub fn joins<V, W>()
         → IsAscending (join l m) }
     ensures looks { (k : List ℕ) (l : List (List ℕ × V)) (m : List (List ℕ × W)) → IsAscending l
         → lookup k (join l m) ≡ both (lookup k l) (lookup k m) }
-    ensures few { (l : List (List ℕ × V)) (m : List (List ℕ × W)) → length (join l m) ≤ length l }
+    ensures join_length { (l : List (List ℕ × V)) (m : List (List ℕ × W))
+        → length (join l m) ≤ length l }
     ensures other_way { (l : List (List ℕ × V)) (m : List (List ℕ × W)) → IsAscending l
         → IsAscending m
         → join m l ≡ swapped_pairs (join l m) }

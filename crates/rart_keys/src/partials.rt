@@ -1,4 +1,4 @@
-//! The parts of keys that nodes keep as their prefixes. A contract reads a part as its list of bytes, `bytes`.
+//! The parts of keys that nodes keep as their prefixes, which a contract reads as lists of bytes, `bytes`.
 ghost use Rattle.std.specs.Prelude.{◌≡◌, ◌+◌, ◌<◌, ◌≤◌, ◌↔◌, ◌++◌, ℕ, Option, List, [], length, take, drop};
 ghost use Rattle.std.specs.Prelude.{slice_index, nat_eq, IsTrue};
 ghost use Rattle.std.specs.List.{starts_with, ends_with, common_prefix_len};

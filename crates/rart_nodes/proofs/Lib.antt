@@ -5,7 +5,7 @@ pub mod ranges
 pub mod removals
 pub mod retentions
 pub mod shapes
-pub mod statistics
+pub mod tree_stats
 pub mod storages
 pub mod tries
 pub mod walks

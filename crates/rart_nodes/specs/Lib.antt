@@ -3,7 +3,7 @@ pub mod edits
 pub mod joins
 pub mod ranges
 pub mod shapes
-pub mod statistics
+pub mod stats
 pub mod storages
 pub mod tries
 pub mod walks

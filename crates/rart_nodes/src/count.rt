@@ -1,6 +1,7 @@
 //! How many nodes a call visits: a number that exists in proofs alone.
-//!
-//! Two proofs by hand name the paths of this module, so nothing in it is renamed.
+
+// Two proofs by hand name the paths of this module, so nothing in it is renamed.
+
 ghost use Rattle.std.specs.Prelude.{◌≡◌, ℕ, ◌+◌};
 
 use std::marker::{Model, PhantomData};

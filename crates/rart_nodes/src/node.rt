@@ -1,5 +1,4 @@
-//! A node of the tree: a prefix, an optional value, and children by edge byte. A contract reads it as a trie, whatever
-//! its storage.
+//! A node of the tree, a prefix, an optional value and children by edge byte, which a contract reads as a trie.
 ghost use Rattle.std.specs.Prelude.{◌≡◌, ◌+◌, ◌*◌, ◌≤◌, [], ◌∷◌, length};
 ghost use Rattle.std.specs.Option.{option_copied};
 ghost use Rattle.rart_keys.specs.SortedMap.{IsAscending, keys_of};

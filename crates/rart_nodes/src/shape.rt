@@ -1,7 +1,8 @@
 //! The shape of a set of keys, computed from its definition.
-//!
-//! The shape has a record for each key and each string after which the keys have two or more different next bytes. The
-//! functions scan all keys for each result; they are slow and serve tests.
+
+// The shape has a record for each key and each string after which the keys have two or more different next bytes. The
+// functions scan all keys for each result; they are slow and serve tests.
+
 ghost use Rattle.std.specs.Prelude.{◌≡◌, ◌↔◌, IfErr, IfOk, IsTrue, None, OnOk, Some};
 ghost use Rattle.rart_keys.specs.ByteStrings.{byte_after};
 ghost use Rattle.rart_keys.specs.SortedMap.{IsAscending, put};

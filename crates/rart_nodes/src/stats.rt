@@ -1,6 +1,6 @@
 //! Statistics of a tree: the number of nodes and children of each capacity, and the height.
 ghost use Rattle.std.specs.Prelude.{◌≡◌, []};
-ghost use Rattle.rart_nodes.specs.statistics.Statistics.{stats_in, stats_of};
+ghost use Rattle.rart_nodes.specs.stats.Stats.{stats_in, stats_of};
 
 use std::alloc::Global;
 use std::collections::BTreeMap;

@@ -1,5 +1,4 @@
-//! Maps from bytes to children, in four kinds of storage. A contract reads a map as the list of its entries, ascending
-//! by byte.
+//! Maps from bytes to children, in four kinds of storage, which a contract reads as entries ascending by byte.
 
 mod byte_index;
 pub mod direct_mapping;

@@ -9,25 +9,14 @@
 mod call;
 mod cases;
 mod copies;
-mod edits;
-mod grown;
-mod loads;
+mod kinds;
 mod model;
-mod model_edits;
-mod model_reads;
-mod model_turns;
-mod model_views;
 mod numbers;
-mod owned;
 mod play;
-mod reads;
-mod retains;
 mod routes;
 mod shape;
 mod sides;
 mod text;
-mod turns;
-mod views;
 mod world;
 
 use crate::call::call_at;

@@ -1,4 +1,9 @@
 //! The slow map beside a tree: a list of pairs in the order of their keys.
+pub mod edits;
+pub mod reads;
+pub mod turns;
+pub mod views;
+
 use crate::numbers::{mix, mix_pair};
 use crate::text::Text;
 use std::alloc::Global;

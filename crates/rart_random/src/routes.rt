@@ -1,11 +1,11 @@
 //! Calls of a route table, and what they must answer.
 use crate::call::Call;
-use crate::edits::{WRONG, popped, pops, refused};
+use crate::kinds::edits::{WRONG, popped, pops, refused};
+use crate::kinds::reads::sum_of_pair;
 use crate::model::Model;
-use crate::model_edits::pop;
-use crate::model_reads::{longest_pair, longest_value, matches};
+use crate::model::edits::pop;
+use crate::model::reads::{longest_pair, longest_value, matches};
 use crate::numbers::{mix, mix_bytes, mix_pair, sum_of};
-use crate::reads::sum_of_pair;
 use crate::shape::sum_of_stats;
 use crate::text::Text;
 use rart::routes::RouteTable;

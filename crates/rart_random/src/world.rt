@@ -1,17 +1,15 @@
 //! Two trees and a route table, each beside its model, and one call made on both.
 use crate::call::{Call, takes_a_list};
-use crate::grown::{grow, wanted_grow};
-use crate::loads::{list_of, load, wanted_load};
+use crate::kinds::grown::{grow, wanted_grow};
+use crate::kinds::loads::{list_of, load, wanted_load};
+use crate::kinds::owned::{owned, wanted_owned};
 use crate::model::{Model, Pair};
 use crate::numbers::low_byte;
-use crate::owned::{owned, wanted_owned};
 use crate::routes::{below, call_table, shape_of_routes, wanted_below, wanted_of_table};
 use crate::shape::{shape_in, shape_of};
 use crate::sides::{Side, key_of};
 use crate::text::Text;
-use crate::{
-    edits, model_edits, model_reads, model_turns, model_views, reads, retains, turns, views,
-};
+use crate::{kinds, model};
 use rart::KeyTrait;
 use rart::routes::RouteTable;
 use rart_test_tools::refusals::{refuse, was_refused};
@@ -79,7 +77,8 @@ fn is_right_side<K: KeyTrait + Drop>(alloc: Global, side: &Side<K>) -> bool {
     side.tree.canonical();
     let shape = shape_of(alloc, &side.model).ok();
     side.tree.len() == side.model.len()
-        && reads::iter(&side.tree, u64::MAX) == Some(side.model.sum(0, side.model.len(), true))
+        && kinds::reads::iter(&side.tree, u64::MAX)
+            == Some(side.model.sum(0, side.model.len(), true))
         && shape.is_some()
         && shape_in(&side.tree) == shape
 }
@@ -93,31 +92,31 @@ fn read<K: KeyTrait + Drop>(
     call: &Call,
 ) -> Option<u64> {
     match call.kind {
-        9..16 => Some(reads::look(&one.tree, key, &words.probe, call)),
-        16..24 => reads::walk(&one.tree, key, end, call),
-        24..28 => views::view(&one.tree, key, end, call),
-        42..46 => turns::turn(&one.tree, key, end, call),
+        9..16 => Some(kinds::reads::look(&one.tree, key, &words.probe, call)),
+        16..24 => kinds::reads::walk(&one.tree, key, end, call),
+        24..28 => kinds::views::view(&one.tree, key, end, call),
+        42..46 => kinds::turns::turn(&one.tree, key, end, call),
         46 => owned(&one.tree, call),
-        _ => views::join(&one.tree, &other.tree, call.kind),
+        _ => kinds::views::join(&one.tree, &other.tree, call.kind),
     }
 }
 
 fn wanted_read(one: &Model, other: &Model, words: &Words, call: &Call) -> u64 {
     match call.kind {
-        9..16 => model_reads::look(one, &words.key, &words.probe, call),
-        16..24 => model_reads::walk(one, &words.key, &words.end, call),
-        24..28 => model_views::view(one, &words.key, &words.end, call),
-        42..46 => model_turns::turn(one, &words.key, &words.end, call),
+        9..16 => model::reads::look(one, &words.key, &words.probe, call),
+        16..24 => model::reads::walk(one, &words.key, &words.end, call),
+        24..28 => model::views::view(one, &words.key, &words.end, call),
+        42..46 => model::turns::turn(one, &words.key, &words.end, call),
         46 => wanted_owned(one, call),
-        _ => model_views::join(one, other, call.kind),
+        _ => model::views::join(one, other, call.kind),
     }
 }
 
 fn note_refusal<K: KeyTrait + Drop>(side: &mut Side<K>, key: &Text, call: &Call) -> bool {
     if call.kind == 41 {
-        return retains::note_refusal(&side.tree, &mut side.model, call);
+        return kinds::retains::note_refusal(&side.tree, &mut side.model, call);
     }
-    model_edits::note_refusal(&mut side.model, key, call);
+    model::edits::note_refusal(&mut side.model, key, call);
     true
 }
 
@@ -190,8 +189,8 @@ impl<K: KeyTrait + Drop> World<K> {
         call: &Call,
     ) -> Option<u64> {
         match call.kind {
-            0..9 | 41 if call.on_second => edits::edit(&mut self.second.tree, key, call),
-            0..9 | 41 => edits::edit(&mut self.first.tree, key, call),
+            0..9 | 41 if call.on_second => kinds::edits::edit(&mut self.second.tree, key, call),
+            0..9 | 41 => kinds::edits::edit(&mut self.first.tree, key, call),
             32 | 33 => load::<K>(self.alloc, list),
             40 => grow::<K>(self.alloc, list, call),
             34..40 => call_table(&mut self.routes, key, &words.probe, call),
@@ -210,12 +209,12 @@ impl<K: KeyTrait + Drop> World<K> {
     // The sum that the models give.
     fn wanted(&mut self, words: &Words, list: &[Pair], call: &Call) -> u64 {
         match call.kind {
-            0..9 | 41 if call.on_second => model_edits::edit(
+            0..9 | 41 if call.on_second => model::edits::edit(
                 &mut self.second.model,
                 &words.key,
                 call,
             ),
-            0..9 | 41 => model_edits::edit(&mut self.first.model, &words.key, call),
+            0..9 | 41 => model::edits::edit(&mut self.first.model, &words.key, call),
             32 | 33 => wanted_load(self.alloc, list),
             40 => wanted_grow(self.alloc, list, call),
             34..40 => wanted_of_table(&mut self.route_model, &words.key, &words.probe, call),

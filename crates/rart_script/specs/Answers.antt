@@ -4,13 +4,13 @@ use Rattle.std.specs.List.{join_with_byte}
 use Rattle.std.specs.Option.{option_map}
 use Rattle.rart_keys.specs.ArrayKeyBytes.{array_key_bytes}
 use Rattle.rart_keys.specs.declared.keys.array_key.ArrayKey.{ArrayKey}
-use Rattle.rart_nodes.specs.statistics.Statistics.{stats_in}
+use Rattle.rart_nodes.specs.stats.Stats.{stats_in}
 use Rattle.rart_parts.specs.declared.error.TreeError.{TreeError}
 use Rattle.rart_parts.specs.declared.error.TreeError.TheVariants.{Memory, Full}
 use Rattle.rart.specs.Steps.{IsStep, pairs_in}
 use Rattle.rart.specs.declared.script.reply.Reply.{Reply}
 use Rattle.rart.specs.declared.script.reply.Reply.TheVariants as reply
-use Rattle.rart_script.specs.Statistics.{stats_line}
+use Rattle.rart_script.specs.Stats.{stats_line}
 use Rattle.rart_script.specs.declared.command.Command.{Command}
 use Rattle.rart_script.specs.declared.command.Command.TheVariants as command
 use Rattle.rart_script.specs.declared.key.TheConstants.{KEY_SIZE}

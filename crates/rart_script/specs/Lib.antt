@@ -2,6 +2,6 @@ pub mod Answers
 pub mod Command
 pub mod Key
 pub mod Script
-pub mod Statistics
+pub mod Stats
 pub mod Stop
 pub mod Value

@@ -7,7 +7,7 @@ ghost use Rattle.rart_keys.specs.ArrayKeyBytes.{array_key_bytes};
 ghost use Rattle.rart_script.specs.Answers.{found_line, pair_word, pairs_line, refusal_line, reply_line, value_line};
 
 use crate::key::Key;
-use crate::statistics::write_statistics;
+use crate::stats::write_stats;
 use rart::script::Reply;
 use rart::{KeyTrait, TreeError};
 use std::io;
@@ -28,7 +28,7 @@ pub fn write_reply<W: Write>(output: &mut W, reply: Reply<Key, u64>) -> io::Resu
         Reply::Len(count) => writeln!(output, "{count}"),
         Reply::Pair(found) => write_found(output, found),
         Reply::Pairs(pairs) => write_pairs(output, pairs),
-        Reply::Stats(stats) => write_statistics(output, &stats),
+        Reply::Stats(stats) => write_stats(output, &stats),
         Reply::Refused(error) => write_refusal(output, error),
         Reply::Returned(error, _value) => write_refusal(output, error),
         Reply::Done(_)

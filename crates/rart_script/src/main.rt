@@ -5,7 +5,7 @@ mod answers;
 mod command;
 mod key;
 mod script;
-mod statistics;
+mod stats;
 mod stop;
 mod value;
 

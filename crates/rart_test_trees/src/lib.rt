@@ -45,11 +45,11 @@ pub fn is_counted(
 
 /// Whether two trees have the same pairs, as many of them, and the same statistics.
 pub fn are_alike<K: KeyTrait + Drop>(one: &Tree<K>, other: &Tree<K>) -> bool {
-    one.len() == other.len() && have_same_statistics(one, other) && have_same_pairs(one, other)
+    one.len() == other.len() && have_same_stats(one, other) && have_same_pairs(one, other)
 }
 
 /// Whether the statistics of two trees are the same.
-pub fn have_same_statistics<K: KeyTrait>(one: &Tree<K>, other: &Tree<K>) -> bool {
+pub fn have_same_stats<K: KeyTrait>(one: &Tree<K>, other: &Tree<K>) -> bool {
     match (one.get_tree_stats(), other.get_tree_stats()) {
         (Ok(left), Ok(right)) => left == right,
         _ => false,

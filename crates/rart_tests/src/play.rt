@@ -3,5 +3,5 @@
 pub use rart_test_trees::Tree;
 
 pub mod replies {
-    pub use rart_test_trees::{are_alike, have_same_statistics, is_counted};
+    pub use rart_test_trees::{are_alike, have_same_stats, is_counted};
 }

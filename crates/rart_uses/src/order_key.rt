@@ -85,7 +85,8 @@ impl KeyTrait for OrderKey {
 
     ghost same_maximum = { refl };
 
-    ghost eq_is_of_bytes = { λ a b. bytes_eq-Decides (array_key_bytes a.key) (array_key_bytes b.key) };
+    ghost eq_is_of_bytes = { λ a b. bytes_eq-Decides (array_key_bytes a.key)
+        (array_key_bytes b.key) };
 
     ghost cmp_is_of_bytes = { λ a b. refl };
 

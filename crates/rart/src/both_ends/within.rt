@@ -1,7 +1,8 @@
 //! An iterator over a part of a tree from both ends: the pairs with a prefix, or those within two bounds.
-//!
-//! No tree knows how many pairs a part has. So each end reads one pair ahead, and the iterator ends when both ends have
-//! read the same key.
+
+// No tree knows how many pairs a part has. So each end reads one pair ahead, and the iterator ends when both ends have
+// read the same key.
+
 ghost use Rattle.std.specs.Iterator.{YieldsFirstBy, YieldsLastBy, item_count};
 ghost use Rattle.std.specs.Prelude.{◌≡◌, [], ◌∷◌, reverse, IfErr, IfOk, MatchOption};
 ghost use Rattle.rart_keys.specs.Filters.{below};

@@ -3,12 +3,12 @@ ghost use Rattle.std.specs.Prelude.{◌≡◌, [], IfErr, IfOk};
 ghost use Rattle.std.specs.List.Sorted.{IsPermutation};
 ghost use Rattle.rart_keys.specs.BulkLists.{put_all};
 ghost use Rattle.rart_keys.specs.SortedMap.{IsAscending, keys_of};
-ghost use Rattle.rart_nodes.specs.statistics.Statistics.{stats_in, stats_of};
+ghost use Rattle.rart_nodes.specs.stats.Stats.{stats_in, stats_of};
 ghost use Rattle.rart.specs.BulkLaw.{MayRefuseLoad, MayRefuseOneOf, RefusesStep};
 ghost use Rattle.rart.specs.Steps.{pairs_in};
 
 use crate::bulk::BulkError;
-use crate::laws::{equal_keys_equal_nodes, equal_keys_equal_statistics};
+use crate::laws::{equal_keys_equal_nodes, equal_keys_equal_stats};
 use crate::stats::TreeStats;
 use crate::tree::AdaptiveRadixTree;
 use rart_keys::KeyTrait;
@@ -67,7 +67,7 @@ pub fn bulk_load_equals_insertion<K: KeyTrait + Drop, V: Drop>(
         Err(error) => return Err(RefusedStep::Insertion(error)),
     };
     equal_keys_equal_nodes(&loaded, &inserted);
-    match equal_keys_equal_statistics(&loaded, &inserted) {
+    match equal_keys_equal_stats(&loaded, &inserted) {
         Ok((of_loaded, of_inserted)) => Ok(((loaded, of_loaded), (inserted, of_inserted))),
         Err(error) => Err(RefusedStep::Statistics(error)),
     }
@@ -80,7 +80,7 @@ fn loaded<K: KeyTrait + Drop, V: Drop>(
 ) -> Result<AdaptiveRadixTree<K, V>, BulkError>
     requires { IsAscending (pairs_in K.bytes sorted.items) }
     ensures pairs { IfOk result (λ tree. tree.pairs ≡ pairs_in K.bytes sorted.items) }
-    ensures refused { IfErr result (MayRefuseLoad (pairs_in K.bytes sorted.items)) }
+    ensures memory { IfErr result (MayRefuseLoad (pairs_in K.bytes sorted.items)) }
 {
     bulk_lists::<V>();
     ascending_pairs::<V>();

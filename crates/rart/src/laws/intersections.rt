@@ -24,8 +24,9 @@ pub fn intersections_are_symmetric<K: KeyTrait, V, W, F: FnMut(K, &V, &W), G: Fn
     f: &mut F,
     g: &mut G,
 ) -> Result<(), TreeError>
-    requires one_way { CanCallAt F.FnMut K.bytes f.old (join one.now.pairs other.now.pairs) }
-    requires back { CanCallAt G.FnMut K.bytes g.old
+    requires callable { CanCallAt F.FnMut K.bytes f.old
+        (join one.now.pairs other.now.pairs) }
+    requires callable_back { CanCallAt G.FnMut K.bytes g.old
         (swapped_pairs (join one.now.pairs other.now.pairs)) }
     ensures callable { F.IsAlwaysCallable f.old → F.IsAlwaysCallable f.new }
     ensures callable_back { G.IsAlwaysCallable g.old → G.IsAlwaysCallable g.new }

@@ -1,12 +1,13 @@
 //! Walks over the routes that cover a probe, and over those with a prefix.
-//!
-//! A callback by value is dropped after the call. One that is borrowed (the forms `_by_ref`) is the caller's again, in
-//! the state that the last call left.
+
+// A callback by value is dropped after the call. One that is borrowed (the forms `_by_ref`) is the caller's again, in
+// the state that the last call left.
+
 ghost use Rattle.std.specs.Prelude.{◌≡◌, IfErr, OnErr, OnOk};
 ghost use Rattle.rart_keys.specs.Filters.{matches};
 ghost use Rattle.rart_nodes.specs.walks.BelowPrefix.{cut_below};
-ghost use Rattle.rart_nodes.specs.walks.Matched.{CanMatch, MatchedEach, MatchesEach};
-ghost use Rattle.rart_nodes.specs.walks.Viewed.{CanView, ViewedEach, ViewsEach};
+ghost use Rattle.rart_nodes.specs.walks.Matched.{CanMatch, MatchesEachByValue, MatchesEach};
+ghost use Rattle.rart_nodes.specs.walks.Viewed.{CanView, ViewsEachByValue, ViewsEach};
 ghost use Rattle.rart_nodes.specs.walks.Calls.{MayLackMemory};
 
 use crate::routes::RouteTable;
@@ -28,7 +29,7 @@ impl<K: KeyTrait, T> RouteTable<K, T> {
     /// Calls `f` as [`covering_for_each_by_ref_bytes`](Self::covering_for_each_by_ref_bytes) does, and drops it.
     pub fn covering_for_each_bytes<F: FnMut(&[u8], &T) + Drop>(&self, probe: &[u8], f: F)
         requires callable { CanMatch F.FnMut f (matches probe.now self.now.pairs) }
-        ensures { MatchedEach F.FnMut f (matches probe.now self.now.pairs) }
+        ensures { MatchesEachByValue F.FnMut f (matches probe.now self.now.pairs) }
     {
         self.routes.prefix_match_for_each_bytes(probe, f)
     }
@@ -47,7 +48,7 @@ impl<K: KeyTrait, T> RouteTable<K, T> {
     /// Calls `f` as [`covering_for_each_by_ref`](Self::covering_for_each_by_ref) does, and drops it.
     pub fn covering_for_each<F: FnMut(&[u8], &T) + Drop>(&self, probe: &K, f: F)
         requires callable { CanMatch F.FnMut f (matches (K.bytes probe.now) self.now.pairs) }
-        ensures { MatchedEach F.FnMut f (matches (K.bytes probe.now) self.now.pairs) }
+        ensures { MatchesEachByValue F.FnMut f (matches (K.bytes probe.now) self.now.pairs) }
     {
         self.routes.prefix_match_for_each_k(probe, f)
     }
@@ -84,7 +85,7 @@ impl<K: KeyTrait, T> RouteTable<K, T> {
         f: F,
     ) -> Result<(), TreeError>
         requires callable { CanView F.FnMut f (cut_below (K.bytes prefix.now) self.now.pairs) }
-        ensures calls { OnOk result (ViewedEach F.FnMut f
+        ensures calls { OnOk result (ViewsEachByValue F.FnMut f
             (cut_below (K.bytes prefix.now) self.now.pairs)) }
         ensures memory { IfErr result (MayLackMemory self.now.pairs) }
     {

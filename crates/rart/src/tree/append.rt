@@ -48,7 +48,7 @@ impl<K: KeyTrait + Drop, V: Drop> AdaptiveRadixTree<K, V> {
             (Moves self.old.pairs other.old.pairs self.new.pairs other.new.pairs) }
         ensures fewer { IfOk result
             (λ more. IsTrue more → length other.new.pairs < length other.old.pairs) }
-        ensures none { IfOk result (λ more. more ≡ false → other.new.pairs ≡ []) }
+        ensures emptied { IfOk result (λ more. more ≡ false → other.new.pairs ≡ []) }
         ensures refused { IfErr result (λ refused. MovesUntil K.bytes self.old.pairs
             other.old.pairs refused self.new.pairs other.new.pairs) }
     {

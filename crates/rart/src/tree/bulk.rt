@@ -161,7 +161,7 @@ impl<K: KeyTrait, V: Drop> AdaptiveRadixTree<K, V> {
         ensures shape { IfOk result (λ tree. HasShape (keys_of tree.pairs) tree.nodes) }
         ensures refused { IfErr result (FailsByIndex len) }
         ensures not_full { OnOk result (len ≤ MAX_PAIRS) }
-        ensures taken { IfErr result
+        ensures values_taken { IfErr result
             (TakesBeginning G.step len take_value_at.old take_value_at.new) }
     {
         if len > MAX_PAIRS {
@@ -183,7 +183,7 @@ impl<K: KeyTrait, V: Drop> AdaptiveRadixTree<K, V> {
     ) -> Result<Self, BulkError>
         requires each { length keys.now ≡ length values.items }
         requires ascending { IsAscending (lone_keys (map K.bytes keys.now)) }
-        requires few { length keys.now ≤ MAX_PAIRS }
+        requires most { length keys.now ≤ MAX_PAIRS }
         ensures keys { IfOk result (λ tree. keys_of tree.pairs ≡ map K.bytes keys.now) }
         ensures values { IfOk result (λ tree. values_of tree.pairs ≡ values.items) }
         ensures shape { IfOk result (λ tree. HasShape (keys_of tree.pairs) tree.nodes) }
@@ -210,14 +210,14 @@ impl<K: KeyTrait, V: Drop> AdaptiveRadixTree<K, V> {
         take_value: &mut F,
     ) -> Result<Self, BulkError>
         requires some { 0 < length keys.now }
-        requires few { length keys.now ≤ MAX_PAIRS }
+        requires most { length keys.now ≤ MAX_PAIRS }
         requires within { AreWithin K.MAXIMUM_SIZE (keys_in keys.now) }
         requires ascending { IsAscending (lone_keys (keys_in keys.now)) }
         requires callable { CanTake F.pre F.step 0 (length keys.now) take_value.old }
         ensures keys { IfOk result (λ tree. keys_of tree.pairs ≡ keys_in keys.now) }
         ensures values { IfOk result
             (λ tree. Takes F.step 0 take_value.old (values_of tree.pairs) take_value.new) }
-        ensures taken { OnErr result ((vs : List V) × (length vs ≤ length keys.now)
+        ensures values_taken { OnErr result ((vs : List V) × (length vs ≤ length keys.now)
             × Takes F.step 0 take_value.old vs take_value.new) }
         ensures shape { IfOk result (λ tree. HasShape (keys_of tree.pairs) tree.nodes) }
         ensures memory { IfErr result (λ e. e ≡ BulkError.Memory) }

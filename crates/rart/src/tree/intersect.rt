@@ -2,10 +2,11 @@
 ghost use Rattle.std.specs.Prelude.{◌≡◌, IfErr, OnErr, OnOk, length};
 ghost use Rattle.rart_keys.specs.Joins.{join};
 ghost use Rattle.rart_keys.specs.SortedMap.{values_of};
-ghost use Rattle.rart_nodes.specs.joins.PairCalls.{CalledAtEach, CalledWithEach, CallsAtEach, CallsWithEach, CanCallAt};
+ghost use Rattle.rart_nodes.specs.joins.PairCalls.{CallsAtEach, CallsAtEachByValue, CallsWithEach};
+ghost use Rattle.rart_nodes.specs.joins.PairCalls.{CallsWithEachByValue, CanCallAt};
 ghost use Rattle.rart_nodes.specs.joins.PairCalls.{CanCallWith};
 ghost use Rattle.rart_nodes.specs.joins.SeenJoins.{MayLackBoth};
-ghost use Rattle.rart_nodes.specs.joins.ViewCalls.{CanViewAt, ViewedAtEach, ViewsAtEach};
+ghost use Rattle.rart_nodes.specs.joins.ViewCalls.{CanViewAt, ViewsAtEachByValue, ViewsAtEach};
 
 use crate::tree::AdaptiveRadixTree;
 use rart_keys::KeyTrait;
@@ -49,7 +50,7 @@ impl<K: KeyTrait, V> AdaptiveRadixTree<K, V> {
     )
         requires callable { CanCallWith F.FnMut f
             (values_of (join self.now.pairs other.now.pairs)) }
-        ensures { CalledWithEach F.FnMut f (values_of (join self.now.pairs other.now.pairs)) }
+        ensures { CallsWithEachByValue F.FnMut f (values_of (join self.now.pairs other.now.pairs)) }
     {
         self.seen()
             .intersect_values_with_counted(other.seen(), f, &mut Visits::new());
@@ -88,7 +89,7 @@ impl<K: KeyTrait, V> AdaptiveRadixTree<K, V> {
     ) -> Result<(), TreeError>
         requires callable { CanCallAt F.FnMut K.bytes f (join self.now.pairs other.now.pairs) }
         ensures calls { OnOk result
-            (CalledAtEach F.FnMut K.bytes f (join self.now.pairs other.now.pairs)) }
+            (CallsAtEachByValue F.FnMut K.bytes f (join self.now.pairs other.now.pairs)) }
         ensures memory { IfErr result (MayLackBoth self.now.pairs other.now.pairs) }
     {
         self.seen()
@@ -128,7 +129,8 @@ impl<K: KeyTrait, V> AdaptiveRadixTree<K, V> {
         f: F,
     ) -> Result<(), TreeError>
         requires callable { CanViewAt F.FnMut f (join self.now.pairs other.now.pairs) }
-        ensures calls { OnOk result (ViewedAtEach F.FnMut f (join self.now.pairs other.now.pairs)) }
+        ensures calls { OnOk result
+            (ViewsAtEachByValue F.FnMut f (join self.now.pairs other.now.pairs)) }
         ensures memory { IfErr result (MayLackBoth self.now.pairs other.now.pairs) }
     {
         self.seen()

@@ -34,7 +34,8 @@ impl<K: KeyTrait, V> Model for IntoPairs<K, V> {
 
     ghost view = { λ it. zip (map K.bytes (into_iter_items it.keys)) (into_iter_items it.values) };
 
-    ghost invariant = { λ it. length (into_iter_items it.keys) ≡ length (into_iter_items it.values) };
+    ghost invariant = { λ it. length (into_iter_items it.keys)
+        ≡ length (into_iter_items it.values) };
 }
 
 impl<K: KeyTrait + Drop, V: Drop> Iterator for IntoPairs<K, V> {

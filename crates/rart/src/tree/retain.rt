@@ -1,6 +1,6 @@
 //! Removal of all pairs that a callback rejects.
 ghost use Rattle.std.specs.Prelude.{◌≡◌, IfErr};
-ghost use Rattle.rart_nodes.specs.edits.Retentions.{CanRetain, Retained, Retains};
+ghost use Rattle.rart_nodes.specs.edits.Retentions.{CanRetain, RetainsByValue, Retains};
 
 use crate::tree::{AdaptiveRadixTree, length_kept};
 use rart_keys::KeyTrait;
@@ -46,7 +46,7 @@ impl<K: KeyTrait, V: Drop> AdaptiveRadixTree<K, V> {
         mut f: F,
     ) -> Result<(), TreeError>
         requires callable { CanRetain F.FnMut f self.old.pairs }
-        ensures retains { Retained F.FnMut f self.old.pairs result self.new.pairs }
+        ensures retains { RetainsByValue F.FnMut f self.old.pairs result self.new.pairs }
         ensures memory { IfErr result (λ e. e ≡ TreeError.Memory) }
     {
         self.retain_by_ref(&mut f)

@@ -45,7 +45,7 @@ impl<K: KeyTrait, V> AdaptiveRadixTree<K, V> {
     ) -> Result<Self, TreeError>
         ensures takes { TakesPrefix (K.bytes prefix.now) self.old.pairs self.new.pairs result }
         ensures unchanged { OnErr result (self.new ≡ self.old) }
-        ensures visits { C.number counter.new
+        ensures bound { C.number counter.new
             ≤ C.number counter.old + below_bound (K.bytes prefix.now) self.old.pairs }
     {
         let bytes = prefix.as_ref();

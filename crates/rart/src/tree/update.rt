@@ -188,7 +188,7 @@ impl<K: KeyTrait, V> AdaptiveRadixTree<K, V> {
         requires callable { FnOnceTakesAtMut F.FnOnce f
             (slot_of (lookup (K.bytes key.now) self.old.pairs)) }
         requires occupancy { KeepsSlotIfOk F.FnOnce f (lookup (K.bytes key.now) self.old.pairs) }
-        ensures called { result ≢ Err Not_cloned
+        ensures calls { result ≢ Err Not_cloned
             → TriesUpdate F.FnOnce f (K.bytes key.now) self.old.pairs result self.new.pairs }
         ensures not_cloned { result ≡ Err Not_cloned
             → (v : V) × (lookup (K.bytes key.now) self.old.pairs ≡ Some v)
@@ -235,7 +235,7 @@ impl<K: KeyTrait, V> AdaptiveRadixTree<K, V> {
         requires callable { FnOnceTakesAtMut F.FnOnce f
             (slot_of (lookup (K.bytes key) self.old.pairs)) }
         requires occupancy { KeepsSlotIfOk F.FnOnce f (lookup (K.bytes key) self.old.pairs) }
-        ensures called { result ≢ Err Not_cloned
+        ensures calls { result ≢ Err Not_cloned
             → TriesUpdate F.FnOnce f (K.bytes key) self.old.pairs result self.new.pairs }
         ensures not_cloned { result ≡ Err Not_cloned
             → (v : V) × (lookup (K.bytes key) self.old.pairs ≡ Some v)
@@ -336,7 +336,7 @@ fn attempt<V: Clone, E, F: FnOnce(&mut Slot<V>) -> Result<SlotUpdate<V>, E> + Dr
 fn saved<V: Clone>(slot: &Slot<V>) -> Result<Option<V>, AllocError>
     requires clones { (x y : V) → V.is_clone x y → y ≡ x }
     ensures saved { IfOk result (λ copy. slot_of copy ≡ slot.now) }
-    ensures stored { OnErr result
+    ensures occupied { OnErr result
         ((v : V) × (slot.now ≡ Occupied_slot v) × (V.is_infallible v → ⊥)) }
 {
     match slot {

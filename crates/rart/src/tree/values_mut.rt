@@ -1,7 +1,7 @@
 //! Walks that change values in place.
 ghost use Rattle.std.specs.Prelude.{◌≡◌, []};
 ghost use Rattle.rart_keys.specs.SortedMap.{values_of};
-ghost use Rattle.rart_nodes.specs.edits.ValueChanges.{CanLend, ChangedBelow, ChangesBelow};
+ghost use Rattle.rart_nodes.specs.edits.ValueChanges.{CanLend, ChangesBelowByValue, ChangesBelow};
 ghost use Rattle.rart_nodes.specs.walks.BelowPrefix.{values_below};
 
 use crate::tree::AdaptiveRadixTree;
@@ -23,7 +23,7 @@ impl<K: KeyTrait, V> AdaptiveRadixTree<K, V> {
     /// Calls `f` as [`for_each_value_mut_by_ref`](Self::for_each_value_mut_by_ref), and drops it.
     pub fn for_each_value_mut<F: FnMut(&mut V) + Drop>(&mut self, mut f: F)
         requires callable { CanLend F.FnMut f (values_of self.old.pairs) }
-        ensures changes { ChangedBelow F.FnMut [] f self.old.pairs self.new.pairs }
+        ensures changes { ChangesBelowByValue F.FnMut [] f self.old.pairs self.new.pairs }
         ensures nodes { self.new.nodes ≡ self.old.nodes }
     {
         self.for_each_value_mut_by_ref(&mut f);
@@ -46,7 +46,7 @@ impl<K: KeyTrait, V> AdaptiveRadixTree<K, V> {
     /// Calls `f` as [`prefix_for_each_value_mut_by_ref_k`](Self::prefix_for_each_value_mut_by_ref_k), and drops it.
     pub fn prefix_for_each_value_mut_k<F: FnMut(&mut V) + Drop>(&mut self, prefix: &K, mut f: F)
         requires callable { CanLend F.FnMut f (values_below (K.bytes prefix.now) self.old.pairs) }
-        ensures changes { ChangedBelow F.FnMut (K.bytes prefix.now) f self.old.pairs
+        ensures changes { ChangesBelowByValue F.FnMut (K.bytes prefix.now) f self.old.pairs
             self.new.pairs }
         ensures nodes { self.new.nodes ≡ self.old.nodes }
     {
@@ -58,7 +58,8 @@ impl<K: KeyTrait, V> AdaptiveRadixTree<K, V> {
     where
         K: Drop,
         requires callable { CanLend F.FnMut f (values_below (K.bytes prefix) self.old.pairs) }
-        ensures changes { ChangedBelow F.FnMut (K.bytes prefix) f self.old.pairs self.new.pairs }
+        ensures changes { ChangesBelowByValue F.FnMut (K.bytes prefix) f self.old.pairs
+            self.new.pairs }
         ensures nodes { self.new.nodes ≡ self.old.nodes }
     {
         self.prefix_for_each_value_mut_k(&prefix, f);

@@ -5,7 +5,7 @@ use rart::{
     AdaptiveRadixTree, ArrayKey, KeyTrait, Slot, SlotUpdate, TreeError, TryUpdateError, UpdateError,
 };
 use rart_test_tools::refusals::{part_ends, refuse, was_refused};
-use rart_test_trees::{are_alike, have_same_statistics};
+use rart_test_trees::{are_alike, have_same_stats};
 use std::alloc::{AllocError, Global};
 use std::cell::Cell;
 
@@ -114,7 +114,7 @@ fn filled(alloc: Global, count: u8) -> Tree {
 }
 
 fn is_as_before(tree: &Tree, before: &Tree) -> bool {
-    tree.len() == before.len() && have_same_statistics(tree, before)
+    tree.len() == before.len() && have_same_stats(tree, before)
 }
 
 // Whether a request of the update was refused; None where it failed. One with memory is made on both trees.
@@ -152,8 +152,7 @@ fn sweep_row(alloc: Global, tree: &mut Tree, before: &mut Tree, row: &Row, by_va
     false
 }
 
-// Makes the update with its first request refused, then with its second and so on, and at last with memory; whether
-// each passed.
+// Makes the update with each request refused in turn, and at last with memory; whether each passed.
 fn row_holds(alloc: Global, row: &Row, by_value: bool) -> bool {
     let mut tree = filled(alloc, row.0);
     let mut before = filled(alloc, row.0);

@@ -77,7 +77,7 @@ fn have_same_routes(alloc: Global, one: &Table, other: &Table) -> bool {
         && text.as_slice() == wanted.as_slice()
 }
 
-fn have_same_statistics(one: &Table, other: &Table) -> bool {
+fn have_same_stats(one: &Table, other: &Table) -> bool {
     match (one.get_tree_stats(), other.get_tree_stats()) {
         (Ok(left), Ok(right)) => left == right,
         _ => false,
@@ -88,7 +88,7 @@ fn have_same_statistics(one: &Table, other: &Table) -> bool {
 fn are_alike(alloc: Global, one: &Table, other: &Table) -> bool {
     one.len() == other.len()
         && have_same_routes(alloc, one, other)
-        && have_same_statistics(one, other)
+        && have_same_stats(one, other)
 }
 
 // A refused edit returns its target.

@@ -1,4 +1,4 @@
-//! A key whose bytes are stored inline, at the front of an array. Contracts read its bytes as `array_key_bytes`.
+//! A key whose bytes are stored inline, at the front of an array, and read by contracts as `array_key_bytes`.
 ghost use Rattle.std.specs.Prelude.{◌≡◌, ◌-◌, ◌≤◌, length, drop, replicate};
 ghost use Rattle.rart_keys.specs.KeyBytes.{AreBytes};
 

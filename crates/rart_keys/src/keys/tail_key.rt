@@ -1,4 +1,4 @@
-//! A key whose bytes are stored inline, at the end of an array. Contracts read its bytes as `tail_key_bytes`.
+//! A key whose bytes are stored inline, at the end of an array, and read by contracts as `tail_key_bytes`.
 ghost use Rattle.std.specs.Prelude.{◌≡◌, ◌≤◌, length, take, replicate};
 ghost use Rattle.rart_keys.specs.KeyBytes.{AreBytes};
 

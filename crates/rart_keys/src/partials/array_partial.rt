@@ -1,4 +1,4 @@
-//! A part of a key whose bytes are stored inline. Contracts read its bytes as `arr_partial_bytes`.
+//! A part of a key whose bytes are stored inline, and read by contracts as `arr_partial_bytes`.
 ghost use Rattle.std.specs.Prelude.{◌≡◌, ◌-◌, ◌≤◌, length, drop, replicate};
 ghost use Rattle.rart_keys.specs.KeyBytes.{AreBytes};
 

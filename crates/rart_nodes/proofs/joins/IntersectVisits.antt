@@ -14,7 +14,7 @@ use Rattle.rart_keys.proofs.ByteOrder.{order, is_less, is_equal, is_greater}
 use Rattle.rart_nodes.proofs.joins.AlignmentLemmas.{some-count}
 use Rattle.rart_nodes.proofs.joins.EdgeLemmas.{edges_in, edges_down, edges, edges_child}
 use Rattle.rart_nodes.proofs.joins.SharedLemmas.{edges-shared}
-use Rattle.rart_nodes.proofs.statistics.CountedStatistics.{node_count-nodes_of}
+use Rattle.rart_nodes.proofs.tree_stats.CountedStats.{node_count-nodes_of}
 
 abbrev Counts : {W : Type 0} → (ℕ → Trie W → ℕ) → (ℕ → Trie W → List (List ℕ × Unit {0})) → Type 0
 Counts {W} g f = (b : ℕ) (u : Trie W) → g b u ≡ length (f b u)

@@ -5,7 +5,7 @@ use Rattle.rart_keys.specs.SortedMap.{longest_key}
 use Rattle.rart_nodes.specs.ranges.Potential.{AreLow}
 use Rattle.rart_nodes.specs.ranges.Starts.{entries_from}
 use Rattle.rart_nodes.specs.ranges.Steps.{AllLess, StepsFrom, all_greater, own_key, in_child, children_after}
-use Rattle.rart_nodes.specs.statistics.Statistics.{trie_height}
+use Rattle.rart_nodes.specs.stats.Stats.{trie_height}
 use Rattle.rart_nodes.specs.tries.CanonicalTest.{is_canonical}
 use Rattle.rart_nodes.specs.tries.Trie.{Trie, children_in, pairs_of, prefix_of}
 use Rattle.rart_nodes.specs.walks.ProbeCount.{entered_nodes, tree_entered}

@@ -16,7 +16,7 @@ use Rattle.rart_nodes.specs.tries.Trie.{Trie, node, Children, no_children, child
 use Rattle.rart_nodes.specs.tries.Trie.{children_in, prefix_of, value_of, with_prefix, StartsWith, IsCanonical}
 use Rattle.rart_nodes.specs.tries.Trie.{AreCanonical}
 use Rattle.rart_nodes.specs.tries.TrieCode.{node_count}
-use Rattle.rart_nodes.proofs.statistics.CountedStatistics.{node_count-nodes_of}
+use Rattle.rart_nodes.proofs.tree_stats.CountedStats.{node_count-nodes_of}
 use Rattle.rart_nodes.proofs.tries.CanonicalTests.{IsCanonical-test}
 use Rattle.rart_nodes.proofs.tries.FirstBytes.{AllFirst, AllFrom, IsFrom, children_pairs-from, pairs_of-first}
 use Rattle.rart_nodes.proofs.tries.NodeCounts.{some-pairs}

@@ -121,5 +121,5 @@ module _ {F V : Type 0} (call : Mut F (Bor (List ℕ) × (MutBor V × Unit {0}))
   Retains f es (Err e) ds f' = (k : List ℕ) × (RetainsFirst [] f es ds k f' × (remove_allocates (keys_of ds) k ≡ true))
 
   -- the same of an f taken by value
-  abbrev pub Retained : {E : Type 0} → F → List (List ℕ × V) → Result (Unit {0}) E → List (List ℕ × V) → Type 0
-  Retained f es r ds = (last : F) × Retains f es r ds last
+  abbrev pub RetainsByValue : {E : Type 0} → F → List (List ℕ × V) → Result (Unit {0}) E → List (List ℕ × V) → Type 0
+  RetainsByValue f es r ds = (last : F) × Retains f es r ds last

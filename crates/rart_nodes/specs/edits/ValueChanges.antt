@@ -33,5 +33,5 @@ module _ {F V : Type 0} (call : Mut F (MutBor V × Unit {0}) (Unit {0} × (MutBo
       × ((g : F) × (ChangesValue (begins p e.0) f e.1 d.1 g × ChangesBelow p g es ds f'))
 
   -- the same of an f taken by value
-  abbrev pub ChangedBelow : List ℕ → F → List (List ℕ × V) → List (List ℕ × V) → Type 0
-  ChangedBelow p f es ds = (last : F) × ChangesBelow p f es ds last
+  abbrev pub ChangesBelowByValue : List ℕ → F → List (List ℕ × V) → List (List ℕ × V) → Type 0
+  ChangesBelowByValue p f es ds = (last : F) × ChangesBelow p f es ds last

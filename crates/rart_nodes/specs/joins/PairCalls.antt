@@ -28,8 +28,8 @@ module _ {F V W : Type 0} (g : Mut F (Bor V × (Bor W × Unit {0})) (Unit {0})) 
   CallsWithEach f xs f' = FoldsTo (λ p x q. CalledWith g p x q) f xs f'
 
   -- the same of an f taken by value
-  abbrev pub CalledWithEach : F → List (V × W) → Type 0
-  CalledWithEach f xs = CallsEach (λ p x q. CalledWith g p x q) f xs
+  abbrev pub CallsWithEachByValue : F → List (V × W) → Type 0
+  CallsWithEachByValue f xs = CallsEach (λ p x q. CalledWith g p x q) f xs
 
 -- f was called at the key and the values x, and is then f'
 pub record CalledAt {F K V W : Type 0} (g : Mut F (K × (Bor V × (Bor W × Unit {0}))) (Unit {0})) (bytes : K
@@ -57,5 +57,5 @@ module _ {F K V W : Type 0} (g : Mut F (K × (Bor V × (Bor W × Unit {0}))) (Un
   CallsAtEach f xs f' = FoldsTo (λ p x q. CalledAt g bytes p x q) f xs f'
 
   -- the same of an f taken by value
-  abbrev pub CalledAtEach : F → List (List ℕ × (V × W)) → Type 0
-  CalledAtEach f xs = CallsEach (λ p x q. CalledAt g bytes p x q) f xs
+  abbrev pub CallsAtEachByValue : F → List (List ℕ × (V × W)) → Type 0
+  CallsAtEachByValue f xs = CallsEach (λ p x q. CalledAt g bytes p x q) f xs

@@ -33,5 +33,5 @@ module _ {F V W : Type 0} (g : Mut F (LendingKeyView × (Bor V × (Bor W × Unit
   ViewsAtEach f xs f' = FoldsTo (λ p x q. ViewedAt g p x q) f xs f'
 
   -- the same of an f taken by value
-  abbrev pub ViewedAtEach : F → List (List ℕ × (V × W)) → Type 0
-  ViewedAtEach f xs = CallsEach (λ p x q. ViewedAt g p x q) f xs
+  abbrev pub ViewsAtEachByValue : F → List (List ℕ × (V × W)) → Type 0
+  ViewsAtEachByValue f xs = CallsEach (λ p x q. ViewedAt g p x q) f xs

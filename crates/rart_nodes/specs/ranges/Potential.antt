@@ -1,6 +1,6 @@
 -- What a walk that stops at an end may visit beyond two nodes for each pair that it gave.
 use Rattle.std.specs.Prelude.{ℕ, ◌+◌, ◌≤◌, List, [], ◌∷◌, length}
-use Rattle.rart_nodes.specs.statistics.Statistics.{children_height}
+use Rattle.rart_nodes.specs.stats.Stats.{children_height}
 use Rattle.rart_nodes.specs.tries.Trie.{Children, no_children, child}
 use Rattle.rart_nodes.specs.walks.Walk.{Level}
 

@@ -3,7 +3,7 @@ use Rattle.std.specs.Prelude.{ℕ, ◌+◌, ◌*◌, List, length}
 use Rattle.std.specs.declared.ops.Bound.{Bound}
 use Rattle.rart_keys.specs.Ranges.{between, bound_bytes}
 use Rattle.rart_keys.specs.SortedMap.{keys_of}
-use Rattle.rart_nodes.specs.statistics.Statistics.{height}
+use Rattle.rart_nodes.specs.stats.Stats.{height}
 use Rattle.rart_nodes.specs.walks.Cut.{cut_pairs}
 use Rattle.rart_nodes.specs.walks.ProbeCount.{probe_count}
 use Rattle.rart_nodes.specs.walks.Walk.{SegmentList}

@@ -28,5 +28,5 @@ module _ {F V : Type 0} (g : Mut F (Bor (List ℕ) × (Bor V × Unit {0})) (Unit
   MatchesEach f xs f' = FoldsTo (λ p x q. Matched g p x q) f xs f'
 
   -- the same of an f taken by value
-  abbrev pub MatchedEach : F → List (List ℕ × V) → Type 0
-  MatchedEach f xs = CallsEach (λ p x q. Matched g p x q) f xs
+  abbrev pub MatchesEachByValue : F → List (List ℕ × V) → Type 0
+  MatchesEachByValue f xs = CallsEach (λ p x q. Matched g p x q) f xs

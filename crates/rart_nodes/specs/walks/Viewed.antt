@@ -35,8 +35,8 @@ module _ {F V : Type 0} (g : Mut F (LendingKeyView × (Bor V × Unit {0})) (Unit
   ViewsEach f xs f' = FoldsTo (λ p x q. Viewed g p x q) f xs f'
 
   -- the same of an f taken by value
-  abbrev pub ViewedEach : F → List (SegmentList × V) → Type 0
-  ViewedEach f xs = CallsEach (λ p x q. Viewed g p x q) f xs
+  abbrev pub ViewsEachByValue : F → List (SegmentList × V) → Type 0
+  ViewsEachByValue f xs = CallsEach (λ p x q. Viewed g p x q) f xs
 
 -- f may be called with a view of the pair that is found, if there is one, its key cut as s says
 abbrev pub CanShowFound : {F V : Type 0} → Mut F (LendingKeyView × (Bor V × Unit {0})) (Unit {0}) → F → List (List ℕ)

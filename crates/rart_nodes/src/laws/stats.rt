@@ -1,7 +1,7 @@
 //! The theorems on statistics, each the contract of a function with an empty body.
 ghost use Rattle.std.specs.Prelude.{◌≡◌, ◌+◌, ◌*◌, ◌≤◌, length};
 ghost use Rattle.rart_keys.specs.SortedMap.{keys_of};
-ghost use Rattle.rart_nodes.specs.statistics.Statistics.{height, stats_of, sum_in, trie_height, trie_stats, width_at};
+ghost use Rattle.rart_nodes.specs.stats.Stats.{height, stats_of, sum_in, trie_height, trie_stats, width_at};
 ghost use Rattle.rart_nodes.specs.tries.Trie.{Trie, IsCanonical, nodes_of, pairs_of};
 
 /// Proves that the statistics of a canonical trie are those of its keys. The height is the greatest number of branch

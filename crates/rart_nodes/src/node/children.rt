@@ -1,4 +1,4 @@
-//! An iterator over the children of a node. A contract reads it as the list of remaining children.
+//! An iterator over the children of a node, which a contract reads as the list of remaining children.
 ghost use Rattle.std.specs.Prelude.{◌≡◌, ◌↔◌, IsTrue};
 ghost use Rattle.std.specs.Iterator.{YieldsFirstBy, item_count};
 ghost use Rattle.rart_parts.specs.Entries.{BytesAscend};

@@ -27,9 +27,9 @@ fn same_nodes<P: Partial, V: PartialEq, C: Count>(
     counter: &mut C,
 ) -> bool
     ensures value { result ≡ same_tries V.eq left.entry.node.now right.entry.node.now }
-    ensures left { C.number counter.new + 1
+    ensures left_visits { C.number counter.new + 1
         ≤ C.number counter.old + node_count left.entry.node.now }
-    ensures right { C.number counter.new + 1
+    ensures right_visits { C.number counter.new + 1
         ≤ C.number counter.old + node_count right.entry.node.now }
 {
     if left.prefix().to_slice() != right.prefix().to_slice() {

@@ -4,11 +4,12 @@ ghost use Rattle.rart_keys.specs.Joins.{join};
 ghost use Rattle.rart_keys.specs.SortedMap.{longest_key, values_of};
 ghost use Rattle.rart_nodes.specs.joins.Intersections.{intersect_nodes};
 ghost use Rattle.rart_nodes.specs.joins.Visitors.{CanGive};
-ghost use Rattle.rart_nodes.specs.joins.PairCalls.{CalledAtEach, CalledWithEach, CallsAtEach, CallsWithEach, CanCallAt};
+ghost use Rattle.rart_nodes.specs.joins.PairCalls.{CallsAtEach, CallsAtEachByValue, CallsWithEach};
+ghost use Rattle.rart_nodes.specs.joins.PairCalls.{CallsWithEachByValue, CanCallAt};
 ghost use Rattle.rart_nodes.specs.joins.PairCalls.{CanCallWith};
 ghost use Rattle.rart_nodes.specs.joins.SeenJoins.{MayLackBoth, seen_bound, seen_join, seen_visits};
 ghost use Rattle.rart_nodes.specs.joins.SharedEdges.{joint_visits, more_visits};
-ghost use Rattle.rart_nodes.specs.joins.ViewCalls.{CanViewAt, ViewedAtEach, ViewsAtEach};
+ghost use Rattle.rart_nodes.specs.joins.ViewCalls.{CanViewAt, ViewsAtEachByValue, ViewsAtEach};
 ghost use Rattle.rart_nodes.specs.joins.JoinPaths.{HasCapacityOf, PathGrown};
 ghost use Rattle.rart_nodes.specs.tries.SeenTrees.{length_bound, seen_keys, seen_nodes, seen_pairs};
 ghost use Rattle.rart_nodes.specs.tries.Trie.{pairs_of};
@@ -40,7 +41,7 @@ fn intersect_below<'a, P: Partial, V, W, C: Count, F, T: Visitor<V, W, F>>(
     requires callable { CanGive T.can T.given path.old f.old
         (intersect_nodes left.node.now right.node.now) }
     ensures place { PathGrown path.old [] path.new }
-    ensures given { T.given path.old f.old
+    ensures calls { T.given path.old f.old
         (intersect_nodes left.entry.node.now right.entry.node.now) f.new }
     ensures visits { C.number counter.new ≡ C.number counter.old
         + more_visits left.entry.node.now right.entry.node.now }
@@ -77,7 +78,7 @@ fn intersect_trees<'a, K: KeyTrait, V, W, C: Count, F, T: Visitor<V, W, F>>(
     requires reserved { T.reserved path.old (longest_key (seen_pairs left)) }
     requires capacity { HasCapacityOf (length_bound left) path.old }
     requires callable { CanGive T.can T.given path.old f.old (seen_join left right) }
-    ensures given { T.given path.old f.old
+    ensures calls { T.given path.old f.old
         (join (seen_pairs left.entry) (seen_pairs right.entry)) f.new }
     ensures visits { C.number counter.new
         ≡ C.number counter.old + joint_visits (seen_keys left.entry) (seen_keys right.entry) }
@@ -159,7 +160,8 @@ impl<'a, K: KeyTrait, V, C: Count> Seen<'a, K, V, C> {
         counter: &mut C,
     )
         requires callable { CanCallWith F.FnMut f (values_of (seen_join self other)) }
-        ensures calls { CalledWithEach F.FnMut f (values_of (seen_join self.entry other.entry)) }
+        ensures calls { CallsWithEachByValue F.FnMut f
+            (values_of (seen_join self.entry other.entry)) }
         ensures visits { C.number counter.new
             ≡ C.number counter.old + seen_visits self.entry other.entry }
         ensures bound { C.number counter.new
@@ -227,7 +229,7 @@ impl<'a, K: KeyTrait, V, C: Count> Seen<'a, K, V, C> {
         counter: &mut C,
     ) -> Result<(), TreeError>
         requires callable { CanCallAt F.FnMut K.bytes f (seen_join self other) }
-        ensures calls { OnOk result (CalledAtEach F.FnMut K.bytes f
+        ensures calls { OnOk result (CallsAtEachByValue F.FnMut K.bytes f
             (seen_join self.entry other.entry)) }
         ensures memory { IfErr result
             (MayLackBoth (seen_pairs self.entry) (seen_pairs other.entry)) }
@@ -300,7 +302,8 @@ impl<'a, K: KeyTrait, V, C: Count> Seen<'a, K, V, C> {
         counter: &mut C,
     ) -> Result<(), TreeError>
         requires callable { CanViewAt F.FnMut f (seen_join self other) }
-        ensures calls { OnOk result (ViewedAtEach F.FnMut f (seen_join self.entry other.entry)) }
+        ensures calls { OnOk result (ViewsAtEachByValue F.FnMut f
+            (seen_join self.entry other.entry)) }
         ensures memory { IfErr result
             (MayLackBoth (seen_pairs self.entry) (seen_pairs other.entry)) }
         ensures unvisited { OnErr result (C.number counter.new ≡ C.number counter.old) }

@@ -1,5 +1,7 @@
-//! Iterators over a shared tree in key order. Each allocates when it is created, and a contract reads it as the list
-//! of remaining items.
+//! Iterators over a shared tree in key order, which a contract reads as the list of remaining items.
+
+// Each allocates when it is created.
+
 ghost use Rattle.std.specs.Prelude.{◌≡◌, ◌≤◌, ◌+◌, [], ◌∷◌, length, IfErr, IfOk, MatchOption, OnErr};
 ghost use Rattle.std.specs.Iterator.{YieldsFirstBy, item_count};
 ghost use Rattle.std.specs.Option.{option_copied};
@@ -50,7 +52,7 @@ impl<'a, K: KeyTrait, P: Partial, V, C: Count> KeyWalk<'a, K, P, V, C> {
     pub(crate) fn step(&mut self, counter: &mut C) -> Option<(K, &'a V)>
         ensures pairs { MatchOption result ((self.old ≡ []) × (self.new ≡ []))
             (λ p. self.old ≡ (K.bytes p.0, p.1.now) ∷ self.new) }
-        ensures visits { VisitsAtMost (λ p. length (K.bytes p.0)) (C.number counter.old) result
+        ensures bound { VisitsAtMost (λ p. length (K.bytes p.0)) (C.number counter.old) result
             (C.number counter.new) }
     {
         let value = self.walk.advance(&mut self.path, counter)?;
@@ -81,7 +83,7 @@ impl<'a, K: KeyTrait, V, C: Count> SeenIter<'a, K, V, C> {
     pub fn next_counted(&mut self, counter: &mut C) -> Option<(K, &'a V)>
         ensures pairs { MatchOption result ((self.old ≡ []) × (self.new ≡ []))
             (λ p. self.old ≡ (K.bytes p.0, p.1.now) ∷ self.new) }
-        ensures visits { VisitsAtMost (λ p. length (K.bytes p.0) + 1) (C.number counter.old) result
+        ensures bound { VisitsAtMost (λ p. length (K.bytes p.0) + 1) (C.number counter.old) result
             (C.number counter.new) }
     {
         self.pairs.step(counter)

@@ -1,4 +1,4 @@
-//! The trait `Node`, and nodes that a caller builds by hand. They need not be canonical.
+//! The trait `Node`, and nodes that a caller builds by hand, which need not be canonical.
 ghost use Rattle.std.specs.Prelude.{◌≡◌, ◌≢◌, ◌↔◌, [], length, None, Some, option_map, IfErr, IfOk, IsTrue, OnErr};
 ghost use Rattle.std.specs.Prelude.{OnOk, OnSome};
 ghost use Rattle.std.specs.Borrow.{sem, LendsSo};

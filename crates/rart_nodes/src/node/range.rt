@@ -1,7 +1,8 @@
 //! Iterators over the pairs of a tree within two bounds, in key order.
-//!
-//! A range starts at its lower bound and ends for good at the first key past its upper bound. A contract reads it as
-//! the upper bound and the remaining pairs of the walk; `up_to` of both lists the remaining pairs of the range.
+
+// A range starts at its lower bound and ends for good at the first key past its upper bound. A contract reads it as the
+// upper bound and the remaining pairs of the walk; `up_to` of both lists the remaining pairs of the range.
+
 ghost use Rattle.std.specs.Iterator.{YieldsFirstBy, item_count};
 ghost use Rattle.std.specs.Ordering.{match_ordering};
 ghost use Rattle.std.specs.Prelude.{◌≡◌, ◌≤◌, ◌+◌, [], length, IfErr, IfOk, OnErr, true, false};
@@ -88,7 +89,7 @@ impl<'a, K: KeyTrait + Drop, P: Partial, V, C: Count> BoundedWalk<'a, K, P, V, C
     fn step(&mut self, counter: &mut C) -> Option<(K, &'a V)>
         ensures pairs { TakesUpTo K.bytes self.old result self.new }
         ensures end { self.new.0 ≡ self.old.0 }
-        ensures visits { C.number counter.new ≤ C.number counter.old + bytes_taken self.old.1 }
+        ensures bound { C.number counter.new ≤ C.number counter.old + bytes_taken self.old.1 }
     {
         let (key, value) = match &mut self.walk {
             WalkState::Active(walk) => walk.step(counter)?,
@@ -136,7 +137,7 @@ impl<'a, K: KeyTrait, V> Range<'a, K, V> {
     pub fn for_iter(iter: Iter<'a, K, K::PartialType, V>, end: Bound<K>) -> Self
         ensures end { result.0 ≡ bound_in K.bytes end }
         ensures pairs { result.1 ≡ iter.entry }
-        ensures within { IsAscending iter.entry → up_to result.0 result.1
+        ensures pairs_between { IsAscending iter.entry → up_to result.0 result.1
             ≡ between Unbounded (bound_in K.bytes end) iter.entry }
     {
         let pairs = BoundedWalk {
@@ -192,7 +193,7 @@ impl<'a, K: KeyTrait + Drop, V, C: Count> SeenRange<'a, K, V, C> {
     pub fn next_counted(&mut self, counter: &mut C) -> Option<(K, &'a V)>
         ensures pairs { TakesUpTo K.bytes self.old result self.new }
         ensures end { self.new.0 ≡ self.old.0 }
-        ensures visits { C.number counter.new ≤ C.number counter.old + bytes_taken self.old.1 }
+        ensures bound { C.number counter.new ≤ C.number counter.old + bytes_taken self.old.1 }
     {
         self.pairs.step(counter)
     }

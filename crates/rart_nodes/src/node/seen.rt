@@ -1,8 +1,9 @@
 //! A shared tree whose reads are counted.
-//!
-//! Only this module accesses the nodes of a shared tree. It returns the prefix, the value and the children of a node
-//! only to a caller that visits it, and each visit adds one to the caller's counter. Look-ups and walks are in other
-//! modules.
+
+// Only this module accesses the nodes of a shared tree. It returns the prefix, the value and the children of a node
+// only to a caller that visits it, and each visit adds one to the caller's counter. Look-ups and walks are in other
+// modules.
+
 ghost use Rattle.std.specs.Prelude.{◌≡◌, ◌↔◌, ◌≤◌, ◌+◌, ℕ, IsTrue, MatchOption, Some, length, option_map, true};
 ghost use Rattle.std.specs.Option.{option_copied};
 ghost use Rattle.rart_keys.specs.KeyBytes.{IsWithin, IsWithin-prop};
@@ -119,8 +120,8 @@ impl<'a, K: KeyTrait, V, C> Seen<'a, K, V, C> {
 
     /// Returns an upper bound of the lengths of the keys, within the keys' maximum.
     pub(crate) fn longest(self) -> usize
-        ensures short { longest_key (seen_pairs self.entry) ≤ result }
-        ensures fits { IsWithin K.MAXIMUM_SIZE result }
+        ensures bounds_keys { longest_key (seen_pairs self.entry) ≤ result }
+        ensures within { IsWithin K.MAXIMUM_SIZE result }
         ensures own { result ≡ length_bound self.entry }
     {
         self.longest
@@ -145,10 +146,10 @@ impl<'a, K: KeyTrait, V, C> Seen<'a, K, V, C> {
         longest: usize,
     ) -> Self
         requires canonical { IsCanonicalTree (option_copied root) }
-        requires short { longest_key (tree_pairs (option_copied root)) ≤ longest }
-        requires fits { IsWithin K.MAXIMUM_SIZE longest }
+        requires bounds_keys { longest_key (tree_pairs (option_copied root)) ≤ longest }
+        requires within { IsWithin K.MAXIMUM_SIZE longest }
         ensures root { seen_tree result ≡ option_copied root.entry }
-        ensures bound { length_bound result ≡ longest }
+        ensures length { length_bound result ≡ longest }
     {
         Seen {
             root,

@@ -1,5 +1,7 @@
-//! The children of a node, in one of four maps or in none. A contract reads storage as its ascending list of entries
-//! and a capacity.
+//! The children of a node, in one of four maps or in none.
+
+// A contract reads storage as its ascending list of entries and a capacity.
+
 ghost use Rattle.std.specs.Prelude.{◌≡◌, ◌<◌, [], length, None};
 ghost use Rattle.std.specs.Option.{option_copied};
 ghost use Rattle.rart_parts.specs.Entries.{child_at, with_entry, without_byte};
@@ -33,7 +35,7 @@ pub(crate) enum Storage<N> {
 impl<N> Storage<N> {
     /// Returns storage of capacity 0. It does not allocate.
     pub(crate) fn empty() -> Self
-        ensures stored { child_entries result ≡ [] }
+        ensures entries { child_entries result ≡ [] }
         ensures capacity { storage_capacity result ≡ 0 }
     {
         Storage::Leaf
@@ -83,7 +85,7 @@ impl<N> Storage<N> {
     pub(crate) fn add_within(&mut self, b: u8, node: N)
         requires absent { child_at b (child_entries self.old) ≡ None }
         requires not_full { length (child_entries self.old) < storage_capacity self.old }
-        ensures stored { child_entries self.new ≡ with_entry b node (child_entries self.old) }
+        ensures entries { child_entries self.new ≡ with_entry b node (child_entries self.old) }
         ensures capacity { storage_capacity self.new ≡ storage_capacity self.old }
     {
         match self {
@@ -98,7 +100,7 @@ impl<N> Storage<N> {
     /// Removes the child at byte `b` and keeps the kind. It does not allocate.
     pub(crate) fn delete_within(&mut self, b: u8) -> Option<N>
         ensures taken { result ≡ child_at b (child_entries self.old) }
-        ensures stored { child_entries self.new ≡ without_byte b (child_entries self.old) }
+        ensures entries { child_entries self.new ≡ without_byte b (child_entries self.old) }
         ensures capacity { storage_capacity self.new ≡ storage_capacity self.old }
     {
         match self {

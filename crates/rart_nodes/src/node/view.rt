@@ -32,7 +32,7 @@ impl<'tree, 'view> LendingKeyView<'tree, 'view> {
 
     /// Returns the view of non-empty segments, whose bytes together must be countable.
     pub(crate) fn of(segments: &'view [&'tree [u8]]) -> Self
-        requires small { length (joined_bytes (lent_segments segments.now)) < 2 ^ 64 }
+        requires fits { length (joined_bytes (lent_segments segments.now)) < 2 ^ 64 }
         requires nonempty { all_have_bytes (lent_segments segments.now) ≡ true }
         ensures { view_segments result ≡ lent_segments segments.now }
     {

@@ -1,5 +1,7 @@
-//! A walk over a shared tree in key order that allocates when it is created. It keeps a cursor over the children of
-//! each inner node on its path.
+//! A walk over a shared tree in key order, with a cursor over the children of each inner node on its path.
+
+// It allocates when it is created.
+
 ghost use Rattle.std.specs.Prelude.{◌≡◌, ◌≢◌, ◌≤◌, ◌<◌, ◌+◌, ◌++◌, [], length, reverse, take, vec_len, vec_capacity};
 ghost use Rattle.std.specs.Prelude.{MatchOption, IfOk, OnErr};
 ghost use Rattle.std.specs.Option.{option_copied};
@@ -60,7 +62,7 @@ fn enter_deepest<'a, P: Partial, V, C: Count>(
         (λ e. DeepestStep levels.old.items e.0.node.now e.1 levels.new.items) }
     ensures counted { C.number counter.new ≡ C.number counter.old + count_of result }
     ensures len { vec_len levels.new ≡ vec_len levels.old }
-    ensures capacity { vec_capacity levels.new ≡ vec_capacity levels.old }
+    ensures level_capacity { vec_capacity levels.new ≡ vec_capacity levels.old }
 {
     let level = levels.last_mut()?;
     let at = level.0.enter_next(counter)?;
@@ -99,7 +101,7 @@ pub(crate) fn walk_at<'a, P: Partial, V, C, T: Path<'a, P>>(
     path: &mut T,
     at: Entered<'a, P, V, C>,
 ) -> Walk<'a, P, V, C>
-    requires short { length (T.kept path.old) + longest_key (pairs_of at.node.now) ≤ longest }
+    requires bounds_keys { length (T.kept path.old) + longest_key (pairs_of at.node.now) ≤ longest }
     requires reserved { longest ≤ T.capacity path.old }
     requires places { longest < vec_capacity levels }
     requires empty_walk { levels.items ≡ [] }
@@ -110,7 +112,7 @@ pub(crate) fn walk_at<'a, P: Partial, V, C, T: Path<'a, P>>(
         ≡ segments_after (T.kept path.old) (entries_of T.grown at.entry.node.now) }
     ensures visits { walk_nodes result + 1 ≡ node_count at.entry.node.now }
     ensures longest { result.longest ≡ longest }
-    ensures places { vec_capacity result.levels ≡ vec_capacity levels.entry }
+    ensures level_capacity { vec_capacity result.levels ≡ vec_capacity levels.entry }
 {
     path.grow(at.prefix());
     levels.push_reserved((at.branches(), path.mark()));
@@ -144,7 +146,7 @@ pub(crate) fn empty_walk<'a, P: Partial, V, C, T: Path<'a, P>>(
 impl<'a, K: KeyTrait, V, C> Seen<'a, K, V, C> {
     /// Returns an empty path with capacity for the number of bytes that the tree keeps, and for no more.
     pub(crate) fn new_path<T: Path<'a, K::PartialType>>(self) -> Result<T, AllocError>
-        ensures nothing { IfOk result (λ t. T.kept t ≡ []) }
+        ensures empty_path { IfOk result (λ t. T.kept t ≡ []) }
         ensures reserved { IfOk result (λ t. self.entry.longest ≤ T.capacity t) }
         ensures requested { IfOk result (λ t. T.requested t ≤ self.entry.longest) }
     {
@@ -202,7 +204,7 @@ impl<'a, P: Partial, V, C: Count> Walk<'a, P, V, C> {
         ensures bound { KeepsEach T.grown
             → MatchOption result (C.number counter.new ≡ C.number counter.old)
             (λ _. C.number counter.new ≤ C.number counter.old + length (T.kept path.new)) }
-        ensures paid { MatchOption result
+        ensures amortized { MatchOption result
             (C.number counter.new + potential (reverse self.old.levels.items)
             ≤ C.number counter.old)
             (λ _. IsAmortized (C.number counter.old) (C.number counter.new)

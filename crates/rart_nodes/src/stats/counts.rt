@@ -1,9 +1,9 @@
 //! The counters for the statistics of a tree; only the conversion to statistics allocates.
 ghost use Rattle.std.specs.Prelude.{◌≡◌, ◌+◌, ◌≤◌, IfErr, IfOk, OnErr, OnOk};
-ghost use Rattle.rart_nodes.specs.statistics.CountedNodes.{children_counted, counts_added, counts_by, counts_of_node};
-ghost use Rattle.rart_nodes.specs.statistics.CountedNodes.{counts_sum, inner_counted, stats_counted, width_counted};
-ghost use Rattle.rart_nodes.specs.statistics.CountedNodes.{with_width};
-ghost use Rattle.rart_nodes.specs.statistics.Statistics.{one_if, stats_in};
+ghost use Rattle.rart_nodes.specs.stats.CountedNodes.{children_counted, counts_added, counts_by, counts_of_node};
+ghost use Rattle.rart_nodes.specs.stats.CountedNodes.{counts_sum, inner_counted, stats_counted, width_counted};
+ghost use Rattle.rart_nodes.specs.stats.CountedNodes.{with_width};
+ghost use Rattle.rart_nodes.specs.stats.Stats.{one_if, stats_in};
 
 use crate::stats::{NodeStats, TreeStats};
 use rart_parts::TreeError;

@@ -1,4 +1,4 @@
-//! An inline index from bytes to slots. A contract reads it as a list of 256 optional slots.
+//! An inline index from bytes to slots, which a contract reads as a list of 256 optional slots.
 ghost use Rattle.std.specs.Prelude.{◌≡◌, ◌<◌, None, Some, replicate, slice_index_or, slice_set};
 ghost use Rattle.std.specs.Iterator.{YieldsFirst, item_count};
 ghost use Rattle.rart_parts.specs.Bits.{IsFirst};

@@ -1,4 +1,4 @@
-//! A map from bytes to children with a slot for each byte. A contract reads it as the list of its entries, ascending.
+//! A map from bytes to children with a slot for each byte, which a contract reads as its ascending entries.
 
 ghost use Rattle.std.specs.Prelude.{◌≡◌, ℕ, [], ◌∷◌, IfSome, Some, ◌<◌, ◌≤◌, length, IfErr, IfOk, None, OnOk, OnErr};
 ghost use Rattle.std.specs.Iterator.{UpTo, YieldsFirst, YieldsFirstBy, item_count};

@@ -1,5 +1,7 @@
-//! A map from bytes to children with an index from bytes to slots. The model lists the entries in slot order; the
-//! contracts of calls use `ascending` of it, the same entries in byte order.
+//! A map from bytes to children with an index from bytes to slots.
+
+// The model lists the entries in slot order; the contracts of calls use `ascending` of it, the same entries in byte
+// order.
 
 ghost use Rattle.std.specs.Prelude.{◌≡◌, ℕ, [], ◌∷◌, IfSome, IsSome, None, Some, ◌<◌, ◌≤◌, ◌^◌, length, IfErr, IfOk};
 ghost use Rattle.std.specs.Prelude.{OnOk, OnErr, MatchOption};

@@ -1,5 +1,7 @@
-//! A map from bytes to children that keeps an unordered key beside each slot. The model lists the entries in slot
-//! order; the contracts of calls use `ascending` of it, the same entries in byte order.
+//! A map from bytes to children that keeps an unordered key beside each slot.
+
+// The model lists the entries in slot order; the contracts of calls use `ascending` of it, the same entries in byte
+// order.
 
 ghost use Rattle.std.specs.Prelude.{◌≡◌, ℕ, [], ◌<◌, ◌≤◌, ◌^◌, length, IfErr, IfOk, OnOk, OnErr};
 ghost use Rattle.rart_parts.specs.Bits.{IsFirst};

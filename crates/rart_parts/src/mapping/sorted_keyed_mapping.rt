@@ -1,5 +1,4 @@
-//! A map from bytes to children that keeps its keys sorted and inline. A contract reads it as the list of its entries,
-//! ascending.
+//! A map from bytes to children with inline sorted keys, which a contract reads as its ascending entries.
 
 ghost use Rattle.std.specs.Prelude.{◌≡◌, ℕ, [], ◌∷◌, IfSome, Some, ◌++◌, ◌<◌, ◌≤◌, length, IfErr, IfOk, OnOk, OnErr};
 ghost use Rattle.std.specs.Prelude.{MatchOption};
@@ -240,7 +239,7 @@ impl<N, const W: usize> SortedKeyedMapping<N, W> {
 
 // The place of a key among the first `count`, which ascend, where the others are 255.
 fn place_of<const W: usize>(key: u8, keys: &[u8; W], count: usize) -> Option<usize>
-    requires within { count ≤ W }
+    requires few { count ≤ W }
     requires ascend { IsAscendingBelow keys.now count }
     requires padded { IsPadded keys.now count W }
     ensures { IsPlaceOf keys.now count key result }
@@ -256,7 +255,7 @@ fn place_of<const W: usize>(key: u8, keys: &[u8; W], count: usize) -> Option<usi
 // The first place among the first `count` keys, which ascend, whose key is above; `count` where there is none. The
 // other keys are 255, so it is found without a branch: as many keys of all are not above.
 fn first_above<const W: usize>(key: u8, keys: &[u8; W], count: usize) -> usize
-    requires within { count ≤ W }
+    requires few { count ≤ W }
     requires ascend { IsAscendingBelow keys.now count }
     requires padded { IsPadded keys.now count W }
     ensures { IsFirstAbove keys.now count key result }

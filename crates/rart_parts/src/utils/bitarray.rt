@@ -1,7 +1,7 @@
-//! An array of slots for values, with a bitset of the used ones. A contract reads it as the list of its slots.
-//!
-//! An empty bitset means *unknown*: calls scan the slots, and the next write rebuilds it. It is empty in an array with
-//! no value, and after `iter_mut`.
+//! An array of slots for values, with a bitset of the used ones, which a contract reads as the list of its slots.
+
+// An empty bitset means *unknown*: calls scan the slots, and the next write rebuilds it. It is empty in an array with
+// no value, and after `iter_mut`.
 
 mod iter;
 mod iter_mut;
@@ -186,7 +186,7 @@ impl<X, const RANGE_WIDTH: usize, B: BitsetTrait> BitArray<X, RANGE_WIDTH, B> {
 
     /// Stores a value in a free slot. It drops nothing, so `X` needs no `Drop`.
     pub(crate) fn put(&mut self, position: usize, x: X)
-        requires within { position < RANGE_WIDTH }
+        requires in_range { position < RANGE_WIDTH }
         requires free { is_used self.old position ≡ false }
         ensures { self.new ≡ slice_set self.old position (Some x) }
     {

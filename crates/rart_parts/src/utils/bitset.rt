@@ -1,4 +1,4 @@
-//! Sets of small numbers, one bit each. A contract reads a set as its membership test.
+//! Sets of small numbers, one bit each, which a contract reads as a membership test.
 
 mod ones;
 mod set;

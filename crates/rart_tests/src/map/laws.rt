@@ -2,7 +2,7 @@
 ghost use Rattle.std.specs.Prelude.{◌≡◌, ◌∷◌, []};
 ghost use Rattle.rart_keys.specs.SortedMap.{put};
 
-use crate::play::replies::{have_same_statistics, is_counted};
+use crate::play::replies::{have_same_stats, is_counted};
 use rart::{AdaptiveRadixTree, ArrPartial, ArrayKey, Iter, KeyTrait, TreeStats, ValuesIter, laws};
 use std::alloc::Global;
 use std::process::Abort;
@@ -95,7 +95,7 @@ fn put_and_removed(
 }
 
 fn has_dog_and_do(rt: &impl Abort, tree: &Tree<Key>, other: &Tree<Key>) {
-    assert!(rt; have_same_statistics(tree, other));
+    assert!(rt; have_same_stats(tree, other));
     assert_eq!(rt; tree.get_bytes(b"cat"), None);
     assert_eq!(rt; tree.get_bytes(b"dog"), Some(&5));
     assert_eq!(rt; tree.get_bytes(b"do"), Some(&4));
@@ -117,7 +117,7 @@ fn are_restored(before: &TreeStats, between: &TreeStats, after: &TreeStats) -> b
 }
 
 // Whether the statistics after the removal of a new key are those before it; false where the key isn't new.
-fn restores_statistics(tree: &mut Tree<Key>, key: &Key) -> bool {
+fn restores_stats(tree: &mut Tree<Key>, key: &Key) -> bool {
     if tree.get_k(key).is_some() {
         return false;
     }
@@ -128,9 +128,9 @@ fn restores_statistics(tree: &mut Tree<Key>, key: &Key) -> bool {
 }
 
 #[test]
-fn statistics_before_a_new_key_are_those_after_its_removal(rt: HostRuntime) {
+fn stats_before_a_new_key_are_those_after_its_removal(rt: HostRuntime) {
     let mut tree = dog_and_do(&rt, rt.alloc());
-    let restored = restores_statistics(&mut tree, &Key::new_from_slice(b"dot"));
+    let restored = restores_stats(&mut tree, &Key::new_from_slice(b"dot"));
     assert!(rt; restored);
 }
 
@@ -168,7 +168,7 @@ fn compare<K: KeyTrait, L: KeyTrait>(rt: &impl Abort, one: &Tree<K>, other: &Tre
     requires { one.now.pairs ≡ other.now.pairs }
 {
     laws::equal_keys_equal_nodes(one, other);
-    match laws::equal_keys_equal_statistics(one, other) {
+    match laws::equal_keys_equal_stats(one, other) {
         Ok((left, right)) => {
             assert!(rt; is_counted(&left, &[1, 2, 1, 2], &[(4, 1, 1)]));
             assert!(rt; left == right);
@@ -178,7 +178,7 @@ fn compare<K: KeyTrait, L: KeyTrait>(rt: &impl Abort, one: &Tree<K>, other: &Tre
 }
 
 #[test]
-fn trees_with_equal_keys_have_equal_statistics(rt: HostRuntime) {
+fn trees_with_equal_keys_have_equal_stats(rt: HostRuntime) {
     let mut one = dog_and_do(&rt, rt.alloc());
     let other = two_keys(
         &rt,

@@ -1,5 +1,7 @@
-//! Conversions of numbers to keys and back. A key holds the big-endian bytes of its number, with the sign bit of a
-//! signed number flipped, so keys of one type order as their numbers.
+//! Conversions of numbers to keys, which order as their numbers do, and back.
+
+// A key holds the big-endian bytes of its number, with the sign bit of a signed number flipped.
+
 ghost use Rattle.std.specs.Prelude.{◌≡◌, ◌≤◌, take};
 ghost use Rattle.std.specs.Int.{w8, w16, w32, w64, w128, to_be_bytes};
 ghost use Rattle.rart_keys.specs.ArrayKeyBytes.{array_key_bytes};

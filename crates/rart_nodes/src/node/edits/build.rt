@@ -30,7 +30,7 @@ fn first_group(keys: &[&[u8]], depth: usize) -> (u8, usize)
     ensures byte { result.0 ≡ first_byte (rests depth keys.now) }
     ensures run { result.1 ≡ first_run (rests depth keys.now) }
     ensures some { 0 < result.1 }
-    ensures within { result.1 ≤ length keys.now }
+    ensures shorter { result.1 ≤ length keys.now }
 {
     let byte = keys[0][depth];
     // the last place where the byte was seen, and a later one
@@ -75,7 +75,7 @@ fn shared_length(first: &[u8], last: &[u8], depth: usize) -> usize
     ensures length { result
         ≡ common_prefix_len nat_eq (drop depth first.now) (drop depth last.now) }
     ensures reach { depth + result ≤ length first.now }
-    ensures small { depth + result < 2 ^ 64 }
+    ensures fits { depth + result < 2 ^ 64 }
 {
     common_prefix_length(&first[depth..], &last[depth..])
 }
@@ -100,10 +100,10 @@ fn add_node<P: Partial, V>(
     value: Option<V>,
     children: Storage<DefaultNode<P, V>>,
 )
-    requires fits { IsWithin P.MAXIMUM_SIZE (length prefix.now) }
+    requires within { IsWithin P.MAXIMUM_SIZE (length prefix.now) }
     requires absent { child_at b (child_entries storage.old) ≡ None }
     requires not_full { length (child_entries storage.old) < storage_capacity storage.old }
-    ensures stored { child_entries storage.new
+    ensures entries { child_entries storage.new
         ≡ with_entry b (built prefix.now value children) (child_entries storage.old) }
     ensures capacity { storage_capacity storage.new ≡ storage_capacity storage.old }
 {
@@ -118,7 +118,7 @@ fn add_node<P: Partial, V>(
 impl<N> Storage<N> {
     /// Returns empty storage of the kind for `count` children.
     fn for_children(alloc: Global, count: usize) -> Result<Self, TreeError>
-        ensures stored { IfOk result (λ s. child_entries s ≡ []) }
+        ensures entries { IfOk result (λ s. child_entries s ≡ []) }
         ensures capacity { IfOk result (λ s. storage_capacity s ≡ capacity_of count) }
         ensures memory { IfErr result (λ e. e ≡ TreeError.Memory) }
     {
@@ -157,7 +157,7 @@ impl<P: Partial, V: Drop> DefaultNode<P, V> {
         ensures keys { IfOk result (λ t. keys_of (pairs_of t) ≡ keys_in keys.now) }
         ensures values { IfOk result
             (λ t. Takes F.step 0 take_value.old (values_of (pairs_of t)) take_value.new) }
-        ensures taken { OnErr result ((vs : List V) × (length vs ≤ length keys.now)
+        ensures values_taken { OnErr result ((vs : List V) × (length vs ≤ length keys.now)
             × Takes F.step 0 take_value.old vs take_value.new) }
         ensures memory { IfErr result (λ e. e ≡ TreeError.Memory) }
     {
@@ -180,7 +180,7 @@ impl<P: Partial, V: Drop> DefaultNode<P, V> {
         take_value: &mut F,
     ) -> Result<(Option<V>, Storage<Self>, usize), TreeError>
         requires stretch { IsStretch P.MAXIMUM_SIZE depth keys.now }
-        requires small { from + length keys.now < 2 ^ 64 }
+        requires fits { from + length keys.now < 2 ^ 64 }
         requires callable { CanTake F.pre F.step from (length keys.now) take_value.old }
         ensures canonical { IfOk result
             (λ r. IsCanonical (built (first_bytes depth r.2 keys.now) r.0 r.1)) }
@@ -189,9 +189,9 @@ impl<P: Partial, V: Drop> DefaultNode<P, V> {
         ensures values { IfOk result (λ r. Takes F.step from take_value.old (values_of (pairs_of
             (built (first_bytes depth r.2 keys.now) r.0 r.1))) take_value.new) }
         ensures ends { IfOk result (λ r. (depth ≤ r.2) × (r.2 ≤ first_length keys.now)) }
-        ensures fits { IfOk result
+        ensures within { IfOk result
             (λ r. IsWithin P.MAXIMUM_SIZE (length (first_bytes depth r.2 keys.now))) }
-        ensures taken { OnErr result ((vs : List V) × (length vs ≤ length keys.now)
+        ensures values_taken { OnErr result ((vs : List V) × (length vs ≤ length keys.now)
             × Takes F.step from take_value.old vs take_value.new) }
         ensures memory { IfErr result (λ e. e ≡ TreeError.Memory) }
     {

@@ -1,4 +1,4 @@
-//! Drops of whole trees. They descend by recursion over references: no level holds a node.
+//! Drops of whole trees, by recursion over references: no level holds a node.
 ghost use Rattle.std.specs.Prelude.{◌≡◌, [], None};
 ghost use Rattle.rart_nodes.specs.storages.Stored.{child_entries, storage_capacity};
 
@@ -21,7 +21,7 @@ impl<P: Partial, V: Drop> DefaultNode<P, V> {
 
 /// Drops all nodes of a storage and frees it, the lowest nodes first.
 pub(super) fn drop_children<P: Partial, V: Drop>(storage: &mut Storage<DefaultNode<P, V>>)
-    ensures stored { child_entries storage.new ≡ [] }
+    ensures entries { child_entries storage.new ≡ [] }
     ensures capacity { storage_capacity storage.new ≡ 0 }
 {
     let mut next = storage.first_byte();
@@ -39,7 +39,7 @@ pub(super) fn drop_children<P: Partial, V: Drop>(storage: &mut Storage<DefaultNo
 // Not inline: the recursion that calls it holds no node on the stack.
 #[inline(never)]
 fn drop_leaves<P: Partial, V: Drop>(storage: &mut Storage<DefaultNode<P, V>>)
-    ensures stored { child_entries storage.new ≡ [] }
+    ensures entries { child_entries storage.new ≡ [] }
     ensures capacity { storage_capacity storage.new ≡ 0 }
 {
     *storage = Storage::empty();

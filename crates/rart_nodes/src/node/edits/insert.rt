@@ -1,4 +1,4 @@
-//! Insertion into the subtree of a node. It allocates before the first write.
+//! Insertion into the subtree of a node, which allocates before the first write.
 ghost use Rattle.std.specs.Prelude.{◌≡◌, ◌+◌, ◌<◌, ◌≤◌, length, max, true, IfErr, IfOk, None, Some, OnErr, OnOk};
 ghost use Rattle.rart_keys.specs.ByteStrings.{strip_prefix};
 ghost use Rattle.rart_keys.specs.KeyBytes.{IsWithin};
@@ -37,7 +37,7 @@ impl<P: Partial, V> DefaultNode<P, V> {
     #[inline(never)]
     pub(super) fn split(&mut self, alloc: Global, key: &[u8], value: V) -> Result<(), Refused<V>>
         requires leaves { None ≡ strip_prefix (prefix_of self.old) key.now }
-        requires fits { IsWithin P.MAXIMUM_SIZE (length key.now) }
+        requires within { IsWithin P.MAXIMUM_SIZE (length key.now) }
         ensures ok { OnOk result (self.new ≡ trie_put key.now value self.old) }
         ensures unchanged { OnErr result (self.new ≡ self.old) }
         ensures returned { IfErr result (λ r. (r.error ≡ TreeError.Memory) × (r.value ≡ value)) }
@@ -86,7 +86,7 @@ impl<P: Partial, V> DefaultNode<P, V> {
         back: &mut Option<V>,
     ) -> Result<(), InsertStop>
         requires canonical { IsCanonical self.old }
-        requires fits { IsWithin P.MAXIMUM_SIZE (length key.now) }
+        requires within { IsWithin P.MAXIMUM_SIZE (length key.now) }
         requires empty { back.old ≡ None }
         ensures ok { OnOk result (self.new ≡ trie_put key.now value self.old) }
         ensures answer { OnOk result (back.new ≡ trie_lookup key.now self.old) }
@@ -129,7 +129,7 @@ impl<P: Partial, V> DefaultNode<P, V> {
 
     fn put(&mut self, alloc: Global, key: &[u8], value: V) -> Result<Option<V>, Refused<V>>
         requires canonical { IsCanonical self.old }
-        requires fits { IsWithin P.MAXIMUM_SIZE (length key.now) }
+        requires within { IsWithin P.MAXIMUM_SIZE (length key.now) }
         ensures ok { OnOk result (self.new ≡ trie_put key.now value self.old) }
         ensures answer { IfOk result (λ old. old ≡ trie_lookup key.now self.old) }
         ensures unchanged { OnErr result (self.new ≡ self.old) }
@@ -150,7 +150,7 @@ impl<P: Partial, V> DefaultNode<P, V> {
 
     fn put_new(&mut self, alloc: Global, key: &[u8], value: V) -> Result<(), NotInserted<V>>
         requires canonical { IsCanonical self.old }
-        requires fits { IsWithin P.MAXIMUM_SIZE (length key.now) }
+        requires within { IsWithin P.MAXIMUM_SIZE (length key.now) }
         ensures ok { OnOk result (self.new ≡ trie_put key.now value self.old) }
         ensures fresh { OnOk result (trie_lookup key.now self.old ≡ None) }
         ensures unchanged { OnErr result (self.new ≡ self.old) }
@@ -179,7 +179,7 @@ impl<P: Partial, V> DefaultNode<P, V> {
     /// and the allocation fails. The node is then unchanged, and the error holds `value`.
     pub fn insert(&mut self, alloc: Global, key: &[u8], value: V) -> Result<Option<V>, Refused<V>>
         requires canonical { IsCanonical self.old }
-        requires fits { IsWithin P.MAXIMUM_SIZE (length key.now) }
+        requires within { IsWithin P.MAXIMUM_SIZE (length key.now) }
         ensures canonical { OnOk result (IsCanonical self.new) }
         ensures pairs { OnOk result (pairs_of self.new ≡ put key.now value (pairs_of self.old)) }
         ensures answer { IfOk result (λ old. old ≡ lookup key.now (pairs_of self.old)) }
@@ -202,7 +202,7 @@ impl<P: Partial, V> DefaultNode<P, V> {
     /// `insert`. The node is then unchanged, and the error holds `value`. Finding a stored key does not allocate.
     pub fn insert_new(&mut self, alloc: Global, key: &[u8], value: V) -> Result<(), NotInserted<V>>
         requires canonical { IsCanonical self.old }
-        requires fits { IsWithin P.MAXIMUM_SIZE (length key.now) }
+        requires within { IsWithin P.MAXIMUM_SIZE (length key.now) }
         ensures canonical { OnOk result (IsCanonical self.new) }
         ensures pairs { OnOk result (pairs_of self.new ≡ put key.now value (pairs_of self.old)) }
         ensures fresh { OnOk result (lookup key.now (pairs_of self.old) ≡ None) }
@@ -225,10 +225,10 @@ pub(super) fn add_leaf<P: Partial, V>(
     rest: &[u8],
     value: V,
 )
-    requires fits { IsWithin P.MAXIMUM_SIZE (length rest.now) }
+    requires within { IsWithin P.MAXIMUM_SIZE (length rest.now) }
     requires absent { child_at b (child_entries storage.old) ≡ None }
     requires not_full { length (child_entries storage.old) < storage_capacity storage.old }
-    ensures stored { child_entries storage.new
+    ensures entries { child_entries storage.new
         ≡ with_entry b (leaf rest.now value) (child_entries storage.old) }
     ensures capacity { storage_capacity storage.new ≡ storage_capacity storage.old }
 {

@@ -1,4 +1,4 @@
-//! Removal of the first or the last pair, on one descent. It allocates smaller storage before the first write.
+//! Removal of the first or the last pair, on one descent, which allocates smaller storage before the first write.
 ghost use Rattle.std.specs.Prelude.{◌≡◌, ◌≢◌, ◌+◌, ◌++◌, ◌≤◌, length, true, None, Some, IfErr, IfOk, OnErr};
 ghost use Rattle.std.specs.Prelude.{OnOk, option_map, slice_get};
 ghost use Rattle.std.specs.Option.{IsSomeAnd};
@@ -28,7 +28,7 @@ impl<P: Partial, V> DefaultNode<P, V> {
         removed: &mut Option<V>,
     ) -> Result<(), TreeError>
         requires canonical { IsCanonical self.old }
-        requires fits { IsWithin P.MAXIMUM_SIZE
+        requires within { IsWithin P.MAXIMUM_SIZE
             (length (P.bytes path.old) + longest_key (pairs_of self.old)) }
         requires inner { children_in self.old ≢ no_children }
         requires empty { removed.old ≡ None }
@@ -59,7 +59,7 @@ impl<P: Partial, V> DefaultNode<P, V> {
 
     fn pop_inner(&mut self, alloc: Global, end: End) -> Result<(P, V), TreeError>
         requires canonical { IsCanonical self.old }
-        requires fits { IsWithin P.MAXIMUM_SIZE (longest_key (pairs_of self.old)) }
+        requires within { IsWithin P.MAXIMUM_SIZE (longest_key (pairs_of self.old)) }
         requires inner { children_in self.old ≢ no_children }
         ensures ok { OnOk result (IsCanonical self.new) }
         ensures pairs { IfOk result (λ p. PopsEnd end (pairs_of self.old) (Some (P.bytes p.0, p.1))
@@ -90,7 +90,7 @@ impl<P: Partial, V> DefaultNode<P, V> {
         end: End,
     ) -> Result<Option<(P, V)>, TreeError>
         requires canonical { IsCanonicalTree root.old }
-        requires fits { IsWithin P.MAXIMUM_SIZE (longest_key (tree_pairs root.old)) }
+        requires within { IsWithin P.MAXIMUM_SIZE (longest_key (tree_pairs root.old)) }
         ensures canonical { OnOk result (IsCanonicalTree root.new) }
         ensures pairs { IfOk result (λ p. PopsEnd end (tree_pairs root.old)
             (option_map (λ p. (P.bytes p.0, p.1)) p) (tree_pairs root.new)) }
@@ -132,7 +132,7 @@ impl<P: Partial, V> DefaultNode<P, V> {
     /// the allocation fails. The tree is then unchanged.
     pub fn pop_first(root: &mut Option<Self>, alloc: Global) -> Result<Option<(P, V)>, TreeError>
         requires canonical { IsCanonicalTree root.old }
-        requires fits { IsWithin P.MAXIMUM_SIZE (longest_key (tree_pairs root.old)) }
+        requires within { IsWithin P.MAXIMUM_SIZE (longest_key (tree_pairs root.old)) }
         ensures canonical { OnOk result (IsCanonicalTree root.new) }
         ensures pairs { IfOk result (λ p. PopsFirst (tree_pairs root.old)
             (option_map (λ p. (P.bytes p.0, p.1)) p) (tree_pairs root.new)) }
@@ -156,7 +156,7 @@ impl<P: Partial, V> DefaultNode<P, V> {
     /// Those of `pop_first`. The tree is then unchanged.
     pub fn pop_last(root: &mut Option<Self>, alloc: Global) -> Result<Option<(P, V)>, TreeError>
         requires canonical { IsCanonicalTree root.old }
-        requires fits { IsWithin P.MAXIMUM_SIZE (longest_key (tree_pairs root.old)) }
+        requires within { IsWithin P.MAXIMUM_SIZE (longest_key (tree_pairs root.old)) }
         ensures canonical { OnOk result (IsCanonicalTree root.new) }
         ensures pairs { IfOk result (λ p. PopsLast (tree_pairs root.old)
             (option_map (λ p. (P.bytes p.0, p.1)) p) (tree_pairs root.new)) }

@@ -1,4 +1,4 @@
-//! Removal from the subtree of a node. It allocates smaller storage before the first write.
+//! Removal from the subtree of a node, which allocates smaller storage before the first write.
 ghost use Rattle.std.specs.Prelude.{◌≡◌, ◌≢◌, ◌+◌, ◌≤◌, length, true, false, [], IfErr, IfOk, IfSome, None, Some};
 ghost use Rattle.std.specs.Prelude.{OnErr, OnOk, option_and_then};
 ghost use Rattle.rart_keys.specs.KeyBytes.{IsWithin};
@@ -133,7 +133,7 @@ impl<P: Partial, V> DefaultNode<P, V> {
         removed: &mut Option<V>,
     ) -> Result<(), TreeError>
         requires canonical { IsCanonical self.old }
-        requires fits { IsWithin P.MAXIMUM_SIZE (longest_key (pairs_of self.old)) }
+        requires within { IsWithin P.MAXIMUM_SIZE (longest_key (pairs_of self.old)) }
         requires not_leaf { is_leaf_at key.now self.old ≡ false }
         requires empty { removed.old ≡ None }
         ensures ok { OnOk result (Some self.new ≡ trie_remove key.now self.old) }
@@ -165,7 +165,7 @@ impl<P: Partial, V> DefaultNode<P, V> {
 
     fn remove_below(&mut self, alloc: Global, key: &[u8]) -> Result<Option<V>, TreeError>
         requires canonical { IsCanonical self.old }
-        requires fits { IsWithin P.MAXIMUM_SIZE (longest_key (pairs_of self.old)) }
+        requires within { IsWithin P.MAXIMUM_SIZE (longest_key (pairs_of self.old)) }
         requires not_leaf { is_leaf_at key.now self.old ≡ false }
         ensures ok { OnOk result (Some self.new ≡ trie_remove key.now self.old) }
         ensures answer { IfOk result (λ old. old ≡ trie_lookup key.now self.old) }
@@ -187,7 +187,7 @@ impl<P: Partial, V> DefaultNode<P, V> {
     /// Removes `key` from the tree of an optional root, as `tree_remove` says.
     fn take_from(root: &mut Option<Self>, alloc: Global, key: &[u8]) -> Result<Option<V>, TreeError>
         requires canonical { IsCanonicalTree root.old }
-        requires fits { IsWithin P.MAXIMUM_SIZE (longest_key (tree_pairs root.old)) }
+        requires within { IsWithin P.MAXIMUM_SIZE (longest_key (tree_pairs root.old)) }
         ensures ok { OnOk result (root.new ≡ tree_remove key.now root.old) }
         ensures answer { IfOk result (λ old. old ≡ tree_lookup key.now root.old) }
         ensures unchanged { OnErr result (root.new ≡ root.old) }
@@ -223,7 +223,7 @@ impl<P: Partial, V> DefaultNode<P, V> {
         key: &[u8],
     ) -> Result<Option<V>, TreeError>
         requires canonical { IsCanonicalTree root.old }
-        requires fits { IsWithin P.MAXIMUM_SIZE (longest_key (tree_pairs root.old)) }
+        requires within { IsWithin P.MAXIMUM_SIZE (longest_key (tree_pairs root.old)) }
         ensures canonical { OnOk result (IsCanonicalTree root.new) }
         ensures pairs { OnOk result (tree_pairs root.new ≡ without key.now (tree_pairs root.old)) }
         ensures answer { IfOk result (λ old. old ≡ lookup key.now (tree_pairs root.old)) }

@@ -1,5 +1,7 @@
-//! Removal of all pairs that a callback rejects, in one walk. It descends by recursion, and each level holds neither a
-//! key nor a node.
+//! Removal of all pairs that a callback rejects, in one walk.
+
+// It descends by recursion, and each level holds neither a key nor a node.
+
 ghost use Rattle.std.specs.Prelude.{◌≡◌, ◌+◌, ◌≤◌, [], true, length, take, None, Some, IfErr};
 ghost use Rattle.rart_keys.specs.KeyBytes.{IsWithin};
 ghost use Rattle.rart_keys.specs.SortedMap.{longest_key};
@@ -123,7 +125,7 @@ impl<P: Partial, V: Drop> DefaultNode<P, V> {
         f: &mut F,
     ) -> Retention
         requires canonical { IsCanonical self.old }
-        requires fits { IsWithin P.MAXIMUM_SIZE
+        requires within { IsWithin P.MAXIMUM_SIZE
             (length (P.bytes path.old) + longest_key (pairs_of self.old)) }
         requires callable { CanRetain F.FnMut f.old
             (with_prefix (P.bytes path.old) (pairs_of self.old)) }
@@ -157,7 +159,7 @@ impl<P: Partial, V: Drop> DefaultNode<P, V> {
         f: &mut F,
     ) -> Retention
         requires canonical { IsCanonical self.old }
-        requires fits { IsWithin P.MAXIMUM_SIZE (longest_key (pairs_of self.old)) }
+        requires within { IsWithin P.MAXIMUM_SIZE (longest_key (pairs_of self.old)) }
         requires callable { CanRetain F.FnMut f.old (pairs_of self.old) }
         ensures canonical { IsCanonical self.new }
         ensures retains { RetainsBelow F.FnMut [] result f.old self.old self.new f.new }
@@ -172,7 +174,7 @@ impl<P: Partial, V: Drop> DefaultNode<P, V> {
         f: &mut F,
     ) -> Retention
         requires canonical { IsCanonicalTree root.old }
-        requires fits { IsWithin P.MAXIMUM_SIZE (longest_key (tree_pairs root.old)) }
+        requires within { IsWithin P.MAXIMUM_SIZE (longest_key (tree_pairs root.old)) }
         requires callable { CanRetain F.FnMut f.old (tree_pairs root.old) }
         ensures canonical { IsCanonicalTree root.new }
         ensures retains { RetainsTree F.FnMut result f.old root.old root.new f.new }
@@ -197,7 +199,7 @@ impl<P: Partial, V: Drop> DefaultNode<P, V> {
         f: &mut F,
     ) -> Result<(), TreeError>
         requires canonical { IsCanonicalTree root.old }
-        requires fits { IsWithin P.MAXIMUM_SIZE (longest_key (tree_pairs root.old)) }
+        requires within { IsWithin P.MAXIMUM_SIZE (longest_key (tree_pairs root.old)) }
         requires callable { CanRetain F.FnMut f.old (tree_pairs root.old) }
         ensures callable { F.IsAlwaysCallable f.old → F.IsAlwaysCallable f.new }
         ensures canonical { IsCanonicalTree root.new }

@@ -1,5 +1,7 @@
-//! Removal of all pairs below a prefix, which leave as a node of their own. It allocates smaller storage before the
-//! first write.
+//! Removal of all pairs below a prefix, which leave as a node of their own.
+
+// It allocates smaller storage before the first write.
+
 ghost use Rattle.std.specs.Prelude.{◌≡◌, ◌≢◌, ◌+◌, ◌-◌, ◌≤◌, length, true, false, None, Some, IfErr, IfOk, IfSome};
 ghost use Rattle.std.specs.Prelude.{OnErr, OnOk, option_map};
 ghost use Rattle.rart_keys.specs.ByteStrings.{begins};
@@ -46,7 +48,7 @@ impl<P: Partial, V> DefaultNode<P, V> {
     ) -> Result<(), TreeError>
         requires within { JoinsWithin P.MAXIMUM_SIZE (prefix_of self.old) (children_in self.old) }
         requires present { child_in byte self.old ≢ None }
-        requires fits { IfSome (child_in byte self.old) (λ t. IsWithin P.MAXIMUM_SIZE
+        requires child_within { IfSome (child_in byte self.old) (λ t. IsWithin P.MAXIMUM_SIZE
             (length (P.bytes path.now) + length (prefix_of t))) }
         requires empty { taken.old ≡ None }
         ensures taken { OnOk result (taken.new
@@ -77,7 +79,7 @@ impl<P: Partial, V> DefaultNode<P, V> {
         counter: &mut C,
     ) -> Result<(), TreeError>
         requires canonical { IsCanonical self.old }
-        requires fits { IsWithin P.MAXIMUM_SIZE
+        requires within { IsWithin P.MAXIMUM_SIZE
             (length (P.bytes path.old) + longest_key (pairs_of self.old)) }
         requires not_below { begins prefix.now (prefix_of self.old) ≡ false }
         requires empty { taken.old ≡ None }
@@ -89,7 +91,7 @@ impl<P: Partial, V> DefaultNode<P, V> {
         ensures memory { IfErr result (λ e. e ≡ TreeError.Memory) }
         ensures allocates { OnErr result
             (trie_take_prefix_allocates None prefix.now self.old ≡ true) }
-        ensures visits { C.number counter.new
+        ensures bound { C.number counter.new
             ≤ C.number counter.old + (length prefix.now - length (prefix_of self.old)) }
     {
         let Some(rest) = strip_prefix(&self.prefix, prefix) else {
@@ -117,14 +119,14 @@ impl<P: Partial, V> DefaultNode<P, V> {
         counter: &mut C,
     ) -> Result<Option<Self>, TreeError>
         requires canonical { IsCanonical self.old }
-        requires fits { IsWithin P.MAXIMUM_SIZE (longest_key (pairs_of self.old)) }
+        requires within { IsWithin P.MAXIMUM_SIZE (longest_key (pairs_of self.old)) }
         requires not_below { begins prefix.now (prefix_of self.old) ≡ false }
         ensures ok { OnOk result (Some self.new ≡ trie_without_prefix prefix.now self.old) }
         ensures taken { IfOk result (λ taken. taken ≡ trie_below prefix.now self.old) }
         ensures unchanged { OnErr result (self.new ≡ self.old) }
         ensures memory { IfErr result (λ e. e ≡ TreeError.Memory) }
         ensures allocates { OnErr result (TakeAllocates prefix.now (pairs_of self.old)) }
-        ensures visits { C.number counter.new ≤ C.number counter.old + length prefix.now }
+        ensures bound { C.number counter.new ≤ C.number counter.old + length prefix.now }
     {
         let mut path = P::from_slice(&[]);
         let mut taken: Option<Self> = None;
@@ -145,13 +147,13 @@ impl<P: Partial, V> DefaultNode<P, V> {
         counter: &mut C,
     ) -> Result<Option<Self>, TreeError>
         requires canonical { IsCanonicalTree root.old }
-        requires fits { IsWithin P.MAXIMUM_SIZE (longest_key (tree_pairs root.old)) }
+        requires within { IsWithin P.MAXIMUM_SIZE (longest_key (tree_pairs root.old)) }
         ensures ok { OnOk result (root.new ≡ tree_without_prefix prefix.now root.old) }
         ensures taken { IfOk result (λ taken. taken ≡ tree_below prefix.now root.old) }
         ensures unchanged { OnErr result (root.new ≡ root.old) }
         ensures memory { IfErr result (λ e. e ≡ TreeError.Memory) }
         ensures allocates { OnErr result (TakeAllocates prefix.now (tree_pairs root.old)) }
-        ensures visits { C.number counter.new ≤ C.number counter.old + length prefix.now + 1 }
+        ensures bound { C.number counter.new ≤ C.number counter.old + length prefix.now + 1 }
     {
         match root {
             Some(node) => {
@@ -182,7 +184,7 @@ impl<P: Partial, V> DefaultNode<P, V> {
         counter: &mut C,
     ) -> Result<Option<Self>, TreeError>
         requires canonical { IsCanonicalTree root.old }
-        requires fits { IsWithin P.MAXIMUM_SIZE (longest_key (tree_pairs root.old)) }
+        requires within { IsWithin P.MAXIMUM_SIZE (longest_key (tree_pairs root.old)) }
         ensures canonical { OnOk result (IsCanonicalTree root.new) }
         ensures taken_canonical { IfOk result (λ taken. IsCanonicalTree taken) }
         ensures pairs { OnOk result
@@ -199,7 +201,7 @@ impl<P: Partial, V> DefaultNode<P, V> {
         ensures unchanged { OnErr result (root.new ≡ root.old) }
         ensures memory { IfErr result (λ e. e ≡ TreeError.Memory) }
         ensures allocates { OnErr result (TakeAllocates prefix.now (tree_pairs root.old)) }
-        ensures visits { C.number counter.new ≤ C.number counter.old + length prefix.now + 1 }
+        ensures bound { C.number counter.new ≤ C.number counter.old + length prefix.now + 1 }
     {
         DefaultNode::take_prefix_from(root, alloc, prefix, counter)
     }

@@ -1,5 +1,7 @@
-//! Updates below a node: one descent calls the callback at its end and applies the result. It allocates before the
-//! first write.
+//! Updates below a node: one descent calls the callback at its end and applies the result.
+
+// It allocates before the first write.
+
 ghost use Rattle.std.specs.Prelude.{◌≡◌, ◌≢◌, ◌≤◌, [], ℕ, List, length, option_and_then, slice_get, false, true, None};
 ghost use Rattle.std.specs.Prelude.{Some, IfSome, IsSomeAnd, Option, OnErr};
 ghost use Rattle.std.specs.Fn.{FnOnceReturnsAtMut, FnOnceTakesAtMut};
@@ -47,7 +49,7 @@ impl<P: Partial, V> DefaultNode<P, V> {
         answer: SlotUpdate<V>,
     ) -> Result<Outcome<V>, UpdateError<V>>
         requires leaves { None ≡ strip_prefix (prefix_of self.old) key.now }
-        requires fits { IsWithin P.MAXIMUM_SIZE (length key.now) }
+        requires within { IsWithin P.MAXIMUM_SIZE (length key.now) }
         ensures { EndsTree full key.now answer None (Some self.old) result (Some self.new) }
     {
         match answer {
@@ -80,7 +82,7 @@ impl<P: Partial, V> DefaultNode<P, V> {
         requires canonical { IsCanonical self.old }
         requires first { Some byte ≡ slice_get rest.now 0 }
         requires absent { child_in byte self.old ≡ None }
-        requires fits { IsWithin P.MAXIMUM_SIZE (length rest.now) }
+        requires within { IsWithin P.MAXIMUM_SIZE (length rest.now) }
         ensures { (key : List ℕ) → Some rest.now ≡ strip_prefix (prefix_of self.old) key
             → EndsTree full key answer None (Some self.old) result (Some self.new) }
     {
@@ -112,7 +114,7 @@ impl<P: Partial, V> DefaultNode<P, V> {
         left: Option<V>,
         answer: SlotUpdate<V>,
     ) -> Result<Outcome<V>, UpdateError<V>>
-        requires taken { value_of self.old ≡ None }
+        requires no_value { value_of self.old ≡ None }
         requires capacity { needs_merge None (children_in self.old) ≡ true
             → capacity_in self.old ≡ 4 }
         requires within { JoinsWithin P.MAXIMUM_SIZE (prefix_of self.old) (children_in self.old) }
@@ -211,9 +213,9 @@ impl<P: Partial, V> DefaultNode<P, V> {
         f: F,
     ) -> (Result<Outcome<V>, UpdateError<V>>, X)
         requires canonical { IsCanonical self.old }
-        requires fits_key { IsWithin P.MAXIMUM_SIZE (length key.now) }
-        requires fits { IsWithin P.MAXIMUM_SIZE (longest_key (pairs_of self.old)) }
-        requires inner { is_leaf_at key.now self.old ≡ false }
+        requires key_within { IsWithin P.MAXIMUM_SIZE (length key.now) }
+        requires within { IsWithin P.MAXIMUM_SIZE (longest_key (pairs_of self.old)) }
+        requires not_leaf { is_leaf_at key.now self.old ≡ false }
         requires callable { FnOnceTakesAtMut F.FnOnce f (slot_of (trie_lookup key.now self.old)) }
         requires occupancy { KeepsSlotReturning F.FnOnce f (trie_lookup key.now self.old) }
         ensures { AnswersReturning F.FnOnce f (trie_lookup key.now self.old) result.1
@@ -257,7 +259,7 @@ impl<P: Partial, V> DefaultNode<P, V> {
         answer: SlotUpdate<V>,
     ) -> Result<Outcome<V>, UpdateError<V>>
         requires empty { root.old ≡ None }
-        requires fits { IsWithin P.MAXIMUM_SIZE (length key.now) }
+        requires within { IsWithin P.MAXIMUM_SIZE (length key.now) }
         ensures { EndsTree full key.now answer None root.old result root.new }
     {
         match answer {
@@ -284,8 +286,8 @@ impl<P: Partial, V> DefaultNode<P, V> {
         f: F,
     ) -> (Result<Outcome<V>, UpdateError<V>>, X)
         requires canonical { IsCanonicalTree root.old }
-        requires fits_key { IsWithin P.MAXIMUM_SIZE (length key.now) }
-        requires fits { IsWithin P.MAXIMUM_SIZE (longest_key (tree_pairs root.old)) }
+        requires key_within { IsWithin P.MAXIMUM_SIZE (length key.now) }
+        requires within { IsWithin P.MAXIMUM_SIZE (longest_key (tree_pairs root.old)) }
         requires callable { FnOnceTakesAtMut F.FnOnce f (slot_of (tree_lookup key.now root.old)) }
         requires occupancy { KeepsSlotReturning F.FnOnce f (tree_lookup key.now root.old) }
         ensures { AnswersReturning F.FnOnce f (tree_lookup key.now root.old) result.1
@@ -341,8 +343,8 @@ impl<P: Partial, V> DefaultNode<P, V> {
         f: F,
     ) -> (Result<Outcome<V>, UpdateError<V>>, X)
         requires canonical { IsCanonicalTree root.old }
-        requires fits_key { IsWithin P.MAXIMUM_SIZE (length key.now) }
-        requires fits { IsWithin P.MAXIMUM_SIZE (longest_key (tree_pairs root.old)) }
+        requires key_within { IsWithin P.MAXIMUM_SIZE (length key.now) }
+        requires within { IsWithin P.MAXIMUM_SIZE (longest_key (tree_pairs root.old)) }
         requires callable { FnOnceTakesAtMut F.FnOnce f
             (slot_of (lookup key.now (tree_pairs root.old))) }
         requires occupancy { KeepsSlotReturning F.FnOnce f (lookup key.now (tree_pairs root.old)) }

@@ -1,4 +1,7 @@
-//! Walks that lend each value to a callback, which may change it. They descend by recursion and do not allocate.
+//! Walks that lend each value to a callback, which may change it.
+
+// They descend by recursion and do not allocate.
+
 ghost use Rattle.std.specs.Prelude.{◌≡◌, [], length};
 ghost use Rattle.rart_keys.specs.SortedMap.{longest_key, values_of};
 ghost use Rattle.rart_nodes.specs.edits.ValueChanges.{CanLend, ChangesBelow};

@@ -26,7 +26,7 @@ pub(crate) trait Visitor<V, W, F> {
     fn give(path: &JoinPath<'_>, f: &mut F, left: &V, right: &W)
         requires reserved { reserved path.now 0 }
         requires callable { can path.now f.old ([], (left.now, right.now)) }
-        ensures given { given path.now f.old (([], (left.now, right.now)) ∷ []) f.new };
+        ensures calls { given path.now f.old (([], (left.now, right.now)) ∷ []) f.new };
 
     ghost lawful: { AreVisitors reserved given };
 
@@ -43,7 +43,7 @@ pub(crate) fn give_both<V, W, F, T: Visitor<V, W, F>>(
     requires reserved { T.reserved path.now 0 }
     requires callable { CanGive T.can T.given path.now f.old
         (own_pair (both (option_copied left) (option_copied right))) }
-    ensures given { T.given path.now f.old (own_pair
+    ensures calls { T.given path.now f.old (own_pair
         (both (option_copied left.entry) (option_copied right.entry))) f.new }
 {
     if let Some(value) = left {
@@ -107,7 +107,7 @@ fn call_with_key<K: KeyTrait, V, W, F: FnMut(K, &V, &W)>(
     left: &V,
     right: &W,
 )
-    requires fits { IsWithin K.MAXIMUM_SIZE (length bytes.now) }
+    requires within { IsWithin K.MAXIMUM_SIZE (length bytes.now) }
     requires callable { TakesAtKey F.FnMut K.bytes f.old (bytes.now, (left.now, right.now)) }
     ensures { CalledAt F.FnMut K.bytes f.old (bytes.now, (left.now, right.now)) f.new }
 {

@@ -61,7 +61,7 @@ fn boxed_direct<N>(alloc: Global) -> Result<Box<DirectMapping<N>>, TreeError>
 impl<N> Storage<N> {
     /// Returns empty storage of capacity 4.
     pub(crate) fn new_4(alloc: Global) -> Result<Self, TreeError>
-        ensures stored { IfOk result (λ s. child_entries s ≡ []) }
+        ensures entries { IfOk result (λ s. child_entries s ≡ []) }
         ensures capacity { IfOk result (λ s. storage_capacity s ≡ 4) }
         ensures memory { IfErr result (λ e. e ≡ TreeError.Memory) }
     {
@@ -70,7 +70,7 @@ impl<N> Storage<N> {
 
     /// Returns empty storage of capacity 16.
     pub(crate) fn new_16(alloc: Global) -> Result<Self, TreeError>
-        ensures stored { IfOk result (λ s. child_entries s ≡ []) }
+        ensures entries { IfOk result (λ s. child_entries s ≡ []) }
         ensures capacity { IfOk result (λ s. storage_capacity s ≡ 16) }
         ensures memory { IfErr result (λ e. e ≡ TreeError.Memory) }
     {
@@ -79,7 +79,7 @@ impl<N> Storage<N> {
 
     /// Returns empty storage of capacity 48.
     pub(crate) fn new_48(alloc: Global) -> Result<Self, TreeError>
-        ensures stored { IfOk result (λ s. child_entries s ≡ []) }
+        ensures entries { IfOk result (λ s. child_entries s ≡ []) }
         ensures capacity { IfOk result (λ s. storage_capacity s ≡ 48) }
         ensures memory { IfErr result (λ e. e ≡ TreeError.Memory) }
     {
@@ -88,7 +88,7 @@ impl<N> Storage<N> {
 
     /// Returns empty storage of capacity 256.
     pub(crate) fn new_256(alloc: Global) -> Result<Self, TreeError>
-        ensures stored { IfOk result (λ s. child_entries s ≡ []) }
+        ensures entries { IfOk result (λ s. child_entries s ≡ []) }
         ensures capacity { IfOk result (λ s. storage_capacity s ≡ 256) }
         ensures memory { IfErr result (λ e. e ≡ TreeError.Memory) }
     {
@@ -143,7 +143,7 @@ impl<N> Storage<N> {
     #[inline(never)]
     pub(crate) fn reserve_slot(&mut self, alloc: Global, b: u8) -> Result<(), TreeError>
         requires absent { child_at b (child_entries self.old) ≡ None }
-        ensures stored { child_entries self.new ≡ child_entries self.old }
+        ensures entries { child_entries self.new ≡ child_entries self.old }
         ensures not_full { OnOk result
             (length (child_entries self.new) < storage_capacity self.new) }
         ensures capacity { OnOk result

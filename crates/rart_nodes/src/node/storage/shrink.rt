@@ -28,10 +28,10 @@ impl<N> Storage<N> {
 
     /// Returns whether the storage keeps its kind when the child at byte `b` is removed.
     fn keeps_kind(&self, b: u8) -> bool
-        ensures keeps { result ≡ true → (child_at b (child_entries self.now) ≡ None)
+        ensures kept_kind { result ≡ true → (child_at b (child_entries self.now) ≡ None)
             ⊎ (previous_capacity (storage_capacity self.now) + 1
             < length (child_entries self.now)) }
-        ensures gives_up { result ≡ false → (child_at b (child_entries self.now) ≢ None)
+        ensures changed_kind { result ≡ false → (child_at b (child_entries self.now) ≢ None)
             × (length (child_entries self.now)
             ≤ previous_capacity (storage_capacity self.now) + 1) }
     {
@@ -44,7 +44,7 @@ impl<N> Storage<N> {
     #[inline(always)]
     pub(crate) fn delete_child(&mut self, alloc: Global, b: u8) -> Result<Option<N>, TreeError>
         ensures taken { IfOk result (λ c. c ≡ child_at b (child_entries self.old)) }
-        ensures stored { OnOk result
+        ensures entries { OnOk result
             (child_entries self.new ≡ without_byte b (child_entries self.old)) }
         ensures capacity { OnOk result
             (storage_capacity self.new
@@ -90,9 +90,9 @@ impl<N> Storage<N> {
     /// Removes the only child of storage of capacity 4 and returns it with its byte.
     pub(crate) fn take_only_child(&mut self) -> (u8, N)
         requires capacity { storage_capacity self.old ≡ 4 }
-        requires lone { length (child_entries self.old) ≡ 1 }
+        requires only_child { length (child_entries self.old) ≡ 1 }
         ensures taken { child_entries self.old ≡ result ∷ [] }
-        ensures stored { child_entries self.new ≡ [] }
+        ensures entries { child_entries self.new ≡ [] }
         ensures capacity { storage_capacity self.new ≡ 4 }
     {
         match self {

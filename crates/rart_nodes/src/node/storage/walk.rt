@@ -1,4 +1,4 @@
-//! An iterator over the children of a storage in byte order. A contract reads it as the list of remaining children.
+//! An iterator over the children of a storage in byte order, which a contract reads as the remaining children.
 ghost use Rattle.std.specs.Prelude.{◌≡◌, [], option_map, slice_get};
 ghost use Rattle.std.specs.Iterator.{YieldsFirstBy};
 ghost use Rattle.rart_parts.specs.Entries.{BytesAscend, entries_above};

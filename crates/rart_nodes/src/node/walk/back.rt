@@ -1,5 +1,7 @@
-//! A walk over a shared tree from its last key to its first. It allocates when it is created, and keeps for each node
-//! on its path a cursor over its children, and its value.
+//! A walk over a shared tree from its last key to its first.
+
+// It allocates when it is created, and keeps for each node on its path a cursor over its children, and its value.
+
 ghost use Rattle.std.specs.Prelude.{◌≡◌, ◌≢◌, ◌≤◌, ◌<◌, ◌+◌, ◌++◌, [], length, reverse, take, vec_len};
 ghost use Rattle.std.specs.Prelude.{vec_capacity};
 ghost use Rattle.std.specs.Prelude.{IfOk, MatchOption, OnErr};
@@ -38,7 +40,7 @@ fn enter_last_of_deepest<'a, P: Partial, V, C: Count>(
         (λ e. BackStep levels.old.items e.0.node.now e.1 levels.new.items) }
     ensures counted { C.number counter.new ≡ C.number counter.old + count_of result }
     ensures len { vec_len levels.new ≡ vec_len levels.old }
-    ensures capacity { vec_capacity levels.new ≡ vec_capacity levels.old }
+    ensures level_capacity { vec_capacity levels.new ≡ vec_capacity levels.old }
 {
     let level = levels.last_mut()?;
     let below = &mut level.0;
@@ -75,7 +77,7 @@ pub(crate) fn back_walk_at<'a, P: Partial, V, C, T: Path<'a, P>>(
     path: &mut T,
     at: Entered<'a, P, V, C>,
 ) -> BackWalk<'a, P, V, C>
-    requires short { length (T.kept path.old) + longest_key (pairs_of at.node.now) ≤ longest }
+    requires bounds_keys { length (T.kept path.old) + longest_key (pairs_of at.node.now) ≤ longest }
     requires reserved { longest ≤ T.capacity path.old }
     requires places { longest < vec_capacity levels }
     requires empty_walk { levels.items ≡ [] }
@@ -86,7 +88,7 @@ pub(crate) fn back_walk_at<'a, P: Partial, V, C, T: Path<'a, P>>(
     ensures entries { remaining_entries T.grown (T.kept path.new) (reverse result.levels.items)
         ≡ segments_after (T.kept path.old) (entries_of T.grown at.entry.node.now) }
     ensures longest { result.longest ≡ longest }
-    ensures places { vec_capacity result.levels ≡ vec_capacity levels.entry }
+    ensures level_capacity { vec_capacity result.levels ≡ vec_capacity levels.entry }
 {
     path.grow(at.prefix());
     levels.push_reserved(((at.back_branches(), path.mark()), at.value()));

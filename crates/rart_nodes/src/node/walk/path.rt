@@ -24,13 +24,13 @@ pub(crate) trait Path<'a, P: Partial>: Keeps + Drop {
 
     /// Returns an empty path without capacity.
     fn empty(alloc: Global) -> Self
-        ensures nothing { kept result ≡ [] }
+        ensures empty_path { kept result ≡ [] }
         ensures requested { requested result ≡ 0 }
         ensures allocated { allocated result ≡ 0 };
 
     /// Returns an empty path with capacity for keys of `longest` bytes, and for no more.
     fn with_capacity(alloc: Global, longest: usize) -> Result<Self, AllocError>
-        ensures nothing { IfOk result (λ t. kept t ≡ []) }
+        ensures empty_path { IfOk result (λ t. kept t ≡ []) }
         ensures capacity { IfOk result (λ t. longest ≤ capacity t) }
         ensures requested { IfOk result (λ t. requested t ≤ longest) }
         ensures allocated { IfOk result (λ t. allocated t ≤ requested t) };

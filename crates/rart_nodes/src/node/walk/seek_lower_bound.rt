@@ -6,7 +6,7 @@ ghost use Rattle.rart_keys.specs.SortedMap.{longest_key};
 ghost use Rattle.rart_nodes.specs.ranges.Potential.{AreLow};
 ghost use Rattle.rart_nodes.specs.ranges.Starts.{entries_from};
 ghost use Rattle.rart_nodes.specs.ranges.Steps.{AllLess, StepsFrom, children_after};
-ghost use Rattle.rart_nodes.specs.statistics.Statistics.{height, trie_height};
+ghost use Rattle.rart_nodes.specs.stats.Stats.{height, trie_height};
 ghost use Rattle.rart_nodes.specs.tries.SeenTrees.{length_bound, seen_keys, seen_pairs, seen_tree};
 ghost use Rattle.rart_nodes.specs.tries.Trie.{children_in, pairs_of, prefix_of};
 ghost use Rattle.rart_nodes.specs.walks.ProbeCount.{entered_nodes, probe_count};
@@ -108,10 +108,10 @@ impl<'a, P: Partial, V, C: Count> Walk<'a, P, V, C> {
         counter: &mut C,
     )
         requires joins { Joins T.grown }
-        requires nothing { T.kept path.old ≡ [] }
+        requires empty_path { T.kept path.old ≡ [] }
         requires empty_walk { self.old.levels.items ≡ [] }
         requires first { self.old.first ≡ None }
-        requires short { longest_key (pairs_of top.node.now) ≤ self.old.longest }
+        requires bounds_keys { longest_key (pairs_of top.node.now) ≤ self.old.longest }
         requires reserved { self.old.longest ≤ T.capacity path.old }
         requires places { self.old.longest < vec_capacity self.old.levels }
         ensures path { IsWalkAt self.new (T.kept path.new) }
@@ -123,7 +123,7 @@ impl<'a, P: Partial, V, C: Count> Walk<'a, P, V, C> {
             ≡ C.number counter.old + entered_nodes start.now top.entry.node.now }
         ensures low { AreLow (trie_height top.entry.node.now) (reverse self.new.levels.items) }
         ensures longest { self.new.longest ≡ self.old.longest }
-        ensures places { vec_capacity self.new.levels ≡ vec_capacity self.old.levels }
+        ensures level_capacity { vec_capacity self.new.levels ≡ vec_capacity self.old.levels }
     {
         let mut next = Some(top);
         let mut rest = start;

@@ -36,7 +36,7 @@ fn seek_prefix<'a, P: Partial, V, C: Count, T: Path<'a, P>>(
         (λ e. length (T.kept path.new) + longest_key (pairs_of e.node.now)
         ≤ length (T.kept path.old)
         + longest_key (tree_pairs (option_map (λ s. s.node.now) top.entry))) }
-    ensures reserved { T.capacity path.old ≤ T.capacity path.new }
+    ensures path_capacity { T.capacity path.old ≤ T.capacity path.new }
     ensures requested { T.requested path.new ≡ T.requested path.old }
     ensures visits { C.number counter.new ≡ C.number counter.old
         + tree_entered prefix.now (option_map (λ s. s.node.now) top.entry) }

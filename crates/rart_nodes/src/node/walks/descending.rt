@@ -1,5 +1,7 @@
-//! Iterators over a shared tree from its last key to its first. Each allocates when it is created, and a contract reads
-//! it as the list of remaining items in that order.
+//! Iterators over a shared tree from its last key to its first, which a contract reads as the remaining items.
+
+// Each allocates when it is created.
+
 ghost use Rattle.std.specs.Prelude.{◌≡◌, ◌≤◌, ◌+◌, ◌++◌, [], ◌∷◌, length, reverse, IfErr, IfOk, MatchOption, OnErr};
 ghost use Rattle.std.specs.Iterator.{YieldsFirstBy, item_count};
 ghost use Rattle.rart_keys.specs.Filters.{below};
@@ -34,8 +36,8 @@ impl<'a, K: KeyTrait, P: Partial, V, C> Model for KeyBackWalk<'a, K, P, V, C> {
 
     ghost Value = { List (List ℕ × V) };
 
-    ghost view = { λ w. join_all (remaining_entries byte_segments (byte_segments (kept_bytes w.path))
-        (reverse w.walk.levels.items)) };
+    ghost view = { λ w. join_all (remaining_entries byte_segments
+        (byte_segments (kept_bytes w.path)) (reverse w.walk.levels.items)) };
 
     ghost invariant = { λ w. IsKeyBackWalk K.MAXIMUM_SIZE w.walk.longest
         (vec_capacity w.walk.levels) (length w.path.places.items) (byte_segments (kept_bytes w.path))
@@ -47,7 +49,7 @@ impl<'a, K: KeyTrait, P: Partial, V, C: Count> KeyBackWalk<'a, K, P, V, C> {
     pub(crate) fn step_back(&mut self, counter: &mut C) -> Option<(K, &'a V)>
         ensures pairs { MatchOption result ((self.old ≡ []) × (self.new ≡ []))
             (λ p. self.old ≡ self.new ++ (K.bytes p.0, p.1.now) ∷ []) }
-        ensures visits { VisitsAtMost (λ p. length (K.bytes p.0)) (C.number counter.old) result
+        ensures bound { VisitsAtMost (λ p. length (K.bytes p.0)) (C.number counter.old) result
             (C.number counter.new) }
     {
         let value = self.walk.retreat(&mut self.path, counter)?;
@@ -78,7 +80,7 @@ impl<'a, K: KeyTrait, V, C: Count> SeenDescending<'a, K, V, C> {
     pub fn next_counted(&mut self, counter: &mut C) -> Option<(K, &'a V)>
         ensures pairs { MatchOption result ((self.old ≡ []) × (self.new ≡ []))
             (λ p. self.old ≡ (K.bytes p.0, p.1.now) ∷ self.new) }
-        ensures visits { VisitsAtMost (λ p. length (K.bytes p.0) + 1) (C.number counter.old) result
+        ensures bound { VisitsAtMost (λ p. length (K.bytes p.0) + 1) (C.number counter.old) result
             (C.number counter.new) }
     {
         self.pairs.step_back(counter)

@@ -22,9 +22,9 @@ fn fold_values<'a, P: Partial, V, C: Count, S, F: FnMut(S, &V) -> S>(
 ) -> S
     requires callable { CanFold F.FnMut f.old init (walk_values walk.old) }
     requires path { IsWalkAt walk.old [] }
-    requires reserved { walk.old.longest ≤ 2 ^ 64 }
+    requires fits { walk.old.longest ≤ 2 ^ 64 }
     ensures callable { F.IsAlwaysCallable f.old → F.IsAlwaysCallable f.new }
-    ensures folds { FoldsEach F.FnMut f.old init (walk_values walk.old) f.new result }
+    ensures calls { FoldsEach F.FnMut f.old init (walk_values walk.old) f.new result }
     ensures visits { C.number counter.new ≤ C.number counter.old + walk_nodes walk.old }
 {
     let mut state = init;
@@ -102,7 +102,7 @@ impl<'a, K: KeyTrait, V, C: Count> Seen<'a, K, V, C> {
     ///
     /// # Visits
     ///
-    /// As there.
+    /// At most `prefix.len() + 1 + 2 * m` nodes with `m` calls, none in an empty tree.
     pub fn prefix_values_fold_k_counted<S: Drop, F: FnMut(S, &V) -> S + Drop>(
         self,
         prefix: &K,

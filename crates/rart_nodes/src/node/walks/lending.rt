@@ -1,7 +1,8 @@
 //! Walks that call a callback with each key lent in segments.
-//!
-//! A walk allocates before its first call, and then pushes and pops segments. The caller of a `_by_ref`
-//! form keeps its callback, and with it the state that the last call left.
+
+// A walk allocates before its first call, and then pushes and pops segments. The caller of a `_by_ref` form keeps its
+// callback, and with it the state that the last call left.
+
 ghost use Rattle.std.specs.Prelude.{◌≡◌, ◌≤◌, ◌+◌, ◌*◌, [], length, vec_capacity, IfErr, OnErr, OnOk};
 ghost use Rattle.rart_nodes.specs.tries.SeenTrees.{seen_keys, seen_pairs};
 ghost use Rattle.rart_nodes.specs.walks.BelowPrefix.{below_bound, below_visits, cut_below};
@@ -10,7 +11,7 @@ ghost use Rattle.rart_nodes.specs.walks.ProbeCount.{probe_count};
 ghost use Rattle.rart_nodes.specs.walks.PathParts.{lent_segments};
 ghost use Rattle.rart_nodes.specs.walks.ViewSegments.{AreViews, walk_views};
 ghost use Rattle.rart_nodes.specs.walks.WalkSteps.{IsWalkAt, walk_nodes};
-ghost use Rattle.rart_nodes.specs.walks.Viewed.{CanView, ViewedEach, ViewsEach};
+ghost use Rattle.rart_nodes.specs.walks.Viewed.{CanView, ViewsEachByValue, ViewsEach};
 ghost use Rattle.rart_nodes.specs.walks.Calls.{MayLackMemory};
 
 use crate::count::Count;
@@ -32,7 +33,7 @@ fn for_each_view_of<'a, P: Partial, V, C: Count, F: FnMut(LendingKeyView<'_, '_>
     requires reserved { walk.old.longest ≤ vec_capacity path.old.segments }
     requires views { AreViews (walk_views path.old.segments.items walk.old) }
     ensures callable { F.IsAlwaysCallable f.old → F.IsAlwaysCallable f.new }
-    ensures folds { ViewsEach F.FnMut f.old (walk_views path.old.segments.items walk.old)
+    ensures calls { ViewsEach F.FnMut f.old (walk_views path.old.segments.items walk.old)
         f.new }
     ensures visits { C.number counter.new ≤ C.number counter.old + walk_nodes walk.old }
 {
@@ -106,7 +107,7 @@ impl<'a, K: KeyTrait, V, C: Count> Seen<'a, K, V, C> {
     ///
     /// # Visits
     ///
-    /// As there.
+    /// At most `prefix.len() + 1 + 2 * m` nodes with `m` calls, none in an empty tree.
     pub fn prefix_for_each_view_k_counted<F: FnMut(LendingKeyView<'_, '_>, &V) + Drop>(
         self,
         prefix: &K,
@@ -114,7 +115,7 @@ impl<'a, K: KeyTrait, V, C: Count> Seen<'a, K, V, C> {
         counter: &mut C,
     ) -> Result<(), TreeError>
         requires callable { CanView F.FnMut f (cut_below (K.bytes prefix.now) (seen_pairs self)) }
-        ensures calls { OnOk result (ViewedEach F.FnMut f
+        ensures calls { OnOk result (ViewsEachByValue F.FnMut f
             (cut_below (K.bytes prefix.now) (seen_pairs self.entry))) }
         ensures memory { IfErr result (MayLackMemory (seen_pairs self.entry)) }
         ensures unvisited { OnErr result (counter.new ≡ counter.old) }
@@ -165,14 +166,14 @@ impl<'a, K: KeyTrait, V, C: Count> Seen<'a, K, V, C> {
     ///
     /// # Visits
     ///
-    /// As there.
+    /// At most `2 * n + 1` nodes with `n` pairs, none in an empty tree.
     pub fn for_each_view_counted<F: FnMut(LendingKeyView<'_, '_>, &V) + Drop>(
         self,
         mut f: F,
         counter: &mut C,
     ) -> Result<(), TreeError>
         requires callable { CanView F.FnMut f (cut_pairs (seen_keys self) (seen_pairs self)) }
-        ensures calls { OnOk result (ViewedEach F.FnMut f
+        ensures calls { OnOk result (ViewsEachByValue F.FnMut f
             (cut_pairs (seen_keys self.entry) (seen_pairs self.entry))) }
         ensures memory { IfErr result (MayLackMemory (seen_pairs self.entry)) }
         ensures unvisited { OnErr result (counter.new ≡ counter.old) }

@@ -56,7 +56,7 @@ impl<'a, K: KeyTrait, V, C: Count> Seen<'a, K, V, C> {
     ) -> Result<bool, TreeError>
         requires callable { CanSeeFound F.FnOnce f (seen_keys self)
             (longest_match probe.now (seen_pairs self)) }
-        ensures called { IfOk result (SeesFound F.FnOnce f (seen_keys self.entry)
+        ensures calls { IfOk result (SeesFound F.FnOnce f (seen_keys self.entry)
             (longest_match probe.now (seen_pairs self.entry))) }
         ensures memory { IfErr result (MayLackMatch probe.now (seen_pairs self.entry)) }
         ensures looked_up { OnErr result (C.number counter.new
@@ -81,7 +81,7 @@ impl<'a, K: KeyTrait, V, C: Count> Seen<'a, K, V, C> {
         requires callable { CanShowFound F.FnMut f.old (seen_keys self)
             (longest_match probe.now (seen_pairs self)) }
         ensures callable { F.IsAlwaysCallable f.old → F.IsAlwaysCallable f.new }
-        ensures called { IfOk result (ShowsFound F.FnMut f.old (seen_keys self.entry)
+        ensures calls { IfOk result (ShowsFound F.FnMut f.old (seen_keys self.entry)
             (longest_match probe.now (seen_pairs self.entry)) f.new) }
         ensures unchanged { OnErr result (f.new ≡ f.old) }
         ensures memory { IfErr result (MayLackMatch probe.now (seen_pairs self.entry)) }
@@ -119,7 +119,7 @@ impl<'a, K: KeyTrait, V, C: Count> Seen<'a, K, V, C> {
         requires callable { CanShowFound F.FnMut f.old (seen_keys self)
             (longest_match (K.bytes probe.now) (seen_pairs self)) }
         ensures callable { F.IsAlwaysCallable f.old → F.IsAlwaysCallable f.new }
-        ensures called { IfOk result (ShowsFound F.FnMut f.old (seen_keys self.entry)
+        ensures calls { IfOk result (ShowsFound F.FnMut f.old (seen_keys self.entry)
             (longest_match (K.bytes probe.now) (seen_pairs self.entry)) f.new) }
         ensures unchanged { OnErr result (f.new ≡ f.old) }
         ensures memory { IfErr result (MayLackMatch (K.bytes probe.now) (seen_pairs self.entry)) }
@@ -141,7 +141,7 @@ impl<'a, K: KeyTrait, V, C: Count> Seen<'a, K, V, C> {
     ///
     /// # Visits
     ///
-    /// As there.
+    /// At most `3 * probe.len() + 2` nodes.
     pub fn with_longest_prefix_match_view_k_counted<F: FnOnce(LendingKeyView<'_, '_>, &V) + Drop>(
         self,
         probe: &K,
@@ -150,7 +150,7 @@ impl<'a, K: KeyTrait, V, C: Count> Seen<'a, K, V, C> {
     ) -> Result<bool, TreeError>
         requires callable { CanSeeFound F.FnOnce f (seen_keys self)
             (longest_match (K.bytes probe.now) (seen_pairs self)) }
-        ensures called { IfOk result (SeesFound F.FnOnce f (seen_keys self.entry)
+        ensures calls { IfOk result (SeesFound F.FnOnce f (seen_keys self.entry)
             (longest_match (K.bytes probe.now) (seen_pairs self.entry))) }
         ensures memory { IfErr result (MayLackMatch (K.bytes probe.now) (seen_pairs self.entry)) }
         ensures looked_up { OnErr result (C.number counter.new
@@ -178,7 +178,7 @@ impl<'a, K: KeyTrait, V> Seen<'a, K, V, Visits> {
     ) -> Result<bool, TreeError>
         requires callable { CanSeeFound F.FnOnce f (seen_keys self)
             (longest_match (K.bytes probe.now) (seen_pairs self)) }
-        ensures called { IfOk result (SeesFound F.FnOnce f (seen_keys self.entry)
+        ensures calls { IfOk result (SeesFound F.FnOnce f (seen_keys self.entry)
             (longest_match (K.bytes probe.now) (seen_pairs self.entry))) }
         ensures memory { IfErr result (MayLackMatch (K.bytes probe.now) (seen_pairs self.entry)) }
     {

@@ -1,12 +1,14 @@
-//! Look-ups of the keys that begin a probe, the shortest first, on one descent. Nothing here allocates.
-//!
-//! Contracts name the pairs whose key begins the probe `matches`, and the last of them `longest_match`.
+//! Look-ups of the keys that begin a probe, the shortest first, on one descent.
+
+// Nothing here allocates. Contracts name the pairs whose key begins the probe `matches`, and the last of them
+// `longest_match`.
+
 ghost use Rattle.std.specs.Prelude.{◌≡◌, ◌≤◌, ◌+◌, length, take, None, IfSome, MatchOption, option_map};
 ghost use Rattle.std.specs.Iterator.{YieldsFirstBy, item_count};
 ghost use Rattle.std.specs.Option.{option_copied};
 ghost use Rattle.rart_keys.specs.Filters.{longest_match, longest_value, matches};
 ghost use Rattle.rart_nodes.specs.tries.SeenTrees.{seen_keys, seen_pairs, seen_tree};
-ghost use Rattle.rart_nodes.specs.walks.Matched.{CanMatch, MatchedEach, MatchesEach};
+ghost use Rattle.rart_nodes.specs.walks.Matched.{CanMatch, MatchesEachByValue, MatchesEach};
 ghost use Rattle.rart_nodes.specs.walks.Matches.{PassesTo, entered_left, matches_left};
 ghost use Rattle.rart_nodes.specs.walks.ProbeCount.{probe_count};
 
@@ -54,7 +56,7 @@ impl<'a, P: Partial, V, C: Count> Matching<'a, P, V, C> {
     /// Returns the next value whose key begins the probe. Its key is the first `depth` bytes.
     pub(crate) fn advance(&mut self, probe: &[u8], counter: &mut C) -> Option<&'a V>
         requires { self.old.depth ≤ length probe.now }
-        ensures within { self.new.depth ≤ length probe.now }
+        ensures shorter { self.new.depth ≤ length probe.now }
         ensures pairs { YieldsFirstBy (λ v. (take self.new.depth probe.now, v.now))
             (matches_left probe.now) self.old result self.new }
         ensures visits { C.number counter.new + entered_left probe.now self.new
@@ -100,7 +102,7 @@ impl<'a, K: KeyTrait, V, C: Count> Seen<'a, K, V, C> {
     ) -> Option<(usize, &'a V)>
         ensures pair { option_map (λ p. (take p.0 probe.now, p.1.now)) result
             ≡ longest_match probe.now (seen_pairs self.entry) }
-        ensures within { IfSome result (λ p. p.0 ≤ length probe.now) }
+        ensures shorter { IfSome result (λ p. p.0 ≤ length probe.now) }
         ensures visits { C.number counter.new ≡ C.number counter.old
             + probe_count (seen_keys self.entry) probe.now }
         ensures bound { C.number counter.new ≤ C.number counter.old + length probe.now + 1 }
@@ -219,7 +221,7 @@ impl<'a, K: KeyTrait, V, C: Count> Seen<'a, K, V, C> {
         counter: &mut C,
     )
         requires callable { CanMatch F.FnMut f (matches probe.now (seen_pairs self)) }
-        ensures calls { MatchedEach F.FnMut f (matches probe.now (seen_pairs self.entry)) }
+        ensures calls { MatchesEachByValue F.FnMut f (matches probe.now (seen_pairs self.entry)) }
         ensures visits { C.number counter.new ≡ C.number counter.old
             + probe_count (seen_keys self.entry) probe.now }
         ensures bound { C.number counter.new ≤ C.number counter.old + length probe.now + 1 }
@@ -262,7 +264,7 @@ impl<'a, K: KeyTrait, V, C: Count> Seen<'a, K, V, C> {
         counter: &mut C,
     )
         requires callable { CanMatch F.FnMut f (matches (K.bytes probe.now) (seen_pairs self)) }
-        ensures calls { MatchedEach F.FnMut f
+        ensures calls { MatchesEachByValue F.FnMut f
             (matches (K.bytes probe.now) (seen_pairs self.entry)) }
         ensures visits { C.number counter.new
             ≡ C.number counter.old + probe_count (seen_keys self.entry) (K.bytes probe.now) }

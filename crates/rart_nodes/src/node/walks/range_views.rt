@@ -1,7 +1,8 @@
 //! Walks between two bounds that call a callback with each key lent in segments.
-//!
-//! They descend to the start as `range` does, and end at the first key past the end. The end is compared segment by
-//! segment, so no byte of a key is copied.
+
+// They descend to the start as `range` does, and end at the first key past the end. The end is compared segment by
+// segment, so no byte of a key is copied.
+
 ghost use Rattle.std.specs.Prelude.{◌≡◌, ◌≤◌, ◌+◌, ◌*◌, ℕ, [], length, reverse, vec_capacity, IfErr, OnErr, OnOk};
 ghost use Rattle.rart_keys.specs.Ranges.{bound_in, is_to};
 ghost use Rattle.rart_nodes.specs.ranges.Potential.{AreLow};
@@ -12,7 +13,7 @@ ghost use Rattle.rart_nodes.specs.walks.Walk.{joined_bytes};
 ghost use Rattle.rart_nodes.specs.walks.PathParts.{lent_segments};
 ghost use Rattle.rart_nodes.specs.walks.ViewSegments.{AreViews, walk_views};
 ghost use Rattle.rart_nodes.specs.walks.WalkSteps.{IsWalkAt};
-ghost use Rattle.rart_nodes.specs.walks.Viewed.{CanView, ViewedEach, ViewsEach};
+ghost use Rattle.rart_nodes.specs.walks.Viewed.{CanView, ViewsEachByValue, ViewsEach};
 ghost use Rattle.rart_nodes.specs.walks.Calls.{MayLackMemory};
 
 use crate::count::Count;
@@ -50,7 +51,7 @@ fn for_each_view_to<'a, K: KeyTrait, V, C: Count, F: FnMut(LendingKeyView<'_, '_
     requires reserved { walk.old.longest ≤ vec_capacity path.old.segments }
     requires views { AreViews (walk_views path.old.segments.items walk.old) }
     ensures callable { F.IsAlwaysCallable f.old → F.IsAlwaysCallable f.new }
-    ensures folds { ViewsEach F.FnMut f.old (entries_to (bound_in K.bytes end.now)
+    ensures calls { ViewsEach F.FnMut f.old (entries_to (bound_in K.bytes end.now)
         (walk_views path.old.segments.items walk.old)) f.new }
     ensures visits { (h : ℕ) → AreLow h (reverse walk.old.levels.items) →
         C.number counter.new
@@ -99,7 +100,8 @@ impl<'a, K: KeyTrait + Drop, V, C: Count> Seen<'a, K, V, C> {
             + span_visits (bound_in K.bytes start) (bound_in K.bytes end) (seen_pairs self.entry)) }
         ensures bound { C.number counter.new ≤ C.number counter.old
             + span_bound (bound_in K.bytes start) (bound_in K.bytes end) (seen_pairs self.entry) }
-        ensures none { seen_pairs self.entry ≡ [] → C.number counter.new ≤ C.number counter.old }
+        ensures no_visits { seen_pairs self.entry ≡ []
+            → C.number counter.new ≤ C.number counter.old }
     {
         let (bytes, included) = bytes_of(&start);
         let (mut walk, mut path) = self.walk_from::<SegmentPath<'a>>(bytes, included, counter)?;
@@ -115,7 +117,7 @@ impl<'a, K: KeyTrait + Drop, V, C: Count> Seen<'a, K, V, C> {
     ///
     /// # Visits
     ///
-    /// As there.
+    /// At most `start.len() + 1 + 2 * m + h` nodes with `m` calls in a tree of height `h`, none in an empty tree.
     pub fn for_each_range_view_counted<F: FnMut(LendingKeyView<'_, '_>, &V) + Drop>(
         self,
         start: Bound<K>,
@@ -125,7 +127,7 @@ impl<'a, K: KeyTrait + Drop, V, C: Count> Seen<'a, K, V, C> {
     ) -> Result<(), TreeError>
         requires callable { CanView F.FnMut f
             (cut_between (bound_in K.bytes start) (bound_in K.bytes end) (seen_pairs self)) }
-        ensures calls { OnOk result (ViewedEach F.FnMut f
+        ensures calls { OnOk result (ViewsEachByValue F.FnMut f
             (cut_between (bound_in K.bytes start) (bound_in K.bytes end) (seen_pairs self.entry))) }
         ensures memory { IfErr result (MayLackMemory (seen_pairs self.entry)) }
         ensures unvisited { OnErr result (counter.new ≡ counter.old) }
@@ -133,7 +135,8 @@ impl<'a, K: KeyTrait + Drop, V, C: Count> Seen<'a, K, V, C> {
             + span_visits (bound_in K.bytes start) (bound_in K.bytes end) (seen_pairs self.entry)) }
         ensures bound { C.number counter.new ≤ C.number counter.old
             + span_bound (bound_in K.bytes start) (bound_in K.bytes end) (seen_pairs self.entry) }
-        ensures none { seen_pairs self.entry ≡ [] → C.number counter.new ≤ C.number counter.old }
+        ensures no_visits { seen_pairs self.entry ≡ []
+            → C.number counter.new ≤ C.number counter.old }
     {
         self.for_each_range_view_by_ref_counted(start, end, &mut f, counter)
     }

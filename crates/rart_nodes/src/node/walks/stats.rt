@@ -2,8 +2,8 @@
 ghost use Rattle.std.specs.Prelude.{◌≡◌, ◌+◌, ◌*◌, ◌≤◌, length, IfErr, IfOk, OnErr};
 ghost use Rattle.std.specs.Option.{option_copied};
 ghost use Rattle.rart_keys.specs.SortedMap.{keys_of};
-ghost use Rattle.rart_nodes.specs.statistics.CountedNodes.{counts_added, counts_in, counts_sum};
-ghost use Rattle.rart_nodes.specs.statistics.Statistics.{stats_in, stats_of, trie_height};
+ghost use Rattle.rart_nodes.specs.stats.CountedNodes.{counts_added, counts_in, counts_sum};
+ghost use Rattle.rart_nodes.specs.stats.Stats.{stats_in, stats_of, trie_height};
 ghost use Rattle.rart_nodes.specs.tries.Tree.{IsCanonicalTree, tree_nodes, tree_pairs};
 ghost use Rattle.rart_nodes.specs.tries.TrieCode.{node_count};
 
@@ -38,7 +38,7 @@ impl<P: Partial, V> DefaultNode<P, V> {
     /// [`TreeError::Memory`] if the tree holds at least two keys and an allocation fails.
     pub fn tree_stats(root: Option<&Self>, alloc: Global) -> Result<TreeStats, TreeError>
         requires canonical { IsCanonicalTree (option_copied root) }
-        requires few { 16 * length (tree_pairs (option_copied root)) ≤ usize.MAX }
+        requires fits { 16 * length (tree_pairs (option_copied root)) ≤ usize.MAX }
         ensures stats { let tree = option_copied root.entry in IfOk result
             (λ s. stats_in s ≡ stats_of (keys_of (tree_pairs tree)) (tree_nodes tree)) }
         ensures memory { IfErr result (λ e. e ≡ TreeError.Memory) }

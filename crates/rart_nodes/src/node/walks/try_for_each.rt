@@ -21,7 +21,7 @@ fn try_for_each<'a, P: Partial, V, C: Count, E, F: FnMut(&V) -> Result<VisitCont
 ) -> Result<(), E>
     requires callable { CanTry F.FnMut f.old (walk_values walk.old) }
     requires path { IsWalkAt walk.old [] }
-    requires reserved { walk.old.longest ≤ 2 ^ 64 }
+    requires fits { walk.old.longest ≤ 2 ^ 64 }
     ensures callable { F.IsAlwaysCallable f.old → F.IsAlwaysCallable f.new }
     ensures calls { EndsAs F.FnMut f.old (walk_values walk.old) result f.new }
     ensures visits { C.number counter.new ≤ C.number counter.old + walk_nodes walk.old }
@@ -85,7 +85,7 @@ impl<'a, K: KeyTrait, V, C: Count> Seen<'a, K, V, C> {
     ///
     /// # Visits
     ///
-    /// As there.
+    /// At most `prefix.len() + 1 + 2 * m` nodes where `m` keys begin with `prefix`, none in an empty tree.
     pub fn try_prefix_values_for_each_k_counted<E, F: FnMut(&V) -> Result<VisitControl, E> + Drop>(
         self,
         prefix: &K,

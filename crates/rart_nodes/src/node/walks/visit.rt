@@ -1,7 +1,8 @@
 //! Walks that call a callback with each value below a prefix.
-//!
-//! A walk allocates before its first call. The caller of a `_by_ref` form keeps its callback, and with it the state
-//! that the last call left.
+
+// A walk allocates before its first call. The caller of a `_by_ref` form keeps its callback, and with it the state that
+// the last call left.
+
 ghost use Rattle.std.specs.Prelude.{◌≡◌, ◌≤◌, ◌+◌, ◌^◌, [], IfErr, OnErr, OnOk};
 ghost use Rattle.rart_nodes.specs.tries.SeenTrees.{seen_pairs};
 ghost use Rattle.rart_nodes.specs.walks.BelowPrefix.{below_bound, below_visits, values_below};
@@ -24,9 +25,9 @@ fn for_each_value<'a, P: Partial, V, C: Count, F: FnMut(&V)>(
 )
     requires callable { CanShow F.FnMut f.old (walk_values walk.old) }
     requires path { IsWalkAt walk.old [] }
-    requires reserved { walk.old.longest ≤ 2 ^ 64 }
+    requires fits { walk.old.longest ≤ 2 ^ 64 }
     ensures callable { F.IsAlwaysCallable f.old → F.IsAlwaysCallable f.new }
-    ensures folds { ShowsEach F.FnMut f.old (walk_values walk.old) f.new }
+    ensures calls { ShowsEach F.FnMut f.old (walk_values walk.old) f.new }
     ensures visits { C.number counter.new ≤ C.number counter.old + walk_nodes walk.old }
 {
     while let Some(value) = walk.advance(&mut NoPath, counter) {
@@ -100,7 +101,7 @@ impl<'a, K: KeyTrait, V, C: Count> Seen<'a, K, V, C> {
     ///
     /// # Visits
     ///
-    /// As there.
+    /// At most `prefix.len() + 1 + 2 * m` nodes with `m` calls, none in an empty tree.
     pub fn prefix_values_for_each_k_counted<F: FnMut(&V) + Drop>(
         self,
         prefix: &K,

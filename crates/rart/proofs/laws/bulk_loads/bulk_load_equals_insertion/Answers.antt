@@ -7,13 +7,13 @@ equal_keys_equal_nodes-requires g c =
     ap keys_of (c.in-Ok.ensures.pairs ∙ sym (c.put_in_any_order.ensures _ _ c.requires.ascending c.requires.same)
     ∙ sym c.in-Ok-inserted.ensures.pairs)
 
-pub equal_keys_equal_statistics-requires : goal.equal_keys_equal_statistics-requires
-equal_keys_equal_statistics-requires g c =
+pub equal_keys_equal_stats-requires : goal.equal_keys_equal_stats-requires
+equal_keys_equal_stats-requires g c =
     ap keys_of (c.in-Ok.ensures.pairs ∙ sym (c.put_in_any_order.ensures _ _ c.requires.ascending c.requires.same)
     ∙ sym c.in-Ok-inserted.ensures.pairs)
 
-pub returns-in-Ok-equal_keys_equal_statistics-clause-pairs :
-    goal.returns-in-Ok-equal_keys_equal_statistics-clause-pairs
-returns-in-Ok-equal_keys_equal_statistics-clause-pairs g c =
+pub returns-in-Ok-equal_keys_equal_stats-clause-pairs :
+    goal.returns-in-Ok-equal_keys_equal_stats-clause-pairs
+returns-in-Ok-equal_keys_equal_stats-clause-pairs g c =
     c.in-Ok-inserted.ensures.pairs ∙ c.put_in_any_order.ensures _ _ c.requires.ascending c.requires.same
     ∙ sym c.in-Ok.ensures.pairs

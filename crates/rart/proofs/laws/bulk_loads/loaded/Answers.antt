@@ -11,8 +11,8 @@ returns-clause-pairs g c =
     (vec-drained _ c.args.sorted.items h.2.0 (h.2.1 ∙ c.args.sorted.ok.0) h.1 h.3) h.4.1)
     c.bulk_load_sorted.ensures.faultless
 
-pub returns-clause-refused : goal.returns-clause-refused
-returns-clause-refused g c =
+pub returns-clause-memory : goal.returns-clause-memory
+returns-clause-memory g c =
     IfErr-weaker c.bulk_load_sorted.result _ _
     (λ e h. let begun = vec-begun _ c.args.sorted.items h.3.0 (h.3.1 ∙ c.args.sorted.ok.0) h.1 h.2 h.4 in
     load-refused c.bulk_lists.ensures.strict_faultless c.ascending_pairs.ensures.beginning

@@ -7,7 +7,7 @@ returns g c =
     omega (
       arith,
       count,
-      c.joins.ensures.few c.args.self.now.pairs c.args.other.now.pairs,
+      c.joins.ensures.join_length c.args.self.now.pairs c.args.other.now.pairs,
       c.len.ensures.value,
       c.len.ensures.most,
     )

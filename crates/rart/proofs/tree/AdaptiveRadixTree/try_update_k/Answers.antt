@@ -25,8 +25,8 @@ returns-in-NotCloned-clause-not_cloned g c =
     (rw c.in-NotCloned.is at c.update_tried-outcome.ensures.update)).1
 
 -- it failed
-pub returns-in-Failed-clause-called : goal.returns-in-Failed-clause-called
-returns-in-Failed-clause-called g c =
+pub returns-in-Failed-clause-calls : goal.returns-in-Failed-clause-calls
+returns-in-Failed-clause-calls g c =
     λ _. (failed g.V.Clone.is_infallible g.F.FnOnce c.args.f (g.K.KeyTrait.bytes c.args.key.now) c.args.self.now.pairs
     c.update_tried-outcome.new.tree.pairs c.update_tried-outcome.result.0 c.put_back.ensures.same
     c.canonical.ensures.ascending c.in-Failed.error (rw c.in-Failed.is at c.update_tried-outcome.ensures.update)).0
@@ -41,15 +41,15 @@ returns-in-Failed-clause-unchanged g c =
     (c.update_tried-outcome.ensures.nodes (ap keys_of pairs))
 
 -- the requested edit is made
-pub returns-in-Ok-clause-called : goal.returns-in-Ok-clause-called
-returns-in-Ok-clause-called g c =
+pub returns-in-Ok-clause-calls : goal.returns-in-Ok-clause-calls
+returns-in-Ok-clause-calls g c =
     λ _. done g.V.Clone.is_infallible g.F.FnOnce c.args.f (g.K.KeyTrait.bytes c.args.key.now) c.args.self.now.pairs
     c.update_tried-outcome.new.tree.pairs c.update_tried-outcome.result.0 _ c.in-Ok.outcome _ c.is_touched.ensures
     c.in-Ok.is (rw c.in-Answered.is at c.update_tried-outcome.ensures.update)
 
 -- an insertion is refused
-pub returns-in-Err-Insert-clause-called : goal.returns-in-Err-Insert-clause-called
-returns-in-Err-Insert-clause-called g c =
+pub returns-in-Err-Insert-clause-calls : goal.returns-in-Err-Insert-clause-calls
+returns-in-Err-Insert-clause-calls g c =
     λ _. (not-inserted g.V.Clone.is_infallible g.F.FnOnce c.args.f (g.K.KeyTrait.bytes c.args.key.now)
     c.args.self.now.pairs c.update_tried-outcome.new.tree.pairs c.update_tried-outcome.result.0 _
     c.in-Err-Insert.refused (c.in-Err-Insert.is ∙ ap Err c.in-Err-Insert.field-0-is)
@@ -93,8 +93,8 @@ as-before g c =
     ∙ (rw c.in-Err-Remove.is at c.update_tried-outcome.ensures.nodes_unchanged) in
     same-map c.restore.new.self c.args.self.now (back g c).1 nodes
 
-pub returns-in-Some-clause-called : goal.returns-in-Some-clause-called
-returns-in-Some-clause-called g c = λ _. (back g (goal.at.returns-in-Some-clause-called g c).After-restore).0
+pub returns-in-Some-clause-calls : goal.returns-in-Some-clause-calls
+returns-in-Some-clause-calls g c = λ _. (back g (goal.at.returns-in-Some-clause-calls g c).After-restore).0
 
 pub returns-in-Some-clause-shape : goal.returns-in-Some-clause-shape
 returns-in-Some-clause-shape g c = rw (as-before g (goal.at.returns-in-Some-clause-shape g c).After-restore)

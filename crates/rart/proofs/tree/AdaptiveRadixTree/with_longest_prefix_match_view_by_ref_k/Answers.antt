@@ -11,9 +11,9 @@ with_longest_prefix_match_view_by_ref_k_counted-requires g c = record {
       (longest_match (g.K.KeyTrait.bytes c.args.probe.now) m)) (sym c.seen.ensures.pairs) c.requires.callable;
 }
 
-pub returns-clause-called : goal.returns-clause-called
-returns-clause-called g c =
+pub returns-clause-calls : goal.returns-clause-calls
+returns-clause-calls g c =
     subst (λ (m : List (List ℕ × g.row.V.Denot)). IfOk c.with_longest_prefix_match_view_by_ref_k_counted.result
     (ShowsFound g.F.FnMut c.args.f.now (keys_of m) (longest_match (g.K.KeyTrait.bytes c.args.probe.now) m)
     c.with_longest_prefix_match_view_by_ref_k_counted.new.f)) c.seen.ensures.pairs
-    c.with_longest_prefix_match_view_by_ref_k_counted.ensures.called
+    c.with_longest_prefix_match_view_by_ref_k_counted.ensures.calls

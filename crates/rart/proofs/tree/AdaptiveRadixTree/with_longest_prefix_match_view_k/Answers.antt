@@ -10,8 +10,8 @@ with_longest_prefix_match_view_k-requires g c = record {
       (longest_match (g.K.KeyTrait.bytes c.args.probe.now) m)) (sym c.seen.ensures.pairs) c.requires.callable;
 }
 
-pub returns-clause-called : goal.returns-clause-called
-returns-clause-called g c =
+pub returns-clause-calls : goal.returns-clause-calls
+returns-clause-calls g c =
     subst (λ (m : List (List ℕ × g.row.V.Denot)). IfOk c.with_longest_prefix_match_view_k.result
     (SeesFound g.F.FnOnce c.args.f (keys_of m) (longest_match (g.K.KeyTrait.bytes c.args.probe.now) m)))
-    c.seen.ensures.pairs c.with_longest_prefix_match_view_k.ensures.called
+    c.seen.ensures.pairs c.with_longest_prefix_match_view_k.ensures.calls

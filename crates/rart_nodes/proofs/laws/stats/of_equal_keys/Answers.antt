@@ -1,4 +1,4 @@
-use Rattle.rart_nodes.proofs.statistics.StatisticsLemmas.{equal-statistics}
+use Rattle.rart_nodes.proofs.tree_stats.StatsLemmas.{equal-statistics}
 use Rattle.rart_nodes.proofs.laws.stats.of_equal_keys.Goals as goal
 
 pub returns : goal.returns

@@ -1,5 +1,5 @@
-use Rattle.rart_nodes.proofs.statistics.StatisticsLemmas.{height-keys, statistics-keys}
-use Rattle.rart_nodes.proofs.statistics.WidthSums.{few_widths}
+use Rattle.rart_nodes.proofs.tree_stats.StatsLemmas.{height-keys, statistics-keys}
+use Rattle.rart_nodes.proofs.tree_stats.WidthSums.{few_widths}
 use Rattle.rart_nodes.proofs.laws.stats.of_keys.Goals as goal
 
 pub returns : goal.returns

@@ -33,7 +33,7 @@ loop-rest-init g t c =
     elim c.if-own-eq1.branch [
       | then-own-eq1 w ↦ started _ _ _ _ _ _ _ _ _ _ _ _ _
           (rw (w.value-is, w.take_value-is) (start-here _ _ _ _ _ _ _ _ _ _ _ _ _ at_start
-          c.in_ok-storage.ensures.stored wide _ _ _
+          c.in_ok-storage.ensures.entries wide _ _ _
           (slice_from-is c.args.keys.now _ ∙ ap (λ z. drop z c.args.keys.now) w.if-own-eq1.true)
           (own-one _ _ _ (c.from-own.ensures ∙ byte-is _) w.if-own-eq1.true)
           (ap (λ z. c.args.from + z) w.if-own-eq1.true) c.requires.callable w.take_value.ensures))
@@ -41,7 +41,7 @@ loop-rest-init g t c =
           let none = own-none _ _ _ (c.from-own.ensures ∙ byte-is _) w.if-own-eq1.false
           c.shared_length-shared.ensures.reach in
           started _ _ _ _ _ _ _ _ _ _ _ _ _ (rw (w.value-is, w.take_value-is)
-          (start-on _ _ _ _ _ _ _ _ _ _ _ _ _ at_start c.in_ok-storage.ensures.stored wide _ _
+          (start-on _ _ _ _ _ _ _ _ _ _ _ _ _ at_start c.in_ok-storage.ensures.entries wide _ _
           (slice_from-is c.args.keys.now _ ∙ ap (λ z. drop z c.args.keys.now) none.0) none.1 (omega (arith, none.0))
           refl c.requires.callable))
     ]
@@ -59,9 +59,10 @@ build_below-requires g t c κs within =
       (within.0, (within.1.0, (within.1.1, (stretch, (omega (arith, placed, part, now.within), callable))))),
     )
 
-pub returns-in_default-clause-taken : goal.returns-in_default-clause-taken
-returns-in_default-clause-taken g t c =
-    building-refused _ _ _ _ _ _ _ _ _ _ _ _ _ c.loop-rest.invariant.building _ _ _ refl c.in_default.ensures.taken
+pub returns-in_default-clause-values_taken : goal.returns-in_default-clause-values_taken
+returns-in_default-clause-values_taken g t c =
+    building-refused _ _ _ _ _ _ _ _ _ _ _ _ _ c.loop-rest.invariant.building _ _ _ refl
+    c.in_default.ensures.values_taken
 
 pub add_leaf-requires-clause-absent : goal.add_leaf-requires-clause-absent
 add_leaf-requires-clause-absent g t c = (next-free _ _ _ _ _ _ _ _ _ _ _ _ _ c.loop-rest.invariant.building _
@@ -92,13 +93,13 @@ loop-rest-preserved g t c =
           (rw (w.storage-is, w.take_value-is) (building-leaf _ _ _ _ _ _ _ _ _ _ _ _ _ c.loop-rest.invariant.building
           _ _ _ _ _ _ _ _ _ _ some now.run w.if-end-eq1.true now.within now.byte (slice_from-is c.loop-rest.rest.now _)
           (slice_from-is (get_or c.loop-rest.rest.now 0 (record { ref_ptr = (0, 0); now = [] })).now _)
-          w.take_value-then-end-eq1.ensures w.add_leaf.ensures.stored w.add_leaf.ensures.capacity refl))
+          w.take_value-then-end-eq1.ensures w.add_leaf.ensures.entries w.add_leaf.ensures.capacity refl))
       | else-end-eq1+in-Ok w ↦
           let child = w.in-Ok.ensures in
           started _ _ _ _ _ _ _ _ _ _ _ _ _
           (rw (w.storage-is, w.take_value-is) (building-step _ _ _ _ _ _ _ _ _ _ _ _ _ c.loop-rest.invariant.building
           _ _ _ _ _ _ _ _ _ some now.run now.some now.within now.byte refl (slice_from-is c.loop-rest.rest.now _)
-          child.canonical child.keys child.values (rw w.first_part-prefix.ensures at w.add_node.ensures.stored)
+          child.canonical child.keys child.values (rw w.first_part-prefix.ensures at w.add_node.ensures.entries)
           w.add_node.ensures.capacity refl))
     ]
 

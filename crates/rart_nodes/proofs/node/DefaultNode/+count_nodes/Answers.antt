@@ -3,8 +3,8 @@ use Rattle.std.specs.Prelude.{max}
 use Rattle.rart_nodes.specs.storages.Stored.{child_entries, storage_capacity}
 use Rattle.rart_nodes.specs.tries.Trie.{children_in}
 use Rattle.rart_nodes.specs.tries.TrieCode.{as_children, node_count}
-use Rattle.rart_nodes.proofs.statistics.CountLemmas.{own-free, few-high, count-start, count-step, count-free, count-end}
-use Rattle.rart_nodes.proofs.statistics.CountLemmas.{max-numbers}
+use Rattle.rart_nodes.proofs.tree_stats.CountLemmas.{own-free, few-high, count-start, count-step, count-free, count-end}
+use Rattle.rart_nodes.proofs.tree_stats.CountLemmas.{max-numbers}
 use Rattle.rart_nodes.proofs.node.DefaultNode.+count_nodes.Goals as goal
 
 pub add_node-requires : goal.add_node-requires

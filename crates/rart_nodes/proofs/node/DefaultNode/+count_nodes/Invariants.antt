@@ -1,4 +1,4 @@
-use Rattle.rart_nodes.proofs.statistics.CountLemmas.{Counting}
+use Rattle.rart_nodes.proofs.tree_stats.CountLemmas.{Counting}
 use Rattle.rart_nodes.proofs.node.DefaultNode.+count_nodes.Given as goal
 
 abbrev pub decreases-count_nodes : goal.decreases-count_nodes

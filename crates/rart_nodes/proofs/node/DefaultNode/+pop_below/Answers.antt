@@ -22,14 +22,14 @@ use Rattle.rart_nodes.proofs.node.DefaultNode.+pop_below.Goals as goal
 
 pub extend-requires : goal.extend-requires
 extend-requires g t c = prefix-within _ _ _ _ (storage_capacity c.self.inside.storage) _
-    (rw (← c.self.view_is) at c.requires.canonical) (rw (← c.self.view_is) at c.requires.fits)
+    (rw (← c.self.view_is) at c.requires.canonical) (rw (← c.self.view_is) at c.requires.within)
 
 -- the node holds the pair
 pub merge_with_only_child-requires-clause-within : goal.merge_with_only_child-requires-clause-within
 merge_with_only_child-requires-clause-within g t c =
     joins-canonical _ _ _ (storage_capacity c.self.inside.storage) _ (rw (← c.self.view_is) at c.requires.canonical)
     (fewer-within _ (length (g.P.Partial.bytes c.args.path.now) + longest_key (pairs_of c.args.self.now)) _
-    (rw (← c.self.view_is) (omega arith)) c.requires.fits)
+    (rw (← c.self.view_is) (omega arith)) c.requires.within)
 
 pub returns-in_default-clause-ok : goal.returns-in_default-clause-ok
 returns-in_default-clause-ok g t c =
@@ -47,7 +47,7 @@ child-within : (g : Over) (t : ℕ) (c : In-Some-seek_child_mut g t) → IsWithi
 child-within g t c = below-within _ _ _ _ _ _ (storage_capacity c.self.inside.storage) _
     (child_entries c.self.inside.storage)
     (rw (← c.self.view_is) at c.requires.canonical) c.in-Some-seek_child_mut.ensures.value c.extend.ensures
-    (rw (← c.self.view_is) at c.requires.fits)
+    (rw (← c.self.view_is) at c.requires.within)
 
 child-ends : (g : Over) (t : ℕ) (c : In-Some-seek_child_mut g t) → EndsIn c.args.end
     (g.P.Partial.bytes c.self.inside.prefix) c.self.inside.value (storage_capacity c.self.inside.storage) c.in-Some.byte
@@ -110,7 +110,7 @@ take_leaf-requires g t c =
     let left = rw c.in-Some-seek_child_mut.is at c.seek_child_mut.follows.holds child in
     let found = child-there _ child child (child_entries c.self.inside.storage) _ there left.1 in
     let fits = fewer-within _ (length (g.P.Partial.bytes c.args.path.now) + longest_key (pairs_of c.args.self.now))
-    (longest_key (pairs_of c.args.self.now)) (omega arith) c.requires.fits in
+    (longest_key (pairs_of c.args.self.now)) (omega arith) c.requires.within in
     let none : children_in child ≡ no_children
     = rw (← c.child.view_is) (entries-none _ _ c.num_children.ensures c.if-num_children-gt0.false) in
     record {

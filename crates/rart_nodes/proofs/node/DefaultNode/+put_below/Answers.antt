@@ -33,7 +33,7 @@ pub put_below-requires : goal.put_below-requires
 put_below-requires g t c κs within =
     let on = follows g t (goal.at.put_below-requires g t c).In-Some-seek_child_mut in
     let child = canonical-found _ 0 _ _ on.canonical.2 on.there in
-    let fits = rest-within _ _ c.args.key.now _ on.left c.requires.fits in (
+    let fits = rest-within _ _ c.args.key.now _ on.left c.requires.within in (
       omega (arith, c.decreases, ap node_count c.self.view_is, count-found _ 0 _ _ on.canonical.2 on.there),
       (within.0, (within.1, (child, (fits, c.requires.empty)))),
     )
@@ -57,8 +57,8 @@ returns-in-Some-seek_child_mut g t c =
     }
 
 -- there is no child
-pub add_leaf-requires-clause-fits : goal.add_leaf-requires-clause-fits
-add_leaf-requires-clause-fits g t c = rest-within _ _ c.args.key.now _ c.in-Some.ensures c.requires.fits
+pub add_leaf-requires-clause-within : goal.add_leaf-requires-clause-within
+add_leaf-requires-clause-within g t c = rest-within _ _ c.args.key.now _ c.in-Some.ensures c.requires.within
 
 pub returns-in-Ok-reserve_slot-clause-ok : goal.returns-in-Ok-reserve_slot-clause-ok
 returns-in-Ok-reserve_slot-clause-ok g t c =
@@ -67,7 +67,7 @@ returns-in-Ok-reserve_slot-clause-ok g t c =
     (rw (← c.self.view_is) at c.requires.canonical) c.in-Some.ensures c.in-Some-first.ensures.value
     c.in_default-seek_child_mut.ensures.value
     (c.add_leaf.ensures.capacity ∙ rw (left.0, left.1) at c.in-Ok-reserve_slot.ensures.capacity)
-    (rw (c.add_leaf.ensures.stored, c.in-Ok-reserve_slot.ensures.stored, left.1) refl))
+    (rw (c.add_leaf.ensures.entries, c.in-Ok-reserve_slot.ensures.entries, left.1) refl))
 
 pub returns-in-Ok-reserve_slot-clause-answer : goal.returns-in-Ok-reserve_slot-clause-answer
 returns-in-Ok-reserve_slot-clause-answer g t c

@@ -14,7 +14,7 @@ pub extend-requires : goal.extend-requires
 extend-requires g t c = prefix-within _ (length (g.P.Partial.bytes c.args.path.now))
     (g.P.Partial.bytes c.self.inside.prefix) c.self.inside.value (storage_capacity c.self.inside.storage)
     (as_children (child_entries c.self.inside.storage)) (rw (← c.self.view_is) at c.requires.canonical)
-    (rw (← c.self.view_is) at c.requires.fits)
+    (rw (← c.self.view_is) at c.requires.within)
 
 pub call_for_own-keeps-requires : goal.call_for_own-keeps-requires
 call_for_own-keeps-requires g t c = record {
@@ -47,7 +47,7 @@ retain_below-below-requires g t c κs within =
     let next = upcoming _ _ _ _ _ _ _ _ _ _ _ _ _ c.in-Some-seek_child_mut.child.now
     (rw c.in-Some.is at c.loop-next.invariant.visited) c.in-Some-seek_child_mut.ensures.value in
     let fits = upcoming-within _ _ _ _ _ _ _ _ _ (g.P.Partial.bytes c.loop-next.path) _ _ _ _ _ c.requires.canonical
-    next c.loop-next.invariant.path c.requires.fits in (
+    next c.loop-next.invariant.path c.requires.within in (
       omega (arith, c.decreases, next.fewer),
       (
         within.0,
@@ -86,7 +86,7 @@ finish-requires-clause-capacity g t c = λ lone. lone-capacity (storage_capacity
 
 pub finish-requires-clause-within : goal.finish-requires-clause-within
 finish-requires-clause-within g t c = retaining-within _ _ _ _ _ _ _ _ _ _ _ _ _ _ c.requires.canonical
-    c.loop-next.invariant.visited c.requires.fits
+    c.loop-next.invariant.visited c.requires.within
 
 pub returns-clause-canonical : goal.returns-clause-canonical
 returns-clause-canonical g t c = rw c.finish.ensures.node (retaining-end _ _ _ _ _ _ _ _ _ _ _ _

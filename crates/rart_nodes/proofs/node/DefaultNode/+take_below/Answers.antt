@@ -30,7 +30,7 @@ returns-in_default-clause-ok g t c =
 pub merge_with_only_child-requires-clause-within : goal.merge_with_only_child-requires-clause-within
 merge_with_only_child-requires-clause-within g t c
     = joins-canonical _ _ _ (storage_capacity c.self.inside.storage) _ (rw (← c.self.view_is) at c.requires.canonical)
-    (rw (← c.self.view_is) at c.requires.fits)
+    (rw (← c.self.view_is) at c.requires.within)
 
 pub returns-in_default-first-clause-ok : goal.returns-in_default-first-clause-ok
 returns-in_default-first-clause-ok g t c
@@ -77,7 +77,7 @@ take_below-requires g t c κs within =
     let fits = fewer-within _ (longest_key (pairs_of c.args.self.now))
     (longest_key (pairs_of c.in-Some-seek_child_mut.child.now)) (rw (← c.self.view_is)
     (entry-short (g.P.Partial.bytes c.self.inside.prefix) c.self.inside.value (storage_capacity c.self.inside.storage) _
-    c.in-Some-seek_child_mut.child.now (child_entries c.self.inside.storage) on.there)) c.requires.fits in
+    c.in-Some-seek_child_mut.child.now (child_entries c.self.inside.storage) on.there)) c.requires.within in
     let stays = sym c.is_leaf_at.ensures ∙ c.if-not-is_leaf_at.true in (
       omega (arith, c.decreases, ap node_count c.self.view_is, count-found _ 0 _ _ on.canonical.2 on.there),
       (within.0, (within.1, (child, (fits, (stays, c.requires.empty))))),
@@ -111,7 +111,7 @@ take_leaf-requires g t c =
     let found = child-there _ child child _ _ on.there left.1 in
     record {
       within = rw (left.1 ∙ replaced-same _ child (child_entries c.self.inside.storage) on.there) (joins-canonical _ _ _
-          (storage_capacity c.self.inside.storage) _ on.canonical (rw (← c.self.view_is) at c.requires.fits));
+          (storage_capacity c.self.inside.storage) _ on.canonical (rw (← c.self.view_is) at c.requires.within));
       present = λ none. some-there child _ found none;
       leaf = rw found (leaf-edges _ child (sym c.is_leaf_at.ensures ∙ c.if-not-is_leaf_at.false));
       empty = c.requires.empty;

@@ -27,13 +27,13 @@ pub extend-requires : goal.extend-requires
 extend-requires g t c = prefix-within _ (length (g.P.Partial.bytes c.args.path.now))
     (g.P.Partial.bytes c.self.inside.prefix) c.self.inside.value (storage_capacity c.self.inside.storage)
     (as_children (child_entries c.self.inside.storage)) (rw (← c.self.view_is) at c.requires.canonical)
-    (rw (← c.self.view_is) at c.requires.fits)
+    (rw (← c.self.view_is) at c.requires.within)
 
 -- it continues in a child that remains
 pub take_prefix_below-requires : goal.take_prefix_below-requires
 take_prefix_below-requires g t c κs within =
     let canonical = rw (← c.self.view_is) at c.requires.canonical in
-    let fits = rw (← c.self.view_is) at c.requires.fits in
+    let fits = rw (← c.self.view_is) at c.requires.within in
     let low = below-within _ _ _ _ _ _ (storage_capacity c.self.inside.storage) c.in-Some-seek_child_mut.child.now
     (child_entries c.self.inside.storage) canonical c.in-Some-seek_child_mut.ensures.value c.extend.ensures fits in (
       omega (
@@ -118,7 +118,7 @@ take_whole-requires-clause-within g t c =
     let same = left.1 ∙ replaced-same _ c.in-Some-seek_child_mut.child.now (child_entries c.self.inside.storage)
     c.in-Some-seek_child_mut.ensures.value in
     let fits = fewer-within _ (length (g.P.Partial.bytes c.args.path.now) + longest_key (pairs_of c.args.self.now))
-    (longest_key (pairs_of c.args.self.now)) (omega arith) c.requires.fits in
+    (longest_key (pairs_of c.args.self.now)) (omega arith) c.requires.within in
     rw same (joins-canonical _ _ _ (storage_capacity c.self.inside.storage) _ canonical (rw (← c.self.view_is) at fits))
 
 pub take_whole-requires-clause-present : goal.take_whole-requires-clause-present
@@ -130,15 +130,15 @@ take_whole-requires-clause-present g t c =
     ∙ ap (child_at _) same ∙ sym c.in-Some-seek_child_mut.ensures.value in
     λ none. some-there c.in-Some-seek_child_mut.child.now _ found none
 
-pub take_whole-requires-clause-fits : goal.take_whole-requires-clause-fits
-take_whole-requires-clause-fits g t c =
+pub take_whole-requires-clause-child_within : goal.take_whole-requires-clause-child_within
+take_whole-requires-clause-child_within g t c =
     let canonical = rw (← c.self.view_is) at c.requires.canonical in
     let left = rw c.in-Some-seek_child_mut.is at c.seek_child_mut.follows.holds c.in-Some-seek_child_mut.child.now in
     let same = left.1 ∙ replaced-same _ c.in-Some-seek_child_mut.child.now (child_entries c.self.inside.storage)
     c.in-Some-seek_child_mut.ensures.value in
     let found = child_of-entries _ (child_entries (c.seek_child_mut.follows.lender c.in-Some-seek_child_mut.child.now))
     ∙ ap (child_at _) same ∙ sym c.in-Some-seek_child_mut.ensures.value in
-    let fits = rw (← c.self.view_is) at c.requires.fits in
+    let fits = rw (← c.self.view_is) at c.requires.within in
     let low = below-within _ _ _ _ _ _ (storage_capacity c.self.inside.storage) c.in-Some-seek_child_mut.child.now
     (child_entries c.self.inside.storage) canonical c.in-Some-seek_child_mut.ensures.value c.extend.ensures fits in
     rw found (prefix-fits _ (length (g.P.Partial.bytes c.extend.new.path)) c.in-Some-seek_child_mut.child.now
@@ -198,21 +198,21 @@ returns-clause-allocates g t c =
     c.take_whole.ensures.allocates
 
 -- the visits
-pub returns-then-not-is_below-clause-visits : goal.returns-then-not-is_below-clause-visits
-returns-then-not-is_below-clause-visits g t c =
+pub returns-then-not-is_below-clause-bound : goal.returns-then-not-is_below-clause-bound
+returns-then-not-is_below-clause-bound g t c =
     let canonical = rw (← c.self.view_is) at c.requires.canonical in
     omega (
       arith,
       c.is_below.ensures.counted,
-      c.take_prefix_below.ensures.visits,
+      c.take_prefix_below.ensures.bound,
       ap (λ t. length (prefix_of t)) c.self.view_is,
       visits-below (g.P.Partial.bytes c.self.inside.prefix) c.args.prefix.now c.in-Some.rest.now _
           c.in-Some-seek_child_mut.child.now (child_entries c.self.inside.storage) canonical.2 c.in-Some.ensures
           c.in-Some-first.ensures.value c.in-Some-seek_child_mut.ensures.value,
     )
 
-pub returns-clause-visits : goal.returns-clause-visits
-returns-clause-visits g t c =
+pub returns-clause-bound : goal.returns-clause-bound
+returns-clause-bound g t c =
     let canonical = rw (← c.self.view_is) at c.requires.canonical in
     omega (
       arith,

@@ -65,7 +65,7 @@ show-left-requires g t c = record {
 pub apply_here-requires-clause-within : goal.apply_here-requires-clause-within
 apply_here-requires-clause-within g t c =
     joins-canonical _ _ _ (storage_capacity c.self.inside.storage) _ (rw (← c.self.view_is) at c.requires.canonical)
-    (rw (← c.self.view_is) at c.requires.fits)
+    (rw (← c.self.view_is) at c.requires.within)
 
 pub returns-in_default-first : goal.returns-in_default-first
 returns-in_default-first g t c =
@@ -80,7 +80,7 @@ returns-in_default-first g t c =
       rw (← c.self.view_is)
           (ends-here c.args.full _ c.args.key.now _ c.self.inside.value _ (storage_capacity c.self.inside.storage)
           (child_entries c.self.inside.storage) (rw (← c.self.view_is) at c.requires.canonical) c.in-Some.ensures
-          c.in_default-first.ensures.value (rw (← c.self.view_is) at c.requires.inner) c.show-left.result.answer
+          c.in_default-first.ensures.value (rw (← c.self.view_is) at c.requires.not_leaf) c.show-left.result.answer
           c.show-left.result.left c.apply_here.result c.apply_here.new.self stays c.apply_here.ensures),
     )
 
@@ -106,11 +106,11 @@ update_below-requires g t c κs within =
     let on = follows g t (goal.at.update_below-requires g t c).In-Some-seek_child_mut in
     let down = key-goes_on g t (goal.at.update_below-requires g t c).In-Some-seek_child_mut in
     let child = canonical-found _ 0 _ _ on.canonical.2 on.there in
-    let fits_key = rest-within _ _ c.args.key.now _ on.left c.requires.fits_key in
+    let fits_key = rest-within _ _ c.args.key.now _ on.left c.requires.key_within in
     let fits = fewer-within _ (longest_key (pairs_of c.args.self.now))
     (longest_key (pairs_of c.in-Some-seek_child_mut.child.now)) (rw (← c.self.view_is)
     (entry-short (g.P.Partial.bytes c.self.inside.prefix) c.self.inside.value (storage_capacity c.self.inside.storage) _
-    c.in-Some-seek_child_mut.child.now (child_entries c.self.inside.storage) on.there)) c.requires.fits in
+    c.in-Some-seek_child_mut.child.now (child_entries c.self.inside.storage) on.there)) c.requires.within in
     let inner = sym c.is_leaf_at.ensures ∙ c.if-not-is_leaf_at.true in
     let callable = rw down at c.requires.callable in
     let stays = rw down at c.requires.occupancy in
@@ -185,7 +185,7 @@ remove_leaf-requires g t c =
     let found = child-there _ _ c.update_leaf.new.self _ _ on.there left.1 in
     record {
       within = joins-holding _ _ _ _ _ _ _ _ on.there lost.2 left.1 (joins-canonical _ _ _
-          (storage_capacity c.self.inside.storage) _ on.canonical (rw (← c.self.view_is) at c.requires.fits));
+          (storage_capacity c.self.inside.storage) _ on.canonical (rw (← c.self.view_is) at c.requires.within));
       present = some-there c.update_leaf.new.self _ found;
       leaf = rw found (
         holding-edges _ _ _ c.update_leaf.new.self (at-leaf g t at.Else-not-is_leaf_at) lost.2,
@@ -229,9 +229,9 @@ apply_to_child-requires-clause-absent g t c =
     child-absent _ (child_entries c.self.inside.storage) _ c.in-None.ensures.value
     c.seek_child_mut.follows.holds-at-none.1
 
-pub apply_to_child-requires-clause-fits : goal.apply_to_child-requires-clause-fits
-apply_to_child-requires-clause-fits g t c =
-    rest-within _ _ c.args.key.now _ c.in-Some.ensures c.requires.fits_key
+pub apply_to_child-requires-clause-within : goal.apply_to_child-requires-clause-within
+apply_to_child-requires-clause-within g t c =
+    rest-within _ _ c.args.key.now _ c.in-Some.ensures c.requires.key_within
 
 pub returns-in-None : goal.returns-in-None
 returns-in-None g t c =

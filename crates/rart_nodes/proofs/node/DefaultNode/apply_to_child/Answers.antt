@@ -17,7 +17,7 @@ reserve_slot-requires g c = record {
 }
 
 pub add_leaf-requires-clause-absent : goal.add_leaf-requires-clause-absent
-add_leaf-requires-clause-absent g c = ap (child_at _) c.in-Ok.ensures.stored
+add_leaf-requires-clause-absent g c = ap (child_at _) c.in-Ok.ensures.entries
     ∙ none-at c.args.byte (child_entries c.self.inside.storage) (rw (← c.self.view_is) at c.requires.absent)
 
 pub returns-in-Ok : goal.returns-in-Ok
@@ -26,7 +26,7 @@ returns-in-Ok g c = λ key h. rw c.in-Insert.is (
       (rw (← c.self.view_is) at c.requires.canonical) (rw (← c.self.view_is) at h) c.requires.first
       (sym (none-at c.args.byte (child_entries c.self.inside.storage) (rw (← c.self.view_is) at c.requires.absent)))
       (c.add_leaf.ensures.capacity ∙ c.in-Ok.ensures.capacity)
-      (rw (c.add_leaf.ensures.stored, c.in-Ok.ensures.stored) refl))),
+      (rw (c.add_leaf.ensures.entries, c.in-Ok.ensures.entries) refl))),
   refl,
   c.if-full.false,
 )

@@ -28,9 +28,9 @@ returns-then-key-shared-clause-ok g c = rw (← c.self.view_is)
     c.partial_after-low.ensures c.replace.ensures.after
     (c.add_within.ensures.capacity ∙ ap storage_capacity c.replace-storage.ensures.after ∙ c.in-Ok.ensures.capacity)
     (rw (
-      c.add_within.ensures.stored,
+      c.add_within.ensures.entries,
       c.replace-storage.ensures.after,
-      c.in-Ok.ensures.stored,
+      c.in-Ok.ensures.entries,
       c.replace-storage.ensures.value,
       c.replace.ensures.value,
       c.at-low_byte.ensures,
@@ -49,10 +49,10 @@ returns-clause-ok g c = rw (← c.self.view_is)
     c.replace-storage.ensures.after
     ∙ c.in-Ok.ensures.capacity)
     (rw (
-      c.add_within-3.ensures.stored,
-      c.add_within-2.ensures.stored,
+      c.add_within-3.ensures.entries,
+      c.add_within-2.ensures.entries,
       c.replace-storage.ensures.after,
-      c.in-Ok.ensures.stored,
+      c.in-Ok.ensures.entries,
       c.replace-storage.ensures.value,
       c.take.ensures.value,
       c.at-low_byte.ensures,
@@ -63,7 +63,7 @@ returns-clause-ok g c = rw (← c.self.view_is)
 pub add_within-requires-3-clause-absent : goal.add_within-requires-3-clause-absent
 add_within-requires-3-clause-absent g c = child_at-beside c.at-low_byte.result _ _
     (child_entries c.add_within-2.new.self)
-    (rw (c.replace-storage.ensures.after, c.in-Ok.ensures.stored) at c.add_within-2.ensures.stored)
+    (rw (c.replace-storage.ensures.after, c.in-Ok.ensures.entries) at c.add_within-2.ensures.entries)
     (λ s. first-differ _ c.args.key.now c.prefix_length_slice-shared.result c.prefix_length_slice-shared.ensures.value
     (parts-within _ c.args.key.now _ c.prefix_length_slice-shared.ensures.value
     (rw (← c.self.view_is) at c.requires.leaves)) c.if-key-shared.false

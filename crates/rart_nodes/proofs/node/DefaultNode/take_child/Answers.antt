@@ -25,14 +25,14 @@ returns-in_default-clause-rest g c =
     let none = sym c.in_ok-child.ensures.taken ∙ c.in_default.is in
     rw (← c.self.view_is) (without-none _ _ (storage_capacity c.self.inside.storage) _ c.args.b
     (child_entries c.self.inside.storage) _
-    none c.in_ok-child.ensures.stored
+    none c.in_ok-child.ensures.entries
     (c.in_ok-child.ensures.capacity ∙ ap (λ o. if is_some o then shrunk_capacity (length
     (child_entries c.delete_child.new.self))
     (storage_capacity c.self.inside.storage) else storage_capacity c.self.inside.storage) none))
 
 pub merge_with_only_child-requires-clause-within : goal.merge_with_only_child-requires-clause-within
 merge_with_only_child-requires-clause-within g c
-    = rw c.in_ok-child.ensures.stored (joins-without _ _ c.args.b (child_entries c.self.inside.storage)
+    = rw c.in_ok-child.ensures.entries (joins-without _ _ c.args.b (child_entries c.self.inside.storage)
     (rw (← c.self.view_is) at c.requires.within))
 
 pub returns-clause-taken : goal.returns-clause-taken
@@ -51,8 +51,8 @@ returns-clause-rest g c =
       | then-smallest w ↦ w.self-is ∙ w.merge_with_only_child.ensures
           ∙ without-joined _ _ (storage_capacity c.self.inside.storage) _ c.args.b
           (child_entries c.self.inside.storage) _
-          (sym c.capacity-smallest.ensures ∙ w.if-smallest.true) there c.in_ok-child.ensures.stored capacity
+          (sym c.capacity-smallest.ensures ∙ w.if-smallest.true) there c.in_ok-child.ensures.entries capacity
       | else-smallest w ↦ w.self-is ∙ without-wide _ _ (storage_capacity c.self.inside.storage) _ c.args.b
           (child_entries c.self.inside.storage) _ (λ e. w.if-smallest.false (c.capacity-smallest.ensures ∙ e)) there
-          c.in_ok-child.ensures.stored capacity
+          c.in_ok-child.ensures.entries capacity
     ])

@@ -40,5 +40,5 @@ returns g c =
       unchanged = c.take_prefix_from.ensures.unchanged;
       memory = c.take_prefix_from.ensures.memory;
       allocates = c.take_prefix_from.ensures.allocates;
-      visits = c.take_prefix_from.ensures.visits;
+      bound = c.take_prefix_from.ensures.bound;
     }

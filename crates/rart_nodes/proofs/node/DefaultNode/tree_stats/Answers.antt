@@ -1,6 +1,6 @@
 use Rattle.std.proofs.Common.{◌∙◌, ap, arith}
-use Rattle.rart_nodes.specs.statistics.CountedNodes.{counts_added, counts_in, counts_sum}
-use Rattle.rart_nodes.proofs.statistics.CountedStatistics.{counted-statistics, few-for-keys, sums-for-keys, inner-keys}
+use Rattle.rart_nodes.specs.stats.CountedNodes.{counts_added, counts_in, counts_sum}
+use Rattle.rart_nodes.proofs.tree_stats.CountedStats.{counted-statistics, few-for-keys, sums-for-keys, inner-keys}
 use Rattle.std.proofs.lemmas.Result.{on_err_weaker}
 use Rattle.rart_nodes.proofs.edits.Outcomes.{if_ok_weaker}
 use Rattle.rart_nodes.proofs.node.DefaultNode.tree_stats.Goals as goal
@@ -8,13 +8,13 @@ use Rattle.rart_nodes.proofs.node.DefaultNode.tree_stats.Goals as goal
 pub count_nodes-height-requires : goal.count_nodes-height-requires
 count_nodes-height-requires g c =
     let canonical = rw c.in-Some.is at c.requires.canonical in
-    let fits = rw c.in-Some.is at c.requires.few in
+    let fits = rw c.in-Some.is at c.requires.fits in
     omega (arith, ap counts_sum c.none-counts.ensures, few-for-keys c.in-Some.node.now canonical, fits)
 
 pub to_stats-requires : goal.to_stats-requires
 to_stats-requires g c =
     let canonical = rw c.in-Some.is at c.requires.canonical in
-    let fits = rw c.in-Some.is at c.requires.few in
+    let fits = rw c.in-Some.is at c.requires.fits in
     let counted = c.count_nodes-height.ensures.counts
     ∙ ap (λ n. counts_added n (counts_in c.in-Some.node.now)) c.none-counts.ensures in
     let sums = sums-for-keys _ _ canonical counted in

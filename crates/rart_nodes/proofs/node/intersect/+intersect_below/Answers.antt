@@ -27,11 +27,11 @@ returns-then-has_no_children-clause-place g t c =
     let found = c.in-Some.ensures.aligned in
     back-again _ _ _ _ found.0 _ c.mark-mark.ensures found.1 (path-stays _) c.cut-then-has_no_children.ensures
 
-pub returns-then-has_no_children-clause-given : goal.returns-then-has_no_children-clause-given
-returns-then-has_no_children-clause-given g t c =
+pub returns-then-has_no_children-clause-calls : goal.returns-then-has_no_children-clause-calls
+returns-then-has_no_children-clause-calls g t c =
     let laws = g.met.T.Visitor.lawful in
     let found = c.in-Some.ensures.aligned in
-    let here = rw (c.value.ensures, c.value-2.ensures) at c.give_both.ensures.given in
+    let here = rw (c.value.ensures, c.value-2.ensures) at c.give_both.ensures.calls in
     given-aligned _ _ laws _ _ _ _ _ _ _ found.0 _ _ found.2 found.1 here
     (rw (c.has_no_children.ensures.0 c.if-has_no_children.true) (laws.gives_none _ _))
 
@@ -46,7 +46,7 @@ loop-child-init g t c =
     record {
       callable = rw c.of-shared_children.ensures
           (can-rest _ _ laws _ _ _ _ _ _ (can-aligned _ _ laws _ g.met.T.Visitor.deeper _ _ _ _ _ found.0 _ _ found.2
-          found.1 c.requires.callable) (rw (c.value.ensures, c.value-2.ensures) at c.give_both.ensures.given));
+          found.1 c.requires.callable) (rw (c.value.ensures, c.value-2.ensures) at c.give_both.ensures.calls));
       place = path-stays _;
       reserved = laws.keeps_reserved _ _ found.0 _ _ found.1 c.requires.reserved found.2.short;
       given = λ last h. h;
@@ -75,11 +75,11 @@ loop-child-preserved g t c =
     let next = next-shared_children _ _ _ _ _ _ c.in-Some-enter_next.ensures.shared_children inv.within in
     record {
       callable = can-others _ _ laws _ g.met.T.Visitor.deeper _ _ _ _ _ _ _ _
-          c.in-Some-enter_next.ensures.shared_children inv.place c.intersect_below.ensures.given inv.callable;
+          c.in-Some-enter_next.ensures.shared_children inv.place c.intersect_below.ensures.calls inv.callable;
       place = path-on _ _ _ [] [] inv.place c.intersect_below.ensures.place;
       reserved = laws.keeps_reserved _ _ [] _ _ c.intersect_below.ensures.place inv.reserved (omega arith);
       given = λ last h. inv.given last (given-next _ _ laws _ _ _ _ _ _ _ _ _
-          c.in-Some-enter_next.ensures.shared_children inv.place c.intersect_below.ensures.given h);
+          c.in-Some-enter_next.ensures.shared_children inv.place c.intersect_below.ensures.calls h);
       visits = omega (
         arith,
         inv.visits,
@@ -95,11 +95,11 @@ returns-clause-place g t c =
     let found = c.in-Some.ensures.aligned in
     back-again _ _ _ _ found.0 _ c.mark-mark.ensures found.1 c.loop-child.invariant.place c.cut-2.ensures
 
-pub returns-clause-given : goal.returns-clause-given
-returns-clause-given g t c =
+pub returns-clause-calls : goal.returns-clause-calls
+returns-clause-calls g t c =
     let laws = g.met.T.Visitor.lawful in
     let found = c.in-Some.ensures.aligned in
-    let here = rw (c.value.ensures, c.value-2.ensures) at c.give_both.ensures.given in
+    let here = rw (c.value.ensures, c.value-2.ensures) at c.give_both.ensures.calls in
     let below = rw c.of-shared_children.ensures at
     (c.loop-child.invariant.given c.loop-child.f
     (rw c.in_default-enter_next.ensures.shared_children (laws.gives_none _ _))) in

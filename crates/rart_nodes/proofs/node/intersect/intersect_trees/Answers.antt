@@ -4,8 +4,8 @@ use Rattle.rart_nodes.proofs.joins.JointVisits.{joined-both, joined-right_none}
 use Rattle.rart_nodes.proofs.tries.CanonicalTests.{IsCanonicalTree-test}
 use Rattle.rart_nodes.proofs.node.intersect.intersect_trees.Goals as goal
 
-pub returns-in_default-top-clause-given : goal.returns-in_default-top-clause-given
-returns-in_default-top-clause-given g c =
+pub returns-in_default-top-clause-calls : goal.returns-in_default-top-clause-calls
+returns-in_default-top-clause-calls g c =
     let none = joined-right_none (option_copied c.args.left.root) (option_copied c.args.right.root)
     c.in_default-top.ensures in
     rw none.0 (g.met.T.Visitor.lawful.gives_none _ _)
@@ -22,8 +22,8 @@ returns g c =
     (IsCanonicalTree-test _ c.args.right.canonical) c.in-Some.ensures c.in-Some-top.ensures in
     let below = rw (c.enter_pair.ensures.left, c.enter_pair.ensures.right) at c.intersect_below.ensures.visits in
     record {
-      given = rw (both.pairs, ← c.enter_pair.ensures.left, ← c.enter_pair.ensures.right)
-          c.intersect_below.ensures.given;
+      calls = rw (both.pairs, ← c.enter_pair.ensures.left, ← c.enter_pair.ensures.right)
+          c.intersect_below.ensures.calls;
       visits = omega (arith, both.visits, below, c.enter_pair.ensures.counted);
       bound = omega (arith, both.few, below, c.enter_pair.ensures.counted);
     }

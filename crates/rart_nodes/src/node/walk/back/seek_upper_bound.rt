@@ -114,9 +114,9 @@ impl<'a, P: Partial, V, C: Count> BackWalk<'a, P, V, C> {
         counter: &mut C,
     )
         requires joins { Joins T.grown }
-        requires nothing { T.kept path.old ≡ [] }
+        requires empty_path { T.kept path.old ≡ [] }
         requires empty_walk { self.old.levels.items ≡ [] }
-        requires short { longest_key (pairs_of top.node.now) ≤ self.old.longest }
+        requires bounds_keys { longest_key (pairs_of top.node.now) ≤ self.old.longest }
         requires reserved { self.old.longest ≤ T.capacity path.old }
         requires places { self.old.longest < vec_capacity self.old.levels }
         ensures path { IsBackWalk self.new.longest (vec_capacity self.new.levels)
@@ -129,7 +129,7 @@ impl<'a, P: Partial, V, C: Count> BackWalk<'a, P, V, C> {
         ensures visits { C.number counter.new
             ≡ C.number counter.old + entered_nodes end.now top.entry.node.now }
         ensures longest { self.new.longest ≡ self.old.longest }
-        ensures places { vec_capacity self.new.levels ≡ vec_capacity self.old.levels }
+        ensures level_capacity { vec_capacity self.new.levels ≡ vec_capacity self.old.levels }
     {
         let mut next = Some(top);
         let mut rest = end;

@@ -1,7 +1,8 @@
 //! Iterators over the pairs of a tree within two bounds, descending by key.
-//!
-//! Such a range starts at its upper bound and ends for good at the first key past its lower bound. A contract reads it
-//! as the lower bound and the remaining pairs of the walk; `down_to` of both lists the remaining pairs of the range.
+
+// Such a range starts at its upper bound and ends for good at the first key past its lower bound. A contract reads it
+// as the lower bound and the remaining pairs of the walk; `down_to` of both lists the remaining pairs of the range.
+
 ghost use Rattle.std.specs.Iterator.{YieldsFirstBy, item_count};
 ghost use Rattle.std.specs.Ordering.{match_ordering};
 ghost use Rattle.std.specs.Prelude.{◌≡◌, ◌≤◌, ◌+◌, length, reverse, IfErr, IfOk, OnErr, true, false};
@@ -77,7 +78,7 @@ impl<'a, K: KeyTrait + Drop, P: Partial, V, C: Count> BoundedBackWalk<'a, K, P, 
     fn step(&mut self, counter: &mut C) -> Option<(K, &'a V)>
         ensures pairs { TakesDownTo K.bytes self.old result self.new }
         ensures start { self.new.0 ≡ self.old.0 }
-        ensures visits { C.number counter.new ≤ C.number counter.old + bytes_taken self.old.1 }
+        ensures bound { C.number counter.new ≤ C.number counter.old + bytes_taken self.old.1 }
     {
         let (key, value) = match &mut self.walk {
             BackWalkState::Active(walk) => walk.step_back(counter)?,
@@ -116,7 +117,7 @@ impl<'a, K: KeyTrait + Drop, V, C: Count> SeenRangeDescending<'a, K, V, C> {
     pub fn next_counted(&mut self, counter: &mut C) -> Option<(K, &'a V)>
         ensures pairs { TakesDownTo K.bytes self.old result self.new }
         ensures start { self.new.0 ≡ self.old.0 }
-        ensures visits { C.number counter.new ≤ C.number counter.old + bytes_taken self.old.1 }
+        ensures bound { C.number counter.new ≤ C.number counter.old + bytes_taken self.old.1 }
     {
         self.pairs.step(counter)
     }

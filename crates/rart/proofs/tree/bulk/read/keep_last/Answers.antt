@@ -35,8 +35,8 @@ returns-in_default-push-clause-refused g c es r a = elim c.match-order_after.bra
       c.one_item_more.ensures.later w.in-Less.ensures c.requires fewer
 ]
 
-pub returns-clause-kept : goal.returns-clause-kept
-returns-clause-kept g c es r = elim c.match-order_after.branch [
+pub returns-clause-keeps_item : goal.returns-clause-keeps_item
+returns-clause-keeps_item g c es r = elim c.match-order_after.branch [
   | in-Equal w ↦
       let some : 0 < length c.args.values.now.items → IsSome w.pop.result = search rules in
       kept-equal g.K.KeyTrait.bytes es _ _ _ c.args.key c.args.value r c.deref.ensures.value _ _ w.pop.ensures.items

@@ -25,7 +25,7 @@ loop-next-smaller g t c =
     (node (g.P.Partial.bytes c.child.inside.prefix) c.child.inside.value (storage_capacity c.drop_children.new.storage)
     (as_children (child_entries c.drop_children.new.storage))) in
     rw c.in-Some.is (dropping-step _ _ _ _ _ _ _ _ _ _ (rw c.in-Some.is at c.loop-next.invariant)
-    c.in-Some-seek_child_mut.ensures.value c.drop_children.ensures.stored left.1 c.byte_above-next.ensures).1
+    c.in-Some-seek_child_mut.ensures.value c.drop_children.ensures.entries left.1 c.byte_above-next.ensures).1
 
 pub loop-next-preserved : goal.loop-next-preserved
 loop-next-preserved g t c =
@@ -33,4 +33,4 @@ loop-next-preserved g t c =
     (node (g.P.Partial.bytes c.child.inside.prefix) c.child.inside.value (storage_capacity c.drop_children.new.storage)
     (as_children (child_entries c.drop_children.new.storage))) in
     (dropping-step _ _ _ _ _ _ _ _ _ _ (rw c.in-Some.is at c.loop-next.invariant)
-    c.in-Some-seek_child_mut.ensures.value c.drop_children.ensures.stored left.1 c.byte_above-next.ensures).0
+    c.in-Some-seek_child_mut.ensures.value c.drop_children.ensures.entries left.1 c.byte_above-next.ensures).0

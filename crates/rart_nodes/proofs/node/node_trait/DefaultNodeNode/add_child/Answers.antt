@@ -13,7 +13,7 @@ reserve_slot-requires g c = record {
 }
 
 pub add_within-requires-clause-absent : goal.add_within-requires-clause-absent
-add_within-requires-clause-absent g c = ap (child_at c.args.key) c.in-Ok.ensures.stored
+add_within-requires-clause-absent g c = ap (child_at c.args.key) c.in-Ok.ensures.entries
     ∙ sym (child_of-entries c.args.key (child_entries c.self.inside.storage)) ∙ rw
     (← c.self.view_is) at c.requires.absent
 
@@ -21,8 +21,8 @@ pub returns-in-Ok-clause-ok : goal.returns-in-Ok-clause-ok
 returns-in-Ok-clause-ok g c = rw (← c.self.view_is)
     (with_child-is _ _ (storage_capacity c.self.inside.storage) _ c.args.key c.args.node
     (child_entries c.self.inside.storage) _
-    (c.add_within.ensures.capacity ∙ c.in-Ok.ensures.capacity) (c.add_within.ensures.stored
-    ∙ ap (with_entry c.args.key c.args.node) c.in-Ok.ensures.stored))
+    (c.add_within.ensures.capacity ∙ c.in-Ok.ensures.capacity) (c.add_within.ensures.entries
+    ∙ ap (with_entry c.args.key c.args.node) c.in-Ok.ensures.entries))
 
 pub returns-in-Err-clause-allocates : goal.returns-in-Err-clause-allocates
 returns-in-Err-clause-allocates g c = rw (← c.self.view_is) (edges_of-length (child_entries c.self.inside.storage)

@@ -9,7 +9,7 @@ from_bound-all : {V : Type 0} (es : List (List ℕ × V)) → from_bound Unbound
 from_bound-all [] = refl
 from_bound-all (e ∷ es) = ap (λ z. e ∷ z) (from_bound-all es)
 
-pub returns-clause-within : goal.returns-clause-within
-returns-clause-within g c = λ w.
+pub returns-clause-pairs_between : goal.returns-clause-pairs_between
+returns-clause-pairs_between g c = λ w.
     let to = bound_in g.K.KeyTrait.bytes c.args.end in
     ap (up_to to) (c.into_walk.ensures ∙ sym (from_bound-all c.args.iter)) ∙ up_to-from_bound Unbounded to c.args.iter w

@@ -20,4 +20,4 @@ returns-clause-calls g c =
     ∙ part-values no_segment c.args.prefix.now (option_copied c.args.self.root)
     (IsCanonicalTree-test _ c.args.self.canonical) in
     subst (λ (x : List g.row.V.Denot). ShowsEach g.F.FnMut c.args.f.now x c.for_each_value.new.f) e
-    c.for_each_value.ensures.folds
+    c.for_each_value.ensures.calls

@@ -24,4 +24,4 @@ pub returns-clause-calls : goal.returns-clause-calls
 returns-clause-calls g c =
     subst (λ (w : List (SegmentList × g.row.V.Denot)). ViewsEach g.F.FnMut c.args.f.now w c.for_each_view_of.new.f)
     (c.in_ok-walk.ensures.entries ∙ part-cut c.args.prefix.now (option_copied c.args.self.root)
-    (IsCanonicalTree-test _ c.args.self.canonical)) c.for_each_view_of.ensures.folds
+    (IsCanonicalTree-test _ c.args.self.canonical)) c.for_each_view_of.ensures.calls

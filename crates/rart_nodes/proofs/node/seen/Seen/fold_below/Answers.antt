@@ -20,4 +20,4 @@ returns-clause-calls g c =
     ∙ part-values no_segment c.args.prefix.now (option_copied c.args.self.root)
     (IsCanonicalTree-test _ c.args.self.canonical) in
     subst (λ (x : List g.row.V.Denot). FoldsEach g.F.FnMut c.args.f.now c.args.init x c.fold_values.new.f
-    c.fold_values.result) e c.fold_values.ensures.folds
+    c.fold_values.result) e c.fold_values.ensures.calls

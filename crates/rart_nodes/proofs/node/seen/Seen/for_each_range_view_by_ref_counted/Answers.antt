@@ -4,7 +4,7 @@ use Rattle.rart_keys.specs.Ranges.{bound_bytes, bound_in, is_inclusive}
 use Rattle.rart_keys.specs.SortedMap.{keys_of}
 use Rattle.rart_nodes.specs.ranges.Spans.{span_visits}
 use Rattle.rart_nodes.specs.ranges.Starts.{entries_from, entries_to}
-use Rattle.rart_nodes.specs.statistics.Statistics.{height}
+use Rattle.rart_nodes.specs.stats.Stats.{height}
 use Rattle.rart_nodes.specs.tries.Tree.{tree_pairs}
 use Rattle.rart_nodes.specs.walks.ProbeCount.{probe_count}
 use Rattle.rart_nodes.specs.walks.Walk.{SegmentList, tree_entries}
@@ -55,7 +55,7 @@ returns-clause-calls g c =
     let at = ahead-is g (goal.at.returns-clause-calls g c).In_ok-walk in
     subst (λ (w : List (SegmentList × g.row.V.Denot)). ViewsEach g.F.FnMut c.args.f.now w c.for_each_view_to.new.f)
     (ap (entries_to b) at ∙ range-cut a b o (IsCanonicalTree-test _ c.args.self.canonical))
-    c.for_each_view_to.ensures.folds
+    c.for_each_view_to.ensures.calls
 
 pub returns-clause-visits : goal.returns-clause-visits
 returns-clause-visits g c =
@@ -87,8 +87,8 @@ returns-clause-bound g c =
       range-length a b o (IsCanonicalTree-test _ c.args.self.canonical),
     )
 
-pub returns-clause-none : goal.returns-clause-none
-returns-clause-none g c =
+pub returns-clause-no_visits : goal.returns-clause-no_visits
+returns-clause-no_visits g c =
     let a = bound_in g.K.KeyTrait.bytes c.args.start in
     let b = bound_in g.K.KeyTrait.bytes c.args.end in
     let es = tree_pairs (option_copied c.args.self.root) in

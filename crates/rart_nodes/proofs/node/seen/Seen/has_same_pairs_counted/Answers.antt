@@ -10,8 +10,8 @@ returns-in-Some-Some-clause-value g c =
 
 pub returns-in-Some-Some-clause-bound : goal.returns-in-Some-Some-clause-bound
 returns-in-Some-Some-clause-bound g c =
-    let left = rw c.enter_pair.ensures.left at c.same_nodes.ensures.left in
-    let right = rw c.enter_pair.ensures.right at c.same_nodes.ensures.right in
+    let left = rw c.enter_pair.ensures.left at c.same_nodes.ensures.left_visits in
+    let right = rw c.enter_pair.ensures.right at c.same_nodes.ensures.right_visits in
     omega (
       arith,
       c.enter_pair.ensures.counted,

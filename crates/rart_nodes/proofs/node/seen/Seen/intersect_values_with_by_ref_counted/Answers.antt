@@ -12,4 +12,4 @@ intersect_trees-requires-clause-callable g c =
     c.requires.callable
 
 pub returns-clause-callable : goal.returns-clause-callable
-returns-clause-callable g c = always-after-with g.F.FnMut _ _ _ c.intersect_trees.ensures.given
+returns-clause-callable g c = always-after-with g.F.FnMut _ _ _ c.intersect_trees.ensures.calls

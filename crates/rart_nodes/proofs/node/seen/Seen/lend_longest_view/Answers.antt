@@ -14,7 +14,7 @@ pub returns-clause-callable : goal.returns-clause-callable
 returns-clause-callable g c = always-on g.F.FnMut c.args.f.now (c.of.result, (c.in-Some.value, tt)) tt c.f.new.self
     (search (rules, of_calls))
 
-pub returns-clause-called : goal.returns-clause-called
-returns-clause-called g c = shows-cut (seen_keys c.args.self) c.in-Some.path c.in-Some.value c.of.result g.F.FnMut
+pub returns-clause-calls : goal.returns-clause-calls
+returns-clause-calls g c = shows-cut (seen_keys c.args.self) c.in-Some.path c.in-Some.value c.of.result g.F.FnMut
     c.args.f.now c.f.new.self _ (rw c.in-Some.is at c.in_ok-path.ensures.found) (c.of.ensures
     ∙ ap lent_segments c.segments.ensures) (search (rules, of_calls))

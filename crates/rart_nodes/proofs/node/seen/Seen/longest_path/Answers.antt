@@ -57,7 +57,7 @@ returns-clause-bound g c =
     let at = goal.at.returns-clause-bound g c in
     let both = first g at.In-Some-advance (found g at.In_ok-walk) in
     let short : length c.beginning-key.result.now ≤ length c.args.probe.now
-    = rw c.beginning-key.ensures (length-take-within _ _ c.args.probe.now c.in-Some.ensures.within) in
+    = rw c.beginning-key.ensures (length-take-within _ _ c.args.probe.now c.in-Some.ensures.shorter) in
     let segments : length (lent_segments c.advance.new.path.segments.items) ≤ length c.beginning-key.result.now
     = rw both.0 (cut-few (keys_of (tree_pairs (option_copied c.args.self.root))) c.beginning-key.result.now) in
     omega (

@@ -5,6 +5,6 @@ use Rattle.rart_nodes.proofs.node.seen.Seen.of.Goals as goal
 pub invariant_of-result : goal.invariant_of-result
 invariant_of-result g c = record {
   canonical = test-IsCanonicalTree (option_copied c.args.root) c.requires.canonical;
-  short = c.requires.short;
-  fits = c.requires.fits;
+  short = c.requires.bounds_keys;
+  fits = c.requires.within;
 }

@@ -35,7 +35,7 @@ loop-value-preserved g c =
     } in
     record {
       callable = can-rest _ _ _ _ _ _ _ e v c.loop-value.invariant.callable;
-      within = c.in-Some.ensures.within;
+      within = c.in-Some.ensures.shorter;
       folds = λ last h. c.loop-value.invariant.folds last
           (subst (λ (x : List (List ℕ × g.row.V.Denot)). MatchesEach g.F.FnMut c.loop-value.f x last) (sym e)
           (c.f.new.self, v, h));

@@ -16,7 +16,7 @@ pub returns-clause-entries : goal.returns-clause-entries
 returns-clause-entries g c =
     c.walk_at-walk.ensures.entries
     ∙ ap (λ k. segments_after k (entries_of g.T.Keeps.grown c.enter-root.result.node.now))
-    c.in_ok-path.ensures.nothing
+    c.in_ok-path.ensures.empty_path
     ∙ after-none (entries_of g.T.Keeps.grown c.enter-root.result.node.now)
     ∙ ap (entries_of g.T.Keeps.grown) c.enter-root.ensures.shown
     ∙ ap (tree_entries g.T.Keeps.grown) c.in-Some.ensures

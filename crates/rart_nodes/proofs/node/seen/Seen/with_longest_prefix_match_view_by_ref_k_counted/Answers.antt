@@ -13,9 +13,9 @@ lend_longest_view-requires g c = record {
       (longest_match q (tree_pairs (option_copied c.args.self.root)))) (sym c.as_ref.ensures) c.requires.callable;
 }
 
-pub returns-clause-called : goal.returns-clause-called
-returns-clause-called g c =
+pub returns-clause-calls : goal.returns-clause-calls
+returns-clause-calls g c =
     subst (λ (q : List ℕ). IfOk c.lend_longest_view.result
     (ShowsFound g.F.FnMut c.args.f.now (keys_of (tree_pairs (option_copied c.args.self.root)))
     (longest_match q (tree_pairs (option_copied c.args.self.root))) c.lend_longest_view.new.f)) c.as_ref.ensures
-    c.lend_longest_view.ensures.called
+    c.lend_longest_view.ensures.calls

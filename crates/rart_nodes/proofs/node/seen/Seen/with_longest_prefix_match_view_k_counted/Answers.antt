@@ -13,9 +13,9 @@ with_longest_view-requires g c = record {
       (longest_match q (tree_pairs (option_copied c.args.self.root)))) (sym c.as_ref.ensures) c.requires.callable;
 }
 
-pub returns-clause-called : goal.returns-clause-called
-returns-clause-called g c =
+pub returns-clause-calls : goal.returns-clause-calls
+returns-clause-calls g c =
     subst (λ (q : List ℕ). IfOk c.with_longest_view.result
     (SeesFound g.F.FnOnce c.args.f (keys_of (tree_pairs (option_copied c.args.self.root)))
     (longest_match q (tree_pairs (option_copied c.args.self.root))))) c.as_ref.ensures
-    c.with_longest_view.ensures.called
+    c.with_longest_view.ensures.calls

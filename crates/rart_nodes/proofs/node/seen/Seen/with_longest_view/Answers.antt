@@ -10,7 +10,7 @@ f-requires g c = can-see g.F.FnOnce c.args.f (seen_keys c.args.self) _ c.in-Some
     c.requires.callable (rw c.in-Some.is at c.in_ok-path.ensures.found) (c.of.ensures
     ∙ ap lent_segments c.segments.ensures)
 
-pub returns-clause-called : goal.returns-clause-called
-returns-clause-called g c = sees-cut (seen_keys c.args.self) c.in-Some.path c.in-Some.value c.of.result g.F.FnOnce
+pub returns-clause-calls : goal.returns-clause-calls
+returns-clause-calls g c = sees-cut (seen_keys c.args.self) c.in-Some.path c.in-Some.value c.of.result g.F.FnOnce
     c.args.f _ (rw c.in-Some.is at c.in_ok-path.ensures.found) (c.of.ensures ∙ ap lent_segments c.segments.ensures)
     (search (rules, of_calls))

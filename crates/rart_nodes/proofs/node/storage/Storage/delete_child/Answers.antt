@@ -6,19 +6,19 @@ use Rattle.rart_nodes.proofs.node.storage.Storage.delete_child.Goals as goal
 
 pub returns-then-keeps_kind-clause-capacity : goal.returns-then-keeps_kind-clause-capacity
 returns-then-keeps_kind-clause-capacity g c = c.delete_within.ensures.capacity
-    ∙ rw (c.delete_within.ensures.stored) (capacity-kept c.args.b (storage_capacity c.args.self.now)
+    ∙ rw (c.delete_within.ensures.entries) (capacity-kept c.args.b (storage_capacity c.args.self.now)
     (child_entries c.args.self.now)
-    (c.keeps_kind.ensures.keeps c.if-keeps_kind.true))
+    (c.keeps_kind.ensures.kept_kind c.if-keeps_kind.true))
 
 pub replace_empty-requires : goal.replace_empty-requires
 replace_empty-requires g c =
-    let few = rw c.in-Node4.is at c.keeps_kind.ensures.gives_up c.if-keeps_kind.false in
+    let few = rw c.in-Node4.is at c.keeps_kind.ensures.changed_kind c.if-keeps_kind.false in
     c.delete_child-child.ensures.rest ∙ ap (without_byte c.args.b) (c.deref_mut.ensures.value
     ∙ ap (λ m. m.value) c.in-Node4.map-is) ∙ none-left c.args.b c.in-Node4.map.value few.0 few.1
 
 pub fill_from_resized-requires : goal.fill_from_resized-requires
 fill_from_resized-requires g c =
-    let few = rw c.in-Node16.is at c.keeps_kind.ensures.gives_up c.if-keeps_kind.false in (
+    let few = rw c.in-Node16.is at c.keeps_kind.ensures.changed_kind c.if-keeps_kind.false in (
       omega arith,
       (
         omega arith,
@@ -37,7 +37,7 @@ fill_from_resized-requires g c =
 
 pub fill_from_indexed-requires : goal.fill_from_indexed-requires
 fill_from_indexed-requires g c =
-    let few = rw c.in-Node48.is at c.keeps_kind.ensures.gives_up c.if-keeps_kind.false in (
+    let few = rw c.in-Node48.is at c.keeps_kind.ensures.changed_kind c.if-keeps_kind.false in (
       omega arith,
       (
         omega arith,
@@ -56,7 +56,7 @@ fill_from_indexed-requires g c =
 
 pub fill_from_direct-requires : goal.fill_from_direct-requires
 fill_from_direct-requires g c =
-    let few = rw c.in-Node256.is at c.keeps_kind.ensures.gives_up c.if-keeps_kind.false in (
+    let few = rw c.in-Node256.is at c.keeps_kind.ensures.changed_kind c.if-keeps_kind.false in (
       omega arith,
       (
         ap ascending c.deref_mut-in-Node256-2.ensures.value
@@ -70,14 +70,14 @@ fill_from_direct-requires g c =
       ),
     )
 
-pub returns-in-Node4-clause-stored : goal.returns-in-Node4-clause-stored
-returns-in-Node4-clause-stored g c =
-    let few = rw c.in-Node4.is at c.keeps_kind.ensures.gives_up c.if-keeps_kind.false in
+pub returns-in-Node4-clause-entries : goal.returns-in-Node4-clause-entries
+returns-in-Node4-clause-entries g c =
+    let few = rw c.in-Node4.is at c.keeps_kind.ensures.changed_kind c.if-keeps_kind.false in
     rw (c.replace_empty.ensures, c.in-Node4.is) (sym (none-left c.args.b c.in-Node4.map.value few.0 few.1))
 
 pub returns-in_ok-next-in-Node16-clause-capacity : goal.returns-in_ok-next-in-Node16-clause-capacity
 returns-in_ok-next-in-Node16-clause-capacity g c =
-    let few = rw c.in-Node16.is at c.keeps_kind.ensures.gives_up c.if-keeps_kind.false in
+    let few = rw c.in-Node16.is at c.keeps_kind.ensures.changed_kind c.if-keeps_kind.false in
     rw (
       c.replace_empty-in-Node16.ensures,
       c.in-Node16.is,
@@ -89,7 +89,7 @@ returns-in_ok-next-in-Node16-clause-capacity g c =
 
 pub returns-in_ok-next-in-Node48-clause-capacity : goal.returns-in_ok-next-in-Node48-clause-capacity
 returns-in_ok-next-in-Node48-clause-capacity g c =
-    let few = rw c.in-Node48.is at c.keeps_kind.ensures.gives_up c.if-keeps_kind.false in
+    let few = rw c.in-Node48.is at c.keeps_kind.ensures.changed_kind c.if-keeps_kind.false in
     rw (
       c.replace_empty-in-Node48.ensures,
       c.in-Node48.is,
@@ -101,7 +101,7 @@ returns-in_ok-next-in-Node48-clause-capacity g c =
 
 pub returns-in_ok-next-in-Node256-clause-capacity : goal.returns-in_ok-next-in-Node256-clause-capacity
 returns-in_ok-next-in-Node256-clause-capacity g c =
-    let few = rw c.in-Node256.is at c.keeps_kind.ensures.gives_up c.if-keeps_kind.false in
+    let few = rw c.in-Node256.is at c.keeps_kind.ensures.changed_kind c.if-keeps_kind.false in
     rw (
       c.replace_empty-in-Node256.ensures,
       c.in-Node256.is,

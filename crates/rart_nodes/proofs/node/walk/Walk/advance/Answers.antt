@@ -7,8 +7,8 @@ use Rattle.rart_nodes.proofs.node.walk.Walk.advance.Given.{Over}
 use Rattle.rart_nodes.proofs.node.walk.Walk.advance.Goals.{After-extend_path}
 use Rattle.rart_nodes.proofs.node.walk.Walk.advance.Goals as goal
 
-pub returns-in-Some-clause-paid : goal.returns-in-Some-clause-paid
-returns-in-Some-clause-paid g c = paid-first _ _
+pub returns-in-Some-clause-amortized : goal.returns-in-Some-clause-amortized
+returns-in-Some-clause-amortized g c = paid-first _ _
 
 pub extend_path-requires : goal.extend_path-requires
 extend_path-requires g c κs =
@@ -18,7 +18,7 @@ extend_path-requires g c κs =
       (
         omega (arith, s.bytes, c.loop-self.invariant.reserved),
         omega
-            (arith, s.place, c.enter_deepest.ensures.capacity, c.enter_deepest.new.levels.ok.0),
+            (arith, s.place, c.enter_deepest.ensures.level_capacity, c.enter_deepest.new.levels.ok.0),
       ),
     )
 
@@ -28,7 +28,7 @@ turned : (g : Over) (c : After-extend_path g) → Turn g.T.Keeps.grown c.loop-se
 turned g c = turn-either _ _ _ _ _ _ _ c.in-Some-enter_deepest.at.node.now _ _ _ g.T.Keeps.short
     c.loop-self.invariant.path c.in-Some-enter_deepest.ensures.shown c.extend_path.ensures.kept
     c.extend_path.ensures.levels
-    (omega (arith, c.enter_deepest.ensures.capacity, c.extend_path.ensures.level_capacity))
+    (omega (arith, c.enter_deepest.ensures.level_capacity, c.extend_path.ensures.level_capacity))
 
 pub returns-in-Some-value-clause-path : goal.returns-in-Some-value-clause-path
 returns-in-Some-value-clause-path g c
@@ -50,8 +50,8 @@ returns-in-Some-value-clause-bound g c = λ bytes.
     (c.loop-self.invariant.bound bytes) c.in-Some-enter_deepest.ensures.shown c.extend_path.ensures.kept
     c.in-Some-enter_deepest.ensures.counted
 
-pub returns-in-Some-value-clause-paid : goal.returns-in-Some-value-clause-paid
-returns-in-Some-value-clause-paid g c =
+pub returns-in-Some-value-clause-amortized : goal.returns-in-Some-value-clause-amortized
+returns-in-Some-value-clause-amortized g c =
     paid-given _ _ _ _ _ c.in-Some-enter_deepest.at.node.now c.args.self.now.levels.items _ _ _
     c.in-Some-enter_deepest.ensures.shown c.extend_path.ensures.levels c.in-Some-enter_deepest.ensures.counted
     c.loop-self.invariant.potential c.loop-self.invariant.low
@@ -86,7 +86,7 @@ pub loop-self-preserved-in-None : goal.loop-self-preserved-in-None
 loop-self-preserved-in-None g c =
     let t = leave g.T.Keeps.grown _ _ _ (g.T.Path.kept c.loop-self.path) _ _ _ c.take_last.result
     c.loop-self.invariant.path c.in-None.ensures.shown c.take_last.ensures.items (c.take_last.ensures.capacity
-    ∙ c.enter_deepest.ensures.capacity) in
+    ∙ c.enter_deepest.ensures.level_capacity) in
     record {
       first = c.loop-self.invariant.first;
       path = t.path;

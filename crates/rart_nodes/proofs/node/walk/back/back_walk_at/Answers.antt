@@ -9,7 +9,7 @@ grow-requires g c κs = (
   omega (
     arith,
     prefix-short c.args.at.node.now c.args.at.canonical,
-    c.requires.short,
+    c.requires.bounds_keys,
     c.requires.reserved,
     ap length
         c.prefix.ensures,
@@ -20,7 +20,7 @@ pub returns-clause-path : goal.returns-clause-path
 returns-clause-path g c =
     let places : c.args.longest < vec_capacity c.push_reserved.new.self = search rules in
     start g.T.Keeps.grown _ _ c.args.at.node.now (g.T.Path.kept c.args.path.now) _ c.value.result _ _ _
-    g.T.Keeps.short c.args.at.canonical c.requires.short places
+    g.T.Keeps.short c.args.at.canonical c.requires.bounds_keys places
     (c.grow.ensures.kept ∙ ap (λ p. g.T.Path.kept c.args.path.now ++ g.T.Keeps.grown p) c.prefix.ensures)
     c.back_branches.ensures c.requires.empty_walk (c.push_reserved.ensures.items
     ∙ ap (λ n. c.args.levels.items ++ ((c.back_branches.result, n), c.value.result) ∷ []) c.mark.ensures)

@@ -24,7 +24,7 @@ returns-then-not-is_within-clause-visits g c = λ h w. omega (
   arith,
   c.loop-value.invariant.visits,
   ap length (past g (goal.at.returns-then-not-is_within-clause-visits g c).Then-not-is_within),
-  c.in-Some.ensures.paid.last h (c.loop-value.invariant.low h w),
+  c.in-Some.ensures.amortized.last h (c.loop-value.invariant.low h w),
 )
 
 pub returns-then-not-is_within-clause-callable : goal.returns-then-not-is_within-clause-callable
@@ -78,6 +78,6 @@ loop-value-preserved g c =
       folds = λ last h. c.loop-value.invariant.folds last
           (subst (λ (x : List (SegmentList × g.row.V.Denot)). ViewsEach g.F.FnMut c.loop-value.f x last) (sym on)
           (c.f.new.self, v, h));
-      visits = omega (arith, c.loop-value.invariant.visits, ap length on, c.in-Some.ensures.paid.next);
-      low = λ h z. c.in-Some.ensures.paid.low h (c.loop-value.invariant.low h z);
+      visits = omega (arith, c.loop-value.invariant.visits, ap length on, c.in-Some.ensures.amortized.next);
+      low = λ h z. c.in-Some.ensures.amortized.low h (c.loop-value.invariant.low h z);
     }

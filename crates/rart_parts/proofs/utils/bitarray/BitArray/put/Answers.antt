@@ -10,10 +10,10 @@ fill_place-requires g c =
     let free : is_used os c.args.position ≡ false = ap (λ xs. is_used xs c.args.position) c.self.view_is
     ∙ c.requires.free in
     sym (place_reads os c.args.position c.index_mut.result.now None
-    (omega (arith, c.requires.within, c.self.invariant.full)) c.index_mut.ensures.value)
+    (omega (arith, c.requires.in_range, c.self.invariant.full)) c.index_mut.ensures.value)
     ∙ free_read os c.args.position free
 
 pub invariant_of-self : goal.invariant_of-self
 invariant_of-self g c = rw c.fill_place.ensures
-    (array_with c.self.invariant c.args.position c.args.x c.requires.within c.deref.ensures.value c.find_used.ensures
+    (array_with c.self.invariant c.args.position c.args.x c.requires.in_range c.deref.ensures.value c.find_used.ensures
     c.set.ensures)

@@ -8,7 +8,7 @@ use Rattle.rart_nodes.proofs.node.walk.back.BackWalk.descend.Goals as goal
 pub loop-next-init : goal.loop-next-init
 loop-next-init g c = record {
   descends = descends-start g.T.Keeps.grown c.args.included c.args.self.now.longest _ _ _ _ _ c.args.top.canonical
-      c.requires.nothing c.requires.empty_walk c.requires.short;
+      c.requires.empty_path c.requires.empty_walk c.requires.bounds_keys;
   reserved = c.requires.reserved;
   requested = refl;
   places = c.requires.places;

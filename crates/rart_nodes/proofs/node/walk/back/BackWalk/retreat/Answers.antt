@@ -14,21 +14,21 @@ push_level_from_back-requires g c κs =
       (
         omega (arith, s.bytes, c.loop-self.invariant.reserved),
         omega
-            (arith, s.place, c.enter_last_of_deepest.ensures.capacity, c.enter_last_of_deepest.new.levels.ok.0),
+            (arith, s.place, c.enter_last_of_deepest.ensures.level_capacity, c.enter_last_of_deepest.new.levels.ok.0),
       ),
     )
 
 pub loop-self-smaller-in-Some : goal.loop-self-smaller-in-Some
 loop-self-smaller-in-Some g c =
     let cap : vec_capacity c.loop-self.self.levels ≤ vec_capacity c.push_level_from_back.new.levels
-    = omega (arith, c.enter_last_of_deepest.ensures.capacity, c.push_level_from_back.ensures.level_capacity) in
+    = omega (arith, c.enter_last_of_deepest.ensures.level_capacity, c.push_level_from_back.ensures.level_capacity) in
     (turn _ _ _ _ _ _ _ c.in-Some.at.node.now _ _ _ g.T.Keeps.short c.loop-self.invariant.path c.in-Some.ensures.shown
     c.push_level_from_back.ensures.kept c.push_level_from_back.ensures.levels cap).falls
 
 pub loop-self-preserved-in-Some : goal.loop-self-preserved-in-Some
 loop-self-preserved-in-Some g c =
     let cap : vec_capacity c.loop-self.self.levels ≤ vec_capacity c.push_level_from_back.new.levels
-    = omega (arith, c.enter_last_of_deepest.ensures.capacity, c.push_level_from_back.ensures.level_capacity) in
+    = omega (arith, c.enter_last_of_deepest.ensures.level_capacity, c.push_level_from_back.ensures.level_capacity) in
     let t = turn _ _ _ _ _ _ _ c.in-Some.at.node.now _ _ _ g.T.Keeps.short c.loop-self.invariant.path
     c.in-Some.ensures.shown c.push_level_from_back.ensures.kept c.push_level_from_back.ensures.levels cap in
     record {
@@ -48,13 +48,13 @@ pub returns-in-Some-value-clause-path : goal.returns-in-Some-value-clause-path
 returns-in-Some-value-clause-path g c =
     (leave g.T.Keeps.grown _ _ _ (g.T.Path.kept c.loop-self.path) _ _ _ _ c.take_last-below.result
     c.loop-self.invariant.path c.in-None.ensures.shown c.take_last-below.ensures.items c.cut.ensures.kept
-    (c.take_last-below.ensures.capacity ∙ c.enter_last_of_deepest.ensures.capacity)).path
+    (c.take_last-below.ensures.capacity ∙ c.enter_last_of_deepest.ensures.level_capacity)).path
 
 pub returns-in-Some-value-clause-entries : goal.returns-in-Some-value-clause-entries
 returns-in-Some-value-clause-entries g c =
     let t = leave g.T.Keeps.grown _ _ _ (g.T.Path.kept c.loop-self.path) _ _ _ _ c.take_last-below.result
     c.loop-self.invariant.path c.in-None.ensures.shown c.take_last-below.ensures.items c.cut.ensures.kept
-    (c.take_last-below.ensures.capacity ∙ c.enter_last_of_deepest.ensures.capacity) in
+    (c.take_last-below.ensures.capacity ∙ c.enter_last_of_deepest.ensures.level_capacity) in
     let k1 = g.T.Path.kept c.cut.new.self in
     sym c.loop-self.invariant.still ∙ t.still
     ∙ ap (λ v. remaining_entries g.T.Keeps.grown k1 (reverse c.take_last-below.new.self.items)
@@ -69,13 +69,13 @@ pub loop-self-smaller : goal.loop-self-smaller
 loop-self-smaller g c =
     (leave g.T.Keeps.grown _ _ _ (g.T.Path.kept c.loop-self.path) _ _ _ _ c.take_last-below.result
     c.loop-self.invariant.path c.in-None.ensures.shown c.take_last-below.ensures.items c.cut.ensures.kept
-    (c.take_last-below.ensures.capacity ∙ c.enter_last_of_deepest.ensures.capacity)).falls
+    (c.take_last-below.ensures.capacity ∙ c.enter_last_of_deepest.ensures.level_capacity)).falls
 
 pub loop-self-preserved : goal.loop-self-preserved
 loop-self-preserved g c =
     let t = leave g.T.Keeps.grown _ _ _ (g.T.Path.kept c.loop-self.path) _ _ _ _ c.take_last-below.result
     c.loop-self.invariant.path c.in-None.ensures.shown c.take_last-below.ensures.items c.cut.ensures.kept
-    (c.take_last-below.ensures.capacity ∙ c.enter_last_of_deepest.ensures.capacity) in
+    (c.take_last-below.ensures.capacity ∙ c.enter_last_of_deepest.ensures.level_capacity) in
     let k1 = g.T.Path.kept c.cut.new.self in
     let rest = remaining_entries g.T.Keeps.grown k1 (reverse c.take_last-below.new.self.items) in
     record {

@@ -1,7 +1,7 @@
 //! Walks by turns from both ends of a tree: each returns the sum of its answer, or none if memory was refused.
 use crate::call::Call;
+use crate::kinds::reads::{ended, mix_found, most_of};
 use crate::numbers::mix;
-use crate::reads::{ended, mix_found, most_of};
 use crate::sides::{Tree, bound_of};
 use rart::{BothEnds, BothEndsWithin, KeyTrait, ValuesBothEnds};
 

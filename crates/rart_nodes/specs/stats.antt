@@ -1,2 +1,2 @@
 pub mod CountedNodes
-pub mod Statistics
+pub mod Stats

@@ -20,7 +20,7 @@ fn new_count_nothing(alloc: Global) -> bool {
 }
 
 #[test]
-fn new_statistics_count_nothing(rt: HostRuntime) {
+fn new_stats_count_nothing(rt: HostRuntime) {
     assert!(rt; new_count_nothing(rt.alloc()));
     let none = NodeStats::default();
     assert!(rt; none.width == 0 && none.total_nodes == 0 && none.total_children == 0);
@@ -36,7 +36,7 @@ static LEAF_AND_PARENT: [Row<'static>; 6] = [
 ];
 
 #[test]
-fn statistics_of_a_leaf_and_its_parent(rt: HostRuntime) {
+fn stats_of_a_leaf_and_its_parent(rt: HostRuntime) {
     assert_none_wrong(
         &rt,
         first_wrong::<ArrayKey<16>>(rt.alloc(), &LEAF_AND_PARENT),
@@ -52,7 +52,7 @@ static TWO_LEAVES: [Row<'static>; 5] = [
 ];
 
 #[test]
-fn statistics_of_two_leaves(rt: HostRuntime) {
+fn stats_of_two_leaves(rt: HostRuntime) {
     assert_none_wrong(&rt, first_wrong::<ArrayKey<16>>(rt.alloc(), &TWO_LEAVES));
 }
 
@@ -82,7 +82,7 @@ static THREE_LEVELS: [Row<'static>; 6] = [
 ];
 
 #[test]
-fn statistics_of_three_levels(rt: HostRuntime) {
+fn stats_of_three_levels(rt: HostRuntime) {
     assert_none_wrong(&rt, first_wrong::<ArrayKey<16>>(rt.alloc(), &THREE_LEVELS));
 }
 
@@ -177,7 +177,7 @@ fn a_root_narrows_with_its_children_at_once(rt: HostRuntime) {
 }
 
 #[test]
-fn keys_kept_at_the_end_have_the_same_statistics(rt: HostRuntime) {
+fn keys_kept_at_the_end_have_the_same_stats(rt: HostRuntime) {
     for rows in [
         &LEAF_AND_PARENT[..],
         &TWO_LEAVES,
@@ -232,6 +232,6 @@ fn both_orders_are_counted(alloc: Global) -> bool {
 }
 
 #[test]
-fn statistics_do_not_depend_on_the_order_of_insertion(rt: HostRuntime) {
+fn stats_do_not_depend_on_the_order_of_insertion(rt: HostRuntime) {
     assert!(rt; both_orders_are_counted(rt.alloc()));
 }

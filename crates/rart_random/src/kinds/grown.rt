@@ -1,14 +1,13 @@
 //! Trees made from nothing by insertions of one kind, so that each of them stores the first and the longest key.
 use crate::call::Call;
-use crate::edits::edit;
-use crate::model::{Model, Pair};
+use crate::kinds::edits::edit;
+use crate::kinds::reads::iter;
+use crate::kinds::views::view;
+use crate::model::{Model, Pair, edits, views};
 use crate::numbers::mix;
-use crate::reads::iter;
 use crate::shape::{shape_in, shape_of};
 use crate::sides::{Tree, key_of};
 use crate::text::Text;
-use crate::views::view;
-use crate::{model_edits, model_views};
 use rart::KeyTrait;
 use std::alloc::Global;
 
@@ -87,12 +86,12 @@ pub fn wanted_grow(alloc: Global, list: &[Pair], call: &Call) -> u64 {
     let mut sum = 1_u64;
     for place in 0..list.len() {
         if let Some(pair) = pair_at(list, place, call) {
-            let answer = model_edits::edit(&mut model, &pair.0, &insertion(&pair, call));
+            let answer = edits::edit(&mut model, &pair.0, &insertion(&pair, call));
             sum = mix(sum, answer);
         }
     }
     let none = Text::new();
-    let views = model_views::view(&model, &none, &none, &all_views(call));
+    let views = views::view(&model, &none, &none, &all_views(call));
     let pairs = mix(model.sum(0, model.len(), true), views);
     match shape_of(alloc, &model) {
         Ok(shape) => mix(mix(sum, pairs), shape),

@@ -1,10 +1,12 @@
 //! What an edit must answer, by the model, and what the model is after it.
 use crate::call::Call;
-use crate::edits::{clears, pops, removes, removes_below, takes_below, writes, writes_below};
+use crate::kinds::edits::{
+    clears, pops, removes, removes_below, takes_below, writes, writes_below,
+};
+use crate::kinds::retains::wanted_retain;
 use crate::model::Model;
-use crate::model_reads::ends;
+use crate::model::reads::ends;
 use crate::numbers::{mix, mix_pair, sum_if, sum_of};
-use crate::retains::wanted_retain;
 use crate::text::Text;
 
 fn insert_new(model: &mut Model, key: &Text, value: u64) -> Option<u64> {

@@ -1,8 +1,8 @@
 //! The line of the statistics of a tree.
 ghost use Rattle.std.specs.Prelude.{OnOk};
 ghost use Rattle.std.specs.Io.KnownBytes.{Appends};
-ghost use Rattle.rart_nodes.specs.statistics.Statistics.{stats_in};
-ghost use Rattle.rart_script.specs.Statistics.{stats_line, sums_text};
+ghost use Rattle.rart_nodes.specs.stats.Stats.{stats_in};
+ghost use Rattle.rart_script.specs.Stats.{stats_line, sums_text};
 
 use rart::TreeStats;
 use std::io;
@@ -13,7 +13,7 @@ use std::io::Write;
 /// # Errors
 ///
 /// The error of `output`, if a write fails.
-pub fn write_statistics<W: Write>(output: &mut W, stats: &TreeStats) -> io::Result<()>
+pub fn write_stats<W: Write>(output: &mut W, stats: &TreeStats) -> io::Result<()>
     ensures { OnOk result
         (Appends (W.contents output.old) (W.contents output.new)
         (stats_line (stats_in stats.now))) }

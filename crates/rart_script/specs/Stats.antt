@@ -1,7 +1,7 @@
 -- How the statistics of a tree are written.
 use Rattle.std.specs.Prelude.{ℕ, [], ◌∷◌, ◌++◌, List, map, codes, decimal}
 use Rattle.std.specs.List.{concat}
-use Rattle.rart_nodes.specs.statistics.Statistics.{Statistics}
+use Rattle.rart_nodes.specs.stats.Stats.{Statistics}
 use Rattle.rart_nodes.specs.declared.stats.NodeStats.{NodeStats}
 
 -- the nodes of one width and their children, after a space

@@ -6,9 +6,9 @@ use Rattle.std.specs.Prelude.{max}
 use Rattle.std.proofs.lemmas.Bool.Decides.{nat_tests}
 use Rattle.std.proofs.Math.Nat.{add_assoc}
 use Rattle.rart_nodes.specs.declared.stats.counts.Counts.{Counts}
-use Rattle.rart_nodes.specs.statistics.CountedNodes.{width_count_of, counts_of_node, counts_by, counts_added, counts_in}
-use Rattle.rart_nodes.specs.statistics.CountedNodes.{counts_in_children, counts_sum}
-use Rattle.rart_nodes.specs.statistics.Statistics.{one_if, trie_height, children_height}
+use Rattle.rart_nodes.specs.stats.CountedNodes.{width_count_of, counts_of_node, counts_by, counts_added, counts_in}
+use Rattle.rart_nodes.specs.stats.CountedNodes.{counts_in_children, counts_sum}
+use Rattle.rart_nodes.specs.stats.Stats.{one_if, trie_height, children_height}
 use Rattle.rart_nodes.specs.tries.Trie.{Trie, node, Children, no_children, child, edges_of}
 use Rattle.rart_nodes.specs.tries.TrieCode.{as_children, node_count, child_count}
 use Rattle.rart_keys.proofs.ByteOrder.{order, is_less, is_equal, is_greater}

@@ -2,18 +2,18 @@
 use Rattle.std.proofs.Common.{◌≡◌, ℕ, List, [], ◌∷◌, refl, None}
 use Rattle.rart_keys.specs.SortedMap.{keys_of}
 use Rattle.rart_nodes.specs.edits.EditRuns.{Edit, puts, run_tree, run_map}
-use Rattle.rart_nodes.specs.statistics.Statistics.{Statistics, stats_of}
+use Rattle.rart_nodes.specs.stats.Stats.{Statistics, stats_of}
 use Rattle.rart_nodes.specs.declared.stats.NodeStats.{NodeStats}
 use Rattle.rart_nodes.specs.tries.Tree.{tree_nodes}
 
-abbrev statistics_after : List (Edit ℕ) → Statistics
-statistics_after es = stats_of (keys_of (run_map es [])) (tree_nodes (run_tree es None))
+abbrev stats_after : List (Edit ℕ) → Statistics
+stats_after es = stats_of (keys_of (run_map es [])) (tree_nodes (run_tree es None))
 
 -- n nodes of width w, which have c children together
 abbrev of_width : ℕ → ℕ → ℕ → ℕ × NodeStats
 of_width w n c = (w, record { width = w; total_nodes = n; total_children = c })
 
-no_keys : statistics_after [] ≡ record {
+no_keys : stats_after [] ≡ record {
   leaves = 0;
   values = 0;
   inner_nodes = 0;
@@ -25,7 +25,7 @@ no_keys : statistics_after [] ≡ record {
 }
 no_keys = refl
 
-empty_key : statistics_after (puts [] 0 ∷ []) ≡ record {
+empty_key : stats_after (puts [] 0 ∷ []) ≡ record {
   leaves = 1;
   values = 1;
   inner_nodes = 0;
@@ -38,7 +38,7 @@ empty_key : statistics_after (puts [] 0 ∷ []) ≡ record {
 empty_key = refl
 
 -- "", "a"
-empty_key_and_a : statistics_after (puts [] 0 ∷ puts (97 ∷ []) 1 ∷ [])
+empty_key_and_a : stats_after (puts [] 0 ∷ puts (97 ∷ []) 1 ∷ [])
     ≡ record {
       leaves = 1;
       values = 2;
@@ -55,7 +55,7 @@ empty_key_and_a = refl
 abbrev three : List (Edit ℕ)
 three = puts (97 ∷ 98 ∷ []) 1 ∷ puts (97 ∷ 98 ∷ 99 ∷ 100 ∷ []) 2 ∷ puts (97 ∷ 98 ∷ 99 ∷ 101 ∷ []) 3 ∷ []
 
-three_levels : statistics_after three ≡ record {
+three_levels : stats_after three ≡ record {
   leaves = 2;
   values = 3;
   inner_nodes = 2;
@@ -72,7 +72,7 @@ abbrev fan : List (Edit ℕ)
 fan = puts (120 ∷ []) 0 ∷ puts (120 ∷ 121 ∷ 0 ∷ []) 1 ∷ puts (120 ∷ 121 ∷ 1 ∷ []) 2 ∷ puts (120 ∷ 121 ∷ 2 ∷ []) 3
     ∷ puts (120 ∷ 121 ∷ 3 ∷ []) 4 ∷ puts (120 ∷ 121 ∷ 4 ∷ []) 5 ∷ []
 
-two_widths : statistics_after fan ≡ record {
+two_widths : stats_after fan ≡ record {
   leaves = 5;
   values = 6;
   inner_nodes = 2;

@@ -6,8 +6,8 @@ use Rattle.rart_nodes.specs.declared.stats.NodeStats.{NodeStats}
 use Rattle.rart_nodes.specs.declared.stats.counts.Counts.{Counts}
 use Rattle.rart_nodes.specs.declared.stats.counts.WidthCount.{WidthCount}
 use Rattle.rart_nodes.specs.shapes.Shape.{NodeRecord}
-use Rattle.rart_nodes.specs.statistics.Statistics.{Statistics, one_if, leaves_at, values_at, nodes_of_width}
-use Rattle.rart_nodes.specs.statistics.Statistics.{children_of_width, width_entry, sum_in, sum_in_children}
+use Rattle.rart_nodes.specs.stats.Stats.{Statistics, one_if, leaves_at, values_at, nodes_of_width}
+use Rattle.rart_nodes.specs.stats.Stats.{children_of_width, width_entry, sum_in, sum_in_children}
 use Rattle.rart_nodes.specs.tries.Trie.{Trie, Children}
 
 -- where f sums what the nodes add

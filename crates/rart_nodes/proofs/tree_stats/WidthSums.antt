@@ -5,7 +5,7 @@ use Rattle.std.proofs.lemmas.List.{length-map}
 use Rattle.rart_nodes.specs.shapes.Shape.{capacity_of}
 use Rattle.rart_nodes.specs.tries.Trie.{Trie, node, Children, no_children, child, pairs_of, children_pairs, edges_of}
 use Rattle.rart_nodes.specs.tries.Trie.{own_pair, IsCanonical, AreCanonical}
-use Rattle.rart_nodes.specs.statistics.Statistics.{width_at, sum_in, sum_in_children}
+use Rattle.rart_nodes.specs.stats.Stats.{width_at, sum_in, sum_in_children}
 use Rattle.rart_nodes.proofs.tries.NodeCounts.{length-own_pair, two-edges}
 
 few-places : (c h : ℕ) → (h ≡ 1) ⊎ (2 ≤ c) → capacity_of c + 16 ≤ 16 * h + 16 * c

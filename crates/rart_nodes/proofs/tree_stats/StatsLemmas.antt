@@ -8,8 +8,8 @@ use Rattle.rart_nodes.specs.tries.PrefixLaws.{prefix-none}
 use Rattle.rart_nodes.specs.tries.Trie.{Trie, node, Children, no_children, child, trie_lookup, child_lookup, pairs_of}
 use Rattle.rart_nodes.specs.tries.Trie.{children_pairs, edges_of, own_pair, with_prefix, nodes_of, with_records}
 use Rattle.rart_nodes.specs.tries.Trie.{children_with_records, HasTwoChildren, IsCanonical, AreCanonical}
-use Rattle.rart_nodes.specs.statistics.Statistics.{sum_over, one_if_some, records_along, most_along, height, stats_of}
-use Rattle.rart_nodes.specs.statistics.Statistics.{sum_in, sum_in_children, trie_height, children_height, trie_stats}
+use Rattle.rart_nodes.specs.stats.Stats.{sum_over, one_if_some, records_along, most_along, height, stats_of}
+use Rattle.rart_nodes.specs.stats.Stats.{sum_in, sum_in_children, trie_height, children_height, trie_stats}
 use Rattle.rart_keys.proofs.ByteOrder.{is_equal, is_greater, eq-yes}
 use Rattle.rart_nodes.proofs.tries.FirstBytes.{AllFirst, AllFrom, pairs_of-first, children_pairs-from}
 use Rattle.rart_nodes.proofs.tries.LongerPrefix.{longer, trie_lookup-longer}

@@ -1,10 +1,10 @@
 //! Bulk loads of lists that a model gives, in order or out of it.
 use crate::call::Call;
 use crate::copies::copies_are_right;
-use crate::edits::WRONG;
+use crate::kinds::edits::WRONG;
+use crate::kinds::reads::{iter, iter_descending};
 use crate::model::{Model, Pair};
 use crate::numbers::{mix, sum_if};
-use crate::reads::{iter, iter_descending};
 use crate::shape::{shape_in, shape_of};
 use crate::sides::{Tree, key_of};
 use rart::{BulkError, KeyTrait, Refused};

@@ -1,11 +1,11 @@
 //! What a walk by turns must answer, by the model.
 use crate::call::Call;
+use crate::kinds::reads::most_of;
+use crate::kinds::turns::is_back;
+use crate::model::reads::{end_of, start_of};
 use crate::model::{Model, Pair};
-use crate::model_reads::{end_of, start_of};
 use crate::numbers::{mix, mix_pair};
-use crate::reads::most_of;
 use crate::text::Text;
-use crate::turns::is_back;
 
 // Whether the walk counts what is left.
 fn counts(call: &Call) -> bool {

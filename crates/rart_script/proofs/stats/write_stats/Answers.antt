@@ -1,8 +1,8 @@
 use Rattle.std.proofs.Common.{◌≡◌, append_assoc}
 use Rattle.std.proofs.lemmas.Result.{on_ok_weaker}
-use Rattle.rart_nodes.specs.statistics.Statistics.{stats_in}
+use Rattle.rart_nodes.specs.stats.Stats.{stats_in}
 use Rattle.rart_script.proofs.PrintLemmas.{widths-begin, widths-go_on, widths-end}
-use Rattle.rart_script.proofs.statistics.write_statistics.Goals as goal
+use Rattle.rart_script.proofs.stats.write_stats.Goals as goal
 
 pub loop-width-init : goal.loop-width-init
 loop-width-init g c =

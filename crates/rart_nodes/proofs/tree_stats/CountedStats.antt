@@ -5,18 +5,18 @@ use Rattle.std.proofs.lemmas.Bool.Decides.{nat_tests}
 use Rattle.std.proofs.lemmas.List.{length-map}
 use Rattle.rart_keys.specs.SortedMap.{keys_of}
 use Rattle.rart_nodes.specs.declared.stats.counts.Counts.{Counts}
-use Rattle.rart_nodes.specs.statistics.CountedNodes.{counts_by, counts_added, counts_in, counts_in_children, counts_sum}
-use Rattle.rart_nodes.specs.statistics.CountedNodes.{inner_counted, children_counted, width_counted, stats_counted}
+use Rattle.rart_nodes.specs.stats.CountedNodes.{counts_by, counts_added, counts_in, counts_in_children, counts_sum}
+use Rattle.rart_nodes.specs.stats.CountedNodes.{inner_counted, children_counted, width_counted, stats_counted}
 use Rattle.rart_nodes.specs.shapes.Shape.{capacity_of}
-use Rattle.rart_nodes.specs.statistics.Statistics.{Statistics, one_if, inner_at, children_at, width_at, sum_in}
-use Rattle.rart_nodes.specs.statistics.Statistics.{sum_in_children, trie_height, stats_of}
+use Rattle.rart_nodes.specs.stats.Stats.{Statistics, one_if, inner_at, children_at, width_at, sum_in}
+use Rattle.rart_nodes.specs.stats.Stats.{sum_in_children, trie_height, stats_of}
 use Rattle.rart_nodes.specs.tries.Trie.{Trie, node, Children, no_children, child, pairs_of, children_pairs, edges_of}
 use Rattle.rart_nodes.specs.tries.Trie.{nodes_of, children_with_records, IsCanonical, AreCanonical}
 use Rattle.rart_nodes.specs.tries.TrieCode.{node_count, child_count}
-use Rattle.rart_nodes.proofs.statistics.CountLemmas.{few-counted}
+use Rattle.rart_nodes.proofs.tree_stats.CountLemmas.{few-counted}
 use Rattle.rart_nodes.proofs.tries.NodeCounts.{few_nodes}
-use Rattle.rart_nodes.proofs.statistics.StatisticsLemmas.{statistics-keys}
-use Rattle.rart_nodes.proofs.statistics.WidthSums.{few_widths}
+use Rattle.rart_nodes.proofs.tree_stats.StatsLemmas.{statistics-keys}
+use Rattle.rart_nodes.proofs.tree_stats.WidthSums.{few_widths}
 
 -- a node whose width its children fix is counted under one of the four widths, unless it is a leaf
 one-kind : (n c : ℕ) → n ≡ capacity_of c → one_if (nat_le 1 c) ≡ one_if (n == 4) + one_if (n == 16) + one_if (n == 48)

@@ -1,10 +1,10 @@
 //! Keys cut at their branch points, and what two models share.
 use crate::call::Call;
+use crate::kinds::views::READ;
+use crate::model::reads::{end_of, longest_key, start_of};
 use crate::model::{Model, Pair};
-use crate::model_reads::{end_of, longest_key, start_of};
 use crate::numbers::{mix, mix_bytes, sum_if};
 use crate::text::Text;
-use crate::views::READ;
 
 /// How many first bytes of a key it shares with some other key: true at each such number.
 type Cuts = [bool; 41];

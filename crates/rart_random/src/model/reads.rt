@@ -1,8 +1,8 @@
 //! What a read must answer, by the model.
 use crate::call::Call;
+use crate::kinds::reads::{descends, most_of};
 use crate::model::{Mark, Model};
 use crate::numbers::{mix, mix_pair, sum_if, sum_of};
-use crate::reads::{descends, most_of};
 use crate::text::Text;
 
 // The pair with the longest key that begins the probe.

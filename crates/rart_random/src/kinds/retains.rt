@@ -1,6 +1,6 @@
 //! Removals of all pairs that a rule rejects, from a tree and from its model.
 use crate::call::Call;
-use crate::edits::WRONG;
+use crate::kinds::edits::WRONG;
 use crate::model::{Model, Pair};
 use crate::numbers::{low_byte, mix_pair};
 use crate::sides::{Tree, key_of};

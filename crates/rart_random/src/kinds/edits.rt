@@ -3,9 +3,9 @@ ghost use Rattle.std.specs.Prelude.{◌≡◌};
 ghost use Rattle.rart.specs.Updates.{written_slot};
 
 use crate::call::Call;
+use crate::kinds::reads::ends;
+use crate::kinds::retains::retain;
 use crate::numbers::{mix, sum_if, sum_of};
-use crate::reads::ends;
-use crate::retains::retain;
 use crate::sides::{Tree, mix_key};
 use rart::{
     KeyTrait, NotInserted, Refused, Slot, SlotUpdate, TreeError, TryInsertError, TryUpdateError,

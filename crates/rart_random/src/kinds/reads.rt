@@ -1,6 +1,6 @@
 //! Reads of a tree: each returns the sum of its answer, or none if memory was refused.
 use crate::call::Call;
-use crate::edits::WRONG;
+use crate::kinds::edits::WRONG;
 use crate::numbers::{mix, mix_pair, sum_if, sum_of};
 use crate::sides::{Tree, bound_of, mix_key, same_key};
 use crate::text::Text;

@@ -1,9 +1,9 @@
 //! The pairs of a clone by value, all of them or the first.
 use crate::call::Call;
-use crate::edits::WRONG;
+use crate::kinds::edits::WRONG;
+use crate::kinds::reads::{ended, most_of};
 use crate::model::Model;
 use crate::numbers::mix;
-use crate::reads::{ended, most_of};
 use crate::sides::{Tree, mix_key};
 use rart::{IntoPairs, KeyTrait, Refused, TreeError};
 

@@ -1,0 +1,5 @@
+pub mod CountLemmas
+pub mod CountedStats
+pub mod StatsExamples
+pub mod StatsLemmas
+pub mod WidthSums
