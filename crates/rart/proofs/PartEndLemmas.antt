@@ -131,9 +131,9 @@ module _ {V : Type 0} where
       subst (λ z. 2 ≤ length z) (sym more) (more_than_one f l (through l.0 front) back
       (as_list _ _ (l ∷ back) more w.same) d)
 
-  pub front-goes_on : (f l : List ℕ × V) (front back : List (List ℕ × V)) → AreBetween l.0 (f ∷ front) (l ∷ back)
+  pub front-continues : (f l : List ℕ × V) (front back : List (List ℕ × V)) → AreBetween l.0 (f ∷ front) (l ∷ back)
       → (f.0 ≡ l.0 → ⊥) → front ≡ [] → ⊥
-  front-goes_on f l front back w d e = let both = two f l front back w d in
+  front-continues f l front back w d e = let both = two f l front back w d in
       let more = through-more l.0 f front d in omega (arith, both, ap length more, ap (λ z. length (through l.0 z)) e)
 
   front-rest : (k : List ℕ) (f : List ℕ × V) (front backward : List (List ℕ × V)) → AreBetween k (f ∷ front) backward
@@ -160,9 +160,9 @@ module _ {V : Type 0} where
   back-alone f l front back w e = let one = through-alone l.0 f front e in
       let same : l ∷ [] ≡ f ∷ [] = as_list _ _ (l ∷ back) one w.same in one ∙ sym same
 
-  pub back-goes_on : (f l : List ℕ × V) (front back : List (List ℕ × V)) → AreBetween l.0 (f ∷ front) (l ∷ back)
+  pub back-continues : (f l : List ℕ × V) (front back : List (List ℕ × V)) → AreBetween l.0 (f ∷ front) (l ∷ back)
       → (f.0 ≡ l.0 → ⊥) → back ≡ [] → ⊥
-  back-goes_on f l front back w d e = let both = two f l front back w d in
+  back-continues f l front back w d e = let both = two f l front back w d in
       let all = through l.0 (f ∷ front) in
       omega (arith, both, ap length w.same, length-take (length all) (l ∷ back), length-reverse all, ap length e)
 

@@ -13,9 +13,9 @@ pub print-begins : (old new : Option (List ℕ)) (text rest whole : List ℕ) �
     → HasPrinted old new rest whole
 print-begins old new text rest whole h e = record { printed = text; appends = h; meets = e }
 
-pub print-goes_on : (a b c : Option (List ℕ)) (text rest whole : List ℕ) → HasPrinted a b (text ++ rest) whole
+pub print-continues : (a b c : Option (List ℕ)) (text rest whole : List ℕ) → HasPrinted a b (text ++ rest) whole
     → Appends b c text → HasPrinted a c rest whole
-print-goes_on a b c text rest whole h more
+print-continues a b c text rest whole h more
     = record {
       printed = h.printed ++ text;
       appends = Appends-both a b c h.printed text h.appends more;

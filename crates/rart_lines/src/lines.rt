@@ -15,7 +15,7 @@ impl<'a> Lines<'a> {
     pub fn new(text: &'a [u8]) -> Self
         ensures left { lines_left result ≡ lines_of text.now }
         // So they can be numbered.
-        ensures few { length (lines_left result) < 2 ^ 64 }
+        ensures fits { length (lines_left result) < 2 ^ 64 }
     {
         Lines { rest: Some(text) }
     }

@@ -8,7 +8,7 @@ use Rattle.std.proofs.lemmas.Grind.{get_or_default_zero}
 use Rattle.std.proofs.lemmas.List.{length-set, length-replicate, map-set}
 use Rattle.rart_parts.specs.Bits.{words_have, members_from, positions_above, IsFirst}
 use Rattle.rart_parts.specs.Entries.{entries_above}
-use Rattle.rart_parts.specs.Places.{is_used, numbered}
+use Rattle.rart_parts.specs.Places.{is_used, numbered_values}
 use Rattle.rart_parts.specs.ByteIndex.{slot_of, IsByteIndex, with_slots, AreBytes}
 use Rattle.rart_parts.proofs.PlaceLemmas.{used_with, used_without, none_used}
 
@@ -86,7 +86,7 @@ members-bytes test from (suc count) h =
 pub walked : (test : ℕ → Bool) (slots xs : List ℕ) (n : ℕ)
     → ((j : ℕ) → j < length xs → test (n + j) ≡ is_used (map slot_of xs) j)
     → ((j : ℕ) → j < length xs → get_or slots (n + j) 0 ≡ get_or xs j 0)
-    → with_slots slots (members_from test n (length xs)) ≡ numbered n (map slot_of xs)
+    → with_slots slots (members_from test n (length xs)) ≡ numbered_values n (map slot_of xs)
 walked test slots [] n t e = refl
 walked test slots (x ∷ xs) n t e =
     let here : n + 0 ≡ n = omega arith in
@@ -100,13 +100,13 @@ walked test slots (x ∷ xs) n t e =
     (members_from test (suc n) (length xs)))) first
     ∙ elim (eqb x 255) as (λ c. with_slots slots
     (cond (is_used (cond c None (Some x) ∷ map slot_of xs) 0) (n ∷ members_from test (suc n) (length xs))
-    (members_from test (suc n) (length xs))) ≡ numbered n (cond c None (Some x) ∷ map slot_of xs)) [
+    (members_from test (suc n) (length xs))) ≡ numbered_values n (cond c None (Some x) ∷ map slot_of xs)) [
       | true ↦ rest
       | false ↦ (λ i. (n, at i) ∷ rest i)
     ]
 
 pub walked_all : {words slots : List ℕ} → IsByteIndex words slots → with_slots slots (members_from (has words) 0 256)
-    ≡ numbered 0 (map slot_of slots)
+    ≡ numbered_values 0 (map slot_of slots)
 walked_all {words} {slots} i =
     let at : (j : ℕ) → 0 + j ≡ j = λ (j : ℕ). omega arith in
     ap (λ n. with_slots slots (members_from (has words) 0 n)) (sym i.whole)

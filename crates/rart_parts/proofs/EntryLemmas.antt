@@ -4,8 +4,8 @@ use Rattle.std.proofs.Common.{None, length, take, drop, sym, ap, ◌∙◌, refl
 use Rattle.std.proofs.lemmas.Bool.{eq-eqb, ne_eqb, lt-ltb, le-ltb, cases_lt}
 use Rattle.std.proofs.lemmas.List.{length-drop, take_all}
 use Rattle.std.proofs.lemmas.Bool.Decides.{eqb_tells}
-use Rattle.rart_parts.specs.Entries.{child_at, entries_above, with_entry, with_another, without_byte, replaced}
-use Rattle.rart_parts.specs.Entries.{ascending, StartsAbove, BytesAscend}
+use Rattle.rart_parts.specs.Entries.{child_at, entries_above, with_entry, with_another, without_byte, replaced_at}
+use Rattle.rart_parts.specs.Entries.{sorted_entries, StartsAbove, BytesAscend}
 
 some_none : {X : Type 0} {x : X} → Some x ≡ None → ⊥
 some_none h = cc
@@ -45,11 +45,11 @@ module _ {X : Type 0} (k : ℕ) (e : ℕ × X) (es : List (ℕ × X)) where
   pub without_other : e.0 ≢ k → without_byte k (e ∷ es) ≡ e ∷ without_byte k es
   without_other h = ap (λ b. cond b es (e ∷ without_byte k es)) (ne_eqb e.0 k h)
 
-  pub replaced_same : (w : X) → e.0 ≡ k → replaced k w (e ∷ es) ≡ (k, w) ∷ es
-  replaced_same w h = ap (λ b. cond b ((k, w) ∷ es) (e ∷ replaced k w es)) (eq-eqb e.0 k h)
+  pub replaced_same : (w : X) → e.0 ≡ k → replaced_at k w (e ∷ es) ≡ (k, w) ∷ es
+  replaced_same w h = ap (λ b. cond b ((k, w) ∷ es) (e ∷ replaced_at k w es)) (eq-eqb e.0 k h)
 
-  pub replaced_other : (w : X) → e.0 ≢ k → replaced k w (e ∷ es) ≡ e ∷ replaced k w es
-  replaced_other w h = ap (λ b. cond b ((k, w) ∷ es) (e ∷ replaced k w es)) (ne_eqb e.0 k h)
+  pub replaced_other : (w : X) → e.0 ≢ k → replaced_at k w (e ∷ es) ≡ e ∷ replaced_at k w es
+  replaced_other w h = ap (λ b. cond b ((k, w) ∷ es) (e ∷ replaced_at k w es)) (ne_eqb e.0 k h)
 
   pub first_absent : child_at k (e ∷ es) ≡ None → e.0 ≢ k
   first_absent h q = some_none (sym (at_same q) ∙ h)
@@ -80,9 +80,9 @@ module _ {X : Type 0} where
   child_at-with_another k x [] b = refl
   child_at-with_another k x (e ∷ es) b = grind (arith, child_at-with_another k x es b)
 
-  pub child_at-ascending : (es : List (ℕ × X)) (b : ℕ) → child_at b (ascending es) ≡ child_at b es
+  pub child_at-ascending : (es : List (ℕ × X)) (b : ℕ) → child_at b (sorted_entries es) ≡ child_at b es
   child_at-ascending [] b = refl
-  child_at-ascending (e ∷ es) b = child_at-with_another e.0 e.1 (ascending es) b
+  child_at-ascending (e ∷ es) b = child_at-with_another e.0 e.1 (sorted_entries es) b
       ∙ ap (λ r. cond (eqb e.0 b) (Some e.1) r) (child_at-ascending es b)
 
   -- no entry is at or below a byte that the map starts above
@@ -91,7 +91,7 @@ module _ {X : Type 0} where
   below_start k b (e ∷ es) s a h = at_other b e es (λ q. omega (arith, q, s, h))
       ∙ below_start e.0 b es a.0 a.1 (omega arith)
 
-  pub replaced_absent : (k : ℕ) (w : X) (es : List (ℕ × X)) → child_at k es ≡ None → replaced k w es ≡ es
+  pub replaced_absent : (k : ℕ) (w : X) (es : List (ℕ × X)) → child_at k es ≡ None → replaced_at k w es ≡ es
   replaced_absent k w [] h = refl
   replaced_absent k w (e ∷ es) h =
       let n = first_absent k e es h in replaced_other k e es w n
@@ -126,7 +126,7 @@ module _ {X : Type 0} where
       (eqb_tells e.0 k)
 
   pub child_at-replaced : (k : ℕ) (w x : X) (es : List (ℕ × X)) → child_at k es ≡ Some x → (b : ℕ)
-      → child_at b (replaced k w es) ≡ cond (eqb k b) (Some w) (child_at b es)
+      → child_at b (replaced_at k w es) ≡ cond (eqb k b) (Some w) (child_at b es)
   child_at-replaced k w x [] h b = cc
   child_at-replaced k w x (e ∷ es) h b = ⊎_elim
       (λ t. ap (child_at b) (replaced_same k e es w t.1) ∙ ⊎_elim
@@ -201,11 +201,11 @@ module _ {X : Type 0} where
   AreEachOnce [] = Unit {0}
   AreEachOnce (e ∷ es) = (child_at e.0 es ≡ None) × AreEachOnce es
 
-  pub ascending-ascends : (es : List (ℕ × X)) → AreEachOnce es → BytesAscend (ascending es)
+  pub ascending-ascends : (es : List (ℕ × X)) → AreEachOnce es → BytesAscend (sorted_entries es)
   ascending-ascends [] o = tt
   ascending-ascends (e ∷ es) o = subst BytesAscend
-      (sym (with_another-absent e.0 e.1 (ascending es) (child_at-ascending es e.0 ∙ o.0)))
-      (with_entry-ascends e.0 e.1 (ascending es) (ascending-ascends es o.1))
+      (sym (with_another-absent e.0 e.1 (sorted_entries es) (child_at-ascending es e.0 ∙ o.0)))
+      (with_entry-ascends e.0 e.1 (sorted_entries es) (ascending-ascends es o.1))
 
   starts_without : (b k : ℕ) (es : List (ℕ × X)) → StartsAbove b es → BytesAscend es → StartsAbove b (without_byte k es)
   starts_without b k [] s a = tt
@@ -222,14 +222,14 @@ module _ {X : Type 0} where
       (starts_without e.0 k es a.0 a.1, without_byte-ascends k es a.1))
       (eqb_tells e.0 k)
 
-  starts_replaced : (b k : ℕ) (w : X) (es : List (ℕ × X)) → StartsAbove b es → StartsAbove b (replaced k w es)
+  starts_replaced : (b k : ℕ) (w : X) (es : List (ℕ × X)) → StartsAbove b es → StartsAbove b (replaced_at k w es)
   starts_replaced b k w [] s = tt
   starts_replaced b k w (e ∷ es) s = ⊎_elim
       (λ t. subst (StartsAbove b) (sym (replaced_same k e es w t.1)) (omega (arith, t.1, s)))
       (λ t. subst (StartsAbove b) (sym (replaced_other k e es w t.1)) s)
       (eqb_tells e.0 k)
 
-  pub replaced-ascends : (k : ℕ) (w : X) (es : List (ℕ × X)) → BytesAscend es → BytesAscend (replaced k w es)
+  pub replaced-ascends : (k : ℕ) (w : X) (es : List (ℕ × X)) → BytesAscend es → BytesAscend (replaced_at k w es)
   replaced-ascends k w [] a = tt
   replaced-ascends k w (e ∷ es) a = ⊎_elim
       (λ t. subst BytesAscend (sym (replaced_same k e es w t.1)) (subst (λ n. StartsAbove n es) t.1 a.0, a.1))
@@ -326,7 +326,7 @@ module _ {X : Type 0} where
             (λ b p. below_start e.0 b es a.0 a.1 (omega (arith, p))) (above_rest m e es i.1 above),
       ))
 
-  pub length-replaced : (k : ℕ) (w : X) (es : List (ℕ × X)) → length (replaced k w es) ≡ length es
+  pub length-replaced : (k : ℕ) (w : X) (es : List (ℕ × X)) → length (replaced_at k w es) ≡ length es
   length-replaced k w [] = refl
   length-replaced k w (e ∷ es) = ⊎_elim
       (λ t. omega (arith, ap length (replaced_same k e es w t.1)))

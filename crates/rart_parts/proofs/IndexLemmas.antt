@@ -5,8 +5,8 @@ use Rattle.std.proofs.Common.{arith, ⊎_elim}
 use Rattle.std.proofs.lemmas.Bool.{eq-eqb, ne_eqb, false≢true}
 use Rattle.std.proofs.lemmas.Bool.Decides.{eqb_tells}
 use Rattle.std.proofs.lemmas.List.{length-set, length-replicate, get_or-set_same, get_or-set_other}
-use Rattle.rart_parts.specs.Entries.{child_at, with_entry, without_byte, replaced, ascending, BytesAscend}
-use Rattle.rart_parts.specs.Places.{is_used, numbered}
+use Rattle.rart_parts.specs.Entries.{child_at, with_entry, without_byte, replaced_at, sorted_entries, BytesAscend}
+use Rattle.rart_parts.specs.Places.{is_used, numbered_values}
 use Rattle.rart_parts.specs.Indexed.{names, byte_of, with_bytes, IsIndex, IsIndexed}
 use Rattle.rart_parts.proofs.EntryLemmas.{at_same, at_other, same_lookups, child_at-ascending, AreEachOnce}
 use Rattle.rart_parts.proofs.EntryLemmas.{ascending-ascends, child_at-with_entry, child_at-without_byte}
@@ -76,12 +76,12 @@ some_same : {X : Type 0} {x y : X} → Some x ≡ Some y → x ≡ y
 some_same h = cc
 
 module _ {X : Type 0} {at : List (Option ℕ)} {os : List (Option X)} (i : IsIndex at os) where
-  pub indexed_none : (k : ℕ) → get_or at k None ≡ None → child_at k (ascending (with_bytes at 0 os)) ≡ None
+  pub indexed_none : (k : ℕ) → get_or at k None ≡ None → child_at k (sorted_entries (with_bytes at 0 os)) ≡ None
   indexed_none k e = child_at-ascending (with_bytes at 0 os) k ∙ bytes_none at k 0 os (λ r u f.
       let g : byte_of at r ≡ k = (let z : r ≡ 0 + r = omega arith in ap (byte_of at) z) ∙ f in
       none_some (sym e ∙ ap (λ j. get_or at j None) (sym g) ∙ i.is_named r u))
 
-  pub indexed_some : (k p : ℕ) → get_or at k None ≡ Some p → child_at k (ascending (with_bytes at 0 os))
+  pub indexed_some : (k p : ℕ) → get_or at k None ≡ Some p → child_at k (sorted_entries (with_bytes at 0 os))
       ≡ get_or os p None
   indexed_some k p e = child_at-ascending (with_bytes at 0 os) k ∙ bytes_child at k 0 p os (λ r u f.
       let g : byte_of at r ≡ k = (let z : r ≡ 0 + r = omega arith in ap (byte_of at) z) ∙ f in
@@ -89,7 +89,7 @@ module _ {X : Type 0} {at : List (Option ℕ)} {os : List (Option X)} (i : IsInd
       ((let z : 0 + p ≡ p = omega arith in ap (byte_of at) z) ∙ i.one_byte k p e)
 
   -- a byte with no child is not in the index
-  pub absent_unnamed : (k : ℕ) → child_at k (ascending (with_bytes at 0 os)) ≡ None → get_or at k None ≡ None
+  pub absent_unnamed : (k : ℕ) → child_at k (sorted_entries (with_bytes at 0 os)) ≡ None → get_or at k None ≡ None
   absent_unnamed k e = go (get_or at k None) refl
     where
       go : (o : Option ℕ) → get_or at k None ≡ o → get_or at k None ≡ None
@@ -227,7 +227,7 @@ each_once at p (Some x ∷ os) n = (
 )
 
 pub map_of_ascends : {X : Type 0} {at : List (Option ℕ)} {os : List (Option X)} → IsIndex at os
-    → BytesAscend (ascending (with_bytes at 0 os))
+    → BytesAscend (sorted_entries (with_bytes at 0 os))
 map_of_ascends {at = at} {os = os} i = ascending-ascends (with_bytes at 0 os) (each_once at 0 os (λ q r e u.
     let same : q ≡ r = omega arith in
     i.is_named q (ap (is_used os) same ∙ u)))
@@ -239,8 +239,8 @@ by_index P (Some a) e f n = f a refl
 module _ {X : Type 0} {at : List (Option ℕ)} {os : List (Option X)} (i : IsIndex at os) where
   pub map_put : (k p : ℕ) (x : X) (hk : k < 256) (hp : p < length os) (unnamed : get_or at k None ≡ None)
       (free : is_used os p ≡ false)
-      → ascending (with_bytes (set at k (Some p)) 0 (set os p (Some x)))
-      ≡ with_entry k x (ascending (with_bytes at 0 os))
+      → sorted_entries (with_bytes (set at k (Some p)) 0 (set os p (Some x)))
+      ≡ with_entry k x (sorted_entries (with_bytes at 0 os))
   map_put k p x hk hp unnamed free =
       let j = index_put i k p x hk hp unnamed free in
       same_lookups _ _ (map_of_ascends j) (with_entry-ascends k x _ (map_of_ascends i)) (λ b.
@@ -248,7 +248,7 @@ module _ {X : Type 0} {at : List (Option ℕ)} {os : List (Option X)} (i : IsInd
       (λ t. indexed_some j b p (ap (λ m. get_or (set at k (Some p)) m None) (sym t.1)
       ∙ get_or-set_same at k (Some p) None (omega (arith, hk, i.whole)))
       ∙ get_or-set_same os p (Some x) None hp ∙ sym
-      (ap (λ c. cond c (Some x) (child_at b (ascending (with_bytes at 0 os)))) t.0))
+      (ap (λ c. cond c (Some x) (child_at b (sorted_entries (with_bytes at 0 os)))) t.0))
       (λ t.
       let same : get_or (set at k (Some p)) b None ≡ get_or at b None
       = get_or-set_other at k b (Some p) None (λ e. t.1 (sym e)) in
@@ -256,18 +256,19 @@ module _ {X : Type 0} {at : List (Option ℕ)} {os : List (Option X)} (i : IsInd
       (λ q e. indexed_some j b q (same ∙ e) ∙ get_or-set_other os p q (Some x) None
       (λ s. false≢true (sym free ∙ ap (is_used os) (sym s) ∙ i.has_child b q e)) ∙ sym (indexed_some i b q e))
       (λ e. indexed_none j b (same ∙ e) ∙ sym (indexed_none i b e))
-      ∙ sym (ap (λ c. cond c (Some x) (child_at b (ascending (with_bytes at 0 os)))) t.0))
-      (eqb_tells k b) ∙ sym (child_at-with_entry k x (ascending (with_bytes at 0 os)) b))
+      ∙ sym (ap (λ c. cond c (Some x) (child_at b (sorted_entries (with_bytes at 0 os)))) t.0))
+      (eqb_tells k b) ∙ sym (child_at-with_entry k x (sorted_entries (with_bytes at 0 os)) b))
 
   pub map_taken : (k p : ℕ) (hk : k < 256) (here : get_or at k None ≡ Some p)
-      → ascending (with_bytes (set at k None) 0 (set os p None)) ≡ without_byte k (ascending (with_bytes at 0 os))
+      → sorted_entries (with_bytes (set at k None) 0 (set os p None)) ≡ without_byte k
+      (sorted_entries (with_bytes at 0 os))
   map_taken k p hk here =
       let j = index_taken i k p hk here in
       same_lookups _ _ (map_of_ascends j) (without_byte-ascends k _ (map_of_ascends i)) (λ b.
       ⊎_elim
       (λ t. indexed_none j b (ap (λ m. get_or (set at k None) m None) (sym t.1)
       ∙ get_or-set_same at k None None (omega (arith, hk, i.whole)))
-      ∙ sym (ap (λ c. cond c None (child_at b (ascending (with_bytes at 0 os)))) t.0))
+      ∙ sym (ap (λ c. cond c None (child_at b (sorted_entries (with_bytes at 0 os)))) t.0))
       (λ t.
       let same : get_or (set at k None) b None ≡ get_or at b None
       = get_or-set_other at k b None None (λ e. t.1 (sym e)) in
@@ -276,11 +277,11 @@ module _ {X : Type 0} {at : List (Option ℕ)} {os : List (Option X)} (i : IsInd
       (λ s. t.1 (sym (i.one_byte k p here) ∙ ap (byte_of at) (sym s) ∙ i.one_byte b q e))
       ∙ sym (indexed_some i b q e))
       (λ e. indexed_none j b (same ∙ e) ∙ sym (indexed_none i b e))
-      ∙ sym (ap (λ c. cond c None (child_at b (ascending (with_bytes at 0 os)))) t.0))
-      (eqb_tells k b) ∙ sym (child_at-without_byte k (ascending (with_bytes at 0 os)) (map_of_ascends i) b))
+      ∙ sym (ap (λ c. cond c None (child_at b (sorted_entries (with_bytes at 0 os)))) t.0))
+      (eqb_tells k b) ∙ sym (child_at-without_byte k (sorted_entries (with_bytes at 0 os)) (map_of_ascends i) b))
 
   pub map_written : (k p : ℕ) (hk : k < 256) (here : get_or at k None ≡ Some p) (w : X)
-      → ascending (with_bytes at 0 (set os p (Some w))) ≡ replaced k w (ascending (with_bytes at 0 os))
+      → sorted_entries (with_bytes at 0 (set os p (Some w))) ≡ replaced_at k w (sorted_entries (with_bytes at 0 os))
   map_written k p hk here w =
       let j = index_written i k p hk here w in
       let old = used_read os p (i.has_child k p here) in
@@ -288,20 +289,20 @@ module _ {X : Type 0} {at : List (Option ℕ)} {os : List (Option X)} (i : IsInd
       ⊎_elim
       (λ t. indexed_some j b p (ap (λ m. get_or at m None) (sym t.1) ∙ here)
       ∙ get_or-set_same os p (Some w) None (slot_within i k p here)
-      ∙ sym (ap (λ c. cond c (Some w) (child_at b (ascending (with_bytes at 0 os)))) t.0))
+      ∙ sym (ap (λ c. cond c (Some w) (child_at b (sorted_entries (with_bytes at 0 os)))) t.0))
       (λ t. by_index _ (get_or at b None) refl
       (λ q e. indexed_some j b q e ∙ get_or-set_other os p q (Some w) None
       (λ s. t.1 (sym (i.one_byte k p here) ∙ ap (byte_of at) (sym s) ∙ i.one_byte b q e))
       ∙ sym (indexed_some i b q e))
       (λ e. indexed_none j b e ∙ sym (indexed_none i b e))
-      ∙ sym (ap (λ c. cond c (Some w) (child_at b (ascending (with_bytes at 0 os)))) t.0))
-      (eqb_tells k b) ∙ sym (child_at-replaced k w old.0 (ascending (with_bytes at 0 os)) (indexed_some i k p here
+      ∙ sym (ap (λ c. cond c (Some w) (child_at b (sorted_entries (with_bytes at 0 os)))) t.0))
+      (eqb_tells k b) ∙ sym (child_at-replaced k w old.0 (sorted_entries (with_bytes at 0 os)) (indexed_some i k p here
       ∙ old.1) b))
 
 -- ---- with the count
 -- as many children as slots, where no slot is free
 pub all_used : {X : Type 0} (n : ℕ) (os : List (Option X)) → ((q : ℕ) → q < length os → not (is_used os q) ≡ false)
-    → length (numbered n os) ≡ length os
+    → length (numbered_values n os) ≡ length os
 all_used n [] h = refl
 all_used n (None ∷ os) h = absurd (false≢true (sym (h 0 (omega arith))))
 all_used n (Some x ∷ os) h = omega (arith, all_used (suc n) os (λ q l. h (suc q) (omega arith)))
@@ -317,13 +318,13 @@ module _ {X : Type 0} {width : ℕ} {at : List (Option ℕ)} {os : List (Option 
         narrow = m.narrow;
         index = index_put m.index k p x hk within unnamed free;
         counted = ap (λ n. n + 1) m.counted ∙ sym (ap length (numbered-put os p within x)
-            ∙ length-with_entry p x (numbered 0 os) (numbered_child os p ∙ free_read os p free));
+            ∙ length-with_entry p x (numbered_values 0 os) (numbered_child os p ∙ free_read os p free));
         entries = ap (λ n. n + 1) m.entries ∙ sym (ap length (map_put m.index k p x hk within unnamed free)
             ∙ length-with_entry k x _ (indexed_none m.index k unnamed));
       }
 
   pub some_left : (k p : ℕ) → k < 256 → get_or at k None ≡ Some p
-      → count ≡ length (ascending (with_bytes (set at k None) 0 (set os p None))) + 1
+      → count ≡ length (sorted_entries (with_bytes (set at k None) 0 (set os p None))) + 1
   some_left k p hk here =
       let old = used_read os p (m.index.has_child k p here) in
       m.entries ∙ length-without_byte k old.0 _ (indexed_some m.index k p here ∙ old.1)
@@ -341,7 +342,7 @@ module _ {X : Type 0} {width : ℕ} {at : List (Option ℕ)} {os : List (Option 
         counted = omega (
           arith,
           m.counted,
-          length-without_byte p old.0 (numbered 0 os) (numbered_child os p ∙ old.1),
+          length-without_byte p old.0 (numbered_values 0 os) (numbered_child os p ∙ old.1),
           ap
               length (numbered-taken os p (slot_within m.index k p here)),
         );
@@ -357,7 +358,7 @@ module _ {X : Type 0} {width : ℕ} {at : List (Option ℕ)} {os : List (Option 
         narrow = m.narrow;
         index = index_written m.index k p hk here w;
         counted = m.counted ∙ sym (ap length (numbered-written os p (slot_within m.index k p here) old.0 w old.1)
-            ∙ length-replaced p w (numbered 0 os));
+            ∙ length-replaced p w (numbered_values 0 os));
         entries = m.entries ∙ sym (ap length (map_written m.index k p hk here w) ∙ length-replaced k w _);
       }
 
@@ -365,7 +366,7 @@ module _ {X : Type 0} {width : ℕ} {at : List (Option ℕ)} {os : List (Option 
   slot_free h none = omega (arith, h, m.counted, m.full, all_used 0 os (λ q l. none q (omega (arith, l, m.full))))
 
 pub map_few : {X : Type 0} {width : ℕ} {at : List (Option ℕ)} {os : List (Option X)} {count : ℕ}
-    → IsIndexed width at os count → length (ascending (with_bytes at 0 os)) ≤ width
+    → IsIndexed width at os count → length (sorted_entries (with_bytes at 0 os)) ≤ width
 map_few {X = X} {width = width} {at = at} {os = os} m
     = omega (arith, m.entries, m.counted, m.full, m.narrow, length-numbered 0 os)
 
@@ -378,9 +379,10 @@ no_bytes : {X : Type 0} (at : List (Option ℕ)) (p n : ℕ) → with_bytes {X =
 no_bytes at p zero = refl
 no_bytes at p (suc n) = no_bytes at (suc p) n
 
-pub map_start : (X : Type 0) (at : List (Option ℕ)) (n : ℕ) → ascending (with_bytes {X = X} at 0 (replicate n None))
+pub map_start : (X : Type 0) (at : List (Option ℕ)) (n : ℕ) → sorted_entries
+    (with_bytes {X = X} at 0 (replicate n None))
     ≡ []
-map_start X at n = ap ascending (no_bytes {X = X} at 0 n)
+map_start X at n = ap sorted_entries (no_bytes {X = X} at 0 n)
 
 pub indexed_start : (X : Type 0) (width : ℕ) → width ≤ 255
     → IsIndexed {X = X} width (replicate 256 None) (replicate width None) 0

@@ -2,9 +2,9 @@
 use Rattle.std.proofs.Common.{◌≡◌, ℕ, zero, suc, ◌<◌, ◌≤◌, ◌+◌, cond, ⊎_elim, List, [], ◌∷◌, Option, Some, None, get_or}
 use Rattle.std.proofs.Common.{sym, ap, ◌∙◌, refl, arith}
 use Rattle.std.proofs.lemmas.Bool.{lt-ltb, le-ltb, cases_lt}
-use Rattle.rart_parts.specs.Entries.{child_at, entries_above, ascending, StartsAbove, BytesAscend}
+use Rattle.rart_parts.specs.Entries.{child_at, entries_above, sorted_entries, StartsAbove, BytesAscend}
 use Rattle.rart_parts.specs.Indexed.{with_bytes, by_slots, IsIndex}
-use Rattle.rart_parts.specs.Places.{numbered}
+use Rattle.rart_parts.specs.Places.{numbered_values}
 use Rattle.rart_parts.proofs.EntryLemmas.{at_same, at_other, same_lookups}
 use Rattle.rart_parts.proofs.IndexLemmas.{indexed_none, indexed_some, map_of_ascends, by_index}
 
@@ -16,7 +16,7 @@ some_same h = cc
 
 -- the children in the order of the index, whose first entry is that of byte n
 abbrev by_bytes : {X : Type 0} → ℕ → List (Option ℕ) → List (Option X) → List (ℕ × X)
-by_bytes n at os = by_slots (numbered n at) os
+by_bytes n at os = by_slots (numbered_values n at) os
 
 -- the children in slots, from the bytes above k on
 module _ {X : Type 0} (k : ℕ) (os : List (Option X)) where
@@ -121,7 +121,7 @@ module _ {X : Type 0} (os : List (Option X)) where
         | Some x ↦ (starts, rest)
       ]
 
-  pub walk_is : (at : List (Option ℕ)) → IsIndex at os → by_bytes 0 at os ≡ ascending (with_bytes at 0 os)
+  pub walk_is : (at : List (Option ℕ)) → IsIndex at os → by_bytes 0 at os ≡ sorted_entries (with_bytes at 0 os)
   walk_is at i = same_lookups _ _ (walk-ascends 0 at) (map_of_ascends i) (λ b.
       let here : b ≡ 0 + b = omega arith in
       by_index _ (get_or at b None) refl

@@ -5,10 +5,10 @@ use Rattle.std.proofs.Common.{arith, ⊎_elim}
 use Rattle.std.proofs.lemmas.Bool.{eq-eqb, ne_eqb, false≢true}
 use Rattle.std.proofs.lemmas.Bool.Decides.{eqb_tells}
 use Rattle.std.proofs.lemmas.List.{length-set, length-replicate, get_or-set_same, get_or-set_other}
-use Rattle.rart_parts.specs.Entries.{child_at, with_entry, without_byte, replaced, ascending, BytesAscend}
+use Rattle.rart_parts.specs.Entries.{child_at, with_entry, without_byte, replaced_at, sorted_entries, BytesAscend}
 use Rattle.rart_parts.specs.Keys.{is_held}
 use Rattle.rart_parts.specs.Keyed.{with_keys, IsSlots, IsKeyed}
-use Rattle.rart_parts.specs.Places.{is_filled, is_used, numbered}
+use Rattle.rart_parts.specs.Places.{is_filled, is_used, numbered_values}
 use Rattle.rart_parts.proofs.EntryLemmas.{at_same, at_other, same_lookups, child_at-ascending, AreEachOnce}
 use Rattle.rart_parts.proofs.EntryLemmas.{ascending-ascends, child_at-with_entry, child_at-without_byte}
 use Rattle.rart_parts.proofs.EntryLemmas.{child_at-replaced, with_entry-ascends, without_byte-ascends, replaced-ascends}
@@ -98,7 +98,7 @@ keys_once (c ∷ ks) (Some x ∷ os) apart = (
 )
 
 pub slots_ascend : {X : Type 0} {ks : List ℕ} {os : List (Option X)} → IsSlots ks os
-    → BytesAscend (ascending (with_keys ks os))
+    → BytesAscend (sorted_entries (with_keys ks os))
 slots_ascend {ks = ks} {os = os} s = ascending-ascends (with_keys ks os) (keys_once ks os s.apart)
 
 set_here : (xs : List ℕ) (i x : ℕ) → i < length xs → get_or xs i 0 ≡ x → set xs i x ≡ xs
@@ -133,24 +133,25 @@ module _ {X : Type 0} {ks : List ℕ} {os : List (Option X)} (s : IsSlots ks os)
 
   -- the key of a used slot
   pub keyed_at : (key p : ℕ) (x : X) → get_or ks p 0 ≡ key → get_or os p None ≡ Some x → is_used os p ≡ true
-      → child_at key (ascending (with_keys ks os)) ≡ Some x
+      → child_at key (sorted_entries (with_keys ks os)) ≡ Some x
   keyed_at key p x e f u =
       child_at-ascending (with_keys ks os) key
       ∙ keys_child key ks os p x (omega (arith, used_place os p u, s.whole)) e f (λ r v g. s.apart r p v u (g ∙ sym e))
 
   pub keyed_some : (key p : ℕ) → p < length os → is_held ks key (is_used os) p ≡ true
       → (x : X) × ((get_or ks p 0 ≡ key) × (is_used os p ≡ true) × (get_or os p None ≡ Some x)
-      × (child_at key (ascending (with_keys ks os)) ≡ Some x))
+      × (child_at key (sorted_entries (with_keys ks os)) ≡ Some x))
   keyed_some key p h e =
       let t = held_used key p h e in
       let x = used_read os p t.1 in
       (x.0, (t.0, t.1, x.1, keyed_at key p x.0 t.0 x.1 t.1))
 
-  pub keyed_absent : (key : ℕ) → ((k : ℕ) → get_or ks k 0 ≡ key → ⊥) → child_at key (ascending (with_keys ks os)) ≡ None
+  pub keyed_absent : (key : ℕ) → ((k : ℕ) → get_or ks k 0 ≡ key → ⊥) → child_at key
+      (sorted_entries (with_keys ks os)) ≡ None
   keyed_absent key none = child_at-ascending (with_keys ks os) key ∙ keys_none key ks os (λ r u e. none r e)
 
   pub keyed_none : (key : ℕ) → ((k : ℕ) → k < length os → is_held ks key (is_used os) k ≡ false)
-      → child_at key (ascending (with_keys ks os)) ≡ None
+      → child_at key (sorted_entries (with_keys ks os)) ≡ None
   keyed_none key none =
       child_at-ascending (with_keys ks os) key
       ∙ keys_none key ks os (λ r u e. false≢true (sym (none r (used_place os r u))
@@ -158,13 +159,13 @@ module _ {X : Type 0} {ks : List ℕ} {os : List (Option X)} (s : IsSlots ks os)
       ∙ or_true (not (eqb key 255)) (is_used os r) u))
 
   -- a byte with no child is the key of no used slot
-  absent_key : (key : ℕ) → child_at key (ascending (with_keys ks os)) ≡ None → (r : ℕ) → is_used os r ≡ true
+  absent_key : (key : ℕ) → child_at key (sorted_entries (with_keys ks os)) ≡ None → (r : ℕ) → is_used os r ≡ true
       → get_or ks r 0 ≡ key → ⊥
   absent_key key absent r u e = let x = used_read os r u in none_some (sym absent ∙ keyed_at key r x.0 e x.1 u)
 
   -- a child was put into a free slot
   module _ (key p : ℕ) (x : X) (h : p < length os) (free : is_used os p ≡ false)
-      (absent : child_at key (ascending (with_keys ks os)) ≡ None) where
+      (absent : child_at key (sorted_entries (with_keys ks os)) ≡ None) where
     within : p < length ks
     within = omega (arith, h, s.whole)
 
@@ -199,14 +200,14 @@ module _ {X : Type 0} {ks : List ℕ} {os : List (Option X)} (s : IsSlots ks os)
           (eqb_tells i p);
     }
 
-    pub keyed_put : ascending (with_keys (set ks p key) (set os p (Some x)))
-        ≡ with_entry key x (ascending (with_keys ks os))
+    pub keyed_put : sorted_entries (with_keys (set ks p key) (set os p (Some x)))
+        ≡ with_entry key x (sorted_entries (with_keys ks os))
     keyed_put = same_lookups _ _ (slots_ascend slots_put) (with_entry-ascends key x _ (slots_ascend s)) (λ b.
         child_at-ascending (with_keys (set ks p key) (set os p (Some x))) b
         ∙ slot_changed key (Some x) key (λ _. refl) b ks os p within h (λ r n. absent_key key absent r)
         (λ u. absurd (false≢true (sym free ∙ u)))
         ∙ ap (cond (eqb key b) (Some x)) (sym (child_at-ascending (with_keys ks os) b))
-        ∙ sym (child_at-with_entry key x (ascending (with_keys ks os)) b))
+        ∙ sym (child_at-with_entry key x (sorted_entries (with_keys ks os)) b))
 
   -- at a used slot and its key
   module _ (key p : ℕ) (x : X) (e : get_or ks p 0 ≡ key) (u : is_used os p ≡ true) (f : get_or os p None ≡ Some x) where
@@ -234,14 +235,14 @@ module _ {X : Type 0} {ks : List ℕ} {os : List (Option X)} (s : IsSlots ks os)
           (eqb_tells i p);
     }
 
-    pub keyed_taken : ascending (with_keys (set ks p 255) (set os p None))
-        ≡ without_byte key (ascending (with_keys ks os))
+    pub keyed_taken : sorted_entries (with_keys (set ks p 255) (set os p None))
+        ≡ without_byte key (sorted_entries (with_keys ks os))
     keyed_taken = same_lookups _ _ (slots_ascend slots_taken) (without_byte-ascends key _ (slots_ascend s)) (λ b.
         child_at-ascending (with_keys (set ks p 255) (set os p None)) b
         ∙ slot_changed key None 255 (λ z. absurd (false≢true z)) b ks os p (omega (arith, here, s.whole)) here alone
         (λ _. e)
         ∙ ap (cond (eqb key b) None) (sym (child_at-ascending (with_keys ks os) b))
-        ∙ sym (child_at-without_byte key (ascending (with_keys ks os)) (slots_ascend s) b))
+        ∙ sym (child_at-without_byte key (sorted_entries (with_keys ks os)) (slots_ascend s) b))
 
     -- another child in the slot
     module _ (w : X) where
@@ -258,7 +259,8 @@ module _ {X : Type 0} {ks : List ℕ} {os : List (Option X)} (s : IsSlots ks os)
         free = λ i l g. s.free i (omega (arith, l, length-set os p (Some w))) (sym (same_used i) ∙ g);
       }
 
-      pub keyed_written : ascending (with_keys ks (set os p (Some w))) ≡ replaced key w (ascending (with_keys ks os))
+      pub keyed_written : sorted_entries (with_keys ks (set os p (Some w))) ≡ replaced_at key w
+          (sorted_entries (with_keys ks os))
       keyed_written =
           let same : set ks p key ≡ ks = set_here ks p key (omega (arith, here, s.whole)) e in
           same_lookups _ _ (slots_ascend slots_written) (replaced-ascends key w _ (slots_ascend s)) (λ b.
@@ -266,11 +268,12 @@ module _ {X : Type 0} {ks : List ℕ} {os : List (Option X)} (s : IsSlots ks os)
           ∙ ap (λ l. child_at b (with_keys l (set os p (Some w)))) (sym same)
           ∙ slot_changed key (Some w) key (λ _. refl) b ks os p (omega (arith, here, s.whole)) here alone (λ _. e)
           ∙ ap (cond (eqb key b) (Some w)) (sym (child_at-ascending (with_keys ks os) b))
-          ∙ sym (child_at-replaced key w x (ascending (with_keys ks os)) (keyed_at key p x e f u) b))
+          ∙ sym (child_at-replaced key w x (sorted_entries (with_keys ks os)) (keyed_at key p x e f u) b))
 
 -- ---- with the count
 module _ {X : Type 0} {width : ℕ} {ks : List ℕ} {os : List (Option X)} {count : ℕ} (m : IsKeyed width ks os count) where
-  pub mapping_put : (key p : ℕ) (x : X) → p < width → is_used os p ≡ false → child_at key (ascending (with_keys ks os))
+  pub mapping_put : (key p : ℕ) (x : X) → p < width → is_used os p ≡ false → child_at key
+      (sorted_entries (with_keys ks os))
       ≡ None → IsKeyed width (set ks p key) (set os p (Some x)) (count + 1)
   mapping_put key p x h free absent =
       let h' : p < length os = omega (arith, h, m.full) in
@@ -279,13 +282,13 @@ module _ {X : Type 0} {width : ℕ} {ks : List ℕ} {os : List (Option X)} {coun
         narrow = m.narrow;
         slots = slots_put m.slots key p x h' free absent;
         counted = ap (λ n. n + 1) m.counted ∙ sym (ap length (numbered-put os p h' x)
-            ∙ length-with_entry p x (numbered 0 os) (numbered_child os p ∙ free_read os p free));
+            ∙ length-with_entry p x (numbered_values 0 os) (numbered_child os p ∙ free_read os p free));
         entries = ap (λ n. n + 1) m.entries ∙ sym (ap length (keyed_put m.slots key p x h' free absent)
             ∙ length-with_entry key x _ absent);
       }
 
   module _ (key p : ℕ) (x : X) (e : get_or ks p 0 ≡ key) (u : is_used os p ≡ true) (f : get_or os p None ≡ Some x) where
-    pub some_left : count ≡ length (ascending (with_keys (set ks p 255) (set os p None))) + 1
+    pub some_left : count ≡ length (sorted_entries (with_keys (set ks p 255) (set os p None))) + 1
     some_left = m.entries ∙ length-without_byte key x _ (keyed_at m.slots key p x e f u)
         ∙ ap (λ es. length es + 1) (sym (keyed_taken m.slots key p x e u f))
 
@@ -297,7 +300,7 @@ module _ {X : Type 0} {width : ℕ} {ks : List ℕ} {os : List (Option X)} {coun
       counted = omega (
         arith,
         m.counted,
-        length-without_byte p x (numbered 0 os) (numbered_child os p ∙ f),
+        length-without_byte p x (numbered_values 0 os) (numbered_child os p ∙ f),
         ap length
             (numbered-taken os p (used_place os p u)),
       );
@@ -310,7 +313,7 @@ module _ {X : Type 0} {width : ℕ} {ks : List ℕ} {os : List (Option X)} {coun
       narrow = m.narrow;
       slots = slots_written m.slots key p x e u f w;
       counted = m.counted ∙ sym (ap length (numbered-written os p (used_place os p u) x w f)
-          ∙ length-replaced p w (numbered 0 os));
+          ∙ length-replaced p w (numbered_values 0 os));
       entries = m.entries ∙ sym (ap length (keyed_written m.slots key p x e u f w) ∙ length-replaced key w _);
     }
 
@@ -318,7 +321,7 @@ module _ {X : Type 0} {width : ℕ} {ks : List ℕ} {os : List (Option X)} {coun
   place_left h none = omega (arith, h, m.counted, m.full, all_used 0 os (λ q l. none q (omega (arith, l, m.full))))
 
 pub keyed_few : {X : Type 0} {width : ℕ} {ks : List ℕ} {os : List (Option X)} {count : ℕ} → IsKeyed width ks os count
-    → length (ascending (with_keys ks os)) ≤ width
+    → length (sorted_entries (with_keys ks os)) ≤ width
 keyed_few {X = X} {width = width} {ks = ks} {os = os} m
     = omega (arith, m.entries, m.counted, m.full, length-numbered 0 os)
 
@@ -328,8 +331,8 @@ no_keys [] n = refl
 no_keys (k ∷ ks) zero = refl
 no_keys (k ∷ ks) (suc n) = no_keys ks n
 
-pub keyed_empty : (X : Type 0) (ks : List ℕ) (n : ℕ) → ascending (with_keys {X = X} ks (replicate n None)) ≡ []
-keyed_empty X ks n = ap ascending (no_keys {X = X} ks n)
+pub keyed_empty : (X : Type 0) (ks : List ℕ) (n : ℕ) → sorted_entries (with_keys {X = X} ks (replicate n None)) ≡ []
+keyed_empty X ks n = ap sorted_entries (no_keys {X = X} ks n)
 
 repeated : (n i k : ℕ) → i < n → get_or (replicate n k) i 0 ≡ k
 repeated zero i k h = absurd (omega arith)
@@ -352,6 +355,6 @@ keyed_start X width narrow = record {
 
 -- ---- a mapping with no used slot
 pub keyed_unused : {X : Type 0} {width : ℕ} {ks : List ℕ} {os : List (Option X)} {count : ℕ} → IsKeyed width ks os count
-    → ((q : ℕ) → q < width → is_used os q ≡ false) → ascending (with_keys ks os) ≡ []
+    → ((q : ℕ) → q < width → is_used os q ≡ false) → sorted_entries (with_keys ks os) ≡ []
 keyed_unused {X = X} {width = width} {ks = ks} {os = os} m none
-    = ap (λ l. ascending (with_keys ks l)) (all_free os width m.full none) ∙ keyed_empty X ks width
+    = ap (λ l. sorted_entries (with_keys ks l)) (all_free os width m.full none) ∙ keyed_empty X ks width

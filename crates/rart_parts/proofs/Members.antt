@@ -79,19 +79,21 @@ members_from-first has less from zero p low high here before e = absurd (omega a
 members_from-first has less from (suc count) p low high here before e = ⊎_elim
     (λ t.
     let at : has from ≡ true = ap has t.1 ∙ here in
-    let gone : less from ≡ false = e from (omega arith) ∙ ap (λ b. not b && has from) t.0 in
+    let removed : less from ≡ false = e from (omega arith) ∙ ap (λ b. not b && has from) t.0 in
     let same = members_from-same has less (suc from) count
     (λ k l h. sym (e k (omega arith) ∙ ap (λ b. not b && has k) (ne_eqb k p (λ q. omega (arith, q, t.1))))) in
     ap (λ b. cond b (from ∷ members_from has (suc from) count) (members_from has (suc from) count)) at
     ∙ (λ i. t.1 i ∷ same i)
-    ∙ ap (λ b. p ∷ cond b (from ∷ members_from less (suc from) count) (members_from less (suc from) count)) (sym gone))
+    ∙ ap (λ b. p ∷ cond b (from ∷ members_from less (suc from) count) (members_from less (suc from) count))
+    (sym removed))
     (λ t.
     let past : has from ≡ false = before from (omega (arith, t.1)) in
-    let gone : less from ≡ false = e from (omega arith) ∙ ap (λ b. not b && has from) t.0 ∙ past in
+    let removed : less from ≡ false = e from (omega arith) ∙ ap (λ b. not b && has from) t.0 ∙ past in
     ap (λ b. cond b (from ∷ members_from has (suc from) count) (members_from has (suc from) count)) past
     ∙ members_from-first has less (suc from) count p (omega (arith, t.1)) (omega arith) here before
     (λ k h. e k (omega arith))
-    ∙ ap (λ b. p ∷ cond b (from ∷ members_from less (suc from) count) (members_from less (suc from) count)) (sym gone))
+    ∙ ap (λ b. p ∷ cond b (from ∷ members_from less (suc from) count) (members_from less (suc from) count))
+    (sym removed))
     (eqb_tells from p)
 
 -- ---- below a capacity

@@ -3,7 +3,8 @@ use Rattle.std.proofs.Common.{◌≡◌, ◌≢◌, ℕ, zero, suc, ◌<◌, ◌
 use Rattle.std.proofs.Common.{set, sym, ap, ◌∙◌, refl, arith}
 use Rattle.std.specs.Prelude.{insert, remove}
 use Rattle.std.specs.List.{zip}
-use Rattle.rart_parts.specs.Entries.{child_at, with_entry, without_byte, replaced, set_child, StartsAbove, BytesAscend}
+use Rattle.rart_parts.specs.Entries.{child_at, with_entry, without_byte}
+use Rattle.rart_parts.specs.Entries.{replaced_at, set_child, StartsAbove, BytesAscend}
 use Rattle.rart_parts.specs.Keys.{IsAscendingBelow}
 use Rattle.rart_parts.proofs.EntryLemmas.{at_same, at_other, with_before, with_after, without_same, without_other}
 use Rattle.rart_parts.proofs.EntryLemmas.{replaced_same, replaced_other, first_absent}
@@ -52,7 +53,7 @@ module _ {X : Type 0} (k : ℕ) where
 
   pub replaced_found : (ks : List ℕ) (vs : List X) (i : ℕ) (w : X) → length vs ≤ length ks → i < length vs
       → get_or ks i 0 ≡ k → ((j : ℕ) → j < i → get_or ks j 0 ≡ k → ⊥)
-      → set_child i w (zip ks vs) ≡ replaced k w (zip ks vs)
+      → set_child i w (zip ks vs) ≡ replaced_at k w (zip ks vs)
   replaced_found [] [] i w e lt at none = absurd (omega arith)
   replaced_found [] (x ∷ vs) i w e lt at none = absurd (omega arith)
   replaced_found (y ∷ ks) [] i w e lt at none = absurd (omega arith)

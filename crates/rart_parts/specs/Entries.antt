@@ -24,9 +24,9 @@ TakesEntry old new taken = MatchOption taken ((old ≡ []) × (new ≡ [])) (λ 
     × (new ≡ without_byte e.0 old))
 
 -- with another child at a byte that has one
-abbrev pub replaced : {X : Type 0} → ℕ → X → List (ℕ × X) → List (ℕ × X)
-replaced k x [] = []
-replaced k x (e ∷ es) = if e.0 == k then (k, x) ∷ es else e ∷ replaced k x es
+abbrev pub replaced_at : {X : Type 0} → ℕ → X → List (ℕ × X) → List (ℕ × X)
+replaced_at k x [] = []
+replaced_at k x (e ∷ es) = if e.0 == k then (k, x) ∷ es else e ∷ replaced_at k x es
 
 -- those whose byte is above k, in their order
 abbrev pub entries_above : {X : Type 0} → ℕ → List (ℕ × X) → List (ℕ × X)
@@ -39,9 +39,9 @@ with_another k x [] = (k, x) ∷ []
 with_another k x (e ∷ es) = if nat_lt e.0 k then e ∷ with_another k x es else (k, x) ∷ e ∷ es
 
 -- in the order of the bytes; entries at one byte stay in their order
-abbrev pub ascending : {X : Type 0} → List (ℕ × X) → List (ℕ × X)
-ascending [] = []
-ascending (e ∷ es) = with_another e.0 e.1 (ascending es)
+abbrev pub sorted_entries : {X : Type 0} → List (ℕ × X) → List (ℕ × X)
+sorted_entries [] = []
+sorted_entries (e ∷ es) = with_another e.0 e.1 (sorted_entries es)
 
 -- the first byte, if there is one, is above k
 abbrev pub StartsAbove : {X : Type 0} → ℕ → List (ℕ × X) → Type 0

@@ -1,8 +1,8 @@
 -- Children in slots, and an index from bytes to slots.
 use Rattle.std.specs.Prelude.{◌≡◌, ℕ, suc, ◌≤◌, Bool, true, false, ◌==◌, List, [], ◌∷◌, length, Option, Some, None}
 use Rattle.std.specs.Prelude.{slice_index_or, if◌then◌else◌}
-use Rattle.rart_parts.specs.Entries.{ascending}
-use Rattle.rart_parts.specs.Places.{is_used, numbered}
+use Rattle.rart_parts.specs.Entries.{sorted_entries}
+use Rattle.rart_parts.specs.Places.{is_used, numbered_values}
 
 -- whether an entry of the index is slot p
 abbrev pub names : Option ℕ → ℕ → Bool
@@ -37,5 +37,5 @@ pub record IsIndexed {X : Type 0} (width : ℕ) (at : List (Option ℕ)) (os : L
   pub full : length os ≡ width
   pub narrow : width ≤ 255
   pub index : IsIndex at os
-  pub counted : count ≡ length (numbered 0 os)
-  pub entries : count ≡ length (ascending (with_bytes at 0 os))
+  pub counted : count ≡ length (numbered_values 0 os)
+  pub entries : count ≡ length (sorted_entries (with_bytes at 0 os))

@@ -1,7 +1,7 @@
 -- Keys in slots, in no order, beside children.
 use Rattle.std.specs.Prelude.{◌≡◌, ℕ, ◌<◌, ◌≤◌, true, false, List, [], ◌∷◌, length, Option, Some, None, slice_index}
-use Rattle.rart_parts.specs.Entries.{ascending}
-use Rattle.rart_parts.specs.Places.{is_used, numbered}
+use Rattle.rart_parts.specs.Entries.{sorted_entries}
+use Rattle.rart_parts.specs.Places.{is_used, numbered_values}
 
 -- the children with their keys, in the order of their slots
 abbrev pub with_keys : {X : Type 0} → List ℕ → List (Option X) → List (ℕ × X)
@@ -21,5 +21,5 @@ pub record IsKeyed {X : Type 0} (width : ℕ) (keys : List ℕ) (os : List (Opti
   pub full : length os ≡ width
   pub narrow : width ≤ 255
   pub slots : IsSlots keys os
-  pub counted : count ≡ length (numbered 0 os)
-  pub entries : count ≡ length (ascending (with_keys keys os))
+  pub counted : count ≡ length (numbered_values 0 os)
+  pub entries : count ≡ length (sorted_entries (with_keys keys os))

@@ -20,10 +20,10 @@ values_in (None ∷ os) = values_in os
 values_in (Some x ∷ os) = x ∷ values_in os
 
 -- the values with the numbers of their places, the first place being number n
-abbrev pub numbered : {X : Type 0} → ℕ → List (Option X) → List (ℕ × X)
-numbered n [] = []
-numbered n (None ∷ os) = numbered (suc n) os
-numbered n (Some x ∷ os) = (n, x) ∷ numbered (suc n) os
+abbrev pub numbered_values : {X : Type 0} → ℕ → List (Option X) → List (ℕ × X)
+numbered_values n [] = []
+numbered_values n (None ∷ os) = numbered_values (suc n) os
+numbered_values n (Some x ∷ os) = (n, x) ∷ numbered_values (suc n) os
 
 -- the answer is the value at the greatest used place
 abbrev pub GivesLast : {X : Type 0} → ℕ → List (Option X) → Option X → Type 0

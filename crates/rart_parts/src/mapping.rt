@@ -9,7 +9,7 @@ pub mod sorted_keyed_mapping;
 ghost use Rattle.std.specs.Prelude.{◌≡◌, ℕ, ◌<◌, ◌≤◌, List, length, OnSome, None};
 ghost use Rattle.std.specs.Borrow.{sem, LendsSo};
 ghost use Rattle.std.specs.Option.{option_copied, option_copied_mut};
-ghost use Rattle.rart_parts.specs.Entries.{BytesAscend, child_at, with_entry, without_byte, replaced};
+ghost use Rattle.rart_parts.specs.Entries.{BytesAscend, child_at, with_entry, without_byte, replaced_at};
 
 pub use direct_mapping::{DirectMapping, DirectMappingIntoIter, DirectMappingIter};
 pub use indexed_mapping::{IndexedMapping, IndexedMappingIntoIter, IndexedMappingIter};
@@ -35,7 +35,7 @@ pub trait NodeMapping<N, const NUM_CHILDREN: usize> {
     /// Returns a mutable borrow of the child at a byte.
     fn seek_child_mut(&mut self, key: u8) -> Option<&mut N>
         ensures* writes_back { sem 𝓛 (LendsSo Self.row N.row self.entry result
-            (λ n w. OnSome result (map n ≡ replaced key w (map self.old)))
+            (λ n w. OnSome result (map n ≡ replaced_at key w (map self.old)))
             (λ n. map n ≡ map self.old)) }
         ensures value { option_copied_mut result ≡ child_at key (map self.old) };
 

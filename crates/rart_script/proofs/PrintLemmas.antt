@@ -7,7 +7,7 @@ use Rattle.rart_nodes.specs.stats.Stats.{Statistics}
 use Rattle.rart_nodes.specs.declared.stats.NodeStats.{NodeStats}
 use Rattle.rart_script.specs.Answers.{pair_word, pairs_line}
 use Rattle.rart_script.specs.Stats.{width_word, sums_text, stats_line}
-use Rattle.rart_lines.proofs.PrintLemmas.{HasPrinted, print-begins, print-goes_on, print-ends}
+use Rattle.rart_lines.proofs.PrintLemmas.{HasPrinted, print-begins, print-continues, print-ends}
 
 -- further pairs, each after a space, and the newline
 abbrev pub further_pairs : List (List ℕ × ℕ) → List ℕ
@@ -35,8 +35,8 @@ pub pairs-go_on : (a b c d : Option (List ℕ)) (key bytes : List ℕ) (value : 
 pairs-go_on a b c d key bytes value left rest whole is here h space more =
     let before : HasPrinted a b (32 ∷ pair_word (key, value) ++ further_pairs rest) whole
     = subst (λ l. HasPrinted a b (further_pairs l) whole) (is ∙ ap (λ k. (k, value) ∷ rest) (sym here)) h in
-    print-goes_on a c d (pair_word (key, value)) (further_pairs rest) whole
-    (print-goes_on a b c (32 ∷ []) _ whole before space) more
+    print-continues a c d (pair_word (key, value)) (further_pairs rest) whole
+    (print-continues a b c (32 ∷ []) _ whole before space) more
 
 -- the newline is printed
 pub pairs-end : (a b c : Option (List ℕ)) (left : List (List ℕ × ℕ)) (whole : List ℕ) → left ≡ []
@@ -61,7 +61,7 @@ pub widths-go_on : (a b c : Option (List ℕ)) (width : ℕ × NodeStats) (left 
 widths-go_on a b c width left rest whole is h more =
     let whole_left : further_widths left ≡ width_word width ++ further_widths rest
     = rw is (append_assoc (width_word width) (concat (map width_word rest)) (10 ∷ [])) in
-    print-goes_on a b c (width_word width) (further_widths rest) whole
+    print-continues a b c (width_word width) (further_widths rest) whole
     (subst (λ l. HasPrinted a b l whole) whole_left h) more
 
 -- the newline is printed

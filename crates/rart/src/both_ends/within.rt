@@ -172,7 +172,7 @@ impl<'a, K: KeyTrait + Drop, V> DoubleEndedIterator for BothEndsWithin<'a, K, V>
 impl<'a, K: KeyTrait + Drop, V> FusedIterator for BothEndsWithin<'a, K, V> {}
 
 // Returns the bound at the same key.
-fn copied<K: KeyTrait>(bound: &Bound<K>) -> Bound<K>
+fn copied_bound<K: KeyTrait>(bound: &Bound<K>) -> Bound<K>
     ensures { bound_in K.bytes result ≡ bound_in K.bytes bound.now }
 {
     match bound {
@@ -224,7 +224,7 @@ impl<K: KeyTrait + Drop, V> AdaptiveRadixTree<K, V> {
         ensures memory { IfErr result (MayLackMemory self.now.pairs) }
     {
         self.canonical();
-        let back = self.range_descending(copied(&start), copied(&end))?;
+        let back = self.range_descending(copied_bound(&start), copied_bound(&end))?;
         let front = self.range(start, end)?;
         Ok(BothEndsWithin::of(
             front,

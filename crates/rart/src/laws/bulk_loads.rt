@@ -58,11 +58,11 @@ pub fn bulk_load_equals_insertion<K: KeyTrait + Drop, V: Drop>(
         (RefusesStep (pairs_in K.bytes sorted.items) (pairs_in K.bytes shuffled.items)) }
 {
     put_in_any_order::<V>();
-    let loaded = match loaded(alloc, sorted) {
+    let loaded = match loaded_tree(alloc, sorted) {
         Ok(tree) => tree,
         Err(error) => return Err(RefusedStep::Load(error)),
     };
-    let inserted = match inserted(alloc, shuffled) {
+    let inserted = match inserted_tree(alloc, shuffled) {
         Ok(tree) => tree,
         Err(error) => return Err(RefusedStep::Insertion(error)),
     };
@@ -74,7 +74,7 @@ pub fn bulk_load_equals_insertion<K: KeyTrait + Drop, V: Drop>(
 }
 
 // Builds the tree of a bulk load of pairs that ascend strictly.
-fn loaded<K: KeyTrait + Drop, V: Drop>(
+fn loaded_tree<K: KeyTrait + Drop, V: Drop>(
     alloc: Global,
     sorted: Vec<(K, V)>,
 ) -> Result<AdaptiveRadixTree<K, V>, BulkError>
@@ -88,7 +88,7 @@ fn loaded<K: KeyTrait + Drop, V: Drop>(
 }
 
 // Builds the tree of the pairs, inserted one by one.
-fn inserted<K: KeyTrait + Drop, V: Drop>(
+fn inserted_tree<K: KeyTrait + Drop, V: Drop>(
     alloc: Global,
     pairs: Vec<(K, V)>,
 ) -> Result<AdaptiveRadixTree<K, V>, TreeError>

@@ -321,7 +321,7 @@ fn attempt<V: Clone, E, F: FnOnce(&mut Slot<V>) -> Result<SlotUpdate<V>, E> + Dr
     requires callable { FnOnceTakesAtMut F.FnOnce f slot.old }
     ensures { IsAttempt V.is_infallible F.FnOnce f slot.old result.0 result.1 slot.new }
 {
-    let Ok(copy) = saved(slot) else {
+    let Ok(copy) = saved_value(slot) else {
         return (SlotUpdate::Keep, CallbackOutcome::NotCloned);
     };
     match f(slot) {
@@ -333,9 +333,9 @@ fn attempt<V: Clone, E, F: FnOnce(&mut Slot<V>) -> Result<SlotUpdate<V>, E> + Dr
     }
 }
 
-fn saved<V: Clone>(slot: &Slot<V>) -> Result<Option<V>, AllocError>
+fn saved_value<V: Clone>(slot: &Slot<V>) -> Result<Option<V>, AllocError>
     requires clones { (x y : V) → V.is_clone x y → y ≡ x }
-    ensures saved { IfOk result (λ copy. slot_of copy ≡ slot.now) }
+    ensures value { IfOk result (λ copy. slot_of copy ≡ slot.now) }
     ensures occupied { OnErr result
         ((v : V) × (slot.now ≡ Occupied_slot v) × (V.is_infallible v → ⊥)) }
 {

@@ -108,7 +108,7 @@ impl Cidr4 {
     /// Returns the number of the network's bits.
     pub fn len(&self) -> u8
         ensures value { result ≡ length (bits4 self.now) }
-        ensures within { result ≤ 32 }
+        ensures most { result ≤ 32 }
     {
         self.len
     }

@@ -13,8 +13,8 @@ impl<K: KeyTrait, T> BitTable<K, T> {
     #[tactic(auto, using(crate::proofs::MatchLemmas::none_before))]
     pub fn next_match(&self, octets: &[u8], bits: usize, low: usize) -> Option<(usize, &T)>
         requires bits { bits ≤ 8 * length octets.now }
-        requires small { length octets.now < 1000 }
-        ensures within { IfSome result (λ p. p.0 ≤ bits) }
+        requires fits { length octets.now < 1000 }
+        ensures shorter { IfSome result (λ p. p.0 ≤ bits) }
         ensures value { IsNextMatch low (network octets.now bits) self.now
             (option_map (λ p. (p.0, p.1.now)) result) }
     {

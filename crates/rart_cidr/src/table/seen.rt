@@ -65,8 +65,8 @@ impl<'a, K: KeyTrait, T, C: Count> SeenTable<'a, K, T, C> {
         requires at { at ≤ bits / 8 }
         ensures value { IsLastStride self.now octets.now bits at
             (option_map (λ p. (p.0, option_map (λ q. (q.0, q.1.now)) p.1)) result) }
-        ensures nodes { C.number nodes.new ≤ C.number nodes.old + (at + 1) }
-        ensures strides { C.number strides.new ≤ C.number strides.old + 1 }
+        ensures node_visits { C.number nodes.new ≤ C.number nodes.old + (at + 1) }
+        ensures stride_visits { C.number strides.new ≤ C.number strides.old + 1 }
     {
         strides.add_one();
         self.table.last_stride(octets, bits, at, nodes)

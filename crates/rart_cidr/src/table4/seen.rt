@@ -50,8 +50,8 @@ impl<'a, T, C: Count> SeenTable4<'a, T, C> {
     ) -> Option<(Cidr4, &'a T)>
         ensures value { option_map (λ p. (bits4 p.0, p.1.now)) result
             ≡ longest_match (bits4 net.now) self.now }
-        ensures nodes { C.number nodes.new ≤ C.number nodes.old + 15 }
-        ensures strides { C.number strides.new ≤ C.number strides.old + 5 }
+        ensures node_visits { C.number nodes.new ≤ C.number nodes.old + 15 }
+        ensures stride_visits { C.number strides.new ≤ C.number strides.old + 5 }
     {
         let bits = usize::from(net.len());
         match self

@@ -50,8 +50,8 @@ impl<'a, T, C: Count> SeenTable6<'a, T, C> {
     ) -> Option<(Cidr6, &'a T)>
         ensures value { option_map (λ p. (bits6 p.0, p.1.now)) result
             ≡ longest_match (bits6 net.now) self.now }
-        ensures nodes { C.number nodes.new ≤ C.number nodes.old + 153 }
-        ensures strides { C.number strides.new ≤ C.number strides.old + 17 }
+        ensures node_visits { C.number nodes.new ≤ C.number nodes.old + 153 }
+        ensures stride_visits { C.number strides.new ≤ C.number strides.old + 17 }
     {
         let bits = usize::from(net.len());
         match self

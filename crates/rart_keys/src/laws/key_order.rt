@@ -31,7 +31,7 @@ pub fn compared_text_keys<const N: usize>(x: &str, y: &str) -> (ArrayKey<N>, Arr
     requires second_fits { length y.now ≤ N }
     ensures { AreComparedAs result x.now y.now (slice_cmp nat_cmp x.now y.now) }
 {
-    compared(ArrayKey::new_from_str(x), ArrayKey::new_from_str(y))
+    compared_keys(ArrayKey::new_from_str(x), ArrayKey::new_from_str(y))
 }
 
 /// Returns the terminated keys of two texts and their order, which is that of the texts. Both must fit in `N` bytes
@@ -45,7 +45,7 @@ pub fn compared_terminated_keys<const N: usize>(
     ensures { AreComparedAs result (x.now ++ 0 ∷ []) (y.now ++ 0 ∷ [])
         (slice_cmp nat_cmp x.now y.now) }
 {
-    compared(
+    compared_keys(
         ArrayKey::new_from_str_terminated(x),
         ArrayKey::new_from_str_terminated(y),
     )
@@ -62,7 +62,7 @@ pub fn compared_u8_keys<const N: usize>(x: u8, y: u8) -> (ArrayKey<N>, ArrayKey<
     requires { 1 ≤ N }
     ensures { AreComparedAs result (to_be_bytes w8 x) (to_be_bytes w8 y) (nat_cmp x y) }
 {
-    compared(ArrayKey::from_u8(x), ArrayKey::from_u8(y))
+    compared_keys(ArrayKey::from_u8(x), ArrayKey::from_u8(y))
 }
 
 /// Returns the keys of two `u16` and their order, which is that of the numbers. `N` must be at least 2.
@@ -70,7 +70,7 @@ pub fn compared_u16_keys<const N: usize>(x: u16, y: u16) -> (ArrayKey<N>, ArrayK
     requires { 2 ≤ N }
     ensures { AreComparedAs result (to_be_bytes w16 x) (to_be_bytes w16 y) (nat_cmp x y) }
 {
-    compared(ArrayKey::from_u16(x), ArrayKey::from_u16(y))
+    compared_keys(ArrayKey::from_u16(x), ArrayKey::from_u16(y))
 }
 
 /// Returns the keys of two `u32` and their order, which is that of the numbers. `N` must be at least 4.
@@ -78,7 +78,7 @@ pub fn compared_u32_keys<const N: usize>(x: u32, y: u32) -> (ArrayKey<N>, ArrayK
     requires { 4 ≤ N }
     ensures { AreComparedAs result (to_be_bytes w32 x) (to_be_bytes w32 y) (nat_cmp x y) }
 {
-    compared(ArrayKey::from_u32(x), ArrayKey::from_u32(y))
+    compared_keys(ArrayKey::from_u32(x), ArrayKey::from_u32(y))
 }
 
 /// Returns the keys of two `u64` and their order, which is that of the numbers. `N` must be at least 8.
@@ -86,7 +86,7 @@ pub fn compared_u64_keys<const N: usize>(x: u64, y: u64) -> (ArrayKey<N>, ArrayK
     requires { 8 ≤ N }
     ensures { AreComparedAs result (to_be_bytes w64 x) (to_be_bytes w64 y) (nat_cmp x y) }
 {
-    compared(ArrayKey::from_u64(x), ArrayKey::from_u64(y))
+    compared_keys(ArrayKey::from_u64(x), ArrayKey::from_u64(y))
 }
 
 /// Returns the keys of two `u128` and their order, which is that of the numbers. `N` must be at least 16.
@@ -94,7 +94,7 @@ pub fn compared_u128_keys<const N: usize>(x: u128, y: u128) -> (ArrayKey<N>, Arr
     requires { 16 ≤ N }
     ensures { AreComparedAs result (to_be_bytes w128 x) (to_be_bytes w128 y) (nat_cmp x y) }
 {
-    compared(ArrayKey::from_u128(x), ArrayKey::from_u128(y))
+    compared_keys(ArrayKey::from_u128(x), ArrayKey::from_u128(y))
 }
 
 /// Returns the keys of two `usize` and their order, which is that of the numbers. `N` must be at least 8.
@@ -105,7 +105,7 @@ pub fn compared_usize_keys<const N: usize>(
     requires { 8 ≤ N }
     ensures { AreComparedAs result (to_be_bytes w64 x) (to_be_bytes w64 y) (nat_cmp x y) }
 {
-    compared(ArrayKey::from_usize(x), ArrayKey::from_usize(y))
+    compared_keys(ArrayKey::from_usize(x), ArrayKey::from_usize(y))
 }
 
 /// Returns the keys of two `i8` and their order, which is that of the numbers. `N` must be at least 1.
@@ -114,7 +114,7 @@ pub fn compared_i8_keys<const N: usize>(x: i8, y: i8) -> (ArrayKey<N>, ArrayKey<
     ensures { AreComparedAs result (to_be_bytes w8 (sign_flipped w8 x))
         (to_be_bytes w8 (sign_flipped w8 y)) (int_cmp x y) }
 {
-    compared(ArrayKey::from_i8(x), ArrayKey::from_i8(y))
+    compared_keys(ArrayKey::from_i8(x), ArrayKey::from_i8(y))
 }
 
 /// Returns the keys of two `i16` and their order, which is that of the numbers. `N` must be at least 2.
@@ -123,7 +123,7 @@ pub fn compared_i16_keys<const N: usize>(x: i16, y: i16) -> (ArrayKey<N>, ArrayK
     ensures { AreComparedAs result (to_be_bytes w16 (sign_flipped w16 x))
         (to_be_bytes w16 (sign_flipped w16 y)) (int_cmp x y) }
 {
-    compared(ArrayKey::from_i16(x), ArrayKey::from_i16(y))
+    compared_keys(ArrayKey::from_i16(x), ArrayKey::from_i16(y))
 }
 
 /// Returns the keys of two `i32` and their order, which is that of the numbers. `N` must be at least 4.
@@ -132,7 +132,7 @@ pub fn compared_i32_keys<const N: usize>(x: i32, y: i32) -> (ArrayKey<N>, ArrayK
     ensures { AreComparedAs result (to_be_bytes w32 (sign_flipped w32 x))
         (to_be_bytes w32 (sign_flipped w32 y)) (int_cmp x y) }
 {
-    compared(ArrayKey::from_i32(x), ArrayKey::from_i32(y))
+    compared_keys(ArrayKey::from_i32(x), ArrayKey::from_i32(y))
 }
 
 /// Returns the keys of two `i64` and their order, which is that of the numbers. `N` must be at least 8.
@@ -141,7 +141,7 @@ pub fn compared_i64_keys<const N: usize>(x: i64, y: i64) -> (ArrayKey<N>, ArrayK
     ensures { AreComparedAs result (to_be_bytes w64 (sign_flipped w64 x))
         (to_be_bytes w64 (sign_flipped w64 y)) (int_cmp x y) }
 {
-    compared(ArrayKey::from_i64(x), ArrayKey::from_i64(y))
+    compared_keys(ArrayKey::from_i64(x), ArrayKey::from_i64(y))
 }
 
 /// Returns the keys of two `i128` and their order, which is that of the numbers. `N` must be at least 16.
@@ -150,7 +150,7 @@ pub fn compared_i128_keys<const N: usize>(x: i128, y: i128) -> (ArrayKey<N>, Arr
     ensures { AreComparedAs result (to_be_bytes w128 (sign_flipped w128 x))
         (to_be_bytes w128 (sign_flipped w128 y)) (int_cmp x y) }
 {
-    compared(ArrayKey::from_i128(x), ArrayKey::from_i128(y))
+    compared_keys(ArrayKey::from_i128(x), ArrayKey::from_i128(y))
 }
 
 /// Returns the keys of two `isize` and their order, which is that of the numbers. `N` must be at least 8.
@@ -162,7 +162,7 @@ pub fn compared_isize_keys<const N: usize>(
     ensures { AreComparedAs result (to_be_bytes w64 (sign_flipped w64 x))
         (to_be_bytes w64 (sign_flipped w64 y)) (int_cmp x y) }
 {
-    compared(ArrayKey::from_isize(x), ArrayKey::from_isize(y))
+    compared_keys(ArrayKey::from_isize(x), ArrayKey::from_isize(y))
 }
 
 /// Returns the key of a number, and the number read back from the key. `N` must be at least 8.
@@ -178,7 +178,7 @@ pub fn key_and_number_again<const N: usize>(x: u64) -> (ArrayKey<N>, u64)
 }
 
 // The keys, and how they compare.
-fn compared<const N: usize>(
+fn compared_keys<const N: usize>(
     first: ArrayKey<N>,
     second: ArrayKey<N>,
 ) -> (ArrayKey<N>, ArrayKey<N>, Ordering)

@@ -75,8 +75,8 @@ module _ {V : Type 0} where
   starts-prefix b (node [] None n no_children) w h = ⊎_elim (λ k. absurd (cc)) (λ k. absurd k) w.0
   starts-prefix b (node [] None n (child c t no_children)) w h = ⊎_elim (λ k. absurd (cc)) (λ k. absurd k) w.0
   starts-prefix b (node [] None n (child c t (child d u cs))) w h =
-      let bare = subst (AllFirst b) (prefix-none (pairs_of t ++ (pairs_of u ++ children_pairs cs))) h in
-      let one = all_first-parts b (pairs_of t) (pairs_of u ++ children_pairs cs) bare in
+      let childless = subst (AllFirst b) (prefix-none (pairs_of t ++ (pairs_of u ++ children_pairs cs))) h in
+      let one = all_first-parts b (pairs_of t) (pairs_of u ++ children_pairs cs) childless in
       let two = all_first-parts b (pairs_of u) (children_pairs cs) one.1 in
       let e = same-first b c (pairs_of t) (some-pairs t w.2.2) one.0 (pairs_of-first c t w.2.1) in
       let f = same-first b d (pairs_of u) (some-pairs u w.2.3.2) two.0 (pairs_of-first d u w.2.3.1) in

@@ -150,10 +150,10 @@ pub own-none : (own a b : ℕ) → own ≡ cond (eqb a b) 1 0 → (own ≡ 1 →
 own-none own a b e o h = (grind (arith, nat_tests), grind (arith, nat_tests))
 
 -- the keys without the one that ends continue
-pub rest-goes_on : (m : Option ℕ) (d n : ℕ) (p : List ℕ) (keys : List (Bor (List ℕ))) (a own : ℕ)
+pub rest-continues : (m : Option ℕ) (d n : ℕ) (p : List ℕ) (keys : List (Bor (List ℕ))) (a own : ℕ)
     (rest : List (Bor (List ℕ))) → Opening m d n p keys (a - (d + n)) → d + n ≤ a → own ≡ cond (eqb a (d + n)) 1 0
     → rest ≡ drop own keys → GoOn (rests (d + n) rest)
-rest-goes_on m d n p keys a own rest h within e er = ⊎_elim
+rest-continues m d n p keys a own rest h within e er = ⊎_elim
     (λ o. let q : rest ≡ drop 1 keys = er ∙ ap (λ z. drop z keys) o in rw q (h.here (own-one own a (d + n) e o)).1)
     (λ o. let z = own-none own a (d + n) e o within in let q : rest ≡ keys = er ∙ ap (λ m. drop m keys) z.0 in
     rw q (h.on z.1).0) (equal_or_not own 1)

@@ -8,7 +8,7 @@ use Rattle.std.proofs.lemmas.Bool.Decides.{nat_tests}
 use Rattle.rart_keys.specs.ByteStrings.{strip_prefix}
 use Rattle.rart_keys.specs.KeyBytes.{IsWithin}
 use Rattle.rart_keys.proofs.ByteOrder.{eq-yes, eq-no, equal_or_not}
-use Rattle.rart_parts.specs.Entries.{child_at, with_entry, replaced}
+use Rattle.rart_parts.specs.Entries.{child_at, with_entry, replaced_at}
 use Rattle.rart_nodes.specs.storages.Capacities.{widened_capacity}
 use Rattle.rart_nodes.specs.shapes.Shape.{capacity_of}
 use Rattle.rart_nodes.specs.tries.Trie.{Trie, node, Children, edges_of, IsCanonical, trie_lookup, trie_put, put_child}
@@ -85,28 +85,29 @@ module _ {V : Type 0} where
       ∙ descend-absent records b rest es at
 
   -- a child that is put back as it was
-  pub replaced-same : (b : ℕ) (t : Trie V) (es : List (ℕ × Trie V)) → Some t ≡ child_at b es → replaced b t es ≡ es
+  pub replaced-same : (b : ℕ) (t : Trie V) (es : List (ℕ × Trie V)) → Some t ≡ child_at b es → replaced_at b t es ≡ es
   replaced-same b t [] s = refl
   replaced-same b t (e ∷ es) s = ⊎_elim
       (λ q. let f : t ≡ e.1 = cc (rw (eq-yes e.0 b q) at s) in rw (eq-yes e.0 b q, sym q, f) refl)
       (λ n. rw (eq-no e.0 b n) (ap (λ l. e ∷ l) (replaced-same b t es (rw (eq-no e.0 b n) at s)))) (equal_or_not e.0 b)
 
   pub child-put_back : (p : List ℕ) (old : Option V) (w w' b : ℕ) (t t' : Trie V) (es es' : List (ℕ × Trie V))
-      → Some t ≡ child_at b es → t' ≡ t → w' ≡ w → es' ≡ replaced b t' es
+      → Some t ≡ child_at b es → t' ≡ t → w' ≡ w → es' ≡ replaced_at b t' es
       → node p old w' (as_children es') ≡ node p old w (as_children es)
   child-put_back p old w w' b t t' es es' at et ew ee = ap (λ z. node p old z (as_children es')) ew
-      ∙ ap (λ l. node p old w (as_children l)) (ee ∙ ap (λ z. replaced b z es) et ∙ replaced-same b t es at)
+      ∙ ap (λ l. node p old w (as_children l)) (ee ∙ ap (λ z. replaced_at b z es) et ∙ replaced-same b t es at)
 
 module _ {V : Type 0} {p k r : List ℕ} {v : Option V} {w b : ℕ} {t : Trie V} {es : List (ℕ × Trie V)}
     (f : Follows p k r v w b t es) where
   -- an insertion below a child
   pub put-below : (x : V) (w' : ℕ) (t' : Trie V) (es' : List (ℕ × Trie V)) → t' ≡ trie_put r x t → w' ≡ w
-      → es' ≡ replaced b t' es → node p v w' (as_children es') ≡ trie_put k x (node p v w (as_children es))
+      → es' ≡ replaced_at b t' es → node p v w' (as_children es') ≡ trie_put k x (node p v w (as_children es))
   put-below x w' t' es' et ew ee =
       let capacity : w' ≡ capacity_of (length (edges_of (as_children es')))
       = ew ∙ same-capacity w es es' f.canonical.1 (ap length ee ∙ replaced-length b t' es) in
       let below : as_children es' ≡ put_child b r x (as_children es)
-      = ap as_children (ee ∙ ap (λ z. replaced b z es) et) ∙ sym (put_child-found b 0 r x t es f.canonical.2 f.there) in
+      = ap as_children (ee ∙ ap (λ z. replaced_at b z es) et) ∙ sym
+      (put_child-found b 0 r x t es f.canonical.2 f.there) in
       ap (λ z. node p v z (as_children es')) capacity ∙ ap (fitting_node p v) below
       ∙ sym (trie_put-followed p k r b x v w (as_children es) f.left f.first)
 

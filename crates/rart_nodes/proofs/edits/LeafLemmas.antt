@@ -31,15 +31,15 @@ module _ {V : Type 0} where
   leaf_at-rest p k r v w (x ∷ es) l e = absurd (omega arith)
 
   -- it is removed, and its value is the answer
-  gone : (o : Option (List ℕ)) (p : List ℕ) (v : Option V) (f : ℕ → List ℕ → Children V) → is_end o ≡ true
+  removed : (o : Option (List ℕ)) (p : List ℕ) (v : Option V) (f : ℕ → List ℕ → Children V) → is_end o ≡ true
       → None ≡ removed_after o p v no_children f
-  gone None p v f h = absurd (cc)
-  gone (Some []) p v f h = refl
-  gone (Some (b ∷ k)) p v f h = absurd (cc)
+  removed None p v f h = absurd (cc)
+  removed (Some []) p v f h = refl
+  removed (Some (b ∷ k)) p v f h = absurd (cc)
 
-  pub leaf-gone : (k : List ℕ) (t : Trie V) → is_leaf_at k t ≡ true → None ≡ trie_remove k t
-  leaf-gone k (node p v w no_children) h = gone (strip_prefix p k) p v (λ b r. remove_child b r no_children) h
-  leaf-gone k (node p v w (child b t cs)) h = absurd (cc)
+  pub leaf-removed : (k : List ℕ) (t : Trie V) → is_leaf_at k t ≡ true → None ≡ trie_remove k t
+  leaf-removed k (node p v w no_children) h = removed (strip_prefix p k) p v (λ b r. remove_child b r no_children) h
+  leaf-removed k (node p v w (child b t cs)) h = absurd (cc)
 
   pub leaf-edges : (k : List ℕ) (t : Trie V) → is_leaf_at k t ≡ true → edges_of (children_in t) ≡ []
   leaf-edges k (node p v w no_children) h = refl

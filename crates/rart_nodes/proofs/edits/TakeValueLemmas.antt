@@ -5,7 +5,7 @@ use Rattle.std.specs.Prelude.{slice_get}
 use Rattle.std.proofs.lemmas.List.{append-nil, append_assoc}
 use Rattle.rart_keys.specs.SortedMap.{values_of}
 use Rattle.rart_keys.proofs.ByteOrder.{eq-yes, eq-no}
-use Rattle.rart_parts.specs.Entries.{child_at, entries_above, replaced}
+use Rattle.rart_parts.specs.Entries.{child_at, entries_above, replaced_at}
 use Rattle.rart_nodes.specs.tries.PrefixLaws.{values-append, values-with_prefix}
 use Rattle.rart_nodes.specs.tries.Trie.{Children, Trie, node, pairs_of, children_pairs, own_pair, AreCanonical}
 use Rattle.rart_nodes.specs.tries.Trie.{IsCanonical}
@@ -34,7 +34,7 @@ module _ {V : Type 0} where
       (ordered-at b (suc x.0) u xs ys w.1)
 
   ordered-replaced : (b low : ℕ) (u w : Trie V) (xs ys : List (ℕ × Trie V)) → AreOrdered low (xs ++ (b, u) ∷ ys)
-      → replaced b w (xs ++ (b, u) ∷ ys) ≡ xs ++ (b, w) ∷ ys
+      → replaced_at b w (xs ++ (b, u) ∷ ys) ≡ xs ++ (b, w) ∷ ys
   ordered-replaced b low u w [] ys c = rw (eq-yes b b refl) refl
   ordered-replaced b low u w (x ∷ xs) ys c = rw (eq-no x.0 b (λ q. omega (
     arith,
@@ -184,13 +184,13 @@ module _ {V : Type 0} where
   -- after it
   pub taking-step : (t0 : Trie V) (first taken more : List V) (b : ℕ) (es ds : List (ℕ × Trie V)) (u x : Trie V)
       (next : Option ℕ) → Taking t0 first taken es (Some b) → Some u ≡ child_at b es
-      → more ≡ taken ++ values_of (pairs_of u) → ds ≡ replaced b x es
+      → more ≡ taken ++ values_of (pairs_of u) → ds ≡ replaced_at b x es
       → next ≡ option_map (λ e. e.0) (slice_get (entries_above b ds) 0)
       → Taking t0 first more ds next × (ahead_count next ds < ahead_count (Some b) es)
   taking-step t0 first taken more b es ds u x next i s m d a =
       let k = next-child t0 first taken b es u i s in
       let all : AreOrdered 0 (k.left ++ (b, u) ∷ k.rest) = rw k.all at i.ordered in
-      let changed : ds ≡ k.left ++ (b, x) ∷ k.rest = d ∙ ap (replaced b x) k.all
+      let changed : ds ≡ k.left ++ (b, x) ∷ k.rest = d ∙ ap (replaced_at b x) k.all
       ∙ ordered-replaced b 0 u x k.left k.rest all in
       let ordered : AreOrdered 0 (k.left ++ (b, x) ∷ k.rest) = ordered-with b 0 u x k.left k.rest all in
       let above : entries_above b ds ≡ k.rest = ap (entries_above b) changed

@@ -5,7 +5,7 @@ use Rattle.std.specs.Option.{unwrap_or}
 use Rattle.std.specs.Prelude.{slice_get}
 use Rattle.rart_keys.specs.ByteStrings.{strip_prefix}
 use Rattle.rart_keys.proofs.ByteOrder.{eq-yes, eq-no, equal_or_not}
-use Rattle.rart_parts.specs.Entries.{child_at, replaced}
+use Rattle.rart_parts.specs.Entries.{child_at, replaced_at}
 use Rattle.rart_parts.specs.declared.error.TreeError.{TreeError}
 use Rattle.rart_parts.specs.declared.error.TreeError.TheVariants.{Memory, Full}
 use Rattle.rart_nodes.specs.declared.slot.Outcome.{Outcome}
@@ -23,7 +23,7 @@ use Rattle.rart_nodes.specs.edits.TreeUpdates.{PutAllocates, EndsHere, EndsLeaf,
 use Rattle.rart_nodes.specs.edits.TreeUpdates.{node_holding, tree_left}
 use Rattle.rart_nodes.proofs.storages.ChildLemmas.{edges_of-length, replaced-length, some-equal}
 use Rattle.rart_nodes.proofs.edits.InsertLemmas.{put-below, child-put_back, record-child}
-use Rattle.rart_nodes.proofs.edits.LeafLemmas.{leaf-edges, leaf-gone}
+use Rattle.rart_nodes.proofs.edits.LeafLemmas.{leaf-edges, leaf-removed}
 use Rattle.rart_nodes.proofs.edits.PutAllocationLemmas.{put_allocation-below}
 use Rattle.rart_nodes.proofs.removals.RemoveAllocationSteps.{remove_allocation-below, remove_allocation-leaf}
 use Rattle.rart_nodes.proofs.removals.RemoveSteps.{removed-below, removed-leaf, value-removed}
@@ -131,7 +131,7 @@ module _ {V : Type 0} where
 
   -- in a child
   found-replaced : (b : ℕ) (t t' : Trie V) (es : List (ℕ × Trie V)) → Some t ≡ child_at b es
-      → child_at b (replaced b t' es) ≡ Some t'
+      → child_at b (replaced_at b t' es) ≡ Some t'
   found-replaced b t t' [] at = absurd (cc)
   found-replaced b t t' (e ∷ es) at = ⊎_elim
       (λ q. rw (eq-yes e.0 b q, eq-yes b b refl) refl)
@@ -139,7 +139,7 @@ module _ {V : Type 0} where
       (equal_or_not e.0 b)
 
   without-replaced : (b : ℕ) (t' : Trie V) (es : List (ℕ × Trie V))
-      → children_without b (as_children (replaced b t' es)) ≡ children_without b (as_children es)
+      → children_without b (as_children (replaced_at b t' es)) ≡ children_without b (as_children es)
   without-replaced b t' [] = refl
   without-replaced b t' (e ∷ es) = ⊎_elim
       (λ q. rw (eq-yes e.0 b q, eq-yes b b refl) refl)
@@ -148,7 +148,7 @@ module _ {V : Type 0} where
 
   pub joins-replaced : (m : Option ℕ) (p : List ℕ) (b : ℕ) (t t' : Trie V) (es : List (ℕ × Trie V))
       → Some t ≡ child_at b es → prefix_of t' ≡ prefix_of t → JoinsWithin m p (as_children es)
-      → JoinsWithin m p (as_children (replaced b t' es))
+      → JoinsWithin m p (as_children (replaced_at b t' es))
   joins-replaced m p b t t' [] at h j = j
   joins-replaced m p b t t' (e ∷ es) at h j = ⊎_elim
       (λ q. let f : t ≡ e.1 = cc (rw (eq-yes e.0 b q) at at) in rw (eq-yes e.0 b q, h, f) j)
@@ -157,13 +157,13 @@ module _ {V : Type 0} where
 
   -- a leaf whose parent is to remove it is there, with the value that was left
   pub joins-holding : (m : Option ℕ) (p : List ℕ) (b : ℕ) (w : Option V) (t t' : Trie V) (es es' : List (ℕ × Trie V))
-      → Some t ≡ child_at b es → t' ≡ node_holding w t → es' ≡ replaced b t' es → JoinsWithin m p (as_children es)
+      → Some t ≡ child_at b es → t' ≡ node_holding w t → es' ≡ replaced_at b t' es → JoinsWithin m p (as_children es)
       → JoinsWithin m p (as_children es')
   joins-holding m p b w t t' es es' at e ee j
       = rw ee (joins-replaced m p b t t' es at (ap prefix_of e ∙ holding-prefix w t) j)
 
   pub child-there : (b : ℕ) (t t' : Trie V) (es es' : List (ℕ × Trie V)) → Some t ≡ child_at b es
-      → es' ≡ replaced b t' es → child_of b (as_children es') ≡ Some t'
+      → es' ≡ replaced_at b t' es → child_of b (as_children es') ≡ Some t'
   child-there b t t' es es' at ee = child_of-entries b es' ∙ ap (child_at b) ee ∙ found-replaced b t t' es at
 
   pub holding-edges : (k : List ℕ) (w : Option V) (t t' : Trie V) → is_leaf_at k t ≡ true → t' ≡ node_holding w t
@@ -183,7 +183,7 @@ module _ {V : Type 0} where
 
 module _ {V : Type 0} {p k r : List ℕ} {v : Option V} {w b : ℕ} {t : Trie V} {es : List (ℕ × Trie V)}
     (f : Follows p k r v w b t es) (w' : ℕ) (t' : Trie V)
-    (es' : List (ℕ × Trie V)) (em : w' ≡ w) (ee : es' ≡ replaced b t' es) where
+    (es' : List (ℕ × Trie V)) (em : w' ≡ w) (ee : es' ≡ replaced_at b t' es) where
   left-child : (y : Option V) → Some t' ≡ tree_left r y (Some t) → Some (node p v w' (as_children es'))
       ≡ tree_left k y (Some (node p v w (as_children es)))
   left-child None h = ap Some (child-put_back p v w w' b t t' es es' f.there (some-equal t' t h) em ee)
@@ -223,16 +223,16 @@ module _ {V : Type 0} {p k r : List ℕ} {v : Option V} {w b : ℕ} {t : Trie V}
       = (left-child y h.0, h.1, h.2, remove_allocation-below f inner h.3)
 
   -- a leaf that is removed, or stays where there is no memory
-  without-gone : is_leaf_at r t ≡ true → Some (without_child b (node p v w' (as_children es')))
+  without-removed : is_leaf_at r t ≡ true → Some (without_child b (node p v w' (as_children es')))
       ≡ trie_remove k (node p v w (as_children es))
-  without-gone l = ap Some (rw (
+  without-removed l = ap Some (rw (
     em,
     ee,
-    child_of-entries b (replaced b t' es),
+    child_of-entries b (replaced_at b t' es),
     found-replaced b t t' es f.there,
     without-replaced b t' es,
   ) (sym (rw (child_of-entries b es, ← f.there) refl)))
-      ∙ removed-leaf f (leaf-gone r t l)
+      ∙ removed-leaf f (leaf-removed r t l)
 
   pub ends-lost : (full : Bool) (z : SlotUpdate V) (y : Option V) (res : Result (Outcome V) (UpdateError V))
       (u : Trie V) → is_leaf_at r t ≡ true → z ≡ Remove → y ≢ None → t' ≡ node_holding y t
@@ -245,7 +245,7 @@ module _ {V : Type 0} {p k r : List ℕ} {v : Option V} {w b : ℕ} {t : Trie V}
       let held : Some x ≡ Some y = q.0 ∙ ap (option_and_then value_of) (child-there b t t' es es' f.there ee)
       ∙ ap value_of h ∙ holding-value (Some y) t in
       let same : x ≡ y = cc in
-      (ap Some q.1 ∙ without-gone l, ap Removed same, tt)
+      (ap Some q.1 ∙ without-removed l, ap Removed same, tt)
   ends-lost full Remove (Some y) (Ok Absent) u l is s h q = absurd q
   ends-lost full Remove (Some y) (Ok New) u l is s h q = absurd q
   ends-lost full Remove (Some y) (Ok Kept) u l is s h q = absurd q

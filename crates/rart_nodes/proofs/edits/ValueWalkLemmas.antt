@@ -9,7 +9,7 @@ use Rattle.rart_keys.specs.ByteStrings.{begins, strip_prefix}
 use Rattle.rart_keys.specs.Filters.{below}
 use Rattle.rart_keys.specs.SortedMap.{values_of}
 use Rattle.rart_keys.proofs.ByteOrder.{eq-yes, eq-no}
-use Rattle.rart_parts.specs.Entries.{child_at, entries_above, replaced}
+use Rattle.rart_parts.specs.Entries.{child_at, entries_above, replaced_at}
 use Rattle.rart_nodes.specs.edits.ValueChanges.{CanLend, ChangesBelow, LentValue, TakesLoan}
 use Rattle.rart_nodes.specs.tries.PrefixLaws.{values-append, values-with_prefix}
 use Rattle.rart_nodes.specs.tries.Trie.{Trie, node, Children, pairs_of, children_pairs, own_pair, AreCanonical}
@@ -34,7 +34,7 @@ module _ {F V : Type 0} (call : Mut F (MutBor V × Unit {0}) (Unit {0} × (MutBo
       → AreCanonical low (as_children es) → Some t ≡ child_at b es
       → ChangesBelow call (b ∷ r) f (pairs_of t) (pairs_of u) g
       → ChangesBelow call (b ∷ r) f (children_pairs (as_children es))
-      (children_pairs (as_children (replaced b u es))) g
+      (children_pairs (as_children (replaced_at b u es))) g
   changes-child b low r t u [] f g w s h = absurd (cc)
   changes-child b low r t u (e ∷ es) f g w s h = elim (found b low t e es w s) [
     | at_first q d ↦ rw (eq-yes e.0 b (sym q)) (changes-append call (b ∷ r) (pairs_of e.1) (pairs_of u)
@@ -43,7 +43,7 @@ module _ {F V : Type 0} (call : Mut F (MutBor V × Unit {0}) (Unit {0} × (MutBo
         (changes-none call (b ∷ r) (children_pairs (as_children es)) g
         (below-from b r (children_pairs (as_children es)) (children_pairs-from (suc b) (as_children es) (rw q w.3)))))
     | after_first l d ↦ rw (eq-no e.0 b (λ q. omega (arith, q, l))) (changes-append call (b ∷ r) (pairs_of e.1)
-        (pairs_of e.1) (children_pairs (as_children es)) (children_pairs (as_children (replaced b u es))) f f g
+        (pairs_of e.1) (children_pairs (as_children es)) (children_pairs (as_children (replaced_at b u es))) f f g
         (changes-none call (b ∷ r) (pairs_of e.1) f
         (below-first b e.0 r (pairs_of e.1) (λ q. omega (arith, q, l)) (pairs_of-first e.0 e.1 w.1)))
         (changes-child b (suc e.0) r t u es f g w.3 d h))
@@ -131,12 +131,12 @@ module _ {F V : Type 0} (call : Mut F (MutBor V × Unit {0}) (Unit {0} × (MutBo
   changing-lent p v x y n es f g next c s h k a
       = changing-start p v (Some y) n es f g next c (rw s h) k a
 
-  pub changing-bare : (p : List ℕ) (v : Option V) (n : ℕ) (es : List (ℕ × Trie V)) (f : F) (next : Option ℕ)
+  pub changing-childless : (p : List ℕ) (v : Option V) (n : ℕ) (es : List (ℕ × Trie V)) (f : F) (next : Option ℕ)
       → IsCanonical (node p v n (as_children es)) → v ≡ None
       → CanLend call f (values_of (pairs_of (node p v n (as_children es))))
       → next ≡ option_map (λ e. e.0) (slice_get es 0)
       → Changing f (node p v n (as_children es)) f p v n es next
-  changing-bare p v n es f next c s k a = changing-start p v v n es f f next c (rw s refl) k a
+  changing-childless p v n es f next c s k a = changing-start p v v n es f f next c (rw s refl) k a
 
   -- the child that comes next
   pub record Next (f0 : F) (t0 : Trie V) (f : F) (p : List ℕ) (w : Option V) (n b : ℕ) (es : List (ℕ × Trie V))
@@ -207,13 +207,13 @@ module _ {F V : Type 0} (call : Mut F (MutBor V × Unit {0}) (Unit {0} × (MutBo
   pub changing-step : (f0 : F) (t0 : Trie V) (f g : F) (p : List ℕ) (w : Option V) (n m b : ℕ)
       (es ds : List (ℕ × Trie V)) (u x : Trie V) (next : Option ℕ)
       → Changing f0 t0 f p w n es (Some b) → Some u ≡ child_at b es → IsCanonical x → prefix_of x ≡ prefix_of u
-      → ChangesBelow call [] f (pairs_of u) (pairs_of x) g → m ≡ n → ds ≡ replaced b x es
+      → ChangesBelow call [] f (pairs_of u) (pairs_of x) g → m ≡ n → ds ≡ replaced_at b x es
       → next ≡ option_map (λ e. e.0) (slice_get (entries_above b ds) 0)
       → Changing f0 t0 g p w m ds next × (ahead_count next ds < ahead_count (Some b) es)
   changing-step f0 t0 f g p w n m b es ds u x next i s c q h v d a =
       let k = next-child f0 t0 f p w n b es u i s in
       let all : AreCanonical 0 (as_children (k.left ++ (b, u) ∷ k.rest)) = rw k.now at i.canonical.2 in
-      let changed : ds ≡ k.left ++ (b, x) ∷ k.rest = d ∙ ap (replaced b x) k.now
+      let changed : ds ≡ k.left ++ (b, x) ∷ k.rest = d ∙ ap (replaced_at b x) k.now
       ∙ middle-replaced b 0 u x k.left k.rest all in
       let canonical = child-canonical p w n n b u x es ds i.canonical s c q refl d in
       let low : AreCanonical 0 (as_children (k.left ++ (b, x) ∷ k.rest)) = rw changed at canonical.2 in
@@ -340,15 +340,15 @@ module _ {F V : Type 0} (call : Mut F (MutBor V × Unit {0}) (Unit {0} × (MutBo
   pub child-changes : (p r : List ℕ) (b : ℕ) (q : List ℕ) (v : Option V) (n m : ℕ) (u x : Trie V)
       (es ds : List (ℕ × Trie V)) (f g : F) → IsCanonical (node q v n (as_children es)) → Some r ≡ strip_prefix q p
       → Some b ≡ slice_get r 0 → Some u ≡ child_at b es → ChangesBelow call r f (pairs_of u) (pairs_of x) g
-      → ds ≡ replaced b x es
+      → ds ≡ replaced_at b x es
       → ChangesBelow call p f (pairs_of (node q v n (as_children es))) (pairs_of (node q v m (as_children ds))) g
   child-changes p [] b q v n m u x es ds f g c s h a k d = absurd (cc)
   child-changes p (y ∷ r) b q v n m u x es ds f g c s h a k d =
       let byte : y ≡ b = cc in
       rw d (changes-after call p q (y ∷ r) (own_pair v ++ children_pairs (as_children es))
-      (own_pair v ++ children_pairs (as_children (replaced b x es))) f g (λ k. begins-after q p (y ∷ r) k (sym s))
+      (own_pair v ++ children_pairs (as_children (replaced_at b x es))) f g (λ k. begins-after q p (y ∷ r) k (sym s))
       (changes-append call (y ∷ r) (own_pair v) (own_pair v) (children_pairs (as_children es))
-      (children_pairs (as_children (replaced b x es))) f f g (own-stays v)
+      (children_pairs (as_children (replaced_at b x es))) f f g (own-stays v)
       (rw byte (changes-child call b 0 r u x es f g c.2 a (rw byte at k)))))
     where
       own-stays : (o : Option V) → ChangesBelow call (y ∷ r) f (own_pair o) (own_pair o) f

@@ -61,8 +61,8 @@ module _ {V : Type 0} where
   levels_of ls = map (λ l. l.0) ls
 
   -- how much there is to do at most
-  abbrev pub work_behind : List (BackLevel V) → ℕ
-  work_behind ls = work_left (levels_of ls)
+  abbrev pub work_after : List (BackLevel V) → ℕ
+  work_after ls = work_left (levels_of ls)
 
   node-nodes : (t : Trie V) → node_count t ≡ child_count (children_in t) + 1
   node-nodes (node p v n cs) = refl
@@ -110,7 +110,7 @@ module _ {V : Type 0} where
   pub record BackTurn (g : Grown) (longest places : ℕ) (k k1 : SegmentList) (ls ms : List (BackLevel V)) : Type 0 where
     pub path : IsBackWalk longest places k1 ms
     pub still : remaining_entries g k1 ms ≡ remaining_entries g k ls
-    pub falls : work_behind ms < work_behind ls
+    pub falls : work_after ms < work_after ls
 
   own-entries : (g : Grown) (q : SegmentList) (t : Trie V) → segments_after q (entries_of g t)
       ≡ segments_after (q ++ g (prefix_of t)) (value_at [] (value_of t) ++ children_entries g (children_in t))
@@ -221,7 +221,7 @@ module _ {V : Type 0} where
       (v : Option V) : Type 0 where
     pub path : IsBackWalk longest places k1 rest
     pub still : remaining_entries g k ls ≡ remaining_entries g k1 rest ++ value_at k1 v
-    pub falls : work_behind rest < work_behind ls
+    pub falls : work_after rest < work_after ls
 
   leave-at : (g : Grown) (longest places d : ℕ) (k : SegmentList) (v : Option (Bor V)) (ls : List (BackLevel V))
       → IsBackWalk longest places k (((no_children, d), v) ∷ ls)

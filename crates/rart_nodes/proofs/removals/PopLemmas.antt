@@ -9,7 +9,7 @@ use Rattle.rart_keys.specs.Filters.{last_or}
 use Rattle.rart_keys.specs.KeyBytes.{IsWithin}
 use Rattle.rart_keys.specs.SortedMap.{AreAbove, IsAscending, count_of, keys_of, longest_key, lookup, without}
 use Rattle.rart_keys.proofs.ByteOrder.{below-not_eq, bytes_eq-itself}
-use Rattle.rart_parts.specs.Entries.{child_at, replaced}
+use Rattle.rart_parts.specs.Entries.{child_at, replaced_at}
 use Rattle.rart_nodes.specs.declared.node.ends.End.{End}
 use Rattle.rart_nodes.specs.declared.node.ends.End.TheVariants.{First, Last}
 use Rattle.rart_nodes.specs.edits.Deletion.{is_leaf_at, is_end, merged_if_needed, without_child}
@@ -23,7 +23,7 @@ use Rattle.rart_nodes.specs.tries.Trie.{pairs_of, children_pairs, prefix_of, val
 use Rattle.rart_nodes.specs.tries.TrieCode.{as_children}
 use Rattle.rart_nodes.proofs.edits.InsertLemmas.{fewer-within}
 use Rattle.rart_nodes.proofs.edits.JoinedLengths.{prefix-before}
-use Rattle.rart_nodes.proofs.edits.LeafLemmas.{leaf-gone}
+use Rattle.rart_nodes.proofs.edits.LeafLemmas.{leaf-removed}
 use Rattle.rart_nodes.proofs.removals.RemoveAllocationLemmas.{allocates-remove}
 use Rattle.rart_nodes.proofs.removals.RemoveAllocationSteps.{remove_allocation-below, remove_allocation-leaf}
 use Rattle.rart_nodes.proofs.removals.RemoveLemmas.{canonical-removed, pairs_of-removed}
@@ -117,7 +117,7 @@ module _ {V : Type 0} {e : End} {p : List ℕ} {v : Option V} {w b : ℕ} {t : T
 
   -- a child keeps some of its pairs
   pub pop-below : (q q' r : List ℕ) (taken : Option V) (w' : ℕ) (t' : Trie V) (es' : List (ℕ × Trie V)) → q' ≡ q ++ p
-      → Pops e t q' r taken t' → w' ≡ w → es' ≡ replaced b t' es
+      → Pops e t q' r taken t' → w' ≡ w → es' ≡ replaced_at b t' es
       → Pops e (node p v w (as_children es)) q r taken (node p v w' (as_children es'))
   pop-below q q' r taken w' t' es' s m ew ee = record {
     pair = (p ++ m.pair.0, m.pair.1);
@@ -135,7 +135,8 @@ module _ {V : Type 0} {e : End} {p : List ℕ} {v : Option V} {w b : ℕ} {t : T
     here = pair-below (prefix_of t, here.value) here.pair;
     path = s ∙ append_assoc q p (prefix_of t);
     value = here.own;
-    rest = removed-leaf (pair-follows (prefix_of t, here.value) here.pair) (leaf-gone (prefix_of t) t (leaf-here t l));
+    rest = removed-leaf (pair-follows (prefix_of t, here.value) here.pair)
+        (leaf-removed (prefix_of t) t (leaf-here t l));
   }
 
   -- where it requests memory

@@ -7,7 +7,7 @@ use Rattle.rart_keys.specs.ByteStrings.{begins, strip_prefix}
 use Rattle.rart_keys.specs.KeyBytes.{IsWithin}
 use Rattle.rart_keys.specs.SortedMap.{longest_key}
 use Rattle.rart_keys.proofs.ByteOrder.{is_equal, is_greater, is_less, eq-yes, eq-no, order}
-use Rattle.rart_parts.specs.Entries.{child_at, replaced}
+use Rattle.rart_parts.specs.Entries.{child_at, replaced_at}
 use Rattle.rart_parts.specs.Entries as entries
 use Rattle.rart_nodes.specs.edits.Deletion.{without_child}
 use Rattle.rart_nodes.specs.edits.PrefixRemovals.{children_without_prefix, finds_below, prefixed_trie, remaining_after}
@@ -26,9 +26,9 @@ use Rattle.rart_nodes.proofs.tries.Descents.{descend-followed, descend-left}
 use Rattle.rart_nodes.proofs.tries.PrefixedStrings.{strip_prefix-is}
 
 -- a prefix that doesn't begin that of a node continues after it
-pub goes_on : (p q r : List ℕ) → Some r ≡ strip_prefix p q → begins q p ≡ false → None ≡ slice_get r 0 → ⊥
-goes_on p q [] e s h = let z = ended-begins p q (sym e) in cc
-goes_on p q (b ∷ r) e s h = cc
+pub continues : (p q r : List ℕ) → Some r ≡ strip_prefix p q → begins q p ≡ false → None ≡ slice_get r 0 → ⊥
+continues p q [] e s h = let z = ended-begins p q (sym e) in cc
+continues p q (b ∷ r) e s h = cc
 
 -- what begins with a byte isn't empty
 rest-some : (b : ℕ) (r : List ℕ) → Some b ≡ slice_get r 0 → 1 ≤ length r
@@ -73,7 +73,7 @@ module _ {V : Type 0} where
   -- below a child that stays
   without_child-kept : (b low : ℕ) (k : List ℕ) (t t' : Trie V) (es : List (ℕ × Trie V))
       → AreCanonical low (as_children es) → Some t ≡ child_at b es → Some t' ≡ trie_without_prefix k t
-      → children_without_prefix b k (as_children es) ≡ as_children (replaced b t' es)
+      → children_without_prefix b k (as_children es) ≡ as_children (replaced_at b t' es)
   without_child-kept b low k t t' [] w s r = absurd (cc)
   without_child-kept b low k t t' (e ∷ es) w s r = elim (found b low t e es w s) [
     | at_first h q ↦ rw (is_equal b e.0 h, eq-yes e.0 b (sym h), h)
@@ -85,7 +85,7 @@ module _ {V : Type 0} where
   pub without_prefix-below : (p k rest : List ℕ) (v : Option V) (w w' b : ℕ) (t t' : Trie V)
       (es es' : List (ℕ × Trie V)) → IsCanonical (node p v w (as_children es)) → Some rest ≡ strip_prefix p k
       → Some b ≡ slice_get rest 0 → Some t ≡ child_at b es → Some t' ≡ trie_without_prefix rest t → w' ≡ w
-      → es' ≡ replaced b t' es
+      → es' ≡ replaced_at b t' es
       → Some (node p v w' (as_children es')) ≡ trie_without_prefix k (node p v w (as_children es))
   without_prefix-below p k rest v w w' b t t' es es' c e h at r ew ee =
       ap (λ z. Some (node p v z (as_children es'))) ew
@@ -134,15 +134,15 @@ module _ {V : Type 0} where
         ]
       ] refl
 
-  without_child-gone : (b low : ℕ) (k : List ℕ) (t : Trie V) (es : List (ℕ × Trie V))
+  without_child-removed : (b low : ℕ) (k : List ℕ) (t : Trie V) (es : List (ℕ × Trie V))
       → AreCanonical low (as_children es) → Some t ≡ child_at b es → None ≡ trie_without_prefix k t
       → children_without_prefix b k (as_children es) ≡ as_children (entries.without_byte b es)
-  without_child-gone b low k t [] w s r = absurd (cc)
-  without_child-gone b low k t (e ∷ es) w s r = elim (found b low t e es w s) [
+  without_child-removed b low k t [] w s r = absurd (cc)
+  without_child-removed b low k t (e ∷ es) w s r = elim (found b low t e es w s) [
     | at_first h q ↦ rw (is_equal b e.0 h, eq-yes e.0 b (sym h))
         (ap (λ o. child_if e.0 o (as_children es)) (ap (trie_without_prefix k) (sym q) ∙ sym r))
     | after_first h q ↦ rw (is_greater b e.0 h, eq-no e.0 b (λ z. omega arith))
-        (ap (child e.0 e.1) (without_child-gone b (suc e.0) k t es w.3 q r))
+        (ap (child e.0 e.1) (without_child-removed b (suc e.0) k t es w.3 q r))
   ]
 
   pub without_prefix-taken : (p k rest : List ℕ) (v : Option V) (w b : ℕ) (t : Trie V) (es : List (ℕ × Trie V))
@@ -153,7 +153,7 @@ module _ {V : Type 0} where
       let there : child_at b es ≢ None = λ z. let h : Some t ≡ None = at ∙ z in absurd (cc) in
       ap Some (without-some p v w b es there)
       ∙ collapsed-less p v w es (entries.without_byte b es) c (length-without_byte b es there)
-      ∙ ap (collapsed_node p v) (sym (without_child-gone b 0 rest t es c.2 at (without_prefix-whole rest t z)))
+      ∙ ap (collapsed_node p v) (sym (without_child-removed b 0 rest t es c.2 at (without_prefix-whole rest t z)))
       ∙ sym (without_prefix-followed p k rest b v w (as_children es) e h)
 
   pub below-taken : (q q' p k rest : List ℕ) (v : Option V) (w b : ℕ) (t : Trie V) (es : List (ℕ × Trie V))

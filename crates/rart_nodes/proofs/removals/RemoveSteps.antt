@@ -5,7 +5,7 @@ use Rattle.std.specs.Prelude.{slice_get}
 use Rattle.std.proofs.lemmas.Bool.Decides.{nat_tests}
 use Rattle.rart_keys.specs.ByteStrings.{strip_prefix}
 use Rattle.rart_keys.proofs.ByteOrder.{is_equal, is_greater, eq-yes, eq-no}
-use Rattle.rart_parts.specs.Entries.{child_at, replaced}
+use Rattle.rart_parts.specs.Entries.{child_at, replaced_at}
 use Rattle.rart_parts.specs.Entries as entries
 use Rattle.rart_nodes.specs.edits.Deletion.{needs_merge, merged_child, merged_if_needed, remaining_node, without_child}
 use Rattle.rart_nodes.specs.edits.Deletion.{is_end, is_leaf_at}
@@ -65,7 +65,7 @@ module _ {V : Type 0} where
   -- removal below a child
   remove_child-kept : (b low : ℕ) (k : List ℕ) (t t' : Trie V) (es : List (ℕ × Trie V))
       → AreCanonical low (as_children es) → Some t ≡ child_at b es → Some t' ≡ trie_remove k t
-      → remove_child b k (as_children es) ≡ as_children (replaced b t' es)
+      → remove_child b k (as_children es) ≡ as_children (replaced_at b t' es)
   remove_child-kept b low k t t' [] w s r = absurd (cc)
   remove_child-kept b low k t t' (e ∷ es) w s r = elim (found b low t e es w s) [
     | at_first h q ↦ rw (is_equal b e.0 h, eq-yes e.0 b (sym h), h)
@@ -74,15 +74,16 @@ module _ {V : Type 0} where
         (ap (child e.0 e.1) (remove_child-kept b (suc e.0) k t t' es w.3 q r))
   ]
 
-  remove_child-gone : (b low : ℕ) (k : List ℕ) (t : Trie V) (es : List (ℕ × Trie V)) → AreCanonical low (as_children es)
+  remove_child-removed : (b low : ℕ) (k : List ℕ) (t : Trie V) (es : List (ℕ × Trie V)) → AreCanonical low
+      (as_children es)
       → Some t ≡ child_at b es → None ≡ trie_remove k t
       → remove_child b k (as_children es) ≡ as_children (entries.without_byte b es)
-  remove_child-gone b low k t [] w s r = absurd (cc)
-  remove_child-gone b low k t (e ∷ es) w s r = elim (found b low t e es w s) [
+  remove_child-removed b low k t [] w s r = absurd (cc)
+  remove_child-removed b low k t (e ∷ es) w s r = elim (found b low t e es w s) [
     | at_first h q ↦ rw (is_equal b e.0 h, eq-yes e.0 b (sym h))
         (ap (λ o. child_if e.0 o (as_children es)) (ap (trie_remove k) (sym q) ∙ sym r))
     | after_first h q ↦ rw (is_greater b e.0 h, eq-no e.0 b (λ z. omega arith))
-        (ap (child e.0 e.1) (remove_child-gone b (suc e.0) k t es w.3 q r))
+        (ap (child e.0 e.1) (remove_child-removed b (suc e.0) k t es w.3 q r))
   ]
 
   pub collapsed-same : (p : List ℕ) (v : Option V) (w : ℕ) (es fs : List (ℕ × Trie V))
@@ -142,7 +143,7 @@ module _ {V : Type 0} where
 module _ {V : Type 0} {p k r : List ℕ} {v : Option V} {w b : ℕ} {t : Trie V} {es : List (ℕ × Trie V)}
     (f : Follows p k r v w b t es) where
   pub removed-below : (w' : ℕ) (t' : Trie V) (es' : List (ℕ × Trie V)) → Some t' ≡ trie_remove r t → w' ≡ w
-      → es' ≡ replaced b t' es → Some (node p v w' (as_children es')) ≡ trie_remove k (node p v w (as_children es))
+      → es' ≡ replaced_at b t' es → Some (node p v w' (as_children es')) ≡ trie_remove k (node p v w (as_children es))
   removed-below w' t' es' h ew ee =
       ap (λ z. Some (node p v z (as_children es'))) ew
       ∙ collapsed-same p v w es es' f.canonical (ap length ee ∙ replaced-length b t' es)
@@ -155,5 +156,5 @@ module _ {V : Type 0} {p k r : List ℕ} {v : Option V} {w b : ℕ} {t : Trie V}
       let there : child_at b es ≢ None = λ z. let h : Some t ≡ None = f.there ∙ z in absurd (cc) in
       ap Some (without-some p v w b es there)
       ∙ collapsed-less p v w es (entries.without_byte b es) f.canonical (length-without_byte b es there)
-      ∙ ap (collapsed_node p v) (sym (remove_child-gone b 0 r t es f.canonical.2 f.there h))
+      ∙ ap (collapsed_node p v) (sym (remove_child-removed b 0 r t es f.canonical.2 f.there h))
       ∙ sym (trie_remove-followed p k r b v w (as_children es) f.left f.first)

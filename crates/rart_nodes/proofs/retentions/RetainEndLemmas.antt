@@ -14,7 +14,7 @@ use Rattle.rart_nodes.specs.edits.Deletion.{JoinsWithin, merged_if_needed}
 use Rattle.rart_nodes.specs.edits.Retentions.{CallsFor, EndsBelowRefused, Fate, RetainsAll, RetainsFirst}
 use Rattle.rart_nodes.specs.edits.Retentions.{kept, removed, refused}
 use Rattle.rart_nodes.specs.edits.Retentions.{refusals}
-use Rattle.rart_nodes.specs.edits.Retentions.{refused_key, remaining}
+use Rattle.rart_nodes.specs.edits.Retentions.{refused_key, remaining_pairs}
 use Rattle.rart_nodes.specs.edits.RetainSteps.{CallsForOwn, KeepsFirst, RetainsBelow, finished_as}
 use Rattle.rart_nodes.specs.edits.RetainSteps.{finished_node}
 use Rattle.rart_nodes.specs.tries.PrefixLaws.{length-with_prefix}
@@ -38,7 +38,7 @@ use Rattle.rart_nodes.proofs.tries.CanonicalTests.{longest_key-append}
 
 module _ {V : Type 0} where
   -- the children have the pairs that are left
-  left-short : (xs ys es : List (List ℕ × V)) (zs : List (V × Fate)) → xs ≡ remaining es zs
+  left-short : (xs ys es : List (List ℕ × V)) (zs : List (V × Fate)) → xs ≡ remaining_pairs es zs
       → longest_key (xs ++ ys) ≤ longest_key (es ++ ys)
   left-short xs ys es zs h = omega (
     arith,
@@ -76,14 +76,14 @@ module _ {F V : Type 0} (call : Mut F (Bor (List ℕ) × (MutBor V × Unit {0}))
     pub refused : refusals fates ≡ n
     pub calls : CallsFor call k f0 (own_pair v) fates f
     pub all : length fates ≡ length (own_pair v)
-    pub left : own_pair w ≡ remaining (own_pair v) fates
+    pub left : own_pair w ≡ remaining_pairs (own_pair v) fates
 
   -- the calls at a node and at its children, and what they leave
   record Gathered (q : List ℕ) (f0 f : F) (t t' : Trie V) (n : ℕ) (whole : Type 0) (later : List ℕ → Type 0) : Type 0
     where
       pub fates : List (V × Fate)
       pub calls : CallsFor call q f0 (pairs_of t) fates f
-      pub left : pairs_of t' ≡ remaining (pairs_of t) fates
+      pub left : pairs_of t' ≡ remaining_pairs (pairs_of t) fates
       pub refused : refusals fates ≡ n
       pub ends : EndsBelowRefused (pairs_of t) fates
       pub all : whole → length fates ≡ length (pairs_of t)
@@ -112,8 +112,8 @@ module _ {F V : Type 0} (call : Mut F (Bor (List ℕ) × (MutBor V × Unit {0}))
             ∙ ap (λ z. own_pair v ++ z) (pairs-append i.left i.rest
             ∙ ap (λ z. z ++ children_pairs (as_children i.rest)) i.stay
             ∙ sym (remaining-front (children_pairs (as_children i.done)) (children_pairs (as_children i.rest)) i.fates
-            some) ∙ ap (λ z. remaining z i.fates) (sym below))
-            ∙ ap (λ z. z ++ remaining (children_pairs (as_children (i.done ++ i.rest))) i.fates) o.left
+            some) ∙ ap (λ z. remaining_pairs z i.fates) (sym below))
+            ∙ ap (λ z. z ++ remaining_pairs (children_pairs (as_children (i.done ++ i.rest))) i.fates) o.left
             ∙ sym (remaining-append (own_pair i.own) (children_pairs (as_children (i.done ++ i.rest))) o.fates i.fates
             o.all))
             ∙ sym (remaining-after p (own_pair i.own ++ children_pairs (as_children (i.done ++ i.rest)))
@@ -159,11 +159,11 @@ module _ {F V : Type 0} (call : Mut F (Bor (List ℕ) × (MutBor V × Unit {0}))
   own-rejected k f0 f (Some v) None h = absurd h
   own-rejected k f0 f (Some v) (Some x) h = (x, refl)
 
-  own-gone : (k : List ℕ) (f0 f : F) (v w : Option V) → CallsForOwn call k f0 v false w f → OwnFate k f0 f v None 0
-  own-gone k f0 f None None h = absurd (cc (h.0))
-  own-gone k f0 f None (Some x) h = absurd h
-  own-gone k f0 f (Some v) None h = absurd h
-  own-gone k f0 f (Some v) (Some x) h = record {
+  own-removed : (k : List ℕ) (f0 f : F) (v w : Option V) → CallsForOwn call k f0 v false w f → OwnFate k f0 f v None 0
+  own-removed k f0 f None None h = absurd (cc (h.0))
+  own-removed k f0 f None (Some x) h = absurd h
+  own-removed k f0 f (Some v) None h = absurd h
+  own-removed k f0 f (Some v) (Some x) h = record {
     fates = (x, removed) ∷ [];
     refused = refl;
     calls = (f, (rw (append-nil k) h, refl));
@@ -225,7 +225,7 @@ module _ {F V : Type 0} (call : Mut F (Bor (List ℕ) × (MutBor V × Unit {0}))
       let one : es ≡ (i.state.4.byte, i.state.4.leaf) ∷ [] = i.now ∙ ap (λ z. i.left ++ z) i.state.2
       ∙ append-nil i.left ∙ i.state.4.one in (
         rw i.state.3 (joined-leaf p n es
-            (record { byte = i.state.4.byte; leaf = i.state.4.leaf; one = one; bare = i.state.4.bare })),
+            (record { byte = i.state.4.byte; leaf = i.state.4.leaf; one = one; childless = i.state.4.childless })),
         retains-all q f0 f t0 (node p w n (as_children es)) (merged_if_needed (node p w n (as_children es))) 1 _ _
             (gathered q f0 t0 true holds Rejected f p w w n n es None i 0
             (own-kept (q ++ p) f0 i.first i.own w i.called) 1 (omega arith)) (i.state.0, i.state.2)
@@ -243,23 +243,25 @@ module _ {F V : Type 0} (call : Mut F (Bor (List ℕ) × (MutBor V × Unit {0}))
       }
 
   -- its value is not kept: it has children
-  ended-gone : (q : List ℕ) (f0 : F) (t0 : Trie V) (holds : Bool) (walk : Retention) (f : F) (p : List ℕ)
+  ended-removed : (q : List ℕ) (f0 : F) (t0 : Trie V) (holds : Bool) (walk : Retention) (f : F) (p : List ℕ)
       (w : Option V) (n : ℕ) (es : List (ℕ × Trie V)) → Retaining call q f0 t0 false holds walk f p w n es None
       → RetainsBelow call q walk f0 t0 (merged_if_needed (node p None n (as_children es))) f
-  ended-gone q f0 t0 holds Done f p w n es i = retains-all q f0 f t0 (node p None n (as_children es))
+  ended-removed q f0 t0 holds Done f p w n es i = retains-all q f0 f t0 (node p None n (as_children es))
       (merged_if_needed (node p None n (as_children es))) 0 _ _ (gathered q f0 t0 false holds Done f p w None n n es
-      None i 0 (own-gone (q ++ p) f0 i.first i.own w i.called) 0 (omega arith)) (i.state.0, none-first i.rest i.state.1)
+      None i 0 (own-removed (q ++ p) f0 i.first i.own w i.called) 0 (omega arith))
+      (i.state.0, none-first i.rest i.state.1)
       (joined-pairs p None n es)
-  ended-gone q f0 t0 holds Rejected f p w n es i =
+  ended-removed q f0 t0 holds Rejected f p w n es i =
       let x = own-rejected (q ++ p) f0 i.first i.own w i.called in
       let no : Some x.0 ≡ None = sym x.1 ∙ i.state.3 in absurd (cc)
-  ended-gone q f0 t0 holds Refused f p w n es i =
+  ended-removed q f0 t0 holds Refused f p w n es i =
       let among : RefusesAmong n (children_pairs (as_children i.done)) i.fates es = rw i.now i.state.1 in record {
         key = p ++ among.key;
         retains = retains-first q f0 f t0 (node p None n (as_children es))
             (merged_if_needed (node p None n (as_children es))) (p ++ among.key) _ _
             (gathered q f0 t0 false holds Refused f p w None n n es None i 0
-            (own-gone (q ++ p) f0 i.first i.own w i.called) 1 (omega arith)) (refl, (among.key, (refl, among.key_is)))
+            (own-removed (q ++ p) f0 i.first i.own w i.called) 1 (omega arith))
+            (refl, (among.key, (refl, among.key_is)))
             (joined-pairs p None n es);
         inner = refuses-inner p None n es (children_pairs (as_children i.done)) i.fates i.capacity i.canonical among;
         allocates = refuses-joined p None n es (children_pairs (as_children i.done)) i.fates i.capacity i.canonical
@@ -299,5 +301,5 @@ module _ {F V : Type 0} (call : Mut F (Bor (List ℕ) × (MutBor V × Unit {0}))
   retaining-end q f0 t0 false holds walk f p w n (e ∷ es) i = record {
     canonical = joined-canonical p None n (e ∷ es) i.capacity (λ z. omega arith) i.canonical;
     first = rw i.before (joined-first p None n (e ∷ es));
-    retains = ended-gone q f0 t0 holds walk f p w n (e ∷ es) i;
+    retains = ended-removed q f0 t0 holds walk f p w n (e ∷ es) i;
   }

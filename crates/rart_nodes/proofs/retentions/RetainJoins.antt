@@ -47,20 +47,20 @@ module _ {V : Type 0} where
   pub finished-kept : (keeps : Bool) (t : Trie V) → keeps ≡ true → merged_if_needed t ≡ finished_node keeps t
   finished-kept keeps t h = rw h refl
 
-  pub finished-gone : (keeps : Bool) (p : List ℕ) (v : Option V) (n : ℕ) (es : List (ℕ × Trie V)) → keeps ≡ false
+  pub finished-removed : (keeps : Bool) (p : List ℕ) (v : Option V) (n : ℕ) (es : List (ℕ × Trie V)) → keeps ≡ false
       → (length es ≡ 0 → ⊥)
       → merged_if_needed (node p None n (as_children es)) ≡ finished_node keeps (node p v n (as_children es))
-  finished-gone keeps p v n [] h l = absurd (l refl)
-  finished-gone keeps p v n (e ∷ es) h l = rw h refl
+  finished-removed keeps p v n [] h l = absurd (l refl)
+  finished-removed keeps p v n (e ∷ es) h l = rw h refl
 
   pub outcome-kept : (keeps : Bool) (walk : Retention) (cs : Children V) → keeps ≡ true
       → walk ≡ finished_as keeps walk cs
   outcome-kept keeps walk cs h = rw h refl
 
-  pub outcome-gone : (keeps : Bool) (walk : Retention) (es : List (ℕ × Trie V)) → keeps ≡ false
+  pub outcome-removed : (keeps : Bool) (walk : Retention) (es : List (ℕ × Trie V)) → keeps ≡ false
       → (length es ≡ 0 → ⊥) → walk ≡ finished_as keeps walk (as_children es)
-  outcome-gone keeps walk [] h l = absurd (l refl)
-  outcome-gone keeps walk (e ∷ es) h l = rw h refl
+  outcome-removed keeps walk [] h l = absurd (l refl)
+  outcome-removed keeps walk (e ∷ es) h l = rw h refl
 
   pub lone-capacity : (n : ℕ) (es : List (ℕ × Trie V)) → n ≡ capacity_of (length es)
       → needs_merge {V = V} None (as_children es) ≡ true → n ≡ 4
@@ -70,4 +70,4 @@ module _ {V : Type 0} where
 
   pub joined-leaf : (p : List ℕ) (n : ℕ) (es : List (ℕ × Trie V)) → IsOneLeaf es
       → children_in (merged_if_needed (node p None n (as_children es))) ≡ no_children
-  joined-leaf p n es h = rw h.one h.bare
+  joined-leaf p n es h = rw h.one h.childless

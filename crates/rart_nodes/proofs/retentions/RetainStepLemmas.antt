@@ -8,12 +8,12 @@ use Rattle.std.specs.Borrow.{Bor}
 use Rattle.std.specs.Fn.{Mut}
 use Rattle.std.proofs.lemmas.List.{append-nil, append_assoc}
 use Rattle.rart_keys.proofs.ByteOrder.{eq-yes, eq-no}
-use Rattle.rart_parts.specs.Entries.{child_at, entries_above, replaced, without_byte}
+use Rattle.rart_parts.specs.Entries.{child_at, entries_above, replaced_at, without_byte}
 use Rattle.rart_nodes.specs.declared.node.edits.retain.Retention.{Retention}
 use Rattle.rart_nodes.specs.declared.node.edits.retain.Retention.TheVariants.{Done, Rejected, Refused}
 use Rattle.rart_nodes.specs.declared.node.storage.Storage.{Storage}
 use Rattle.rart_nodes.specs.edits.Retentions.{CallsFor, CanRetain, EndsBelowRefused, Fate, kept, removed, refused}
-use Rattle.rart_nodes.specs.edits.Retentions.{key_refused, refusals, refused_key, remaining}
+use Rattle.rart_nodes.specs.edits.Retentions.{key_refused, refusals, refused_key, remaining_pairs}
 use Rattle.rart_nodes.specs.edits.RetainSteps.{AppliesChild, KeepsFirst, RetainsBelow, next_byte}
 use Rattle.rart_nodes.specs.shapes.Shape.{capacity_of}
 use Rattle.rart_nodes.specs.storages.Capacities.{shrunk_capacity}
@@ -58,10 +58,10 @@ module _ {V : Type 0} where
   lower low high (y ∷ ys) l c = (omega (arith, l, c.0), c.1, c.2, c.3)
 
   -- and without it
-  middle-gone : (b low : ℕ) (u : Trie V) (xs ys : List (ℕ × Trie V))
+  middle-removed : (b low : ℕ) (u : Trie V) (xs ys : List (ℕ × Trie V))
       → AreCanonical low (as_children (xs ++ (b, u) ∷ ys)) → AreCanonical low (as_children (xs ++ ys))
-  middle-gone b low u [] ys c = lower low (suc b) ys (omega (arith, c.0)) c.3
-  middle-gone b low u (x ∷ xs) ys c = (c.0, c.1, c.2, middle-gone b (suc x.0) u xs ys c.3)
+  middle-removed b low u [] ys c = lower low (suc b) ys (omega (arith, c.0)) c.3
+  middle-removed b low u (x ∷ xs) ys c = (c.0, c.1, c.2, middle-removed b (suc x.0) u xs ys c.3)
 
   middle-without : (b low : ℕ) (u : Trie V) (xs ys : List (ℕ × Trie V))
       → AreCanonical low (as_children (xs ++ (b, u) ∷ ys)) → without_byte b (xs ++ (b, u) ∷ ys) ≡ xs ++ ys
@@ -97,8 +97,9 @@ module _ {V : Type 0} where
 
   -- a leaf whose removal was put off, removed
   pub leaf-fulfilled : (t : Trie V) (es : List (List ℕ × V)) (xs : List (V × Fate)) → children_in t ≡ no_children
-      → length xs ≡ length es → refusals xs ≡ 1 → pairs_of t ≡ remaining es xs → remaining es (all_fulfilled xs) ≡ []
-  leaf-fulfilled t es xs l a r h = no-pairs (remaining es (all_fulfilled xs)) (omega (
+      → length xs ≡ length es → refusals xs ≡ 1 → pairs_of t ≡ remaining_pairs es xs → remaining_pairs es
+      (all_fulfilled xs) ≡ []
+  leaf-fulfilled t es xs l a r h = no-pairs (remaining_pairs es (all_fulfilled xs)) (omega (
     arith,
     leaf-pairs t l,
     ap length h,
@@ -108,7 +109,7 @@ module _ {V : Type 0} where
 
   -- a rejected leaf is the pair whose removal was put off
   leaf-key : (t : Trie V) (es : List (List ℕ × V)) (xs : List (V × Fate)) → children_in t ≡ no_children
-      → length xs ≡ length es → refusals xs ≡ 1 → pairs_of t ≡ remaining es xs
+      → length xs ≡ length es → refusals xs ≡ 1 → pairs_of t ≡ remaining_pairs es xs
       → refused_key es xs ≡ Some (prefix_of t)
   leaf-key (node p None n no_children) es xs l a r h
       = absurd (omega (arith, ap length h, remaining-fulfilled es xs a, r))
@@ -139,7 +140,7 @@ module _ {F V : Type 0} (call : Mut F (Bor (List ℕ) × (MutBor V × Unit {0}))
       (walk : Retention) (mid : List (ℕ × Trie V)) (xs : List (V × Fate)) (next : Option ℕ)
       → ds ≡ i.left ++ (mid ++ i.rest) → AreCanonical 0 (as_children ds) → m ≡ capacity_of (length ds)
       → (is_some w ≡ false → 0 < length ds) → CallsFor call (q ++ p) f (pairs_of u) xs g
-      → children_pairs (as_children mid) ≡ remaining (pairs_of u) xs → refusals xs ≡ refusals_of walk
+      → children_pairs (as_children mid) ≡ remaining_pairs (pairs_of u) xs → refusals xs ≡ refusals_of walk
       → EndsBelowRefused (pairs_of u) xs
       → WalksOn call walk (q ++ p) g w m (i.fates ++ xs) (i.done ++ (b, u) ∷ []) (i.left ++ mid) i.rest next
       → Retaining call q f0 t0 keeps holds walk g p w m ds next
@@ -166,8 +167,8 @@ module _ {F V : Type 0} (call : Mut F (Bor (List ℕ) × (MutBor V × Unit {0}))
             i.first f g i.whole i.calls (calls-front call (q ++ p) (pairs_of u) [] xs f g a));
         stay = rw below (pairs-append i.left mid
             ∙ ap (λ z. z ++ children_pairs (as_children mid)) i.stay
-            ∙ ap (λ z. remaining (children_pairs (as_children i.done)) i.fates ++ z)
-            (h ∙ sym (remaining-front (pairs_of u) [] xs some ∙ append-nil (remaining (pairs_of u) xs)))
+            ∙ ap (λ z. remaining_pairs (children_pairs (as_children i.done)) i.fates ++ z)
+            (h ∙ sym (remaining-front (pairs_of u) [] xs some ∙ append-nil (remaining_pairs (pairs_of u) xs)))
             ∙ sym (remaining-append (children_pairs (as_children i.done)) (pairs_of u ++ []) i.fates xs i.whole));
         refused = refusals-append i.fates xs ∙ omega (arith, i.refused, r);
         ends = rw below (ends-append (children_pairs (as_children i.done)) (pairs_of u ++ []) i.fates xs i.whole
@@ -209,13 +210,13 @@ module _ {F V : Type 0} (call : Mut F (Bor (List ℕ) × (MutBor V × Unit {0}))
   stays : (q : List ℕ) (f0 : F) (t0 : Trie V) (keeps holds : Bool) (f g : F) (p : List ℕ) (w : Option V) (n m b : ℕ)
       (es ds : List (ℕ × Trie V)) (u x : Trie V) (i : Upcoming call q f0 t0 keeps holds f p w n b es u)
       (walk : Retention) (xs : List (V × Fate)) (next : Option ℕ) → IsCanonical x
-      → KeepsFirst (prefix_of u) (prefix_of x) → m ≡ n → ds ≡ replaced b x es
-      → CallsFor call (q ++ p) f (pairs_of u) xs g → pairs_of x ≡ remaining (pairs_of u) xs
+      → KeepsFirst (prefix_of u) (prefix_of x) → m ≡ n → ds ≡ replaced_at b x es
+      → CallsFor call (q ++ p) f (pairs_of u) xs g → pairs_of x ≡ remaining_pairs (pairs_of u) xs
       → refusals xs ≡ refusals_of walk → EndsBelowRefused (pairs_of u) xs
       → WalksOn call walk (q ++ p) g w m (i.fates ++ xs) (i.done ++ (b, u) ∷ []) (i.left ++ (b, x) ∷ []) i.rest next
       → Retaining call q f0 t0 keeps holds walk g p w m ds next
   stays q f0 t0 keeps holds f g p w n m b es ds u x i walk xs next c k v d a h r j s =
-      let changed : ds ≡ i.left ++ (b, x) ∷ i.rest = d ∙ ap (replaced b x) i.now
+      let changed : ds ≡ i.left ++ (b, x) ∷ i.rest = d ∙ ap (replaced_at b x) i.now
       ∙ middle-replaced b 0 u x i.left i.rest i.all in
       let same : length ds ≡ length es = omega (
         arith,
@@ -256,12 +257,12 @@ module _ {F V : Type 0} (call : Mut F (Bor (List ℕ) × (MutBor V × Unit {0}))
       (n b : ℕ) (es : List (ℕ × Trie V)) (u x : Trie V) (i : Upcoming call q f0 t0 keeps holds f p w n b es u)
       (below walk : Retention) (s s' : Storage (Trie V)) (next : Option ℕ) → IsCanonical x
       → KeepsFirst (prefix_of u) (prefix_of x) → RetainsBelow call (q ++ p) below f u x g
-      → storage_capacity s ≡ n → child_entries s ≡ replaced b x es → AppliesChild holds b below walk s s'
+      → storage_capacity s ≡ n → child_entries s ≡ replaced_at b x es → AppliesChild holds b below walk s s'
       → next ≡ next_byte walk b (child_entries s')
       → Steps q f0 t0 keeps holds walk g p w (storage_capacity s') b es (child_entries s') next
   retaining-step q f0 t0 keeps holds f g p w n b es u x i Done Done s s' next c k h v d a e =
-      let ds : child_entries s' ≡ replaced b x es = ap child_entries a ∙ d in
-      let changed : child_entries s' ≡ i.left ++ (b, x) ∷ i.rest = ds ∙ ap (replaced b x) i.now
+      let ds : child_entries s' ≡ replaced_at b x es = ap child_entries a ∙ d in
+      let changed : child_entries s' ≡ i.left ++ (b, x) ∷ i.rest = ds ∙ ap (replaced_at b x) i.now
       ∙ middle-replaced b 0 u x i.left i.rest i.all in
       let low = middle-other b 0 u x i.left i.rest i.all c k in
       let first : next ≡ option_map (λ e. e.0) (slice_get i.rest 0) = e
@@ -285,12 +286,12 @@ module _ {F V : Type 0} (call : Mut F (Bor (List ℕ) × (MutBor V × Unit {0}))
   retaining-step q f0 t0 keeps holds f g p w n b es u x i Done Rejected s s' next c k h v d a e = absurd a
   retaining-step q f0 t0 keeps holds f g p w n b es u x i Done Refused s s' next c k h v d a e = absurd a
   retaining-step q f0 t0 keeps holds f g p w n b es u x i Rejected Done s s' next c k h v d a e =
-      let old : child_entries s ≡ i.left ++ (b, x) ∷ i.rest = d ∙ ap (replaced b x) i.now
+      let old : child_entries s ≡ i.left ++ (b, x) ∷ i.rest = d ∙ ap (replaced_at b x) i.now
       ∙ middle-replaced b 0 u x i.left i.rest i.all in
       let low = middle-other b 0 u x i.left i.rest i.all c k in
       let changed : child_entries s' ≡ i.left ++ i.rest = a.0 ∙ ap (without_byte b) old
       ∙ middle-without b 0 x i.left i.rest low in
-      let gone = middle-gone b 0 x i.left i.rest low in
+      let removed = middle-removed b 0 x i.left i.rest low in
       let first : next ≡ option_map (λ e. e.0) (slice_get i.rest 0) = e
       ∙ ap (λ r. option_map (λ e. e.0) (slice_get r 0)) (ap (entries_above b) changed
       ∙ middle-after b 0 x i.left i.rest low) in
@@ -307,7 +308,7 @@ module _ {F V : Type 0} (call : Mut F (Bor (List ℕ) × (MutBor V × Unit {0}))
       ∙ ap (shrunk_capacity (length (child_entries s'))) (v ∙ i.capacity ∙ ap capacity_of fewer)
       ∙ shrunk-capacity (length (child_entries s')) in (
         visited q f0 t0 keeps holds f g p w n (storage_capacity s') b es (child_entries s') u i Done []
-            (all_fulfilled h.1.fates) next changed (rw changed gone) room
+            (all_fulfilled h.1.fates) next changed (rw changed removed) room
             (λ z. ⊎_elim (λ y. let no : true ≡ false = sym y ∙ i.held ∙ z in absurd (cc))
             (λ y. omega (arith, y, ap length old, ap length changed, length-middle i.left i.rest (b, x))) a.2)
             (calls-fulfilled call (q ++ p) (pairs_of u) h.1.fates f g h.1.calls)
@@ -319,11 +320,11 @@ module _ {F V : Type 0} (call : Mut F (Bor (List ℕ) × (MutBor V × Unit {0}))
               first,
               rest-callable q f0 t0 keeps holds f g p w n b es u i h.1.fates h.1.all h.1.calls,
             ),
-        omega (arith, i.count, ahead-first 0 i.left i.rest (child_entries s') next changed gone first),
+        omega (arith, i.count, ahead-first 0 i.left i.rest (child_entries s') next changed removed first),
       )
   retaining-step q f0 t0 keeps holds f g p w n b es u x i Rejected Rejected s s' next c k h v d a e =
-      let ds : child_entries s' ≡ replaced b x es = ap child_entries a.0 ∙ d in
-      let changed : child_entries s ≡ i.left ++ (b, x) ∷ i.rest = d ∙ ap (replaced b x) i.now
+      let ds : child_entries s' ≡ replaced_at b x es = ap child_entries a.0 ∙ d in
+      let changed : child_entries s ≡ i.left ++ (b, x) ∷ i.rest = d ∙ ap (replaced_at b x) i.now
       ∙ middle-replaced b 0 u x i.left i.rest i.all in
       let few : length i.left + length i.rest ≡ 0 = omega (
         arith,
@@ -340,10 +341,10 @@ module _ {F V : Type 0} (call : Mut F (Bor (List ℕ) × (MutBor V × Unit {0}))
         e,
         no-entries i.rest (omega (arith, few)),
         no-value w (sym a.1 ∙ i.held),
-        record { byte = b; leaf = x; one = ap (λ z. z ++ (b, x) ∷ []) front; bare = h.0 },
+        record { byte = b; leaf = x; one = ap (λ z. z ++ (b, x) ∷ []) front; childless = h.0 },
       ))
   retaining-step q f0 t0 keeps holds f g p w n b es u x i Rejected Refused s s' next c k h v d a e =
-      let old : child_entries s ≡ i.left ++ (b, x) ∷ i.rest = d ∙ ap (replaced b x) i.now
+      let old : child_entries s ≡ i.left ++ (b, x) ∷ i.rest = d ∙ ap (replaced_at b x) i.now
       ∙ middle-replaced b 0 u x i.left i.rest i.all in
       let all : child_entries s ≡ (i.left ++ (b, x) ∷ []) ++ i.rest = old
       ∙ sym (append_assoc i.left ((b, x) ∷ []) i.rest) in
@@ -370,7 +371,7 @@ module _ {F V : Type 0} (call : Mut F (Bor (List ℕ) × (MutBor V × Unit {0}))
   retaining-step q f0 t0 keeps holds f g p w n b es u x i Refused Done s s' next c k h v d a e = absurd a
   retaining-step q f0 t0 keeps holds f g p w n b es u x i Refused Rejected s s' next c k h v d a e = absurd a
   retaining-step q f0 t0 keeps holds f g p w n b es u x i Refused Refused s s' next c k h v d a e =
-      let old : child_entries s ≡ i.left ++ (b, x) ∷ i.rest = d ∙ ap (replaced b x) i.now
+      let old : child_entries s ≡ i.left ++ (b, x) ∷ i.rest = d ∙ ap (replaced_at b x) i.now
       ∙ middle-replaced b 0 u x i.left i.rest i.all in
       let all : child_entries s ≡ (i.left ++ (b, x) ∷ []) ++ i.rest = old
       ∙ sym (append_assoc i.left ((b, x) ∷ []) i.rest) in

@@ -6,7 +6,7 @@ use Rattle.std.specs.Fn.{Mut}
 use Rattle.rart_keys.specs.SortedMap.{keys_of, longest_key}
 use Rattle.rart_nodes.specs.declared.node.edits.retain.Retention.TheVariants.{Done, Rejected, Refused}
 use Rattle.rart_nodes.specs.edits.RemoveAllocations.{remove_allocates}
-use Rattle.rart_nodes.specs.edits.Retentions.{Fate, RetainsAll, RetainsFirst, remaining}
+use Rattle.rart_nodes.specs.edits.Retentions.{Fate, RetainsAll, RetainsFirst, remaining_pairs}
 use Rattle.rart_nodes.specs.edits.RetainSteps.{RetainsTree}
 use Rattle.rart_nodes.specs.tries.Tree.{IsCanonicalTree, tree_pairs}
 use Rattle.rart_nodes.specs.tries.Trie.{Trie, pairs_of}
@@ -56,9 +56,10 @@ module _ {F V : Type 0} (call : Mut F (Bor (List ℕ) × (MutBor V × Unit {0}))
       = (h.key, (h.retains, sym (allocates-remove h.key u c) ∙ h.allocates))
 
   -- what holds after the walk
-  pub remaining-few : (es ds : List (List ℕ × V)) (xs : List (V × Fate)) → ds ≡ remaining es xs → length ds ≤ length es
+  pub remaining-few : (es ds : List (List ℕ × V)) (xs : List (V × Fate)) → ds ≡ remaining_pairs es xs → length ds ≤
+      length es
   remaining-few es ds xs h = omega (arith, ap length h, remaining-length es xs)
 
-  pub remaining-short : (es ds : List (List ℕ × V)) (xs : List (V × Fate)) → ds ≡ remaining es xs
+  pub remaining-short : (es ds : List (List ℕ × V)) (xs : List (V × Fate)) → ds ≡ remaining_pairs es xs
       → longest_key ds ≤ longest_key es
   remaining-short es ds xs h = omega (arith, ap longest_key h, remaining-longest es xs)

@@ -15,7 +15,7 @@ use Rattle.rart_nodes.specs.declared.node.edits.retain.Retention.TheVariants.{Do
 use Rattle.rart_nodes.specs.edits.Deletion.{is_leaf_at}
 use Rattle.rart_nodes.specs.edits.RemoveAllocations.{trie_remove_allocates}
 use Rattle.rart_nodes.specs.edits.Retentions.{CalledForPair, CallsFor, CanRetain, EndsBelowRefused, Fate, TakesPair}
-use Rattle.rart_nodes.specs.edits.Retentions.{refusals, refused_key, remaining}
+use Rattle.rart_nodes.specs.edits.Retentions.{refusals, refused_key, remaining_pairs}
 use Rattle.rart_nodes.specs.edits.RetainSteps.{CallsForOwn}
 use Rattle.rart_nodes.specs.shapes.Shape.{capacity_of}
 use Rattle.rart_nodes.specs.storages.Capacities.{previous_capacity}
@@ -42,7 +42,7 @@ pub record IsOneLeaf {V : Type 0} (es : List (ℕ × Trie V)) : Type 0 where
   pub byte : ℕ
   pub leaf : Trie V
   pub one : es ≡ (byte, leaf) ∷ []
-  pub bare : children_in leaf ≡ no_children
+  pub childless : children_in leaf ≡ no_children
 
 -- a key that one of the children holds, whose removal from the children, or below, requests memory
 abbrev pub IsWide : {V : Type 0} → List ℕ → ℕ → Trie V → ℕ → Type 0
@@ -91,7 +91,7 @@ module _ {F V : Type 0} (call : Mut F (Bor (List ℕ) × (MutBor V × Unit {0}))
     pub called : CallsForOwn call (q ++ p) f0 own keeps w first
     pub fates : List (V × Fate)
     pub calls : CallsFor call (q ++ p) first (children_pairs (as_children done)) fates f
-    pub stay : children_pairs (as_children left) ≡ remaining (children_pairs (as_children done)) fates
+    pub stay : children_pairs (as_children left) ≡ remaining_pairs (children_pairs (as_children done)) fates
     pub refused : refusals fates ≡ refusals_of walk
     pub ends : EndsBelowRefused (children_pairs (as_children done)) fates
     pub state : WalksOn walk (q ++ p) f w n fates done left rest next
@@ -182,7 +182,7 @@ module _ {F V : Type 0} (call : Mut F (Bor (List ℕ) × (MutBor V × Unit {0}))
     pub fates : List (V × Fate)
     pub calls : CallsFor call (q ++ p) first (children_pairs (as_children done)) fates f
     pub whole : length fates ≡ length (children_pairs (as_children done))
-    pub stay : children_pairs (as_children left) ≡ remaining (children_pairs (as_children done)) fates
+    pub stay : children_pairs (as_children left) ≡ remaining_pairs (children_pairs (as_children done)) fates
     pub refused : refusals fates ≡ 0
     pub there : child_at b es ≡ Some u
     pub canonical : IsCanonical u

@@ -9,7 +9,7 @@ use Rattle.std.proofs.lemmas.List.{append_assoc}
 use Rattle.rart_keys.specs.SortedMap.{longest_key}
 use Rattle.rart_nodes.specs.edits.Retentions.{CalledForPair, CallsFor, Fate, kept, removed, refused, is_wanted, is_left}
 use Rattle.rart_nodes.specs.edits.Retentions.{refusal}
-use Rattle.rart_nodes.specs.edits.Retentions.{key_refused, refusals, refused_key, remaining}
+use Rattle.rart_nodes.specs.edits.Retentions.{key_refused, refusals, refused_key, remaining_pairs}
 use Rattle.rart_nodes.specs.tries.Trie.{with_prefix}
 use Rattle.rart_nodes.proofs.walks.CallLemmas.{always-on}
 
@@ -51,60 +51,61 @@ key-after p refused k o = refl
 module _ {V : Type 0} where
   -- what is left, one list after another
   pub remaining-append : (es ds : List (List ℕ × V)) (xs ys : List (V × Fate)) → length xs ≡ length es
-      → remaining (es ++ ds) (xs ++ ys) ≡ remaining es xs ++ remaining ds ys
+      → remaining_pairs (es ++ ds) (xs ++ ys) ≡ remaining_pairs es xs ++ remaining_pairs ds ys
   remaining-append [] ds [] ys h = refl
   remaining-append [] ds (x ∷ xs) ys h = absurd (omega (arith, h))
   remaining-append (e ∷ es) ds [] ys h = absurd (omega (arith, h))
   remaining-append (e ∷ es) ds (x ∷ xs) ys h = let more = remaining-append es ds xs ys (omega (arith, h)) in
-      elim (is_left x.1) as (λ z. (if z then (e.0, x.0) ∷ remaining (es ++ ds) (xs ++ ys)
-      else remaining (es ++ ds) (xs ++ ys))
-      ≡ (if z then (e.0, x.0) ∷ remaining es xs else remaining es xs) ++ remaining ds ys) [
+      elim (is_left x.1) as (λ z. (if z then (e.0, x.0) ∷ remaining_pairs (es ++ ds) (xs ++ ys)
+      else remaining_pairs (es ++ ds) (xs ++ ys))
+      ≡ (if z then (e.0, x.0) ∷ remaining_pairs es xs else remaining_pairs es xs) ++ remaining_pairs ds ys) [
         | true ↦ ap (λ z. (e.0, x.0) ∷ z) more
         | false ↦ more
       ]
 
-  pub remaining-none : (es : List (List ℕ × V)) → remaining es [] ≡ es
+  pub remaining-none : (es : List (List ℕ × V)) → remaining_pairs es [] ≡ es
   remaining-none [] = refl
   remaining-none (e ∷ es) = refl
 
   -- those after the first are as they were
   pub remaining-front : (es ds : List (List ℕ × V)) (xs : List (V × Fate)) → length xs ≤ length es
-      → remaining (es ++ ds) xs ≡ remaining es xs ++ ds
+      → remaining_pairs (es ++ ds) xs ≡ remaining_pairs es xs ++ ds
   remaining-front [] ds [] h = remaining-none ds
   remaining-front [] ds (x ∷ xs) h = absurd (omega (arith, h))
   remaining-front (e ∷ es) ds [] h = refl
   remaining-front (e ∷ es) ds (x ∷ xs) h = let more = remaining-front es ds xs (omega (arith, h)) in
-      elim (is_left x.1) as (λ z. (if z then (e.0, x.0) ∷ remaining (es ++ ds) xs else remaining (es ++ ds) xs)
-      ≡ (if z then (e.0, x.0) ∷ remaining es xs else remaining es xs) ++ ds) [
+      elim (is_left x.1) as (λ z. (if z then (e.0, x.0) ∷ remaining_pairs (es ++ ds) xs else remaining_pairs
+      (es ++ ds) xs)
+      ≡ (if z then (e.0, x.0) ∷ remaining_pairs es xs else remaining_pairs es xs) ++ ds) [
         | true ↦ ap (λ z. (e.0, x.0) ∷ z) more
         | false ↦ more
       ]
 
   pub remaining-after : (p : List ℕ) (es : List (List ℕ × V)) (xs : List (V × Fate))
-      → remaining (with_prefix p es) xs ≡ with_prefix p (remaining es xs)
+      → remaining_pairs (with_prefix p es) xs ≡ with_prefix p (remaining_pairs es xs)
   remaining-after p [] xs = refl
   remaining-after p (e ∷ es) [] = refl
   remaining-after p (e ∷ es) (x ∷ xs) = let more = remaining-after p es xs in
-      elim (is_left x.1) as (λ z. (if z then (p ++ e.0, x.0) ∷ remaining (with_prefix p es) xs
-      else remaining (with_prefix p es) xs)
-      ≡ with_prefix p (if z then (e.0, x.0) ∷ remaining es xs else remaining es xs)) [
+      elim (is_left x.1) as (λ z. (if z then (p ++ e.0, x.0) ∷ remaining_pairs (with_prefix p es) xs
+      else remaining_pairs (with_prefix p es) xs)
+      ≡ with_prefix p (if z then (e.0, x.0) ∷ remaining_pairs es xs else remaining_pairs es xs)) [
         | true ↦ ap (λ z. (p ++ e.0, x.0) ∷ z) more
         | false ↦ more
       ]
 
-  pub remaining-length : (es : List (List ℕ × V)) (xs : List (V × Fate)) → length (remaining es xs) ≤ length es
+  pub remaining-length : (es : List (List ℕ × V)) (xs : List (V × Fate)) → length (remaining_pairs es xs) ≤ length es
   remaining-length [] xs = omega arith
   remaining-length (e ∷ es) [] = omega arith
   remaining-length (e ∷ es) (x ∷ xs) = let more = remaining-length es xs in
-      elim (is_left x.1) as (λ z. length (if z then (e.0, x.0) ∷ remaining es xs else remaining es xs)
+      elim (is_left x.1) as (λ z. length (if z then (e.0, x.0) ∷ remaining_pairs es xs else remaining_pairs es xs)
       ≤ length (e ∷ es)) [ true ↦ omega (arith, more) | false ↦ omega (arith, more) ]
 
   pub remaining-longest : (es : List (List ℕ × V)) (xs : List (V × Fate))
-      → longest_key (remaining es xs) ≤ longest_key es
+      → longest_key (remaining_pairs es xs) ≤ longest_key es
   remaining-longest [] xs = omega arith
   remaining-longest (e ∷ es) [] = omega arith
   remaining-longest (e ∷ es) (x ∷ xs) = let more = remaining-longest es xs in
-      elim (is_left x.1) as (λ z. longest_key (if z then (e.0, x.0) ∷ remaining es xs else remaining es xs)
+      elim (is_left x.1) as (λ z. longest_key (if z then (e.0, x.0) ∷ remaining_pairs es xs else remaining_pairs es xs)
       ≤ longest_key (e ∷ es)) [ true ↦ omega (arith, more) | false ↦ omega (arith, more) ]
 
   pub refusals-append : (xs ys : List (V × Fate)) → refusals (xs ++ ys) ≡ refusals xs + refusals ys
@@ -131,12 +132,12 @@ module _ {V : Type 0} where
 
   -- each leaves a pair less
   pub remaining-fulfilled : (es : List (List ℕ × V)) (xs : List (V × Fate)) → length xs ≡ length es
-      → length (remaining es xs) ≡ length (remaining es (all_fulfilled xs)) + refusals xs
+      → length (remaining_pairs es xs) ≡ length (remaining_pairs es (all_fulfilled xs)) + refusals xs
   remaining-fulfilled [] [] h = omega arith
   remaining-fulfilled [] (x ∷ xs) h = absurd (omega (arith, h))
   remaining-fulfilled (e ∷ es) [] h = absurd (omega (arith, h))
-  remaining-fulfilled (e ∷ es) (x ∷ xs) h = length-stays x.1 e.0 x.0 (remaining es xs)
-      (remaining es (all_fulfilled xs)) (refusals xs) (remaining-fulfilled es xs (omega (arith, h)))
+  remaining-fulfilled (e ∷ es) (x ∷ xs) h = length-stays x.1 e.0 x.0 (remaining_pairs es xs)
+      (remaining_pairs es (all_fulfilled xs)) (refusals xs) (remaining-fulfilled es xs (omega (arith, h)))
 
   -- the key whose removal was refused
   pub refused_key-append : (es ds : List (List ℕ × V)) (xs ys : List (V × Fate)) → length xs ≡ length es
@@ -177,10 +178,10 @@ module _ {V : Type 0} where
       ap Some (ap (λ z. z.0) same)
 
   pub refused_key-only : (es : List (List ℕ × V)) (xs : List (V × Fate)) (k : List ℕ) (v : V) → length xs ≡ length es
-      → refusals xs ≡ 1 → remaining es xs ≡ (k, v) ∷ [] → refused_key es xs ≡ Some k
+      → refusals xs ≡ 1 → remaining_pairs es xs ≡ (k, v) ∷ [] → refused_key es xs ≡ Some k
   refused_key-only [] xs k v l r h = absurd (cc)
   refused_key-only (e ∷ es) [] k v l r h = absurd (omega (arith, l))
-  refused_key-only (e ∷ es) (x ∷ xs) k v l r h = key-only x.1 e.0 k x.0 v (remaining es xs) (refusals xs)
+  refused_key-only (e ∷ es) (x ∷ xs) k v l r h = key-only x.1 e.0 k x.0 v (remaining_pairs es xs) (refusals xs)
       (refused_key es xs) (λ a b. refused_key-only es xs k v (omega (arith, l)) b a)
       (omega (arith, remaining-fulfilled es xs (omega (arith, l)))) r h
 

@@ -3,7 +3,7 @@ use Rattle.std.proofs.Common.{◌≡◌, ℕ, suc, ◌<◌, ◌≤◌, ⊎_elim,
 use Rattle.std.proofs.Common.{None, refl, arith, sym, ap, ◌∙◌}
 use Rattle.std.proofs.lemmas.Bool.Decides.{nat_tests}
 use Rattle.rart_keys.proofs.ByteOrder.{order, is_less, is_equal, is_greater, eq-yes, eq-no}
-use Rattle.rart_parts.specs.Entries.{child_at, with_entry, replaced}
+use Rattle.rart_parts.specs.Entries.{child_at, with_entry, replaced_at}
 use Rattle.rart_parts.proofs.EntryLemmas.{length-with_entry}
 use Rattle.rart_nodes.specs.tries.Trie.{Trie, child, edges_of, IsCanonical, AreCanonical, trie_put, put_child, leaf}
 use Rattle.rart_nodes.specs.tries.Trie.{two_children}
@@ -20,9 +20,9 @@ module _ {V : Type 0} where
   edges_of-length [] = refl
   edges_of-length (e ∷ es) = omega (arith, edges_of-length es)
 
-  pub replaced-length : (b : ℕ) (t : Trie V) (es : List (ℕ × Trie V)) → length (replaced b t es) ≡ length es
+  pub replaced-length : (b : ℕ) (t : Trie V) (es : List (ℕ × Trie V)) → length (replaced_at b t es) ≡ length es
   replaced-length b t [] = refl
-  replaced-length b t (e ∷ es) = elim (eqb e.0 b) as (λ z. length (cond z ((b, t) ∷ es) (e ∷ replaced b t es))
+  replaced-length b t (e ∷ es) = elim (eqb e.0 b) as (λ z. length (cond z ((b, t) ∷ es) (e ∷ replaced_at b t es))
       ≡ length (e ∷ es)) [ true ↦ refl | false ↦ ap suc (replaced-length b t es) ]
 
   pub with_entry-length : (b : ℕ) (t : Trie V) (es : List (ℕ × Trie V)) → None ≡ child_at b es
@@ -69,7 +69,7 @@ module _ {V : Type 0} where
 
   pub put_child-found : (b low : ℕ) (k : List ℕ) (v : V) (t : Trie V) (es : List (ℕ × Trie V))
       → AreCanonical low (as_children es) → Some t ≡ child_at b es
-      → put_child b k v (as_children es) ≡ as_children (replaced b (trie_put k v t) es)
+      → put_child b k v (as_children es) ≡ as_children (replaced_at b (trie_put k v t) es)
   put_child-found b low k v t [] w s = absurd (cc)
   put_child-found b low k v t (e ∷ es) w s = elim (found b low t e es w s) [
     | at_first h q ↦ rw (is_equal b e.0 h, eq-yes e.0 b (sym h), q, h) refl

@@ -4,7 +4,7 @@ use Rattle.std.proofs.Common.{sym, ap, ◌∙◌, arith, subst, option_map, true
 use Rattle.std.proofs.lemmas.Bool.{cases_lt}
 use Rattle.std.specs.Prelude.{slice_get}
 use Rattle.rart_keys.proofs.ByteOrder.{eq-yes, eq-no, order}
-use Rattle.rart_parts.specs.Entries.{child_at, entries_above, replaced}
+use Rattle.rart_parts.specs.Entries.{child_at, entries_above, replaced_at}
 use Rattle.rart_nodes.specs.tries.Trie.{Trie, node}
 use Rattle.rart_nodes.specs.tries.TrieCode.{as_children, child_count, node_count}
 use Rattle.rart_nodes.proofs.storages.ChildLemmas.{lt-no, lt-yes, some-equal}
@@ -54,14 +54,14 @@ module _ {V : Type 0} where
       (cases_lt b e.0)
 
   above-replaced : (b c : ℕ) (u : Trie V) (es : List (ℕ × Trie V))
-      → length (entries_above b (replaced c u es)) ≡ length (entries_above b es)
+      → length (entries_above b (replaced_at c u es)) ≡ length (entries_above b es)
   above-replaced b c u [] = refl
   above-replaced b c u (e ∷ es) = ⊎_elim
       (λ q. rw (eq-yes e.0 c q, q) (elim (ltb b c) as (λ z.
       length (cond z ((c, u) ∷ entries_above b es) (entries_above b es))
       ≡ length (cond z ((c, e.1) ∷ entries_above b es) (entries_above b es))) [ true ↦ refl | false ↦ refl ]))
-      (λ n. rw (eq-no e.0 c n) (elim (ltb b e.0) as (λ z. length (cond z (e ∷ entries_above b (replaced c u es))
-      (entries_above b (replaced c u es))) ≡ length (cond z (e ∷ entries_above b es) (entries_above b es))) [
+      (λ n. rw (eq-no e.0 c n) (elim (ltb b e.0) as (λ z. length (cond z (e ∷ entries_above b (replaced_at c u es))
+      (entries_above b (replaced_at c u es))) ≡ length (cond z (e ∷ entries_above b es) (entries_above b es))) [
         | true ↦ ap suc (above-replaced b c u es)
         | false ↦ above-replaced b c u es
       ]))
@@ -77,7 +77,7 @@ module _ {V : Type 0} where
 
   count-replaced : (b : ℕ) (t u : Trie V) (es : List (ℕ × Trie V)) → Some t ≡ child_at b es
       → node_count u ≤ node_count t
-      → child_count (as_children (replaced b u es)) ≤ child_count (as_children es)
+      → child_count (as_children (replaced_at b u es)) ≤ child_count (as_children es)
   count-replaced b t u [] s h = omega arith
   count-replaced b t u (e ∷ es) s h = ⊎_elim
       (λ q. rw (eq-yes e.0 b q) (omega (arith, h, ap node_count (some-equal t e.1 (rw (eq-yes e.0 b q) at s)))))
@@ -128,7 +128,7 @@ module _ {V : Type 0} where
   -- a child loses its children, and the walk continues above it
   pub dropping-step : (n b w : ℕ) (p : List ℕ) (v : Option V) (t : Trie V) (ds es es' : List (ℕ × Trie V))
       (next : Option ℕ) → Dropping n es (Some b) → Some t ≡ child_at b es → ds ≡ []
-      → es' ≡ replaced b (node p v w (as_children ds)) es
+      → es' ≡ replaced_at b (node p v w (as_children ds)) es
       → next ≡ option_map (λ e. e.0) (slice_get (entries_above b es') 0)
       → Dropping n es' next × (ahead_count next es' < ahead_count (Some b) es)
   dropping-step n b w p v t ds es es' next i s h r a =

@@ -6,7 +6,7 @@ use Rattle.std.proofs.lemmas.List.{append_assoc}
 use Rattle.rart_keys.specs.ByteStrings.{begins}
 use Rattle.rart_keys.specs.Filters.{below}
 use Rattle.rart_keys.proofs.ByteOrder.{eq-yes, eq-no}
-use Rattle.rart_parts.specs.Entries.{child_at, entries_above, replaced}
+use Rattle.rart_parts.specs.Entries.{child_at, entries_above, replaced_at}
 use Rattle.rart_nodes.specs.shapes.Shape.{capacity_of}
 use Rattle.rart_nodes.specs.tries.Trie.{Trie, node, Children, child, no_children, pairs_of, children_pairs}
 use Rattle.rart_nodes.specs.tries.Trie.{AreCanonical, HasTwoChildren, IsCanonical, StartsWith, edges_of, prefix_of}
@@ -36,7 +36,7 @@ module _ {V : Type 0} where
   -- a child in the place of one with its prefix
   pub replaced-canonical : (b low : ℕ) (t u : Trie V) (es : List (ℕ × Trie V)) → AreCanonical low (as_children es)
       → Some t ≡ child_at b es → IsCanonical u → prefix_of u ≡ prefix_of t
-      → AreCanonical low (as_children (replaced b u es))
+      → AreCanonical low (as_children (replaced_at b u es))
   replaced-canonical b low t u [] w s c q = absurd (cc)
   replaced-canonical b low t u (e ∷ es) w s c q = elim (found b low t e es w s) [
     | at_first h d ↦ rw (eq-yes e.0 b (sym h)) (
@@ -50,7 +50,7 @@ module _ {V : Type 0} where
   ]
 
   pub replaced-edges : (b low : ℕ) (t u : Trie V) (es : List (ℕ × Trie V)) → AreCanonical low (as_children es)
-      → Some t ≡ child_at b es → edges_of (as_children (replaced b u es)) ≡ edges_of (as_children es)
+      → Some t ≡ child_at b es → edges_of (as_children (replaced_at b u es)) ≡ edges_of (as_children es)
   replaced-edges b low t u [] w s = absurd (cc)
   replaced-edges b low t u (e ∷ es) w s = elim (found b low t e es w s) [
     | at_first h d ↦ rw (eq-yes e.0 b (sym h)) (ap (λ z. z ∷ edges_of (as_children es)) h)
@@ -79,9 +79,9 @@ module _ {V : Type 0} where
 
   pub child-canonical : (q : List ℕ) (v : Option V) (n m b : ℕ) (u x : Trie V) (es ds : List (ℕ × Trie V))
       → IsCanonical (node q v n (as_children es)) → Some u ≡ child_at b es → IsCanonical x → prefix_of x ≡ prefix_of u
-      → m ≡ n → ds ≡ replaced b x es → IsCanonical (node q v m (as_children ds))
+      → m ≡ n → ds ≡ replaced_at b x es → IsCanonical (node q v m (as_children ds))
   child-canonical q v n m b u x es ds c a w p e d = rw (e, d) (alike-canonical q v v n (as_children es)
-      (as_children (replaced b x es)) refl (replaced-edges b 0 u x es c.2 a)
+      (as_children (replaced_at b x es)) refl (replaced-edges b 0 u x es c.2 a)
       (replaced-canonical b 0 u x es c.2 a w p) c)
 
   -- entries in their order, with one of them at b
@@ -98,7 +98,7 @@ module _ {V : Type 0} where
 
   pub middle-replaced : (b low : ℕ) (u w : Trie V) (xs ys : List (ℕ × Trie V))
       → AreCanonical low (as_children (xs ++ (b, u) ∷ ys))
-      → replaced b w (xs ++ (b, u) ∷ ys) ≡ xs ++ (b, w) ∷ ys
+      → replaced_at b w (xs ++ (b, u) ∷ ys) ≡ xs ++ (b, w) ∷ ys
   middle-replaced b low u w [] ys c = rw (eq-yes b b refl) refl
   middle-replaced b low u w (x ∷ xs) ys c = rw (eq-no x.0 b (λ q. omega (arith, q, middle-low b (suc x.0) u xs ys c.3)))
       (ap (λ z. x ∷ z) (middle-replaced b (suc x.0) u w xs ys c.3))

@@ -321,9 +321,9 @@ module _ {V : Type 0} where
       rw (f, z.1) (leave-at g longest places z.0 k (reverse rest) q)
 
   -- a node of capacity 0 has no children
-  pub bare : (t : Trie V) → is_canonical t ≡ true → capacity_in t ≡ 0 → children_in t ≡ no_children
-  bare (node p v n no_children) w e = refl
-  bare (node p v n (child b t cs)) w e =
+  pub childless : (t : Trie V) → is_canonical t ≡ true → capacity_in t ≡ 0 → children_in t ≡ no_children
+  childless (node p v n no_children) w e = refl
+  childless (node p v n (child b t cs)) w e =
       let c : n ≡ capacity_of (length (edges_of (child b t cs))) = (IsCanonical-test (node p v n (child b t cs)) w).1 in
       absurd (some-capacity (length (edges_of cs)) (sym c ∙ e))
 

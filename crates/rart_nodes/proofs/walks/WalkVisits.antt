@@ -10,8 +10,8 @@ use Rattle.rart_nodes.specs.tries.Trie.{IsCanonical}
 use Rattle.rart_nodes.proofs.tries.CanonicalTests.{IsCanonical-test}
 use Rattle.rart_nodes.proofs.walks.WalkLemmas.{first-child, deepest, level-before}
 
-not-bare : (V : Type 0) (p : List ℕ) (n : ℕ) → IsCanonical {V = V} (node p None n no_children) → ⊥
-not-bare V p n w = ⊎_elim (λ h. cc) (λ h. absurd h) w.0
+not-childless : (V : Type 0) (p : List ℕ) (n : ℕ) → IsCanonical {V = V} (node p None n no_children) → ⊥
+not-childless V p n w = ⊎_elim (λ h. cc) (λ h. absurd h) w.0
 
 grown_long : (g : Grown) (p : List ℕ) → KeepsEach g → 0 < length p → 0 < length (g p)
 grown_long g [] h l = absurd (omega arith)
@@ -61,12 +61,13 @@ module _ {V : Type 0} where
   fresh-node : (t : Trie V) (k : SegmentList) (ls : List (Level V)) → is_canonical t ≡ true → None ≡ value_of t
       → IsFresh k ((children_in t, length k) ∷ ls)
   fresh-node (node p None n no_children) k ls w v
-      = absurd (not-bare V p n (IsCanonical-test {V = V} (node p None n no_children) w))
+      = absurd (not-childless V p n (IsCanonical-test {V = V} (node p None n no_children) w))
   fresh-node (node p None n (child b t cs)) k ls w v = refl
   fresh-node (node p (Some x) n cs) k ls w v = absurd (cc)
 
   pub has-child : (t : Trie V) → is_canonical t ≡ true → None ≡ value_of t → children_in t ≡ no_children → ⊥
-  has-child (node p None n no_children) w v e = not-bare V p n (IsCanonical-test {V = V} (node p None n no_children) w)
+  has-child (node p None n no_children) w v e = not-childless V p n
+      (IsCanonical-test {V = V} (node p None n no_children) w)
   has-child (node p None n (child b t cs)) w v e = cc
   has-child (node p (Some x) n cs) w v e = cc
 

@@ -43,10 +43,10 @@ pub record CalledFor {F V : Type 0} (call : Mut F (Bor (List ℕ) × (MutBor V �
   pub leaves : left.now ≡ w
 
 -- what is left of a list, of whose first pairs each has a fate, and a value that its call left
-abbrev pub remaining : {V : Type 0} → List (List ℕ × V) → List (V × Fate) → List (List ℕ × V)
-remaining [] xs = []
-remaining (e ∷ es) [] = e ∷ es
-remaining (e ∷ es) (x ∷ xs) = if is_left x.1 then (e.0, x.0) ∷ remaining es xs else remaining es xs
+abbrev pub remaining_pairs : {V : Type 0} → List (List ℕ × V) → List (V × Fate) → List (List ℕ × V)
+remaining_pairs [] xs = []
+remaining_pairs (e ∷ es) [] = e ∷ es
+remaining_pairs (e ∷ es) (x ∷ xs) = if is_left x.1 then (e.0, x.0) ∷ remaining_pairs es xs else remaining_pairs es xs
 
 -- the first key whose removal was refused
 abbrev pub key_refused : List ℕ → Fate → Option (List ℕ) → Option (List ℕ)
@@ -104,7 +104,7 @@ module _ {F V : Type 0} (call : Mut F (Bor (List ℕ) × (MutBor V × Unit {0}))
     pub all : length fates ≡ length es
     pub refused : refusals fates ≡ n
     pub ends : EndsBelowRefused es fates
-    pub left : ds ≡ remaining es fates
+    pub left : ds ≡ remaining_pairs es fates
 
   -- f was called with the first pairs, and ds is left of all; one removal was refused, that of k
   pub record RetainsFirst (q : List ℕ) (f : F) (es ds : List (List ℕ × V)) (k : List ℕ) (f' : F) : Type 0 where
@@ -113,7 +113,7 @@ module _ {F V : Type 0} (call : Mut F (Bor (List ℕ) × (MutBor V × Unit {0}))
     pub refused : refusals fates ≡ 1
     pub key : refused_key es fates ≡ Some k
     pub ends : EndsBelowRefused es fates
-    pub left : ds ≡ remaining es fates
+    pub left : ds ≡ remaining_pairs es fates
 
   -- all pairs were visited; or the walk ended after a refused removal, and that removal requests memory
   abbrev pub Retains : {E : Type 0} → F → List (List ℕ × V) → Result (Unit {0}) E → List (List ℕ × V) → F → Type 0

@@ -48,8 +48,8 @@ abbrev mutual
       (pair_child d own b u cs)
 
 -- the keys of both
-abbrev pub intersected : {X : Type 0} → Pairing (List (List ℕ × X))
-intersected = record {
+abbrev pub intersected_maps : {X : Type 0} → Pairing (List (List ℕ × X))
+intersected_maps = record {
   apart = [];
   shared = λ x es. with_prefix (x ∷ []) es;
   also = λ xs ys. xs ++ ys;
@@ -61,27 +61,28 @@ abbrev pub with_own_pair : {V W : Type 0} → Option V → Option W → List (Li
 with_own_pair v w es = own_pair (both v w) ++ es
 
 abbrev pub intersect_nodes : {V W : Type 0} → Trie V → Trie W → List (List ℕ × (V × W))
-intersect_nodes t u = pair_tries intersected with_own_pair t u
+intersect_nodes t u = pair_tries intersected_maps with_own_pair t u
 
 -- the same step by step
 abbrev pub intersect_prefixes : {X : Type 0} → List ℕ → List ℕ → List (List ℕ × X) → (ℕ → List ℕ → List (List ℕ × X))
     → (ℕ → List ℕ → List (List ℕ × X)) → List (List ℕ × X)
-intersect_prefixes {X} p q ended f g = pair_prefixes (intersected {X = X}).apart (intersected {X = X}).shared p q ended
+intersect_prefixes {X} p q ended f g = pair_prefixes (intersected_maps {X = X}).apart
+    (intersected_maps {X = X}).shared p q ended
     f g
 
 abbrev pub intersect_each : {W X : Type 0} → (ℕ → Trie W → List (List ℕ × X)) → Children W → List (List ℕ × X)
-intersect_each {W} {X} f ds = pair_each (intersected {X = X}).apart (intersected {X = X}).also f ds
+intersect_each {W} {X} f ds = pair_each (intersected_maps {X = X}).apart (intersected_maps {X = X}).also f ds
 
 abbrev pub intersect_in : {V W : Type 0} → List ℕ → Option V → (ℕ → Trie W → List (List ℕ × (V × W))) → Trie W
     → List (List ℕ × (V × W))
-intersect_in p v f u = pair_in intersected p (with_own_pair v) f u
+intersect_in p v f u = pair_in intersected_maps p (with_own_pair v) f u
 
 abbrev pub intersect_down : {V W : Type 0} → ℕ → List ℕ → Option V → (ℕ → Trie W → List (List ℕ × (V × W))) → Children W
     → List (List ℕ × (V × W))
-intersect_down b l v f ds = pair_down intersected b l (with_own_pair v) f ds
+intersect_down b l v f ds = pair_down intersected_maps b l (with_own_pair v) f ds
 
 abbrev pub intersect_child : {V W : Type 0} → ℕ → Trie W → Children V → List (List ℕ × (V × W))
-intersect_child b u cs = pair_child intersected with_own_pair b u cs
+intersect_child b u cs = pair_child intersected_maps with_own_pair b u cs
 
 -- a node of which the rest p of its prefix is left
 abbrev pub with_rest : {V : Type 0} → List ℕ → Trie V → Trie V

@@ -1,7 +1,7 @@
 -- What a storage holds.
 use Rattle.std.specs.Prelude.{ℕ, ◌≡◌, ◌≢◌, ◌<◌, ◌≤◌, ◌+◌, List, [], length, Option, None, is_some, if◌then◌else◌}
 use Rattle.std.specs.Prelude.{OnSome}
-use Rattle.rart_parts.specs.Entries.{ascending, child_at, replaced}
+use Rattle.rart_parts.specs.Entries.{sorted_entries, child_at, replaced_at}
 use Rattle.rart_nodes.specs.declared.node.storage.Storage.{Storage}
 use Rattle.rart_nodes.specs.declared.node.storage.Storage.TheVariants.{Leaf, Node4, Node16, Node48, Node256}
 use Rattle.rart_nodes.specs.storages.Capacities.{shrunk_capacity, previous_capacity}
@@ -11,7 +11,7 @@ abbrev pub child_entries : {N : Type 0} → Storage N → List (ℕ × N)
 child_entries Leaf = []
 child_entries (Node4 m) = m.value
 child_entries (Node16 m) = m.value
-child_entries (Node48 m) = ascending m.value
+child_entries (Node48 m) = sorted_entries m.value
 child_entries (Node256 m) = m.value
 
 -- how many children a storage of its kind holds at most
@@ -41,4 +41,4 @@ StoresSame old new = StoresSo old (child_entries old) new
 
 -- what was lent of the child at b, if anything was, is w in the new storage
 abbrev pub StoresLent : {A N : Type 0} → ℕ → N → Option A → Storage N → Storage N → Type 0
-StoresLent b w lent old new = OnSome lent (StoresSo old (replaced b w (child_entries old)) new)
+StoresLent b w lent old new = OnSome lent (StoresSo old (replaced_at b w (child_entries old)) new)

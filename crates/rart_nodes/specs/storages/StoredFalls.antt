@@ -3,7 +3,7 @@ use Rattle.std.specs.Prelude.{◌≡◌, ℕ, ◌+◌, ◌≤◌, max, Bool, tru
 use Rattle.std.proofs.Common.{arith, refl}
 use denote.Param.Weighed.{most}
 use Rattle.rart_keys.specs.declared.partials.Partial.{Ghosts}
-use Rattle.rart_parts.specs.Entries.{with_another, ascending}
+use Rattle.rart_parts.specs.Entries.{with_another, sorted_entries}
 use Rattle.rart_nodes.specs.declared.node.DefaultNode.TheDeep.{deep-DefaultNode}
 use Rattle.rart_nodes.specs.declared.node.storage.Storage.{Storage}
 use Rattle.rart_nodes.specs.declared.node.storage.Storage.TheVariants.{Leaf, Node4, Node16, Node48, Node256}
@@ -26,10 +26,10 @@ count-with_another : {V : Type 0} (k : ℕ) (t : Trie V) (es : List (ℕ × Trie
 count-with_another k t [] = refl
 count-with_another k t (e ∷ es) = count-either (nat_lt e.0 k) _ _ _ (omega (arith, count-with_another k t es)) refl
 
-count-ascending : {V : Type 0} (es : List (ℕ × Trie V)) → child_count (as_children (ascending es))
+count-ascending : {V : Type 0} (es : List (ℕ × Trie V)) → child_count (as_children (sorted_entries es))
     ≡ child_count (as_children es)
 count-ascending [] = refl
-count-ascending (e ∷ es) = omega (arith, count-with_another e.0 e.1 (ascending es), count-ascending es)
+count-ascending (e ∷ es) = omega (arith, count-with_another e.0 e.1 (sorted_entries es), count-ascending es)
 
 pub deep_le-stored : {P V : Type 0} (G : Ghosts P) (p : P) (v : Option V) (s : Storage (Trie V))
     → deep-DefaultNode P V G (record { prefix = p; value = v; storage = s }) ≤ child_count (as_children

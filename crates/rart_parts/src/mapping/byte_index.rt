@@ -3,7 +3,7 @@ ghost use Rattle.std.specs.Prelude.{◌≡◌, ◌<◌, None, Some, replicate, s
 ghost use Rattle.std.specs.Iterator.{YieldsFirst, item_count};
 ghost use Rattle.rart_parts.specs.Bits.{IsFirst};
 ghost use Rattle.rart_parts.specs.Entries.{entries_above};
-ghost use Rattle.rart_parts.specs.Places.{is_used, numbered};
+ghost use Rattle.rart_parts.specs.Places.{is_used, numbered_values};
 
 use crate::utils::bitset::{Bitset, Bitset64, BitsetOnesIter, BitsetTrait};
 use std::iter::FusedIterator;
@@ -80,7 +80,7 @@ impl ByteIndex {
 
     /// Returns the bytes that have a slot, with their slots, ascending.
     pub(crate) fn iter(&self) -> ByteIndexIter<'_>
-        ensures { result ≡ numbered 0 self.now }
+        ensures { result ≡ numbered_values 0 self.now }
     {
         ByteIndexIter {
             bytes: self.used.iter(),
@@ -92,7 +92,7 @@ impl ByteIndex {
 impl ByteIndex {
     /// Returns the bytes above `byte` that have a slot, with their slots, ascending.
     pub(crate) fn iter_above(&self, byte: u8) -> ByteIndexIter<'_>
-        ensures { result ≡ entries_above byte (numbered 0 self.now) }
+        ensures { result ≡ entries_above byte (numbered_values 0 self.now) }
     {
         let mut bytes = self.used.iter();
         bytes.pass(byte as usize);

@@ -3,7 +3,7 @@
 ghost use Rattle.std.specs.Prelude.{◌≡◌, ℕ, [], ◌∷◌, IfSome, Some, ◌<◌, ◌≤◌, length, IfErr, IfOk, None, OnOk, OnErr};
 ghost use Rattle.std.specs.Iterator.{UpTo, YieldsFirst, YieldsFirstBy, item_count};
 ghost use Rattle.std.specs.Iterator.SizeHint.{IsWithinCount};
-ghost use Rattle.rart_parts.specs.Entries.{BytesAscend, ascending, entries_above};
+ghost use Rattle.rart_parts.specs.Entries.{BytesAscend, sorted_entries, entries_above};
 
 use crate::error::TreeError;
 use crate::mapping::{IndexedMapping, NodeMapping};
@@ -23,14 +23,14 @@ pub struct DirectMapping<N> {
 impl<N> Model for DirectMapping<N> {
     ghost use Rattle.std.specs.Prelude.{ℕ, List};
     ghost use Rattle.std.specs.Coded.{coded_list, coded×, coded_ℕ};
-    ghost use Rattle.rart_parts.specs.Places.{numbered};
+    ghost use Rattle.rart_parts.specs.Places.{numbered_values};
     ghost use Rattle.rart_parts.specs.Direct.{IsDirect};
 
     ghost Value = { List (ℕ × N) };
 
     ghost coded = { coded_list (coded× coded_ℕ N.code) };
 
-    ghost view = { λ m. numbered 0 m.places.items };
+    ghost view = { λ m. numbered_values 0 m.places.items };
 
     ghost invariant = { λ m. IsDirect m.places.items m.num_children };
 }
@@ -84,8 +84,8 @@ impl<N> DirectMapping<N> {
         alloc: Global,
         source: &mut IndexedMapping<N, U, B>,
     ) -> Result<Self, TreeError>
-        ensures ok { IfOk result (λ m. m ≡ ascending source.old) }
-        ensures emptied { OnOk result (ascending source.new ≡ []) }
+        ensures ok { IfOk result (λ m. m ≡ sorted_entries source.old) }
+        ensures emptied { OnOk result (sorted_entries source.new ≡ []) }
         ensures memory { IfErr result (λ e. e ≡ TreeError.Memory) }
         ensures unchanged { OnErr result (source.new ≡ source.old) }
     {
@@ -100,8 +100,8 @@ impl<N> DirectMapping<N> {
         source: &mut IndexedMapping<N, U, B>,
     )
         requires { self.old ≡ [] }
-        ensures filled { self.new ≡ ascending source.old }
-        ensures emptied { ascending source.new ≡ [] }
+        ensures filled { self.new ≡ sorted_entries source.old }
+        ensures emptied { sorted_entries source.new ≡ [] }
     {
         // Its bytes ascend.
         let _count = source.num_children();
@@ -170,13 +170,13 @@ pub struct DirectMappingIter<'a, N> {
 impl<'a, N> Model for DirectMappingIter<'a, N> {
     ghost use Rattle.std.specs.Prelude.{ℕ, List, length, ◌+◌, ◌≤◌};
     ghost use Rattle.std.specs.Coded.{coded_list, coded×, coded_ℕ};
-    ghost use Rattle.rart_parts.specs.Places.{numbered};
+    ghost use Rattle.rart_parts.specs.Places.{numbered_values};
 
     ghost Value = { List (ℕ × N) };
 
     ghost coded = { coded_list (coded× coded_ℕ N.code) };
 
-    ghost view = { λ it. numbered it.byte it.places.now };
+    ghost view = { λ it. numbered_values it.byte it.places.now };
 
     ghost invariant = { λ it. it.byte + length it.places.now ≤ 256 };
 }
@@ -216,16 +216,16 @@ impl<N> Model for DirectMappingIntoIter<N> {
     ghost use Rattle.std.specs.Prelude.{◌≡◌, ℕ, List, length, ◌+◌, ◌≤◌};
     ghost use Rattle.std.specs.Coded.{coded_list, coded×, coded_ℕ};
     ghost use Rattle.std.specs.Vec.Iter.{into_iter_items};
-    ghost use Rattle.rart_parts.specs.Places.{numbered};
+    ghost use Rattle.rart_parts.specs.Places.{numbered_values};
 
     ghost Value = { List (ℕ × N) };
 
     ghost coded = { coded_list (coded× coded_ℕ N.code) };
 
-    ghost view = { λ it. numbered it.byte (into_iter_items it.places) };
+    ghost view = { λ it. numbered_values it.byte (into_iter_items it.places) };
 
     ghost invariant = { λ it. (it.byte + length (into_iter_items it.places) ≤ 256)
-        × (it.num_children ≡ length (numbered it.byte (into_iter_items it.places))) };
+        × (it.num_children ≡ length (numbered_values it.byte (into_iter_items it.places))) };
 }
 
 impl<N: Drop> IntoIterator for DirectMapping<N> {

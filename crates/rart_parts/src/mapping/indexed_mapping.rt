@@ -7,7 +7,7 @@ ghost use Rattle.std.specs.Prelude.{◌≡◌, ℕ, [], ◌∷◌, IfSome, IsSom
 ghost use Rattle.std.specs.Prelude.{OnOk, OnErr, MatchOption};
 ghost use Rattle.std.specs.Iterator.{UpTo, YieldsFirst, YieldsFirstBy, item_count};
 ghost use Rattle.std.specs.Iterator.SizeHint.{IsWithinCount};
-ghost use Rattle.rart_parts.specs.Entries.{BytesAscend, ascending, child_at, entries_above};
+ghost use Rattle.rart_parts.specs.Entries.{BytesAscend, sorted_entries, child_at, entries_above};
 
 use crate::error::TreeError;
 use crate::mapping::byte_index::{ByteIndex, ByteIndexIter};
@@ -51,7 +51,7 @@ impl<N, const W: usize, B: BitsetTrait> IndexedMapping<N, W, B> {
         requires narrow { W ≤ 255 }
         requires covers { W ≤ B.CAPACITY }
         requires fits { B.CAPACITY < 2 ^ 64 }
-        ensures ok { IfOk result (λ m. ascending m ≡ []) }
+        ensures ok { IfOk result (λ m. sorted_entries m ≡ []) }
         ensures memory { IfErr result (λ e. e ≡ TreeError.Memory) }
     {
         let children = BitArray::new(alloc)?;
@@ -75,7 +75,7 @@ impl<N, const W: usize, B: BitsetTrait> IndexedMapping<N, W, B> {
         requires covers { W ≤ B.CAPACITY }
         requires fits { B.CAPACITY < 2 ^ 64 }
         requires few { length source.old ≤ W }
-        ensures ok { IfOk result (λ m. ascending m ≡ source.old) }
+        ensures ok { IfOk result (λ m. sorted_entries m ≡ source.old) }
         ensures emptied { OnOk result (source.new ≡ []) }
         ensures memory { IfErr result (λ e. e ≡ TreeError.Memory) }
         ensures unchanged { OnErr result (source.new ≡ source.old) }
@@ -87,9 +87,9 @@ impl<N, const W: usize, B: BitsetTrait> IndexedMapping<N, W, B> {
 
     /// Moves the children of a sorted mapping into this empty map. It does not allocate.
     pub fn fill_from_sorted_keyed<const U: usize>(&mut self, source: &mut SortedKeyedMapping<N, U>)
-        requires empty { ascending self.old ≡ [] }
+        requires empty { sorted_entries self.old ≡ [] }
         requires few { length source.old ≤ W }
-        ensures filled { ascending self.new ≡ source.old }
+        ensures filled { sorted_entries self.new ≡ source.old }
         ensures emptied { source.new ≡ [] }
     {
         // Its bytes ascend.
@@ -109,7 +109,7 @@ impl<N, const W: usize, B: BitsetTrait> IndexedMapping<N, W, B> {
         requires covers { W ≤ B.CAPACITY }
         requires fits { B.CAPACITY < 2 ^ 64 }
         requires few { length source.old ≤ W }
-        ensures ok { IfOk result (λ m. ascending m ≡ source.old) }
+        ensures ok { IfOk result (λ m. sorted_entries m ≡ source.old) }
         ensures emptied { OnOk result (source.new ≡ []) }
         ensures memory { IfErr result (λ e. e ≡ TreeError.Memory) }
         ensures unchanged { OnErr result (source.new ≡ source.old) }
@@ -121,9 +121,9 @@ impl<N, const W: usize, B: BitsetTrait> IndexedMapping<N, W, B> {
 
     /// Moves the children of a direct mapping into this empty map. It does not allocate.
     pub fn fill_from_direct(&mut self, source: &mut DirectMapping<N>)
-        requires empty { ascending self.old ≡ [] }
+        requires empty { sorted_entries self.old ≡ [] }
         requires few { length source.old ≤ W }
-        ensures filled { ascending self.new ≡ source.old }
+        ensures filled { sorted_entries self.new ≡ source.old }
         ensures emptied { source.new ≡ [] }
     {
         // Its bytes ascend.
@@ -149,9 +149,9 @@ impl<N, const W: usize, B: BitsetTrait> IndexedMapping<N, W, B> {
         requires narrow { W ≤ 255 }
         requires covers { W ≤ B.CAPACITY }
         requires fits { B.CAPACITY < 2 ^ 64 }
-        requires few { length (ascending source.old) ≤ W }
-        ensures ok { IfOk result (λ m. ascending m ≡ ascending source.old) }
-        ensures emptied { OnOk result (ascending source.new ≡ []) }
+        requires few { length (sorted_entries source.old) ≤ W }
+        ensures ok { IfOk result (λ m. sorted_entries m ≡ sorted_entries source.old) }
+        ensures emptied { OnOk result (sorted_entries source.new ≡ []) }
         ensures memory { IfErr result (λ e. e ≡ TreeError.Memory) }
         ensures unchanged { OnErr result (source.new ≡ source.old) }
     {
@@ -165,10 +165,10 @@ impl<N, const W: usize, B: BitsetTrait> IndexedMapping<N, W, B> {
         &mut self,
         source: &mut KeyedMapping<N, U, C>,
     )
-        requires empty { ascending self.old ≡ [] }
-        requires few { length (ascending source.old) ≤ W }
-        ensures filled { ascending self.new ≡ ascending source.old }
-        ensures emptied { ascending source.new ≡ [] }
+        requires empty { sorted_entries self.old ≡ [] }
+        requires few { length (sorted_entries source.old) ≤ W }
+        ensures filled { sorted_entries self.new ≡ sorted_entries source.old }
+        ensures emptied { sorted_entries source.new ≡ [] }
     {
         // Its bytes ascend.
         let _count = source.num_children();
@@ -179,10 +179,10 @@ impl<N, const W: usize, B: BitsetTrait> IndexedMapping<N, W, B> {
 
     /// Returns the least byte with a child.
     pub(crate) fn first_byte(&self) -> Option<u8>
-        ensures some { MatchOption result (ascending self.now ≡ [])
-            (λ b. IsSome (child_at b (ascending self.now))) }
+        ensures some { MatchOption result (sorted_entries self.now ≡ [])
+            (λ b. IsSome (child_at b (sorted_entries self.now))) }
         ensures least { IfSome result
-            (λ b. (k : ℕ) → k < b → child_at k (ascending self.now) ≡ None) }
+            (λ b. (k : ℕ) → k < b → child_at k (sorted_entries self.now) ≡ None) }
     {
         let Some(byte) = self.index.first_used() else {
             return None;
@@ -192,9 +192,10 @@ impl<N, const W: usize, B: BitsetTrait> IndexedMapping<N, W, B> {
 
     /// Removes the child at the least byte and returns it with its byte.
     pub(crate) fn take_first(&mut self) -> Option<(u8, N)>
-        ensures { MatchOption result ((ascending self.old ≡ []) × (ascending self.new ≡ []))
-            (λ e. ascending self.old
-            ≡ e ∷ ascending self.new) }
+        ensures { MatchOption result
+            ((sorted_entries self.old ≡ []) × (sorted_entries self.new ≡ []))
+            (λ e. sorted_entries self.old
+            ≡ e ∷ sorted_entries self.new) }
     {
         let Some(byte) = self.index.first_used() else {
             return None;
@@ -206,7 +207,7 @@ impl<N, const W: usize, B: BitsetTrait> IndexedMapping<N, W, B> {
 }
 
 impl<N, const W: usize, B: BitsetTrait> NodeMapping<N, W> for IndexedMapping<N, W, B> {
-    ghost map = { ascending };
+    ghost map = { sorted_entries };
 
     fn add_child(&mut self, key: u8, node: N) {
         let slot = self.children.first_empty().unwrap();
@@ -245,7 +246,7 @@ impl<N, const W: usize, B: BitsetTrait> NodeMapping<N, W> for IndexedMapping<N, 
 impl<N, const W: usize, B: BitsetTrait> IndexedMapping<N, W, B> {
     /// Frees a map with no child. `N` needs no `Drop`.
     pub fn destroy_empty(self)
-        requires { ascending self ≡ [] }
+        requires { sorted_entries self ≡ [] }
     {
         let IndexedMapping {
             index: _index,
@@ -301,8 +302,8 @@ impl<'a, N> FusedIterator for IndexedMappingIter<'a, N> {}
 impl<N, const W: usize, B: BitsetTrait> IndexedMapping<N, W, B> {
     /// Returns the children with their bytes, ascending.
     pub fn iter(&self) -> IndexedMappingIter<'_, N>
-        ensures entries { result ≡ ascending self.now }
-        ensures ascends { BytesAscend (ascending self.now) }
+        ensures entries { result ≡ sorted_entries self.now }
+        ensures ascends { BytesAscend (sorted_entries self.now) }
     {
         IndexedMappingIter {
             slots: self.index.iter(),
@@ -312,8 +313,8 @@ impl<N, const W: usize, B: BitsetTrait> IndexedMapping<N, W, B> {
 
     /// Returns the children at the bytes above `byte`, ascending. The index skips the other bytes.
     pub fn iter_above(&self, byte: u8) -> IndexedMappingIter<'_, N>
-        ensures entries { result ≡ entries_above byte (ascending self.now) }
-        ensures ascends { BytesAscend (entries_above byte (ascending self.now)) }
+        ensures entries { result ≡ entries_above byte (sorted_entries self.now) }
+        ensures ascends { BytesAscend (entries_above byte (sorted_entries self.now)) }
     {
         IndexedMappingIter {
             slots: self.index.iter_above(byte),
@@ -331,13 +332,13 @@ pub struct IndexedMappingIntoIter<N, const W: usize, B: BitsetTrait> {
 impl<N, const W: usize, B: BitsetTrait> Model for IndexedMappingIntoIter<N, W, B> {
     ghost use Rattle.std.specs.Prelude.{ℕ, List};
     ghost use Rattle.std.specs.Coded.{coded_list, coded×, coded_ℕ};
-    ghost use Rattle.rart_parts.specs.Entries.{ascending};
+    ghost use Rattle.rart_parts.specs.Entries.{sorted_entries};
 
     ghost Value = { List (ℕ × N) };
 
     ghost coded = { coded_list (coded× coded_ℕ N.code) };
 
-    ghost view = { λ it. ascending it.rest };
+    ghost view = { λ it. sorted_entries it.rest };
 }
 
 impl<N: Drop, const W: usize, B: BitsetTrait> IntoIterator for IndexedMapping<N, W, B> {
@@ -345,7 +346,7 @@ impl<N: Drop, const W: usize, B: BitsetTrait> IntoIterator for IndexedMapping<N,
 
     type IntoIter = IndexedMappingIntoIter<N, W, B>;
 
-    ghost into_iter_gives = { λ m it. it ≡ ascending m };
+    ghost into_iter_gives = { λ m it. it ≡ sorted_entries m };
 
     fn into_iter(self) -> IndexedMappingIntoIter<N, W, B> {
         IndexedMappingIntoIter { rest: self }

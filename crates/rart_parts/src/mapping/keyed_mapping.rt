@@ -5,7 +5,7 @@
 
 ghost use Rattle.std.specs.Prelude.{◌≡◌, ℕ, [], ◌<◌, ◌≤◌, ◌^◌, length, IfErr, IfOk, OnOk, OnErr};
 ghost use Rattle.rart_parts.specs.Bits.{IsFirst};
-ghost use Rattle.rart_parts.specs.Entries.{TakesEntry, ascending};
+ghost use Rattle.rart_parts.specs.Entries.{TakesEntry, sorted_entries};
 ghost use Rattle.rart_parts.specs.Keys.{is_held};
 ghost use Rattle.rart_parts.specs.Places.{is_used};
 
@@ -51,7 +51,7 @@ impl<N, const W: usize, B: BitsetTrait> KeyedMapping<N, W, B> {
         requires narrow { W ≤ 255 }
         requires covers { W ≤ B.CAPACITY }
         requires fits { B.CAPACITY < 2 ^ 64 }
-        ensures ok { IfOk result (λ m. ascending m ≡ []) }
+        ensures ok { IfOk result (λ m. sorted_entries m ≡ []) }
         ensures memory { IfErr result (λ e. e ≡ TreeError.Memory) }
     {
         let children = BitArray::new(alloc)?;
@@ -75,8 +75,8 @@ impl<N, const W: usize, B: BitsetTrait> KeyedMapping<N, W, B> {
         requires narrow { W ≤ 255 }
         requires covers { W ≤ B.CAPACITY }
         requires fits { B.CAPACITY < 2 ^ 64 }
-        ensures ok { IfOk result (λ m. ascending m ≡ ascending source.old) }
-        ensures emptied { OnOk result (ascending source.new ≡ []) }
+        ensures ok { IfOk result (λ m. sorted_entries m ≡ sorted_entries source.old) }
+        ensures emptied { OnOk result (sorted_entries source.new ≡ []) }
         ensures memory { IfErr result (λ e. e ≡ TreeError.Memory) }
         ensures unchanged { OnErr result (source.new ≡ source.old) }
     {
@@ -92,10 +92,10 @@ impl<N, const W: usize, B: BitsetTrait> KeyedMapping<N, W, B> {
         &mut self,
         source: &mut KeyedMapping<N, U, C>,
     )
-        requires empty { ascending self.old ≡ [] }
-        requires few { length (ascending source.old) ≤ W }
-        ensures filled { ascending self.new ≡ ascending source.old }
-        ensures emptied { ascending source.new ≡ [] }
+        requires empty { sorted_entries self.old ≡ [] }
+        requires few { length (sorted_entries source.old) ≤ W }
+        ensures filled { sorted_entries self.new ≡ sorted_entries source.old }
+        ensures emptied { sorted_entries source.new ≡ [] }
     {
         // Its bytes ascend.
         let _count = source.num_children();
@@ -106,7 +106,7 @@ impl<N, const W: usize, B: BitsetTrait> KeyedMapping<N, W, B> {
 
     /// Removes the child in the first used slot and returns it with its byte.
     pub(crate) fn take_any(&mut self) -> Option<(u8, N)>
-        ensures { TakesEntry (ascending self.old) (ascending self.new) result }
+        ensures { TakesEntry (sorted_entries self.old) (sorted_entries self.new) result }
     {
         let Some(slot) = self.children.first_used() else {
             return None;
@@ -118,7 +118,7 @@ impl<N, const W: usize, B: BitsetTrait> KeyedMapping<N, W, B> {
 }
 
 impl<N, const W: usize, B: BitsetTrait> NodeMapping<N, W> for KeyedMapping<N, W, B> {
-    ghost map = { ascending };
+    ghost map = { sorted_entries };
 
     fn add_child(&mut self, key: u8, node: N) {
         let slot = self.children.first_empty().unwrap();
@@ -159,7 +159,7 @@ impl<N, const W: usize, B: BitsetTrait> NodeMapping<N, W> for KeyedMapping<N, W,
 impl<N, const W: usize, B: BitsetTrait> KeyedMapping<N, W, B> {
     /// Frees a map with no child. `N` needs no `Drop`.
     pub fn destroy_empty(self)
-        requires { ascending self ≡ [] }
+        requires { sorted_entries self ≡ [] }
     {
         let KeyedMapping {
             keys: _keys,

@@ -4,7 +4,7 @@ ghost use Rattle.std.specs.Prelude.{◌≡◌, ℕ, [], ◌∷◌, IfSome, Some,
 ghost use Rattle.std.specs.Prelude.{MatchOption};
 ghost use Rattle.std.specs.Iterator.{UpTo, YieldsFirst, YieldsFirstBy, item_count};
 ghost use Rattle.std.specs.Iterator.SizeHint.{IsWithinCount};
-ghost use Rattle.rart_parts.specs.Entries.{BytesAscend, ascending, entries_above};
+ghost use Rattle.rart_parts.specs.Entries.{BytesAscend, sorted_entries, entries_above};
 ghost use Rattle.rart_parts.specs.Keys.{IsAscendingBelow, IsFirstAbove, IsPlaceOf};
 ghost use Rattle.rart_parts.specs.SortedKeyed.{IsPadded};
 
@@ -101,9 +101,9 @@ impl<N, const W: usize> SortedKeyedMapping<N, W> {
         source: &mut IndexedMapping<N, U, B>,
     ) -> Result<Self, TreeError>
         requires narrow { W ≤ 255 }
-        requires few { length (ascending source.old) ≤ W }
-        ensures ok { IfOk result (λ m. m ≡ ascending source.old) }
-        ensures emptied { OnOk result (ascending source.new ≡ []) }
+        requires few { length (sorted_entries source.old) ≤ W }
+        ensures ok { IfOk result (λ m. m ≡ sorted_entries source.old) }
+        ensures emptied { OnOk result (sorted_entries source.new ≡ []) }
         ensures memory { IfErr result (λ e. e ≡ TreeError.Memory) }
         ensures unchanged { OnErr result (source.new ≡ source.old) }
     {
@@ -118,9 +118,9 @@ impl<N, const W: usize> SortedKeyedMapping<N, W> {
         source: &mut IndexedMapping<N, U, B>,
     )
         requires empty { self.old ≡ [] }
-        requires few { length (ascending source.old) ≤ W }
-        ensures filled { self.new ≡ ascending source.old }
-        ensures emptied { ascending source.new ≡ [] }
+        requires few { length (sorted_entries source.old) ≤ W }
+        ensures filled { self.new ≡ sorted_entries source.old }
+        ensures emptied { sorted_entries source.new ≡ [] }
     {
         // Its bytes ascend.
         let _count = source.num_children();

@@ -1,7 +1,7 @@
 use Rattle.std.proofs.Common.{◌≢◌, [], ap, arith, length}
 use Rattle.std.proofs.lemmas.Bool.{false≢true}
 use Rattle.rart_parts.specs.declared.error.TreeError.TheVariants.{Memory}
-use Rattle.rart.proofs.StepLemmas.{refused-some, run-begins, run-goes_on, run-ends}
+use Rattle.rart.proofs.StepLemmas.{refused-some, run-begins, run-continues, run-ends}
 use Rattle.rart.proofs.script.run.Goals as goal
 
 pub loop-call-init : goal.loop-call-init
@@ -12,7 +12,7 @@ loop-call-init g c = record {
 
 pub loop-call-preserved : goal.loop-call-preserved
 loop-call-preserved g c = record {
-  run = run-goes_on _ _ _ _ _ _ _ _ _ _ _ _ c.in-Some.ensures.steps.0 c.in-Ok.ensures.items c.loop-call.invariant.run
+  run = run-continues _ _ _ _ _ _ _ _ _ _ _ _ c.in-Some.ensures.steps.0 c.in-Ok.ensures.items c.loop-call.invariant.run
       c.step.ensures;
   reserved = omega (arith, c.loop-call.invariant.reserved, c.in-Ok.ensures.capacity);
 }

@@ -85,7 +85,7 @@ fn apply_to_child<P: Partial, V: Drop>(
 }
 
 /// Returns the byte of the next child after `byte`, or `None` if the walk is over.
-fn following<P: Partial, V>(
+fn following_byte<P: Partial, V>(
     storage: &Storage<DefaultNode<P, V>>,
     byte: u8,
     walk: Retention,
@@ -147,7 +147,7 @@ impl<P: Partial, V: Drop> DefaultNode<P, V> {
                 None => unreachable!(),
             };
             walk = apply_to_child(&mut self.storage, alloc, byte, has_value, below);
-            next = following(&self.storage, byte, walk);
+            next = following_byte(&self.storage, byte, walk);
         }
         cut(path, count);
         self.finish(keeps, walk)

@@ -1,6 +1,6 @@
 //! Growth of a storage: the children of a full one move into the next kind.
 ghost use Rattle.std.specs.Prelude.{◌≡◌, ◌<◌, ◌≤◌, [], length, None, true, false, IfErr, IfOk, OnErr, OnOk};
-ghost use Rattle.rart_parts.specs.Entries.{ascending, child_at};
+ghost use Rattle.rart_parts.specs.Entries.{sorted_entries, child_at};
 ghost use Rattle.rart_nodes.specs.storages.Capacities.{widened_capacity};
 ghost use Rattle.rart_nodes.specs.storages.Stored.{child_entries, storage_capacity};
 
@@ -32,7 +32,7 @@ pub(super) fn boxed_sorted<N, const W: usize>(
 pub(super) fn boxed_indexed<N>(
     alloc: Global,
 ) -> Result<Box<IndexedMapping<N, 48, Bitset64<1>>>, TreeError>
-    ensures ok { IfOk result (λ m. ascending m.value ≡ []) }
+    ensures ok { IfOk result (λ m. sorted_entries m.value ≡ []) }
     ensures memory { IfErr result (λ e. e ≡ TreeError.Memory) }
 {
     match Box::new(alloc, IndexedMapping::new(alloc)?) {

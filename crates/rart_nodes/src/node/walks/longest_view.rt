@@ -13,7 +13,7 @@ use crate::count::{Count, Visits};
 use crate::node::seen::Seen;
 use crate::node::view::LendingKeyView;
 use crate::node::walk::path::SegmentPath;
-use crate::node::walks::matching::beginning;
+use crate::node::walks::matching::probe_start;
 use rart_keys::KeyTrait;
 use rart_parts::TreeError;
 
@@ -40,7 +40,7 @@ impl<'a, K: KeyTrait, V, C: Count> Seen<'a, K, V, C> {
         let Some((depth, _)) = self.longest_prefix_len_bytes_counted(probe, counter) else {
             return Ok(None);
         };
-        let key = beginning(probe, depth);
+        let key = probe_start(probe, depth);
         let (mut walk, mut path) = self.walk_below::<SegmentPath<'a>>(key, counter)?;
         let Some(value) = walk.advance(&mut path, counter) else {
             unreachable!()

@@ -45,7 +45,7 @@ fn pass<'a, P: Partial, V, C>(
 }
 
 /// Returns the first `depth` bytes of the probe.
-pub(crate) fn beginning(probe: &[u8], depth: usize) -> &[u8]
+pub(crate) fn probe_start(probe: &[u8], depth: usize) -> &[u8]
     requires { depth ≤ length probe.now }
     ensures { result.now ≡ take depth probe.now }
 {
@@ -132,7 +132,7 @@ impl<'a, K: KeyTrait, V, C: Count> Seen<'a, K, V, C> {
         ensures bound { C.number counter.new ≤ C.number counter.old + length probe.now + 1 }
     {
         let (depth, value) = self.longest_prefix_len_bytes_counted(probe, counter)?;
-        Some((K::new_from_slice(beginning(probe, depth)), value))
+        Some((K::new_from_slice(probe_start(probe, depth)), value))
     }
 
     /// Returns the pair with the longest key that begins the probe.
@@ -205,7 +205,7 @@ impl<'a, K: KeyTrait, V, C: Count> Seen<'a, K, V, C> {
     {
         let mut matching = self.matching();
         while let Some(value) = matching.advance(probe, counter) {
-            f(beginning(probe, matching.depth), value);
+            f(probe_start(probe, matching.depth), value);
         }
     }
 
@@ -315,7 +315,7 @@ impl<'a, K: KeyTrait, P: Partial, V> Iterator for PrefixMatchIter<'a, K, P, V> {
         let bytes = self.probe.to_slice();
         let value = self.matching.advance(bytes, &mut Visits::new())?;
         Some((
-            K::new_from_slice(beginning(bytes, self.matching.depth)),
+            K::new_from_slice(probe_start(bytes, self.matching.depth)),
             value,
         ))
     }

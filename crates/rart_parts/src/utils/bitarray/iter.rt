@@ -1,7 +1,7 @@
 //! Double-ended iterators over the used slots of an array.
 ghost use Rattle.std.specs.Prelude.{◌≡◌, map};
 ghost use Rattle.std.specs.Iterator.{YieldsFirst, YieldsLast, YieldsFirstBy, YieldsLastBy, item_count};
-ghost use Rattle.rart_parts.specs.Places.{numbered};
+ghost use Rattle.rart_parts.specs.Places.{numbered_values};
 
 use crate::utils::bitarray::BitArray;
 use crate::utils::bitset::BitsetTrait;
@@ -19,13 +19,13 @@ pub struct BitArrayIter<'a, X> {
 impl<'a, X> Model for BitArrayIter<'a, X> {
     ghost use Rattle.std.specs.Prelude.{ℕ, List, length, ◌+◌, ◌<◌, ◌^◌};
     ghost use Rattle.std.specs.Coded.{coded_list, coded×, coded_ℕ};
-    ghost use Rattle.rart_parts.specs.Places.{numbered};
+    ghost use Rattle.rart_parts.specs.Places.{numbered_values};
 
     ghost Value = { List (ℕ × X) };
 
     ghost coded = { coded_list (coded× coded_ℕ X.code) };
 
-    ghost view = { λ it. numbered it.position it.places.now };
+    ghost view = { λ it. numbered_values it.position it.places.now };
 
     ghost invariant = { λ it. it.position + length it.places.now < 2 ^ 64 };
 }
@@ -114,7 +114,7 @@ impl<'a, X> FusedIterator for BitArrayKeys<'a, X> {}
 impl<X, const RANGE_WIDTH: usize, B: BitsetTrait> BitArray<X, RANGE_WIDTH, B> {
     /// Returns the used positions with their values, ascending.
     pub fn iter(&self) -> BitArrayIter<'_, X>
-        ensures { result ≡ numbered 0 self.now }
+        ensures { result ≡ numbered_values 0 self.now }
     {
         BitArrayIter {
             places: self.places.as_slice(),
@@ -124,7 +124,7 @@ impl<X, const RANGE_WIDTH: usize, B: BitsetTrait> BitArray<X, RANGE_WIDTH, B> {
 
     /// Returns the used positions, ascending.
     pub fn iter_keys(&self) -> BitArrayKeys<'_, X>
-        ensures { result ≡ map (λ e. e.0) (numbered 0 self.now) }
+        ensures { result ≡ map (λ e. e.0) (numbered_values 0 self.now) }
     {
         BitArrayKeys {
             entries: self.iter(),

@@ -1,7 +1,7 @@
 //! A double-ended iterator over the used slots of an array that lends the values mutably.
 ghost use Rattle.std.specs.Prelude.{◌≡◌};
 ghost use Rattle.std.specs.Iterator.{YieldsFirstBy, YieldsLastBy, item_count};
-ghost use Rattle.rart_parts.specs.Places.{numbered};
+ghost use Rattle.rart_parts.specs.Places.{numbered_values};
 
 use crate::utils::bitarray::BitArray;
 use crate::utils::bitset::BitsetTrait;
@@ -22,13 +22,13 @@ impl<'a, X> Model for BitArrayIterMut<'a, X> {
     ghost use Rattle.std.specs.Prelude.{ℕ, List, length, ◌+◌, ◌<◌, ◌^◌};
     ghost use Rattle.std.specs.Coded.{coded_list, coded×, coded_ℕ};
     ghost use Rattle.std.specs.Slice.Iter.{iter_mut_rest};
-    ghost use Rattle.rart_parts.specs.Places.{numbered};
+    ghost use Rattle.rart_parts.specs.Places.{numbered_values};
 
     ghost Value = { List (ℕ × X) };
 
     ghost coded = { coded_list (coded× coded_ℕ X.code) };
 
-    ghost view = { λ it. numbered it.position (iter_mut_rest it.places) };
+    ghost view = { λ it. numbered_values it.position (iter_mut_rest it.places) };
 
     ghost invariant = { λ it. it.position + length (iter_mut_rest it.places) < 2 ^ 64 };
 }
@@ -70,7 +70,7 @@ impl<'a, X> FusedIterator for BitArrayIterMut<'a, X> {}
 impl<X, const RANGE_WIDTH: usize, B: BitsetTrait> BitArray<X, RANGE_WIDTH, B> {
     /// Returns the used positions with mutable borrows of their values, ascending. It does not allocate.
     pub fn iter_mut(&mut self) -> BitArrayIterMut<'_, X>
-        ensures { result ≡ numbered 0 self.old }
+        ensures { result ≡ numbered_values 0 self.old }
     {
         // For a proof the lent places may end as any, so the set says nothing of them from here on.
         self.bitset.clear();

@@ -4,5 +4,6 @@ use Rattle.rart_keys.proofs.KeyComparisons.{signed_keys}
 use Rattle.rart_keys.proofs.laws.key_order.compared_i16_keys.Goals as goal
 
 pub returns : goal.returns
-returns g c = signed_keys _ _ _ c.compared.ensures w16 2 c.args.x c.args.y c.ranges.x c.ranges.y refl c.from_i16.ensures
+returns g c = signed_keys _ _ _ c.compared_keys.ensures w16 2 c.args.x c.args.y c.ranges.x c.ranges.y refl
+    c.from_i16.ensures
     c.from_i16-2.ensures

@@ -4,5 +4,6 @@ use Rattle.rart_keys.proofs.KeyComparisons.{signed_keys}
 use Rattle.rart_keys.proofs.laws.key_order.compared_i64_keys.Goals as goal
 
 pub returns : goal.returns
-returns g c = signed_keys _ _ _ c.compared.ensures w64 8 c.args.x c.args.y c.ranges.x c.ranges.y refl c.from_i64.ensures
+returns g c = signed_keys _ _ _ c.compared_keys.ensures w64 8 c.args.x c.args.y c.ranges.x c.ranges.y refl
+    c.from_i64.ensures
     c.from_i64-2.ensures

@@ -2,4 +2,4 @@ use Rattle.rart_keys.proofs.KeyComparisons.{text_keys}
 use Rattle.rart_keys.proofs.laws.key_order.compared_text_keys.Goals as goal
 
 pub returns : goal.returns
-returns g c = text_keys _ _ _ c.compared.ensures _ _ c.new_from_str.ensures c.new_from_str-2.ensures
+returns g c = text_keys _ _ _ c.compared_keys.ensures _ _ c.new_from_str.ensures c.new_from_str-2.ensures

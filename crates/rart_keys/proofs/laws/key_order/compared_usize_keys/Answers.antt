@@ -2,5 +2,5 @@ use Rattle.rart_keys.proofs.KeyComparisons.{unsigned_keys}
 use Rattle.rart_keys.proofs.laws.key_order.compared_usize_keys.Goals as goal
 
 pub returns : goal.returns
-returns g c = unsigned_keys _ _ _ c.compared.ensures 8 c.args.x c.args.y c.ranges.x.fits c.ranges.y.fits
+returns g c = unsigned_keys _ _ _ c.compared_keys.ensures 8 c.args.x c.args.y c.ranges.x.fits c.ranges.y.fits
     c.from_usize.ensures c.from_usize-2.ensures

@@ -2,7 +2,7 @@ use Rattle.std.proofs.Common.{rules, ◌≡◌, ◌+◌, ◌<◌, [], arith, ap,
 use Rattle.rart_nodes.specs.shapes.Shape.{capacity_of}
 use Rattle.rart_nodes.proofs.tries.PrefixedStrings.{slice_from-is}
 use Rattle.rart_nodes.proofs.build.StretchLemmas.{reach-at}
-use Rattle.rart_nodes.proofs.build.OpeningLemmas.{byte-is, opening, own-one, own-none, rest-goes_on, rest-ascends}
+use Rattle.rart_nodes.proofs.build.OpeningLemmas.{byte-is, opening, own-one, own-none, rest-continues, rest-ascends}
 use Rattle.rart_nodes.proofs.build.BuildLemmas.{start-here, start-on, started, next-free, next-fewer, next-stretch}
 use Rattle.rart_nodes.proofs.build.BuildLemmas.{next-callable, building-refused, building-leaf, building-step}
 use Rattle.rart_nodes.proofs.build.BuildLemmas.{building-end}
@@ -20,7 +20,7 @@ count_branches-requires g t c =
     let at_start = opening _ c.args.depth _ c.args.keys.now _ c.requires.stretch
     c.shared_length-shared.ensures.length in
     record {
-      go_on = rest-goes_on _ _ _ _ c.args.keys.now _ _ _ at_start c.shared_length-shared.ensures.reach
+      go_on = rest-continues _ _ _ _ c.args.keys.now _ _ _ at_start c.shared_length-shared.ensures.reach
           (c.from-own.ensures ∙ byte-is _) (slice_from-is c.args.keys.now _);
       ascending = rest-ascends _ _ _ _ c.args.keys.now _ _ _ at_start (slice_from-is c.args.keys.now _);
     }

@@ -1,7 +1,7 @@
 use Rattle.std.proofs.Common.{refl, arith, rules, of_calls}
 use Rattle.rart_nodes.specs.storages.Stored.{child_entries, storage_capacity}
 use Rattle.rart_nodes.specs.tries.TrieCode.{as_children}
-use Rattle.rart_nodes.proofs.edits.ValueWalkLemmas.{changing-bare, changing-end, changing-lent, changing-step}
+use Rattle.rart_nodes.proofs.edits.ValueWalkLemmas.{changing-childless, changing-end, changing-lent, changing-step}
 use Rattle.rart_nodes.proofs.edits.ValueWalkLemmas.{next-child, next-there, own-callable}
 use Rattle.rart_nodes.proofs.node.DefaultNode.+change_each.Goals.{in-Some, in_default}
 use Rattle.rart_nodes.proofs.node.DefaultNode.+change_each.Goals as goal
@@ -20,7 +20,7 @@ loop-next-init g t c = elim c.match-self.branch [
       (child_entries c.self.inside.storage) c.args.f.now w.f.new.self _ (rw (← c.self.view_is) at c.requires.canonical)
       w.in-Some.is (search (rules, of_calls))
       (rw (← c.self.view_is) at c.requires.callable) (rw w.self-inside-is at c.first_byte-next.ensures))
-  | in_default w ↦ rw (w.f-is, w.self-inside-is, ← c.self.view_is) (changing-bare _
+  | in_default w ↦ rw (w.f-is, w.self-inside-is, ← c.self.view_is) (changing-childless _
       (g.P.Partial.bytes c.self.inside.prefix) c.self.inside.value (storage_capacity c.self.inside.storage)
       (child_entries c.self.inside.storage) c.args.f.now _ (rw (← c.self.view_is) at c.requires.canonical)
       w.in_default.is

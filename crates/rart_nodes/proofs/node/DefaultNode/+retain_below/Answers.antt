@@ -61,10 +61,10 @@ loop-next-smaller g t c =
     let next = upcoming _ _ _ _ _ _ _ _ _ _ _ _ _ c.in-Some-seek_child_mut.child.now
     (rw c.in-Some.is at c.loop-next.invariant.visited) c.in-Some-seek_child_mut.ensures.value in
     rw c.in-Some.is (retaining-step _ _ _ _ _ _ _ _ _ _ _ _ _ _ _ next c.retain_below-below.result
-    c.apply_to_child-walk.result _ c.apply_to_child-walk.new.storage c.following-next.result
+    c.apply_to_child-walk.result _ c.apply_to_child-walk.new.storage c.following_byte-next.result
     c.retain_below-below.ensures.canonical c.retain_below-below.ensures.first
     (rw c.loop-next.invariant.path at c.retain_below-below.ensures.retains) left.0 left.1
-    c.apply_to_child-walk.ensures c.following-next.ensures).1
+    c.apply_to_child-walk.ensures c.following_byte-next.ensures).1
 
 pub loop-next-preserved : goal.loop-next-preserved
 loop-next-preserved g t c =
@@ -74,10 +74,10 @@ loop-next-preserved g t c =
     record {
       path = c.retain_below-below.ensures.path ∙ c.loop-next.invariant.path;
       visited = (retaining-step _ _ _ _ _ _ _ _ _ _ _ _ _ _ _ next c.retain_below-below.result
-          c.apply_to_child-walk.result _ c.apply_to_child-walk.new.storage c.following-next.result
+          c.apply_to_child-walk.result _ c.apply_to_child-walk.new.storage c.following_byte-next.result
           c.retain_below-below.ensures.canonical c.retain_below-below.ensures.first
           (rw c.loop-next.invariant.path at c.retain_below-below.ensures.retains) left.0 left.1
-          c.apply_to_child-walk.ensures c.following-next.ensures).0;
+          c.apply_to_child-walk.ensures c.following_byte-next.ensures).0;
     }
 
 pub finish-requires-clause-capacity : goal.finish-requires-clause-capacity

@@ -9,7 +9,7 @@ use Rattle.rart_nodes.proofs.edits.EditRunLemmas.{remove-absent}
 use Rattle.rart_nodes.proofs.edits.InsertLemmas.{fewer-within, child-put_back, replaced-same}
 use Rattle.rart_nodes.proofs.edits.JoinLemmas.{some-there}
 use Rattle.rart_nodes.proofs.edits.JoinedLengths.{joins-canonical, entry-short}
-use Rattle.rart_nodes.proofs.edits.LeafLemmas.{leaf-gone, leaf-edges, leaf-value, leaf-some}
+use Rattle.rart_nodes.proofs.edits.LeafLemmas.{leaf-removed, leaf-edges, leaf-value, leaf-some}
 use Rattle.std.proofs.lemmas.Result.{on_ok_weaker, on_err_weaker}
 use Rattle.rart_nodes.proofs.edits.Outcomes.{on_err_from}
 use Rattle.rart_nodes.proofs.edits.UpdateSteps.{child-there}
@@ -129,7 +129,7 @@ returns g t c =
     let value = sym (leaf-value _ child goes) ∙ sym (trie_lookup-child on) in
     record {
       ok = on_ok_weaker c.take_leaf.result (λ e. ap Some (e ∙ ap (without_child _) same)
-          ∙ rw (← c.self.view_is) (removed-leaf on (leaf-gone _ child goes))) c.take_leaf.ensures.rest;
+          ∙ rw (← c.self.view_is) (removed-leaf on (leaf-removed _ child goes))) c.take_leaf.ensures.rest;
       answer = on_ok_weaker c.take_leaf.result (λ e. e ∙ ap (option_and_then value_of) found
           ∙ rw (← c.self.view_is) value) c.take_leaf.ensures.taken;
       unchanged = on_err_weaker c.take_leaf.result (λ e. e ∙ same ∙ c.self.view_is) c.take_leaf.ensures.unchanged;

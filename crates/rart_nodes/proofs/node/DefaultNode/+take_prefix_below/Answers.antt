@@ -12,7 +12,7 @@ use Rattle.rart_nodes.proofs.edits.JoinLemmas.{some-there}
 use Rattle.rart_nodes.proofs.edits.JoinedLengths.{joins-canonical}
 use Rattle.rart_nodes.proofs.removals.PopLemmas.{below-within, prefix-within}
 use Rattle.rart_nodes.proofs.removals.PrefixAllocations.{allocates_take-below, allocates_take-whole}
-use Rattle.rart_nodes.proofs.removals.PrefixSteps.{below-absent, below-child_part, below-taken, goes_on, prefix-fits}
+use Rattle.rart_nodes.proofs.removals.PrefixSteps.{below-absent, below-child_part, below-taken, continues, prefix-fits}
 use Rattle.rart_nodes.proofs.removals.PrefixSteps.{visits-below, without_prefix-absent, without_prefix-below}
 use Rattle.rart_nodes.proofs.removals.PrefixSteps.{without_prefix-taken}
 use Rattle.rart_nodes.proofs.storages.ChildLemmas.{canonical-found, count-found}
@@ -20,7 +20,7 @@ use Rattle.rart_nodes.proofs.tries.Descents.{child_of-entries}
 use Rattle.rart_nodes.proofs.node.DefaultNode.+take_prefix_below.Goals as goal
 
 pub unreachable-requires : goal.unreachable-requires
-unreachable-requires g t c = goes_on (g.P.Partial.bytes c.self.inside.prefix) c.args.prefix.now c.in-Some.rest.now
+unreachable-requires g t c = continues (g.P.Partial.bytes c.self.inside.prefix) c.args.prefix.now c.in-Some.rest.now
     c.in-Some.ensures (rw (← c.self.view_is) at c.requires.not_below) c.in_default-first.ensures.value
 
 pub extend-requires : goal.extend-requires

@@ -96,15 +96,15 @@ follows g t c = record {
   there = c.in-Some-seek_child_mut.ensures.value;
 }
 
-key-goes_on : (g : Over) (t : ℕ) (c : In-Some-seek_child_mut g t) → trie_lookup c.args.key.now c.args.self.now
+key-continues : (g : Over) (t : ℕ) (c : In-Some-seek_child_mut g t) → trie_lookup c.args.key.now c.args.self.now
     ≡ trie_lookup c.in-Some.rest.now c.in-Some-seek_child_mut.child.now
-key-goes_on g t c = rw (← c.self.view_is) (trie_lookup-child (follows g t c))
+key-continues g t c = rw (← c.self.view_is) (trie_lookup-child (follows g t c))
 
 -- which stays
 pub update_below-requires : goal.update_below-requires
 update_below-requires g t c κs within =
     let on = follows g t (goal.at.update_below-requires g t c).In-Some-seek_child_mut in
-    let down = key-goes_on g t (goal.at.update_below-requires g t c).In-Some-seek_child_mut in
+    let down = key-continues g t (goal.at.update_below-requires g t c).In-Some-seek_child_mut in
     let child = canonical-found _ 0 _ _ on.canonical.2 on.there in
     let fits_key = rest-within _ _ c.args.key.now _ on.left c.requires.key_within in
     let fits = fewer-within _ (longest_key (pairs_of c.args.self.now))
@@ -139,7 +139,7 @@ at-leaf g t c = sym c.is_leaf_at.ensures ∙ c.if-not-is_leaf_at.false
 pub update_leaf-requires-clause-callable : goal.update_leaf-requires-clause-callable
 update_leaf-requires-clause-callable g t c =
     let at = goal.at.update_leaf-requires-clause-callable g t c in
-    let leaf = (key-goes_on g t at.In-Some-seek_child_mut
+    let leaf = (key-continues g t at.In-Some-seek_child_mut
     ∙ leaf-value _ c.in-Some-seek_child_mut.child.now (at-leaf g t at.Else-not-is_leaf_at)) in
     λ p h. c.requires.callable p (h ∙ ap slot_of (sym leaf))
 
@@ -147,7 +147,7 @@ pub update_leaf-requires-clause-occupancy : goal.update_leaf-requires-clause-occ
 update_leaf-requires-clause-occupancy g t c =
     let at = goal.at.update_leaf-requires-clause-occupancy g t c in
     let on = follows g t at.In-Some-seek_child_mut in
-    let leaf = (key-goes_on g t at.In-Some-seek_child_mut
+    let leaf = (key-continues g t at.In-Some-seek_child_mut
     ∙ leaf-value _ c.in-Some-seek_child_mut.child.now (at-leaf g t at.Else-not-is_leaf_at)) in
     λ r x w h. some-stays w _ (c.requires.occupancy r x w (rw leaf h) ∙ ap is_some leaf)
     (leaf-some _ c.in-Some-seek_child_mut.child.now (canonical-found _ 0 _ _ on.canonical.2 on.there)

@@ -4,7 +4,7 @@ use Rattle.rart_nodes.specs.edits.RetainSteps.{finished_node}
 use Rattle.rart_nodes.specs.storages.Stored.{child_entries, storage_capacity}
 use Rattle.rart_nodes.specs.tries.Trie.{Trie, node}
 use Rattle.rart_nodes.specs.tries.TrieCode.{as_children}
-use Rattle.rart_nodes.proofs.retentions.RetainJoins.{outcome-gone, outcome-kept, finished-gone, finished-kept}
+use Rattle.rart_nodes.proofs.retentions.RetainJoins.{outcome-removed, outcome-kept, finished-removed, finished-kept}
 use Rattle.rart_nodes.proofs.node.DefaultNode.finish.Goals.{else-not-keeps}
 use Rattle.rart_nodes.proofs.node.DefaultNode.finish.Goals.{then-not-keeps+else-num_children-eq0+in-Some-1}
 use Rattle.rart_nodes.proofs.node.DefaultNode.finish.Goals.{then-not-keeps+else-num_children-eq0+in-None-1}
@@ -15,18 +15,18 @@ module _ {V : Type 0} where
       → r ≡ finished_node keeps t
   node-kept keeps r m t a b h = a ∙ ap merged_if_needed b ∙ finished-kept keeps t h
 
-  node-gone : (keeps : Bool) (r m t : Trie V) (p : List ℕ) (v : Option V) (n : ℕ) (es : List (ℕ × Trie V))
+  node-removed : (keeps : Bool) (r m t : Trie V) (p : List ℕ) (v : Option V) (n : ℕ) (es : List (ℕ × Trie V))
       → r ≡ merged_if_needed m → m ≡ node p None n (as_children es) → node p v n (as_children es) ≡ t → keeps ≡ false
       → (length es ≡ 0 → ⊥) → r ≡ finished_node keeps t
-  node-gone keeps r m t p v n es a b e h l = a ∙ ap merged_if_needed b ∙ finished-gone keeps p v n es h l
+  node-removed keeps r m t p v n es a b e h l = a ∙ ap merged_if_needed b ∙ finished-removed keeps p v n es h l
       ∙ ap (finished_node keeps) e
 
 pub returns-clause-outcome : goal.returns-clause-outcome
 returns-clause-outcome g c = rw (← c.self.view_is) (elim c.if-not-keeps.branch [
-  | then-not-keeps+else-num_children-eq0+in-Some-1 w ↦ outcome-gone c.args.keeps c.args.walk
+  | then-not-keeps+else-num_children-eq0+in-Some-1 w ↦ outcome-removed c.args.keeps c.args.walk
       (child_entries c.self.inside.storage) w.if-not-keeps.true
       (λ e. w.if-num_children-eq0.false (w.num_children.ensures ∙ e))
-  | then-not-keeps+else-num_children-eq0+in-None-1 w ↦ outcome-gone c.args.keeps c.args.walk
+  | then-not-keeps+else-num_children-eq0+in-None-1 w ↦ outcome-removed c.args.keeps c.args.walk
       (child_entries c.self.inside.storage) w.if-not-keeps.true
       (λ e. w.if-num_children-eq0.false (w.num_children.ensures ∙ e))
   | else-not-keeps w ↦ outcome-kept c.args.keeps c.args.walk (as_children (child_entries c.self.inside.storage))
@@ -35,11 +35,11 @@ returns-clause-outcome g c = rw (← c.self.view_is) (elim c.if-not-keeps.branch
 
 pub returns-clause-node : goal.returns-clause-node
 returns-clause-node g c = elim c.if-not-keeps.branch [
-  | then-not-keeps+else-num_children-eq0+in-Some-1 w ↦ node-gone c.args.keeps c.merge_with_only_child.new.self
+  | then-not-keeps+else-num_children-eq0+in-Some-1 w ↦ node-removed c.args.keeps c.merge_with_only_child.new.self
       c.if-not-keeps.self c.args.self.now (g.P.Partial.bytes c.self.inside.prefix) c.self.inside.value
       (storage_capacity c.self.inside.storage) (child_entries c.self.inside.storage) c.merge_with_only_child.ensures
       w.self-is c.self.view_is w.if-not-keeps.true (λ e. w.if-num_children-eq0.false (w.num_children.ensures ∙ e))
-  | then-not-keeps+else-num_children-eq0+in-None-1 w ↦ node-gone c.args.keeps c.merge_with_only_child.new.self
+  | then-not-keeps+else-num_children-eq0+in-None-1 w ↦ node-removed c.args.keeps c.merge_with_only_child.new.self
       c.if-not-keeps.self c.args.self.now (g.P.Partial.bytes c.self.inside.prefix) c.self.inside.value
       (storage_capacity c.self.inside.storage) (child_entries c.self.inside.storage) c.merge_with_only_child.ensures
       w.self-is c.self.view_is w.if-not-keeps.true (λ e. w.if-num_children-eq0.false (w.num_children.ensures ∙ e))

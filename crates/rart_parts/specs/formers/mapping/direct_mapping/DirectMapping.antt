@@ -26,7 +26,7 @@ use Rattle.rart_parts.specs.formers.utils.bitarray.BitArray.{place}
 use Rattle.rart_parts.specs.Entries.{children_of}
 use Rattle.rart_parts.specs.EntryShapes.{entry, on_value}
 use Rattle.rart_parts.specs.Direct.{IsDirect}
-use Rattle.rart_parts.specs.Places.{numbered}
+use Rattle.rart_parts.specs.Places.{numbered_values}
 
 abbrev pub the_former : Former {0} → Former {0}
 the_former g = list (entry g)
@@ -42,12 +42,12 @@ fields = via (pair (vec.the_former (place this) Global) (const ℕ)) Inside (λ 
     (λ X v. record { places = v.0; num_children = v.1 }) (λ X a. refl) (λ X v. refl)
 
 pub numbered-map : {X Y : Type 0} (h : X → Y) (n : ℕ) (os : List (Option X))
-    → numbered n (map ((place this).map X Y h) os) ≡ map (on_value h) (numbered n os)
+    → numbered_values n (map ((place this).map X Y h) os) ≡ map (on_value h) (numbered_values n os)
 numbered-map h n [] = refl
 numbered-map h n (None ∷ os) = numbered-map h (suc n) os
 numbered-map h n (Some x ∷ os) = ap (λ l. (n, h x) ∷ l) (numbered-map h (suc n) os)
 
-numbered-held : (X : Type 0) (n : ℕ) (os : List (Option X)) → held (list (entry this)) X (numbered n os)
+numbered-held : (X : Type 0) (n : ℕ) (os : List (Option X)) → held (list (entry this)) X (numbered_values n os)
     ≡ held (list (place this)) X os
 numbered-held X n [] = refl
 numbered-held X n (None ∷ os) = numbered-held X (suc n) os
@@ -60,8 +60,8 @@ IsDirect-prop : {X : Type 0} (os : List (Option X)) (n : ℕ) → IsProp (IsDire
 IsDirect-prop os n = λ x y i. record { full = ℕ_set _ _ x.full y.full i; counted = ℕ_set _ _ x.counted y.counted i }
 
 module _ {X Y : Type 0} (h : X → Y) (os : List (Option X)) (n : ℕ) where
-  same_count : length (numbered 0 (map ((place this).map X Y h) os)) ≡ length (numbered 0 os)
-  same_count = ap length (numbered-map h 0 os) ∙ length-map (numbered 0 os) (on_value h)
+  same_count : length (numbered_values 0 (map ((place this).map X Y h) os)) ≡ length (numbered_values 0 os)
+  same_count = ap length (numbered-map h 0 os) ∙ length-map (numbered_values 0 os) (on_value h)
 
   along : IsDirect os n → IsDirect (map ((place this).map X Y h) os) n
   along e = record { full = length-map os ((place this).map X Y h) ∙ e.full; counted = e.counted ∙ sym same_count }

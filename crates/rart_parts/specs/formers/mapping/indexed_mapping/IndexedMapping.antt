@@ -24,9 +24,9 @@ use Rattle.rart_parts.specs.contracts.mapping.indexed_mapping.IndexedMapping as 
 use Rattle.rart_parts.specs.contracts.mapping.indexed_mapping.IndexedMapping.TheInside as I
 use Rattle.rart_parts.specs.formers.utils.bitarray.BitArray as places
 use Rattle.rart_parts.specs.formers.utils.bitarray.BitArray.{place}
-use Rattle.rart_parts.specs.Entries.{children_of, with_another, ascending}
+use Rattle.rart_parts.specs.Entries.{children_of, with_another, sorted_entries}
 use Rattle.rart_parts.specs.EntryShapes.{entry, on_value}
-use Rattle.rart_parts.specs.Places.{numbered}
+use Rattle.rart_parts.specs.Places.{numbered_values}
 use Rattle.rart_parts.specs.Indexed.{IsIndex, IsIndexed, with_bytes, byte_of}
 use Rattle.rart_parts.specs.formers.mapping.direct_mapping.DirectMapping.{numbered-map}
 
@@ -94,21 +94,21 @@ with_another-map h k x (e ∷ es) =
     ]
 
 pub ascending-map : {X Y : Type 0} (h : X → Y) (es : List (ℕ × X))
-    → ascending (map (on_value h) es) ≡ map (on_value h) (ascending es)
+    → sorted_entries (map (on_value h) es) ≡ map (on_value h) (sorted_entries es)
 ascending-map h [] = refl
 ascending-map h (e ∷ es) = ap (with_another e.0 (h e.1)) (ascending-map h es)
-    ∙ with_another-map h e.0 e.1 (ascending es)
+    ∙ with_another-map h e.0 e.1 (sorted_entries es)
 
 module _ {X Y : Type 0} (h : X → Y) (w : ℕ) (at : Index) (os : List (Option X)) (n : ℕ) where
   abbrev moved : List (Option Y)
   moved = map ((place this).map X Y h) os
 
-  same_slots : length (numbered 0 moved) ≡ length (numbered 0 os)
-  same_slots = ap length (numbered-map h 0 os) ∙ length-map (numbered 0 os) (on_value h)
+  same_slots : length (numbered_values 0 moved) ≡ length (numbered_values 0 os)
+  same_slots = ap length (numbered-map h 0 os) ∙ length-map (numbered_values 0 os) (on_value h)
 
-  same_entries : length (ascending (with_bytes at 0 moved)) ≡ length (ascending (with_bytes at 0 os))
-  same_entries = ap (λ es. length (ascending es)) (with_bytes-map h at 0 os)
-      ∙ ap length (ascending-map h (with_bytes at 0 os)) ∙ length-map (ascending (with_bytes at 0 os)) (on_value h)
+  same_entries : length (sorted_entries (with_bytes at 0 moved)) ≡ length (sorted_entries (with_bytes at 0 os))
+  same_entries = ap (λ es. length (sorted_entries es)) (with_bytes-map h at 0 os)
+      ∙ ap length (ascending-map h (with_bytes at 0 os)) ∙ length-map (sorted_entries (with_bytes at 0 os)) (on_value h)
 
   along : IsIndexed w at os n → IsIndexed w at moved n
   along e = record {

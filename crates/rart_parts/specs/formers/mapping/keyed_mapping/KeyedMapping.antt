@@ -23,9 +23,9 @@ use Rattle.rart_parts.specs.contracts.mapping.keyed_mapping.KeyedMapping as C
 use Rattle.rart_parts.specs.contracts.mapping.keyed_mapping.KeyedMapping.TheInside as I
 use Rattle.rart_parts.specs.formers.utils.bitarray.BitArray as places
 use Rattle.rart_parts.specs.formers.utils.bitarray.BitArray.{place}
-use Rattle.rart_parts.specs.Entries.{children_of, ascending}
+use Rattle.rart_parts.specs.Entries.{children_of, sorted_entries}
 use Rattle.rart_parts.specs.EntryShapes.{entry, on_value}
-use Rattle.rart_parts.specs.Places.{numbered}
+use Rattle.rart_parts.specs.Places.{numbered_values}
 use Rattle.rart_parts.specs.Keyed.{IsSlots, IsKeyed, with_keys}
 use Rattle.rart_parts.specs.formers.mapping.direct_mapping.DirectMapping.{numbered-map}
 use Rattle.rart_parts.specs.formers.mapping.indexed_mapping.IndexedMapping.{ascending-map}
@@ -85,12 +85,12 @@ module _ {X Y : Type 0} (h : X → Y) (w : ℕ) (ks : List ℕ) (os : List (Opti
   abbrev moved : List (Option Y)
   moved = map ((place this).map X Y h) os
 
-  same_slots : length (numbered 0 moved) ≡ length (numbered 0 os)
-  same_slots = ap length (numbered-map h 0 os) ∙ length-map (numbered 0 os) (on_value h)
+  same_slots : length (numbered_values 0 moved) ≡ length (numbered_values 0 os)
+  same_slots = ap length (numbered-map h 0 os) ∙ length-map (numbered_values 0 os) (on_value h)
 
-  same_entries : length (ascending (with_keys ks moved)) ≡ length (ascending (with_keys ks os))
-  same_entries = ap (λ es. length (ascending es)) (with_keys-map h ks os)
-      ∙ ap length (ascending-map h (with_keys ks os)) ∙ length-map (ascending (with_keys ks os)) (on_value h)
+  same_entries : length (sorted_entries (with_keys ks moved)) ≡ length (sorted_entries (with_keys ks os))
+  same_entries = ap (λ es. length (sorted_entries es)) (with_keys-map h ks os)
+      ∙ ap length (ascending-map h (with_keys ks os)) ∙ length-map (sorted_entries (with_keys ks os)) (on_value h)
 
   same_length : length moved ≡ length os
   same_length = length-map os ((place this).map X Y h)

@@ -26,9 +26,15 @@ loop-at-preserved g c =
         arith,
         nodes_to-fewer c.loop-at.at (omega (arith, c.loop-at-test.true)),
         nodes_to-more c.in_ok-count.count (c.loop-at.at - 1) last.0,
-        c.last_stride.ensures.nodes,
+        c.last_stride.ensures.node_visits,
         c.loop-at.invariant.nodes,
         c.loop-at-test.true,
       );
-      strides = omega (arith, c.last_stride.ensures.strides, c.loop-at.invariant.strides, last.0, c.loop-at-test.true);
+      strides = omega (
+        arith,
+        c.last_stride.ensures.stride_visits,
+        c.loop-at.invariant.strides,
+        last.0,
+        c.loop-at-test.true,
+      );
     }

@@ -1,5 +1,5 @@
 use Rattle.std.proofs.Common.{◌∙◌, sym, ap}
-use Rattle.rart_parts.specs.Entries.{replaced}
+use Rattle.rart_parts.specs.Entries.{replaced_at}
 use Rattle.rart_nodes.specs.storages.Stored.{child_entries, storage_capacity}
 use Rattle.rart_nodes.proofs.edits.ChildChangeLemmas.{with_child_replaced-is}
 use Rattle.rart_nodes.proofs.tries.Descents.{child_of-entries}
@@ -19,7 +19,8 @@ returns-clause-put g c = elim c.match-seek_child_mut.branch [
       rw (w.result-is, w.self-inside-is, ← c.self.view_is)
       (with_child_replaced-is _ _ (storage_capacity c.self.inside.storage) _ c.args.key c.args.node
       (child_entries c.self.inside.storage) _
-      left.0 (left.1 ∙ ap (λ t. replaced c.args.key t (child_entries c.self.inside.storage)) w.replace.ensures.after))
+      left.0 (left.1 ∙ ap (λ t. replaced_at c.args.key t (child_entries c.self.inside.storage))
+      w.replace.ensures.after))
   | in-None w ↦ rw w.result-is tt
 ]
 

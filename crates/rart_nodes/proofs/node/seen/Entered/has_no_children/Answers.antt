@@ -2,7 +2,7 @@ use Rattle.std.proofs.Common.{◌≡◌, true}
 use Rattle.rart_nodes.specs.tries.CanonicalTest.{is_canonical}
 use Rattle.rart_nodes.specs.tries.Trie.{Trie, node, no_children, child, capacity_in, children_in}
 use Rattle.rart_nodes.proofs.tries.CanonicalTests.{IsCanonical-test}
-use Rattle.rart_nodes.proofs.walks.WalkLemmas.{bare}
+use Rattle.rart_nodes.proofs.walks.WalkLemmas.{childless}
 use Rattle.rart_nodes.proofs.node.seen.Entered.has_no_children.Goals as goal
 
 -- a node without children has no capacity for any
@@ -12,7 +12,7 @@ no-capacity (node p v n (child b t cs)) w e = absurd (cc e)
 
 pub returns : goal.returns
 returns g c = (
-  λ t. bare c.args.self.node.now c.args.self.canonical (c.is_leaf.ensures.0 t),
+  λ t. childless c.args.self.node.now c.args.self.canonical (c.is_leaf.ensures.0 t),
   λ e. c.is_leaf.ensures.1
       (no-capacity c.args.self.node.now c.args.self.canonical e),
 )

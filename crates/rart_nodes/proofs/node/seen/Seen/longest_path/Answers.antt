@@ -17,24 +17,24 @@ use Rattle.rart_nodes.proofs.node.seen.Seen.longest_path.Goals as goal
 
 -- the longest match is the key of that depth, with its value
 found : (g : Over) (c : In_ok-walk g) → longest_match c.args.probe.now (tree_pairs (option_copied c.args.self.root))
-    ≡ Some (c.beginning-key.result.now, c.in-Some.field-0-1.now)
-found g c = sym c.in-Some.ensures.pair ∙ ap (λ k. Some (k, c.in-Some.field-0-1.now)) (sym c.beginning-key.ensures)
+    ≡ Some (c.probe_start-key.result.now, c.in-Some.field-0-1.now)
+found g c = sym c.in-Some.ensures.pair ∙ ap (λ k. Some (k, c.in-Some.field-0-1.now)) (sym c.probe_start-key.ensures)
 
 pub unreachable-requires : goal.unreachable-requires
 unreachable-requires g c =
     let w = IsCanonicalTree-test _ c.args.self.canonical in
-    absurd (first-contained c.args.probe.now c.beginning-key.result.now c.in-Some.field-0-1.now
+    absurd (first-contained c.args.probe.now c.probe_start-key.result.now c.in-Some.field-0-1.now
     (option_copied c.args.self.root) w (found g (goal.at.unreachable-requires g c).In_ok-walk)
     (sym c.in_ok-walk.ensures.entries ∙ c.in_default-advance.ensures.entries.0))
 
 -- the segments are that key's cut, and the value is its own
 first : (g : Over) (c : In-Some-advance g)
     → longest_match c.args.probe.now (tree_pairs (option_copied c.args.self.root))
-    ≡ Some (c.beginning-key.result.now, c.in-Some.field-0-1.now)
+    ≡ Some (c.probe_start-key.result.now, c.in-Some.field-0-1.now)
     → (lent_segments c.advance.new.path.segments.items
-    ≡ cut (keys_of (tree_pairs (option_copied c.args.self.root))) c.beginning-key.result.now)
+    ≡ cut (keys_of (tree_pairs (option_copied c.args.self.root))) c.probe_start-key.result.now)
     × (c.in-Some-advance.value.now ≡ c.in-Some.field-0-1.now)
-first g c h = first-cut c.args.probe.now c.beginning-key.result.now c.in-Some.field-0-1.now
+first g c h = first-cut c.args.probe.now c.probe_start-key.result.now c.in-Some.field-0-1.now
     (option_copied c.args.self.root) (IsCanonicalTree-test _ c.args.self.canonical) h _ _ _
     (sym c.in-Some-advance.ensures.entries ∙ c.in_ok-walk.ensures.entries)
 
@@ -48,7 +48,7 @@ pub returns-clause-views : goal.returns-clause-views
 returns-clause-views g c =
     let n : c.args.self.longest < 2 ^ 64 = search rules in
     let views = subst AreViews (sym c.in_ok-walk.ensures.entries ∙ c.in-Some-advance.ensures.entries)
-    (part-views c.args.self.longest c.beginning-key.result.now (option_copied c.args.self.root)
+    (part-views c.args.self.longest c.probe_start-key.result.now (option_copied c.args.self.root)
     (IsCanonicalTree-test _ c.args.self.canonical) c.args.self.short n) in
     (views.0, views.1, tt)
 
@@ -56,10 +56,10 @@ pub returns-clause-bound : goal.returns-clause-bound
 returns-clause-bound g c =
     let at = goal.at.returns-clause-bound g c in
     let both = first g at.In-Some-advance (found g at.In_ok-walk) in
-    let short : length c.beginning-key.result.now ≤ length c.args.probe.now
-    = rw c.beginning-key.ensures (length-take-within _ _ c.args.probe.now c.in-Some.ensures.shorter) in
-    let segments : length (lent_segments c.advance.new.path.segments.items) ≤ length c.beginning-key.result.now
-    = rw both.0 (cut-few (keys_of (tree_pairs (option_copied c.args.self.root))) c.beginning-key.result.now) in
+    let short : length c.probe_start-key.result.now ≤ length c.args.probe.now
+    = rw c.probe_start-key.ensures (length-take-within _ _ c.args.probe.now c.in-Some.ensures.shorter) in
+    let segments : length (lent_segments c.advance.new.path.segments.items) ≤ length c.probe_start-key.result.now
+    = rw both.0 (cut-few (keys_of (tree_pairs (option_copied c.args.self.root))) c.probe_start-key.result.now) in
     omega (
       arith,
       short,

@@ -26,9 +26,9 @@ loop-value-preserved g c =
     let e = c.in-Some.ensures.pairs in
     let v : Matched g.F.FnMut c.loop-value.f (take c.advance.new.self.depth c.args.probe.now, c.in-Some.value.now)
     c.f.new.self = record {
-      key = c.beginning.result;
+      key = c.probe_start.result;
       shown = c.in-Some.value;
-      key_is = c.beginning.ensures;
+      key_is = c.probe_start.ensures;
       shows
           = refl;
       called = search (rules, of_calls);
@@ -43,7 +43,7 @@ loop-value-preserved g c =
     }
 
 pub f-requires : goal.f-requires
-f-requires g c = can-first _ _ _ _ _ _ c.in-Some.ensures.pairs c.loop-value.invariant.callable _ _ c.beginning.ensures
+f-requires g c = can-first _ _ _ _ _ _ c.in-Some.ensures.pairs c.loop-value.invariant.callable _ _ c.probe_start.ensures
     refl
 
 pub returns-clause-callable : goal.returns-clause-callable

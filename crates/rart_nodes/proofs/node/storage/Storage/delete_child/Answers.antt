@@ -1,5 +1,5 @@
 use Rattle.std.proofs.Common.{ap, ◌∙◌, sym, arith}
-use Rattle.rart_parts.specs.Entries.{without_byte, ascending}
+use Rattle.rart_parts.specs.Entries.{without_byte, sorted_entries}
 use Rattle.rart_nodes.specs.storages.Stored.{child_entries, storage_capacity}
 use Rattle.rart_nodes.proofs.storages.DeletionLemmas.{few-left, none-left, capacity-kept, capacity-given}
 use Rattle.rart_nodes.proofs.node.storage.Storage.delete_child.Goals as goal
@@ -49,7 +49,7 @@ fill_from_indexed-requires g c =
             c.delete_child-child-in-Node48.ensures.rest,
             c.deref_mut-in-Node48.ensures.value,
           )
-              (few-left c.args.b 16 (ascending c.in-Node48.map.value) few.0 few.1),
+              (few-left c.args.b 16 (sorted_entries c.in-Node48.map.value) few.0 few.1),
         ),
       ),
     )
@@ -59,7 +59,7 @@ fill_from_direct-requires g c =
     let few = rw c.in-Node256.is at c.keeps_kind.ensures.changed_kind c.if-keeps_kind.false in (
       omega arith,
       (
-        ap ascending c.deref_mut-in-Node256-2.ensures.value
+        ap sorted_entries c.deref_mut-in-Node256-2.ensures.value
             ∙ c.in_ok-next-in-Node256.ensures.ok,
         rw (
           c.deref_mut-in-Node256-3.ensures.value,
@@ -97,7 +97,7 @@ returns-in_ok-next-in-Node48-clause-capacity g c =
       c.deref_mut-in-Node48-3.ensures.value,
       c.delete_child-child-in-Node48.ensures.rest,
       c.deref_mut-in-Node48.ensures.value,
-    ) (capacity-given c.args.b 48 (ascending c.in-Node48.map.value) few.0 few.1)
+    ) (capacity-given c.args.b 48 (sorted_entries c.in-Node48.map.value) few.0 few.1)
 
 pub returns-in_ok-next-in-Node256-clause-capacity : goal.returns-in_ok-next-in-Node256-clause-capacity
 returns-in_ok-next-in-Node256-clause-capacity g c =

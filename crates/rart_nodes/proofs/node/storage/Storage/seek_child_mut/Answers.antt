@@ -1,7 +1,7 @@
 use Rattle.std.proofs.Common.{sym, ap, ◌∙◌, ◌≡◌, refl, Option, None, Some, ℕ, List}
 use Rattle.std.specs.Prelude.{OnSome}
 use Rattle.std.specs.Box.{with_value}
-use Rattle.rart_parts.specs.Entries.{child_at, replaced, ascending}
+use Rattle.rart_parts.specs.Entries.{child_at, replaced_at, sorted_entries}
 use Rattle.rart_nodes.specs.declared.node.storage.Storage.{Storage}
 use Rattle.rart_nodes.specs.declared.node.storage.Storage.TheVariants.{Node4, Node16, Node48, Node256}
 use Rattle.rart_nodes.specs.storages.Stored.{child_entries, storage_capacity, StoresLent, StoresSame}
@@ -10,10 +10,10 @@ use Rattle.rart_nodes.proofs.node.storage.Storage.seek_child_mut.Goals as goal
 -- a storage and what it ends as are s and t, of one kind
 module _ {N : Type 0} {old s new t : Storage N} {es : List (ℕ × N)} (old-is : old ≡ s) (new-is : new ≡ t)
     (same : storage_capacity t ≡ storage_capacity s) (es-are : es ≡ child_entries s) where
-  stores_lent : {A : Type 0} (b : ℕ) (w : N) (r : Option A) → OnSome r (child_entries t ≡ replaced b w es)
+  stores_lent : {A : Type 0} (b : ℕ) (w : N) (r : Option A) → OnSome r (child_entries t ≡ replaced_at b w es)
       → StoresLent b w r old new
   stores_lent b w None lent = tt
-  stores_lent b w (Some x) lent = rw (old-is, new-is) (same, lent ∙ ap (replaced b w) es-are)
+  stores_lent b w (Some x) lent = rw (old-is, new-is) (same, lent ∙ ap (replaced_at b w) es-are)
 
   stores_same : child_entries t ≡ es → StoresSame old new
   stores_same kept = rw (old-is, new-is) (same, kept ∙ es-are)
@@ -63,16 +63,17 @@ returns-in-Node48 g c =
       (
         refl,
         λ w. stores_lent {t = Node48 (with_value c.in-Node48.map (c.seek_child_mut-in-Node48.follows.lender w))}
-            c.in-Node48.is (rw c.in-Node48.is refl) refl (ap ascending d) c.args.b w c.seek_child_mut-in-Node48.result
+            c.in-Node48.is (rw c.in-Node48.is refl) refl (ap sorted_entries d) c.args.b w
+            c.seek_child_mut-in-Node48.result
             (c.seek_child_mut-in-Node48.follows.holds w),
         stores_same {t = Node48 (with_value c.in-Node48.map c.seek_child_mut-in-Node48.follows.lender-at-none)}
-            c.in-Node48.is (rw c.in-Node48.is refl) refl (ap ascending d)
+            c.in-Node48.is (rw c.in-Node48.is refl) refl (ap sorted_entries d)
             c.seek_child_mut-in-Node48.follows.holds-at-none,
       ),
       record {
         writes_back = tt;
         value = c.seek_child_mut-in-Node48.ensures.value
-            ∙ ap (child_at c.args.b) (ap ascending d ∙ sym (ap child_entries c.in-Node48.is));
+            ∙ ap (child_at c.args.b) (ap sorted_entries d ∙ sym (ap child_entries c.in-Node48.is));
       },
     )
 

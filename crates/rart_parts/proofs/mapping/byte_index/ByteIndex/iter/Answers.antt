@@ -1,6 +1,6 @@
 use Rattle.std.proofs.Common.{◌∙◌, ap, sym, subst, arith}
 use Rattle.rart_parts.specs.Bits.{words_have}
-use Rattle.rart_parts.specs.Places.{numbered}
+use Rattle.rart_parts.specs.Places.{numbered_values}
 use Rattle.rart_parts.specs.ByteIndex.{with_slots, AreBytes}
 use Rattle.rart_parts.proofs.ByteIndexLemmas.{walked_all, members-bytes}
 use Rattle.rart_parts.proofs.mapping.byte_index.ByteIndex.iter.Goals as goal
@@ -14,4 +14,4 @@ invariant_of-result c = (
 
 pub returns : goal.returns
 returns c = ap (with_slots c.self.inside.slots) c.iter.ensures ∙ walked_all c.self.invariant
-    ∙ ap (numbered 0) c.self.view_is
+    ∙ ap (numbered_values 0) c.self.view_is

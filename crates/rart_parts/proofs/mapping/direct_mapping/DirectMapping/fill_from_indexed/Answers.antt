@@ -1,47 +1,51 @@
 use Rattle.std.proofs.Common.{◌++◌, ◌∙◌, length, sym, ap, subst, arith}
 use Rattle.std.specs.Prelude.{IsSome}
-use Rattle.rart_parts.specs.Entries.{ascending, without_byte}
+use Rattle.rart_parts.specs.Entries.{sorted_entries, without_byte}
 use Rattle.rart_parts.proofs.EntryLemmas.{length-between, length-without_byte}
 use Rattle.rart_parts.proofs.MoveLemmas.{moved_absent, moved_next, moved_fits, next_first}
 use Rattle.rart_parts.proofs.mapping.direct_mapping.DirectMapping.fill_from_indexed.Goals as goal
 
 pub loop-key-init : goal.loop-key-init
 loop-key-init g c =
-    let few = length-between 0 256 (ascending c.args.source.now) (omega arith) c.num_children-count.ensures.ascends
-    (λ b l. absurd (omega (arith, l))) c.num_children-count.ensures.bytes in
-    (omega (arith, few), c.num_children-count.ensures.ascends, ap (λ es. es ++ ascending c.args.source.now) c.requires)
+    let few = length-between 0 256 (sorted_entries c.args.source.now) (omega arith) c.num_children-count.ensures.ascends
+    (λ b l. absurd (omega (arith, l))) c.num_children-count.ensures.bytes in (
+      omega (arith, few),
+      c.num_children-count.ensures.ascends,
+      ap (λ es. es ++ sorted_entries c.args.source.now)
+          c.requires,
+    )
 
 pub unwrap-child-requires : goal.unwrap-child-requires
 unwrap-child-requires g c = subst IsSome (sym c.delete_child.ensures.taken) c.in-Some.ensures.some
 
 pub add_child-requires-clause-absent : goal.add_child-requires-clause-absent
 add_child-requires-clause-absent g c =
-    let source = ascending c.loop-key.source in
-    let is = next_first (ascending c.args.source.now) c.loop-key.self source c.in-Some.key c.loop-key.invariant.1
+    let source = sorted_entries c.loop-key.source in
+    let is = next_first (sorted_entries c.args.source.now) c.loop-key.self source c.in-Some.key c.loop-key.invariant.1
     c.loop-key.invariant.2 c.in-Some.ensures.least c.unwrap-child.result (sym c.delete_child.ensures.taken
     ∙ c.unwrap-child.ensures) in
-    moved_absent (ascending c.args.source.now) c.loop-key.self (without_byte c.in-Some.key source)
+    moved_absent (sorted_entries c.args.source.now) c.loop-key.self (without_byte c.in-Some.key source)
     (c.in-Some.key, c.unwrap-child.result) c.loop-key.invariant.1 is
 
 pub add_child-requires-clause-not_full : goal.add_child-requires-clause-not_full
 add_child-requires-clause-not_full g c =
-    let source = ascending c.loop-key.source in
-    let is = next_first (ascending c.args.source.now) c.loop-key.self source c.in-Some.key c.loop-key.invariant.1
+    let source = sorted_entries c.loop-key.source in
+    let is = next_first (sorted_entries c.args.source.now) c.loop-key.self source c.in-Some.key c.loop-key.invariant.1
     c.loop-key.invariant.2 c.in-Some.ensures.least c.unwrap-child.result (sym c.delete_child.ensures.taken
     ∙ c.unwrap-child.ensures) in
-    moved_fits (ascending c.args.source.now) c.loop-key.self (without_byte c.in-Some.key source)
+    moved_fits (sorted_entries c.args.source.now) c.loop-key.self (without_byte c.in-Some.key source)
     (c.in-Some.key, c.unwrap-child.result) c.loop-key.invariant.1 is 256 (omega (arith, c.loop-key.invariant.0))
 
 pub loop-key-preserved : goal.loop-key-preserved
 loop-key-preserved g c =
-    let source = ascending c.loop-key.source in
-    let is = next_first (ascending c.args.source.now) c.loop-key.self source c.in-Some.key c.loop-key.invariant.1
+    let source = sorted_entries c.loop-key.source in
+    let is = next_first (sorted_entries c.args.source.now) c.loop-key.self source c.in-Some.key c.loop-key.invariant.1
     c.loop-key.invariant.2 c.in-Some.ensures.least c.unwrap-child.result (sym c.delete_child.ensures.taken
     ∙ c.unwrap-child.ensures) in (
       c.loop-key.invariant.0,
       c.loop-key.invariant.1,
       (λ i. c.add_child.ensures i ++ c.delete_child.ensures.rest i)
-          ∙ moved_next (ascending c.args.source.now) c.loop-key.self (without_byte c.in-Some.key source)
+          ∙ moved_next (sorted_entries c.args.source.now) c.loop-key.self (without_byte c.in-Some.key source)
           (c.in-Some.key, c.unwrap-child.result) c.loop-key.invariant.1 is,
     )
 
@@ -51,5 +55,5 @@ loop-key-smaller g c =
       arith,
       ap length c.delete_child.ensures.rest,
       length-without_byte c.in-Some.key c.unwrap-child.result
-          (ascending c.loop-key.source) (sym c.delete_child.ensures.taken ∙ c.unwrap-child.ensures),
+          (sorted_entries c.loop-key.source) (sym c.delete_child.ensures.taken ∙ c.unwrap-child.ensures),
     )

@@ -1,5 +1,5 @@
 use Rattle.std.proofs.Common.{None, sym, ap, ◌∙◌, set, arith}
-use Rattle.rart_parts.specs.Places.{numbered}
+use Rattle.rart_parts.specs.Places.{numbered_values}
 use Rattle.rart_parts.specs.Entries.{child_at, with_entry}
 use Rattle.rart_parts.proofs.DirectLemmas.{numbered_child, numbered-put, direct_put, place_reads}
 use Rattle.rart_parts.proofs.mapping.direct_mapping.DirectMappingNodeMapping256.add_child.Goals as goal
@@ -19,6 +19,6 @@ invariant_of-self g c =
 
 pub returns : goal.returns
 returns g c =
-    ap (λ o. numbered 0 (set c.self.inside.places.items c.args.key o)) c.fill_place.ensures
+    ap (λ o. numbered_values 0 (set c.self.inside.places.items c.args.key o)) c.fill_place.ensures
     ∙ numbered-put c.self.inside.places.items c.args.key (omega (arith, c.ranges.key.fits, c.self.invariant.full))
     c.args.node ∙ ap (with_entry c.args.key c.args.node) c.self.view_is

@@ -1,5 +1,5 @@
 use Rattle.std.proofs.Common.{◌≡◌, None, Some, sym, ap, ◌∙◌, get_or, set, arith}
-use Rattle.rart_parts.specs.Places.{numbered}
+use Rattle.rart_parts.specs.Places.{numbered_values}
 use Rattle.rart_parts.specs.Entries.{without_byte}
 use Rattle.rart_parts.proofs.DirectLemmas.{numbered_child, numbered-taken, direct_taken, direct_without, place_reads}
 use Rattle.rart_parts.proofs.mapping.direct_mapping.DirectMappingNodeMapping256.delete_child.Goals as goal
@@ -14,7 +14,7 @@ returns-in_default-clause-taken g c =
 
 pub returns-in_default-clause-rest : goal.returns-in_default-clause-rest
 returns-in_default-clause-rest g c =
-    ap (λ o. numbered 0 (set c.self.inside.places.items c.args.key o)) c.take.ensures.after
+    ap (λ o. numbered_values 0 (set c.self.inside.places.items c.args.key o)) c.take.ensures.after
     ∙ numbered-taken c.self.inside.places.items c.args.key (omega (arith, c.ranges.key.fits, c.self.invariant.full))
     ∙ ap (without_byte c.args.key) c.self.view_is
 
@@ -47,6 +47,6 @@ returns-clause-taken g c =
 
 pub returns-clause-rest : goal.returns-clause-rest
 returns-clause-rest g c =
-    ap (λ o. numbered 0 (set c.self.inside.places.items c.args.key o)) c.take.ensures.after
+    ap (λ o. numbered_values 0 (set c.self.inside.places.items c.args.key o)) c.take.ensures.after
     ∙ numbered-taken c.self.inside.places.items c.args.key (omega (arith, c.ranges.key.fits, c.self.invariant.full))
     ∙ ap (without_byte c.args.key) c.self.view_is

@@ -1,6 +1,6 @@
 use Rattle.std.proofs.Common.{◌≡◌, None, Some, sym, ap, ◌∙◌, get_or, refl, arith, subst}
-use Rattle.rart_parts.specs.Entries.{replaced}
-use Rattle.rart_parts.specs.Places.{numbered}
+use Rattle.rart_parts.specs.Entries.{replaced_at}
+use Rattle.rart_parts.specs.Places.{numbered_values}
 use Rattle.rart_parts.specs.Direct.{IsDirect}
 use Rattle.rart_parts.proofs.DirectLemmas.{numbered_child, numbered-written, direct_written, place_reads, some_of}
 use Rattle.rart_parts.proofs.DirectLemmas.{none_of}
@@ -34,8 +34,9 @@ returns-then-is_some g c =
         refl,
         λ w. on_any c.as_mut.result (numbered-written os c.args.key
             (omega (arith, c.ranges.key.fits, c.self.invariant.full)) x.0 w read
-            ∙ ap (replaced c.args.key w) c.self.view_is),
-        ap (numbered 0) (set_same os c.args.key c.index_mut.result.now c.index_mut.ensures.value) ∙ c.self.view_is,
+            ∙ ap (replaced_at c.args.key w) c.self.view_is),
+        ap (numbered_values 0) (set_same os c.args.key c.index_mut.result.now c.index_mut.ensures.value) ∙
+            c.self.view_is,
       ),
       record {
         writes_back = tt;

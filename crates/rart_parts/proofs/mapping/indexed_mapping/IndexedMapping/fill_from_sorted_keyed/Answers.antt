@@ -1,31 +1,31 @@
 use Rattle.std.proofs.Common.{◌≡◌, ◌++◌, ◌∷◌, ◌∙◌, [], sym, ap, arith}
-use Rattle.rart_parts.specs.Entries.{ascending}
+use Rattle.rart_parts.specs.Entries.{sorted_entries}
 use Rattle.rart_parts.proofs.MoveLemmas.{taken_absent, taken_next, taken_fits}
 use Rattle.rart_parts.proofs.mapping.indexed_mapping.IndexedMapping.fill_from_sorted_keyed.Goals as goal
 
 pub add_child-requires : goal.add_child-requires
 add_child-requires g c =
-    let is : (c.take_last.new.self ++ (c.in-Some.key, c.in-Some.child) ∷ []) ++ ascending c.loop-key.self
+    let is : (c.take_last.new.self ++ (c.in-Some.key, c.in-Some.child) ∷ []) ++ sorted_entries c.loop-key.self
     ≡ c.args.source.now
-    = ap (λ es. es ++ ascending c.loop-key.self) (sym c.in-Some.ensures) ∙ c.loop-key.invariant.1 in (
+    = ap (λ es. es ++ sorted_entries c.loop-key.self) (sym c.in-Some.ensures) ∙ c.loop-key.invariant.1 in (
       omega arith,
       (
-        taken_absent c.args.source.now c.take_last.new.self (ascending c.loop-key.self)
+        taken_absent c.args.source.now c.take_last.new.self (sorted_entries c.loop-key.self)
             (c.in-Some.key, c.in-Some.child) c.loop-key.invariant.0 is,
         taken_fits c.args.source.now c.take_last.new.self
-            (ascending c.loop-key.self) (c.in-Some.key, c.in-Some.child) c.loop-key.invariant.0 is g.row.W
+            (sorted_entries c.loop-key.self) (c.in-Some.key, c.in-Some.child) c.loop-key.invariant.0 is g.row.W
             c.requires.few,
       ),
     )
 
 pub loop-key-preserved : goal.loop-key-preserved
 loop-key-preserved g c =
-    let is : (c.take_last.new.self ++ (c.in-Some.key, c.in-Some.child) ∷ []) ++ ascending c.loop-key.self
+    let is : (c.take_last.new.self ++ (c.in-Some.key, c.in-Some.child) ∷ []) ++ sorted_entries c.loop-key.self
     ≡ c.args.source.now
-    = ap (λ es. es ++ ascending c.loop-key.self) (sym c.in-Some.ensures) ∙ c.loop-key.invariant.1 in (
+    = ap (λ es. es ++ sorted_entries c.loop-key.self) (sym c.in-Some.ensures) ∙ c.loop-key.invariant.1 in (
       c.loop-key.invariant.0,
       ap (λ es. c.take_last.new.self ++ es) c.add_child.ensures
-          ∙ taken_next c.args.source.now c.take_last.new.self (ascending c.loop-key.self)
+          ∙ taken_next c.args.source.now c.take_last.new.self (sorted_entries c.loop-key.self)
           (c.in-Some.key, c.in-Some.child)
           c.loop-key.invariant.0 is,
     )

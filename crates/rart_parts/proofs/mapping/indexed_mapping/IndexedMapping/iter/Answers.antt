@@ -1,5 +1,5 @@
 use Rattle.std.proofs.Common.{◌∙◌, ap, subst}
-use Rattle.rart_parts.specs.Entries.{BytesAscend, ascending}
+use Rattle.rart_parts.specs.Entries.{BytesAscend, sorted_entries}
 use Rattle.rart_parts.specs.Indexed.{by_slots}
 use Rattle.rart_parts.proofs.IndexLemmas.{map_of_ascends}
 use Rattle.rart_parts.proofs.IndexWalk.{walk_is}
@@ -8,7 +8,8 @@ use Rattle.rart_parts.proofs.mapping.indexed_mapping.IndexedMapping.iter.Goals a
 pub returns-clause-entries : goal.returns-clause-entries
 returns-clause-entries g c =
     (λ i. by_slots (c.iter.ensures i) (c.as_slice.ensures i))
-    ∙ walk_is c.self.inside.children c.self.inside.index c.self.invariant.index ∙ ap ascending c.self.view_is
+    ∙ walk_is c.self.inside.children c.self.inside.index c.self.invariant.index ∙ ap sorted_entries c.self.view_is
 
 pub returns-clause-ascends : goal.returns-clause-ascends
-returns-clause-ascends g c = subst BytesAscend (ap ascending c.self.view_is) (map_of_ascends c.self.invariant.index)
+returns-clause-ascends g c = subst BytesAscend (ap sorted_entries c.self.view_is)
+    (map_of_ascends c.self.invariant.index)

@@ -1,5 +1,5 @@
 use Rattle.std.proofs.Common.{◌∙◌, ap, subst}
-use Rattle.rart_parts.specs.Entries.{BytesAscend, ascending, entries_above}
+use Rattle.rart_parts.specs.Entries.{BytesAscend, sorted_entries, entries_above}
 use Rattle.rart_parts.specs.Indexed.{by_slots}
 use Rattle.rart_parts.proofs.EntryLemmas.{above-ascends}
 use Rattle.rart_parts.proofs.IndexLemmas.{map_of_ascends}
@@ -10,8 +10,8 @@ pub returns-clause-entries : goal.returns-clause-entries
 returns-clause-entries g c =
     (λ i. by_slots (c.iter_above.ensures i) (c.as_slice.ensures i)) ∙ slots_above c.args.byte c.self.inside.children _
     ∙ ap (entries_above c.args.byte) (walk_is c.self.inside.children c.self.inside.index c.self.invariant.index
-    ∙ ap ascending c.self.view_is)
+    ∙ ap sorted_entries c.self.view_is)
 
 pub returns-clause-ascends : goal.returns-clause-ascends
 returns-clause-ascends g c = above-ascends c.args.byte _
-    (subst BytesAscend (ap ascending c.self.view_is) (map_of_ascends c.self.invariant.index))
+    (subst BytesAscend (ap sorted_entries c.self.view_is) (map_of_ascends c.self.invariant.index))

@@ -1,5 +1,5 @@
 use Rattle.std.proofs.Common.{◌∙◌, ap, length, arith}
-use Rattle.rart_parts.specs.Entries.{child_at, with_entry, ascending}
+use Rattle.rart_parts.specs.Entries.{child_at, with_entry, sorted_entries}
 use Rattle.rart_parts.specs.Indexed.{with_bytes}
 use Rattle.rart_parts.proofs.AnswerReadings.{some_first, not_true}
 use Rattle.rart_parts.proofs.IndexLemmas.{absent_unnamed, indexed_put, map_put, slot_free}
@@ -13,14 +13,14 @@ unwrap-slot-requires g c =
       c.requires.not_full,
       c.self.invariant.entries,
       ap
-          (λ es. length (ascending es)) c.self.view_is,
+          (λ es. length (sorted_entries es)) c.self.view_is,
     )))
 
 pub invariant_of-self : goal.invariant_of-self
 invariant_of-self g c =
     let first = rw c.unwrap-slot.ensures at c.first_empty.ensures in
     let unnamed = absent_unnamed c.self.invariant.index c.args.key
-    (ap (λ es. child_at c.args.key (ascending es)) c.self.view_is ∙ c.requires.absent) in
+    (ap (λ es. child_at c.args.key (sorted_entries es)) c.self.view_is ∙ c.requires.absent) in
     rw (c.set.ensures, c.put.ensures) (indexed_put c.self.invariant c.args.key c.unwrap-slot.result c.args.node
     (omega (arith, c.ranges.key.fits)) first.0 unnamed (not_true _ first.1))
 
@@ -28,8 +28,8 @@ pub returns : goal.returns
 returns g c =
     let first = rw c.unwrap-slot.ensures at c.first_empty.ensures in
     let unnamed = absent_unnamed c.self.invariant.index c.args.key
-    (ap (λ es. child_at c.args.key (ascending es)) c.self.view_is ∙ c.requires.absent) in
-    (λ i. ascending (with_bytes (c.set.ensures i) 0 (c.put.ensures i)))
+    (ap (λ es. child_at c.args.key (sorted_entries es)) c.self.view_is ∙ c.requires.absent) in
+    (λ i. sorted_entries (with_bytes (c.set.ensures i) 0 (c.put.ensures i)))
     ∙ map_put c.self.invariant.index c.args.key c.unwrap-slot.result c.args.node (omega (arith, c.ranges.key.fits))
     (omega (arith, first.0, c.self.invariant.full)) unnamed (not_true _ first.1)
-    ∙ ap (λ es. with_entry c.args.key c.args.node (ascending es)) c.self.view_is
+    ∙ ap (λ es. with_entry c.args.key c.args.node (sorted_entries es)) c.self.view_is

@@ -1,5 +1,5 @@
 use Rattle.std.proofs.Common.{◌∙◌, None, sym, ap, arith}
-use Rattle.rart_parts.specs.Entries.{without_byte, ascending}
+use Rattle.rart_parts.specs.Entries.{without_byte, sorted_entries}
 use Rattle.rart_parts.specs.Indexed.{with_bytes}
 use Rattle.rart_parts.proofs.EntryLemmas.{without_absent}
 use Rattle.rart_parts.proofs.PlaceLemmas.{set_same}
@@ -13,9 +13,9 @@ returns-in_default-clause-taken g c = rw (← c.self.view_is)
 pub returns-in_default-clause-rest : goal.returns-in_default-clause-rest
 returns-in_default-clause-rest g c =
     let none = indexed_none c.self.invariant.index c.args.key (sym c.in_default.ensures.old) in
-    ap (λ at. ascending (with_bytes at 0 c.self.inside.children)) (c.in_default.ensures.new
+    ap (λ at. sorted_entries (with_bytes at 0 c.self.inside.children)) (c.in_default.ensures.new
     ∙ set_same c.self.inside.index c.args.key None c.in_default.ensures.old)
-    ∙ sym (without_absent c.args.key _ none) ∙ ap (λ es. without_byte c.args.key (ascending es)) c.self.view_is
+    ∙ sym (without_absent c.args.key _ none) ∙ ap (λ es. without_byte c.args.key (sorted_entries es)) c.self.view_is
 
 pub overflow_sub-self : goal.overflow_sub-self
 overflow_sub-self g c = omega (
@@ -46,6 +46,6 @@ returns-clause-taken g c = rw (← c.self.view_is) (c.erase-2.ensures.old
 
 pub returns-clause-rest : goal.returns-clause-rest
 returns-clause-rest g c =
-    (λ i. ascending (with_bytes (c.in-Some.ensures.new i) 0 (c.erase-2.ensures.new i)))
+    (λ i. sorted_entries (with_bytes (c.in-Some.ensures.new i) 0 (c.erase-2.ensures.new i)))
     ∙ map_taken c.self.invariant.index c.args.key c.in-Some.slot (omega (arith, c.ranges.key.fits))
-    (sym c.in-Some.ensures.old) ∙ ap (λ es. without_byte c.args.key (ascending es)) c.self.view_is
+    (sym c.in-Some.ensures.old) ∙ ap (λ es. without_byte c.args.key (sorted_entries es)) c.self.view_is

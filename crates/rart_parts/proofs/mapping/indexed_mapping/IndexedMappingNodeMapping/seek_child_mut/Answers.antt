@@ -1,5 +1,5 @@
 use Rattle.std.proofs.Common.{◌∙◌, sym, ap, refl, subst, arith}
-use Rattle.rart_parts.specs.Entries.{replaced, ascending}
+use Rattle.rart_parts.specs.Entries.{replaced_at, sorted_entries}
 use Rattle.rart_parts.specs.Indexed.{with_bytes, IsIndexed}
 use Rattle.rart_parts.proofs.PlaceLemmas.{used_read}
 use Rattle.rart_parts.proofs.SortedLemmas.{on_any}
@@ -38,11 +38,12 @@ returns-in-Some g c =
     (c.self.invariant.index.has_child c.args.key c.in-Some.slot here) in (
       (
         refl,
-        λ w. on_any c.get_mut.result (ap (λ os. ascending (with_bytes at 0 os))
+        λ w. on_any c.get_mut.result (ap (λ os. sorted_entries (with_bytes at 0 os))
             (from_some c.get_mut.result x.0 (c.get_mut.ensures.value ∙ x.1) (c.get_mut.follows.holds w))
             ∙ map_written c.self.invariant.index c.args.key c.in-Some.slot (omega (arith, c.ranges.key.fits)) here w
-            ∙ ap (λ es. replaced c.args.key w (ascending es)) c.self.view_is),
-        ap (λ os. ascending (with_bytes at 0 os)) c.get_mut.follows.holds-at-none ∙ ap ascending c.self.view_is,
+            ∙ ap (λ es. replaced_at c.args.key w (sorted_entries es)) c.self.view_is),
+        ap (λ os. sorted_entries (with_bytes at 0 os)) c.get_mut.follows.holds-at-none ∙ ap sorted_entries
+            c.self.view_is,
       ),
       record {
         writes_back = tt;
@@ -53,7 +54,7 @@ returns-in-Some g c =
 
 pub returns-in-None : goal.returns-in-None
 returns-in-None g c = (
-  (refl, λ w. tt, ap ascending c.self.view_is),
+  (refl, λ w. tt, ap sorted_entries c.self.view_is),
   record {
     writes_back = tt;
     value

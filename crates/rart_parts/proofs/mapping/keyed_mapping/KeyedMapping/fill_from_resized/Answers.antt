@@ -1,18 +1,18 @@
 use Rattle.std.proofs.Common.{ap, arith, length}
-use Rattle.rart_parts.specs.Entries.{ascending}
+use Rattle.rart_parts.specs.Entries.{sorted_entries}
 use Rattle.rart_parts.proofs.EntryLemmas.{length-without_byte}
 use Rattle.rart_parts.proofs.SplitLemmas.{split_start, split_absent, split_fits, split_next, split_done}
 use Rattle.rart_parts.proofs.mapping.keyed_mapping.KeyedMapping.fill_from_resized.Goals as goal
 
 pub loop-key-init : goal.loop-key-init
-loop-key-init g c = split_start (ascending c.args.source.now) (ascending c.args.self.now)
+loop-key-init g c = split_start (sorted_entries c.args.source.now) (sorted_entries c.args.self.now)
     c.num_children-count.ensures.ascends c.requires.empty
 
 pub add_child-requires : goal.add_child-requires
 add_child-requires g c =
-    let whole = ascending c.args.source.now in
-    let moved = ascending c.loop-key.self in
-    let rest = ascending c.loop-key.source in (
+    let whole = sorted_entries c.args.source.now in
+    let moved = sorted_entries c.loop-key.self in
+    let rest = sorted_entries c.loop-key.source in (
       omega arith,
       (
         split_absent whole moved rest c.loop-key.invariant c.in-Some.key c.in-Some.child c.in-Some.ensures.0,
@@ -23,9 +23,9 @@ add_child-requires g c =
 
 pub loop-key-preserved : goal.loop-key-preserved
 loop-key-preserved g c =
-    let whole = ascending c.args.source.now in
-    let moved = ascending c.loop-key.self in
-    let rest = ascending c.loop-key.source in
+    let whole = sorted_entries c.args.source.now in
+    let moved = sorted_entries c.loop-key.self in
+    let rest = sorted_entries c.loop-key.source in
     rw (c.add_child.ensures, c.in-Some.ensures.1)
     (split_next whole moved rest c.loop-key.invariant c.in-Some.key c.in-Some.child c.in-Some.ensures.0)
 
@@ -35,10 +35,10 @@ loop-key-smaller g c =
       arith,
       ap length c.in-Some.ensures.1,
       length-without_byte c.in-Some.key c.in-Some.child
-          (ascending c.loop-key.source) c.in-Some.ensures.0,
+          (sorted_entries c.loop-key.source) c.in-Some.ensures.0,
     )
 
 pub returns-clause-filled : goal.returns-clause-filled
 returns-clause-filled g c =
-    split_done (ascending c.args.source.now) (ascending c.loop-key.self) (ascending c.loop-key.source)
+    split_done (sorted_entries c.args.source.now) (sorted_entries c.loop-key.self) (sorted_entries c.loop-key.source)
     c.loop-key.invariant c.in_default.ensures.0

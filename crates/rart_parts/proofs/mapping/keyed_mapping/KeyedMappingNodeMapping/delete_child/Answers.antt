@@ -1,5 +1,5 @@
 use Rattle.std.proofs.Common.{◌∙◌, sym, ap, set, arith}
-use Rattle.rart_parts.specs.Entries.{without_byte, ascending}
+use Rattle.rart_parts.specs.Entries.{without_byte, sorted_entries}
 use Rattle.rart_parts.specs.Keyed.{with_keys}
 use Rattle.rart_parts.proofs.EntryLemmas.{without_absent}
 use Rattle.rart_parts.proofs.KeyedLemmas.{keyed_some, keyed_none, keyed_taken, mapping_taken, some_left}
@@ -14,8 +14,8 @@ pub returns-in_default-clause-rest : goal.returns-in_default-clause-rest
 returns-in_default-clause-rest g c =
     let none = keyed_none c.self.invariant.slots c.args.key
     (λ k h. c.in_default.ensures k (omega (arith, h, c.self.invariant.full))) in
-    ap ascending (sym c.self.view_is) ∙ sym (without_absent c.args.key _ none)
-    ∙ ap (λ es. without_byte c.args.key (ascending es)) c.self.view_is
+    ap sorted_entries (sym c.self.view_is) ∙ sym (without_absent c.args.key _ none)
+    ∙ ap (λ es. without_byte c.args.key (sorted_entries es)) c.self.view_is
 
 pub overflow_sub-self : goal.overflow_sub-self
 overflow_sub-self g c =
@@ -43,6 +43,6 @@ returns-clause-rest g c =
     let f = c.in-Some.ensures in
     let x = keyed_some c.self.invariant.slots c.args.key c.in-Some.slot (omega (arith, f.0, c.self.invariant.full))
     f.1 in
-    ap (λ os. ascending (with_keys (set c.self.inside.keys c.in-Some.slot 255) os)) c.erase.ensures.new
+    ap (λ os. sorted_entries (with_keys (set c.self.inside.keys c.in-Some.slot 255) os)) c.erase.ensures.new
     ∙ keyed_taken c.self.invariant.slots c.args.key c.in-Some.slot x.0 x.1.0 x.1.1 x.1.2
-    ∙ ap (λ es. without_byte c.args.key (ascending es)) c.self.view_is
+    ∙ ap (λ es. without_byte c.args.key (sorted_entries es)) c.self.view_is

@@ -1,5 +1,5 @@
 use Rattle.std.proofs.Common.{◌∙◌, sym, ap, subst, arith}
-use Rattle.rart_parts.specs.Entries.{BytesAscend, ascending, child_at}
+use Rattle.rart_parts.specs.Entries.{BytesAscend, sorted_entries, child_at}
 use Rattle.rart_parts.proofs.KeyedLemmas.{keyed_few, slots_ascend, keyed_absent}
 use Rattle.rart_parts.proofs.mapping.keyed_mapping.KeyedMappingNodeMapping.num_children.Goals as goal
 
@@ -7,8 +7,8 @@ pub returns-clause-few : goal.returns-clause-few
 returns-clause-few g c = rw (← c.self.view_is) (keyed_few c.self.invariant)
 
 pub returns-clause-ascends : goal.returns-clause-ascends
-returns-clause-ascends g c = subst BytesAscend (ap ascending c.self.view_is) (slots_ascend c.self.invariant.slots)
+returns-clause-ascends g c = subst BytesAscend (ap sorted_entries c.self.view_is) (slots_ascend c.self.invariant.slots)
 
 pub returns-clause-bytes : goal.returns-clause-bytes
-returns-clause-bytes g c b h = ap (λ es. child_at b (ascending es)) (sym c.self.view_is)
+returns-clause-bytes g c b h = ap (λ es. child_at b (sorted_entries es)) (sym c.self.view_is)
     ∙ keyed_absent c.self.invariant.slots b (λ j e. omega (arith, h, e, c.keys_are_bytes.ensures j))

@@ -1,5 +1,5 @@
 use Rattle.std.proofs.Common.{◌∙◌, sym, ap, refl, subst, arith}
-use Rattle.rart_parts.specs.Entries.{replaced, ascending}
+use Rattle.rart_parts.specs.Entries.{replaced_at, sorted_entries}
 use Rattle.rart_parts.specs.Keyed.{with_keys, IsKeyed}
 use Rattle.rart_parts.proofs.SortedLemmas.{on_any}
 use Rattle.rart_parts.proofs.AnswerReadings.{from_some}
@@ -27,18 +27,18 @@ returns-in-Some g c =
     f.1 in (
       (
         refl,
-        λ w. on_any c.get_mut.result (ap (λ os. ascending (with_keys ks os))
+        λ w. on_any c.get_mut.result (ap (λ os. sorted_entries (with_keys ks os))
             (from_some c.get_mut.result x.0 (c.get_mut.ensures.value ∙ x.1.2) (c.get_mut.follows.holds w))
             ∙ keyed_written c.self.invariant.slots c.args.key c.in-Some.slot x.0 x.1.0 x.1.1 x.1.2 w
-            ∙ ap (λ es. replaced c.args.key w (ascending es)) c.self.view_is),
-        ap (λ os. ascending (with_keys ks os)) c.get_mut.follows.holds-at-none ∙ ap ascending c.self.view_is,
+            ∙ ap (λ es. replaced_at c.args.key w (sorted_entries es)) c.self.view_is),
+        ap (λ os. sorted_entries (with_keys ks os)) c.get_mut.follows.holds-at-none ∙ ap sorted_entries c.self.view_is,
       ),
       record { writes_back = tt; value = rw (← c.self.view_is) (c.get_mut.ensures.value ∙ x.1.2 ∙ sym x.1.3) },
     )
 
 pub returns-in-None : goal.returns-in-None
 returns-in-None g c = (
-  (refl, λ w. tt, ap ascending c.self.view_is),
+  (refl, λ w. tt, ap sorted_entries c.self.view_is),
   record {
     writes_back = tt;
     value = rw (← c.self.view_is)

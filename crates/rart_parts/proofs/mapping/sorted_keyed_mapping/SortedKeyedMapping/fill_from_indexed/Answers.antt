@@ -1,6 +1,6 @@
 use Rattle.std.proofs.Common.{◌++◌, ◌∙◌, length, sym, ap, subst, arith}
 use Rattle.std.specs.Prelude.{IsSome}
-use Rattle.rart_parts.specs.Entries.{ascending, without_byte}
+use Rattle.rart_parts.specs.Entries.{sorted_entries, without_byte}
 use Rattle.rart_parts.proofs.EntryLemmas.{length-without_byte}
 use Rattle.rart_parts.proofs.MoveLemmas.{moved_absent, moved_next, moved_fits, next_first}
 use Rattle.rart_parts.proofs.mapping.sorted_keyed_mapping.SortedKeyedMapping.fill_from_indexed.Goals as goal
@@ -10,15 +10,15 @@ unwrap-child-requires g c = subst IsSome (sym c.delete_child.ensures.taken) c.in
 
 pub add_child-requires : goal.add_child-requires
 add_child-requires g c =
-    let source = ascending c.loop-key.source in
-    let is = next_first (ascending c.args.source.now) c.loop-key.self source c.in-Some.key c.loop-key.invariant.0
+    let source = sorted_entries c.loop-key.source in
+    let is = next_first (sorted_entries c.args.source.now) c.loop-key.self source c.in-Some.key c.loop-key.invariant.0
     c.loop-key.invariant.1 c.in-Some.ensures.least c.unwrap-child.result (sym c.delete_child.ensures.taken
     ∙ c.unwrap-child.ensures) in (
       omega arith,
       (
-        moved_absent (ascending c.args.source.now) c.loop-key.self (without_byte c.in-Some.key source)
+        moved_absent (sorted_entries c.args.source.now) c.loop-key.self (without_byte c.in-Some.key source)
             (c.in-Some.key, c.unwrap-child.result) c.loop-key.invariant.0 is,
-        moved_fits (ascending c.args.source.now)
+        moved_fits (sorted_entries c.args.source.now)
             c.loop-key.self (without_byte c.in-Some.key source) (c.in-Some.key, c.unwrap-child.result)
             c.loop-key.invariant.0 is g.row.W c.requires.few,
       ),
@@ -26,13 +26,13 @@ add_child-requires g c =
 
 pub loop-key-preserved : goal.loop-key-preserved
 loop-key-preserved g c =
-    let source = ascending c.loop-key.source in
-    let is = next_first (ascending c.args.source.now) c.loop-key.self source c.in-Some.key c.loop-key.invariant.0
+    let source = sorted_entries c.loop-key.source in
+    let is = next_first (sorted_entries c.args.source.now) c.loop-key.self source c.in-Some.key c.loop-key.invariant.0
     c.loop-key.invariant.1 c.in-Some.ensures.least c.unwrap-child.result (sym c.delete_child.ensures.taken
     ∙ c.unwrap-child.ensures) in (
       c.loop-key.invariant.0,
       (λ i. c.add_child.ensures i ++ c.delete_child.ensures.rest i)
-          ∙ moved_next (ascending c.args.source.now) c.loop-key.self (without_byte c.in-Some.key source)
+          ∙ moved_next (sorted_entries c.args.source.now) c.loop-key.self (without_byte c.in-Some.key source)
           (c.in-Some.key, c.unwrap-child.result) c.loop-key.invariant.0 is,
     )
 
@@ -42,5 +42,5 @@ loop-key-smaller g c =
       arith,
       ap length c.delete_child.ensures.rest,
       length-without_byte c.in-Some.key c.unwrap-child.result
-          (ascending c.loop-key.source) (sym c.delete_child.ensures.taken ∙ c.unwrap-child.ensures),
+          (sorted_entries c.loop-key.source) (sym c.delete_child.ensures.taken ∙ c.unwrap-child.ensures),
     )

@@ -2,7 +2,7 @@ use Rattle.std.proofs.Common.{◌≡◌, ◌≤◌, reverse, vec_capacity}
 use Rattle.rart_nodes.specs.ranges.BackWalk.{IsBackWalk, remaining_entries}
 use Rattle.rart_nodes.specs.walks.Walk.{KeepsEach}
 use Rattle.rart_nodes.proofs.ranges.BackVisits.{HasVisited}
-use Rattle.rart_nodes.proofs.ranges.LevelLemmas.{work_behind}
+use Rattle.rart_nodes.proofs.ranges.LevelLemmas.{work_after}
 use Rattle.rart_nodes.proofs.node.walk.back.BackWalk.retreat.Given as goal
 
 abbrev pub invariant-loop-self : goal.invariant-loop-self
@@ -18,4 +18,4 @@ invariant-loop-self g l = record {
 }
 
 abbrev pub decreases-loop-self : goal.decreases-loop-self
-decreases-loop-self g l = work_behind (reverse l.self.levels.items)
+decreases-loop-self g l = work_after (reverse l.self.levels.items)

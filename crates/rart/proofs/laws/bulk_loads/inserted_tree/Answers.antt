@@ -3,7 +3,7 @@ use Rattle.std.specs.Vec.Iter.{into_iter_steps}
 use Rattle.std.proofs.iter.Next.{Yields-more}
 use Rattle.rart.proofs.BulkLawLemmas.{one-refused, vec-begun}
 use Rattle.rart.proofs.ExtensionLemmas.{put-more}
-use Rattle.rart.proofs.laws.bulk_loads.inserted.Goals as goal
+use Rattle.rart.proofs.laws.bulk_loads.inserted_tree.Goals as goal
 
 pub loop-key-preserved-in-Ok : goal.loop-key-preserved-in-Ok
 loop-key-preserved-in-Ok g c = put-more g.K.KeyTrait.bytes c.loop-key.yielded (c.in-Some.key, c.in-Some.value) [] _ _
