@@ -18,7 +18,7 @@ from collections import Counter
 
 TOP = pathlib.Path(__file__).resolve().parents[1]
 
-# A longer pause stood between two checks.
+# There was a longer pause between two checks.
 PAUSE = 600
 
 

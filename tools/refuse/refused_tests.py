@@ -100,7 +100,7 @@ def run(program, test, library):
     if int(counts.get("empty", 0)):
         return "a part of the sweep met no refusal", refused
     if QUIET.search(test) and refused:
-        return "memory was asked for", refused
+        return "memory was requested", refused
     if ADDED.search(test) and int(counts.get("added", 0)) == 0:
         return "no byte was added up", refused
     return "", refused

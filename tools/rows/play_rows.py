@@ -113,7 +113,7 @@ def runs(name, rows, library):
     narrow = {"stream": "stdout", "limit": 2}
     shared, (status, printed, said) = in_order(rows.SHARED)
     return (
-        ("answers stand before the message", run_in_one, shared, (status, printed + said, None)),
+        ("answers come before the message", run_in_one, shared, (status, printed + said, None)),
         ("short reads change nothing", partial(in_pieces, size=1), *in_order(rows.SLOW)),
         ("a failed read runs nothing", run_broken, b"len\nfoo\n", (1, b"", cannot_read)),
         # The second answer does not fit; the line after it is malformed and never read.

@@ -12,7 +12,7 @@ ROWS = (
         b"",
         0,
     ),
-    # Words stand between any separators, and the last line needs no newline.
+    # Words are between any separators, and the last line needs no newline.
     (b"\tadd \r 10.0.0.0/8\t\ta \r\nget\t10.0.0.0/8", b"none\nsome a\n", b"", 0),
     # A line without words prints nothing.
     (b"", b"", b"", 0),

@@ -9,7 +9,7 @@ ROWS = (
         b"",
         0,
     ),
-    # Words stand between any separators, and the last line needs no newline.
+    # Words are between any separators, and the last line needs no newline.
     (b"\tinsert \r a\t\t1 \r\nget\ta", b"none\nsome 1\n", b"", 0),
     # A line without words prints nothing.
     (b"", b"", b"", 0),

@@ -163,14 +163,14 @@ module _ {F E V : Type 0} (sure : V → Type 0)
     pub some-left : ((q : List ℕ) (v : V) (l : List (List ℕ × V)) → lookup q (put q v l) ≡ Some v) → lookup k n ≢ None
     some-left law = let e = rw r at h.3 in value-left k h.1 m n (λ v. law k v m) e.1 e.3
 
-    pub some-stood : x ≢ None
-    some-stood = λ z. let e = rw r at h.3 in e.2.1 (sym (slot-is x (lookup k m) h.2.1) ∙ z)
+    pub some-stored : x ≢ None
+    some-stored = λ z. let e = rw r at h.3 in e.2.1 (sym (slot-is x (lookup k m) h.2.1) ∙ z)
 
     pub put-back : ((q : List ℕ) (v w : V) (l : List (List ℕ × V)) → IsAscending l → lookup q l ≡ Some v
         → put q v (put q w l) ≡ l) → IsAscending m
         → (v : V) (u : List (List ℕ × V)) → x ≡ Some v → u ≡ put k v n → TriesUpdate g f k m (Err Try_not_removed) u
         × (u ≡ m)
     put-back law up v u s p = let e = rw r at h.3 in
-        let stood : lookup k m ≡ Some v = sym (slot-is x (lookup k m) h.2.1) ∙ s in
-        let same : u ≡ m = back-left k h.1 v m n u (λ y z t. law k y z m up t) e.1 stood e.3 p in
+        let stored : lookup k m ≡ Some v = sym (slot-is x (lookup k m) h.2.1) ∙ s in
+        let same : u ≡ m = back-left k h.1 v m n u (λ y z t. law k y z m up t) e.1 stored e.3 p in
         ((Ok h.0, h.1, h.2.0, (e.0, e.1, e.2, same)), same)

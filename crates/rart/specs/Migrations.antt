@@ -1,4 +1,4 @@
--- What becomes of text keys that lose their closing zeros.
+-- Text keys without their closing zeros.
 use Rattle.std.specs.Prelude.{◌≡◌, ◌≢◌, ℕ, List, [], ◌∷◌, ◌++◌, length, map}
 use Rattle.rart_keys.specs.SortedMap.{keys_of}
 use Rattle.rart.specs.declared.migrate.MigrateError.{MigrateError}
@@ -21,7 +21,7 @@ pub record IsFirstUnterminated (keys : List (List ℕ)) (place : ℕ) : Type 0 w
   pub many : place ≡ length texts
   pub no_text : (text : List ℕ) → key ≢ terminated_key text
 
--- why keys couldn't lose their closing zeros
+-- why closing zeros couldn't be dropped
 abbrev pub FailsMigration : {V : Type 0} → List (List ℕ × V) → MigrateError → Type 0
 FailsMigration es Memory = es ≢ []
 FailsMigration es (NotText at) = IsFirstUnterminated (keys_of es) at

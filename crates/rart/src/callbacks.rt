@@ -24,14 +24,15 @@ impl<K: KeyTrait, V> AdaptiveRadixTree<K, V> {
     /// first. The key is borrowed from the probe: its first bytes, nothing is copied. Allocates nothing.
     pub fn prefix_match_for_each_by_ref_bytes<F: FnMut(&[u8], &V)>(&self, probe: &[u8], f: &mut F)
         requires callable { CanMatch F.FnMut f.old (matches probe.now self.now.pairs) }
-        ensures callable { F.IsAlwaysCallable f.old → F.IsAlwaysCallable f.new }
+        ensures stays_callable { F.IsAlwaysCallable f.old → F.IsAlwaysCallable f.new }
         ensures calls { MatchesEach F.FnMut f.old (matches probe.now self.now.pairs) f.new }
     {
         self.seen()
             .prefix_match_for_each_by_ref_bytes_counted(probe, f, &mut Visits::new())
     }
 
-    /// Calls `f` as `prefix_match_for_each_by_ref_bytes` does, and drops it.
+    /// Calls `f` as [`prefix_match_for_each_by_ref_bytes`](Self::prefix_match_for_each_by_ref_bytes) does, and drops
+    /// it.
     pub fn prefix_match_for_each_bytes<F: FnMut(&[u8], &V) + Drop>(&self, probe: &[u8], f: F)
         requires callable { CanMatch F.FnMut f (matches probe.now self.now.pairs) }
         ensures { MatchesEachByValue F.FnMut f (matches probe.now self.now.pairs) }
@@ -44,7 +45,7 @@ impl<K: KeyTrait, V> AdaptiveRadixTree<K, V> {
     /// first bytes, nothing is copied. Allocates nothing.
     pub fn prefix_match_for_each_by_ref_k<F: FnMut(&[u8], &V)>(&self, probe: &K, f: &mut F)
         requires callable { CanMatch F.FnMut f.old (matches (K.bytes probe.now) self.now.pairs) }
-        ensures callable { F.IsAlwaysCallable f.old → F.IsAlwaysCallable f.new }
+        ensures stays_callable { F.IsAlwaysCallable f.old → F.IsAlwaysCallable f.new }
         ensures calls { MatchesEach F.FnMut f.old
             (matches (K.bytes probe.now) self.now.pairs) f.new }
     {
@@ -52,18 +53,18 @@ impl<K: KeyTrait, V> AdaptiveRadixTree<K, V> {
             .prefix_match_for_each_by_ref_k_counted(probe, f, &mut Visits::new())
     }
 
-    /// Calls `f` as `prefix_match_for_each_by_ref_k` does.
+    /// Calls `f` as [`prefix_match_for_each_by_ref_k`](Self::prefix_match_for_each_by_ref_k) does.
     pub fn prefix_match_for_each_by_ref<F: FnMut(&[u8], &V)>(&self, probe: K, f: &mut F)
     where
         K: Drop,
         requires callable { CanMatch F.FnMut f.old (matches (K.bytes probe) self.now.pairs) }
-        ensures callable { F.IsAlwaysCallable f.old → F.IsAlwaysCallable f.new }
+        ensures stays_callable { F.IsAlwaysCallable f.old → F.IsAlwaysCallable f.new }
         ensures calls { MatchesEach F.FnMut f.old (matches (K.bytes probe) self.now.pairs) f.new }
     {
         self.prefix_match_for_each_by_ref_k(&probe, f)
     }
 
-    /// Calls `f` as `prefix_match_for_each_by_ref_k` does, and drops it.
+    /// Calls `f` as [`prefix_match_for_each_by_ref_k`](Self::prefix_match_for_each_by_ref_k) does, and drops it.
     pub fn prefix_match_for_each_k<F: FnMut(&[u8], &V) + Drop>(&self, probe: &K, f: F)
         requires callable { CanMatch F.FnMut f (matches (K.bytes probe.now) self.now.pairs) }
         ensures { MatchesEachByValue F.FnMut f (matches (K.bytes probe.now) self.now.pairs) }
@@ -72,7 +73,7 @@ impl<K: KeyTrait, V> AdaptiveRadixTree<K, V> {
             .prefix_match_for_each_k_counted(probe, f, &mut Visits::new())
     }
 
-    /// Calls `f` as `prefix_match_for_each_by_ref_k` does, and drops it.
+    /// Calls `f` as [`prefix_match_for_each_by_ref_k`](Self::prefix_match_for_each_by_ref_k) does, and drops it.
     pub fn prefix_match_for_each<F: FnMut(&[u8], &V) + Drop>(&self, probe: K, f: F)
     where
         K: Drop,
@@ -94,7 +95,7 @@ impl<K: KeyTrait, V> AdaptiveRadixTree<K, V> {
     ) -> Result<(), TreeError>
         requires callable { CanShow F.FnMut f.old
             (values_below (K.bytes prefix.now) self.now.pairs) }
-        ensures callable { F.IsAlwaysCallable f.old → F.IsAlwaysCallable f.new }
+        ensures stays_callable { F.IsAlwaysCallable f.old → F.IsAlwaysCallable f.new }
         ensures calls { OnOk result
             (ShowsEach F.FnMut f.old (values_below (K.bytes prefix.now) self.now.pairs) f.new) }
         ensures unchanged { OnErr result (f.new ≡ f.old) }
@@ -103,7 +104,7 @@ impl<K: KeyTrait, V> AdaptiveRadixTree<K, V> {
         self.seen().prefix_values_for_each_by_ref_k(prefix, f)
     }
 
-    /// Calls `f` as `prefix_values_for_each_by_ref_k` does.
+    /// Calls `f` as [`prefix_values_for_each_by_ref_k`](Self::prefix_values_for_each_by_ref_k) does.
     ///
     /// # Errors
     ///
@@ -116,7 +117,7 @@ impl<K: KeyTrait, V> AdaptiveRadixTree<K, V> {
     where
         K: Drop,
         requires callable { CanShow F.FnMut f.old (values_below (K.bytes prefix) self.now.pairs) }
-        ensures callable { F.IsAlwaysCallable f.old → F.IsAlwaysCallable f.new }
+        ensures stays_callable { F.IsAlwaysCallable f.old → F.IsAlwaysCallable f.new }
         ensures calls { OnOk result
             (ShowsEach F.FnMut f.old (values_below (K.bytes prefix) self.now.pairs) f.new) }
         ensures unchanged { OnErr result (f.new ≡ f.old) }
@@ -125,7 +126,7 @@ impl<K: KeyTrait, V> AdaptiveRadixTree<K, V> {
         self.prefix_values_for_each_by_ref_k(&prefix, f)
     }
 
-    /// Calls `f` as `prefix_values_for_each_by_ref_k` does, and drops it.
+    /// Calls `f` as [`prefix_values_for_each_by_ref_k`](Self::prefix_values_for_each_by_ref_k) does, and drops it.
     ///
     /// # Errors
     ///
@@ -143,7 +144,7 @@ impl<K: KeyTrait, V> AdaptiveRadixTree<K, V> {
         self.seen().prefix_values_for_each_k(prefix, f)
     }
 
-    /// Calls `f` as `prefix_values_for_each_by_ref_k` does, and drops it.
+    /// Calls `f` as [`prefix_values_for_each_by_ref_k`](Self::prefix_values_for_each_by_ref_k) does, and drops it.
     ///
     /// # Errors
     ///
@@ -177,7 +178,7 @@ impl<K: KeyTrait, V> AdaptiveRadixTree<K, V> {
     ) -> Result<S, TreeError>
         requires callable { CanFold F.FnMut f.old init
             (values_below (K.bytes prefix.now) self.now.pairs) }
-        ensures callable { F.IsAlwaysCallable f.old → F.IsAlwaysCallable f.new }
+        ensures stays_callable { F.IsAlwaysCallable f.old → F.IsAlwaysCallable f.new }
         ensures calls { IfOk result (λ state. FoldsEach F.FnMut f.old init
             (values_below (K.bytes prefix.now) self.now.pairs) f.new state) }
         ensures unchanged { OnErr result (f.new ≡ f.old) }
@@ -186,7 +187,7 @@ impl<K: KeyTrait, V> AdaptiveRadixTree<K, V> {
         self.seen().prefix_values_fold_by_ref_k(prefix, init, f)
     }
 
-    /// Folds as `prefix_values_fold_by_ref_k` does.
+    /// Folds as [`prefix_values_fold_by_ref_k`](Self::prefix_values_fold_by_ref_k) does.
     ///
     /// # Errors
     ///
@@ -201,7 +202,7 @@ impl<K: KeyTrait, V> AdaptiveRadixTree<K, V> {
         K: Drop,
         requires callable { CanFold F.FnMut f.old init
             (values_below (K.bytes prefix) self.now.pairs) }
-        ensures callable { F.IsAlwaysCallable f.old → F.IsAlwaysCallable f.new }
+        ensures stays_callable { F.IsAlwaysCallable f.old → F.IsAlwaysCallable f.new }
         ensures calls { IfOk result (λ state. FoldsEach F.FnMut f.old init
             (values_below (K.bytes prefix) self.now.pairs) f.new state) }
         ensures unchanged { OnErr result (f.new ≡ f.old) }
@@ -210,7 +211,7 @@ impl<K: KeyTrait, V> AdaptiveRadixTree<K, V> {
         self.prefix_values_fold_by_ref_k(&prefix, init, f)
     }
 
-    /// Folds as `prefix_values_fold_by_ref_k` does, and drops `f`.
+    /// Folds as [`prefix_values_fold_by_ref_k`](Self::prefix_values_fold_by_ref_k) does, and drops `f`.
     ///
     /// # Errors
     ///
@@ -230,7 +231,7 @@ impl<K: KeyTrait, V> AdaptiveRadixTree<K, V> {
         self.seen().prefix_values_fold_k(prefix, init, f)
     }
 
-    /// Folds as `prefix_values_fold_by_ref_k` does, and drops `f`.
+    /// Folds as [`prefix_values_fold_by_ref_k`](Self::prefix_values_fold_by_ref_k) does, and drops `f`.
     ///
     /// # Errors
     ///
@@ -265,7 +266,7 @@ impl<K: KeyTrait, V> AdaptiveRadixTree<K, V> {
     ) -> Result<(), VisitError<E>>
         requires callable { CanTry F.FnMut f.old
             (values_below (K.bytes prefix.now) self.now.pairs) }
-        ensures callable { F.IsAlwaysCallable f.old → F.IsAlwaysCallable f.new }
+        ensures stays_callable { F.IsAlwaysCallable f.old → F.IsAlwaysCallable f.new }
         ensures calls { EndsVisit F.FnMut f.old
             (values_below (K.bytes prefix.now) self.now.pairs) result f.new }
         ensures memory { IfErr result (MayStopForMemory self.now.pairs) }
@@ -273,7 +274,7 @@ impl<K: KeyTrait, V> AdaptiveRadixTree<K, V> {
         self.seen().try_prefix_values_for_each_by_ref_k(prefix, f)
     }
 
-    /// Calls `f` as `try_prefix_values_for_each_by_ref_k` does.
+    /// Calls `f` as [`try_prefix_values_for_each_by_ref_k`](Self::try_prefix_values_for_each_by_ref_k) does.
     ///
     /// # Errors
     ///
@@ -286,7 +287,7 @@ impl<K: KeyTrait, V> AdaptiveRadixTree<K, V> {
     where
         K: Drop,
         requires callable { CanTry F.FnMut f.old (values_below (K.bytes prefix) self.now.pairs) }
-        ensures callable { F.IsAlwaysCallable f.old → F.IsAlwaysCallable f.new }
+        ensures stays_callable { F.IsAlwaysCallable f.old → F.IsAlwaysCallable f.new }
         ensures calls { EndsVisit F.FnMut f.old
             (values_below (K.bytes prefix) self.now.pairs) result f.new }
         ensures memory { IfErr result (MayStopForMemory self.now.pairs) }
@@ -294,7 +295,8 @@ impl<K: KeyTrait, V> AdaptiveRadixTree<K, V> {
         self.try_prefix_values_for_each_by_ref_k(&prefix, f)
     }
 
-    /// Calls `f` as `try_prefix_values_for_each_by_ref_k` does, and drops it.
+    /// Calls `f` as [`try_prefix_values_for_each_by_ref_k`](Self::try_prefix_values_for_each_by_ref_k) does, and drops
+    /// it.
     ///
     /// # Errors
     ///
@@ -312,7 +314,8 @@ impl<K: KeyTrait, V> AdaptiveRadixTree<K, V> {
         self.seen().try_prefix_values_for_each_k(prefix, f)
     }
 
-    /// Calls `f` as `try_prefix_values_for_each_by_ref_k` does, and drops it.
+    /// Calls `f` as [`try_prefix_values_for_each_by_ref_k`](Self::try_prefix_values_for_each_by_ref_k) does, and drops
+    /// it.
     ///
     /// # Errors
     ///

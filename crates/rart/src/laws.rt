@@ -132,7 +132,7 @@ pub fn pairs_and_values<'a, K: KeyTrait, V>(
     ensures pairs { IfOk result (λ r. r.0 ≡ tree.now.pairs) }
     ensures ascending { IfOk result (λ r. IsAscending r.0) }
     ensures many { IfOk result (λ r. length r.0 ≡ length tree.now.pairs) }
-    ensures same { IfOk result (λ r. r.1 ≡ values_of r.0) }
+    ensures values { IfOk result (λ r. r.1 ≡ values_of r.0) }
     ensures memory { IfErr result (MayLackMemory tree.now.pairs) }
 {
     tree.canonical();
@@ -190,7 +190,7 @@ pub fn insert_then_remove<K: KeyTrait, V: Drop>(
     key: &K,
     value: V,
 ) -> Result<(TreeStats, TreeStats, TreeStats), RefusedCall<V>>
-    requires new_key { lookup (K.bytes key.now) tree.old.pairs ≡ None }
+    requires absent { lookup (K.bytes key.now) tree.old.pairs ≡ None }
     ensures before { IfOk result
         (λ r. stats_in r.0 ≡ stats_of (keys_of tree.old.pairs) tree.old.nodes) }
     ensures between { IfOk result

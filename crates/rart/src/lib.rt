@@ -1,11 +1,11 @@
 //! An ordered map over byte keys that shares prefixes: an Adaptive Radix Tree.
 //!
 //! Contracts see a tree as its sorted pairs and the records of its nodes. After any list of calls the nodes are
-//! exactly the branch points of the keys, each of the kind that its child count fixes, and every answer is that of
-//! the sorted list of pairs. A call of the map that fails changes neither, with three exceptions: if the removal that
-//! the callback of `update*` requested fails, the value that the callback wrote stays; an `extend` that fails keeps
-//! the items before the one that it can't insert; a `retain` that fails keeps what it did before the removal that
-//! failed. A law that makes several calls says which state remains if one of them fails.
+//! exactly the branch points of the keys, each of the kind that its child count fixes. Every answer is that of the
+//! sorted list of pairs. A call of the map that fails changes neither, with four exceptions. A failed removal of
+//! `update*` keeps the value that the callback wrote. A failed `extend` keeps the items before the refused one. A
+//! failed `append` keeps the pairs moved before it. A failed `retain` keeps what it did before the failed removal. A
+//! law that makes several calls says which state remains if one of them fails.
 #![tactic(auto)]
 
 mod both_ends;

@@ -44,7 +44,7 @@ impl<K: KeyTrait, V> AdaptiveRadixTree<K, V> {
     pub fn longest_prefix_len_bytes(&self, probe: &[u8]) -> Option<(usize, &V)>
         ensures pair { option_map (λ p. (take p.0 probe.now, p.1.now)) result
             ≡ longest_match probe.now self.now.pairs }
-        ensures shorter { IfSome result (λ p. p.0 ≤ length probe.now) }
+        ensures at_most { IfSome result (λ p. p.0 ≤ length probe.now) }
     {
         self.seen()
             .longest_prefix_len_bytes_counted(probe, &mut Visits::new())

@@ -63,7 +63,7 @@ impl<K: KeyTrait, T> RouteTable<K, T> {
     /// Returns the number of routes.
     pub fn len(&self) -> usize
         ensures value { result ≡ length self.now.pairs }
-        ensures most { result ≤ MAX_PAIRS }
+        ensures at_most { result ≤ MAX_PAIRS }
     {
         self.routes.len()
     }

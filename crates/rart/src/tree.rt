@@ -96,7 +96,7 @@ impl<K: KeyTrait, V> AdaptiveRadixTree<K, V> {
     /// Returns the number of pairs.
     pub fn len(&self) -> usize
         ensures value { result ≡ length self.now.pairs }
-        ensures most { result ≤ MAX_PAIRS }
+        ensures at_most { result ≤ MAX_PAIRS }
     {
         self.len
     }
@@ -190,7 +190,7 @@ impl<K: KeyTrait, V> AdaptiveRadixTree<K, V> {
         self.get_k(key).is_some()
     }
 
-    /// Returns whether `key` is stored, as `contains_key_k` does.
+    /// Returns whether `key` is stored, as [`contains_key_k`](Self::contains_key_k) does.
     pub fn contains_key(&self, key: K) -> bool
     where
         K: Drop,

@@ -34,7 +34,7 @@ impl<K: KeyTrait, V> AdaptiveRadixTree<K, V> {
     ) -> Result<(), TreeError>
         requires callable { CanView F.FnMut f.old
             (cut_pairs (keys_of self.now.pairs) self.now.pairs) }
-        ensures callable { F.IsAlwaysCallable f.old → F.IsAlwaysCallable f.new }
+        ensures stays_callable { F.IsAlwaysCallable f.old → F.IsAlwaysCallable f.new }
         ensures calls { OnOk result (ViewsEach F.FnMut f.old
             (cut_pairs (keys_of self.now.pairs) self.now.pairs) f.new) }
         ensures unchanged { OnErr result (f.new ≡ f.old) }
@@ -44,7 +44,7 @@ impl<K: KeyTrait, V> AdaptiveRadixTree<K, V> {
             .for_each_view_by_ref_counted(f, &mut Visits::new())
     }
 
-    /// Calls `f` as `for_each_view_by_ref` does, and drops it.
+    /// Calls `f` as [`for_each_view_by_ref`](Self::for_each_view_by_ref) does, and drops it.
     ///
     /// # Errors
     ///
@@ -72,7 +72,7 @@ impl<K: KeyTrait, V> AdaptiveRadixTree<K, V> {
         f: &mut F,
     ) -> Result<(), TreeError>
         requires callable { CanView F.FnMut f.old (cut_below (K.bytes prefix.now) self.now.pairs) }
-        ensures callable { F.IsAlwaysCallable f.old → F.IsAlwaysCallable f.new }
+        ensures stays_callable { F.IsAlwaysCallable f.old → F.IsAlwaysCallable f.new }
         ensures calls { OnOk result (ViewsEach F.FnMut f.old
             (cut_below (K.bytes prefix.now) self.now.pairs) f.new) }
         ensures unchanged { OnErr result (f.new ≡ f.old) }
@@ -82,7 +82,7 @@ impl<K: KeyTrait, V> AdaptiveRadixTree<K, V> {
             .prefix_for_each_view_by_ref_k_counted(prefix, f, &mut Visits::new())
     }
 
-    /// Calls `f` as `prefix_for_each_view_by_ref_k` does.
+    /// Calls `f` as [`prefix_for_each_view_by_ref_k`](Self::prefix_for_each_view_by_ref_k) does.
     ///
     /// # Errors
     ///
@@ -95,7 +95,7 @@ impl<K: KeyTrait, V> AdaptiveRadixTree<K, V> {
     where
         K: Drop,
         requires callable { CanView F.FnMut f.old (cut_below (K.bytes prefix) self.now.pairs) }
-        ensures callable { F.IsAlwaysCallable f.old → F.IsAlwaysCallable f.new }
+        ensures stays_callable { F.IsAlwaysCallable f.old → F.IsAlwaysCallable f.new }
         ensures calls { OnOk result (ViewsEach F.FnMut f.old
             (cut_below (K.bytes prefix) self.now.pairs) f.new) }
         ensures unchanged { OnErr result (f.new ≡ f.old) }
@@ -104,7 +104,7 @@ impl<K: KeyTrait, V> AdaptiveRadixTree<K, V> {
         self.prefix_for_each_view_by_ref_k(&prefix, f)
     }
 
-    /// Calls `f` as `prefix_for_each_view_by_ref_k` does, and drops it.
+    /// Calls `f` as [`prefix_for_each_view_by_ref_k`](Self::prefix_for_each_view_by_ref_k) does, and drops it.
     ///
     /// # Errors
     ///
@@ -123,7 +123,7 @@ impl<K: KeyTrait, V> AdaptiveRadixTree<K, V> {
             .prefix_for_each_view_k_counted(prefix, f, &mut Visits::new())
     }
 
-    /// Calls `f` as `prefix_for_each_view_by_ref_k` does, and drops it.
+    /// Calls `f` as [`prefix_for_each_view_by_ref_k`](Self::prefix_for_each_view_by_ref_k) does, and drops it.
     ///
     /// # Errors
     ///
@@ -159,7 +159,7 @@ impl<K: KeyTrait, V> AdaptiveRadixTree<K, V> {
         K: Drop,
         requires callable { CanView F.FnMut f.old
             (cut_between (bound_in K.bytes start) (bound_in K.bytes end) self.now.pairs) }
-        ensures callable { F.IsAlwaysCallable f.old → F.IsAlwaysCallable f.new }
+        ensures stays_callable { F.IsAlwaysCallable f.old → F.IsAlwaysCallable f.new }
         ensures calls { OnOk result (ViewsEach F.FnMut f.old
             (cut_between (bound_in K.bytes start) (bound_in K.bytes end) self.now.pairs) f.new) }
         ensures unchanged { OnErr result (f.new ≡ f.old) }
@@ -169,7 +169,7 @@ impl<K: KeyTrait, V> AdaptiveRadixTree<K, V> {
             .for_each_range_view_by_ref_counted(start, end, f, &mut Visits::new())
     }
 
-    /// Calls `f` as `for_each_range_view_by_ref` does, and drops it.
+    /// Calls `f` as [`for_each_range_view_by_ref`](Self::for_each_range_view_by_ref) does, and drops it.
     ///
     /// # Errors
     ///
@@ -205,7 +205,7 @@ impl<K: KeyTrait, V> AdaptiveRadixTree<K, V> {
     ) -> Result<bool, TreeError>
         requires callable { CanShowFound F.FnMut f.old (keys_of self.now.pairs)
             (longest_match (K.bytes probe.now) self.now.pairs) }
-        ensures callable { F.IsAlwaysCallable f.old → F.IsAlwaysCallable f.new }
+        ensures stays_callable { F.IsAlwaysCallable f.old → F.IsAlwaysCallable f.new }
         ensures calls { IfOk result (ShowsFound F.FnMut f.old (keys_of self.now.pairs)
             (longest_match (K.bytes probe.now) self.now.pairs) f.new) }
         ensures unchanged { OnErr result (f.new ≡ f.old) }
@@ -215,7 +215,8 @@ impl<K: KeyTrait, V> AdaptiveRadixTree<K, V> {
             .with_longest_prefix_match_view_by_ref_k_counted(probe, f, &mut Visits::new())
     }
 
-    /// Calls `f` as `with_longest_prefix_match_view_by_ref_k` does, with a probe by value.
+    /// Calls `f` as [`with_longest_prefix_match_view_by_ref_k`](Self::with_longest_prefix_match_view_by_ref_k) does,
+    /// with a probe by value.
     ///
     /// # Errors
     ///
@@ -229,7 +230,7 @@ impl<K: KeyTrait, V> AdaptiveRadixTree<K, V> {
         K: Drop,
         requires callable { CanShowFound F.FnMut f.old (keys_of self.now.pairs)
             (longest_match (K.bytes probe) self.now.pairs) }
-        ensures callable { F.IsAlwaysCallable f.old → F.IsAlwaysCallable f.new }
+        ensures stays_callable { F.IsAlwaysCallable f.old → F.IsAlwaysCallable f.new }
         ensures calls { IfOk result (ShowsFound F.FnMut f.old (keys_of self.now.pairs)
             (longest_match (K.bytes probe) self.now.pairs) f.new) }
         ensures unchanged { OnErr result (f.new ≡ f.old) }
@@ -258,7 +259,7 @@ impl<K: KeyTrait, V> AdaptiveRadixTree<K, V> {
         self.seen().with_longest_prefix_match_view_k(probe, f)
     }
 
-    /// Calls `f` as `with_longest_prefix_match_view_k` does.
+    /// Calls `f` as [`with_longest_prefix_match_view_k`](Self::with_longest_prefix_match_view_k) does.
     ///
     /// # Errors
     ///

@@ -1,6 +1,7 @@
 //! A stride: the targets of the networks with the same whole bytes, by the code of the bits after these.
-//!
-//! Contracts see a stride as its pairs of a one-byte key, the code, and a target, ascending by code.
+
+// Contracts see a stride as its pairs of a one-byte key, the code, and a target, ascending by code.
+
 ghost use Rattle.std.specs.Prelude.{◌≡◌, ◌≢◌, ◌<◌, ◌≤◌, [], ◌∷◌, length, Some, None, option_map, IfOk, IfErr};
 ghost use Rattle.std.specs.Borrow.{sem};
 ghost use Rattle.std.specs.Option.{option_copied, option_copied_mut};
@@ -117,7 +118,7 @@ fn boxed_two<T: Drop>(
         ≡ put (code ∷ []) target ((stored ∷ [], first) ∷ [])) }
     ensures first_returned { IfErr result (λ e. e.0 ≡ first) }
     ensures returned { IfErr result (λ e. e.1.value ≡ target) }
-    ensures why { IfErr result (λ e. MayRefuseInsert ((stored ∷ [], first) ∷ []) (code ∷ [])
+    ensures refused { IfErr result (λ e. MayRefuseInsert ((stored ∷ [], first) ∷ []) (code ∷ [])
         e.1.error) }
 {
     let mut tree = match boxed_one(alloc, stored, first) {

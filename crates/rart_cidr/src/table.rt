@@ -74,7 +74,7 @@ impl<K: KeyTrait, T> BitTable<K, T> {
     /// Returns the number of routes.
     pub fn len(&self) -> usize
         ensures value { result ≡ length self.now }
-        ensures most { result ≤ MAX_PAIRS }
+        ensures at_most { result ≤ MAX_PAIRS }
     {
         self.len
     }

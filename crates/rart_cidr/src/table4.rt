@@ -58,7 +58,7 @@ impl<T> CidrTable4<T> {
     /// Returns the number of routes.
     pub fn len(&self) -> usize
         ensures value { result ≡ length self.now }
-        ensures most { result ≤ MAX_PAIRS }
+        ensures at_most { result ≤ MAX_PAIRS }
     {
         self.routes.len()
     }
@@ -120,7 +120,7 @@ impl<T> CidrTable4<T> {
     pub fn longest_match(&self, addr: Ipv4Addr) -> Option<(Cidr4, &T)>
         ensures value { option_map (λ p. (bits4 p.0, p.1.now)) result
             ≡ longest_match (bits_of (ipv4_octets addr)) self.now }
-        ensures longest { IsLongestRoute (bits_of (ipv4_octets addr)) self.now
+        ensures longest_match { IsLongestRoute (bits_of (ipv4_octets addr)) self.now
             (option_map (λ p. (bits4 p.0, p.1.now)) result) }
     {
         self.longest_match_net(&Cidr4::host(addr))
@@ -130,7 +130,7 @@ impl<T> CidrTable4<T> {
     pub fn longest_match_net(&self, net: &Cidr4) -> Option<(Cidr4, &T)>
         ensures value { option_map (λ p. (bits4 p.0, p.1.now)) result
             ≡ longest_match (bits4 net.now) self.now }
-        ensures longest { IsLongestRoute (bits4 net.now) self.now
+        ensures longest_match { IsLongestRoute (bits4 net.now) self.now
             (option_map (λ p. (bits4 p.0, p.1.now)) result) }
     {
         self.ascends();

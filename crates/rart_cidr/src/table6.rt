@@ -58,7 +58,7 @@ impl<T> CidrTable6<T> {
     /// Returns the number of routes.
     pub fn len(&self) -> usize
         ensures value { result ≡ length self.now }
-        ensures most { result ≤ MAX_PAIRS }
+        ensures at_most { result ≤ MAX_PAIRS }
     {
         self.routes.len()
     }
@@ -120,7 +120,7 @@ impl<T> CidrTable6<T> {
     pub fn longest_match(&self, addr: Ipv6Addr) -> Option<(Cidr6, &T)>
         ensures value { option_map (λ p. (bits6 p.0, p.1.now)) result
             ≡ longest_match (bits_of (ipv6_octets addr)) self.now }
-        ensures longest { IsLongestRoute (bits_of (ipv6_octets addr)) self.now
+        ensures longest_match { IsLongestRoute (bits_of (ipv6_octets addr)) self.now
             (option_map (λ p. (bits6 p.0, p.1.now)) result) }
     {
         self.longest_match_net(&Cidr6::host(addr))
@@ -130,7 +130,7 @@ impl<T> CidrTable6<T> {
     pub fn longest_match_net(&self, net: &Cidr6) -> Option<(Cidr6, &T)>
         ensures value { option_map (λ p. (bits6 p.0, p.1.now)) result
             ≡ longest_match (bits6 net.now) self.now }
-        ensures longest { IsLongestRoute (bits6 net.now) self.now
+        ensures longest_match { IsLongestRoute (bits6 net.now) self.now
             (option_map (λ p. (bits6 p.0, p.1.now)) result) }
     {
         self.ascends();

@@ -1,4 +1,4 @@
-//! Rows of calls on a table of IPv4 networks, and what they answer: octets' borders, the default route, host routes,
+//! Rows of calls on a table of IPv4 networks, and what they return: octets' borders, the default route, host routes,
 //! routes under others of the same octets, and removals.
 
 use rart_cidr::{Cidr4, CidrError, CidrTable4};

@@ -1,6 +1,7 @@
 //! Edits of the tree.
-//!
-//! The owner of a tree lends it to one function.
+
+// The owner of a tree lends it to one function.
+
 use crate::trees::{Key, Tree, insert_all, key, nested};
 use rart::{RouteTable, SlotUpdate, TryUpdateError};
 use std::alloc::Global;

@@ -1,4 +1,4 @@
--- Two byte strings that begin alike: what equal pieces of them say of the whole, and back.
+-- Two byte strings that begin alike: what equal words of them say of the whole, and back.
 use Rattle.std.proofs.Common.{◌≡◌, ◌↔◌, ◌==◌, true, false, if◌then◌else◌, Some, None, IsTrue, eq-eqb, ℕ, zero, suc, ◌+◌}
 use Rattle.std.proofs.Common.{◌^◌, ◌<◌, ◌≤◌, List, [], ◌∷◌, ◌++◌, length, take, drop, nat_eq, refl, sym, ap, ap₂, ◌∙◌}
 use Rattle.std.proofs.Common.{arith, length-take-le, length-drop}
@@ -22,7 +22,7 @@ bytes_of_number (x ∷ xs) (y ∷ ys) p q l e =
     let b : y < 2 ^ 8 = q 0 in
     ap₂ ◌∷◌ (omega arith) (bytes_of_number xs ys (λ i. p (suc i)) (λ i. q (suc i)) (omega arith) (omega arith))
 
--- the pieces of w bytes at i are equal where their numbers are
+-- the words of w bytes at i are equal where their numbers are
 pub piece_of_number : (w i : ℕ) (xs ys : List ℕ) → AreBytes xs → AreBytes ys → i + w ≤ length xs → i + w ≤ length ys
     → little_endian_number (take w (drop i xs)) ≡ little_endian_number (take w (drop i ys))
     → take w (drop i xs) ≡ take w (drop i ys)
@@ -32,7 +32,7 @@ piece_of_number w i xs ys p q l k e =
     (length-take-le w (drop i xs) (omega (arith, length-drop i xs))
     ∙ sym (length-take-le w (drop i ys) (omega (arith, length-drop i ys)))) e
 
--- an equal beginning is extended by an equal piece
+-- an equal beginning is extended by an equal word
 pub one_piece_more : (w i : ℕ) (xs ys : List ℕ) → take i xs ≡ take i ys → take w (drop i xs) ≡ take w (drop i ys)
     → take (i + w) xs ≡ take (i + w) ys
 one_piece_more w i xs ys e f = take-add i w xs ∙ ap₂ ◌++◌ e f ∙ sym (take-add i w ys)
@@ -46,9 +46,9 @@ fewer (suc m) (suc i) [] (y ∷ ys) h e = absurd (cc)
 fewer (suc m) (suc i) (x ∷ xs) [] h e = absurd (cc)
 fewer (suc m) (suc i) (x ∷ xs) (y ∷ ys) h e = ap₂ ◌∷◌ (cc) (fewer m i xs ys (omega arith) (cc))
 
--- and each piece within them
-pub piece : (w i n : ℕ) (xs ys : List ℕ) → i + w ≤ n → take n xs ≡ take n ys → take w (drop i xs) ≡ take w (drop i ys)
-piece w i n xs ys h e = sym (drop-take i w xs) ∙ ap (drop i) (fewer (i + w) n xs ys h e) ∙ drop-take i w ys
+-- and each word within them
+pub word : (w i n : ℕ) (xs ys : List ℕ) → i + w ≤ n → take n xs ≡ take n ys → take w (drop i xs) ≡ take w (drop i ys)
+word w i n xs ys h e = sym (drop-take i w xs) ∙ ap (drop i) (fewer (i + w) n xs ys h e) ∙ drop-take i w ys
 
 -- a whole list is its own beginning
 pub whole : (p k : List ℕ) (n : ℕ) → n ≡ length p → take n p ≡ take n k → take (length p) k ≡ p
@@ -79,9 +79,9 @@ module _ (p k : List ℕ) (bytes_p : AreBytes p) (bytes_k : AreBytes k) (fits : 
   pub same-number : (w i m n : ℕ) → i + w ≤ length p → m ≡ little_endian_number (take w (drop i p))
       → n ≡ little_endian_number (take w (drop i k))
       → take (length p) k ≡ p → m ≡ n
-  same-number w i m n h e f s = e ∙ ap little_endian_number (piece w i (length p) p k h (take-length p ∙ sym s)) ∙ sym f
+  same-number w i m n h e f s = e ∙ ap little_endian_number (word w i (length p) p k h (take-length p ∙ sym s)) ∙ sym f
 
-  -- the last piece decides, where all before it is known to be alike
+  -- the last word decides, where all before it is known to be alike
   pub last-decides : (w last i m n : ℕ) → last + w ≡ length p → last ≤ i
       → m ≡ little_endian_number (take w (drop last p)) → n ≡ little_endian_number (take w (drop last k))
       → take i p ≡ take i k → IsTrue (nat_eq m n) ↔ (take (length p) k ≡ p)

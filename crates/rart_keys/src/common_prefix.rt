@@ -60,7 +60,7 @@ pub(crate) fn word_at(bytes: &[u8], i: usize) -> u64
 #[tactic(auto, using(crate::proofs::CommonPrefixes::past_the_end))]
 pub(crate) fn prefix_length_bytes(left: &[u8], right: &[u8]) -> usize
     ensures value { result ≡ common_prefix_len nat_eq left.now right.now }
-    ensures shorter { result ≤ length left.now }
+    ensures at_most { result ≤ length left.now }
 {
     let len = left.len().min(right.len());
     for i in 0..len {

@@ -21,7 +21,7 @@ pub fn copy_bytes(to: &mut [u8], from: &[u8])
 // The first W bytes and the last W.
 #[inline(always)]
 fn copy_ends<const W: usize>(to: &mut [u8], from: &[u8])
-    requires same { length to.old ≡ length from.now }
+    requires same_length { length to.old ≡ length from.now }
     requires wide { W ≤ length from.now }
     requires covered { length from.now ≤ W + W }
     ensures { to.new ≡ from.now }

@@ -33,7 +33,7 @@ pub fn sorted_map<V>()
 /// Proves the laws of the join of two maps. It ascends, holds the keys of both with both values, and is no longer than
 /// the first map. Swapping the maps swaps the values.
 pub fn joins<V, W>()
-    ensures ascends { (l : List (List ℕ × V)) (m : List (List ℕ × W)) → IsAscending l
+    ensures ascending { (l : List (List ℕ × V)) (m : List (List ℕ × W)) → IsAscending l
         → IsAscending (join l m) }
     ensures looks { (k : List ℕ) (l : List (List ℕ × V)) (m : List (List ℕ × W)) → IsAscending l
         → lookup k (join l m) ≡ both (lookup k l) (lookup k m) }

@@ -36,8 +36,8 @@ fn begins(prefix: &[u8], key: &[u8]) -> bool
 }
 
 fn begins_by_words(prefix: &[u8], key: &[u8]) -> bool
-    requires some { WORD_BYTES ≤ length prefix.now }
-    requires shorter { length prefix.now ≤ length key.now }
+    requires wide { WORD_BYTES ≤ length prefix.now }
+    requires at_most { length prefix.now ≤ length key.now }
     ensures { IsTrue result ↔ (take (length prefix.now) key.now ≡ prefix.now) }
 {
     let last = prefix.len() - WORD_BYTES;

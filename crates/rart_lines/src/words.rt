@@ -12,7 +12,7 @@ fn is_separator(byte: u8) -> bool
 /// Returns the number of separators that a line begins with.
 fn gap_len(line: &[u8]) -> usize
     ensures value { result ≡ gap_len line.now }
-    ensures shorter { result ≤ length line.now }
+    ensures at_most { result ≤ length line.now }
 {
     line.iter().take_while(|byte| is_separator(**byte)).count()
 }
@@ -20,7 +20,7 @@ fn gap_len(line: &[u8]) -> usize
 /// Returns the number of bytes of a line before its first separator.
 fn word_len(line: &[u8]) -> usize
     ensures value { result ≡ word_len line.now }
-    ensures shorter { result ≤ length line.now }
+    ensures at_most { result ≤ length line.now }
 {
     line.iter().take_while(|byte| !is_separator(**byte)).count()
 }

@@ -78,7 +78,7 @@ pub fn one_shape()
 
 /// Proves that storing the present value of a key changes nothing, and that it undoes the storing of another.
 pub fn put_back<V>()
-    ensures same { (k : List ℕ) (v : V) (m : List (List ℕ × V)) → IsAscending m
+    ensures same_pairs { (k : List ℕ) (v : V) (m : List (List ℕ × V)) → IsAscending m
         → lookup k m ≡ Some v → put k v m ≡ m }
     ensures back { (k : List ℕ) (v w : V) (m : List (List ℕ × V)) → IsAscending m
         → lookup k m ≡ Some v
@@ -106,9 +106,9 @@ pub fn intersections<V, W>()
 /// root alone. The intersection of "ab", "abc" and "dog" with "abc", "dog" and "zzz" visits both roots together and
 /// one node for each of the edges "a", "abc" and "d". An empty tree has no visits.
 pub fn sample_visits()
-    ensures deepest { probe_count nested_keys (97 ∷ 98 ∷ 99 ∷ []) ≡ 4 }
-    ensures absent { probe_count nested_keys (97 ∷ 98 ∷ 100 ∷ []) ≡ 3 }
-    ensures root { probe_count nested_keys (98 ∷ []) ≡ 1 }
+    ensures deepest_visits { probe_count nested_keys (97 ∷ 98 ∷ 99 ∷ []) ≡ 4 }
+    ensures absent_visits { probe_count nested_keys (97 ∷ 98 ∷ 100 ∷ []) ≡ 3 }
+    ensures root_visits { probe_count nested_keys (98 ∷ []) ≡ 1 }
     ensures both { joint_visits left_keys right_keys ≡ 4 }
     ensures edges { shared_edges left_keys right_keys
         ≡ (97 ∷ []) ∷ (97 ∷ 98 ∷ 99 ∷ []) ∷ (100 ∷ []) ∷ [] }

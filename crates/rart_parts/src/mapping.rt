@@ -47,8 +47,8 @@ pub trait NodeMapping<N, const NUM_CHILDREN: usize> {
     /// Returns the number of children. Its contract also states that the bytes ascend and are below 256.
     fn num_children(&self) -> usize
         ensures count { result ≡ length (map self.now) }
-        ensures few { length (map self.now) ≤ NUM_CHILDREN }
-        ensures ascends { BytesAscend (map self.now) }
+        ensures at_most { length (map self.now) ≤ NUM_CHILDREN }
+        ensures ascending { BytesAscend (map self.now) }
         ensures bytes { (b : ℕ) → 256 ≤ b → child_at b (map self.now) ≡ None };
 
     /// Returns the greatest number of children.

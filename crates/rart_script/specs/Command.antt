@@ -32,9 +32,9 @@ call_in bytes call.IsEmpty = call.IsEmpty
 call_in bytes call.Stats = call.Stats
 
 -- the call of a command, if it has one
-abbrev pub asked_by : Command → Option (Call (List ℕ) ℕ)
-asked_by command.Nothing = None
-asked_by (command.Call c) = Some (call_in array_key_bytes c)
+abbrev pub requested_call : Command → Option (Call (List ℕ) ℕ)
+requested_call command.Nothing = None
+requested_call (command.Call c) = Some (call_in array_key_bytes c)
 
 -- the call of two operands, a key and a value
 abbrev pub insert_of : List (List ℕ) → Option (Call (List ℕ) ℕ)

@@ -3,7 +3,7 @@ use Rattle.std.specs.Prelude.{◌≡◌, ℕ, ◌+◌, Bool, not, List, [], Opti
 use Rattle.std.specs.Prelude.{⊤, Result, MatchResult, position}
 use Rattle.std.specs.Option.{option_map, is_some}
 use Rattle.rart_script.specs.Answers.{PrintsReply}
-use Rattle.rart_script.specs.Command.{asked_by, command_of}
+use Rattle.rart_script.specs.Command.{requested_call, command_of}
 use Rattle.rart_lines.specs.Lines.{lines_of}
 use Rattle.rart_lines.specs.Runs as runs
 use Rattle.rart_lines.specs.Words.{words_of}
@@ -29,7 +29,7 @@ StopsAt text CannotWrite = ⊤
 pub record IsAnswered (line : List ℕ) (old : List (List ℕ × ℕ)) (answer : List ℕ)
     (new : List (List ℕ × ℕ)) : Type 0 where
   pub command : Command
-  pub is_command : command_of (words_of line) ≡ Some (asked_by command)
+  pub is_command : command_of (words_of line) ≡ Some (requested_call command)
   pub step : PrintsReply command old answer new
 
 -- the first n lines of the text are commands; on an empty map they print this and leave this map

@@ -2,7 +2,7 @@
 ghost use Rattle.std.specs.Prelude.{◌≡◌, None, Some};
 ghost use Rattle.std.specs.Option.{option_map};
 ghost use Rattle.rart_keys.specs.ArrayKeyBytes.{array_key_bytes};
-ghost use Rattle.rart_script.specs.Command.{asked_by, call_in, call_of, command_of, complete_of, insert_of};
+ghost use Rattle.rart_script.specs.Command.{requested_call, call_in, call_of, command_of, complete_of, insert_of};
 ghost use Rattle.rart_script.specs.Command.{only_key_of, range_of};
 ghost use Rattle.rart_lines.specs.Words.{words_of};
 
@@ -23,7 +23,7 @@ pub enum Command {
 
 /// Returns the command that a line writes; `None` if it is malformed.
 pub fn parse_command(line: &[u8]) -> Option<Command>
-    ensures { option_map asked_by result ≡ command_of (words_of line.now) }
+    ensures { option_map requested_call result ≡ command_of (words_of line.now) }
 {
     let Some((name, operands)) = next_word(line) else {
         return Some(Command::Nothing);

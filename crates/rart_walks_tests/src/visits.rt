@@ -1,6 +1,6 @@
 //! Walks with a callback: with what it is called, in order, and how the walk ends, in each form.
-//!
-//! What a callback saw is kept as digits after a first 1: of each value one, of each key its length.
+
+// What a callback saw is kept as digits after a first 1: of each value one, of each key its length.
 
 ghost use Rattle.std.specs.Prelude.{◌≤◌, length};
 

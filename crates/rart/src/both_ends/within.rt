@@ -99,7 +99,7 @@ impl<'a, K: KeyTrait + Drop, V> BothEndsWithin<'a, K, V> {
     // Returns the iterator over the pairs that both walks give.
     fn of(front: Range<'a, K, V>, back: Back<'a, K, V>) -> Self
         requires ascending { IsAscending (up_to front.0 front.1) }
-        requires same { back ≡ reverse (up_to front.0 front.1) }
+        requires reversed { back ≡ reverse (up_to front.0 front.1) }
         ensures { result ≡ up_to front.entry.0 front.entry.1 }
     {
         let mut front = front;

@@ -44,7 +44,7 @@ pub fn bulk_load_equals_insertion<K: KeyTrait + Drop, V: Drop>(
     shuffled: Vec<(K, V)>,
 ) -> Result<(Counted<K, V>, Counted<K, V>), RefusedStep>
     requires ascending { IsAscending (pairs_in K.bytes sorted.items) }
-    requires same { IsPermutation (pairs_in K.bytes sorted.items)
+    requires permutation { IsPermutation (pairs_in K.bytes sorted.items)
         (pairs_in K.bytes shuffled.items) }
     ensures loaded { IfOk result (λ r. r.0.0.pairs ≡ pairs_in K.bytes sorted.items) }
     ensures pairs { IfOk result (λ r. r.1.0.pairs ≡ r.0.0.pairs) }

@@ -20,7 +20,7 @@ impl<K: KeyTrait, T> RouteTable<K, T> {
     /// first. The prefix is borrowed from the probe: its first bytes, nothing is copied. Allocates nothing.
     pub fn covering_for_each_by_ref_bytes<F: FnMut(&[u8], &T)>(&self, probe: &[u8], f: &mut F)
         requires callable { CanMatch F.FnMut f.old (matches probe.now self.now.pairs) }
-        ensures callable { F.IsAlwaysCallable f.old → F.IsAlwaysCallable f.new }
+        ensures stays_callable { F.IsAlwaysCallable f.old → F.IsAlwaysCallable f.new }
         ensures calls { MatchesEach F.FnMut f.old (matches probe.now self.now.pairs) f.new }
     {
         self.routes.prefix_match_for_each_by_ref_bytes(probe, f)
@@ -38,7 +38,7 @@ impl<K: KeyTrait, T> RouteTable<K, T> {
     /// probe: its first bytes, nothing is copied. Allocates nothing.
     pub fn covering_for_each_by_ref<F: FnMut(&[u8], &T)>(&self, probe: &K, f: &mut F)
         requires callable { CanMatch F.FnMut f.old (matches (K.bytes probe.now) self.now.pairs) }
-        ensures callable { F.IsAlwaysCallable f.old → F.IsAlwaysCallable f.new }
+        ensures stays_callable { F.IsAlwaysCallable f.old → F.IsAlwaysCallable f.new }
         ensures calls { MatchesEach F.FnMut f.old
             (matches (K.bytes probe.now) self.now.pairs) f.new }
     {
@@ -65,7 +65,7 @@ impl<K: KeyTrait, T> RouteTable<K, T> {
         f: &mut F,
     ) -> Result<(), TreeError>
         requires callable { CanView F.FnMut f.old (cut_below (K.bytes prefix.now) self.now.pairs) }
-        ensures callable { F.IsAlwaysCallable f.old → F.IsAlwaysCallable f.new }
+        ensures stays_callable { F.IsAlwaysCallable f.old → F.IsAlwaysCallable f.new }
         ensures calls { OnOk result (ViewsEach F.FnMut f.old
             (cut_below (K.bytes prefix.now) self.now.pairs) f.new) }
         ensures unchanged { OnErr result (f.new ≡ f.old) }

@@ -120,7 +120,7 @@ impl<K: KeyTrait, V: Drop> AdaptiveRadixTree<K, V> {
             (λ tree. (left : G) × Takes G.step 0 take_value_at (values_of tree.pairs) left) }
         ensures shape { IfOk result (λ tree. HasShape (keys_of tree.pairs) tree.nodes) }
         ensures refused { IfErr result (FailsByIndex len) }
-        ensures not_full { OnOk result (len ≤ MAX_PAIRS) }
+        ensures at_most { OnOk result (len ≤ MAX_PAIRS) }
     {
         let mut take_value_at = take_value_at;
         AdaptiveRadixTree::bulk_load_sorted_unique_by_index_by_ref(
@@ -160,7 +160,7 @@ impl<K: KeyTrait, V: Drop> AdaptiveRadixTree<K, V> {
             (λ tree. Takes G.step 0 take_value_at.old (values_of tree.pairs) take_value_at.new) }
         ensures shape { IfOk result (λ tree. HasShape (keys_of tree.pairs) tree.nodes) }
         ensures refused { IfErr result (FailsByIndex len) }
-        ensures not_full { OnOk result (len ≤ MAX_PAIRS) }
+        ensures at_most { OnOk result (len ≤ MAX_PAIRS) }
         ensures values_taken { IfErr result
             (TakesBeginning G.step len take_value_at.old take_value_at.new) }
     {
@@ -183,12 +183,12 @@ impl<K: KeyTrait, V: Drop> AdaptiveRadixTree<K, V> {
     ) -> Result<Self, BulkError>
         requires each { length keys.now ≡ length values.items }
         requires ascending { IsAscending (lone_keys (map K.bytes keys.now)) }
-        requires most { length keys.now ≤ MAX_PAIRS }
+        requires at_most { length keys.now ≤ MAX_PAIRS }
         ensures keys { IfOk result (λ tree. keys_of tree.pairs ≡ map K.bytes keys.now) }
         ensures values { IfOk result (λ tree. values_of tree.pairs ≡ values.items) }
         ensures shape { IfOk result (λ tree. HasShape (keys_of tree.pairs) tree.nodes) }
         ensures memory { IfErr result (λ e. e ≡ BulkError.Memory) }
-        ensures some { OnErr result (0 < length keys.now) }
+        ensures nonempty { OnErr result (0 < length keys.now) }
     {
         if keys.is_empty() {
             return Ok(AdaptiveRadixTree::new(alloc));
@@ -209,8 +209,8 @@ impl<K: KeyTrait, V: Drop> AdaptiveRadixTree<K, V> {
         keys: &[&[u8]],
         take_value: &mut F,
     ) -> Result<Self, BulkError>
-        requires some { 0 < length keys.now }
-        requires most { length keys.now ≤ MAX_PAIRS }
+        requires nonempty { 0 < length keys.now }
+        requires at_most { length keys.now ≤ MAX_PAIRS }
         requires within { AreWithin K.MAXIMUM_SIZE (keys_in keys.now) }
         requires ascending { IsAscending (lone_keys (keys_in keys.now)) }
         requires callable { CanTake F.pre F.step 0 (length keys.now) take_value.old }

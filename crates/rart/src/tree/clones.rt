@@ -42,8 +42,8 @@ fn read_clones<K: KeyTrait + Drop, V: Clone>(
     ensures keys { IfOk result (λ r. map K.bytes r.0.items ≡ keys_of old.now.pairs) }
     ensures values { IfOk result
         (λ r. AllZip V.is_clone (values_of old.now.pairs) r.1.items) }
-    ensures most { IfOk result (λ r. length r.0.items ≤ MAX_PAIRS) }
-    ensures some { OnErr result (old.now.pairs ≢ []) }
+    ensures at_most { IfOk result (λ r. length r.0.items ≤ MAX_PAIRS) }
+    ensures nonempty { OnErr result (old.now.pairs ≢ []) }
 {
     let mut keys = Vec::with_capacity(old.alloc, old.len())?;
     let mut values = Vec::with_capacity(old.alloc, old.len())?;

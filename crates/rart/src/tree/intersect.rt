@@ -34,7 +34,7 @@ impl<K: KeyTrait, V> AdaptiveRadixTree<K, V> {
     )
         requires callable { CanCallWith F.FnMut f.old
             (values_of (join self.now.pairs other.now.pairs)) }
-        ensures callable { F.IsAlwaysCallable f.old → F.IsAlwaysCallable f.new }
+        ensures stays_callable { F.IsAlwaysCallable f.old → F.IsAlwaysCallable f.new }
         ensures calls { CallsWithEach F.FnMut f.old
             (values_of (join self.now.pairs other.now.pairs)) f.new }
     {
@@ -67,7 +67,7 @@ impl<K: KeyTrait, V> AdaptiveRadixTree<K, V> {
         f: &mut F,
     ) -> Result<(), TreeError>
         requires callable { CanCallAt F.FnMut K.bytes f.old (join self.now.pairs other.now.pairs) }
-        ensures callable { F.IsAlwaysCallable f.old → F.IsAlwaysCallable f.new }
+        ensures stays_callable { F.IsAlwaysCallable f.old → F.IsAlwaysCallable f.new }
         ensures calls { OnOk result
             (CallsAtEach F.FnMut K.bytes f.old (join self.now.pairs other.now.pairs) f.new) }
         ensures unchanged { OnErr result (f.new ≡ f.old) }
@@ -108,7 +108,7 @@ impl<K: KeyTrait, V> AdaptiveRadixTree<K, V> {
         f: &mut F,
     ) -> Result<(), TreeError>
         requires callable { CanViewAt F.FnMut f.old (join self.now.pairs other.now.pairs) }
-        ensures callable { F.IsAlwaysCallable f.old → F.IsAlwaysCallable f.new }
+        ensures stays_callable { F.IsAlwaysCallable f.old → F.IsAlwaysCallable f.new }
         ensures calls { OnOk result
             (ViewsAtEach F.FnMut f.old (join self.now.pairs other.now.pairs) f.new) }
         ensures unchanged { OnErr result (f.new ≡ f.old) }

@@ -24,7 +24,7 @@ impl<K: KeyTrait, V: Drop> AdaptiveRadixTree<K, V> {
         f: &mut F,
     ) -> Result<(), TreeError>
         requires callable { CanRetain F.FnMut f.old self.old.pairs }
-        ensures callable { F.IsAlwaysCallable f.old → F.IsAlwaysCallable f.new }
+        ensures stays_callable { F.IsAlwaysCallable f.old → F.IsAlwaysCallable f.new }
         ensures retains { Retains F.FnMut f.old self.old.pairs result self.new.pairs f.new }
         ensures memory { IfErr result (λ e. e ≡ TreeError.Memory) }
     {

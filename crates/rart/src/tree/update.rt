@@ -158,7 +158,7 @@ impl<K: KeyTrait, V> AdaptiveRadixTree<K, V> {
     fn restore(&mut self, key: &K, value: V)
     where
         V: Drop,
-        requires present { lookup (K.bytes key.now) self.old.pairs ≢ None }
+        requires stored { lookup (K.bytes key.now) self.old.pairs ≢ None }
         ensures pairs { self.new.pairs ≡ put (K.bytes key.now) value self.old.pairs }
         ensures nodes { self.new.nodes ≡ self.old.nodes }
     {
@@ -199,7 +199,7 @@ impl<K: KeyTrait, V> AdaptiveRadixTree<K, V> {
         self.canonical();
         put_back::<V>();
         sorted_map::<V>();
-        let (outcome, callback) = update_tried(self, key, f);
+        let (outcome, callback) = try_update_slot(self, key, f);
         self.canonical();
         match callback {
             CallbackOutcome::NotCloned => Err(TryUpdateError::Clone),
@@ -282,7 +282,7 @@ fn call<V, F: FnOnce(&mut Slot<V>) -> SlotUpdate<V>>(
 }
 
 // Updates by `f`, which may fail; the value at the key is then unchanged.
-fn update_tried<
+fn try_update_slot<
     V: Clone,
     E,
     K: KeyTrait,

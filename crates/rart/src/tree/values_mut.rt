@@ -13,7 +13,7 @@ impl<K: KeyTrait, V> AdaptiveRadixTree<K, V> {
     /// value in turn; the caller keeps it. Keys and nodes stay as they were; it makes no key and does not allocate.
     pub fn for_each_value_mut_by_ref<F: FnMut(&mut V)>(&mut self, f: &mut F)
         requires callable { CanLend F.FnMut f.old (values_of self.old.pairs) }
-        ensures callable { F.IsAlwaysCallable f.old → F.IsAlwaysCallable f.new }
+        ensures stays_callable { F.IsAlwaysCallable f.old → F.IsAlwaysCallable f.new }
         ensures changes { ChangesBelow F.FnMut [] f.old self.old.pairs self.new.pairs f.new }
         ensures nodes { self.new.nodes ≡ self.old.nodes }
     {
@@ -35,7 +35,7 @@ impl<K: KeyTrait, V> AdaptiveRadixTree<K, V> {
     pub fn prefix_for_each_value_mut_by_ref_k<F: FnMut(&mut V)>(&mut self, prefix: &K, f: &mut F)
         requires callable { CanLend F.FnMut f.old
             (values_below (K.bytes prefix.now) self.old.pairs) }
-        ensures callable { F.IsAlwaysCallable f.old → F.IsAlwaysCallable f.new }
+        ensures stays_callable { F.IsAlwaysCallable f.old → F.IsAlwaysCallable f.new }
         ensures changes { ChangesBelow F.FnMut (K.bytes prefix.now) f.old self.old.pairs
             self.new.pairs f.new }
         ensures nodes { self.new.nodes ≡ self.old.nodes }

@@ -1,5 +1,4 @@
-//! Rows played on an empty tree, as they are and with requests for memory refused. Each play returns the first row
-//! that fails, or None.
+//! Rows played on an empty tree, as they are and with requests for memory refused; the first that fails is returned.
 
 use super::forms::{answer, call};
 use super::replies::{are_same, is, is_refusal};

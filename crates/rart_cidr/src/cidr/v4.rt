@@ -108,7 +108,7 @@ impl Cidr4 {
     /// Returns the number of the network's bits.
     pub fn len(&self) -> u8
         ensures value { result ≡ length (bits4 self.now) }
-        ensures most { result ≤ 32 }
+        ensures at_most { result ≤ 32 }
     {
         self.len
     }

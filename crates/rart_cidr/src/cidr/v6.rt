@@ -108,7 +108,7 @@ impl Cidr6 {
     /// Returns the number of the network's bits.
     pub fn len(&self) -> u8
         ensures value { result ≡ length (bits6 self.now) }
-        ensures most { result ≤ 128 }
+        ensures at_most { result ≤ 128 }
     {
         self.len
     }

@@ -13,7 +13,7 @@ impl<K: KeyTrait, T> BitTable<K, T> {
     /// [`longest_match_net`](Self::longest_match_net) returns the same. This call is a law, and as slow as it reads.
     pub fn longest_by_lengths(&self, octets: &[u8], bits: usize) -> Option<(usize, &T)>
         requires { bits ≤ 8 * length octets.now }
-        ensures shorter { IfSome result (λ p. p.0 ≤ bits) }
+        ensures at_most { IfSome result (λ p. p.0 ≤ bits) }
         ensures value { option_map (λ p. (take p.0 (network octets.now bits), p.1.now)) result
             ≡ longest_match (network octets.now bits) self.now }
         ensures tried { option_map (λ p. (take p.0 (network octets.now bits), p.1.now)) result

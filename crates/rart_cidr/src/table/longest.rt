@@ -12,7 +12,7 @@ impl<K: KeyTrait, T> BitTable<K, T> {
     /// Returns the longest stored network that `address` begins with, as its number of bits, and its target.
     pub fn longest_match(&self, address: &[u8]) -> Option<(usize, &T)>
         requires { length address.now < 1000 }
-        ensures shorter { IfSome result (λ p. p.0 ≤ 8 * length address.now) }
+        ensures at_most { IfSome result (λ p. p.0 ≤ 8 * length address.now) }
         ensures value { option_map (λ p. (network address.now p.0, p.1.now)) result
             ≡ longest_match (bits_of address.now) self.now }
     {
@@ -23,7 +23,7 @@ impl<K: KeyTrait, T> BitTable<K, T> {
     /// number of bits, and its target.
     pub fn longest_match_net(&self, octets: &[u8], bits: usize) -> Option<(usize, &T)>
         requires { bits ≤ 8 * length octets.now }
-        ensures shorter { IfSome result (λ p. p.0 ≤ bits) }
+        ensures at_most { IfSome result (λ p. p.0 ≤ bits) }
         ensures value { option_map (λ p. (take p.0 (network octets.now bits), p.1.now)) result
             ≡ longest_match (network octets.now bits) self.now }
     {
@@ -74,7 +74,7 @@ impl<'a, K: KeyTrait, T, C: Count> SeenTable<'a, K, T, C> {
         strides: &mut C,
     ) -> Option<(usize, &'a T)>
         requires { bits ≤ 8 * length octets.now }
-        ensures shorter { IfSome result (λ p. p.0 ≤ bits) }
+        ensures at_most { IfSome result (λ p. p.0 ≤ bits) }
         ensures value { option_map (λ p. (take p.0 (network octets.now bits), p.1.now)) result
             ≡ longest_match (network octets.now bits) self.now }
         ensures node_visits { C.number nodes.new ≤ C.number nodes.old + nodes_to (bits / 8 + 1) }
@@ -98,7 +98,7 @@ impl<'a, K: KeyTrait, T, C: Count> SeenTable<'a, K, T, C> {
 pub(crate) fn bits_after(bits: usize, at: usize) -> usize
     requires { at ≤ bits / 8 }
     ensures small { result < 8 }
-    ensures shorter { 8 * at + result ≤ bits }
+    ensures at_most { 8 * at + result ≤ bits }
     ensures all { (n : ℕ) → n / 8 ≡ at → n ≤ bits → n % 8 ≤ result }
 {
     if at < bits / 8 { 7 } else { bits % 8 }

@@ -14,7 +14,7 @@ impl<K: KeyTrait, T> BitTable<K, T> {
     pub fn next_match(&self, octets: &[u8], bits: usize, low: usize) -> Option<(usize, &T)>
         requires bits { bits ≤ 8 * length octets.now }
         requires fits { length octets.now < 1000 }
-        ensures shorter { IfSome result (λ p. p.0 ≤ bits) }
+        ensures at_most { IfSome result (λ p. p.0 ≤ bits) }
         ensures value { IsNextMatch low (network octets.now bits) self.now
             (option_map (λ p. (p.0, p.1.now)) result) }
     {

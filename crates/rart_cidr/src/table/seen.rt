@@ -1,7 +1,8 @@
 //! A table whose reads of strides are counted.
-//!
-//! Only this module reads the strides of a seen table. It returns what a stride holds only to a caller whose counter it
-//! adds one to. Look-ups over it are in another module.
+
+// Only this module reads the strides of a seen table. It returns what a stride holds only to a caller whose counter it
+// adds one to. Look-ups over it are in another module.
+
 ghost use Rattle.std.specs.Prelude.{◌≡◌, ◌≤◌, ◌+◌, ◌*◌, ◌/◌, length, option_map};
 ghost use Rattle.rart_keys.specs.SortedMap.{IsAscending};
 ghost use Rattle.rart_cidr.specs.Longest.{IsLastStride};

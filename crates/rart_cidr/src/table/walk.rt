@@ -1,8 +1,9 @@
 //! The routes from a network on, ascending by their bits.
-//!
-//! A walk is at a network: the bytes of a stride and a code. The routes after it are in the strides at beginnings of
-//! these bytes, and in the strides ahead, whose bytes come after the network. The next route is in the first kind
-//! of stride, if it comes before the first stride ahead; otherwise the walk enters that stride.
+
+// A walk is at a network: the bytes of a stride and a code. The routes after it are in the strides at beginnings of
+// these bytes, and in the strides ahead, whose bytes come after the network. The next route is in the first kind
+// of stride, if it comes before the first stride ahead; otherwise the walk enters that stride.
+
 ghost use Rattle.std.specs.Prelude.{◌≡◌, ◌≤◌, ◌*◌, [], ◌∷◌, length, IfErr, IfOk, MatchOption, true};
 ghost use Rattle.rart_keys.specs.KeyBytes.{IsWithin};
 ghost use Rattle.rart_keys.specs.Ranges.{bound_in, pairs_from, up_to};

@@ -14,7 +14,7 @@ pub fn bulk_lists<V>()
         → ¬ (IsFaultAt es j) }
     ensures no_fault { (es : List (List ℕ × V)) (i : ℕ) → first_fault es ≡ None
         → ¬ (IsFaultAt es i) }
-    ensures ascends { (es : List (List ℕ × V)) → first_fault es ≡ None
+    ensures ascending { (es : List (List ℕ × V)) → first_fault es ≡ None
         → IsAscending (last_wins es) }
     ensures last_values { (k : List ℕ) (es : List (List ℕ × V)) → first_fault es ≡ None
         → lookup k (last_wins es) ≡ lookup k (reverse es) }

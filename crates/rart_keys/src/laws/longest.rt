@@ -21,7 +21,7 @@ pub fn longest_matches<V>()
 /// Proves that the longest match is the pair with the longest stored key that begins the probe. Without a longest
 /// match no stored key begins the probe. The keys of all matches ascend by length.
 pub fn longest_is_longest<V>()
-    ensures longest { (p q : List ℕ) (v : V) (es : List (List ℕ × V)) → IsAscending es
+    ensures longest_match { (p q : List ℕ) (v : V) (es : List (List ℕ × V)) → IsAscending es
         → MatchIsLongest p v q es }
     ensures only { (p q : List ℕ) (v : V) (es : List (List ℕ × V)) → IsAscending es
         → LongestIsMatch p v q es }

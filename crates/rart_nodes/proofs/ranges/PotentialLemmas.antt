@@ -99,10 +99,10 @@ module _ {V : Type 0} where
       ⊎_elim (λ e. rw e r) (λ e. rw e.0 r.1) (went d p t st st1 st2 s o)
 
   -- it has one
-  pub paid-given : (n m m1 d p : ℕ) (t : Trie V) (st0 st st1 st2 : List (Level V)) → DeepestStep st t d st1
+  pub amortized-given : (n m m1 d p : ℕ) (t : Trie V) (st0 st st1 st2 : List (Level V)) → DeepestStep st t d st1
       → PushesLevel st1 t p st2 → m1 ≡ m + 1 → m + potential (reverse st0) ≤ n + potential (reverse st)
       → ((h : ℕ) → AreLow h (reverse st0) → AreLow h (reverse st)) → IsAmortized n m1 (reverse st0) (reverse st2)
-  paid-given n m m1 d p t st0 st st1 st2 s o i h w =
+  amortized-given n m m1 d p t st0 st st1 st2 s o i h w =
       let u : potential (reverse st) ≡ 1 + amortized_visits ((s.others, d) ∷ reverse s.rest)
       = potential-step d t st st1 s in
       record {
@@ -119,8 +119,13 @@ module _ {V : Type 0} where
       }
 
   -- a pair is given for which nothing is visited
-  pub paid-first : (n : ℕ) (ls : List (Level V)) → IsAmortized n n ls ls
-  paid-first n ls = record { next = omega arith; last = λ h w. omega (arith, potential-low h ls w); low = λ h w. w }
+  pub amortized-first : (n : ℕ) (ls : List (Level V)) → IsAmortized n n ls ls
+  amortized-first n ls = record {
+    next = omega arith;
+    last = λ h w. omega (arith, potential-low h ls w);
+    low = λ h w.
+        w;
+  }
 
   -- the deepest level is left
   pub potential-leave : (n m m1 k : ℕ) (st st1 rest : List (Level V)) (l : Level V) → DeepestLeft st st1

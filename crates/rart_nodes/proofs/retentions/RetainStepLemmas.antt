@@ -302,13 +302,13 @@ module _ {F V : Type 0} (call : Mut F (Bor (List ℕ) × (MutBor V × Unit {0}))
         ap length i.now,
         length-middle i.left i.rest (b, u),
       ) in
-      let room : storage_capacity s' ≡ capacity_of (length (child_entries s')) = a.1
+      let capacity : storage_capacity s' ≡ capacity_of (length (child_entries s')) = a.1
       ∙ ap (λ o. if is_some o then shrunk_capacity (length (child_entries s')) (storage_capacity s)
       else storage_capacity s) there
       ∙ ap (shrunk_capacity (length (child_entries s'))) (v ∙ i.capacity ∙ ap capacity_of fewer)
       ∙ shrunk-capacity (length (child_entries s')) in (
         visited q f0 t0 keeps holds f g p w n (storage_capacity s') b es (child_entries s') u i Done []
-            (all_fulfilled h.1.fates) next changed (rw changed removed) room
+            (all_fulfilled h.1.fates) next changed (rw changed removed) capacity
             (λ z. ⊎_elim (λ y. let no : true ≡ false = sym y ∙ i.held ∙ z in absurd (cc))
             (λ y. omega (arith, y, ap length old, ap length changed, length-middle i.left i.rest (b, x))) a.2)
             (calls-fulfilled call (q ++ p) (pairs_of u) h.1.fates f g h.1.calls)

@@ -48,7 +48,7 @@ impl<P: Partial, V> DefaultNode<P, V> {
     /// Returns the children with their bytes, ascending. It does not allocate.
     pub fn iter(&self) -> NodeIter<'_, P, V>
         ensures children { as_children result ≡ children_in self.now }
-        ensures ascends { BytesAscend result }
+        ensures ascending { BytesAscend result }
     {
         NodeIter {
             children: self.storage.iter(),
@@ -58,7 +58,7 @@ impl<P: Partial, V> DefaultNode<P, V> {
     /// Returns the children at the bytes above `byte`, ascending. It reads no other child and does not allocate.
     pub fn iter_above(&self, byte: u8) -> NodeIter<'_, P, V>
         ensures children { as_children result ≡ children_above byte (children_in self.now) }
-        ensures ascends { BytesAscend result }
+        ensures ascending { BytesAscend result }
     {
         NodeIter {
             children: self.storage.iter_above(byte),

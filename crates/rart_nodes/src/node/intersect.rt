@@ -137,7 +137,7 @@ impl<'a, K: KeyTrait, V, C: Count> Seen<'a, K, V, C> {
         counter: &mut C,
     )
         requires callable { CanCallWith F.FnMut f.old (values_of (seen_join self other)) }
-        ensures callable { F.IsAlwaysCallable f.old → F.IsAlwaysCallable f.new }
+        ensures stays_callable { F.IsAlwaysCallable f.old → F.IsAlwaysCallable f.new }
         ensures calls { CallsWithEach F.FnMut f.old
             (values_of (seen_join self.entry other.entry)) f.new }
         ensures visits { C.number counter.new
@@ -148,7 +148,8 @@ impl<'a, K: KeyTrait, V, C: Count> Seen<'a, K, V, C> {
         intersect_trees::<K, V, W, C, F, ByValues>(self, other, &mut JoinPath::Nothing, counter, f);
     }
 
-    /// Calls `f` as `intersect_values_with_by_ref_counted` does, and drops it.
+    /// Calls `f` as [`intersect_values_with_by_ref_counted`](Self::intersect_values_with_by_ref_counted) does, and
+    /// drops it.
     ///
     /// # Visits
     ///
@@ -188,7 +189,7 @@ impl<'a, K: KeyTrait, V, C: Count> Seen<'a, K, V, C> {
         counter: &mut C,
     ) -> Result<(), TreeError>
         requires callable { CanCallAt F.FnMut K.bytes f.old (seen_join self other) }
-        ensures callable { F.IsAlwaysCallable f.old → F.IsAlwaysCallable f.new }
+        ensures stays_callable { F.IsAlwaysCallable f.old → F.IsAlwaysCallable f.new }
         ensures calls { OnOk result (CallsAtEach F.FnMut K.bytes f.old
             (seen_join self.entry other.entry) f.new) }
         ensures memory { IfErr result
@@ -212,7 +213,7 @@ impl<'a, K: KeyTrait, V, C: Count> Seen<'a, K, V, C> {
         Ok(())
     }
 
-    /// Calls `f` as `intersect_with_by_ref_counted` does, and drops it.
+    /// Calls `f` as [`intersect_with_by_ref_counted`](Self::intersect_with_by_ref_counted) does, and drops it.
     ///
     /// # Errors
     ///
@@ -261,7 +262,7 @@ impl<'a, K: KeyTrait, V, C: Count> Seen<'a, K, V, C> {
         counter: &mut C,
     ) -> Result<(), TreeError>
         requires callable { CanViewAt F.FnMut f.old (seen_join self other) }
-        ensures callable { F.IsAlwaysCallable f.old → F.IsAlwaysCallable f.new }
+        ensures stays_callable { F.IsAlwaysCallable f.old → F.IsAlwaysCallable f.new }
         ensures calls { OnOk result (ViewsAtEach F.FnMut f.old
             (seen_join self.entry other.entry) f.new) }
         ensures memory { IfErr result
@@ -285,7 +286,8 @@ impl<'a, K: KeyTrait, V, C: Count> Seen<'a, K, V, C> {
         Ok(())
     }
 
-    /// Calls `f` as `intersect_lending_with_by_ref_counted` does, and drops it.
+    /// Calls `f` as [`intersect_lending_with_by_ref_counted`](Self::intersect_lending_with_by_ref_counted) does, and
+    /// drops it.
     ///
     /// # Errors
     ///

@@ -260,7 +260,8 @@ impl<'a, K: KeyTrait, V, C: Count> Seen<'a, K, V, C> {
         })
     }
 
-    /// Returns an iterator over the pairs whose key begins with `prefix`. It allocates as `iter_counted` does.
+    /// Returns an iterator over the pairs whose key begins with `prefix`. It allocates as
+    /// [`iter_counted`](Self::iter_counted) does.
     ///
     /// # Errors
     ///
@@ -289,7 +290,8 @@ impl<'a, K: KeyTrait, V, C: Count> Seen<'a, K, V, C> {
 }
 
 impl<'a, K: KeyTrait, V> Seen<'a, K, V, Visits> {
-    /// Returns an iterator over the pairs whose key begins with `prefix`. It allocates as `iter_counted` does.
+    /// Returns an iterator over the pairs whose key begins with `prefix`. It allocates as
+    /// [`iter_counted`](Self::iter_counted) does.
     ///
     /// # Errors
     ///
@@ -306,7 +308,7 @@ impl<'a, K: KeyTrait, V> Seen<'a, K, V, Visits> {
         })
     }
 
-    /// Returns an iterator over all pairs. It allocates as `iter_counted` does.
+    /// Returns an iterator over all pairs. It allocates as [`iter_counted`](Self::iter_counted) does.
     ///
     /// # Errors
     ///
@@ -322,7 +324,7 @@ impl<'a, K: KeyTrait, V> Seen<'a, K, V, Visits> {
         })
     }
 
-    /// Returns an iterator over all values in key order. It allocates as `iter_counted` does.
+    /// Returns an iterator over all values in key order. It allocates as [`iter_counted`](Self::iter_counted) does.
     ///
     /// # Errors
     ///

@@ -227,7 +227,7 @@ impl<'a, K: KeyTrait + Drop, V, C: Count> Seen<'a, K, V, C> {
         })
     }
 
-    /// Returns the pairs within two bounds. It allocates as `iter_counted` does.
+    /// Returns the pairs within two bounds. It allocates as [`iter_counted`](Self::iter_counted) does.
     ///
     /// # Errors
     ///
@@ -261,7 +261,7 @@ impl<'a, K: KeyTrait + Drop, V, C: Count> Seen<'a, K, V, C> {
 }
 
 impl<'a, K: KeyTrait + Drop, V> Seen<'a, K, V, Visits> {
-    /// Returns the pairs within two bounds. It allocates as `iter_counted` does.
+    /// Returns the pairs within two bounds. It allocates as [`iter_counted`](Self::iter_counted) does.
     ///
     /// # Errors
     ///

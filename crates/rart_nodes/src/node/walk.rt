@@ -169,7 +169,7 @@ impl<'a, K: KeyTrait, V, C: Count> Seen<'a, K, V, C> {
         ensures visits { IfOk result (λ w. C.number counter.new + walk_nodes w.0
             ≡ C.number counter.old + tree_count (seen_tree self.entry)) }
         ensures longest { IfOk result (λ w. w.0.longest ≤ length_bound self.entry) }
-        ensures root { C.number counter.new
+        ensures bound { C.number counter.new
             ≡ C.number counter.old + count_of (seen_tree self.entry) }
         ensures places { IfOk result (λ w. HasPlaces w.0 (length_bound self.entry)) }
     {

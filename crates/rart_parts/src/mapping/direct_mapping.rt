@@ -55,7 +55,7 @@ impl<N> DirectMapping<N> {
     /// Returns the children with their bytes, ascending.
     pub fn iter(&self) -> DirectMappingIter<'_, N>
         ensures entries { result ≡ self.now }
-        ensures ascends { BytesAscend self.now }
+        ensures ascending { BytesAscend self.now }
     {
         DirectMappingIter {
             places: self.places.as_slice(),
@@ -66,7 +66,7 @@ impl<N> DirectMapping<N> {
     /// Returns the children at the bytes above `byte`, ascending. It starts at the slot after that byte.
     pub fn iter_above(&self, byte: u8) -> DirectMappingIter<'_, N>
         ensures entries { result ≡ entries_above byte self.now }
-        ensures ascends { BytesAscend (entries_above byte self.now) }
+        ensures ascending { BytesAscend (entries_above byte self.now) }
     {
         let from = byte as usize + 1;
         DirectMappingIter {

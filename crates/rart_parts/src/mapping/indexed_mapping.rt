@@ -1,7 +1,7 @@
 //! A map from bytes to children with an index from bytes to slots.
 
-// The model lists the entries in slot order; the contracts of calls use `ascending` of it, the same entries in byte
-// order.
+// The model lists the entries in slot order; the contracts of calls use `sorted_entries` of it, the same entries in
+// byte order.
 
 ghost use Rattle.std.specs.Prelude.{◌≡◌, ℕ, [], ◌∷◌, IfSome, IsSome, None, Some, ◌<◌, ◌≤◌, ◌^◌, length, IfErr, IfOk};
 ghost use Rattle.std.specs.Prelude.{OnOk, OnErr, MatchOption};
@@ -74,7 +74,7 @@ impl<N, const W: usize, B: BitsetTrait> IndexedMapping<N, W, B> {
         requires narrow { W ≤ 255 }
         requires covers { W ≤ B.CAPACITY }
         requires fits { B.CAPACITY < 2 ^ 64 }
-        requires few { length source.old ≤ W }
+        requires at_most { length source.old ≤ W }
         ensures ok { IfOk result (λ m. sorted_entries m ≡ source.old) }
         ensures emptied { OnOk result (source.new ≡ []) }
         ensures memory { IfErr result (λ e. e ≡ TreeError.Memory) }
@@ -88,7 +88,7 @@ impl<N, const W: usize, B: BitsetTrait> IndexedMapping<N, W, B> {
     /// Moves the children of a sorted mapping into this empty map. It does not allocate.
     pub fn fill_from_sorted_keyed<const U: usize>(&mut self, source: &mut SortedKeyedMapping<N, U>)
         requires empty { sorted_entries self.old ≡ [] }
-        requires few { length source.old ≤ W }
+        requires at_most { length source.old ≤ W }
         ensures filled { sorted_entries self.new ≡ source.old }
         ensures emptied { source.new ≡ [] }
     {
@@ -108,7 +108,7 @@ impl<N, const W: usize, B: BitsetTrait> IndexedMapping<N, W, B> {
         requires narrow { W ≤ 255 }
         requires covers { W ≤ B.CAPACITY }
         requires fits { B.CAPACITY < 2 ^ 64 }
-        requires few { length source.old ≤ W }
+        requires at_most { length source.old ≤ W }
         ensures ok { IfOk result (λ m. sorted_entries m ≡ source.old) }
         ensures emptied { OnOk result (source.new ≡ []) }
         ensures memory { IfErr result (λ e. e ≡ TreeError.Memory) }
@@ -122,7 +122,7 @@ impl<N, const W: usize, B: BitsetTrait> IndexedMapping<N, W, B> {
     /// Moves the children of a direct mapping into this empty map. It does not allocate.
     pub fn fill_from_direct(&mut self, source: &mut DirectMapping<N>)
         requires empty { sorted_entries self.old ≡ [] }
-        requires few { length source.old ≤ W }
+        requires at_most { length source.old ≤ W }
         ensures filled { sorted_entries self.new ≡ source.old }
         ensures emptied { source.new ≡ [] }
     {
@@ -149,7 +149,7 @@ impl<N, const W: usize, B: BitsetTrait> IndexedMapping<N, W, B> {
         requires narrow { W ≤ 255 }
         requires covers { W ≤ B.CAPACITY }
         requires fits { B.CAPACITY < 2 ^ 64 }
-        requires few { length (sorted_entries source.old) ≤ W }
+        requires at_most { length (sorted_entries source.old) ≤ W }
         ensures ok { IfOk result (λ m. sorted_entries m ≡ sorted_entries source.old) }
         ensures emptied { OnOk result (sorted_entries source.new ≡ []) }
         ensures memory { IfErr result (λ e. e ≡ TreeError.Memory) }
@@ -166,7 +166,7 @@ impl<N, const W: usize, B: BitsetTrait> IndexedMapping<N, W, B> {
         source: &mut KeyedMapping<N, U, C>,
     )
         requires empty { sorted_entries self.old ≡ [] }
-        requires few { length (sorted_entries source.old) ≤ W }
+        requires at_most { length (sorted_entries source.old) ≤ W }
         ensures filled { sorted_entries self.new ≡ sorted_entries source.old }
         ensures emptied { sorted_entries source.new ≡ [] }
     {
@@ -303,7 +303,7 @@ impl<N, const W: usize, B: BitsetTrait> IndexedMapping<N, W, B> {
     /// Returns the children with their bytes, ascending.
     pub fn iter(&self) -> IndexedMappingIter<'_, N>
         ensures entries { result ≡ sorted_entries self.now }
-        ensures ascends { BytesAscend (sorted_entries self.now) }
+        ensures ascending { BytesAscend (sorted_entries self.now) }
     {
         IndexedMappingIter {
             slots: self.index.iter(),
@@ -314,7 +314,7 @@ impl<N, const W: usize, B: BitsetTrait> IndexedMapping<N, W, B> {
     /// Returns the children at the bytes above `byte`, ascending. The index skips the other bytes.
     pub fn iter_above(&self, byte: u8) -> IndexedMappingIter<'_, N>
         ensures entries { result ≡ entries_above byte (sorted_entries self.now) }
-        ensures ascends { BytesAscend (entries_above byte (sorted_entries self.now)) }
+        ensures ascending { BytesAscend (entries_above byte (sorted_entries self.now)) }
     {
         IndexedMappingIter {
             slots: self.index.iter_above(byte),

@@ -1,7 +1,7 @@
 //! A map from bytes to children that keeps an unordered key beside each slot.
 
-// The model lists the entries in slot order; the contracts of calls use `ascending` of it, the same entries in byte
-// order.
+// The model lists the entries in slot order; the contracts of calls use `sorted_entries` of it, the same entries in
+// byte order.
 
 ghost use Rattle.std.specs.Prelude.{◌≡◌, ℕ, [], ◌<◌, ◌≤◌, ◌^◌, length, IfErr, IfOk, OnOk, OnErr};
 ghost use Rattle.rart_parts.specs.Bits.{IsFirst};
@@ -93,7 +93,7 @@ impl<N, const W: usize, B: BitsetTrait> KeyedMapping<N, W, B> {
         source: &mut KeyedMapping<N, U, C>,
     )
         requires empty { sorted_entries self.old ≡ [] }
-        requires few { length (sorted_entries source.old) ≤ W }
+        requires at_most { length (sorted_entries source.old) ≤ W }
         ensures filled { sorted_entries self.new ≡ sorted_entries source.old }
         ensures emptied { sorted_entries source.new ≡ [] }
     {

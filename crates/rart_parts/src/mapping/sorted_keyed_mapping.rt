@@ -66,7 +66,7 @@ impl<N, const W: usize> SortedKeyedMapping<N, W> {
         source: &mut SortedKeyedMapping<N, U>,
     ) -> Result<Self, TreeError>
         requires narrow { W ≤ 255 }
-        requires few { length source.old ≤ W }
+        requires at_most { length source.old ≤ W }
         ensures ok { IfOk result (λ m. m ≡ source.old) }
         ensures emptied { OnOk result (source.new ≡ []) }
         ensures memory { IfErr result (λ e. e ≡ TreeError.Memory) }
@@ -80,7 +80,7 @@ impl<N, const W: usize> SortedKeyedMapping<N, W> {
     /// Moves the children of a sorted mapping into this empty map. It does not allocate.
     pub fn fill_from_resized<const U: usize>(&mut self, source: &mut SortedKeyedMapping<N, U>)
         requires empty { self.old ≡ [] }
-        requires few { length source.old ≤ W }
+        requires at_most { length source.old ≤ W }
         ensures filled { self.new ≡ source.old }
         ensures emptied { source.new ≡ [] }
     {
@@ -101,7 +101,7 @@ impl<N, const W: usize> SortedKeyedMapping<N, W> {
         source: &mut IndexedMapping<N, U, B>,
     ) -> Result<Self, TreeError>
         requires narrow { W ≤ 255 }
-        requires few { length (sorted_entries source.old) ≤ W }
+        requires at_most { length (sorted_entries source.old) ≤ W }
         ensures ok { IfOk result (λ m. m ≡ sorted_entries source.old) }
         ensures emptied { OnOk result (sorted_entries source.new ≡ []) }
         ensures memory { IfErr result (λ e. e ≡ TreeError.Memory) }
@@ -118,7 +118,7 @@ impl<N, const W: usize> SortedKeyedMapping<N, W> {
         source: &mut IndexedMapping<N, U, B>,
     )
         requires empty { self.old ≡ [] }
-        requires few { length (sorted_entries source.old) ≤ W }
+        requires at_most { length (sorted_entries source.old) ≤ W }
         ensures filled { self.new ≡ sorted_entries source.old }
         ensures emptied { sorted_entries source.new ≡ [] }
     {
@@ -134,7 +134,7 @@ impl<N, const W: usize> SortedKeyedMapping<N, W> {
     /// Returns the children with their bytes, ascending.
     pub fn iter(&self) -> SortedKeyedMappingIter<'_, N>
         ensures entries { result ≡ self.now }
-        ensures ascends { BytesAscend self.now }
+        ensures ascending { BytesAscend self.now }
     {
         SortedKeyedMappingIter {
             keys: &self.keys,
@@ -145,7 +145,7 @@ impl<N, const W: usize> SortedKeyedMapping<N, W> {
     /// Returns the children at the bytes above `byte`, ascending. It starts at the first of them.
     pub fn iter_above(&self, byte: u8) -> SortedKeyedMappingIter<'_, N>
         ensures entries { result ≡ entries_above byte self.now }
-        ensures ascends { BytesAscend (entries_above byte self.now) }
+        ensures ascending { BytesAscend (entries_above byte self.now) }
     {
         let keys: &[u8] = &self.keys;
         let at = first_above(byte, &self.keys, self.children.len());
@@ -159,7 +159,7 @@ impl<N, const W: usize> SortedKeyedMapping<N, W> {
     pub fn take_value_for_leaf(&mut self) -> (u8, N)
         requires { length self.old ≡ 1 }
         ensures taken { self.old ≡ result ∷ [] }
-        ensures rest { self.new ≡ [] }
+        ensures emptied { self.new ≡ [] }
     {
         let key = self.keys[0];
         self.keys[0] = 255;
@@ -239,8 +239,8 @@ impl<N, const W: usize> SortedKeyedMapping<N, W> {
 
 // The place of a key among the first `count`, which ascend, where the others are 255.
 fn place_of<const W: usize>(key: u8, keys: &[u8; W], count: usize) -> Option<usize>
-    requires few { count ≤ W }
-    requires ascend { IsAscendingBelow keys.now count }
+    requires at_most { count ≤ W }
+    requires ascending { IsAscendingBelow keys.now count }
     requires padded { IsPadded keys.now count W }
     ensures { IsPlaceOf keys.now count key result }
 {
@@ -255,8 +255,8 @@ fn place_of<const W: usize>(key: u8, keys: &[u8; W], count: usize) -> Option<usi
 // The first place among the first `count` keys, which ascend, whose key is above; `count` where there is none. The
 // other keys are 255, so it is found without a branch: as many keys of all are not above.
 fn first_above<const W: usize>(key: u8, keys: &[u8; W], count: usize) -> usize
-    requires few { count ≤ W }
-    requires ascend { IsAscendingBelow keys.now count }
+    requires at_most { count ≤ W }
+    requires ascending { IsAscendingBelow keys.now count }
     requires padded { IsPadded keys.now count W }
     ensures { IsFirstAbove keys.now count key result }
 {

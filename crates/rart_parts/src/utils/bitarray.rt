@@ -155,7 +155,7 @@ impl<X, const RANGE_WIDTH: usize, B: BitsetTrait> BitArray<X, RANGE_WIDTH, B> {
     pub(crate) fn used(&self) -> Option<&B>
         ensures covers { RANGE_WIDTH ≤ B.CAPACITY }
         ensures fits { B.CAPACITY < 2 ^ 64 }
-        ensures same { IfSome result (λ set. Agrees B.CAPACITY (B.has set.now) self.now) }
+        ensures agrees { IfSome result (λ set. Agrees B.CAPACITY (B.has set.now) self.now) }
     {
         if self.bitset.first_set().is_some() {
             Some(&self.bitset)
@@ -167,7 +167,7 @@ impl<X, const RANGE_WIDTH: usize, B: BitsetTrait> BitArray<X, RANGE_WIDTH, B> {
     /// Returns the bitset of the used slots, found by a scan.
     pub(crate) fn found(&self) -> B
         ensures covers { RANGE_WIDTH ≤ B.CAPACITY }
-        ensures same { Agrees B.CAPACITY (B.has result) self.now }
+        ensures agrees { Agrees B.CAPACITY (B.has result) self.now }
     {
         let mut used = B::default();
         find_used(&mut used, &self.places);

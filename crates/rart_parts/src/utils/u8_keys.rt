@@ -12,7 +12,7 @@ pub fn u8_keys_find_key_position_sorted<const WIDTH: usize>(
     num_children: usize,
 ) -> Option<usize>
     requires exist { num_children ≤ length keys.now }
-    requires ascend { IsAscendingBelow keys.now num_children }
+    requires ascending { IsAscendingBelow keys.now num_children }
     ensures { IsPlaceOf keys.now num_children key result }
 {
     let above = first_above::<WIDTH>(key, keys, num_children);
@@ -31,7 +31,7 @@ pub fn u8_keys_find_insert_position_sorted<const WIDTH: usize>(
     num_children: usize,
 ) -> Option<usize>
     requires exist { num_children ≤ length keys.now }
-    requires ascend { IsAscendingBelow keys.now num_children }
+    requires ascending { IsAscendingBelow keys.now num_children }
     ensures { IsSomeAnd result (IsFirstAbove keys.now num_children key) }
 {
     Some(first_above::<WIDTH>(key, keys, num_children))
@@ -64,7 +64,7 @@ pub(crate) fn keys_are_bytes(keys: &[u8])
 // By halves where there may be more than four keys.
 fn first_above<const WIDTH: usize>(key: u8, keys: &[u8], num_children: usize) -> usize
     requires exist { num_children ≤ length keys.now }
-    requires ascend { IsAscendingBelow keys.now num_children }
+    requires ascending { IsAscendingBelow keys.now num_children }
     ensures { IsFirstAbove keys.now num_children key result }
 {
     if WIDTH > 4 {
@@ -88,7 +88,7 @@ fn first_above_in_turn(key: u8, keys: &[u8], num_children: usize) -> usize
 
 fn first_above_by_halves(key: u8, keys: &[u8], num_children: usize) -> usize
     requires exist { num_children ≤ length keys.now }
-    requires ascend { IsAscendingBelow keys.now num_children }
+    requires ascending { IsAscendingBelow keys.now num_children }
     ensures { IsFirstAbove keys.now num_children key result }
 {
     let mut left = 0;

@@ -1,4 +1,4 @@
-//! Trees of keys that end in a zero byte, brought over to keys without it; also with each request for memory refused in
+//! Trees of keys that end in a zero byte, converted to keys without it; also with each request for memory refused in
 //! turn.
 
 use crate::play::replies::is_counted;

@@ -1,5 +1,4 @@
-//! Calls that make a tree of nothing or compare two, and may not allocate. The library that refuses memory
-//! reports a call that does.
+//! Calls that make a tree of nothing or compare two; the library that refuses memory reports one that allocates.
 
 use crate::loads::{Key, ascend, load_by_index, load_unique};
 use rart::{AdaptiveRadixTree, BulkError, KeyTrait};

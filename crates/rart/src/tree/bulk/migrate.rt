@@ -41,7 +41,7 @@ fn read_texts<const N: usize, V: Copy>(
     ensures keys { IfOk result
         (λ r. keys_of old.now.pairs ≡ map terminated_key (map array_key_bytes r.0.items)) }
     ensures values { IfOk result (λ r. values_of old.now.pairs ≡ r.1.items) }
-    ensures most { IfOk result (λ r. length r.0.items ≤ MAX_PAIRS) }
+    ensures at_most { IfOk result (λ r. length r.0.items ≤ MAX_PAIRS) }
     ensures refused { IfErr result (FailsMigration old.now.pairs) }
 {
     let Ok(mut keys) = Vec::with_capacity(old.alloc, old.len()) else {

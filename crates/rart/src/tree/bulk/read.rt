@@ -31,7 +31,7 @@ fn keep_last<K: KeyTrait + Drop, V: Drop>(
     at: usize,
 ) -> Result<(), BulkError>
     requires { length keys.old.items ≤ MAX_PAIRS }
-    ensures most { length keys.new.items ≤ MAX_PAIRS }
+    ensures at_most { length keys.new.items ≤ MAX_PAIRS }
     ensures keeps_item { KeepsItem (map K.bytes keys.old.items) values.old.items (K.bytes key)
         value result (map K.bytes keys.new.items) values.new.items }
     ensures refused { FailsAtItem (map K.bytes keys.old.items) values.old.items (K.bytes key) value
@@ -65,7 +65,7 @@ pub(super) fn read_sorted<K: KeyTrait + Drop, V: Drop, I: IntoIterator<Item = (K
 ) -> Result<(Vec<K>, Vec<V>), BulkError>
     requires { (s : I.IntoIter) → I.into_iter_gives items s → I.IntoIter.can_next s
         × IsFinite (I.IntoIter.remaining s) }
-    ensures most { IfOk result (λ r. length r.0.items ≤ MAX_PAIRS) }
+    ensures at_most { IfOk result (λ r. length r.0.items ≤ MAX_PAIRS) }
     ensures read { IfOk result (λ r. ReadsAll I.into_iter_gives I.IntoIter.next_gives items
         (λ xs. WasRead (pairs_in K.bytes xs) (map K.bytes r.0.items) r.1.items)) }
     ensures refused { IfErr result (λ error. Reads I.into_iter_gives I.IntoIter.next_gives items
@@ -90,7 +90,7 @@ pub(super) fn read_unique<K: KeyTrait + Drop, V: Drop, I: IntoIterator<Item = (K
 ) -> Result<(Vec<K>, Vec<V>), BulkError>
     requires { (s : I.IntoIter) → I.into_iter_gives items s → I.IntoIter.can_next s
         × IsFinite (I.IntoIter.remaining s) }
-    ensures most { IfOk result (λ r. length r.0.items ≤ MAX_PAIRS) }
+    ensures at_most { IfOk result (λ r. length r.0.items ≤ MAX_PAIRS) }
     ensures read { IfOk result (λ r. ReadsAll I.into_iter_gives I.IntoIter.next_gives items
         (λ xs. AreSplit (pairs_in K.bytes xs) (map K.bytes r.0.items) r.1.items)) }
     ensures refused { IfErr result (λ error. Reads I.into_iter_gives I.IntoIter.next_gives items

@@ -2,4 +2,10 @@ use Rattle.rart_keys.proofs.JoinsOfMaps.{join-ascends, lookup-join, few-joined, 
 use Rattle.rart_keys.proofs.laws.joins.Goals as goal
 
 pub returns : goal.returns
-returns g c = record { ascends = join-ascends; looks = lookup-join; join_length = few-joined; other_way = join-swapped }
+returns g c = record {
+  ascending = join-ascends;
+  looks = lookup-join;
+  join_length = few-joined;
+  other_way =
+      join-swapped;
+}

@@ -6,17 +6,17 @@ pub returns-then-word_at : goal.returns-then-word_at
 returns-then-word_at c = (
   (λ t. absurd (cc)),
   (λ s. absurd (c.if-word_at.true (same-number _ _ (λ i. (c.type_inv.prefix i).fits) (λ i. (c.type_inv.key i).fits)
-      c.requires.shorter 8 c.loop-i.i _ _ (omega arith) c.word_at.ensures c.word_at-in-loop-i.ensures s))),
+      c.requires.at_most 8 c.loop-i.i _ _ (omega arith) c.word_at.ensures c.word_at-in-loop-i.ensures s))),
 )
 
 pub loop-i-preserved : goal.loop-i-preserved
 loop-i-preserved c = record {
   within = omega arith;
-  so_far = goes-on _ _ (λ i. (c.type_inv.prefix i).fits) (λ i. (c.type_inv.key i).fits) c.requires.shorter
+  so_far = goes-on _ _ (λ i. (c.type_inv.prefix i).fits) (λ i. (c.type_inv.key i).fits) c.requires.at_most
       8 c.loop-i.i _ _
       (omega arith) c.word_at.ensures c.word_at-in-loop-i.ensures c.if-word_at.false c.loop-i.invariant.so_far;
 }
 
 pub returns : goal.returns
-returns c = last-decides _ _ (λ i. (c.type_inv.prefix i).fits) (λ i. (c.type_inv.key i).fits) c.requires.shorter 8 _
+returns c = last-decides _ _ (λ i. (c.type_inv.prefix i).fits) (λ i. (c.type_inv.key i).fits) c.requires.at_most 8 _
     c.loop-i.i _ _ (omega arith) c.loop-i-test.false c.word_at-2.ensures c.word_at-3.ensures c.loop-i.invariant.so_far

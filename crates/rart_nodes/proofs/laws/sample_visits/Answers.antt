@@ -4,9 +4,9 @@ use Rattle.rart_nodes.proofs.laws.sample_visits.Goals as goal
 
 pub returns : goal.returns
 returns c = record {
-  deepest = visits-deepest;
-  absent = visits-absent;
-  root = visits-root;
+  deepest_visits = visits-deepest;
+  absent_visits = visits-absent;
+  root_visits = visits-root;
   both = visits-both;
   edges = edges-both;
   no_keys = visits-no_keys;

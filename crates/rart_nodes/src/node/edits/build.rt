@@ -24,13 +24,13 @@ use std::alloc::Global;
 
 /// Returns the byte of the first key at `depth`, and how many of the first keys have it there.
 fn first_group(keys: &[&[u8]], depth: usize) -> (u8, usize)
-    requires some { 0 < length keys.now }
+    requires nonempty { 0 < length keys.now }
     requires go_on { GoOn (rests depth keys.now) }
     requires ascending { IsAscending (lone_keys (rests depth keys.now)) }
     ensures byte { result.0 ≡ first_byte (rests depth keys.now) }
     ensures run { result.1 ≡ first_run (rests depth keys.now) }
-    ensures some { 0 < result.1 }
-    ensures shorter { result.1 ≤ length keys.now }
+    ensures nonempty { 0 < result.1 }
+    ensures at_most { result.1 ≤ length keys.now }
 {
     let byte = keys[0][depth];
     // the last place where the byte was seen, and a later one
@@ -82,7 +82,7 @@ fn shared_length(first: &[u8], last: &[u8], depth: usize) -> usize
 
 /// Returns the bytes of the first key between two depths.
 fn first_part<'a>(keys: &[&'a [u8]], depth: usize, end: usize) -> &'a [u8]
-    requires some { 0 < length keys.now }
+    requires nonempty { 0 < length keys.now }
     requires ends { depth ≤ end }
     requires reach { end ≤ first_length keys.now }
     ensures { result.now ≡ first_bytes depth end keys.now }
@@ -149,7 +149,7 @@ impl<P: Partial, V: Drop> DefaultNode<P, V> {
         keys: &[&[u8]],
         take_value: &mut F,
     ) -> Result<Self, TreeError>
-        requires some { 0 < length keys.now }
+        requires nonempty { 0 < length keys.now }
         requires within { AreWithin P.MAXIMUM_SIZE (keys_in keys.now) }
         requires ascending { IsAscending (lone_keys (keys_in keys.now)) }
         requires callable { CanTake F.pre F.step 0 (length keys.now) take_value.old }

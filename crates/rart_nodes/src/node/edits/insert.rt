@@ -90,10 +90,10 @@ impl<P: Partial, V> DefaultNode<P, V> {
         requires empty { back.old ≡ None }
         ensures ok { OnOk result (self.new ≡ trie_put key.now value self.old) }
         ensures answer { OnOk result (back.new ≡ trie_lookup key.now self.old) }
-        ensures fresh { OnOk result (only_new ≡ true → trie_lookup key.now self.old ≡ None) }
+        ensures absent { OnOk result (only_new ≡ true → trie_lookup key.now self.old ≡ None) }
         ensures unchanged { OnErr result (self.new ≡ self.old) }
         ensures returned { OnErr result (back.new ≡ Some value) }
-        ensures why { IfErr result (FailsPut only_new key.now self.old) }
+        ensures refused { IfErr result (FailsPut only_new key.now self.old) }
     {
         let Some(rest) = strip_prefix(&self.prefix, key) else {
             return match self.split(alloc, key, value) {
@@ -152,9 +152,9 @@ impl<P: Partial, V> DefaultNode<P, V> {
         requires canonical { IsCanonical self.old }
         requires within { IsWithin P.MAXIMUM_SIZE (length key.now) }
         ensures ok { OnOk result (self.new ≡ trie_put key.now value self.old) }
-        ensures fresh { OnOk result (trie_lookup key.now self.old ≡ None) }
+        ensures absent { OnOk result (trie_lookup key.now self.old ≡ None) }
         ensures unchanged { OnErr result (self.new ≡ self.old) }
-        ensures why { IfErr result (FailsInsert key.now value self.old) }
+        ensures refused { IfErr result (FailsInsert key.now value self.old) }
     {
         let mut back: Option<V> = None;
         match self.put_below(alloc, true, key, value, &mut back) {
@@ -185,7 +185,7 @@ impl<P: Partial, V> DefaultNode<P, V> {
         ensures answer { IfOk result (λ old. old ≡ lookup key.now (pairs_of self.old)) }
         ensures count { IfOk result (λ old. length (pairs_of self.new) + count_of old
             ≡ length (pairs_of self.old) + 1) }
-        ensures longest { OnOk result (longest_key (pairs_of self.new)
+        ensures longest_key { OnOk result (longest_key (pairs_of self.new)
             ≤ max (longest_key (pairs_of self.old)) (length key.now)) }
         ensures unchanged { OnErr result (self.new ≡ self.old) }
         ensures returned { IfErr result (λ r. (r.error ≡ TreeError.Memory) × (r.value ≡ value)) }
@@ -205,12 +205,12 @@ impl<P: Partial, V> DefaultNode<P, V> {
         requires within { IsWithin P.MAXIMUM_SIZE (length key.now) }
         ensures canonical { OnOk result (IsCanonical self.new) }
         ensures pairs { OnOk result (pairs_of self.new ≡ put key.now value (pairs_of self.old)) }
-        ensures fresh { OnOk result (lookup key.now (pairs_of self.old) ≡ None) }
+        ensures absent { OnOk result (lookup key.now (pairs_of self.old) ≡ None) }
         ensures count { OnOk result (length (pairs_of self.new) ≡ length (pairs_of self.old) + 1) }
-        ensures longest { OnOk result (longest_key (pairs_of self.new)
+        ensures longest_key { OnOk result (longest_key (pairs_of self.new)
             ≤ max (longest_key (pairs_of self.old)) (length key.now)) }
         ensures unchanged { OnErr result (self.new ≡ self.old) }
-        ensures why { IfErr result (FailsInsertInto key.now value (pairs_of self.old)) }
+        ensures refused { IfErr result (FailsInsertInto key.now value (pairs_of self.old)) }
     {
         self.put_new(alloc, key, value)
     }

@@ -61,7 +61,7 @@ impl<P: Partial, V> DefaultNode<P, V> {
         requires canonical { IsCanonical self.old }
         requires within { IsWithin P.MAXIMUM_SIZE (longest_key (pairs_of self.old)) }
         requires inner { children_in self.old ≢ no_children }
-        ensures ok { OnOk result (IsCanonical self.new) }
+        ensures canonical { OnOk result (IsCanonical self.new) }
         ensures pairs { IfOk result (λ p. PopsEnd end (pairs_of self.old) (Some (P.bytes p.0, p.1))
             (pairs_of self.new)) }
         ensures unchanged { OnErr result (self.new ≡ self.old) }
@@ -138,7 +138,7 @@ impl<P: Partial, V> DefaultNode<P, V> {
             (option_map (λ p. (P.bytes p.0, p.1)) p) (tree_pairs root.new)) }
         ensures count { IfOk result (λ p. length (tree_pairs root.new) + count_of p
             ≡ length (tree_pairs root.old)) }
-        ensures longest { OnOk result
+        ensures longest_key { OnOk result
             (longest_key (tree_pairs root.new) ≤ longest_key (tree_pairs root.old)) }
         ensures unchanged { OnErr result (root.new ≡ root.old) }
         ensures memory { IfErr result (λ e. e ≡ TreeError.Memory) }
@@ -162,7 +162,7 @@ impl<P: Partial, V> DefaultNode<P, V> {
             (option_map (λ p. (P.bytes p.0, p.1)) p) (tree_pairs root.new)) }
         ensures count { IfOk result (λ p. length (tree_pairs root.new) + count_of p
             ≡ length (tree_pairs root.old)) }
-        ensures longest { OnOk result
+        ensures longest_key { OnOk result
             (longest_key (tree_pairs root.new) ≤ longest_key (tree_pairs root.old)) }
         ensures unchanged { OnErr result (root.new ≡ root.old) }
         ensures memory { IfErr result (λ e. e ≡ TreeError.Memory) }

@@ -105,7 +105,7 @@ impl<P: Partial, V> DefaultNode<P, V> {
         removed: &mut Option<V>,
     ) -> Result<(), TreeError>
         requires within { JoinsWithin P.MAXIMUM_SIZE (prefix_of self.old) (children_in self.old) }
-        requires present { child_in byte self.old ≢ None }
+        requires stored { child_in byte self.old ≢ None }
         requires leaf { IfSome (child_in byte self.old) (λ t. edges_of (children_in t) ≡ []) }
         requires empty { removed.old ≡ None }
         ensures taken { OnOk result
@@ -229,7 +229,7 @@ impl<P: Partial, V> DefaultNode<P, V> {
         ensures answer { IfOk result (λ old. old ≡ lookup key.now (tree_pairs root.old)) }
         ensures count { IfOk result (λ old. length (tree_pairs root.new) + count_of old
             ≡ length (tree_pairs root.old)) }
-        ensures longest { OnOk result
+        ensures longest_key { OnOk result
             (longest_key (tree_pairs root.new) ≤ longest_key (tree_pairs root.old)) }
         ensures unchanged { OnErr result (root.new ≡ root.old) }
         ensures memory { IfErr result (λ e. e ≡ TreeError.Memory) }

@@ -201,12 +201,13 @@ impl<P: Partial, V: Drop> DefaultNode<P, V> {
         requires canonical { IsCanonicalTree root.old }
         requires within { IsWithin P.MAXIMUM_SIZE (longest_key (tree_pairs root.old)) }
         requires callable { CanRetain F.FnMut f.old (tree_pairs root.old) }
-        ensures callable { F.IsAlwaysCallable f.old → F.IsAlwaysCallable f.new }
+        ensures stays_callable { F.IsAlwaysCallable f.old → F.IsAlwaysCallable f.new }
         ensures canonical { IsCanonicalTree root.new }
         ensures retains { Retains F.FnMut f.old (tree_pairs root.old) result (tree_pairs root.new)
             f.new }
         ensures count { length (tree_pairs root.new) ≤ length (tree_pairs root.old) }
-        ensures longest { longest_key (tree_pairs root.new) ≤ longest_key (tree_pairs root.old) }
+        ensures longest_key { longest_key (tree_pairs root.new)
+            ≤ longest_key (tree_pairs root.old) }
         ensures memory { IfErr result (λ e. e ≡ TreeError.Memory) }
     {
         match DefaultNode::retain_tree(root, alloc, f) {

@@ -47,7 +47,7 @@ impl<P: Partial, V> DefaultNode<P, V> {
         taken: &mut Option<Self>,
     ) -> Result<(), TreeError>
         requires within { JoinsWithin P.MAXIMUM_SIZE (prefix_of self.old) (children_in self.old) }
-        requires present { child_in byte self.old ≢ None }
+        requires stored { child_in byte self.old ≢ None }
         requires child_within { IfSome (child_in byte self.old) (λ t. IsWithin P.MAXIMUM_SIZE
             (length (P.bytes path.now) + length (prefix_of t))) }
         requires empty { taken.old ≡ None }
@@ -194,7 +194,7 @@ impl<P: Partial, V> DefaultNode<P, V> {
         ensures count { IfOk result
             (λ taken. length (tree_pairs root.new) + length (tree_pairs taken)
             ≡ length (tree_pairs root.old)) }
-        ensures longest { OnOk result
+        ensures longest_key { OnOk result
             (longest_key (tree_pairs root.new) ≤ longest_key (tree_pairs root.old)) }
         ensures longest_taken { IfOk result
             (λ taken. longest_key (tree_pairs taken) ≤ longest_key (tree_pairs root.old)) }

@@ -189,7 +189,7 @@ impl<P: Partial, V> DefaultNode<P, V> {
     #[inline(never)]
     fn remove_leaf(&mut self, alloc: Global, byte: u8) -> Result<Outcome<V>, UpdateError<V>>
         requires within { JoinsWithin P.MAXIMUM_SIZE (prefix_of self.old) (children_in self.old) }
-        requires present { child_in byte self.old ≢ None }
+        requires stored { child_in byte self.old ≢ None }
         requires leaf { IfSome (child_in byte self.old)
             (λ t. (edges_of (children_in t) ≡ []) × (value_of t ≢ None)) }
         ensures { RemovesLeaf byte (option_and_then value_of (child_in byte self.old))
@@ -353,7 +353,7 @@ impl<P: Partial, V> DefaultNode<P, V> {
         ensures canonical { IsCanonicalTree root.new }
         ensures count { CountsPairs result.0 (length (tree_pairs root.old))
             (length (tree_pairs root.new)) }
-        ensures longest { longest_key (tree_pairs root.new)
+        ensures longest_key { longest_key (tree_pairs root.new)
             ≤ longest_after result.0 (length key.now) (longest_key (tree_pairs root.old)) }
         ensures nodes_unchanged { OnErr result.0 (tree_nodes root.new ≡ tree_nodes root.old) }
         ensures nodes { keys_of (tree_pairs root.new) ≡ keys_of (tree_pairs root.old)

@@ -66,13 +66,14 @@ impl<P: Partial, V> DefaultNode<P, V> {
         requires canonical { IsCanonicalTree root.old }
         requires callable { CanLend F.FnMut f.old
             (values_below prefix.now (tree_pairs root.old)) }
-        ensures callable { F.IsAlwaysCallable f.old → F.IsAlwaysCallable f.new }
+        ensures stays_callable { F.IsAlwaysCallable f.old → F.IsAlwaysCallable f.new }
         ensures canonical { IsCanonicalTree root.new }
         ensures changes { ChangesBelow F.FnMut prefix.now f.old (tree_pairs root.old)
             (tree_pairs root.new) f.new }
         ensures nodes { tree_nodes root.new ≡ tree_nodes root.old }
         ensures length { length (tree_pairs root.new) ≡ length (tree_pairs root.old) }
-        ensures longest { longest_key (tree_pairs root.new) ≡ longest_key (tree_pairs root.old) }
+        ensures longest_key { longest_key (tree_pairs root.new)
+            ≡ longest_key (tree_pairs root.old) }
     {
         match root {
             Some(node) => node.change_below(prefix, f),

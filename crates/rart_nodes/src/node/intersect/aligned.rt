@@ -47,7 +47,7 @@ fn enter_after<'a, P: Partial, V, C: Count>(
     Some((child, edge, rest))
 }
 
-/// Visits the child at `byte` of a right node, as `enter_after` does.
+/// Visits the child at `byte` of a right node, as [`enter_after`](Self::enter_after) does.
 fn enter_other_after<'b, P: Partial, W, C: Count>(
     at: Entered<'b, P, W, Paired<C>>,
     byte: u8,

@@ -41,7 +41,7 @@ impl<N> Storage<N> {
     /// Returns the children with their bytes, ascending. It does not allocate.
     pub(crate) fn iter(&self) -> StorageIter<'_, N>
         ensures entries { to_come result ≡ child_entries self.now }
-        ensures ascends { BytesAscend (child_entries self.now) }
+        ensures ascending { BytesAscend (child_entries self.now) }
     {
         match self {
             Storage::Leaf => StorageIter::Childless,
@@ -55,7 +55,7 @@ impl<N> Storage<N> {
     /// Returns the children at the bytes above `byte`, ascending. It does not allocate.
     pub(crate) fn iter_above(&self, byte: u8) -> StorageIter<'_, N>
         ensures entries { to_come result ≡ entries_above byte (child_entries self.now) }
-        ensures ascends { BytesAscend (entries_above byte (child_entries self.now)) }
+        ensures ascending { BytesAscend (entries_above byte (child_entries self.now)) }
     {
         match self {
             Storage::Leaf => StorageIter::Childless,

@@ -185,7 +185,7 @@ impl<'a, K: KeyTrait, V, C: Count> Seen<'a, K, V, C> {
     }
 
     /// Returns an iterator over the pairs whose key begins with `prefix`, descending by key. It allocates as
-    /// `iter_descending_counted` does.
+    /// [`iter_descending_counted`](Self::iter_descending_counted) does.
     ///
     /// # Errors
     ///
@@ -214,7 +214,8 @@ impl<'a, K: KeyTrait, V, C: Count> Seen<'a, K, V, C> {
 }
 
 impl<'a, K: KeyTrait, V> Seen<'a, K, V, Visits> {
-    /// Returns an iterator over all pairs, descending by key. It allocates as `iter_descending_counted` does.
+    /// Returns an iterator over all pairs, descending by key. It allocates as
+    /// [`iter_descending_counted`](Self::iter_descending_counted) does.
     ///
     /// # Errors
     ///
@@ -228,7 +229,7 @@ impl<'a, K: KeyTrait, V> Seen<'a, K, V, Visits> {
     }
 
     /// Returns an iterator over the pairs whose key begins with `prefix`, descending by key. It allocates as
-    /// `iter_descending_counted` does.
+    /// [`iter_descending_counted`](Self::iter_descending_counted) does.
     ///
     /// # Errors
     ///

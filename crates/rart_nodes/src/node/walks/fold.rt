@@ -23,7 +23,7 @@ fn fold_values<'a, P: Partial, V, C: Count, S, F: FnMut(S, &V) -> S>(
     requires callable { CanFold F.FnMut f.old init (walk_values walk.old) }
     requires path { IsWalkAt walk.old [] }
     requires fits { walk.old.longest ≤ 2 ^ 64 }
-    ensures callable { F.IsAlwaysCallable f.old → F.IsAlwaysCallable f.new }
+    ensures stays_callable { F.IsAlwaysCallable f.old → F.IsAlwaysCallable f.new }
     ensures calls { FoldsEach F.FnMut f.old init (walk_values walk.old) f.new result }
     ensures visits { C.number counter.new ≤ C.number counter.old + walk_nodes walk.old }
 {
@@ -44,7 +44,7 @@ impl<'a, K: KeyTrait, V, C: Count> Seen<'a, K, V, C> {
         counter: &mut C,
     ) -> Result<S, TreeError>
         requires callable { CanFold F.FnMut f.old init (values_below prefix.now (seen_pairs self)) }
-        ensures callable { F.IsAlwaysCallable f.old → F.IsAlwaysCallable f.new }
+        ensures stays_callable { F.IsAlwaysCallable f.old → F.IsAlwaysCallable f.new }
         ensures calls { IfOk result (λ state. FoldsEach F.FnMut f.old init
             (values_below prefix.now (seen_pairs self.entry)) f.new state) }
         ensures unchanged { OnErr result (f.new ≡ f.old) }
@@ -80,7 +80,7 @@ impl<'a, K: KeyTrait, V, C: Count> Seen<'a, K, V, C> {
     ) -> Result<S, TreeError>
         requires callable { CanFold F.FnMut f.old init
             (values_below (K.bytes prefix.now) (seen_pairs self)) }
-        ensures callable { F.IsAlwaysCallable f.old → F.IsAlwaysCallable f.new }
+        ensures stays_callable { F.IsAlwaysCallable f.old → F.IsAlwaysCallable f.new }
         ensures calls { IfOk result (λ state. FoldsEach F.FnMut f.old init
             (values_below (K.bytes prefix.now) (seen_pairs self.entry)) f.new state) }
         ensures unchanged { OnErr result (f.new ≡ f.old) }
@@ -94,7 +94,7 @@ impl<'a, K: KeyTrait, V, C: Count> Seen<'a, K, V, C> {
         self.fold_below(prefix.as_ref(), init, f, counter)
     }
 
-    /// Folds as `prefix_values_fold_by_ref_k_counted` does, and drops `f`.
+    /// Folds as [`prefix_values_fold_by_ref_k_counted`](Self::prefix_values_fold_by_ref_k_counted) does, and drops `f`.
     ///
     /// # Errors
     ///
@@ -141,7 +141,7 @@ impl<'a, K: KeyTrait, V> Seen<'a, K, V, Visits> {
     ) -> Result<S, TreeError>
         requires callable { CanFold F.FnMut f.old init
             (values_below (K.bytes prefix.now) (seen_pairs self)) }
-        ensures callable { F.IsAlwaysCallable f.old → F.IsAlwaysCallable f.new }
+        ensures stays_callable { F.IsAlwaysCallable f.old → F.IsAlwaysCallable f.new }
         ensures calls { IfOk result (λ state. FoldsEach F.FnMut f.old init
             (values_below (K.bytes prefix.now) (seen_pairs self.entry)) f.new state) }
         ensures unchanged { OnErr result (f.new ≡ f.old) }
@@ -150,7 +150,7 @@ impl<'a, K: KeyTrait, V> Seen<'a, K, V, Visits> {
         self.prefix_values_fold_by_ref_k_counted(prefix, init, f, &mut Visits::new())
     }
 
-    /// Folds as `prefix_values_fold_by_ref_k` does, and drops `f`.
+    /// Folds as [`prefix_values_fold_by_ref_k`](Self::prefix_values_fold_by_ref_k) does, and drops `f`.
     ///
     /// # Errors
     ///

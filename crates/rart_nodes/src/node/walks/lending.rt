@@ -32,7 +32,7 @@ fn for_each_view_of<'a, P: Partial, V, C: Count, F: FnMut(LendingKeyView<'_, '_>
     requires path { IsWalkAt walk.old (lent_segments path.old.segments.items) }
     requires reserved { walk.old.longest ≤ vec_capacity path.old.segments }
     requires views { AreViews (walk_views path.old.segments.items walk.old) }
-    ensures callable { F.IsAlwaysCallable f.old → F.IsAlwaysCallable f.new }
+    ensures stays_callable { F.IsAlwaysCallable f.old → F.IsAlwaysCallable f.new }
     ensures calls { ViewsEach F.FnMut f.old (walk_views path.old.segments.items walk.old)
         f.new }
     ensures visits { C.number counter.new ≤ C.number counter.old + walk_nodes walk.old }
@@ -50,7 +50,7 @@ impl<'a, K: KeyTrait, V, C: Count> Seen<'a, K, V, C> {
         counter: &mut C,
     ) -> Result<(), TreeError>
         requires callable { CanView F.FnMut f.old (cut_below prefix.now (seen_pairs self)) }
-        ensures callable { F.IsAlwaysCallable f.old → F.IsAlwaysCallable f.new }
+        ensures stays_callable { F.IsAlwaysCallable f.old → F.IsAlwaysCallable f.new }
         ensures calls { OnOk result (ViewsEach F.FnMut f.old
             (cut_below prefix.now (seen_pairs self.entry)) f.new) }
         ensures unchanged { OnErr result (f.new ≡ f.old) }
@@ -85,7 +85,7 @@ impl<'a, K: KeyTrait, V, C: Count> Seen<'a, K, V, C> {
     ) -> Result<(), TreeError>
         requires callable { CanView F.FnMut f.old
             (cut_below (K.bytes prefix.now) (seen_pairs self)) }
-        ensures callable { F.IsAlwaysCallable f.old → F.IsAlwaysCallable f.new }
+        ensures stays_callable { F.IsAlwaysCallable f.old → F.IsAlwaysCallable f.new }
         ensures calls { OnOk result (ViewsEach F.FnMut f.old
             (cut_below (K.bytes prefix.now) (seen_pairs self.entry)) f.new) }
         ensures unchanged { OnErr result (f.new ≡ f.old) }
@@ -99,7 +99,8 @@ impl<'a, K: KeyTrait, V, C: Count> Seen<'a, K, V, C> {
         self.each_view_below(prefix.as_ref(), f, counter)
     }
 
-    /// Calls `f` as `prefix_for_each_view_by_ref_k_counted` does, and drops it.
+    /// Calls `f` as [`prefix_for_each_view_by_ref_k_counted`](Self::prefix_for_each_view_by_ref_k_counted) does, and
+    /// drops it.
     ///
     /// # Errors
     ///
@@ -144,7 +145,7 @@ impl<'a, K: KeyTrait, V, C: Count> Seen<'a, K, V, C> {
         counter: &mut C,
     ) -> Result<(), TreeError>
         requires callable { CanView F.FnMut f.old (cut_pairs (seen_keys self) (seen_pairs self)) }
-        ensures callable { F.IsAlwaysCallable f.old → F.IsAlwaysCallable f.new }
+        ensures stays_callable { F.IsAlwaysCallable f.old → F.IsAlwaysCallable f.new }
         ensures calls { OnOk result (ViewsEach F.FnMut f.old
             (cut_pairs (seen_keys self.entry) (seen_pairs self.entry)) f.new) }
         ensures unchanged { OnErr result (f.new ≡ f.old) }
@@ -158,7 +159,7 @@ impl<'a, K: KeyTrait, V, C: Count> Seen<'a, K, V, C> {
         self.each_view_below(&[], f, counter)
     }
 
-    /// Calls `f` as `for_each_view_by_ref_counted` does, and drops it.
+    /// Calls `f` as [`for_each_view_by_ref_counted`](Self::for_each_view_by_ref_counted) does, and drops it.
     ///
     /// # Errors
     ///

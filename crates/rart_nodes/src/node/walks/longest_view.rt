@@ -80,7 +80,7 @@ impl<'a, K: KeyTrait, V, C: Count> Seen<'a, K, V, C> {
     ) -> Result<bool, TreeError>
         requires callable { CanShowFound F.FnMut f.old (seen_keys self)
             (longest_match probe.now (seen_pairs self)) }
-        ensures callable { F.IsAlwaysCallable f.old → F.IsAlwaysCallable f.new }
+        ensures stays_callable { F.IsAlwaysCallable f.old → F.IsAlwaysCallable f.new }
         ensures calls { IfOk result (ShowsFound F.FnMut f.old (seen_keys self.entry)
             (longest_match probe.now (seen_pairs self.entry)) f.new) }
         ensures unchanged { OnErr result (f.new ≡ f.old) }
@@ -118,7 +118,7 @@ impl<'a, K: KeyTrait, V, C: Count> Seen<'a, K, V, C> {
     ) -> Result<bool, TreeError>
         requires callable { CanShowFound F.FnMut f.old (seen_keys self)
             (longest_match (K.bytes probe.now) (seen_pairs self)) }
-        ensures callable { F.IsAlwaysCallable f.old → F.IsAlwaysCallable f.new }
+        ensures stays_callable { F.IsAlwaysCallable f.old → F.IsAlwaysCallable f.new }
         ensures calls { IfOk result (ShowsFound F.FnMut f.old (seen_keys self.entry)
             (longest_match (K.bytes probe.now) (seen_pairs self.entry)) f.new) }
         ensures unchanged { OnErr result (f.new ≡ f.old) }
@@ -133,7 +133,9 @@ impl<'a, K: KeyTrait, V, C: Count> Seen<'a, K, V, C> {
         self.lend_longest_view(probe.as_ref(), f, counter)
     }
 
-    /// Calls `f` as `with_longest_prefix_match_view_by_ref_k_counted` does, and consumes it.
+    /// Calls `f` as
+    /// [`with_longest_prefix_match_view_by_ref_k_counted`](Self::with_longest_prefix_match_view_by_ref_k_counted) does,
+    /// and consumes it.
     ///
     /// # Errors
     ///

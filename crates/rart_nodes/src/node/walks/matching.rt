@@ -56,7 +56,7 @@ impl<'a, P: Partial, V, C: Count> Matching<'a, P, V, C> {
     /// Returns the next value whose key begins the probe. Its key is the first `depth` bytes.
     pub(crate) fn advance(&mut self, probe: &[u8], counter: &mut C) -> Option<&'a V>
         requires { self.old.depth ≤ length probe.now }
-        ensures shorter { self.new.depth ≤ length probe.now }
+        ensures at_most { self.new.depth ≤ length probe.now }
         ensures pairs { YieldsFirstBy (λ v. (take self.new.depth probe.now, v.now))
             (matches_left probe.now) self.old result self.new }
         ensures visits { C.number counter.new + entered_left probe.now self.new
@@ -102,7 +102,7 @@ impl<'a, K: KeyTrait, V, C: Count> Seen<'a, K, V, C> {
     ) -> Option<(usize, &'a V)>
         ensures pair { option_map (λ p. (take p.0 probe.now, p.1.now)) result
             ≡ longest_match probe.now (seen_pairs self.entry) }
-        ensures shorter { IfSome result (λ p. p.0 ≤ length probe.now) }
+        ensures at_most { IfSome result (λ p. p.0 ≤ length probe.now) }
         ensures visits { C.number counter.new ≡ C.number counter.old
             + probe_count (seen_keys self.entry) probe.now }
         ensures bound { C.number counter.new ≤ C.number counter.old + length probe.now + 1 }
@@ -196,7 +196,7 @@ impl<'a, K: KeyTrait, V, C: Count> Seen<'a, K, V, C> {
         counter: &mut C,
     )
         requires callable { CanMatch F.FnMut f.old (matches probe.now (seen_pairs self)) }
-        ensures callable { F.IsAlwaysCallable f.old → F.IsAlwaysCallable f.new }
+        ensures stays_callable { F.IsAlwaysCallable f.old → F.IsAlwaysCallable f.new }
         ensures calls { MatchesEach F.FnMut f.old
             (matches probe.now (seen_pairs self.entry)) f.new }
         ensures visits { C.number counter.new ≡ C.number counter.old
@@ -209,7 +209,8 @@ impl<'a, K: KeyTrait, V, C: Count> Seen<'a, K, V, C> {
         }
     }
 
-    /// Calls `f` as `prefix_match_for_each_by_ref_bytes_counted` does, and drops it.
+    /// Calls `f` as [`prefix_match_for_each_by_ref_bytes_counted`](Self::prefix_match_for_each_by_ref_bytes_counted)
+    /// does, and drops it.
     ///
     /// # Visits
     ///
@@ -229,7 +230,8 @@ impl<'a, K: KeyTrait, V, C: Count> Seen<'a, K, V, C> {
         self.prefix_match_for_each_by_ref_bytes_counted(probe, &mut f, counter);
     }
 
-    /// Calls `f` as `prefix_match_for_each_by_ref_bytes_counted` does, with the bytes of `probe`.
+    /// Calls `f` as [`prefix_match_for_each_by_ref_bytes_counted`](Self::prefix_match_for_each_by_ref_bytes_counted)
+    /// does, with the bytes of `probe`.
     ///
     /// # Visits
     ///
@@ -241,7 +243,7 @@ impl<'a, K: KeyTrait, V, C: Count> Seen<'a, K, V, C> {
         counter: &mut C,
     )
         requires callable { CanMatch F.FnMut f.old (matches (K.bytes probe.now) (seen_pairs self)) }
-        ensures callable { F.IsAlwaysCallable f.old → F.IsAlwaysCallable f.new }
+        ensures stays_callable { F.IsAlwaysCallable f.old → F.IsAlwaysCallable f.new }
         ensures calls { MatchesEach F.FnMut f.old
             (matches (K.bytes probe.now) (seen_pairs self.entry)) f.new }
         ensures visits { C.number counter.new
@@ -252,7 +254,8 @@ impl<'a, K: KeyTrait, V, C: Count> Seen<'a, K, V, C> {
         self.prefix_match_for_each_by_ref_bytes_counted(probe.as_ref(), f, counter);
     }
 
-    /// Calls `f` as `prefix_match_for_each_by_ref_k_counted` does, and drops it.
+    /// Calls `f` as [`prefix_match_for_each_by_ref_k_counted`](Self::prefix_match_for_each_by_ref_k_counted) does, and
+    /// drops it.
     ///
     /// # Visits
     ///

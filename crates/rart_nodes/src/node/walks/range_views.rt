@@ -50,7 +50,7 @@ fn for_each_view_to<'a, K: KeyTrait, V, C: Count, F: FnMut(LendingKeyView<'_, '_
     requires path { IsWalkAt walk.old (lent_segments path.old.segments.items) }
     requires reserved { walk.old.longest ≤ vec_capacity path.old.segments }
     requires views { AreViews (walk_views path.old.segments.items walk.old) }
-    ensures callable { F.IsAlwaysCallable f.old → F.IsAlwaysCallable f.new }
+    ensures stays_callable { F.IsAlwaysCallable f.old → F.IsAlwaysCallable f.new }
     ensures calls { ViewsEach F.FnMut f.old (entries_to (bound_in K.bytes end.now)
         (walk_views path.old.segments.items walk.old)) f.new }
     ensures visits { (h : ℕ) → AreLow h (reverse walk.old.levels.items) →
@@ -89,7 +89,7 @@ impl<'a, K: KeyTrait + Drop, V, C: Count> Seen<'a, K, V, C> {
     ) -> Result<(), TreeError>
         requires callable { CanView F.FnMut f.old
             (cut_between (bound_in K.bytes start) (bound_in K.bytes end) (seen_pairs self)) }
-        ensures callable { F.IsAlwaysCallable f.old → F.IsAlwaysCallable f.new }
+        ensures stays_callable { F.IsAlwaysCallable f.old → F.IsAlwaysCallable f.new }
         ensures calls { OnOk result (ViewsEach F.FnMut f.old
             (cut_between (bound_in K.bytes start) (bound_in K.bytes end)
             (seen_pairs self.entry)) f.new) }
@@ -109,7 +109,8 @@ impl<'a, K: KeyTrait + Drop, V, C: Count> Seen<'a, K, V, C> {
         Ok(())
     }
 
-    /// Calls `f` as `for_each_range_view_by_ref_counted` does, and drops it.
+    /// Calls `f` as [`for_each_range_view_by_ref_counted`](Self::for_each_range_view_by_ref_counted) does, and drops
+    /// it.
     ///
     /// # Errors
     ///

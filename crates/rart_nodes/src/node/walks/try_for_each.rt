@@ -22,7 +22,7 @@ fn try_for_each<'a, P: Partial, V, C: Count, E, F: FnMut(&V) -> Result<VisitCont
     requires callable { CanTry F.FnMut f.old (walk_values walk.old) }
     requires path { IsWalkAt walk.old [] }
     requires fits { walk.old.longest ≤ 2 ^ 64 }
-    ensures callable { F.IsAlwaysCallable f.old → F.IsAlwaysCallable f.new }
+    ensures stays_callable { F.IsAlwaysCallable f.old → F.IsAlwaysCallable f.new }
     ensures calls { EndsAs F.FnMut f.old (walk_values walk.old) result f.new }
     ensures visits { C.number counter.new ≤ C.number counter.old + walk_nodes walk.old }
 {
@@ -57,7 +57,7 @@ impl<'a, K: KeyTrait, V, C: Count> Seen<'a, K, V, C> {
     ) -> Result<(), VisitError<E>>
         requires callable { CanTry F.FnMut f.old
             (values_below (K.bytes prefix.now) (seen_pairs self)) }
-        ensures callable { F.IsAlwaysCallable f.old → F.IsAlwaysCallable f.new }
+        ensures stays_callable { F.IsAlwaysCallable f.old → F.IsAlwaysCallable f.new }
         ensures calls { EndsVisit F.FnMut f.old
             (values_below (K.bytes prefix.now) (seen_pairs self.entry)) result f.new }
         ensures memory { IfErr result (MayStopForMemory (seen_pairs self.entry)) }
@@ -76,7 +76,8 @@ impl<'a, K: KeyTrait, V, C: Count> Seen<'a, K, V, C> {
         }
     }
 
-    /// Calls `f` as `try_prefix_values_for_each_by_ref_k_counted` does, and drops it.
+    /// Calls `f` as [`try_prefix_values_for_each_by_ref_k_counted`](Self::try_prefix_values_for_each_by_ref_k_counted)
+    /// does, and drops it.
     ///
     /// # Errors
     ///
@@ -121,7 +122,7 @@ impl<'a, K: KeyTrait, V> Seen<'a, K, V, Visits> {
     ) -> Result<(), VisitError<E>>
         requires callable { CanTry F.FnMut f.old
             (values_below (K.bytes prefix.now) (seen_pairs self)) }
-        ensures callable { F.IsAlwaysCallable f.old → F.IsAlwaysCallable f.new }
+        ensures stays_callable { F.IsAlwaysCallable f.old → F.IsAlwaysCallable f.new }
         ensures calls { EndsVisit F.FnMut f.old
             (values_below (K.bytes prefix.now) (seen_pairs self.entry)) result f.new }
         ensures memory { IfErr result (MayStopForMemory (seen_pairs self.entry)) }
@@ -129,7 +130,8 @@ impl<'a, K: KeyTrait, V> Seen<'a, K, V, Visits> {
         self.try_prefix_values_for_each_by_ref_k_counted(prefix, f, &mut Visits::new())
     }
 
-    /// Calls `f` as `try_prefix_values_for_each_by_ref_k` does, and drops it.
+    /// Calls `f` as [`try_prefix_values_for_each_by_ref_k`](Self::try_prefix_values_for_each_by_ref_k) does, and drops
+    /// it.
     ///
     /// # Errors
     ///

@@ -26,7 +26,7 @@ fn for_each_value<'a, P: Partial, V, C: Count, F: FnMut(&V)>(
     requires callable { CanShow F.FnMut f.old (walk_values walk.old) }
     requires path { IsWalkAt walk.old [] }
     requires fits { walk.old.longest ≤ 2 ^ 64 }
-    ensures callable { F.IsAlwaysCallable f.old → F.IsAlwaysCallable f.new }
+    ensures stays_callable { F.IsAlwaysCallable f.old → F.IsAlwaysCallable f.new }
     ensures calls { ShowsEach F.FnMut f.old (walk_values walk.old) f.new }
     ensures visits { C.number counter.new ≤ C.number counter.old + walk_nodes walk.old }
 {
@@ -44,7 +44,7 @@ impl<'a, K: KeyTrait, V, C: Count> Seen<'a, K, V, C> {
         counter: &mut C,
     ) -> Result<(), TreeError>
         requires callable { CanShow F.FnMut f.old (values_below prefix.now (seen_pairs self)) }
-        ensures callable { F.IsAlwaysCallable f.old → F.IsAlwaysCallable f.new }
+        ensures stays_callable { F.IsAlwaysCallable f.old → F.IsAlwaysCallable f.new }
         ensures calls { OnOk result
             (ShowsEach F.FnMut f.old (values_below prefix.now (seen_pairs self.entry)) f.new) }
         ensures unchanged { OnErr result (f.new ≡ f.old) }
@@ -79,7 +79,7 @@ impl<'a, K: KeyTrait, V, C: Count> Seen<'a, K, V, C> {
     ) -> Result<(), TreeError>
         requires callable { CanShow F.FnMut f.old
             (values_below (K.bytes prefix.now) (seen_pairs self)) }
-        ensures callable { F.IsAlwaysCallable f.old → F.IsAlwaysCallable f.new }
+        ensures stays_callable { F.IsAlwaysCallable f.old → F.IsAlwaysCallable f.new }
         ensures calls { OnOk result (ShowsEach F.FnMut f.old
             (values_below (K.bytes prefix.now) (seen_pairs self.entry)) f.new) }
         ensures unchanged { OnErr result (f.new ≡ f.old) }
@@ -93,7 +93,8 @@ impl<'a, K: KeyTrait, V, C: Count> Seen<'a, K, V, C> {
         self.each_value_below(prefix.as_ref(), f, counter)
     }
 
-    /// Calls `f` as `prefix_values_for_each_by_ref_k_counted` does, and drops it.
+    /// Calls `f` as [`prefix_values_for_each_by_ref_k_counted`](Self::prefix_values_for_each_by_ref_k_counted) does,
+    /// and drops it.
     ///
     /// # Errors
     ///
@@ -137,7 +138,7 @@ impl<'a, K: KeyTrait, V> Seen<'a, K, V, Visits> {
     ) -> Result<(), TreeError>
         requires callable { CanShow F.FnMut f.old
             (values_below (K.bytes prefix.now) (seen_pairs self)) }
-        ensures callable { F.IsAlwaysCallable f.old → F.IsAlwaysCallable f.new }
+        ensures stays_callable { F.IsAlwaysCallable f.old → F.IsAlwaysCallable f.new }
         ensures calls { OnOk result (ShowsEach F.FnMut f.old
             (values_below (K.bytes prefix.now) (seen_pairs self.entry)) f.new) }
         ensures unchanged { OnErr result (f.new ≡ f.old) }
@@ -146,7 +147,7 @@ impl<'a, K: KeyTrait, V> Seen<'a, K, V, Visits> {
         self.prefix_values_for_each_by_ref_k_counted(prefix, f, &mut Visits::new())
     }
 
-    /// Calls `f` as `prefix_values_for_each_by_ref_k` does, and drops it.
+    /// Calls `f` as [`prefix_values_for_each_by_ref_k`](Self::prefix_values_for_each_by_ref_k) does, and drops it.
     ///
     /// # Errors
     ///

@@ -4,7 +4,7 @@ use Rattle.rart_parts.proofs.laws.free_byte.Goals as goal
 
 pub returns : goal.returns
 returns g c = record {
-  few = λ k es less free ascends above. omega (
+  at_most = λ k es less free ascends above. omega (
     arith,
     length-between_absent 0 256 k es (omega arith) less free ascends (λ b l. absurd (omega (arith, l)))
         above,

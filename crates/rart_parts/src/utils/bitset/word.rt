@@ -19,7 +19,7 @@ pub trait BitsetWord: Copy {
 
     /// Returns the word as a number.
     fn to_u64(self) -> u64
-        ensures same { result ≡ number self }
+        ensures number_kept { result ≡ number self }
         ensures fits { result < 2 ^ WIDTH };
 
     /// Returns the word of a number below `2^WIDTH`.

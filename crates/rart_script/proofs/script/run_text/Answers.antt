@@ -3,7 +3,7 @@ use Rattle.std.specs.Option.{option_map}
 use Rattle.std.proofs.lemmas.List.{length_push}
 use Rattle.std.proofs.lemmas.Iterator.Consumers.{YieldsList-from_first, YieldsList-from_enumerate, YieldsList-turn}
 use Rattle.std.proofs.lemmas.Iterator.Consumers.{YieldsList-end}
-use Rattle.rart_script.specs.Command.{asked_by}
+use Rattle.rart_script.specs.Command.{requested_call}
 use Rattle.rart_lines.specs.Lines.{lines_of, lines_left}
 use Rattle.rart_lines.proofs.RunLemmas.{HasRun, lines-go_on}
 use Rattle.rart_script.specs.Script.{IsAnswered}
@@ -18,7 +18,7 @@ returns-in_default-clause-lines g c =
     let turn = YieldsList-turn all c.loop-index.yielded _ c.loop-index.yielded_by _ c.next.new.self
     (c.in-Some.index, c.in-Some.line) c.in-Some.is c.next.ensures.steps in
     bad_line-at_next c.args.text.now _ _ _ turn c.loop-index.invariant.commands (sym c.parse_command.ensures
-    ∙ ap (option_map asked_by) c.in_default.is)
+    ∙ ap (option_map requested_call) c.in_default.is)
 
 pub loop-index-preserved : goal.loop-index-preserved
 loop-index-preserved g c =
@@ -27,7 +27,7 @@ loop-index-preserved g c =
     source) (cc) in
     let turn = YieldsList-turn all c.loop-index.yielded _ c.loop-index.yielded_by _ c.next.new.self
     (c.in-Some.index, c.in-Some.line) c.in-Some.is c.next.ensures.steps in
-    let is = sym c.parse_command.ensures ∙ ap (option_map asked_by) c.in-Some-parse_command.is in
+    let is = sym c.parse_command.ensures ∙ ap (option_map requested_call) c.in-Some-parse_command.is in
     record {
       commands = subst (AreCommands c.args.text.now) (sym (length_push c.loop-index.yielded _))
           (AreCommands-next c.args.text.now _ _ _ _ turn c.loop-index.invariant.commands is);

@@ -6,7 +6,7 @@ pub of_keys_and_values-requires-clause-ascending :
 of_keys_and_values-requires-clause-ascending g c =
     rw c.deref.ensures.value (sorted-ascends g.I.IntoIterator.into_iter_gives g.I.IntoIter.Iterator.next_gives
     c.args.items g.K.KeyTrait.bytes c.in_ok-keys.keys.items c.in_ok-keys.values.items c.in_ok-keys.ensures.read
-    c.bulk_lists.ensures.ascends)
+    c.bulk_lists.ensures.ascending)
 
 pub returns-clause-faultless : goal.returns-clause-faultless
 returns-clause-faultless g c =
@@ -18,6 +18,6 @@ returns-clause-faultless g c =
 pub returns-clause-refused : goal.returns-clause-refused
 returns-clause-refused g c =
     sorted-refused g.I.IntoIterator.into_iter_gives g.I.IntoIter.Iterator.next_gives c.args.items g.K.KeyTrait.bytes
-    c.in_ok-keys.keys.items c.in_ok-keys.values.items c.in_ok-keys.ensures.read c.in_ok-keys.ensures.most
+    c.in_ok-keys.keys.items c.in_ok-keys.values.items c.in_ok-keys.ensures.read c.in_ok-keys.ensures.at_most
     c.of_keys_and_values.result
-    c.of_keys_and_values.ensures.memory (rw c.deref.ensures.value at c.of_keys_and_values.ensures.some)
+    c.of_keys_and_values.ensures.memory (rw c.deref.ensures.value at c.of_keys_and_values.ensures.nonempty)

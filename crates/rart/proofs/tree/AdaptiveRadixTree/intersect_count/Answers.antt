@@ -9,5 +9,5 @@ returns g c =
       count,
       c.joins.ensures.join_length c.args.self.now.pairs c.args.other.now.pairs,
       c.len.ensures.value,
-      c.len.ensures.most,
+      c.len.ensures.at_most,
     )

@@ -14,7 +14,7 @@ returns-in-Err-put_pair-clause-refused g c =
     first-refused g.K.KeyTrait.bytes c.args.self.now.pairs c.args.other.now.pairs c.put_pair.new.self.pairs
     c.pop_first.new.self.pairs c.put_pair.new.other.pairs c.in-Ok-Some.key c.in-Ok-Some.value c.in-Err-put_pair.refused
     (rw c.in-Ok-Some.field-0-is at c.in-Ok-Some.ensures.pairs) c.canonical.ensures.ascending
-    (rw (← c.len-len.ensures.value) c.len-len.ensures.most)
+    (rw (← c.len-len.ensures.value) c.len-len.ensures.at_most)
     (ap (λ t. t.pairs) c.in-Err-put_pair.ensures.unchanged) c.in-Err-put_pair.ensures.refused
     c.in-Err-put_pair.ensures.put_back
 

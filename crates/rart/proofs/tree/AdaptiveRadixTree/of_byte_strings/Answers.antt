@@ -10,12 +10,12 @@ pub invariant_of-result : goal.invariant_of-result
 invariant_of-result g c =
     let count = sym (length-map c.args.keys.now (λ k. k.now)) in
     let fields = loaded-fields g.K.KeyTrait.MAXIMUM_SIZE (pairs_of c.in-Ok.root) (keys_in c.args.keys.now) _ _ MAX_PAIRS
-    c.in-Ok.ensures.keys count (omega (arith, count, c.requires.most)) c.longest_of.ensures c.requires.within in
+    c.in-Ok.ensures.keys count (omega (arith, count, c.requires.at_most)) c.longest_of.ensures c.requires.within in
     record {
       canonical = c.in-Ok.ensures.canonical;
       counted = fields.0;
-      most = fields.1;
+      at_most = fields.1;
       short = fields.2;
       within = fields.3;
-      unused = λ z. omega (arith, z, count, c.requires.some);
+      unused = λ z. omega (arith, z, count, c.requires.nonempty);
     }

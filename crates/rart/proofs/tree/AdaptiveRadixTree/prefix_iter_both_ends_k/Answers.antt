@@ -8,8 +8,8 @@ of-requires-clause-ascending g c = subst IsAscending (sym (without-end _ _ _ c.f
     (c.for_iter.ensures.pairs ∙ c.in_ok-front.ensures.pairs)))
     (ascending-below (g.K.KeyTrait.bytes c.args.prefix.now) c.args.self.now.pairs c.canonical.ensures.ascending)
 
-pub of-requires-clause-same : goal.of-requires-clause-same
-of-requires-clause-same g c = c.in_ok-back.ensures.pairs ∙ ap reverse (sym (without-end _ _ _ c.for_iter.ensures.end
+pub of-requires-clause-reversed : goal.of-requires-clause-reversed
+of-requires-clause-reversed g c = c.in_ok-back.ensures.pairs ∙ ap reverse (sym (without-end _ _ _ c.for_iter.ensures.end
     (c.for_iter.ensures.pairs ∙ c.in_ok-front.ensures.pairs)))
 
 pub returns-clause-pairs : goal.returns-clause-pairs

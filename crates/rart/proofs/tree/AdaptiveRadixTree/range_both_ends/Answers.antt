@@ -7,6 +7,6 @@ pub of-requires-clause-ascending : goal.of-requires-clause-ascending
 of-requires-clause-ascending g c = subst IsAscending (sym c.in_ok-front.ensures.pairs)
     (ascending-between _ _ c.args.self.now.pairs c.canonical.ensures.ascending)
 
-pub of-requires-clause-same : goal.of-requires-clause-same
-of-requires-clause-same g c = (rw (c.copied_bound.ensures, c.copied_bound-2.ensures) at c.in_ok-back.ensures.pairs)
+pub of-requires-clause-reversed : goal.of-requires-clause-reversed
+of-requires-clause-reversed g c = (rw (c.copied_bound.ensures, c.copied_bound-2.ensures) at c.in_ok-back.ensures.pairs)
     ∙ ap reverse (sym c.in_ok-front.ensures.pairs)

@@ -6,7 +6,7 @@ returns-in-Some-shortest g c = rw (← c.self.view_is)
     (first_in_stride c.self.inside.strides.pairs c.args.octets.now _ c.args.bits c.args.low _ c.bits_after-most.result
     c.in-Some-shortest.count c.in-Some-shortest.target.now c.in-Some.stride.now c.canonical.ensures.ascending
     c.self.invariant.formed (λ k. (c.type_inv.octets k).fits) c.requires.bits c.first_octets.ensures c.in-Some.ensures
-    c.octet_at.ensures c.bits_after-most.ensures.small c.bits_after-most.ensures.shorter c.in-Some-shortest.ensures)
+    c.octet_at.ensures c.bits_after-most.ensures.small c.bits_after-most.ensures.at_most c.in-Some-shortest.ensures)
 
 pub returns-in-None-shortest : goal.returns-in-None-shortest
 returns-in-None-shortest g c = rw (← c.self.view_is)

@@ -12,7 +12,7 @@ invariant_of-self-lent g c =
     let n : network c.octets.result.now c.from.result ≡ bits4 c.args.net.now
     = ap (network c.octets.result.now) (c.from.ensures ∙ c.len.ensures.value) ∙ c.octets.ensures.value in
     let few : length (network c.octets.result.now c.from.result) ≤ 32
-    = omega (arith, ap length n, c.len.ensures.value, c.len.ensures.most) in
+    = omega (arith, ap length n, c.len.ensures.value, c.len.ensures.at_most) in
     λ _. (
       λ w.
           let left = lent_some c.get_mut.result _ c.get_mut.ensures.value

@@ -2,6 +2,6 @@ use Rattle.rart_cidr.specs.Networks.{bits4}
 use Rattle.rart_cidr.proofs.LongestLemmas.{longest-route}
 use Rattle.rart_cidr.proofs.table4.CidrTable4.longest_match_net.Goals as goal
 
-pub returns-clause-longest : goal.returns-clause-longest
-returns-clause-longest g c = longest-route (bits4 c.args.net.now) c.args.self.now _ c.ascends.ensures
+pub returns-clause-longest_match : goal.returns-clause-longest_match
+returns-clause-longest_match g c = longest-route (bits4 c.args.net.now) c.args.self.now _ c.ascends.ensures
     (rw c.seen.ensures at c.longest_match_net_counted.ensures.value)

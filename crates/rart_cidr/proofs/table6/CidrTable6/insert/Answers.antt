@@ -9,6 +9,6 @@ invariant_of-self g c =
     let n : network c.octets.result.now c.from.result ≡ bits6 c.args.net.now
     = ap (network c.octets.result.now) (c.from.ensures ∙ c.len.ensures.value) ∙ c.octets.ensures.value in
     let few : length (network c.octets.result.now c.from.result) ≤ 128
-    = omega (arith, ap length n, c.len.ensures.value, c.len.ensures.most) in
+    = omega (arith, ap length n, c.len.ensures.value, c.len.ensures.at_most) in
     insert_within 128 (network c.octets.result.now c.from.result) c.args.target c.self.inside.routes
     c.insert.new.self c.insert.result few c.insert.ensures c.self.invariant

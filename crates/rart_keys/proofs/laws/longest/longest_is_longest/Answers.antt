@@ -2,4 +2,10 @@ use Rattle.rart_keys.proofs.LongestStored.{lengths-ascend, longest-stored, no-ma
 use Rattle.rart_keys.proofs.laws.longest.longest_is_longest.Goals as goal
 
 pub returns : goal.returns
-returns g c = record { longest = longest-stored; only = stored-longest; none = no-match; lengths = lengths-ascend }
+returns g c = record {
+  longest_match = longest-stored;
+  only = stored-longest;
+  none = no-match;
+  lengths =
+      lengths-ascend;
+}

@@ -51,12 +51,12 @@ build_below-requires g t c κs within =
     let h = c.loop-rest.invariant.building in
     let now = c.first_group-byte.ensures in
     let placed = c.loop-rest.invariant.placed in
-    let part = length-take-le _ c.loop-rest.rest.now now.within in
-    let fewer = next-fewer _ _ _ _ _ _ _ _ _ _ _ _ _ h _ (omega (arith, c.loop-rest-test.true)) now.run now.within in
-    let stretch = next-stretch _ _ _ _ _ _ _ _ _ _ _ _ _ h _ _ refl now.some now.within in
-    let callable = next-callable _ _ _ _ _ _ _ _ _ _ _ _ _ h _ (omega (arith, part, now.within)) in (
+    let part = length-take-le _ c.loop-rest.rest.now now.at_most in
+    let fewer = next-fewer _ _ _ _ _ _ _ _ _ _ _ _ _ h _ (omega (arith, c.loop-rest-test.true)) now.run now.at_most in
+    let stretch = next-stretch _ _ _ _ _ _ _ _ _ _ _ _ _ h _ _ refl now.nonempty now.at_most in
+    let callable = next-callable _ _ _ _ _ _ _ _ _ _ _ _ _ h _ (omega (arith, part, now.at_most)) in (
       omega (arith, c.decreases, fewer, part),
-      (within.0, (within.1.0, (within.1.1, (stretch, (omega (arith, placed, part, now.within), callable))))),
+      (within.0, (within.1.0, (within.1.1, (stretch, (omega (arith, placed, part, now.at_most), callable))))),
     )
 
 pub returns-in_default-clause-values_taken : goal.returns-in_default-clause-values_taken
@@ -91,14 +91,14 @@ loop-rest-preserved g t c =
     elim c.if-end-eq1.branch [
       | then-end-eq1 w ↦ started _ _ _ _ _ _ _ _ _ _ _ _ _
           (rw (w.storage-is, w.take_value-is) (building-leaf _ _ _ _ _ _ _ _ _ _ _ _ _ c.loop-rest.invariant.building
-          _ _ _ _ _ _ _ _ _ _ some now.run w.if-end-eq1.true now.within now.byte (slice_from-is c.loop-rest.rest.now _)
+          _ _ _ _ _ _ _ _ _ _ some now.run w.if-end-eq1.true now.at_most now.byte (slice_from-is c.loop-rest.rest.now _)
           (slice_from-is (get_or c.loop-rest.rest.now 0 (record { ref_ptr = (0, 0); now = [] })).now _)
           w.take_value-then-end-eq1.ensures w.add_leaf.ensures.entries w.add_leaf.ensures.capacity refl))
       | else-end-eq1+in-Ok w ↦
           let child = w.in-Ok.ensures in
           started _ _ _ _ _ _ _ _ _ _ _ _ _
           (rw (w.storage-is, w.take_value-is) (building-step _ _ _ _ _ _ _ _ _ _ _ _ _ c.loop-rest.invariant.building
-          _ _ _ _ _ _ _ _ _ some now.run now.some now.within now.byte refl (slice_from-is c.loop-rest.rest.now _)
+          _ _ _ _ _ _ _ _ _ some now.run now.nonempty now.at_most now.byte refl (slice_from-is c.loop-rest.rest.now _)
           child.canonical child.keys child.values (rw w.first_part-prefix.ensures at w.add_node.ensures.entries)
           w.add_node.ensures.capacity refl))
     ]

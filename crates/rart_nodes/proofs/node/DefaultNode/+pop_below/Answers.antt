@@ -118,7 +118,7 @@ take_leaf-requires g t c =
           (joins-canonical _ _ _ (storage_capacity c.self.inside.storage) _ (rw
           (← c.self.view_is) at c.requires.canonical)
           (rw (← c.self.view_is) at fits));
-      present = λ lost. some-there child _ found lost;
+      stored = λ lost. some-there child _ found lost;
       leaf = rw found (ap edges_of none);
       empty = c.requires.empty;
     }

@@ -49,11 +49,11 @@ returns-in-Some-seek_child_mut g t c =
           c.put_below.ensures.answer;
       unchanged = on_err_weaker c.put_below.result (λ e. rw (← c.self.view_is)
           (child-put_back _ _ _ _ _ _ _ _ _ on.there e left.0 left.1)) c.put_below.ensures.unchanged;
-      fresh = on_ok_weaker c.put_below.result (λ fresh only. rw (← c.self.view_is) (trie_lookup-child on ∙ fresh only))
-          c.put_below.ensures.fresh;
+      absent = on_ok_weaker c.put_below.result (λ fresh only. rw (← c.self.view_is) (trie_lookup-child on ∙ fresh only))
+          c.put_below.ensures.absent;
       returned = c.put_below.ensures.returned;
-      why = if_err_weaker c.put_below.result (λ stop why. rw (← c.self.view_is)
-          (entries-below on c.args.only_new stop why)) c.put_below.ensures.why;
+      refused = if_err_weaker c.put_below.result (λ stop why. rw (← c.self.view_is)
+          (entries-below on c.args.only_new stop why)) c.put_below.ensures.refused;
     }
 
 -- there is no child
@@ -76,14 +76,14 @@ returns-in-Ok-reserve_slot-clause-answer g t c
     (child_entries c.self.inside.storage)
     c.in-Some.ensures c.in-Some-first.ensures.value c.in_default-seek_child_mut.ensures.value))
 
-pub returns-in-Ok-reserve_slot-clause-fresh : goal.returns-in-Ok-reserve_slot-clause-fresh
-returns-in-Ok-reserve_slot-clause-fresh g t c only
+pub returns-in-Ok-reserve_slot-clause-absent : goal.returns-in-Ok-reserve_slot-clause-absent
+returns-in-Ok-reserve_slot-clause-absent g t c only
     = rw (← c.self.view_is) (trie_lookup-no_child _ c.args.key.now _ _ _ (storage_capacity c.self.inside.storage)
     (child_entries c.self.inside.storage)
     c.in-Some.ensures c.in-Some-first.ensures.value c.in_default-seek_child_mut.ensures.value)
 
-pub returns-in-Err-reserve_slot-clause-why : goal.returns-in-Err-reserve_slot-clause-why
-returns-in-Err-reserve_slot-clause-why g t c =
+pub returns-in-Err-reserve_slot-clause-refused : goal.returns-in-Err-reserve_slot-clause-refused
+returns-in-Err-reserve_slot-clause-refused g t c =
     let left = c.seek_child_mut.follows.holds-at-none in
     rw (← c.self.view_is) (
       put_allocation-full _ c.args.key.now _ c.self.inside.value (storage_capacity c.self.inside.storage) _ _

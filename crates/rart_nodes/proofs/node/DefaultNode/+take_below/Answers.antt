@@ -112,7 +112,7 @@ take_leaf-requires g t c =
     record {
       within = rw (left.1 ∙ replaced-same _ child (child_entries c.self.inside.storage) on.there) (joins-canonical _ _ _
           (storage_capacity c.self.inside.storage) _ on.canonical (rw (← c.self.view_is) at c.requires.within));
-      present = λ none. some-there child _ found none;
+      stored = λ none. some-there child _ found none;
       leaf = rw found (leaf-edges _ child (sym c.is_leaf_at.ensures ∙ c.if-not-is_leaf_at.false));
       empty = c.requires.empty;
     }

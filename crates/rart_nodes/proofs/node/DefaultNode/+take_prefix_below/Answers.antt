@@ -121,8 +121,8 @@ take_whole-requires-clause-within g t c =
     (longest_key (pairs_of c.args.self.now)) (omega arith) c.requires.within in
     rw same (joins-canonical _ _ _ (storage_capacity c.self.inside.storage) _ canonical (rw (← c.self.view_is) at fits))
 
-pub take_whole-requires-clause-present : goal.take_whole-requires-clause-present
-take_whole-requires-clause-present g t c =
+pub take_whole-requires-clause-stored : goal.take_whole-requires-clause-stored
+take_whole-requires-clause-stored g t c =
     let left = rw c.in-Some-seek_child_mut.is at c.seek_child_mut.follows.holds c.in-Some-seek_child_mut.child.now in
     let same = left.1 ∙ replaced-same _ c.in-Some-seek_child_mut.child.now (child_entries c.self.inside.storage)
     c.in-Some-seek_child_mut.ensures.value in

@@ -186,7 +186,7 @@ remove_leaf-requires g t c =
     record {
       within = joins-holding _ _ _ _ _ _ _ _ on.there lost.2 left.1 (joins-canonical _ _ _
           (storage_capacity c.self.inside.storage) _ on.canonical (rw (← c.self.view_is) at c.requires.within));
-      present = some-there c.update_leaf.new.self _ found;
+      stored = some-there c.update_leaf.new.self _ found;
       leaf = rw found (
         holding-edges _ _ _ c.update_leaf.new.self (at-leaf g t at.Else-not-is_leaf_at) lost.2,
         holding-some _ _ c.update_leaf.new.self lost.1 lost.2,

@@ -4,8 +4,8 @@ use Rattle.rart_nodes.proofs.edits.ValueChangeLemmas.{always-after-changes, chan
 use Rattle.rart_nodes.proofs.shapes.ShapeLemmas.{equal_nodes}
 use Rattle.rart_nodes.proofs.node.DefaultNode.change_values.Goals as goal
 
-pub returns-in-Some-clause-callable : goal.returns-in-Some-clause-callable
-returns-in-Some-clause-callable g c = always-after-changes _ c.args.prefix.now (pairs_of c.in-Some.node)
+pub returns-in-Some-clause-stays_callable : goal.returns-in-Some-clause-stays_callable
+returns-in-Some-clause-stays_callable g c = always-after-changes _ c.args.prefix.now (pairs_of c.in-Some.node)
     (pairs_of c.change_below.new.self) c.args.f.now c.change_below.new.f c.change_below.ensures.changes
 
 pub returns-in-Some-clause-nodes : goal.returns-in-Some-clause-nodes
@@ -17,6 +17,6 @@ pub returns-in-Some-clause-length : goal.returns-in-Some-clause-length
 returns-in-Some-clause-length g c = rw c.in-Some.is (lengths-alike (pairs_of c.change_below.new.self)
     (pairs_of c.in-Some.node) (changes-keys _ c.args.prefix.now _ _ _ _ c.change_below.ensures.changes))
 
-pub returns-in-Some-clause-longest : goal.returns-in-Some-clause-longest
-returns-in-Some-clause-longest g c = rw c.in-Some.is (longest-alike (pairs_of c.change_below.new.self)
+pub returns-in-Some-clause-longest_key : goal.returns-in-Some-clause-longest_key
+returns-in-Some-clause-longest_key g c = rw c.in-Some.is (longest-alike (pairs_of c.change_below.new.self)
     (pairs_of c.in-Some.node) (changes-keys _ c.args.prefix.now _ _ _ _ c.change_below.ensures.changes))

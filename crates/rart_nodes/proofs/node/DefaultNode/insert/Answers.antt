@@ -30,7 +30,7 @@ returns g c =
             ∙ pairs),
         ap count_of (a ∙ answer),
       )) c.put.ensures.ok c.put.ensures.answer;
-      longest = on_ok_weaker c.put.result (λ e. omega (
+      longest_key = on_ok_weaker c.put.result (λ e. omega (
         arith,
         ap longest_key (ap pairs_of e ∙ pairs),
         longest_key-put key c.args.value

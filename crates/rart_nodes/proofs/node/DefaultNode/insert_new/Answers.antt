@@ -20,7 +20,8 @@ returns g c =
       canonical = on_ok_weaker c.put_new.result (λ e. rw e (canonical-put key c.args.value old canonical))
           c.put_new.ensures.ok;
       pairs = on_ok_weaker c.put_new.result (λ e. ap pairs_of e ∙ pairs) c.put_new.ensures.ok;
-      fresh = on_ok_weaker c.put_new.result (λ none. lookup-pairs_of key old canonical ∙ none) c.put_new.ensures.fresh;
+      absent = on_ok_weaker c.put_new.result (λ none. lookup-pairs_of key old canonical ∙ none)
+          c.put_new.ensures.absent;
       count = on_ok_both c.put_new.result (λ e none. omega (
         arith,
         length-put key c.args.value (pairs_of old) (pairs_of-ascend old canonical),
@@ -28,8 +29,8 @@ returns g c =
             ∙ pairs),
         ap count_of (lookup-pairs_of key old canonical ∙ none),
       )) c.put_new.ensures.ok
-          c.put_new.ensures.fresh;
-      longest = on_ok_weaker c.put_new.result (λ e. omega (
+          c.put_new.ensures.absent;
+      longest_key = on_ok_weaker c.put_new.result (λ e. omega (
         arith,
         ap longest_key (ap pairs_of e ∙ pairs),
         longest_key-put key c.args.value
@@ -37,6 +38,6 @@ returns g c =
       ))
           c.put_new.ensures.ok;
       unchanged = c.put_new.ensures.unchanged;
-      why = if_err_weaker c.put_new.result (λ why s. fails-insert key c.args.value old why canonical s)
-          c.put_new.ensures.why;
+      refused = if_err_weaker c.put_new.result (λ why s. fails-insert key c.args.value old why canonical s)
+          c.put_new.ensures.refused;
     }

@@ -12,5 +12,5 @@ returns-clause-children g c =
     ap as_children c.iter_above.ensures.entries ∙ as_children-above c.args.byte (child_entries c.self.inside.storage)
     ∙ ap (λ t. children_above c.args.byte (children_in t)) c.self.view_is
 
-pub returns-clause-ascends : goal.returns-clause-ascends
-returns-clause-ascends g c = subst BytesAscend (sym c.iter_above.ensures.entries) c.iter_above.ensures.ascends
+pub returns-clause-ascending : goal.returns-clause-ascending
+returns-clause-ascending g c = subst BytesAscend (sym c.iter_above.ensures.entries) c.iter_above.ensures.ascending

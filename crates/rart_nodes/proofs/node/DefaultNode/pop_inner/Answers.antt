@@ -1,8 +1,8 @@
 use Rattle.rart_nodes.proofs.removals.PopLemmas.{pops-allocates, pops-canonical, pops-map}
 use Rattle.rart_nodes.proofs.node.DefaultNode.pop_inner.Goals as goal
 
-pub returns-in-Some-clause-ok : goal.returns-in-Some-clause-ok
-returns-in-Some-clause-ok g c = pops-canonical c.args.end c.args.self.now _ _ _ _ c.requires.canonical
+pub returns-in-Some-clause-canonical : goal.returns-in-Some-clause-canonical
+returns-in-Some-clause-canonical g c = pops-canonical c.args.end c.args.self.now _ _ _ _ c.requires.canonical
     c.in-Ok.ensures.ok
 
 pub returns-in-Some-clause-pairs : goal.returns-in-Some-clause-pairs

@@ -29,7 +29,7 @@ returns g c =
                 (ap tree_pairs e ∙ pairs),
             ap count_of (a ∙ answer),
           )) c.take_from.ensures.ok c.take_from.ensures.answer;
-      longest = on_ok_weaker c.take_from.result
+      longest_key = on_ok_weaker c.take_from.result
           (λ e. omega (arith, ap longest_key (ap tree_pairs e ∙ pairs), longest_key-without key (tree_pairs old)))
           c.take_from.ensures.ok;
       unchanged = c.take_from.ensures.unchanged;

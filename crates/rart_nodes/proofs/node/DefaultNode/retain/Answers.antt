@@ -5,8 +5,8 @@ use Rattle.rart_nodes.proofs.retentions.RetainTreeLemmas.{tree-rejected}
 use Rattle.rart_nodes.proofs.retentions.RetentionLemmas.{always-after-calls}
 use Rattle.rart_nodes.proofs.node.DefaultNode.retain.Goals as goal
 
-pub returns-in-Done-clause-callable : goal.returns-in-Done-clause-callable
-returns-in-Done-clause-callable g c =
+pub returns-in-Done-clause-stays_callable : goal.returns-in-Done-clause-stays_callable
+returns-in-Done-clause-stays_callable g c =
     let h = tree-done _ c.args.f.now c.retain_tree.new.f c.args.root.now c.retain_tree.new.root
     (rw c.in-Done.is at c.retain_tree.ensures.retains) in
     always-after-calls _ [] (tree_pairs c.args.root.now) h.fates c.args.f.now c.retain_tree.new.f h.calls
@@ -17,14 +17,14 @@ returns-in-Done-clause-count g c =
     (rw c.in-Done.is at c.retain_tree.ensures.retains) in
     remaining-few g.F.FnMut (tree_pairs c.args.root.now) (tree_pairs c.retain_tree.new.root) h.fates h.left
 
-pub returns-in-Done-clause-longest : goal.returns-in-Done-clause-longest
-returns-in-Done-clause-longest g c =
+pub returns-in-Done-clause-longest_key : goal.returns-in-Done-clause-longest_key
+returns-in-Done-clause-longest_key g c =
     let h = tree-done _ c.args.f.now c.retain_tree.new.f c.args.root.now c.retain_tree.new.root
     (rw c.in-Done.is at c.retain_tree.ensures.retains) in
     remaining-short g.F.FnMut (tree_pairs c.args.root.now) (tree_pairs c.retain_tree.new.root) h.fates h.left
 
-pub returns-in-Rejected-clause-callable : goal.returns-in-Rejected-clause-callable
-returns-in-Rejected-clause-callable g c =
+pub returns-in-Rejected-clause-stays_callable : goal.returns-in-Rejected-clause-stays_callable
+returns-in-Rejected-clause-stays_callable g c =
     let h = tree-rejected _ c.args.f.now c.retain_tree.new.f c.args.root.now c.retain_tree.new.root
     (rw c.in-Rejected.is at c.retain_tree.ensures.retains) in
     always-after-calls _ [] (tree_pairs c.args.root.now) h.fates c.args.f.now c.retain_tree.new.f h.calls
@@ -33,8 +33,8 @@ pub returns-in-Rejected-clause-retains : goal.returns-in-Rejected-clause-retains
 returns-in-Rejected-clause-retains g c = tree-rejected _ c.args.f.now c.retain_tree.new.f c.args.root.now
     c.retain_tree.new.root (rw c.in-Rejected.is at c.retain_tree.ensures.retains)
 
-pub returns-in-Refused-clause-callable : goal.returns-in-Refused-clause-callable
-returns-in-Refused-clause-callable g c =
+pub returns-in-Refused-clause-stays_callable : goal.returns-in-Refused-clause-stays_callable
+returns-in-Refused-clause-stays_callable g c =
     let h = tree-refused _ c.args.f.now c.retain_tree.new.f c.args.root.now c.retain_tree.new.root
     c.retain_tree.ensures.canonical (rw c.in-Refused.is at c.retain_tree.ensures.retains) in
     always-after-calls _ [] (tree_pairs c.args.root.now) h.1.0.fates c.args.f.now c.retain_tree.new.f h.1.0.calls
@@ -49,8 +49,8 @@ returns-in-Refused-clause-count g c =
     c.retain_tree.ensures.canonical (rw c.in-Refused.is at c.retain_tree.ensures.retains) in
     remaining-few g.F.FnMut (tree_pairs c.args.root.now) (tree_pairs c.retain_tree.new.root) h.1.0.fates h.1.0.left
 
-pub returns-in-Refused-clause-longest : goal.returns-in-Refused-clause-longest
-returns-in-Refused-clause-longest g c =
+pub returns-in-Refused-clause-longest_key : goal.returns-in-Refused-clause-longest_key
+returns-in-Refused-clause-longest_key g c =
     let h = tree-refused _ c.args.f.now c.retain_tree.new.f c.args.root.now c.retain_tree.new.root
     c.retain_tree.ensures.canonical (rw c.in-Refused.is at c.retain_tree.ensures.retains) in
     remaining-short g.F.FnMut (tree_pairs c.args.root.now) (tree_pairs c.retain_tree.new.root) h.1.0.fates h.1.0.left

@@ -27,7 +27,7 @@ returns g c =
         ap length (ap tree_pairs e ∙ pairs),
         ap length (ap tree_pairs a ∙ part.1),
       )) c.take_prefix_from.ensures.ok c.take_prefix_from.ensures.taken;
-      longest = on_ok_weaker c.take_prefix_from.result (λ e. omega (
+      longest_key = on_ok_weaker c.take_prefix_from.result (λ e. omega (
         arith,
         ap longest_key (ap tree_pairs e ∙ pairs),
         longest_key-filter (λ e. not (begins q e.0)) (tree_pairs old),

@@ -35,7 +35,7 @@ returns g c =
       canonical = done;
       count = ends-counted c.args.full key e.0 e.1 (tree_pairs old) c.update_tree.result.0
           (tree_pairs c.update_tree.new.root) ascend stays ends;
-      longest = ends-longest c.args.full key e.0 e.1 (tree_pairs old) c.update_tree.result.0
+      longest_key = ends-longest c.args.full key e.0 e.1 (tree_pairs old) c.update_tree.result.0
           (tree_pairs c.update_tree.new.root) ascend stays ends;
       nodes_unchanged = ends-nodes c.args.full key e.0 e.1 old c.update_tree.result.0 c.update_tree.new.root canonical
           stays e.3;

@@ -202,7 +202,8 @@ impl<'a, K: KeyTrait, V, C: Count> Seen<'a, K, V, C> {
 }
 
 impl<'a, K: KeyTrait + Drop, V, C: Count> Seen<'a, K, V, C> {
-    /// Returns the pairs within two bounds, the last first. It allocates as `iter_descending_counted` does.
+    /// Returns the pairs within two bounds, the last first. It allocates as
+    /// [`iter_descending_counted`](Self::iter_descending_counted) does.
     ///
     /// # Errors
     ///
@@ -239,7 +240,8 @@ impl<'a, K: KeyTrait + Drop, V, C: Count> Seen<'a, K, V, C> {
 }
 
 impl<'a, K: KeyTrait + Drop, V> Seen<'a, K, V, Visits> {
-    /// Returns the pairs within two bounds, the last first. It allocates as `iter_descending_counted` does.
+    /// Returns the pairs within two bounds, the last first. It allocates as
+    /// [`iter_descending_counted`](Self::iter_descending_counted) does.
     ///
     /// # Errors
     ///

@@ -6,11 +6,11 @@ use Rattle.rart_cidr.proofs.table4.seen.SeenTable4.longest_match_net_counted.Goa
 pub returns-in-Some-clause-node_visits : goal.returns-in-Some-clause-node_visits
 returns-in-Some-clause-node_visits g c =
     let most : nodes_to (c.from-bits.result / 8 + 1) ≤ 15 = nodes_to-more (c.from-bits.result / 8 + 1) 5
-    (omega (arith, c.from-bits.ensures, c.len.ensures.most)) in
+    (omega (arith, c.from-bits.ensures, c.len.ensures.at_most)) in
     omega (arith, most, c.longest_match_net_counted.ensures.node_visits)
 
 pub returns-in-None-clause-node_visits : goal.returns-in-None-clause-node_visits
 returns-in-None-clause-node_visits g c =
     let most : nodes_to (c.from-bits.result / 8 + 1) ≤ 15 = nodes_to-more (c.from-bits.result / 8 + 1) 5
-    (omega (arith, c.from-bits.ensures, c.len.ensures.most)) in
+    (omega (arith, c.from-bits.ensures, c.len.ensures.at_most)) in
     omega (arith, most, c.longest_match_net_counted.ensures.node_visits)

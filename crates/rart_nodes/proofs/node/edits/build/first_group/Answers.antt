@@ -12,7 +12,7 @@ bounds-keys-depth-in-loop-end c = go_on-at _ _ c.args.keys.now _ c.requires.go_o
 pub loop-end-preserved : goal.loop-end-preserved
 loop-end-preserved c = record {
   inside = run-inside _ _ c.args.keys.now _ c.requires.go_on c.requires.ascending c.loop-end-test.true
-      (c.if-keys-end.true ∙ first_byte-is _ c.args.keys.now _ c.requires.some);
+      (c.if-keys-end.true ∙ first_byte-is _ c.args.keys.now _ c.requires.nonempty);
   within = c.loop-end-test.true;
   later = omega (
     arith,
@@ -42,7 +42,7 @@ loop-inside-init c =
           all,
           run-outside (first_byte (rests c.args.depth c.args.keys.now)) c.args.depth
               c.loop-end.end c.args.keys.now _ w.loop-end-test.true
-              (λ e. w.if-keys-end.false (e ∙ sym (first_byte-is _ c.args.keys.now _ c.requires.some))),
+              (λ e. w.if-keys-end.false (e ∙ sym (first_byte-is _ c.args.keys.now _ c.requires.nonempty))),
         )
         | else-loop-end-test w ↦ omega (arith, c.min-end.ensures, all, w.loop-end-test.false)
       ];
@@ -62,7 +62,7 @@ pub loop-inside-preserved-then-keys-middle : goal.loop-inside-preserved-then-key
 loop-inside-preserved-then-keys-middle c = let between = middle-between _ _ c.loop-inside-test.true in record {
   inside = run-inside _ _ c.args.keys.now _ c.requires.go_on c.requires.ascending
       (omega (arith, between.1, c.loop-inside.invariant.within)) (c.if-keys-middle.true
-      ∙ first_byte-is _ c.args.keys.now _ c.requires.some);
+      ∙ first_byte-is _ c.args.keys.now _ c.requires.nonempty);
   later = between.1;
   outside = c.loop-inside.invariant.outside;
   within = c.loop-inside.invariant.within;
@@ -74,6 +74,6 @@ loop-inside-preserved c = let between = middle-between _ _ c.loop-inside-test.tr
   later = between.0;
   outside = run-outside (first_byte (rests c.args.depth c.args.keys.now)) c.args.depth _ c.args.keys.now _
       (omega (arith, between.1, c.loop-inside.invariant.within))
-      (λ e. c.if-keys-middle.false (e ∙ sym (first_byte-is _ c.args.keys.now _ c.requires.some)));
+      (λ e. c.if-keys-middle.false (e ∙ sym (first_byte-is _ c.args.keys.now _ c.requires.nonempty)));
   within = omega (arith, between.1, c.loop-inside.invariant.within);
 }

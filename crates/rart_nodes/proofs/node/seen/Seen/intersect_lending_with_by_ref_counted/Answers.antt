@@ -41,5 +41,5 @@ intersect_trees-requires-clause-callable g c =
     c.in_ok-segments.segments (ap (λ z. joined_bytes (lent_segments z)) c.in_ok-segments.ensures.items)
     c.requires.callable
 
-pub returns-clause-callable : goal.returns-clause-callable
-returns-clause-callable g c = always-after-view-at g.F.FnMut _ _ _ (returns-clause-calls g c)
+pub returns-clause-stays_callable : goal.returns-clause-stays_callable
+returns-clause-stays_callable g c = always-after-view-at g.F.FnMut _ _ _ (returns-clause-calls g c)

@@ -11,5 +11,5 @@ intersect_trees-requires-clause-callable g c =
     (join (tree_pairs (option_copied c.args.self.root)) (tree_pairs (option_copied c.args.other.root)))
     c.requires.callable
 
-pub returns-clause-callable : goal.returns-clause-callable
-returns-clause-callable g c = always-after-with g.F.FnMut _ _ _ c.intersect_trees.ensures.calls
+pub returns-clause-stays_callable : goal.returns-clause-stays_callable
+returns-clause-stays_callable g c = always-after-with g.F.FnMut _ _ _ c.intersect_trees.ensures.calls

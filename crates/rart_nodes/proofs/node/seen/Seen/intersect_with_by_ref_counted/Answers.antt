@@ -38,5 +38,5 @@ intersect_trees-requires-clause-callable g c =
     _ (join (tree_pairs (option_copied c.args.self.root)) (tree_pairs (option_copied c.args.other.root)))
     c.in_ok-bytes.bytes c.in_ok-bytes.ensures.items c.requires.callable
 
-pub returns-clause-callable : goal.returns-clause-callable
-returns-clause-callable g c = always-after-at g.F.FnMut g.K.KeyTrait.bytes _ _ _ (returns-clause-calls g c)
+pub returns-clause-stays_callable : goal.returns-clause-stays_callable
+returns-clause-stays_callable g c = always-after-at g.F.FnMut g.K.KeyTrait.bytes _ _ _ (returns-clause-calls g c)

@@ -10,8 +10,9 @@ f-requires g c = can-show g.F.FnMut c.args.f.now (seen_keys c.args.self) _ c.in-
     c.of.result c.requires.callable (rw c.in-Some.is at c.in_ok-path.ensures.found) (c.of.ensures
     ∙ ap lent_segments c.segments.ensures)
 
-pub returns-clause-callable : goal.returns-clause-callable
-returns-clause-callable g c = always-on g.F.FnMut c.args.f.now (c.of.result, (c.in-Some.value, tt)) tt c.f.new.self
+pub returns-clause-stays_callable : goal.returns-clause-stays_callable
+returns-clause-stays_callable g c = always-on g.F.FnMut c.args.f.now (c.of.result, (c.in-Some.value, tt)) tt
+    c.f.new.self
     (search (rules, of_calls))
 
 pub returns-clause-calls : goal.returns-clause-calls

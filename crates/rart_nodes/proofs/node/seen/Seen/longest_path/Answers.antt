@@ -57,7 +57,7 @@ returns-clause-bound g c =
     let at = goal.at.returns-clause-bound g c in
     let both = first g at.In-Some-advance (found g at.In_ok-walk) in
     let short : length c.probe_start-key.result.now ≤ length c.args.probe.now
-    = rw c.probe_start-key.ensures (length-take-within _ _ c.args.probe.now c.in-Some.ensures.shorter) in
+    = rw c.probe_start-key.ensures (length-take-within _ _ c.args.probe.now c.in-Some.ensures.at_most) in
     let segments : length (lent_segments c.advance.new.path.segments.items) ≤ length c.probe_start-key.result.now
     = rw both.0 (cut-few (keys_of (tree_pairs (option_copied c.args.self.root))) c.probe_start-key.result.now) in
     omega (

@@ -35,7 +35,7 @@ loop-value-preserved g c =
     } in
     record {
       callable = can-rest _ _ _ _ _ _ _ e v c.loop-value.invariant.callable;
-      within = c.in-Some.ensures.shorter;
+      within = c.in-Some.ensures.at_most;
       folds = λ last h. c.loop-value.invariant.folds last
           (subst (λ (x : List (List ℕ × g.row.V.Denot)). MatchesEach g.F.FnMut c.loop-value.f x last) (sym e)
           (c.f.new.self, v, h));
@@ -46,8 +46,8 @@ pub f-requires : goal.f-requires
 f-requires g c = can-first _ _ _ _ _ _ c.in-Some.ensures.pairs c.loop-value.invariant.callable _ _ c.probe_start.ensures
     refl
 
-pub returns-clause-callable : goal.returns-clause-callable
-returns-clause-callable g c =
+pub returns-clause-stays_callable : goal.returns-clause-stays_callable
+returns-clause-stays_callable g c =
     let e = c.in_default.ensures.pairs.0 in
     always-after-matches g.F.FnMut _ _ _ (c.loop-value.invariant.folds c.loop-value.f
     (subst (λ (x : List (List ℕ × g.row.V.Denot)). MatchesEach g.F.FnMut c.loop-value.f x c.loop-value.f) (sym e)

@@ -14,7 +14,7 @@ returns-in-Node256-clause-not_widest g c =
     = omega (
       arith,
       n.count,
-      c.free_byte.ensures.few c.args.b es (omega (arith, c.ranges.b.fits)) absent n.ascends
+      c.free_byte.ensures.at_most c.args.b es (omega (arith, c.ranges.b.fits)) absent n.ascending
           n.bytes,
     ) in
     λ full. grind (arith, nat_tests)

@@ -1,6 +1,6 @@
 use Rattle.std.proofs.Common.{arith, sym, refl, ◌∙◌, reverse, vec_capacity}
-use Rattle.rart_nodes.proofs.ranges.PotentialLemmas.{potential-leave, potential-on, low-leave, low-on, paid-first}
-use Rattle.rart_nodes.proofs.ranges.PotentialLemmas.{paid-given}
+use Rattle.rart_nodes.proofs.ranges.PotentialLemmas.{potential-leave, potential-on, low-leave, low-on, amortized-first}
+use Rattle.rart_nodes.proofs.ranges.PotentialLemmas.{amortized-given}
 use Rattle.rart_nodes.proofs.walks.WalkLemmas.{Turn, leave, space, turn-either}
 use Rattle.rart_nodes.proofs.walks.WalkVisits.{visit-one, visit-on, visit-none}
 use Rattle.rart_nodes.proofs.node.walk.Walk.advance.Given.{Over}
@@ -8,7 +8,7 @@ use Rattle.rart_nodes.proofs.node.walk.Walk.advance.Goals.{After-extend_path}
 use Rattle.rart_nodes.proofs.node.walk.Walk.advance.Goals as goal
 
 pub returns-in-Some-clause-amortized : goal.returns-in-Some-clause-amortized
-returns-in-Some-clause-amortized g c = paid-first _ _
+returns-in-Some-clause-amortized g c = amortized-first _ _
 
 pub extend_path-requires : goal.extend_path-requires
 extend_path-requires g c κs =
@@ -52,7 +52,7 @@ returns-in-Some-value-clause-bound g c = λ bytes.
 
 pub returns-in-Some-value-clause-amortized : goal.returns-in-Some-value-clause-amortized
 returns-in-Some-value-clause-amortized g c =
-    paid-given _ _ _ _ _ c.in-Some-enter_deepest.at.node.now c.args.self.now.levels.items _ _ _
+    amortized-given _ _ _ _ _ c.in-Some-enter_deepest.at.node.now c.args.self.now.levels.items _ _ _
     c.in-Some-enter_deepest.ensures.shown c.extend_path.ensures.levels c.in-Some-enter_deepest.ensures.counted
     c.loop-self.invariant.potential c.loop-self.invariant.low
 

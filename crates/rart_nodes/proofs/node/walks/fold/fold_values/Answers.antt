@@ -30,8 +30,8 @@ loop-value-preserved g c =
       visits = omega (arith, c.loop-value.invariant.visits, c.in-Some.ensures.visits);
     }
 
-pub returns-clause-callable : goal.returns-clause-callable
-returns-clause-callable g c =
+pub returns-clause-stays_callable : goal.returns-clause-stays_callable
+returns-clause-stays_callable g c =
     let e = ap entry_values c.in_default.ensures.entries.0 in
     always-after-folds g.F.FnMut _ _ _ _ _ (c.loop-value.invariant.folds (c.loop-value.f, c.loop-value.state)
     (subst (λ (x : List g.row.V.Denot). FoldsTo (λ p x q. Folded g.F.FnMut p x q)

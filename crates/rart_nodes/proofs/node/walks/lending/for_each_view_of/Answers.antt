@@ -33,8 +33,8 @@ loop-value-preserved g c =
       visits = omega (arith, c.loop-value.invariant.visits, c.in-Some.ensures.visits);
     }
 
-pub returns-clause-callable : goal.returns-clause-callable
-returns-clause-callable g c =
+pub returns-clause-stays_callable : goal.returns-clause-stays_callable
+returns-clause-stays_callable g c =
     let e = c.in_default.ensures.entries.0 in
     always-after-views g.F.FnMut _ _ _ (c.loop-value.invariant.folds c.loop-value.f
     (subst (λ (x : List (SegmentList × g.row.V.Denot)). ViewsEach g.F.FnMut c.loop-value.f x c.loop-value.f) (sym e)

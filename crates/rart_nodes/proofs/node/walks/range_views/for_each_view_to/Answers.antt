@@ -27,15 +27,15 @@ returns-then-not-is_within-clause-visits g c = λ h w. omega (
   c.in-Some.ensures.amortized.last h (c.loop-value.invariant.low h w),
 )
 
-pub returns-then-not-is_within-clause-callable : goal.returns-then-not-is_within-clause-callable
-returns-then-not-is_within-clause-callable g c =
-    let over = past g (goal.at.returns-then-not-is_within-clause-callable g c).Then-not-is_within in
+pub returns-then-not-is_within-clause-stays_callable : goal.returns-then-not-is_within-clause-stays_callable
+returns-then-not-is_within-clause-stays_callable g c =
+    let over = past g (goal.at.returns-then-not-is_within-clause-stays_callable g c).Then-not-is_within in
     always-after-views g.F.FnMut _ _ _ (c.loop-value.invariant.folds c.loop-value.f
     (subst (λ (x : List (SegmentList × g.row.V.Denot)). ViewsEach g.F.FnMut c.loop-value.f x c.loop-value.f)
     (sym over) refl))
 
-pub returns-clause-callable : goal.returns-clause-callable
-returns-clause-callable g c =
+pub returns-clause-stays_callable : goal.returns-clause-stays_callable
+returns-clause-stays_callable g c =
     let b = bound_in g.K.KeyTrait.bytes c.args.end.now in
     let before = entries_ahead one_segment (lent_segments c.loop-value.path.segments.items)
     (option_copied c.loop-value.walk.first) c.loop-value.walk.levels.items in

@@ -57,11 +57,12 @@ returns-in-Err-clause-calls g c =
     (entry_values x) (Err c.in-Err.error) c.f.new.self) (sym e)
     (c.in-Some.value, (c.f.result, (c.f.new.self, (refl, (search (rules, of_calls), rw c.in-Err.is (refl, refl)))))))
 
-pub returns-in-Ok-Stop-clause-callable : goal.returns-in-Ok-Stop-clause-callable
-returns-in-Ok-Stop-clause-callable g c = always-after-tries g.F.FnMut _ _ _ _ (returns-in-Ok-Stop-clause-calls g c)
+pub returns-in-Ok-Stop-clause-stays_callable : goal.returns-in-Ok-Stop-clause-stays_callable
+returns-in-Ok-Stop-clause-stays_callable g c = always-after-tries g.F.FnMut _ _ _ _
+    (returns-in-Ok-Stop-clause-calls g c)
 
-pub returns-in-Err-clause-callable : goal.returns-in-Err-clause-callable
-returns-in-Err-clause-callable g c = always-after-tries g.F.FnMut _ _ _ _ (returns-in-Err-clause-calls g c)
+pub returns-in-Err-clause-stays_callable : goal.returns-in-Err-clause-stays_callable
+returns-in-Err-clause-stays_callable g c = always-after-tries g.F.FnMut _ _ _ _ (returns-in-Err-clause-calls g c)
 
 pub returns-clause-calls : goal.returns-clause-calls
 returns-clause-calls g c =
@@ -69,5 +70,5 @@ returns-clause-calls g c =
     c.loop-value.invariant.ends _ _ (subst (λ (x : List g.row.V.Denot). EndsAs g.F.FnMut c.loop-value.f x (Ok tt)
     c.loop-value.f) (sym e) (refl, refl))
 
-pub returns-clause-callable : goal.returns-clause-callable
-returns-clause-callable g c = always-after-tries g.F.FnMut _ _ _ _ (returns-clause-calls g c)
+pub returns-clause-stays_callable : goal.returns-clause-stays_callable
+returns-clause-stays_callable g c = always-after-tries g.F.FnMut _ _ _ _ (returns-clause-calls g c)

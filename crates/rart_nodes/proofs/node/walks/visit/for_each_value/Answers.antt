@@ -22,8 +22,8 @@ loop-value-preserved g c =
       visits = omega (arith, c.loop-value.invariant.visits, c.in-Some.ensures.visits);
     }
 
-pub returns-clause-callable : goal.returns-clause-callable
-returns-clause-callable g c = always-after-shows _ _ _ _
+pub returns-clause-stays_callable : goal.returns-clause-stays_callable
+returns-clause-stays_callable g c = always-after-shows _ _ _ _
     (c.loop-value.invariant.folds c.loop-value.f
     (subst (λ (x : List g.row.V.Denot). ShowsEach g.F.FnMut c.loop-value.f x c.loop-value.f)
     (sym (ap entry_values c.in_default.ensures.entries.0)) refl))

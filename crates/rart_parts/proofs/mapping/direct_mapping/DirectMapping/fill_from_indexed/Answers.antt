@@ -7,10 +7,11 @@ use Rattle.rart_parts.proofs.mapping.direct_mapping.DirectMapping.fill_from_inde
 
 pub loop-key-init : goal.loop-key-init
 loop-key-init g c =
-    let few = length-between 0 256 (sorted_entries c.args.source.now) (omega arith) c.num_children-count.ensures.ascends
+    let few = length-between 0 256 (sorted_entries c.args.source.now) (omega arith)
+    c.num_children-count.ensures.ascending
     (λ b l. absurd (omega (arith, l))) c.num_children-count.ensures.bytes in (
       omega (arith, few),
-      c.num_children-count.ensures.ascends,
+      c.num_children-count.ensures.ascending,
       ap (λ es. es ++ sorted_entries c.args.source.now)
           c.requires,
     )

@@ -13,6 +13,6 @@ returns-clause-entries g c =
     ∙ numbered_above c.args.byte 0 (c.args.byte + 1) c.self.inside.places.items (omega arith)
     ∙ ap (entries_above c.args.byte) c.self.view_is)
 
-pub returns-clause-ascends : goal.returns-clause-ascends
-returns-clause-ascends g c
+pub returns-clause-ascending : goal.returns-clause-ascending
+returns-clause-ascending g c
     = rw (← c.self.view_is) (above-ascends c.args.byte _ (numbered-ascends 0 c.self.inside.places.items))

@@ -18,7 +18,7 @@ add_child-requires g c =
             c.loop-byte.invariant.in_order is,
         moved_fits c.args.source.now (sorted_entries c.loop-byte.self)
             (without_byte c.loop-byte.byte c.loop-byte.source) (c.loop-byte.byte, c.in-Some.child)
-            c.loop-byte.invariant.in_order is g.row.W c.requires.few,
+            c.loop-byte.invariant.in_order is g.row.W c.requires.at_most,
       ),
     )
 

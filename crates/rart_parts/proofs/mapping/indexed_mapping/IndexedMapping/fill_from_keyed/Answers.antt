@@ -6,7 +6,7 @@ use Rattle.rart_parts.proofs.mapping.indexed_mapping.IndexedMapping.fill_from_ke
 
 pub loop-key-init : goal.loop-key-init
 loop-key-init g c = split_start (sorted_entries c.args.source.now) (sorted_entries c.args.self.now)
-    c.num_children-count.ensures.ascends c.requires.empty
+    c.num_children-count.ensures.ascending c.requires.empty
 
 pub add_child-requires : goal.add_child-requires
 add_child-requires g c =
@@ -17,7 +17,7 @@ add_child-requires g c =
       (
         split_absent whole moved rest c.loop-key.invariant c.in-Some.key c.in-Some.child c.in-Some.ensures.0,
         split_fits whole moved rest c.loop-key.invariant c.in-Some.key c.in-Some.child c.in-Some.ensures.0 g.row.W
-            c.requires.few,
+            c.requires.at_most,
       ),
     )
 

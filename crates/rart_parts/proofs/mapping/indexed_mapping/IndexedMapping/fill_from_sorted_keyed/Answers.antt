@@ -14,7 +14,7 @@ add_child-requires g c =
             (c.in-Some.key, c.in-Some.child) c.loop-key.invariant.0 is,
         taken_fits c.args.source.now c.take_last.new.self
             (sorted_entries c.loop-key.self) (c.in-Some.key, c.in-Some.child) c.loop-key.invariant.0 is g.row.W
-            c.requires.few,
+            c.requires.at_most,
       ),
     )
 

@@ -10,6 +10,6 @@ returns-clause-entries g c =
     (λ i. by_slots (c.iter.ensures i) (c.as_slice.ensures i))
     ∙ walk_is c.self.inside.children c.self.inside.index c.self.invariant.index ∙ ap sorted_entries c.self.view_is
 
-pub returns-clause-ascends : goal.returns-clause-ascends
-returns-clause-ascends g c = subst BytesAscend (ap sorted_entries c.self.view_is)
+pub returns-clause-ascending : goal.returns-clause-ascending
+returns-clause-ascending g c = subst BytesAscend (ap sorted_entries c.self.view_is)
     (map_of_ascends c.self.invariant.index)

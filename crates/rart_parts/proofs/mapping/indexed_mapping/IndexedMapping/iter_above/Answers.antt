@@ -12,6 +12,6 @@ returns-clause-entries g c =
     ∙ ap (entries_above c.args.byte) (walk_is c.self.inside.children c.self.inside.index c.self.invariant.index
     ∙ ap sorted_entries c.self.view_is)
 
-pub returns-clause-ascends : goal.returns-clause-ascends
-returns-clause-ascends g c = above-ascends c.args.byte _
+pub returns-clause-ascending : goal.returns-clause-ascending
+returns-clause-ascending g c = above-ascends c.args.byte _
     (subst BytesAscend (ap sorted_entries c.self.view_is) (map_of_ascends c.self.invariant.index))

@@ -4,11 +4,11 @@ use Rattle.rart_parts.specs.Entries.{BytesAscend, sorted_entries, child_at}
 use Rattle.rart_parts.proofs.IndexLemmas.{map_few, map_of_ascends, indexed_none}
 use Rattle.rart_parts.proofs.mapping.indexed_mapping.IndexedMappingNodeMapping.num_children.Goals as goal
 
-pub returns-clause-few : goal.returns-clause-few
-returns-clause-few g c = rw (← c.self.view_is) (map_few c.self.invariant)
+pub returns-clause-at_most : goal.returns-clause-at_most
+returns-clause-at_most g c = rw (← c.self.view_is) (map_few c.self.invariant)
 
-pub returns-clause-ascends : goal.returns-clause-ascends
-returns-clause-ascends g c = subst BytesAscend (ap sorted_entries c.self.view_is)
+pub returns-clause-ascending : goal.returns-clause-ascending
+returns-clause-ascending g c = subst BytesAscend (ap sorted_entries c.self.view_is)
     (map_of_ascends c.self.invariant.index)
 
 pub returns-clause-bytes : goal.returns-clause-bytes

@@ -20,7 +20,7 @@ add_child-requires g c =
             (c.in-Some.key, c.unwrap-child.result) c.loop-key.invariant.0 is,
         moved_fits (sorted_entries c.args.source.now)
             c.loop-key.self (without_byte c.in-Some.key source) (c.in-Some.key, c.unwrap-child.result)
-            c.loop-key.invariant.0 is g.row.W c.requires.few,
+            c.loop-key.invariant.0 is g.row.W c.requires.at_most,
       ),
     )
 

@@ -11,7 +11,7 @@ whole_as_front-copy_from_slice g c = (
     c.len-count.ensures,
     c.source.inside.children.ok.0,
     counted c.source.invariant _ c.source.view_is,
-    c.requires.few,
+    c.requires.at_most,
   ),
   omega (arith, c.self.invariant.narrow),
 )
@@ -26,7 +26,7 @@ unwrap-requires g c = c.append.ensures.succeeds
           c.source.view_is,
       counted c.self.invariant _ c.self.view_is,
       ap length c.requires.empty,
-      c.requires.few,
+      c.requires.at_most,
       c.self.invariant.reserved,
     ))
 
@@ -40,7 +40,7 @@ invariant_of-self g c =
     let count = c.len-count.ensures ∙ c.source.inside.children.ok.0 in
     rw (moved, c.copy_from_slice.ensures.after)
     (resized c.source.invariant _ count c.self.inside.keys g.row.W _
-    (omega (arith, counted c.source.invariant _ c.source.view_is, c.requires.few))
+    (omega (arith, counted c.source.invariant _ c.source.view_is, c.requires.at_most))
     (omega (arith, c.self.invariant.reserved, c.append.ensures.capacity)) c.self.invariant.narrow c.self.told
     (λ k l m. c.self.invariant.padded k (omega
     (arith, counted c.self.invariant _ c.self.view_is, ap length c.requires.empty)) m))

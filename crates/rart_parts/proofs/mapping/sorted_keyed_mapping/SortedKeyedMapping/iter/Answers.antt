@@ -2,5 +2,5 @@ use Rattle.std.proofs.Common.{subst}
 use Rattle.rart_parts.specs.Entries.{BytesAscend}
 use Rattle.rart_parts.proofs.mapping.sorted_keyed_mapping.SortedKeyedMapping.iter.Goals as goal
 
-pub returns-clause-ascends : goal.returns-clause-ascends
-returns-clause-ascends g c = subst BytesAscend c.self.view_is c.self.invariant.ascends
+pub returns-clause-ascending : goal.returns-clause-ascending
+returns-clause-ascending g c = subst BytesAscend c.self.view_is c.self.invariant.ascends

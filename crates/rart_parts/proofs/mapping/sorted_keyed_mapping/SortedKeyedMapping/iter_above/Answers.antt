@@ -28,5 +28,5 @@ returns-clause-entries g c =
     c.self.inside.children.items (fits c.self.invariant) c.self.invariant.ascends (omega (arith, place.0, count))
     place.1 (λ l. place.2 (omega (arith, l, count))) ∙ ap (entries_above c.args.byte) c.self.view_is)
 
-pub returns-clause-ascends : goal.returns-clause-ascends
-returns-clause-ascends g c = above-ascends c.args.byte _ (subst BytesAscend c.self.view_is c.self.invariant.ascends)
+pub returns-clause-ascending : goal.returns-clause-ascending
+returns-clause-ascending g c = above-ascends c.args.byte _ (subst BytesAscend c.self.view_is c.self.invariant.ascends)

@@ -23,8 +23,8 @@ returns-clause-taken g c = sym c.self.view_is
     ∙ only_entry c.self.invariant c.remove.result (omega (arith, counted c.self.invariant _ c.self.view_is, c.requires))
     c.remove.ensures.value
 
-pub returns-clause-rest : goal.returns-clause-rest
-returns-clause-rest g c = no_entries (set c.self.inside.keys 0 255) c.remove.new.self.items
+pub returns-clause-emptied : goal.returns-clause-emptied
+returns-clause-emptied g c = no_entries (set c.self.inside.keys 0 255) c.remove.new.self.items
     (omega (
       arith,
       c.remove.ensures.len,

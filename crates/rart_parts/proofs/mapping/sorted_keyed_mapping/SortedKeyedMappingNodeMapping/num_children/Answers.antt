@@ -7,11 +7,11 @@ use Rattle.rart_parts.proofs.mapping.sorted_keyed_mapping.SortedKeyedMappingNode
 pub returns-clause-count : goal.returns-clause-count
 returns-clause-count g c = c.len.ensures ∙ c.self.inside.children.ok.0 ∙ sym (counted c.self.invariant _ c.self.view_is)
 
-pub returns-clause-few : goal.returns-clause-few
-returns-clause-few g c = omega (arith, counted c.self.invariant _ c.self.view_is, c.self.invariant.few)
+pub returns-clause-at_most : goal.returns-clause-at_most
+returns-clause-at_most g c = omega (arith, counted c.self.invariant _ c.self.view_is, c.self.invariant.few)
 
-pub returns-clause-ascends : goal.returns-clause-ascends
-returns-clause-ascends g c = subst BytesAscend c.self.view_is c.self.invariant.ascends
+pub returns-clause-ascending : goal.returns-clause-ascending
+returns-clause-ascending g c = subst BytesAscend c.self.view_is c.self.invariant.ascends
 
 pub returns-clause-bytes : goal.returns-clause-bytes
 returns-clause-bytes g c b h = rw (← c.self.view_is)

@@ -12,4 +12,4 @@ pub returns-else-is_some : goal.returns-else-is_some
 returns-else-is_some g c =
     c.size-else-is_some.ensures ∙ size_agrees g.B.BitsetTrait.CAPACITY (g.B.BitsetTrait.has c.found.result)
     c.args.self.now (omega (arith, ap length c.self.view_is, c.self.invariant.full, c.self.invariant.covers))
-    c.found.ensures.same
+    c.found.ensures.agrees

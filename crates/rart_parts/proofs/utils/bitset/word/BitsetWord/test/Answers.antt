@@ -3,5 +3,5 @@ use Rattle.rart_parts.proofs.WordBits.{bit_test}
 use Rattle.rart_parts.proofs.utils.bitset.word.BitsetWord.test.Goals as goal
 
 pub returns : goal.returns
-returns g c = rw (← c.to_u64.ensures.same)
+returns g c = rw (← c.to_u64.ensures.number_kept)
     (bit_test w64 _ c.args.at (omega (arith, c.requires, g.met.Self.BitsetWord.narrow)))
