@@ -8,7 +8,7 @@ use Rattle.rart_keys.specs.BulkLists.{WasRead, first_fault, last_wins}
 use Rattle.rart_keys.specs.KeyBytes.{IsWithin}
 use Rattle.rart_keys.specs.SortedMap.{AreAbove, IsAscending, keys_of, longest_key, values_of}
 use Rattle.rart_nodes.specs.build.Stretches.{AreWithin}
-use Rattle.rart_nodes.specs.shapes.ShapeRecords.{lone_keys}
+use Rattle.rart_nodes.specs.shapes.ShapeRecords.{unit_pairs}
 use Rattle.rart.specs.BulkLoads.{Reads, ReadsAll, FailsSorted}
 use Rattle.rart.specs.Steps.{pairs_in}
 use Rattle.rart.specs.declared.bulk.BulkError.{BulkError}
@@ -19,21 +19,22 @@ use Rattle.rart.proofs.BulkTreeLemmas.{longest-by-keys, longest-within, same-pai
 
 -- what the fields of a loaded tree keep
 pub loaded-fields : {V : Type 0} (m : Option ℕ) (es : List (List ℕ × V)) (ks : List (List ℕ)) (len longest most : ℕ)
-    → keys_of es ≡ ks → len ≡ length ks → length ks ≤ most → longest ≡ longest_key (lone_keys ks) → AreWithin m ks
+    → keys_of es ≡ ks → len ≡ length ks → length ks ≤ most → longest ≡ longest_key (unit_pairs ks) → AreWithin m ks
     → (len ≡ length es) × (len ≤ most) × (longest_key es ≤ longest) × IsWithin m longest
 loaded-fields m es ks len longest most ek el few e within = (
   el ∙ ap length (sym ek) ∙ length-map es (λ e. e.0),
   omega (arith, el, few),
-  omega (arith, longest-by-keys es, ap (λ z. longest_key (lone_keys z)) ek, e),
+  omega (arith, longest-by-keys es, ap (λ z. longest_key (unit_pairs z)) ek, e),
   rw e (longest-within m ks within),
 )
 
 -- keys ascend as their pairs do
-above-by-keys : {V : Type 0} (k : List ℕ) (es : List (List ℕ × V)) → AreAbove k es → AreAbove k (lone_keys (keys_of es))
+above-by-keys : {V : Type 0} (k : List ℕ) (es : List (List ℕ × V)) → AreAbove k es → AreAbove k
+    (unit_pairs (keys_of es))
 above-by-keys k [] h = tt
 above-by-keys k (e ∷ es) h = (h.0, above-by-keys k es h.1)
 
-pub ascending-by-keys : {V : Type 0} (es : List (List ℕ × V)) → IsAscending es → IsAscending (lone_keys (keys_of es))
+pub ascending-by-keys : {V : Type 0} (es : List (List ℕ × V)) → IsAscending es → IsAscending (unit_pairs (keys_of es))
 ascending-by-keys [] h = tt
 ascending-by-keys (e ∷ es) h = (above-by-keys e.0 es h.0, ascending-by-keys es h.1)
 
@@ -42,7 +43,7 @@ module _ {U S K V : Type 0} (becomes : U → S → Type 0) (steps : S → Option
     → List ℕ) (keys : List K) (vs : List V) where
   module _ (read : ReadsAll becomes steps items (λ xs. WasRead (pairs_in bytes xs) (map bytes keys) vs)) where
     pub sorted-ascends : ((es : List (List ℕ × V)) → first_fault es ≡ None → IsAscending (last_wins es))
-        → IsAscending (lone_keys (map bytes keys))
+        → IsAscending (unit_pairs (map bytes keys))
     sorted-ascends law = rw read.4.keys (ascending-by-keys (last_wins (pairs_in bytes read.1))
         (law (pairs_in bytes read.1) read.4.faultless))
 
@@ -94,7 +95,7 @@ module _ {U S K V : Type 0} (becomes : U → S → Type 0) (steps : S → Option
   module _ (read : ReadsAll becomes steps items (λ xs. (map bytes keys ≡ keys_of (pairs_in bytes xs))
       × (vs ≡ values_of (pairs_in bytes xs)))) where
     pub unique-ascends : ((s : S) → becomes items s → HoldsAlong steps s (λ xs. IsAscending (pairs_in bytes xs)))
-        → IsAscending (lone_keys (map bytes keys))
+        → IsAscending (unit_pairs (map bytes keys))
     unique-ascends up = rw read.4.0 (ascending-by-keys (pairs_in bytes read.1)
         (up read.0 read.2 read.1 read.3.1.0 read.3.1.1))
 

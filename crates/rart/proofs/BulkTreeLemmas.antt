@@ -7,29 +7,29 @@ use Rattle.rart_keys.specs.ByteStrings.{IsLess}
 use Rattle.rart_keys.specs.KeyBytes.{IsWithin}
 use Rattle.rart_keys.specs.SortedMap.{AreAbove, IsAscending, keys_of, longest_key, values_of}
 use Rattle.rart_nodes.specs.build.Stretches.{AreWithin}
-use Rattle.rart_nodes.specs.shapes.ShapeRecords.{keys_in, lone_keys}
+use Rattle.rart_nodes.specs.shapes.ShapeRecords.{keys_in, unit_pairs}
 use Rattle.rart.specs.BulkLoads.{AreKeysAt}
 
 -- the longest key, by the keys alone
-pub longest-by-keys : {V : Type 0} (es : List (List ℕ × V)) → longest_key es ≡ longest_key (lone_keys (keys_of es))
+pub longest-by-keys : {V : Type 0} (es : List (List ℕ × V)) → longest_key es ≡ longest_key (unit_pairs (keys_of es))
 longest-by-keys [] = refl
 longest-by-keys (e ∷ es) = ap (max (length e.0)) (longest-by-keys es)
 
-pub longest-within : (m : Option ℕ) (ks : List (List ℕ)) → AreWithin m ks → IsWithin m (longest_key (lone_keys ks))
+pub longest-within : (m : Option ℕ) (ks : List (List ℕ)) → AreWithin m ks → IsWithin m (longest_key (unit_pairs ks))
 longest-within None ks h = tt
 longest-within (Some m) [] h = omega arith
 longest-within (Some m) (k ∷ ks) h = omega (arith, h.0, longest-within (Some m) ks h.1)
 
 -- the longest of the keys after a place
 longest-at : (i : ℕ) (keys : List (Bor (List ℕ))) (x : Bor (List ℕ)) → i < length keys
-    → longest_key (lone_keys (keys_in (drop i keys)))
-    ≡ max (length (get_or keys i x).now) (longest_key (lone_keys (keys_in (drop (suc i) keys))))
+    → longest_key (unit_pairs (keys_in (drop i keys)))
+    ≡ max (length (get_or keys i x).now) (longest_key (unit_pairs (keys_in (drop (suc i) keys))))
 longest-at i [] x h = absurd (omega arith)
 longest-at zero (k ∷ keys) x h = refl
 longest-at (suc i) (k ∷ keys) x h = longest-at i keys x (omega arith)
 
-pub longest-start : (keys : List (Bor (List ℕ))) → max 0 (longest_key (lone_keys (keys_in (drop 0 keys))))
-    ≡ longest_key (lone_keys (keys_in keys))
+pub longest-start : (keys : List (Bor (List ℕ))) → max 0 (longest_key (unit_pairs (keys_in (drop 0 keys))))
+    ≡ longest_key (unit_pairs (keys_in keys))
 longest-start keys = omega arith
 
 pub longer-one : (a b now : ℕ) → now ≡ b → a < b → now ≡ max a b
@@ -39,16 +39,16 @@ pub no-longer-one : (a b now : ℕ) → now ≡ a → b ≤ a → now ≡ max a 
 no-longer-one a b now e l = omega (arith, e, l)
 
 pub longest-step : (longest now i total : ℕ) (keys : List (Bor (List ℕ))) (x : Bor (List ℕ)) → i < length keys
-    → max longest (longest_key (lone_keys (keys_in (drop i keys)))) ≡ total
+    → max longest (longest_key (unit_pairs (keys_in (drop i keys)))) ≡ total
     → now ≡ max longest (length (get_or keys i x).now)
-    → max now (longest_key (lone_keys (keys_in (drop (i + 1) keys)))) ≡ total
+    → max now (longest_key (unit_pairs (keys_in (drop (i + 1) keys)))) ≡ total
 longest-step longest now i total keys x l e n = let s : i + 1 ≡ suc i = omega arith in
     rw s (omega (arith, n, e, longest-at i keys x l))
 
 pub longest-end : (longest i total : ℕ) (keys : List (Bor (List ℕ))) → length keys ≤ i
-    → max longest (longest_key (lone_keys (keys_in (drop i keys)))) ≡ total → longest ≡ total
-longest-end longest i total keys l e = let none : longest_key (lone_keys (keys_in (drop i keys))) ≡ 0
-    = ap (λ z. longest_key (lone_keys (keys_in z))) (drop_all i keys l) in omega (arith, none, e)
+    → max longest (longest_key (unit_pairs (keys_in (drop i keys)))) ≡ total → longest ≡ total
+longest-end longest i total keys l e = let none : longest_key (unit_pairs (keys_in (drop i keys))) ≡ 0
+    = ap (λ z. longest_key (unit_pairs (keys_in z))) (drop_all i keys l) in omega (arith, none, e)
 
 pub keys-within : {K : Type 0} (m : Option ℕ) (bytes : K → List ℕ) → ((k : K) → IsWithin m (length (bytes k)))
     → (keys : List K) → AreWithin m (map bytes keys)
@@ -94,7 +94,7 @@ module _ (At : ℕ → List ℕ → Type 0) where
 
   module _ (len : ℕ) (below : (i j : ℕ) (k l : List ℕ) → i < j → j < len → At i k → At j l → IsLess k l) where
     above-from : (i j : ℕ) (k : List ℕ) (ks : List (List ℕ)) → i < j → j + length ks ≡ len → At i k → AreKeysFrom j ks
-        → AreAbove k (lone_keys ks)
+        → AreAbove k (unit_pairs ks)
     above-from i j k [] l e a h = tt
     above-from i j k (q ∷ ks) l e a h = (
       below i j k q l (omega (arith, e)) a (keys-head j q ks h),
@@ -102,7 +102,7 @@ module _ (At : ℕ → List ℕ → Type 0) where
           (suc j) k ks (omega (arith, l)) (omega (arith, e)) a (keys-tail j q ks h),
     )
 
-    ascend-from : (j : ℕ) (ks : List (List ℕ)) → j + length ks ≡ len → AreKeysFrom j ks → IsAscending (lone_keys ks)
+    ascend-from : (j : ℕ) (ks : List (List ℕ)) → j + length ks ≡ len → AreKeysFrom j ks → IsAscending (unit_pairs ks)
     ascend-from j [] e h = tt
     ascend-from j (k ∷ ks) e h = (
       above-from j (suc j) k ks (omega arith) (omega (arith, e)) (keys-head j k ks h)
@@ -110,7 +110,7 @@ module _ (At : ℕ → List ℕ → Type 0) where
       ascend-from (suc j) ks (omega (arith, e)) (keys-tail j k ks h),
     )
 
-    pub keys-ascend : (ks : List (List ℕ)) → length ks ≡ len → AreKeysAt At ks → IsAscending (lone_keys ks)
+    pub keys-ascend : (ks : List (List ℕ)) → length ks ≡ len → AreKeysAt At ks → IsAscending (unit_pairs ks)
     keys-ascend ks e h = ascend-from 0 ks (omega (arith, e)) (keys-all ks h)
 
   module _ (m : Option ℕ) (within : (i : ℕ) (k : List ℕ) → At i k → IsWithin m (length k)) where

@@ -4,7 +4,7 @@ use Rattle.std.specs.Cmp.Lexicographic.{slice_cmp}
 use Rattle.std.specs.Ordering.{nat_cmp}
 use Rattle.std.proofs.lemmas.List.{length-map}
 use Rattle.rart_keys.specs.SortedMap.{AreAbove, IsAscending, keys_of, values_of}
-use Rattle.rart_nodes.specs.shapes.ShapeRecords.{lone_keys}
+use Rattle.rart_nodes.specs.shapes.ShapeRecords.{unit_pairs}
 use Rattle.rart.specs.Migrations.{terminated_key, with_zeros}
 use Rattle.rart.proofs.BulkEndLemmas.{ascending-by-keys}
 use Rattle.rart.proofs.BulkTreeLemmas.{same-pairs}
@@ -14,20 +14,20 @@ abbrev pub ClosingZeros : Type 0
 ClosingZeros = (xs ys : List ℕ) → slice_cmp nat_cmp (xs ++ 0 ∷ []) (ys ++ 0 ∷ []) ≡ slice_cmp nat_cmp xs ys
 
 above-texts : ClosingZeros → (k : List ℕ) (ts : List (List ℕ)) → AreAbove (terminated_key k)
-    (lone_keys (map terminated_key ts))
-    → AreAbove k (lone_keys ts)
+    (unit_pairs (map terminated_key ts))
+    → AreAbove k (unit_pairs ts)
 above-texts law k [] h = tt
 above-texts law k (t ∷ ts) h = (sym (law k t) ∙ h.0, above-texts law k ts h.1)
 
-ascending-texts : ClosingZeros → (ts : List (List ℕ)) → IsAscending (lone_keys (map terminated_key ts))
-    → IsAscending (lone_keys ts)
+ascending-texts : ClosingZeros → (ts : List (List ℕ)) → IsAscending (unit_pairs (map terminated_key ts))
+    → IsAscending (unit_pairs ts)
 ascending-texts law [] h = tt
 ascending-texts law (t ∷ ts) h = (above-texts law t ts h.0, ascending-texts law ts h.1)
 
 module _ {V : Type 0} where
   -- texts ascend as their terminated keys do
   pub texts-ascend : ClosingZeros → (es : List (List ℕ × V)) (ts : List (List ℕ)) → IsAscending es
-      → keys_of es ≡ map terminated_key ts → IsAscending (lone_keys ts)
+      → keys_of es ≡ map terminated_key ts → IsAscending (unit_pairs ts)
   texts-ascend law es ts h k = ascending-texts law ts (rw (← k) (ascending-by-keys es h))
 
   keys-with_zeros : (es : List (List ℕ × V)) → keys_of (with_zeros es) ≡ map terminated_key (keys_of es)

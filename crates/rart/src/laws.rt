@@ -2,6 +2,7 @@
 ghost use Rattle.std.specs.Prelude.{◌≡◌, ◌≢◌, ◌≤◌, length, IfErr, IfOk, IsOk, MatchResult, OnErr, OnOk};
 ghost use Rattle.std.specs.Borrow.{sem};
 ghost use Rattle.std.specs.Option.{option_copied};
+ghost use Rattle.rart_parts.specs.Errors.{IsMemory};
 ghost use Rattle.rart_keys.specs.SortedMap.{IsAscending, keys_of, lookup, put, values_of, without};
 ghost use Rattle.rart_nodes.specs.stats.Stats.{stats_in, stats_of};
 ghost use Rattle.rart_nodes.specs.walks.Calls.{MayLackMemory};
@@ -52,7 +53,7 @@ pub fn equal_keys_equal_stats<K: KeyTrait, V, L: KeyTrait, W>(
     ensures of_other { IfOk result
         (λ r. stats_in r.1 ≡ stats_of (keys_of other.now.pairs) other.now.nodes) }
     ensures equal { IfOk result (λ r. stats_in r.1 ≡ stats_in r.0) }
-    ensures memory { IfErr result (λ e. e ≡ TreeError.Memory) }
+    ensures memory { IfErr result IsMemory }
     ensures allocates { OnErr result (2 ≤ length (keys_of one.now.pairs)) }
 {
     equal_keys_equal_nodes(one, other);

@@ -1,5 +1,6 @@
 //! Statistics of a tree: how many nodes it has of each capacity, how many children they have, and how deep it is.
 ghost use Rattle.std.specs.Prelude.{◌≡◌, ℕ, ◌≤◌, List, length, IfErr, IfOk, OnErr};
+ghost use Rattle.rart_parts.specs.Errors.{IsMemory};
 ghost use Rattle.rart_nodes.specs.shapes.Shape.{NodeRecord};
 ghost use Rattle.rart_nodes.specs.stats.Stats.{stats_in, stats_of};
 
@@ -20,6 +21,6 @@ pub trait TreeStatsTrait {
     fn get_tree_stats(&self) -> Result<TreeStats, TreeError>
         ensures stats { IfOk result
             (λ s. stats_in s ≡ stats_of (keys self.now) (nodes self.now)) }
-        ensures memory { IfErr result (λ e. e ≡ TreeError.Memory) }
+        ensures memory { IfErr result IsMemory }
         ensures allocates { OnErr result (2 ≤ length (keys self.now)) };
 }

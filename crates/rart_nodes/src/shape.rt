@@ -4,10 +4,11 @@
 // functions scan all keys for each result; they are slow and serve tests.
 
 ghost use Rattle.std.specs.Prelude.{◌≡◌, ◌↔◌, IfErr, IfOk, IsTrue, None, OnOk, Some};
+ghost use Rattle.rart_parts.specs.Errors.{IsMemory};
 ghost use Rattle.rart_keys.specs.ByteStrings.{byte_after};
 ghost use Rattle.rart_keys.specs.SortedMap.{IsAscending, put};
 ghost use Rattle.rart_nodes.specs.shapes.Shape.{HasShape, capacity_of, contains_key, next_bytes, record_at};
-ghost use Rattle.rart_nodes.specs.shapes.ShapeRecords.{IsRecordAt, keys_in, lone_keys, node_record, put_some};
+ghost use Rattle.rart_nodes.specs.shapes.ShapeRecords.{IsRecordAt, keys_in, unit_pairs, node_record, put_some};
 ghost use Rattle.rart_nodes.specs.shapes.ShapeRecords.{records_of};
 
 use rart_parts::TreeError;
@@ -67,7 +68,7 @@ fn contains_key(keys: &[&[u8]], path: &[u8]) -> bool
 /// Returns the bytes of the keys after `path`, each once if the keys ascend.
 fn next_bytes(alloc: Global, keys: &[&[u8]], path: &[u8]) -> Result<Vec<u8>, TreeError>
     ensures bytes { IfOk result (λ v. v.items ≡ next_bytes (keys_in keys.now) path.now) }
-    ensures memory { IfErr result (λ e. e ≡ TreeError.Memory) }
+    ensures memory { IfErr result IsMemory }
 {
     let mut bytes = Vec::new(alloc);
     for key in keys {
@@ -94,7 +95,7 @@ pub fn record_at(
     path: &[u8],
 ) -> Result<Option<ShapeRecord>, TreeError>
     ensures record { IfOk result (IsRecordAt (keys_in keys.now) path.now) }
-    ensures memory { IfErr result (λ e. e ≡ TreeError.Memory) }
+    ensures memory { IfErr result IsMemory }
 {
     let holds_value = contains_key(keys, path);
     let edges = next_bytes(alloc, keys, path)?;
@@ -117,7 +118,7 @@ pub fn record_at(
 fn put_record(records: &mut Vec<ShapeRecord>, added: ShapeRecord) -> Result<(), TreeError>
     ensures put { OnOk result (records_of records.new.items
         ≡ put added.path.items (node_record added) (records_of records.old.items)) }
-    ensures memory { IfErr result (λ e. e ≡ TreeError.Memory) }
+    ensures memory { IfErr result IsMemory }
 {
     for i in 0..records.len() {
         match added.path.as_slice().cmp(records[i].path.as_slice()) {
@@ -150,7 +151,7 @@ fn put_record_at(
     ensures put { OnOk result (records_of records.new.items
         ≡ put_some path.now (record_at (keys_in keys.now) path.now)
         (records_of records.old.items)) }
-    ensures memory { IfErr result (λ e. e ≡ TreeError.Memory) }
+    ensures memory { IfErr result IsMemory }
 {
     match record_at(alloc, keys, path)? {
         Some(found) => put_record(records, found),
@@ -160,7 +161,7 @@ fn put_record_at(
 
 /// Returns whether each key is less than the next. `shape_of` requires this.
 pub fn are_ascending(keys: &[&[u8]]) -> bool
-    ensures { IsTrue result ↔ IsAscending (lone_keys (keys_in keys.now)) }
+    ensures { IsTrue result ↔ IsAscending (unit_pairs (keys_in keys.now)) }
 {
     for i in 1..keys.len() {
         let Ordering::Less = keys[i - 1].cmp(keys[i]) else {
@@ -176,9 +177,9 @@ pub fn are_ascending(keys: &[&[u8]]) -> bool
 ///
 /// [`TreeError::Memory`] if an allocation fails.
 pub fn shape_of(alloc: Global, keys: &[&[u8]]) -> Result<Vec<ShapeRecord>, TreeError>
-    requires { IsAscending (lone_keys (keys_in keys.now)) }
+    requires { IsAscending (unit_pairs (keys_in keys.now)) }
     ensures shape { IfOk result (λ v. HasShape (keys_in keys.now) (records_of v.items)) }
-    ensures memory { IfErr result (λ e. e ≡ TreeError.Memory) }
+    ensures memory { IfErr result IsMemory }
 {
     let mut records = Vec::new(alloc);
     'keys: for key in keys {

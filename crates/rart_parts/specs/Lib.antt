@@ -4,6 +4,7 @@ pub mod ByteIndex
 pub mod Direct
 pub mod Entries
 pub mod EntryShapes
+pub mod Errors
 pub mod Indexed
 pub mod Keyed
 pub mod Keys

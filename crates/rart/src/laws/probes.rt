@@ -3,6 +3,7 @@ ghost use Rattle.std.specs.Prelude.{◌≡◌, ◌↔◌, None, length, option_m
 ghost use Rattle.std.specs.Cmp.Lexicographic.{slice_cmp};
 ghost use Rattle.std.specs.List.{filter};
 ghost use Rattle.std.specs.Ordering.{nat_cmp};
+ghost use Rattle.rart_parts.specs.Errors.{IsMemory};
 ghost use Rattle.rart_keys.specs.ByteStrings.{begins};
 ghost use Rattle.rart_keys.specs.Filters.{last_or, matches};
 ghost use Rattle.rart_keys.specs.KeyBytes.{IsWithin};
@@ -81,7 +82,7 @@ pub fn key_of_a_view<K: KeyTrait>(
 ) -> Result<K, TreeError>
     requires { IsWithin K.MAXIMUM_SIZE (length (view_bytes view)) }
     ensures bytes { IfOk result (λ key. K.bytes key ≡ view_bytes view.entry) }
-    ensures memory { IfErr result (λ e. e ≡ TreeError.Memory) }
+    ensures memory { IfErr result IsMemory }
 {
     view.to_key(alloc)
 }

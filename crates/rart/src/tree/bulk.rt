@@ -7,7 +7,7 @@ ghost use Rattle.rart_keys.specs.SortedMap.{IsAscending, keys_of, values_of};
 ghost use Rattle.rart_nodes.specs.build.Stretches.{AreWithin};
 ghost use Rattle.rart_nodes.specs.build.ValueCalls.{CanTake, Takes};
 ghost use Rattle.rart_nodes.specs.shapes.Shape.{HasShape};
-ghost use Rattle.rart_nodes.specs.shapes.ShapeRecords.{keys_in, lone_keys};
+ghost use Rattle.rart_nodes.specs.shapes.ShapeRecords.{keys_in, unit_pairs};
 ghost use Rattle.rart.specs.BulkLoads.{AreKeysAt, AscendAlong, LoadsSorted, Reads, ReadsAll, FailsByIndex, FailsSorted};
 ghost use Rattle.rart.specs.BulkLoads.{FailsUnique, TakesBeginning};
 ghost use Rattle.rart.specs.Steps.{pairs_in};
@@ -182,13 +182,13 @@ impl<K: KeyTrait, V: Drop> AdaptiveRadixTree<K, V> {
         values: Vec<V>,
     ) -> Result<Self, BulkError>
         requires each { length keys.now ≡ length values.items }
-        requires ascending { IsAscending (lone_keys (map K.bytes keys.now)) }
+        requires ascending { IsAscending (unit_pairs (map K.bytes keys.now)) }
         requires at_most { length keys.now ≤ MAX_PAIRS }
         ensures keys { IfOk result (λ tree. keys_of tree.pairs ≡ map K.bytes keys.now) }
         ensures values { IfOk result (λ tree. values_of tree.pairs ≡ values.items) }
         ensures shape { IfOk result (λ tree. HasShape (keys_of tree.pairs) tree.nodes) }
         ensures memory { IfErr result (λ e. e ≡ BulkError.Memory) }
-        ensures nonempty { OnErr result (0 < length keys.now) }
+        ensures allocates { OnErr result (0 < length keys.now) }
     {
         if keys.is_empty() {
             return Ok(AdaptiveRadixTree::new(alloc));
@@ -212,7 +212,7 @@ impl<K: KeyTrait, V: Drop> AdaptiveRadixTree<K, V> {
         requires nonempty { 0 < length keys.now }
         requires at_most { length keys.now ≤ MAX_PAIRS }
         requires within { AreWithin K.MAXIMUM_SIZE (keys_in keys.now) }
-        requires ascending { IsAscending (lone_keys (keys_in keys.now)) }
+        requires ascending { IsAscending (unit_pairs (keys_in keys.now)) }
         requires callable { CanTake F.pre F.step 0 (length keys.now) take_value.old }
         ensures keys { IfOk result (λ tree. keys_of tree.pairs ≡ keys_in keys.now) }
         ensures values { IfOk result

@@ -43,7 +43,7 @@ fn read_clones<K: KeyTrait + Drop, V: Clone>(
     ensures values { IfOk result
         (λ r. AllZip V.is_clone (values_of old.now.pairs) r.1.items) }
     ensures at_most { IfOk result (λ r. length r.0.items ≤ MAX_PAIRS) }
-    ensures nonempty { OnErr result (old.now.pairs ≢ []) }
+    ensures allocates { OnErr result (old.now.pairs ≢ []) }
 {
     let mut keys = Vec::with_capacity(old.alloc, old.len())?;
     let mut values = Vec::with_capacity(old.alloc, old.len())?;

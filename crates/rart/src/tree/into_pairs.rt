@@ -109,7 +109,7 @@ impl<K: KeyTrait + Drop, V: Drop> AdaptiveRadixTree<K, V> {
         ensures keys { IfOk result (λ r. map K.bytes r.0.items ≡ keys_of self.now.pairs) }
         ensures empty { IfOk result (λ r. r.1.items ≡ []) }
         ensures reserved { IfOk result (λ r. length self.now.pairs ≤ vec_capacity r.1) }
-        ensures nonempty { OnErr result (self.now.pairs ≢ []) }
+        ensures allocates { OnErr result (self.now.pairs ≢ []) }
     {
         let mut keys = Vec::with_capacity(self.alloc, self.len())?;
         let values = Vec::with_capacity(self.alloc, self.len())?;

@@ -1,5 +1,6 @@
 //! Removal of all pairs that a callback rejects.
 ghost use Rattle.std.specs.Prelude.{◌≡◌, IfErr};
+ghost use Rattle.rart_parts.specs.Errors.{IsMemory};
 ghost use Rattle.rart_nodes.specs.edits.Retentions.{CanRetain, RetainsByValue, Retains};
 
 use crate::tree::{AdaptiveRadixTree, length_kept};
@@ -26,7 +27,7 @@ impl<K: KeyTrait, V: Drop> AdaptiveRadixTree<K, V> {
         requires callable { CanRetain F.FnMut f.old self.old.pairs }
         ensures stays_callable { F.IsAlwaysCallable f.old → F.IsAlwaysCallable f.new }
         ensures retains { Retains F.FnMut f.old self.old.pairs result self.new.pairs f.new }
-        ensures memory { IfErr result (λ e. e ≡ TreeError.Memory) }
+        ensures memory { IfErr result IsMemory }
     {
         let outcome = DefaultNode::retain(&mut self.root, self.alloc, f);
         let seen: Seen<'_, K, V, Visits> = Seen::of(self.root.as_ref(), self.alloc, self.longest);
@@ -47,7 +48,7 @@ impl<K: KeyTrait, V: Drop> AdaptiveRadixTree<K, V> {
     ) -> Result<(), TreeError>
         requires callable { CanRetain F.FnMut f self.old.pairs }
         ensures retains { RetainsByValue F.FnMut f self.old.pairs result self.new.pairs }
-        ensures memory { IfErr result (λ e. e ≡ TreeError.Memory) }
+        ensures memory { IfErr result IsMemory }
     {
         self.retain_by_ref(&mut f)
     }

@@ -11,7 +11,7 @@ use Rattle.rart_keys.specs.SortedMap.{IsAscending, keys_of, values_of}
 use Rattle.rart_keys.proofs.ByteOrder.{eq-yes, eq-no, equal_or_not}
 use Rattle.rart_parts.specs.Entries.{child_at, with_entry}
 use Rattle.rart_nodes.specs.shapes.Shape.{next_bytes, capacity_of}
-use Rattle.rart_nodes.specs.shapes.ShapeRecords.{lone_keys}
+use Rattle.rart_nodes.specs.shapes.ShapeRecords.{unit_pairs}
 use Rattle.rart_nodes.specs.build.Stretches.{rests, first_byte, run_of, first_run, GoOn, Reach, IsStretch}
 use Rattle.rart_nodes.specs.build.ValueCalls.{CanTake, Takes}
 use Rattle.rart_nodes.specs.tries.PrefixLaws.{prefix-none, values-with_prefix}
@@ -152,7 +152,7 @@ pub record Building {F V : Type 0} (pre : F → ℕ → Type 0) (step : F → �
     0 where
   pub reach : Reach m d rest
   pub go_on : GoOn (rests d rest)
-  pub ascending : IsAscending (lone_keys (rests d rest))
+  pub ascending : IsAscending (unit_pairs (rests d rest))
   pub keys_made : keys_of (made v es) ++ rests d rest ≡ rests d keys
   pub values_made : Takes step from f (values_of (made v es)) g
   pub placed : place ≡ from + length (made v es)

@@ -10,7 +10,7 @@ use Rattle.std.proofs.lemmas.List.{drop-drop, length-drop, length-take-le, nil_f
 use Rattle.rart_keys.specs.SortedMap.{IsAscending}
 use Rattle.rart_keys.proofs.ByteOrder.{eq-yes, eq-no, equal_or_not}
 use Rattle.rart_nodes.specs.shapes.Shape.{next_bytes}
-use Rattle.rart_nodes.specs.shapes.ShapeRecords.{lone_keys}
+use Rattle.rart_nodes.specs.shapes.ShapeRecords.{unit_pairs}
 use Rattle.rart_nodes.specs.build.Stretches.{rests, run_of, first_bytes, first_run, GoOn, Reach, IsStretch}
 use Rattle.rart_nodes.proofs.edits.Descent.{first, first-differ, common-within}
 use Rattle.rart_nodes.proofs.build.RunLemmas.{ascending-drop, rests-drop, branches-step, run-within, go_on-drop}
@@ -32,14 +32,14 @@ branches d ks = length (next_bytes (rests d ks) [])
 pub record Opening (m : Option ℕ) (d n : ℕ) (p : List ℕ) (keys : List (Bor (List ℕ))) (more : ℕ) : Type 0 where
   pub shared : AllHave p (rests d keys)
   pub cuts : rests (d + n) keys ≡ cut (length p) (rests d keys)
-  pub ascending : IsAscending (lone_keys (rests (d + n) keys))
+  pub ascending : IsAscending (unit_pairs (rests (d + n) keys))
   pub reach : Reach m d keys
   pub some : 0 < length keys
   pub here : more ≡ 0 → (rests (d + n) keys ≡ [] ∷ rests (d + n) (drop 1 keys)) × GoOn (rests (d + n) (drop 1 keys))
   pub on : 0 < more → GoOn (rests (d + n) keys) × (2 ≤ branches (d + n) keys)
 
 -- strings that ascend begin with an empty one, or all continue
-first-empty : (r : List ℕ) (rs : List (List ℕ)) → IsAscending (lone_keys (r ∷ rs)) → length r ≡ 0 → (r ≡ []) × GoOn rs
+first-empty : (r : List ℕ) (rs : List (List ℕ)) → IsAscending (unit_pairs (r ∷ rs)) → length r ≡ 0 → (r ≡ []) × GoOn rs
 first-empty r rs a e = (nil_from_length r e, above-go_on r rs a.0)
 
 run-last : (b : ℕ) (f : List ℕ) (rs : List (List ℕ)) → run_of b (f ∷ rs) ≡ length (f ∷ rs)
@@ -86,14 +86,14 @@ opening-at m d n p f l (k ∷ ks) x h ef el en ep =
     let within = common-within f (last_of f (rests d ks)) in
     let long : length p ≡ n = ap length ep ∙ length-take-le n f (omega (arith, count, within.0)) in
     let p-is : p ≡ take (common_prefix_len nat_eq f (last_of f (rests d ks))) f = ep ∙ ap (λ z. take z f) count in
-    let up-to : IsAscending (lone_keys (f ∷ rests d ks))
-    = subst (λ (q : List (List ℕ)). IsAscending (lone_keys q)) rs-is h.ascending in
+    let up-to : IsAscending (unit_pairs (f ∷ rests d ks))
+    = subst (λ (q : List (List ℕ)). IsAscending (unit_pairs q)) rs-is h.ascending in
     let have : AllHave p (rests d (k ∷ ks)) = subst (λ (q : List (List ℕ)). AllHave p q) (sym rs-is)
     (subst (λ (q : List ℕ). AllHave q (f ∷ rests d ks)) (sym p-is) (all-share f (rests d ks) up-to)) in
     let cuts : rests (d + n) (k ∷ ks) ≡ cut (length p) (rests d (k ∷ ks)) = rests-deeper d n (k ∷ ks)
     ∙ ap (λ z. cut z (rests d (k ∷ ks))) (sym long) in
-    let up : IsAscending (lone_keys (rests (d + n) (k ∷ ks)))
-    = subst (λ (q : List (List ℕ)). IsAscending (lone_keys q)) (sym cuts)
+    let up : IsAscending (unit_pairs (rests (d + n) (k ∷ ks)))
+    = subst (λ (q : List (List ℕ)). IsAscending (unit_pairs q)) (sym cuts)
     (cut-ascending p (rests d (k ∷ ks)) have h.ascending) in
     let head : length (drop (d + n) k.now) ≡ length f - n
     = omega (arith, length-drop (d + n) k.now, ap length ef, length-drop d k.now) in
@@ -161,6 +161,6 @@ rest-continues m d n p keys a own rest h within e er = ⊎_elim
 -- and ascend
 pub rest-ascends : (m : Option ℕ) (d n : ℕ) (p : List ℕ) (keys : List (Bor (List ℕ))) (a own : ℕ)
     (rest : List (Bor (List ℕ))) → Opening m d n p keys a → rest ≡ drop own keys
-    → IsAscending (lone_keys (rests (d + n) rest))
+    → IsAscending (unit_pairs (rests (d + n) rest))
 rest-ascends m d n p keys a own rest h er
     = rw (er, rests-drop (d + n) own keys) (ascending-drop own (rests (d + n) keys) h.ascending)

@@ -7,7 +7,7 @@ use Rattle.std.proofs.lemmas.List.{drop-map, take-map, get_or-drop, length-drop}
 use Rattle.rart_keys.specs.SortedMap.{IsAscending}
 use Rattle.rart_keys.proofs.ByteOrder.{eq-yes, eq-no, equal_or_not}
 use Rattle.rart_nodes.specs.shapes.Shape.{with_first, next_bytes}
-use Rattle.rart_nodes.specs.shapes.ShapeRecords.{keys_in, lone_keys}
+use Rattle.rart_nodes.specs.shapes.ShapeRecords.{keys_in, unit_pairs}
 use Rattle.rart_nodes.specs.build.Stretches.{rests, first_byte, run_of, first_run, GoOn}
 
 pub rests-drop : (d n : ℕ) (ks : List (Bor (List ℕ))) → rests d (drop n ks) ≡ drop n (rests d ks)
@@ -85,16 +85,16 @@ go_on-drop zero rs g = g
 go_on-drop (suc n) [] g = tt
 go_on-drop (suc n) (r ∷ rs) g = go_on-drop n rs g.1
 
-pub ascending-drop : (n : ℕ) (rs : List (List ℕ)) → IsAscending (lone_keys rs) → IsAscending (lone_keys (drop n rs))
+pub ascending-drop : (n : ℕ) (rs : List (List ℕ)) → IsAscending (unit_pairs rs) → IsAscending (unit_pairs (drop n rs))
 ascending-drop zero rs a = a
 ascending-drop (suc n) [] a = tt
 ascending-drop (suc n) (r ∷ rs) a = ascending-drop n rs a.1
 
 -- one run counted
 pub count-step : (d count n total most : ℕ) (ks ls : List (Bor (List ℕ))) → ls ≡ drop n ks → 0 < length ks
-    → n ≡ first_run (rests d ks) → 0 < n → n ≤ length ks → GoOn (rests d ks) → IsAscending (lone_keys (rests d ks))
+    → n ≡ first_run (rests d ks) → 0 < n → n ≤ length ks → GoOn (rests d ks) → IsAscending (unit_pairs (rests d ks))
     → count + length ks ≤ most
-    → count + length (next_bytes (rests d ks) []) ≡ total → GoOn (rests d ls) × IsAscending (lone_keys (rests d ls))
+    → count + length (next_bytes (rests d ks) []) ≡ total → GoOn (rests d ls) × IsAscending (unit_pairs (rests d ls))
     × (count + 1 + length ls ≤ most) × (count + 1 + length (next_bytes (rests d ls) []) ≡ total)
 count-step d count n total most ks ls is some e one within g up fits counted =
     let after : rests d ls ≡ drop n (rests d ks) = ap (rests d) is ∙ rests-drop d n ks in

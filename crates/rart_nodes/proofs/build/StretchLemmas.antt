@@ -13,7 +13,7 @@ use Rattle.rart_keys.specs.ByteStrings.{IsLess}
 use Rattle.rart_keys.specs.KeyBytes.{IsWithin}
 use Rattle.rart_keys.specs.SortedMap.{AreAbove, IsAscending}
 use Rattle.rart_keys.proofs.ByteOrder.{eq-yes, eq-no, order, equal_or_not, is_equal, is_greater, cmp-itself}
-use Rattle.rart_nodes.specs.shapes.ShapeRecords.{keys_in, lone_keys}
+use Rattle.rart_nodes.specs.shapes.ShapeRecords.{keys_in, unit_pairs}
 use Rattle.rart_nodes.specs.build.Stretches.{rests, first_byte, run_of, first_run, GoOn, Reach, AreWithin, IsStretch}
 use Rattle.rart_nodes.proofs.build.RunLemmas.{byte-of}
 
@@ -47,15 +47,15 @@ between (x ∷ p) (y ∷ k) a b g h = ⊎_elim
     (λ e. h (rw (is_equal y x (sym s)) e)))))
     (λ s. absurd (g (rw (is_greater x y s) refl)))) (order x y)
 
-above-last : (f r : List ℕ) (rs : List (List ℕ)) → AreAbove f (lone_keys (r ∷ rs)) → IsLess f (last_of r rs)
+above-last : (f r : List ℕ) (rs : List (List ℕ)) → AreAbove f (unit_pairs (r ∷ rs)) → IsLess f (last_of r rs)
 above-last f r [] a = a.0
 above-last f r (s ∷ rs) a = above-last f s rs a.1
 
-up_to-last : (r : List ℕ) (rs : List (List ℕ)) → IsAscending (lone_keys (r ∷ rs)) → UpTo r (last_of r rs)
+up_to-last : (r : List ℕ) (rs : List (List ℕ)) → IsAscending (unit_pairs (r ∷ rs)) → UpTo r (last_of r rs)
 up_to-last r [] a = same-up_to r
 up_to-last r (s ∷ rs) a = below-up_to r (last_of s rs) (above-last r s rs a.0)
 
-all-have : (p f : List ℕ) (rs : List (List ℕ)) → IsAscending (lone_keys (f ∷ rs)) → f ≡ p ++ drop (length p) f
+all-have : (p f : List ℕ) (rs : List (List ℕ)) → IsAscending (unit_pairs (f ∷ rs)) → f ≡ p ++ drop (length p) f
     → last_of f rs ≡ p ++ drop (length p) (last_of f rs) → AllHave p (f ∷ rs)
 all-have p f [] a h l = (h, tt)
 all-have p f (r ∷ rs) a h l =
@@ -81,7 +81,7 @@ first-has (suc n) [] = refl
 first-has (suc n) (x ∷ f) = ap (λ z. x ∷ z) (first-has n f)
 
 -- all strings begin with what the first and the last share
-pub all-share : (f : List ℕ) (rs : List (List ℕ)) → IsAscending (lone_keys (f ∷ rs))
+pub all-share : (f : List ℕ) (rs : List (List ℕ)) → IsAscending (unit_pairs (f ∷ rs))
     → AllHave (take (common_prefix_len nat_eq f (last_of f rs)) f) (f ∷ rs)
 all-share f rs a = let n = common_prefix_len nat_eq f (last_of f rs) in
     all-have (take n f) f rs a (first-has n f) (last-has f (last_of f rs))
@@ -99,8 +99,8 @@ below-after : (p k l : List ℕ) → IsLess (p ++ k) (p ++ l) → IsLess k l
 below-after [] k l b = b
 below-after (x ∷ p) k l b = below-after p k l (rw (is_equal x x refl) at b)
 
-cut-above : (p r : List ℕ) (rs : List (List ℕ)) → r ≡ p ++ drop (length p) r → AllHave p rs → AreAbove r (lone_keys rs)
-    → AreAbove (drop (length p) r) (lone_keys (cut (length p) rs))
+cut-above : (p r : List ℕ) (rs : List (List ℕ)) → r ≡ p ++ drop (length p) r → AllHave p rs → AreAbove r (unit_pairs rs)
+    → AreAbove (drop (length p) r) (unit_pairs (cut (length p) rs))
 cut-above p r [] e h a = tt
 cut-above p r (s ∷ rs) e h a = (
   below-after p (drop (length p) r) (drop (length p) s) (rw (← e, ← h.0) a.0),
@@ -108,8 +108,8 @@ cut-above p r (s ∷ rs) e h a = (
       p r rs e h.1 a.1,
 )
 
-pub cut-ascending : (p : List ℕ) (rs : List (List ℕ)) → AllHave p rs → IsAscending (lone_keys rs)
-    → IsAscending (lone_keys (cut (length p) rs))
+pub cut-ascending : (p : List ℕ) (rs : List (List ℕ)) → AllHave p rs → IsAscending (unit_pairs rs)
+    → IsAscending (unit_pairs (cut (length p) rs))
 cut-ascending p [] h a = tt
 cut-ascending p (r ∷ rs) h a = (cut-above p r rs h.0 h.1 a.0, cut-ascending p rs h.1 a.1)
 
@@ -124,7 +124,7 @@ above-more [] [] b = absurd (cc)
 above-more (x ∷ r) [] b = absurd (cc)
 above-more r (y ∷ s) b = omega arith
 
-pub above-go_on : (r : List ℕ) (rs : List (List ℕ)) → AreAbove r (lone_keys rs) → GoOn rs
+pub above-go_on : (r : List ℕ) (rs : List (List ℕ)) → AreAbove r (unit_pairs rs) → GoOn rs
 above-go_on r [] a = tt
 above-go_on r (s ∷ rs) a = (above-more r s a.0, above-go_on r rs a.1)
 
@@ -138,11 +138,11 @@ abbrev pub AtLeast : ℕ → List (List ℕ) → Type 0
 AtLeast b [] = Unit {0}
 AtLeast b (r ∷ rs) = (b ≤ slice_index r 0) × AtLeast b rs
 
-above-at_least : (b : ℕ) (k : List ℕ) (rs : List (List ℕ)) → AreAbove (b ∷ k) (lone_keys rs) → AtLeast b rs
+above-at_least : (b : ℕ) (k : List ℕ) (rs : List (List ℕ)) → AreAbove (b ∷ k) (unit_pairs rs) → AtLeast b rs
 above-at_least b k [] a = tt
 above-at_least b k (r ∷ rs) a = (least b k r a.0, above-at_least b k rs a.1)
 
-above-first : (r : List ℕ) (rs : List (List ℕ)) → 0 < length r → AreAbove r (lone_keys rs)
+above-first : (r : List ℕ) (rs : List (List ℕ)) → 0 < length r → AreAbove r (unit_pairs rs)
     → AtLeast (slice_index r 0) rs
 above-first [] rs h a = absurd (omega arith)
 above-first (b ∷ k) rs h a = above-at_least b k rs a
@@ -155,7 +155,7 @@ at_least-at b d (suc i) (k ∷ ks) x h l = at_least-at b d i ks x h.1 (omega ari
 
 -- where the first byte of ascending keys comes again, all between have it
 in-run : (b d i : ℕ) (ks : List (Bor (List ℕ))) (x : Bor (List ℕ)) → AtLeast b (rests d ks) → GoOn (rests d ks)
-    → IsAscending (lone_keys (rests d ks)) → i < length ks → slice_index (get_or ks i x).now d ≡ b
+    → IsAscending (unit_pairs (rests d ks)) → i < length ks → slice_index (get_or ks i x).now d ≡ b
     → i < run_of b (rests d ks)
 in-run b d i [] x m g a l e = absurd (omega arith)
 in-run b d zero (k ∷ ks) x m g a l e = rw (eq-yes (slice_index (drop d k.now) 0) b (byte-of d k.now ∙ e)) (omega arith)
@@ -171,7 +171,8 @@ in-run b d (suc i) (k ∷ ks) x m g a l e = ⊎_elim
     (equal_or_not (slice_index (drop d k.now) 0) b)
 
 pub run-inside : (d i : ℕ) (ks : List (Bor (List ℕ))) (x : Bor (List ℕ)) → GoOn (rests d ks)
-    → IsAscending (lone_keys (rests d ks)) → i < length ks → slice_index (get_or ks i x).now d ≡ first_byte (rests d ks)
+    → IsAscending (unit_pairs (rests d ks)) → i < length ks → slice_index (get_or ks i x).now d ≡ first_byte
+    (rests d ks)
     → i < first_run (rests d ks)
 run-inside d i [] x g a l e = absurd (omega arith)
 run-inside d i (k ∷ ks) x g a l e = in-run (slice_index (drop d k.now) 0) d i (k ∷ ks) x
@@ -188,19 +189,20 @@ run-beyond b (r ∷ rs) h = ⊎_elim
     (λ e. rw (eq-yes (slice_index r 0) b e) (run-beyond b rs h.1))
     (λ n. rw (eq-no (slice_index r 0) b n) (omega (arith, h.0, n))) (equal_or_not (slice_index r 0) b)
 
-pub next-beyond : (rs : List (List ℕ)) → GoOn rs → IsAscending (lone_keys rs)
+pub next-beyond : (rs : List (List ℕ)) → GoOn rs → IsAscending (unit_pairs rs)
     → StartsBeyond (first_byte rs) (drop (first_run rs) rs)
 next-beyond [] g a = tt
 next-beyond ([] ∷ rs) g a = absurd (omega (arith, g.0))
 next-beyond ((b ∷ k) ∷ rs) g a = run-beyond b ((b ∷ k) ∷ rs) (omega arith, above-at_least b k rs a.0)
 
 -- parts of stretches
-above-take : (n : ℕ) (r : List ℕ) (rs : List (List ℕ)) → AreAbove r (lone_keys rs) → AreAbove r (lone_keys (take n rs))
+above-take : (n : ℕ) (r : List ℕ) (rs : List (List ℕ)) → AreAbove r (unit_pairs rs) → AreAbove r
+    (unit_pairs (take n rs))
 above-take zero r rs a = tt
 above-take (suc n) r [] a = tt
 above-take (suc n) r (s ∷ rs) a = (a.0, above-take n r rs a.1)
 
-pub ascending-take : (n : ℕ) (rs : List (List ℕ)) → IsAscending (lone_keys rs) → IsAscending (lone_keys (take n rs))
+pub ascending-take : (n : ℕ) (rs : List (List ℕ)) → IsAscending (unit_pairs rs) → IsAscending (unit_pairs (take n rs))
 ascending-take zero rs a = tt
 ascending-take (suc n) [] a = tt
 ascending-take (suc n) (r ∷ rs) a = (above-take n r rs a.0, ascending-take n rs a.1)
@@ -240,7 +242,7 @@ reach-whole m [] h = tt
 reach-whole m (k ∷ ks) h = (omega arith, h.0, reach-whole m ks h.1)
 
 pub whole-stretch : (m : Option ℕ) (ks : List (Bor (List ℕ))) → 0 < length ks → AreWithin m (keys_in ks)
-    → IsAscending (lone_keys (keys_in ks)) → IsStretch m 0 ks
+    → IsAscending (unit_pairs (keys_in ks)) → IsStretch m 0 ks
 whole-stretch m ks some within up = record {
   some = some;
   reach = reach-whole m ks within;

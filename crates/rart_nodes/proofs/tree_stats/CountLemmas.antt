@@ -6,7 +6,7 @@ use Rattle.std.specs.Prelude.{max}
 use Rattle.std.proofs.lemmas.Bool.Decides.{nat_tests}
 use Rattle.std.proofs.Math.Nat.{add_assoc}
 use Rattle.rart_nodes.specs.declared.stats.counts.Counts.{Counts}
-use Rattle.rart_nodes.specs.stats.CountedNodes.{width_count_of, counts_of_node, counts_by, counts_added, counts_in}
+use Rattle.rart_nodes.specs.stats.CountedNodes.{width_count_of, counts_of_node, counts_by, sum_of_counts, counts_in}
 use Rattle.rart_nodes.specs.stats.CountedNodes.{counts_in_children, counts_sum}
 use Rattle.rart_nodes.specs.stats.Stats.{one_if, trie_height, children_height}
 use Rattle.rart_nodes.specs.tries.Trie.{Trie, node, Children, no_children, child, edges_of}
@@ -18,16 +18,16 @@ pub max-numbers : (a b : ℕ) → ord_max nat_cmp a b ≡ max a b
 max-numbers a b = ⊎_elim (λ h. rw (is_less b a h) (omega arith))
     (⊎_elim (λ h. rw (is_equal b a h) (omega arith)) (λ h. rw (is_greater b a h) (omega arith))) (order b a)
 
-added-assoc : (a b c : Counts) → counts_added (counts_added a b) c ≡ counts_added a (counts_added b c)
+added-assoc : (a b c : Counts) → sum_of_counts (sum_of_counts a b) c ≡ sum_of_counts a (sum_of_counts b c)
 added-assoc a b c = simp add_assoc refl
 
 add-none : (a : ℕ) → a ≡ a + 0
 add-none a = omega arith
 
-none-added : (a : Counts) → a ≡ counts_added a (counts_by (λ m. 0))
+none-added : (a : Counts) → a ≡ sum_of_counts a (counts_by (λ m. 0))
 none-added a = simp (← add-none) refl
 
-sum-added : (a b : Counts) → counts_sum (counts_added a b) ≡ counts_sum a + counts_sum b
+sum-added : (a b : Counts) → counts_sum (sum_of_counts a b) ≡ counts_sum a + counts_sum b
 sum-added a b = omega arith
 
 -- a node adds at most 3 and its children, since it has one width
@@ -61,7 +61,7 @@ module _ {V : Type 0} where
   -- what a walk over the children of the node t keeps: `counts`, with what the children `es` still to come add, is
   -- `before` with what t adds, and no sum passes 4 for each node
   pub record Counting (before counts : Counts) (below : ℕ) (t : Trie V) (es : List (ℕ × Trie V)) : Type 0 where
-    pub counted : counts_added counts (counts_in_children (as_children es)) ≡ counts_added before (counts_in t)
+    pub counted : sum_of_counts counts (counts_in_children (as_children es)) ≡ sum_of_counts before (counts_in t)
     pub fits : counts_sum counts + 4 * child_count (as_children es) + 1 ≤ counts_sum before + 4 * node_count t
         + length es
     pub fewer : child_count (as_children es) < node_count t
@@ -70,7 +70,7 @@ module _ {V : Type 0} where
   pub count-start : (before counts : Counts) (p : List ℕ) (v : Option V) (n k : ℕ) (es child_entries : List (ℕ
       × Trie V))
       → as_children es ≡ as_children child_entries → k ≡ length child_entries →
-      counts ≡ counts_added before (counts_of_node (is_some v) n k) →
+      counts ≡ sum_of_counts before (counts_of_node (is_some v) n k) →
       Counting before counts 0 (node p v n (as_children child_entries)) es
   count-start before counts p v n k es child_entries s l e =
       let own : counts_of_node (is_some v) n k ≡ counts_of_node (is_some v) n (length (edges_of
@@ -79,7 +79,7 @@ module _ {V : Type 0} where
       record {
         counted = rw (e, s) (added-assoc before (counts_of_node (is_some v) n k)
             (counts_in_children (as_children child_entries))
-            ∙ ap (λ o. counts_added before (counts_added o (counts_in_children (as_children child_entries)))) own);
+            ∙ ap (λ o. sum_of_counts before (sum_of_counts o (counts_in_children (as_children child_entries)))) own);
         fits = rw s (omega (
           arith,
           l,
@@ -96,7 +96,8 @@ module _ {V : Type 0} where
 
   pub count-step : (before counts after : Counts) (below height : ℕ) (t u : Trie V) (b : ℕ)
       (es rest : List (ℕ × Trie V)) → es ≡ (b, u) ∷ rest →
-      after ≡ counts_added counts (counts_in u) → height ≡ max below (trie_height u) → Counting before counts below t es
+      after ≡ sum_of_counts counts (counts_in u) → height ≡ max below (trie_height u) → Counting before counts below
+      t es
       → Counting before after height t rest
   count-step before counts after below height t u b es rest s e m i =
       let counted = rw s at i.counted in
@@ -121,7 +122,7 @@ module _ {V : Type 0} where
       (omega (arith, fits, few-edges (as_children rest), edges_of-length rest), omega (arith, fewer))
 
   pub count-end : (before counts : Counts) (below : ℕ) (t : Trie V) (es : List (ℕ × Trie V)) → es ≡ [] →
-      Counting before counts below t es → (counts ≡ counts_added before (counts_in t)) × (1 + below ≡ trie_height t)
+      Counting before counts below t es → (counts ≡ sum_of_counts before (counts_in t)) × (1 + below ≡ trie_height t)
   count-end before counts below t es s i =
       let counted = rw s at i.counted in
       let tall = rw s at i.tall in

@@ -5,8 +5,8 @@ use Rattle.std.proofs.lemmas.Bool.Decides.{nat_tests}
 use Rattle.std.proofs.lemmas.List.{length-map}
 use Rattle.rart_keys.specs.SortedMap.{keys_of}
 use Rattle.rart_nodes.specs.declared.stats.counts.Counts.{Counts}
-use Rattle.rart_nodes.specs.stats.CountedNodes.{counts_by, counts_added, counts_in, counts_in_children, counts_sum}
-use Rattle.rart_nodes.specs.stats.CountedNodes.{inner_counted, children_counted, width_counted, stats_counted}
+use Rattle.rart_nodes.specs.stats.CountedNodes.{counts_by, sum_of_counts, counts_in, counts_in_children, counts_sum}
+use Rattle.rart_nodes.specs.stats.CountedNodes.{inner_counted, children_counted, counted_width, stats_of_counts}
 use Rattle.rart_nodes.specs.shapes.Shape.{capacity_of}
 use Rattle.rart_nodes.specs.stats.Stats.{Statistics, one_if, inner_at, children_at, width_at, sum_in}
 use Rattle.rart_nodes.specs.stats.Stats.{sum_in_children, trie_height, stats_of}
@@ -35,14 +35,14 @@ kind-width n c e = grind (arith, nat_tests)
 add-zero : (a : ℕ) → 0 + a ≡ a
 add-zero a = omega arith
 
-from-none : (a : Counts) → counts_added (counts_by (λ m. 0)) a ≡ a
+from-none : (a : Counts) → sum_of_counts (counts_by (λ m. 0)) a ≡ a
 from-none a = simp add-zero refl
 
 module _ {V : Type 0} where
   mutual
     kinds-summed : (t : Trie V) → IsCanonical t →
         (inner_counted (counts_in t) ≡ sum_in inner_at t) × (children_counted (counts_in t) ≡ sum_in children_at t)
-        × (width_counted (counts_in t) ≡ sum_in width_at t)
+        × (counted_width (counts_in t) ≡ sum_in width_at t)
     kinds-summed (node p v n cs) w =
         let below = kinds-summed-children 0 cs w.2 in
         let c = length (edges_of cs) in (
@@ -55,7 +55,7 @@ module _ {V : Type 0} where
     kinds-summed-children : (low : ℕ) (cs : Children V) → AreCanonical low cs →
         (inner_counted (counts_in_children cs) ≡ sum_in_children inner_at cs)
         × (children_counted (counts_in_children cs) ≡ sum_in_children children_at cs)
-        × (width_counted (counts_in_children cs) ≡ sum_in_children width_at cs)
+        × (counted_width (counts_in_children cs) ≡ sum_in_children width_at cs)
     kinds-summed-children low no_children w = (omega arith, omega arith, omega arith)
     kinds-summed-children low (child b t cs) w =
         let first = kinds-summed t w.2 in
@@ -63,11 +63,11 @@ module _ {V : Type 0} where
         (omega (arith, first.0, rest.0), omega (arith, first.1, rest.1), omega (arith, first.2, rest.2))
 
   pub counted-statistics : (t : Trie V) (c : Counts) (h : ℕ) (s : Statistics) → IsCanonical t
-      → c ≡ counts_added (counts_by (λ m. 0)) (counts_in t) → h ≡ trie_height t → s ≡ stats_counted c h →
+      → c ≡ sum_of_counts (counts_by (λ m. 0)) (counts_in t) → h ≡ trie_height t → s ≡ stats_of_counts c h →
       s ≡ stats_of (keys_of (pairs_of t)) (nodes_of t)
   counted-statistics t c h s w e i r =
       let sums = kinds-summed t w in
-      r ∙ ap (stats_counted c) i ∙ ap (λ c. stats_counted c (trie_height t)) (e ∙ from-none (counts_in t))
+      r ∙ ap (stats_of_counts c) i ∙ ap (λ c. stats_of_counts c (trie_height t)) (e ∙ from-none (counts_in t))
       ∙ rw (sums.0, sums.1, sums.2) refl ∙ statistics-keys t w
 
   mutual
@@ -81,17 +81,17 @@ module _ {V : Type 0} where
   pub few-for-keys : (t : Trie V) → IsCanonical t → 4 * node_count t ≤ 16 * length (pairs_of t)
   few-for-keys t w = omega (arith, few_nodes t w, node_count-nodes_of t)
 
-  pub sums-for-keys : (t : Trie V) (c : Counts) → IsCanonical t → c ≡ counts_added (counts_by (λ m. 0)) (counts_in t)
-      → (counts_sum c ≤ 16 * length (pairs_of t)) × (width_counted c ≤ 16 * length (pairs_of t))
+  pub sums-for-keys : (t : Trie V) (c : Counts) → IsCanonical t → c ≡ sum_of_counts (counts_by (λ m. 0)) (counts_in t)
+      → (counts_sum c ≤ 16 * length (pairs_of t)) × (counted_width c ≤ 16 * length (pairs_of t))
   sums-for-keys t c w e =
       let same = e ∙ from-none (counts_in t) in (
         omega (arith, ap counts_sum same, few-counted t, few-for-keys t w),
         omega
-            (arith, ap width_counted same, (kinds-summed t w).2, few_widths t w),
+            (arith, ap counted_width same, (kinds-summed t w).2, few_widths t w),
       )
 
   -- an inner node has capacity for four children, and there are two keys
-  pub inner-keys : (t : Trie V) (c : Counts) → IsCanonical t → c ≡ counts_added (counts_by (λ m. 0)) (counts_in t)
+  pub inner-keys : (t : Trie V) (c : Counts) → IsCanonical t → c ≡ sum_of_counts (counts_by (λ m. 0)) (counts_in t)
       → 1 ≤ inner_counted c → 2 ≤ length (pairs_of t)
   inner-keys t c w e i = let same = e ∙ from-none (counts_in t) in
       omega (arith, i, ap inner_counted same, (kinds-summed t w).2, few_widths t w)

@@ -4,7 +4,7 @@ use Rattle.std.specs.Prelude.{if◌then◌else◌}
 use Rattle.std.specs.Borrow.{Bor}
 use Rattle.rart_keys.specs.KeyBytes.{IsWithin}
 use Rattle.rart_keys.specs.SortedMap.{IsAscending}
-use Rattle.rart_nodes.specs.shapes.ShapeRecords.{keys_in, lone_keys}
+use Rattle.rart_nodes.specs.shapes.ShapeRecords.{keys_in, unit_pairs}
 
 -- what is left of the keys after a depth
 abbrev pub rests : ℕ → List (Bor (List ℕ)) → List (List ℕ)
@@ -43,7 +43,7 @@ AreWithin m (k ∷ ks) = IsWithin m (length k) × AreWithin m ks
 pub record IsStretch (m : Option ℕ) (d : ℕ) (ks : List (Bor (List ℕ))) : Type 0 where
   pub some : 0 < length ks
   pub reach : Reach m d ks
-  pub ascending : IsAscending (lone_keys (rests d ks))
+  pub ascending : IsAscending (unit_pairs (rests d ks))
 
 -- the length of the first key
 abbrev pub first_length : List (Bor (List ℕ)) → ℕ

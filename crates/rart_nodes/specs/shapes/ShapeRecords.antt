@@ -10,8 +10,8 @@ abbrev pub keys_in : List (Bor (List ℕ)) → List (List ℕ)
 keys_in ks = map (λ k. k.now) ks
 
 -- the keys as a map, with nothing beside each
-abbrev pub lone_keys : List (List ℕ) → List (List ℕ × Unit {0})
-lone_keys s = map (λ k. (k, tt)) s
+abbrev pub unit_pairs : List (List ℕ) → List (List ℕ × Unit {0})
+unit_pairs s = map (λ k. (k, tt)) s
 
 abbrev pub node_record : ShapeRecord → NodeRecord
 node_record r = record { holds_value = r.holds_value; edges = r.edges.items; capacity = r.capacity }

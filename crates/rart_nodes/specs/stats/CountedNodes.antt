@@ -50,8 +50,8 @@ counts_of_node h n c = record {
 abbrev pub width_counts_added : WidthCount → WidthCount → WidthCount
 width_counts_added a b = record { nodes = a.nodes + b.nodes; children = a.children + b.children }
 
-abbrev pub counts_added : Counts → Counts → Counts
-counts_added a b = record {
+abbrev pub sum_of_counts : Counts → Counts → Counts
+sum_of_counts a b = record {
   leaves = a.leaves + b.leaves;
   values = a.values + b.values;
   four
@@ -79,17 +79,17 @@ inner_counted c = c.four.nodes + c.sixteen.nodes + c.forty_eight.nodes + c.full.
 abbrev pub children_counted : Counts → ℕ
 children_counted c = c.four.children + c.sixteen.children + c.forty_eight.children + c.full.children
 
-abbrev pub width_counted : Counts → ℕ
-width_counted c = 4 * c.four.nodes + 16 * c.sixteen.nodes + 48 * c.forty_eight.nodes + 256 * c.full.nodes
+abbrev pub counted_width : Counts → ℕ
+counted_width c = 4 * c.four.nodes + 16 * c.sixteen.nodes + 48 * c.forty_eight.nodes + 256 * c.full.nodes
 
-abbrev pub stats_counted : Counts → ℕ → Statistics
-stats_counted c h = record {
+abbrev pub stats_of_counts : Counts → ℕ → Statistics
+stats_of_counts c h = record {
   leaves = c.leaves;
   values = c.values;
   inner_nodes = inner_counted c;
   widths = width_entry 4 c.four.nodes c.four.children ++ width_entry 16 c.sixteen.nodes c.sixteen.children
       ++ width_entry 48 c.forty_eight.nodes c.forty_eight.children ++ width_entry 256 c.full.nodes c.full.children;
   children = children_counted c;
-  width = width_counted c;
+  width = counted_width c;
   height = h;
 }

@@ -3,6 +3,7 @@ ghost use Rattle.std.specs.Prelude.{◌≡◌, ◌≢◌, ◌↔◌, [], length,
 ghost use Rattle.std.specs.Prelude.{OnOk, OnSome};
 ghost use Rattle.std.specs.Borrow.{sem, LendsSo};
 ghost use Rattle.std.specs.Option.{option_copied, option_copied_mut};
+ghost use Rattle.rart_parts.specs.Errors.{IsMemory};
 ghost use Rattle.rart_nodes.specs.edits.ChildChanges.{child_value, with_child_replaced, with_child_value};
 ghost use Rattle.rart_nodes.specs.edits.Deletion.{JoinsWithin, ShrinksWithout, without_child};
 ghost use Rattle.rart_nodes.specs.edits.NodeEdits.{with_child, with_value};
@@ -33,7 +34,7 @@ pub trait Node<P: Partial, V>: Sized {
     /// [`TreeError::Memory`] if the allocation fails.
     fn new_inner(alloc: Global, prefix: P) -> Result<Self, TreeError>
         ensures ok { IfOk result (λ n. trie n ≡ node (P.bytes prefix) None 4 no_children) }
-        ensures memory { IfErr result (λ e. e ≡ TreeError.Memory) };
+        ensures memory { IfErr result IsMemory };
 
     /// Returns the value of the node.
     fn value(&self) -> Option<&V>
@@ -109,7 +110,7 @@ pub trait Node<P: Partial, V>: Sized {
         ensures rest { OnOk result (trie self.new ≡ without_child key (trie self.old)) }
         ensures unchanged { OnErr result (trie self.new ≡ trie self.old) }
         ensures allocates { OnErr result (ShrinksWithout key (trie self.old)) }
-        ensures memory { IfErr result (λ e. e ≡ TreeError.Memory) };
+        ensures memory { IfErr result IsMemory };
 
     /// Returns the greatest number of children of this kind of node.
     fn capacity(&self) -> usize
@@ -212,7 +213,7 @@ impl<P: Partial, V> DefaultNode<P, V> {
     /// [`TreeError::Memory`] if the allocation fails.
     pub fn new_4(alloc: Global, prefix: P) -> Result<Self, TreeError>
         ensures ok { IfOk result (λ n. n ≡ node (P.bytes prefix) None 4 no_children) }
-        ensures memory { IfErr result (λ e. e ≡ TreeError.Memory) }
+        ensures memory { IfErr result IsMemory }
     {
         let storage = Storage::new_4(alloc)?;
         Ok(DefaultNode::over(prefix, storage))
@@ -225,7 +226,7 @@ impl<P: Partial, V> DefaultNode<P, V> {
     /// [`TreeError::Memory`] if the allocation fails.
     pub fn new_16(alloc: Global, prefix: P) -> Result<Self, TreeError>
         ensures ok { IfOk result (λ n. n ≡ node (P.bytes prefix) None 16 no_children) }
-        ensures memory { IfErr result (λ e. e ≡ TreeError.Memory) }
+        ensures memory { IfErr result IsMemory }
     {
         let storage = Storage::new_16(alloc)?;
         Ok(DefaultNode::over(prefix, storage))
@@ -238,7 +239,7 @@ impl<P: Partial, V> DefaultNode<P, V> {
     /// [`TreeError::Memory`] if the allocation fails.
     pub fn new_48(alloc: Global, prefix: P) -> Result<Self, TreeError>
         ensures ok { IfOk result (λ n. n ≡ node (P.bytes prefix) None 48 no_children) }
-        ensures memory { IfErr result (λ e. e ≡ TreeError.Memory) }
+        ensures memory { IfErr result IsMemory }
     {
         let storage = Storage::new_48(alloc)?;
         Ok(DefaultNode::over(prefix, storage))
@@ -251,7 +252,7 @@ impl<P: Partial, V> DefaultNode<P, V> {
     /// [`TreeError::Memory`] if the allocation fails.
     pub fn new_256(alloc: Global, prefix: P) -> Result<Self, TreeError>
         ensures ok { IfOk result (λ n. n ≡ node (P.bytes prefix) None 256 no_children) }
-        ensures memory { IfErr result (λ e. e ≡ TreeError.Memory) }
+        ensures memory { IfErr result IsMemory }
     {
         let storage = Storage::new_256(alloc)?;
         Ok(DefaultNode::over(prefix, storage))

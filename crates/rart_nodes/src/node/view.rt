@@ -3,6 +3,7 @@ ghost use Rattle.std.specs.Prelude.{◌≡◌, ◌<◌, ◌^◌, ◌↔◌, ◌+
 ghost use Rattle.std.specs.Cmp.Lexicographic.{slice_cmp};
 ghost use Rattle.std.specs.Iterator.{YieldsFirstBy, item_count};
 ghost use Rattle.std.specs.Ordering.{nat_cmp};
+ghost use Rattle.rart_parts.specs.Errors.{IsMemory};
 ghost use Rattle.rart_keys.specs.KeyBytes.{IsWithin};
 ghost use Rattle.rart_nodes.specs.walks.Walk.{joined_bytes};
 ghost use Rattle.rart_nodes.specs.walks.PathParts.{lent_segments};
@@ -119,7 +120,7 @@ impl<'tree, 'view> LendingKeyView<'tree, 'view> {
         ensures written { OnOk result (destination.new.items
             ≡ destination.old.items ++ view_bytes self.entry) }
         ensures unchanged { OnErr result (destination.new.items ≡ destination.old.items) }
-        ensures memory { IfErr result (λ e. e ≡ TreeError.Memory) }
+        ensures memory { IfErr result IsMemory }
     {
         destination.reserve(self.len())?;
         let mut segments = self.segments.iter();
@@ -138,7 +139,7 @@ impl<'tree, 'view> LendingKeyView<'tree, 'view> {
     /// [`TreeError::Memory`] if the allocation fails.
     pub fn to_vec(self, alloc: Global) -> Result<Vec<u8>, TreeError>
         ensures bytes { IfOk result (λ v. v.items ≡ view_bytes self.entry) }
-        ensures memory { IfErr result (λ e. e ≡ TreeError.Memory) }
+        ensures memory { IfErr result IsMemory }
     {
         let mut bytes = Vec::new(alloc);
         self.write_into(&mut bytes)?;
@@ -153,7 +154,7 @@ impl<'tree, 'view> LendingKeyView<'tree, 'view> {
     pub fn to_key<K: KeyTrait>(self, alloc: Global) -> Result<K, TreeError>
         requires { IsWithin K.MAXIMUM_SIZE (length (view_bytes self)) }
         ensures bytes { IfOk result (λ k. K.bytes k ≡ view_bytes self.entry) }
-        ensures memory { IfErr result (λ e. e ≡ TreeError.Memory) }
+        ensures memory { IfErr result IsMemory }
     {
         let bytes = self.to_vec(alloc)?;
         Ok(K::new_from_slice(bytes.as_slice()))

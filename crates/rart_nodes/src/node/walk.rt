@@ -165,7 +165,7 @@ impl<'a, K: KeyTrait, V, C: Count> Seen<'a, K, V, C> {
         ensures requested { IfOk result (λ w. T.requested w.1 ≤ length_bound self.entry) }
         ensures entries { IfOk result (λ w. walk_entries T.grown (T.kept w.1) w.0
             ≡ tree_entries T.grown (seen_tree self.entry)) }
-        ensures memory { OnErr result (seen_pairs self.entry ≢ []) }
+        ensures allocates { OnErr result (seen_pairs self.entry ≢ []) }
         ensures visits { IfOk result (λ w. C.number counter.new + walk_nodes w.0
             ≡ C.number counter.old + tree_count (seen_tree self.entry)) }
         ensures longest { IfOk result (λ w. w.0.longest ≤ length_bound self.entry) }

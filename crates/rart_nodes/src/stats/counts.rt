@@ -1,7 +1,8 @@
 //! The counters for the statistics of a tree; only the conversion to statistics allocates.
 ghost use Rattle.std.specs.Prelude.{◌≡◌, ◌+◌, ◌≤◌, IfErr, IfOk, OnErr, OnOk};
-ghost use Rattle.rart_nodes.specs.stats.CountedNodes.{children_counted, counts_added, counts_by, counts_of_node};
-ghost use Rattle.rart_nodes.specs.stats.CountedNodes.{counts_sum, inner_counted, stats_counted, width_counted};
+ghost use Rattle.rart_parts.specs.Errors.{IsMemory};
+ghost use Rattle.rart_nodes.specs.stats.CountedNodes.{children_counted, sum_of_counts, counts_by, counts_of_node};
+ghost use Rattle.rart_nodes.specs.stats.CountedNodes.{counts_sum, inner_counted, stats_of_counts, counted_width};
 ghost use Rattle.rart_nodes.specs.stats.CountedNodes.{with_width};
 ghost use Rattle.rart_nodes.specs.stats.Stats.{one_if, stats_in};
 
@@ -61,7 +62,7 @@ impl WidthCount {
     ) -> Result<(), TreeError>
         ensures put { OnOk result
             (node_stats.new.entries ≡ with_width self.now width node_stats.old.entries) }
-        ensures memory { IfErr result (λ e. e ≡ TreeError.Memory) }
+        ensures memory { IfErr result IsMemory }
         ensures allocates { OnErr result (1 ≤ self.now.nodes) }
     {
         if self.nodes == 0 {
@@ -97,7 +98,7 @@ impl Counts {
     /// Counts a node of capacity `width`.
     pub(crate) fn add_node(&mut self, holds_value: bool, width: usize, children: usize)
         requires { counts_sum self.old + 3 + children ≤ usize.MAX }
-        ensures { self.new ≡ counts_added self.old (counts_of_node holds_value width children) }
+        ensures { self.new ≡ sum_of_counts self.old (counts_of_node holds_value width children) }
     {
         self.leaves += one_if(children == 0);
         self.values += one_if(holds_value);
@@ -125,8 +126,8 @@ impl Counts {
     }
 
     fn total_width(&self) -> usize
-        requires { width_counted self.now ≤ usize.MAX }
-        ensures { result ≡ width_counted self.now }
+        requires { counted_width self.now ≤ usize.MAX }
+        ensures { result ≡ counted_width self.now }
     {
         4 * self.four.nodes
             + 16 * self.sixteen.nodes
@@ -141,9 +142,9 @@ impl Counts {
     /// [`TreeError::Memory`] if an inner node was counted and an allocation fails.
     pub(crate) fn to_stats(&self, alloc: Global, height: usize) -> Result<TreeStats, TreeError>
         requires counts { counts_sum self.now ≤ usize.MAX }
-        requires width { width_counted self.now ≤ usize.MAX }
-        ensures value { IfOk result (λ s. stats_in s ≡ stats_counted self.now height) }
-        ensures memory { IfErr result (λ e. e ≡ TreeError.Memory) }
+        requires width { counted_width self.now ≤ usize.MAX }
+        ensures value { IfOk result (λ s. stats_in s ≡ stats_of_counts self.now height) }
+        ensures memory { IfErr result IsMemory }
         ensures allocates { OnErr result (1 ≤ inner_counted self.now) }
     {
         let mut node_stats = BTreeMap::new(alloc);

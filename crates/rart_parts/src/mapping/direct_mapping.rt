@@ -4,6 +4,7 @@ ghost use Rattle.std.specs.Prelude.{◌≡◌, ℕ, [], ◌∷◌, IfSome, Some,
 ghost use Rattle.std.specs.Iterator.{UpTo, YieldsFirst, YieldsFirstBy, item_count};
 ghost use Rattle.std.specs.Iterator.SizeHint.{IsWithinCount};
 ghost use Rattle.rart_parts.specs.Entries.{BytesAscend, sorted_entries, entries_above};
+ghost use Rattle.rart_parts.specs.Errors.{IsMemory};
 
 use crate::error::TreeError;
 use crate::mapping::{IndexedMapping, NodeMapping};
@@ -43,7 +44,7 @@ impl<N> DirectMapping<N> {
     /// [`TreeError::Memory`] if the allocation fails.
     pub fn new(alloc: Global) -> Result<Self, TreeError>
         ensures ok { IfOk result (λ m. m ≡ []) }
-        ensures memory { IfErr result (λ e. e ≡ TreeError.Memory) }
+        ensures memory { IfErr result IsMemory }
     {
         let places = new_places(alloc, 256)?;
         Ok(DirectMapping {
@@ -86,7 +87,7 @@ impl<N> DirectMapping<N> {
     ) -> Result<Self, TreeError>
         ensures ok { IfOk result (λ m. m ≡ sorted_entries source.old) }
         ensures emptied { OnOk result (sorted_entries source.new ≡ []) }
-        ensures memory { IfErr result (λ e. e ≡ TreeError.Memory) }
+        ensures memory { IfErr result IsMemory }
         ensures unchanged { OnErr result (source.new ≡ source.old) }
     {
         let mut map = DirectMapping::new(alloc)?;

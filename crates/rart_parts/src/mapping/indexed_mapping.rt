@@ -8,6 +8,7 @@ ghost use Rattle.std.specs.Prelude.{OnOk, OnErr, MatchOption};
 ghost use Rattle.std.specs.Iterator.{UpTo, YieldsFirst, YieldsFirstBy, item_count};
 ghost use Rattle.std.specs.Iterator.SizeHint.{IsWithinCount};
 ghost use Rattle.rart_parts.specs.Entries.{BytesAscend, sorted_entries, child_at, entries_above};
+ghost use Rattle.rart_parts.specs.Errors.{IsMemory};
 
 use crate::error::TreeError;
 use crate::mapping::byte_index::{ByteIndex, ByteIndexIter};
@@ -52,7 +53,7 @@ impl<N, const W: usize, B: BitsetTrait> IndexedMapping<N, W, B> {
         requires covers { W ≤ B.CAPACITY }
         requires fits { B.CAPACITY < 2 ^ 64 }
         ensures ok { IfOk result (λ m. sorted_entries m ≡ []) }
-        ensures memory { IfErr result (λ e. e ≡ TreeError.Memory) }
+        ensures memory { IfErr result IsMemory }
     {
         let children = BitArray::new(alloc)?;
         Ok(IndexedMapping {
@@ -77,7 +78,7 @@ impl<N, const W: usize, B: BitsetTrait> IndexedMapping<N, W, B> {
         requires at_most { length source.old ≤ W }
         ensures ok { IfOk result (λ m. sorted_entries m ≡ source.old) }
         ensures emptied { OnOk result (source.new ≡ []) }
-        ensures memory { IfErr result (λ e. e ≡ TreeError.Memory) }
+        ensures memory { IfErr result IsMemory }
         ensures unchanged { OnErr result (source.new ≡ source.old) }
     {
         let mut map = IndexedMapping::new(alloc)?;
@@ -111,7 +112,7 @@ impl<N, const W: usize, B: BitsetTrait> IndexedMapping<N, W, B> {
         requires at_most { length source.old ≤ W }
         ensures ok { IfOk result (λ m. sorted_entries m ≡ source.old) }
         ensures emptied { OnOk result (source.new ≡ []) }
-        ensures memory { IfErr result (λ e. e ≡ TreeError.Memory) }
+        ensures memory { IfErr result IsMemory }
         ensures unchanged { OnErr result (source.new ≡ source.old) }
     {
         let mut map = IndexedMapping::new(alloc)?;
@@ -152,7 +153,7 @@ impl<N, const W: usize, B: BitsetTrait> IndexedMapping<N, W, B> {
         requires at_most { length (sorted_entries source.old) ≤ W }
         ensures ok { IfOk result (λ m. sorted_entries m ≡ sorted_entries source.old) }
         ensures emptied { OnOk result (sorted_entries source.new ≡ []) }
-        ensures memory { IfErr result (λ e. e ≡ TreeError.Memory) }
+        ensures memory { IfErr result IsMemory }
         ensures unchanged { OnErr result (source.new ≡ source.old) }
     {
         let mut map = IndexedMapping::new(alloc)?;

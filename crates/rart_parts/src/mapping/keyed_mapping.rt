@@ -6,6 +6,7 @@
 ghost use Rattle.std.specs.Prelude.{◌≡◌, ℕ, [], ◌<◌, ◌≤◌, ◌^◌, length, IfErr, IfOk, OnOk, OnErr};
 ghost use Rattle.rart_parts.specs.Bits.{IsFirst};
 ghost use Rattle.rart_parts.specs.Entries.{TakesEntry, sorted_entries};
+ghost use Rattle.rart_parts.specs.Errors.{IsMemory};
 ghost use Rattle.rart_parts.specs.Keys.{is_held};
 ghost use Rattle.rart_parts.specs.Places.{is_used};
 
@@ -52,7 +53,7 @@ impl<N, const W: usize, B: BitsetTrait> KeyedMapping<N, W, B> {
         requires covers { W ≤ B.CAPACITY }
         requires fits { B.CAPACITY < 2 ^ 64 }
         ensures ok { IfOk result (λ m. sorted_entries m ≡ []) }
-        ensures memory { IfErr result (λ e. e ≡ TreeError.Memory) }
+        ensures memory { IfErr result IsMemory }
     {
         let children = BitArray::new(alloc)?;
         Ok(KeyedMapping {
@@ -77,7 +78,7 @@ impl<N, const W: usize, B: BitsetTrait> KeyedMapping<N, W, B> {
         requires fits { B.CAPACITY < 2 ^ 64 }
         ensures ok { IfOk result (λ m. sorted_entries m ≡ sorted_entries source.old) }
         ensures emptied { OnOk result (sorted_entries source.new ≡ []) }
-        ensures memory { IfErr result (λ e. e ≡ TreeError.Memory) }
+        ensures memory { IfErr result IsMemory }
         ensures unchanged { OnErr result (source.new ≡ source.old) }
     {
         let mut map = KeyedMapping::new(alloc)?;
@@ -183,8 +184,8 @@ fn slot_of<N, const W: usize, B: BitsetTrait>(
     requires { length keys.now ≡ W }
     ensures { IsFirst (is_held keys.now key (is_used children.now)) W result }
 {
-    match children.used() {
+    match children.known_bitset() {
         Some(used) => u8_keys_find_key_position::<W, B>(key, keys, used),
-        None => u8_keys_find_key_position::<W, B>(key, keys, &children.found()),
+        None => u8_keys_find_key_position::<W, B>(key, keys, &children.scanned_bitset()),
     }
 }

@@ -5,6 +5,7 @@ ghost use Rattle.std.specs.Prelude.{MatchOption};
 ghost use Rattle.std.specs.Iterator.{UpTo, YieldsFirst, YieldsFirstBy, item_count};
 ghost use Rattle.std.specs.Iterator.SizeHint.{IsWithinCount};
 ghost use Rattle.rart_parts.specs.Entries.{BytesAscend, sorted_entries, entries_above};
+ghost use Rattle.rart_parts.specs.Errors.{IsMemory};
 ghost use Rattle.rart_parts.specs.Keys.{IsAscendingBelow, IsFirstAbove, IsPlaceOf};
 ghost use Rattle.rart_parts.specs.SortedKeyed.{IsPadded};
 
@@ -48,7 +49,7 @@ impl<N, const W: usize> SortedKeyedMapping<N, W> {
     pub fn new(alloc: Global) -> Result<Self, TreeError>
         requires { W ≤ 255 }
         ensures ok { IfOk result (λ m. m ≡ []) }
-        ensures memory { IfErr result (λ e. e ≡ TreeError.Memory) }
+        ensures memory { IfErr result IsMemory }
     {
         Ok(SortedKeyedMapping {
             keys: [255; W],
@@ -69,7 +70,7 @@ impl<N, const W: usize> SortedKeyedMapping<N, W> {
         requires at_most { length source.old ≤ W }
         ensures ok { IfOk result (λ m. m ≡ source.old) }
         ensures emptied { OnOk result (source.new ≡ []) }
-        ensures memory { IfErr result (λ e. e ≡ TreeError.Memory) }
+        ensures memory { IfErr result IsMemory }
         ensures unchanged { OnErr result (source.new ≡ source.old) }
     {
         let mut map = SortedKeyedMapping::new(alloc)?;
@@ -104,7 +105,7 @@ impl<N, const W: usize> SortedKeyedMapping<N, W> {
         requires at_most { length (sorted_entries source.old) ≤ W }
         ensures ok { IfOk result (λ m. m ≡ sorted_entries source.old) }
         ensures emptied { OnOk result (sorted_entries source.new ≡ []) }
-        ensures memory { IfErr result (λ e. e ≡ TreeError.Memory) }
+        ensures memory { IfErr result IsMemory }
         ensures unchanged { OnErr result (source.new ≡ source.old) }
     {
         let mut map = SortedKeyedMapping::new(alloc)?;

@@ -10,6 +10,7 @@ ghost use Rattle.std.specs.Prelude.{◌≡◌, [], ◌<◌, ◌≤◌, ◌^◌, 
 ghost use Rattle.std.specs.Prelude.{MatchOption, OnSome, Option, Some, None, slice_index_or, slice_set, replicate};
 ghost use Rattle.std.specs.Option.{option_copied, option_copied_mut};
 ghost use Rattle.rart_parts.specs.Bits.{IsFirst, IsLast};
+ghost use Rattle.rart_parts.specs.Errors.{IsMemory};
 ghost use Rattle.rart_parts.specs.Places.{Agrees, is_used, values_in, GivesLast, PopsLast};
 
 use crate::error::TreeError;
@@ -55,7 +56,7 @@ impl<X, const RANGE_WIDTH: usize, B: BitsetTrait> BitArray<X, RANGE_WIDTH, B> {
         requires covers { RANGE_WIDTH ≤ B.CAPACITY }
         requires fits { B.CAPACITY < 2 ^ 64 }
         ensures ok { IfOk result (λ a. a ≡ replicate RANGE_WIDTH None) }
-        ensures memory { IfErr result (λ e. e ≡ TreeError.Memory) }
+        ensures memory { IfErr result IsMemory }
     {
         let places = new_places(alloc, RANGE_WIDTH)?;
         Ok(BitArray {
@@ -117,7 +118,7 @@ impl<X, const RANGE_WIDTH: usize, B: BitsetTrait> BitArray<X, RANGE_WIDTH, B> {
     pub fn first_empty(&self) -> Option<usize>
         ensures { IsFirst (λ k. not (is_used self.now k)) RANGE_WIDTH result }
     {
-        let Some(used) = self.used() else {
+        let Some(used) = self.known_bitset() else {
             return first_free_place(&self.places);
         };
         let position = used.first_empty()?;
@@ -152,7 +153,7 @@ impl<X, const RANGE_WIDTH: usize, B: BitsetTrait> BitArray<X, RANGE_WIDTH, B> {
     }
 
     /// Returns the bitset of the used slots if it is known.
-    pub(crate) fn used(&self) -> Option<&B>
+    pub(crate) fn known_bitset(&self) -> Option<&B>
         ensures covers { RANGE_WIDTH ≤ B.CAPACITY }
         ensures fits { B.CAPACITY < 2 ^ 64 }
         ensures agrees { IfSome result (λ set. Agrees B.CAPACITY (B.has set.now) self.now) }
@@ -165,7 +166,7 @@ impl<X, const RANGE_WIDTH: usize, B: BitsetTrait> BitArray<X, RANGE_WIDTH, B> {
     }
 
     /// Returns the bitset of the used slots, found by a scan.
-    pub(crate) fn found(&self) -> B
+    pub(crate) fn scanned_bitset(&self) -> B
         ensures covers { RANGE_WIDTH ≤ B.CAPACITY }
         ensures agrees { Agrees B.CAPACITY (B.has result) self.now }
     {
@@ -245,7 +246,7 @@ impl<X, const RANGE_WIDTH: usize, B: BitsetTrait> BitArray<X, RANGE_WIDTH, B> {
         if self.bitset.first_set().is_some() {
             self.bitset.size()
         } else {
-            self.found().size()
+            self.scanned_bitset().size()
         }
     }
 }

@@ -1,6 +1,7 @@
 //! Functions on slices of slots, each with a value or without.
 ghost use Rattle.std.specs.Prelude.{◌≡◌, ◌<◌, ◌≤◌, ◌^◌, not, [], Some, None, length, replicate, IfErr, IfOk};
 ghost use Rattle.rart_parts.specs.Bits.{IsFirst, IsLast};
+ghost use Rattle.rart_parts.specs.Errors.{IsMemory};
 ghost use Rattle.rart_parts.specs.Places.{is_used, values_in, Agrees, AgreesIfAny};
 
 use crate::error::TreeError;
@@ -10,7 +11,7 @@ use std::alloc::Global;
 /// Returns `count` slots without values, allocated at once.
 pub(crate) fn new_places<X>(alloc: Global, count: usize) -> Result<Vec<Option<X>>, TreeError>
     ensures ok { IfOk result (λ places. places.items ≡ replicate count None) }
-    ensures memory { IfErr result (λ e. e ≡ TreeError.Memory) }
+    ensures memory { IfErr result IsMemory }
 {
     let mut places = Vec::with_capacity(alloc, count)?;
     for i in 0..count {

@@ -1,7 +1,7 @@
 //! The bytes of keys, as a bulk load reads them.
 ghost use Rattle.std.specs.Prelude.{◌≡◌, ◌<◌, length, map, IfErr, IfOk};
 ghost use Rattle.rart_keys.specs.SortedMap.{longest_key};
-ghost use Rattle.rart_nodes.specs.shapes.ShapeRecords.{keys_in, lone_keys};
+ghost use Rattle.rart_nodes.specs.shapes.ShapeRecords.{keys_in, unit_pairs};
 ghost use Rattle.rart.specs.BulkLoads.{AreKeysAt};
 
 use crate::bulk::BulkError;
@@ -52,7 +52,7 @@ pub(super) fn keys_by_index<'a, K: KeyTrait + 'a, F: Fn(usize) -> &'a K>(
 
 /// Returns the length of the longest key, 0 for no keys.
 pub(super) fn longest_of(keys: &[&[u8]]) -> usize
-    ensures { result ≡ longest_key (lone_keys (keys_in keys.now)) }
+    ensures { result ≡ longest_key (unit_pairs (keys_in keys.now)) }
 {
     let mut longest = 0;
     let mut at = 0;

@@ -5,12 +5,13 @@ ghost use Rattle.std.specs.List.{common_prefix_len};
 ghost use Rattle.rart_keys.specs.KeyBytes.{IsWithin};
 ghost use Rattle.rart_keys.specs.SortedMap.{IsAscending, keys_of, values_of};
 ghost use Rattle.rart_parts.specs.Entries.{child_at, with_entry};
+ghost use Rattle.rart_parts.specs.Errors.{IsMemory};
 ghost use Rattle.rart_nodes.specs.build.Built.{built};
 ghost use Rattle.rart_nodes.specs.build.Stretches.{AreWithin, GoOn, IsStretch, first_byte, first_bytes, first_length};
 ghost use Rattle.rart_nodes.specs.build.Stretches.{first_run, rests};
 ghost use Rattle.rart_nodes.specs.build.ValueCalls.{CanTake, Takes};
 ghost use Rattle.rart_nodes.specs.shapes.Shape.{capacity_of, next_bytes};
-ghost use Rattle.rart_nodes.specs.shapes.ShapeRecords.{keys_in, lone_keys};
+ghost use Rattle.rart_nodes.specs.shapes.ShapeRecords.{keys_in, unit_pairs};
 ghost use Rattle.rart_nodes.specs.storages.Stored.{child_entries, storage_capacity};
 ghost use Rattle.rart_nodes.specs.tries.Trie.{IsCanonical, pairs_of};
 
@@ -26,7 +27,7 @@ use std::alloc::Global;
 fn first_group(keys: &[&[u8]], depth: usize) -> (u8, usize)
     requires nonempty { 0 < length keys.now }
     requires go_on { GoOn (rests depth keys.now) }
-    requires ascending { IsAscending (lone_keys (rests depth keys.now)) }
+    requires ascending { IsAscending (unit_pairs (rests depth keys.now)) }
     ensures byte { result.0 ≡ first_byte (rests depth keys.now) }
     ensures run { result.1 ≡ first_run (rests depth keys.now) }
     ensures nonempty { 0 < result.1 }
@@ -55,7 +56,7 @@ fn first_group(keys: &[&[u8]], depth: usize) -> (u8, usize)
 /// Returns the number of different bytes of the keys at `depth`.
 fn count_branches(keys: &[&[u8]], depth: usize) -> usize
     requires go_on { GoOn (rests depth keys.now) }
-    requires ascending { IsAscending (lone_keys (rests depth keys.now)) }
+    requires ascending { IsAscending (unit_pairs (rests depth keys.now)) }
     ensures { result ≡ length (next_bytes (rests depth keys.now) []) }
 {
     let mut count = 0;
@@ -70,8 +71,8 @@ fn count_branches(keys: &[&[u8]], depth: usize) -> usize
 
 /// Returns the length of the common prefix of two keys from `depth` on.
 fn shared_length(first: &[u8], last: &[u8], depth: usize) -> usize
-    requires first { depth ≤ length first.now }
-    requires last { depth ≤ length last.now }
+    requires first_depth { depth ≤ length first.now }
+    requires last_depth { depth ≤ length last.now }
     ensures length { result
         ≡ common_prefix_len nat_eq (drop depth first.now) (drop depth last.now) }
     ensures reach { depth + result ≤ length first.now }
@@ -120,7 +121,7 @@ impl<N> Storage<N> {
     fn for_children(alloc: Global, count: usize) -> Result<Self, TreeError>
         ensures entries { IfOk result (λ s. child_entries s ≡ []) }
         ensures capacity { IfOk result (λ s. storage_capacity s ≡ capacity_of count) }
-        ensures memory { IfErr result (λ e. e ≡ TreeError.Memory) }
+        ensures memory { IfErr result IsMemory }
     {
         if count == 0 {
             Ok(Storage::empty())
@@ -151,7 +152,7 @@ impl<P: Partial, V: Drop> DefaultNode<P, V> {
     ) -> Result<Self, TreeError>
         requires nonempty { 0 < length keys.now }
         requires within { AreWithin P.MAXIMUM_SIZE (keys_in keys.now) }
-        requires ascending { IsAscending (lone_keys (keys_in keys.now)) }
+        requires ascending { IsAscending (unit_pairs (keys_in keys.now)) }
         requires callable { CanTake F.pre F.step 0 (length keys.now) take_value.old }
         ensures canonical { IfOk result IsCanonical }
         ensures keys { IfOk result (λ t. keys_of (pairs_of t) ≡ keys_in keys.now) }
@@ -159,7 +160,7 @@ impl<P: Partial, V: Drop> DefaultNode<P, V> {
             (λ t. Takes F.step 0 take_value.old (values_of (pairs_of t)) take_value.new) }
         ensures values_taken { OnErr result ((vs : List V) × (length vs ≤ length keys.now)
             × Takes F.step 0 take_value.old vs take_value.new) }
-        ensures memory { IfErr result (λ e. e ≡ TreeError.Memory) }
+        ensures memory { IfErr result IsMemory }
     {
         let (value, storage, end) = DefaultNode::build_below(alloc, keys, 0, 0, take_value)?;
         Ok(DefaultNode {
@@ -193,7 +194,7 @@ impl<P: Partial, V: Drop> DefaultNode<P, V> {
             (λ r. IsWithin P.MAXIMUM_SIZE (length (first_bytes depth r.2 keys.now))) }
         ensures values_taken { OnErr result ((vs : List V) × (length vs ≤ length keys.now)
             × Takes F.step from take_value.old vs take_value.new) }
-        ensures memory { IfErr result (λ e. e ≡ TreeError.Memory) }
+        ensures memory { IfErr result IsMemory }
     {
         let shared = shared_length(keys[0], keys[keys.len() - 1], depth);
         let below = depth + shared;

@@ -2,6 +2,7 @@
 ghost use Rattle.std.specs.Prelude.{◌≡◌, ◌≢◌, ◌+◌, ◌++◌, ◌≤◌, length, true, None, Some, IfErr, IfOk, OnErr};
 ghost use Rattle.std.specs.Prelude.{OnOk, option_map, slice_get};
 ghost use Rattle.std.specs.Option.{IsSomeAnd};
+ghost use Rattle.rart_parts.specs.Errors.{IsMemory};
 ghost use Rattle.rart_keys.specs.Filters.{last_or};
 ghost use Rattle.rart_keys.specs.KeyBytes.{IsWithin};
 ghost use Rattle.rart_keys.specs.SortedMap.{count_of, keys_of, longest_key, lookup};
@@ -36,7 +37,7 @@ impl<P: Partial, V> DefaultNode<P, V> {
             (Pops end self.old (P.bytes path.old) (P.bytes path.new) removed.new self.new) }
         ensures unchanged { OnErr result (self.new ≡ self.old) }
         ensures nothing { OnErr result (removed.new ≡ None) }
-        ensures memory { IfErr result (λ e. e ≡ TreeError.Memory) }
+        ensures memory { IfErr result IsMemory }
         ensures allocates { OnErr result (PopAllocates end self.old) }
     {
         extend(path, &self.prefix);
@@ -65,7 +66,7 @@ impl<P: Partial, V> DefaultNode<P, V> {
         ensures pairs { IfOk result (λ p. PopsEnd end (pairs_of self.old) (Some (P.bytes p.0, p.1))
             (pairs_of self.new)) }
         ensures unchanged { OnErr result (self.new ≡ self.old) }
-        ensures memory { IfErr result (λ e. e ≡ TreeError.Memory) }
+        ensures memory { IfErr result IsMemory }
         ensures allocates { OnErr result (IsSomeAnd (end_of end (pairs_of self.old))
             (λ p. (remove_allocates (keys_of (pairs_of self.old)) p.0 ≡ true)
             × (lookup p.0 (pairs_of self.old) ≢ None))) }
@@ -95,7 +96,7 @@ impl<P: Partial, V> DefaultNode<P, V> {
         ensures pairs { IfOk result (λ p. PopsEnd end (tree_pairs root.old)
             (option_map (λ p. (P.bytes p.0, p.1)) p) (tree_pairs root.new)) }
         ensures unchanged { OnErr result (root.new ≡ root.old) }
-        ensures memory { IfErr result (λ e. e ≡ TreeError.Memory) }
+        ensures memory { IfErr result IsMemory }
         ensures allocates { OnErr result (IsSomeAnd (end_of end (tree_pairs root.old))
             (λ p. (remove_allocates (keys_of (tree_pairs root.old)) p.0 ≡ true)
             × (lookup p.0 (tree_pairs root.old) ≢ None))) }
@@ -141,7 +142,7 @@ impl<P: Partial, V> DefaultNode<P, V> {
         ensures longest_key { OnOk result
             (longest_key (tree_pairs root.new) ≤ longest_key (tree_pairs root.old)) }
         ensures unchanged { OnErr result (root.new ≡ root.old) }
-        ensures memory { IfErr result (λ e. e ≡ TreeError.Memory) }
+        ensures memory { IfErr result IsMemory }
         ensures allocates { OnErr result (IsSomeAnd (slice_get (tree_pairs root.old) 0)
             (λ p. (remove_allocates (keys_of (tree_pairs root.old)) p.0 ≡ true)
             × (lookup p.0 (tree_pairs root.old) ≢ None))) }
@@ -165,7 +166,7 @@ impl<P: Partial, V> DefaultNode<P, V> {
         ensures longest_key { OnOk result
             (longest_key (tree_pairs root.new) ≤ longest_key (tree_pairs root.old)) }
         ensures unchanged { OnErr result (root.new ≡ root.old) }
-        ensures memory { IfErr result (λ e. e ≡ TreeError.Memory) }
+        ensures memory { IfErr result IsMemory }
         ensures allocates { OnErr result (IsSomeAnd (last_or None (tree_pairs root.old))
             (λ p. (remove_allocates (keys_of (tree_pairs root.old)) p.0 ≡ true)
             × (lookup p.0 (tree_pairs root.old) ≢ None))) }

@@ -1,6 +1,7 @@
 //! Removal from the subtree of a node, which allocates smaller storage before the first write.
 ghost use Rattle.std.specs.Prelude.{◌≡◌, ◌≢◌, ◌+◌, ◌≤◌, length, true, false, [], IfErr, IfOk, IfSome, None, Some};
 ghost use Rattle.std.specs.Prelude.{OnErr, OnOk, option_and_then};
+ghost use Rattle.rart_parts.specs.Errors.{IsMemory};
 ghost use Rattle.rart_keys.specs.KeyBytes.{IsWithin};
 ghost use Rattle.rart_keys.specs.SortedMap.{count_of, keys_of, lookup, without, longest_key};
 ghost use Rattle.rart_nodes.specs.edits.Deletion.{JoinsWithin, ShrinksWithout, is_leaf_at, needs_merge};
@@ -56,7 +57,7 @@ impl<P: Partial, V> DefaultNode<P, V> {
         ensures rest { OnOk result (self.new ≡ without_child b self.old) }
         ensures unchanged { OnErr result (self.new ≡ self.old) }
         ensures allocates { OnErr result (ShrinksWithout b self.old) }
-        ensures memory { IfErr result (λ e. e ≡ TreeError.Memory) }
+        ensures memory { IfErr result IsMemory }
     {
         let smallest = self.storage.capacity() == 4;
         let Some(child) = self.storage.delete_child(alloc, b)? else {
@@ -114,7 +115,7 @@ impl<P: Partial, V> DefaultNode<P, V> {
         ensures unchanged { OnErr result (self.new ≡ self.old) }
         ensures nothing { OnErr result (removed.new ≡ None) }
         ensures allocates { OnErr result (ShrinksWithout byte self.old) }
-        ensures memory { IfErr result (λ e. e ≡ TreeError.Memory) }
+        ensures memory { IfErr result IsMemory }
     {
         match self.take_child(alloc, byte)? {
             Some(child) => {
@@ -140,7 +141,7 @@ impl<P: Partial, V> DefaultNode<P, V> {
         ensures answer { OnOk result (removed.new ≡ trie_lookup key.now self.old) }
         ensures unchanged { OnErr result (self.new ≡ self.old) }
         ensures nothing { OnErr result (removed.new ≡ None) }
-        ensures memory { IfErr result (λ e. e ≡ TreeError.Memory) }
+        ensures memory { IfErr result IsMemory }
         ensures allocates { OnErr result ((trie_remove_allocates None key.now self.old ≡ true)
             × (trie_lookup key.now self.old ≢ None)) }
     {
@@ -170,7 +171,7 @@ impl<P: Partial, V> DefaultNode<P, V> {
         ensures ok { OnOk result (Some self.new ≡ trie_remove key.now self.old) }
         ensures answer { IfOk result (λ old. old ≡ trie_lookup key.now self.old) }
         ensures unchanged { OnErr result (self.new ≡ self.old) }
-        ensures memory { IfErr result (λ e. e ≡ TreeError.Memory) }
+        ensures memory { IfErr result IsMemory }
         ensures allocates { OnErr result ((trie_remove_allocates None key.now self.old ≡ true)
             × (trie_lookup key.now self.old ≢ None)) }
     {
@@ -191,7 +192,7 @@ impl<P: Partial, V> DefaultNode<P, V> {
         ensures ok { OnOk result (root.new ≡ tree_remove key.now root.old) }
         ensures answer { IfOk result (λ old. old ≡ tree_lookup key.now root.old) }
         ensures unchanged { OnErr result (root.new ≡ root.old) }
-        ensures memory { IfErr result (λ e. e ≡ TreeError.Memory) }
+        ensures memory { IfErr result IsMemory }
         ensures allocates { OnErr result
             ((remove_allocates (keys_of (tree_pairs root.old)) key.now ≡ true)
             × (tree_lookup key.now root.old ≢ None)) }
@@ -232,7 +233,7 @@ impl<P: Partial, V> DefaultNode<P, V> {
         ensures longest_key { OnOk result
             (longest_key (tree_pairs root.new) ≤ longest_key (tree_pairs root.old)) }
         ensures unchanged { OnErr result (root.new ≡ root.old) }
-        ensures memory { IfErr result (λ e. e ≡ TreeError.Memory) }
+        ensures memory { IfErr result IsMemory }
         ensures allocates { OnErr result
             ((remove_allocates (keys_of (tree_pairs root.old)) key.now ≡ true)
             × (lookup key.now (tree_pairs root.old) ≢ None)) }

@@ -3,6 +3,7 @@
 // It descends by recursion, and each level holds neither a key nor a node.
 
 ghost use Rattle.std.specs.Prelude.{◌≡◌, ◌+◌, ◌≤◌, [], true, length, take, None, Some, IfErr};
+ghost use Rattle.rart_parts.specs.Errors.{IsMemory};
 ghost use Rattle.rart_keys.specs.KeyBytes.{IsWithin};
 ghost use Rattle.rart_keys.specs.SortedMap.{longest_key};
 ghost use Rattle.rart_nodes.specs.edits.Deletion.{JoinsWithin, needs_merge};
@@ -130,7 +131,7 @@ impl<P: Partial, V: Drop> DefaultNode<P, V> {
         requires callable { CanRetain F.FnMut f.old
             (with_prefix (P.bytes path.old) (pairs_of self.old)) }
         ensures canonical { IsCanonical self.new }
-        ensures first { KeepsFirst (prefix_of self.old) (prefix_of self.new) }
+        ensures keeps_first { KeepsFirst (prefix_of self.old) (prefix_of self.new) }
         ensures path { P.bytes path.new ≡ P.bytes path.old }
         ensures retains { RetainsBelow F.FnMut (P.bytes path.old) result f.old self.old self.new
             f.new }
@@ -208,7 +209,7 @@ impl<P: Partial, V: Drop> DefaultNode<P, V> {
         ensures count { length (tree_pairs root.new) ≤ length (tree_pairs root.old) }
         ensures longest_key { longest_key (tree_pairs root.new)
             ≤ longest_key (tree_pairs root.old) }
-        ensures memory { IfErr result (λ e. e ≡ TreeError.Memory) }
+        ensures memory { IfErr result IsMemory }
     {
         match DefaultNode::retain_tree(root, alloc, f) {
             Retention::Done => Ok(()),

@@ -4,6 +4,7 @@
 
 ghost use Rattle.std.specs.Prelude.{◌≡◌, ◌≢◌, ◌+◌, ◌-◌, ◌≤◌, length, true, false, None, Some, IfErr, IfOk, IfSome};
 ghost use Rattle.std.specs.Prelude.{OnErr, OnOk, option_map};
+ghost use Rattle.rart_parts.specs.Errors.{IsMemory};
 ghost use Rattle.rart_keys.specs.ByteStrings.{begins};
 ghost use Rattle.rart_keys.specs.Filters.{below};
 ghost use Rattle.rart_keys.specs.KeyBytes.{IsWithin};
@@ -57,7 +58,7 @@ impl<P: Partial, V> DefaultNode<P, V> {
         ensures unchanged { OnErr result (self.new ≡ self.old) }
         ensures nothing { OnErr result (taken.new ≡ None) }
         ensures allocates { OnErr result (ShrinksWithout byte self.old) }
-        ensures memory { IfErr result (λ e. e ≡ TreeError.Memory) }
+        ensures memory { IfErr result IsMemory }
     {
         match self.take_child(alloc, byte)? {
             Some(mut child) => {
@@ -88,7 +89,7 @@ impl<P: Partial, V> DefaultNode<P, V> {
             ≡ option_map (prefixed_trie (P.bytes path.old)) (trie_below prefix.now self.old)) }
         ensures unchanged { OnErr result (self.new ≡ self.old) }
         ensures nothing { OnErr result (taken.new ≡ None) }
-        ensures memory { IfErr result (λ e. e ≡ TreeError.Memory) }
+        ensures memory { IfErr result IsMemory }
         ensures allocates { OnErr result
             (trie_take_prefix_allocates None prefix.now self.old ≡ true) }
         ensures bound { C.number counter.new
@@ -124,7 +125,7 @@ impl<P: Partial, V> DefaultNode<P, V> {
         ensures ok { OnOk result (Some self.new ≡ trie_without_prefix prefix.now self.old) }
         ensures taken { IfOk result (λ taken. taken ≡ trie_below prefix.now self.old) }
         ensures unchanged { OnErr result (self.new ≡ self.old) }
-        ensures memory { IfErr result (λ e. e ≡ TreeError.Memory) }
+        ensures memory { IfErr result IsMemory }
         ensures allocates { OnErr result (TakeAllocates prefix.now (pairs_of self.old)) }
         ensures bound { C.number counter.new ≤ C.number counter.old + length prefix.now }
     {
@@ -151,7 +152,7 @@ impl<P: Partial, V> DefaultNode<P, V> {
         ensures ok { OnOk result (root.new ≡ tree_without_prefix prefix.now root.old) }
         ensures taken { IfOk result (λ taken. taken ≡ tree_below prefix.now root.old) }
         ensures unchanged { OnErr result (root.new ≡ root.old) }
-        ensures memory { IfErr result (λ e. e ≡ TreeError.Memory) }
+        ensures memory { IfErr result IsMemory }
         ensures allocates { OnErr result (TakeAllocates prefix.now (tree_pairs root.old)) }
         ensures bound { C.number counter.new ≤ C.number counter.old + length prefix.now + 1 }
     {
@@ -199,7 +200,7 @@ impl<P: Partial, V> DefaultNode<P, V> {
         ensures longest_taken { IfOk result
             (λ taken. longest_key (tree_pairs taken) ≤ longest_key (tree_pairs root.old)) }
         ensures unchanged { OnErr result (root.new ≡ root.old) }
-        ensures memory { IfErr result (λ e. e ≡ TreeError.Memory) }
+        ensures memory { IfErr result IsMemory }
         ensures allocates { OnErr result (TakeAllocates prefix.now (tree_pairs root.old)) }
         ensures bound { C.number counter.new ≤ C.number counter.old + length prefix.now + 1 }
     {

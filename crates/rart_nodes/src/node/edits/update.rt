@@ -80,7 +80,7 @@ impl<P: Partial, V> DefaultNode<P, V> {
         answer: SlotUpdate<V>,
     ) -> Result<Outcome<V>, UpdateError<V>>
         requires canonical { IsCanonical self.old }
-        requires first { Some byte ≡ slice_get rest.now 0 }
+        requires first_byte { Some byte ≡ slice_get rest.now 0 }
         requires absent { child_in byte self.old ≡ None }
         requires within { IsWithin P.MAXIMUM_SIZE (length rest.now) }
         ensures { (key : List ℕ) → Some rest.now ≡ strip_prefix (prefix_of self.old) key

@@ -71,7 +71,7 @@ impl<P: Partial, V> DefaultNode<P, V> {
         ensures changes { ChangesBelow F.FnMut prefix.now f.old (tree_pairs root.old)
             (tree_pairs root.new) f.new }
         ensures nodes { tree_nodes root.new ≡ tree_nodes root.old }
-        ensures length { length (tree_pairs root.new) ≡ length (tree_pairs root.old) }
+        ensures count { length (tree_pairs root.new) ≡ length (tree_pairs root.old) }
         ensures longest_key { longest_key (tree_pairs root.new)
             ≡ longest_key (tree_pairs root.old) }
     {

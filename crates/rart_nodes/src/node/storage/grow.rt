@@ -1,6 +1,7 @@
 //! Growth of a storage: the children of a full one move into the next kind.
 ghost use Rattle.std.specs.Prelude.{◌≡◌, ◌<◌, ◌≤◌, [], length, None, true, false, IfErr, IfOk, OnErr, OnOk};
 ghost use Rattle.rart_parts.specs.Entries.{sorted_entries, child_at};
+ghost use Rattle.rart_parts.specs.Errors.{IsMemory};
 ghost use Rattle.rart_nodes.specs.storages.Capacities.{widened_capacity};
 ghost use Rattle.rart_nodes.specs.storages.Stored.{child_entries, storage_capacity};
 
@@ -17,7 +18,7 @@ pub(super) fn boxed_sorted<N, const W: usize>(
 ) -> Result<Box<SortedKeyedMapping<N, W>>, TreeError>
     requires { W ≤ 255 }
     ensures ok { IfOk result (λ m. m.value ≡ []) }
-    ensures memory { IfErr result (λ e. e ≡ TreeError.Memory) }
+    ensures memory { IfErr result IsMemory }
 {
     match Box::new(alloc, SortedKeyedMapping::new(alloc)?) {
         Ok(map) => Ok(map),
@@ -33,7 +34,7 @@ pub(super) fn boxed_indexed<N>(
     alloc: Global,
 ) -> Result<Box<IndexedMapping<N, 48, Bitset64<1>>>, TreeError>
     ensures ok { IfOk result (λ m. sorted_entries m.value ≡ []) }
-    ensures memory { IfErr result (λ e. e ≡ TreeError.Memory) }
+    ensures memory { IfErr result IsMemory }
 {
     match Box::new(alloc, IndexedMapping::new(alloc)?) {
         Ok(map) => Ok(map),
@@ -47,7 +48,7 @@ pub(super) fn boxed_indexed<N>(
 /// Returns a boxed direct map with no child.
 fn boxed_direct<N>(alloc: Global) -> Result<Box<DirectMapping<N>>, TreeError>
     ensures ok { IfOk result (λ m. m.value ≡ []) }
-    ensures memory { IfErr result (λ e. e ≡ TreeError.Memory) }
+    ensures memory { IfErr result IsMemory }
 {
     match Box::new(alloc, DirectMapping::new(alloc)?) {
         Ok(map) => Ok(map),
@@ -63,7 +64,7 @@ impl<N> Storage<N> {
     pub(crate) fn new_4(alloc: Global) -> Result<Self, TreeError>
         ensures entries { IfOk result (λ s. child_entries s ≡ []) }
         ensures capacity { IfOk result (λ s. storage_capacity s ≡ 4) }
-        ensures memory { IfErr result (λ e. e ≡ TreeError.Memory) }
+        ensures memory { IfErr result IsMemory }
     {
         Ok(Storage::Node4(boxed_sorted(alloc)?))
     }
@@ -72,7 +73,7 @@ impl<N> Storage<N> {
     pub(crate) fn new_16(alloc: Global) -> Result<Self, TreeError>
         ensures entries { IfOk result (λ s. child_entries s ≡ []) }
         ensures capacity { IfOk result (λ s. storage_capacity s ≡ 16) }
-        ensures memory { IfErr result (λ e. e ≡ TreeError.Memory) }
+        ensures memory { IfErr result IsMemory }
     {
         Ok(Storage::Node16(boxed_sorted(alloc)?))
     }
@@ -81,7 +82,7 @@ impl<N> Storage<N> {
     pub(crate) fn new_48(alloc: Global) -> Result<Self, TreeError>
         ensures entries { IfOk result (λ s. child_entries s ≡ []) }
         ensures capacity { IfOk result (λ s. storage_capacity s ≡ 48) }
-        ensures memory { IfErr result (λ e. e ≡ TreeError.Memory) }
+        ensures memory { IfErr result IsMemory }
     {
         Ok(Storage::Node48(boxed_indexed(alloc)?))
     }
@@ -90,7 +91,7 @@ impl<N> Storage<N> {
     pub(crate) fn new_256(alloc: Global) -> Result<Self, TreeError>
         ensures entries { IfOk result (λ s. child_entries s ≡ []) }
         ensures capacity { IfOk result (λ s. storage_capacity s ≡ 256) }
-        ensures memory { IfErr result (λ e. e ≡ TreeError.Memory) }
+        ensures memory { IfErr result IsMemory }
     {
         Ok(Storage::Node256(boxed_direct(alloc)?))
     }
@@ -152,7 +153,7 @@ impl<N> Storage<N> {
         ensures unchanged { OnErr result (self.new ≡ self.old) }
         ensures allocates { OnErr result
             (length (child_entries self.old) ≡ storage_capacity self.old) }
-        ensures memory { IfErr result (λ e. e ≡ TreeError.Memory) }
+        ensures memory { IfErr result IsMemory }
     {
         if self.has_free_slot(b) {
             return Ok(());

@@ -2,6 +2,7 @@
 ghost use Rattle.std.specs.Prelude.{◌≡◌, ◌≢◌, ◌⊎◌, ◌<◌, ◌≤◌, ◌+◌, ◌∷◌, [], length, None, true, false, IfErr, IfOk};
 ghost use Rattle.std.specs.Prelude.{OnErr, OnOk};
 ghost use Rattle.rart_parts.specs.Entries.{child_at, without_byte};
+ghost use Rattle.rart_parts.specs.Errors.{IsMemory};
 ghost use Rattle.rart_nodes.specs.storages.Capacities.{previous_capacity};
 ghost use Rattle.rart_nodes.specs.storages.Stored.{ShrinksStored, child_entries, storage_capacity, capacity_without};
 
@@ -51,7 +52,7 @@ impl<N> Storage<N> {
             ≡ capacity_without b self.old (length (child_entries self.new))) }
         ensures unchanged { OnErr result (self.new ≡ self.old) }
         ensures allocates { OnErr result (ShrinksStored b self.old) }
-        ensures memory { IfErr result (λ e. e ≡ TreeError.Memory) }
+        ensures memory { IfErr result IsMemory }
     {
         if self.keeps_kind(b) {
             return Ok(self.delete_within(b));

@@ -129,7 +129,7 @@ impl<'a, K: KeyTrait, V, C: Count> Seen<'a, K, V, C> {
         ensures entries { IfOk result
             (λ w. remaining_entries T.grown (T.kept w.1) (reverse w.0.levels.items)
             ≡ tree_entries T.grown (seen_tree self.entry)) }
-        ensures memory { OnErr result (seen_pairs self.entry ≢ []) }
+        ensures allocates { OnErr result (seen_pairs self.entry ≢ []) }
         ensures longest { IfOk result (λ w. w.0.longest ≤ length_bound self.entry) }
         ensures unvisited { OnErr result (counter.new ≡ counter.old) }
         ensures visits { IfOk result (λ _. C.number counter.new

@@ -158,7 +158,7 @@ impl<'a, K: KeyTrait, V, C: Count> Seen<'a, K, V, C> {
             ≡ entries_from included start.now (tree_entries T.grown (seen_tree self.entry))) }
         ensures low { IfOk result
             (λ w. AreLow (height (seen_keys self.entry)) (reverse w.0.levels.items)) }
-        ensures memory { OnErr result (seen_pairs self.entry ≢ []) }
+        ensures allocates { OnErr result (seen_pairs self.entry ≢ []) }
         ensures unvisited { OnErr result (counter.new ≡ counter.old) }
         ensures visits { IfOk result (λ _. C.number counter.new
             ≡ C.number counter.old + probe_count (seen_keys self.entry) start.now) }

@@ -75,7 +75,7 @@ impl<'a, K: KeyTrait, V, C: Count> Seen<'a, K, V, C> {
         ensures longest { IfOk result (λ w. w.0.longest ≤ length_bound self.entry) }
         ensures entries { IfOk result (λ w. walk_entries T.grown (T.kept w.1) w.0
             ≡ part_entries T.grown (tree_part T.grown [] prefix.now (seen_tree self.entry))) }
-        ensures memory { OnErr result (seen_pairs self.entry ≢ []) }
+        ensures allocates { OnErr result (seen_pairs self.entry ≢ []) }
         ensures unvisited { OnErr result (counter.new ≡ counter.old) }
         ensures visits { IfOk result (λ _. C.number counter.new
             ≡ C.number counter.old + probe_count (seen_keys self.entry) prefix.now) }

@@ -1,8 +1,9 @@
 //! The statistics of the nodes of a tree.
 ghost use Rattle.std.specs.Prelude.{◌≡◌, ◌+◌, ◌*◌, ◌≤◌, length, IfErr, IfOk, OnErr};
 ghost use Rattle.std.specs.Option.{option_copied};
+ghost use Rattle.rart_parts.specs.Errors.{IsMemory};
 ghost use Rattle.rart_keys.specs.SortedMap.{keys_of};
-ghost use Rattle.rart_nodes.specs.stats.CountedNodes.{counts_added, counts_in, counts_sum};
+ghost use Rattle.rart_nodes.specs.stats.CountedNodes.{sum_of_counts, counts_in, counts_sum};
 ghost use Rattle.rart_nodes.specs.stats.Stats.{stats_in, stats_of, trie_height};
 ghost use Rattle.rart_nodes.specs.tries.Tree.{IsCanonicalTree, tree_nodes, tree_pairs};
 ghost use Rattle.rart_nodes.specs.tries.TrieCode.{node_count};
@@ -18,7 +19,7 @@ impl<P: Partial, V> DefaultNode<P, V> {
     /// Counts the nodes of the subtree and returns its height.
     fn count_nodes(&self, counts: &mut Counts) -> usize
         requires { counts_sum counts.old + 4 * node_count self.now ≤ usize.MAX }
-        ensures counts { counts.new ≡ counts_added counts.old (counts_in self.now) }
+        ensures counts { counts.new ≡ sum_of_counts counts.old (counts_in self.now) }
         ensures height { result ≡ trie_height self.now }
     {
         let children = self.storage.num_children();
@@ -41,7 +42,7 @@ impl<P: Partial, V> DefaultNode<P, V> {
         requires fits { 16 * length (tree_pairs (option_copied root)) ≤ usize.MAX }
         ensures stats { let tree = option_copied root.entry in IfOk result
             (λ s. stats_in s ≡ stats_of (keys_of (tree_pairs tree)) (tree_nodes tree)) }
-        ensures memory { IfErr result (λ e. e ≡ TreeError.Memory) }
+        ensures memory { IfErr result IsMemory }
         ensures allocates { OnErr result (2 ≤ length (tree_pairs (option_copied root.entry))) }
     {
         let Some(node) = root else {

@@ -20,4 +20,4 @@ returns-clause-refused g c =
     sorted-refused g.I.IntoIterator.into_iter_gives g.I.IntoIter.Iterator.next_gives c.args.items g.K.KeyTrait.bytes
     c.in_ok-keys.keys.items c.in_ok-keys.values.items c.in_ok-keys.ensures.read c.in_ok-keys.ensures.at_most
     c.of_keys_and_values.result
-    c.of_keys_and_values.ensures.memory (rw c.deref.ensures.value at c.of_keys_and_values.ensures.nonempty)
+    c.of_keys_and_values.ensures.memory (rw c.deref.ensures.value at c.of_keys_and_values.ensures.allocates)

@@ -11,8 +11,8 @@ use Rattle.rart_nodes.proofs.node.DefaultNode.+build_below.Goals as goal
 use Rattle.rart_nodes.proofs.node.DefaultNode.+build_below.Goals.{then-own-eq1, else-own-eq1, then-end-eq1}
 use Rattle.rart_nodes.proofs.node.DefaultNode.+build_below.Goals.{else-end-eq1+in-Ok}
 
-pub shared_length-shared-requires-clause-last : goal.shared_length-shared-requires-clause-last
-shared_length-shared-requires-clause-last g t c
+pub shared_length-shared-requires-clause-last_depth : goal.shared_length-shared-requires-clause-last_depth
+shared_length-shared-requires-clause-last_depth g t c
     = (reach-at _ _ _ c.args.keys.now _ c.requires.stretch.reach (omega (arith, c.requires.stretch.some))).0
 
 pub count_branches-requires : goal.count_branches-requires

@@ -62,7 +62,7 @@ loop-next-smaller g t c =
     (rw c.in-Some.is at c.loop-next.invariant.visited) c.in-Some-seek_child_mut.ensures.value in
     rw c.in-Some.is (retaining-step _ _ _ _ _ _ _ _ _ _ _ _ _ _ _ next c.retain_below-below.result
     c.apply_to_child-walk.result _ c.apply_to_child-walk.new.storage c.following_byte-next.result
-    c.retain_below-below.ensures.canonical c.retain_below-below.ensures.first
+    c.retain_below-below.ensures.canonical c.retain_below-below.ensures.keeps_first
     (rw c.loop-next.invariant.path at c.retain_below-below.ensures.retains) left.0 left.1
     c.apply_to_child-walk.ensures c.following_byte-next.ensures).1
 
@@ -75,7 +75,7 @@ loop-next-preserved g t c =
       path = c.retain_below-below.ensures.path ∙ c.loop-next.invariant.path;
       visited = (retaining-step _ _ _ _ _ _ _ _ _ _ _ _ _ _ _ next c.retain_below-below.result
           c.apply_to_child-walk.result _ c.apply_to_child-walk.new.storage c.following_byte-next.result
-          c.retain_below-below.ensures.canonical c.retain_below-below.ensures.first
+          c.retain_below-below.ensures.canonical c.retain_below-below.ensures.keeps_first
           (rw c.loop-next.invariant.path at c.retain_below-below.ensures.retains) left.0 left.1
           c.apply_to_child-walk.ensures c.following_byte-next.ensures).0;
     }
@@ -92,8 +92,8 @@ pub returns-clause-canonical : goal.returns-clause-canonical
 returns-clause-canonical g t c = rw c.finish.ensures.node (retaining-end _ _ _ _ _ _ _ _ _ _ _ _
     (rw c.in_default.is at c.loop-next.invariant.visited)).canonical
 
-pub returns-clause-first : goal.returns-clause-first
-returns-clause-first g t c = rw c.finish.ensures.node (retaining-end _ _ _ _ _ _ _ _ _ _ _ _
+pub returns-clause-keeps_first : goal.returns-clause-keeps_first
+returns-clause-keeps_first g t c = rw c.finish.ensures.node (retaining-end _ _ _ _ _ _ _ _ _ _ _ _
     (rw c.in_default.is at c.loop-next.invariant.visited)).first
 
 pub returns-clause-retains : goal.returns-clause-retains

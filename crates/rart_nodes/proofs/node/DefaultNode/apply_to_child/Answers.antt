@@ -23,7 +23,7 @@ add_leaf-requires-clause-absent g c = ap (child_at _) c.in-Ok.ensures.entries
 pub returns-in-Ok : goal.returns-in-Ok
 returns-in-Ok g c = λ key h. rw c.in-Insert.is (
   ap Some (rw (← c.self.view_is) (put-beside _ key _ c.in-Insert.value _ _ _ _ (child_entries c.self.inside.storage) _
-      (rw (← c.self.view_is) at c.requires.canonical) (rw (← c.self.view_is) at h) c.requires.first
+      (rw (← c.self.view_is) at c.requires.canonical) (rw (← c.self.view_is) at h) c.requires.first_byte
       (sym (none-at c.args.byte (child_entries c.self.inside.storage) (rw (← c.self.view_is) at c.requires.absent)))
       (c.add_leaf.ensures.capacity ∙ c.in-Ok.ensures.capacity)
       (rw (c.add_leaf.ensures.entries, c.in-Ok.ensures.entries) refl))),
@@ -42,9 +42,10 @@ returns-in-Err g c = λ key h.
           (storage_capacity c.self.inside.storage)
           (storage_capacity c.self.inside.storage) _ (child_entries c.self.inside.storage)
           (child_entries c.self.inside.storage) after
-          c.requires.first none refl refl c.in-Err.ensures.allocates,
+          c.requires.first_byte none refl refl c.in-Err.ensures.allocates,
       record-no_child (g.P.Partial.bytes c.self.inside.prefix) key _ c.self.inside.value
-          (storage_capacity c.self.inside.storage) _ (child_entries c.self.inside.storage) after c.requires.first none,
+          (storage_capacity c.self.inside.storage) _ (child_entries c.self.inside.storage) after
+          c.requires.first_byte none,
     ) in (
       ap Some (same-node (g.P.Partial.bytes c.self.inside.prefix) c.self.inside.value
           (storage_capacity c.self.inside.storage)

@@ -13,8 +13,8 @@ returns-in-Some-clause-nodes g c = rw c.in-Some.is (equal_nodes c.change_below.n
     c.change_below.ensures.canonical (rw c.in-Some.is at c.requires.canonical)
     (changes-keys _ c.args.prefix.now _ _ _ _ c.change_below.ensures.changes))
 
-pub returns-in-Some-clause-length : goal.returns-in-Some-clause-length
-returns-in-Some-clause-length g c = rw c.in-Some.is (lengths-alike (pairs_of c.change_below.new.self)
+pub returns-in-Some-clause-count : goal.returns-in-Some-clause-count
+returns-in-Some-clause-count g c = rw c.in-Some.is (lengths-alike (pairs_of c.change_below.new.self)
     (pairs_of c.in-Some.node) (changes-keys _ c.args.prefix.now _ _ _ _ c.change_below.ensures.changes))
 
 pub returns-in-Some-clause-longest_key : goal.returns-in-Some-clause-longest_key

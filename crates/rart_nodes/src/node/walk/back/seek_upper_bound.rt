@@ -163,7 +163,7 @@ impl<'a, K: KeyTrait, V, C: Count> Seen<'a, K, V, C> {
         ensures entries { IfOk result
             (λ w. remaining_entries T.grown (T.kept w.1) (reverse w.0.levels.items)
             ≡ entries_until included end.now (tree_entries T.grown (seen_tree self.entry))) }
-        ensures memory { OnErr result (seen_pairs self.entry ≢ []) }
+        ensures allocates { OnErr result (seen_pairs self.entry ≢ []) }
         ensures unvisited { OnErr result (counter.new ≡ counter.old) }
         ensures visits { IfOk result (λ _. C.number counter.new
             ≡ C.number counter.old + probe_count (seen_keys self.entry) end.now) }

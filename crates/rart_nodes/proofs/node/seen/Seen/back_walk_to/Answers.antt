@@ -7,12 +7,12 @@ use Rattle.rart_nodes.proofs.walks.SeenLemmas.{few-tree_entered, tree_entered-pr
 use Rattle.rart_nodes.proofs.walks.WalkLemmas.{has-pairs}
 use Rattle.rart_nodes.proofs.node.seen.Seen.back_walk_to.Goals as goal
 
-pub returns-in_err-path-clause-memory : goal.returns-in_err-path-clause-memory
-returns-in_err-path-clause-memory g c = err-any c.from_residual.result
+pub returns-in_err-path-clause-allocates : goal.returns-in_err-path-clause-allocates
+returns-in_err-path-clause-allocates g c = err-any c.from_residual.result
     (has-pairs c.in-Some.top.node.now _ c.in-Some.top.canonical c.in-Some.ensures)
 
-pub returns-in_err-levels-clause-memory : goal.returns-in_err-levels-clause-memory
-returns-in_err-levels-clause-memory g c = err-any c.from_residual-in_err-levels.result
+pub returns-in_err-levels-clause-allocates : goal.returns-in_err-levels-clause-allocates
+returns-in_err-levels-clause-allocates g c = err-any c.from_residual-in_err-levels.result
     (has-pairs c.in-Some.top.node.now _ c.in-Some.top.canonical c.in-Some.ensures)
 
 pub returns-clause-visits : goal.returns-clause-visits

@@ -10,6 +10,6 @@ returns-then-is_some g c =
 
 pub returns-else-is_some : goal.returns-else-is_some
 returns-else-is_some g c =
-    c.size-else-is_some.ensures ∙ size_agrees g.B.BitsetTrait.CAPACITY (g.B.BitsetTrait.has c.found.result)
+    c.size-else-is_some.ensures ∙ size_agrees g.B.BitsetTrait.CAPACITY (g.B.BitsetTrait.has c.scanned_bitset.result)
     c.args.self.now (omega (arith, ap length c.self.view_is, c.self.invariant.full, c.self.invariant.covers))
-    c.found.ensures.agrees
+    c.scanned_bitset.ensures.agrees

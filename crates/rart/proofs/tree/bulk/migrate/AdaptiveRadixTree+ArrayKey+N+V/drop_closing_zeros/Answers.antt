@@ -10,7 +10,7 @@ of_keys_and_values-requires-clause-ascending g c
 
 pub returns-in_default-clause-refused : goal.returns-in_default-clause-refused
 returns-in_default-clause-refused g c = some-read array_key_bytes c.args.old.now.pairs c.deref.result.now
-    (rw c.deref.ensures.value c.in_ok-keys.ensures.keys) c.in_default.ensures.nonempty
+    (rw c.deref.ensures.value c.in_ok-keys.ensures.keys) c.in_default.ensures.allocates
 
 pub returns-clause-pairs : goal.returns-clause-pairs
 returns-clause-pairs g c =
