@@ -30,8 +30,8 @@ abbrev pub ends_as : (K V P : RattleType) → KeyMembers K.Denot → partials.Gh
     → (MapAndShape V.Denot → Type 0) → Fml
 ends_as K V P k p tree E = follows_so (tree_row K V P k p) (tree_row K V P k p) tree.ghost_name none (λ _ _. ⊤) E
 
--- the value at a key was lent from the tree, if it was there: the tree ends with what was left there at that key, and
--- with the same nodes; where nothing was lent it ends as it was
+-- the value at a key was borrowed from the tree, if there is one: the tree ends with what was left at that key, and
+-- with the same nodes; if nothing was borrowed, it is unchanged
 abbrev pub lends_value : (K V P : RattleType) → KeyMembers K.Denot → partials.Ghosts P.Denot
     → MutBor (MapAndShape V.Denot) → List ℕ → Option (MutBor V.Denot) → Fml
 lends_value K V P k p tree key lent = LendsSo (tree_row K V P k p) V tree lent

@@ -12,7 +12,7 @@ use Rattle.rart_nodes.specs.declared.refused.NotInserted.TheVariants as not_inse
 use Rattle.rart.specs.declared.tree.try_insert.TryInsertError.{TryInsertError}
 use Rattle.rart.specs.declared.tree.try_insert.TryInsertError.TheVariants as try_insert
 
--- an insertion at this key may be refused for this reason: the key is new, and the map is as large as a map can be, or
+-- an insertion at this key may be refused for this reason. The key is new, and the map is as large as a map can be, or
 -- its keys say that the insertion requests memory
 abbrev pub MayRefuseInsert : {V : Type 0} → List (List ℕ × V) → List ℕ → TreeError → Type 0
 MayRefuseInsert map key Full = (lookup key map ≡ None) × (length map ≡ MAX_PAIRS)

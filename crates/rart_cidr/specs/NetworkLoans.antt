@@ -6,8 +6,8 @@ use Rattle.rart_keys.specs.SortedMap.{put}
 use Rattle.rart_cidr.specs.contracts.table4.CidrTable4.{the_row as row4}
 use Rattle.rart_cidr.specs.contracts.table6.CidrTable6.{the_row as row6}
 
--- the target of a network was lent from a table of this type, if it is stored: the table ends with what was left there;
--- where nothing was lent it ends as it was
+-- the target of a network was borrowed from a table of this type, if it is stored: the table ends with what was left
+-- there; if nothing was borrowed, it is unchanged
 abbrev pub lends_target4 : (T : RattleType) → MutBor (List (List ℕ × T.Denot)) → List ℕ → Option (MutBor T.Denot) → Fml
 lends_target4 T table net lent = LendsSo (row4 T) T table lent
     (λ t w. OnSome lent (t ≡ put net w table.now)) (λ t. t ≡ table.now)

@@ -11,7 +11,7 @@ use crate::partials::Partial;
 pub mod array_key;
 pub mod tail_key;
 
-/// Reads a key as a byte string. Keys are compared byte by byte, and a proper prefix of a key is less than the key.
+/// A key, read as a byte string. Keys are compared byte by byte, and a proper prefix of a key is less than the key.
 pub trait KeyTrait: Eq + Ord {
     /// The type of the prefixes that nodes keep. It has the same maximum length.
     type PartialType: Partial;

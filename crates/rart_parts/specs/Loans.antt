@@ -28,8 +28,8 @@ array_row X W B b = the_row X W B (record {
 })
     (record { is_default = b.is_default })
 
--- the value at a place was lent from the array, if it was there: the array ends with what was left there at that place;
--- where nothing was lent it ends as it was
+-- the value at a place was borrowed from the array, if there is one: the array ends with what was left at that place;
+-- if nothing was borrowed, it is unchanged
 abbrev pub lends_place : (X W B : RattleType) → BitsetMembers B.Denot → MutBor (List (Option X.Denot)) → ℕ
     → Option (MutBor X.Denot) → Fml
 lends_place X W B b array p lent = LendsSo (array_row X W B b) X array lent

@@ -16,8 +16,8 @@ impl<K: KeyTrait + Drop, V: Drop> AdaptiveRadixTree<K, V> {
     /// that of `other`; the old value is dropped.
     ///
     /// If this tree is empty, the two are exchanged, without an allocation. Otherwise each pair is removed from `other`
-    /// and inserted, also where only one of the trees has keys: to move a whole subtree allocates in both trees, and
-    /// after the second refusal a node would keep a kind that doesn't fit its children.
+    /// and inserted, also where only one of the trees has keys. To move a whole subtree allocates in both trees. After
+    /// the second refusal a node would keep a kind that doesn't fit its children.
     ///
     /// # Errors
     ///

@@ -31,8 +31,8 @@ impl<K: KeyTrait, T> BitTable<K, T> {
             .longest_match_net_counted(octets, bits, &mut Visits::new(), &mut Visits::new())
     }
 
-    // Returns the number of octets of the longest stride that the first `at` octets begin with, and the longest network
-    // in it that the first `bits` bits begin with. One descent skips the numbers of octets without a stride.
+    // Returns the number of octets of the longest stride that the first `at` octets begin with. Beside it, the longest
+    // network in it that the first `bits` bits begin with. One descent skips the numbers of octets without a stride.
     pub(super) fn last_stride<C: Count>(
         &self,
         octets: &[u8],

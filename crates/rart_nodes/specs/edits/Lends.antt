@@ -8,8 +8,8 @@ use Rattle.rart_nodes.specs.contracts.node.DefaultNode.{the_row}
 use Rattle.rart_nodes.specs.edits.Loan.{EndsLent, LeavesAt}
 use Rattle.rart_nodes.specs.tries.Trie.{Trie, trie_put}
 
--- the value at k, what is left of a key after the path to the node, was lent, if there is one: the node ends with what
--- was left there at k; where nothing was lent it ends as it was
+-- the value at k, the rest of a key after the path to the node, was borrowed, if there is one: the node ends with what
+-- was left at k; if nothing was borrowed, it is unchanged
 abbrev pub lends_below : (P V : RattleType) → partials.Ghosts P.Denot → MutBor (Trie V.Denot) → List ℕ
     → Option (MutBor V.Denot) → Fml
 lends_below P V G node k lent = LendsSo (the_row P V G) V node lent

@@ -23,8 +23,8 @@ module _ {F V : Type 0} (call : Mut F (MutBor V × Unit {0}) (Unit {0} × (MutBo
   ChangesValue true f v w f' = CalledAtMut call f v tt f' w
   ChangesValue false f v w f' = (v ≡ w) × (f ≡ f')
 
-  -- f was called with a loan of the value of each pair whose key p begins, in turn, and is then f'; those pairs hold
-  -- what their calls left, and the others what they held
+  -- f was called with a loan of the value of each pair whose key p begins, in turn, and is then f'. Those pairs hold
+  -- what their calls left, the others what they held
   abbrev pub ChangesBelow : List ℕ → F → List (List ℕ × V) → List (List ℕ × V) → F → Type 0
   ChangesBelow p f [] [] f' = f ≡ f'
   ChangesBelow p f [] (d ∷ ds) f' = ⊥

@@ -15,8 +15,8 @@ abbrev pub EntersAfter : {P V C : Type 0} {G : Ghosts P} → ℕ → Option (Tri
 EntersAfter b o r = MatchOption r (o ≡ None) (λ e. (o ≡ Some e.0.node.now) × (e.1.now ≡ b ∷ [])
     × (prefix_of e.0.node.now ≡ b ∷ e.2.now))
 
--- from the nodes t and u the walk came to two nodes whose prefixes end together, and its path grew by the bytes
--- between; or the two have no key in common
+-- from the nodes t and u the walk came to two nodes whose prefixes end together. Its path grew by the bytes between. Or
+-- the two have no key in common
 abbrev pub FindsAligned : {P V W C D : Type 0} {G : Ghosts P} → Trie V → Trie W → Kept
     → Option (Entered P V C G × Entered P W D G) → Kept → Type 0
 FindsAligned t u k r k' = (p : List ℕ) × PathGrown k p k'

@@ -6,8 +6,8 @@ use Rattle.rart_nodes.specs.contracts.node.storage.Storage.{the_row}
 use Rattle.rart_nodes.specs.declared.node.storage.Storage.{Storage}
 use Rattle.rart_nodes.specs.storages.Stored.{StoresLent, StoresSame}
 
--- the child at b was lent, if there is one: the storage ends with what was left there at b, in the same capacity; where
--- nothing was lent it holds what it held
+-- the child at b was borrowed, if there is one: the storage ends with what was left at b, in the same capacity; if
+-- nothing was borrowed, it is unchanged
 abbrev pub lends_child : (N : RattleType) → MutBor (Storage N.Denot) → ℕ → Option (MutBor N.Denot) → Fml
 lends_child N storage b lent = LendsSo (the_row N) N storage lent (λ s w. StoresLent b w lent storage.now s)
     (StoresSame storage.now)

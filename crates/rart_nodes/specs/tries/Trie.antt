@@ -88,8 +88,8 @@ abbrev mutual
   AreCanonical low no_children = Unit {0}
   AreCanonical low (child b t cs) = (low ≤ b) × StartsWith b (prefix_of t) × IsCanonical t × AreCanonical (suc b) cs
 
--- What a descent along a key returns: `left` where the key leaves a node's prefix, `ended` at the node where it ends,
--- `absent` where no child has its next byte, and `on` at a node that it passes, from what the child returns.
+-- What a descent along a key returns: `left` where the key leaves a node's prefix, `ended` at the node where it ends.
+-- `absent` where no child has its next byte. `on` at a node that it passes, from what the child returns.
 pub record Descent (V A : Type 0) : Type 0 where
   pub left : List ℕ → Trie V → A
   pub ended : Trie V → A

@@ -170,8 +170,8 @@ impl<P: Partial, V: Drop> DefaultNode<P, V> {
         })
     }
 
-    /// Returns the value and the children of the node of keys that agree up to `depth`, the first of which has index
-    /// `from` in the whole list, and the depth at which its prefix ends.
+    /// Returns the value and the children of the node of keys that agree up to `depth`, and the depth at which its
+    /// prefix ends. The first key has index `from` in the whole list.
     // A node made here would take space in the frame of each level.
     fn build_below<F: FnMut(usize) -> V>(
         alloc: Global,

@@ -172,8 +172,8 @@ impl<P: Partial, V> DefaultNode<P, V> {
     ///
     /// # Errors
     ///
-    /// [`TreeError::Memory`] if a key begins with `prefix`, the parent of the node at or below it must shrink from 5,
-    /// 17 or 49 children to one fewer, and the allocation fails. The tree is then unchanged.
+    /// [`TreeError::Memory`] if the allocation for smaller storage fails. It is made only if a key begins with `prefix` and
+    /// the parent of the node at or below it has 5, 17 or 49 children. The tree is then unchanged.
     ///
     /// # Visits
     ///

@@ -98,9 +98,8 @@ impl<'a, K: KeyTrait, V, C: Count> Seen<'a, K, V, C> {
         Ok(true)
     }
 
-    /// Calls `f` once with a view of the longest key that begins `probe`, cut at the branch points, and with its
-    /// value, and returns `true`; returns `false` if there is no such key. `f` must be callable with that key. The
-    /// caller keeps `f`.
+    /// Calls `f` once with a view of the longest key that begins `probe`, cut at the branch points, and with its value.
+    /// Returns whether there is such a key. `f` must be callable with that key. The caller keeps `f`.
     ///
     /// # Errors
     ///

@@ -68,8 +68,8 @@ fn for_each_view_to<'a, K: KeyTrait, V, C: Count, F: FnMut(LendingKeyView<'_, '_
 }
 
 impl<'a, K: KeyTrait + Drop, V, C: Count> Seen<'a, K, V, C> {
-    /// Calls `f` with each pair between two bounds, in order, and with a view of its key, cut at the branch points;
-    /// with none if the end is before the start. `f` must be callable with each of these in turn. The caller keeps
+    /// Calls `f` with each pair between two bounds, in order, and with a view of its key, cut at the branch points. If
+    /// the end is before the start there is none. `f` must be callable with each of these in turn. The caller keeps
     /// `f`.
     ///
     /// # Errors
