@@ -211,9 +211,9 @@ impl<K: KeyTrait, V> AdaptiveRadixTree<K, V> {
     /// # Errors
     ///
     /// [`TreeError::Full`] if the key is new and the tree holds [`MAX_PAIRS`] pairs. [`TreeError::Memory`] if an
-    /// allocation fails. None is made in an empty tree or where the key is a branch point. Otherwise one is made only if the
-    /// longest branch point that begins the key has no free slot, has a child at its next byte, or doesn't exist. The
-    /// tree is then unchanged, and the error holds `value`.
+    /// allocation fails. None is made in an empty tree or where the key is a branch point. Otherwise one is made only
+    /// if the longest branch point that begins the key has no free slot, has a child at its next byte, or doesn't
+    /// exist. The tree is then unchanged, and the error holds `value`.
     ///
     /// # Examples
     ///

@@ -8,8 +8,8 @@ use Rattle.rart_cidr.specs.contracts.stride.Targets as targets
 use Rattle.rart_cidr.specs.declared.stride.Targets.{Targets}
 use Rattle.rart_cidr.specs.Targets.{pairs_of}
 
--- the target at a code was borrowed, if there is one: the stride ends with what was left there; if nothing was borrowed, it
--- is unchanged
+-- the target at a code was borrowed, if there is one: the stride ends with what was left there; if nothing was
+-- borrowed, it is unchanged
 abbrev pub lends_target : (T : RattleType) → MutBor (List (List ℕ × T.Denot)) → ℕ → Option (MutBor T.Denot) → Fml
 lends_target T stride code lent = LendsSo (the_row T) T stride lent
     (λ s w. OnSome lent (s ≡ put (code ∷ []) w stride.now)) (λ s. s ≡ stride.now)

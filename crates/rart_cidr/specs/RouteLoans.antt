@@ -12,8 +12,8 @@ abbrev pub table_row : (K T P : RattleType) → KeyMembers K.Denot → partials.
 table_row K T P k p = the_row K T P (record { MAXIMUM_SIZE = k.MAXIMUM_SIZE; bytes = k.bytes }) (record { eq = k.eq })
     (record { cmp = k.cmp }) (record { partial_cmp = k.partial_cmp }) p
 
--- the target of a network was borrowed, if it is stored: the table ends with what was left there; if nothing was borrowed, it
--- is unchanged
+-- the target of a network was borrowed, if it is stored: the table ends with what was left there; if nothing was
+-- borrowed, it is unchanged
 abbrev pub lends_route : (K T P : RattleType) → KeyMembers K.Denot → partials.Ghosts P.Denot
     → MutBor (List (List ℕ × T.Denot)) → List ℕ → Option (MutBor T.Denot) → Fml
 lends_route K T P k p table net lent = LendsSo (table_row K T P k p) T table lent

@@ -18,8 +18,8 @@ impl<K: KeyTrait, V> AdaptiveRadixTree<K, V> {
     ///
     /// # Errors
     ///
-    /// [`TreeError::Memory`] if the allocation for smaller storage fails. It is made only if a key begins with `prefix` and
-    /// the longest branch point that properly begins `prefix` has 5, 17 or 49 children. The tree is then unchanged.
+    /// [`TreeError::Memory`] if the allocation for smaller storage fails. It is made only if a key begins with `prefix`
+    /// and the longest branch point that properly begins `prefix` has 5, 17 or 49 children. The tree is then unchanged.
     pub fn take_prefix_k(&mut self, prefix: &K) -> Result<Self, TreeError>
         ensures takes { TakesPrefix (K.bytes prefix.now) self.old.pairs self.new.pairs result }
         ensures unchanged { OnErr result (self.new ≡ self.old) }

@@ -172,8 +172,8 @@ impl<P: Partial, V> DefaultNode<P, V> {
     ///
     /// # Errors
     ///
-    /// [`TreeError::Memory`] if the allocation for smaller storage fails. It is made only if a key begins with `prefix` and
-    /// the parent of the node at or below it has 5, 17 or 49 children. The tree is then unchanged.
+    /// [`TreeError::Memory`] if the allocation for smaller storage fails. It is made only if a key begins with `prefix`
+    /// and the parent of the node at or below it has 5, 17 or 49 children. The tree is then unchanged.
     ///
     /// # Visits
     ///
