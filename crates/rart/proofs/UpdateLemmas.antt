@@ -163,8 +163,8 @@ module _ {F E V : Type 0} (sure : V → Type 0)
     pub some-left : ((q : List ℕ) (v : V) (l : List (List ℕ × V)) → lookup q (put q v l) ≡ Some v) → lookup k n ≢ None
     some-left law = let e = rw r at h.3 in value-left k h.1 m n (λ v. law k v m) e.1 e.3
 
-    pub some-stored : x ≢ None
-    some-stored = λ z. let e = rw r at h.3 in e.2.1 (sym (slot-is x (lookup k m) h.2.1) ∙ z)
+    pub was-stored : x ≢ None
+    was-stored = λ z. let e = rw r at h.3 in e.2.1 (sym (slot-is x (lookup k m) h.2.1) ∙ z)
 
     pub put-back : ((q : List ℕ) (v w : V) (l : List (List ℕ × V)) → IsAscending l → lookup q l ≡ Some v
         → put q v (put q w l) ≡ l) → IsAscending m

@@ -80,6 +80,12 @@ impl<K: KeyTrait, V> Model for AdaptiveRadixTree<K, V> {
 
 impl<K: KeyTrait, V> AdaptiveRadixTree<K, V> {
     /// Creates an empty tree, which requests all later memory from `alloc`. Allocates nothing.
+    ///
+    /// # Examples
+    ///
+    /// ```ignore
+    /// let mut names: AdaptiveRadixTree<ArrayKey<16>, u32> = AdaptiveRadixTree::new(alloc);
+    /// ```
     pub fn new(alloc: Global) -> Self
         ensures pairs { result.pairs ≡ [] }
         ensures nodes { result.nodes ≡ [] }
@@ -274,7 +280,7 @@ impl<K: KeyTrait, V> AdaptiveRadixTree<K, V> {
     /// # Examples
     ///
     /// ```ignore
-    /// let removed = tree.remove_k(&key(1));
+    /// let removed = readings.remove_k(&ArrayKey::<8>::from_u64(1));
     /// ```
     pub fn remove_k(&mut self, key: &K) -> Result<Option<V>, TreeError>
         ensures removes { Removes (K.bytes key.now) self.old.pairs self.new.pairs result }
@@ -316,7 +322,7 @@ impl<K: KeyTrait, V> AdaptiveRadixTree<K, V> {
         Ok(self.remove_k(key)?.is_some())
     }
 
-    /// Removes `key` and drops its value, as [`delete_k`](Self::delete_k).
+    /// Removes `key`, drops its value and returns whether it was stored, as [`delete_k`](Self::delete_k).
     ///
     /// # Errors
     ///

@@ -14,10 +14,6 @@ use std::ops::Bound;
 
 type Names = AdaptiveRadixTree<ArrayKey<16>, u32>;
 
-fn key(name: &[u8; 6]) -> ArrayKey<16> {
-    ArrayKey::new_from_slice(name)
-}
-
 // The readings of a list that is sorted by time.
 fn loaded_readings(alloc: Global, sorted: Vec<(ArrayKey<8>, u64)>) -> Result<Readings, BulkError> {
     AdaptiveRadixTree::bulk_load_sorted(alloc, sorted)
@@ -64,14 +60,21 @@ fn target_before(table: &RouteTable<ArrayKey<8>, u64>, probe: &[u8]) -> Option<u
 }
 
 // Five more of a name, if it is stored.
-fn add_five(tree: &mut Names) -> Result<bool, UpdateError<u32>> {
-    let added = tree.update_k(&key(b"bucket"), |slot| {
+fn add_five(names: &mut Names) -> Result<bool, UpdateError<u32>> {
+    let added = names.update_k(&ArrayKey::new_from_slice(b"bucket"), |slot| {
         if let Slot::Occupied(n) = slot {
             *n = n.wrapping_add(5);
         }
         SlotUpdate::Keep
     });
     added
+}
+
+// One more of a name, if it is stored.
+fn add_one(names: &mut Names) {
+    if let Some(n) = names.get_mut_k(&ArrayKey::new_from_slice(b"bucket")) {
+        *n = n.wrapping_add(1);
+    }
 }
 
 fn print_ends(rt: &impl Print, readings: &Readings) -> io::Result<()> {
@@ -90,7 +93,9 @@ fn print_ends(rt: &impl Print, readings: &Readings) -> io::Result<()> {
 fn print_edits(rt: &impl Print, alloc: Global) -> io::Result<()> {
     let table = RouteTable::new(alloc);
     println!(rt; "target before: {:?}", target_before(&table, &[10]))?;
-    let stored = matches!(add_five(&mut Names::new(alloc)), Ok(true));
+    let mut names: AdaptiveRadixTree<ArrayKey<16>, u32> = AdaptiveRadixTree::new(alloc);
+    add_one(&mut names);
+    let stored = matches!(add_five(&mut names), Ok(true));
     println!(rt; "bucket is stored: {stored}")?;
     match loaded_readings(alloc, Vec::new(alloc)) {
         Ok(mut readings) => {

@@ -13,6 +13,14 @@ impl<K: KeyTrait, V> AdaptiveRadixTree<K, V> {
     /// Returns a mutable reference to the value at `key`. Allocates nothing.
     ///
     /// After the borrow ends, only the value at `key` can have changed.
+    ///
+    /// # Examples
+    ///
+    /// ```ignore
+    /// if let Some(n) = names.get_mut_k(&ArrayKey::new_from_slice(b"bucket")) {
+    ///     *n = n.wrapping_add(1);
+    /// }
+    /// ```
     pub fn get_mut_k<'a>(&'a mut self, key: &K) -> Option<&'a mut V>
         ensures* writes_back { sem 𝓛
             (lends_value K.row V.row K.PartialType.row K.KeyTrait K.PartialType.Partial

@@ -92,7 +92,7 @@ impl<K: KeyTrait, V> AdaptiveRadixTree<K, V> {
         Ok(self.take_prefix_k(prefix)?.len())
     }
 
-    /// Removes all pairs whose key begins with `prefix` and drops their values, as
+    /// Removes all pairs whose key begins with `prefix`, drops their values and returns how many they were, as
     /// [`remove_prefix_k`](Self::remove_prefix_k).
     ///
     /// # Errors

@@ -102,7 +102,7 @@ impl<K: KeyTrait, V> AdaptiveRadixTree<K, V> {
     /// # Examples
     ///
     /// ```ignore
-    /// let added = tree.update_k(&key(b"bucket"), |slot| {
+    /// let added = names.update_k(&ArrayKey::new_from_slice(b"bucket"), |slot| {
     ///     if let Slot::Occupied(n) = slot {
     ///         *n = n.wrapping_add(5);
     ///     }
@@ -131,7 +131,7 @@ impl<K: KeyTrait, V> AdaptiveRadixTree<K, V> {
         }
     }
 
-    /// Updates the slot of `key`, as [`update_k`](Self::update_k).
+    /// Updates the slot of `key` and returns whether it held or holds a value, as [`update_k`](Self::update_k).
     ///
     /// # Errors
     ///
@@ -218,7 +218,8 @@ impl<K: KeyTrait, V> AdaptiveRadixTree<K, V> {
         }
     }
 
-    /// Updates the slot of `key`, as [`try_update_k`](Self::try_update_k).
+    /// Updates the slot of `key` and returns whether it held or holds a value, as
+    /// [`try_update_k`](Self::try_update_k).
     ///
     /// # Errors
     ///

@@ -14,7 +14,7 @@ invariant_of-result g c =
     record {
       canonical = c.in-Ok.ensures.canonical;
       counted = fields.0;
-      at_most = fields.1;
+      few = fields.1;
       short = fields.2;
       within = fields.3;
       unused = λ z. omega (arith, z, count, c.requires.nonempty);

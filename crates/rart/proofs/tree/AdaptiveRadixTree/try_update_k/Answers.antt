@@ -2,7 +2,7 @@ use Rattle.std.proofs.Common.{◌≡◌, ◌∙◌, ap, Err}
 use Rattle.rart_keys.specs.SortedMap.{keys_of}
 use Rattle.rart.specs.Updates.{TriesUpdate}
 use Rattle.rart.specs.declared.tree.update.TryUpdateError.TheVariants.{Remove}
-use Rattle.rart.proofs.UpdateLemmas.{done, failed, not-called, not-inserted, put-back, same-map, some-left, some-stored}
+use Rattle.rart.proofs.UpdateLemmas.{done, failed, not-called, not-inserted, put-back, same-map, some-left, was-stored}
 use Rattle.rart.proofs.tree.AdaptiveRadixTree.try_update_k.Given.{Over}
 use Rattle.rart.proofs.tree.AdaptiveRadixTree.try_update_k.Goals.{After-restore}
 use Rattle.rart.proofs.tree.AdaptiveRadixTree.try_update_k.Goals as goal
@@ -67,7 +67,7 @@ returns-in-Err-Insert-clause-unchanged g c =
 -- a removal is refused
 pub restore-requires : goal.restore-requires
 restore-requires g c = record {
-  present = some-left g.V.Clone.is_infallible g.F.FnOnce c.args.f (g.K.KeyTrait.bytes c.args.key.now)
+  stored = some-left g.V.Clone.is_infallible g.F.FnOnce c.args.f (g.K.KeyTrait.bytes c.args.key.now)
       c.args.self.now.pairs c.try_update_slot-outcome.new.tree.pairs c.try_update_slot-outcome.result.0 _
       (c.in-Err-Remove.is
       ∙ ap Err c.in-Err-Remove.field-0-is) (rw c.in-Answered.is at c.try_update_slot-outcome.ensures.update)
@@ -76,7 +76,7 @@ restore-requires g c = record {
 
 pub unreachable-requires : goal.unreachable-requires
 unreachable-requires g c =
-    some-stored g.V.Clone.is_infallible g.F.FnOnce c.args.f (g.K.KeyTrait.bytes c.args.key.now) c.args.self.now.pairs
+    was-stored g.V.Clone.is_infallible g.F.FnOnce c.args.f (g.K.KeyTrait.bytes c.args.key.now) c.args.self.now.pairs
     c.try_update_slot-outcome.new.tree.pairs c.try_update_slot-outcome.result.0 _ (c.in-Err-Remove.is
     ∙ ap Err c.in-Err-Remove.field-0-is) (rw c.in-Answered.is at c.try_update_slot-outcome.ensures.update) c.in-None.is
 
