@@ -86,9 +86,7 @@ fn have_same_stats(one: &Table, other: &Table) -> bool {
 
 // Whether both tables have the same routes, nodes at the same prefixes, and the same statistics.
 fn are_alike(alloc: Global, one: &Table, other: &Table) -> bool {
-    one.len() == other.len()
-        && have_same_routes(alloc, one, other)
-        && have_same_stats(one, other)
+    one.len() == other.len() && have_same_routes(alloc, one, other) && have_same_stats(one, other)
 }
 
 // A refused edit returns its target.
