@@ -1,9 +1,9 @@
 -- The positions of a set, as a list.
 use Rattle.std.proofs.Common.{◌≡◌, ℕ, zero, suc, ◌<◌, ◌≤◌, ◌+◌, Bool, true, false, cond, eqb, not, ◌&&◌, List, [], ◌∷◌}
-use Rattle.std.proofs.Common.{length, arith, sym, ap, ◌∙◌, refl, ⊎_elim}
+use Rattle.std.proofs.Common.{Option, Some, None, length, arith, sym, ap, ◌∙◌, refl, ⊎_elim}
 use Rattle.std.proofs.lemmas.Bool.{ne_eqb, lt-ltb, le-ltb, cases_lt}
 use Rattle.std.proofs.lemmas.Bool.Decides.{eqb_tells}
-use Rattle.rart_parts.specs.Bits.{members_from, members, positions_above}
+use Rattle.rart_parts.specs.Bits.{members_from, members, positions_above, IsLast}
 
 -- no more positions than numbers
 pub length-members_from : (has : ℕ → Bool) (from count : ℕ) → length (members_from has from count) ≤ count
@@ -136,3 +136,9 @@ members-above has capacity p q h none = above-all has p 0 capacity (λ k l. none
 
 pub first-passed : (p k : ℕ) (ks : List ℕ) → k ≤ p → positions_above p (k ∷ ks) ≡ positions_above p ks
 first-passed p k ks h = ap (λ b. cond b (k ∷ positions_above p ks) (positions_above p ks)) (le-ltb p k h)
+
+-- equal tests have the same last position
+pub last_agrees : (f g : ℕ → Bool) (n : ℕ) → ((k : ℕ) → k < n → f k ≡ g k) → (r : Option ℕ) → IsLast f n r
+    → IsLast g n r
+last_agrees f g n e None h = λ k l. sym (e k l) ∙ h k l
+last_agrees f g n e (Some p) h = (h.0, sym (e p h.0) ∙ h.1, λ k m l. sym (e k l) ∙ h.2 k m l)

@@ -1,7 +1,8 @@
 -- The bits of one number.
 use Rattle.std.proofs.Common.{◌≡◌, ℕ, suc, zero, ◌<◌, ◌≤◌, ◌+◌, ◌-◌, ◌*◌, ◌/◌, ◌%◌, ◌^◌, ◌||◌, ◌&&◌, Bool, true, false}
 use Rattle.std.proofs.Common.{cond, not, eqb, List, ◌∷◌, length, bit_and, bit_or, count_ones, sym, ap, ◌∙◌, arith}
-use Rattle.std.proofs.Common.{⊎_elim, subst, rules, w64}
+use Rattle.std.proofs.Common.{⊎_elim, subst, rules, w64, refl}
+use Prim.Native.Nat.{min}
 use mir.Val.{bits}
 use Rattle.std.specs.Int.{Width, bit_at, bit_not, trailing_zeros, trailing_ones, leading_zeros}
 use Rattle.std.proofs.lemmas.Bool.{eq-eqb, ne_eqb, cases_lt}
@@ -10,6 +11,7 @@ use Rattle.std.proofs.lemmas.Nat.{or_lt, leading_top}
 use Rattle.std.proofs.lemmas.Nat.Bits.{and_pow, bit_at_lowest, bit_at-suc, bit_at_set_same, bit_at_set_other}
 use Rattle.std.proofs.lemmas.Nat.Bits.{bit_at_clear_same, bit_at_clear_other, bit_at-trailing_zeros}
 use Rattle.std.proofs.lemmas.Nat.Bits.{bit_at-trailing_ones, bit_at_ones, bit_at_above, bit_at-zero, bit_at-lt}
+use Rattle.std.proofs.lemmas.Nat.Bits.{bit_at_and}
 use Rattle.std.proofs.Math.Nat.{mod-eq_of_lt, div-eq_of_lt-le}
 use Rattle.std.proofs.Math.Pow.{pow-lt}
 use lib.Count.{ones_step, ones-le}
@@ -102,6 +104,17 @@ bit_highest n width p h fits =
       subst (λ j. has_bit n j ≡ true) (sym at) top,
       λ i l m. bit_above n (suc t.0) i t.3 (omega (arith, l, at)),
     )
+
+-- ---- the bits below a position
+min_one : (b : ℕ) → b < 2 → min b 1 ≡ b
+min_one zero h = refl
+min_one (suc zero) h = refl
+min_one (suc (suc b)) h = absurd (omega arith)
+
+pub bits_kept : (n k : ℕ) → k < 64 → (i : ℕ) → i < k → has_bit (bit_and n (1 * 2 ^ k % 2 ^ bits w64 - 1)) i
+    ≡ has_bit n i
+bits_kept n k h i l = ap (λ m. has_bit (bit_and n (m - 1)) i) (one_shifted w64 k h) ∙ ap (λ b. eqb b 1)
+    (bit_at_and n (2 ^ k - 1) i ∙ ap (min (bit_at n i)) (bit_at_ones k i l) ∙ min_one (bit_at n i) (bit_at-lt n i))
 
 -- ---- how many bits
 lowest_count : (b : ℕ) (x : ℕ) (l : List ℕ) → b < 2 → length (cond (eqb b 1) (x ∷ l) l) ≡ b + length l

@@ -6,7 +6,7 @@ use Rattle.std.proofs.lemmas.Bool.{eq-eqb, ne_eqb, cases_lt}
 use Rattle.std.proofs.lemmas.Bool.Decides.{eqb_tells}
 use Rattle.std.proofs.lemmas.List.{get_or-set_same, get_or-set_other, get_or-map, get_or-replicate, length-replicate}
 use Rattle.std.proofs.lemmas.List.{length-set}
-use Rattle.std.proofs.lemmas.Nat.{div-mul-add, mod-mul-add}
+use Rattle.std.proofs.lemmas.Nat.{div-mul-add, mod-mul-add, div-add-mod'}
 use Rattle.std.proofs.Math.Nat.{mod-lt, div-add-mod, mul-le-mul_right}
 use Rattle.rart_parts.specs.Bits.{has_bit, words_have, members_from, members}
 use Rattle.rart_parts.proofs.WordBits.{no_bits}
@@ -22,6 +22,18 @@ next_row i s width h = let m : suc i * width ≤ s * width = mul-le-mul_right wi
 -- a place in a row is below the end
 pub in_row : (i s width at : ℕ) → i < s → at < width → i * width + at < s * width
 in_row i s width at h l = omega (arith, next_row i s width h)
+
+-- the row of the position before `end`
+pub row_before : (end s width w : ℕ) → w ≡ width → 0 < width → 0 < end → end ≤ s * width
+    → ((end - 1) / w < s) × ((end - 1) / w * width < end) × (end ≤ (end - 1) / w * width + width)
+row_before end s width w e p h l =
+    let at = div-add-mod' (end - 1) width in
+    let below = mod-lt (end - 1) p in
+    rw e (
+      word_within s width (end - 1) p (omega (arith, h, l)),
+      omega (arith, h, at),
+      omega (arith, h, at, below),
+    )
 
 module _ {W : Type 0} (width : ℕ) (number : W → ℕ) (p : 0 < width) where
   word_is : (ws : List W) (i : ℕ) (x : W) → i < length ws → x ≡ get_or ws i x → get_or (map number ws) i 0 ≡ number x
@@ -109,27 +121,26 @@ module _ {W : Type 0} (width : ℕ) (number : W → ℕ) (p : 0 < width) where
             ∙ f.2 r.0 (omega (arith, l, r.2))) (cases_lt k (i * width)),
       )
 
-    -- the rows from n on are those after row i
-    module _ (n : ℕ) (next : n ≡ i + 1) (above : (k : ℕ) → n * width ≤ k → k < s * width
-        → words_have width number ws k ≡ false) where
-      row_end : n * width ≡ i * width + width
-      row_end = ap (λ m. m * width) next ∙ omega arith
+    -- no position from `end` on, which is in row i or after it, is in the set, so far as it is below `above`
+    module _ (end above : ℕ) (low : i * width ≤ end) (high : end ≤ i * width + width)
+        (past : (k : ℕ) → end ≤ k → k < above → words_have width number ws k ≡ false) where
+      pub above_more : ((j : ℕ) → j < end - i * width → has_bit (number x) j ≡ false) → (k : ℕ) → i * width ≤ k
+          → k < above → words_have width number ws k ≡ false
+      above_more none k l m = ⊎_elim (λ q. let r = split_row i k l (omega (arith, q, high)) in
+          ap (words_have width number ws) r.2 ∙ row_reads r.0 r.1 ∙ none r.0 (omega (arith, q, r.2)))
+          (λ q. past k q m) (cases_lt k end)
 
-      pub above_more : ((j : ℕ) → j < width → has_bit (number x) j ≡ false) → (k : ℕ) → i * width ≤ k → k < s * width
-          → words_have width number ws k ≡ false
-      above_more none k low high = ⊎_elim (λ m. row_fails (λ b. b) none k low (omega (arith, m, row_end)))
-          (λ m. above k m high) (cases_lt k (n * width))
-
-      pub last_found : (at : ℕ) → (at < width) × (has_bit (number x) at ≡ true)
-          × ((j : ℕ) → at < j → j < width → has_bit (number x) j ≡ false)
-          → (i * width + at < s * width) × (words_have width number ws (i * width + at) ≡ true)
-          × ((k : ℕ) → i * width + at < k → k < s * width → words_have width number ws k ≡ false)
-      last_found at f = (
-        in_row i s width at h f.0,
-        row_reads at f.0 ∙ f.1,
-        λ k l m. ⊎_elim (λ q. let r = split_row i k (omega arith) (omega (arith, q, row_end)) in
-            ap (words_have width number ws) r.2 ∙ row_reads r.0 r.1 ∙ f.2 r.0 (omega (arith, l, r.2)) r.1)
-            (λ q. above k q m) (cases_lt k (n * width)),
+      pub last_found : end ≤ above → (at : ℕ) → (at < end - i * width) × (has_bit (number x) at ≡ true)
+          × ((j : ℕ) → at < j → j < end - i * width → has_bit (number x) j ≡ false)
+          → (i * width + at < above) × (words_have width number ws (i * width + at) ≡ true)
+          × ((k : ℕ) → i * width + at < k → k < above → words_have width number ws k ≡ false)
+      last_found within at f = (
+        omega (arith, within, f.0, low),
+        row_reads at (omega (arith, f.0, high)) ∙ f.1,
+        λ k l m. ⊎_elim (λ q. let r = split_row i k (omega arith) (omega (arith, q, high)) in
+            ap (words_have width number ws) r.2 ∙ row_reads r.0 r.1
+            ∙ f.2 r.0 (omega (arith, l, r.2)) (omega (arith, q, r.2)))
+            (λ q. past k q m) (cases_lt k end),
       )
 
     -- the positions of one more word

@@ -33,6 +33,11 @@ abbrev pub entries_above : {X : Type 0} → ℕ → List (ℕ × X) → List (�
 entries_above k [] = []
 entries_above k (e ∷ es) = if nat_lt k e.0 then e ∷ entries_above k es else entries_above k es
 
+-- the answer is the entry at the greatest byte below a bound, and None where no byte below it has a child
+abbrev pub IsLastUnder : {X : Type 0} → ℕ → List (ℕ × X) → Option (ℕ × X) → Type 0
+IsLastUnder above es answer = MatchOption answer ((b : ℕ) → b < above → child_at b es ≡ None)
+    (λ e. (e.0 < above) × (child_at e.0 es ≡ Some e.1) × ((b : ℕ) → e.0 < b → b < above → child_at b es ≡ None))
+
 -- with one more child at a byte, before the first byte that is not below
 abbrev pub with_another : {X : Type 0} → ℕ → X → List (ℕ × X) → List (ℕ × X)
 with_another k x [] = (k, x) ∷ []

@@ -5,7 +5,7 @@ use Rattle.std.proofs.lemmas.Bool.{lt-ltb, le-ltb, cases_lt}
 use Rattle.std.proofs.lemmas.List.{append-nil, append_assoc}
 use Rattle.rart_keys.specs.Filters.{last_or}
 use Rattle.rart_keys.proofs.ByteOrder.{equal_or_not}
-use Rattle.rart_parts.specs.Entries.{BytesAscend, StartsAbove, child_at}
+use Rattle.rart_parts.specs.Entries.{BytesAscend, IsLastUnder, StartsAbove, child_at}
 use Rattle.rart_parts.proofs.EntryLemmas.{at_same, at_other, first_absent}
 use Rattle.rart_nodes.specs.ranges.Under.{entries_under, children_under, children_before, with_last}
 use Rattle.rart_nodes.specs.tries.CanonicalTest.{is_canonical}
@@ -34,7 +34,7 @@ module _ {X : Type 0} where
       (λ l. under-no b e es l ∙ under-empty b e.0 es w.0 w.1
       (λ d m h. sym (at_other d e es (λ q. omega arith)) ∙ n d (omega (arith, s)) h)) (cases_lt e.0 b)
 
-  pub under-none : (b : ℕ) (es : List (ℕ × X)) → ((d : ℕ) → d < b → child_at d es ≡ None) → entries_under b es ≡ []
+  under-none : (b : ℕ) (es : List (ℕ × X)) → ((d : ℕ) → d < b → child_at d es ≡ None) → entries_under b es ≡ []
   under-none b [] n = refl
   under-none b (e ∷ es) n = ⊎_elim
       (λ l. absurd (some-none e.1 (sym (at_same e.0 e es refl) ∙ n e.0 l)))
@@ -53,7 +53,7 @@ module _ {X : Type 0} where
       (λ l. ap (last_or None) (under-no b e es l) ∙ h) (cases_lt e.0 b)
 
   -- the entry at c, between which and b there is none
-  pub last-under : (b c : ℕ) (x : X) (es : List (ℕ × X)) → BytesAscend es → child_at c es ≡ Some x → c < b
+  last-under : (b c : ℕ) (x : X) (es : List (ℕ × X)) → BytesAscend es → child_at c es ≡ Some x → c < b
       → ((d : ℕ) → c < d → d < b → child_at d es ≡ None) → last_or None (entries_under b es) ≡ Some (c, x)
   last-under b c x [] w h l n = absurd (cc)
   last-under b c x (e ∷ es) w h l n = ⊎_elim
@@ -66,6 +66,11 @@ module _ {X : Type 0} where
       (λ s. last-more b e (c, x) es (last-under b c x es w.1 (sym (at_other c e es s) ∙ h) l
       (λ d m k. let q = n d m k in sym (at_other d e es (first_absent d e es q)) ∙ q)))
       (equal_or_not e.0 c)
+
+  pub last-entry_under : (b : ℕ) (es : List (ℕ × X)) (answer : Option (ℕ × X)) → BytesAscend es
+      → IsLastUnder b es answer → answer ≡ last_or None (entries_under b es)
+  last-entry_under b es None w h = sym (ap (last_or None) (under-none b es h))
+  last-entry_under b es (Some e) w h = sym (last-under b e.0 e.1 es w h.1 h.0 h.2)
 
 -- the children of a storage under a byte are those of the trie
 pub as_children-under : {V : Type 0} (b : ℕ) (es : List (ℕ × Trie V))

@@ -1,10 +1,11 @@
 -- The first and the last of entries that ascend by byte.
-use Rattle.std.proofs.Common.{◌≡◌, ℕ, ◌<◌, ⊎_elim, List, [], ◌∷◌, Option, Some, None, refl, sym, ap, ◌∙◌, arith}
+use Rattle.std.proofs.Common.{◌≡◌, ℕ, ◌<◌, ◌≤◌, ⊎_elim, List, [], ◌∷◌, Option, Some, None, refl, sym, ap, ◌∙◌, arith}
 use Rattle.std.proofs.Common.{false, is_some}
+use Rattle.std.proofs.lemmas.Bool.{cases_lt}
 use Rattle.std.specs.Prelude.{slice_get}
 use Rattle.rart_keys.specs.Filters.{last_or}
 use Rattle.rart_keys.proofs.ByteOrder.{equal_or_not}
-use Rattle.rart_parts.specs.Entries.{BytesAscend, child_at}
+use Rattle.rart_parts.specs.Entries.{BytesAscend, IsLastUnder, child_at}
 use Rattle.rart_parts.proofs.EntryLemmas.{at_same, at_other, first_absent}
 use Rattle.rart_nodes.specs.declared.node.ends.End.TheVariants.{First}
 use Rattle.rart_nodes.specs.tries.Ends.{end_child, first_child, last_child}
@@ -13,7 +14,7 @@ use Rattle.rart_nodes.specs.tries.TrieCode.{as_children}
 
 module _ {X : Type 0} where
   -- the entry above which there is none is the last
-  pub last-greatest : (b : ℕ) (x : X) (es : List (ℕ × X)) → BytesAscend es → child_at b es ≡ Some x
+  last-greatest : (b : ℕ) (x : X) (es : List (ℕ × X)) → BytesAscend es → child_at b es ≡ Some x
       → ((c : ℕ) → b < c → child_at c es ≡ None) → last_or None es ≡ Some (b, x)
   last-greatest b x [] w h n = absurd (cc)
   last-greatest b x (e ∷ []) w h n = ⊎_elim
@@ -28,9 +29,16 @@ module _ {X : Type 0} where
       (λ c l. let q = n c l in sym (at_other c e (d ∷ es) (first_absent c e (d ∷ es) q)) ∙ q))
       (equal_or_not e.0 b)
 
-  pub last-none : (es : List (ℕ × X)) → ((c : ℕ) → child_at c es ≡ None) → last_or None es ≡ None
+  last-none : (es : List (ℕ × X)) → ((c : ℕ) → child_at c es ≡ None) → last_or None es ≡ None
   last-none [] n = refl
   last-none (e ∷ es) n = let q = sym (at_same e.0 e es refl) ∙ n e.0 in absurd (cc)
+
+  -- the last of all bytes
+  pub last-entry : (es : List (ℕ × X)) (answer : Option (ℕ × X)) → BytesAscend es
+      → ((b : ℕ) → 256 ≤ b → child_at b es ≡ None) → IsLastUnder 256 es answer → answer ≡ last_or None es
+  last-entry es None w past h = sym (last-none es (λ b. ⊎_elim (h b) (past b) (cases_lt b 256)))
+  last-entry es (Some e) w past h = sym (last-greatest e.0 e.1 es w h.1
+      (λ b l. ⊎_elim (h.2 b l) (past b) (cases_lt b 256)))
 
 module _ {V : Type 0} where
   -- entries as a trie's children

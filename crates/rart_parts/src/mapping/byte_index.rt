@@ -1,7 +1,7 @@
 //! An inline index from bytes to slots, which a contract reads as a list of 256 optional slots.
-ghost use Rattle.std.specs.Prelude.{◌≡◌, ◌<◌, None, Some, replicate, slice_index_or, slice_set};
+ghost use Rattle.std.specs.Prelude.{◌≡◌, ◌<◌, ◌≤◌, None, Some, replicate, slice_index_or, slice_set};
 ghost use Rattle.std.specs.Iterator.{YieldsFirst, item_count};
-ghost use Rattle.rart_parts.specs.Bits.{IsFirst};
+ghost use Rattle.rart_parts.specs.Bits.{IsFirst, IsLast};
 ghost use Rattle.rart_parts.specs.Entries.{entries_above};
 ghost use Rattle.rart_parts.specs.Places.{is_used, numbered_values};
 
@@ -76,6 +76,14 @@ impl ByteIndex {
         ensures { IsFirst (is_used self.now) 256 result }
     {
         self.used.first_set()
+    }
+
+    /// Returns the greatest byte below `above` that has a slot.
+    pub(crate) fn last_used_under(&self, above: usize) -> Option<usize>
+        requires { above ≤ 256 }
+        ensures { IsLast (is_used self.now) above result }
+    {
+        self.used.last_under(above)
     }
 
     /// Returns the bytes that have a slot, with their slots, ascending.

@@ -1,9 +1,10 @@
 //! A map from bytes to children with a slot for each byte, which a contract reads as its ascending entries.
 
 ghost use Rattle.std.specs.Prelude.{◌≡◌, ℕ, [], ◌∷◌, IfSome, Some, ◌<◌, ◌≤◌, length, IfErr, IfOk, None, OnOk, OnErr};
+ghost use Rattle.std.specs.Prelude.{option_map};
 ghost use Rattle.std.specs.Iterator.{UpTo, YieldsFirst, YieldsFirstBy, item_count};
 ghost use Rattle.std.specs.Iterator.SizeHint.{IsWithinCount};
-ghost use Rattle.rart_parts.specs.Entries.{BytesAscend, sorted_entries, entries_above};
+ghost use Rattle.rart_parts.specs.Entries.{BytesAscend, IsLastUnder, sorted_entries, child_at, entries_above};
 ghost use Rattle.rart_parts.specs.Errors.{IsMemory};
 
 use crate::error::TreeError;
@@ -74,6 +75,21 @@ impl<N> DirectMapping<N> {
             places: &self.places.as_slice()[from..],
             byte: from,
         }
+    }
+
+    /// Returns the child at the greatest byte below `above`, with its byte. It reads the slots downward.
+    pub fn last_under(&self, above: usize) -> Option<(u8, &N)>
+        requires { above ≤ 256 }
+        ensures last { IsLastUnder above self.now (option_map (λ e. (e.0, e.1.now)) result) }
+        ensures ascending { BytesAscend self.now }
+        ensures bytes { (b : ℕ) → 256 ≤ b → child_at b self.now ≡ None }
+    {
+        for byte in (0..above).rev() {
+            if let Some(child) = self.places[byte].as_ref() {
+                return Some((byte as u8, child));
+            }
+        }
+        None
     }
 
     /// Moves the children of an indexed mapping into a new map.

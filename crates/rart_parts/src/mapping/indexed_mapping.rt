@@ -4,10 +4,10 @@
 // byte order.
 
 ghost use Rattle.std.specs.Prelude.{◌≡◌, ℕ, [], ◌∷◌, IfSome, IsSome, None, Some, ◌<◌, ◌≤◌, ◌^◌, length, IfErr, IfOk};
-ghost use Rattle.std.specs.Prelude.{OnOk, OnErr, MatchOption};
+ghost use Rattle.std.specs.Prelude.{OnOk, OnErr, MatchOption, option_map};
 ghost use Rattle.std.specs.Iterator.{UpTo, YieldsFirst, YieldsFirstBy, item_count};
 ghost use Rattle.std.specs.Iterator.SizeHint.{IsWithinCount};
-ghost use Rattle.rart_parts.specs.Entries.{BytesAscend, sorted_entries, child_at, entries_above};
+ghost use Rattle.rart_parts.specs.Entries.{BytesAscend, IsLastUnder, sorted_entries, child_at, entries_above};
 ghost use Rattle.rart_parts.specs.Errors.{IsMemory};
 
 use crate::error::TreeError;
@@ -321,6 +321,21 @@ impl<N, const W: usize, B: BitsetTrait> IndexedMapping<N, W, B> {
             slots: self.index.iter_above(byte),
             children: self.children.as_slice(),
         }
+    }
+
+    /// Returns the child at the greatest byte below `above`, with its byte. The index finds that byte by words of bits.
+    pub fn last_under(&self, above: usize) -> Option<(u8, &N)>
+        requires { above ≤ 256 }
+        ensures last { IsLastUnder above (sorted_entries self.now)
+            (option_map (λ e. (e.0, e.1.now)) result) }
+        ensures ascending { BytesAscend (sorted_entries self.now) }
+        ensures bytes { (b : ℕ) → 256 ≤ b → child_at b (sorted_entries self.now) ≡ None }
+    {
+        let Some(byte) = self.index.last_used_under(above) else {
+            return None;
+        };
+        let child = self.seek_child(byte as u8).unwrap();
+        Some((byte as u8, child))
     }
 }
 

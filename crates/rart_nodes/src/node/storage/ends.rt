@@ -4,7 +4,7 @@ ghost use Rattle.rart_keys.specs.Filters.{last_or};
 ghost use Rattle.rart_nodes.specs.storages.Stored.{child_entries};
 
 use crate::node::storage::Storage;
-use rart_parts::mapping::{NodeMapping, SortedKeyedMappingIter};
+use rart_parts::mapping::SortedKeyedMappingIter;
 
 /// Returns the last of the remaining children.
 fn last_of<N>(rest: SortedKeyedMappingIter<'_, N>) -> Option<(u8, &N)>
@@ -16,24 +16,6 @@ fn last_of<N>(rest: SortedKeyedMappingIter<'_, N>) -> Option<(u8, &N)>
         last = Some(child);
     }
     last
-}
-
-/// Returns the child at the greatest byte. It reads the bytes downward from 255.
-fn greatest<N, M: NodeMapping<N, W>, const W: usize>(map: &M) -> Option<(u8, &N)>
-    ensures { option_map (λ e. (e.0, e.1.now)) result ≡ last_or None (M.map map.now) }
-{
-    if map.num_children() == 0 {
-        return None;
-    }
-    let mut above = 256_usize;
-    while above > 0 {
-        above -= 1;
-        let byte = above as u8;
-        if let Some(child) = map.seek_child(byte) {
-            return Some((byte, child));
-        }
-    }
-    None
 }
 
 impl<N> Storage<N> {
@@ -52,8 +34,8 @@ impl<N> Storage<N> {
             Storage::Leaf => None,
             Storage::Node4(map) => last_of(map.iter()),
             Storage::Node16(map) => last_of(map.iter()),
-            Storage::Node48(map) => greatest(&**map),
-            Storage::Node256(map) => greatest(&**map),
+            Storage::Node48(map) => map.last_under(256),
+            Storage::Node256(map) => map.last_under(256),
         }
     }
 }

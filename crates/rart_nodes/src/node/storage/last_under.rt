@@ -5,7 +5,7 @@ ghost use Rattle.rart_nodes.specs.ranges.Under.{entries_under};
 ghost use Rattle.rart_nodes.specs.storages.Stored.{child_entries};
 
 use crate::node::storage::Storage;
-use rart_parts::mapping::{NodeMapping, SortedKeyedMappingIter};
+use rart_parts::mapping::SortedKeyedMappingIter;
 
 /// Returns the last of the remaining children under `byte`.
 fn last_of_under<N>(rest: SortedKeyedMappingIter<'_, N>, byte: u8) -> Option<(u8, &N)>
@@ -22,24 +22,6 @@ fn last_of_under<N>(rest: SortedKeyedMappingIter<'_, N>, byte: u8) -> Option<(u8
     last
 }
 
-/// Returns the child at the greatest byte under `byte`. It reads the bytes downward.
-fn greatest_under<N, M: NodeMapping<N, W>, const W: usize>(map: &M, byte: u8) -> Option<(u8, &N)>
-    ensures { option_map (λ e. (e.0, e.1.now)) result
-        ≡ last_or None (entries_under byte (M.map map.now)) }
-{
-    if map.num_children() == 0 {
-        return None;
-    }
-    let mut above = byte;
-    while above > 0 {
-        above -= 1;
-        if let Some(child) = map.seek_child(above) {
-            return Some((above, child));
-        }
-    }
-    None
-}
-
 impl<N> Storage<N> {
     /// Returns the child at the greatest byte under `byte`, with its byte.
     pub(crate) fn last_child_under(&self, byte: u8) -> Option<(u8, &N)>
@@ -50,8 +32,8 @@ impl<N> Storage<N> {
             Storage::Leaf => None,
             Storage::Node4(map) => last_of_under(map.iter(), byte),
             Storage::Node16(map) => last_of_under(map.iter(), byte),
-            Storage::Node48(map) => greatest_under(&**map, byte),
-            Storage::Node256(map) => greatest_under(&**map, byte),
+            Storage::Node48(map) => map.last_under(byte as usize),
+            Storage::Node256(map) => map.last_under(byte as usize),
         }
     }
 }

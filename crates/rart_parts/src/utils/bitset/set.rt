@@ -1,7 +1,7 @@
 //! A set of positions in an array of words: position `i` is bit `i % WIDTH` of word `i / WIDTH`.
-ghost use Rattle.std.specs.Prelude.{◌≡◌, ℕ, ◌<◌, ◌*◌, ◌^◌, false, refl};
+ghost use Rattle.std.specs.Prelude.{◌≡◌, ℕ, ◌<◌, ◌≤◌, ◌*◌, ◌^◌, false, refl};
 ghost use Rattle.rart_parts.specs.BitSets.{bitset_has};
-ghost use Rattle.rart_parts.specs.Bits.{words_have};
+ghost use Rattle.rart_parts.specs.Bits.{IsLast, words_have};
 
 use crate::utils::bitset::{BitsetOnesIter, BitsetTrait, BitsetWord};
 use std::alloc::AllocError;
@@ -20,6 +20,25 @@ impl<W: BitsetWord, const S: usize> Bitset<W, S> {
         Bitset {
             words: [W::from_u64(0); S],
         }
+    }
+}
+
+impl<W: BitsetWord, const S: usize> Bitset<W, S> {
+    /// Returns the greatest position in the set below `above`.
+    pub(crate) fn last_under(&self, above: usize) -> Option<usize>
+        requires { above ≤ S * W.WIDTH }
+        ensures { IsLast (bitset_has W.WIDTH W.number self.now) above result }
+    {
+        let mut end = above;
+        while end > 0 {
+            let i = (end - 1) / W::WIDTH;
+            let from = i * W::WIDTH;
+            if let Some(at) = self.words[i].highest_under(end - from) {
+                return Some(from + at);
+            }
+            end = from;
+        }
+        None
     }
 }
 
@@ -90,12 +109,7 @@ impl<W: BitsetWord, const S: usize> BitsetTrait for Bitset<W, S> {
     }
 
     fn last(&self) -> Option<usize> {
-        for i in (0..S).rev() {
-            if let Some(at) = self.words[i].highest() {
-                return Some(i * W::WIDTH + at);
-            }
-        }
-        None
+        self.last_under(S * W::WIDTH)
     }
 
     fn set(&mut self, position: usize) {

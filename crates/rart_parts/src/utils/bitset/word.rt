@@ -89,6 +89,19 @@ pub trait BitsetWord: Copy {
         }
     }
 
+    /// Returns the position of the highest set bit below `above`.
+    fn highest_under(self, above: usize) -> Option<usize>
+        requires { above ≤ WIDTH }
+        ensures { IsLast (has_bit (number self)) above result }
+    {
+        let low = low_bits(self.to_u64(), above);
+        if low == 0 {
+            None
+        } else {
+            Some(63 - low.leading_zeros() as usize)
+        }
+    }
+
     /// Returns the number of set bits.
     fn count(self) -> usize
         ensures { result ≡ length (members (has_bit (number self)) WIDTH) }
@@ -105,6 +118,19 @@ pub trait BitsetWord: Copy {
     ghost least_shift: { 3 ≤ SHIFT };
 
     ghost greatest_shift: { SHIFT ≤ 6 };
+}
+
+/// Returns the bits below `above`.
+fn low_bits(bits: u64, above: usize) -> u64
+    requires { above ≤ 64 }
+    ensures fits { result < 2 ^ above }
+    ensures kept { (k : ℕ) → k < above → has_bit result k ≡ has_bit bits k }
+{
+    if above < 64 {
+        bits & ((1 << above) - 1)
+    } else {
+        bits
+    }
 }
 
 impl BitsetWord for u8 {
