@@ -45,12 +45,7 @@ impl<W: BitsetWord, const S: usize> BitsetOnesIter<W, S> {
     pub(crate) fn pass(&mut self, position: usize)
         ensures { self.new ≡ positions_above position self.old }
     {
-        while let Some(first) = self.rest.first_set() {
-            if first > position {
-                return;
-            }
-            self.rest.unset(first);
-        }
+        self.rest.unset_up_to(position);
     }
 }
 
