@@ -1,7 +1,7 @@
 //! A set of positions in an array of words: position `i` is bit `i % WIDTH` of word `i / WIDTH`.
 ghost use Rattle.std.specs.Prelude.{◌≡◌, ℕ, ◌<◌, ◌≤◌, ◌*◌, ◌^◌, ◌&&◌, nat_lt, false, refl};
 ghost use Rattle.rart_parts.specs.BitSets.{bitset_has};
-ghost use Rattle.rart_parts.specs.Bits.{IsLast, words_have};
+ghost use Rattle.rart_parts.specs.Bits.{IsLast};
 
 use crate::utils::bitset::{BitsetOnesIter, BitsetTrait, BitsetWord};
 use std::alloc::AllocError;
@@ -21,9 +21,7 @@ impl<W: BitsetWord, const S: usize> Bitset<W, S> {
             words: [W::from_u64(0); S],
         }
     }
-}
 
-impl<W: BitsetWord, const S: usize> Bitset<W, S> {
     /// Returns the greatest position in the set below `above`.
     pub(crate) fn last_under(&self, above: usize) -> Option<usize>
         requires { above ≤ S * W.WIDTH }
@@ -40,9 +38,7 @@ impl<W: BitsetWord, const S: usize> Bitset<W, S> {
         }
         None
     }
-}
 
-impl<W: BitsetWord, const S: usize> Bitset<W, S> {
     /// Removes the positions up to and including `position`.
     pub(crate) fn unset_up_to(&mut self, position: usize)
         requires { S * W.WIDTH < 2 ^ 64 }
@@ -73,7 +69,7 @@ impl<W: BitsetWord, const S: usize> Clone for Bitset<W, S> {
 
 impl<W: BitsetWord, const S: usize> Default for Bitset<W, S> {
     ghost is_default = { λ b. (k : ℕ) → k < S * W.WIDTH
-        → words_have W.WIDTH W.number b.words k ≡ false };
+        → bitset_has W.WIDTH W.number b k ≡ false };
 
     fn default() -> Self {
         Bitset::new()
@@ -89,7 +85,7 @@ impl<W: BitsetWord, const S: usize> BitsetTrait for Bitset<W, S> {
 
     ghost CAPACITY = { S * W.WIDTH };
 
-    ghost has = { λ b k. words_have W.WIDTH W.number b.words k };
+    ghost has = { λ b k. bitset_has W.WIDTH W.number b k };
 
     ghost empty = { λ b e. e };
 

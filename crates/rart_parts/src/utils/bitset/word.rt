@@ -94,12 +94,7 @@ pub trait BitsetWord: Copy {
     fn highest(self) -> Option<usize>
         ensures { IsLast (has_bit (number self)) WIDTH result }
     {
-        let bits = self.to_u64();
-        if bits == 0 {
-            None
-        } else {
-            Some(63 - bits.leading_zeros() as usize)
-        }
+        self.highest_under(Self::WIDTH)
     }
 
     /// Returns the position of the highest set bit below `above`.
