@@ -1,6 +1,7 @@
 //! Tests of the parts of nodes.
 
 mod arrays;
+mod bounds;
 mod conversions;
 mod key_search;
 mod mappings;

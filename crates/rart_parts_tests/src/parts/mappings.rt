@@ -98,7 +98,7 @@ static KEY_255: [Row; 8] = [
 
 type Keyed4 = KeyedMapping<u8, 4, Bitset8<4>>;
 
-type Indexed48 = IndexedMapping<u8, 48, Bitset16<3>>;
+pub type Indexed48 = IndexedMapping<u8, 48, Bitset16<3>>;
 
 fn rows_hold_in_both<const W: usize>(map: &mut impl NodeMapping<u8, W>) -> bool {
     rows_hold(map, &FOUR) && rows_hold(map, &IN_ORDER) && rows_hold(map, &KEY_255)
@@ -159,7 +159,7 @@ pub fn lends<'a, I: Iterator<Item = (u8, &'a u8)> + Drop>(mut walk: I, keys: &[u
     walk.next().is_none()
 }
 
-const SCATTERED: [u8; 5] = [200, 3, 250, 17, 128];
+pub const SCATTERED: [u8; 5] = [200, 3, 250, 17, 128];
 
 const ASCENDING: [u8; 5] = [3, 17, 128, 200, 250];
 
