@@ -1,7 +1,7 @@
 -- The positions of a set, as a list.
-use Rattle.std.proofs.Common.{◌≡◌, ℕ, zero, suc, ◌<◌, ◌≤◌, ◌+◌, Bool, true, false, cond, eqb, ltb, not, ◌&&◌, [], ◌∷◌}
+use Rattle.std.proofs.Common.{◌≡◌, ℕ, zero, suc, ◌<◌, ◌≤◌, ◌+◌, Bool, true, false, cond, eqb, not, ◌&&◌, List, [], ◌∷◌}
 use Rattle.std.proofs.Common.{Option, Some, None, length, arith, sym, ap, ◌∙◌, refl, ⊎_elim}
-use Rattle.std.proofs.lemmas.Bool.{ne_eqb}
+use Rattle.std.proofs.lemmas.Bool.{ne_eqb, lt-ltb, le-ltb, cases_lt}
 use Rattle.std.proofs.lemmas.Bool.Decides.{eqb_tells}
 use Rattle.rart_parts.specs.Bits.{members_from, members, positions_above, IsLast}
 
@@ -111,36 +111,31 @@ members-first has less capacity p first rest =
     members_from-first has less 0 capacity p (omega arith) (omega (arith, first.0)) first.1 first.2
     (λ k h. rest k (within k capacity h))
 
--- the positions above p
-above_from : (has less : ℕ → Bool) (p from count : ℕ)
-    → ((k : ℕ) → k < from + count → less k ≡ (ltb p k && has k))
-    → members_from less from count ≡ positions_above p (members_from has from count)
-above_from has less p from zero e = refl
-above_from has less p from (suc count) e =
-    let tail = above_from has less p (suc from) count (λ k h. e k (omega arith)) in
-    ap (λ b. cond b (from ∷ members_from less (suc from) count) (members_from less (suc from) count))
-    (e from (omega arith))
-    ∙ elim (has from) as (λ b. cond (ltb p from && b) (from ∷ members_from less (suc from) count)
-    (members_from less (suc from) count)
-    ≡ positions_above p (cond b (from ∷ members_from has (suc from) count) (members_from has (suc from) count))) [
-      | true ↦ elim (ltb p from) as (λ a. cond (a && true) (from ∷ members_from less (suc from) count)
-          (members_from less (suc from) count)
-          ≡ cond a (from ∷ positions_above p (members_from has (suc from) count))
-          (positions_above p (members_from has (suc from) count))) [
-            | true ↦ ap (λ l. from ∷ l) tail
-            | false ↦ tail
-          ]
-      | false ↦ elim (ltb p from) as (λ a. cond (a && false) (from ∷ members_from less (suc from) count)
-          (members_from less (suc from) count) ≡ positions_above p (members_from has (suc from) count)) [
-            | true ↦ tail
-            | false ↦ tail
-          ]
-    ]
+-- all positions are above p where the set has none up to p
+above-all : (has : ℕ → Bool) (p from count : ℕ) → ((k : ℕ) → k ≤ p → has k ≡ false)
+    → positions_above p (members_from has from count) ≡ members_from has from count
+above-all has p from zero none = refl
+above-all has p from (suc count) none = ⊎_elim
+    (λ l. elim (has from) as (λ b. positions_above p
+    (cond b (from ∷ members_from has (suc from) count) (members_from has (suc from) count))
+    ≡ cond b (from ∷ members_from has (suc from) count) (members_from has (suc from) count)) [
+      | true ↦ ap (λ b. cond b (from ∷ positions_above p (members_from has (suc from) count))
+          (positions_above p (members_from has (suc from) count))) (lt-ltb p from l)
+          ∙ ap (λ l. from ∷ l) (above-all has p (suc from) count none)
+      | false ↦ above-all has p (suc from) count none
+    ])
+    (λ l. ap (λ b. positions_above p (cond b (from ∷ members_from has (suc from) count)
+    (members_from has (suc from) count))) (none from l) ∙ above-all has p (suc from) count none
+    ∙ sym (ap (λ b. cond b (from ∷ members_from has (suc from) count) (members_from has (suc from) count))
+    (none from l)))
+    (cases_lt p from)
 
-pub members-above : (has less : ℕ → Bool) (capacity p : ℕ)
-    → ((k : ℕ) → k < capacity → less k ≡ (ltb p k && has k))
-    → members less capacity ≡ positions_above p (members has capacity)
-members-above has less capacity p e = above_from has less p 0 capacity (λ k h. e k (within k capacity h))
+pub members-above : (has : ℕ → Bool) (capacity p q : ℕ) → p < q → ((k : ℕ) → k < q → has k ≡ false)
+    → positions_above p (members has capacity) ≡ members has capacity
+members-above has capacity p q h none = above-all has p 0 capacity (λ k l. none k (omega arith))
+
+pub first-passed : (p k : ℕ) (ks : List ℕ) → k ≤ p → positions_above p (k ∷ ks) ≡ positions_above p ks
+first-passed p k ks h = ap (λ b. cond b (k ∷ positions_above p ks) (positions_above p ks)) (le-ltb p k h)
 
 -- equal tests have the same last position
 pub last_agrees : (f g : ℕ → Bool) (n : ℕ) → ((k : ℕ) → k < n → f k ≡ g k) → (r : Option ℕ) → IsLast f n r

@@ -1,17 +1,17 @@
 -- The bits of one number.
 use Rattle.std.proofs.Common.{◌≡◌, ℕ, suc, zero, ◌<◌, ◌≤◌, ◌+◌, ◌-◌, ◌*◌, ◌/◌, ◌%◌, ◌^◌, ◌||◌, ◌&&◌, Bool, true, false}
-use Rattle.std.proofs.Common.{cond, not, eqb, ltb, List, ◌∷◌, length, bit_and, bit_or, count_ones, sym, ap, ◌∙◌, arith}
+use Rattle.std.proofs.Common.{cond, not, eqb, List, ◌∷◌, length, bit_and, bit_or, count_ones, sym, ap, ◌∙◌, arith}
 use Rattle.std.proofs.Common.{⊎_elim, subst, rules, w64, refl}
 use Prim.Native.Nat.{min}
 use mir.Val.{bits}
 use Rattle.std.specs.Int.{Width, bit_at, bit_not, trailing_zeros, trailing_ones, leading_zeros}
-use Rattle.std.proofs.lemmas.Bool.{eq-eqb, ne_eqb, lt-ltb, le-ltb, cases_lt}
+use Rattle.std.proofs.lemmas.Bool.{eq-eqb, ne_eqb, cases_lt}
 use Rattle.std.proofs.lemmas.Bool.Decides.{eqb_tells}
 use Rattle.std.proofs.lemmas.Nat.{or_lt, leading_top}
 use Rattle.std.proofs.lemmas.Nat.Bits.{and_pow, bit_at_lowest, bit_at-suc, bit_at_set_same, bit_at_set_other}
 use Rattle.std.proofs.lemmas.Nat.Bits.{bit_at_clear_same, bit_at_clear_other, bit_at-trailing_zeros}
 use Rattle.std.proofs.lemmas.Nat.Bits.{bit_at-trailing_ones, bit_at_ones, bit_at_above, bit_at-zero, bit_at-lt}
-use Rattle.std.proofs.lemmas.Nat.Bits.{bit_at_and, bit_at_not}
+use Rattle.std.proofs.lemmas.Nat.Bits.{bit_at_and}
 use Rattle.std.proofs.Math.Nat.{mod-eq_of_lt, div-eq_of_lt-le}
 use Rattle.std.proofs.Math.Pow.{pow-lt}
 use lib.Count.{ones_step, ones-le}
@@ -115,31 +115,6 @@ pub bits_kept : (n k : ℕ) → k < 64 → (i : ℕ) → i < k → has_bit (bit_
     ≡ has_bit n i
 bits_kept n k h i l = ap (λ m. has_bit (bit_and n (m - 1)) i) (one_shifted w64 k h) ∙ ap (λ b. eqb b 1)
     (bit_at_and n (2 ^ k - 1) i ∙ ap (min (bit_at n i)) (bit_at_ones k i l) ∙ min_one (bit_at n i) (bit_at-lt n i))
-
--- ---- the bits above a position
-bit_of : (n i : ℕ) → has_bit n i ≡ true → bit_at n i ≡ 1
-bit_of n i e = ⊎_elim (λ t. t.1) (λ t. absurd (true_false e t.0)) (eqb_tells (bit_at n i) 1)
-
--- `low` has the bits of n up to `at`, and no others
-pub bits_above : (n low at : ℕ) → low < 2 ^ (at + 1) → low < 2 ^ bits w64
-    → ((k : ℕ) → k < at + 1 → has_bit low k ≡ has_bit n k) → (k : ℕ) → k < bits w64
-    → has_bit (bit_and n (bit_not w64 low)) k ≡ (ltb at k && has_bit n k)
-bits_above n low at fits small kept k h =
-    let high : ℕ = bit_and n (bit_not w64 low) in
-    let read : bit_at high k ≡ min (bit_at n k) (1 - bit_at low k)
-    = bit_at_and n (bit_not w64 low) k ∙ ap (min (bit_at n k)) (bit_at_not w64 low k small h) in
-    ⊎_elim
-    (λ l.
-    let none : bit_at low k ≡ 0 = bit_at_above low (at + 1) k fits (omega (arith, l)) in
-    let same : bit_at high k ≡ bit_at n k = omega (arith, read, none, bit_at-lt n k) in
-    ap (λ b. eqb b 1) same ∙ ap (λ b. b && has_bit n k) (sym (lt-ltb at k l)))
-    (λ l.
-    let cleared : bit_at high k ≡ 0 = ⊎_elim
-    (λ t. omega (arith, read, bit_of low k (kept k (omega (arith, l)) ∙ t.0)))
-    (λ t. omega (arith, read, t.1, bit_at-lt n k))
-    (eqb_tells (bit_at n k) 1) in
-    ap (λ b. eqb b 1) cleared ∙ ap (λ b. b && has_bit n k) (sym (le-ltb at k l)))
-    (cases_lt at k)
 
 -- ---- how many bits
 lowest_count : (b : ℕ) (x : ℕ) (l : List ℕ) → b < 2 → length (cond (eqb b 1) (x ∷ l) l) ≡ b + length l

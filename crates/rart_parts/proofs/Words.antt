@@ -1,8 +1,8 @@
 -- A row of words, read as a set of positions: position k is bit `k mod width` of word `k div width`.
-use Rattle.std.proofs.Common.{◌≡◌, ◌≢◌, ℕ, suc, ◌<◌, ◌≤◌, ◌+◌, ◌-◌, ◌*◌, ◌/◌, ◌%◌, Bool, true, false, ◌&&◌, eqb, ltb}
-use Rattle.std.proofs.Common.{List, map, length, get_or, set, subst, sym, ap, ◌∙◌, arith, ⊎_elim, rules}
+use Rattle.std.proofs.Common.{◌≡◌, ℕ, suc, ◌<◌, ◌≤◌, ◌+◌, ◌-◌, ◌*◌, ◌/◌, ◌%◌, Bool, true, false, eqb, List, map, length}
+use Rattle.std.proofs.Common.{get_or, set, sym, ap, ◌∙◌, arith, ⊎_elim, rules}
 use Rattle.std.specs.Prelude.{replicate}
-use Rattle.std.proofs.lemmas.Bool.{eq-eqb, ne_eqb, lt-ltb, le-ltb, cases_lt}
+use Rattle.std.proofs.lemmas.Bool.{eq-eqb, ne_eqb, cases_lt}
 use Rattle.std.proofs.lemmas.Bool.Decides.{eqb_tells}
 use Rattle.std.proofs.lemmas.List.{get_or-set_same, get_or-set_other, get_or-map, get_or-replicate, length-replicate}
 use Rattle.std.proofs.lemmas.List.{length-set}
@@ -52,15 +52,6 @@ module _ {W : Type 0} (width : ℕ) (number : W → ℕ) (p : 0 < width) where
       (λ t. t.0 ∙ sym (ne_eqb k q (λ j. t.1 (ap (λ m. m % width) j))))
       (eqb_tells (k % width) (q % width))
 
-  -- a word was replaced, and the position is in the row of another
-  other_row : (ws : List W) (i k : ℕ) (x y : W) → k < length ws * width → k / width ≢ i
-      → words_have width number (set ws i y) k ≡ words_have width number ws k
-  other_row ws i k x y hk other =
-      let lk = word_within (length ws) width k p hk in
-      let within : k / width < length (set ws i y) = simp length-set lk in
-      ap (λ n. has_bit n (k % width)) (get_or-map number (set ws i y) (k / width) x 0 within
-      ∙ ap number (get_or-set_other ws i (k / width) y x other) ∙ sym (get_or-map number ws (k / width) x 0 lk))
-
   -- a word was replaced by one that differs at one bit, as `change` says
   pub changed_has : (change : Bool → Bool → Bool) → ((b : Bool) → change false b ≡ b)
       → (ws : List W) (q k : ℕ) (x y : W) → q < length ws * width → k < length ws * width → x ≡ get_or ws (q / width) x
@@ -79,7 +70,10 @@ module _ {W : Type 0} (width : ℕ) (number : W → ℕ) (p : 0 < width) where
       ∙ one (k % width) (mod-lt k p) ∙ (λ i. change (same_place k q t.1 i)
       (has_bit (sym (word_is ws (k / width) x lk there) i) (k % width))))
       (λ t.
-      other_row ws (q / width) k x y hk t.1
+      let same : get_or (set ws (q / width) y) (k / width) x ≡ get_or ws (k / width) x
+      = get_or-set_other ws (q / width) (k / width) y x t.1 in
+      ap (λ n. has_bit n (k % width)) (get_or-map number (set ws (q / width) y) (k / width) x 0 within ∙ ap number same
+      ∙ sym (get_or-map number ws (k / width) x 0 lk))
       ∙ sym (kept (has_bit (get_or (map number ws) (k / width) 0) (k % width)))
       ∙ ap (λ b. change b (has_bit (get_or (map number ws) (k / width) 0) (k % width)))
       (sym (ne_eqb k q (λ j. t.1 (ap (λ m. m / width) j)))))
@@ -148,45 +142,6 @@ module _ {W : Type 0} (width : ℕ) (number : W → ℕ) (p : 0 < width) where
             ∙ f.2 r.0 (omega (arith, l, r.2)) (omega (arith, q, r.2)))
             (λ q. past k q m) (cases_lt k end),
       )
-
-    -- the positions up to one are removed from the rows before row i, and the later rows are those of `old`
-    module _ (old : List W) (position : ℕ) (y : W) (passed : i * width ≤ position)
-        (one : (j : ℕ) → j < width → has_bit (number y) j ≡ (ltb (position - i * width) j && has_bit (number x) j))
-        (kept : (k : ℕ) → i * width ≤ k → k < s * width → words_have width number ws k ≡ words_have width number old k)
-      where
-        same_side : (j : ℕ) → ltb (position - i * width) j ≡ ltb position (i * width + j)
-        same_side j = ⊎_elim
-            (λ l. lt-ltb _ j l ∙ sym (lt-ltb position (i * width + j) (omega (arith, l, passed))))
-            (λ l. le-ltb _ j l ∙ sym (le-ltb position (i * width + j) (omega (arith, l, passed))))
-            (cases_lt (position - i * width) j)
-
-        other : (k : ℕ) → k / width ≢ i → k < s * width → words_have width number (set ws i y) k
-            ≡ words_have width number ws k
-        other k n l = other_row ws i k x y (subst (λ m. k < m * width) (sym len) l) n
-
-        pub removed_more : ((k : ℕ) → k < i * width → words_have width number ws k
-            ≡ (ltb position k && words_have width number old k)) → (k : ℕ) → k < (i + 1) * width
-            → words_have width number (set ws i y) k ≡ (ltb position k && words_have width number old k)
-        removed_more before k l =
-            let end : k < s * width = omega (arith, l, next_row i s width h) in
-            ⊎_elim
-            (λ m. other k (λ q. omega (arith, m, div-add-mod' k width, ap (λ n. n * width) q)) end ∙ before k m)
-            (λ m.
-            let r = split_row i k m (omega (arith, l)) in
-            let at : i * width + r.0 ≡ k = sym r.2 in
-            let was : has_bit (number x) r.0 ≡ words_have width number old k
-            = sym (row_reads r.0 r.1) ∙ ap (words_have width number ws) at ∙ kept k m end in
-            ap (words_have width number (set ws i y)) r.2
-            ∙ row_has (set ws i y) i r.0 y (simp length-set (omega (arith, h, len)))
-            (sym (get_or-set_same ws i y y (omega (arith, h, len)))) r.1
-            ∙ one r.0 r.1 ∙ ap (λ b. b && has_bit (number x) r.0) (same_side r.0 ∙ ap (ltb position) at)
-            ∙ ap (λ b. ltb position k && b) was)
-            (cases_lt k (i * width))
-
-        pub kept_more : (k : ℕ) → (i + 1) * width ≤ k → k < s * width
-            → words_have width number (set ws i y) k ≡ words_have width number old k
-        kept_more k l m = other k (λ q. omega (arith, l, div-add-mod' k width, mod-lt k p, ap (λ n. n * width) q)) m
-            ∙ kept k (omega (arith, l)) m
 
     -- the positions of one more word
     pub size_more : (size count : ℕ) → size ≡ length (members (words_have width number ws) (i * width))

@@ -45,7 +45,12 @@ impl<W: BitsetWord, const S: usize> BitsetOnesIter<W, S> {
     pub(crate) fn pass(&mut self, position: usize)
         ensures { self.new ≡ positions_above position self.old }
     {
-        self.rest.unset_up_to(position);
+        while let Some(first) = self.rest.first_set() {
+            if first > position {
+                return;
+            }
+            self.rest.unset(first);
+        }
     }
 }
 

@@ -1,5 +1,5 @@
 //! A set of positions in an array of words: position `i` is bit `i % WIDTH` of word `i / WIDTH`.
-ghost use Rattle.std.specs.Prelude.{◌≡◌, ℕ, ◌<◌, ◌≤◌, ◌*◌, ◌^◌, ◌&&◌, nat_lt, false, refl};
+ghost use Rattle.std.specs.Prelude.{◌≡◌, ℕ, ◌<◌, ◌≤◌, ◌*◌, ◌^◌, false, refl};
 ghost use Rattle.rart_parts.specs.BitSets.{bitset_has};
 ghost use Rattle.rart_parts.specs.Bits.{IsLast};
 
@@ -37,21 +37,6 @@ impl<W: BitsetWord, const S: usize> Bitset<W, S> {
             end = from;
         }
         None
-    }
-
-    /// Removes the positions up to and including `position`.
-    pub(crate) fn unset_up_to(&mut self, position: usize)
-        requires { S * W.WIDTH < 2 ^ 64 }
-        ensures { (k : ℕ) → k < S * W.WIDTH → bitset_has W.WIDTH W.number self.new k
-            ≡ (nat_lt position k && bitset_has W.WIDTH W.number self.old k) }
-    {
-        for i in 0..S {
-            let from = i * W::WIDTH;
-            if position < from {
-                return;
-            }
-            self.words[i] = self.words[i].without_up_to(position - from);
-        }
     }
 }
 

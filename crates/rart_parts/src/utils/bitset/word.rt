@@ -1,5 +1,5 @@
 //! Words of bits: the unsigned integers of 8 to 64 bits, which contracts read as numbers.
-ghost use Rattle.std.specs.Prelude.{◌≡◌, ℕ, ◌<◌, ◌≤◌, ◌^◌, ◌||◌, ◌&&◌, not, ◌==◌, nat_lt, refl, length};
+ghost use Rattle.std.specs.Prelude.{◌≡◌, ℕ, ◌<◌, ◌≤◌, ◌^◌, ◌||◌, ◌&&◌, not, ◌==◌, refl, length};
 ghost use Rattle.std.proofs.Common.{arith};
 ghost use Rattle.rart_parts.specs.Bits.{has_bit, IsFirst, IsLast, members};
 
@@ -51,19 +51,6 @@ pub trait BitsetWord: Copy {
             → has_bit (number result) k ≡ (not (k == at) && has_bit (number self) k) }
     {
         Self::from_u64(self.to_u64() & !(1 << at))
-    }
-
-    /// Returns the word with the bits up to and including `at` cleared.
-    fn without_up_to(self, at: usize) -> Self
-        ensures { (k : ℕ) → k < WIDTH
-            → has_bit (number result) k ≡ (nat_lt at k && has_bit (number self) k) }
-    {
-        if at < Self::WIDTH {
-            let bits = self.to_u64();
-            Self::from_u64(bits & !low_bits(bits, at + 1))
-        } else {
-            Self::from_u64(0)
-        }
     }
 
     /// Returns the position of the lowest set bit.
