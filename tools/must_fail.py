@@ -8,12 +8,14 @@ crates/CRATE/must-fail/*.edit, of FOLDER if it is given. An edit has these lines
 
   file: PATH        a file of the crate
   function: PATH    the function that is changed, by its path below the crate, as a check prints it
-  old: TEXT         a text that occurs once in the file
+  old: TEXT         a text that occurs once in the file, the first in the body of the function
   new: TEXT         what replaces it; further pairs of lines may follow
 
 An edit passes if the edited crate can be read and a goal of the function stays open. The check of a function also
-checks those that it calls; a goal of theirs doesn't count. Each check reuses the proofs of the checks before it. At
-last the functions are checked without the edits, over the same proofs, and must be proved.
+checks those that it calls; a goal of theirs doesn't count. Edits of different bodies are tried by one check, since the
+proof of a function reads only the contracts of the others. An edit that changes more than one body or isn't refused so
+is tried alone. Each check reuses the proofs of the checks before it. At last the functions are checked without the
+edits, over the same proofs, and must be proved.
 
 The crates below must be built: `rt lib` builds them. With --log, the output of an `rt ci` that runs in this folder, the
 edits of a crate wait until it has proved them.
@@ -41,18 +43,45 @@ PARTS = ("src", "specs", "proofs")
 # A message with its place: a note or an error, the file, and the text.
 MESSAGE = re.compile(r"^(note: )?(?:\./)?(\S+?):\d+:\d+: (error: )?(.*)$", re.M)
 # The text of an open goal, which names it: in a body, or where an answer doesn't prove it.
-GOAL = re.compile(r"^`[^`]+`|\(`[^`]+`\)")
+GOAL = re.compile(r"^`[^`]+`: |\(`[^`]+`\)")
+# A message that goes on below: a long one is broken behind a name, as before `has no field`.
+BROKEN = re.compile(r"^((?:note: )?\S+:\d+:\d+: .*)\n +(?=\S)", re.M)
+# A verdict on a function, a type or an `impl`.
+VERDICT = re.compile(r"^(?:fn|struct|enum|union|trait|impl|type|const|static) \S+: ")
 # What an error says of a text that can't be read: no contract was tried.
 UNREAD = re.compile(
     r"is not in scope|has no field|has no `|is no name|operand is missing|expected the end|cannot continue"
     r"|was not admitted"
 )
-# What a check says of libraries that don't fit.
-STALE = re.compile(r"Run the lower steps again")
+# What a verdict says of a function that calls one which isn't proved.
+UNPROVED_CALLEE = re.compile(r"which (?:is|are) (?:not (?:proved|stated|assumed)|refused)")
+# What a verdict says of a function in a cycle of calls, whose functions have one proof: an edit may make one.
+CYCLE = re.compile(r"cycle of calls|/\+")
+# What a check says of libraries that don't fit, and of its own limits.
+STALE = re.compile(r"Run the lower steps again|(?:went over|met) a limit of this run")
+
+# The first line of a function, and what declares more than a body does.
+HEAD = re.compile(r"^( *)(?:pub(?:\([^)]*\))? )?(?:(?:const|unsafe) )*fn (\w+)", re.M)
+ITEM = re.compile(r"\b(?:fn|impl|trait|struct|enum|type|const|static|mod|use|macro_rules|ensures|requires)\b")
 
 # Seconds between two looks at the output of `rt ci`, and far more than a check takes on a busy machine.
 PAUSE = 5
 LIMIT = 3600
+
+
+def body_around(text, old):
+    """Returns the name of the function in whose body a text stands, and where the body begins. Both may be empty.
+
+    A body stands below a line that ends with `{`, up to a `}`, both at the indent of its `fn`.
+    """
+    at = text.find(old)
+    heads = list(HEAD.finditer(text, 0, at + len(old))) if at >= 0 else []
+    if not heads:
+        return "", 0
+    indent, name = heads[-1].groups()
+    first = re.compile(rf"^{indent}(?:\S.* )?\{{(\}}?)$", re.M).search(text, heads[-1].start())
+    last = re.compile(rf"^{indent}\}}", re.M).search(text, first.end()) if first and not first[1] else None
+    return (name, first.end()) if last and first.end() < at and at + len(old) < last.start() else ("", 0)
 
 
 class Edit:
@@ -87,11 +116,18 @@ class Edit:
             text = path.read_text() if path.is_file() else ""
             if text.count(old) != 1:
                 return f"{file} has the old text {text.count(old)} times"
-            above = re.findall(r"\bfn (\w+)", text[:text.index(old) + len(old)])
-            if not at and (not above or above[-1] != self.function.split("::")[-1]):
-                return f"the text is not in {self.function}"
+            if not at and body_around(text, old)[0] != self.function.split("::")[-1]:
+                return f"the text is not in the body of {self.function}"
             path.write_text(text.replace(old, new))
         return ""
+
+    def is_of_body(self, folder):
+        """Whether it changes one body of the crate in `folder` and nothing else, on which another proof may rest."""
+        files = {file for file, _, _ in self.pairs}
+        text = (folder / self.pairs[0][0]).read_text() if (folder / self.pairs[0][0]).is_file() else ""
+        bodies = {body_around(text, old) for _, old, _ in self.pairs}
+        more = len(files) > 1 or len(bodies) > 1 or ("", 0) in bodies
+        return not more and not any(ITEM.search(new) for _, _, new in self.pairs)
 
 
 class Libraries:
@@ -110,7 +146,9 @@ class Libraries:
         below = [name for name in self.named[crate] if name in self.named]
         while self.log:
             lines = self.log.read_text(errors="replace").splitlines()
-            if all(f"rt: {name} proved" in lines for name in below):
+            # it takes what an earlier run proved of the same files
+            proved = {line[4:].removesuffix(" proved").partition(" is kept: ")[0] for line in lines if line[:4] == "rt: "}
+            if proved.issuperset(below):
                 break
             failed = any(line.startswith(f"rt: {name} NOT PROVED") or line.startswith(f"{name} NOT PROVED")
                          for name in below for line in lines)
@@ -136,6 +174,7 @@ class Libraries:
         wanted, output = {f"fn {crate}::{name}" for name in functions}, []
         with subprocess.Popen(words, cwd=folder, text=True, errors="replace", **pipes) as check:
             limit = threading.Timer(LIMIT, check.kill)
+            limit.daemon = True
             limit.start()
             for line in check.stdout:
                 output.append(line)
@@ -145,7 +184,8 @@ class Libraries:
                     check.kill()
                     break
             limit.cancel()
-        return "".join(output)
+        # a line that is cut off says less than it would
+        return BROKEN.sub(r"\1 ", "".join(line for line in output if line.endswith("\n")))
 
 
 def verdict_on(crate, function, output):
@@ -156,8 +196,30 @@ def verdict_on(crate, function, output):
 
 def is_refused(verdict):
     """Whether a function isn't proved for a reason of its own, and not because it calls one that isn't."""
-    by_callee = re.search(r"which (?:is|are) not proved", verdict) and "did not prove" not in verdict
+    by_callee = UNPROVED_CALLEE.search(verdict) and "did not prove" not in verdict
     return verdict.startswith(("not proved", "no proof")) and not by_callee
+
+
+def of_function(function, crate, output):
+    """The part of an output that speaks of a function: the messages of its proof, and those above its verdict."""
+    *above, name = function.split("::")
+    folder = re.escape("".join(f"{it}/" for it in above))
+    proof = re.compile(rf"^(?:note: )?(?:\./)?proofs/{folder}\+?{re.escape(name)}/[^/:]*\.antt:")
+    lines = output.splitlines(keepends=True)
+    mine = [line for line in lines if proof.match(line)]
+    above = []
+    for line in lines:
+        if line.startswith(f"fn {crate}::{function}: "):
+            break
+        above = [] if VERDICT.match(line) else [*above, line]
+    return "".join(mine) + "".join(line for line in above if line.startswith("note: "))
+
+
+def unread_in(files, output):
+    """Returns what the prover can't read in some files and in the specifications, if anything."""
+    found = (text for _, file, error, text in MESSAGE.findall(output)
+             if error and (file in files or file.startswith(("src/", "specs/"))) and UNREAD.search(text))
+    return next(found, "")
 
 
 def judge(edit, output):
@@ -170,12 +232,10 @@ def judge(edit, output):
     if not is_refused(verdict):
         return f"no goal of {edit.function} is open: {verdict}", ""
     changed = {file for file, _, _ in edit.pairs}
-    messages = MESSAGE.findall(output)
-    unread = [text for _, file, error, text in messages
-              if error and (file in changed or file.startswith(("src/", "specs/"))) and UNREAD.search(text)]
+    unread = unread_in(changed, output)
     if unread:
-        return f"the prover can't read the edited text: {unread[0]}", ""
-    goals = [text for _, file, _, text in messages
+        return f"the prover can't read the edited text: {unread}", ""
+    goals = [text for _, file, _, text in MESSAGE.findall(of_function(edit.function, edit.crate, output))
              if (file in changed or file.startswith("proofs/")) and GOAL.search(text) and not UNREAD.search(text)]
     if not goals:
         return f"no goal is named, or a proof names what the edit took away: {verdict}", ""
@@ -190,16 +250,58 @@ def copy_of(crate, folder):
             shutil.copytree(TOP / "crates" / crate / part, folder / part)
 
 
+def apply_some(edits, folder):
+    """Applies edits of different bodies to a copy of the crate, and returns them: those whose texts are there."""
+    applied = []
+    copy_of(edits[0].crate, folder)
+    for edit in edits:
+        if edit.is_of_body(folder) and all(edit.function != it.function for it in applied):
+            texts = {file: (folder / file).read_text() for file, _, _ in edit.pairs if (folder / file).is_file()}
+            if edit.apply(folder):
+                for file, text in texts.items():
+                    (folder / file).write_text(text)
+            else:
+                applied.append(edit)
+    return applied
+
+
+def try_alone(libraries, edit, folder, kept):
+    """Tries an edit by itself. Returns why it fails, and the goal that it leaves open."""
+    copy_of(edit.crate, folder)
+    why = edit.apply(folder)
+    return (why, "") if why else judge(edit, libraries.check(edit.crate, [edit.function], folder, kept))
+
+
+def try_together(libraries, edits, folder, kept):
+    """Tries edits in as few checks as their functions allow. Returns the goal of each that is refused.
+
+    A function that calls an unproved one doesn't count, since that one may be changed too, nor does one whose cycle of
+    calls has no proof yet.
+    """
+    goals, left = {}, edits
+    while left:
+        tried = apply_some(left, folder)
+        if len(tried) < 2:
+            # the texts of these are in each other's way, or they change more than a body
+            return goals
+        output = libraries.check(tried[0].crate, [it.function for it in tried], folder, kept)
+        if not unread_in((), output):
+            verdicts = [(it, verdict_on(it.crate, it.function, output)) for it in tried]
+            apart = [it for it, said in verdicts if not UNPROVED_CALLEE.search(said) and not CYCLE.search(said)]
+            answers = [(it, *judge(it, output)) for it in apart]
+            goals.update({it: goal for it, why, goal in answers if not why})
+        left = [it for it in left if it not in tried]
+    return goals
+
+
 def try_edits(libraries, crate, edits):
-    """Tries the edits of a crate in turn. Returns why each fails, and the goal that it leaves open."""
+    """Tries the edits of a crate. Returns why each fails, and the goal that it leaves open."""
     if not libraries.wait_for(crate):
         return [("a crate below is not proved", "")] * len(edits)
     with tempfile.TemporaryDirectory(prefix="must-fail-") as scratch:
-        folder, kept, tried = pathlib.Path(scratch) / "crate", pathlib.Path(scratch) / "kept", []
-        for edit in edits:
-            copy_of(crate, folder)
-            why = edit.apply(folder)
-            tried.append((why, "") if why else judge(edit, libraries.check(crate, [edit.function], folder, kept)))
+        folder, kept = pathlib.Path(scratch) / "crate", pathlib.Path(scratch) / "kept"
+        goals = try_together(libraries, [it for it in edits if not it.fault], folder, kept)
+        tried = [("", goals[edit]) if edit in goals else try_alone(libraries, edit, folder, kept) for edit in edits]
         copy_of(crate, folder)
         functions = sorted({edit.function for edit in edits if not edit.fault})
         output = libraries.check(crate, functions, folder, kept) if functions else ""

@@ -38,7 +38,7 @@ CALLS = [
     ("clear", 0),
     ("bulk_load_sorted", 1024),
     ("drop_closing_zeros", 1024),
-    ("statistics", 1024),
+    ("stats", 1024),
     ("equal", 1024),
     ("intersect_count", 1024),
     ("intersect_values", 1024),

@@ -2,7 +2,7 @@
 use Rattle.std.proofs.Common.{◌≡◌, ℕ, List, ap, sym, ◌∙◌}
 use Rattle.rart_keys.specs.SortedMap.{keys_of, put, without}
 use Rattle.rart_nodes.specs.shapes.Shape.{HasShape, NodeRecord}
-use Rattle.rart_nodes.specs.stats.Stats.{Statistics, stats_of}
+use Rattle.rart_nodes.specs.stats.Stats.{KeyStats, stats_of}
 use Rattle.rart.specs.LawAnswers.{IsCounted}
 use Rattle.rart.specs.MapAndShape.{MapAndShape}
 
@@ -12,7 +12,7 @@ OneShape = (s : List (List ℕ)) (xs ys : List (List ℕ × NodeRecord)) → Has
 
 module _ {V : Type 0} where
   -- the numbers of a tree are those of any nodes of its keys' shape
-  pub counted-by-keys : (m : List (List ℕ × V)) (tree : MapAndShape V) (numbers : Statistics) → OneShape
+  pub counted-by-keys : (m : List (List ℕ × V)) (tree : MapAndShape V) (numbers : KeyStats) → OneShape
       → tree.pairs ≡ m → numbers ≡ stats_of (keys_of tree.pairs) tree.nodes → HasShape (keys_of tree.pairs) tree.nodes
       → IsCounted (keys_of m) numbers
   counted-by-keys m tree numbers one same said shape others theirs =
@@ -31,9 +31,9 @@ module _ {V : Type 0} where
   same-nodes one-tree other one same theirs ours = one _ _ _ (rw same at theirs) ours
 
   -- and the same statistics
-  pub same-statistics : (one-tree other : MapAndShape V) (ours theirs : Statistics) → other.pairs ≡ one-tree.pairs
+  pub same-stats : (one-tree other : MapAndShape V) (ours theirs : KeyStats) → other.pairs ≡ one-tree.pairs
       → other.nodes ≡ one-tree.nodes → ours ≡ stats_of (keys_of one-tree.pairs) one-tree.nodes
       → theirs ≡ stats_of (keys_of other.pairs) other.nodes → theirs ≡ ours
-  same-statistics one-tree other ours theirs pairs nodes said says
+  same-stats one-tree other ours theirs pairs nodes said says
       = says ∙ ap (λ k. stats_of (keys_of k) other.nodes) pairs ∙ ap (stats_of (keys_of one-tree.pairs)) nodes
       ∙ sym said

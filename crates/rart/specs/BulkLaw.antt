@@ -7,7 +7,7 @@ use Rattle.rart.specs.Refusals.{MayLackStats, MayRefuseInsert}
 use Rattle.rart.specs.declared.bulk.BulkError.{BulkError}
 use Rattle.rart.specs.declared.bulk.BulkError.TheVariants.{Memory, Full, Unsorted}
 use Rattle.rart.specs.declared.laws.bulk_loads.RefusedStep.{RefusedStep}
-use Rattle.rart.specs.declared.laws.bulk_loads.RefusedStep.TheVariants.{Load, Insertion, Statistics}
+use Rattle.rart.specs.declared.laws.bulk_loads.RefusedStep.TheVariants.{Load, Insertion, Stats}
 use Rattle.rart.specs.declared.tree.TheConstants.{MAX_PAIRS}
 
 module _ {V : Type 0} where
@@ -26,4 +26,4 @@ module _ {V : Type 0} where
   abbrev pub RefusesStep : List (List ℕ × V) → List (List ℕ × V) → RefusedStep → Type 0
   RefusesStep sorted shuffled (Load error) = MayRefuseLoad sorted error
   RefusesStep sorted shuffled (Insertion error) = MayRefuseOneOf shuffled error
-  RefusesStep sorted shuffled (Statistics error) = MayLackStats (keys_of sorted) error
+  RefusesStep sorted shuffled (Stats error) = MayLackStats (keys_of sorted) error

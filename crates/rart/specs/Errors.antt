@@ -61,7 +61,7 @@ error_of_visit visit.Memory = Memory
 abbrev pub error_of_step : RefusedStep → Error
 error_of_step (step.Load error) = error_of_bulk error
 error_of_step (step.Insertion error) = error_of_tree error
-error_of_step (step.Statistics error) = error_of_tree error
+error_of_step (step.Stats error) = error_of_tree error
 
 abbrev pub error_of_call : {V : Type 0} → RefusedCall V → Error
 error_of_call (call.StatsBefore error) = error_of_tree error

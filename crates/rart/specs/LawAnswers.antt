@@ -2,7 +2,7 @@
 use Rattle.std.specs.Prelude.{◌≡◌, ℕ, List, Err}
 use Rattle.rart_keys.specs.SortedMap.{keys_of, put}
 use Rattle.rart_nodes.specs.shapes.Shape.{HasShape, NodeRecord}
-use Rattle.rart_nodes.specs.stats.Stats.{Statistics, stats_of}
+use Rattle.rart_nodes.specs.stats.Stats.{KeyStats, stats_of}
 use Rattle.rart.specs.Edits.{Inserts, Removes}
 use Rattle.rart.specs.MapAndShape.{MapAndShape}
 use Rattle.rart.specs.Refusals.{MayLackStats}
@@ -11,7 +11,7 @@ use Rattle.rart.specs.declared.laws.RefusedCall.TheVariants.{StatsBefore, Insert
 use Rattle.rart.specs.declared.laws.RefusedCall.TheVariants.{StatsAfter}
 
 -- the statistics of a tree with these keys: their nodes are the ones of the keys' shape
-abbrev pub IsCounted : List (List ℕ) → Statistics → Type 0
+abbrev pub IsCounted : List (List ℕ) → KeyStats → Type 0
 IsCounted keys numbers = (nodes : List (List ℕ × NodeRecord)) → HasShape keys nodes → numbers ≡ stats_of keys nodes
 
 module _ {V : Type 0} where

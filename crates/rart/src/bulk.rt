@@ -14,7 +14,7 @@ pub enum BulkError {
     /// An item's key is below the key of the item before it.
     #[error("item {at} is below its predecessor")]
     Unsorted {
-        /// The item's place, from 0; `usize::MAX` where the place is beyond it.
+        /// The item's index; `usize::MAX` if the index is beyond it.
         at: usize,
     },
 }

@@ -204,7 +204,7 @@ impl From<RefusedStep> for Error {
     fn from(error: RefusedStep) -> Error {
         match error {
             RefusedStep::Load(error) => Error::from(error),
-            RefusedStep::Insertion(error) | RefusedStep::Statistics(error) => Error::from(error),
+            RefusedStep::Insertion(error) | RefusedStep::Stats(error) => Error::from(error),
         }
     }
 }

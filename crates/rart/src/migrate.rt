@@ -11,7 +11,7 @@ pub enum MigrateError {
     /// A key doesn't end in a zero byte.
     #[error("key {at} has no closing zero")]
     NotText {
-        /// The place of the first such key, from 0, in ascending order.
+        /// The index of the first such key, in ascending order.
         at: usize,
     },
 }

@@ -3,11 +3,13 @@
 pub mod forms;
 pub mod players;
 pub mod replies;
+pub mod runs;
 
 pub use self::players::{
-    assert_none_wrong, first_wrong, first_wrong_in_run, first_wrong_refused, first_wrong_text,
-    first_wrong_without_requests, run_is_refused_in_turn,
+    assert_none_wrong, first_wrong, first_wrong_refused, first_wrong_text,
+    first_wrong_without_requests,
 };
+pub use self::runs::{first_wrong_in_run, run_is_refused_in_turn};
 
 /// A call. Keys are texts, so that a row is short; `Style` says what key a text becomes.
 #[derive(Clone, Copy)]

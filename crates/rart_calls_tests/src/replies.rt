@@ -3,7 +3,6 @@
 use crate::play::{Ask, Row, Want, assert_none_wrong, first_wrong, first_wrong_in_run};
 use rart::ArrayKey;
 use rart::keys::tail_key::TailKey;
-use std::test::Fail;
 
 static EMPTY: [Row<'static>; 14] = [
     (Ask::Get("x"), Want::None),
@@ -300,8 +299,7 @@ static RUN: [Row<'static>; 11] = [
 ];
 
 #[test]
-fn a_run_replies_to_its_calls_in_turn(rt: HostRuntime) -> Result<(), Fail> {
-    assert_none_wrong(&rt, first_wrong_in_run::<ArrayKey<4>>(rt.alloc(), &RUN)?);
+fn a_run_replies_to_its_calls_in_turn(rt: HostRuntime) {
+    assert_none_wrong(&rt, first_wrong_in_run::<ArrayKey<4>>(rt.alloc(), &RUN));
     assert_none_wrong(&rt, first_wrong::<ArrayKey<4>>(rt.alloc(), &RUN));
-    Ok(())
 }

@@ -1,6 +1,6 @@
 //! Rows of the calls of a table of IPv4 networks that the other rows do not make, with networks given as texts.
 
-use rart_cidr::{Cidr4, CidrTable4, ParseCidrError};
+use rart_cidr::{Cidr4, CidrTable4, Matches4, ParseCidrError};
 use std::alloc::Global;
 use std::cmp::Ordering;
 use std::process::Abort;
@@ -80,8 +80,7 @@ fn covers(table: &Table, net: &Cidr4, wanted: Option<&str>) -> bool {
     }
 }
 
-fn covers_all(table: &Table, net: &Cidr4, wanted: &[&str]) -> bool {
-    let mut found = table.matches_net(net);
+fn gives(found: &mut Matches4<'_, u64>, wanted: &[&str]) -> bool {
     for text in wanted {
         match found.next() {
             Some((covering, _)) if is(&covering, *text) => {}
@@ -89,6 +88,11 @@ fn covers_all(table: &Table, net: &Cidr4, wanted: &[&str]) -> bool {
         }
     }
     found.next().is_none()
+}
+
+fn covers_all(table: &Table, net: &Cidr4, wanted: &[&str]) -> bool {
+    let mut found = table.matches_net(net);
+    gives(&mut found, wanted)
 }
 
 fn refused(text: &str) -> Option<Reply> {

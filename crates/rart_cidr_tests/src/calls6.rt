@@ -1,6 +1,6 @@
 //! Rows of the calls of a table of IPv6 networks that the other rows do not make, with networks given as texts.
 
-use rart_cidr::{Cidr6, CidrTable6, ParseCidrError};
+use rart_cidr::{Cidr6, CidrTable6, Matches6, ParseCidrError};
 use std::alloc::Global;
 use std::cmp::Ordering;
 use std::process::Abort;
@@ -80,8 +80,7 @@ fn covers(table: &Table, net: &Cidr6, wanted: Option<&str>) -> bool {
     }
 }
 
-fn covers_all(table: &Table, net: &Cidr6, wanted: &[&str]) -> bool {
-    let mut found = table.matches_net(net);
+fn gives(found: &mut Matches6<'_, u64>, wanted: &[&str]) -> bool {
     for text in wanted {
         match found.next() {
             Some((covering, _)) if is(&covering, *text) => {}
@@ -89,6 +88,11 @@ fn covers_all(table: &Table, net: &Cidr6, wanted: &[&str]) -> bool {
         }
     }
     found.next().is_none()
+}
+
+fn covers_all(table: &Table, net: &Cidr6, wanted: &[&str]) -> bool {
+    let mut found = table.matches_net(net);
+    gives(&mut found, wanted)
 }
 
 fn refused(text: &str) -> Option<Reply> {

@@ -24,24 +24,17 @@ fn net6(first: u16, len: u8) -> Cidr6 {
     Cidr6::masked(Ipv6Addr::new(first, 0, 0, 0, 0, 0, 0, 1), len.min(128))
 }
 
-fn filled4(alloc: Global) -> Option<CidrTable4<u64>> {
-    let mut table = CidrTable4::new(alloc);
-    for (net, target) in [
-        (net4(0, 0, 0), 0),
-        (net4(10, 0, 7), 1),
-        (net4(10, 1, 17), 2),
-    ] {
-        table.insert(&net, target).ok()?;
-    }
-    Some(table)
+// Whether three networks are inserted.
+fn is_filled4(table: &mut CidrTable4<u64>) -> bool {
+    table.insert(&net4(0, 0, 0), 0).is_ok()
+        && table.insert(&net4(10, 0, 7), 1).is_ok()
+        && table.insert(&net4(10, 1, 17), 2).is_ok()
 }
 
-fn filled6(alloc: Global) -> Option<CidrTable6<u64>> {
-    let mut table = CidrTable6::new(alloc);
-    for (net, target) in [(net6(0, 0), 0), (net6(0x2000, 7), 1), (net6(0x2001, 17), 2)] {
-        table.insert(&net, target).ok()?;
-    }
-    Some(table)
+fn is_filled6(table: &mut CidrTable6<u64>) -> bool {
+    table.insert(&net6(0, 0), 0).is_ok()
+        && table.insert(&net6(0x2000, 7), 1).is_ok()
+        && table.insert(&net6(0x2001, 17), 2).is_ok()
 }
 
 fn targets4(table: &CidrTable4<u64>, addr: Ipv4Addr, net: &Cidr4) -> [Option<u64>; 4] {
@@ -117,24 +110,28 @@ fn left6(alloc: Global, table: &mut CidrTable6<u64>) -> Left {
 }
 
 // Whether all calls answer as wanted, and none is refused memory.
-fn is_quiet4(alloc: Global) -> bool {
-    let Some(mut table) = filled4(alloc) else {
-        return false;
-    };
+fn are_quiet4(alloc: Global, table: &mut CidrTable4<u64>) -> bool {
     refuse(alloc, 1);
-    let found = found4(&table);
-    let left = left4(alloc, &mut table);
+    let found = found4(table);
+    let left = left4(alloc, table);
+    !was_refused(alloc) && found == FOUND && left == LEFT
+}
+
+fn is_quiet4(alloc: Global) -> bool {
+    let mut table = CidrTable4::new(alloc);
+    is_filled4(&mut table) && are_quiet4(alloc, &mut table)
+}
+
+fn are_quiet6(alloc: Global, table: &mut CidrTable6<u64>) -> bool {
+    refuse(alloc, 1);
+    let found = found6(table);
+    let left = left6(alloc, table);
     !was_refused(alloc) && found == FOUND && left == LEFT
 }
 
 fn is_quiet6(alloc: Global) -> bool {
-    let Some(mut table) = filled6(alloc) else {
-        return false;
-    };
-    refuse(alloc, 1);
-    let found = found6(&table);
-    let left = left6(alloc, &mut table);
-    !was_refused(alloc) && found == FOUND && left == LEFT
+    let mut table = CidrTable6::new(alloc);
+    is_filled6(&mut table) && are_quiet6(alloc, &mut table)
 }
 
 #[test]

@@ -1,7 +1,7 @@
 //! Edits and walks of a table of IPv4 networks with each request for memory refused in turn.
 
 use rart::TreeError;
-use rart_cidr::{Cidr4, CidrTable4};
+use rart_cidr::{Cidr4, CidrTable4, Routes4};
 use rart_test_tools::refusals::{is_swept, refuse, was_refused};
 use std::alloc::Global;
 use std::net::Ipv4Addr;
@@ -93,27 +93,47 @@ fn has_networks(table: &Table, networks: &[Network], from: usize, to: usize) -> 
     table.len() == count
 }
 
-// With the request of this number refused: whether one was. None where something else failed.
-fn insertions_refused(alloc: Global, networks: &[Network], at: usize) -> Option<bool> {
-    let mut table = Table::new(alloc);
+// Inserts the networks with the request of this number refused. Returns whether one was, None where something else
+// failed.
+fn insert_refused(
+    table: &mut Table,
+    alloc: Global,
+    networks: &[Network],
+    at: usize,
+) -> Option<bool> {
     refuse(alloc, at);
-    let done = insert_all(&mut table, networks);
+    let done = insert_all(table, networks);
     let was = was_refused(alloc);
     let done = done?;
-    (was == (done < networks.len()) && has_networks(&table, networks, 0, done)).then_some(was)
+    (was == (done < networks.len()) && has_networks(table, networks, 0, done)).then_some(was)
+}
+
+fn insertions_refused(alloc: Global, networks: &[Network], at: usize) -> Option<bool> {
+    let mut table = Table::new(alloc);
+    insert_refused(&mut table, alloc, networks, at)
+}
+
+// Inserts the networks, and removes them with the request of this number refused.
+fn remove_refused(
+    table: &mut Table,
+    alloc: Global,
+    networks: &[Network],
+    at: usize,
+) -> Option<bool> {
+    if insert_all(table, networks) != Some(networks.len()) {
+        return None;
+    }
+    refuse(alloc, at);
+    let done = remove_all(table, networks);
+    let was = was_refused(alloc);
+    let done = done?;
+    (was == (done < networks.len())
+        && has_networks(table, networks, done, networks.len())).then_some(was)
 }
 
 fn removals_refused(alloc: Global, networks: &[Network], at: usize) -> Option<bool> {
     let mut table = Table::new(alloc);
-    if insert_all(&mut table, networks) != Some(networks.len()) {
-        return None;
-    }
-    refuse(alloc, at);
-    let done = remove_all(&mut table, networks);
-    let was = was_refused(alloc);
-    let done = done?;
-    (was == (done < networks.len())
-        && has_networks(&table, networks, done, networks.len())).then_some(was)
+    remove_refused(&mut table, alloc, networks, at)
 }
 
 /// Which routes a walk gives.
@@ -123,26 +143,41 @@ enum Routes {
     InTen,
 }
 
-// How many routes the walk gives, or its refusal.
-fn count(table: &Table, routes: Routes) -> Result<usize, TreeError> {
-    let walk = match routes {
-        Routes::All => table.iter()?,
-        Routes::InTen => table.within(&net([10, 0, 0, 0], 8))?,
-    };
+fn count_left(walk: &mut Routes4<'_, u64>) -> usize {
     let mut count = 0_usize;
-    for _ in walk {
+    while let Some(_route) = walk.next() {
         count = count.wrapping_add(1);
     }
-    Ok(count)
+    count
 }
 
-fn walk_refused(alloc: Global, routes: Routes, wanted: usize, at: usize) -> Option<bool> {
-    let mut table = Table::new(alloc);
-    if insert_all(&mut table, &NETWORKS) != Some(NETWORKS.len()) {
+fn counted(answer: Result<Routes4<'_, u64>, TreeError>) -> Result<usize, TreeError> {
+    match answer {
+        Ok(mut walk) => Ok(count_left(&mut walk)),
+        Err(error) => Err(error),
+    }
+}
+
+// How many routes the walk gives, or its refusal.
+fn count(table: &Table, routes: Routes) -> Result<usize, TreeError> {
+    match routes {
+        Routes::All => counted(table.iter()),
+        Routes::InTen => counted(table.within(&net([10, 0, 0, 0], 8))),
+    }
+}
+
+fn walk_refused_in(
+    table: &mut Table,
+    alloc: Global,
+    routes: Routes,
+    wanted: usize,
+    at: usize,
+) -> Option<bool> {
+    if insert_all(table, &NETWORKS) != Some(NETWORKS.len()) {
         return None;
     }
     refuse(alloc, at);
-    let counted = count(&table, routes);
+    let counted = count(table, routes);
     let was = was_refused(alloc);
     let wanted = if was {
         Err(TreeError::Memory)
@@ -150,6 +185,11 @@ fn walk_refused(alloc: Global, routes: Routes, wanted: usize, at: usize) -> Opti
         Ok(wanted)
     };
     (counted == wanted).then_some(was)
+}
+
+fn walk_refused(alloc: Global, routes: Routes, wanted: usize, at: usize) -> Option<bool> {
+    let mut table = Table::new(alloc);
+    walk_refused_in(&mut table, alloc, routes, wanted, at)
 }
 
 fn edits_are_refused_well(alloc: Global, networks: &[Network]) -> bool {

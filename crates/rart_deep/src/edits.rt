@@ -2,17 +2,12 @@
 
 // The owner of a tree lends it to one function.
 
-use crate::trees::{Key, Tree, insert_all, key, nested};
+use crate::reads::read;
+use crate::trees::{Key, Tree, insert_all, key};
 use rart::{RouteTable, SlotUpdate, TryUpdateError};
 use std::alloc::Global;
 
 type Routes = RouteTable<Key, u64>;
-
-/// Stores each key again, and returns how many had a value.
-pub fn insert(alloc: Global) -> Option<usize> {
-    let mut tree = nested(alloc)?;
-    insert_all(&mut tree, 2)
-}
 
 fn insert_new_all(tree: &mut Tree) -> Option<usize> {
     for length in 1..1025 {
@@ -45,6 +40,7 @@ pub fn try_insert(alloc: Global) -> Option<usize> {
     Some(try_insert_all(&mut tree))
 }
 
+// Removes all keys, the longest first, and returns how many were stored.
 fn remove_all(tree: &mut Tree) -> Option<usize> {
     let mut removed: usize = 0;
     for shorter in 0..1024 {
@@ -55,12 +51,7 @@ fn remove_all(tree: &mut Tree) -> Option<usize> {
     Some(removed)
 }
 
-/// Removes all keys, the longest first, and returns how many were stored.
-pub fn remove(alloc: Global) -> Option<usize> {
-    let mut tree = nested(alloc)?;
-    remove_all(&mut tree)
-}
-
+// Deletes all keys but the longest, so that nodes are merged, and returns how many were stored.
 fn delete_shorter(tree: &mut Tree) -> Option<usize> {
     let mut removed: usize = 0;
     for shorter in 1..1024 {
@@ -71,12 +62,7 @@ fn delete_shorter(tree: &mut Tree) -> Option<usize> {
     Some(removed)
 }
 
-/// Deletes all keys but the longest, so that nodes are merged, and returns how many were stored.
-pub fn delete(alloc: Global) -> Option<usize> {
-    let mut tree = nested(alloc)?;
-    delete_shorter(&mut tree)
-}
-
+// Takes all pairs from one end, and returns how many there were.
 fn pop_all(tree: &mut Tree, is_first: bool) -> Option<usize> {
     let mut taken: usize = 0;
     for _time in 0..1024 {
@@ -90,18 +76,6 @@ fn pop_all(tree: &mut Tree, is_first: bool) -> Option<usize> {
         }
     }
     Some(taken)
-}
-
-/// Takes all pairs from the front, and returns how many there were.
-pub fn pop_first(alloc: Global) -> Option<usize> {
-    let mut tree = nested(alloc)?;
-    pop_all(&mut tree, true)
-}
-
-/// Takes all pairs from the back, and returns how many there were.
-pub fn pop_last(alloc: Global) -> Option<usize> {
-    let mut tree = nested(alloc)?;
-    pop_all(&mut tree, false)
 }
 
 /// What a callback requests.
@@ -141,6 +115,7 @@ fn try_update_all(tree: &mut Tree, request: Request) -> Option<usize> {
     Some(tree.len())
 }
 
+// Keeps, replaces, removes and inserts all keys by updates, and returns the sum of the numbers of keys after each.
 fn update_in_turn(tree: &mut Tree) -> Option<usize> {
     let kept = update_all(tree, Request::Keep)?;
     let replaced = update_all(tree, Request::Insert)?;
@@ -149,12 +124,7 @@ fn update_in_turn(tree: &mut Tree) -> Option<usize> {
     Some((kept % 2048) + (replaced % 2048) + (removed % 2048) + (inserted % 2048))
 }
 
-/// Keeps, replaces, removes and inserts all keys by updates, and returns the number of keys after each of these.
-pub fn update(alloc: Global) -> Option<usize> {
-    let mut tree = nested(alloc)?;
-    update_in_turn(&mut tree)
-}
-
+// The same by callbacks that may fail.
 fn try_update_in_turn(tree: &mut Tree) -> Option<usize> {
     let kept = try_update_all(tree, Request::Keep)?;
     let replaced = try_update_all(tree, Request::Insert)?;
@@ -163,12 +133,7 @@ fn try_update_in_turn(tree: &mut Tree) -> Option<usize> {
     Some((kept % 2048) + (replaced % 2048) + (removed % 2048) + (inserted % 2048))
 }
 
-/// The same by callbacks that may fail.
-pub fn try_update(alloc: Global) -> Option<usize> {
-    let mut tree = nested(alloc)?;
-    try_update_in_turn(&mut tree)
-}
-
+// Writes to each value, and returns how many there are.
 fn write_all(tree: &mut Tree) -> usize {
     let mut stored: usize = 0;
     for length in 1..1025 {
@@ -180,26 +145,18 @@ fn write_all(tree: &mut Tree) -> usize {
     stored
 }
 
-/// Writes to each value, and returns how many there are.
-pub fn get_mut(alloc: Global) -> Option<usize> {
-    let mut tree = nested(alloc)?;
-    Some(write_all(&mut tree))
-}
-
-/// Writes to each value by one walk, and returns how many there are.
-pub fn values_mut(alloc: Global) -> Option<usize> {
-    let mut tree = nested(alloc)?;
+// Writes to each value by one walk, and returns how many there are.
+fn walk_mut(tree: &mut Tree) -> usize {
     let mut walked: usize = 0;
     tree.for_each_value_mut(|value| {
         *value = 5;
         walked = walked.saturating_add(1);
     });
-    Some(walked)
+    walked
 }
 
-/// Keeps the keys of even length, and returns how many there are.
-pub fn retain(alloc: Global) -> Option<usize> {
-    let mut tree = nested(alloc)?;
+// Keeps the keys of even length, and returns how many there are.
+fn retain(tree: &mut Tree) -> Option<usize> {
     tree.retain(|key: &[u8], _value: &mut u64| key.len() % 2 == 0)
         .ok()?;
     Some(tree.len())
@@ -230,9 +187,26 @@ pub fn routes(alloc: Global) -> Option<usize> {
     withdraw_all(&mut routes)
 }
 
-/// Drops all pairs, and returns how many are left.
-pub fn clear(alloc: Global) -> Option<usize> {
-    let mut tree = nested(alloc)?;
+// Drops all pairs, and returns how many are left.
+fn clear(tree: &mut Tree) -> usize {
     tree.clear();
-    Some(tree.len())
+    tree.len()
+}
+
+/// Makes the edit, or the read, of this name on a tree of all keys. `None` if there is none, or no memory.
+pub fn edit(tree: &mut Tree, name: &str) -> Option<usize> {
+    match name {
+        "insert" => insert_all(tree, 2),
+        "remove" => remove_all(tree),
+        "delete" => delete_shorter(tree),
+        "pop_first" => pop_all(tree, true),
+        "pop_last" => pop_all(tree, false),
+        "update" => update_in_turn(tree),
+        "try_update" => try_update_in_turn(tree),
+        "get_mut" => Some(write_all(tree)),
+        "values_mut" => Some(walk_mut(tree)),
+        "retain" => retain(tree),
+        "clear" => Some(clear(tree)),
+        _ => read(tree, name),
+    }
 }

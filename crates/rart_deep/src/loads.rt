@@ -27,12 +27,21 @@ fn text(length: usize) -> Key
     first(&bytes, length + 1)
 }
 
+fn insert_texts(tree: &mut Tree) -> Option<()> {
+    for length in 0..1024 {
+        tree.insert_k(&text(length), 1).ok()?;
+    }
+    Some(())
+}
+
+fn insert_and_migrate(old: &mut Tree) -> Option<usize> {
+    insert_texts(old)?;
+    let tree = Tree::drop_closing_zeros(old).ok()?;
+    Some(tree.len())
+}
+
 /// Migrates texts with a closing zero to keys without it, and returns how many keys the tree then has.
 pub fn texts(alloc: Global) -> Option<usize> {
     let mut old = Tree::new(alloc);
-    for length in 0..1024 {
-        old.insert_k(&text(length), 1).ok()?;
-    }
-    let tree = Tree::drop_closing_zeros(&old).ok()?;
-    Some(tree.len())
+    insert_and_migrate(&mut old)
 }

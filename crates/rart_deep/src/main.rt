@@ -9,44 +9,38 @@ mod loads;
 mod reads;
 mod trees;
 
+use crate::trees::{Tree, nested};
 use std::alloc::Global;
 use std::io;
 use std::io::Read;
 use std::process::ExitCode;
 
+// Makes the call of this name on two trees of all keys, of which this is one.
+fn answer_beside(tree: &Tree, alloc: Global, name: &str) -> Option<usize> {
+    let other = nested(alloc)?;
+    reads::read_both(tree, &other, name)
+}
+
+// Makes the call of this name on a tree of all keys, or on two. Only this function and the one above own trees of all
+// keys: a proof takes the longer the more functions own a tree.
+fn answer_of_nested(alloc: Global, name: &str) -> Option<usize> {
+    let mut tree = nested(alloc)?;
+    if name == "equal" || name.starts_with("intersect_") {
+        answer_beside(&tree, alloc, name)
+    } else {
+        edits::edit(&mut tree, name)
+    }
+}
+
 // Makes the call of this name. `None` if there is none, or no memory.
 fn answer(alloc: Global, name: &str) -> Option<usize> {
     match name {
-        "insert" => edits::insert(alloc),
         "insert_new" => edits::insert_new(alloc),
         "try_insert" => edits::try_insert(alloc),
-        "remove" => edits::remove(alloc),
-        "delete" => edits::delete(alloc),
-        "pop_first" => edits::pop_first(alloc),
-        "pop_last" => edits::pop_last(alloc),
-        "update" => edits::update(alloc),
-        "try_update" => edits::try_update(alloc),
-        "get_mut" => edits::get_mut(alloc),
-        "values_mut" => edits::values_mut(alloc),
-        "retain" => edits::retain(alloc),
         "routes" => edits::routes(alloc),
-        "clear" => edits::clear(alloc),
         "bulk_load_sorted" => loads::sorted(alloc),
         "drop_closing_zeros" => loads::texts(alloc),
-        "statistics" => reads::stats(alloc),
-        "equal" => reads::equal(alloc),
-        "intersect_count" => reads::intersect_count(alloc),
-        "intersect_values" => reads::intersect_values(alloc),
-        "intersect_keys" => reads::intersect_keys(alloc),
-        "intersect_views" => reads::intersect_views(alloc),
-        "look_up" => reads::look_up(alloc),
-        "longest" => reads::longest(alloc),
-        "matches" => reads::matches(alloc),
-        "iter" => reads::iter(alloc),
-        "prefix" => reads::prefix(alloc),
-        "range" => reads::range(alloc),
-        "views" => reads::views(alloc),
-        _ => None,
+        _ => answer_of_nested(alloc, name),
     }
 }
 

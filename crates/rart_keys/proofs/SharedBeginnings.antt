@@ -69,10 +69,10 @@ shared-begins p k n e l h =
 -- two byte strings, the first not the longer, that are read at a place
 module _ (p k : List ℕ) (bytes_p : AreBytes p) (bytes_k : AreBytes k) (fits : length p ≤ length k) where
   -- equal numbers at i: an equal beginning is extended
-  pub goes-on : (w i m n : ℕ) → i + w ≤ length p → m ≡ little_endian_number (take w (drop i p))
+  pub extends : (w i m n : ℕ) → i + w ≤ length p → m ≡ little_endian_number (take w (drop i p))
       → n ≡ little_endian_number (take w (drop i k)) → m ≡ n
       → take i p ≡ take i k → take (i + w) p ≡ take (i + w) k
-  goes-on w i m n h e f s b = one_piece_more w i p k b
+  extends w i m n h e f s b = one_piece_more w i p k b
       (piece_of_number w i p k bytes_p bytes_k h (omega arith) (sym e ∙ s ∙ f))
 
   -- the strings begin alike: so do their numbers at i
@@ -86,7 +86,7 @@ module _ (p k : List ℕ) (bytes_p : AreBytes p) (bytes_k : AreBytes k) (fits : 
       → m ≡ little_endian_number (take w (drop last p)) → n ≡ little_endian_number (take w (drop last k))
       → take i p ≡ take i k → IsTrue (nat_eq m n) ↔ (take (length p) k ≡ p)
   last-decides w last i m n l h e f b = (
-    (λ t. whole p k (last + w) l (goes-on w last m n (omega arith) e f (eqb-true m n t) (fewer last i p k h b))),
+    (λ t. whole p k (last + w) l (extends w last m n (omega arith) e f (eqb-true m n t) (fewer last i p k h b))),
     (λ s. eq-eqb m n (same-number w last m n (omega arith) e f s)),
   )
 

@@ -6,7 +6,7 @@ use Rattle.std.specs.List.{enumerate_from}
 use Rattle.std.proofs.lemmas.List.{get_or_default}
 use Rattle.std.proofs.lemmas.List.FromFn.{get_or-enumerate_from, length-enumerate_from}
 use Rattle.rart_lines.specs.Lines.{lines_of}
-use Rattle.rart_lines.specs.Runs.{GoesOn, RunsLines}
+use Rattle.rart_lines.specs.Runs.{RunsNext, RunsLines}
 
 pub Appends-both : (a b c : Option (List ℕ)) (x y : List ℕ) → Appends a b x → Appends b c y → Appends a c (x ++ y)
 Appends-both None b c x y g h = tt
@@ -42,13 +42,13 @@ pub record HasRun {S : Type 0} (Step : List ℕ → S → List ℕ → S → Typ
   pub run : RunsLines Step first text n state printed
   pub appends : Appends old new printed
 
-pub lines-go_on : {S : Type 0} (Step : List ℕ → S → List ℕ → S → Type 0) (first : S) (text : List ℕ) (n index : ℕ)
+pub lines-next : {S : Type 0} (Step : List ℕ → S → List ℕ → S → Type 0) (first : S) (text : List ℕ) (n index : ℕ)
     (line : List ℕ) (state after : S) (answer : List ℕ) (a b c : Option (List ℕ)) → IsNext text n index line
     → HasRun Step first text n state a b → Step line state answer after → Appends b c answer
     → HasRun Step first text (n + 1) after a c
-lines-go_on Step first text n index line state after answer a b c next h step more =
+lines-next Step first text n index line state after answer a b c next h step more =
     let k = is_line text n index line next in
-    let run : GoesOn Step (get_or (lines_of text) n []) (RunsLines Step first text n) after (h.printed ++ answer)
+    let run : RunsNext Step (get_or (lines_of text) n []) (RunsLines Step first text n) after (h.printed ++ answer)
     = record {
       old = state;
       earlier = h.printed;

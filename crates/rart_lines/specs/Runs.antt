@@ -5,7 +5,7 @@ use Rattle.std.specs.Io.KnownBytes.{Appends}
 use Rattle.rart_lines.specs.Lines.{lines_of}
 
 -- a state that a line leaves, and what was printed by then, where Before says so of the lines before it
-pub record GoesOn {S : Type 0} (Step : List ℕ → S → List ℕ → S → Type 0) (line : List ℕ)
+pub record RunsNext {S : Type 0} (Step : List ℕ → S → List ℕ → S → Type 0) (line : List ℕ)
     (Before : S → List ℕ → Type 0) (state : S) (printed : List ℕ) : Type 0 where
   pub old : S
   pub earlier : List ℕ
@@ -18,7 +18,7 @@ pub record GoesOn {S : Type 0} (Step : List ℕ → S → List ℕ → S → Typ
 abbrev pub RunsLines : {S : Type 0} → (List ℕ → S → List ℕ → S → Type 0) → S → List ℕ → ℕ → S → List ℕ → Type 0
 RunsLines Step first text zero state printed = (state ≡ first) × (printed ≡ [])
 RunsLines Step first text (suc n) state printed
-    = GoesOn Step (slice_index_or (lines_of text) n []) (RunsLines Step first text n) state printed
+    = RunsNext Step (slice_index_or (lines_of text) n []) (RunsLines Step first text n) state printed
 
 -- an output grew by what the first n lines print
 abbrev pub PrintsFirst : {S : Type 0} → (List ℕ → S → List ℕ → S → Type 0) → S → List ℕ → Option (List ℕ)

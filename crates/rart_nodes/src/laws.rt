@@ -88,7 +88,7 @@ pub fn put_back<V>()
 /// Proves that the walk of an intersection yields the join of the pairs. It makes one visit for the roots and one for
 /// each shared edge, which is fewer than both tries have nodes.
 pub fn intersections<V, W>()
-    ensures meets { (t : Trie V) (u : Trie W) → IsCanonical t → IsCanonical u
+    ensures intersection { (t : Trie V) (u : Trie W) → IsCanonical t → IsCanonical u
         → intersect_nodes t u ≡ join (pairs_of t) (pairs_of u) }
     ensures visits { (t : Trie V) (u : Trie W) → IsCanonical t → IsCanonical u
         → intersect_visits t u

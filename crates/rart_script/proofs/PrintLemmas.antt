@@ -3,7 +3,7 @@ use Rattle.std.proofs.Common.{◌≡◌, ℕ, List, [], ◌∷◌, ◌++◌, Opt
 use Rattle.std.specs.Prelude.{map}
 use Rattle.std.specs.Io.KnownBytes.{Appends}
 use Rattle.std.specs.List.{concat, join_with_byte}
-use Rattle.rart_nodes.specs.stats.Stats.{Statistics}
+use Rattle.rart_nodes.specs.stats.Stats.{KeyStats}
 use Rattle.rart_nodes.specs.declared.stats.NodeStats.{NodeStats}
 use Rattle.rart_script.specs.Answers.{pair_word, pairs_line}
 use Rattle.rart_script.specs.Stats.{width_word, sums_text, stats_line}
@@ -29,10 +29,10 @@ pairs-begin a b key bytes value all rest left is from here h =
     rw (whole, from) (print-begins a b (pair_word (key, value)) (further_pairs rest) _ h (first_pair (key, value) rest))
 
 -- a space and the next pair are printed
-pub pairs-go_on : (a b c d : Option (List ℕ)) (key bytes : List ℕ) (value : ℕ) (left rest : List (List ℕ × ℕ))
+pub pairs-next : (a b c d : Option (List ℕ)) (key bytes : List ℕ) (value : ℕ) (left rest : List (List ℕ × ℕ))
     (whole : List ℕ) → left ≡ (bytes, value) ∷ rest → key ≡ bytes → HasPrinted a b (further_pairs left) whole
     → Appends b c (32 ∷ []) → Appends c d (pair_word (key, value)) → HasPrinted a d (further_pairs rest) whole
-pairs-go_on a b c d key bytes value left rest whole is here h space more =
+pairs-next a b c d key bytes value left rest whole is here h space more =
     let before : HasPrinted a b (32 ∷ pair_word (key, value) ++ further_pairs rest) whole
     = subst (λ l. HasPrinted a b (further_pairs l) whole) (is ∙ ap (λ k. (k, value) ∷ rest) (sym here)) h in
     print-continues a c d (pair_word (key, value)) (further_pairs rest) whole
@@ -49,16 +49,16 @@ abbrev pub further_widths : List (ℕ × NodeStats) → List ℕ
 further_widths widths = concat (map width_word widths) ++ 10 ∷ []
 
 -- the sums are printed
-pub widths-begin : (a b : Option (List ℕ)) (s : Statistics) (left : List (ℕ × NodeStats)) → left ≡ s.widths
+pub widths-begin : (a b : Option (List ℕ)) (s : KeyStats) (left : List (ℕ × NodeStats)) → left ≡ s.widths
     → Appends a b (sums_text s) → HasPrinted a b (further_widths left) (stats_line s)
 widths-begin a b s left is h = rw is (print-begins a b (sums_text s) (further_widths s.widths) _ h
     (sym (append_assoc (sums_text s) (concat (map width_word s.widths)) (10 ∷ []))))
 
 -- the nodes of the next width are printed
-pub widths-go_on : (a b c : Option (List ℕ)) (width : ℕ × NodeStats) (left rest : List (ℕ × NodeStats)) (whole : List ℕ)
+pub widths-next : (a b c : Option (List ℕ)) (width : ℕ × NodeStats) (left rest : List (ℕ × NodeStats)) (whole : List ℕ)
     → left ≡ width ∷ rest → HasPrinted a b (further_widths left) whole → Appends b c (width_word width)
     → HasPrinted a c (further_widths rest) whole
-widths-go_on a b c width left rest whole is h more =
+widths-next a b c width left rest whole is h more =
     let whole_left : further_widths left ≡ width_word width ++ further_widths rest
     = rw is (append_assoc (width_word width) (concat (map width_word rest)) (10 ∷ [])) in
     print-continues a b c (width_word width) (further_widths rest) whole

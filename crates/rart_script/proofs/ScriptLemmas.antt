@@ -43,9 +43,9 @@ bad_line-at_next text n index line h before e =
     bad_line_some text n k.below before (ap is_malformed (sym k.here) ∙ ap (λ o. not (is_some o)) e)
     ∙ ap (λ m. Some (m + 1)) (sym k.number)
 
-pub AreCommands-next : (text : List ℕ) (n index : ℕ) (line : List ℕ) (asked : Option (Call (List ℕ) ℕ))
-    → IsNext text n index line → AreCommands text n → command_of (words_of line) ≡ Some asked → AreCommands text (n + 1)
-AreCommands-next text n index line asked h before e =
+pub AreCommands-next : (text : List ℕ) (n index : ℕ) (line : List ℕ) (call : Option (Call (List ℕ) ℕ))
+    → IsNext text n index line → AreCommands text n → command_of (words_of line) ≡ Some call → AreCommands text (n + 1)
+AreCommands-next text n index line call h before e =
     let k = is_line text n index line h in
     below_more _ _ before (ap is_malformed (sym k.here) ∙ ap (λ o. not (is_some o)) e)
 

@@ -118,6 +118,10 @@ fn print_doubled(rt: &impl Print, readings: &mut Readings) -> io::Result<()> {
 }
 
 /// Prints what the lines return.
+///
+/// # Errors
+///
+/// That of a failed write to standard output.
 pub fn print_examples(rt: &impl Print, alloc: Global) -> io::Result<()> {
     match rows::readings(alloc) {
         Ok(mut readings) => {

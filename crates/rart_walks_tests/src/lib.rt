@@ -5,6 +5,8 @@
 #![tactic(auto)]
 
 #[cfg(test)]
+mod items;
+#[cfg(test)]
 mod plain_forms;
 #[cfg(test)]
 mod prefixes;

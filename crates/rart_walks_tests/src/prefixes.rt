@@ -1,6 +1,7 @@
 //! Answers about a probe and walks below a prefix: for each probe the longest key that begins it, all keys that do, and
 //! the keys that it begins.
 
+use crate::items::are_all;
 use rart::{ArrPartial, Iter, KeyTrait, PrefixMatchIter, TreeError};
 use rart_test_tools::refusals::{refuse, was_refused};
 use rart_test_trees::texts::{Key, Pair, THREE, Tree, filled, is_pair};
@@ -9,40 +10,8 @@ use std::alloc::Global;
 // A probe; the pairs whose key begins it, the shortest first; the pairs whose key it begins, ascending.
 type Row = (&'static str, &'static [Pair], &'static [Pair]);
 
-fn are_next_matches(
-    found: &mut PrefixMatchIter<'_, Key, ArrPartial<16>, u64>,
-    wanted: &[Pair],
-) -> bool {
-    for (text, wanted) in wanted {
-        match found.next() {
-            Some((key, value)) => {
-                if key.as_ref() != text.as_bytes() || *value != *wanted {
-                    return false;
-                }
-            }
-            None => return false,
-        }
-    }
-    true
-}
-
-// The matches are these and no others, and after the last always none.
 fn are_matches(mut found: PrefixMatchIter<'_, Key, ArrPartial<16>, u64>, wanted: &[Pair]) -> bool {
-    are_next_matches(&mut found, wanted) && found.next().is_none() && found.next().is_none()
-}
-
-fn are_next(found: &mut Iter<'_, Key, ArrPartial<16>, u64>, wanted: &[Pair]) -> bool {
-    for (text, wanted) in wanted {
-        match found.next() {
-            Some((key, value)) => {
-                if key.as_ref() != text.as_bytes() || *value != *wanted {
-                    return false;
-                }
-            }
-            None => return false,
-        }
-    }
-    true
+    are_all(&mut found, wanted)
 }
 
 fn are_below(
@@ -50,9 +19,7 @@ fn are_below(
     wanted: &[Pair],
 ) -> bool {
     match found {
-        Ok(mut found) => {
-            are_next(&mut found, wanted) && found.next().is_none() && found.next().is_none()
-        }
+        Ok(mut found) => are_all(&mut found, wanted),
         Err(_) => false,
     }
 }
@@ -232,6 +199,11 @@ static GROUPS: [Group; 8] = [
     (&OF_BYTES, &OF_FIRST_BYTES),
 ];
 
+// Each body that names a large static takes its time.
+fn groups() -> &'static [Group] {
+    &GROUPS
+}
+
 // The first wrong row of a new tree; 1000 where it can't be made.
 fn first_wrong_of(alloc: Global, pairs: &[Pair], rows: &[Row]) -> Option<usize> {
     match filled(alloc, pairs) {
@@ -241,9 +213,9 @@ fn first_wrong_of(alloc: Global, pairs: &[Pair], rows: &[Row]) -> Option<usize> 
 }
 
 // The first group of which a row fails, and that row.
-fn first_wrong_group(alloc: Global, groups: &[Group]) -> Option<(usize, usize)> {
+fn first_wrong_group(alloc: Global) -> Option<(usize, usize)> {
     let mut group = 0_usize;
-    for (pairs, rows) in groups {
+    for (pairs, rows) in groups() {
         if let Some(row) = first_wrong_of(alloc, pairs, rows) {
             return Some((group, row));
         }
@@ -254,7 +226,7 @@ fn first_wrong_group(alloc: Global, groups: &[Group]) -> Option<(usize, usize)> 
 
 #[test]
 fn keys_that_begin_a_probe_and_keys_that_it_begins(rt: HostRuntime) {
-    assert_eq!(rt; first_wrong_group(rt.alloc(), &GROUPS), None);
+    assert_eq!(rt; first_wrong_group(rt.alloc()), None);
 }
 
 // Whether the row's answers about a probe are the tree's, while the next request for memory is refused.
@@ -280,11 +252,17 @@ fn first_requesting(alloc: Global, tree: &Tree, rows: &[Row]) -> Option<usize> {
     None
 }
 
-// The first row of the words that makes a request; 1000 where their tree can't be made.
-fn first_requesting_of_words(alloc: Global) -> Option<usize> {
-    let (pairs, rows) = GROUPS[2];
+fn first_requesting_of(alloc: Global, pairs: &[Pair], rows: &[Row]) -> Option<usize> {
     match filled(alloc, pairs) {
         Some(tree) => first_requesting(alloc, &tree, rows),
+        None => Some(1000),
+    }
+}
+
+// The first row of the words that makes a request; 1000 where their tree can't be made.
+fn first_requesting_of_words(alloc: Global) -> Option<usize> {
+    match groups().get(2) {
+        Some((pairs, rows)) => first_requesting_of(alloc, pairs, rows),
         None => Some(1000),
     }
 }

@@ -1,9 +1,8 @@
 //! Keys lent in segments: the segments, what a view says of its bytes, copies of them, and walks over views.
 
-ghost use Rattle.std.specs.Prelude.{◌≤◌, length};
-
-use rart::{KeyTrait, LendingKeyView, TreeError};
-use rart_test_trees::texts::{Key, Pair, Tree, filled};
+use crate::walks::forms::{Calls, Walk, make, views_between};
+use rart::{KeyTrait, LendingKeyView};
+use rart_test_trees::texts::{Key, Pair, Tree, filled, key};
 use std::alloc::Global;
 use std::cell::Cell;
 use std::cmp::Ordering;
@@ -58,77 +57,45 @@ pub fn next_row(seen: usize, rows: &[Row], view: LendingKeyView<'_, '_>, value: 
     }
 }
 
-fn below_sees(tree: &Tree, key: &Key, rows: &[Row]) -> bool {
-    let seen = Cell::new(0_usize);
-    let outcome = tree.prefix_for_each_view_k(key, |view: LendingKeyView<'_, '_>, value: &u64| {
-        seen.set(next_row(seen.get(), rows, view, *value));
-    });
-    outcome == Ok(()) && seen.get() == rows.len()
+// Whether the walk about the key gives views of these rows.
+fn sees(tree: &Tree, key: Key, walk: Walk, rows: &[Row]) -> bool {
+    let calls = Calls::of_rows(rows);
+    make(tree, key, walk, &calls) == Ok(()) && calls.are_rows()
 }
 
-fn below_lent_sees(tree: &Tree, key: &Key, rows: &[Row]) -> bool {
-    let mut seen = 0_usize;
-    let mut callback = |view: LendingKeyView<'_, '_>, value: &u64| {
-        seen = next_row(seen, rows, view, *value);
-    };
-    let outcome = tree.prefix_for_each_view_by_ref_k(key, &mut callback);
-    outcome == Ok(()) && seen == rows.len()
-}
+static BELOW: [Walk; 4] = [
+    Walk::ViewsBelow,
+    Walk::ViewsBelowByValue,
+    Walk::ViewsBelowLent,
+    Walk::ViewsBelowLentByValue,
+];
 
-fn below_by_value_sees(tree: &Tree, key: Key, rows: &[Row]) -> bool {
-    let seen = Cell::new(0_usize);
-    let outcome = tree.prefix_for_each_view(key, |view: LendingKeyView<'_, '_>, value: &u64| {
-        seen.set(next_row(seen.get(), rows, view, *value));
-    });
-    outcome == Ok(()) && seen.get() == rows.len()
+static ALL: [Walk; 2] = [Walk::Views, Walk::ViewsLent];
+
+// Whether each of the walks about the key does.
+fn each_sees(tree: &Tree, key: Key, walks: &[Walk], rows: &[Row]) -> bool {
+    for walk in walks {
+        if !sees(tree, key, *walk, rows) {
+            return false;
+        }
+    }
+    true
 }
 
 // Whether a walk over the views below a prefix sees these, in each form.
-fn walks_see(tree: &Tree, prefix: &[u8], rows: &[Row]) -> bool
-    requires { length prefix.now ≤ 16 }
-{
-    let key = Key::new_from_slice(prefix);
-    below_sees(tree, &key, rows)
-        && below_lent_sees(tree, &key, rows)
-        && below_by_value_sees(tree, key, rows)
+fn walks_see(tree: &Tree, prefix: &[u8], rows: &[Row]) -> bool {
+    each_sees(tree, key(prefix), &BELOW, rows)
 }
 
-// What a walk over the views between two bounds saw, its start within.
-fn walk_sees_between(
-    tree: &Tree,
-    start: &[u8],
-    end: Bound<Key>,
-    rows: &[Row],
-) -> Result<bool, TreeError>
-    requires { length start.now ≤ 16 }
-{
-    let start = Bound::Included(Key::new_from_slice(start));
-    let seen = Cell::new(0_usize);
-    tree.for_each_range_view(start, end, |view: LendingKeyView<'_, '_>, value: &u64| {
-        seen.set(next_row(seen.get(), rows, view, *value));
-    })?;
-    Ok(seen.get() == rows.len())
-}
-
-fn all_see(tree: &Tree, rows: &[Row]) -> bool {
-    let seen = Cell::new(0_usize);
-    let outcome = tree.for_each_view(|view: LendingKeyView<'_, '_>, value: &u64| {
-        seen.set(next_row(seen.get(), rows, view, *value));
-    });
-    outcome == Ok(()) && seen.get() == rows.len()
-}
-
-fn all_lent_see(tree: &Tree, rows: &[Row]) -> bool {
-    let mut seen = 0_usize;
-    let mut callback = |view: LendingKeyView<'_, '_>, value: &u64| {
-        seen = next_row(seen, rows, view, *value);
-    };
-    let outcome = tree.for_each_view_by_ref(&mut callback);
-    outcome == Ok(()) && seen == rows.len()
+// Whether a walk over the views between two bounds sees these, its start within.
+fn walk_sees_between(tree: &Tree, start: &[u8], end: Bound<Key>, rows: &[Row]) -> bool {
+    let calls = Calls::of_rows(rows);
+    let start = Bound::Included(key(start));
+    views_between(tree, start, end, false, &calls) == Ok(()) && calls.are_rows()
 }
 
 fn walk_sees_all(tree: &Tree, rows: &[Row]) -> bool {
-    all_see(tree, rows) && all_lent_see(tree, rows)
+    each_sees(tree, key(b""), &ALL, rows)
 }
 
 const AB: Row = ("ab", 1, "ab", "");
@@ -170,11 +137,11 @@ fn views_of_the_empty_key_and_of_no_tree(rt: HostRuntime) {
 }
 
 fn sees_between(tree: &Tree) -> bool {
-    let end = Bound::Excluded(Key::new_from_slice(b"bcd"));
-    walk_sees_between(tree, b"", Bound::Unbounded, &[EMPTY, B, BCD]) == Ok(true)
-        && walk_sees_between(tree, b"a", Bound::Unbounded, &[B, BCD]) == Ok(true)
-        && walk_sees_between(tree, b"bc", Bound::Unbounded, &[BCD]) == Ok(true)
-        && walk_sees_between(tree, b"a", end, &[B]) == Ok(true)
+    let end = Bound::Excluded(key(b"bcd"));
+    walk_sees_between(tree, b"", Bound::Unbounded, &[EMPTY, B, BCD])
+        && walk_sees_between(tree, b"a", Bound::Unbounded, &[B, BCD])
+        && walk_sees_between(tree, b"bc", Bound::Unbounded, &[BCD])
+        && walk_sees_between(tree, b"a", end, &[B])
 }
 
 #[test]
@@ -183,86 +150,47 @@ fn views_between_two_bounds_are_cut_at_the_branch_points(rt: HostRuntime) {
     assert!(rt; sees_between(&tree));
 }
 
-// What the call returns for the longest match of the probe, and how often the callback got the wanted pair: 100 for
-// another one.
-fn shows_longest(tree: &Tree, probe: &[u8], row: &Row) -> (Result<bool, TreeError>, usize)
-    requires { length probe.now ≤ 16 }
-{
-    let seen = Cell::new(0_usize);
-    let key = Key::new_from_slice(probe);
-    let called = tree.with_longest_prefix_match_view(
-        key,
-        |view: LendingKeyView<'_, '_>, value: &u64| {
-            let wanted = *value == row.1 && is_view(view, row);
-            seen.set(seen.get().wrapping_add(if wanted { 1 } else { 100 }));
-        },
-    );
-    (called, seen.get())
+// Whether the calls that show the longest match of the probe show the pair of the row, once, and say so; without a row,
+// whether they show nothing.
+fn shows_longest(tree: &Tree, probe: &[u8], walks: &[Walk], rows: &[Row]) -> bool {
+    each_sees(tree, key(probe), walks, rows)
 }
 
-// The same of the forms that lend the callback, with the probe by reference and by value.
-fn shows_longest_by_ref(
-    tree: &Tree,
-    probe: &[u8],
-    row: &Row,
-) -> (
-    Result<bool, TreeError>,
-    Result<bool, TreeError>,
-    usize,
-    usize,
-)
-    requires { length probe.now ≤ 16 }
-{
-    let key = Key::new_from_slice(probe);
-    let mut first = 0_usize;
-    let mut callback = |view: LendingKeyView<'_, '_>, value: &u64| {
-        let wanted = *value == row.1 && is_view(view, row);
-        first = first.wrapping_add(if wanted { 1 } else { 100 });
-    };
-    let by_reference = tree.with_longest_prefix_match_view_by_ref_k(&key, &mut callback);
-    let mut second = 0_usize;
-    let mut callback = |view: LendingKeyView<'_, '_>, value: &u64| {
-        let wanted = *value == row.1 && is_view(view, row);
-        second = second.wrapping_add(if wanted { 1 } else { 100 });
-    };
-    let by_value = tree.with_longest_prefix_match_view_by_ref(key, &mut callback);
-    (by_reference, by_value, first, second)
-}
+static LENT: [Walk; 2] = [Walk::LongestLent, Walk::LongestLentByValue];
 
-fn shows_ab_and_abcd_by_ref(tree: &Tree) -> bool {
-    shows_longest_by_ref(tree, b"abcx", &AB) == (Ok(true), Ok(true), 1, 1)
-        && shows_longest_by_ref(tree, b"abcde", &ABCD) == (Ok(true), Ok(true), 1, 1)
-        && shows_longest_by_ref(tree, b"x", &("", 0, "", "")) == (Ok(false), Ok(false), 0, 0)
+fn shows_ab_and_abcd(tree: &Tree, walks: &[Walk]) -> bool {
+    shows_longest(tree, b"abcx", walks, &[AB])
+        && shows_longest(tree, b"abcde", walks, &[ABCD])
+        && shows_longest(tree, b"x", walks, &[])
 }
 
 #[test]
 fn the_longest_match_is_shown_once_by_ref(rt: HostRuntime) {
     let tree = filled(rt.alloc(), &AB_AND_ABCD).expect(&rt, "a tree");
-    assert!(rt; shows_ab_and_abcd_by_ref(&tree));
+    assert!(rt; shows_ab_and_abcd(&tree, &LENT));
 }
 
-fn shows_ab_and_abcd(tree: &Tree) -> bool {
-    shows_longest(tree, b"abcx", &AB) == (Ok(true), 1)
-        && shows_longest(tree, b"abcde", &ABCD) == (Ok(true), 1)
-        && shows_longest(tree, b"x", &("", 0, "", "")) == (Ok(false), 0)
-}
+static OWNED: [Walk; 2] = [Walk::Longest, Walk::LongestByValue];
 
 #[test]
 fn the_longest_match_is_shown_once(rt: HostRuntime) {
     let tree = filled(rt.alloc(), &AB_AND_ABCD).expect(&rt, "a tree");
     let with_empty = filled(rt.alloc(), &WITH_EMPTY).expect(&rt, "a tree");
-    let empty_key = shows_longest(&with_empty, b"x", &EMPTY) == (Ok(true), 1);
-    assert!(rt; empty_key && shows_ab_and_abcd(&tree));
+    let empty_key = shows_longest(&with_empty, b"x", &OWNED, &[EMPTY]);
+    assert!(rt; empty_key && shows_ab_and_abcd(&tree, &OWNED));
 }
 
 // The views of "abcd" in both trees have equal bytes and differ, and compare alike with other slices.
 fn compare(one: LendingKeyView<'_, '_>, other: LendingKeyView<'_, '_>) -> bool {
-    one != other
-        && one == one
-        && other.eq_slice(b"abcd")
-        && one.cmp_slice(b"abcd") == Ordering::Equal
-        && other.cmp_slice(b"abcd") == Ordering::Equal
-        && one.cmp_slice(b"abce") == Ordering::Less
+    one != other && one == one && is_abcd(one) && is_abcd(other) && compares_alone(one)
+}
+
+fn is_abcd(one: LendingKeyView<'_, '_>) -> bool {
+    one.eq_slice(b"abcd") && one.cmp_slice(b"abcd") == Ordering::Equal
+}
+
+fn compares_alone(one: LendingKeyView<'_, '_>) -> bool {
+    one.cmp_slice(b"abce") == Ordering::Less
         && one.cmp_slice(b"abc") == Ordering::Greater
         && one.cmp_slice(b"ab") == Ordering::Greater
         && one.cmp_slice(b"b") == Ordering::Less

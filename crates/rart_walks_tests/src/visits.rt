@@ -2,10 +2,9 @@
 
 // What a callback saw is kept as digits after a first 1: of each value one, of each key its length.
 
-ghost use Rattle.std.specs.Prelude.{◌≤◌, length};
-
-use rart::{KeyTrait, VisitControl, VisitError};
-use rart_test_trees::texts::{Key, Pair, THREE, Tree, filled};
+use crate::walks::forms::{Calls, Walk, make};
+use rart::{KeyTrait, TreeError};
+use rart_test_trees::texts::{Key, Pair, THREE, Tree, filled, key};
 use std::cell::Cell;
 use std::panic::Expect;
 
@@ -30,118 +29,51 @@ static OF_ALP: [Row; 9] = [
     ("zebra", 0, 0, 1, false),
 ];
 
-fn control(value: u64, row: &Row) -> Result<VisitControl, &'static str> {
-    if value == row.1 {
-        Ok(VisitControl::Stop)
-    } else if value == row.2 {
-        Err("boom")
-    } else {
-        Ok(VisitControl::Continue)
+// Walks over the values below a prefix that can end early, and those that can't.
+static ENDING: [Walk; 4] = [
+    Walk::TryValues,
+    Walk::TryValuesByValue,
+    Walk::TryValuesLent,
+    Walk::TryValuesLentByValue,
+];
+
+static WHOLE: [Walk; 6] = [
+    Walk::Values,
+    Walk::ValuesByValue,
+    Walk::ValuesLent,
+    Walk::ValuesLentByValue,
+    Walk::Fold,
+    Walk::FoldByValue,
+];
+
+// A callback that fails ends the walk as `Full`.
+fn is_walked(tree: &Tree, key: Key, walk: Walk, row: &Row) -> bool {
+    let calls = Calls::with_ends((row.1, row.2));
+    let outcome = make(tree, key, walk, &calls);
+    let wanted = if row.4 { Err(TreeError::Full) } else { Ok(()) };
+    outcome == wanted && calls.digits() == row.3
+}
+
+fn are_walked(tree: &Tree, key: Key, walks: &[Walk], row: &Row) -> bool {
+    for walk in walks {
+        if !is_walked(tree, key, *walk, row) {
+            return false;
+        }
     }
+    true
 }
 
-fn ends_as(outcome: Result<(), VisitError<&'static str>>, row: &Row) -> bool {
-    match outcome {
-        Ok(()) => !row.4,
-        Err(VisitError::Callback(text)) => row.4 && text == "boom",
-        Err(VisitError::Memory) => false,
-    }
-}
-
-// The forms that take the callback.
-fn try_values_by_value(tree: &Tree, key: Key, row: &Row) -> bool {
-    let seen = Cell::new(1_u64);
-    let by_reference = tree.try_prefix_values_for_each_k(&key, |value: &u64| {
-        seen.set(with_digit(seen.get(), *value));
-        control(*value, row)
-    });
-    let first = seen.get();
-    seen.set(1);
-    let by_value = tree.try_prefix_values_for_each(key, |value: &u64| {
-        seen.set(with_digit(seen.get(), *value));
-        control(*value, row)
-    });
-    ends_as(by_reference, row) && ends_as(by_value, row) && first == row.3 && seen.get() == row.3
-}
-
-// Those to which it is lent.
-fn try_values_lent(tree: &Tree, key: Key, row: &Row) -> bool {
-    let mut seen = 1_u64;
-    let mut callback = |value: &u64| {
-        seen = with_digit(seen, *value);
-        control(*value, row)
-    };
-    let outcome = tree.try_prefix_values_for_each_by_ref_k(&key, &mut callback);
-    let first = seen;
-    seen = 1;
-    let mut callback = |value: &u64| {
-        seen = with_digit(seen, *value);
-        control(*value, row)
-    };
-    let again = tree.try_prefix_values_for_each_by_ref(key, &mut callback);
-    ends_as(outcome, row) && ends_as(again, row) && first == row.3 && seen == row.3
-}
-
-// A walk that can't end early, lent its callback.
-fn visits_all_lent(tree: &Tree, key: Key, row: &Row) -> bool {
-    let mut seen = 1_u64;
-    let mut callback = |value: &u64| seen = with_digit(seen, *value);
-    let by_reference = tree.prefix_values_for_each_by_ref_k(&key, &mut callback);
-    let first = seen;
-    seen = 1;
-    let mut callback = |value: &u64| seen = with_digit(seen, *value);
-    let by_value = tree.prefix_values_for_each_by_ref(key, &mut callback);
-    by_reference == Ok(()) && by_value == Ok(()) && first == row.3 && seen == row.3
-}
-
-fn folds_all(tree: &Tree, key: Key, row: &Row) -> bool {
-    let by_reference = tree.prefix_values_fold_k(
-        &key,
-        1_u64,
-        |seen, value: &u64| with_digit(seen, *value),
-    );
-    let by_value = tree.prefix_values_fold(
-        key,
-        1_u64,
-        |seen, value: &u64| with_digit(seen, *value),
-    );
-    by_reference == Ok(row.3) && by_value == Ok(row.3)
-}
-
-// The forms that take the callback.
-fn visits_all(tree: &Tree, key: Key, row: &Row) -> bool {
-    let seen = Cell::new(1_u64);
-    let callback = |value: &u64| seen.set(with_digit(seen.get(), *value));
-    let by_reference = tree.prefix_values_for_each_k(&key, callback);
-    let first = seen.get();
-    seen.set(1);
-    let by_value = tree.prefix_values_for_each(
-        key,
-        |value: &u64| seen.set(with_digit(seen.get(), *value)),
-    );
-    by_reference == Ok(()) && by_value == Ok(()) && first == row.3 && seen.get() == row.3
-}
-
-fn is_row(tree: &Tree, probe: &[u8], row: &Row) -> bool
-    requires { length probe.now ≤ 16 }
-{
+fn is_row(tree: &Tree, row: &Row) -> bool {
+    let prefix = key(row.0.as_bytes());
     let ends_early = row.1 != 0 || row.2 != 0;
-    try_values_by_value(tree, Key::new_from_slice(probe), row)
-        && try_values_lent(tree, Key::new_from_slice(probe), row)
-        && (ends_early || visits_all(tree, Key::new_from_slice(probe), row))
-        && (ends_early || visits_all_lent(tree, Key::new_from_slice(probe), row))
-        && (ends_early || folds_all(tree, Key::new_from_slice(probe), row))
+    are_walked(tree, prefix, &ENDING, row) && (ends_early || are_walked(tree, prefix, &WHOLE, row))
 }
 
 // The first row that fails, if one does.
 fn first_wrong(tree: &Tree, rows: &[Row]) -> Option<usize> {
     let mut at = 0_usize;
     for row in rows {
-        let probe = row.0.as_bytes();
-        if probe.len() > 16 {
-            return Some(at);
-        }
-        if !is_row(tree, probe, row) {
+        if !is_row(tree, row) {
             return Some(at);
         }
         at = at.wrapping_add(1);
@@ -197,15 +129,22 @@ fn matches_by_ref_are(tree: &Tree, key: &Key, probe: &[u8], wanted: u64) -> bool
     seen.get() == wanted && lent == wanted
 }
 
-fn matches_are(tree: &Tree, probe: &[u8], wanted: u64) -> bool
-    requires { length probe.now ≤ 16 }
-{
-    let key = Key::new_from_slice(probe);
+fn matches_by_value_are(tree: &Tree, key: Key, probe: &[u8], wanted: u64) -> bool {
     let seen = Cell::new(1_u64);
     tree.prefix_match_for_each(key, |found: &[u8], value: &u64| {
         seen.set(with_match(seen.get(), probe, found, *value));
     });
-    seen.get() == wanted && matches_by_ref_are(tree, &key, probe, wanted)
+    let mut lent = 1_u64;
+    let mut callback = |found: &[u8], value: &u64| lent = with_match(lent, probe, found, *value);
+    tree.prefix_match_for_each_by_ref(key, &mut callback);
+    seen.get() == wanted && lent == wanted
+}
+
+/// Whether the matches of the probe are these, in each form.
+pub fn matches_are(tree: &Tree, key: Key, probe: &[u8], wanted: u64) -> bool {
+    matches_by_ref_are(tree, &key, probe, wanted)
+        && matches_by_value_are(tree, key, probe, wanted)
+        && matches_by_bytes_are(tree, probe, wanted)
 }
 
 // The first probe whose matches are others, if there is one.
@@ -213,10 +152,7 @@ fn first_wrong_probe(tree: &Tree) -> Option<usize> {
     let mut at = 0_usize;
     for (text, wanted) in &OF_THREE {
         let probe = text.as_bytes();
-        if probe.len() > 16 {
-            return Some(at);
-        }
-        if !matches_are(tree, probe, *wanted) || !matches_by_bytes_are(tree, probe, *wanted) {
+        if !matches_are(tree, key(probe), probe, *wanted) {
             return Some(at);
         }
         at = at.wrapping_add(1);

@@ -4,7 +4,7 @@
 mod capacity;
 mod copies;
 mod counted;
-mod forms;
+pub mod forms;
 mod laws;
 mod requests;
 mod seen_forms;

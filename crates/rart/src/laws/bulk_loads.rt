@@ -24,7 +24,7 @@ pub enum RefusedStep {
     /// One of the insertions. Those before it were made.
     Insertion(TreeError),
     /// The statistics of one of the two trees.
-    Statistics(TreeError),
+    Stats(TreeError),
 }
 
 /// A tree and its statistics.
@@ -69,7 +69,7 @@ pub fn bulk_load_equals_insertion<K: KeyTrait + Drop, V: Drop>(
     equal_keys_equal_nodes(&loaded, &inserted);
     match equal_keys_equal_stats(&loaded, &inserted) {
         Ok((of_loaded, of_inserted)) => Ok(((loaded, of_loaded), (inserted, of_inserted))),
-        Err(error) => Err(RefusedStep::Statistics(error)),
+        Err(error) => Err(RefusedStep::Stats(error)),
     }
 }
 

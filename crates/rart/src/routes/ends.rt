@@ -1,4 +1,4 @@
-//! The routes with the least and with the greatest prefix, looked at and removed.
+//! The routes with the least and with the greatest prefix, read and removed.
 ghost use Rattle.std.specs.Prelude.{◌≡◌, None, IfErr, IfOk, OnErr, option_map, slice_get};
 ghost use Rattle.std.specs.Option.{IsSomeAnd};
 ghost use Rattle.rart_keys.specs.Filters.{last_or};

@@ -10,7 +10,7 @@ use rart_nodes::node::DefaultNode;
 
 impl<K: KeyTrait, V> AdaptiveRadixTree<K, V> {
     /// Calls `f` with a mutable reference to each value, in the order of the keys. `f` must be callable with each
-    /// value in turn; the caller keeps it. Keys and nodes stay as they were; it makes no key and does not allocate.
+    /// value in turn; the caller keeps it. Keys and nodes are unchanged. Makes no key, allocates nothing.
     pub fn for_each_value_mut_by_ref<F: FnMut(&mut V)>(&mut self, f: &mut F)
         requires callable { CanLend F.FnMut f.old (values_of self.old.pairs) }
         ensures stays_callable { F.IsAlwaysCallable f.old → F.IsAlwaysCallable f.new }
@@ -30,8 +30,8 @@ impl<K: KeyTrait, V> AdaptiveRadixTree<K, V> {
     }
 
     /// Calls `f` with a mutable reference to each value whose key begins with `prefix`, in the order of the keys. `f`
-    /// must be callable with each of these values in turn; the caller keeps it. Keys, nodes and the other values stay
-    /// as they were; it makes no key and does not allocate.
+    /// must be callable with each of these values in turn; the caller keeps it. Keys, nodes and the other values
+    /// are unchanged. Makes no key, allocates nothing.
     pub fn prefix_for_each_value_mut_by_ref_k<F: FnMut(&mut V)>(&mut self, prefix: &K, f: &mut F)
         requires callable { CanLend F.FnMut f.old
             (values_below (K.bytes prefix.now) self.old.pairs) }

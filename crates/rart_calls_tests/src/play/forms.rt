@@ -37,18 +37,49 @@ pub fn answer<K: KeyTrait + Drop>(
 ) -> Option<Reply<K, u64>> {
     match ask {
         Ask::GetBytes(text) => Some(Reply::Value(tree.get_bytes(text.as_bytes()).copied())),
-        Ask::ContainsBytes(text) => Some(Reply::Done(tree.contains_key_bytes(text.as_bytes()))),
-        Ask::Fill(front, from, to) => Some(Reply::Done(fill(tree, front, from, to))),
-        Ask::Empty(front, from, to) => Some(Reply::Done(empty(tree, front, from, to))),
-        Ask::Holds(front, count) => Some(Reply::Done(holds(tree, front, count))),
+        Ask::ContainsBytes(_) | Ask::Fill(_, _, _) | Ask::Empty(_, _, _) | Ask::Holds(_, _) => {
+            Some(Reply::Done(is_done(tree, ask)))
+        }
         Ask::Contains(text) | Ask::Overwrite(text, _) | Ask::InsertNew(text, _) => {
             answer_at(tree, ask, key(text, style.spelling)?, style.form)
         }
-        _ => match style.form {
-            Form::Step => by_step(alloc, tree, ask, style.spelling),
-            Form::ByValue => by_value(alloc, tree, ask, style.spelling),
-            Form::ByReference => by_reference(alloc, tree, ask, style.spelling),
-        },
+        _ => in_form(alloc, tree, ask, style),
+    }
+}
+
+// A call without a key that replies a truth value.
+fn is_done<K: KeyTrait + Drop>(tree: &mut Tree<K>, ask: Ask<'_>) -> bool {
+    match ask {
+        Ask::ContainsBytes(text) => tree.contains_key_bytes(text.as_bytes()),
+        Ask::Fill(front, from, to) => fill(tree, front, from, to),
+        Ask::Empty(front, from, to) => empty(tree, front, from, to),
+        Ask::Holds(front, count) => holds(tree, front, count),
+        _ => false,
+    }
+}
+
+// The text of a call that has three forms.
+fn text_of<'a>(ask: Ask<'a>) -> Option<&'a str> {
+    match ask {
+        Ask::Get(text)
+        | Ask::Insert(text, _)
+        | Ask::TryInsert(text, _)
+        | Ask::Remove(text)
+        | Ask::Delete(text) => Some(text),
+        _ => None,
+    }
+}
+
+fn in_form<K: KeyTrait + Drop>(
+    alloc: Global,
+    tree: &mut Tree<K>,
+    ask: Ask<'_>,
+    style: Style,
+) -> Option<Reply<K, u64>> {
+    match (text_of(ask), style.form) {
+        (Some(text), Form::ByValue) => with_key(tree, ask, key(text, style.spelling)?),
+        (Some(text), Form::ByReference) => with_reference(tree, ask, &key(text, style.spelling)?),
+        _ => by_step(alloc, tree, ask, style.spelling),
     }
 }
 
@@ -168,22 +199,6 @@ fn of_deletion<K>(answer: Result<bool, TreeError>) -> Reply<K, u64> {
     }
 }
 
-fn by_value<K: KeyTrait + Drop>(
-    alloc: Global,
-    tree: &mut Tree<K>,
-    ask: Ask<'_>,
-    spelling: Spelling,
-) -> Option<Reply<K, u64>> {
-    match ask {
-        Ask::Get(text)
-        | Ask::Insert(text, _)
-        | Ask::TryInsert(text, _)
-        | Ask::Remove(text)
-        | Ask::Delete(text) => with_key(tree, ask, key(text, spelling)?),
-        _ => by_step(alloc, tree, ask, spelling),
-    }
-}
-
 fn with_key<K: KeyTrait + Drop>(tree: &mut Tree<K>, ask: Ask<'_>, key: K) -> Option<Reply<K, u64>> {
     match ask {
         Ask::Get(_) => Some(Reply::Value(tree.get(key).copied())),
@@ -192,25 +207,6 @@ fn with_key<K: KeyTrait + Drop>(tree: &mut Tree<K>, ask: Ask<'_>, key: K) -> Opt
         Ask::Remove(_) => Some(of_removal(tree.remove(key))),
         Ask::Delete(_) => Some(of_deletion(tree.delete(key))),
         _ => None,
-    }
-}
-
-fn by_reference<K: KeyTrait + Drop>(
-    alloc: Global,
-    tree: &mut Tree<K>,
-    ask: Ask<'_>,
-    spelling: Spelling,
-) -> Option<Reply<K, u64>> {
-    match ask {
-        Ask::Get(text)
-        | Ask::Insert(text, _)
-        | Ask::TryInsert(text, _)
-        | Ask::Remove(text)
-        | Ask::Delete(text) => {
-            let key = key(text, spelling)?;
-            with_reference(tree, ask, &key)
-        }
-        _ => by_step(alloc, tree, ask, spelling),
     }
 }
 
@@ -232,6 +228,22 @@ fn contains<K: KeyTrait + Drop>(tree: &Tree<K>, key: K, form: Form) -> bool {
     }
 }
 
+// The reply to an insertion of a new key: the present value is that of the tree.
+fn of_new<K: KeyTrait>(
+    tree: &Tree<K>,
+    key: &K,
+    answer: Result<(), NotInserted<u64>>,
+) -> Reply<K, u64> {
+    match answer {
+        Ok(()) => Reply::Inserted,
+        Err(NotInserted::Refused(refused)) => Reply::Returned(refused.error, refused.value),
+        Err(NotInserted::Stored(back)) => match tree.get_k(key) {
+            Some(present) => Reply::Occupied(back, *present),
+            None => Reply::Value(None),
+        },
+    }
+}
+
 // The present value is read by the bytes that the key had.
 fn insert_new<K: KeyTrait + Drop>(
     tree: &mut Tree<K>,
@@ -244,14 +256,7 @@ fn insert_new<K: KeyTrait + Drop>(
         Form::ByValue => tree.insert_new(key, value),
         Form::Step | Form::ByReference => tree.insert_new_k(&key, value),
     };
-    match answer {
-        Ok(()) => Reply::Inserted,
-        Err(NotInserted::Refused(refused)) => Reply::Returned(refused.error, refused.value),
-        Err(NotInserted::Stored(back)) => match tree.get_k(&same) {
-            Some(present) => Reply::Occupied(back, *present),
-            None => Reply::Value(None),
-        },
-    }
+    of_new(tree, &same, answer)
 }
 
 // Whether there was a value to write over. What the tree then is follows for any key type from the loan's own clause.
@@ -270,17 +275,21 @@ fn overwrite_k<K: KeyTrait>(tree: &mut Tree<K>, key: &K, value: u64) -> bool
     }
 }
 
-// Whether there was a value to write over.
+// The same of a key by value.
+fn overwrite_by_value<K: KeyTrait + Drop>(tree: &mut Tree<K>, key: K, value: u64) -> bool {
+    match tree.get_mut(key) {
+        Some(place) => {
+            *place = value;
+            true
+        }
+        None => false,
+    }
+}
+
 fn overwrite<K: KeyTrait + Drop>(tree: &mut Tree<K>, key: K, value: u64, form: Form) -> bool {
     match form {
         Form::Step | Form::ByReference => overwrite_k(tree, &key, value),
-        Form::ByValue => match tree.get_mut(key) {
-            Some(place) => {
-                *place = value;
-                true
-            }
-            None => false,
-        },
+        Form::ByValue => overwrite_by_value(tree, key, value),
     }
 }
 
@@ -294,17 +303,27 @@ fn after<K: KeyTrait>(front: &[u8], byte: u8) -> Option<K> {
     }
 }
 
+fn is_put<K: KeyTrait + Drop>(tree: &mut Tree<K>, front: &[u8], byte: u8) -> bool {
+    match after(front, byte) {
+        Some(key) => matches!(tree.insert(key, u64::from(byte)), Ok(None)),
+        None => false,
+    }
+}
+
+fn is_taken<K: KeyTrait + Drop>(tree: &mut Tree<K>, front: &[u8], byte: u8) -> bool {
+    match after(front, byte) {
+        Some(key) => tree.remove(key) == Ok(Some(u64::from(byte))),
+        None => false,
+    }
+}
+
 // Neighbours aren't inserted one after the other.
 fn fill<K: KeyTrait + Drop>(tree: &mut Tree<K>, front: &[u8], from: usize, to: usize) -> bool {
     for i in 0..256_usize {
         let byte = (i * 167 % 256) as u8;
-        if from <= usize::from(byte) && usize::from(byte) < to {
-            let Some(key) = after(front, byte) else {
-                return false;
-            };
-            if !matches!(tree.insert(key, u64::from(byte)), Ok(None)) {
-                return false;
-            }
+        let is_asked = from <= usize::from(byte) && usize::from(byte) < to;
+        if is_asked && !is_put(tree, front, byte) {
+            return false;
         }
     }
     true
@@ -313,26 +332,25 @@ fn fill<K: KeyTrait + Drop>(tree: &mut Tree<K>, front: &[u8], from: usize, to: u
 fn empty<K: KeyTrait + Drop>(tree: &mut Tree<K>, front: &[u8], from: usize, to: usize) -> bool {
     for i in 0..256_usize {
         let byte = (i * 167 % 256) as u8;
-        if from <= usize::from(byte) && usize::from(byte) < to {
-            let Some(key) = after(front, byte) else {
-                return false;
-            };
-            match tree.remove(key) {
-                Ok(Some(value)) if value == u64::from(byte) => {}
-                _ => return false,
-            }
+        let is_asked = from <= usize::from(byte) && usize::from(byte) < to;
+        if is_asked && !is_taken(tree, front, byte) {
+            return false;
         }
     }
     true
 }
 
+fn has<K: KeyTrait + Drop>(tree: &Tree<K>, front: &[u8], byte: u8, value: Option<u64>) -> bool {
+    match after(front, byte) {
+        Some(key) => tree.get(key).copied() == value,
+        None => false,
+    }
+}
+
 fn holds<K: KeyTrait + Drop>(tree: &Tree<K>, front: &[u8], count: usize) -> bool {
     for byte in 0..=255_u8 {
-        let Some(key) = after(front, byte) else {
-            return false;
-        };
         let value = (usize::from(byte) < count).then_some(u64::from(byte));
-        if tree.get(key).copied() != value {
+        if !has(tree, front, byte, value) {
             return false;
         }
     }

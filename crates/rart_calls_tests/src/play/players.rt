@@ -1,21 +1,16 @@
 //! Rows played on an empty tree, as they are and with requests for memory refused; the first that fails is returned.
 
-use super::forms::{answer, call};
-use super::replies::{are_same, is, is_refusal};
+use super::forms::answer;
+use super::replies::{is, is_refusal};
 use super::{Ask, Form, Row, Spelling, Style};
-use rart::script::{Call, Reply, run};
-use rart::{KeyTrait, TreeError};
+use rart::KeyTrait;
+use rart::script::Reply;
 use rart_test_tools::refusals::{part_ends, refuse, was_refused};
 use rart_test_trees::{Tree, are_alike};
-use std::alloc::{AllocError, Global};
+use std::alloc::Global;
 use std::process::Abort;
 
 const FORMS: [Form; 3] = [Form::Step, Form::ByValue, Form::ByReference];
-
-const BY_BYTES: Style = Style {
-    form: Form::Step,
-    spelling: Spelling::Bytes,
-};
 
 // Makes the call, and returns whether the reply is the wanted one.
 fn row_holds<K: KeyTrait + Drop>(
@@ -75,8 +70,44 @@ pub fn first_wrong_text<K: KeyTrait + Drop>(alloc: Global, rows: &[Row<'_>]) -> 
     first_wrong_spelled::<K>(alloc, rows, Spelling::Text)
 }
 
+// Whether the reply is the wanted one, or, where a request was refused, says so and leaves `tree` as `unrefused` is.
+fn is_reply<K: KeyTrait + Drop>(
+    reply: &Option<Reply<K, u64>>,
+    refused: bool,
+    tree: &Tree<K>,
+    unrefused: &Tree<K>,
+    row: &Row<'_>,
+    spelling: Spelling,
+) -> bool {
+    match reply {
+        Some(reply) if refused => is_refusal(reply, &row.0) && are_alike(tree, unrefused),
+        Some(reply) => is(reply, &row.1, spelling),
+        None => false,
+    }
+}
+
+// Makes the call with a request refused, and returns whether one was; None where something else failed. A row of many
+// calls is made with memory alone.
+fn is_refused_well<K: KeyTrait + Drop>(
+    alloc: Global,
+    tree: &mut Tree<K>,
+    unrefused: &Tree<K>,
+    row: &Row<'_>,
+    style: Style,
+    at: usize,
+) -> Option<bool> {
+    let many = matches!(
+        row.0,
+        Ask::Fill(_, _, _) | Ask::Empty(_, _, _) | Ask::Holds(_, _)
+    );
+    refuse(alloc, if many { 0 } else { at });
+    let reply = answer(alloc, tree, row.0, style);
+    let refused = was_refused(alloc);
+    is_reply(&reply, refused, tree, unrefused, row, style.spelling).then_some(refused)
+}
+
 // Makes the call with its first request refused, then with its second and so on, each of which leaves `tree` as
-// `unrefused` is, and at last with memory. A row of many calls is made with memory alone.
+// `unrefused` is, and at last with memory.
 fn sweep<K: KeyTrait + Drop>(
     alloc: Global,
     tree: &mut Tree<K>,
@@ -84,22 +115,11 @@ fn sweep<K: KeyTrait + Drop>(
     row: &Row<'_>,
     style: Style,
 ) -> bool {
-    let many = matches!(
-        row.0,
-        Ask::Fill(_, _, _) | Ask::Empty(_, _, _) | Ask::Holds(_, _)
-    );
     for at in 1..100_usize {
-        refuse(alloc, if many { 0 } else { at });
-        let reply = answer(alloc, tree, row.0, style);
-        let refused = was_refused(alloc);
-        let Some(reply) = reply else {
-            return false;
-        };
-        if !refused {
-            return is(&reply, &row.1, style.spelling);
-        }
-        if !is_refusal(&reply, &row.0) || !are_alike(tree, unrefused) {
-            return false;
+        match is_refused_well(alloc, tree, unrefused, row, style, at) {
+            Some(true) => {}
+            Some(false) => return true,
+            None => return false,
         }
     }
     false
@@ -194,136 +214,6 @@ pub fn first_wrong_without_requests<K: KeyTrait + Drop>(
         }
     }
     None
-}
-
-// The calls as values.
-fn calls<K: KeyTrait>(alloc: Global, rows: &[Row<'_>]) -> Result<Vec<Call<K, u64>>, AllocError>
-where
-    K: Drop,
-{
-    let mut calls = Vec::with_capacity(alloc, rows.len())?;
-    for (ask, _) in rows {
-        if let Some(call) = call(*ask, Spelling::Bytes) {
-            calls.push(call)?;
-        }
-    }
-    Ok(calls)
-}
-
-fn first_wrong_reply<K: KeyTrait + Drop>(
-    replies: &[Reply<K, u64>],
-    rows: &[Row<'_>],
-) -> Option<usize> {
-    if replies.len() != rows.len() {
-        return Some(rows.len());
-    }
-    let mut at = 0_usize;
-    for (reply, row) in replies.iter().zip(rows) {
-        if !is(reply, &row.1, Spelling::Bytes) {
-            return Some(at);
-        }
-        at = at.wrapping_add(1);
-    }
-    None
-}
-
-fn run_rows<K: KeyTrait + Drop>(
-    alloc: Global,
-    tree: &mut Tree<K>,
-    rows: &[Row<'_>],
-) -> Result<Option<usize>, TreeError> {
-    let replies = run(alloc, tree, calls(alloc, rows)?)?;
-    Ok(first_wrong_reply(replies.as_slice(), rows))
-}
-
-/// Plays the rows, whose calls are values, as one run.
-pub fn first_wrong_in_run<K: KeyTrait + Drop>(
-    alloc: Global,
-    rows: &[Row<'_>],
-) -> Result<Option<usize>, TreeError> {
-    let mut tree = Tree::<K>::new(alloc);
-    run_rows(alloc, &mut tree, rows)
-}
-
-// How many calls of a run were refused. The replies to the others are those of a run without the refused calls, which
-// is made on `unrefused`; None where they aren't.
-fn refused_calls<K: KeyTrait + Drop>(
-    alloc: Global,
-    unrefused: &mut Tree<K>,
-    rows: &[Row<'_>],
-    replies: &[Reply<K, u64>],
-) -> Option<usize> {
-    if replies.len() != rows.len() {
-        return None;
-    }
-    let mut count = 0_usize;
-    for (reply, row) in replies.iter().zip(rows) {
-        if is_refusal(reply, &row.0) {
-            count = count.wrapping_add(1);
-        } else if !are_same(reply, &answer(alloc, unrefused, row.0, BY_BYTES)?) {
-            return None;
-        }
-    }
-    Some(count)
-}
-
-// The same of a run's answer, which says where the run itself was refused.
-fn refused_in_answer<K: KeyTrait + Drop>(
-    alloc: Global,
-    unrefused: &mut Tree<K>,
-    rows: &[Row<'_>],
-    answer: &Result<Vec<Reply<K, u64>>, TreeError>,
-) -> Option<usize> {
-    match answer {
-        Ok(replies) => refused_calls(alloc, unrefused, rows, replies.as_slice()),
-        Err(_refused) => Some(1),
-    }
-}
-
-// Runs the calls with a request of the run refused, and returns whether one was; None where something else failed.
-fn run_is_refused_well<K: KeyTrait + Drop>(
-    alloc: Global,
-    tree: &mut Tree<K>,
-    unrefused: &mut Tree<K>,
-    rows: &[Row<'_>],
-    at: usize,
-) -> Result<Option<bool>, TreeError> {
-    let calls = calls(alloc, rows)?;
-    refuse(alloc, at);
-    let answer = run(alloc, tree, calls);
-    let refused = was_refused(alloc);
-    let count = refused_in_answer(alloc, unrefused, rows, &answer);
-    let well = count == Some(usize::from(refused)) && are_alike(tree, unrefused);
-    Ok(well.then_some(refused))
-}
-
-fn run_refused<K: KeyTrait + Drop>(
-    alloc: Global,
-    rows: &[Row<'_>],
-    at: usize,
-) -> Result<Option<bool>, TreeError> {
-    let mut tree = Tree::<K>::new(alloc);
-    let mut unrefused = Tree::<K>::new(alloc);
-    run_is_refused_well(alloc, &mut tree, &mut unrefused, rows, at)
-}
-
-/// Runs the rows, whose calls are values, with each request of the run refused in turn. A refused run changes nothing;
-/// in another exactly the refused call says so, and the rest is a run of the other calls. Whether that is so.
-pub fn run_is_refused_in_turn<K: KeyTrait + Drop>(
-    alloc: Global,
-    rows: &[Row<'_>],
-) -> Result<bool, TreeError> {
-    for at in 1..200_usize {
-        match run_refused::<K>(alloc, rows, at)? {
-            Some(true) => {}
-            Some(false) => {
-                part_ends(alloc);
-                return Ok(true);
-            }
-            None => return Ok(false),
-        }
-    }
-    Ok(false)
 }
 
 /// Fails a test in which a row failed.

@@ -12,6 +12,21 @@ where
     K: Drop,
 {
     match (reply, want) {
+        (Reply::Pair(Some(found)), Want::Pair(text, value)) => {
+            is_pair(found, &(*text, *value), spelling)
+        }
+        (Reply::Pairs(found), Want::Pairs(pairs)) => are_pairs(found.as_slice(), pairs, spelling),
+        (Reply::Values(found), Want::Values(values)) => found.as_slice() == *values,
+        (Reply::Stats(found), Want::Counts(counts, capacities)) => is_counted(
+            found, counts, capacities,
+        ),
+        _ => is_without_key(reply, want),
+    }
+}
+
+// The same of a reply without keys and lists.
+fn is_without_key<K>(reply: &Reply<K, u64>, want: &Want<'_>) -> bool {
+    match (reply, want) {
         (Reply::Value(found), Want::None) => found.is_none(),
         (Reply::Value(found), Want::Some(value)) => *found == Some(*value),
         (Reply::Done(found), Want::Is(answer)) => found == answer,
@@ -19,28 +34,16 @@ where
         (Reply::Occupied(back, stored), Want::Occupied(proposed, present)) => {
             back == proposed && stored == present
         }
-        (Reply::Pair(found), Want::None) => found.is_none(),
-        (Reply::Pair(found), Want::Pair(text, value)) => {
-            is_pair(found, &(*text, *value), spelling)
-        }
-        (Reply::Pairs(found), Want::Pairs(pairs)) => are_pairs(found.as_slice(), pairs, spelling),
-        (Reply::Values(found), Want::Values(values)) => found.as_slice() == *values,
+        (Reply::Pair(None), Want::None) => true,
         (Reply::Len(found), Want::Len(count)) => found == count,
-        (Reply::Stats(found), Want::Counts(counts, capacities)) => is_counted(
-            found, counts, capacities,
-        ),
         _ => false,
     }
 }
 
-fn is_pair<K: KeyTrait + Drop>(
-    found: &Option<(K, u64)>,
-    wanted: &(&str, u64),
-    spelling: Spelling,
-) -> bool {
-    match (found, key::<K>(wanted.0, spelling)) {
-        (Some((one, value)), Some(other)) => *one == other && *value == wanted.1,
-        _ => false,
+fn is_pair<K: KeyTrait + Drop>(found: &(K, u64), wanted: &(&str, u64), spelling: Spelling) -> bool {
+    match key::<K>(wanted.0, spelling) {
+        Some(wanted_key) => found.0 == wanted_key && found.1 == wanted.1,
+        None => false,
     }
 }
 
@@ -52,12 +55,11 @@ fn are_pairs<K: KeyTrait + Drop>(
     if found.len() != wanted.len() {
         return false;
     }
-    for (one, other) in found.iter().zip(wanted) {
-        let Some(wanted_key) = key::<K>(other.0, spelling) else {
-            return false;
-        };
-        if one.0 != wanted_key || one.1 != other.1 {
-            return false;
+    let mut at = 0_usize;
+    for pair in found {
+        match wanted.get(at) {
+            Some(other) if is_pair(pair, other, spelling) => at = at.wrapping_add(1),
+            _ => return false,
         }
     }
     true
@@ -96,13 +98,6 @@ pub fn is_refusal<K>(reply: &Reply<K, u64>, ask: &Ask<'_>) -> bool {
 /// Whether two replies, neither of them a refusal, are equal.
 pub fn are_same<K: KeyTrait>(one: &Reply<K, u64>, other: &Reply<K, u64>) -> bool {
     match (one, other) {
-        (Reply::Value(left), Reply::Value(right)) => left == right,
-        (Reply::Done(left), Reply::Done(right)) => left == right,
-        (Reply::Inserted, Reply::Inserted) | (Reply::Failed, Reply::Failed) => true,
-        (Reply::Occupied(back, stored), Reply::Occupied(proposed, present)) => {
-            back == proposed && stored == present
-        }
-        (Reply::Pair(None), Reply::Pair(None)) => true,
         (Reply::Pair(Some(left)), Reply::Pair(Some(right))) => {
             left.0 == right.0 && left.1 == right.1
         }
@@ -111,8 +106,22 @@ pub fn are_same<K: KeyTrait>(one: &Reply<K, u64>, other: &Reply<K, u64>) -> bool
             right.as_slice(),
         ),
         (Reply::Values(left), Reply::Values(right)) => left.as_slice() == right.as_slice(),
-        (Reply::Len(left), Reply::Len(right)) => left == right,
         (Reply::Stats(left), Reply::Stats(right)) => left == right,
+        _ => are_same_without_key(one, other),
+    }
+}
+
+// The same of replies without keys and lists.
+fn are_same_without_key<K>(one: &Reply<K, u64>, other: &Reply<K, u64>) -> bool {
+    match (one, other) {
+        (Reply::Value(left), Reply::Value(right)) => left == right,
+        (Reply::Done(left), Reply::Done(right)) => left == right,
+        (Reply::Inserted, Reply::Inserted) | (Reply::Failed, Reply::Failed) => true,
+        (Reply::Occupied(back, stored), Reply::Occupied(proposed, present)) => {
+            back == proposed && stored == present
+        }
+        (Reply::Pair(None), Reply::Pair(None)) => true,
+        (Reply::Len(left), Reply::Len(right)) => left == right,
         _ => false,
     }
 }
@@ -121,9 +130,11 @@ fn are_same_pairs<K: KeyTrait>(left: &[(K, u64)], right: &[(K, u64)]) -> bool {
     if left.len() != right.len() {
         return false;
     }
-    for (one, other) in left.iter().zip(right) {
-        if one.0 != other.0 || one.1 != other.1 {
-            return false;
+    let mut at = 0_usize;
+    for one in left {
+        match right.get(at) {
+            Some(other) if one.0 == other.0 && one.1 == other.1 => at = at.wrapping_add(1),
+            _ => return false,
         }
     }
     true

@@ -133,7 +133,7 @@ fn lends_by_ref(left: &Tree, right: &Tree, wanted: &[Triple], swapped: bool) -> 
     }
 }
 
-fn is_way(left: &Tree, right: &Tree, wanted: &[Triple], swapped: bool) -> bool {
+fn intersects_as(left: &Tree, right: &Tree, wanted: &[Triple], swapped: bool) -> bool {
     left.intersect_count(right) == wanted.len()
         && gives_values(left, right, wanted, swapped)
         && gives_values_by_ref(left, right, wanted, swapped)
@@ -144,7 +144,7 @@ fn is_way(left: &Tree, right: &Tree, wanted: &[Triple], swapped: bool) -> bool {
 }
 
 pub fn is_intersection(left: &Tree, right: &Tree, wanted: &[Triple]) -> bool {
-    is_way(left, right, wanted, false) && is_way(right, left, wanted, true)
+    intersects_as(left, right, wanted, false) && intersects_as(right, left, wanted, true)
 }
 
 const BEGINNINGS: [Pair; 2] = [("", 1), ("b", 2)];

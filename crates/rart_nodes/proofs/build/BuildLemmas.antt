@@ -12,7 +12,7 @@ use Rattle.rart_keys.proofs.ByteOrder.{eq-yes, eq-no, equal_or_not}
 use Rattle.rart_parts.specs.Entries.{child_at, with_entry}
 use Rattle.rart_nodes.specs.shapes.Shape.{next_bytes, capacity_of}
 use Rattle.rart_nodes.specs.shapes.ShapeRecords.{unit_pairs}
-use Rattle.rart_nodes.specs.build.Stretches.{rests, first_byte, run_of, first_run, GoOn, Reach, IsStretch}
+use Rattle.rart_nodes.specs.build.Stretches.{rests, first_byte, run_of, first_run, HaveMore, Reach, IsStretch}
 use Rattle.rart_nodes.specs.build.ValueCalls.{CanTake, Takes}
 use Rattle.rart_nodes.specs.tries.PrefixLaws.{prefix-none, values-with_prefix}
 use Rattle.rart_nodes.specs.tries.Trie.{Trie, leaf, node, no_children, child, edges_of, pairs_of, children_pairs}
@@ -23,7 +23,7 @@ use Rattle.rart_nodes.proofs.storages.ChildLemmas.{edges_of-length, lt-no}
 use Rattle.rart_nodes.proofs.tries.FirstBytes.{AllFirst, pairs_of-first}
 use Rattle.rart_nodes.proofs.tries.NodeCounts.{some-pairs}
 use Rattle.rart_nodes.proofs.build.RunLemmas.{ascending-drop, rests-drop, rests-take, rests-length, branches-step}
-use Rattle.rart_nodes.proofs.build.RunLemmas.{go_on-drop}
+use Rattle.rart_nodes.proofs.build.RunLemmas.{have_more-drop}
 use Rattle.rart_nodes.proofs.build.StretchLemmas.{AllHave, cut, cut-back, StartsBeyond, next-beyond, ascending-take}
 use Rattle.rart_nodes.proofs.build.StretchLemmas.{lone-rests, reach-drop, reach-take, reach-deeper}
 use Rattle.rart_nodes.proofs.edits.InsertLemmas.{leaf-canonical, leaf-pairs}
@@ -35,7 +35,7 @@ abbrev AllStart : ℕ → List (List ℕ) → Type 0
 AllStart b [] = Unit {0}
 AllStart b (r ∷ rs) = StartsWith b r × AllStart b rs
 
-run-start : (b : ℕ) (rs : List (List ℕ)) → GoOn rs → AllStart b (take (run_of b rs) rs)
+run-start : (b : ℕ) (rs : List (List ℕ)) → HaveMore rs → AllStart b (take (run_of b rs) rs)
 run-start b [] g = tt
 run-start b ([] ∷ rs) g = absurd (omega (arith, g.0))
 run-start b ((y ∷ r) ∷ rs) g = ⊎_elim (λ e. rw (eq-yes y b e) (e, run-start b rs g.1)) (λ n. rw (eq-no y b n) tt)
@@ -151,7 +151,7 @@ pub record Building {F V : Type 0} (pre : F → ℕ → Type 0) (step : F → �
     (keys rest : List (Bor (List ℕ))) (w : ℕ) (es : List (ℕ × Trie V)) (v : Option V) (from place : ℕ) (f g : F) : Type
     0 where
   pub reach : Reach m d rest
-  pub go_on : GoOn (rests d rest)
+  pub have_more : HaveMore (rests d rest)
   pub ascending : IsAscending (unit_pairs (rests d rest))
   pub keys_made : keys_of (made v es) ++ rests d rest ≡ rests d keys
   pub values_made : Takes step from f (values_of (made v es)) g
@@ -183,7 +183,7 @@ module _ {F V : Type 0} (pre : F → ℕ → Type 0) (step : F → ℕ → V →
   next-free b some e small =
       let ends : EndsBelow b es = rw e (ends-first es (rests d rest) (omega (arith, some, rests-length d rest)) h.next)
       in
-      let more = branches-step (rests d rest) (omega (arith, some, rests-length d rest)) h.go_on in (
+      let more = branches-step (rests d rest) (omega (arith, some, rests-length d rest)) h.have_more in (
         ends-none b es ends,
         rw h.wide (capacity-free (length es) (length es + branches d rest) (omega (arith, more))
             (omega (arith, few-entries 0 b es (omega arith) ends h.canonical, small))),
@@ -193,7 +193,7 @@ module _ {F V : Type 0} (pre : F → ℕ → Type 0) (step : F → ℕ → V →
   pub next-fewer : (n : ℕ) → 0 < length rest → n ≡ first_run (rests d rest) → n ≤ length rest → n < length keys
   next-fewer n some e within = ⊎_elim
       (λ two. ⊎_elim (λ full. let more = branches-step (rests d rest) (omega (arith, some, rests-length d rest))
-      h.go_on in
+      h.have_more in
       let none : length (drop (first_run (rests d rest)) (rests d rest)) ≡ 0
       = omega (arith, length-drop (first_run (rests d rest)) (rests d rest), e, full, rests-length d rest) in
       absurd (omega (arith, two, more, no-branches (drop (first_run (rests d rest)) (rests d rest)) none)))
@@ -227,14 +227,15 @@ module _ {F V : Type 0} (pre : F → ℕ → Type 0) (step : F → ℕ → V →
       let ends : EndsBelow b es = rw eb (ends-first es (rests d rest) some' h.next) in
       let es-is : es' ≡ es ++ (b, t) ∷ [] = ee ∙ ends-with b t es ends in
       let run : AllStart b (keys_of (pairs_of t))
-      = rw (keys_same, part, e, eb) (run-start (first_byte (rests d rest)) (rests d rest) h.go_on) in
+      = rw (keys_same, part, e, eb) (run-start (first_byte (rests d rest)) (rests d rest) h.have_more) in
       let starts : StartsWith b (prefix_of t) = starts-prefix b t canonical (all_first-keys b (pairs_of t) run) in
       let more : made v es' ≡ made v es ++ pairs_of t = ap (made v) es-is
       ∙ ap (λ z. own_pair v ++ z) (pairs-more b t es)
       ∙ sym (append_assoc (own_pair v) (children_pairs (as_children es)) (pairs_of t)) in
       let count : length (pairs_of t) ≡ n = sym (length-map (pairs_of t) (λ e. e.0)) ∙ ap length (keys_same ∙ part)
       ∙ length-take-le n (rests d rest) (omega (arith, within, rests-length d rest)) in
-      let next : StartsBeyond b (rests d rest') = rw (left, e, eb) (next-beyond (rests d rest) h.go_on h.ascending) in
+      let next : StartsBeyond b (rests d rest')
+      = rw (left, e, eb) (next-beyond (rests d rest) h.have_more h.ascending) in
       let total : length es' + branches d rest' ≡ length es + branches d rest
       = omega (
         arith,
@@ -242,11 +243,11 @@ module _ {F V : Type 0} (pre : F → ℕ → Type 0) (step : F → ℕ → V →
         length-append es ((b, t) ∷ []),
         ap (λ z. length (next_bytes z [])) (left
             ∙ ap (λ k. drop k (rests d rest)) e),
-        branches-step (rests d rest) some' h.go_on,
+        branches-step (rests d rest) some' h.have_more,
       ) in
       record {
         reach = rw er (reach-drop m d n rest h.reach);
-        go_on = rw left (go_on-drop n (rests d rest) h.go_on);
+        have_more = rw left (have_more-drop n (rests d rest) h.have_more);
         ascending = rw left (ascending-drop n (rests d rest) h.ascending);
         keys_made = ap (λ z. keys_of z ++ rests d rest') more
             ∙ ap (λ z. z ++ rests d rest') (map-append (λ e. e.0) (made v es) (pairs_of t))
@@ -337,10 +338,10 @@ module _ {F V : Type 0} (pre : F → ℕ → Type 0) (step : F → ℕ → V →
   pub start-here : (v : V) (f g : F) → rest ≡ drop 1 keys → more ≡ 0 → place ≡ from + 1
       → CanTake pre step from (length keys) f → step f from v g
       → Building pre step m (d + n) keys rest w es (Some v) from place f g
-  start-here v f g er e ep can s = let here = h.here e in let go : GoOn (rests (d + n) rest) = rw er here.1 in
+  start-here v f g er e ep can s = let here = h.here e in let go : HaveMore (rests (d + n) rest) = rw er here.1 in
       rw none (record {
         reach = reach-deeper m d (d + n) rest (rw er (reach-drop m d 1 keys h.reach)) go;
-        go_on = go;
+        have_more = go;
         ascending = rw (er, rests-drop (d + n) 1 keys) (ascending-drop 1 (rests (d + n) keys) h.ascending);
         keys_made = ap (λ z. [] ∷ rests (d + n) z) er ∙ sym here.0;
         values_made = (g, s, refl);
@@ -357,10 +358,10 @@ module _ {F V : Type 0} (pre : F → ℕ → Type 0) (step : F → ℕ → V →
   -- all keys continue
   pub start-on : (f g : F) → rest ≡ keys → 0 < more → place ≡ from → f ≡ g → CanTake pre step from (length keys) f
       → Building pre step m (d + n) keys rest w es None from place f g
-  start-on f g er e ep s can = let on = h.on e in let go : GoOn (rests (d + n) rest) = rw er on.0 in
+  start-on f g er e ep s can = let on = h.on e in let go : HaveMore (rests (d + n) rest) = rw er on.0 in
       let two : 2 ≤ branches (d + n) rest = rw er on.1 in rw none (record {
         reach = reach-deeper m d (d + n) rest (rw er h.reach) go;
-        go_on = go;
+        have_more = go;
         ascending = rw er h.ascending;
         keys_made = ap (rests (d + n)) er;
         values_made = s;

@@ -11,10 +11,10 @@ use Rattle.rart_keys.specs.SortedMap.{IsAscending}
 use Rattle.rart_keys.proofs.ByteOrder.{eq-yes, eq-no, equal_or_not}
 use Rattle.rart_nodes.specs.shapes.Shape.{next_bytes}
 use Rattle.rart_nodes.specs.shapes.ShapeRecords.{unit_pairs}
-use Rattle.rart_nodes.specs.build.Stretches.{rests, run_of, first_bytes, first_run, GoOn, Reach, IsStretch}
+use Rattle.rart_nodes.specs.build.Stretches.{rests, run_of, first_bytes, first_run, HaveMore, Reach, IsStretch}
 use Rattle.rart_nodes.proofs.edits.Descent.{first, first-differ, common-within}
-use Rattle.rart_nodes.proofs.build.RunLemmas.{ascending-drop, rests-drop, branches-step, run-within, go_on-drop}
-use Rattle.rart_nodes.proofs.build.StretchLemmas.{AllHave, all-share, cut, cut-ascending, rests-deeper, above-go_on}
+use Rattle.rart_nodes.proofs.build.RunLemmas.{ascending-drop, rests-drop, branches-step, run-within, have_more-drop}
+use Rattle.rart_nodes.proofs.build.StretchLemmas.{AllHave, all-share, cut, cut-ascending, rests-deeper, above-have_more}
 use Rattle.rart_nodes.proofs.build.StretchLemmas.{last_of, last-at}
 
 pub full-or-less : (n m : ℕ) → n ≤ m → (n ≡ m) ⊎ (n < m)
@@ -35,12 +35,13 @@ pub record Opening (m : Option ℕ) (d n : ℕ) (p : List ℕ) (keys : List (Bor
   pub ascending : IsAscending (unit_pairs (rests (d + n) keys))
   pub reach : Reach m d keys
   pub some : 0 < length keys
-  pub here : more ≡ 0 → (rests (d + n) keys ≡ [] ∷ rests (d + n) (drop 1 keys)) × GoOn (rests (d + n) (drop 1 keys))
-  pub on : 0 < more → GoOn (rests (d + n) keys) × (2 ≤ branches (d + n) keys)
+  pub here : more ≡ 0 → (rests (d + n) keys ≡ [] ∷ rests (d + n) (drop 1 keys)) × HaveMore (rests (d + n) (drop 1 keys))
+  pub on : 0 < more → HaveMore (rests (d + n) keys) × (2 ≤ branches (d + n) keys)
 
 -- strings that ascend begin with an empty one, or all continue
-first-empty : (r : List ℕ) (rs : List (List ℕ)) → IsAscending (unit_pairs (r ∷ rs)) → length r ≡ 0 → (r ≡ []) × GoOn rs
-first-empty r rs a e = (nil_from_length r e, above-go_on r rs a.0)
+first-empty : (r : List ℕ) (rs : List (List ℕ)) → IsAscending (unit_pairs (r ∷ rs)) → length r ≡ 0
+    → (r ≡ []) × HaveMore rs
+first-empty r rs a e = (nil_from_length r e, above-have_more r rs a.0)
 
 run-last : (b : ℕ) (f : List ℕ) (rs : List (List ℕ)) → run_of b (f ∷ rs) ≡ length (f ∷ rs)
     → slice_index (last_of f rs) 0 ≡ b
@@ -51,7 +52,8 @@ run-last b f (r ∷ rs) e = ⊎_elim (λ s. let q = rw (eq-yes (slice_index f 0)
     omega (arith, q))) (equal_or_not (slice_index f 0) b)
 
 -- two first bytes are two branches
-two-branches : (f : List ℕ) (rs : List (List ℕ)) → GoOn (f ∷ rs) → (slice_index f 0 ≡ slice_index (last_of f rs) 0 → ⊥)
+two-branches : (f : List ℕ) (rs : List (List ℕ)) → HaveMore (f ∷ rs)
+    → (slice_index f 0 ≡ slice_index (last_of f rs) 0 → ⊥)
     → 2 ≤ length (next_bytes (f ∷ rs) [])
 two-branches f rs g n =
     let part : first_run (f ∷ rs) < length (f ∷ rs)
@@ -63,14 +65,14 @@ two-branches f rs g n =
       arith,
       branches-step (f ∷ rs) (omega arith) g,
       branches-step left some
-          (go_on-drop (first_run (f ∷ rs)) (f ∷ rs) g),
+          (have_more-drop (first_run (f ∷ rs)) (f ∷ rs) g),
     )
 
 last-drop : (n : ℕ) (f : List ℕ) (rs : List (List ℕ)) → last_of (drop n f) (cut n rs) ≡ drop n (last_of f rs)
 last-drop n f [] = refl
 last-drop n f (r ∷ rs) = last-drop n r rs
 
-last-go_on : (f : List ℕ) (rs : List (List ℕ)) → GoOn (f ∷ rs) → 0 < length (last_of f rs)
+last-go_on : (f : List ℕ) (rs : List (List ℕ)) → HaveMore (f ∷ rs) → 0 < length (last_of f rs)
 last-go_on f [] g = g.0
 last-go_on f (r ∷ rs) g = last-go_on r rs g.1
 
@@ -105,8 +107,8 @@ opening-at m d n p f l (k ∷ ks) x h ef el en ep =
       some = h.some;
       here = λ e. let z = first-empty (drop (d + n) k.now) (rests (d + n) ks) up (head ∙ e) in
           (ap (λ q. q ∷ rests (d + n) ks) z.0, z.1);
-      on = λ e. let go : GoOn (rests (d + n) (k ∷ ks))
-          = (omega (arith, head, e), above-go_on (drop (d + n) k.now) (rests (d + n) ks) up.0) in
+      on = λ e. let go : HaveMore (rests (d + n) (k ∷ ks))
+          = (omega (arith, head, e), above-have_more (drop (d + n) k.now) (rests (d + n) ks) up.0) in
           let first-is : drop (d + n) k.now ≡ drop n f = sym (drop-drop n d k.now) ∙ ap (drop n) (sym ef) in
           let last-is : last_of (drop (d + n) k.now) (rests (d + n) ks) ≡ drop n (last_of f (rests d ks))
           = ap (λ z. last_of z (rests (d + n) ks)) first-is ∙ ap (last_of (drop n f)) (rests-deeper d n ks)
@@ -152,7 +154,7 @@ own-none own a b e o h = (grind (arith, nat_tests), grind (arith, nat_tests))
 -- the keys without the one that ends continue
 pub rest-continues : (m : Option ℕ) (d n : ℕ) (p : List ℕ) (keys : List (Bor (List ℕ))) (a own : ℕ)
     (rest : List (Bor (List ℕ))) → Opening m d n p keys (a - (d + n)) → d + n ≤ a → own ≡ cond (eqb a (d + n)) 1 0
-    → rest ≡ drop own keys → GoOn (rests (d + n) rest)
+    → rest ≡ drop own keys → HaveMore (rests (d + n) rest)
 rest-continues m d n p keys a own rest h within e er = ⊎_elim
     (λ o. let q : rest ≡ drop 1 keys = er ∙ ap (λ z. drop z keys) o in rw q (h.here (own-one own a (d + n) e o)).1)
     (λ o. let z = own-none own a (d + n) e o within in let q : rest ≡ keys = er ∙ ap (λ m. drop m keys) z.0 in

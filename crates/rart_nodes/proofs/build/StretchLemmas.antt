@@ -14,7 +14,8 @@ use Rattle.rart_keys.specs.KeyBytes.{IsWithin}
 use Rattle.rart_keys.specs.SortedMap.{AreAbove, IsAscending}
 use Rattle.rart_keys.proofs.ByteOrder.{eq-yes, eq-no, order, equal_or_not, is_equal, is_greater, cmp-itself}
 use Rattle.rart_nodes.specs.shapes.ShapeRecords.{keys_in, unit_pairs}
-use Rattle.rart_nodes.specs.build.Stretches.{rests, first_byte, run_of, first_run, GoOn, Reach, AreWithin, IsStretch}
+use Rattle.rart_nodes.specs.build.Stretches.{rests, first_byte, run_of, first_run}
+use Rattle.rart_nodes.specs.build.Stretches.{HaveMore, Reach, AreWithin, IsStretch}
 use Rattle.rart_nodes.proofs.build.RunLemmas.{byte-of}
 
 -- the last of some strings
@@ -124,9 +125,9 @@ above-more [] [] b = absurd (cc)
 above-more (x ∷ r) [] b = absurd (cc)
 above-more r (y ∷ s) b = omega arith
 
-pub above-go_on : (r : List ℕ) (rs : List (List ℕ)) → AreAbove r (unit_pairs rs) → GoOn rs
-above-go_on r [] a = tt
-above-go_on r (s ∷ rs) a = (above-more r s a.0, above-go_on r rs a.1)
+pub above-have_more : (r : List ℕ) (rs : List (List ℕ)) → AreAbove r (unit_pairs rs) → HaveMore rs
+above-have_more r [] a = tt
+above-have_more r (s ∷ rs) a = (above-more r s a.0, above-have_more r rs a.1)
 
 -- the first byte is the least
 least : (b : ℕ) (k s : List ℕ) → IsLess (b ∷ k) s → b ≤ slice_index s 0
@@ -154,7 +155,7 @@ at_least-at b d zero (k ∷ ks) x h l = omega (arith, h.0, byte-of d k.now)
 at_least-at b d (suc i) (k ∷ ks) x h l = at_least-at b d i ks x h.1 (omega arith)
 
 -- where the first byte of ascending keys comes again, all between have it
-in-run : (b d i : ℕ) (ks : List (Bor (List ℕ))) (x : Bor (List ℕ)) → AtLeast b (rests d ks) → GoOn (rests d ks)
+in-run : (b d i : ℕ) (ks : List (Bor (List ℕ))) (x : Bor (List ℕ)) → AtLeast b (rests d ks) → HaveMore (rests d ks)
     → IsAscending (unit_pairs (rests d ks)) → i < length ks → slice_index (get_or ks i x).now d ≡ b
     → i < run_of b (rests d ks)
 in-run b d i [] x m g a l e = absurd (omega arith)
@@ -170,7 +171,7 @@ in-run b d (suc i) (k ∷ ks) x m g a l e = ⊎_elim
     ))))
     (equal_or_not (slice_index (drop d k.now) 0) b)
 
-pub run-inside : (d i : ℕ) (ks : List (Bor (List ℕ))) (x : Bor (List ℕ)) → GoOn (rests d ks)
+pub run-inside : (d i : ℕ) (ks : List (Bor (List ℕ))) (x : Bor (List ℕ)) → HaveMore (rests d ks)
     → IsAscending (unit_pairs (rests d ks)) → i < length ks → slice_index (get_or ks i x).now d ≡ first_byte
     (rests d ks)
     → i < first_run (rests d ks)
@@ -189,7 +190,7 @@ run-beyond b (r ∷ rs) h = ⊎_elim
     (λ e. rw (eq-yes (slice_index r 0) b e) (run-beyond b rs h.1))
     (λ n. rw (eq-no (slice_index r 0) b n) (omega (arith, h.0, n))) (equal_or_not (slice_index r 0) b)
 
-pub next-beyond : (rs : List (List ℕ)) → GoOn rs → IsAscending (unit_pairs rs)
+pub next-beyond : (rs : List (List ℕ)) → HaveMore rs → IsAscending (unit_pairs rs)
     → StartsBeyond (first_byte rs) (drop (first_run rs) rs)
 next-beyond [] g a = tt
 next-beyond ([] ∷ rs) g a = absurd (omega (arith, g.0))
@@ -217,7 +218,8 @@ reach-take m d zero ks r = tt
 reach-take m d (suc n) [] r = tt
 reach-take m d (suc n) (k ∷ ks) r = (r.0, r.1, reach-take m d n ks r.2)
 
-pub reach-deeper : (m : Option ℕ) (d e : ℕ) (ks : List (Bor (List ℕ))) → Reach m d ks → GoOn (rests e ks) → Reach m e ks
+pub reach-deeper : (m : Option ℕ) (d e : ℕ) (ks : List (Bor (List ℕ))) → Reach m d ks → HaveMore (rests e ks)
+    → Reach m e ks
 reach-deeper m d e [] r g = tt
 reach-deeper m d e (k ∷ ks) r g = (omega (arith, g.0, length-drop e k.now), r.1, reach-deeper m d e ks r.2 g.1)
 

@@ -20,22 +20,22 @@ pub most-within : (m : Option ℕ) (most n : ℕ) → m ≡ Some most → n ≤ 
 most-within m most n e h = rw e h
 
 module _ {V : Type 0} where
-  pub lone-valued : (v : Option V) (cs : Children V) → is_some v ≡ true → needs_merge v cs ≡ false
-  lone-valued None cs h = absurd (cc)
-  lone-valued (Some v) cs h = refl
+  pub merge-valued : (v : Option V) (cs : Children V) → is_some v ≡ true → needs_merge v cs ≡ false
+  merge-valued None cs h = absurd (cc)
+  merge-valued (Some v) cs h = refl
 
-  pub lone-many : (v : Option V) (es : List (ℕ × Trie V)) → length es ≢ 1 → needs_merge v (as_children es) ≡ false
-  lone-many (Some v) es h = refl
-  lone-many None [] h = refl
-  lone-many None (e ∷ []) h = absurd (h refl)
-  lone-many None (e ∷ f ∷ es) h = refl
+  pub merge-many : (v : Option V) (es : List (ℕ × Trie V)) → length es ≢ 1 → needs_merge v (as_children es) ≡ false
+  merge-many (Some v) es h = refl
+  merge-many None [] h = refl
+  merge-many None (e ∷ []) h = absurd (h refl)
+  merge-many None (e ∷ f ∷ es) h = refl
 
-  pub lone-yes : (v : Option V) (es : List (ℕ × Trie V)) → is_some v ≡ false → length es ≡ 1
+  pub merges : (v : Option V) (es : List (ℕ × Trie V)) → is_some v ≡ false → length es ≡ 1
       → needs_merge v (as_children es) ≡ true
-  lone-yes (Some v) es h l = absurd (cc)
-  lone-yes None [] h l = absurd (omega (arith, l))
-  lone-yes None (e ∷ []) h l = refl
-  lone-yes None (e ∷ f ∷ es) h l = absurd (omega (arith, l))
+  merges (Some v) es h l = absurd (cc)
+  merges None [] h l = absurd (omega (arith, l))
+  merges None (e ∷ []) h l = refl
+  merges None (e ∷ f ∷ es) h l = absurd (omega (arith, l))
 
   pub joined-not : (p : List ℕ) (v : Option V) (w : ℕ) (cs : Children V) → needs_merge v cs ≡ false
       → node p v w cs ≡ merged_if_needed (node p v w cs)

@@ -36,22 +36,22 @@ lookup-step_nil x (e ∷ es) = lookup-step_nil x es
 
 module _ {V W : Type 0} where
   -- the children of a left node with children cs, met by f
-  abbrev Meets : (ℕ → Trie W → List (List ℕ × (V × W))) → Children V → Type 0
-  Meets f cs = (b : ℕ) (k : List ℕ) (u : Trie W) → IsCanonical u
+  abbrev Shares : (ℕ → Trie W → List (List ℕ × (V × W))) → Children V → Type 0
+  Shares f cs = (b : ℕ) (k : List ℕ) (u : Trie W) → IsCanonical u
       → lookup k (f b u) ≡ both (child_lookup b k cs) (trie_lookup k u)
 
-  each-nil : (f : ℕ → Trie W → List (List ℕ × (V × W))) (cs : Children V) (low : ℕ) (ds : Children W) → Meets f cs
+  each-nil : (f : ℕ → Trie W → List (List ℕ × (V × W))) (cs : Children V) (low : ℕ) (ds : Children W) → Shares f cs
       → AreCanonical low ds → lookup [] (intersect_each f ds) ≡ None
   each-nil f cs low no_children h w = refl
   each-nil f cs low (child c u ds) h w = lookup-append [] (f c u) (intersect_each f ds)
       ∙ rw (h c [] u w.2, trie_lookup-nil c u w.1, both-none (child_lookup c [] cs)) (each-nil f cs (suc c) ds h w.3)
 
-  each-meets : (y : ℕ) (r : List ℕ) (f : ℕ → Trie W → List (List ℕ × (V × W))) (cs : Children V) (low : ℕ)
-      (ds : Children W) → Meets f cs → AreCanonical low ds →
+  each-shares : (y : ℕ) (r : List ℕ) (f : ℕ → Trie W → List (List ℕ × (V × W))) (cs : Children V) (low : ℕ)
+      (ds : Children W) → Shares f cs → AreCanonical low ds →
       lookup (y ∷ r) (intersect_each f ds) ≡ both (child_lookup y (y ∷ r) cs) (child_lookup y (y ∷ r) ds)
-  each-meets y r f cs low no_children h w = sym (both-none (child_lookup y (y ∷ r) cs))
-  each-meets y r f cs low (child c u ds) h w = lookup-append (y ∷ r) (f c u) (intersect_each f ds)
-      ∙ rw (h c (y ∷ r) u w.2, each-meets y r f cs (suc c) ds h w.3)
+  each-shares y r f cs low no_children h w = sym (both-none (child_lookup y (y ∷ r) cs))
+  each-shares y r f cs low (child c u ds) h w = lookup-append (y ∷ r) (f c u) (intersect_each f ds)
+      ∙ rw (h c (y ∷ r) u w.2, each-shares y r f cs (suc c) ds h w.3)
       (⊎_elim (λ l. rw (
         is_less y c l,
         trie_lookup-other y c r u w.1 (λ e. omega arith),
@@ -75,37 +75,37 @@ module _ {V W : Type 0} where
             (child_lookup c (y ∷ r) cs),
       ) refl)) (order y c))
 
-  meets-node : (k p q : List ℕ) (v : Option V) (n : ℕ) (cs : Children V) (f : ℕ → Trie W → List (List ℕ × (V × W)))
-      (w : Option W) (m : ℕ) (ds : Children W) → Meets f cs → IsCanonical (node q w m ds) →
+  shares-node : (k p q : List ℕ) (v : Option V) (n : ℕ) (cs : Children V) (f : ℕ → Trie W → List (List ℕ × (V × W)))
+      (w : Option W) (m : ℕ) (ds : Children W) → Shares f cs → IsCanonical (node q w m ds) →
       ((b : ℕ) (l k : List ℕ) → lookup k (intersect_down b l v f ds)
       ≡ both (trie_lookup k (node l v n cs)) (child_lookup b k ds)) →
       lookup k (intersect_in p v f (node q w m ds))
       ≡ both (trie_lookup k (node p v n cs)) (trie_lookup k (node q w m ds))
-  meets-node [] [] [] v n cs f w m ds h z g = lookup-nil (both v w) (intersect_each f ds) (each-nil f cs 0 ds h z.2)
-  meets-node (y ∷ k) [] [] v n cs f w m ds h z g = lookup-own_pair y k (both v w) (intersect_each f ds)
-      ∙ each-meets y k f cs 0 ds h z.2
-  meets-node [] [] (y ∷ q) v n cs f w m ds h z g = h y [] (node (y ∷ q) w m ds) z ∙ both-none (child_lookup y [] cs)
+  shares-node [] [] [] v n cs f w m ds h z g = lookup-nil (both v w) (intersect_each f ds) (each-nil f cs 0 ds h z.2)
+  shares-node (y ∷ k) [] [] v n cs f w m ds h z g = lookup-own_pair y k (both v w) (intersect_each f ds)
+      ∙ each-shares y k f cs 0 ds h z.2
+  shares-node [] [] (y ∷ q) v n cs f w m ds h z g = h y [] (node (y ∷ q) w m ds) z ∙ both-none (child_lookup y [] cs)
       ∙ sym (both-none v)
-  meets-node (x ∷ k) [] (y ∷ q) v n cs f w m ds h z g = h y (x ∷ k) (node (y ∷ q) w m ds) z
+  shares-node (x ∷ k) [] (y ∷ q) v n cs f w m ds h z g = h y (x ∷ k) (node (y ∷ q) w m ds) z
       ∙ rw (trie_lookup-longer y x k (node q w m ds)) (⊎_elim
       (λ e. rw e refl)
       (λ d. rw (eq-no y x d, both-none (child_lookup x (x ∷ k) cs)) (both-none (child_lookup y (x ∷ k) cs)))
       (equal_or_not y x))
-  meets-node [] (x ∷ p) [] v n cs f w m ds h z g = g x (x ∷ p) []
-  meets-node (y ∷ k) (x ∷ p) [] v n cs f w m ds h z g = g x (x ∷ p) (y ∷ k)
+  shares-node [] (x ∷ p) [] v n cs f w m ds h z g = g x (x ∷ p) []
+  shares-node (y ∷ k) (x ∷ p) [] v n cs f w m ds h z g = g x (x ∷ p) (y ∷ k)
       ∙ rw (trie_lookup-longer x y k (node p v n cs)) (⊎_elim
       (λ e. rw e refl)
       (λ d. rw (eq-no x y d) refl) (equal_or_not x y))
-  meets-node [] (x ∷ p) (y ∷ q) v n cs f w m ds h z g
+  shares-node [] (x ∷ p) (y ∷ q) v n cs f w m ds h z g
       = elim (x == y) as (λ b. lookup [] (if b then with_prefix (x ∷ []) (intersect_in p v f (node q w m ds)) else [])
       ≡ None) [ true ↦ lookup-step_nil x (intersect_in p v f (node q w m ds)) | false ↦ refl ]
-  meets-node (i ∷ k) (x ∷ p) (y ∷ q) v n cs f w m ds h z g
+  shares-node (i ∷ k) (x ∷ p) (y ∷ q) v n cs f w m ds h z g
       = rw (trie_lookup-longer x i k (node p v n cs), trie_lookup-longer y i k (node q w m ds)) (⊎_elim
       (λ e. rw (
         ← e,
         eq-yes x x refl,
         lookup-step x i k (intersect_in p v f (node q w m ds)),
-        meets-node k p q v n cs f
+        shares-node k p q v n cs f
             w m ds h z g,
       )
       (elim (x == i) as (λ b. (if b then both (trie_lookup k (node p v n cs)) (trie_lookup k (node q w m ds)) else None)
@@ -118,13 +118,13 @@ module _ {V W : Type 0} where
 
   mutual
     meets-in : (k p : List ℕ) (v : Option V) (n : ℕ) (cs : Children V) (f : ℕ → Trie W → List (List ℕ × (V × W)))
-        (u : Trie W) → Meets f cs → IsCanonical u →
+        (u : Trie W) → Shares f cs → IsCanonical u →
         lookup k (intersect_in p v f u) ≡ both (trie_lookup k (node p v n cs)) (trie_lookup k u)
     meets-in k p v n cs f (node q w m ds) h z
-        = meets-node k p q v n cs f w m ds h z (λ b l k. meets-down b k l v n cs f 0 ds h z.2)
+        = shares-node k p q v n cs f w m ds h z (λ b l k. meets-down b k l v n cs f 0 ds h z.2)
 
     meets-down : (b : ℕ) (k l : List ℕ) (v : Option V) (n : ℕ) (cs : Children V) (f : ℕ → Trie W
-        → List (List ℕ × (V × W))) (low : ℕ) (ds : Children W) → Meets f cs → AreCanonical low ds →
+        → List (List ℕ × (V × W))) (low : ℕ) (ds : Children W) → Shares f cs → AreCanonical low ds →
         lookup k (intersect_down b l v f ds) ≡ both (trie_lookup k (node l v n cs)) (child_lookup b k ds)
     meets-down b k l v n cs f low no_children h z = sym (both-none (trie_lookup k (node l v n cs)))
     meets-down b k l v n cs f low (child c u ds) h z
@@ -158,7 +158,7 @@ module _ {V W : Type 0} where
   both_some-right (Some v) None e h n = cc
   both_some-right (Some v) (Some w) e h n = cc
 
-  first-met : (c : ℕ) (f : ℕ → Trie W → List (List ℕ × (V × W))) (cs : Children V) (u : Trie W) → Meets f cs
+  first-met : (c : ℕ) (f : ℕ → Trie W → List (List ℕ × (V × W))) (cs : Children V) (u : Trie W) → Shares f cs
       → IsCanonical u → StartsWith c (prefix_of u) → AllFirst c (f c u)
   first-met c f cs u h w i = all_first-looks c (f c u)
       (λ k. elim k as (λ k. (e : V × W) → lookup k (f c u) ≡ Some e → StartsWith c k) [
@@ -172,13 +172,13 @@ module _ {V W : Type 0} where
   abbrev Ascend : (ℕ → Trie W → List (List ℕ × (V × W))) → Type 0
   Ascend f = (b : ℕ) (u : Trie W) → IsCanonical u → IsAscending (f b u)
 
-  each-from : (f : ℕ → Trie W → List (List ℕ × (V × W))) (cs : Children V) (low : ℕ) (ds : Children W) → Meets f cs
+  each-from : (f : ℕ → Trie W → List (List ℕ × (V × W))) (cs : Children V) (low : ℕ) (ds : Children W) → Shares f cs
       → AreCanonical low ds → AllFrom low (intersect_each f ds)
   each-from f cs low no_children h w = tt
   each-from f cs low (child c u ds) h w = all_from-first low c (f c u) (intersect_each f ds) w.0
       (first-met c f cs u h w.2 w.1) (each-from f cs (suc c) ds h w.3)
 
-  each-ascends : (f : ℕ → Trie W → List (List ℕ × (V × W))) (cs : Children V) (low : ℕ) (ds : Children W) → Meets f cs
+  each-ascends : (f : ℕ → Trie W → List (List ℕ × (V × W))) (cs : Children V) (low : ℕ) (ds : Children W) → Shares f cs
       → Ascend f → AreCanonical low ds → IsAscending (intersect_each f ds)
   each-ascends f cs low no_children h a w = tt
   each-ascends f cs low (child c u ds) h a w
@@ -186,7 +186,7 @@ module _ {V W : Type 0} where
       (each-from f cs (suc c) ds h w.3) (a c u w.2) (each-ascends f cs (suc c) ds h a w.3)
 
   node-ascends : (p q : List ℕ) (v : Option V) (cs : Children V) (f : ℕ → Trie W → List (List ℕ × (V × W)))
-      (w : Option W) (m : ℕ) (ds : Children W) → Meets f cs → Ascend f → IsCanonical (node q w m ds) →
+      (w : Option W) (m : ℕ) (ds : Children W) → Shares f cs → Ascend f → IsCanonical (node q w m ds) →
       ((b : ℕ) (l : List ℕ) → IsAscending (intersect_down b l v f ds))
       → IsAscending (intersect_in p v f (node q w m ds))
   node-ascends [] [] v cs f w m ds h a z g
@@ -203,12 +203,12 @@ module _ {V W : Type 0} where
 
   mutual
     in-ascends : (p : List ℕ) (v : Option V) (cs : Children V) (f : ℕ → Trie W → List (List ℕ × (V × W))) (u : Trie W)
-        → Meets f cs → Ascend f → IsCanonical u → IsAscending (intersect_in p v f u)
+        → Shares f cs → Ascend f → IsCanonical u → IsAscending (intersect_in p v f u)
     in-ascends p v cs f (node q w m ds) h a z
         = node-ascends p q v cs f w m ds h a z (λ b l. down-ascends b l v cs f 0 ds h a z.2)
 
     down-ascends : (b : ℕ) (l : List ℕ) (v : Option V) (cs : Children V) (f : ℕ → Trie W → List (List ℕ × (V × W)))
-        (low : ℕ) (ds : Children W) → Meets f cs → Ascend f → AreCanonical low ds
+        (low : ℕ) (ds : Children W) → Shares f cs → Ascend f → AreCanonical low ds
         → IsAscending (intersect_down b l v f ds)
     down-ascends b l v cs f low no_children h a z = tt
     down-ascends b l v cs f low (child c u ds) h a z

@@ -208,7 +208,7 @@ module _ {F V : Type 0} (call : Mut F (Bor (List ℕ) × (MutBor V × Unit {0}))
   }
 
   -- what the walk leaves of the node
-  pub record Ended (q : List ℕ) (f0 : F) (t0 : Trie V) (walk : Retention) (f : F) (t : Trie V) : Type 0 where
+  pub record Finished (q : List ℕ) (f0 : F) (t0 : Trie V) (walk : Retention) (f : F) (t : Trie V) : Type 0 where
     pub canonical : IsCanonical t
     pub first : KeepsFirst (prefix_of t0) (prefix_of t)
     pub retains : RetainsBelow call q walk f0 t0 t f
@@ -271,7 +271,7 @@ module _ {F V : Type 0} (call : Mut F (Bor (List ℕ) × (MutBor V × Unit {0}))
   -- or it has none, and is a leaf
   ended-leaf : (q : List ℕ) (f0 : F) (t0 : Trie V) (holds : Bool) (walk : Retention) (f : F) (p : List ℕ)
       (w : Option V) (n : ℕ) → Retaining call q f0 t0 false holds walk f p w n [] None
-      → Ended q f0 t0 Rejected f (node p w n no_children)
+      → Finished q f0 t0 Rejected f (node p w n no_children)
   ended-leaf q f0 t0 holds Done f p w n i = let x = own-rejected (q ++ p) f0 i.first i.own w i.called in record {
     canonical = (inl (ap is_some x.1), i.capacity, tt);
     first = rw i.before (λ b h. h);
@@ -291,7 +291,7 @@ module _ {F V : Type 0} (call : Mut F (Bor (List ℕ) × (MutBor V × Unit {0}))
 
   pub retaining-end : (q : List ℕ) (f0 : F) (t0 : Trie V) (keeps holds : Bool) (walk : Retention) (f : F) (p : List ℕ)
       (w : Option V) (n : ℕ) (es : List (ℕ × Trie V)) → Retaining call q f0 t0 keeps holds walk f p w n es None
-      → Ended q f0 t0 (finished_as keeps walk (as_children es)) f (finished_node keeps (node p w n (as_children es)))
+      → Finished q f0 t0 (finished_as keeps walk (as_children es)) f (finished_node keeps (node p w n (as_children es)))
   retaining-end q f0 t0 true holds walk f p w n es i = record {
     canonical = joined-canonical p w n es i.capacity i.lives i.canonical;
     first = rw i.before (joined-first p w n es);

@@ -62,11 +62,11 @@ module _ {V : Type 0} where
   outcome-removed keeps walk [] h l = absurd (l refl)
   outcome-removed keeps walk (e ∷ es) h l = rw h refl
 
-  pub lone-capacity : (n : ℕ) (es : List (ℕ × Trie V)) → n ≡ capacity_of (length es)
+  pub only-child-capacity : (n : ℕ) (es : List (ℕ × Trie V)) → n ≡ capacity_of (length es)
       → needs_merge {V = V} None (as_children es) ≡ true → n ≡ 4
-  lone-capacity n [] w h = absurd (cc)
-  lone-capacity n (e ∷ []) w h = w
-  lone-capacity n (e ∷ f ∷ es) w h = absurd (cc)
+  only-child-capacity n [] w h = absurd (cc)
+  only-child-capacity n (e ∷ []) w h = w
+  only-child-capacity n (e ∷ f ∷ es) w h = absurd (cc)
 
   pub joined-leaf : (p : List ℕ) (n : ℕ) (es : List (ℕ × Trie V)) → IsOneLeaf es
       → children_in (merged_if_needed (node p None n (as_children es))) ≡ no_children

@@ -8,7 +8,7 @@ use Rattle.rart_nodes.specs.declared.stats.counts.Counts.{Counts}
 use Rattle.rart_nodes.specs.stats.CountedNodes.{counts_by, sum_of_counts, counts_in, counts_in_children, counts_sum}
 use Rattle.rart_nodes.specs.stats.CountedNodes.{inner_counted, children_counted, counted_width, stats_of_counts}
 use Rattle.rart_nodes.specs.shapes.Shape.{capacity_of}
-use Rattle.rart_nodes.specs.stats.Stats.{Statistics, one_if, inner_at, children_at, width_at, sum_in}
+use Rattle.rart_nodes.specs.stats.Stats.{KeyStats, one_if, inner_at, children_at, width_at, sum_in}
 use Rattle.rart_nodes.specs.stats.Stats.{sum_in_children, trie_height, stats_of}
 use Rattle.rart_nodes.specs.tries.Trie.{Trie, node, Children, no_children, child, pairs_of, children_pairs, edges_of}
 use Rattle.rart_nodes.specs.tries.Trie.{nodes_of, children_with_records, IsCanonical, AreCanonical}
@@ -62,10 +62,10 @@ module _ {V : Type 0} where
         let rest = kinds-summed-children _ cs w.3 in
         (omega (arith, first.0, rest.0), omega (arith, first.1, rest.1), omega (arith, first.2, rest.2))
 
-  pub counted-statistics : (t : Trie V) (c : Counts) (h : ℕ) (s : Statistics) → IsCanonical t
+  pub counted-stats : (t : Trie V) (c : Counts) (h : ℕ) (s : KeyStats) → IsCanonical t
       → c ≡ sum_of_counts (counts_by (λ m. 0)) (counts_in t) → h ≡ trie_height t → s ≡ stats_of_counts c h →
       s ≡ stats_of (keys_of (pairs_of t)) (nodes_of t)
-  counted-statistics t c h s w e i r =
+  counted-stats t c h s w e i r =
       let sums = kinds-summed t w in
       r ∙ ap (stats_of_counts c) i ∙ ap (λ c. stats_of_counts c (trie_height t)) (e ∙ from-none (counts_in t))
       ∙ rw (sums.0, sums.1, sums.2) refl ∙ statistics-keys t w

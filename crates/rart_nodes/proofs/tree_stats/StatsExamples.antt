@@ -2,11 +2,11 @@
 use Rattle.std.proofs.Common.{◌≡◌, ℕ, List, [], ◌∷◌, refl, None}
 use Rattle.rart_keys.specs.SortedMap.{keys_of}
 use Rattle.rart_nodes.specs.edits.EditRuns.{Edit, puts, run_tree, run_map}
-use Rattle.rart_nodes.specs.stats.Stats.{Statistics, stats_of}
+use Rattle.rart_nodes.specs.stats.Stats.{KeyStats, stats_of}
 use Rattle.rart_nodes.specs.declared.stats.NodeStats.{NodeStats}
 use Rattle.rart_nodes.specs.tries.Tree.{tree_nodes}
 
-abbrev stats_after : List (Edit ℕ) → Statistics
+abbrev stats_after : List (Edit ℕ) → KeyStats
 stats_after es = stats_of (keys_of (run_map es [])) (tree_nodes (run_tree es None))
 
 -- n nodes of width w, which have c children together

@@ -25,9 +25,9 @@ abbrev pub first_run : List (List ℕ) → ℕ
 first_run rs = run_of (first_byte rs) rs
 
 -- none is empty
-abbrev pub GoOn : List (List ℕ) → Type 0
-GoOn [] = Unit {0}
-GoOn (r ∷ rs) = (0 < length r) × GoOn rs
+abbrev pub HaveMore : List (List ℕ) → Type 0
+HaveMore [] = Unit {0}
+HaveMore (r ∷ rs) = (0 < length r) × HaveMore rs
 
 -- each has a depth, and is within a maximum
 abbrev pub Reach : Option ℕ → ℕ → List (Bor (List ℕ)) → Type 0

@@ -6,7 +6,7 @@ use Rattle.rart_nodes.specs.declared.stats.NodeStats.{NodeStats}
 use Rattle.rart_nodes.specs.declared.stats.counts.Counts.{Counts}
 use Rattle.rart_nodes.specs.declared.stats.counts.WidthCount.{WidthCount}
 use Rattle.rart_nodes.specs.shapes.Shape.{NodeRecord}
-use Rattle.rart_nodes.specs.stats.Stats.{Statistics, one_if, leaves_at, values_at, nodes_of_width}
+use Rattle.rart_nodes.specs.stats.Stats.{KeyStats, one_if, leaves_at, values_at, nodes_of_width}
 use Rattle.rart_nodes.specs.stats.Stats.{children_of_width, width_entry, sum_in, sum_in_children}
 use Rattle.rart_nodes.specs.tries.Trie.{Trie, Children}
 
@@ -82,7 +82,7 @@ children_counted c = c.four.children + c.sixteen.children + c.forty_eight.childr
 abbrev pub counted_width : Counts → ℕ
 counted_width c = 4 * c.four.nodes + 16 * c.sixteen.nodes + 48 * c.forty_eight.nodes + 256 * c.full.nodes
 
-abbrev pub stats_of_counts : Counts → ℕ → Statistics
+abbrev pub stats_of_counts : Counts → ℕ → KeyStats
 stats_of_counts c h = record {
   leaves = c.leaves;
   values = c.values;

@@ -34,7 +34,7 @@ abbrev pub children_of_width : ℕ → NodeRecord → ℕ
 children_of_width w r = if r.capacity == w then length r.edges else 0
 
 -- the numbers of a tree; `widths` has an entry for each width of which there is a node
-pub record Statistics : Type 0 where
+pub record KeyStats : Type 0 where
   pub leaves : ℕ
   pub values : ℕ
   pub inner_nodes : ℕ
@@ -52,7 +52,7 @@ width_entries f = width_entry 4 (f (nodes_of_width 4)) (f (children_of_width 4))
     ++ width_entry 16 (f (nodes_of_width 16)) (f (children_of_width 16)) ++ width_entry 48 (f (nodes_of_width 48))
     (f (children_of_width 48)) ++ width_entry 256 (f (nodes_of_width 256)) (f (children_of_width 256))
 
-abbrev pub stats_by : ((NodeRecord → ℕ) → ℕ) → ℕ → Statistics
+abbrev pub stats_by : ((NodeRecord → ℕ) → ℕ) → ℕ → KeyStats
 stats_by f h = record {
   leaves = f leaves_at;
   values = f values_at;
@@ -65,7 +65,7 @@ stats_by f h = record {
 }
 
 -- the numbers that a program keeps
-abbrev pub stats_in : TreeStats → Statistics
+abbrev pub stats_in : TreeStats → KeyStats
 stats_in s = record {
   leaves = s.num_leaves;
   values = s.num_values;
@@ -100,7 +100,7 @@ abbrev pub height : List (List ℕ) → ℕ
 height s = most_along (record_at s) s
 
 -- of keys s whose shape is rs
-abbrev pub stats_of : List (List ℕ) → List (List ℕ × NodeRecord) → Statistics
+abbrev pub stats_of : List (List ℕ) → List (List ℕ × NodeRecord) → KeyStats
 stats_of s rs = stats_by (λ m. sum_over m rs) (height s)
 
 -- the sum of what the nodes of a trie add
@@ -122,5 +122,5 @@ abbrev mutual
   children_height no_children = 0
   children_height (child b t cs) = max (trie_height t) (children_height cs)
 
-abbrev pub trie_stats : {V : Type 0} → Trie V → Statistics
+abbrev pub trie_stats : {V : Type 0} → Trie V → KeyStats
 trie_stats t = stats_by (λ m. sum_in m t) (trie_height t)

@@ -116,7 +116,7 @@ pub fn wanted_retain(model: &mut Model, call: &Call) -> u64 {
 
 /// A walk that ended at a refused removal, as far as it was followed.
 #[derive(Clone, Copy)]
-struct Ended {
+struct Retained {
     // The key whose removal was refused.
     refused: Option<Text>,
     // Whether the callback was not called any more.
@@ -125,7 +125,7 @@ struct Ended {
     is_right: bool,
 }
 
-impl Ended {
+impl Retained {
     // Notes a call: none once the walk was over, and after the refusal only below the refused key.
     fn note_call(&mut self, key: &Text) {
         let is_below = match self.refused {
@@ -169,7 +169,7 @@ fn found<K: KeyTrait + Drop>(tree: &Tree<K>, text: &Text) -> Option<u64> {
 /// refused removal.
 pub fn note_refusal<K: KeyTrait + Drop>(tree: &Tree<K>, model: &mut Model, call: &Call) -> bool {
     let rule = Rule::new(call, model.len());
-    let mut ended = Ended {
+    let mut ended = Retained {
         refused: None,
         is_over: false,
         is_right: true,

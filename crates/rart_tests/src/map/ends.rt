@@ -1,4 +1,4 @@
-//! The first and the last pair: looked at without memory, and taken with each request for memory refused in turn.
+//! The first and the last pair: read without memory, and removed with each request for memory refused in turn.
 
 use rart::{AdaptiveRadixTree, ArrayKey, KeyTrait, RouteTable, TreeError};
 use rart_test_tools::refusals::{part_ends, refuse, was_refused};

@@ -138,7 +138,7 @@ fn errors_of_laws_become_the_one_of_the_crate(rt: HostRuntime) {
             ),
             converts(of_step(RefusedStep::Load(BulkError::Full)), Error::Full),
             converts(of_step(RefusedStep::Insertion(full)), Error::Full),
-            converts(of_step(RefusedStep::Statistics(memory)), Error::Memory),
+            converts(of_step(RefusedStep::Stats(memory)), Error::Memory),
             converts(of_call(RefusedCall::StatsBefore(memory)), Error::Memory),
             converts(of_call(RefusedCall::Insertion(refused(full))), Error::Full),
             converts(of_call(RefusedCall::StatsBetween(memory)), Error::Memory),

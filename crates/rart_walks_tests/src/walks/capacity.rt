@@ -1,8 +1,7 @@
 //! The bytes that walks request: they suffice for the longest stored key, whatever length the type of the keys allows.
 
-use rart::{
-    AdaptiveRadixTree, ArrPartial, ArrayKey, Iter, KeyTrait, LendingKeyView, Range, TreeError,
-};
+use crate::items::counted;
+use rart::{AdaptiveRadixTree, ArrayKey, KeyTrait, LendingKeyView, TreeError};
 use rart_test_tools::refusals::{add_bytes, were_more};
 use std::alloc::Global;
 use std::cell::Cell;
@@ -45,21 +44,6 @@ fn filled(alloc: Global) -> Option<Tree> {
     }
 }
 
-fn count(pairs: &mut Iter<'_, Key, ArrPartial<1024>, u64>) -> usize {
-    let mut many = 0_usize;
-    while let Some(_pair) = pairs.next() {
-        many = many.wrapping_add(1);
-    }
-    many
-}
-
-fn count_all(tree: &Tree) -> Result<usize, TreeError> {
-    match tree.iter() {
-        Ok(mut pairs) => Ok(count(&mut pairs)),
-        Err(error) => Err(error),
-    }
-}
-
 fn count_below(tree: &Tree, prefix: &Key) -> Result<usize, TreeError> {
     let many = Cell::new(0_usize);
     tree.prefix_for_each_view_k(prefix, |_view: LendingKeyView<'_, '_>, _value: &u64| {
@@ -68,25 +52,10 @@ fn count_below(tree: &Tree, prefix: &Key) -> Result<usize, TreeError> {
     Ok(many.get())
 }
 
-fn count_next(pairs: &mut Range<'_, Key, u64>) -> usize {
-    let mut many = 0_usize;
-    while let Some(_pair) = pairs.next() {
-        many = many.wrapping_add(1);
-    }
-    many
-}
-
-fn count_within(tree: &Tree, start: Key, end: Key) -> Result<usize, TreeError> {
-    match tree.range(Bound::Included(start), Bound::Excluded(end)) {
-        Ok(mut pairs) => Ok(count_next(&mut pairs)),
-        Err(error) => Err(error),
-    }
-}
-
 fn iteration_is_within(alloc: Global, tree: &Tree, limit: usize) -> bool {
     add_bytes(alloc, limit);
-    let counted = count_all(tree);
-    !were_more(alloc) && counted == Ok(4)
+    let many = counted(tree.iter());
+    !were_more(alloc) && many == Ok(4)
 }
 
 #[test]
@@ -110,8 +79,8 @@ fn lent_keys_request_within_the_longest_key(rt: HostRuntime) {
 fn range_is_within(alloc: Global, tree: &Tree, limit: usize) -> bool {
     add_bytes(alloc, limit);
     let (start, end) = (Key::new_from_slice(b"a"), Key::new_from_slice(b"abc"));
-    let counted = count_within(tree, start, end);
-    !were_more(alloc) && counted == Ok(2)
+    let many = counted(tree.range(Bound::Included(start), Bound::Excluded(end)));
+    !were_more(alloc) && many == Ok(2)
 }
 
 #[test]

@@ -1,4 +1,4 @@
-//! Copies of a view with each request refused: what is copied to is then as it was.
+//! Copies of a view with each request refused: the destination is then unchanged.
 
 use rart::{KeyTrait, LendingKeyView, TreeError};
 use rart_test_tools::refusals::{part_ends, refuse, was_refused};

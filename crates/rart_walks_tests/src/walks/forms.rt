@@ -1,6 +1,8 @@
 //! A walk with a callback in each of its forms: how often it called, and its outcome.
 
 use super::seen_forms;
+use crate::views::{Row, next_row};
+use crate::visits::with_digit;
 use rart::{KeyTrait, LendingKeyView, TreeError, VisitControl, VisitError};
 use rart_test_tools::refusals::refuse;
 use rart_test_trees::texts::{Key, Pair, Tree};
@@ -53,8 +55,7 @@ pub static PAIRS: [Pair; 5] = [
     ("beta", 5),
 ];
 
-/// Each walk of PAIRS about "alp", and how often it calls.
-pub static WALKS: [(Walk, usize); 32] = [
+static WALKS: [(Walk, usize); 32] = [
     (Walk::Views, 5),
     (Walk::ViewsLent, 5),
     (Walk::ViewsBelow, 4),
@@ -89,38 +90,105 @@ pub static WALKS: [(Walk, usize); 32] = [
     (Walk::LongestCounted, 1),
 ];
 
-/// The calls of a callback. Where `watched` the first one has the next request for memory refused, so that a walk which
-/// makes one between calls is seen.
+/// Returns each walk of PAIRS about "alp", and how often it calls. Each body that names a large static takes its time.
+pub fn walks() -> &'static [(Walk, usize)] {
+    &WALKS
+}
+
+/// What a callback was given so far, and how it answers.
 #[derive(Drop)]
-pub struct Calls {
+pub struct Calls<'a> {
     many: Cell<usize>,
+    // the values, as digits after a first 1
+    digits: Cell<u64>,
+    // how many of these rows came in turn, as views with values
+    rows: &'a [Row],
+    seen: Cell<usize>,
+    // the value to stop at and the one to fail at, 0 for none
+    ends: (u64, u64),
+    // where the first call has the next request refused, so that a walk which makes one between calls is seen
     watched: Option<Global>,
 }
 
-impl Calls {
-    pub fn none(watched: Option<Global>) -> Self {
+impl<'a> Calls<'a> {
+    fn new(rows: &'a [Row], ends: (u64, u64), watched: Option<Global>) -> Self {
         Calls {
             many: Cell::new(0),
+            digits: Cell::new(1),
+            rows,
+            seen: Cell::new(0),
+            ends,
             watched,
         }
+    }
+
+    pub fn none(watched: Option<Global>) -> Self {
+        Calls::new(&[], (0, 0), watched)
+    }
+
+    /// Calls with views and values, which are compared with these rows.
+    pub fn of_rows(rows: &'a [Row]) -> Self {
+        Calls::new(rows, (0, 0), None)
+    }
+
+    /// Calls with values, the first of which stops the walk and the second of which fails.
+    pub fn with_ends(ends: (u64, u64)) -> Self {
+        Calls::new(&[], ends, None)
     }
 
     pub fn many(&self) -> usize {
         self.many.get()
     }
 
-    pub fn call(&self) {
+    pub fn digits(&self) -> u64 {
+        self.digits.get()
+    }
+
+    /// Whether all rows came in turn, and nothing else.
+    pub fn are_rows(&self) -> bool {
+        self.seen.get() == self.rows.len() && self.many.get() == self.rows.len()
+    }
+
+    fn call(&self) {
         if let (0, Some(alloc)) = (self.many.get(), self.watched) {
             refuse(alloc, 1);
         }
         self.many.set(self.many.get().wrapping_add(1));
     }
+
+    pub fn view(&self, view: LendingKeyView<'_, '_>, value: u64) {
+        self.call();
+        self.seen
+            .set(next_row(self.seen.get(), self.rows, view, value));
+    }
+
+    pub fn value(&self, value: u64) {
+        self.call();
+        self.digits.set(with_digit(self.digits.get(), value));
+    }
+
+    pub fn control(&self, value: u64) -> Result<VisitControl, &'static str> {
+        self.value(value);
+        if value == self.ends.0 {
+            Ok(VisitControl::Stop)
+        } else if value == self.ends.1 {
+            Err("boom")
+        } else {
+            Ok(VisitControl::Continue)
+        }
+    }
+
+    // After an outcome that no row has.
+    fn spoil(&self) {
+        self.many.set(1000);
+        self.digits.set(0);
+    }
 }
 
 pub type Outcome = Result<(), TreeError>;
 
-fn views(tree: &Tree, lent: bool, calls: &Calls) -> Outcome {
-    let mut callback = |_view: LendingKeyView<'_, '_>, _value: &u64| calls.call();
+fn views(tree: &Tree, lent: bool, calls: &Calls<'_>) -> Outcome {
+    let mut callback = |view: LendingKeyView<'_, '_>, value: &u64| calls.view(view, *value);
     if lent {
         tree.for_each_view_by_ref(&mut callback)
     } else {
@@ -128,8 +196,8 @@ fn views(tree: &Tree, lent: bool, calls: &Calls) -> Outcome {
     }
 }
 
-fn views_below(tree: &Tree, key: Key, by_value: bool, calls: &Calls) -> Outcome {
-    let callback = |_view: LendingKeyView<'_, '_>, _value: &u64| calls.call();
+fn views_below(tree: &Tree, key: Key, by_value: bool, calls: &Calls<'_>) -> Outcome {
+    let callback = |view: LendingKeyView<'_, '_>, value: &u64| calls.view(view, *value);
     if by_value {
         tree.prefix_for_each_view(key, callback)
     } else {
@@ -137,8 +205,8 @@ fn views_below(tree: &Tree, key: Key, by_value: bool, calls: &Calls) -> Outcome 
     }
 }
 
-fn views_below_lent(tree: &Tree, key: Key, by_value: bool, calls: &Calls) -> Outcome {
-    let mut callback = |_view: LendingKeyView<'_, '_>, _value: &u64| calls.call();
+fn views_below_lent(tree: &Tree, key: Key, by_value: bool, calls: &Calls<'_>) -> Outcome {
+    let mut callback = |view: LendingKeyView<'_, '_>, value: &u64| calls.view(view, *value);
     if by_value {
         tree.prefix_for_each_view_by_ref(key, &mut callback)
     } else {
@@ -146,11 +214,14 @@ fn views_below_lent(tree: &Tree, key: Key, by_value: bool, calls: &Calls) -> Out
     }
 }
 
-// From after the key to before "beta".
-fn views_within(tree: &Tree, key: Key, lent: bool, calls: &Calls) -> Outcome {
-    let start = Bound::Excluded(key);
-    let end = Bound::Excluded(Key::new_from_slice(b"beta"));
-    let mut callback = |_view: LendingKeyView<'_, '_>, _value: &u64| calls.call();
+pub fn views_between(
+    tree: &Tree,
+    start: Bound<Key>,
+    end: Bound<Key>,
+    lent: bool,
+    calls: &Calls<'_>,
+) -> Outcome {
+    let mut callback = |view: LendingKeyView<'_, '_>, value: &u64| calls.view(view, *value);
     if lent {
         tree.for_each_range_view_by_ref(start, end, &mut callback)
     } else {
@@ -158,8 +229,14 @@ fn views_within(tree: &Tree, key: Key, lent: bool, calls: &Calls) -> Outcome {
     }
 }
 
+// From after the key to before "beta".
+fn views_within(tree: &Tree, key: Key, lent: bool, calls: &Calls<'_>) -> Outcome {
+    let end = Bound::Excluded(Key::new_from_slice(b"beta"));
+    views_between(tree, Bound::Excluded(key), end, lent, calls)
+}
+
 // Its result says whether it called.
-pub fn match_outcome(called: Result<bool, TreeError>, calls: &Calls) -> Outcome {
+pub fn match_outcome(called: Result<bool, TreeError>, calls: &Calls<'_>) -> Outcome {
     match called {
         Ok(called) if called == (calls.many() == 1) => Ok(()),
         Ok(_) => Err(TreeError::Full),
@@ -167,8 +244,8 @@ pub fn match_outcome(called: Result<bool, TreeError>, calls: &Calls) -> Outcome 
     }
 }
 
-fn longest(tree: &Tree, key: Key, by_value: bool, calls: &Calls) -> Outcome {
-    let callback = |_view: LendingKeyView<'_, '_>, _value: &u64| calls.call();
+fn longest(tree: &Tree, key: Key, by_value: bool, calls: &Calls<'_>) -> Outcome {
+    let callback = |view: LendingKeyView<'_, '_>, value: &u64| calls.view(view, *value);
     let called = if by_value {
         tree.with_longest_prefix_match_view(key, callback)
     } else {
@@ -177,8 +254,8 @@ fn longest(tree: &Tree, key: Key, by_value: bool, calls: &Calls) -> Outcome {
     match_outcome(called, calls)
 }
 
-fn longest_lent(tree: &Tree, key: Key, by_value: bool, calls: &Calls) -> Outcome {
-    let mut callback = |_view: LendingKeyView<'_, '_>, _value: &u64| calls.call();
+fn longest_lent(tree: &Tree, key: Key, by_value: bool, calls: &Calls<'_>) -> Outcome {
+    let mut callback = |view: LendingKeyView<'_, '_>, value: &u64| calls.view(view, *value);
     let called = if by_value {
         tree.with_longest_prefix_match_view_by_ref(key, &mut callback)
     } else {
@@ -187,8 +264,8 @@ fn longest_lent(tree: &Tree, key: Key, by_value: bool, calls: &Calls) -> Outcome
     match_outcome(called, calls)
 }
 
-fn values(tree: &Tree, key: Key, by_value: bool, calls: &Calls) -> Outcome {
-    let callback = |_value: &u64| calls.call();
+fn values(tree: &Tree, key: Key, by_value: bool, calls: &Calls<'_>) -> Outcome {
+    let callback = |value: &u64| calls.value(*value);
     if by_value {
         tree.prefix_values_for_each(key, callback)
     } else {
@@ -196,8 +273,8 @@ fn values(tree: &Tree, key: Key, by_value: bool, calls: &Calls) -> Outcome {
     }
 }
 
-fn values_lent(tree: &Tree, key: Key, by_value: bool, calls: &Calls) -> Outcome {
-    let mut callback = |_value: &u64| calls.call();
+fn values_lent(tree: &Tree, key: Key, by_value: bool, calls: &Calls<'_>) -> Outcome {
+    let mut callback = |value: &u64| calls.value(*value);
     if by_value {
         tree.prefix_values_for_each_by_ref(key, &mut callback)
     } else {
@@ -205,74 +282,81 @@ fn values_lent(tree: &Tree, key: Key, by_value: bool, calls: &Calls) -> Outcome 
     }
 }
 
-fn fold(tree: &Tree, key: Key, by_value: bool, calls: &Calls) -> Outcome {
-    let callback = |many: usize, _value: &u64| {
-        calls.call();
-        many.wrapping_add(1)
-    };
-    let folded = if by_value {
-        tree.prefix_values_fold(key, 0, callback)
-    } else {
-        tree.prefix_values_fold_k(&key, 0, callback)
-    };
+// The values are folded as the callback was given them.
+pub fn fold_outcome(folded: Result<u64, TreeError>, calls: &Calls<'_>) -> Outcome {
     match folded {
-        Ok(many) if many == calls.many() => Ok(()),
+        Ok(digits) if digits == calls.digits() => Ok(()),
         Ok(_) => Err(TreeError::Full),
         Err(error) => Err(error),
     }
 }
 
-fn fold_lent(tree: &Tree, key: Key, by_value: bool, calls: &Calls) -> Outcome {
-    let mut callback = |many: usize, _value: &u64| {
-        calls.call();
-        many.wrapping_add(1)
+fn fold(tree: &Tree, key: Key, by_value: bool, calls: &Calls<'_>) -> Outcome {
+    let callback = |seen: u64, value: &u64| {
+        calls.value(*value);
+        with_digit(seen, *value)
     };
     let folded = if by_value {
-        tree.prefix_values_fold_by_ref(key, 0, &mut callback)
+        tree.prefix_values_fold(key, 1, callback)
     } else {
-        tree.prefix_values_fold_by_ref_k(&key, 0, &mut callback)
+        tree.prefix_values_fold_k(&key, 1, callback)
     };
-    match folded {
-        Ok(many) if many == calls.many() => Ok(()),
-        Ok(_) => Err(TreeError::Full),
-        Err(error) => Err(error),
-    }
+    fold_outcome(folded, calls)
 }
 
-pub fn outcome_of(tried: Result<(), VisitError<()>>) -> Outcome {
+fn fold_lent(tree: &Tree, key: Key, by_value: bool, calls: &Calls<'_>) -> Outcome {
+    let mut callback = |seen: u64, value: &u64| {
+        calls.value(*value);
+        with_digit(seen, *value)
+    };
+    let folded = if by_value {
+        tree.prefix_values_fold_by_ref(key, 1, &mut callback)
+    } else {
+        tree.prefix_values_fold_by_ref_k(&key, 1, &mut callback)
+    };
+    fold_outcome(folded, calls)
+}
+
+// What the callback fails with is returned as `Full`.
+pub fn outcome_of(tried: Result<(), VisitError<&'static str>>, calls: &Calls<'_>) -> Outcome {
     match tried {
         Ok(()) => Ok(()),
         Err(VisitError::Memory) => Err(TreeError::Memory),
-        Err(VisitError::Callback(())) => Err(TreeError::Full),
+        Err(VisitError::Callback(text)) => {
+            if text != "boom" {
+                calls.spoil();
+            }
+            Err(TreeError::Full)
+        }
     }
 }
 
-fn try_values(tree: &Tree, key: Key, by_value: bool, calls: &Calls) -> Outcome {
-    let callback = |_value: &u64| {
-        calls.call();
-        Ok(VisitControl::Continue)
-    };
+fn try_values(tree: &Tree, key: Key, by_value: bool, calls: &Calls<'_>) -> Outcome {
+    let callback = |value: &u64| calls.control(*value);
     if by_value {
-        outcome_of(tree.try_prefix_values_for_each(key, callback))
+        outcome_of(tree.try_prefix_values_for_each(key, callback), calls)
     } else {
-        outcome_of(tree.try_prefix_values_for_each_k(&key, callback))
+        outcome_of(tree.try_prefix_values_for_each_k(&key, callback), calls)
     }
 }
 
-fn try_values_lent(tree: &Tree, key: Key, by_value: bool, calls: &Calls) -> Outcome {
-    let mut callback = |_value: &u64| {
-        calls.call();
-        Ok(VisitControl::Continue)
-    };
+fn try_values_lent(tree: &Tree, key: Key, by_value: bool, calls: &Calls<'_>) -> Outcome {
+    let mut callback = |value: &u64| calls.control(*value);
     if by_value {
-        outcome_of(tree.try_prefix_values_for_each_by_ref(key, &mut callback))
+        outcome_of(
+            tree.try_prefix_values_for_each_by_ref(key, &mut callback),
+            calls,
+        )
     } else {
-        outcome_of(tree.try_prefix_values_for_each_by_ref_k(&key, &mut callback))
+        outcome_of(
+            tree.try_prefix_values_for_each_by_ref_k(&key, &mut callback),
+            calls,
+        )
     }
 }
 
 /// Makes the walk. A failure other than refused memory is returned as `Full`.
-pub fn make(tree: &Tree, key: Key, walk: Walk, calls: &Calls) -> Outcome {
+pub fn make(tree: &Tree, key: Key, walk: Walk, calls: &Calls<'_>) -> Outcome {
     match walk {
         Walk::Views => views(tree, false, calls),
         Walk::ViewsLent => views(tree, true, calls),

@@ -1,9 +1,10 @@
 //! The laws of answers about a probe, of walks below a prefix, and of views, called on trees that aren't empty.
 
+use crate::items::digits;
 use rart::laws::probes::{
     comparisons_agree, key_of_a_view, longest_is_the_last_match, prefix_iter_filters_iter,
 };
-use rart::{ArrPartial, Iter, KeyTrait, LendingKeyView, PrefixMatchIter};
+use rart::{KeyTrait, LendingKeyView};
 use rart_test_trees::texts::{Key, Pair, Tree, filled, is_pair, key};
 use std::alloc::Global;
 use std::cell::Cell;
@@ -12,16 +13,7 @@ use std::panic::Expect;
 
 static PAIRS: [Pair; 4] = [("", 0), ("ab", 1), ("abcd", 2), ("b", 3)];
 
-// The values of the pairs, as digits after a first 1.
-fn digits(pairs: &mut Iter<'_, Key, ArrPartial<16>, u64>) -> u64 {
-    let mut seen = 1_u64;
-    while let Some((_key, value)) = pairs.next() {
-        seen = seen.wrapping_mul(10).wrapping_add(*value);
-    }
-    seen
-}
-
-// Those of all pairs and of those below the prefix.
+// The values of all pairs and of those below the prefix, as digits after a first 1.
 fn walked(tree: &Tree, prefix: &[u8]) -> Option<(u64, u64)> {
     match prefix_iter_filters_iter(tree, &key(prefix)) {
         Ok((mut all, mut below)) => Some((digits(&mut all), digits(&mut below))),
@@ -41,14 +33,6 @@ fn a_walk_below_a_prefix_is_a_part_of_the_whole_one(rt: HostRuntime) {
     assert!(rt; is_walked(&tree));
 }
 
-fn digits_of_matches(matches: &mut PrefixMatchIter<'_, Key, ArrPartial<16>, u64>) -> u64 {
-    let mut seen = 1_u64;
-    while let Some((_key, value)) = matches.next() {
-        seen = seen.wrapping_mul(10).wrapping_add(*value);
-    }
-    seen
-}
-
 // Whether the longest match is this pair, and the values of all matches, as digits after a first 1.
 fn matched(tree: &Tree, probe: &[u8], wanted: &Pair) -> (bool, u64) {
     let (longest, mut matches) = longest_is_the_last_match(tree, &key(probe));
@@ -56,7 +40,7 @@ fn matched(tree: &Tree, probe: &[u8], wanted: &Pair) -> (bool, u64) {
         Some(found) => is_pair(&found, wanted),
         None => false,
     };
-    (is_longest, digits_of_matches(&mut matches))
+    (is_longest, digits(&mut matches))
 }
 
 fn is_matched(tree: &Tree) -> bool {

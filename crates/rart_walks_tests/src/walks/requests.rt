@@ -1,7 +1,8 @@
 //! Walks and iterators where nothing may be requested: of an empty tree, once a walk calls, and once an iterator was
 //! started.
 
-use super::forms::{Calls, PAIRS, WALKS, Walk, make};
+use super::forms::{Calls, PAIRS, Walk, make, walks};
+use crate::visits::matches_are;
 use rart::{ArrPartial, Iter, KeyTrait, Range, SeenIter, SeenRange, TreeError, Visits};
 use rart_test_tools::refusals::{refuse, was_refused};
 use rart_test_trees::texts::{Key, Tree, filled};
@@ -19,8 +20,8 @@ fn is_quiet_of_nothing(alloc: Global, empty: &Tree, key: Key, form: Walk) -> boo
 fn first_requesting_of_empty(alloc: Global, empty: &Tree) -> Option<usize> {
     let key = Key::new_from_slice(b"alp");
     let mut row = 0_usize;
-    for (form, _wanted) in WALKS {
-        if !is_quiet_of_nothing(alloc, empty, key, form) {
+    for (form, _wanted) in walks() {
+        if !is_quiet_of_nothing(alloc, empty, key, *form) {
             return Some(row);
         }
         row = row.wrapping_add(1);
@@ -44,8 +45,8 @@ fn is_quiet_once_it_calls(alloc: Global, tree: &Tree, key: Key, form: Walk, want
 fn first_requesting(alloc: Global, tree: &Tree) -> Option<usize> {
     let key = Key::new_from_slice(b"alp");
     let mut row = 0_usize;
-    for (form, wanted) in WALKS {
-        if !is_quiet_once_it_calls(alloc, tree, key, form, wanted) {
+    for (form, wanted) in walks() {
+        if !is_quiet_once_it_calls(alloc, tree, key, *form, *wanted) {
             return Some(row);
         }
         row = row.wrapping_add(1);
@@ -59,31 +60,10 @@ fn walks_that_call_make_no_request(rt: HostRuntime) {
     assert_eq!(rt; first_requesting(rt.alloc(), &tree), None);
 }
 
-fn call_for_matches_by_ref(tree: &Tree, key: &Key, calls: &Calls) {
-    tree.prefix_match_for_each_k(key, |_found: &[u8], _value: &u64| calls.call());
-    let mut callback = |_found: &[u8], _value: &u64| calls.call();
-    tree.prefix_match_for_each_by_ref_k(key, &mut callback);
-}
-
-fn call_for_matches_of_bytes(tree: &Tree, probe: &[u8], calls: &Calls) {
-    tree.prefix_match_for_each_bytes(probe, |_found: &[u8], _value: &u64| calls.call());
-    let mut callback = |_found: &[u8], _value: &u64| calls.call();
-    tree.prefix_match_for_each_by_ref_bytes(probe, &mut callback);
-}
-
-fn call_for_matches(tree: &Tree, key: Key, calls: &Calls) {
-    tree.prefix_match_for_each(key, |_found: &[u8], _value: &u64| calls.call());
-    let mut callback = |_found: &[u8], _value: &u64| calls.call();
-    tree.prefix_match_for_each_by_ref(key, &mut callback);
-}
-
 fn is_quiet_about(alloc: Global, tree: &Tree, key: Key) -> bool {
-    let calls = Calls::none(None);
     refuse(alloc, 1);
-    call_for_matches_by_ref(tree, &key, &calls);
-    call_for_matches_of_bytes(tree, key.as_ref(), &calls);
-    call_for_matches(tree, key, &calls);
-    !was_refused(alloc) && calls.many() == 12
+    let well = matches_are(tree, key, key.as_ref(), 1_31_62);
+    !was_refused(alloc) && well
 }
 
 #[test]

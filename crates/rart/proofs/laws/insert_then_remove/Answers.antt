@@ -1,4 +1,4 @@
-use Rattle.rart.proofs.LawLemmas.{counted-by-keys, pairs-restored, same-nodes, same-statistics}
+use Rattle.rart.proofs.LawLemmas.{counted-by-keys, pairs-restored, same-nodes, same-stats}
 use Rattle.rart.proofs.laws.insert_then_remove.Goals as goal
 
 pub returns-in-Ok-get_tree_stats-2-clause-between : goal.returns-in-Ok-get_tree_stats-2-clause-between
@@ -12,7 +12,7 @@ returns-in-Ok-get_tree_stats-2-clause-after g c =
     (c.sorted_map.ensures.put_then_without _ _ _ c.canonical.ensures.ascending c.requires.absent) in
     let nodes = same-nodes c.args.tree.now c.remove_k.new.self c.one_shape.ensures pairs
     c.canonical-in-Ok-remove_k.ensures.shape c.canonical.ensures.shape in
-    same-statistics c.args.tree.now c.remove_k.new.self _ _ pairs nodes c.in-Ok.ensures.stats
+    same-stats c.args.tree.now c.remove_k.new.self _ _ pairs nodes c.in-Ok.ensures.stats
     c.in-Ok-get_tree_stats-2.ensures.stats
 
 pub returns-in-Ok-get_tree_stats-2-clause-nodes : goal.returns-in-Ok-get_tree_stats-2-clause-nodes

@@ -1,5 +1,5 @@
 use Rattle.std.proofs.Common.{arith}
-use Rattle.rart_keys.proofs.SharedBeginnings.{goes-on, last-decides, same-number}
+use Rattle.rart_keys.proofs.SharedBeginnings.{extends, last-decides, same-number}
 use Rattle.rart_keys.proofs.strip.begins_by_words.Goals as goal
 
 pub returns-then-word_at : goal.returns-then-word_at
@@ -12,7 +12,7 @@ returns-then-word_at c = (
 pub loop-i-preserved : goal.loop-i-preserved
 loop-i-preserved c = record {
   within = omega arith;
-  so_far = goes-on _ _ (λ i. (c.type_inv.prefix i).fits) (λ i. (c.type_inv.key i).fits) c.requires.at_most
+  so_far = extends _ _ (λ i. (c.type_inv.prefix i).fits) (λ i. (c.type_inv.key i).fits) c.requires.at_most
       8 c.loop-i.i _ _
       (omega arith) c.word_at.ensures c.word_at-in-loop-i.ensures c.if-word_at.false c.loop-i.invariant.so_far;
 }

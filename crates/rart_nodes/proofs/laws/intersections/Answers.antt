@@ -5,7 +5,7 @@ use Rattle.rart_nodes.proofs.laws.intersections.Goals as goal
 
 pub returns : goal.returns
 returns g c = record {
-  meets = intersect_nodes-join;
+  intersection = intersect_nodes-join;
   visits = visits-shared;
   visits_below_nodes
       = visits_below_nodes;

@@ -7,7 +7,8 @@ ghost use Rattle.rart_keys.specs.SortedMap.{IsAscending, keys_of, values_of};
 ghost use Rattle.rart_parts.specs.Entries.{child_at, with_entry};
 ghost use Rattle.rart_parts.specs.Errors.{IsMemory};
 ghost use Rattle.rart_nodes.specs.build.Built.{built};
-ghost use Rattle.rart_nodes.specs.build.Stretches.{AreWithin, GoOn, IsStretch, first_byte, first_bytes, first_length};
+ghost use Rattle.rart_nodes.specs.build.Stretches.{AreWithin, HaveMore, IsStretch};
+ghost use Rattle.rart_nodes.specs.build.Stretches.{first_byte, first_bytes, first_length};
 ghost use Rattle.rart_nodes.specs.build.Stretches.{first_run, rests};
 ghost use Rattle.rart_nodes.specs.build.ValueCalls.{CanTake, Takes};
 ghost use Rattle.rart_nodes.specs.shapes.Shape.{capacity_of, next_bytes};
@@ -26,7 +27,7 @@ use std::alloc::Global;
 /// Returns the byte of the first key at `depth`, and how many of the first keys have it there.
 fn first_group(keys: &[&[u8]], depth: usize) -> (u8, usize)
     requires nonempty { 0 < length keys.now }
-    requires go_on { GoOn (rests depth keys.now) }
+    requires have_more { HaveMore (rests depth keys.now) }
     requires ascending { IsAscending (unit_pairs (rests depth keys.now)) }
     ensures byte { result.0 ≡ first_byte (rests depth keys.now) }
     ensures run { result.1 ≡ first_run (rests depth keys.now) }
@@ -55,7 +56,7 @@ fn first_group(keys: &[&[u8]], depth: usize) -> (u8, usize)
 
 /// Returns the number of different bytes of the keys at `depth`.
 fn count_branches(keys: &[&[u8]], depth: usize) -> usize
-    requires go_on { GoOn (rests depth keys.now) }
+    requires have_more { HaveMore (rests depth keys.now) }
     requires ascending { IsAscending (unit_pairs (rests depth keys.now)) }
     ensures { result ≡ length (next_bytes (rests depth keys.now) []) }
 {

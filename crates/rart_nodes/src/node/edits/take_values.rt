@@ -30,8 +30,8 @@ impl<P: Partial, V> DefaultNode<P, V> {
     }
 
     /// Moves the values of the tree of an optional root to the end of `values`, in the order of their keys. The tree
-    /// must be canonical, and `values` must have capacity for them. Nothing is said of what remains of the tree, which
-    /// is to be dropped.
+    /// must be canonical, and `values` must have capacity for them. No clause describes the tree that remains; drop
+    /// it.
     pub fn take_values(root: &mut Option<Self>, values: &mut Vec<V>)
         requires canonical { IsCanonicalTree root.old }
         requires reserved { length values.old.items + length (tree_pairs root.old)

@@ -40,8 +40,8 @@ impl<'a, K: KeyTrait, P: Partial, V, C> Model for KeyBackWalk<'a, K, P, V, C> {
         (byte_segments (kept_bytes w.path)) (reverse w.walk.levels.items)) };
 
     ghost invariant = { λ w. IsKeyBackWalk K.MAXIMUM_SIZE w.walk.longest
-        (vec_capacity w.walk.levels) (length w.path.places.items) (byte_segments (kept_bytes w.path))
-        (reverse w.walk.levels.items) };
+        (vec_capacity w.walk.levels) (length w.path.places.items)
+        (byte_segments (kept_bytes w.path)) (reverse w.walk.levels.items) };
 }
 
 impl<'a, K: KeyTrait, P: Partial, V, C: Count> KeyBackWalk<'a, K, P, V, C> {

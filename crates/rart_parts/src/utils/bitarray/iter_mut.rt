@@ -72,7 +72,7 @@ impl<X, const RANGE_WIDTH: usize, B: BitsetTrait> BitArray<X, RANGE_WIDTH, B> {
     pub fn iter_mut(&mut self) -> BitArrayIterMut<'_, X>
         ensures { result ≡ numbered_values 0 self.old }
     {
-        // For a proof the lent places may end as any, so the set says nothing of them from here on.
+        // No contract says that lent slots keep their values. An empty bitset means *unknown* until the next write.
         self.bitset.clear();
         BitArrayIterMut {
             places: self.places.iter_mut(),

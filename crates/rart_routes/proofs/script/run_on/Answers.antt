@@ -5,7 +5,7 @@ use Rattle.std.proofs.lemmas.Iterator.Consumers.{YieldsList-end}
 use Rattle.std.specs.Prelude.{Err, Ok}
 use Rattle.rart_lines.specs.Lines.{lines_of, lines_left}
 use Rattle.rart_lines.specs.Words.{words_of}
-use Rattle.rart_lines.proofs.RunLemmas.{HasRun, lines-go_on}
+use Rattle.rart_lines.proofs.RunLemmas.{HasRun, lines-next}
 use Rattle.rart_routes.specs.Command.{IsCommand}
 use Rattle.rart_routes.specs.Script.{IsAnswered}
 use Rattle.rart_routes.specs.Tables.{no_routes}
@@ -33,7 +33,7 @@ loop-index-preserved g c =
     subst (λ n. HasRun IsAnswered no_routes c.args.text.now n c.execute.new.tables
     (g.W.Write.contents c.args.output.now) (g.W.Write.contents c.execute.new.output))
     (sym (length_push c.loop-index.yielded _))
-    (lines-go_on IsAnswered no_routes c.args.text.now _ _ _ _ _ c.in-Ok-execute.ensures.0 _ _ _ turn
+    (lines-next IsAnswered no_routes c.args.text.now _ _ _ _ _ c.in-Ok-execute.ensures.0 _ _ _ turn
     c.loop-index.invariant
     (record { command = c.in-Ok.command; is_command = is; step = c.in-Ok-execute.ensures.1 }) c.in-Ok-execute.ensures.2)
 

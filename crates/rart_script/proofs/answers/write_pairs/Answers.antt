@@ -4,7 +4,7 @@ use Rattle.std.proofs.lemmas.Result.{on_ok_weaker}
 use Rattle.std.specs.Vec.Iter.{into_iter_items}
 use Rattle.rart.specs.Steps.{pairs_in}
 use Rattle.rart_keys.specs.ArrayKeyBytes.{array_key_bytes}
-use Rattle.rart_script.proofs.PrintLemmas.{pairs-begin, pairs-go_on, pairs-end}
+use Rattle.rart_script.proofs.PrintLemmas.{pairs-begin, pairs-next, pairs-end}
 use Rattle.rart_script.proofs.answers.write_pairs.Goals as goal
 
 pub loop-key-init : goal.loop-key-init
@@ -16,7 +16,7 @@ loop-key-init g c =
     c.as_ref.ensures c.in_ok-write_pair.ensures
 
 pub loop-key-preserved : goal.loop-key-preserved
-loop-key-preserved g c = pairs-go_on _ _ _ _ _ _ _ _ _ _ (ap (pairs_in array_key_bytes) c.in-Some-2.ensures.steps.0)
+loop-key-preserved g c = pairs-next _ _ _ _ _ _ _ _ _ _ (ap (pairs_in array_key_bytes) c.in-Some-2.ensures.steps.0)
     c.as_ref-in-loop-key.ensures c.loop-key.invariant c.in_ok-write.ensures.bytes c.in_ok-write_pair-2.ensures
 
 pub returns : goal.returns

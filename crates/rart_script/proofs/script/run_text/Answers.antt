@@ -5,7 +5,7 @@ use Rattle.std.proofs.lemmas.Iterator.Consumers.{YieldsList-from_first, YieldsLi
 use Rattle.std.proofs.lemmas.Iterator.Consumers.{YieldsList-end}
 use Rattle.rart_script.specs.Command.{requested_call}
 use Rattle.rart_lines.specs.Lines.{lines_of, lines_left}
-use Rattle.rart_lines.proofs.RunLemmas.{HasRun, lines-go_on}
+use Rattle.rart_lines.proofs.RunLemmas.{HasRun, lines-next}
 use Rattle.rart_script.specs.Script.{IsAnswered}
 use Rattle.rart_script.proofs.ScriptLemmas.{AreCommands, bad_line-at_next, AreCommands-next, bad_line-at_end}
 use Rattle.rart_script.proofs.script.run_text.Goals as goal
@@ -34,7 +34,7 @@ loop-index-preserved g c =
       ran = subst (λ n. HasRun IsAnswered [] c.args.text.now n c.execute.new.tree.pairs
           (g.W.Write.contents c.args.output.now) (g.W.Write.contents c.execute.new.output))
           (sym (length_push c.loop-index.yielded _))
-          (lines-go_on IsAnswered [] c.args.text.now _ _ _ _ _ c.in-Ok.ensures.0 _ _ _ turn c.loop-index.invariant.ran
+          (lines-next IsAnswered [] c.args.text.now _ _ _ _ _ c.in-Ok.ensures.0 _ _ _ turn c.loop-index.invariant.ran
           (record { command = c.in-Some-parse_command.command; is_command = is; step = c.in-Ok.ensures.1 })
           c.in-Ok.ensures.2);
     }

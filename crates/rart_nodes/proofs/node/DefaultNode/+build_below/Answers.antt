@@ -20,7 +20,7 @@ count_branches-requires g t c =
     let at_start = opening _ c.args.depth _ c.args.keys.now _ c.requires.stretch
     c.shared_length-shared.ensures.length in
     record {
-      go_on = rest-continues _ _ _ _ c.args.keys.now _ _ _ at_start c.shared_length-shared.ensures.reach
+      have_more = rest-continues _ _ _ _ c.args.keys.now _ _ _ at_start c.shared_length-shared.ensures.reach
           (c.from-own.ensures ∙ byte-is _) (slice_from-is c.args.keys.now _);
       ascending = rest-ascends _ _ _ _ c.args.keys.now _ _ _ at_start (slice_from-is c.args.keys.now _);
     }

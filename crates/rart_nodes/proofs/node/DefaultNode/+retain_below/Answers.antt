@@ -3,7 +3,7 @@ use Rattle.rart_nodes.specs.edits.RetainSteps.{CallsForOwn}
 use Rattle.rart_nodes.specs.storages.Stored.{child_entries, storage_capacity}
 use Rattle.rart_nodes.specs.tries.TrieCode.{as_children}
 use Rattle.rart_nodes.proofs.retentions.RetainEndLemmas.{retaining-end, retaining-within}
-use Rattle.rart_nodes.proofs.retentions.RetainJoins.{lone-capacity}
+use Rattle.rart_nodes.proofs.retentions.RetainJoins.{only-child-capacity}
 use Rattle.rart_nodes.proofs.retentions.RetainStepLemmas.{retaining-step}
 use Rattle.rart_nodes.proofs.retentions.RetainWalkLemmas.{own-callable, retaining-start, upcoming, upcoming-there}
 use Rattle.rart_nodes.proofs.retentions.RetainWalkLemmas.{upcoming-within}
@@ -81,7 +81,7 @@ loop-next-preserved g t c =
     }
 
 pub finish-requires-clause-capacity : goal.finish-requires-clause-capacity
-finish-requires-clause-capacity g t c = λ lone. lone-capacity (storage_capacity c.loop-next.self-inside.storage)
+finish-requires-clause-capacity g t c = λ lone. only-child-capacity (storage_capacity c.loop-next.self-inside.storage)
     (child_entries c.loop-next.self-inside.storage) c.loop-next.invariant.visited.capacity lone
 
 pub finish-requires-clause-within : goal.finish-requires-clause-within

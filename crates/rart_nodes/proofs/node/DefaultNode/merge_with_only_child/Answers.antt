@@ -4,7 +4,7 @@ use Rattle.rart_nodes.specs.edits.Deletion.{JoinsWithin}
 use Rattle.rart_nodes.specs.tries.Trie.{prefix_of}
 use Rattle.rart_nodes.specs.tries.TrieCode.{as_children}
 use Rattle.rart_nodes.specs.storages.Stored.{child_entries}
-use Rattle.rart_nodes.proofs.edits.JoinLemmas.{lone-valued, lone-many, lone-yes, joined-not, joins-only}
+use Rattle.rart_nodes.proofs.edits.JoinLemmas.{merge-valued, merge-many, merges, joined-not, joins-only}
 use Rattle.rart_nodes.proofs.node.DefaultNode.merge_with_only_child.Goals as goal
 use Rattle.rart_nodes.proofs.node.DefaultNode.merge_with_only_child.Goals.{then-is_some-via-then-is_some}
 use Rattle.rart_nodes.proofs.node.DefaultNode.merge_with_only_child.Goals.{
@@ -14,17 +14,17 @@ use Rattle.rart_nodes.proofs.node.DefaultNode.merge_with_only_child.Goals.{
 pub returns-then-is_some : goal.returns-then-is_some
 returns-then-is_some g c = elim c.then-is_some.branch [
   | then-is_some-via-then-is_some w ↦ rw (← c.self.view_is)
-      (joined-not _ _ _ _ (lone-valued _ _ (sym c.is_some.ensures ∙ w.if-is_some.true)))
+      (joined-not _ _ _ _ (merge-valued _ _ (sym c.is_some.ensures ∙ w.if-is_some.true)))
   | then-is_some-via-else-is_some+then-num_children-ne1 w
       ↦ rw (← c.self.view_is) (joined-not _ _ _ _
-      (lone-many _ (child_entries c.self.inside.storage) (λ e. w.if-num_children-ne1.true (w.num_children.ensures
+      (merge-many _ (child_entries c.self.inside.storage) (λ e. w.if-num_children-ne1.true (w.num_children.ensures
       ∙ e))))
 ]
 
 pub take_only_child-byte-requires-clause-capacity : goal.take_only_child-byte-requires-clause-capacity
 take_only_child-byte-requires-clause-capacity g c
     = (rw (← c.self.view_is) at c.requires.capacity)
-    (lone-yes c.self.inside.value (child_entries c.self.inside.storage) (sym c.is_some.ensures ∙ c.if-is_some.false)
+    (merges c.self.inside.value (child_entries c.self.inside.storage) (sym c.is_some.ensures ∙ c.if-is_some.false)
     (sym c.num_children.ensures ∙ c.if-num_children-ne1.false))
 
 pub partial_extended_with-requires : goal.partial_extended_with-requires

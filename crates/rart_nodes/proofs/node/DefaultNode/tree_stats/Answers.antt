@@ -1,6 +1,6 @@
 use Rattle.std.proofs.Common.{◌∙◌, ap, arith}
 use Rattle.rart_nodes.specs.stats.CountedNodes.{sum_of_counts, counts_in, counts_sum}
-use Rattle.rart_nodes.proofs.tree_stats.CountedStats.{counted-statistics, few-for-keys, sums-for-keys, inner-keys}
+use Rattle.rart_nodes.proofs.tree_stats.CountedStats.{counted-stats, few-for-keys, sums-for-keys, inner-keys}
 use Rattle.std.proofs.lemmas.Result.{on_err_weaker}
 use Rattle.rart_nodes.proofs.edits.Outcomes.{if_ok_weaker}
 use Rattle.rart_nodes.proofs.node.DefaultNode.tree_stats.Goals as goal
@@ -26,7 +26,7 @@ returns-clause-stats g c =
     let counted = c.count_nodes-height.ensures.counts
     ∙ ap (λ n. sum_of_counts n (counts_in c.in-Some.node.now)) c.none-counts.ensures in
     rw c.in-Some.is (if_ok_weaker c.to_stats.result
-    (λ s r. counted-statistics _ _ _ _ canonical counted c.count_nodes-height.ensures.height r)
+    (λ s r. counted-stats _ _ _ _ canonical counted c.count_nodes-height.ensures.height r)
     c.to_stats.ensures.value)
 
 pub returns-clause-allocates : goal.returns-clause-allocates

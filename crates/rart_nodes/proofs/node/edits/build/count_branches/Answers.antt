@@ -8,6 +8,6 @@ loop-rest-preserved c =
     let step = count-step c.args.depth c.loop-rest.count _ _ _ c.loop-rest.rest.now _
     (slice_from-is c.loop-rest.rest.now _) (omega (arith, c.loop-rest-test.true, c.is_empty.ensures))
     c.first_group-end.ensures.run c.first_group-end.ensures.nonempty c.first_group-end.ensures.at_most
-    c.loop-rest.invariant.go_on c.loop-rest.invariant.ascending c.loop-rest.invariant.fits
+    c.loop-rest.invariant.have_more c.loop-rest.invariant.ascending c.loop-rest.invariant.fits
     c.loop-rest.invariant.counted in
-    record { go_on = step.0; ascending = step.1; fits = step.2; counted = step.3 }
+    record { have_more = step.0; ascending = step.1; fits = step.2; counted = step.3 }

@@ -1,17 +1,17 @@
 use Rattle.std.proofs.Common.{◌+◌, ◌-◌, ◌/◌, ◌<◌, ◌≤◌, ℕ, arith, length, lit<, sym, ◌∙◌}
 use Rattle.std.proofs.Math.Nat.{div-lt_self, lt-div-mul-add}
 use Rattle.rart_nodes.specs.build.Stretches.{first_byte, first_run, rests}
-use Rattle.rart_nodes.proofs.build.RunLemmas.{first_byte-is, go_on-at, run-outside, run-within, rests-length}
+use Rattle.rart_nodes.proofs.build.RunLemmas.{first_byte-is, have_more-at, run-outside, run-within, rests-length}
 use Rattle.rart_nodes.proofs.build.StretchLemmas.{run-inside}
 use Rattle.rart_nodes.proofs.node.edits.build.first_group.Goals as goal
 use Rattle.rart_nodes.proofs.node.edits.build.first_group.Goals.{then-loop-end-test+else-keys-end, else-loop-end-test}
 
 pub bounds-keys-depth-in-loop-end : goal.bounds-keys-depth-in-loop-end
-bounds-keys-depth-in-loop-end c = go_on-at _ _ c.args.keys.now _ c.requires.go_on c.loop-end-test.true
+bounds-keys-depth-in-loop-end c = have_more-at _ _ c.args.keys.now _ c.requires.have_more c.loop-end-test.true
 
 pub loop-end-preserved : goal.loop-end-preserved
 loop-end-preserved c = record {
-  inside = run-inside _ _ c.args.keys.now _ c.requires.go_on c.requires.ascending c.loop-end-test.true
+  inside = run-inside _ _ c.args.keys.now _ c.requires.have_more c.requires.ascending c.loop-end-test.true
       (c.if-keys-end.true ∙ first_byte-is _ c.args.keys.now _ c.requires.nonempty);
   within = c.loop-end-test.true;
   later = omega (
@@ -55,12 +55,12 @@ middle-between a b h = let some : 0 < (b - a) / 2 = omega (arith, lt-div-mul-add
     let less : (b - a) / 2 < b - a = div-lt_self (omega arith) (lit< tt) in (omega arith, omega arith)
 
 pub bounds-keys-depth-in-loop-inside : goal.bounds-keys-depth-in-loop-inside
-bounds-keys-depth-in-loop-inside c = go_on-at _ _ c.args.keys.now _ c.requires.go_on
+bounds-keys-depth-in-loop-inside c = have_more-at _ _ c.args.keys.now _ c.requires.have_more
     (omega (arith, (middle-between _ _ c.loop-inside-test.true).1, c.loop-inside.invariant.within))
 
 pub loop-inside-preserved-then-keys-middle : goal.loop-inside-preserved-then-keys-middle
 loop-inside-preserved-then-keys-middle c = let between = middle-between _ _ c.loop-inside-test.true in record {
-  inside = run-inside _ _ c.args.keys.now _ c.requires.go_on c.requires.ascending
+  inside = run-inside _ _ c.args.keys.now _ c.requires.have_more c.requires.ascending
       (omega (arith, between.1, c.loop-inside.invariant.within)) (c.if-keys-middle.true
       ∙ first_byte-is _ c.args.keys.now _ c.requires.nonempty);
   later = between.1;

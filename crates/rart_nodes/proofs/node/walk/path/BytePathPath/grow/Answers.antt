@@ -1,4 +1,4 @@
-use Rattle.std.proofs.Common.{◌≡◌, ◌+◌, ◌-◌, ◌≤◌, ◌∙◌, ◌∷◌, ◌++◌, [], arith, ap, ap₂, drop, length, length-append, take}
+use Rattle.std.proofs.Common.{◌+◌, ◌-◌, ◌≤◌, ◌∙◌, ◌∷◌, ◌++◌, [], arith, ap, ap₂, drop, length, length-append, take}
 use Rattle.std.proofs.lemmas.List.{length-drop, length-take-le, map-append, with_items_is}
 use Rattle.std.proofs.lemmas.Slice.{take-put_mid}
 use Rattle.rart_nodes.specs.walks.PathParts.{byte_segments, kept_bytes}
