@@ -64,6 +64,9 @@ STALE = re.compile(r"Run the lower steps again|(?:went over|met) a limit of this
 HEAD = re.compile(r"^( *)(?:pub(?:\([^)]*\))? )?(?:(?:const|unsafe) )*fn (\w+)", re.M)
 ITEM = re.compile(r"\b(?:fn|impl|trait|struct|enum|type|const|static|mod|use|macro_rules|ensures|requires)\b")
 
+# What `rt ci` prints of a crate that it proved, or that an earlier run proved of the same files.
+PROVED = re.compile(r"^rt: (\w+) (?:proved$|is kept: )", re.M)
+
 # Seconds between two looks at the output of `rt ci`, and far more than a check takes on a busy machine.
 PAUSE = 5
 LIMIT = 3600
@@ -145,11 +148,10 @@ class Libraries:
         """Waits until `rt ci` has proved the crates below. Returns false if one is not proved, or `rt ci` has ended."""
         below = [name for name in self.named[crate] if name in self.named]
         while self.log:
-            lines = self.log.read_text(errors="replace").splitlines()
-            # it takes what an earlier run proved of the same files
-            proved = {line[4:].removesuffix(" proved").partition(" is kept: ")[0] for line in lines if line[:4] == "rt: "}
-            if proved.issuperset(below):
+            text = self.log.read_text(errors="replace")
+            if set(PROVED.findall(text)).issuperset(below):
                 break
+            lines = text.splitlines()
             failed = any(line.startswith(f"rt: {name} NOT PROVED") or line.startswith(f"{name} NOT PROVED")
                          for name in below for line in lines)
             if failed or (lines and re.match(r"\d+ passed, ", lines[-1])) or os.getppid() != self.parent:
