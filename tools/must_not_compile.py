@@ -52,8 +52,8 @@ class Body(typing.NamedTuple):
 LOOK_UP = ("rart_nodes", "src/node/walks/look_up.rt", "self.descend(key, counter)")
 LENDING = ("rart_nodes", "src/node/walks/lending.rt", "for_each_view_of(&mut walk, &mut path, counter, f);")
 VISITOR = ("rart_nodes", "src/node/intersect/visitor.rt", "f(left, right);")
-SHRINK = ("rart_nodes", "src/node/storage/shrink.rt")
-GROW = ("rart_nodes", "src/node/storage/grow.rt")
+SHRINK = ("rart_trie", "src/node/storage/shrink.rt")
+GROW = ("rart_trie", "src/node/storage/grow.rt")
 SHARED_CHILDREN = ("rart_nodes", "src/node/intersect/shared_children.rt")
 TREES = ("rart_nodes", "src/node/intersect.rt", "let Some(right_top) = right.top() else {")
 OF_TREE = ("rart", "src/tree.rt", "self.seen().get_bytes_counted(key, &mut Visits::new())")
@@ -62,13 +62,13 @@ BODIES = (
     Body(
         "a look-up counts with its own counter",
         *LOOK_UP,
-        "self.descend(key, &mut crate::count::Visits::new())",
+        "self.descend(key, &mut rart_trie::Visits::new())",
         ("error[mismatched-types]: expected `&mut C`, found `&mut Visits`",),
     ),
     Body(
         "a walk counts with its own counter",
         *LENDING,
-        "for_each_view_of(&mut walk, &mut path, &mut crate::count::Visits::new(), f);",
+        "for_each_view_of(&mut walk, &mut path, &mut rart_trie::Visits::new(), f);",
         ("error[mismatched-types]: expected `&mut C`, found `&mut Visits`",),
     ),
     Body(
@@ -135,10 +135,26 @@ BODIES = (
     Body(
         "a look-up shows a node without a visit",
         *LOOK_UP,
-        "self.top().and_then(|top| crate::node::seen::Entered { node: top.node, of: top.of }.value())",
+        "self.top().and_then(|top| {\n"
+        "            let prefix = top.node.prefix();\n"
+        "            crate::node::seen::Entered { node: top.node, prefix, of: top.of }.value()\n"
+        "        })",
         (
+            "error[private-field]: field `node` of struct `Shared` is private",
+            "error[private-item]: method `prefix` is private",
             "error[private-field]: field `node` of struct `Entered` is private",
             "error[private-field]: field `node` of struct `Shared` is private",
+            "error[private-field]: field `prefix` of struct `Entered` is private",
+            "error[private-field]: field `of` of struct `Entered` is private",
+            "error[private-field]: field `of` of struct `Shared` is private",
+        ),
+        (
+            "error[private-field]: field `node` of struct `Shared` is private",
+            "error[unknown-method]: no method named `prefix` found for type "
+            "`DefaultNode<<K as KeyTrait>::PartialType, V>`",
+            "error[private-field]: field `node` of struct `Entered` is private",
+            "error[private-field]: field `node` of struct `Shared` is private",
+            "error[private-field]: field `prefix` of struct `Entered` is private",
             "error[private-field]: field `of` of struct `Entered` is private",
             "error[private-field]: field `of` of struct `Shared` is private",
         ),
@@ -192,6 +208,17 @@ BODIES = (
             "error[private-item]: method `value` is private",
         ),
         ("error[unknown-method]: no method named `top` found for type `Seen<K, V, Visits>`",),
+    ),
+    Body(
+        "the map reads the prefix of its root without a visit",
+        *OF_TREE,
+        "let _prefix = self.root.as_ref().map(|root| root.prefix());\n"
+        "        self.seen().get_bytes_counted(key, &mut Visits::new())",
+        ("error[private-item]: method `prefix` is private",),
+        (
+            "error[unknown-method]: no method named `prefix` found for type "
+            "`DefaultNode<<K as KeyTrait>::PartialType, V>`",
+        ),
     ),
     Body(
         "the map holds a visited node",

@@ -6,7 +6,7 @@ use Rattle.std.specs.Prelude.{IfErr, IsErrAnd, Result, Ok, Err, slice_get}
 use Rattle.std.proofs.lemmas.List.{append-nil}
 use Rattle.rart_keys.specs.BulkLists.{put_all}
 use Rattle.rart_keys.specs.SortedMap.{AreAbove, IsAscending, put}
-use Rattle.rart_nodes.specs.declared.refused.Refused.{Refused}
+use Rattle.rart_trie.specs.declared.refused.Refused.{Refused}
 use Rattle.rart_parts.specs.declared.error.TreeError.{TreeError}
 use Rattle.rart_parts.specs.declared.error.TreeError.TheVariants.{Memory, Full}
 use Rattle.rart.specs.Appends.{IsNotMoved, Moves, MovesUntil, PutsBack}

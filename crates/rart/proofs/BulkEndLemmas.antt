@@ -7,8 +7,8 @@ use Rattle.std.proofs.lemmas.List.{length-map}
 use Rattle.rart_keys.specs.BulkLists.{WasRead, first_fault, last_wins}
 use Rattle.rart_keys.specs.KeyBytes.{IsWithin}
 use Rattle.rart_keys.specs.SortedMap.{AreAbove, IsAscending, keys_of, longest_key, values_of}
-use Rattle.rart_nodes.specs.build.Stretches.{AreWithin}
-use Rattle.rart_nodes.specs.shapes.ShapeRecords.{unit_pairs}
+use Rattle.rart_trie.specs.build.Stretches.{AreWithin}
+use Rattle.rart_trie.specs.shapes.KeyLists.{unit_pairs}
 use Rattle.rart.specs.BulkLoads.{Reads, ReadsAll, FailsSorted}
 use Rattle.rart.specs.Steps.{pairs_in}
 use Rattle.rart.specs.declared.bulk.BulkError.{BulkError}

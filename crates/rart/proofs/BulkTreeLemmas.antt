@@ -6,8 +6,8 @@ use Rattle.std.proofs.lemmas.List.{drop_all}
 use Rattle.rart_keys.specs.ByteStrings.{IsLess}
 use Rattle.rart_keys.specs.KeyBytes.{IsWithin}
 use Rattle.rart_keys.specs.SortedMap.{AreAbove, IsAscending, keys_of, longest_key, values_of}
-use Rattle.rart_nodes.specs.build.Stretches.{AreWithin}
-use Rattle.rart_nodes.specs.shapes.ShapeRecords.{keys_in, unit_pairs}
+use Rattle.rart_trie.specs.build.Stretches.{AreWithin}
+use Rattle.rart_trie.specs.shapes.KeyLists.{keys_in, unit_pairs}
 use Rattle.rart.specs.BulkLoads.{AreKeysAt}
 
 -- the longest key, by the keys alone

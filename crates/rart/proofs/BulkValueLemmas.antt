@@ -5,8 +5,8 @@ use Rattle.std.specs.Borrow.{Bor}
 use Rattle.std.specs.Prelude.{IfOk}
 use Rattle.std.proofs.lemmas.List.{append-nil, length-map}
 use Rattle.rart_keys.specs.SortedMap.{keys_of, values_of}
-use Rattle.rart_nodes.specs.build.ValueCalls.{CanTake, Takes}
-use Rattle.rart_nodes.specs.shapes.ShapeRecords.{keys_in}
+use Rattle.rart_trie.specs.build.ValueCalls.{CanTake, Takes}
+use Rattle.rart_trie.specs.shapes.KeyLists.{keys_in}
 
 -- calls that each take the first of a list
 module _ {F V : Type 0} (step : F → ℕ → V → F → Type 0) (items : F → List V) (one : (f : F) (i : ℕ) (v : V) (g : F)

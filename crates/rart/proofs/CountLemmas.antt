@@ -1,7 +1,7 @@
 -- Counting by a fold.
 use Rattle.std.proofs.Common.{◌≡◌, ℕ, ◌+◌, ◌^◌, ◌<◌, List, [], ◌∷◌, length, length-append, ap, arith}
 use Rattle.std.specs.List.{FoldsTo}
-use Rattle.rart_nodes.specs.walks.Calls.{CallableAtEach}
+use Rattle.rart_trie.specs.walks.Calls.{CallableAtEach}
 
 module _ {F V : Type 0} (R : F × ℕ → V → F × ℕ → Type 0) (step : (p q : F × ℕ) (x : V) → R p x q → q.1 ≡ p.1 + 1) where
   count-from : (p q : F × ℕ) (xs : List V) → FoldsTo R p xs q → q.1 ≡ p.1 + length xs

@@ -3,7 +3,7 @@ use Rattle.std.proofs.Common.{◌≡◌, ◌≢◌, ℕ, List, Some, None, true}
 use Rattle.std.specs.Prelude.{Option, Result, Ok, Err, OnOk}
 use Rattle.std.specs.Option.{IsSomeAnd}
 use Rattle.rart_keys.specs.SortedMap.{keys_of, lookup, without}
-use Rattle.rart_nodes.specs.edits.RemoveAllocations.{remove_allocates}
+use Rattle.rart_trie.specs.edits.RemoveAllocations.{remove_allocates}
 use Rattle.rart_parts.specs.declared.error.TreeError.{TreeError}
 use Rattle.rart_parts.specs.declared.error.TreeError.TheVariants.{Memory}
 use Rattle.rart.specs.Edits.{Removes}

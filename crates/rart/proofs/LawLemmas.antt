@@ -1,8 +1,8 @@
 -- What one tree's statistics are, by its keys alone, and after an insertion and a removal.
 use Rattle.std.proofs.Common.{◌≡◌, ℕ, List, ap, sym, ◌∙◌}
 use Rattle.rart_keys.specs.SortedMap.{keys_of, put, without}
-use Rattle.rart_nodes.specs.shapes.Shape.{HasShape, NodeRecord}
-use Rattle.rart_nodes.specs.stats.Stats.{KeyStats, stats_of}
+use Rattle.rart_trie.specs.shapes.Shape.{HasShape, NodeRecord}
+use Rattle.rart_trie.specs.stats.Stats.{KeyStats, stats_of}
 use Rattle.rart.specs.LawAnswers.{IsCounted}
 use Rattle.rart.specs.MapAndShape.{MapAndShape}
 

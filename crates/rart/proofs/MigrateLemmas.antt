@@ -4,7 +4,7 @@ use Rattle.std.specs.Cmp.Lexicographic.{slice_cmp}
 use Rattle.std.specs.Ordering.{nat_cmp}
 use Rattle.std.proofs.lemmas.List.{length-map}
 use Rattle.rart_keys.specs.SortedMap.{AreAbove, IsAscending, keys_of, values_of}
-use Rattle.rart_nodes.specs.shapes.ShapeRecords.{unit_pairs}
+use Rattle.rart_trie.specs.shapes.KeyLists.{unit_pairs}
 use Rattle.rart.specs.Migrations.{terminated_key, with_zeros}
 use Rattle.rart.proofs.BulkEndLemmas.{ascending-by-keys}
 use Rattle.rart.proofs.BulkTreeLemmas.{same-pairs}

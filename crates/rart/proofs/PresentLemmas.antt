@@ -5,8 +5,8 @@ use Rattle.rart_keys.specs.SortedMap.{lookup}
 use Rattle.rart.specs.Edits.{InsertsNew, PutOrSame, TriesInsert}
 use Rattle.rart.specs.MapAndShape.{MapAndShape}
 use Rattle.rart.specs.Refusals.{AddsPresent, ShowsWhy, IsStoredAt}
-use Rattle.rart_nodes.specs.declared.refused.NotInserted.{NotInserted}
-use Rattle.rart_nodes.specs.declared.refused.NotInserted.TheVariants as not_inserted
+use Rattle.rart_trie.specs.declared.refused.NotInserted.{NotInserted}
+use Rattle.rart_trie.specs.declared.refused.NotInserted.TheVariants as not_inserted
 use Rattle.rart.specs.declared.tree.try_insert.TryInsertError.{TryInsertError}
 use Rattle.rart.specs.declared.tree.try_insert.TryInsertError.TheVariants as try_insert
 

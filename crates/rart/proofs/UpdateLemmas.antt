@@ -5,15 +5,15 @@ use Rattle.std.proofs.lemmas.Bool.Decides.{nat_tests}
 use Rattle.std.specs.Borrow.{MutBor}
 use Rattle.std.specs.Fn.{Once}
 use Rattle.rart_keys.specs.SortedMap.{IsAscending, lookup, put}
-use Rattle.rart_nodes.specs.declared.refused.Refused.{Refused}
-use Rattle.rart_nodes.specs.declared.slot.Outcome.{Outcome}
-use Rattle.rart_nodes.specs.declared.slot.Slot.{Slot}
-use Rattle.rart_nodes.specs.declared.slot.SlotUpdate.{SlotUpdate}
-use Rattle.rart_nodes.specs.declared.slot.SlotUpdate.TheVariants.{Keep, Remove, Insert}
-use Rattle.rart_nodes.specs.declared.slot.UpdateError.{UpdateError}
-use Rattle.rart_nodes.specs.declared.slot.UpdateError.TheVariants.{Insert as Not_inserted, Remove as Not_removed}
-use Rattle.rart_nodes.specs.edits.Slots.{HasCapacity, outcome_of, slot_of}
-use Rattle.rart_nodes.specs.edits.Updates.{EndsMap, RefusesNew, map_left}
+use Rattle.rart_trie.specs.declared.refused.Refused.{Refused}
+use Rattle.rart_trie.specs.declared.slot.Outcome.{Outcome}
+use Rattle.rart_trie.specs.declared.slot.Slot.{Slot}
+use Rattle.rart_trie.specs.declared.slot.SlotUpdate.{SlotUpdate}
+use Rattle.rart_trie.specs.declared.slot.SlotUpdate.TheVariants.{Keep, Remove, Insert}
+use Rattle.rart_trie.specs.declared.slot.UpdateError.{UpdateError}
+use Rattle.rart_trie.specs.declared.slot.UpdateError.TheVariants.{Insert as Not_inserted, Remove as Not_removed}
+use Rattle.rart_trie.specs.edits.Slots.{HasCapacity, outcome_of, slot_of}
+use Rattle.rart_trie.specs.edits.Updates.{EndsMap, RefusesNew, map_left}
 use Rattle.rart_parts.specs.declared.error.TreeError.{TreeError}
 use Rattle.rart_parts.specs.declared.error.TreeError.TheVariants.{Memory, Full}
 use Rattle.rart.specs.MapAndShape.{MapAndShape}

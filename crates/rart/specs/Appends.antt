@@ -2,7 +2,7 @@
 use Rattle.std.specs.Prelude.{◌≡◌, ◌⊎◌, ◌++◌, ◌∷◌, ℕ, List, Option, Some, None}
 use Rattle.rart_keys.specs.BulkLists.{put_all}
 use Rattle.rart_keys.specs.SortedMap.{put}
-use Rattle.rart_nodes.specs.declared.refused.Refused.{Refused}
+use Rattle.rart_trie.specs.declared.refused.Refused.{Refused}
 use Rattle.rart_parts.specs.declared.error.TreeError.{TreeError}
 use Rattle.rart_parts.specs.declared.error.TreeError.TheVariants.{Memory}
 use Rattle.rart.specs.Refusals.{MayRefuseInsert, MayRefuseRemove}

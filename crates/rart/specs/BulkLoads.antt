@@ -4,7 +4,7 @@ use Rattle.std.specs.Prelude.{Some, Result, IfErr, OnOk, slice_index_or}
 use Rattle.std.specs.Iterator.{Yields, Drains, HoldsAlong}
 use Rattle.rart_keys.specs.BulkLists.{WasRead, first_fault, last_wins}
 use Rattle.rart_keys.specs.SortedMap.{IsAscending, keys_of, values_of}
-use Rattle.rart_nodes.specs.build.ValueCalls.{Takes}
+use Rattle.rart_trie.specs.build.ValueCalls.{Takes}
 use Rattle.rart.specs.Steps.{pairs_in}
 use Rattle.rart.specs.declared.bulk.BulkError.{BulkError}
 use Rattle.rart.specs.declared.bulk.BulkError.TheVariants.{Memory, Full, Unsorted}

@@ -2,13 +2,13 @@
 use Rattle.std.specs.Prelude.{◌≡◌, ◌≢◌, ℕ, Bool, List, length, is_some, Option, None, Result, Ok, Err, MatchResult}
 use Rattle.rart_keys.specs.Filters.{below}
 use Rattle.rart_keys.specs.SortedMap.{lookup, put, without}
-use Rattle.rart_nodes.specs.declared.refused.Refused.{Refused}
-use Rattle.rart_nodes.specs.edits.PrefixRemovals.{without_prefix}
+use Rattle.rart_trie.specs.declared.refused.Refused.{Refused}
+use Rattle.rart_trie.specs.edits.PrefixRemovals.{without_prefix}
 use Rattle.rart_parts.specs.declared.error.TreeError.{TreeError}
 use Rattle.rart.specs.MapAndShape.{MapAndShape}
 use Rattle.rart.specs.Refusals.{MayRefuseRemove, MayRefuseInsert, MayRefuseTakePrefix, ShowsWhy, IsNotInserted}
 use Rattle.rart.specs.declared.tree.TheConstants.{MAX_PAIRS}
-use Rattle.rart_nodes.specs.declared.refused.NotInserted.{NotInserted}
+use Rattle.rart_trie.specs.declared.refused.NotInserted.{NotInserted}
 use Rattle.rart.specs.declared.tree.try_insert.TryInsertError.{TryInsertError}
 
 module _ {V : Type 0} where

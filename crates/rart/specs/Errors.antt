@@ -1,10 +1,10 @@
 -- Which error of the crate each error of a call becomes.
 use Rattle.rart_nodes.specs.declared.node.walks.control.VisitError.{VisitError}
 use Rattle.rart_nodes.specs.declared.node.walks.control.VisitError.TheVariants as visit
-use Rattle.rart_nodes.specs.declared.refused.NotInserted.{NotInserted}
-use Rattle.rart_nodes.specs.declared.refused.NotInserted.TheVariants as not_inserted
-use Rattle.rart_nodes.specs.declared.slot.UpdateError.{UpdateError}
-use Rattle.rart_nodes.specs.declared.slot.UpdateError.TheVariants as update
+use Rattle.rart_trie.specs.declared.refused.NotInserted.{NotInserted}
+use Rattle.rart_trie.specs.declared.refused.NotInserted.TheVariants as not_inserted
+use Rattle.rart_trie.specs.declared.slot.UpdateError.{UpdateError}
+use Rattle.rart_trie.specs.declared.slot.UpdateError.TheVariants as update
 use Rattle.rart_parts.specs.declared.error.TreeError.{TreeError}
 use Rattle.rart_parts.specs.declared.error.TreeError.TheVariants as tree
 use Rattle.rart.specs.declared.bulk.BulkError.{BulkError}

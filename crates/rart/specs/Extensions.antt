@@ -1,7 +1,7 @@
 -- What an extension of a tree puts into it before an item is refused.
 use Rattle.std.specs.Prelude.{◌≡◌, ℕ, List, ◌∷◌, ◌++◌, []}
 use Rattle.rart_keys.specs.BulkLists.{put_all}
-use Rattle.rart_nodes.specs.declared.refused.Refused.{Refused}
+use Rattle.rart_trie.specs.declared.refused.Refused.{Refused}
 use Rattle.rart.specs.Refusals.{MayRefuseInsert}
 use Rattle.rart.specs.Steps.{pairs_in}
 

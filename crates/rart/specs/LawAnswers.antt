@@ -1,8 +1,8 @@
 -- What the laws of insertions and removals answer, also where one of their calls was refused.
 use Rattle.std.specs.Prelude.{◌≡◌, ℕ, List, Err}
 use Rattle.rart_keys.specs.SortedMap.{keys_of, put}
-use Rattle.rart_nodes.specs.shapes.Shape.{HasShape, NodeRecord}
-use Rattle.rart_nodes.specs.stats.Stats.{KeyStats, stats_of}
+use Rattle.rart_trie.specs.shapes.Shape.{HasShape, NodeRecord}
+use Rattle.rart_trie.specs.stats.Stats.{KeyStats, stats_of}
 use Rattle.rart.specs.Edits.{Inserts, Removes}
 use Rattle.rart.specs.MapAndShape.{MapAndShape}
 use Rattle.rart.specs.Refusals.{MayLackStats}

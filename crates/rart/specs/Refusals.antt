@@ -1,14 +1,14 @@
 -- When an edit may fail, and what a failed insertion returns.
 use Rattle.std.specs.Prelude.{◌≡◌, ◌≢◌, ◌<◌, ◌≤◌, ℕ, List, length, true, Some, None, Result, Ok, Err}
 use Rattle.rart_keys.specs.SortedMap.{keys_of, lookup}
-use Rattle.rart_nodes.specs.edits.InsertAllocations.{insert_allocates}
-use Rattle.rart_nodes.specs.edits.PrefixRemovals.{TakeAllocates}
-use Rattle.rart_nodes.specs.edits.RemoveAllocations.{remove_allocates}
+use Rattle.rart_trie.specs.edits.InsertAllocations.{insert_allocates}
+use Rattle.rart_trie.specs.edits.PrefixRemovals.{TakeAllocates}
+use Rattle.rart_trie.specs.edits.RemoveAllocations.{remove_allocates}
 use Rattle.rart_parts.specs.declared.error.TreeError.{TreeError}
 use Rattle.rart_parts.specs.declared.error.TreeError.TheVariants.{Memory, Full}
 use Rattle.rart.specs.declared.tree.TheConstants.{MAX_PAIRS}
-use Rattle.rart_nodes.specs.declared.refused.NotInserted.{NotInserted}
-use Rattle.rart_nodes.specs.declared.refused.NotInserted.TheVariants as not_inserted
+use Rattle.rart_trie.specs.declared.refused.NotInserted.{NotInserted}
+use Rattle.rart_trie.specs.declared.refused.NotInserted.TheVariants as not_inserted
 use Rattle.rart.specs.declared.tree.try_insert.TryInsertError.{TryInsertError}
 use Rattle.rart.specs.declared.tree.try_insert.TryInsertError.TheVariants as try_insert
 

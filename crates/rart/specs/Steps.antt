@@ -4,20 +4,20 @@ use Rattle.std.specs.Option.{option_map}
 use Rattle.rart_keys.specs.Filters.{below, longest_match, matches}
 use Rattle.rart_keys.specs.Ranges.{between, bound_in}
 use Rattle.rart_keys.specs.SortedMap.{keys_of, lookup, values_of}
-use Rattle.rart_nodes.specs.shapes.Shape.{HasShape, NodeRecord}
-use Rattle.rart_nodes.specs.stats.Stats.{stats_in, stats_of}
-use Rattle.rart_nodes.specs.declared.stats.TreeStats.{TreeStats}
+use Rattle.rart_trie.specs.shapes.Shape.{HasShape, NodeRecord}
+use Rattle.rart_trie.specs.stats.Stats.{stats_in, stats_of}
+use Rattle.rart_trie.specs.declared.stats.TreeStats.{TreeStats}
 use Rattle.rart_parts.specs.declared.error.TreeError.TheVariants.{Memory}
 use Rattle.rart.specs.Edits.{Deletes, Inserts, InsertsNew, Removes}
 use Rattle.rart.specs.Refusals.{MayLackStats}
 use Rattle.rart.specs.Updates.{IsTryUpdate, IsUpdate, left_by}
 use Rattle.rart.specs.declared.tree.update.TryUpdateError.TheVariants as try_update
-use Rattle.rart_nodes.specs.declared.slot.UpdateError.TheVariants as update_error
+use Rattle.rart_trie.specs.declared.slot.UpdateError.TheVariants as update_error
 use Rattle.rart.specs.declared.script.call.Call.{Call}
 use Rattle.rart.specs.declared.script.call.Call.TheVariants as call
 use Rattle.rart.specs.declared.script.reply.Reply.{Reply}
 use Rattle.rart.specs.declared.script.reply.Reply.TheVariants as reply
-use Rattle.rart_nodes.specs.declared.refused.NotInserted.TheVariants as not_inserted
+use Rattle.rart_trie.specs.declared.refused.NotInserted.TheVariants as not_inserted
 
 -- pairs with the bytes of their keys
 abbrev pub pairs_in : {K V : Type 0} → (K → List ℕ) → List (K × V) → List (List ℕ × V)

@@ -2,8 +2,8 @@
 use Rattle.std.specs.Prelude.{ℕ, ◌≡◌, ◌≤◌, length, Option}
 use Rattle.rart_keys.specs.KeyBytes.{IsWithin}
 use Rattle.rart_keys.specs.SortedMap.{longest_key}
-use Rattle.rart_nodes.specs.tries.Tree.{IsCanonicalTree, tree_pairs}
-use Rattle.rart_nodes.specs.tries.Trie.{Trie}
+use Rattle.rart_trie.specs.tries.Tree.{IsCanonicalTree, tree_pairs}
+use Rattle.rart_trie.specs.tries.Trie.{Trie}
 use Rattle.rart.specs.declared.tree.TheConstants.{MAX_PAIRS}
 
 -- `len` counts the pairs, and no key is longer than `longest`, which is within the keys' maximum and 0 in an empty tree

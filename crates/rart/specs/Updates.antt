@@ -4,17 +4,17 @@ use Rattle.std.specs.Prelude.{Err}
 use Rattle.std.specs.Borrow.{MutBor}
 use Rattle.std.specs.Fn.{Once, FnOnceReturnsAtMut}
 use Rattle.rart_keys.specs.SortedMap.{lookup}
-use Rattle.rart_nodes.specs.declared.slot.Outcome.{Outcome}
-use Rattle.rart_nodes.specs.declared.slot.Outcome.TheVariants.{Absent}
-use Rattle.rart_nodes.specs.declared.slot.Slot.{Slot}
-use Rattle.rart_nodes.specs.declared.slot.Slot.TheVariants.{Vacant, Occupied}
-use Rattle.rart_nodes.specs.declared.slot.SlotUpdate.{SlotUpdate}
-use Rattle.rart_nodes.specs.declared.slot.SlotUpdate.TheVariants.{Keep, Remove, Insert}
-use Rattle.rart_nodes.specs.declared.slot.UpdateError.{UpdateError}
-use Rattle.rart_nodes.specs.declared.slot.UpdateError.TheVariants.{Insert as Not_inserted, Remove as Not_removed}
-use Rattle.rart_nodes.specs.edits.Callbacks.{AnswersSo, AnswersReturning}
-use Rattle.rart_nodes.specs.edits.Slots.{outcome_of, slot_of}
-use Rattle.rart_nodes.specs.edits.Updates.{map_left, map_updated}
+use Rattle.rart_trie.specs.declared.slot.Outcome.{Outcome}
+use Rattle.rart_trie.specs.declared.slot.Outcome.TheVariants.{Absent}
+use Rattle.rart_trie.specs.declared.slot.Slot.{Slot}
+use Rattle.rart_trie.specs.declared.slot.Slot.TheVariants.{Vacant, Occupied}
+use Rattle.rart_trie.specs.declared.slot.SlotUpdate.{SlotUpdate}
+use Rattle.rart_trie.specs.declared.slot.SlotUpdate.TheVariants.{Keep, Remove, Insert}
+use Rattle.rart_trie.specs.declared.slot.UpdateError.{UpdateError}
+use Rattle.rart_trie.specs.declared.slot.UpdateError.TheVariants.{Insert as Not_inserted, Remove as Not_removed}
+use Rattle.rart_trie.specs.edits.Callbacks.{AnswersSo, AnswersReturning}
+use Rattle.rart_trie.specs.edits.Slots.{outcome_of, slot_of}
+use Rattle.rart_trie.specs.edits.Updates.{map_left, map_updated}
 use Rattle.rart_parts.specs.declared.error.TreeError.TheVariants.{Memory}
 use Rattle.rart.specs.Refusals.{MayRefuseRemove, MayRefuseInsert}
 use Rattle.rart.specs.declared.tree.TheConstants.{MAX_PAIRS}

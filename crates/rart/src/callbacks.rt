@@ -7,8 +7,8 @@
 
 ghost use Rattle.std.specs.Prelude.{◌≡◌, IfErr, IfOk, OnErr, OnOk};
 ghost use Rattle.rart_keys.specs.Filters.{matches};
-ghost use Rattle.rart_nodes.specs.walks.BelowPrefix.{values_below};
-ghost use Rattle.rart_nodes.specs.walks.Calls.{MayLackMemory};
+ghost use Rattle.rart_trie.specs.walks.BelowPrefix.{values_below};
+ghost use Rattle.rart_trie.specs.walks.Calls.{MayLackMemory};
 ghost use Rattle.rart_nodes.specs.walks.Matched.{CanMatch, MatchesEachByValue, MatchesEach};
 ghost use Rattle.rart_nodes.specs.walks.Shown.{CanFold, CanShow, FoldsEachByValue, FoldsEach, ShowsEachByValue};
 ghost use Rattle.rart_nodes.specs.walks.Shown.{ShowsEach};

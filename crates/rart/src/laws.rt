@@ -4,8 +4,8 @@ ghost use Rattle.std.specs.Borrow.{sem};
 ghost use Rattle.std.specs.Option.{option_copied};
 ghost use Rattle.rart_parts.specs.Errors.{IsMemory};
 ghost use Rattle.rart_keys.specs.SortedMap.{IsAscending, keys_of, lookup, put, values_of, without};
-ghost use Rattle.rart_nodes.specs.stats.Stats.{stats_in, stats_of};
-ghost use Rattle.rart_nodes.specs.walks.Calls.{MayLackMemory};
+ghost use Rattle.rart_trie.specs.stats.Stats.{stats_in, stats_of};
+ghost use Rattle.rart_trie.specs.walks.Calls.{MayLackMemory};
 ghost use Rattle.rart.specs.Edits.{PutOrSame};
 ghost use Rattle.rart.specs.LawAnswers.{IsCounted, RefusesCall};
 ghost use Rattle.rart.specs.Loans.{ends_as};
@@ -35,7 +35,7 @@ pub fn equal_keys_equal_nodes<K: KeyTrait, V, L: KeyTrait, W>(
 {
     one.canonical();
     other.canonical();
-    rart_nodes::laws::one_shape();
+    rart_laws::one_shape();
 }
 
 /// Returns the statistics of two trees with equal keys, which are equal.
@@ -160,7 +160,7 @@ pub fn removal_restores<K: KeyTrait, V, L: KeyTrait>(
     let removed = tree.remove_k(key);
     tree.canonical();
     without_it.canonical();
-    rart_nodes::laws::one_shape();
+    rart_laws::one_shape();
     removed
 }
 
@@ -202,7 +202,7 @@ pub fn insert_then_remove<K: KeyTrait, V: Drop>(
     ensures refused { IfErr result (RefusesCall (K.bytes key.now) value tree.old tree.new) }
 {
     rart_keys::laws::sorted_map::<V>();
-    rart_nodes::laws::one_shape();
+    rart_laws::one_shape();
     tree.canonical();
     let before = match tree.get_tree_stats() {
         Ok(stats) => stats,

@@ -1,8 +1,8 @@
 //! Calls of a tree as values: a list of calls runs on a tree and returns the list of replies.
 ghost use Rattle.std.specs.Prelude.{◌≡◌, ◌≢◌, Err, Some, IfErr, IfOk, OnErr, length};
 ghost use Rattle.rart_keys.specs.SortedMap.{keys_of, lookup, values_of};
-ghost use Rattle.rart_nodes.specs.shapes.Shape.{HasShape};
-ghost use Rattle.rart_nodes.specs.walks.Calls.{MayLackMemory};
+ghost use Rattle.rart_trie.specs.shapes.Shape.{HasShape};
+ghost use Rattle.rart_trie.specs.walks.Calls.{MayLackMemory};
 ghost use Rattle.rart.specs.Steps.{IsRun, IsStep, pairs_in};
 ghost use Rattle.rart.specs.Updates.{IsTryUpdate, IsUpdate, left_by, written_slot};
 ghost use Rattle.rart.specs.declared.tree.update.TryUpdateError.TheVariants.{Clone as Not_cloned};

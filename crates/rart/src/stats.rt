@@ -1,8 +1,8 @@
 //! Statistics of a tree: how many nodes it has of each capacity, how many children they have, and how deep it is.
 ghost use Rattle.std.specs.Prelude.{◌≡◌, ℕ, ◌≤◌, List, length, IfErr, IfOk, OnErr};
 ghost use Rattle.rart_parts.specs.Errors.{IsMemory};
-ghost use Rattle.rart_nodes.specs.shapes.Shape.{NodeRecord};
-ghost use Rattle.rart_nodes.specs.stats.Stats.{stats_in, stats_of};
+ghost use Rattle.rart_trie.specs.shapes.Shape.{NodeRecord};
+ghost use Rattle.rart_trie.specs.stats.Stats.{stats_in, stats_of};
 
 pub use rart_nodes::stats::{NodeStats, TreeStats};
 use rart_parts::TreeError;

@@ -4,9 +4,9 @@ ghost use Rattle.std.specs.Prelude.{OnErr};
 ghost use Rattle.std.specs.Option.{option_copied};
 ghost use Rattle.rart_keys.specs.KeyBytes.{IsWithin};
 ghost use Rattle.rart_keys.specs.SortedMap.{IsAscending, keys_of, longest_key, lookup};
-ghost use Rattle.rart_nodes.specs.shapes.Shape.{HasShape};
+ghost use Rattle.rart_trie.specs.shapes.Shape.{HasShape};
 ghost use Rattle.rart_nodes.specs.tries.SeenTrees.{length_bound, seen_nodes, seen_pairs};
-ghost use Rattle.rart_nodes.specs.tries.Tree.{IsCanonicalTree, tree_pairs};
+ghost use Rattle.rart_trie.specs.tries.Tree.{IsCanonicalTree, tree_pairs};
 ghost use Rattle.rart.specs.Edits.{Deletes, Inserts, Removes};
 
 use rart_keys::{KeyTrait, Partial};
@@ -67,7 +67,7 @@ impl<K: KeyTrait, V: Drop> Drop for AdaptiveRadixTree<K, V> {
 }
 
 impl<K: KeyTrait, V> Model for AdaptiveRadixTree<K, V> {
-    ghost use Rattle.rart_nodes.specs.tries.Tree.{tree_nodes, tree_pairs};
+    ghost use Rattle.rart_trie.specs.tries.Tree.{tree_nodes, tree_pairs};
     ghost use Rattle.rart.specs.MapAndShape.{MapAndShape};
     ghost use Rattle.rart.specs.TreeFields.{AreTreeFields};
 

@@ -9,12 +9,12 @@ ghost use Rattle.rart_keys.specs.Filters.{longest_match};
 ghost use Rattle.rart_keys.specs.Ranges.{bound_in};
 ghost use Rattle.rart_keys.specs.SortedMap.{keys_of};
 ghost use Rattle.rart_nodes.specs.ranges.Spans.{cut_between};
-ghost use Rattle.rart_nodes.specs.walks.BelowPrefix.{MayLackMatch, cut_below};
-ghost use Rattle.rart_nodes.specs.walks.Cut.{cut_pairs};
+ghost use Rattle.rart_trie.specs.walks.BelowPrefix.{MayLackMatch, cut_below};
+ghost use Rattle.rart_trie.specs.walks.Cut.{cut_pairs};
 ghost use Rattle.rart_nodes.specs.walks.Viewed.{CanSeeFound, CanShowFound, CanView, SeesFound, ShowsFound};
 ghost use Rattle.rart_nodes.specs.walks.Viewed.{ViewsEachByValue};
 ghost use Rattle.rart_nodes.specs.walks.Viewed.{ViewsEach};
-ghost use Rattle.rart_nodes.specs.walks.Calls.{MayLackMemory};
+ghost use Rattle.rart_trie.specs.walks.Calls.{MayLackMemory};
 
 use crate::tree::AdaptiveRadixTree;
 use rart_keys::KeyTrait;

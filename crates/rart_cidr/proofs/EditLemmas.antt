@@ -8,7 +8,7 @@ use Rattle.rart_keys.specs.SortedMap.{IsAscending, count_of, lookup, put, withou
 use Rattle.rart_keys.proofs.ByteOrder.{bytes_eq-differ, bytes_eq-itself}
 use Rattle.rart_keys.proofs.SortedMaps.{ascending-put, equal_by_lookups, length-put, lookup-above, lookup-put_at}
 use Rattle.rart_keys.proofs.SortedMaps.{lookup-put_elsewhere}
-use Rattle.rart_nodes.specs.declared.refused.Refused.{Refused}
+use Rattle.rart_trie.specs.declared.refused.Refused.{Refused}
 use Rattle.rart_parts.specs.declared.error.TreeError.{TreeError}
 use Rattle.rart_parts.specs.declared.error.TreeError.TheVariants.{Memory, Full}
 use Rattle.rart.specs.Refusals.{MayRefuseInsert, MayRefuseRemove}

@@ -6,10 +6,10 @@ use Rattle.std.specs.Prelude.{◌≢◌, ◌==◌, is_some, if◌then◌else◌,
 use Rattle.std.specs.List.{cons_option, filter_map}
 use Rattle.rart_keys.specs.ByteStrings.{byte_after}
 use Rattle.rart_keys.specs.SortedMap.{keys_of}
-use Rattle.rart_nodes.specs.edits.InsertAllocations.{insert_allocates}
-use Rattle.rart_nodes.specs.edits.RemoveAllocations.{is_leaf_record, last_before, remove_allocates, shrinks}
-use Rattle.rart_nodes.specs.shapes.Shape.{NodeRecord, capacity_of, contains_key, next_bytes, record_at}
-use Rattle.rart_nodes.specs.shapes.Shape.{record_from, with_first, without_repeats}
+use Rattle.rart_trie.specs.edits.InsertAllocations.{insert_allocates}
+use Rattle.rart_trie.specs.edits.RemoveAllocations.{is_leaf_record, last_before, remove_allocates, shrinks}
+use Rattle.rart_trie.specs.shapes.Shape.{NodeRecord, capacity_of, contains_key, next_bytes, record_at}
+use Rattle.rart_trie.specs.shapes.Shape.{record_from, with_first, without_repeats}
 
 with_first-length : (x : ℕ) (xs : List ℕ) → length (with_first x xs) ≤ length xs + 1
 with_first-length x [] = omega arith

@@ -12,7 +12,7 @@ use Rattle.rart_keys.proofs.ByteOrder.{bytes_eq-differ}
 use Rattle.rart_keys.proofs.SortedMaps.{ascending-put, ascending-without, equal_by_lookups, length-put, lookup-above}
 use Rattle.rart_keys.proofs.SortedMaps.{lookup-put_at, lookup-put_elsewhere, lookup-without_at}
 use Rattle.rart_keys.proofs.SortedMaps.{lookup-without_elsewhere}
-use Rattle.rart_nodes.specs.edits.RemoveAllocations.{remove_allocates}
+use Rattle.rart_trie.specs.edits.RemoveAllocations.{remove_allocates}
 use Rattle.rart_cidr.specs.Bits.{code, network}
 use Rattle.rart_cidr.specs.Routes.{AreCodes, AreStrides, IsCode, coded_network, routes_of, set_stride, stride_at}
 use Rattle.rart_cidr.specs.Routes.{stride_or_empty, target_at, with_stride}

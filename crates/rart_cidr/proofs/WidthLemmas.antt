@@ -6,7 +6,7 @@ use Rattle.std.specs.Cmp.Lexicographic.{slice_cmp}
 use Rattle.std.specs.declared.cmp.Ordering.TheVariants.{Less, Equal, Greater}
 use Rattle.rart_keys.specs.ByteStrings.{bytes_eq}
 use Rattle.rart_keys.specs.SortedMap.{put, without}
-use Rattle.rart_nodes.specs.declared.refused.Refused.{Refused}
+use Rattle.rart_trie.specs.declared.refused.Refused.{Refused}
 use Rattle.rart_parts.specs.declared.error.TreeError.{TreeError}
 use Rattle.rart_cidr.specs.Edits.{InsertsRoute, RemovesRoute}
 use Rattle.rart_cidr.specs.Walks.{AreWithin}

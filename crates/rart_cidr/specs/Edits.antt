@@ -1,7 +1,7 @@
 -- What edits of a table return, and what follows of its routes and of its strides.
 use Rattle.std.specs.Prelude.{◌≡◌, ◌≢◌, ◌<◌, ◌≤◌, ◌⊎◌, ℕ, List, [], length, Option, Some, None, Result, Ok, Err}
 use Rattle.rart_keys.specs.SortedMap.{lookup, put, without}
-use Rattle.rart_nodes.specs.declared.refused.Refused.{Refused}
+use Rattle.rart_trie.specs.declared.refused.Refused.{Refused}
 use Rattle.rart_parts.specs.declared.error.TreeError.{TreeError}
 use Rattle.rart_parts.specs.declared.error.TreeError.TheVariants.{Memory, Full}
 use Rattle.rart.specs.declared.tree.TheConstants.{MAX_PAIRS}

@@ -1,6 +1,6 @@
 //! How many strides a longest match reads: rows of networks, what is sought, and the exact count.
 
-ghost use Rattle.rart_nodes.specs.walks.VisitCounts.{visit_count};
+ghost use Rattle.rart_trie.specs.walks.VisitCounts.{visit_count};
 
 use rart::{Count, Visits};
 use rart_cidr::{Cidr4, Cidr6, CidrTable4, CidrTable6};

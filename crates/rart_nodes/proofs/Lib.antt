@@ -1,11 +1,3 @@
-pub mod build
-pub mod edits
 pub mod joins
 pub mod ranges
-pub mod removals
-pub mod retentions
-pub mod shapes
-pub mod tree_stats
-pub mod storages
-pub mod tries
 pub mod walks

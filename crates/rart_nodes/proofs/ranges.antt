@@ -6,7 +6,6 @@ pub mod RangeCuts
 pub mod StartDescents
 pub mod StartLemmas
 pub mod StartPaths
-pub mod UnderLemmas
 pub mod UntilDescents
 pub mod UntilLemmas
 pub mod UntilPaths

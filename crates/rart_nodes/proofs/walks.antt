@@ -6,8 +6,6 @@ pub mod MatchLemmas
 pub mod PartCuts
 pub mod PartLemmas
 pub mod SegmentLemmas
-pub mod ProbeLemmas
-pub mod SeenLemmas
 pub mod ShownCuts
 pub mod EntryLemmas
 pub mod WalkLemmas

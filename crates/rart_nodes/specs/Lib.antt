@@ -1,9 +1,4 @@
-pub mod build
-pub mod edits
 pub mod joins
 pub mod ranges
-pub mod shapes
-pub mod stats
-pub mod storages
 pub mod tries
 pub mod walks

@@ -1,20 +1,15 @@
-//! The nodes of an Adaptive Radix Tree: storage, edits, counted reads of a shared tree, intersections and statistics.
+//! Counted reads of a shared Adaptive Radix Tree: look-ups, walks, iterators, ranges, intersections and equality.
 //!
-//! A contract reads a node as a trie, plain data that holds the whole subtree. The theorems are theorems on tries
-//! ([`laws`]), and the contract of each edit equates it with a function on them.
+//! `rart_trie` has the node, its edits and its statistics. Its public types are re-exported here, and `rart_shape` is
+//! [`shape`].
 #![tactic(auto)]
 
-mod count;
-pub mod laws;
 pub mod node;
-mod refused;
-pub mod shape;
-pub mod slot;
-pub mod stats;
 
-pub use count::{Count, Paired, Visits};
 pub use node::seen::Seen;
 pub use node::{LendingKeyBytes, LendingKeyView, VisitControl, VisitError, iter, range};
-pub use refused::{NotInserted, Refused};
-pub use slot::{Outcome, Slot, SlotUpdate, UpdateError};
-pub use stats::{NodeStats, TreeStats};
+pub use rart_shape as shape;
+pub use rart_trie::{
+    Count, NodeStats, NotInserted, Outcome, Paired, Refused, Slot, SlotUpdate, TreeStats,
+    UpdateError, Visits, slot, stats,
+};

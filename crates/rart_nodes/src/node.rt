@@ -1,104 +1,15 @@
-//! A node of the tree, a prefix, an optional value and children by edge byte, which a contract reads as a trie.
-ghost use Rattle.std.specs.Prelude.{◌≡◌, ◌+◌, ◌*◌, ◌≤◌, [], ◌∷◌, length};
-ghost use Rattle.std.specs.Option.{option_copied};
-ghost use Rattle.rart_keys.specs.SortedMap.{IsAscending, keys_of};
-ghost use Rattle.rart_nodes.specs.shapes.Shape.{HasShape};
-ghost use Rattle.rart_nodes.specs.tries.Trie.{IsCanonical, leaf, nodes_of, pairs_of, prefix_of, value_of, child_in};
+//! Reads of a shared tree, each node of which is visited by a counted step.
 
-use crate::node::storage::Storage;
-use rart_keys::Partial;
-use std::marker::Model;
-
-mod children;
-mod edits;
 mod ends;
 mod equal;
 mod intersect;
 pub mod iter;
-mod node_trait;
 pub mod range;
-mod rest;
 pub mod seen;
-mod storage;
 mod view;
 mod walk;
 mod walks;
 
-pub use children::NodeIter;
-pub use node_trait::Node;
+pub use rart_trie::node::{DefaultNode, Node, NodeIter};
 pub use view::{LendingKeyBytes, LendingKeyView};
 pub use walks::control::{VisitControl, VisitError};
-
-/// Holds a prefix, an optional value and children. The prefix of a child begins with its edge byte; only a root has an
-/// empty prefix.
-#[derive(Drop)]
-pub struct DefaultNode<P: Partial, V> {
-    prefix: P,
-    value: Option<V>,
-    storage: Storage<DefaultNode<P, V>>,
-}
-
-impl<P: Partial, V> Model for DefaultNode<P, V> {
-    ghost use Rattle.rart_nodes.specs.tries.Trie.{Trie, node};
-    ghost use Rattle.rart_nodes.specs.tries.TrieCode.{trie_code, as_children, node_count};
-
-    ghost Value = { Trie V };
-
-    ghost coded = { trie_code V.code };
-
-    ghost use Rattle.rart_nodes.specs.storages.Stored.{child_entries, storage_capacity};
-
-    ghost view = { λ a. node (P.bytes a.prefix) a.value (storage_capacity a.storage)
-        (as_children (child_entries a.storage)) };
-
-    ghost size = { node_count };
-
-    ghost use Rattle.rart_nodes.specs.storages.StoredFalls.{deep_le-stored};
-
-    ghost size_decreases = { λ a h. deep_le-stored P.Partial a.prefix a.value a.storage };
-}
-
-impl<P: Partial, V> DefaultNode<P, V> {
-    /// Returns a node without children that holds `value`. It does not allocate.
-    pub fn new_leaf(prefix: P, value: V) -> Self
-        ensures leaf { result ≡ leaf (P.bytes prefix) value }
-        ensures canonical { IsCanonical result }
-        ensures pairs { pairs_of result ≡ (P.bytes prefix, value) ∷ [] }
-    {
-        DefaultNode {
-            prefix,
-            value: Some(value),
-            storage: Storage::empty(),
-        }
-    }
-
-    /// Returns the value of the node.
-    pub fn value(&self) -> Option<&V>
-        ensures { option_copied result ≡ value_of self.now }
-    {
-        self.value.as_ref()
-    }
-
-    /// Returns the prefix of the node.
-    pub(crate) fn prefix(&self) -> &P
-        ensures { P.bytes result.now ≡ prefix_of self.now }
-    {
-        &self.prefix
-    }
-
-    /// Returns the child at byte `b`.
-    pub fn seek_child(&self, b: u8) -> Option<&Self>
-        ensures { option_copied result ≡ child_in b self.now }
-    {
-        self.storage.seek_child(b)
-    }
-
-    /// Proves that the pairs of a canonical node ascend and that its nodes are exactly the branch points of its keys.
-    /// A tree of `n` keys has at most `2 * n - 1` nodes.
-    pub fn canonical(&self)
-        requires { IsCanonical self.now }
-        ensures ascending { IsAscending (pairs_of self.now) }
-        ensures shape { HasShape (keys_of (pairs_of self.now)) (nodes_of self.now) }
-        ensures few_nodes { length (nodes_of self.now) + 1 ≤ 2 * length (pairs_of self.now) }
-    {}
-}

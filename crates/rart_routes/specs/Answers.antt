@@ -4,8 +4,8 @@ use Rattle.std.specs.Prelude.{Option, Some, None, Result, Ok, Err}
 use Rattle.std.specs.Io.KnownBytes.{Appends}
 use Rattle.rart_keys.specs.ArrayKeyBytes.{array_key_bytes}
 use Rattle.rart_keys.specs.declared.keys.array_key.ArrayKey.{ArrayKey}
-use Rattle.rart_nodes.specs.declared.refused.Refused.{Refused}
-use Rattle.rart_nodes.specs.walks.Calls.{MayLackMemory}
+use Rattle.rart_trie.specs.declared.refused.Refused.{Refused}
+use Rattle.rart_trie.specs.walks.Calls.{MayLackMemory}
 use Rattle.rart_parts.specs.declared.error.TreeError.{TreeError}
 use Rattle.rart_parts.specs.declared.error.TreeError.TheVariants.{Memory, Full}
 use Rattle.rart_routes.specs.Net.{net_bits, net_text}

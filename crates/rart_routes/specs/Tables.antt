@@ -6,8 +6,8 @@ use Rattle.std.specs.declared.net.ip_addr.IpAddr.TheVariants as addr
 use Rattle.rart_keys.specs.Filters.{below, longest_match, matches}
 use Rattle.rart_keys.specs.SortedMap.{lookup}
 use Rattle.rart_keys.specs.declared.keys.array_key.ArrayKey.{ArrayKey}
-use Rattle.rart_nodes.specs.declared.refused.Refused.{Refused}
-use Rattle.rart_nodes.specs.walks.Calls.{MayLackMemory}
+use Rattle.rart_trie.specs.declared.refused.Refused.{Refused}
+use Rattle.rart_trie.specs.walks.Calls.{MayLackMemory}
 use Rattle.rart_parts.specs.declared.error.TreeError.{TreeError}
 use Rattle.rart_cidr.specs.Bits.{bits_of}
 use Rattle.rart_cidr.specs.Edits.{InsertsRoute, RemovesRoute}

@@ -1,7 +1,7 @@
 //! The routes of a script.
 ghost use Rattle.std.specs.Prelude.{◌≡◌, ◌+◌, length, option_map, IfErr, IfOk};
 ghost use Rattle.std.specs.Option.{option_copied};
-ghost use Rattle.rart_nodes.specs.walks.Calls.{MayLackMemory};
+ghost use Rattle.rart_trie.specs.walks.Calls.{MayLackMemory};
 ghost use Rattle.rart_routes.specs.Found.{found_left};
 ghost use Rattle.rart_routes.specs.Net.{net_bits};
 ghost use Rattle.rart_routes.specs.Tables.{Inserts, MayLackMemoryAt, Removes};

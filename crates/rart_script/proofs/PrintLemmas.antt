@@ -3,8 +3,8 @@ use Rattle.std.proofs.Common.{◌≡◌, ℕ, List, [], ◌∷◌, ◌++◌, Opt
 use Rattle.std.specs.Prelude.{map}
 use Rattle.std.specs.Io.KnownBytes.{Appends}
 use Rattle.std.specs.List.{concat, join_with_byte}
-use Rattle.rart_nodes.specs.stats.Stats.{KeyStats}
-use Rattle.rart_nodes.specs.declared.stats.NodeStats.{NodeStats}
+use Rattle.rart_trie.specs.stats.Stats.{KeyStats}
+use Rattle.rart_trie.specs.declared.stats.NodeStats.{NodeStats}
 use Rattle.rart_script.specs.Answers.{pair_word, pairs_line}
 use Rattle.rart_script.specs.Stats.{width_word, sums_text, stats_line}
 use Rattle.rart_lines.proofs.PrintLemmas.{HasPrinted, print-begins, print-continues, print-ends}

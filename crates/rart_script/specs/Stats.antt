@@ -1,8 +1,8 @@
 -- How the statistics of a tree are written.
 use Rattle.std.specs.Prelude.{ℕ, [], ◌∷◌, ◌++◌, List, map, codes, decimal}
 use Rattle.std.specs.List.{concat}
-use Rattle.rart_nodes.specs.stats.Stats.{KeyStats}
-use Rattle.rart_nodes.specs.declared.stats.NodeStats.{NodeStats}
+use Rattle.rart_trie.specs.stats.Stats.{KeyStats}
+use Rattle.rart_trie.specs.declared.stats.NodeStats.{NodeStats}
 
 -- the nodes of one width and their children, after a space
 abbrev pub width_word : ℕ × NodeStats → List ℕ

@@ -1,7 +1,7 @@
 //! The line of the statistics of a tree.
 ghost use Rattle.std.specs.Prelude.{OnOk};
 ghost use Rattle.std.specs.Io.KnownBytes.{Appends};
-ghost use Rattle.rart_nodes.specs.stats.Stats.{stats_in};
+ghost use Rattle.rart_trie.specs.stats.Stats.{stats_in};
 ghost use Rattle.rart_script.specs.Stats.{stats_line, sums_text};
 
 use rart::TreeStats;

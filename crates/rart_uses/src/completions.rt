@@ -1,7 +1,7 @@
 //! Autocomplete: the words that begin with what was typed.
 ghost use Rattle.std.specs.Prelude.{◌≡◌, ◌≤◌, length, IfErr, IfOk};
 ghost use Rattle.rart_keys.specs.Filters.{below};
-ghost use Rattle.rart_nodes.specs.walks.Calls.{MayLackMemory};
+ghost use Rattle.rart_trie.specs.walks.Calls.{MayLackMemory};
 
 use rart::iter::Iter;
 use rart::{AdaptiveRadixTree, ArrPartial, ArrayKey, KeyTrait, TreeError};

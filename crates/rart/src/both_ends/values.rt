@@ -3,7 +3,7 @@ ghost use Rattle.std.specs.Prelude.{◌≡◌, length, Some, IfErr, IfOk, IfSome
 ghost use Rattle.std.specs.Iterator.{UpTo, YieldsFirstBy, YieldsLastBy, item_count};
 ghost use Rattle.std.specs.Iterator.SizeHint.{IsWithinCount};
 ghost use Rattle.rart_keys.specs.SortedMap.{values_of};
-ghost use Rattle.rart_nodes.specs.walks.Calls.{MayLackMemory};
+ghost use Rattle.rart_trie.specs.walks.Calls.{MayLackMemory};
 
 use crate::tree::AdaptiveRadixTree;
 use rart_keys::KeyTrait;

@@ -2,7 +2,7 @@
 ghost use Rattle.std.specs.Prelude.{◌≡◌, None, IfErr, IfOk, OnErr, option_map, slice_get};
 ghost use Rattle.std.specs.Option.{IsSomeAnd};
 ghost use Rattle.rart_keys.specs.Filters.{last_or};
-ghost use Rattle.rart_nodes.specs.edits.Pops.{PopsFirst, PopsLast};
+ghost use Rattle.rart_trie.specs.edits.Pops.{PopsFirst, PopsLast};
 ghost use Rattle.rart.specs.Refusals.{MayRefuseRemove};
 
 use crate::routes::RouteTable;

@@ -5,10 +5,10 @@
 
 ghost use Rattle.std.specs.Prelude.{◌≡◌, IfErr, OnErr, OnOk};
 ghost use Rattle.rart_keys.specs.Filters.{matches};
-ghost use Rattle.rart_nodes.specs.walks.BelowPrefix.{cut_below};
+ghost use Rattle.rart_trie.specs.walks.BelowPrefix.{cut_below};
 ghost use Rattle.rart_nodes.specs.walks.Matched.{CanMatch, MatchesEachByValue, MatchesEach};
 ghost use Rattle.rart_nodes.specs.walks.Viewed.{CanView, ViewsEachByValue, ViewsEach};
-ghost use Rattle.rart_nodes.specs.walks.Calls.{MayLackMemory};
+ghost use Rattle.rart_trie.specs.walks.Calls.{MayLackMemory};
 
 use crate::routes::RouteTable;
 use rart_keys::KeyTrait;

@@ -2,7 +2,7 @@
 ghost use Rattle.std.specs.Prelude.{◌≡◌, IfErr, IfOk};
 ghost use Rattle.rart_keys.specs.Ranges.{between, bound_in};
 ghost use Rattle.rart.specs.Steps.{IsStep, pairs_in};
-ghost use Rattle.rart_nodes.specs.walks.Calls.{MayLackMemory};
+ghost use Rattle.rart_trie.specs.walks.Calls.{MayLackMemory};
 
 use super::{Call, Reply};
 use crate::tree::AdaptiveRadixTree;

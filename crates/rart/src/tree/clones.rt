@@ -26,7 +26,7 @@ impl<K: KeyTrait + Drop, V: Clone> Clone for AdaptiveRadixTree<K, V> {
     /// cloned until then is dropped.
     fn clone(&self) -> Result<Self, AllocError> {
         self.canonical();
-        rart_nodes::laws::one_shape();
+        rart_laws::one_shape();
         let (keys, values) = read_clones(self)?;
         let Ok(tree) = AdaptiveRadixTree::of_keys_and_values(self.alloc, &keys, values) else {
             return Err(AllocError);

@@ -1,7 +1,7 @@
 //! Removal of all pairs that a callback rejects.
 ghost use Rattle.std.specs.Prelude.{◌≡◌, IfErr};
 ghost use Rattle.rart_parts.specs.Errors.{IsMemory};
-ghost use Rattle.rart_nodes.specs.edits.Retentions.{CanRetain, RetainsByValue, Retains};
+ghost use Rattle.rart_trie.specs.edits.Retentions.{CanRetain, RetainsByValue, Retains};
 
 use crate::tree::{AdaptiveRadixTree, length_kept};
 use rart_keys::KeyTrait;

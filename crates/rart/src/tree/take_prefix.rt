@@ -1,6 +1,6 @@
 //! Removal of all pairs whose key begins with a prefix.
 ghost use Rattle.std.specs.Prelude.{◌≡◌, ◌+◌, ◌≤◌, OnErr};
-ghost use Rattle.rart_nodes.specs.walks.BelowPrefix.{below_bound};
+ghost use Rattle.rart_trie.specs.walks.BelowPrefix.{below_bound};
 ghost use Rattle.rart.specs.Edits.{RemovesPrefix, TakesPrefix};
 
 use crate::tree::{AdaptiveRadixTree, length_kept};

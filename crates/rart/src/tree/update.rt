@@ -3,11 +3,11 @@
 ghost use Rattle.std.specs.Prelude.{◌≡◌, ◌≢◌, None, Option, Some, Result, Ok, Err, IfOk, OnErr};
 ghost use Rattle.std.specs.Fn.{FnOnceReturnsAtMut, FnOnceTakesAtMut};
 ghost use Rattle.rart_keys.specs.SortedMap.{keys_of, lookup, put};
-ghost use Rattle.rart_nodes.specs.declared.slot.Slot.TheVariants.{Occupied as Occupied_slot};
-ghost use Rattle.rart_nodes.specs.declared.slot.SlotUpdate.{SlotUpdate};
-ghost use Rattle.rart_nodes.specs.shapes.Shape.{HasShape};
-ghost use Rattle.rart_nodes.specs.edits.Callbacks.{AnswersSo, KeepsSlot, KeepsSlotReturning};
-ghost use Rattle.rart_nodes.specs.edits.Slots.{slot_of};
+ghost use Rattle.rart_trie.specs.declared.slot.Slot.TheVariants.{Occupied as Occupied_slot};
+ghost use Rattle.rart_trie.specs.declared.slot.SlotUpdate.{SlotUpdate};
+ghost use Rattle.rart_trie.specs.shapes.Shape.{HasShape};
+ghost use Rattle.rart_trie.specs.edits.Callbacks.{AnswersSo, KeepsSlot, KeepsSlotReturning};
+ghost use Rattle.rart_trie.specs.edits.Slots.{slot_of};
 ghost use Rattle.rart.specs.Updates.{Attempts, EndsIn, IsAttempt, KeepsSlotIfOk, TriesUpdate, Updates};
 ghost use Rattle.rart.specs.Updates.{UpdatesReturning};
 ghost use Rattle.rart.specs.Updates.{touched_in};
@@ -16,7 +16,7 @@ ghost use Rattle.rart.specs.declared.tree.update.TryUpdateError.TheVariants.{Clo
 use crate::tree::{AdaptiveRadixTree, MAX_PAIRS, length_kept};
 use rart_keys::KeyTrait;
 use rart_keys::laws::sorted_map;
-use rart_nodes::laws::put_back;
+use rart_laws::put_back;
 use rart_nodes::node::DefaultNode;
 use rart_nodes::{Outcome, Refused, Slot, SlotUpdate, UpdateError};
 use std::alloc::AllocError;

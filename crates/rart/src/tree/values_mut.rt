@@ -1,8 +1,8 @@
 //! Walks that change values in place.
 ghost use Rattle.std.specs.Prelude.{◌≡◌, []};
 ghost use Rattle.rart_keys.specs.SortedMap.{values_of};
-ghost use Rattle.rart_nodes.specs.edits.ValueChanges.{CanLend, ChangesBelowByValue, ChangesBelow};
-ghost use Rattle.rart_nodes.specs.walks.BelowPrefix.{values_below};
+ghost use Rattle.rart_trie.specs.edits.ValueChanges.{CanLend, ChangesBelowByValue, ChangesBelow};
+ghost use Rattle.rart_trie.specs.walks.BelowPrefix.{values_below};
 
 use crate::tree::AdaptiveRadixTree;
 use rart_keys::KeyTrait;

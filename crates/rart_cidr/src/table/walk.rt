@@ -8,7 +8,7 @@ ghost use Rattle.std.specs.Prelude.{◌≡◌, ◌≤◌, ◌*◌, [], ◌∷◌
 ghost use Rattle.rart_keys.specs.KeyBytes.{IsWithin};
 ghost use Rattle.rart_keys.specs.Ranges.{bound_in, pairs_from, up_to};
 ghost use Rattle.rart_keys.specs.SortedMap.{keys_of};
-ghost use Rattle.rart_nodes.specs.walks.Calls.{MayLackMemory};
+ghost use Rattle.rart_trie.specs.walks.Calls.{MayLackMemory};
 ghost use Rattle.rart_cidr.specs.Advances.{Advances};
 ghost use Rattle.rart_cidr.specs.Bits.{AreClearAfter, bits_of, network};
 ghost use Rattle.rart_cidr.specs.Routes.{IsCode, coded_network};

@@ -4,7 +4,7 @@ ghost use Rattle.std.specs.Iterator.{YieldsFirstBy, item_count};
 ghost use Rattle.rart_keys.specs.ArrayKeyBytes.{array_key_bytes};
 ghost use Rattle.rart_keys.specs.Filters.{below};
 ghost use Rattle.rart_keys.specs.KeyBytes.{AreBytes};
-ghost use Rattle.rart_nodes.specs.walks.Calls.{MayLackMemory};
+ghost use Rattle.rart_trie.specs.walks.Calls.{MayLackMemory};
 ghost use Rattle.rart_cidr.specs.Bits.{bits_of, code_bits};
 ghost use Rattle.rart_cidr.specs.Networks.{bits4};
 ghost use Rattle.rart_cidr.specs.Routes.{IsCode, coded_network};

@@ -4,19 +4,19 @@ use Rattle.std.proofs.Common.{length-append, drop, Some, None, refl, arith, sym,
 use Rattle.rart_keys.specs.SortedMap.{longest_key}
 use Rattle.rart_keys.proofs.ByteOrder.{eq-yes, eq-no}
 use Rattle.rart_nodes.specs.joins.Intersections.{intersect_nodes, with_rest}
-use Rattle.rart_nodes.specs.tries.PrefixLaws.{prefix-none, prefix-twice}
+use Rattle.rart_trie.specs.tries.PrefixLaws.{prefix-none, prefix-twice}
 use Rattle.rart_nodes.specs.joins.SharedEdges.{more_visits}
 use Rattle.rart_nodes.specs.joins.SharedChildren.{shared_right, visits_all, IsAligned}
-use Rattle.rart_nodes.specs.tries.CanonicalTest.{is_canonical}
-use Rattle.rart_nodes.specs.tries.Trie.{Trie, node, Children, child, prefix_of, value_of, children_in, children_pairs}
-use Rattle.rart_nodes.specs.tries.Trie.{pairs_of, with_prefix, own_pair, StartsWith, child_in}
-use Rattle.rart_nodes.specs.tries.TrieCode.{child_count, node_count}
+use Rattle.rart_trie.specs.tries.CanonicalTest.{is_canonical}
+use Rattle.rart_trie.specs.tries.Trie.{Trie, node, Children, child, prefix_of, value_of, children_in, children_pairs}
+use Rattle.rart_trie.specs.tries.Trie.{pairs_of, with_prefix, own_pair, StartsWith, child_in}
+use Rattle.rart_trie.specs.tries.TrieCode.{child_count, node_count}
 use Rattle.rart_nodes.proofs.joins.IntersectSteps.{Turn, met, met_visits, turn-common, turn-apart, turn-left}
 use Rattle.rart_nodes.proofs.joins.IntersectSteps.{turn-right, turn-both, with_rest-whole}
-use Rattle.rart_nodes.proofs.tries.CanonicalTests.{IsCanonical-test, longest_key-append, longest_key-after}
-use Rattle.rart_nodes.proofs.tries.NodeCounts.{some-after}
-use Rattle.rart_nodes.proofs.walks.SeenLemmas.{child-falls, longest-of}
-use Rattle.rart_nodes.proofs.tries.Descents.{child-first}
+use Rattle.rart_trie.proofs.tries.CanonicalTests.{IsCanonical-test, longest_key-append, longest_key-after}
+use Rattle.rart_trie.proofs.tries.NodeCounts.{some-after}
+use Rattle.rart_trie.proofs.tries.StepLemmas.{child-falls, longest-of}
+use Rattle.rart_trie.proofs.tries.Descents.{child-first}
 
 -- a test for an empty string
 nil-of : (q : List ℕ) → true ≡ (length q == 0) → q ≡ []
@@ -40,6 +40,16 @@ some-count (node p v n cs) = omega arith
 pub fewer-left : {V : Type 0} (b : ℕ) (t : Trie V) (cs ds : Children V) → cs ≡ child b t ds
     → child_count ds < child_count cs
 fewer-left b t cs ds e = rw e (omega (arith, some-count t))
+
+-- a child that is left has fewer nodes
+pub fewer-below : {V : Type 0} (t u : Trie V) (b : ℕ) (cs ds : Children V) → cs ≡ child b u ds
+    → child_count cs ≤ child_count (children_in t) → node_count u < node_count t
+fewer-below (node p v n es) u b cs ds e h = omega (arith, h, ap child_count e)
+
+-- n is counted once k nodes and those of the next child are
+pub counted-next : {V : Type 0} (t u : Trie V) (b : ℕ) (cs ds : Children V) (n m k : ℕ) → cs ≡ child b u ds
+    → k + child_count cs ≤ m + child_count (children_in t) → n ≤ k + node_count u → n + 1 ≤ m + node_count t
+counted-next (node p v w es) u b cs ds n m k e h l = omega (arith, h, l, ap child_count e)
 
 -- lengths of keys
 module _ {V : Type 0} where

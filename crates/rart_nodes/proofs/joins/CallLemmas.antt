@@ -8,14 +8,14 @@ use Rattle.rart_nodes.specs.declared.node.intersect.join_path.JoinPath.TheVarian
 use Rattle.rart_nodes.specs.declared.node.view.LendingKeyView.{LendingKeyView}
 use Rattle.rart_nodes.specs.joins.Visitors.{CanGive, CanGiveKeys, CanGiveValues, CanGiveViews, GivenKeys, GivenValues}
 use Rattle.rart_nodes.specs.joins.Visitors.{GivenViews}
-use Rattle.rart_nodes.specs.tries.PrefixLaws.{values-append}
+use Rattle.rart_trie.specs.tries.PrefixLaws.{values-append}
 use Rattle.rart_nodes.specs.joins.PairCalls.{CallsAtEach, CallsWithEach}
 use Rattle.rart_nodes.specs.joins.ViewCalls.{ViewsAtEach}
-use Rattle.rart_nodes.specs.walks.Calls.{CallableAtEach}
-use Rattle.rart_nodes.specs.walks.Walk.{joined_bytes}
+use Rattle.rart_trie.specs.walks.Calls.{CallableAtEach}
+use Rattle.rart_trie.specs.walks.Walk.{joined_bytes}
 use Rattle.rart_nodes.specs.walks.PathParts.{lent_segments}
 use Rattle.rart_nodes.proofs.joins.VisitorLemmas.{given-whole}
-use Rattle.rart_nodes.proofs.walks.CallLemmas.{always-on, folds-keep}
+use Rattle.rart_trie.proofs.edits.CallbackLemmas.{always-on, folds-keep}
 
 pub can-values : {F X : Type 0} (r : F → X → F → Type 0) (q : F → X → Type 0) (f : F) (es : List (List ℕ × X))
     → CallableAtEach r q f (values_of es) → CanGive (CanGiveValues q) (GivenValues r) Nothing f es

@@ -3,14 +3,14 @@ use Rattle.std.proofs.Common.{◌≡◌, ℕ, ◌<◌, ◌==◌, ◌||◌, ◌&&
 use Rattle.std.proofs.Common.{sym, ap, ◌∙◌, arith, Option, Some, None, is_some, if◌then◌else◌}
 use Rattle.std.proofs.Math.Bool.{and-false, or-false}
 use Rattle.rart_keys.specs.SortedMap.{lookup}
-use Rattle.rart_nodes.specs.tries.Trie.{Trie, node, Children, no_children, child, trie_lookup, child_lookup}
-use Rattle.rart_nodes.specs.tries.Trie.{with_records, children_with_records, with_prefix, prefix_of, StartsWith}
-use Rattle.rart_nodes.specs.tries.Trie.{IsCanonical, AreCanonical}
+use Rattle.rart_trie.specs.tries.Trie.{Trie, node, Children, no_children, child, trie_lookup, child_lookup}
+use Rattle.rart_trie.specs.tries.Trie.{with_records, children_with_records, with_prefix, prefix_of, StartsWith}
+use Rattle.rart_trie.specs.tries.Trie.{IsCanonical, AreCanonical}
 use Rattle.rart_nodes.specs.joins.Intersections.{Pairing, intersect_each, pair_child, pair_down, pair_in, pair_tries}
 use Rattle.rart_nodes.specs.joins.SharedEdges.{above}
 use Rattle.rart_keys.proofs.ByteOrder.{order, is_less, is_equal, is_greater, eq-yes, eq-no, equal_or_not}
-use Rattle.rart_nodes.proofs.tries.PairLemmas.{or_else, lookup-append}
-use Rattle.rart_nodes.proofs.tries.LongerPrefix.{longer}
+use Rattle.rart_trie.proofs.tries.PairLemmas.{or_else, lookup-append}
+use Rattle.rart_trie.proofs.tries.LongerPrefix.{longer}
 use Rattle.rart_nodes.proofs.joins.IntersectLemmas.{lookup-step, lookup-step_nil}
 use Rattle.rart_nodes.proofs.joins.Reach.{reaches, reaches_child}
 

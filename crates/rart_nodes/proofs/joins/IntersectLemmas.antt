@@ -4,20 +4,20 @@ use Rattle.std.proofs.Common.{◌≡◌, ℕ, Less, Equal, Greater, ◌==◌, �
 use Rattle.std.proofs.Common.{◌∙◌, arith, Option, Some, None, if◌then◌else◌}
 use Rattle.rart_keys.specs.ByteStrings.{bytes_eq}
 use Rattle.rart_keys.specs.SortedMap.{IsAscending, lookup}
-use Rattle.rart_nodes.specs.tries.Trie.{Trie, node, Children, no_children, child, trie_lookup, child_lookup, pairs_of}
-use Rattle.rart_nodes.specs.tries.Trie.{with_prefix, prefix_of, StartsWith, IsCanonical, AreCanonical}
+use Rattle.rart_trie.specs.tries.Trie.{Trie, node, Children, no_children, child, trie_lookup, child_lookup, pairs_of}
+use Rattle.rart_trie.specs.tries.Trie.{with_prefix, prefix_of, StartsWith, IsCanonical, AreCanonical}
 use Rattle.rart_keys.specs.Joins.{both, join}
 use Rattle.rart_keys.proofs.JoinsOfMaps.{both-none, join-ascends, lookup-join}
 use Rattle.rart_nodes.specs.joins.Intersections.{intersect_each, intersect_in, intersect_down, intersect_nodes}
 use Rattle.rart_nodes.specs.joins.Intersections.{intersect_child}
 use Rattle.rart_keys.proofs.ByteOrder.{order, is_less, is_equal, is_greater, eq-yes, eq-no, equal_or_not}
 use Rattle.rart_keys.proofs.SortedMaps.{equal_by_lookups}
-use Rattle.rart_nodes.proofs.tries.FirstBytes.{AllFirst, AllFrom, ascending-append, ascending-with_prefix}
-use Rattle.rart_nodes.proofs.tries.FirstBytes.{all_from-first, all_first-looks}
-use Rattle.rart_nodes.proofs.tries.PairLemmas.{or_none, lookup-append, lookup-pairs_of, pairs_of-ascend, lookup-nil}
-use Rattle.rart_nodes.proofs.tries.PairLemmas.{lookup-own_pair, trie_lookup-other, trie_lookup-nil, child_lookup-low}
-use Rattle.rart_nodes.proofs.tries.PairLemmas.{ascending-own_pair}
-use Rattle.rart_nodes.proofs.tries.LongerPrefix.{trie_lookup-longer}
+use Rattle.rart_trie.proofs.tries.FirstBytes.{AllFirst, AllFrom, ascending-append, ascending-with_prefix}
+use Rattle.rart_trie.proofs.tries.FirstBytes.{all_from-first, all_first-looks}
+use Rattle.rart_trie.proofs.tries.PairLemmas.{or_none, lookup-append, lookup-pairs_of, pairs_of-ascend, lookup-nil}
+use Rattle.rart_trie.proofs.tries.PairLemmas.{lookup-own_pair, trie_lookup-other, trie_lookup-nil, child_lookup-low}
+use Rattle.rart_trie.proofs.tries.PairLemmas.{ascending-own_pair}
+use Rattle.rart_trie.proofs.tries.LongerPrefix.{trie_lookup-longer}
 
 pub lookup-step : {X : Type 0} (x y : ℕ) (k : List ℕ) (es : List (List ℕ × X))
     → lookup (y ∷ k) (with_prefix (x ∷ []) es) ≡ (if x == y then lookup k es else None)

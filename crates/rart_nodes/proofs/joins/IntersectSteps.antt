@@ -6,14 +6,14 @@ use Rattle.rart_keys.specs.Joins.{both}
 use Rattle.rart_keys.proofs.ByteOrder.{order, is_less, is_equal, is_greater, eq-yes, eq-no}
 use Rattle.rart_nodes.specs.joins.Intersections.{intersect_prefixes, intersect_each, intersect_down, intersect_nodes}
 use Rattle.rart_nodes.specs.joins.Intersections.{intersect_child, with_rest}
-use Rattle.rart_nodes.specs.tries.PrefixLaws.{prefix-none, prefix-twice}
+use Rattle.rart_trie.specs.tries.PrefixLaws.{prefix-none, prefix-twice}
 use Rattle.rart_nodes.specs.joins.SharedEdges.{count_prefixes, visits_each, visits_down, more_visits, visits_child}
 use Rattle.rart_nodes.specs.joins.SharedChildren.{shared_child_if, shared_right, intersect_all, visits_all}
-use Rattle.rart_nodes.specs.tries.CanonicalTest.{is_canonical}
-use Rattle.rart_nodes.specs.tries.Trie.{Trie, node, Children, no_children, child, prefix_of, value_of, children_in}
-use Rattle.rart_nodes.specs.tries.Trie.{with_prefix, own_pair, AreCanonical, child_of, child_in}
-use Rattle.rart_nodes.proofs.tries.CanonicalTests.{IsCanonical-test}
-use Rattle.rart_nodes.proofs.tries.Descents.{child_of-low}
+use Rattle.rart_trie.specs.tries.CanonicalTest.{is_canonical}
+use Rattle.rart_trie.specs.tries.Trie.{Trie, node, Children, no_children, child, prefix_of, value_of, children_in}
+use Rattle.rart_trie.specs.tries.Trie.{with_prefix, own_pair, AreCanonical, child_of, child_in}
+use Rattle.rart_trie.proofs.tries.CanonicalTests.{IsCanonical-test}
+use Rattle.rart_trie.proofs.tries.Descents.{child_of-low}
 
 pub with_rest-whole : {V : Type 0} (p : List ℕ) (t : Trie V) → p ≡ prefix_of t → with_rest p t ≡ t
 with_rest-whole p (node q v n cs) e = ap (λ z. node z v n cs) e

@@ -4,9 +4,9 @@ use Rattle.std.proofs.Common.{◌≡◌, ℕ, ◌+◌, ◌≤◌, ◌==◌, ⊎_
 use Rattle.std.proofs.Common.{refl, sym, ap, ◌∙◌, arith, Option, if◌then◌else◌, Less, Equal, Greater}
 use Rattle.std.proofs.lemmas.List.{length-map}
 use Rattle.rart_keys.specs.SortedMap.{keys_of}
-use Rattle.rart_nodes.specs.tries.Trie.{Trie, node, Children, no_children, child, pairs_of, with_prefix}
-use Rattle.rart_nodes.specs.tries.Trie.{nodes_of, IsCanonical, AreCanonical}
-use Rattle.rart_nodes.specs.tries.TrieCode.{child_count, node_count}
+use Rattle.rart_trie.specs.tries.Trie.{Trie, node, Children, no_children, child, pairs_of, with_prefix}
+use Rattle.rart_trie.specs.tries.Trie.{nodes_of, IsCanonical, AreCanonical}
+use Rattle.rart_trie.specs.tries.TrieCode.{child_count, node_count}
 use Rattle.rart_nodes.specs.joins.Intersections.{intersect_each}
 use Rattle.rart_nodes.specs.joins.SharedEdges.{shared_edges, visits_each, visits_in, visits_down, more_visits}
 use Rattle.rart_nodes.specs.joins.SharedEdges.{visits_child, intersect_visits}
@@ -14,7 +14,7 @@ use Rattle.rart_keys.proofs.ByteOrder.{order, is_less, is_equal, is_greater}
 use Rattle.rart_nodes.proofs.joins.AlignmentLemmas.{some-count}
 use Rattle.rart_nodes.proofs.joins.EdgeLemmas.{edges_in, edges_down, edges, edges_child}
 use Rattle.rart_nodes.proofs.joins.SharedLemmas.{edges-shared}
-use Rattle.rart_nodes.proofs.tree_stats.CountedStats.{node_count-nodes_of}
+use Rattle.rart_trie.proofs.tree_stats.CountedStats.{node_count-nodes_of}
 
 abbrev Counts : {W : Type 0} → (ℕ → Trie W → ℕ) → (ℕ → Trie W → List (List ℕ × Unit {0})) → Type 0
 Counts {W} g f = (b : ℕ) (u : Trie W) → g b u ≡ length (f b u)

@@ -10,7 +10,7 @@ use Rattle.rart_keys.proofs.ByteOrder.{eq-yes}
 use Rattle.rart_nodes.specs.joins.JoinPaths.{Kept, PathGrown, PathCut, BytesGrown, BytesCut, SegmentsGrown, SegmentsCut}
 use Rattle.rart_nodes.specs.joins.JoinPaths.{path_mark}
 use Rattle.rart_nodes.specs.walks.SegmentLaws.{joined-append, full-append}
-use Rattle.rart_nodes.specs.walks.Walk.{joined_bytes}
+use Rattle.rart_trie.specs.walks.Walk.{joined_bytes}
 use Rattle.rart_nodes.specs.walks.PathParts.{lent_segments}
 use Rattle.rart_nodes.specs.walks.ViewSegments.{all_have_bytes}
 

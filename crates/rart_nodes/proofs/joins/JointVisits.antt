@@ -6,12 +6,12 @@ use Rattle.rart_keys.specs.Joins.{join}
 use Rattle.rart_keys.proofs.JoinsOfMaps.{join-nil}
 use Rattle.rart_nodes.specs.joins.Intersections.{intersect_nodes}
 use Rattle.rart_nodes.specs.joins.SharedEdges.{shared_edges, joint_visits, more_visits}
-use Rattle.rart_nodes.specs.tries.Tree.{tree_nodes, tree_pairs, IsCanonicalTree}
-use Rattle.rart_nodes.specs.tries.Trie.{Trie, pairs_of}
+use Rattle.rart_trie.specs.tries.Tree.{tree_nodes, tree_pairs, IsCanonicalTree}
+use Rattle.rart_trie.specs.tries.Trie.{Trie, pairs_of}
 use Rattle.rart_nodes.proofs.joins.IntersectLemmas.{intersect_nodes-join}
 use Rattle.rart_nodes.proofs.joins.IntersectSteps.{met_visits}
 use Rattle.rart_nodes.proofs.joins.IntersectVisits.{visits-shared, visits_below_nodes}
-use Rattle.rart_nodes.proofs.tries.NodeCounts.{some-pairs}
+use Rattle.rart_trie.proofs.tries.NodeCounts.{some-pairs}
 
 joint-none : {V : Type 0} (l : List (List ℕ × V)) → joint_visits (keys_of l) [] ≡ 0
 joint-none [] = refl

@@ -5,7 +5,7 @@ use Rattle.std.proofs.lemmas.List.{append_assoc, take-append-drop, length-take-l
 use Rattle.std.proofs.Math.Seq.{take-append_seam}
 use Rattle.rart_keys.specs.CommonPrefix.{IsCommonPrefixLength}
 use Rattle.rart_nodes.specs.joins.SharedChildren.{IsParted}
-use Rattle.rart_nodes.proofs.tries.PrefixedStrings.{slice_from-is}
+use Rattle.rart_trie.proofs.tries.PrefixedStrings.{slice_from-is}
 
 -- one byte more is taken
 take-more : (l w k : List ℕ) (x n : ℕ) → l ≡ w ++ x ∷ k → length w ≡ n → take (n + 1) l ≡ w ++ x ∷ []

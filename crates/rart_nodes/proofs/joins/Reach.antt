@@ -1,7 +1,7 @@
 -- Whether a string begins a key, by descent.
 use Rattle.std.specs.Prelude.{ℕ, Bool, true, false, List}
 use Rattle.rart_keys.specs.ByteStrings.{begins}
-use Rattle.rart_nodes.specs.tries.Trie.{Trie, Children, Descent, descend, descend_child, prefix_of}
+use Rattle.rart_trie.specs.tries.Trie.{Trie, Children, Descent, descend, descend_child, prefix_of}
 
 abbrev pub reaching : {V : Type 0} → Descent V Bool
 reaching = record { left = λ k t. begins k (prefix_of t); ended = λ t. true; absent = false; on = λ t found. found }

@@ -3,10 +3,10 @@ use Rattle.std.proofs.Common.{◌≡◌, ℕ, suc, ◌<◌, ⊎_elim, List, [], 
 use Rattle.rart_keys.specs.Joins.{both}
 use Rattle.rart_keys.proofs.ByteOrder.{order, eq-yes, eq-no}
 use Rattle.rart_nodes.specs.joins.SharedChildren.{shared_child_if, shared_left, shared_right}
-use Rattle.rart_nodes.specs.tries.CanonicalTest.{is_canonical}
-use Rattle.rart_nodes.specs.tries.Trie.{Trie, node, Children, no_children, child, children_in, AreCanonical, child_of}
-use Rattle.rart_nodes.proofs.tries.CanonicalTests.{IsCanonical-test}
-use Rattle.rart_nodes.proofs.tries.Descents.{child_of-low}
+use Rattle.rart_trie.specs.tries.CanonicalTest.{is_canonical}
+use Rattle.rart_trie.specs.tries.Trie.{Trie, node, Children, no_children, child, children_in, AreCanonical, child_of}
+use Rattle.rart_trie.proofs.tries.CanonicalTests.{IsCanonical-test}
+use Rattle.rart_trie.proofs.tries.Descents.{child_of-low}
 
 module _ {V W : Type 0} where
   abbrev over_left : Children V → Children W → List (Trie V × Trie W)

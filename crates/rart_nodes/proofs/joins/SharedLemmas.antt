@@ -3,19 +3,19 @@ use Rattle.std.proofs.Common.{◌≡◌, ℕ, ◌==◌, ◌||◌, ◌&&◌, Bool
 use Rattle.std.proofs.Common.{◌∙◌, Option, Some, None, is_some, if◌then◌else◌}
 use Rattle.std.specs.List.{filter}
 use Rattle.std.proofs.Math.Bool.{and-false}
-use Rattle.rart_nodes.specs.shapes.BranchPoints.{begins_any}
+use Rattle.rart_trie.specs.shapes.BranchPoints.{begins_any}
 use Rattle.rart_keys.specs.ByteStrings.{bytes_eq, IsLess}
 use Rattle.rart_keys.specs.SortedMap.{AreAbove, IsAscending, lookup, keys_of}
-use Rattle.rart_nodes.specs.shapes.Shape.{contains_key}
-use Rattle.rart_nodes.specs.tries.Trie.{Trie, node, Children, no_children, child, pairs_of, with_prefix, prefix_of}
-use Rattle.rart_nodes.specs.tries.Trie.{StartsWith, IsCanonical, AreCanonical}
+use Rattle.rart_trie.specs.shapes.Shape.{contains_key}
+use Rattle.rart_trie.specs.tries.Trie.{Trie, node, Children, no_children, child, pairs_of, with_prefix, prefix_of}
+use Rattle.rart_trie.specs.tries.Trie.{StartsWith, IsCanonical, AreCanonical}
 use Rattle.rart_nodes.specs.joins.Intersections.{intersect_each}
 use Rattle.rart_nodes.specs.joins.SharedEdges.{above, is_branch, is_shared, all_starts, set_map, as_map, shared_edges}
 use Rattle.rart_keys.proofs.ByteOrder.{order, is_less, is_equal, is_greater, equal_or_not, bytes_eq-equal}
 use Rattle.rart_keys.proofs.SortedMaps.{equal_by_lookups, lookup-first}
-use Rattle.rart_nodes.proofs.tries.FirstBytes.{AllFirst, AllFrom, ascending-append, ascending-with_prefix}
-use Rattle.rart_nodes.proofs.tries.FirstBytes.{all_from-first, all_first-looks}
-use Rattle.rart_nodes.proofs.shapes.ShapeLemmas.{record_is, contains_key-keys_of}
+use Rattle.rart_trie.proofs.tries.FirstBytes.{AllFirst, AllFrom, ascending-append, ascending-with_prefix}
+use Rattle.rart_trie.proofs.tries.FirstBytes.{all_from-first, all_first-looks}
+use Rattle.rart_trie.proofs.shapes.ShapeLemmas.{record_is, contains_key-keys_of}
 use Rattle.rart_nodes.proofs.joins.Reach.{reaches, reaches_child}
 use Rattle.rart_nodes.proofs.joins.EdgeLemmas.{edges_in, edges_down, edges, edges_child, same_above, reach-other, mark}
 use Rattle.rart_nodes.proofs.joins.EdgeLemmas.{mark-nil, child_mark, Edges, edges-in, lookup-edges, lookup-edges_kid}

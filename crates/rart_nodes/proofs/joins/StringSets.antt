@@ -4,19 +4,19 @@ use Rattle.std.proofs.Common.{map, refl, sym, ap, ◌∙◌, arith, Option, Some
 use Rattle.std.specs.List.{filter}
 use Rattle.std.proofs.Math.Bool.{or-false, or_assoc, or_self}
 use Rattle.rart_keys.specs.ByteStrings.{bytes_eq, strip_prefix, begins}
-use Rattle.rart_nodes.specs.shapes.BranchPoints.{begins_any}
+use Rattle.rart_trie.specs.shapes.BranchPoints.{begins_any}
 use Rattle.rart_keys.specs.SortedMap.{keys_of, IsAscending, lookup}
-use Rattle.rart_nodes.specs.shapes.Shape.{contains_key}
+use Rattle.rart_trie.specs.shapes.Shape.{contains_key}
 use Rattle.rart_nodes.specs.joins.SharedEdges.{starts, all_starts, set_map}
-use Rattle.rart_nodes.specs.tries.PrefixLaws.{length-with_prefix}
-use Rattle.rart_nodes.specs.tries.Tree.{tree_pairs}
-use Rattle.rart_nodes.specs.tries.Trie.{Trie, node, Children, pairs_of, children_pairs, own_pair, with_prefix}
-use Rattle.rart_nodes.specs.tries.Trie.{IsCanonical}
+use Rattle.rart_trie.specs.tries.PrefixLaws.{length-with_prefix}
+use Rattle.rart_trie.specs.tries.Tree.{tree_pairs}
+use Rattle.rart_trie.specs.tries.Trie.{Trie, node, Children, pairs_of, children_pairs, own_pair, with_prefix}
+use Rattle.rart_trie.specs.tries.Trie.{IsCanonical}
 use Rattle.rart_keys.proofs.ByteOrder.{eq-yes, eq-no, equal_or_not, bytes_eq-equal, bytes_eq-itself}
 use Rattle.rart_keys.proofs.SortedMaps.{ascending-put, lookup-put}
-use Rattle.rart_nodes.proofs.tries.Descents.{Keeps, by_byte, children-by, descends}
-use Rattle.rart_nodes.proofs.tries.NodeCounts.{few_nodes}
-use Rattle.rart_nodes.proofs.tries.PrefixedStrings.{begins-after, begins-apart}
+use Rattle.rart_trie.proofs.tries.Descents.{Keeps, by_byte, children-by, descends}
+use Rattle.rart_trie.proofs.tries.NodeCounts.{few_nodes}
+use Rattle.rart_trie.proofs.tries.PrefixedStrings.{begins-after, begins-apart}
 use Rattle.rart_nodes.proofs.joins.Reach.{reaching, reaches}
 
 -- sets

@@ -7,16 +7,16 @@ use Rattle.rart_keys.specs.Joins.{both}
 use Rattle.rart_keys.specs.SortedMap.{longest_key, values_of}
 use Rattle.rart_nodes.specs.joins.Intersections.{intersect_nodes}
 use Rattle.rart_nodes.specs.joins.Visitors.{AreVisitors, CanDeeper, CanGive, CountedOn, most_count}
-use Rattle.rart_nodes.specs.tries.PrefixLaws.{prefix-append, prefix-none}
+use Rattle.rart_trie.specs.tries.PrefixLaws.{prefix-append, prefix-none}
 use Rattle.rart_nodes.specs.joins.JoinPaths.{Kept, PathGrown, PathCut, path_mark}
 use Rattle.rart_nodes.specs.joins.SharedEdges.{more_visits}
 use Rattle.rart_nodes.specs.joins.SharedChildren.{IsAligned, intersect_all, shared_child_if, shared_right, visits_all}
-use Rattle.rart_nodes.specs.tries.Trie.{Trie, node, Children, no_children, child, children_in, children_pairs, child_in}
-use Rattle.rart_nodes.specs.tries.Trie.{own_pair, pairs_of, value_of, with_prefix}
-use Rattle.rart_nodes.specs.tries.TrieCode.{child_count, node_count}
+use Rattle.rart_trie.specs.tries.Trie.{Trie, node, Children, no_children, child, children_in, children_pairs, child_in}
+use Rattle.rart_trie.specs.tries.Trie.{own_pair, pairs_of, value_of, with_prefix}
+use Rattle.rart_trie.specs.tries.TrieCode.{child_count, node_count}
 use Rattle.rart_nodes.proofs.joins.AlignmentLemmas.{longest-child, some-count}
 use Rattle.rart_nodes.proofs.joins.JoinPathLemmas.{path-on, path-back}
-use Rattle.rart_nodes.proofs.walks.SeenLemmas.{child-falls}
+use Rattle.rart_trie.proofs.tries.StepLemmas.{child-falls}
 
 -- a count of pairs, up to the most
 counted-is : {X : Type 0} (n m : ℕ) (es : List X) → n ≤ most_count → FoldsTo (λ p x q. CountedOn p x q) n es m

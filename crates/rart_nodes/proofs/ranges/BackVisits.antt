@@ -4,10 +4,10 @@ use Rattle.std.proofs.Common.{length-append, take, reverse, None, refl, sym, ap,
 use Rattle.std.specs.Option.{option_copied}
 use Rattle.std.proofs.lemmas.List.{length-take}
 use Rattle.rart_nodes.specs.ranges.BackWalk.{BackLevel, BackLeft, BackStep, IsBackWalk, PushesNode}
-use Rattle.rart_nodes.specs.ranges.Under.{with_last}
-use Rattle.rart_nodes.specs.tries.CanonicalTest.{is_canonical}
-use Rattle.rart_nodes.specs.tries.Trie.{Trie, no_children, children_in, prefix_of}
-use Rattle.rart_nodes.specs.walks.Walk.{SegmentList, Grown, KeepsEach}
+use Rattle.rart_trie.specs.ranges.Under.{with_last}
+use Rattle.rart_trie.specs.tries.CanonicalTest.{is_canonical}
+use Rattle.rart_trie.specs.tries.Trie.{Trie, no_children, children_in, prefix_of}
+use Rattle.rart_trie.specs.walks.Walk.{SegmentList, Grown, KeepsEach}
 use Rattle.rart_nodes.proofs.ranges.LevelLemmas.{last-child, left-level, levels_of}
 use Rattle.rart_nodes.proofs.walks.WalkLemmas.{deepest}
 use Rattle.rart_nodes.proofs.walks.WalkVisits.{has-child}

@@ -9,11 +9,11 @@ use Rattle.rart_keys.specs.Ranges.{between, is_from, is_to}
 use Rattle.rart_keys.specs.SortedMap.{AreAbove, IsAscending, count_of, keys_of}
 use Rattle.rart_keys.proofs.ByteOrder.{compare, below-trans, below-greater}
 use Rattle.rart_nodes.specs.ranges.UpperBounds.{down_to, to_bound}
-use Rattle.rart_nodes.specs.tries.Tree.{tree_pairs, IsCanonicalTree}
-use Rattle.rart_nodes.specs.tries.Trie.{Trie, node}
-use Rattle.rart_nodes.specs.walks.ProbeCount.{probe_count, tree_entered}
-use Rattle.rart_nodes.proofs.tries.PairLemmas.{tree_pairs-ascend}
-use Rattle.rart_nodes.proofs.walks.SeenLemmas.{tree_entered-probe_count}
+use Rattle.rart_trie.specs.tries.Tree.{tree_pairs, IsCanonicalTree}
+use Rattle.rart_trie.specs.tries.Trie.{Trie, node}
+use Rattle.rart_trie.specs.walks.ProbeCount.{probe_count, tree_entered}
+use Rattle.rart_trie.proofs.tries.PairLemmas.{tree_pairs-ascend}
+use Rattle.rart_trie.proofs.tries.StepLemmas.{tree_entered-probe_count}
 
 -- what comes after a string within a start is within it
 later : (a : Bound (List ℕ)) (k l : List ℕ) → IsLess k l → is_from a k ≡ true → is_from a l ≡ true

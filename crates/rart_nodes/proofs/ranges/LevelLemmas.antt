@@ -8,17 +8,18 @@ use Rattle.std.proofs.lemmas.List.{append-nil, append_assoc, length-map, length-
 use Rattle.std.proofs.lemmas.List.{map-append, take_all}
 use Rattle.rart_keys.specs.SortedMap.{longest_key}
 use Rattle.rart_nodes.specs.ranges.BackWalk.{BackLevel, BackLeft, BackStep, IsBackWalk, PushesNode, remaining_entries}
-use Rattle.rart_nodes.specs.ranges.Under.{with_last}
-use Rattle.rart_nodes.specs.tries.CanonicalTest.{is_canonical}
-use Rattle.rart_nodes.specs.tries.Trie.{Trie, node, Children, no_children, children_in, children_pairs, pairs_of}
-use Rattle.rart_nodes.specs.tries.Trie.{prefix_of, value_of}
-use Rattle.rart_nodes.specs.tries.TrieCode.{child_count, node_count}
-use Rattle.rart_nodes.specs.walks.Walk.{SegmentList, Grown, IsReserved, IsShort, IsWalk, Level, AreLevels}
-use Rattle.rart_nodes.specs.walks.Walk.{children_entries, entries_of, join_all, joined_bytes, segments_after, value_at}
-use Rattle.rart_nodes.proofs.ranges.UnderLemmas.{count-last, entries-last, last-canonical, pairs-last}
-use Rattle.rart_nodes.proofs.tries.CanonicalTests.{IsCanonical-test, longest_key-append}
+use Rattle.rart_trie.specs.ranges.Under.{with_last}
+use Rattle.rart_trie.specs.tries.CanonicalTest.{is_canonical}
+use Rattle.rart_trie.specs.tries.Trie.{Trie, node, Children, no_children, children_in, children_pairs, pairs_of}
+use Rattle.rart_trie.specs.tries.Trie.{prefix_of, value_of}
+use Rattle.rart_trie.specs.tries.TrieCode.{child_count, node_count}
+use Rattle.rart_trie.specs.walks.Walk.{SegmentList, Grown, IsReserved, IsShort, IsWalk, Level, AreLevels}
+use Rattle.rart_trie.specs.walks.Walk.{children_entries, entries_of, join_all, joined_bytes, segments_after, value_at}
+use Rattle.rart_trie.proofs.storages.UnderLemmas.{count-last, entries-last, last-canonical, pairs-last}
+use Rattle.rart_trie.proofs.tries.CanonicalTests.{IsCanonical-test, longest_key-append}
 use Rattle.rart_nodes.proofs.walks.WalkLemmas.{Child, after-append, after-own, after-twice, below-canonical, deeper}
-use Rattle.rart_nodes.proofs.walks.WalkLemmas.{deepest, longest-below, starts-long, work_left}
+use Rattle.rart_nodes.proofs.walks.WalkLemmas.{deepest, starts-long, work_left}
+use Rattle.rart_trie.proofs.tries.StepLemmas.{longest-below}
 
 take_take : {A : Type 0} (i d : ℕ) (k : List A) → i ≤ d → take i (take d k) ≡ take i k
 take_take zero d k h = refl

@@ -4,19 +4,19 @@ use Rattle.std.proofs.Common.{length, length-append, reverse, Option, Some, None
 use Rattle.std.proofs.lemmas.List.{length-reverse}
 use Rattle.rart_keys.specs.SortedMap.{keys_of}
 use Rattle.rart_nodes.specs.ranges.Potential.{up_to_one, up_to_two, amortized_visits, potential, AreLow, IsAmortized}
-use Rattle.rart_nodes.specs.ranges.Starts.{children_above}
+use Rattle.rart_trie.specs.ranges.Starts.{children_above}
 use Rattle.rart_nodes.specs.ranges.Steps.{children_after}
-use Rattle.rart_nodes.specs.stats.Stats.{children_height, height, trie_height}
-use Rattle.rart_nodes.specs.tries.CanonicalTest.{is_canonical}
-use Rattle.rart_nodes.specs.tries.Tree.{tree_pairs}
-use Rattle.rart_nodes.specs.tries.Trie.{Trie, node, Children, no_children, child, child_of, children_in}
-use Rattle.rart_nodes.specs.tries.Trie.{value_of, IsCanonical}
-use Rattle.rart_nodes.specs.walks.Walk.{Level}
+use Rattle.rart_trie.specs.stats.Stats.{children_height, height, trie_height}
+use Rattle.rart_trie.specs.tries.CanonicalTest.{is_canonical}
+use Rattle.rart_trie.specs.tries.Tree.{tree_pairs}
+use Rattle.rart_trie.specs.tries.Trie.{Trie, node, Children, no_children, child, child_of, children_in}
+use Rattle.rart_trie.specs.tries.Trie.{value_of, IsCanonical}
+use Rattle.rart_trie.specs.walks.Walk.{Level}
 use Rattle.rart_nodes.specs.walks.WalkSteps.{DeepestLeft, DeepestStep, PushesLevel}
 use Rattle.rart_nodes.proofs.ranges.StartPaths.{IsChildOf}
-use Rattle.rart_nodes.proofs.tree_stats.StatsLemmas.{height-keys}
-use Rattle.rart_nodes.proofs.tries.CanonicalTests.{IsCanonical-test}
-use Rattle.rart_nodes.proofs.walks.SeenLemmas.{pick}
+use Rattle.rart_trie.proofs.tree_stats.StatsLemmas.{height-keys}
+use Rattle.rart_trie.proofs.tries.CanonicalTests.{IsCanonical-test}
+use Rattle.rart_trie.proofs.tries.StepLemmas.{pick}
 use Rattle.rart_nodes.proofs.walks.WalkLemmas.{deepest, left-level, level-before, went}
 use Rattle.rart_nodes.proofs.walks.WalkVisits.{has-child}
 

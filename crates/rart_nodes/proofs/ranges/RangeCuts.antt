@@ -6,11 +6,11 @@ use Rattle.std.specs.declared.ops.Bound.{Bound}
 use Rattle.rart_keys.specs.Ranges.{between, bound_bytes, is_inclusive, is_from_bound, is_to, pairs_from, up_to}
 use Rattle.rart_keys.specs.SortedMap.{keys_of, longest_key}
 use Rattle.rart_nodes.specs.ranges.Spans.{cut_between, span_visits}
-use Rattle.rart_nodes.specs.ranges.Starts.{entries_from, entries_to}
-use Rattle.rart_nodes.specs.tries.Tree.{tree_pairs, IsCanonicalTree}
-use Rattle.rart_nodes.specs.tries.Trie.{Trie}
-use Rattle.rart_nodes.specs.walks.Cut.{cut, cut_pairs}
-use Rattle.rart_nodes.specs.walks.Walk.{SegmentList, joined_bytes, tree_entries}
+use Rattle.rart_trie.specs.ranges.Starts.{entries_from, entries_to}
+use Rattle.rart_trie.specs.tries.Tree.{tree_pairs, IsCanonicalTree}
+use Rattle.rart_trie.specs.tries.Trie.{Trie}
+use Rattle.rart_trie.specs.walks.Cut.{cut, cut_pairs}
+use Rattle.rart_trie.specs.walks.Walk.{SegmentList, joined_bytes, tree_entries}
 use Rattle.rart_nodes.specs.walks.PathParts.{one_segment}
 use Rattle.rart_nodes.specs.walks.ViewSegments.{AreViews}
 use Rattle.rart_nodes.proofs.ranges.StartLemmas.{from_bound-between}

@@ -3,20 +3,19 @@ use Rattle.std.proofs.Common.{◌≡◌, ℕ, ◌+◌, ◌<◌, ◌≤◌, Bool,
 use Rattle.std.proofs.Common.{None, ap, arith, sym}
 use Rattle.rart_keys.specs.SortedMap.{longest_key}
 use Rattle.rart_nodes.specs.ranges.Potential.{AreLow}
-use Rattle.rart_nodes.specs.ranges.Starts.{entries_from}
+use Rattle.rart_trie.specs.ranges.Starts.{entries_from}
 use Rattle.rart_nodes.specs.ranges.Steps.{AllLess, StepsFrom, all_greater, own_key, in_child, children_after}
-use Rattle.rart_nodes.specs.stats.Stats.{trie_height}
-use Rattle.rart_nodes.specs.tries.CanonicalTest.{is_canonical}
-use Rattle.rart_nodes.specs.tries.Trie.{Trie, children_in, pairs_of, prefix_of}
-use Rattle.rart_nodes.specs.walks.ProbeCount.{entered_nodes, tree_entered}
-use Rattle.rart_nodes.specs.walks.Walk.{SegmentList, Grown, IsShort, IsWalk, Joins, Level, segments_after, value_at}
-use Rattle.rart_nodes.specs.walks.Walk.{entries_of, entries_below, tree_entries}
+use Rattle.rart_trie.specs.stats.Stats.{trie_height}
+use Rattle.rart_trie.specs.tries.CanonicalTest.{is_canonical}
+use Rattle.rart_trie.specs.tries.Trie.{Trie, children_in, pairs_of, prefix_of}
+use Rattle.rart_trie.specs.walks.ProbeCount.{entered_nodes, tree_entered}
+use Rattle.rart_trie.specs.walks.Walk.{SegmentList, Grown, IsShort, IsWalk, Joins, Level, segments_after, value_at}
+use Rattle.rart_trie.specs.walks.Walk.{entries_of, entries_below, tree_entries}
 use Rattle.rart_nodes.proofs.ranges.PotentialLemmas.{HasHeight, height-on, low-after, low-start}
 use Rattle.rart_nodes.proofs.ranges.StartLemmas.{ahead-lower, ahead-start, ahead-step}
 use Rattle.rart_nodes.proofs.ranges.StartPaths.{IsChildOf, IsPathReserved, after-pushed, is-child, path-on}
-use Rattle.rart_nodes.proofs.tries.CanonicalTests.{IsCanonical-test}
-use Rattle.rart_nodes.proofs.walks.SeenLemmas.{step-ended, step-left, step-on}
-use Rattle.rart_nodes.proofs.walks.WalkLemmas.{longest-below}
+use Rattle.rart_trie.proofs.tries.CanonicalTests.{IsCanonical-test}
+use Rattle.rart_trie.proofs.tries.StepLemmas.{step-ended, step-left, step-on, longest-below}
 use Rattle.rart_nodes.proofs.walks.WalkStarts.{no-walk}
 
 module _ {V : Type 0} where

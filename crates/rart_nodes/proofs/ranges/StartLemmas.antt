@@ -12,20 +12,20 @@ use Rattle.rart_keys.specs.ByteStrings.{strip_prefix}
 use Rattle.rart_keys.specs.Ranges.{between, bound_bytes, is_from, is_inclusive, is_from_bound, pairs_from, up_to}
 use Rattle.rart_keys.proofs.ByteOrder.{order, is_less, is_greater, eq-yes, eq-no}
 use Rattle.rart_keys.proofs.RangeLemmas.{cmp-apart, cmp-past, from_bound-bytes, up_to-from_bound}
-use Rattle.rart_nodes.specs.ranges.Starts.{children_above, entries_from}
+use Rattle.rart_trie.specs.ranges.Starts.{children_above, entries_from}
 use Rattle.rart_nodes.specs.ranges.Steps.{StepsFrom, all_greater, own_key, in_child, children_after}
 use Rattle.rart_nodes.specs.ranges.UpperBounds.{if_included}
-use Rattle.rart_nodes.specs.tries.CanonicalTest.{is_canonical}
-use Rattle.rart_nodes.specs.tries.Tree.{tree_pairs, IsCanonicalTree}
-use Rattle.rart_nodes.specs.tries.Trie.{Trie, node, Children, no_children, child, children_in, prefix_of, value_of}
-use Rattle.rart_nodes.specs.tries.Trie.{child_of, child_in, pairs_of, StartsWith, AreCanonical}
+use Rattle.rart_trie.specs.tries.CanonicalTest.{is_canonical}
+use Rattle.rart_trie.specs.tries.Tree.{tree_pairs, IsCanonicalTree}
+use Rattle.rart_trie.specs.tries.Trie.{Trie, node, Children, no_children, child, children_in, prefix_of, value_of}
+use Rattle.rart_trie.specs.tries.Trie.{child_of, child_in, pairs_of, StartsWith, AreCanonical}
 use Rattle.rart_nodes.specs.walks.SegmentLaws.{joined-append}
-use Rattle.rart_nodes.specs.walks.Walk.{SegmentList, Grown, Joins, Level, joined_bytes, join_all, segments_after}
-use Rattle.rart_nodes.specs.walks.Walk.{value_at, entries_of, children_entries, entries_below, tree_entries}
-use Rattle.rart_nodes.proofs.tries.CanonicalTests.{IsCanonical-test}
-use Rattle.rart_nodes.proofs.tries.FirstBytes.{AllFirst, AllFrom, from_first, pairs_of-first, children_pairs-from}
-use Rattle.rart_nodes.proofs.tries.PairLemmas.{tree_pairs-ascend}
-use Rattle.rart_nodes.proofs.tries.Descents.{child_of-low}
+use Rattle.rart_trie.specs.walks.Walk.{SegmentList, Grown, Joins, Level, joined_bytes, join_all, segments_after}
+use Rattle.rart_trie.specs.walks.Walk.{value_at, entries_of, children_entries, entries_below, tree_entries}
+use Rattle.rart_trie.proofs.tries.CanonicalTests.{IsCanonical-test}
+use Rattle.rart_trie.proofs.tries.FirstBytes.{AllFirst, AllFrom, from_first, pairs_of-first, children_pairs-from}
+use Rattle.rart_trie.proofs.tries.PairLemmas.{tree_pairs-ascend}
+use Rattle.rart_trie.proofs.tries.Descents.{child_of-low}
 use Rattle.rart_nodes.proofs.walks.EntryLemmas.{joined-entries, joined-children, joined-tree}
 use Rattle.rart_nodes.proofs.walks.WalkLemmas.{after-append, after-none, after-twice, after-own}
 

@@ -3,31 +3,18 @@ use Rattle.std.proofs.Common.{◌≡◌, ℕ, suc, ◌+◌, ◌<◌, ◌≤◌, 
 use Rattle.std.proofs.Common.{length, length-append, reverse, Option, Some, None, refl, sym, ap, ◌∙◌, arith}
 use Rattle.std.proofs.lemmas.List.{length-reverse, take_all}
 use Rattle.rart_keys.specs.SortedMap.{longest_key}
-use Rattle.rart_parts.specs.Entries.{entries_above}
-use Rattle.rart_nodes.specs.ranges.Starts.{children_above}
+use Rattle.rart_trie.specs.ranges.Starts.{children_above}
 use Rattle.rart_nodes.specs.ranges.Steps.{children_after}
-use Rattle.rart_nodes.specs.tries.CanonicalTest.{is_canonical}
-use Rattle.rart_nodes.specs.tries.Trie.{Trie, node, Children, no_children, child, children_in, children_pairs, pairs_of}
-use Rattle.rart_nodes.specs.tries.Trie.{prefix_of, child_of, child_in, AreCanonical}
-use Rattle.rart_nodes.specs.tries.TrieCode.{as_children, node_count}
-use Rattle.rart_nodes.specs.walks.Walk.{SegmentList, Grown, IsShort, Level, IsWalk, segments_after, children_entries}
-use Rattle.rart_nodes.specs.walks.Walk.{entries_below, tree_count}
-use Rattle.rart_nodes.proofs.tries.CanonicalTests.{IsCanonical-test, longest_key-append, canonical-lower}
+use Rattle.rart_trie.specs.tries.CanonicalTest.{is_canonical}
+use Rattle.rart_trie.specs.tries.Trie.{Trie, node, Children, no_children, child, children_in, children_pairs, pairs_of}
+use Rattle.rart_trie.specs.tries.Trie.{prefix_of, child_of, child_in, AreCanonical}
+use Rattle.rart_trie.specs.tries.TrieCode.{node_count}
+use Rattle.rart_trie.specs.walks.Walk.{SegmentList, Grown, IsShort, Level, IsWalk, segments_after, children_entries}
+use Rattle.rart_trie.specs.walks.Walk.{entries_below, tree_count}
+use Rattle.rart_trie.proofs.tries.CanonicalTests.{IsCanonical-test, longest_key-append, canonical-lower}
 use Rattle.rart_nodes.proofs.walks.PartLemmas.{child-deep}
-use Rattle.rart_nodes.proofs.walks.SeenLemmas.{child-canonical, child-falls, longest-of, pick}
-use Rattle.rart_nodes.proofs.walks.WalkLemmas.{below-canonical, deepest, deeper, longest-below, starts-long}
-use Rattle.rart_nodes.proofs.walks.WalkLemmas.{entries_below-same}
-
--- the children of a storage above a byte are those of the trie
-pub as_children-above : {V : Type 0} (b : ℕ) (es : List (ℕ × Trie V))
-    → as_children (entries_above b es) ≡ children_above b (as_children es)
-as_children-above b [] = refl
-as_children-above b (e ∷ es) = elim (ltb b e.0)
-    as (λ z. as_children (cond z (e ∷ entries_above b es) (entries_above b es))
-    ≡ cond z (child e.0 e.1 (children_above b (as_children es))) (children_above b (as_children es))) [
-      | true ↦ ap (λ z. child e.0 e.1 z) (as_children-above b es)
-      | false ↦ as_children-above b es
-    ]
+use Rattle.rart_trie.proofs.tries.StepLemmas.{child-canonical, child-falls, longest-of, pick, longest-below}
+use Rattle.rart_nodes.proofs.walks.WalkLemmas.{below-canonical, deepest, deeper, starts-long, entries_below-same}
 
 module _ {V : Type 0} where
   pub above-canonical : (b low : ℕ) (cs : Children V) → AreCanonical low cs → AreCanonical low (children_above b cs)

@@ -6,19 +6,18 @@ use Rattle.std.specs.Option.{option_copied}
 use Rattle.rart_keys.specs.SortedMap.{longest_key}
 use Rattle.rart_nodes.specs.ranges.BackWalk.{BackLevel, IsBackWalk, remaining_entries}
 use Rattle.rart_nodes.specs.ranges.Steps.{AllGreater, StepsUntil, all_less, own_key, in_child}
-use Rattle.rart_nodes.specs.ranges.Under.{children_before}
+use Rattle.rart_trie.specs.ranges.Under.{children_before}
 use Rattle.rart_nodes.specs.ranges.UpperBounds.{entries_until}
-use Rattle.rart_nodes.specs.tries.CanonicalTest.{is_canonical}
-use Rattle.rart_nodes.specs.tries.Trie.{Trie, children_in, pairs_of, prefix_of}
-use Rattle.rart_nodes.specs.walks.ProbeCount.{entered_nodes, tree_entered}
-use Rattle.rart_nodes.specs.walks.Walk.{SegmentList, Grown, IsShort, Joins, entries_of, segments_after, tree_entries}
+use Rattle.rart_trie.specs.tries.CanonicalTest.{is_canonical}
+use Rattle.rart_trie.specs.tries.Trie.{Trie, children_in, pairs_of, prefix_of}
+use Rattle.rart_trie.specs.walks.ProbeCount.{entered_nodes, tree_entered}
+use Rattle.rart_trie.specs.walks.Walk.{SegmentList, Grown, IsShort, Joins, entries_of, segments_after, tree_entries}
 use Rattle.rart_nodes.proofs.ranges.LevelLemmas.{no-walk}
 use Rattle.rart_nodes.proofs.ranges.StartPaths.{IsChildOf, IsPathReserved, is-child}
 use Rattle.rart_nodes.proofs.ranges.UntilLemmas.{remaining-higher, remaining-start, remaining-step}
 use Rattle.rart_nodes.proofs.ranges.UntilPaths.{back-path-on, before-pushed}
-use Rattle.rart_nodes.proofs.tries.CanonicalTests.{IsCanonical-test}
-use Rattle.rart_nodes.proofs.walks.SeenLemmas.{step-ended, step-left, step-on}
-use Rattle.rart_nodes.proofs.walks.WalkLemmas.{longest-below}
+use Rattle.rart_trie.proofs.tries.CanonicalTests.{IsCanonical-test}
+use Rattle.rart_trie.proofs.tries.StepLemmas.{step-ended, step-left, step-on, longest-below}
 
 module _ {V : Type 0} where
   pub step-visits : (h : Bool) (s : List ℕ) (t : Trie V) (v : Option V) (e : Option ℕ) (n : Option (Trie V))

@@ -1,7 +1,6 @@
 -- What comes before an end, at a node and below it.
-use Rattle.std.proofs.Common.{◌≡◌, ℕ, suc, ◌<◌, ◌≤◌, ⊎_elim, Bool, true, false, List, [], ◌∷◌, ◌++◌}
-use Rattle.std.proofs.Common.{reverse, Option, Some, None, refl, sym, ap, ◌∙◌, arith, Less, Greater}
-use Rattle.std.proofs.Common.{if◌then◌else◌}
+use Rattle.std.proofs.Common.{◌≡◌, ℕ, suc, ◌<◌, ◌≤◌, ⊎_elim, Bool, true, false, List, [], ◌∷◌, ◌++◌, reverse, Option}
+use Rattle.std.proofs.Common.{Some, None, refl, sym, ap, ◌∙◌, arith, Less, Greater, if◌then◌else◌}
 use Rattle.std.specs.Prelude.{slice_get}
 use Rattle.std.specs.Ordering.{nat_cmp}
 use Rattle.std.specs.Cmp.Lexicographic.{slice_cmp}
@@ -10,23 +9,22 @@ use Rattle.std.proofs.lemmas.List.{append-nil, append_assoc}
 use Rattle.std.proofs.lemmas.List.Elements.{filter-append}
 use Rattle.rart_keys.specs.ByteStrings.{strip_prefix}
 use Rattle.rart_keys.specs.Ranges.{is_until}
-use Rattle.rart_keys.proofs.ByteOrder.{order, is_less, is_greater, eq-yes, eq-no, compare}
-use Rattle.rart_keys.proofs.ByteOrder.{below-greater, cmp-itself}
+use Rattle.rart_keys.proofs.ByteOrder.{order, is_less, is_greater, eq-yes, eq-no, compare, below-greater, cmp-itself}
 use Rattle.rart_keys.proofs.RangeLemmas.{cmp-apart, cmp-past, not-same}
 use Rattle.rart_nodes.specs.ranges.BackWalk.{BackLevel, remaining_entries}
 use Rattle.rart_nodes.specs.ranges.UpperBounds.{entries_until, if_included, pairs_until}
 use Rattle.rart_nodes.specs.ranges.Steps.{StepsUntil, all_less, own_key, in_child}
-use Rattle.rart_nodes.specs.ranges.Under.{children_before, children_under}
-use Rattle.rart_nodes.specs.tries.CanonicalTest.{is_canonical}
-use Rattle.rart_nodes.specs.tries.Tree.{tree_pairs}
-use Rattle.rart_nodes.specs.tries.Trie.{Trie, node, Children, no_children, child, children_in, prefix_of, value_of}
-use Rattle.rart_nodes.specs.tries.Trie.{child_of, child_in, StartsWith, AreCanonical}
+use Rattle.rart_trie.specs.ranges.Under.{children_before, children_under}
+use Rattle.rart_trie.specs.tries.CanonicalTest.{is_canonical}
+use Rattle.rart_trie.specs.tries.Tree.{tree_pairs}
+use Rattle.rart_trie.specs.tries.Trie.{Trie, node, Children, no_children, child, children_in, prefix_of, value_of}
+use Rattle.rart_trie.specs.tries.Trie.{child_of, child_in, StartsWith, AreCanonical}
 use Rattle.rart_nodes.specs.walks.SegmentLaws.{joined-append}
-use Rattle.rart_nodes.specs.walks.Walk.{SegmentList, Grown, Joins, joined_bytes, join_all, segments_after, value_at}
-use Rattle.rart_nodes.specs.walks.Walk.{entries_of, children_entries, tree_entries}
-use Rattle.rart_nodes.proofs.tries.CanonicalTests.{IsCanonical-test}
-use Rattle.rart_nodes.proofs.tries.FirstBytes.{AllFirst, AllFrom, pairs_of-first, children_pairs-from}
-use Rattle.rart_nodes.proofs.tries.Descents.{child_of-low}
+use Rattle.rart_trie.specs.walks.Walk.{SegmentList, Grown, Joins, joined_bytes, join_all, segments_after, value_at}
+use Rattle.rart_trie.specs.walks.Walk.{entries_of, children_entries, tree_entries}
+use Rattle.rart_trie.proofs.tries.CanonicalTests.{IsCanonical-test}
+use Rattle.rart_trie.proofs.tries.FirstBytes.{AllFirst, AllFrom, pairs_of-first, children_pairs-from}
+use Rattle.rart_trie.proofs.tries.Descents.{child_of-low}
 use Rattle.rart_nodes.proofs.walks.EntryLemmas.{joined-entries, joined-children, joined-tree}
 use Rattle.rart_nodes.proofs.walks.WalkLemmas.{after-append, after-none, after-twice, below-canonical}
 

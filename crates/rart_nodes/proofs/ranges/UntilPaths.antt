@@ -6,16 +6,17 @@ use Rattle.std.specs.Option.{option_copied}
 use Rattle.std.proofs.lemmas.List.{length-map, length-reverse, map-append, take_all}
 use Rattle.rart_keys.specs.SortedMap.{longest_key}
 use Rattle.rart_nodes.specs.ranges.BackWalk.{BackLevel, IsBackWalk, remaining_entries}
-use Rattle.rart_nodes.specs.ranges.Under.{children_before, children_under}
-use Rattle.rart_nodes.specs.tries.CanonicalTest.{is_canonical}
-use Rattle.rart_nodes.specs.tries.Trie.{Trie, Children, no_children, child, children_in, children_pairs, pairs_of}
-use Rattle.rart_nodes.specs.tries.Trie.{prefix_of, AreCanonical}
-use Rattle.rart_nodes.specs.walks.Walk.{SegmentList, Grown, IsShort, children_entries, segments_after, value_at}
+use Rattle.rart_trie.specs.ranges.Under.{children_before, children_under}
+use Rattle.rart_trie.specs.tries.CanonicalTest.{is_canonical}
+use Rattle.rart_trie.specs.tries.Trie.{Trie, Children, no_children, child, children_in, children_pairs, pairs_of}
+use Rattle.rart_trie.specs.tries.Trie.{prefix_of, AreCanonical}
+use Rattle.rart_trie.specs.walks.Walk.{SegmentList, Grown, IsShort, children_entries, segments_after, value_at}
 use Rattle.rart_nodes.proofs.ranges.LevelLemmas.{remaining-same, levels_of}
-use Rattle.rart_nodes.proofs.ranges.UnderLemmas.{under-canonical}
+use Rattle.rart_trie.proofs.storages.UnderLemmas.{under-canonical}
 use Rattle.rart_nodes.proofs.ranges.StartPaths.{IsChildOf, IsPathReserved, path-on}
-use Rattle.rart_nodes.proofs.tries.CanonicalTests.{IsCanonical-test, longest_key-append}
-use Rattle.rart_nodes.proofs.walks.WalkLemmas.{below-canonical, deepest, deeper, longest-below}
+use Rattle.rart_trie.proofs.tries.CanonicalTests.{IsCanonical-test, longest_key-append}
+use Rattle.rart_nodes.proofs.walks.WalkLemmas.{below-canonical, deepest, deeper}
+use Rattle.rart_trie.proofs.tries.StepLemmas.{longest-below}
 
 module _ {V : Type 0} where
   under-short : (b : ℕ) (cs : Children V) → longest_key (children_pairs (children_under b cs))

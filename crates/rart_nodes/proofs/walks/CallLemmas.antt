@@ -1,44 +1,18 @@
--- What holds of a callback along the items of a walk.
-use Rattle.std.proofs.Common.{◌≡◌, ℕ, List, Option, Some, None, Result, Ok, Err, [], ◌∷◌, ap, refl, subst, ◌∙◌}
+-- A callback may be called again after each kind of walk.
+use Rattle.std.proofs.Common.{◌≡◌, ℕ, List, Option, Some, None, Result, Ok, Err, [], ◌∷◌, subst, ◌∙◌}
 use Rattle.std.specs.Borrow.{Bor}
-use Rattle.std.specs.Fn.{Mut, Once, Called, always_mut}
-use Rattle.std.specs.List.{FoldsTo}
-use Rattle.rart_nodes.specs.walks.Calls.{CallableAtEach}
+use Rattle.std.specs.Fn.{Mut, Once, always_mut}
 use Rattle.rart_nodes.specs.declared.node.walks.control.VisitControl.{VisitControl}
 use Rattle.rart_nodes.specs.declared.node.walks.control.VisitControl.TheVariants.{Continue, Stop}
 use Rattle.rart_nodes.specs.declared.node.walk.path.SegmentPath.{SegmentPath}
 use Rattle.rart_nodes.specs.declared.node.view.LendingKeyView.{LendingKeyView}
 use Rattle.rart_nodes.specs.walks.Matched.{MatchesEach}
-use Rattle.rart_nodes.specs.walks.Walk.{SegmentList}
+use Rattle.rart_trie.specs.walks.Walk.{SegmentList}
 use Rattle.rart_nodes.specs.walks.PathParts.{lent_segments}
 use Rattle.rart_nodes.specs.walks.Tried.{EndsAs, ContinuesAs}
 use Rattle.rart_nodes.specs.walks.Viewed.{ViewsEach, CanShowFound, CanSeeFound, IsCutOf}
 use Rattle.rart_nodes.specs.walks.Shown.{ShowsEach, FoldsEach}
-
-module _ {F A : Type 0} (R : F → A → F → Type 0) where
-  -- what each call keeps holds after all
-  pub folds-keep : (I : F → Type 0) → ((p : F) (x : A) (q : F) → R p x q → I p → I q) → (xs : List A) (p q : F)
-      → FoldsTo R p xs q → I p → I q
-  folds-keep I keeps [] p q h i = subst I h i
-  folds-keep I keeps (x ∷ xs) p q h i = folds-keep I keeps xs h.0 q h.2 (keeps p x h.0 h.1 i)
-
-  module _ (Q : F → A → Type 0) where
-    -- the first of the items
-    pub can-first : (f : F) (xs : List A) (x : A) (ys : List A) → xs ≡ x ∷ ys → CallableAtEach R Q f xs → Q f x
-    can-first f xs x ys e h = h.at [] x ys f e refl
-
-    -- those after the first
-    pub can-rest : (f : F) (xs : List A) (x : A) (ys : List A) (g : F) → xs ≡ x ∷ ys → R f x g → CallableAtEach R Q f xs
-        → CallableAtEach R Q g ys
-    can-rest f xs x ys g e r h = record {
-      at
-          = λ before y after j same k. h.at (x ∷ before) y after j (e ∙ ap (λ z. x ∷ z) same) (g, r, k);
-    }
-
-module _ {F A R : Type 0} (g : Mut F A R) where
-  -- it may always be called after one call more
-  pub always-on : (f : F) (a : A) (r : R) (f' : F) → Called g f a r f' → always_mut g f → always_mut g f'
-  always-on f a r f' c h = record { at = λ xs. (h.at (a ∷ xs)).1 r f' c }
+use Rattle.rart_trie.proofs.edits.CallbackLemmas.{always-on, folds-keep}
 
 module _ {F V : Type 0} (g : Mut F (Bor V × Unit {0}) (Unit {0})) where
   pub always-after-shows : (f : F) (xs : List V) (f' : F) → ShowsEach g f xs f' → always_mut g f → always_mut g f'

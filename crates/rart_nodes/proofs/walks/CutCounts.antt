@@ -2,9 +2,9 @@
 use Rattle.std.proofs.Common.{ℕ, ◌+◌, ◌≤◌, suc, Bool, true, false, List, [], ◌∷◌, ◌++◌, length, arith, Option}
 use Rattle.std.proofs.Common.{if◌then◌else◌, is_some}
 use Rattle.std.proofs.lemmas.List.{length-append}
-use Rattle.rart_nodes.specs.shapes.Shape.{NodeRecord, record_at}
-use Rattle.rart_nodes.specs.walks.Cut.{cut, cut_by, with_segment}
-use Rattle.rart_nodes.specs.walks.Walk.{SegmentList, KeepsEach}
+use Rattle.rart_trie.specs.shapes.Shape.{NodeRecord, record_at}
+use Rattle.rart_trie.specs.walks.Cut.{cut, cut_by, with_segment}
+use Rattle.rart_trie.specs.walks.Walk.{SegmentList, KeepsEach}
 use Rattle.rart_nodes.specs.walks.PathParts.{one_segment}
 
 segment-few : (p : List ℕ) (ps : SegmentList) → length (with_segment p ps) ≤ length p + length ps

@@ -4,19 +4,19 @@ use Rattle.std.proofs.Common.{Option, Some, None, is_some, if◌then◌else◌}
 use Rattle.std.proofs.lemmas.List.{append-nil, append_assoc, map-append}
 use Rattle.rart_keys.specs.SortedMap.{keys_of}
 use Rattle.rart_keys.proofs.ByteOrder.{is_equal, is_greater, eq-yes}
-use Rattle.rart_nodes.specs.shapes.Shape.{NodeRecord, record_at}
-use Rattle.rart_nodes.specs.tries.Tree.{tree_pairs, IsCanonicalTree}
-use Rattle.rart_nodes.specs.tries.Trie.{Trie, node, Children, no_children, child, trie_lookup, child_lookup, pairs_of}
-use Rattle.rart_nodes.specs.tries.Trie.{children_pairs, own_pair, with_prefix, with_records, children_with_records}
-use Rattle.rart_nodes.specs.tries.Trie.{StartsWith, prefix_of, IsCanonical, AreCanonical}
-use Rattle.rart_nodes.specs.walks.Cut.{with_segment, cut_by, cut, cut_pairs}
-use Rattle.rart_nodes.specs.walks.Walk.{SegmentList, joined_bytes, segments_after, value_at, entries_of}
-use Rattle.rart_nodes.specs.walks.Walk.{children_entries, tree_entries}
+use Rattle.rart_trie.specs.shapes.Shape.{NodeRecord, record_at}
+use Rattle.rart_trie.specs.tries.Tree.{tree_pairs, IsCanonicalTree}
+use Rattle.rart_trie.specs.tries.Trie.{Trie, node, Children, no_children, child, trie_lookup, child_lookup, pairs_of}
+use Rattle.rart_trie.specs.tries.Trie.{children_pairs, own_pair, with_prefix, with_records, children_with_records}
+use Rattle.rart_trie.specs.tries.Trie.{StartsWith, prefix_of, IsCanonical, AreCanonical}
+use Rattle.rart_trie.specs.walks.Cut.{with_segment, cut_by, cut, cut_pairs}
+use Rattle.rart_trie.specs.walks.Walk.{SegmentList, joined_bytes, segments_after, value_at, entries_of}
+use Rattle.rart_trie.specs.walks.Walk.{children_entries, tree_entries}
 use Rattle.rart_nodes.specs.walks.PathParts.{one_segment}
-use Rattle.rart_nodes.proofs.shapes.ShapeLemmas.{record_is, prefix-with_records}
-use Rattle.rart_nodes.proofs.tries.FirstBytes.{AllFirst, AllFrom, pairs_of-first, children_pairs-from}
-use Rattle.rart_nodes.proofs.tries.LongerPrefix.{longer, trie_lookup-longer}
-use Rattle.rart_nodes.proofs.tries.PairLemmas.{trie_lookup-nil}
+use Rattle.rart_trie.proofs.shapes.ShapeLemmas.{record_is, prefix-with_records}
+use Rattle.rart_trie.proofs.tries.FirstBytes.{AllFirst, AllFrom, pairs_of-first, children_pairs-from}
+use Rattle.rart_trie.proofs.tries.LongerPrefix.{longer, trie_lookup-longer}
+use Rattle.rart_trie.proofs.tries.PairLemmas.{trie_lookup-nil}
 
 same_cut : (f g : List ℕ → Option NodeRecord) (p q : List ℕ) → ((z : List ℕ) → f z ≡ g z) → cut_by f p q ≡ cut_by g p q
 same_cut f g p [] h = refl

@@ -2,14 +2,14 @@
 use Rattle.std.proofs.Common.{◌≡◌, ℕ, List, [], ◌∷◌, ◌++◌, length, Option, Some, None, refl, sym, ap, ◌∙◌, arith}
 use Rattle.std.proofs.lemmas.List.{append-nil, map-append}
 use Rattle.rart_keys.specs.SortedMap.{values_of}
-use Rattle.rart_nodes.specs.walks.Walk.{SegmentList, Grown, Joins, joined_bytes, join_all, entry_values, segments_after}
-use Rattle.rart_nodes.specs.walks.Walk.{value_at, entries_of, children_entries, tree_entries}
+use Rattle.rart_trie.specs.walks.Walk.{SegmentList, Grown, Joins, joined_bytes, join_all, entry_values, segments_after}
+use Rattle.rart_trie.specs.walks.Walk.{value_at, entries_of, children_entries, tree_entries}
 use Rattle.rart_nodes.specs.walks.PathParts.{byte_segments, one_segment}
-use Rattle.rart_nodes.specs.tries.PrefixLaws.{values-with_prefix}
-use Rattle.rart_nodes.specs.tries.Tree.{tree_pairs}
+use Rattle.rart_trie.specs.tries.PrefixLaws.{values-with_prefix}
+use Rattle.rart_trie.specs.tries.Tree.{tree_pairs}
 use Rattle.rart_nodes.specs.walks.SegmentLaws.{joined-append}
-use Rattle.rart_nodes.specs.tries.Trie.{Trie, node, Children, no_children, child, children_pairs, pairs_of, own_pair}
-use Rattle.rart_nodes.specs.tries.Trie.{with_prefix}
+use Rattle.rart_trie.specs.tries.Trie.{Trie, node, Children, no_children, child, children_pairs, pairs_of, own_pair}
+use Rattle.rart_trie.specs.tries.Trie.{with_prefix}
 
 pub joins-one : Joins one_segment
 joins-one [] = refl

@@ -5,13 +5,13 @@ use Rattle.rart_keys.specs.ByteStrings.{begins, IsLess}
 use Rattle.rart_keys.specs.Filters.{below, matches, last_or, longest_match}
 use Rattle.rart_keys.specs.SortedMap.{AreAbove, IsAscending, keys_of}
 use Rattle.rart_keys.proofs.ByteOrder.{is_equal, eq-yes, eq-no, equal_or_not}
-use Rattle.rart_nodes.specs.tries.Tree.{tree_pairs, IsCanonicalTree}
-use Rattle.rart_nodes.specs.tries.Trie.{Trie}
-use Rattle.rart_nodes.specs.walks.Cut.{cut, cut_pairs}
+use Rattle.rart_trie.specs.tries.Tree.{tree_pairs, IsCanonicalTree}
+use Rattle.rart_trie.specs.tries.Trie.{Trie}
+use Rattle.rart_trie.specs.walks.Cut.{cut, cut_pairs}
 use Rattle.rart_nodes.specs.walks.Part.{tree_part, part_entries}
-use Rattle.rart_nodes.specs.walks.Walk.{SegmentList}
+use Rattle.rart_trie.specs.walks.Walk.{SegmentList}
 use Rattle.rart_nodes.specs.walks.PathParts.{one_segment}
-use Rattle.rart_nodes.proofs.tries.PairLemmas.{pairs_of-ascend}
+use Rattle.rart_trie.proofs.tries.PairLemmas.{pairs_of-ascend}
 use Rattle.rart_nodes.proofs.walks.PartCuts.{part-cut}
 
 begins-itself : (k : List ℕ) → begins k k ≡ true

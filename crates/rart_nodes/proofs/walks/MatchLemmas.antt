@@ -9,16 +9,16 @@ use Rattle.rart_keys.specs.ByteStrings.{strip_prefix, begins}
 use Rattle.rart_keys.specs.Filters.{last_or, longest_match, matches}
 use Rattle.rart_keys.specs.SortedMap.{keys_of, longest_key}
 use Rattle.rart_keys.proofs.ByteOrder.{eq-no}
-use Rattle.rart_nodes.specs.tries.PrefixLaws.{prefix-none, prefix-twice}
-use Rattle.rart_nodes.specs.tries.CanonicalTest.{is_canonical}
-use Rattle.rart_nodes.specs.tries.Tree.{tree_pairs, IsCanonicalTree}
-use Rattle.rart_nodes.specs.tries.Trie.{Trie, node, children_pairs, own_pair, prefix_of, child_in, with_prefix}
+use Rattle.rart_trie.specs.tries.PrefixLaws.{prefix-none, prefix-twice}
+use Rattle.rart_trie.specs.tries.CanonicalTest.{is_canonical}
+use Rattle.rart_trie.specs.tries.Tree.{tree_pairs, IsCanonicalTree}
+use Rattle.rart_trie.specs.tries.Trie.{Trie, node, children_pairs, own_pair, prefix_of, child_in, with_prefix}
 use Rattle.rart_nodes.specs.walks.Matches.{Passes, pair_at, collects, tree_matches, matches_ahead, entered_ahead}
-use Rattle.rart_nodes.specs.walks.ProbeCount.{probe_count, counts, tree_entered}
-use Rattle.rart_nodes.proofs.tries.Descents.{Keeps, children-filter, descend-ended, descend-on, descends}
-use Rattle.rart_nodes.proofs.tries.PrefixedStrings.{strip_prefix-is}
-use Rattle.rart_nodes.proofs.tries.FirstBytes.{AllFrom, children_pairs-from}
-use Rattle.rart_nodes.proofs.walks.SeenLemmas.{child-falls, few-tree_entered, tree_entered-probe_count}
+use Rattle.rart_trie.specs.walks.ProbeCount.{probe_count, counts, tree_entered}
+use Rattle.rart_trie.proofs.tries.Descents.{Keeps, children-filter, descend-ended, descend-on, descends}
+use Rattle.rart_trie.proofs.tries.PrefixedStrings.{strip_prefix-is}
+use Rattle.rart_trie.proofs.tries.FirstBytes.{AllFrom, children_pairs-from}
+use Rattle.rart_trie.proofs.tries.StepLemmas.{child-falls, few-tree_entered, tree_entered-probe_count}
 
 abbrev begins_within : List ℕ → Option (List ℕ) → Bool
 begins_within l None = false

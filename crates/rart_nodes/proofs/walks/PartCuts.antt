@@ -5,14 +5,14 @@ use Rattle.std.proofs.lemmas.List.{map-append}
 use Rattle.rart_keys.specs.ByteStrings.{begins}
 use Rattle.rart_keys.specs.Filters.{below}
 use Rattle.rart_keys.specs.SortedMap.{keys_of, longest_key}
-use Rattle.rart_nodes.specs.shapes.Shape.{NodeRecord, record_at}
-use Rattle.rart_nodes.specs.tries.Tree.{tree_pairs, IsCanonicalTree}
-use Rattle.rart_nodes.specs.tries.Trie.{Trie, node, Children, no_children, child, child_of}
-use Rattle.rart_nodes.specs.walks.Cut.{with_segment, cut_by, cut, cut_pairs}
+use Rattle.rart_trie.specs.shapes.Shape.{NodeRecord, record_at}
+use Rattle.rart_trie.specs.tries.Tree.{tree_pairs, IsCanonicalTree}
+use Rattle.rart_trie.specs.tries.Trie.{Trie, node, Children, no_children, child, child_of}
+use Rattle.rart_trie.specs.walks.Cut.{with_segment, cut_by, cut, cut_pairs}
 use Rattle.rart_nodes.specs.walks.Part.{finds, tree_part, part_entries}
-use Rattle.rart_nodes.proofs.tries.Descents.{Keeps, descends}
-use Rattle.rart_nodes.specs.walks.Walk.{SegmentList, Grown, joined_bytes, join_all, segments_after, value_at}
-use Rattle.rart_nodes.specs.walks.Walk.{entries_of, children_entries, tree_entries}
+use Rattle.rart_trie.proofs.tries.Descents.{Keeps, descends}
+use Rattle.rart_trie.specs.walks.Walk.{SegmentList, Grown, joined_bytes, join_all, segments_after, value_at}
+use Rattle.rart_trie.specs.walks.Walk.{entries_of, children_entries, tree_entries}
 use Rattle.rart_nodes.specs.walks.PathParts.{one_segment}
 use Rattle.rart_nodes.specs.walks.ViewSegments.{all_have_bytes, AreViews}
 use Rattle.rart_nodes.proofs.walks.CutLemmas.{joined-cut, tree-cut}

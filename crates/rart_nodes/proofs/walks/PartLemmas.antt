@@ -1,79 +1,29 @@
 -- What is found at and below a prefix: the pairs whose key it begins.
-use Rattle.std.proofs.Common.{◌≡◌, ℕ, ◌+◌, ◌*◌, ◌≤◌, ⊎_elim, true, false, ◌&&◌, nat_eq, List, [], ◌∷◌, ◌++◌, length}
-use Rattle.std.proofs.Common.{length-append, refl, sym, ap, ◌∙◌, arith, Option, Some, None, is_some, subst}
-use Rattle.std.proofs.Common.{if◌then◌else◌}
+use Rattle.std.proofs.Common.{◌≡◌, ℕ, ◌+◌, ◌*◌, ◌≤◌, ⊎_elim, true, false, List, [], ◌∷◌, ◌++◌, length, length-append}
+use Rattle.std.proofs.Common.{refl, sym, ap, ◌∙◌, arith, Option, Some, None, subst, if◌then◌else◌}
 use Rattle.std.specs.Prelude.{slice_get}
-use Rattle.std.specs.List.{starts_with}
 use Rattle.std.proofs.lemmas.List.{append-nil, append_assoc}
 use Rattle.rart_keys.specs.ByteStrings.{strip_prefix, begins}
 use Rattle.rart_keys.specs.Filters.{below}
 use Rattle.rart_keys.specs.SortedMap.{longest_key, values_of}
-use Rattle.rart_keys.proofs.ByteOrder.{eq-no}
-use Rattle.rart_nodes.specs.tries.PrefixLaws.{length-with_prefix, prefix-none, prefix-twice, values-with_prefix}
-use Rattle.rart_nodes.specs.tries.CanonicalTest.{is_canonical}
-use Rattle.rart_nodes.specs.tries.Tree.{tree_pairs, IsCanonicalTree}
-use Rattle.rart_nodes.specs.tries.Trie.{Trie, node, Children, no_children, child, pairs_of, children_pairs, own_pair}
-use Rattle.rart_nodes.specs.tries.Trie.{edges_of, prefix_of, child_of, child_in, with_prefix, IsCanonical, AreCanonical}
-use Rattle.rart_nodes.specs.tries.TrieCode.{node_count, child_count}
+use Rattle.rart_trie.specs.tries.PrefixLaws.{length-with_prefix, prefix-none, prefix-twice, values-with_prefix}
+use Rattle.rart_trie.specs.tries.CanonicalTest.{is_canonical}
+use Rattle.rart_trie.specs.tries.Tree.{tree_pairs, IsCanonicalTree}
+use Rattle.rart_trie.specs.tries.Trie.{Trie, node, Children, no_children, child, pairs_of, children_pairs, own_pair}
+use Rattle.rart_trie.specs.tries.Trie.{children_in, value_of}
+use Rattle.rart_trie.specs.tries.Trie.{edges_of, prefix_of, child_of, child_in, with_prefix, IsCanonical, AreCanonical}
+use Rattle.rart_trie.specs.tries.TrieCode.{node_count, child_count}
 use Rattle.rart_nodes.specs.walks.SegmentLaws.{joined-append}
 use Rattle.rart_nodes.specs.walks.Part.{finds, tree_part, part_entries}
-use Rattle.rart_nodes.specs.walks.Walk.{SegmentList, Grown, Joins, joined_bytes, join_all, entry_values, entries_of}
-use Rattle.rart_nodes.proofs.tries.CanonicalTests.{IsCanonical-test}
-use Rattle.rart_nodes.proofs.tries.NodeCounts.{length-own_pair, two-edges}
-use Rattle.rart_nodes.proofs.tries.PrefixedStrings.{begins-apart, begins-after}
-use Rattle.rart_nodes.proofs.tries.Descents.{Keeps, children-filter, descend-left, descend-on, descends}
-use Rattle.rart_nodes.proofs.walks.SeenLemmas.{longest-of}
+use Rattle.rart_trie.specs.walks.Walk.{SegmentList, Grown, Joins, joined_bytes, join_all, entry_values, entries_of}
+use Rattle.rart_trie.proofs.tries.CanonicalTests.{IsCanonical-test}
+use Rattle.rart_trie.proofs.tries.NodeCounts.{length-own_pair, two-edges}
+use Rattle.rart_trie.proofs.tries.Descents.{Keeps, descend-left, descend-on, descends}
+use Rattle.rart_trie.proofs.tries.StepLemmas.{longest-of, longest-below}
 use Rattle.rart_nodes.proofs.walks.EntryLemmas.{join-after, joined-entries, values-after, values-entries}
-use Rattle.rart_nodes.proofs.walks.WalkLemmas.{longest-below}
-
--- whether a slice begins with another, as code tests it
-pub starts_with-begins : (p q : List ℕ) → starts_with nat_eq q p ≡ begins p q
-starts_with-begins [] q = refl
-starts_with-begins (x ∷ p) [] = refl
-starts_with-begins (x ∷ p) (y ∷ q) = elim (nat_eq x y) as (λ b. (b && starts_with nat_eq q p)
-    ≡ is_some (if b then strip_prefix p q else None)) [ true ↦ starts_with-begins p q | false ↦ refl ]
+use Rattle.rart_trie.proofs.tries.BelowLemmas.{below-after_some, below-apart, below-nil, below-child}
 
 module _ {V : Type 0} where
-  pub below-after_some : (q p r : List ℕ) (es : List (List ℕ × V)) → strip_prefix q p ≡ Some r
-      → below p (with_prefix q es) ≡ with_prefix q (below r es)
-  below-after_some q p r [] s = refl
-  below-after_some q p r (e ∷ es) s = rw (begins-after q p r e.0 s, below-after_some q p r es s)
-      (elim (begins r e.0) as (λ z. (if z then (q ++ e.0, e.1) ∷ with_prefix q (below r es)
-      else with_prefix q (below r es)) ≡ with_prefix q (if z then e ∷ below r es else below r es)) [
-        | true ↦ refl
-        | false ↦ refl
-      ])
-
-  pub below-apart : (q p : List ℕ) (es : List (List ℕ × V)) → strip_prefix q p ≡ None
-      → below p (with_prefix q es) ≡ (if begins p q then with_prefix q es else [])
-  below-apart q p [] s = elim (begins p q) as (λ z. ◌≡◌ {A = List (List ℕ × V)} [] (if z then [] else [])) [
-    | true ↦ refl
-    | false ↦ refl
-  ]
-  below-apart q p (e ∷ es) s = rw (begins-apart q p e.0 s, below-apart q p es s)
-      (elim (begins p q) as (λ z. (if z then (q ++ e.0, e.1) ∷ (if z then with_prefix q es else [])
-      else (if z then with_prefix q es else [])) ≡ (if z then with_prefix q (e ∷ es) else [])) [
-        | true ↦ refl
-        | false ↦ refl
-      ])
-
-  pub below-nil : (es : List (List ℕ × V)) → below [] es ≡ es
-  below-nil [] = refl
-  below-nil (e ∷ es) = ap (λ z. e ∷ z) (below-nil es)
-
-  below-here : (b : ℕ) (r : List ℕ) (v : Option V) (es : List (List ℕ × V))
-      → below (b ∷ r) (own_pair v ++ es) ≡ below (b ∷ r) es
-  below-here b r None es = refl
-  below-here b r (Some v) es = refl
-
-  -- the pairs below a prefix that continues by b are those of the child at b
-  pub below-child : (q p r : List ℕ) (b : ℕ) (v : Option V) (n : ℕ) (cs : Children V) → AreCanonical 0 cs
-      → strip_prefix q p ≡ Some (b ∷ r)
-      → below p (pairs_of (node q v n cs)) ≡ with_prefix q (below (b ∷ r) (tree_pairs (child_of b cs)))
-  below-child q p r b v n cs w s = below-after_some q p (b ∷ r) (own_pair v ++ children_pairs cs) s
-      ∙ ap (with_prefix q) (below-here b r v (children_pairs cs)
-      ∙ children-filter (λ e. begins (b ∷ r) e.0) b cs w (λ x k v n. rw (eq-no b x (λ e. n (sym e))) refl))
-
   -- what was found is what is below: its keys are those of the node, after one string, which is that of the segments
   -- kept
   abbrev Finds : Grown → SegmentList → List (List ℕ × V) → Option (SegmentList × Trie V) → Type 0
@@ -187,3 +137,16 @@ module _ {V : Type 0} where
     few-child_count low no_children w = omega arith
     few-child_count low (child b t cs) w = rw (length-append (pairs_of t) (children_pairs cs))
         (omega (arith, few-count t w.2, few-child_count _ cs w.3))
+
+module _ {V : Type 0} where
+  -- the pairs that are counted and those of the next child are among those of the node
+  pub counted-within : (t u : Trie V) (b n m : ℕ) (cs ds : Children V)
+      → n + length (children_pairs cs) ≡ length (own_pair (value_of t) ++ children_pairs (children_in t))
+      → cs ≡ child b u ds → length (pairs_of t) ≤ m → n + length (pairs_of u) ≤ m
+  counted-within (node p v w es) u b n m cs ds h e l = omega (
+    arith,
+    h,
+    l,
+    length-with_prefix p (own_pair v ++ children_pairs es),
+    ap (λ z. length (children_pairs z)) e ∙ length-append (pairs_of u) (children_pairs ds),
+  )

@@ -5,20 +5,21 @@ use Rattle.std.proofs.Common.{length-append, slice_index_or, slice_set}
 use Rattle.std.proofs.lemmas.Bool.Decides.{nat_tests}
 use Rattle.std.proofs.lemmas.List.{append-nil, append_assoc, length-reverse, length-take, map-append, reverse-append}
 use Rattle.std.proofs.lemmas.List.{take-append-le, take-take, take_all}
-use Rattle.rart_nodes.specs.tries.CanonicalTest.{is_canonical}
+use Rattle.rart_trie.specs.tries.CanonicalTest.{is_canonical}
 use Rattle.rart_keys.specs.SortedMap.{longest_key}
-use Rattle.rart_nodes.specs.shapes.Shape.{capacity_of}
-use Rattle.rart_nodes.specs.walks.Walk.{SegmentList, Grown, IsShort, Level, IsReserved, segments_after, value_at}
-use Rattle.rart_nodes.specs.walks.Walk.{entries_of, children_entries, entries_below, nodes_below, AreLevels, IsWalk}
+use Rattle.rart_trie.specs.shapes.Shape.{capacity_of}
+use Rattle.rart_trie.specs.walks.Walk.{SegmentList, Grown, IsShort, Level, IsReserved, segments_after, value_at}
+use Rattle.rart_trie.specs.walks.Walk.{entries_of, children_entries, entries_below, nodes_below, AreLevels, IsWalk}
 use Rattle.rart_nodes.specs.walks.WalkSteps.{DeepestLeft, DeepestStep, PushesLevel}
-use Rattle.rart_nodes.specs.tries.Trie.{Trie, node, Children, no_children, child, children_in, children_pairs, pairs_of}
-use Rattle.rart_nodes.specs.tries.Trie.{prefix_of, value_of, own_pair, StartsWith, IsCanonical, AreCanonical}
-use Rattle.rart_nodes.specs.tries.Trie.{capacity_in, edges_of}
-use Rattle.rart_nodes.specs.tries.Tree.{tree_pairs}
-use Rattle.rart_nodes.specs.tries.TrieCode.{node_count, child_count}
-use Rattle.rart_nodes.proofs.tries.CanonicalTests.{IsCanonical-test, test-IsCanonical, longest_key-append}
-use Rattle.rart_nodes.proofs.tries.CanonicalTests.{longest_key-after, canonical-lower}
-use Rattle.rart_nodes.proofs.tries.NodeCounts.{some-after, some-pairs}
+use Rattle.rart_trie.specs.tries.Trie.{Trie, node, Children, no_children, child, children_in, children_pairs, pairs_of}
+use Rattle.rart_trie.specs.tries.Trie.{prefix_of, value_of, StartsWith, IsCanonical, AreCanonical}
+use Rattle.rart_trie.specs.tries.Trie.{capacity_in, edges_of}
+use Rattle.rart_trie.specs.tries.Tree.{tree_pairs}
+use Rattle.rart_trie.specs.tries.TrieCode.{node_count, child_count}
+use Rattle.rart_trie.proofs.tries.CanonicalTests.{IsCanonical-test, test-IsCanonical, longest_key-append}
+use Rattle.rart_trie.proofs.tries.CanonicalTests.{canonical-lower}
+use Rattle.rart_trie.proofs.tries.NodeCounts.{some-pairs}
+use Rattle.rart_trie.proofs.tries.StepLemmas.{longest-below}
 
 -- what is pushed last comes first
 pub deepest : {A : Type 0} (xs ys : List A) (x : A) → xs ≡ ys ++ x ∷ [] → reverse xs ≡ x ∷ reverse ys
@@ -54,14 +55,6 @@ module _ {V : Type 0} where
   abbrev pub work_left : List (Level V) → ℕ
   work_left [] = 0
   work_left (l ∷ ls) = 2 * child_count l.0 + 1 + work_left ls
-
-  pub longest-below : (t : Trie V) → IsCanonical t → length (prefix_of t) + longest_key (children_pairs (children_in t))
-      ≤ longest_key (pairs_of t)
-  longest-below (node p v n cs) w = omega (
-    arith,
-    longest_key-after p (own_pair v ++ children_pairs cs) (some-after p v n cs w),
-    longest_key-append (own_pair v) (children_pairs cs),
-  )
 
   pub below-canonical : (t : Trie V) → IsCanonical t → AreCanonical 0 (children_in t)
   below-canonical (node p v n cs) w = w.2

@@ -3,13 +3,14 @@ use Rattle.std.proofs.Common.{◌≡◌, ℕ, ◌+◌, ◌<◌, ◌≤◌, true,
 use Rattle.std.proofs.Common.{arith, length-append}
 use Rattle.std.proofs.lemmas.List.{append-nil, take_all}
 use Rattle.rart_keys.specs.SortedMap.{longest_key}
-use Rattle.rart_nodes.specs.tries.CanonicalTest.{is_canonical}
-use Rattle.rart_nodes.specs.tries.Trie.{Trie, node, Children, children_in, pairs_of, prefix_of, value_of}
-use Rattle.rart_nodes.specs.tries.TrieCode.{node_count, child_count}
-use Rattle.rart_nodes.specs.walks.Walk.{SegmentList, Grown, IsShort, Level, segments_after, value_at, entries_of}
-use Rattle.rart_nodes.specs.walks.Walk.{children_entries, entries_below, nodes_below, IsWalk}
-use Rattle.rart_nodes.proofs.tries.CanonicalTests.{IsCanonical-test}
-use Rattle.rart_nodes.proofs.walks.WalkLemmas.{after-own, after-twice, below-canonical, deepest, longest-below}
+use Rattle.rart_trie.specs.tries.CanonicalTest.{is_canonical}
+use Rattle.rart_trie.specs.tries.Trie.{Trie, node, Children, children_in, pairs_of, prefix_of, value_of}
+use Rattle.rart_trie.specs.tries.TrieCode.{node_count, child_count}
+use Rattle.rart_trie.specs.walks.Walk.{SegmentList, Grown, IsShort, Level, segments_after, value_at, entries_of}
+use Rattle.rart_trie.specs.walks.Walk.{children_entries, entries_below, nodes_below, IsWalk}
+use Rattle.rart_trie.proofs.tries.CanonicalTests.{IsCanonical-test}
+use Rattle.rart_nodes.proofs.walks.WalkLemmas.{after-own, after-twice, below-canonical, deepest}
+use Rattle.rart_trie.proofs.tries.StepLemmas.{longest-below}
 
 module _ {V : Type 0} where
   -- a walk begins at a node, to which the way is kept as k0

@@ -7,7 +7,7 @@ use Rattle.rart_nodes.specs.joins.Intersections.{intersect_nodes}
 use Rattle.rart_nodes.specs.joins.SharedEdges.{more_visits}
 use Rattle.rart_nodes.specs.joins.SharedChildren.{IsAligned, shared_right, visits_all}
 use Rattle.rart_nodes.specs.joins.JoinPaths.{Kept, PathGrown}
-use Rattle.rart_nodes.specs.tries.Trie.{Trie, children_in, prefix_of}
+use Rattle.rart_trie.specs.tries.Trie.{Trie, children_in, prefix_of}
 
 -- the child o at the byte b was entered, and shown with that byte as a segment of its prefix, and the rest of it
 abbrev pub EntersAfter : {P V C : Type 0} {G : Ghosts P} → ℕ → Option (Trie V)

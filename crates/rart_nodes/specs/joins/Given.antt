@@ -8,8 +8,8 @@ use Rattle.rart_keys.specs.KeyBytes.{IsWithin}
 use Rattle.rart_keys.specs.SortedMap.{values_of}
 use Rattle.rart_nodes.specs.declared.node.intersect.join_path.JoinPath.TheVariants.{Nothing, Bytes, Segments}
 use Rattle.rart_nodes.specs.joins.JoinPaths.{Kept, PathReserved, PathGrown}
-use Rattle.rart_nodes.specs.tries.Trie.{with_prefix}
-use Rattle.rart_nodes.specs.walks.Walk.{joined_bytes}
+use Rattle.rart_trie.specs.tries.Trie.{with_prefix}
+use Rattle.rart_trie.specs.walks.Walk.{joined_bytes}
 use Rattle.rart_nodes.specs.walks.PathParts.{lent_segments}
 use Rattle.rart_nodes.specs.walks.ViewSegments.{all_have_bytes}
 

@@ -2,7 +2,7 @@
 use Rattle.std.specs.Prelude.{ℕ, ◌==◌, List, [], ◌∷◌, ◌++◌, Option, if◌then◌else◌}
 use Rattle.std.specs.Ordering.{nat_cmp, match_ordering}
 use Rattle.rart_keys.specs.Joins.{both}
-use Rattle.rart_nodes.specs.tries.Trie.{Trie, node, Children, no_children, child, own_pair, with_prefix}
+use Rattle.rart_trie.specs.tries.Trie.{Trie, node, Children, no_children, child, own_pair, with_prefix}
 
 -- What a walk returns: `apart` where the tries part, `shared` after a byte of both prefixes, `also` of a child and the
 -- children after it, and `entered` where a child is entered by a byte.

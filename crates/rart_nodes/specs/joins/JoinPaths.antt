@@ -4,7 +4,7 @@ use Rattle.std.specs.Borrow.{Bor}
 use Rattle.std.specs.Global.{Vec}
 use Rattle.rart_nodes.specs.declared.node.intersect.join_path.JoinPath.{JoinPath}
 use Rattle.rart_nodes.specs.declared.node.intersect.join_path.JoinPath.TheVariants.{Nothing, Bytes, Segments}
-use Rattle.rart_nodes.specs.walks.Walk.{SegmentList, joined_bytes}
+use Rattle.rart_trie.specs.walks.Walk.{SegmentList, joined_bytes}
 use Rattle.rart_nodes.specs.walks.PathParts.{lent_segments}
 use Rattle.rart_nodes.specs.walks.ViewSegments.{all_have_bytes}
 

@@ -3,7 +3,7 @@ use Rattle.std.specs.Prelude.{ℕ, ◌≡◌, List}
 use Rattle.std.specs.Borrow.{Bor}
 use Rattle.std.specs.Fn.{Mut, Called, Takes}
 use Rattle.std.specs.List.{FoldsTo}
-use Rattle.rart_nodes.specs.walks.Calls.{CallableAtEach, CallsEach}
+use Rattle.rart_trie.specs.walks.Calls.{CallableAtEach, CallsEach}
 
 -- f was called at the values x, and is then f'
 pub record CalledWith {F V W : Type 0} (g : Mut F (Bor V × (Bor W × Unit {0})) (Unit {0})) (f : F) (x : V × W)

@@ -4,9 +4,9 @@ use Rattle.rart_keys.specs.Joins.{both}
 use Rattle.rart_keys.specs.SortedMap.{longest_key}
 use Rattle.rart_nodes.specs.joins.Intersections.{intersect_nodes}
 use Rattle.rart_nodes.specs.joins.SharedEdges.{more_visits}
-use Rattle.rart_nodes.specs.tries.Trie.{Trie, Children, no_children, child, children_in, children_pairs, child_in}
-use Rattle.rart_nodes.specs.tries.Trie.{own_pair, pairs_of, value_of, with_prefix}
-use Rattle.rart_nodes.specs.tries.TrieCode.{node_count}
+use Rattle.rart_trie.specs.tries.Trie.{Trie, Children, no_children, child, children_in, children_pairs, child_in}
+use Rattle.rart_trie.specs.tries.Trie.{own_pair, pairs_of, value_of, with_prefix}
+use Rattle.rart_trie.specs.tries.TrieCode.{node_count}
 
 -- a pair in front, if there is one
 abbrev pub shared_child_if : {A : Type 0} → Option A → List A → List A

@@ -5,7 +5,7 @@ use Rattle.rart_nodes.specs.declared.node.intersect.shared_children.SharedChildr
 use Rattle.rart_nodes.specs.declared.node.intersect.shared_children.SharedChildren.TheVariants.{OverLeft, OverRight}
 use Rattle.rart_nodes.specs.declared.node.seen.Entered.{Entered}
 use Rattle.rart_nodes.specs.joins.SharedChildren.{shared_left, shared_right}
-use Rattle.rart_nodes.specs.tries.Trie.{Trie}
+use Rattle.rart_trie.specs.tries.Trie.{Trie}
 
 abbrev pub shared_ahead : {P V W C : Type 0} → SharedChildren P V W C → Trie V → Trie W → List (Trie V × Trie W)
 shared_ahead (OverLeft branches) t u = shared_left branches u

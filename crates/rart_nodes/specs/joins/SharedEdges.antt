@@ -3,10 +3,10 @@ use Rattle.std.specs.Prelude.{ℕ, ◌+◌, ◌||◌, ◌&&◌, Bool, false, Lis
 use Rattle.std.specs.List.{filter}
 use Rattle.rart_nodes.specs.joins.Intersections.{Pairing, pair_child, pair_down, pair_each, pair_in, pair_prefixes}
 use Rattle.rart_nodes.specs.joins.Intersections.{pair_tries}
-use Rattle.rart_nodes.specs.shapes.BranchPoints.{begins_any}
+use Rattle.rart_trie.specs.shapes.BranchPoints.{begins_any}
 use Rattle.rart_keys.specs.SortedMap.{keys_of, put}
-use Rattle.rart_nodes.specs.shapes.Shape.{record_at}
-use Rattle.rart_nodes.specs.tries.Trie.{Trie, Children}
+use Rattle.rart_trie.specs.shapes.Shape.{record_at}
+use Rattle.rart_trie.specs.tries.Trie.{Trie, Children}
 
 -- f at x without its last byte; d where x is empty
 abbrev pub above : Bool → (List ℕ → Bool) → List ℕ → Bool

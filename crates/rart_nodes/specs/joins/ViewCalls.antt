@@ -3,7 +3,7 @@ use Rattle.std.specs.Prelude.{ℕ, ◌≡◌, List}
 use Rattle.std.specs.Borrow.{Bor}
 use Rattle.std.specs.Fn.{Mut, Called, Takes}
 use Rattle.std.specs.List.{FoldsTo}
-use Rattle.rart_nodes.specs.walks.Calls.{CallableAtEach, CallsEach}
+use Rattle.rart_trie.specs.walks.Calls.{CallableAtEach, CallsEach}
 use Rattle.rart_nodes.specs.declared.node.view.LendingKeyView.{LendingKeyView}
 use Rattle.rart_nodes.specs.walks.KeyViews.{view_bytes}
 

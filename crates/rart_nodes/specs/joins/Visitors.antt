@@ -27,10 +27,10 @@ use Rattle.rart_keys.specs.KeyBytes.{IsWithin}
 use Rattle.rart_keys.specs.SortedMap.{values_of}
 use Rattle.rart_nodes.specs.declared.node.intersect.join_path.JoinPath.TheVariants.{Nothing, Bytes, Segments}
 use Rattle.rart_nodes.specs.joins.JoinPaths.{Kept, PathReserved, PathGrown, BytesGrown, SegmentsGrown}
-use Rattle.rart_nodes.specs.tries.PrefixLaws.{prefix-append, prefix-twice, values-append, values-with_prefix}
-use Rattle.rart_nodes.specs.tries.Trie.{with_prefix}
+use Rattle.rart_trie.specs.tries.PrefixLaws.{prefix-append, prefix-twice, values-append, values-with_prefix}
+use Rattle.rart_trie.specs.tries.Trie.{with_prefix}
 use Rattle.rart_nodes.specs.walks.SegmentLaws.{full-append, joined-append, many-joined}
-use Rattle.rart_nodes.specs.walks.Walk.{joined_bytes}
+use Rattle.rart_trie.specs.walks.Walk.{joined_bytes}
 use Rattle.rart_nodes.specs.walks.PathParts.{lent_segments}
 
 folds-append : {P A : Type 0} (R : P → A → P → Type 0) (p q r : P) (xs ys : List A) → FoldsTo R p xs q

@@ -2,10 +2,10 @@
 use Rattle.std.specs.Prelude.{ℕ, ◌≡◌, ◌⊎◌, List, [], ◌∷◌, ◌++◌, map, take, Option, MatchOption}
 use Rattle.std.specs.Borrow.{Bor}
 use Rattle.std.specs.Option.{option_copied}
-use Rattle.rart_nodes.specs.ranges.Under.{with_last}
-use Rattle.rart_nodes.specs.tries.Trie.{Trie, Children, no_children, children_in, value_of}
-use Rattle.rart_nodes.specs.walks.Walk.{SegmentList, Grown, IsKeyWalk, IsWalk, Level, children_entries, segments_after}
-use Rattle.rart_nodes.specs.walks.Walk.{value_at}
+use Rattle.rart_trie.specs.ranges.Under.{with_last}
+use Rattle.rart_trie.specs.tries.Trie.{Trie, Children, no_children, children_in, value_of}
+use Rattle.rart_trie.specs.walks.Walk.{SegmentList, Grown, IsKeyWalk, IsWalk, Level, children_entries, segments_after}
+use Rattle.rart_trie.specs.walks.Walk.{value_at}
 
 -- a level of a walk, and the value of its node, which comes after the children from the back
 abbrev pub BackLevel : Type 0 → Type 0

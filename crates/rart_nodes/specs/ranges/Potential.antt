@@ -1,8 +1,8 @@
 -- What a walk that stops at an end may visit beyond two nodes for each pair that it gave.
 use Rattle.std.specs.Prelude.{ℕ, ◌+◌, ◌≤◌, List, [], ◌∷◌, length}
-use Rattle.rart_nodes.specs.stats.Stats.{children_height}
-use Rattle.rart_nodes.specs.tries.Trie.{Children, no_children, child}
-use Rattle.rart_nodes.specs.walks.Walk.{Level}
+use Rattle.rart_trie.specs.stats.Stats.{children_height}
+use Rattle.rart_trie.specs.tries.Trie.{Children, no_children, child}
+use Rattle.rart_trie.specs.walks.Walk.{Level}
 
 -- how many of the children there are, up to one
 abbrev pub up_to_one : {V : Type 0} → Children V → ℕ

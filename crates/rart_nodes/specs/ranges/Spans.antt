@@ -3,10 +3,10 @@ use Rattle.std.specs.Prelude.{ℕ, ◌+◌, ◌*◌, List, length}
 use Rattle.std.specs.declared.ops.Bound.{Bound}
 use Rattle.rart_keys.specs.Ranges.{between, bound_bytes}
 use Rattle.rart_keys.specs.SortedMap.{keys_of}
-use Rattle.rart_nodes.specs.stats.Stats.{height}
-use Rattle.rart_nodes.specs.walks.Cut.{cut_pairs}
-use Rattle.rart_nodes.specs.walks.ProbeCount.{probe_count}
-use Rattle.rart_nodes.specs.walks.Walk.{SegmentList}
+use Rattle.rart_trie.specs.stats.Stats.{height}
+use Rattle.rart_trie.specs.walks.Cut.{cut_pairs}
+use Rattle.rart_trie.specs.walks.ProbeCount.{probe_count}
+use Rattle.rart_trie.specs.walks.Walk.{SegmentList}
 
 -- the pairs between two bounds, with their keys cut
 abbrev pub cut_between : {V : Type 0} → Bound (List ℕ) → Bound (List ℕ) → List (List ℕ × V) → List (SegmentList × V)

@@ -4,9 +4,9 @@ use Rattle.std.specs.declared.cmp.Ordering.TheVariants.{Less, Greater}
 use Rattle.std.specs.Ordering.{nat_cmp}
 use Rattle.std.specs.Cmp.Lexicographic.{slice_cmp}
 use Rattle.rart_keys.specs.ByteStrings.{strip_prefix}
-use Rattle.rart_nodes.specs.ranges.Starts.{children_above}
+use Rattle.rart_trie.specs.ranges.Starts.{children_above}
 use Rattle.rart_nodes.specs.ranges.UpperBounds.{if_included}
-use Rattle.rart_nodes.specs.tries.Trie.{Trie, Children, child_in, prefix_of, value_of}
+use Rattle.rart_trie.specs.tries.Trie.{Trie, Children, child_in, prefix_of, value_of}
 
 -- each string that begins with q is less than s
 abbrev pub AllLess : List ℕ → List ℕ → Type 0

@@ -4,7 +4,7 @@ use Rattle.std.specs.Borrow.{Bor}
 use Rattle.std.specs.List.{filter}
 use Rattle.std.specs.declared.ops.Bound.{Bound}
 use Rattle.rart_keys.specs.Ranges.{is_from, is_to, is_until}
-use Rattle.rart_nodes.specs.walks.Walk.{SegmentList, joined_bytes}
+use Rattle.rart_trie.specs.walks.Walk.{SegmentList, joined_bytes}
 
 -- the entries whose key comes before s, and the one at s if h
 abbrev pub entries_until : {V : Type 0} → Bool → List ℕ → List (SegmentList × V) → List (SegmentList × V)

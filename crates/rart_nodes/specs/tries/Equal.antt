@@ -1,7 +1,7 @@
 -- Equality of maps and of tries, as tests.
 use Rattle.std.specs.Prelude.{ℕ, ◌==◌, ◌&&◌, Bool, true, false, List, Option, Some, None, nat_eq}
 use Rattle.std.specs.Cmp.Lexicographic.{pointwise}
-use Rattle.rart_nodes.specs.tries.Trie.{Trie, node, Children, no_children, child}
+use Rattle.rart_trie.specs.tries.Trie.{Trie, node, Children, no_children, child}
 
 -- equal keys and equal values, in order
 abbrev pub same_pairs : {V : Type 0} → (V → V → Bool) → List (List ℕ × V) → List (List ℕ × V) → Bool

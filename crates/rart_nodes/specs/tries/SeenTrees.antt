@@ -8,9 +8,9 @@ use Rattle.rart_keys.specs.SortedMap.{keys_of}
 use Rattle.rart_keys.specs.declared.keys.KeyTrait as keys
 use Rattle.rart_keys.specs.declared.partials.Partial as partials
 use Rattle.rart_nodes.specs.declared.node.seen.Seen.{Seen}
-use Rattle.rart_nodes.specs.shapes.Shape.{NodeRecord}
-use Rattle.rart_nodes.specs.tries.Tree.{tree_nodes, tree_pairs}
-use Rattle.rart_nodes.specs.tries.Trie.{Trie}
+use Rattle.rart_trie.specs.shapes.Shape.{NodeRecord}
+use Rattle.rart_trie.specs.tries.Tree.{tree_nodes, tree_pairs}
+use Rattle.rart_trie.specs.tries.Trie.{Trie}
 
 module _ {K V C P : Type 0} {k : keys.Ghosts K P} {e : equality.Ghosts K} {o : ord.Ghosts K} {q : partial_ord.Ghosts K}
     {p : partials.Ghosts P} where

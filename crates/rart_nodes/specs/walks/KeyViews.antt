@@ -2,7 +2,7 @@
 use Rattle.std.specs.Prelude.{ℕ, List}
 use Rattle.rart_nodes.specs.declared.node.view.LendingKeyView.{LendingKeyView}
 use Rattle.rart_nodes.specs.walks.PathParts.{lent_segments}
-use Rattle.rart_nodes.specs.walks.Walk.{SegmentList, joined_bytes}
+use Rattle.rart_trie.specs.walks.Walk.{SegmentList, joined_bytes}
 
 -- its segments
 abbrev pub view_segments : LendingKeyView → SegmentList

@@ -3,7 +3,7 @@ use Rattle.std.specs.Prelude.{ℕ, ◌≡◌, List}
 use Rattle.std.specs.Borrow.{Bor}
 use Rattle.std.specs.Fn.{Mut, Called, Takes}
 use Rattle.std.specs.List.{FoldsTo}
-use Rattle.rart_nodes.specs.walks.Calls.{CallableAtEach, CallsEach}
+use Rattle.rart_trie.specs.walks.Calls.{CallableAtEach, CallsEach}
 
 -- f was called with the key and the value of x, and is then f'
 pub record Matched {F V : Type 0} (g : Mut F (Bor (List ℕ) × (Bor V × Unit {0})) (Unit {0})) (f : F) (x : List ℕ × V)

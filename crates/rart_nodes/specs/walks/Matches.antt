@@ -4,10 +4,10 @@ use Rattle.std.specs.Prelude.{MatchOption, option_map}
 use Rattle.rart_keys.specs.declared.partials.Partial.{Ghosts}
 use Rattle.rart_nodes.specs.declared.node.walks.matching.Matching.{Matching}
 use Rattle.rart_nodes.specs.declared.node.seen.Shared.{Shared}
-use Rattle.rart_nodes.specs.tries.Trie.{Trie, Descent, descend_tree, own_pair, prefix_of, value_of, with_prefix}
-use Rattle.rart_nodes.specs.tries.TrieCode.{node_count}
-use Rattle.rart_nodes.specs.walks.ProbeCount.{tree_entered}
-use Rattle.rart_nodes.specs.walks.Walk.{tree_count}
+use Rattle.rart_trie.specs.tries.Trie.{Trie, Descent, descend_tree, own_pair, prefix_of, value_of, with_prefix}
+use Rattle.rart_trie.specs.tries.TrieCode.{node_count}
+use Rattle.rart_trie.specs.walks.ProbeCount.{tree_entered}
+use Rattle.rart_trie.specs.walks.Walk.{tree_count}
 
 -- of a node its own pair, in front of those below it
 abbrev pub collects : {V : Type 0} → Descent V (List (List ℕ × V))

@@ -3,8 +3,8 @@ use Rattle.std.specs.Prelude.{ℕ, ◌≡◌, List, [], ◌++◌, Option, Some, 
 use Rattle.rart_keys.specs.ByteStrings.{begins}
 use Rattle.rart_keys.specs.declared.partials.Partial.{Ghosts}
 use Rattle.rart_nodes.specs.declared.node.seen.Entered.{Entered}
-use Rattle.rart_nodes.specs.tries.Trie.{Trie, Descent, descend_tree, prefix_of}
-use Rattle.rart_nodes.specs.walks.Walk.{SegmentList, Grown, segments_after, entries_of}
+use Rattle.rart_trie.specs.tries.Trie.{Trie, Descent, descend_tree, prefix_of}
+use Rattle.rart_trie.specs.walks.Walk.{SegmentList, Grown, segments_after, entries_of}
 
 -- the node, and what is kept of the path to it, without its own prefix, after what was kept before
 abbrev pub finds : {V : Type 0} → Grown → Descent V (SegmentList → Option (SegmentList × Trie V))

@@ -5,7 +5,7 @@ use Rattle.std.specs.Option.{option_copied}
 use Rattle.std.proofs.Common.{arith}
 use Rattle.rart_nodes.specs.declared.node.walk.Walk.{Walk}
 use Rattle.rart_nodes.specs.declared.node.walk.path.BytePath.{BytePath}
-use Rattle.rart_nodes.specs.walks.Walk.{Grown, IsShort, Level, SegmentList, entry_values, entries_ahead}
+use Rattle.rart_trie.specs.walks.Walk.{Grown, IsShort, Level, SegmentList, entry_values, entries_ahead}
 
 abbrev pub byte_segments : Grown
 byte_segments p = map (λ b. b ∷ []) p

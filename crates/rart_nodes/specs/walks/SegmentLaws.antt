@@ -2,7 +2,7 @@
 use Rattle.std.specs.Prelude.{◌≡◌, ◌≤◌, true, [], ◌∷◌, ◌++◌, length}
 use Rattle.std.proofs.Common.{refl, arith, sym, ap, ◌∙◌, length-append}
 use Rattle.std.proofs.lemmas.List.{append_assoc}
-use Rattle.rart_nodes.specs.walks.Walk.{SegmentList, joined_bytes}
+use Rattle.rart_trie.specs.walks.Walk.{SegmentList, joined_bytes}
 use Rattle.rart_nodes.specs.walks.ViewSegments.{all_have_bytes}
 
 pub joined-append : (xs ys : SegmentList) → joined_bytes (xs ++ ys) ≡ joined_bytes xs ++ joined_bytes ys

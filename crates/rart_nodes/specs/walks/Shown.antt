@@ -3,7 +3,7 @@ use Rattle.std.specs.Prelude.{◌≡◌, List}
 use Rattle.std.specs.Borrow.{Bor}
 use Rattle.std.specs.Fn.{Mut, Called, Takes, TakesAt}
 use Rattle.std.specs.List.{FoldsTo}
-use Rattle.rart_nodes.specs.walks.Calls.{CallableAtEach, CallsEach}
+use Rattle.rart_trie.specs.walks.Calls.{CallableAtEach, CallsEach}
 
 -- f was called with the value x, and is then f'
 pub record Shown {F V : Type 0} (g : Mut F (Bor V × Unit {0}) (Unit {0})) (f : F) (x : V) (f' : F) : Type 0 where

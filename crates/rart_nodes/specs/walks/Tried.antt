@@ -2,7 +2,7 @@
 use Rattle.std.specs.Prelude.{◌≡◌, ◌≢◌, List, [], ◌∷◌, Result, Ok, Err}
 use Rattle.std.specs.Borrow.{Bor}
 use Rattle.std.specs.Fn.{Mut, Called, CalledAt, TakesAt}
-use Rattle.rart_nodes.specs.walks.Calls.{CallableAtEach}
+use Rattle.rart_trie.specs.walks.Calls.{CallableAtEach}
 use Rattle.rart_nodes.specs.declared.node.walks.control.VisitControl.{VisitControl}
 use Rattle.rart_nodes.specs.declared.node.walks.control.VisitControl.TheVariants.{Continue, Stop}
 use Rattle.rart_nodes.specs.declared.node.walks.control.VisitError.{VisitError}

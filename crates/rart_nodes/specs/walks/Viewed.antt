@@ -3,10 +3,10 @@ use Rattle.std.specs.Prelude.{ℕ, ◌≡◌, Bool, true, false, List, Option, S
 use Rattle.std.specs.Borrow.{Bor}
 use Rattle.std.specs.Fn.{Mut, Once, Called, Takes}
 use Rattle.std.specs.List.{FoldsTo}
-use Rattle.rart_nodes.specs.walks.Calls.{CallableAtEach, CallsEach}
-use Rattle.rart_nodes.specs.walks.Cut.{cut}
+use Rattle.rart_trie.specs.walks.Calls.{CallableAtEach, CallsEach}
+use Rattle.rart_trie.specs.walks.Cut.{cut}
 use Rattle.rart_nodes.specs.walks.KeyViews.{view_segments}
-use Rattle.rart_nodes.specs.walks.Walk.{SegmentList}
+use Rattle.rart_trie.specs.walks.Walk.{SegmentList}
 use Rattle.rart_nodes.specs.walks.PathParts.{lent_segments}
 use Rattle.rart_nodes.specs.declared.node.walk.path.SegmentPath.{SegmentPath}
 use Rattle.rart_nodes.specs.declared.node.view.LendingKeyView.{LendingKeyView}

@@ -3,8 +3,8 @@ use Rattle.std.specs.Prelude.{ℕ, ◌≡◌, ◌≢◌, ◌+◌, ◌⊎◌, Lis
 use Rattle.std.specs.Borrow.{Bor}
 use Rattle.std.specs.Option.{option_copied}
 use Rattle.rart_nodes.specs.declared.node.walk.Walk.{Walk}
-use Rattle.rart_nodes.specs.tries.Trie.{Trie, Children, no_children, child, children_in}
-use Rattle.rart_nodes.specs.walks.Walk.{Grown, IsWalk, Level, SegmentList, entries_ahead, nodes_below}
+use Rattle.rart_trie.specs.tries.Trie.{Trie, Children, no_children, child, children_in}
+use Rattle.rart_trie.specs.walks.Walk.{Grown, IsWalk, Level, SegmentList, entries_ahead, nodes_below}
 
 module _ {P V C : Type 0} where
   -- the walk is at the path k

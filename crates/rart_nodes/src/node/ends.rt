@@ -1,60 +1,14 @@
 //! The first and the last pair of a tree, each on one descent.
 ghost use Rattle.std.specs.Prelude.{◌≡◌, ◌+◌, length, None, option_map, slice_get};
 ghost use Rattle.rart_keys.specs.Filters.{last_or};
-ghost use Rattle.rart_nodes.specs.ranges.Under.{children_before};
-ghost use Rattle.rart_nodes.specs.tries.Ends.{end_child, end_of, last_child};
+ghost use Rattle.rart_trie.specs.tries.Ends.{end_of};
 ghost use Rattle.rart_nodes.specs.tries.SeenTrees.{seen_keys, seen_pairs};
-ghost use Rattle.rart_nodes.specs.tries.Trie.{children_in};
-ghost use Rattle.rart_nodes.specs.walks.ProbeCount.{VisitsAtMost, VisitsExactly, probe_count};
+ghost use Rattle.rart_trie.specs.walks.ProbeCount.{VisitsAtMost, VisitsExactly, probe_count};
 
-use crate::count::Count;
-use crate::node::DefaultNode;
 use crate::node::seen::Seen;
 use rart_keys::{KeyTrait, Partial};
-
-/// One end of the list of pairs.
-#[derive(Clone, Copy)]
-pub(crate) enum End {
-    /// The least key.
-    First,
-    /// The greatest key.
-    Last,
-}
-
-impl<P: Partial, V> DefaultNode<P, V> {
-    /// Returns the child below which the pair at `end` is, with its byte, or `None` if the node holds that pair.
-    pub(crate) fn end_child(&self, end: End) -> Option<(u8, &Self)>
-        ensures { option_map (λ e. (e.0, e.1.now)) result ≡ end_child end self.now }
-    {
-        match end {
-            End::First => {
-                if self.value.is_some() {
-                    return None;
-                }
-                self.storage.first_child()
-            }
-            End::Last => self.storage.last_child(),
-        }
-    }
-
-    /// Returns the last child before `end`, with its byte.
-    pub(crate) fn last_child_before(&self, end: Option<u8>) -> Option<(u8, &Self)>
-        ensures { option_map (λ e. (e.0, e.1.now)) result
-            ≡ last_child (children_before end (children_in self.now)) }
-    {
-        match end {
-            None => self.storage.last_child(),
-            Some(byte) => self.storage.last_child_under(byte),
-        }
-    }
-}
-
-/// Returns a copy of a part.
-pub(crate) fn copy_of<P: Partial>(part: &P) -> P
-    ensures { P.bytes result ≡ P.bytes part.now }
-{
-    part.partial_before(part.len())
-}
+use rart_trie::Count;
+use rart_trie::node::{End, copy_of};
 
 impl<'a, K: KeyTrait, V, C: Count> Seen<'a, K, V, C> {
     fn end_pair(self, end: End, counter: &mut C) -> Option<(K, &'a V)>

@@ -3,11 +3,11 @@ ghost use Rattle.std.specs.Prelude.{◌≡◌, ◌+◌, ◌≤◌, length, min};
 ghost use Rattle.std.specs.Option.{option_copied};
 ghost use Rattle.rart_nodes.specs.tries.Equal.{same_pairs, same_tries, same_value};
 ghost use Rattle.rart_nodes.specs.tries.SeenTrees.{seen_nodes, seen_pairs};
-ghost use Rattle.rart_nodes.specs.tries.TrieCode.{node_count};
+ghost use Rattle.rart_trie.specs.tries.TrieCode.{node_count};
 
-use crate::count::{Count, Paired};
 use crate::node::seen::{Entered, Seen};
 use rart_keys::{KeyTrait, Partial};
+use rart_trie::{Count, Paired};
 
 /// Returns whether two nodes have equal values, or none.
 fn same_values<V: PartialEq>(left: Option<&V>, right: Option<&V>) -> bool

@@ -5,21 +5,19 @@ ghost use Rattle.rart_keys.specs.SortedMap.{longest_key, values_of};
 ghost use Rattle.rart_nodes.specs.joins.Intersections.{intersect_nodes};
 ghost use Rattle.rart_nodes.specs.joins.Visitors.{CanGive};
 ghost use Rattle.rart_nodes.specs.joins.PairCalls.{CallsAtEach, CallsAtEachByValue, CallsWithEach};
-ghost use Rattle.rart_nodes.specs.joins.PairCalls.{CallsWithEachByValue, CanCallAt};
-ghost use Rattle.rart_nodes.specs.joins.PairCalls.{CanCallWith};
+ghost use Rattle.rart_nodes.specs.joins.PairCalls.{CallsWithEachByValue, CanCallAt, CanCallWith};
 ghost use Rattle.rart_nodes.specs.joins.SeenJoins.{MayLackBoth, seen_bound, seen_join, seen_visits};
 ghost use Rattle.rart_nodes.specs.joins.SharedEdges.{joint_visits, more_visits};
 ghost use Rattle.rart_nodes.specs.joins.ViewCalls.{CanViewAt, ViewsAtEachByValue, ViewsAtEach};
 ghost use Rattle.rart_nodes.specs.joins.JoinPaths.{HasCapacityOf, PathGrown};
 ghost use Rattle.rart_nodes.specs.tries.SeenTrees.{length_bound, seen_keys, seen_nodes, seen_pairs};
-ghost use Rattle.rart_nodes.specs.tries.Trie.{pairs_of};
+ghost use Rattle.rart_trie.specs.tries.Trie.{pairs_of};
 
 mod aligned;
 mod join_path;
 mod shared_children;
 mod visitor;
 
-use crate::count::{Count, Paired};
 use crate::node::intersect::aligned::next_aligned;
 use crate::node::intersect::join_path::JoinPath;
 use crate::node::intersect::shared_children::SharedChildren;
@@ -28,6 +26,7 @@ use crate::node::seen::{Entered, Seen};
 use crate::node::view::LendingKeyView;
 use rart_keys::{KeyTrait, Partial};
 use rart_parts::TreeError;
+use rart_trie::{Count, Paired};
 
 /// Visits the pairs of both trees below two visited nodes and restores the path.
 fn intersect_below<'a, P: Partial, V, W, C: Count, F, T: Visitor<V, W, F>>(

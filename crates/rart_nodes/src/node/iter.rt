@@ -9,10 +9,9 @@ ghost use Rattle.rart_keys.specs.Filters.{below};
 ghost use Rattle.rart_keys.specs.Ranges.{pairs_from};
 ghost use Rattle.rart_keys.specs.SortedMap.{count_of, values_of};
 ghost use Rattle.rart_nodes.specs.tries.SeenTrees.{seen_keys, seen_pairs, seen_tree};
-ghost use Rattle.rart_nodes.specs.walks.ProbeCount.{VisitsAtMost, probe_count};
-ghost use Rattle.rart_nodes.specs.walks.Calls.{MayLackMemory};
+ghost use Rattle.rart_trie.specs.walks.ProbeCount.{VisitsAtMost, probe_count};
+ghost use Rattle.rart_trie.specs.walks.Calls.{MayLackMemory};
 
-use crate::count::{Count, Visits};
 use crate::node::seen::Seen;
 pub use crate::node::view::{LendingKeyBytes, LendingKeyView};
 use crate::node::walk::Walk;
@@ -21,6 +20,7 @@ pub use crate::node::walks::descending::{Descending, SeenDescending};
 pub use crate::node::walks::matching::PrefixMatchIter;
 use rart_keys::{KeyTrait, Partial};
 use rart_parts::TreeError;
+use rart_trie::{Count, Visits};
 use std::marker::{Model, PhantomData};
 
 /// A walk that makes a key for each pair.
@@ -34,7 +34,7 @@ pub(crate) struct KeyWalk<'a, K: KeyTrait, P: Partial, V, C> {
 impl<'a, K: KeyTrait, P: Partial, V, C> Model for KeyWalk<'a, K, P, V, C> {
     ghost use Rattle.std.specs.Prelude.{ℕ, List, length, reverse, vec_capacity};
     ghost use Rattle.std.specs.Option.{option_copied};
-    ghost use Rattle.rart_nodes.specs.walks.Walk.{IsKeyWalk, join_all, entries_ahead};
+    ghost use Rattle.rart_trie.specs.walks.Walk.{IsKeyWalk, join_all, entries_ahead};
     ghost use Rattle.rart_nodes.specs.walks.PathParts.{byte_segments, kept_bytes};
 
     ghost Value = { List (List ℕ × V) };
@@ -140,7 +140,7 @@ pub struct ValuesIter<'a, K: KeyTrait, V> {
 
 impl<'a, K: KeyTrait, V> Model for ValuesIter<'a, K, V> {
     ghost use Rattle.std.specs.Prelude.{◌≤◌, ◌^◌, List, [], reverse, vec_capacity};
-    ghost use Rattle.rart_nodes.specs.walks.Walk.{IsWalk};
+    ghost use Rattle.rart_trie.specs.walks.Walk.{IsWalk};
     ghost use Rattle.rart_nodes.specs.walks.PathParts.{values_ahead};
 
     ghost Value = { List V };

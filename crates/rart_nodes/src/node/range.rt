@@ -9,17 +9,17 @@ ghost use Rattle.std.specs.Prelude.{◌≡◌, ◌≤◌, ◌+◌, [], length, I
 ghost use Rattle.std.specs.declared.ops.Bound.TheVariants.{Unbounded};
 ghost use Rattle.rart_keys.specs.SortedMap.{IsAscending};
 ghost use Rattle.rart_keys.specs.Ranges.{between, bound_bytes, bound_in, is_inclusive, is_to, pairs_from, up_to};
-ghost use Rattle.rart_nodes.specs.ranges.Starts.{TakesUpTo, bytes_taken};
+ghost use Rattle.rart_trie.specs.ranges.Starts.{TakesUpTo, bytes_taken};
 ghost use Rattle.rart_nodes.specs.tries.SeenTrees.{seen_keys, seen_pairs};
-ghost use Rattle.rart_nodes.specs.walks.ProbeCount.{probe_count};
-ghost use Rattle.rart_nodes.specs.walks.Calls.{MayLackMemory};
+ghost use Rattle.rart_trie.specs.walks.ProbeCount.{probe_count};
+ghost use Rattle.rart_trie.specs.walks.Calls.{MayLackMemory};
 
-use crate::count::{Count, Visits};
 use crate::node::iter::{Iter, KeyWalk};
 use crate::node::seen::Seen;
 pub use crate::node::walks::descending::range::{RangeDescending, SeenRangeDescending};
 use rart_keys::{KeyTrait, Partial};
 use rart_parts::TreeError;
+use rart_trie::{Count, Visits};
 use std::cmp::Ordering;
 use std::marker::Model;
 use std::ops::Bound;

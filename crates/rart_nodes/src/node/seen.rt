@@ -1,24 +1,23 @@
 //! A shared tree whose reads are counted.
 
-// Only this module accesses the nodes of a shared tree. It returns the prefix, the value and the children of a node
-// only to a caller that visits it, and each visit adds one to the caller's counter. Look-ups and walks are in other
-// modules.
+// In this crate only this module accesses the nodes of a shared tree. It returns the prefix, the value and the children
+// of a node only to a caller that visits it, and each visit adds one to the caller's counter. Look-ups and walks are in
+// other modules.
 
 ghost use Rattle.std.specs.Prelude.{◌≡◌, ◌↔◌, ◌≤◌, ◌+◌, ℕ, IsTrue, MatchOption, Some, length, option_map, true};
 ghost use Rattle.std.specs.Option.{option_copied};
 ghost use Rattle.rart_keys.specs.KeyBytes.{IsWithin, IsWithin-prop};
 ghost use Rattle.rart_keys.specs.SortedMap.{count_of, longest_key};
-ghost use Rattle.rart_nodes.specs.ranges.Under.{children_before};
-ghost use Rattle.rart_nodes.specs.ranges.Starts.{children_above};
-ghost use Rattle.rart_nodes.specs.tries.CanonicalTest.{is_canonical, is_canonical_tree};
-ghost use Rattle.rart_nodes.specs.tries.Ends.{end_child, last_child};
-ghost use Rattle.rart_nodes.specs.tries.Tree.{IsCanonicalTree, tree_pairs};
-ghost use Rattle.rart_nodes.specs.tries.Trie.{child, child_in, children_in, edges_of, no_children, prefix_of, value_of};
+ghost use Rattle.rart_trie.specs.ranges.Under.{children_before};
+ghost use Rattle.rart_trie.specs.ranges.Starts.{children_above};
+ghost use Rattle.rart_trie.specs.tries.CanonicalTest.{is_canonical, is_canonical_tree};
+ghost use Rattle.rart_trie.specs.tries.Ends.{end_child, last_child};
+ghost use Rattle.rart_trie.specs.tries.Tree.{IsCanonicalTree, tree_pairs};
+ghost use Rattle.rart_trie.specs.tries.Trie.{child, child_in, children_in, edges_of, no_children, prefix_of, value_of};
 
-use crate::count::{Count, Paired};
-use crate::node::ends::End;
-use crate::node::{DefaultNode, Node, NodeIter};
 use rart_keys::{KeyTrait, Partial};
+use rart_trie::node::{DefaultNode, End, Node, NodeIter};
+use rart_trie::{Count, Paired};
 use std::alloc::{AllocError, Global};
 use std::marker::{Model, PhantomData};
 
@@ -71,8 +70,10 @@ impl<'a, P: Partial, V, C> Copy for Shared<'a, P, V, C> {}
 /// What a visit shows of a node.
 pub(crate) struct Entered<'a, P: Partial, V, C> {
     node: &'a DefaultNode<P, V>,
+    prefix: &'a P,
     of: PhantomData<C>,
     ghost canonical: { is_canonical node.now ≡ true },
+    ghost own_prefix: { P.bytes prefix.now ≡ prefix_of node.now },
 }
 
 impl<'a, P: Partial, V, C> Clone for Entered<'a, P, V, C> {
@@ -97,8 +98,8 @@ pub(crate) struct Branches<'a, P: Partial, V, C> {
 }
 
 impl<'a, P: Partial, V, C> Model for Branches<'a, P, V, C> {
-    ghost use Rattle.rart_nodes.specs.tries.Trie.{AreCanonical, Children};
-    ghost use Rattle.rart_nodes.specs.tries.TrieCode.{as_children};
+    ghost use Rattle.rart_trie.specs.tries.Trie.{AreCanonical, Children};
+    ghost use Rattle.rart_trie.specs.tries.TrieCode.{as_children};
     ghost use Rattle.rart_nodes.specs.walks.ChildrenCode.{children_code};
 
     ghost Value = { Children V };
@@ -166,9 +167,10 @@ impl<'a, P: Partial, V, C: Count> Shared<'a, P, V, C> {
         ensures shown { result.node.now ≡ self.entry.node.now }
         ensures counted { C.number counter.new ≡ C.number counter.old + 1 }
     {
-        counter.add_one();
+        let prefix = self.node.enter(counter);
         Entered {
             node: self.node,
+            prefix,
             of: PhantomData,
         }
     }
@@ -183,11 +185,18 @@ impl<'a, P: Partial, V, C: Count> Shared<'a, P, V, C> {
         ensures right { result.1.node.now ≡ other.entry.node.now }
         ensures counted { C.number counter.new ≡ C.number counter.old + 1 }
     {
-        let right = Entered {
-            node: other.node,
+        let (left, right) = self.node.enter_pair(other.node, counter);
+        let left = Entered {
+            node: self.node,
+            prefix: left,
             of: PhantomData,
         };
-        (self.enter(counter), right)
+        let right = Entered {
+            node: other.node,
+            prefix: right,
+            of: PhantomData,
+        };
+        (left, right)
     }
 }
 
@@ -197,9 +206,10 @@ impl<'a, P: Partial, V, C: Count> Shared<'a, P, V, Paired<C>> {
         ensures shown { result.node.now ≡ self.entry.node.now }
         ensures counted { C.number counter.new ≡ C.number counter.old + 1 }
     {
-        counter.add_one();
+        let prefix = self.node.enter(counter);
         Entered {
             node: self.node,
+            prefix,
             of: PhantomData,
         }
     }
@@ -210,7 +220,7 @@ impl<'a, P: Partial, V, C> Entered<'a, P, V, C> {
     pub(crate) fn prefix(self) -> &'a P
         ensures { P.bytes result.now ≡ prefix_of self.entry.node.now }
     {
-        self.node.prefix()
+        self.prefix
     }
 
     /// Returns the value of the node.

@@ -5,7 +5,7 @@ ghost use Rattle.std.specs.Iterator.{YieldsFirstBy, item_count};
 ghost use Rattle.std.specs.Ordering.{nat_cmp};
 ghost use Rattle.rart_parts.specs.Errors.{IsMemory};
 ghost use Rattle.rart_keys.specs.KeyBytes.{IsWithin};
-ghost use Rattle.rart_nodes.specs.walks.Walk.{joined_bytes};
+ghost use Rattle.rart_trie.specs.walks.Walk.{joined_bytes};
 ghost use Rattle.rart_nodes.specs.walks.PathParts.{lent_segments};
 ghost use Rattle.rart_nodes.specs.walks.ViewSegments.{all_have_bytes};
 
@@ -171,7 +171,7 @@ pub struct LendingKeyBytes<'tree, 'view> {
 impl<'tree, 'view> Model for LendingKeyBytes<'tree, 'view> {
     ghost use Rattle.std.specs.Prelude.{ℕ, List, ◌++◌};
     ghost use Rattle.std.specs.Slice.Iter.{iter_rest};
-    ghost use Rattle.rart_nodes.specs.walks.Walk.{joined_bytes};
+    ghost use Rattle.rart_trie.specs.walks.Walk.{joined_bytes};
     ghost use Rattle.rart_nodes.specs.walks.PathParts.{lent_segments};
 
     ghost Value = { List ℕ };

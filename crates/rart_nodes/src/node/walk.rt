@@ -9,16 +9,16 @@ ghost use Rattle.rart_keys.specs.SortedMap.{count_of, longest_key};
 ghost use Rattle.rart_nodes.specs.ranges.Potential.{IsAmortized, potential};
 ghost use Rattle.rart_nodes.specs.ranges.UpperBounds.{if_included};
 ghost use Rattle.rart_nodes.specs.tries.SeenTrees.{length_bound, seen_pairs, seen_tree};
-ghost use Rattle.rart_nodes.specs.walks.Walk.{KeepsEach, entries_of, segments_after, tree_count, tree_entries};
+ghost use Rattle.rart_trie.specs.walks.Walk.{KeepsEach, entries_of, segments_after, tree_count, tree_entries};
 ghost use Rattle.rart_nodes.specs.walks.WalkSteps.{DeepestLeft, DeepestStep, HasPlaces, IsWalkAt, PushesLevel};
 ghost use Rattle.rart_nodes.specs.walks.WalkSteps.{TakesEntry, walk_entries, walk_nodes};
-ghost use Rattle.rart_nodes.specs.tries.Trie.{pairs_of, prefix_of, value_of};
-ghost use Rattle.rart_nodes.specs.tries.TrieCode.{node_count};
+ghost use Rattle.rart_trie.specs.tries.Trie.{pairs_of, prefix_of, value_of};
+ghost use Rattle.rart_trie.specs.tries.TrieCode.{node_count};
 
-use crate::count::Count;
 use crate::node::seen::{Branches, Entered, Seen, Shared};
 use crate::node::walk::path::Path;
 use rart_keys::{KeyTrait, Partial};
+use rart_trie::Count;
 use std::alloc::{AllocError, Global};
 
 pub(crate) mod back;

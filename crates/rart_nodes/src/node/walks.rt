@@ -11,6 +11,5 @@ mod longest_view;
 mod look_up;
 pub(crate) mod matching;
 mod range_views;
-mod stats;
 mod try_for_each;
 mod visit;

@@ -1,7 +1,7 @@
 //! The bytes of keys, as a bulk load reads them.
 ghost use Rattle.std.specs.Prelude.{◌≡◌, ◌<◌, length, map, IfErr, IfOk};
 ghost use Rattle.rart_keys.specs.SortedMap.{longest_key};
-ghost use Rattle.rart_nodes.specs.shapes.ShapeRecords.{keys_in, unit_pairs};
+ghost use Rattle.rart_trie.specs.shapes.KeyLists.{keys_in, unit_pairs};
 ghost use Rattle.rart.specs.BulkLoads.{AreKeysAt};
 
 use crate::bulk::BulkError;

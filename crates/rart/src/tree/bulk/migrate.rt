@@ -2,7 +2,7 @@
 ghost use Rattle.std.specs.Prelude.{◌≡◌, ◌≢◌, ◌≤◌, ℕ, List, length, map, IfErr, IfNone, IfOk, IfSome};
 ghost use Rattle.rart_keys.specs.ArrayKeyBytes.{array_key_bytes};
 ghost use Rattle.rart_keys.specs.SortedMap.{keys_of, values_of};
-ghost use Rattle.rart_nodes.specs.shapes.Shape.{HasShape};
+ghost use Rattle.rart_trie.specs.shapes.Shape.{HasShape};
 ghost use Rattle.rart.specs.Migrations.{FailsMigration, terminated_key, with_zeros};
 
 use crate::migrate::MigrateError;

@@ -4,12 +4,12 @@ ghost use Rattle.rart_keys.specs.SortedMap.{count_of, longest_key};
 ghost use Rattle.rart_nodes.specs.joins.Alignments.{EntersAfter, FindsAligned, VisitsAligned};
 ghost use Rattle.rart_nodes.specs.joins.SharedChildren.{IsParted};
 ghost use Rattle.rart_nodes.specs.joins.JoinPaths.{PathReserved};
-ghost use Rattle.rart_nodes.specs.tries.Trie.{child_in, pairs_of};
+ghost use Rattle.rart_trie.specs.tries.Trie.{child_in, pairs_of};
 
-use crate::count::{Count, Paired};
 use crate::node::intersect::join_path::JoinPath;
 use crate::node::seen::Entered;
 use rart_keys::{Partial, common_prefix_length};
+use rart_trie::{Count, Paired};
 
 /// Returns the common prefix, and the rest of each string.
 fn part<'a, 'b>(left: &'a [u8], right: &'b [u8]) -> (&'a [u8], &'a [u8], &'b [u8])

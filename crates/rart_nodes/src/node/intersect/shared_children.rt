@@ -3,11 +3,11 @@ ghost use Rattle.std.specs.Prelude.{◌≡◌, ◌+◌};
 ghost use Rattle.rart_keys.specs.SortedMap.{count_of};
 ghost use Rattle.rart_nodes.specs.joins.SharedChildren.{shared_left, shared_right};
 ghost use Rattle.rart_nodes.specs.joins.SharedChildrenAhead.{EntersSharedChildren, shared_ahead};
-ghost use Rattle.rart_nodes.specs.tries.Trie.{children_in};
+ghost use Rattle.rart_trie.specs.tries.Trie.{children_in};
 
-use crate::count::{Count, Paired};
 use crate::node::seen::{Branches, Entered};
 use rart_keys::Partial;
+use rart_trie::{Count, Paired};
 
 /// The children of one of two nodes that are still to be visited; each is sought at the other node.
 #[derive(Drop)]

@@ -7,7 +7,7 @@ ghost use Rattle.rart_keys.specs.KeyBytes.{IsWithin};
 ghost use Rattle.rart_nodes.specs.joins.PairCalls.{CalledAt, TakesAtKey};
 ghost use Rattle.rart_nodes.specs.joins.Visitors.{AreVisitors, CanDeeper, CanGive};
 ghost use Rattle.rart_nodes.specs.joins.JoinPaths.{Kept};
-ghost use Rattle.rart_nodes.specs.tries.Trie.{own_pair};
+ghost use Rattle.rart_trie.specs.tries.Trie.{own_pair};
 
 use crate::node::intersect::join_path::JoinPath;
 use crate::node::view::LendingKeyView;

@@ -2,22 +2,21 @@
 
 // It allocates when it is created, and keeps for each node on its path a cursor over its children, and its value.
 
-ghost use Rattle.std.specs.Prelude.{◌≡◌, ◌≢◌, ◌≤◌, ◌<◌, ◌+◌, ◌++◌, [], length, reverse, take, vec_len};
-ghost use Rattle.std.specs.Prelude.{vec_capacity};
+ghost use Rattle.std.specs.Prelude.{◌≡◌, ◌≢◌, ◌≤◌, ◌<◌, ◌+◌, ◌++◌, [], length, reverse, take, vec_len, vec_capacity};
 ghost use Rattle.std.specs.Prelude.{IfOk, MatchOption, OnErr};
 ghost use Rattle.std.specs.Option.{option_copied};
 ghost use Rattle.rart_keys.specs.SortedMap.{count_of, longest_key};
 ghost use Rattle.rart_nodes.specs.ranges.BackWalk.{BackLeft, BackStep, IsBackWalk};
 ghost use Rattle.rart_nodes.specs.ranges.BackWalk.{PushesNode, TakesLast, remaining_entries};
 ghost use Rattle.rart_nodes.specs.tries.SeenTrees.{length_bound, seen_pairs, seen_tree};
-ghost use Rattle.rart_nodes.specs.tries.Trie.{children_in, pairs_of, prefix_of, value_of};
-ghost use Rattle.rart_nodes.specs.walks.Walk.{KeepsEach, entries_of, segments_after, tree_entries};
+ghost use Rattle.rart_trie.specs.tries.Trie.{children_in, pairs_of, prefix_of, value_of};
+ghost use Rattle.rart_trie.specs.walks.Walk.{KeepsEach, entries_of, segments_after, tree_entries};
 
-use crate::count::Count;
 use crate::node::seen::{Entered, Seen};
 use crate::node::walk::back::branches::BackBranches;
 use crate::node::walk::path::Path;
 use rart_keys::{KeyTrait, Partial};
+use rart_trie::Count;
 use std::alloc::{AllocError, Global};
 
 pub(crate) mod branches;

@@ -1,6 +1,6 @@
 //! What a walk keeps of its path: the bytes, the segments, or nothing.
 ghost use Rattle.std.specs.Prelude.{◌≡◌, ◌≤◌, ◌+◌, ◌^◌, ◌++◌, ℕ, [], length, take, IfOk};
-ghost use Rattle.rart_nodes.specs.walks.Walk.{Grown, IsShort, SegmentList};
+ghost use Rattle.rart_trie.specs.walks.Walk.{Grown, IsShort, SegmentList};
 
 use rart_keys::{Partial, copy_bytes};
 use std::alloc::{AllocError, Global};

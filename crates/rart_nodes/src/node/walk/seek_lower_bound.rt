@@ -4,21 +4,21 @@ ghost use Rattle.std.specs.Prelude.{IfOk, MatchOption, None, OnErr, option_map};
 ghost use Rattle.std.specs.Option.{option_copied};
 ghost use Rattle.rart_keys.specs.SortedMap.{longest_key};
 ghost use Rattle.rart_nodes.specs.ranges.Potential.{AreLow};
-ghost use Rattle.rart_nodes.specs.ranges.Starts.{entries_from};
+ghost use Rattle.rart_trie.specs.ranges.Starts.{entries_from};
 ghost use Rattle.rart_nodes.specs.ranges.Steps.{AllLess, StepsFrom, children_after};
-ghost use Rattle.rart_nodes.specs.stats.Stats.{height, trie_height};
+ghost use Rattle.rart_trie.specs.stats.Stats.{height, trie_height};
 ghost use Rattle.rart_nodes.specs.tries.SeenTrees.{length_bound, seen_keys, seen_pairs, seen_tree};
-ghost use Rattle.rart_nodes.specs.tries.Trie.{children_in, pairs_of, prefix_of};
-ghost use Rattle.rart_nodes.specs.walks.ProbeCount.{entered_nodes, probe_count};
-ghost use Rattle.rart_nodes.specs.walks.Walk.{Joins, entries_of, tree_entries};
+ghost use Rattle.rart_trie.specs.tries.Trie.{children_in, pairs_of, prefix_of};
+ghost use Rattle.rart_trie.specs.walks.ProbeCount.{entered_nodes, probe_count};
+ghost use Rattle.rart_trie.specs.walks.Walk.{Joins, entries_of, tree_entries};
 ghost use Rattle.rart_nodes.specs.walks.WalkSteps.{HasPlaces, IsWalkAt, walk_entries};
 
-use crate::count::Count;
-use crate::node::rest::strip_prefix;
 use crate::node::seen::{Branches, Entered, Seen, Shared};
 use crate::node::walk::path::Path;
 use crate::node::walk::{Step, Walk, empty_walk, value_if};
 use rart_keys::{KeyTrait, Partial};
+use rart_trie::Count;
+use rart_trie::node::strip_prefix;
 use std::alloc::AllocError;
 use std::cmp::Ordering;
 

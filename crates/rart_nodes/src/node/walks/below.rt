@@ -4,18 +4,18 @@ ghost use Rattle.std.specs.Prelude.{None, OnErr, Some, option_map};
 ghost use Rattle.rart_keys.specs.Filters.{below};
 ghost use Rattle.rart_keys.specs.SortedMap.{longest_key};
 ghost use Rattle.rart_nodes.specs.tries.SeenTrees.{length_bound, seen_keys, seen_pairs, seen_tree};
-ghost use Rattle.rart_nodes.specs.tries.Tree.{tree_pairs};
-ghost use Rattle.rart_nodes.specs.tries.Trie.{pairs_of};
+ghost use Rattle.rart_trie.specs.tries.Tree.{tree_pairs};
+ghost use Rattle.rart_trie.specs.tries.Trie.{pairs_of};
 ghost use Rattle.rart_nodes.specs.walks.Part.{EntersPart, part_entries, tree_part};
-ghost use Rattle.rart_nodes.specs.walks.ProbeCount.{probe_count, tree_entered};
+ghost use Rattle.rart_trie.specs.walks.ProbeCount.{probe_count, tree_entered};
 ghost use Rattle.rart_nodes.specs.walks.WalkSteps.{HasPlaces, IsWalkAt, walk_entries, walk_nodes};
 
-use crate::count::Count;
-use crate::node::rest::strip_prefix;
 use crate::node::seen::{Entered, Seen, Shared};
 use crate::node::walk::path::Path;
 use crate::node::walk::{Walk, empty_walk, walk_at};
 use rart_keys::{KeyTrait, Partial};
+use rart_trie::Count;
+use rart_trie::node::strip_prefix;
 use std::alloc::AllocError;
 
 mod from_back;

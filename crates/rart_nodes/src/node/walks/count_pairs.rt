@@ -1,12 +1,12 @@
 //! The number of pairs of a shared tree, found node by node.
 ghost use Rattle.std.specs.Prelude.{◌≡◌, ◌+◌, ◌*◌, ◌≤◌, length};
 ghost use Rattle.rart_nodes.specs.tries.SeenTrees.{seen_nodes, seen_pairs};
-ghost use Rattle.rart_nodes.specs.tries.Trie.{pairs_of};
-ghost use Rattle.rart_nodes.specs.tries.TrieCode.{node_count};
+ghost use Rattle.rart_trie.specs.tries.Trie.{pairs_of};
+ghost use Rattle.rart_trie.specs.tries.TrieCode.{node_count};
 
-use crate::count::Count;
 use crate::node::seen::{Entered, Seen};
 use rart_keys::{KeyTrait, Partial};
+use rart_trie::Count;
 
 /// Returns the number of pairs at and below a visited node.
 fn count_below<P: Partial, V, C: Count>(node: Entered<'_, P, V, C>, counter: &mut C) -> usize

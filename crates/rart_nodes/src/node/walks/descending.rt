@@ -7,15 +7,15 @@ ghost use Rattle.std.specs.Iterator.{YieldsFirstBy, item_count};
 ghost use Rattle.rart_keys.specs.Filters.{below};
 ghost use Rattle.rart_keys.specs.SortedMap.{count_of};
 ghost use Rattle.rart_nodes.specs.tries.SeenTrees.{seen_keys, seen_pairs, seen_tree};
-ghost use Rattle.rart_nodes.specs.walks.ProbeCount.{VisitsAtMost, probe_count};
-ghost use Rattle.rart_nodes.specs.walks.Calls.{MayLackMemory};
+ghost use Rattle.rart_trie.specs.walks.ProbeCount.{VisitsAtMost, probe_count};
+ghost use Rattle.rart_trie.specs.walks.Calls.{MayLackMemory};
 
-use crate::count::{Count, Visits};
 use crate::node::seen::Seen;
 use crate::node::walk::back::BackWalk;
 use crate::node::walk::path::BytePath;
 use rart_keys::{KeyTrait, Partial};
 use rart_parts::TreeError;
+use rart_trie::{Count, Visits};
 use std::marker::{Model, PhantomData};
 
 pub(crate) mod range;
@@ -31,7 +31,7 @@ pub(crate) struct KeyBackWalk<'a, K: KeyTrait, P: Partial, V, C> {
 impl<'a, K: KeyTrait, P: Partial, V, C> Model for KeyBackWalk<'a, K, P, V, C> {
     ghost use Rattle.std.specs.Prelude.{ℕ, List, length, reverse, vec_capacity};
     ghost use Rattle.rart_nodes.specs.ranges.BackWalk.{IsKeyBackWalk, remaining_entries};
-    ghost use Rattle.rart_nodes.specs.walks.Walk.{join_all};
+    ghost use Rattle.rart_trie.specs.walks.Walk.{join_all};
     ghost use Rattle.rart_nodes.specs.walks.PathParts.{byte_segments, kept_bytes};
 
     ghost Value = { List (List ℕ × V) };

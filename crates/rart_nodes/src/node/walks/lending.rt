@@ -5,22 +5,22 @@
 
 ghost use Rattle.std.specs.Prelude.{◌≡◌, ◌≤◌, ◌+◌, ◌*◌, [], length, vec_capacity, IfErr, OnErr, OnOk};
 ghost use Rattle.rart_nodes.specs.tries.SeenTrees.{seen_keys, seen_pairs};
-ghost use Rattle.rart_nodes.specs.walks.BelowPrefix.{below_bound, below_visits, cut_below};
-ghost use Rattle.rart_nodes.specs.walks.Cut.{cut_pairs};
-ghost use Rattle.rart_nodes.specs.walks.ProbeCount.{probe_count};
+ghost use Rattle.rart_trie.specs.walks.BelowPrefix.{below_bound, below_visits, cut_below};
+ghost use Rattle.rart_trie.specs.walks.Cut.{cut_pairs};
+ghost use Rattle.rart_trie.specs.walks.ProbeCount.{probe_count};
 ghost use Rattle.rart_nodes.specs.walks.PathParts.{lent_segments};
 ghost use Rattle.rart_nodes.specs.walks.ViewSegments.{AreViews, walk_views};
 ghost use Rattle.rart_nodes.specs.walks.WalkSteps.{IsWalkAt, walk_nodes};
 ghost use Rattle.rart_nodes.specs.walks.Viewed.{CanView, ViewsEachByValue, ViewsEach};
-ghost use Rattle.rart_nodes.specs.walks.Calls.{MayLackMemory};
+ghost use Rattle.rart_trie.specs.walks.Calls.{MayLackMemory};
 
-use crate::count::Count;
 use crate::node::seen::Seen;
 use crate::node::view::LendingKeyView;
 use crate::node::walk::Walk;
 use crate::node::walk::path::SegmentPath;
 use rart_keys::{KeyTrait, Partial};
 use rart_parts::TreeError;
+use rart_trie::Count;
 
 fn for_each_view_of<'a, P: Partial, V, C: Count, F: FnMut(LendingKeyView<'_, '_>, &V)>(
     walk: &mut Walk<'a, P, V, C>,

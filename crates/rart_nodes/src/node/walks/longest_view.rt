@@ -3,19 +3,19 @@ ghost use Rattle.std.specs.Prelude.{◌≡◌, ◌≤◌, ◌+◌, ◌*◌, [], 
 ghost use Rattle.std.specs.Prelude.{vec_capacity};
 ghost use Rattle.rart_keys.specs.Filters.{longest_match};
 ghost use Rattle.rart_nodes.specs.tries.SeenTrees.{length_bound, seen_keys, seen_pairs};
-ghost use Rattle.rart_nodes.specs.walks.BelowPrefix.{MayLackMatch, match_visits};
+ghost use Rattle.rart_trie.specs.walks.BelowPrefix.{MayLackMatch, match_visits};
 ghost use Rattle.rart_nodes.specs.walks.PathParts.{lent_segments};
-ghost use Rattle.rart_nodes.specs.walks.ProbeCount.{probe_count};
+ghost use Rattle.rart_trie.specs.walks.ProbeCount.{probe_count};
 ghost use Rattle.rart_nodes.specs.walks.ViewSegments.{AreViews};
 ghost use Rattle.rart_nodes.specs.walks.Viewed.{CanSeeFound, CanShowFound, IsCutOf, SeesFound, ShowsFound};
 
-use crate::count::{Count, Visits};
 use crate::node::seen::Seen;
 use crate::node::view::LendingKeyView;
 use crate::node::walk::path::SegmentPath;
 use crate::node::walks::matching::probe_start;
 use rart_keys::KeyTrait;
 use rart_parts::TreeError;
+use rart_trie::{Count, Visits};
 
 impl<'a, K: KeyTrait, V, C: Count> Seen<'a, K, V, C> {
     /// Returns the segments and the value of the longest key that begins `probe`. It fails only if there is one.

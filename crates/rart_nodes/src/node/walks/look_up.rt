@@ -2,14 +2,14 @@
 ghost use Rattle.std.specs.Prelude.{◌≡◌, ◌≤◌, ◌+◌, length};
 ghost use Rattle.std.specs.Option.{option_copied};
 ghost use Rattle.rart_keys.specs.SortedMap.{lookup};
-ghost use Rattle.rart_nodes.specs.walks.ProbeCount.{probe_count, tree_entered};
+ghost use Rattle.rart_trie.specs.walks.ProbeCount.{probe_count, tree_entered};
 ghost use Rattle.rart_nodes.specs.tries.SeenTrees.{seen_keys, seen_pairs, seen_tree};
-ghost use Rattle.rart_nodes.specs.tries.Tree.{tree_lookup};
+ghost use Rattle.rart_trie.specs.tries.Tree.{tree_lookup};
 
-use crate::count::Count;
-use crate::node::rest::strip_prefix;
 use crate::node::seen::Seen;
 use rart_keys::KeyTrait;
+use rart_trie::Count;
+use rart_trie::node::strip_prefix;
 
 impl<'a, K: KeyTrait, V, C: Count> Seen<'a, K, V, C> {
     fn descend(self, key: &[u8], counter: &mut C) -> Option<&'a V>

@@ -10,12 +10,12 @@ ghost use Rattle.rart_keys.specs.Filters.{longest_match, longest_value, matches}
 ghost use Rattle.rart_nodes.specs.tries.SeenTrees.{seen_keys, seen_pairs, seen_tree};
 ghost use Rattle.rart_nodes.specs.walks.Matched.{CanMatch, MatchesEachByValue, MatchesEach};
 ghost use Rattle.rart_nodes.specs.walks.Matches.{PassesTo, entered_left, matches_left};
-ghost use Rattle.rart_nodes.specs.walks.ProbeCount.{probe_count};
+ghost use Rattle.rart_trie.specs.walks.ProbeCount.{probe_count};
 
-use crate::count::{Count, Visits};
-use crate::node::rest::strip_prefix;
 use crate::node::seen::{Entered, Seen, Shared};
 use rart_keys::{KeyTrait, Partial};
+use rart_trie::node::strip_prefix;
+use rart_trie::{Count, Visits};
 use std::marker::{Model, PhantomData};
 
 /// A descent along a probe.

@@ -7,16 +7,15 @@ ghost use Rattle.std.specs.Prelude.{◌≡◌, ◌≤◌, ◌+◌, ◌*◌, ℕ,
 ghost use Rattle.rart_keys.specs.Ranges.{bound_in, is_to};
 ghost use Rattle.rart_nodes.specs.ranges.Potential.{AreLow};
 ghost use Rattle.rart_nodes.specs.ranges.Spans.{cut_between, span_bound, span_visits};
-ghost use Rattle.rart_nodes.specs.ranges.Starts.{entries_to};
+ghost use Rattle.rart_trie.specs.ranges.Starts.{entries_to};
 ghost use Rattle.rart_nodes.specs.tries.SeenTrees.{seen_pairs};
-ghost use Rattle.rart_nodes.specs.walks.Walk.{joined_bytes};
+ghost use Rattle.rart_trie.specs.walks.Walk.{joined_bytes};
 ghost use Rattle.rart_nodes.specs.walks.PathParts.{lent_segments};
 ghost use Rattle.rart_nodes.specs.walks.ViewSegments.{AreViews, walk_views};
 ghost use Rattle.rart_nodes.specs.walks.WalkSteps.{IsWalkAt};
 ghost use Rattle.rart_nodes.specs.walks.Viewed.{CanView, ViewsEachByValue, ViewsEach};
-ghost use Rattle.rart_nodes.specs.walks.Calls.{MayLackMemory};
+ghost use Rattle.rart_trie.specs.walks.Calls.{MayLackMemory};
 
-use crate::count::Count;
 use crate::node::range::{bytes_of, is_before};
 use crate::node::seen::Seen;
 use crate::node::view::LendingKeyView;
@@ -24,6 +23,7 @@ use crate::node::walk::Walk;
 use crate::node::walk::path::SegmentPath;
 use rart_keys::KeyTrait;
 use rart_parts::TreeError;
+use rart_trie::Count;
 use std::ops::Bound;
 
 /// Returns whether a lent key is within an end.

@@ -1,18 +1,18 @@
 //! Walks over the values below a prefix that a callback can end.
 ghost use Rattle.std.specs.Prelude.{◌≡◌, ◌≤◌, ◌+◌, ◌^◌, [], IfErr};
 ghost use Rattle.rart_nodes.specs.tries.SeenTrees.{seen_pairs};
-ghost use Rattle.rart_nodes.specs.walks.BelowPrefix.{below_bound, below_visits, values_below};
+ghost use Rattle.rart_trie.specs.walks.BelowPrefix.{below_bound, below_visits, values_below};
 ghost use Rattle.rart_nodes.specs.walks.PathParts.{walk_values};
 ghost use Rattle.rart_nodes.specs.walks.WalkSteps.{IsWalkAt, walk_nodes};
 ghost use Rattle.rart_nodes.specs.walks.Tried.{CanTry, EndsVisitByValue, EndsAs, EndsVisit};
 ghost use Rattle.rart_nodes.specs.walks.Tried.{IfAllocated, MayStopForMemory, OnRefused};
 
-use crate::count::{Count, Visits};
 use crate::node::seen::Seen;
 use crate::node::walk::Walk;
 use crate::node::walk::path::NoPath;
 use crate::node::walks::control::{VisitControl, VisitError};
 use rart_keys::{KeyTrait, Partial};
+use rart_trie::{Count, Visits};
 
 fn try_for_each<'a, P: Partial, V, C: Count, E, F: FnMut(&V) -> Result<VisitControl, E>>(
     walk: &mut Walk<'a, P, V, C>,

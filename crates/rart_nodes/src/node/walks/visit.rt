@@ -5,18 +5,18 @@
 
 ghost use Rattle.std.specs.Prelude.{◌≡◌, ◌≤◌, ◌+◌, ◌^◌, [], IfErr, OnErr, OnOk};
 ghost use Rattle.rart_nodes.specs.tries.SeenTrees.{seen_pairs};
-ghost use Rattle.rart_nodes.specs.walks.BelowPrefix.{below_bound, below_visits, values_below};
+ghost use Rattle.rart_trie.specs.walks.BelowPrefix.{below_bound, below_visits, values_below};
 ghost use Rattle.rart_nodes.specs.walks.Shown.{CanShow, ShowsEachByValue, ShowsEach};
 ghost use Rattle.rart_nodes.specs.walks.PathParts.{walk_values};
 ghost use Rattle.rart_nodes.specs.walks.WalkSteps.{IsWalkAt, walk_nodes};
-ghost use Rattle.rart_nodes.specs.walks.Calls.{MayLackMemory};
+ghost use Rattle.rart_trie.specs.walks.Calls.{MayLackMemory};
 
-use crate::count::{Count, Visits};
 use crate::node::seen::Seen;
 use crate::node::walk::Walk;
 use crate::node::walk::path::NoPath;
 use rart_keys::{KeyTrait, Partial};
 use rart_parts::TreeError;
+use rart_trie::{Count, Visits};
 
 fn for_each_value<'a, P: Partial, V, C: Count, F: FnMut(&V)>(
     walk: &mut Walk<'a, P, V, C>,

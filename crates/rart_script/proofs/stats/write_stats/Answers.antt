@@ -1,6 +1,6 @@
 use Rattle.std.proofs.Common.{◌≡◌, append_assoc}
 use Rattle.std.proofs.lemmas.Result.{on_ok_weaker}
-use Rattle.rart_nodes.specs.stats.Stats.{stats_in}
+use Rattle.rart_trie.specs.stats.Stats.{stats_in}
 use Rattle.rart_script.proofs.PrintLemmas.{widths-begin, widths-next, widths-end}
 use Rattle.rart_script.proofs.stats.write_stats.Goals as goal
 

@@ -1,4 +1,4 @@
-use Rattle.rart_nodes.specs.stats.Stats.{stats_in}
+use Rattle.rart_trie.specs.stats.Stats.{stats_in}
 use Rattle.rart_script.specs.Stats.{stats_line}
 use Rattle.rart_lines.proofs.PrintLemmas.{HasPrinted}
 use Rattle.rart_script.proofs.PrintLemmas.{further_widths}

@@ -69,8 +69,8 @@ use Rattle.std.specs.contracts.result.Result as result
 use Rattle.std.proofs.result.Result.TheLaws as result_laws
 use Rattle.rart.specs.contracts.routes.RouteTable as table
 use Rattle.rart.proofs.routes.RouteTable.TheLaws as table_laws
-use Rattle.rart_nodes.specs.contracts.refused.NotInserted as not_inserted
-use Rattle.rart_nodes.proofs.refused.NotInserted.TheLaws as not_inserted_laws
+use Rattle.rart_trie.specs.contracts.refused.NotInserted as not_inserted
+use Rattle.rart_trie.proofs.refused.NotInserted.TheLaws as not_inserted_laws
 use Rattle.rart.specs.contracts.tree.try_insert.TryInsertError as try_insert_error
 use Rattle.rart.proofs.tree.try_insert.TryInsertError.TheLaws as try_insert_error_laws
 use Rattle.rart.specs.contracts.routes.RouteTable.add_new as adds

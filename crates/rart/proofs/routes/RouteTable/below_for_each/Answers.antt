@@ -2,7 +2,7 @@ use Rattle.std.proofs.Common.{OnOk, sym, subst}
 use Rattle.std.specs.List.{FoldsTo}
 use Rattle.rart_keys.specs.Filters.{below}
 use Rattle.rart_keys.specs.SortedMap.{keys_of}
-use Rattle.rart_nodes.specs.walks.Cut.{cut_pairs}
+use Rattle.rart_trie.specs.walks.Cut.{cut_pairs}
 use Rattle.rart_nodes.specs.walks.Viewed.{CanView, Viewed}
 use Rattle.rart.specs.MapAndShape.{MapAndShape}
 use Rattle.rart.proofs.routes.RouteTable.below_for_each.Goals as goal

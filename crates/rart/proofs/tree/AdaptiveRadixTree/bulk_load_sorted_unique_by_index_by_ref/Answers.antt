@@ -2,7 +2,7 @@ use Rattle.std.proofs.Common.{rules, ◌≡◌, ◌≤◌, ◌∙◌, ap, length
 use Rattle.std.proofs.lemmas.List.{length-map}
 use Rattle.std.proofs.lemmas.Result.{IfOk-weaker}
 use Rattle.rart_keys.specs.SortedMap.{keys_of}
-use Rattle.rart_nodes.specs.shapes.ShapeRecords.{keys_in}
+use Rattle.rart_trie.specs.shapes.KeyLists.{keys_in}
 use Rattle.rart.specs.declared.tree.TheConstants.{MAX_PAIRS}
 use Rattle.rart.proofs.BulkTreeLemmas.{keys-ascend, places-within}
 use Rattle.rart.proofs.tree.AdaptiveRadixTree.bulk_load_sorted_unique_by_index_by_ref.Goals as goal

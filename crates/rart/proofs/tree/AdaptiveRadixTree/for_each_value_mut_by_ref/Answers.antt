@@ -1,8 +1,8 @@
 use Rattle.std.proofs.Common.{◌≡◌, ◌∙◌, List, [], ◌∷◌, ℕ, ap, refl, subst, sym}
 use Rattle.rart_keys.specs.Filters.{below}
 use Rattle.rart_keys.specs.SortedMap.{values_of}
-use Rattle.rart_nodes.specs.edits.ValueChanges.{CanLend}
-use Rattle.rart_nodes.specs.tries.Tree.{tree_pairs}
+use Rattle.rart_trie.specs.edits.ValueChanges.{CanLend}
+use Rattle.rart_trie.specs.tries.Tree.{tree_pairs}
 use Rattle.rart.proofs.tree.AdaptiveRadixTree.for_each_value_mut_by_ref.Goals as goal
 
 -- every key begins with no byte

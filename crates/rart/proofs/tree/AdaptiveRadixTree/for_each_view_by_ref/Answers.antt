@@ -1,7 +1,7 @@
 use Rattle.std.proofs.Common.{List, ℕ, OnOk, sym, subst}
 use Rattle.std.specs.List.{FoldsTo}
 use Rattle.rart_keys.specs.SortedMap.{keys_of}
-use Rattle.rart_nodes.specs.walks.Cut.{cut_pairs}
+use Rattle.rart_trie.specs.walks.Cut.{cut_pairs}
 use Rattle.rart_nodes.specs.walks.Viewed.{CanView, Viewed}
 use Rattle.rart.proofs.tree.AdaptiveRadixTree.for_each_view_by_ref.Goals as goal
 

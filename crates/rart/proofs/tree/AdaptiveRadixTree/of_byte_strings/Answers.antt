@@ -1,7 +1,7 @@
 use Rattle.std.proofs.Common.{sym, arith}
 use Rattle.std.proofs.lemmas.List.{length-map}
-use Rattle.rart_nodes.specs.shapes.ShapeRecords.{keys_in}
-use Rattle.rart_nodes.specs.tries.Trie.{pairs_of}
+use Rattle.rart_trie.specs.shapes.KeyLists.{keys_in}
+use Rattle.rart_trie.specs.tries.Trie.{pairs_of}
 use Rattle.rart.specs.declared.tree.TheConstants.{MAX_PAIRS}
 use Rattle.rart.proofs.BulkEndLemmas.{loaded-fields}
 use Rattle.rart.proofs.tree.AdaptiveRadixTree.of_byte_strings.Goals as goal

@@ -1,7 +1,7 @@
 use Rattle.std.proofs.Common.{◌∙◌, ap, arith, length}
 use Rattle.std.specs.Vec.Iter.{into_iter_items}
 use Rattle.std.proofs.lemmas.List.{length-map}
-use Rattle.rart_nodes.specs.shapes.ShapeRecords.{keys_in}
+use Rattle.rart_trie.specs.shapes.KeyLists.{keys_in}
 use Rattle.rart.proofs.BulkTreeLemmas.{keys-within}
 use Rattle.rart.proofs.BulkValueLemmas.{can_take-list, strings-count, values-all}
 use Rattle.rart.proofs.tree.AdaptiveRadixTree.of_keys_and_values.Goals as goal

@@ -1,8 +1,8 @@
 use Rattle.std.proofs.Common.{◌≡◌, ◌∙◌, ap, sym, refl, arith, is_some, nat_eq}
 use Rattle.std.specs.Fn.{FnOnceReturnsAtMut}
 use Rattle.rart_keys.specs.SortedMap.{lookup}
-use Rattle.rart_nodes.specs.tries.Tree.{tree_pairs}
-use Rattle.rart_nodes.specs.edits.Slots.{slot_of}
+use Rattle.rart_trie.specs.tries.Tree.{tree_pairs}
+use Rattle.rart_trie.specs.edits.Slots.{slot_of}
 use Rattle.rart.specs.MapAndShape.{MapAndShape}
 use Rattle.rart.specs.declared.tree.TheConstants.{MAX_PAIRS}
 use Rattle.rart.proofs.UpdateLemmas.{ends-in}

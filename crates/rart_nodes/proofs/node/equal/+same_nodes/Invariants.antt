@@ -1,7 +1,7 @@
 use Rattle.std.proofs.Common.{◌≡◌, ◌+◌, ◌≤◌}
 use Rattle.rart_nodes.specs.tries.Equal.{same_children}
-use Rattle.rart_nodes.specs.tries.Trie.{children_in}
-use Rattle.rart_nodes.specs.tries.TrieCode.{child_count, node_count}
+use Rattle.rart_trie.specs.tries.Trie.{children_in}
+use Rattle.rart_trie.specs.tries.TrieCode.{child_count, node_count}
 use Rattle.rart_nodes.proofs.node.equal.+same_nodes.Given as goal
 
 abbrev pub decreases-same_nodes : goal.decreases-same_nodes

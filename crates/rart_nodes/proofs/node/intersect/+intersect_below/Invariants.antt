@@ -5,8 +5,8 @@ use Rattle.rart_nodes.specs.joins.SharedEdges.{more_visits}
 use Rattle.rart_nodes.specs.joins.SharedChildren.{intersect_all, visits_all}
 use Rattle.rart_nodes.specs.joins.SharedChildrenAhead.{shared_ahead}
 use Rattle.rart_nodes.specs.joins.JoinPaths.{PathGrown}
-use Rattle.rart_nodes.specs.tries.Trie.{children_in, children_pairs}
-use Rattle.rart_nodes.specs.tries.TrieCode.{node_count}
+use Rattle.rart_trie.specs.tries.Trie.{children_in, children_pairs}
+use Rattle.rart_trie.specs.tries.TrieCode.{node_count}
 use Rattle.rart_nodes.proofs.joins.VisitorLemmas.{AreWithin}
 use Rattle.rart_nodes.proofs.node.intersect.+intersect_below.Given as goal
 

@@ -1,7 +1,7 @@
 use Rattle.std.proofs.Common.{arith}
 use Rattle.std.specs.Option.{option_copied}
 use Rattle.rart_nodes.proofs.joins.JointVisits.{joined-both, joined-right_none}
-use Rattle.rart_nodes.proofs.tries.CanonicalTests.{IsCanonicalTree-test}
+use Rattle.rart_trie.proofs.tries.CanonicalTests.{IsCanonicalTree-test}
 use Rattle.rart_nodes.proofs.node.intersect.intersect_trees.Goals as goal
 
 pub returns-in_default-top-clause-calls : goal.returns-in_default-top-clause-calls

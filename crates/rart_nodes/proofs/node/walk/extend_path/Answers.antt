@@ -1,7 +1,7 @@
 use Rattle.std.proofs.Common.{◌≡◌, ◌++◌, ℕ, List, [], ◌∷◌, arith, ap, inl, refl, length}
 use Rattle.std.proofs.lemmas.List.{length-take}
-use Rattle.rart_nodes.specs.walks.Walk.{Level}
-use Rattle.rart_nodes.specs.tries.Trie.{Children}
+use Rattle.rart_trie.specs.walks.Walk.{Level}
+use Rattle.rart_trie.specs.tries.Trie.{Children}
 use Rattle.rart_nodes.proofs.node.walk.extend_path.Goals as goal
 
 pushed : {V : Type 0} (xs ys : List (Level V)) (cs ds : Children V) (n m : ℕ) → ys ≡ xs ++ (cs, n) ∷ [] → cs ≡ ds

@@ -1,12 +1,12 @@
 //! The children of a visited node, taken from the last.
 ghost use Rattle.std.specs.Prelude.{◌≡◌, ◌+◌, ℕ, MatchOption};
 ghost use Rattle.rart_keys.specs.SortedMap.{count_of};
-ghost use Rattle.rart_nodes.specs.ranges.Under.{children_under, with_last};
-ghost use Rattle.rart_nodes.specs.tries.Trie.{children_in, no_children};
+ghost use Rattle.rart_trie.specs.ranges.Under.{children_under, with_last};
+ghost use Rattle.rart_trie.specs.tries.Trie.{children_in, no_children};
 
-use crate::count::Count;
 use crate::node::seen::Entered;
 use rart_keys::Partial;
+use rart_trie::Count;
 use std::marker::Model;
 
 /// The children of a visited node that are still to be visited, the last first.
@@ -18,8 +18,8 @@ pub(crate) struct BackBranches<'a, P: Partial, V, C> {
 }
 
 impl<'a, P: Partial, V, C> Model for BackBranches<'a, P, V, C> {
-    ghost use Rattle.rart_nodes.specs.ranges.Under.{children_before};
-    ghost use Rattle.rart_nodes.specs.tries.Trie.{Children, children_in};
+    ghost use Rattle.rart_trie.specs.ranges.Under.{children_before};
+    ghost use Rattle.rart_trie.specs.tries.Trie.{Children, children_in};
     ghost use Rattle.rart_nodes.specs.walks.ChildrenCode.{children_code};
 
     ghost Value = { Children V };

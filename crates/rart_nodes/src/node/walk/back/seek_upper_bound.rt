@@ -5,21 +5,21 @@ ghost use Rattle.std.specs.Option.{option_copied};
 ghost use Rattle.rart_keys.specs.SortedMap.{longest_key};
 ghost use Rattle.rart_nodes.specs.ranges.BackWalk.{IsBackWalk, remaining_entries};
 ghost use Rattle.rart_nodes.specs.ranges.Steps.{AllGreater, StepsUntil};
-ghost use Rattle.rart_nodes.specs.ranges.Under.{children_before};
+ghost use Rattle.rart_trie.specs.ranges.Under.{children_before};
 ghost use Rattle.rart_nodes.specs.ranges.UpperBounds.{entries_until};
 ghost use Rattle.rart_nodes.specs.tries.SeenTrees.{length_bound, seen_keys, seen_pairs, seen_tree};
-ghost use Rattle.rart_nodes.specs.tries.Trie.{children_in, pairs_of, prefix_of};
-ghost use Rattle.rart_nodes.specs.walks.ProbeCount.{entered_nodes, probe_count};
-ghost use Rattle.rart_nodes.specs.walks.Walk.{Joins, entries_of, tree_entries};
+ghost use Rattle.rart_trie.specs.tries.Trie.{children_in, pairs_of, prefix_of};
+ghost use Rattle.rart_trie.specs.walks.ProbeCount.{entered_nodes, probe_count};
+ghost use Rattle.rart_trie.specs.walks.Walk.{Joins, entries_of, tree_entries};
 
-use crate::count::Count;
-use crate::node::rest::strip_prefix;
 use crate::node::seen::{Entered, Seen, Shared};
 use crate::node::walk::back::branches::BackBranches;
 use crate::node::walk::back::{BackWalk, empty_back_walk};
 use crate::node::walk::path::Path;
 use crate::node::walk::{Step, value_if};
 use rart_keys::{KeyTrait, Partial};
+use rart_trie::Count;
+use rart_trie::node::strip_prefix;
 use std::alloc::AllocError;
 use std::cmp::Ordering;
 

@@ -3,14 +3,14 @@ ghost use Rattle.std.specs.Prelude.{◌≡◌, ◌≢◌, ◌≤◌, ◌+◌, []
 ghost use Rattle.rart_nodes.specs.ranges.BackWalk.{IsBackWalk, remaining_entries};
 ghost use Rattle.rart_nodes.specs.tries.SeenTrees.{length_bound, seen_keys, seen_pairs, seen_tree};
 ghost use Rattle.rart_nodes.specs.walks.Part.{part_entries, tree_part};
-ghost use Rattle.rart_nodes.specs.walks.ProbeCount.{probe_count};
+ghost use Rattle.rart_trie.specs.walks.ProbeCount.{probe_count};
 
-use crate::count::Count;
 use crate::node::seen::Seen;
 use crate::node::walk::back::{BackWalk, back_walk_at, empty_back_walk};
 use crate::node::walk::path::Path;
 use crate::node::walks::below::seek_prefix;
 use rart_keys::KeyTrait;
+use rart_trie::Count;
 use std::alloc::AllocError;
 
 impl<'a, K: KeyTrait, V, C: Count> Seen<'a, K, V, C> {

@@ -1,6 +1,6 @@
 use Rattle.std.proofs.Common.{◌≡◌, ◌∙◌, ◌∷◌, ◌++◌, [], ap, arith, length, length-append}
 use Rattle.std.proofs.lemmas.List.{map-append}
-use Rattle.rart_nodes.specs.shapes.ShapeRecords.{keys_in}
+use Rattle.rart_trie.specs.shapes.KeyLists.{keys_in}
 use Rattle.rart.proofs.BulkTreeLemmas.{one-key-more}
 use Rattle.rart.proofs.tree.bulk.keys.keys_by_index.Goals as goal
 

@@ -1,5 +1,5 @@
 use Rattle.std.proofs.Common.{◌≡◌, length}
-use Rattle.rart_nodes.specs.shapes.ShapeRecords.{keys_in}
+use Rattle.rart_trie.specs.shapes.KeyLists.{keys_in}
 use Rattle.rart.specs.BulkLoads.{AreKeysAt}
 use Rattle.rart.proofs.tree.bulk.keys.keys_by_index.Given as goal
 

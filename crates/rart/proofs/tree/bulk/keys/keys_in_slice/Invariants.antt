@@ -1,5 +1,5 @@
 use Rattle.std.proofs.Common.{◌≡◌, ◌++◌, length, map}
-use Rattle.rart_nodes.specs.shapes.ShapeRecords.{keys_in}
+use Rattle.rart_trie.specs.shapes.KeyLists.{keys_in}
 use Rattle.rart.proofs.tree.bulk.keys.keys_in_slice.Given as goal
 
 abbrev pub invariant-loop-key : goal.invariant-loop-key

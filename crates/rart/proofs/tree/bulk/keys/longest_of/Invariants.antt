@@ -1,6 +1,6 @@
 use Rattle.std.proofs.Common.{◌≡◌, ◌-◌, length, drop, max}
 use Rattle.rart_keys.specs.SortedMap.{longest_key}
-use Rattle.rart_nodes.specs.shapes.ShapeRecords.{keys_in, unit_pairs}
+use Rattle.rart_trie.specs.shapes.KeyLists.{keys_in, unit_pairs}
 use Rattle.rart.proofs.tree.bulk.keys.longest_of.Given as goal
 
 abbrev pub invariant-loop-at : goal.invariant-loop-at

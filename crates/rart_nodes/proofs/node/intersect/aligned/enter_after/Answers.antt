@@ -1,5 +1,5 @@
 use Rattle.std.proofs.Common.{◌≡◌, rules, Some, sym, ◌∙◌}
-use Rattle.rart_nodes.specs.tries.Trie.{child_in}
+use Rattle.rart_trie.specs.tries.Trie.{child_in}
 use Rattle.rart_nodes.proofs.joins.AlignmentLemmas.{child-starts}
 use Rattle.rart_nodes.proofs.node.intersect.aligned.enter_after.Goals as goal
 

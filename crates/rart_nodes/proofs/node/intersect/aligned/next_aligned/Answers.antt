@@ -1,7 +1,7 @@
 use Rattle.std.proofs.Common.{◌+◌, [], ◌∷◌, ◌++◌, length, length-append, ap, arith, ◌∙◌}
 use Rattle.rart_keys.specs.SortedMap.{longest_key}
-use Rattle.rart_nodes.specs.tries.Trie.{pairs_of}
-use Rattle.rart_nodes.specs.tries.TrieCode.{node_count}
+use Rattle.rart_trie.specs.tries.Trie.{pairs_of}
+use Rattle.rart_trie.specs.tries.TrieCode.{node_count}
 use Rattle.rart_nodes.proofs.joins.AlignmentLemmas.{nil-when, some-when, place-start, place-common, place-parted}
 use Rattle.rart_nodes.proofs.joins.AlignmentLemmas.{place-left_none, place-right_none, place-left, place-right}
 use Rattle.rart_nodes.proofs.joins.AlignmentLemmas.{place-aligned, Step}

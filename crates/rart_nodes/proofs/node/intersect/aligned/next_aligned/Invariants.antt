@@ -1,6 +1,6 @@
 use Rattle.std.proofs.Common.{◌+◌, ℕ, List}
 use Rattle.rart_nodes.specs.joins.JoinPaths.{PathGrown}
-use Rattle.rart_nodes.specs.tries.TrieCode.{node_count}
+use Rattle.rart_trie.specs.tries.TrieCode.{node_count}
 use Rattle.rart_nodes.proofs.joins.AlignmentLemmas.{Place}
 use Rattle.rart_nodes.proofs.node.intersect.aligned.next_aligned.Given as goal
 

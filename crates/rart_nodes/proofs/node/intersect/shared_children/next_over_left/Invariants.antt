@@ -1,6 +1,6 @@
 use Rattle.std.proofs.Common.{◌≡◌}
 use Rattle.rart_nodes.specs.joins.SharedChildren.{shared_left}
-use Rattle.rart_nodes.specs.tries.TrieCode.{child_count}
+use Rattle.rart_trie.specs.tries.TrieCode.{child_count}
 use Rattle.rart_nodes.proofs.node.intersect.shared_children.next_over_left.Given as goal
 
 abbrev pub invariant-loop-byte : goal.invariant-loop-byte

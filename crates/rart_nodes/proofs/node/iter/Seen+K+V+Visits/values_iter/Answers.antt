@@ -1,6 +1,6 @@
 use Rattle.std.proofs.Common.{ap, ◌∙◌}
 use Rattle.std.specs.Option.{option_copied}
-use Rattle.rart_nodes.specs.walks.Walk.{entry_values}
+use Rattle.rart_trie.specs.walks.Walk.{entry_values}
 use Rattle.rart_nodes.specs.walks.PathParts.{no_segment}
 use Rattle.rart_nodes.proofs.walks.EntryLemmas.{values-tree}
 use Rattle.rart_nodes.proofs.node.iter.Seen+K+V+Visits.values_iter.Goals as goal

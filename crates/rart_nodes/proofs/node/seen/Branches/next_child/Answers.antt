@@ -1,5 +1,5 @@
 use Rattle.std.proofs.Common.{ap}
-use Rattle.rart_nodes.specs.tries.TrieCode.{as_children}
+use Rattle.rart_trie.specs.tries.TrieCode.{as_children}
 use Rattle.rart_nodes.proofs.walks.WalkLemmas.{next-branches}
 use Rattle.rart_nodes.proofs.node.seen.Branches.next_child.Goals as goal
 

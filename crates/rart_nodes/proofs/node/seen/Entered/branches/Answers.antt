@@ -1,4 +1,4 @@
-use Rattle.rart_nodes.proofs.tries.CanonicalTests.{IsCanonical-test}
+use Rattle.rart_trie.proofs.tries.CanonicalTests.{IsCanonical-test}
 use Rattle.rart_nodes.proofs.walks.WalkLemmas.{below-canonical}
 use Rattle.rart_nodes.proofs.node.seen.Entered.branches.Goals as goal
 

@@ -1,5 +1,5 @@
 use Rattle.std.proofs.Common.{sym}
-use Rattle.rart_nodes.proofs.walks.SeenLemmas.{child-canonical}
+use Rattle.rart_trie.proofs.tries.StepLemmas.{child-canonical}
 use Rattle.rart_nodes.proofs.node.seen.Entered.child.Goals as goal
 
 pub invariant_of-result : goal.invariant_of-result

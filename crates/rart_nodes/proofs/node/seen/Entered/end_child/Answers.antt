@@ -1,5 +1,5 @@
 use Rattle.std.proofs.Common.{sym}
-use Rattle.rart_nodes.proofs.tries.EndLemmas.{end-canonical}
+use Rattle.rart_trie.proofs.tries.EndLemmas.{end-canonical}
 use Rattle.rart_nodes.proofs.node.seen.Entered.end_child.Goals as goal
 
 pub invariant_of-result : goal.invariant_of-result

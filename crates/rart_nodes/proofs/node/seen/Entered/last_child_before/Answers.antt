@@ -1,6 +1,6 @@
-use Rattle.rart_nodes.specs.tries.Trie.{children_in}
-use Rattle.rart_nodes.proofs.ranges.UnderLemmas.{last-part}
-use Rattle.rart_nodes.proofs.tries.CanonicalTests.{IsCanonical-test}
+use Rattle.rart_trie.specs.tries.Trie.{children_in}
+use Rattle.rart_trie.proofs.storages.UnderLemmas.{last-part}
+use Rattle.rart_trie.proofs.tries.CanonicalTests.{IsCanonical-test}
 use Rattle.rart_nodes.proofs.walks.WalkLemmas.{below-canonical}
 use Rattle.rart_nodes.proofs.node.seen.Entered.last_child_before.Goals as goal
 

@@ -1,6 +1,6 @@
 use Rattle.std.proofs.Common.{ap, ◌∙◌}
-use Rattle.rart_nodes.specs.walks.Walk.{segments_after, entries_of, tree_entries}
-use Rattle.rart_nodes.proofs.edits.Outcomes.{err-any}
+use Rattle.rart_trie.specs.walks.Walk.{segments_after, entries_of, tree_entries}
+use Rattle.rart_trie.proofs.edits.Outcomes.{err-any}
 use Rattle.rart_nodes.proofs.walks.WalkLemmas.{after-none, has-pairs}
 use Rattle.rart_nodes.proofs.node.seen.Seen.back_walk.Goals as goal
 

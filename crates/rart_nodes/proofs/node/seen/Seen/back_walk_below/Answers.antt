@@ -1,9 +1,9 @@
 use Rattle.std.proofs.Common.{arith, ap}
 use Rattle.std.specs.Option.{option_copied}
-use Rattle.rart_nodes.specs.walks.ProbeCount.{tree_entered}
-use Rattle.rart_nodes.proofs.edits.Outcomes.{err-any}
-use Rattle.rart_nodes.proofs.tries.CanonicalTests.{IsCanonicalTree-test}
-use Rattle.rart_nodes.proofs.walks.SeenLemmas.{few-tree_entered, tree_entered-probe_count}
+use Rattle.rart_trie.specs.walks.ProbeCount.{tree_entered}
+use Rattle.rart_trie.proofs.edits.Outcomes.{err-any}
+use Rattle.rart_trie.proofs.tries.CanonicalTests.{IsCanonicalTree-test}
+use Rattle.rart_trie.proofs.tries.StepLemmas.{few-tree_entered, tree_entered-probe_count}
 use Rattle.rart_nodes.proofs.walks.WalkLemmas.{has-pairs}
 use Rattle.rart_nodes.proofs.node.seen.Seen.back_walk_below.Goals as goal
 

@@ -1,7 +1,7 @@
 use Rattle.std.proofs.Common.{arith, ap, length}
-use Rattle.rart_nodes.specs.tries.Tree.{tree_pairs}
-use Rattle.rart_nodes.proofs.tries.CanonicalTests.{IsCanonical-test}
-use Rattle.rart_nodes.proofs.tries.EqualLemmas.{nodes-of-root}
+use Rattle.rart_trie.specs.tries.Tree.{tree_pairs}
+use Rattle.rart_trie.proofs.tries.CanonicalTests.{IsCanonical-test}
+use Rattle.rart_nodes.proofs.joins.EqualLemmas.{nodes-of-root}
 use Rattle.rart_nodes.proofs.walks.PartLemmas.{few-count}
 use Rattle.rart_nodes.proofs.node.seen.Seen.count_pairs_counted.Goals as goal
 

@@ -1,9 +1,9 @@
 use Rattle.std.proofs.Common.{◌≡◌, arith, sym, ◌∙◌, ap, Some}
 use Rattle.rart_keys.specs.ByteStrings.{strip_prefix}
-use Rattle.rart_nodes.specs.walks.ProbeCount.{tree_entered}
-use Rattle.rart_nodes.specs.tries.Tree.{tree_lookup}
-use Rattle.rart_nodes.specs.tries.Trie.{prefix_of}
-use Rattle.rart_nodes.proofs.walks.SeenLemmas.{step-on, next-falls}
+use Rattle.rart_trie.specs.walks.ProbeCount.{tree_entered}
+use Rattle.rart_trie.specs.tries.Tree.{tree_lookup}
+use Rattle.rart_trie.specs.tries.Trie.{prefix_of}
+use Rattle.rart_trie.proofs.tries.StepLemmas.{step-on, next-falls}
 use Rattle.rart_nodes.proofs.node.seen.Seen.descend.Goals as goal
 
 pub loop-next-smaller : goal.loop-next-smaller

@@ -1,8 +1,8 @@
 use Rattle.std.proofs.Common.{◌≡◌, ◌+◌, option_map}
 use Rattle.std.specs.Option.{option_copied}
-use Rattle.rart_nodes.specs.walks.ProbeCount.{tree_entered}
-use Rattle.rart_nodes.specs.tries.Tree.{tree_lookup}
-use Rattle.rart_nodes.specs.walks.Walk.{tree_count}
+use Rattle.rart_trie.specs.walks.ProbeCount.{tree_entered}
+use Rattle.rart_trie.specs.tries.Tree.{tree_lookup}
+use Rattle.rart_trie.specs.walks.Walk.{tree_count}
 use Rattle.rart_nodes.proofs.node.seen.Seen.descend.Given as goal
 
 abbrev pub invariant-loop-next : goal.invariant-loop-next

@@ -1,9 +1,9 @@
 use Rattle.std.proofs.Common.{List, ap, ◌∙◌, sym, subst}
 use Rattle.std.specs.Option.{option_copied}
 use Rattle.rart_nodes.specs.walks.Shown.{CanShow, ShowsEach}
-use Rattle.rart_nodes.specs.walks.Walk.{entry_values}
+use Rattle.rart_trie.specs.walks.Walk.{entry_values}
 use Rattle.rart_nodes.specs.walks.PathParts.{no_segment}
-use Rattle.rart_nodes.proofs.tries.CanonicalTests.{IsCanonicalTree-test}
+use Rattle.rart_trie.proofs.tries.CanonicalTests.{IsCanonicalTree-test}
 use Rattle.rart_nodes.proofs.walks.PartLemmas.{part-values}
 use Rattle.rart_nodes.proofs.node.seen.Seen.each_value_below.Goals as goal
 

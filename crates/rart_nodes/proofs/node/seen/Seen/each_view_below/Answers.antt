@@ -1,9 +1,9 @@
 use Rattle.std.proofs.Common.{rules, ◌<◌, ◌^◌, ◌∙◌, List, sym, subst}
 use Rattle.std.specs.Option.{option_copied}
-use Rattle.rart_nodes.specs.walks.Walk.{SegmentList}
+use Rattle.rart_trie.specs.walks.Walk.{SegmentList}
 use Rattle.rart_nodes.specs.walks.ViewSegments.{AreViews}
 use Rattle.rart_nodes.specs.walks.Viewed.{CanView, ViewsEach}
-use Rattle.rart_nodes.proofs.tries.CanonicalTests.{IsCanonicalTree-test}
+use Rattle.rart_trie.proofs.tries.CanonicalTests.{IsCanonicalTree-test}
 use Rattle.rart_nodes.proofs.walks.PartCuts.{part-cut, part-views}
 use Rattle.rart_nodes.proofs.node.seen.Seen.each_view_below.Goals as goal
 

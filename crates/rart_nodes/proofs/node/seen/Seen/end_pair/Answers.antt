@@ -1,8 +1,8 @@
 use Rattle.std.proofs.Common.{◌≡◌, ◌++◌, ◌∙◌, sym, ap, arith, refl, Some, length, length-append}
-use Rattle.rart_nodes.specs.tries.Trie.{prefix_of}
-use Rattle.rart_nodes.proofs.edits.InsertLemmas.{fewer-within}
-use Rattle.rart_nodes.proofs.tries.CanonicalTests.{IsCanonicalTree-test}
-use Rattle.rart_nodes.proofs.tries.EndLemmas.{tree-start, tree-step, tree-fits, tree-end, end-falls}
+use Rattle.rart_trie.specs.tries.Trie.{prefix_of}
+use Rattle.rart_trie.proofs.edits.InsertLemmas.{fewer-within}
+use Rattle.rart_trie.proofs.tries.CanonicalTests.{IsCanonicalTree-test}
+use Rattle.rart_trie.proofs.tries.EndLemmas.{tree-start, tree-step, tree-fits, tree-end, end-falls}
 use Rattle.rart_nodes.proofs.node.seen.Seen.end_pair.Goals as goal
 
 pub loop-child-init : goal.loop-child-init

@@ -1,6 +1,6 @@
 use Rattle.std.specs.Option.{option_copied}
-use Rattle.rart_nodes.specs.tries.TrieCode.{node_count}
-use Rattle.rart_nodes.proofs.tries.EndLemmas.{TreePath}
+use Rattle.rart_trie.specs.tries.TrieCode.{node_count}
+use Rattle.rart_trie.proofs.tries.EndLemmas.{TreePath}
 use Rattle.rart_nodes.proofs.node.seen.Seen.end_pair.Given as goal
 
 abbrev pub invariant-loop-child : goal.invariant-loop-child

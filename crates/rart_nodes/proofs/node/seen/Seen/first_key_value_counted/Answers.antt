@@ -1,6 +1,6 @@
 use Rattle.std.specs.Option.{option_copied}
-use Rattle.rart_nodes.proofs.tries.CanonicalTests.{IsCanonicalTree-test}
-use Rattle.rart_nodes.proofs.tries.EndLemmas.{few-probes, visits-bound}
+use Rattle.rart_trie.proofs.tries.CanonicalTests.{IsCanonicalTree-test}
+use Rattle.rart_trie.proofs.tries.EndLemmas.{few-probes, visits-bound}
 use Rattle.rart_nodes.proofs.node.seen.Seen.first_key_value_counted.Goals as goal
 
 pub returns-clause-bound : goal.returns-clause-bound

@@ -3,16 +3,16 @@ use Rattle.std.specs.Option.{option_copied}
 use Rattle.rart_keys.specs.Ranges.{bound_bytes, bound_in, is_inclusive}
 use Rattle.rart_keys.specs.SortedMap.{keys_of}
 use Rattle.rart_nodes.specs.ranges.Spans.{span_visits}
-use Rattle.rart_nodes.specs.ranges.Starts.{entries_from, entries_to}
-use Rattle.rart_nodes.specs.stats.Stats.{height}
-use Rattle.rart_nodes.specs.tries.Tree.{tree_pairs}
-use Rattle.rart_nodes.specs.walks.ProbeCount.{probe_count}
-use Rattle.rart_nodes.specs.walks.Walk.{SegmentList, tree_entries}
+use Rattle.rart_trie.specs.ranges.Starts.{entries_from, entries_to}
+use Rattle.rart_trie.specs.stats.Stats.{height}
+use Rattle.rart_trie.specs.tries.Tree.{tree_pairs}
+use Rattle.rart_trie.specs.walks.ProbeCount.{probe_count}
+use Rattle.rart_trie.specs.walks.Walk.{SegmentList, tree_entries}
 use Rattle.rart_nodes.specs.walks.PathParts.{one_segment}
 use Rattle.rart_nodes.specs.walks.ViewSegments.{AreViews, views_ahead}
 use Rattle.rart_nodes.specs.walks.Viewed.{CanView, ViewsEach}
 use Rattle.rart_nodes.proofs.ranges.RangeCuts.{none-visited, range-cut, range-length, from_bound-views}
-use Rattle.rart_nodes.proofs.tries.CanonicalTests.{IsCanonicalTree-test}
+use Rattle.rart_trie.proofs.tries.CanonicalTests.{IsCanonicalTree-test}
 use Rattle.rart_nodes.proofs.walks.EntryLemmas.{joins-one}
 use Rattle.rart_nodes.proofs.node.seen.Seen.for_each_range_view_by_ref_counted.Given.{Over}
 use Rattle.rart_nodes.proofs.node.seen.Seen.for_each_range_view_by_ref_counted.Goals.{In_ok-walk}

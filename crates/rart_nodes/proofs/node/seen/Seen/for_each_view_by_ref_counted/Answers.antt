@@ -1,10 +1,10 @@
 use Rattle.std.proofs.Common.{arith, ap, length, List, ℕ, sym, subst, OnOk}
 use Rattle.std.specs.Option.{option_copied}
 use Rattle.rart_keys.specs.SortedMap.{keys_of}
-use Rattle.rart_nodes.specs.tries.Tree.{tree_pairs}
-use Rattle.rart_nodes.specs.walks.Cut.{cut_pairs}
+use Rattle.rart_trie.specs.tries.Tree.{tree_pairs}
+use Rattle.rart_trie.specs.walks.Cut.{cut_pairs}
 use Rattle.rart_nodes.specs.walks.Viewed.{CanView, ViewsEach}
-use Rattle.rart_nodes.proofs.walks.PartLemmas.{below-nil}
+use Rattle.rart_trie.proofs.tries.BelowLemmas.{below-nil}
 use Rattle.rart_nodes.proofs.node.seen.Seen.for_each_view_by_ref_counted.Goals as goal
 
 pub each_view_below-requires : goal.each_view_below-requires

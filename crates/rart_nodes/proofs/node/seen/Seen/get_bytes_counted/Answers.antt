@@ -1,7 +1,7 @@
 use Rattle.std.proofs.Common.{◌∙◌, ap, ◌+◌, arith}
 use Rattle.std.specs.Option.{option_copied}
-use Rattle.rart_nodes.proofs.tries.CanonicalTests.{IsCanonicalTree-test}
-use Rattle.rart_nodes.proofs.walks.SeenLemmas.{tree_lookup-lookup, tree_entered-probe_count, few-tree_entered}
+use Rattle.rart_trie.proofs.tries.CanonicalTests.{IsCanonicalTree-test}
+use Rattle.rart_trie.proofs.tries.StepLemmas.{tree_lookup-lookup, tree_entered-probe_count, few-tree_entered}
 use Rattle.rart_nodes.proofs.node.seen.Seen.get_bytes_counted.Goals as goal
 
 pub returns : goal.returns

@@ -1,5 +1,5 @@
 use Rattle.std.proofs.Common.{arith, ◌∙◌}
-use Rattle.rart_nodes.proofs.tries.EqualLemmas.{nodes-of-root, none-beside-some, same-trees, some-beside-none}
+use Rattle.rart_nodes.proofs.joins.EqualLemmas.{nodes-of-root, none-beside-some, same-trees, some-beside-none}
 use Rattle.rart_nodes.proofs.node.seen.Seen.has_same_pairs_counted.Goals as goal
 
 pub returns-in-Some-Some-clause-value : goal.returns-in-Some-Some-clause-value

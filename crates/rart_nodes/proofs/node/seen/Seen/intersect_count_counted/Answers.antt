@@ -1,6 +1,6 @@
 use Rattle.std.specs.Option.{option_copied}
 use Rattle.rart_keys.specs.Joins.{join}
-use Rattle.rart_nodes.specs.tries.Tree.{tree_pairs}
+use Rattle.rart_trie.specs.tries.Tree.{tree_pairs}
 use Rattle.rart_nodes.proofs.joins.VisitorLemmas.{count-is}
 use Rattle.rart_nodes.proofs.node.seen.Seen.intersect_count_counted.Goals as goal
 

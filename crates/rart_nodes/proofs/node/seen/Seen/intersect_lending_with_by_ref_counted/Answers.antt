@@ -3,8 +3,8 @@ use Rattle.std.proofs.lemmas.Result.{IfErr-weaker}
 use Rattle.std.specs.Option.{option_copied}
 use Rattle.rart_keys.specs.Joins.{join}
 use Rattle.rart_nodes.specs.joins.ViewCalls.{TakesViewAt, ViewedAt}
-use Rattle.rart_nodes.specs.tries.Tree.{tree_pairs}
-use Rattle.rart_nodes.specs.walks.Walk.{joined_bytes}
+use Rattle.rart_trie.specs.tries.Tree.{tree_pairs}
+use Rattle.rart_trie.specs.walks.Walk.{joined_bytes}
 use Rattle.rart_nodes.specs.walks.PathParts.{lent_segments}
 use Rattle.rart_parts.specs.declared.error.TreeError.{TreeError}
 use Rattle.rart_nodes.proofs.joins.CallLemmas.{always-after-view-at, can-views}

@@ -1,7 +1,7 @@
 use Rattle.std.specs.Option.{option_copied}
 use Rattle.rart_keys.specs.Joins.{join}
 use Rattle.rart_nodes.specs.joins.PairCalls.{CalledWith, TakesWith}
-use Rattle.rart_nodes.specs.tries.Tree.{tree_pairs}
+use Rattle.rart_trie.specs.tries.Tree.{tree_pairs}
 use Rattle.rart_nodes.proofs.joins.CallLemmas.{always-after-with, can-values}
 use Rattle.rart_nodes.proofs.node.seen.Seen.intersect_values_with_by_ref_counted.Goals as goal
 

@@ -3,7 +3,7 @@ use Rattle.std.proofs.lemmas.Result.{IfErr-weaker}
 use Rattle.std.specs.Option.{option_copied}
 use Rattle.rart_keys.specs.Joins.{join}
 use Rattle.rart_nodes.specs.joins.PairCalls.{CalledAt, TakesAtKey}
-use Rattle.rart_nodes.specs.tries.Tree.{tree_pairs}
+use Rattle.rart_trie.specs.tries.Tree.{tree_pairs}
 use Rattle.rart_parts.specs.declared.error.TreeError.{TreeError}
 use Rattle.rart_nodes.proofs.joins.CallLemmas.{always-after-at, can-keys}
 use Rattle.rart_nodes.proofs.joins.JointVisits.{joined-right_none}

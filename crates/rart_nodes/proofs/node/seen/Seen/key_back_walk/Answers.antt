@@ -1,8 +1,8 @@
 use Rattle.std.proofs.Common.{ap, ◌∙◌}
 use Rattle.std.specs.Option.{option_copied}
-use Rattle.rart_nodes.specs.walks.Walk.{join_all}
+use Rattle.rart_trie.specs.walks.Walk.{join_all}
 use Rattle.rart_nodes.specs.walks.PathParts.{byte_segments}
-use Rattle.rart_nodes.proofs.edits.InsertLemmas.{fewer-within}
+use Rattle.rart_trie.proofs.edits.InsertLemmas.{fewer-within}
 use Rattle.rart_nodes.proofs.walks.EntryLemmas.{joined-tree, joins-bytes}
 use Rattle.rart_nodes.proofs.node.seen.Seen.key_back_walk.Goals as goal
 

@@ -1,7 +1,7 @@
 use Rattle.std.specs.Option.{option_copied}
-use Rattle.rart_nodes.specs.tries.Tree.{tree_pairs}
+use Rattle.rart_trie.specs.tries.Tree.{tree_pairs}
 use Rattle.rart_nodes.proofs.ranges.DownLemmas.{root-probe, to_bound-all}
-use Rattle.rart_nodes.proofs.tries.CanonicalTests.{IsCanonicalTree-test}
+use Rattle.rart_trie.proofs.tries.CanonicalTests.{IsCanonicalTree-test}
 use Rattle.rart_nodes.proofs.node.seen.Seen.key_back_walk_within.Goals as goal
 
 pub returns-in-Unbounded-clause-pairs : goal.returns-in-Unbounded-clause-pairs

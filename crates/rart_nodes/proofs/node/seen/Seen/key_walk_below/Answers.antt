@@ -1,9 +1,9 @@
 use Rattle.std.proofs.Common.{ap, ◌∙◌}
 use Rattle.std.specs.Option.{option_copied}
-use Rattle.rart_nodes.specs.walks.Walk.{join_all}
+use Rattle.rart_trie.specs.walks.Walk.{join_all}
 use Rattle.rart_nodes.specs.walks.PathParts.{byte_segments}
-use Rattle.rart_nodes.proofs.edits.InsertLemmas.{fewer-within}
-use Rattle.rart_nodes.proofs.tries.CanonicalTests.{IsCanonicalTree-test}
+use Rattle.rart_trie.proofs.edits.InsertLemmas.{fewer-within}
+use Rattle.rart_trie.proofs.tries.CanonicalTests.{IsCanonicalTree-test}
 use Rattle.rart_nodes.proofs.walks.PartLemmas.{part-keys}
 use Rattle.rart_nodes.proofs.walks.EntryLemmas.{joins-bytes}
 use Rattle.rart_nodes.proofs.node.seen.Seen.key_walk_below.Goals as goal

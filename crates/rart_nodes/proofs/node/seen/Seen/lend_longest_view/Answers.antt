@@ -1,7 +1,8 @@
 use Rattle.std.proofs.Common.{rules, of_calls, ap, ◌∙◌}
 use Rattle.rart_nodes.specs.tries.SeenTrees.{seen_keys}
 use Rattle.rart_nodes.specs.walks.PathParts.{lent_segments}
-use Rattle.rart_nodes.proofs.walks.CallLemmas.{always-on, can-show}
+use Rattle.rart_nodes.proofs.walks.CallLemmas.{can-show}
+use Rattle.rart_trie.proofs.edits.CallbackLemmas.{always-on}
 use Rattle.rart_nodes.proofs.walks.ShownCuts.{shows-cut}
 use Rattle.rart_nodes.proofs.node.seen.Seen.lend_longest_view.Goals as goal
 

@@ -1,7 +1,7 @@
 use Rattle.std.proofs.Common.{◌+◌, arith, ap}
 use Rattle.std.specs.Option.{option_copied}
 use Rattle.rart_keys.specs.Filters.{last_or}
-use Rattle.rart_nodes.proofs.tries.CanonicalTests.{IsCanonicalTree-test}
+use Rattle.rart_trie.proofs.tries.CanonicalTests.{IsCanonicalTree-test}
 use Rattle.rart_nodes.proofs.walks.MatchLemmas.{all-entered, entered-ahead, matches-ahead}
 use Rattle.rart_nodes.proofs.node.seen.Seen.longest_prefix_len_bytes_counted.Goals as goal
 

@@ -1,9 +1,9 @@
 use Rattle.std.proofs.Common.{◌≡◌, ◌≤◌, ◌+◌, length, take, option_map, IfSome}
 use Rattle.std.specs.Option.{option_copied}
 use Rattle.rart_keys.specs.Filters.{last_or, longest_match}
-use Rattle.rart_nodes.specs.tries.Tree.{tree_pairs}
+use Rattle.rart_trie.specs.tries.Tree.{tree_pairs}
 use Rattle.rart_nodes.specs.walks.Matches.{matches_ahead, entered_ahead}
-use Rattle.rart_nodes.specs.walks.ProbeCount.{tree_entered}
+use Rattle.rart_trie.specs.walks.ProbeCount.{tree_entered}
 use Rattle.rart_nodes.proofs.node.seen.Seen.longest_prefix_len_bytes_counted.Given as goal
 
 abbrev pub invariant-loop-value : goal.invariant-loop-value

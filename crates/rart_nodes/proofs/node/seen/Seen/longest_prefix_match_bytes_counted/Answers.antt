@@ -1,7 +1,7 @@
 use Rattle.std.proofs.Common.{ap, arith, length, take}
 use Rattle.std.specs.Option.{option_copied}
-use Rattle.rart_nodes.specs.tries.Tree.{tree_pairs}
-use Rattle.rart_nodes.proofs.edits.InsertLemmas.{fewer-within}
+use Rattle.rart_trie.specs.tries.Tree.{tree_pairs}
+use Rattle.rart_trie.proofs.edits.InsertLemmas.{fewer-within}
 use Rattle.rart_nodes.proofs.walks.MatchLemmas.{match-short}
 use Rattle.rart_nodes.proofs.node.seen.Seen.longest_prefix_match_bytes_counted.Goals as goal
 

@@ -1,5 +1,5 @@
 use Rattle.std.specs.Option.{option_copied}
-use Rattle.rart_nodes.proofs.tries.CanonicalTests.{test-IsCanonicalTree}
+use Rattle.rart_trie.proofs.tries.CanonicalTests.{test-IsCanonicalTree}
 use Rattle.rart_nodes.proofs.node.seen.Seen.of.Goals as goal
 
 pub invariant_of-result : goal.invariant_of-result

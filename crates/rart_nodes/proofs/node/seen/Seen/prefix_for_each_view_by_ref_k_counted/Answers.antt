@@ -2,8 +2,8 @@ use Rattle.std.proofs.Common.{List, ℕ, sym, subst, OnOk}
 use Rattle.std.specs.Option.{option_copied}
 use Rattle.rart_keys.specs.Filters.{below}
 use Rattle.rart_keys.specs.SortedMap.{keys_of}
-use Rattle.rart_nodes.specs.tries.Tree.{tree_pairs}
-use Rattle.rart_nodes.specs.walks.Cut.{cut_pairs}
+use Rattle.rart_trie.specs.tries.Tree.{tree_pairs}
+use Rattle.rart_trie.specs.walks.Cut.{cut_pairs}
 use Rattle.rart_nodes.specs.walks.Viewed.{CanView, ViewsEach}
 use Rattle.rart_nodes.proofs.node.seen.Seen.prefix_for_each_view_by_ref_k_counted.Goals as goal
 

@@ -1,10 +1,10 @@
-use Rattle.std.proofs.Common.{arith, rules, of_calls, ◌+◌, List, ℕ, take, subst, sym, ap}
-use Rattle.std.proofs.Common.{refl}
+use Rattle.std.proofs.Common.{arith, rules, of_calls, ◌+◌, List, ℕ, take, subst, sym, ap, refl}
 use Rattle.std.specs.Option.{option_copied}
 use Rattle.rart_nodes.specs.walks.Matched.{CanMatch, Matched, MatchesEach}
-use Rattle.rart_nodes.proofs.tries.CanonicalTests.{IsCanonicalTree-test}
+use Rattle.rart_trie.proofs.tries.CanonicalTests.{IsCanonicalTree-test}
 use Rattle.rart_nodes.proofs.walks.MatchLemmas.{all-entered, entered-ahead, matches-ahead}
-use Rattle.rart_nodes.proofs.walks.CallLemmas.{always-after-matches, can-first, can-rest}
+use Rattle.rart_nodes.proofs.walks.CallLemmas.{always-after-matches}
+use Rattle.rart_trie.proofs.edits.CallbackLemmas.{can-first, can-rest}
 use Rattle.rart_nodes.proofs.node.seen.Seen.prefix_match_for_each_by_ref_bytes_counted.Goals as goal
 
 pub loop-value-init : goal.loop-value-init

@@ -1,10 +1,10 @@
 use Rattle.std.proofs.Common.{◌≡◌, ◌≤◌, ◌+◌, length, option_map}
 use Rattle.std.specs.Option.{option_copied}
 use Rattle.rart_keys.specs.Filters.{matches}
-use Rattle.rart_nodes.specs.tries.Tree.{tree_pairs}
+use Rattle.rart_trie.specs.tries.Tree.{tree_pairs}
 use Rattle.rart_nodes.specs.walks.Matched.{CanMatch, MatchesEach}
 use Rattle.rart_nodes.specs.walks.Matches.{matches_ahead, entered_ahead}
-use Rattle.rart_nodes.specs.walks.ProbeCount.{tree_entered}
+use Rattle.rart_trie.specs.walks.ProbeCount.{tree_entered}
 use Rattle.rart_nodes.proofs.node.seen.Seen.prefix_match_for_each_by_ref_bytes_counted.Given as goal
 
 abbrev pub invariant-loop-value : goal.invariant-loop-value

@@ -1,7 +1,7 @@
 use Rattle.std.proofs.Common.{List, ℕ, sym, subst}
 use Rattle.std.specs.Option.{option_copied}
 use Rattle.rart_keys.specs.Filters.{matches}
-use Rattle.rart_nodes.specs.tries.Tree.{tree_pairs}
+use Rattle.rart_trie.specs.tries.Tree.{tree_pairs}
 use Rattle.rart_nodes.specs.walks.Matched.{CanMatch, MatchesEach}
 use Rattle.rart_nodes.proofs.node.seen.Seen.prefix_match_for_each_by_ref_k_counted.Goals as goal
 

@@ -3,7 +3,7 @@ use Rattle.std.specs.Option.{option_copied}
 use Rattle.rart_keys.specs.Ranges.{bound_in}
 use Rattle.rart_nodes.specs.ranges.UpperBounds.{down_to}
 use Rattle.rart_nodes.proofs.ranges.DownLemmas.{down_to-tree}
-use Rattle.rart_nodes.proofs.tries.CanonicalTests.{IsCanonicalTree-test}
+use Rattle.rart_trie.proofs.tries.CanonicalTests.{IsCanonicalTree-test}
 use Rattle.rart_nodes.proofs.node.seen.Seen.range_descending_counted.Goals as goal
 
 pub returns-clause-pairs : goal.returns-clause-pairs

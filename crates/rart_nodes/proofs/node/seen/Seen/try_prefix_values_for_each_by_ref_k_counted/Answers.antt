@@ -3,12 +3,12 @@ use Rattle.std.specs.Option.{option_copied}
 use Rattle.rart_keys.specs.Filters.{below}
 use Rattle.rart_keys.specs.SortedMap.{values_of}
 use Rattle.rart_nodes.specs.tries.SeenTrees.{seen_keys, seen_pairs}
-use Rattle.rart_nodes.specs.tries.Tree.{tree_pairs}
-use Rattle.rart_nodes.specs.walks.ProbeCount.{probe_count}
-use Rattle.rart_nodes.specs.walks.Walk.{entry_values}
+use Rattle.rart_trie.specs.tries.Tree.{tree_pairs}
+use Rattle.rart_trie.specs.walks.ProbeCount.{probe_count}
+use Rattle.rart_trie.specs.walks.Walk.{entry_values}
 use Rattle.rart_nodes.specs.walks.PathParts.{no_segment}
 use Rattle.rart_nodes.specs.walks.Tried.{CanTry, EndsAs}
-use Rattle.rart_nodes.proofs.tries.CanonicalTests.{IsCanonicalTree-test}
+use Rattle.rart_trie.proofs.tries.CanonicalTests.{IsCanonicalTree-test}
 use Rattle.rart_nodes.proofs.walks.PartLemmas.{part-values}
 use Rattle.rart_nodes.proofs.node.seen.Seen.try_prefix_values_for_each_by_ref_k_counted.Goals as goal
 

@@ -1,10 +1,10 @@
 use Rattle.std.proofs.Common.{◌≡◌, ◌∙◌, arith, ap, sym, Some}
 use Rattle.std.specs.Option.{option_copied}
 use Rattle.rart_nodes.specs.walks.Part.{tree_part}
-use Rattle.rart_nodes.proofs.edits.Outcomes.{err-any}
-use Rattle.rart_nodes.proofs.tries.CanonicalTests.{IsCanonical-test, IsCanonicalTree-test}
+use Rattle.rart_trie.proofs.edits.Outcomes.{err-any}
+use Rattle.rart_trie.proofs.tries.CanonicalTests.{IsCanonical-test, IsCanonicalTree-test}
 use Rattle.rart_nodes.proofs.walks.PartLemmas.{few-count, part-length}
-use Rattle.rart_nodes.proofs.walks.SeenLemmas.{root-entered}
+use Rattle.rart_trie.proofs.tries.StepLemmas.{root-entered}
 use Rattle.rart_nodes.proofs.walks.WalkLemmas.{has-pairs}
 use Rattle.rart_nodes.proofs.node.seen.Seen.walk_below.Goals as goal
 

@@ -1,7 +1,7 @@
 use Rattle.std.proofs.Common.{arith}
-use Rattle.rart_nodes.proofs.edits.Outcomes.{err-any}
+use Rattle.rart_trie.proofs.edits.Outcomes.{err-any}
 use Rattle.rart_nodes.proofs.ranges.PotentialLemmas.{low-tree}
-use Rattle.rart_nodes.proofs.walks.SeenLemmas.{root-entered}
+use Rattle.rart_trie.proofs.tries.StepLemmas.{root-entered}
 use Rattle.rart_nodes.proofs.walks.WalkLemmas.{has-pairs}
 use Rattle.rart_nodes.proofs.node.seen.Seen.walk_from.Goals as goal
 

@@ -2,7 +2,7 @@ use Rattle.std.proofs.Common.{List, ℕ, IfOk, sym, subst}
 use Rattle.std.specs.Option.{option_copied}
 use Rattle.rart_keys.specs.Filters.{longest_match}
 use Rattle.rart_keys.specs.SortedMap.{keys_of}
-use Rattle.rart_nodes.specs.tries.Tree.{tree_pairs}
+use Rattle.rart_trie.specs.tries.Tree.{tree_pairs}
 use Rattle.rart_nodes.specs.walks.Viewed.{CanSeeFound, SeesFound}
 use Rattle.rart_nodes.proofs.node.seen.Seen.with_longest_prefix_match_view_k_counted.Goals as goal
 

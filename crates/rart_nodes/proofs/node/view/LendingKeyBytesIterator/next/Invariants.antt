@@ -1,6 +1,6 @@
 use Rattle.std.proofs.Common.{◌≡◌, ◌++◌, length}
 use Rattle.std.specs.Slice.Iter.{iter_rest}
-use Rattle.rart_nodes.specs.walks.Walk.{joined_bytes}
+use Rattle.rart_trie.specs.walks.Walk.{joined_bytes}
 use Rattle.rart_nodes.specs.walks.PathParts.{lent_segments}
 use Rattle.rart_nodes.proofs.node.view.LendingKeyBytesIterator.next.Given as goal
 

@@ -2,7 +2,7 @@ use Rattle.std.proofs.Common.{◌≡◌}
 use Rattle.std.specs.Cmp.Lexicographic.{slice_cmp}
 use Rattle.std.specs.Ordering.{nat_cmp}
 use Rattle.std.specs.Slice.Iter.{iter_rest}
-use Rattle.rart_nodes.specs.walks.Walk.{joined_bytes}
+use Rattle.rart_trie.specs.walks.Walk.{joined_bytes}
 use Rattle.rart_nodes.specs.walks.PathParts.{lent_segments}
 use Rattle.rart_nodes.proofs.node.view.LendingKeyView.cmp_slice.Given as goal
 

@@ -1,5 +1,5 @@
 use Rattle.std.proofs.Common.{rules, sym, ◌∙◌, ⊎_elim}
-use Rattle.rart_nodes.specs.walks.Walk.{joined_bytes}
+use Rattle.rart_trie.specs.walks.Walk.{joined_bytes}
 use Rattle.rart_nodes.specs.walks.PathParts.{lent_segments}
 use Rattle.rart_nodes.proofs.walks.SegmentLemmas.{cmp-equal}
 use Rattle.rart_nodes.proofs.node.view.LendingKeyView.eq_slice.Goals as goal

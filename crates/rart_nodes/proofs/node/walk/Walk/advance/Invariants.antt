@@ -1,7 +1,7 @@
 use Rattle.std.proofs.Common.{◌≡◌, ℕ, ◌≤◌, ◌+◌, None, reverse, vec_capacity}
 use Rattle.std.specs.Option.{option_copied}
 use Rattle.rart_nodes.specs.ranges.Potential.{AreLow, potential}
-use Rattle.rart_nodes.specs.walks.Walk.{IsWalk, KeepsEach, nodes_below, entries_ahead, entries_below}
+use Rattle.rart_trie.specs.walks.Walk.{IsWalk, KeepsEach, nodes_below, entries_ahead, entries_below}
 use Rattle.rart_nodes.proofs.walks.WalkLemmas.{work_left}
 use Rattle.rart_nodes.proofs.walks.WalkVisits.{HasVisited}
 use Rattle.rart_nodes.proofs.node.walk.Walk.advance.Given as goal

@@ -1,6 +1,6 @@
 use Rattle.std.proofs.Common.{◌<◌, ◌∙◌, arith, ap, option_map, refl}
 use Rattle.std.specs.Option.{option_copied}
-use Rattle.rart_nodes.specs.walks.Walk.{tree_count}
+use Rattle.rart_trie.specs.walks.Walk.{tree_count}
 use Rattle.rart_nodes.proofs.ranges.StartDescents.{descends-on, descends-past, descends-start, step-child, step-visits}
 use Rattle.rart_nodes.proofs.ranges.StartPaths.{falls}
 use Rattle.rart_nodes.proofs.walks.WalkLemmas.{prefix-short}

@@ -1,7 +1,7 @@
 use Rattle.std.proofs.Common.{◌≡◌, ◌≤◌, ◌<◌, ◌+◌, vec_capacity, option_map}
 use Rattle.std.specs.Option.{option_copied}
-use Rattle.rart_nodes.specs.walks.ProbeCount.{entered_nodes, tree_entered}
-use Rattle.rart_nodes.specs.walks.Walk.{tree_count}
+use Rattle.rart_trie.specs.walks.ProbeCount.{entered_nodes, tree_entered}
+use Rattle.rart_trie.specs.walks.Walk.{tree_count}
 use Rattle.rart_nodes.proofs.ranges.StartDescents.{DescendsFrom}
 use Rattle.rart_nodes.proofs.node.walk.Walk.descend.Given as goal
 

@@ -2,11 +2,12 @@ use Rattle.std.proofs.Common.{◌≡◌, ◌++◌, arith, length, length-append,
 use Rattle.std.proofs.Common.{Some, None, option_map}
 use Rattle.std.specs.List.{starts_with}
 use Rattle.rart_keys.specs.ByteStrings.{strip_prefix, begins}
-use Rattle.rart_nodes.specs.tries.Trie.{prefix_of}
+use Rattle.rart_trie.specs.tries.Trie.{prefix_of}
 use Rattle.rart_nodes.specs.walks.Part.{tree_part}
-use Rattle.rart_nodes.specs.walks.ProbeCount.{tree_entered}
-use Rattle.rart_nodes.proofs.walks.PartLemmas.{child-deep, part-on, part-out, part-within, starts_with-begins}
-use Rattle.rart_nodes.proofs.walks.SeenLemmas.{next-falls, step-on}
+use Rattle.rart_trie.specs.walks.ProbeCount.{tree_entered}
+use Rattle.rart_nodes.proofs.walks.PartLemmas.{child-deep, part-on, part-out, part-within}
+use Rattle.rart_trie.proofs.tries.BelowLemmas.{starts_with-begins}
+use Rattle.rart_trie.proofs.tries.StepLemmas.{next-falls, step-on}
 use Rattle.rart_nodes.proofs.walks.WalkLemmas.{prefix-short}
 use Rattle.rart_nodes.proofs.node.walks.below.seek_prefix.Goals as goal
 

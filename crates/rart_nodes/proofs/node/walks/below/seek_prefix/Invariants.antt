@@ -1,9 +1,9 @@
 use Rattle.std.proofs.Common.{◌≡◌, ◌≤◌, ◌+◌, length, option_map}
 use Rattle.rart_keys.specs.SortedMap.{longest_key}
-use Rattle.rart_nodes.specs.tries.Tree.{tree_pairs}
+use Rattle.rart_trie.specs.tries.Tree.{tree_pairs}
 use Rattle.rart_nodes.specs.walks.Part.{tree_part}
-use Rattle.rart_nodes.specs.walks.ProbeCount.{tree_entered}
-use Rattle.rart_nodes.specs.walks.Walk.{tree_count}
+use Rattle.rart_trie.specs.walks.ProbeCount.{tree_entered}
+use Rattle.rart_trie.specs.walks.Walk.{tree_count}
 use Rattle.rart_nodes.proofs.node.walks.below.seek_prefix.Given as goal
 
 abbrev pub invariant-loop-next : goal.invariant-loop-next

@@ -1,6 +1,6 @@
 use Rattle.std.proofs.Common.{◌≡◌, ◌+◌, ◌++◌, ◌≤◌, length}
-use Rattle.rart_nodes.specs.tries.Trie.{children_in, children_pairs, own_pair, value_of}
-use Rattle.rart_nodes.specs.tries.TrieCode.{child_count, node_count}
+use Rattle.rart_trie.specs.tries.Trie.{children_in, children_pairs, own_pair, value_of}
+use Rattle.rart_trie.specs.tries.TrieCode.{child_count, node_count}
 use Rattle.rart_nodes.proofs.node.walks.count_pairs.+count_below.Given as goal
 
 abbrev pub decreases-count_below : goal.decreases-count_below

@@ -1,8 +1,9 @@
 use Rattle.std.proofs.Common.{arith, rules, of_calls, List, sym, ap, subst, refl}
 use Rattle.std.specs.List.{FoldsTo}
 use Rattle.rart_nodes.specs.walks.Shown.{Folded}
-use Rattle.rart_nodes.specs.walks.Walk.{entry_values}
-use Rattle.rart_nodes.proofs.walks.CallLemmas.{always-after-folds, can-first, can-rest}
+use Rattle.rart_trie.specs.walks.Walk.{entry_values}
+use Rattle.rart_nodes.proofs.walks.CallLemmas.{always-after-folds}
+use Rattle.rart_trie.proofs.edits.CallbackLemmas.{can-first, can-rest}
 use Rattle.rart_nodes.proofs.node.walks.fold.fold_values.Goals as goal
 
 pub f-state-requires : goal.f-state-requires

@@ -2,7 +2,7 @@ use Rattle.std.proofs.Common.{◌≤◌, ◌+◌, ◌^◌, [], length, reverse, 
 use Rattle.std.specs.Option.{option_copied}
 use Rattle.std.specs.List.{FoldsTo}
 use Rattle.rart_nodes.specs.walks.Shown.{CanFold, Folded}
-use Rattle.rart_nodes.specs.walks.Walk.{IsWalk, nodes_below, entry_values, entries_ahead}
+use Rattle.rart_trie.specs.walks.Walk.{IsWalk, nodes_below, entry_values, entries_ahead}
 use Rattle.rart_nodes.specs.walks.PathParts.{no_segment}
 use Rattle.rart_nodes.proofs.node.walks.fold.fold_values.Given as goal
 

@@ -1,9 +1,10 @@
 use Rattle.std.proofs.Common.{arith, rules, of_calls, List, sym, ap, subst, refl, ◌∙◌}
-use Rattle.rart_nodes.specs.walks.Walk.{SegmentList}
+use Rattle.rart_trie.specs.walks.Walk.{SegmentList}
 use Rattle.rart_nodes.specs.walks.PathParts.{lent_segments}
 use Rattle.rart_nodes.specs.walks.ViewSegments.{AreViews}
 use Rattle.rart_nodes.specs.walks.Viewed.{Viewed, ViewsEach}
-use Rattle.rart_nodes.proofs.walks.CallLemmas.{always-after-views, can-first, can-rest}
+use Rattle.rart_nodes.proofs.walks.CallLemmas.{always-after-views}
+use Rattle.rart_trie.proofs.edits.CallbackLemmas.{can-first, can-rest}
 use Rattle.rart_nodes.proofs.node.walks.lending.for_each_view_of.Goals as goal
 
 pub f-requires : goal.f-requires

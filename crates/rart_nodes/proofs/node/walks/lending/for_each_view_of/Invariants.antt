@@ -1,6 +1,6 @@
 use Rattle.std.proofs.Common.{◌≤◌, ◌+◌, length, reverse, vec_capacity}
 use Rattle.std.specs.Option.{option_copied}
-use Rattle.rart_nodes.specs.walks.Walk.{IsWalk, nodes_below, entries_ahead}
+use Rattle.rart_trie.specs.walks.Walk.{IsWalk, nodes_below, entries_ahead}
 use Rattle.rart_nodes.specs.walks.PathParts.{lent_segments, one_segment}
 use Rattle.rart_nodes.specs.walks.ViewSegments.{AreViews}
 use Rattle.rart_nodes.specs.walks.Viewed.{CanView, ViewsEach}

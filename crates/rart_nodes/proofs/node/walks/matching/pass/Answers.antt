@@ -1,7 +1,7 @@
 use Rattle.std.proofs.Common.{◌≡◌, ◌-◌, List, ℕ, length, take, drop, Some, refl}
 use Rattle.rart_keys.specs.ByteStrings.{strip_prefix}
-use Rattle.rart_nodes.specs.tries.Trie.{prefix_of}
-use Rattle.rart_nodes.proofs.tries.PrefixedStrings.{slice_from-is}
+use Rattle.rart_trie.specs.tries.Trie.{prefix_of}
+use Rattle.rart_trie.proofs.tries.PrefixedStrings.{slice_from-is}
 use Rattle.rart_nodes.proofs.walks.MatchLemmas.{pass-ended, pass-on, rest-fits}
 use Rattle.rart_nodes.proofs.node.walks.matching.pass.Goals as goal
 

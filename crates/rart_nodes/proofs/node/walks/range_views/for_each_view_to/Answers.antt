@@ -1,13 +1,14 @@
 use Rattle.std.proofs.Common.{arith, rules, of_calls, ◌≡◌, [], ◌∷◌, List, length, sym, ap, subst, refl, ◌∙◌}
 use Rattle.std.specs.Option.{option_copied}
 use Rattle.rart_keys.specs.Ranges.{bound_in}
-use Rattle.rart_nodes.specs.ranges.Starts.{entries_to}
-use Rattle.rart_nodes.specs.walks.Walk.{SegmentList, entries_ahead}
+use Rattle.rart_trie.specs.ranges.Starts.{entries_to}
+use Rattle.rart_trie.specs.walks.Walk.{SegmentList, entries_ahead}
 use Rattle.rart_nodes.specs.walks.PathParts.{lent_segments, one_segment}
 use Rattle.rart_nodes.specs.walks.ViewSegments.{AreViews}
 use Rattle.rart_nodes.specs.walks.Viewed.{Viewed, ViewsEach}
 use Rattle.rart_nodes.proofs.ranges.RangeCuts.{stop-past, stop-within}
-use Rattle.rart_nodes.proofs.walks.CallLemmas.{always-after-views, can-first, can-rest}
+use Rattle.rart_nodes.proofs.walks.CallLemmas.{always-after-views}
+use Rattle.rart_trie.proofs.edits.CallbackLemmas.{can-first, can-rest}
 use Rattle.rart_nodes.proofs.node.walks.range_views.for_each_view_to.Given.{Over}
 use Rattle.rart_nodes.proofs.node.walks.range_views.for_each_view_to.Goals.{Else-not-is_within, Then-not-is_within}
 use Rattle.rart_nodes.proofs.node.walks.range_views.for_each_view_to.Goals as goal

@@ -2,8 +2,8 @@ use Rattle.std.proofs.Common.{ℕ, ◌≤◌, ◌+◌, ◌*◌, length, reverse,
 use Rattle.std.specs.Option.{option_copied}
 use Rattle.rart_keys.specs.Ranges.{bound_in}
 use Rattle.rart_nodes.specs.ranges.Potential.{AreLow, potential}
-use Rattle.rart_nodes.specs.ranges.Starts.{entries_to}
-use Rattle.rart_nodes.specs.walks.Walk.{IsWalk, entries_ahead}
+use Rattle.rart_trie.specs.ranges.Starts.{entries_to}
+use Rattle.rart_trie.specs.walks.Walk.{IsWalk, entries_ahead}
 use Rattle.rart_nodes.specs.walks.PathParts.{lent_segments, one_segment}
 use Rattle.rart_nodes.specs.walks.ViewSegments.{AreViews}
 use Rattle.rart_nodes.specs.walks.Viewed.{CanView, ViewsEach}

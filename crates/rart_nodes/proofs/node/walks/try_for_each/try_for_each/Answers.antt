@@ -1,9 +1,10 @@
 use Rattle.std.proofs.Common.{arith, rules, of_calls, ◌≡◌, List, sym, ap, subst, refl, Ok, Err}
 use Rattle.std.specs.Fn.{CalledAt}
 use Rattle.rart_nodes.specs.declared.node.walks.control.VisitControl.TheVariants.{Continue}
-use Rattle.rart_nodes.specs.walks.Walk.{SegmentList, entry_values}
+use Rattle.rart_trie.specs.walks.Walk.{SegmentList, entry_values}
 use Rattle.rart_nodes.specs.walks.Tried.{EndsAs}
-use Rattle.rart_nodes.proofs.walks.CallLemmas.{always-after-tries, can-first, can-rest}
+use Rattle.rart_nodes.proofs.walks.CallLemmas.{always-after-tries}
+use Rattle.rart_trie.proofs.edits.CallbackLemmas.{can-first, can-rest}
 use Rattle.rart_nodes.proofs.node.walks.try_for_each.try_for_each.Goals as goal
 
 pub f-requires : goal.f-requires

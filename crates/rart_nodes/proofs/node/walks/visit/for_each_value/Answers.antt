@@ -1,7 +1,8 @@
 use Rattle.std.proofs.Common.{arith, rules, of_calls, List, sym, ap, subst, refl}
 use Rattle.rart_nodes.specs.walks.Shown.{Shown, ShowsEach}
-use Rattle.rart_nodes.specs.walks.Walk.{entry_values}
-use Rattle.rart_nodes.proofs.walks.CallLemmas.{always-after-shows, can-first, can-rest}
+use Rattle.rart_trie.specs.walks.Walk.{entry_values}
+use Rattle.rart_nodes.proofs.walks.CallLemmas.{always-after-shows}
+use Rattle.rart_trie.proofs.edits.CallbackLemmas.{can-first, can-rest}
 use Rattle.rart_nodes.proofs.node.walks.visit.for_each_value.Goals as goal
 
 pub f-requires : goal.f-requires

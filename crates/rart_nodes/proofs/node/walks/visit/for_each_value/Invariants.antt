@@ -1,7 +1,7 @@
 use Rattle.std.proofs.Common.{◌≤◌, ◌+◌, ◌^◌, [], length, reverse, vec_capacity}
 use Rattle.std.specs.Option.{option_copied}
 use Rattle.rart_nodes.specs.walks.Shown.{CanShow, ShowsEach}
-use Rattle.rart_nodes.specs.walks.Walk.{IsWalk, nodes_below, entry_values, entries_ahead}
+use Rattle.rart_trie.specs.walks.Walk.{IsWalk, nodes_below, entry_values, entries_ahead}
 use Rattle.rart_nodes.specs.walks.PathParts.{no_segment}
 use Rattle.rart_nodes.proofs.node.walks.visit.for_each_value.Given as goal
 

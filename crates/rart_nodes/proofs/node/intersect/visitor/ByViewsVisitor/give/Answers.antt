@@ -1,7 +1,7 @@
 use Rattle.std.proofs.Common.{rules, of_calls, ◌≡◌, refl, sym, ap, ◌∙◌, ◌++◌, []}
 use Rattle.std.proofs.lemmas.List.{append-nil}
 use Rattle.rart_nodes.specs.joins.ViewCalls.{ViewedAt}
-use Rattle.rart_nodes.specs.walks.Walk.{joined_bytes}
+use Rattle.rart_trie.specs.walks.Walk.{joined_bytes}
 use Rattle.rart_nodes.specs.walks.PathParts.{lent_segments}
 use Rattle.rart_nodes.proofs.node.intersect.visitor.ByViewsVisitor.give.Goals as goal
 

@@ -1,5 +1,5 @@
 use Rattle.std.proofs.Common.{◌<◌, ◌∙◌, arith, option_map, refl}
-use Rattle.rart_nodes.specs.walks.Walk.{tree_count}
+use Rattle.rart_trie.specs.walks.Walk.{tree_count}
 use Rattle.rart_nodes.proofs.ranges.StartPaths.{falls}
 use Rattle.rart_nodes.proofs.ranges.UntilDescents.{descends-on, descends-past, descends-start, step-child, step-visits}
 use Rattle.rart_nodes.proofs.walks.WalkLemmas.{prefix-short}

@@ -1,6 +1,6 @@
 use Rattle.std.proofs.Common.{◌≡◌, ◌≤◌, ◌<◌, ◌+◌, vec_capacity, option_map}
-use Rattle.rart_nodes.specs.walks.ProbeCount.{entered_nodes, tree_entered}
-use Rattle.rart_nodes.specs.walks.Walk.{tree_count}
+use Rattle.rart_trie.specs.walks.ProbeCount.{entered_nodes, tree_entered}
+use Rattle.rart_trie.specs.walks.Walk.{tree_count}
 use Rattle.rart_nodes.proofs.ranges.UntilDescents.{DescendsUntil}
 use Rattle.rart_nodes.proofs.node.walk.back.BackWalk.descend.Given as goal
 

@@ -2,7 +2,7 @@ use Rattle.std.proofs.Common.{arith, sym, refl, ap, ◌∙◌, ◌≤◌, ◌++�
 use Rattle.std.proofs.lemmas.List.{append-nil}
 use Rattle.std.specs.Option.{option_copied}
 use Rattle.rart_nodes.specs.ranges.BackWalk.{remaining_entries}
-use Rattle.rart_nodes.specs.walks.Walk.{value_at}
+use Rattle.rart_trie.specs.walks.Walk.{value_at}
 use Rattle.rart_nodes.proofs.ranges.BackVisits.{visit-none, visit-on, visit-one, visit-value}
 use Rattle.rart_nodes.proofs.ranges.LevelLemmas.{leave, space, turn}
 use Rattle.rart_nodes.proofs.node.walk.back.BackWalk.retreat.Goals as goal

@@ -1,6 +1,6 @@
 use Rattle.std.proofs.Common.{◌≡◌, ◌≤◌, reverse, vec_capacity}
 use Rattle.rart_nodes.specs.ranges.BackWalk.{IsBackWalk, remaining_entries}
-use Rattle.rart_nodes.specs.walks.Walk.{KeepsEach}
+use Rattle.rart_trie.specs.walks.Walk.{KeepsEach}
 use Rattle.rart_nodes.proofs.ranges.BackVisits.{HasVisited}
 use Rattle.rart_nodes.proofs.ranges.LevelLemmas.{work_after}
 use Rattle.rart_nodes.proofs.node.walk.back.BackWalk.retreat.Given as goal

@@ -3,7 +3,7 @@ use Rattle.std.specs.Cmp.Lexicographic.{slice_cmp}
 use Rattle.std.specs.Ordering.{nat_cmp}
 use Rattle.rart_keys.specs.ByteStrings.{strip_prefix}
 use Rattle.rart_nodes.specs.ranges.Steps.{in_child}
-use Rattle.rart_nodes.specs.tries.Trie.{prefix_of}
+use Rattle.rart_trie.specs.tries.Trie.{prefix_of}
 use Rattle.rart_nodes.proofs.ranges.UntilLemmas.{higher-apart}
 use Rattle.rart_nodes.proofs.node.walk.back.seek_upper_bound.step_until.Goals as goal
 

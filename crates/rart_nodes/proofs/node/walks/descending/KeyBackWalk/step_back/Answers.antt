@@ -1,8 +1,8 @@
 use Rattle.std.proofs.Common.{arith, length, ap, sym, ◌∙◌, ◌∷◌, ◌++◌, [], List, ℕ, reverse}
-use Rattle.rart_nodes.specs.walks.Walk.{join_all}
+use Rattle.rart_trie.specs.walks.Walk.{join_all}
 use Rattle.rart_nodes.specs.ranges.BackWalk.{remaining_entries}
 use Rattle.rart_nodes.specs.walks.PathParts.{byte_segments, kept_bytes}
-use Rattle.rart_nodes.proofs.edits.InsertLemmas.{fewer-within}
+use Rattle.rart_trie.proofs.edits.InsertLemmas.{fewer-within}
 use Rattle.rart_nodes.proofs.ranges.LevelLemmas.{join-append}
 use Rattle.rart_nodes.proofs.walks.EntryLemmas.{joins-bytes, length-bytes}
 use Rattle.rart_nodes.proofs.node.walks.descending.KeyBackWalk.step_back.Goals as goal

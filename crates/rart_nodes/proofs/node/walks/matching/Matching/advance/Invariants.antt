@@ -1,6 +1,6 @@
 use Rattle.std.proofs.Common.{◌≡◌, ◌≤◌, ◌+◌, length, option_map}
 use Rattle.rart_nodes.specs.walks.Matches.{matches_ahead, entered_ahead}
-use Rattle.rart_nodes.specs.walks.Walk.{tree_count}
+use Rattle.rart_trie.specs.walks.Walk.{tree_count}
 use Rattle.rart_nodes.proofs.node.walks.matching.Matching.advance.Given as goal
 
 abbrev pub invariant-loop-node : goal.invariant-loop-node

@@ -1,8 +1,8 @@
 use Rattle.std.proofs.Common.{◌∙◌, ap, sym}
-use Rattle.rart_nodes.specs.ranges.Under.{children_under, with_last}
-use Rattle.rart_nodes.specs.tries.Trie.{children_in}
-use Rattle.rart_nodes.proofs.ranges.UnderLemmas.{last-before, none-last}
-use Rattle.rart_nodes.proofs.tries.CanonicalTests.{IsCanonical-test}
+use Rattle.rart_trie.specs.ranges.Under.{children_under, with_last}
+use Rattle.rart_trie.specs.tries.Trie.{children_in}
+use Rattle.rart_trie.proofs.storages.UnderLemmas.{last-before, none-last}
+use Rattle.rart_trie.proofs.tries.CanonicalTests.{IsCanonical-test}
 use Rattle.rart_nodes.proofs.walks.WalkLemmas.{below-canonical}
 use Rattle.rart_nodes.proofs.node.walk.back.branches.BackBranches.enter_last.Goals as goal
 

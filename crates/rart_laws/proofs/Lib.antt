@@ -1,0 +1,3 @@
+pub mod BranchPointLemmas
+pub mod ShapeExamples
+pub mod StatsExamples

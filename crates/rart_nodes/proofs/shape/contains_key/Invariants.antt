@@ -1,7 +1,0 @@
-use Rattle.std.proofs.Common.{◌≡◌, drop}
-use Rattle.rart_nodes.specs.shapes.Shape.{contains_key}
-use Rattle.rart_nodes.specs.shapes.ShapeRecords.{keys_in}
-use Rattle.rart_nodes.proofs.shape.contains_key.Given as goal
-
-abbrev pub invariant-loop-key : goal.invariant-loop-key
-invariant-loop-key l = contains_key (keys_in (drop l.key-index l.keys)) l.path ≡ contains_key (keys_in l.keys) l.path

@@ -1,5 +1,0 @@
-pub mod ChildLemmas
-pub mod DeletionLemmas
-pub mod DropLemmas
-pub mod EndEntries
-pub mod EntryPlaces

@@ -1,4 +1,0 @@
-pub mod BranchPoints
-pub mod SampleKeys
-pub mod Shape
-pub mod ShapeRecords

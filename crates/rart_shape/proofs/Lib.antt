@@ -1,0 +1,3 @@
+pub mod AscendingKeys
+pub mod ShapeOfLemmas
+pub mod ShapeRecordLemmas

@@ -1,0 +1,42 @@
+-- A change of one child in its place, by the entries of its node's storage.
+use Rattle.std.proofs.Common.{◌≡◌, ℕ, cond, eqb, true, false, List, [], ◌∷◌, Option, Some, refl, ap, ◌∙◌}
+use Rattle.rart_parts.specs.Entries.{child_at, replaced_at}
+use Rattle.rart_trie.specs.edits.ChildChanges.{children_replaced, with_child_replaced, children_with_value}
+use Rattle.rart_trie.specs.edits.ChildChanges.{with_child_value}
+use Rattle.rart_trie.specs.edits.NodeEdits.{with_value}
+use Rattle.rart_trie.specs.tries.Trie.{Trie, node, child}
+use Rattle.rart_trie.specs.tries.TrieCode.{as_children}
+use Rattle.rart_trie.proofs.storages.ChildLemmas.{some-equal}
+
+module _ {V : Type 0} where
+  as-replaced : (b : ℕ) (t : Trie V) (es : List (ℕ × Trie V))
+      → as_children (replaced_at b t es) ≡ children_replaced b t (as_children es)
+  as-replaced b t [] = refl
+  as-replaced b t (e ∷ es) = elim (eqb e.0 b) as (λ z. as_children (cond z ((b, t) ∷ es) (e ∷ replaced_at b t es))
+      ≡ cond z (child b t (as_children es)) (child e.0 e.1 (children_replaced b t (as_children es)))) [
+        | true ↦ refl
+        | false ↦ ap (child e.0 e.1) (as-replaced b t es)
+      ]
+
+  as-with_value : (b : ℕ) (x : V) (t : Trie V) (es : List (ℕ × Trie V)) → Some t ≡ child_at b es
+      → as_children (replaced_at b (with_value x t) es) ≡ children_with_value b x (as_children es)
+  as-with_value b x t [] s = refl
+  as-with_value b x t (e ∷ es) s = elim (eqb e.0 b) as (λ z. Some t ≡ cond z (Some e.1) (child_at b es)
+      → as_children (cond z ((b, with_value x t) ∷ es) (e ∷ replaced_at b (with_value x t) es))
+      ≡ cond z (child b (with_value x e.1) (as_children es))
+      (child e.0 e.1 (children_with_value b x (as_children es)))) [
+        | true ↦ λ h. ap (λ u. child b (with_value x u) (as_children es)) (some-equal t e.1 h)
+        | false ↦ λ h. ap (child e.0 e.1) (as-with_value b x t es h)
+      ] s
+
+  pub with_child_replaced-is : (p : List ℕ) (v : Option V) (w w' b : ℕ) (t : Trie V) (es es' : List (ℕ × Trie V))
+      → w' ≡ w → es' ≡ replaced_at b t es → node p v w' (as_children es')
+      ≡ with_child_replaced b t (node p v w (as_children es))
+  with_child_replaced-is p v w w' b t es es' ew ee = ap (λ z. node p v z (as_children es')) ew
+      ∙ ap (node p v w) (ap as_children ee ∙ as-replaced b t es)
+
+  pub with_child_value-is : (p : List ℕ) (v : Option V) (w w' b : ℕ) (x : V) (t t' : Trie V)
+      (es es' : List (ℕ × Trie V)) → Some t ≡ child_at b es → t' ≡ with_value x t → w' ≡ w → es' ≡ replaced_at b t' es
+      → node p v w' (as_children es') ≡ with_child_value b x (node p v w (as_children es))
+  with_child_value-is p v w w' b x t t' es es' at et ew ee = ap (λ z. node p v z (as_children es')) ew
+      ∙ ap (node p v w) (ap as_children (ee ∙ ap (λ z. replaced_at b z es) et) ∙ as-with_value b x t es at)

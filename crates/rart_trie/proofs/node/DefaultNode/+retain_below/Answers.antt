@@ -1,0 +1,101 @@
+use Rattle.std.proofs.Common.{◌∙◌, arith, length, subst}
+use Rattle.rart_trie.specs.edits.RetainSteps.{CallsForOwn}
+use Rattle.rart_trie.specs.storages.Stored.{child_entries, storage_capacity}
+use Rattle.rart_trie.specs.tries.TrieCode.{as_children}
+use Rattle.rart_trie.proofs.retentions.RetainEndLemmas.{retaining-end, retaining-within}
+use Rattle.rart_trie.proofs.retentions.RetainJoins.{only-child-capacity}
+use Rattle.rart_trie.proofs.retentions.RetainStepLemmas.{retaining-step}
+use Rattle.rart_trie.proofs.retentions.RetainWalkLemmas.{own-callable, retaining-start, upcoming, upcoming-there}
+use Rattle.rart_trie.proofs.retentions.RetainWalkLemmas.{upcoming-within}
+use Rattle.rart_trie.proofs.removals.PopLemmas.{prefix-within}
+use Rattle.rart_trie.proofs.node.DefaultNode.+retain_below.Goals as goal
+
+pub extend-requires : goal.extend-requires
+extend-requires g t c = prefix-within _ (length (g.P.Partial.bytes c.args.path.now))
+    (g.P.Partial.bytes c.self.inside.prefix) c.self.inside.value (storage_capacity c.self.inside.storage)
+    (as_children (child_entries c.self.inside.storage)) (rw (← c.self.view_is) at c.requires.canonical)
+    (rw (← c.self.view_is) at c.requires.within)
+
+pub call_for_own-keeps-requires : goal.call_for_own-keeps-requires
+call_for_own-keeps-requires g t c = record {
+  callable = λ v e key lent k l. own-callable _ (g.P.Partial.bytes c.args.path.now)
+      (g.P.Partial.bytes c.self.inside.prefix) c.args.f.now c.self.inside.value v
+      (storage_capacity c.self.inside.storage) (as_children (child_entries c.self.inside.storage)) e
+      (rw (← c.self.view_is) at c.requires.callable) key lent (k ∙ c.to_slice.ensures ∙ c.extend.ensures) l;
+}
+
+pub loop-next-init : goal.loop-next-init
+loop-next-init g t c = record {
+  path = c.extend.ensures;
+  visited = rw (← c.self.view_is) (retaining-start _ (g.P.Partial.bytes c.args.path.now)
+      (g.P.Partial.bytes c.self.inside.prefix) c.args.f.now c.call_for_own-keeps.new.f c.self.inside.value
+      c.call_for_own-keeps.new.value c.call_for_own-keeps.result c.is_some-has_value.result
+      (storage_capacity c.self.inside.storage) (child_entries c.self.inside.storage) c.first_byte-next.result
+      (rw (← c.self.view_is) at c.requires.canonical)
+      (subst (λ k. CallsForOwn g.F.FnMut k c.args.f.now c.self.inside.value c.call_for_own-keeps.result
+      c.call_for_own-keeps.new.value c.call_for_own-keeps.new.f) (c.to_slice.ensures ∙ c.extend.ensures)
+      c.call_for_own-keeps.ensures) c.is_some-has_value.ensures (rw (← c.self.view_is) at c.requires.callable)
+      c.first_byte-next.ensures);
+}
+
+pub unreachable-requires : goal.unreachable-requires
+unreachable-requires g t c = upcoming-there _ _ _ _ _ _ _ _ _ _ _ _ _
+    (rw c.in-Some.is at c.loop-next.invariant.visited) c.in-None.ensures.value
+
+pub retain_below-below-requires : goal.retain_below-below-requires
+retain_below-below-requires g t c κs within =
+    let next = upcoming _ _ _ _ _ _ _ _ _ _ _ _ _ c.in-Some-seek_child_mut.child.now
+    (rw c.in-Some.is at c.loop-next.invariant.visited) c.in-Some-seek_child_mut.ensures.value in
+    let fits = upcoming-within _ _ _ _ _ _ _ _ _ (g.P.Partial.bytes c.loop-next.path) _ _ _ _ _ c.requires.canonical
+    next c.loop-next.invariant.path c.requires.within in (
+      omega (arith, c.decreases, next.fewer),
+      (
+        within.0,
+        (within.1.0, (within.1.1, (next.canonical, (fits, rw c.loop-next.invariant.path next.callable)))),
+      ),
+    )
+
+pub loop-next-smaller : goal.loop-next-smaller
+loop-next-smaller g t c =
+    let left = rw c.in-Some-seek_child_mut.is at c.seek_child_mut.follows.holds c.retain_below-below.new.self in
+    let next = upcoming _ _ _ _ _ _ _ _ _ _ _ _ _ c.in-Some-seek_child_mut.child.now
+    (rw c.in-Some.is at c.loop-next.invariant.visited) c.in-Some-seek_child_mut.ensures.value in
+    rw c.in-Some.is (retaining-step _ _ _ _ _ _ _ _ _ _ _ _ _ _ _ next c.retain_below-below.result
+    c.apply_to_child-walk.result _ c.apply_to_child-walk.new.storage c.following_byte-next.result
+    c.retain_below-below.ensures.canonical c.retain_below-below.ensures.keeps_first
+    (rw c.loop-next.invariant.path at c.retain_below-below.ensures.retains) left.0 left.1
+    c.apply_to_child-walk.ensures c.following_byte-next.ensures).1
+
+pub loop-next-preserved : goal.loop-next-preserved
+loop-next-preserved g t c =
+    let left = rw c.in-Some-seek_child_mut.is at c.seek_child_mut.follows.holds c.retain_below-below.new.self in
+    let next = upcoming _ _ _ _ _ _ _ _ _ _ _ _ _ c.in-Some-seek_child_mut.child.now
+    (rw c.in-Some.is at c.loop-next.invariant.visited) c.in-Some-seek_child_mut.ensures.value in
+    record {
+      path = c.retain_below-below.ensures.path ∙ c.loop-next.invariant.path;
+      visited = (retaining-step _ _ _ _ _ _ _ _ _ _ _ _ _ _ _ next c.retain_below-below.result
+          c.apply_to_child-walk.result _ c.apply_to_child-walk.new.storage c.following_byte-next.result
+          c.retain_below-below.ensures.canonical c.retain_below-below.ensures.keeps_first
+          (rw c.loop-next.invariant.path at c.retain_below-below.ensures.retains) left.0 left.1
+          c.apply_to_child-walk.ensures c.following_byte-next.ensures).0;
+    }
+
+pub finish-requires-clause-capacity : goal.finish-requires-clause-capacity
+finish-requires-clause-capacity g t c = λ lone. only-child-capacity (storage_capacity c.loop-next.self-inside.storage)
+    (child_entries c.loop-next.self-inside.storage) c.loop-next.invariant.visited.capacity lone
+
+pub finish-requires-clause-within : goal.finish-requires-clause-within
+finish-requires-clause-within g t c = retaining-within _ _ _ _ _ _ _ _ _ _ _ _ _ _ c.requires.canonical
+    c.loop-next.invariant.visited c.requires.within
+
+pub returns-clause-canonical : goal.returns-clause-canonical
+returns-clause-canonical g t c = rw c.finish.ensures.node (retaining-end _ _ _ _ _ _ _ _ _ _ _ _
+    (rw c.in_default.is at c.loop-next.invariant.visited)).canonical
+
+pub returns-clause-keeps_first : goal.returns-clause-keeps_first
+returns-clause-keeps_first g t c = rw c.finish.ensures.node (retaining-end _ _ _ _ _ _ _ _ _ _ _ _
+    (rw c.in_default.is at c.loop-next.invariant.visited)).first
+
+pub returns-clause-retains : goal.returns-clause-retains
+returns-clause-retains g t c = rw (c.finish.ensures.outcome, c.finish.ensures.node)
+    (retaining-end _ _ _ _ _ _ _ _ _ _ _ _ (rw c.in_default.is at c.loop-next.invariant.visited)).retains

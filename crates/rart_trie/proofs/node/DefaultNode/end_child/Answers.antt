@@ -1,0 +1,14 @@
+use Rattle.std.proofs.Common.{sym, ◌∙◌}
+use Rattle.rart_trie.specs.storages.Stored.{child_entries, storage_capacity}
+use Rattle.rart_trie.proofs.storages.EndEntries.{first-below, last_child-entries}
+use Rattle.rart_trie.proofs.node.DefaultNode.end_child.Goals as goal
+
+pub returns-else-is_some : goal.returns-else-is_some
+returns-else-is_some g c = rw (← c.self.view_is) (rw c.in-First.is (c.first_child.ensures
+    ∙ sym (first-below (g.P.Partial.bytes c.self.inside.prefix) c.self.inside.value
+    (storage_capacity c.self.inside.storage)
+    (child_entries c.self.inside.storage) (sym c.is_some.ensures ∙ c.if-is_some.false))))
+
+pub returns-in-Last : goal.returns-in-Last
+returns-in-Last g c = rw (← c.self.view_is) (rw c.in-Last.is (c.last_child.ensures
+    ∙ sym (last_child-entries (child_entries c.self.inside.storage))))

@@ -1,0 +1,2 @@
+pub mod RecordsAlong
+pub mod ShapeLemmas

@@ -1,0 +1,6 @@
+pub mod ChildLemmas
+pub mod DeletionLemmas
+pub mod DropLemmas
+pub mod EndEntries
+pub mod EntryPlaces
+pub mod UnderLemmas

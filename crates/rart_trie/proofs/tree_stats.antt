@@ -1,0 +1,4 @@
+pub mod CountLemmas
+pub mod CountedStats
+pub mod StatsLemmas
+pub mod WidthSums

@@ -1,0 +1,11 @@
+pub mod BelowLemmas
+pub mod CanonicalTests
+pub mod Descents
+pub mod EndLemmas
+pub mod FirstBytes
+pub mod LongerPrefix
+pub mod NodeCounts
+pub mod PairLemmas
+pub mod PrefixedStrings
+pub mod RestLemmas
+pub mod StepLemmas

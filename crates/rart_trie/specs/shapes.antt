@@ -1,0 +1,3 @@
+pub mod BranchPoints
+pub mod KeyLists
+pub mod Shape

@@ -1,0 +1,13 @@
+-- What a storage ends as once the loan of a child is over.
+use Rattle.std.specs.Prelude.{ℕ, Option}
+use Rattle.std.specs.Borrow.{Fml, LendsSo, MutBor}
+use denote.RattleType.{RattleType}
+use Rattle.rart_trie.specs.contracts.node.storage.Storage.{the_row}
+use Rattle.rart_trie.specs.declared.node.storage.Storage.{Storage}
+use Rattle.rart_trie.specs.storages.Stored.{StoresLent, StoresSame}
+
+-- the child at b was borrowed, if there is one: the storage ends with what was left at b, in the same capacity; if
+-- nothing was borrowed, it is unchanged
+abbrev pub lends_child : (N : RattleType) → MutBor (Storage N.Denot) → ℕ → Option (MutBor N.Denot) → Fml
+lends_child N storage b lent = LendsSo (the_row N) N storage lent (λ s w. StoresLent b w lent storage.now s)
+    (StoresSame storage.now)

@@ -1,0 +1,41 @@
+-- Each child has fewer nodes than its parent.
+use Rattle.std.specs.Prelude.{◌≡◌, ℕ, ◌+◌, ◌≤◌, max, Bool, true, false, nat_lt, List, [], ◌∷◌, Option, if◌then◌else◌}
+use Rattle.std.proofs.Common.{arith, refl}
+use denote.Param.Weighed.{most}
+use Rattle.rart_keys.specs.declared.partials.Partial.{Ghosts}
+use Rattle.rart_parts.specs.Entries.{with_another, sorted_entries}
+use Rattle.rart_trie.specs.declared.node.DefaultNode.TheDeep.{deep-DefaultNode}
+use Rattle.rart_trie.specs.declared.node.storage.Storage.{Storage}
+use Rattle.rart_trie.specs.declared.node.storage.Storage.TheVariants.{Leaf, Node4, Node16, Node48, Node256}
+use Rattle.rart_trie.specs.storages.Stored.{child_entries}
+use Rattle.rart_trie.specs.tries.Trie.{Trie}
+use Rattle.rart_trie.specs.tries.TrieCode.{as_children, node_count, child_count}
+
+most-children : {V : Type 0} (es : List (ℕ × Trie V)) → most (λ (e : ℕ × Trie V). max 0 (node_count e.1 + 1)) es
+    ≤ child_count (as_children es) + 1
+most-children [] = omega arith
+most-children (e ∷ es) = omega (arith, most-children es)
+
+count-either : {V : Type 0} (t : Bool) (a b : List (ℕ × Trie V)) (n : ℕ) → child_count (as_children a) ≡ n
+    → child_count (as_children b) ≡ n → child_count (as_children (if t then a else b)) ≡ n
+count-either true a b n p q = p
+count-either false a b n p q = q
+
+count-with_another : {V : Type 0} (k : ℕ) (t : Trie V) (es : List (ℕ × Trie V))
+    → child_count (as_children (with_another k t es)) ≡ node_count t + child_count (as_children es)
+count-with_another k t [] = refl
+count-with_another k t (e ∷ es) = count-either (nat_lt e.0 k) _ _ _ (omega (arith, count-with_another k t es)) refl
+
+count-ascending : {V : Type 0} (es : List (ℕ × Trie V)) → child_count (as_children (sorted_entries es))
+    ≡ child_count (as_children es)
+count-ascending [] = refl
+count-ascending (e ∷ es) = omega (arith, count-with_another e.0 e.1 (sorted_entries es), count-ascending es)
+
+pub deep_le-stored : {P V : Type 0} (G : Ghosts P) (p : P) (v : Option V) (s : Storage (Trie V))
+    → deep-DefaultNode P V G (record { prefix = p; value = v; storage = s }) ≤ child_count (as_children
+    (child_entries s)) + 1
+deep_le-stored G p v Leaf = omega arith
+deep_le-stored G p v (Node4 m) = omega (arith, most-children m.value)
+deep_le-stored G p v (Node16 m) = omega (arith, most-children m.value)
+deep_le-stored G p v (Node48 m) = omega (arith, most-children m.value, count-ascending m.value)
+deep_le-stored G p v (Node256 m) = omega (arith, most-children m.value)

@@ -1,0 +1,222 @@
+//! Removal of all pairs that a callback rejects, in one walk.
+
+// It descends by recursion, and each level holds neither a key nor a node.
+
+ghost use Rattle.std.specs.Prelude.{◌≡◌, ◌+◌, ◌≤◌, [], true, length, take, None, Some, IfErr};
+ghost use Rattle.rart_parts.specs.Errors.{IsMemory};
+ghost use Rattle.rart_keys.specs.KeyBytes.{IsWithin};
+ghost use Rattle.rart_keys.specs.SortedMap.{longest_key};
+ghost use Rattle.rart_trie.specs.edits.Deletion.{JoinsWithin, needs_merge};
+ghost use Rattle.rart_trie.specs.edits.RetainSteps.{AppliesChild, CallsForOwn, KeepsFirst, RetainsBelow, next_byte};
+ghost use Rattle.rart_trie.specs.edits.RetainSteps.{RetainsTree, finished_as, finished_node};
+ghost use Rattle.rart_trie.specs.edits.Retentions.{CanRetain, Retains, TakesPair};
+ghost use Rattle.rart_trie.specs.storages.Stored.{child_entries};
+ghost use Rattle.rart_trie.specs.tries.Tree.{IsCanonicalTree, tree_pairs};
+ghost use Rattle.rart_trie.specs.tries.Trie.{IsCanonical, capacity_in, children_in, pairs_of, prefix_of, with_prefix};
+
+use crate::node::DefaultNode;
+use crate::node::edits::pop::extend;
+use crate::node::storage::Storage;
+use rart_keys::Partial;
+use rart_parts::TreeError;
+use std::alloc::Global;
+
+/// What a walk leaves of a node.
+#[derive(Clone, Copy)]
+pub(crate) enum Retention {
+    /// The node stays.
+    Done,
+    /// The node is a leaf that was rejected. Its parent removes it.
+    Rejected,
+    /// A removal was refused, and the walk is over. The node stays.
+    Refused,
+}
+
+/// Calls `f` with the key and the value of a node, if it has one, and returns whether the value is to be kept.
+fn call_for_own<V, F: FnMut(&[u8], &mut V) -> bool>(
+    value: &mut Option<V>,
+    key: &[u8],
+    f: &mut F,
+) -> bool
+    requires callable { (v : V) → value.old ≡ Some v → TakesPair F.FnMut f.old (key.now, v) }
+    ensures { CallsForOwn F.FnMut key.now f.old value.old result value.new f.new }
+{
+    match value {
+        Some(value) => f(key, value),
+        None => true,
+    }
+}
+
+/// Truncates a path to `count` bytes.
+// Not inline: a descent that calls it holds no path on the stack.
+#[inline(never)]
+fn cut<P: Partial>(path: &mut P, count: usize)
+    requires { count ≤ length (P.bytes path.old) }
+    ensures { P.bytes path.new ≡ take count (P.bytes path.old) }
+{
+    *path = path.partial_before(count);
+}
+
+/// Applies what a walk leaves of the child at `byte`: a rejected leaf is removed, unless it is all that the node has.
+// Not inline: a descent that calls it holds no node on the stack.
+#[inline(never)]
+fn apply_to_child<P: Partial, V: Drop>(
+    storage: &mut Storage<DefaultNode<P, V>>,
+    alloc: Global,
+    byte: u8,
+    has_value: bool,
+    below: Retention,
+) -> Retention
+    ensures { AppliesChild has_value byte below result storage.old storage.new }
+{
+    match below {
+        Retention::Done => Retention::Done,
+        Retention::Refused => Retention::Refused,
+        Retention::Rejected => {
+            if !has_value && storage.num_children() <= 1 {
+                return Retention::Rejected;
+            }
+            match storage.delete_child(alloc, byte) {
+                Ok(_) => Retention::Done,
+                Err(_) => Retention::Refused,
+            }
+        }
+    }
+}
+
+/// Returns the byte of the next child after `byte`, or `None` if the walk is over.
+fn following_byte<P: Partial, V>(
+    storage: &Storage<DefaultNode<P, V>>,
+    byte: u8,
+    walk: Retention,
+) -> Option<u8>
+    ensures { result ≡ next_byte walk byte (child_entries storage.now) }
+{
+    match walk {
+        Retention::Done => storage.byte_above(byte),
+        Retention::Rejected | Retention::Refused => None,
+    }
+}
+
+impl<P: Partial, V: Drop> DefaultNode<P, V> {
+    /// Ends the walk over a node: removes its value if it is not to be kept and the node has children. Merges the node
+    /// with its only child if it has no value.
+    fn finish(&mut self, keeps: bool, walk: Retention) -> Retention
+        requires capacity { needs_merge None (children_in self.old) ≡ true
+            → capacity_in self.old ≡ 4 }
+        requires within { JoinsWithin P.MAXIMUM_SIZE (prefix_of self.old) (children_in self.old) }
+        ensures outcome { result ≡ finished_as keeps walk (children_in self.old) }
+        ensures node { self.new ≡ finished_node keeps self.old }
+    {
+        if !keeps {
+            if self.storage.num_children() == 0 {
+                return Retention::Rejected;
+            }
+            self.value = None;
+        }
+        self.merge_with_only_child();
+        walk
+    }
+
+    fn retain_below<F: FnMut(&[u8], &mut V) -> bool>(
+        &mut self,
+        alloc: Global,
+        path: &mut P,
+        f: &mut F,
+    ) -> Retention
+        requires canonical { IsCanonical self.old }
+        requires within { IsWithin P.MAXIMUM_SIZE
+            (length (P.bytes path.old) + longest_key (pairs_of self.old)) }
+        requires callable { CanRetain F.FnMut f.old
+            (with_prefix (P.bytes path.old) (pairs_of self.old)) }
+        ensures canonical { IsCanonical self.new }
+        ensures keeps_first { KeepsFirst (prefix_of self.old) (prefix_of self.new) }
+        ensures path { P.bytes path.new ≡ P.bytes path.old }
+        ensures retains { RetainsBelow F.FnMut (P.bytes path.old) result f.old self.old self.new
+            f.new }
+    {
+        let count = path.len();
+        extend(path, &self.prefix);
+        let keeps = call_for_own(&mut self.value, path.to_slice(), f);
+        let has_value = self.value.is_some();
+        let mut walk = Retention::Done;
+        let mut next = self.storage.first_byte();
+        while let Some(byte) = next {
+            let below = match self.storage.seek_child_mut(byte) {
+                Some(child) => child.retain_below(alloc, path, f),
+                None => unreachable!(),
+            };
+            walk = apply_to_child(&mut self.storage, alloc, byte, has_value, below);
+            next = following_byte(&self.storage, byte, walk);
+        }
+        cut(path, count);
+        self.finish(keeps, walk)
+    }
+
+    fn retain_root<F: FnMut(&[u8], &mut V) -> bool>(
+        &mut self,
+        alloc: Global,
+        f: &mut F,
+    ) -> Retention
+        requires canonical { IsCanonical self.old }
+        requires within { IsWithin P.MAXIMUM_SIZE (longest_key (pairs_of self.old)) }
+        requires callable { CanRetain F.FnMut f.old (pairs_of self.old) }
+        ensures canonical { IsCanonical self.new }
+        ensures retains { RetainsBelow F.FnMut [] result f.old self.old self.new f.new }
+    {
+        let mut path = P::from_slice(&[]);
+        self.retain_below(alloc, &mut path, f)
+    }
+
+    fn retain_tree<F: FnMut(&[u8], &mut V) -> bool>(
+        root: &mut Option<Self>,
+        alloc: Global,
+        f: &mut F,
+    ) -> Retention
+        requires canonical { IsCanonicalTree root.old }
+        requires within { IsWithin P.MAXIMUM_SIZE (longest_key (tree_pairs root.old)) }
+        requires callable { CanRetain F.FnMut f.old (tree_pairs root.old) }
+        ensures canonical { IsCanonicalTree root.new }
+        ensures retains { RetainsTree F.FnMut result f.old root.old root.new f.new }
+    {
+        match root {
+            Some(node) => node.retain_root(alloc, f),
+            None => Retention::Done,
+        }
+    }
+
+    /// Calls `f` with the key and the value of each pair of the tree of an optional root, in order, and removes the
+    /// pairs for which it returns `false`. `f` must be callable with each pair in turn. The tree must be canonical and
+    /// its keys within the maximum.
+    ///
+    /// # Errors
+    ///
+    /// [`TreeError::Memory`] if a node must shrink from 5, 17 or 49 children to one fewer and the allocation fails. The
+    /// walk then ends: the pair whose removal was refused and the pairs not yet visited stay.
+    pub fn retain<F: FnMut(&[u8], &mut V) -> bool>(
+        root: &mut Option<Self>,
+        alloc: Global,
+        f: &mut F,
+    ) -> Result<(), TreeError>
+        requires canonical { IsCanonicalTree root.old }
+        requires within { IsWithin P.MAXIMUM_SIZE (longest_key (tree_pairs root.old)) }
+        requires callable { CanRetain F.FnMut f.old (tree_pairs root.old) }
+        ensures stays_callable { F.IsAlwaysCallable f.old → F.IsAlwaysCallable f.new }
+        ensures canonical { IsCanonicalTree root.new }
+        ensures retains { Retains F.FnMut f.old (tree_pairs root.old) result (tree_pairs root.new)
+            f.new }
+        ensures count { length (tree_pairs root.new) ≤ length (tree_pairs root.old) }
+        ensures longest_key { longest_key (tree_pairs root.new)
+            ≤ longest_key (tree_pairs root.old) }
+        ensures memory { IfErr result IsMemory }
+    {
+        match DefaultNode::retain_tree(root, alloc, f) {
+            Retention::Done => Ok(()),
+            Retention::Rejected => {
+                *root = None;
+                Ok(())
+            }
+            Retention::Refused => Err(TreeError::Memory),
+        }
+    }
+}

@@ -1,0 +1,139 @@
+//! The children of a node, in one of four maps or in none.
+
+// A contract reads storage as its ascending list of entries and a capacity.
+
+ghost use Rattle.std.specs.Prelude.{◌≡◌, ◌<◌, [], length, None};
+ghost use Rattle.std.specs.Option.{option_copied};
+ghost use Rattle.rart_parts.specs.Entries.{child_at, with_entry, without_byte};
+ghost use Rattle.rart_trie.specs.storages.Stored.{child_entries, storage_capacity};
+
+use rart_parts::mapping::{DirectMapping, IndexedMapping, NodeMapping, SortedKeyedMapping};
+use rart_parts::utils::bitset::Bitset64;
+
+mod ends;
+mod grow;
+mod last_under;
+mod shrink;
+pub(crate) mod walk;
+
+/// The children of a node. Each kind but the first is a map that holds at most as many children as its
+/// capacity, on the heap: 4, 16, 48 or 256.
+#[derive(Drop)]
+pub(crate) enum Storage<N> {
+    /// No child, and no memory.
+    Leaf,
+    /// At most four children, by sorted keys.
+    Node4(Box<SortedKeyedMapping<N, 4>>),
+    /// At most sixteen children, by sorted keys.
+    Node16(Box<SortedKeyedMapping<N, 16>>),
+    /// At most 48 children, with an index from bytes to slots.
+    Node48(Box<IndexedMapping<N, 48, Bitset64<1>>>),
+    /// A place for each byte.
+    Node256(Box<DirectMapping<N>>),
+}
+
+impl<N> Storage<N> {
+    /// Returns storage of capacity 0. It does not allocate.
+    pub(crate) fn empty() -> Self
+        ensures entries { child_entries result ≡ [] }
+        ensures capacity { storage_capacity result ≡ 0 }
+    {
+        Storage::Leaf
+    }
+
+    /// Returns the number of children.
+    pub(crate) fn num_children(&self) -> usize
+        ensures { result ≡ length (child_entries self.now) }
+    {
+        match self {
+            Storage::Leaf => 0,
+            Storage::Node4(map) => map.num_children(),
+            Storage::Node16(map) => map.num_children(),
+            Storage::Node48(map) => map.num_children(),
+            Storage::Node256(map) => map.num_children(),
+        }
+    }
+
+    /// Returns the capacity of this kind: 0, 4, 16, 48 or 256.
+    pub(crate) fn capacity(&self) -> usize
+        ensures { result ≡ storage_capacity self.now }
+    {
+        match self {
+            Storage::Leaf => 0,
+            Storage::Node4(_) => 4,
+            Storage::Node16(_) => 16,
+            Storage::Node48(_) => 48,
+            Storage::Node256(_) => 256,
+        }
+    }
+
+    /// Returns the child at byte `b`.
+    pub(crate) fn seek_child(&self, b: u8) -> Option<&N>
+        ensures { option_copied result ≡ child_at b (child_entries self.now) }
+    {
+        match self {
+            Storage::Leaf => None,
+            Storage::Node4(map) => map.seek_child(b),
+            Storage::Node16(map) => map.seek_child(b),
+            Storage::Node48(map) => map.seek_child(b),
+            Storage::Node256(map) => map.seek_child(b),
+        }
+    }
+
+    /// Inserts a child at byte `b`, which has none. It does not allocate. Inline, so a new child is not copied again.
+    #[inline(always)]
+    pub(crate) fn add_within(&mut self, b: u8, node: N)
+        requires absent { child_at b (child_entries self.old) ≡ None }
+        requires not_full { length (child_entries self.old) < storage_capacity self.old }
+        ensures entries { child_entries self.new ≡ with_entry b node (child_entries self.old) }
+        ensures capacity { storage_capacity self.new ≡ storage_capacity self.old }
+    {
+        match self {
+            Storage::Leaf => unreachable!(),
+            Storage::Node4(map) => map.add_child(b, node),
+            Storage::Node16(map) => map.add_child(b, node),
+            Storage::Node48(map) => map.add_child(b, node),
+            Storage::Node256(map) => map.add_child(b, node),
+        }
+    }
+
+    /// Removes the child at byte `b` and keeps the kind. It does not allocate.
+    pub(crate) fn delete_within(&mut self, b: u8) -> Option<N>
+        ensures taken { result ≡ child_at b (child_entries self.old) }
+        ensures entries { child_entries self.new ≡ without_byte b (child_entries self.old) }
+        ensures capacity { storage_capacity self.new ≡ storage_capacity self.old }
+    {
+        match self {
+            Storage::Leaf => None,
+            Storage::Node4(map) => map.delete_child(b),
+            Storage::Node16(map) => map.delete_child(b),
+            Storage::Node48(map) => map.delete_child(b),
+            Storage::Node256(map) => map.delete_child(b),
+        }
+    }
+}
+
+impl<N> Storage<N> {
+    ghost use Rattle.std.specs.Prelude.{◌≡◌};
+    ghost use Rattle.std.specs.Option.{option_copied_mut};
+    ghost use Rattle.std.specs.Borrow.{sem};
+    ghost use Rattle.rart_parts.specs.Entries.{child_at};
+    ghost use Rattle.rart_trie.specs.storages.Lends.{lends_child};
+    ghost use Rattle.rart_trie.specs.storages.Stored.{child_entries};
+
+    /// Returns a mutable borrow of the child at byte `b`. Inline, so that the caller's branch on it needs no child's
+    /// address made from a test of the child: two reads of memory then run in parallel.
+    #[inline(always)]
+    pub(crate) fn seek_child_mut(&mut self, b: u8) -> Option<&mut N>
+        ensures* writes_back { sem 𝓛 (lends_child N.row self.entry b result) }
+        ensures value { option_copied_mut result ≡ child_at b (child_entries self.old) }
+    {
+        match self {
+            Storage::Leaf => None,
+            Storage::Node4(map) => map.seek_child_mut(b),
+            Storage::Node16(map) => map.seek_child_mut(b),
+            Storage::Node48(map) => map.seek_child_mut(b),
+            Storage::Node256(map) => map.seek_child_mut(b),
+        }
+    }
+}

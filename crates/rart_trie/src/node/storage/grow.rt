@@ -1,0 +1,185 @@
+//! Growth of a storage: the children of a full one move into the next kind.
+ghost use Rattle.std.specs.Prelude.{◌≡◌, ◌<◌, ◌≤◌, [], length, None, true, false, IfErr, IfOk, OnErr, OnOk};
+ghost use Rattle.rart_parts.specs.Entries.{sorted_entries, child_at};
+ghost use Rattle.rart_parts.specs.Errors.{IsMemory};
+ghost use Rattle.rart_trie.specs.storages.Capacities.{widened_capacity};
+ghost use Rattle.rart_trie.specs.storages.Stored.{child_entries, storage_capacity};
+
+use crate::node::storage::Storage;
+use rart_parts::mapping::{DirectMapping, IndexedMapping, NodeMapping, SortedKeyedMapping};
+use rart_parts::utils::bitset::Bitset64;
+use rart_parts::{TreeError, laws};
+use std::alloc::{AllocFailed, Global};
+use std::mem;
+
+/// Returns a boxed sorted map with no child.
+pub(super) fn boxed_sorted<N, const W: usize>(
+    alloc: Global,
+) -> Result<Box<SortedKeyedMapping<N, W>>, TreeError>
+    requires { W ≤ 255 }
+    ensures ok { IfOk result (λ m. m.value ≡ []) }
+    ensures memory { IfErr result IsMemory }
+{
+    match Box::new(alloc, SortedKeyedMapping::new(alloc)?) {
+        Ok(map) => Ok(map),
+        Err(AllocFailed { value }) => {
+            value.destroy_empty();
+            Err(TreeError::Memory)
+        }
+    }
+}
+
+/// Returns a boxed indexed map with no child.
+pub(super) fn boxed_indexed<N>(
+    alloc: Global,
+) -> Result<Box<IndexedMapping<N, 48, Bitset64<1>>>, TreeError>
+    ensures ok { IfOk result (λ m. sorted_entries m.value ≡ []) }
+    ensures memory { IfErr result IsMemory }
+{
+    match Box::new(alloc, IndexedMapping::new(alloc)?) {
+        Ok(map) => Ok(map),
+        Err(AllocFailed { value }) => {
+            value.destroy_empty();
+            Err(TreeError::Memory)
+        }
+    }
+}
+
+/// Returns a boxed direct map with no child.
+fn boxed_direct<N>(alloc: Global) -> Result<Box<DirectMapping<N>>, TreeError>
+    ensures ok { IfOk result (λ m. m.value ≡ []) }
+    ensures memory { IfErr result IsMemory }
+{
+    match Box::new(alloc, DirectMapping::new(alloc)?) {
+        Ok(map) => Ok(map),
+        Err(AllocFailed { value }) => {
+            value.destroy_empty();
+            Err(TreeError::Memory)
+        }
+    }
+}
+
+impl<N> Storage<N> {
+    /// Returns empty storage of capacity 4.
+    pub(crate) fn new_4(alloc: Global) -> Result<Self, TreeError>
+        ensures entries { IfOk result (λ s. child_entries s ≡ []) }
+        ensures capacity { IfOk result (λ s. storage_capacity s ≡ 4) }
+        ensures memory { IfErr result IsMemory }
+    {
+        Ok(Storage::Node4(boxed_sorted(alloc)?))
+    }
+
+    /// Returns empty storage of capacity 16.
+    pub(crate) fn new_16(alloc: Global) -> Result<Self, TreeError>
+        ensures entries { IfOk result (λ s. child_entries s ≡ []) }
+        ensures capacity { IfOk result (λ s. storage_capacity s ≡ 16) }
+        ensures memory { IfErr result IsMemory }
+    {
+        Ok(Storage::Node16(boxed_sorted(alloc)?))
+    }
+
+    /// Returns empty storage of capacity 48.
+    pub(crate) fn new_48(alloc: Global) -> Result<Self, TreeError>
+        ensures entries { IfOk result (λ s. child_entries s ≡ []) }
+        ensures capacity { IfOk result (λ s. storage_capacity s ≡ 48) }
+        ensures memory { IfErr result IsMemory }
+    {
+        Ok(Storage::Node48(boxed_indexed(alloc)?))
+    }
+
+    /// Returns empty storage of capacity 256.
+    pub(crate) fn new_256(alloc: Global) -> Result<Self, TreeError>
+        ensures entries { IfOk result (λ s. child_entries s ≡ []) }
+        ensures capacity { IfOk result (λ s. storage_capacity s ≡ 256) }
+        ensures memory { IfErr result IsMemory }
+    {
+        Ok(Storage::Node256(boxed_direct(alloc)?))
+    }
+
+    /// Returns whether another child fits at byte `b`.
+    fn has_free_slot(&self, b: u8) -> bool
+        requires { child_at b (child_entries self.now) ≡ None }
+        ensures not_full { result ≡ true
+            → length (child_entries self.now) < storage_capacity self.now }
+        ensures full { result ≡ false
+            → length (child_entries self.now) ≡ storage_capacity self.now }
+        ensures not_widest { result ≡ false → storage_capacity self.now < 256 }
+    {
+        laws::free_byte::<N>();
+        match self {
+            Storage::Leaf => false,
+            Storage::Node4(map) => map.num_children() < 4,
+            Storage::Node16(map) => map.num_children() < 16,
+            Storage::Node48(map) => map.num_children() < 48,
+            Storage::Node256(map) => map.num_children() < 256,
+        }
+    }
+
+    /// Frees storage without a child.
+    pub(crate) fn destroy_empty(self)
+        requires { child_entries self ≡ [] }
+    {
+        match self {
+            Storage::Leaf => {}
+            Storage::Node4(map) => Box::into_inner(map).destroy_empty(),
+            Storage::Node16(map) => Box::into_inner(map).destroy_empty(),
+            Storage::Node48(map) => Box::into_inner(map).destroy_empty(),
+            Storage::Node256(map) => Box::into_inner(map).destroy_empty(),
+        }
+    }
+
+    /// Replaces this storage, which has no child, and frees it.
+    pub(crate) fn replace_empty(&mut self, next: Self)
+        requires { child_entries self.old ≡ [] }
+        ensures { self.new ≡ next }
+    {
+        mem::replace(self, next).destroy_empty();
+    }
+
+    /// Reserves a slot for a child at byte `b`: a full storage is replaced by one of the next kind.
+    ///
+    /// # Errors
+    ///
+    /// [`TreeError::Memory`] if the storage is full and an allocation fails. The storage is then unchanged.
+    #[inline(never)]
+    pub(crate) fn reserve_slot(&mut self, alloc: Global, b: u8) -> Result<(), TreeError>
+        requires absent { child_at b (child_entries self.old) ≡ None }
+        ensures entries { child_entries self.new ≡ child_entries self.old }
+        ensures not_full { OnOk result
+            (length (child_entries self.new) < storage_capacity self.new) }
+        ensures capacity { OnOk result
+            (storage_capacity self.new
+            ≡ widened_capacity (length (child_entries self.old)) (storage_capacity self.old)) }
+        ensures unchanged { OnErr result (self.new ≡ self.old) }
+        ensures allocates { OnErr result
+            (length (child_entries self.old) ≡ storage_capacity self.old) }
+        ensures memory { IfErr result IsMemory }
+    {
+        if self.has_free_slot(b) {
+            return Ok(());
+        }
+        match self {
+            Storage::Leaf => {
+                let next = boxed_sorted(alloc)?;
+                self.replace_empty(Storage::Node4(next));
+            }
+            Storage::Node4(map) => {
+                let mut next = boxed_sorted(alloc)?;
+                next.fill_from_resized(map);
+                self.replace_empty(Storage::Node16(next));
+            }
+            Storage::Node16(map) => {
+                let mut next = boxed_indexed(alloc)?;
+                next.fill_from_sorted_keyed(map);
+                self.replace_empty(Storage::Node48(next));
+            }
+            Storage::Node48(map) => {
+                let mut next = boxed_direct(alloc)?;
+                next.fill_from_indexed(map);
+                self.replace_empty(Storage::Node256(next));
+            }
+            Storage::Node256(_) => unreachable!(),
+        }
+        Ok(())
+    }
+}

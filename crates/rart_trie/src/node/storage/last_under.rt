@@ -1,0 +1,39 @@
+//! The last child of a storage under a byte.
+ghost use Rattle.std.specs.Prelude.{◌≡◌, None, option_map};
+ghost use Rattle.rart_keys.specs.Filters.{last_or};
+ghost use Rattle.rart_trie.specs.ranges.Under.{entries_under};
+ghost use Rattle.rart_trie.specs.storages.Stored.{child_entries};
+
+use crate::node::storage::Storage;
+use rart_parts::mapping::SortedKeyedMappingIter;
+
+/// Returns the last of the remaining children under `byte`.
+fn last_of_under<N>(rest: SortedKeyedMappingIter<'_, N>, byte: u8) -> Option<(u8, &N)>
+    ensures { option_map (λ e. (e.0, e.1.now)) result
+        ≡ last_or None (entries_under byte rest.entry) }
+{
+    let mut rest = rest;
+    let mut last = None;
+    while let Some(child) = rest.next() {
+        if child.0 < byte {
+            last = Some(child);
+        }
+    }
+    last
+}
+
+impl<N> Storage<N> {
+    /// Returns the child at the greatest byte under `byte`, with its byte.
+    pub(crate) fn last_child_under(&self, byte: u8) -> Option<(u8, &N)>
+        ensures { option_map (λ e. (e.0, e.1.now)) result
+            ≡ last_or None (entries_under byte (child_entries self.now)) }
+    {
+        match self {
+            Storage::Leaf => None,
+            Storage::Node4(map) => last_of_under(map.iter(), byte),
+            Storage::Node16(map) => last_of_under(map.iter(), byte),
+            Storage::Node48(map) => map.last_under(byte as usize),
+            Storage::Node256(map) => map.last_under(byte as usize),
+        }
+    }
+}
