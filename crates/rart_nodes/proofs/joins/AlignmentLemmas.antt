@@ -46,7 +46,7 @@ pub fewer-below : {V : Type 0} (t u : Trie V) (b : ℕ) (cs ds : Children V) →
     → child_count cs ≤ child_count (children_in t) → node_count u < node_count t
 fewer-below (node p v n es) u b cs ds e h = omega (arith, h, ap child_count e)
 
--- n is counted once k nodes and those of the next child are
+-- a count that takes in the next child stays within that of the node
 pub counted-next : {V : Type 0} (t u : Trie V) (b : ℕ) (cs ds : Children V) (n m k : ℕ) → cs ≡ child b u ds
     → k + child_count cs ≤ m + child_count (children_in t) → n ≤ k + node_count u → n + 1 ≤ m + node_count t
 counted-next (node p v w es) u b cs ds n m k e h l = omega (arith, h, l, ap child_count e)
