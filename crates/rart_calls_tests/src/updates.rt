@@ -1,5 +1,8 @@
 //! Updates through a slot, as calls that are values: what is written where the slot is occupied, what is requested
-//! then, the reply, and the value that the key has afterwards.
+//! then, the reply, and the value that the key has afterwards; and with values that count their drops.
+
+mod drops;
+mod refused;
 
 use crate::play::forms::callback_result;
 use crate::play::{Request, assert_none_wrong};

@@ -8,18 +8,21 @@ mod mappings;
 mod sets;
 
 use rart_parts::TreeError;
+use rart_test_tools::compare::expect_eq;
 use std::test::Fail;
 
 #[test]
 fn errors_say_what_was_refused(rt: HostRuntime) -> Result<(), Fail> {
     let alloc = rt.alloc();
-    assert_eq!(rt;
+    expect_eq(
+        &rt,
         format!(in alloc; "{}", TreeError::Memory)?.as_str(),
-        "out of memory"
+        "out of memory",
     );
-    assert_eq!(rt;
+    expect_eq(
+        &rt,
         format!(in alloc; "{}", TreeError::Full)?.as_str(),
-        "tree is full"
+        "tree is full",
     );
     Ok(())
 }

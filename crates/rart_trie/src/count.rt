@@ -43,7 +43,9 @@ impl Visits {
 }
 
 impl Count for Visits {
-    ghost number = { λ v. v.count };
+    ghost use Rattle.rart_trie.specs.walks.VisitCounts.{visit_count};
+
+    ghost number = { visit_count };
 
     fn add_one(&mut self) {
         self.step()

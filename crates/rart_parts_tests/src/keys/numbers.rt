@@ -2,6 +2,7 @@
 
 use rart_keys::laws::key_order;
 use rart_keys::{ArrayKey, KeyTrait};
+use rart_test_tools::compare::expect_eq;
 use std::cmp::Ordering;
 
 #[test]
@@ -18,7 +19,7 @@ fn the_highest_byte_of_a_number_comes_first(rt: HostRuntime) {
         ),
     ];
     for (key, want) in rows {
-        assert_eq!(rt; key.as_slice(), want);
+        expect_eq(&rt, key.as_slice(), want);
     }
 }
 
@@ -39,7 +40,7 @@ fn the_sign_bit_of_a_signed_number_is_flipped(rt: HostRuntime) {
         ),
     ];
     for (key, want) in rows {
-        assert_eq!(rt; key.as_slice(), want);
+        expect_eq(&rt, key.as_slice(), want);
     }
 }
 
@@ -54,18 +55,18 @@ fn the_first_eight_bytes_of_a_key_are_read_as_a_number(rt: HostRuntime) {
         (ArrayKey::new_from_slice(b""), 0),
     ];
     for (key, want) in rows {
-        assert_eq!(rt; key.to_be_u64(), want);
+        expect_eq(&rt, key.to_be_u64(), want);
     }
 }
 
 #[test]
 fn keys_of_texts_and_numbers_are_in_their_order(rt: HostRuntime) {
     let (zero, _, order) = key_order::compared_text_keys::<4>("\0", "");
-    assert_eq!(rt; zero.as_slice(), b"\0".as_slice());
-    assert_eq!(rt; order, Ordering::Greater);
+    expect_eq(&rt, zero.as_slice(), b"\0".as_slice());
+    expect_eq(&rt, order, Ordering::Greater);
     let (closed, _, order) = key_order::compared_terminated_keys::<4>("\0", "");
-    assert_eq!(rt; closed.as_slice(), b"\0\0".as_slice());
-    assert_eq!(rt; order, Ordering::Greater);
+    expect_eq(&rt, closed.as_slice(), b"\0\0".as_slice());
+    expect_eq(&rt, order, Ordering::Greater);
     let orders = [
         key_order::compared_u8_keys::<16>(1, 0x80).2,
         key_order::compared_u16_keys::<16>(0xff, 0x100).2,
@@ -82,12 +83,17 @@ fn keys_of_texts_and_numbers_are_in_their_order(rt: HostRuntime) {
         key_order::compared_isize_keys::<16>(-256, -255).2,
     ];
     for order in orders {
-        assert_eq!(rt; order, Ordering::Less);
+        expect_eq(&rt, order, Ordering::Less);
     }
     let empty = ArrayKey::<4>::new_from_str("");
-    assert_eq!(rt;
+    expect_eq(
+        &rt,
         key_order::equality_and_order(&zero, &empty),
-        (false, Ordering::Greater)
+        (false, Ordering::Greater),
     );
-    assert_eq!(rt; key_order::key_and_number_again::<8>(u64::MAX).1, u64::MAX);
+    expect_eq(
+        &rt,
+        key_order::key_and_number_again::<8>(u64::MAX).1,
+        u64::MAX,
+    );
 }

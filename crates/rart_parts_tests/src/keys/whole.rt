@@ -2,17 +2,18 @@
 
 use rart_keys::keys::array_key::ArrayKey;
 use rart_keys::{ArrPartial, KeyTrait, Partial};
+use rart_test_tools::compare::expect_eq;
 use std::cmp::Ordering;
 use std::test::Fail;
 
 #[test]
 fn a_key_may_be_empty_or_fill_its_width(rt: HostRuntime) {
     let none = ArrayKey::<0>::new_from_slice(b"");
-    assert_eq!(rt; none.as_slice(), b"".as_slice());
-    assert_eq!(rt; none.as_array(), &[]);
+    expect_eq(&rt, none.as_slice(), b"".as_slice());
+    expect_eq(&rt, none.as_array(), &[]);
     let full = ArrayKey::<4>::new_from_slice(b"abcd");
-    assert_eq!(rt; full.as_slice(), b"abcd".as_slice());
-    assert_eq!(rt; full.as_array(), b"abcd");
+    expect_eq(&rt, full.as_slice(), b"abcd".as_slice());
+    expect_eq(&rt, full.as_array(), b"abcd");
 }
 
 #[test]
@@ -20,8 +21,8 @@ fn a_truncated_key_keeps_no_old_bytes(rt: HostRuntime) {
     let key = ArrayKey::<8>::new_from_slice(b"hello").truncate(3);
     let same = ArrayKey::<8>::new_from_slice(b"hel");
     assert!(rt; key == same);
-    assert_eq!(rt; key.cmp(&same), Ordering::Equal);
-    assert_eq!(rt; key.as_array(), b"hel\0\0\0\0\0");
+    expect_eq(&rt, key.cmp(&same), Ordering::Equal);
+    expect_eq(&rt, key.as_array(), b"hel\0\0\0\0\0");
 }
 
 #[test]
@@ -37,8 +38,8 @@ fn keys_are_ordered_from_the_front(rt: HostRuntime) {
         assert!(rt; first.len() <= 4 && second.len() <= 4);
         let a = ArrayKey::<4>::new_from_slice(first);
         let b = ArrayKey::<4>::new_from_slice(second);
-        assert_eq!(rt; a.cmp(&b), want);
-        assert_eq!(rt; a.partial_cmp(&b), Some(want));
+        expect_eq(&rt, a.cmp(&b), want);
+        expect_eq(&rt, a.partial_cmp(&b), Some(want));
     }
 }
 
@@ -47,14 +48,15 @@ fn a_key_is_taken_apart_and_joined(rt: HostRuntime) {
     let key = ArrayKey::<8>::new_from_slice(b"hel");
     let joined = key.extend_from_partial(&ArrPartial::from_slice(b"lo"));
     assert!(rt; joined.matches_slice(b"hello"));
-    assert_eq!(rt; joined.truncate(3).as_slice(), b"hel".as_slice());
+    expect_eq(&rt, joined.truncate(3).as_slice(), b"hel".as_slice());
     assert!(rt; !joined.matches_slice(b"hell"));
-    assert_eq!(rt; joined.at(4), b'o');
-    assert_eq!(rt; joined.length_at(2), 3);
-    assert_eq!(rt; joined.to_partial(2).to_slice(), b"llo".as_slice());
-    assert_eq!(rt;
+    expect_eq(&rt, joined.at(4), b'o');
+    expect_eq(&rt, joined.length_at(2), 3);
+    expect_eq(&rt, joined.to_partial(2).to_slice(), b"llo".as_slice());
+    expect_eq(
+        &rt,
         ArrayKey::<8>::new_from_partial(&joined.to_partial(1)).as_ref(),
-        b"ello".as_slice()
+        b"ello".as_slice(),
     );
     assert!(rt; ArrPartial::from(joined) == joined.to_partial(0));
     assert!(rt; ArrayKey::<8>::new_from_partial(&joined.to_partial(0)) == joined);
@@ -64,11 +66,11 @@ fn a_key_is_taken_apart_and_joined(rt: HostRuntime) {
 fn a_text_key_has_the_bytes_of_the_text(rt: HostRuntime) -> Result<(), Fail> {
     let want = [0x68, 0x65, 0x6c, 0x6c, 0x6f];
     let key = ArrayKey::<5>::new_from_str("hello");
-    assert_eq!(rt; key.as_slice(), want.as_slice());
+    expect_eq(&rt, key.as_slice(), want.as_slice());
     let roomy = ArrayKey::<16>::new_from_str("hello");
-    assert_eq!(rt; roomy.as_ref(), want.as_slice());
+    expect_eq(&rt, roomy.as_ref(), want.as_slice());
     let text = String::from_str(rt.alloc(), "hello")?;
-    assert_eq!(rt; text.len(), 5);
+    expect_eq(&rt, text.len(), 5);
     assert!(rt; ArrayKey::<5>::new_from_string(&text) == key);
     assert!(rt; ArrayKey::<5>::new_from_array(want) == key);
     assert!(rt; ArrayKey::<0>::new_from_str("").as_slice().is_empty());
@@ -79,12 +81,13 @@ fn a_text_key_has_the_bytes_of_the_text(rt: HostRuntime) -> Result<(), Fail> {
 fn a_terminated_key_ends_in_a_zero_byte(rt: HostRuntime) {
     let want = [0x68, 0x65, 0x6c, 0x6c, 0x6f, 0x00];
     let key = ArrayKey::<6>::new_from_str_terminated("hello");
-    assert_eq!(rt; key.as_slice(), want.as_slice());
+    expect_eq(&rt, key.as_slice(), want.as_slice());
     let roomy = ArrayKey::<16>::new_from_str_terminated("hello");
-    assert_eq!(rt; roomy.as_ref(), want.as_slice());
-    assert_eq!(rt;
+    expect_eq(&rt, roomy.as_ref(), want.as_slice());
+    expect_eq(
+        &rt,
         ArrayKey::<1>::new_from_str_terminated("").as_slice(),
-        [0].as_slice()
+        [0].as_slice(),
     );
 }
 
@@ -100,6 +103,6 @@ fn the_traits_serve_generic_code(rt: HostRuntime) {
     assert!(rt; begins_with_part_at(&key, &part, 4));
     assert!(rt; !begins_with_part_at(&key, &part, 3));
     assert!(rt; !begins_with_part_at(&key, &part, 8));
-    assert_eq!(rt; <ArrayKey<16> as KeyTrait>::MAXIMUM_SIZE, Some(16));
-    assert_eq!(rt; <ArrPartial<16> as Partial>::MAXIMUM_SIZE, Some(16));
+    expect_eq(&rt, <ArrayKey<16> as KeyTrait>::MAXIMUM_SIZE, Some(16));
+    expect_eq(&rt, <ArrPartial<16> as Partial>::MAXIMUM_SIZE, Some(16));
 }

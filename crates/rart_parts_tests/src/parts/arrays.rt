@@ -3,8 +3,10 @@
 use rart_parts::TreeError;
 use rart_parts::utils::bitarray::BitArray;
 use rart_parts::utils::bitset::{Bitset8, Bitset16, Bitset64, BitsetTrait};
+use rart_test_tools::compare::expect_eq;
 use rart_test_tools::counted::Counted;
 use rart_test_tools::refusals::{refuse, was_refused};
+use std::alloc::Global;
 use std::cell::Cell;
 use std::process::Abort;
 use std::test::Fail;
@@ -225,22 +227,42 @@ fn an_array_is_known_and_changed_after_each_walk_that_writes(rt: HostRuntime) ->
     Ok(())
 }
 
-#[test]
-fn an_array_is_walked_from_both_ends(rt: HostRuntime) -> Result<(), Fail> {
-    let mut array: BitArray<u8, 48, Bitset64<1>> = BitArray::new(rt.alloc())?;
+type Values = BitArray<u8, 48, Bitset64<1>>;
+
+fn three_values(alloc: Global) -> Result<Values, TreeError> {
+    let mut array: Values = BitArray::new(alloc)?;
     array.set(3, 1);
     array.set(7, 2);
     array.set(40, 3);
+    Ok(array)
+}
+
+#[test]
+fn the_positions_of_an_array_are_walked_from_both_ends(rt: HostRuntime) -> Result<(), Fail> {
+    let array = three_values(rt.alloc())?;
     let mut keys = array.iter_keys();
-    assert_eq!(rt; keys.next(), Some(3));
-    assert_eq!(rt; keys.next_back(), Some(40));
-    assert_eq!(rt; keys.next(), Some(7));
-    assert!(rt; keys.next().is_none() && keys.next_back().is_none());
+    expect_eq(&rt, keys.next(), Some(3));
+    expect_eq(&rt, keys.next_back(), Some(40));
+    expect_eq(&rt, keys.next(), Some(7));
+    expect_eq(&rt, (keys.next(), keys.next_back()), (None, None));
+    Ok(())
+}
+
+// The place of an entry of a walk and its value.
+fn read(entry: Option<(usize, &u8)>) -> Option<(usize, u8)> {
+    let (position, value) = entry?;
+    Some((position, *value))
+}
+
+#[test]
+fn an_array_is_walked_from_both_ends(rt: HostRuntime) -> Result<(), Fail> {
+    let array = three_values(rt.alloc())?;
     let mut entries = array.iter();
-    assert!(rt; entries.next_back() == Some((40, &3)));
-    assert!(rt; entries.next() == Some((3, &1)));
-    assert!(rt; entries.next_back() == Some((7, &2)));
-    assert!(rt; entries.next().is_none() && entries.next_back().is_none());
+    expect_eq(&rt, read(entries.next_back()), Some((40, 3)));
+    expect_eq(&rt, read(entries.next()), Some((3, 1)));
+    expect_eq(&rt, read(entries.next_back()), Some((7, 2)));
+    let none = (read(entries.next()), read(entries.next_back()));
+    expect_eq(&rt, none, (None, None));
     Ok(())
 }
 
@@ -252,22 +274,28 @@ fn written(entry: Option<(usize, &mut u8)>, value: u8) -> Option<(usize, u8)> {
     Some((position, old))
 }
 
+// Whether a walk that writes lends each of the three values once.
+fn is_written_from_both_ends(array: &mut Values) -> bool {
+    let mut walk = array.iter_mut();
+    written(walk.next(), 31) == Some((3, 1))
+        && written(walk.next_back(), 33) == Some((40, 3))
+        && written(walk.next(), 32) == Some((7, 2))
+        && walk.next().is_none()
+        && walk.next_back().is_none()
+}
+
+static WRITTEN_FROM_BOTH_ENDS: [Row; 4] = [
+    (Ask::Get(3), Some(31)),
+    (Ask::Get(7), Some(32)),
+    (Ask::Get(40), Some(33)),
+    (Ask::Size, Some(3)),
+];
+
 #[test]
 fn values_are_changed_on_a_walk_from_both_ends(rt: HostRuntime) -> Result<(), Fail> {
-    let mut array: BitArray<u8, 48, Bitset64<1>> = BitArray::new(rt.alloc())?;
-    array.set(3, 1);
-    array.set(7, 2);
-    array.set(40, 3);
-    let mut walk = array.iter_mut();
-    assert_eq!(rt; written(walk.next(), 31), Some((3, 1)));
-    assert_eq!(rt; written(walk.next_back(), 33), Some((40, 3)));
-    assert_eq!(rt; written(walk.next(), 32), Some((7, 2)));
-    assert!(rt; walk.next().is_none() && walk.next_back().is_none());
-    assert!(rt; walk.next().is_none() && walk.next_back().is_none());
-    assert_eq!(rt; array.get(3).copied(), Some(31));
-    assert_eq!(rt; array.get(7).copied(), Some(32));
-    assert_eq!(rt; array.get(40).copied(), Some(33));
-    assert_eq!(rt; array.size(), 3);
+    let mut array = three_values(rt.alloc())?;
+    assert!(rt; is_written_from_both_ends(&mut array));
+    rows_hold(&rt, &mut array, &WRITTEN_FROM_BOTH_ENDS);
     Ok(())
 }
 
@@ -284,13 +312,13 @@ fn a_value_put_over_another_drops_that_once(rt: HostRuntime) -> Result<(), Fail>
     let drops = Cell::new(0_usize);
     let mut array: Counts<'_> = BitArray::new(rt.alloc())?;
     full(&mut array, &drops);
-    assert_eq!(rt; drops.get(), 0);
+    expect_eq(&rt, drops.get(), 0);
     array.set(3, Counted(2, &drops));
-    assert_eq!(rt; drops.get(), 1);
-    assert_eq!(rt; array.push(Counted(3, &drops)), None);
-    assert_eq!(rt; drops.get(), 2);
+    expect_eq(&rt, drops.get(), 1);
+    expect_eq(&rt, array.push(Counted(3, &drops)), None);
+    expect_eq(&rt, drops.get(), 2);
     drop(array);
-    assert_eq!(rt; drops.get(), 50);
+    expect_eq(&rt, drops.get(), 50);
     Ok(())
 }
 
@@ -300,13 +328,13 @@ fn a_cleared_array_drops_each_value_once(rt: HostRuntime) -> Result<(), Fail> {
     let mut array: Counts<'_> = BitArray::new(rt.alloc())?;
     full(&mut array, &drops);
     array.clear();
-    assert_eq!(rt; drops.get(), 48);
+    expect_eq(&rt, drops.get(), 48);
     assert!(rt; array.is_empty());
     array.clear();
-    assert_eq!(rt; drops.get(), 48);
-    assert_eq!(rt; array.push(Counted(3, &drops)), Some(0));
+    expect_eq(&rt, drops.get(), 48);
+    expect_eq(&rt, array.push(Counted(3, &drops)), Some(0));
     drop(array);
-    assert_eq!(rt; drops.get(), 49);
+    expect_eq(&rt, drops.get(), 49);
     Ok(())
 }
 
@@ -321,11 +349,11 @@ fn values_taken_out_of_an_array_are_handed_out(rt: HostRuntime) -> Result<(), Fa
         array.update(6, Counted(2, &drops)),
     );
     assert!(rt; taken.0.is_some() && taken.1.is_some() && taken.2.is_some());
-    assert_eq!(rt; drops.get(), 0);
+    expect_eq(&rt, drops.get(), 0);
     drop(taken);
-    assert_eq!(rt; drops.get(), 3);
+    expect_eq(&rt, drops.get(), 3);
     drop(array);
-    assert_eq!(rt; drops.get(), 49);
+    expect_eq(&rt, drops.get(), 49);
     Ok(())
 }
 

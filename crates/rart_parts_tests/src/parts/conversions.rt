@@ -213,10 +213,10 @@ fn new_refused<const W: usize, M: NodeMapping<u8, W> + Made + Drop>(alloc: Globa
 #[test]
 fn new_mappings_refused_in_turn(rt: HostRuntime) {
     let alloc = rt.alloc();
-    assert!(rt; new_refused::<16, Sorted16>(alloc));
-    assert!(rt; new_refused::<16, Keyed16>(alloc));
-    assert!(rt; new_refused::<48, Indexed48>(alloc));
-    assert!(rt; new_refused::<256, Direct256>(alloc));
+    let sorted = new_refused::<16, Sorted16>(alloc) && new_refused::<16, Keyed16>(alloc);
+    assert!(rt;
+        sorted && new_refused::<48, Indexed48>(alloc) && new_refused::<256, Direct256>(alloc)
+    );
 }
 
 // Each request of a conversion of sixteen children refused in turn: they stay in the source, and all move, in order,
@@ -226,10 +226,12 @@ fn refused_in_turn<
     const W: usize,
     S: NodeMapping<u8, U> + Made + Drop,
     T: NodeMapping<u8, W> + From16<S> + Drop,
->(alloc: Global) -> Result<bool, TreeError> {
-    let mut source = S::made(alloc)?;
+>(alloc: Global) -> bool {
+    let Ok(mut source) = S::made(alloc) else {
+        return false;
+    };
     if !fill(&mut source, &SCATTERED) {
-        return Ok(false);
+        return false;
     }
     for at in 1..100_usize {
         refuse(alloc, at);
@@ -238,7 +240,7 @@ fn refused_in_turn<
         match answer {
             Ok(map) => {
                 part_ends(alloc);
-                return Ok(!refused && has_all(&map) && map.is_in_order() && has_none(&source));
+                return !refused && has_all(&map) && map.is_in_order() && has_none(&source);
             }
             Err(error) => {
                 if !refused
@@ -246,44 +248,35 @@ fn refused_in_turn<
                     || !has_all(&source)
                     || !source.is_in_order()
                 {
-                    return Ok(false);
+                    return false;
                 }
             }
         }
     }
-    Ok(false)
+    false
 }
 
 #[test]
-fn conversions_of_sorted_maps_refused_in_turn_keep_the_children(
-    rt: HostRuntime,
-) -> Result<(), Fail> {
+fn conversions_of_sorted_maps_refused_in_turn_keep_the_children(rt: HostRuntime) {
     let alloc = rt.alloc();
-    assert!(rt; refused_in_turn::<16, 24, Sorted16, Sorted24>(alloc)?);
-    assert!(rt; refused_in_turn::<24, 16, Sorted24, Sorted16>(alloc)?);
-    assert!(rt; refused_in_turn::<16, 48, Sorted16, Indexed48>(alloc)?);
-    Ok(())
+    let resized = refused_in_turn::<16, 24, Sorted16, Sorted24>(alloc)
+        && refused_in_turn::<24, 16, Sorted24, Sorted16>(alloc);
+    assert!(rt; resized && refused_in_turn::<16, 48, Sorted16, Indexed48>(alloc));
 }
 
 #[test]
-fn conversions_of_indexed_and_direct_maps_refused_in_turn_keep_the_children(
-    rt: HostRuntime,
-) -> Result<(), Fail> {
+fn conversions_of_indexed_and_direct_maps_refused_in_turn_keep_the_children(rt: HostRuntime) {
     let alloc = rt.alloc();
-    assert!(rt; refused_in_turn::<48, 16, Indexed48, Sorted16>(alloc)?);
-    assert!(rt; refused_in_turn::<48, 256, Indexed48, Direct256>(alloc)?);
-    assert!(rt; refused_in_turn::<256, 48, Direct256, Indexed48>(alloc)?);
-    Ok(())
+    let indexed = refused_in_turn::<48, 16, Indexed48, Sorted16>(alloc)
+        && refused_in_turn::<48, 256, Indexed48, Direct256>(alloc);
+    assert!(rt; indexed && refused_in_turn::<256, 48, Direct256, Indexed48>(alloc));
 }
 
 #[test]
-fn conversions_of_keyed_maps_refused_in_turn_keep_the_children(
-    rt: HostRuntime,
-) -> Result<(), Fail> {
+fn conversions_of_keyed_maps_refused_in_turn_keep_the_children(rt: HostRuntime) {
     let alloc = rt.alloc();
-    assert!(rt; refused_in_turn::<16, 32, Keyed16, Keyed32>(alloc)?);
-    assert!(rt; refused_in_turn::<16, 48, Keyed16, Indexed48>(alloc)?);
-    Ok(())
+    let resized = refused_in_turn::<16, 32, Keyed16, Keyed32>(alloc);
+    assert!(rt; resized && refused_in_turn::<16, 48, Keyed16, Indexed48>(alloc));
 }
 
 fn is_empty<const W: usize>(map: &impl NodeMapping<u8, W>) -> bool {

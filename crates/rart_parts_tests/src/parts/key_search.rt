@@ -5,6 +5,7 @@ use rart_parts::utils::u8_keys::{
     u8_keys_find_insert_position_sorted, u8_keys_find_key_position,
     u8_keys_find_key_position_sorted,
 };
+use rart_test_tools::compare::expect_eq;
 
 #[test]
 fn key_255_is_found_in_used_places_alone(rt: HostRuntime) {
@@ -12,12 +13,17 @@ fn key_255_is_found_in_used_places_alone(rt: HostRuntime) {
     set.set(1);
     set.set(2);
     let keys = [255_u8, 255, 5, 255];
-    assert_eq!(rt;
+    expect_eq(
+        &rt,
         u8_keys_find_key_position::<4, _>(255, &keys, &set),
-        Some(1)
+        Some(1),
     );
-    assert_eq!(rt; u8_keys_find_key_position::<4, _>(5, &keys, &set), Some(2));
-    assert_eq!(rt; u8_keys_find_key_position::<4, _>(7, &keys, &set), None);
+    expect_eq(
+        &rt,
+        u8_keys_find_key_position::<4, _>(5, &keys, &set),
+        Some(2),
+    );
+    expect_eq(&rt, u8_keys_find_key_position::<4, _>(7, &keys, &set), None);
 }
 
 // Where a key would be inserted among 3, 9 and 17, and where it is.

@@ -1,12 +1,15 @@
 //! The maps from bytes to children: rows of calls, walks, and dropped children.
 ghost use Rattle.std.specs.Iterator.{IsFinite};
 
+use rart_parts::TreeError;
 use rart_parts::mapping::{
     DirectMapping, IndexedMapping, KeyedMapping, NodeMapping, SortedKeyedMapping,
 };
 use rart_parts::utils::bitset::{Bitset8, Bitset16};
+use rart_test_tools::compare::expect_eq;
 use rart_test_tools::counted::Counted;
 use rart_test_tools::refusals::{refuse, was_refused};
+use std::alloc::Global;
 use std::cell::Cell;
 use std::test::Fail;
 
@@ -104,20 +107,25 @@ fn rows_hold_in_both<const W: usize>(map: &mut impl NodeMapping<u8, W>) -> bool 
     rows_hold(map, &FOUR) && rows_hold(map, &IN_ORDER) && rows_hold(map, &KEY_255)
 }
 
-#[test]
-fn each_map_gives_its_children_back_and_makes_no_request(rt: HostRuntime) -> Result<(), Fail> {
-    let alloc = rt.alloc();
-    let mut sorted: SortedKeyedMapping<u8, 4> = SortedKeyedMapping::new(alloc)?;
-    let mut keyed = Keyed4::new(alloc)?;
-    let mut indexed = Indexed48::new(alloc)?;
-    let mut direct: DirectMapping<u8> = DirectMapping::new(alloc)?;
+// Whether a new map gives its children back, without a request.
+fn gives_back<const W: usize, M: NodeMapping<u8, W> + Drop>(
+    alloc: Global,
+    made: Result<M, TreeError>,
+) -> bool {
+    let Ok(mut map) = made else {
+        return false;
+    };
     refuse(alloc, 1);
-    assert!(rt; rows_hold_in_both(&mut sorted));
-    assert!(rt; rows_hold_in_both(&mut keyed));
-    assert!(rt; rows_hold_in_both(&mut indexed));
-    assert!(rt; rows_hold_in_both(&mut direct));
-    assert!(rt; !was_refused(alloc));
-    Ok(())
+    rows_hold_in_both(&mut map) && !was_refused(alloc)
+}
+
+#[test]
+fn each_map_gives_its_children_back_and_makes_no_request(rt: HostRuntime) {
+    let alloc = rt.alloc();
+    assert!(rt; gives_back(alloc, SortedKeyedMapping::<u8, 4>::new(alloc)));
+    assert!(rt; gives_back(alloc, Keyed4::new(alloc)));
+    assert!(rt; gives_back(alloc, Indexed48::new(alloc)));
+    assert!(rt; gives_back(alloc, DirectMapping::<u8>::new(alloc)));
 }
 
 /// Puts the bytes in, each as its own child; whether it did.
@@ -167,32 +175,44 @@ const CLOSE_BY: [u8; 5] = [200, 3, 47, 17, 129];
 
 const CLOSE_BY_ASCENDING: [u8; 5] = [3, 17, 47, 129, 200];
 
+// Whether a map that the keys are put in lends and then gives them in their order.
+macro_rules! is_walked {
+    ($map:expr, $keys:expr, $ascending:expr) => {{
+        let mut map = $map;
+        fill(&mut map, $keys) && lends(map.iter(), $ascending) && gives(map.into_iter(), $ascending)
+    }};
+}
+
 #[test]
-fn each_map_is_walked_in_the_order_of_its_bytes(rt: HostRuntime) -> Result<(), Fail> {
-    let alloc = rt.alloc();
-    let mut sorted: SortedKeyedMapping<u8, 16> = SortedKeyedMapping::new(alloc)?;
-    let mut indexed = Indexed48::new(alloc)?;
-    let mut direct: DirectMapping<u8> = DirectMapping::new(alloc)?;
-    assert!(rt; fill(&mut sorted, &SCATTERED) && lends(sorted.iter(), &ASCENDING));
-    assert!(rt; fill(&mut indexed, &SCATTERED) && lends(indexed.iter(), &ASCENDING));
-    assert!(rt; fill(&mut direct, &SCATTERED) && lends(direct.iter(), &ASCENDING));
-    assert!(rt; gives(sorted.into_iter(), &ASCENDING));
-    assert!(rt; gives(indexed.into_iter(), &ASCENDING));
-    assert!(rt; gives(direct.into_iter(), &ASCENDING));
+fn a_sorted_map_is_walked_in_the_order_of_its_bytes(rt: HostRuntime) -> Result<(), Fail> {
+    let map: SortedKeyedMapping<u8, 16> = SortedKeyedMapping::new(rt.alloc())?;
+    assert!(rt; is_walked!(map, &SCATTERED, &ASCENDING));
     Ok(())
 }
 
 #[test]
-fn an_indexed_and_a_direct_map_ascend_over_all_words_of_their_sets(
-    rt: HostRuntime,
-) -> Result<(), Fail> {
-    let alloc = rt.alloc();
-    let mut indexed = Indexed48::new(alloc)?;
-    let mut direct: DirectMapping<u8> = DirectMapping::new(alloc)?;
-    assert!(rt; fill(&mut indexed, &CLOSE_BY) && lends(indexed.iter(), &CLOSE_BY_ASCENDING));
-    assert!(rt; fill(&mut direct, &CLOSE_BY) && lends(direct.iter(), &CLOSE_BY_ASCENDING));
-    assert!(rt; gives(indexed.into_iter(), &CLOSE_BY_ASCENDING));
-    assert!(rt; gives(direct.into_iter(), &CLOSE_BY_ASCENDING));
+fn an_indexed_map_is_walked_in_the_order_of_its_bytes(rt: HostRuntime) -> Result<(), Fail> {
+    assert!(rt; is_walked!(Indexed48::new(rt.alloc())?, &SCATTERED, &ASCENDING));
+    Ok(())
+}
+
+#[test]
+fn a_direct_map_is_walked_in_the_order_of_its_bytes(rt: HostRuntime) -> Result<(), Fail> {
+    let map: DirectMapping<u8> = DirectMapping::new(rt.alloc())?;
+    assert!(rt; is_walked!(map, &SCATTERED, &ASCENDING));
+    Ok(())
+}
+
+#[test]
+fn an_indexed_map_ascends_over_all_words_of_its_set(rt: HostRuntime) -> Result<(), Fail> {
+    assert!(rt; is_walked!(Indexed48::new(rt.alloc())?, &CLOSE_BY, &CLOSE_BY_ASCENDING));
+    Ok(())
+}
+
+#[test]
+fn a_direct_map_ascends_over_all_words_of_its_set(rt: HostRuntime) -> Result<(), Fail> {
+    let map: DirectMapping<u8> = DirectMapping::new(rt.alloc())?;
+    assert!(rt; is_walked!(map, &CLOSE_BY, &CLOSE_BY_ASCENDING));
     Ok(())
 }
 
@@ -200,7 +220,7 @@ fn an_indexed_and_a_direct_map_ascend_over_all_words_of_their_sets(
 fn an_only_child_is_taken_out_with_its_byte(rt: HostRuntime) -> Result<(), Fail> {
     let mut map: SortedKeyedMapping<u8, 4> = SortedKeyedMapping::new(rt.alloc())?;
     map.add_child(9, 5);
-    assert_eq!(rt; map.num_children(), 1);
+    expect_eq(&rt, map.num_children(), 1);
     assert!(rt; map.take_value_for_leaf() == (9, 5));
     assert!(rt; map.num_children() == 0 && map.seek_child(9).is_none());
     Ok(())
@@ -261,9 +281,9 @@ fn a_sorted_walk_that_ends_after_its_first_item_drops_the_rest_once(
     let first = walk.next();
     assert!(rt; matches!(&first, Some((1, child)) if child.0 == 1));
     drop(walk);
-    assert_eq!(rt; drops.get(), 2);
+    expect_eq(&rt, drops.get(), 2);
     drop(first);
-    assert_eq!(rt; drops.get(), 3);
+    expect_eq(&rt, drops.get(), 3);
     Ok(())
 }
 

@@ -71,18 +71,32 @@ fn gives<I: Iterator<Item = usize> + Drop>(mut walk: I, positions: &[usize]) -> 
     walk.next().is_none()
 }
 
+// Whether an empty set, once the positions are in it, has these facts, and has none of them once it is emptied. It has
+// the positions then again.
+fn has_facts<B: BitsetTrait>(set: &mut B, facts: &Facts<'_>) -> bool
+    requires { B.CAPACITY < 2 ^ 64 }
+{
+    fill(set, facts.positions)
+        && is_measured(set, facts)
+        && is_found(set, facts)
+        && is_emptied(set, facts.positions)
+        && fill(set, facts.positions)
+}
+
+fn is_cleared<B: BitsetTrait>(set: &mut B) -> bool
+    requires { B.CAPACITY < 2 ^ 64 }
+{
+    set.clear();
+    set.is_empty()
+}
+
 /// Whether the set of the positions has these facts, and has none of them once it is emptied, nor once it is cleared.
 macro_rules! has {
     ($set:ty, $facts:expr) => {{
         let mut set = <$set>::new();
-        let filled = fill(&mut set, $facts.positions)
-            && is_measured(&set, $facts)
-            && is_found(&set, $facts)
+        has_facts(&mut set, $facts)
             && gives(set.iter(), $facts.positions)
-            && is_emptied(&mut set, $facts.positions)
-            && fill(&mut set, $facts.positions);
-        set.clear();
-        filled && set.is_empty()
+            && is_cleared(&mut set)
     }};
 }
 

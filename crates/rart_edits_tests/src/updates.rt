@@ -1,4 +1,0 @@
-//! Updates through a slot: values that count their drops, and each request for memory refused.
-
-mod drops;
-mod refused;
