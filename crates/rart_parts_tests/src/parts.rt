@@ -7,8 +7,8 @@ mod key_search;
 mod mappings;
 mod sets;
 
+use crate::compare::expect_eq;
 use rart_parts::TreeError;
-use rart_test_tools::compare::expect_eq;
 use std::test::Fail;
 
 #[test]

@@ -1,8 +1,8 @@
 //! Keys of numbers, and the order of keys.
 
+use crate::compare::expect_eq;
 use rart_keys::laws::key_order;
 use rart_keys::{ArrayKey, KeyTrait};
-use rart_test_tools::compare::expect_eq;
 use std::cmp::Ordering;
 
 #[test]

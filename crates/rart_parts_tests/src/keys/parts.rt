@@ -1,7 +1,7 @@
 //! Parts of keys.
 
+use crate::compare::expect_eq;
 use rart_keys::{ArrPartial, Partial};
-use rart_test_tools::compare::expect_eq;
 use std::test::Fail;
 
 #[test]

@@ -1,8 +1,8 @@
 //! Keys of bytes and texts.
 
+use crate::compare::expect_eq;
 use rart_keys::keys::array_key::ArrayKey;
 use rart_keys::{ArrPartial, KeyTrait, Partial};
-use rart_test_tools::compare::expect_eq;
 use std::cmp::Ordering;
 use std::test::Fail;
 

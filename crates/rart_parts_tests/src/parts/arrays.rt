@@ -1,9 +1,9 @@
 //! Arrays of places, as rows of calls and wanted answers.
 
+use crate::compare::expect_eq;
 use rart_parts::TreeError;
 use rart_parts::utils::bitarray::BitArray;
 use rart_parts::utils::bitset::{Bitset8, Bitset16, Bitset64, BitsetTrait};
-use rart_test_tools::compare::expect_eq;
 use rart_test_tools::counted::Counted;
 use rart_test_tools::refusals::{refuse, was_refused};
 use std::alloc::Global;

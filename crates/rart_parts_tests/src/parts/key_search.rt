@@ -1,11 +1,11 @@
 //! The place of a byte among keys.
 
+use crate::compare::expect_eq;
 use rart_parts::utils::bitset::{Bitset8, BitsetTrait};
 use rart_parts::utils::u8_keys::{
     u8_keys_find_insert_position_sorted, u8_keys_find_key_position,
     u8_keys_find_key_position_sorted,
 };
-use rart_test_tools::compare::expect_eq;
 
 #[test]
 fn key_255_is_found_in_used_places_alone(rt: HostRuntime) {

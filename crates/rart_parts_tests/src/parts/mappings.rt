@@ -1,12 +1,12 @@
 //! The maps from bytes to children: rows of calls, walks, and dropped children.
 ghost use Rattle.std.specs.Iterator.{IsFinite};
 
+use crate::compare::expect_eq;
 use rart_parts::TreeError;
 use rart_parts::mapping::{
     DirectMapping, IndexedMapping, KeyedMapping, NodeMapping, SortedKeyedMapping,
 };
 use rart_parts::utils::bitset::{Bitset8, Bitset16};
-use rart_test_tools::compare::expect_eq;
 use rart_test_tools::counted::Counted;
 use rart_test_tools::refusals::{refuse, was_refused};
 use std::alloc::Global;
