@@ -274,14 +274,14 @@ fn written(entry: Option<(usize, &mut u8)>, value: u8) -> Option<(usize, u8)> {
     Some((position, old))
 }
 
-// Whether a walk that writes lends each of the three values once.
+// Whether a walk that writes lends each of the three values once, and stays at its end.
 fn is_written_from_both_ends(array: &mut Values) -> bool {
     let mut walk = array.iter_mut();
     written(walk.next(), 31) == Some((3, 1))
         && written(walk.next_back(), 33) == Some((40, 3))
         && written(walk.next(), 32) == Some((7, 2))
-        && walk.next().is_none()
-        && walk.next_back().is_none()
+        && (walk.next().is_none() && walk.next_back().is_none())
+        && (walk.next().is_none() && walk.next_back().is_none())
 }
 
 static WRITTEN_FROM_BOTH_ENDS: [Row; 4] = [
