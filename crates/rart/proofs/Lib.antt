@@ -17,3 +17,4 @@ pub mod PresentLemmas
 pub mod StepLemmas
 pub mod UpdateLemmas
 pub mod WalkSteps
+pub mod trees
