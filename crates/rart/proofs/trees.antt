@@ -1,3 +1,10 @@
+pub mod AppendLemmas
+pub mod EditLemmas
+pub mod EqualLemmas
+pub mod FieldLemmas
 pub mod Lending
 pub mod LentAndShared
 pub mod LentAndSharedKeepingKey
+pub mod PresentLemmas
+pub mod UpdateLemmas
+pub mod WalkSteps

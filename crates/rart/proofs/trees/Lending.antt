@@ -32,8 +32,8 @@ use Rattle.std.specs.Prelude.{Result, Ok, Err, IfErr, OnErr, ⊤}
 use Rattle.rart.specs.Edits.{InsertsNew, TriesInsert}
 use Rattle.rart.specs.MapAndShape.{MapAndShape}
 use Rattle.rart.specs.Refusals.{AddsPresent, IsStoredAt}
-use Rattle.rart.proofs.PresentLemmas as lemmas
-use Rattle.rart.proofs.WalkSteps.{beside, rests}
+use Rattle.rart.proofs.trees.PresentLemmas as lemmas
+use Rattle.rart.proofs.trees.WalkSteps.{beside, rests}
 use Rattle.rart_trie.specs.contracts.refused.NotInserted as not_inserted
 use Rattle.rart_trie.specs.declared.refused.NotInserted.{NotInserted}
 use Rattle.std.specs.contracts.result.Result as result

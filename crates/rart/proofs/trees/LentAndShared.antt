@@ -36,8 +36,8 @@ use denote.Triple.Entry.{Args, alive, on_entry}
 use denote.Triple.Spec.{Back}
 use denote.Triple.Statement.{Contract, Triple}
 use denote.Triple.Table.{entered, framed}
-use Rattle.rart.proofs.PresentLemmas as lemmas
-use Rattle.rart.proofs.WalkSteps.{Lone-is, Held, shown, lends, takes_back, shares_for_good}
+use Rattle.rart.proofs.trees.PresentLemmas as lemmas
+use Rattle.rart.proofs.trees.WalkSteps.{Lone-is, Held, shown, lends, takes_back, shares_for_good}
 use Rattle.rart_trie.specs.contracts.refused.NotInserted as not_inserted
 use Rattle.rart_trie.proofs.refused.NotInserted.TheLaws as not_inserted_laws
 use Rattle.std.proofs.result.Result.TheLaws as result_laws

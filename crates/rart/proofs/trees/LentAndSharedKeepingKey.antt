@@ -35,8 +35,8 @@ use denote.Triple.Entry.{Args, alive, on_entry}
 use denote.Triple.Spec.{Back}
 use denote.Triple.Statement.{Contract, Triple}
 use denote.Triple.Table.{entered, framed}
-use Rattle.rart.proofs.PresentLemmas as lemmas
-use Rattle.rart.proofs.WalkSteps.{Lone-is, Held, shown, lends, takes_back, shares_for_good}
+use Rattle.rart.proofs.trees.PresentLemmas as lemmas
+use Rattle.rart.proofs.trees.WalkSteps.{Lone-is, Held, shown, lends, takes_back, shares_for_good}
 use Rattle.rart.specs.contracts.tree.try_insert.Tried as tried
 use Rattle.rart.proofs.tree.try_insert.Tried.TheLaws as tried_laws
 use Rattle.rart.proofs.trees.Lending.{bounded_by, Lending, slot, from, copies, key, value, Answer, answer_is, lender}

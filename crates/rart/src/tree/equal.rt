@@ -18,7 +18,7 @@ impl<K: KeyTrait, V: PartialEq> PartialEq for AdaptiveRadixTree<K, V> {
         (on_per (λ p. p.0) (partial_equiv_from_equiv nat_list_eq_equiv))
         (on_per (λ p. p.1) V.laws))) };
 
-    #[tactic(auto, using(crate::proofs::EqualLemmas::lengths_apart))]
+    #[tactic(auto, using(crate::proofs::trees::EqualLemmas::lengths_apart))]
     fn eq(&self, other: &Self) -> bool {
         if self.len != other.len {
             return false;

@@ -1,6 +1,6 @@
 use Rattle.std.proofs.Common.{◌∙◌}
 use Rattle.std.proofs.lemmas.Result.{on_ok_weaker}
-use Rattle.rart.proofs.EditLemmas.{pairs-removes}
+use Rattle.rart.proofs.trees.EditLemmas.{pairs-removes}
 use Rattle.rart.proofs.laws.removal_restores.Goals as goal
 
 pub returns-clause-nodes : goal.returns-clause-nodes

@@ -1,7 +1,7 @@
 use Rattle.std.proofs.Common.{◌≢◌, [], ap, arith, length}
 use Rattle.std.proofs.lemmas.Bool.{false≢true}
 use Rattle.rart_parts.specs.declared.error.TreeError.TheVariants.{Memory}
-use Rattle.rart.proofs.StepLemmas.{refused-some, run-begins, run-continues, run-ends}
+use Rattle.rart.proofs.scripts.StepLemmas.{refused-some, run-begins, run-continues, run-ends}
 use Rattle.rart.proofs.script.run.Goals as goal
 
 pub loop-call-init : goal.loop-call-init

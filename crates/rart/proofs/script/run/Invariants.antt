@@ -1,7 +1,7 @@
 use Rattle.std.proofs.Common.{◌≤◌, length}
 use Rattle.std.specs.Prelude.{vec_capacity}
 use Rattle.std.specs.Vec.Iter.{into_iter_items}
-use Rattle.rart.proofs.StepLemmas.{HasRun}
+use Rattle.rart.proofs.scripts.StepLemmas.{HasRun}
 use Rattle.rart.proofs.script.run.Given as goal
 
 abbrev pub invariant-loop-call : goal.invariant-loop-call

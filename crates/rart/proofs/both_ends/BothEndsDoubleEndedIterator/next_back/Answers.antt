@@ -1,5 +1,5 @@
 use Rattle.std.proofs.Common.{◌-◌, arith}
-use Rattle.rart.proofs.BothEndLemmas.{back-step}
+use Rattle.rart.proofs.ends.BothEndLemmas.{back-step}
 use Rattle.rart.proofs.both_ends.BothEndsDoubleEndedIterator.next_back.Goals as goal
 
 pub invariant_of-self : goal.invariant_of-self

@@ -1,8 +1,8 @@
 use Rattle.std.proofs.Common.{◌∙◌, ◌++◌, ◌∷◌, []}
 use Rattle.std.specs.Vec.Iter.{into_iter_steps}
 use Rattle.std.proofs.iter.Next.{Yields-more}
-use Rattle.rart.proofs.BulkLawLemmas.{one-refused, vec-begun}
-use Rattle.rart.proofs.ExtensionLemmas.{put-more}
+use Rattle.rart.proofs.bulks.BulkLawLemmas.{one-refused, vec-begun}
+use Rattle.rart.proofs.bulks.ExtensionLemmas.{put-more}
 use Rattle.rart.proofs.laws.bulk_loads.inserted_tree.Goals as goal
 
 pub loop-key-preserved-in-Ok : goal.loop-key-preserved-in-Ok

@@ -1,6 +1,6 @@
 use Rattle.std.proofs.Common.{◌∙◌}
 use Rattle.std.proofs.lemmas.Result.{IfErr-weaker, IfOk-weaker}
-use Rattle.rart.proofs.BulkLawLemmas.{load-all, load-refused, vec-begun, vec-drained}
+use Rattle.rart.proofs.bulks.BulkLawLemmas.{load-all, load-refused, vec-begun, vec-drained}
 use Rattle.rart.proofs.laws.bulk_loads.loaded_tree.Goals as goal
 
 pub returns-clause-pairs : goal.returns-clause-pairs

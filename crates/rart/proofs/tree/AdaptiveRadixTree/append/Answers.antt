@@ -1,7 +1,7 @@
 use Rattle.std.proofs.Common.{rules, ◌≡◌, [], ◌∙◌, ap, sym}
 use Rattle.std.proofs.lemmas.List.Sorted.{IsPermutation-refl}
 use Rattle.rart_keys.specs.BulkLists.{put_all}
-use Rattle.rart.proofs.AppendLemmas.{all-moved, moved-on, moved-until, until-error}
+use Rattle.rart.proofs.trees.AppendLemmas.{all-moved, moved-on, moved-until, until-error}
 use Rattle.rart.proofs.tree.AdaptiveRadixTree.append.Goals as goal
 
 pub returns-then-is_empty-clause-pairs : goal.returns-then-is_empty-clause-pairs

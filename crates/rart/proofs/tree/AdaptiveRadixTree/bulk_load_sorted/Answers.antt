@@ -1,5 +1,11 @@
-use Rattle.rart.proofs.BulkEndLemmas.{sorted-ascends, sorted-loaded, sorted-refused}
+use Rattle.std.proofs.Common.{◌∙◌, ap, length}
+use Rattle.rart.proofs.bulks.BulkEndLemmas.{sorted-ascends, sorted-each, sorted-loaded, sorted-refused}
 use Rattle.rart.proofs.tree.AdaptiveRadixTree.bulk_load_sorted.Goals as goal
+
+pub of_keys_and_values-requires-clause-each : goal.of_keys_and_values-requires-clause-each
+of_keys_and_values-requires-clause-each g c = ap length c.deref.ensures.value
+    ∙ sorted-each g.I.IntoIterator.into_iter_gives g.I.IntoIter.Iterator.next_gives c.args.items g.K.KeyTrait.bytes
+    c.in_ok-keys.keys.items c.in_ok-keys.values.items c.in_ok-keys.ensures.read
 
 pub of_keys_and_values-requires-clause-ascending :
     goal.of_keys_and_values-requires-clause-ascending

@@ -1,7 +1,7 @@
 use Rattle.std.proofs.Common.{rules, ap}
 use Rattle.rart.specs.Extensions.{PutsUntil}
-use Rattle.rart.proofs.BulkLoadLemmas.{reads-more}
-use Rattle.rart.proofs.ExtensionLemmas.{put-more, until-refused}
+use Rattle.rart.proofs.bulks.BulkLoadLemmas.{reads-more}
+use Rattle.rart.proofs.bulks.ExtensionLemmas.{put-more, until-refused}
 use Rattle.rart.proofs.tree.AdaptiveRadixTree.extend.Goals as goal
 
 pub returns-in-Err-clause-refused : goal.returns-in-Err-clause-refused

@@ -1,6 +1,6 @@
 use Rattle.std.proofs.Common.{◌++◌, map, ap, ◌∙◌}
 use Rattle.rart_keys.specs.SortedMap.{values_of}
-use Rattle.rart.proofs.PairLists.{zipped}
+use Rattle.rart.proofs.bulks.PairLists.{zipped}
 use Rattle.rart.proofs.tree.AdaptiveRadixTree.into_pairs.Goals as goal
 
 pub returns-in-Ok-clause-pairs : goal.returns-in-Ok-clause-pairs

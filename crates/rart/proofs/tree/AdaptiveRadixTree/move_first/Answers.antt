@@ -1,5 +1,5 @@
 use Rattle.std.proofs.Common.{ap}
-use Rattle.rart.proofs.AppendLemmas.{first-not-removed, first-refused, one-moved}
+use Rattle.rart.proofs.trees.AppendLemmas.{first-not-removed, first-refused, one-moved}
 use Rattle.rart.proofs.tree.AdaptiveRadixTree.move_first.Goals as goal
 
 pub returns-in-Ok-clause-moves : goal.returns-in-Ok-clause-moves

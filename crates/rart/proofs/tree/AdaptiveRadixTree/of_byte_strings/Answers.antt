@@ -3,7 +3,7 @@ use Rattle.std.proofs.lemmas.List.{length-map}
 use Rattle.rart_trie.specs.shapes.KeyLists.{keys_in}
 use Rattle.rart_trie.specs.tries.Trie.{pairs_of}
 use Rattle.rart.specs.declared.tree.TheConstants.{MAX_PAIRS}
-use Rattle.rart.proofs.BulkEndLemmas.{loaded-fields}
+use Rattle.rart.proofs.bulks.BulkEndLemmas.{loaded-fields}
 use Rattle.rart.proofs.tree.AdaptiveRadixTree.of_byte_strings.Goals as goal
 
 pub invariant_of-result : goal.invariant_of-result

@@ -2,8 +2,8 @@ use Rattle.std.proofs.Common.{◌∙◌, ap, arith, length}
 use Rattle.std.specs.Vec.Iter.{into_iter_items}
 use Rattle.std.proofs.lemmas.List.{length-map}
 use Rattle.rart_trie.specs.shapes.KeyLists.{keys_in}
-use Rattle.rart.proofs.BulkTreeLemmas.{keys-within}
-use Rattle.rart.proofs.BulkValueLemmas.{can_take-list, strings-count, values-all}
+use Rattle.rart.proofs.bulks.BulkTreeLemmas.{keys-within}
+use Rattle.rart.proofs.bulks.BulkValueLemmas.{can_take-list, strings-count, values-all}
 use Rattle.rart.proofs.tree.AdaptiveRadixTree.of_keys_and_values.Goals as goal
 
 pub of_byte_strings-requires-clause-within : goal.of_byte_strings-requires-clause-within

@@ -1,4 +1,4 @@
-use Rattle.rart.proofs.EditLemmas.{may-refuse}
+use Rattle.rart.proofs.trees.EditLemmas.{may-refuse}
 use Rattle.rart.proofs.tree.AdaptiveRadixTree.pop_last.Goals as goal
 
 pub returns-in-Err-clause-memory : goal.returns-in-Err-clause-memory

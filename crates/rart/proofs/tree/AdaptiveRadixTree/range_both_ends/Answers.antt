@@ -1,6 +1,6 @@
 use Rattle.std.proofs.Common.{◌∙◌, ap, reverse, subst, sym}
 use Rattle.rart_keys.specs.SortedMap.{IsAscending}
-use Rattle.rart.proofs.PartEndLemmas.{ascending-between}
+use Rattle.rart.proofs.ends.PartEndLemmas.{ascending-between}
 use Rattle.rart.proofs.tree.AdaptiveRadixTree.range_both_ends.Goals as goal
 
 pub of-requires-clause-ascending : goal.of-requires-clause-ascending

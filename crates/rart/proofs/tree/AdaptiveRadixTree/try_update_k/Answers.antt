@@ -2,7 +2,8 @@ use Rattle.std.proofs.Common.{◌≡◌, ◌∙◌, ap, Err}
 use Rattle.rart_keys.specs.SortedMap.{keys_of}
 use Rattle.rart.specs.Updates.{TriesUpdate}
 use Rattle.rart.specs.declared.tree.update.TryUpdateError.TheVariants.{Remove}
-use Rattle.rart.proofs.UpdateLemmas.{done, failed, not-called, not-inserted, put-back, same-map, some-left, was-stored}
+use Rattle.rart.proofs.trees.UpdateLemmas.{done, failed, not-called, not-inserted, put-back, same-map, some-left}
+use Rattle.rart.proofs.trees.UpdateLemmas.{was-stored}
 use Rattle.rart.proofs.tree.AdaptiveRadixTree.try_update_k.Given.{Over}
 use Rattle.rart.proofs.tree.AdaptiveRadixTree.try_update_k.Goals.{After-restore}
 use Rattle.rart.proofs.tree.AdaptiveRadixTree.try_update_k.Goals as goal

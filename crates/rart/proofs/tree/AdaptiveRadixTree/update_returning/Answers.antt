@@ -5,7 +5,7 @@ use Rattle.rart_trie.specs.tries.Tree.{tree_pairs}
 use Rattle.rart_trie.specs.edits.Slots.{slot_of}
 use Rattle.rart.specs.MapAndShape.{MapAndShape}
 use Rattle.rart.specs.declared.tree.TheConstants.{MAX_PAIRS}
-use Rattle.rart.proofs.UpdateLemmas.{ends-in}
+use Rattle.rart.proofs.trees.UpdateLemmas.{ends-in}
 use Rattle.rart.proofs.tree.AdaptiveRadixTree.update_returning.Goals as goal
 use Rattle.rart.proofs.tree.AdaptiveRadixTree.update_returning.Goals.{in-Ok-New, in-Ok-Removed, in-Ok+in-Absent-1}
 use Rattle.rart.proofs.tree.AdaptiveRadixTree.update_returning.Goals.{in-Err-1}

@@ -1,4 +1,4 @@
-use Rattle.rart.proofs.BothEndLemmas.{all-values, values-left}
+use Rattle.rart.proofs.ends.BothEndLemmas.{all-values, values-left}
 use Rattle.rart.proofs.tree.AdaptiveRadixTree.values_iter_both_ends.Goals as goal
 
 pub invariant_of-result : goal.invariant_of-result

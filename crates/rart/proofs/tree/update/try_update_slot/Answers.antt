@@ -1,5 +1,5 @@
 use Rattle.rart_keys.specs.SortedMap.{lookup}
-use Rattle.rart.proofs.UpdateLemmas.{attempt-stays}
+use Rattle.rart.proofs.trees.UpdateLemmas.{attempt-stays}
 use Rattle.rart.proofs.tree.update.try_update_slot.Goals as goal
 
 pub update_returning-requires-clause-occupancy : goal.update_returning-requires-clause-occupancy

@@ -1,6 +1,6 @@
 use Rattle.std.proofs.Common.{◌-◌, ap, arith}
 use Rattle.rart_keys.specs.SortedMap.{values_of}
-use Rattle.rart.proofs.BothEndLemmas.{back-step}
+use Rattle.rart.proofs.ends.BothEndLemmas.{back-step}
 use Rattle.rart.proofs.both_ends.values.ValuesBothEndsDoubleEndedIterator.next_back.Goals as goal
 
 pub invariant_of-self : goal.invariant_of-self

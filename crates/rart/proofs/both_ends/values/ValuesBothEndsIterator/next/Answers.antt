@@ -1,5 +1,5 @@
 use Rattle.std.proofs.Common.{arith}
-use Rattle.rart.proofs.BothEndLemmas.{front-step}
+use Rattle.rart.proofs.ends.BothEndLemmas.{front-step}
 use Rattle.rart.proofs.both_ends.values.ValuesBothEndsIterator.next.Goals as goal
 
 pub invariant_of-self : goal.invariant_of-self

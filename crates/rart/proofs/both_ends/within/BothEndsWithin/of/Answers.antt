@@ -1,4 +1,4 @@
-use Rattle.rart.proofs.PartEndLemmas.{begin}
+use Rattle.rart.proofs.ends.PartEndLemmas.{begin}
 use Rattle.rart.proofs.both_ends.within.BothEndsWithin.of.Goals as goal
 
 pub invariant_of-result-2 : goal.invariant_of-result-2

@@ -1,5 +1,5 @@
 use Rattle.std.proofs.Common.{◌∙◌, length, sym, ap, arith}
-use Rattle.rart.proofs.PartEndLemmas.{back-step, unlike}
+use Rattle.rart.proofs.ends.PartEndLemmas.{back-step, unlike}
 use Rattle.rart.proofs.both_ends.within.BothEndsWithinDoubleEndedIterator.next_back.Goals as goal
 
 pub invariant_of-self-2 : goal.invariant_of-self-2

@@ -1,4 +1,4 @@
-use Rattle.rart.proofs.PartEndLemmas.{front-step, unlike}
+use Rattle.rart.proofs.ends.PartEndLemmas.{front-step, unlike}
 use Rattle.rart.proofs.both_ends.within.BothEndsWithinIterator.next.Goals as goal
 
 pub invariant_of-self-2 : goal.invariant_of-self-2

@@ -1,7 +1,7 @@
 use Rattle.std.proofs.Common.{◌≡◌, ◌∙◌, ◌∷◌, ◌++◌, [], ap, arith, length, length-append}
 use Rattle.std.proofs.lemmas.List.{map-append}
 use Rattle.rart_trie.specs.shapes.KeyLists.{keys_in}
-use Rattle.rart.proofs.BulkTreeLemmas.{one-key-more}
+use Rattle.rart.proofs.bulks.BulkTreeLemmas.{one-key-more}
 use Rattle.rart.proofs.tree.bulk.keys.keys_by_index.Goals as goal
 
 pub loop-i-preserved : goal.loop-i-preserved

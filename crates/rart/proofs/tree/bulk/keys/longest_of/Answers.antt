@@ -1,4 +1,4 @@
-use Rattle.rart.proofs.BulkTreeLemmas.{longest-start, longest-step, longest-end, longer-one, no-longer-one}
+use Rattle.rart.proofs.bulks.BulkTreeLemmas.{longest-start, longest-step, longest-end, longer-one, no-longer-one}
 use Rattle.rart.proofs.tree.bulk.keys.longest_of.Goals as goal
 use Rattle.rart.proofs.tree.bulk.keys.longest_of.Goals.{then-longest-keys, else-longest-keys}
 

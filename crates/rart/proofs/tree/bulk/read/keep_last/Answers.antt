@@ -1,7 +1,7 @@
 use Rattle.std.proofs.Common.{rules, ◌≡◌, ◌<◌, ◌∷◌, ◌++◌, [], length, ◌∙◌, ap, IsSome}
 use Rattle.rart.specs.declared.tree.TheConstants.{MAX_PAIRS}
-use Rattle.rart.proofs.BulkLoadLemmas.{fault-fails, full-fails, memory-at-new, memory-at-equal, kept-new}
-use Rattle.rart.proofs.BulkLoadLemmas.{kept-equal}
+use Rattle.rart.proofs.bulks.BulkLoadLemmas.{fault-fails, full-fails, memory-at-new, memory-at-equal, kept-new}
+use Rattle.rart.proofs.bulks.BulkLoadLemmas.{kept-equal}
 use Rattle.rart.proofs.tree.bulk.read.keep_last.Goals as goal
 use Rattle.rart.proofs.tree.bulk.read.keep_last.Goals.{in-Equal, in-Less+else-len-eq-MAX_PAIRS+in-Ok}
 

@@ -1,5 +1,5 @@
 use Rattle.std.proofs.Common.{◌∙◌}
-use Rattle.rart.proofs.BulkLoadLemmas.{order-at-end}
+use Rattle.rart.proofs.bulks.BulkLoadLemmas.{order-at-end}
 use Rattle.rart.proofs.tree.bulk.read.order_after.Goals as goal
 
 pub returns-in-Some : goal.returns-in-Some

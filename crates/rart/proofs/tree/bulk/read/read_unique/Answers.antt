@@ -1,9 +1,9 @@
-use Rattle.std.proofs.Common.{rules, ◌≡◌, length}
+use Rattle.std.proofs.Common.{rules, ◌≡◌, arith, length}
 use Rattle.rart.specs.BulkLoads.{FailsUnique}
 use Rattle.rart.specs.Steps.{pairs_in}
 use Rattle.rart.specs.declared.bulk.BulkError.TheVariants.{Memory, Full}
 use Rattle.rart.specs.declared.tree.TheConstants.{MAX_PAIRS}
-use Rattle.rart.proofs.BulkLoadLemmas.{reads-more, unique-full, unique-memory}
+use Rattle.rart.proofs.bulks.BulkLoadLemmas.{keys-more, reads-more, unique-full, unique-memory, values-more}
 use Rattle.rart.proofs.tree.bulk.read.read_unique.Goals as goal
 
 pub returns-then-len-eq-MAX_PAIRS-clause-refused : goal.returns-then-len-eq-MAX_PAIRS-clause-refused
@@ -38,3 +38,12 @@ returns-in_default-push-clause-refused g c =
     c.loop-key.yielded_by c.in-Some.is c.next.ensures.steps
     (unique-memory g.K.KeyTrait.bytes c.loop-key.yielded (c.in-Some.key, c.in-Some.value) c.loop-key.keys.items
     c.loop-key.invariant.keys c.loop-key.invariant.few fewer)
+
+pub loop-key-preserved : goal.loop-key-preserved
+loop-key-preserved g c = record {
+  can = search rules;
+  finite = search rules;
+  few = omega (arith, c.loop-key.invariant.few, c.in-Ok.ensures.len, c.if-len-eq-MAX_PAIRS.false, c.len.ensures);
+  keys = keys-more g.K.KeyTrait.bytes _ _ _ _ _ c.in-Ok.ensures.items c.loop-key.invariant.keys;
+  values = values-more g.K.KeyTrait.bytes _ _ _ _ _ c.in-Ok-push.ensures.items c.loop-key.invariant.values;
+}

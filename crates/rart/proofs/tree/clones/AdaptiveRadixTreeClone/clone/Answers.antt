@@ -3,7 +3,7 @@ use Rattle.std.specs.List.{AllZip}
 use Rattle.std.proofs.lemmas.List.{length-map}
 use Rattle.std.proofs.lemmas.List.Elements.{length_all_zip}
 use Rattle.rart_keys.specs.SortedMap.{keys_of, values_of}
-use Rattle.rart.proofs.BulkEndLemmas.{ascending-by-keys}
+use Rattle.rart.proofs.bulks.BulkEndLemmas.{ascending-by-keys}
 use Rattle.rart.proofs.tree.clones.AdaptiveRadixTreeClone.clone.Goals as goal
 
 -- one clone for each key

@@ -1,6 +1,6 @@
 use Rattle.std.proofs.Common.{◌≡◌, ◌∙◌, length, sym, ap, rules}
 use Rattle.std.specs.Vec.Iter.{into_iter_items, into_iter_len}
-use Rattle.rart.proofs.PairLists.{counted}
+use Rattle.rart.proofs.bulks.PairLists.{counted}
 use Rattle.rart.proofs.tree.into_pairs.IntoPairsExactSizeIterator.len.Goals as goal
 
 pub returns-clause-value : goal.returns-clause-value

@@ -1,6 +1,6 @@
 use Rattle.std.proofs.Common.{◌≡◌, ◌∙◌, Some, length, sym, ap, arith, rules}
 use Rattle.std.specs.Vec.Iter.{into_iter_items, into_iter_len}
-use Rattle.rart.proofs.PairLists.{counted}
+use Rattle.rart.proofs.bulks.PairLists.{counted}
 use Rattle.rart.proofs.tree.into_pairs.IntoPairsIterator.size_hint.Goals as goal
 
 pub returns-clause-lower : goal.returns-clause-lower

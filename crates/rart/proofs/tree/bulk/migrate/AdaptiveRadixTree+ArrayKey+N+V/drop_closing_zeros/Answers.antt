@@ -1,6 +1,6 @@
 use Rattle.std.proofs.Common.{map}
 use Rattle.rart_keys.specs.ArrayKeyBytes.{array_key_bytes}
-use Rattle.rart.proofs.MigrateLemmas.{brought-over, some-read, texts-ascend}
+use Rattle.rart.proofs.bulks.MigrateLemmas.{brought-over, some-read, texts-ascend}
 use Rattle.rart.proofs.tree.bulk.migrate.AdaptiveRadixTree+ArrayKey+N+V.drop_closing_zeros.Goals as goal
 
 pub of_keys_and_values-requires-clause-ascending : goal.of_keys_and_values-requires-clause-ascending

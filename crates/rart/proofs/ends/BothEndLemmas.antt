@@ -3,11 +3,26 @@ use Rattle.std.proofs.Common.{◌≡◌, ℕ, zero, suc, ◌+◌, ◌-◌, ◌�
 use Rattle.std.proofs.Common.{sym, ap, ◌∙◌, arith, length-append, reverse}
 use Rattle.std.proofs.lemmas.Grind.{reverse_onto}
 use Rattle.std.proofs.lemmas.List.{drop-append-le, length-drop, length-map, map-append, reverse-append}
-use Rattle.std.proofs.lemmas.List.{take-append-le, take-take, take_all}
+use Rattle.std.proofs.lemmas.List.{reverse-reverse, take-append-le, take-take, take_all}
 use Rattle.rart_keys.specs.SortedMap.{values_of}
 use Rattle.rart.specs.BothEnds.{AreLeft}
 
 module _ {A : Type 0} where
+  -- all are left at first
+  all-left : (n : ℕ) (es : List A) → n ≡ length es → AreLeft n es es
+  all-left n es size = let none : length es - n ≡ 0 = omega arith in record {
+    in_front = omega arith;
+    in_back = omega arith;
+    same = take_all n es (omega arith) ∙ ap (λ d. drop d es) (sym none);
+  }
+
+  pub items-left : (n : ℕ) (front es down : List A) → n ≡ length es → front ≡ es → down ≡ reverse es
+      → AreLeft n front (reverse down)
+  items-left n front es down e f h = rw (f, h, reverse-reverse) (all-left n es e)
+
+  pub all-items : (n : ℕ) (front es : List A) → n ≡ length es → front ≡ es → take n front ≡ es
+  all-items n front es e f = rw f (take_all n es (omega arith))
+
   drop-next : (d : ℕ) (x : A) (xs ys : List A) → drop d xs ≡ x ∷ ys → drop (suc d) xs ≡ ys
   drop-next zero x [] ys e = absurd (cc)
   drop-next zero x (z ∷ xs) ys e = cc
@@ -83,12 +98,5 @@ module _ {V : Type 0} where
 
   pub values-left : (n : ℕ) (front : List V) (es down : List (List ℕ × V)) → n ≡ length es → front ≡ values_of es
       → down ≡ reverse es → AreLeft n front (reverse (values_of down))
-  values-left n front es down e f h =
-      let size : n ≡ length (values_of es) = omega (arith, e, length-map es (λ p. p.1)) in
-      let none : length (values_of es) - n ≡ 0 = omega (arith, size) in
-      let left : AreLeft n (values_of es) (values_of es) = record {
-        in_front = omega (arith, size);
-        in_back = omega (arith, size);
-        same = take_all n (values_of es) (omega (arith, size)) ∙ ap (λ d. drop d (values_of es)) (sym none);
-      } in
-      rw (f, h, values-back es) left
+  values-left n front es down e f h = rw (f, h, values-back es)
+      (all-left n (values_of es) (omega (arith, e, length-map es (λ p. p.1))))

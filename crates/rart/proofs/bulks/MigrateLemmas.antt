@@ -2,12 +2,13 @@
 use Rattle.std.proofs.Common.{◌≡◌, ℕ, ◌<◌, List, [], ◌∷◌, ◌++◌, length, map, refl, sym, ap, ◌∙◌, arith}
 use Rattle.std.specs.Cmp.Lexicographic.{slice_cmp}
 use Rattle.std.specs.Ordering.{nat_cmp}
-use Rattle.std.proofs.lemmas.List.{length-map}
+use Rattle.std.proofs.lemmas.List.{length-map, map-append}
 use Rattle.rart_keys.specs.SortedMap.{AreAbove, IsAscending, keys_of, values_of}
 use Rattle.rart_trie.specs.shapes.KeyLists.{unit_pairs}
 use Rattle.rart.specs.Migrations.{terminated_key, with_zeros}
-use Rattle.rart.proofs.BulkEndLemmas.{ascending-by-keys}
-use Rattle.rart.proofs.BulkTreeLemmas.{same-pairs}
+use Rattle.rart.proofs.bulks.BulkEndLemmas.{ascending-by-keys}
+use Rattle.rart.proofs.bulks.BulkTreeLemmas.{same-pairs}
+use Rattle.rart.proofs.scripts.CopyLemmas.{copied-more}
 
 -- a closing zero after both keys changes nothing of their order
 abbrev pub ClosingZeros : Type 0
@@ -57,3 +58,15 @@ module _ {V : Type 0} where
         (map bytes ks) terminated_key,
     length-map ks bytes,
   )
+
+-- one more text is read
+pub texts-more : {K V : Type 0} (bytes : K → List ℕ) (before after : List K) (text : K) (key : List ℕ) (value : V)
+    (rest next : List (List ℕ × V)) (all : List (List ℕ)) → after ≡ before ++ text ∷ [] → rest ≡ (key, value) ∷ next
+    → key ≡ terminated_key (bytes text) → all ≡ map terminated_key (map bytes before) ++ keys_of rest
+    → all ≡ map terminated_key (map bytes after) ++ keys_of next
+texts-more bytes before after text key value rest next all pushed steps closes read
+    = let more : map terminated_key (map bytes after) ≡ map terminated_key (map bytes before) ++ key ∷ []
+    = ap (λ z. map terminated_key (map bytes z)) pushed ∙ ap (map terminated_key) (map-append bytes before (text ∷ []))
+    ∙ map-append terminated_key (map bytes before) (bytes text ∷ [])
+    ∙ ap (λ z. map terminated_key (map bytes before) ++ z ∷ []) (sym closes) in
+    sym (copied-more _ _ _ _ _ _ more (ap keys_of steps) (sym read))

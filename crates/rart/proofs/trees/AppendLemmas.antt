@@ -12,7 +12,7 @@ use Rattle.rart_parts.specs.declared.error.TreeError.TheVariants.{Memory, Full}
 use Rattle.rart.specs.Appends.{IsNotMoved, Moves, MovesUntil, PutsBack}
 use Rattle.rart.specs.Refusals.{MayRefuseInsert, MayRefuseRemove}
 use Rattle.rart.specs.declared.tree.TheConstants.{MAX_PAIRS}
-use Rattle.rart.proofs.ExtensionLemmas.{put_all-append}
+use Rattle.rart.proofs.bulks.ExtensionLemmas.{put_all-append}
 
 module _ {V : Type 0} where
   put-first : (k : List ℕ) (v : V) (es : List (List ℕ × V)) → AreAbove k es → put k v es ≡ (k, v) ∷ es

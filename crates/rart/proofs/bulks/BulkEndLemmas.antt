@@ -9,13 +9,13 @@ use Rattle.rart_keys.specs.KeyBytes.{IsWithin}
 use Rattle.rart_keys.specs.SortedMap.{AreAbove, IsAscending, keys_of, longest_key, values_of}
 use Rattle.rart_trie.specs.build.Stretches.{AreWithin}
 use Rattle.rart_trie.specs.shapes.KeyLists.{unit_pairs}
-use Rattle.rart.specs.BulkLoads.{Reads, ReadsAll, FailsSorted}
+use Rattle.rart.specs.BulkLoads.{Reads, ReadsAll, FailsSorted, FailsUnique}
 use Rattle.rart.specs.Steps.{pairs_in}
 use Rattle.rart.specs.declared.bulk.BulkError.{BulkError}
 use Rattle.rart.specs.declared.bulk.BulkError.TheVariants.{Memory}
 use Rattle.rart.specs.declared.tree.TheConstants.{MAX_PAIRS}
-use Rattle.rart.proofs.BulkLoadLemmas.{read-length}
-use Rattle.rart.proofs.BulkTreeLemmas.{longest-by-keys, longest-within, same-pairs}
+use Rattle.rart.proofs.bulks.BulkLoadLemmas.{read-length, values-length}
+use Rattle.rart.proofs.bulks.BulkTreeLemmas.{longest-by-keys, longest-within, same-pairs}
 
 -- what the fields of a loaded tree keep
 pub loaded-fields : {V : Type 0} (m : Option ℕ) (es : List (List ℕ × V)) (ks : List (List ℕ)) (len longest most : ℕ)
@@ -46,6 +46,9 @@ module _ {U S K V : Type 0} (becomes : U → S → Type 0) (steps : S → Option
         → IsAscending (unit_pairs (map bytes keys))
     sorted-ascends law = rw read.4.keys (ascending-by-keys (last_wins (pairs_in bytes read.1))
         (law (pairs_in bytes read.1) read.4.faultless))
+
+    pub sorted-each : length keys ≡ length vs
+    sorted-each = sym (values-length (pairs_in bytes read.1) (map bytes keys) vs read.4 ∙ length-map keys bytes)
 
     pub sorted-loaded : {T : Type 0} (pairs : T → List (List ℕ × V)) (r : Result T BulkError)
         → IfOk r (λ t. keys_of (pairs t) ≡ map bytes keys) → IfOk r (λ t. values_of (pairs t) ≡ vs)
@@ -99,6 +102,13 @@ module _ {U S K V : Type 0} (becomes : U → S → Type 0) (steps : S → Option
     unique-ascends up = rw read.4.0 (ascending-by-keys (pairs_in bytes read.1)
         (up read.0 read.2 read.1 read.3.1.0 read.3.1.1))
 
+    -- each key was read from a pair
+    unique-count : length (pairs_in bytes read.1) ≡ length keys
+    unique-count = sym (ap length read.4.0 ∙ length-map (pairs_in bytes read.1) (λ e. e.0)) ∙ length-map keys bytes
+
+    pub unique-each : length keys ≡ length vs
+    unique-each = sym (ap length read.4.1 ∙ length-map (pairs_in bytes read.1) (λ e. e.1) ∙ unique-count)
+
     pub unique-loaded : {T : Type 0} (pairs : T → List (List ℕ × V)) (r : Result T BulkError)
         → IfOk r (λ t. keys_of (pairs t) ≡ map bytes keys) → IfOk r (λ t. values_of (pairs t) ≡ vs)
         → IfOk r (λ t. ReadsAll becomes steps items (λ xs. pairs t ≡ pairs_in bytes xs))
@@ -110,4 +120,17 @@ module _ {U S K V : Type 0} (becomes : U → S → Type 0) (steps : S → Option
       read.3,
       same-pairs (pairs t) (pairs_in bytes read.1) (k
           ∙ read.4.0) (v ∙ read.4.1),
+    )
+
+    pub unique-refused : length keys ≤ MAX_PAIRS → {T : Type 0} (r : Result T BulkError) → IfErr r (λ e. e ≡ Memory)
+        → OnErr r (0 < length keys)
+        → IfErr r (λ e. Reads becomes steps items (λ xs. FailsUnique (pairs_in bytes xs) e))
+    unique-refused few (Ok t) m some = tt
+    unique-refused few (Err e) m some = rw m (
+      read.0,
+      read.1,
+      read.3.1.0,
+      read.2,
+      read.3.1.1,
+      (λ none. omega (arith, some, unique-count, ap length none), omega (arith, few, unique-count)),
     )

@@ -9,7 +9,7 @@ use Rattle.std.specs.Cmp.Lexicographic.{slice_cmp}
 use Rattle.std.proofs.iter.Next.{Yields-more}
 use Rattle.std.proofs.lemmas.List.{length-map, map-append}
 use Rattle.rart_keys.specs.BulkLists.{WasRead, first_fault, last_wins, order_of_last}
-use Rattle.rart_keys.specs.SortedMap.{keys_of}
+use Rattle.rart_keys.specs.SortedMap.{keys_of, values_of}
 use Rattle.rart.specs.BulkLoads.{Reads, FailsSorted, FailsUnique}
 use Rattle.rart.specs.Steps.{pairs_in}
 use Rattle.rart.specs.declared.bulk.BulkError.TheVariants.{Memory, Full, Unsorted}
@@ -121,6 +121,21 @@ module _ {K V : Type 0} (bytes : K → List ℕ) (es : List (List ℕ × V)) (ke
 pub pairs-more : {K V : Type 0} (bytes : K → List ℕ) (xs : List (K × V)) (x : K × V)
     → pairs_in bytes (xs ++ x ∷ []) ≡ pairs_in bytes xs ++ (bytes x.0, x.1) ∷ []
 pairs-more bytes xs x = map-append (λ p. (bytes p.0, p.1)) xs (x ∷ [])
+
+-- its key and its value
+pub keys-more : {K V : Type 0} (bytes : K → List ℕ) (xs : List (K × V)) (keys after : List K) (k : K) (v : V)
+    → after ≡ keys ++ k ∷ [] → map bytes keys ≡ keys_of (pairs_in bytes xs)
+    → map bytes after ≡ keys_of (pairs_in bytes (xs ++ (k, v) ∷ []))
+keys-more bytes xs keys after k v pushed same = ap (map bytes) pushed ∙ map-append bytes keys (k ∷ [])
+    ∙ ap (λ z. z ++ bytes k ∷ []) same ∙ sym (map-append (λ e. e.0) (pairs_in bytes xs) ((bytes k, v) ∷ []))
+    ∙ ap keys_of (sym (pairs-more bytes xs (k, v)))
+
+pub values-more : {K V : Type 0} (bytes : K → List ℕ) (xs : List (K × V)) (values after : List V) (k : K) (v : V)
+    → after ≡ values ++ v ∷ [] → values ≡ values_of (pairs_in bytes xs)
+    → after ≡ values_of (pairs_in bytes (xs ++ (k, v) ∷ []))
+values-more bytes xs values after k v pushed same = pushed ∙ ap (λ z. z ++ v ∷ []) same
+    ∙ sym (map-append (λ e. e.1) (pairs_in bytes xs) ((bytes k, v) ∷ []))
+    ∙ ap values_of (sym (pairs-more bytes xs (k, v)))
 
 -- one item more was read
 pub reads-more : {U S A : Type 0} (becomes : U → S → Type 0) (steps : S → Option A → S → Type 0) (items : U) (P : List A

@@ -1,0 +1,2 @@
+pub mod BothEndLemmas
+pub mod PartEndLemmas
