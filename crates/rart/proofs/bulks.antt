@@ -3,6 +3,7 @@ pub mod BulkLawLemmas
 pub mod BulkLoadLemmas
 pub mod BulkTreeLemmas
 pub mod BulkValueLemmas
+pub mod CopyLemmas
 pub mod ExtensionLemmas
 pub mod MigrateLemmas
 pub mod PairLists

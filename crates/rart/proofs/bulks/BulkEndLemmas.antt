@@ -102,7 +102,7 @@ module _ {U S K V : Type 0} (becomes : U → S → Type 0) (steps : S → Option
     unique-ascends up = rw read.4.0 (ascending-by-keys (pairs_in bytes read.1)
         (up read.0 read.2 read.1 read.3.1.0 read.3.1.1))
 
-    -- each key was read from a pair
+    -- as many pairs were read as there are keys
     unique-count : length (pairs_in bytes read.1) ≡ length keys
     unique-count = sym (ap length read.4.0 ∙ length-map (pairs_in bytes read.1) (λ e. e.0)) ∙ length-map keys bytes
 

@@ -122,7 +122,7 @@ pub pairs-more : {K V : Type 0} (bytes : K → List ℕ) (xs : List (K × V)) (x
     → pairs_in bytes (xs ++ x ∷ []) ≡ pairs_in bytes xs ++ (bytes x.0, x.1) ∷ []
 pairs-more bytes xs x = map-append (λ p. (bytes p.0, p.1)) xs (x ∷ [])
 
--- its key and its value
+-- the keys and the values of one pair more
 pub keys-more : {K V : Type 0} (bytes : K → List ℕ) (xs : List (K × V)) (keys after : List K) (k : K) (v : V)
     → after ≡ keys ++ k ∷ [] → map bytes keys ≡ keys_of (pairs_in bytes xs)
     → map bytes after ≡ keys_of (pairs_in bytes (xs ++ (k, v) ∷ []))

@@ -8,7 +8,7 @@ use Rattle.rart_trie.specs.shapes.KeyLists.{unit_pairs}
 use Rattle.rart.specs.Migrations.{terminated_key, with_zeros}
 use Rattle.rart.proofs.bulks.BulkEndLemmas.{ascending-by-keys}
 use Rattle.rart.proofs.bulks.BulkTreeLemmas.{same-pairs}
-use Rattle.rart.proofs.scripts.CopyLemmas.{copied-more}
+use Rattle.rart.proofs.bulks.CopyLemmas.{copied-more}
 
 -- a closing zero after both keys changes nothing of their order
 abbrev pub ClosingZeros : Type 0

@@ -1,5 +1,5 @@
 -- Two walks towards each other, each one pair ahead, give each pair once: keys differ.
-use Rattle.std.proofs.Common.{◌≡◌, ℕ, suc, ◌+◌, ◌-◌, ◌≤◌, ◌↔◌, ◌&&◌, Bool, true, false, List, [], ◌∷◌, ◌++◌, length}
+use Rattle.std.proofs.Common.{◌≡◌, ℕ, suc, ◌-◌, ◌≤◌, ◌↔◌, ◌&&◌, Bool, true, false, List, [], ◌∷◌, ◌++◌, length}
 use Rattle.std.proofs.Common.{take, refl, subst, sym, ap, ◌∙◌, arith, length-append, reverse, append_assoc}
 use Rattle.std.proofs.Common.{if◌then◌else◌}
 use Rattle.std.specs.List.{filter}
@@ -7,7 +7,7 @@ use Rattle.std.specs.Bool.{IsTrue}
 use Rattle.std.specs.Str.{bytes_eq}
 use Rattle.std.proofs.lemmas.Cmp.{nat_list_cmp_total, tied_itself}
 use Rattle.std.proofs.lemmas.Grind.{reverse_onto}
-use Rattle.std.proofs.lemmas.List.{length-reverse, length-take, reverse-reverse, take-append-le, take-take, take_all}
+use Rattle.std.proofs.lemmas.List.{length-reverse, reverse-reverse, take-append-le, take-take, take_all}
 use Rattle.std.proofs.lemmas.Slice.Eq.{bytes_eq-Decides}
 use Rattle.std.specs.declared.ops.Bound.{Bound}
 use Rattle.std.specs.declared.ops.Bound.TheVariants.{Unbounded}
@@ -107,9 +107,6 @@ module _ {V : Type 0} where
       rw (first, apart x.0 p.0 (bytes_eq x.0 p.0) refl (above-seam x.0 p xs ys h.0))
       (ap (λ z. x ∷ z) (through-earlier k p es xs ys rest h.1))
 
-  pub through-alone : (k : List ℕ) (f : List ℕ × V) (es : List (List ℕ × V)) → f.0 ≡ k → through k (f ∷ es) ≡ f ∷ []
-  through-alone k f es e = rw (same_keys f.0 k e) refl
-
   pub through-more : (k : List ℕ) (f : List ℕ × V) (es : List (List ℕ × V)) → (f.0 ≡ k → ⊥)
       → through k (f ∷ es) ≡ f ∷ through k es
   through-more k f es d = rw (other_keys f.0 k d) refl
@@ -131,11 +128,6 @@ module _ {V : Type 0} where
       subst (λ z. 2 ≤ length z) (sym more) (more_than_one f l (through l.0 front) back
       (as_list _ _ (l ∷ back) more w.same) d)
 
-  pub front-continues : (f l : List ℕ × V) (front back : List (List ℕ × V)) → AreBetween l.0 (f ∷ front) (l ∷ back)
-      → (f.0 ≡ l.0 → ⊥) → front ≡ [] → ⊥
-  front-continues f l front back w d e = let both = two f l front back w d in
-      let more = through-more l.0 f front d in omega (arith, both, ap length more, ap (λ z. length (through l.0 z)) e)
-
   front-rest : (k : List ℕ) (f : List ℕ × V) (front backward : List (List ℕ × V)) → AreBetween k (f ∷ front) backward
       → (f.0 ≡ k → ⊥) → AreBetween k front backward
   front-rest k f front backward w d = let more = through-more k f front d in
@@ -154,17 +146,6 @@ module _ {V : Type 0} where
       → AreBetween k (f ∷ front) backward → (f.0 ≡ k → ⊥) → front ≡ s ∷ rest → AreBetween k (s ∷ rest) backward
   front-step k f s front rest backward w d e = subst (λ z. AreBetween k z backward) e
       (front-rest k f front backward w d)
-
-  pub back-alone : (f l : List ℕ × V) (front back : List (List ℕ × V)) → AreBetween l.0 (f ∷ front) (l ∷ back)
-      → f.0 ≡ l.0 → through l.0 (f ∷ front) ≡ l ∷ []
-  back-alone f l front back w e = let one = through-alone l.0 f front e in
-      let same : l ∷ [] ≡ f ∷ [] = as_list _ _ (l ∷ back) one w.same in one ∙ sym same
-
-  pub back-continues : (f l : List ℕ × V) (front back : List (List ℕ × V)) → AreBetween l.0 (f ∷ front) (l ∷ back)
-      → (f.0 ≡ l.0 → ⊥) → back ≡ [] → ⊥
-  back-continues f l front back w d e = let both = two f l front back w d in
-      let all = through l.0 (f ∷ front) in
-      omega (arith, both, ap length w.same, length-take (length all) (l ∷ back), length-reverse all, ap length e)
 
   -- the last is taken, and the one before it read
   pub record BackStep (l s : List ℕ × V) (ahead rest : List (List ℕ × V)) : Type 0 where

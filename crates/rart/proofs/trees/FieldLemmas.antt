@@ -26,7 +26,7 @@ pub rest-counted : (n part rest whole len : ℕ) → n ≡ part → rest + part 
 rest-counted n part rest whole len counted parts total = omega arith
 
 module _ {V : Type 0} where
-  -- it bounds the kept keys
+  -- the bound is at least the length of each kept key
   short-kept : (es : List (List ℕ × V)) (longest bound : ℕ) → longest_key es ≤ longest → (length es ≡ 0 → bound ≡ 0)
       → (0 < length es → bound ≡ longest) → longest_key es ≤ bound
   short-kept [] longest bound short none some = omega arith

@@ -58,7 +58,7 @@ pub record Lending : Type 2 where
   pub value_is : Laws V
   pub lender_is : Laws Lender
   pub in_lender : (κ : Lft) → κ ⊑ K.lives → κ ⊑ V.lives → κ ⊑ P.lives → κ ⊑ Lender.lives
-  -- what a lender's value shows
+  -- what a lender's value shows: the value itself, for a tree and for a route table
   pub view : Lender.Denot → MapAndShape V.Denot
   pub bytes : K.Denot → List ℕ
   pub inserting : Callee
@@ -101,7 +101,7 @@ module _ (L : Lending) where
   abbrev pub refers : ℕ → Body → Body
   refers i = seq (assign (place i []) (addr_of (place 1 (deref (layout Lender) ∷ []))))
 
-  -- a lifetime of the lender's and one of P's
+  -- the lender lives within κ and a lifetime of P
   pub lives_in : (κ κ₁ κ₂ κ' : Lft) → κ ⊑ κ₁ → κ ⊑ κ₂ → κ₁ ⊑ K.lives → κ₂ ⊑ V.lives → κ' ⊑ P.lives
       → (κ ++ κ') ⊑ Lender.lives
   lives_in κ κ₁ κ₂ κ' to_key to_value in_key in_value in_partial = in_lender (κ ++ κ')

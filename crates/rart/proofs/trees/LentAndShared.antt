@@ -45,7 +45,7 @@ use Rattle.rart.proofs.trees.Lending.{unit_is, bounded_by, Lending, slot, from, 
 use Rattle.rart.proofs.trees.Lending.{answer_is, lender, refers, lives_in, Inserted, Unchanged, Stored, Presented}
 use Rattle.rart.proofs.trees.Lending.{at_exit, contract_of, within, are_within, Said, said}
 
--- the lifetimes of the `&` to the lender, of the `&` to the key, and of K, V and P
+-- a signature over the lifetimes of the references to the lender and to the key, and of K, V and P
 abbrev takes : (params : List (Slot 5)) → Kepts params → (Lfts 5 → RattleType) → Ended
 takes params kept returned = record {
   signature = record {

@@ -43,7 +43,7 @@ use Rattle.rart.proofs.trees.Lending.{bounded_by, Lending, slot, from, copies, k
 use Rattle.rart.proofs.trees.Lending.{refers, lives_in, Inserted, Unchanged, Stored, Presented, at_exit, contract_of}
 use Rattle.rart.proofs.trees.Lending.{within, are_within, Said, said}
 
--- the lifetimes of the `&` to the lender, and of K, V and P
+-- a signature over the lifetimes of the reference to the lender, and of K, V and P
 abbrev takes : (params : List (Slot 4)) → Kepts params → (Lfts 4 → RattleType) → Ended
 takes params kept returned = record {
   signature = record {

@@ -1,7 +1,7 @@
 use Rattle.std.proofs.Common.{◌∙◌, sym}
 use Rattle.std.proofs.Math.Nat.{le_trans}
 use Rattle.std.proofs.lemmas.List.{length-map}
-use Rattle.rart.proofs.scripts.CopyLemmas.{copied-all, copied-room, left-shorter, pairs-copied}
+use Rattle.rart.proofs.bulks.CopyLemmas.{copied-all, copied-room, left-shorter, pairs-copied}
 use Rattle.rart.proofs.script.copied_pairs.Goals as goal
 
 pub loop-key-init : goal.loop-key-init

@@ -1,6 +1,6 @@
 use Rattle.std.proofs.Common.{sym}
 use Rattle.std.proofs.Math.Nat.{le_trans}
-use Rattle.rart.proofs.scripts.CopyLemmas.{copied-all, copied-more, copied-room, left-shorter, values-reserved}
+use Rattle.rart.proofs.bulks.CopyLemmas.{copied-all, copied-more, copied-room, left-shorter, values-reserved}
 use Rattle.rart.proofs.script.copied_values.Goals as goal
 
 pub loop-value-init : goal.loop-value-init

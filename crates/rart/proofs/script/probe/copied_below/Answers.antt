@@ -1,6 +1,6 @@
 use Rattle.std.proofs.Common.{ap, refl, sym}
 use Rattle.rart_keys.specs.Filters.{below}
-use Rattle.rart.proofs.scripts.CopyLemmas.{copied-all, copied-some, left-shorter, pairs-copied}
+use Rattle.rart.proofs.bulks.CopyLemmas.{copied-all, copied-some, left-shorter, pairs-copied}
 use Rattle.rart.proofs.script.probe.copied_below.Goals as goal
 
 pub loop-key-init : goal.loop-key-init

@@ -1,5 +1,5 @@
 use Rattle.std.proofs.Common.{refl, sym}
-use Rattle.rart.proofs.scripts.CopyLemmas.{copied-all, copied-some, left-shorter, pairs-copied}
+use Rattle.rart.proofs.bulks.CopyLemmas.{copied-all, copied-some, left-shorter, pairs-copied}
 use Rattle.rart.proofs.script.probe.copied_matches.Goals as goal
 
 pub loop-key-init : goal.loop-key-init

@@ -1,6 +1,6 @@
 use Rattle.std.proofs.Common.{ap, refl, sym}
 use Rattle.rart_keys.specs.Ranges.{between, bound_in}
-use Rattle.rart.proofs.scripts.CopyLemmas.{copied-all, copied-some, left-shorter, pairs-copied}
+use Rattle.rart.proofs.bulks.CopyLemmas.{copied-all, copied-some, left-shorter, pairs-copied}
 use Rattle.rart.proofs.script.range.copied_between.Goals as goal
 
 pub loop-key-init : goal.loop-key-init

@@ -2,8 +2,8 @@ use Rattle.std.proofs.Common.{◌≡◌, ◌∙◌, [], ◌∷◌, ◌++◌, ℕ
 use Rattle.std.proofs.lemmas.List.{append-nil, map-append}
 use Rattle.std.specs.List.{AllZip}
 use Rattle.rart_keys.specs.SortedMap.{keys_of, values_of}
-use Rattle.rart.proofs.scripts.CopyLemmas.{copied-all, copied-count, copied-more, count-at_most, count-begins}
-use Rattle.rart.proofs.scripts.CopyLemmas.{counted-room, left-shorter}
+use Rattle.rart.proofs.bulks.CopyLemmas.{copied-all, copied-count, copied-more, count-at_most, count-begins}
+use Rattle.rart.proofs.bulks.CopyLemmas.{counted-room, left-shorter}
 use Rattle.rart.proofs.tree.clones.read_clones.Goals as goal
 
 -- the clones so far, with those of the pairs that are left, are those of all pairs: with one clone more too

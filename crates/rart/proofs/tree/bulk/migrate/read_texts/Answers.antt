@@ -5,8 +5,8 @@ use Rattle.rart_keys.specs.ArrayKeyBytes.{array_key_bytes}
 use Rattle.rart_keys.specs.SortedMap.{keys_of, values_of}
 use Rattle.rart.specs.Migrations.{terminated_key}
 use Rattle.rart.proofs.bulks.MigrateLemmas.{texts-more}
-use Rattle.rart.proofs.scripts.CopyLemmas.{copied-all, copied-count, copied-more, count-at_most, count-begins}
-use Rattle.rart.proofs.scripts.CopyLemmas.{counted-room, left-shorter, never-full}
+use Rattle.rart.proofs.bulks.CopyLemmas.{copied-all, copied-count, copied-more, count-at_most, count-begins}
+use Rattle.rart.proofs.bulks.CopyLemmas.{counted-room, left-shorter, never-full}
 use Rattle.rart.proofs.tree.bulk.migrate.read_texts.Goals as goal
 
 pub loop-key-init : goal.loop-key-init

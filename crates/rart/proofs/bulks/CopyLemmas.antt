@@ -21,12 +21,12 @@ module _ {A : Type 0} where
   pub copied-all : (copied rest all : List A) → all ≡ copied ++ rest → rest ≡ [] → all ≡ copied
   copied-all copied rest all whole none = whole ∙ ap (λ z. copied ++ z) none ∙ append-nil copied
 
-  -- where a walk has one left, not all are none
+  -- where a walk has a pair left, there are pairs
   pub copied-some : (before rest next all : List A) (e : A) → rest ≡ e ∷ next → before ++ rest ≡ all → all ≢ []
   copied-some before rest next all e steps copied none
       = omega (arith, ap length steps, ap length copied, ap length none, length-append before rest)
 
-  -- and the reserved capacity has room for it
+  -- the reserved capacity has room for one more
   pub copied-room : (before rest next all : List A) (e : A) (len capacity : ℕ) → len ≡ length before → rest ≡ e ∷ next
       → before ++ rest ≡ all → length all ≤ capacity → capacity ≤ len → ⊥
   copied-room before rest next all e len capacity counted steps copied reserved full
