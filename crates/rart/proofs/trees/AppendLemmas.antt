@@ -2,7 +2,7 @@
 use Rattle.std.proofs.Common.{◌≡◌, ◌++◌, ◌∷◌, ◌<◌, ◌≤◌, ℕ, List, [], length, refl, sym, ap, ◌∙◌, arith}
 use Rattle.std.proofs.Common.{append_assoc, inl, inr, Option, Some, None}
 use Rattle.std.specs.Option.{IsSomeAnd}
-use Rattle.std.specs.Prelude.{IfErr, IsErrAnd, Result, Ok, Err, slice_get}
+use Rattle.std.specs.Prelude.{slice_get}
 use Rattle.std.proofs.lemmas.List.{append-nil}
 use Rattle.rart_keys.specs.BulkLists.{put_all}
 use Rattle.rart_keys.specs.SortedMap.{AreAbove, IsAscending, put}
@@ -95,9 +95,3 @@ module _ {K V : Type 0} (bytes : K → List ℕ) where
     moved = refl;
     kept = (same, inl r);
   }
-
-  pub until-error : (old other new left : List (List ℕ × V)) (result : Result Unit (Refused (Option (K × V))))
-      (error : Refused (Option (K × V))) → IsErrAnd result (λ e. e ≡ error) → MovesUntil bytes old other error new left
-      → IfErr result (λ e. MovesUntil bytes old other e new left)
-  until-error old other new left (Ok done) error is m = tt
-  until-error old other new left (Err e) error is m = rw is m

@@ -1,6 +1,6 @@
--- What the relations of edits say of an answer that isn't known yet.
+-- What the relations of edits say of an answer that isn't known yet, and what holds of an error that is passed on.
 use Rattle.std.proofs.Common.{◌≡◌, ◌≢◌, ℕ, List, Some, None, true}
-use Rattle.std.specs.Prelude.{Option, Result, Ok, Err, OnOk}
+use Rattle.std.specs.Prelude.{Option, Result, Ok, Err, IfErr, IsErrAnd, OnOk}
 use Rattle.std.specs.Option.{IsSomeAnd}
 use Rattle.rart_keys.specs.SortedMap.{keys_of, lookup, without}
 use Rattle.rart_trie.specs.edits.RemoveAllocations.{remove_allocates}
@@ -8,6 +8,12 @@ use Rattle.rart_parts.specs.declared.error.TreeError.{TreeError}
 use Rattle.rart_parts.specs.declared.error.TreeError.TheVariants.{Memory}
 use Rattle.rart.specs.Edits.{Removes}
 use Rattle.rart.specs.Refusals.{MayRefuseRemove}
+
+-- what holds of an error holds of the same error, passed on
+pub same-error : {A E : Type 0} (P : E → Type 0) (result : Result A E) (error : E) → IsErrAnd result (λ e. e ≡ error)
+    → P error → IfErr result P
+same-error P (Ok a) error same holds = tt
+same-error P (Err e) error same holds = rw same holds
 
 -- a removal that isn't refused leaves the other pairs
 pub pairs-removes : {V : Type 0} (key : List ℕ) (old new : List (List ℕ × V)) (answer : Result (Option V) TreeError)

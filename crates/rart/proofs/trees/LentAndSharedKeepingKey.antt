@@ -1,6 +1,7 @@
 -- A function that lends its `&mut` to a call that inserts, and then shares it for good with a call that returns the
 -- stored value, leaves the lender as the first call did. The first call takes the key by value, and returns it for the
--- second.
+-- second. This is no case of `LentAndShared`: the MIR has one local and one statement more, and the second call takes
+-- two arguments.
 use mathlib.Core.Path.{◌≡◌, refl, sym, subst}
 use mathlib.Core.List.{List, [], ◌∷◌}
 use seplogic.Ra.Ura.{Ura}

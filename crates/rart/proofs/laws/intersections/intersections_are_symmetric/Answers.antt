@@ -1,20 +1,14 @@
-use Rattle.std.proofs.Common.{◌≡◌, List, Result, Ok, Err, inl, inr}
-use Rattle.std.specs.Prelude.{IfErr, IsErrAnd, OnErr}
+use Rattle.std.proofs.Common.{Result, Ok, Err, inl, inr}
+use Rattle.std.specs.Prelude.{OnErr}
 use Rattle.std.proofs.lemmas.Result.{IfErr-weaker}
 use Rattle.rart_nodes.specs.joins.SeenJoins.{MayLackBoth}
-use Rattle.rart_parts.specs.declared.error.TreeError.{TreeError}
+use Rattle.rart.proofs.trees.EditLemmas.{same-error}
 use Rattle.rart.proofs.laws.intersections.intersections_are_symmetric.Goals as goal
 
 -- what holds anyway holds on an error
 on-err : {T E P : Type 0} (r : Result T E) → P → OnErr r P
 on-err (Ok t) holds = tt
 on-err (Err e) holds = holds
-
--- an equal error lacks memory for both too
-lacks-both : {A B T : Type 0} (xs : List A) (ys : List B) (r : Result T TreeError) (error : TreeError)
-    → IsErrAnd r (λ e. e ≡ error) → MayLackBoth xs ys error → IfErr r (MayLackBoth xs ys)
-lacks-both xs ys (Ok t) error same lacks = tt
-lacks-both xs ys (Err e) error same lacks = rw same lacks
 
 pub intersect_with_by_ref-requires-2 : goal.intersect_with_by_ref-requires-2
 intersect_with_by_ref-requires-2 g c = record {
@@ -39,7 +33,7 @@ returns-in_err-intersect_with_by_ref-clause-once_or_never g c = on-err c.from_re
     (inl c.in_err-intersect_with_by_ref.ensures.unchanged)
 
 pub returns-in_err-intersect_with_by_ref-clause-memory : goal.returns-in_err-intersect_with_by_ref-clause-memory
-returns-in_err-intersect_with_by_ref-clause-memory g c = lacks-both _ _ c.from_residual.result _
+returns-in_err-intersect_with_by_ref-clause-memory g c = same-error (MayLackBoth _ _) c.from_residual.result _
     c.from_residual.ensures.1 c.in_err-intersect_with_by_ref.ensures.memory
 
 pub returns-clause-ascending : goal.returns-clause-ascending

@@ -1,7 +1,9 @@
 use Rattle.std.proofs.Common.{rules, ◌≡◌, [], ◌∙◌, ap, sym}
 use Rattle.std.proofs.lemmas.List.Sorted.{IsPermutation-refl}
 use Rattle.rart_keys.specs.BulkLists.{put_all}
-use Rattle.rart.proofs.trees.AppendLemmas.{all-moved, moved-on, moved-until, until-error}
+use Rattle.rart.specs.Appends.{MovesUntil}
+use Rattle.rart.proofs.trees.AppendLemmas.{all-moved, moved-on, moved-until}
+use Rattle.rart.proofs.trees.EditLemmas.{same-error}
 use Rattle.rart.proofs.tree.AdaptiveRadixTree.append.Goals as goal
 
 pub returns-then-is_empty-clause-pairs : goal.returns-then-is_empty-clause-pairs
@@ -13,8 +15,9 @@ returns-then-is_empty-clause-pairs g c =
 
 pub returns-in_err-move_first-clause-refused : goal.returns-in_err-move_first-clause-refused
 returns-in_err-move_first-clause-refused g c =
-    until-error g.K.KeyTrait.bytes c.args.self.now.pairs c.args.other.now.pairs c.move_first.new.self.pairs
-    c.move_first.new.other.pairs c.from_residual.result c.in_err-move_first.field-0.0 c.from_residual.ensures.1
+    same-error (λ e. MovesUntil g.K.KeyTrait.bytes c.args.self.now.pairs c.args.other.now.pairs e
+    c.move_first.new.self.pairs c.move_first.new.other.pairs) c.from_residual.result c.in_err-move_first.field-0.0
+    c.from_residual.ensures.1
     (moved-until g.K.KeyTrait.bytes c.args.self.now.pairs c.args.other.now.pairs c.pairs.self.pairs c.pairs.other.pairs
     c.move_first.new.self.pairs c.move_first.new.other.pairs c.in_err-move_first.field-0.0 c.pairs.invariant
     c.in_err-move_first.ensures.refused)
