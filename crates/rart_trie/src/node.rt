@@ -28,8 +28,7 @@ pub use rest::strip_prefix;
 #[derive(Drop)]
 pub struct DefaultNode<P: Partial, V> {
     prefix: P,
-    value: Option<V>,
-    storage: Storage<DefaultNode<P, V>>,
+    storage: Storage<V, DefaultNode<P, V>>,
 }
 
 impl<P: Partial, V> Model for DefaultNode<P, V> {
@@ -40,16 +39,16 @@ impl<P: Partial, V> Model for DefaultNode<P, V> {
 
     ghost coded = { trie_code V.code };
 
-    ghost use Rattle.rart_trie.specs.storages.Stored.{child_entries, storage_capacity};
+    ghost use Rattle.rart_trie.specs.storages.Stored.{child_entries, storage_capacity, stored_value};
 
-    ghost view = { λ a. node (P.bytes a.prefix) a.value (storage_capacity a.storage)
+    ghost view = { λ a. node (P.bytes a.prefix) (stored_value a.storage) (storage_capacity a.storage)
         (as_children (child_entries a.storage)) };
 
     ghost size = { node_count };
 
     ghost use Rattle.rart_trie.specs.storages.StoredFalls.{deep_le-stored};
 
-    ghost size_decreases = { λ a h. deep_le-stored P.Partial a.prefix a.value a.storage };
+    ghost size_decreases = { λ a h. deep_le-stored P.Partial a.prefix a.storage };
 }
 
 impl<P: Partial, V> DefaultNode<P, V> {
@@ -61,8 +60,7 @@ impl<P: Partial, V> DefaultNode<P, V> {
     {
         DefaultNode {
             prefix,
-            value: Some(value),
-            storage: Storage::empty(),
+            storage: Storage::Leaf(value),
         }
     }
 
@@ -70,7 +68,7 @@ impl<P: Partial, V> DefaultNode<P, V> {
     pub fn value(&self) -> Option<&V>
         ensures { option_copied result ≡ value_of self.now }
     {
-        self.value.as_ref()
+        self.storage.value()
     }
 
     /// Returns the prefix of the node. Crates above get it by a visit.

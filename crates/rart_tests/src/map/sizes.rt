@@ -8,8 +8,8 @@ type Node<const N: usize> = DefaultNode<ArrPartial<N>, u64>;
 
 #[test]
 fn nodes_and_their_places_keep_their_sizes(rt: HostRuntime) {
-    assert_eq!(rt; size_of::<Node<8>>(), 48);
-    assert_eq!(rt; size_of::<Option<Node<8>>>(), 56);
-    assert_eq!(rt; size_of::<Node<32>>(), 72);
-    assert_eq!(rt; size_of::<Option<Node<32>>>(), 80);
+    assert_eq!(rt; size_of::<Node<8>>(), 32);
+    assert_eq!(rt; size_of::<Option<Node<8>>>(), 40);
+    assert_eq!(rt; size_of::<Node<32>>(), 56);
+    assert_eq!(rt; size_of::<Option<Node<32>>>(), 64);
 }

@@ -3,9 +3,12 @@ use Rattle.std.proofs.Common.{◌≡◌, ℕ, ◌<◌, inl, inr, Bool, true, fal
 use Rattle.std.proofs.Common.{arith, Option, Some, None, is_some}
 use Rattle.std.proofs.lemmas.List.{append-nil}
 use Rattle.rart_trie.specs.declared.node.edits.retain.Retention.{Retention}
+use Rattle.rart_trie.specs.declared.node.edits.retain.Retention.TheVariants.{Done, Rejected, Refused}
+use Rattle.rart_trie.specs.declared.node.storage.Storage.{Storage}
 use Rattle.rart_trie.specs.edits.Deletion.{needs_merge, merged_if_needed}
-use Rattle.rart_trie.specs.edits.RetainSteps.{KeepsFirst, finished_as, finished_node}
+use Rattle.rart_trie.specs.edits.RetainSteps.{AppliesChild, KeepsFirst, finished_as, finished_node}
 use Rattle.rart_trie.specs.shapes.Shape.{capacity_of}
+use Rattle.rart_trie.specs.storages.Stored.{stored_value}
 use Rattle.rart_trie.specs.tries.PrefixLaws.{prefix-twice}
 use Rattle.rart_trie.specs.tries.Trie.{Trie, node, Children, no_children, AreCanonical, IsCanonical}
 use Rattle.rart_trie.specs.tries.Trie.{children_in, children_pairs, own_pair, pairs_of, prefix_of, with_prefix}
@@ -71,3 +74,16 @@ module _ {V : Type 0} where
   pub joined-leaf : (p : List ℕ) (n : ℕ) (es : List (ℕ × Trie V)) → IsOneLeaf es
       → children_in (merged_if_needed (node p None n (as_children es))) ≡ no_children
   joined-leaf p n es h = rw h.one h.childless
+
+-- what is done with a child keeps the value of its node
+pub applied-value : {V : Type 0} (h : Bool) (b : ℕ) (below walk : Retention) (s s' : Storage V (Trie V))
+    → AppliesChild h b below walk s s' → stored_value s' ≡ stored_value s
+applied-value h b Done Done s s' a = ap stored_value a
+applied-value h b Done Rejected s s' a = absurd a
+applied-value h b Done Refused s s' a = absurd a
+applied-value h b Rejected Done s s' a = a.3
+applied-value h b Rejected Rejected s s' a = ap stored_value a.0
+applied-value h b Rejected Refused s s' a = ap stored_value a.0
+applied-value h b Refused Done s s' a = absurd a
+applied-value h b Refused Rejected s s' a = absurd a
+applied-value h b Refused Refused s s' a = ap stored_value a

@@ -6,7 +6,7 @@ use Rattle.rart_keys.specs.declared.partials.Partial.{Ghosts}
 use Rattle.rart_parts.specs.Entries.{with_another, sorted_entries}
 use Rattle.rart_trie.specs.declared.node.DefaultNode.TheDeep.{deep-DefaultNode}
 use Rattle.rart_trie.specs.declared.node.storage.Storage.{Storage}
-use Rattle.rart_trie.specs.declared.node.storage.Storage.TheVariants.{Leaf, Node4, Node16, Node48, Node256}
+use Rattle.rart_trie.specs.declared.node.storage.Storage.TheVariants.{Empty, Leaf, Node4, Node16, Node48, Node256}
 use Rattle.rart_trie.specs.storages.Stored.{child_entries}
 use Rattle.rart_trie.specs.tries.Trie.{Trie}
 use Rattle.rart_trie.specs.tries.TrieCode.{as_children, node_count, child_count}
@@ -31,11 +31,12 @@ count-ascending : {V : Type 0} (es : List (ℕ × Trie V)) → child_count (as_c
 count-ascending [] = refl
 count-ascending (e ∷ es) = omega (arith, count-with_another e.0 e.1 (sorted_entries es), count-ascending es)
 
-pub deep_le-stored : {P V : Type 0} (G : Ghosts P) (p : P) (v : Option V) (s : Storage (Trie V))
-    → deep-DefaultNode P V G (record { prefix = p; value = v; storage = s }) ≤ child_count (as_children
+pub deep_le-stored : {P V : Type 0} (G : Ghosts P) (p : P) (s : Storage V (Trie V))
+    → deep-DefaultNode P V G (record { prefix = p; storage = s }) ≤ child_count (as_children
     (child_entries s)) + 1
-deep_le-stored G p v Leaf = omega arith
-deep_le-stored G p v (Node4 m) = omega (arith, most-children m.value)
-deep_le-stored G p v (Node16 m) = omega (arith, most-children m.value)
-deep_le-stored G p v (Node48 m) = omega (arith, most-children m.value, count-ascending m.value)
-deep_le-stored G p v (Node256 m) = omega (arith, most-children m.value)
+deep_le-stored G p Empty = omega arith
+deep_le-stored G p (Leaf v) = omega arith
+deep_le-stored G p (Node4 m) = omega (arith, most-children m.value.map)
+deep_le-stored G p (Node16 m) = omega (arith, most-children m.value.map)
+deep_le-stored G p (Node48 m) = omega (arith, most-children m.value.map, count-ascending m.value.map)
+deep_le-stored G p (Node256 m) = omega (arith, most-children m.value.map)

@@ -24,7 +24,7 @@ impl<P: Partial, V> DefaultNode<P, V> {
     {
         match end {
             End::First => {
-                if self.value.is_some() {
+                if self.storage.has_value() {
                     return None;
                 }
                 self.storage.first_child()

@@ -7,7 +7,7 @@ ghost use Rattle.rart_parts.specs.Errors.{IsMemory};
 ghost use Rattle.rart_trie.specs.edits.ChildChanges.{child_value, with_child_replaced, with_child_value};
 ghost use Rattle.rart_trie.specs.edits.Deletion.{JoinsWithin, ShrinksWithout, without_child};
 ghost use Rattle.rart_trie.specs.edits.NodeEdits.{with_child, with_value};
-ghost use Rattle.rart_trie.specs.storages.Stored.{child_entries, storage_capacity};
+ghost use Rattle.rart_trie.specs.storages.Stored.{child_entries, storage_capacity, stored_value};
 ghost use Rattle.rart_trie.specs.tries.Trie.{Trie, node, no_children, leaf, capacity_in, children_in, edges_of};
 ghost use Rattle.rart_trie.specs.tries.Trie.{prefix_of, value_of, child_in};
 
@@ -127,8 +127,7 @@ impl<P: Partial, V> Node<P, V> for DefaultNode<P, V> {
     fn new_leaf(prefix: P, value: V) -> Self {
         DefaultNode {
             prefix,
-            value: Some(value),
-            storage: Storage::empty(),
+            storage: Storage::Leaf(value),
         }
     }
 
@@ -137,11 +136,11 @@ impl<P: Partial, V> Node<P, V> for DefaultNode<P, V> {
     }
 
     fn value(&self) -> Option<&V> {
-        self.value.as_ref()
+        self.storage.value()
     }
 
     fn value_mut(&mut self) -> Option<&mut V> {
-        self.value.as_mut()
+        self.storage.value_mut()
     }
 
     fn is_leaf(&self) -> bool {
@@ -158,7 +157,7 @@ impl<P: Partial, V> Node<P, V> for DefaultNode<P, V> {
 
     fn child_value_mut(&mut self, key: u8) -> Option<&mut V> {
         match self.storage.seek_child_mut(key) {
-            Some(child) => child.value.as_mut(),
+            Some(child) => child.storage.value_mut(),
             None => None,
         }
     }
@@ -195,15 +194,12 @@ impl<P: Partial, V> Node<P, V> for DefaultNode<P, V> {
 
 impl<P: Partial, V> DefaultNode<P, V> {
     // A node without value or children over this storage.
-    fn over(prefix: P, storage: Storage<Self>) -> Self
-        requires { child_entries storage ≡ [] }
+    fn over(prefix: P, storage: Storage<V, Self>) -> Self
+        requires entries { child_entries storage ≡ [] }
+        requires value { stored_value storage ≡ None }
         ensures { result ≡ node (P.bytes prefix) None (storage_capacity storage) no_children }
     {
-        DefaultNode {
-            prefix,
-            value: None,
-            storage,
-        }
+        DefaultNode { prefix, storage }
     }
 
     /// Returns a node without value or children, with storage for 4 children.

@@ -1,44 +1,54 @@
-//! The children of a node, in one of four maps or in none.
+//! The value and the children of a node, the children in one of four maps or in none.
 
-// A contract reads storage as its ascending list of entries and a capacity.
+// A contract reads storage as a value, an ascending list of entries and a capacity.
 
 ghost use Rattle.std.specs.Prelude.{◌≡◌, ◌<◌, [], length, None};
 ghost use Rattle.std.specs.Option.{option_copied};
 ghost use Rattle.rart_parts.specs.Entries.{child_at, with_entry, without_byte};
-ghost use Rattle.rart_trie.specs.storages.Stored.{child_entries, storage_capacity};
+ghost use Rattle.rart_trie.specs.storages.Stored.{child_entries, storage_capacity, stored_value};
 
+use crate::node::storage::inner::Inner;
 use rart_parts::mapping::{DirectMapping, IndexedMapping, NodeMapping, SortedKeyedMapping};
 use rart_parts::utils::bitset::Bitset64;
 
 mod ends;
 mod grow;
+mod inner;
 mod last_under;
 mod shrink;
+mod value;
 pub(crate) mod walk;
 
-/// The children of a node. Each kind but the first is a map that holds at most as many children as its
-/// capacity, on the heap: 4, 16, 48 or 256.
+/// The value and the children of a node. A leaf holds its value itself, so that a place for a node is small. Where
+/// there is room for children, value and map are on the heap; the map holds at most as many children as its capacity:
+/// 4, 16, 48 or 256.
 #[derive(Drop)]
-pub(crate) enum Storage<N> {
-    /// No child, and no memory.
-    Leaf,
+pub(crate) enum Storage<V, N> {
+    /// Neither a value nor a child, and no memory.
+    Empty,
+    /// A value and no child, and no memory.
+    Leaf(V),
     /// At most four children, by sorted keys.
-    Node4(Box<SortedKeyedMapping<N, 4>>),
+    Node4(Box<Inner<V, SortedKeyedMapping<N, 4>>>),
     /// At most sixteen children, by sorted keys.
-    Node16(Box<SortedKeyedMapping<N, 16>>),
+    Node16(Box<Inner<V, SortedKeyedMapping<N, 16>>>),
     /// At most 48 children, with an index from bytes to slots.
-    Node48(Box<IndexedMapping<N, 48, Bitset64<1>>>),
+    Node48(Box<Inner<V, IndexedMapping<N, 48, Bitset64<1>>>>),
     /// A place for each byte.
-    Node256(Box<DirectMapping<N>>),
+    Node256(Box<Inner<V, DirectMapping<N>>>),
 }
 
-impl<N> Storage<N> {
-    /// Returns storage of capacity 0. It does not allocate.
-    pub(crate) fn empty() -> Self
+impl<V, N> Storage<V, N> {
+    /// Returns storage of capacity 0 that holds `value`. It does not allocate.
+    pub(crate) fn childless(value: Option<V>) -> Self
         ensures entries { child_entries result ≡ [] }
         ensures capacity { storage_capacity result ≡ 0 }
+        ensures value { stored_value result ≡ value }
     {
-        Storage::Leaf
+        match value {
+            Some(value) => Storage::Leaf(value),
+            None => Storage::Empty,
+        }
     }
 
     /// Returns the number of children.
@@ -46,11 +56,11 @@ impl<N> Storage<N> {
         ensures { result ≡ length (child_entries self.now) }
     {
         match self {
-            Storage::Leaf => 0,
-            Storage::Node4(map) => map.num_children(),
-            Storage::Node16(map) => map.num_children(),
-            Storage::Node48(map) => map.num_children(),
-            Storage::Node256(map) => map.num_children(),
+            Storage::Empty | Storage::Leaf(_) => 0,
+            Storage::Node4(inner) => inner.map.num_children(),
+            Storage::Node16(inner) => inner.map.num_children(),
+            Storage::Node48(inner) => inner.map.num_children(),
+            Storage::Node256(inner) => inner.map.num_children(),
         }
     }
 
@@ -59,7 +69,7 @@ impl<N> Storage<N> {
         ensures { result ≡ storage_capacity self.now }
     {
         match self {
-            Storage::Leaf => 0,
+            Storage::Empty | Storage::Leaf(_) => 0,
             Storage::Node4(_) => 4,
             Storage::Node16(_) => 16,
             Storage::Node48(_) => 48,
@@ -72,11 +82,11 @@ impl<N> Storage<N> {
         ensures { option_copied result ≡ child_at b (child_entries self.now) }
     {
         match self {
-            Storage::Leaf => None,
-            Storage::Node4(map) => map.seek_child(b),
-            Storage::Node16(map) => map.seek_child(b),
-            Storage::Node48(map) => map.seek_child(b),
-            Storage::Node256(map) => map.seek_child(b),
+            Storage::Empty | Storage::Leaf(_) => None,
+            Storage::Node4(inner) => inner.map.seek_child(b),
+            Storage::Node16(inner) => inner.map.seek_child(b),
+            Storage::Node48(inner) => inner.map.seek_child(b),
+            Storage::Node256(inner) => inner.map.seek_child(b),
         }
     }
 
@@ -87,13 +97,14 @@ impl<N> Storage<N> {
         requires not_full { length (child_entries self.old) < storage_capacity self.old }
         ensures entries { child_entries self.new ≡ with_entry b node (child_entries self.old) }
         ensures capacity { storage_capacity self.new ≡ storage_capacity self.old }
+        ensures value { stored_value self.new ≡ stored_value self.old }
     {
         match self {
-            Storage::Leaf => unreachable!(),
-            Storage::Node4(map) => map.add_child(b, node),
-            Storage::Node16(map) => map.add_child(b, node),
-            Storage::Node48(map) => map.add_child(b, node),
-            Storage::Node256(map) => map.add_child(b, node),
+            Storage::Empty | Storage::Leaf(_) => unreachable!(),
+            Storage::Node4(inner) => inner.map.add_child(b, node),
+            Storage::Node16(inner) => inner.map.add_child(b, node),
+            Storage::Node48(inner) => inner.map.add_child(b, node),
+            Storage::Node256(inner) => inner.map.add_child(b, node),
         }
     }
 
@@ -102,18 +113,19 @@ impl<N> Storage<N> {
         ensures taken { result ≡ child_at b (child_entries self.old) }
         ensures entries { child_entries self.new ≡ without_byte b (child_entries self.old) }
         ensures capacity { storage_capacity self.new ≡ storage_capacity self.old }
+        ensures value { stored_value self.new ≡ stored_value self.old }
     {
         match self {
-            Storage::Leaf => None,
-            Storage::Node4(map) => map.delete_child(b),
-            Storage::Node16(map) => map.delete_child(b),
-            Storage::Node48(map) => map.delete_child(b),
-            Storage::Node256(map) => map.delete_child(b),
+            Storage::Empty | Storage::Leaf(_) => None,
+            Storage::Node4(inner) => inner.map.delete_child(b),
+            Storage::Node16(inner) => inner.map.delete_child(b),
+            Storage::Node48(inner) => inner.map.delete_child(b),
+            Storage::Node256(inner) => inner.map.delete_child(b),
         }
     }
 }
 
-impl<N> Storage<N> {
+impl<V, N> Storage<V, N> {
     ghost use Rattle.std.specs.Prelude.{◌≡◌};
     ghost use Rattle.std.specs.Option.{option_copied_mut};
     ghost use Rattle.std.specs.Borrow.{sem};
@@ -125,15 +137,15 @@ impl<N> Storage<N> {
     /// address made from a test of the child: two reads of memory then run in parallel.
     #[inline(always)]
     pub(crate) fn seek_child_mut(&mut self, b: u8) -> Option<&mut N>
-        ensures* writes_back { sem 𝓛 (lends_child N.row self.entry b result) }
+        ensures* writes_back { sem 𝓛 (lends_child V.row N.row self.entry b result) }
         ensures value { option_copied_mut result ≡ child_at b (child_entries self.old) }
     {
         match self {
-            Storage::Leaf => None,
-            Storage::Node4(map) => map.seek_child_mut(b),
-            Storage::Node16(map) => map.seek_child_mut(b),
-            Storage::Node48(map) => map.seek_child_mut(b),
-            Storage::Node256(map) => map.seek_child_mut(b),
+            Storage::Empty | Storage::Leaf(_) => None,
+            Storage::Node4(inner) => inner.map.seek_child_mut(b),
+            Storage::Node16(inner) => inner.map.seek_child_mut(b),
+            Storage::Node48(inner) => inner.map.seek_child_mut(b),
+            Storage::Node256(inner) => inner.map.seek_child_mut(b),
         }
     }
 }

@@ -23,7 +23,7 @@ impl<P: Partial, V> DefaultNode<P, V> {
         ensures height { result ≡ trie_height self.now }
     {
         let children = self.storage.num_children();
-        counts.add_node(self.value.is_some(), self.storage.capacity(), children);
+        counts.add_node(self.storage.has_value(), self.storage.capacity(), children);
         let mut below = 0;
         for (_byte, child) in self.iter() {
             below = below.max(child.count_nodes(counts));

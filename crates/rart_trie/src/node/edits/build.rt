@@ -12,7 +12,7 @@ ghost use Rattle.rart_trie.specs.build.Stretches.{first_length, first_run, rests
 ghost use Rattle.rart_trie.specs.build.ValueCalls.{CanTake, Takes};
 ghost use Rattle.rart_trie.specs.shapes.Shape.{capacity_of, next_bytes};
 ghost use Rattle.rart_trie.specs.shapes.KeyLists.{keys_in, unit_pairs};
-ghost use Rattle.rart_trie.specs.storages.Stored.{child_entries, storage_capacity};
+ghost use Rattle.rart_trie.specs.storages.Stored.{child_entries, storage_capacity, stored_value};
 ghost use Rattle.rart_trie.specs.tries.Trie.{IsCanonical, pairs_of};
 
 use crate::node::DefaultNode;
@@ -95,36 +95,36 @@ fn first_part<'a>(keys: &[&'a [u8]], depth: usize, end: usize) -> &'a [u8]
 // Not inline: the recursion that calls it holds no node on the stack.
 #[inline(never)]
 fn add_node<P: Partial, V>(
-    storage: &mut Storage<DefaultNode<P, V>>,
+    storage: &mut Storage<V, DefaultNode<P, V>>,
     b: u8,
     prefix: &[u8],
-    value: Option<V>,
-    children: Storage<DefaultNode<P, V>>,
+    below: Storage<V, DefaultNode<P, V>>,
 )
     requires within { IsWithin P.MAXIMUM_SIZE (length prefix.now) }
     requires absent { child_at b (child_entries storage.old) ≡ None }
     requires not_full { length (child_entries storage.old) < storage_capacity storage.old }
     ensures entries { child_entries storage.new
-        ≡ with_entry b (built prefix.now value children) (child_entries storage.old) }
+        ≡ with_entry b (built prefix.now below) (child_entries storage.old) }
     ensures capacity { storage_capacity storage.new ≡ storage_capacity storage.old }
+    ensures value { stored_value storage.new ≡ stored_value storage.old }
 {
     let node = DefaultNode {
         prefix: P::from_slice(prefix),
-        value,
-        storage: children,
+        storage: below,
     };
     storage.add_within(b, node);
 }
 
-impl<N> Storage<N> {
+impl<V, N> Storage<V, N> {
     /// Returns empty storage of the kind for `count` children.
     fn for_children(alloc: Global, count: usize) -> Result<Self, TreeError>
         ensures entries { IfOk result (λ s. child_entries s ≡ []) }
         ensures capacity { IfOk result (λ s. storage_capacity s ≡ capacity_of count) }
+        ensures value { IfOk result (λ s. stored_value s ≡ None) }
         ensures memory { IfErr result IsMemory }
     {
         if count == 0 {
-            Ok(Storage::empty())
+            Ok(Storage::Empty)
         } else if count <= 4 {
             Storage::new_4(alloc)
         } else if count <= 16 {
@@ -162,10 +162,9 @@ impl<P: Partial, V: Drop> DefaultNode<P, V> {
             × Takes F.step 0 take_value.old vs take_value.new) }
         ensures memory { IfErr result IsMemory }
     {
-        let (value, storage, end) = DefaultNode::build_below(alloc, keys, 0, 0, take_value)?;
+        let (storage, end) = DefaultNode::build_below(alloc, keys, 0, 0, take_value)?;
         Ok(DefaultNode {
             prefix: P::from_slice(first_part(keys, 0, end)),
-            value,
             storage,
         })
     }
@@ -179,19 +178,19 @@ impl<P: Partial, V: Drop> DefaultNode<P, V> {
         depth: usize,
         from: usize,
         take_value: &mut F,
-    ) -> Result<(Option<V>, Storage<Self>, usize), TreeError>
+    ) -> Result<(Storage<V, Self>, usize), TreeError>
         requires stretch { IsStretch P.MAXIMUM_SIZE depth keys.now }
         requires fits { from + length keys.now < 2 ^ 64 }
         requires callable { CanTake F.pre F.step from (length keys.now) take_value.old }
         ensures canonical { IfOk result
-            (λ r. IsCanonical (built (first_bytes depth r.2 keys.now) r.0 r.1)) }
+            (λ r. IsCanonical (built (first_bytes depth r.1 keys.now) r.0)) }
         ensures keys { IfOk result (λ r. keys_of (pairs_of (built
-            (first_bytes depth r.2 keys.now) r.0 r.1)) ≡ rests depth keys.now) }
+            (first_bytes depth r.1 keys.now) r.0)) ≡ rests depth keys.now) }
         ensures values { IfOk result (λ r. Takes F.step from take_value.old (values_of (pairs_of
-            (built (first_bytes depth r.2 keys.now) r.0 r.1))) take_value.new) }
-        ensures ends { IfOk result (λ r. (depth ≤ r.2) × (r.2 ≤ first_length keys.now)) }
+            (built (first_bytes depth r.1 keys.now) r.0))) take_value.new) }
+        ensures ends { IfOk result (λ r. (depth ≤ r.1) × (r.1 ≤ first_length keys.now)) }
         ensures within { IfOk result
-            (λ r. IsWithin P.MAXIMUM_SIZE (length (first_bytes depth r.2 keys.now))) }
+            (λ r. IsWithin P.MAXIMUM_SIZE (length (first_bytes depth r.1 keys.now))) }
         ensures values_taken { OnErr result ((vs : List V) × (length vs ≤ length keys.now)
             × Takes F.step from take_value.old vs take_value.new) }
         ensures memory { IfErr result IsMemory }
@@ -201,11 +200,9 @@ impl<P: Partial, V: Drop> DefaultNode<P, V> {
         let own = usize::from(keys[0].len() == below);
         let mut rest = &keys[own..];
         let mut storage = Storage::for_children(alloc, count_branches(rest, below))?;
-        let value = if own == 1 {
-            Some(take_value(from))
-        } else {
-            None
-        };
+        if own == 1 {
+            storage.fill_value(take_value(from));
+        }
         let mut at = from + own;
         while !rest.is_empty() {
             let (byte, end) = first_group(rest, below);
@@ -213,18 +210,18 @@ impl<P: Partial, V: Drop> DefaultNode<P, V> {
             if end == 1 {
                 add_leaf(&mut storage, byte, &rest[0][below..], take_value(at));
             } else {
-                let Ok((value, children, end_below)) = DefaultNode::build_below(
+                let Ok((node, end_below)) = DefaultNode::build_below(
                     alloc, group, below, at, take_value,
                 ) else {
                     drop_children(&mut storage);
                     return Err(TreeError::Memory);
                 };
                 let prefix = first_part(group, below, end_below);
-                add_node(&mut storage, byte, prefix, value, children);
+                add_node(&mut storage, byte, prefix, node);
             }
             rest = &rest[end..];
             at += end;
         }
-        Ok((value, storage, below))
+        Ok((storage, below))
     }
 }

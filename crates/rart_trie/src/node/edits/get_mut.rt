@@ -60,10 +60,7 @@ where
         return None;
     };
     let Some(&byte) = rest.first() else {
-        return match &mut node.value {
-            Some(value) => Some(value),
-            None => None,
-        };
+        return node.storage.value_mut();
     };
     match node.storage.seek_child_mut(byte) {
         Some(child) => child.lend(rest),

@@ -6,7 +6,7 @@ ghost use Rattle.rart_keys.specs.SortedMap.{count_of, lookup, put, longest_key};
 ghost use Rattle.rart_parts.specs.Entries.{child_at, with_entry};
 ghost use Rattle.rart_trie.specs.edits.InsertAllocations.{MayAllocateFor, trie_put_allocates};
 ghost use Rattle.rart_trie.specs.edits.InsertStops.{FailsPut, FailsInsertInto, FailsInsert};
-ghost use Rattle.rart_trie.specs.storages.Stored.{child_entries, storage_capacity};
+ghost use Rattle.rart_trie.specs.storages.Stored.{child_entries, storage_capacity, stored_value};
 ghost use Rattle.rart_trie.specs.tries.Trie.{IsCanonical, leaf, pairs_of, prefix_of, with_records};
 ghost use Rattle.rart_trie.specs.tries.Trie.{trie_lookup, trie_put};
 
@@ -54,23 +54,17 @@ impl<P: Partial, V> DefaultNode<P, V> {
         let low_byte = low.at(0);
         self.prefix = head;
         let storage = mem::replace(&mut self.storage, inner);
-        if key.len() == shared {
-            let lower = DefaultNode {
-                prefix: low,
-                value: self.value.replace(value),
-                storage,
-            };
-            self.storage.add_within(low_byte, lower);
-            return Ok(());
-        }
         let lower = DefaultNode {
             prefix: low,
-            value: self.value.take(),
             storage,
         };
+        self.storage.add_within(low_byte, lower);
+        if key.len() == shared {
+            self.storage.fill_value(value);
+            return Ok(());
+        }
         let rest = &key[shared..];
         let leaf = DefaultNode::new_leaf(P::from_slice(rest), value);
-        self.storage.add_within(low_byte, lower);
         self.storage.add_within(rest[0], leaf);
         Ok(())
     }
@@ -105,11 +99,11 @@ impl<P: Partial, V> DefaultNode<P, V> {
             };
         };
         let Some(&byte) = rest.first() else {
-            if only_new && self.value.is_some() {
+            if only_new && self.storage.has_value() {
                 give_back(back, Some(value));
                 return Err(InsertStop::Stored);
             }
-            give_back(back, self.value.replace(value));
+            give_back(back, self.storage.replace_value(value));
             return Ok(());
         };
         if let Some(child) = self.storage.seek_child_mut(byte) {
@@ -220,7 +214,7 @@ impl<P: Partial, V> DefaultNode<P, V> {
 // Not inline: a descent that calls it holds no node on the stack.
 #[inline(never)]
 pub(super) fn add_leaf<P: Partial, V>(
-    storage: &mut Storage<DefaultNode<P, V>>,
+    storage: &mut Storage<V, DefaultNode<P, V>>,
     b: u8,
     rest: &[u8],
     value: V,
@@ -231,6 +225,7 @@ pub(super) fn add_leaf<P: Partial, V>(
     ensures entries { child_entries storage.new
         ≡ with_entry b (leaf rest.now value) (child_entries storage.old) }
     ensures capacity { storage_capacity storage.new ≡ storage_capacity storage.old }
+    ensures value { stored_value storage.new ≡ stored_value storage.old }
 {
     storage.add_within(b, DefaultNode::new_leaf(P::from_slice(rest), value));
 }

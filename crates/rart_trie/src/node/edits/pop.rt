@@ -42,7 +42,7 @@ impl<P: Partial, V> DefaultNode<P, V> {
     {
         extend(path, &self.prefix);
         let Some((byte, _)) = self.end_child(end) else {
-            give_back(removed, self.value.take());
+            give_back(removed, self.storage.take_value());
             self.merge_with_only_child();
             return Ok(());
         };

@@ -17,7 +17,6 @@ use crate::node::rest::strip_prefix;
 use rart_keys::Partial;
 use rart_parts::TreeError;
 use std::alloc::Global;
-use std::mem;
 
 impl<P: Partial, V> DefaultNode<P, V> {
     /// Merges the node with its only child if it has no value. The child keeps its
@@ -30,20 +29,12 @@ impl<P: Partial, V> DefaultNode<P, V> {
         requires within { JoinsWithin P.MAXIMUM_SIZE (prefix_of self.old) (children_in self.old) }
         ensures { self.new ≡ merged_if_needed self.old }
     {
-        if self.value.is_some() || self.storage.num_children() != 1 {
+        if self.storage.has_value() || self.storage.num_children() != 1 {
             return;
         }
         let (_byte, child) = self.storage.take_only_child();
-        let DefaultNode {
-            prefix,
-            value,
-            storage,
-        } = child;
+        let DefaultNode { prefix, storage } = child;
         self.prefix = self.prefix.partial_extended_with(&prefix);
-        match mem::replace(&mut self.value, value) {
-            Some(_) => unreachable!(),
-            None => {}
-        }
         self.storage.replace_empty(storage);
     }
 
@@ -88,11 +79,9 @@ impl<P: Partial, V> DefaultNode<P, V> {
     {
         let DefaultNode {
             prefix: _prefix,
-            value,
             storage,
         } = self;
-        storage.destroy_empty();
-        value
+        storage.into_value()
     }
 
     /// Removes the leaf at `byte` and stores its value in `removed`, which is empty.
@@ -148,7 +137,7 @@ impl<P: Partial, V> DefaultNode<P, V> {
             return Ok(());
         };
         let Some(&byte) = rest.first() else {
-            give_back(removed, self.value.take());
+            give_back(removed, self.storage.take_value());
             self.merge_with_only_child();
             return Ok(());
         };

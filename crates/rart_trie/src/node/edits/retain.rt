@@ -10,7 +10,7 @@ ghost use Rattle.rart_trie.specs.edits.Deletion.{JoinsWithin, needs_merge};
 ghost use Rattle.rart_trie.specs.edits.RetainSteps.{AppliesChild, CallsForOwn, KeepsFirst, RetainsBelow, next_byte};
 ghost use Rattle.rart_trie.specs.edits.RetainSteps.{RetainsTree, finished_as, finished_node};
 ghost use Rattle.rart_trie.specs.edits.Retentions.{CanRetain, Retains, TakesPair};
-ghost use Rattle.rart_trie.specs.storages.Stored.{child_entries};
+ghost use Rattle.rart_trie.specs.storages.Stored.{HoldsSo, child_entries, stored_value};
 ghost use Rattle.rart_trie.specs.tries.Tree.{IsCanonicalTree, tree_pairs};
 ghost use Rattle.rart_trie.specs.tries.Trie.{IsCanonical, capacity_in, children_in, pairs_of, prefix_of, with_prefix};
 
@@ -33,15 +33,18 @@ pub(crate) enum Retention {
 }
 
 /// Calls `f` with the key and the value of a node, if it has one, and returns whether the value is to be kept.
-fn call_for_own<V, F: FnMut(&[u8], &mut V) -> bool>(
-    value: &mut Option<V>,
+fn call_for_own<P: Partial, V, F: FnMut(&[u8], &mut V) -> bool>(
+    storage: &mut Storage<V, DefaultNode<P, V>>,
     key: &[u8],
     f: &mut F,
 ) -> bool
-    requires callable { (v : V) → value.old ≡ Some v → TakesPair F.FnMut f.old (key.now, v) }
-    ensures { CallsForOwn F.FnMut key.now f.old value.old result value.new f.new }
+    requires callable { (v : V) → stored_value storage.old ≡ Some v
+        → TakesPair F.FnMut f.old (key.now, v) }
+    ensures calls { CallsForOwn F.FnMut key.now f.old (stored_value storage.old) result
+        (stored_value storage.new) f.new }
+    ensures same { HoldsSo storage.old (stored_value storage.new) storage.new }
 {
-    match value {
+    match storage.value_mut() {
         Some(value) => f(key, value),
         None => true,
     }
@@ -61,7 +64,7 @@ fn cut<P: Partial>(path: &mut P, count: usize)
 // Not inline: a descent that calls it holds no node on the stack.
 #[inline(never)]
 fn apply_to_child<P: Partial, V: Drop>(
-    storage: &mut Storage<DefaultNode<P, V>>,
+    storage: &mut Storage<V, DefaultNode<P, V>>,
     alloc: Global,
     byte: u8,
     has_value: bool,
@@ -86,7 +89,7 @@ fn apply_to_child<P: Partial, V: Drop>(
 
 /// Returns the byte of the next child after `byte`, or `None` if the walk is over.
 fn following_byte<P: Partial, V>(
-    storage: &Storage<DefaultNode<P, V>>,
+    storage: &Storage<V, DefaultNode<P, V>>,
     byte: u8,
     walk: Retention,
 ) -> Option<u8>
@@ -112,7 +115,7 @@ impl<P: Partial, V: Drop> DefaultNode<P, V> {
             if self.storage.num_children() == 0 {
                 return Retention::Rejected;
             }
-            self.value = None;
+            let _ = self.storage.take_value();
         }
         self.merge_with_only_child();
         walk
@@ -137,8 +140,8 @@ impl<P: Partial, V: Drop> DefaultNode<P, V> {
     {
         let count = path.len();
         extend(path, &self.prefix);
-        let keeps = call_for_own(&mut self.value, path.to_slice(), f);
-        let has_value = self.value.is_some();
+        let keeps = call_for_own(&mut self.storage, path.to_slice(), f);
+        let has_value = self.storage.has_value();
         let mut walk = Retention::Done;
         let mut next = self.storage.first_byte();
         while let Some(byte) = next {

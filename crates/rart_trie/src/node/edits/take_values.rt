@@ -16,7 +16,7 @@ impl<P: Partial, V> DefaultNode<P, V> {
         ensures values { values.new.items ≡ values.old.items ++ values_of (pairs_of self.old) }
         ensures capacity { vec_capacity values.new ≡ vec_capacity values.old }
     {
-        if let Some(value) = self.value.take() {
+        if let Some(value) = self.storage.take_value() {
             values.push_reserved(value);
         }
         let mut next = self.storage.first_byte();

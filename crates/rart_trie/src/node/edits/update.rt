@@ -123,11 +123,11 @@ impl<P: Partial, V> DefaultNode<P, V> {
         match left {
             Some(left) => match answer {
                 SlotUpdate::Keep => {
-                    fill(&mut self.value, left);
+                    self.storage.fill_value(left);
                     Ok(Outcome::Kept)
                 }
                 SlotUpdate::Insert(value) => {
-                    fill(&mut self.value, value);
+                    self.storage.fill_value(value);
                     Ok(Outcome::Replaced(left))
                 }
                 SlotUpdate::Remove => {
@@ -144,7 +144,7 @@ impl<P: Partial, V> DefaultNode<P, V> {
                             value,
                         }));
                     }
-                    fill(&mut self.value, value);
+                    self.storage.fill_value(value);
                     Ok(Outcome::New)
                 }
             },
@@ -167,19 +167,19 @@ impl<P: Partial, V> DefaultNode<P, V> {
             left,
             answer,
             extra,
-        } = show(self.value.take(), f);
+        } = show(self.storage.take_value(), f);
         let Some(left) = left else { unreachable!() };
         match answer {
             SlotUpdate::Keep => {
-                fill(&mut self.value, left);
+                self.storage.fill_value(left);
                 (Some(Outcome::Kept), extra)
             }
             SlotUpdate::Insert(value) => {
-                fill(&mut self.value, value);
+                self.storage.fill_value(value);
                 (Some(Outcome::Replaced(left)), extra)
             }
             SlotUpdate::Remove => {
-                fill(&mut self.value, left);
+                self.storage.fill_value(left);
                 (None, extra)
             }
         }
@@ -230,7 +230,7 @@ impl<P: Partial, V> DefaultNode<P, V> {
                 left,
                 answer,
                 extra,
-            } = show(self.value.take(), f);
+            } = show(self.storage.take_value(), f);
             return (self.apply_here(full, left, answer), extra);
         };
         let (outcome, extra) = match self.storage.seek_child_mut(byte) {

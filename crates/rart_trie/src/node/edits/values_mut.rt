@@ -23,7 +23,7 @@ impl<P: Partial, V> DefaultNode<P, V> {
         ensures changes { ChangesBelow F.FnMut [] f.old (pairs_of self.old) (pairs_of self.new)
             f.new }
     {
-        if let Some(value) = &mut self.value {
+        if let Some(value) = self.storage.value_mut() {
             f(value);
         }
         let mut next = self.storage.first_byte();

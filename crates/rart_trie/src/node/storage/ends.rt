@@ -18,7 +18,7 @@ fn last_of<N>(rest: SortedKeyedMappingIter<'_, N>) -> Option<(u8, &N)>
     last
 }
 
-impl<N> Storage<N> {
+impl<V, N> Storage<V, N> {
     /// Returns the child at the least byte, with that byte.
     pub(crate) fn first_child(&self) -> Option<(u8, &N)>
         ensures { option_map (λ e. (e.0, e.1.now)) result ≡ slice_get (child_entries self.now) 0 }
@@ -31,11 +31,11 @@ impl<N> Storage<N> {
         ensures { option_map (λ e. (e.0, e.1.now)) result ≡ last_or None (child_entries self.now) }
     {
         match self {
-            Storage::Leaf => None,
-            Storage::Node4(map) => last_of(map.iter()),
-            Storage::Node16(map) => last_of(map.iter()),
-            Storage::Node48(map) => map.last_under(256),
-            Storage::Node256(map) => map.last_under(256),
+            Storage::Empty | Storage::Leaf(_) => None,
+            Storage::Node4(inner) => last_of(inner.map.iter()),
+            Storage::Node16(inner) => last_of(inner.map.iter()),
+            Storage::Node48(inner) => inner.map.last_under(256),
+            Storage::Node256(inner) => inner.map.last_under(256),
         }
     }
 }

@@ -3,67 +3,69 @@ ghost use Rattle.std.specs.Prelude.{◌≡◌, ◌<◌, ◌≤◌, [], length, N
 ghost use Rattle.rart_parts.specs.Entries.{sorted_entries, child_at};
 ghost use Rattle.rart_parts.specs.Errors.{IsMemory};
 ghost use Rattle.rart_trie.specs.storages.Capacities.{widened_capacity};
-ghost use Rattle.rart_trie.specs.storages.Stored.{child_entries, storage_capacity};
+ghost use Rattle.rart_trie.specs.storages.Stored.{child_entries, storage_capacity, stored_value};
 
 use crate::node::storage::Storage;
+use crate::node::storage::inner::Inner;
 use rart_parts::mapping::{DirectMapping, IndexedMapping, NodeMapping, SortedKeyedMapping};
 use rart_parts::utils::bitset::Bitset64;
 use rart_parts::{TreeError, laws};
 use std::alloc::{AllocFailed, Global};
 use std::mem;
 
-/// Returns a boxed sorted map with no child.
-pub(super) fn boxed_sorted<N, const W: usize>(
+/// Returns a boxed sorted map with no child, and no value.
+pub(super) fn boxed_sorted<V, N, const W: usize>(
     alloc: Global,
-) -> Result<Box<SortedKeyedMapping<N, W>>, TreeError>
+) -> Result<Box<Inner<V, SortedKeyedMapping<N, W>>>, TreeError>
     requires { W ≤ 255 }
-    ensures ok { IfOk result (λ m. m.value ≡ []) }
+    ensures ok { IfOk result (λ m. (m.value.map ≡ []) × (m.value.value ≡ None)) }
     ensures memory { IfErr result IsMemory }
 {
-    match Box::new(alloc, SortedKeyedMapping::new(alloc)?) {
-        Ok(map) => Ok(map),
+    match Box::new(alloc, Inner::new(SortedKeyedMapping::new(alloc)?)) {
+        Ok(inner) => Ok(inner),
         Err(AllocFailed { value }) => {
-            value.destroy_empty();
+            value.into_map().destroy_empty();
             Err(TreeError::Memory)
         }
     }
 }
 
-/// Returns a boxed indexed map with no child.
-pub(super) fn boxed_indexed<N>(
+/// Returns a boxed indexed map with no child, and no value.
+pub(super) fn boxed_indexed<V, N>(
     alloc: Global,
-) -> Result<Box<IndexedMapping<N, 48, Bitset64<1>>>, TreeError>
-    ensures ok { IfOk result (λ m. sorted_entries m.value ≡ []) }
+) -> Result<Box<Inner<V, IndexedMapping<N, 48, Bitset64<1>>>>, TreeError>
+    ensures ok { IfOk result (λ m. (sorted_entries m.value.map ≡ []) × (m.value.value ≡ None)) }
     ensures memory { IfErr result IsMemory }
 {
-    match Box::new(alloc, IndexedMapping::new(alloc)?) {
-        Ok(map) => Ok(map),
+    match Box::new(alloc, Inner::new(IndexedMapping::new(alloc)?)) {
+        Ok(inner) => Ok(inner),
         Err(AllocFailed { value }) => {
-            value.destroy_empty();
+            value.into_map().destroy_empty();
             Err(TreeError::Memory)
         }
     }
 }
 
-/// Returns a boxed direct map with no child.
-fn boxed_direct<N>(alloc: Global) -> Result<Box<DirectMapping<N>>, TreeError>
-    ensures ok { IfOk result (λ m. m.value ≡ []) }
+/// Returns a boxed direct map with no child, and no value.
+fn boxed_direct<V, N>(alloc: Global) -> Result<Box<Inner<V, DirectMapping<N>>>, TreeError>
+    ensures ok { IfOk result (λ m. (m.value.map ≡ []) × (m.value.value ≡ None)) }
     ensures memory { IfErr result IsMemory }
 {
-    match Box::new(alloc, DirectMapping::new(alloc)?) {
-        Ok(map) => Ok(map),
+    match Box::new(alloc, Inner::new(DirectMapping::new(alloc)?)) {
+        Ok(inner) => Ok(inner),
         Err(AllocFailed { value }) => {
-            value.destroy_empty();
+            value.into_map().destroy_empty();
             Err(TreeError::Memory)
         }
     }
 }
 
-impl<N> Storage<N> {
+impl<V, N> Storage<V, N> {
     /// Returns empty storage of capacity 4.
     pub(crate) fn new_4(alloc: Global) -> Result<Self, TreeError>
         ensures entries { IfOk result (λ s. child_entries s ≡ []) }
         ensures capacity { IfOk result (λ s. storage_capacity s ≡ 4) }
+        ensures value { IfOk result (λ s. stored_value s ≡ None) }
         ensures memory { IfErr result IsMemory }
     {
         Ok(Storage::Node4(boxed_sorted(alloc)?))
@@ -73,6 +75,7 @@ impl<N> Storage<N> {
     pub(crate) fn new_16(alloc: Global) -> Result<Self, TreeError>
         ensures entries { IfOk result (λ s. child_entries s ≡ []) }
         ensures capacity { IfOk result (λ s. storage_capacity s ≡ 16) }
+        ensures value { IfOk result (λ s. stored_value s ≡ None) }
         ensures memory { IfErr result IsMemory }
     {
         Ok(Storage::Node16(boxed_sorted(alloc)?))
@@ -82,6 +85,7 @@ impl<N> Storage<N> {
     pub(crate) fn new_48(alloc: Global) -> Result<Self, TreeError>
         ensures entries { IfOk result (λ s. child_entries s ≡ []) }
         ensures capacity { IfOk result (λ s. storage_capacity s ≡ 48) }
+        ensures value { IfOk result (λ s. stored_value s ≡ None) }
         ensures memory { IfErr result IsMemory }
     {
         Ok(Storage::Node48(boxed_indexed(alloc)?))
@@ -91,6 +95,7 @@ impl<N> Storage<N> {
     pub(crate) fn new_256(alloc: Global) -> Result<Self, TreeError>
         ensures entries { IfOk result (λ s. child_entries s ≡ []) }
         ensures capacity { IfOk result (λ s. storage_capacity s ≡ 256) }
+        ensures value { IfOk result (λ s. stored_value s ≡ None) }
         ensures memory { IfErr result IsMemory }
     {
         Ok(Storage::Node256(boxed_direct(alloc)?))
@@ -107,33 +112,24 @@ impl<N> Storage<N> {
     {
         laws::free_byte::<N>();
         match self {
-            Storage::Leaf => false,
-            Storage::Node4(map) => map.num_children() < 4,
-            Storage::Node16(map) => map.num_children() < 16,
-            Storage::Node48(map) => map.num_children() < 48,
-            Storage::Node256(map) => map.num_children() < 256,
+            Storage::Empty | Storage::Leaf(_) => false,
+            Storage::Node4(inner) => inner.map.num_children() < 4,
+            Storage::Node16(inner) => inner.map.num_children() < 16,
+            Storage::Node48(inner) => inner.map.num_children() < 48,
+            Storage::Node256(inner) => inner.map.num_children() < 256,
         }
     }
 
-    /// Frees storage without a child.
-    pub(crate) fn destroy_empty(self)
-        requires { child_entries self ≡ [] }
-    {
-        match self {
-            Storage::Leaf => {}
-            Storage::Node4(map) => Box::into_inner(map).destroy_empty(),
-            Storage::Node16(map) => Box::into_inner(map).destroy_empty(),
-            Storage::Node48(map) => Box::into_inner(map).destroy_empty(),
-            Storage::Node256(map) => Box::into_inner(map).destroy_empty(),
-        }
-    }
-
-    /// Replaces this storage, which has no child, and frees it.
+    /// Replaces this storage, which has no child and no value, and frees it.
     pub(crate) fn replace_empty(&mut self, next: Self)
-        requires { child_entries self.old ≡ [] }
+        requires entries { child_entries self.old ≡ [] }
+        requires value { stored_value self.old ≡ None }
         ensures { self.new ≡ next }
     {
-        mem::replace(self, next).destroy_empty();
+        match mem::replace(self, next).into_value() {
+            None => {}
+            Some(_) => unreachable!(),
+        }
     }
 
     /// Reserves a slot for a child at byte `b`: a full storage is replaced by one of the next kind.
@@ -145,6 +141,7 @@ impl<N> Storage<N> {
     pub(crate) fn reserve_slot(&mut self, alloc: Global, b: u8) -> Result<(), TreeError>
         requires absent { child_at b (child_entries self.old) ≡ None }
         ensures entries { child_entries self.new ≡ child_entries self.old }
+        ensures value { stored_value self.new ≡ stored_value self.old }
         ensures not_full { OnOk result
             (length (child_entries self.new) < storage_capacity self.new) }
         ensures capacity { OnOk result
@@ -159,23 +156,27 @@ impl<N> Storage<N> {
             return Ok(());
         }
         match self {
-            Storage::Leaf => {
-                let next = boxed_sorted(alloc)?;
+            Storage::Empty | Storage::Leaf(_) => {
+                let mut next = boxed_sorted(alloc)?;
+                next.fill(self.take_value());
                 self.replace_empty(Storage::Node4(next));
             }
-            Storage::Node4(map) => {
+            Storage::Node4(inner) => {
                 let mut next = boxed_sorted(alloc)?;
-                next.fill_from_resized(map);
+                next.map.fill_from_resized(&mut inner.map);
+                next.fill(inner.value.take());
                 self.replace_empty(Storage::Node16(next));
             }
-            Storage::Node16(map) => {
+            Storage::Node16(inner) => {
                 let mut next = boxed_indexed(alloc)?;
-                next.fill_from_sorted_keyed(map);
+                next.map.fill_from_sorted_keyed(&mut inner.map);
+                next.fill(inner.value.take());
                 self.replace_empty(Storage::Node48(next));
             }
-            Storage::Node48(map) => {
+            Storage::Node48(inner) => {
                 let mut next = boxed_direct(alloc)?;
-                next.fill_from_indexed(map);
+                next.map.fill_from_indexed(&mut inner.map);
+                next.fill(inner.value.take());
                 self.replace_empty(Storage::Node256(next));
             }
             Storage::Node256(_) => unreachable!(),

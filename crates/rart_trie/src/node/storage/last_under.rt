@@ -22,18 +22,18 @@ fn last_of_under<N>(rest: SortedKeyedMappingIter<'_, N>, byte: u8) -> Option<(u8
     last
 }
 
-impl<N> Storage<N> {
+impl<V, N> Storage<V, N> {
     /// Returns the child at the greatest byte under `byte`, with its byte.
     pub(crate) fn last_child_under(&self, byte: u8) -> Option<(u8, &N)>
         ensures { option_map (λ e. (e.0, e.1.now)) result
             ≡ last_or None (entries_under byte (child_entries self.now)) }
     {
         match self {
-            Storage::Leaf => None,
-            Storage::Node4(map) => last_of_under(map.iter(), byte),
-            Storage::Node16(map) => last_of_under(map.iter(), byte),
-            Storage::Node48(map) => map.last_under(byte as usize),
-            Storage::Node256(map) => map.last_under(byte as usize),
+            Storage::Empty | Storage::Leaf(_) => None,
+            Storage::Node4(inner) => last_of_under(inner.map.iter(), byte),
+            Storage::Node16(inner) => last_of_under(inner.map.iter(), byte),
+            Storage::Node48(inner) => inner.map.last_under(byte as usize),
+            Storage::Node256(inner) => inner.map.last_under(byte as usize),
         }
     }
 }

@@ -4,7 +4,8 @@ ghost use Rattle.std.specs.Prelude.{OnErr, OnOk};
 ghost use Rattle.rart_parts.specs.Entries.{child_at, without_byte};
 ghost use Rattle.rart_parts.specs.Errors.{IsMemory};
 ghost use Rattle.rart_trie.specs.storages.Capacities.{previous_capacity};
-ghost use Rattle.rart_trie.specs.storages.Stored.{ShrinksStored, child_entries, storage_capacity, capacity_without};
+ghost use Rattle.rart_trie.specs.storages.Stored.{ShrinksStored, child_entries, capacity_without, storage_capacity};
+ghost use Rattle.rart_trie.specs.storages.Stored.{stored_value};
 
 use crate::node::storage::Storage;
 use crate::node::storage::grow::{boxed_indexed, boxed_sorted};
@@ -12,14 +13,14 @@ use rart_parts::TreeError;
 use rart_parts::mapping::NodeMapping;
 use std::alloc::Global;
 
-impl<N> Storage<N> {
+impl<V, N> Storage<V, N> {
     /// Returns the capacity of the next smaller kind plus one, the number of children at which a removal changes the
     /// kind.
     fn last_count(&self) -> usize
         ensures { result ≡ previous_capacity (storage_capacity self.now) + 1 }
     {
         match self {
-            Storage::Leaf => 1,
+            Storage::Empty | Storage::Leaf(_) => 1,
             Storage::Node4(_) => 1,
             Storage::Node16(_) => 5,
             Storage::Node48(_) => 17,
@@ -50,6 +51,7 @@ impl<N> Storage<N> {
         ensures capacity { OnOk result
             (storage_capacity self.new
             ≡ capacity_without b self.old (length (child_entries self.new))) }
+        ensures value { OnOk result (stored_value self.new ≡ stored_value self.old) }
         ensures unchanged { OnErr result (self.new ≡ self.old) }
         ensures allocates { OnErr result (ShrinksStored b self.old) }
         ensures memory { IfErr result IsMemory }
@@ -58,30 +60,34 @@ impl<N> Storage<N> {
             return Ok(self.delete_within(b));
         }
         match self {
-            Storage::Leaf => Ok(None),
-            Storage::Node4(map) => {
-                let child = map.delete_child(b);
-                self.replace_empty(Storage::Leaf);
+            Storage::Empty | Storage::Leaf(_) => Ok(None),
+            Storage::Node4(inner) => {
+                let child = inner.map.delete_child(b);
+                let value = inner.value.take();
+                self.replace_empty(Storage::childless(value));
                 Ok(child)
             }
-            Storage::Node16(map) => {
+            Storage::Node16(inner) => {
                 let mut next = boxed_sorted(alloc)?;
-                let child = map.delete_child(b);
-                next.fill_from_resized(map);
+                let child = inner.map.delete_child(b);
+                next.map.fill_from_resized(&mut inner.map);
+                next.fill(inner.value.take());
                 self.replace_empty(Storage::Node4(next));
                 Ok(child)
             }
-            Storage::Node48(map) => {
+            Storage::Node48(inner) => {
                 let mut next = boxed_sorted(alloc)?;
-                let child = map.delete_child(b);
-                next.fill_from_indexed(map);
+                let child = inner.map.delete_child(b);
+                next.map.fill_from_indexed(&mut inner.map);
+                next.fill(inner.value.take());
                 self.replace_empty(Storage::Node16(next));
                 Ok(child)
             }
-            Storage::Node256(map) => {
+            Storage::Node256(inner) => {
                 let mut next = boxed_indexed(alloc)?;
-                let child = map.delete_child(b);
-                next.fill_from_direct(map);
+                let child = inner.map.delete_child(b);
+                next.map.fill_from_direct(&mut inner.map);
+                next.fill(inner.value.take());
                 self.replace_empty(Storage::Node48(next));
                 Ok(child)
             }
@@ -95,12 +101,15 @@ impl<N> Storage<N> {
         ensures taken { child_entries self.old ≡ result ∷ [] }
         ensures entries { child_entries self.new ≡ [] }
         ensures capacity { storage_capacity self.new ≡ 4 }
+        ensures value { stored_value self.new ≡ stored_value self.old }
     {
         match self {
-            Storage::Node4(map) => map.take_value_for_leaf(),
-            Storage::Leaf | Storage::Node16(_) | Storage::Node48(_) | Storage::Node256(_) => {
-                unreachable!()
-            }
+            Storage::Node4(inner) => inner.map.take_value_for_leaf(),
+            Storage::Empty
+            | Storage::Leaf(_)
+            | Storage::Node16(_)
+            | Storage::Node48(_)
+            | Storage::Node256(_) => unreachable!(),
         }
     }
 }

@@ -37,18 +37,18 @@ impl<'a, N> StorageIter<'a, N> {
     }
 }
 
-impl<N> Storage<N> {
+impl<V, N> Storage<V, N> {
     /// Returns the children with their bytes, ascending. It does not allocate.
     pub(crate) fn iter(&self) -> StorageIter<'_, N>
         ensures entries { to_come result ≡ child_entries self.now }
         ensures ascending { BytesAscend (child_entries self.now) }
     {
         match self {
-            Storage::Leaf => StorageIter::Childless,
-            Storage::Node4(map) => StorageIter::Sorted(map.iter()),
-            Storage::Node16(map) => StorageIter::Sorted(map.iter()),
-            Storage::Node48(map) => StorageIter::Indexed(map.iter()),
-            Storage::Node256(map) => StorageIter::Direct(map.iter()),
+            Storage::Empty | Storage::Leaf(_) => StorageIter::Childless,
+            Storage::Node4(inner) => StorageIter::Sorted(inner.map.iter()),
+            Storage::Node16(inner) => StorageIter::Sorted(inner.map.iter()),
+            Storage::Node48(inner) => StorageIter::Indexed(inner.map.iter()),
+            Storage::Node256(inner) => StorageIter::Direct(inner.map.iter()),
         }
     }
 
@@ -58,11 +58,11 @@ impl<N> Storage<N> {
         ensures ascending { BytesAscend (entries_above byte (child_entries self.now)) }
     {
         match self {
-            Storage::Leaf => StorageIter::Childless,
-            Storage::Node4(map) => StorageIter::Sorted(map.iter_above(byte)),
-            Storage::Node16(map) => StorageIter::Sorted(map.iter_above(byte)),
-            Storage::Node48(map) => StorageIter::Indexed(map.iter_above(byte)),
-            Storage::Node256(map) => StorageIter::Direct(map.iter_above(byte)),
+            Storage::Empty | Storage::Leaf(_) => StorageIter::Childless,
+            Storage::Node4(inner) => StorageIter::Sorted(inner.map.iter_above(byte)),
+            Storage::Node16(inner) => StorageIter::Sorted(inner.map.iter_above(byte)),
+            Storage::Node48(inner) => StorageIter::Indexed(inner.map.iter_above(byte)),
+            Storage::Node256(inner) => StorageIter::Direct(inner.map.iter_above(byte)),
         }
     }
 

@@ -32,7 +32,8 @@ loop-rest-init g t c =
     let wide = c.in_ok-storage.ensures.capacity ∙ ap capacity_of c.count_branches.ensures in
     elim c.if-own-eq1.branch [
       | then-own-eq1 w ↦ started _ _ _ _ _ _ _ _ _ _ _ _ _
-          (rw (w.value-is, w.take_value-is) (start-here _ _ _ _ _ _ _ _ _ _ _ _ _ at_start
+          (rw (w.storage-is, w.take_value-is, w.fill_value.ensures.0, w.fill_value.ensures.1, w.fill_value.ensures.2)
+          (start-here _ _ _ _ _ _ _ _ _ _ _ _ _ at_start
           c.in_ok-storage.ensures.entries wide _ _ _
           (slice_from-is c.args.keys.now _ ∙ ap (λ z. drop z c.args.keys.now) w.if-own-eq1.true)
           (own-one _ _ _ (c.from-own.ensures ∙ byte-is _) w.if-own-eq1.true)
@@ -40,7 +41,7 @@ loop-rest-init g t c =
       | else-own-eq1 w ↦
           let none = own-none _ _ _ (c.from-own.ensures ∙ byte-is _) w.if-own-eq1.false
           c.shared_length-shared.ensures.reach in
-          started _ _ _ _ _ _ _ _ _ _ _ _ _ (rw (w.value-is, w.take_value-is)
+          started _ _ _ _ _ _ _ _ _ _ _ _ _ (rw (w.storage-is, w.take_value-is, c.in_ok-storage.ensures.value)
           (start-on _ _ _ _ _ _ _ _ _ _ _ _ _ at_start c.in_ok-storage.ensures.entries wide _ _
           (slice_from-is c.args.keys.now _ ∙ ap (λ z. drop z c.args.keys.now) none.0) none.1 (omega (arith, none.0))
           refl c.requires.callable))
@@ -90,14 +91,16 @@ loop-rest-preserved g t c =
     let some : 0 < length c.loop-rest.rest.now = omega (arith, c.loop-rest-test.true) in
     elim c.if-end-eq1.branch [
       | then-end-eq1 w ↦ started _ _ _ _ _ _ _ _ _ _ _ _ _
-          (rw (w.storage-is, w.take_value-is) (building-leaf _ _ _ _ _ _ _ _ _ _ _ _ _ c.loop-rest.invariant.building
+          (rw (w.storage-is, w.take_value-is, w.add_leaf.ensures.value) (building-leaf _ _ _ _ _ _ _ _ _ _ _ _ _
+          c.loop-rest.invariant.building
           _ _ _ _ _ _ _ _ _ _ some now.run w.if-end-eq1.true now.at_most now.byte (slice_from-is c.loop-rest.rest.now _)
           (slice_from-is (get_or c.loop-rest.rest.now 0 (record { ref_ptr = (0, 0); now = [] })).now _)
           w.take_value-then-end-eq1.ensures w.add_leaf.ensures.entries w.add_leaf.ensures.capacity refl))
       | else-end-eq1+in-Ok w ↦
           let child = w.in-Ok.ensures in
           started _ _ _ _ _ _ _ _ _ _ _ _ _
-          (rw (w.storage-is, w.take_value-is) (building-step _ _ _ _ _ _ _ _ _ _ _ _ _ c.loop-rest.invariant.building
+          (rw (w.storage-is, w.take_value-is, w.add_node.ensures.value) (building-step _ _ _ _ _ _ _ _ _ _ _ _ _
+          c.loop-rest.invariant.building
           _ _ _ _ _ _ _ _ _ some now.run now.nonempty now.at_most now.byte refl (slice_from-is c.loop-rest.rest.now _)
           child.canonical child.keys child.values (rw w.first_part-prefix.ensures at w.add_node.ensures.entries)
           w.add_node.ensures.capacity refl))

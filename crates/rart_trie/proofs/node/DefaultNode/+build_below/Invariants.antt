@@ -1,5 +1,5 @@
 use Rattle.std.proofs.Common.{length, ◌+◌, ◌≡◌, ◌≤◌}
-use Rattle.rart_trie.specs.storages.Stored.{child_entries, storage_capacity}
+use Rattle.rart_trie.specs.storages.Stored.{child_entries, storage_capacity, stored_value}
 use Rattle.rart_trie.proofs.build.BuildLemmas.{Building}
 use Rattle.rart_trie.proofs.node.DefaultNode.+build_below.Given as goal
 
@@ -12,7 +12,7 @@ invariant-loop-rest g l = record {
   shorter : length l.rest ≤ length l.keys;
   building : Building (goal.F-pre g) (goal.F-step g) g.P.Partial.MAXIMUM_SIZE l.below l.keys l.rest
       (storage_capacity l.storage)
-      (child_entries l.storage) l.value l.from l.at l.fn.take_value l.take_value;
+      (child_entries l.storage) (stored_value l.storage) l.from l.at l.fn.take_value l.take_value;
 }
 
 abbrev pub decreases-loop-rest : goal.decreases-loop-rest

@@ -1,5 +1,5 @@
 use Rattle.std.proofs.Common.{ap, sym, arith}
-use Rattle.rart_trie.specs.storages.Stored.{child_entries, storage_capacity}
+use Rattle.rart_trie.specs.storages.Stored.{child_entries, storage_capacity, stored_value}
 use Rattle.rart_trie.specs.tries.Trie.{prefix_of}
 use Rattle.rart_trie.specs.tries.TrieCode.{node_count}
 use Rattle.rart_trie.proofs.edits.ValueWalkLemmas.{begins-ended, begins-within, changes-absent, changes-apart}
@@ -49,7 +49,8 @@ change_below-requires g t c κs within =
     let child = c.in-Some-seek_child_mut.ensures.value in
     let byte = c.in-Some-first.ensures.value in
     let callable = child-callable _ c.args.prefix.now c.in-Some.rest.now c.in-Some-first.field-0.now
-    (g.P.Partial.bytes c.self.inside.prefix) c.self.inside.value (storage_capacity c.self.inside.storage)
+    (g.P.Partial.bytes c.self.inside.prefix) (stored_value c.self.inside.storage) (storage_capacity
+    c.self.inside.storage)
     c.in-Some-seek_child_mut.child.now (child_entries c.self.inside.storage) c.args.f.now canonical c.in-Some.ensures
     byte
     child (rw (← c.self.view_is) at c.requires.callable) in
@@ -70,14 +71,15 @@ returns-clause-canonical g t c =
     elim c.match-seek_child_mut.branch [
       | in-Some-seek_child_mut w ↦
           let left = rw w.in-Some-seek_child_mut.is at c.seek_child_mut.follows.holds w.change_below.new.self in
-          rw w.self-inside-is (child-canonical (g.P.Partial.bytes c.self.inside.prefix) c.self.inside.value
+          rw (w.self-inside-is, left.2) (child-canonical (g.P.Partial.bytes c.self.inside.prefix)
+          (stored_value c.self.inside.storage)
           (storage_capacity c.self.inside.storage) _ c.in-Some-first.field-0.now w.in-Some-seek_child_mut.child.now
           w.change_below.new.self (child_entries c.self.inside.storage) _ canonical
           w.in-Some-seek_child_mut.ensures.value
           w.change_below.ensures.canonical w.change_below.ensures.prefix left.0 left.1)
       | in_default-seek_child_mut w ↦
           let left = c.seek_child_mut.follows.holds-at-none in
-          rw (w.self-inside-is, left.0, left.1) canonical
+          rw (w.self-inside-is, left.0, left.1, left.2) canonical
     ]
 
 pub returns-clause-changes : goal.returns-clause-changes
@@ -86,8 +88,8 @@ returns-clause-changes g t c =
     elim c.match-seek_child_mut.branch [
       | in-Some-seek_child_mut w ↦
           let left = rw w.in-Some-seek_child_mut.is at c.seek_child_mut.follows.holds w.change_below.new.self in
-          rw (w.f-is, w.self-inside-is, ← c.self.view_is) (child-changes _ c.args.prefix.now c.in-Some.rest.now
-          c.in-Some-first.field-0.now (g.P.Partial.bytes c.self.inside.prefix) c.self.inside.value
+          rw (w.f-is, w.self-inside-is, ← c.self.view_is, left.2) (child-changes _ c.args.prefix.now c.in-Some.rest.now
+          c.in-Some-first.field-0.now (g.P.Partial.bytes c.self.inside.prefix) (stored_value c.self.inside.storage)
           (storage_capacity c.self.inside.storage) (storage_capacity (c.seek_child_mut.follows.lender
           w.change_below.new.self))
           w.in-Some-seek_child_mut.child.now w.change_below.new.self
@@ -95,8 +97,9 @@ returns-clause-changes g t c =
           c.in-Some-first.ensures.value w.in-Some-seek_child_mut.ensures.value w.change_below.ensures.changes left.1)
       | in_default-seek_child_mut w ↦
           let left = c.seek_child_mut.follows.holds-at-none in
-          rw (w.f-is, w.self-inside-is, ← c.self.view_is, left.1) (changes-absent _ c.args.prefix.now
-          c.in-Some.rest.now c.in-Some-first.field-0.now (g.P.Partial.bytes c.self.inside.prefix) c.self.inside.value
+          rw (w.f-is, w.self-inside-is, ← c.self.view_is, left.1, left.2) (changes-absent _ c.args.prefix.now
+          c.in-Some.rest.now c.in-Some-first.field-0.now (g.P.Partial.bytes c.self.inside.prefix)
+          (stored_value c.self.inside.storage)
           (storage_capacity c.self.inside.storage) (child_entries c.self.inside.storage) c.args.f.now canonical
           c.in-Some.ensures
           c.in-Some-first.ensures.value w.in_default-seek_child_mut.ensures.value)

@@ -1,4 +1,4 @@
-use Rattle.rart_trie.specs.storages.Stored.{child_entries, storage_capacity}
+use Rattle.rart_trie.specs.storages.Stored.{child_entries, storage_capacity, stored_value}
 use Rattle.rart_trie.proofs.edits.ValueWalkLemmas.{Changing}
 use Rattle.rart_trie.proofs.storages.EntryPlaces.{ahead_count}
 use Rattle.rart_trie.proofs.node.DefaultNode.+change_each.Given as goal
@@ -8,7 +8,8 @@ decreases-change_each g l = goal.size-change_each g l
 
 abbrev pub invariant-loop-next : goal.invariant-loop-next
 invariant-loop-next g l = Changing g.F.FnMut l.fn.f l.fn.self l.f (g.P.Partial.bytes l.self-inside.prefix)
-    l.self-inside.value (storage_capacity l.self-inside.storage) (child_entries l.self-inside.storage) l.next
+    (stored_value l.self-inside.storage) (storage_capacity l.self-inside.storage) (child_entries
+    l.self-inside.storage) l.next
 
 abbrev pub decreases-loop-next : goal.decreases-loop-next
 decreases-loop-next g l = ahead_count l.next (child_entries l.self-inside.storage)

@@ -1,6 +1,6 @@
 use Rattle.std.proofs.Common.{◌∙◌, sym, ap, arith, refl}
 use Rattle.std.specs.Prelude.{max}
-use Rattle.rart_trie.specs.storages.Stored.{child_entries, storage_capacity}
+use Rattle.rart_trie.specs.storages.Stored.{child_entries, storage_capacity, stored_value}
 use Rattle.rart_trie.specs.tries.Trie.{children_in}
 use Rattle.rart_trie.specs.tries.TrieCode.{as_children, node_count}
 use Rattle.rart_trie.proofs.tree_stats.CountLemmas.{own-free, few-high, count-start, count-step, count-free, count-end}
@@ -13,7 +13,8 @@ add_node-requires g t c = omega (
   c.requires,
   ap node_count c.self.view_is,
   c.num_children-children.ensures,
-  own-free (g.P.Partial.bytes c.self.inside.prefix) c.self.inside.value (storage_capacity c.self.inside.storage)
+  own-free (g.P.Partial.bytes c.self.inside.prefix) (stored_value c.self.inside.storage)
+  (storage_capacity c.self.inside.storage)
       (child_entries c.self.inside.storage),
 )
 
@@ -24,7 +25,7 @@ loop-byte-init g t c = record {
   counting = rw (← c.self.view_is) (count-start _ _ _ _ _ _ _ (child_entries c.self.inside.storage)
       (ap as_children c.into_iter-byte-iterator.ensures.into_iter_gives ∙ c.iter-byte-items.ensures.children
       ∙ ap children_in (sym c.self.view_is))
-      c.num_children-children.ensures (c.add_node.ensures ∙ rw (c.is_some.ensures, c.capacity.ensures) refl));
+      c.num_children-children.ensures (c.add_node.ensures ∙ rw (c.has_value.ensures, c.capacity.ensures) refl));
 }
 
 pub loop-byte-init-derived : goal.loop-byte-init-derived

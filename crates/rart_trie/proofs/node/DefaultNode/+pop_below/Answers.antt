@@ -1,10 +1,10 @@
-use Rattle.std.proofs.Common.{◌≡◌, ◌≢◌, ◌+◌, ◌++◌, ℕ, arith, ap, ◌∙◌, sym, refl, length}
+use Rattle.std.proofs.Common.{◌≡◌, ◌≢◌, ◌+◌, ◌++◌, ℕ, arith, ap, ◌∙◌, sym, refl, length, None}
 use Rattle.std.specs.Option.{option_and_then}
 use Rattle.std.proofs.lemmas.Result.{on_ok_weaker, on_err_weaker}
 use Rattle.rart_keys.specs.KeyBytes.{IsWithin}
 use Rattle.rart_keys.specs.SortedMap.{longest_key}
 use Rattle.rart_trie.specs.edits.Deletion.{merged_if_needed, without_child}
-use Rattle.rart_trie.specs.storages.Stored.{child_entries, storage_capacity}
+use Rattle.rart_trie.specs.storages.Stored.{child_entries, storage_capacity, stored_value}
 use Rattle.rart_trie.specs.tries.Trie.{node, pairs_of, edges_of, children_in, no_children, prefix_of, value_of}
 use Rattle.rart_trie.specs.tries.TrieCode.{as_children, node_count}
 use Rattle.rart_trie.proofs.edits.InsertLemmas.{fewer-within, child-put_back, replaced-same}
@@ -15,6 +15,7 @@ use Rattle.rart_trie.proofs.edits.UpdateSteps.{child-there}
 use Rattle.rart_trie.proofs.removals.PopLemmas.{EndsIn, below-within, end-there, entries-none, entries-some, pop-below}
 use Rattle.rart_trie.proofs.removals.PopLemmas.{pop-here, pop-leaf, pop_allocates-below, pop_allocates-leaf, pops-as}
 use Rattle.rart_trie.proofs.removals.PopLemmas.{prefix-within, same-end}
+use Rattle.rart_trie.proofs.removals.RemoveSteps.{same-node}
 use Rattle.rart_trie.proofs.storages.ChildLemmas.{canonical-found, count-found}
 use Rattle.rart_trie.proofs.node.DefaultNode.+pop_below.Given.{Over}
 use Rattle.rart_trie.proofs.node.DefaultNode.+pop_below.Goals.{In-Some-seek_child_mut}
@@ -26,17 +27,17 @@ extend-requires g t c = prefix-within _ _ _ _ (storage_capacity c.self.inside.st
 
 -- the node holds the pair
 pub merge_with_only_child-requires-clause-within : goal.merge_with_only_child-requires-clause-within
-merge_with_only_child-requires-clause-within g t c =
-    joins-canonical _ _ _ (storage_capacity c.self.inside.storage) _ (rw (← c.self.view_is) at c.requires.canonical)
+merge_with_only_child-requires-clause-within g t c = rw c.take_value.ensures.emptied.1
+    (joins-canonical _ _ _ (storage_capacity c.self.inside.storage) _ (rw (← c.self.view_is) at c.requires.canonical)
     (fewer-within _ (length (g.P.Partial.bytes c.args.path.now) + longest_key (pairs_of c.args.self.now)) _
-    (rw (← c.self.view_is) (omega arith)) c.requires.within)
+    (rw (← c.self.view_is) (omega arith)) c.requires.within))
 
 pub returns-in_default-clause-ok : goal.returns-in_default-clause-ok
 returns-in_default-clause-ok g t c =
-    pops-as c.args.end _ _ _ _ _ _ _ _ c.self.view_is (c.give_back.ensures ∙ c.take.ensures.value)
-    (c.merge_with_only_child.ensures ∙ ap (λ v. merged_if_needed (node (g.P.Partial.bytes c.self.inside.prefix) v
-    (storage_capacity c.self.inside.storage) (as_children (child_entries c.self.inside.storage)))) c.take.ensures.after)
-    (pop-here c.args.end _ _ (g.P.Partial.bytes c.self.inside.prefix) c.self.inside.value _
+    pops-as c.args.end _ _ _ _ _ _ _ _ c.self.view_is (c.give_back.ensures ∙ c.take_value.ensures.taken)
+    (c.merge_with_only_child.ensures ∙ ap merged_if_needed (same-node _ None _ _ (child_entries c.self.inside.storage) _
+    c.take_value.ensures.emptied.0 c.take_value.ensures.emptied.1 c.take_value.ensures.emptied.2))
+    (pop-here c.args.end _ _ (g.P.Partial.bytes c.self.inside.prefix) (stored_value c.self.inside.storage) _
     (child_entries c.self.inside.storage) (rw (← c.self.view_is) at c.requires.canonical)
     (rw (← c.self.view_is) at c.requires.inner) (rw (← c.self.view_is) at (sym c.in_default.ensures))
     c.extend.ensures)
@@ -50,7 +51,8 @@ child-within g t c = below-within _ _ _ _ _ _ (storage_capacity c.self.inside.st
     (rw (← c.self.view_is) at c.requires.within)
 
 child-ends : (g : Over) (t : ℕ) (c : In-Some-seek_child_mut g t) → EndsIn c.args.end
-    (g.P.Partial.bytes c.self.inside.prefix) c.self.inside.value (storage_capacity c.self.inside.storage) c.in-Some.byte
+    (g.P.Partial.bytes c.self.inside.prefix) (stored_value c.self.inside.storage) (storage_capacity
+    c.self.inside.storage) c.in-Some.byte
     c.in-Some-seek_child_mut.child.now (child_entries c.self.inside.storage)
 child-ends g t c = same-end c.args.end _ _ _ _ _ _ (child_entries c.self.inside.storage)
     (rw (← c.self.view_is) at c.requires.canonical) (rw (← c.self.view_is) at c.in-Some.ensures)
@@ -58,7 +60,7 @@ child-ends g t c = same-end c.args.end _ _ _ _ _ _ (child_entries c.self.inside.
 
 pub unreachable-requires : goal.unreachable-requires
 unreachable-requires g t c =
-    end-there c.args.end (g.P.Partial.bytes c.self.inside.prefix) c.self.inside.value (storage_capacity
+    end-there c.args.end (g.P.Partial.bytes c.self.inside.prefix) (stored_value c.self.inside.storage) (storage_capacity
     c.self.inside.storage) c.in-Some.byte _ (child_entries c.self.inside.storage)
     (rw (← c.self.view_is) at c.requires.canonical) (rw (← c.self.view_is) at c.in-Some.ensures)
     c.in-None.ensures.value
@@ -82,10 +84,10 @@ returns-then-num_children-gt0 g t c =
     let end = child-ends g t (goal.at.returns-then-num_children-gt0 g t c).In-Some-seek_child_mut in
     let left = rw c.in-Some-seek_child_mut.is at c.seek_child_mut.follows.holds c.pop_below.new.self in
     record {
-      ok = on_ok_weaker c.pop_below.result (λ m. rw (← c.self.view_is)
+      ok = on_ok_weaker c.pop_below.result (λ m. rw (← c.self.view_is, left.2)
           (pop-below end _ _ _ _ _ _ _ c.extend.ensures m left.0 left.1)) c.pop_below.ensures.ok;
       unchanged = on_err_weaker c.pop_below.result (λ e. rw (← c.self.view_is)
-          (child-put_back _ _ _ _ _ _ _ _ _ end.there e left.0 left.1)) c.pop_below.ensures.unchanged;
+          (child-put_back _ _ _ _ _ _ _ _ _ end.there e left.0 left.1 left.2)) c.pop_below.ensures.unchanged;
       nothing = c.pop_below.ensures.nothing;
       memory = c.pop_below.ensures.memory;
       allocates = on_err_weaker c.pop_below.result (λ a. rw (← c.self.view_is) (pop_allocates-below end
@@ -128,8 +130,9 @@ returns g t c =
     let end = child-ends g t (goal.at.returns g t c).In-Some-seek_child_mut in
     let child = c.in-Some-seek_child_mut.child.now in
     let left = rw c.in-Some-seek_child_mut.is at c.seek_child_mut.follows.holds child in
-    let same = child-put_back (g.P.Partial.bytes c.self.inside.prefix) c.self.inside.value _ _ _ child child _ _
-    end.there refl left.0 left.1 in
+    let same = child-put_back (g.P.Partial.bytes c.self.inside.prefix) (stored_value c.self.inside.storage) _ _ _
+    child child _ _
+    end.there refl left.0 left.1 left.2 in
     let none : children_in child ≡ no_children
     = rw (← c.child.view_is) (entries-none _ _ c.num_children.ensures c.if-num_children-gt0.false) in
     record {

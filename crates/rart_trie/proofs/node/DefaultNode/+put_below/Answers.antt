@@ -1,5 +1,5 @@
 use Rattle.std.proofs.Common.{ℕ, arith, ap, ◌∙◌, sym, refl}
-use Rattle.rart_trie.specs.storages.Stored.{child_entries, storage_capacity}
+use Rattle.rart_trie.specs.storages.Stored.{child_entries, storage_capacity, stored_value}
 use Rattle.rart_trie.specs.tries.TrieCode.{node_count}
 use Rattle.rart_trie.proofs.storages.ChildLemmas.{canonical-found, count-found}
 use Rattle.rart_trie.proofs.edits.InsertLemmas.{put-below, put-beside, child-put_back, record-no_child, rest-within}
@@ -14,12 +14,17 @@ use Rattle.rart_trie.proofs.node.DefaultNode.+put_below.Goals as goal
 
 -- the key ends here
 pub returns-in_default-first-clause-ok : goal.returns-in_default-first-clause-ok
-returns-in_default-first-clause-ok g t c = rw (← c.self.view_is, c.replace.ensures.after)
+returns-in_default-first-clause-ok g t c = rw (
+  ← c.self.view_is,
+  c.replace_value.ensures.stored.0,
+  c.replace_value.ensures.stored.1,
+  c.replace_value.ensures.stored.2,
+)
     (sym (trie_put-ended _ c.args.key.now _ c.args.value _ _ _ c.in-Some.ensures c.in_default-first.ensures.value))
 
 -- it continues in a child
 follows : (g : Over) (t : ℕ) (c : In-Some-seek_child_mut g t) → Follows (g.P.Partial.bytes c.self.inside.prefix)
-    c.args.key.now c.in-Some.rest.now c.self.inside.value (storage_capacity c.self.inside.storage)
+    c.args.key.now c.in-Some.rest.now (stored_value c.self.inside.storage) (storage_capacity c.self.inside.storage)
     c.in-Some-first.field-0.now
     c.in-Some-seek_child_mut.child.now (child_entries c.self.inside.storage)
 follows g t c = record {
@@ -43,12 +48,12 @@ returns-in-Some-seek_child_mut g t c =
     let on = follows g t (goal.at.returns-in-Some-seek_child_mut g t c).In-Some-seek_child_mut in
     let left = rw c.in-Some-seek_child_mut.is at c.seek_child_mut.follows.holds c.put_below.new.self in
     record {
-      ok = on_ok_weaker c.put_below.result (λ e. rw (← c.self.view_is)
+      ok = on_ok_weaker c.put_below.result (λ e. rw (← c.self.view_is, left.2)
           (put-below on c.args.value _ _ _ e left.0 left.1)) c.put_below.ensures.ok;
       answer = if_ok_weaker c.put_below.result (λ x e. rw (← c.self.view_is) (e ∙ sym (trie_lookup-child on)))
           c.put_below.ensures.answer;
       unchanged = on_err_weaker c.put_below.result (λ e. rw (← c.self.view_is)
-          (child-put_back _ _ _ _ _ _ _ _ _ on.there e left.0 left.1)) c.put_below.ensures.unchanged;
+          (child-put_back _ _ _ _ _ _ _ _ _ on.there e left.0 left.1 left.2)) c.put_below.ensures.unchanged;
       absent = on_ok_weaker c.put_below.result (λ fresh only. rw (← c.self.view_is) (trie_lookup-child on ∙ fresh only))
           c.put_below.ensures.absent;
       returned = c.put_below.ensures.returned;
@@ -63,7 +68,8 @@ add_leaf-requires-clause-within g t c = rest-within _ _ c.args.key.now _ c.in-So
 pub returns-in-Ok-reserve_slot-clause-ok : goal.returns-in-Ok-reserve_slot-clause-ok
 returns-in-Ok-reserve_slot-clause-ok g t c =
     let left = c.seek_child_mut.follows.holds-at-none in
-    rw (← c.self.view_is) (put-beside _ c.args.key.now _ c.args.value _ _ _ _ (child_entries c.self.inside.storage) _
+    rw (← c.self.view_is, c.add_leaf.ensures.value, c.in-Ok-reserve_slot.ensures.value, left.2)
+    (put-beside _ c.args.key.now _ c.args.value _ _ _ _ (child_entries c.self.inside.storage) _
     (rw (← c.self.view_is) at c.requires.canonical) c.in-Some.ensures c.in-Some-first.ensures.value
     c.in_default-seek_child_mut.ensures.value
     (c.add_leaf.ensures.capacity ∙ rw (left.0, left.1) at c.in-Ok-reserve_slot.ensures.capacity)
@@ -86,7 +92,8 @@ pub returns-in-Err-reserve_slot-clause-refused : goal.returns-in-Err-reserve_slo
 returns-in-Err-reserve_slot-clause-refused g t c =
     let left = c.seek_child_mut.follows.holds-at-none in
     rw (← c.self.view_is) (
-      put_allocation-full _ c.args.key.now _ c.self.inside.value (storage_capacity c.self.inside.storage) _ _
+      put_allocation-full _ c.args.key.now _ (stored_value c.self.inside.storage) (storage_capacity
+      c.self.inside.storage) _ _
           (child_entries c.self.inside.storage) _ c.in-Some.ensures c.in-Some-first.ensures.value
           c.in_default-seek_child_mut.ensures.value
           left.0 left.1 c.in-Err-reserve_slot.ensures.allocates,

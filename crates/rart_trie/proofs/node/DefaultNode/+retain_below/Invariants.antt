@@ -1,5 +1,5 @@
 use Rattle.std.proofs.Common.{◌≡◌, ◌++◌}
-use Rattle.rart_trie.specs.storages.Stored.{child_entries, storage_capacity}
+use Rattle.rart_trie.specs.storages.Stored.{child_entries, storage_capacity, stored_value}
 use Rattle.rart_trie.proofs.retentions.RetainWalkLemmas.{Retaining}
 use Rattle.rart_trie.proofs.storages.EntryPlaces.{ahead_count}
 use Rattle.rart_trie.proofs.node.DefaultNode.+retain_below.Given as goal
@@ -11,7 +11,8 @@ abbrev pub invariant-loop-next : goal.invariant-loop-next
 invariant-loop-next g l = record {
   path : g.P.Partial.bytes l.path ≡ g.P.Partial.bytes l.fn.path ++ g.P.Partial.bytes l.self-inside.prefix;
   visited : Retaining g.F.FnMut (g.P.Partial.bytes l.fn.path) l.fn.f l.fn.self l.keeps l.has_value l.walk l.f
-      (g.P.Partial.bytes l.self-inside.prefix) l.self-inside.value (storage_capacity l.self-inside.storage)
+      (g.P.Partial.bytes l.self-inside.prefix) (stored_value l.self-inside.storage) (storage_capacity
+      l.self-inside.storage)
       (child_entries l.self-inside.storage) l.next;
 }
 

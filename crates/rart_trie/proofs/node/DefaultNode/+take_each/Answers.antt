@@ -1,26 +1,26 @@
 use Rattle.std.proofs.Common.{refl, ◌∙◌, arith, sym}
-use Rattle.rart_trie.specs.storages.Stored.{child_entries, storage_capacity}
+use Rattle.rart_trie.specs.storages.Stored.{child_entries, storage_capacity, stored_value}
 use Rattle.rart_trie.proofs.edits.TakeValueLemmas.{next-child, next-fits, next-there, own-none, own-taken, taking-end}
 use Rattle.rart_trie.proofs.edits.TakeValueLemmas.{taking-start, taking-step}
 use Rattle.rart_trie.proofs.node.DefaultNode.+take_each.Goals.{in-Some, in_default}
 use Rattle.rart_trie.proofs.node.DefaultNode.+take_each.Goals as goal
 
 pub loop-next-init : goal.loop-next-init
-loop-next-init g t c = elim c.match-take.branch [
-  | in-Some w ↦ rw (w.values-is, ← c.self.view_is) (record {
-    taking = taking-start (g.P.Partial.bytes c.self.inside.prefix) c.self.inside.value
+loop-next-init g t c = elim c.match-take_value.branch [
+  | in-Some w ↦ rw (w.values-is, ← c.self.view_is, c.take_value.ensures.emptied.1) (record {
+    taking = taking-start (g.P.Partial.bytes c.self.inside.prefix) (stored_value c.self.inside.storage)
         (storage_capacity c.self.inside.storage) (child_entries c.self.inside.storage) c.args.values.now.items _ _
         (rw (← c.self.view_is) at c.requires.canonical)
-        (own-taken _ _ _ _ (sym c.take.ensures.value ∙ w.in-Some.is) w.push_reserved.ensures.items)
-        c.first_byte-next.ensures;
+        (own-taken _ _ _ _ (sym c.take_value.ensures.taken ∙ w.in-Some.is) w.push_reserved.ensures.items)
+        (rw c.take_value.ensures.emptied.1 at c.first_byte-next.ensures);
     capacity = w.push_reserved.ensures.capacity;
   })
-  | in_default w ↦ rw (w.values-is, ← c.self.view_is) (record {
-    taking = taking-start (g.P.Partial.bytes c.self.inside.prefix) c.self.inside.value
+  | in_default w ↦ rw (w.values-is, ← c.self.view_is, c.take_value.ensures.emptied.1) (record {
+    taking = taking-start (g.P.Partial.bytes c.self.inside.prefix) (stored_value c.self.inside.storage)
         (storage_capacity c.self.inside.storage) (child_entries c.self.inside.storage) c.args.values.now.items _ _
         (rw (← c.self.view_is) at c.requires.canonical)
-        (own-none _ _ (sym c.take.ensures.value ∙ w.in_default.is))
-        c.first_byte-next.ensures;
+        (own-none _ _ (sym c.take_value.ensures.taken ∙ w.in_default.is))
+        (rw c.take_value.ensures.emptied.1 at c.first_byte-next.ensures);
     capacity = refl;
   })
 ]

@@ -4,7 +4,7 @@ use Rattle.rart_keys.specs.SortedMap.{longest_key}
 use Rattle.rart_parts.specs.Entries.{child_at}
 use Rattle.rart_trie.specs.edits.Deletion.{without_child}
 use Rattle.rart_trie.specs.edits.PrefixRemovals.{prefixed_trie}
-use Rattle.rart_trie.specs.storages.Stored.{child_entries, storage_capacity}
+use Rattle.rart_trie.specs.storages.Stored.{child_entries, storage_capacity, stored_value}
 use Rattle.rart_trie.specs.tries.Trie.{pairs_of, prefix_of}
 use Rattle.rart_trie.specs.tries.TrieCode.{as_children, node_count}
 use Rattle.rart_trie.proofs.edits.InsertLemmas.{fewer-within, child-put_back, replaced-same}
@@ -25,7 +25,8 @@ unreachable-requires g t c = continues (g.P.Partial.bytes c.self.inside.prefix) 
 
 pub extend-requires : goal.extend-requires
 extend-requires g t c = prefix-within _ (length (g.P.Partial.bytes c.args.path.now))
-    (g.P.Partial.bytes c.self.inside.prefix) c.self.inside.value (storage_capacity c.self.inside.storage)
+    (g.P.Partial.bytes c.self.inside.prefix) (stored_value c.self.inside.storage) (storage_capacity
+    c.self.inside.storage)
     (as_children (child_entries c.self.inside.storage)) (rw (← c.self.view_is) at c.requires.canonical)
     (rw (← c.self.view_is) at c.requires.within)
 
@@ -62,7 +63,7 @@ take_prefix_below-requires g t c κs within =
 pub returns-then-not-is_below-clause-ok : goal.returns-then-not-is_below-clause-ok
 returns-then-not-is_below-clause-ok g t c =
     let left = rw c.in-Some-seek_child_mut.is at c.seek_child_mut.follows.holds c.take_prefix_below.new.self in
-    on_ok_weaker c.take_prefix_below.result (λ r. rw (← c.self.view_is)
+    on_ok_weaker c.take_prefix_below.result (λ r. rw (← c.self.view_is, left.2)
     (without_prefix-below _ c.args.prefix.now _ _ _ _ _ c.in-Some-seek_child_mut.child.now
     c.take_prefix_below.new.self (child_entries c.self.inside.storage) _
     (rw (← c.self.view_is) at c.requires.canonical) c.in-Some.ensures c.in-Some-first.ensures.value
@@ -74,7 +75,7 @@ returns-then-not-is_below-clause-taken g t c =
     ++ (g.P.Partial.bytes c.self.inside.prefix) = c.extend.ensures in
     on_ok_weaker c.take_prefix_below.result (λ r. r ∙ rw (← c.self.view_is)
     (below-child_part (g.P.Partial.bytes c.args.path.now) (g.P.Partial.bytes c.extend.new.path)
-    (g.P.Partial.bytes c.self.inside.prefix) c.args.prefix.now _ c.self.inside.value
+    (g.P.Partial.bytes c.self.inside.prefix) c.args.prefix.now _ (stored_value c.self.inside.storage)
     (storage_capacity c.self.inside.storage) _
     c.in-Some-seek_child_mut.child.now (child_entries c.self.inside.storage)
     (rw (← c.self.view_is) at c.requires.canonical) c.in-Some.ensures c.in-Some-first.ensures.value
@@ -85,7 +86,7 @@ returns-then-not-is_below-clause-unchanged g t c =
     let left = rw c.in-Some-seek_child_mut.is at c.seek_child_mut.follows.holds c.take_prefix_below.new.self in
     on_err_weaker c.take_prefix_below.result (λ e. rw (← c.self.view_is)
     (child-put_back _ _ _ _ _ c.in-Some-seek_child_mut.child.now c.take_prefix_below.new.self
-    (child_entries c.self.inside.storage) _ c.in-Some-seek_child_mut.ensures.value e left.0 left.1))
+    (child_entries c.self.inside.storage) _ c.in-Some-seek_child_mut.ensures.value e left.0 left.1 left.2))
     c.take_prefix_below.ensures.unchanged
 
 pub returns-then-not-is_below-clause-allocates : goal.returns-then-not-is_below-clause-allocates
@@ -99,7 +100,8 @@ returns-then-not-is_below-clause-allocates g t c = on_err_weaker c.take_prefix_b
 pub returns-in-None-clause-ok : goal.returns-in-None-clause-ok
 returns-in-None-clause-ok g t c =
     let left = c.seek_child_mut.follows.holds-at-none in
-    rw (← c.self.view_is) (without_prefix-absent _ c.args.prefix.now _ _ _ _ _ (child_entries c.self.inside.storage) _
+    rw (← c.self.view_is, left.2) (without_prefix-absent _ c.args.prefix.now _ _ _ _ _
+    (child_entries c.self.inside.storage) _
     (rw (← c.self.view_is) at c.requires.canonical) c.in-Some.ensures c.in-Some-first.ensures.value
     c.in-None.ensures.value left.0 left.1)
 
@@ -150,7 +152,7 @@ returns-clause-ok g t c =
     let left = rw c.in-Some-seek_child_mut.is at c.seek_child_mut.follows.holds c.in-Some-seek_child_mut.child.now in
     on_ok_weaker c.take_whole.result (λ e. ap Some (e ∙ ap (without_child _)
     (child-put_back _ _ _ _ _ c.in-Some-seek_child_mut.child.now c.in-Some-seek_child_mut.child.now
-    (child_entries c.self.inside.storage) _ c.in-Some-seek_child_mut.ensures.value refl left.0 left.1))
+    (child_entries c.self.inside.storage) _ c.in-Some-seek_child_mut.ensures.value refl left.0 left.1 left.2))
     ∙ rw (← c.self.view_is) (without_prefix-taken _ c.args.prefix.now _ _ _ _ c.in-Some-seek_child_mut.child.now
     (child_entries c.self.inside.storage)
     (rw (← c.self.view_is) at c.requires.canonical) c.in-Some.ensures c.in-Some-first.ensures.value
@@ -169,7 +171,7 @@ returns-clause-taken g t c =
     on_ok_weaker c.take_whole.result
     (λ e. e ∙ ap (option_map (prefixed_trie (g.P.Partial.bytes c.extend.new.path))) found
     ∙ rw (← c.self.view_is) (below-taken (g.P.Partial.bytes c.args.path.now) (g.P.Partial.bytes c.extend.new.path)
-    (g.P.Partial.bytes c.self.inside.prefix) c.args.prefix.now _ c.self.inside.value
+    (g.P.Partial.bytes c.self.inside.prefix) c.args.prefix.now _ (stored_value c.self.inside.storage)
     (storage_capacity c.self.inside.storage) _
     c.in-Some-seek_child_mut.child.now (child_entries c.self.inside.storage)
     (rw (← c.self.view_is) at c.requires.canonical) c.in-Some.ensures c.in-Some-first.ensures.value
@@ -181,7 +183,8 @@ returns-clause-unchanged g t c =
     let left = rw c.in-Some-seek_child_mut.is at c.seek_child_mut.follows.holds c.in-Some-seek_child_mut.child.now in
     on_err_weaker c.take_whole.result (λ e. e
     ∙ child-put_back _ _ _ _ _ c.in-Some-seek_child_mut.child.now c.in-Some-seek_child_mut.child.now
-    (child_entries c.self.inside.storage) _ c.in-Some-seek_child_mut.ensures.value refl left.0 left.1 ∙ c.self.view_is)
+    (child_entries c.self.inside.storage) _ c.in-Some-seek_child_mut.ensures.value refl left.0 left.1 left.2
+    ∙ c.self.view_is)
     c.take_whole.ensures.unchanged
 
 pub returns-clause-allocates : goal.returns-clause-allocates

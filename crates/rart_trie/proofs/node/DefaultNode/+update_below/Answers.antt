@@ -2,7 +2,7 @@ use Rattle.std.proofs.Common.{arith, ap, ◌∙◌, sym, ◌≡◌, ◌≢◌, �
 use Rattle.rart_keys.specs.SortedMap.{longest_key}
 use Rattle.rart_trie.specs.declared.slot.SlotUpdate.TheVariants.{Remove}
 use Rattle.rart_trie.specs.edits.Deletion.{is_leaf_at}
-use Rattle.rart_trie.specs.storages.Stored.{child_entries, storage_capacity}
+use Rattle.rart_trie.specs.storages.Stored.{child_entries, storage_capacity, stored_value}
 use Rattle.rart_trie.specs.tries.Trie.{pairs_of, trie_lookup}
 use Rattle.rart_trie.specs.tries.TrieCode.{as_children, node_count}
 use Rattle.rart_trie.specs.edits.Slots.{slot_of}
@@ -26,7 +26,7 @@ use Rattle.rart_trie.proofs.node.DefaultNode.+update_below.Goals as goal
 -- the key leaves the prefix
 key-leaves : (g : Over) (t : ℕ) (c : In_default g t) → trie_lookup c.args.key.now c.args.self.now ≡ None
 key-leaves g t c = rw (← c.self.view_is)
-    (trie_lookup-left _ c.args.key.now c.self.inside.value (storage_capacity c.self.inside.storage)
+    (trie_lookup-left _ c.args.key.now (stored_value c.self.inside.storage) (storage_capacity c.self.inside.storage)
     (as_children (child_entries c.self.inside.storage)) c.in_default.ensures)
 
 pub show_vacant-answer-requires-clause-callable : goal.show_vacant-answer-requires-clause-callable
@@ -50,43 +50,45 @@ returns-in_default g t c = (
 
 -- it ends here
 key-ends : (g : Over) (t : ℕ) (c : In_default-first g t) → trie_lookup c.args.key.now c.args.self.now
-    ≡ c.self.inside.value
-key-ends g t c = rw (← c.self.view_is) (trie_lookup-ended _ c.args.key.now _ c.self.inside.value
+    ≡ (stored_value c.self.inside.storage)
+key-ends g t c = rw (← c.self.view_is) (trie_lookup-ended _ c.args.key.now _ (stored_value c.self.inside.storage)
     (storage_capacity c.self.inside.storage) (as_children (child_entries c.self.inside.storage)) c.in-Some.ensures
     c.in_default-first.ensures.value)
 
 pub show-left-requires : goal.show-left-requires
 show-left-requires g t c = record {
   callable
-      = λ p h. c.requires.callable p (h ∙ ap slot_of (c.take.ensures.value
+      = λ p h. c.requires.callable p (h ∙ ap slot_of (c.take_value.ensures.taken
       ∙ sym (key-ends g t (goal.at.show-left-requires g t c).In_default-first)));
 }
 
 pub apply_here-requires-clause-within : goal.apply_here-requires-clause-within
-apply_here-requires-clause-within g t c =
-    joins-canonical _ _ _ (storage_capacity c.self.inside.storage) _ (rw (← c.self.view_is) at c.requires.canonical)
-    (rw (← c.self.view_is) at c.requires.within)
+apply_here-requires-clause-within g t c = rw c.take_value.ensures.emptied.1
+    (joins-canonical _ _ _ (storage_capacity c.self.inside.storage) _ (rw (← c.self.view_is) at c.requires.canonical)
+    (rw (← c.self.view_is) at c.requires.within))
 
 pub returns-in_default-first : goal.returns-in_default-first
 returns-in_default-first g t c =
     let here = key-ends g t (goal.at.returns-in_default-first g t c).In_default-first in
-    let shown = rw c.take.ensures.value at c.show-left.ensures in
-    let stays : is_some c.show-left.result.left ≡ is_some c.self.inside.value
+    let shown = rw c.take_value.ensures.taken at c.show-left.ensures in
+    let stays : is_some c.show-left.result.left ≡ is_some (stored_value c.self.inside.storage)
     = c.requires.occupancy c.show-left.result.answer c.show-left.result.extra c.show-left.result.left (rw here shown)
     ∙ ap is_some here in (
       c.show-left.result.answer,
       c.show-left.result.left,
       rw here shown,
       rw (← c.self.view_is)
-          (ends-here c.args.full _ c.args.key.now _ c.self.inside.value _ (storage_capacity c.self.inside.storage)
+          (ends-here c.args.full _ c.args.key.now _ (stored_value c.self.inside.storage) _
+          (storage_capacity c.self.inside.storage)
           (child_entries c.self.inside.storage) (rw (← c.self.view_is) at c.requires.canonical) c.in-Some.ensures
           c.in_default-first.ensures.value (rw (← c.self.view_is) at c.requires.not_leaf) c.show-left.result.answer
-          c.show-left.result.left c.apply_here.result c.apply_here.new.self stays c.apply_here.ensures),
+          c.show-left.result.left c.apply_here.result c.apply_here.new.self stays
+          (rw (c.take_value.ensures.emptied.0, c.take_value.ensures.emptied.1) at c.apply_here.ensures)),
     )
 
 -- it continues in a child
 follows : (g : Over) (t : ℕ) (c : In-Some-seek_child_mut g t) → Follows (g.P.Partial.bytes c.self.inside.prefix)
-    c.args.key.now c.in-Some.rest.now c.self.inside.value (storage_capacity c.self.inside.storage)
+    c.args.key.now c.in-Some.rest.now (stored_value c.self.inside.storage) (storage_capacity c.self.inside.storage)
     c.in-Some-first.field-0.now
     c.in-Some-seek_child_mut.child.now (child_entries c.self.inside.storage)
 follows g t c = record {
@@ -109,7 +111,8 @@ update_below-requires g t c κs within =
     let fits_key = rest-within _ _ c.args.key.now _ on.left c.requires.key_within in
     let fits = fewer-within _ (longest_key (pairs_of c.args.self.now))
     (longest_key (pairs_of c.in-Some-seek_child_mut.child.now)) (rw (← c.self.view_is)
-    (entry-short (g.P.Partial.bytes c.self.inside.prefix) c.self.inside.value (storage_capacity c.self.inside.storage) _
+    (entry-short (g.P.Partial.bytes c.self.inside.prefix) (stored_value c.self.inside.storage)
+    (storage_capacity c.self.inside.storage) _
     c.in-Some-seek_child_mut.child.now (child_entries c.self.inside.storage) on.there)) c.requires.within in
     let inner = sym c.is_leaf_at.ensures ∙ c.if-not-is_leaf_at.true in
     let callable = rw down at c.requires.callable in
@@ -127,7 +130,7 @@ returns-then-not-is_leaf_at g t c =
       e.0,
       e.1,
       rw (← c.self.view_is, trie_lookup-child on) e.2,
-      rw (← c.self.view_is) (ends-child on _ _ _ left.0 left.1 c.args.full e.0 e.1 c.update_below.result.0
+      rw (← c.self.view_is, left.2) (ends-child on _ _ _ left.0 left.1 c.args.full e.0 e.1 c.update_below.result.0
           (sym c.is_leaf_at.ensures ∙ c.if-not-is_leaf_at.true) e.3),
     )
 
@@ -164,7 +167,7 @@ returns-in-Some-outcome g t c =
       e.0,
       e.1,
       rw (← c.self.view_is, trie_lookup-child on, leaf-value _ c.in-Some-seek_child_mut.child.now leaf) e.2,
-      rw (← c.self.view_is) (ends-child_ok on _ _ _ left.0 left.1 c.args.full e.0 e.1 c.in-Some-outcome.outcome
+      rw (← c.self.view_is, left.2) (ends-child_ok on _ _ _ left.0 left.1 c.args.full e.0 e.1 c.in-Some-outcome.outcome
           (leaf-done c.args.full _ c.in-Some-seek_child_mut.child.now c.update_leaf.new.self e.0 e.1
           c.in-Some-outcome.outcome leaf done)),
     )
@@ -205,13 +208,14 @@ returns-in-None-outcome g t c =
       e.1,
       rw (← c.self.view_is, trie_lookup-child on, leaf-value _ c.in-Some-seek_child_mut.child.now leaf) e.2,
       rw (← c.self.view_is) (ends-lost on _ _ _ left.0 left.1 c.args.full e.0 e.1 c.remove_leaf.result
-          c.remove_leaf.new.self leaf lost.0 lost.1 lost.2 c.remove_leaf.ensures),
+          c.remove_leaf.new.self leaf lost.0 lost.1 lost.2 (rw left.2 at c.remove_leaf.ensures)),
     )
 
 -- there is no child
 key-absent : (g : Over) (t : ℕ) (c : In-None g t) → trie_lookup c.args.key.now c.args.self.now ≡ None
 key-absent g t c = rw (← c.self.view_is)
-    (trie_lookup-no_child _ c.args.key.now _ _ c.self.inside.value (storage_capacity c.self.inside.storage)
+    (trie_lookup-no_child _ c.args.key.now _ _ (stored_value c.self.inside.storage) (storage_capacity
+    c.self.inside.storage)
     (child_entries c.self.inside.storage) c.in-Some.ensures c.in-Some-first.ensures.value c.in-None.ensures.value)
 
 pub show_vacant-answer-requires-in-None-clause-callable : goal.show_vacant-answer-requires-in-None-clause-callable
@@ -243,5 +247,6 @@ returns-in-None g t c =
       ends-same c.args.full
           c.args.key.now c.show_vacant-answer-in-None.result.0 None c.args.self.now _ c.apply_to_child.result
           (Some c.apply_to_child.new.self) (same-node _ _ _ _ (child_entries c.self.inside.storage) _ left.0 left.1
+          left.2
           ∙ c.self.view_is) (c.apply_to_child.ensures c.args.key.now c.in-Some.ensures),
     )

@@ -7,7 +7,7 @@ build_below-requires-clause-stretch g c = whole-stretch _ c.args.keys.now c.requ
 
 pub returns-clause-keys : goal.returns-clause-keys
 returns-clause-keys g c = rw (c.from_slice.ensures, c.first_part.ensures, ← rests-whole c.args.keys.now)
-    c.in_ok-value.ensures.keys
+    c.in_ok-storage.ensures.keys
 
 pub returns-clause-values : goal.returns-clause-values
-returns-clause-values g c = rw (c.from_slice.ensures, c.first_part.ensures) c.in_ok-value.ensures.values
+returns-clause-values g c = rw (c.from_slice.ensures, c.first_part.ensures) c.in_ok-storage.ensures.values

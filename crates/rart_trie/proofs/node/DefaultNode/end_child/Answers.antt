@@ -1,13 +1,13 @@
 use Rattle.std.proofs.Common.{sym, ◌∙◌}
-use Rattle.rart_trie.specs.storages.Stored.{child_entries, storage_capacity}
+use Rattle.rart_trie.specs.storages.Stored.{child_entries, storage_capacity, stored_value}
 use Rattle.rart_trie.proofs.storages.EndEntries.{first-below, last_child-entries}
 use Rattle.rart_trie.proofs.node.DefaultNode.end_child.Goals as goal
 
-pub returns-else-is_some : goal.returns-else-is_some
-returns-else-is_some g c = rw (← c.self.view_is) (rw c.in-First.is (c.first_child.ensures
-    ∙ sym (first-below (g.P.Partial.bytes c.self.inside.prefix) c.self.inside.value
+pub returns-else-has_value : goal.returns-else-has_value
+returns-else-has_value g c = rw (← c.self.view_is) (rw c.in-First.is (c.first_child.ensures
+    ∙ sym (first-below (g.P.Partial.bytes c.self.inside.prefix) (stored_value c.self.inside.storage)
     (storage_capacity c.self.inside.storage)
-    (child_entries c.self.inside.storage) (sym c.is_some.ensures ∙ c.if-is_some.false))))
+    (child_entries c.self.inside.storage) (sym c.has_value.ensures ∙ c.if-has_value.false))))
 
 pub returns-in-Last : goal.returns-in-Last
 returns-in-Last g c = rw (← c.self.view_is) (rw c.in-Last.is (c.last_child.ensures

@@ -3,19 +3,19 @@ use Rattle.rart_keys.specs.KeyBytes.{IsWithin}
 use Rattle.rart_trie.specs.edits.Deletion.{JoinsWithin}
 use Rattle.rart_trie.specs.tries.Trie.{prefix_of}
 use Rattle.rart_trie.specs.tries.TrieCode.{as_children}
-use Rattle.rart_trie.specs.storages.Stored.{child_entries}
+use Rattle.rart_trie.specs.storages.Stored.{child_entries, stored_value}
 use Rattle.rart_trie.proofs.edits.JoinLemmas.{merge-valued, merge-many, merges, joined-not, joins-only}
 use Rattle.rart_trie.proofs.node.DefaultNode.merge_with_only_child.Goals as goal
-use Rattle.rart_trie.proofs.node.DefaultNode.merge_with_only_child.Goals.{then-is_some-via-then-is_some}
+use Rattle.rart_trie.proofs.node.DefaultNode.merge_with_only_child.Goals.{then-has_value-via-then-has_value}
 use Rattle.rart_trie.proofs.node.DefaultNode.merge_with_only_child.Goals.{
-  then-is_some-via-else-is_some+then-num_children-ne1,
+  then-has_value-via-else-has_value+then-num_children-ne1,
 }
 
-pub returns-then-is_some : goal.returns-then-is_some
-returns-then-is_some g c = elim c.then-is_some.branch [
-  | then-is_some-via-then-is_some w ↦ rw (← c.self.view_is)
-      (joined-not _ _ _ _ (merge-valued _ _ (sym c.is_some.ensures ∙ w.if-is_some.true)))
-  | then-is_some-via-else-is_some+then-num_children-ne1 w
+pub returns-then-has_value : goal.returns-then-has_value
+returns-then-has_value g c = elim c.then-has_value.branch [
+  | then-has_value-via-then-has_value w ↦ rw (← c.self.view_is)
+      (joined-not _ _ _ _ (merge-valued _ _ (sym c.has_value.ensures ∙ w.if-has_value.true)))
+  | then-has_value-via-else-has_value+then-num_children-ne1 w
       ↦ rw (← c.self.view_is) (joined-not _ _ _ _
       (merge-many _ (child_entries c.self.inside.storage) (λ e. w.if-num_children-ne1.true (w.num_children.ensures
       ∙ e))))
@@ -24,7 +24,8 @@ returns-then-is_some g c = elim c.then-is_some.branch [
 pub take_only_child-byte-requires-clause-capacity : goal.take_only_child-byte-requires-clause-capacity
 take_only_child-byte-requires-clause-capacity g c
     = (rw (← c.self.view_is) at c.requires.capacity)
-    (merges c.self.inside.value (child_entries c.self.inside.storage) (sym c.is_some.ensures ∙ c.if-is_some.false)
+    (merges (stored_value c.self.inside.storage) (child_entries c.self.inside.storage) (sym c.has_value.ensures
+    ∙ c.if-has_value.false)
     (sym c.num_children.ensures ∙ c.if-num_children-ne1.false))
 
 pub partial_extended_with-requires : goal.partial_extended_with-requires

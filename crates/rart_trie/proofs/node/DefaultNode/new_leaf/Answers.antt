@@ -1,8 +1,10 @@
-use Rattle.rart_trie.proofs.edits.InsertLemmas.{leaf-is, leaf-canonical, leaf-pairs}
+use Rattle.std.proofs.Common.{refl}
+use Rattle.rart_trie.specs.tries.Trie.{leaf}
+use Rattle.rart_trie.proofs.edits.InsertLemmas.{leaf-canonical, leaf-pairs}
 use Rattle.rart_trie.proofs.node.DefaultNode.new_leaf.Goals as goal
 
 pub returns : goal.returns
 returns g c =
-    let e = leaf-is (g.P.Partial.bytes c.args.prefix) c.args.value _ _ c.empty.ensures.capacity c.empty.ensures.entries
-    in
-    record { leaf = e; canonical = leaf-canonical _ _ _ e; pairs = leaf-pairs _ _ _ e }
+    let bytes = g.P.Partial.bytes c.args.prefix in
+    let made = leaf bytes c.args.value in
+    record { leaf = refl; canonical = leaf-canonical made bytes _ refl; pairs = leaf-pairs made bytes _ refl }

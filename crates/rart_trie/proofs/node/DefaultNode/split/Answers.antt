@@ -1,6 +1,6 @@
 use Rattle.std.proofs.Common.{ap, ◌∙◌, refl, sym, arith}
 use Rattle.std.proofs.lemmas.List.{length-drop}
-use Rattle.rart_trie.specs.storages.Stored.{child_entries, storage_capacity}
+use Rattle.rart_trie.specs.storages.Stored.{child_entries, storage_capacity, stored_value}
 use Rattle.rart_trie.proofs.storages.ChildLemmas.{child_at-beside}
 use Rattle.rart_trie.proofs.edits.Descent.{first, first-differ}
 use Rattle.rart_trie.proofs.tries.PrefixedStrings.{slice_from-is}
@@ -25,14 +25,15 @@ returns-then-key-shared-clause-ok g c = rw (← c.self.view_is)
     c.prefix_length_slice-shared.ensures.value
     (parts-within _ c.args.key.now _ c.prefix_length_slice-shared.ensures.value
     (rw (← c.self.view_is) at c.requires.leaves)) c.if-key-shared.true c.partial_before-head.ensures
-    c.partial_after-low.ensures c.replace.ensures.after
-    (c.add_within.ensures.capacity ∙ ap storage_capacity c.replace-storage.ensures.after ∙ c.in-Ok.ensures.capacity)
+    c.partial_after-low.ensures c.fill_value.ensures.2
+    (c.fill_value.ensures.0 ∙ c.add_within.ensures.capacity ∙ ap storage_capacity c.replace-storage.ensures.after
+    ∙ c.in-Ok.ensures.capacity)
     (rw (
+      c.fill_value.ensures.1,
       c.add_within.ensures.entries,
       c.replace-storage.ensures.after,
       c.in-Ok.ensures.entries,
       c.replace-storage.ensures.value,
-      c.replace.ensures.value,
       c.at-low_byte.ensures,
     ) refl))
 
@@ -44,26 +45,26 @@ returns-clause-ok g c = rw (← c.self.view_is)
     (parts-within _ c.args.key.now _ c.prefix_length_slice-shared.ensures.value
     (rw (← c.self.view_is) at c.requires.leaves)) c.if-key-shared.false c.partial_before-head.ensures
     c.partial_after-low.ensures (slice_from-is c.args.key.now c.prefix_length_slice-shared.result)
-    c.take.ensures.after
-    (c.add_within-3.ensures.capacity ∙ c.add_within-2.ensures.capacity ∙ ap storage_capacity
+    (c.add_within-2.ensures.value ∙ c.add_within.ensures.value ∙ ap stored_value c.replace-storage.ensures.after
+    ∙ c.in-Ok.ensures.value)
+    (c.add_within-2.ensures.capacity ∙ c.add_within.ensures.capacity ∙ ap storage_capacity
     c.replace-storage.ensures.after
     ∙ c.in-Ok.ensures.capacity)
     (rw (
-      c.add_within-3.ensures.entries,
       c.add_within-2.ensures.entries,
+      c.add_within.ensures.entries,
       c.replace-storage.ensures.after,
       c.in-Ok.ensures.entries,
       c.replace-storage.ensures.value,
-      c.take.ensures.value,
       c.at-low_byte.ensures,
       c.new_leaf-leaf.ensures.leaf,
       c.from_slice.ensures,
     ) refl))
 
-pub add_within-requires-3-clause-absent : goal.add_within-requires-3-clause-absent
-add_within-requires-3-clause-absent g c = child_at-beside c.at-low_byte.result _ _
-    (child_entries c.add_within-2.new.self)
-    (rw (c.replace-storage.ensures.after, c.in-Ok.ensures.entries) at c.add_within-2.ensures.entries)
+pub add_within-requires-2-clause-absent : goal.add_within-requires-2-clause-absent
+add_within-requires-2-clause-absent g c = child_at-beside c.at-low_byte.result _ _
+    (child_entries c.add_within.new.self)
+    (rw (c.replace-storage.ensures.after, c.in-Ok.ensures.entries) at c.add_within.ensures.entries)
     (λ s. first-differ _ c.args.key.now c.prefix_length_slice-shared.result c.prefix_length_slice-shared.ensures.value
     (parts-within _ c.args.key.now _ c.prefix_length_slice-shared.ensures.value
     (rw (← c.self.view_is) at c.requires.leaves)) c.if-key-shared.false

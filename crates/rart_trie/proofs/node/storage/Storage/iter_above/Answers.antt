@@ -1,8 +1,5 @@
 use Rattle.rart_trie.proofs.node.storage.Storage.iter_above.Goals as goal
 
-pub returns-in-Leaf-clause-ascending : goal.returns-in-Leaf-clause-ascending
-returns-in-Leaf-clause-ascending g c = rw c.in-Leaf.is tt
-
 pub returns-in-Node4-clause-ascending : goal.returns-in-Node4-clause-ascending
 returns-in-Node4-clause-ascending g c = rw c.in-Node4.is
     (rw c.deref.ensures at c.iter_above.ensures.ascending)
