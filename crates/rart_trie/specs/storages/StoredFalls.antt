@@ -1,5 +1,5 @@
 -- Each child has fewer nodes than its parent.
-use Rattle.std.specs.Prelude.{◌≡◌, ℕ, ◌+◌, ◌≤◌, max, Bool, true, false, nat_lt, List, [], ◌∷◌, Option, if◌then◌else◌}
+use Rattle.std.specs.Prelude.{◌≡◌, ℕ, ◌+◌, ◌≤◌, max, Bool, true, false, nat_lt, List, [], ◌∷◌, if◌then◌else◌}
 use Rattle.std.proofs.Common.{arith, refl}
 use denote.Param.Weighed.{most}
 use Rattle.rart_keys.specs.declared.partials.Partial.{Ghosts}

@@ -14,7 +14,7 @@ add_node-requires g t c = omega (
   ap node_count c.self.view_is,
   c.num_children-children.ensures,
   own-free (g.P.Partial.bytes c.self.inside.prefix) (stored_value c.self.inside.storage)
-  (storage_capacity c.self.inside.storage)
+      (storage_capacity c.self.inside.storage)
       (child_entries c.self.inside.storage),
 )
 

@@ -5,8 +5,8 @@ use Rattle.rart_keys.specs.KeyBytes.{IsWithin}
 use Rattle.rart_keys.specs.SortedMap.{longest_key}
 use Rattle.rart_trie.specs.edits.Deletion.{merged_if_needed, without_child}
 use Rattle.rart_trie.specs.storages.Stored.{child_entries, storage_capacity, stored_value}
-use Rattle.rart_trie.specs.tries.Trie.{node, pairs_of, edges_of, children_in, no_children, prefix_of, value_of}
-use Rattle.rart_trie.specs.tries.TrieCode.{as_children, node_count}
+use Rattle.rart_trie.specs.tries.Trie.{pairs_of, edges_of, children_in, no_children, prefix_of, value_of}
+use Rattle.rart_trie.specs.tries.TrieCode.{node_count}
 use Rattle.rart_trie.proofs.edits.InsertLemmas.{fewer-within, child-put_back, replaced-same}
 use Rattle.rart_trie.proofs.edits.JoinLemmas.{some-there}
 use Rattle.rart_trie.proofs.edits.JoinedLengths.{joins-canonical}

@@ -93,7 +93,7 @@ returns-in-Err-reserve_slot-clause-refused g t c =
     let left = c.seek_child_mut.follows.holds-at-none in
     rw (← c.self.view_is) (
       put_allocation-full _ c.args.key.now _ (stored_value c.self.inside.storage) (storage_capacity
-      c.self.inside.storage) _ _
+          c.self.inside.storage) _ _
           (child_entries c.self.inside.storage) _ c.in-Some.ensures c.in-Some-first.ensures.value
           c.in_default-seek_child_mut.ensures.value
           left.0 left.1 c.in-Err-reserve_slot.ensures.allocates,

@@ -2,8 +2,8 @@ use Rattle.std.proofs.Common.{ℕ, arith, ap, ◌∙◌, sym, refl, Some, None, 
 use Rattle.rart_keys.specs.SortedMap.{longest_key}
 use Rattle.rart_trie.specs.edits.Deletion.{merged_if_needed, without_child}
 use Rattle.rart_trie.specs.storages.Stored.{child_entries, storage_capacity, stored_value}
-use Rattle.rart_trie.specs.tries.Trie.{node, pairs_of, value_of}
-use Rattle.rart_trie.specs.tries.TrieCode.{as_children, node_count}
+use Rattle.rart_trie.specs.tries.Trie.{pairs_of, value_of}
+use Rattle.rart_trie.specs.tries.TrieCode.{node_count}
 use Rattle.rart_trie.proofs.storages.ChildLemmas.{canonical-found, count-found}
 use Rattle.rart_trie.proofs.edits.EditRunLemmas.{remove-absent}
 use Rattle.rart_trie.proofs.edits.InsertLemmas.{fewer-within, child-put_back, replaced-same}

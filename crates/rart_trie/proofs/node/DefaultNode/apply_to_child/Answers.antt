@@ -23,7 +23,7 @@ add_leaf-requires-clause-absent g c = ap (child_at _) c.in-Ok.ensures.entries
 pub returns-in-Ok : goal.returns-in-Ok
 returns-in-Ok g c = λ key h. rw c.in-Insert.is (
   ap Some (rw (← c.self.view_is, c.add_leaf.ensures.value, c.in-Ok.ensures.value) (put-beside _ key _
-  c.in-Insert.value _ _ _ _ (child_entries c.self.inside.storage) _
+      c.in-Insert.value _ _ _ _ (child_entries c.self.inside.storage) _
       (rw (← c.self.view_is) at c.requires.canonical) (rw (← c.self.view_is) at h) c.requires.first_byte
       (sym (none-at c.args.byte (child_entries c.self.inside.storage) (rw (← c.self.view_is) at c.requires.absent)))
       (c.add_leaf.ensures.capacity ∙ c.in-Ok.ensures.capacity)
@@ -38,7 +38,7 @@ returns-in-Err g c = λ key h.
     let none = sym (none-at c.args.byte (child_entries c.self.inside.storage) (rw
     (← c.self.view_is) at c.requires.absent)) in
     let allocates : PutAllocates key (Some (node (g.P.Partial.bytes c.self.inside.prefix)
-        (stored_value c.self.inside.storage)
+    (stored_value c.self.inside.storage)
     (storage_capacity c.self.inside.storage) (as_children (child_entries c.self.inside.storage)))) = (
       put_allocation-full (g.P.Partial.bytes c.self.inside.prefix) key _ (stored_value c.self.inside.storage)
           (storage_capacity c.self.inside.storage)

@@ -1,5 +1,5 @@
-use Rattle.std.proofs.Common.{ap, ◌∙◌, sym, arith}
-use Rattle.rart_parts.specs.Entries.{without_byte, sorted_entries}
+use Rattle.std.proofs.Common.{◌∙◌, sym, arith}
+use Rattle.rart_parts.specs.Entries.{sorted_entries}
 use Rattle.rart_trie.specs.storages.Stored.{child_entries, storage_capacity}
 use Rattle.rart_trie.proofs.storages.DeletionLemmas.{few-left, none-left, capacity-kept, capacity-given}
 use Rattle.rart_trie.proofs.node.storage.Storage.delete_child.Goals as goal
