@@ -1,15 +1,16 @@
 //! A map from bytes to children with inline sorted keys, which a contract reads as its ascending entries.
 
+mod search;
+
 ghost use Rattle.std.specs.Prelude.{◌≡◌, ℕ, [], ◌∷◌, IfSome, Some, ◌++◌, ◌<◌, ◌≤◌, length, IfErr, IfOk, OnOk, OnErr};
 ghost use Rattle.std.specs.Prelude.{MatchOption};
 ghost use Rattle.std.specs.Iterator.{UpTo, YieldsFirst, YieldsFirstBy, item_count};
 ghost use Rattle.std.specs.Iterator.SizeHint.{IsWithinCount};
 ghost use Rattle.rart_parts.specs.Entries.{BytesAscend, sorted_entries, entries_above};
 ghost use Rattle.rart_parts.specs.Errors.{IsMemory};
-ghost use Rattle.rart_parts.specs.Keys.{IsAscendingBelow, IsFirstAbove, IsPlaceOf};
-ghost use Rattle.rart_parts.specs.SortedKeyed.{IsPadded};
 
 use crate::error::TreeError;
+use crate::mapping::sorted_keyed_mapping::search::{first_above, goes_last, place_of};
 use crate::mapping::{IndexedMapping, NodeMapping};
 use crate::utils::bitset::BitsetTrait;
 use crate::utils::u8_keys::keys_are_bytes;
@@ -187,6 +188,12 @@ impl<N, const W: usize> NodeMapping<N, W> for SortedKeyedMapping<N, W> {
 
     fn add_child(&mut self, key: u8, node: N) {
         let count = self.children.len();
+        // Bulk loads and sorted insertions add each child so.
+        if goes_last(key, &self.keys, count) {
+            self.keys[count] = key;
+            self.children.push_reserved(node);
+            return;
+        }
         let at = first_above(key, &self.keys, count);
         self.keys.copy_within(at..count, at + 1);
         self.keys[at] = key;
@@ -236,39 +243,6 @@ impl<N, const W: usize> SortedKeyedMapping<N, W> {
         } = self;
         children.destroy_empty();
     }
-}
-
-// The place of a key among the first `count`, which ascend, where the others are 255.
-fn place_of<const W: usize>(key: u8, keys: &[u8; W], count: usize) -> Option<usize>
-    requires at_most { count ≤ W }
-    requires ascending { IsAscendingBelow keys.now count }
-    requires padded { IsPadded keys.now count W }
-    ensures { IsPlaceOf keys.now count key result }
-{
-    let above = first_above(key, keys, count);
-    if above > 0 && keys[above - 1] == key {
-        Some(above - 1)
-    } else {
-        None
-    }
-}
-
-// The first place among the first `count` keys, which ascend, whose key is above; `count` where there is none. The
-// other keys are 255, so it is found without a branch: as many keys of all are not above.
-fn first_above<const W: usize>(key: u8, keys: &[u8; W], count: usize) -> usize
-    requires at_most { count ≤ W }
-    requires ascending { IsAscendingBelow keys.now count }
-    requires padded { IsPadded keys.now count W }
-    ensures { IsFirstAbove keys.now count key result }
-{
-    keys_are_bytes(keys);
-    let mut place = 0;
-    for i in 0..W {
-        if keys[i] <= key {
-            place += 1;
-        }
-    }
-    if place < count { place } else { count }
 }
 
 /// Iterates over the children with their bytes, ascending. A contract reads it as the list of remaining items.
