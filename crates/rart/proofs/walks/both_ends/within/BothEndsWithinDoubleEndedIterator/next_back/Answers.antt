@@ -1,6 +1,6 @@
 use Rattle.std.proofs.Common.{◌∙◌, length, sym, ap, arith}
 use Rattle.rart.proofs.ends.PartEndLemmas.{back-step, unlike}
-use Rattle.rart.proofs.both_ends.within.BothEndsWithinDoubleEndedIterator.next_back.Goals as goal
+use Rattle.rart.proofs.walks.both_ends.within.BothEndsWithinDoubleEndedIterator.next_back.Goals as goal
 
 pub invariant_of-self-2 : goal.invariant_of-self-2
 invariant_of-self-2 g c = let w = rw (← c.in-Active.ensures.value) at c.self.invariant in

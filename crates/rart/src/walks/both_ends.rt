@@ -7,8 +7,8 @@ ghost use Rattle.rart_trie.specs.walks.Calls.{MayLackMemory};
 mod values;
 mod within;
 
-pub use crate::both_ends::values::ValuesBothEnds;
-pub use crate::both_ends::within::BothEndsWithin;
+pub use self::values::ValuesBothEnds;
+pub use self::within::BothEndsWithin;
 use crate::tree::AdaptiveRadixTree;
 use rart_keys::KeyTrait;
 use rart_nodes::iter::{Descending, Iter};

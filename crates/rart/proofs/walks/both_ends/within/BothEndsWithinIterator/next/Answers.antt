@@ -1,5 +1,5 @@
 use Rattle.rart.proofs.ends.PartEndLemmas.{front-step, unlike}
-use Rattle.rart.proofs.both_ends.within.BothEndsWithinIterator.next.Goals as goal
+use Rattle.rart.proofs.walks.both_ends.within.BothEndsWithinIterator.next.Goals as goal
 
 pub invariant_of-self-2 : goal.invariant_of-self-2
 invariant_of-self-2 g c = let w = rw (← c.in-Active.ensures.value) at c.self.invariant in

@@ -1,6 +1,6 @@
 use Rattle.std.proofs.Common.{◌-◌, arith}
 use Rattle.rart.proofs.ends.BothEndLemmas.{back-step}
-use Rattle.rart.proofs.both_ends.BothEndsDoubleEndedIterator.next_back.Goals as goal
+use Rattle.rart.proofs.walks.both_ends.BothEndsDoubleEndedIterator.next_back.Goals as goal
 
 pub invariant_of-self : goal.invariant_of-self
 invariant_of-self g c = (back-step _ _ _ _ _ _ c.self.invariant c.in-Some.ensures.steps

@@ -35,7 +35,7 @@ struct Back<'a, K: KeyTrait, V> {
 impl<'a, K: KeyTrait, V> Model for Back<'a, K, V> {
     ghost use Rattle.std.specs.Prelude.{ℕ, List};
     ghost use Rattle.rart_nodes.specs.ranges.UpperBounds.{down_to};
-    ghost use Rattle.rart.specs.declared.both_ends.within.BackWalk.TheVariants.{Bounds, Prefix};
+    ghost use Rattle.rart.specs.declared.walks.both_ends.within.BackWalk.TheVariants.{Bounds, Prefix};
 
     ghost Value = { List (List ℕ × V) };
 
@@ -77,7 +77,7 @@ impl<'a, K: KeyTrait, V> Model for BothEndsWithin<'a, K, V> {
     ghost use Rattle.std.specs.Prelude.{ℕ, List, [], ◌∷◌};
     ghost use Rattle.rart_keys.specs.Ranges.{up_to};
     ghost use Rattle.rart.specs.BothEnds.{AreBetween, through};
-    ghost use Rattle.rart.specs.declared.both_ends.within.Ends.TheVariants.{Active, Done};
+    ghost use Rattle.rart.specs.declared.walks.both_ends.within.Ends.TheVariants.{Active, Done};
 
     ghost Value = { List (List ℕ × V) };
 

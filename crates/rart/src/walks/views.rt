@@ -1,9 +1,4 @@
 //! Walks that lend each key in segments, cut at the branch points: no byte of a key is copied.
-
-// Each call requires that its callback is callable with each item in turn, as the earlier calls leave it. A callback
-// without a condition always is. The caller of a `_by_ref` form keeps its callback, in the state that the last call
-// left.
-
 ghost use Rattle.std.specs.Prelude.{◌≡◌, IfErr, IfOk, OnErr, OnOk};
 ghost use Rattle.rart_keys.specs.Filters.{longest_match};
 ghost use Rattle.rart_keys.specs.Ranges.{bound_in};

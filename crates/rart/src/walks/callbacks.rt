@@ -1,10 +1,4 @@
 //! Walks that call a callback: with the keys that begin a probe, and with the values of the keys with a prefix.
-
-// Each call requires that its callback is callable with each item in turn, as the earlier calls leave it. A callback
-// without a condition always is; the caller proves a condition. The caller of a `_by_ref` form keeps its callback, in
-// the state that the last call left, but a proof knows nothing of what a closure borrows. To count or to collect use
-// the fold, which returns its state.
-
 ghost use Rattle.std.specs.Prelude.{◌≡◌, IfErr, IfOk, OnErr, OnOk};
 ghost use Rattle.rart_keys.specs.Filters.{matches};
 ghost use Rattle.rart_trie.specs.walks.BelowPrefix.{values_below};

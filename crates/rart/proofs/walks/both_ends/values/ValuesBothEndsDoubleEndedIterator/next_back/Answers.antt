@@ -1,7 +1,7 @@
 use Rattle.std.proofs.Common.{◌-◌, ap, arith}
 use Rattle.rart_keys.specs.SortedMap.{values_of}
 use Rattle.rart.proofs.ends.BothEndLemmas.{back-step}
-use Rattle.rart.proofs.both_ends.values.ValuesBothEndsDoubleEndedIterator.next_back.Goals as goal
+use Rattle.rart.proofs.walks.both_ends.values.ValuesBothEndsDoubleEndedIterator.next_back.Goals as goal
 
 pub invariant_of-self : goal.invariant_of-self
 invariant_of-self g c = (back-step _ _ _ _ _ _ c.self.invariant (ap values_of c.in-Some.ensures.steps)
