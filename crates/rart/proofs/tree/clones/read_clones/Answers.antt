@@ -1,7 +1,8 @@
-use Rattle.std.proofs.Common.{◌≡◌, ◌∙◌, [], ◌∷◌, ◌++◌, ℕ, List, ap, append_assoc, arith, length, map, sym}
-use Rattle.std.proofs.lemmas.List.{append-nil, length-map, map-append}
+use Rattle.std.proofs.Common.{◌≡◌, ◌∙◌, [], ◌∷◌, ◌++◌, ℕ, List, ap, append_assoc, arith, map, sym}
+use Rattle.std.proofs.lemmas.List.{append-nil, map-append}
 use Rattle.std.specs.List.{AllZip}
 use Rattle.rart_keys.specs.SortedMap.{keys_of, values_of}
+use Rattle.rart.proofs.bulks.BulkTreeLemmas.{keys-count}
 use Rattle.rart.proofs.bulks.CopyLemmas.{copied-all, copied-more, left-shorter, room-begins, room-for-next, room-stays}
 use Rattle.rart.proofs.tree.clones.read_clones.Goals as goal
 
@@ -53,14 +54,7 @@ returns-clause-keys g c = sym (copied-all _ _ _ (sym c.loop-key.invariant.keys)
     (ap keys_of c.in_default-next.ensures.steps.0))
 
 pub returns-clause-at_most : goal.returns-clause-at_most
-returns-clause-at_most g c = omega (
-  arith,
-  ap length (returns-clause-keys g c),
-  length-map c.args.old.now.pairs (λ e. e.0),
-  length-map c.loop-key.keys.items g.K.KeyTrait.bytes,
-  c.len.ensures.value,
-  c.len.ensures.at_most,
-)
+returns-clause-at_most g c = let len = c.len.ensures in omega (arith, keys-count _ _ _ (returns-clause-keys g c))
 
 pub returns-clause-values : goal.returns-clause-values
 returns-clause-values g c =

@@ -3,7 +3,7 @@ use Rattle.std.proofs.lemmas.List.{length-map}
 use Rattle.rart_keys.specs.ArrayKeyBytes.{array_key_bytes}
 use Rattle.rart_keys.specs.SortedMap.{keys_of, values_of}
 use Rattle.rart.specs.Migrations.{terminated_key}
-use Rattle.rart.proofs.bulks.MigrateLemmas.{texts-more}
+use Rattle.rart.proofs.bulks.MigrateLemmas.{texts-count, texts-more}
 use Rattle.rart.proofs.bulks.CopyLemmas.{copied-all, copied-more, left-shorter, room-begins, room-for-next, room-stays}
 use Rattle.rart.proofs.tree.bulk.migrate.read_texts.Goals as goal
 
@@ -60,14 +60,4 @@ returns-clause-values g c = copied-all _ _ _ c.loop-key.invariant.values
     (ap values_of c.in_default-next.ensures.steps.0)
 
 pub returns-clause-at_most : goal.returns-clause-at_most
-returns-clause-at_most g c =
-    let keys = c.loop-key.keys.items in
-    omega (
-      arith,
-      ap length (returns-clause-keys g c),
-      length-map c.args.old.now.pairs (λ e. e.0),
-      length-map (map array_key_bytes keys) terminated_key,
-      length-map keys array_key_bytes,
-      c.len.ensures.value,
-      c.len.ensures.at_most,
-    )
+returns-clause-at_most g c = let len = c.len.ensures in omega (arith, texts-count _ _ _ (returns-clause-keys g c))
