@@ -108,11 +108,14 @@ IsAttempt {F} {E} {V} sure g f s r (Failed e) s' = (r ≡ Keep) × (s' ≡ s)
 IsAttempt {F} {E} {V} sure g f s r (Answered o) s' = FnOnceReturnsAtMut g f s (Ok r) s' × (slot_of o ≡ s)
 
 -- an update by such an attempt, of what is stored at the key
-abbrev pub Attempts : {F E V : Type 0} → (V → Type 0)
-    → Once F (MutBor (Slot V) × Unit {0}) (Result (SlotUpdate V) E × (MutBor (Slot V) × Unit {0})) → F → List ℕ
-    → List (List ℕ × V) → CallbackOutcome V E → Result (Outcome V) (UpdateError V) → List (List ℕ × V) → Type 0
-Attempts {F} {E} {V} sure g f key old outcome result new = (r : SlotUpdate V) × (w : Option V)
-    × IsAttempt sure g f (slot_of (lookup key old)) r outcome (slot_of w) × EndsIn key r w old result new
+pub record Attempts {F E V : Type 0} (sure : V → Type 0)
+    (g : Once F (MutBor (Slot V) × Unit {0}) (Result (SlotUpdate V) E × (MutBor (Slot V) × Unit {0}))) (f : F)
+    (key : List ℕ) (old : List (List ℕ × V)) (outcome : CallbackOutcome V E)
+    (result : Result (Outcome V) (UpdateError V)) (new : List (List ℕ × V)) : Type 0 where
+  pub request : SlotUpdate V
+  pub left : Option V
+  pub attempt : IsAttempt sure g f (slot_of (lookup key old)) request outcome (slot_of left)
+  pub ends : EndsIn key request left old result new
 
 -- what a callback leaves that writes this value where the slot is occupied
 abbrev pub written_slot : {V : Type 0} → Option V → Slot V → Slot V

@@ -8,35 +8,32 @@
 //! law that makes several calls says which state remains if one of them fails.
 #![tactic(auto)]
 
-mod both_ends;
 mod bulk;
-mod callbacks;
-mod descending;
 mod error;
-pub mod iter;
 pub mod laws;
 mod migrate;
-mod prefixes;
-pub mod range;
 pub mod routes;
 pub mod script;
 pub mod stats;
 pub mod tree;
-mod views;
+mod walks;
 
-pub use crate::both_ends::{BothEnds, BothEndsWithin, ValuesBothEnds};
 pub use crate::bulk::BulkError;
-pub use crate::descending::{Descending, RangeDescending, SeenDescending, SeenRangeDescending};
 pub use crate::error::Error;
-pub use crate::iter::{Iter, PrefixMatchIter, SeenIter, ValuesIter};
 pub use crate::migrate::MigrateError;
-pub use crate::range::{Range, SeenRange};
 pub use crate::routes::RouteTable;
 pub use crate::stats::{NodeStats, TreeStats, TreeStatsTrait};
 pub use crate::tree::AdaptiveRadixTree;
 pub use crate::tree::into_pairs::IntoPairs;
 pub use crate::tree::try_insert::TryInsertError;
 pub use crate::tree::update::TryUpdateError;
+pub use crate::walks::both_ends::{BothEnds, BothEndsWithin, ValuesBothEnds};
+pub use crate::walks::descending::{
+    Descending, RangeDescending, SeenDescending, SeenRangeDescending,
+};
+pub use crate::walks::iter::{Iter, PrefixMatchIter, SeenIter, ValuesIter};
+pub use crate::walks::range::{Range, SeenRange};
+pub use crate::walks::{iter, range};
 pub use rart_keys::{ArrPartial, ArrayKey, KeyTrait, Partial, keys, partials};
 pub use rart_nodes::node::{VisitControl, VisitError};
 pub use rart_nodes::{

@@ -24,10 +24,10 @@ mod equal;
 mod extend;
 mod walks;
 
-use crate::both_ends::BothEnds;
 use crate::stats::{TreeStats, TreeStatsTrait};
 use crate::tree::AdaptiveRadixTree;
 use crate::tree::try_insert::TryInsertError;
+use crate::walks::both_ends::BothEnds;
 use rart_keys::KeyTrait;
 use rart_nodes::iter::Iter;
 use rart_nodes::{NotInserted, Refused, Seen};

@@ -16,11 +16,13 @@ use rart_parts::TreeError;
 use std::alloc::Global;
 
 mod call;
+mod copies;
 mod probe;
 mod range;
 mod reply;
 
 pub use self::call::Call;
+use self::copies::copied_pairs;
 use self::probe::{reply_to_longest, reply_to_matches, reply_to_prefix};
 use self::range::reply_to_range;
 pub use self::reply::Reply;
@@ -206,7 +208,7 @@ fn reply_to_iter<K: KeyTrait + Drop, V: Copy>(
 ) -> Reply<K, V>
     ensures { IsStep V.is_infallible K.bytes tree.now.pairs Call.Iter result tree.now.pairs }
 {
-    match copied_pairs(alloc, tree) {
+    match copied_tree(alloc, tree) {
         Ok(pairs) => Reply::Pairs(pairs),
         Err(error) => Reply::Refused(error),
     }
@@ -235,21 +237,15 @@ fn reply_to_stats<K: KeyTrait + Drop, V: Copy>(tree: &AdaptiveRadixTree<K, V>) -
 }
 
 /// Returns the pairs of a tree. Allocates before the first is copied.
-fn copied_pairs<K: KeyTrait + Drop, V: Copy>(
+fn copied_tree<K: KeyTrait + Drop, V: Copy>(
     alloc: Global,
     tree: &AdaptiveRadixTree<K, V>,
 ) -> Result<Vec<(K, V)>, TreeError>
     ensures pairs { IfOk result (λ pairs. pairs_in K.bytes pairs.items ≡ tree.now.pairs) }
     ensures memory { IfErr result (MayLackMemory tree.now.pairs) }
 {
-    let mut pairs = Vec::with_capacity(alloc, tree.len())?;
-    let mut rest = tree.iter()?;
-    while let Some((key, value)) = rest.next() {
-        let Ok(()) = pairs.push((key, *value)) else {
-            unreachable!()
-        };
-    }
-    Ok(pairs)
+    let pairs = Vec::with_capacity(alloc, tree.len())?;
+    copied_pairs(pairs, tree.iter()?)
 }
 
 /// Returns the values of a tree. Allocates before the first is copied.
@@ -263,9 +259,7 @@ fn copied_values<K: KeyTrait + Drop, V: Copy>(
     let mut values = Vec::with_capacity(alloc, tree.len())?;
     let mut rest = tree.values_iter()?;
     while let Some(value) = rest.next() {
-        let Ok(()) = values.push(*value) else {
-            unreachable!()
-        };
+        values.push_reserved(*value);
     }
     Ok(values)
 }
@@ -294,9 +288,7 @@ pub fn run<K: KeyTrait + Drop, V: Copy>(
     tree.canonical();
     let mut replies = Vec::with_capacity(alloc, calls.len())?;
     for call in calls {
-        let Ok(()) = replies.push(step(alloc, tree, call)) else {
-            unreachable!()
-        };
+        replies.push_reserved(step(alloc, tree, call));
     }
     tree.canonical();
     Ok(replies)

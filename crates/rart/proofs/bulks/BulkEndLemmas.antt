@@ -1,5 +1,5 @@
 -- What a bulk load answers, once its items were read.
-use Rattle.std.proofs.Common.{◌≡◌, ℕ, ◌<◌, ◌≤◌, List, [], ◌∷◌, length, map, sym, ap, ◌∙◌, arith, Option, None, Result}
+use Rattle.std.proofs.Common.{◌≡◌, ◌≢◌, ℕ, ◌<◌, ◌≤◌, List, [], ◌∷◌, length, map, sym, ap, ◌∙◌, arith, Option, None, Result}
 use Rattle.std.proofs.Common.{Ok, Err}
 use Rattle.std.specs.Prelude.{IfOk, IfErr, OnErr}
 use Rattle.std.specs.Iterator.{HoldsAlong}
@@ -55,45 +55,21 @@ module _ {U S K V : Type 0} (becomes : U → S → Type 0) (steps : S → Option
         → IfOk r (λ t. ReadsAll becomes steps items (λ xs. (first_fault (pairs_in bytes xs) ≡ None)
         × (pairs t ≡ last_wins (pairs_in bytes xs))))
     sorted-loaded pairs (Err e) k v = tt
-    sorted-loaded pairs (Ok t) k v = (
-      read.0,
-      read.1,
-      read.2,
-      read.3,
-      (
-        read.4.faultless,
-        same-pairs (pairs t) (last_wins (pairs_in bytes read.1)) (k ∙ read.4.keys) (v
-            ∙ read.4.values),
-      ),
-    )
-
-    sorted-some : 0 < length keys → pairs_in bytes read.1 ≡ [] → ⊥
-    sorted-some some e = omega (
-      arith,
-      some,
-      read-length (pairs_in bytes read.1) (map bytes keys) vs read.4,
-      length-map
-          keys bytes,
-      ap (λ z. length (last_wins z)) e,
-    )
+    sorted-loaded pairs (Ok t) k v =
+        let same = same-pairs (pairs t) (last_wins (pairs_in bytes read.1)) (k ∙ read.4.keys) (v ∙ read.4.values) in
+        (read.0, read.1, read.2, read.3, (read.4.faultless, same))
 
     pub sorted-refused : length keys ≤ MAX_PAIRS → {T : Type 0} (r : Result T BulkError) → IfErr r (λ e. e ≡ Memory)
         → OnErr r (0 < length keys)
         → IfErr r (λ e. Reads becomes steps items (λ xs. FailsSorted (pairs_in bytes xs) e))
     sorted-refused few (Ok t) m some = tt
-    sorted-refused few (Err e) m some = rw m (
-      read.0,
-      read.1,
-      read.3.1.0,
-      read.2,
-      read.3.1.1,
-      (
-        sorted-some some,
-        read.4.faultless,
-        omega
-            (arith, few, read-length (pairs_in bytes read.1) (map bytes keys) vs read.4, length-map keys bytes),
-      ),
-    )
+    sorted-refused few (Err e) m some =
+        let es = pairs_in bytes read.1 in
+        let count : length (last_wins es) ≡ length keys
+        = read-length es (map bytes keys) vs read.4 ∙ length-map keys bytes in
+        let nonempty : es ≢ [] = λ none. omega (arith, some, count, ap (λ z. length (last_wins z)) none) in
+        let at_most : length (last_wins es) ≤ MAX_PAIRS = omega (arith, few, count) in
+        rw m (read.0, read.1, read.3.1.0, read.2, read.3.1.1, (nonempty, read.4.faultless, at_most))
 
   module _ (read : ReadsAll becomes steps items (λ xs. (map bytes keys ≡ keys_of (pairs_in bytes xs))
       × (vs ≡ values_of (pairs_in bytes xs)))) where
@@ -113,24 +89,15 @@ module _ {U S K V : Type 0} (becomes : U → S → Type 0) (steps : S → Option
         → IfOk r (λ t. keys_of (pairs t) ≡ map bytes keys) → IfOk r (λ t. values_of (pairs t) ≡ vs)
         → IfOk r (λ t. ReadsAll becomes steps items (λ xs. pairs t ≡ pairs_in bytes xs))
     unique-loaded pairs (Err e) k v = tt
-    unique-loaded pairs (Ok t) k v = (
-      read.0,
-      read.1,
-      read.2,
-      read.3,
-      same-pairs (pairs t) (pairs_in bytes read.1) (k
-          ∙ read.4.0) (v ∙ read.4.1),
-    )
+    unique-loaded pairs (Ok t) k v =
+        let same = same-pairs (pairs t) (pairs_in bytes read.1) (k ∙ read.4.0) (v ∙ read.4.1) in
+        (read.0, read.1, read.2, read.3, same)
 
     pub unique-refused : length keys ≤ MAX_PAIRS → {T : Type 0} (r : Result T BulkError) → IfErr r (λ e. e ≡ Memory)
         → OnErr r (0 < length keys)
         → IfErr r (λ e. Reads becomes steps items (λ xs. FailsUnique (pairs_in bytes xs) e))
     unique-refused few (Ok t) m some = tt
-    unique-refused few (Err e) m some = rw m (
-      read.0,
-      read.1,
-      read.3.1.0,
-      read.2,
-      read.3.1.1,
-      (λ none. omega (arith, some, unique-count, ap length none), omega (arith, few, unique-count)),
-    )
+    unique-refused few (Err e) m some =
+        let nonempty : pairs_in bytes read.1 ≢ [] = λ none. omega (arith, some, unique-count, ap length none) in
+        let at_most : length (pairs_in bytes read.1) ≤ MAX_PAIRS = omega (arith, few, unique-count) in
+        rw m (read.0, read.1, read.3.1.0, read.2, read.3.1.1, (nonempty, at_most))

@@ -1,8 +1,8 @@
 -- The keys of a bulk load, and what the tree that is made of them keeps.
 use Rattle.std.proofs.Common.{◌≡◌, ℕ, ◌+◌, ◌<◌, ◌≤◌, max, zero, suc, List, [], ◌∷◌, ◌++◌, length, get_or, drop, map}
-use Rattle.std.proofs.Common.{refl, ap, ◌∙◌, arith, subst, Option, Some, None}
+use Rattle.std.proofs.Common.{refl, sym, ap, ◌∙◌, arith, subst, Option, Some, None}
 use Rattle.std.specs.Borrow.{Bor}
-use Rattle.std.proofs.lemmas.List.{drop_all}
+use Rattle.std.proofs.lemmas.List.{drop_all, length-map}
 use Rattle.rart_keys.specs.ByteStrings.{IsLess}
 use Rattle.rart_keys.specs.KeyBytes.{IsWithin}
 use Rattle.rart_keys.specs.SortedMap.{AreAbove, IsAscending, keys_of, longest_key, values_of}
@@ -120,6 +120,11 @@ module _ (At : ℕ → List ℕ → Type 0) where
 
     pub places-within : (ks : List (List ℕ)) → AreKeysAt At ks → AreWithin m ks
     places-within ks h = within-from 0 ks (keys-all ks h)
+
+-- as many keys as pairs
+pub keys-count : {K V : Type 0} (bytes : K → List ℕ) (keys : List K) (es : List (List ℕ × V))
+    → map bytes keys ≡ keys_of es → length keys ≡ length es
+keys-count bytes keys es same = sym (length-map keys bytes) ∙ ap length same ∙ length-map es (λ e. e.0)
 
 -- keys and values determine pairs
 pub same-pairs : {V : Type 0} (xs ys : List (List ℕ × V)) → keys_of xs ≡ keys_of ys → values_of xs ≡ values_of ys

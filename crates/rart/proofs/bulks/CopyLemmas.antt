@@ -1,10 +1,7 @@
--- Loops that copy the pairs of a walk: what is copied, with what the walk has left, is all.
-use Rattle.std.proofs.Common.{◌≡◌, ◌≢◌, ℕ, ◌+◌, ◌<◌, ◌≤◌, ◌∙◌, List, [], ◌∷◌, ◌++◌, length, ap, length-append, arith}
+-- Loops that copy what a walk yields: what is copied, with what the walk has left, is all.
+use Rattle.std.proofs.Common.{◌≡◌, ℕ, ◌+◌, ◌<◌, ◌≤◌, ◌∙◌, List, [], ◌∷◌, ◌++◌, length, ap, length-append, arith}
 use Rattle.std.proofs.Math.Seq.{append_snoc}
-use Rattle.std.proofs.lemmas.List.{append-nil, length-map}
-use Rattle.rart_keys.specs.SortedMap.{values_of}
-use Rattle.rart.specs.Steps.{pairs_in}
-use Rattle.rart.proofs.bulks.BulkLoadLemmas.{pairs-more}
+use Rattle.std.proofs.lemmas.List.{append-nil}
 
 module _ {A : Type 0} where
   -- one more is copied
@@ -21,51 +18,18 @@ module _ {A : Type 0} where
   pub copied-all : (copied rest all : List A) → all ≡ copied ++ rest → rest ≡ [] → all ≡ copied
   copied-all copied rest all whole none = whole ∙ ap (λ z. copied ++ z) none ∙ append-nil copied
 
-  -- where a walk has a pair left, there are pairs
-  pub copied-some : (before rest next all : List A) (e : A) → rest ≡ e ∷ next → before ++ rest ≡ all → all ≢ []
-  copied-some before rest next all e steps copied none
-      = omega (arith, ap length steps, ap length copied, ap length none, length-append before rest)
+-- the reserved capacity has room for what is left, beside what is copied
+module _ {A B : Type 0} where
+  pub room-begins : (copied : List A) (rest all : List B) (capacity : ℕ) → copied ≡ [] → rest ≡ all
+      → length all ≤ capacity → length copied + length rest ≤ capacity
+  room-begins copied rest all capacity none whole reserved = omega (arith, ap length none, ap length whole)
 
-  -- the reserved capacity has room for one more
-  pub copied-room : (before rest next all : List A) (e : A) (len capacity : ℕ) → len ≡ length before → rest ≡ e ∷ next
-      → before ++ rest ≡ all → length all ≤ capacity → capacity ≤ len → ⊥
-  copied-room before rest next all e len capacity counted steps copied reserved full
-      = omega (arith, ap length steps, ap length copied, length-append before rest)
+  pub room-stays : (before after : List A) (x : A) (rest next : List B) (e : B) (capacity same : ℕ)
+      → after ≡ before ++ x ∷ [] → rest ≡ e ∷ next → same ≡ capacity → length before + length rest ≤ capacity
+      → length after + length next ≤ same
+  room-stays before after x rest next e capacity same pushed steps kept room
+      = omega (arith, ap length pushed, length-append before (x ∷ []), ap length steps)
 
--- nothing is copied, and all are left
-pub count-begins : {A B : Type 0} (copied : List A) (rest all : List B) → copied ≡ [] → rest ≡ all
-    → length copied + length rest ≡ length all
-count-begins copied rest all none whole = omega (arith, ap length none, ap length whole)
-
--- one more is copied, and one fewer is left
-pub copied-count : {A B : Type 0} (before after : List A) (x : A) (rest next : List B) (e : B) (all : ℕ)
-    → after ≡ before ++ x ∷ [] → rest ≡ e ∷ next → length before + length rest ≡ all
-    → length after + length next ≡ all
-copied-count before after x rest next e all pushed steps counted
-    = omega (arith, ap length pushed, length-append before (x ∷ []), ap length steps)
-
--- a part of the pairs is within the bound of all
-pub count-at_most : (copied left all len most : ℕ) → copied + left ≡ all → len ≡ all → len ≤ most → copied ≤ most
-count-at_most copied left all len most parts counted few = omega arith
-
--- the capacity that is reserved for all has room for it
-pub counted-room : {B : Type 0} (n len capacity all : ℕ) (rest next : List B) (e : B) → len ≡ n → rest ≡ e ∷ next
-    → n + length rest ≡ all → all ≤ capacity → len < capacity
-counted-room n len capacity all rest next e same steps counted reserved = omega (arith, ap length steps)
-
-pub never-full : (len capacity : ℕ) → len < capacity → capacity ≤ len → ⊥
-never-full len capacity room full = omega arith
-
-module _ {K V : Type 0} (bytes : K → List ℕ) where
-  -- one more pair is copied
-  pub pairs-copied : (before after : List (K × V)) (key : K) (value : V) (rest next all : List (List ℕ × V))
-      → after ≡ before ++ (key, value) ∷ [] → rest ≡ (bytes key, value) ∷ next → pairs_in bytes before ++ rest ≡ all
-      → pairs_in bytes after ++ next ≡ all
-  pairs-copied before after key value rest next all pushed = copied-more (pairs_in bytes before) (pairs_in bytes after)
-      rest next all (bytes key, value) (ap (pairs_in bytes) pushed
-      ∙ pairs-more bytes before (key, value))
-
--- a capacity for the pairs has room for the values
-pub values-reserved : {V : Type 0} (es : List (List ℕ × V)) (n capacity : ℕ) → n ≡ length es → n ≤ capacity
-    → length (values_of es) ≤ capacity
-values-reserved es n capacity counted reserved = omega (arith, length-map es (λ e. e.1))
+  pub room-for-next : (copied : List A) (rest next : List B) (e : B) (len capacity : ℕ) → len ≡ length copied
+      → rest ≡ e ∷ next → length copied + length rest ≤ capacity → len < capacity
+  room-for-next copied rest next e len capacity counted steps room = omega (arith, ap length steps)

@@ -45,19 +45,16 @@ module _ {V : Type 0} where
   brought-over es ds ts vs k v l w = same-pairs es (with_zeros ds) (k ∙ ap (map terminated_key) (sym l)
       ∙ sym (keys-with_zeros ds)) (v ∙ sym w ∙ sym (values-with_zeros ds))
 
+  -- as many texts as pairs
+  pub texts-count : {K : Type 0} (bytes : K → List ℕ) (es : List (List ℕ × V)) (ks : List K)
+      → keys_of es ≡ map terminated_key (map bytes ks) → length ks ≡ length es
+  texts-count bytes es ks k = sym (length-map (map bytes ks) terminated_key ∙ length-map ks bytes) ∙ ap length (sym k)
+      ∙ length-map es (λ d. d.0)
+
   -- keys that were read show that there are some
   pub some-read : {K : Type 0} (bytes : K → List ℕ) (es : List (List ℕ × V)) (ks : List K)
       → keys_of es ≡ map terminated_key (map bytes ks) → 0 < length ks → es ≡ [] → ⊥
-  some-read bytes es ks k some e = omega (
-    arith,
-    some,
-    ap length k,
-    ap length e,
-    length-map es (λ d. d.0),
-    length-map
-        (map bytes ks) terminated_key,
-    length-map ks bytes,
-  )
+  some-read bytes es ks k some e = omega (arith, some, ap length e, texts-count bytes es ks k)
 
 -- one more text is read
 pub texts-more : {K V : Type 0} (bytes : K → List ℕ) (before after : List K) (text : K) (key : List ℕ) (value : V)

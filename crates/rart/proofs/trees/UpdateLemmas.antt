@@ -129,48 +129,48 @@ attempt-stays sure g f o r (Failed e) w law h = slot-some w o h.1
 attempt-stays sure g f o r (Answered c) w law h = law r w h.0
 
 -- what an attempt comes to, by what it returns
-module _ {F E V : Type 0} (sure : V → Type 0)
-    (g : Once F (MutBor (Slot V) × Unit {0}) (Result (SlotUpdate V) E × (MutBor (Slot V) × Unit {0}))) (f : F)
-    (k : List ℕ) (m n : List (List ℕ × V)) (res : Result (Outcome V) (UpdateError V)) where
+module _ {F E V : Type 0} {sure : V → Type 0}
+    {g : Once F (MutBor (Slot V) × Unit {0}) (Result (SlotUpdate V) E × (MutBor (Slot V) × Unit {0}))} {f : F}
+    {k : List ℕ} {m n : List (List ℕ × V)} {res : Result (Outcome V) (UpdateError V)} where
   module _ (law : (q : List ℕ) (v : V) (l : List (List ℕ × V)) → IsAscending l → lookup q l ≡ Some v → put q v l ≡ l)
       (up : IsAscending m) where
     -- f wasn't called
     pub not-called : Attempts sure g f k m NotCloned res n → (n ≡ m) × ((v : V) × (lookup k m ≡ Some v) × (sure v → ⊥))
-    not-called h = let t = h.2 in let v = t.2.0 in (
-      kept k h.0 h.1 m res n (λ x s. law k x m up s) t.0 t.1 h.3,
-      (v, sym (slot-is (Some v) (lookup k m) (sym t.2.1)), t.2.2),
-    )
+    not-called h =
+        let v = h.attempt.2.0 in
+        let same = kept k h.request h.left m res n (λ x s. law k x m up s) h.attempt.0 h.attempt.1 h.ends in
+        (same, (v, sym (slot-is (Some v) (lookup k m) (sym h.attempt.2.1)), h.attempt.2.2))
 
     -- it failed
     pub failed : (e : E) → Attempts sure g f k m (Failed e) res n → TriesUpdate g f k m (Err (Callback e)) n × (n ≡ m)
-    failed e h = let t = h.2 in
-        let same : n ≡ m = kept k h.0 h.1 m res n (λ x s. law k x m up s) t.0 t.1 h.3 in
-        ((Err e, t.2.0, t.2.1, (refl, same)), same)
+    failed e h =
+        let same = kept k h.request h.left m res n (λ x s. law k x m up s) h.attempt.0 h.attempt.1 h.ends in
+        ((Err e, h.attempt.2.0, h.attempt.2.1, (refl, same)), same)
 
   -- the requested edit is made
   pub done : (x : Option V) (o : Outcome V) (b : Bool) → b ≡ touched_in o → res ≡ Ok o
       → Attempts sure g f k m (Answered x) res n → TriesUpdate g f k m (Ok b) n
-  done x o b is r h = let e = rw r at h.3 in
-      (Ok h.0, h.1, h.2.0, (is ∙ ap touched_in e.0 ∙ touched-is h.0 h.1, e.1, e.2))
+  done x o b is r h = let e = rw r at h.ends in
+      (Ok h.request, h.left, h.attempt.0, (is ∙ ap touched_in e.0 ∙ touched-is h.request h.left, e.1, e.2))
 
   -- its insertion is refused
   pub not-inserted : (x : Option V) (d : Refused V) → res ≡ Err (Not_inserted d)
       → Attempts sure g f k m (Answered x) res n → TriesUpdate g f k m (Err (Try_not_inserted d)) n × (n ≡ m)
-  not-inserted x d r h = let e = rw r at h.3 in ((Ok h.0, h.1, h.2.0, e), e.3)
+  not-inserted x d r h = let e = rw r at h.ends in ((Ok h.request, h.left, h.attempt.0, e), e.3)
 
   -- its removal is refused: what it left is at the key, and the old value is put back
   module _ (x : Option V) (r : res ≡ Err Not_removed) (h : Attempts sure g f k m (Answered x) res n) where
     pub some-left : ((q : List ℕ) (v : V) (l : List (List ℕ × V)) → lookup q (put q v l) ≡ Some v) → lookup k n ≢ None
-    some-left law = let e = rw r at h.3 in value-left k h.1 m n (λ v. law k v m) e.1 e.3
+    some-left law = let e = rw r at h.ends in value-left k h.left m n (λ v. law k v m) e.1 e.3
 
     pub was-stored : x ≢ None
-    was-stored = λ z. let e = rw r at h.3 in e.2.1 (sym (slot-is x (lookup k m) h.2.1) ∙ z)
+    was-stored = λ z. let e = rw r at h.ends in e.2.1 (sym (slot-is x (lookup k m) h.attempt.1) ∙ z)
 
     pub put-back : ((q : List ℕ) (v w : V) (l : List (List ℕ × V)) → IsAscending l → lookup q l ≡ Some v
         → put q v (put q w l) ≡ l) → IsAscending m
         → (v : V) (u : List (List ℕ × V)) → x ≡ Some v → u ≡ put k v n → TriesUpdate g f k m (Err Try_not_removed) u
         × (u ≡ m)
-    put-back law up v u s p = let e = rw r at h.3 in
-        let stored : lookup k m ≡ Some v = sym (slot-is x (lookup k m) h.2.1) ∙ s in
-        let same : u ≡ m = back-left k h.1 v m n u (λ y z t. law k y z m up t) e.1 stored e.3 p in
-        ((Ok h.0, h.1, h.2.0, (e.0, e.1, e.2, same)), same)
+    put-back law up v u s p = let e = rw r at h.ends in
+        let stored : lookup k m ≡ Some v = sym (slot-is x (lookup k m) h.attempt.1) ∙ s in
+        let same : u ≡ m = back-left k h.left v m n u (λ y z t. law k y z m up t) e.1 stored e.3 p in
+        ((Ok h.request, h.left, h.attempt.0, (e.0, e.1, e.2, same)), same)

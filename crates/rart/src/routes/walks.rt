@@ -1,8 +1,4 @@
 //! Walks over the routes that cover a probe, and over those with a prefix.
-
-// A callback by value is dropped after the call. One that is borrowed (the forms `_by_ref`) is the caller's again, in
-// the state that the last call left.
-
 ghost use Rattle.std.specs.Prelude.{◌≡◌, IfErr, OnErr, OnOk};
 ghost use Rattle.rart_keys.specs.Filters.{matches};
 ghost use Rattle.rart_trie.specs.walks.BelowPrefix.{cut_below};

@@ -1,4 +1,4 @@
-use Rattle.std.proofs.Common.{◌≡◌, ◌≤◌, ◌++◌, length}
+use Rattle.std.proofs.Common.{◌≡◌, ◌+◌, ◌≤◌, ◌++◌, length}
 use Rattle.std.specs.Prelude.{vec_capacity}
 use Rattle.rart_keys.specs.SortedMap.{values_of}
 use Rattle.rart.proofs.script.copied_values.Given as goal
@@ -6,7 +6,7 @@ use Rattle.rart.proofs.script.copied_values.Given as goal
 abbrev pub invariant-loop-value : goal.invariant-loop-value
 invariant-loop-value g l = record {
   so_far : l.values.items ++ l.rest ≡ values_of l.tree.pairs;
-  reserved : length (values_of l.tree.pairs) ≤ vec_capacity l.values;
+  room : length l.values.items + length l.rest ≤ vec_capacity l.values;
 }
 
 abbrev pub decreases-loop-value : goal.decreases-loop-value

@@ -57,12 +57,8 @@ fn read_texts<const N: usize, V: Copy>(
         let Some(text) = without_zero(&key) else {
             return Err(MigrateError::NotText { at: keys.len() });
         };
-        let Ok(()) = keys.push(text) else {
-            unreachable!()
-        };
-        let Ok(()) = values.push(*value) else {
-            unreachable!()
-        };
+        keys.push_reserved(text);
+        values.push_reserved(*value);
     }
     Ok((keys, values))
 }

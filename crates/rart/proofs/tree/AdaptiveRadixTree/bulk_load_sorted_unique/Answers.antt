@@ -4,26 +4,23 @@ use Rattle.rart.proofs.tree.AdaptiveRadixTree.bulk_load_sorted_unique.Goals as g
 
 pub of_keys_and_values-requires-clause-each : goal.of_keys_and_values-requires-clause-each
 of_keys_and_values-requires-clause-each g c = ap length c.deref.ensures.value
-    ∙ unique-each g.I.IntoIterator.into_iter_gives g.I.IntoIter.Iterator.next_gives c.args.items g.K.KeyTrait.bytes
-    c.in_ok-keys.keys.items c.in_ok-keys.values.items c.in_ok-keys.ensures.read
+    ∙ unique-each g.I.IntoIterator.into_iter_gives g.I.IntoIter.Iterator.next_gives _ g.K.KeyTrait.bytes _ _
+    c.in_ok-keys.ensures.read
 
 pub of_keys_and_values-requires-clause-ascending :
     goal.of_keys_and_values-requires-clause-ascending
 of_keys_and_values-requires-clause-ascending g c =
-    rw c.deref.ensures.value (unique-ascends g.I.IntoIterator.into_iter_gives g.I.IntoIter.Iterator.next_gives
-    c.args.items g.K.KeyTrait.bytes c.in_ok-keys.keys.items c.in_ok-keys.values.items c.in_ok-keys.ensures.read
-    (λ s b. (c.requires s b).2))
+    rw c.deref.ensures.value (unique-ascends g.I.IntoIterator.into_iter_gives g.I.IntoIter.Iterator.next_gives _ g.K.KeyTrait.bytes _ _
+    c.in_ok-keys.ensures.read (λ s b. (c.requires s b).2))
 
 pub returns-clause-pairs : goal.returns-clause-pairs
 returns-clause-pairs g c =
-    unique-loaded g.I.IntoIterator.into_iter_gives g.I.IntoIter.Iterator.next_gives c.args.items g.K.KeyTrait.bytes
-    c.in_ok-keys.keys.items c.in_ok-keys.values.items c.in_ok-keys.ensures.read (λ t. t.pairs)
-    c.of_keys_and_values.result
-    (rw c.deref.ensures.value at c.of_keys_and_values.ensures.keys) c.of_keys_and_values.ensures.values
+    unique-loaded g.I.IntoIterator.into_iter_gives g.I.IntoIter.Iterator.next_gives _ g.K.KeyTrait.bytes _ _
+    c.in_ok-keys.ensures.read (λ t. t.pairs) _ (rw c.deref.ensures.value at c.of_keys_and_values.ensures.keys)
+    c.of_keys_and_values.ensures.values
 
 pub returns-clause-refused : goal.returns-clause-refused
 returns-clause-refused g c =
-    unique-refused g.I.IntoIterator.into_iter_gives g.I.IntoIter.Iterator.next_gives c.args.items g.K.KeyTrait.bytes
-    c.in_ok-keys.keys.items c.in_ok-keys.values.items c.in_ok-keys.ensures.read c.in_ok-keys.ensures.at_most
-    c.of_keys_and_values.result
-    c.of_keys_and_values.ensures.memory (rw c.deref.ensures.value at c.of_keys_and_values.ensures.allocates)
+    unique-refused g.I.IntoIterator.into_iter_gives g.I.IntoIter.Iterator.next_gives _ g.K.KeyTrait.bytes _ _
+    c.in_ok-keys.ensures.read c.in_ok-keys.ensures.at_most _ c.of_keys_and_values.ensures.memory
+    (rw c.deref.ensures.value at c.of_keys_and_values.ensures.allocates)

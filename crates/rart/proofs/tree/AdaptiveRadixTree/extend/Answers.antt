@@ -6,13 +6,10 @@ use Rattle.rart.proofs.tree.AdaptiveRadixTree.extend.Goals as goal
 
 pub returns-in-Err-clause-refused : goal.returns-in-Err-clause-refused
 returns-in-Err-clause-refused g c =
-    reads-more g.I.IntoIterator.into_iter_gives g.I.IntoIter.Iterator.next_gives c.args.items
-    (λ xs. PutsUntil g.K.KeyTrait.bytes c.args.self.now.pairs xs c.in-Err.refused c.put_item.new.self.pairs)
-    c.into_iter-key-iterator.result c.loop-key.key-iterator c.next.new.self c.loop-key.yielded
-    (c.in-Some.key, c.in-Some.value) c.next.result c.into_iter-key-iterator.ensures.into_iter_gives
-    c.loop-key.yielded_by c.in-Some.is c.next.ensures.steps
-    (until-refused g.K.KeyTrait.bytes c.loop-key.yielded (c.in-Some.key, c.in-Some.value) c.args.self.now.pairs
-    c.loop-key.self.pairs c.put_item.new.self.pairs c.in-Err.refused c.loop-key.invariant.put
+    reads-more g.I.IntoIterator.into_iter_gives g.I.IntoIter.Iterator.next_gives _
+    (λ xs. PutsUntil g.K.KeyTrait.bytes c.args.self.now.pairs xs c.in-Err.refused c.put_item.new.self.pairs) _ _ _ _
+    (c.in-Some.key, c.in-Some.value) _ c.into_iter-key-iterator.ensures.into_iter_gives c.loop-key.yielded_by
+    c.in-Some.is c.next.ensures.steps (until-refused g.K.KeyTrait.bytes _ _ _ _ _ _ c.loop-key.invariant.put
     (ap (λ z. z.pairs) c.in-Err.ensures.unchanged) c.in-Err.ensures.item c.in-Err.ensures.refused)
 
 pub loop-key-preserved : goal.loop-key-preserved

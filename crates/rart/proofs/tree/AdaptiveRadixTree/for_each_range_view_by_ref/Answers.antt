@@ -1,21 +1,7 @@
-use Rattle.std.proofs.Common.{List, ℕ, OnOk, sym, subst}
-use Rattle.std.specs.List.{FoldsTo}
-use Rattle.rart_keys.specs.Ranges.{bound_in}
-use Rattle.rart_nodes.specs.ranges.Spans.{cut_between}
-use Rattle.rart_nodes.specs.walks.Viewed.{CanView, Viewed}
 use Rattle.rart.proofs.tree.AdaptiveRadixTree.for_each_range_view_by_ref.Goals as goal
 
 pub for_each_range_view_by_ref_counted-requires : goal.for_each_range_view_by_ref_counted-requires
-for_each_range_view_by_ref_counted-requires g c = record {
-  callable = subst (λ (m : List (List ℕ × g.row.V.Denot)). CanView g.F.FnMut c.args.f.now
-      (cut_between (bound_in g.K.KeyTrait.bytes c.args.start) (bound_in g.K.KeyTrait.bytes c.args.end) m))
-      (sym c.seen.ensures.pairs) c.requires.callable;
-}
+for_each_range_view_by_ref_counted-requires g c = record { callable = rw c.seen.ensures.pairs c.requires.callable }
 
 pub returns-clause-calls : goal.returns-clause-calls
-returns-clause-calls g c =
-    subst (λ (m : List (List ℕ × g.row.V.Denot)). OnOk c.for_each_range_view_by_ref_counted.result
-    (FoldsTo (λ p x q. Viewed g.F.FnMut p x q) c.args.f.now
-    (cut_between (bound_in g.K.KeyTrait.bytes c.args.start) (bound_in g.K.KeyTrait.bytes c.args.end) m)
-    c.for_each_range_view_by_ref_counted.new.f)) c.seen.ensures.pairs
-    c.for_each_range_view_by_ref_counted.ensures.calls
+returns-clause-calls g c = rw (← c.seen.ensures.pairs) c.for_each_range_view_by_ref_counted.ensures.calls

@@ -1,22 +1,7 @@
-use Rattle.std.proofs.Common.{List, ℕ, OnOk, sym, subst}
-use Rattle.std.specs.List.{FoldsTo}
-use Rattle.rart_keys.specs.Filters.{below}
-use Rattle.rart_keys.specs.SortedMap.{keys_of}
-use Rattle.rart_trie.specs.walks.Cut.{cut_pairs}
-use Rattle.rart_nodes.specs.walks.Viewed.{CanView, Viewed}
 use Rattle.rart.proofs.tree.AdaptiveRadixTree.prefix_for_each_view_by_ref_k.Goals as goal
 
 pub prefix_for_each_view_by_ref_k_counted-requires : goal.prefix_for_each_view_by_ref_k_counted-requires
-prefix_for_each_view_by_ref_k_counted-requires g c = record {
-  callable = subst (λ (m : List (List ℕ × g.row.V.Denot)). CanView g.F.FnMut c.args.f.now
-      (cut_pairs (keys_of m) (below (g.K.KeyTrait.bytes c.args.prefix.now) m))) (sym c.seen.ensures.pairs)
-      c.requires.callable;
-}
+prefix_for_each_view_by_ref_k_counted-requires g c = record { callable = rw c.seen.ensures.pairs c.requires.callable }
 
 pub returns-clause-calls : goal.returns-clause-calls
-returns-clause-calls g c =
-    subst (λ (m : List (List ℕ × g.row.V.Denot)). OnOk c.prefix_for_each_view_by_ref_k_counted.result
-    (FoldsTo (λ p x q. Viewed g.F.FnMut p x q) c.args.f.now
-    (cut_pairs (keys_of m) (below (g.K.KeyTrait.bytes c.args.prefix.now) m))
-    c.prefix_for_each_view_by_ref_k_counted.new.f)) c.seen.ensures.pairs
-    c.prefix_for_each_view_by_ref_k_counted.ensures.calls
+returns-clause-calls g c = rw (← c.seen.ensures.pairs) c.prefix_for_each_view_by_ref_k_counted.ensures.calls

@@ -1,17 +1,7 @@
-use Rattle.std.proofs.Common.{List, ℕ, sym, subst}
-use Rattle.std.specs.List.{FoldsTo}
-use Rattle.rart_keys.specs.Filters.{matches}
-use Rattle.rart_nodes.specs.walks.Matched.{CanMatch, Matched}
 use Rattle.rart.proofs.tree.AdaptiveRadixTree.prefix_match_for_each_k.Goals as goal
 
 pub prefix_match_for_each_k_counted-requires : goal.prefix_match_for_each_k_counted-requires
-prefix_match_for_each_k_counted-requires g c = record {
-  callable = subst (λ (m : List (List ℕ × g.row.V.Denot)). CanMatch g.F.FnMut c.args.f
-      (matches (g.K.KeyTrait.bytes c.args.probe.now) m)) (sym c.seen.ensures.pairs) c.requires.callable;
-}
+prefix_match_for_each_k_counted-requires g c = record { callable = rw c.seen.ensures.pairs c.requires.callable }
 
 pub returns : goal.returns
-returns g c =
-    subst (λ (m : List (List ℕ × g.row.V.Denot)). (last : g.row.F.Denot)
-    × FoldsTo (λ p x q. Matched g.F.FnMut p x q) c.args.f (matches (g.K.KeyTrait.bytes c.args.probe.now) m) last)
-    c.seen.ensures.pairs c.prefix_match_for_each_k_counted.ensures.calls
+returns g c = rw (← c.seen.ensures.pairs) c.prefix_match_for_each_k_counted.ensures.calls

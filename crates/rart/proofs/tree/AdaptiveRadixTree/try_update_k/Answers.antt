@@ -11,83 +11,58 @@ use Rattle.rart.proofs.tree.AdaptiveRadixTree.try_update_k.Goals as goal
 -- it wasn't called
 pub returns-in-NotCloned-clause-unchanged : goal.returns-in-NotCloned-clause-unchanged
 returns-in-NotCloned-clause-unchanged g c =
-    let pairs = (not-called g.V.Clone.is_infallible g.F.FnOnce c.args.f (g.K.KeyTrait.bytes c.args.key.now)
-    c.args.self.now.pairs c.try_update_slot-outcome.new.tree.pairs c.try_update_slot-outcome.result.0
-    c.put_back.ensures.same_pairs c.canonical.ensures.ascending
+    let pairs = (not-called c.put_back.ensures.same_pairs c.canonical.ensures.ascending
     (rw c.in-NotCloned.is at c.try_update_slot-outcome.ensures.update)).0 in
-    same-map c.try_update_slot-outcome.new.tree c.args.self.now pairs
-    (c.try_update_slot-outcome.ensures.nodes (ap keys_of pairs))
+    same-map _ _ pairs (c.try_update_slot-outcome.ensures.nodes (ap keys_of pairs))
 
 pub returns-in-NotCloned-clause-not_cloned : goal.returns-in-NotCloned-clause-not_cloned
-returns-in-NotCloned-clause-not_cloned g c =
-    λ _. (not-called g.V.Clone.is_infallible g.F.FnOnce c.args.f (g.K.KeyTrait.bytes c.args.key.now)
-    c.args.self.now.pairs c.try_update_slot-outcome.new.tree.pairs c.try_update_slot-outcome.result.0
-    c.put_back.ensures.same_pairs c.canonical.ensures.ascending
-    (rw c.in-NotCloned.is at c.try_update_slot-outcome.ensures.update)).1
+returns-in-NotCloned-clause-not_cloned g c = λ _. (not-called c.put_back.ensures.same_pairs
+    c.canonical.ensures.ascending (rw c.in-NotCloned.is at c.try_update_slot-outcome.ensures.update)).1
 
 -- it failed
 pub returns-in-Failed-clause-calls : goal.returns-in-Failed-clause-calls
-returns-in-Failed-clause-calls g c =
-    λ _. (failed g.V.Clone.is_infallible g.F.FnOnce c.args.f (g.K.KeyTrait.bytes c.args.key.now) c.args.self.now.pairs
-    c.try_update_slot-outcome.new.tree.pairs c.try_update_slot-outcome.result.0 c.put_back.ensures.same_pairs
-    c.canonical.ensures.ascending c.in-Failed.error (rw c.in-Failed.is at c.try_update_slot-outcome.ensures.update)).0
+returns-in-Failed-clause-calls g c = λ _. (failed c.put_back.ensures.same_pairs c.canonical.ensures.ascending
+    c.in-Failed.error (rw c.in-Failed.is at c.try_update_slot-outcome.ensures.update)).0
 
 pub returns-in-Failed-clause-unchanged : goal.returns-in-Failed-clause-unchanged
 returns-in-Failed-clause-unchanged g c =
-    let pairs = (failed g.V.Clone.is_infallible g.F.FnOnce c.args.f (g.K.KeyTrait.bytes c.args.key.now)
-    c.args.self.now.pairs c.try_update_slot-outcome.new.tree.pairs c.try_update_slot-outcome.result.0
-    c.put_back.ensures.same_pairs c.canonical.ensures.ascending c.in-Failed.error
+    let pairs = (failed c.put_back.ensures.same_pairs c.canonical.ensures.ascending c.in-Failed.error
     (rw c.in-Failed.is at c.try_update_slot-outcome.ensures.update)).1 in
-    same-map c.try_update_slot-outcome.new.tree c.args.self.now pairs
-    (c.try_update_slot-outcome.ensures.nodes (ap keys_of pairs))
+    same-map _ _ pairs (c.try_update_slot-outcome.ensures.nodes (ap keys_of pairs))
 
 -- the requested edit is made
 pub returns-in-Ok-clause-calls : goal.returns-in-Ok-clause-calls
-returns-in-Ok-clause-calls g c =
-    λ _. done g.V.Clone.is_infallible g.F.FnOnce c.args.f (g.K.KeyTrait.bytes c.args.key.now) c.args.self.now.pairs
-    c.try_update_slot-outcome.new.tree.pairs c.try_update_slot-outcome.result.0 _ c.in-Ok.outcome _ c.is_touched.ensures
-    c.in-Ok.is (rw c.in-Answered.is at c.try_update_slot-outcome.ensures.update)
+returns-in-Ok-clause-calls g c = λ _. done _ c.in-Ok.outcome _ c.is_touched.ensures c.in-Ok.is
+    (rw c.in-Answered.is at c.try_update_slot-outcome.ensures.update)
 
 -- an insertion is refused
 pub returns-in-Err-Insert-clause-calls : goal.returns-in-Err-Insert-clause-calls
-returns-in-Err-Insert-clause-calls g c =
-    λ _. (not-inserted g.V.Clone.is_infallible g.F.FnOnce c.args.f (g.K.KeyTrait.bytes c.args.key.now)
-    c.args.self.now.pairs c.try_update_slot-outcome.new.tree.pairs c.try_update_slot-outcome.result.0 _
-    c.in-Err-Insert.refused (c.in-Err-Insert.is ∙ ap Err c.in-Err-Insert.field-0-is)
+returns-in-Err-Insert-clause-calls g c = λ _. (not-inserted _ c.in-Err-Insert.refused
+    (c.in-Err-Insert.is ∙ ap Err c.in-Err-Insert.field-0-is)
     (rw c.in-Answered.is at c.try_update_slot-outcome.ensures.update)).0
 
 pub returns-in-Err-Insert-clause-unchanged : goal.returns-in-Err-Insert-clause-unchanged
 returns-in-Err-Insert-clause-unchanged g c =
-    let pairs = (not-inserted g.V.Clone.is_infallible g.F.FnOnce c.args.f (g.K.KeyTrait.bytes c.args.key.now)
-    c.args.self.now.pairs c.try_update_slot-outcome.new.tree.pairs c.try_update_slot-outcome.result.0 _
-    c.in-Err-Insert.refused (c.in-Err-Insert.is ∙ ap Err c.in-Err-Insert.field-0-is)
+    let pairs = (not-inserted _ c.in-Err-Insert.refused (c.in-Err-Insert.is ∙ ap Err c.in-Err-Insert.field-0-is)
     (rw c.in-Answered.is at c.try_update_slot-outcome.ensures.update)).1 in
-    same-map c.try_update_slot-outcome.new.tree c.args.self.now pairs
-    (c.try_update_slot-outcome.ensures.nodes (ap keys_of pairs))
+    same-map _ _ pairs (c.try_update_slot-outcome.ensures.nodes (ap keys_of pairs))
 
 -- a removal is refused
 pub restore-requires : goal.restore-requires
 restore-requires g c = record {
-  stored = some-left g.V.Clone.is_infallible g.F.FnOnce c.args.f (g.K.KeyTrait.bytes c.args.key.now)
-      c.args.self.now.pairs c.try_update_slot-outcome.new.tree.pairs c.try_update_slot-outcome.result.0 _
-      (c.in-Err-Remove.is
-      ∙ ap Err c.in-Err-Remove.field-0-is) (rw c.in-Answered.is at c.try_update_slot-outcome.ensures.update)
-      c.sorted_map.ensures.put_at;
+  stored = some-left _ (c.in-Err-Remove.is ∙ ap Err c.in-Err-Remove.field-0-is)
+      (rw c.in-Answered.is at c.try_update_slot-outcome.ensures.update) c.sorted_map.ensures.put_at;
 }
 
 pub unreachable-requires : goal.unreachable-requires
-unreachable-requires g c =
-    was-stored g.V.Clone.is_infallible g.F.FnOnce c.args.f (g.K.KeyTrait.bytes c.args.key.now) c.args.self.now.pairs
-    c.try_update_slot-outcome.new.tree.pairs c.try_update_slot-outcome.result.0 _ (c.in-Err-Remove.is
-    ∙ ap Err c.in-Err-Remove.field-0-is) (rw c.in-Answered.is at c.try_update_slot-outcome.ensures.update) c.in-None.is
+unreachable-requires g c = was-stored _ (c.in-Err-Remove.is ∙ ap Err c.in-Err-Remove.field-0-is)
+    (rw c.in-Answered.is at c.try_update_slot-outcome.ensures.update) c.in-None.is
 
 back : (g : Over) (c : After-restore g) → TriesUpdate g.F.FnOnce c.args.f (g.K.KeyTrait.bytes c.args.key.now)
     c.args.self.now.pairs (Err Remove) c.restore.new.self.pairs × (c.restore.new.self.pairs ≡ c.args.self.now.pairs)
-back g c =
-    put-back g.V.Clone.is_infallible g.F.FnOnce c.args.f (g.K.KeyTrait.bytes c.args.key.now) c.args.self.now.pairs
-    c.try_update_slot-outcome.new.tree.pairs c.try_update_slot-outcome.result.0 _ (c.in-Err-Remove.is
-    ∙ ap Err c.in-Err-Remove.field-0-is) (rw c.in-Answered.is at c.try_update_slot-outcome.ensures.update)
-    c.put_back.ensures.back c.canonical.ensures.ascending c.in-Some.old _ c.in-Some.is c.restore.ensures.pairs
+back g c = put-back _ (c.in-Err-Remove.is ∙ ap Err c.in-Err-Remove.field-0-is)
+    (rw c.in-Answered.is at c.try_update_slot-outcome.ensures.update) c.put_back.ensures.back
+    c.canonical.ensures.ascending c.in-Some.old _ c.in-Some.is c.restore.ensures.pairs
 
 as-before : (g : Over) (c : After-restore g) → c.restore.new.self ≡ c.args.self.now
 as-before g c =

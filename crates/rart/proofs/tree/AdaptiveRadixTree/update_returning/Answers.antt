@@ -1,4 +1,4 @@
-use Rattle.std.proofs.Common.{◌≡◌, ◌∙◌, ap, sym, refl, arith, is_some, nat_eq}
+use Rattle.std.proofs.Common.{◌≡◌, ◌∙◌, Option, ap, sym, subst, refl, arith, is_some, nat_eq}
 use Rattle.std.specs.Fn.{FnOnceReturnsAtMut}
 use Rattle.rart_keys.specs.SortedMap.{lookup}
 use Rattle.rart_trie.specs.tries.Tree.{tree_pairs}
@@ -15,17 +15,8 @@ update-outcome-requires-clause-occupancy g c = λ r x w h.
     let at : lookup (g.K.KeyTrait.bytes c.args.key.now) c.args.self.now.pairs
     ≡ lookup c.as_ref-bytes.result.now (tree_pairs c.self.inside.root)
     = rw (← c.self.view_is, c.as_ref-bytes.ensures) refl in
-    let shown : FnOnceReturnsAtMut g.F.FnOnce c.args.f
-    (slot_of (lookup (g.K.KeyTrait.bytes c.args.key.now) c.args.self.now.pairs)) (r, x) (slot_of w)
-    = record {
-      shown = h.shown;
-      shows = h.shows ∙ ap slot_of (sym at);
-      left = h.left;
-      met = h.met;
-      leaves
-          = h.leaves;
-    } in
-    c.requires.occupancy r x w shown ∙ ap is_some at
+    c.requires.occupancy r x w (subst (λ (o : Option g.row.V.Denot). FnOnceReturnsAtMut g.F.FnOnce c.args.f (slot_of o)
+    (r, x) (slot_of w)) (sym at) h) ∙ ap is_some at
 
 pub returns-clause-update : goal.returns-clause-update
 returns-clause-update g c =
@@ -33,16 +24,8 @@ returns-clause-update g c =
     ≡ lookup c.as_ref-bytes.result.now (tree_pairs c.self.inside.root)
     = rw (← c.self.view_is, c.as_ref-bytes.ensures) refl in
     let e = c.update-outcome.ensures.update in
-    let shown : FnOnceReturnsAtMut g.F.FnOnce c.args.f
-    (slot_of (lookup (g.K.KeyTrait.bytes c.args.key.now) c.args.self.now.pairs)) (e.0, c.update-outcome.result.1)
-    (slot_of e.1) = record {
-      shown = e.2.shown;
-      shows = e.2.shows ∙ ap slot_of (sym at);
-      left = e.2.left;
-      met
-          = e.2.met;
-      leaves = e.2.leaves;
-    } in
+    let shown = subst (λ (o : Option g.row.V.Denot). FnOnceReturnsAtMut g.F.FnOnce c.args.f (slot_of o)
+    (e.0, c.update-outcome.result.1) (slot_of e.1)) (sym at) e.2 in
     let stays : is_some e.1 ≡ is_some (lookup c.as_ref-bytes.result.now (tree_pairs c.self.inside.root))
     = c.requires.occupancy e.0 c.update-outcome.result.1 e.1 shown ∙ ap is_some at in
     let pairs : c.match-outcome.self.pairs ≡ tree_pairs c.update-outcome.new.root = elim c.match-outcome.branch [

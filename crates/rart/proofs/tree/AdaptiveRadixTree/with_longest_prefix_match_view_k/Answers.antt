@@ -1,17 +1,7 @@
-use Rattle.std.proofs.Common.{List, ℕ, IfOk, sym, subst}
-use Rattle.rart_keys.specs.Filters.{longest_match}
-use Rattle.rart_keys.specs.SortedMap.{keys_of}
-use Rattle.rart_nodes.specs.walks.Viewed.{CanSeeFound, SeesFound}
 use Rattle.rart.proofs.tree.AdaptiveRadixTree.with_longest_prefix_match_view_k.Goals as goal
 
 pub with_longest_prefix_match_view_k-requires : goal.with_longest_prefix_match_view_k-requires
-with_longest_prefix_match_view_k-requires g c = record {
-  callable = subst (λ (m : List (List ℕ × g.row.V.Denot)). CanSeeFound g.F.FnOnce c.args.f (keys_of m)
-      (longest_match (g.K.KeyTrait.bytes c.args.probe.now) m)) (sym c.seen.ensures.pairs) c.requires.callable;
-}
+with_longest_prefix_match_view_k-requires g c = record { callable = rw c.seen.ensures.pairs c.requires.callable }
 
 pub returns-clause-calls : goal.returns-clause-calls
-returns-clause-calls g c =
-    subst (λ (m : List (List ℕ × g.row.V.Denot)). IfOk c.with_longest_prefix_match_view_k.result
-    (SeesFound g.F.FnOnce c.args.f (keys_of m) (longest_match (g.K.KeyTrait.bytes c.args.probe.now) m)))
-    c.seen.ensures.pairs c.with_longest_prefix_match_view_k.ensures.calls
+returns-clause-calls g c = rw (← c.seen.ensures.pairs) c.with_longest_prefix_match_view_k.ensures.calls

@@ -1,9 +1,9 @@
-use Rattle.std.proofs.Common.{◌≡◌, ◌∙◌, [], ◌∷◌, ◌++◌, ℕ, List, ap, append_assoc, map, sym}
+use Rattle.std.proofs.Common.{◌≡◌, ◌∙◌, [], ◌∷◌, ◌++◌, ℕ, List, ap, append_assoc, arith, map, sym}
 use Rattle.std.proofs.lemmas.List.{append-nil, map-append}
 use Rattle.std.specs.List.{AllZip}
 use Rattle.rart_keys.specs.SortedMap.{keys_of, values_of}
-use Rattle.rart.proofs.bulks.CopyLemmas.{copied-all, copied-count, copied-more, count-at_most, count-begins}
-use Rattle.rart.proofs.bulks.CopyLemmas.{counted-room, left-shorter}
+use Rattle.rart.proofs.bulks.BulkTreeLemmas.{keys-count}
+use Rattle.rart.proofs.bulks.CopyLemmas.{copied-all, copied-more, left-shorter, room-begins, room-for-next, room-stays}
 use Rattle.rart.proofs.tree.clones.read_clones.Goals as goal
 
 -- the clones so far, with those of the pairs that are left, are those of all pairs: with one clone more too
@@ -19,10 +19,10 @@ pub loop-key-init : goal.loop-key-init
 loop-key-init g c = record {
   keys = rw (c.in_ok-keys.ensures.items, c.in-Ok.ensures.pairs);
   values = λ more h. rw c.in_ok-values.ensures.items (rw c.in-Ok.ensures.pairs at h);
-  many = count-begins _ _ _ c.in_ok-keys.ensures.items c.in-Ok.ensures.pairs;
-  many_values = count-begins _ _ _ c.in_ok-values.ensures.items c.in-Ok.ensures.pairs;
-  reserved = rw c.len.ensures.value at c.in_ok-keys.ensures.capacity;
-  values_reserved = rw c.len-2.ensures.value at c.in_ok-values.ensures.capacity;
+  keys_room = room-begins _ _ _ _ c.in_ok-keys.ensures.items c.in-Ok.ensures.pairs
+      (rw c.len.ensures.value at c.in_ok-keys.ensures.capacity);
+  values_room = room-begins _ _ _ _ c.in_ok-values.ensures.items c.in-Ok.ensures.pairs
+      (rw c.len-2.ensures.value at c.in_ok-values.ensures.capacity);
 }
 
 pub loop-key-smaller : goal.loop-key-smaller
@@ -35,27 +35,26 @@ loop-key-preserved g c = record {
       (ap keys_of c.in-Some.ensures.steps) c.loop-key.invariant.keys;
   values = one-clone-more g.V.Clone.is_clone _ _ _ _ _ _ _ _ c.loop-key.invariant.values c.in-Some.ensures.steps
       c.push_reserved-in-Some.ensures.items c.in_ok-clone.ensures.cases;
-  many = copied-count _ _ _ _ _ _ _ c.push_reserved.ensures.items c.in-Some.ensures.steps c.loop-key.invariant.many;
-  many_values = copied-count _ _ _ _ _ _ _ c.push_reserved-in-Some.ensures.items c.in-Some.ensures.steps
-      c.loop-key.invariant.many_values;
-  reserved = rw c.push_reserved.ensures.capacity c.loop-key.invariant.reserved;
-  values_reserved = rw c.push_reserved-in-Some.ensures.capacity c.loop-key.invariant.values_reserved;
+  keys_room = room-stays _ _ _ _ _ _ _ _ c.push_reserved.ensures.items c.in-Some.ensures.steps
+      c.push_reserved.ensures.capacity c.loop-key.invariant.keys_room;
+  values_room = room-stays _ _ _ _ _ _ _ _ c.push_reserved-in-Some.ensures.items c.in-Some.ensures.steps
+      c.push_reserved-in-Some.ensures.capacity c.loop-key.invariant.values_room;
 }
 
 pub push_reserved-requires : goal.push_reserved-requires
-push_reserved-requires g c = counted-room _ _ _ _ _ _ _ c.loop-key.keys.ok.0 c.in-Some.ensures.steps
-    c.loop-key.invariant.many c.loop-key.invariant.reserved
+push_reserved-requires g c = room-for-next _ _ _ _ _ _ c.loop-key.keys.ok.0 c.in-Some.ensures.steps
+    c.loop-key.invariant.keys_room
 
 pub push_reserved-requires-in-Some : goal.push_reserved-requires-in-Some
-push_reserved-requires-in-Some g c = counted-room _ _ _ _ _ _ _ c.loop-key.values.ok.0 c.in-Some.ensures.steps
-    c.loop-key.invariant.many_values c.loop-key.invariant.values_reserved
+push_reserved-requires-in-Some g c = room-for-next _ _ _ _ _ _ c.loop-key.values.ok.0
+    c.in-Some.ensures.steps c.loop-key.invariant.values_room
 
 pub returns-clause-keys : goal.returns-clause-keys
 returns-clause-keys g c = sym (copied-all _ _ _ (sym c.loop-key.invariant.keys)
     (ap keys_of c.in_default-next.ensures.steps.0))
 
 pub returns-clause-at_most : goal.returns-clause-at_most
-returns-clause-at_most g c = count-at_most _ _ _ _ _ c.loop-key.invariant.many c.len.ensures.value c.len.ensures.at_most
+returns-clause-at_most g c = let len = c.len.ensures in omega (arith, keys-count _ _ _ (returns-clause-keys g c))
 
 pub returns-clause-values : goal.returns-clause-values
 returns-clause-values g c =

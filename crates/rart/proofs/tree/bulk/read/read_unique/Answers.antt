@@ -9,35 +9,26 @@ use Rattle.rart.proofs.tree.bulk.read.read_unique.Goals as goal
 pub returns-then-len-eq-MAX_PAIRS-clause-refused : goal.returns-then-len-eq-MAX_PAIRS-clause-refused
 returns-then-len-eq-MAX_PAIRS-clause-refused g c =
     let full : length c.loop-key.keys.items ≡ MAX_PAIRS = search rules in
-    reads-more g.I.IntoIterator.into_iter_gives g.I.IntoIter.Iterator.next_gives c.args.items
-    (λ xs. FailsUnique (pairs_in g.K.KeyTrait.bytes xs) Full) c.into_iter-key-iterator.result
-    c.loop-key.key-iterator c.next.new.self
-    c.loop-key.yielded (c.in-Some.key, c.in-Some.value) c.next.result c.into_iter-key-iterator.ensures.into_iter_gives
-    c.loop-key.yielded_by c.in-Some.is c.next.ensures.steps
-    (unique-full g.K.KeyTrait.bytes c.loop-key.yielded (c.in-Some.key, c.in-Some.value) c.loop-key.keys.items
-    c.loop-key.invariant.keys full)
+    reads-more g.I.IntoIterator.into_iter_gives g.I.IntoIter.Iterator.next_gives _
+    (λ xs. FailsUnique (pairs_in g.K.KeyTrait.bytes xs) Full) _ _ _ _ (c.in-Some.key, c.in-Some.value) _
+    c.into_iter-key-iterator.ensures.into_iter_gives c.loop-key.yielded_by c.in-Some.is c.next.ensures.steps
+    (unique-full g.K.KeyTrait.bytes _ _ _ c.loop-key.invariant.keys full)
 
 pub returns-in_default-clause-refused : goal.returns-in_default-clause-refused
 returns-in_default-clause-refused g c =
     let fewer : length c.loop-key.keys.items ≡ MAX_PAIRS → ⊥ = search rules in
-    reads-more g.I.IntoIterator.into_iter_gives g.I.IntoIter.Iterator.next_gives c.args.items
-    (λ xs. FailsUnique (pairs_in g.K.KeyTrait.bytes xs) Memory) c.into_iter-key-iterator.result
-    c.loop-key.key-iterator c.next.new.self
-    c.loop-key.yielded (c.in-Some.key, c.in-Some.value) c.next.result c.into_iter-key-iterator.ensures.into_iter_gives
-    c.loop-key.yielded_by c.in-Some.is c.next.ensures.steps
-    (unique-memory g.K.KeyTrait.bytes c.loop-key.yielded (c.in-Some.key, c.in-Some.value) c.loop-key.keys.items
-    c.loop-key.invariant.keys c.loop-key.invariant.few fewer)
+    reads-more g.I.IntoIterator.into_iter_gives g.I.IntoIter.Iterator.next_gives _
+    (λ xs. FailsUnique (pairs_in g.K.KeyTrait.bytes xs) Memory) _ _ _ _ (c.in-Some.key, c.in-Some.value) _
+    c.into_iter-key-iterator.ensures.into_iter_gives c.loop-key.yielded_by c.in-Some.is c.next.ensures.steps
+    (unique-memory g.K.KeyTrait.bytes _ _ _ c.loop-key.invariant.keys c.loop-key.invariant.few fewer)
 
 pub returns-in_default-push-clause-refused : goal.returns-in_default-push-clause-refused
 returns-in_default-push-clause-refused g c =
     let fewer : length c.loop-key.keys.items ≡ MAX_PAIRS → ⊥ = search rules in
-    reads-more g.I.IntoIterator.into_iter_gives g.I.IntoIter.Iterator.next_gives c.args.items
-    (λ xs. FailsUnique (pairs_in g.K.KeyTrait.bytes xs) Memory) c.into_iter-key-iterator.result
-    c.loop-key.key-iterator c.next.new.self
-    c.loop-key.yielded (c.in-Some.key, c.in-Some.value) c.next.result c.into_iter-key-iterator.ensures.into_iter_gives
-    c.loop-key.yielded_by c.in-Some.is c.next.ensures.steps
-    (unique-memory g.K.KeyTrait.bytes c.loop-key.yielded (c.in-Some.key, c.in-Some.value) c.loop-key.keys.items
-    c.loop-key.invariant.keys c.loop-key.invariant.few fewer)
+    reads-more g.I.IntoIterator.into_iter_gives g.I.IntoIter.Iterator.next_gives _
+    (λ xs. FailsUnique (pairs_in g.K.KeyTrait.bytes xs) Memory) _ _ _ _ (c.in-Some.key, c.in-Some.value) _
+    c.into_iter-key-iterator.ensures.into_iter_gives c.loop-key.yielded_by c.in-Some.is c.next.ensures.steps
+    (unique-memory g.K.KeyTrait.bytes _ _ _ c.loop-key.invariant.keys c.loop-key.invariant.few fewer)
 
 pub loop-key-preserved : goal.loop-key-preserved
 loop-key-preserved g c = record {

@@ -1,0 +1,10 @@
+use Rattle.std.proofs.Common.{◌≡◌, map}
+use Rattle.rart.specs.Steps.{pairs_in}
+use Rattle.rart.proofs.script.copies.copied_pairs.Given as goal
+
+abbrev pub invariant-loop-key : goal.invariant-loop-key
+invariant-loop-key g l = record {
+  can : (goal.iterator-loop-key g).can_next l.key-iterator;
+  finite : (goal.iterator-loop-key g).is_finite l.key-iterator;
+  so_far : pairs_in g.K.KeyTrait.bytes l.pairs.items ≡ map (λ p. (g.K.KeyTrait.bytes p.0, p.1.now)) l.yielded;
+}

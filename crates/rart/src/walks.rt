@@ -1,0 +1,14 @@
+//! Look-ups by probe, iterators in both orders and from both ends, and calls of a callback with each item.
+
+// Each call with a callback requires that it is callable with each item in turn, as the earlier calls leave it. A
+// callback without a condition always is; the caller proves a condition. The caller of a `_by_ref` form keeps its
+// callback, in the state that the last call left, but a proof knows nothing of what a closure borrows. To count or to
+// collect use the fold, which returns its state.
+
+pub mod both_ends;
+mod callbacks;
+pub mod descending;
+pub mod iter;
+mod prefixes;
+pub mod range;
+mod views;
