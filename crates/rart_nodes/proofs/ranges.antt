@@ -1,11 +1,8 @@
 pub mod BackVisits
+pub mod BoundSteps
+pub mod ComparedEntries
+pub mod Descents
 pub mod DownLemmas
 pub mod LevelLemmas
 pub mod PotentialLemmas
 pub mod RangeCuts
-pub mod StartDescents
-pub mod StartLemmas
-pub mod StartPaths
-pub mod UntilDescents
-pub mod UntilLemmas
-pub mod UntilPaths

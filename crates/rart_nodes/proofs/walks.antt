@@ -1,13 +1,13 @@
 pub mod CallLemmas
 pub mod CutCounts
 pub mod CutLemmas
+pub mod EntryLemmas
 pub mod FirstBelow
 pub mod MatchLemmas
 pub mod PartCuts
 pub mod PartLemmas
+pub mod PathLemmas
 pub mod SegmentLemmas
 pub mod ShownCuts
-pub mod EntryLemmas
 pub mod WalkLemmas
-pub mod WalkStarts
 pub mod WalkVisits

@@ -167,6 +167,22 @@ module _ {V W : Type 0} where
     pub place : Place t u p a l b r i j
     pub falls : node_count a + node_count b < n
 
+  place-on : (t : Trie V) (u : Trie W) (p l r k q : List ℕ) (x : ℕ) (a z : Trie V) (b y : Trie W) (i j : ℕ)
+      → Turn (with_rest l a) (with_rest r b) (with_prefix (x ∷ []) (intersect_nodes (with_rest k z) (with_rest q y)))
+      (1 + more_visits (with_rest k z) (with_rest q y)) → node_count z + node_count y < node_count a + node_count b
+      → length k + 1 + longest_below z ≤ length l + longest_below a → Place t u p a l b r i j
+      → Step t u (p ++ x ∷ []) z k y q (i + 1) j (node_count a + node_count b)
+  place-on t u p l r k q x a z b y i j s f g h = record {
+    place = record {
+      given = h.given ∙ ap (λ es. with_prefix p es) s.given
+          ∙ prefix-twice p (x ∷ []) (intersect_nodes (with_rest k z) (with_rest q y));
+      visits = omega (arith, h.visits, s.visited);
+      few = omega (arith, h.few, f);
+      short = omega (arith, h.short, length-append p (x ∷ []), g);
+    };
+    falls = f;
+  }
+
   pub place-left : (t : Trie V) (u : Trie W) (p l r q k : List ℕ) (y : ℕ) (a z : Trie V) (b : Trie W) (i j : ℕ)
       → is_canonical a ≡ true → is_canonical z ≡ true → l ≡ [] → r ≡ y ∷ q → child_in y a ≡ Some z → prefix_of z ≡ y ∷ k
       → Place t u p a l b r i j → Step t u (p ++ y ∷ []) z k b q (i + 1) j (node_count a + node_count b)
@@ -174,34 +190,19 @@ module _ {V W : Type 0} where
       let step = turn-left y q a b c in
       let same : with_rest (y ∷ k) z ≡ z = with_rest-whole (y ∷ k) z (sym m) in
       let next = turn-common (y ∷ []) k q z b in
-      let h' : Place t u p a [] b (y ∷ q) i j = subst (λ (x : List ℕ). Place t u p a x b (y ∷ q) i j) e
-      (subst (λ (x : List ℕ). Place t u p a l b x i j) f h) in
-      let given : intersect_nodes (with_rest [] a) (with_rest (y ∷ q) b)
-      ≡ with_prefix (y ∷ []) (intersect_nodes (with_rest k z) (with_rest q b)) =
-      step.given ∙ ap (λ o. met o (Some (with_rest (y ∷ q) b))) n
-      ∙ ap (λ x. intersect_nodes x (with_rest (y ∷ q) b)) (sym same) ∙ next.given in
-      let visited : more_visits (with_rest [] a) (with_rest (y ∷ q) b) ≡ 1 + more_visits (with_rest k z) (with_rest q b)
-      =
-      step.visited ∙ ap (λ o. met_visits o (Some (with_rest (y ∷ q) b))) n
-      ∙ ap (λ x. 1 + more_visits x (with_rest (y ∷ q) b)) (sym same) ∙ ap (λ x. 1 + x) next.visited in
-      record {
-        place = record {
-          given = h'.given ∙ ap (λ es. with_prefix p es) given
-              ∙ prefix-twice p (y ∷ []) (intersect_nodes (with_rest k z) (with_rest q b));
-          visits = omega (arith, h'.visits, visited);
-          few = omega (arith, h'.few, child-falls y a (Some z) n);
-          short = omega (
-            arith,
-            h'.short,
-            length-append p (y ∷ []),
-            longest-child y a z n,
-            longest-children a,
-            longest-rest (y ∷ k) z d,
-            ap (λ x. longest_key (pairs_of x)) same,
-          );
-        };
-        falls = omega (arith, child-falls y a (Some z) n);
-      }
+      place-on t u p l r k q y a z b b i j (rw (e, f) (record {
+        given = step.given ∙ ap (λ o. met o (Some (with_rest (y ∷ q) b))) n
+            ∙ ap (λ x. intersect_nodes x (with_rest (y ∷ q) b)) (sym same) ∙ next.given;
+        visited = step.visited ∙ ap (λ o. met_visits o (Some (with_rest (y ∷ q) b))) n
+            ∙ ap (λ x. 1 + more_visits x (with_rest (y ∷ q) b)) (sym same) ∙ ap (λ x. 1 + x) next.visited;
+      })) (omega (arith, child-falls y a (Some z) n))
+      (omega (
+        arith,
+        longest-child y a z n,
+        longest-children a,
+        longest-rest (y ∷ k) z d,
+        ap (λ x. longest_key (pairs_of x)) same,
+      )) h
 
   pub place-right : (t : Trie V) (u : Trie W) (p l r k q : List ℕ) (x : ℕ) (a : Trie V) (b z : Trie W) (i j : ℕ)
       → is_canonical b ≡ true → l ≡ x ∷ k → r ≡ [] → child_in x b ≡ Some z → prefix_of z ≡ x ∷ q
@@ -210,26 +211,12 @@ module _ {V W : Type 0} where
       let step = turn-right x k a b c in
       let same : with_rest (x ∷ q) z ≡ z = with_rest-whole (x ∷ q) z (sym m) in
       let next = turn-common (x ∷ []) k q a z in
-      let h' : Place t u p a (x ∷ k) b [] i j = subst (λ (y : List ℕ). Place t u p a y b [] i j) e
-      (subst (λ (y : List ℕ). Place t u p a l b y i j) f h) in
-      let given : intersect_nodes (with_rest (x ∷ k) a) (with_rest [] b)
-      ≡ with_prefix (x ∷ []) (intersect_nodes (with_rest k a) (with_rest q z)) =
-      step.given ∙ ap (λ o. met (Some (with_rest (x ∷ k) a)) o) n
-      ∙ ap (λ y. intersect_nodes (with_rest (x ∷ k) a) y) (sym same) ∙ next.given in
-      let visited : more_visits (with_rest (x ∷ k) a) (with_rest [] b) ≡ 1 + more_visits (with_rest k a) (with_rest q z)
-      =
-      step.visited ∙ ap (λ o. met_visits (Some (with_rest (x ∷ k) a)) o) n
-      ∙ ap (λ y. 1 + more_visits (with_rest (x ∷ k) a) y) (sym same) ∙ ap (λ y. 1 + y) next.visited in
-      record {
-        place = record {
-          given = h'.given ∙ ap (λ es. with_prefix p es) given
-              ∙ prefix-twice p (x ∷ []) (intersect_nodes (with_rest k a) (with_rest q z));
-          visits = omega (arith, h'.visits, visited);
-          few = omega (arith, h'.few, child-falls x b (Some z) n);
-          short = omega (arith, h'.short, length-append p (x ∷ []));
-        };
-        falls = omega (arith, child-falls x b (Some z) n);
-      }
+      place-on t u p l r k q x a a b z i j (rw (e, f) (record {
+        given = step.given ∙ ap (λ o. met (Some (with_rest (x ∷ k) a)) o) n
+            ∙ ap (λ y. intersect_nodes (with_rest (x ∷ k) a) y) (sym same) ∙ next.given;
+        visited = step.visited ∙ ap (λ o. met_visits (Some (with_rest (x ∷ k) a)) o) n
+            ∙ ap (λ y. 1 + more_visits (with_rest (x ∷ k) a) y) (sym same) ∙ ap (λ y. 1 + y) next.visited;
+      })) (omega (arith, child-falls x b (Some z) n)) (omega (arith, ap length e)) h
 
   -- both prefixes end
   pub record Aligned (t : Trie V) (u : Trie W) (p : List ℕ) (a : Trie V) (b : Trie W) (i j : ℕ) : Type 0 where

@@ -1,6 +1,8 @@
 -- Canonical tries are equal node by node exactly where their pairs are equal.
 use Rattle.std.proofs.Common.{◌≡◌, ℕ, ◌<◌, ◌&&◌, ◌==◌, ⊎_elim, suc, not, Bool, true, false, List, [], ◌∷◌, ◌++◌, length}
 use Rattle.std.proofs.Common.{Option, Some, None, MatchOption, refl, sym, ap, ◌∙◌, arith, length-append, is_some}
+use Rattle.std.proofs.Common.{subst}
+use Rattle.rart_keys.specs.SortedMap.{keys_of}
 use Rattle.std.specs.Prelude.{nat_eq}
 use Rattle.std.specs.Cmp.Lexicographic.{nat_list_eq_equiv, pointwise, same_text}
 use Rattle.std.proofs.Math.Bool.{and_assoc}
@@ -45,6 +47,11 @@ begins-parted (x ∷ r) (y ∷ q) k l b c n h g = ⊎_elim
     (λ e. rw (eq-yes x y e) (begins-parted r q k l b c n (rw (eq-yes x y e) at h) (rw (eq-yes x y e) at g)))
     (λ e. let z : false ≡ true = rw (eq-no x y e) at h in absurd (cc)) (equal_or_not x y)
 
+-- a string begins each
+abbrev AreBegun : List ℕ → List (List ℕ) → Type 0
+AreBegun r [] = Unit {0}
+AreBegun r (k ∷ ks) = (begins r k ≡ true) × AreBegun r ks
+
 texts-after : (p k l : List ℕ) → pointwise nat_eq (p ++ k) (p ++ l) ≡ pointwise nat_eq k l
 texts-after [] k l = refl
 texts-after (x ∷ p) k l = rw (eq-yes x x refl) (texts-after p k l)
@@ -70,8 +77,7 @@ module _ {V : Type 0} (eq : V → V → Bool) where
 
   -- a string begins each key
   abbrev AllBegin : List ℕ → List (List ℕ × V) → Type 0
-  AllBegin r [] = Unit {0}
-  AllBegin r (e ∷ es) = (begins r e.0 ≡ true) × AllBegin r es
+  AllBegin r es = AreBegun r (keys_of es)
 
   begin-left : (r : List ℕ) (xs ys : List (List ℕ × V)) → AllBegin r (xs ++ ys) → AllBegin r xs
   begin-left r [] ys h = tt
@@ -89,27 +95,14 @@ module _ {V : Type 0} (eq : V → V → Bool) where
   begin-node (node p v n cs) = begin-own p (own_pair v ++ children_pairs cs)
 
   -- the keys of equal pairs are equal
-  begin-same : (r : List ℕ) (xs ys : List (List ℕ × V)) → same_pairs eq xs ys ≡ true → AllBegin r xs → AllBegin r ys
-  begin-same r [] [] s h = tt
-  begin-same r [] (y ∷ ys) s h = absurd (cc)
-  begin-same r (x ∷ xs) [] s h = absurd (cc)
-  begin-same r (x ∷ xs) (y ∷ ys) s h =
+  same-keys : (xs ys : List (List ℕ × V)) → same_pairs eq xs ys ≡ true → keys_of xs ≡ keys_of ys
+  same-keys [] [] s = refl
+  same-keys [] (y ∷ ys) s = absurd (cc)
+  same-keys (x ∷ xs) [] s = absurd (cc)
+  same-keys (x ∷ xs) (y ∷ ys) s =
       let both = and_parts (same_pair x y) (same_pairs eq xs ys) s in
-      let key : x.0 ≡ y.0 = same_text x.0 y.0 (sym (and_parts (pointwise nat_eq x.0 y.0) (eq x.1 y.1) both.0).0) in (
-        sym (ap (begins r) key) ∙ h.0,
-        begin-same r xs ys both.1 h.1,
-      )
-
-  begin-back : (r : List ℕ) (xs ys : List (List ℕ × V)) → same_pairs eq xs ys ≡ true → AllBegin r ys → AllBegin r xs
-  begin-back r [] [] s h = tt
-  begin-back r [] (y ∷ ys) s h = absurd (cc)
-  begin-back r (x ∷ xs) [] s h = absurd (cc)
-  begin-back r (x ∷ xs) (y ∷ ys) s h =
-      let both = and_parts (same_pair x y) (same_pairs eq xs ys) s in
-      let key : x.0 ≡ y.0 = same_text x.0 y.0 (sym (and_parts (pointwise nat_eq x.0 y.0) (eq x.1 y.1) both.0).0) in (
-        ap (begins r) key ∙ h.0,
-        begin-back r xs ys both.1 h.1,
-      )
+      let key : x.0 ≡ y.0 = same_text x.0 y.0 (sym (and_parts (pointwise nat_eq x.0 y.0) (eq x.1 y.1) both.0).0) in
+      ap (λ z. z ∷ keys_of xs) key ∙ ap (λ z. y.0 ∷ z) (same-keys xs ys both.1)
 
   -- the first key of a child
   first-key : (r q : List ℕ) (b : ℕ) (t : Trie V) → IsCanonical t → StartsWith b (prefix_of t)
@@ -206,10 +199,9 @@ module _ {V : Type 0} (eq : V → V → Bool) where
         ∙ own-split v u (children_pairs cs) (children_pairs ds) (children_pairs-from 0 cs w.2)
         (children_pairs-from 0 ds x.2) ∙ ap (λ z. same_value eq v u && z) (same-children 0 0 cs ds w.2 x.2)))
         (λ e. rw e (false_from_ne_true (same_pairs eq (pairs_of (node p v n cs)) (pairs_of (node q u m ds))) (λ s.
-        let one = prefix-longest p (node q u m ds) x (begin-same p (pairs_of (node p v n cs)) (pairs_of (node q u m ds))
-        s (begin-node (node p v n cs))) in
-        let two = prefix-longest q (node p v n cs) w (begin-back q (pairs_of (node p v n cs)) (pairs_of (node q u m ds))
-        s (begin-node (node q u m ds))) in
+        let keys = same-keys (pairs_of (node p v n cs)) (pairs_of (node q u m ds)) s in
+        let one = prefix-longest p (node q u m ds) x (subst (AreBegun p) keys (begin-node (node p v n cs))) in
+        let two = prefix-longest q (node p v n cs) w (subst (AreBegun q) (sym keys) (begin-node (node q u m ds))) in
         let same : p ≡ q = begins-equal p q one two in
         let f : true ≡ false = sym (nat_list_eq_equiv.refl q) ∙ ap (λ z. pointwise nat_eq z q) (sym same) ∙ e in cc)))
         (cases_Bool (pointwise nat_eq p q))

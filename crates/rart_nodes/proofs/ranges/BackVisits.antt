@@ -1,6 +1,6 @@
 -- A walk from the back visits no more nodes on its way to a key than that has bytes.
-use Rattle.std.proofs.Common.{◌≡◌, ℕ, ◌+◌, ◌<◌, ◌≤◌, ◌⊎◌, inl, inr, ⊎_elim, true, List, [], ◌∷◌, ◌++◌, length}
-use Rattle.std.proofs.Common.{length-append, take, reverse, None, refl, sym, ap, ◌∙◌, arith}
+use Rattle.std.proofs.Common.{◌≡◌, ℕ, ◌+◌, ◌≤◌, ◌⊎◌, inl, inr, ⊎_elim, true, List, [], ◌∷◌, ◌++◌, length}
+use Rattle.std.proofs.Common.{take, reverse, None, refl, sym, ap, ◌∙◌, arith}
 use Rattle.std.specs.Option.{option_copied}
 use Rattle.std.proofs.lemmas.List.{length-take}
 use Rattle.rart_nodes.specs.ranges.BackWalk.{BackLevel, BackLeft, BackStep, IsBackWalk, PushesNode}
@@ -8,13 +8,9 @@ use Rattle.rart_trie.specs.ranges.Under.{with_last}
 use Rattle.rart_trie.specs.tries.CanonicalTest.{is_canonical}
 use Rattle.rart_trie.specs.tries.Trie.{Trie, no_children, children_in, prefix_of}
 use Rattle.rart_trie.specs.walks.Walk.{SegmentList, Grown, KeepsEach}
-use Rattle.rart_nodes.proofs.ranges.LevelLemmas.{last-child, left-level, levels_of}
-use Rattle.rart_nodes.proofs.walks.WalkLemmas.{deepest}
+use Rattle.rart_nodes.proofs.ranges.LevelLemmas.{left-level, level-before, levels_of, next-child}
+use Rattle.rart_nodes.proofs.walks.PathLemmas.{child-longer, deepest}
 use Rattle.rart_nodes.proofs.walks.WalkVisits.{has-child}
-
-grown_long : (g : Grown) (p : List ℕ) → KeepsEach g → 0 < length p → 0 < length (g p)
-grown_long g [] h l = absurd (omega arith)
-grown_long g (b ∷ p) h l = h b p
 
 module _ {V : Type 0} where
   -- the deepest level is at the end of the path, and its node has a value or children
@@ -33,19 +29,10 @@ module _ {V : Type 0} where
       → HasVisited n m k (reverse st) → BackStep st t d st1 → k1 ≡ take d k ++ g (prefix_of t) → m1 ≡ m + 1
       → m1 ≤ n + length k1
   visit-one g longest places n m m1 d k k1 t st st1 bytes p h s i f =
-      let e : reverse st ≡ ((with_last s.others s.edge t, d), s.value) ∷ reverse s.rest
-      = deepest st s.rest ((with_last s.others s.edge t, d), s.value) s.was in
-      let q : IsBackWalk longest places k (((with_last s.others s.edge t, d), s.value) ∷ reverse s.rest) = rw e at p in
-      let c = last-child longest places k d t s.edge s.others (levels_of (reverse s.rest)) q in
-      let more : d < length k1 = omega (
-        arith,
-        ap length i,
-        length-append (take d k) (g (prefix_of t)),
-        length-take d k,
-        c.inside,
-        grown_long g (prefix_of t) bytes c.long,
-      ) in
-      let v : HasVisited n m k (((with_last s.others s.edge t, d), s.value) ∷ reverse s.rest) = rw e at h in
+      let more = child-longer g longest places d k k1 t s.others (levels_of (reverse s.rest)) bytes
+      (next-child longest places d k t st st1 p s) i in
+      let v : HasVisited n m k (((with_last s.others s.edge t, d), s.value) ∷ reverse s.rest)
+      = rw (level-before d t st st1 s) at h in
       ⊎_elim (λ z. omega (arith, f, z, more)) (λ z. omega (arith, f, z.0, z.1.0, more)) v
 
   pub visit-on : (n m : ℕ) (t : Trie V) (k : SegmentList) (st1 st2 : List (BackLevel V)) → is_canonical t ≡ true
@@ -70,10 +57,3 @@ module _ {V : Type 0} where
       let r = left-level st st1 rest l s e in
       let v : HasVisited n m k (l ∷ reverse rest) = rw r.0 at h in
       inl (⊎_elim (λ z. omega (arith, q, z)) (λ z. absurd (z.1.1 r.1 o)) v)
-
-  -- no level is left
-  pub visit-end : (n m : ℕ) (k : SegmentList) (st : List (BackLevel V)) → HasVisited n m k (reverse st) → st ≡ []
-      → m ≡ n
-  visit-end n m k st h e =
-      let v : HasVisited n m k [] = rw e at h in
-      ⊎_elim (λ z. z) (λ z. absurd z.1) v

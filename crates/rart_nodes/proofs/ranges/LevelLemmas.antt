@@ -1,11 +1,10 @@
--- What a walk from the back keeps as it continues to a node, or leaves a level.
-use Rattle.std.proofs.Common.{◌≡◌, ℕ, zero, suc, ◌+◌, ◌<◌, ◌≤◌, ⊎_elim, max, true, List, [], ◌∷◌, ◌++◌, length}
-use Rattle.std.proofs.Common.{map, take, reverse, Option, refl, sym, ap, ◌∙◌, arith, length-append}
+-- What a walk from the back keeps as it begins at a node, continues to one, or leaves a level.
+use Rattle.std.proofs.Common.{◌≡◌, ℕ, ◌+◌, ◌<◌, ◌≤◌, ⊎_elim, max, true, List, [], ◌∷◌, ◌++◌, length}
+use Rattle.std.proofs.Common.{map, take, reverse, Option, Some, refl, sym, ap, ◌∙◌, arith, length-append}
 use Rattle.std.proofs.Common.{slice_index_or, slice_set}
 use Rattle.std.specs.Borrow.{Bor}
 use Rattle.std.specs.Option.{option_copied}
-use Rattle.std.proofs.lemmas.List.{append-nil, append_assoc, length-map, length-reverse, length-take, take-append-le}
-use Rattle.std.proofs.lemmas.List.{map-append, take_all}
+use Rattle.std.proofs.lemmas.List.{append-nil, append_assoc, length-map, length-reverse, take_all}
 use Rattle.rart_keys.specs.SortedMap.{longest_key}
 use Rattle.rart_nodes.specs.ranges.BackWalk.{BackLevel, BackLeft, BackStep, IsBackWalk, PushesNode, remaining_entries}
 use Rattle.rart_trie.specs.ranges.Under.{with_last}
@@ -13,31 +12,14 @@ use Rattle.rart_trie.specs.tries.CanonicalTest.{is_canonical}
 use Rattle.rart_trie.specs.tries.Trie.{Trie, node, Children, no_children, children_in, children_pairs, pairs_of}
 use Rattle.rart_trie.specs.tries.Trie.{prefix_of, value_of}
 use Rattle.rart_trie.specs.tries.TrieCode.{child_count, node_count}
-use Rattle.rart_trie.specs.walks.Walk.{SegmentList, Grown, IsReserved, IsShort, IsWalk, Level, AreLevels}
-use Rattle.rart_trie.specs.walks.Walk.{children_entries, entries_of, join_all, joined_bytes, segments_after, value_at}
+use Rattle.rart_trie.specs.walks.Walk.{SegmentList, Grown, IsShort, IsWalk, Level, AreLevels, children_entries}
+use Rattle.rart_trie.specs.walks.Walk.{entries_of, segments_after, value_at}
 use Rattle.rart_trie.proofs.storages.UnderLemmas.{count-last, entries-last, last-canonical, pairs-last}
-use Rattle.rart_trie.proofs.tries.CanonicalTests.{IsCanonical-test, longest_key-append}
-use Rattle.rart_nodes.proofs.walks.WalkLemmas.{Child, after-append, after-own, after-twice, below-canonical, deeper}
-use Rattle.rart_nodes.proofs.walks.WalkLemmas.{deepest, starts-long, work_left}
-use Rattle.rart_trie.proofs.tries.StepLemmas.{longest-below}
-
-take_take : {A : Type 0} (i d : ℕ) (k : List A) → i ≤ d → take i (take d k) ≡ take i k
-take_take zero d k h = refl
-take_take (suc i) zero k h = absurd (omega arith)
-take_take (suc i) (suc d) [] h = refl
-take_take (suc i) (suc d) (x ∷ k) h = ap (λ y. x ∷ y) (take_take i d k (omega arith))
-
--- the first segments of a path that was cut after them and continues
-take-path : (i d : ℕ) (k p : SegmentList) → i ≤ d → d ≤ length k → take i (take d k ++ p) ≡ take i k
-take-path i d k p h l = take-append-le i (take d k) p (omega (arith, length-take d k)) ∙ take_take i d k h
-
-last-set : {A : Type 0} (xs : List A) (n : ℕ) (x y : A) → n + 1 ≡ length xs → x ≡ slice_index_or xs n x
-    → (rest : List A) × ((xs ≡ rest ++ x ∷ []) × (slice_set xs n y ≡ rest ++ y ∷ []))
-last-set [] n x y h e = absurd (omega arith)
-last-set (a ∷ []) zero x y h e = ([], (ap (λ z. z ∷ []) (sym e), refl))
-last-set (a ∷ b ∷ xs) zero x y h e = absurd (omega arith)
-last-set (a ∷ xs) (suc n) x y h e = let r = last-set xs n x y (omega arith) e in
-    (a ∷ r.0, (ap (λ z. a ∷ z) r.1.0, ap (λ z. a ∷ z) r.1.1))
+use Rattle.rart_trie.proofs.tries.CanonicalTests.{longest_key-append}
+use Rattle.rart_nodes.proofs.walks.PathLemmas.{ArePart, Child, IsPathReserved, Space, child-known, child-pushed}
+use Rattle.rart_nodes.proofs.walks.PathLemmas.{child-space, cut-to, deepest, first-reserved, last-set, level-left}
+use Rattle.rart_nodes.proofs.walks.PathLemmas.{level-pushed, no-levels, node-part, take-path}
+use Rattle.rart_nodes.proofs.walks.WalkLemmas.{after-append, after-own, own-entries, work_left}
 
 module _ {V : Type 0} where
   pub step-last : (st : List (BackLevel V)) (n : ℕ) (l : BackLevel V) (ds : Children V) (t : Trie V) → n + 1 ≡ length st
@@ -54,12 +36,12 @@ module _ {V : Type 0} where
         is = r.1.1;
       }
 
-  pub join-append : (xs ys : List (SegmentList × V)) → join_all (xs ++ ys) ≡ join_all xs ++ join_all ys
-  join-append xs ys = map-append (λ e. (joined_bytes e.0, e.1)) xs ys
-
   -- the levels alone
   abbrev pub levels_of : List (BackLevel V) → List (Level V)
   levels_of ls = map (λ l. l.0) ls
+
+  length-levels : (st : List (BackLevel V)) → length (levels_of (reverse st)) ≡ length st
+  length-levels st = length-map (reverse st) (λ l. l.0) ∙ length-reverse st
 
   -- how much there is to do at most
   abbrev pub work_after : List (BackLevel V) → ℕ
@@ -68,13 +50,8 @@ module _ {V : Type 0} where
   node-nodes : (t : Trie V) → node_count t ≡ child_count (children_in t) + 1
   node-nodes (node p v n cs) = refl
 
-  reserved-left : (longest places : ℕ) (l : Level V) (ls : List (Level V)) → IsReserved longest places (l ∷ ls)
-      → IsReserved longest places ls
-  reserved-left longest places l [] h = tt
-  reserved-left longest places l (m ∷ ls) h = h
-
   -- the values that remain at the levels of a path depend only on what it keeps above them
-  pub remaining-same : (g : Grown) (longest deep d : ℕ) (k p : SegmentList) (ls : List (BackLevel V))
+  remaining-same : (g : Grown) (longest deep d : ℕ) (k p : SegmentList) (ls : List (BackLevel V))
       → AreLevels longest deep (levels_of ls) → deep ≤ d → d ≤ length k → remaining_entries g (take d k ++ p) ls
       ≡ remaining_entries g k ls
   remaining-same g longest deep d k p [] w h l = refl
@@ -85,37 +62,70 @@ module _ {V : Type 0} where
             l,
       ) refl
 
+  -- a level of some of a node's children, with a value, comes after the others
+  pub record BackLevelPushed (g : Grown) (longest places : ℕ) (k k1 : SegmentList) (ls ms : List (BackLevel V))
+      (cs : Children V) (v : Option (Bor V)) : Type 0 where
+    pub path : IsBackWalk longest places k1 ms
+    pub still : remaining_entries g k1 ms
+        ≡ remaining_entries g k ls ++ segments_after k1 (value_at [] (option_copied v) ++ children_entries g cs)
+
+  pub pushed : (g : Grown) (longest places places1 : ℕ) (k k1 : SegmentList) (t : Trie V) (cs : Children V)
+      (v : Option (Bor V)) (st st1 : List (BackLevel V)) → IsShort g → is_canonical t ≡ true
+      → IsBackWalk longest places k (reverse st) → longest < places → IsPathReserved longest k (length st) (Some t)
+      → ArePart 0 cs (children_in t) → k1 ≡ k ++ g (prefix_of t) → st1 ≡ st ++ ((cs, length k1), v) ∷ []
+      → places1 ≡ places → BackLevelPushed g longest places1 k k1 (reverse st) (reverse st1) cs v
+  pushed g longest places places1 k k1 t cs v st st1 s c q r w a i e f =
+      let p : SegmentList = g (prefix_of t) in
+      rw (deepest st1 st ((cs, length k1), v) e, f, i) (record {
+        path = level-pushed g longest places k t cs (levels_of (reverse st)) s c q r
+            (w.0, omega (arith, w.1, length-levels st)) a;
+        still = rw (take_all (length (k ++ p)) (k ++ p) (omega arith))
+            (ap (λ z. z ++ segments_after (k ++ p) (value_at [] (option_copied v) ++ children_entries g cs))
+            (sym (ap (λ z. remaining_entries g (z ++ p) (reverse st)) (take_all (length k) k (omega arith)))
+            ∙ remaining-same g longest (length k) (length k) k p (reverse st) q.stations (omega arith)
+            (omega arith)));
+      })
+
+  -- a walk begins at a node, to which the path is k0
+  pub start : (g : Grown) (longest places : ℕ) (t : Trie V) (k0 k : SegmentList) (v : Option (Bor V)) (cs : Children V)
+      (st rest : List (BackLevel V)) → IsShort g → is_canonical t ≡ true
+      → length k0 + longest_key (pairs_of t) ≤ longest → longest < places → k ≡ k0 ++ g (prefix_of t)
+      → cs ≡ children_in t → rest ≡ [] → st ≡ rest ++ ((cs, length k), v) ∷ []
+      → IsBackWalk longest places k (reverse st)
+  start g longest places t k0 k v cs st rest h w l r i j e f
+      = (pushed g longest places places k0 k t (children_in t) v [] st h w
+      (no-levels longest places k0 (omega (arith, l))) r (first-reserved longest 0 k0 t w refl l) (node-part t w) i
+      (f ∙ ap (λ z. z ++ ((cs, length k), v) ∷ []) e ∙ ap (λ z. ((z, length k), v) ∷ []) j) refl).path
+
+  start-at : (g : Grown) (t : Trie V) (k0 : SegmentList) (v : Option (Bor V)) → option_copied v ≡ value_of t
+      → remaining_entries g (k0 ++ g (prefix_of t)) (((children_in t, length (k0 ++ g (prefix_of t))), v) ∷ [])
+      ≡ segments_after k0 (entries_of g t)
+  start-at g t k0 v e =
+      rw (take_all (length (k0 ++ g (prefix_of t))) (k0 ++ g (prefix_of t)) (omega arith), e)
+      (sym (own-entries g k0 t))
+
+  pub start-entries : (g : Grown) (t : Trie V) (k0 k : SegmentList) (v : Option (Bor V)) (cs : Children V)
+      (st rest : List (BackLevel V)) → k ≡ k0 ++ g (prefix_of t) → option_copied v ≡ value_of t → cs ≡ children_in t
+      → rest ≡ [] → st ≡ rest ++ ((cs, length k), v) ∷ []
+      → remaining_entries g k (reverse st) ≡ segments_after k0 (entries_of g t)
+  start-entries g t k0 k v cs st rest i h j e f = rw (deepest st rest ((cs, length k), v) f, e, i, j)
+      (start-at g t k0 v h)
+
   -- what is known of the last child of the deepest level
   pub last-child : (longest places : ℕ) (k : SegmentList) (d : ℕ) (t : Trie V) (b : ℕ) (cs : Children V)
       (ls : List (Level V)) → IsWalk longest places k ((with_last cs b t, d) ∷ ls) → Child longest places k d t cs ls
   last-child longest places k d t b cs ls p =
-      let w = p.stations in
-      let c = last-canonical 0 b t cs w.1 in
+      let c = last-canonical 0 b t cs p.stations.1 in
       let m : longest_key (children_pairs (with_last cs b t)) ≡ max (longest_key (children_pairs cs))
       (longest_key (pairs_of t)) = ap longest_key (pairs-last b t cs) ∙ longest_key-append (children_pairs cs)
       (pairs_of t) in
-      record {
-        inside = w.0;
-        long = starts-long b (prefix_of t) c.1;
-        fits = omega (arith, w.2, m, longest-below t c.2);
-        deep = omega (arith, w.3, m, longest-below t c.2);
-        below = below-canonical t c.2;
-        others = c.0;
-        others_fit = omega (arith, w.2, m);
-        others_deep = omega (arith, w.3, m);
-        above = w.4;
-        reserved = p.reserved;
-      }
+      child-known longest places d b k t cs (with_last cs b t) ls p c.1 c.2 (c.0, omega (arith, m)) (omega (arith, m))
 
   -- a walk continues from the deepest level to its last child, after whose prefix the path is k1
   pub record BackTurn (g : Grown) (longest places : ℕ) (k k1 : SegmentList) (ls ms : List (BackLevel V)) : Type 0 where
     pub path : IsBackWalk longest places k1 ms
     pub still : remaining_entries g k1 ms ≡ remaining_entries g k ls
     pub falls : work_after ms < work_after ls
-
-  own-entries : (g : Grown) (q : SegmentList) (t : Trie V) → segments_after q (entries_of g t)
-      ≡ segments_after (q ++ g (prefix_of t)) (value_at [] (value_of t) ++ children_entries g (children_in t))
-  own-entries g q (node p v n ds) = after-twice q (g p) (value_at [] v ++ children_entries g ds)
 
   turn-still : (g : Grown) (longest d : ℕ) (k : SegmentList) (t : Trie V) (b : ℕ) (cs : Children V)
       (u v : Option (Bor V)) (ls : List (BackLevel V)) → AreLevels longest d (levels_of ls) → d ≤ length k
@@ -142,68 +152,40 @@ module _ {V : Type 0} where
       ∙ ap (segments_after q) (append_assoc own (children_entries g cs) (entries_of g t)
       ∙ ap (λ z. own ++ z) (sym (entries-last g b t cs)))))
 
-  turn-at : (g : Grown) (longest places places1 d : ℕ) (k : SegmentList) (t : Trie V) (b : ℕ) (cs : Children V)
-      (u v : Option (Bor V)) (ls : List (BackLevel V)) → IsShort g
-      → IsBackWalk longest places k (((with_last cs b t, d), v) ∷ ls) → option_copied u ≡ value_of t → places ≤ places1
-      → BackTurn g longest places1 k (take d k ++ g (prefix_of t)) (((with_last cs b t, d), v) ∷ ls)
-      (((children_in t, length (take d k ++ g (prefix_of t))), u) ∷ ((cs, d), v) ∷ ls)
-  turn-at g longest places places1 d k t b cs u v ls s p e h =
-      let c = last-child longest places k d t b cs (levels_of ls) p in
-      let i = c.inside in
-      let n : length (take d k ++ g (prefix_of t)) ≡ d + length (g (prefix_of t))
-      = omega (arith, length-append (take d k) (g (prefix_of t)), length-take d k) in
-      let m = s (prefix_of t) in
-      let below : AreLevels longest (length (take d k ++ g (prefix_of t))) ((cs, d) ∷ levels_of ls)
-      = (omega (arith, n), c.others, c.others_fit, c.others_deep, c.above) in
-      record {
-        path = record {
-          stations = (omega arith, c.below, omega (arith, n, m, c.fits), omega (arith, c.deep, c.long), below);
-          reserved = omega (arith, c.reserved);
-          short = omega (arith, n, m, c.fits);
-        };
-        still = turn-still g longest d k t b cs u v ls c.above i e;
-        falls = omega (arith, count-last b t cs, node-nodes t);
-      }
+  -- the levels before a child is visited
+  pub level-before : (d : ℕ) (t : Trie V) (st st1 : List (BackLevel V)) (s : BackStep st t d st1)
+      → reverse st ≡ ((with_last s.others s.edge t, d), s.value) ∷ reverse s.rest
+  level-before d t st st1 s = deepest st s.rest ((with_last s.others s.edge t, d), s.value) s.was
+
+  -- the child that is visited
+  pub next-child : (longest places d : ℕ) (k : SegmentList) (t : Trie V) (st st1 : List (BackLevel V))
+      → IsBackWalk longest places k (reverse st) → (s : BackStep st t d st1)
+      → Child longest places k d t s.others (levels_of (reverse s.rest))
+  next-child longest places d k t st st1 p s
+      = last-child longest places k d t s.edge s.others (levels_of (reverse s.rest))
+      (rw (level-before d t st st1 s) at p)
+
+  pub space : (longest places d : ℕ) (k : SegmentList) (t : Trie V) (st st1 : List (BackLevel V))
+      → IsBackWalk longest places k (reverse st) → BackStep st t d st1 → Space longest places d t (length st1)
+  space longest places d k t st st1 p s
+      = child-space longest places d (length st1) k t s.others (levels_of (reverse s.rest))
+      (next-child longest places d k t st st1 p s)
+      (omega (arith, ap length s.is, length-append s.rest (((s.others, d), s.value) ∷ []), length-levels s.rest))
 
   pub turn : (g : Grown) (longest places places1 d : ℕ) (k k1 : SegmentList) (t : Trie V)
       (st st1 st2 : List (BackLevel V)) → IsShort g → IsBackWalk longest places k (reverse st)
-      → BackStep st t d st1 → k1 ≡ take d k ++ g (prefix_of t) → PushesNode st1 t (length k1) st2 → places ≤ places1
+      → BackStep st t d st1 → k1 ≡ take d k ++ g (prefix_of t) → PushesNode st1 t (length k1) st2 → places1 ≡ places
       → BackTurn g longest places1 k k1 (reverse st) (reverse st2)
   turn g longest places places1 d k k1 t st st1 st2 h p s i o m =
-      let e : reverse st ≡ ((with_last s.others s.edge t, d), s.value) ∷ reverse s.rest
-      = deepest st s.rest ((with_last s.others s.edge t, d), s.value) s.was in
-      let q : IsBackWalk longest places k (((with_last s.others s.edge t, d), s.value) ∷ reverse s.rest) = rw e at p in
-      let e2 : reverse st2 ≡ ((children_in t, length k1), o.0) ∷ ((s.others, d), s.value) ∷ reverse s.rest
+      let c = next-child longest places d k t st st1 p s in
+      let e : reverse st2 ≡ ((children_in t, length k1), o.0) ∷ ((s.others, d), s.value) ∷ reverse s.rest
       = deepest st2 st1 ((children_in t, length k1), o.0) o.1.0
       ∙ ap (λ x. ((children_in t, length k1), o.0) ∷ x) (deepest st1 s.rest ((s.others, d), s.value) s.is) in
-      rw (e2, e, i) (turn-at g longest places places1 d k t s.edge s.others o.0 s.value (reverse s.rest) h q o.1.1 m)
-
-  -- capacity is reserved for its prefix and its level
-  pub record BackSpace (longest places d : ℕ) (t : Trie V) (st : List (BackLevel V)) : Type 0 where
-    pub bytes : d + length (prefix_of t) ≤ longest
-    pub place : length st < places
-
-  pub space : (longest places d : ℕ) (k : SegmentList) (t : Trie V) (st st1 : List (BackLevel V))
-      → IsBackWalk longest places k (reverse st) → BackStep st t d st1 → BackSpace longest places d t st1
-  space longest places d k t st st1 p s =
-      let e : reverse st ≡ ((with_last s.others s.edge t, d), s.value) ∷ reverse s.rest
-      = deepest st s.rest ((with_last s.others s.edge t, d), s.value) s.was in
-      let q : IsBackWalk longest places k (((with_last s.others s.edge t, d), s.value) ∷ reverse s.rest) = rw e at p in
-      let c = last-child longest places k d t s.edge s.others (levels_of (reverse s.rest)) q in
-      record {
-        bytes = omega (arith, c.fits);
-        place
-            = omega (
-              arith,
-              c.deep,
-              c.long,
-              c.reserved,
-              ap length s.is,
-              length-append s.rest (((s.others, d), s.value) ∷ []),
-              length-map (reverse s.rest) (λ l. l.0),
-              length-reverse s.rest,
-            );
-      }
+      rw (m, e, level-before d t st st1 s, i) (record {
+        path = child-pushed g longest places d k t s.others (levels_of (reverse s.rest)) h c;
+        still = turn-still g longest d k t s.edge s.others o.0 s.value (reverse s.rest) c.above c.inside o.1.1;
+        falls = omega (arith, count-last s.edge t s.others, node-nodes t);
+      })
 
   -- the level that was left had no more children
   pub left-level : (st st1 rest : List (BackLevel V)) (l : BackLevel V) → BackLeft st st1 → st1 ≡ rest ++ l ∷ []
@@ -229,16 +211,12 @@ module _ {V : Type 0} where
       → BackLeave g longest places k (take d k) (((no_children, d), v) ∷ ls) ls (option_copied v)
   leave-at g longest places d k v ls p =
       let w = p.stations in
-      let n : length (take d k) ≡ d = omega (arith, length-take d k, w.0) in
       let same : remaining_entries g (take d k) ls ≡ remaining_entries g k ls
       = ap (λ z. remaining_entries g z ls) (sym (append-nil (take d k)))
       ∙ remaining-same g longest d d k [] ls w.4 (omega arith) w.0 in
       record {
-        path = record {
-          stations = deeper longest d (length (take d k)) (levels_of ls) (omega (arith, n)) w.4;
-          reserved = reserved-left longest places (no_children, d) (levels_of ls) p.reserved;
-          short = omega (arith, n, w.0, p.short);
-        };
+        path = level-left longest places (take d k) (no_children, d) (levels_of ls)
+            (cut-to longest places d k no_children no_children (levels_of ls) (tt, omega arith) p);
         still = ap (λ z. remaining_entries g k ls ++ z) (after-own (take d k) (option_copied v) []
             ∙ append-nil (value_at (take d k) (option_copied v)))
             ∙ ap (λ z. z ++ value_at (take d k) (option_copied v)) (sym same);
@@ -261,46 +239,3 @@ module _ {V : Type 0} where
       let h = left-level st st1 rest l s e in
       let q : IsBackWalk longest places k (l ∷ reverse rest) = rw h.0 at p in
       rw (f, h.0) (leave-one g longest places k k1 l no_children (reverse rest) q h.1 refl i)
-
-  -- a walk begins at a node, to which the way is kept as k0
-  pub start : (g : Grown) (longest places : ℕ) (t : Trie V) (k0 k : SegmentList) (v : Option (Bor V)) (cs : Children V)
-      (st rest : List (BackLevel V)) → IsShort g → is_canonical t ≡ true
-      → length k0 + longest_key (pairs_of t) ≤ longest → longest < places → k ≡ k0 ++ g (prefix_of t)
-      → cs ≡ children_in t → rest ≡ [] → st ≡ rest ++ ((cs, length k), v) ∷ []
-      → IsBackWalk longest places k (reverse st)
-  start g longest places t k0 k v cs st rest h w l r i j e f =
-      let c = IsCanonical-test t w in
-      let n : length k ≤ length k0 + length (prefix_of t)
-      = omega (arith, ap length i, length-append k0 (g (prefix_of t)), h (prefix_of t)) in
-      rw (deepest st rest ((cs, length k), v) f, e, j)
-      (record {
-        stations = (
-          omega arith,
-          below-canonical t c,
-          omega (arith, n, l, longest-below t c),
-          omega
-              (arith, l, longest-below t c),
-          tt,
-        );
-        reserved = r;
-        short = omega (arith, n, l, longest-below t c);
-      })
-
-  start-at : (g : Grown) (t : Trie V) (k0 : SegmentList) (v : Option (Bor V)) → option_copied v ≡ value_of t
-      → remaining_entries g (k0 ++ g (prefix_of t)) (((children_in t, length (k0 ++ g (prefix_of t))), v) ∷ [])
-      ≡ segments_after k0 (entries_of g t)
-  start-at g t k0 v e =
-      rw (take_all (length (k0 ++ g (prefix_of t))) (k0 ++ g (prefix_of t)) (omega arith), e)
-      (sym (own-entries g k0 t))
-
-  pub start-entries : (g : Grown) (t : Trie V) (k0 k : SegmentList) (v : Option (Bor V)) (cs : Children V)
-      (st rest : List (BackLevel V)) → k ≡ k0 ++ g (prefix_of t) → option_copied v ≡ value_of t → cs ≡ children_in t
-      → rest ≡ [] → st ≡ rest ++ ((cs, length k), v) ∷ []
-      → remaining_entries g k (reverse st) ≡ segments_after k0 (entries_of g t)
-  start-entries g t k0 k v cs st rest i h j e f = rw (deepest st rest ((cs, length k), v) f, e, i, j)
-      (start-at g t k0 v h)
-
-  -- a walk over nothing
-  pub no-walk : (longest places : ℕ) (k : SegmentList) (st : List (BackLevel V)) → k ≡ [] → st ≡ []
-      → IsBackWalk longest places k (reverse st)
-  no-walk longest places k st e f = rw (e, f) (record { stations = tt; reserved = tt; short = omega arith })

@@ -13,11 +13,11 @@ use Rattle.rart_trie.specs.tries.Trie.{Trie, node, Children, no_children, child,
 use Rattle.rart_trie.specs.tries.Trie.{value_of, IsCanonical}
 use Rattle.rart_trie.specs.walks.Walk.{Level}
 use Rattle.rart_nodes.specs.walks.WalkSteps.{DeepestLeft, DeepestStep, PushesLevel}
-use Rattle.rart_nodes.proofs.ranges.StartPaths.{IsChildOf}
 use Rattle.rart_trie.proofs.tree_stats.StatsLemmas.{height-keys}
 use Rattle.rart_trie.proofs.tries.CanonicalTests.{IsCanonical-test}
 use Rattle.rart_trie.proofs.tries.StepLemmas.{pick}
-use Rattle.rart_nodes.proofs.walks.WalkLemmas.{deepest, left-level, level-before, went}
+use Rattle.rart_nodes.proofs.walks.PathLemmas.{IsChildOf, deepest}
+use Rattle.rart_nodes.proofs.walks.WalkLemmas.{left-level, level-before, went}
 use Rattle.rart_nodes.proofs.walks.WalkVisits.{has-child}
 
 alone : (V : Type 0) (p : List ℕ) (n b : ℕ) (t : Trie V) → IsCanonical {V = V} (node p None n (child b t no_children))

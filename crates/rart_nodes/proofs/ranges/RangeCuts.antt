@@ -3,7 +3,11 @@ use Rattle.std.proofs.Common.{◌≡◌, ℕ, ◌+◌, ◌<◌, ◌≤◌, ◌^�
 use Rattle.std.proofs.Common.{length, Option, subst, if◌then◌else◌}
 use Rattle.std.proofs.lemmas.List.{length-map}
 use Rattle.std.specs.declared.ops.Bound.{Bound}
-use Rattle.rart_keys.specs.Ranges.{between, bound_bytes, is_inclusive, is_from_bound, is_to, pairs_from, up_to}
+use Rattle.rart_keys.specs.Ranges.{between, bound_bytes, is_inclusive, is_from, is_from_bound, is_to, pairs_from}
+use Rattle.rart_keys.specs.Ranges.{up_to}
+use Rattle.rart_keys.proofs.RangeLemmas.{from_bound-bytes, up_to-from_bound}
+use Rattle.std.proofs.lemmas.List.Elements.{filter_agree}
+use Rattle.rart_trie.proofs.tries.PairLemmas.{tree_pairs-ascend}
 use Rattle.rart_keys.specs.SortedMap.{keys_of, longest_key}
 use Rattle.rart_nodes.specs.ranges.Spans.{cut_between, span_visits}
 use Rattle.rart_trie.specs.ranges.Starts.{entries_from, entries_to}
@@ -13,11 +17,17 @@ use Rattle.rart_trie.specs.walks.Cut.{cut, cut_pairs}
 use Rattle.rart_trie.specs.walks.Walk.{SegmentList, joined_bytes, tree_entries}
 use Rattle.rart_nodes.specs.walks.PathParts.{one_segment}
 use Rattle.rart_nodes.specs.walks.ViewSegments.{AreViews}
-use Rattle.rart_nodes.proofs.ranges.StartLemmas.{from_bound-between}
 use Rattle.rart_nodes.proofs.walks.CutLemmas.{joined-cut, tree-cut}
 use Rattle.rart_nodes.proofs.walks.PartCuts.{views-cut}
 
 module _ {V : Type 0} where
+  -- the pairs from a start on, up to an end
+  pub from_bound-between : (a b : Bound (List ℕ)) (o : Option (Trie V)) → IsCanonicalTree o
+      → up_to b (pairs_from (is_inclusive a) (bound_bytes a) (tree_pairs o)) ≡ between a b (tree_pairs o)
+  from_bound-between a b o w = ap (up_to b)
+      (filter_agree (λ e. is_from_bound (is_inclusive a) (bound_bytes a) e.0) (λ e. is_from a e.0)
+      (λ e. from_bound-bytes a e.0) (tree_pairs o)) ∙ up_to-from_bound a b (tree_pairs o) (tree_pairs-ascend o w)
+
   cut-from_bound : (h : Bool) (r : List ℕ) (s : List (List ℕ)) (es : List (List ℕ × V))
       → entries_from h r (cut_pairs s es) ≡ cut_pairs s (pairs_from h r es)
   cut-from_bound h r s [] = refl

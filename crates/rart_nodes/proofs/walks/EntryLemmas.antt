@@ -24,7 +24,7 @@ length-bytes [] = refl
 length-bytes (b ∷ p) = omega (arith, length-bytes p)
 
 module _ {V : Type 0} where
-  join-append : (xs ys : List (SegmentList × V)) → join_all (xs ++ ys) ≡ join_all xs ++ join_all ys
+  pub join-append : (xs ys : List (SegmentList × V)) → join_all (xs ++ ys) ≡ join_all xs ++ join_all ys
   join-append xs ys = map-append (λ e. (joined_bytes e.0, e.1)) xs ys
 
   pub join-after : (ps : SegmentList) (es : List (SegmentList × V))

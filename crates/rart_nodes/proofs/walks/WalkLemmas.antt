@@ -1,33 +1,25 @@
--- What a walk over a tree keeps as it continues to a node, or leaves a level.
-use Rattle.std.proofs.Common.{◌≡◌, ◌≢◌, ℕ, zero, suc, ◌+◌, ◌*◌, ◌<◌, ◌≤◌, ⊎_elim, true, List, [], ◌∷◌, ◌++◌, length}
+-- What a walk over a tree keeps as it begins at a node, continues to one, or leaves a level.
+use Rattle.std.proofs.Common.{◌≡◌, ◌≢◌, ℕ, suc, ◌+◌, ◌*◌, ◌<◌, ◌≤◌, ⊎_elim, true, List, [], ◌∷◌, ◌++◌, length}
 use Rattle.std.proofs.Common.{take, reverse, ◌⊎◌, inl, inr, Option, Some, None, refl, sym, ap, ◌∙◌, arith}
 use Rattle.std.proofs.Common.{length-append, slice_index_or, slice_set}
 use Rattle.std.proofs.lemmas.Bool.Decides.{nat_tests}
-use Rattle.std.proofs.lemmas.List.{append-nil, append_assoc, length-reverse, length-take, map-append, reverse-append}
-use Rattle.std.proofs.lemmas.List.{take-append-le, take-take, take_all}
+use Rattle.std.proofs.lemmas.List.{append-nil, append_assoc, length-reverse, map-append, take_all}
 use Rattle.rart_trie.specs.tries.CanonicalTest.{is_canonical}
 use Rattle.rart_keys.specs.SortedMap.{longest_key}
 use Rattle.rart_trie.specs.shapes.Shape.{capacity_of}
-use Rattle.rart_trie.specs.walks.Walk.{SegmentList, Grown, IsShort, Level, IsReserved, segments_after, value_at}
-use Rattle.rart_trie.specs.walks.Walk.{entries_of, children_entries, entries_below, nodes_below, AreLevels, IsWalk}
+use Rattle.rart_trie.specs.walks.Walk.{SegmentList, Grown, IsShort, Level, segments_after, value_at, entries_of}
+use Rattle.rart_trie.specs.walks.Walk.{children_entries, entries_below, nodes_below, AreLevels, IsWalk}
 use Rattle.rart_nodes.specs.walks.WalkSteps.{DeepestLeft, DeepestStep, PushesLevel}
 use Rattle.rart_trie.specs.tries.Trie.{Trie, node, Children, no_children, child, children_in, children_pairs, pairs_of}
-use Rattle.rart_trie.specs.tries.Trie.{prefix_of, value_of, StartsWith, IsCanonical, AreCanonical}
-use Rattle.rart_trie.specs.tries.Trie.{capacity_in, edges_of}
+use Rattle.rart_trie.specs.tries.Trie.{prefix_of, value_of, AreCanonical, capacity_in, edges_of}
 use Rattle.rart_trie.specs.tries.Tree.{tree_pairs}
 use Rattle.rart_trie.specs.tries.TrieCode.{node_count, child_count}
 use Rattle.rart_trie.proofs.tries.CanonicalTests.{IsCanonical-test, test-IsCanonical, longest_key-append}
 use Rattle.rart_trie.proofs.tries.CanonicalTests.{canonical-lower}
 use Rattle.rart_trie.proofs.tries.NodeCounts.{some-pairs}
-use Rattle.rart_trie.proofs.tries.StepLemmas.{longest-below}
-
--- what is pushed last comes first
-pub deepest : {A : Type 0} (xs ys : List A) (x : A) → xs ≡ ys ++ x ∷ [] → reverse xs ≡ x ∷ reverse ys
-deepest xs ys x e = ap reverse e ∙ reverse-append ys (x ∷ [])
-
-pub starts-long : (b : ℕ) (p : List ℕ) → StartsWith b p → 0 < length p
-starts-long b [] h = absurd h
-starts-long b (x ∷ p) h = omega arith
+use Rattle.rart_nodes.proofs.walks.PathLemmas.{ArePart, Child, IsPathReserved, Space, child-known, child-pushed}
+use Rattle.rart_nodes.proofs.walks.PathLemmas.{child-space, deepest, first-reserved, last-set, level-left, level-pushed}
+use Rattle.rart_nodes.proofs.walks.PathLemmas.{no-levels, node-part, take-path}
 
 falls-by : (n m w : ℕ) → 2 * n + 1 + (2 * m + 1 + w) < 2 * (n + 1 + m) + 1 + w
 falls-by n m w = omega arith
@@ -38,31 +30,11 @@ same-rest x y xs ys e = cc
 some-capacity : (n : ℕ) → capacity_of (suc n) ≡ 0 → ⊥
 some-capacity n e = grind (arith, nat_tests)
 
-last-set : {A : Type 0} (xs : List A) (n : ℕ) (x y : A) → n + 1 ≡ length xs → x ≡ slice_index_or xs n x
-    → (rest : List A) × ((xs ≡ rest ++ x ∷ []) × (slice_set xs n y ≡ rest ++ y ∷ []))
-last-set [] n x y h e = absurd (omega arith)
-last-set (a ∷ []) zero x y h e = ([], (ap (λ z. z ∷ []) (sym e), refl))
-last-set (a ∷ b ∷ xs) zero x y h e = absurd (omega arith)
-last-set (a ∷ xs) (suc n) x y h e = let r = last-set xs n x y (omega arith) e in
-    (a ∷ r.0, (ap (λ z. a ∷ z) r.1.0, ap (λ z. a ∷ z) r.1.1))
-
--- the first segments of a path that was cut after them and continues
-take-path : (i d : ℕ) (k p : SegmentList) → i ≤ d → d ≤ length k → take i (take d k ++ p) ≡ take i k
-take-path i d k p h l = take-append-le i (take d k) p (omega (arith, length-take d k)) ∙ take-take i d k h
-
 module _ {V : Type 0} where
   -- how much there is to do at most
   abbrev pub work_left : List (Level V) → ℕ
   work_left [] = 0
   work_left (l ∷ ls) = 2 * child_count l.0 + 1 + work_left ls
-
-  pub below-canonical : (t : Trie V) → IsCanonical t → AreCanonical 0 (children_in t)
-  below-canonical (node p v n cs) w = w.2
-
-  reserved-after : (longest places : ℕ) (l : Level V) (ls : List (Level V)) → IsReserved longest places (l ∷ ls)
-      → IsReserved longest places ls
-  reserved-after longest places l [] h = tt
-  reserved-after longest places l (m ∷ ls) h = h
 
   -- a tree with a node has pairs
   pub has-pairs : (t : Trie V) (o : Option (Trie V)) → is_canonical t ≡ true → Some t ≡ o → tree_pairs o ≢ []
@@ -82,6 +54,10 @@ module _ {V : Type 0} where
       let r = last-set st n l (ds, l.1) h e in
       record { rest = r.0; edge = f.0; others = ds; was = r.1.0 ∙ ap (λ cs. r.0 ++ (cs, l.1) ∷ []) f.1; is = r.1.1 }
 
+  pub after-none : (es : List (SegmentList × V)) → segments_after [] es ≡ es
+  after-none [] = refl
+  after-none (e ∷ es) = ap (λ z. e ∷ z) (after-none es)
+
   pub after-append : (q : SegmentList) (xs ys : List (SegmentList × V))
       → segments_after q (xs ++ ys) ≡ segments_after q xs ++ segments_after q ys
   after-append q xs ys = map-append (λ e. (q ++ e.0, e.1)) xs ys
@@ -96,8 +72,19 @@ module _ {V : Type 0} where
   after-own q None es = refl
   after-own q (Some v) es = ap (λ k. (k, v) ∷ segments_after q es) (append-nil q)
 
+  pub own-entries : (g : Grown) (q : SegmentList) (t : Trie V) → segments_after q (entries_of g t)
+      ≡ segments_after (q ++ g (prefix_of t)) (value_at [] (value_of t) ++ children_entries g (children_in t))
+  own-entries g q (node p v n ds) = after-twice q (g p) (value_at [] v ++ children_entries g ds)
+
+  -- the value comes first
+  own-first : (g : Grown) (q : SegmentList) (t : Trie V) → segments_after q (entries_of g t)
+      ≡ value_at (q ++ g (prefix_of t)) (value_of t)
+      ++ segments_after (q ++ g (prefix_of t)) (children_entries g (children_in t))
+  own-first g q t = own-entries g q t
+      ∙ after-own (q ++ g (prefix_of t)) (value_of t) (children_entries g (children_in t))
+
   -- the entries below the levels of a path don't depend on what it keeps after them
-  pub entries_below-same : (g : Grown) (longest deep d : ℕ) (k p : SegmentList) (ls : List (Level V))
+  entries_below-same : (g : Grown) (longest deep d : ℕ) (k p : SegmentList) (ls : List (Level V))
       → AreLevels longest deep ls → deep ≤ d → d ≤ length k → entries_below g (take d k ++ p) ls
       ≡ entries_below g k ls
   entries_below-same g longest deep d k p [] w h l = refl
@@ -107,6 +94,60 @@ module _ {V : Type 0} where
         entries_below-same g longest x.1 d k p ls w.4 (omega (arith, w.0))
             l,
       ) refl
+
+  -- a level of some of a node's children comes after the others
+  pub record LevelPushed (g : Grown) (longest places : ℕ) (k k1 : SegmentList) (ls ms : List (Level V))
+      (cs : Children V) : Type 0 where
+    pub path : IsWalk longest places k1 ms
+    pub still : entries_below g k1 ms ≡ segments_after k1 (children_entries g cs) ++ entries_below g k ls
+
+  pub pushed : (g : Grown) (longest places places1 : ℕ) (k k1 : SegmentList) (t : Trie V) (cs : Children V)
+      (st st1 : List (Level V)) → IsShort g → is_canonical t ≡ true → IsWalk longest places k (reverse st)
+      → longest < places → IsPathReserved longest k (length st) (Some t) → ArePart 0 cs (children_in t)
+      → k1 ≡ k ++ g (prefix_of t) → st1 ≡ st ++ (cs, length k1) ∷ [] → places1 ≡ places
+      → LevelPushed g longest places1 k k1 (reverse st) (reverse st1) cs
+  pushed g longest places places1 k k1 t cs st st1 s c q r w a i e f =
+      let p : SegmentList = g (prefix_of t) in
+      rw (deepest st1 st (cs, length k1) e, f, i) (record {
+        path = level-pushed g longest places k t cs (reverse st) s c q r
+            (w.0, omega (arith, w.1, length-reverse st)) a;
+        still = rw (take_all (length (k ++ p)) (k ++ p) (omega arith))
+            (ap (λ z. segments_after (k ++ p) (children_entries g cs) ++ z)
+            (sym (ap (λ z. entries_below g (z ++ p) (reverse st)) (take_all (length k) k (omega arith)))
+            ∙ entries_below-same g longest (length k) (length k) k p (reverse st) q.stations (omega arith)
+            (omega arith)));
+      })
+
+  -- a walk begins at a node, to which the path is k0
+  pub start : (g : Grown) (longest places : ℕ) (t : Trie V) (k0 k : SegmentList) (cs : Children V)
+      (st rest : List (Level V)) → IsShort g → is_canonical t ≡ true → length k0 + longest_key (pairs_of t) ≤ longest
+      → longest < places → k ≡ k0 ++ g (prefix_of t) → cs ≡ children_in t → rest ≡ [] → st ≡ rest ++ (cs, length k) ∷ []
+      → IsWalk longest places k (reverse st)
+  start g longest places t k0 k cs st rest h w l r i j e f
+      = (pushed g longest places places k0 k t (children_in t) [] st h w
+      (no-levels longest places k0 (omega (arith, l))) r (first-reserved longest 0 k0 t w refl l) (node-part t w) i
+      (f ∙ ap (λ z. z ++ (cs, length k) ∷ []) e ∙ ap (λ z. (z, length k) ∷ []) j) refl).path
+
+  start-at : (g : Grown) (t : Trie V) (k0 : SegmentList)
+      → value_at (k0 ++ g (prefix_of t)) (value_of t) ++ entries_below g (k0 ++ g (prefix_of t))
+      ((children_in t, length (k0 ++ g (prefix_of t))) ∷ []) ≡ segments_after k0 (entries_of g t)
+  start-at g t k0 = rw (
+    take_all (length (k0 ++ g (prefix_of t))) (k0 ++ g (prefix_of t)) (omega arith),
+    append-nil (segments_after (k0 ++ g (prefix_of t)) (children_entries g (children_in t))),
+  ) (sym (own-first g k0 t))
+
+  pub start-entries : (g : Grown) (t : Trie V) (k0 k : SegmentList) (o : Option V) (cs : Children V)
+      (st rest : List (Level V)) → k ≡ k0 ++ g (prefix_of t) → o ≡ value_of t → cs ≡ children_in t → rest ≡ []
+      → st ≡ rest ++ (cs, length k) ∷ []
+      → value_at k o ++ entries_below g k (reverse st) ≡ segments_after k0 (entries_of g t)
+  start-entries g t k0 k o cs st rest i v j e f = rw (deepest st rest (cs, length k) f, e, i, v, j) (start-at g t k0)
+
+  nodes-at : (t : Trie V) → child_count (children_in t) + 0 + 1 ≡ node_count t
+  nodes-at (node p v n cs) = omega arith
+
+  pub start-nodes : (t : Trie V) (d : ℕ) (cs : Children V) (st rest : List (Level V)) → cs ≡ children_in t → rest ≡ []
+      → st ≡ rest ++ (cs, d) ∷ [] → nodes_below (reverse st) + 1 ≡ node_count t
+  start-nodes t d cs st rest j e f = rw (deepest st rest (cs, d) f, e, j) (nodes-at t)
 
   -- a walk continues from the deepest level to its first child t, after whose prefix the path is k1
   pub record Turn (g : Grown) (longest places : ℕ) (k k1 : SegmentList) (ls ms : List (Level V)) (t : Trie V) : Type 0
@@ -121,54 +162,25 @@ module _ {V : Type 0} where
       → entries_below g k ((child b t cs, d) ∷ ls) ≡ value_at (take d k ++ g (prefix_of t)) (value_of t)
       ++ entries_below g (take d k ++ g (prefix_of t))
       ((children_in t, length (take d k ++ g (prefix_of t))) ∷ (cs, d) ∷ ls)
-  turn-still g longest d k (node p v n ds) b cs ls w h =
-      let q : SegmentList = take d k in
-      let own : segments_after q (entries_of g (node p v n ds))
-      ≡ value_at (q ++ g p) v ++ segments_after (q ++ g p) (children_entries g ds)
-      = after-twice q (g p) (value_at [] v ++ children_entries g ds)
-      ∙ after-own (q ++ g p) v (children_entries g ds) in
+  turn-still g longest d k t b cs ls w h =
+      let p : SegmentList = g (prefix_of t) in
       rw (
-        after-append q (entries_of g (node p v n ds)) (children_entries g cs),
-        own,
-        take_all (length (q ++ g p))
-            (q ++ g p) (omega arith),
-        take-path d d k (g p) (omega arith) h,
-        entries_below-same g longest d d k (g p) ls w
-            (omega arith) h,
+        after-append (take d k) (entries_of g t) (children_entries g cs),
+        own-first g (take d k) t,
+        take_all (length (take d k ++ p)) (take d k ++ p) (omega arith),
+        take-path d d k p (omega arith) h,
+        entries_below-same g longest d d k p ls w (omega arith) h,
       )
       (simp append_assoc)
 
   -- what is known of the first child of the deepest level
-  pub record Child (longest places : ℕ) (k : SegmentList) (d : ℕ) (t : Trie V) (cs : Children V)
-      (ls : List (Level V)) : Type 0 where
-    pub inside : d ≤ length k
-    pub long : 0 < length (prefix_of t)
-    pub fits : d + length (prefix_of t) + longest_key (children_pairs (children_in t)) ≤ longest
-    pub deep : length ls + length (prefix_of t) + longest_key (children_pairs (children_in t)) ≤ longest
-    pub below : AreCanonical 0 (children_in t)
-    pub others : AreCanonical 0 cs
-    pub others_fit : d + longest_key (children_pairs cs) ≤ longest
-    pub others_deep : length ls + longest_key (children_pairs cs) ≤ longest
-    pub above : AreLevels longest d ls
-    pub reserved : longest < places
-
   pub first-child : (longest places : ℕ) (k : SegmentList) (d : ℕ) (t : Trie V) (b : ℕ) (cs : Children V)
       (ls : List (Level V)) → IsWalk longest places k ((child b t cs, d) ∷ ls) → Child longest places k d t cs ls
   first-child longest places k d t b cs ls p =
-      let w = p.stations in
+      let w = p.stations.1 in
       let m = longest_key-append (pairs_of t) (children_pairs cs) in
-      record {
-        inside = w.0;
-        long = starts-long b (prefix_of t) w.1.1;
-        fits = omega (arith, w.2, m, longest-below t w.1.2);
-        deep = omega (arith, w.3, m, longest-below t w.1.2);
-        below = below-canonical t w.1.2;
-        others = canonical-lower 0 (suc b) cs (omega arith) w.1.3;
-        others_fit = omega (arith, w.2, m);
-        others_deep = omega (arith, w.3, m);
-        above = w.4;
-        reserved = p.reserved;
-      }
+      child-known longest places d b k t cs (child b t cs) ls p w.1 w.2
+      (canonical-lower 0 (suc b) cs (omega arith) w.3, omega (arith, m)) (omega (arith, m))
 
   work-falls : (t : Trie V) (cs : Children V) (w : ℕ)
       → 2 * child_count (children_in t) + 1 + (2 * child_count cs + 1 + w) < 2 * (node_count t + child_count cs) + 1 + w
@@ -177,25 +189,15 @@ module _ {V : Type 0} where
   nodes-fall : (t : Trie V) (m w : ℕ) → node_count t + m + w ≡ child_count (children_in t) + (m + w) + 1
   nodes-fall (node p v n ds) m w = omega arith
 
-  turn-at : (g : Grown) (longest places places1 d : ℕ) (k : SegmentList) (t : Trie V) (b : ℕ) (cs : Children V)
-      (ls : List (Level V)) → IsShort g → IsWalk longest places k ((child b t cs, d) ∷ ls) → places ≤ places1
-      → Turn g longest places1 k (take d k ++ g (prefix_of t)) ((child b t cs, d) ∷ ls)
+  turn-at : (g : Grown) (longest places d : ℕ) (k : SegmentList) (t : Trie V) (b : ℕ) (cs : Children V)
+      (ls : List (Level V)) → IsShort g → IsWalk longest places k ((child b t cs, d) ∷ ls)
+      → Turn g longest places k (take d k ++ g (prefix_of t)) ((child b t cs, d) ∷ ls)
       ((children_in t, length (take d k ++ g (prefix_of t))) ∷ (cs, d) ∷ ls) t
-  turn-at g longest places places1 d k t b cs ls s p h =
+  turn-at g longest places d k t b cs ls s p =
       let c = first-child longest places k d t b cs ls p in
-      let i = c.inside in
-      let n : length (take d k ++ g (prefix_of t)) ≡ d + length (g (prefix_of t))
-      = omega (arith, length-append (take d k) (g (prefix_of t)), length-take d k) in
-      let m = s (prefix_of t) in
-      let below : AreLevels longest (length (take d k ++ g (prefix_of t))) ((cs, d) ∷ ls)
-      = (omega (arith, n), c.others, c.others_fit, c.others_deep, c.above) in
       record {
-        path = record {
-          stations = (omega arith, c.below, omega (arith, n, m, c.fits), omega (arith, c.deep, c.long), below);
-          reserved = omega (arith, c.reserved);
-          short = omega (arith, n, m, c.fits);
-        };
-        still = turn-still g longest d k t b cs ls c.above i;
+        path = child-pushed g longest places d k t cs ls s c;
+        still = turn-still g longest d k t b cs ls c.above c.inside;
         falls = work-falls t cs (work_left ls);
         counted = nodes-fall t (child_count cs) (nodes_below ls);
       }
@@ -206,57 +208,32 @@ module _ {V : Type 0} where
     pub falls : work_left rest < work_left ls
     pub counted : nodes_below ls ≡ nodes_below rest
 
-  pub deeper : (longest deep more : ℕ) (ls : List (Level V)) → deep ≤ more → AreLevels longest deep ls
-      → AreLevels longest more ls
-  deeper longest deep more [] h w = tt
-  deeper longest deep more (l ∷ ls) h w = (omega (arith, w.0), w.1, w.2, w.3, w.4)
-
   leave-at : (g : Grown) (longest places d : ℕ) (k : SegmentList) (rest : List (Level V))
       → IsWalk longest places k ((no_children, d) ∷ rest) → Left g longest places k ((no_children, d) ∷ rest) rest
-  leave-at g longest places d k rest q =
-      record {
-        path = record {
-          stations = deeper longest d (length k) rest q.stations.0 q.stations.4;
-          reserved
-              = reserved-after longest places (no_children, d) rest q.reserved;
-          short = q.short;
-        };
-        still = refl;
-        falls = omega arith;
-        counted = omega arith;
-      }
+  leave-at g longest places d k rest q = record {
+    path = level-left longest places k (no_children, d) rest q;
+    still = refl;
+    falls = omega arith;
+    counted = omega arith;
+  }
 
   -- the levels before a child is visited
   pub level-before : (d : ℕ) (t : Trie V) (st st1 : List (Level V)) (s : DeepestStep st t d st1)
       → reverse st ≡ (child s.edge t s.others, d) ∷ reverse s.rest
   level-before d t st st1 s = deepest st s.rest (child s.edge t s.others, d) s.was
 
-  -- the capacity that a turn finds
-  pub record Space (longest places : ℕ) (k : SegmentList) (d : ℕ) (t : Trie V) (after : List (Level V)) : Type 0 where
-    pub inside : d ≤ length k
-    pub bytes : d + length (prefix_of t) ≤ longest
-    pub place : length after < places
+  -- the child that is visited
+  pub next-child : (longest places d : ℕ) (k : SegmentList) (t : Trie V) (st st1 : List (Level V))
+      → IsWalk longest places k (reverse st) → (s : DeepestStep st t d st1)
+      → Child longest places k d t s.others (reverse s.rest)
+  next-child longest places d k t st st1 p s = first-child longest places k d t s.edge s.others (reverse s.rest)
+      (rw (level-before d t st st1 s) at p)
 
   pub space : (longest places d : ℕ) (k : SegmentList) (t : Trie V) (st st1 : List (Level V))
-      → IsWalk longest places k (reverse st) → DeepestStep st t d st1 → Space longest places k d t st1
-  space longest places d k t st st1 p s =
-      let q : IsWalk longest places k ((child s.edge t s.others, d) ∷ reverse s.rest)
-      = rw (level-before d t st st1 s) at p in
-      let c = first-child longest places k d t s.edge s.others (reverse s.rest) q in
-      record {
-        inside = c.inside;
-        bytes = omega (arith, c.fits);
-        place
-            = omega (
-              arith,
-              c.deep,
-              c.long,
-              c.reserved,
-              ap length s.is,
-              length-append s.rest ((s.others, d) ∷ []),
-              length-reverse s.rest,
-            );
-      }
+      → IsWalk longest places k (reverse st) → DeepestStep st t d st1 → Space longest places d t (length st1)
+  space longest places d k t st st1 p s = child-space longest places d (length st1) k t s.others (reverse s.rest)
+      (next-child longest places d k t st st1 p s)
+      (omega (arith, ap length s.is, length-append s.rest ((s.others, d) ∷ []), length-reverse s.rest))
 
   -- a leaf gets no level
   turn-leaf : (g : Grown) (longest places : ℕ) (k k1 : SegmentList) (ls ms : List (Level V)) (cs : Children V)
@@ -280,15 +257,15 @@ module _ {V : Type 0} where
   -- a walk continues to a child
   pub turn-either : (g : Grown) (longest places places1 d : ℕ) (k k1 : SegmentList) (t : Trie V)
       (st st1 st2 : List (Level V)) → IsShort g → IsWalk longest places k (reverse st)
-      → DeepestStep st t d st1 → k1 ≡ take d k ++ g (prefix_of t) → PushesLevel st1 t (length k1) st2 → places ≤ places1
+      → DeepestStep st t d st1 → k1 ≡ take d k ++ g (prefix_of t) → PushesLevel st1 t (length k1) st2 → places1 ≡ places
       → Turn g longest places1 k k1 (reverse st) (reverse st2) t
   turn-either g longest places places1 d k k1 t st st1 st2 h p s i o m =
       let q : IsWalk longest places k ((child s.edge t s.others, d) ∷ reverse s.rest)
       = rw (level-before d t st st1 s) at p in
-      let r : Turn g longest places1 k k1 ((child s.edge t s.others, d) ∷ reverse s.rest)
+      let r : Turn g longest places k k1 ((child s.edge t s.others, d) ∷ reverse s.rest)
       ((children_in t, length k1) ∷ (s.others, d) ∷ reverse s.rest) t
-      = rw i (turn-at g longest places places1 d k t s.edge s.others (reverse s.rest) h q m) in
-      rw (level-before d t st st1 s) (⊎_elim (λ f. rw f r) (λ f. rw f.0 (turn-leaf g longest places1 k k1
+      = rw i (turn-at g longest places d k t s.edge s.others (reverse s.rest) h q) in
+      rw (m, level-before d t st st1 s) (⊎_elim (λ f. rw f r) (λ f. rw f.0 (turn-leaf g longest places k k1
       ((child s.edge t s.others, d) ∷ reverse s.rest) ((s.others, d) ∷ reverse s.rest) (children_in t) t f.1 r))
       (went d (length k1) t st st1 st2 s o))
 
@@ -319,11 +296,3 @@ module _ {V : Type 0} where
   childless (node p v n (child b t cs)) w e =
       let c : n ≡ capacity_of (length (edges_of (child b t cs))) = (IsCanonical-test (node p v n (child b t cs)) w).1 in
       absurd (some-capacity (length (edges_of cs)) (sym c ∙ e))
-
-  -- the prefix of a node is no longer than its longest key
-  pub prefix-short : (t : Trie V) → is_canonical t ≡ true → length (prefix_of t) ≤ longest_key (pairs_of t)
-  prefix-short t w = omega (arith, longest-below t (IsCanonical-test t w))
-
-  pub after-none : (es : List (SegmentList × V)) → segments_after [] es ≡ es
-  after-none [] = refl
-  after-none (e ∷ es) = ap (λ z. e ∷ z) (after-none es)

@@ -1,21 +1,17 @@
 -- A walk whose path keeps the bytes of a key visits no more nodes on its way to the key than that has bytes.
 use Rattle.std.proofs.Common.{◌≡◌, ℕ, ◌+◌, ◌<◌, ◌≤◌, ◌⊎◌, inl, inr, ⊎_elim, true, List, [], ◌∷◌, ◌++◌, length}
-use Rattle.std.proofs.Common.{length-append, take, reverse, Some, None, refl, ap, arith}
-use Rattle.std.proofs.lemmas.List.{length-take}
+use Rattle.std.proofs.Common.{take, reverse, Some, None, refl, arith}
 use Rattle.rart_trie.specs.tries.CanonicalTest.{is_canonical}
 use Rattle.rart_trie.specs.walks.Walk.{SegmentList, Grown, KeepsEach, Level, IsWalk}
 use Rattle.rart_nodes.specs.walks.WalkSteps.{DeepestLeft, DeepestStep, PushesLevel}
 use Rattle.rart_trie.specs.tries.Trie.{Trie, node, Children, no_children, child, children_in, prefix_of, value_of}
 use Rattle.rart_trie.specs.tries.Trie.{IsCanonical}
 use Rattle.rart_trie.proofs.tries.CanonicalTests.{IsCanonical-test}
-use Rattle.rart_nodes.proofs.walks.WalkLemmas.{first-child, deepest, level-before}
+use Rattle.rart_nodes.proofs.walks.PathLemmas.{child-longer, deepest}
+use Rattle.rart_nodes.proofs.walks.WalkLemmas.{level-before, next-child}
 
 not-childless : (V : Type 0) (p : List ℕ) (n : ℕ) → IsCanonical {V = V} (node p None n no_children) → ⊥
 not-childless V p n w = ⊎_elim (λ h. cc) (λ h. absurd h) w.0
-
-grown_long : (g : Grown) (p : List ℕ) → KeepsEach g → 0 < length p → 0 < length (g p)
-grown_long g [] h l = absurd (omega arith)
-grown_long g (b ∷ p) h l = h b p
 
 module _ {V : Type 0} where
   -- the deepest level is at the end of the path, and none of its children was visited
@@ -45,18 +41,14 @@ module _ {V : Type 0} where
       → KeepsEach g → IsWalk longest places k (reverse st) → HasVisited n m k (reverse st)
       → DeepestStep st t d st1 → k1 ≡ take d k ++ g (prefix_of t) → m1 ≡ m + 1 → m1 ≤ n + length k1
   visit-one g longest places n m m1 d k k1 t st st1 bytes p h s i f =
-      let e = level-before d t st st1 s in
-      let q : IsWalk longest places k ((child s.edge t s.others, d) ∷ reverse s.rest) = rw e at p in
-      let c = first-child longest places k d t s.edge s.others (reverse s.rest) q in
-      let more : d < length k1 = omega (
+      let more = child-longer g longest places d k k1 t s.others (reverse s.rest) bytes
+      (next-child longest places d k t st st1 p s) i in
+      omega (
         arith,
-        ap length i,
-        length-append (take d k) (g (prefix_of t)),
-        length-take d k,
-        c.inside,
-        grown_long g (prefix_of t) bytes c.long,
-      ) in
-      omega (arith, f, one-more n m d k k1 (child s.edge t s.others) (reverse s.rest) (rw e at h) more)
+        f,
+        one-more n m d k k1 (child s.edge t s.others) (reverse s.rest)
+            (rw (level-before d t st st1 s) at h) more,
+      )
 
   fresh-node : (t : Trie V) (k : SegmentList) (ls : List (Level V)) → is_canonical t ≡ true → None ≡ value_of t
       → IsFresh k ((children_in t, length k) ∷ ls)

@@ -1,5 +1,6 @@
 -- How a descent to a bound passes a node.
 use Rattle.std.specs.Prelude.{ℕ, ◌≡◌, Bool, List, Option, Some, None, slice_get}
+use Rattle.std.specs.declared.cmp.Ordering.{Ordering}
 use Rattle.std.specs.declared.cmp.Ordering.TheVariants.{Less, Greater}
 use Rattle.std.specs.Ordering.{nat_cmp}
 use Rattle.std.specs.Cmp.Lexicographic.{slice_cmp}
@@ -8,35 +9,31 @@ use Rattle.rart_trie.specs.ranges.Starts.{children_above}
 use Rattle.rart_nodes.specs.ranges.UpperBounds.{if_included}
 use Rattle.rart_trie.specs.tries.Trie.{Trie, Children, child_in, prefix_of, value_of}
 
--- each string that begins with q is less than s
-abbrev pub AllLess : List ℕ → List ℕ → Type 0
-AllLess q s = (strip_prefix q s ≡ None) × (slice_cmp nat_cmp q s ≡ Less)
-
--- each of them is greater
-abbrev pub AllGreater : List ℕ → List ℕ → Type 0
-AllGreater q s = (strip_prefix q s ≡ None) × (slice_cmp nat_cmp q s ≡ Greater)
+-- each string that begins with q compares with s as o
+abbrev pub AllCompare : Ordering → List ℕ → List ℕ → Type 0
+AllCompare o q s = (strip_prefix q s ≡ None) × (slice_cmp nat_cmp q s ≡ o)
 
 -- the children after a byte, if there is one
 abbrev pub children_after : {V : Type 0} → Option ℕ → Children V → Children V
 children_after None cs = cs
 children_after (Some b) cs = children_above b cs
 
--- A walk from s yields at the node t the value v, then what is from r on at n, and then the children after e. Either
--- each key of t is greater than s; or s is t's own key, included if h; or s continues as r in the child at b.
-pub data StepsFrom {V : Type 0} (h : Bool) (s : List ℕ) (t : Trie V) (v : Option V) (e : Option ℕ)
-    (n : Option (Trie V)) (r : List ℕ) : Type 0 where
-  all_greater : AllGreater (prefix_of t) s → v ≡ value_of t → e ≡ None → n ≡ None → StepsFrom h s t v e n r
-  own_key : strip_prefix (prefix_of t) s ≡ Some r → slice_get r 0 ≡ None → v ≡ if_included h (value_of t) → e ≡ None
-      → n ≡ None → StepsFrom h s t v e n r
-  in_child : (b : ℕ) → strip_prefix (prefix_of t) s ≡ Some r → slice_get r 0 ≡ Some b → v ≡ None → e ≡ Some b
-      → n ≡ child_in b t → StepsFrom h s t v e n r
+-- A walk to or from s yields at the node t the value v, the children beyond e, and what is on this side of r at n.
+-- Either each key of t compares with s as o, and all of t is yielded; or s is t's own key, included if h, and of the
+-- children those beyond `own` are yielded; or s continues as r in the child at b, and the value is `way`.
+pub data Steps {V : Type 0} (o : Ordering) (own : Option ℕ) (way : Option V) (h : Bool) (s : List ℕ) (t : Trie V)
+    (v : Option V) (e : Option ℕ) (n : Option (Trie V)) (r : List ℕ) : Type 0 where
+  whole : AllCompare o (prefix_of t) s → v ≡ value_of t → e ≡ None → n ≡ None → Steps o own way h s t v e n r
+  own_key : strip_prefix (prefix_of t) s ≡ Some r → slice_get r 0 ≡ None → v ≡ if_included h (value_of t) → e ≡ own
+      → n ≡ None → Steps o own way h s t v e n r
+  in_child : (b : ℕ) → strip_prefix (prefix_of t) s ≡ Some r → slice_get r 0 ≡ Some b → v ≡ way → e ≡ Some b
+      → n ≡ child_in b t → Steps o own way h s t v e n r
 
--- A walk back from s yields at the node t what is until r at n, then the children before e, and then the value v.
--- Either each key of t is less than s; or s is t's own key, included if h; or s continues as r in the child at b.
-pub data StepsUntil {V : Type 0} (h : Bool) (s : List ℕ) (t : Trie V) (v : Option V) (e : Option ℕ)
-    (n : Option (Trie V)) (r : List ℕ) : Type 0 where
-  all_less : AllLess (prefix_of t) s → v ≡ value_of t → e ≡ None → n ≡ None → StepsUntil h s t v e n r
-  own_key : strip_prefix (prefix_of t) s ≡ Some r → slice_get r 0 ≡ None → v ≡ if_included h (value_of t) → e ≡ Some 0
-      → n ≡ None → StepsUntil h s t v e n r
-  in_child : (b : ℕ) → strip_prefix (prefix_of t) s ≡ Some r → slice_get r 0 ≡ Some b → v ≡ value_of t → e ≡ Some b
-      → n ≡ child_in b t → StepsUntil h s t v e n r
+-- A walk from s yields the value first, then what is from r on at n, and then the children after e.
+abbrev pub StepsFrom : {V : Type 0} → Bool → List ℕ → Trie V → Option V → Option ℕ → Option (Trie V) → List ℕ → Type 0
+StepsFrom h s t v e n r = Steps Greater None None h s t v e n r
+
+-- A walk back from s yields what is until r at n first, then the children before e, and then the value.
+abbrev pub StepsUntil : {V : Type 0} → Bool → List ℕ → Trie V → Option V → Option ℕ → Option (Trie V) → List ℕ
+    → Type 0
+StepsUntil h s t v e n r = Steps Less (Some 0) (value_of t) h s t v e n r

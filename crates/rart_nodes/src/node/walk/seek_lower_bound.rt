@@ -2,10 +2,11 @@
 ghost use Rattle.std.specs.Prelude.{◌≡◌, ◌≢◌, ◌≤◌, ◌<◌, ◌+◌, ◌++◌, [], ◌∷◌, length, reverse, vec_capacity, vec_len};
 ghost use Rattle.std.specs.Prelude.{IfOk, MatchOption, None, OnErr, option_map};
 ghost use Rattle.std.specs.Option.{option_copied};
+ghost use Rattle.std.specs.declared.cmp.Ordering.TheVariants.{Less};
 ghost use Rattle.rart_keys.specs.SortedMap.{longest_key};
 ghost use Rattle.rart_nodes.specs.ranges.Potential.{AreLow};
 ghost use Rattle.rart_trie.specs.ranges.Starts.{entries_from};
-ghost use Rattle.rart_nodes.specs.ranges.Steps.{AllLess, StepsFrom, children_after};
+ghost use Rattle.rart_nodes.specs.ranges.Steps.{AllCompare, StepsFrom, children_after};
 ghost use Rattle.rart_trie.specs.stats.Stats.{height, trie_height};
 ghost use Rattle.rart_nodes.specs.tries.SeenTrees.{length_bound, seen_keys, seen_pairs, seen_tree};
 ghost use Rattle.rart_trie.specs.tries.Trie.{children_in, pairs_of, prefix_of};
@@ -30,7 +31,7 @@ fn step_from<'a, 'k, P: Partial, V, C>(
     start: &'k [u8],
     included: bool,
 ) -> Option<Step<'a, 'k, P, V, C>>
-    ensures { MatchOption result (AllLess (prefix_of at.entry.node.now) start.now)
+    ensures { MatchOption result (AllCompare Less (prefix_of at.entry.node.now) start.now)
         (λ s. StepsFrom included start.now at.entry.node.now (option_copied s.value) s.edge
         (option_map (λ n. n.node.now) s.next) s.rest.now) }
 {

@@ -1,6 +1,6 @@
 use Rattle.std.proofs.Common.{rules, [], ◌∷◌, ◌<◌, ◌++◌, length, vec_capacity, arith, ap, ◌∙◌, refl}
-use Rattle.rart_nodes.proofs.walks.WalkLemmas.{prefix-short}
-use Rattle.rart_nodes.proofs.walks.WalkStarts.{start, start-entries, start-nodes}
+use Rattle.rart_nodes.proofs.walks.PathLemmas.{prefix-short}
+use Rattle.rart_nodes.proofs.walks.WalkLemmas.{start, start-entries, start-nodes}
 use Rattle.rart_nodes.proofs.node.walk.walk_at.Goals as goal
 
 pub grow-requires : goal.grow-requires

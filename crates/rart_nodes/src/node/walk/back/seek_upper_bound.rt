@@ -2,9 +2,10 @@
 ghost use Rattle.std.specs.Prelude.{◌≡◌, ◌≢◌, ◌≤◌, ◌<◌, ◌+◌, ◌++◌, [], ◌∷◌, length, reverse, vec_capacity, vec_len};
 ghost use Rattle.std.specs.Prelude.{IfOk, MatchOption, OnErr, option_map};
 ghost use Rattle.std.specs.Option.{option_copied};
+ghost use Rattle.std.specs.declared.cmp.Ordering.TheVariants.{Greater};
 ghost use Rattle.rart_keys.specs.SortedMap.{longest_key};
 ghost use Rattle.rart_nodes.specs.ranges.BackWalk.{IsBackWalk, remaining_entries};
-ghost use Rattle.rart_nodes.specs.ranges.Steps.{AllGreater, StepsUntil};
+ghost use Rattle.rart_nodes.specs.ranges.Steps.{AllCompare, StepsUntil};
 ghost use Rattle.rart_trie.specs.ranges.Under.{children_before};
 ghost use Rattle.rart_nodes.specs.ranges.UpperBounds.{entries_until};
 ghost use Rattle.rart_nodes.specs.tries.SeenTrees.{length_bound, seen_keys, seen_pairs, seen_tree};
@@ -31,7 +32,7 @@ fn step_until<'a, 'k, P: Partial, V, C>(
     end: &'k [u8],
     included: bool,
 ) -> Option<Step<'a, 'k, P, V, C>>
-    ensures { MatchOption result (AllGreater (prefix_of at.entry.node.now) end.now)
+    ensures { MatchOption result (AllCompare Greater (prefix_of at.entry.node.now) end.now)
         (λ s. StepsUntil included end.now at.entry.node.now (option_copied s.value) s.edge
         (option_map (λ n. n.node.now) s.next) s.rest.now) }
 {

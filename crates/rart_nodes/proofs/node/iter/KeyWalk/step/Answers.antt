@@ -3,15 +3,14 @@ use Rattle.std.specs.Option.{option_copied}
 use Rattle.rart_trie.specs.walks.Walk.{join_all, entries_ahead}
 use Rattle.rart_nodes.specs.walks.PathParts.{byte_segments, kept_bytes}
 use Rattle.rart_trie.proofs.edits.InsertLemmas.{fewer-within}
+use Rattle.rart_nodes.proofs.walks.PathLemmas.{key-walk}
 use Rattle.rart_nodes.proofs.walks.EntryLemmas.{joins-bytes, length-bytes}
 use Rattle.rart_nodes.proofs.node.iter.KeyWalk.step.Goals as goal
 
 pub invariant_of-self : goal.invariant_of-self
-invariant_of-self g c = record {
-  walk = c.advance.ensures.path;
-  path = c.advance.ensures.reserved;
-  within = fewer-within _ _ _ (omega (arith, c.advance.ensures.longest)) c.self.invariant.within;
-}
+invariant_of-self g c
+    = key-walk c.advance.ensures.path c.advance.ensures.reserved (omega (arith, c.advance.ensures.longest))
+    c.self.invariant.within
 
 pub new_from_slice-requires : goal.new_from_slice-requires
 new_from_slice-requires g c =
@@ -25,11 +24,9 @@ new_from_slice-requires g c =
     )) c.self.invariant.within
 
 pub invariant_of-self-2 : goal.invariant_of-self-2
-invariant_of-self-2 g c = record {
-  walk = c.advance.ensures.path;
-  path = c.advance.ensures.reserved;
-  within = fewer-within _ _ _ (omega (arith, c.advance.ensures.longest)) c.self.invariant.within;
-}
+invariant_of-self-2 g c
+    = key-walk c.advance.ensures.path c.advance.ensures.reserved (omega (arith, c.advance.ensures.longest))
+    c.self.invariant.within
 
 pub returns-clause-pairs : goal.returns-clause-pairs
 returns-clause-pairs g c =

@@ -1,9 +1,6 @@
-use Rattle.std.proofs.Common.{arith, ap}
-use Rattle.std.specs.Option.{option_copied}
-use Rattle.rart_trie.specs.walks.ProbeCount.{tree_entered}
+use Rattle.std.proofs.Common.{arith}
 use Rattle.rart_trie.proofs.edits.Outcomes.{err-any}
-use Rattle.rart_trie.proofs.tries.CanonicalTests.{IsCanonicalTree-test}
-use Rattle.rart_trie.proofs.tries.StepLemmas.{few-tree_entered, tree_entered-probe_count}
+use Rattle.rart_trie.proofs.tries.StepLemmas.{root-entered}
 use Rattle.rart_nodes.proofs.walks.WalkLemmas.{has-pairs}
 use Rattle.rart_nodes.proofs.node.seen.Seen.back_walk_to.Goals as goal
 
@@ -17,20 +14,10 @@ returns-in_err-levels-clause-allocates g c = err-any c.from_residual-in_err-leve
 
 pub returns-clause-visits : goal.returns-clause-visits
 returns-clause-visits g c =
-    omega (
-      arith,
-      c.descend.ensures.visits,
-      ap (tree_entered c.args.end.now) c.in-Some.ensures,
-      tree_entered-probe_count c.args.end.now (option_copied c.args.self.root)
-          (IsCanonicalTree-test _ c.args.self.canonical),
-    )
+    let root = root-entered c.args.end.now c.in-Some.top.node.now _ c.in-Some.top.canonical c.in-Some.ensures in
+    omega (arith, c.descend.ensures.visits, root.0)
 
 pub returns-clause-bound : goal.returns-clause-bound
 returns-clause-bound g c =
-    omega (
-      arith,
-      c.descend.ensures.visits,
-      ap (tree_entered c.args.end.now) c.in-Some.ensures,
-      few-tree_entered
-          c.args.end.now (option_copied c.args.self.root) (IsCanonicalTree-test _ c.args.self.canonical),
-    )
+    let root = root-entered c.args.end.now c.in-Some.top.node.now _ c.in-Some.top.canonical c.in-Some.ensures in
+    omega (arith, c.descend.ensures.visits, root.1)

@@ -2,8 +2,8 @@ use Rattle.std.proofs.Common.{ap, refl, ◌∙◌}
 use Rattle.std.specs.Option.{option_copied}
 use Rattle.rart_trie.specs.walks.Walk.{join_all}
 use Rattle.rart_nodes.specs.walks.PathParts.{byte_segments}
-use Rattle.rart_trie.proofs.edits.InsertLemmas.{fewer-within}
-use Rattle.rart_nodes.proofs.ranges.UntilLemmas.{until-tree}
+use Rattle.rart_nodes.proofs.walks.PathLemmas.{key-walk}
+use Rattle.rart_nodes.proofs.ranges.ComparedEntries.{is_before, tree-by}
 use Rattle.rart_nodes.proofs.walks.EntryLemmas.{joins-bytes}
 use Rattle.rart_nodes.proofs.node.seen.Seen.key_back_walk_to.Goals as goal
 
@@ -11,12 +11,9 @@ pub back_walk_to-requires : goal.back_walk_to-requires
 back_walk_to-requires g c κs = ((refl, tt), joins-bytes)
 
 pub invariant_of-result : goal.invariant_of-result
-invariant_of-result g c = record {
-  walk = c.in_ok-walk.ensures.path;
-  path = c.in_ok-walk.ensures.reserved;
-  within = fewer-within _ _ _ c.in_ok-walk.ensures.longest c.args.self.fits;
-}
+invariant_of-result g c
+    = key-walk c.in_ok-walk.ensures.path c.in_ok-walk.ensures.reserved c.in_ok-walk.ensures.longest c.args.self.fits
 
 pub returns-clause-pairs : goal.returns-clause-pairs
 returns-clause-pairs g c = ap join_all c.in_ok-walk.ensures.entries
-    ∙ until-tree byte_segments c.args.included c.args.end.now (option_copied c.args.self.root) joins-bytes
+    ∙ tree-by (is_before c.args.included) byte_segments c.args.end.now (option_copied c.args.self.root) joins-bytes

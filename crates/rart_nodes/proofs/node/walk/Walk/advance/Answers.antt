@@ -28,7 +28,7 @@ turned : (g : Over) (c : After-extend_path g) → Turn g.T.Keeps.grown c.loop-se
 turned g c = turn-either _ _ _ _ _ _ _ c.in-Some-enter_deepest.at.node.now _ _ _ g.T.Keeps.short
     c.loop-self.invariant.path c.in-Some-enter_deepest.ensures.shown c.extend_path.ensures.kept
     c.extend_path.ensures.levels
-    (omega (arith, c.enter_deepest.ensures.level_capacity, c.extend_path.ensures.level_capacity))
+    (c.extend_path.ensures.level_capacity ∙ c.enter_deepest.ensures.level_capacity)
 
 pub returns-in-Some-value-clause-path : goal.returns-in-Some-value-clause-path
 returns-in-Some-value-clause-path g c

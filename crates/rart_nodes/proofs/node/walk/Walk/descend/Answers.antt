@@ -1,14 +1,13 @@
 use Rattle.std.proofs.Common.{◌<◌, ◌∙◌, arith, ap, option_map, refl}
 use Rattle.std.specs.Option.{option_copied}
 use Rattle.rart_trie.specs.walks.Walk.{tree_count}
-use Rattle.rart_nodes.proofs.ranges.StartDescents.{descends-on, descends-past, descends-start, step-child, step-visits}
-use Rattle.rart_nodes.proofs.ranges.StartPaths.{falls}
-use Rattle.rart_nodes.proofs.walks.WalkLemmas.{prefix-short}
+use Rattle.rart_nodes.proofs.ranges.Descents.{from-on, from-past, starts-from, step-child, step-visits}
+use Rattle.rart_nodes.proofs.walks.PathLemmas.{falls, prefix-short}
 use Rattle.rart_nodes.proofs.node.walk.Walk.descend.Goals as goal
 
 pub loop-next-init : goal.loop-next-init
 loop-next-init g c = record {
-  descends = descends-start g.T.Keeps.grown c.args.included c.args.self.now.longest _ _ _ _ _ _
+  descends = starts-from g.T.Keeps.grown c.args.included c.args.self.now.longest _ _ _ _ _ _
       c.args.top.canonical c.requires.empty_path (ap option_copied c.requires.first) c.requires.empty_walk
       c.requires.bounds_keys;
   reserved = c.requires.reserved;
@@ -35,14 +34,14 @@ loop-next-smaller g c =
     let fall : tree_count (option_map (λ s. s.node.now) c.in-Some-step_from.step.next)
     < tree_count (option_map (λ s. s.node.now) c.loop-next.next)
     = rw (c.in-Some.is, ← c.enter-at.ensures.shown)
-    (falls c.enter-at.result.node.now _ (step-child _ _ _ _ _ _ _ c.in-Some-step_from.ensures)) in
+    (falls c.enter-at.result.node.now _ (step-child _ _ _ _ _ _ _ _ _ _ c.in-Some-step_from.ensures)) in
     fall
 
 pub loop-next-preserved : goal.loop-next-preserved
 loop-next-preserved g c =
     let step = c.in-Some-step_from.ensures in
     record {
-      descends = descends-on g.T.Keeps.grown c.args.included c.loop-next.self.longest _ _ _ _ _ _ _ _ _ _ _ _ _ _ _
+      descends = from-on g.T.Keeps.grown c.args.included c.loop-next.self.longest _ _ _ _ _ _ _ _ _ _ _ _ _ _ _
           c.requires.joins g.T.Keeps.short c.enter-at.result.canonical c.loop-next.invariant.places
           (rw (c.in-Some.is, ← c.enter-at.ensures.shown) at c.loop-next.invariant.descends) step
           c.push_level.ensures.kept c.push_level.ensures.levels c.push_level.ensures.level_capacity;
@@ -51,7 +50,7 @@ loop-next-preserved g c =
       places = omega (arith, c.loop-next.invariant.places, c.push_level.ensures.level_capacity);
       visits = omega (
         arith,
-        step-visits _ _ _ _ _ _ _ c.enter-at.result.canonical step,
+        step-visits _ _ _ _ _ _ _ _ _ _ c.enter-at.result.canonical step,
         c.enter-at.ensures.counted,
         rw (c.in-Some.is, ← c.enter-at.ensures.shown) at c.loop-next.invariant.visits,
       );
@@ -61,5 +60,5 @@ loop-next-preserved g c =
 
 pub returns-in_default-step_from-clause-entries : goal.returns-in_default-step_from-clause-entries
 returns-in_default-step_from-clause-entries g c
-    = descends-past g.T.Keeps.grown c.args.included c.loop-next.self.longest _ _ _ _ _ _ _ _ c.requires.joins
+    = from-past g.T.Keeps.grown c.args.included c.loop-next.self.longest _ _ _ _ _ _ _ _ c.requires.joins
     (rw (c.in-Some.is, ← c.enter-at.ensures.shown) at c.loop-next.invariant.descends) c.in_default-step_from.ensures

@@ -1,6 +1,6 @@
 use Rattle.std.proofs.Common.{rules, [], ◌∷◌, ◌<◌, ◌++◌, length, vec_capacity, arith, ap, ◌∙◌, refl}
 use Rattle.rart_nodes.proofs.ranges.LevelLemmas.{start, start-entries}
-use Rattle.rart_nodes.proofs.walks.WalkLemmas.{prefix-short}
+use Rattle.rart_nodes.proofs.walks.PathLemmas.{prefix-short}
 use Rattle.rart_nodes.proofs.node.walk.back.back_walk_at.Goals as goal
 
 pub grow-requires : goal.grow-requires

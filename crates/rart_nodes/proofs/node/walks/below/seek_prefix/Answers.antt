@@ -8,7 +8,7 @@ use Rattle.rart_trie.specs.walks.ProbeCount.{tree_entered}
 use Rattle.rart_nodes.proofs.walks.PartLemmas.{child-deep, part-on, part-out, part-within}
 use Rattle.rart_trie.proofs.tries.BelowLemmas.{starts_with-begins}
 use Rattle.rart_trie.proofs.tries.StepLemmas.{next-falls, step-on}
-use Rattle.rart_nodes.proofs.walks.WalkLemmas.{prefix-short}
+use Rattle.rart_nodes.proofs.walks.PathLemmas.{prefix-short}
 use Rattle.rart_nodes.proofs.node.walks.below.seek_prefix.Goals as goal
 
 pub returns-then-starts_with-clause-found : goal.returns-then-starts_with-clause-found

@@ -1,13 +1,12 @@
 use Rattle.std.proofs.Common.{◌<◌, ◌∙◌, arith, option_map, refl}
 use Rattle.rart_trie.specs.walks.Walk.{tree_count}
-use Rattle.rart_nodes.proofs.ranges.StartPaths.{falls}
-use Rattle.rart_nodes.proofs.ranges.UntilDescents.{descends-on, descends-past, descends-start, step-child, step-visits}
-use Rattle.rart_nodes.proofs.walks.WalkLemmas.{prefix-short}
+use Rattle.rart_nodes.proofs.ranges.Descents.{starts-until, step-child, step-visits, until-on, until-past}
+use Rattle.rart_nodes.proofs.walks.PathLemmas.{falls, prefix-short}
 use Rattle.rart_nodes.proofs.node.walk.back.BackWalk.descend.Goals as goal
 
 pub loop-next-init : goal.loop-next-init
 loop-next-init g c = record {
-  descends = descends-start g.T.Keeps.grown c.args.included c.args.self.now.longest _ _ _ _ _ c.args.top.canonical
+  descends = starts-until g.T.Keeps.grown c.args.included c.args.self.now.longest _ _ _ _ _ c.args.top.canonical
       c.requires.empty_path c.requires.empty_walk c.requires.bounds_keys;
   reserved = c.requires.reserved;
   requested = refl;
@@ -33,14 +32,14 @@ loop-next-smaller g c =
     let fall : tree_count (option_map (λ s. s.node.now) c.in-Some-step_until.step.next)
     < tree_count (option_map (λ s. s.node.now) c.loop-next.next)
     = rw (c.in-Some.is, ← c.enter-at.ensures.shown)
-    (falls c.enter-at.result.node.now _ (step-child _ _ _ _ _ _ _ c.in-Some-step_until.ensures)) in
+    (falls c.enter-at.result.node.now _ (step-child _ _ _ _ _ _ _ _ _ _ c.in-Some-step_until.ensures)) in
     fall
 
 pub loop-next-preserved : goal.loop-next-preserved
 loop-next-preserved g c =
     let step = c.in-Some-step_until.ensures in
     record {
-      descends = descends-on g.T.Keeps.grown c.args.included c.loop-next.self.longest _ _ _ _ _ _ _ _ _ _ _ _ _ _
+      descends = until-on g.T.Keeps.grown c.args.included c.loop-next.self.longest _ _ _ _ _ _ _ _ _ _ _ _ _ _
           c.requires.joins g.T.Keeps.short c.enter-at.result.canonical c.loop-next.invariant.places
           (rw (c.in-Some.is, ← c.enter-at.ensures.shown) at c.loop-next.invariant.descends) step
           c.push_level_before.ensures.kept c.push_level_before.ensures.levels
@@ -50,7 +49,7 @@ loop-next-preserved g c =
       places = omega (arith, c.loop-next.invariant.places, c.push_level_before.ensures.level_capacity);
       visits = omega (
         arith,
-        step-visits _ _ _ _ _ _ _ c.enter-at.result.canonical step,
+        step-visits _ _ _ _ _ _ _ _ _ _ c.enter-at.result.canonical step,
         c.enter-at.ensures.counted,
         rw (c.in-Some.is, ← c.enter-at.ensures.shown) at c.loop-next.invariant.visits,
       );
@@ -60,5 +59,5 @@ loop-next-preserved g c =
 
 pub returns-in_default-step_until-clause-entries : goal.returns-in_default-step_until-clause-entries
 returns-in_default-step_until-clause-entries g c
-    = descends-past g.T.Keeps.grown c.args.included c.loop-next.self.longest _ _ _ _ _ _ _ c.requires.joins
+    = until-past g.T.Keeps.grown c.args.included c.loop-next.self.longest _ _ _ _ _ _ _ c.requires.joins
     (rw (c.in-Some.is, ← c.enter-at.ensures.shown) at c.loop-next.invariant.descends) c.in_default-step_until.ensures

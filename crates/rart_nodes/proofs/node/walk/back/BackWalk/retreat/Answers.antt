@@ -1,4 +1,4 @@
-use Rattle.std.proofs.Common.{arith, sym, refl, ap, ◌∙◌, ◌≤◌, ◌++◌, vec_capacity, reverse}
+use Rattle.std.proofs.Common.{arith, sym, refl, ap, ◌∙◌, ◌++◌, reverse}
 use Rattle.std.proofs.lemmas.List.{append-nil}
 use Rattle.std.specs.Option.{option_copied}
 use Rattle.rart_nodes.specs.ranges.BackWalk.{remaining_entries}
@@ -20,17 +20,15 @@ push_level_from_back-requires g c κs =
 
 pub loop-self-smaller-in-Some : goal.loop-self-smaller-in-Some
 loop-self-smaller-in-Some g c =
-    let cap : vec_capacity c.loop-self.self.levels ≤ vec_capacity c.push_level_from_back.new.levels
-    = omega (arith, c.enter_last_of_deepest.ensures.level_capacity, c.push_level_from_back.ensures.level_capacity) in
     (turn _ _ _ _ _ _ _ c.in-Some.at.node.now _ _ _ g.T.Keeps.short c.loop-self.invariant.path c.in-Some.ensures.shown
-    c.push_level_from_back.ensures.kept c.push_level_from_back.ensures.levels cap).falls
+    c.push_level_from_back.ensures.kept c.push_level_from_back.ensures.levels
+    (c.push_level_from_back.ensures.level_capacity ∙ c.enter_last_of_deepest.ensures.level_capacity)).falls
 
 pub loop-self-preserved-in-Some : goal.loop-self-preserved-in-Some
 loop-self-preserved-in-Some g c =
-    let cap : vec_capacity c.loop-self.self.levels ≤ vec_capacity c.push_level_from_back.new.levels
-    = omega (arith, c.enter_last_of_deepest.ensures.level_capacity, c.push_level_from_back.ensures.level_capacity) in
     let t = turn _ _ _ _ _ _ _ c.in-Some.at.node.now _ _ _ g.T.Keeps.short c.loop-self.invariant.path
-    c.in-Some.ensures.shown c.push_level_from_back.ensures.kept c.push_level_from_back.ensures.levels cap in
+    c.in-Some.ensures.shown c.push_level_from_back.ensures.kept c.push_level_from_back.ensures.levels
+    (c.push_level_from_back.ensures.level_capacity ∙ c.enter_last_of_deepest.ensures.level_capacity) in
     record {
       path = t.path;
       reserved = omega (arith, c.loop-self.invariant.reserved, c.push_level_from_back.ensures.path_capacity);

@@ -4,7 +4,7 @@ use Rattle.std.specs.Ordering.{nat_cmp}
 use Rattle.rart_keys.specs.ByteStrings.{strip_prefix}
 use Rattle.rart_nodes.specs.ranges.Steps.{in_child}
 use Rattle.rart_trie.specs.tries.Trie.{prefix_of}
-use Rattle.rart_nodes.proofs.ranges.UntilLemmas.{higher-apart}
+use Rattle.rart_nodes.proofs.ranges.ComparedEntries.{higher-apart}
 use Rattle.rart_nodes.proofs.node.walk.back.seek_upper_bound.step_until.Goals as goal
 
 pub returns-in_default : goal.returns-in_default

@@ -3,16 +3,14 @@ use Rattle.rart_trie.specs.walks.Walk.{join_all}
 use Rattle.rart_nodes.specs.ranges.BackWalk.{remaining_entries}
 use Rattle.rart_nodes.specs.walks.PathParts.{byte_segments, kept_bytes}
 use Rattle.rart_trie.proofs.edits.InsertLemmas.{fewer-within}
-use Rattle.rart_nodes.proofs.ranges.LevelLemmas.{join-append}
-use Rattle.rart_nodes.proofs.walks.EntryLemmas.{joins-bytes, length-bytes}
+use Rattle.rart_nodes.proofs.walks.PathLemmas.{key-walk}
+use Rattle.rart_nodes.proofs.walks.EntryLemmas.{join-append, joins-bytes, length-bytes}
 use Rattle.rart_nodes.proofs.node.walks.descending.KeyBackWalk.step_back.Goals as goal
 
 pub invariant_of-self : goal.invariant_of-self
-invariant_of-self g c = record {
-  walk = c.retreat.ensures.path;
-  path = c.retreat.ensures.reserved;
-  within = fewer-within _ _ _ (omega (arith, c.retreat.ensures.longest)) c.self.invariant.within;
-}
+invariant_of-self g c
+    = key-walk c.retreat.ensures.path c.retreat.ensures.reserved (omega (arith, c.retreat.ensures.longest))
+    c.self.invariant.within
 
 pub new_from_slice-requires : goal.new_from_slice-requires
 new_from_slice-requires g c =
@@ -26,11 +24,9 @@ new_from_slice-requires g c =
     )) c.self.invariant.within
 
 pub invariant_of-self-2 : goal.invariant_of-self-2
-invariant_of-self-2 g c = record {
-  walk = c.retreat.ensures.path;
-  path = c.retreat.ensures.reserved;
-  within = fewer-within _ _ _ (omega (arith, c.retreat.ensures.longest)) c.self.invariant.within;
-}
+invariant_of-self-2 g c
+    = key-walk c.retreat.ensures.path c.retreat.ensures.reserved (omega (arith, c.retreat.ensures.longest))
+    c.self.invariant.within
 
 pub returns-clause-pairs : goal.returns-clause-pairs
 returns-clause-pairs g c =

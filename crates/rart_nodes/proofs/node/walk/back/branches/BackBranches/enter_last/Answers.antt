@@ -2,8 +2,7 @@ use Rattle.std.proofs.Common.{◌∙◌, ap, sym}
 use Rattle.rart_trie.specs.ranges.Under.{children_under, with_last}
 use Rattle.rart_trie.specs.tries.Trie.{children_in}
 use Rattle.rart_trie.proofs.storages.UnderLemmas.{last-before, none-last}
-use Rattle.rart_trie.proofs.tries.CanonicalTests.{IsCanonical-test}
-use Rattle.rart_nodes.proofs.walks.WalkLemmas.{below-canonical}
+use Rattle.rart_nodes.proofs.walks.PathLemmas.{below-canonical}
 use Rattle.rart_nodes.proofs.node.walk.back.branches.BackBranches.enter_last.Goals as goal
 
 pub returns-in_err-byte-clause-shown : goal.returns-in_err-byte-clause-shown
@@ -17,7 +16,7 @@ returns-clause-shown g c =
       c.in_ok-byte.byte,
       sym c.self.view_is
           ∙ last-before c.self.inside.end _ _ (children_in t)
-          (below-canonical t (IsCanonical-test t c.self.inside.at.canonical)) c.in_ok-byte.ensures
+          (below-canonical t c.self.inside.at.canonical) c.in_ok-byte.ensures
           ∙ ap (with_last (children_under c.in_ok-byte.byte (children_in t)) c.in_ok-byte.byte)
           (sym c.enter.ensures.shown),
     )
