@@ -6,7 +6,7 @@ use Rattle.rart_keys.specs.KeyBytes.{IsWithin, AreBytes}
 use Rattle.rart_keys.specs.CommonPrefix.{IsCommonPrefixLength}
 use Rattle.rart_keys.specs.LittleEndianWord.{little_endian_number}
 use Rattle.rart_keys.specs.NumberBytes.{sign_flipped, big_endian_number}
-use Rattle.rart_keys.proofs.CommonPrefixes.{greatest_from_value}
+use Rattle.rart_keys.proofs.strings.CommonPrefixes.{greatest_from_value}
 use Rattle.rart_keys.specs.ByteStrings.{IsLess, begins, byte_after, strip_prefix}
 use Rattle.std.specs.declared.ops.Bound.TheVariants.{Included, Excluded, Unbounded}
 use Rattle.rart_keys.specs.Filters.{below, matches, longest_match}

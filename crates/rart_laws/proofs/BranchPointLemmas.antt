@@ -7,7 +7,7 @@ use Rattle.rart_keys.specs.SortedMap.{keys_of, AreAbove, IsAscending}
 use Rattle.rart_trie.specs.shapes.Shape.{with_first, without_repeats, next_bytes, contains_key, record_from, record_at}
 use Rattle.rart_trie.specs.shapes.BranchPoints.{begins_any, GoTwoWays, IsBranchPoint}
 use Rattle.rart_trie.proofs.shapes.ShapeLemmas.{two_is}
-use Rattle.rart_keys.proofs.ByteOrder.{order, is_equal, is_greater, eq-yes, eq-no, equal_or_not}
+use Rattle.rart_keys.proofs.strings.ByteOrder.{order, is_equal, is_greater, eq-yes, eq-no, equal_or_not}
 
 abbrev is_byte : ℕ → Option ℕ → Bool
 is_byte b None = false

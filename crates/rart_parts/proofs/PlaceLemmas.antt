@@ -10,8 +10,8 @@ use Rattle.std.specs.Prelude.{IsTrue}
 use Rattle.std.specs.Option.{is_some}
 use Rattle.rart_parts.specs.Bits.{members, members_from, IsFirst, IsLast}
 use Rattle.rart_parts.specs.Places.{is_used, is_filled, values_in, Agrees, AgreesIfAny, IsBitArray}
-use Rattle.rart_parts.proofs.Members.{members_from-same, members_from-none, length-members_from-add}
-use Rattle.rart_parts.proofs.Members.{length-members_from-moved}
+use Rattle.rart_parts.proofs.sets.Members.{members_from-same, members_from-none, length-members_from-add}
+use Rattle.rart_parts.proofs.sets.Members.{length-members_from-moved}
 
 -- ---- which places are used
 pub none_used : (X : Type 0) (n i : ℕ) → is_used {X = X} (replicate n None) i ≡ false

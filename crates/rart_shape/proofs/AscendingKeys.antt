@@ -5,7 +5,7 @@ use Rattle.std.specs.Prelude.{IsTrue}
 use Rattle.std.specs.Borrow.{Bor}
 use Rattle.rart_keys.specs.ByteStrings.{IsLess}
 use Rattle.rart_keys.specs.SortedMap.{IsAscending}
-use Rattle.rart_keys.proofs.SortedMaps.{above-trans}
+use Rattle.rart_keys.proofs.maps.SortedMaps.{above-trans}
 use Rattle.rart_trie.specs.shapes.KeyLists.{keys_in, unit_pairs}
 
 -- the keys from place j on ascend

@@ -10,8 +10,8 @@ use Rattle.std.proofs.lemmas.List.Folds.{list_any-append}
 use Rattle.std.proofs.Math.Bool.{or-false, or_assoc}
 use Rattle.rart_keys.specs.ByteStrings.{bytes_eq, begins, byte_after}
 use Rattle.rart_keys.specs.SortedMap.{IsAscending, lookup, put}
-use Rattle.rart_keys.proofs.ByteOrder.{eq-yes, eq-no, equal_or_not, bytes_eq-equal}
-use Rattle.rart_keys.proofs.SortedMaps.{ascending-put, lookup-put}
+use Rattle.rart_keys.proofs.strings.ByteOrder.{eq-yes, eq-no, equal_or_not, bytes_eq-equal}
+use Rattle.rart_keys.proofs.maps.SortedMaps.{ascending-put, lookup-put}
 use Rattle.rart_trie.specs.shapes.BranchPoints.{begins_any}
 use Rattle.rart_trie.specs.shapes.Shape.{contains_key, NodeRecord, record_at, HasShape}
 use Rattle.rart_shape.specs.ShapeRecords.{put_some}

@@ -14,7 +14,7 @@ use Rattle.std.proofs.lemmas.List.{map-append, append-nil}
 use Rattle.std.proofs.lemmas.List.Elements.{filter_map-append}
 use Rattle.rart_keys.specs.ByteStrings.{bytes_eq, byte_after}
 use Rattle.rart_keys.specs.SortedMap.{put}
-use Rattle.rart_keys.proofs.ByteOrder.{eq-yes, eq-no, equal_or_not}
+use Rattle.rart_keys.proofs.strings.ByteOrder.{eq-yes, eq-no, equal_or_not}
 use Rattle.rart_shape.specs.declared.ShapeRecord.{ShapeRecord}
 use Rattle.rart_trie.specs.shapes.Shape.{with_first, without_repeats, next_bytes, contains_key}
 use Rattle.rart_shape.specs.ShapeRecords.{node_record, records_of}

@@ -6,4 +6,3 @@ pub mod shapes
 pub mod storages
 pub mod tree_stats
 pub mod tries
-pub mod walks

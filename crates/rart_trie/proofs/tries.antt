@@ -7,5 +7,6 @@ pub mod LongerPrefix
 pub mod NodeCounts
 pub mod PairLemmas
 pub mod PrefixedStrings
+pub mod ProbeLemmas
 pub mod RestLemmas
 pub mod StepLemmas

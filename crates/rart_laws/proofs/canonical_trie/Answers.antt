@@ -1,7 +1,7 @@
 use Rattle.std.proofs.Common.{sym}
 use Rattle.rart_trie.proofs.tries.NodeCounts.{few_nodes}
 use Rattle.rart_trie.proofs.tries.PairLemmas.{pairs_of-ascend, lookup-pairs_of}
-use Rattle.rart_trie.proofs.walks.ProbeLemmas.{entered_nodes-probe_count}
+use Rattle.rart_trie.proofs.tries.ProbeLemmas.{entered_nodes-probe_count}
 use Rattle.rart_trie.proofs.shapes.ShapeLemmas.{nodes_of-shape, equal_nodes}
 use Rattle.rart_laws.proofs.canonical_trie.Goals as goal
 

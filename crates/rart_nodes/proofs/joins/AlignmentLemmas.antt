@@ -2,7 +2,7 @@
 use Rattle.std.proofs.Common.{◌≡◌, ℕ, ◌+◌, ◌<◌, ◌≤◌, ◌==◌, Bool, true, false, List, [], ◌∷◌, ◌++◌, length}
 use Rattle.std.proofs.Common.{length-append, drop, Some, None, refl, arith, sym, ap, subst, ◌∙◌}
 use Rattle.rart_keys.specs.SortedMap.{longest_key}
-use Rattle.rart_keys.proofs.ByteOrder.{eq-yes, eq-no}
+use Rattle.rart_keys.proofs.strings.ByteOrder.{eq-yes, eq-no}
 use Rattle.rart_nodes.specs.joins.Intersections.{intersect_nodes, with_rest}
 use Rattle.rart_trie.specs.tries.PrefixLaws.{prefix-none, prefix-twice}
 use Rattle.rart_nodes.specs.joins.SharedEdges.{more_visits}

@@ -8,7 +8,7 @@ use Rattle.rart_trie.specs.tries.Trie.{with_records, children_with_records, with
 use Rattle.rart_trie.specs.tries.Trie.{IsCanonical, AreCanonical}
 use Rattle.rart_nodes.specs.joins.Intersections.{Pairing, intersect_each, pair_child, pair_down, pair_in, pair_tries}
 use Rattle.rart_nodes.specs.joins.SharedEdges.{above}
-use Rattle.rart_keys.proofs.ByteOrder.{order, is_less, is_equal, is_greater, eq-yes, eq-no, equal_or_not}
+use Rattle.rart_keys.proofs.strings.ByteOrder.{order, is_less, is_equal, is_greater, eq-yes, eq-no, equal_or_not}
 use Rattle.rart_trie.proofs.tries.PairLemmas.{or_else, lookup-append}
 use Rattle.rart_trie.proofs.tries.LongerPrefix.{longer}
 use Rattle.rart_nodes.proofs.joins.IntersectLemmas.{lookup-step, lookup-step_nil}

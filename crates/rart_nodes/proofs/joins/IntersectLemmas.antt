@@ -7,11 +7,11 @@ use Rattle.rart_keys.specs.SortedMap.{IsAscending, lookup}
 use Rattle.rart_trie.specs.tries.Trie.{Trie, node, Children, no_children, child, trie_lookup, child_lookup, pairs_of}
 use Rattle.rart_trie.specs.tries.Trie.{with_prefix, prefix_of, StartsWith, IsCanonical, AreCanonical}
 use Rattle.rart_keys.specs.Joins.{both, join}
-use Rattle.rart_keys.proofs.JoinsOfMaps.{both-none, join-ascends, lookup-join}
+use Rattle.rart_keys.proofs.maps.JoinsOfMaps.{both-none, join-ascends, lookup-join}
 use Rattle.rart_nodes.specs.joins.Intersections.{intersect_each, intersect_in, intersect_down, intersect_nodes}
 use Rattle.rart_nodes.specs.joins.Intersections.{intersect_child}
-use Rattle.rart_keys.proofs.ByteOrder.{order, is_less, is_equal, is_greater, eq-yes, eq-no, equal_or_not}
-use Rattle.rart_keys.proofs.SortedMaps.{equal_by_lookups}
+use Rattle.rart_keys.proofs.strings.ByteOrder.{order, is_less, is_equal, is_greater, eq-yes, eq-no, equal_or_not}
+use Rattle.rart_keys.proofs.maps.SortedMaps.{equal_by_lookups}
 use Rattle.rart_trie.proofs.tries.FirstBytes.{AllFirst, AllFrom, ascending-append, ascending-with_prefix}
 use Rattle.rart_trie.proofs.tries.FirstBytes.{all_from-first, all_first-looks}
 use Rattle.rart_trie.proofs.tries.PairLemmas.{or_none, lookup-append, lookup-pairs_of, pairs_of-ascend, lookup-nil}

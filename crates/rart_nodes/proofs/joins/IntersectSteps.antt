@@ -3,7 +3,7 @@
 use Rattle.std.proofs.Common.{◌≡◌, ℕ, suc, ◌+◌, ⊎_elim, true, List, [], ◌∷◌, ◌++◌, Option, Some, None, refl, arith, sym}
 use Rattle.std.proofs.Common.{ap}
 use Rattle.rart_keys.specs.Joins.{both}
-use Rattle.rart_keys.proofs.ByteOrder.{order, is_less, is_equal, is_greater, eq-yes, eq-no}
+use Rattle.rart_keys.proofs.strings.ByteOrder.{order, is_less, is_equal, is_greater, eq-yes, eq-no}
 use Rattle.rart_nodes.specs.joins.Intersections.{intersect_prefixes, intersect_each, intersect_down, intersect_nodes}
 use Rattle.rart_nodes.specs.joins.Intersections.{intersect_child, with_rest}
 use Rattle.rart_trie.specs.tries.PrefixLaws.{prefix-none, prefix-twice}

@@ -10,7 +10,7 @@ use Rattle.rart_trie.specs.tries.TrieCode.{child_count, node_count}
 use Rattle.rart_nodes.specs.joins.Intersections.{intersect_each}
 use Rattle.rart_nodes.specs.joins.SharedEdges.{shared_edges, visits_each, visits_in, visits_down, more_visits}
 use Rattle.rart_nodes.specs.joins.SharedEdges.{visits_child, intersect_visits}
-use Rattle.rart_keys.proofs.ByteOrder.{order, is_less, is_equal, is_greater}
+use Rattle.rart_keys.proofs.strings.ByteOrder.{order, is_less, is_equal, is_greater}
 use Rattle.rart_nodes.proofs.joins.AlignmentLemmas.{some-count}
 use Rattle.rart_nodes.proofs.joins.EdgeLemmas.{edges_in, edges_down, edges, edges_child}
 use Rattle.rart_nodes.proofs.joins.SharedLemmas.{edges-shared}

@@ -6,7 +6,7 @@ use Rattle.std.proofs.Math.Seq.{take-append_seam}
 use Rattle.std.specs.Borrow.{Bor}
 use Rattle.std.specs.Global.{Vec}
 use Rattle.rart_nodes.specs.declared.node.intersect.join_path.JoinPath.TheVariants.{Nothing, Bytes, Segments}
-use Rattle.rart_keys.proofs.ByteOrder.{eq-yes}
+use Rattle.rart_keys.proofs.strings.ByteOrder.{eq-yes}
 use Rattle.rart_nodes.specs.joins.JoinPaths.{Kept, PathGrown, PathCut, BytesGrown, BytesCut, SegmentsGrown, SegmentsCut}
 use Rattle.rart_nodes.specs.joins.JoinPaths.{path_mark}
 use Rattle.rart_nodes.specs.walks.SegmentLaws.{joined-append, full-append}

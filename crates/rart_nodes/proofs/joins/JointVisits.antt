@@ -3,7 +3,7 @@ use Rattle.std.proofs.Common.{◌≡◌, ℕ, ◌+◌, ◌-◌, ◌<◌, ◌≤�
 use Rattle.std.proofs.Common.{◌∙◌}
 use Rattle.rart_keys.specs.SortedMap.{keys_of}
 use Rattle.rart_keys.specs.Joins.{join}
-use Rattle.rart_keys.proofs.JoinsOfMaps.{join-nil}
+use Rattle.rart_keys.proofs.maps.JoinsOfMaps.{join-nil}
 use Rattle.rart_nodes.specs.joins.Intersections.{intersect_nodes}
 use Rattle.rart_nodes.specs.joins.SharedEdges.{shared_edges, joint_visits, more_visits}
 use Rattle.rart_trie.specs.tries.Tree.{tree_nodes, tree_pairs, IsCanonicalTree}

@@ -1,7 +1,7 @@
 -- The children that two nodes have in common are the same from either side.
 use Rattle.std.proofs.Common.{◌≡◌, ℕ, suc, ◌<◌, ⊎_elim, List, [], ◌∷◌, Option, Some, true, refl, arith, sym, ap, ◌∙◌}
 use Rattle.rart_keys.specs.Joins.{both}
-use Rattle.rart_keys.proofs.ByteOrder.{order, eq-yes, eq-no}
+use Rattle.rart_keys.proofs.strings.ByteOrder.{order, eq-yes, eq-no}
 use Rattle.rart_nodes.specs.joins.SharedChildren.{shared_child_if, shared_left, shared_right}
 use Rattle.rart_trie.specs.tries.CanonicalTest.{is_canonical}
 use Rattle.rart_trie.specs.tries.Trie.{Trie, node, Children, no_children, child, children_in, AreCanonical, child_of}

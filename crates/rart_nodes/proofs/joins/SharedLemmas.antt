@@ -11,8 +11,8 @@ use Rattle.rart_trie.specs.tries.Trie.{Trie, node, Children, no_children, child,
 use Rattle.rart_trie.specs.tries.Trie.{StartsWith, IsCanonical, AreCanonical}
 use Rattle.rart_nodes.specs.joins.Intersections.{intersect_each}
 use Rattle.rart_nodes.specs.joins.SharedEdges.{above, is_branch, is_shared, all_starts, set_map, as_map, shared_edges}
-use Rattle.rart_keys.proofs.ByteOrder.{order, is_less, is_equal, is_greater, equal_or_not, bytes_eq-equal}
-use Rattle.rart_keys.proofs.SortedMaps.{equal_by_lookups, lookup-first}
+use Rattle.rart_keys.proofs.strings.ByteOrder.{order, is_less, is_equal, is_greater, equal_or_not, bytes_eq-equal}
+use Rattle.rart_keys.proofs.maps.SortedMaps.{equal_by_lookups, lookup-first}
 use Rattle.rart_trie.proofs.tries.FirstBytes.{AllFirst, AllFrom, ascending-append, ascending-with_prefix}
 use Rattle.rart_trie.proofs.tries.FirstBytes.{all_from-first, all_first-looks}
 use Rattle.rart_trie.proofs.shapes.ShapeLemmas.{record_is, contains_key-keys_of}

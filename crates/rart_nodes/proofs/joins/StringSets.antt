@@ -12,8 +12,8 @@ use Rattle.rart_trie.specs.tries.PrefixLaws.{length-with_prefix}
 use Rattle.rart_trie.specs.tries.Tree.{tree_pairs}
 use Rattle.rart_trie.specs.tries.Trie.{Trie, node, Children, pairs_of, children_pairs, own_pair, with_prefix}
 use Rattle.rart_trie.specs.tries.Trie.{IsCanonical}
-use Rattle.rart_keys.proofs.ByteOrder.{eq-yes, eq-no, equal_or_not, bytes_eq-equal, bytes_eq-itself}
-use Rattle.rart_keys.proofs.SortedMaps.{ascending-put, lookup-put}
+use Rattle.rart_keys.proofs.strings.ByteOrder.{eq-yes, eq-no, equal_or_not, bytes_eq-equal, bytes_eq-itself}
+use Rattle.rart_keys.proofs.maps.SortedMaps.{ascending-put, lookup-put}
 use Rattle.rart_trie.proofs.tries.Descents.{Keeps, by_byte, children-by, descends}
 use Rattle.rart_trie.proofs.tries.NodeCounts.{few_nodes}
 use Rattle.rart_trie.proofs.tries.PrefixedStrings.{begins-after, begins-apart}

@@ -10,9 +10,9 @@ use Rattle.std.proofs.lemmas.Bool.{lt-ltb, le-ltb}
 use Rattle.std.proofs.lemmas.List.{append_assoc}
 use Rattle.std.proofs.lemmas.List.Elements.{filter-append}
 use Rattle.rart_keys.specs.ByteStrings.{strip_prefix}
-use Rattle.rart_keys.proofs.ByteOrder.{order, is_less, is_greater, eq-yes, eq-no, compare, below-greater}
-use Rattle.rart_keys.proofs.ByteOrder.{cmp-itself}
-use Rattle.rart_keys.proofs.RangeLemmas.{cmp-apart, cmp-past, not-same}
+use Rattle.rart_keys.proofs.strings.ByteOrder.{order, is_less, is_greater, eq-yes, eq-no, compare, below-greater}
+use Rattle.rart_keys.proofs.strings.ByteOrder.{cmp-itself}
+use Rattle.rart_keys.proofs.maps.RangeLemmas.{cmp-apart, cmp-past, not-same}
 use Rattle.rart_trie.specs.ranges.Starts.{children_above}
 use Rattle.rart_trie.specs.ranges.Under.{children_under}
 use Rattle.rart_nodes.specs.ranges.Steps.{AllCompare}
@@ -104,7 +104,8 @@ module _ {V : Type 0} where
   by-own : (a : Ordering → Bool) (o : Ordering) (s : List ℕ) (v : Option V) (es : List (SegmentList × V))
       → slice_cmp nat_cmp [] s ≡ o → entries_by a s (value_at [] v ++ es)
       ≡ value_at [] (if_included (a o) v) ++ entries_by a s es
-  by-own a o s None es e = elim (a o) as (λ z. entries_by a s es ≡ value_at [] (if_included z None) ++ entries_by a s es)
+  by-own a o s None es e = elim (a o) as (λ z. entries_by a s es ≡ value_at [] (if_included z None) ++ entries_by a s
+      es)
       [ true ↦ refl | false ↦ refl ]
   by-own a o s (Some v) es e = rw e (elim (a o) as (λ z. (if z then ([], v) ∷ entries_by a s es else entries_by a s es)
       ≡ value_at [] (if_included z (Some v)) ++ entries_by a s es) [ true ↦ refl | false ↦ refl ])
@@ -191,7 +192,8 @@ module _ {V : Type 0} where
         by-under a g b c r t j l w.1,
         by-children a g b (suc c) r cs j w.3,
       )
-      (sym (append_assoc (list_if (a Less) (entries_of g t)) (list_if (a Less) (children_entries g (children_under b cs)))
+      (sym (append_assoc (list_if (a Less) (entries_of g t)) (list_if (a Less) (children_entries g
+      (children_under b cs)))
       rest) ∙ ap (λ z. z ++ rest) (list_if-append (a Less) (entries_of g t)
       (children_entries g (children_under b cs)))))) (order b c)
 

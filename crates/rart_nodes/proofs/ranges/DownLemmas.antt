@@ -7,7 +7,7 @@ use Rattle.std.proofs.lemmas.List.{reverse-append}
 use Rattle.rart_keys.specs.ByteStrings.{IsLess}
 use Rattle.rart_keys.specs.Ranges.{between, is_from, is_to}
 use Rattle.rart_keys.specs.SortedMap.{AreAbove, IsAscending, count_of, keys_of}
-use Rattle.rart_keys.proofs.ByteOrder.{compare, below-trans, below-greater}
+use Rattle.rart_keys.proofs.strings.ByteOrder.{compare, below-trans, below-greater}
 use Rattle.rart_nodes.specs.ranges.UpperBounds.{down_to, to_bound}
 use Rattle.rart_trie.specs.tries.Tree.{tree_pairs, IsCanonicalTree}
 use Rattle.rart_trie.specs.tries.Trie.{Trie, node}

@@ -5,7 +5,7 @@ use Rattle.std.proofs.lemmas.List.{length-map}
 use Rattle.std.specs.declared.ops.Bound.{Bound}
 use Rattle.rart_keys.specs.Ranges.{between, bound_bytes, is_inclusive, is_from, is_from_bound, is_to, pairs_from}
 use Rattle.rart_keys.specs.Ranges.{up_to}
-use Rattle.rart_keys.proofs.RangeLemmas.{from_bound-bytes, up_to-from_bound}
+use Rattle.rart_keys.proofs.maps.RangeLemmas.{from_bound-bytes, up_to-from_bound}
 use Rattle.std.proofs.lemmas.List.Elements.{filter_agree}
 use Rattle.rart_trie.proofs.tries.PairLemmas.{tree_pairs-ascend}
 use Rattle.rart_keys.specs.SortedMap.{keys_of, longest_key}

@@ -3,7 +3,7 @@ use Rattle.std.proofs.Common.{◌≡◌, ℕ, ◌≤◌, suc, true, false, List,
 use Rattle.std.proofs.Common.{Option, Some, None, is_some, if◌then◌else◌}
 use Rattle.std.proofs.lemmas.List.{append-nil, append_assoc, map-append}
 use Rattle.rart_keys.specs.SortedMap.{keys_of}
-use Rattle.rart_keys.proofs.ByteOrder.{is_equal, is_greater, eq-yes}
+use Rattle.rart_keys.proofs.strings.ByteOrder.{is_equal, is_greater, eq-yes}
 use Rattle.rart_trie.specs.shapes.Shape.{NodeRecord, record_at}
 use Rattle.rart_trie.specs.tries.Tree.{tree_pairs, IsCanonicalTree}
 use Rattle.rart_trie.specs.tries.Trie.{Trie, node, Children, no_children, child, trie_lookup, child_lookup, pairs_of}

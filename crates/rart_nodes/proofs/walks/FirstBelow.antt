@@ -4,7 +4,7 @@ use Rattle.std.proofs.Common.{Option, Some, None, if◌then◌else◌}
 use Rattle.rart_keys.specs.ByteStrings.{begins, IsLess}
 use Rattle.rart_keys.specs.Filters.{below, matches, last_or, longest_match}
 use Rattle.rart_keys.specs.SortedMap.{AreAbove, IsAscending, keys_of}
-use Rattle.rart_keys.proofs.ByteOrder.{is_equal, eq-yes, eq-no, equal_or_not}
+use Rattle.rart_keys.proofs.strings.ByteOrder.{is_equal, eq-yes, eq-no, equal_or_not}
 use Rattle.rart_trie.specs.tries.Tree.{tree_pairs, IsCanonicalTree}
 use Rattle.rart_trie.specs.tries.Trie.{Trie}
 use Rattle.rart_trie.specs.walks.Cut.{cut, cut_pairs}

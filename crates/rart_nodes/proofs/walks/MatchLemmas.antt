@@ -8,7 +8,7 @@ use Rattle.std.proofs.Math.Seq.{drop-append_seam}
 use Rattle.rart_keys.specs.ByteStrings.{strip_prefix, begins}
 use Rattle.rart_keys.specs.Filters.{last_or, longest_match, matches}
 use Rattle.rart_keys.specs.SortedMap.{keys_of, longest_key}
-use Rattle.rart_keys.proofs.ByteOrder.{eq-no}
+use Rattle.rart_keys.proofs.strings.ByteOrder.{eq-no}
 use Rattle.rart_trie.specs.tries.PrefixLaws.{prefix-none, prefix-twice}
 use Rattle.rart_trie.specs.tries.CanonicalTest.{is_canonical}
 use Rattle.rart_trie.specs.tries.Tree.{tree_pairs, IsCanonicalTree}

@@ -4,7 +4,7 @@ use Rattle.std.proofs.Common.{Ordering, Less, Equal, Greater}
 use Rattle.std.specs.Cmp.Lexicographic.{slice_cmp}
 use Rattle.std.specs.Ordering.{nat_cmp, ordering_then}
 use Rattle.std.proofs.lemmas.Map.Lookups.{exact_bytes}
-use Rattle.rart_keys.proofs.ByteOrder.{cmp-itself}
+use Rattle.rart_keys.proofs.strings.ByteOrder.{cmp-itself}
 
 -- a first segment is compared to as many bytes
 pub cmp-front : (p xs k : List ℕ) → length p ≤ length k

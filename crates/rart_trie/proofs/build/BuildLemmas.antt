@@ -8,7 +8,7 @@ use Rattle.std.proofs.lemmas.Bool.Decides.{nat_tests}
 use Rattle.std.proofs.lemmas.List.{append_assoc, append-nil, map-append, length-map, length-drop, length-take}
 use Rattle.std.proofs.lemmas.List.{length-take-le, nil_from_length, take-append-drop}
 use Rattle.rart_keys.specs.SortedMap.{IsAscending, keys_of, values_of}
-use Rattle.rart_keys.proofs.ByteOrder.{eq-yes, eq-no, equal_or_not}
+use Rattle.rart_keys.proofs.strings.ByteOrder.{eq-yes, eq-no, equal_or_not}
 use Rattle.rart_parts.specs.Entries.{child_at, with_entry}
 use Rattle.rart_trie.specs.shapes.Shape.{next_bytes, capacity_of}
 use Rattle.rart_trie.specs.shapes.KeyLists.{unit_pairs}

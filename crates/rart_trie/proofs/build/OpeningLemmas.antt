@@ -8,7 +8,7 @@ use Rattle.std.specs.List.{common_prefix_len}
 use Rattle.std.proofs.lemmas.Bool.Decides.{nat_tests}
 use Rattle.std.proofs.lemmas.List.{drop-drop, length-drop, length-take-le, nil_from_length}
 use Rattle.rart_keys.specs.SortedMap.{IsAscending}
-use Rattle.rart_keys.proofs.ByteOrder.{eq-yes, eq-no, equal_or_not}
+use Rattle.rart_keys.proofs.strings.ByteOrder.{eq-yes, eq-no, equal_or_not}
 use Rattle.rart_trie.specs.shapes.Shape.{next_bytes}
 use Rattle.rart_trie.specs.shapes.KeyLists.{unit_pairs}
 use Rattle.rart_trie.specs.build.Stretches.{rests, run_of, first_bytes, first_run, HaveMore, Reach, IsStretch}

@@ -5,7 +5,7 @@ use Rattle.std.specs.Prelude.{slice_index}
 use Rattle.std.specs.Borrow.{Bor}
 use Rattle.std.proofs.lemmas.List.{drop-map, take-map, get_or-drop, length-drop}
 use Rattle.rart_keys.specs.SortedMap.{IsAscending}
-use Rattle.rart_keys.proofs.ByteOrder.{eq-yes, eq-no, equal_or_not}
+use Rattle.rart_keys.proofs.strings.ByteOrder.{eq-yes, eq-no, equal_or_not}
 use Rattle.rart_trie.specs.shapes.Shape.{with_first, next_bytes}
 use Rattle.rart_trie.specs.shapes.KeyLists.{keys_in, unit_pairs}
 use Rattle.rart_trie.specs.build.Stretches.{rests, first_byte, run_of, first_run, HaveMore}

@@ -12,7 +12,7 @@ use Rattle.std.proofs.lemmas.List.{drop-drop, length-drop}
 use Rattle.rart_keys.specs.ByteStrings.{IsLess}
 use Rattle.rart_keys.specs.KeyBytes.{IsWithin}
 use Rattle.rart_keys.specs.SortedMap.{AreAbove, IsAscending}
-use Rattle.rart_keys.proofs.ByteOrder.{eq-yes, eq-no, order, equal_or_not, is_equal, is_greater, cmp-itself}
+use Rattle.rart_keys.proofs.strings.ByteOrder.{eq-yes, eq-no, order, equal_or_not, is_equal, is_greater, cmp-itself}
 use Rattle.rart_trie.specs.shapes.KeyLists.{keys_in, unit_pairs}
 use Rattle.rart_trie.specs.build.Stretches.{rests, first_byte, run_of, first_run, HaveMore, Reach, AreWithin, IsStretch}
 use Rattle.rart_trie.proofs.build.RunLemmas.{byte-of}

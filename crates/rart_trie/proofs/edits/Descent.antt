@@ -6,7 +6,7 @@ use Rattle.std.proofs.lemmas.List.{length-drop}
 use Rattle.std.proofs.Math.Numerals.{one-add}
 use Rattle.std.specs.List.{common_prefix_len}
 use Rattle.std.proofs.lemmas.Bool.{false≢true}
-use Rattle.rart_keys.proofs.ByteOrder.{eq-yes}
+use Rattle.rart_keys.proofs.strings.ByteOrder.{eq-yes}
 use Rattle.rart_trie.specs.tries.Trie.{node, Children, no_children, child, Overlap, overlap, grown_overlap, trie_put}
 use Rattle.rart_trie.specs.tries.Trie.{put_child, put_overlap, put_split, fitting_node, two_children, leaf}
 

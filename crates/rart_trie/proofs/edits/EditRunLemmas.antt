@@ -8,7 +8,7 @@ use Rattle.rart_trie.specs.tries.Trie.{answer_after, collapsed_node, removed_aft
 use Rattle.rart_trie.specs.tries.Trie.{remove_child, IsCanonical, AreCanonical}
 use Rattle.rart_trie.specs.tries.Tree.{tree_pairs, tree_nodes, IsCanonicalTree}
 use Rattle.rart_trie.specs.edits.EditRuns.{Edit, puts, removes, edit_map, edit_tree, run_map, run_tree}
-use Rattle.rart_keys.proofs.ByteOrder.{order, is_less, is_equal, is_greater}
+use Rattle.rart_keys.proofs.strings.ByteOrder.{order, is_less, is_equal, is_greater}
 use Rattle.rart_trie.proofs.shapes.ShapeLemmas.{nodes_of-shape}
 use Rattle.rart_trie.proofs.edits.PutLemmas.{canonical-put, pairs_of-put}
 use Rattle.rart_trie.proofs.removals.RemoveLemmas.{canonical-removed, pairs_of-removed}

@@ -7,7 +7,7 @@ use Rattle.std.specs.List.{common_prefix_len}
 use Rattle.std.proofs.lemmas.Bool.Decides.{nat_tests}
 use Rattle.rart_keys.specs.ByteStrings.{strip_prefix}
 use Rattle.rart_keys.specs.KeyBytes.{IsWithin}
-use Rattle.rart_keys.proofs.ByteOrder.{eq-yes, eq-no, equal_or_not}
+use Rattle.rart_keys.proofs.strings.ByteOrder.{eq-yes, eq-no, equal_or_not}
 use Rattle.rart_parts.specs.Entries.{child_at, with_entry, replaced_at}
 use Rattle.rart_trie.specs.storages.Capacities.{widened_capacity}
 use Rattle.rart_trie.specs.shapes.Shape.{capacity_of}

@@ -2,7 +2,7 @@
 use Rattle.std.proofs.Common.{◌≡◌, ◌≢◌, ℕ, ◌+◌, ◌≤◌, ◌&&◌, true, false, cond, eqb, List, [], ◌∷◌, length, Option, Some}
 use Rattle.std.proofs.Common.{None, is_some, refl, arith, sym, ap, ◌∙◌, if◌then◌else◌}
 use Rattle.rart_keys.specs.KeyBytes.{IsWithin}
-use Rattle.rart_keys.proofs.ByteOrder.{eq-no}
+use Rattle.rart_keys.proofs.strings.ByteOrder.{eq-no}
 use Rattle.rart_parts.specs.Entries.{child_at}
 use Rattle.rart_parts.specs.Entries as entries
 use Rattle.rart_trie.specs.edits.Deletion.{JoinsWithin, children_without, needs_merge, merged_child, merged_if_needed}

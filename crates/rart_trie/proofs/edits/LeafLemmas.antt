@@ -2,7 +2,7 @@
 use Rattle.std.proofs.Common.{◌≡◌, ◌≢◌, ℕ, ◌<◌, ◌≤◌, ◌==◌, ⊎_elim, true, false, List, [], ◌∷◌, length, Option, Some}
 use Rattle.std.proofs.Common.{None, refl, arith, sym, ap, ◌∙◌}
 use Rattle.rart_keys.specs.ByteStrings.{strip_prefix}
-use Rattle.rart_keys.proofs.ByteOrder.{eq-no}
+use Rattle.rart_keys.proofs.strings.ByteOrder.{eq-no}
 use Rattle.rart_trie.specs.edits.Deletion.{is_end, is_leaf_at}
 use Rattle.rart_trie.specs.tries.Trie.{Trie, node, Children, no_children, child, edges_of, value_of, children_in}
 use Rattle.rart_trie.specs.tries.Trie.{IsCanonical, answer_after, trie_lookup, child_lookup, removed_after}

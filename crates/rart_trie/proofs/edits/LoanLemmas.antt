@@ -5,8 +5,8 @@ use Rattle.std.proofs.lemmas.List.{length-map}
 use Rattle.std.specs.Prelude.{IfNone, OnSome}
 use Rattle.std.specs.Option.{option_copied_mut}
 use Rattle.rart_keys.specs.SortedMap.{IsAscending, keys_of, lookup, put, longest_key}
-use Rattle.rart_keys.proofs.ByteOrder.{below-not_eq, below-greater, cmp-itself, compare}
-use Rattle.rart_keys.proofs.SortedMaps.{above-trans, lookup-above}
+use Rattle.rart_keys.proofs.strings.ByteOrder.{below-not_eq, below-greater, cmp-itself, compare}
+use Rattle.rart_keys.proofs.maps.SortedMaps.{above-trans, lookup-above}
 use Rattle.rart_trie.specs.edits.Loan.{IsAlike}
 use Rattle.rart_trie.specs.tries.Trie.{Trie, IsCanonical, trie_lookup, nodes_of, pairs_of, trie_put}
 use Rattle.rart_trie.proofs.tries.PairLemmas.{lookup-pairs_of, pairs_of-ascend}

@@ -4,8 +4,8 @@ use Rattle.std.proofs.Common.{Ok, Err, is_some, if◌then◌else◌, refl, arith
 use Rattle.std.specs.Prelude.{OnErr}
 use Rattle.rart_keys.specs.ByteStrings.{bytes_eq}
 use Rattle.rart_keys.specs.SortedMap.{IsAscending, count_of, keys_of, longest_key, lookup, put}
-use Rattle.rart_keys.proofs.ByteOrder.{bytes_eq-equal}
-use Rattle.rart_keys.proofs.SortedMaps.{ascending-put, equal_by_lookups, length-put, lookup-put}
+use Rattle.rart_keys.proofs.strings.ByteOrder.{bytes_eq-equal}
+use Rattle.rart_keys.proofs.maps.SortedMaps.{ascending-put, equal_by_lookups, length-put, lookup-put}
 use Rattle.rart_parts.specs.declared.error.TreeError.{TreeError}
 use Rattle.rart_parts.specs.declared.error.TreeError.TheVariants.{Memory, Full}
 use Rattle.rart_trie.specs.declared.slot.Outcome.{Outcome}

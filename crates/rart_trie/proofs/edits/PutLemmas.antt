@@ -7,8 +7,8 @@ use Rattle.rart_keys.specs.SortedMap.{put}
 use Rattle.rart_trie.specs.tries.Trie.{Trie, node, Children, no_children, child, trie_lookup, child_lookup, pairs_of}
 use Rattle.rart_trie.specs.tries.Trie.{prefix_of, StartsWith, HasTwoChildren, IsCanonical, AreCanonical, trie_put}
 use Rattle.rart_trie.specs.tries.Trie.{put_child, two_children, leaf}
-use Rattle.rart_keys.proofs.ByteOrder.{order, is_less, is_equal, is_greater, eq-no, equal_or_not}
-use Rattle.rart_keys.proofs.SortedMaps.{equal_by_lookups, ascending-put, lookup-put}
+use Rattle.rart_keys.proofs.strings.ByteOrder.{order, is_less, is_equal, is_greater, eq-no, equal_or_not}
+use Rattle.rart_keys.proofs.maps.SortedMaps.{equal_by_lookups, ascending-put, lookup-put}
 use Rattle.rart_trie.proofs.tries.PairLemmas.{trie_lookup-other, or_else, or_none, pairs_of-ascend, lookup-pairs_of}
 use Rattle.rart_trie.proofs.tries.LongerPrefix.{put-longer, trie_lookup-longer, look_nil-longer, canonical-longer}
 use Rattle.rart_trie.proofs.tries.LongerPrefix.{first-longer}

@@ -4,7 +4,7 @@ use Rattle.std.proofs.Common.{Option, Some, None, option_map, length-append}
 use Rattle.std.specs.Prelude.{slice_get}
 use Rattle.std.proofs.lemmas.List.{append-nil, append_assoc}
 use Rattle.rart_keys.specs.SortedMap.{values_of}
-use Rattle.rart_keys.proofs.ByteOrder.{eq-yes, eq-no}
+use Rattle.rart_keys.proofs.strings.ByteOrder.{eq-yes, eq-no}
 use Rattle.rart_parts.specs.Entries.{child_at, entries_above, replaced_at}
 use Rattle.rart_trie.specs.tries.PrefixLaws.{values-append, values-with_prefix}
 use Rattle.rart_trie.specs.tries.Trie.{Children, Trie, node, pairs_of, children_pairs, own_pair, AreCanonical}

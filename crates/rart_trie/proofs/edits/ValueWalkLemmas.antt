@@ -8,7 +8,7 @@ use Rattle.std.proofs.lemmas.List.{append-nil, append_assoc}
 use Rattle.rart_keys.specs.ByteStrings.{begins, strip_prefix}
 use Rattle.rart_keys.specs.Filters.{below}
 use Rattle.rart_keys.specs.SortedMap.{values_of}
-use Rattle.rart_keys.proofs.ByteOrder.{eq-yes, eq-no}
+use Rattle.rart_keys.proofs.strings.ByteOrder.{eq-yes, eq-no}
 use Rattle.rart_parts.specs.Entries.{child_at, entries_above, replaced_at}
 use Rattle.rart_trie.specs.edits.ValueChanges.{CanLend, ChangesBelow, LentValue, TakesLoan}
 use Rattle.rart_trie.specs.tries.PrefixLaws.{values-append, values-with_prefix}

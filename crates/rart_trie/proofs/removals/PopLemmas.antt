@@ -8,7 +8,7 @@ use Rattle.rart_keys.specs.ByteStrings.{strip_prefix, IsLess}
 use Rattle.rart_keys.specs.Filters.{last_or}
 use Rattle.rart_keys.specs.KeyBytes.{IsWithin}
 use Rattle.rart_keys.specs.SortedMap.{AreAbove, IsAscending, count_of, keys_of, longest_key, lookup, without}
-use Rattle.rart_keys.proofs.ByteOrder.{below-not_eq, bytes_eq-itself}
+use Rattle.rart_keys.proofs.strings.ByteOrder.{below-not_eq, bytes_eq-itself}
 use Rattle.rart_parts.specs.Entries.{child_at, replaced_at}
 use Rattle.rart_trie.specs.declared.node.ends.End.{End}
 use Rattle.rart_trie.specs.declared.node.ends.End.TheVariants.{First, Last}

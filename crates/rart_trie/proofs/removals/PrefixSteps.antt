@@ -6,7 +6,7 @@ use Rattle.std.proofs.lemmas.List.{append_assoc}
 use Rattle.rart_keys.specs.ByteStrings.{begins, strip_prefix}
 use Rattle.rart_keys.specs.KeyBytes.{IsWithin}
 use Rattle.rart_keys.specs.SortedMap.{longest_key}
-use Rattle.rart_keys.proofs.ByteOrder.{is_equal, is_greater, is_less, eq-yes, eq-no, order}
+use Rattle.rart_keys.proofs.strings.ByteOrder.{is_equal, is_greater, is_less, eq-yes, eq-no, order}
 use Rattle.rart_parts.specs.Entries.{child_at, replaced_at}
 use Rattle.rart_parts.specs.Entries as entries
 use Rattle.rart_trie.specs.edits.Deletion.{without_child}

@@ -2,7 +2,7 @@
 use Rattle.std.proofs.Common.{◌≡◌, ◌≢◌, ℕ, ⊎_elim, true, false, List, [], ◌∷◌, ◌++◌, length, refl, sym}
 use Rattle.std.proofs.Common.{ap, ◌∙◌, arith, Option, Some, None, ◌==◌, if◌then◌else◌}
 use Rattle.rart_keys.specs.ByteStrings.{strip_prefix}
-use Rattle.rart_keys.proofs.ByteOrder.{eq-yes}
+use Rattle.rart_keys.proofs.strings.ByteOrder.{eq-yes}
 use Rattle.rart_parts.specs.Entries.{child_at}
 use Rattle.rart_trie.specs.edits.Deletion.{merged_if_needed}
 use Rattle.rart_trie.specs.edits.RemoveAllocations.{trie_remove_allocates}

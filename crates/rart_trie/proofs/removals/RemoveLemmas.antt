@@ -8,8 +8,8 @@ use Rattle.rart_trie.specs.tries.Trie.{Trie, node, Children, no_children, child,
 use Rattle.rart_trie.specs.tries.Trie.{child_lookup, pairs_of, prefix_of, StartsWith, IsCanonical, AreCanonical}
 use Rattle.rart_trie.specs.tries.Trie.{collapsed_node, removed_after, child_if, trie_remove, remove_child}
 use Rattle.rart_trie.specs.tries.Tree.{tree_pairs, tree_lookup, IsCanonicalTree}
-use Rattle.rart_keys.proofs.ByteOrder.{order, is_less, is_equal, is_greater, eq-no, bytes_eq-equal}
-use Rattle.rart_keys.proofs.SortedMaps.{equal_by_lookups, ascending-without, lookup-without}
+use Rattle.rart_keys.proofs.strings.ByteOrder.{order, is_less, is_equal, is_greater, eq-no, bytes_eq-equal}
+use Rattle.rart_keys.proofs.maps.SortedMaps.{equal_by_lookups, ascending-without, lookup-without}
 use Rattle.rart_trie.proofs.tries.FirstBytes.{first-append}
 use Rattle.rart_trie.proofs.tries.PairLemmas.{trie_lookup-nil, child_lookup-low, bytes_eq-with_prefix, bytes_eq_within}
 use Rattle.rart_trie.proofs.tries.PairLemmas.{pairs_of-ascend, lookup-pairs_of, tree_pairs-ascend}

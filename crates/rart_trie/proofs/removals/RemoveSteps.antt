@@ -4,7 +4,7 @@ use Rattle.std.proofs.Common.{Option, Some, None, refl, arith, sym, ap, ◌∙�
 use Rattle.std.specs.Prelude.{slice_get}
 use Rattle.std.proofs.lemmas.Bool.Decides.{nat_tests}
 use Rattle.rart_keys.specs.ByteStrings.{strip_prefix}
-use Rattle.rart_keys.proofs.ByteOrder.{is_equal, is_greater, eq-yes, eq-no}
+use Rattle.rart_keys.proofs.strings.ByteOrder.{is_equal, is_greater, eq-yes, eq-no}
 use Rattle.rart_parts.specs.Entries.{child_at, replaced_at}
 use Rattle.rart_parts.specs.Entries as entries
 use Rattle.rart_trie.specs.edits.Deletion.{needs_merge, merged_child, merged_if_needed, remaining_node, without_child}

@@ -3,7 +3,7 @@ use Rattle.std.proofs.Common.{◌≡◌, ℕ, ◌+◌, ◌≤◌, not, true, fal
 use Rattle.std.proofs.Common.{arith, if◌then◌else◌}
 use Rattle.rart_keys.specs.ByteStrings.{bytes_eq}
 use Rattle.rart_keys.specs.SortedMap.{AreAbove, IsAscending, count_of, lookup, without, longest_key}
-use Rattle.rart_keys.proofs.ByteOrder.{below-not_eq, bytes_eq-back, bytes_eq-equal}
+use Rattle.rart_keys.proofs.strings.ByteOrder.{below-not_eq, bytes_eq-back, bytes_eq-equal}
 use Rattle.rart_trie.specs.tries.Tree.{IsCanonicalTree, tree_pairs, tree_remove}
 use Rattle.rart_trie.specs.tries.Trie.{Trie}
 use Rattle.rart_trie.proofs.removals.RemoveLemmas.{canonical-removed, pairs_of-removed}

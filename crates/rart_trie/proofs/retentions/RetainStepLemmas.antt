@@ -6,7 +6,7 @@ use Rattle.std.specs.Prelude.{slice_get}
 use Rattle.std.specs.Borrow.{Bor}
 use Rattle.std.specs.Fn.{Mut}
 use Rattle.std.proofs.lemmas.List.{append-nil, append_assoc}
-use Rattle.rart_keys.proofs.ByteOrder.{eq-yes, eq-no}
+use Rattle.rart_keys.proofs.strings.ByteOrder.{eq-yes, eq-no}
 use Rattle.rart_parts.specs.Entries.{child_at, entries_above, replaced_at, without_byte}
 use Rattle.rart_trie.specs.declared.node.edits.retain.Retention.{Retention}
 use Rattle.rart_trie.specs.declared.node.edits.retain.Retention.TheVariants.{Done, Rejected, Refused}

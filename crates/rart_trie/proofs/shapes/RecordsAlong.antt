@@ -3,7 +3,7 @@ use Rattle.std.proofs.Common.{◌≡◌, ℕ, ◌==◌, ⊎_elim, false, true, L
 use Rattle.std.proofs.Common.{if◌then◌else◌, refl, sym, ap, ◌∙◌}
 use Rattle.std.specs.List.{list_any}
 use Rattle.rart_keys.specs.ByteStrings.{strip_prefix}
-use Rattle.rart_keys.proofs.ByteOrder.{eq-yes, eq-no, equal_or_not}
+use Rattle.rart_keys.proofs.strings.ByteOrder.{eq-yes, eq-no, equal_or_not}
 use Rattle.rart_trie.specs.shapes.Shape.{NodeRecord}
 use Rattle.rart_trie.specs.tries.Trie.{Trie, node, Children, no_children, child, child_of, edges_of, AreCanonical}
 use Rattle.rart_trie.specs.tries.Trie.{by_rest, descend_child, descend_tree, record_of, prefix_of, StartsWith}

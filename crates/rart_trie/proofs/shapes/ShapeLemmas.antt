@@ -15,8 +15,8 @@ use Rattle.rart_trie.specs.tries.Trie.{Trie, node, Children, no_children, child,
 use Rattle.rart_trie.specs.tries.Trie.{children_pairs, edges_of, own_pair, with_prefix, nodes_of, with_records}
 use Rattle.rart_trie.specs.tries.Trie.{children_with_records, prefix_of, IsCanonical, AreCanonical, Descent, by_rest}
 use Rattle.rart_trie.specs.tries.Trie.{child_of, descend, descend_child, looks_up, record_of}
-use Rattle.rart_keys.proofs.ByteOrder.{eq-yes, eq-no, equal_or_not}
-use Rattle.rart_keys.proofs.SortedMaps.{equal_by_lookups}
+use Rattle.rart_keys.proofs.strings.ByteOrder.{eq-yes, eq-no, equal_or_not}
+use Rattle.rart_keys.proofs.maps.SortedMaps.{equal_by_lookups}
 use Rattle.rart_trie.proofs.tries.FirstBytes.{AllFirst, pairs_of-first}
 use Rattle.rart_trie.proofs.tries.PairLemmas.{pairs_of-ascend, lookup-pairs_of}
 use Rattle.rart_trie.proofs.tries.NodeCounts.{few_nodes, two-edges}

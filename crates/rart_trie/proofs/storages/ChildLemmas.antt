@@ -2,9 +2,9 @@
 use Rattle.std.proofs.Common.{◌≡◌, ℕ, suc, ◌<◌, ◌≤◌, ⊎_elim, true, false, cond, eqb, ltb, List, [], ◌∷◌, length, Some}
 use Rattle.std.proofs.Common.{None, refl, arith, sym, ap, ◌∙◌}
 use Rattle.std.proofs.lemmas.Bool.Decides.{nat_tests}
-use Rattle.rart_keys.proofs.ByteOrder.{order, is_less, is_equal, is_greater, eq-yes, eq-no}
+use Rattle.rart_keys.proofs.strings.ByteOrder.{order, is_less, is_equal, is_greater, eq-yes, eq-no}
 use Rattle.rart_parts.specs.Entries.{child_at, with_entry, replaced_at}
-use Rattle.rart_parts.proofs.EntryLemmas.{length-with_entry}
+use Rattle.rart_parts.proofs.entries.EntryLemmas.{length-with_entry}
 use Rattle.rart_trie.specs.tries.Trie.{Trie, child, edges_of, IsCanonical, AreCanonical, trie_put, put_child, leaf}
 use Rattle.rart_trie.specs.tries.Trie.{two_children}
 use Rattle.rart_trie.specs.tries.TrieCode.{as_children, node_count, child_count}

@@ -3,7 +3,7 @@ use Rattle.std.proofs.Common.{◌≡◌, ◌≢◌, ℕ, suc, ◌<◌, ◌≤◌
 use Rattle.std.proofs.Common.{sym, ap, ◌∙◌, arith, subst, option_map, true, false, cond, ltb, ◌⊎◌, inl, inr}
 use Rattle.std.proofs.lemmas.Bool.{cases_lt}
 use Rattle.std.specs.Prelude.{slice_get}
-use Rattle.rart_keys.proofs.ByteOrder.{eq-yes, eq-no, order}
+use Rattle.rart_keys.proofs.strings.ByteOrder.{eq-yes, eq-no, order}
 use Rattle.rart_parts.specs.Entries.{child_at, entries_above, replaced_at}
 use Rattle.rart_trie.specs.tries.Trie.{Trie, node}
 use Rattle.rart_trie.specs.tries.TrieCode.{as_children, child_count, node_count}

@@ -4,9 +4,9 @@ use Rattle.std.proofs.Common.{false, is_some}
 use Rattle.std.proofs.lemmas.Bool.{cases_lt}
 use Rattle.std.specs.Prelude.{slice_get}
 use Rattle.rart_keys.specs.Filters.{last_or}
-use Rattle.rart_keys.proofs.ByteOrder.{equal_or_not}
+use Rattle.rart_keys.proofs.strings.ByteOrder.{equal_or_not}
 use Rattle.rart_parts.specs.Entries.{BytesAscend, IsLastUnder, child_at}
-use Rattle.rart_parts.proofs.EntryLemmas.{at_same, at_other, first_absent}
+use Rattle.rart_parts.proofs.entries.EntryLemmas.{at_same, at_other, first_absent}
 use Rattle.rart_trie.specs.declared.node.ends.End.TheVariants.{First}
 use Rattle.rart_trie.specs.tries.Ends.{end_child, first_child, last_child}
 use Rattle.rart_trie.specs.tries.Trie.{Trie, node}

@@ -5,7 +5,7 @@ use Rattle.std.specs.Prelude.{IsSome, slice_get}
 use Rattle.std.proofs.lemmas.List.{append_assoc}
 use Rattle.rart_keys.specs.ByteStrings.{begins}
 use Rattle.rart_keys.specs.Filters.{below}
-use Rattle.rart_keys.proofs.ByteOrder.{eq-yes, eq-no}
+use Rattle.rart_keys.proofs.strings.ByteOrder.{eq-yes, eq-no}
 use Rattle.rart_parts.specs.Entries.{child_at, entries_above, replaced_at}
 use Rattle.rart_trie.specs.shapes.Shape.{capacity_of}
 use Rattle.rart_trie.specs.tries.Trie.{Trie, node, Children, child, no_children, pairs_of, children_pairs}

@@ -4,9 +4,9 @@ use Rattle.std.proofs.Common.{Option, Some, None, refl, sym, ap, ◌∙◌, arit
 use Rattle.std.proofs.lemmas.Bool.{lt-ltb, le-ltb, cases_lt}
 use Rattle.std.proofs.lemmas.List.{append-nil, append_assoc}
 use Rattle.rart_keys.specs.Filters.{last_or}
-use Rattle.rart_keys.proofs.ByteOrder.{equal_or_not}
+use Rattle.rart_keys.proofs.strings.ByteOrder.{equal_or_not}
 use Rattle.rart_parts.specs.Entries.{BytesAscend, IsLastUnder, StartsAbove, child_at, entries_above}
-use Rattle.rart_parts.proofs.EntryLemmas.{at_same, at_other, first_absent}
+use Rattle.rart_parts.proofs.entries.EntryLemmas.{at_same, at_other, first_absent}
 use Rattle.rart_trie.specs.ranges.Under.{entries_under, children_under, children_before, with_last}
 use Rattle.rart_trie.specs.tries.CanonicalTest.{is_canonical}
 use Rattle.rart_trie.specs.tries.Ends.{last_child}

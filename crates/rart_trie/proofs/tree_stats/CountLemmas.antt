@@ -11,7 +11,7 @@ use Rattle.rart_trie.specs.stats.CountedNodes.{counts_in_children, counts_sum}
 use Rattle.rart_trie.specs.stats.Stats.{one_if, trie_height, children_height}
 use Rattle.rart_trie.specs.tries.Trie.{Trie, node, Children, no_children, child, edges_of}
 use Rattle.rart_trie.specs.tries.TrieCode.{as_children, node_count, child_count}
-use Rattle.rart_keys.proofs.ByteOrder.{order, is_less, is_equal, is_greater}
+use Rattle.rart_keys.proofs.strings.ByteOrder.{order, is_less, is_equal, is_greater}
 use Rattle.rart_trie.proofs.storages.ChildLemmas.{edges_of-length}
 
 pub max-numbers : (a b : ℕ) → ord_max nat_cmp a b ≡ max a b

@@ -10,7 +10,7 @@ use Rattle.rart_trie.specs.tries.Trie.{children_pairs, edges_of, own_pair, with_
 use Rattle.rart_trie.specs.tries.Trie.{children_with_records, HasTwoChildren, IsCanonical, AreCanonical}
 use Rattle.rart_trie.specs.stats.Stats.{sum_over, one_if_some, records_along, most_along, height, stats_of}
 use Rattle.rart_trie.specs.stats.Stats.{sum_in, sum_in_children, trie_height, children_height, trie_stats}
-use Rattle.rart_keys.proofs.ByteOrder.{is_equal, is_greater, eq-yes}
+use Rattle.rart_keys.proofs.strings.ByteOrder.{is_equal, is_greater, eq-yes}
 use Rattle.rart_trie.proofs.tries.FirstBytes.{AllFirst, AllFrom, pairs_of-first, children_pairs-from}
 use Rattle.rart_trie.proofs.tries.LongerPrefix.{longer, trie_lookup-longer}
 use Rattle.rart_trie.proofs.tries.NodeCounts.{some-pairs}

@@ -4,7 +4,7 @@ use Rattle.std.proofs.Common.{None, is_some, if◌then◌else◌}
 use Rattle.std.specs.List.{starts_with}
 use Rattle.rart_keys.specs.ByteStrings.{strip_prefix, begins}
 use Rattle.rart_keys.specs.Filters.{below}
-use Rattle.rart_keys.proofs.ByteOrder.{eq-no}
+use Rattle.rart_keys.proofs.strings.ByteOrder.{eq-no}
 use Rattle.rart_trie.specs.tries.Tree.{tree_pairs}
 use Rattle.rart_trie.specs.tries.Trie.{node, Children, pairs_of, children_pairs, own_pair}
 use Rattle.rart_trie.specs.tries.Trie.{child_of, with_prefix, AreCanonical}

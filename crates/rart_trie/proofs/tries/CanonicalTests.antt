@@ -6,7 +6,7 @@ use Rattle.std.specs.Cmp.Lexicographic.{slice_cmp}
 use Rattle.std.specs.Ordering.{nat_cmp, match_ordering}
 use Rattle.std.proofs.lemmas.Bool.Decides.{nat_tests}
 use Rattle.rart_keys.specs.SortedMap.{put, longest_key}
-use Rattle.rart_keys.proofs.ByteOrder.{eq-yes}
+use Rattle.rart_keys.proofs.strings.ByteOrder.{eq-yes}
 use Rattle.rart_trie.specs.tries.CanonicalTest.{has_two_children, starts_with_byte, is_canonical, are_canonical}
 use Rattle.rart_trie.specs.tries.CanonicalTest.{is_canonical_tree}
 use Rattle.rart_trie.specs.shapes.Shape.{capacity_of}

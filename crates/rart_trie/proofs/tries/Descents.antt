@@ -6,7 +6,7 @@ use Rattle.std.specs.List.{filter}
 use Rattle.std.proofs.lemmas.List.{append-nil}
 use Rattle.std.proofs.lemmas.List.Elements.{filter-append}
 use Rattle.rart_keys.specs.ByteStrings.{strip_prefix}
-use Rattle.rart_keys.proofs.ByteOrder.{order, is_less, is_equal, is_greater, eq-yes, eq-no, equal_or_not}
+use Rattle.rart_keys.proofs.strings.ByteOrder.{order, is_less, is_equal, is_greater, eq-yes, eq-no, equal_or_not}
 use Rattle.rart_parts.specs.Entries.{child_at}
 use Rattle.rart_trie.specs.tries.CanonicalTest.{is_canonical, starts_with_byte}
 use Rattle.rart_trie.specs.tries.Tree.{tree_pairs, IsCanonicalTree}

@@ -7,7 +7,7 @@ use Rattle.std.proofs.lemmas.Option.{slice_get-map}
 use Rattle.rart_keys.specs.ByteStrings.{strip_prefix}
 use Rattle.rart_keys.specs.Filters.{last_or}
 use Rattle.rart_keys.specs.SortedMap.{keys_of, longest_key}
-use Rattle.rart_keys.proofs.ByteOrder.{eq-yes, eq-no}
+use Rattle.rart_keys.proofs.strings.ByteOrder.{eq-yes, eq-no}
 use Rattle.rart_trie.specs.declared.node.ends.End.{End}
 use Rattle.rart_trie.specs.declared.node.ends.End.TheVariants.{First, Last}
 use Rattle.rart_trie.specs.tries.CanonicalTest.{is_canonical}

@@ -4,8 +4,8 @@ use Rattle.rart_keys.specs.ByteStrings.{bytes_eq, IsLess}
 use Rattle.rart_keys.specs.SortedMap.{AreAbove, IsAscending, lookup}
 use Rattle.rart_trie.specs.tries.Trie.{Trie, node, Children, no_children, child, pairs_of, children_pairs, with_prefix}
 use Rattle.rart_trie.specs.tries.Trie.{own_pair, prefix_of, StartsWith, AreCanonical}
-use Rattle.rart_keys.proofs.ByteOrder.{is_less, below-with_prefix, bytes_eq-equal}
-use Rattle.rart_keys.proofs.SortedMaps.{lookup-first}
+use Rattle.rart_keys.proofs.strings.ByteOrder.{is_less, below-with_prefix, bytes_eq-equal}
+use Rattle.rart_keys.proofs.maps.SortedMaps.{lookup-first}
 
 abbrev pub AllFirst : {V : Type 0} → ℕ → List (List ℕ × V) → Type 0
 AllFirst c [] = Unit {0}

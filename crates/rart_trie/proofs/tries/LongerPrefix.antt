@@ -3,7 +3,7 @@ use Rattle.std.proofs.Common.{◌≡◌, ℕ, ◌==◌, true, false, List, [], �
 use Rattle.rart_keys.specs.ByteStrings.{strip_prefix}
 use Rattle.rart_trie.specs.tries.Trie.{Trie, node, Children, answer_after, trie_lookup, child_lookup, prefix_of}
 use Rattle.rart_trie.specs.tries.Trie.{StartsWith, IsCanonical, overlap, put_split, trie_put, put_child}
-use Rattle.rart_keys.proofs.ByteOrder.{eq-yes}
+use Rattle.rart_keys.proofs.strings.ByteOrder.{eq-yes}
 
 module _ {V : Type 0} where
   abbrev pub longer : ℕ → Trie V → Trie V

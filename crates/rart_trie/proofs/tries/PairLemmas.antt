@@ -6,7 +6,7 @@ use Rattle.rart_keys.specs.SortedMap.{lookup, IsAscending}
 use Rattle.rart_trie.specs.tries.Trie.{Trie, node, Children, no_children, child, looks_up, trie_lookup, child_lookup}
 use Rattle.rart_trie.specs.tries.Trie.{pairs_of, children_pairs, with_prefix, own_pair, prefix_of, StartsWith}
 use Rattle.rart_trie.specs.tries.Trie.{IsCanonical, AreCanonical}
-use Rattle.rart_keys.proofs.ByteOrder.{is_less, eq-yes, eq-no, equal_or_not}
+use Rattle.rart_keys.proofs.strings.ByteOrder.{is_less, eq-yes, eq-no, equal_or_not}
 use Rattle.rart_trie.specs.tries.Tree.{tree_pairs, IsCanonicalTree}
 use Rattle.rart_trie.proofs.tries.Descents.{Keeps, by_byte, children-by, descends}
 use Rattle.rart_trie.proofs.tries.FirstBytes.{ascending-append, ascending-with_prefix, pairs_of-first}

@@ -4,7 +4,7 @@ use Rattle.std.proofs.Common.{None}
 use Rattle.std.proofs.lemmas.Grind.{common_steps}
 use Rattle.std.proofs.lemmas.List.{length-drop}
 use Rattle.rart_keys.specs.ByteStrings.{strip_prefix, begins}
-use Rattle.rart_keys.proofs.ByteOrder.{eq-yes, eq-no, equal_or_not}
+use Rattle.rart_keys.proofs.strings.ByteOrder.{eq-yes, eq-no, equal_or_not}
 
 pub begins-after : (q p r k : List ℕ) → strip_prefix q p ≡ Some r → begins p (q ++ k) ≡ begins r k
 begins-after [] p r k s = let e : p ≡ r = cc in ap (λ z. begins z k) e

@@ -16,7 +16,7 @@ use Rattle.rart_trie.proofs.tries.CanonicalTests.{IsCanonical-test, test-IsCanon
 use Rattle.rart_trie.proofs.tries.CanonicalTests.{longest_key-with_prefix, longest_key-after}
 use Rattle.rart_trie.proofs.tries.Descents.{descend-left, descend-ended, descend-on}
 use Rattle.rart_trie.proofs.tries.PairLemmas.{lookup-pairs_of}
-use Rattle.rart_trie.proofs.walks.ProbeLemmas.{entered_nodes-probe_count, few-entered_nodes}
+use Rattle.rart_trie.proofs.tries.ProbeLemmas.{entered_nodes-probe_count, few-entered_nodes}
 use Rattle.rart_trie.proofs.tries.NodeCounts.{some-after}
 
 module _ {V : Type 0} where

@@ -1,7 +1,7 @@
 use Rattle.std.proofs.Common.{◌≡◌, ◌≤◌, ◌+◌, suc, length, ◌∙◌, ap, arith}
 use Rattle.std.specs.Prelude.{slice_index, slice_set}
 use Rattle.rart_cidr.specs.Bits.{masked_byte}
-use Rattle.rart_cidr.proofs.NetworkLemmas.{before-all, before-next, cleared_before}
+use Rattle.rart_cidr.proofs.networks.NetworkLemmas.{before-all, before-next, cleared_before}
 use Rattle.rart_cidr.proofs.bits.clear_after.Goals as goal
 
 pub loop-at-preserved : goal.loop-at-preserved

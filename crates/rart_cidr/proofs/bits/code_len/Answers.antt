@@ -1,7 +1,7 @@
 use Rattle.std.proofs.Common.{arith, refl}
 use Rattle.rart_cidr.specs.Codes.{length_of_code}
-use Rattle.rart_cidr.proofs.BitLemmas.{holds_below}
-use Rattle.rart_cidr.proofs.CodeLemmas.{agree_at}
+use Rattle.rart_cidr.proofs.networks.BitLemmas.{holds_below}
+use Rattle.rart_cidr.proofs.networks.CodeLemmas.{agree_at}
 use Rattle.rart_cidr.proofs.bits.code_len.Goals as goal
 
 pub returns-then-code-lt2 : goal.returns-then-code-lt2

@@ -2,7 +2,7 @@ use Rattle.std.proofs.Common.{ap, sym, ◌∙◌}
 use Rattle.rart_keys.specs.SortedMap.{keys_of}
 use Rattle.rart_keys.specs.ArrayKeyBytes.{array_key_bytes}
 use Rattle.rart_trie.specs.edits.RemoveAllocations.{remove_allocates}
-use Rattle.rart_cidr.proofs.StrideLemmas.{only-length}
+use Rattle.rart_cidr.proofs.routes.StrideLemmas.{only-length}
 use Rattle.rart_cidr.proofs.stride.unboxed_one.Goals as goal
 
 pub unreachable-requires-in-Err : goal.unreachable-requires-in-Err

@@ -1,4 +1,4 @@
-use Rattle.rart_cidr.proofs.EditLemmas.{puts-in}
+use Rattle.rart_cidr.proofs.routes.EditLemmas.{puts-in}
 use Rattle.rart_cidr.proofs.table.put_target.Goals as goal
 
 pub returns-in-Some : goal.returns-in-Some

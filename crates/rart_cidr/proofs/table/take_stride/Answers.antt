@@ -1,5 +1,5 @@
 use Rattle.std.proofs.Common.{[], ◌∷◌, sym, ◌∙◌}
-use Rattle.rart_cidr.proofs.EditLemmas.{keeps-stride, takes-stride}
+use Rattle.rart_cidr.proofs.routes.EditLemmas.{keeps-stride, takes-stride}
 use Rattle.rart_cidr.proofs.table.take_stride.Goals as goal
 
 pub returns-in-Ok-Some : goal.returns-in-Ok-Some

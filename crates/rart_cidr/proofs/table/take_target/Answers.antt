@@ -1,5 +1,5 @@
 use Rattle.std.proofs.Common.{◌∙◌}
-use Rattle.rart_cidr.proofs.EditLemmas.{takes-from}
+use Rattle.rart_cidr.proofs.routes.EditLemmas.{takes-from}
 use Rattle.rart_cidr.proofs.table.take_target.Goals as goal
 
 pub returns-else-len-eq1 : goal.returns-else-len-eq1

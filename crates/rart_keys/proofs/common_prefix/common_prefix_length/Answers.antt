@@ -1,4 +1,4 @@
-use Rattle.rart_keys.proofs.CommonPrefixes.{greatest_from_value}
+use Rattle.rart_keys.proofs.strings.CommonPrefixes.{greatest_from_value}
 use Rattle.rart_keys.proofs.common_prefix.common_prefix_length.Goals as goal
 
 pub returns-clause-greatest : goal.returns-clause-greatest

@@ -1,5 +1,5 @@
 use Rattle.std.proofs.Common.{◌∙◌, arith}
-use Rattle.rart_keys.proofs.ByteComparisons.{compared-at, compared-ended}
+use Rattle.rart_keys.proofs.strings.ByteComparisons.{compared-at, compared-ended}
 use Rattle.rart_keys.proofs.common_prefix.compare_bytes.Goals as goal
 use Rattle.rart_keys.proofs.common_prefix.compare_bytes.Goals.{else-shared-left-via-then-shared-left+else-shared-right}
 use Rattle.rart_keys.proofs.common_prefix.compare_bytes.Goals.{else-shared-left-via-else-shared-left}

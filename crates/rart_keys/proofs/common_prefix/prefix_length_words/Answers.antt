@@ -2,7 +2,7 @@
 -- `at_different_word` where the first difference is.
 use Rattle.std.proofs.Common.{arith}
 use Rattle.std.proofs.lemmas.Nat.{xor_lt}
-use Rattle.rart_keys.proofs.WordLemmas.{common_prefix_len-at_same_word, common_prefix_len-at_different_word}
+use Rattle.rart_keys.proofs.strings.WordLemmas.{common_prefix_len-at_same_word, common_prefix_len-at_different_word}
 use Rattle.rart_keys.proofs.common_prefix.prefix_length_words.Goals as goal
 
 pub returns-then-differing-ne0 : goal.returns-then-differing-ne0

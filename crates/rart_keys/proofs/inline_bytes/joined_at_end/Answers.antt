@@ -1,5 +1,5 @@
 use Rattle.std.proofs.Common.{arith}
-use Rattle.rart_keys.proofs.InlineBytes.{zeros-two_parts}
+use Rattle.rart_keys.proofs.strings.InlineBytes.{zeros-two_parts}
 use Rattle.rart_keys.proofs.inline_bytes.joined_at_end.Goals as goal
 
 pub returns : goal.returns

@@ -1,4 +1,4 @@
-use Rattle.rart_keys.proofs.InlineBytes.{two_parts-zeros}
+use Rattle.rart_keys.proofs.strings.InlineBytes.{two_parts-zeros}
 use Rattle.rart_keys.proofs.inline_bytes.joined_bytes.Goals as goal
 
 pub returns : goal.returns

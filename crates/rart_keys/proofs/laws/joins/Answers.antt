@@ -1,4 +1,4 @@
-use Rattle.rart_keys.proofs.JoinsOfMaps.{join-ascends, lookup-join, few-joined, join-swapped}
+use Rattle.rart_keys.proofs.maps.JoinsOfMaps.{join-ascends, lookup-join, few-joined, join-swapped}
 use Rattle.rart_keys.proofs.laws.joins.Goals as goal
 
 pub returns : goal.returns

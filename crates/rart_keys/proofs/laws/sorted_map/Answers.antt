@@ -1,6 +1,6 @@
-use Rattle.rart_keys.proofs.SortedMaps.{equal_by_lookups, ascending-put, lookup-put_at, lookup-put_elsewhere}
-use Rattle.rart_keys.proofs.SortedMaps.{length-put, ascending-without, lookup-without_at, lookup-without_elsewhere}
-use Rattle.rart_keys.proofs.SortedMaps.{without-put}
+use Rattle.rart_keys.proofs.maps.SortedMaps.{equal_by_lookups, ascending-put, lookup-put_at, lookup-put_elsewhere}
+use Rattle.rart_keys.proofs.maps.SortedMaps.{length-put, ascending-without, lookup-without_at, lookup-without_elsewhere}
+use Rattle.rart_keys.proofs.maps.SortedMaps.{without-put}
 use Rattle.rart_keys.proofs.laws.sorted_map.Goals as goal
 
 pub returns : goal.returns

@@ -1,5 +1,5 @@
 use Rattle.std.proofs.Common.{arith, refl}
-use Rattle.rart_keys.proofs.SharedBeginnings.{extends, last-decides}
+use Rattle.rart_keys.proofs.strings.SharedBeginnings.{extends, last-decides}
 use Rattle.rart_keys.proofs.strip.begins.Goals as goal
 
 pub returns-then-half_at : goal.returns-then-half_at

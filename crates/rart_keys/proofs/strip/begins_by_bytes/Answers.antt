@@ -1,5 +1,5 @@
 use Rattle.std.proofs.lemmas.Bool.{leb-true, le-leb}
-use Rattle.rart_keys.proofs.SharedBeginnings.{begins-shared, shared-begins}
+use Rattle.rart_keys.proofs.strings.SharedBeginnings.{begins-shared, shared-begins}
 use Rattle.rart_keys.proofs.strip.begins_by_bytes.Goals as goal
 
 pub returns : goal.returns

@@ -1,5 +1,5 @@
 use Rattle.std.proofs.Common.{arith}
-use Rattle.rart_keys.proofs.SharedBeginnings.{extends, last-decides, same-number}
+use Rattle.rart_keys.proofs.strings.SharedBeginnings.{extends, last-decides, same-number}
 use Rattle.rart_keys.proofs.strip.begins_by_words.Goals as goal
 
 pub returns-then-word_at : goal.returns-then-word_at

@@ -1,6 +1,6 @@
 use Rattle.std.proofs.Common.{arith, ap, Some, ◌∙◌, length}
 use Rattle.std.proofs.lemmas.List.{take_rest}
-use Rattle.rart_keys.proofs.SharedBeginnings.{begun-no-longer, strip-begun, strip-not-begun}
+use Rattle.rart_keys.proofs.strings.SharedBeginnings.{begun-no-longer, strip-begun, strip-not-begun}
 use Rattle.rart_keys.proofs.strip.strip_prefix.Goals as goal
 use Rattle.rart_keys.proofs.strip.strip_prefix.Goals.{then-prefix-key-via-then-prefix-key}
 use Rattle.rart_keys.proofs.strip.strip_prefix.Goals.{then-prefix-key-via-else-prefix-key+then-not-begins}

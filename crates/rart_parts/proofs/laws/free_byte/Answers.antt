@@ -1,5 +1,5 @@
 use Rattle.std.proofs.Common.{arith}
-use Rattle.rart_parts.proofs.EntryLemmas.{length-between_absent, length-with_entry}
+use Rattle.rart_parts.proofs.entries.EntryLemmas.{length-between_absent, length-with_entry}
 use Rattle.rart_parts.proofs.laws.free_byte.Goals as goal
 
 pub returns : goal.returns

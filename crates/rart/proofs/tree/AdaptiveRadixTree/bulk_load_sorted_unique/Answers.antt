@@ -10,7 +10,8 @@ of_keys_and_values-requires-clause-each g c = ap length c.deref.ensures.value
 pub of_keys_and_values-requires-clause-ascending :
     goal.of_keys_and_values-requires-clause-ascending
 of_keys_and_values-requires-clause-ascending g c =
-    rw c.deref.ensures.value (unique-ascends g.I.IntoIterator.into_iter_gives g.I.IntoIter.Iterator.next_gives _ g.K.KeyTrait.bytes _ _
+    rw c.deref.ensures.value (unique-ascends g.I.IntoIterator.into_iter_gives g.I.IntoIter.Iterator.next_gives _
+    g.K.KeyTrait.bytes _ _
     c.in_ok-keys.ensures.read (λ s b. (c.requires s b).2))
 
 pub returns-clause-pairs : goal.returns-clause-pairs

@@ -2,7 +2,7 @@ use Rattle.std.proofs.Common.{◌≡◌, ◌<◌, length, get_or, arith, sym, �
 use Rattle.std.specs.Str.{IsUtf8}
 use Rattle.std.proofs.lemmas.Fmt.{IsAscii-decimal}
 use Rattle.std.proofs.lemmas.Str.{IsUtf8-from_ascii}
-use Rattle.rart_cidr.proofs.TextLemmas.{decimal-read, decimal-unread, first-decimal}
+use Rattle.rart_cidr.proofs.networks.TextLemmas.{decimal-read, decimal-unread, first-decimal}
 use Rattle.rart_cidr.proofs.cidr.parse.parse_len.Goals as goal
 use Rattle.rart_cidr.proofs.cidr.parse.parse_len.Goals.{else-digits-gt1-via-then-digits-gt1+else-digits-le48}
 use Rattle.rart_cidr.proofs.cidr.parse.parse_len.Goals.{else-digits-gt1-via-else-digits-gt1}

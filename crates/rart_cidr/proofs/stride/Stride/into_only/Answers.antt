@@ -1,4 +1,4 @@
-use Rattle.rart_cidr.proofs.StrideLemmas.{only-length}
+use Rattle.rart_cidr.proofs.routes.StrideLemmas.{only-length}
 use Rattle.rart_cidr.proofs.stride.Stride.into_only.Goals as goal
 
 pub unreachable-requires : goal.unreachable-requires

@@ -2,7 +2,7 @@ use Rattle.std.proofs.Common.{◌≡◌, ◌≤◌, None, Some, ap, subst, sym, 
 use Rattle.rart_cidr.specs.Bits.{code}
 use Rattle.rart_cidr.specs.Routes.{IsLongestIn}
 use Rattle.rart_cidr.specs.Targets.{pairs_of}
-use Rattle.rart_cidr.proofs.OneLemmas.{one-longest, one-no_longest}
+use Rattle.rart_cidr.proofs.routes.OneLemmas.{one-longest, one-no_longest}
 use Rattle.rart_cidr.proofs.stride.Stride.longest.Goals as goal
 use Rattle.rart_cidr.proofs.stride.Stride.longest.Goals.{else-bits-most-via-then-bits-most+else-code_of-stored}
 use Rattle.rart_cidr.proofs.stride.Stride.longest.Goals.{else-bits-most-via-else-bits-most}

@@ -2,8 +2,8 @@ use Rattle.std.proofs.Common.{[], ◌∷◌, Some, arith, ap, subst, sym, ◌∙
 use Rattle.rart_keys.specs.SortedMap.{lookup}
 use Rattle.rart_cidr.specs.Routes.{IsCode}
 use Rattle.rart_cidr.specs.Walks.{IsNextIn}
-use Rattle.rart_cidr.proofs.CodeLemmas.{HasNoneUpTo, code_place, follows, next_found, next_none, none_at_first}
-use Rattle.rart_cidr.proofs.CodeLemmas.{none_at_next, not_after}
+use Rattle.rart_cidr.proofs.networks.CodeLemmas.{HasNoneUpTo, code_place, follows, next_found, next_none, none_at_first}
+use Rattle.rart_cidr.proofs.networks.CodeLemmas.{none_at_next, not_after}
 use Rattle.rart_cidr.proofs.stride.Stride.next.Goals as goal
 
 pub loop-at-init : goal.loop-at-init

@@ -1,6 +1,6 @@
 use Rattle.std.proofs.Common.{◌≤◌, ◌-◌, [], ◌∷◌}
 use Rattle.rart_cidr.specs.Routes.{IsCode}
-use Rattle.rart_cidr.proofs.CodeLemmas.{HasNoneUpTo, code_place}
+use Rattle.rart_cidr.proofs.networks.CodeLemmas.{HasNoneUpTo, code_place}
 use Rattle.rart_cidr.proofs.stride.Stride.next.Given as goal
 
 abbrev pub invariant-loop-at : goal.invariant-loop-at

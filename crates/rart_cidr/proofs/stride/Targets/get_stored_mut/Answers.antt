@@ -1,7 +1,7 @@
 use Rattle.std.proofs.Common.{◌≡◌, [], ◌∷◌, refl, ap, sym, ◌∙◌}
 use Rattle.rart_keys.specs.SortedMap.{lookup, put}
 use Rattle.rart_cidr.specs.Targets.{pairs_of}
-use Rattle.rart_cidr.proofs.LoanLemmas.{on_some}
+use Rattle.rart_cidr.proofs.routes.LoanLemmas.{on_some}
 use Rattle.rart_cidr.proofs.stride.Targets.get_stored_mut.Goals as goal
 use Rattle.rart_cidr.proofs.stride.Targets.get_stored_mut.Goals.{in-One+else-stored-code, in_default}
 

@@ -1,4 +1,4 @@
-use Rattle.rart_cidr.proofs.RouteLemmas.{routes-ascend}
+use Rattle.rart_cidr.proofs.routes.RouteLemmas.{routes-ascend}
 use Rattle.rart_cidr.proofs.table.BitTable.ascends.Goals as goal
 
 pub returns : goal.returns

@@ -1,4 +1,4 @@
-use Rattle.rart_cidr.proofs.MatchLemmas.{first_in_stride, none_after, none_in_stride_after}
+use Rattle.rart_cidr.proofs.walks.MatchLemmas.{first_in_stride, none_after, none_in_stride_after}
 use Rattle.rart_cidr.proofs.table.BitTable.first_after.Goals as goal
 
 pub returns-in-Some-shortest : goal.returns-in-Some-shortest

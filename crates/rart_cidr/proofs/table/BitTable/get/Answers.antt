@@ -1,4 +1,4 @@
-use Rattle.rart_cidr.proofs.EditLemmas.{get-none, get-some}
+use Rattle.rart_cidr.proofs.routes.EditLemmas.{get-none, get-some}
 use Rattle.rart_cidr.proofs.table.BitTable.get.Goals as goal
 
 pub returns-in-Some : goal.returns-in-Some

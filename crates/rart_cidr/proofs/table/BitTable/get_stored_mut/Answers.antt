@@ -2,8 +2,8 @@ use Rattle.std.proofs.Common.{refl, ap, subst, sym, ◌∙◌, length}
 use Rattle.rart_keys.specs.SortedMap.{lookup}
 use Rattle.rart_cidr.specs.Bits.{network}
 use Rattle.rart_cidr.specs.Routes.{AreStrides, routes_of}
-use Rattle.rart_cidr.proofs.EditLemmas.{get-none, get-some}
-use Rattle.rart_cidr.proofs.LoanLemmas.{code_stored, lent_back, lent_route, lent_some, on_some}
+use Rattle.rart_cidr.proofs.routes.EditLemmas.{get-none, get-some}
+use Rattle.rart_cidr.proofs.routes.LoanLemmas.{code_stored, lent_back, lent_route, lent_some, on_some}
 use Rattle.rart_cidr.proofs.table.BitTable.get_stored_mut.Goals as goal
 
 pub invariant_of-self-lent : goal.invariant_of-self-lent

@@ -1,7 +1,7 @@
 use Rattle.std.proofs.Common.{◌≤◌, arith, length, sym, ap, ◌∙◌}
 use Rattle.rart.specs.declared.tree.TheConstants.{MAX_PAIRS}
 use Rattle.rart_cidr.specs.Routes.{routes_of}
-use Rattle.rart_cidr.proofs.EditLemmas.{inserted-answer, new-route, old-route, refused-answer}
+use Rattle.rart_cidr.proofs.routes.EditLemmas.{inserted-answer, new-route, old-route, refused-answer}
 use Rattle.rart_cidr.proofs.table.BitTable.insert.Goals as goal
 
 pub invariant_of-self : goal.invariant_of-self

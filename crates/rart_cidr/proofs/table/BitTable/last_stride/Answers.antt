@@ -1,6 +1,6 @@
 use Rattle.std.proofs.Common.{◌∙◌, ◌+◌, ◌*◌, None, Some, ap, arith, refl, take}
 use Rattle.rart_keys.specs.Filters.{longest_match}
-use Rattle.rart_cidr.proofs.LongestLemmas.{last-none, last-some, none_in_stride, some_in_stride}
+use Rattle.rart_cidr.proofs.walks.LongestLemmas.{last-none, last-some, none_in_stride, some_in_stride}
 use Rattle.rart_cidr.proofs.table.BitTable.last_stride.Goals as goal
 
 pub returns-in_err-count-clause-value : goal.returns-in_err-count-clause-value

@@ -1,6 +1,6 @@
 use Rattle.std.proofs.Common.{◌≡◌, ◌+◌, ◌-◌, arith, subst}
 use Rattle.rart_cidr.specs.Longest.{HasNoneFrom}
-use Rattle.rart_cidr.proofs.LongestLemmas.{found-at, has_none, none-at, tried-found, tried-none}
+use Rattle.rart_cidr.proofs.walks.LongestLemmas.{found-at, has_none, none-at, tried-found, tried-none}
 use Rattle.rart_cidr.proofs.table.BitTable.longest_by_lengths.Goals as goal
 
 pub loop-count-init : goal.loop-count-init

@@ -1,4 +1,4 @@
-use Rattle.rart_cidr.proofs.LongestLemmas.{matched-all}
+use Rattle.rart_cidr.proofs.walks.LongestLemmas.{matched-all}
 use Rattle.rart_cidr.proofs.table.BitTable.longest_match.Goals as goal
 
 pub returns-clause-value : goal.returns-clause-value

@@ -1,5 +1,5 @@
 use Rattle.std.proofs.Common.{arith}
-use Rattle.rart_cidr.proofs.MatchLemmas.{has_no_next, is_next}
+use Rattle.rart_cidr.proofs.walks.MatchLemmas.{has_no_next, is_next}
 use Rattle.rart_cidr.proofs.table.BitTable.next_match.Goals as goal
 
 pub returns-in-Some-clause-value : goal.returns-in-Some-clause-value

@@ -2,7 +2,7 @@ use Rattle.std.proofs.Common.{arith, sym, ap, ◌∙◌}
 use Rattle.rart_keys.specs.SortedMap.{lookup, without}
 use Rattle.rart_cidr.specs.Bits.{network}
 use Rattle.rart_cidr.specs.Routes.{routes_of}
-use Rattle.rart_cidr.proofs.EditLemmas.{absent-without, at-key, five-routes, removed}
+use Rattle.rart_cidr.proofs.routes.EditLemmas.{absent-without, at-key, five-routes, removed}
 use Rattle.rart_cidr.proofs.table.BitTable.remove.Goals as goal
 
 pub overflow_sub-self : goal.overflow_sub-self

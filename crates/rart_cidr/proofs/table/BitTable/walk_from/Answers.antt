@@ -2,7 +2,7 @@ use Rattle.std.proofs.Common.{true, ap, ◌∙◌}
 use Rattle.rart_keys.specs.Ranges.{pairs_from}
 use Rattle.rart_cidr.specs.Bits.{network}
 use Rattle.rart_cidr.specs.Routes.{routes_of}
-use Rattle.rart_cidr.proofs.AheadLemmas.{some_routes, walk_started}
+use Rattle.rart_cidr.proofs.walks.AheadLemmas.{some_routes, walk_started}
 use Rattle.rart_cidr.proofs.table.BitTable.walk_from.Goals as goal
 
 pub returns-in-Err-clause-memory : goal.returns-in-Err-clause-memory

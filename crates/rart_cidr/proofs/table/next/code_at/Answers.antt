@@ -1,6 +1,6 @@
 use Rattle.std.proofs.Common.{arith, refl, subst, sym}
 use Rattle.rart_cidr.specs.Walks.{IsCodeFrom}
-use Rattle.rart_cidr.proofs.NextLemmas.{from_all, from_fewer}
+use Rattle.rart_cidr.proofs.walks.NextLemmas.{from_all, from_fewer}
 use Rattle.rart_cidr.proofs.table.next.code_at.Goals as goal
 
 pub returns-then-at-octets : goal.returns-then-at-octets

@@ -3,9 +3,10 @@ use Rattle.std.specs.Prelude.{option_map}
 use Rattle.rart_keys.specs.ByteStrings.{strip_prefix}
 use Rattle.rart_keys.specs.KeyBytes.{AreBytes}
 use Rattle.rart_cidr.specs.Walks.{IsLastBefore}
-use Rattle.rart_cidr.proofs.NextLemmas.{byte_in, first_is, last_at_itself, last_elsewhere, last_inside, last_of_none}
-use Rattle.rart_cidr.proofs.NextLemmas.{nothing_is}
-use Rattle.rart_cidr.proofs.PlaceLemmas.{strip_some}
+use Rattle.rart_cidr.proofs.walks.NextLemmas.{byte_in, first_is, last_at_itself, last_elsewhere, last_inside}
+use Rattle.rart_cidr.proofs.walks.NextLemmas.{last_of_none}
+use Rattle.rart_cidr.proofs.walks.NextLemmas.{nothing_is}
+use Rattle.rart_cidr.proofs.networks.PlaceLemmas.{strip_some}
 use Rattle.rart_cidr.proofs.table.next.last_before.Goals as goal
 
 pub returns-in_default : goal.returns-in_default

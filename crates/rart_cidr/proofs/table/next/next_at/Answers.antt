@@ -3,7 +3,7 @@ use Rattle.std.specs.Prelude.{option_map}
 use Rattle.rart_keys.specs.SortedMap.{lookup}
 use Rattle.rart_cidr.specs.Routes.{stride_or_empty}
 use Rattle.rart_cidr.specs.Walks.{IsLastBefore}
-use Rattle.rart_cidr.proofs.NextLemmas.{from_within, next_in_stride}
+use Rattle.rart_cidr.proofs.walks.NextLemmas.{from_within, next_in_stride}
 use Rattle.rart_cidr.proofs.table.next.next_at.Goals as goal
 
 pub next-requires-clause-order : goal.next-requires-clause-order

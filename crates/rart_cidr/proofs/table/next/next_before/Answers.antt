@@ -1,7 +1,7 @@
 use Rattle.std.proofs.Common.{◌≡◌, ◌+◌, ◌-◌, ◌≤◌, suc, arith, length, subst}
 use Rattle.std.specs.Prelude.{option_map}
 use Rattle.rart_cidr.specs.Walks.{HasNoneDownTo, net_at}
-use Rattle.rart_cidr.proofs.NextLemmas.{found_before, none_at_one_more}
+use Rattle.rart_cidr.proofs.walks.NextLemmas.{found_before, none_at_one_more}
 use Rattle.rart_cidr.proofs.table.next.next_before.Goals as goal
 
 pub returns-in-Some : goal.returns-in-Some

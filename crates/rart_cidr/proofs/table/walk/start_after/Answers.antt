@@ -1,5 +1,5 @@
 use Rattle.std.proofs.Common.{◌∙◌}
-use Rattle.rart_cidr.proofs.StartLemmas.{start_whole, start_within}
+use Rattle.rart_cidr.proofs.walks.StartLemmas.{start_whole, start_within}
 use Rattle.rart_cidr.proofs.table.walk.start_after.Goals as goal
 
 pub returns-then-bits-eq0 : goal.returns-then-bits-eq0

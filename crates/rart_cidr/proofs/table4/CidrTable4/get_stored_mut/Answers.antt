@@ -3,8 +3,8 @@ use Rattle.rart_cidr.specs.Bits.{network}
 use Rattle.rart_cidr.specs.Networks.{bits4}
 use Rattle.rart_keys.specs.SortedMap.{lookup}
 use Rattle.rart_cidr.specs.Walks.{AreWithin}
-use Rattle.rart_cidr.proofs.LoanLemmas.{lent_some}
-use Rattle.rart_cidr.proofs.WidthLemmas.{put_within}
+use Rattle.rart_cidr.proofs.routes.LoanLemmas.{lent_some}
+use Rattle.rart_cidr.proofs.routes.WidthLemmas.{put_within}
 use Rattle.rart_cidr.proofs.table4.CidrTable4.get_stored_mut.Goals as goal
 
 pub invariant_of-self-lent : goal.invariant_of-self-lent

@@ -1,7 +1,7 @@
 use Rattle.std.proofs.Common.{◌≡◌, ap, subst, ◌∙◌}
 use Rattle.std.specs.Prelude.{IfOk}
 use Rattle.rart_keys.specs.Filters.{below}
-use Rattle.rart_cidr.proofs.FilterLemmas.{below_nothing}
+use Rattle.rart_cidr.proofs.walks.FilterLemmas.{below_nothing}
 use Rattle.rart_cidr.proofs.table4.CidrTable4.iter.Goals as goal
 
 pub returns-clause-routes : goal.returns-clause-routes

@@ -1,5 +1,5 @@
 use Rattle.rart_cidr.specs.Networks.{bits4}
-use Rattle.rart_cidr.proofs.LongestLemmas.{longest-route}
+use Rattle.rart_cidr.proofs.walks.LongestLemmas.{longest-route}
 use Rattle.rart_cidr.proofs.table4.CidrTable4.longest_match_net.Goals as goal
 
 pub returns-clause-longest_match : goal.returns-clause-longest_match

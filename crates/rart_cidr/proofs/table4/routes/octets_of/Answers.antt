@@ -1,7 +1,7 @@
 use Rattle.std.proofs.Common.{◌++◌, ◌-◌, arith, ap, length, refl, replicate, ◌∙◌}
 use Rattle.std.specs.Prelude.{slice_set}
 use Rattle.rart_keys.specs.ArrayKeyBytes.{array_key_bytes}
-use Rattle.rart_cidr.proofs.StartLemmas.{coded_octets, full_octets}
+use Rattle.rart_cidr.proofs.walks.StartLemmas.{coded_octets, full_octets}
 use Rattle.rart_cidr.proofs.table4.routes.octets_of.Goals as goal
 
 pub returns-then-at-lt4-clause-value : goal.returns-then-at-lt4-clause-value

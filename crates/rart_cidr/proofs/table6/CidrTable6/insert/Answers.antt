@@ -1,7 +1,7 @@
 use Rattle.std.proofs.Common.{◌≡◌, ◌≤◌, arith, ap, length, ◌∙◌}
 use Rattle.rart_cidr.specs.Bits.{network}
 use Rattle.rart_cidr.specs.Networks.{bits6}
-use Rattle.rart_cidr.proofs.WidthLemmas.{insert_within}
+use Rattle.rart_cidr.proofs.routes.WidthLemmas.{insert_within}
 use Rattle.rart_cidr.proofs.table6.CidrTable6.insert.Goals as goal
 
 pub invariant_of-self : goal.invariant_of-self

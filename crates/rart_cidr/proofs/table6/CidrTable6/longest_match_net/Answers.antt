@@ -1,5 +1,5 @@
 use Rattle.rart_cidr.specs.Networks.{bits6}
-use Rattle.rart_cidr.proofs.LongestLemmas.{longest-route}
+use Rattle.rart_cidr.proofs.walks.LongestLemmas.{longest-route}
 use Rattle.rart_cidr.proofs.table6.CidrTable6.longest_match_net.Goals as goal
 
 pub returns-clause-longest_match : goal.returns-clause-longest_match

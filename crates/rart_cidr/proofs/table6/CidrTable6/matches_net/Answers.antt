@@ -1,7 +1,7 @@
 use Rattle.std.proofs.Common.{ap, ◌∙◌}
 use Rattle.rart_keys.specs.Filters.{matches}
 use Rattle.rart_cidr.specs.Networks.{bits6}
-use Rattle.rart_cidr.proofs.MatchLemmas.{all_matches}
+use Rattle.rart_cidr.proofs.walks.MatchLemmas.{all_matches}
 use Rattle.rart_cidr.proofs.table6.CidrTable6.matches_net.Goals as goal
 
 pub returns : goal.returns

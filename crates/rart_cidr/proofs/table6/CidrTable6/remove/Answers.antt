@@ -1,5 +1,5 @@
 use Rattle.rart_cidr.specs.Bits.{network}
-use Rattle.rart_cidr.proofs.WidthLemmas.{remove_within}
+use Rattle.rart_cidr.proofs.routes.WidthLemmas.{remove_within}
 use Rattle.rart_cidr.proofs.table6.CidrTable6.remove.Goals as goal
 
 pub invariant_of-self : goal.invariant_of-self

@@ -3,7 +3,7 @@ use Rattle.rart_keys.specs.Ranges.{is_from_bound, pairs_from}
 use Rattle.rart_cidr.specs.Bits.{network}
 use Rattle.rart_cidr.specs.Networks.{bits6}
 use Rattle.rart_cidr.specs.Walks.{AreWithin, up_to_outside}
-use Rattle.rart_cidr.proofs.FilterLemmas.{up_to_outside_is, within_filter}
+use Rattle.rart_cidr.proofs.walks.FilterLemmas.{up_to_outside_is, within_filter}
 use Rattle.rart_cidr.proofs.table6.CidrTable6.within.Goals as goal
 
 pub invariant_of-result : goal.invariant_of-result

@@ -3,8 +3,8 @@ use Rattle.rart_keys.specs.ArrayKeyBytes.{array_key_bytes}
 use Rattle.rart_cidr.specs.Bits.{bits_of, code_bits}
 use Rattle.std.specs.Net.Addr.{ipv6_octets, octets_of}
 use Rattle.std.proofs.lemmas.List.{length-append}
-use Rattle.rart_cidr.proofs.BitLemmas.{length-bits}
-use Rattle.rart_cidr.proofs.NetworkLemmas.{segments-octets}
+use Rattle.rart_cidr.proofs.networks.BitLemmas.{length-bits}
+use Rattle.rart_cidr.proofs.networks.NetworkLemmas.{segments-octets}
 use Rattle.rart_cidr.proofs.table6.routes.network_of.Goals as goal
 
 pub returns : goal.returns

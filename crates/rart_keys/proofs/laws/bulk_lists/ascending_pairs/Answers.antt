@@ -1,4 +1,4 @@
-use Rattle.rart_keys.proofs.PutAllLemmas.{ascends-on, begun-ascends, below-later}
+use Rattle.rart_keys.proofs.maps.PutAllLemmas.{ascends-on, begun-ascends, below-later}
 use Rattle.rart_keys.proofs.laws.bulk_lists.ascending_pairs.Goals as goal
 
 pub returns : goal.returns

@@ -1,5 +1,6 @@
-use Rattle.rart_keys.proofs.BulkListLemmas.{fault-there, fault-first, fault-none, last_wins-ascends, lookup-last_wins}
-use Rattle.rart_keys.proofs.BulkListLemmas.{strict-faultless, strict-stays}
+use Rattle.rart_keys.proofs.maps.BulkListLemmas.{fault-there, fault-first, fault-none, last_wins-ascends}
+use Rattle.rart_keys.proofs.maps.BulkListLemmas.{lookup-last_wins}
+use Rattle.rart_keys.proofs.maps.BulkListLemmas.{strict-faultless, strict-stays}
 use Rattle.rart_keys.proofs.laws.bulk_lists.bulk_lists.Goals as goal
 
 pub returns : goal.returns

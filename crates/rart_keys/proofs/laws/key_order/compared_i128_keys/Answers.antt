@@ -1,6 +1,6 @@
 use Rattle.std.proofs.Common.{refl}
 use Rattle.std.specs.Int.{w128}
-use Rattle.rart_keys.proofs.KeyComparisons.{signed_keys}
+use Rattle.rart_keys.proofs.strings.KeyComparisons.{signed_keys}
 use Rattle.rart_keys.proofs.laws.key_order.compared_i128_keys.Goals as goal
 
 pub returns : goal.returns

@@ -1,4 +1,4 @@
-use Rattle.rart_keys.proofs.KeyComparisons.{terminated_keys}
+use Rattle.rart_keys.proofs.strings.KeyComparisons.{terminated_keys}
 use Rattle.rart_keys.proofs.laws.key_order.compared_terminated_keys.Goals as goal
 
 pub returns : goal.returns

@@ -1,4 +1,4 @@
-use Rattle.rart_keys.proofs.KeyComparisons.{text_keys}
+use Rattle.rart_keys.proofs.strings.KeyComparisons.{text_keys}
 use Rattle.rart_keys.proofs.laws.key_order.compared_text_keys.Goals as goal
 
 pub returns : goal.returns

@@ -1,4 +1,4 @@
-use Rattle.rart_keys.proofs.KeyComparisons.{unsigned_keys}
+use Rattle.rart_keys.proofs.strings.KeyComparisons.{unsigned_keys}
 use Rattle.rart_keys.proofs.laws.key_order.compared_u128_keys.Goals as goal
 
 pub returns : goal.returns

@@ -1,5 +1,5 @@
 use Rattle.rart_keys.specs.ArrayKeyBytes.{array_key_bytes}
-use Rattle.rart_keys.proofs.KeyComparisons.{tied_where_equal}
+use Rattle.rart_keys.proofs.strings.KeyComparisons.{tied_where_equal}
 use Rattle.rart_keys.proofs.laws.key_order.equality_and_order.Goals as goal
 
 pub returns-clause-ties : goal.returns-clause-ties

@@ -1,4 +1,4 @@
-use Rattle.rart_keys.proofs.LongestStored.{lengths-ascend, longest-stored, no-match, stored-longest}
+use Rattle.rart_keys.proofs.maps.LongestStored.{lengths-ascend, longest-stored, no-match, stored-longest}
 use Rattle.rart_keys.proofs.laws.longest.longest_is_longest.Goals as goal
 
 pub returns : goal.returns

@@ -1,4 +1,4 @@
-use Rattle.rart_keys.proofs.LongestMatchLemmas.{longest-put, shorter-put, elsewhere-put, elsewhere-without}
+use Rattle.rart_keys.proofs.maps.LongestMatchLemmas.{longest-put, shorter-put, elsewhere-put, elsewhere-without}
 use Rattle.rart_keys.proofs.laws.longest.longest_matches.Goals as goal
 
 pub returns : goal.returns

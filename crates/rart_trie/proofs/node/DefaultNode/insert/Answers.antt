@@ -1,6 +1,6 @@
 use Rattle.std.proofs.Common.{length, max, arith, sym, ap, ◌∙◌}
 use Rattle.rart_keys.specs.SortedMap.{count_of, longest_key}
-use Rattle.rart_keys.proofs.SortedMaps.{length-put}
+use Rattle.rart_keys.proofs.maps.SortedMaps.{length-put}
 use Rattle.rart_trie.specs.tries.Trie.{pairs_of}
 use Rattle.rart_trie.proofs.tries.CanonicalTests.{longest_key-put}
 use Rattle.rart_trie.proofs.edits.InsertAllocationLemmas.{allocates-insert}

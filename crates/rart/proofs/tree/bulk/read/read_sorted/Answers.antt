@@ -12,7 +12,8 @@ returns-in-Err-clause-refused g c =
     reads-more g.I.IntoIterator.into_iter_gives g.I.IntoIter.Iterator.next_gives _
     (λ xs. FailsSorted (pairs_in bytes xs) c.in-Err.error) _ _ _ _ (c.in-Some.key, c.in-Some.value) _
     c.into_iter-key-iterator.ensures.into_iter_gives c.loop-key.yielded_by c.in-Some.is c.next.ensures.steps
-    (rw (pairs-more bytes c.loop-key.yielded (c.in-Some.key, c.in-Some.value)) (c.in-Err.ensures.refused (pairs_in bytes c.loop-key.yielded) c.loop-key.invariant.read
+    (rw (pairs-more bytes c.loop-key.yielded (c.in-Some.key, c.in-Some.value)) (c.in-Err.ensures.refused
+    (pairs_in bytes c.loop-key.yielded) c.loop-key.invariant.read
     (c.loop-key.invariant.at_is ∙ ap (λ n. min n (2 ^ 64 - 1))
     (sym (length-map c.loop-key.yielded (λ p. (bytes p.0, p.1)))))))
 

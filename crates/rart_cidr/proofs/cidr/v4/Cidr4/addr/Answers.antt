@@ -1,7 +1,7 @@
 use Rattle.std.proofs.Common.{◌≡◌, length, arith, ap, ◌∙◌}
 use Rattle.rart_cidr.specs.Bits.{bits_of}
-use Rattle.rart_cidr.proofs.BitLemmas.{length-bits}
-use Rattle.rart_cidr.proofs.NetworkLemmas.{network-padded}
+use Rattle.rart_cidr.proofs.networks.BitLemmas.{length-bits}
+use Rattle.rart_cidr.proofs.networks.NetworkLemmas.{network-padded}
 use Rattle.rart_cidr.proofs.cidr.v4.Cidr4.addr.Goals as goal
 
 pub returns : goal.returns

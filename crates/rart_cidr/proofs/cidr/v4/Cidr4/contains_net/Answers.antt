@@ -3,7 +3,7 @@ use Rattle.std.specs.Prelude.{nat_le, false}
 use Rattle.std.proofs.lemmas.Bool.Decides.{nat_tests}
 use Rattle.rart_keys.specs.ByteStrings.{begins}
 use Rattle.rart_cidr.specs.Networks.{bits4}
-use Rattle.rart_cidr.proofs.NetworkLemmas.{begins-longer, begins-padded, network-length}
+use Rattle.rart_cidr.proofs.networks.NetworkLemmas.{begins-longer, begins-padded, network-length}
 use Rattle.rart_cidr.proofs.cidr.v4.Cidr4.contains_net.Goals as goal
 
 pub returns-then-self-net : goal.returns-then-self-net

@@ -1,5 +1,5 @@
 use Rattle.std.proofs.Common.{◌*◌, ◌≤◌, length, arith, sym}
-use Rattle.rart_cidr.proofs.NetworkLemmas.{network-length}
+use Rattle.rart_cidr.proofs.networks.NetworkLemmas.{network-length}
 use Rattle.rart_cidr.proofs.cidr.v4.Cidr4.len.Goals as goal
 
 pub returns-clause-value : goal.returns-clause-value

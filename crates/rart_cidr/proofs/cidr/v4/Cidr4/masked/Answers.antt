@@ -1,9 +1,9 @@
 use Rattle.std.proofs.Common.{◌∙◌, ap, arith}
 use Rattle.std.specs.Net.Addr.{ipv4_octets}
 use Rattle.rart_cidr.specs.Bits.{network}
-use Rattle.rart_cidr.proofs.BitLemmas.{length-bits}
-use Rattle.rart_cidr.proofs.NetworkLemmas.{masked_octets-bytes, masked_octets-clear, masked_octets-first}
-use Rattle.rart_cidr.proofs.NetworkLemmas.{masked_octets-length}
+use Rattle.rart_cidr.proofs.networks.BitLemmas.{length-bits}
+use Rattle.rart_cidr.proofs.networks.NetworkLemmas.{masked_octets-bytes, masked_octets-clear, masked_octets-first}
+use Rattle.rart_cidr.proofs.networks.NetworkLemmas.{masked_octets-length}
 use Rattle.rart_cidr.proofs.cidr.v4.Cidr4.masked.Goals as goal
 
 pub invariant_of-result : goal.invariant_of-result

@@ -3,7 +3,7 @@ use Rattle.std.specs.Option.{option_copied}
 use Rattle.std.specs.Net.Addr.{ipv4_octets}
 use Rattle.rart_cidr.specs.Bits.{bits_of}
 use Rattle.std.specs.Net.Grammar.{IsIpv4Text}
-use Rattle.rart_cidr.proofs.TextLemmas.{length-too_large}
+use Rattle.rart_cidr.proofs.networks.TextLemmas.{length-too_large}
 use Rattle.rart_cidr.proofs.cidr.v4.Cidr4.parse_ascii.Goals as goal
 
 pub returns-in_default : goal.returns-in_default

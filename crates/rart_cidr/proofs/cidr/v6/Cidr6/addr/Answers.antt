@@ -1,8 +1,8 @@
 use Rattle.std.proofs.Common.{◌≡◌, length, arith, ap, ◌∙◌}
 use Rattle.rart_cidr.specs.Bits.{bits_of}
 use Rattle.std.specs.Net.Addr.{octets_of}
-use Rattle.rart_cidr.proofs.BitLemmas.{length-bits}
-use Rattle.rart_cidr.proofs.NetworkLemmas.{network-padded, segments-octets}
+use Rattle.rart_cidr.proofs.networks.BitLemmas.{length-bits}
+use Rattle.rart_cidr.proofs.networks.NetworkLemmas.{network-padded, segments-octets}
 use Rattle.rart_cidr.proofs.cidr.v6.Cidr6.addr.Goals as goal
 
 pub returns : goal.returns

@@ -1,5 +1,5 @@
 use Rattle.std.proofs.Common.{arith, sym, ◌∙◌}
-use Rattle.rart_cidr.proofs.OrderLemmas.{network-order}
+use Rattle.rart_cidr.proofs.networks.OrderLemmas.{network-order}
 use Rattle.rart_cidr.proofs.cidr.v6.Cidr6.cmp_bits.Goals as goal
 
 pub returns : goal.returns

@@ -2,7 +2,7 @@ use Rattle.std.proofs.Common.{◌∙◌, sym}
 use Rattle.std.proofs.lemmas.Bool.Decides.{Decides-eqb}
 use Rattle.std.proofs.lemmas.Slice.Eq.{slice_eq-Decides}
 use Rattle.std.specs.Net.Addr.{ipv6_octets}
-use Rattle.rart_cidr.proofs.NetworkLemmas.{contains-is, width-bits}
+use Rattle.rart_cidr.proofs.networks.NetworkLemmas.{contains-is, width-bits}
 use Rattle.rart_cidr.proofs.cidr.v6.Cidr6.contains.Goals as goal
 
 pub returns : goal.returns

@@ -2,8 +2,9 @@ use Rattle.std.proofs.Common.{◌≡◌, ◌≤◌, true, ◌∙◌, sym, arith}
 use Rattle.std.proofs.lemmas.Bool.Decides.{Decides-eqb}
 use Rattle.std.proofs.lemmas.Slice.Eq.{slice_eq-Decides}
 use Rattle.std.specs.Net.Addr.{ipv6_octets}
-use Rattle.rart_cidr.proofs.BitLemmas.{length-bits}
-use Rattle.rart_cidr.proofs.NetworkLemmas.{masked_octets-alone, masked_octets-bytes, unchanged-clear, width-bits}
+use Rattle.rart_cidr.proofs.networks.BitLemmas.{length-bits}
+use Rattle.rart_cidr.proofs.networks.NetworkLemmas.{masked_octets-alone, masked_octets-bytes, unchanged-clear}
+use Rattle.rart_cidr.proofs.networks.NetworkLemmas.{width-bits}
 use Rattle.rart_cidr.proofs.cidr.v6.Cidr6.new.Goals as goal
 
 pub returns-then-len-gt128 : goal.returns-then-len-gt128

@@ -1,6 +1,6 @@
 use Rattle.std.proofs.Common.{◌≤◌, ◌*◌, length, arith, ap, subst, sym}
 use Rattle.rart_cidr.specs.Bits.{AreClearAfter, bits_of, network}
-use Rattle.rart_cidr.proofs.NetworkLemmas.{network-length}
+use Rattle.rart_cidr.proofs.networks.NetworkLemmas.{network-length}
 use Rattle.rart_cidr.proofs.cidr.v6.Cidr6.octets.Goals as goal
 
 pub returns-clause-value : goal.returns-clause-value

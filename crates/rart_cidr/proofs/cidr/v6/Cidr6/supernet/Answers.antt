@@ -1,7 +1,7 @@
 use Rattle.std.proofs.Common.{◌≤◌, ◌*◌, length, take, arith, ap, ◌∙◌}
 use Rattle.std.proofs.lemmas.List.{take-append-le}
 use Rattle.rart_cidr.specs.Networks.{bits6}
-use Rattle.rart_cidr.proofs.NetworkLemmas.{network-length}
+use Rattle.rart_cidr.proofs.networks.NetworkLemmas.{network-length}
 use Rattle.rart_cidr.proofs.cidr.v6.Cidr6.supernet.Goals as goal
 
 pub masked-requires : goal.masked-requires

@@ -1,6 +1,6 @@
 use Rattle.std.proofs.Common.{◌≡◌, ◌+◌, ◌-◌, ◌*◌, arith, ⊎_elim, subst}
 use Rattle.rart_cidr.specs.Longest.{HasNoneAfter}
-use Rattle.rart_cidr.proofs.LongestLemmas.{is_longest, less_or_not, nodes_to-fewer, nodes_to-more, none-before}
+use Rattle.rart_cidr.proofs.walks.LongestLemmas.{is_longest, less_or_not, nodes_to-fewer, nodes_to-more, none-before}
 use Rattle.rart_cidr.proofs.table.seen.SeenTable.longest_match_net_counted.Goals as goal
 
 pub returns-in-Some-clause-value : goal.returns-in-Some-clause-value

@@ -5,7 +5,7 @@ use Rattle.rart_keys.specs.Ranges.{pairs_from, up_to}
 use Rattle.rart_keys.specs.SortedMap.{lookup}
 use Rattle.rart_cidr.specs.Routes.{routes_of, stride_at}
 use Rattle.rart_cidr.specs.Walks.{keys_ahead, net_at, steps_left}
-use Rattle.rart_cidr.proofs.AheadLemmas.{itself, not_itself, walk_ended, walk_entered, walk_next}
+use Rattle.rart_cidr.proofs.walks.AheadLemmas.{itself, not_itself, walk_ended, walk_entered, walk_next}
 use Rattle.rart_cidr.proofs.table.walk.Walk.advance.Goals as goal
 
 pub returns-in_default : goal.returns-in_default

@@ -1,6 +1,6 @@
 use Rattle.std.proofs.Common.{◌+◌, ◌/◌, ◌≤◌, arith}
 use Rattle.rart_cidr.specs.Longest.{nodes_to}
-use Rattle.rart_cidr.proofs.LongestLemmas.{nodes_to-more}
+use Rattle.rart_cidr.proofs.walks.LongestLemmas.{nodes_to-more}
 use Rattle.rart_cidr.proofs.table4.seen.SeenTable4.longest_match_net_counted.Goals as goal
 
 pub returns-in-Some-clause-node_visits : goal.returns-in-Some-clause-node_visits

@@ -2,7 +2,7 @@ use Rattle.std.proofs.Common.{ap, ◌∙◌, ℕ, ◌^◌}
 use Rattle.std.proofs.lemmas.Int.{to_z-of_z}
 use Rattle.std.specs.Int.{bytes_high_first, w128}
 use Rattle.std.specs.Int.Bits.{bit_xor}
-use Rattle.rart_keys.proofs.NumberOrder.{bit_xor-sign_128}
+use Rattle.rart_keys.proofs.strings.NumberOrder.{bit_xor-sign_128}
 use Rattle.rart_keys.proofs.keys.array_key.ArrayKey.from_i128.Goals as goal
 use mir.Val.{of_z}
 

@@ -1,5 +1,5 @@
 use Rattle.std.proofs.Common.{◌<◌, Fits, w8, arith, rules, slice_index_or, take, length-take}
-use Rattle.rart_keys.proofs.NumberOrder.{seven_digits}
+use Rattle.rart_keys.proofs.strings.NumberOrder.{seven_digits}
 use Rattle.rart_keys.proofs.keys.array_key.ArrayKey.to_be_u64.Goals as goal
 
 pub overflow_mul-number : goal.overflow_mul-number

@@ -1,7 +1,7 @@
 use Rattle.std.proofs.Common.{◌≡◌, ◌∙◌, ◌∷◌, [], List, ℕ, ap, refl, sym}
 use Rattle.std.specs.declared.ops.Bound.TheVariants.{Unbounded}
 use Rattle.rart_keys.specs.Ranges.{bound_in, from_bound, up_to}
-use Rattle.rart_keys.proofs.RangeLemmas.{up_to-from_bound}
+use Rattle.rart_keys.proofs.maps.RangeLemmas.{up_to-from_bound}
 use Rattle.rart_nodes.proofs.node.range.Range.for_iter.Goals as goal
 
 -- without a start all pairs are within it

@@ -2,7 +2,7 @@ use Rattle.std.proofs.Common.{◌≡◌, ◌∙◌, None, Some, ap, refl, sym}
 use Rattle.std.specs.Cmp.Lexicographic.{slice_cmp}
 use Rattle.std.specs.Ordering.{nat_cmp}
 use Rattle.rart_keys.specs.ByteStrings.{strip_prefix}
-use Rattle.rart_keys.proofs.RangeLemmas.{lower-apart}
+use Rattle.rart_keys.proofs.maps.RangeLemmas.{lower-apart}
 use Rattle.rart_nodes.specs.ranges.Steps.{in_child}
 use Rattle.rart_trie.specs.tries.Trie.{prefix_of}
 use Rattle.rart_nodes.proofs.node.walk.seek_lower_bound.step_from.Goals as goal

@@ -1,5 +1,5 @@
 use Rattle.std.proofs.Common.{None, set, ap, ◌∙◌, arith}
-use Rattle.rart_parts.proofs.ByteIndexLemmas.{index_without, slots_without}
+use Rattle.rart_parts.proofs.maps.ByteIndexLemmas.{index_without, slots_without}
 use Rattle.rart_parts.proofs.mapping.byte_index.ByteIndex.erase.Goals as goal
 
 pub invariant_of-self : goal.invariant_of-self

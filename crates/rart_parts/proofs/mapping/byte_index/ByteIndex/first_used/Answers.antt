@@ -1,6 +1,6 @@
 use Rattle.std.proofs.Common.{◌∙◌, ap}
 use Rattle.rart_parts.specs.Places.{is_used}
-use Rattle.rart_parts.proofs.ByteIndexLemmas.{first_agrees}
+use Rattle.rart_parts.proofs.maps.ByteIndexLemmas.{first_agrees}
 use Rattle.rart_parts.proofs.mapping.byte_index.ByteIndex.first_used.Goals as goal
 
 pub returns : goal.returns

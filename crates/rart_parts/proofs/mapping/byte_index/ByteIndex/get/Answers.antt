@@ -1,5 +1,5 @@
 use Rattle.std.proofs.Common.{arith}
-use Rattle.rart_parts.proofs.ByteIndexLemmas.{read_none, read_slot}
+use Rattle.rart_parts.proofs.maps.ByteIndexLemmas.{read_none, read_slot}
 use Rattle.rart_parts.proofs.mapping.byte_index.ByteIndex.get.Goals as goal
 
 pub returns-then-slot : goal.returns-then-slot

@@ -2,7 +2,7 @@ use Rattle.std.proofs.Common.{◌∙◌, ap, sym, subst, arith}
 use Rattle.rart_parts.specs.Bits.{words_have}
 use Rattle.rart_parts.specs.Places.{numbered_values}
 use Rattle.rart_parts.specs.ByteIndex.{with_slots, AreBytes}
-use Rattle.rart_parts.proofs.ByteIndexLemmas.{walked_all, members-bytes}
+use Rattle.rart_parts.proofs.maps.ByteIndexLemmas.{walked_all, members-bytes}
 use Rattle.rart_parts.proofs.mapping.byte_index.ByteIndex.iter.Goals as goal
 
 pub invariant_of-result : goal.invariant_of-result

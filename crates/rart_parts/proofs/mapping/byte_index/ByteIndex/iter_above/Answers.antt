@@ -3,7 +3,7 @@ use Rattle.rart_parts.specs.Bits.{words_have, positions_above}
 use Rattle.rart_parts.specs.Entries.{entries_above}
 use Rattle.rart_parts.specs.Places.{numbered_values}
 use Rattle.rart_parts.specs.ByteIndex.{with_slots, AreBytes}
-use Rattle.rart_parts.proofs.ByteIndexLemmas.{above-bytes, with_slots-above, walked_all, members-bytes}
+use Rattle.rart_parts.proofs.maps.ByteIndexLemmas.{above-bytes, with_slots-above, walked_all, members-bytes}
 use Rattle.rart_parts.proofs.mapping.byte_index.ByteIndex.iter_above.Goals as goal
 
 pub invariant_of-result : goal.invariant_of-result

@@ -1,6 +1,6 @@
 use Rattle.std.proofs.Common.{◌∙◌, ap, arith}
 use Rattle.rart_parts.specs.Places.{is_used}
-use Rattle.rart_parts.proofs.Members.{last_agrees}
+use Rattle.rart_parts.proofs.sets.Members.{last_agrees}
 use Rattle.rart_parts.proofs.mapping.byte_index.ByteIndex.last_used_under.Goals as goal
 
 pub returns : goal.returns

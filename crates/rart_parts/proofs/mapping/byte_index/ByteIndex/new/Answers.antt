@@ -1,4 +1,4 @@
-use Rattle.rart_parts.proofs.ByteIndexLemmas.{no_slots, index_start}
+use Rattle.rart_parts.proofs.maps.ByteIndexLemmas.{no_slots, index_start}
 use Rattle.rart_parts.proofs.mapping.byte_index.ByteIndex.new.Goals as goal
 
 pub invariant_of-result : goal.invariant_of-result

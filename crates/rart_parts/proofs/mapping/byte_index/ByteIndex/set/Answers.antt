@@ -1,5 +1,5 @@
 use Rattle.std.proofs.Common.{Some, set, ap, ◌∙◌, arith}
-use Rattle.rart_parts.proofs.ByteIndexLemmas.{index_with, slots_with}
+use Rattle.rart_parts.proofs.maps.ByteIndexLemmas.{index_with, slots_with}
 use Rattle.rart_parts.proofs.mapping.byte_index.ByteIndex.set.Goals as goal
 
 pub invariant_of-self : goal.invariant_of-self

@@ -1,4 +1,4 @@
-use Rattle.rart_parts.proofs.DirectLemmas.{numbered-ascends}
+use Rattle.rart_parts.proofs.maps.DirectLemmas.{numbered-ascends}
 use Rattle.rart_parts.proofs.mapping.direct_mapping.DirectMapping.iter.Goals as goal
 
 pub returns-clause-ascending : goal.returns-clause-ascending

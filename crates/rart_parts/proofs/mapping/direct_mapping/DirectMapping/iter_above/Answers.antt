@@ -1,8 +1,8 @@
 use Rattle.std.proofs.Common.{◌≡◌, ◌+◌, ◌∙◌, drop, ap, sym, arith}
 use Rattle.rart_parts.specs.Entries.{entries_above}
 use Rattle.rart_parts.specs.Places.{numbered_values}
-use Rattle.rart_parts.proofs.DirectLemmas.{numbered-ascends, numbered_above}
-use Rattle.rart_parts.proofs.EntryLemmas.{above-ascends, from_place}
+use Rattle.rart_parts.proofs.maps.DirectLemmas.{numbered-ascends, numbered_above}
+use Rattle.rart_parts.proofs.entries.EntryLemmas.{above-ascends, from_place}
 use Rattle.rart_parts.proofs.mapping.direct_mapping.DirectMapping.iter_above.Goals as goal
 
 pub returns-clause-entries : goal.returns-clause-entries

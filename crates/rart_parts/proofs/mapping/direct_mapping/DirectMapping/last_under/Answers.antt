@@ -1,7 +1,7 @@
 use Rattle.std.proofs.Common.{◌≡◌, ◌-◌, ◌∙◌, None, sym, arith, ⊎_elim}
 use Rattle.std.proofs.lemmas.Bool.{cases_lt}
 use Rattle.std.proofs.lemmas.List.{get_or_past}
-use Rattle.rart_parts.proofs.DirectLemmas.{numbered-ascends, numbered_child, place_reads}
+use Rattle.rart_parts.proofs.maps.DirectLemmas.{numbered-ascends, numbered_child, place_reads}
 use Rattle.rart_parts.proofs.mapping.direct_mapping.DirectMapping.last_under.Goals as goal
 
 pub returns-in-Some-clause-last : goal.returns-in-Some-clause-last

@@ -1,6 +1,6 @@
 use Rattle.std.proofs.Common.{ap, ◌∙◌}
 use Rattle.rart_parts.specs.Places.{numbered_values}
-use Rattle.rart_parts.proofs.DirectLemmas.{direct_start, numbered-free}
+use Rattle.rart_parts.proofs.maps.DirectLemmas.{direct_start, numbered-free}
 use Rattle.rart_parts.proofs.mapping.direct_mapping.DirectMapping.new.Goals as goal
 
 pub invariant_of-result : goal.invariant_of-result

@@ -1,7 +1,7 @@
 use Rattle.std.proofs.Common.{None, sym, ap, ◌∙◌, set, arith}
 use Rattle.rart_parts.specs.Places.{numbered_values}
 use Rattle.rart_parts.specs.Entries.{child_at, with_entry}
-use Rattle.rart_parts.proofs.DirectLemmas.{numbered_child, numbered-put, direct_put, place_reads}
+use Rattle.rart_parts.proofs.maps.DirectLemmas.{numbered_child, numbered-put, direct_put, place_reads}
 use Rattle.rart_parts.proofs.mapping.direct_mapping.DirectMappingNodeMapping256.add_child.Goals as goal
 
 pub fill_place-requires : goal.fill_place-requires

@@ -1,7 +1,8 @@
 use Rattle.std.proofs.Common.{◌≡◌, None, Some, sym, ap, ◌∙◌, get_or, set, arith}
 use Rattle.rart_parts.specs.Places.{numbered_values}
 use Rattle.rart_parts.specs.Entries.{without_byte}
-use Rattle.rart_parts.proofs.DirectLemmas.{numbered_child, numbered-taken, direct_taken, direct_without, place_reads}
+use Rattle.rart_parts.proofs.maps.DirectLemmas.{numbered_child, numbered-taken, direct_taken, direct_without}
+use Rattle.rart_parts.proofs.maps.DirectLemmas.{place_reads}
 use Rattle.rart_parts.proofs.mapping.direct_mapping.DirectMappingNodeMapping256.delete_child.Goals as goal
 
 pub returns-in_default-clause-taken : goal.returns-in_default-clause-taken

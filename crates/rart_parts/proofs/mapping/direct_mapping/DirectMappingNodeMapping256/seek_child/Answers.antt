@@ -1,5 +1,5 @@
 use Rattle.std.proofs.Common.{None, sym, ◌∙◌, arith}
-use Rattle.rart_parts.proofs.DirectLemmas.{numbered_child, place_reads}
+use Rattle.rart_parts.proofs.maps.DirectLemmas.{numbered_child, place_reads}
 use Rattle.rart_parts.proofs.mapping.direct_mapping.DirectMappingNodeMapping256.seek_child.Goals as goal
 
 pub returns : goal.returns

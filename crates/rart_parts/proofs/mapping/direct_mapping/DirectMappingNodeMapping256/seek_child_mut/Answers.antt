@@ -2,10 +2,10 @@ use Rattle.std.proofs.Common.{◌≡◌, None, Some, sym, ap, ◌∙◌, get_or,
 use Rattle.rart_parts.specs.Entries.{replaced_at}
 use Rattle.rart_parts.specs.Places.{numbered_values}
 use Rattle.rart_parts.specs.Direct.{IsDirect}
-use Rattle.rart_parts.proofs.DirectLemmas.{numbered_child, numbered-written, direct_written, place_reads, some_of}
-use Rattle.rart_parts.proofs.DirectLemmas.{none_of}
+use Rattle.rart_parts.proofs.maps.DirectLemmas.{numbered_child, numbered-written, direct_written, place_reads, some_of}
+use Rattle.rart_parts.proofs.maps.DirectLemmas.{none_of}
 use Rattle.rart_parts.proofs.PlaceLemmas.{set_same}
-use Rattle.rart_parts.proofs.SortedLemmas.{on_any}
+use Rattle.rart_parts.proofs.maps.SortedLemmas.{on_any}
 use Rattle.rart_parts.proofs.mapping.direct_mapping.DirectMappingNodeMapping256.seek_child_mut.Goals as goal
 
 pub invariant_of-self-lent : goal.invariant_of-self-lent

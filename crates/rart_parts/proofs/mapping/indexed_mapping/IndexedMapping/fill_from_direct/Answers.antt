@@ -1,8 +1,9 @@
 use Rattle.std.proofs.Common.{◌++◌, ◌∙◌, sym, ap, arith}
 use Rattle.rart_parts.specs.Entries.{sorted_entries, child_at, without_byte}
-use Rattle.rart_parts.proofs.EntryLemmas.{without_absent}
-use Rattle.rart_parts.proofs.MoveLemmas.{moved_absent, moved_next, moved_fits, next_first, passed_more, none_left}
-use Rattle.rart_parts.proofs.MoveLemmas.{all_moved}
+use Rattle.rart_parts.proofs.entries.EntryLemmas.{without_absent}
+use Rattle.rart_parts.proofs.entries.MoveLemmas.{moved_absent, moved_next, moved_fits, next_first, passed_more}
+use Rattle.rart_parts.proofs.entries.MoveLemmas.{none_left}
+use Rattle.rart_parts.proofs.entries.MoveLemmas.{all_moved}
 use Rattle.rart_parts.proofs.mapping.indexed_mapping.IndexedMapping.fill_from_direct.Goals as goal
 use Rattle.rart_parts.proofs.mapping.indexed_mapping.IndexedMapping.fill_from_direct.Goals.{in-Some, in_default}
 

@@ -3,8 +3,8 @@ use Rattle.std.specs.Prelude.{IsSome}
 use Rattle.std.proofs.lemmas.Bool.{cases_lt}
 use Rattle.rart_parts.specs.Entries.{child_at, sorted_entries}
 use Rattle.rart_parts.proofs.PlaceLemmas.{free_read, past_used, used_read}
-use Rattle.rart_parts.proofs.IndexLemmas.{indexed_none, indexed_some}
-use Rattle.rart_parts.proofs.MoveLemmas.{empty_map}
+use Rattle.rart_parts.proofs.maps.IndexLemmas.{indexed_none, indexed_some}
+use Rattle.rart_parts.proofs.entries.MoveLemmas.{empty_map}
 use Rattle.rart_parts.proofs.mapping.indexed_mapping.IndexedMapping.first_byte.Goals as goal
 
 pub returns-in_default-clause-some : goal.returns-in_default-clause-some

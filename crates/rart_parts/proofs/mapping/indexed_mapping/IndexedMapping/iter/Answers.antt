@@ -1,8 +1,8 @@
 use Rattle.std.proofs.Common.{◌∙◌, ap, subst}
 use Rattle.rart_parts.specs.Entries.{BytesAscend, sorted_entries}
 use Rattle.rart_parts.specs.Indexed.{by_slots}
-use Rattle.rart_parts.proofs.IndexLemmas.{map_of_ascends}
-use Rattle.rart_parts.proofs.IndexWalk.{walk_is}
+use Rattle.rart_parts.proofs.maps.IndexLemmas.{map_of_ascends}
+use Rattle.rart_parts.proofs.maps.IndexWalk.{walk_is}
 use Rattle.rart_parts.proofs.mapping.indexed_mapping.IndexedMapping.iter.Goals as goal
 
 pub returns-clause-entries : goal.returns-clause-entries

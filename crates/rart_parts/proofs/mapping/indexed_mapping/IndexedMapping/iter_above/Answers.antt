@@ -1,9 +1,9 @@
 use Rattle.std.proofs.Common.{◌∙◌, ap, subst}
 use Rattle.rart_parts.specs.Entries.{BytesAscend, sorted_entries, entries_above}
 use Rattle.rart_parts.specs.Indexed.{by_slots}
-use Rattle.rart_parts.proofs.EntryLemmas.{above-ascends}
-use Rattle.rart_parts.proofs.IndexLemmas.{map_of_ascends}
-use Rattle.rart_parts.proofs.IndexWalk.{slots_above, walk_is}
+use Rattle.rart_parts.proofs.entries.EntryLemmas.{above-ascends}
+use Rattle.rart_parts.proofs.maps.IndexLemmas.{map_of_ascends}
+use Rattle.rart_parts.proofs.maps.IndexWalk.{slots_above, walk_is}
 use Rattle.rart_parts.proofs.mapping.indexed_mapping.IndexedMapping.iter_above.Goals as goal
 
 pub returns-clause-entries : goal.returns-clause-entries

@@ -5,7 +5,7 @@ use Rattle.std.specs.Prelude.{IsSome}
 use Rattle.std.proofs.lemmas.List.{get_or_past}
 use Rattle.rart_parts.specs.Entries.{BytesAscend, sorted_entries, child_at}
 use Rattle.rart_parts.proofs.PlaceLemmas.{free_read, used_read}
-use Rattle.rart_parts.proofs.IndexLemmas.{indexed_none, indexed_some, map_of_ascends}
+use Rattle.rart_parts.proofs.maps.IndexLemmas.{indexed_none, indexed_some, map_of_ascends}
 use Rattle.rart_parts.proofs.mapping.indexed_mapping.IndexedMapping.last_under.Goals as goal
 
 pub returns-in_default-clause-last : goal.returns-in_default-clause-last

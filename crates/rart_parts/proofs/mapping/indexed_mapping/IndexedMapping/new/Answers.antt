@@ -1,7 +1,7 @@
 use Rattle.std.proofs.Common.{◌∙◌, ap}
 use Rattle.rart_parts.specs.Entries.{sorted_entries}
 use Rattle.rart_parts.specs.Indexed.{with_bytes}
-use Rattle.rart_parts.proofs.IndexLemmas.{indexed_start, map_start}
+use Rattle.rart_parts.proofs.maps.IndexLemmas.{indexed_start, map_start}
 use Rattle.rart_parts.proofs.mapping.indexed_mapping.IndexedMapping.new.Goals as goal
 
 pub invariant_of-result : goal.invariant_of-result

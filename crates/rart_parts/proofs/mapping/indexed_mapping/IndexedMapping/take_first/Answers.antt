@@ -3,8 +3,8 @@ use Rattle.std.specs.Prelude.{IsSome}
 use Rattle.std.proofs.lemmas.Bool.{cases_lt}
 use Rattle.rart_parts.specs.Entries.{child_at, sorted_entries, BytesAscend}
 use Rattle.rart_parts.proofs.PlaceLemmas.{free_read, past_used, used_read}
-use Rattle.rart_parts.proofs.IndexLemmas.{indexed_none, indexed_some, map_of_ascends}
-use Rattle.rart_parts.proofs.MoveLemmas.{first_entry, empty_map}
+use Rattle.rart_parts.proofs.maps.IndexLemmas.{indexed_none, indexed_some, map_of_ascends}
+use Rattle.rart_parts.proofs.entries.MoveLemmas.{first_entry, empty_map}
 use Rattle.rart_parts.proofs.mapping.indexed_mapping.IndexedMapping.take_first.Goals as goal
 
 pub returns-in_default : goal.returns-in_default

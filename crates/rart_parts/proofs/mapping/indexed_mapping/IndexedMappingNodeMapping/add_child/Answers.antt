@@ -2,7 +2,7 @@ use Rattle.std.proofs.Common.{◌∙◌, ap, length, arith}
 use Rattle.rart_parts.specs.Entries.{child_at, with_entry, sorted_entries}
 use Rattle.rart_parts.specs.Indexed.{with_bytes}
 use Rattle.rart_parts.proofs.AnswerReadings.{some_first, not_true}
-use Rattle.rart_parts.proofs.IndexLemmas.{absent_unnamed, indexed_put, map_put, slot_free}
+use Rattle.rart_parts.proofs.maps.IndexLemmas.{absent_unnamed, indexed_put, map_put, slot_free}
 use Rattle.rart_parts.proofs.mapping.indexed_mapping.IndexedMappingNodeMapping.add_child.Goals as goal
 
 pub unwrap-slot-requires : goal.unwrap-slot-requires

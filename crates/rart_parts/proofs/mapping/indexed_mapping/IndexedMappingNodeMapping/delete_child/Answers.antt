@@ -1,9 +1,10 @@
 use Rattle.std.proofs.Common.{◌∙◌, None, sym, ap, arith}
 use Rattle.rart_parts.specs.Entries.{without_byte, sorted_entries}
 use Rattle.rart_parts.specs.Indexed.{with_bytes}
-use Rattle.rart_parts.proofs.EntryLemmas.{without_absent}
+use Rattle.rart_parts.proofs.entries.EntryLemmas.{without_absent}
 use Rattle.rart_parts.proofs.PlaceLemmas.{set_same}
-use Rattle.rart_parts.proofs.IndexLemmas.{indexed_none, indexed_some, slot_within, indexed_taken, some_left, map_taken}
+use Rattle.rart_parts.proofs.maps.IndexLemmas.{indexed_none, indexed_some, slot_within, indexed_taken, some_left}
+use Rattle.rart_parts.proofs.maps.IndexLemmas.{map_taken}
 use Rattle.rart_parts.proofs.mapping.indexed_mapping.IndexedMappingNodeMapping.delete_child.Goals as goal
 
 pub returns-in_default-clause-taken : goal.returns-in_default-clause-taken

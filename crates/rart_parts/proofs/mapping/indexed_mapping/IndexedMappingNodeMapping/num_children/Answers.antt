@@ -1,7 +1,7 @@
 use Rattle.std.proofs.Common.{None, ◌∙◌, sym, ap, subst, arith}
 use Rattle.std.proofs.lemmas.List.{get_or_past}
 use Rattle.rart_parts.specs.Entries.{BytesAscend, sorted_entries, child_at}
-use Rattle.rart_parts.proofs.IndexLemmas.{map_few, map_of_ascends, indexed_none}
+use Rattle.rart_parts.proofs.maps.IndexLemmas.{map_few, map_of_ascends, indexed_none}
 use Rattle.rart_parts.proofs.mapping.indexed_mapping.IndexedMappingNodeMapping.num_children.Goals as goal
 
 pub returns-clause-at_most : goal.returns-clause-at_most

@@ -1,5 +1,5 @@
 use Rattle.std.proofs.Common.{◌∙◌, sym, arith}
-use Rattle.rart_parts.proofs.IndexLemmas.{indexed_none, indexed_some, slot_within}
+use Rattle.rart_parts.proofs.maps.IndexLemmas.{indexed_none, indexed_some, slot_within}
 use Rattle.rart_parts.proofs.mapping.indexed_mapping.IndexedMappingNodeMapping.seek_child.Goals as goal
 
 pub get-requires-in-Some : goal.get-requires-in-Some

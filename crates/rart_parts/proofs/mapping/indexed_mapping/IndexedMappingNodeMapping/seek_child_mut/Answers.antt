@@ -2,8 +2,8 @@ use Rattle.std.proofs.Common.{◌∙◌, sym, ap, refl, subst, arith}
 use Rattle.rart_parts.specs.Entries.{replaced_at, sorted_entries}
 use Rattle.rart_parts.specs.Indexed.{with_bytes, IsIndexed}
 use Rattle.rart_parts.proofs.PlaceLemmas.{used_read}
-use Rattle.rart_parts.proofs.SortedLemmas.{on_any}
-use Rattle.rart_parts.proofs.IndexLemmas.{indexed_none, indexed_some, slot_within, indexed_written, map_written}
+use Rattle.rart_parts.proofs.maps.SortedLemmas.{on_any}
+use Rattle.rart_parts.proofs.maps.IndexLemmas.{indexed_none, indexed_some, slot_within, indexed_written, map_written}
 use Rattle.rart_parts.proofs.AnswerReadings.{from_some}
 use Rattle.rart_parts.proofs.mapping.indexed_mapping.IndexedMappingNodeMapping.seek_child_mut.Goals as goal
 

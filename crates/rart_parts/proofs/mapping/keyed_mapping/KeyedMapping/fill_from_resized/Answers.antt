@@ -1,7 +1,7 @@
 use Rattle.std.proofs.Common.{ap, arith, length}
 use Rattle.rart_parts.specs.Entries.{sorted_entries}
-use Rattle.rart_parts.proofs.EntryLemmas.{length-without_byte}
-use Rattle.rart_parts.proofs.SplitLemmas.{split_start, split_absent, split_fits, split_next, split_done}
+use Rattle.rart_parts.proofs.entries.EntryLemmas.{length-without_byte}
+use Rattle.rart_parts.proofs.entries.SplitLemmas.{split_start, split_absent, split_fits, split_next, split_done}
 use Rattle.rart_parts.proofs.mapping.keyed_mapping.KeyedMapping.fill_from_resized.Goals as goal
 
 pub loop-key-init : goal.loop-key-init

@@ -1,6 +1,6 @@
 use Rattle.std.proofs.Common.{length}
 use Rattle.rart_parts.specs.Entries.{sorted_entries}
-use Rattle.rart_parts.proofs.SplitLemmas.{IsSplit}
+use Rattle.rart_parts.proofs.entries.SplitLemmas.{IsSplit}
 use Rattle.rart_parts.proofs.mapping.keyed_mapping.KeyedMapping.fill_from_resized.Given as goal
 
 -- what was moved, and what is left

@@ -1,7 +1,7 @@
 use Rattle.std.proofs.Common.{◌∙◌, ap, replicate}
 use Rattle.rart_parts.specs.Entries.{sorted_entries}
 use Rattle.rart_parts.specs.Keyed.{with_keys}
-use Rattle.rart_parts.proofs.KeyedLemmas.{keyed_start, keyed_empty}
+use Rattle.rart_parts.proofs.maps.KeyedLemmas.{keyed_start, keyed_empty}
 use Rattle.rart_parts.proofs.mapping.keyed_mapping.KeyedMapping.new.Goals as goal
 
 pub invariant_of-result : goal.invariant_of-result

@@ -2,7 +2,7 @@ use Rattle.std.proofs.Common.{◌∙◌, Some, get_or, sym, ap, subst, refl}
 use Rattle.std.specs.Prelude.{IsSome}
 use Rattle.rart_parts.specs.Entries.{child_at, sorted_entries}
 use Rattle.rart_parts.proofs.PlaceLemmas.{used_read}
-use Rattle.rart_parts.proofs.KeyedLemmas.{keyed_at, keyed_unused}
+use Rattle.rart_parts.proofs.maps.KeyedLemmas.{keyed_at, keyed_unused}
 use Rattle.rart_parts.proofs.mapping.keyed_mapping.KeyedMapping.take_any.Goals as goal
 
 pub returns-in_default : goal.returns-in_default

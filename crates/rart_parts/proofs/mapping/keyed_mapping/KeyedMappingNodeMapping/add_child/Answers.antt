@@ -2,7 +2,7 @@ use Rattle.std.proofs.Common.{◌∙◌, ap, length, set, arith}
 use Rattle.rart_parts.specs.Entries.{child_at, with_entry, sorted_entries}
 use Rattle.rart_parts.specs.Keyed.{with_keys}
 use Rattle.rart_parts.proofs.AnswerReadings.{some_first, not_true}
-use Rattle.rart_parts.proofs.KeyedLemmas.{mapping_put, keyed_put, place_left}
+use Rattle.rart_parts.proofs.maps.KeyedLemmas.{mapping_put, keyed_put, place_left}
 use Rattle.rart_parts.proofs.mapping.keyed_mapping.KeyedMappingNodeMapping.add_child.Goals as goal
 
 pub unwrap-slot-requires : goal.unwrap-slot-requires

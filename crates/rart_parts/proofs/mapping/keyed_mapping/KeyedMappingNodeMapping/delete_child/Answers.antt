@@ -1,8 +1,8 @@
 use Rattle.std.proofs.Common.{◌∙◌, sym, ap, set, arith}
 use Rattle.rart_parts.specs.Entries.{without_byte, sorted_entries}
 use Rattle.rart_parts.specs.Keyed.{with_keys}
-use Rattle.rart_parts.proofs.EntryLemmas.{without_absent}
-use Rattle.rart_parts.proofs.KeyedLemmas.{keyed_some, keyed_none, keyed_taken, mapping_taken, some_left}
+use Rattle.rart_parts.proofs.entries.EntryLemmas.{without_absent}
+use Rattle.rart_parts.proofs.maps.KeyedLemmas.{keyed_some, keyed_none, keyed_taken, mapping_taken, some_left}
 use Rattle.rart_parts.proofs.mapping.keyed_mapping.KeyedMappingNodeMapping.delete_child.Goals as goal
 
 pub returns-in_default-clause-taken : goal.returns-in_default-clause-taken

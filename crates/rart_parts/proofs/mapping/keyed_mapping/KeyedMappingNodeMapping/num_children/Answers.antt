@@ -1,6 +1,6 @@
 use Rattle.std.proofs.Common.{◌∙◌, sym, ap, subst, arith}
 use Rattle.rart_parts.specs.Entries.{BytesAscend, sorted_entries, child_at}
-use Rattle.rart_parts.proofs.KeyedLemmas.{keyed_few, slots_ascend, keyed_absent}
+use Rattle.rart_parts.proofs.maps.KeyedLemmas.{keyed_few, slots_ascend, keyed_absent}
 use Rattle.rart_parts.proofs.mapping.keyed_mapping.KeyedMappingNodeMapping.num_children.Goals as goal
 
 pub returns-clause-at_most : goal.returns-clause-at_most

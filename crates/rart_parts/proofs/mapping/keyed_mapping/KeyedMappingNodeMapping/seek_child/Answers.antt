@@ -1,5 +1,5 @@
 use Rattle.std.proofs.Common.{◌∙◌, sym, arith}
-use Rattle.rart_parts.proofs.KeyedLemmas.{keyed_some, keyed_none}
+use Rattle.rart_parts.proofs.maps.KeyedLemmas.{keyed_some, keyed_none}
 use Rattle.rart_parts.proofs.mapping.keyed_mapping.KeyedMappingNodeMapping.seek_child.Goals as goal
 
 pub returns-in-Some : goal.returns-in-Some

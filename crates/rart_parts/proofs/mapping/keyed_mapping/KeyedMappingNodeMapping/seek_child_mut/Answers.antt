@@ -1,9 +1,9 @@
 use Rattle.std.proofs.Common.{◌∙◌, sym, ap, refl, subst, arith}
 use Rattle.rart_parts.specs.Entries.{replaced_at, sorted_entries}
 use Rattle.rart_parts.specs.Keyed.{with_keys, IsKeyed}
-use Rattle.rart_parts.proofs.SortedLemmas.{on_any}
+use Rattle.rart_parts.proofs.maps.SortedLemmas.{on_any}
 use Rattle.rart_parts.proofs.AnswerReadings.{from_some}
-use Rattle.rart_parts.proofs.KeyedLemmas.{keyed_some, keyed_none, keyed_written, mapping_written}
+use Rattle.rart_parts.proofs.maps.KeyedLemmas.{keyed_some, keyed_none, keyed_written, mapping_written}
 use Rattle.rart_parts.proofs.mapping.keyed_mapping.KeyedMappingNodeMapping.seek_child_mut.Goals as goal
 
 pub invariant_of-self-lent : goal.invariant_of-self-lent

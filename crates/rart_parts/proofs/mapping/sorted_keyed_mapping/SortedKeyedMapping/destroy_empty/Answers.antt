@@ -1,5 +1,5 @@
 use Rattle.std.proofs.Common.{sym, ap, ◌∙◌, length}
-use Rattle.rart_parts.proofs.SortedLemmas.{counted}
+use Rattle.rart_parts.proofs.maps.SortedLemmas.{counted}
 use Rattle.rart_parts.proofs.mapping.sorted_keyed_mapping.SortedKeyedMapping.destroy_empty.Goals as goal
 
 pub destroy_empty-requires : goal.destroy_empty-requires

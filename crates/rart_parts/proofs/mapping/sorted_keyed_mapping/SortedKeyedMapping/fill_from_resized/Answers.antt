@@ -1,7 +1,7 @@
 use Rattle.std.proofs.Common.{◌≡◌, ◌++◌, ◌∙◌, drop, length, replicate, ap, arith}
 use Rattle.std.specs.List.{zip}
 use Rattle.std.proofs.lemmas.List.{length-replicate, get_or-replicate}
-use Rattle.rart_parts.proofs.SortedLemmas.{counted, no_entries, no_items, emptied, resized, resized_zip}
+use Rattle.rart_parts.proofs.maps.SortedLemmas.{counted, no_entries, no_items, emptied, resized, resized_zip}
 use Rattle.rart_parts.proofs.mapping.sorted_keyed_mapping.SortedKeyedMapping.fill_from_resized.Goals as goal
 
 pub whole_as_front-copy_from_slice : goal.whole_as_front-copy_from_slice

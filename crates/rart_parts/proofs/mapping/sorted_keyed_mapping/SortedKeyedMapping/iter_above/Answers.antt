@@ -1,7 +1,7 @@
 use Rattle.std.proofs.Common.{◌∙◌, ap, subst, arith}
 use Rattle.rart_parts.specs.Entries.{BytesAscend, entries_above}
-use Rattle.rart_parts.proofs.EntryLemmas.{above-ascends, from_place}
-use Rattle.rart_parts.proofs.SortedLemmas.{fits, ordered, zip_above}
+use Rattle.rart_parts.proofs.entries.EntryLemmas.{above-ascends, from_place}
+use Rattle.rart_parts.proofs.maps.SortedLemmas.{fits, ordered, zip_above}
 use Rattle.rart_parts.proofs.mapping.sorted_keyed_mapping.SortedKeyedMapping.iter_above.Goals as goal
 
 pub first_above-at-requires : goal.first_above-at-requires

@@ -1,5 +1,5 @@
 use Rattle.std.proofs.Common.{◌∙◌, ◌++◌, ◌∷◌, [], get_or, length, sym, ap}
-use Rattle.rart_parts.proofs.SortedLemmas.{last_entry, popped, popped_zip, no_entries}
+use Rattle.rart_parts.proofs.maps.SortedLemmas.{last_entry, popped, popped_zip, no_entries}
 use Rattle.rart_parts.proofs.mapping.sorted_keyed_mapping.SortedKeyedMapping.take_last.Goals as goal
 
 pub returns-in_default : goal.returns-in_default

@@ -1,6 +1,6 @@
 use Rattle.std.proofs.Common.{sym, ◌∙◌, set, arith}
 use Rattle.std.proofs.lemmas.List.{length-set}
-use Rattle.rart_parts.proofs.SortedLemmas.{counted, no_entries, emptied, only_entry, padded_alone}
+use Rattle.rart_parts.proofs.maps.SortedLemmas.{counted, no_entries, emptied, only_entry, padded_alone}
 use Rattle.rart_parts.proofs.mapping.sorted_keyed_mapping.SortedKeyedMapping.take_value_for_leaf.Goals as goal
 
 pub remove-requires : goal.remove-requires

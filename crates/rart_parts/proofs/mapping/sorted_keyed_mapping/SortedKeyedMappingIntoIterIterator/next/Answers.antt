@@ -1,6 +1,6 @@
 use Rattle.std.proofs.Common.{◌≡◌, ◌∙◌, length, sym, rules}
 use Rattle.std.specs.Vec.Iter.{into_iter_items}
-use Rattle.rart_parts.proofs.SortedLemmas.{no_entries}
+use Rattle.rart_parts.proofs.maps.SortedLemmas.{no_entries}
 use Rattle.rart_parts.proofs.mapping.sorted_keyed_mapping.SortedKeyedMappingIntoIterIterator.next.Goals as goal
 
 pub returns-in_default-clause-steps : goal.returns-in_default-clause-steps

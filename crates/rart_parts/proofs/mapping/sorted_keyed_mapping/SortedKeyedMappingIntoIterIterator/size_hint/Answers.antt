@@ -1,6 +1,6 @@
 use Rattle.std.proofs.Common.{◌≡◌, ◌∙◌, Some, length, sym, ap, arith, rules}
 use Rattle.std.specs.Vec.Iter.{into_iter_items, into_iter_len}
-use Rattle.rart_parts.proofs.SortedLemmas.{rest_counted}
+use Rattle.rart_parts.proofs.maps.SortedLemmas.{rest_counted}
 use Rattle.rart_parts.proofs.mapping.sorted_keyed_mapping.SortedKeyedMappingIntoIterIterator.size_hint.Goals as goal
 
 pub returns-clause-lower : goal.returns-clause-lower

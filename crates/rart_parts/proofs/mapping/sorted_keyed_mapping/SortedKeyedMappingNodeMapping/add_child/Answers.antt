@@ -5,7 +5,7 @@ use Rattle.std.proofs.lemmas.List.Edits.{insert_end, length-insert}
 use Rattle.rart_parts.specs.Entries.{child_at, with_entry}
 use Rattle.rart_parts.specs.Keys.{IsFirstAbove}
 use Rattle.rart_parts.specs.SortedKeyed.{IsSortedKeyed}
-use Rattle.rart_parts.proofs.SortedLemmas.{ordered, counted, added, put_in, padded_more}
+use Rattle.rart_parts.proofs.maps.SortedLemmas.{ordered, counted, added, put_in, padded_more}
 use Rattle.rart_parts.proofs.mapping.sorted_keyed_mapping.SortedKeyedMappingNodeMapping.add_child.Goals as goal
 
 pub goes_last-requires : goal.goes_last-requires

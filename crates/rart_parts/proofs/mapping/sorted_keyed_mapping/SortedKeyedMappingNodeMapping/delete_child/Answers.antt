@@ -3,9 +3,9 @@ use Rattle.std.specs.Prelude.{remove}
 use Rattle.std.specs.List.{zip}
 use Rattle.std.proofs.lemmas.List.{length-set, get_or-set_other}
 use Rattle.rart_parts.specs.Entries.{without_byte}
-use Rattle.rart_parts.proofs.EntryLemmas.{without_absent}
-use Rattle.rart_parts.proofs.Zipped.{child_found, child_none, removed}
-use Rattle.rart_parts.proofs.SortedLemmas.{fits, ordered, deleted, padded_less}
+use Rattle.rart_parts.proofs.entries.EntryLemmas.{without_absent}
+use Rattle.rart_parts.proofs.maps.Zipped.{child_found, child_none, removed}
+use Rattle.rart_parts.proofs.maps.SortedLemmas.{fits, ordered, deleted, padded_less}
 use Rattle.rart_parts.proofs.mapping.sorted_keyed_mapping.SortedKeyedMappingNodeMapping.delete_child.Goals as goal
 
 pub place_of-requires : goal.place_of-requires

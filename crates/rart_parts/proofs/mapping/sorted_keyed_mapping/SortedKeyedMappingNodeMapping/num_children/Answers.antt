@@ -1,7 +1,7 @@
 use Rattle.std.proofs.Common.{◌∙◌, sym, subst, arith}
 use Rattle.rart_parts.specs.Entries.{BytesAscend}
-use Rattle.rart_parts.proofs.SortedLemmas.{counted}
-use Rattle.rart_parts.proofs.Zipped.{child_none}
+use Rattle.rart_parts.proofs.maps.SortedLemmas.{counted}
+use Rattle.rart_parts.proofs.maps.Zipped.{child_none}
 use Rattle.rart_parts.proofs.mapping.sorted_keyed_mapping.SortedKeyedMappingNodeMapping.num_children.Goals as goal
 
 pub returns-clause-count : goal.returns-clause-count

@@ -1,6 +1,6 @@
 use Rattle.std.proofs.Common.{sym, ◌∙◌, arith}
-use Rattle.rart_parts.proofs.Zipped.{child_found, child_none}
-use Rattle.rart_parts.proofs.SortedLemmas.{fits, ordered}
+use Rattle.rart_parts.proofs.maps.Zipped.{child_found, child_none}
+use Rattle.rart_parts.proofs.maps.SortedLemmas.{fits, ordered}
 use Rattle.rart_parts.proofs.mapping.sorted_keyed_mapping.SortedKeyedMappingNodeMapping.seek_child.Goals as goal
 
 pub place_of-requires : goal.place_of-requires

@@ -1,6 +1,6 @@
 use Rattle.std.proofs.Common.{sym, ◌∙◌, refl, arith}
-use Rattle.rart_parts.proofs.Zipped.{child_none, replaced_found, set_zip}
-use Rattle.rart_parts.proofs.SortedLemmas.{fits, ordered, written, mut_read, on_any}
+use Rattle.rart_parts.proofs.maps.Zipped.{child_none, replaced_found, set_zip}
+use Rattle.rart_parts.proofs.maps.SortedLemmas.{fits, ordered, written, mut_read, on_any}
 use Rattle.rart_parts.proofs.mapping.sorted_keyed_mapping.SortedKeyedMappingNodeMapping.seek_child_mut.Goals as goal
 
 pub place_of-requires : goal.place_of-requires

@@ -1,6 +1,6 @@
 use Rattle.std.proofs.Common.{◌≡◌, ◌∷◌, ◌*◌, ◌∙◌, length, sym, ap, arith}
 use Rattle.rart_parts.specs.Bits.{words_have, members, positions_above}
-use Rattle.rart_parts.proofs.Members.{members-none, members-first, members-above, first-passed}
+use Rattle.rart_parts.proofs.sets.Members.{members-none, members-first, members-above, first-passed}
 use Rattle.rart_parts.proofs.utils.bitset.ones.BitsetOnesIter.pass.Goals as goal
 
 pub returns-then-first-position : goal.returns-then-first-position

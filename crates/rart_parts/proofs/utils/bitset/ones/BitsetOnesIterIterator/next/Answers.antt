@@ -1,7 +1,7 @@
 use Rattle.std.proofs.Common.{◌≡◌, ◌*◌, ◌∷◌, sym, ◌∙◌, subst, rules}
 use Rattle.std.specs.Iterator.{YieldsFirst}
 use Rattle.rart_parts.specs.Bits.{words_have, members}
-use Rattle.rart_parts.proofs.Members.{members-none, members-first}
+use Rattle.rart_parts.proofs.sets.Members.{members-none, members-first}
 use Rattle.rart_parts.proofs.utils.bitset.ones.BitsetOnesIterIterator.next.Goals as goal
 
 pub returns-in_err-position-clause-steps : goal.returns-in_err-position-clause-steps

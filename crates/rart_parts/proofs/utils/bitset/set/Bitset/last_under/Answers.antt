@@ -1,5 +1,5 @@
 use Rattle.std.proofs.Common.{◌-◌, ◌/◌, rules, arith}
-use Rattle.rart_parts.proofs.Words.{above_more, last_found, row_before}
+use Rattle.rart_parts.proofs.sets.Words.{above_more, last_found, row_before}
 use Rattle.rart_parts.proofs.utils.bitset.set.Bitset.last_under.Goals as goal
 
 pub returns-in-Some : goal.returns-in-Some

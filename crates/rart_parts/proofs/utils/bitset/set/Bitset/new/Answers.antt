@@ -1,4 +1,4 @@
-use Rattle.rart_parts.proofs.Words.{none_have}
+use Rattle.rart_parts.proofs.sets.Words.{none_have}
 use Rattle.rart_parts.proofs.utils.bitset.set.Bitset.new.Goals as goal
 
 pub returns : goal.returns

@@ -2,7 +2,7 @@ use Rattle.std.proofs.Common.{◌<◌, ◌*◌, ◌/◌, ◌&&◌, ltb, ℕ, ◌
 use Rattle.std.proofs.lemmas.Bool.{lt-ltb, le-ltb}
 use Rattle.std.proofs.Math.Nat.{div-lt_iff_lt-mul, le-div_iff_mul-le}
 use Rattle.rart_parts.specs.Bits.{words_have}
-use Rattle.rart_parts.proofs.Masks.{mask_more, mask_same}
+use Rattle.rart_parts.proofs.sets.Masks.{mask_more, mask_same}
 use Rattle.rart_parts.proofs.utils.bitset.set.BitsetBitsetTrait.as_bitmask.Goals as goal
 use Rattle.rart_parts.proofs.utils.bitset.set.BitsetBitsetTrait.as_bitmask.Goals.{then-position-WIDTH+then-check}
 use Rattle.rart_parts.proofs.utils.bitset.set.BitsetBitsetTrait.as_bitmask.Goals.{else-position-WIDTH}

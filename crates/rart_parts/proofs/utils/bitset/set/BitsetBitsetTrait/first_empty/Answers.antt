@@ -1,5 +1,5 @@
 use Rattle.std.proofs.Common.{not, rules}
-use Rattle.rart_parts.proofs.Words.{below_more, first_found}
+use Rattle.rart_parts.proofs.sets.Words.{below_more, first_found}
 use Rattle.rart_parts.proofs.utils.bitset.set.BitsetBitsetTrait.first_empty.Goals as goal
 
 pub returns-in-Some : goal.returns-in-Some

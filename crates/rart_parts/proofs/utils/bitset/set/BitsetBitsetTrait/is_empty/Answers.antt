@@ -1,7 +1,7 @@
 use Rattle.std.proofs.Common.{◌≡◌, ℕ, ◌<◌, Bool, true, false, Option, Some, None, is_some, sym, ◌∙◌, rules}
 use Rattle.std.proofs.lemmas.Bool.{false≢true}
 use Rattle.rart_parts.specs.Bits.{IsFirst}
-use Rattle.rart_parts.proofs.Words.{below_more, first_found}
+use Rattle.rart_parts.proofs.sets.Words.{below_more, first_found}
 use Rattle.rart_parts.proofs.utils.bitset.set.BitsetBitsetTrait.is_empty.Goals as goal
 
 no_first : (has : ℕ → Bool) (capacity : ℕ) (r : Option ℕ) → IsFirst has capacity r → false ≡ is_some r → (k : ℕ)

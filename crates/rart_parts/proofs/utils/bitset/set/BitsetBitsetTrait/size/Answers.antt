@@ -1,5 +1,5 @@
 use Rattle.std.proofs.Common.{rules, arith}
-use Rattle.rart_parts.proofs.Words.{size_more, size_below}
+use Rattle.rart_parts.proofs.sets.Words.{size_more, size_below}
 use Rattle.rart_parts.proofs.utils.bitset.set.BitsetBitsetTrait.size.Goals as goal
 
 pub overflow_add-size : goal.overflow_add-size

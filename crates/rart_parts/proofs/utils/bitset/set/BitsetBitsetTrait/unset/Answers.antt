@@ -1,5 +1,5 @@
 use Rattle.std.proofs.Common.{◌≡◌, ◌<◌, ◌*◌, ◌&&◌, not, rules, length, subst, sym, refl}
-use Rattle.rart_parts.proofs.Words.{changed_has}
+use Rattle.rart_parts.proofs.sets.Words.{changed_has}
 use Rattle.rart_parts.proofs.utils.bitset.set.BitsetBitsetTrait.unset.Goals as goal
 
 pub returns : goal.returns

@@ -1,4 +1,4 @@
-use Rattle.rart_parts.proofs.WordBits.{count_bits}
+use Rattle.rart_parts.proofs.sets.WordBits.{count_bits}
 use Rattle.rart_parts.proofs.utils.bitset.word.BitsetWord.count.Goals as goal
 
 pub returns : goal.returns

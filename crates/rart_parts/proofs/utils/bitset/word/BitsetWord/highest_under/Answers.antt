@@ -1,7 +1,7 @@
 use Rattle.std.proofs.Common.{Some, arith}
 use Rattle.rart_parts.specs.Bits.{has_bit}
-use Rattle.rart_parts.proofs.Members.{last_agrees}
-use Rattle.rart_parts.proofs.WordBits.{bit_highest}
+use Rattle.rart_parts.proofs.sets.Members.{last_agrees}
+use Rattle.rart_parts.proofs.sets.WordBits.{bit_highest}
 use Rattle.rart_parts.proofs.utils.bitset.word.BitsetWord.highest_under.Goals as goal
 
 pub returns-else-low-eq0 : goal.returns-else-low-eq0

@@ -1,5 +1,5 @@
 use Rattle.std.proofs.Common.{arith}
-use Rattle.rart_parts.proofs.WordBits.{bit_lowest}
+use Rattle.rart_parts.proofs.sets.WordBits.{bit_lowest}
 use Rattle.rart_parts.proofs.utils.bitset.word.BitsetWord.lowest.Goals as goal
 
 pub returns-else-bits-eq0 : goal.returns-else-bits-eq0

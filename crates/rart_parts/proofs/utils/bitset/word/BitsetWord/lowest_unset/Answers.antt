@@ -1,5 +1,5 @@
 use Rattle.std.proofs.Common.{arith}
-use Rattle.rart_parts.proofs.WordBits.{bit_lowest_unset, all_ones}
+use Rattle.rart_parts.proofs.sets.WordBits.{bit_lowest_unset, all_ones}
 use Rattle.rart_parts.proofs.utils.bitset.word.BitsetWord.lowest_unset.Goals as goal
 
 pub returns-then-bits : goal.returns-then-bits

@@ -1,5 +1,5 @@
 use Rattle.std.proofs.Common.{w64, arith}
-use Rattle.rart_parts.proofs.WordBits.{bit_with, with_fits}
+use Rattle.rart_parts.proofs.sets.WordBits.{bit_with, with_fits}
 use Rattle.rart_parts.proofs.utils.bitset.word.BitsetWord.with.Goals as goal
 
 pub from_u64-requires : goal.from_u64-requires

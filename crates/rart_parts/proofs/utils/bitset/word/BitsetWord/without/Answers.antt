@@ -1,5 +1,5 @@
 use Rattle.std.proofs.Common.{w64, arith}
-use Rattle.rart_parts.proofs.WordBits.{bit_without}
+use Rattle.rart_parts.proofs.sets.WordBits.{bit_without}
 use Rattle.rart_parts.proofs.utils.bitset.word.BitsetWord.without.Goals as goal
 
 pub returns : goal.returns

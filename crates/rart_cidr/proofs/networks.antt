@@ -1,0 +1,6 @@
+pub mod BitLemmas
+pub mod CodeLemmas
+pub mod NetworkLemmas
+pub mod OrderLemmas
+pub mod PlaceLemmas
+pub mod TextLemmas

@@ -1,0 +1,6 @@
+pub mod AheadLemmas
+pub mod FilterLemmas
+pub mod LongestLemmas
+pub mod MatchLemmas
+pub mod NextLemmas
+pub mod StartLemmas

@@ -1,0 +1,4 @@
+pub mod Masks
+pub mod Members
+pub mod WordBits
+pub mod Words
