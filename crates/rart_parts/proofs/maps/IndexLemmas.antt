@@ -381,8 +381,7 @@ no_bytes at p zero = refl
 no_bytes at p (suc n) = no_bytes at (suc p) n
 
 pub map_start : (X : Type 0) (at : List (Option ℕ)) (n : ℕ) → sorted_entries
-    (with_bytes {X = X} at 0 (replicate n None))
-    ≡ []
+    (with_bytes {X = X} at 0 (replicate n None)) ≡ []
 map_start X at n = ap sorted_entries (no_bytes {X = X} at 0 n)
 
 pub indexed_start : (X : Type 0) (width : ℕ) → width ≤ 255
