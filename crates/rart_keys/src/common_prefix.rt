@@ -57,7 +57,7 @@ pub(crate) fn word_at(bytes: &[u8], i: usize) -> u64
 }
 
 // Byte by byte, for what is shorter than a word.
-#[tactic(auto, using(crate::proofs::CommonPrefixes::past_the_end))]
+#[tactic(auto, using(crate::proofs::strings::CommonPrefixes::past_the_end))]
 pub(crate) fn prefix_length_bytes(left: &[u8], right: &[u8]) -> usize
     ensures value { result ≡ common_prefix_len nat_eq left.now right.now }
     ensures at_most { result ≤ length left.now }

@@ -65,7 +65,7 @@ impl<'a, K: KeyTrait, T, C: Count> SeenTable<'a, K, T, C> {
     ///
     /// At most `bits / 8 + 1` strides. `nodes` counts the nodes of the map of strides, at most one more for each stride
     /// than it has whole octets.
-    #[tactic(auto, using(crate::proofs::LongestLemmas::has_none))]
+    #[tactic(auto, using(crate::proofs::walks::LongestLemmas::has_none))]
     pub fn longest_match_net_counted(
         &self,
         octets: &[u8],

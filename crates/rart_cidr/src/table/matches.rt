@@ -10,7 +10,7 @@ use rart::KeyTrait;
 impl<K: KeyTrait, T> BitTable<K, T> {
     /// Returns the shortest stored network of at least `low` bits that the network of the first `bits` bits of `octets`
     /// begins with, as its number of bits, and its target.
-    #[tactic(auto, using(crate::proofs::MatchLemmas::none_before))]
+    #[tactic(auto, using(crate::proofs::walks::MatchLemmas::none_before))]
     pub fn next_match(&self, octets: &[u8], bits: usize, low: usize) -> Option<(usize, &T)>
         requires bits { bits ≤ 8 * length octets.now }
         requires fits { length octets.now < 1000 }
