@@ -37,13 +37,8 @@ module _ {V : Type 0} where
     refused-begun : (es more : List (List ℕ × V)) (e : BulkError) → IsAscending (es ++ more) → FailsSorted es e
         → MayRefuseLoad (es ++ more) e
     refused-begun es more Memory up s = λ z. s.0 (none-begun es more z)
-    refused-begun es more Full up s = omega (
-      arith,
-      s.1,
-      ap length (stays es (begins es more up)),
-      length-append es
-          more,
-    )
+    refused-begun es more Full up s =
+        let same = ap length (stays es (begins es more up)) in omega (arith, s.1, length-append es more)
     refused-begun es more (Unsorted at) up s = let f : None ≡ Some s.0 = sym (faultless es (begins es more up)) ∙ s.1 in
         cc
 

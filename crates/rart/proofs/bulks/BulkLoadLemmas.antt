@@ -71,13 +71,9 @@ module _ {K V : Type 0} (bytes : K → List ℕ) (es : List (List ℕ × V)) (ke
 
   pub fault-fails : Earlier V → (at : ℕ) → Greater ≡ order_of_last (map bytes seen) (bytes k)
       → at ≡ min (length es) (2 ^ 64 - 1) → FailsSorted (es ++ (bytes k, v) ∷ []) (Unsorted at)
-  fault-fails law at o a = (
-    length es,
-    law es (map bytes keys) vs (bytes k) v r (ordered Greater o),
-    length-append es
-        ((bytes k, v) ∷ []),
-    a,
-  )
+  fault-fails law at o a =
+      let fault = law es (map bytes keys) vs (bytes k) v r (ordered Greater o) in
+      (length es, fault, length-append es ((bytes k, v) ∷ []), a)
 
   pub full-fails : Later V → Less ≡ order_of_last (map bytes seen) (bytes k) → length keys ≡ MAX_PAIRS
       → FailsSorted (es ++ (bytes k, v) ∷ []) Full

@@ -96,19 +96,16 @@ module _ (At : ℕ → List ℕ → Type 0) where
     above-from : (i j : ℕ) (k : List ℕ) (ks : List (List ℕ)) → i < j → j + length ks ≡ len → At i k → AreKeysFrom j ks
         → AreAbove k (unit_pairs ks)
     above-from i j k [] l e a h = tt
-    above-from i j k (q ∷ ks) l e a h = (
-      below i j k q l (omega (arith, e)) a (keys-head j q ks h),
-      above-from i
-          (suc j) k ks (omega (arith, l)) (omega (arith, e)) a (keys-tail j q ks h),
-    )
+    above-from i j k (q ∷ ks) l e a h =
+        let others = above-from i (suc j) k ks (omega (arith, l)) (omega (arith, e)) a (keys-tail j q ks h) in
+        (below i j k q l (omega (arith, e)) a (keys-head j q ks h), others)
 
     ascend-from : (j : ℕ) (ks : List (List ℕ)) → j + length ks ≡ len → AreKeysFrom j ks → IsAscending (unit_pairs ks)
     ascend-from j [] e h = tt
-    ascend-from j (k ∷ ks) e h = (
-      above-from j (suc j) k ks (omega arith) (omega (arith, e)) (keys-head j k ks h)
-          (keys-tail j k ks h),
-      ascend-from (suc j) ks (omega (arith, e)) (keys-tail j k ks h),
-    )
+    ascend-from j (k ∷ ks) e h =
+        let tail = keys-tail j k ks h in
+        let above = above-from j (suc j) k ks (omega arith) (omega (arith, e)) (keys-head j k ks h) tail in
+        (above, ascend-from (suc j) ks (omega (arith, e)) tail)
 
     pub keys-ascend : (ks : List (List ℕ)) → length ks ≡ len → AreKeysAt At ks → IsAscending (unit_pairs ks)
     keys-ascend ks e h = ascend-from 0 ks (omega (arith, e)) (keys-all ks h)
