@@ -59,11 +59,9 @@ module _ {V : Type 0} where
       ∙ ap (cut_pairs s) (from_bound-between a b o w)
 
   -- as many as there are pairs
-  pub range-length : (a b : Bound (List ℕ)) (o : Option (Trie V)) → IsCanonicalTree o
-      → length (entries_to b (entries_from (is_inclusive a) (bound_bytes a) (tree_entries one_segment o)))
-      ≡ length (between a b (tree_pairs o))
-  range-length a b o w = ap length (range-cut a b o w)
-      ∙ length-map (between a b (tree_pairs o)) (λ e. (cut (keys_of (tree_pairs o)) e.0, e.1))
+  pub cut-length : (a b : Bound (List ℕ)) (es : List (List ℕ × V))
+      → length (cut_between a b es) ≡ length (between a b es)
+  cut-length a b es = length-map (between a b es) (λ e. (cut (keys_of es) e.0, e.1))
 
   longest-from_bound : (h : Bool) (r : List ℕ) (es : List (List ℕ × V))
       → longest_key (pairs_from h r es) ≤ longest_key es
