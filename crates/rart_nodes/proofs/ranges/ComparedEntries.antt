@@ -1,6 +1,6 @@
 -- What a test of how keys compare with a string keeps of the entries of a node.
 use Rattle.std.proofs.Common.{◌≡◌, ℕ, suc, ◌<◌, ◌≤◌, ⊎_elim, Bool, true, false, List, [], ◌∷◌, ◌++◌, Option, Some, None}
-use Rattle.std.proofs.Common.{refl, sym, ap, ◌∙◌, arith, Less, Equal, Greater, if◌then◌else◌}
+use Rattle.std.proofs.Common.{map, refl, sym, ap, ◌∙◌, arith, Less, Equal, Greater, if◌then◌else◌}
 use Rattle.std.specs.Prelude.{slice_get}
 use Rattle.std.specs.declared.cmp.Ordering.{Ordering}
 use Rattle.std.specs.List.{filter}
@@ -48,6 +48,14 @@ from-longer : (low : ℕ) (k : List ℕ) → IsFrom low k → slice_cmp nat_cmp 
 from-longer low [] f = absurd f
 from-longer low (x ∷ k) f = refl
 
+-- a test of images is a test of what they are of
+pub filter-map : {X Y : Type 0} (f : X → Y) (p : X → Bool) (q : Y → Bool) (xs : List X) → ((x : X) → q (f x) ≡ p x)
+    → filter q (map f xs) ≡ map f (filter p xs)
+filter-map f p q [] h = refl
+filter-map f p q (x ∷ xs) h = rw (h x, filter-map f p q xs h)
+    (elim (p x) as (λ z. (if z then f x ∷ map f (filter p xs) else map f (filter p xs))
+    ≡ map f (if z then x ∷ filter p xs else filter p xs)) [ true ↦ refl | false ↦ refl ])
+
 -- a list, or nothing
 abbrev pub list_if : {A : Type 0} → Bool → List A → List A
 list_if true xs = xs
@@ -91,14 +99,10 @@ module _ {V : Type 0} where
   lower-alike b c r [] f l = tt
   lower-alike b c r (e ∷ es) f l = (first-less b c r (joined_bytes e.0) f.0 l, lower-alike b c r es f.1 l)
 
-  higher-alike : (b low : ℕ) (r : List ℕ) (es : List (SegmentList × V)) → AllFrom low (join_all es) → b < low
-      → AreAlike Greater (b ∷ r) es
-  higher-alike b low r [] f l = tt
-  higher-alike b low r (e ∷ es) f l = (from-greater b low r (joined_bytes e.0) f.0 l, higher-alike b low r es f.1 l)
-
-  longer-alike : (low : ℕ) (es : List (SegmentList × V)) → AllFrom low (join_all es) → AreAlike Greater [] es
-  longer-alike low [] f = tt
-  longer-alike low (e ∷ es) f = (from-longer low (joined_bytes e.0) f.0, longer-alike low es f.1)
+  from-alike : (o : Ordering) (low : ℕ) (s : List ℕ) (es : List (SegmentList × V))
+      → ((k : List ℕ) → IsFrom low k → slice_cmp nat_cmp k s ≡ o) → AllFrom low (join_all es) → AreAlike o s es
+  from-alike o low s [] h f = tt
+  from-alike o low s (e ∷ es) h f = (h (joined_bytes e.0) f.0, from-alike o low s es h f.1)
 
   -- the value of a node
   by-own : (a : Ordering → Bool) (o : Ordering) (s : List ℕ) (v : Option V) (es : List (SegmentList × V))
@@ -114,13 +118,10 @@ module _ {V : Type 0} where
   by-past : (a : Ordering → Bool) (k : SegmentList) (s r : List ℕ) (es : List (SegmentList × V))
       → strip_prefix (joined_bytes k) s ≡ Some r
       → entries_by a s (segments_after k es) ≡ segments_after k (entries_by a r es)
-  by-past a k s r [] e = refl
-  by-past a k s r (x ∷ es) e
-      = rw (joined-append k x.0, cmp-past (joined_bytes k) s r (joined_bytes x.0) e, by-past a k s r es e)
-      (elim (a (slice_cmp nat_cmp (joined_bytes x.0) r)) as
-      (λ z. (if z then (k ++ x.0, x.1) ∷ segments_after k (entries_by a r es)
-      else segments_after k (entries_by a r es))
-      ≡ segments_after k (if z then x ∷ entries_by a r es else entries_by a r es)) [ true ↦ refl | false ↦ refl ])
+  by-past a k s r es e = filter-map (λ x. (k ++ x.0, x.1)) (λ x. a (slice_cmp nat_cmp (joined_bytes x.0) r))
+      (λ x. a (slice_cmp nat_cmp (joined_bytes x.0) s)) es
+      (λ x. ap a (ap (λ z. slice_cmp nat_cmp z s) (joined-append k x.0)
+      ∙ cmp-past (joined_bytes k) s r (joined_bytes x.0) e))
 
   apart-alike : (o : Ordering) (k : SegmentList) (s : List ℕ) (es : List (SegmentList × V))
       → AllCompare o (joined_bytes k) s → AreAlike o s (segments_after k es)
@@ -144,7 +145,8 @@ module _ {V : Type 0} where
   by-above : (a : Ordering → Bool) (g : Grown) (b low : ℕ) (r : List ℕ) (cs : Children V) → Joins g → b < low
       → AreCanonical low cs → entries_by a (b ∷ r) (children_entries g cs) ≡ list_if (a Greater) (children_entries g cs)
   by-above a g b low r cs j l w = by-alike a Greater (b ∷ r) (children_entries g cs)
-      (higher-alike b low r (children_entries g cs) (rw (joined-children g cs j) (children_pairs-from low cs w)) l)
+      (from-alike Greater low (b ∷ r) (children_entries g cs) (λ k i. from-greater b low r k i l)
+      (rw (joined-children g cs j) (children_pairs-from low cs w)))
 
   by-under : (a : Ordering → Bool) (g : Grown) (b c : ℕ) (r : List ℕ) (t : Trie V) → Joins g → c < b
       → StartsWith c (prefix_of t) → entries_by a (b ∷ r) (entries_of g t) ≡ list_if (a Less) (entries_of g t)
@@ -213,8 +215,8 @@ module _ {V : Type 0} where
       let es : List (SegmentList × V) = children_entries g cs in
       by-past a (g q) s [] (value_at [] v ++ es) (rw (j q) e)
       ∙ ap (segments_after (g q)) (by-own a Equal [] v es refl
-      ∙ ap (λ z. value_at [] (if_included (a Equal) v) ++ z) (by-alike a Greater [] es (longer-alike 0 es
-      (rw (joined-children g cs j) (children_pairs-from 0 cs (IsCanonical-test (node q v n cs) c).2)))))
+      ∙ ap (λ z. value_at [] (if_included (a Equal) v) ++ z) (by-alike a Greater [] es
+      (from-alike Greater 0 [] es (λ k i. from-longer 0 k i) (rw (joined-children g cs j) (children_pairs-from 0 cs (IsCanonical-test (node q v n cs) c).2)))))
 
   -- the string continues by b
   pub by-on : (a : Ordering → Bool) (g : Grown) (s r : List ℕ) (b : ℕ) (t : Trie V) → Joins g → is_canonical t ≡ true
@@ -233,18 +235,8 @@ module _ {V : Type 0} where
       (by-children a g x 0 r cs j (IsCanonical-test (node q v n cs) c).2)))
 
   -- whole keys
-  joined-by : (a : Ordering → Bool) (s : List ℕ) (es : List (SegmentList × V))
-      → join_all (entries_by a s es) ≡ filter (λ e. a (slice_cmp nat_cmp e.0 s)) (join_all es)
-  joined-by a s [] = refl
-  joined-by a s (e ∷ es) = elim (a (slice_cmp nat_cmp (joined_bytes e.0) s))
-      as (λ z. join_all (if z then e ∷ entries_by a s es else entries_by a s es)
-      ≡ (if z then (joined_bytes e.0, e.1) ∷ filter (λ e. a (slice_cmp nat_cmp e.0 s)) (join_all es)
-      else filter (λ e. a (slice_cmp nat_cmp e.0 s)) (join_all es))) [
-        | true ↦ ap (λ z. (joined_bytes e.0, e.1) ∷ z) (joined-by a s es)
-        | false ↦ joined-by a s es
-      ]
-
   pub tree-by : (a : Ordering → Bool) (g : Grown) (s : List ℕ) (o : Option (Trie V)) → Joins g
       → join_all (entries_by a s (tree_entries g o)) ≡ filter (λ e. a (slice_cmp nat_cmp e.0 s)) (tree_pairs o)
-  tree-by a g s o j = joined-by a s (tree_entries g o)
+  tree-by a g s o j = sym (filter-map (λ e. (joined_bytes e.0, e.1)) (λ e. a (slice_cmp nat_cmp (joined_bytes e.0) s))
+      (λ e. a (slice_cmp nat_cmp e.0 s)) (tree_entries g o) (λ e. refl))
       ∙ ap (filter (λ e. a (slice_cmp nat_cmp e.0 s))) (joined-tree g o j)

@@ -23,7 +23,7 @@ use Rattle.rart_trie.proofs.tries.StepLemmas.{step-ended, step-left, step-on}
 use Rattle.rart_nodes.proofs.ranges.BoundSteps.{ahead-lower, ahead-start, ahead-step}
 use Rattle.rart_nodes.proofs.ranges.BoundSteps.{remaining-higher, remaining-start, remaining-step}
 use Rattle.rart_nodes.proofs.ranges.LevelLemmas as back
-use Rattle.rart_nodes.proofs.ranges.PotentialLemmas.{HasHeight, height-on, low-after}
+use Rattle.rart_nodes.proofs.ranges.PotentialLemmas.{HasHeight, height-on, low-some}
 use Rattle.rart_nodes.proofs.walks.PathLemmas.{IsChildOf, IsPathReserved, after-part, before-part, first-reserved}
 use Rattle.rart_nodes.proofs.walks.PathLemmas.{is-child, no-levels, path-on}
 use Rattle.rart_nodes.proofs.walks.WalkLemmas.{pushed}
@@ -104,15 +104,16 @@ module _ {V : Type 0} where
       → st1 ≡ st ++ (children_after e (children_in t), length k1) ∷ [] → places1 ≡ places
       → DescendsFrom g h longest places1 s u k1 v1 st1 n r1
   from-on g h longest places places1 s u k k1 v v1 st st1 t e n r r1 j m c l d w i f q =
+      let part = after-part e t c in
       let level = pushed g longest places places1 k k1 t (children_after e (children_in t)) st st1 m c d.path l d.fits
-      (after-part e t c) i f q in
+      part i f q in
       let child = step-child Greater None None h r t v1 e n r1 w in
       record {
         path = level.path;
         fits = path-on g longest k k1 t n st st1 _ m c d.fits i f child;
         first = step-first h r t v1 e n r1 w;
         still = ahead-step g h k k1 r t v1 e n r1 _ _ _ j c w i level.still (rw d.first at d.still);
-        low = low-after _ _ t e st st1 d.low d.height f;
+        low = low-some _ _ t _ st st1 d.low d.height part.2 f;
         height = height-on _ t n st st1 _ d.height f child;
       }
 

@@ -119,7 +119,7 @@ module _ {V : Type 0} where
       let m : longest_key (children_pairs (with_last cs b t)) ≡ max (longest_key (children_pairs cs))
       (longest_key (pairs_of t)) = ap longest_key (pairs-last b t cs) ∙ longest_key-append (children_pairs cs)
       (pairs_of t) in
-      child-known longest places d b k t cs (with_last cs b t) ls p c.1 c.2 (c.0, omega (arith, m)) (omega (arith, m))
+      child-known longest places d b k t cs (with_last cs b t) ls p c.1 c.2 c.0 (omega (arith, m)) (omega (arith, m))
 
   -- a walk continues from the deepest level to its last child, after whose prefix the path is k1
   pub record BackTurn (g : Grown) (longest places : ℕ) (k k1 : SegmentList) (ls ms : List (BackLevel V)) : Type 0 where
@@ -216,7 +216,7 @@ module _ {V : Type 0} where
       ∙ remaining-same g longest d d k [] ls w.4 (omega arith) w.0 in
       record {
         path = level-left longest places (take d k) (no_children, d) (levels_of ls)
-            (cut-to longest places d k no_children no_children (levels_of ls) (tt, omega arith) p);
+            (cut-to longest places d k no_children no_children (levels_of ls) tt (omega arith) p);
         still = ap (λ z. remaining_entries g k ls ++ z) (after-own (take d k) (option_copied v) []
             ∙ append-nil (value_at (take d k) (option_copied v)))
             ∙ ap (λ z. z ++ value_at (take d k) (option_copied v)) (sym same);

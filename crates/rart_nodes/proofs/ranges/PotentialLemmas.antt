@@ -1,11 +1,9 @@
 -- What a walk has visited beyond two nodes for each pair, level by level.
-use Rattle.std.proofs.Common.{◌≡◌, ℕ, ◌+◌, ◌≤◌, ⊎_elim, true, false, cond, eqb, ltb, List, [], ◌∷◌, ◌++◌}
+use Rattle.std.proofs.Common.{◌≡◌, ℕ, ◌+◌, ◌≤◌, ⊎_elim, true, eqb, List, [], ◌∷◌, ◌++◌}
 use Rattle.std.proofs.Common.{length, length-append, reverse, Option, Some, None, refl, ap, ◌∙◌, arith, subst}
 use Rattle.std.proofs.lemmas.List.{length-reverse}
 use Rattle.rart_keys.specs.SortedMap.{keys_of}
 use Rattle.rart_nodes.specs.ranges.Potential.{up_to_one, up_to_two, amortized_visits, potential, AreLow, IsAmortized}
-use Rattle.rart_trie.specs.ranges.Starts.{children_above}
-use Rattle.rart_nodes.specs.ranges.Steps.{children_after}
 use Rattle.rart_trie.specs.stats.Stats.{children_height, height, trie_height}
 use Rattle.rart_trie.specs.tries.CanonicalTest.{is_canonical}
 use Rattle.rart_trie.specs.tries.Tree.{tree_pairs}
@@ -145,30 +143,12 @@ module _ {V : Type 0} where
   HasHeight h n None = Unit {0}
   HasHeight h n (Some t) = n + trie_height t ≤ h
 
-  low-some : (h n : ℕ) (t : Trie V) (cs : Children V) (st st1 : List (Level V)) → AreLow h (reverse st)
+  -- a level of some of the children comes after the others
+  pub low-some : (h n : ℕ) (t : Trie V) (cs : Children V) (st st1 : List (Level V)) → AreLow h (reverse st)
       → HasHeight h (length st) (Some t) → children_height cs ≤ children_height (children_in t)
       → st1 ≡ st ++ (cs, n) ∷ [] → AreLow h (reverse st1)
   low-some h n t cs st st1 w i a e = rw (deepest st1 st (cs, n) e)
       (omega (arith, length-reverse st, i, height-node t, a), w)
-
-  above-low : (b : ℕ) (cs : Children V) → children_height (children_above b cs) ≤ children_height cs
-  above-low b no_children = omega arith
-  above-low b (child c t cs) = elim (ltb b c)
-      as (λ z. children_height (cond z (child c t (children_above b cs)) (children_above b cs))
-      ≤ children_height (child c t cs)) [
-        | true ↦ omega (arith, above-low b cs)
-        | false ↦ omega (arith, above-low b cs)
-      ]
-
-  after-low : (e : Option ℕ) (cs : Children V) → children_height (children_after e cs) ≤ children_height cs
-  after-low None cs = omega arith
-  after-low (Some b) cs = above-low b cs
-
-  pub low-after : (h n : ℕ) (t : Trie V) (e : Option ℕ) (st st1 : List (Level V)) → AreLow h (reverse st)
-      → HasHeight h (length st) (Some t) → st1 ≡ st ++ (children_after e (children_in t), n) ∷ []
-      → AreLow h (reverse st1)
-  low-after h n t e st st1 w i f = low-some h n t (children_after e (children_in t)) st st1 w i
-      (after-low e (children_in t)) f
 
   child-lower : (b : ℕ) (u : Trie V) (cs : Children V) → child_of b cs ≡ Some u → trie_height u ≤ children_height cs
   child-lower b u no_children e = absurd (cc)
@@ -180,10 +160,6 @@ module _ {V : Type 0} where
   height-on h t None st st1 l w f e = tt
   height-on h t (Some u) st st1 l w f e = omega
       (arith, w, height-node t, child-lower e.0 u (children_in t) e.1, ap length f, length-append st (l ∷ []))
-
-  -- before anything was walked
-  pub low-start : (h : ℕ) (st : List (Level V)) → st ≡ [] → AreLow h (reverse st)
-  low-start h st e = rw e tt
 
   pub low-tree : (t : Trie V) (o : Option (Trie V)) (ls : List (Level V)) → is_canonical t ≡ true → Some t ≡ o
       → AreLow (trie_height t) ls → AreLow (height (keys_of (tree_pairs o))) ls

@@ -17,6 +17,7 @@ use Rattle.rart_trie.specs.walks.Cut.{cut, cut_pairs}
 use Rattle.rart_trie.specs.walks.Walk.{SegmentList, joined_bytes, tree_entries}
 use Rattle.rart_nodes.specs.walks.PathParts.{one_segment}
 use Rattle.rart_nodes.specs.walks.ViewSegments.{AreViews}
+use Rattle.rart_nodes.proofs.ranges.ComparedEntries.{filter-map}
 use Rattle.rart_nodes.proofs.walks.CutLemmas.{joined-cut, tree-cut}
 use Rattle.rart_nodes.proofs.walks.PartCuts.{views-cut}
 
@@ -30,13 +31,8 @@ module _ {V : Type 0} where
 
   cut-from_bound : (h : Bool) (r : List ℕ) (s : List (List ℕ)) (es : List (List ℕ × V))
       → entries_from h r (cut_pairs s es) ≡ cut_pairs s (pairs_from h r es)
-  cut-from_bound h r s [] = refl
-  cut-from_bound h r s (e ∷ es) = rw (joined-cut s e.0)
-      (elim (is_from_bound h r e.0) as (λ z. (if z then (cut s e.0, e.1) ∷ entries_from h r (cut_pairs s es)
-      else entries_from h r (cut_pairs s es)) ≡ cut_pairs s (if z then e ∷ pairs_from h r es else pairs_from h r es)) [
-        | true ↦ ap (λ z. (cut s e.0, e.1) ∷ z) (cut-from_bound h r s es)
-        | false ↦ cut-from_bound h r s es
-      ])
+  cut-from_bound h r s es = filter-map (λ e. (cut s e.0, e.1)) (λ e. is_from_bound h r e.0)
+      (λ e. is_from_bound h r (joined_bytes e.0)) es (λ e. ap (is_from_bound h r) (joined-cut s e.0))
 
   cut-to : (b : Bound (List ℕ)) (s : List (List ℕ)) (es : List (List ℕ × V))
       → entries_to b (cut_pairs s es) ≡ cut_pairs s (up_to b es)
@@ -59,11 +55,9 @@ module _ {V : Type 0} where
       ∙ ap (cut_pairs s) (from_bound-between a b o w)
 
   -- as many as there are pairs
-  pub range-length : (a b : Bound (List ℕ)) (o : Option (Trie V)) → IsCanonicalTree o
-      → length (entries_to b (entries_from (is_inclusive a) (bound_bytes a) (tree_entries one_segment o)))
-      ≡ length (between a b (tree_pairs o))
-  range-length a b o w = ap length (range-cut a b o w)
-      ∙ length-map (between a b (tree_pairs o)) (λ e. (cut (keys_of (tree_pairs o)) e.0, e.1))
+  pub cut-length : (a b : Bound (List ℕ)) (es : List (List ℕ × V))
+      → length (cut_between a b es) ≡ length (between a b es)
+  cut-length a b es = length-map (between a b es) (λ e. (cut (keys_of es) e.0, e.1))
 
   longest-from_bound : (h : Bool) (r : List ℕ) (es : List (List ℕ × V))
       → longest_key (pairs_from h r es) ≤ longest_key es

@@ -10,6 +10,7 @@ use Rattle.rart_trie.proofs.edits.InsertLemmas.{fewer-within}
 use Rattle.rart_trie.specs.ranges.Starts.{children_above}
 use Rattle.rart_trie.specs.ranges.Under.{children_before, children_under}
 use Rattle.rart_nodes.specs.ranges.Steps.{children_after}
+use Rattle.rart_trie.specs.stats.Stats.{children_height}
 use Rattle.rart_trie.specs.tries.CanonicalTest.{is_canonical}
 use Rattle.rart_trie.specs.tries.Trie.{Trie, node, Children, no_children, child, children_in, children_pairs, pairs_of}
 use Rattle.rart_trie.specs.tries.Trie.{prefix_of, child_of, child_in, StartsWith, IsCanonical, AreCanonical}
@@ -56,6 +57,7 @@ module _ {V : Type 0} where
   -- some of the children ds, from the byte `low` on
   abbrev pub ArePart : ℕ → Children V → Children V → Type 0
   ArePart low cs ds = AreCanonical low cs × (longest_key (children_pairs cs) ≤ longest_key (children_pairs ds))
+      × (children_height cs ≤ children_height ds)
 
   part-child : (z : Bool) (low c : ℕ) (t : Trie V) (cs ds : Children V) → AreCanonical low (child c t ds)
       → ArePart (suc c) cs ds → ArePart low (cond z (child c t cs) cs) (child c t ds)
@@ -67,24 +69,26 @@ module _ {V : Type 0} where
       longest_key-append (pairs_of t) (children_pairs cs),
       longest_key-append (pairs_of t) (children_pairs ds),
     ),
+    omega (arith, a.2),
   )
   part-child false low c t cs ds w a = (
     canonical-lower low (suc c) cs (omega (arith, w.0)) a.0,
     omega (arith, a.1, longest_key-append (pairs_of t) (children_pairs ds)),
+    omega (arith, a.2),
   )
 
   pub above-part : (b low : ℕ) (cs : Children V) → AreCanonical low cs → ArePart low (children_above b cs) cs
-  above-part b low no_children w = (tt, omega arith)
+  above-part b low no_children w = (tt, omega arith, omega arith)
   above-part b low (child c t cs) w
       = part-child (ltb b c) low c t (children_above b cs) cs w (above-part b (suc c) cs w.3)
 
   under-part : (b low : ℕ) (cs : Children V) → AreCanonical low cs → ArePart low (children_under b cs) cs
-  under-part b low no_children w = (tt, omega arith)
+  under-part b low no_children w = (tt, omega arith, omega arith)
   under-part b low (child c t cs) w
       = part-child (ltb c b) low c t (children_under b cs) cs w (under-part b (suc c) cs w.3)
 
   all-part : (cs : Children V) → AreCanonical 0 cs → ArePart 0 cs cs
-  all-part cs w = (w, omega arith)
+  all-part cs w = (w, omega arith, omega arith)
 
   pub node-part : (t : Trie V) → is_canonical t ≡ true → ArePart 0 (children_in t) (children_in t)
   node-part t c = all-part (children_in t) (below-canonical t c)
@@ -142,13 +146,14 @@ module _ {V : Type 0} where
       }
 
   -- the path is cut to its deepest level, which has some of its children left
-  pub cut-to : (longest places d : ℕ) (k : SegmentList) (cs ds : Children V) (ls : List (Level V)) → ArePart 0 cs ds
-      → IsWalk longest places k ((ds, d) ∷ ls) → IsWalk longest places (take d k) ((cs, d) ∷ ls)
-  cut-to longest places d k cs ds ls a q =
+  pub cut-to : (longest places d : ℕ) (k : SegmentList) (cs ds : Children V) (ls : List (Level V)) → AreCanonical 0 cs
+      → longest_key (children_pairs cs) ≤ longest_key (children_pairs ds) → IsWalk longest places k ((ds, d) ∷ ls)
+      → IsWalk longest places (take d k) ((cs, d) ∷ ls)
+  cut-to longest places d k cs ds ls a l q =
       let w = q.stations in
       let n : length (take d k) ≡ d = omega (arith, length-take d k, w.0) in
       record {
-        stations = (omega (arith, n), a.0, omega (arith, w.2, a.1), omega (arith, w.3, a.1), w.4);
+        stations = (omega (arith, n), a, omega (arith, w.2, l), omega (arith, w.3, l), w.4);
         reserved = q.reserved;
         short = omega (arith, n, w.0, q.short);
       }
@@ -180,8 +185,9 @@ module _ {V : Type 0} where
 
   pub child-known : (longest places d b : ℕ) (k : SegmentList) (t : Trie V) (cs ds : Children V)
       (ls : List (Level V)) → IsWalk longest places k ((ds, d) ∷ ls) → StartsWith b (prefix_of t) → IsCanonical t
-      → ArePart 0 cs ds → longest_key (pairs_of t) ≤ longest_key (children_pairs ds) → Child longest places k d t cs ls
-  child-known longest places d b k t cs ds ls q f c a m =
+      → AreCanonical 0 cs → longest_key (children_pairs cs) ≤ longest_key (children_pairs ds)
+      → longest_key (pairs_of t) ≤ longest_key (children_pairs ds) → Child longest places k d t cs ls
+  child-known longest places d b k t cs ds ls q f c a l m =
       let w = q.stations in
       let long = starts-long b (prefix_of t) f in
       record {
@@ -189,7 +195,7 @@ module _ {V : Type 0} where
         long = long;
         canonical = test-IsCanonical t c;
         fits = (omega (arith, w.2, m, length-take d k), omega (arith, w.3, m, longest-below t c, long));
-        others = cut-to longest places d k cs ds ls a q;
+        others = cut-to longest places d k cs ds ls a l q;
         reserved = q.reserved;
         above = w.4;
       }

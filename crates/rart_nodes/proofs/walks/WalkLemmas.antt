@@ -180,7 +180,7 @@ module _ {V : Type 0} where
       let w = p.stations.1 in
       let m = longest_key-append (pairs_of t) (children_pairs cs) in
       child-known longest places d b k t cs (child b t cs) ls p w.1 w.2
-      (canonical-lower 0 (suc b) cs (omega arith) w.3, omega (arith, m)) (omega (arith, m))
+      (canonical-lower 0 (suc b) cs (omega arith) w.3) (omega (arith, m)) (omega (arith, m))
 
   work-falls : (t : Trie V) (cs : Children V) (w : ℕ)
       → 2 * child_count (children_in t) + 1 + (2 * child_count cs + 1 + w) < 2 * (node_count t + child_count cs) + 1 + w

@@ -1,10 +1,10 @@
 -- A walk whose path keeps the bytes of a key visits no more nodes on its way to the key than that has bytes.
-use Rattle.std.proofs.Common.{◌≡◌, ℕ, ◌+◌, ◌<◌, ◌≤◌, ◌⊎◌, inl, inr, ⊎_elim, true, List, [], ◌∷◌, ◌++◌, length}
+use Rattle.std.proofs.Common.{◌≡◌, ℕ, ◌+◌, ◌≤◌, ◌⊎◌, inl, inr, ⊎_elim, true, List, [], ◌∷◌, ◌++◌, length}
 use Rattle.std.proofs.Common.{take, reverse, Some, None, refl, arith}
 use Rattle.rart_trie.specs.tries.CanonicalTest.{is_canonical}
 use Rattle.rart_trie.specs.walks.Walk.{SegmentList, Grown, KeepsEach, Level, IsWalk}
 use Rattle.rart_nodes.specs.walks.WalkSteps.{DeepestLeft, DeepestStep, PushesLevel}
-use Rattle.rart_trie.specs.tries.Trie.{Trie, node, Children, no_children, child, children_in, prefix_of, value_of}
+use Rattle.rart_trie.specs.tries.Trie.{Trie, node, no_children, child, children_in, prefix_of, value_of}
 use Rattle.rart_trie.specs.tries.Trie.{IsCanonical}
 use Rattle.rart_trie.proofs.tries.CanonicalTests.{IsCanonical-test}
 use Rattle.rart_nodes.proofs.walks.PathLemmas.{child-longer, deepest}
@@ -14,27 +14,15 @@ not-childless : (V : Type 0) (p : List ℕ) (n : ℕ) → IsCanonical {V = V} (n
 not-childless V p n w = ⊎_elim (λ h. cc) (λ h. absurd h) w.0
 
 module _ {V : Type 0} where
-  -- the deepest level is at the end of the path, and none of its children was visited
+  -- the deepest level is at the end of the path, and has children
   abbrev pub IsFresh : SegmentList → List (Level V) → Type 0
   IsFresh k [] = ⊥
-  IsFresh k ((no_children, d) ∷ ls) = ⊥
-  IsFresh k ((child b t cs, d) ∷ ls) = d ≡ length k
+  IsFresh k (l ∷ ls) = (l.1 ≡ length k) × (l.0 ≡ no_children → ⊥)
 
   -- a walk that began with n visits has m: as many, or no more than its path has segments, and a pair remains below
   -- it
   abbrev pub HasVisited : ℕ → ℕ → SegmentList → List (Level V) → Type 0
   HasVisited n m k ls = (m ≡ n) ⊎ ((m ≤ n + length k) × IsFresh k ls)
-
-  fresh-at : (k : SegmentList) (cs : Children V) (d : ℕ) (ls : List (Level V)) → IsFresh k ((cs, d) ∷ ls) → d ≡ length k
-  fresh-at k no_children d ls f = absurd f
-  fresh-at k (child b t cs) d ls f = f
-
-  one-more : (n m d : ℕ) (k k1 : SegmentList) (cs : Children V) (ls : List (Level V)) → HasVisited n m k ((cs, d) ∷ ls)
-      → d < length k1 → m + 1 ≤ n + length k1
-  one-more n m d k k1 cs ls h l = ⊎_elim (λ e. omega arith) (λ f. omega (arith, f.0, fresh-at k cs d ls f.1)) h
-
-  none-here : (n m d : ℕ) (k : SegmentList) (ls : List (Level V)) → HasVisited n m k ((no_children, d) ∷ ls) → m ≡ n
-  none-here n m d k ls h = ⊎_elim (λ e. e) (λ f. absurd f.1) h
 
   -- a child of the deepest level is visited
   pub visit-one : (g : Grown) (longest places n m m1 d : ℕ) (k k1 : SegmentList) (t : Trie V) (st st1 : List (Level V))
@@ -43,19 +31,8 @@ module _ {V : Type 0} where
   visit-one g longest places n m m1 d k k1 t st st1 bytes p h s i f =
       let more = child-longer g longest places d k k1 t s.others (reverse s.rest) bytes
       (next-child longest places d k t st st1 p s) i in
-      omega (
-        arith,
-        f,
-        one-more n m d k k1 (child s.edge t s.others) (reverse s.rest)
-            (rw (level-before d t st st1 s) at h) more,
-      )
-
-  fresh-node : (t : Trie V) (k : SegmentList) (ls : List (Level V)) → is_canonical t ≡ true → None ≡ value_of t
-      → IsFresh k ((children_in t, length k) ∷ ls)
-  fresh-node (node p None n no_children) k ls w v
-      = absurd (not-childless V p n (IsCanonical-test {V = V} (node p None n no_children) w))
-  fresh-node (node p None n (child b t cs)) k ls w v = refl
-  fresh-node (node p (Some x) n cs) k ls w v = absurd (cc)
+      let v : HasVisited n m k ((child s.edge t s.others, d) ∷ reverse s.rest) = rw (level-before d t st st1 s) at h in
+      ⊎_elim (λ z. omega (arith, f, z, more)) (λ z. omega (arith, f, z.0, z.1.0, more)) v
 
   pub has-child : (t : Trie V) → is_canonical t ≡ true → None ≡ value_of t → children_in t ≡ no_children → ⊥
   has-child (node p None n no_children) w v e = not-childless V p n
@@ -67,7 +44,7 @@ module _ {V : Type 0} where
   pub visit-on : (n m : ℕ) (t : Trie V) (k : SegmentList) (st1 st2 : List (Level V)) → is_canonical t ≡ true
       → None ≡ value_of t → PushesLevel st1 t (length k) st2 → m ≤ n + length k → HasVisited n m k (reverse st2)
   visit-on n m t k st1 st2 w v o h = ⊎_elim
-      (λ e. inr (h, rw (deepest st2 st1 (children_in t, length k) e) (fresh-node t k (reverse st1) w v)))
+      (λ e. rw (deepest st2 st1 (children_in t, length k) e) (inr (h, (refl, has-child t w v))))
       (λ e. absurd (has-child t w v e.1)) o
 
   -- the deepest level has no more children, or there is no level
@@ -76,5 +53,6 @@ module _ {V : Type 0} where
   visit-none n m m1 k st st1 rest h s q = ⊎_elim
       (λ e. let h1 : HasVisited n m k (reverse []) = rw e at h in
       inl (⊎_elim (λ f. omega (arith, f, q)) (λ f. absurd f.1) h1))
-      (λ z. let e : reverse st ≡ (no_children, z.1.0) ∷ reverse z.0 = deepest st z.0 (no_children, z.1.0) z.1.1 in
-      inl (omega (arith, q, none-here n m z.1.0 k (reverse z.0) (rw e at h)))) s.left
+      (λ z. let h1 : HasVisited n m k ((no_children, z.1.0) ∷ reverse z.0)
+      = rw (deepest st z.0 (no_children, z.1.0) z.1.1) at h in
+      inl (⊎_elim (λ f. omega (arith, f, q)) (λ f. absurd (f.1.1 refl)) h1)) s.left

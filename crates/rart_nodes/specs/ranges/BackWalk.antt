@@ -1,5 +1,7 @@
 -- A walk over a tree from its back, which keeps something of each prefix on its path.
-use Rattle.std.specs.Prelude.{ℕ, ◌≡◌, ◌⊎◌, List, [], ◌∷◌, ◌++◌, map, take, Option, MatchOption}
+use Rattle.std.specs.Prelude.{ℕ, ◌≡◌, ◌⊎◌, List, [], ◌∷◌, ◌++◌, map, take, reverse, Option, MatchOption}
+use Rattle.std.specs.Prelude.{vec_capacity}
+use Rattle.rart_nodes.specs.declared.node.walk.back.BackWalk.{BackWalk}
 use Rattle.std.specs.Borrow.{Bor}
 use Rattle.std.specs.Option.{option_copied}
 use Rattle.rart_trie.specs.ranges.Under.{with_last}
@@ -24,6 +26,15 @@ IsBackWalk longest places k ls = IsWalk longest places k (map (λ l. l.0) ls)
 -- a walk with the bytes of its path, which have capacity for the longest key, which is within the keys' maximum
 abbrev pub IsKeyBackWalk : {V : Type 0} → Option ℕ → ℕ → ℕ → ℕ → SegmentList → List (BackLevel V) → Type 0
 IsKeyBackWalk maximum longest places capacity k ls = IsKeyWalk maximum longest places capacity k (map (λ l. l.0) ls)
+
+module _ {P V C : Type 0} where
+  -- the walk is at the path k
+  abbrev pub IsBackWalkAt : BackWalk P V C → SegmentList → Type 0
+  IsBackWalkAt w k = IsBackWalk w.longest (vec_capacity w.levels) k (reverse w.levels.items)
+
+  -- what the walk at the path k has still to give, ascending
+  abbrev pub back_walk_entries : Grown → SegmentList → BackWalk P V C → List (SegmentList × V)
+  back_walk_entries g k w = remaining_entries g k (reverse w.levels.items)
 
 -- there is no level, or the deepest, which is the last, has no more children
 pub record BackLeft {V : Type 0} (before after : List (BackLevel V)) : Type 0 where

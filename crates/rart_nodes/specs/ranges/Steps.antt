@@ -18,9 +18,10 @@ abbrev pub children_after : {V : Type 0} → Option ℕ → Children V → Child
 children_after None cs = cs
 children_after (Some b) cs = children_above b cs
 
--- A walk to or from s yields at the node t the value v, the children beyond e, and what is on this side of r at n.
--- Either each key of t compares with s as o, and all of t is yielded; or s is t's own key, included if h, and of the
--- children those beyond `own` are yielded; or s continues as r in the child at b, and the value is `way`.
+-- A walk bounded by s yields the keys that compare with s as o. At the node t it yields the value v and the children
+-- beyond the byte e, and the descent continues at n, where r remains of s. Either it yields all of t; or s is t's own
+-- key, included if h, and the children are those beyond `own`; or s continues as r in the child at b, and the value is
+-- `way`.
 pub data Steps {V : Type 0} (o : Ordering) (own : Option ℕ) (way : Option V) (h : Bool) (s : List ℕ) (t : Trie V)
     (v : Option V) (e : Option ℕ) (n : Option (Trie V)) (r : List ℕ) : Type 0 where
   whole : AllCompare o (prefix_of t) s → v ≡ value_of t → e ≡ None → n ≡ None → Steps o own way h s t v e n r

@@ -1,19 +1,20 @@
 -- A walk beside its path, and its steps from its deepest level, which is the last.
 use Rattle.std.specs.Prelude.{ℕ, ◌≡◌, ◌≢◌, ◌+◌, ◌⊎◌, List, [], ◌∷◌, ◌++◌, Option, MatchOption, reverse, vec_capacity}
 use Rattle.std.specs.Borrow.{Bor}
+use Rattle.std.specs.Global.{Vec}
 use Rattle.std.specs.Option.{option_copied}
 use Rattle.rart_nodes.specs.declared.node.walk.Walk.{Walk}
 use Rattle.rart_trie.specs.tries.Trie.{Trie, Children, no_children, child, children_in}
 use Rattle.rart_trie.specs.walks.Walk.{Grown, IsWalk, Level, SegmentList, entries_ahead, nodes_below}
 
+-- a walk with a level has a place for each byte of the longest key and one more
+abbrev pub HasPlaces : {L : Type 0} → Vec L → ℕ → Type 0
+HasPlaces levels longest = levels.items ≢ [] → vec_capacity levels ≡ longest + 1
+
 module _ {P V C : Type 0} where
   -- the walk is at the path k
   abbrev pub IsWalkAt : Walk P V C → SegmentList → Type 0
   IsWalkAt w k = IsWalk w.longest (vec_capacity w.levels) k (reverse w.levels.items)
-
-  -- a walk with a level has a place for each byte of the longest key and one more
-  abbrev pub HasPlaces : Walk P V C → ℕ → Type 0
-  HasPlaces w longest = w.levels.items ≢ [] → vec_capacity w.levels ≡ longest + 1
 
   -- what the walk at the path k has still to give
   abbrev pub walk_entries : Grown → SegmentList → Walk P V C → List (SegmentList × V)

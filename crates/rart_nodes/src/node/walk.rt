@@ -171,7 +171,7 @@ impl<'a, K: KeyTrait, V, C: Count> Seen<'a, K, V, C> {
         ensures longest { IfOk result (λ w. w.0.longest ≤ length_bound self.entry) }
         ensures bound { C.number counter.new
             ≡ C.number counter.old + count_of (seen_tree self.entry) }
-        ensures places { IfOk result (λ w. HasPlaces w.0 (length_bound self.entry)) }
+        ensures places { IfOk result (λ w. HasPlaces w.0.levels (length_bound self.entry)) }
     {
         let alloc = self.alloc();
         let longest = self.longest();

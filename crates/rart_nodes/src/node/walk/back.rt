@@ -2,14 +2,14 @@
 
 // It allocates when it is created, and keeps for each node on its path a cursor over its children, and its value.
 
-ghost use Rattle.std.specs.Prelude.{◌≡◌, ◌≢◌, ◌≤◌, ◌<◌, ◌+◌, ◌++◌, [], length, reverse, take, vec_len, vec_capacity};
+ghost use Rattle.std.specs.Prelude.{◌≡◌, ◌≢◌, ◌≤◌, ◌<◌, ◌+◌, ◌++◌, [], length, take, vec_len, vec_capacity};
 ghost use Rattle.std.specs.Prelude.{IfOk, MatchOption, OnErr};
-ghost use Rattle.std.specs.Option.{option_copied};
 ghost use Rattle.rart_keys.specs.SortedMap.{count_of, longest_key};
-ghost use Rattle.rart_nodes.specs.ranges.BackWalk.{BackLeft, BackStep, IsBackWalk};
-ghost use Rattle.rart_nodes.specs.ranges.BackWalk.{PushesNode, TakesLast, remaining_entries};
+ghost use Rattle.rart_nodes.specs.ranges.BackWalk.{BackLeft, BackStep, IsBackWalkAt, back_walk_entries};
+ghost use Rattle.rart_nodes.specs.ranges.BackWalk.{PushesNode, TakesLast};
+ghost use Rattle.rart_nodes.specs.walks.WalkSteps.{HasPlaces};
 ghost use Rattle.rart_nodes.specs.tries.SeenTrees.{length_bound, seen_pairs, seen_tree};
-ghost use Rattle.rart_trie.specs.tries.Trie.{children_in, pairs_of, prefix_of, value_of};
+ghost use Rattle.rart_trie.specs.tries.Trie.{pairs_of, prefix_of};
 ghost use Rattle.rart_trie.specs.walks.Walk.{KeepsEach, entries_of, segments_after, tree_entries};
 
 use crate::node::seen::{Entered, Seen};
@@ -80,11 +80,10 @@ pub(crate) fn back_walk_at<'a, P: Partial, V, C, T: Path<'a, P>>(
     requires reserved { longest ≤ T.capacity path.old }
     requires places { longest < vec_capacity levels }
     requires empty_walk { levels.items ≡ [] }
-    ensures path { IsBackWalk result.longest (vec_capacity result.levels) (T.kept path.new)
-        (reverse result.levels.items) }
+    ensures path { IsBackWalkAt result (T.kept path.new) }
     ensures reserved { result.longest ≤ T.capacity path.new }
     ensures requested { T.requested path.new ≡ T.requested path.old }
-    ensures entries { remaining_entries T.grown (T.kept path.new) (reverse result.levels.items)
+    ensures entries { back_walk_entries T.grown (T.kept path.new) result
         ≡ segments_after (T.kept path.old) (entries_of T.grown at.entry.node.now) }
     ensures longest { result.longest ≡ longest }
     ensures level_capacity { vec_capacity result.levels ≡ vec_capacity levels.entry }
@@ -98,12 +97,10 @@ pub(crate) fn back_walk_at<'a, P: Partial, V, C, T: Path<'a, P>>(
 pub(crate) fn empty_back_walk<'a, P: Partial, V, C, T: Path<'a, P>>(
     alloc: Global,
 ) -> (BackWalk<'a, P, V, C>, T)
-    ensures path { IsBackWalk result.0.longest (vec_capacity result.0.levels) (T.kept result.1)
-        (reverse result.0.levels.items) }
+    ensures path { IsBackWalkAt result.0 (T.kept result.1) }
     ensures reserved { result.0.longest ≤ T.capacity result.1 }
     ensures requested { T.requested result.1 ≡ 0 }
-    ensures entries { remaining_entries T.grown (T.kept result.1) (reverse result.0.levels.items)
-        ≡ [] }
+    ensures entries { back_walk_entries T.grown (T.kept result.1) result.0 ≡ [] }
     ensures levels { result.0.levels.items ≡ [] }
     ensures longest { result.0.longest ≡ 0 }
 {
@@ -121,12 +118,11 @@ impl<'a, K: KeyTrait, V, C: Count> Seen<'a, K, V, C> {
         self,
         counter: &mut C,
     ) -> Result<(BackWalk<'a, K::PartialType, V, C>, T), AllocError>
-        ensures path { IfOk result (λ w. IsBackWalk w.0.longest (vec_capacity w.0.levels)
-            (T.kept w.1) (reverse w.0.levels.items)) }
+        ensures path { IfOk result (λ w. IsBackWalkAt w.0 (T.kept w.1)) }
         ensures reserved { IfOk result (λ w. w.0.longest ≤ T.capacity w.1) }
         ensures requested { IfOk result (λ w. T.requested w.1 ≤ length_bound self.entry) }
         ensures entries { IfOk result
-            (λ w. remaining_entries T.grown (T.kept w.1) (reverse w.0.levels.items)
+            (λ w. back_walk_entries T.grown (T.kept w.1) w.0
             ≡ tree_entries T.grown (seen_tree self.entry)) }
         ensures allocates { OnErr result (seen_pairs self.entry ≢ []) }
         ensures longest { IfOk result (λ w. w.0.longest ≤ length_bound self.entry) }
@@ -134,8 +130,7 @@ impl<'a, K: KeyTrait, V, C: Count> Seen<'a, K, V, C> {
         ensures visits { IfOk result (λ _. C.number counter.new
             ≡ C.number counter.old + count_of (seen_tree self.entry)) }
         ensures bound { C.number counter.new ≤ C.number counter.old + 1 }
-        ensures places { IfOk result
-            (λ w. w.0.levels.items ≢ [] → vec_capacity w.0.levels ≡ length_bound self.entry + 1) }
+        ensures places { IfOk result (λ w. HasPlaces w.0.levels (length_bound self.entry)) }
     {
         let alloc = self.alloc();
         let longest = self.longest();
@@ -155,17 +150,14 @@ impl<'a, P: Partial, V, C: Count> BackWalk<'a, P, V, C> {
     /// Returns the value of the last pair; the path then is that of its key. It does not allocate, and visits each
     /// node once.
     pub(crate) fn retreat<T: Path<'a, P>>(&mut self, path: &mut T, counter: &mut C) -> Option<&'a V>
-        requires path { IsBackWalk self.old.longest (vec_capacity self.old.levels)
-            (T.kept path.old) (reverse self.old.levels.items) }
+        requires path { IsBackWalkAt self.old (T.kept path.old) }
         requires reserved { self.old.longest ≤ T.capacity path.old }
-        ensures path { IsBackWalk self.new.longest (vec_capacity self.new.levels)
-            (T.kept path.new) (reverse self.new.levels.items) }
+        ensures path { IsBackWalkAt self.new (T.kept path.new) }
         ensures reserved { self.new.longest ≤ T.capacity path.new }
         ensures requested { T.requested path.new ≡ T.requested path.old }
         ensures entries { TakesLast
-            (remaining_entries T.grown (T.kept path.old) (reverse self.old.levels.items))
-            (T.kept path.new) result
-            (remaining_entries T.grown (T.kept path.new) (reverse self.new.levels.items)) }
+            (back_walk_entries T.grown (T.kept path.old) self.old) (T.kept path.new) result
+            (back_walk_entries T.grown (T.kept path.new) self.new) }
         ensures longest { self.new.longest ≡ self.old.longest }
         ensures bound { KeepsEach T.grown
             → MatchOption result (C.number counter.new ≡ C.number counter.old)

@@ -164,7 +164,7 @@ impl<'a, K: KeyTrait, V, C: Count> Seen<'a, K, V, C> {
         ensures visits { IfOk result (λ _. C.number counter.new
             ≡ C.number counter.old + probe_count (seen_keys self.entry) start.now) }
         ensures bound { C.number counter.new ≤ C.number counter.old + length start.now + 1 }
-        ensures places { IfOk result (λ w. HasPlaces w.0 (length_bound self.entry)) }
+        ensures places { IfOk result (λ w. HasPlaces w.0.levels (length_bound self.entry)) }
     {
         let alloc = self.alloc();
         let longest = self.longest();

@@ -82,7 +82,7 @@ impl<'a, K: KeyTrait, V, C: Count> Seen<'a, K, V, C> {
         ensures bound { C.number counter.new ≤ C.number counter.old + length prefix.now + 1 }
         ensures nodes { IfOk result
             (λ w. walk_nodes w.0 ≤ 2 * length (below prefix.now (seen_pairs self.entry))) }
-        ensures places { IfOk result (λ w. HasPlaces w.0 (length_bound self.entry)) }
+        ensures places { IfOk result (λ w. HasPlaces w.0.levels (length_bound self.entry)) }
     {
         let alloc = self.alloc();
         let longest = self.longest();

@@ -1,13 +1,14 @@
 //! The descent to an end, and walks back from there.
-ghost use Rattle.std.specs.Prelude.{◌≡◌, ◌≢◌, ◌≤◌, ◌<◌, ◌+◌, ◌++◌, [], ◌∷◌, length, reverse, vec_capacity, vec_len};
+ghost use Rattle.std.specs.Prelude.{◌≡◌, ◌≢◌, ◌≤◌, ◌<◌, ◌+◌, ◌++◌, [], ◌∷◌, length, vec_capacity, vec_len};
 ghost use Rattle.std.specs.Prelude.{IfOk, MatchOption, OnErr, option_map};
 ghost use Rattle.std.specs.Option.{option_copied};
 ghost use Rattle.std.specs.declared.cmp.Ordering.TheVariants.{Greater};
 ghost use Rattle.rart_keys.specs.SortedMap.{longest_key};
-ghost use Rattle.rart_nodes.specs.ranges.BackWalk.{IsBackWalk, remaining_entries};
+ghost use Rattle.rart_nodes.specs.ranges.BackWalk.{IsBackWalkAt, back_walk_entries};
 ghost use Rattle.rart_nodes.specs.ranges.Steps.{AllCompare, StepsUntil};
 ghost use Rattle.rart_trie.specs.ranges.Under.{children_before};
 ghost use Rattle.rart_nodes.specs.ranges.UpperBounds.{entries_until};
+ghost use Rattle.rart_nodes.specs.walks.WalkSteps.{HasPlaces};
 ghost use Rattle.rart_nodes.specs.tries.SeenTrees.{length_bound, seen_keys, seen_pairs, seen_tree};
 ghost use Rattle.rart_trie.specs.tries.Trie.{children_in, pairs_of, prefix_of};
 ghost use Rattle.rart_trie.specs.walks.ProbeCount.{entered_nodes, probe_count};
@@ -120,12 +121,10 @@ impl<'a, P: Partial, V, C: Count> BackWalk<'a, P, V, C> {
         requires bounds_keys { longest_key (pairs_of top.node.now) ≤ self.old.longest }
         requires reserved { self.old.longest ≤ T.capacity path.old }
         requires places { self.old.longest < vec_capacity self.old.levels }
-        ensures path { IsBackWalk self.new.longest (vec_capacity self.new.levels)
-            (T.kept path.new) (reverse self.new.levels.items) }
+        ensures path { IsBackWalkAt self.new (T.kept path.new) }
         ensures reserved { self.new.longest ≤ T.capacity path.new }
         ensures requested { T.requested path.new ≡ T.requested path.old }
-        ensures entries { remaining_entries T.grown (T.kept path.new)
-            (reverse self.new.levels.items)
+        ensures entries { back_walk_entries T.grown (T.kept path.new) self.new
             ≡ entries_until included end.now (entries_of T.grown top.entry.node.now) }
         ensures visits { C.number counter.new
             ≡ C.number counter.old + entered_nodes end.now top.entry.node.now }
@@ -156,21 +155,19 @@ impl<'a, K: KeyTrait, V, C: Count> Seen<'a, K, V, C> {
         counter: &mut C,
     ) -> Result<(BackWalk<'a, K::PartialType, V, C>, T), AllocError>
         requires joins { Joins T.grown }
-        ensures path { IfOk result (λ w. IsBackWalk w.0.longest (vec_capacity w.0.levels)
-            (T.kept w.1) (reverse w.0.levels.items)) }
+        ensures path { IfOk result (λ w. IsBackWalkAt w.0 (T.kept w.1)) }
         ensures reserved { IfOk result (λ w. w.0.longest ≤ T.capacity w.1) }
         ensures requested { IfOk result (λ w. T.requested w.1 ≤ length_bound self.entry) }
         ensures longest { IfOk result (λ w. w.0.longest ≤ length_bound self.entry) }
         ensures entries { IfOk result
-            (λ w. remaining_entries T.grown (T.kept w.1) (reverse w.0.levels.items)
+            (λ w. back_walk_entries T.grown (T.kept w.1) w.0
             ≡ entries_until included end.now (tree_entries T.grown (seen_tree self.entry))) }
         ensures allocates { OnErr result (seen_pairs self.entry ≢ []) }
         ensures unvisited { OnErr result (counter.new ≡ counter.old) }
         ensures visits { IfOk result (λ _. C.number counter.new
             ≡ C.number counter.old + probe_count (seen_keys self.entry) end.now) }
         ensures bound { C.number counter.new ≤ C.number counter.old + length end.now + 1 }
-        ensures places { IfOk result
-            (λ w. w.0.levels.items ≢ [] → vec_capacity w.0.levels ≡ length_bound self.entry + 1) }
+        ensures places { IfOk result (λ w. HasPlaces w.0.levels (length_bound self.entry)) }
     {
         let alloc = self.alloc();
         let longest = self.longest();

@@ -1,6 +1,7 @@
 //! Walks over the pairs below a prefix, from the last.
-ghost use Rattle.std.specs.Prelude.{◌≡◌, ◌≢◌, ◌≤◌, ◌+◌, [], length, reverse, vec_capacity, IfOk, OnErr};
-ghost use Rattle.rart_nodes.specs.ranges.BackWalk.{IsBackWalk, remaining_entries};
+ghost use Rattle.std.specs.Prelude.{◌≡◌, ◌≢◌, ◌≤◌, ◌+◌, [], length, IfOk, OnErr};
+ghost use Rattle.rart_nodes.specs.ranges.BackWalk.{IsBackWalkAt, back_walk_entries};
+ghost use Rattle.rart_nodes.specs.walks.WalkSteps.{HasPlaces};
 ghost use Rattle.rart_nodes.specs.tries.SeenTrees.{length_bound, seen_keys, seen_pairs, seen_tree};
 ghost use Rattle.rart_nodes.specs.walks.Part.{part_entries, tree_part};
 ghost use Rattle.rart_trie.specs.walks.ProbeCount.{probe_count};
@@ -21,21 +22,19 @@ impl<'a, K: KeyTrait, V, C: Count> Seen<'a, K, V, C> {
         prefix: &[u8],
         counter: &mut C,
     ) -> Result<(BackWalk<'a, K::PartialType, V, C>, T), AllocError>
-        ensures path { IfOk result (λ w. IsBackWalk w.0.longest (vec_capacity w.0.levels)
-            (T.kept w.1) (reverse w.0.levels.items)) }
+        ensures path { IfOk result (λ w. IsBackWalkAt w.0 (T.kept w.1)) }
         ensures reserved { IfOk result (λ w. w.0.longest ≤ T.capacity w.1) }
         ensures requested { IfOk result (λ w. T.requested w.1 ≤ length_bound self.entry) }
         ensures longest { IfOk result (λ w. w.0.longest ≤ length_bound self.entry) }
         ensures entries { IfOk result
-            (λ w. remaining_entries T.grown (T.kept w.1) (reverse w.0.levels.items)
+            (λ w. back_walk_entries T.grown (T.kept w.1) w.0
             ≡ part_entries T.grown (tree_part T.grown [] prefix.now (seen_tree self.entry))) }
         ensures allocates { OnErr result (seen_pairs self.entry ≢ []) }
         ensures unvisited { OnErr result (counter.new ≡ counter.old) }
         ensures visits { IfOk result (λ _. C.number counter.new
             ≡ C.number counter.old + probe_count (seen_keys self.entry) prefix.now) }
         ensures bound { C.number counter.new ≤ C.number counter.old + length prefix.now + 1 }
-        ensures places { IfOk result
-            (λ w. w.0.levels.items ≢ [] → vec_capacity w.0.levels ≡ length_bound self.entry + 1) }
+        ensures places { IfOk result (λ w. HasPlaces w.0.levels (length_bound self.entry)) }
     {
         let alloc = self.alloc();
         let longest = self.longest();
