@@ -216,7 +216,8 @@ module _ {V : Type 0} where
       by-past a (g q) s [] (value_at [] v ++ es) (rw (j q) e)
       ∙ ap (segments_after (g q)) (by-own a Equal [] v es refl
       ∙ ap (λ z. value_at [] (if_included (a Equal) v) ++ z) (by-alike a Greater [] es
-      (from-alike Greater 0 [] es (λ k i. from-longer 0 k i) (rw (joined-children g cs j) (children_pairs-from 0 cs (IsCanonical-test (node q v n cs) c).2)))))
+      (from-alike Greater 0 [] es (λ k i. from-longer 0 k i) (rw (joined-children g cs j) (children_pairs-from 0 cs
+      (IsCanonical-test (node q v n cs) c).2)))))
 
   -- the string continues by b
   pub by-on : (a : Ordering → Bool) (g : Grown) (s r : List ℕ) (b : ℕ) (t : Trie V) → Joins g → is_canonical t ≡ true
