@@ -48,7 +48,7 @@ from-longer : (low : ℕ) (k : List ℕ) → IsFrom low k → slice_cmp nat_cmp 
 from-longer low [] f = absurd f
 from-longer low (x ∷ k) f = refl
 
--- a test of images is a test of what they are of
+-- to filter the images of a list is to filter the list
 pub filter-map : {X Y : Type 0} (f : X → Y) (p : X → Bool) (q : Y → Bool) (xs : List X) → ((x : X) → q (f x) ≡ p x)
     → filter q (map f xs) ≡ map f (filter p xs)
 filter-map f p q [] h = refl
@@ -108,9 +108,8 @@ module _ {V : Type 0} where
   by-own : (a : Ordering → Bool) (o : Ordering) (s : List ℕ) (v : Option V) (es : List (SegmentList × V))
       → slice_cmp nat_cmp [] s ≡ o → entries_by a s (value_at [] v ++ es)
       ≡ value_at [] (if_included (a o) v) ++ entries_by a s es
-  by-own a o s None es e = elim (a o) as (λ z. entries_by a s es ≡ value_at [] (if_included z None) ++ entries_by a s
-      es)
-      [ true ↦ refl | false ↦ refl ]
+  by-own a o s None es e = elim (a o)
+      as (λ z. entries_by a s es ≡ value_at [] (if_included z None) ++ entries_by a s es) [ true ↦ refl | false ↦ refl ]
   by-own a o s (Some v) es e = rw e (elim (a o) as (λ z. (if z then ([], v) ∷ entries_by a s es else entries_by a s es)
       ≡ value_at [] (if_included z (Some v)) ++ entries_by a s es) [ true ↦ refl | false ↦ refl ])
 
@@ -194,8 +193,8 @@ module _ {V : Type 0} where
         by-under a g b c r t j l w.1,
         by-children a g b (suc c) r cs j w.3,
       )
-      (sym (append_assoc (list_if (a Less) (entries_of g t)) (list_if (a Less) (children_entries g
-      (children_under b cs)))
+      (sym (append_assoc (list_if (a Less) (entries_of g t))
+      (list_if (a Less) (children_entries g (children_under b cs)))
       rest) ∙ ap (λ z. z ++ rest) (list_if-append (a Less) (entries_of g t)
       (children_entries g (children_under b cs)))))) (order b c)
 
@@ -216,8 +215,8 @@ module _ {V : Type 0} where
       by-past a (g q) s [] (value_at [] v ++ es) (rw (j q) e)
       ∙ ap (segments_after (g q)) (by-own a Equal [] v es refl
       ∙ ap (λ z. value_at [] (if_included (a Equal) v) ++ z) (by-alike a Greater [] es
-      (from-alike Greater 0 [] es (λ k i. from-longer 0 k i) (rw (joined-children g cs j) (children_pairs-from 0 cs
-      (IsCanonical-test (node q v n cs) c).2)))))
+      (from-alike Greater 0 [] es (λ k i. from-longer 0 k i) (rw (joined-children g cs j)
+      (children_pairs-from 0 cs (IsCanonical-test (node q v n cs) c).2)))))
 
   -- the string continues by b
   pub by-on : (a : Ordering → Bool) (g : Grown) (s r : List ℕ) (b : ℕ) (t : Trie V) → Joins g → is_canonical t ≡ true

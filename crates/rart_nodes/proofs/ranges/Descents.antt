@@ -29,18 +29,19 @@ use Rattle.rart_nodes.proofs.walks.PathLemmas.{is-child, no-levels, path-on}
 use Rattle.rart_nodes.proofs.walks.WalkLemmas.{pushed}
 
 module _ {V : Type 0} where
-  pub step-visits : (o : Ordering) (own : Option ℕ) (way : Option V) (h : Bool) (s : List ℕ) (t : Trie V)
+  pub step-visits : (o : Ordering) (own : Option ℕ) (passed : Option V) (h : Bool) (s : List ℕ) (t : Trie V)
       (v : Option V) (e : Option ℕ) (n : Option (Trie V)) (r : List ℕ) → is_canonical t ≡ true
-      → Steps o own way h s t v e n r → entered_nodes s t ≡ 1 + tree_entered r n
-  step-visits o own way h s t v e n r c (whole a x y z) = rw z ((step-left t s (sym a.0)).1)
-  step-visits o own way h s t v e n r c (own_key f l x y z) = rw z ((step-ended t s r (sym f) (sym l)).1)
-  step-visits o own way h s t v e n r c (in_child b f l x y z) = rw z ((step-on t s r b c (sym f) (sym l)).1)
+      → Steps o own passed h s t v e n r → entered_nodes s t ≡ 1 + tree_entered r n
+  step-visits o own passed h s t v e n r c (whole a x y z) = rw z ((step-left t s (sym a.0)).1)
+  step-visits o own passed h s t v e n r c (own_key f l x y z) = rw z ((step-ended t s r (sym f) (sym l)).1)
+  step-visits o own passed h s t v e n r c (in_child b f l x y z) = rw z ((step-on t s r b c (sym f) (sym l)).1)
 
-  pub step-child : (o : Ordering) (own : Option ℕ) (way : Option V) (h : Bool) (s : List ℕ) (t : Trie V)
-      (v : Option V) (e : Option ℕ) (n : Option (Trie V)) (r : List ℕ) → Steps o own way h s t v e n r → IsChildOf t n
-  step-child o own way h s t v e n r (whole a x y z) = rw z tt
-  step-child o own way h s t v e n r (own_key f l x y z) = rw z tt
-  step-child o own way h s t v e n r (in_child b f l x y z) = is-child b t n z
+  pub step-child : (o : Ordering) (own : Option ℕ) (passed : Option V) (h : Bool) (s : List ℕ) (t : Trie V)
+      (v : Option V) (e : Option ℕ) (n : Option (Trie V)) (r : List ℕ) → Steps o own passed h s t v e n r
+      → IsChildOf t n
+  step-child o own passed h s t v e n r (whole a x y z) = rw z tt
+  step-child o own passed h s t v e n r (own_key f l x y z) = rw z tt
+  step-child o own passed h s t v e n r (in_child b f l x y z) = is-child b t n z
 
   -- the first value is that of the node where the descent ends
   abbrev pub IsFirst : Option V → Option (Trie V) → Type 0

@@ -1,4 +1,4 @@
--- The levels of a path as it continues to a node, whichever way a walk goes over its children.
+-- The levels of a path as it continues to a node, for walks in both directions.
 use Rattle.std.proofs.Common.{◌≡◌, ℕ, zero, suc, ◌+◌, ◌<◌, ◌≤◌, ⊎_elim, Bool, true, false, cond, eqb, ltb, List, []}
 use Rattle.std.proofs.Common.{◌∷◌, ◌++◌}
 use Rattle.std.proofs.Common.{length, length-append, take, reverse, Option, Some, None, refl, sym, ap, ◌∙◌, arith}

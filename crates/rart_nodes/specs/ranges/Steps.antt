@@ -21,14 +21,14 @@ children_after (Some b) cs = children_above b cs
 -- A walk bounded by s yields the keys that compare with s as o. At the node t it yields the value v and the children
 -- beyond the byte e, and the descent continues at n, where r remains of s. Either it yields all of t; or s is t's own
 -- key, included if h, and the children are those beyond `own`; or s continues as r in the child at b, and the value is
--- `way`.
-pub data Steps {V : Type 0} (o : Ordering) (own : Option ℕ) (way : Option V) (h : Bool) (s : List ℕ) (t : Trie V)
+-- `passed`.
+pub data Steps {V : Type 0} (o : Ordering) (own : Option ℕ) (passed : Option V) (h : Bool) (s : List ℕ) (t : Trie V)
     (v : Option V) (e : Option ℕ) (n : Option (Trie V)) (r : List ℕ) : Type 0 where
-  whole : AllCompare o (prefix_of t) s → v ≡ value_of t → e ≡ None → n ≡ None → Steps o own way h s t v e n r
+  whole : AllCompare o (prefix_of t) s → v ≡ value_of t → e ≡ None → n ≡ None → Steps o own passed h s t v e n r
   own_key : strip_prefix (prefix_of t) s ≡ Some r → slice_get r 0 ≡ None → v ≡ if_included h (value_of t) → e ≡ own
-      → n ≡ None → Steps o own way h s t v e n r
-  in_child : (b : ℕ) → strip_prefix (prefix_of t) s ≡ Some r → slice_get r 0 ≡ Some b → v ≡ way → e ≡ Some b
-      → n ≡ child_in b t → Steps o own way h s t v e n r
+      → n ≡ None → Steps o own passed h s t v e n r
+  in_child : (b : ℕ) → strip_prefix (prefix_of t) s ≡ Some r → slice_get r 0 ≡ Some b → v ≡ passed → e ≡ Some b
+      → n ≡ child_in b t → Steps o own passed h s t v e n r
 
 -- A walk from s yields the value first, then what is from r on at n, and then the children after e.
 abbrev pub StepsFrom : {V : Type 0} → Bool → List ℕ → Trie V → Option V → Option ℕ → Option (Trie V) → List ℕ → Type 0
