@@ -48,56 +48,6 @@ impl<'a, K: KeyTrait, V, C: Count> Seen<'a, K, V, C> {
         Ok(Some((path, value)))
     }
 
-    fn with_longest_view<F: FnOnce(LendingKeyView<'_, '_>, &V) + Drop>(
-        self,
-        probe: &[u8],
-        f: F,
-        counter: &mut C,
-    ) -> Result<bool, TreeError>
-        requires callable { CanSeeFound F.FnOnce f (seen_keys self)
-            (longest_match probe.now (seen_pairs self)) }
-        ensures calls { IfOk result (SeesFound F.FnOnce f (seen_keys self.entry)
-            (longest_match probe.now (seen_pairs self.entry))) }
-        ensures memory { IfErr result (MayLackMatch probe.now (seen_pairs self.entry)) }
-        ensures looked_up { OnErr result (C.number counter.new
-            ≡ C.number counter.old + probe_count (seen_keys self.entry) probe.now) }
-        ensures visits { OnOk result (C.number counter.new
-            ≤ C.number counter.old + match_visits probe.now (seen_pairs self.entry)) }
-        ensures bound { C.number counter.new ≤ C.number counter.old + 3 * length probe.now + 2 }
-    {
-        let Some((path, value)) = self.longest_path(probe, counter)? else {
-            return Ok(false);
-        };
-        f(LendingKeyView::of(path.segments()), value);
-        Ok(true)
-    }
-
-    fn lend_longest_view<F: FnMut(LendingKeyView<'_, '_>, &V)>(
-        self,
-        probe: &[u8],
-        f: &mut F,
-        counter: &mut C,
-    ) -> Result<bool, TreeError>
-        requires callable { CanShowFound F.FnMut f.old (seen_keys self)
-            (longest_match probe.now (seen_pairs self)) }
-        ensures stays_callable { F.IsAlwaysCallable f.old → F.IsAlwaysCallable f.new }
-        ensures calls { IfOk result (ShowsFound F.FnMut f.old (seen_keys self.entry)
-            (longest_match probe.now (seen_pairs self.entry)) f.new) }
-        ensures unchanged { OnErr result (f.new ≡ f.old) }
-        ensures memory { IfErr result (MayLackMatch probe.now (seen_pairs self.entry)) }
-        ensures looked_up { OnErr result (C.number counter.new
-            ≡ C.number counter.old + probe_count (seen_keys self.entry) probe.now) }
-        ensures visits { OnOk result (C.number counter.new
-            ≤ C.number counter.old + match_visits probe.now (seen_pairs self.entry)) }
-        ensures bound { C.number counter.new ≤ C.number counter.old + 3 * length probe.now + 2 }
-    {
-        let Some((path, value)) = self.longest_path(probe, counter)? else {
-            return Ok(false);
-        };
-        f(LendingKeyView::of(path.segments()), value);
-        Ok(true)
-    }
-
     /// Calls `f` once with a view of the longest key that begins `probe`, cut at the branch points, and with its value.
     /// Returns whether there is such a key. `f` must be callable with that key. The caller keeps `f`.
     ///
@@ -129,7 +79,11 @@ impl<'a, K: KeyTrait, V, C: Count> Seen<'a, K, V, C> {
         ensures bound { C.number counter.new
             ≤ C.number counter.old + 3 * length (K.bytes probe.now) + 2 }
     {
-        self.lend_longest_view(probe.as_ref(), f, counter)
+        let Some((path, value)) = self.longest_path(probe.as_ref(), counter)? else {
+            return Ok(false);
+        };
+        f(LendingKeyView::of(path.segments()), value);
+        Ok(true)
     }
 
     /// Calls `f` as
@@ -161,7 +115,11 @@ impl<'a, K: KeyTrait, V, C: Count> Seen<'a, K, V, C> {
         ensures bound { C.number counter.new
             ≤ C.number counter.old + 3 * length (K.bytes probe.now) + 2 }
     {
-        self.with_longest_view(probe.as_ref(), f, counter)
+        let Some((path, value)) = self.longest_path(probe.as_ref(), counter)? else {
+            return Ok(false);
+        };
+        f(LendingKeyView::of(path.segments()), value);
+        Ok(true)
     }
 }
 

@@ -1,21 +1,22 @@
-use Rattle.std.proofs.Common.{List, ℕ, IfOk, sym, subst}
-use Rattle.std.specs.Option.{option_copied}
-use Rattle.rart_keys.specs.Filters.{longest_match}
-use Rattle.rart_keys.specs.SortedMap.{keys_of}
-use Rattle.rart_trie.specs.tries.Tree.{tree_pairs}
-use Rattle.rart_nodes.specs.walks.Viewed.{CanShowFound, ShowsFound}
+use Rattle.std.proofs.Common.{rules, of_calls, ap, ◌∙◌}
+use Rattle.rart_nodes.specs.tries.SeenTrees.{seen_keys}
+use Rattle.rart_nodes.specs.walks.PathParts.{lent_segments}
+use Rattle.rart_nodes.proofs.walks.CallLemmas.{can-show}
+use Rattle.rart_trie.proofs.edits.CallbackLemmas.{always-on}
+use Rattle.rart_nodes.proofs.walks.ShownCuts.{shows-cut}
 use Rattle.rart_nodes.proofs.node.seen.Seen.with_longest_prefix_match_view_by_ref_k_counted.Goals as goal
 
-pub lend_longest_view-requires : goal.lend_longest_view-requires
-lend_longest_view-requires g c = record {
-  callable = subst (λ (q : List ℕ). CanShowFound g.F.FnMut c.args.f.now
-      (keys_of (tree_pairs (option_copied c.args.self.root)))
-      (longest_match q (tree_pairs (option_copied c.args.self.root)))) (sym c.as_ref.ensures) c.requires.callable;
-}
+pub f-requires : goal.f-requires
+f-requires g c = can-show g.F.FnMut c.args.f.now (seen_keys c.args.self) _ c.in-Some.path c.in-Some.value
+    c.of.result (rw c.as_ref.ensures c.requires.callable) (rw c.in-Some.is at c.in_ok-path.ensures.found)
+    (c.of.ensures ∙ ap lent_segments c.segments.ensures)
+
+pub returns-clause-stays_callable : goal.returns-clause-stays_callable
+returns-clause-stays_callable g c = always-on g.F.FnMut c.args.f.now (c.of.result, (c.in-Some.value, tt)) tt
+    c.f.new.self
+    (search (rules, of_calls))
 
 pub returns-clause-calls : goal.returns-clause-calls
-returns-clause-calls g c =
-    subst (λ (q : List ℕ). IfOk c.lend_longest_view.result
-    (ShowsFound g.F.FnMut c.args.f.now (keys_of (tree_pairs (option_copied c.args.self.root)))
-    (longest_match q (tree_pairs (option_copied c.args.self.root))) c.lend_longest_view.new.f)) c.as_ref.ensures
-    c.lend_longest_view.ensures.calls
+returns-clause-calls g c = shows-cut (seen_keys c.args.self) c.in-Some.path c.in-Some.value c.of.result g.F.FnMut
+    c.args.f.now c.f.new.self _ (rw (c.in-Some.is, c.as_ref.ensures) at c.in_ok-path.ensures.found) (c.of.ensures
+    ∙ ap lent_segments c.segments.ensures) (search (rules, of_calls))
