@@ -13,6 +13,7 @@ use std::marker::Model;
 mod children;
 mod edits;
 mod ends;
+mod fill;
 mod node_trait;
 mod rest;
 mod storage;

@@ -11,6 +11,7 @@ ghost use Rattle.rart_trie.specs.tries.Trie.{IsCanonical, leaf, pairs_of, prefix
 ghost use Rattle.rart_trie.specs.tries.Trie.{trie_lookup, trie_put};
 
 use crate::node::DefaultNode;
+use crate::node::fill::fill;
 use crate::node::rest::strip_prefix;
 use crate::node::storage::Storage;
 use crate::refused::{NotInserted, Refused};
@@ -93,17 +94,17 @@ impl<P: Partial, V> DefaultNode<P, V> {
             return match self.split(alloc, key, value) {
                 Ok(()) => Ok(()),
                 Err(Refused { error: _, value }) => {
-                    give_back(back, Some(value));
+                    fill(back, Some(value));
                     Err(InsertStop::Memory)
                 }
             };
         };
         let Some(&byte) = rest.first() else {
             if only_new && self.storage.has_value() {
-                give_back(back, Some(value));
+                fill(back, Some(value));
                 return Err(InsertStop::Stored);
             }
-            give_back(back, self.storage.replace_value(value));
+            fill(back, self.storage.replace_value(value));
             return Ok(());
         };
         if let Some(child) = self.storage.seek_child_mut(byte) {
@@ -115,7 +116,7 @@ impl<P: Partial, V> DefaultNode<P, V> {
                 Ok(())
             }
             Err(_) => {
-                give_back(back, Some(value));
+                fill(back, Some(value));
                 Err(InsertStop::Memory)
             }
         }
@@ -228,15 +229,4 @@ pub(super) fn add_leaf<P: Partial, V>(
     ensures value { stored_value storage.new ≡ stored_value storage.old }
 {
     storage.add_within(b, DefaultNode::new_leaf(P::from_slice(rest), value));
-}
-
-/// Stores `value` in an empty out-parameter.
-pub(super) fn give_back<V>(back: &mut Option<V>, value: Option<V>)
-    requires { back.old ≡ None }
-    ensures { back.new ≡ value }
-{
-    match mem::replace(back, value) {
-        Some(_) => unreachable!(),
-        None => {}
-    }
 }

@@ -13,8 +13,8 @@ ghost use Rattle.rart_trie.specs.tries.Tree.{IsCanonicalTree, tree_pairs};
 ghost use Rattle.rart_trie.specs.tries.Trie.{IsCanonical, children_in, no_children, pairs_of};
 
 use crate::node::DefaultNode;
-use crate::node::edits::insert::give_back;
 use crate::node::ends::{End, copy_of};
+use crate::node::fill::fill;
 use rart_keys::Partial;
 use rart_parts::TreeError;
 use std::alloc::Global;
@@ -42,7 +42,7 @@ impl<P: Partial, V> DefaultNode<P, V> {
     {
         extend(path, &self.prefix);
         let Some((byte, _)) = self.end_child(end) else {
-            give_back(removed, self.storage.take_value());
+            fill(removed, self.storage.take_value());
             self.merge_with_only_child();
             return Ok(());
         };

@@ -12,7 +12,7 @@ ghost use Rattle.rart_trie.specs.tries.Trie.{IsCanonical, capacity_in, children_
 ghost use Rattle.rart_trie.specs.tries.Trie.{prefix_of, trie_remove, value_of, child_in};
 
 use crate::node::DefaultNode;
-use crate::node::edits::insert::give_back;
+use crate::node::fill::fill;
 use crate::node::rest::strip_prefix;
 use rart_keys::Partial;
 use rart_parts::TreeError;
@@ -107,7 +107,7 @@ impl<P: Partial, V> DefaultNode<P, V> {
     {
         match self.take_child(alloc, byte)? {
             Some(child) => {
-                give_back(removed, child.into_value());
+                fill(removed, child.into_value());
                 Ok(())
             }
             None => unreachable!(),
@@ -137,7 +137,7 @@ impl<P: Partial, V> DefaultNode<P, V> {
             return Ok(());
         };
         let Some(&byte) = rest.first() else {
-            give_back(removed, self.storage.take_value());
+            fill(removed, self.storage.take_value());
             self.merge_with_only_child();
             return Ok(());
         };

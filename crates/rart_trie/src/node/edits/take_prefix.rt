@@ -18,8 +18,8 @@ ghost use Rattle.rart_trie.specs.tries.Trie.{IsCanonical, child_in, children_in,
 
 use crate::count::Count;
 use crate::node::DefaultNode;
-use crate::node::edits::insert::give_back;
 use crate::node::edits::pop::extend;
+use crate::node::fill::fill;
 use crate::node::rest::strip_prefix;
 use rart_keys::Partial;
 use rart_parts::TreeError;
@@ -63,7 +63,7 @@ impl<P: Partial, V> DefaultNode<P, V> {
         match self.take_child(alloc, byte)? {
             Some(mut child) => {
                 child.prefix = path.partial_extended_with(&child.prefix);
-                give_back(taken, Some(child));
+                fill(taken, Some(child));
                 Ok(())
             }
             None => unreachable!(),

@@ -20,6 +20,7 @@ ghost use Rattle.rart_trie.specs.edits.Updates.{UpdatesMap};
 
 use crate::node::DefaultNode;
 use crate::node::edits::insert::add_leaf;
+use crate::node::fill::fill;
 use crate::node::rest::strip_prefix;
 use crate::refused::Refused;
 use crate::slot::{Outcome, Slot, SlotUpdate, UpdateError, Visit, show, show_vacant};
@@ -27,15 +28,14 @@ use rart_keys::Partial;
 use rart_parts::TreeError;
 use std::alloc::Global;
 
-/// Stores a value in an empty place.
-fn fill<V>(place: &mut Option<V>, value: V)
-    requires { place.old ≡ None }
-    ensures { place.new ≡ Some value }
+/// Returns the error of a new key for a full tree.
+fn no_place<V>(value: V) -> UpdateError<V>
+    ensures { result ≡ UpdateError.Insert (record { error = TreeError.Full; value = value }) }
 {
-    match place.replace(value) {
-        None => {}
-        Some(_) => unreachable!(),
-    }
+    UpdateError::Insert(Refused {
+        error: TreeError::Full,
+        value,
+    })
 }
 
 impl<P: Partial, V> DefaultNode<P, V> {
@@ -56,10 +56,7 @@ impl<P: Partial, V> DefaultNode<P, V> {
             SlotUpdate::Keep | SlotUpdate::Remove => Ok(Outcome::Absent),
             SlotUpdate::Insert(value) => {
                 if full {
-                    return Err(UpdateError::Insert(Refused {
-                        error: TreeError::Full,
-                        value,
-                    }));
+                    return Err(no_place(value));
                 }
                 match self.split(alloc, key, value) {
                     Ok(()) => Ok(Outcome::New),
@@ -90,10 +87,7 @@ impl<P: Partial, V> DefaultNode<P, V> {
             SlotUpdate::Keep | SlotUpdate::Remove => Ok(Outcome::Absent),
             SlotUpdate::Insert(value) => {
                 if full {
-                    return Err(UpdateError::Insert(Refused {
-                        error: TreeError::Full,
-                        value,
-                    }));
+                    return Err(no_place(value));
                 }
                 match self.storage.reserve_slot(alloc, byte) {
                     Ok(()) => {
@@ -139,10 +133,7 @@ impl<P: Partial, V> DefaultNode<P, V> {
                 SlotUpdate::Keep | SlotUpdate::Remove => Ok(Outcome::Absent),
                 SlotUpdate::Insert(value) => {
                     if full {
-                        return Err(UpdateError::Insert(Refused {
-                            error: TreeError::Full,
-                            value,
-                        }));
+                        return Err(no_place(value));
                     }
                     self.storage.fill_value(value);
                     Ok(Outcome::New)
@@ -266,12 +257,9 @@ impl<P: Partial, V> DefaultNode<P, V> {
             SlotUpdate::Keep | SlotUpdate::Remove => Ok(Outcome::Absent),
             SlotUpdate::Insert(value) => {
                 if full {
-                    return Err(UpdateError::Insert(Refused {
-                        error: TreeError::Full,
-                        value,
-                    }));
+                    return Err(no_place(value));
                 }
-                fill(root, DefaultNode::new_leaf(P::from_slice(key), value));
+                fill(root, Some(DefaultNode::new_leaf(P::from_slice(key), value)));
                 Ok(Outcome::New)
             }
         }

@@ -5,6 +5,7 @@ ghost use Rattle.rart_parts.specs.Errors.{IsMemory};
 ghost use Rattle.rart_trie.specs.storages.Capacities.{widened_capacity};
 ghost use Rattle.rart_trie.specs.storages.Stored.{child_entries, storage_capacity, stored_value};
 
+use crate::node::fill::fill;
 use crate::node::storage::Storage;
 use crate::node::storage::inner::Inner;
 use rart_parts::mapping::{DirectMapping, IndexedMapping, NodeMapping, SortedKeyedMapping};
@@ -158,25 +159,25 @@ impl<V, N> Storage<V, N> {
         match self {
             Storage::Empty | Storage::Leaf(_) => {
                 let mut next = boxed_sorted(alloc)?;
-                next.fill(self.take_value());
+                fill(&mut next.value, self.take_value());
                 self.replace_empty(Storage::Node4(next));
             }
             Storage::Node4(inner) => {
                 let mut next = boxed_sorted(alloc)?;
                 next.map.fill_from_resized(&mut inner.map);
-                next.fill(inner.value.take());
+                fill(&mut next.value, inner.value.take());
                 self.replace_empty(Storage::Node16(next));
             }
             Storage::Node16(inner) => {
                 let mut next = boxed_indexed(alloc)?;
                 next.map.fill_from_sorted_keyed(&mut inner.map);
-                next.fill(inner.value.take());
+                fill(&mut next.value, inner.value.take());
                 self.replace_empty(Storage::Node48(next));
             }
             Storage::Node48(inner) => {
                 let mut next = boxed_direct(alloc)?;
                 next.map.fill_from_indexed(&mut inner.map);
-                next.fill(inner.value.take());
+                fill(&mut next.value, inner.value.take());
                 self.replace_empty(Storage::Node256(next));
             }
             Storage::Node256(_) => unreachable!(),

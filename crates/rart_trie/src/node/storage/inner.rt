@@ -1,8 +1,6 @@
 //! What a node with room for children has on the heap, its value beside the map of its children.
 ghost use Rattle.std.specs.Prelude.{◌≡◌, None};
 
-use std::mem;
-
 /// A value and a map of children.
 #[derive(Drop)]
 pub(crate) struct Inner<V, M> {
@@ -17,18 +15,6 @@ impl<V, M> Inner<V, M> {
         ensures map { result.map ≡ map }
     {
         Inner { value: None, map }
-    }
-
-    /// Stores a value, or none, where there is none.
-    pub(super) fn fill(&mut self, value: Option<V>)
-        requires { self.old.value ≡ None }
-        ensures value { self.new.value ≡ value }
-        ensures map { self.new.map ≡ self.old.map }
-    {
-        match mem::replace(&mut self.value, value) {
-            None => {}
-            Some(_) => unreachable!(),
-        }
     }
 
     /// Returns the map. There is no value.

@@ -7,6 +7,7 @@ ghost use Rattle.rart_trie.specs.storages.Capacities.{previous_capacity};
 ghost use Rattle.rart_trie.specs.storages.Stored.{ShrinksStored, child_entries, capacity_without, storage_capacity};
 ghost use Rattle.rart_trie.specs.storages.Stored.{stored_value};
 
+use crate::node::fill::fill;
 use crate::node::storage::Storage;
 use crate::node::storage::grow::{boxed_indexed, boxed_sorted};
 use rart_parts::TreeError;
@@ -71,7 +72,7 @@ impl<V, N> Storage<V, N> {
                 let mut next = boxed_sorted(alloc)?;
                 let child = inner.map.delete_child(b);
                 next.map.fill_from_resized(&mut inner.map);
-                next.fill(inner.value.take());
+                fill(&mut next.value, inner.value.take());
                 self.replace_empty(Storage::Node4(next));
                 Ok(child)
             }
@@ -79,7 +80,7 @@ impl<V, N> Storage<V, N> {
                 let mut next = boxed_sorted(alloc)?;
                 let child = inner.map.delete_child(b);
                 next.map.fill_from_indexed(&mut inner.map);
-                next.fill(inner.value.take());
+                fill(&mut next.value, inner.value.take());
                 self.replace_empty(Storage::Node16(next));
                 Ok(child)
             }
@@ -87,7 +88,7 @@ impl<V, N> Storage<V, N> {
                 let mut next = boxed_indexed(alloc)?;
                 let child = inner.map.delete_child(b);
                 next.map.fill_from_direct(&mut inner.map);
-                next.fill(inner.value.take());
+                fill(&mut next.value, inner.value.take());
                 self.replace_empty(Storage::Node48(next));
                 Ok(child)
             }

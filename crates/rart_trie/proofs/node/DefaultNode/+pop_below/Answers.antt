@@ -34,7 +34,7 @@ merge_with_only_child-requires-clause-within g t c = rw c.take_value.ensures.emp
 
 pub returns-in_default-clause-ok : goal.returns-in_default-clause-ok
 returns-in_default-clause-ok g t c =
-    pops-as c.args.end _ _ _ _ _ _ _ _ c.self.view_is (c.give_back.ensures ∙ c.take_value.ensures.taken)
+    pops-as c.args.end _ _ _ _ _ _ _ _ c.self.view_is (c.fill.ensures ∙ c.take_value.ensures.taken)
     (c.merge_with_only_child.ensures ∙ ap merged_if_needed (same-node _ None _ _ (child_entries c.self.inside.storage) _
     c.take_value.ensures.emptied.0 c.take_value.ensures.emptied.1 c.take_value.ensures.emptied.2))
     (pop-here c.args.end _ _ (g.P.Partial.bytes c.self.inside.prefix) (stored_value c.self.inside.storage) _

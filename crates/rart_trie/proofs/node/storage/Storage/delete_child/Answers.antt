@@ -79,7 +79,6 @@ returns-in_ok-next-in-Node16-clause-capacity g c =
     rw (
       c.replace_empty-in-Node16.ensures,
       c.in-Node16.is,
-      c.fill.ensures.map,
       c.deref_mut-in-Node16-4.ensures.value,
       c.fill_from_resized.ensures.filled,
       c.deref_mut-in-Node16-3.ensures.value,
@@ -93,7 +92,6 @@ returns-in_ok-next-in-Node48-clause-capacity g c =
     rw (
       c.replace_empty-in-Node48.ensures,
       c.in-Node48.is,
-      c.fill-in-Node48.ensures.map,
       c.deref_mut-in-Node48-4.ensures.value,
       c.fill_from_indexed.ensures.filled,
       c.deref_mut-in-Node48-3.ensures.value,
@@ -107,7 +105,6 @@ returns-in_ok-next-in-Node256-clause-capacity g c =
     rw (
       c.replace_empty-in-Node256.ensures,
       c.in-Node256.is,
-      c.fill-in-Node256.ensures.map,
       c.deref_mut-in-Node256-4.ensures.value,
       c.fill_from_direct.ensures.filled,
       c.deref_mut-in-Node256-3.ensures.value,
