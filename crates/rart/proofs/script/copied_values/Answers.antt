@@ -7,8 +7,12 @@ pub loop-value-init : goal.loop-value-init
 loop-value-init g c = record {
   so_far = rw (c.in_ok-values.ensures.items, c.in_ok-rest.ensures.values);
   room = room-begins _ _ _ _ c.in_ok-values.ensures.items c.in_ok-rest.ensures.values
-      (omega (arith, length-map c.args.tree.now.pairs (λ e. e.1), c.len.ensures.value,
-      c.in_ok-values.ensures.capacity));
+      (omega (
+        arith,
+        length-map c.args.tree.now.pairs (λ e. e.1),
+        c.len.ensures.value,
+        c.in_ok-values.ensures.capacity,
+      ));
 }
 
 pub loop-value-smaller : goal.loop-value-smaller
