@@ -5,9 +5,9 @@
 // callback, in the state that the last call left, but a proof knows nothing of what a closure borrows. To count or to
 // collect use the fold, which returns its state.
 
-pub mod both_ends;
+pub(crate) mod both_ends;
 mod callbacks;
-pub mod descending;
+pub(crate) mod descending;
 pub mod iter;
 mod prefixes;
 pub mod range;

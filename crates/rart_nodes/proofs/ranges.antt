@@ -1,7 +1,7 @@
 pub mod BackVisits
+pub mod BoundDescents
 pub mod BoundSteps
 pub mod ComparedEntries
-pub mod Descents
 pub mod DownLemmas
 pub mod LevelLemmas
 pub mod PotentialLemmas

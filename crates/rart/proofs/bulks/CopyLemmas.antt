@@ -20,16 +20,16 @@ module _ {A : Type 0} where
 
 -- the reserved capacity has room for what is left, beside what is copied
 module _ {A B : Type 0} where
-  pub room-begins : (copied : List A) (rest all : List B) (capacity : ℕ) → copied ≡ [] → rest ≡ all
+  pub capacity-begins : (copied : List A) (rest all : List B) (capacity : ℕ) → copied ≡ [] → rest ≡ all
       → length all ≤ capacity → length copied + length rest ≤ capacity
-  room-begins copied rest all capacity none whole reserved = omega (arith, ap length none, ap length whole)
+  capacity-begins copied rest all capacity none whole reserved = omega (arith, ap length none, ap length whole)
 
-  pub room-stays : (before after : List A) (x : A) (rest next : List B) (e : B) (capacity same : ℕ)
+  pub capacity-stays : (before after : List A) (x : A) (rest next : List B) (e : B) (capacity same : ℕ)
       → after ≡ before ++ x ∷ [] → rest ≡ e ∷ next → same ≡ capacity → length before + length rest ≤ capacity
       → length after + length next ≤ same
-  room-stays before after x rest next e capacity same pushed steps kept room
+  capacity-stays before after x rest next e capacity same pushed steps kept room
       = omega (arith, ap length pushed, length-append before (x ∷ []), ap length steps)
 
-  pub room-for-next : (copied : List A) (rest next : List B) (e : B) (len capacity : ℕ) → len ≡ length copied
+  pub capacity-for-next : (copied : List A) (rest next : List B) (e : B) (len capacity : ℕ) → len ≡ length copied
       → rest ≡ e ∷ next → length copied + length rest ≤ capacity → len < capacity
-  room-for-next copied rest next e len capacity counted steps room = omega (arith, ap length steps)
+  capacity-for-next copied rest next e len capacity counted steps room = omega (arith, ap length steps)

@@ -7,7 +7,7 @@ ghost use Rattle.rart_trie.specs.walks.Calls.{MayLackMemory};
 use rart_keys::KeyTrait;
 use rart_parts::TreeError;
 
-/// Adds copies of the pairs that `walk` yields to the empty list `pairs`, in order. Allocates only if it is full.
+/// Adds copies of the pairs that `walk` yields to the empty list `pairs`, in order. Allocates only if `pairs` is full.
 pub(super) fn copied_pairs<
     'a,
     K: KeyTrait + Drop,

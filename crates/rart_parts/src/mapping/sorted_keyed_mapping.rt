@@ -1,13 +1,13 @@
 //! A map from bytes to children with inline sorted keys, which a contract reads as its ascending entries.
 
-mod search;
-
 ghost use Rattle.std.specs.Prelude.{◌≡◌, ℕ, [], ◌∷◌, IfSome, Some, ◌++◌, ◌<◌, ◌≤◌, length, IfErr, IfOk, OnOk, OnErr};
 ghost use Rattle.std.specs.Prelude.{MatchOption};
 ghost use Rattle.std.specs.Iterator.{UpTo, YieldsFirst, YieldsFirstBy, item_count};
 ghost use Rattle.std.specs.Iterator.SizeHint.{IsWithinCount};
 ghost use Rattle.rart_parts.specs.Entries.{BytesAscend, sorted_entries, entries_above};
 ghost use Rattle.rart_parts.specs.Errors.{IsMemory};
+
+mod search;
 
 use crate::error::TreeError;
 use crate::mapping::sorted_keyed_mapping::search::{first_above, goes_last, place_of};
@@ -188,7 +188,7 @@ impl<N, const W: usize> NodeMapping<N, W> for SortedKeyedMapping<N, W> {
 
     fn add_child(&mut self, key: u8, node: N) {
         let count = self.children.len();
-        // Bulk loads and sorted insertions add each child so.
+        // Bulk loads and sorted insertions add each child so, without a search.
         if goes_last(key, &self.keys, count) {
             self.keys[count] = key;
             self.children.push_reserved(node);

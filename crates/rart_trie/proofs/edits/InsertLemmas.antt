@@ -129,10 +129,6 @@ rest-within m p k rest e h = fewer-within m (length k) (length rest) (rest-lengt
 
 module _ {V : Type 0} where
   -- a new leaf
-  pub leaf-is : (k : List ℕ) (v : V) (w : ℕ) (es : List (ℕ × Trie V)) → w ≡ 0 → es ≡ []
-      → node k (Some v) w (as_children es) ≡ leaf k v
-  leaf-is k v w es ew ee = rw (ee, ew) refl
-
   pub leaf-canonical : (t : Trie V) (k : List ℕ) (v : V) → t ≡ leaf k v → IsCanonical t
   leaf-canonical t k v e = rw e (inl refl, refl, tt)
 

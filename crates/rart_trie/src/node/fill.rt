@@ -1,9 +1,9 @@
-//! The write to a place that holds nothing, so that nothing is dropped.
+//! The write to a place that holds nothing, which drops nothing.
 ghost use Rattle.std.specs.Prelude.{◌≡◌, None};
 
 use std::mem;
 
-/// Stores a value, or none, in an empty place.
+/// Writes `value` to `place`, which is `None`.
 pub(crate) fn fill<V>(place: &mut Option<V>, value: Option<V>)
     requires { place.old ≡ None }
     ensures { place.new ≡ value }

@@ -20,13 +20,13 @@ mod value;
 pub(crate) mod walk;
 
 /// The value and the children of a node. A leaf holds its value itself, so that a place for a node is small. Where
-/// there is room for children, value and map are on the heap; the map holds at most as many children as its capacity:
-/// 4, 16, 48 or 256.
+/// there is a capacity for children, value and map are on the heap. The map holds at most as many children as its
+/// capacity: 4, 16, 48 or 256.
 #[derive(Drop)]
 pub(crate) enum Storage<V, N> {
-    /// Neither a value nor a child, and no memory.
+    /// Neither a value nor a child. It is not allocated.
     Empty,
-    /// A value and no child, and no memory.
+    /// A value and no child. It is not allocated.
     Leaf(V),
     /// At most four children, by sorted keys.
     Node4(Box<Inner<V, SortedKeyedMapping<N, 4>>>),
@@ -97,7 +97,7 @@ impl<V, N> Storage<V, N> {
         requires not_full { length (child_entries self.old) < storage_capacity self.old }
         ensures entries { child_entries self.new ≡ with_entry b node (child_entries self.old) }
         ensures capacity { storage_capacity self.new ≡ storage_capacity self.old }
-        ensures value { stored_value self.new ≡ stored_value self.old }
+        ensures value_kept { stored_value self.new ≡ stored_value self.old }
     {
         match self {
             Storage::Empty | Storage::Leaf(_) => unreachable!(),
@@ -113,7 +113,7 @@ impl<V, N> Storage<V, N> {
         ensures taken { result ≡ child_at b (child_entries self.old) }
         ensures entries { child_entries self.new ≡ without_byte b (child_entries self.old) }
         ensures capacity { storage_capacity self.new ≡ storage_capacity self.old }
-        ensures value { stored_value self.new ≡ stored_value self.old }
+        ensures value_kept { stored_value self.new ≡ stored_value self.old }
     {
         match self {
             Storage::Empty | Storage::Leaf(_) => None,

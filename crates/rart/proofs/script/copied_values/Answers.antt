@@ -1,12 +1,13 @@
 use Rattle.std.proofs.Common.{arith, sym}
 use Rattle.std.proofs.lemmas.List.{length-map}
-use Rattle.rart.proofs.bulks.CopyLemmas.{copied-all, copied-more, left-shorter, room-begins, room-for-next, room-stays}
+use Rattle.rart.proofs.bulks.CopyLemmas.{copied-all, copied-more, left-shorter}
+use Rattle.rart.proofs.bulks.CopyLemmas.{capacity-begins, capacity-for-next, capacity-stays}
 use Rattle.rart.proofs.script.copied_values.Goals as goal
 
 pub loop-value-init : goal.loop-value-init
 loop-value-init g c = record {
   so_far = rw (c.in_ok-values.ensures.items, c.in_ok-rest.ensures.values);
-  room = room-begins _ _ _ _ c.in_ok-values.ensures.items c.in_ok-rest.ensures.values
+  room = capacity-begins _ _ _ _ c.in_ok-values.ensures.items c.in_ok-rest.ensures.values
       (omega (
         arith,
         length-map c.args.tree.now.pairs (λ e. e.1),
@@ -22,12 +23,12 @@ pub loop-value-preserved : goal.loop-value-preserved
 loop-value-preserved g c = record {
   so_far = copied-more _ _ _ _ _ _ c.push_reserved.ensures.items c.in-Some.ensures.steps
       c.loop-value.invariant.so_far;
-  room = room-stays _ _ _ _ _ _ _ _ c.push_reserved.ensures.items c.in-Some.ensures.steps
+  room = capacity-stays _ _ _ _ _ _ _ _ c.push_reserved.ensures.items c.in-Some.ensures.steps
       c.push_reserved.ensures.capacity c.loop-value.invariant.room;
 }
 
 pub push_reserved-requires : goal.push_reserved-requires
-push_reserved-requires g c = room-for-next _ _ _ _ _ _ c.loop-value.values.ok.0 c.in-Some.ensures.steps
+push_reserved-requires g c = capacity-for-next _ _ _ _ _ _ c.loop-value.values.ok.0 c.in-Some.ensures.steps
     c.loop-value.invariant.room
 
 pub returns-clause-values : goal.returns-clause-values

@@ -98,19 +98,19 @@ fn add_node<P: Partial, V>(
     storage: &mut Storage<V, DefaultNode<P, V>>,
     b: u8,
     prefix: &[u8],
-    below: Storage<V, DefaultNode<P, V>>,
+    storage_below: Storage<V, DefaultNode<P, V>>,
 )
     requires within { IsWithin P.MAXIMUM_SIZE (length prefix.now) }
     requires absent { child_at b (child_entries storage.old) ≡ None }
     requires not_full { length (child_entries storage.old) < storage_capacity storage.old }
     ensures entries { child_entries storage.new
-        ≡ with_entry b (built prefix.now below) (child_entries storage.old) }
+        ≡ with_entry b (built prefix.now storage_below) (child_entries storage.old) }
     ensures capacity { storage_capacity storage.new ≡ storage_capacity storage.old }
-    ensures value { stored_value storage.new ≡ stored_value storage.old }
+    ensures value_kept { stored_value storage.new ≡ stored_value storage.old }
 {
     let node = DefaultNode {
         prefix: P::from_slice(prefix),
-        storage: below,
+        storage: storage_below,
     };
     storage.add_within(b, node);
 }
@@ -169,7 +169,7 @@ impl<P: Partial, V: Drop> DefaultNode<P, V> {
         })
     }
 
-    /// Returns the value and the children of the node of keys that agree up to `depth`, and the depth at which its
+    /// Returns the storage of the node of keys that agree up to `depth`, and the depth at which its
     /// prefix ends. The first key has index `from` in the whole list.
     // A node made here would take space in the frame of each level.
     fn build_below<F: FnMut(usize) -> V>(
@@ -210,14 +210,14 @@ impl<P: Partial, V: Drop> DefaultNode<P, V> {
             if end == 1 {
                 add_leaf(&mut storage, byte, &rest[0][below..], take_value(at));
             } else {
-                let Ok((node, end_below)) = DefaultNode::build_below(
+                let Ok((storage_below, end_below)) = DefaultNode::build_below(
                     alloc, group, below, at, take_value,
                 ) else {
                     drop_children(&mut storage);
                     return Err(TreeError::Memory);
                 };
                 let prefix = first_part(group, below, end_below);
-                add_node(&mut storage, byte, prefix, node);
+                add_node(&mut storage, byte, prefix, storage_below);
             }
             rest = &rest[end..];
             at += end;

@@ -19,7 +19,7 @@ impl<P: Partial, V: Drop> DefaultNode<P, V> {
     }
 }
 
-/// Drops all nodes of a storage and frees it, the lowest nodes first.
+/// Drops the value and all nodes of a storage and frees it, the lowest nodes first.
 pub(super) fn drop_children<P: Partial, V: Drop>(storage: &mut Storage<V, DefaultNode<P, V>>)
     ensures entries { child_entries storage.new ≡ [] }
     ensures capacity { storage_capacity storage.new ≡ 0 }
@@ -35,7 +35,7 @@ pub(super) fn drop_children<P: Partial, V: Drop>(storage: &mut Storage<V, Defaul
     drop_leaves(storage);
 }
 
-// Drops nodes without children, and frees their storage.
+// Drops a value and nodes without children, and frees their storage.
 // Not inline: the recursion that calls it holds no node on the stack.
 #[inline(never)]
 fn drop_leaves<P: Partial, V: Drop>(storage: &mut Storage<V, DefaultNode<P, V>>)

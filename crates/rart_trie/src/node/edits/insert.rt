@@ -43,7 +43,7 @@ impl<P: Partial, V> DefaultNode<P, V> {
         ensures unchanged { OnErr result (self.new ≡ self.old) }
         ensures returned { IfErr result (λ r. (r.error ≡ TreeError.Memory) × (r.value ≡ value)) }
     {
-        let Ok(inner) = Storage::new_4(alloc) else {
+        let Ok(next) = Storage::new_4(alloc) else {
             return Err(Refused {
                 error: TreeError::Memory,
                 value,
@@ -54,7 +54,7 @@ impl<P: Partial, V> DefaultNode<P, V> {
         let low = self.prefix.partial_after(shared);
         let low_byte = low.at(0);
         self.prefix = head;
-        let storage = mem::replace(&mut self.storage, inner);
+        let storage = mem::replace(&mut self.storage, next);
         let lower = DefaultNode {
             prefix: low,
             storage,
@@ -226,7 +226,7 @@ pub(super) fn add_leaf<P: Partial, V>(
     ensures entries { child_entries storage.new
         ≡ with_entry b (leaf rest.now value) (child_entries storage.old) }
     ensures capacity { storage_capacity storage.new ≡ storage_capacity storage.old }
-    ensures value { stored_value storage.new ≡ stored_value storage.old }
+    ensures value_kept { stored_value storage.new ≡ stored_value storage.old }
 {
     storage.add_within(b, DefaultNode::new_leaf(P::from_slice(rest), value));
 }

@@ -104,6 +104,8 @@ fn following_byte<P: Partial, V>(
 impl<P: Partial, V: Drop> DefaultNode<P, V> {
     /// Ends the walk over a node: removes its value if it is not to be kept and the node has children. Merges the node
     /// with its only child if it has no value.
+    // Not inline: the walk that calls it holds no value on the stack.
+    #[inline(never)]
     fn finish(&mut self, keeps: bool, walk: Retention) -> Retention
         requires capacity { needs_merge None (children_in self.old) ≡ true
             → capacity_in self.old ≡ 4 }

@@ -28,8 +28,8 @@ use rart_keys::Partial;
 use rart_parts::TreeError;
 use std::alloc::Global;
 
-/// Returns the error of a new key for a full tree.
-fn no_place<V>(value: V) -> UpdateError<V>
+/// Returns the error for a new key in a full tree.
+fn full_error<V>(value: V) -> UpdateError<V>
     ensures { result ≡ UpdateError.Insert (record { error = TreeError.Full; value = value }) }
 {
     UpdateError::Insert(Refused {
@@ -56,7 +56,7 @@ impl<P: Partial, V> DefaultNode<P, V> {
             SlotUpdate::Keep | SlotUpdate::Remove => Ok(Outcome::Absent),
             SlotUpdate::Insert(value) => {
                 if full {
-                    return Err(no_place(value));
+                    return Err(full_error(value));
                 }
                 match self.split(alloc, key, value) {
                     Ok(()) => Ok(Outcome::New),
@@ -87,7 +87,7 @@ impl<P: Partial, V> DefaultNode<P, V> {
             SlotUpdate::Keep | SlotUpdate::Remove => Ok(Outcome::Absent),
             SlotUpdate::Insert(value) => {
                 if full {
-                    return Err(no_place(value));
+                    return Err(full_error(value));
                 }
                 match self.storage.reserve_slot(alloc, byte) {
                     Ok(()) => {
@@ -133,7 +133,7 @@ impl<P: Partial, V> DefaultNode<P, V> {
                 SlotUpdate::Keep | SlotUpdate::Remove => Ok(Outcome::Absent),
                 SlotUpdate::Insert(value) => {
                     if full {
-                        return Err(no_place(value));
+                        return Err(full_error(value));
                     }
                     self.storage.fill_value(value);
                     Ok(Outcome::New)
@@ -257,7 +257,7 @@ impl<P: Partial, V> DefaultNode<P, V> {
             SlotUpdate::Keep | SlotUpdate::Remove => Ok(Outcome::Absent),
             SlotUpdate::Insert(value) => {
                 if full {
-                    return Err(no_place(value));
+                    return Err(full_error(value));
                 }
                 fill(root, Some(DefaultNode::new_leaf(P::from_slice(key), value)));
                 Ok(Outcome::New)

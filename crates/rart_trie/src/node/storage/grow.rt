@@ -19,7 +19,8 @@ pub(super) fn boxed_sorted<V, N, const W: usize>(
     alloc: Global,
 ) -> Result<Box<Inner<V, SortedKeyedMapping<N, W>>>, TreeError>
     requires { W ≤ 255 }
-    ensures ok { IfOk result (λ m. (m.value.map ≡ []) × (m.value.value ≡ None)) }
+    ensures entries { IfOk result (λ m. m.value.map ≡ []) }
+    ensures value { IfOk result (λ m. m.value.value ≡ None) }
     ensures memory { IfErr result IsMemory }
 {
     match Box::new(alloc, Inner::new(SortedKeyedMapping::new(alloc)?)) {
@@ -35,7 +36,8 @@ pub(super) fn boxed_sorted<V, N, const W: usize>(
 pub(super) fn boxed_indexed<V, N>(
     alloc: Global,
 ) -> Result<Box<Inner<V, IndexedMapping<N, 48, Bitset64<1>>>>, TreeError>
-    ensures ok { IfOk result (λ m. (sorted_entries m.value.map ≡ []) × (m.value.value ≡ None)) }
+    ensures entries { IfOk result (λ m. sorted_entries m.value.map ≡ []) }
+    ensures value { IfOk result (λ m. m.value.value ≡ None) }
     ensures memory { IfErr result IsMemory }
 {
     match Box::new(alloc, Inner::new(IndexedMapping::new(alloc)?)) {
@@ -49,7 +51,8 @@ pub(super) fn boxed_indexed<V, N>(
 
 /// Returns a boxed direct map with no child, and no value.
 fn boxed_direct<V, N>(alloc: Global) -> Result<Box<Inner<V, DirectMapping<N>>>, TreeError>
-    ensures ok { IfOk result (λ m. (m.value.map ≡ []) × (m.value.value ≡ None)) }
+    ensures entries { IfOk result (λ m. m.value.map ≡ []) }
+    ensures value { IfOk result (λ m. m.value.value ≡ None) }
     ensures memory { IfErr result IsMemory }
 {
     match Box::new(alloc, Inner::new(DirectMapping::new(alloc)?)) {
@@ -142,7 +145,7 @@ impl<V, N> Storage<V, N> {
     pub(crate) fn reserve_slot(&mut self, alloc: Global, b: u8) -> Result<(), TreeError>
         requires absent { child_at b (child_entries self.old) ≡ None }
         ensures entries { child_entries self.new ≡ child_entries self.old }
-        ensures value { stored_value self.new ≡ stored_value self.old }
+        ensures value_kept { stored_value self.new ≡ stored_value self.old }
         ensures not_full { OnOk result
             (length (child_entries self.new) < storage_capacity self.new) }
         ensures capacity { OnOk result

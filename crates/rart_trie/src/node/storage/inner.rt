@@ -1,4 +1,4 @@
-//! What a node with room for children has on the heap, its value beside the map of its children.
+//! What a node with a capacity for children has on the heap: its value beside the map of its children.
 ghost use Rattle.std.specs.Prelude.{◌≡◌, None};
 
 /// A value and a map of children.
@@ -17,7 +17,7 @@ impl<V, M> Inner<V, M> {
         Inner { value: None, map }
     }
 
-    /// Returns the map. There is no value.
+    /// Returns the map of an `Inner` without a value.
     pub(super) fn into_map(self) -> M
         requires { self.value ≡ None }
         ensures { result ≡ self.map }

@@ -52,7 +52,7 @@ impl<V, N> Storage<V, N> {
         ensures capacity { OnOk result
             (storage_capacity self.new
             ≡ capacity_without b self.old (length (child_entries self.new))) }
-        ensures value { OnOk result (stored_value self.new ≡ stored_value self.old) }
+        ensures value_kept { OnOk result (stored_value self.new ≡ stored_value self.old) }
         ensures unchanged { OnErr result (self.new ≡ self.old) }
         ensures allocates { OnErr result (ShrinksStored b self.old) }
         ensures memory { IfErr result IsMemory }
@@ -102,7 +102,7 @@ impl<V, N> Storage<V, N> {
         ensures taken { child_entries self.old ≡ result ∷ [] }
         ensures entries { child_entries self.new ≡ [] }
         ensures capacity { storage_capacity self.new ≡ 4 }
-        ensures value { stored_value self.new ≡ stored_value self.old }
+        ensures value_kept { stored_value self.new ≡ stored_value self.old }
     {
         match self {
             Storage::Node4(inner) => inner.map.take_value_for_leaf(),

@@ -3,7 +3,8 @@ use Rattle.std.proofs.lemmas.List.{append-nil, map-append}
 use Rattle.std.specs.List.{AllZip}
 use Rattle.rart_keys.specs.SortedMap.{keys_of, values_of}
 use Rattle.rart.proofs.bulks.BulkTreeLemmas.{keys-count}
-use Rattle.rart.proofs.bulks.CopyLemmas.{copied-all, copied-more, left-shorter, room-begins, room-for-next, room-stays}
+use Rattle.rart.proofs.bulks.CopyLemmas.{copied-all, copied-more, left-shorter}
+use Rattle.rart.proofs.bulks.CopyLemmas.{capacity-begins, capacity-for-next, capacity-stays}
 use Rattle.rart.proofs.tree.clones.read_clones.Goals as goal
 
 -- the clones so far, with those of the pairs that are left, are those of all pairs: with one clone more too
@@ -19,9 +20,9 @@ pub loop-key-init : goal.loop-key-init
 loop-key-init g c = record {
   keys = rw (c.in_ok-keys.ensures.items, c.in-Ok.ensures.pairs);
   values = λ more h. rw c.in_ok-values.ensures.items (rw c.in-Ok.ensures.pairs at h);
-  keys_room = room-begins _ _ _ _ c.in_ok-keys.ensures.items c.in-Ok.ensures.pairs
+  keys_fit = capacity-begins _ _ _ _ c.in_ok-keys.ensures.items c.in-Ok.ensures.pairs
       (rw c.len.ensures.value at c.in_ok-keys.ensures.capacity);
-  values_room = room-begins _ _ _ _ c.in_ok-values.ensures.items c.in-Ok.ensures.pairs
+  values_fit = capacity-begins _ _ _ _ c.in_ok-values.ensures.items c.in-Ok.ensures.pairs
       (rw c.len-2.ensures.value at c.in_ok-values.ensures.capacity);
 }
 
@@ -35,19 +36,19 @@ loop-key-preserved g c = record {
       (ap keys_of c.in-Some.ensures.steps) c.loop-key.invariant.keys;
   values = one-clone-more g.V.Clone.is_clone _ _ _ _ _ _ _ _ c.loop-key.invariant.values c.in-Some.ensures.steps
       c.push_reserved-in-Some.ensures.items c.in_ok-clone.ensures.cases;
-  keys_room = room-stays _ _ _ _ _ _ _ _ c.push_reserved.ensures.items c.in-Some.ensures.steps
-      c.push_reserved.ensures.capacity c.loop-key.invariant.keys_room;
-  values_room = room-stays _ _ _ _ _ _ _ _ c.push_reserved-in-Some.ensures.items c.in-Some.ensures.steps
-      c.push_reserved-in-Some.ensures.capacity c.loop-key.invariant.values_room;
+  keys_fit = capacity-stays _ _ _ _ _ _ _ _ c.push_reserved.ensures.items c.in-Some.ensures.steps
+      c.push_reserved.ensures.capacity c.loop-key.invariant.keys_fit;
+  values_fit = capacity-stays _ _ _ _ _ _ _ _ c.push_reserved-in-Some.ensures.items c.in-Some.ensures.steps
+      c.push_reserved-in-Some.ensures.capacity c.loop-key.invariant.values_fit;
 }
 
 pub push_reserved-requires : goal.push_reserved-requires
-push_reserved-requires g c = room-for-next _ _ _ _ _ _ c.loop-key.keys.ok.0 c.in-Some.ensures.steps
-    c.loop-key.invariant.keys_room
+push_reserved-requires g c = capacity-for-next _ _ _ _ _ _ c.loop-key.keys.ok.0 c.in-Some.ensures.steps
+    c.loop-key.invariant.keys_fit
 
 pub push_reserved-requires-in-Some : goal.push_reserved-requires-in-Some
-push_reserved-requires-in-Some g c = room-for-next _ _ _ _ _ _ c.loop-key.values.ok.0
-    c.in-Some.ensures.steps c.loop-key.invariant.values_room
+push_reserved-requires-in-Some g c = capacity-for-next _ _ _ _ _ _ c.loop-key.values.ok.0
+    c.in-Some.ensures.steps c.loop-key.invariant.values_fit
 
 pub returns-clause-keys : goal.returns-clause-keys
 returns-clause-keys g c = sym (copied-all _ _ _ (sym c.loop-key.invariant.keys)

@@ -9,8 +9,8 @@ invariant-loop-key g l = record {
   keys : map g.K.KeyTrait.bytes l.keys.items ++ keys_of l.rest ≡ keys_of l.old.pairs;
   values : (more : List g.row.V.Denot) → AllZip g.V.Clone.is_clone (values_of l.rest) more
       → AllZip g.V.Clone.is_clone (values_of l.old.pairs) (l.values.items ++ more);
-  keys_room : length l.keys.items + length l.rest ≤ vec_capacity l.keys;
-  values_room : length l.values.items + length l.rest ≤ vec_capacity l.values;
+  keys_fit : length l.keys.items + length l.rest ≤ vec_capacity l.keys;
+  values_fit : length l.values.items + length l.rest ≤ vec_capacity l.values;
 }
 
 abbrev pub decreases-loop-key : goal.decreases-loop-key

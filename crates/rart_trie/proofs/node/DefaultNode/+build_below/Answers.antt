@@ -91,7 +91,7 @@ loop-rest-preserved g t c =
     let some : 0 < length c.loop-rest.rest.now = omega (arith, c.loop-rest-test.true) in
     elim c.if-end-eq1.branch [
       | then-end-eq1 w ↦ started _ _ _ _ _ _ _ _ _ _ _ _ _
-          (rw (w.storage-is, w.take_value-is, w.add_leaf.ensures.value) (building-leaf _ _ _ _ _ _ _ _ _ _ _ _ _
+          (rw (w.storage-is, w.take_value-is, w.add_leaf.ensures.value_kept) (building-leaf _ _ _ _ _ _ _ _ _ _ _ _ _
           c.loop-rest.invariant.building
           _ _ _ _ _ _ _ _ _ _ some now.run w.if-end-eq1.true now.at_most now.byte (slice_from-is c.loop-rest.rest.now _)
           (slice_from-is (get_or c.loop-rest.rest.now 0 (record { ref_ptr = (0, 0); now = [] })).now _)
@@ -99,7 +99,7 @@ loop-rest-preserved g t c =
       | else-end-eq1+in-Ok w ↦
           let child = w.in-Ok.ensures in
           started _ _ _ _ _ _ _ _ _ _ _ _ _
-          (rw (w.storage-is, w.take_value-is, w.add_node.ensures.value) (building-step _ _ _ _ _ _ _ _ _ _ _ _ _
+          (rw (w.storage-is, w.take_value-is, w.add_node.ensures.value_kept) (building-step _ _ _ _ _ _ _ _ _ _ _ _ _
           c.loop-rest.invariant.building
           _ _ _ _ _ _ _ _ _ some now.run now.nonempty now.at_most now.byte refl (slice_from-is c.loop-rest.rest.now _)
           child.canonical child.keys child.values (rw w.first_part-prefix.ensures at w.add_node.ensures.entries)

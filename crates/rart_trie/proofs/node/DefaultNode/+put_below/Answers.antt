@@ -68,7 +68,7 @@ add_leaf-requires-clause-within g t c = rest-within _ _ c.args.key.now _ c.in-So
 pub returns-in-Ok-reserve_slot-clause-ok : goal.returns-in-Ok-reserve_slot-clause-ok
 returns-in-Ok-reserve_slot-clause-ok g t c =
     let left = c.seek_child_mut.follows.holds-at-none in
-    rw (← c.self.view_is, c.add_leaf.ensures.value, c.in-Ok-reserve_slot.ensures.value, left.2)
+    rw (← c.self.view_is, c.add_leaf.ensures.value_kept, c.in-Ok-reserve_slot.ensures.value_kept, left.2)
     (put-beside _ c.args.key.now _ c.args.value _ _ _ _ (child_entries c.self.inside.storage) _
     (rw (← c.self.view_is) at c.requires.canonical) c.in-Some.ensures c.in-Some-first.ensures.value
     c.in_default-seek_child_mut.ensures.value

@@ -22,7 +22,7 @@ add_leaf-requires-clause-absent g c = ap (child_at _) c.in-Ok.ensures.entries
 
 pub returns-in-Ok : goal.returns-in-Ok
 returns-in-Ok g c = λ key h. rw c.in-Insert.is (
-  ap Some (rw (← c.self.view_is, c.add_leaf.ensures.value, c.in-Ok.ensures.value) (put-beside _ key _
+  ap Some (rw (← c.self.view_is, c.add_leaf.ensures.value_kept, c.in-Ok.ensures.value_kept) (put-beside _ key _
       c.in-Insert.value _ _ _ _ (child_entries c.self.inside.storage) _
       (rw (← c.self.view_is) at c.requires.canonical) (rw (← c.self.view_is) at h) c.requires.first_byte
       (sym (none-at c.args.byte (child_entries c.self.inside.storage) (rw (← c.self.view_is) at c.requires.absent)))

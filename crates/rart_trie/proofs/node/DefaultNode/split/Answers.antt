@@ -45,7 +45,8 @@ returns-clause-ok g c = rw (← c.self.view_is)
     (parts-within _ c.args.key.now _ c.prefix_length_slice-shared.ensures.value
     (rw (← c.self.view_is) at c.requires.leaves)) c.if-key-shared.false c.partial_before-head.ensures
     c.partial_after-low.ensures (slice_from-is c.args.key.now c.prefix_length_slice-shared.result)
-    (c.add_within-2.ensures.value ∙ c.add_within.ensures.value ∙ ap stored_value c.replace-storage.ensures.after
+    (c.add_within-2.ensures.value_kept ∙ c.add_within.ensures.value_kept ∙ ap stored_value
+    c.replace-storage.ensures.after
     ∙ c.in-Ok.ensures.value)
     (c.add_within-2.ensures.capacity ∙ c.add_within.ensures.capacity ∙ ap storage_capacity
     c.replace-storage.ensures.after

@@ -9,8 +9,8 @@ abbrev pub invariant-loop-key : goal.invariant-loop-key
 invariant-loop-key g l = record {
   keys : keys_of l.old.pairs ≡ map terminated_key (map array_key_bytes l.keys.items) ++ keys_of l.rest;
   values : values_of l.old.pairs ≡ l.values.items ++ values_of l.rest;
-  keys_room : length l.keys.items + length l.rest ≤ vec_capacity l.keys;
-  values_room : length l.values.items + length l.rest ≤ vec_capacity l.values;
+  keys_fit : length l.keys.items + length l.rest ≤ vec_capacity l.keys;
+  values_fit : length l.values.items + length l.rest ≤ vec_capacity l.values;
 }
 
 abbrev pub decreases-loop-key : goal.decreases-loop-key

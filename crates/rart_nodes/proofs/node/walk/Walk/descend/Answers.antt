@@ -1,7 +1,7 @@
 use Rattle.std.proofs.Common.{◌<◌, ◌∙◌, arith, ap, option_map, refl}
 use Rattle.std.specs.Option.{option_copied}
 use Rattle.rart_trie.specs.walks.Walk.{tree_count}
-use Rattle.rart_nodes.proofs.ranges.Descents.{from-on, from-past, starts-from, step-child, step-visits}
+use Rattle.rart_nodes.proofs.ranges.BoundDescents.{from-on, from-past, starts-from, step-child, step-visits}
 use Rattle.rart_nodes.proofs.walks.PathLemmas.{falls, prefix-short}
 use Rattle.rart_nodes.proofs.node.walk.Walk.descend.Goals as goal
 

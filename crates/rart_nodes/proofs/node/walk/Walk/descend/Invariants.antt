@@ -2,7 +2,7 @@ use Rattle.std.proofs.Common.{◌≡◌, ◌≤◌, ◌<◌, ◌+◌, vec_capaci
 use Rattle.std.specs.Option.{option_copied}
 use Rattle.rart_trie.specs.walks.ProbeCount.{entered_nodes, tree_entered}
 use Rattle.rart_trie.specs.walks.Walk.{tree_count}
-use Rattle.rart_nodes.proofs.ranges.Descents.{DescendsFrom}
+use Rattle.rart_nodes.proofs.ranges.BoundDescents.{DescendsFrom}
 use Rattle.rart_nodes.proofs.node.walk.Walk.descend.Given as goal
 
 abbrev pub invariant-loop-next : goal.invariant-loop-next

@@ -23,7 +23,7 @@ fill_from_resized-requires g c =
       (
         omega arith,
         (
-          rw c.deref_mut-in-Node16-2.ensures.value c.in_ok-next-in-Node16.ensures.ok.0,
+          rw c.deref_mut-in-Node16-2.ensures.value c.in_ok-next-in-Node16.ensures.entries,
           rw (
             c.deref_mut-in-Node16-3.ensures.value,
             c.delete_child-child-in-Node16.ensures.rest,
@@ -41,7 +41,7 @@ fill_from_indexed-requires g c =
       (
         omega arith,
         (
-          rw c.deref_mut-in-Node48-2.ensures.value c.in_ok-next-in-Node48.ensures.ok.0,
+          rw c.deref_mut-in-Node48-2.ensures.value c.in_ok-next-in-Node48.ensures.entries,
           rw (
             c.deref_mut-in-Node48-3.ensures.value,
             c.delete_child-child-in-Node48.ensures.rest,
@@ -57,7 +57,7 @@ fill_from_direct-requires g c =
     let few = rw c.in-Node256.is at c.keeps_kind.ensures.changed_kind c.if-keeps_kind.false in (
       omega arith,
       (
-        rw c.deref_mut-in-Node256-2.ensures.value c.in_ok-next-in-Node256.ensures.ok.0,
+        rw c.deref_mut-in-Node256-2.ensures.value c.in_ok-next-in-Node256.ensures.entries,
         rw (
           c.deref_mut-in-Node256-3.ensures.value,
           c.delete_child-child-in-Node256.ensures.rest,

@@ -1,6 +1,6 @@
 use Rattle.std.proofs.Common.{◌<◌, ◌∙◌, arith, option_map, refl}
 use Rattle.rart_trie.specs.walks.Walk.{tree_count}
-use Rattle.rart_nodes.proofs.ranges.Descents.{starts-until, step-child, step-visits, until-on, until-past}
+use Rattle.rart_nodes.proofs.ranges.BoundDescents.{starts-until, step-child, step-visits, until-on, until-past}
 use Rattle.rart_nodes.proofs.walks.PathLemmas.{falls, prefix-short}
 use Rattle.rart_nodes.proofs.node.walk.back.BackWalk.descend.Goals as goal
 

@@ -1,7 +1,7 @@
 use Rattle.std.proofs.Common.{◌≡◌, ◌≤◌, ◌<◌, ◌+◌, vec_capacity, option_map}
 use Rattle.rart_trie.specs.walks.ProbeCount.{entered_nodes, tree_entered}
 use Rattle.rart_trie.specs.walks.Walk.{tree_count}
-use Rattle.rart_nodes.proofs.ranges.Descents.{DescendsUntil}
+use Rattle.rart_nodes.proofs.ranges.BoundDescents.{DescendsUntil}
 use Rattle.rart_nodes.proofs.node.walk.back.BackWalk.descend.Given as goal
 
 abbrev pub invariant-loop-next : goal.invariant-loop-next
