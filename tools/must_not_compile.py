@@ -55,7 +55,7 @@ VISITOR = ("rart_nodes", "src/node/intersect/visitor.rt", "f(left, right);")
 SHRINK = ("rart_trie", "src/node/storage/shrink.rt")
 GROW = ("rart_trie", "src/node/storage/grow.rt")
 SHARED_CHILDREN = ("rart_nodes", "src/node/intersect/shared_children.rt")
-TREES = ("rart_nodes", "src/node/intersect.rt", "let Some(right_top) = right.top() else {")
+TREES = ("rart_nodes", "src/node/intersect.rt", "let (left_root, right_root) = tops.0.enter_pair(tops.1, counter);")
 OF_TREE = ("rart", "src/tree.rt", "self.seen().get_bytes_counted(key, &mut Visits::new())")
 
 BODIES = (
@@ -117,7 +117,8 @@ BODIES = (
     Body(
         "an intersection visits the right root as a left one",
         *TREES,
-        "let _right_root = right.top().map(|top| top.enter(counter));\n    let Some(right_top) = right.top() else {",
+        "let _right_root = tops.1.enter(counter);\n"
+        "    let (left_root, right_root) = tops.0.enter_pair(tops.1, counter);",
         (
             "error[unknown-method]: the method `enter` exists for `Shared<<K as KeyTrait>::PartialType, W, "
             "Paired<C>>`, but its bounds are not met",
@@ -126,7 +127,8 @@ BODIES = (
     Body(
         "an intersection looks up in the right tree",
         *TREES,
-        "let _value = right.get_bytes_counted(&[], counter);\n    let Some(right_top) = right.top() else {",
+        "let _value = right.get_bytes_counted(&[], counter);\n"
+        "    let (left_root, right_root) = tops.0.enter_pair(tops.1, counter);",
         (
             "error[unknown-method]: the method `get_bytes_counted` exists for `Seen<K, W, Paired<C>>`, but "
             "its bounds are not met",

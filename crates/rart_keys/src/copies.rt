@@ -1,8 +1,8 @@
 //! Copies of short byte strings, which need no call.
 ghost use Rattle.std.specs.Prelude.{◌≡◌, ◌+◌, ◌≤◌, length};
 
-/// Copies `from` to `to`, which must be as long. Up to 16 bytes are copied as two words, which may overlap. It does not
-/// allocate.
+/// Copies `from` to `to`, which must be as long. Up to 32 bytes are copied as two parts of constant length, which may
+/// overlap. It does not allocate.
 #[inline(always)]
 pub fn copy_bytes(to: &mut [u8], from: &[u8])
     requires { length to.old ≡ length from.now }
@@ -14,6 +14,7 @@ pub fn copy_bytes(to: &mut [u8], from: &[u8])
         2..=3 => copy_ends::<2>(to, from),
         4..=7 => copy_ends::<4>(to, from),
         8..=16 => copy_ends::<8>(to, from),
+        17..=32 => copy_ends::<16>(to, from),
         _ => to.copy_from_slice(from),
     }
 }

@@ -7,6 +7,7 @@ pub mod IntersectSteps
 pub mod IntersectVisits
 pub mod JoinPathLemmas
 pub mod JointVisits
+pub mod LeafPairs
 pub mod PartedLemmas
 pub mod Reach
 pub mod SharedChildLemmas

@@ -18,7 +18,7 @@ module _ {A : Type 0} where
   pub copied-all : (copied rest all : List A) → all ≡ copied ++ rest → rest ≡ [] → all ≡ copied
   copied-all copied rest all whole none = whole ∙ ap (λ z. copied ++ z) none ∙ append-nil copied
 
--- the reserved capacity has room for what is left, beside what is copied
+-- the reserved capacity holds what is left beside what is copied
 module _ {A B : Type 0} where
   pub capacity-begins : (copied : List A) (rest all : List B) (capacity : ℕ) → copied ≡ [] → rest ≡ all
       → length all ≤ capacity → length copied + length rest ≤ capacity
@@ -27,9 +27,9 @@ module _ {A B : Type 0} where
   pub capacity-stays : (before after : List A) (x : A) (rest next : List B) (e : B) (capacity same : ℕ)
       → after ≡ before ++ x ∷ [] → rest ≡ e ∷ next → same ≡ capacity → length before + length rest ≤ capacity
       → length after + length next ≤ same
-  capacity-stays before after x rest next e capacity same pushed steps kept room
+  capacity-stays before after x rest next e capacity same pushed steps kept fits
       = omega (arith, ap length pushed, length-append before (x ∷ []), ap length steps)
 
   pub capacity-for-next : (copied : List A) (rest next : List B) (e : B) (len capacity : ℕ) → len ≡ length copied
       → rest ≡ e ∷ next → length copied + length rest ≤ capacity → len < capacity
-  capacity-for-next copied rest next e len capacity counted steps room = omega (arith, ap length steps)
+  capacity-for-next copied rest next e len capacity counted steps fits = omega (arith, ap length steps)

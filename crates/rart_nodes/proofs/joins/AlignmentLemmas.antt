@@ -1,6 +1,8 @@
 -- The path of two places through two tries to the next two nodes whose prefixes end together.
 use Rattle.std.proofs.Common.{◌≡◌, ℕ, ◌+◌, ◌<◌, ◌≤◌, ◌==◌, Bool, true, false, List, [], ◌∷◌, ◌++◌, length}
-use Rattle.std.proofs.Common.{length-append, drop, Some, None, refl, arith, sym, ap, subst, ◌∙◌}
+use Rattle.std.proofs.Common.{length-append, drop, IsTrue, Some, None, refl, arith, sym, ap, subst, ◌∙◌}
+use Rattle.std.proofs.lemmas.List.{append-nil}
+use Rattle.rart_keys.specs.ByteStrings.{strip_prefix}
 use Rattle.rart_keys.specs.SortedMap.{longest_key}
 use Rattle.rart_keys.proofs.strings.ByteOrder.{eq-yes, eq-no}
 use Rattle.rart_nodes.specs.joins.Intersections.{intersect_nodes, with_rest}
@@ -17,6 +19,8 @@ use Rattle.rart_trie.proofs.tries.CanonicalTests.{IsCanonical-test, longest_key-
 use Rattle.rart_trie.proofs.tries.NodeCounts.{some-after}
 use Rattle.rart_trie.proofs.tries.StepLemmas.{child-falls, longest-of}
 use Rattle.rart_trie.proofs.tries.Descents.{child-first}
+use Rattle.rart_trie.proofs.tries.EndLemmas.{strip_prefix-append}
+use Rattle.rart_trie.proofs.tries.PrefixedStrings.{strip_prefix-is}
 
 -- a test for an empty string
 nil-of : (q : List ℕ) → true ≡ (length q == 0) → q ≡ []
@@ -32,6 +36,20 @@ nil-when q b e h = nil-of q (sym h ∙ e)
 
 pub some-when : (q : List ℕ) (b : Bool) → b ≡ (length q == 0) → b ≡ false → 0 < length q
 some-when q b e h = some-of q (sym h ∙ e)
+
+-- two strings are equal if the first begins the second and nothing is left of that
+whole : (p : List ℕ) → strip_prefix p p ≡ Some []
+whole p = ap (strip_prefix p) (sym (append-nil p)) ∙ strip_prefix-append p []
+
+pub equal-ended : (p q k r : List ℕ) (b : Bool) → Some r ≡ strip_prefix p k → k ≡ q → b ≡ (length r == 0)
+    → (IsTrue b → p ≡ q) × (p ≡ q → IsTrue b)
+equal-ended p q k r b e f h = (
+  λ t. sym (append-nil p) ∙ ap (λ z. p ++ z) (sym (nil-when r b h t)) ∙ strip_prefix-is p k r (sym e) ∙ f,
+  λ s. let n : r ≡ [] = cc (e, f, s, whole q) in rw (h, n) refl,
+)
+
+pub equal-never : (p q k : List ℕ) → None ≡ strip_prefix p k → k ≡ q → (IsTrue false → p ≡ q) × (p ≡ q → IsTrue false)
+equal-never p q k e f = (λ t. absurd (cc (t)), λ s. absurd (cc (e, f, s, whole q)))
 
 -- how many nodes are left
 pub some-count : {V : Type 0} (t : Trie V) → 0 < node_count t
@@ -237,3 +255,12 @@ module _ {V W : Type 0} where
         };
         visits = omega (arith, h'.visits, step.visited);
       }
+
+  -- the prefixes are equal
+  pub place-equal : (t : Trie V) (u : Trie W) (l : List ℕ) (i : ℕ) → is_canonical t ≡ true → l ≡ prefix_of t
+      → prefix_of t ≡ prefix_of u → Aligned t u l t u i i
+  place-equal t u l i c e f =
+      let whole_left : l ≡ l ++ [] = sym (append-nil l) in
+      place-aligned t u l [] [] t u i i c refl refl
+      (place-common t u [] l [] [] l (prefix_of u) t u i i whole_left (sym f ∙ sym e ∙ whole_left)
+      (place-start t u l (prefix_of u) i c e refl))

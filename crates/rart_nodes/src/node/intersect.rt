@@ -1,32 +1,58 @@
 //! Intersections of two shared trees: one walk through both, with counted visits.
-ghost use Rattle.std.specs.Prelude.{◌≡◌, ◌≤◌, ◌+◌, ◌-◌, [], IfErr, OnErr, OnOk, length, min};
+ghost use Rattle.std.specs.Prelude.{◌≡◌, ◌≤◌, ◌+◌, ◌-◌, [], IfErr, MatchOption, OnErr, OnOk, length, min};
 ghost use Rattle.rart_keys.specs.Joins.{join};
 ghost use Rattle.rart_keys.specs.SortedMap.{longest_key, values_of};
 ghost use Rattle.rart_nodes.specs.joins.Intersections.{intersect_nodes};
 ghost use Rattle.rart_nodes.specs.joins.Visitors.{CanGive};
 ghost use Rattle.rart_nodes.specs.joins.PairCalls.{CallsAtEach, CallsAtEachByValue, CallsWithEach};
 ghost use Rattle.rart_nodes.specs.joins.PairCalls.{CallsWithEachByValue, CanCallAt, CanCallWith};
-ghost use Rattle.rart_nodes.specs.joins.SeenJoins.{MayLackBoth, seen_bound, seen_join, seen_visits};
+ghost use Rattle.rart_nodes.specs.joins.SeenJoins.{AreTops, MayLackBoth, ShareNothing, seen_bound, seen_join};
+ghost use Rattle.rart_nodes.specs.joins.SeenJoins.{seen_visits};
 ghost use Rattle.rart_nodes.specs.joins.SharedEdges.{joint_visits, more_visits};
 ghost use Rattle.rart_nodes.specs.joins.ViewCalls.{CanViewAt, ViewsAtEachByValue, ViewsAtEach};
 ghost use Rattle.rart_nodes.specs.joins.JoinPaths.{HasCapacityOf, PathGrown};
 ghost use Rattle.rart_nodes.specs.tries.SeenTrees.{length_bound, seen_keys, seen_nodes, seen_pairs};
-ghost use Rattle.rart_trie.specs.tries.Trie.{pairs_of};
+ghost use Rattle.rart_trie.specs.tries.Trie.{children_in, no_children, pairs_of};
 
 mod aligned;
 mod join_path;
 mod shared_children;
 mod visitor;
 
-use crate::node::intersect::aligned::next_aligned;
+use crate::node::intersect::aligned::{next_aligned, same_prefixes};
 use crate::node::intersect::join_path::JoinPath;
 use crate::node::intersect::shared_children::SharedChildren;
 use crate::node::intersect::visitor::{ByKeys, ByValues, ByViews, Counted, Visitor, give_both};
-use crate::node::seen::{Entered, Seen};
+use crate::node::seen::{Entered, Seen, Shared};
 use crate::node::view::LendingKeyView;
 use rart_keys::{KeyTrait, Partial};
 use rart_parts::TreeError;
 use rart_trie::{Count, Paired};
+
+/// Passes on the pair of two visited leaves if their prefixes are equal, and restores the path.
+fn intersect_leaves<'a, P: Partial, V, W, C: Count, F, T: Visitor<V, W, F>>(
+    left: Entered<'a, P, V, C>,
+    right: Entered<'_, P, W, Paired<C>>,
+    path: &mut JoinPath<'a>,
+    f: &mut F,
+)
+    requires left_leaf { children_in left.node.now ≡ no_children }
+    requires right_leaf { children_in right.node.now ≡ no_children }
+    requires reserved { T.reserved path.old (longest_key (pairs_of left.node.now)) }
+    requires callable { CanGive T.can T.given path.old f.old
+        (intersect_nodes left.node.now right.node.now) }
+    ensures place { PathGrown path.old [] path.new }
+    ensures calls { T.given path.old f.old
+        (intersect_nodes left.entry.node.now right.entry.node.now) f.new }
+{
+    if !same_prefixes(left.prefix(), right.prefix()) {
+        return;
+    }
+    let mark = path.mark();
+    path.grow(left.prefix().to_slice());
+    give_both::<V, W, F, T>(left.value(), right.value(), path, f);
+    path.cut(mark);
+}
 
 /// Visits the pairs of both trees below two visited nodes and restores the path.
 fn intersect_below<'a, P: Partial, V, W, C: Count, F, T: Visitor<V, W, F>>(
@@ -61,19 +87,43 @@ fn intersect_below<'a, P: Partial, V, W, C: Count, F, T: Visitor<V, W, F>>(
         right_aligned,
         counter,
     ) {
-        intersect_below::<P, V, W, C, F, T>(child, other, path, counter, f);
+        // Most children are leaves, which need no recursion.
+        if child.has_no_children() && other.has_no_children() {
+            intersect_leaves::<P, V, W, C, F, T>(child, other, path, f);
+        } else {
+            intersect_below::<P, V, W, C, F, T>(child, other, path, counter, f);
+        }
     }
     path.cut(mark);
 }
 
-/// Visits the pairs of both trees. The path has capacity for the longest key of the left one, and no more.
-fn intersect_trees<'a, K: KeyTrait, V, W, C: Count, F, T: Visitor<V, W, F>>(
+/// The topmost nodes of two trees, not yet visited.
+type Tops<'a, 'b, P, V, W, C> = (Shared<'a, P, V, C>, Shared<'b, P, W, Paired<C>>);
+
+/// Returns the topmost nodes of two trees, not yet visited, or `None` if either is empty.
+fn both_tops<'a, 'b, K: KeyTrait, V, W, C>(
     left: Seen<'a, K, V, C>,
-    right: Seen<'_, K, W, Paired<C>>,
+    right: Seen<'b, K, W, Paired<C>>,
+) -> Option<Tops<'a, 'b, K::PartialType, V, W, C>>
+    ensures { MatchOption result (ShareNothing left.entry right.entry)
+        (λ tops. AreTops left.entry tops.0.node.now right.entry tops.1.node.now) }
+{
+    let left_top = left.top()?;
+    let right_top = right.top()?;
+    Some((left_top, right_top))
+}
+
+/// Visits the pairs of both trees, from their topmost nodes on. The path has capacity for the longest key of the left
+/// one, and no more.
+fn intersect_trees<'a, 'b, K: KeyTrait, V, W, C: Count, F, T: Visitor<V, W, F>>(
+    left: Seen<'a, K, V, C>,
+    right: Seen<'b, K, W, Paired<C>>,
+    tops: Tops<'a, 'b, K::PartialType, V, W, C>,
     path: &mut JoinPath<'a>,
     counter: &mut C,
     f: &mut F,
 )
+    requires tops { AreTops left tops.0.node.now right tops.1.node.now }
     requires reserved { T.reserved path.old (longest_key (seen_pairs left)) }
     requires capacity { HasCapacityOf (length_bound left) path.old }
     requires callable { CanGive T.can T.given path.old f.old (seen_join left right) }
@@ -84,13 +134,8 @@ fn intersect_trees<'a, K: KeyTrait, V, W, C: Count, F, T: Visitor<V, W, F>>(
     ensures bound { C.number counter.new ≤ C.number counter.old
         + (length (seen_nodes left.entry) + length (seen_nodes right.entry) - 1) }
 {
-    let Some(left_top) = left.top() else {
-        return;
-    };
-    let Some(right_top) = right.top() else {
-        return;
-    };
-    let (left_root, right_root) = left_top.enter_pair(right_top, counter);
+    // `left` and `right` are named by the contract alone.
+    let (left_root, right_root) = tops.0.enter_pair(tops.1, counter);
     intersect_below::<K::PartialType, V, W, C, F, T>(left_root, right_root, path, counter, f);
 }
 
@@ -112,10 +157,14 @@ impl<'a, K: KeyTrait, V, C: Count> Seen<'a, K, V, C> {
         ensures bound { C.number counter.new
             ≤ C.number counter.old + seen_bound self.entry other.entry }
     {
+        let Some(tops) = both_tops(self, other) else {
+            return 0;
+        };
         let mut count = 0;
         intersect_trees::<K, V, W, C, usize, Counted>(
             self,
             other,
+            tops,
             &mut JoinPath::Nothing,
             counter,
             &mut count,
@@ -144,7 +193,11 @@ impl<'a, K: KeyTrait, V, C: Count> Seen<'a, K, V, C> {
         ensures bound { C.number counter.new
             ≤ C.number counter.old + seen_bound self.entry other.entry }
     {
-        intersect_trees::<K, V, W, C, F, ByValues>(self, other, &mut JoinPath::Nothing, counter, f);
+        let Some(tops) = both_tops(self, other) else {
+            return;
+        };
+        let mut path = JoinPath::Nothing;
+        intersect_trees::<K, V, W, C, F, ByValues>(self, other, tops, &mut path, counter, f);
     }
 
     /// Calls `f` as [`intersect_values_with_by_ref_counted`](Self::intersect_values_with_by_ref_counted) does, and
@@ -200,15 +253,12 @@ impl<'a, K: KeyTrait, V, C: Count> Seen<'a, K, V, C> {
         ensures bound { C.number counter.new
             ≤ C.number counter.old + seen_bound self.entry other.entry }
     {
-        let Some(_) = self.top() else {
-            return Ok(());
-        };
-        let Some(_) = other.top() else {
+        let Some(tops) = both_tops(self, other) else {
             return Ok(());
         };
         let bytes = Vec::with_capacity(self.alloc(), self.longest())?;
         let mut path = JoinPath::Bytes(bytes);
-        intersect_trees::<K, V, W, C, F, ByKeys<K>>(self, other, &mut path, counter, f);
+        intersect_trees::<K, V, W, C, F, ByKeys<K>>(self, other, tops, &mut path, counter, f);
         Ok(())
     }
 
@@ -273,15 +323,12 @@ impl<'a, K: KeyTrait, V, C: Count> Seen<'a, K, V, C> {
         ensures bound { C.number counter.new
             ≤ C.number counter.old + seen_bound self.entry other.entry }
     {
-        let Some(_) = self.top() else {
-            return Ok(());
-        };
-        let Some(_) = other.top() else {
+        let Some(tops) = both_tops(self, other) else {
             return Ok(());
         };
         let segments = Vec::with_capacity(self.alloc(), self.longest())?;
         let mut path = JoinPath::Segments(segments);
-        intersect_trees::<K, V, W, C, F, ByViews>(self, other, &mut path, counter, f);
+        intersect_trees::<K, V, W, C, F, ByViews>(self, other, tops, &mut path, counter, f);
         Ok(())
     }
 

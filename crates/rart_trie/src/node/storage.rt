@@ -19,9 +19,8 @@ mod shrink;
 mod value;
 pub(crate) mod walk;
 
-/// The value and the children of a node. A leaf holds its value itself, so that a place for a node is small. Where
-/// there is a capacity for children, value and map are on the heap. The map holds at most as many children as its
-/// capacity: 4, 16, 48 or 256.
+/// The value and the children of a node. A leaf holds its value itself, so that a place for a node is small. Value and
+/// map of an inner node are on the heap. The map holds at most as many children as its capacity: 4, 16, 48 or 256.
 #[derive(Drop)]
 pub(crate) enum Storage<V, N> {
     /// Neither a value nor a child. It is not allocated.
@@ -90,7 +89,8 @@ impl<V, N> Storage<V, N> {
         }
     }
 
-    /// Inserts a child at byte `b`, which has none. It does not allocate. Inline, so a new child is not copied again.
+    /// Inserts a child at byte `b`, which has none. It does not allocate.
+    // Inline, so that a new child is not copied again.
     #[inline(always)]
     pub(crate) fn add_within(&mut self, b: u8, node: N)
         requires absent { child_at b (child_entries self.old) ≡ None }
@@ -133,8 +133,9 @@ impl<V, N> Storage<V, N> {
     ghost use Rattle.rart_trie.specs.storages.Lends.{lends_child};
     ghost use Rattle.rart_trie.specs.storages.Stored.{child_entries};
 
-    /// Returns a mutable borrow of the child at byte `b`. Inline, so that the caller's branch on it needs no child's
-    /// address made from a test of the child: two reads of memory then run in parallel.
+    /// Returns a mutable borrow of the child at byte `b`.
+    // Inline, so that the caller's branch on it needs no child's address made from a test of the child: two reads of
+    // memory then run in parallel.
     #[inline(always)]
     pub(crate) fn seek_child_mut(&mut self, b: u8) -> Option<&mut N>
         ensures* writes_back { sem 𝓛 (lends_child V.row N.row self.entry b result) }

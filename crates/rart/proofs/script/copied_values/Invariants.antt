@@ -6,7 +6,7 @@ use Rattle.rart.proofs.script.copied_values.Given as goal
 abbrev pub invariant-loop-value : goal.invariant-loop-value
 invariant-loop-value g l = record {
   so_far : l.values.items ++ l.rest ≡ values_of l.tree.pairs;
-  room : length l.values.items + length l.rest ≤ vec_capacity l.values;
+  values_fit : length l.values.items + length l.rest ≤ vec_capacity l.values;
 }
 
 abbrev pub decreases-loop-value : goal.decreases-loop-value

@@ -1,5 +1,5 @@
 //! The step of an intersection from two visited nodes to the next two whose prefixes end together.
-ghost use Rattle.std.specs.Prelude.{◌≡◌, ◌+◌, [], ◌∷◌, MatchOption};
+ghost use Rattle.std.specs.Prelude.{◌≡◌, ◌↔◌, ◌+◌, [], ◌∷◌, IsTrue, MatchOption};
 ghost use Rattle.rart_keys.specs.SortedMap.{count_of, longest_key};
 ghost use Rattle.rart_nodes.specs.joins.Alignments.{EntersAfter, FindsAligned, VisitsAligned};
 ghost use Rattle.rart_nodes.specs.joins.SharedChildren.{IsParted};
@@ -9,6 +9,7 @@ ghost use Rattle.rart_trie.specs.tries.Trie.{child_in, pairs_of};
 use crate::node::intersect::join_path::JoinPath;
 use crate::node::seen::Entered;
 use rart_keys::{Partial, common_prefix_length};
+use rart_trie::node::strip_prefix;
 use rart_trie::{Count, Paired};
 
 /// Returns the common prefix, and the rest of each string.
@@ -47,7 +48,7 @@ fn enter_after<'a, P: Partial, V, C: Count>(
     Some((child, edge, rest))
 }
 
-/// Visits the child at `byte` of a right node, as [`enter_after`](Self::enter_after) does.
+/// Visits the child at `byte` of a right node, as [`enter_after`] does.
 fn enter_other_after<'b, P: Partial, W, C: Count>(
     at: Entered<'b, P, W, Paired<C>>,
     byte: u8,
@@ -61,6 +62,17 @@ fn enter_other_after<'b, P: Partial, W, C: Count>(
         unreachable!()
     };
     Some((child, edge, rest))
+}
+
+/// Returns whether two prefixes are equal.
+pub(crate) fn same_prefixes<P: Partial>(left: &P, right: &P) -> bool
+    ensures { IsTrue result ↔ (P.bytes left.now ≡ P.bytes right.now) }
+{
+    // by words of eight bytes and without a call, as `==` of slices is not
+    match strip_prefix(left, right.to_slice()) {
+        Some(rest) => rest.is_empty(),
+        None => false,
+    }
 }
 
 /// Returns the next two nodes whose prefixes end together, and extends the path. Inside a longer prefix only the other
@@ -79,6 +91,11 @@ pub(crate) fn next_aligned<'a, 'b, P: Partial, V, W, C: Count>(
 {
     let mut left = left;
     let mut right = right;
+    // Most pairs have equal prefixes, and this test is cheaper than their common prefix.
+    if same_prefixes(left.prefix(), right.prefix()) {
+        path.grow(left.prefix().to_slice());
+        return Some((left, right));
+    }
     let mut left_rest = left.prefix().to_slice();
     let mut right_rest = right.prefix().to_slice();
     loop {

@@ -120,6 +120,8 @@ impl<'a, P: Partial> Path<'a, P> for BytePath {
         }
     }
 
+    // Inline, as each step of a walk calls it.
+    #[inline(always)]
     fn grow(&mut self, prefix: &'a P) {
         let bytes = prefix.to_slice();
         let end = self.len + bytes.len();

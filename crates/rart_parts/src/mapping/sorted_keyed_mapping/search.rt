@@ -1,5 +1,5 @@
 //! Searches among ascending keys, of which those in use come first.
-ghost use Rattle.std.specs.Prelude.{◌≡◌, ◌≤◌, true};
+ghost use Rattle.std.specs.Prelude.{◌↔◌, ◌≤◌, IsTrue};
 ghost use Rattle.rart_parts.specs.Keys.{IsAscendingBelow, IsFirstAbove, IsPlaceOf};
 ghost use Rattle.rart_parts.specs.SortedKeyed.{IsPadded};
 
@@ -20,13 +20,13 @@ pub(super) fn place_of<const W: usize>(key: u8, keys: &[u8; W], count: usize) ->
     }
 }
 
-/// Returns `true` only if no key of the first `count`, which ascend, is above `key`.
+/// Returns whether no key of the first `count`, which ascend, is above `key`.
 pub(super) fn goes_last<const W: usize>(key: u8, keys: &[u8; W], count: usize) -> bool
     requires at_most { count ≤ W }
     requires ascending { IsAscendingBelow keys.now count }
-    ensures { result ≡ true → IsFirstAbove keys.now count key count }
+    ensures { IsTrue result ↔ IsFirstAbove keys.now count key count }
 {
-    count == 0 || keys[count - 1] < key
+    count == 0 || keys[count - 1] <= key
 }
 
 /// Returns the first place among the first `count` keys, which ascend, whose key is above; `count` where there is none.

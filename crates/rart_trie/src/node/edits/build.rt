@@ -1,5 +1,5 @@
 //! Bottom-up builds from ascending keys: each node is made once, with the storage that its children need.
-ghost use Rattle.std.specs.Prelude.{◌≡◌, ◌+◌, ◌<◌, ◌≤◌, ◌^◌, List, [], drop, length, nat_eq, take, IfErr, IfOk, None};
+ghost use Rattle.std.specs.Prelude.{◌≡◌, ◌+◌, ◌<◌, ◌≤◌, ◌^◌, List, [], drop, length, nat_eq, IfErr, IfOk, None};
 ghost use Rattle.std.specs.Prelude.{OnErr};
 ghost use Rattle.std.specs.List.{common_prefix_len};
 ghost use Rattle.rart_keys.specs.KeyBytes.{IsWithin};

@@ -1,4 +1,4 @@
-//! What a node with a capacity for children has on the heap: its value beside the map of its children.
+//! What an inner node has on the heap: its value beside the map of its children.
 ghost use Rattle.std.specs.Prelude.{◌≡◌, None};
 
 /// A value and a map of children.

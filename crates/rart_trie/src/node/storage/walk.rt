@@ -1,5 +1,5 @@
 //! An iterator over the children of a storage in byte order, which a contract reads as the remaining children.
-ghost use Rattle.std.specs.Prelude.{◌≡◌, [], option_map, slice_get};
+ghost use Rattle.std.specs.Prelude.{◌≡◌, option_map, slice_get};
 ghost use Rattle.std.specs.Iterator.{YieldsFirstBy};
 ghost use Rattle.rart_parts.specs.Entries.{BytesAscend, entries_above};
 ghost use Rattle.rart_trie.specs.storages.Stored.{child_entries};
@@ -25,6 +25,8 @@ pub(crate) enum StorageIter<'a, N> {
 
 impl<'a, N> StorageIter<'a, N> {
     /// Returns the next child with its byte. It does not allocate.
+    // Inline, as each step of a walk calls it.
+    #[inline(always)]
     pub(crate) fn take_next(&mut self) -> Option<(u8, &'a N)>
         ensures { YieldsFirstBy (λ item. (item.0, item.1.now)) to_come self.old result self.new }
     {

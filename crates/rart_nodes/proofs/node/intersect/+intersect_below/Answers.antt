@@ -3,6 +3,7 @@ use Rattle.rart_nodes.proofs.joins.VisitorLemmas.{back-again, can-aligned, can-n
 use Rattle.rart_nodes.proofs.joins.VisitorLemmas.{given-aligned, given-next, next-shared_children, same-reserved}
 use Rattle.rart_nodes.proofs.joins.VisitorLemmas.{shared_children-within}
 use Rattle.rart_nodes.proofs.joins.JoinPathLemmas.{path-stays, path-on}
+use Rattle.rart_nodes.proofs.joins.LeafPairs.{leaves-unvisited}
 use Rattle.rart_nodes.proofs.node.intersect.+intersect_below.Goals as goal
 
 pub returns-in_default-clause-place : goal.returns-in_default-clause-place
@@ -86,6 +87,41 @@ loop-child-preserved g t c =
         next.visits,
         c.in-Some-enter_next.ensures.counted,
         c.intersect_below.ensures.visits,
+      );
+      within = next.others;
+    }
+
+pub intersect_leaves-requires-clause-reserved : goal.intersect_leaves-requires-clause-reserved
+intersect_leaves-requires-clause-reserved g t c =
+    let inv = c.loop-child.invariant in
+    let next = next-shared_children _ _ _ _ _ _ c.in-Some-enter_next.ensures.shared_children inv.within in
+    same-reserved _ _ g.met.T.Visitor.lawful _ _ _ _ (path-stays _) inv.reserved next.short
+
+pub intersect_leaves-requires-clause-callable : goal.intersect_leaves-requires-clause-callable
+intersect_leaves-requires-clause-callable g t c =
+    let inv = c.loop-child.invariant in
+    can-next _ _ g.met.T.Visitor.lawful _ g.met.T.Visitor.deeper _ _ _ _ _ _ _
+    c.in-Some-enter_next.ensures.shared_children inv.place inv.callable
+
+pub loop-child-preserved-then-has_no_children-3 : goal.loop-child-preserved-then-has_no_children-3
+loop-child-preserved-then-has_no_children-3 g t c =
+    let laws = g.met.T.Visitor.lawful in
+    let inv = c.loop-child.invariant in
+    let next = next-shared_children _ _ _ _ _ _ c.in-Some-enter_next.ensures.shared_children inv.within in
+    record {
+      callable = can-others _ _ laws _ g.met.T.Visitor.deeper _ _ _ _ _ _ _ _
+          c.in-Some-enter_next.ensures.shared_children inv.place c.intersect_leaves.ensures.calls inv.callable;
+      place = path-on _ _ _ [] [] inv.place c.intersect_leaves.ensures.place;
+      reserved = laws.keeps_reserved _ _ [] _ _ c.intersect_leaves.ensures.place inv.reserved (omega arith);
+      given = λ last h. inv.given last (given-next _ _ laws _ _ _ _ _ _ _ _ _
+          c.in-Some-enter_next.ensures.shared_children inv.place c.intersect_leaves.ensures.calls h);
+      visits = omega (
+        arith,
+        inv.visits,
+        next.visits,
+        c.in-Some-enter_next.ensures.counted,
+        leaves-unvisited c.in-Some-enter_next.child.node.now c.in-Some-enter_next.other.node.now
+            (c.has_no_children-in-Some-enter_next.ensures.0 c.if-has_no_children-2.true) (c.has_no_children-then-has_no_children-2.ensures.0 c.if-has_no_children-3.true),
       );
       within = next.others;
     }

@@ -1,26 +1,47 @@
-use Rattle.std.proofs.Common.{◌+◌, [], ◌∷◌, ◌++◌, length, length-append, ap, arith, ◌∙◌}
+use Rattle.std.proofs.Common.{◌≡◌, ℕ, ◌+◌, List, [], ◌∷◌, ◌++◌, length, length-append, ap, arith, sym, ◌∙◌}
 use Rattle.rart_keys.specs.SortedMap.{longest_key}
-use Rattle.rart_trie.specs.tries.Trie.{pairs_of}
+use Rattle.rart_trie.specs.tries.Trie.{pairs_of, prefix_of}
 use Rattle.rart_trie.specs.tries.TrieCode.{node_count}
 use Rattle.rart_nodes.proofs.joins.AlignmentLemmas.{nil-when, some-when, place-start, place-common, place-parted}
 use Rattle.rart_nodes.proofs.joins.AlignmentLemmas.{place-left_none, place-right_none, place-left, place-right}
-use Rattle.rart_nodes.proofs.joins.AlignmentLemmas.{place-aligned, Step}
+use Rattle.rart_nodes.proofs.joins.AlignmentLemmas.{place-aligned, place-equal, Aligned, Step}
 use Rattle.rart_nodes.proofs.joins.JoinPathLemmas.{path-stays, path-on}
 use Rattle.rart_nodes.specs.joins.Visitors.{path-reserved}
 use Rattle.rart_nodes.proofs.node.intersect.aligned.next_aligned.Given.{Over}
 use Rattle.rart_nodes.proofs.node.intersect.aligned.next_aligned.Goals.{In-Some-enter_after, In-Some-enter_other_after}
+use Rattle.rart_nodes.proofs.node.intersect.aligned.next_aligned.Goals.{Then-same_prefixes}
 use Rattle.rart_nodes.proofs.node.intersect.aligned.next_aligned.Goals as goal
+
+-- the prefixes are equal
+whole : (g : Over) (c : Then-same_prefixes g) (l : List ℕ) → l ≡ prefix_of c.args.left.node.now
+    → Aligned c.args.left.node.now c.args.right.node.now l c.args.left.node.now c.args.right.node.now
+    (g.C.Count.number c.args.counter.now) (g.C.Count.number c.args.counter.now)
+whole g c l e = place-equal c.args.left.node.now c.args.right.node.now l _ c.args.left.canonical e
+    (sym c.prefix.ensures ∙ c.same_prefixes.ensures.0 c.if-same_prefixes.true ∙ c.prefix-2.ensures)
+
+pub grow-requires : goal.grow-requires
+grow-requires g c =
+    let end = whole g (goal.at.grow-requires g c).Then-same_prefixes c.to_slice.result.now
+    (c.to_slice.ensures ∙ c.prefix-then-same_prefixes.ensures) in
+    path-reserved _ _ [] (longest_key (pairs_of c.args.left.node.now)) (length c.to_slice.result.now) (path-stays _)
+    c.requires (omega (arith, end.aligned.short))
+
+pub returns-then-same_prefixes : goal.returns-then-same_prefixes
+returns-then-same_prefixes g c =
+    let end = whole g (goal.at.returns-then-same_prefixes g c).Then-same_prefixes c.to_slice.result.now
+    (c.to_slice.ensures ∙ c.prefix-then-same_prefixes.ensures) in
+    record { aligned = (c.to_slice.result.now, c.grow.ensures, end.aligned); visits = end.visits }
 
 pub loop-byte-init : goal.loop-byte-init
 loop-byte-init g c = (
   [],
   path-stays _,
-  place-start _ _ _ _ _ c.args.left.canonical (c.to_slice-left_rest.ensures ∙ c.prefix.ensures)
-      (c.to_slice-right_rest.ensures ∙ c.prefix-2.ensures),
+  place-start _ _ _ _ _ c.args.left.canonical (c.to_slice-left_rest.ensures ∙ c.prefix-3.ensures)
+      (c.to_slice-right_rest.ensures ∙ c.prefix-4.ensures),
 )
 
-pub grow-requires : goal.grow-requires
-grow-requires g c =
+pub grow-requires-in-loop-byte : goal.grow-requires-in-loop-byte
+grow-requires-in-loop-byte g c =
     let inv = c.loop-byte.invariant in
     path-reserved _ _ inv.0 (longest_key (pairs_of c.args.left.node.now)) (length c.part.result.0.now) inv.1 c.requires
     (omega (
@@ -38,7 +59,7 @@ returns-in_default g c =
     let end = place-aligned _ _ _ _ _ _ _ _ _ c.loop-byte.left.canonical c.in-None.ensures c.in_default.ensures
     (place-common _ _ _ _ _ _ _ _ _ _ _ _ c.part.ensures.left_is c.part.ensures.right_is inv.2) in
     record {
-      aligned = (inv.0 ++ c.part.result.0.now, path-on _ _ _ inv.0 _ inv.1 c.grow.ensures, end.aligned);
+      aligned = (inv.0 ++ c.part.result.0.now, path-on _ _ _ inv.0 _ inv.1 c.grow-in-loop-byte.ensures, end.aligned);
       visits = end.visits;
     }
 
@@ -50,7 +71,7 @@ returns-in_default-enter_after g c =
     c.loop-byte.left.canonical c.in-None.ensures c.in-Some-next_byte.ensures.0 c.in_default-enter_after.ensures.shown
     (place-common _ _ _ _ _ _ _ _ _ _ _ _ c.part.ensures.left_is c.part.ensures.right_is inv.2) in
     record {
-      aligned = (inv.0 ++ c.part.result.0.now, path-on _ _ _ inv.0 _ inv.1 c.grow.ensures, end.given);
+      aligned = (inv.0 ++ c.part.result.0.now, path-on _ _ _ inv.0 _ inv.1 c.grow-in-loop-byte.ensures, end.given);
       visits = omega (arith, end.visits, c.in_default-enter_after.ensures.counted);
     }
 
@@ -69,7 +90,7 @@ grow-requires-in-None g c =
     let inv = c.loop-byte.invariant in
     let step = left-on g (goal.at.grow-requires-in-None g c).In-Some-enter_after in
     path-reserved _ _ (inv.0 ++ c.part.result.0.now) (longest_key (pairs_of c.args.left.node.now))
-    (length c.in-Some-enter_after.edge.now) (path-on _ _ _ inv.0 _ inv.1 c.grow.ensures) c.requires
+    (length c.in-Some-enter_after.edge.now) (path-on _ _ _ inv.0 _ inv.1 c.grow-in-loop-byte.ensures) c.requires
     (omega (
       arith,
       step.place.short,
@@ -84,7 +105,7 @@ pub loop-byte-preserved-in-None : goal.loop-byte-preserved-in-None
 loop-byte-preserved-in-None g c =
     let inv = c.loop-byte.invariant in (
       (inv.0 ++ c.part.result.0.now) ++ c.in-Some-enter_after.edge.now,
-      path-on _ _ _ (inv.0 ++ c.part.result.0.now) _ (path-on _ _ _ inv.0 _ inv.1 c.grow.ensures)
+      path-on _ _ _ (inv.0 ++ c.part.result.0.now) _ (path-on _ _ _ inv.0 _ inv.1 c.grow-in-loop-byte.ensures)
           c.grow-in-None.ensures,
       rw (c.in-Some-enter_after.ensures.shown.1, c.in-Some-enter_after.ensures.counted)
           (left-on g (goal.at.loop-byte-preserved-in-None g c).In-Some-enter_after).place,
@@ -98,7 +119,7 @@ returns-then-not-is_empty g c =
     (some-when _ _ c.is_empty.ensures c.if-not-is_empty.true) c.part.ensures.apart
     (place-common _ _ _ _ _ _ _ _ _ _ _ _ c.part.ensures.left_is c.part.ensures.right_is inv.2) in
     record {
-      aligned = (inv.0 ++ c.part.result.0.now, path-on _ _ _ inv.0 _ inv.1 c.grow.ensures, end.given);
+      aligned = (inv.0 ++ c.part.result.0.now, path-on _ _ _ inv.0 _ inv.1 c.grow-in-loop-byte.ensures, end.given);
       visits = end.visits;
     }
 
@@ -111,7 +132,7 @@ returns-in_default-enter_other_after g c =
     c.in_default-enter_other_after.ensures.shown
     (place-common _ _ _ _ _ _ _ _ _ _ _ _ c.part.ensures.left_is c.part.ensures.right_is inv.2) in
     record {
-      aligned = (inv.0 ++ c.part.result.0.now, path-on _ _ _ inv.0 _ inv.1 c.grow.ensures, end.given);
+      aligned = (inv.0 ++ c.part.result.0.now, path-on _ _ _ inv.0 _ inv.1 c.grow-in-loop-byte.ensures, end.given);
       visits = omega (arith, end.visits, c.in_default-enter_other_after.ensures.counted);
     }
 
@@ -131,7 +152,7 @@ grow-requires-in-Some g c =
     let inv = c.loop-byte.invariant in
     let step = right-on g (goal.at.grow-requires-in-Some g c).In-Some-enter_other_after in
     path-reserved _ _ (inv.0 ++ c.part.result.0.now) (longest_key (pairs_of c.args.left.node.now))
-    (length c.in-Some.edge.now) (path-on _ _ _ inv.0 _ inv.1 c.grow.ensures) c.requires
+    (length c.in-Some.edge.now) (path-on _ _ _ inv.0 _ inv.1 c.grow-in-loop-byte.ensures) c.requires
     (omega (
       arith,
       step.place.short,
@@ -147,7 +168,7 @@ pub loop-byte-preserved : goal.loop-byte-preserved
 loop-byte-preserved g c =
     let inv = c.loop-byte.invariant in (
       (inv.0 ++ c.part.result.0.now) ++ c.in-Some.edge.now,
-      path-on _ _ _ (inv.0 ++ c.part.result.0.now) _ (path-on _ _ _ inv.0 _ inv.1 c.grow.ensures)
+      path-on _ _ _ (inv.0 ++ c.part.result.0.now) _ (path-on _ _ _ inv.0 _ inv.1 c.grow-in-loop-byte.ensures)
           c.grow-in-Some.ensures,
       rw (c.in-Some.ensures.1, c.in-Some-enter_other_after.ensures.counted)
           (right-on g (goal.at.loop-byte-preserved g c).In-Some-enter_other_after).place,

@@ -8,23 +8,19 @@ use Rattle.rart_trie.specs.walks.Walk.{joined_bytes}
 use Rattle.rart_nodes.specs.walks.PathParts.{lent_segments}
 use Rattle.rart_parts.specs.declared.error.TreeError.{TreeError}
 use Rattle.rart_nodes.proofs.joins.CallLemmas.{always-after-view-at, can-views}
-use Rattle.rart_nodes.proofs.joins.JointVisits.{joined-right_none}
 use Rattle.rart_nodes.proofs.joins.VisitorLemmas.{given-whole}
 use Rattle.rart_nodes.proofs.walks.WalkLemmas.{has-pairs}
 use Rattle.rart_nodes.proofs.node.seen.Seen.intersect_lending_with_by_ref_counted.Goals as goal
 
-pub returns-in_default-top-clause-calls : goal.returns-in_default-top-clause-calls
-returns-in_default-top-clause-calls g c =
-    let none = joined-right_none (option_copied c.args.self.root) (option_copied c.args.other.root)
-    c.in_default-top.ensures in
-    rw none.0 refl
+pub returns-in_default-clause-calls : goal.returns-in_default-clause-calls
+returns-in_default-clause-calls g c = rw c.in_default.ensures.0 refl
 
 pub returns-in_err-segments-clause-memory : goal.returns-in_err-segments-clause-memory
 returns-in_err-segments-clause-memory g c =
-    let left = has-pairs c.in-Some.field-0.node.now (option_copied c.args.self.root) c.in-Some.field-0.canonical
-    c.in-Some.ensures in
-    let right = has-pairs c.in-Some-top.field-0.node.now (option_copied c.args.other.root)
-    c.in-Some-top.field-0.canonical c.in-Some-top.ensures in
+    let left = has-pairs c.in-Some.tops.0.node.now (option_copied c.args.self.root) c.in-Some.tops.0.canonical
+    c.in-Some.ensures.0 in
+    let right = has-pairs c.in-Some.tops.1.node.now (option_copied c.args.other.root) c.in-Some.tops.1.canonical
+    c.in-Some.ensures.1 in
     let memory : IfErr c.from_residual.result (λ e. e ≡ TreeError.Memory) = search rules in
     IfErr-weaker c.from_residual.result (λ e. e ≡ TreeError.Memory) _ (λ e m. (m, left, right)) memory
 

@@ -100,7 +100,7 @@ invariant_of-self g c =
     let count = c.len-count.ensures ∙ c.self.inside.children.ok.0 in
     last_kept c.self.invariant c.len-count.result c.args.key c.args.node count
     (omega (arith, c.requires.not_full, counted c.self.invariant _ c.self.view_is))
-    (c.goes_last.ensures c.if-goes_last.true) (ap (child_at c.args.key) c.self.view_is ∙ c.requires.absent) _ _
+    (c.goes_last.ensures.0 c.if-goes_last.true) (ap (child_at c.args.key) c.self.view_is ∙ c.requires.absent) _ _
     c.push_reserved.ensures.items (omega (arith, c.push_reserved.ensures.capacity))
 
 pub returns-then-goes_last : goal.returns-then-goes_last
@@ -109,7 +109,7 @@ returns-then-goes_last g c =
     ap (zip (set c.self.inside.keys c.len-count.result c.args.key)) c.push_reserved.ensures.items
     ∙ last c.self.invariant c.len-count.result c.args.key c.args.node count
     (omega (arith, c.requires.not_full, counted c.self.invariant _ c.self.view_is))
-    (c.goes_last.ensures c.if-goes_last.true) (ap (child_at c.args.key) c.self.view_is ∙ c.requires.absent)
+    (c.goes_last.ensures.0 c.if-goes_last.true) (ap (child_at c.args.key) c.self.view_is ∙ c.requires.absent)
     ∙ ap (with_entry c.args.key c.args.node) c.self.view_is
 
 pub invariant_of-self-2 : goal.invariant_of-self-2
