@@ -7,6 +7,7 @@ pub mod SegmentLaws
 pub mod Shown
 pub mod WalkSteps
 pub mod PathParts
+pub mod KeyBuffers
 pub mod Tried
 pub mod ViewSegments
 pub mod Viewed

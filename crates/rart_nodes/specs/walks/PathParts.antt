@@ -5,6 +5,7 @@ use Rattle.std.specs.Option.{option_copied}
 use Rattle.std.proofs.Common.{arith}
 use Rattle.rart_nodes.specs.declared.node.walk.Walk.{Walk}
 use Rattle.rart_nodes.specs.declared.node.walk.path.BytePath.{BytePath}
+use Rattle.rart_nodes.specs.walks.KeyBuffers.{bytes_in}
 use Rattle.rart_trie.specs.walks.Walk.{Grown, IsShort, Level, SegmentList, entry_values, entries_ahead}
 
 abbrev pub byte_segments : Grown
@@ -12,7 +13,7 @@ byte_segments p = map (λ b. b ∷ []) p
 
 -- the bytes that a path of bytes keeps
 abbrev pub kept_bytes : BytePath → List ℕ
-kept_bytes t = take t.len t.places.items
+kept_bytes t = take t.len (bytes_in t.buffer)
 
 abbrev pub one_segment : Grown
 one_segment [] = []

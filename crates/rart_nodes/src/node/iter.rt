@@ -36,6 +36,7 @@ impl<'a, K: KeyTrait, P: Partial, V, C> Model for KeyWalk<'a, K, P, V, C> {
     ghost use Rattle.std.specs.Option.{option_copied};
     ghost use Rattle.rart_trie.specs.walks.Walk.{IsKeyWalk, join_all, entries_ahead};
     ghost use Rattle.rart_nodes.specs.walks.PathParts.{byte_segments, kept_bytes};
+    ghost use Rattle.rart_nodes.specs.walks.KeyBuffers.{bytes_in};
 
     ghost Value = { List (List ℕ × V) };
 
@@ -43,7 +44,7 @@ impl<'a, K: KeyTrait, P: Partial, V, C> Model for KeyWalk<'a, K, P, V, C> {
         (option_copied w.walk.first) w.walk.levels.items) };
 
     ghost invariant = { λ w. IsKeyWalk K.MAXIMUM_SIZE w.walk.longest (vec_capacity w.walk.levels)
-        (length w.path.places.items) (byte_segments (kept_bytes w.path))
+        (length (bytes_in w.path.buffer)) (byte_segments (kept_bytes w.path))
         (reverse w.walk.levels.items) };
 }
 

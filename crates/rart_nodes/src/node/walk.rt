@@ -144,7 +144,7 @@ pub(crate) fn empty_walk<'a, P: Partial, V, C, T: Path<'a, P>>(
 }
 
 impl<'a, K: KeyTrait, V, C> Seen<'a, K, V, C> {
-    /// Returns an empty path with capacity for the number of bytes that the tree keeps, and for no more.
+    /// Returns an empty path with capacity for the number of bytes that the tree keeps. It requests no more.
     pub(crate) fn new_path<T: Path<'a, K::PartialType>>(self) -> Result<T, AllocError>
         ensures empty_path { IfOk result (λ t. T.kept t ≡ []) }
         ensures reserved { IfOk result (λ t. self.entry.longest ≤ T.capacity t) }

@@ -18,6 +18,8 @@ const LONGEST: usize = 3;
 
 const LEVELS: usize = 4;
 
+const BYTES: [u8; 33] = [7; 33];
+
 // The sizes of a level of a walk and of a segment of a lent key.
 const LEVEL: usize = 72;
 
@@ -52,16 +54,39 @@ fn count_below(tree: &Tree, prefix: &Key) -> Result<usize, TreeError> {
     Ok(many.get())
 }
 
-fn iteration_is_within(alloc: Global, tree: &Tree, limit: usize) -> bool {
+fn iteration_is_within(alloc: Global, tree: &Tree, count: usize, limit: usize) -> bool {
     add_bytes(alloc, limit);
     let many = counted(tree.iter());
-    !were_more(alloc) && many == Ok(4)
+    !were_more(alloc) && many == Ok(count)
 }
 
 #[test]
 fn iterations_request_within_the_longest_key(rt: HostRuntime) {
     let tree = filled(rt.alloc()).expect(&rt, "a tree");
-    assert!(rt; iteration_is_within(rt.alloc(), &tree, LEVELS * LEVEL + LONGEST));
+    assert!(rt; iteration_is_within(rt.alloc(), &tree, 4, LEVELS * LEVEL));
+}
+
+// A tree with one key of so many bytes.
+fn of_one(alloc: Global, len: usize) -> Option<Tree> {
+    let mut tree = Tree::new(alloc);
+    match tree.insert_k(&Key::new_from_slice(&BYTES[..len.min(BYTES.len())]), 0) {
+        Ok(_) => Some(tree),
+        Err(_) => None,
+    }
+}
+
+fn one_is_within(alloc: Global, len: usize, limit: usize) -> bool {
+    match of_one(alloc, len) {
+        Some(tree) => iteration_is_within(alloc, &tree, 1, limit),
+        None => false,
+    }
+}
+
+// The bytes of a key of up to 32 are inline.
+#[test]
+fn iterations_request_within_inline_and_longer_keys(rt: HostRuntime) {
+    assert!(rt; one_is_within(rt.alloc(), 32, 33 * LEVEL));
+    assert!(rt; one_is_within(rt.alloc(), 33, 34 * LEVEL + 33));
 }
 
 fn views_are_within(alloc: Global, tree: &Tree, limit: usize) -> bool {
@@ -86,5 +111,5 @@ fn range_is_within(alloc: Global, tree: &Tree, limit: usize) -> bool {
 #[test]
 fn ranges_request_within_the_longest_key(rt: HostRuntime) {
     let tree = filled(rt.alloc()).expect(&rt, "a tree");
-    assert!(rt; range_is_within(rt.alloc(), &tree, LEVELS * LEVEL + LONGEST));
+    assert!(rt; range_is_within(rt.alloc(), &tree, LEVELS * LEVEL));
 }

@@ -1,9 +1,13 @@
 //! What a walk keeps of its path: the bytes, the segments, or nothing.
-ghost use Rattle.std.specs.Prelude.{◌≡◌, ◌≤◌, ◌+◌, ◌^◌, ◌++◌, ℕ, [], length, take, IfOk};
+ghost use Rattle.std.specs.Prelude.{◌≡◌, ◌<◌, ◌≤◌, ◌+◌, ◌^◌, ◌++◌, ℕ, [], length, take, IfOk};
+ghost use Rattle.rart_nodes.specs.walks.KeyBuffers.{bytes_in};
 ghost use Rattle.rart_trie.specs.walks.Walk.{Grown, IsShort, SegmentList};
 
-use rart_keys::{Partial, copy_bytes};
+use crate::node::walk::path::key_buffer::KeyBuffer;
+use rart_keys::Partial;
 use std::alloc::{AllocError, Global};
+
+mod key_buffer;
 
 /// What is kept of one prefix.
 pub(crate) trait Keeps {
@@ -20,20 +24,16 @@ pub(crate) trait Path<'a, P: Partial>: Keeps + Drop {
 
     ghost requested: { Self → ℕ };
 
-    ghost allocated: { Self → ℕ };
-
-    /// Returns an empty path without capacity.
+    /// Returns an empty path. It does not allocate.
     fn empty(alloc: Global) -> Self
         ensures empty_path { kept result ≡ [] }
-        ensures requested { requested result ≡ 0 }
-        ensures allocated { allocated result ≡ 0 };
+        ensures requested { requested result ≡ 0 };
 
-    /// Returns an empty path with capacity for keys of `longest` bytes, and for no more.
+    /// Returns an empty path with capacity for keys of `longest` bytes. It requests no more.
     fn with_capacity(alloc: Global, longest: usize) -> Result<Self, AllocError>
         ensures empty_path { IfOk result (λ t. kept t ≡ []) }
         ensures capacity { IfOk result (λ t. longest ≤ capacity t) }
-        ensures requested { IfOk result (λ t. requested t ≤ longest) }
-        ensures allocated { IfOk result (λ t. allocated t ≤ requested t) };
+        ensures requested { IfOk result (λ t. requested t ≤ longest) };
 
     /// Returns the length of what is kept.
     fn mark(&self) -> usize
@@ -56,11 +56,11 @@ pub(crate) trait Path<'a, P: Partial>: Keeps + Drop {
 /// The bytes of the key.
 #[derive(Drop)]
 pub(crate) struct BytePath {
-    // a place for each byte of the longest key
-    places: Vec<u8>,
-    // how many of them are in use
+    buffer: KeyBuffer,
+    // how many of its bytes are in use
     len: usize,
-    ghost in_range: { len ≤ length places.items },
+    ghost fits: { length (bytes_in buffer) < 2 ^ 64 },
+    ghost in_range: { len ≤ length (bytes_in buffer) },
 }
 
 impl BytePath {
@@ -71,7 +71,7 @@ impl BytePath {
     pub(crate) fn key(&self) -> &[u8]
         ensures { result.now ≡ kept_bytes self.now }
     {
-        &self.places.as_slice()[..self.len]
+        &self.buffer.as_slice()[..self.len]
     }
 }
 
@@ -84,30 +84,25 @@ impl Keeps for BytePath {
 }
 
 impl<'a, P: Partial> Path<'a, P> for BytePath {
-    ghost use Rattle.std.specs.Prelude.{length, vec_capacity};
     ghost use Rattle.rart_nodes.specs.walks.PathParts.{byte_segments, kept_bytes};
+    ghost use Rattle.rart_nodes.specs.walks.KeyBuffers.{allocated_bytes};
 
     ghost kept = { λ t. byte_segments (kept_bytes t) };
 
-    ghost capacity = { λ t. length t.places.items };
+    ghost capacity = { λ t. length (bytes_in t.buffer) };
 
-    ghost requested = { λ t. length t.places.items };
+    ghost requested = { λ t. allocated_bytes t.buffer };
 
-    ghost allocated = { λ t. vec_capacity t.places };
-
-    fn empty(alloc: Global) -> Self {
+    fn empty(_alloc: Global) -> Self {
         BytePath {
-            places: Vec::new(alloc),
+            buffer: KeyBuffer::inline(),
             len: 0,
         }
     }
 
     fn with_capacity(alloc: Global, longest: usize) -> Result<Self, AllocError> {
-        let mut places = Vec::with_capacity(alloc, longest)?;
-        while places.len() < longest {
-            places.push_reserved(0);
-        }
-        Ok(BytePath { places, len: 0 })
+        let buffer = KeyBuffer::with_len(alloc, longest)?;
+        Ok(BytePath { buffer, len: 0 })
     }
 
     fn mark(&self) -> usize {
@@ -123,10 +118,7 @@ impl<'a, P: Partial> Path<'a, P> for BytePath {
     // Inline, as each step of a walk calls it.
     #[inline(always)]
     fn grow(&mut self, prefix: &'a P) {
-        let bytes = prefix.to_slice();
-        let end = self.len + bytes.len();
-        copy_bytes(&mut self.places[self.len..end], bytes);
-        self.len = end;
+        self.len = self.buffer.write(self.len, prefix.to_slice());
     }
 }
 
@@ -161,8 +153,6 @@ impl<'a, P: Partial> Path<'a, P> for SegmentPath<'a> {
     ghost capacity = { λ t. vec_capacity t.segments };
 
     ghost requested = { λ t. vec_capacity t.segments };
-
-    ghost allocated = { λ t. vec_capacity t.segments };
 
     fn empty(alloc: Global) -> Self {
         SegmentPath {
@@ -209,8 +199,6 @@ impl<'a, P: Partial> Path<'a, P> for NoPath {
     ghost capacity = { λ t. 2 ^ 64 };
 
     ghost requested = { λ t. 0 };
-
-    ghost allocated = { λ t. 0 };
 
     fn empty(_alloc: Global) -> Self {
         NoPath

@@ -33,6 +33,7 @@ impl<'a, K: KeyTrait, P: Partial, V, C> Model for KeyBackWalk<'a, K, P, V, C> {
     ghost use Rattle.rart_nodes.specs.ranges.BackWalk.{IsKeyBackWalk, remaining_entries};
     ghost use Rattle.rart_trie.specs.walks.Walk.{join_all};
     ghost use Rattle.rart_nodes.specs.walks.PathParts.{byte_segments, kept_bytes};
+    ghost use Rattle.rart_nodes.specs.walks.KeyBuffers.{bytes_in};
 
     ghost Value = { List (List ℕ × V) };
 
@@ -40,7 +41,7 @@ impl<'a, K: KeyTrait, P: Partial, V, C> Model for KeyBackWalk<'a, K, P, V, C> {
         (byte_segments (kept_bytes w.path)) (reverse w.walk.levels.items)) };
 
     ghost invariant = { λ w. IsKeyBackWalk K.MAXIMUM_SIZE w.walk.longest
-        (vec_capacity w.walk.levels) (length w.path.places.items)
+        (vec_capacity w.walk.levels) (length (bytes_in w.path.buffer))
         (byte_segments (kept_bytes w.path)) (reverse w.walk.levels.items) };
 }
 
