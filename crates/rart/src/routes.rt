@@ -1,7 +1,7 @@
 //! A route table: a map that is looked up by the longest stored prefix of a probe.
 
 // Contracts see a table as they see a tree: its pairs of prefix and target, ascending by prefix, and the records of its
-// nodes. It uses the public contracts of the tree alone.
+// nodes. It uses the contracts of the tree alone, and none of its fields.
 
 ghost use Rattle.std.specs.Prelude.{◌≡◌, ◌*◌, ◌-◌, ◌≤◌, ◌↔◌, [], length, option_map, IfErr, IfOk, IsTrue, OnErr};
 ghost use Rattle.std.specs.Borrow.{sem};
@@ -138,14 +138,7 @@ impl<K: KeyTrait, T> RouteTable<K, T> {
         requires stored { IfErr outcome (IsStoredAt self.now.pairs (K.bytes prefix.now)) }
         ensures { AddsPresent self.now.pairs (K.bytes prefix.now) outcome result }
     {
-        match outcome {
-            Ok(()) => Ok(()),
-            Err(NotInserted::Refused(refused)) => Err(TryInsertError::Refused(refused)),
-            Err(NotInserted::Stored(proposed)) => match self.routes.get_k(prefix) {
-                Some(present) => Err(TryInsertError::Occupied(proposed, present)),
-                None => unreachable!(),
-            },
-        }
+        self.routes.with_present(prefix, outcome)
     }
 
     /// Inserts or replaces the route from `prefix` and returns the old target.

@@ -146,7 +146,7 @@ impl<K: KeyTrait, V> AdaptiveRadixTree<K, V> {
 
     /// Returns a view of the tree that counts its node reads in a `C`.
     ///
-    /// The capacity of its walks is at least the length of the longest stored key, and 0 in an empty tree.
+    /// The length that its walks allocate for is at least that of the longest stored key, and 0 in an empty tree.
     pub fn seen<C>(&self) -> Seen<'_, K, V, C>
         ensures pairs { seen_pairs result ≡ self.now.pairs }
         ensures nodes { seen_nodes result ≡ self.now.nodes }
@@ -230,30 +230,30 @@ impl<K: KeyTrait, V> AdaptiveRadixTree<K, V> {
         ensures inserts { Inserts (K.bytes key.now) value self.old.pairs self.new.pairs result }
         ensures unchanged { OnErr result (self.new ≡ self.old) }
     {
-        if self.len == MAX_PAIRS && self.get_k(key).is_none() {
-            return Err(Refused {
-                error: TreeError::Full,
-                value,
-            });
+        if self.is_full_for(key) {
+            return Err(Refused::full(value));
         }
         let bytes = key.as_ref();
-        match &mut self.root {
-            Some(root) => match root.insert(self.alloc, bytes, value) {
-                Ok(old) => {
-                    if old.is_none() {
-                        self.len += 1;
-                    }
-                    self.longest = self.longest.max(bytes.len());
-                    return Ok(old);
-                }
-                Err(refused) => return Err(refused),
-            },
-            None => {}
+        let old = match &mut self.root {
+            Some(root) => root.insert(self.alloc, bytes, value)?,
+            None => {
+                insert_first(&mut self.root, key, value);
+                None
+            }
+        };
+        if old.is_none() {
+            self.len += 1;
         }
-        insert_first(&mut self.root, key, value);
-        self.len = 1;
         self.longest = self.longest.max(bytes.len());
-        Ok(None)
+        Ok(old)
+    }
+
+    // Returns whether `key` is new and the tree holds `MAX_PAIRS` pairs. It searches only a full tree.
+    fn is_full_for(&self, key: &K) -> bool
+        ensures { IsTrue result ↔ (length self.now.pairs ≡ MAX_PAIRS)
+            × (lookup (K.bytes key.now) self.now.pairs ≡ None) }
+    {
+        self.len == MAX_PAIRS && self.get_k(key).is_none()
     }
 
     /// Inserts `value` at `key` and returns the old value, as [`insert_k`](Self::insert_k).

@@ -132,10 +132,7 @@ impl<K: KeyTrait, T> BitTable<K, T> {
     {
         self.strides.canonical();
         if self.is_full_for(octets, bits) {
-            return Err(Refused {
-                error: TreeError::Full,
-                value: target,
-            });
+            return Err(Refused::full(target));
         }
         let key = K::new_from_slice(first_octets(octets, bits / 8));
         let code = code_of(octet_at(octets, bits / 8), bits % 8);

@@ -9,10 +9,6 @@ pub(crate) fn joined_bytes<const N: usize>(first: &[u8], second: &[u8]) -> [u8; 
     ensures { result ≡ first.now ++ second.now
         ++ replicate (N - (length first.now + length second.now)) 0 }
 {
-    // `N` bytes are copied as one array.
-    if let Some(whole) = first.as_array::<N>() {
-        return *whole;
-    }
     let mut bytes = [0; N];
     let middle = first.len();
     let end = middle + second.len();

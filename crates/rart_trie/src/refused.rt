@@ -1,4 +1,5 @@
 //! Errors that return the offered value.
+ghost use Rattle.std.specs.Prelude.{◌≡◌};
 
 use rart_parts::TreeError;
 
@@ -9,6 +10,18 @@ pub struct Refused<T> {
     pub error: TreeError,
     /// The offered value, unchanged.
     pub value: T,
+}
+
+impl<T> Refused<T> {
+    /// Returns the refusal of `value` by a full tree. It does not allocate.
+    pub fn full(value: T) -> Self
+        ensures { result ≡ record { error = TreeError.Full; value = value } }
+    {
+        Refused {
+            error: TreeError::Full,
+            value,
+        }
+    }
 }
 
 /// Says why a new key was not inserted. The tree is unchanged.

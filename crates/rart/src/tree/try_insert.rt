@@ -6,10 +6,9 @@ ghost use Rattle.rart.specs.Edits.{InsertsNew, PutOrSame, TriesInsert};
 ghost use Rattle.rart.specs.Loans.{ends_as};
 ghost use Rattle.rart.specs.Refusals.{AddsPresent, IsStoredAt};
 
-use crate::tree::{AdaptiveRadixTree, MAX_PAIRS, insert_first};
+use crate::tree::{AdaptiveRadixTree, insert_first};
 use rart_keys::KeyTrait;
 use rart_nodes::{NotInserted, Refused};
-use rart_parts::TreeError;
 
 /// Says why `try_insert` inserted nothing.
 #[derive(Drop)]
@@ -32,29 +31,15 @@ impl<K: KeyTrait, V> AdaptiveRadixTree<K, V> {
             result }
         ensures unchanged { OnErr result (self.new ≡ self.old) }
     {
-        if self.len == MAX_PAIRS {
-            if self.get_k(key).is_some() {
-                return Err(NotInserted::Stored(value));
-            }
-            return Err(NotInserted::Refused(Refused {
-                error: TreeError::Full,
-                value,
-            }));
+        if self.is_full_for(key) {
+            return Err(NotInserted::Refused(Refused::full(value)));
         }
         let bytes = key.as_ref();
         match &mut self.root {
-            Some(root) => match root.insert_new(self.alloc, bytes, value) {
-                Ok(()) => {
-                    self.len += 1;
-                    self.longest = self.longest.max(bytes.len());
-                    return Ok(());
-                }
-                Err(why) => return Err(why),
-            },
-            None => {}
+            Some(root) => root.insert_new(self.alloc, bytes, value)?,
+            None => insert_first(&mut self.root, key, value),
         }
-        insert_first(&mut self.root, key, value);
-        self.len = 1;
+        self.len += 1;
         self.longest = self.longest.max(bytes.len());
         Ok(())
     }
@@ -90,8 +75,8 @@ impl<K: KeyTrait, V> AdaptiveRadixTree<K, V> {
         self.with_present(key, outcome)
     }
 
-    // Returns the outcome of an insertion, with the stored value if the key isn't new.
-    fn with_present<'a>(
+    /// Returns the outcome of an insertion, with the stored value if the key isn't new.
+    pub(crate) fn with_present<'a>(
         &'a self,
         key: &K,
         outcome: Result<(), NotInserted<V>>,

@@ -48,6 +48,13 @@ impl<const N: usize> ArrayKey<N> {
         requires { length first.now + length second.now ≤ N }
         ensures { array_key_bytes result ≡ first.now ++ second.now }
     {
+        // `N` bytes are copied as one array.
+        if let Some(whole) = first.as_array::<N>() {
+            return ArrayKey {
+                stored: *whole,
+                len: N,
+            };
+        }
         ArrayKey {
             stored: joined_bytes(first, second),
             len: first.len() + second.len(),

@@ -251,7 +251,7 @@ module _ {V : Type 0} where
       ⊎ ((reverse st2 ≡ (s.others, d) ∷ reverse s.rest) × (children_in t ≡ no_children))
   went d n t st st1 st2 s o =
       let e : reverse st1 ≡ (s.others, d) ∷ reverse s.rest = deepest st1 s.rest (s.others, d) s.is in
-      ⊎_elim (λ f. inl (deepest st2 st1 (children_in t, n) f ∙ ap (λ x. (children_in t, n) ∷ x) e))
+      ⊎_elim (λ f. inl (deepest st2 st1 (children_in t, n) f.0 ∙ ap (λ x. (children_in t, n) ∷ x) e))
       (λ f. inr (ap reverse f.0 ∙ e, f.1)) o
 
   -- a walk continues to a child

@@ -44,7 +44,7 @@ module _ {V : Type 0} where
   pub visit-on : (n m : ℕ) (t : Trie V) (k : SegmentList) (st1 st2 : List (Level V)) → is_canonical t ≡ true
       → None ≡ value_of t → PushesLevel st1 t (length k) st2 → m ≤ n + length k → HasVisited n m k (reverse st2)
   visit-on n m t k st1 st2 w v o h = ⊎_elim
-      (λ e. rw (deepest st2 st1 (children_in t, length k) e) (inr (h, (refl, has-child t w v))))
+      (λ e. rw (deepest st2 st1 (children_in t, length k) e.0) (inr (h, (refl, has-child t w v))))
       (λ e. absurd (has-child t w v e.1)) o
 
   -- the deepest level has no more children, or there is no level

@@ -40,7 +40,7 @@ pub record DeepestStep {V : Type 0} (before : List (Level V)) (t : Trie V) (d : 
 
 -- a level of t's children comes after the others, n deep, unless t has none
 abbrev pub PushesLevel : {V : Type 0} → List (Level V) → Trie V → ℕ → List (Level V) → Type 0
-PushesLevel before t n after = (after ≡ before ++ (children_in t, n) ∷ [])
+PushesLevel before t n after = ((after ≡ before ++ (children_in t, n) ∷ []) × (children_in t ≢ no_children))
     ⊎ ((after ≡ before) × (children_in t ≡ no_children))
 
 -- the first remaining value was returned, at the path that is kept now; or none remained, and none does

@@ -5,6 +5,7 @@ ghost use Rattle.rart_nodes.specs.tries.Equal.{same_pairs, same_tries, same_valu
 ghost use Rattle.rart_nodes.specs.tries.SeenTrees.{seen_nodes, seen_pairs};
 ghost use Rattle.rart_trie.specs.tries.TrieCode.{node_count};
 
+use crate::node::intersect::aligned::same_prefixes;
 use crate::node::seen::{Entered, Seen};
 use rart_keys::{KeyTrait, Partial};
 use rart_trie::{Count, Paired};
@@ -32,7 +33,7 @@ fn same_nodes<P: Partial, V: PartialEq, C: Count>(
     ensures right_visits { C.number counter.new + 1
         ≤ C.number counter.old + node_count right.entry.node.now }
 {
-    if left.prefix().to_slice() != right.prefix().to_slice() {
+    if !same_prefixes(left.prefix(), right.prefix()) {
         return false;
     }
     if !same_values(left.value(), right.value()) {

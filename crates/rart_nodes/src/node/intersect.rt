@@ -14,7 +14,7 @@ ghost use Rattle.rart_nodes.specs.joins.JoinPaths.{HasCapacityOf, PathGrown};
 ghost use Rattle.rart_nodes.specs.tries.SeenTrees.{length_bound, seen_keys, seen_nodes, seen_pairs};
 ghost use Rattle.rart_trie.specs.tries.Trie.{children_in, no_children, pairs_of};
 
-mod aligned;
+pub(super) mod aligned;
 mod join_path;
 mod shared_children;
 mod visitor;

@@ -200,33 +200,6 @@ impl<'a, K: KeyTrait + Drop, V, C: Count> SeenRange<'a, K, V, C> {
 }
 
 impl<'a, K: KeyTrait + Drop, V, C: Count> Seen<'a, K, V, C> {
-    fn bounded_walk(
-        self,
-        start: Bound<K>,
-        end: Bound<K>,
-        counter: &mut C,
-    ) -> Result<BoundedWalk<'a, K, K::PartialType, V, C>, TreeError>
-        ensures pairs { IfOk result (λ r. up_to r.0 r.1
-            ≡ between (bound_in K.bytes start) (bound_in K.bytes end) (seen_pairs self.entry)) }
-        ensures end { IfOk result (λ r. r.0 ≡ bound_in K.bytes end) }
-        ensures ahead { IfOk result (λ r. r.1 ≡ pairs_from (is_inclusive (bound_in K.bytes start))
-            (bound_bytes (bound_in K.bytes start)) (seen_pairs self.entry)) }
-        ensures memory { IfErr result (MayLackMemory (seen_pairs self.entry)) }
-        ensures unvisited { OnErr result (counter.new ≡ counter.old) }
-        ensures visits { IfOk result (λ _. C.number counter.new ≡ C.number counter.old
-            + probe_count (seen_keys self.entry) (bound_bytes (bound_in K.bytes start))) }
-        ensures bound { C.number counter.new
-            ≤ C.number counter.old + length (bound_bytes (bound_in K.bytes start))
-            + 1 }
-    {
-        let (bytes, included) = bytes_of(&start);
-        let walk = self.key_walk_from(bytes, included, counter)?;
-        Ok(BoundedWalk {
-            walk: WalkState::Active(walk),
-            end,
-        })
-    }
-
     /// Returns the pairs within two bounds. It allocates as [`iter_counted`](Self::iter_counted) does.
     ///
     /// # Errors
@@ -255,7 +228,12 @@ impl<'a, K: KeyTrait + Drop, V, C: Count> Seen<'a, K, V, C> {
             ≤ C.number counter.old + length (bound_bytes (bound_in K.bytes start))
             + 1 }
     {
-        let pairs = self.bounded_walk(start, end, counter)?;
+        let (bytes, included) = bytes_of(&start);
+        let walk = self.key_walk_from(bytes, included, counter)?;
+        let pairs = BoundedWalk {
+            walk: WalkState::Active(walk),
+            end,
+        };
         Ok(SeenRange { pairs })
     }
 }

@@ -47,7 +47,8 @@ module _ {F V : Type 0} (call : Mut F (Bor (List ℕ) × (MutBor V × Unit {0}))
   RetainsTree walk f (Some t) None f' = ⊥
   RetainsTree walk f (Some t) (Some u) f' = RetainsBelow [] walk f t u f'
 
--- The child at b was removed, and the capacity is that of the rest; the value stays. A node without a value has another child.
+-- The child at b was removed, and the capacity is that of the rest; the value stays. A node without a value has another
+-- child.
 abbrev pub RemovesChild : {V : Type 0} → Bool → ℕ → Storage V (Trie V) → Storage V (Trie V) → Type 0
 RemovesChild h b s s' = (child_entries s' ≡ without_byte b (child_entries s))
     × (storage_capacity s' ≡ capacity_without b s (length (child_entries s')))

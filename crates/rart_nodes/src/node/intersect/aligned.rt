@@ -49,6 +49,7 @@ fn enter_after<'a, P: Partial, V, C: Count>(
 }
 
 /// Visits the child at `byte` of a right node, as [`enter_after`] does.
+// Its own function: a right node has another counter's type and another call that counts.
 fn enter_other_after<'b, P: Partial, W, C: Count>(
     at: Entered<'b, P, W, Paired<C>>,
     byte: u8,

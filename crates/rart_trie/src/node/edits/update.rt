@@ -32,10 +32,7 @@ use std::alloc::Global;
 fn full_error<V>(value: V) -> UpdateError<V>
     ensures { result ≡ UpdateError.Insert (record { error = TreeError.Full; value = value }) }
 {
-    UpdateError::Insert(Refused {
-        error: TreeError::Full,
-        value,
-    })
+    UpdateError::Insert(Refused::full(value))
 }
 
 impl<P: Partial, V> DefaultNode<P, V> {

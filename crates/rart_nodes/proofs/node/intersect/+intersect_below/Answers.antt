@@ -121,7 +121,8 @@ loop-child-preserved-then-has_no_children-3 g t c =
         next.visits,
         c.in-Some-enter_next.ensures.counted,
         leaves-unvisited c.in-Some-enter_next.child.node.now c.in-Some-enter_next.other.node.now
-            (c.has_no_children-in-Some-enter_next.ensures.0 c.if-has_no_children-2.true) (c.has_no_children-then-has_no_children-2.ensures.0 c.if-has_no_children-3.true),
+            (c.has_no_children-in-Some-enter_next.ensures.0 c.if-has_no_children-2.true)
+            (c.has_no_children-then-has_no_children-2.ensures.0 c.if-has_no_children-3.true),
       );
       within = next.others;
     }

@@ -10,8 +10,10 @@ use Rattle.rart_nodes.proofs.node.intersect.intersect_leaves.Goals as goal
 pub returns-then-not-same_prefixes-clause-calls : goal.returns-then-not-same_prefixes-clause-calls
 returns-then-not-same_prefixes-clause-calls g c =
     let apart = leaves-apart c.args.left.node.now c.args.right.node.now c.requires.left_leaf c.requires.right_leaf
-    (λ e. absurd (cc (c.same_prefixes.ensures.1 (c.prefix.ensures ∙ e ∙ sym c.prefix-2.ensures), c.if-not-same_prefixes.true)))
-    in
+    (λ e. absurd (cc (
+      c.same_prefixes.ensures.1 (c.prefix.ensures ∙ e ∙ sym c.prefix-2.ensures),
+      c.if-not-same_prefixes.true,
+    ))) in
     rw apart (g.met.T.Visitor.lawful.gives_none _ _)
 
 found : (g : Over) (c : After-grow g) → Aligned c.args.left.node.now c.args.right.node.now c.to_slice.result.now

@@ -24,4 +24,7 @@ grow-requires g c κs = (
 
 pub returns-clause-levels : goal.returns-clause-levels
 returns-clause-levels g c
-    = inl (pushed _ _ _ _ _ _ c.push_reserved.ensures.items c.branches.ensures c.mark.ensures)
+    = inl (
+      pushed _ _ _ _ _ _ c.push_reserved.ensures.items c.branches.ensures c.mark.ensures,
+      λ e. absurd (cc (c.has_no_children.ensures.1 e, c.if-has_no_children.false)),
+    )

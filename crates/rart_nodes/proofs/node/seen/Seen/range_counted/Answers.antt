@@ -4,7 +4,7 @@ use Rattle.rart_keys.specs.Ranges.{bound_in, pairs_from, up_to}
 use Rattle.rart_trie.specs.tries.Tree.{tree_pairs}
 use Rattle.rart_nodes.proofs.ranges.RangeCuts.{from_bound-between}
 use Rattle.rart_trie.proofs.tries.CanonicalTests.{IsCanonicalTree-test}
-use Rattle.rart_nodes.proofs.node.seen.Seen.bounded_walk.Goals as goal
+use Rattle.rart_nodes.proofs.node.seen.Seen.range_counted.Goals as goal
 
 pub returns-clause-pairs : goal.returns-clause-pairs
 returns-clause-pairs g c =
