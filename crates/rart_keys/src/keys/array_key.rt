@@ -43,7 +43,7 @@ impl<const N: usize> ArrayKey<N> {
         &self.stored[..self.len]
     }
 
-    // The only constructor, so the zeros after the key are proved once.
+    // Every key but a copy is made here, so the zeros after it are proved once.
     fn from_two(first: &[u8], second: &[u8]) -> Self
         requires { length first.now + length second.now ≤ N }
         ensures { array_key_bytes result ≡ first.now ++ second.now }

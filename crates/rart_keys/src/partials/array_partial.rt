@@ -49,7 +49,7 @@ impl<const SIZE: usize> ArrPartial<SIZE> {
         &self.stored[..self.len]
     }
 
-    // The only constructor, so the zeros after the bytes are proved once.
+    // Every part but a clone is made here, so the zeros after the bytes are proved once.
     fn from_two(first: &[u8], second: &[u8]) -> Self
         requires { length first.now + length second.now ≤ SIZE }
         ensures { arr_partial_bytes result ≡ first.now ++ second.now }

@@ -144,13 +144,22 @@ pub(crate) fn empty_walk<'a, P: Partial, V, C, T: Path<'a, P>>(
 }
 
 impl<'a, K: KeyTrait, V, C> Seen<'a, K, V, C> {
-    /// Returns an empty path with capacity for the number of bytes that the tree keeps. It requests no more.
-    pub(crate) fn new_path<T: Path<'a, K::PartialType>>(self) -> Result<T, AllocError>
-        ensures empty_path { IfOk result (λ t. T.kept t ≡ []) }
-        ensures reserved { IfOk result (λ t. self.entry.longest ≤ T.capacity t) }
-        ensures requested { IfOk result (λ t. T.requested t ≤ self.entry.longest) }
+    /// Returns an empty path with capacity for the number of bytes that the tree keeps, and no levels, with capacity
+    /// for one more. The path requests no more bytes.
+    pub(crate) fn new_path<T: Path<'a, K::PartialType>, L>(
+        self,
+    ) -> Result<(T, Vec<L>), AllocError>
+        ensures empty_path { IfOk result (λ r. T.kept r.0 ≡ []) }
+        ensures reserved { IfOk result (λ r. length_bound self.entry ≤ T.capacity r.0) }
+        ensures requested { IfOk result (λ r. T.requested r.0 ≤ length_bound self.entry) }
+        ensures no_levels { IfOk result (λ r. r.1.items ≡ []) }
+        ensures places { IfOk result (λ r. vec_capacity r.1 ≡ length_bound self.entry + 1) }
     {
-        T::with_capacity(self.alloc(), self.longest())
+        let (alloc, longest) = (self.alloc(), self.longest());
+        let path = T::with_capacity(alloc, longest)?;
+        // no vector can hold `usize::MAX` levels, so that at such a length the request is refused
+        let levels = Vec::with_capacity(alloc, longest.saturating_add(1))?;
+        Ok((path, levels))
     }
 }
 
@@ -179,9 +188,7 @@ impl<'a, K: KeyTrait, V, C: Count> Seen<'a, K, V, C> {
             return Ok(empty_walk(alloc));
         };
         let root = root.enter(counter);
-        let mut path = self.new_path::<T>()?;
-        // no vector can hold `usize::MAX` levels, so that at such a length the request is refused
-        let levels = Vec::with_capacity(alloc, longest.saturating_add(1))?;
+        let (mut path, levels) = self.new_path::<T, _>()?;
         let walk = walk_at(levels, longest, &mut path, root);
         Ok((walk, path))
     }

@@ -134,8 +134,7 @@ impl<V, N> Storage<V, N> {
     ghost use Rattle.rart_trie.specs.storages.Stored.{child_entries};
 
     /// Returns a mutable borrow of the child at byte `b`.
-    // Inline, so that the caller's branch on it needs no child's address made from a test of the child: two reads of
-    // memory then run in parallel.
+    // Inline, so that the caller branches on the kind itself: the byte and the child are then read in parallel.
     #[inline(always)]
     pub(crate) fn seek_child_mut(&mut self, b: u8) -> Option<&mut N>
         ensures* writes_back { sem 𝓛 (lends_child V.row N.row self.entry b result) }

@@ -137,9 +137,7 @@ impl<'a, K: KeyTrait, V, C: Count> Seen<'a, K, V, C> {
         let Some(root) = self.top() else {
             return Ok(empty_back_walk(alloc));
         };
-        let mut path = self.new_path::<T>()?;
-        // no vector can hold `usize::MAX` levels, so that at such a length the request is refused
-        let levels = Vec::with_capacity(alloc, longest.saturating_add(1))?;
+        let (mut path, levels) = self.new_path::<T, _>()?;
         let root = root.enter(counter);
         let walk = back_walk_at(levels, longest, &mut path, root);
         Ok((walk, path))

@@ -89,9 +89,7 @@ impl<'a, K: KeyTrait, V, C: Count> Seen<'a, K, V, C> {
         let Some(top) = self.top() else {
             return Ok(empty_walk(alloc));
         };
-        let mut path = self.new_path::<T>()?;
-        // no vector can hold `usize::MAX` levels, so that at such a length the request is refused
-        let levels = Vec::with_capacity(alloc, longest.saturating_add(1))?;
+        let (mut path, levels) = self.new_path::<T, _>()?;
         let Some(at) = seek_prefix(Some(top), prefix, &mut path, counter) else {
             return Ok(empty_walk(alloc));
         };

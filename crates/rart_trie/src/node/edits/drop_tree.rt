@@ -1,6 +1,6 @@
 //! Drops of whole trees, by recursion over references: no level holds a node.
 ghost use Rattle.std.specs.Prelude.{◌≡◌, [], None};
-ghost use Rattle.rart_trie.specs.storages.Stored.{child_entries, storage_capacity};
+ghost use Rattle.rart_trie.specs.storages.Stored.{child_entries, storage_capacity, stored_value};
 
 use crate::node::DefaultNode;
 use crate::node::storage::Storage;
@@ -23,6 +23,7 @@ impl<P: Partial, V: Drop> DefaultNode<P, V> {
 pub(super) fn drop_children<P: Partial, V: Drop>(storage: &mut Storage<V, DefaultNode<P, V>>)
     ensures entries { child_entries storage.new ≡ [] }
     ensures capacity { storage_capacity storage.new ≡ 0 }
+    ensures value { stored_value storage.new ≡ None }
 {
     let mut next = storage.first_byte();
     while let Some(byte) = next {
@@ -41,6 +42,7 @@ pub(super) fn drop_children<P: Partial, V: Drop>(storage: &mut Storage<V, Defaul
 fn drop_leaves<P: Partial, V: Drop>(storage: &mut Storage<V, DefaultNode<P, V>>)
     ensures entries { child_entries storage.new ≡ [] }
     ensures capacity { storage_capacity storage.new ≡ 0 }
+    ensures value { stored_value storage.new ≡ None }
 {
     *storage = Storage::Empty;
 }

@@ -8,10 +8,6 @@ pub returns-in_err-path-clause-allocates : goal.returns-in_err-path-clause-alloc
 returns-in_err-path-clause-allocates g c = err-any c.from_residual.result
     (has-pairs c.in-Some.top.node.now _ c.in-Some.top.canonical c.in-Some.ensures)
 
-pub returns-in_err-levels-clause-allocates : goal.returns-in_err-levels-clause-allocates
-returns-in_err-levels-clause-allocates g c = err-any c.from_residual-in_err-levels.result
-    (has-pairs c.in-Some.top.node.now _ c.in-Some.top.canonical c.in-Some.ensures)
-
 pub returns-clause-visits : goal.returns-clause-visits
 returns-clause-visits g c =
     let root = root-entered c.args.end.now c.in-Some.top.node.now _ c.in-Some.top.canonical c.in-Some.ensures in
