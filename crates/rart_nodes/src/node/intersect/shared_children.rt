@@ -18,6 +18,7 @@ pub(crate) enum SharedChildren<'a, 'b, P: Partial, V, W, C> {
     OverRight(Branches<'b, P, W, Paired<C>>),
 }
 
+/// Visits the next child of the left node that shares its byte with one of the right node, and that one.
 fn next_over_left<'a, 'b, P: Partial, V, W, C: Count>(
     branches: &mut Branches<'a, P, V, C>,
     right: Entered<'b, P, W, Paired<C>>,
@@ -35,6 +36,8 @@ fn next_over_left<'a, 'b, P: Partial, V, W, C: Count>(
     None
 }
 
+/// Visits the same from the right node's children.
+// Its own function: the two sides have other types of values, and other counters.
 fn next_over_right<'a, 'b, P: Partial, V, W, C: Count>(
     left: Entered<'a, P, V, C>,
     branches: &mut Branches<'b, P, W, Paired<C>>,

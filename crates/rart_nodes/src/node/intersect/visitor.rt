@@ -66,7 +66,7 @@ impl<V, W> Visitor<V, W, usize> for Counted {
 
     ghost given = { GivenValues CountedOn };
 
-    fn give(_way: &JoinPath<'_>, count: &mut usize, _left: &V, _right: &W) {
+    fn give(_path: &JoinPath<'_>, count: &mut usize, _left: &V, _right: &W) {
         *count = count.saturating_add(1);
     }
 
@@ -89,7 +89,7 @@ impl<V, W, F: FnMut(&V, &W)> Visitor<V, W, F> for ByValues {
 
     ghost given = { GivenValues (λ p x q. CalledWith F.FnMut p x q) };
 
-    fn give(_way: &JoinPath<'_>, f: &mut F, left: &V, right: &W) {
+    fn give(_path: &JoinPath<'_>, f: &mut F, left: &V, right: &W) {
         f(left, right);
     }
 

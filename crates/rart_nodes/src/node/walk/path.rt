@@ -53,7 +53,7 @@ pub(crate) trait Path<'a, P: Partial>: Keeps + Drop {
         ensures requested { requested self.new ≡ requested self.old };
 }
 
-/// The bytes of the key.
+/// Keeps the bytes of the key.
 #[derive(Drop)]
 pub(crate) struct BytePath {
     buffer: KeyBuffer,
@@ -129,6 +129,7 @@ pub(crate) struct SegmentPath<'a> {
 }
 
 impl<'a> SegmentPath<'a> {
+    /// Returns the segments of the path.
     pub(crate) fn segments(&self) -> &[&'a [u8]]
         ensures { result.now ≡ self.now.segments.items }
     {
@@ -181,7 +182,7 @@ impl<'a, P: Partial> Path<'a, P> for SegmentPath<'a> {
     }
 }
 
-/// Nothing.
+/// Keeps nothing.
 #[derive(Drop)]
 pub(crate) struct NoPath;
 

@@ -115,6 +115,7 @@ impl<'a, K: KeyTrait, V, C: Count> Seen<'a, K, V, C> {
         ensures bound { C.number counter.new
             ≤ C.number counter.old + 3 * length (K.bytes probe.now) + 2 }
     {
+        // as above, since an `FnOnce` can't be called through a reference
         let Some((path, value)) = self.longest_path(probe.as_ref(), counter)? else {
             return Ok(false);
         };

@@ -14,6 +14,8 @@ use rart_parts::{TreeError, laws};
 use std::alloc::{AllocFailed, Global};
 use std::mem;
 
+// One function a map: each makes and frees an empty one by calls of its own.
+
 /// Returns a boxed sorted map with no child, and no value.
 pub(super) fn boxed_sorted<V, N, const W: usize>(
     alloc: Global,
