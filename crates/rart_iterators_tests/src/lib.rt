@@ -1,4 +1,4 @@
-//! Tests of what returns pairs one by one: iterators, ranges, the first and last pair, and the route table.
+//! Tests of what returns pairs one by one: iterators, ranges, and the first and last pair.
 //!
 //! Nothing depends on this crate, and it is no part of the product.
 #![tactic(auto)]
@@ -15,5 +15,3 @@ mod into_pairs;
 mod iterators;
 #[cfg(test)]
 mod ranges;
-#[cfg(test)]
-mod routes;

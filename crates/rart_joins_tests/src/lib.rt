@@ -1,4 +1,4 @@
-//! Tests of what reads two trees: intersections, `==` and clones.
+//! Tests of what reads two trees (intersections, `==` and clones), and of the route table.
 //!
 //! Nothing depends on this crate, and it is no part of the product.
 #![tactic(auto)]
@@ -9,3 +9,5 @@ mod clones;
 mod equal;
 #[cfg(test)]
 mod joins;
+#[cfg(test)]
+mod routes;
