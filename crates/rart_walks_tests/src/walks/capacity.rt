@@ -1,5 +1,5 @@
-//! The bytes that walks request: just enough for the longest stored key, whatever length the type of
-//! the keys allows.
+//! The bytes that walks request: just enough for the longest stored key, whatever length the type
+//! of the keys allows.
 
 use crate::items::counted;
 use rart::{AdaptiveRadixTree, ArrayKey, KeyTrait, LendingKeyView, TreeError};
@@ -35,8 +35,8 @@ fn are_added_up(alloc: Global) -> bool {
     were_more(alloc)
 }
 
-// Whether calls request exactly so many bytes. `are_within` makes the calls and returns whether they
-// request at most the limit, which they always do where nothing adds up bytes.
+// Whether calls request exactly so many bytes. `are_within` makes the calls and returns whether
+// they request at most the limit, which they always do where nothing adds up bytes.
 fn are_requested<F: Fn(usize) -> bool + Drop>(alloc: Global, bytes: usize, are_within: F) -> bool
     requires { (limit : _) → F.pre are_within limit }
 {
