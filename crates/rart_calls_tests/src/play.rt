@@ -6,8 +6,8 @@ pub mod replies;
 pub mod runs;
 
 pub use self::players::{
-    assert_none_wrong, first_wrong, first_wrong_refused, first_wrong_text,
-    first_wrong_without_requests,
+    assert_none_wrong, first_wrong, first_wrong_after, first_wrong_on, first_wrong_refused,
+    first_wrong_text, first_wrong_without_requests,
 };
 pub use self::runs::{first_wrong_in_run, run_is_refused_in_turn};
 
@@ -101,6 +101,8 @@ pub enum Form {
 #[derive(Clone, Copy)]
 pub enum Spelling {
     Bytes,
+    /// The key of so many bytes `a` and then the bytes of the text.
+    After(usize),
     Text,
 }
 

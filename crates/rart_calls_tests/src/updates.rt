@@ -4,9 +4,7 @@
 mod drops;
 mod refused;
 
-use crate::play::forms::callback_result;
-use crate::play::{Request, assert_none_wrong};
-use rart::script::{Call, Reply, step};
+use crate::play::{Ask, Request, Row, Want, assert_none_wrong, first_wrong, first_wrong_on};
 use rart::{AdaptiveRadixTree, ArrayKey, KeyTrait, Slot, SlotUpdate, TryUpdateError};
 use std::alloc::Global;
 
@@ -14,101 +12,59 @@ type Key = ArrayKey<16>;
 
 type Tree = AdaptiveRadixTree<Key, u64>;
 
-// Whether by `try_update`; the key; what is written; what is requested; what is replied, nothing where the callback
-// fails; the value afterwards.
-type Row = (
-    bool,
-    &'static str,
-    Option<u64>,
-    Request,
-    Option<bool>,
-    Option<u64>,
-);
-
-fn call(by_try_update: bool, key: Key, written: Option<u64>, request: Request) -> Call<Key, u64> {
-    match callback_result(request) {
-        Ok(update) => {
-            if by_try_update {
-                Call::TryUpdate(key, written, Ok(update))
-            } else {
-                Call::Update(key, written, update)
-            }
-        }
-        Err(()) => Call::TryUpdate(key, written, Err(())),
-    }
-}
-
-fn is(reply: &Reply<Key, u64>, want: Option<bool>) -> bool {
-    match reply {
-        Reply::Done(touched) => want == Some(*touched),
-        Reply::Failed => want.is_none(),
-        _ => false,
-    }
-}
-
-// Whether the key fits, and the reply and the value afterwards are the wanted ones.
-fn row_holds(alloc: Global, tree: &mut Tree, row: &Row) -> bool {
-    let (by_try_update, text, written, request, want, after) = *row;
-    let bytes = text.as_bytes();
-    if bytes.len() > 16 {
-        return false;
-    }
-    let call = call(by_try_update, Key::new_from_slice(bytes), written, request);
-    let reply = step(alloc, tree, call);
-    is(&reply, want) && tree.get_bytes(bytes).copied() == after
-}
-
-// The first row that fails, if one does.
-fn first_wrong(alloc: Global, tree: &mut Tree, rows: &[Row]) -> Option<usize> {
-    let mut at = 0_usize;
-    for row in rows {
-        if !row_holds(alloc, tree, row) {
-            return Some(at);
-        }
-        at = at.wrapping_add(1);
-    }
-    None
-}
-
-static OF_A_STORED_AND_A_NEW_KEY: [Row; 9] = [
-    (false, "a", None, Request::Insert(1), Some(true), Some(1)),
-    (false, "a", Some(7), Request::Keep, Some(true), Some(7)),
-    (false, "a", Some(8), Request::Insert(9), Some(true), Some(9)),
-    (false, "z", Some(5), Request::Insert(6), Some(true), Some(6)),
-    (false, "z", None, Request::Remove, Some(true), None),
-    (false, "z", None, Request::Remove, Some(false), None),
-    (true, "a", Some(3), Request::Fail, None, Some(9)),
-    (true, "q", Some(3), Request::Fail, None, None),
-    (true, "a", Some(3), Request::Keep, Some(true), Some(3)),
-];
-
-static INTO_A_BUCKET: [Row; 2] = [
-    (false, "bucket", None, Request::Keep, Some(false), None),
+// Each update is followed by a look-up of its key.
+static OF_A_STORED_AND_A_NEW_KEY: [Row<'static>; 18] = [
+    (Ask::Update("a", None, Request::Insert(1)), Want::Is(true)),
+    (Ask::Get("a"), Want::Some(1)),
+    (Ask::Update("a", Some(7), Request::Keep), Want::Is(true)),
+    (Ask::Get("a"), Want::Some(7)),
     (
-        false,
-        "bucket",
-        None,
-        Request::Insert(10),
-        Some(true),
-        Some(10),
+        Ask::Update("a", Some(8), Request::Insert(9)),
+        Want::Is(true),
     ),
+    (Ask::Get("a"), Want::Some(9)),
+    (
+        Ask::Update("z", Some(5), Request::Insert(6)),
+        Want::Is(true),
+    ),
+    (Ask::Get("z"), Want::Some(6)),
+    (Ask::Update("z", None, Request::Remove), Want::Is(true)),
+    (Ask::Get("z"), Want::None),
+    (Ask::Update("z", None, Request::Remove), Want::Is(false)),
+    (Ask::Get("z"), Want::None),
+    (Ask::TryUpdate("a", Some(3), Request::Fail), Want::Failed),
+    (Ask::Get("a"), Want::Some(9)),
+    (Ask::TryUpdate("q", Some(3), Request::Fail), Want::Failed),
+    (Ask::Get("q"), Want::None),
+    (Ask::TryUpdate("a", Some(3), Request::Keep), Want::Is(true)),
+    (Ask::Get("a"), Want::Some(3)),
 ];
 
-static OUT_OF_A_BUCKET: [Row; 2] = [
-    (false, "bucket", None, Request::Remove, Some(true), None),
-    (true, "bucket", None, Request::Remove, Some(false), None),
+static INTO_A_BUCKET: [Row<'static>; 4] = [
+    (Ask::Update("bucket", None, Request::Keep), Want::Is(false)),
+    (Ask::Get("bucket"), Want::None),
+    (
+        Ask::Update("bucket", None, Request::Insert(10)),
+        Want::Is(true),
+    ),
+    (Ask::Get("bucket"), Want::Some(10)),
 ];
 
-fn first_wrong_of_new(alloc: Global, rows: &[Row]) -> Option<usize> {
-    let mut tree = Tree::new(alloc);
-    first_wrong(alloc, &mut tree, rows)
-}
+static OUT_OF_A_BUCKET: [Row<'static>; 4] = [
+    (Ask::Update("bucket", None, Request::Remove), Want::Is(true)),
+    (Ask::Get("bucket"), Want::None),
+    (
+        Ask::TryUpdate("bucket", None, Request::Remove),
+        Want::Is(false),
+    ),
+    (Ask::Get("bucket"), Want::None),
+];
 
 #[test]
 fn updates_of_a_stored_and_a_new_key(rt: HostRuntime) {
     assert_none_wrong(
         &rt,
-        first_wrong_of_new(rt.alloc(), &OF_A_STORED_AND_A_NEW_KEY),
+        first_wrong::<Key>(rt.alloc(), &OF_A_STORED_AND_A_NEW_KEY),
     );
 }
 
@@ -131,9 +87,9 @@ fn add_five(tree: &mut Tree) -> Option<u64> {
 }
 
 fn bucket_is_updated(alloc: Global, tree: &mut Tree) -> bool {
-    first_wrong(alloc, tree, &INTO_A_BUCKET).is_none()
+    first_wrong_on(alloc, tree, &INTO_A_BUCKET).is_none()
         && add_five(tree) == Some(15)
-        && first_wrong(alloc, tree, &OUT_OF_A_BUCKET).is_none()
+        && first_wrong_on(alloc, tree, &OUT_OF_A_BUCKET).is_none()
 }
 
 fn new_bucket_is_updated(alloc: Global) -> bool {

@@ -17,10 +17,25 @@ fn key_of_bytes<K: KeyTrait>(bytes: &[u8]) -> Option<K> {
     }
 }
 
+// At least the bytes of the longest key of any row.
+const LONGEST: usize = 1024;
+
+// The key of so many bytes `a` and then these, where they aren't too many.
+fn key_after<K: KeyTrait>(count: usize, bytes: &[u8]) -> Option<K> {
+    let mut long = [b'a'; LONGEST];
+    let mut len = count;
+    for byte in bytes {
+        *long.get_mut(len)? = *byte;
+        len = len.wrapping_add(1);
+    }
+    key_of_bytes(long.get(..len)?)
+}
+
 /// The key that a text becomes, unless it is too long.
 pub fn key<K: KeyTrait>(text: &str, spelling: Spelling) -> Option<K> {
     match spelling {
         Spelling::Bytes => key_of_bytes(text.as_bytes()),
+        Spelling::After(count) => key_after(count, text.as_bytes()),
         Spelling::Text if text.len() <= 16 => {
             key_of_bytes(ArrayKey::<16>::new_from_str(text).as_slice())
         }
@@ -107,8 +122,8 @@ fn by_step<K: KeyTrait + Drop>(
     Some(step(alloc, tree, call(ask, spelling)?))
 }
 
-/// What a callback returns that requests this.
-pub fn callback_result(request: Request) -> Result<SlotUpdate<u64>, ()> {
+// What a callback returns that requests this.
+fn callback_result(request: Request) -> Result<SlotUpdate<u64>, ()> {
     match request {
         Request::Keep => Ok(SlotUpdate::Keep),
         Request::Remove => Ok(SlotUpdate::Remove),

@@ -65,6 +65,28 @@ pub fn first_wrong<K: KeyTrait + Drop>(alloc: Global, rows: &[Row<'_>]) -> Optio
     first_wrong_spelled::<K>(alloc, rows, Spelling::Bytes)
 }
 
+/// Plays the rows on a tree, each call by `step`, or by reference where `step` doesn't make it.
+pub fn first_wrong_on<K: KeyTrait + Drop>(
+    alloc: Global,
+    tree: &mut Tree<K>,
+    rows: &[Row<'_>],
+) -> Option<usize> {
+    let style = Style {
+        form: Form::Step,
+        spelling: Spelling::Bytes,
+    };
+    play(alloc, tree, rows, style)
+}
+
+/// Plays the rows with so many bytes `a` before each text.
+pub fn first_wrong_after<K: KeyTrait + Drop>(
+    alloc: Global,
+    rows: &[Row<'_>],
+    count: usize,
+) -> Option<usize> {
+    first_wrong_spelled::<K>(alloc, rows, Spelling::After(count))
+}
+
 /// Plays the rows with the keys of the texts.
 pub fn first_wrong_text<K: KeyTrait + Drop>(alloc: Global, rows: &[Row<'_>]) -> Option<usize> {
     first_wrong_spelled::<K>(alloc, rows, Spelling::Text)

@@ -13,44 +13,32 @@ type Key = ArrayKey<16>;
 
 type Tree = AdaptiveRadixTree<Key, u64>;
 
-/// An update of the key of one byte: 7 is written where the slot is occupied, and this is requested.
+/// What the callback of an update requests, after it wrote 7 where the slot is occupied.
 #[derive(Clone, Copy)]
-enum Ask {
+enum Request {
     Remove,
     Insert(u64),
 }
 
-// How many keys of one byte are stored, from 0 on, each with 10; whether by `try_update`; the byte; what is requested;
-// the value at the byte while a request is refused, and afterwards.
-type Row = (u8, bool, u8, Ask, Option<u64>, Option<u64>);
+/// An update of the key of this one byte.
+#[derive(Clone, Copy)]
+enum Ask {
+    Update(u8, Request),
+    TryUpdate(u8, Request),
+}
+
+// How many keys of one byte are stored, from 0 on, each with 10; the update; the value at its key
+// while a request is refused, and afterwards.
+type Row = (u8, Ask, Option<u64>, Option<u64>);
 
 fn key(byte: u8) -> Key {
     Key::new_from_slice(&[byte])
 }
 
-fn slot_of(ask: Ask) -> SlotUpdate<u64> {
-    match ask {
-        Ask::Remove => SlotUpdate::Remove,
-        Ask::Insert(value) => SlotUpdate::Insert(value),
-    }
-}
-
-// By the form that takes a reference.
-fn by_reference(
-    alloc: Global,
-    tree: &mut Tree,
-    by_try_update: bool,
-    byte: u8,
-    ask: Ask,
-) -> Reply<Key, u64> {
-    if by_try_update {
-        step(
-            alloc,
-            tree,
-            Call::TryUpdate(key(byte), Some(7), Ok(slot_of(ask))),
-        )
-    } else {
-        step(alloc, tree, Call::Update(key(byte), Some(7), slot_of(ask)))
+fn slot_of(request: Request) -> SlotUpdate<u64> {
+    match request {
+        Request::Remove => SlotUpdate::Remove,
+        Request::Insert(value) => SlotUpdate::Insert(value),
     }
 }
 
@@ -84,21 +72,33 @@ fn try_update_by_value(tree: &mut Tree, byte: u8, update: SlotUpdate<u64>) -> Re
     }
 }
 
-fn answer(alloc: Global, tree: &mut Tree, row: &Row, by_value: bool) -> Reply<Key, u64> {
-    let (_count, by_try_update, byte, ask, _kept, _after) = *row;
-    if !by_value {
-        by_reference(alloc, tree, by_try_update, byte, ask)
-    } else if by_try_update {
-        try_update_by_value(tree, byte, slot_of(ask))
-    } else {
-        update_by_value(tree, byte, slot_of(ask))
+fn call(ask: Ask) -> Call<Key, u64> {
+    match ask {
+        Ask::Update(byte, request) => Call::Update(key(byte), Some(7), slot_of(request)),
+        Ask::TryUpdate(byte, request) => Call::TryUpdate(key(byte), Some(7), Ok(slot_of(request))),
     }
 }
 
-fn is_refusal(reply: &Reply<Key, u64>, ask: Ask) -> bool {
-    match (reply, ask) {
-        (Reply::NoRemove, Ask::Remove) => true,
-        (Reply::Returned(error, back), Ask::Insert(value)) => {
+fn answer(alloc: Global, tree: &mut Tree, ask: Ask, by_value: bool) -> Reply<Key, u64> {
+    match ask {
+        Ask::Update(byte, request) if by_value => update_by_value(tree, byte, slot_of(request)),
+        Ask::TryUpdate(byte, request) if by_value => {
+            try_update_by_value(tree, byte, slot_of(request))
+        }
+        _ => step(alloc, tree, call(ask)),
+    }
+}
+
+fn byte_and_request(ask: Ask) -> (u8, Request) {
+    match ask {
+        Ask::Update(byte, request) | Ask::TryUpdate(byte, request) => (byte, request),
+    }
+}
+
+fn is_refusal(reply: &Reply<Key, u64>, request: Request) -> bool {
+    match (reply, request) {
+        (Reply::NoRemove, Request::Remove) => true,
+        (Reply::Returned(error, back), Request::Insert(value)) => {
             *error == TreeError::Memory && *back == value
         }
         _ => false,
@@ -126,17 +126,18 @@ fn row_is_answered(
     by_value: bool,
     at: usize,
 ) -> Option<bool> {
-    let (_count, _by_try_update, byte, ask, kept, after) = *row;
+    let (_count, ask, kept, after) = *row;
     refuse(alloc, at);
-    let reply = answer(alloc, tree, row, by_value);
+    let reply = answer(alloc, tree, ask, by_value);
     let refused = was_refused(alloc);
+    let (byte, request) = byte_and_request(ask);
     let found = tree.get_bytes(&[byte]).copied();
     if refused {
-        let well = is_refusal(&reply, ask) && found == kept && is_as_before(tree, before);
+        let well = is_refusal(&reply, request) && found == kept && is_as_before(tree, before);
         return well.then_some(true);
     }
     part_ends(alloc);
-    let _unrefused = answer(alloc, before, row, by_value);
+    let _unrefused = answer(alloc, before, ask, by_value);
     let well = matches!(reply, Reply::Done(true)) && found == after && are_alike(tree, before);
     well.then_some(false)
 }
@@ -160,18 +161,18 @@ fn row_holds(alloc: Global, row: &Row, by_value: bool) -> bool {
 }
 
 static GROWING_AND_SHRINKING: [Row; 12] = [
-    (4, false, 4, Ask::Insert(1), None, Some(1)),
-    (16, false, 16, Ask::Insert(2), None, Some(2)),
-    (48, false, 48, Ask::Insert(3), None, Some(3)),
-    (4, true, 4, Ask::Insert(1), None, Some(1)),
-    (16, true, 16, Ask::Insert(2), None, Some(2)),
-    (48, true, 48, Ask::Insert(3), None, Some(3)),
-    (5, false, 2, Ask::Remove, Some(7), None),
-    (17, false, 2, Ask::Remove, Some(7), None),
-    (49, false, 2, Ask::Remove, Some(7), None),
-    (5, true, 2, Ask::Remove, Some(10), None),
-    (17, true, 2, Ask::Remove, Some(10), None),
-    (49, true, 2, Ask::Remove, Some(10), None),
+    (4, Ask::Update(4, Request::Insert(1)), None, Some(1)),
+    (16, Ask::Update(16, Request::Insert(2)), None, Some(2)),
+    (48, Ask::Update(48, Request::Insert(3)), None, Some(3)),
+    (4, Ask::TryUpdate(4, Request::Insert(1)), None, Some(1)),
+    (16, Ask::TryUpdate(16, Request::Insert(2)), None, Some(2)),
+    (48, Ask::TryUpdate(48, Request::Insert(3)), None, Some(3)),
+    (5, Ask::Update(2, Request::Remove), Some(7), None),
+    (17, Ask::Update(2, Request::Remove), Some(7), None),
+    (49, Ask::Update(2, Request::Remove), Some(7), None),
+    (5, Ask::TryUpdate(2, Request::Remove), Some(10), None),
+    (17, Ask::TryUpdate(2, Request::Remove), Some(10), None),
+    (49, Ask::TryUpdate(2, Request::Remove), Some(10), None),
 ];
 
 #[test]

@@ -1,4 +1,5 @@
-//! The bytes that walks request: they suffice for the longest stored key, whatever length the type of the keys allows.
+//! The bytes that walks request: just enough for the longest stored key, whatever length the type
+//! of the keys allows.
 
 use crate::items::counted;
 use rart::{AdaptiveRadixTree, ArrayKey, KeyTrait, LendingKeyView, TreeError};
@@ -20,10 +21,27 @@ const LEVELS: usize = 4;
 
 const BYTES: [u8; 33] = [7; 33];
 
-// The sizes of a level of a walk and of a segment of a lent key.
+// The sizes of a level of a walk, of one from the last key, and of a segment of a lent key.
 const LEVEL: usize = 72;
 
+const BACK_LEVEL: usize = 48;
+
 const SEGMENT: usize = 16;
+
+// Whether a library adds up bytes: then one is more than none.
+fn are_added_up(alloc: Global) -> bool {
+    add_bytes(alloc, 0);
+    let _byte = Vec::<u8>::with_capacity(alloc, 1);
+    were_more(alloc)
+}
+
+// Whether calls request exactly so many bytes. `are_within` makes the calls and returns whether
+// they request at most the limit, which they always do where nothing adds up bytes.
+fn are_requested<F: Fn(usize) -> bool + Drop>(alloc: Global, bytes: usize, are_within: F) -> bool
+    requires { (limit : _) → F.pre are_within limit }
+{
+    are_within(bytes) && are_within(bytes.wrapping_sub(1)) != are_added_up(alloc)
+}
 
 fn insert_four(tree: &mut Tree) -> bool {
     let mut value = 0_u64;
@@ -60,10 +78,34 @@ fn iteration_is_within(alloc: Global, tree: &Tree, count: usize, limit: usize) -
     !were_more(alloc) && many == Ok(count)
 }
 
+fn iteration_requests(alloc: Global, tree: &Tree, count: usize, bytes: usize) -> bool {
+    are_requested(
+        alloc,
+        bytes,
+        |limit| iteration_is_within(alloc, tree, count, limit),
+    )
+}
+
 #[test]
 fn iterations_request_within_the_longest_key(rt: HostRuntime) {
     let tree = filled(rt.alloc()).expect(&rt, "a tree");
-    assert!(rt; iteration_is_within(rt.alloc(), &tree, 4, LEVELS * LEVEL));
+    assert!(rt; iteration_requests(rt.alloc(), &tree, 4, LEVELS * LEVEL));
+}
+
+fn descent_is_within(alloc: Global, tree: &Tree, limit: usize) -> bool {
+    add_bytes(alloc, limit);
+    let many = counted(tree.iter_descending());
+    !were_more(alloc) && many == Ok(4)
+}
+
+fn descent_requests(alloc: Global, tree: &Tree, bytes: usize) -> bool {
+    are_requested(alloc, bytes, |limit| descent_is_within(alloc, tree, limit))
+}
+
+#[test]
+fn descending_iterations_request_within_the_longest_key(rt: HostRuntime) {
+    let tree = filled(rt.alloc()).expect(&rt, "a tree");
+    assert!(rt; descent_requests(rt.alloc(), &tree, LEVELS * BACK_LEVEL));
 }
 
 // A tree with one key of so many bytes.
@@ -75,9 +117,9 @@ fn of_one(alloc: Global, len: usize) -> Option<Tree> {
     }
 }
 
-fn one_is_within(alloc: Global, len: usize, limit: usize) -> bool {
+fn one_requests(alloc: Global, len: usize, bytes: usize) -> bool {
     match of_one(alloc, len) {
-        Some(tree) => iteration_is_within(alloc, &tree, 1, limit),
+        Some(tree) => iteration_requests(alloc, &tree, 1, bytes),
         None => false,
     }
 }
@@ -85,8 +127,8 @@ fn one_is_within(alloc: Global, len: usize, limit: usize) -> bool {
 // The bytes of a key of up to 32 are inline.
 #[test]
 fn iterations_request_within_inline_and_longer_keys(rt: HostRuntime) {
-    assert!(rt; one_is_within(rt.alloc(), 32, 33 * LEVEL));
-    assert!(rt; one_is_within(rt.alloc(), 33, 34 * LEVEL + 33));
+    assert!(rt; one_requests(rt.alloc(), 32, 33 * LEVEL));
+    assert!(rt; one_requests(rt.alloc(), 33, 34 * LEVEL + 33));
 }
 
 fn views_are_within(alloc: Global, tree: &Tree, limit: usize) -> bool {
@@ -95,10 +137,14 @@ fn views_are_within(alloc: Global, tree: &Tree, limit: usize) -> bool {
     !were_more(alloc) && counted == Ok(3)
 }
 
+fn views_request(alloc: Global, tree: &Tree, bytes: usize) -> bool {
+    are_requested(alloc, bytes, |limit| views_are_within(alloc, tree, limit))
+}
+
 #[test]
 fn lent_keys_request_within_the_longest_key(rt: HostRuntime) {
     let tree = filled(rt.alloc()).expect(&rt, "a tree");
-    assert!(rt; views_are_within(rt.alloc(), &tree, LEVELS * LEVEL + LONGEST * SEGMENT));
+    assert!(rt; views_request(rt.alloc(), &tree, LEVELS * LEVEL + LONGEST * SEGMENT));
 }
 
 fn range_is_within(alloc: Global, tree: &Tree, limit: usize) -> bool {
@@ -108,8 +154,12 @@ fn range_is_within(alloc: Global, tree: &Tree, limit: usize) -> bool {
     !were_more(alloc) && many == Ok(2)
 }
 
+fn range_requests(alloc: Global, tree: &Tree, bytes: usize) -> bool {
+    are_requested(alloc, bytes, |limit| range_is_within(alloc, tree, limit))
+}
+
 #[test]
 fn ranges_request_within_the_longest_key(rt: HostRuntime) {
     let tree = filled(rt.alloc()).expect(&rt, "a tree");
-    assert!(rt; range_is_within(rt.alloc(), &tree, LEVELS * LEVEL));
+    assert!(rt; range_requests(rt.alloc(), &tree, LEVELS * LEVEL));
 }
