@@ -17,8 +17,8 @@ sys.dont_write_bytecode = True
 
 CRATE = pathlib.Path(__file__).resolve().parents[1] / "crates" / "rart_deep"
 
-# What a process may take: an eighth of what systems give. A bulk load takes 0.6 KiB a level, any other call and the
-# drop of the tree a third of a KiB at most, with keys of 1 KiB.
+# What a process may take: an eighth of what systems give. As LLVM builds it, `try_update` takes 0.4 KiB a level, any
+# other call and the drop of the tree 0.35 KiB at most, with keys of 1 KiB.
 KIB = 1024
 
 CALLS = [
@@ -36,8 +36,13 @@ CALLS = [
     ("retain", 512),
     ("routes", 1024),
     ("clear", 0),
+    ("take_prefix", 1023),
+    ("remove_prefix", 1023),
+    ("append", 1024),
     ("bulk_load_sorted", 1024),
+    ("from_pairs", 1024),
     ("drop_closing_zeros", 1024),
+    ("into_pairs", 1024),
     ("stats", 1024),
     ("equal", 1024),
     ("intersect_count", 1024),
@@ -47,10 +52,22 @@ CALLS = [
     ("look_up", 1024),
     ("longest", 1024),
     ("matches", 1024),
+    ("first_key_value", 1),
+    ("last_key_value", 1024),
+    ("count_below", 1023),
+    ("clone", 1024),
     ("iter", 1024),
+    ("iter_descending", 1024),
+    ("both_ends", 1024),
+    ("values", 1024),
+    ("values_both_ends", 1024),
     ("prefix", 1023),
+    ("prefix_descending", 1023),
     ("range", 1021),
+    ("range_descending", 1021),
+    ("range_both_ends", 1022),
     ("views", 1024),
+    ("range_views", 1021),
 ]
 
 # Far more seconds than any call takes, on a busy machine too.

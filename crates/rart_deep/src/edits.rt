@@ -2,7 +2,7 @@
 
 // The owner of a tree lends it to one function.
 
-use crate::reads::read;
+use crate::parts::part;
 use crate::trees::{Key, Tree, insert_all, key};
 use rart::{RouteTable, SlotUpdate, TryUpdateError};
 use std::alloc::Global;
@@ -207,6 +207,6 @@ pub fn edit(tree: &mut Tree, name: &str) -> Option<usize> {
         "values_mut" => Some(walk_mut(tree)),
         "retain" => retain(tree),
         "clear" => Some(clear(tree)),
-        _ => read(tree, name),
+        _ => part(tree, name),
     }
 }

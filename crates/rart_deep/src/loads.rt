@@ -1,7 +1,8 @@
-//! Bulk loads of the tree, and a migration to it.
+//! Bulk loads of the tree, insertions of many items, a migration, and the pairs by value.
 ghost use Rattle.std.specs.Prelude.{◌<◌};
 
-use crate::trees::{Key, Tree, first, key};
+use crate::trees::{Key, Tree, first, key, nested};
+use crate::walks::count;
 use std::alloc::Global;
 
 fn items(alloc: Global) -> Option<Vec<(Key, u64)>> {
@@ -16,6 +17,20 @@ fn items(alloc: Global) -> Option<Vec<(Key, u64)>> {
 pub fn sorted(alloc: Global) -> Option<usize> {
     let tree = Tree::bulk_load_sorted(alloc, items(alloc)?).ok()?;
     Some(tree.len())
+}
+
+/// Creates the tree of items, and returns how many keys the tree then has.
+pub fn from_pairs(alloc: Global) -> Option<usize> {
+    let tree = Tree::from_pairs(alloc, items(alloc)?).ok()?;
+    Some(tree.len())
+}
+
+/// Turns a tree of all keys into its pairs by value, and returns how many there are.
+pub fn into_pairs(alloc: Global) -> Option<usize> {
+    match nested(alloc)?.into_pairs() {
+        Ok(mut pairs) => Some(count(&mut pairs)),
+        Err(_refused) => None,
+    }
 }
 
 // The key of this many bytes and a closing zero.

@@ -6,8 +6,10 @@
 
 mod edits;
 mod loads;
+mod parts;
 mod reads;
 mod trees;
+mod walks;
 
 use crate::trees::{Tree, nested};
 use std::alloc::Global;
@@ -39,6 +41,8 @@ fn answer(alloc: Global, name: &str) -> Option<usize> {
         "try_insert" => edits::try_insert(alloc),
         "routes" => edits::routes(alloc),
         "bulk_load_sorted" => loads::sorted(alloc),
+        "from_pairs" => loads::from_pairs(alloc),
+        "into_pairs" => loads::into_pairs(alloc),
         "drop_closing_zeros" => loads::texts(alloc),
         _ => answer_of_nested(alloc, name),
     }

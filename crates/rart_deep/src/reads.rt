@@ -1,9 +1,8 @@
 //! Reads of the tree, and of two like it.
 use crate::trees::{Key, Tree, key};
-use rart::{Iter, KeyTrait, Range, TreeStatsTrait};
-use std::ops::Bound;
-
-type Partial = <Key as KeyTrait>::PartialType;
+use crate::walks::walk;
+use rart::laws::counts::count_below;
+use rart::{KeyTrait, TreeStatsTrait};
 
 // Returns the height.
 fn height(tree: &Tree) -> Option<usize> {
@@ -78,54 +77,29 @@ fn matches(tree: &Tree) -> usize {
     count
 }
 
-// Returns the number of pairs that are left. The walk is borrowed: a proof takes longer of a loop that owns one.
-fn count(pairs: &mut Iter<'_, Key, Partial, u64>) -> usize {
-    let mut count: usize = 0;
-    while let Some(_pair) = pairs.next() {
-        count = count.saturating_add(1);
-    }
-    count
+// Returns the length of the least key.
+fn first(tree: &Tree) -> Option<usize> {
+    let (found, _value) = tree.first_key_value()?;
+    Some(found.as_ref().len())
 }
 
-// The same of a part.
-fn count_within(pairs: &mut Range<'_, Key, u64>) -> usize {
-    let mut count: usize = 0;
-    while let Some(_pair) = pairs.next() {
-        count = count.saturating_add(1);
-    }
-    count
+// Returns the length of the greatest key.
+fn last(tree: &Tree) -> Option<usize> {
+    let (found, _value) = tree.last_key_value()?;
+    Some(found.as_ref().len())
 }
 
-// Returns the number of pairs.
-fn iter(tree: &Tree) -> Option<usize> {
-    match tree.iter() {
-        Ok(mut pairs) => Some(count(&mut pairs)),
+// Returns the number of keys with a prefix of two bytes.
+fn counted_below(tree: &Tree) -> Option<usize> {
+    count_below(tree, &key(2)).ok()
+}
+
+// Clones the tree, and returns how many keys the clone has.
+fn cloned(tree: &Tree) -> Option<usize> {
+    match tree.clone() {
+        Ok(copy) => Some(copy.len()),
         Err(_refused) => None,
     }
-}
-
-// Returns the number of pairs with a prefix of two bytes.
-fn prefix(tree: &Tree) -> Option<usize> {
-    match tree.prefix_iter_k(&key(2)) {
-        Ok(mut pairs) => Some(count(&mut pairs)),
-        Err(_refused) => None,
-    }
-}
-
-// Returns the number of pairs from the third to the last but one.
-fn range(tree: &Tree) -> Option<usize> {
-    match tree.range(Bound::Included(key(3)), Bound::Excluded(key(1024))) {
-        Ok(mut pairs) => Some(count_within(&mut pairs)),
-        Err(_refused) => None,
-    }
-}
-
-// Returns the number of views.
-fn views(tree: &Tree) -> Option<usize> {
-    let mut count: usize = 0;
-    tree.for_each_view(|_view, _value| count = count.saturating_add(1))
-        .ok()?;
-    Some(count)
 }
 
 /// Makes the call of this name on a tree of all keys. `None` if there is none, or no memory.
@@ -135,10 +109,10 @@ pub fn read(tree: &Tree, name: &str) -> Option<usize> {
         "look_up" => Some(look_up(tree)),
         "longest" => longest(tree),
         "matches" => Some(matches(tree)),
-        "iter" => iter(tree),
-        "prefix" => prefix(tree),
-        "range" => range(tree),
-        "views" => views(tree),
-        _ => None,
+        "first_key_value" => first(tree),
+        "last_key_value" => last(tree),
+        "count_below" => counted_below(tree),
+        "clone" => cloned(tree),
+        _ => walk(tree, name),
     }
 }
