@@ -146,7 +146,9 @@ pub(crate) fn empty_walk<'a, P: Partial, V, C, T: Path<'a, P>>(
 impl<'a, K: KeyTrait, V, C> Seen<'a, K, V, C> {
     /// Returns an empty path with capacity for the number of bytes that the tree keeps, and no levels, with capacity
     /// for one more. The path requests no more bytes.
-    pub(crate) fn new_path<T: Path<'a, K::PartialType>, L>(self) -> Result<(T, Vec<L>), AllocError>
+    pub(crate) fn new_path_and_levels<T: Path<'a, K::PartialType>, L>(
+        self,
+    ) -> Result<(T, Vec<L>), AllocError>
         ensures empty_path { IfOk result (λ r. T.kept r.0 ≡ []) }
         ensures reserved { IfOk result (λ r. length_bound self.entry ≤ T.capacity r.0) }
         ensures requested { IfOk result (λ r. T.requested r.0 ≤ length_bound self.entry) }
@@ -187,7 +189,7 @@ impl<'a, K: KeyTrait, V, C: Count> Seen<'a, K, V, C> {
         };
         // before the allocation, as the contract counts the root in each case
         let root = root.enter(counter);
-        let (mut path, levels) = self.new_path::<T, _>()?;
+        let (mut path, levels) = self.new_path_and_levels::<T, _>()?;
         let walk = walk_at(levels, longest, &mut path, root);
         Ok((walk, path))
     }

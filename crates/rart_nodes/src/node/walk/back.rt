@@ -137,7 +137,7 @@ impl<'a, K: KeyTrait, V, C: Count> Seen<'a, K, V, C> {
         let Some(root) = self.top() else {
             return Ok(empty_back_walk(alloc));
         };
-        let (mut path, levels) = self.new_path::<T, _>()?;
+        let (mut path, levels) = self.new_path_and_levels::<T, _>()?;
         let root = root.enter(counter);
         let walk = back_walk_at(levels, longest, &mut path, root);
         Ok((walk, path))

@@ -171,7 +171,7 @@ impl<'a, K: KeyTrait, V, C: Count> Seen<'a, K, V, C> {
         let Some(top) = self.top() else {
             return Ok(empty_walk(alloc));
         };
-        let (mut path, levels) = self.new_path::<T, _>()?;
+        let (mut path, levels) = self.new_path_and_levels::<T, _>()?;
         let mut walk: Walk<'a, K::PartialType, V, C> = Walk {
             levels,
             first: None,

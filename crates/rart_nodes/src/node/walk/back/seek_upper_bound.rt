@@ -174,7 +174,7 @@ impl<'a, K: KeyTrait, V, C: Count> Seen<'a, K, V, C> {
         let Some(top) = self.top() else {
             return Ok(empty_back_walk(alloc));
         };
-        let (mut path, levels) = self.new_path::<T, _>()?;
+        let (mut path, levels) = self.new_path_and_levels::<T, _>()?;
         let mut walk: BackWalk<'a, K::PartialType, V, C> = BackWalk { levels, longest };
         walk.descend(top, end, included, &mut path, counter);
         Ok((walk, path))

@@ -41,7 +41,7 @@ impl<'a, K: KeyTrait, V, C: Count> Seen<'a, K, V, C> {
         let Some(top) = self.top() else {
             return Ok(empty_back_walk(alloc));
         };
-        let (mut path, levels) = self.new_path::<T, _>()?;
+        let (mut path, levels) = self.new_path_and_levels::<T, _>()?;
         let Some(at) = seek_prefix(Some(top), prefix, &mut path, counter) else {
             return Ok(empty_back_walk(alloc));
         };
