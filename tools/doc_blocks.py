@@ -55,11 +55,15 @@ def joined(source):
 def example_faults(sources):
     """The examples in the map's doc comments that no source has, however their lines are broken."""
     texts = [joined(source) for source in sources]
+    found_one = False
     for path in sorted((TOP / "crates" / "rart" / "src").rglob("*.rt")):
         for found in EXAMPLE.finditer(path.read_text()):
+            found_one = True
             example = joined("".join(line.strip().removeprefix("///") for line in found[1].splitlines()))
             if not any(example in text for text in texts):
                 yield f"{path.relative_to(TOP)}: no source has the example {example}"
+    if not found_one:
+        yield "no doc comment of the map has an example"
 
 
 def table_faults():

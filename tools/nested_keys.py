@@ -5,7 +5,7 @@ usage: nested_keys.py PASSED FAILED
 
 Each row of CALLS names a call on trees of 1024 keys nested in each other, whose nodes are a path, and the number that
 it answers. A call is a process of its own, whose stack has at most KIB KiB, and passes if it ends with status 0 and
-prints its row. /bin/sh must have `ulimit -s`.
+prints its row. The first must not end with LITTLE KiB. /bin/sh must have `ulimit -s`.
 
 PASSED and FAILED are the counts of the step before. The last line adds the calls to them.
 """
@@ -20,6 +20,9 @@ CRATE = pathlib.Path(__file__).resolve().parents[1] / "crates" / "rart_deep"
 # What a process may take: an eighth of what systems give. As LLVM builds it, `try_update` takes 0.4 KiB a level, any
 # other call and the drop of the tree 0.35 KiB at most, with keys of 1 KiB.
 KIB = 1024
+
+# In so little no call can end: a row of its own shows that the limit is in force.
+LITTLE = 128
 
 CALLS = [
     ("insert", 1024),
@@ -74,23 +77,27 @@ CALLS = [
 SECONDS = 600
 
 
-def run(call):
-    """The status of a call, and what it printed."""
-    words = ["/bin/sh", "-c", f'ulimit -s {KIB} && exec "$0"', str(CRATE / "out" / "rart_deep")]
+def run(call, kib):
+    """The status of a call with a stack of so many KiB, and what it printed."""
+    words = ["/bin/sh", "-c", f'ulimit -s {kib} && exec "$0"', str(CRATE / "out" / "rart_deep")]
     ended = subprocess.run(words, input=call + "\n", capture_output=True, text=True, env={}, timeout=SECONDS)
     return ended.returncode, ended.stdout
 
 
 def main():
-    passed, failed = int(sys.argv[1]), int(sys.argv[2])
+    passed, failed = (int(sys.argv[1]), int(sys.argv[2])) if len(sys.argv) == 3 else (0, 0)
     for call, number in CALLS:
-        status, printed = run(call)
+        status, printed = run(call, KIB)
         if (status, printed) == (0, f"{call} {number}\n"):
             print(f"nested keys: {call} {number}: ok within {KIB} KiB")
             passed += 1
         else:
             print(f"nested keys: {call}: FAILED: status {status}, {printed!r}")
             failed += 1
+    status, printed = run(CALLS[0][0], LITTLE)
+    is_stopped = status != 0 and not printed
+    print(f"nested keys: {CALLS[0][0]}: {'stopped' if is_stopped else 'FAILED: it ends'} within {LITTLE} KiB")
+    passed, failed = passed + is_stopped, failed + (not is_stopped)
     print(f"{passed} passed, {failed} failed")
     return 1 if failed else 0
 

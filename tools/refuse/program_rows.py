@@ -88,15 +88,20 @@ def reader_goes(program):
     return differs((status, b"", said), (1, b"", CANNOT_WRITE))
 
 
-def little_memory(program, space):
-    """An address space of so many MiB: it isn't begun, cannot read, or answers each line with `none` or `Memory`."""
+def little_memory(program, space, mixed):
+    """An address space of so many MiB: it isn't begun, cannot read, or answers each line with `none` or `Memory`.
+
+    If it gives both answers, the space is added to `mixed`; at the last, one must have been.
+    """
     status, printed, said = run(program, MANY_KEYS, space * 1024)
     answers = printed.splitlines()
     if status == 0 and not said and len(answers) == 90_000 and set(answers) <= {b"none", b"Memory"}:
         refused = answers.count(b"Memory")
-        if space == SPACES[0] and not refused:
-            return "no request was refused"
-        return f"{refused} answers are Memory" if space == SPACES[-1] and refused else ""
+        if 0 < refused < 90_000:
+            mixed.append(space)
+        if space < SPACES[-1]:
+            return ""
+        return f"{refused} answers are Memory" if refused else "" if mixed else "no space gave both answers"
     # At 127 the C library itself isn't loaded.
     is_refused = (status, printed, said) == (1, b"", CANNOT_READ) or (status == 127 and not printed)
     if is_refused and space < SPACES[-1]:
@@ -123,5 +128,6 @@ def checks(program):
         ("a reader that goes away", reader_goes),
     ):
         yield name, attempt(check, program)
+    mixed = []
     for space in SPACES:
-        yield f"{space} MiB of addresses", attempt(little_memory, program, space)
+        yield f"{space} MiB of addresses", attempt(little_memory, program, space, mixed)

@@ -81,22 +81,29 @@ def run(program, script, refuse=0, library=None, **how):
 
 
 def swept(program, script, library, cannot_read=CANNOT_READ):
-    """Why the sweep failed, or nothing, and how many requests were refused. Each line of the script prints one."""
+    """Why the sweep failed, or nothing, and how many requests were refused. Each line of the script prints one.
+
+    A run in which one request is refused can't read its input, or has one answer `Memory` at most; some run has one.
+    """
     lines = script.splitlines(keepends=True)
     status, whole, said, _ = run(program, script)
     if status != 0 or said or len(whole.splitlines()) != len(lines):
         return "it goes wrong with ample memory", 0
+    told = 0
     for at in range(1, 10_000):
         status, printed, said, refused = run(program, script, at, library)
         if not refused:
-            well = at > 1 and (status, printed, said) == (0, whole, b"")
-            return "" if well else "no request was refused, or it then went wrong", at - 1
+            well = at > 1 and told and (status, printed, said) == (0, whole, b"")
+            return "" if well else "no answer was Memory, or it then went wrong", at - 1
         if status == 1 and not printed and said == cannot_read:
             continue
         answers = printed.splitlines()
         if status != 0 or said or len(answers) != len(lines):
             return f"request {at}: status {status}, {len(answers)} lines", at
         kept = [i for i, answer in enumerate(answers) if answer != b"Memory"]
+        told += len(lines) - len(kept)
+        if len(lines) - len(kept) > 1:
+            return f"request {at}: {len(lines) - len(kept)} answers are Memory", at
         _, wanted, _, _ = run(program, b"".join(lines[i] for i in kept))
         if [answers[i] for i in kept] != wanted.splitlines():
             return f"request {at}: the other answers differ", at

@@ -6,6 +6,13 @@ LENGTH = b"line 1: bad length\n"
 HOST_BITS = b"line 1: host bits set\n"
 
 ROWS = (
+    # README's commands.
+    (
+        b"add 10.0.0.0/8 core\nadd 10.16.0.0/12 lyon\nroute 10.17.2.3\nwithin 10.0.0.0/8\n",
+        b"none\nnone\nsome 10.16.0.0/12=lyon\n10.0.0.0/8=core 10.16.0.0/12=lyon\n",
+        b"",
+        0,
+    ),
     (
         b"add 10.0.0.0/8 core\nadd 10.1.0.0/16 lab\nget 10.0.0.0/8\nroute 10.1.2.3\nlen\n",
         b"none\nnone\nsome core\nsome 10.1.0.0/16=lab\n2\n",

@@ -3,6 +3,13 @@
 FIRST = b"line 1: bad command\n"
 
 ROWS = (
+    # README's commands.
+    (
+        b"insert cat 1\ninsert catalog 2\nget cat\nlongest catalogue\n",
+        b"none\nnone\nsome 1\nsome catalog=2\n",
+        b"",
+        0,
+    ),
     (
         b"insert cat 1\ninsert catalog 2\ninsert cat 5\nget cat\nget ca\nlen\n",
         b"none\nnone\nsome 1\nsome 5\nnone\n2\n",

@@ -227,9 +227,15 @@ fn is_stopped(alloc: Global, tree: &Tree, count: u8) -> bool {
     false
 }
 
-fn is_retained_or_stopped(alloc: Global, tree: &mut Tree, count: u8, at: usize) -> Option<bool> {
+fn is_retained_or_stopped(
+    alloc: Global,
+    tree: &mut Tree,
+    count: u8,
+    borrows: bool,
+    at: usize,
+) -> Option<bool> {
     refuse(alloc, at);
-    let answer = retain(tree, Rule::Nothing, true);
+    let answer = retain(tree, Rule::Nothing, borrows);
     let refused = was_refused(alloc);
     let well = match answer {
         Ok(()) => !refused && is_fan(alloc, tree, 0, 0, 0),
@@ -239,18 +245,27 @@ fn is_retained_or_stopped(alloc: Global, tree: &mut Tree, count: u8, at: usize) 
 }
 
 // Whether a request was refused; `None` where the call fails.
-fn is_retained_anew(alloc: Global, count: u8, at: usize) -> Option<bool> {
+fn is_retained_anew(alloc: Global, count: u8, borrows: bool, at: usize) -> Option<bool> {
     let mut tree = fan(alloc, 0, count, 0);
-    is_retained_or_stopped(alloc, &mut tree, count, at)
+    is_retained_or_stopped(alloc, &mut tree, count, borrows, at)
 }
 
 #[test]
 fn nodes_that_shrink_by_retain_refused_in_turn(rt: HostRuntime) {
     let alloc = rt.alloc();
-    for count in [5_u8, 17, 49, 60] {
+    for (count, borrows) in [
+        (5_u8, true),
+        (17, true),
+        (49, true),
+        (60, true),
+        (60, false),
+    ] {
         assert!(rt;
-            is_swept(alloc, |at: usize| is_retained_anew(alloc, count, at)),
-            "{count}"
+            is_swept(
+                alloc,
+                |at: usize| is_retained_anew(alloc, count, borrows, at)
+            ),
+            "{count} {borrows}"
         );
     }
 }

@@ -1,7 +1,7 @@
 //! Updates through a slot, as calls that are values: what is written where the slot is occupied, what is requested
 //! then, the reply, and the value that the key has afterwards; and with values that count their drops.
 
-mod drops;
+pub mod drops;
 mod refused;
 
 use crate::play::{Ask, Request, Row, Want, assert_none_wrong, first_wrong, first_wrong_on};

@@ -8,6 +8,9 @@ use std::str::FromStr;
 
 type Table = CidrTable6<u64>;
 
+// A network and its target.
+type Route = (&'static str, u64);
+
 #[derive(Clone, Copy)]
 enum Ask {
     /// Inserts a route.
@@ -16,9 +19,9 @@ enum Ask {
     Write(&'static str, u64),
     /// The target of exactly this network.
     Get(&'static str),
-    /// The longest network that covers this one, by walk and by lengths.
+    /// The route with the longest network that covers this one, by walk and by lengths.
     Covers(&'static str),
-    /// The networks that cover this one, the shortest first.
+    /// The routes with a network that covers this one, the shortest first.
     CoversAll(&'static str),
     /// The network of this length that contains the first.
     Supernet(&'static str, u8),
@@ -36,8 +39,9 @@ enum Ask {
 enum Reply {
     Value(Option<u64>),
     Net(&'static str),
+    Route(Route),
     None,
-    Nets(&'static [&'static str]),
+    Routes(&'static [Route]),
     Order(Ordering),
     BadAddress,
     BadLength,
@@ -54,6 +58,10 @@ fn is(net: &Cidr6, text: &str) -> bool {
     }
 }
 
+fn is_route(net: &Cidr6, target: u64, wanted: Route) -> bool {
+    is(net, wanted.0) && target == wanted.1
+}
+
 fn writes(table: &mut Table, net: &Cidr6, target: u64, wanted: Option<u64>) -> bool {
     match table.get_mut(net) {
         Some(stored) => {
@@ -66,31 +74,31 @@ fn writes(table: &mut Table, net: &Cidr6, target: u64, wanted: Option<u64>) -> b
 }
 
 // The longest match finds it, by walk and by lengths.
-fn covers(table: &Table, net: &Cidr6, wanted: Option<&str>) -> bool {
+fn covers(table: &Table, net: &Cidr6, wanted: Option<Route>) -> bool {
     match (
         table.longest_match_net(net),
         table.longest_by_lengths(net),
         wanted,
     ) {
-        (Some((walked, target)), Some((sought, same)), Some(text)) => {
-            is(&walked, text) && is(&sought, text) && *target == *same
+        (Some((walked, target)), Some((sought, same)), Some(route)) => {
+            is_route(&walked, *target, route) && is_route(&sought, *same, route)
         }
         (None, None, None) => true,
         _ => false,
     }
 }
 
-fn gives(found: &mut Matches6<'_, u64>, wanted: &[&str]) -> bool {
-    for text in wanted {
+fn gives(found: &mut Matches6<'_, u64>, wanted: &[Route]) -> bool {
+    for route in wanted {
         match found.next() {
-            Some((covering, _)) if is(&covering, *text) => {}
+            Some((covering, target)) if is_route(&covering, *target, *route) => {}
             _ => return false,
         }
     }
     found.next().is_none()
 }
 
-fn covers_all(table: &Table, net: &Cidr6, wanted: &[&str]) -> bool {
+fn covers_all(table: &Table, net: &Cidr6, wanted: &[Route]) -> bool {
     let mut found = table.matches_net(net);
     gives(&mut found, wanted)
 }
@@ -119,9 +127,9 @@ fn replies_of(table: &mut Table, net: &Cidr6, row: Row) -> bool {
         },
         (Ask::Write(_, target), Reply::Value(wanted)) => writes(table, net, target, wanted),
         (Ask::Get(_), Reply::Value(wanted)) => table.get(net).copied() == wanted,
-        (Ask::Covers(_), Reply::Net(text)) => covers(table, net, Some(text)),
+        (Ask::Covers(_), Reply::Route(route)) => covers(table, net, Some(route)),
         (Ask::Covers(_), Reply::None) => covers(table, net, None),
-        (Ask::CoversAll(_), Reply::Nets(texts)) => covers_all(table, net, texts),
+        (Ask::CoversAll(_), Reply::Routes(routes)) => covers_all(table, net, routes),
         (Ask::Supernet(_, len), Reply::Net(text)) => {
             len <= net.len() && is(&net.supernet(len), text)
         }
@@ -190,35 +198,42 @@ static ROWS: [Row; 33] = [
     (Ask::Len, Reply::Count(5, false)),
     (
         Ask::Covers("2001:db8:1000::/36"),
-        Reply::Net("2001:db8:1000::/36"),
+        Reply::Route(("2001:db8:1000::/36", 30)),
     ),
     (
         Ask::Covers("2001:db8:1000::/37"),
-        Reply::Net("2001:db8:1000::/36"),
+        Reply::Route(("2001:db8:1000::/36", 30)),
     ),
-    (Ask::Covers("2001:db8::/35"), Reply::Net("2001:db8::/32")),
+    (
+        Ask::Covers("2001:db8::/35"),
+        Reply::Route(("2001:db8::/32", 2)),
+    ),
     (
         Ask::Covers("2001:db8:1000::/64"),
-        Reply::Net("2001:db8:1000::/48"),
+        Reply::Route(("2001:db8:1000::/48", 4)),
     ),
     (
         Ask::Covers("2001:db8:1000::1/128"),
-        Reply::Net("2001:db8:1000::1/128"),
+        Reply::Route(("2001:db8:1000::1/128", 5)),
     ),
-    (Ask::Covers("::/0"), Reply::Net("::/0")),
+    (Ask::Covers("::/0"), Reply::Route(("::/0", 1))),
     (
         Ask::CoversAll("2001:db8:1000::1/128"),
-        Reply::Nets(&[
-            "::/0",
-            "2001:db8::/32",
-            "2001:db8:1000::/36",
-            "2001:db8:1000::/48",
-            "2001:db8:1000::1/128",
+        Reply::Routes(&[
+            ("::/0", 1),
+            ("2001:db8::/32", 2),
+            ("2001:db8:1000::/36", 30),
+            ("2001:db8:1000::/48", 4),
+            ("2001:db8:1000::1/128", 5),
         ]),
     ),
     (
         Ask::CoversAll("2001:db8:1000::/40"),
-        Reply::Nets(&["::/0", "2001:db8::/32", "2001:db8:1000::/36"]),
+        Reply::Routes(&[
+            ("::/0", 1),
+            ("2001:db8::/32", 2),
+            ("2001:db8:1000::/36", 30),
+        ]),
     ),
     (
         Ask::Supernet("2001:db8:1000::1/128", 127),

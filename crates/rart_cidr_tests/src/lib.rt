@@ -8,6 +8,8 @@ mod calls4;
 #[cfg(test)]
 mod calls6;
 #[cfg(test)]
+mod drops4;
+#[cfg(test)]
 mod model;
 #[cfg(test)]
 mod quiet;

@@ -66,6 +66,15 @@ impl Seen {
         }
     }
 
+    /// Returns what a refused walk counts as: it is wrong for any group, an empty one too.
+    pub fn refused() -> Seen {
+        Seen {
+            count: 0,
+            last: None,
+            is_right: false,
+        }
+    }
+
     /// Adds a route, which is wrong if it isn't of the group, doesn't come after the last one, or isn't in `routes`.
     pub fn add(&mut self, routes: &[Route], group: Group, route: Route) {
         let (net, target) = route;

@@ -1,4 +1,4 @@
-//! How many strides a longest match reads: rows of networks, what is sought, and the exact count.
+//! How many nodes and strides a longest match reads: rows of networks, what is sought, and the exact counts.
 
 ghost use Rattle.rart_trie.specs.walks.VisitCounts.{visit_count};
 
@@ -30,8 +30,9 @@ fn no_reads() -> Tally {
     }
 }
 
-// What is sought; how many networks, from the first on, are stored; how many strides are read, and what is found.
-type Row = (&'static str, usize, usize, Option<&'static str>);
+// What is sought; how many networks, from the first on, are stored; how many nodes of the map of strides are entered;
+// how many strides are read; and what is found. After a stride without an answer, the map is descended anew.
+type Row = (&'static str, usize, usize, usize, Option<&'static str>);
 
 // All but the first and the last miss 10.1.2.3, each in a stride that its octets begin with.
 static NETWORKS4: [&str; 5] = [
@@ -43,17 +44,17 @@ static NETWORKS4: [&str; 5] = [
 ];
 
 static ROWS4: [Row; 11] = [
-    ("10.1.2.3/32", 0, 1, None),
-    ("10.1.2.3/32", 1, 1, Some("0.0.0.0/0")),
-    ("10.1.2.3/32", 2, 2, Some("0.0.0.0/0")),
-    ("10.1.2.3/32", 3, 3, Some("0.0.0.0/0")),
-    ("10.1.2.3/32", 4, 4, Some("0.0.0.0/0")),
-    ("10.1.2.3/32", 5, 1, Some("10.1.2.3/32")),
-    ("10.1.2.0/24", 5, 4, Some("0.0.0.0/0")),
-    ("10.1.2.128/26", 5, 1, Some("10.1.2.128/25")),
-    ("10.1.200.0/24", 5, 1, Some("10.1.128.0/17")),
-    ("10.1.2.0/23", 5, 3, Some("0.0.0.0/0")),
-    ("11.0.0.0/8", 5, 1, Some("0.0.0.0/0")),
+    ("10.1.2.3/32", 0, 0, 1, None),
+    ("10.1.2.3/32", 1, 1, 1, Some("0.0.0.0/0")),
+    ("10.1.2.3/32", 2, 3, 2, Some("0.0.0.0/0")),
+    ("10.1.2.3/32", 3, 6, 3, Some("0.0.0.0/0")),
+    ("10.1.2.3/32", 4, 10, 4, Some("0.0.0.0/0")),
+    ("10.1.2.3/32", 5, 5, 1, Some("10.1.2.3/32")),
+    ("10.1.2.0/24", 5, 10, 4, Some("0.0.0.0/0")),
+    ("10.1.2.128/26", 5, 4, 1, Some("10.1.2.128/25")),
+    ("10.1.200.0/24", 5, 3, 1, Some("10.1.128.0/17")),
+    ("10.1.2.0/23", 5, 6, 3, Some("0.0.0.0/0")),
+    ("11.0.0.0/8", 5, 1, 1, Some("0.0.0.0/0")),
 ];
 
 // All but the first and the last miss 2001:db8::1.
@@ -68,17 +69,17 @@ static NETWORKS6: [&str; 7] = [
 ];
 
 static ROWS6: [Row; 11] = [
-    ("2001:db8::1/128", 0, 1, None),
-    ("2001:db8::1/128", 1, 1, Some("::/0")),
-    ("2001:db8::1/128", 2, 2, Some("::/0")),
-    ("2001:db8::1/128", 3, 3, Some("::/0")),
-    ("2001:db8::1/128", 4, 4, Some("::/0")),
-    ("2001:db8::1/128", 5, 5, Some("::/0")),
-    ("2001:db8::1/128", 6, 6, Some("::/0")),
-    ("2001:db8::1/128", 7, 1, Some("2001:db8::1/128")),
-    ("2001:db8::/64", 7, 6, Some("::/0")),
-    ("2001:db8:8000::/48", 7, 1, Some("2001:db8:8000::/33")),
-    ("2001:db8::/32", 7, 5, Some("::/0")),
+    ("2001:db8::1/128", 0, 0, 1, None),
+    ("2001:db8::1/128", 1, 1, 1, Some("::/0")),
+    ("2001:db8::1/128", 2, 3, 2, Some("::/0")),
+    ("2001:db8::1/128", 3, 6, 3, Some("::/0")),
+    ("2001:db8::1/128", 4, 10, 4, Some("::/0")),
+    ("2001:db8::1/128", 5, 15, 5, Some("::/0")),
+    ("2001:db8::1/128", 6, 21, 6, Some("::/0")),
+    ("2001:db8::1/128", 7, 7, 1, Some("2001:db8::1/128")),
+    ("2001:db8::/64", 7, 22, 6, Some("::/0")),
+    ("2001:db8:8000::/48", 7, 5, 1, Some("2001:db8:8000::/33")),
+    ("2001:db8::/32", 7, 15, 5, Some("::/0")),
 ];
 
 fn filled4(alloc: Global, many: usize) -> CidrTable4<u64> {
@@ -123,7 +124,7 @@ fn reads4(table: &CidrTable4<u64>, net: &Cidr4, row: &Row) -> bool {
     let found = table
         .seen::<Tally>()
         .longest_match_net_counted(net, &mut nodes, &mut strides);
-    is_wanted4(found, row.3) && strides.number == row.2
+    is_wanted4(found, row.4) && nodes.number == row.2 && strides.number == row.3
 }
 
 fn reads6(table: &CidrTable6<u64>, net: &Cidr6, row: &Row) -> bool {
@@ -131,7 +132,7 @@ fn reads6(table: &CidrTable6<u64>, net: &Cidr6, row: &Row) -> bool {
     let found = table
         .seen::<Tally>()
         .longest_match_net_counted(net, &mut nodes, &mut strides);
-    is_wanted6(found, row.3) && strides.number == row.2
+    is_wanted6(found, row.4) && nodes.number == row.2 && strides.number == row.3
 }
 
 fn row_holds4(alloc: Global, row: &Row) -> bool {

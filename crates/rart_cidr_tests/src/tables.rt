@@ -108,7 +108,7 @@ impl Table for CidrTable4<u64> {
             Group::Around(addr) => seen_around4(self, routes, addr),
             Group::Inside(net) => match self.within(&net4(net)) {
                 Ok(walk) => seen_inside4(walk, routes, net),
-                Err(_) => Seen::new(),
+                Err(_) => Seen::refused(),
             },
         }
     }
@@ -168,7 +168,7 @@ impl Table for CidrTable6<u64> {
             Group::Around(addr) => seen_around6(self, routes, addr),
             Group::Inside(net) => match self.within(&net6(net)) {
                 Ok(walk) => seen_inside6(walk, routes, net),
-                Err(_) => Seen::new(),
+                Err(_) => Seen::refused(),
             },
         }
     }

@@ -41,12 +41,15 @@ fn range_descending(tree: &Tree) -> Option<usize> {
     counted(tree.range_descending(Bound::Included(key(3)), Bound::Excluded(key(1024))))
 }
 
-// Returns the number of pairs that 512 turns of both ends give.
+// Returns the number of pairs that 513 turns of both ends give.
 fn count_from_ends(pairs: &mut BothEnds<'_, Key, u64>) -> usize {
     let mut count: usize = 0;
-    for _turn in 0..512 {
-        if pairs.next().is_some() && pairs.next_back().is_some() {
-            count = count.saturating_add(2);
+    for _turn in 0..513 {
+        if pairs.next().is_some() {
+            count = count.saturating_add(1);
+        }
+        if pairs.next_back().is_some() {
+            count = count.saturating_add(1);
         }
     }
     count
@@ -55,9 +58,12 @@ fn count_from_ends(pairs: &mut BothEnds<'_, Key, u64>) -> usize {
 // The same of values.
 fn count_values_from_ends(values: &mut ValuesBothEnds<'_, Key, u64>) -> usize {
     let mut count: usize = 0;
-    for _turn in 0..512 {
-        if values.next().is_some() && values.next_back().is_some() {
-            count = count.saturating_add(2);
+    for _turn in 0..513 {
+        if values.next().is_some() {
+            count = count.saturating_add(1);
+        }
+        if values.next_back().is_some() {
+            count = count.saturating_add(1);
         }
     }
     count
@@ -66,9 +72,12 @@ fn count_values_from_ends(values: &mut ValuesBothEnds<'_, Key, u64>) -> usize {
 // The same of a part.
 fn count_part_from_ends(pairs: &mut BothEndsWithin<'_, Key, u64>) -> usize {
     let mut count: usize = 0;
-    for _turn in 0..512 {
-        if pairs.next().is_some() && pairs.next_back().is_some() {
-            count = count.saturating_add(2);
+    for _turn in 0..513 {
+        if pairs.next().is_some() {
+            count = count.saturating_add(1);
+        }
+        if pairs.next_back().is_some() {
+            count = count.saturating_add(1);
         }
     }
     count

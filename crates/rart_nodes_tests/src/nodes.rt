@@ -1,6 +1,7 @@
 //! Nodes made by hand, as rows of calls and wanted answers.
 
 use rart_keys::{ArrPartial, Partial};
+use rart_nodes::Refused;
 use rart_nodes::node::{DefaultNode, Node};
 use rart_parts::TreeError;
 use rart_test_tools::refusals::{part_ends, refuse, was_refused};
@@ -310,18 +311,25 @@ fn change_refused(rt: &impl Abort, alloc: Global, from: usize, at: usize, grows:
     try_change(rt, alloc, &mut node, from, at, grows)
 }
 
-// The value that a refused call returns, or 255 for a refused deletion.
+// The value that a call without memory returns, or 255 for such a deletion; 0 for any other error.
 fn change(rt: &impl Abort, alloc: Global, node: &mut TestNode, grows: bool) -> Option<u64> {
     assert!(rt; node.seek_child(255).is_none() && node.children_fit());
     if grows {
         match node.add_child(alloc, 255, leaf(255, 255)) {
             Ok(()) => None,
-            Err(back) => back.value.value().copied(),
+            Err(
+                Refused {
+                    error: TreeError::Memory,
+                    value,
+                },
+            ) => value.value().copied(),
+            Err(_other) => Some(0),
         }
     } else {
         match node.delete_child(alloc, 0) {
             Ok(_child) => None,
-            Err(_error) => Some(255),
+            Err(TreeError::Memory) => Some(255),
+            Err(_other) => Some(0),
         }
     }
 }

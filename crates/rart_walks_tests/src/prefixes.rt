@@ -32,18 +32,20 @@ fn is_found(found: Option<(Key, &u64)>, wanted: Option<&Pair>) -> bool {
     }
 }
 
-fn value_of(found: Option<(usize, &u64)>) -> Option<u64> {
-    match found {
-        Some((_len, value)) => Some(*value),
-        None => None,
+fn is_len_found(found: Option<(usize, &u64)>, wanted: Option<&Pair>) -> bool {
+    match (found, wanted) {
+        (Some((len, value)), Some(pair)) => len == pair.0.len() && *value == pair.1,
+        (None, None) => true,
+        _ => false,
     }
 }
 
-fn is_longest_value(tree: &Tree, key: Key, probe: &[u8], value: Option<u64>) -> bool {
+fn is_longest_value(tree: &Tree, key: Key, probe: &[u8], wanted: Option<&Pair>) -> bool {
+    let value = wanted.map(|pair| pair.1);
     tree.longest_prefix_value_k(&key).copied() == value
         && tree.longest_prefix_value(key).copied() == value
         && tree.longest_prefix_value_bytes(probe).copied() == value
-        && value_of(tree.longest_prefix_len_bytes(probe)) == value
+        && is_len_found(tree.longest_prefix_len_bytes(probe), wanted)
 }
 
 // In the forms that take a key, a reference to one, and bytes.
@@ -52,7 +54,7 @@ fn is_longest(tree: &Tree, key: Key, probe: &[u8], matches: &[Pair]) -> bool {
     is_found(tree.longest_prefix_match_k(&key), last)
         && is_found(tree.longest_prefix_match(key), last)
         && is_found(tree.longest_prefix_match_bytes(probe), last)
-        && is_longest_value(tree, key, probe, last.map(|pair| pair.1))
+        && is_longest_value(tree, key, probe, last)
 }
 
 fn are_all_matches(tree: &Tree, key: Key, wanted: &[Pair]) -> bool {

@@ -170,7 +170,7 @@ fn the_longest_match_is_shown_once_by_ref(rt: HostRuntime) {
     assert!(rt; shows_ab_and_abcd(&tree, &LENT));
 }
 
-static OWNED: [Walk; 2] = [Walk::Longest, Walk::LongestByValue];
+static OWNED: [Walk; 3] = [Walk::Longest, Walk::LongestByValue, Walk::LongestCounted];
 
 #[test]
 fn the_longest_match_is_shown_once(rt: HostRuntime) {

@@ -30,20 +30,29 @@ static OF_ALP: [Row; 9] = [
 ];
 
 // Walks over the values below a prefix that can end early, and those that can't.
-static ENDING: [Walk; 4] = [
+static ENDING: [Walk; 7] = [
     Walk::TryValues,
     Walk::TryValuesByValue,
     Walk::TryValuesLent,
     Walk::TryValuesLentByValue,
+    Walk::TryValuesSeen,
+    Walk::TryValuesCounted,
+    Walk::TryValuesLentCounted,
 ];
 
-static WHOLE: [Walk; 6] = [
+static WHOLE: [Walk; 12] = [
     Walk::Values,
     Walk::ValuesByValue,
     Walk::ValuesLent,
     Walk::ValuesLentByValue,
+    Walk::ValuesCounted,
+    Walk::ValuesLentCounted,
     Walk::Fold,
     Walk::FoldByValue,
+    Walk::FoldLent,
+    Walk::FoldLentByValue,
+    Walk::FoldCounted,
+    Walk::FoldLentCounted,
 ];
 
 // A callback that fails ends the walk as `Full`.

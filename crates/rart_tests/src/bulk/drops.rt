@@ -1,6 +1,8 @@
 //! Sorted loads of values that count their drops: a value that a later one of its key replaces is dropped once, and a
 //! refused load drops each.
 
+mod extensions;
+
 use crate::bulk::rows::key_of;
 use crate::loads::Key;
 use rart::{AdaptiveRadixTree, BulkError};
@@ -28,16 +30,18 @@ static LISTS: [Row; 7] = [
     (&["a", "a", "a", ""], Err(3)),
 ];
 
+// The items of these keys, with values numbered from `first` on.
 fn items<'a>(
     alloc: Global,
     texts: &[&str],
+    first: u8,
     drops: &'a Cell<usize>,
 ) -> Result<Vec<(Key, Counted<'a>)>, AllocError> {
     let mut items = Vec::new(alloc);
-    let mut place = 0_u8;
+    let mut number = first;
     for text in texts {
-        items.push((key_of(text), Counted(place, drops)))?;
-        place = place.wrapping_add(1);
+        items.push((key_of(text), Counted(number, drops)))?;
+        number = number.wrapping_add(1);
     }
     Ok(items)
 }
@@ -73,7 +77,7 @@ fn is_wanted(loaded: Result<Tree<'_>, BulkError>, row: &Row, drops: &Cell<usize>
 
 fn row_holds(alloc: Global, row: &Row) -> Result<bool, AllocError> {
     let drops = Cell::new(0_usize);
-    let loaded = Tree::bulk_load_sorted(alloc, items(alloc, row.0, &drops)?);
+    let loaded = Tree::bulk_load_sorted(alloc, items(alloc, row.0, 0, &drops)?);
     Ok(is_wanted(loaded, row, &drops))
 }
 

@@ -87,19 +87,20 @@ static ROWS: [Row; 10] = [
 ];
 
 /// The last bytes of the keys of a tree, and those of the tree that is appended: from the first on, below the second.
-type Fan = ([u8; 2], [u8; 2]);
+/// And how many bytes there are, those of both trees counted once.
+type Fan = ([u8; 2], [u8; 2], usize);
 
 // The kinds of nodes change at 5, 17 and 49 children, in both trees.
 static FANS: [Fan; 9] = [
-    ([0, 1], [1, 2]),
-    ([0, 4], [4, 5]),
-    ([0, 16], [16, 17]),
-    ([0, 48], [48, 49]),
-    ([0, 3], [3, 8]),
-    ([0, 5], [0, 5]),
-    ([10, 13], [0, 60]),
-    ([0, 49], [0, 49]),
-    ([0, 128], [127, 255]),
+    ([0, 1], [1, 2], 2),
+    ([0, 4], [4, 5], 5),
+    ([0, 16], [16, 17], 17),
+    ([0, 48], [48, 49], 49),
+    ([0, 3], [3, 8], 8),
+    ([0, 5], [0, 5], 5),
+    ([10, 13], [0, 60], 60),
+    ([0, 49], [0, 49], 49),
+    ([0, 128], [127, 255], 255),
 ];
 
 type Items = Vec<(Key, u64)>;
@@ -152,14 +153,24 @@ fn appends(alloc: Global, into: &mut Tree<Key>, from: &mut Tree<Key>, lists: Lis
         && is_tree_of(alloc, from, &[], &[])
 }
 
-// Whether the lists are appended, and the tree then has the wanted pairs, if some are given.
-fn is_appended(alloc: Global, lists: Lists<'_>, wanted: Option<Pairs<'static>>) -> bool {
+/// What a tree has afterwards: these pairs, or so many.
+#[derive(Clone, Copy)]
+enum Wanted {
+    Pairs(Pairs<'static>),
+    Count(usize),
+}
+
+fn has_wanted(tree: &Tree<Key>, wanted: Wanted) -> bool {
+    match wanted {
+        Wanted::Pairs(pairs) => has_pairs(tree, pairs),
+        Wanted::Count(count) => tree.len() == count,
+    }
+}
+
+// Whether the lists are appended, and the tree then has what is wanted.
+fn is_appended(alloc: Global, lists: Lists<'_>, wanted: Wanted) -> bool {
     let (mut into, mut from) = (tree_of(alloc, lists.into), tree_of(alloc, lists.from));
-    appends(alloc, &mut into, &mut from, lists)
-        && match wanted {
-            Some(wanted) => has_pairs(&into, wanted),
-            None => true,
-        }
+    appends(alloc, &mut into, &mut from, lists) && has_wanted(&into, wanted)
 }
 
 fn row_is_appended(alloc: Global, row: &Row) -> Result<bool, AllocError> {
@@ -168,7 +179,7 @@ fn row_is_appended(alloc: Global, row: &Row) -> Result<bool, AllocError> {
         into: &into,
         from: &from,
     };
-    Ok(is_appended(alloc, lists, Some(row.wanted)))
+    Ok(is_appended(alloc, lists, Wanted::Pairs(row.wanted)))
 }
 
 fn fan_is_appended(alloc: Global, fan: &Fan) -> Result<bool, AllocError> {
@@ -180,7 +191,7 @@ fn fan_is_appended(alloc: Global, fan: &Fan) -> Result<bool, AllocError> {
         into: &into,
         from: &from,
     };
-    Ok(is_appended(alloc, lists, None))
+    Ok(is_appended(alloc, lists, Wanted::Count(fan.2)))
 }
 
 #[test]

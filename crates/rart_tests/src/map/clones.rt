@@ -1,24 +1,56 @@
 //! Clones of a tree: equal to it, apart from it, each value dropped once, and refused in turn.
 
 use rart::{AdaptiveRadixTree, ArrayKey, KeyTrait};
-use rart_test_tools::counted::Counted;
+use rart_test_tools::counted::Limited;
 use rart_test_tools::refusals::{is_swept, refuse, was_refused};
 use std::alloc::{AllocError, Global};
 use std::cell::Cell;
 
 type Key = ArrayKey<4>;
 
-type Tree<'a> = AdaptiveRadixTree<Key, Counted<'a>>;
+type Tree<'a> = AdaptiveRadixTree<Key, Limited<'a>>;
+
+// More than the clones of values that a test makes.
+const ENOUGH: usize = 100_000;
+
+/// How many values were dropped, and how many clones of `ENOUGH` are left.
+#[derive(Drop)]
+struct Counts {
+    drops: Cell<usize>,
+    clones: Cell<usize>,
+}
+
+impl Counts {
+    fn new() -> Self {
+        Counts {
+            drops: Cell::new(0_usize),
+            clones: Cell::new(ENOUGH),
+        }
+    }
+
+    fn value(&self, number: u8) -> Limited<'_> {
+        Limited {
+            number,
+            drops: &self.drops,
+            clones: &self.clones,
+        }
+    }
+
+    // How many clones were made.
+    fn made(&self) -> usize {
+        ENOUGH.wrapping_sub(self.clones.get())
+    }
+}
 
 // The numbers of pairs, around the borders of the kinds of nodes.
 const COUNTS: [u8; 9] = [0, 1, 2, 4, 5, 16, 17, 49, 255];
 
 // A key for each byte below `count`, with its byte.
-fn filled<'a>(alloc: Global, drops: &'a Cell<usize>, count: u8) -> Tree<'a> {
+fn filled<'a>(alloc: Global, counts: &'a Counts, count: u8) -> Tree<'a> {
     let mut tree = Tree::new(alloc);
     for byte in 0..count {
         let key = Key::new_from_slice(&[b'n', byte]);
-        let _old = tree.insert(key, Counted(byte, drops));
+        let _old = tree.insert(key, counts.value(byte));
     }
     tree
 }
@@ -27,7 +59,7 @@ fn filled<'a>(alloc: Global, drops: &'a Cell<usize>, count: u8) -> Tree<'a> {
 fn has_numbers(tree: &Tree<'_>, count: u8) -> bool {
     for byte in 0..count {
         match tree.get_bytes(&[b'n', byte]) {
-            Some(value) if value.0 == byte => {}
+            Some(value) if value.number == byte => {}
             _ => return false,
         }
     }
@@ -42,20 +74,20 @@ fn is_independent(tree: &Tree<'_>, clone: &mut Tree<'_>, count: u8) -> bool {
     is_equal && is_removed && has_numbers(tree, count)
 }
 
-// How many values a clone drops, its removed one among them; None where the clone fails.
-fn dropped_by_clone(drops: &Cell<usize>, tree: &Tree<'_>, count: u8) -> Option<usize> {
-    let before = drops.get();
+// How many values a clone makes, and drops, its removed one among them; None where the clone fails.
+fn made_and_dropped(counts: &Counts, tree: &Tree<'_>, count: u8) -> Option<(usize, usize)> {
     let is_right = match tree.clone() {
         Ok(mut clone) => is_independent(tree, &mut clone, count),
         Err(_refused) => false,
     };
-    is_right.then_some(drops.get().wrapping_sub(before))
+    is_right.then_some((counts.made(), counts.drops.get()))
 }
 
 fn is_cloned(alloc: Global, count: u8) -> bool {
-    let drops = Cell::new(0_usize);
-    let tree = filled(alloc, &drops, count);
-    dropped_by_clone(&drops, &tree, count) == Some(usize::from(count))
+    let counts = Counts::new();
+    let tree = filled(alloc, &counts, count);
+    let each = usize::from(count);
+    made_and_dropped(&counts, &tree, count) == Some((each, each))
 }
 
 // The first count whose clone fails, if there is one.
@@ -73,8 +105,15 @@ fn a_clone_has_the_pairs_and_drops_each_value_once(rt: HostRuntime) {
     assert_eq!(rt; first_wrong(rt.alloc()), None);
 }
 
-// Whether a request was refused while the tree was cloned; None where the clone or the tree is wrong.
-fn is_clone_refused(alloc: Global, at: usize, tree: &Tree<'_>, count: u8) -> Option<bool> {
+// Whether a request was refused while the tree was cloned; None where the clone or the tree is wrong, or the drops are
+// not as many as the values that clones made.
+fn is_clone_refused(
+    alloc: Global,
+    at: usize,
+    counts: &Counts,
+    tree: &Tree<'_>,
+    count: u8,
+) -> Option<bool> {
     refuse(alloc, at);
     let clone: Result<Tree<'_>, AllocError> = tree.clone();
     let refused = was_refused(alloc);
@@ -82,13 +121,24 @@ fn is_clone_refused(alloc: Global, at: usize, tree: &Tree<'_>, count: u8) -> Opt
         Ok(clone) => !refused && has_numbers(&clone, count),
         Err(_refused) => refused,
     };
-    (is_right && has_numbers(tree, count)).then_some(refused)
+    (is_right && has_numbers(tree, count) && counts.drops.get() == counts.made()).then_some(refused)
 }
 
+// Whether each request refused in turn passes, and the last clone, which isn't refused, makes each value.
+fn are_clones_refused(alloc: Global, counts: &Counts, tree: &Tree<'_>, count: u8) -> bool {
+    is_swept(
+        alloc,
+        |at: usize| is_clone_refused(alloc, at, counts, tree, count),
+    ) && counts.made() >= usize::from(count)
+}
+
+// The same, and the tree's own values are dropped only with it.
 fn is_swept_at(alloc: Global, count: u8) -> bool {
-    let drops = Cell::new(0_usize);
-    let tree = filled(alloc, &drops, count);
-    is_swept(alloc, |at: usize| is_clone_refused(alloc, at, &tree, count))
+    let counts = Counts::new();
+    let tree = filled(alloc, &counts, count);
+    let swept = are_clones_refused(alloc, &counts, &tree, count);
+    drop(tree);
+    swept && counts.drops.get() == counts.made().wrapping_add(usize::from(count))
 }
 
 #[test]
@@ -97,9 +147,9 @@ fn a_clone_refused_in_turn(rt: HostRuntime) {
 }
 
 fn makes_no_request(alloc: Global) -> bool {
-    let drops = Cell::new(0_usize);
-    let tree = filled(alloc, &drops, 0);
-    is_clone_refused(alloc, 1, &tree, 0) == Some(false)
+    let counts = Counts::new();
+    let tree = filled(alloc, &counts, 0);
+    is_clone_refused(alloc, 1, &counts, &tree, 0) == Some(false)
 }
 
 #[test]

@@ -1,5 +1,7 @@
 //! Values that count when they are dropped: none is lost, and none is dropped twice.
 
+mod prefixes;
+
 use rart::{
     AdaptiveRadixTree, ArrayKey, KeyTrait, NotInserted, Refused, TreeError, TryInsertError,
 };
@@ -10,15 +12,25 @@ use std::cell::Cell;
 
 type Key = ArrayKey<4>;
 
-type Tree<'a> = AdaptiveRadixTree<Key, Counted<'a>>;
+type TreeOf<'a, const N: usize> = AdaptiveRadixTree<ArrayKey<N>, Counted<'a>>;
 
-fn key(byte: u8) -> Key {
-    Key::new_from_slice(&[b'n', byte])
+type Tree<'a> = TreeOf<'a, 4>;
+
+// The numbers of pairs, around the borders of the kinds of nodes.
+const COUNTS: [u8; 6] = [0, 1, 4, 16, 48, 255];
+
+// The longest key that ends with this byte. A tree with keys of more than 128 bytes is dropped by other code.
+fn key<const N: usize>(byte: u8) -> ArrayKey<N> {
+    let mut bytes = [b'n'; N];
+    if let Some(last) = bytes.last_mut() {
+        *last = byte;
+    }
+    ArrayKey::new_from_slice(&bytes[..bytes.len().min(N)])
 }
 
 // The keys below `count`. A value that isn't stored is dropped, which its counter shows.
-fn filled<'a>(alloc: Global, drops: &'a Cell<usize>, count: u8) -> Tree<'a> {
-    let mut tree = Tree::new(alloc);
+fn filled<'a, const N: usize>(alloc: Global, drops: &'a Cell<usize>, count: u8) -> TreeOf<'a, N> {
+    let mut tree = TreeOf::new(alloc);
     for byte in 0..count {
         let _old = tree.insert(key(byte), Counted(byte, drops));
     }
@@ -26,51 +38,91 @@ fn filled<'a>(alloc: Global, drops: &'a Cell<usize>, count: u8) -> Tree<'a> {
 }
 
 // How many values are dropped with a tree, where none was before.
-fn dropped_with(tree: Tree<'_>, drops: &Cell<usize>) -> Option<usize> {
+fn dropped_with<const N: usize>(tree: TreeOf<'_, N>, drops: &Cell<usize>) -> Option<usize> {
     let before = drops.get();
     drop(tree);
     (before == 0).then_some(drops.get())
 }
 
-fn dropped_of(alloc: Global, count: u8) -> Option<usize> {
+fn dropped_of_short(alloc: Global, count: u8) -> Option<usize> {
     let drops = Cell::new(0_usize);
-    let tree = filled(alloc, &drops, count);
+    let tree = filled::<4>(alloc, &drops, count);
+    dropped_with(tree, &drops)
+}
+
+fn dropped_of_long(alloc: Global, count: u8) -> Option<usize> {
+    let drops = Cell::new(0_usize);
+    let tree = filled::<160>(alloc, &drops, count);
     dropped_with(tree, &drops)
 }
 
 #[test]
 fn a_dropped_tree_drops_each_value_once(rt: HostRuntime) {
-    for count in [0_u8, 1, 4, 16, 48, 255] {
-        assert_eq!(rt; dropped_of(rt.alloc(), count), Some(usize::from(count)));
+    for count in COUNTS {
+        let each = Some(usize::from(count));
+        assert_eq!(rt; dropped_of_short(rt.alloc(), count), each);
+        assert_eq!(rt; dropped_of_long(rt.alloc(), count), each);
     }
 }
 
-fn is_cleared(tree: &mut Tree<'_>, count: u8) -> bool {
-    let held = tree.contains_key(key(0)) == (count > 0);
+fn is_cleared<const N: usize>(tree: &mut TreeOf<'_, N>, count: u8, drops: &Cell<usize>) -> bool {
+    let held = drops.get() == 0 && tree.contains_key(key(0)) == (count > 0);
     tree.clear();
     held && tree.is_empty() && !tree.contains_key(key(0))
 }
 
-// How many values are dropped when a tree is cleared, and once it is dropped.
-fn dropped_by_clear(alloc: Global, count: u8) -> Option<(usize, usize)> {
+// Whether a tree that dropped none is cleared, how many values are then dropped, and how many once it is dropped.
+fn dropped_by_clear_short(alloc: Global, count: u8) -> (bool, usize, usize) {
     let drops = Cell::new(0_usize);
-    let mut tree = filled(alloc, &drops, count);
-    let before = drops.get();
-    let cleared = is_cleared(&mut tree, count);
+    let mut tree = filled::<4>(alloc, &drops, count);
+    let cleared = is_cleared(&mut tree, count, &drops);
     let early = drops.get();
     drop(tree);
-    (before == 0 && cleared).then_some((early, drops.get()))
+    (cleared, early, drops.get())
+}
+
+fn dropped_by_clear_long(alloc: Global, count: u8) -> (bool, usize, usize) {
+    let drops = Cell::new(0_usize);
+    let mut tree = filled::<160>(alloc, &drops, count);
+    let cleared = is_cleared(&mut tree, count, &drops);
+    let early = drops.get();
+    drop(tree);
+    (cleared, early, drops.get())
 }
 
 #[test]
 fn a_cleared_tree_drops_each_value_once_and_is_empty(rt: HostRuntime) {
-    for count in [0_u8, 1, 4, 16, 48, 255] {
+    for count in COUNTS {
         let each = usize::from(count);
-        assert_eq!(rt; dropped_by_clear(rt.alloc(), count), Some((each, each)));
+        let wanted = (true, each, each);
+        assert_eq!(rt; dropped_by_clear_short(rt.alloc(), count), wanted);
+        assert_eq!(rt; dropped_by_clear_long(rt.alloc(), count), wanted);
     }
 }
 
-// A thousand keys of two bytes.
+// The keys of 1 to 160 equal bytes: a path of as many nodes, all but one of them inner nodes with values.
+fn path<'a>(alloc: Global, drops: &'a Cell<usize>) -> TreeOf<'a, 160> {
+    let bytes = [b'n'; 160];
+    let mut tree = TreeOf::new(alloc);
+    for length in 1..161_usize {
+        let key = ArrayKey::new_from_slice(&bytes[..length]);
+        let _old = tree.insert(key, Counted(length as u8, drops));
+    }
+    tree
+}
+
+fn dropped_of_path(alloc: Global) -> (usize, Option<usize>) {
+    let drops = Cell::new(0_usize);
+    let tree = path(alloc, &drops);
+    let many = tree.len();
+    (many, dropped_with(tree, &drops))
+}
+
+#[test]
+fn a_dropped_path_of_nodes_drops_each_value_once(rt: HostRuntime) {
+    assert_eq!(rt; dropped_of_path(rt.alloc()), (160, Some(160)));
+}
+
 fn thousand<'a>(alloc: Global, drops: &'a Cell<usize>) -> Tree<'a> {
     let mut tree = Tree::new(alloc);
     for number in 0..1000_usize {
@@ -80,7 +132,7 @@ fn thousand<'a>(alloc: Global, drops: &'a Cell<usize>) -> Tree<'a> {
     tree
 }
 
-// How many keys a tree of a thousand has, and how many values are dropped with it.
+// How many of a thousand keys of two bytes a tree has, and how many values are dropped with it.
 fn dropped_of_thousand(alloc: Global) -> (usize, Option<usize>) {
     let drops = Cell::new(0_usize);
     let tree = thousand(alloc, &drops);
@@ -174,7 +226,6 @@ static HANDED_AND_DROPPED: [Row; 14] = [
     (Ask::PopLast, Some(10), 9),
 ];
 
-// The first row that fails, if one does.
 fn first_wrong<'a>(tree: &mut Tree<'a>, drops: &'a Cell<usize>) -> Option<usize> {
     let mut at = 0_usize;
     for row in &HANDED_AND_DROPPED {
@@ -189,7 +240,7 @@ fn first_wrong<'a>(tree: &mut Tree<'a>, drops: &'a Cell<usize>) -> Option<usize>
 // Five values before the rows. The first row that fails, how many values are left, and how many are dropped in all.
 fn handed_and_dropped(alloc: Global) -> (Option<usize>, usize, usize) {
     let drops = Cell::new(0_usize);
-    let mut tree = filled(alloc, &drops, 5);
+    let mut tree = filled::<4>(alloc, &drops, 5);
     let wrong = first_wrong(&mut tree, &drops);
     let left = tree.len();
     drop(tree);
@@ -216,11 +267,10 @@ fn is_handed_back(answer: Inserted<'_>, refused: bool, drops: &Cell<usize>) -> b
     }
 }
 
-// A key that makes the node grow, with its request refused: the value is returned. Whether a request was refused; None
-// where something else failed.
+// An insertion that makes the node grow returns the value where it is refused. `None` where something else failed.
 fn insert_refused(alloc: Global, at: usize) -> Option<bool> {
     let drops = Cell::new(0_usize);
-    let mut tree = filled(alloc, &drops, 4);
+    let mut tree = filled::<4>(alloc, &drops, 4);
     refuse(alloc, at);
     let answer = tree.insert(key(4), Counted(4, &drops));
     let refused = was_refused(alloc);
@@ -244,7 +294,7 @@ fn a_value_refused_in_turn_is_handed_back(rt: HostRuntime) {
 // A removal that makes the node shrink, with its request refused: nothing is dropped.
 fn remove_refused(alloc: Global, at: usize) -> Option<bool> {
     let drops = Cell::new(0_usize);
-    let mut tree = filled(alloc, &drops, 5);
+    let mut tree = filled::<4>(alloc, &drops, 5);
     refuse(alloc, at);
     let answer = tree.delete(key(2));
     let refused = was_refused(alloc);
@@ -282,7 +332,10 @@ fn dropped_by_append<'a>(
 // The same, and how many are dropped with both trees.
 fn dropped_around_append(alloc: Global, into: u8, from: u8) -> (Option<usize>, usize) {
     let drops = Cell::new(0_usize);
-    let (mut one, mut other) = (filled(alloc, &drops, into), filled(alloc, &drops, from));
+    let (mut one, mut other) = (
+        filled::<4>(alloc, &drops, into),
+        filled::<4>(alloc, &drops, from),
+    );
     let most = usize::from(into.max(from));
     let early = dropped_by_append(&mut one, &mut other, most, &drops);
     drop(one);
@@ -329,7 +382,10 @@ fn are_all_kept<'a>(
 // Whether a request was refused; `None` where something else failed.
 fn append_refused(alloc: Global, at: usize) -> Option<bool> {
     let drops = Cell::new(0_usize);
-    let (mut one, mut other) = (filled(alloc, &drops, 3), filled(alloc, &drops, 50));
+    let (mut one, mut other) = (
+        filled::<4>(alloc, &drops, 3),
+        filled::<4>(alloc, &drops, 50),
+    );
     let refused = are_all_kept(alloc, at, &mut one, &mut other, 53, &drops);
     drop(one);
     drop(other);

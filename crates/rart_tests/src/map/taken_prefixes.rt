@@ -127,16 +127,35 @@ fn is_taken_well(alloc: Global, tree: &mut Tree, row: &Row) -> bool {
     }
 }
 
-fn is_removed_well(alloc: Global, tree: &mut Tree, row: &Row) -> bool {
-    match tree.remove_prefix_k(&key(row.prefix)) {
+// The removal returns how many keys the row takes, and leaves the others.
+fn is_removed_well(
+    alloc: Global,
+    tree: &Tree,
+    removed: Result<usize, TreeError>,
+    row: &Row,
+) -> bool {
+    match removed {
         Ok(count) => count == row.taken.len() && is_tree_of(alloc, tree, row.left),
         Err(_refused) => false,
     }
 }
 
-fn is_right(alloc: Global, row: &Row) -> bool {
+// A removal by reference from one tree, and by value from another.
+fn are_removed_well(alloc: Global, one: &mut Tree, other: &mut Tree, row: &Row) -> bool {
+    let removed = one.remove_prefix_k(&key(row.prefix));
+    let removed_by_value = other.remove_prefix(key(row.prefix));
+    is_removed_well(alloc, one, removed, row)
+        && is_removed_well(alloc, other, removed_by_value, row)
+}
+
+fn is_removed(alloc: Global, row: &Row) -> bool {
     let (mut one, mut other) = (filled(alloc, row.keys), filled(alloc, row.keys));
-    is_taken_well(alloc, &mut one, row) && is_removed_well(alloc, &mut other, row)
+    are_removed_well(alloc, &mut one, &mut other, row)
+}
+
+fn is_right(alloc: Global, row: &Row) -> bool {
+    let mut tree = filled(alloc, row.keys);
+    is_taken_well(alloc, &mut tree, row) && is_removed(alloc, row)
 }
 
 #[test]

@@ -1,5 +1,5 @@
 //! The bytes that walks request: just enough for the longest stored key, whatever length the type
-//! of the keys allows.
+//! of the keys allows, and whichever call stored it.
 
 use crate::items::counted;
 use rart::{AdaptiveRadixTree, ArrayKey, KeyTrait, LendingKeyView, TreeError};
@@ -7,7 +7,10 @@ use rart_test_tools::refusals::{add_bytes, were_more};
 use std::alloc::Global;
 use std::cell::Cell;
 use std::ops::Bound;
-use std::panic::Expect;
+
+mod trees;
+
+use trees::{FORMS, Form, filled};
 
 // Its keys may have many more bytes than those of the tree have.
 type Key = ArrayKey<1024>;
@@ -43,27 +46,6 @@ fn are_requested<F: Fn(usize) -> bool + Drop>(alloc: Global, bytes: usize, are_w
     are_within(bytes) && are_within(bytes.wrapping_sub(1)) != are_added_up(alloc)
 }
 
-fn insert_four(tree: &mut Tree) -> bool {
-    let mut value = 0_u64;
-    for bytes in [b"".as_slice(), b"a", b"ab", b"abc"] {
-        if tree.insert_k(&Key::new_from_slice(bytes), value).is_err() {
-            return false;
-        }
-        value = value.wrapping_add(1);
-    }
-    true
-}
-
-// A tree with a node for each byte of its longest key.
-fn filled(alloc: Global) -> Option<Tree> {
-    let mut tree = Tree::new(alloc);
-    if insert_four(&mut tree) {
-        Some(tree)
-    } else {
-        None
-    }
-}
-
 fn count_below(tree: &Tree, prefix: &Key) -> Result<usize, TreeError> {
     let many = Cell::new(0_usize);
     tree.prefix_for_each_view_k(prefix, |_view: LendingKeyView<'_, '_>, _value: &u64| {
@@ -86,12 +68,6 @@ fn iteration_requests(alloc: Global, tree: &Tree, count: usize, bytes: usize) ->
     )
 }
 
-#[test]
-fn iterations_request_within_the_longest_key(rt: HostRuntime) {
-    let tree = filled(rt.alloc()).expect(&rt, "a tree");
-    assert!(rt; iteration_requests(rt.alloc(), &tree, 4, LEVELS * LEVEL));
-}
-
 fn descent_is_within(alloc: Global, tree: &Tree, limit: usize) -> bool {
     add_bytes(alloc, limit);
     let many = counted(tree.iter_descending());
@@ -100,12 +76,6 @@ fn descent_is_within(alloc: Global, tree: &Tree, limit: usize) -> bool {
 
 fn descent_requests(alloc: Global, tree: &Tree, bytes: usize) -> bool {
     are_requested(alloc, bytes, |limit| descent_is_within(alloc, tree, limit))
-}
-
-#[test]
-fn descending_iterations_request_within_the_longest_key(rt: HostRuntime) {
-    let tree = filled(rt.alloc()).expect(&rt, "a tree");
-    assert!(rt; descent_requests(rt.alloc(), &tree, LEVELS * BACK_LEVEL));
 }
 
 // A tree with one key of so many bytes.
@@ -141,12 +111,6 @@ fn views_request(alloc: Global, tree: &Tree, bytes: usize) -> bool {
     are_requested(alloc, bytes, |limit| views_are_within(alloc, tree, limit))
 }
 
-#[test]
-fn lent_keys_request_within_the_longest_key(rt: HostRuntime) {
-    let tree = filled(rt.alloc()).expect(&rt, "a tree");
-    assert!(rt; views_request(rt.alloc(), &tree, LEVELS * LEVEL + LONGEST * SEGMENT));
-}
-
 fn range_is_within(alloc: Global, tree: &Tree, limit: usize) -> bool {
     add_bytes(alloc, limit);
     let (start, end) = (Key::new_from_slice(b"a"), Key::new_from_slice(b"abc"));
@@ -158,8 +122,59 @@ fn range_requests(alloc: Global, tree: &Tree, bytes: usize) -> bool {
     are_requested(alloc, bytes, |limit| range_is_within(alloc, tree, limit))
 }
 
+/// A walk whose bytes are added up.
+#[derive(Clone, Copy)]
+enum Walk {
+    All,
+    Descending,
+    Views,
+    Within,
+}
+
+fn requests(alloc: Global, tree: &Tree, walk: Walk) -> bool {
+    match walk {
+        Walk::All => iteration_requests(alloc, tree, 4, LEVELS * LEVEL),
+        Walk::Descending => descent_requests(alloc, tree, LEVELS * BACK_LEVEL),
+        Walk::Views => views_request(alloc, tree, LEVELS * LEVEL + LONGEST * SEGMENT),
+        Walk::Within => range_requests(alloc, tree, LEVELS * LEVEL),
+    }
+}
+
+fn filled_requests(alloc: Global, form: Form, walk: Walk) -> bool {
+    match filled(alloc, form) {
+        Some(tree) => requests(alloc, &tree, walk),
+        None => false,
+    }
+}
+
+// The first form whose tree makes the walk request other bytes, if there is one.
+fn first_wrong_form(alloc: Global, walk: Walk) -> Option<usize> {
+    let mut at = 0_usize;
+    for form in &FORMS {
+        if !filled_requests(alloc, *form, walk) {
+            return Some(at);
+        }
+        at = at.wrapping_add(1);
+    }
+    None
+}
+
+#[test]
+fn iterations_request_within_the_longest_key(rt: HostRuntime) {
+    assert_eq!(rt; first_wrong_form(rt.alloc(), Walk::All), None);
+}
+
+#[test]
+fn descending_iterations_request_within_the_longest_key(rt: HostRuntime) {
+    assert_eq!(rt; first_wrong_form(rt.alloc(), Walk::Descending), None);
+}
+
+#[test]
+fn lent_keys_request_within_the_longest_key(rt: HostRuntime) {
+    assert_eq!(rt; first_wrong_form(rt.alloc(), Walk::Views), None);
+}
+
 #[test]
 fn ranges_request_within_the_longest_key(rt: HostRuntime) {
-    let tree = filled(rt.alloc()).expect(&rt, "a tree");
-    assert!(rt; range_requests(rt.alloc(), &tree, LEVELS * LEVEL));
+    assert_eq!(rt; first_wrong_form(rt.alloc(), Walk::Within), None);
 }
