@@ -18,12 +18,13 @@ is tried alone. Each check reuses the proofs of the checks before it. At last th
 edits, over the same proofs, and must be proved.
 
 The crates below must be built: `rt lib` builds them. With --log, the output of an `rt ci` that runs in this folder, the
-edits of a crate wait until it has proved them.
+edits of a crate wait until it has proved them. Half of the processors try edits while it runs, and all of them after.
 
 Prints a line for each edit. The last line is `N passed, M failed`.
 """
 import argparse
 import concurrent.futures
+import contextlib
 import os
 import pathlib
 import re
@@ -57,6 +58,9 @@ UNREAD = re.compile(
 UNPROVED_CALLEE = re.compile(r"which (?:is|are) (?:not (?:proved|stated|assumed)|refused)")
 # What a verdict says of a function in a cycle of calls, whose functions have one proof: an edit may make one.
 CYCLE = re.compile(r"cycle of calls|/\+")
+# The last line of a run of `rt ci`.
+ENDED = re.compile(r"\d+ passed, ")
+
 # What a check says of libraries that don't fit, and of its own limits.
 STALE = re.compile(r"Run the lower steps again|(?:went over|met) a limit of this run")
 
@@ -70,6 +74,9 @@ PROVED = re.compile(r"^rt: (\w+) (?:proved$|is kept: )", re.M)
 # Seconds between two looks at the output of `rt ci`, and far more than a check takes on a busy machine.
 PAUSE = 5
 LIMIT = 3600
+
+# More than the kB of memory that a check of an edit takes.
+MEMORY = 4_000_000
 
 
 def body_around(text, old):
@@ -134,15 +141,40 @@ class Edit:
 
 
 class Libraries:
-    """The built libraries of this folder, and checks of a crate over them."""
+    """The built libraries of this folder, checks of a crate over them, and how many crates may be tried at once."""
 
     def __init__(self, log):
-        self.log, self.parent = log, os.getppid()
+        self.log, self.parent, self.free, self.busy = log, os.getppid(), threading.Condition(), 0
         page = subprocess.run(["rt", "doc"], capture_output=True, text=True, check=True).stdout.strip()
         self.kit = pathlib.Path(page).parent
         lines = (TOP / "crates.txt").read_text().splitlines()
         rows = (line.partition(":") for line in lines if line and not line.startswith("#"))
         self.named = {name.strip(): below.split() for name, _, below in rows}
+
+    def lanes(self):
+        """How many crates may be tried at once."""
+        processors = os.cpu_count() or 1
+        few = max(1, processors // 2)
+        lines = self.log.read_text(errors="replace").splitlines() if self.log else []
+        if self.log and not (lines and ENDED.match(lines[-1])):
+            return few
+        said = pathlib.Path("/proc/meminfo")
+        found = re.search(r"^MemAvailable: *(\d+)", said.read_text() if said.exists() else "", re.M)
+        return max(few, min(processors, self.busy + (int(found[1]) // MEMORY if found else 0)))
+
+    @contextlib.contextmanager
+    def lane(self):
+        """Waits until a crate may be tried, and counts it until it has been."""
+        with self.free:
+            while self.busy >= self.lanes():
+                self.free.wait(PAUSE)
+            self.busy += 1
+        try:
+            yield
+        finally:
+            with self.free:
+                self.busy -= 1
+                self.free.notify_all()
 
     def wait_for(self, crate):
         """Waits until `rt ci` has proved the crates below. Returns false if one is not proved, or `rt ci` has ended."""
@@ -154,7 +186,7 @@ class Libraries:
             lines = text.splitlines()
             failed = any(line.startswith(f"rt: {name} NOT PROVED") or line.startswith(f"{name} NOT PROVED")
                          for name in below for line in lines)
-            if failed or (lines and re.match(r"\d+ passed, ", lines[-1])) or os.getppid() != self.parent:
+            if failed or (lines and ENDED.match(lines[-1])) or os.getppid() != self.parent:
                 return False
             time.sleep(PAUSE)
         return True
@@ -300,7 +332,7 @@ def try_edits(libraries, crate, edits):
     """Tries the edits of a crate. Returns why each fails, and the goal that it leaves open."""
     if not libraries.wait_for(crate):
         return [("a crate below is not proved", "")] * len(edits)
-    with tempfile.TemporaryDirectory(prefix="must-fail-") as scratch:
+    with libraries.lane(), tempfile.TemporaryDirectory(prefix="must-fail-") as scratch:
         folder, kept = pathlib.Path(scratch) / "crate", pathlib.Path(scratch) / "kept"
         goals = try_together(libraries, [it for it in edits if not it.fault], folder, kept)
         tried = [("", goals[edit]) if edit in goals else try_alone(libraries, edit, folder, kept) for edit in edits]
@@ -344,7 +376,7 @@ def main():
         return sum(bool(why) for why, _ in answers)
 
     crates = sorted({it.crate for it in edits}, key=list(libraries.named).index)
-    with concurrent.futures.ThreadPoolExecutor(max_workers=max(1, (os.cpu_count() or 1) // 2)) as workers:
+    with concurrent.futures.ThreadPoolExecutor(max_workers=os.cpu_count() or 1) as workers:
         failed = sum(workers.map(run, crates))
     failed += not edits
     print(f"{len(edits) - failed} passed, {failed} failed" if edits else "0 passed, 1 failed")
