@@ -58,9 +58,6 @@ UNREAD = re.compile(
 UNPROVED_CALLEE = re.compile(r"which (?:is|are) (?:not (?:proved|stated|assumed)|refused)")
 # What a verdict says of a function in a cycle of calls, whose functions have one proof: an edit may make one.
 CYCLE = re.compile(r"cycle of calls|/\+")
-# The last line of a run of `rt ci`.
-ENDED = re.compile(r"\d+ passed, ")
-
 # What a check says of libraries that don't fit, and of its own limits.
 STALE = re.compile(r"Run the lower steps again|(?:went over|met) a limit of this run")
 
@@ -70,6 +67,8 @@ ITEM = re.compile(r"\b(?:fn|impl|trait|struct|enum|type|const|static|mod|use|mac
 
 # What `rt ci` prints of a crate that it proved, or that an earlier run proved of the same files.
 PROVED = re.compile(r"^rt: (\w+) (?:proved$|is kept: )", re.M)
+# The last line of a run of `rt ci`.
+ENDED = re.compile(r"\d+ passed, ")
 
 # Seconds between two looks at the output of `rt ci`, and far more than a check takes on a busy machine.
 PAUSE = 5
@@ -152,14 +151,14 @@ class Libraries:
         self.named = {name.strip(): below.split() for name, _, below in rows}
 
     def lanes(self):
-        """How many crates may be tried at once."""
+        """How many crates may be tried at once: as many after `rt ci` as processors and memory serve."""
         processors = os.cpu_count() or 1
         few = max(1, processors // 2)
         lines = self.log.read_text(errors="replace").splitlines() if self.log else []
         if self.log and not (lines and ENDED.match(lines[-1])):
             return few
-        said = pathlib.Path("/proc/meminfo")
-        found = re.search(r"^MemAvailable: *(\d+)", said.read_text() if said.exists() else "", re.M)
+        memory = pathlib.Path("/proc/meminfo")
+        found = re.search(r"^MemAvailable: *(\d+)", memory.read_text() if memory.exists() else "", re.M)
         return max(few, min(processors, self.busy + (int(found[1]) // MEMORY if found else 0)))
 
     @contextlib.contextmanager

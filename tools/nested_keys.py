@@ -1,13 +1,13 @@
 #!/usr/bin/env python3
 """Runs the calls of the program rart_deep under a limit of the stack.
 
-usage: nested_keys.py PASSED FAILED
+usage: nested_keys.py [PASSED FAILED]
 
 Each row of CALLS names a call on trees of 1024 keys nested in each other, whose nodes are a path, and the number that
 it answers. A call is a process of its own, whose stack has at most KIB KiB, and passes if it ends with status 0 and
 prints its row. The first must not end with LITTLE KiB. /bin/sh must have `ulimit -s`.
 
-PASSED and FAILED are the counts of the step before. The last line adds the calls to them.
+PASSED and FAILED are the counts of the step before, 0 if not given. The last line adds the calls to them.
 """
 import pathlib
 import subprocess

@@ -89,11 +89,11 @@ def swept(program, script, library, cannot_read=CANNOT_READ):
     status, whole, said, _ = run(program, script)
     if status != 0 or said or len(whole.splitlines()) != len(lines):
         return "it goes wrong with ample memory", 0
-    told = 0
+    refusals = 0
     for at in range(1, 10_000):
         status, printed, said, refused = run(program, script, at, library)
         if not refused:
-            well = at > 1 and told and (status, printed, said) == (0, whole, b"")
+            well = at > 1 and refusals and (status, printed, said) == (0, whole, b"")
             return "" if well else "no answer was Memory, or it then went wrong", at - 1
         if status == 1 and not printed and said == cannot_read:
             continue
@@ -101,9 +101,10 @@ def swept(program, script, library, cannot_read=CANNOT_READ):
         if status != 0 or said or len(answers) != len(lines):
             return f"request {at}: status {status}, {len(answers)} lines", at
         kept = [i for i, answer in enumerate(answers) if answer != b"Memory"]
-        told += len(lines) - len(kept)
-        if len(lines) - len(kept) > 1:
-            return f"request {at}: {len(lines) - len(kept)} answers are Memory", at
+        without = len(lines) - len(kept)
+        refusals += without
+        if without > 1:
+            return f"request {at}: {without} answers are Memory", at
         _, wanted, _, _ = run(program, b"".join(lines[i] for i in kept))
         if [answers[i] for i in kept] != wanted.splitlines():
             return f"request {at}: the other answers differ", at

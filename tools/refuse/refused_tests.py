@@ -1,7 +1,7 @@
 #!/usr/bin/env python3
 """Runs the tests that speak of refused memory under the library that refuses it.
 
-usage: refused_tests.py PASSED FAILED
+usage: refused_tests.py [PASSED FAILED]
 
 After the gate, each test program crates/*/out/*_tests has the tests of its crate. Three kinds, marked by a word in
 their names, send messages to the library. Each runs in a process of its own with the library preloaded, and passes if
@@ -16,7 +16,7 @@ Such a test of the sources that is in no program fails: its crate wasn't built, 
 Then the program crates/rart_script/out/rart_script runs from outside, by refused_program and program_rows,
 crates/rart_routes/out/rart_routes by refused_routes, and crates/rart_random/out/rart_random by refused_random.
 
-PASSED and FAILED are the gate's counts: the last line adds to them and closes the run.
+PASSED and FAILED are the gate's counts, 0 if not given: the last line adds to them and closes the run.
 """
 import os
 import pathlib
