@@ -7,8 +7,6 @@
 #![tactic(auto)]
 
 #[cfg(test)]
-mod counts;
-#[cfg(test)]
 mod no_requests;
 #[cfg(test)]
 mod play;

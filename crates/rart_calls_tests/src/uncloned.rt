@@ -1,9 +1,9 @@
 //! Values whose clone fails at the nth one: what clones of a tree and of a route table then return, drop and leave.
 
-use crate::counts::Counts;
 use crate::updates::drops::{Key, Tree, filled, key};
 use rart::RouteTable;
 use rart_test_tools::counted::Limited;
+use rart_test_tools::counts::Counts;
 use std::alloc::Global;
 
 type Table<'a> = RouteTable<Key, Limited<'a>>;

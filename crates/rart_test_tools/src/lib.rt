@@ -4,4 +4,5 @@
 #![tactic(auto)]
 
 pub mod counted;
+pub mod counts;
 pub mod refusals;

@@ -7,9 +7,9 @@ ghost use Rattle.rart.specs.Updates.{written_slot};
 mod rows;
 
 use self::rows::{Answer, CLONED, Call, REFUSED, Request, Row, Sweep, UNCLONED, WRITTEN};
-use crate::counts::Counts;
 use rart::{AdaptiveRadixTree, ArrayKey, KeyTrait, Slot, SlotUpdate, TryUpdateError, UpdateError};
 use rart_test_tools::counted::Limited;
+use rart_test_tools::counts::Counts;
 use rart_test_tools::refusals::{is_swept, refuse, was_refused};
 use std::alloc::Global;
 

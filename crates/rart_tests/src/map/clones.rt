@@ -2,9 +2,9 @@
 
 use rart::{AdaptiveRadixTree, ArrayKey, KeyTrait};
 use rart_test_tools::counted::Limited;
+use rart_test_tools::counts::Counts;
 use rart_test_tools::refusals::{is_swept, refuse, was_refused};
 use std::alloc::{AllocError, Global};
-use std::cell::Cell;
 
 type Key = ArrayKey<4>;
 
@@ -13,33 +13,9 @@ type Tree<'a> = AdaptiveRadixTree<Key, Limited<'a>>;
 // More than the clones of values that a test makes.
 const ENOUGH: usize = 100_000;
 
-/// How many values were dropped, and how many clones of `ENOUGH` are left.
-#[derive(Drop)]
-struct Counts {
-    drops: Cell<usize>,
-    clones: Cell<usize>,
-}
-
-impl Counts {
-    fn new() -> Self {
-        Counts {
-            drops: Cell::new(0_usize),
-            clones: Cell::new(ENOUGH),
-        }
-    }
-
-    fn value(&self, number: u8) -> Limited<'_> {
-        Limited {
-            number,
-            drops: &self.drops,
-            clones: &self.clones,
-        }
-    }
-
-    // How many clones were made.
-    fn made(&self) -> usize {
-        ENOUGH.wrapping_sub(self.clones.get())
-    }
+// How many clones of `ENOUGH` were made.
+fn made(counts: &Counts) -> usize {
+    ENOUGH.wrapping_sub(counts.clones.get())
 }
 
 // The numbers of pairs, around the borders of the kinds of nodes.
@@ -80,11 +56,11 @@ fn made_and_dropped(counts: &Counts, tree: &Tree<'_>, count: u8) -> Option<(usiz
         Ok(mut clone) => is_independent(tree, &mut clone, count),
         Err(_refused) => false,
     };
-    is_right.then_some((counts.made(), counts.drops.get()))
+    is_right.then_some((made(counts), counts.drops.get()))
 }
 
 fn is_cloned(alloc: Global, count: u8) -> bool {
-    let counts = Counts::new();
+    let counts = Counts::new(ENOUGH);
     let tree = filled(alloc, &counts, count);
     let each = usize::from(count);
     made_and_dropped(&counts, &tree, count) == Some((each, each))
@@ -121,7 +97,7 @@ fn is_clone_refused(
         Ok(clone) => !refused && has_numbers(&clone, count),
         Err(_refused) => refused,
     };
-    (is_right && has_numbers(tree, count) && counts.drops.get() == counts.made()).then_some(refused)
+    (is_right && has_numbers(tree, count) && counts.drops.get() == made(counts)).then_some(refused)
 }
 
 // Whether each request refused in turn passes, and the last clone, which isn't refused, makes each value.
@@ -129,16 +105,16 @@ fn are_clones_refused(alloc: Global, counts: &Counts, tree: &Tree<'_>, count: u8
     is_swept(
         alloc,
         |at: usize| is_clone_refused(alloc, at, counts, tree, count),
-    ) && counts.made() >= usize::from(count)
+    ) && made(counts) >= usize::from(count)
 }
 
 // The same, and the tree's own values are dropped only with it.
 fn is_swept_at(alloc: Global, count: u8) -> bool {
-    let counts = Counts::new();
+    let counts = Counts::new(ENOUGH);
     let tree = filled(alloc, &counts, count);
     let swept = are_clones_refused(alloc, &counts, &tree, count);
     drop(tree);
-    swept && counts.drops.get() == counts.made().wrapping_add(usize::from(count))
+    swept && counts.drops.get() == made(&counts).wrapping_add(usize::from(count))
 }
 
 #[test]
@@ -147,7 +123,7 @@ fn a_clone_refused_in_turn(rt: HostRuntime) {
 }
 
 fn makes_no_request(alloc: Global) -> bool {
-    let counts = Counts::new();
+    let counts = Counts::new(ENOUGH);
     let tree = filled(alloc, &counts, 0);
     is_clone_refused(alloc, 1, &counts, &tree, 0) == Some(false)
 }

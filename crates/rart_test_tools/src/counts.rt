@@ -1,6 +1,6 @@
 //! What values whose drops are counted, and whose clones are limited, share.
 
-use rart_test_tools::counted::Limited;
+use crate::counted::Limited;
 use std::cell::Cell;
 
 /// The drops so far, and the clones that are left.
