@@ -308,8 +308,8 @@ def try_alone(libraries, edit, folder, kept):
 def try_together(libraries, edits, folder, kept):
     """Tries edits in as few checks as their functions allow. Returns the goal of each that is refused.
 
-    A function that calls an unproved one doesn't count, since that one may be changed too, nor does one whose cycle of
-    calls has no proof yet.
+    A function that calls an unproved one doesn't count unless a goal of its own is open, since that one may be changed
+    too, nor does one whose cycle of calls has no proof yet.
     """
     goals, left = {}, edits
     while left:
@@ -320,7 +320,8 @@ def try_together(libraries, edits, folder, kept):
         output = libraries.check(tried[0].crate, [it.function for it in tried], folder, kept)
         if not unread_in((), output):
             verdicts = [(it, verdict_on(it.crate, it.function, output)) for it in tried]
-            apart = [it for it, said in verdicts if not UNPROVED_CALLEE.search(said) and not CYCLE.search(said)]
+            apart = [it for it, said in verdicts
+                     if not CYCLE.search(said) and (is_refused(said) or not UNPROVED_CALLEE.search(said))]
             answers = [(it, *judge(it, output)) for it in apart]
             goals.update({it: goal for it, why, goal in answers if not why})
         left = [it for it in left if it not in tried]

@@ -1,55 +1,13 @@
 //! Rows of the calls of a table of IPv4 networks that the other rows do not make, with networks given as texts.
 
+use crate::calls::{Ask, Reply, Route, Row};
+use crate::rows::assert_none_wrong;
 use rart_cidr::{Cidr4, CidrTable4, Matches4, ParseCidrError};
 use std::alloc::Global;
 use std::cmp::Ordering;
-use std::process::Abort;
 use std::str::FromStr;
 
 type Table = CidrTable4<u64>;
-
-// A network and its target.
-type Route = (&'static str, u64);
-
-#[derive(Clone, Copy)]
-enum Ask {
-    /// Inserts a route.
-    Insert(&'static str, u64),
-    /// Writes a target through `get_mut`.
-    Write(&'static str, u64),
-    /// The target of exactly this network.
-    Get(&'static str),
-    /// The route with the longest network that covers this one, by walk and by lengths.
-    Covers(&'static str),
-    /// The routes with a network that covers this one, the shortest first.
-    CoversAll(&'static str),
-    /// The network of this length that contains the first.
-    Supernet(&'static str, u8),
-    /// The order of the bits of two networks.
-    Order(&'static str, &'static str),
-    /// What a text that is no network is refused for.
-    Parse(&'static str),
-    /// Removes all routes.
-    Clear,
-    /// How many routes there are, and whether there is none.
-    Len,
-}
-
-#[derive(Clone, Copy)]
-enum Reply {
-    Value(Option<u64>),
-    Net(&'static str),
-    Route(Route),
-    None,
-    Routes(&'static [Route]),
-    Order(Ordering),
-    BadAddress,
-    BadLength,
-    HostBits,
-    Count(usize, bool),
-}
-
-type Row = (Ask, Reply);
 
 fn is(net: &Cidr4, text: &str) -> bool {
     match Cidr4::from_str(text) {
@@ -174,12 +132,6 @@ fn first_wrong(alloc: Global, rows: &[Row]) -> Option<usize> {
         at = at.wrapping_add(1);
     }
     None
-}
-
-fn assert_none_wrong(rt: &impl Abort, differs: Option<usize>) {
-    if let Some(at) = differs {
-        assert!(rt; false, "row {at} differs");
-    }
 }
 
 static ROWS: [Row; 33] = [

@@ -4,6 +4,8 @@
 #![tactic(auto)]
 
 #[cfg(test)]
+mod calls;
+#[cfg(test)]
 mod calls4;
 #[cfg(test)]
 mod calls6;
@@ -19,6 +21,8 @@ mod random;
 mod refused4;
 #[cfg(test)]
 mod refused6;
+#[cfg(test)]
+mod rows;
 #[cfg(test)]
 mod rows4;
 #[cfg(test)]

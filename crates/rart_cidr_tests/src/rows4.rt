@@ -1,37 +1,14 @@
 //! Rows of calls on a table of IPv4 networks, and what they return: octets' borders, the default route, host routes,
 //! routes under others of the same octets, and removals.
 
+use crate::rows::{self, NEW, Reply, assert_none_wrong};
 use rart_cidr::{Cidr4, CidrError, CidrTable4};
 use std::alloc::Global;
 use std::net::Ipv4Addr;
-use std::process::Abort;
 
 type Octets = [u8; 4];
 
-#[derive(Clone, Copy)]
-enum Ask {
-    Insert(Octets, u8, u64),
-    Remove(Octets, u8),
-    Get(Octets, u8),
-    // the length and the target of the route with the longest network that contains the address
-    Route(Octets),
-    // how many routes' networks contain the address
-    Covering(Octets),
-    Len,
-}
-
-#[derive(Clone, Copy, PartialEq, Eq)]
-enum Reply {
-    Value(Option<u64>),
-    Found(u8, u64),
-    Missed,
-    Count(usize),
-    BadLength,
-    HostBits,
-    Refused,
-    // the law by lengths answers otherwise
-    Differs,
-}
+type Ask = rows::Ask<Octets>;
 
 type Row = (Ask, Reply);
 
@@ -120,14 +97,6 @@ fn first_wrong(alloc: Global, rows: &[Row]) -> Option<usize> {
     }
     None
 }
-
-fn assert_none_wrong(rt: &impl Abort, differs: Option<usize>) {
-    if let Some(at) = differs {
-        assert!(rt; false, "row {at} differs");
-    }
-}
-
-const NEW: Reply = Reply::Value(None);
 
 // Networks at the borders of the octets, each inside the one before.
 static NESTED: [Row; 80] = [

@@ -3,38 +3,15 @@
 
 mod nested;
 
+use crate::rows::{self, NEW, Reply, assert_none_wrong};
 use crate::rows6::nested::NESTED;
 use rart_cidr::{Cidr6, CidrError, CidrTable6};
 use std::alloc::Global;
 use std::net::Ipv6Addr;
-use std::process::Abort;
 
 type Bits = u128;
 
-#[derive(Clone, Copy)]
-enum Ask {
-    Insert(Bits, u8, u64),
-    Remove(Bits, u8),
-    Get(Bits, u8),
-    // the length and the target of the route with the longest network that contains the address
-    Route(Bits),
-    // how many routes' networks contain the address
-    Covering(Bits),
-    Len,
-}
-
-#[derive(Clone, Copy, PartialEq, Eq)]
-enum Reply {
-    Value(Option<u64>),
-    Found(u8, u64),
-    Missed,
-    Count(usize),
-    BadLength,
-    HostBits,
-    Refused,
-    // the law by lengths answers otherwise
-    Differs,
-}
+type Ask = rows::Ask<Bits>;
 
 type Row = (Ask, Reply);
 
@@ -123,14 +100,6 @@ fn first_wrong(alloc: Global, rows: &[Row]) -> Option<usize> {
     }
     None
 }
-
-fn assert_none_wrong(rt: &impl Abort, differs: Option<usize>) {
-    if let Some(at) = differs {
-        assert!(rt; false, "row {at} differs");
-    }
-}
-
-const NEW: Reply = Reply::Value(None);
 
 // The default route, host routes, and a network of whole octets of zeros.
 static DEFAULT_AND_HOSTS: [Row; 21] = [

@@ -1,6 +1,7 @@
 //! Rows of calls on IPv6 networks at the borders of the octets, each network inside the one before.
 
-use crate::rows6::{Ask, NEW, Reply, Row};
+use crate::rows::{NEW, Reply};
+use crate::rows6::{Ask, Row};
 
 pub static NESTED: [Row; 74] = [
     (
