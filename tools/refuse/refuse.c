@@ -8,13 +8,14 @@
      0x5ef4       stop. Answered by a block exactly if more than N bytes were requested since the last 0x5ef3.
      0x5ef5 | N   as 0x5ef0, and refuse each request after the Nth too.
    From outside, REFUSE=N refuses the Nth request of the whole process, and REFUSE_REPORT=FILE appends a line with the
-   counts when the process ends by exit.
+   counts when the process ends by exit, among them the blocks that it still holds.
 
    Without this library the C library refuses such sizes by itself, so a program takes every message as "nothing was
    refused". It is written without headers, so that any C compiler makes it. */
 typedef unsigned long size_t;
 extern void *__libc_malloc(size_t);
 extern void *__libc_realloc(void *, size_t);
+extern void __libc_free(void *);
 extern char *getenv(const char *);
 extern int open(const char *, int, ...);
 extern long write(int, const void *, size_t);
@@ -34,6 +35,7 @@ static long part_began, empty; /* the refusals before this part, and the parts t
 static int adding;             /* whether bytes are added up */
 static size_t bytes, limit;    /* since the last message that set `limit` */
 static long added;             /* all bytes added up so far */
+static long held;              /* the blocks handed out and not yet freed */
 
 static int refuses(size_t size) {
     int no = 0;
@@ -81,6 +83,7 @@ static int is_message(size_t size, void **answer) {
         return 0;
     }
     messages++;
+    held += *answer != 0;
     if (!*answer) *__errno_location() = NO_MEMORY;
     return 1;
 }
@@ -88,13 +91,24 @@ static int is_message(size_t size, void **answer) {
 void *malloc(size_t size) {
     void *answer;
     if (is_message(size, &answer)) return answer;
-    return refuses(size) ? 0 : __libc_malloc(size);
+    if (refuses(size)) return 0;
+    answer = __libc_malloc(size);
+    held += answer != 0;
+    return answer;
 }
 
 void *realloc(void *block, size_t size) {
     void *answer;
     if (is_message(size, &answer)) return answer;
-    return refuses(size) ? 0 : __libc_realloc(block, size); /* a refusal leaves the old block */
+    if (refuses(size)) return 0; /* which leaves the old block */
+    answer = __libc_realloc(block, size);
+    held += !block && answer;
+    return answer;
+}
+
+void free(void *block) {
+    held -= block != 0;
+    __libc_free(block);
 }
 
 __attribute__((constructor)) static void begin(void) {
@@ -102,7 +116,7 @@ __attribute__((constructor)) static void begin(void) {
     long n = 0;
     for (; text && *text >= '0' && *text <= '9'; text++) n = n * 10 + (*text - '0');
     process_until = n;
-    requests = 0;
+    requests = held = 0;
 }
 
 static char *put(char *to, const char *word, long n) {
@@ -126,6 +140,7 @@ __attribute__((destructor)) static void end(void) {
     to = put(to, " messages=", messages);
     to = put(to, " empty=", empty);
     to = put(to, " added=", added);
+    to = put(to, " held=", held < 0 ? -held : held);
     *to++ = '\n';
     int report = open(file, WRITE_CREATE_APPEND, 0666);
     if (report < 0) return;

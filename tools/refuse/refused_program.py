@@ -3,7 +3,8 @@
 Each request for memory is refused in turn, reads are short or fail, writes fail.
 
 In a run with one request refused the program ends with status 0, and each line is `Memory` or the answer of a run
-without the refused command; or it ends with status 1, says that it cannot read, and has printed nothing.
+without the refused command; or it ends with status 1, says that it cannot read, and has printed nothing. In each it
+frees all that it was given.
 
 At a malformed line the program ends with status 2, and names the line.
 """
@@ -66,7 +67,7 @@ def all_widths():
 
 
 def run(program, script, refuse=0, library=None, **how):
-    """The status, what was printed and said, and whether a request was refused."""
+    """The status, what was printed and said, whether a request was refused, and how many blocks weren't freed."""
     with tempfile.TemporaryDirectory() as scratch:
         report = pathlib.Path(scratch) / "report"
         env = {"PATH": "/usr/bin:/bin", "REFUSE": str(refuse), "REFUSE_REPORT": str(report)}
@@ -76,8 +77,9 @@ def run(program, script, refuse=0, library=None, **how):
         if "stdin" not in how:
             how["input"] = script
         ended = subprocess.run([program], env=env, cwd=scratch, timeout=SECONDS, **how)
-        refused = report.exists() and " refused=0" not in report.read_text()
-    return ended.returncode, ended.stdout, ended.stderr, refused
+        counts = dict(word.split("=") for word in report.read_text().split()) if report.exists() else {}
+    refused, held = int(counts.get("refused", 0)), int(counts.get("held", 0))
+    return ended.returncode, ended.stdout, ended.stderr, refused > 0, held
 
 
 def swept(program, script, library, cannot_read=CANNOT_READ):
@@ -86,12 +88,14 @@ def swept(program, script, library, cannot_read=CANNOT_READ):
     A run in which one request is refused can't read its input, or has one answer `Memory` at most; some run has one.
     """
     lines = script.splitlines(keepends=True)
-    status, whole, said, _ = run(program, script)
+    status, whole, said, *_ = run(program, script)
     if status != 0 or said or len(whole.splitlines()) != len(lines):
         return "it goes wrong with ample memory", 0
     refusals = 0
     for at in range(1, 10_000):
-        status, printed, said, refused = run(program, script, at, library)
+        status, printed, said, refused, held = run(program, script, at, library)
+        if held:
+            return f"request {at}: {held} blocks are not freed", at
         if not refused:
             well = at > 1 and refusals and (status, printed, said) == (0, whole, b"")
             return "" if well else "no answer was Memory, or it then went wrong", at - 1
@@ -105,7 +109,7 @@ def swept(program, script, library, cannot_read=CANNOT_READ):
         refusals += without
         if without > 1:
             return f"request {at}: {without} answers are Memory", at
-        _, wanted, _, _ = run(program, b"".join(lines[i] for i in kept))
+        _, wanted, *_ = run(program, b"".join(lines[i] for i in kept))
         if [answers[i] for i in kept] != wanted.splitlines():
             return f"request {at}: the other answers differ", at
     return "refused for ever", 0
@@ -152,7 +156,7 @@ def short_reads(program):
 def failed_read(program):
     """A folder can't be read."""
     folder = os.open("/", os.O_RDONLY)
-    status, printed, said, _ = run(program, b"", stdin=folder)
+    status, printed, said, *_ = run(program, b"", stdin=folder)
     os.close(folder)
     return "" if (status, printed, said) == (1, b"", CANNOT_READ) else f"status {status}, {said!r}"
 
@@ -160,11 +164,11 @@ def failed_read(program):
 def failed_write(program):
     """A full disk, and then a pipe that nobody reads."""
     with open("/dev/full", "wb") as full:
-        status, _, said, _ = run(program, TEN_LINES, stdout=full)
+        status, _, said, *_ = run(program, TEN_LINES, stdout=full)
     if (status, said) != (1, CANNOT_WRITE):
         return f"/dev/full: status {status}, {said!r}"
     with open("/dev/full", "wb") as full:
-        status, _, _, _ = run(program, b"foo\n", stderr=full)
+        status, *_ = run(program, b"foo\n", stderr=full)
     return "" if status == 1 else f"errors to /dev/full: status {status}"
 
 

@@ -31,6 +31,8 @@ def run(program, library, case):
     refused = int(counts.get("refused", 0))
     if ended.returncode != 0 or ended.stdout != b"all cases went well\n":
         return f"status {ended.returncode}: {ended.stdout[-600:]!r}", refused
+    if int(counts.get("held", 0)):
+        return f"{counts['held']} blocks are not freed", refused
     return "" if refused >= LEAST else "too few requests were refused", refused
 
 

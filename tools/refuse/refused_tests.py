@@ -5,7 +5,7 @@ usage: refused_tests.py [PASSED FAILED]
 
 After the gate, each test program crates/*/out/*_tests has the tests of its crate. Three kinds, marked by a word in
 their names, send messages to the library. Each runs in a process of its own with the library preloaded, and passes if
-it ends with status 0 and
+it ends with status 0, has freed all that it was given, and
 
   refused_in_turn            which have one request after the other refused, a request was really refused in each part;
   make_no_request            which say so of the calls in them, a message came and no request was refused;
@@ -95,6 +95,8 @@ def run(program, test, library):
         return f"status {ended.returncode}: {(ended.stdout + ended.stderr)[-600:]}", refused
     if int(counts.get("messages", 0)) == 0:
         return "no message came", refused
+    if int(counts.get("held", 0)):
+        return f"{counts['held']} blocks are not freed", refused
     if SWEEP.search(test) and not refused:
         return "no request was refused", refused
     if int(counts.get("empty", 0)):
