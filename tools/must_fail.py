@@ -8,10 +8,11 @@ crates/CRATE/must-fail/*.edit, of FOLDER if it is given. An edit has these lines
 
   file: PATH        a file of the crate
   function: PATH    the function that is changed, by its path below the crate, as a check prints it
+  goal: TEXT        the end of the name of a goal that must stay open, as `clause-` and the label of a clause
   old: TEXT         a text that occurs once in the file, the first in the body of the function
   new: TEXT         what replaces it; further pairs of lines may follow
 
-An edit passes if the edited crate can be read and a goal of the function stays open. The check of a function also
+An edit passes if the edited crate can be read and that goal of the function stays open. The check of a function also
 checks those that it calls; a goal of theirs doesn't count. Edits of different bodies are tried by one check, since the
 proof of a function reads only the contracts of the others. An edit that changes more than one body or isn't refused so
 is tried alone. Each check reuses the proofs of the checks before it. At last the functions are checked without the
@@ -43,8 +44,8 @@ PARTS = ("src", "specs", "proofs")
 
 # A message with its place: a note or an error, the file, and the text.
 MESSAGE = re.compile(r"^(note: )?(?:\./)?(\S+?):\d+:\d+: (error: )?(.*)$", re.M)
-# The text of an open goal, which names it: in a body, or where an answer doesn't prove it.
-GOAL = re.compile(r"^`[^`]+`: |\(`[^`]+`\)")
+# The name of an open goal in its text: where an answer doesn't prove it, or in a body.
+GOAL = re.compile(r"^`([^`]+)`: |\(`([^`]+)`\)")
 # A message that goes on below: a long one is broken behind a name, as before `has no field`.
 BROKEN = re.compile(r"^((?:note: )?\S+:\d+:\d+: .*)\n +(?=\S)", re.M)
 # A verdict on a function, a type or an `impl`.
@@ -97,7 +98,8 @@ class Edit:
     """An edit: its crate, its name, the changed function, and the pairs of texts with their files."""
 
     def __init__(self, path):
-        self.crate, self.name, self.function, self.pairs, self.fault = path.parents[1].name, path.stem, "", [], ""
+        self.crate, self.name, self.pairs = path.parents[1].name, path.stem, []
+        self.function = self.goal = self.fault = ""
         file = old = ""
         for line in path.read_text().split("\n"):
             word, _, text = line.partition(":")
@@ -106,13 +108,15 @@ class Edit:
                 file = text.strip()
             elif word == "function":
                 self.function = text.strip()
+            elif word == "goal":
+                self.goal = text.strip()
             elif word == "old":
                 old = text
             elif word == "new":
                 self.pairs.append((file, old, text))
                 old = ""
-        if not self.pairs or not self.function or not all(old for _, old, _ in self.pairs):
-            self.fault = "it has no `function`, or a `new` without its `old`"
+        if not self.pairs or not self.function or not self.goal or not all(old for _, old, _ in self.pairs):
+            self.fault = "it has no `function` or `goal`, or a `new` without its `old`"
         elif any(not file.startswith(tuple(f"{it}/" for it in PARTS)) or ".." in file for file, _, _ in self.pairs):
             self.fault = "its file is none of the crate"
 
@@ -268,11 +272,13 @@ def judge(edit, output):
     unread = unread_in(changed, output)
     if unread:
         return f"the prover can't read the edited text: {unread}", ""
-    goals = [text for _, file, _, text in MESSAGE.findall(of_function(edit.function, edit.crate, output))
+    texts = [text for _, file, _, text in MESSAGE.findall(of_function(edit.function, edit.crate, output))
              if (file in changed or file.startswith("proofs/")) and GOAL.search(text) and not UNREAD.search(text)]
-    if not goals:
+    if not texts:
         return f"no goal is named, or a proof names what the edit took away: {verdict}", ""
-    return "", goals[0]
+    names = ["".join(GOAL.search(text).groups(default="")) for text in texts]
+    named = [text for text, name in zip(texts, names) if name.endswith(edit.goal)]
+    return ("", named[0]) if named else (f"no open goal ends with {edit.goal}: {' '.join(names)}", "")
 
 
 def copy_of(crate, folder):
