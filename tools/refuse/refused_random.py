@@ -5,11 +5,23 @@ same call, made again, must answer as the model does.
 """
 import os
 import pathlib
+import re
 import subprocess
 import tempfile
 
-# Key type, seed, calls, and one of how many calls has a request refused.
-CASES = ((32, 101, 60_000, 30), (8, 102, 60_000, 30), (16, 104, 60_000, 30))
+# Key type, seed, calls, and one of how many calls has a request refused; then the least number of pairs of the largest
+# tree, and of edits of a tree that are refused.
+CASES = (
+    (32, 101, 60_000, 30, 480, 50),
+    (8, 102, 60_000, 30, 200, 50),
+    (16, 104, 60_000, 30, 100, 50),
+    (32, 107, 60_000, 30, 3_800, 50),
+    (8, 107, 60_000, 30, 3_800, 50),
+    (16, 107, 60_000, 30, 3_800, 50),
+)
+
+# What a case that passes says.
+RIGHT = re.compile(r": right, largest tree (\d+), (\d+) edits refused\n")
 
 # The least number of refusals that a run must meet.
 LEAST = 250
@@ -17,7 +29,7 @@ LEAST = 250
 
 def run(program, library, case):
     """Why the run failed, or nothing, and how many requests were refused."""
-    line = "%d %d %d %d\n" % case
+    line = "%d %d %d %d\n" % case[:4]
     with tempfile.TemporaryDirectory() as scratch:
         report = pathlib.Path(scratch) / "report"
         env = {"PATH": "/usr/bin:/bin", "LD_PRELOAD": str(library), "REFUSE_REPORT": str(report)}
@@ -33,6 +45,9 @@ def run(program, library, case):
         return f"status {ended.returncode}: {ended.stdout[-600:]!r}", refused
     if int(counts.get("held", 0)):
         return f"{counts['held']} blocks are not freed", refused
+    found = RIGHT.search(ended.stderr.decode(errors="replace"))
+    if not found or int(found[1]) < case[4] or int(found[2]) < case[5]:
+        return f"too small a tree, or too few refused edits: {ended.stderr[-600:]!r}", refused
     return "" if refused >= LEAST else "too few requests were refused", refused
 
 

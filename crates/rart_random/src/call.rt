@@ -34,6 +34,11 @@ pub fn makes_a_tree(call: &Call) -> bool {
     takes_a_list(call) || call.kind == 46
 }
 
+/// Whether it edits a tree.
+pub fn is_edit(call: &Call) -> bool {
+    call.kind < 9 || call.kind == 41
+}
+
 // What is done mostly while a tree grows, shrinks, and in between.
 const GROWING: [u64; 8] = [0, 1, 2, 3, 7, 8, 0, 6];
 

@@ -2,8 +2,8 @@
 //!
 //! Each line of standard input is a case: `KEYS SEED CALLS REFUSED`. The same case makes the same calls. A case that
 //! fails is printed with its call, and with the shortest list of calls that still fails; the status is then
-//! 1. A case that passes prints the size of its largest tree to standard error, and cases are not counted, so that
-//! kept cases change no output. It is no part of the product.
+//! 1. A case that passes prints the size of its largest tree, and how many edits were refused, to standard error; cases
+//! are not counted, so that kept cases change no output. It is no part of the product.
 #![tactic(auto)]
 
 mod call;
@@ -66,13 +66,16 @@ fn run<K: KeyTrait + Drop>(
     case: &Case,
 ) -> io::Result<bool> {
     let (keys, seed, calls, refused) = (case.keys, case.seed, case.calls, case.refused);
-    let Some(Played { wrong, largest }) = played::<K>(alloc, case) else {
+    let Some(found) = played::<K>(alloc, case) else {
         println!(rt; "{keys} {seed} {calls} {refused}: no memory")?;
         return Ok(false);
     };
-    match wrong {
+    match found.wrong {
         None => {
-            eprintln!(rt; "{keys} {seed} {calls} {refused}: right, largest tree {largest}")?;
+            let (largest, edits) = (found.largest, found.refused_edits);
+            eprintln!(rt;
+                "{keys} {seed} {calls} {refused}: right, largest tree {largest}, {edits} edits refused"
+            )?;
             Ok(true)
         }
         Some(at) => {

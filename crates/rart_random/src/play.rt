@@ -18,13 +18,15 @@ pub struct Case {
     pub refused: u64,
 }
 
-/// What came of it: the place in the list of the first call that failed, and the size of the largest tree.
+/// What came of it.
 #[derive(Clone, Copy)]
 pub struct Played {
-    /// The place, none if all passed.
+    /// The place in the list of the first call that failed, none if all passed.
     pub wrong: Option<usize>,
     /// The most pairs of a tree.
     pub largest: usize,
+    /// How many edits of a tree had a request refused.
+    pub refused_edits: usize,
 }
 
 // Which request is refused in a call, 0 for none: one of the first four, or of more if the call makes a tree.
@@ -56,6 +58,7 @@ fn play_in<K: KeyTrait + Drop>(world: &mut World<K>, case: &Case, list: &[u64]) 
             return Played {
                 wrong: Some(place),
                 largest,
+                refused_edits: world.refused_edits(),
             };
         }
         place = place.wrapping_add(1);
@@ -63,6 +66,7 @@ fn play_in<K: KeyTrait + Drop>(world: &mut World<K>, case: &Case, list: &[u64]) 
     Played {
         wrong: None,
         largest,
+        refused_edits: world.refused_edits(),
     }
 }
 

@@ -1,5 +1,5 @@
 //! Two trees and a route table, each beside its model, and one call made on both.
-use crate::call::{Call, takes_a_list};
+use crate::call::{Call, is_edit, takes_a_list};
 use crate::kinds::grown::{grow, wanted_grow};
 use crate::kinds::loads::{list_of, load, wanted_load};
 use crate::kinds::owned::{owned, wanted_owned};
@@ -23,6 +23,7 @@ pub struct World<K: KeyTrait> {
     second: Side<K>,
     routes: RouteTable<K, u64>,
     route_model: Model,
+    refused_edits: usize,
 }
 
 /// What a call is made with.
@@ -129,12 +130,18 @@ impl<K: KeyTrait + Drop> World<K> {
             second: Side::new(alloc),
             routes: RouteTable::new(alloc),
             route_model: Model::new(alloc),
+            refused_edits: 0,
         }
     }
 
     /// How many pairs the larger tree has.
     pub fn size(&self) -> usize {
         self.first.model.len().max(self.second.model.len())
+    }
+
+    /// How many edits of a tree had a request refused.
+    pub fn refused_edits(&self) -> usize {
+        self.refused_edits
     }
 
     fn are_routes_right(&self) -> bool {
@@ -244,6 +251,9 @@ impl<K: KeyTrait + Drop> World<K> {
                 return false;
             }
             if was {
+                if is_edit(call) {
+                    self.refused_edits = self.refused_edits.wrapping_add(1);
+                }
                 if !self.note_refusal(words, call) || !self.is_right() {
                     return false;
                 }
