@@ -8,11 +8,11 @@ crates/CRATE/must-fail/*.edit, of FOLDER if it is given. An edit has these lines
 
   file: PATH        a file of the crate
   function: PATH    the function that is changed, by its path below the crate, as a check prints it
-  goal: TEXT        the end of the name of a goal that must stay open, as `clause-` and the label of a clause
+  goal: NAME        a goal that must stay open, as `returns-clause-LABEL`; further such lines may follow
   old: TEXT         a text that occurs once in the file, the first in the body of the function
   new: TEXT         what replaces it; further pairs of lines may follow
 
-An edit passes if the edited crate can be read and that goal of the function stays open. The check of a function also
+An edit passes if the edited crate can be read and those goals of the function stay open. The check of a function also
 checks those that it calls; a goal of theirs doesn't count. Edits of different bodies are tried by one check, since the
 proof of a function reads only the contracts of the others. An edit that changes more than one body or isn't refused so
 is tried alone. Each check reuses the proofs of the checks before it. At last the functions are checked without the
@@ -99,7 +99,7 @@ class Edit:
 
     def __init__(self, path):
         self.crate, self.name, self.pairs = path.parents[1].name, path.stem, []
-        self.function = self.goal = self.fault = ""
+        self.function, self.goals, self.fault = "", [], ""
         file = old = ""
         for line in path.read_text().split("\n"):
             word, _, text = line.partition(":")
@@ -109,13 +109,13 @@ class Edit:
             elif word == "function":
                 self.function = text.strip()
             elif word == "goal":
-                self.goal = text.strip()
+                self.goals.append(text.strip())
             elif word == "old":
                 old = text
             elif word == "new":
                 self.pairs.append((file, old, text))
                 old = ""
-        if not self.pairs or not self.function or not self.goal or not all(old for _, old, _ in self.pairs):
+        if not self.pairs or not self.function or not self.goals or not all(old for _, old, _ in self.pairs):
             self.fault = "it has no `function` or `goal`, or a `new` without its `old`"
         elif any(not file.startswith(tuple(f"{it}/" for it in PARTS)) or ".." in file for file, _, _ in self.pairs):
             self.fault = "its file is none of the crate"
@@ -276,9 +276,11 @@ def judge(edit, output):
              if (file in changed or file.startswith("proofs/")) and GOAL.search(text) and not UNREAD.search(text)]
     if not texts:
         return f"no goal is named, or a proof names what the edit took away: {verdict}", ""
-    names = ["".join(GOAL.search(text).groups(default="")) for text in texts]
-    named = [text for text, name in zip(texts, names) if name.endswith(edit.goal)]
-    return ("", named[0]) if named else (f"no open goal ends with {edit.goal}: {' '.join(names)}", "")
+    texts_of = {"".join(GOAL.search(text).groups(default="")): text for text in texts}
+    closed = [goal for goal in edit.goals if goal not in texts_of]
+    if closed:
+        return f"{' '.join(closed)} is not open, but {' '.join(texts_of)}", ""
+    return "", texts_of[edit.goals[0]]
 
 
 def copy_of(crate, folder):

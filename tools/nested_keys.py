@@ -5,7 +5,8 @@ usage: nested_keys.py [PASSED FAILED]
 
 Each row of CALLS names a call on trees of 1024 keys nested in each other, whose nodes are a path, and the number that
 it answers. A call is a process of its own, whose stack has at most KIB KiB, and passes if it ends with status 0 and
-prints its row. The first must not end with LITTLE KiB. /bin/sh must have `ulimit -s`.
+prints its row. So is SHORT, with a limit of its own. The first must not end with LITTLE KiB. /bin/sh must have
+`ulimit -s`.
 
 PASSED and FAILED are the counts of the step before, 0 if not given. The last line adds the calls to them.
 """
@@ -20,6 +21,10 @@ CRATE = pathlib.Path(__file__).resolve().parents[1] / "crates" / "rart_deep"
 # What a process may take: an eighth of what systems give. As LLVM builds it, `try_update` takes 0.4 KiB a level, any
 # other call and the drop of the tree 0.35 KiB at most, with keys of 1 KiB.
 KIB = 1024
+
+# The drop of 128 levels of wide nodes with keys of at most 128 bytes, its answer, and what it may take: the compiler's
+# own recursion drops such a tree, by 1.5 KiB a level.
+SHORT = ("drop_short_keys", 6400, 256)
 
 # In so little no call can end: a row of its own shows that the limit is in force.
 LITTLE = 128
@@ -86,10 +91,10 @@ def run(call, kib):
 
 def main():
     passed, failed = (int(sys.argv[1]), int(sys.argv[2])) if len(sys.argv) == 3 else (0, 0)
-    for call, number in CALLS:
-        status, printed = run(call, KIB)
+    for call, number, kib in [*((call, number, KIB) for call, number in CALLS), SHORT]:
+        status, printed = run(call, kib)
         if (status, printed) == (0, f"{call} {number}\n"):
-            print(f"nested keys: {call} {number}: ok within {KIB} KiB")
+            print(f"nested keys: {call} {number}: ok within {kib} KiB")
             passed += 1
         else:
             print(f"nested keys: {call}: FAILED: status {status}, {printed!r}")

@@ -3,15 +3,18 @@
 
 usage: readme_commands.py [PASSED FAILED]
 
-They are the lines of the first `sh` block, but for `./test`, which runs this. After the gate, `./run` finds the programs
-built; that it proves them is not tried. Each command must end with its row's status, standard output and, where the row
-has one, line on standard error. Then come names of no program. All run side by side.
+They are the lines of the first `sh` block, but for `./test`, which runs this. After the gate, `./run` finds its program
+built; that it can prove it is not tried. Each command must end with the status, standard output and standard error of
+its row, and README must say so: the answers are what it has first in back quotes after the block, but for the two
+routes of the last. Then come names of no program. All run side by side.
 
 PASSED and FAILED are the counts of the step before, 0 if not given. The last line adds the commands to them.
 """
 import concurrent.futures
+import os
 import pathlib
 import re
+import signal
 import subprocess
 import sys
 
@@ -19,7 +22,9 @@ sys.dont_write_bytecode = True
 
 TOP = pathlib.Path(__file__).resolve().parents[1]
 
-BLOCK = re.compile(r"^```sh\n(.*?)^```$", re.S | re.M)
+# The first block, and what follows to the next heading.
+BLOCK = re.compile(r"^```sh\n(.*?)^```$(.*?)^#", re.S | re.M)
+CODE = re.compile(r"`([^`\n]+)`")
 
 WORDS = "none\nnone\nsome 1\nsome catalog=2\n"
 ROUTES = "none\nnone\nsome 10.16.0.0/12=lyon\n10.0.0.0/8=core 10.16.0.0/12=lyon\n"
@@ -42,10 +47,23 @@ NO_PROGRAM = [
 SECONDS = 600
 
 
-def commands():
-    """README's first commands, without their comments."""
-    lines = BLOCK.search((TOP / "README.md").read_text())[1].splitlines()
-    return [line.partition("  #")[0].strip() for line in lines if not line.startswith("./test")]
+def first_run():
+    """README's first commands, without their comments, and what it has in back quotes after them."""
+    block, after = BLOCK.search((TOP / "README.md").read_text()).groups()
+    commands = [line.partition("  #")[0].strip() for line in block.splitlines()]
+    return [command for command in commands if command != "./test"], CODE.findall(after)
+
+
+def run(command):
+    """The status, standard output and standard error; nothing if it runs out of time, and then it is ended."""
+    pipes = {"stdout": subprocess.PIPE, "stderr": subprocess.PIPE, "text": True}
+    with subprocess.Popen(["/bin/sh", "-c", command], cwd=TOP, start_new_session=True, **pipes) as shell:
+        try:
+            printed, said = shell.communicate(timeout=SECONDS)
+        except subprocess.TimeoutExpired:
+            os.killpg(shell.pid, signal.SIGKILL)
+            return None
+    return shell.returncode, printed, said
 
 
 def fault_of(command, row):
@@ -53,23 +71,20 @@ def fault_of(command, row):
     name, *wanted = row
     if command.rpartition("|")[2].strip() != name:
         return f"README has {command!r}"
-    try:
-        ended = subprocess.run(["/bin/sh", "-c", command], cwd=TOP, capture_output=True, text=True, timeout=SECONDS)
-    except subprocess.TimeoutExpired:
-        return "it ran out of time"
-    found = [ended.returncode, ended.stdout, ended.stderr]
-    return "" if found == wanted else f"status, output and errors are {found}"
+    found = run(command)
+    return "" if found == tuple(wanted) else f"status, output and errors are {found}"
 
 
 def main():
     passed, failed = (int(sys.argv[1]), int(sys.argv[2])) if len(sys.argv) == 3 else (0, 0)
-    found = commands()
-    if len(found) != len(ROWS):
-        print(f"README's commands: FAILED: {len(found)} in place of {len(ROWS)}")
+    commands, said = first_run()
+    answers = [*WORDS.splitlines(), *ROUTES.splitlines()[:3]]
+    if len(commands) != len(ROWS) or said[: len(answers)] != answers:
+        print(f"README's commands: FAILED: there are {len(commands)}, and it says that they print {said}")
         failed += 1
     rows = [*ROWS, *NO_PROGRAM]
     with concurrent.futures.ThreadPoolExecutor() as workers:
-        faults = list(workers.map(fault_of, [*found[: len(ROWS)], *(row[0] for row in NO_PROGRAM)], rows))
+        faults = list(workers.map(fault_of, [*commands[: len(ROWS)], *(row[0] for row in NO_PROGRAM)], rows))
     for row, fault in zip(rows, faults):
         print(f"README's commands: {row[0]}: {'FAILED: ' + fault if fault else 'ok'}")
         passed, failed = passed + (not fault), failed + bool(fault)

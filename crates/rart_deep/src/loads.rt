@@ -1,4 +1,4 @@
-//! Bulk loads of the tree, insertions of many items, a migration, and the pairs by value.
+//! Bulk loads of the tree, insertions of many items, a migration, the pairs by value, and a tree of short keys.
 ghost use Rattle.std.specs.Prelude.{◌<◌};
 
 use crate::trees::{Key, Tree, first, key, nested};
@@ -33,18 +33,18 @@ pub fn into_pairs(alloc: Global) -> Option<usize> {
     }
 }
 
-// The key of this many bytes and a closing zero.
-fn text(length: usize) -> Key
+// The key of this many letters and a byte.
+fn key_ending_with(length: usize, byte: u8) -> Key
     requires { length < 1024 }
 {
     let mut bytes = [b'a'; 1024];
-    bytes[length] = 0;
+    bytes[length] = byte;
     first(&bytes, length + 1)
 }
 
 fn insert_texts(tree: &mut Tree) -> Option<()> {
     for length in 0..1024 {
-        tree.insert_k(&text(length), 1).ok()?;
+        tree.insert_k(&key_ending_with(length, 0), 1).ok()?;
     }
     Some(())
 }
@@ -59,4 +59,29 @@ fn insert_and_migrate(old: &mut Tree) -> Option<usize> {
 pub fn texts(alloc: Global) -> Option<usize> {
     let mut old = Tree::new(alloc);
     insert_and_migrate(&mut old)
+}
+
+// So many children make a `Node256`, whose drop takes 1.3 KiB of the stack where that of a `Node4` takes 0.3.
+fn insert_children(tree: &mut Tree, length: usize) -> Option<()>
+    requires { length < 1024 }
+{
+    for byte in 48..98 {
+        tree.insert_k(&key_ending_with(length, byte), 1).ok()?;
+    }
+    Some(())
+}
+
+fn insert_short(tree: &mut Tree) -> Option<()> {
+    for length in 0..128 {
+        insert_children(tree, length)?;
+    }
+    Some(())
+}
+
+/// Creates a tree of 128 levels of wide nodes, whose keys have at most 128 bytes, so that the compiler's own recursion
+/// drops it, and returns how many keys it has.
+pub fn short_keys(alloc: Global) -> Option<usize> {
+    let mut tree = Tree::new(alloc);
+    insert_short(&mut tree)?;
+    Some(tree.len())
 }

@@ -1,4 +1,5 @@
-//! Makes calls on trees of 1024 keys nested in each other, whose nodes are a path.
+//! Makes calls on trees of 1024 keys nested in each other, whose nodes are a path, and on one of 128 levels of wide
+//! nodes.
 //!
 //! Each line of standard input names a call; its answer is printed after the name. Run under a limit of the stack, it
 //! shows what a level takes. It is no part of the product.
@@ -44,6 +45,7 @@ fn answer(alloc: Global, name: &str) -> Option<usize> {
         "from_pairs" => loads::from_pairs(alloc),
         "into_pairs" => loads::into_pairs(alloc),
         "drop_closing_zeros" => loads::texts(alloc),
+        "drop_short_keys" => loads::short_keys(alloc),
         _ => answer_of_nested(alloc, name),
     }
 }
