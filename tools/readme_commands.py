@@ -6,7 +6,8 @@ usage: readme_commands.py [PASSED FAILED]
 They are the lines of the first `sh` block, but for `./test`, which runs this. After the gate, `./run` finds its program
 built; that it can prove it is not tried. Each command must end with the status, standard output and standard error of
 its row, and README must say so: the answers are what it has first in back quotes after the block, but for the two
-routes of the last. Then come names of no program. All run side by side.
+routes of the last. Then come other calls of the three scripts: usage, arguments that they don't take, a link to one,
+and an output or a folder that can't be written. All run side by side.
 
 PASSED and FAILED are the counts of the step before, 0 if not given. The last line adds the commands to them.
 """
@@ -37,10 +38,27 @@ ROWS = [
     ("./run", 0, WORDS, ""),
 ]
 
+NO_FOLDER = "cannot make a folder in /nowhere; TMPDIR names another\n"
+
 # The same of commands that README does not have.
-NO_PROGRAM = [
+OTHER_ROWS = [
     ("./try rart", 2, "", "try: no program rart: rart_script or rart_routes\n"),
     ("./run rart", 2, "", "run: no program rart: rart_script or rart_routes\n"),
+    ("./try rart_script len", 2, "", "try: one program at most: rart_script or rart_routes\n"),
+    ("./run rart_script len", 2, "", "run: one program at most: rart_script or rart_routes\n"),
+    ("./test all", 2, "", "test: it takes no argument\n"),
+    ("./try --help | cut -c 1-12", 0, "usage: ./try\n", ""),
+    ("./run --help | cut -c 1-12", 0, "usage: ./run\n", ""),
+    ("./test --help | cut -c 1-13", 0, "usage: ./test\n", ""),
+    ("TMPDIR=/nowhere ./try", 1, "", f"try: {NO_FOLDER}"),
+    ("TMPDIR=/nowhere ./test", 1, "test: begins; docs/STATUS.md says how long it takes\n", f"test: {NO_FOLDER}"),
+    ("./test >/dev/full", 1, "", "test: cannot write\n"),
+    ("./test >&-", 1, "", "test: cannot write\n"),
+    ("echo len | ./run >/dev/full", 1, "", "rart_script: cannot write\n"),
+    ("echo len | ./run >&-", 1, "", "rart_script: cannot write\n"),
+    ("echo len | ./try >/dev/full", 1, "", f"{UNPROVED}try: cannot write\n"),
+    ('d=$(mktemp -d); ln -s "$PWD/run" "$d"; echo len | "$d/run"; s=$?; rm -r "$d"; exit $s', 0, "0\n", ""),
+    ('d=$(mktemp -d); ln -s "$PWD/try" "$d"; echo len | "$d/try"; s=$?; rm -r "$d"; exit $s', 0, "0\n", UNPROVED),
 ]
 
 # Far more seconds than a command takes, on a busy machine too, and less than it takes to prove a program.
@@ -69,7 +87,7 @@ def run(command):
 def fault_of(command, row):
     """Why a command fails its row, or nothing."""
     name, *wanted = row
-    if command.rpartition("|")[2].strip() != name:
+    if command != name and command.rpartition("|")[2].strip() != name:
         return f"README has {command!r}"
     found = run(command)
     return "" if found == tuple(wanted) else f"status, output and errors are {found}"
@@ -82,9 +100,9 @@ def main():
     if len(commands) != len(ROWS) or said[: len(answers)] != answers:
         print(f"README's commands: FAILED: there are {len(commands)}, and it says that they print {said}")
         failed += 1
-    rows = [*ROWS, *NO_PROGRAM]
+    rows = [*ROWS, *OTHER_ROWS]
     with concurrent.futures.ThreadPoolExecutor() as workers:
-        faults = list(workers.map(fault_of, [*commands[: len(ROWS)], *(row[0] for row in NO_PROGRAM)], rows))
+        faults = list(workers.map(fault_of, [*commands, *(row[0] for row in OTHER_ROWS)], rows))
     for row, fault in zip(rows, faults):
         print(f"README's commands: {row[0]}: {'FAILED: ' + fault if fault else 'ok'}")
         passed, failed = passed + (not fault), failed + bool(fault)

@@ -5,19 +5,21 @@ usage: play_rows.py [PASSED FAILED]
 
 After the gate, crates/NAME/out/NAME is the program NAME as LLVM builds it, and NAME.by-rattle as Rattle's own compiler
 does. Each plays every row of the tables in script_rows or routes_rows: the status, standard output and standard error
-must be exactly those of the row. Then come runs whose input is slow or fails, whose output or errors take so many bytes
-and then fail, or whose output and errors are one pipe. Linux is needed: the failures are its own.
+must be exactly those of the row. Then come runs whose input is slow, fails or is a terminal's, whose output or errors
+take so many bytes and then fail, or whose output and errors are one pipe. Linux is needed: the failures are its own.
 
 PASSED and FAILED are the counts of the step before. The last line adds to them one for each table and each run of a
 build; a row that fails is named.
 """
 import os
 import pathlib
+import pty
 import resource
 import socket
 import subprocess
 import sys
 import tempfile
+import termios
 from functools import partial
 
 sys.dont_write_bytecode = True
@@ -57,6 +59,20 @@ def run_broken(program, script):
         ours.sendall(script)
         ours.close()
         return run(program, script, stdin=theirs)
+
+
+def run_at_terminal(program, script):
+    """A run at a terminal, which stays open after one end of input: a program that reads on waits for ever."""
+    ours, theirs = pty.openpty()
+    flags = termios.tcgetattr(theirs)
+    flags[3] &= ~termios.ECHO
+    termios.tcsetattr(theirs, termios.TCSANOW, flags)
+    os.write(ours, script + b"\x04")
+    try:
+        return run(program, script, stdin=theirs)
+    finally:
+        os.close(theirs)
+        os.close(ours)
 
 
 def run_limited(program, script, stream, limit, **how):
@@ -115,6 +131,7 @@ def runs(name, rows, library):
     return (
         ("answers come before the message", run_in_one, shared, (status, printed + said, None)),
         ("short reads change nothing", partial(in_pieces, size=1), *in_order(rows.SLOW)),
+        ("a terminal's input ends once", run_at_terminal, b"len\nlen\n", (0, b"0\n0\n", b"")),
         ("a failed read runs nothing", run_broken, b"len\nfoo\n", (1, b"", cannot_read)),
         # The second answer does not fit; the line after it is malformed and never read.
         (

@@ -19,6 +19,7 @@ use rart_keys::KeyTrait;
 use rart_nodes::Refused;
 use rart_nodes::iter::{Iter, ValuesIter};
 use rart_parts::TreeError;
+use thiserror::Error;
 
 pub mod bulk_loads;
 pub mod counts;
@@ -165,17 +166,22 @@ pub fn removal_restores<K: KeyTrait, V, L: KeyTrait>(
 }
 
 /// The call of `insert_then_remove` that failed, and why.
-#[derive(Drop)]
+#[derive(Drop, Debug, Error)]
 pub enum RefusedCall<V> {
     /// The statistics before the insertion. The tree is unchanged.
+    #[error("{0}")]
     StatsBefore(TreeError),
     /// The insertion, with the value that it offered. The tree is unchanged.
+    #[error("{0}")]
     Insertion(Refused<V>),
     /// The statistics between both edits. The pair is stored.
+    #[error("{0}")]
     StatsBetween(TreeError),
     /// The removal. The pair is stored.
+    #[error("{0}")]
     Removal(TreeError),
     /// The statistics after the removal. Pairs and nodes are unchanged.
+    #[error("{0}")]
     StatsAfter(TreeError),
 }
 

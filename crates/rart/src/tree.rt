@@ -1,5 +1,5 @@
 //! The map, which contracts see as its pairs, ascending by key, and the records of its nodes.
-ghost use Rattle.std.specs.Prelude.{◌≡◌, ◌+◌, ◌-◌, ◌*◌, ◌<◌, ◌≤◌, ◌↔◌, [], ◌∷◌, length, max, is_some, IsTrue, None};
+ghost use Rattle.std.specs.Prelude.{◌≡◌, ◌+◌, ◌-◌, ◌*◌, ◌/◌, ◌<◌, ◌≤◌, ◌↔◌, [], ◌∷◌, length, max, is_some, IsTrue, None};
 ghost use Rattle.std.specs.Prelude.{OnErr};
 ghost use Rattle.std.specs.Option.{option_copied};
 ghost use Rattle.rart_keys.specs.KeyBytes.{IsWithin};
@@ -132,11 +132,12 @@ impl<K: KeyTrait, V> AdaptiveRadixTree<K, V> {
     /// Proves what holds of every tree; does nothing at run time.
     ///
     /// The pairs ascend by key. The nodes are exactly the branch points of the keys, each of the kind that its child
-    /// count fixes. A tree of n keys has at most 2n - 1 nodes.
+    /// count fixes. A tree of n keys has at most 2n - 1 nodes. `MAX_PAIRS` is a sixteenth of the greatest `usize`.
     pub fn canonical(&self)
         ensures ascending { IsAscending self.now.pairs }
         ensures shape { HasShape (keys_of self.now.pairs) self.now.nodes }
         ensures few_nodes { length self.now.nodes ≤ 2 * length self.now.pairs - 1 }
+        ensures limit { MAX_PAIRS ≡ usize.MAX / 16 }
     {
         match &self.root {
             Some(root) => root.canonical(),

@@ -1,34 +1,9 @@
 //! How many nodes and strides a longest match reads: rows of networks, what is sought, and the exact counts.
 
-ghost use Rattle.rart_trie.specs.walks.VisitCounts.{visit_count};
-
-use rart::{Count, Visits};
 use rart_cidr::{Cidr4, Cidr6, CidrTable4, CidrTable6};
+use rart_test_trees::tally::Tally;
 use std::alloc::Global;
 use std::str::FromStr;
-
-/// A count that can be read. Contracts see it as that of `visits`.
-#[derive(Drop)]
-struct Tally {
-    number: usize,
-    visits: Visits,
-}
-
-impl Count for Tally {
-    ghost number = { λ t. visit_count t.visits };
-
-    fn add_one(&mut self) {
-        self.number = self.number.wrapping_add(1);
-        self.visits.add_one();
-    }
-}
-
-fn no_reads() -> Tally {
-    Tally {
-        number: 0,
-        visits: Visits::new(),
-    }
-}
 
 // What is sought; how many networks, from the first on, are stored; how many nodes of the map of strides are entered;
 // how many strides are read; and what is found. After a stride without an answer, the map is descended anew.
@@ -120,7 +95,7 @@ fn is_wanted6(found: Option<(Cidr6, &u64)>, wanted: Option<&str>) -> bool {
 }
 
 fn reads4(table: &CidrTable4<u64>, net: &Cidr4, row: &Row) -> bool {
-    let (mut nodes, mut strides) = (no_reads(), no_reads());
+    let (mut nodes, mut strides) = (Tally::new(), Tally::new());
     let found = table
         .seen::<Tally>()
         .longest_match_net_counted(net, &mut nodes, &mut strides);
@@ -128,7 +103,7 @@ fn reads4(table: &CidrTable4<u64>, net: &Cidr4, row: &Row) -> bool {
 }
 
 fn reads6(table: &CidrTable6<u64>, net: &Cidr6, row: &Row) -> bool {
-    let (mut nodes, mut strides) = (no_reads(), no_reads());
+    let (mut nodes, mut strides) = (Tally::new(), Tally::new());
     let found = table
         .seen::<Tally>()
         .longest_match_net_counted(net, &mut nodes, &mut strides);

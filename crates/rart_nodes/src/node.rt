@@ -10,6 +10,6 @@ mod view;
 mod walk;
 mod walks;
 
-pub use rart_trie::node::{DefaultNode, Node, NodeIter};
+pub use rart_trie::node::{ChildMap, DefaultNode, Node, NodeIter};
 pub use view::{LendingKeyBytes, LendingKeyView};
 pub use walks::control::{VisitControl, VisitError};

@@ -5,6 +5,8 @@
 #![tactic(auto)]
 
 #[cfg(test)]
+mod kinds;
+#[cfg(test)]
 mod nodes;
 #[cfg(test)]
 mod shapes;

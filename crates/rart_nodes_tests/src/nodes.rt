@@ -11,7 +11,7 @@ use std::process::Abort;
 
 type Part = ArrPartial<16>;
 
-type TestNode = DefaultNode<Part, u64>;
+pub(crate) type TestNode = DefaultNode<Part, u64>;
 
 /// A call of a node.
 #[derive(Clone, Copy)]
@@ -40,7 +40,7 @@ enum Ask {
 // The answer of each, and the number of children and the capacity of the node then.
 type Row = (Ask, Option<u64>, (usize, usize));
 
-fn leaf(byte: u8, value: u64) -> TestNode {
+pub(crate) fn leaf(byte: u8, value: u64) -> TestNode {
     <TestNode as Node<Part, u64>>::new_leaf(Part::from_slice(&[byte]), value)
 }
 
@@ -52,7 +52,7 @@ fn add(rt: &impl Abort, alloc: Global, node: &mut TestNode, byte: u8, value: u64
     }
 }
 
-fn fill(rt: &impl Abort, alloc: Global, node: &mut TestNode, from: usize, to: usize) {
+pub(crate) fn fill(rt: &impl Abort, alloc: Global, node: &mut TestNode, from: usize, to: usize) {
     for back in 0..=255_u8 {
         let byte = 255 - back;
         if from <= usize::from(byte) && usize::from(byte) < to {

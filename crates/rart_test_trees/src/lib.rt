@@ -1,8 +1,9 @@
-//! What tests of the map compare: two trees, and the statistics of one with counts.
+//! What tests of the map share: comparisons of two trees and of statistics, and a count of visits.
 //!
 //! It is no part of the product.
 #![tactic(auto)]
 
+pub mod tally;
 pub mod texts;
 
 use rart::{AdaptiveRadixTree, KeyTrait, NodeStats, TreeStats, TreeStatsTrait};

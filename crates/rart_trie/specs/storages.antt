@@ -2,3 +2,4 @@ pub mod Lends
 pub mod Stored
 pub mod StoredFalls
 pub mod Capacities
+pub mod ChildMaps

@@ -23,6 +23,7 @@ pub use children::NodeIter;
 pub use ends::{End, copy_of};
 pub use node_trait::Node;
 pub use rest::strip_prefix;
+pub use storage::child_map::ChildMap;
 
 /// Holds a prefix, an optional value and children. The prefix of a child begins with its edge byte; only a root has an
 /// empty prefix.

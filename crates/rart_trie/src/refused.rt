@@ -2,9 +2,11 @@
 ghost use Rattle.std.specs.Prelude.{◌≡◌};
 
 use rart_parts::TreeError;
+use thiserror::Error;
 
 /// Holds the error of a failed call and the offered value.
-#[derive(Drop)]
+#[derive(Drop, Debug, Error)]
+#[error("{error}")]
 pub struct Refused<T> {
     /// Says why the call failed.
     pub error: TreeError,
@@ -25,10 +27,12 @@ impl<T> Refused<T> {
 }
 
 /// Says why a new key was not inserted. The tree is unchanged.
-#[derive(Drop)]
+#[derive(Drop, Debug, Error)]
 pub enum NotInserted<V> {
     /// The key is stored. Holds the offered value.
+    #[error("key is stored")]
     Stored(V),
     /// The insertion failed. Holds the error and the offered value.
+    #[error("{0}")]
     Refused(Refused<V>),
 }

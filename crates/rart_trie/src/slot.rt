@@ -5,6 +5,7 @@ ghost use Rattle.rart_trie.specs.edits.Slots.{slot_of};
 ghost use Rattle.rart_trie.specs.declared.slot.SlotUpdate.{SlotUpdate};
 
 use crate::refused::Refused;
+use thiserror::Error;
 
 /// Holds the value at a key. A callback may change an occupied slot's value, and must keep a slot occupied or vacant.
 #[derive(Drop)]
@@ -27,11 +28,13 @@ pub enum SlotUpdate<V> {
 }
 
 /// Says why an update failed.
-#[derive(Drop)]
+#[derive(Drop, Debug, Error)]
 pub enum UpdateError<V> {
     /// The insertion of a new key failed. The tree is unchanged. Holds the error and the offered value.
+    #[error("{0}")]
     Insert(Refused<V>),
     /// An allocation of the removal failed. The pair keeps the value that the callback left.
+    #[error("out of memory for a removal")]
     Remove,
 }
 

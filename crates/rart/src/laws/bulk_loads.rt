@@ -15,15 +15,19 @@ use rart_keys::KeyTrait;
 use rart_keys::laws::bulk_lists::{ascending_pairs, bulk_lists, put_in_any_order};
 use rart_parts::TreeError;
 use std::alloc::Global;
+use thiserror::Error;
 
 /// The call of `bulk_load_equals_insertion` that failed, and why. What was built is dropped.
-#[derive(Clone, Copy, PartialEq, Eq, Debug)]
+#[derive(Clone, Copy, PartialEq, Eq, Debug, Error)]
 pub enum RefusedStep {
     /// The bulk load.
+    #[error("{0}")]
     Load(BulkError),
     /// One of the insertions. Those before it were made.
+    #[error("{0}")]
     Insertion(TreeError),
     /// The statistics of one of the two trees.
+    #[error("{0}")]
     Stats(TreeError),
 }
 

@@ -29,7 +29,7 @@ pub fn intersections_are_symmetric<K: KeyTrait, V, W, F: FnMut(K, &V, &W), G: Fn
     requires callable_back { CanCallAt G.FnMut K.bytes g.old
         (swapped_pairs (join one.now.pairs other.now.pairs)) }
     ensures stays_callable { F.IsAlwaysCallable f.old → F.IsAlwaysCallable f.new }
-    ensures callable_back { G.IsAlwaysCallable g.old → G.IsAlwaysCallable g.new }
+    ensures stays_callable_back { G.IsAlwaysCallable g.old → G.IsAlwaysCallable g.new }
     ensures ascending { IsAscending (join one.now.pairs other.now.pairs) }
     ensures common { (k : _) → lookup k (join one.now.pairs other.now.pairs)
         ≡ both (lookup k one.now.pairs) (lookup k other.now.pairs) }

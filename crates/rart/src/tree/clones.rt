@@ -18,8 +18,6 @@ impl<K: KeyTrait + Drop, V: Clone> Clone for AdaptiveRadixTree<K, V> {
 
     /// Returns a tree with the same keys, a clone of each value, the same nodes and the same allocator.
     ///
-    /// Clones the values in ascending order of their keys.
-    ///
     /// # Errors
     ///
     /// [`AllocError`] if an allocation or the clone of a value fails, which needs a tree that isn't empty. What was

@@ -9,13 +9,16 @@ ghost use Rattle.rart.specs.Refusals.{AddsPresent, IsStoredAt};
 use crate::tree::{AdaptiveRadixTree, insert_first};
 use rart_keys::KeyTrait;
 use rart_nodes::{NotInserted, Refused};
+use thiserror::Error;
 
 /// Says why `try_insert` inserted nothing.
-#[derive(Drop)]
+#[derive(Drop, Debug, Error)]
 pub enum TryInsertError<'a, V> {
     /// The key is stored: the value that was offered, and the stored one.
+    #[error("key is stored")]
     Occupied(V, &'a V),
     /// The insertion failed as that of `insert_k`, with the value that was offered.
+    #[error("{0}")]
     Refused(Refused<V>),
 }
 

@@ -21,17 +21,22 @@ use rart_nodes::node::DefaultNode;
 use rart_nodes::{Outcome, Refused, Slot, SlotUpdate, UpdateError};
 use std::alloc::AllocError;
 use std::mem;
+use thiserror::Error;
 
 /// Why a fallible update changed nothing.
-#[derive(Drop)]
+#[derive(Drop, Debug, Error)]
 pub enum TryUpdateError<E, V> {
     /// The callback returned this error.
+    #[error("callback failed")]
     Callback(E),
     /// The requested insertion failed as that of `insert_k`; the error holds the value.
+    #[error("{0}")]
     Insert(Refused<V>),
     /// The allocation for the requested removal failed. The pair keeps its old value.
+    #[error("out of memory for a removal")]
     Remove,
     /// The stored value could not be cloned. The callback wasn't called.
+    #[error("value was not cloned")]
     Clone,
 }
 

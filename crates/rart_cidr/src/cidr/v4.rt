@@ -69,6 +69,7 @@ impl Cidr4 {
         ensures value { bits4 result ≡ take len (bits_of (ipv4_octets addr)) }
         ensures width { length (bits_of (ipv4_octets addr)) ≡ 32 }
     {
+        prove!(len <= 32);
         let octets = cleared_octets(addr, len);
         Cidr4 { octets, len }
     }

@@ -69,6 +69,7 @@ impl Cidr6 {
         ensures value { bits6 result ≡ take len (bits_of (ipv6_octets addr)) }
         ensures width { length (bits_of (ipv6_octets addr)) ≡ 128 }
     {
+        prove!(len <= 128);
         let octets = cleared_octets(addr, len);
         Cidr6 { octets, len }
     }

@@ -4,11 +4,12 @@ use Rattle.std.proofs.Common.{length, length-append, reverse, Option, Some, None
 use Rattle.std.proofs.lemmas.List.{length-reverse}
 use Rattle.rart_keys.specs.SortedMap.{keys_of}
 use Rattle.rart_nodes.specs.ranges.Potential.{up_to_one, up_to_two, amortized_visits, potential, AreLow, IsAmortized}
+use Rattle.rart_nodes.specs.ranges.Potential.{tree_height}
 use Rattle.rart_trie.specs.stats.Stats.{children_height, height, trie_height}
 use Rattle.rart_trie.specs.tries.CanonicalTest.{is_canonical}
 use Rattle.rart_trie.specs.tries.Tree.{tree_pairs}
 use Rattle.rart_trie.specs.tries.Trie.{Trie, node, Children, no_children, child, child_of, children_in}
-use Rattle.rart_trie.specs.tries.Trie.{value_of, IsCanonical}
+use Rattle.rart_trie.specs.tries.Trie.{child_in, value_of, IsCanonical}
 use Rattle.rart_trie.specs.walks.Walk.{Level}
 use Rattle.rart_nodes.specs.walks.WalkSteps.{DeepestLeft, DeepestStep, PushesLevel}
 use Rattle.rart_trie.proofs.tree_stats.StatsLemmas.{height-keys}
@@ -154,6 +155,17 @@ module _ {V : Type 0} where
   child-lower b u no_children e = absurd (cc)
   child-lower b u (child c t cs) e = ⊎_elim (λ q. omega (arith, ap trie_height q))
       (λ q. omega (arith, child-lower b u cs q)) (pick (eqb c b) t u (child_of b cs) e)
+
+  -- a child is lower than its node
+  pub tree-lower : (b : ℕ) (t : Trie V) (o : Option (Trie V)) → child_in b t ≡ o → tree_height o ≤ trie_height t
+  tree-lower b t None e = omega arith
+  tree-lower b t (Some u) e = omega (arith, height-node t, child-lower b u (children_in t) e)
+
+  -- one level with the children of a node
+  pub low-start : (h d : ℕ) (t : Trie V) (cs : Children V) (st st1 : List (Level V)) → cs ≡ children_in t → st ≡ []
+      → st1 ≡ st ++ (cs, d) ∷ [] → trie_height t ≤ h → AreLow h (reverse st1)
+  low-start h d t cs st st1 e i f w = rw (deepest st1 st (cs, d) f)
+      (omega (arith, length-reverse st, ap length i, height-node t, ap children_height e, w), rw i tt)
 
   pub height-on : (h : ℕ) (t : Trie V) (o : Option (Trie V)) (st st1 : List (Level V)) (l : Level V)
       → HasHeight h (length st) (Some t) → st1 ≡ st ++ l ∷ [] → IsChildOf t o → HasHeight h (length st1) o

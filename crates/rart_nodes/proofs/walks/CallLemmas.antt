@@ -9,7 +9,7 @@ use Rattle.rart_nodes.specs.declared.node.view.LendingKeyView.{LendingKeyView}
 use Rattle.rart_nodes.specs.walks.Matched.{MatchesEach}
 use Rattle.rart_trie.specs.walks.Walk.{SegmentList}
 use Rattle.rart_nodes.specs.walks.PathParts.{lent_segments}
-use Rattle.rart_nodes.specs.walks.Tried.{EndsAs, ContinuesAs}
+use Rattle.rart_nodes.specs.walks.Tried.{EndsAfter, EndsAs, ContinuesAs}
 use Rattle.rart_nodes.specs.walks.Viewed.{ViewsEach, CanShowFound, CanSeeFound, IsCutOf}
 use Rattle.rart_nodes.specs.walks.Shown.{ShowsEach, FoldsEach}
 use Rattle.rart_trie.proofs.edits.CallbackLemmas.{always-on, folds-keep}
@@ -52,6 +52,10 @@ module _ {F V : Type 0} (g : Once F (LendingKeyView × (Bor V × Unit {0})) (Uni
   can-see f s (Some o) t x key h e k = h key x (k ∙ e.0) e.1
 
 module _ {F V E : Type 0} (g : Mut F (Bor V × Unit {0}) (Result VisitControl E)) where
+  pub equal-counts : (f : F) (xs : List V) (n m : ℕ) (r : Result (Unit {0}) E) (f' : F) → n ≡ m
+      → EndsAfter g f xs n r f' → EndsAfter g f xs m r f'
+  equal-counts f xs n m r f' e h = subst (λ (x : ℕ). EndsAfter g f xs x r f') e h
+
   always-went-on : (f : F) (answer : Result VisitControl E) (M : F → Type 0) (r : Result (Unit {0}) E) (f' : F)
       → (M f → always_mut g f → always_mut g f') → ContinuesAs answer f M r f' → always_mut g f → always_mut g f'
   always-went-on f (Ok Continue) M r f' more k h = more k h

@@ -1,7 +1,7 @@
 -- What a walk that stops at an end may visit beyond two nodes for each pair that it gave.
-use Rattle.std.specs.Prelude.{ℕ, ◌+◌, ◌≤◌, List, [], ◌∷◌, length}
-use Rattle.rart_trie.specs.stats.Stats.{children_height}
-use Rattle.rart_trie.specs.tries.Trie.{Children, no_children, child}
+use Rattle.std.specs.Prelude.{ℕ, ◌+◌, ◌≤◌, List, [], ◌∷◌, length, Option, None, Some}
+use Rattle.rart_trie.specs.stats.Stats.{children_height, trie_height}
+use Rattle.rart_trie.specs.tries.Trie.{Trie, Children, no_children, child}
 use Rattle.rart_trie.specs.walks.Walk.{Level}
 
 -- how many of the children there are, up to one
@@ -32,6 +32,11 @@ potential (l ∷ m ∷ ls) = up_to_two l.0 + amortized_visits (m ∷ ls)
 abbrev pub AreLow : {V : Type 0} → ℕ → List (Level V) → Type 0
 AreLow h [] = Unit {0}
 AreLow h (l ∷ ls) = (length ls + 1 + children_height l.0 ≤ h) × AreLow h ls
+
+-- the most nodes on a path of a tree, 0 without a root
+abbrev pub tree_height : {V : Type 0} → Option (Trie V) → ℕ
+tree_height None = 0
+tree_height (Some t) = trie_height t
 
 -- a walk advanced to its next pair, from n visits to m, and from the levels ls to ms
 pub record IsAmortized {V : Type 0} (n m : ℕ) (ls ms : List (Level V)) : Type 0 where

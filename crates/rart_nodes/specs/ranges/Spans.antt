@@ -19,3 +19,7 @@ span_visits a b es = probe_count (keys_of es) (bound_bytes a) + 2 * length (betw
 -- at least as many: with the start's bytes in place of the branch points on its path
 abbrev pub span_bound : {V : Type 0} → Bound (List ℕ) → Bound (List ℕ) → List (List ℕ × V) → ℕ
 span_bound a b es = length (bound_bytes a) + 1 + 2 * length (between a b es) + height (keys_of es)
+
+-- the path to a prefix, two nodes for each of n calls, and the tree's height
+abbrev pub call_visits : {V : Type 0} → List ℕ → ℕ → List (List ℕ × V) → ℕ
+call_visits p n es = probe_count (keys_of es) p + 2 * n + height (keys_of es)

@@ -2,13 +2,14 @@
 
 // It allocates when it is created.
 
-ghost use Rattle.std.specs.Prelude.{◌≡◌, ◌≢◌, ◌≤◌, ◌<◌, ◌+◌, ◌++◌, [], length, reverse, take, vec_len, vec_capacity};
-ghost use Rattle.std.specs.Prelude.{MatchOption, IfOk, OnErr};
+ghost use Rattle.std.specs.Prelude.{◌≡◌, ◌≢◌, ◌≤◌, ◌<◌, ◌+◌, ◌++◌, ℕ, [], length, reverse, take, vec_len};
+ghost use Rattle.std.specs.Prelude.{MatchOption, IfOk, OnErr, vec_capacity};
 ghost use Rattle.std.specs.Option.{option_copied};
 ghost use Rattle.rart_keys.specs.SortedMap.{count_of, longest_key};
-ghost use Rattle.rart_nodes.specs.ranges.Potential.{IsAmortized, potential};
+ghost use Rattle.rart_nodes.specs.ranges.Potential.{AreLow, IsAmortized, potential};
 ghost use Rattle.rart_nodes.specs.ranges.UpperBounds.{if_included};
 ghost use Rattle.rart_nodes.specs.tries.SeenTrees.{length_bound, seen_pairs, seen_tree};
+ghost use Rattle.rart_trie.specs.stats.Stats.{trie_height};
 ghost use Rattle.rart_trie.specs.walks.Walk.{KeepsEach, entries_of, segments_after, tree_count, tree_entries};
 ghost use Rattle.rart_nodes.specs.walks.WalkSteps.{DeepestLeft, DeepestStep, HasPlaces, IsWalkAt, PushesLevel};
 ghost use Rattle.rart_nodes.specs.walks.WalkSteps.{TakesEntry, walk_entries, walk_nodes};
@@ -111,6 +112,8 @@ pub(crate) fn walk_at<'a, P: Partial, V, C, T: Path<'a, P>>(
     ensures entries { walk_entries T.grown (T.kept path.new) result
         ≡ segments_after (T.kept path.old) (entries_of T.grown at.entry.node.now) }
     ensures visits { walk_nodes result + 1 ≡ node_count at.entry.node.now }
+    ensures low { (h : ℕ) → trie_height at.entry.node.now ≤ h
+        → AreLow h (reverse result.levels.items) }
     ensures longest { result.longest ≡ longest }
     ensures level_capacity { vec_capacity result.levels ≡ vec_capacity levels.entry }
 {

@@ -6,7 +6,7 @@ use rart::{
     BulkError, Error, MigrateError, NotInserted, Refused, TreeError, TryInsertError,
     TryUpdateError, UpdateError, VisitError,
 };
-use std::alloc::{AllocError, AllocFailed};
+use std::alloc::{AllocError, AllocFailed, Global};
 use std::process::Abort;
 use std::test::Fail;
 
@@ -197,4 +197,46 @@ fn each_error_of_the_crate_has_a_text(rt: HostRuntime) -> Result<(), Fail> {
         assert_eq!(rt; text.as_str(), row.text);
     }
     Ok(())
+}
+
+// Whether an error of any type is printed so.
+fn has_text<E: std::error::Error>(alloc: Global, error: E, wanted: &str) -> bool {
+    match format!(in alloc; "{error}") {
+        Ok(text) => text.as_str() == wanted,
+        Err(_failure) => false,
+    }
+}
+
+#[test]
+fn each_error_of_an_insertion_has_a_text(rt: HostRuntime) {
+    let alloc = rt.alloc();
+    let try_full = TryInsertError::Refused(refused(TreeError::Full));
+    assert!(rt; has_text(alloc, refused(TreeError::Full), "tree is full"));
+    assert!(rt; has_text(alloc, NotInserted::Stored(7_u64), "key is stored"));
+    assert!(rt; has_text(alloc, NotInserted::Refused(refused(TreeError::Memory)), "out of memory"));
+    assert!(rt; has_text(alloc, TryInsertError::Occupied(7_u64, &8), "key is stored"));
+    assert!(rt; has_text(alloc, try_full, "tree is full"));
+}
+
+fn update_text(alloc: Global, error: UpdateError<u64>, wanted: &str) -> bool {
+    has_text(alloc, error, wanted)
+}
+
+fn try_update_text(alloc: Global, error: TryUpdateError<u8, u64>, wanted: &str) -> bool {
+    has_text(alloc, error, wanted)
+}
+
+#[test]
+fn each_error_of_an_update_or_a_walk_has_a_text(rt: HostRuntime) {
+    let alloc = rt.alloc();
+    let full = UpdateError::Insert(refused(TreeError::Full));
+    let try_full = TryUpdateError::Insert(refused(TreeError::Full));
+    assert!(rt; update_text(alloc, full, "tree is full"));
+    assert!(rt; update_text(alloc, UpdateError::Remove, "out of memory for a removal"));
+    assert!(rt; try_update_text(alloc, TryUpdateError::Callback(9), "callback failed"));
+    assert!(rt; try_update_text(alloc, try_full, "tree is full"));
+    assert!(rt; try_update_text(alloc, TryUpdateError::Remove, "out of memory for a removal"));
+    assert!(rt; try_update_text(alloc, TryUpdateError::Clone, "value was not cloned"));
+    assert!(rt; has_text(alloc, VisitError::Callback(9_u8), "callback failed"));
+    assert!(rt; has_text(alloc, VisitError::<u8>::Memory, "out of memory"));
 }

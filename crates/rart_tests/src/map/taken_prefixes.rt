@@ -3,6 +3,7 @@
 use rart::{AdaptiveRadixTree, ArrayKey, KeyTrait, TreeError};
 use rart_test_tools::refusals::{is_swept, refuse, was_refused};
 use rart_test_trees::are_alike;
+use rart_test_trees::tally::Tally;
 use std::alloc::Global;
 
 type Key = ArrayKey<8>;
@@ -164,6 +165,37 @@ fn the_keys_below_a_prefix_are_taken_and_the_others_left(rt: HostRuntime) {
     for row in &ROWS {
         assert!(rt; is_right(rt.alloc(), row), "row {number}");
         number = number.wrapping_add(1);
+    }
+}
+
+// A prefix, and the nodes that are visited where it is taken from the tree of "a", "ab", "abc" and "b": those on the way
+// to it, and those that are taken, which are visited once more to count the pairs.
+static VISITS: [(&str, usize); 8] = [
+    ("", 6),
+    ("a", 5),
+    ("ab", 5),
+    ("abc", 5),
+    ("abcd", 4),
+    ("b", 3),
+    ("x", 1),
+    ("ax", 2),
+];
+
+fn visits_of(tree: &mut Tree, prefix: &str) -> usize {
+    let mut tally = Tally::new();
+    let _taken = tree.take_prefix_k_counted(&key(prefix), &mut tally);
+    tally.number
+}
+
+fn visits_to_take(alloc: Global, prefix: &str) -> usize {
+    let mut tree = filled(alloc, &["a", "ab", "abc", "b"]);
+    visits_of(&mut tree, prefix)
+}
+
+#[test]
+fn a_taken_prefix_visits_the_nodes_on_its_path_and_those_that_are_taken(rt: HostRuntime) {
+    for (prefix, visits) in VISITS {
+        assert_eq!(rt; visits_to_take(rt.alloc(), prefix), visits);
     }
 }
 

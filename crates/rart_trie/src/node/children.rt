@@ -4,10 +4,12 @@ ghost use Rattle.std.specs.Iterator.{YieldsFirstBy, item_count};
 ghost use Rattle.rart_parts.specs.Entries.{BytesAscend};
 ghost use Rattle.rart_trie.specs.edits.Deletion.{JoinsWithin};
 ghost use Rattle.rart_trie.specs.ranges.Starts.{children_above};
-ghost use Rattle.rart_trie.specs.tries.Trie.{children_in, prefix_of};
+ghost use Rattle.rart_trie.specs.storages.ChildMaps.{map_capacity, map_entries};
+ghost use Rattle.rart_trie.specs.tries.Trie.{capacity_in, children_in, prefix_of};
 ghost use Rattle.rart_trie.specs.tries.TrieCode.{as_children};
 
 use crate::node::DefaultNode;
+use crate::node::storage::child_map::ChildMap;
 use crate::node::storage::walk::StorageIter;
 use rart_keys::Partial;
 use std::marker::Model;
@@ -63,6 +65,14 @@ impl<P: Partial, V> DefaultNode<P, V> {
         NodeIter {
             children: self.storage.iter_above(byte),
         }
+    }
+
+    /// Returns the map that holds the children, by the kind of the node. It does not allocate.
+    pub fn child_map(&self) -> ChildMap<'_, Self>
+        ensures children { as_children (map_entries result) ≡ children_in self.now }
+        ensures capacity { map_capacity result ≡ capacity_in self.now }
+    {
+        self.storage.child_map()
     }
 
     /// Returns whether the prefix of each child, appended to that of the node, is within the maximum. `delete_child`

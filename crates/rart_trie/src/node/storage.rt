@@ -11,6 +11,7 @@ use crate::node::storage::inner::Inner;
 use rart_parts::mapping::{DirectMapping, IndexedMapping, NodeMapping, SortedKeyedMapping};
 use rart_parts::utils::bitset::Bitset64;
 
+pub(crate) mod child_map;
 mod ends;
 mod grow;
 mod inner;

@@ -122,6 +122,35 @@ fn range_requests(alloc: Global, tree: &Tree, bytes: usize) -> bool {
     are_requested(alloc, bytes, |limit| range_is_within(alloc, tree, limit))
 }
 
+fn both_ends_are_within(alloc: Global, tree: &Tree, limit: usize) -> bool {
+    add_bytes(alloc, limit);
+    let many = counted(tree.prefix_iter_both_ends_k(&Key::new_from_slice(b"a")));
+    !were_more(alloc) && many == Ok(3)
+}
+
+fn both_ends_request(alloc: Global, tree: &Tree, bytes: usize) -> bool {
+    are_requested(
+        alloc,
+        bytes,
+        |limit| both_ends_are_within(alloc, tree, limit),
+    )
+}
+
+fn range_ends_are_within(alloc: Global, tree: &Tree, limit: usize) -> bool {
+    add_bytes(alloc, limit);
+    let (start, end) = (Key::new_from_slice(b"a"), Key::new_from_slice(b"abc"));
+    let many = counted(tree.range_both_ends(Bound::Included(start), Bound::Excluded(end)));
+    !were_more(alloc) && many == Ok(2)
+}
+
+fn range_ends_request(alloc: Global, tree: &Tree, bytes: usize) -> bool {
+    are_requested(
+        alloc,
+        bytes,
+        |limit| range_ends_are_within(alloc, tree, limit),
+    )
+}
+
 /// A walk whose bytes are added up.
 #[derive(Clone, Copy)]
 enum Walk {
@@ -129,6 +158,8 @@ enum Walk {
     Descending,
     Views,
     Within,
+    BothEndsBelow,
+    BothEndsWithin,
 }
 
 fn requests(alloc: Global, tree: &Tree, walk: Walk) -> bool {
@@ -137,6 +168,8 @@ fn requests(alloc: Global, tree: &Tree, walk: Walk) -> bool {
         Walk::Descending => descent_requests(alloc, tree, LEVELS * BACK_LEVEL),
         Walk::Views => views_request(alloc, tree, LEVELS * LEVEL + LONGEST * SEGMENT),
         Walk::Within => range_requests(alloc, tree, LEVELS * LEVEL),
+        Walk::BothEndsBelow => both_ends_request(alloc, tree, LEVELS * (LEVEL + BACK_LEVEL)),
+        Walk::BothEndsWithin => range_ends_request(alloc, tree, LEVELS * (LEVEL + BACK_LEVEL)),
     }
 }
 
@@ -177,4 +210,10 @@ fn lent_keys_request_within_the_longest_key(rt: HostRuntime) {
 #[test]
 fn ranges_request_within_the_longest_key(rt: HostRuntime) {
     assert_eq!(rt; first_wrong_form(rt.alloc(), Walk::Within), None);
+}
+
+#[test]
+fn walks_from_both_ends_request_two_paths(rt: HostRuntime) {
+    assert_eq!(rt; first_wrong_form(rt.alloc(), Walk::BothEndsBelow), None);
+    assert_eq!(rt; first_wrong_form(rt.alloc(), Walk::BothEndsWithin), None);
 }

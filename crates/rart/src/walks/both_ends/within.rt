@@ -186,7 +186,7 @@ impl<K: KeyTrait + Drop, V> AdaptiveRadixTree<K, V> {
     /// Returns an iterator from both ends over the pairs whose key begins with `prefix`.
     ///
     /// Allocates here, for two paths of the longest key, and nothing for an empty tree; the iterator itself allocates
-    /// nothing. It reads the first and the last of the pairs here, and no others.
+    /// nothing. It reads a pair from each end here.
     ///
     /// # Errors
     ///
@@ -207,7 +207,7 @@ impl<K: KeyTrait + Drop, V> AdaptiveRadixTree<K, V> {
     }
 
     /// Returns an iterator from both ends over the pairs within two bounds; over none if the end is below the start.
-    /// It seeks both bounds, and walks over no pair between them here.
+    /// It seeks both bounds.
     ///
     /// Allocates as [`prefix_iter_both_ends_k`](Self::prefix_iter_both_ends_k) does.
     ///

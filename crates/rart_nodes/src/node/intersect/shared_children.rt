@@ -1,9 +1,10 @@
 //! The children that two nodes have at the same bytes.
-ghost use Rattle.std.specs.Prelude.{◌≡◌, ◌+◌};
+ghost use Rattle.std.specs.Prelude.{◌≡◌, ◌≤◌, ◌+◌, length};
 ghost use Rattle.rart_keys.specs.SortedMap.{count_of};
 ghost use Rattle.rart_nodes.specs.joins.SharedChildren.{shared_left, shared_right};
-ghost use Rattle.rart_nodes.specs.joins.SharedChildrenAhead.{EntersSharedChildren, shared_ahead};
-ghost use Rattle.rart_trie.specs.tries.Trie.{children_in};
+ghost use Rattle.rart_nodes.specs.joins.SharedChildrenAhead.{EntersSharedChildren, children_ahead};
+ghost use Rattle.rart_nodes.specs.joins.SharedChildrenAhead.{shared_ahead};
+ghost use Rattle.rart_trie.specs.tries.Trie.{children_in, edges_of};
 
 use crate::node::seen::{Branches, Entered};
 use rart_keys::Partial;
@@ -58,8 +59,12 @@ fn next_over_right<'a, 'b, P: Partial, V, W, C: Count>(
 impl<'a, 'b, P: Partial, V, W, C: Count> SharedChildren<'a, 'b, P, V, W, C> {
     /// Returns the children of the node that has fewer. It visits none.
     pub(crate) fn of(left: Entered<'a, P, V, C>, right: Entered<'b, P, W, Paired<C>>) -> Self
-        ensures { shared_ahead result left.entry.node.now right.entry.node.now
+        ensures shared_children { shared_ahead result left.entry.node.now right.entry.node.now
             ≡ shared_right left.entry.node.now (children_in right.entry.node.now) }
+        ensures few_left { children_ahead result
+            ≤ length (edges_of (children_in left.entry.node.now)) }
+        ensures few_right { children_ahead result
+            ≤ length (edges_of (children_in right.entry.node.now)) }
     {
         if left.num_children() < right.num_children() {
             SharedChildren::OverLeft(left.branches())

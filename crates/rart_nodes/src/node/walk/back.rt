@@ -145,8 +145,7 @@ impl<'a, K: KeyTrait, V, C: Count> Seen<'a, K, V, C> {
 }
 
 impl<'a, P: Partial, V, C: Count> BackWalk<'a, P, V, C> {
-    /// Returns the value of the last pair; the path then is that of its key. It does not allocate, and visits each
-    /// node once.
+    /// Returns the value of the last pair; the path then is that of its key. It does not allocate.
     pub(crate) fn retreat<T: Path<'a, P>>(&mut self, path: &mut T, counter: &mut C) -> Option<&'a V>
         requires path { IsBackWalkAt self.old (T.kept path.old) }
         requires reserved { self.old.longest ≤ T.capacity path.old }

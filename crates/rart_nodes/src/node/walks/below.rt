@@ -1,9 +1,11 @@
 //! The descent to the node at or below a prefix, and walks from there.
-ghost use Rattle.std.specs.Prelude.{◌≡◌, ◌≢◌, ◌≤◌, ◌+◌, ◌*◌, [], length, MatchOption, IfOk};
+ghost use Rattle.std.specs.Prelude.{◌≡◌, ◌≢◌, ◌≤◌, ◌+◌, ◌*◌, [], length, reverse, MatchOption, IfOk};
 ghost use Rattle.std.specs.Prelude.{None, OnErr, Some, option_map};
 ghost use Rattle.rart_keys.specs.Filters.{below};
 ghost use Rattle.rart_keys.specs.SortedMap.{longest_key};
+ghost use Rattle.rart_nodes.specs.ranges.Potential.{AreLow, tree_height};
 ghost use Rattle.rart_nodes.specs.tries.SeenTrees.{length_bound, seen_keys, seen_pairs, seen_tree};
+ghost use Rattle.rart_trie.specs.stats.Stats.{height, trie_height};
 ghost use Rattle.rart_trie.specs.tries.Tree.{tree_pairs};
 ghost use Rattle.rart_trie.specs.tries.Trie.{pairs_of};
 ghost use Rattle.rart_nodes.specs.walks.Part.{EntersPart, part_entries, tree_part};
@@ -36,6 +38,8 @@ fn seek_prefix<'a, P: Partial, V, C: Count, T: Path<'a, P>>(
         (λ e. length (T.kept path.new) + longest_key (pairs_of e.node.now)
         ≤ length (T.kept path.old)
         + longest_key (tree_pairs (option_map (λ s. s.node.now) top.entry))) }
+    ensures low { MatchOption result (Unit {0}) (λ e. trie_height e.node.now
+        ≤ tree_height (option_map (λ s. s.node.now) top.entry)) }
     ensures path_capacity { T.capacity path.old ≤ T.capacity path.new }
     ensures requested { T.requested path.new ≡ T.requested path.old }
     ensures visits { C.number counter.new ≡ C.number counter.old
@@ -75,6 +79,8 @@ impl<'a, K: KeyTrait, V, C: Count> Seen<'a, K, V, C> {
         ensures longest { IfOk result (λ w. w.0.longest ≤ length_bound self.entry) }
         ensures entries { IfOk result (λ w. walk_entries T.grown (T.kept w.1) w.0
             ≡ part_entries T.grown (tree_part T.grown [] prefix.now (seen_tree self.entry))) }
+        ensures low { IfOk result
+            (λ w. AreLow (height (seen_keys self.entry)) (reverse w.0.levels.items)) }
         ensures allocates { OnErr result (seen_pairs self.entry ≢ []) }
         ensures unvisited { OnErr result (counter.new ≡ counter.old) }
         ensures visits { IfOk result (λ _. C.number counter.new

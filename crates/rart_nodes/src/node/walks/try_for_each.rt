@@ -1,10 +1,13 @@
 //! Walks over the values below a prefix that a callback can end.
-ghost use Rattle.std.specs.Prelude.{◌≡◌, ◌≤◌, ◌+◌, ◌^◌, [], IfErr};
+ghost use Rattle.std.specs.Prelude.{◌≡◌, ◌≤◌, ◌+◌, ◌*◌, ◌^◌, ℕ, [], reverse, IfErr};
+ghost use Rattle.rart_nodes.specs.ranges.Potential.{AreLow};
+ghost use Rattle.rart_nodes.specs.ranges.Spans.{call_visits};
 ghost use Rattle.rart_nodes.specs.tries.SeenTrees.{seen_pairs};
 ghost use Rattle.rart_trie.specs.walks.BelowPrefix.{below_bound, below_visits, values_below};
 ghost use Rattle.rart_nodes.specs.walks.PathParts.{walk_values};
 ghost use Rattle.rart_nodes.specs.walks.WalkSteps.{IsWalkAt, walk_nodes};
-ghost use Rattle.rart_nodes.specs.walks.Tried.{CanTry, EndsVisitByValue, EndsAs, EndsVisit};
+ghost use Rattle.rart_nodes.specs.walks.Tried.{CallsSo, CallsSoByValue, CanTry, EndsAfter, EndsAs, EndsVisit};
+ghost use Rattle.rart_nodes.specs.walks.Tried.{EndsVisitByValue};
 ghost use Rattle.rart_nodes.specs.walks.Tried.{IfAllocated, MayStopForMemory, OnRefused};
 
 use crate::node::seen::Seen;
@@ -25,6 +28,9 @@ fn try_for_each<'a, P: Partial, V, C: Count, E, F: FnMut(&V) -> Result<VisitCont
     ensures stays_callable { F.IsAlwaysCallable f.old → F.IsAlwaysCallable f.new }
     ensures calls { EndsAs F.FnMut f.old (walk_values walk.old) result f.new }
     ensures visits { C.number counter.new ≤ C.number counter.old + walk_nodes walk.old }
+    ensures by_calls { (h : ℕ) → AreLow h (reverse walk.old.levels.items) →
+        (n : ℕ) × (EndsAfter F.FnMut f.old (walk_values walk.old) n result f.new
+        × (C.number counter.new ≤ C.number counter.old + 2 * n + h)) }
 {
     while let Some(value) = walk.advance(&mut NoPath, counter) {
         match f(value) {
@@ -48,7 +54,8 @@ impl<'a, K: KeyTrait, V, C: Count> Seen<'a, K, V, C> {
     ///
     /// # Visits
     ///
-    /// At most `prefix.len() + 1 + 2 * m` nodes where `m` keys begin with `prefix`, none in an empty tree.
+    /// At most `prefix.len() + 1 + 2 * m` nodes where `m` keys begin with `prefix`, none in an empty tree. With `n`
+    /// calls in a tree of height `h`, at most `prefix.len() + 1 + 2 * n + h`.
     pub fn try_prefix_values_for_each_by_ref_k_counted<E, F: FnMut(&V) -> Result<VisitControl, E>>(
         self,
         prefix: &K,
@@ -66,6 +73,10 @@ impl<'a, K: KeyTrait, V, C: Count> Seen<'a, K, V, C> {
             + below_visits (K.bytes prefix.now) (seen_pairs self.entry)) }
         ensures bound { C.number counter.new
             ≤ C.number counter.old + below_bound (K.bytes prefix.now) (seen_pairs self.entry) }
+        ensures by_calls { CallsSo F.FnMut f.old
+            (values_below (K.bytes prefix.now) (seen_pairs self.entry)) result f.new
+            (λ n. C.number counter.new ≤ C.number counter.old
+            + call_visits (K.bytes prefix.now) n (seen_pairs self.entry)) }
     {
         let Ok((mut walk, _path)) = self.walk_below::<NoPath>(prefix.as_ref(), counter) else {
             return Err(VisitError::Memory);
@@ -86,7 +97,8 @@ impl<'a, K: KeyTrait, V, C: Count> Seen<'a, K, V, C> {
     ///
     /// # Visits
     ///
-    /// At most `prefix.len() + 1 + 2 * m` nodes where `m` keys begin with `prefix`, none in an empty tree.
+    /// At most `prefix.len() + 1 + 2 * m` nodes where `m` keys begin with `prefix`, none in an empty tree. With `n`
+    /// calls in a tree of height `h`, at most `prefix.len() + 1 + 2 * n + h`.
     pub fn try_prefix_values_for_each_k_counted<E, F: FnMut(&V) -> Result<VisitControl, E> + Drop>(
         self,
         prefix: &K,
@@ -102,6 +114,10 @@ impl<'a, K: KeyTrait, V, C: Count> Seen<'a, K, V, C> {
             + below_visits (K.bytes prefix.now) (seen_pairs self.entry)) }
         ensures bound { C.number counter.new
             ≤ C.number counter.old + below_bound (K.bytes prefix.now) (seen_pairs self.entry) }
+        ensures by_calls { CallsSoByValue F.FnMut f
+            (values_below (K.bytes prefix.now) (seen_pairs self.entry)) result
+            (λ n. C.number counter.new ≤ C.number counter.old
+            + call_visits (K.bytes prefix.now) n (seen_pairs self.entry)) }
     {
         self.try_prefix_values_for_each_by_ref_k_counted(prefix, &mut f, counter)
     }

@@ -45,14 +45,14 @@ loop-child-init g t c =
     let laws = g.met.T.Visitor.lawful in
     let found = c.in-Some.ensures.aligned in
     record {
-      callable = rw c.of-shared_children.ensures
+      callable = rw c.of-shared_children.ensures.shared_children
           (can-rest _ _ laws _ _ _ _ _ _ (can-aligned _ _ laws _ g.met.T.Visitor.deeper _ _ _ _ _ found.0 _ _ found.2
           found.1 c.requires.callable) (rw (c.value.ensures, c.value-2.ensures) at c.give_both.ensures.calls));
       place = path-stays _;
       reserved = laws.keeps_reserved _ _ found.0 _ _ found.1 c.requires.reserved found.2.short;
       given = λ last h. h;
-      visits = rw c.of-shared_children.ensures c.in-Some.ensures.visits;
-      within = rw c.of-shared_children.ensures
+      visits = rw c.of-shared_children.ensures.shared_children c.in-Some.ensures.visits;
+      within = rw c.of-shared_children.ensures.shared_children
           (shared_children-within _ c.in-Some.left_aligned.node.now c.in-Some.right_aligned.node.now found.2.few);
     }
 
@@ -137,7 +137,7 @@ returns-clause-calls g t c =
     let laws = g.met.T.Visitor.lawful in
     let found = c.in-Some.ensures.aligned in
     let here = rw (c.value.ensures, c.value-2.ensures) at c.give_both.ensures.calls in
-    let below = rw c.of-shared_children.ensures at
+    let below = rw c.of-shared_children.ensures.shared_children at
     (c.loop-child.invariant.given c.loop-child.f
     (rw c.in_default-enter_next.ensures.shared_children (laws.gives_none _ _))) in
     given-aligned _ _ laws _ _ _ _ _ _ _ found.0 _ _ found.2 found.1 here below

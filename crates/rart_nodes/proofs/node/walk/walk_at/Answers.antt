@@ -1,4 +1,5 @@
 use Rattle.std.proofs.Common.{rules, [], ◌∷◌, ◌<◌, ◌++◌, length, vec_capacity, arith, ap, ◌∙◌, refl}
+use Rattle.rart_nodes.proofs.ranges.PotentialLemmas.{low-start}
 use Rattle.rart_nodes.proofs.walks.PathLemmas.{prefix-short}
 use Rattle.rart_nodes.proofs.walks.WalkLemmas.{start, start-entries, start-nodes}
 use Rattle.rart_nodes.proofs.node.walk.walk_at.Goals as goal
@@ -35,3 +36,7 @@ returns-clause-entries g c =
 pub returns-clause-visits : goal.returns-clause-visits
 returns-clause-visits g c = start-nodes c.args.at.node.now _ _ _ _ c.branches.ensures c.requires.empty_walk
     c.push_reserved.ensures.items
+
+pub returns-clause-low : goal.returns-clause-low
+returns-clause-low g c = λ h w. low-start h _ c.args.at.node.now _ _ _ c.branches.ensures c.requires.empty_walk
+    c.push_reserved.ensures.items w

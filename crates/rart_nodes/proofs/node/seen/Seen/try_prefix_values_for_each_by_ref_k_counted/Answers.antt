@@ -7,7 +7,7 @@ use Rattle.rart_trie.specs.tries.Tree.{tree_pairs}
 use Rattle.rart_trie.specs.walks.ProbeCount.{probe_count}
 use Rattle.rart_trie.specs.walks.Walk.{entry_values}
 use Rattle.rart_nodes.specs.walks.PathParts.{no_segment}
-use Rattle.rart_nodes.specs.walks.Tried.{CanTry, EndsAs}
+use Rattle.rart_nodes.specs.walks.Tried.{CanTry, EndsAfter, EndsAs}
 use Rattle.rart_trie.proofs.tries.CanonicalTests.{IsCanonicalTree-test}
 use Rattle.rart_nodes.proofs.walks.PartLemmas.{part-values}
 use Rattle.rart_nodes.proofs.node.seen.Seen.try_prefix_values_for_each_by_ref_k_counted.Goals as goal
@@ -55,3 +55,42 @@ returns-clause-visits g c = omega (
   ap (λ q. probe_count (seen_keys c.args.self) q) c.as_ref.ensures,
   ap (λ q. length (below q (seen_pairs c.args.self))) c.as_ref.ensures,
 )
+
+pub returns-in-Ok-try_for_each-clause-by_calls : goal.returns-in-Ok-try_for_each-clause-by_calls
+returns-in-Ok-try_for_each-clause-by_calls g c =
+    let e = ap entry_values c.in-Ok.ensures.entries ∙ part-values no_segment c.as_ref.result.now
+    (option_copied c.args.self.root) (IsCanonicalTree-test _ c.args.self.canonical)
+    ∙ ap (λ q. values_of (below q (tree_pairs (option_copied c.args.self.root)))) c.as_ref.ensures in
+    let n = c.in-Ok-try_for_each.ensures.by_calls _ c.in-Ok.ensures.low in
+    (
+      n.0,
+      (
+        subst (λ (x : List g.row.V.Denot). EndsAfter g.F.FnMut c.args.f.now x n.0 (Ok tt) c.try_for_each.new.f) e n.1.0,
+        omega (
+          arith,
+          n.1.1,
+          c.in-Ok.ensures.visits,
+          ap (λ q. probe_count (seen_keys c.args.self) q) c.as_ref.ensures,
+        ),
+      ),
+    )
+
+pub returns-clause-by_calls : goal.returns-clause-by_calls
+returns-clause-by_calls g c =
+    let e = ap entry_values c.in-Ok.ensures.entries ∙ part-values no_segment c.as_ref.result.now
+    (option_copied c.args.self.root) (IsCanonicalTree-test _ c.args.self.canonical)
+    ∙ ap (λ q. values_of (below q (tree_pairs (option_copied c.args.self.root)))) c.as_ref.ensures in
+    let n = c.in-Err.ensures.by_calls _ c.in-Ok.ensures.low in
+    (
+      n.0,
+      (
+        subst (λ (x : List g.row.V.Denot). EndsAfter g.F.FnMut c.args.f.now x n.0 (Err c.in-Err.error)
+        c.try_for_each.new.f) e n.1.0,
+        omega (
+          arith,
+          n.1.1,
+          c.in-Ok.ensures.visits,
+          ap (λ q. probe_count (seen_keys c.args.self) q) c.as_ref.ensures,
+        ),
+      ),
+    )

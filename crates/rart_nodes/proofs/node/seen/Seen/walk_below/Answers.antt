@@ -3,6 +3,7 @@ use Rattle.std.specs.Option.{option_copied}
 use Rattle.rart_nodes.specs.walks.Part.{tree_part}
 use Rattle.rart_trie.proofs.edits.Outcomes.{err-any}
 use Rattle.rart_trie.proofs.tries.CanonicalTests.{IsCanonical-test, IsCanonicalTree-test}
+use Rattle.rart_nodes.proofs.ranges.PotentialLemmas.{low-tree}
 use Rattle.rart_nodes.proofs.walks.PartLemmas.{few-count, part-length}
 use Rattle.rart_trie.proofs.tries.StepLemmas.{root-entered}
 use Rattle.rart_nodes.proofs.walks.WalkLemmas.{has-pairs}
@@ -46,3 +47,7 @@ returns-clause-nodes g c =
       part-length g.T.Keeps.grown (g.T.Path.kept c.in_ok-path.path) (g.T.Path.kept c.seek_prefix.new.path)
           c.args.prefix.now (option_copied c.args.self.root) u (IsCanonicalTree-test _ c.args.self.canonical) found,
     )
+
+pub returns-clause-low : goal.returns-clause-low
+returns-clause-low g c = low-tree c.in-Some.top.node.now _ _ c.in-Some.top.canonical c.in-Some.ensures
+    (c.walk_at-walk.ensures.low _ c.in-Some-seek_prefix.ensures.low)

@@ -5,6 +5,7 @@ use Rattle.rart_keys.specs.ByteStrings.{strip_prefix, begins}
 use Rattle.rart_trie.specs.tries.Trie.{prefix_of}
 use Rattle.rart_nodes.specs.walks.Part.{tree_part}
 use Rattle.rart_trie.specs.walks.ProbeCount.{tree_entered}
+use Rattle.rart_nodes.proofs.ranges.PotentialLemmas.{tree-lower}
 use Rattle.rart_nodes.proofs.walks.PartLemmas.{child-deep, part-on, part-out, part-within}
 use Rattle.rart_trie.proofs.tries.BelowLemmas.{starts_with-begins}
 use Rattle.rart_trie.proofs.tries.StepLemmas.{next-falls, step-on}
@@ -69,6 +70,11 @@ loop-next-preserved g c =
         length-append k (g.T.Keeps.grown (g.P.Partial.bytes c.prefix-in-Some.result.now)),
         g.T.Keeps.short (g.P.Partial.bytes c.prefix-in-Some.result.now),
         ap length c.prefix-in-Some.ensures,
+      );
+      low = omega (
+        arith,
+        rw (c.in-Some.is, ← c.enter-at.ensures.shown) at c.loop-next.invariant.low,
+        tree-lower c.in-Some-first.byte.now t _ (sym c.child-next.ensures),
       );
       reserved = omega (arith, c.loop-next.invariant.reserved, c.grow.ensures.capacity);
       requested = c.grow.ensures.requested ∙ c.loop-next.invariant.requested;

@@ -1,0 +1,65 @@
+//! The map of the children of each kind of node, read by the map's own calls.
+
+use crate::nodes::{TestNode, fill, leaf};
+use rart_nodes::node::ChildMap;
+use rart_parts::mapping::NodeMapping;
+use std::alloc::Global;
+use std::process::Abort;
+
+/// The width of a map, how many children it says that it has, and at how many bytes it has the child with that value.
+fn read<const W: usize, M: NodeMapping<TestNode, W>>(map: &M) -> (usize, usize, usize) {
+    let mut found = 0_usize;
+    for byte in 0..=255_u8 {
+        if value_at(map, byte) == Some(u64::from(byte)) {
+            found = found.wrapping_add(1);
+        }
+    }
+    (map.width(), map.num_children(), found)
+}
+
+fn value_at<const W: usize, M: NodeMapping<TestNode, W>>(map: &M, byte: u8) -> Option<u64> {
+    map.seek_child(byte)?.value().copied()
+}
+
+/// The kind of a node by the variant of its map, and what the map's own calls say.
+fn read_kind(node: &TestNode) -> (usize, (usize, usize, usize)) {
+    match node.child_map() {
+        ChildMap::Childless => (0, (0, 0, 0)),
+        ChildMap::Node4(map) => (4, read(map)),
+        ChildMap::Node16(map) => (16, read(map)),
+        ChildMap::Node48(map) => (48, read(map)),
+        ChildMap::Node256(map) => (256, read(map)),
+    }
+}
+
+// How many children, and the kind that holds them.
+static KINDS: [(usize, usize); 9] = [
+    (0, 0),
+    (1, 4),
+    (4, 4),
+    (5, 16),
+    (16, 16),
+    (17, 48),
+    (48, 48),
+    (49, 256),
+    (256, 256),
+];
+
+fn filled(rt: &impl Abort, alloc: Global, children: usize) -> TestNode {
+    let mut node = leaf(b'p', 1);
+    fill(rt, alloc, &mut node, 0, children);
+    node
+}
+
+fn is_of_kind(rt: &impl Abort, alloc: Global, children: usize, kind: usize) {
+    let node = filled(rt, alloc, children);
+    let found = read_kind(&node);
+    assert!(rt; found == (kind, (kind, children, children)), "{children} children");
+}
+
+#[test]
+fn children_are_in_the_map_of_their_kind(rt: HostRuntime) {
+    for (children, kind) in KINDS {
+        is_of_kind(&rt, rt.alloc(), children, kind);
+    }
+}
