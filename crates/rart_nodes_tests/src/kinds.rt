@@ -54,7 +54,10 @@ fn filled(rt: &impl Abort, alloc: Global, children: usize) -> TestNode {
 fn is_of_kind(rt: &impl Abort, alloc: Global, children: usize, kind: usize) {
     let node = filled(rt, alloc, children);
     let found = read_kind(&node);
-    assert!(rt; found == (kind, (kind, children, children)), "{children} children");
+    assert!(rt;
+        found == (kind, (kind, children, children)),
+        "{children} children"
+    );
 }
 
 #[test]

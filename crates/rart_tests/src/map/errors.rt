@@ -213,7 +213,13 @@ fn each_error_of_an_insertion_has_a_text(rt: HostRuntime) {
     let try_full = TryInsertError::Refused(refused(TreeError::Full));
     assert!(rt; has_text(alloc, refused(TreeError::Full), "tree is full"));
     assert!(rt; has_text(alloc, NotInserted::Stored(7_u64), "key is stored"));
-    assert!(rt; has_text(alloc, NotInserted::Refused(refused(TreeError::Memory)), "out of memory"));
+    assert!(rt;
+        has_text(
+            alloc,
+            NotInserted::Refused(refused(TreeError::Memory)),
+            "out of memory"
+        )
+    );
     assert!(rt; has_text(alloc, TryInsertError::Occupied(7_u64, &8), "key is stored"));
     assert!(rt; has_text(alloc, try_full, "tree is full"));
 }
