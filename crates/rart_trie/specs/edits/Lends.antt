@@ -1,12 +1,20 @@
--- What a tree ends as once the loan of a value is over.
+-- What a tree ends as once a loan of a part of it is over.
 use Rattle.std.specs.Prelude.{◌≡◌, ℕ, List, Option}
-use Rattle.std.specs.Borrow.{Fml, LendsSo, MutBor}
+use Rattle.std.specs.Borrow.{Fml, Lends, LendsSo, MutBor}
 use Rattle.std.specs.contracts.option.Option.{the_row as option_row}
 use denote.RattleType.{RattleType}
 use Rattle.rart_keys.specs.declared.partials.Partial as partials
 use Rattle.rart_trie.specs.contracts.node.DefaultNode.{the_row}
 use Rattle.rart_trie.specs.edits.Loan.{EndsLent, LeavesAt}
+use Rattle.rart_trie.specs.contracts.node.storage.Storage.{the_row as storage_row}
+use Rattle.rart_trie.specs.declared.node.storage.Storage.{Storage}
+use Rattle.rart_trie.specs.edits.NodeEdits.{with_storage}
 use Rattle.rart_trie.specs.tries.Trie.{Trie, trie_put}
+
+-- the storage was borrowed: the node ends with what was left of it
+abbrev pub lends_storage : (P V : RattleType) → (G : partials.Ghosts P.Denot) → MutBor (Trie V.Denot)
+    → MutBor (Storage V.Denot (Trie V.Denot)) → Fml
+lends_storage P V G node lent = Lends (the_row P V G) (storage_row V (the_row P V G)) node lent (with_storage node.now)
 
 -- the value at k, the rest of a key after the path to the node, was borrowed, if there is one: the node ends with what
 -- was left at k; if nothing was borrowed, it is unchanged

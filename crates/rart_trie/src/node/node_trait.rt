@@ -6,7 +6,8 @@ ghost use Rattle.std.specs.Option.{option_copied, option_copied_mut};
 ghost use Rattle.rart_parts.specs.Errors.{IsMemory};
 ghost use Rattle.rart_trie.specs.edits.ChildChanges.{child_value, with_child_replaced, with_child_value};
 ghost use Rattle.rart_trie.specs.edits.Deletion.{JoinsWithin, ShrinksWithout, without_child};
-ghost use Rattle.rart_trie.specs.edits.NodeEdits.{with_child, with_value};
+ghost use Rattle.rart_trie.specs.edits.NodeEdits.{with_child, with_storage, with_value};
+ghost use Rattle.rart_trie.specs.edits.Lends.{lends_storage};
 ghost use Rattle.rart_trie.specs.storages.Stored.{child_entries, storage_capacity, stored_value};
 ghost use Rattle.rart_trie.specs.tries.Trie.{Trie, node, no_children, leaf, capacity_in, children_in, edges_of};
 ghost use Rattle.rart_trie.specs.tries.Trie.{prefix_of, value_of, child_in};
@@ -58,6 +59,13 @@ pub trait Node<P: Partial, V>: Sized {
     /// Returns the child at a byte.
     fn seek_child(&self, key: u8) -> Option<&Self>
         ensures { option_map trie (option_copied result) ≡ child_in key (trie self.now) };
+
+    /// Returns a mutable borrow of the child at a byte.
+    fn seek_child_mut(&mut self, key: u8) -> Option<&mut Self>
+        ensures* writes_back { sem 𝓛 (LendsSo Self.row Self.row self.entry result
+            (λ n c. OnSome result (trie n ≡ with_child_replaced key (trie c) (trie self.old)))
+            (λ n. trie n ≡ trie self.old)) }
+        ensures child { option_map trie (option_copied_mut result) ≡ child_in key (trie self.old) };
 
     /// Returns a mutable borrow of the value of the child at a byte.
     fn child_value_mut(&mut self, key: u8) -> Option<&mut V>
@@ -155,6 +163,10 @@ impl<P: Partial, V> Node<P, V> for DefaultNode<P, V> {
         self.storage.seek_child(key)
     }
 
+    fn seek_child_mut(&mut self, key: u8) -> Option<&mut Self> {
+        self.storage_mut().seek_child_mut(key)
+    }
+
     fn child_value_mut(&mut self, key: u8) -> Option<&mut V> {
         match self.storage.seek_child_mut(key) {
             Some(child) => child.storage.value_mut(),
@@ -200,6 +212,14 @@ impl<P: Partial, V> DefaultNode<P, V> {
         ensures { result ≡ node (P.bytes prefix) None (storage_capacity storage) no_children }
     {
         DefaultNode { prefix, storage }
+    }
+
+    // A mutable borrow of the storage. Its own function, so that the loan of a child is two loans, each of another type.
+    fn storage_mut(&mut self) -> &mut Storage<V, Self>
+        ensures* writes_back { sem 𝓛 (lends_storage P.row V.row P.Partial self.entry result) }
+        ensures storage { with_storage self.old result.now ≡ self.old }
+    {
+        &mut self.storage
     }
 
     /// Returns a node without value or children, with storage for 4 children.
