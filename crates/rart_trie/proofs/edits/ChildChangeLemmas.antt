@@ -52,7 +52,8 @@ module _ {V : Type 0} where
 
     pub storage-child_replaced : (b : ℕ) (c : Trie V) (t : Storage V (Trie V))
         → StoresSo s (replaced_at b c (child_entries s)) t → with_storage n t ≡ with_child_replaced b c n
-    storage-child_replaced b c t h = ap (λ v. node (prefix_of n) v (storage_capacity t) (as_children (child_entries t))) h.2
+    storage-child_replaced b c t h =
+        ap (λ v. node (prefix_of n) v (storage_capacity t) (as_children (child_entries t))) h.2
         ∙ with_child_replaced-is (prefix_of n) (stored_value s) (storage_capacity s) (storage_capacity t) b c
         (child_entries s) (child_entries t) h.0 h.1 ∙ ap (with_child_replaced b c) is
 

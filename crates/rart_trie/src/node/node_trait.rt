@@ -214,7 +214,7 @@ impl<P: Partial, V> DefaultNode<P, V> {
         DefaultNode { prefix, storage }
     }
 
-    // A mutable borrow of the storage. Its own function, so that the loan of a child is two loans, each of another type.
+    // A mutable borrow of the storage. Through it, the loan of a child is two loans, each from another type.
     fn storage_mut(&mut self) -> &mut Storage<V, Self>
         ensures* writes_back { sem 𝓛 (lends_storage P.row V.row P.Partial self.entry result) }
         ensures storage { with_storage self.old result.now ≡ self.old }

@@ -23,8 +23,8 @@ use contract.Lifetimes.{AllOutlive}
 use contract.Monad.{fact, fact_i}
 use contract.Running.{Running, tables, tables_of}
 use types.Logic.{Logic}
-use types.Kit.{‵, raw, ◌⊛◌, given, some, later, ◌$◌, ◌∵◌, !, qed, by, done, move, keep, drop, use0, use1, use2, split, split3}
-use types.Kit.{frame, join, learn, pick, await, suffices, group}
+use types.Kit.{‵, raw, ◌⊛◌, given, some, later, Item, ◌$◌, ◌∵◌, !, qed, by, done, move, drop, use0, use1, use2, split}
+use types.Kit.{split3, frame, join, learn, pick, await, suffices, group}
 use types.Run.{enter, addr, stop, no_more, and_then, returns}
 use types.ByLocal.{alloc_all, pass_all, free_all, look_at, get, through, sets, lands_as}
 use denote.Builtin.{u8, RefMutOf}
@@ -103,7 +103,8 @@ module _ (P V : RattleType) (g : declared_partial.Ghosts P.Denot) (d dd : Dict) 
   ended = f.ended P V g d dd
 
   abbrev stayed : Stays ended.signature.params ended.kept
-  stayed = (stay_dropped (RefMutOf (0 ∷ []) tt (plain (λ _. Row)) (λ _. tt)) no, (stay_dropped (plain (λ _. u8)) yes, tt))
+  stayed =
+      (stay_dropped (RefMutOf (0 ∷ []) tt (plain (λ _. Row)) (λ _. tt)) no, (stay_dropped (plain (λ _. u8)) yes, tt))
 
 module _ {M : Type 1} (𝓤 : Ura M) (𝓛 : Logic 𝓤) (𝓜 : Model 𝓤 𝓛.H) (𝓡 : Running 𝓤 𝓛.H 𝓜) (wired : Wired 𝓡.env code.code)
     (P V : RattleType) (LP : Laws P) (LV : Laws V) (g : declared_partial.Ghosts P.Denot) (d dd : Dict)
@@ -142,13 +143,16 @@ module _ {M : Type 1} (𝓤 : Ura M) (𝓛 : Logic 𝓤) (𝓜 : Model 𝓤 𝓛
   module _ (κ κP κV : Lft) (q qP qV : Share) (bounds : AllOutlive 3 ended'.signature.outlives (κ, (κP, (κV, tt))))
       (self : MutBor Node.Denot) (b : ℕ) (fits : b < 2 ^ 8) (inP : κP ⊑ P.lives) (inV : κV ⊑ V.lives) where
     abbrev bound : (walk_of 𝓛 ended' stayed' clauses).Ghost
-    bound = (((κ, (κP, (κV, tt))), (q, (qP, (qV, tt))), bounds, (self, (b, tt)), (mut_vals self, (vint w8 b ∷ [], tt))), tt)
+    bound =
+        (((κ, (κP, (κV, tt))), (q, (qP, (qV, tt))), bounds, (self, (b, tt)), (mut_vals self, (vint w8 b ∷ [], tt))), tt)
 
     abbrev y : Opens.Ghost
     y = (((κ, (κP, (κV, tt))), (q, (qP, (qV, tt))), bounds, (self, tt), (mut_vals self, tt)), tt)
 
     abbrev z : MutBor Storage.Denot → Val → Lends.Ghost
-    z s v = (((κ, (κV, (κ, tt))), (Share.left q, (qV, (Share.right q, tt))), (bounds.1.0, (⊑_refl κ, tt)), (s, (b, tt)), (v ∷ [], (vint w8 b ∷ [], tt))), tt)
+    z s v =
+        (((κ, (κV, (κ, tt))), (Share.left q, (qV, (Share.right q, tt))), (bounds.1.0, (⊑_refl κ, tt)),
+        (s, (b, tt)), (v ∷ [], (vint w8 b ∷ [], tt))), tt)
 
     abbrev Post : Val → SProp 𝓤
     Post = (walk_of 𝓛 ended' stayed' clauses).post bound
@@ -166,21 +170,38 @@ module _ {M : Type 1} (𝓤 : Ura M) (𝓛 : Logic 𝓤) (𝓜 : Model 𝓤 𝓛
         (Enum-Lawful 𝓛 (shape T) tt (tt, ((mut_Lawful 𝓛 (named 0) κ Node, tt), tt)))
 
     within : κ ⊑ Node.lives
-    within = the_within (param 0 P) (param 1 V) g κ (⊑_trans κ κP P.lives bounds.0 inP) (⊑_trans κ κV V.lives bounds.1.0 inV)
+    within =
+        let inside = the_within (param 0 P) (param 1 V) g in
+        inside κ (⊑_trans κ κP P.lives bounds.0 inP) (⊑_trans κ κV V.lives bounds.1.0 inV)
 
     child_laws : Laws Child
-    child_laws = arg_laws (passed P V g d dd) no Node (the_row_laws (param 0 P) (param 1 V) g (param_laws 0 P LP) (param_laws 1 V LV)) refl
+    child_laws =
+        let laws = the_row_laws (param 0 P) (param 1 V) g (param_laws 0 P LP) (param_laws 1 V LV) in
+        arg_laws (passed P V g d dd) no Node laws refl
 
     -- the loan of the child, as the contract says it
     abbrev Loan : Result.Denot → Fml
     Loan r = LendsSo Node Node self r (λ n c. OnSome r (n ≡ with_child_replaced b c self.now)) (λ n. n ≡ self.now)
+
+    -- what the calls return: the tokens and a reference, and beside them what the contract says
+    abbrev Open : Val → MutBor Storage.Denot → Item 𝓤
+    Open v s = ((‵ (flft κ q) ⊛ ‵ (flft κP qP) ⊛ ‵ (flft κV qV) ⊛ ‵ ftrue) ⊛ ‵ ((Ref Storage).own_val s (v ∷ [])))
+        ⊛ some (λ (ws : Lasts (opened.ended P V g d dd) y.0.0 y.0.3). ‵ (lasts (opened.ended P V g d dd) y.0.0 y.0.3 ws)
+        ⊛ (‵ (lends_storage (param 0 P) (param 1 V) g self s) ⊛ raw (fact 𝓤 (with_storage self.now s.now ≡ self.now))))
+
+    abbrev Lent : MutBor Storage.Denot → Val → Val → Result.Denot → Item 𝓤
+    Lent s v v' r = let x = (z s v).0 in let found = option_copied_mut r ≡ child_at b (child_entries s.now) in
+        ((‵ (flft κ (Share.left q)) ⊛ ‵ (flft κV qV) ⊛ ‵ (flft κ (Share.right q)) ⊛ ‵ ftrue)
+        ⊛ ‵ (Result.own_val r (v' ∷ []))) ⊛ some (λ (ws : Lasts (lent.ended V Child) x.0 x.3).
+        ‵ (lasts (lent.ended V Child) x.0 x.3 ws) ⊛ (‵ (lends_child (param 1 V) Node s b r) ⊛ raw (fact 𝓤 found)))
 
     walk : ent 𝓤 (on_entry 𝓛 ended'.signature bound.0.0 bound.0.1 bound.0.3 bound.0.4)
         (WpFn 𝓤 𝓛.H 𝓣.C 𝓣.Λ body (vptr self.ref_ptr.0 self.ref_ptr.1 ∷ vint w8 b ∷ []) Post)
     unfolding tables_of
     walk =
         qed 𝓛 (((‵ (flft κ q) ⊛ ‵ (flft κP qP) ⊛ ‵ (flft κV qV) ⊛ ‵ ftrue) ⊛ ‵ ((Ref Node).own_val self (mut_vals self))
-        ⊛ ‵ (u8.own_val b (vint w8 b ∷ [])) ⊛ ‵ ftrue) ∷ []) ∵ split ! $ move ! (1 ∷ []) $ split3 ! $
+        ⊛ ‵ (u8.own_val b (vint w8 b ∷ [])) ⊛ ‵ ftrue) ∷ []) ∵
+        split ! $ move ! (1 ∷ []) $ split3 ! $
         -- [self; the byte; nothing; the tokens]
         move ! (0 ∷ 2 ∷ []) $ join ! $ move ! (2 ∷ 0 ∷ []) $ join ! $
         nothing ! $ use0 𝓛 (raw (fact 𝓤 (κV ⊑ V.lives))) (fact_i 𝓤 (κV ⊑ V.lives) (emp 𝓤) inV) $ join ! $
@@ -191,37 +212,38 @@ module _ {M : Type 1} (𝓤 : Ura M) (𝓛 : Logic 𝓤) (𝓜 : Model 𝓤 𝓛
         alloc_all ! (λ l. pass_all ! refl ((tt, tt), ((tt, record { fits = fits }), tt)) $
         sets ! (addr ! (through ! refl (stop !))) refl (tt, tt) $
         calls_at ! (framed 𝓤 𝓛.H 𝓜 (tables 𝓤 𝓛.H 𝓜 𝓡 𝓡.env)) Opens
-        (met_opened.met 𝓤 𝓛 𝓜 𝓡 (code.calls-rart_trie::node::DefaultNode::storage_mut 𝓡.env wired) P V LP LV g d dd met drops) y
+        (met_opened.met 𝓤 𝓛 𝓜 𝓡 (code.calls-rart_trie::node::DefaultNode::storage_mut 𝓡.env wired) P V LP LV g d dd met
+        drops) y
         (and_then ! (get ! refl) (no_more !)) (λ v.
-        use1 𝓛 (later (some (λ (s : MutBor Storage.Denot). ((‵ (flft κ q) ⊛ ‵ (flft κP qP) ⊛ ‵ (flft κV qV) ⊛ ‵ ftrue) ⊛ ‵ ((Ref Storage).own_val s (v ∷ [])))
-        ⊛ some (λ (ws : Lasts (opened.ended P V g d dd) y.0.0 y.0.3). ‵ (lasts (opened.ended P V g d dd) y.0.0 y.0.3 ws)
-        ⊛ (‵ (lends_storage (param 0 P) (param 1 V) g self s) ⊛ raw (fact 𝓤 (with_storage self.now s.now ≡ self.now)))))))
-        (id⊢ 𝓤 _) $ await ! tt $ pick ! (λ s. split ! $ split ! $ split3 ! $
-        use1 𝓛 (‵ (flft κ (Share.left q)) ⊛ ‵ (flft κ (Share.right q))) (𝓛.lfts.lft_cut κ q (Share.left q) (Share.right q) (halves q)) $ split ! $
+        use1 𝓛 (later (some (Open v))) (id⊢ 𝓤 _) $ await ! tt $ pick ! (λ s. split ! $ split ! $ split3 ! $
+        use1 𝓛 (‵ (flft κ (Share.left q)) ⊛ ‵ (flft κ (Share.right q)))
+        (𝓛.lfts.lft_cut κ q (Share.left q) (Share.right q) (halves q)) $ split ! $
         -- [the loan's token in two; P's; V's and nothing; the storage; what is said of it; the byte]
-        move ! (5 ∷ []) $ pick ! (λ ws. split ! $ drop ! $ split ! $ move ! (1 ∷ []) $ heard ! _ (λ is. move ! (5 ∷ []) $
+        move ! (5 ∷ []) $ pick ! (λ ws. split ! $ drop ! $ split ! $ move ! (1 ∷ []) $ heard ! _ (λ is.
+        move ! (5 ∷ []) $
         peeks ! (Ref Storage) (Is (Ref Storage)) (shows 𝓛 (Ref Storage)) s (v ∷ []) (λ fine.
         lands_as ! refl refl ((mut_Lawful 𝓛 (named 0) κ Storage).typed s (v ∷ []) fine).0 $
         -- [the storage; its loan; the loan's token in two; P's; V's and nothing; the byte]
         move ! (6 ∷ []) $ nothing ! $ move ! (1 ∷ 0 ∷ []) $ join ! $ move ! (1 ∷ 0 ∷ []) $ join ! $
-        move ! (5 ∷ []) $ split ! $ move ! (5 ∷ 1 ∷ []) $ join ! $ move ! (1 ∷ 0 ∷ []) $ join ! $ move ! (3 ∷ 0 ∷ []) $ join ! $ join ! $
+        move ! (5 ∷ []) $ split ! $ move ! (5 ∷ 1 ∷ []) $ join ! $ move ! (1 ∷ 0 ∷ []) $ join ! $
+        move ! (3 ∷ 0 ∷ []) $ join ! $ join ! $
         nothing ! $ use0 𝓛 (raw (fact 𝓤 (κ ⊑ Node.lives))) (fact_i 𝓤 (κ ⊑ Node.lives) (emp 𝓤) within) $ join ! $
         use0 𝓛 (raw (fact 𝓤 (κV ⊑ V.lives))) (fact_i 𝓤 (κV ⊑ V.lives) (emp 𝓤) inV) $ join ! $
         move ! (1 ∷ 0 ∷ []) $ use2 𝓛 (raw (Lends.pre (z s v))) (id⊢ 𝓤 _) $
         -- [what the storage's call requires; its loan; P's token]
         calls_at ! (framed 𝓤 𝓛.H 𝓜 (tables 𝓤 𝓛.H 𝓜 𝓡 𝓡.env)) Lends
-        (met_lent.met 𝓤 𝓛 𝓜 𝓡 (code.calls-rart_trie::node::storage::Storage::seek_child_mut 𝓡.env wired) V Child LV child_laws) (z s v)
+        (met_lent.met 𝓤 𝓛 𝓜 𝓡 (code.calls-rart_trie::node::storage::Storage::seek_child_mut 𝓡.env wired) V Child LV
+        child_laws) (z s v)
         (and_then ! (get ! refl) (and_then ! (get ! refl) (no_more !))) (λ v'.
-        use1 𝓛 (later (some (λ (r : Result.Denot). ((‵ (flft κ (Share.left q)) ⊛ ‵ (flft κV qV) ⊛ ‵ (flft κ (Share.right q)) ⊛ ‵ ftrue) ⊛ ‵ (Result.own_val r (v' ∷ [])))
-        ⊛ some (λ (ws' : Lasts (lent.ended V Child) (z s v).0.0 (z s v).0.3). ‵ (lasts (lent.ended V Child) (z s v).0.0 (z s v).0.3 ws')
-        ⊛ (‵ (lends_child (param 1 V) Node s b r) ⊛ raw (fact 𝓤 (option_copied_mut r ≡ child_at b (child_entries s.now))))))))
-        (id⊢ 𝓤 _) $ await ! tt $ pick ! (λ r. split ! $ split ! $ split3 ! $
+        use1 𝓛 (later (some (Lent s v v'))) (id⊢ 𝓤 _) $ await ! tt $ pick ! (λ r. split ! $ split ! $ split3 ! $
         move ! (2 ∷ []) $ split ! $ move ! (2 ∷ 0 ∷ []) $
         use2 𝓛 (‵ (flft κ q)) (𝓛.lfts.lft_glue κ q (Share.left q) (Share.right q) (halves q)) $
         -- [the loan's token; nothing; V's token; the result; what is said of it; the storage's loan; P's token]
-        move ! (4 ∷ []) $ pick ! (λ ws'. split ! $ drop ! $ split ! $ move ! (1 ∷ []) $ heard ! _ (λ found. move ! (5 ∷ 0 ∷ []) $
-        use2 𝓛 (‵ (Loan r)) (lent_through 𝓛 Node Storage Node (with_storage self.now) self.ghost_name s.ghost_name (ghost_name_of r) _ _ _ _
-        (λ c t h. on_some_weaker r (storage-child_replaced self.now s.now is b c t) h) (λ t h. storage-same self.now s.now is t h)) $
+        move ! (4 ∷ []) $ pick ! (λ ws'. split ! $ drop ! $ split ! $ move ! (1 ∷ []) $ heard ! _ (λ found.
+        move ! (5 ∷ 0 ∷ []) $ use2 𝓛 (‵ (Loan r)) (lent_through 𝓛 Node Storage Node (with_storage self.now)
+        self.ghost_name s.ghost_name (ghost_name_of r) _ _ _ _
+        (λ c t h. on_some_weaker r (storage-child_replaced self.now s.now is b c t) h)
+        (storage-same self.now s.now is)) $
         move ! (4 ∷ []) $ peeks ! Result (Is Result) (shows 𝓛 Result) r (v' ∷ []) (λ fine'.
         lands_as ! refl refl (lawful.typed r (v' ∷ []) fine').0 $
         returns ! (look_at ! 0 refl) $ free_all ! refl $
@@ -229,19 +251,21 @@ module _ {M : Type 1} (𝓤 : Ura M) (𝓛 : Logic 𝓤) (𝓜 : Model 𝓤 𝓛
         suffices ! _ (ends_at 𝓛 ended' stayed' clauses bound v' r (tt, (tt, tt)) (tt, (tt, tt))) $
         nothing ! $ nothing ! $ join ! $ nothing ! $ join ! $
         move ! (5 ∷ 4 ∷ []) $ join ! $ move ! (5 ∷ 0 ∷ []) $ join ! $ move ! (4 ∷ 0 ∷ []) $ join ! $
-        group ! 3 $ frame ! $ says ! (same-option (option_copied_mut r) ∙ found ∙ child-stored self.now s.now is b) $ done !)))))))))))
+        group ! 3 $ frame ! $ says ! (same-option (option_copied_mut r) ∙ found ∙ child-stored self.now s.now is b) $
+        done !)))))))))))
 
   goes : Meets 𝓛 ended'.signature (WpFn 𝓤 𝓛.H 𝓣.C 𝓣.Λ body) (closing 𝓛 ended' clauses)
   goes =
       walk_Meets 𝓛 ended' stayed'
-      (Goes-spent_ref 𝓛 3 (0 ∷ []) tt (plain (λ _. Node)), (Goes-dropped 𝓛 3 (plain (λ _. u8)) yes (λ κs x e. refl), tt))
+      (Goes-spent_ref 𝓛 3 (0 ∷ []) tt (plain (λ _. Node)),
+      (Goes-dropped 𝓛 3 (plain (λ _. u8)) yes (λ κs x e. refl), tt))
       clauses (WpFn 𝓤 𝓛.H 𝓣.C 𝓣.Λ body) (WpFn-mono 𝓤 𝓛.H 𝓛.laws 𝓣 body)
       (walked 𝓛 ended' stayed' clauses (WpFn 𝓤 𝓛.H 𝓣.C 𝓣.Λ body) (λ κs. (mut_vals, (uint_vals w8, tt)))
       (λ κs. (mut_Tells (named 0) κs.0 Node, (uint_Tells w8, tt)))
       (λ κs qs bounds a e are.
       qed 𝓛 (raw (on_entry 𝓛 ended'.signature κs qs a (mut_vals a.0, (uint_vals w8 a.1.0, tt)))
-      ∷ (given (κs.1.0 ⊑ P.lives) (‵ ftrue) ⊛ given (κs.1.1.0 ⊑ V.lives) (‵ ftrue) ⊛ ‵ ftrue) ∷ []) ∵ move ! (1 ∷ []) $ split3 ! $
-      learn ! (λ inP. drop ! $ learn ! (λ inV. drop ! $ drop ! $
+      ∷ (given (κs.1.0 ⊑ P.lives) (‵ ftrue) ⊛ given (κs.1.1.0 ⊑ V.lives) (‵ ftrue) ⊛ ‵ ftrue) ∷ []) ∵
+      move ! (1 ∷ []) $ split3 ! $ learn ! (λ inP. drop ! $ learn ! (λ inV. drop ! $ drop ! $
       by ! (walk κs.0 κs.1.0 κs.1.1.0 qs.0 qs.1.0 qs.1.1.0 bounds a.0 a.1.0 are.1.0.1 inP inV)))))
 
 pub seek_child_mut_spec : {M : Type 1} → statement M
