@@ -7,6 +7,8 @@
 #[cfg(test)]
 mod kinds;
 #[cfg(test)]
+mod lent;
+#[cfg(test)]
 mod nodes;
 #[cfg(test)]
 mod shapes;

@@ -44,7 +44,7 @@ pub(crate) fn leaf(byte: u8, value: u64) -> TestNode {
     <TestNode as Node<Part, u64>>::new_leaf(Part::from_slice(&[byte]), value)
 }
 
-fn add(rt: &impl Abort, alloc: Global, node: &mut TestNode, byte: u8, value: u64) {
+pub(crate) fn add(rt: &impl Abort, alloc: Global, node: &mut TestNode, byte: u8, value: u64) {
     assert!(rt; node.seek_child(byte).is_none(), "a child is stored");
     match node.add_child(alloc, byte, leaf(byte, value)) {
         Ok(()) => {}
@@ -69,12 +69,12 @@ fn delete(rt: &impl Abort, alloc: Global, node: &mut TestNode, byte: u8) -> Opti
     }
 }
 
-fn seek(node: &TestNode, byte: u8) -> Option<u64> {
+pub(crate) fn seek(node: &TestNode, byte: u8) -> Option<u64> {
     node.seek_child(byte)?.value().copied()
 }
 
 // The old value.
-fn write(node: &mut TestNode, value: u64) -> Option<u64> {
+pub(crate) fn write(node: &mut TestNode, value: u64) -> Option<u64> {
     let place = node.value_mut()?;
     let old = *place;
     *place = value;
@@ -99,7 +99,7 @@ fn replace(node: &mut TestNode, byte: u8, value: u64) -> Option<u64> {
     }
 }
 
-fn walk(node: &TestNode) -> Option<u64> {
+pub(crate) fn walk(node: &TestNode) -> Option<u64> {
     let mut next = 0_u64;
     for (byte, child) in node.iter() {
         if u64::from(byte) != next || child.value() != Some(&next) {
