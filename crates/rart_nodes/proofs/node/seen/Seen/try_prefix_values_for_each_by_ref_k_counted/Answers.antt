@@ -61,8 +61,7 @@ returns-in-Ok-try_for_each-clause-by_calls g c =
     let e = ap entry_values c.in-Ok.ensures.entries ∙ part-values no_segment c.as_ref.result.now
     (option_copied c.args.self.root) (IsCanonicalTree-test _ c.args.self.canonical)
     ∙ ap (λ q. values_of (below q (tree_pairs (option_copied c.args.self.root)))) c.as_ref.ensures in
-    let n = c.in-Ok-try_for_each.ensures.by_calls _ c.in-Ok.ensures.low in
-    (
+    let n = c.in-Ok-try_for_each.ensures.by_calls _ c.in-Ok.ensures.low in (
       n.0,
       (
         subst (λ (x : List g.row.V.Denot). EndsAfter g.F.FnMut c.args.f.now x n.0 (Ok tt) c.try_for_each.new.f) e n.1.0,
@@ -80,12 +79,11 @@ returns-clause-by_calls g c =
     let e = ap entry_values c.in-Ok.ensures.entries ∙ part-values no_segment c.as_ref.result.now
     (option_copied c.args.self.root) (IsCanonicalTree-test _ c.args.self.canonical)
     ∙ ap (λ q. values_of (below q (tree_pairs (option_copied c.args.self.root)))) c.as_ref.ensures in
-    let n = c.in-Err.ensures.by_calls _ c.in-Ok.ensures.low in
-    (
+    let n = c.in-Err.ensures.by_calls _ c.in-Ok.ensures.low in (
       n.0,
       (
         subst (λ (x : List g.row.V.Denot). EndsAfter g.F.FnMut c.args.f.now x n.0 (Err c.in-Err.error)
-        c.try_for_each.new.f) e n.1.0,
+            c.try_for_each.new.f) e n.1.0,
         omega (
           arith,
           n.1.1,

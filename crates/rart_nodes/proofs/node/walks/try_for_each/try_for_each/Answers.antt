@@ -1,4 +1,4 @@
-use Rattle.std.proofs.Common.{arith, rules, of_calls, ◌≡◌, List, sym, ap, subst, refl, Ok, Err}
+use Rattle.std.proofs.Common.{arith, rules, of_calls, ◌≡◌, ◌+◌, List, sym, ap, subst, refl, Ok, Err}
 use Rattle.std.specs.Fn.{CalledAt}
 use Rattle.rart_nodes.specs.declared.node.walks.control.VisitControl.TheVariants.{Continue}
 use Rattle.rart_trie.specs.walks.Walk.{SegmentList, entry_values}
@@ -50,23 +50,23 @@ loop-value-preserved g c =
         k.0 + 1,
         (
           (λ n m r last i h. k.1.0 (1 + n) m r last (omega (arith, i))
-          (subst (λ (x : List (SegmentList × g.row.V.Denot)). EndsAfter g.F.FnMut c.loop-value.f (entry_values x) (1 + n)
-          r last) (sym e) (
-            c.in-Some.value,
-            (
-              c.f.result,
-              (
-                c.f.new.self,
+              (subst (λ (x : List (SegmentList × g.row.V.Denot)). EndsAfter g.F.FnMut c.loop-value.f (entry_values x) (1 + n)
+              r last) (sym e) (
+                c.in-Some.value,
                 (
-                  refl,
+                  c.f.result,
                   (
-                    search (rules, of_calls),
-                    rw (c.in-Ok-Continue.is, c.in-Ok-Continue.field-0-is) (n, (refl, h)),
+                    c.f.new.self,
+                    (
+                      refl,
+                      (
+                        search (rules, of_calls),
+                        rw (c.in-Ok-Continue.is, c.in-Ok-Continue.field-0-is) (n, (refl, h)),
+                      ),
+                    ),
                   ),
                 ),
-              ),
-            ),
-          ))),
+              ))),
           omega (arith, k.1.1, c.in-Some.ensures.amortized.next),
         ),
       );
@@ -114,21 +114,20 @@ returns-clause-stays_callable g c = always-after-tries g.F.FnMut _ _ _ _ (return
 pub returns-in-Ok-Stop-clause-by_calls : goal.returns-in-Ok-Stop-clause-by_calls
 returns-in-Ok-Stop-clause-by_calls g c = λ h w.
     let e = c.in-Some.ensures.entries in
-    let k = c.loop-value.invariant.counted in
-    (
+    let k = c.loop-value.invariant.counted in (
       k.0 + 1,
       (
         k.1.0 1 (k.0 + 1) _ _ refl (subst (λ (x : List (SegmentList × g.row.V.Denot)). EndsAfter g.F.FnMut
-        c.loop-value.f (entry_values x) 1 (Ok tt) c.f.new.self) (sym e) (
-          c.in-Some.value,
-          (
-            c.f.result,
-            (
-              c.f.new.self,
-              (refl, (search (rules, of_calls), rw (c.in-Ok-Stop.is, c.in-Ok-Stop.field-0-is) (refl, (refl, refl)))),
-            ),
-          ),
-        )),
+            c.loop-value.f (entry_values x) 1 (Ok tt) c.f.new.self) (sym e) (
+              c.in-Some.value,
+              (
+                c.f.result,
+                (
+                  c.f.new.self,
+                  (refl, (search (rules, of_calls), rw (c.in-Ok-Stop.is, c.in-Ok-Stop.field-0-is) (refl, (refl, refl)))),
+                ),
+              ),
+            )),
         omega (arith, k.1.1, c.in-Some.ensures.amortized.last h (c.loop-value.invariant.low h w)),
       ),
     )
@@ -136,18 +135,17 @@ returns-in-Ok-Stop-clause-by_calls g c = λ h w.
 pub returns-in-Err-clause-by_calls : goal.returns-in-Err-clause-by_calls
 returns-in-Err-clause-by_calls g c = λ h w.
     let e = c.in-Some.ensures.entries in
-    let k = c.loop-value.invariant.counted in
-    (
+    let k = c.loop-value.invariant.counted in (
       k.0 + 1,
       (
         k.1.0 1 (k.0 + 1) _ _ refl (subst (λ (x : List (SegmentList × g.row.V.Denot)). EndsAfter g.F.FnMut
-        c.loop-value.f (entry_values x) 1 (Err c.in-Err.error) c.f.new.self) (sym e) (
-          c.in-Some.value,
-          (
-            c.f.result,
-            (c.f.new.self, (refl, (search (rules, of_calls), rw c.in-Err.is (refl, (refl, refl))))),
-          ),
-        )),
+            c.loop-value.f (entry_values x) 1 (Err c.in-Err.error) c.f.new.self) (sym e) (
+              c.in-Some.value,
+              (
+                c.f.result,
+                (c.f.new.self, (refl, (search (rules, of_calls), rw c.in-Err.is (refl, (refl, refl))))),
+              ),
+            )),
         omega (arith, k.1.1, c.in-Some.ensures.amortized.last h (c.loop-value.invariant.low h w)),
       ),
     )
@@ -155,12 +153,11 @@ returns-in-Err-clause-by_calls g c = λ h w.
 pub returns-clause-by_calls : goal.returns-clause-by_calls
 returns-clause-by_calls g c = λ h w.
     let e = ap entry_values c.in_default.ensures.entries.0 in
-    let k = c.loop-value.invariant.counted in
-    (
+    let k = c.loop-value.invariant.counted in (
       k.0,
       (
         k.1.0 0 k.0 _ _ (omega arith) (subst (λ (x : List g.row.V.Denot). EndsAfter g.F.FnMut c.loop-value.f x 0 (Ok tt)
-        c.loop-value.f) (sym e) (refl, (refl, refl))),
+            c.loop-value.f) (sym e) (refl, (refl, refl))),
         omega (arith, k.1.1, c.in_default.ensures.amortized),
       ),
     )

@@ -150,9 +150,16 @@ module _ {M : Type 1} (𝓤 : Ura M) (𝓛 : Logic 𝓤) (𝓜 : Model 𝓤 𝓛
     y = (((κ, (κP, (κV, tt))), (q, (qP, (qV, tt))), bounds, (self, tt), (mut_vals self, tt)), tt)
 
     abbrev z : MutBor Storage.Denot → Val → Lends.Ghost
-    z s v =
-        (((κ, (κV, (κ, tt))), (Share.left q, (qV, (Share.right q, tt))), (bounds.1.0, (⊑_refl κ, tt)),
-        (s, (b, tt)), (v ∷ [], (vint w8 b ∷ [], tt))), tt)
+    z s v = (
+      (
+        (κ, (κV, (κ, tt))),
+        (Share.left q, (qV, (Share.right q, tt))),
+        (bounds.1.0, (⊑_refl κ, tt)),
+        (s, (b, tt)),
+        (v ∷ [], (vint w8 b ∷ [], tt)),
+      ),
+      tt,
+    )
 
     abbrev Post : Val → SProp 𝓤
     Post = (walk_of 𝓛 ended' stayed' clauses).post bound
@@ -256,9 +263,10 @@ module _ {M : Type 1} (𝓤 : Ura M) (𝓛 : Logic 𝓤) (𝓜 : Model 𝓤 𝓛
 
   goes : Meets 𝓛 ended'.signature (WpFn 𝓤 𝓛.H 𝓣.C 𝓣.Λ body) (closing 𝓛 ended' clauses)
   goes =
-      walk_Meets 𝓛 ended' stayed'
-      (Goes-spent_ref 𝓛 3 (0 ∷ []) tt (plain (λ _. Node)),
-      (Goes-dropped 𝓛 3 (plain (λ _. u8)) yes (λ κs x e. refl), tt))
+      walk_Meets 𝓛 ended' stayed' (
+        Goes-spent_ref 𝓛 3 (0 ∷ []) tt (plain (λ _. Node)),
+        (Goes-dropped 𝓛 3 (plain (λ _. u8)) yes (λ κs x e. refl), tt),
+      )
       clauses (WpFn 𝓤 𝓛.H 𝓣.C 𝓣.Λ body) (WpFn-mono 𝓤 𝓛.H 𝓛.laws 𝓣 body)
       (walked 𝓛 ended' stayed' clauses (WpFn 𝓤 𝓛.H 𝓣.C 𝓣.Λ body) (λ κs. (mut_vals, (uint_vals w8, tt)))
       (λ κs. (mut_Tells (named 0) κs.0 Node, (uint_Tells w8, tt)))
