@@ -1,0 +1,5 @@
+pub mod Contents
+pub mod Loans
+pub mod Memory
+pub mod RawLoans
+pub mod formers
