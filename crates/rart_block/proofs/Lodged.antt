@@ -1,6 +1,7 @@
 -- The places of a block are handed to `lodge`. Assumes `Logic`.
 use Rattle.rart_block.proofs.Walk.{◌≡◌, refl, List, [], ◌∷◌, ℕ, ◌<◌, ◌≤◌, ◌^◌, arith, length, Ura, Val, vint, vptr, w64}
-use Rattle.rart_block.proofs.Walk.{full_share, flft, SProp, ent, emp, Memory, Routine, Fun, fact, fact_i, ◌⊑◌, Logic, sem}
+use Rattle.rart_block.proofs.Walk.{full_share, flft, SProp, ent, emp, Memory, Routine, Fun, fact, fact_i, ◌⊑◌, Logic}
+use Rattle.rart_block.proofs.Walk.{sem}
 use Rattle.rart_block.proofs.Walk.{‵, raw, ◌$◌, ◌∵◌, !, qed, use0, join, done, fjoin, feq_i, flt_i, RattleType, param}
 use Rattle.rart_block.proofs.Walk.{block_ptr, nothing, lodged, Lodges, at_lodge}
 use contract.BorrowLft.{⊑_refl}
@@ -10,7 +11,7 @@ module _ (Y : RattleType) {M : Type 1} {𝓤 : Ura M} (𝓛 : Logic 𝓤) (at_me
   -- `lodge_goes` of the kit, for any capacity
   pub places_go : n ≡ length xs → n ≤ c → c < 2 ^ 63
       → ent 𝓤 (sem 𝓛 (lodged (param 0 Y) (block_ptr k o) n c xs))
-        ((Lodges Y 𝓛 at_mem run).pre (at_lodge Y 𝓛 at_mem run k o n c xs))
+      ((Lodges Y 𝓛 at_mem run).pre (at_lodge Y 𝓛 at_mem run k o n c xs))
   places_go len few narrow =
       let Asked = (n ≡ length xs) × (n ≤ c) × (c < 2 ^ 63) in
       qed 𝓛 (‵ (lodged (param 0 Y) (block_ptr k o) n c xs) ∷ []) ∵

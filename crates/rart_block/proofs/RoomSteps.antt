@@ -10,10 +10,8 @@ use Rattle.rart_block.proofs.Walk.{room_of_row}
 use Rattle.rart_block.proofs.Parts.{Parts, H, X, W, w, at_head, at_places}
 use base.Logic.{wand}
 use mir.Syntax.{Tys, ty_struct, tcons, tnil}
-use prog.Memory.{align, size, up}
 use prog.Model.{rooms_at}
 use denote.RawPtr.{room_for}
-use denote.Struct.CellSteps.{first_at}
 use denote.Struct.Struct.{Shape, as_fields, within}
 use denote.Struct.Declared.{shape as plain_shape}
 use denote.Struct.Owning.{shape}
@@ -61,8 +59,8 @@ module _ (P : Parts) where
   module _ {M : Type 1} {𝓤 : Ura M} {𝓛 : Logic 𝓤} {K : Type 0} {Γ : List (Item 𝓤)} {G : Goal 𝓤 𝓛.H} where
     vacant_had : K → (d : Vacant.Denot) (vs : List Val)
         → ((k o : ℕ) (hv : Val) → vs ≡ vacant_val hv k o ∷ [] → Good (layout heap.the_row) hv
-          → Seq K 𝓛 (‵ (froom τ k o) ∷ ‵ (global_token τ (block_ptr k o))
-            ∷ ‵ (heap.the_row.own_val d.alloc (hv ∷ [])) ∷ Γ) G)
+        → Seq K 𝓛 (‵ (froom τ k o) ∷ ‵ (global_token τ (block_ptr k o))
+        ∷ ‵ (heap.the_row.own_val d.alloc (hv ∷ [])) ∷ Γ) G)
         → Seq K 𝓛 (‵ (Vacant.own_val d vs) ∷ Γ) G
     vacant_had t d vs next =
         fsplit t $ fpick t (λ vss. fsplit t $ feq_l t (λ ev. fsplit t $ feq_l t (λ ep. fsplit t $
@@ -70,14 +68,14 @@ module _ (P : Parts) where
         move t (1 ∷ []) $ in_a_block t d.ptr (λ p. fsep (room_for τ p) (global_token τ p))
         (fst∗ 𝓤 (never 𝓤) (sem 𝓛 (global_token τ null_ptr))) (λ k o at. fsplit t $
         next k o hv (ev ∙ (λ i. vstruct (of_list (ep i ++ (ea i ++ []))) ∷ [])
-          ∙ (λ i. vstruct (of_list (ptr_val (at i) ∷ hv ∷ [])) ∷ [])) good)))))
+        ∙ (λ i. vstruct (of_list (ptr_val (at i) ∷ hv ∷ [])) ∷ [])) good)))))
 
   module _ {M : Type 1} {𝓤 : Ura M} {𝓛 : Logic 𝓤} {K : Type 0} {Γ : List (Item 𝓤)} {G : Goal 𝓤 𝓛.H} where
     -- [the room; the token; the handle]
     pub room_had : K → (d : Room.Denot) (vs : List Val)
         → ((k o : ℕ) (hv : Val) → vs ≡ room_val hv k o ∷ [] → Good (layout heap.the_row) hv
-          → Seq K 𝓛 (‵ (froom τ k o) ∷ ‵ (global_token τ (block_ptr k o))
-            ∷ ‵ (heap.the_row.own_val d.vacant.alloc (hv ∷ [])) ∷ Γ) G)
+        → Seq K 𝓛 (‵ (froom τ k o) ∷ ‵ (global_token τ (block_ptr k o))
+        ∷ ‵ (heap.the_row.own_val d.vacant.alloc (hv ∷ [])) ∷ Γ) G)
         → Seq K 𝓛 (‵ (Room.own_val d vs) ∷ Γ) G
     room_had t d vs next =
         fpick t (λ vss. fsplit t $ feq_l t (λ ev. fsplit t $ vacant_had t d.vacant vss.0 (λ k o hv e good.
@@ -85,8 +83,8 @@ module _ (P : Parts) where
 
     pub room_made : K → {hv : Val} (a : heap.the_row.Denot) (k o : ℕ)
         → Step K 𝓛 (‵ (Room.own_val (record { vacant = record { ptr = block_ptr k o; alloc = a } })
-          (room_val hv k o ∷ [])) ∷ Γ) G
-          (‵ (froom τ k o) ∷ ‵ (global_token τ (block_ptr k o)) ∷ ‵ (heap.the_row.own_val a (hv ∷ [])) ∷ Γ) G
+        (room_val hv k o ∷ [])) ∷ Γ) G
+        (‵ (froom τ k o) ∷ ‵ (global_token τ (block_ptr k o)) ∷ ‵ (heap.the_row.own_val a (hv ∷ [])) ∷ Γ) G
     room_made t {hv} a k o = step (λ rest.
         let v = vacant_val hv k o in let r = room_val hv k o in
         -- the `Vacant`
@@ -118,7 +116,8 @@ module _ (P : Parts) {M : Type 1} {𝓤 : Ura M} (𝓛 : Logic 𝓤) (k o : ℕ)
   written = ty_struct [] fields
 
   -- room for the two fields, and the way back
-  pub comes_apart : ent 𝓤 (𝓛.H.room (τ P) k o) (sep 𝓤 (sem 𝓛 (Fields P k o)) (sem 𝓛 (fwand (Fields P k o) (froom (τ P) k o))))
+  pub comes_apart : ent 𝓤 (𝓛.H.room (τ P) k o)
+      (sep 𝓤 (sem 𝓛 (Fields P k o)) (sem 𝓛 (fwand (Fields P k o) (froom (τ P) k o))))
   comes_apart =
       let h : ℕ = o + at_head P in
       let p : ℕ = o + at_places P in

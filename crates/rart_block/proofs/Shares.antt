@@ -2,7 +2,7 @@
 use mathlib.Core.Path.{◌≡◌, refl, sym, subst}
 use mathlib.Core.Bool.{Bool, true, false, not}
 use mathlib.Core.List.{List, [], ◌∷◌}
-use Prim.Native.Nat.{ℕ, zero, ◌-◌, ◌*◌, ◌≤◌, ◌^◌}
+use Prim.Native.Nat.{ℕ, ◌-◌, ◌*◌, ◌≤◌, ◌^◌}
 use native.Mathlib.Omega.{arith}
 use lib.Dec.{T as Holds, eqb, eqb→eq}
 use lib.ListN.{length}
@@ -21,7 +21,7 @@ use denote.Array.{Array}
 use denote.ArrayMemory.{Single}
 use denote.Param.Laws.{Laws}
 use denote.RawPtr.{Ptr, block_ptr, null_ptr, lies_at, room_for, in_block, ◌+ₚ◌}
-use denote.Sharing.{ShrLaws, said, beside, nothing}
+use denote.Sharing.{ShrLaws, said}
 use denote.SharingLaws.{beside_shr_laws, nothing_shr_laws}
 use denote.Shares.{Shares-less, Shares-Array}
 use denote.Steps.{nothing as nothing_in}
@@ -29,7 +29,7 @@ use denote.Struct.Lending.{lent_at, lent_at_shr_laws, Lends, Lends-both, Lends-f
 use denote.Struct.Lending.{Lends-nothing, Lends-said}
 use Rattle.core.specs.Mem.{type_size}
 use Rattle.core.specs.Allocator.{block_with_items}
-use Rattle.std_alloc.specs.Vec.Ownership.{owns_if, lodged, vec_shares}
+use Rattle.std_alloc.specs.Vec.Ownership.{owns_if}
 use Rattle.std_alloc.proofs.SharedLaws.{lent_shr_laws}
 use Rattle.rart_block.specs.Memory.{head_offset, places_offset, deed, places_owned, block_owned, places_shared}
 use Rattle.rart_block.specs.Memory.{block_shared}
@@ -63,7 +63,7 @@ module _ (H T : RattleType) (w : ℕ) (LH : Laws H) (LT : Laws T) where
 
       items_lent : (p : Ptr) (empty : Bool) → (Holds empty → w ≡ 0)
           → Lends 𝓛 (in_block p (owns_if (not empty) (block_with_items (λ _ _. ftrue) T p (length xs) w xs)))
-            (lent_at Row p xs) l
+          (lent_at Row p xs) l
       items_lent null_ptr empty none = Lends-false 𝓛 (lent_at Row null_ptr xs) l
       items_lent (block_ptr b o) true none =
           none_lent (block_ptr b o) b o refl (no_items xs (subst (λ n. length xs ≤ n) (none tt) few))
@@ -71,7 +71,7 @@ module _ (H T : RattleType) (w : ℕ) (LH : Laws H) (LT : Laws T) where
           let p : Ptr = block_ptr b o in
           let item = Shares-less 𝓛 T T.lives l lt (LT.shares 𝓛) in
           Lends-first 𝓛 (lies_at Row full_share p xs) (fsep (room_for (bare (ty_array (lone T.mir) (w - length xs)))
-            (p +ₚ length xs * type_size T)) ftrue) (lent_at Row p xs) l
+          (p +ₚ length xs * type_size T)) ftrue) (lent_at Row p xs) l
           (Lends-lies 𝓛 Row l p xs (Shares-Array 𝓛 T (subst Single (sym LT.one) tt) (length xs) l item xs))
 
       seen_lent : (p : Ptr) (apart : Bool)
@@ -91,4 +91,4 @@ module _ (H T : RattleType) (w : ℕ) (LH : Laws H) (LT : Laws T) where
         Lends-both 𝓛 (lies_at H full_share q h) _ (lent_at H q h) (places_shared H T w p xs apart) l
         (Lends-lies 𝓛 H l q h (head h))
         (Lends-first 𝓛 (places_owned H T w p xs apart) (deed H T w token p) (places_shared H T w p xs apart) l
-          (seen_lent xs few p apart))
+        (seen_lent xs few p apart))

@@ -25,7 +25,8 @@ pub use sound.WpLaws.{FmC, WpFn-mono, fm_of}
 pub use types.Logic.{Logic, sem}
 pub use types.SemTy.{Body as Borrowed}
 pub use types.Kit.{Goal, Item, Seq, Soaks, Step, step, ⋆, ‵, raw, ◌⊛◌, some, later, given, at_ret, ◌$◌, ◌∵◌, !, qed, by}
-pub use types.Kit.{move, keep, drop, use0, use1, use2, split, split3, join, group, pick, learn, await, rewrite, suffices}
+pub use types.Kit.{move, keep, drop, use0, use1, use2, split, split3, join, group, pick, learn, await, rewrite}
+pub use types.Kit.{suffices}
 pub use types.Kit.{frame, assume, done, fsplit, fsplit3, fjoin, fjoin3, fpick, fpack, feq_i, feq_l, flt_i, flt_l}
 pub use types.Part.{whole, sub, look_in, agg}
 pub use types.Run.{addr, and_then, assigns_last, bin, blocks, enter, exec, first, fld, hop, init, lit, load, look}

@@ -1,5 +1,5 @@
 -- `Block` as a type that may hold the type that holds it, by its items.
-use Rattle.std.specs.Prelude.{◌≡◌, ℕ, ◌≤◌, ◌<◌, List, map, length}
+use Rattle.std.specs.Prelude.{◌≡◌, ℕ, ◌≤◌, List}
 use mathlib.Core.Path.{refl, sym, ap, subst, ◌∙◌}
 use mathlib.Core.Former.{Former, this, const, pair, list, via, children}
 use native.Mathlib.Nat.{ℕ_set}
@@ -24,7 +24,8 @@ use Rattle.rart_block.specs.contracts.block.Block as C
 use Rattle.rart_block.specs.contracts.block.Block.TheInside as I
 
 abbrev pub the_former : Former {0} → Type 0 → Type 0 → ℕ → Former {0}
-the_former g H K w = via (pair (const (H × K)) (list g)) (λ X. Contents H K (g.Of X)) (λ X c. ((c.head, c.keys), c.items))
+the_former g H K w = via (pair (const (H × K)) (list g)) (λ X. Contents H K (g.Of X))
+    (λ X c. ((c.head, c.keys), c.items))
     (λ X p. record { head = p.0.0; keys = p.0.1; items = p.1 }) (λ X c. refl) (λ X p. refl)
 
 abbrev pub the_weighed : {g : Former {0}} → Weighed g → (H K : Type 0) (w : ℕ) → Weighed (the_former g H K w)

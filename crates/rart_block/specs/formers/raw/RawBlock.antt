@@ -1,6 +1,6 @@
 -- `RawBlock` as a type that may hold the type that holds it, by its items.
 use Rattle.std.specs.Prelude.{◌≡◌, ℕ, suc, ◌+◌, ◌≤◌, Bool, true, false, List, [], ◌∷◌, map, length}
-use mathlib.Core.Path.{PathP, refl, sym, subst, ap, ◌∙◌}
+use mathlib.Core.Path.{refl, sym, subst, ap, ◌∙◌}
 use mathlib.Core.HLevel.{is_prop→PathP}
 use mathlib.Core.Former.{Former, Count, Row, over, this, list, list_count, list_get, children}
 use native.Mathlib.Bridge.{le_prop}
@@ -28,10 +28,12 @@ use Rattle.std_alloc.specs.Vec.Ownership.{lodged, vec_shares}
 use Rattle.rart_block.specs.declared.raw.RawBlock.{RawBlock}
 use Rattle.rart_block.specs.contracts.raw.RawBlock as C
 use Rattle.rart_block.specs.RawLoans.{with_items}
-use Rattle.rart_block.specs.Memory.{head_offset, deed, places_owned, block_owned, places_shared, block_shared, global_token}
+use Rattle.rart_block.specs.Memory.{head_offset, places_owned, block_owned, places_shared, block_shared}
+use Rattle.rart_block.specs.Memory.{global_token}
 
 -- as many items as before fit
-pub still_few : {X Y : Type 0} {w : ℕ} (xs : List X) (ys : List Y) → length ys ≡ length xs → length xs ≤ w → length ys ≤ w
+pub still_few : {X Y : Type 0} {w : ℕ} (xs : List X) (ys : List Y) → length ys ≡ length xs → length xs ≤ w
+    → length ys ≤ w
 still_few {w = w} xs ys e few = subst (λ n. n ≤ w) (sym e) few
 
 abbrev pub mapped : {H X Y : Type 0} {w : ℕ} → (X → Y) → RawBlock H X w → RawBlock H Y w
@@ -69,16 +71,19 @@ module _ (g : Former {0}) (H : Type 0) (w : ℕ) where
 
   pub put-get : (X : Type 0) (b : RawBlock H g.Shape w) (n : Count) (v : Row X (list_count g b.items n))
       → ◌≡◌ {A = (c : RawBlock H g.Shape w) × Row X (list_count g c.items n)}
-        (mapped (g.shape X) (get X b n v).0, put X (get X b n v).0 n (get X b n v).1) (b, v)
+      (mapped (g.shape X) (get X b n v).0, put X (get X b n v).0 n (get X b n v).1) (b, v)
   put-get X b n v = let e = (list g).put-get X b.items n v in
       λ i. (along b _ _ (λ j. (e j).0) (mapped (g.shape X) (get X b n v).0).few b.few i, (e i).1)
 
   pub get-map : (X Y : Type 0) (h : X → Y) (b : RawBlock H g.Shape w) (n : Count) (v : Row X (list_count g b.items n))
       → get Y b n (over h (list_count g b.items n) v)
-        ≡ (mapped (g.map X Y h) (get X b n v).0, over h n (get X b n v).1)
+      ≡ (mapped (g.map X Y h) (get X b n v).0, over h n (get X b n v).1)
   get-map X Y h b n v = let e = (list g).get-map X Y h b.items n v in
-      λ i. (along b _ _ (λ j. (e j).0) (get Y b n (over h (list_count g b.items n) v)).0.few
-        (mapped (g.map X Y h) (get X b n v).0).few i, (e i).1)
+      λ i. (
+        along b _ _ (λ j. (e j).0) (get Y b n (over h (list_count g b.items n) v)).0.few
+            (mapped (g.map X Y h) (get X b n v).0).few i,
+        (e i).1,
+      )
 
   abbrev pub the_former : Former {0}
   the_former = record {
@@ -159,9 +164,9 @@ module _ (H W R R' : RattleType) (h : R.Denot → R'.Denot) where
   the_places a = record {
     mir_same = refl;
     own_same = λ b i vs. fsep ((Struct (shape (C.the_type H R W))).own_val (to (C.the_type H R W) b) vs)
-      (owned_placed H w R R' h a global_token b.ptr b.head b.items b.apart i);
+        (owned_placed H w R R' h a global_token b.ptr b.head b.items b.apart i);
     shr_same = λ b i k o. beside ((Struct (shape (C.the_type H R W))).shr_at (to (C.the_type H R W) b) k o)
-      (shared_placed H w R R' h a b.ptr b.head b.items b.apart i);
+        (shared_placed H w R R' h a b.ptr b.head b.items b.apart i);
   }
 
   pub the_codes_placed : Recodes R R' h

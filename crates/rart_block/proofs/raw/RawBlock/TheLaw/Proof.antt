@@ -1,5 +1,5 @@
 use mathlib.Core.List.{[], ◌++◌}
-use base.Fml.{Lft, Incl, Incl-trans}
+use base.Fml.{Incl, Incl-trans}
 use contract.BorrowLft.{meet_⊑_left, meet_⊑_right}
 use denote.RattleType.{RattleType}
 use denote.Param.{value_of}
@@ -24,4 +24,4 @@ shares H T W LH LT LW =
     of_Lends (C.struct H T W) (C.the_codes H.Denot T.Denot w H.coded T.coded) (C.the_heap H T W) (C.the_lent H T W)
     (λ b _. shared_laws H T w LH LT b.ptr b.head b.items b.apart) (copy_shared RawPtr-field RawPtr-copy, tt)
     (λ M 𝓤 𝓛 b _. block_lent H T w LH LT 𝓛 (C.the_row H T W).lives head item global_token b.ptr b.head b.items b.apart
-      b.few)
+    b.few)

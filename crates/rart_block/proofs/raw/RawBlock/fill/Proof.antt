@@ -6,7 +6,7 @@ use Rattle.rart_block.proofs.Walk.{tables_of, WpFn-mono, Logic, Item, ⋆, ‵, 
 use Rattle.rart_block.proofs.Walk.{keep, use1, use2, split, join, suffices, done, fsplit, fjoin, whole, sub, agg, addr}
 use Rattle.rart_block.proofs.Walk.{and_then, assigns_last, blocks, enter, exec, first, fld, init, no_more, of_opd}
 use Rattle.rart_block.proofs.Walk.{returns, stop, alloc_all, env, free_all, get, get_in, look_at, pass_all, sets}
-use Rattle.rart_block.proofs.Walk.{through, part_in, owns, layout, number, param_laws, mem, part_at, no, Ptr, block_ptr}
+use Rattle.rart_block.proofs.Walk.{through, part_in, owns, layout, number, param_laws, part_at, no, Ptr, block_ptr}
 use Rattle.rart_block.proofs.Walk.{plain, nothing, Clauses, Ended, closing, on_entry, Meets, triple_of, entered, Stays}
 use Rattle.rart_block.proofs.Walk.{stay_dropped, walk_of, walk_Meets, ends_at, says, Goes-dropped, Goes-blank}
 use Rattle.rart_block.proofs.Walk.{FitsInBlock, lodged, as_written, Good, word, after, tells}
@@ -58,7 +58,7 @@ module _ (P : Parts) {M : Type 1} {𝓤 : Ura M} (𝓛 : Logic 𝓤) (at_mem : M
   exits : (k o : ℕ) → ent 𝓤 (⋆ 𝓛 (‵ (Made k o) ∷ tokens ∷ [])) (Post (word (block_ptr k o)))
   exits k o = qed 𝓛 (‵ (Made k o) ∷ tokens ∷ []) ∵
       suffices ! _ (ends_at 𝓛 (ended P) (stayed P) (clauses P 𝓛 at_mem run) bound (word (block_ptr k o))
-        (new (block_ptr k o)) (_, (tt, tt)) (tt, (tt, tt))) $
+      (new (block_ptr k o)) (_, (tt, tt)) (tt, (tt, tt))) $
       says ! (refl, refl, refl) $ nothing ! $ nothing ! $ fjoin ! $ nothing ! $ fjoin ! $ join ! $
       move ! (1 ∷ 0 ∷ []) $ done !
 
@@ -97,7 +97,7 @@ module _ (P : Parts) {M : Type 1} {𝓤 : Ura M} (𝓛 : Logic 𝓤) (at_mem : M
       move ! (1 ∷ []) $ fsplit ! $ room_had P ! d us (λ k o hv e handle. move ! (3 ∷ []) $ fsplit ! $
       tells ! (H P) (param_laws 0 P.head P.head_laws) h vs (λ v f good. keep ! (2 ∷ 3 ∷ 0 ∷ 5 ∷ []) $
       by ! (subst (λ (ws : List Val × List Val). ent 𝓤 (⋆ 𝓛 (Had k o v))
-        (WpFn 𝓤 𝓛.H C Λ (function P) (ws.0 ++ (ws.1 ++ [])) Post)) (λ j. (sym e j, sym f j))
+      (WpFn 𝓤 𝓛.H C Λ (function P) (ws.0 ++ (ws.1 ++ [])) Post)) (λ j. (sym e j, sym f j))
       (walk k o hv handle v good))))
 
 meets : (P : Parts) {M : Type 1} {𝓤 : Ura M} (𝓛 : Logic 𝓤) (at_mem : Memory → SProp 𝓤) (run : Routine → Fun 𝓤)
@@ -105,14 +105,16 @@ meets : (P : Parts) {M : Type 1} {𝓤 : Ura M} (𝓛 : Logic 𝓤) (at_mem : Me
     → Meets 𝓛 (ended P).signature (WpFn 𝓤 𝓛.H 𝓣.C 𝓣.Λ (function P)) (closing 𝓛 (ended P) (clauses P 𝓛 at_mem run))
 meets P {𝓤 = 𝓤} 𝓛 at_mem run 𝓣 =
     walk_Meets 𝓛 (ended P) (stayed P)
-    (Goes-blank 𝓛 3 (plain (λ _. Room P)) no (λ κs x f. tt), (Goes-dropped 𝓛 3 (plain (λ _. H P)) no (λ κs x f. refl), tt))
+    (Goes-blank 𝓛 3 (plain (λ _. Room P)) no (λ κs x f. tt),
+      (Goes-dropped 𝓛 3 (plain (λ _. H P)) no (λ κs x f. refl), tt))
     (clauses P 𝓛 at_mem run) (WpFn 𝓤 𝓛.H 𝓣.C 𝓣.Λ (function P)) (WpFn-mono 𝓤 𝓛.H 𝓛.laws 𝓣 (function P))
     (λ z. let κs = z.0.0 in let qs = z.0.1 in
     required 𝓤 (fact 𝓤 (κs.0 ⊑ P.head.lives) ∷ fact 𝓤 (κs.1.0 ⊑ P.item.lives)
-      ∷ fact 𝓤 (κs.1.1.0 ⊑ (number P.width).lives) ∷ fact 𝓤 (size (layout (Room P)) < 2 ^ 63)
-      ∷ fact 𝓤 (size (layout (Block P)) < 2 ^ 63) ∷ [])
+    ∷ fact 𝓤 (κs.1.1.0 ⊑ (number P.width).lives) ∷ fact 𝓤 (size (layout (Room P)) < 2 ^ 63)
+    ∷ fact 𝓤 (size (layout (Block P)) < 2 ^ 63) ∷ [])
     (Asks P) (on_entry 𝓛 (ended P).signature κs qs z.0.3 z.0.4)
-    (λ asked. entry P 𝓛 at_mem run 𝓣.C 𝓣.Λ κs.0 κs.1.0 κs.1.1.0 qs.0 qs.1.0 qs.1.1.0 z.0.3.0 z.0.3.1.0 z.0.4.0 z.0.4.1.0 asked))
+    (λ asked. entry P 𝓛 at_mem run 𝓣.C 𝓣.Λ κs.0 κs.1.0 κs.1.1.0 qs.0 qs.1.0 qs.1.1.0
+      z.0.3.0 z.0.3.1.0 z.0.4.0 z.0.4.1.0 asked))
 
 pub fill_spec : {M : Type 1} → stated.statement M
 unfolding tables_of

@@ -3,7 +3,8 @@ use Rattle.rart_block.proofs.Walk.{refl, sym, subst, List, [], ◌∷◌, ◌++�
 use Rattle.rart_block.proofs.Walk.{Lft, Share, flft, ftrue, SProp, ent, via, fst∗, Memory, Routine, Calls, Env, Loops}
 use Rattle.rart_block.proofs.Walk.{Tables, WpFn, Fun, ◌⊑◌, tables, tables_of, WpFn-mono, Logic, Item, ⋆, ‵, ◌⊛◌, at_ret}
 use Rattle.rart_block.proofs.Walk.{◌$◌, ◌∵◌, !, qed, by, move, keep, drop, split, join, suffices, frame, done, fsplit}
-use Rattle.rart_block.proofs.Walk.{fjoin, feq_i, feq_l, addr, blocks, enter, exec, first, fld, hop, look, of_opd, returns}
+use Rattle.rart_block.proofs.Walk.{fjoin, feq_i, feq_l, addr, blocks, enter, exec, first, fld, hop, look, of_opd}
+use Rattle.rart_block.proofs.Walk.{returns}
 use Rattle.rart_block.proofs.Walk.{stop, alloc_all, env, free_all, get, look_at, pass_all, sets, sets_last, through}
 use Rattle.rart_block.proofs.Walk.{owns, number, hidden_shr, RefOf, yes, hide, Bor, ShrRef, plain, nothing, Clauses}
 use Rattle.rart_block.proofs.Walk.{Ended, closing, on_entry, Meets, triple_of, entered, Stays, stay_dropped, walk_of}
@@ -89,7 +90,7 @@ meets P {𝓤 = 𝓤} 𝓛 at_mem run 𝓣 =
     (λ z. let κs = z.0.0 in let qs = z.0.1 in let On = on_entry 𝓛 (ended P).signature κs qs z.0.3 z.0.4 in
     via 𝓤 On (fst∗ 𝓤 On ((clauses P 𝓛 at_mem run κs z.0.3).requires z.1))
     (entry P 𝓛 at_mem run 𝓣.C 𝓣.Λ κs.0 κs.1.0 κs.1.1.0 κs.1.1.1.0 qs.0 qs.1.0 qs.1.1.0 qs.1.1.1.0 z.0.2.0 z.0.2.1.0
-      z.0.3.0.ref_ptr.0 z.0.3.0.ref_ptr.1 z.0.3.0.now z.0.4.0))
+    z.0.3.0.ref_ptr.0 z.0.3.0.ref_ptr.1 z.0.3.0.now z.0.4.0))
 
 pub head_spec : {M : Type 1} → stated.statement M
 unfolding tables_of

@@ -56,7 +56,7 @@ module _ (P : Parts) {M : Type 1} {𝓤 : Ura M} (𝓛 : Logic 𝓤) (at_mem : M
 
   back : (k o : ℕ) → b.ptr ≡ block_ptr k o → (h : P.head.Denot)
       → ent 𝓤 (sep 𝓤 (sem 𝓛 ((mem (H P)).own_at h k (o + at_head P))) (sem 𝓛 (Rest k o)))
-        (sem 𝓛 ((mem (Block P)).own_at (with_head b h) rb ro))
+      (sem 𝓛 ((mem (Block P)).own_at (with_head b h) rb ro))
   back k o at h = qed 𝓛 (‵ (part_at (H P) full_share h k (o + at_head P)) ∷ ‵ (Rest k o) ∷ []) ∵
       move ! (1 ∷ []) $ fsplit ! $ move ! (2 ∷ 0 ∷ []) $ fjoin ! $ block_made P ! (with_head b h) (block_ptr k o) at $
       move ! (1 ∷ 0 ∷ []) $ block_lies P ! (with_head b h) (word (block_ptr k o) ∷ []) rb ro $ done !
@@ -92,7 +92,7 @@ module _ (P : Parts) {M : Type 1} {𝓤 : Ura M} (𝓛 : Logic 𝓤) (at_mem : M
       move ! (1 ∷ 2 ∷ []) $ fjoin ! $ move ! (2 ∷ 3 ∷ 4 ∷ 1 ∷ 0 ∷ []) $ group ! 5 $
       use1 𝓛 (later (some (λ (δ : GName). Lent k (o + at_head P) δ)))
       (lends_Part 𝓛 (Block P) (H P) (with_head b) (named 0) κ q rb ro k (o + at_head P) γ (sem 𝓛 (Rest k o))
-        (back k o at) code code b.head) $
+      (back k o at) code code b.head) $
       await ! tt $ pick ! (λ δ. returns ! (look_at ! 0 refl) $ free_all ! refl $ by ! (exits k (o + at_head P) δ))))
 
   entry : ent 𝓤 (on_entry 𝓛 (ended P).signature bound.0.0 bound.0.1 (self, tt) (us, tt))
@@ -112,7 +112,7 @@ meets P {𝓤 = 𝓤} 𝓛 at_mem run 𝓣 =
     (λ z. let κs = z.0.0 in let qs = z.0.1 in let On = on_entry 𝓛 (ended P).signature κs qs z.0.3 z.0.4 in
     via 𝓤 On (fst∗ 𝓤 On ((clauses P 𝓛 at_mem run κs z.0.3).requires z.1))
     (entry P 𝓛 at_mem run 𝓣.C 𝓣.Λ κs.0 κs.1.0 κs.1.1.0 κs.1.1.1.0 qs.0 qs.1.0 qs.1.1.0 qs.1.1.1.0 z.0.2.0 z.0.2.1.0
-      z.0.3.0.ref_ptr.0 z.0.3.0.ref_ptr.1 z.0.3.0.ghost_name z.0.3.0.now z.0.4.0))
+    z.0.3.0.ref_ptr.0 z.0.3.0.ref_ptr.1 z.0.3.0.ghost_name z.0.3.0.now z.0.4.0))
 
 pub head_mut_spec : {M : Type 1} → stated.statement M
 unfolding tables_of

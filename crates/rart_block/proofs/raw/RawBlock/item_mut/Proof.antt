@@ -35,7 +35,8 @@ module _ (P : Parts) where
   clauses 𝓛 = F.clauses P.head P.item (number P.width) 𝓛
 
   abbrev stayed : Stays ended.signature.params ended.kept
-  stayed = (stay_dropped (mut_ref_to (0 ∷ []) tt (plain (λ _. Block P))) no, (stay_dropped (plain (λ _. usize)) yes, tt))
+  stayed = (stay_dropped (mut_ref_to (0 ∷ []) tt (plain (λ _. Block P))) no,
+      (stay_dropped (plain (λ _. usize)) yes, tt))
 
   abbrev Asks : Value P → ℕ → Type 0
   Asks b i = (i < length b.items) × (b.apart ≡ false)
@@ -55,7 +56,8 @@ module _ (P : Parts) {M : Type 1} {𝓤 : Ura M} (𝓛 : Logic 𝓤) (at_mem : M
   tokens = ‵ (flft κ₁ q₁) ⊛ ‵ (flft κ₂ q₂) ⊛ ‵ (flft κ₃ q₃) ⊛ ‵ ftrue
 
   abbrev bound : (walk_of 𝓛 (ended P) (stayed P) (clauses P 𝓛 at_mem run)).Ghost
-  bound = (((κ, (κ₁, (κ₂, (κ₃, tt)))), (q, (q₁, (q₂, (q₃, tt)))), (short₁, (short₂, tt)), (self, (i, tt)), (us, (vs, tt))), tt)
+  bound = (((κ, (κ₁, (κ₂, (κ₃, tt)))), (q, (q₁, (q₂, (q₃, tt)))), (short₁, (short₂, tt)), (self, (i, tt)),
+      (us, (vs, tt))), tt)
 
   abbrev Post : Val → SProp 𝓤
   Post = (walk_of 𝓛 (ended P) (stayed P) (clauses P 𝓛 at_mem run)).post bound
@@ -79,7 +81,7 @@ module _ (P : Parts) {M : Type 1} {𝓤 : Ura M} (𝓛 : Logic 𝓤) (at_mem : M
 
   back : (k o : ℕ) → b.ptr ≡ block_ptr k o → Asks P b i → w P * s < 2 ^ 63 → 0 < w P → (x : P.item.Denot)
       → ent 𝓤 (sep 𝓤 (sem 𝓛 ((mem (X P)).own_at x k (i * s + (o + at_places P)))) (sem 𝓛 (Rest k o)))
-        (sem 𝓛 ((mem (Block P)).own_at (new x) rb ro))
+      (sem 𝓛 ((mem (Block P)).own_at (new x) rb ro))
   back k o at asked fit pos x =
       let p : ℕ = o + at_places P in
       let xs = set b.items i x in
@@ -109,7 +111,7 @@ module _ (P : Parts) {M : Type 1} {𝓤 : Ura M} (𝓛 : Logic 𝓤) (at_mem : M
       → ent 𝓤 (⋆ 𝓛 (Lent k o x δ ∷ tokens ∷ [])) (Post (vptr k o))
   exits k o x e δ = qed 𝓛 (Lent k o x δ ∷ tokens ∷ []) ∵
       suffices ! _ (ends_at 𝓛 (ended P) (stayed P) (clauses P 𝓛 at_mem run) bound (vptr k o) (lent k o x δ)
-        (tt, (tt, tt)) (tt, (tt, tt))) $
+      (tt, (tt, tt)) (tt, (tt, tt))) $
       split3 ! $ nothing ! $ nothing ! $ fjoin ! $ nothing ! $ fjoin ! $ join ! $ move ! (1 ∷ 3 ∷ []) $ join ! $
       join ! $ frame ! $ says ! e $ done !
 
@@ -143,7 +145,7 @@ module _ (P : Parts) {M : Type 1} {𝓤 : Ura M} (𝓛 : Logic 𝓤) (at_mem : M
       sets_last ! (addr ! (through ! refl (stop !))) refl (tt, tt) $
       exec ! C Λ En (after 3 (function P).body) (at_ret En Post) $ sets ! (of_opd ! (get ! refl)) refl (tt, tt) $
       use1 𝓛 (given (length b.items ≡ n) (‵ (part_at (X P) full_share x k (i * s + p))
-        ⊛ ‵ (others (shares (X P)) full_share b.items i k p)))
+      ⊛ ‵ (others (shares (X P)) full_share b.items i k p)))
       (take_out (Item_of P) 𝓛 n b.items i d k p here) $ learn ! (λ _. split ! $
       -- [the item; the other items; their room; nothing; the header; the deed; the pointer; the open borrow; ..]
       move ! (4 ∷ 6 ∷ []) $ fjoin ! $ move ! (5 ∷ 0 ∷ []) $ fjoin ! $ move ! (3 ∷ 0 ∷ []) $ fjoin ! $
@@ -152,7 +154,7 @@ module _ (P : Parts) {M : Type 1} {𝓤 : Ura M} (𝓛 : Logic 𝓤) (at_mem : M
       move ! (3 ∷ 4 ∷ 5 ∷ 1 ∷ 0 ∷ []) $ group ! 5 $ move ! (1 ∷ []) $ drop ! $
       use1 𝓛 (later (some (λ (δ : GName). Lent k (i * s + p) x δ)))
       (lends_Part 𝓛 (Block P) (X P) new (named 0) κ q rb ro k (i * s + p) γ (sem 𝓛 (Rest k o))
-        (back k o at asked fit pos) code code x) $
+      (back k o at asked fit pos) code code x) $
       await ! tt $ pick ! (λ δ. returns ! (look_at ! 0 refl) $ free_all ! refl $
       by ! (exits k (i * s + p) x (any-default b.items i d x (omega arith)) δ))))))
 
@@ -163,22 +165,23 @@ module _ (P : Parts) {M : Type 1} {𝓤 : Ura M} (𝓛 : Logic 𝓤) (at_mem : M
       split ! $ move ! (2 ∷ []) $ fsplit ! $ fsplit3 ! $ feq_l ! (λ e. move ! (2 ∷ []) $ fsplit ! $ fsplit ! $
       feq_l ! (λ f. flt_l ! (λ fi. keep ! (1 ∷ 2 ∷ 3 ∷ 4 ∷ []) $
       by ! (subst (λ (ws : List Val × List Val). ent 𝓤 (⋆ 𝓛 Had)
-        (WpFn 𝓤 𝓛.H C Λ (function P) (ws.0 ++ (ws.1 ++ [])) Post)) (λ j. (sym e j, sym f j)) (walk asked fi)))))
+      (WpFn 𝓤 𝓛.H C Λ (function P) (ws.0 ++ (ws.1 ++ [])) Post)) (λ j. (sym e j, sym f j)) (walk asked fi)))))
 
 meets : (P : Parts) {M : Type 1} {𝓤 : Ura M} (𝓛 : Logic 𝓤) (at_mem : Memory → SProp 𝓤) (run : Routine → Fun 𝓤)
     (𝓣 : Tables 𝓤 𝓛.H)
     → Meets 𝓛 (ended P).signature (WpFn 𝓤 𝓛.H 𝓣.C 𝓣.Λ (function P)) (closing 𝓛 (ended P) (clauses P 𝓛 at_mem run))
 meets P {𝓤 = 𝓤} 𝓛 at_mem run 𝓣 =
-    walk_Meets 𝓛 (ended P) (stayed P)
-    (Goes-spent_ref 𝓛 4 (0 ∷ []) tt (plain (λ _. Block P)),
-      (Goes-dropped 𝓛 4 (plain (λ _. usize)) yes (λ κs x f. refl), tt))
+    walk_Meets 𝓛 (ended P) (stayed P) (
+      Goes-spent_ref 𝓛 4 (0 ∷ []) tt (plain (λ _. Block P)),
+      (Goes-dropped 𝓛 4 (plain (λ _. usize)) yes (λ κs x f. refl), tt),
+    )
     (clauses P 𝓛 at_mem run) (WpFn 𝓤 𝓛.H 𝓣.C 𝓣.Λ (function P)) (WpFn-mono 𝓤 𝓛.H 𝓛.laws 𝓣 (function P))
     (λ z. let κs = z.0.0 in let qs = z.0.1 in
     required 𝓤 (fact 𝓤 (κs.1.0 ⊑ P.head.lives) ∷ fact 𝓤 (κs.1.1.0 ⊑ P.item.lives)
-      ∷ fact 𝓤 (κs.1.1.1.0 ⊑ (number P.width).lives) ∷ fact 𝓤 (size (layout (Block P)) < 2 ^ 63) ∷ [])
+    ∷ fact 𝓤 (κs.1.1.1.0 ⊑ (number P.width).lives) ∷ fact 𝓤 (size (layout (Block P)) < 2 ^ 63) ∷ [])
     (Asks P z.0.3.0.now z.0.3.1.0) (on_entry 𝓛 (ended P).signature κs qs z.0.3 z.0.4)
     (entry P 𝓛 at_mem run 𝓣.C 𝓣.Λ κs.0 κs.1.0 κs.1.1.0 κs.1.1.1.0 qs.0 qs.1.0 qs.1.1.0 qs.1.1.1.0 z.0.2.0 z.0.2.1.0
-      z.0.3.0.ref_ptr.0 z.0.3.0.ref_ptr.1 z.0.3.0.ghost_name z.0.3.0.now z.0.3.1.0 z.0.4.0 z.0.4.1.0))
+    z.0.3.0.ref_ptr.0 z.0.3.0.ref_ptr.1 z.0.3.0.ghost_name z.0.3.0.now z.0.3.1.0 z.0.4.0 z.0.4.1.0))
 
 pub item_mut_spec : {M : Type 1} → stated.statement M
 unfolding tables_of

@@ -29,7 +29,8 @@ module _ (P : Parts) where
   clauses 𝓛 = F.clauses P.head P.item (number P.width) 𝓛
 
   abbrev stayed : Stays ended.signature.params ended.kept
-  stayed = (stay_dropped (RefOf (0 ∷ []) tt (plain (λ _. Block P)) (λ _. tt)) yes, (stay_dropped (plain (λ _. usize)) yes, tt))
+  stayed = (stay_dropped (RefOf (0 ∷ []) tt (plain (λ _. Block P)) (λ _. tt)) yes,
+      (stay_dropped (plain (λ _. usize)) yes, tt))
 
   abbrev Asks : Value P → ℕ → Type 0
   Asks b len = (len ≡ length b.items) × (b.apart ≡ false)
@@ -45,7 +46,8 @@ module _ (P : Parts) {M : Type 1} {𝓤 : Ura M} (𝓛 : Logic 𝓤) (at_mem : M
   tokens = ‵ (flft κ₁ q₁) ⊛ ‵ (flft κ₂ q₂) ⊛ ‵ (flft κ₃ q₃) ⊛ ‵ ftrue
 
   abbrev bound : (walk_of 𝓛 (ended P) (stayed P) (clauses P 𝓛 at_mem run)).Ghost
-  bound = (((κ, (κ₁, (κ₂, (κ₃, tt)))), (q, (q₁, (q₂, (q₃, tt)))), (short₁, (short₂, tt)), (self, (len, tt)), (us, (vs, tt))), tt)
+  bound = (((κ, (κ₁, (κ₂, (κ₃, tt)))), (q, (q₁, (q₂, (q₃, tt)))), (short₁, (short₂, tt)), (self, (len, tt)),
+      (us, (vs, tt))), tt)
 
   abbrev Post : Val → SProp 𝓤
   Post = (walk_of 𝓛 (ended P) (stayed P) (clauses P 𝓛 at_mem run)).post bound
@@ -61,7 +63,7 @@ module _ (P : Parts) {M : Type 1} {𝓤 : Ura M} (𝓛 : Logic 𝓤) (at_mem : M
   exits k o =
       qed 𝓛 (‵ (Shown k o) ∷ ‵ (flft κ q) ∷ tokens ∷ []) ∵
       suffices ! _ (ends_at 𝓛 (ended P) (stayed P) (clauses P 𝓛 at_mem run) bound (slice_val (k, o) len) (shown k o)
-        (tt, (tt, tt)) (tt, (tt, tt))) $
+      (tt, (tt, tt)) (tt, (tt, tt))) $
       says ! refl $ move ! (1 ∷ 2 ∷ []) $ join ! $ frame ! $ nothing ! $ nothing ! $ fjoin ! $ nothing ! $ fjoin ! $
       done !
 
@@ -84,7 +86,8 @@ module _ (P : Parts) {M : Type 1} {𝓤 : Ura M} (𝓛 : Logic 𝓤) (at_mem : M
       move ! (1 ∷ 2 ∷ []) $ shows_pointer ! tt k o rb (ro + 0) (λ _. first ! $ blocks ! $
       sets ! (addr ! (through ! refl (fld ! refl (hop ! (look ! 0 refl) (fld ! refl (stop !)))))) refl (tt, tt) $
       hides_pointer ! tt k o rb (ro + 0) $
-      sets_last ! (agg ! (and_then ! (get ! refl) (and_then ! (get ! refl) (no_more !)))) refl (tt, (tt, (record { fits = fl }, tt))) $
+      sets_last ! (agg ! (and_then ! (get ! refl) (and_then ! (get ! refl) (no_more !)))) refl
+      (tt, (tt, (record { fits = fl }, tt))) $
       exec ! C Λ En (after 1 (function P).body) (at_ret En Post) $
       sets ! (of_opd ! (get ! refl)) refl (tt, (tt, (record { fits = fl }, tt))) $
       -- [the token; the items; the tokens]
@@ -100,22 +103,23 @@ module _ (P : Parts) {M : Type 1} {𝓤 : Ura M} (𝓛 : Logic 𝓤) (at_mem : M
       split ! $ move ! (2 ∷ []) $ fsplit ! $ fsplit ! $ feq_l ! (λ e. move ! (1 ∷ []) $ fsplit ! $ fsplit ! $
       feq_l ! (λ f. flt_l ! (λ fl. keep ! (1 ∷ 2 ∷ 3 ∷ []) $
       by ! (subst (λ (ws : List Val × List Val). ent 𝓤 (⋆ 𝓛 Had)
-        (WpFn 𝓤 𝓛.H C Λ (function P) (ws.0 ++ (ws.1 ++ [])) Post)) (λ j. (sym e j, sym f j)) (walk asked fl)))))
+      (WpFn 𝓤 𝓛.H C Λ (function P) (ws.0 ++ (ws.1 ++ [])) Post)) (λ j. (sym e j, sym f j)) (walk asked fl)))))
 
 meets : (P : Parts) {M : Type 1} {𝓤 : Ura M} (𝓛 : Logic 𝓤) (at_mem : Memory → SProp 𝓤) (run : Routine → Fun 𝓤)
     (𝓣 : Tables 𝓤 𝓛.H)
     → Meets 𝓛 (ended P).signature (WpFn 𝓤 𝓛.H 𝓣.C 𝓣.Λ (function P)) (closing 𝓛 (ended P) (clauses P 𝓛 at_mem run))
 meets P {𝓤 = 𝓤} 𝓛 at_mem run 𝓣 =
-    walk_Meets 𝓛 (ended P) (stayed P)
-    (Goes-dropped 𝓛 4 (RefOf (0 ∷ []) tt (plain (λ _. Block P)) (λ _. tt)) yes (λ κs x f. refl),
-      (Goes-dropped 𝓛 4 (plain (λ _. usize)) yes (λ κs x f. refl), tt))
+    walk_Meets 𝓛 (ended P) (stayed P) (
+      Goes-dropped 𝓛 4 (RefOf (0 ∷ []) tt (plain (λ _. Block P)) (λ _. tt)) yes (λ κs x f. refl),
+      (Goes-dropped 𝓛 4 (plain (λ _. usize)) yes (λ κs x f. refl), tt),
+    )
     (clauses P 𝓛 at_mem run) (WpFn 𝓤 𝓛.H 𝓣.C 𝓣.Λ (function P)) (WpFn-mono 𝓤 𝓛.H 𝓛.laws 𝓣 (function P))
     (λ z. let κs = z.0.0 in let qs = z.0.1 in
     required 𝓤 (fact 𝓤 (κs.1.0 ⊑ P.head.lives) ∷ fact 𝓤 (κs.1.1.0 ⊑ P.item.lives)
-      ∷ fact 𝓤 (κs.1.1.1.0 ⊑ (number P.width).lives) ∷ fact 𝓤 (size (layout (Block P)) < 2 ^ 63) ∷ [])
+    ∷ fact 𝓤 (κs.1.1.1.0 ⊑ (number P.width).lives) ∷ fact 𝓤 (size (layout (Block P)) < 2 ^ 63) ∷ [])
     (Asks P z.0.3.0.now z.0.3.1.0) (on_entry 𝓛 (ended P).signature κs qs z.0.3 z.0.4)
     (entry P 𝓛 at_mem run 𝓣.C 𝓣.Λ κs.0 κs.1.0 κs.1.1.0 κs.1.1.1.0 qs.0 qs.1.0 qs.1.1.0 qs.1.1.1.0 z.0.2.0 z.0.2.1.0
-      z.0.3.0.ref_ptr.0 z.0.3.0.ref_ptr.1 z.0.3.0.now z.0.3.1.0 z.0.4.0 z.0.4.1.0))
+    z.0.3.0.ref_ptr.0 z.0.3.0.ref_ptr.1 z.0.3.0.now z.0.3.1.0 z.0.4.0 z.0.4.1.0))
 
 pub items_spec : {M : Type 1} → stated.statement M
 unfolding tables_of

@@ -53,7 +53,8 @@ module _ (P : Parts) {M : Type 1} {𝓤 : Ura M} (𝓛 : Logic 𝓤) (at_mem : M
   tokens = ‵ (flft κ₁ q₁) ⊛ ‵ (flft κ₂ q₂) ⊛ ‵ (flft κ₃ q₃) ⊛ ‵ ftrue
 
   abbrev bound : (walk_of 𝓛 (ended P) (stayed P) (clauses P 𝓛 at_mem run)).Ghost
-  bound = (((κ, (κ₁, (κ₂, (κ₃, tt)))), (q, (q₁, (q₂, (q₃, tt)))), (short₁, (short₂, tt)), (self, (len, tt)), (us, (vs, tt))), tt)
+  bound = (((κ, (κ₁, (κ₂, (κ₃, tt)))), (q, (q₁, (q₂, (q₃, tt)))), (short₁, (short₂, tt)), (self, (len, tt)),
+      (us, (vs, tt))), tt)
 
   abbrev Post : Val → SProp 𝓤
   Post = (walk_of 𝓛 (ended P) (stayed P) (clauses P 𝓛 at_mem run)).post bound
@@ -76,7 +77,7 @@ module _ (P : Parts) {M : Type 1} {𝓤 : Ura M} (𝓛 : Logic 𝓤) (at_mem : M
   exits : us ≡ vptr rb ro ∷ [] → (v : Val) (r : Vec P.item.Denot Lodged) → Seated r → ent 𝓤 (⋆ 𝓛 (Ends r v)) (Post v)
   exits passed v r seated = qed 𝓛 (Ends r v) ∵
       suffices ! _ (ends_at 𝓛 (ended P) (stayed P) (clauses P 𝓛 at_mem run) bound v r
-        (new, (tt, tt)) (tt, (tt, tt))) $
+      (new, (tt, tt)) (tt, (tt, tt))) $
       move ! (2 ∷ 4 ∷ []) $ join ! $ move ! (1 ∷ 2 ∷ []) $ feq_i ! (List Val) us (vptr rb ro ∷ []) passed $
       fjoin3 ! $ nothing ! $ nothing ! $ fjoin ! $ move ! (1 ∷ 0 ∷ []) $ fjoin ! $
       -- [self; the tokens; the vector]
@@ -107,11 +108,11 @@ module _ (P : Parts) {M : Type 1} {𝓤 : Ura M} (𝓛 : Logic 𝓤) (at_mem : M
       rewrite ! 0 (λ (n : ℕ). ‵ (lodged (X P) (block_ptr k p) n (w P) b.items)) (sym asked.0) refl $
       let y : (Lodges P.item 𝓛 at_mem run).Ghost = at_lodge P.item 𝓛 at_mem run k p len (w P) b.items in
       use1 𝓛 (raw ((Lodges P.item 𝓛 at_mem run).pre y)) (places_go P.item 𝓛 at_mem run k p len (w P) b.items asked.0
-        (subst (λ (n : ℕ). n ≤ w P) (sym asked.0) b.few) b.narrow) $
+      (subst (λ (n : ℕ). n ≤ w P) (sym asked.0) b.few) b.narrow) $
       calls_at_last ! fm (Lodges P.item 𝓛 at_mem run) callee y
       (and_then ! (get ! refl) (and_then ! (get ! refl) (and_then ! (num_lit ! P.fits) (no_more !)))) (λ v.
       use1 𝓛 (later (some (λ (r : Vec P.item.Denot Lodged).
-        given (Lodged_as P.item 𝓛 at_mem run k p len (w P) b.items r) (‵ (Vector.own_val r (v ∷ []))))))
+      given (Lodged_as P.item 𝓛 at_mem run k p len (w P) b.items r) (‵ (Vector.own_val r (v ∷ []))))))
       (lodge_gives P.item 𝓛 at_mem run k p len (w P) b.items v) $ await ! tt $ pick ! (λ r. learn ! (λ is.
       tells ! Vector (row_laws (X P) (param_laws 1 P.item P.item_laws)) r (v ∷ []) (λ v' e good.
       let one : v ≡ v' = ap only e in
@@ -132,7 +133,7 @@ module _ (P : Parts) {M : Type 1} {𝓤 : Ura M} (𝓛 : Logic 𝓤) (at_mem : M
       split ! $ move ! (2 ∷ []) $ fsplit ! $ fsplit3 ! $ feq_l ! (λ e. move ! (2 ∷ []) $ fsplit ! $ fsplit ! $
       feq_l ! (λ f. flt_l ! (λ fl. keep ! (1 ∷ 2 ∷ 3 ∷ 4 ∷ []) $
       by ! (subst (λ (ws : List Val × List Val). ent 𝓤 (⋆ 𝓛 Had)
-        (WpFn 𝓤 𝓛.H C Λ (function P) (ws.0 ++ (ws.1 ++ [])) Post)) (λ j. (sym e j, sym f j)) (walk e asked fl)))))
+      (WpFn 𝓤 𝓛.H C Λ (function P) (ws.0 ++ (ws.1 ++ [])) Post)) (λ j. (sym e j, sym f j)) (walk e asked fl)))))
 
 meets : (P : Parts) {M : Type 1} {𝓤 : Ura M} (𝓛 : Logic 𝓤) (at_mem : Memory → SProp 𝓤) (run : Routine → Fun 𝓤)
     (𝓣 : Tables 𝓤 𝓛.H) → Triple 𝓤 (𝓣.C (lodge_key P.item)) (Lodges P.item 𝓛 at_mem run)
@@ -143,10 +144,11 @@ meets P {𝓤 = 𝓤} 𝓛 at_mem run 𝓣 callee =
     (clauses P 𝓛 at_mem run) (WpFn 𝓤 𝓛.H 𝓣.C 𝓣.Λ (function P)) (WpFn-mono 𝓤 𝓛.H 𝓛.laws 𝓣 (function P))
     (λ z. let κs = z.0.0 in let qs = z.0.1 in
     required 𝓤 (fact 𝓤 (κs.1.0 ⊑ P.head.lives) ∷ fact 𝓤 (κs.1.1.0 ⊑ P.item.lives)
-      ∷ fact 𝓤 (κs.1.1.1.0 ⊑ (number P.width).lives) ∷ fact 𝓤 (size (layout (Block P)) < 2 ^ 63) ∷ [])
+    ∷ fact 𝓤 (κs.1.1.1.0 ⊑ (number P.width).lives) ∷ fact 𝓤 (size (layout (Block P)) < 2 ^ 63) ∷ [])
     (Asks P z.0.3.0.now z.0.3.1.0) (on_entry 𝓛 (ended P).signature κs qs z.0.3 z.0.4)
-    (λ asked. entry P 𝓛 at_mem run 𝓣.C 𝓣.Λ (fm_of 𝓤 𝓛.H 𝓛.laws 𝓣) callee κs.0 κs.1.0 κs.1.1.0 κs.1.1.1.0 qs.0 qs.1.0 qs.1.1.0 qs.1.1.1.0 z.0.2.0 z.0.2.1.0
-      z.0.3.0.ref_ptr.0 z.0.3.0.ref_ptr.1 z.0.3.0.ghost_name z.0.3.0.now z.0.3.1.0 z.0.4.0 z.0.4.1.0 asked))
+    (λ asked. entry P 𝓛 at_mem run 𝓣.C 𝓣.Λ (fm_of 𝓤 𝓛.H 𝓛.laws 𝓣) callee
+      κs.0 κs.1.0 κs.1.1.0 κs.1.1.1.0 qs.0 qs.1.0 qs.1.1.0 qs.1.1.1.0 z.0.2.0 z.0.2.1.0
+    z.0.3.0.ref_ptr.0 z.0.3.0.ref_ptr.1 z.0.3.0.ghost_name z.0.3.0.now z.0.3.1.0 z.0.4.0 z.0.4.1.0 asked))
 
 pub take_spec : {M : Type 1} → stated.statement M
 unfolding tables_of
@@ -156,4 +158,4 @@ take_spec 𝓤 𝓛 𝓜 𝓡 wired Hr Tr n LH LT fits =
     let spec = triple_of 𝓛 (ended P).signature (F.spec Hr Tr (number n) 𝓛 𝓜.mem 𝓡.returns) in
     entered 𝓤 𝓛.H spec 𝓣.C 𝓣.Λ (name (args P)) (function P) (code.unfolded 𝓤 𝓛.H 𝓜 𝓡 wired (types P))
     (meets P 𝓛 𝓜.mem 𝓡.returns 𝓣
-      (lodge.met 𝓤 𝓛 𝓜 𝓡 (code.calls-std_alloc::vec::lodge 𝓡.env wired) (timeless Tr) (timeless_laws Tr LT)))
+    (lodge.met 𝓤 𝓛 𝓜 𝓡 (code.calls-std_alloc::vec::lodge 𝓡.env wired) (timeless Tr) (timeless_laws Tr LT)))

@@ -7,7 +7,7 @@ use Rattle.rart_block.proofs.Walk.{Item, ⋆, ‵, ◌⊛◌, some, at_ret, ◌$
 use Rattle.rart_block.proofs.Walk.{join, pick, rewrite, suffices, done, fsplit, fsplit3, fjoin, whole, sub, agg, addr}
 use Rattle.rart_block.proofs.Walk.{and_then, blocks, enter, exec, first, fld, load, look, no_more, of_opd, returns}
 use Rattle.rart_block.proofs.Walk.{stop, well_typed, alloc_all, env, free_all, get, get_in, look_at, pass_all, sets}
-use Rattle.rart_block.proofs.Walk.{sets_last, through, part_out, RattleType, owns, layout, number, mem, no, yes}
+use Rattle.rart_block.proofs.Walk.{sets_last, through, part_out, RattleType, owns, layout, number, no, yes}
 use Rattle.rart_block.proofs.Walk.{block_ptr, plain, nothing, Clauses, Ended, closing, on_entry, Meets, triple_of}
 use Rattle.rart_block.proofs.Walk.{entered, Stays, stay_dropped, walk_of, walk_Meets, ends_at, says, Goes-dropped}
 use Rattle.rart_block.proofs.Walk.{Goes-blank, as_raw, Good, word, after, tells, two_made}
@@ -68,7 +68,7 @@ module _ (P : Parts) {M : Type 1} {𝓤 : Ura M} (𝓛 : Logic 𝓤) (at_mem : M
   exits : (k o : ℕ) (v hv : Val) → ent 𝓤 (⋆ 𝓛 (‵ (Made k o v hv) ∷ tokens ∷ [])) (Post (made v hv k o))
   exits k o v hv = qed 𝓛 (‵ (Made k o v hv) ∷ tokens ∷ []) ∵
       suffices ! _ (ends_at 𝓛 (ended P) (stayed P) (clauses P 𝓛 at_mem run) bound (made v hv k o) (result k o)
-        (tt, (tt, tt)) (tt, (tt, tt))) $
+      (tt, (tt, tt)) (tt, (tt, tt))) $
       says ! refl $ nothing ! $ nothing ! $ fjoin ! $ nothing ! $ fjoin ! $ join ! $ move ! (1 ∷ 0 ∷ []) $ done !
 
   abbrev Had : ℕ → ℕ → Val → List (Item 𝓤)
@@ -82,7 +82,7 @@ module _ (P : Parts) {M : Type 1} {𝓤 : Ura M} (𝓛 : Logic 𝓤) (at_mem : M
       let room = room_typed P hv k o handle in
       qed 𝓛 (Had k o hv) ∵
       rewrite ! 0 (λ (z : List P.item.Denot × Bool).
-        ‵ (block_owned (H P) (X P) (w P) global_token (block_ptr k o) b.head z.0 z.1))
+      ‵ (block_owned (H P) (X P) (w P) global_token (block_ptr k o) b.head z.0 z.1))
       {x = ([], false)} (λ i. (asked.0 i, asked.1 i)) refl $ fsplit3 ! $
       use1 𝓛 (some (λ (v : Val). ‵ (fat full_share (layout P.head) k at v) ⊛ ‵ (P.head.own_val b.head (v ∷ []))))
       (part_out 𝓛 (H P) refl full_share b.head k at) $ pick ! (λ v. split ! $ well_typed ! (λ good.
@@ -96,7 +96,8 @@ module _ (P : Parts) {M : Type 1} {𝓤 : Ura M} (𝓛 : Logic 𝓤) (at_mem : M
       sets_last ! (of_opd ! (load ! (through ! refl (stop !)) (look ! 0 refl))) refl good $
       exec ! C Λ En (after 3 (function P).body) (at_ret En Post) $ sets ! (of_opd ! (get ! refl)) refl good $
       sets ! (of_opd ! (get ! refl)) refl good $
-      sets ! (agg ! (and_then ! (get ! refl) (and_then ! (get ! refl) (no_more !)))) refl (vacant_typed P hv k o handle) $
+      sets ! (agg ! (and_then ! (get ! refl) (and_then ! (get ! refl) (no_more !)))) refl
+      (vacant_typed P hv k o handle) $
       sets ! (agg ! (and_then ! (get ! refl) (no_more !))) refl room $
       sets ! (agg ! (and_then ! (get ! refl) (and_then ! (get ! refl) (no_more !)))) refl
       (as_fields (layout (H P) ∷ layout (Room P) ∷ []) (v ∷ room_val hv k o ∷ []) (good, (room, tt))) $
@@ -119,22 +120,24 @@ module _ (P : Parts) {M : Type 1} {𝓤 : Ura M} (𝓛 : Logic 𝓤) (at_mem : M
       move ! (1 ∷ []) $ fsplit ! $ block_had P ! b us (λ k o _ e. move ! (1 ∷ []) $ fsplit ! $
       tells ! heap.the_row heap_laws.the_row_laws a vs (λ hv f handle. keep ! (2 ∷ 0 ∷ 3 ∷ []) $
       by ! (subst (λ (ws : List Val × List Val). ent 𝓤 (⋆ 𝓛 (Had k o hv))
-        (WpFn 𝓤 𝓛.H C Λ (function P) (ws.0 ++ (ws.1 ++ [])) Post)) (λ j. (sym e j, sym f j)) (walk k o hv handle))))
+      (WpFn 𝓤 𝓛.H C Λ (function P) (ws.0 ++ (ws.1 ++ [])) Post)) (λ j. (sym e j, sym f j)) (walk k o hv handle))))
 
 meets : (P : Parts) {M : Type 1} {𝓤 : Ura M} (𝓛 : Logic 𝓤) (at_mem : Memory → SProp 𝓤) (run : Routine → Fun 𝓤)
     (𝓣 : Tables 𝓤 𝓛.H)
     → Meets 𝓛 (ended P).signature (WpFn 𝓤 𝓛.H 𝓣.C 𝓣.Λ (function P)) (closing 𝓛 (ended P) (clauses P 𝓛 at_mem run))
 meets P {𝓤 = 𝓤} 𝓛 at_mem run 𝓣 =
-    walk_Meets 𝓛 (ended P) (stayed P)
-    (Goes-blank 𝓛 3 (plain (λ _. Block P)) no (λ κs x f. tt),
-      (Goes-dropped 𝓛 3 (plain (λ _. heap.the_row)) yes (λ κs x f. refl), tt))
+    walk_Meets 𝓛 (ended P) (stayed P) (
+      Goes-blank 𝓛 3 (plain (λ _. Block P)) no (λ κs x f. tt),
+      (Goes-dropped 𝓛 3 (plain (λ _. heap.the_row)) yes (λ κs x f. refl), tt),
+    )
     (clauses P 𝓛 at_mem run) (WpFn 𝓤 𝓛.H 𝓣.C 𝓣.Λ (function P)) (WpFn-mono 𝓤 𝓛.H 𝓛.laws 𝓣 (function P))
     (λ z. let κs = z.0.0 in let qs = z.0.1 in
     required 𝓤 (fact 𝓤 (κs.0 ⊑ P.head.lives) ∷ fact 𝓤 (κs.1.0 ⊑ P.item.lives)
-      ∷ fact 𝓤 (κs.1.1.0 ⊑ (number P.width).lives) ∷ fact 𝓤 (size (layout (Block P)) < 2 ^ 63)
-      ∷ fact 𝓤 (size (layout (Room P)) < 2 ^ 63) ∷ [])
+    ∷ fact 𝓤 (κs.1.1.0 ⊑ (number P.width).lives) ∷ fact 𝓤 (size (layout (Block P)) < 2 ^ 63)
+    ∷ fact 𝓤 (size (layout (Room P)) < 2 ^ 63) ∷ [])
     (Asks P z.0.3.0) (on_entry 𝓛 (ended P).signature κs qs z.0.3 z.0.4)
-    (λ asked. entry P 𝓛 at_mem run 𝓣.C 𝓣.Λ κs.0 κs.1.0 κs.1.1.0 qs.0 qs.1.0 qs.1.1.0 z.0.3.0 z.0.3.1.0 z.0.4.0 z.0.4.1.0 asked))
+    (λ asked. entry P 𝓛 at_mem run 𝓣.C 𝓣.Λ κs.0 κs.1.0 κs.1.1.0 qs.0 qs.1.0 qs.1.1.0
+      z.0.3.0 z.0.3.1.0 z.0.4.0 z.0.4.1.0 asked))
 
 pub vacate_spec : {M : Type 1} → stated.statement M
 unfolding tables_of
