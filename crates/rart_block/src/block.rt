@@ -1,6 +1,6 @@
 //! A block, which a contract reads as its header, its keys and the list of its items.
 
-ghost use Rattle.std.specs.Prelude.{◌≡◌, [], ◌∷◌, ◌++◌, ◌≤◌, ◌<◌, ◌+◌, length, slice_get, get_or, remove};
+ghost use Rattle.std.specs.Prelude.{◌≡◌, ◌==◌, [], ◌∷◌, ◌++◌, ◌≤◌, ◌<◌, ◌+◌, length, slice_get, get_or, remove};
 ghost use Rattle.std.specs.Prelude.{Some, IfOk, IfErr, MatchOption};
 ghost use Rattle.std.specs.List.{insert};
 ghost use Rattle.rart_block.specs.Contents.{with_items};
@@ -10,7 +10,7 @@ use std::alloc::Global;
 use std::marker::Model;
 use std_alloc::room::may_hold;
 
-/// What lies in a block before its places. The length is the last field: it takes the room that aligns them.
+/// What is stored before the places. The length comes last, in bytes that may be needed to align the places.
 pub struct Header<H, K> {
     head: H,
     keys: K,
@@ -45,7 +45,7 @@ impl<H, K, T, const W: usize> Block<H, K, T, W> {
     ///
     /// # Errors
     ///
-    /// The header and the keys, if the allocation fails or `W` places are more than an allocation can have.
+    /// The header and the keys, if the allocation fails or can't have `W` places.
     pub fn new(alloc: Global, head: H, keys: K) -> Result<Self, (H, K)>
         ensures ok { IfOk result (λ b. b ≡ record { head = head; keys = keys; items = [] }) }
         ensures unchanged { IfErr result (λ e. e ≡ (head, keys)) }
@@ -91,6 +91,13 @@ impl<H, K, T, const W: usize> Block<H, K, T, W> {
         self.raw.head().len as usize
     }
 
+    /// Returns whether there are no items.
+    pub fn is_empty(&self) -> bool
+        ensures { result ≡ (length self.now.items == 0) }
+    {
+        self.len() == 0
+    }
+
     /// Returns the items in order.
     pub fn as_slice(&self) -> &[T]
         ensures { result.now ≡ self.now.items }
@@ -99,7 +106,7 @@ impl<H, K, T, const W: usize> Block<H, K, T, W> {
         self.raw.items(len)
     }
 
-    /// Adds an item after the last.
+    /// Appends an item.
     pub fn push(&mut self, item: T)
         requires { length self.old.items < W }
         ensures { self.new ≡ with_items self.old (self.old.items ++ item ∷ []) }
@@ -111,7 +118,7 @@ impl<H, K, T, const W: usize> Block<H, K, T, W> {
         self.raw.give(items);
     }
 
-    /// Inserts an item at place `at`. The items from there on move one place up.
+    /// Inserts an item at place `at`. The items from there on move up by one place.
     pub fn insert(&mut self, at: usize, item: T)
         requires { (at ≤ length self.old.items) × (length self.old.items < W) }
         ensures { self.new ≡ with_items self.old (insert self.old.items at item) }
@@ -123,7 +130,7 @@ impl<H, K, T, const W: usize> Block<H, K, T, W> {
         self.raw.give(items);
     }
 
-    /// Removes the item at place `at` and returns it. The items above move one place down.
+    /// Removes the item at place `at` and returns it. The items above move down by one place.
     pub fn remove(&mut self, at: usize) -> T
         requires { at < length self.old.items }
         ensures taken { slice_get self.old.items at ≡ Some result }
@@ -149,7 +156,7 @@ impl<H, K, T, const W: usize> Block<H, K, T, W> {
         Some(self.remove(len - 1))
     }
 
-    /// Moves all items of another block behind the last item.
+    /// Appends all items of another block, which is empty afterwards.
     pub fn append<G, L, const U: usize>(&mut self, source: &mut Block<G, L, T, U>)
         requires { length self.old.items + length source.old.items ≤ W }
         ensures filled { self.new ≡ with_items self.old (self.old.items ++ source.old.items) }

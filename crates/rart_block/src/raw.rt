@@ -41,7 +41,7 @@ impl<H, T, const W: usize> Room<H, T, W> {
     }
 }
 
-/// The owner of a block: its header, and the items in the first of its places unless those are held apart.
+/// The owner of a block: of its header, and of the items in its first places unless those are held apart.
 pub struct RawBlock<H, T, const W: usize> {
     // `*const`, so that a block of a longer lifetime is one of a shorter.
     ptr: *const Layout<H, T, W>,
@@ -99,7 +99,7 @@ impl<H, T, const W: usize> RawBlock<H, T, W> {
         unsafe { &mut *(&raw mut (*ptr).places as *mut T).add(at) }
     }
 
-    /// Returns the places as a vector that holds the items. They are held apart until `give` returns them.
+    /// Returns the places as a vector that holds the items. They are apart from the block until `give`.
     pub fn take(&mut self, len: usize) -> Vec<T, Lodged>
         requires { (len ≡ length self.old.items) × (self.old.apart ≡ false) }
         ensures block { (self.new.ptr ≡ self.old.ptr) × (self.new.head ≡ self.old.head) }
@@ -112,7 +112,7 @@ impl<H, T, const W: usize> RawBlock<H, T, W> {
         unsafe { lodge(&raw mut (*ptr).places as *mut T, len, W) }
     }
 
-    /// Returns the places that `take` gave.
+    /// Puts the places back, with the items that the vector holds now.
     pub fn give(&mut self, items: Vec<T, Lodged>)
         requires { (self.old.apart ≡ true) × (vec_capacity items ≡ W)
             × (vec_ptr items ≡ places_in H.row T.row W.row self.old.ptr) }

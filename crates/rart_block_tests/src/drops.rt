@@ -14,7 +14,7 @@ fn edit<'a, const W: usize>(block: &mut Held<'a, W>, drops: &'a Cell<usize>, pus
         }
     }
     for _ in 0..removed {
-        if block.len() > 0 {
+        if !block.is_empty() {
             drop(block.remove(0));
         }
     }

@@ -41,7 +41,9 @@ fn edit(block: &mut Words<16>, other: &mut Words<4>) {
     if block.len() <= 12 && other.len() <= 4 {
         block.append(other);
     }
-    while block.pop().is_some() {}
+    for _ in 0..8 {
+        let _ = block.pop();
+    }
 }
 
 fn is_quiet(alloc: Global) -> bool {

@@ -91,8 +91,14 @@ fn writes_to_the_header_leave_the_items(rt: HostRuntime) {
 
 fn empties(mut block: Bytes<4>) -> Option<(u64, [u8; 2])> {
     fill(&mut block, 0, 4);
-    while block.pop().is_some() {}
-    block.as_slice().is_empty().then(|| block.destroy_empty())
+    for _ in 0..4 {
+        let _ = block.pop();
+    }
+    if block.is_empty() {
+        Some(block.destroy_empty())
+    } else {
+        None
+    }
 }
 
 fn new_empties(alloc: Global) -> Option<(u64, [u8; 2])> {
