@@ -7,7 +7,12 @@ use std::cell::Cell;
 
 type Held<'a, const W: usize> = Block<Counted<'a>, Counted<'a>, Counted<'a>, W>;
 
-fn edit<'a, const W: usize>(block: &mut Held<'a, W>, drops: &'a Cell<usize>, pushed: usize, removed: usize) {
+fn edit<'a, const W: usize>(
+    block: &mut Held<'a, W>,
+    drops: &'a Cell<usize>,
+    pushed: usize,
+    removed: usize,
+) {
     for _ in 0..pushed {
         if block.len() < W {
             block.push(Counted(0, drops));
@@ -52,8 +57,11 @@ impl Drop for Digit<'_> {
 
 fn order(alloc: Global) -> Option<u64> {
     let number = Cell::new(0_u64);
-    let mut block =
-        Block::<Digit<'_>, Digit<'_>, Digit<'_>, 4>::new(alloc, Digit(8, &number), Digit(9, &number)).ok()?;
+    let mut block = Block::<Digit<'_>, Digit<'_>, Digit<'_>, 4>::new(
+        alloc,
+        Digit(8, &number),
+        Digit(9, &number),
+    ).ok()?;
     block.push(Digit(1, &number));
     block.push(Digit(2, &number));
     block.push(Digit(3, &number));

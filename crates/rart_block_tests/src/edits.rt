@@ -80,7 +80,9 @@ fn edit_at(step: usize, len: usize) -> Edit {
 fn agree<const W: usize>(block: &mut Few<W>, items: &mut Vec<u16>) -> bool {
     for step in 0..2000_usize {
         let edit = edit_at(step, items.len());
-        if wanted(items, W, edit) != Some(answer(block, edit)) || block.as_slice() != items.as_slice() {
+        if wanted(items, W, edit) != Some(answer(block, edit))
+            || block.as_slice() != items.as_slice()
+        {
             return false;
         }
     }

@@ -67,7 +67,12 @@ fn edits_and_drops_of_blocks_make_no_request(rt: HostRuntime) {
 }
 
 // The size of a block's allocation is at most that.
-fn fits<H: Drop, K: Drop, T: Drop, const W: usize>(alloc: Global, head: H, keys: K, bytes: usize) -> bool {
+fn fits<H: Drop, K: Drop, T: Drop, const W: usize>(
+    alloc: Global,
+    head: H,
+    keys: K,
+    bytes: usize,
+) -> bool {
     add_bytes(alloc, bytes);
     let made = Block::<H, K, T, W>::new(alloc, head, keys).is_ok();
     made && !were_more(alloc)

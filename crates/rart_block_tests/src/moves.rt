@@ -46,7 +46,11 @@ fn append_moves<const W: usize, const U: usize>(
     holds(block, 0, len.wrapping_add(more)) && holds(source, 9, 1)
 }
 
-fn append_moves_all<const W: usize, const U: usize>(alloc: Global, len: usize, more: usize) -> bool {
+fn append_moves_all<const W: usize, const U: usize>(
+    alloc: Global,
+    len: usize,
+    more: usize,
+) -> bool {
     match (
         Bytes::<W>::new(alloc, 0, [0, 0]),
         Bytes::<U>::new(alloc, 1, [1, 1]),

@@ -104,9 +104,10 @@ meets : (P : Parts) {M : Type 1} {𝓤 : Ura M} (𝓛 : Logic 𝓤) (at_mem : Me
     (𝓣 : Tables 𝓤 𝓛.H)
     → Meets 𝓛 (ended P).signature (WpFn 𝓤 𝓛.H 𝓣.C 𝓣.Λ (function P)) (closing 𝓛 (ended P) (clauses P 𝓛 at_mem run))
 meets P {𝓤 = 𝓤} 𝓛 at_mem run 𝓣 =
-    walk_Meets 𝓛 (ended P) (stayed P)
-    (Goes-blank 𝓛 3 (plain (λ _. Room P)) no (λ κs x f. tt),
-      (Goes-dropped 𝓛 3 (plain (λ _. H P)) no (λ κs x f. refl), tt))
+    walk_Meets 𝓛 (ended P) (stayed P) (
+      Goes-blank 𝓛 3 (plain (λ _. Room P)) no (λ κs x f. tt),
+      (Goes-dropped 𝓛 3 (plain (λ _. H P)) no (λ κs x f. refl), tt),
+    )
     (clauses P 𝓛 at_mem run) (WpFn 𝓤 𝓛.H 𝓣.C 𝓣.Λ (function P)) (WpFn-mono 𝓤 𝓛.H 𝓛.laws 𝓣 (function P))
     (λ z. let κs = z.0.0 in let qs = z.0.1 in
     required 𝓤 (fact 𝓤 (κs.0 ⊑ P.head.lives) ∷ fact 𝓤 (κs.1.0 ⊑ P.item.lives)
@@ -114,7 +115,7 @@ meets P {𝓤 = 𝓤} 𝓛 at_mem run 𝓣 =
     ∷ fact 𝓤 (size (layout (Block P)) < 2 ^ 63) ∷ [])
     (Asks P) (on_entry 𝓛 (ended P).signature κs qs z.0.3 z.0.4)
     (λ asked. entry P 𝓛 at_mem run 𝓣.C 𝓣.Λ κs.0 κs.1.0 κs.1.1.0 qs.0 qs.1.0 qs.1.1.0
-      z.0.3.0 z.0.3.1.0 z.0.4.0 z.0.4.1.0 asked))
+    z.0.3.0 z.0.3.1.0 z.0.4.0 z.0.4.1.0 asked))
 
 pub fill_spec : {M : Type 1} → stated.statement M
 unfolding tables_of

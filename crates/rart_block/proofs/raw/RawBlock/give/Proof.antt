@@ -51,8 +51,16 @@ module _ (P : Parts) {M : Type 1} {𝓤 : Ura M} (𝓛 : Logic 𝓤) (at_mem : M
   tokens = ‵ (flft κ₁ q₁) ⊛ ‵ (flft κ₂ q₂) ⊛ ‵ (flft κ₃ q₃) ⊛ ‵ ftrue
 
   abbrev bound : (walk_of 𝓛 (ended P) (stayed P) (clauses P 𝓛 at_mem run)).Ghost
-  bound = (((κ, (κ₁, (κ₂, (κ₃, tt)))), (q, (q₁, (q₂, (q₃, tt)))), (short₁, (short₂, tt)), (self, (r, tt)),
-      (us, (vs, tt))), tt)
+  bound = (
+    (
+      (κ, (κ₁, (κ₂, (κ₃, tt)))),
+      (q, (q₁, (q₂, (q₃, tt)))),
+      (short₁, (short₂, tt)),
+      (self, (r, tt)),
+      (us, (vs, tt)),
+    ),
+    tt,
+  )
 
   abbrev Post : Val → SProp 𝓤
   Post = (walk_of 𝓛 (ended P) (stayed P) (clauses P 𝓛 at_mem run)).post bound
@@ -136,7 +144,7 @@ meets P {𝓤 = 𝓤} 𝓛 at_mem run 𝓣 callee =
     ∷ fact 𝓤 (κs.1.1.1.0 ⊑ (number P.width).lives) ∷ fact 𝓤 (size (layout (Block P)) < 2 ^ 63) ∷ [])
     (Asks P z.0.3.0.now z.0.3.1.0) (on_entry 𝓛 (ended P).signature κs qs z.0.3 z.0.4)
     (λ asked. entry P 𝓛 at_mem run 𝓣.C 𝓣.Λ (fm_of 𝓤 𝓛.H 𝓛.laws 𝓣) callee
-      κs.0 κs.1.0 κs.1.1.0 κs.1.1.1.0 qs.0 qs.1.0 qs.1.1.0 qs.1.1.1.0 z.0.2.0 z.0.2.1.0
+    κs.0 κs.1.0 κs.1.1.0 κs.1.1.1.0 qs.0 qs.1.0 qs.1.1.0 qs.1.1.1.0 z.0.2.0 z.0.2.1.0
     z.0.3.0.ref_ptr.0 z.0.3.0.ref_ptr.1 z.0.3.0.ghost_name z.0.3.0.now z.0.3.1.0 z.0.4.0 z.0.4.1.0 asked))
 
 pub give_spec : {M : Type 1} → stated.statement M

@@ -29,8 +29,10 @@ module _ (P : Parts) where
   clauses 𝓛 = F.clauses P.head P.item (number P.width) 𝓛
 
   abbrev stayed : Stays ended.signature.params ended.kept
-  stayed = (stay_dropped (RefOf (0 ∷ []) tt (plain (λ _. Block P)) (λ _. tt)) yes,
-      (stay_dropped (plain (λ _. usize)) yes, tt))
+  stayed = (
+    stay_dropped (RefOf (0 ∷ []) tt (plain (λ _. Block P)) (λ _. tt)) yes,
+    (stay_dropped (plain (λ _. usize)) yes, tt),
+  )
 
   abbrev Asks : Value P → ℕ → Type 0
   Asks b len = (len ≡ length b.items) × (b.apart ≡ false)
@@ -46,8 +48,16 @@ module _ (P : Parts) {M : Type 1} {𝓤 : Ura M} (𝓛 : Logic 𝓤) (at_mem : M
   tokens = ‵ (flft κ₁ q₁) ⊛ ‵ (flft κ₂ q₂) ⊛ ‵ (flft κ₃ q₃) ⊛ ‵ ftrue
 
   abbrev bound : (walk_of 𝓛 (ended P) (stayed P) (clauses P 𝓛 at_mem run)).Ghost
-  bound = (((κ, (κ₁, (κ₂, (κ₃, tt)))), (q, (q₁, (q₂, (q₃, tt)))), (short₁, (short₂, tt)), (self, (len, tt)),
-      (us, (vs, tt))), tt)
+  bound = (
+    (
+      (κ, (κ₁, (κ₂, (κ₃, tt)))),
+      (q, (q₁, (q₂, (q₃, tt)))),
+      (short₁, (short₂, tt)),
+      (self, (len, tt)),
+      (us, (vs, tt)),
+    ),
+    tt,
+  )
 
   abbrev Post : Val → SProp 𝓤
   Post = (walk_of 𝓛 (ended P) (stayed P) (clauses P 𝓛 at_mem run)).post bound

@@ -137,7 +137,7 @@ meets P {𝓤 = 𝓤} 𝓛 at_mem run 𝓣 =
     ∷ fact 𝓤 (size (layout (Room P)) < 2 ^ 63) ∷ [])
     (Asks P z.0.3.0) (on_entry 𝓛 (ended P).signature κs qs z.0.3 z.0.4)
     (λ asked. entry P 𝓛 at_mem run 𝓣.C 𝓣.Λ κs.0 κs.1.0 κs.1.1.0 qs.0 qs.1.0 qs.1.1.0
-      z.0.3.0 z.0.3.1.0 z.0.4.0 z.0.4.1.0 asked))
+    z.0.3.0 z.0.3.1.0 z.0.4.0 z.0.4.1.0 asked))
 
 pub vacate_spec : {M : Type 1} → stated.statement M
 unfolding tables_of
