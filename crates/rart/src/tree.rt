@@ -1,6 +1,6 @@
 //! The map, which contracts see as its pairs, ascending by key, and the records of its nodes.
-ghost use Rattle.std.specs.Prelude.{◌≡◌, ◌+◌, ◌-◌, ◌*◌, ◌/◌, ◌<◌, ◌≤◌, ◌↔◌, [], ◌∷◌, length, max, is_some, IsTrue, None};
-ghost use Rattle.std.specs.Prelude.{OnErr};
+ghost use Rattle.std.specs.Prelude.{◌≡◌, ◌+◌, ◌-◌, ◌*◌, ◌/◌, ◌<◌, ◌≤◌, ◌↔◌, [], ◌∷◌, length, max, is_some, IsTrue};
+ghost use Rattle.std.specs.Prelude.{None, OnErr};
 ghost use Rattle.std.specs.Option.{option_copied};
 ghost use Rattle.rart_keys.specs.KeyBytes.{IsWithin};
 ghost use Rattle.rart_keys.specs.SortedMap.{IsAscending, keys_of, longest_key, lookup};
