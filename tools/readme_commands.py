@@ -39,6 +39,12 @@ ROWS = [
 ]
 
 NO_FOLDER = "cannot make a folder in /nowhere; TMPDIR names another\n"
+PROGRAMS = "[rart_script | rart_routes]    commands on standard input; GUIDE.md lists them\n"
+GATE = "usage: ./test    the gate: proofs, edits, tests and programs; docs/STATUS.md has its time\n"
+BEGINS = "test: begins; docs/STATUS.md says how long it takes\n"
+
+# Without `rt`: a call that should be refused doesn't start the gate if it isn't.
+BARE = "PATH=/usr/bin:/bin"
 
 # The same of commands that README does not have.
 OTHER_ROWS = [
@@ -46,12 +52,15 @@ OTHER_ROWS = [
     ("./run rart", 2, "", "run: no program rart: rart_script or rart_routes\n"),
     ("./try rart_script len", 2, "", "try: one program at most: rart_script or rart_routes\n"),
     ("./run rart_script len", 2, "", "run: one program at most: rart_script or rart_routes\n"),
-    ("./test all", 2, "", "test: it takes no argument\n"),
-    ("./try --help | cut -c 1-12", 0, "usage: ./try\n", ""),
-    ("./run --help | cut -c 1-12", 0, "usage: ./run\n", ""),
-    ("./test --help | cut -c 1-13", 0, "usage: ./test\n", ""),
+    (f"{BARE} ./test all", 2, "", GATE),
+    (f"{BARE} ./test ''", 2, "", GATE),
+    ("./try --help", 0, f"usage: ./try {PROGRAMS}", ""),
+    ("./run --help len", 0, f"usage: ./run {PROGRAMS}", ""),
+    (f"{BARE} ./test --help all", 0, GATE, ""),
     ("TMPDIR=/nowhere ./try", 1, "", f"try: {NO_FOLDER}"),
-    ("TMPDIR=/nowhere ./test", 1, "test: begins; docs/STATUS.md says how long it takes\n", f"test: {NO_FOLDER}"),
+    ("TMPDIR=/nowhere ./test", 1, BEGINS, f"test: {NO_FOLDER}"),
+    (f"{BARE} ./try", 127, "", "try: rt, the command of the Rattle kit, is not on the PATH\n"),
+    (f"{BARE} ./test", 127, "", "test: rt, the command of the Rattle kit, is not on the PATH\n"),
     ("./test >/dev/full", 1, "", "test: cannot write\n"),
     ("./test >&-", 1, "", "test: cannot write\n"),
     ("echo len | ./run >/dev/full", 1, "", "rart_script: cannot write\n"),

@@ -6,7 +6,8 @@ use rart_parts::mapping::NodeMapping;
 use std::alloc::Global;
 use std::process::Abort;
 
-/// The width of a map, how many children it says that it has, and at how many bytes it has the child with that value.
+/// Returns the width of a map, how many children it says that it has, and at how many bytes it has the child with that
+/// value.
 fn read<const W: usize, M: NodeMapping<TestNode, W>>(map: &M) -> (usize, usize, usize) {
     let mut found = 0_usize;
     for byte in 0..=255_u8 {
@@ -21,7 +22,7 @@ fn value_at<const W: usize, M: NodeMapping<TestNode, W>>(map: &M, byte: u8) -> O
     map.seek_child(byte)?.value().copied()
 }
 
-/// The kind of a node by the variant of its map, and what the map's own calls say.
+/// Returns the kind of a node by the variant of its map, and what the map's own calls say.
 fn read_kind(node: &TestNode) -> (usize, (usize, usize, usize)) {
     match node.child_map() {
         ChildMap::Childless => (0, (0, 0, 0)),
@@ -51,7 +52,7 @@ fn filled(rt: &impl Abort, alloc: Global, children: usize) -> TestNode {
     node
 }
 
-fn is_of_kind(rt: &impl Abort, alloc: Global, children: usize, kind: usize) {
+fn check_kind(rt: &impl Abort, alloc: Global, children: usize, kind: usize) {
     let node = filled(rt, alloc, children);
     let found = read_kind(&node);
     assert!(rt;
@@ -63,6 +64,6 @@ fn is_of_kind(rt: &impl Abort, alloc: Global, children: usize, kind: usize) {
 #[test]
 fn children_are_in_the_map_of_their_kind(rt: HostRuntime) {
     for (children, kind) in KINDS {
-        is_of_kind(&rt, rt.alloc(), children, kind);
+        check_kind(&rt, rt.alloc(), children, kind);
     }
 }

@@ -21,7 +21,7 @@ impl Count for Tally {
 }
 
 impl Tally {
-    /// A count of no visits.
+    /// Returns a count of no visits.
     pub fn new() -> Self {
         Tally {
             number: 0,

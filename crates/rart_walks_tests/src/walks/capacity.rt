@@ -213,7 +213,7 @@ fn ranges_request_within_the_longest_key(rt: HostRuntime) {
 }
 
 #[test]
-fn walks_from_both_ends_request_two_paths(rt: HostRuntime) {
+fn walks_from_both_ends_request_within_two_paths(rt: HostRuntime) {
     assert_eq!(rt; first_wrong_form(rt.alloc(), Walk::BothEndsBelow), None);
     assert_eq!(rt; first_wrong_form(rt.alloc(), Walk::BothEndsWithin), None);
 }
