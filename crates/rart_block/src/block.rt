@@ -11,7 +11,7 @@ use std::marker::Model;
 use std_alloc::room::may_hold;
 
 /// What is stored before the places. The length comes last, in bytes that may be needed to align the places.
-pub struct Header<H, K> {
+struct Header<H, K> {
     head: H,
     keys: K,
     len: u32,
@@ -34,7 +34,11 @@ impl<H, K, T, const W: usize> Model for Block<H, K, T, W> {
 
     ghost coded = { contents_code H.code K.code T.code };
 
-    ghost view = { λ b. record { head = b.raw.head.head; keys = b.raw.head.keys; items = b.raw.items } };
+    ghost view = { λ b. record {
+      head = b.raw.head.head;
+      keys = b.raw.head.keys;
+      items = b.raw.items;
+    } };
 
     ghost invariant = { λ b. (b.raw.apart ≡ false) × (b.raw.head.len ≡ length b.raw.items)
         × (length b.raw.items ≤ W) × (W < 2 ^ 32) };

@@ -56,9 +56,11 @@ impl<H, T, const W: usize> Model for RawBlock<H, T, W> {
     ghost use denote.Param.{value_of};
     ghost use Rattle.rart_block.specs.Memory.{global_token, block_owned, block_shared};
 
-    ghost also_owns = { λ b. block_owned H.row T.row (value_of W.row) global_token b.ptr b.head b.items b.apart };
+    ghost also_owns = { λ b. block_owned H.row T.row (value_of W.row) global_token b.ptr b.head
+        b.items b.apart };
 
-    ghost also_shares = { λ b _ κ. block_shared H.row T.row (value_of W.row) b.ptr b.head b.items b.apart κ };
+    ghost also_shares = { λ b _ κ. block_shared H.row T.row (value_of W.row) b.ptr b.head
+        b.items b.apart κ };
 }
 
 impl<H, T, const W: usize> RawBlock<H, T, W> {

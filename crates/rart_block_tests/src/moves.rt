@@ -36,8 +36,8 @@ fn append_moves<const W: usize, const U: usize>(
 ) -> bool {
     fill(block, 0, len);
     fill(source, (len & 0xff) as u8, more);
-    let all = block.len().saturating_add(source.len());
-    if all > W {
+    let free = W - block.len();
+    if source.len() > free {
         return false;
     }
     block.append(source);
