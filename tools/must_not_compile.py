@@ -271,6 +271,17 @@ BODIES = (
             "`V` is not",
         ),
     ),
+    Body(
+        "an emptied block keeps its memory",
+        "rart_block",
+        "src/block.rt",
+        "room.free();\n        (head, keys)",
+        "(head, keys)",
+        (
+            "error[linear-value-let-go]: `room` is let go where its block ends, and `Room<Header<H, K>, T, W>` is not "
+            "`Drop`",
+        ),
+    ),
 )
 
 
