@@ -257,11 +257,47 @@ fn each_error_of_a_law_has_a_text(rt: HostRuntime) {
     let unsorted = RefusedStep::Load(BulkError::Unsorted { at: 3 });
     let offered = RefusedCall::Insertion(refused(TreeError::Full));
     assert!(rt; has_text(alloc, unsorted, "item 3 is below its predecessor"));
-    assert!(rt; has_text(alloc, RefusedStep::Insertion(TreeError::Full), "tree is full"));
-    assert!(rt; has_text(alloc, RefusedStep::Stats(TreeError::Memory), "out of memory"));
-    assert!(rt; call_text(alloc, RefusedCall::StatsBefore(TreeError::Memory), "out of memory"));
+    assert!(rt;
+        has_text(
+            alloc,
+            RefusedStep::Insertion(TreeError::Full),
+            "tree is full"
+        )
+    );
+    assert!(rt;
+        has_text(
+            alloc,
+            RefusedStep::Stats(TreeError::Memory),
+            "out of memory"
+        )
+    );
+    assert!(rt;
+        call_text(
+            alloc,
+            RefusedCall::StatsBefore(TreeError::Memory),
+            "out of memory"
+        )
+    );
     assert!(rt; call_text(alloc, offered, "tree is full"));
-    assert!(rt; call_text(alloc, RefusedCall::StatsBetween(TreeError::Memory), "out of memory"));
-    assert!(rt; call_text(alloc, RefusedCall::Removal(TreeError::Memory), "out of memory"));
-    assert!(rt; call_text(alloc, RefusedCall::StatsAfter(TreeError::Full), "tree is full"));
+    assert!(rt;
+        call_text(
+            alloc,
+            RefusedCall::StatsBetween(TreeError::Memory),
+            "out of memory"
+        )
+    );
+    assert!(rt;
+        call_text(
+            alloc,
+            RefusedCall::Removal(TreeError::Memory),
+            "out of memory"
+        )
+    );
+    assert!(rt;
+        call_text(
+            alloc,
+            RefusedCall::StatsAfter(TreeError::Full),
+            "tree is full"
+        )
+    );
 }
