@@ -46,24 +46,20 @@ static KINDS: [(usize, usize); 9] = [
     (256, 256),
 ];
 
-fn filled(rt: &impl Abort, alloc: Global, children: usize) -> TestNode {
+// What is read of a node with so many children: a helper owns it, and the test asserts.
+fn read_filled(rt: &impl Abort, alloc: Global, children: usize) -> (usize, (usize, usize, usize)) {
     let mut node = leaf(b'p', 1);
     fill(rt, alloc, &mut node, 0, children);
-    node
-}
-
-fn check_kind(rt: &impl Abort, alloc: Global, children: usize, kind: usize) {
-    let node = filled(rt, alloc, children);
-    let found = read_kind(&node);
-    assert!(rt;
-        found == (kind, (kind, children, children)),
-        "{children} children"
-    );
+    read_kind(&node)
 }
 
 #[test]
 fn children_are_in_the_map_of_their_kind(rt: HostRuntime) {
     for (children, kind) in KINDS {
-        check_kind(&rt, rt.alloc(), children, kind);
+        let found = read_filled(&rt, rt.alloc(), children);
+        assert!(rt;
+            found == (kind, (kind, children, children)),
+            "{children} children"
+        );
     }
 }
