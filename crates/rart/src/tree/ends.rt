@@ -1,4 +1,4 @@
-//! The first and the last pair of a tree, read and removed, each on one descent.
+//! The first and the last pair of a tree, read and removed.
 ghost use Rattle.std.specs.Prelude.{◌≡◌, None, IfErr, IfOk, OnErr, option_map, slice_get};
 ghost use Rattle.std.specs.Option.{IsSomeAnd};
 ghost use Rattle.rart_keys.specs.Filters.{last_or};

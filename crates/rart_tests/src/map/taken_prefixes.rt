@@ -168,8 +168,8 @@ fn the_keys_below_a_prefix_are_taken_and_the_others_left(rt: HostRuntime) {
     }
 }
 
-// A prefix, and the nodes that are visited where it is taken from the tree of "a", "ab", "abc" and "b": those on the way
-// to it, and those that are taken, which are visited once more to count the pairs.
+// A prefix, and the nodes that are visited where it is taken from the tree of "a", "ab", "abc" and "b": those on the
+// way to it, and those that are taken, which are visited once more to count the pairs.
 static VISITS: [(&str, usize); 8] = [
     ("", 6),
     ("a", 5),

@@ -55,7 +55,7 @@ impl<'a, K: KeyTrait, V, C: Count> Seen<'a, K, V, C> {
     /// # Visits
     ///
     /// At most `prefix.len() + 1 + 2 * m` nodes where `m` keys begin with `prefix`, none in an empty tree. With `n`
-    /// calls in a tree of height `h`, at most `prefix.len() + 1 + 2 * n + h`.
+    /// calls in a tree of height `h`, at most the nodes on the path to `prefix`, `2 * n` and `h`.
     pub fn try_prefix_values_for_each_by_ref_k_counted<E, F: FnMut(&V) -> Result<VisitControl, E>>(
         self,
         prefix: &K,
@@ -98,7 +98,7 @@ impl<'a, K: KeyTrait, V, C: Count> Seen<'a, K, V, C> {
     /// # Visits
     ///
     /// At most `prefix.len() + 1 + 2 * m` nodes where `m` keys begin with `prefix`, none in an empty tree. With `n`
-    /// calls in a tree of height `h`, at most `prefix.len() + 1 + 2 * n + h`.
+    /// calls in a tree of height `h`, at most the nodes on the path to `prefix`, `2 * n` and `h`.
     pub fn try_prefix_values_for_each_k_counted<E, F: FnMut(&V) -> Result<VisitControl, E> + Drop>(
         self,
         prefix: &K,
