@@ -46,7 +46,7 @@ static KINDS: [(usize, usize); 9] = [
     (256, 256),
 ];
 
-// What is read of a node with so many children: a helper owns it, and the test asserts.
+// Reads a node with this number of children. A helper owns the node, and the test asserts.
 fn read_filled(rt: &impl Abort, alloc: Global, children: usize) -> (usize, (usize, usize, usize)) {
     let mut node = leaf(b'p', 1);
     fill(rt, alloc, &mut node, 0, children);
